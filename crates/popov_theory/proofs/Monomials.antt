@@ -1,0 +1,93 @@
+-- Monomials a·x^s, and the multiple of a row by one that clears a place.
+use Rattle.std.proofs.Common.{◌≡◌, ◌≢◌, ℕ, zero, suc, ◌<◌, ◌≤◌, ◌+◌, ◌*◌, ◌-◌, [], ◌∷◌, length, refl, sym, ◌∙◌, ap, arith}
+use Rattle.ff_ring.specs.Ring.{TestedRing, IsField}
+use Rattle.ff_ring.specs.Lists.{coeff_of}
+use Rattle.ff_ring.proofs.Lists.{coeff_trim}
+use Rattle.ff_ring.proofs.Polynomials.{Pol, pol_of, length_from_top}
+use Rattle.popov_theory.specs.Module.{PolynomialModule, measure, spike}
+pub use Rattle.popov_theory.specs.Module.{monomial}
+use Rattle.popov_theory.proofs.Measure.{measure_past, measure_top, measure_bound, scale_top, scale_past}
+
+module _ {A : Type 0} (k : TestedRing A) where
+  spike_at : (a : A) (s : ℕ) → coeff_of k.ops (spike k a s) s ≡ a
+  unfolding spike
+  spike_at a zero = refl
+  spike_at a (suc s) = spike_at a s
+
+  spike_off : (a : A) (s i : ℕ) → i ≢ s → coeff_of k.ops (spike k a s) i ≡ k.𝟘
+  unfolding spike
+  spike_off a zero zero differ = absurd (differ refl)
+  spike_off a zero (suc i) differ = refl
+  spike_off a (suc s) zero differ = refl
+  spike_off a (suc s) (suc i) differ = spike_off a s i (λ e. differ (ap suc e))
+
+  pub monomial_at : (a : A) (s : ℕ) → coeff_of k.ops (monomial k a s).0 s ≡ a
+  unfolding monomial
+  monomial_at a s = coeff_trim k (spike k a s) s ∙ spike_at a s
+
+  pub monomial_off : (a : A) (s i : ℕ) → i ≢ s → coeff_of k.ops (monomial k a s).0 i ≡ k.𝟘
+  unfolding monomial
+  monomial_off a s i differ = coeff_trim k (spike k a s) i ∙ spike_off a s i differ
+
+  -- it has the degree s where a is not zero
+  pub monomial_length : (a : A) (s : ℕ) → a ≢ k.𝟘 → length (monomial k a s).0 ≡ suc s
+  monomial_length a s some =
+      length_from_top k (monomial k a s).0 s (monomial k a s).1 (λ z. some (sym (monomial_at a s) ∙ z)) (λ i after. monomial_off a s i (λ z. absurd (omega (arith, z, after))))
+
+module _ {A V : Type 0} {k : TestedRing A} (M : PolynomialModule k V) (field : IsField k.ops) where
+  infixl 65 ◌⊞◌
+  infixl 70 ◌·◌
+  infixr 80 ⊟◌
+  infixl 70 ◌⊗◌
+  open M use {width, 𝟎, ◌⊞◌, ⊟◌, ◌·◌, coef}
+  open k use {◌⊗◌}
+
+  -- a multiple of v that ends at the place e, with the coefficient of u there
+  pub record Clearing (u v : V) (e : ℕ) : Type 0 where
+    pub scalar : A
+    pub power : ℕ
+    pub factor : Pol k
+    pub factor_is : factor ≡ monomial k scalar power
+    pub ends : measure M (factor · v) ≤ suc e
+    pub same_top : coef (factor · v) e ≡ coef u e
+
+  pub clearing_at : (u v : V) (e s n : ℕ) → measure M v ≡ suc n → suc e ≡ s * width + measure M v
+      → (a : A) × (measure M (monomial k a s · v) ≤ suc e) × (coef (monomial k a s · v) e ≡ coef u e)
+  clearing_at u v e s n m is = (
+    a,
+    measure_bound M (monomial k a s · v) (suc e) (λ i le.
+        scale_past M (monomial k a s) v s n c_ends v_ends i (omega (arith, is, m, le))),
+    same_top,
+  )
+    where
+      inv : (b : A) × (coef v n ⊗ b ≡ k.𝟙)
+      inv = field.inverse (coef v n) (measure_top M v n m)
+
+      a : A
+      a = coef u e ⊗ inv.0
+
+      c_ends : (i : ℕ) → s < i → coeff_of k.ops (monomial k a s).0 i ≡ k.𝟘
+      c_ends i after = monomial_off k a s i (λ z. absurd (omega (arith, z, after)))
+
+      v_ends : (i : ℕ) → n < i → coef v i ≡ k.𝟘
+      v_ends i after = measure_past M v i (omega (arith, m, after))
+
+      same_top : coef (monomial k a s · v) e ≡ coef u e
+      same_top =
+          ap (coef (monomial k a s · v)) (omega (arith, is, m))
+          ∙ scale_top M (monomial k a s) v s n c_ends v_ends
+          ∙ ap (λ x. x ⊗ coef v n) (monomial_at k a s)
+          ∙ k.mul_assoc (coef u e) inv.0 (coef v n)
+          ∙ ap (λ x. coef u e ⊗ x) (k.mul_comm inv.0 (coef v n) ∙ inv.1)
+          ∙ k.mul_one (coef u e)
+
+  pub clearing : (u v : V) (e s : ℕ) → measure M v ≢ 0 → suc e ≡ s * width + measure M v → Clearing u v e
+  clearing u v e s some is =
+      let c = clearing_at u v e s (measure M v - 1) (omega (arith, some)) is in
+      record { scalar = c.0; power = s; factor = monomial k c.0 s; factor_is = refl; ends = c.1; same_top = c.2 }
+
+  -- the same by a scalar, for a row with the same measure
+  pub scalar_clearing : (u v : V) (e : ℕ) → measure M v ≡ suc e
+      → (a : A) × (measure M (pol_of k (a ∷ []) · v) ≤ suc e) × (coef (pol_of k (a ∷ []) · v) e ≡ coef u e)
+  unfolding monomial spike
+  scalar_clearing u v e m = clearing_at u v e 0 e m (omega (arith, m))
