@@ -1,5 +1,6 @@
 -- Two elements stand for one function exactly where they are the same by cross products.
-use Rattle.std.proofs.Common.{◌≡◌, ℕ, zero, suc, ◌-◌, List, [], ◌∷◌, length, map, refl, sym, ◌∙◌, ap, ap₂, arith, ◌↔◌}
+use Rattle.std.proofs.Common.{◌≡◌, ℕ, zero, suc, ◌-◌, List, [], ◌∷◌, length, map, refl, sym, ◌∙◌, ap, ap₂, arith, ◌↔◌, All}
+use Rattle.std.proofs.lemmas.List.Elements.{All-head, All-tail}
 use Rattle.ff_ring.specs.Rows.{Row, row_scale}
 use Rattle.ff_ring.proofs.Rows.{pair_path}
 use Rattle.ff_fields.specs.Field.{CodeField}
@@ -7,7 +8,6 @@ use Rattle.ff_fields.specs.Over.{IsOver}
 use Rattle.ff_poly.specs.Words.{IsPoly, product_of}
 use Rattle.ff_poly.specs.Value.{value, numbers_value}
 use Rattle.ff_poly.specs.Polynomials.{Polynomial, polynomials, polynomial_eq, polynomial_discrete, codes_of, codes_of_product, value_not_zero}
-use Rattle.ff_algebra.specs.Spans.{Each}
 use Rattle.ff_algebra.specs.Functions.{Equation, ring_of_x, function_eq, function_same}
 use Rattle.ff_algebra.specs.Values.{ElemValue, PresValue, IsElem, IsSame, row_of_list, equation_of, over_checked, row_over, function_of}
 
@@ -25,13 +25,15 @@ module _ (k : CodeField) where
       let rest : row_codes n v ≡ row_codes n w = cc in
       pair_path (polynomial_eq k a b first) (row_codes_injective n v w rest)
 
-  row_codes_row_of_list : (n : ℕ) (vs : List (List ℕ)) → length vs ≡ n → Each (IsOver k.ops) vs → Each IsPoly vs → row_codes n (row_of_list k n vs) ≡ vs
+  row_codes_row_of_list : (n : ℕ) (vs : List (List ℕ)) → length vs ≡ n → All (IsOver k.ops) vs → All IsPoly vs → row_codes n (row_of_list k n vs) ≡ vs
   unfolding row_codes
   row_codes_row_of_list zero [] e h g = refl
   row_codes_row_of_list zero (v ∷ vs) e h g = absurd (omega arith)
   row_codes_row_of_list (suc n) [] e h g = absurd (omega arith)
-  row_codes_row_of_list (suc n) (v ∷ vs) e (h, hs) (g, gs) =
-      ap₂ (λ a b. a ∷ b) (numbers_value k v h g) (row_codes_row_of_list n vs (omega arith) hs gs)
+  row_codes_row_of_list (suc n) (v ∷ vs) e hs gs =
+      ap₂ (λ a b. a ∷ b)
+      (numbers_value k v (All-head (IsOver k.ops) v vs hs) (All-head IsPoly v vs gs))
+      (row_codes_row_of_list n vs (omega arith) (All-tail (IsOver k.ops) v vs hs) (All-tail IsPoly v vs gs))
 
   row_codes_row_scale : (n : ℕ) (d : Polynomial k) (v : Row (Polynomial k) n)
       → row_codes n (row_scale (polynomials k).ops n d v) ≡ map (product_of k.ops (codes_of k d)) (row_codes n v)

@@ -1,12 +1,12 @@
 -- Every function has a row over a polynomial that can be found.
-use Rattle.std.proofs.Common.{◌≡◌, ℕ, zero, suc, ◌+◌, ◌<◌, ◌≤◌, List, [], ◌∷◌, ◌++◌, length, map, refl, subst, arith}
+use Rattle.std.proofs.Common.{◌≡◌, ℕ, zero, suc, ◌+◌, ◌<◌, ◌≤◌, List, [], ◌∷◌, ◌++◌, length, map, refl, subst, arith, All}
+use Rattle.std.proofs.lemmas.List.Elements.{All-nil, All-cons, All-head, All-tail}
 use native.Mathlib.Decide.{ℕ_discrete}
 use Rattle.ff_ring.specs.Rows.{Row}
 use Rattle.ff_ring.proofs.Choose.{Member, here, there, choose}
 use Rattle.ff_fields.specs.Field.{CodeField}
 use Rattle.ff_poly.specs.Value.{value}
 use Rattle.ff_poly.specs.Polynomials.{Polynomial, polynomials, polynomial_discrete, codes_of, value_codes_of}
-use Rattle.ff_algebra.specs.Spans.{Each}
 use Rattle.ff_algebra.specs.Values.{over_checked}
 use Rattle.ff_algebra.specs.Functions.{Equation, RowOver, FunctionOf, function, function_eq, functions_discrete, has_row}
 
@@ -56,21 +56,23 @@ words : List ℕ → ℕ → List (List ℕ)
 words letters zero = [] ∷ []
 words letters (suc n) = [] ∷ all_pairs (λ c w. c ∷ w) letters (words letters n)
 
-words_member : (letters : List ℕ) (n : ℕ) (w : List ℕ) → Each (λ c. Member c letters) w → length w ≤ n → Member w (words letters n)
+words_member : (letters : List ℕ) (n : ℕ) (w : List ℕ) → All (λ c. Member c letters) w → length w ≤ n → Member w (words letters n)
 unfolding words
 words_member letters zero [] h l = here
 words_member letters zero (c ∷ w) h l = absurd (omega arith)
 words_member letters (suc n) [] h l = here
-words_member letters (suc n) (c ∷ w) (h, hs) l = there (pairs_member (λ c w. c ∷ w) c w letters (words letters n) h (words_member letters n w hs (omega arith)))
+words_member letters (suc n) (c ∷ w) hs l =
+    let P : ℕ → Type 0 = λ d. Member d letters in
+    there (pairs_member (λ c w. c ∷ w) c w letters (words letters n) (All-head P c w hs) (words_member letters n w (All-tail P c w hs) (omega arith)))
 
 bound : List ℕ → ℕ
 bound [] = 0
 bound (c ∷ w) = suc (c + bound w)
 
-bounded : (w : List ℕ) (n : ℕ) → bound w ≤ n → Each (λ c. Member c (upto n)) w
+bounded : (w : List ℕ) (n : ℕ) → bound w ≤ n → All (λ c. Member c (upto n)) w
 unfolding bound
-bounded [] n h = tt
-bounded (c ∷ w) n h = (upto_member n c (omega arith), bounded w n (omega arith))
+bounded [] n h = All-nil (λ c. Member c (upto n))
+bounded (c ∷ w) n h = All-cons (λ c. Member c (upto n)) c w (upto_member n c (omega arith)) (bounded w n (omega arith))
 
 length_bounded : (w : List ℕ) → length w ≤ bound w
 unfolding bound
