@@ -1,0 +1,52 @@
+//! Scripts as they are written.
+
+use std::marker::Model;
+
+/// A term: a code and powers of x and y, joined by `*`. A power with exponent 0 isn't written.
+#[derive(Clone, Copy, Debug, PartialEq, Eq)]
+pub struct Term {
+    pub code: Option<u32>,
+    pub x: u32,
+    pub y: u32,
+}
+
+/// A polynomial as it is written: terms, whose sum it is.
+#[derive(Debug, Drop)]
+pub struct TermList {
+    pub terms: Vec<Term>,
+}
+
+impl Model for TermList {
+    ghost use Rattle.std.specs.Prelude.{List};
+    ghost use Rattle.ff.specs.declared.script.Term.{Term};
+
+    ghost Value = { List Term };
+
+    ghost view = { λ t. t.terms.items };
+}
+
+/// An element as it is written: a polynomial at 1, y, and so on.
+#[derive(Debug, Drop)]
+pub struct ElemText {
+    pub entries: Vec<TermList>,
+}
+
+impl Model for ElemText {
+    ghost use Rattle.std.specs.Prelude.{List};
+    ghost use Rattle.ff.specs.declared.script.Term.{Term};
+
+    ghost Value = { List (List Term) };
+
+    ghost view = { λ z. z.entries.items };
+}
+
+/// A line of a script.
+#[derive(Debug, Drop)]
+pub enum Statement {
+    /// `field p`
+    FieldOf { p: u32 },
+    /// `curve y^n + ..`, with the terms after the first
+    CurveOf { n: u32, lower: TermList },
+    /// `mul [..] [..]`
+    Mul { a: ElemText, b: ElemText },
+}
