@@ -1,2 +1,5 @@
 pub mod Text
 pub mod Form
+pub mod Answers
+pub mod Output
+pub mod Sessions

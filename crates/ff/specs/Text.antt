@@ -6,39 +6,49 @@ use Rattle.ff.specs.declared.script.Term.{Term}
 use Rattle.ff.specs.declared.script.Statement.{Statement}
 use Rattle.ff.specs.declared.script.Statement.TheVariants.{FieldOf, CurveOf, Mul}
 
--- the texts with the separator between them
-abbrev pub joined : List ℕ → List (List ℕ) → List ℕ
-joined separator [] = []
-joined separator (t ∷ []) = t
-joined separator (t ∷ u ∷ ts) = t ++ (separator ++ joined separator (u ∷ ts))
-
 -- a power of the variable: nothing at exponent 0, and the variable alone at 1
-abbrev pub power_texts : ℕ → ℕ → List (List ℕ)
-power_texts v zero = []
-power_texts v (suc zero) = (v ∷ []) ∷ []
-power_texts v (suc (suc j)) = (v ∷ 94 ∷ decimal (suc (suc j))) ∷ []
+abbrev pub power_text : ℕ → ℕ → List ℕ
+power_text v zero = []
+power_text v (suc zero) = v ∷ []
+power_text v (suc (suc j)) = v ∷ 94 ∷ decimal (suc (suc j))
 
-abbrev pub code_texts : Option ℕ → List (List ℕ)
-code_texts None = []
-code_texts (Some c) = decimal c ∷ []
+-- the powers that are written, with `*` between them
+abbrev pub powers_text : ℕ → ℕ → List ℕ
+powers_text zero j = power_text 121 j
+powers_text i zero = power_text 120 i
+powers_text i j = power_text 120 i ++ (codes "*" ++ power_text 121 j)
 
--- the factors that are there, joined by `*`
+-- the factors that are written, with `*` between them
+abbrev pub factors_text : Option ℕ → ℕ → ℕ → List ℕ
+factors_text None i j = powers_text i j
+factors_text (Some c) zero zero = decimal c
+factors_text (Some c) i j = decimal c ++ (codes "*" ++ powers_text i j)
+
 abbrev pub term_text : Term → List ℕ
-term_text t = joined (codes "*") (code_texts t.code ++ power_texts 120 t.x ++ power_texts 121 t.y)
+term_text t = factors_text t.code t.x t.y
 
--- `0`, or the terms joined by ` + `
+-- the terms, each behind ` + `
+abbrev pub lower_text : List Term → List ℕ
+lower_text ts = flat_map (λ t. codes " + " ++ term_text t) ts
+
+-- `0`, or the terms with ` + ` between them
 abbrev pub terms_text : List Term → List ℕ
 terms_text [] = codes "0"
-terms_text (t ∷ ts) = joined (codes " + ") (map term_text (t ∷ ts))
+terms_text (t ∷ ts) = term_text t ++ lower_text ts
 
--- `[`, the polynomials joined by `, `, and `]`
+-- the polynomials, each behind `, `
+abbrev pub entries_text : List (List Term) → List ℕ
+entries_text ps = flat_map (λ p. codes ", " ++ terms_text p) ps
+
+-- the polynomials in brackets, with `, ` between them
 abbrev pub element_text : List (List Term) → List ℕ
-element_text ps = codes "[" ++ (joined (codes ", ") (map terms_text ps) ++ codes "]")
+element_text [] = codes "[]"
+element_text (p ∷ ps) = codes "[" ++ (terms_text p ++ (entries_text ps ++ codes "]"))
 
 -- the line of a statement, without its line feed
 abbrev pub statement_text : Statement → List ℕ
 statement_text (FieldOf p) = codes "field " ++ decimal p
-statement_text (CurveOf n lower) = codes "curve y^" ++ (decimal n ++ flat_map (λ t. codes " + " ++ term_text t) lower)
+statement_text (CurveOf n lower) = codes "curve y^" ++ (decimal n ++ lower_text lower)
 statement_text (Mul a b) = codes "mul " ++ (element_text a ++ (codes " " ++ element_text b))
 
 -- each statement on a line that a line feed ends

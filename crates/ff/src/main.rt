@@ -2,5 +2,7 @@
 #![tactic(auto)]
 
 mod script;
+mod session;
+mod text;
 
 fn main(_rt: HostRuntime) {}
