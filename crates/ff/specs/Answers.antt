@@ -2,7 +2,7 @@
 use Rattle.std.specs.Prelude.{◌≡◌, ℕ, zero, suc, ◌+◌, ◌<◌, ◌≤◌, ◌==◌, List, [], ◌∷◌, ◌++◌, length, map, filter, Option, Some, None, IsTrue, ◌⊎◌}
 use Rattle.ff_ring.specs.Ring.{CommRing}
 use Rattle.ff_fields.specs.Field.{FieldOps, CodeField}
-use Rattle.ff_fields.specs.Prime.{is_listed, prime_of}
+use Rattle.ff_fields.specs.Prime.{is_listed, prime_of, prime_field}
 use Rattle.ff_poly.specs.Words.{IsMonic, sum_of, shifted}
 use Rattle.ff_algebra.specs.Values.{ElemValue, PresValue, IsElem, IsSame, function_of, functions}
 use Rattle.ff_algebra.specs.Infinity.{IsInfinityNumber}
@@ -59,11 +59,11 @@ pub record IsProduct (k : CodeField) (f : PresValue) (a b z : ElemValue) : Type 
   pub product : function_of k f z ≡ (functions k f).◌⊗◌ (function_of k f a) (function_of k f b)
   pub lowest : IsInLowestTerms k.ops f.n z
 
--- what the statements so far have bound
+-- what the statements so far have bound: a field of p elements, and the equation of a curve
 pub data Setting : Type 0 where
   Empty : Setting
-  WithField : CodeField → Setting
-  WithCurve : CodeField → PresValue → Setting
+  WithField : ℕ → Setting
+  WithCurve : ℕ → PresValue → Setting
 
 -- what an answer line says
 pub data Answer : Type 0 where
@@ -73,12 +73,12 @@ pub data Answer : Type 0 where
 
 -- in the setting the answer to the statement is true, and the last setting has taken it in
 abbrev pub Answers : Setting → Statement → Answer → Setting → Type 0
-Answers Empty (FieldOf p) (Size q) next =
-    (k : CodeField) × IsTrue (is_listed p) × (k.ops ≡ prime_of p) × IsFieldOf k.ops q × (next ≡ WithField k)
-Answers (WithField k) (CurveOf n lower) (Numbers degree c) next =
-    IsCurveOf (equation k.ops n lower) degree c × (next ≡ WithCurve k (equation k.ops n lower))
-Answers (WithCurve k f) (Mul a b) (Element z) next =
-    IsProduct k f (element k.ops a) (element k.ops b) z × (next ≡ WithCurve k f)
+Answers Empty (FieldOf p) (Size q) next = IsTrue (is_listed p) × IsFieldOf (prime_of p) q × (next ≡ WithField p)
+Answers (WithField p) (CurveOf n lower) (Numbers degree c) next =
+    IsCurveOf (equation (prime_of p) n lower) degree c × (next ≡ WithCurve p (equation (prime_of p) n lower))
+Answers (WithCurve p f) (Mul a b) (Element z) next =
+    (listed : IsTrue (is_listed p)) × IsProduct (prime_field p listed) f (element (prime_of p) a) (element (prime_of p) b) z
+    × (next ≡ WithCurve p f)
 Answers _ _ _ _ = ⊥
 
 -- why a statement is refused

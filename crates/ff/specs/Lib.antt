@@ -3,3 +3,5 @@ pub mod Form
 pub mod Answers
 pub mod Output
 pub mod Sessions
+pub mod Bound
+

@@ -106,9 +106,13 @@ pub data IsOutput (bytes : List ℕ) : List ℕ → Bool → Type 0 where
   Syntax : (line : ℕ) → length bytes ≤ 65536 → IsFirstBadLine bytes line → IsOutput bytes (syntax_line line) false
   Script : (ss : List Statement) (text : List ℕ) (finished : Bool) → length bytes ≤ 65536 → IsScript bytes ss → IsOut ss text finished → IsOutput bytes text finished
 
--- what a run has printed at a moment between two pieces: nothing, the blocks of the first statements, or all of it
+-- What a run over these statements has printed between two pieces: the blocks of the first ones, or all.
+pub data IsPart (ss : List Statement) : List ℕ → Type 0 where
+  Blocks : (blocks : List Block) (last : Setting) (rest : List Statement) → IsAnswered ss blocks last rest → IsPart ss (blocks_text blocks)
+  Whole : (text : List ℕ) (finished : Bool) → IsOut ss text finished → IsPart ss text
+
+-- what a run has printed between two pieces: nothing, the one line of an input that is no script, or a part over its statements
 pub data IsBegun (bytes : List ℕ) : List ℕ → Type 0 where
   Nothing : IsBegun bytes []
-  Blocks : (ss : List Statement) (blocks : List Block) (last : Setting) (rest : List Statement) → length bytes ≤ 65536 → IsScript bytes ss
-      → IsAnswered ss blocks last rest → IsBegun bytes (blocks_text blocks)
-  Whole : (text : List ℕ) (finished : Bool) → IsOutput bytes text finished → IsBegun bytes text
+  Line : (text : List ℕ) (finished : Bool) → IsOutput bytes text finished → IsBegun bytes text
+  Part : (ss : List Statement) (text : List ℕ) → length bytes ≤ 65536 → IsScript bytes ss → IsPart ss text → IsBegun bytes text

@@ -1,23 +1,41 @@
--- The setting that a session stands for.
-use Rattle.std.specs.Prelude.{ℕ}
-use Rattle.ff_fields.specs.Field.{CodeField}
-use Rattle.ff_fields.specs.Prime.{prime_field}
-use Rattle.ff_fields.specs.declared.prime.PrimeField.{PrimeField}
-use Rattle.ff.specs.declared.session.Session.{Session}
-use Rattle.ff.specs.declared.session.Session.TheVariants.{Fresh, OverField, OnCurve}
+-- The setting that a session stands for, and what its steps answer.
+use Rattle.std.specs.Prelude.{◌≡◌, ℕ, List, length, All, IsTrue}
+use Rattle.ff_fields.specs.Field.{FieldOps}
+use Rattle.ff_fields.specs.Prime.{is_listed, prime_of}
+use Rattle.ff_fields.specs.Over.{IsOver}
+use Rattle.ff_poly.specs.Words.{IsPoly}
+use Rattle.ff_algebra.specs.Values.{PresValue}
+use Rattle.ff.specs.declared.script.Statement.{Statement}
+use Rattle.ff.specs.declared.session.Refusal.{Refusal as Told}
+use Rattle.ff.specs.declared.session.Refusal.TheVariants as told
 use Rattle.ff.specs.Form.{Place, Start, AfterField, AfterCurve}
-use Rattle.ff.specs.Answers.{Setting, Empty, WithField, WithCurve}
-
-abbrev pub field_of : PrimeField → CodeField
-field_of k = prime_field k.p k.listed
-
-abbrev pub setting_of : Session → Setting
-setting_of Fresh = Empty
-setting_of (OverField k) = WithField (field_of k)
-setting_of (OnCurve k f) = WithCurve (field_of k) f
+use Rattle.ff.specs.Answers.{Setting, Empty, WithField, WithCurve, Answer, Answers, Refuses, FieldSize}
+use Rattle.ff.specs.Output.{block_text}
 
 -- what stands before the next line
 abbrev pub place_of : Setting → Place
 place_of Empty = Start
-place_of (WithField k) = AfterField k.ops.size
-place_of (WithCurve k f) = AfterCurve k.ops.size f.n
+place_of (WithField p) = AfterField p
+place_of (WithCurve p f) = AfterCurve p f.n
+
+-- a field's own polynomials, as many as the degree in y says
+pub record IsEquation (k : FieldOps) (f : PresValue) : Type 0 where
+  pub over : All (IsOver k) f.coeffs
+  pub polys : All IsPoly f.coeffs
+  pub one_each : length f.coeffs ≡ f.n
+
+abbrev pub IsSound : Setting → Type 0
+IsSound Empty = Unit {0}
+IsSound (WithField p) = IsTrue (is_listed p)
+IsSound (WithCurve p f) = IsTrue (is_listed p) × IsEquation (prime_of p) f
+
+-- the text of the statement's true block, and the setting that has taken it in
+pub record IsBlock (old : Setting) (s : Statement) (text : List ℕ) (new : Setting) : Type 0 where
+  pub answer : Answer
+  pub is_true : Answers old s answer new
+  pub printed : text ≡ block_text (record { statement = s; answer = answer })
+
+-- the refusal is the statement's, unless memory ran out
+abbrev pub IsRefusedAs : Setting → Statement → Told → Type 0
+IsRefusedAs old s told.Memory = Unit {0}
+IsRefusedAs old s (told.FieldSize p m) = Refuses old s (FieldSize p m)

@@ -1,11 +1,140 @@
-//! What the statements so far have bound.
+//! What the statements so far have bound, and the answer to the next one.
 
+ghost use Rattle.std.specs.Prelude.{◌≡◌, ℕ, ◌≤◌, ◌++◌, All, IsTrue, IfOk, IfErr, OnOk, OnErr, codes, decimal, length};
+ghost use Rattle.ff_fields.specs.Over.{IsOver};
+ghost use Rattle.ff_fields.specs.Prime.{is_listed, prime_of};
+ghost use Rattle.ff.specs.Answers.{Empty, equation, element, Answers, IsCurveOf, IsFieldOf, Numbers, Size};
+ghost use Rattle.ff.specs.Form.{IsIn, IsTerm};
+ghost use Rattle.ff.specs.Output.{answer_text, echo_line};
+ghost use Rattle.ff.specs.Sessions.{place_of, IsBlock, IsEquation, IsRefusedAs};
+
+use crate::curve::{equation, infinity_number};
+use crate::script::{Statement, Term};
+use crate::text::{push_number, push_statement};
 use ff_algebra::elem::Pres;
+use ff_fields::field::SmallField;
 use ff_fields::prime::PrimeField;
+use std::alloc::{AllocError, Global};
+use std::marker::Model;
 
+/// The field and the curve of the statements so far.
 #[derive(Drop)]
-pub enum Session {
-    Fresh,
-    OverField { k: PrimeField },
-    OnCurve { k: PrimeField, f: Pres },
+enum Bound {
+    Nothing,
+    Field { k: PrimeField },
+    Curve { k: PrimeField, f: Pres },
+}
+
+/// What the statements so far have bound.
+#[derive(Drop)]
+pub struct Session {
+    bound: Bound,
+}
+
+impl Model for Session {
+    ghost use Rattle.ff.specs.Answers.{Setting};
+    ghost use Rattle.ff.specs.Bound.{setting_of};
+    ghost use Rattle.ff.specs.Sessions.{IsSound};
+
+    ghost Value = { Setting };
+
+    ghost view = { λ s. setting_of s.bound };
+
+    ghost invariant = { λ s. IsSound (setting_of s.bound) };
+}
+
+/// Why a statement isn't answered.
+#[derive(Clone, Copy, Debug, PartialEq, Eq)]
+pub enum Refusal {
+    /// There is no field of p^m elements here.
+    FieldSize(u32, u32),
+    Memory,
+}
+
+impl From<AllocError> for Refusal {
+    ghost use Rattle.ff.specs.declared.session.Refusal.TheVariants.{Memory};
+
+    ghost from_gives = { λ _ e. e ≡ Memory };
+
+    fn from(_: AllocError) -> Self {
+        Refusal::Memory
+    }
+}
+
+/// The line that repeats the statement.
+pub fn push_echo(out: &mut Vec<u8>, s: &Statement) -> Result<(), AllocError>
+    ensures { OnOk result (out.new.items ≡ out.old.items ++ echo_line s.now) }
+{
+    out.extend_from_slice(b"> ")?;
+    push_statement(out, s)?;
+    out.extend_from_slice(b"\n")
+}
+
+impl Session {
+    /// Nothing is bound.
+    pub fn new() -> Session
+        ensures { result ≡ Empty }
+    {
+        Session {
+            bound: Bound::Nothing,
+        }
+    }
+
+    /// The text of the statement's block, or why there is none. After a refusal the session is as before.
+    pub fn step(&mut self, alloc: Global, s: &Statement) -> Result<Vec<u8>, Refusal>
+        requires { IsIn (place_of self.old) s.now }
+        ensures block { IfOk result (λ text. IsBlock self.old s.now text.items self.new) }
+        ensures refused { IfErr result (IsRefusedAs self.old s.now) }
+        ensures unchanged { OnErr result (self.new ≡ self.old) }
+    {
+        let mut text = Vec::new(alloc);
+        push_echo(&mut text, s)?;
+        match (&self.bound, s) {
+            (Bound::Nothing, Statement::FieldOf { p }) => {
+                let k = field(*p)?;
+                push_size(&mut text, &k)?;
+                self.bound = Bound::Field { k };
+            }
+            (Bound::Field { k }, Statement::CurveOf { n, lower }) => {
+                let k = *k;
+                let f = equation(alloc, &k, *n, lower.terms.as_slice())?;
+                push_curve(&mut text, &f)?;
+                self.bound = Bound::Curve { k, f };
+            }
+            _ => unreachable!(),
+        }
+        Ok(text)
+    }
+}
+
+/// The field of p elements.
+fn field(p: u32) -> Result<PrimeField, Refusal>
+    ensures made { IfOk result (λ k. k.p ≡ p) }
+    ensures refused { IfErr result (λ r. (r ≡ Refusal.FieldSize p 1) × ¬ IsTrue (is_listed p)) }
+{
+    match PrimeField::new(p) {
+        Ok(k) => Ok(k),
+        Err(_) => Err(Refusal::FieldSize(p, 1)),
+    }
+}
+
+/// The answer line of a field.
+fn push_size<K: SmallField>(out: &mut Vec<u8>, k: &K) -> Result<(), AllocError>
+    ensures { OnOk result (out.new.items ≡ out.old.items ++ (codes "= " ++ (answer_text (Size (K.field k.now).size) ++ codes "\n"))) }
+{
+    out.extend_from_slice(b"= q ")?;
+    push_number(out, k.size() as u64)?;
+    out.extend_from_slice(b"\n")
+}
+
+/// The answer line of a curve.
+fn push_curve(out: &mut Vec<u8>, f: &Pres) -> Result<(), AllocError>
+    ensures { OnOk result ((c : ℕ) × IsCurveOf f.now f.now.n c
+        × (out.new.items ≡ out.old.items ++ (codes "= " ++ (answer_text (Numbers f.now.n c) ++ codes "\n")))) }
+{
+    out.extend_from_slice(b"= n ")?;
+    push_number(out, f.n() as u64)?;
+    out.extend_from_slice(b" c ")?;
+    push_number(out, infinity_number(f) as u64)?;
+    out.extend_from_slice(b"\n")
 }

@@ -1,0 +1,70 @@
+//! The equation of a curve, out of its terms.
+
+ghost use Rattle.std.specs.Prelude.{◌≡◌, ◌<◌, ◌≤◌, ◌-◌, ◌*◌, ◌+◌, ◌∷◌, [], All, IfOk};
+ghost use Rattle.ff_fields.specs.Over.{IsOver};
+ghost use Rattle.ff_poly.specs.Words.{shifted};
+ghost use Rattle.ff_algebra.specs.Infinity.{IsInfinityNumber};
+ghost use Rattle.ff.specs.Answers.{equation, coefficient, sum_of_terms, code_of_term};
+ghost use Rattle.ff.specs.Form.{IsTerm};
+ghost use Rattle.ff.specs.Sessions.{IsEquation};
+
+use crate::script::Term;
+use ff_algebra::elem::Pres;
+use ff_fields::field::SmallField;
+use ff_poly::Poly;
+use ff_poly::poly::{add, shift};
+use std::alloc::{AllocError, Global};
+
+/// The term as a polynomial in x.
+fn power_of_x<K: SmallField>(alloc: Global, k: &K, t: &Term) -> Result<Poly, AllocError>
+    requires { IsTerm (K.field k.now).size 3 t.now }
+    ensures power { IfOk result (λ p. p ≡ shifted (code_of_term t.now.code ∷ []) t.now.x) }
+    ensures over { IfOk result (IsOver (K.field k.now).ops) }
+{
+    let mut codes = Vec::new(alloc);
+    codes.push(t.code.unwrap_or(1))?;
+    shift(alloc, &Poly::from_codes(codes), t.x as usize)
+}
+
+/// The coefficient of y^i.
+fn coefficient<K: SmallField>(alloc: Global, k: &K, terms: &[Term], i: u32) -> Result<Poly, AllocError>
+    requires { All (IsTerm (K.field k.now).size 3) terms.now }
+    ensures sum { IfOk result (λ p. p ≡ coefficient (K.field k.now).ops terms.now i) }
+    ensures over { IfOk result (IsOver (K.field k.now).ops) }
+{
+    let mut sum = Poly::from_codes(Vec::new(alloc));
+    for j in (0..terms.len()).rev() {
+        let t = &terms[j];
+        if t.y == i {
+            sum = add(alloc, k, &power_of_x(alloc, k, t)?, &sum)?;
+        }
+    }
+    Ok(sum)
+}
+
+/// y^n and the terms.
+pub fn equation<K: SmallField>(alloc: Global, k: &K, n: u32, lower: &[Term]) -> Result<Pres, AllocError>
+    requires degree { (1 ≤ n) × (n ≤ 4) }
+    requires terms { All (IsTerm (K.field k.now).size (n - 1)) lower.now }
+    ensures equation { IfOk result (λ f. f ≡ equation (K.field k.now).ops n lower.now) }
+    ensures sound { IfOk result (IsEquation (K.field k.now).ops) }
+{
+    let mut coeffs = Vec::new(alloc);
+    for i in 0..n {
+        coeffs.push(coefficient(alloc, k, lower, i)?)?;
+    }
+    Ok(Pres::new(n as usize, coeffs))
+}
+
+/// The least number c, 0 or more, such that the coefficient of y^(n-i) has a degree of at most c·i.
+pub fn infinity_number(f: &Pres) -> usize
+    ensures { IsInfinityNumber f.now result }
+{
+    let mut c = 0;
+    for i in 1..=f.n() {
+        if let Some(d) = f.coeff(f.n() - i).degree() {
+            c = c.max(d.div_ceil(i));
+        }
+    }
+    c
+}
