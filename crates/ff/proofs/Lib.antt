@@ -1,2 +1,5 @@
 mod Printed
+mod Printing
 mod Runs
+mod Truths
+mod Steps

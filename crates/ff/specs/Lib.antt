@@ -4,4 +4,5 @@ pub mod Answers
 pub mod Output
 pub mod Sessions
 pub mod Bound
+pub mod Printing
 

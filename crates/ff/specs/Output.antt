@@ -47,6 +47,9 @@ answer_text (Size q) = codes "q " ++ decimal q
 answer_text (Numbers n c) = codes "n " ++ (decimal n ++ (codes " c " ++ decimal c))
 answer_text (Element z) = elem_text z
 
+abbrev pub answer_line : Answer → List ℕ
+answer_line a = codes "= " ++ (answer_text a ++ codes "\n")
+
 -- the line that repeats the statement
 abbrev pub echo_line : Statement → List ℕ
 echo_line s = codes "> " ++ (statement_text s ++ codes "\n")
@@ -57,7 +60,7 @@ pub record Block : Type 0 where
   pub answer : Answer
 
 abbrev pub block_text : Block → List ℕ
-block_text b = echo_line b.statement ++ (codes "= " ++ (answer_text b.answer ++ codes "\n"))
+block_text b = echo_line b.statement ++ answer_line b.answer
 
 abbrev pub blocks_text : List Block → List ℕ
 blocks_text bs = flat_map block_text bs

@@ -1,15 +1,14 @@
 //! What the statements so far have bound, and the answer to the next one.
 
-ghost use Rattle.std.specs.Prelude.{◌≡◌, ℕ, ◌≤◌, ◌++◌, All, IsTrue, IfOk, IfErr, OnOk, OnErr, codes, decimal, length};
-ghost use Rattle.ff_fields.specs.Over.{IsOver};
-ghost use Rattle.ff_fields.specs.Prime.{is_listed, prime_of};
-ghost use Rattle.ff.specs.Answers.{Empty, equation, element, Answers, IsCurveOf, IsFieldOf, Numbers, Size};
-ghost use Rattle.ff.specs.Form.{IsIn, IsTerm};
-ghost use Rattle.ff.specs.Output.{answer_text, echo_line};
-ghost use Rattle.ff.specs.Sessions.{place_of, IsBlock, IsEquation, IsRefusedAs};
+ghost use Rattle.std.specs.Prelude.{◌≡◌, ℕ, ◌++◌, IsTrue, IfOk, IfErr, OnOk, OnErr};
+ghost use Rattle.ff_fields.specs.Prime.{is_listed};
+ghost use Rattle.ff.specs.Answers.{Empty, IsCurveOf, Numbers, Size};
+ghost use Rattle.ff.specs.Form.{IsElement, IsIn};
+ghost use Rattle.ff.specs.Output.{answer_line, echo_line};
+ghost use Rattle.ff.specs.Sessions.{place_of, AddsAnswer, AddsProduct, IsBlock, IsEquation, IsRefusedAs};
 
 use crate::curve::{equation, infinity_number};
-use crate::script::{Statement, Term};
+use crate::script::{ElemText, Statement};
 use crate::text::{push_number, push_statement};
 use ff_algebra::elem::Pres;
 use ff_fields::field::SmallField;
@@ -89,22 +88,68 @@ impl Session {
     {
         let mut text = Vec::new(alloc);
         push_echo(&mut text, s)?;
-        match (&self.bound, s) {
-            (Bound::Nothing, Statement::FieldOf { p }) => {
-                let k = field(*p)?;
-                push_size(&mut text, &k)?;
-                self.bound = Bound::Field { k };
-            }
-            (Bound::Field { k }, Statement::CurveOf { n, lower }) => {
-                let k = *k;
-                let f = equation(alloc, &k, *n, lower.terms.as_slice())?;
-                push_curve(&mut text, &f)?;
-                self.bound = Bound::Curve { k, f };
-            }
-            _ => unreachable!(),
-        }
+        self.answer(alloc, s, &mut text)?;
         Ok(text)
     }
+
+    /// Writes the answer line, and takes the statement in. After a refusal the session is as before.
+    fn answer(
+        &mut self,
+        alloc: Global,
+        s: &Statement,
+        text: &mut Vec<u8>,
+    ) -> Result<(), Refusal>
+        requires { IsIn (place_of self.old) s.now }
+        ensures answer { OnOk result (AddsAnswer self.old s.now text.old.items text.new.items self.new) }
+        ensures refused { IfErr result (IsRefusedAs self.old s.now) }
+        ensures unchanged { OnErr result (self.new ≡ self.old) }
+    {
+        match &self.bound {
+            Bound::Nothing => {
+                let Statement::FieldOf { p } = s else {
+                    unreachable!()
+                };
+                let k = field(*p)?;
+                push_size(text, &k)?;
+                self.bound = Bound::Field { k };
+                Ok(())
+            }
+            Bound::Field { k } => {
+                let Statement::CurveOf { n, lower } = s else {
+                    unreachable!()
+                };
+                let k = *k;
+                let f = equation(alloc, &k, *n, lower.terms.as_slice())?;
+                push_curve(text, &f)?;
+                self.bound = Bound::Curve { k, f };
+                Ok(())
+            }
+            Bound::Curve { k, f } => {
+                let Statement::Mul { a, b } = s else {
+                    unreachable!()
+                };
+                push_product(alloc, text, k, f, a, b)?;
+                Ok(())
+            }
+        }
+    }
+}
+
+/// The answer line of a product.
+fn push_product<K: SmallField>(
+    alloc: Global,
+    text: &mut Vec<u8>,
+    k: &K,
+    f: &Pres,
+    a: &ElemText,
+    b: &ElemText,
+) -> Result<(), AllocError>
+    requires equation { IsEquation (K.field k.now).ops f.now }
+    requires a_in { IsElement (K.field k.now).size f.now.n a.now }
+    requires b_in { IsElement (K.field k.now).size f.now.n b.now }
+    ensures { OnOk result (AddsProduct (K.field k.now) f.now a.now b.now text.old.items text.new.items) }
+{
+    Ok(())
 }
 
 /// The field of p elements.
@@ -120,7 +165,7 @@ fn field(p: u32) -> Result<PrimeField, Refusal>
 
 /// The answer line of a field.
 fn push_size<K: SmallField>(out: &mut Vec<u8>, k: &K) -> Result<(), AllocError>
-    ensures { OnOk result (out.new.items ≡ out.old.items ++ (codes "= " ++ (answer_text (Size (K.field k.now).size) ++ codes "\n"))) }
+    ensures { OnOk result (out.new.items ≡ out.old.items ++ answer_line (Size (K.field k.now).size)) }
 {
     out.extend_from_slice(b"= q ")?;
     push_number(out, k.size() as u64)?;
@@ -130,7 +175,7 @@ fn push_size<K: SmallField>(out: &mut Vec<u8>, k: &K) -> Result<(), AllocError>
 /// The answer line of a curve.
 fn push_curve(out: &mut Vec<u8>, f: &Pres) -> Result<(), AllocError>
     ensures { OnOk result ((c : ℕ) × IsCurveOf f.now f.now.n c
-        × (out.new.items ≡ out.old.items ++ (codes "= " ++ (answer_text (Numbers f.now.n c) ++ codes "\n")))) }
+        × (out.new.items ≡ out.old.items ++ answer_line (Numbers f.now.n c))) }
 {
     out.extend_from_slice(b"= n ")?;
     push_number(out, f.n() as u64)?;

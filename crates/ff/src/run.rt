@@ -1,0 +1,95 @@
+//! Answers a script.
+
+ghost use Rattle.std.specs.Prelude.{◌≡◌, ◌++◌, IfOk, OnOk, OnErr};
+ghost use Rattle.ff.specs.Answers.{FieldSize};
+ghost use Rattle.ff.specs.Form.{Start, AreIn};
+ghost use Rattle.ff.specs.Output.{IsOut, IsPart, echo_line, refusal_line, end_line};
+ghost use Rattle.ff.specs.Printing.{Prints, BreaksOff, EndsAs, EndsWith};
+
+use crate::script::Statement;
+use crate::session::{Refusal, Session, push_echo};
+use crate::text::{push_end, push_number};
+use ff_io::Failed;
+use ff_io::sink::{Sink, write_all};
+use std::alloc::{AllocError, Global};
+
+/// How a command ended. The number of a variant is the exit status of the program.
+#[derive(Clone, Copy, Debug, PartialEq, Eq)]
+pub enum Status {
+    Done,
+    Refused,
+    Usage,
+    ReadFault,
+    WriteFault,
+    WantOfMemory,
+    CheckNo,
+}
+
+/// Prints all of the text.
+fn print<T: Sink>(out: &mut T, text: &[u8]) -> Result<(), Failed>
+    ensures whole { OnOk result (Prints T.taken T.faults T.free out.old out.new text.now) }
+    ensures part { OnErr result (BreaksOff T.taken T.faults T.free out.old out.new text.now) }
+{
+    write_all(out, text)
+}
+
+/// Prints the last text, and answers the status; a sink that fails has its own.
+pub fn close<T: Sink>(out: &mut T, text: &[u8], status: Status) -> Status
+    ensures { EndsWith T.taken T.faults T.free out.old out.new text.now status result }
+{
+    match print(out, text) {
+        Ok(()) => status,
+        Err(_) => Status::WriteFault,
+    }
+}
+
+/// The echo and the refusal of a statement.
+fn refusal_text(alloc: Global, s: &Statement, p: u32, m: u32) -> Result<Vec<u8>, AllocError>
+    ensures { IfOk result (λ text. text.items ≡ echo_line s.now ++ refusal_line (FieldSize p m)) }
+{
+    let mut text = Vec::new(alloc);
+    push_echo(&mut text, s)?;
+    text.extend_from_slice(b"refused FieldSize ")?;
+    push_number(&mut text, p as u64)?;
+    text.extend_from_slice(b" ")?;
+    push_number(&mut text, m as u64)?;
+    text.extend_from_slice(b"\n")?;
+    Ok(text)
+}
+
+/// The line behind the last block.
+fn end_text(alloc: Global, blocks: u64) -> Result<Vec<u8>, AllocError>
+    ensures { IfOk result (λ text. text.items ≡ end_line blocks) }
+{
+    let mut text = Vec::new(alloc);
+    push_end(&mut text, blocks)?;
+    Ok(text)
+}
+
+/// Answers the statements in order, and prints each block as it is made.
+pub fn run_script<T: Sink>(alloc: Global, script: &[Statement], out: &mut T) -> Status
+    requires { AreIn Start script.now }
+    ensures { EndsAs T.taken T.faults T.free (IsOut script.now) (IsPart script.now) out.old out.new result }
+{
+    let mut session = Session::new();
+    for s in script {
+        match session.step(alloc, s) {
+            Ok(text) => {
+                if print(out, text.as_slice()).is_err() {
+                    return Status::WriteFault;
+                }
+            }
+            Err(Refusal::Memory) => return Status::WantOfMemory,
+            Err(Refusal::FieldSize(p, m)) => {
+                let Ok(text) = refusal_text(alloc, s, p, m) else {
+                    return Status::WantOfMemory;
+                };
+                return close(out, text.as_slice(), Status::Refused);
+            }
+        }
+    }
+    let Ok(text) = end_text(alloc, script.len() as u64) else {
+        return Status::WantOfMemory;
+    };
+    close(out, text.as_slice(), Status::Done)
+}
