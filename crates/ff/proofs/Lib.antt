@@ -1,2 +1,4 @@
+mod InfinityNumbers
 mod Printed
 mod Runs
+mod Terms
