@@ -1,5 +1,7 @@
+mod InfinityNumbers
 mod Printed
 mod Printing
 mod Runs
-mod Truths
 mod Steps
+mod Terms
+mod Truths

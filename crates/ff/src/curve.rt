@@ -1,14 +1,14 @@
 //! The equation of a curve, out of its terms.
 
-ghost use Rattle.std.specs.Prelude.{◌≡◌, ◌<◌, ◌≤◌, ◌-◌, ◌*◌, ◌+◌, ◌∷◌, [], All, IfOk};
+ghost use Rattle.std.specs.Prelude.{◌≡◌, ◌<◌, ◌≤◌, ◌-◌, ◌*◌, ◌+◌, ◌∷◌, [], map, All, IfOk};
 ghost use Rattle.ff_fields.specs.Over.{IsOver};
-ghost use Rattle.ff_poly.specs.Words.{shifted};
+ghost use Rattle.ff_poly.specs.Words.{IsPoly, shifted};
 ghost use Rattle.ff_algebra.specs.Infinity.{IsInfinityNumber};
 ghost use Rattle.ff.specs.Answers.{equation, coefficient, sum_of_terms, code_of_term};
 ghost use Rattle.ff.specs.Form.{IsTerm};
 ghost use Rattle.ff.specs.Sessions.{IsEquation};
 
-use crate::script::Term;
+use crate::script::{Term, TermList};
 use ff_algebra::elem::Pres;
 use ff_fields::field::SmallField;
 use ff_poly::Poly;
@@ -54,6 +54,24 @@ pub fn equation<K: SmallField>(alloc: Global, k: &K, n: u32, lower: &[Term]) -> 
         coeffs.push(coefficient(alloc, k, lower, i)?)?;
     }
     Ok(Pres::new(n as usize, coeffs))
+}
+
+/// The polynomial of each entry, the sum of its terms.
+pub fn polynomials<K: SmallField>(
+    alloc: Global,
+    k: &K,
+    entries: &[TermList],
+) -> Result<Vec<Poly>, AllocError>
+    requires { All (All (IsTerm (K.field k.now).size 0)) entries.now }
+    ensures sums { IfOk result (λ ps. ps.items ≡ map (sum_of_terms (K.field k.now).ops) entries.now) }
+    ensures over { IfOk result (λ ps. All (IsOver (K.field k.now).ops) ps.items) }
+    ensures polys { IfOk result (λ ps. All IsPoly ps.items) }
+{
+    let mut polys = Vec::new(alloc);
+    for entry in entries {
+        polys.push(coefficient(alloc, k, entry.terms.as_slice(), 0)?)?;
+    }
+    Ok(polys)
 }
 
 /// The least number c, 0 or more, such that the coefficient of y^(n-i) has a degree of at most c·i.
