@@ -1,0 +1,6 @@
+//! Reads a script.
+
+mod fault;
+mod line;
+mod number;
+mod term;
