@@ -1,5 +1,5 @@
 -- Steps of a reading that may find nothing, and texts at the front of the bytes.
-use Rattle.std.proofs.Common.{◌≡◌, ◌≢◌, ℕ, Bool, true, false, cond, eqb, List, [], ◌∷◌, ◌++◌, Option, Some, None, refl, sym, ap, ◌∙◌, ◌⊎◌, inl, inr}
+use Rattle.std.proofs.Common.{◌≡◌, ◌≢◌, ℕ, Bool, true, false, cond, eqb, List, [], ◌∷◌, ◌++◌, Option, Some, None, refl, sym, ap, ◌∙◌, append_assoc, ◌⊎◌, inl, inr}
 use Rattle.std.specs.Prelude.{MatchOption, option_and_then}
 use Rattle.std.specs.Option.{option_map_or}
 use Rattle.std.specs.Borrow.{Bor}
@@ -26,7 +26,7 @@ pub test_some : {A : Type 0} (b : Bool) (o : Option A) (y : A) → cond b o None
 test_some true o y e = (refl, e)
 test_some false o y e = absurd cc
 
-abbrev found : {A : Type 0} → A → Option A
+abbrev pub found : {A : Type 0} → A → Option A
 found x = Some x
 
 pub some_is : {A : Type 0} (x y : A) → found x ≡ found y → x ≡ y
@@ -60,3 +60,7 @@ stripped text bytes None h = nothing (after_text text bytes) refl
     nothing : (o : Option (List ℕ)) → after_text text bytes ≡ o → o ≡ None
     nothing None e = refl
     nothing (Some rest) e = absurd (h rest (text_takes text bytes rest e))
+
+-- two texts one after the other
+pub then_takes : (a x b y c : List ℕ) → a ≡ x ++ b → b ≡ y ++ c → a ≡ (x ++ y) ++ c
+then_takes a x b y c first second = first ∙ ap (λ (t : List ℕ). x ++ t) second ∙ sym (append_assoc x y c)

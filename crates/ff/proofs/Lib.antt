@@ -1,2 +1,4 @@
 pub mod Found
 pub mod Numbers
+pub mod Terms
+pub mod Sums

@@ -32,6 +32,9 @@ FindsUnless view (Err Memory) read = Unit {0}
 abbrev pub with_front : {X Y : Type 0} → List X → Option (List X × Y) → Option (List X × Y)
 with_front front read = read >>= λ x. Some (front ++ x.0, x.1)
 
+abbrev pub with_first : {X Y : Type 0} → X → Option (List X × Y) → Option (List X × Y)
+with_first first read = read >>= λ x. Some (first ∷ x.0, x.1)
+
 -- the bytes after the text that they begin with
 unfoldable pub after_text : List ℕ → List ℕ → Option (List ℕ)
 after_text [] bytes = Some bytes
@@ -86,10 +89,7 @@ term_at p y_limit bytes = option_map_or
 unfoldable pub some_more_at : ℕ → ℕ → ℕ → List ℕ → Option (List Term × List ℕ)
 some_more_at zero p y_limit bytes = Some ([], bytes)
 some_more_at (suc k) p y_limit bytes = option_map_or
-    (λ rest. do
-      t ← term_at p y_limit rest
-      ts ← some_more_at k p y_limit t.1
-      Some (t.0 ∷ ts.0, ts.1))
+    (λ rest. term_at p y_limit rest >>= λ t. with_first t.0 (some_more_at k p y_limit t.1))
     (after_text (codes " + ") bytes)
     (Some ([], bytes))
 
@@ -98,7 +98,7 @@ more_at p y_limit bytes = some_more_at (length bytes) p y_limit bytes
 
 unfoldable pub poly_at : ℕ → List ℕ → Option (List Term × List ℕ)
 poly_at p bytes = option_map_or
-    (λ t. more_at p 1 t.1 >>= λ ts. Some (t.0 ∷ ts.0, ts.1))
+    (λ t. with_first t.0 (more_at p 1 t.1))
     (term_at p 1 bytes)
     (after_text (codes "0") bytes >>= λ rest. Some ([], rest))
 
@@ -108,8 +108,7 @@ polys_at zero p bytes = Some ([], bytes)
 polys_at (suc k) p bytes = do
   rest ← after_text (codes ", ") bytes
   a ← poly_at p rest
-  b ← polys_at k p a.1
-  Some (a.0 ∷ b.0, b.1)
+  with_first a.0 (polys_at k p a.1)
 
 unfoldable pub element_at : ℕ → ℕ → List ℕ → Option (List (List Term) × List ℕ)
 element_at p n bytes = do

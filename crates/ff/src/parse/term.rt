@@ -80,8 +80,10 @@ pub(super) fn more_terms(
     let mut terms = terms;
     let mut rest = bytes;
     while let Some(start) = after(rest, b" + ") {
-        let (term, behind) = term(start, p, y_limit).ok_or(Unread::NotInForm)?;
-        terms.push(term)?;
+        let Some((next, behind)) = term(start, p, y_limit) else {
+            return Err(Unread::NotInForm);
+        };
+        terms.push(next)?;
         rest = behind;
     }
     Ok((terms, rest))
@@ -98,9 +100,9 @@ pub(super) fn poly(alloc: Global, bytes: &[u8], p: u32) -> Result<(Vec<Term>, &[
             terms.push(first)?;
             more_terms(terms, rest, p, 1)
         }
-        None => {
-            let rest = after(bytes, b"0").ok_or(Unread::NotInForm)?;
-            Ok((terms, rest))
-        }
+        None => match after(bytes, b"0") {
+            Some(rest) => Ok((terms, rest)),
+            None => Err(Unread::NotInForm),
+        },
     }
 }
