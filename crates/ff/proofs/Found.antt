@@ -4,7 +4,7 @@ use Rattle.std.specs.Prelude.{MatchOption, option_and_then}
 use Rattle.std.specs.Option.{option_map_or}
 use Rattle.std.specs.Borrow.{Bor}
 use Rattle.std.proofs.lemmas.Bool.{eqb-true, eq-eqb}
-use Rattle.ff.specs.Reading.{◌>>=◌, Finds, after_text}
+use Rattle.ff.specs.Reading.{◌>>=◌, Finds, with_front, with_first, after_text}
 
 -- the value of a step that found one
 pub bind_some : {A B : Type 0} (o : Option A) (f : A → Option B) (y : B) → (o >>= f) ≡ Some y → (x : A) × (o ≡ Some x) × (f x ≡ Some y)
@@ -64,3 +64,9 @@ stripped text bytes None h = nothing (after_text text bytes) refl
 -- two texts one after the other
 pub then_takes : (a x b y c : List ℕ) → a ≡ x ++ b → b ≡ y ++ c → a ≡ (x ++ y) ++ c
 then_takes a x b y c first second = first ∙ ap (λ (t : List ℕ). x ++ t) second ∙ sym (append_assoc x y c)
+
+-- ---- what was read before
+
+pub with_front_push : {X Y : Type 0} (front : List X) (x : X) (read : Option (List X × Y)) → with_front (front ++ x ∷ []) read ≡ with_front front (with_first x read)
+with_front_push front x (Some y) = ap (λ xs. Some (xs, y.1)) (append_assoc front (x ∷ []) y.0)
+with_front_push front x None = refl

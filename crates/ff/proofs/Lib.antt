@@ -2,3 +2,4 @@ pub mod Found
 pub mod Numbers
 pub mod Terms
 pub mod Sums
+pub mod Elements

@@ -1,5 +1,6 @@
 -- Terms one after the other, and polynomials.
-use Rattle.std.proofs.Common.{◌≡◌, ℕ, zero, suc, ◌-◌, ◌+◌, ◌^◌, ◌<◌, ◌≤◌, List, [], ◌∷◌, ◌++◌, length, map, All, codes, Option, Some, None, refl, sym, ap, subst, ◌∙◌, append_assoc, arith, inl, inr}
+use Rattle.std.proofs.Common.{◌≡◌, ℕ, zero, suc, ◌-◌, ◌+◌, ◌^◌, ◌<◌, ◌≤◌, List, [], ◌∷◌, ◌++◌, length, map, All, codes, false, eqb, Option, Some, None, refl, sym, ap, subst, ◌∙◌, append_assoc, arith, inl, inr}
+use Rattle.std.specs.Char.{is_ascii_digit}
 use Rattle.std.specs.List.{flat_map}
 use Rattle.std.specs.Option.{option_map_or}
 use Rattle.std.proofs.lemmas.List.{append-nil}
@@ -9,7 +10,7 @@ use Rattle.ff.specs.declared.script.Term.{Term}
 use Rattle.ff.specs.Text.{joined, term_text, terms_text}
 use Rattle.ff.specs.Form.{IsTerm}
 use Rattle.ff.specs.Reading.{◌>>=◌, with_front, with_first, after_text, number_at, power_at, powers_at, term_at, some_more_at, more_at, poly_at}
-use Rattle.ff.proofs.Found.{bind_some, choice_some, some_is, text_takes, text_again, then_takes}
+use Rattle.ff.proofs.Found.{bind_some, choice_some, some_is, text_takes, text_again, then_takes, with_front_push}
 use Rattle.ff.proofs.Terms.{IsApart, other_text, no_digit, term_takes, term_again, term_shorter}
 
 -- ---- how many terms may follow makes no difference
@@ -69,15 +70,11 @@ more_is p y_limit (c ∷ cs) start p_fits y_fits e =
 pub with_front_ended : (front : List Term) (p y_limit : ℕ) (bytes : List ℕ) (total : Option (List Term × List ℕ)) → after_text (codes " + ") bytes ≡ None → with_front front (more_at p y_limit bytes) ≡ total → total ≡ Some (front, bytes)
 with_front_ended front p y_limit bytes total e so_far = sym so_far ∙ ap (with_front front) (more_ended p y_limit bytes e) ∙ ap (λ (ts : List Term). Some (ts, bytes)) (append-nil front)
 
-regroup : (front : List Term) (t : Term) (read : Option (List Term × List ℕ)) → with_front (front ++ t ∷ []) read ≡ with_front front (with_first t read)
-regroup front t (Some x) = ap (λ (ts : List Term). Some (ts, x.1)) (append_assoc front (t ∷ []) x.0)
-regroup front t None = refl
-
 pub with_front_more : (front : List Term) (p y_limit : ℕ) (bytes start : List ℕ) (t : Term) (rest : List ℕ) (total : Option (List Term × List ℕ)) → p ≤ 2 ^ 32 → y_limit ≤ 2 ^ 32 → after_text (codes " + ") bytes ≡ Some start → term_at p y_limit start ≡ Some (t, rest)
     → with_front front (more_at p y_limit bytes) ≡ total → with_front (front ++ t ∷ []) (more_at p y_limit rest) ≡ total
 with_front_more front p y_limit bytes start t rest total p_fits y_fits e next so_far =
     let step : more_at p y_limit bytes ≡ with_first t (more_at p y_limit rest) = more_is p y_limit bytes start p_fits y_fits e ∙ rw next refl in
-    regroup front t (more_at p y_limit rest) ∙ ap (with_front front) (sym step) ∙ so_far
+    with_front_push front t (more_at p y_limit rest) ∙ ap (with_front front) (sym step) ∙ so_far
 
 pub with_front_stopped : (front : List Term) (p y_limit : ℕ) (bytes start : List ℕ) (total : Option (List Term × List ℕ)) → p ≤ 2 ^ 32 → y_limit ≤ 2 ^ 32 → after_text (codes " + ") bytes ≡ Some start → term_at p y_limit start ≡ None
     → with_front front (more_at p y_limit bytes) ≡ total → total ≡ None
@@ -124,12 +121,17 @@ pub more_takes : (p y_limit : ℕ) (bytes : List ℕ) (b : List Term × List ℕ
 unfolding more_at
 more_takes p y_limit bytes b p_fits y_fits e = some_more_take (length bytes) p y_limit bytes b p_fits y_fits e
 
-plus_apart : (bytes : List ℕ) → IsApart (32 ∷ bytes)
-plus_apart bytes = record { digit = no_digit 32 bytes refl; power = other_text 94 32 bytes refl; product = other_text 42 32 bytes refl }
+pub apart_from : (b : ℕ) (bs : List ℕ) → is_ascii_digit b ≡ false → eqb b 94 ≡ false → eqb b 42 ≡ false → IsApart (b ∷ bs)
+apart_from b bs digit power product = record { digit = no_digit b bs digit; power = other_text 94 b bs power; product = other_text 42 b bs product }
+
+-- a byte that goes on with no term and with no sum
+pub ended_from : (b : ℕ) (bs : List ℕ) → is_ascii_digit b ≡ false → eqb b 94 ≡ false → eqb b 42 ≡ false → eqb b 32 ≡ false → IsEnded (b ∷ bs)
+unfolding after_text
+ended_from b bs digit power product last = record { apart = apart_from b bs digit power product; last = rw last refl }
 
 behind_apart : (ts : List Term) (rest : List ℕ) → IsApart rest → IsApart (flat_map plus ts ++ rest)
 behind_apart [] rest apart = apart
-behind_apart (t ∷ ts) rest apart = plus_apart _
+behind_apart (t ∷ ts) rest apart = apart_from 32 _ refl refl refl
 
 pub more_again : (p y_limit : ℕ) (ts : List Term) (rest : List ℕ) → p ≤ 2 ^ 32 → y_limit ≤ 2 ^ 32 → 1 ≤ y_limit → All (IsTerm p (y_limit - 1)) ts → IsEnded rest → more_at p y_limit (flat_map plus ts ++ rest) ≡ Some (ts, rest)
 more_again p y_limit [] rest p_fits y_fits positive are ended = more_ended p y_limit rest ended.last

@@ -23,10 +23,13 @@ Finds view None read = read ≡ None
 Finds view (Some x) read = read ≡ Some (view x)
 
 -- the same, unless memory ran out
+abbrev pub Fails : {Y : Type 0} → Unread → Option Y → Type 0
+Fails NotInForm read = read ≡ None
+Fails Memory read = Unit {0}
+
 abbrev pub FindsUnless : {X Y : Type 0} → (X → Y) → Result X Unread → Option Y → Type 0
 FindsUnless view (Ok x) read = read ≡ Some (view x)
-FindsUnless view (Err NotInForm) read = read ≡ None
-FindsUnless view (Err Memory) read = Unit {0}
+FindsUnless view (Err e) read = Fails e read
 
 -- what was read before, and what is read now
 abbrev pub with_front : {X Y : Type 0} → List X → Option (List X × Y) → Option (List X × Y)
