@@ -1,7 +1,8 @@
 -- A script is read in one way, and has one first bad line or none.
-use Rattle.std.proofs.Common.{◌≡◌, ◌≢◌, ℕ, suc, ◌+◌, ◌<◌, ◌≤◌, List, [], ◌∷◌, ◌++◌, length, codes, Option, Some, None, refl, sym, ap, subst, ◌∙◌, append_assoc, arith}
+use Rattle.std.proofs.Common.{◌≡◌, ◌≢◌, ℕ, suc, true, false, eqb, ◌+◌, ◌<◌, ◌≤◌, List, [], ◌∷◌, ◌++◌, length, codes, Option, Some, None, refl, sym, ap, subst, ◌∙◌, append_assoc, arith}
 use Rattle.std.specs.List.{flat_map}
-use Rattle.std.proofs.lemmas.List.{append-nil, length-append}
+use Rattle.std.proofs.lemmas.Bool.{eqb-true, eqb-false, false≢true}
+use Rattle.std.proofs.lemmas.List.{append-nil, length-append, nil_from_length}
 use Rattle.std.proofs.lemmas.List.Concat.{flat_map-append}
 use Rattle.ff.specs.declared.script.Place.{Place}
 use Rattle.ff.specs.declared.script.Place.TheVariants.{Start}
@@ -127,19 +128,23 @@ one_more bytes ss place rest s behind so_far e =
       text = script_grows bytes ss rest s behind so_far.text line.parts;
     }
 
-pub whole_script : (bytes : List ℕ) (ss : List Statement) (place : Place) → AreSoFar bytes ss place [] → IsScript bytes ss
-whole_script bytes ss place so_far = record { in_place = so_far.in_place; text = so_far.text ∙ append-nil (script_text ss) }
+pub whole_script : (bytes : List ℕ) (ss : List Statement) (place : Place) (rest : List ℕ) → AreSoFar bytes ss place rest → true ≡ eqb (length rest) 0 → IsScript bytes ss
+whole_script bytes ss place rest so_far done =
+    let nothing : rest ≡ [] = nil_from_length rest (eqb-true (length rest) 0 (sym done)) in
+    record { in_place = so_far.in_place; text = so_far.text ∙ ap (λ (t : List ℕ). script_text ss ++ t) nothing ∙ append-nil (script_text ss) }
 
-pub bad_line : (bytes : List ℕ) (ss : List Statement) (place : Place) (rest : List ℕ) → AreSoFar bytes ss place rest → rest ≢ [] → line_at place rest ≡ None → IsFirstBadLine bytes (suc (length ss))
+pub bad_line : (bytes : List ℕ) (ss : List Statement) (place : Place) (rest : List ℕ) → AreSoFar bytes ss place rest → false ≡ eqb (length rest) 0 → line_at place rest ≡ None → IsFirstBadLine bytes (length ss + 1)
 bad_line bytes ss place rest so_far some none = record {
   good = ss;
   rest = rest;
   in_place = so_far.in_place;
   text = so_far.text;
-  some = some;
+  some = λ e. false≢true (some ∙ ap (λ (r : List ℕ). eqb (length r) 0) e);
   bad = λ s more is e. no_none (sym (line_again (after_all Start ss) s more (after_all_place Start ss tt so_far.in_place) is) ∙ ap (line_at (after_all Start ss)) (sym e) ∙ subst (λ (p : Place). line_at p rest ≡ None) so_far.next none);
-  number = refl;
+  number = omega arith;
 }
 
-pub count_so_far : (bytes : List ℕ) (ss : List Statement) (place : Place) (rest : List ℕ) → AreSoFar bytes ss place rest → length ss + length rest ≤ length bytes
-count_so_far bytes ss place rest so_far = omega (arith, script_long ss, ap length so_far.text, length-append (script_text ss) rest)
+pub count_below : (bytes : List ℕ) (ss : List Statement) (place : Place) (rest : List ℕ) → AreSoFar bytes ss place rest → false ≡ eqb (length rest) 0 → length ss < length bytes
+count_below bytes ss place rest so_far some =
+    let more : length rest ≢ 0 = eqb-false (length rest) 0 (sym some) in
+    omega (arith, script_long ss, ap length so_far.text, length-append (script_text ss) rest)
