@@ -1,12 +1,9 @@
 //! Reads lines.
 
-ghost use Rattle.std.specs.Prelude.{◌≡◌, ◌-◌, ◌<◌, ◌^◌, ℕ, List, length, IfOk, Err};
-ghost use Rattle.ff.specs.declared.script.Statement.{Statement};
-ghost use Rattle.ff.specs.declared.parse.fault.ScriptFault.TheVariants.{Syntax};
-ghost use Rattle.ff.specs.Form.{after, IsScript, IsFirstBadLine};
-ghost use Rattle.ff.specs.Reading.{Finds, FindsUnless, GivesScript, with_front, polys_at, element_at, field_at, curve_at, mul_at, statement_at, line_at};
+ghost use Rattle.std.specs.Prelude.{◌-◌};
+ghost use Rattle.ff.specs.Reading.{Finds, FindsUnless, with_front, polys_at, element_at, field_at, curve_at, mul_at, statement_at, line_at};
 
-use super::fault::{ScriptFault, Unread};
+use super::fault::Unread;
 use super::number::{after, number};
 use super::term::{more_terms, poly};
 use crate::script::{ElemText, Place, Statement, TermList};
@@ -109,7 +106,7 @@ fn statement(alloc: Global, place: Place, bytes: &[u8]) -> Result<(Statement, &[
 
 /// A statement that may stand in the place, and its line feed.
 #[tactic(auto, unfolding(crate::specs::Reading::line_at))]
-fn line(alloc: Global, place: Place, bytes: &[u8]) -> Result<(Statement, &[u8]), Unread>
+pub(super) fn line(alloc: Global, place: Place, bytes: &[u8]) -> Result<(Statement, &[u8]), Unread>
     ensures { FindsUnless (λ x. (x.0, x.1.now)) result (line_at place bytes.now) }
 {
     let (found, rest) = statement(alloc, place, bytes)?;
@@ -117,41 +114,4 @@ fn line(alloc: Global, place: Place, bytes: &[u8]) -> Result<(Statement, &[u8]),
         Some(rest) => Ok((found, rest)),
         None => Err(Unread::NotInForm),
     }
-}
-
-/// The place after the statement.
-fn place_after(place: Place, statement: &Statement) -> Place
-    ensures { result ≡ after place statement.now }
-{
-    match (place, statement) {
-        (Place::Start, Statement::FieldOf { p }) => Place::AfterField { p: *p },
-        (Place::AfterField { p }, Statement::CurveOf { n, .. }) => Place::AfterCurve { p, n: *n },
-        _ => place,
-    }
-}
-
-/// The statements of a script, or the first line that isn't in the form. Linear in the bytes.
-pub(crate) fn read_script(alloc: Global, bytes: &[u8]) -> Result<Vec<Statement>, ScriptFault>
-    requires { length bytes.now < 2 ^ 32 }
-    // What is read is written so, in the form.
-    ensures found { IfOk result (λ ss. IsScript bytes.now ss.items) }
-    // A script in the form is read, unless memory runs out.
-    ensures only { (ss : List Statement) → IsScript bytes.now ss → GivesScript result ss }
-    ensures syntax { (bad : ℕ) → result ≡ Err (Syntax bad) → IsFirstBadLine bytes.now bad }
-{
-    let mut statements = Vec::new(alloc);
-    let mut place = Place::Start;
-    let mut rest = bytes;
-    while !rest.is_empty() {
-        match line(alloc, place, rest) {
-            Ok((next, behind)) => {
-                place = place_after(place, &next);
-                statements.push(next)?;
-                rest = behind;
-            }
-            Err(Unread::NotInForm) => return Err(ScriptFault::Syntax(statements.len() as u32 + 1)),
-            Err(Unread::Memory) => return Err(ScriptFault::Memory),
-        }
-    }
-    Ok(statements)
 }

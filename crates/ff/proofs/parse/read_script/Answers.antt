@@ -2,7 +2,7 @@ use Rattle.std.proofs.Common.{◌≡◌, ◌≢◌, ℕ, suc, ◌+◌, ◌<◌, 
 use Rattle.ff.specs.Form.{after, IsFirstBadLine}
 use Rattle.ff.proofs.Lines.{line_shorter}
 use Rattle.ff.proofs.Scripts.{AreSoFar, small_so_far, one_more, whole_script, bad_line, count_below, same_script, not_both}
-use Rattle.ff.proofs.parse.line.read_script.Goals as goal
+use Rattle.ff.proofs.parse.read_script.Goals as goal
 
 pub loop-rest-smaller : goal.loop-rest-smaller
 loop-rest-smaller c = line_shorter c.loop-rest.place c.loop-rest.rest.now c.in-Ok.next c.in-Ok.behind.now (small_so_far c.loop-rest.invariant) c.in-Ok.ensures

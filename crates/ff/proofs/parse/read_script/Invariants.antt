@@ -1,6 +1,6 @@
 use Rattle.std.proofs.Common.{length}
 use Rattle.ff.proofs.Scripts.{AreSoFar}
-use Rattle.ff.proofs.parse.line.read_script.Given as goal
+use Rattle.ff.proofs.parse.read_script.Given as goal
 
 abbrev pub invariant-loop-rest : goal.invariant-loop-rest
 invariant-loop-rest l = AreSoFar l.bytes l.statements.items l.place l.rest
