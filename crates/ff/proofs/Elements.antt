@@ -1,12 +1,12 @@
 -- Polynomials one after the other, and elements.
-use Rattle.std.proofs.Common.{◌≡◌, ℕ, zero, suc, ◌-◌, ◌+◌, ◌^◌, ◌<◌, ◌≤◌, List, [], ◌∷◌, ◌++◌, length, map, All, codes, Option, Some, None, refl, sym, ap, subst, ◌∙◌, append_assoc, arith}
+use Rattle.std.proofs.Common.{◌≡◌, ℕ, zero, suc, ◌-◌, ◌+◌, ◌^◌, ◌<◌, ◌≤◌, List, [], ◌∷◌, ◌++◌, length, All, codes, Option, Some, None, refl, sym, ap, subst, ◌∙◌, append_assoc, arith}
 use Rattle.std.specs.List.{flat_map}
 use Rattle.std.proofs.lemmas.List.{append-nil}
 use Rattle.std.proofs.lemmas.List.Elements.{All-nil, All-cons, All-head, All-tail}
 use Rattle.ff.specs.declared.script.Term.{Term}
 use Rattle.ff.specs.declared.parse.fault.Unread.{Unread}
 use Rattle.ff.specs.declared.parse.fault.Unread.TheVariants.{NotInForm, Memory}
-use Rattle.ff.specs.Text.{joined, terms_text, element_text}
+use Rattle.ff.specs.Text.{terms_text, element_text}
 use Rattle.ff.specs.Form.{IsTerm, IsElement}
 use Rattle.ff.specs.Reading.{◌>>=◌, Fails, with_front, with_first, after_text, poly_at, polys_at, element_at}
 use Rattle.ff.proofs.Found.{bind_some, some_is, text_takes, text_again, then_takes, with_front_push}

@@ -1,5 +1,5 @@
 -- Lines that are read are written so, and lines that are written are read again.
-use Rattle.std.proofs.Common.{◌≡◌, ℕ, ◌-◌, ◌^◌, ◌<◌, ◌≤◌, List, [], ◌∷◌, ◌++◌, length, All, codes, Option, Some, None, refl, sym, ap, subst, ◌∙◌, append_assoc, arith}
+use Rattle.std.proofs.Common.{◌≡◌, ℕ, ◌^◌, ◌<◌, ◌≤◌, List, [], ◌∷◌, ◌++◌, length, codes, Some, None, refl, sym, ap, subst, ◌∙◌, append_assoc, arith}
 use Rattle.std.specs.Fmt.{decimal}
 use Rattle.std.specs.List.{flat_map}
 use Rattle.std.proofs.lemmas.List.{length-append}
@@ -9,9 +9,9 @@ use Rattle.ff.specs.declared.script.Place.TheVariants.{Start, AfterField, AfterC
 use Rattle.ff.specs.declared.script.Statement.{Statement}
 use Rattle.ff.specs.declared.script.Statement.TheVariants.{FieldOf, CurveOf, Mul}
 use Rattle.ff.specs.Text.{element_text, statement_text}
-use Rattle.ff.specs.Form.{IsTerm, IsElement, IsIn, after}
+use Rattle.ff.specs.Form.{IsElement, IsIn, after}
 use Rattle.ff.specs.Reading.{◌>>=◌, after_text, digit_at, number_at, more_at, element_at, field_at, curve_at, mul_at, statement_at, line_at}
-use Rattle.ff.proofs.Found.{bind_some, some_is, no_none, text_takes, text_again, then_takes}
+use Rattle.ff.proofs.Found.{bind_some, some_is, text_takes, text_again, then_takes}
 use Rattle.ff.proofs.Numbers.{number_takes, number_again}
 use Rattle.ff.proofs.Terms.{no_digit}
 use Rattle.ff.proofs.Sums.{IsEnded, ended_from, plus, more_takes, more_again}

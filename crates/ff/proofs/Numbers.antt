@@ -1,9 +1,8 @@
 -- Numbers that are read are written so, and numbers that are written are read again.
-use Rattle.std.proofs.Common.{◌≡◌, ◌≢◌, ℕ, ◌+◌, ◌*◌, ◌-◌, ◌/◌, ◌%◌, ◌^◌, ◌<◌, ◌≤◌, Bool, true, false, cond, eqb, ltb, leb, List, [], ◌∷◌, ◌++◌, length, get_or, codes, Option, Some, None, refl, sym, ap, subst, ◌∙◌, append_assoc, arith, ◌⊎◌, inl, inr}
+use Rattle.std.proofs.Common.{◌≡◌, ◌≢◌, ℕ, ◌+◌, ◌*◌, ◌-◌, ◌/◌, ◌%◌, ◌^◌, ◌<◌, ◌≤◌, true, false, cond, eqb, ltb, leb, List, [], ◌∷◌, ◌++◌, length, codes, Option, Some, None, refl, sym, ap, ◌∙◌, append_assoc, arith, inl, inr}
 use Rattle.std.specs.Prelude.{nat_lt}
 use Rattle.std.specs.Char.{is_ascii_digit}
 use Rattle.std.specs.Fmt.{decimal}
-use Rattle.std.specs.Option.{option_map_or}
 use Rattle.std.proofs.lemmas.Bool.{ltb-true, leb-true, eq-eqb, ne_eqb, le-ltb, lt-ltb, le-leb, and_parts, and_from, cases_Bool}
 use Rattle.std.proofs.lemmas.Fmt.{decimal_digit, decimal_step, decimal_by_steps}
 use Rattle.ff.specs.Reading.{◌>>=◌, after_text, digit_at, digits_at, number_at}
@@ -33,9 +32,9 @@ pub digits_ended : (limit n : ℕ) (bytes : List ℕ) → digit_at bytes ≡ Non
 unfolding digit_at digits_at
 digits_ended limit n [] e = refl
 digits_ended limit n (c ∷ cs) e = elim (cases_Bool (is_ascii_digit c)) [
-      | inl is ↦ absurd (let none = rw is at e in cc)
-      | inr not ↦ rw not refl
-    ]
+  | inl is ↦ absurd (let none = rw is at e in cc)
+  | inr not ↦ rw not refl
+]
 
 pub digits_go_on : (limit n : ℕ) (bytes : List ℕ) (d : ℕ) (rest : List ℕ) → digit_at bytes ≡ Some (d, rest) → digits_at limit n bytes ≡ cond (nat_lt (10 * n + d) limit) (digits_at limit (10 * n + d) rest) None
 unfolding digit_at digits_at
@@ -66,22 +65,22 @@ digits_take limit n [] m rest fits low lt e =
     let behind : [] ≡ rest = ap (λ (p : ℕ × List ℕ). p.1) (some_is (n, []) (m, rest) e) in
     (cc, omega arith)
 digits_take limit n (c ∷ cs) m rest fits low lt e = elim (cases_Bool (is_ascii_digit c)) [
-      | inl is ↦
-        let both = and_parts (leb 48 c) (leb c 57) is in
-        let first : 48 ≤ c = leb-true 48 c both.0 in
-        let last : c ≤ 57 = leb-true c 57 both.1 in
-        let g = test_some (ltb (10 * n + (c - 48)) limit) (digits_at limit (10 * n + (c - 48)) cs) (m, rest) (rw is at e) in
-        let below : 10 * n + (c - 48) < limit = ltb-true _ _ g.0 in
-        let more = digits_take limit (10 * n + (c - 48)) cs m rest fits (omega arith) below g.1 in
-        let head : 48 + (c - 48) ≡ c = omega arith in
-        let push : decimal (10 * n + (c - 48)) ≡ decimal n ++ (c ∷ []) = decimal_push n (c - 48) low (omega arith) (omega arith) ∙ rw head refl in
-        (sym (append_assoc (decimal n) (c ∷ []) cs) ∙ ap (λ (t : List ℕ). t ++ cs) (sym push) ∙ more.0, more.1)
-      | inr not ↦
-        let g = some_is (n, c ∷ cs) (m, rest) (rw not at e) in
-        let value : n ≡ m = ap (λ (p : ℕ × List ℕ). p.0) g in
-        let behind : c ∷ cs ≡ rest = ap (λ (p : ℕ × List ℕ). p.1) g in
-        (cc, omega arith)
-    ]
+  | inl is ↦
+      let both = and_parts (leb 48 c) (leb c 57) is in
+      let first : 48 ≤ c = leb-true 48 c both.0 in
+      let last : c ≤ 57 = leb-true c 57 both.1 in
+      let g = test_some (ltb (10 * n + (c - 48)) limit) (digits_at limit (10 * n + (c - 48)) cs) (m, rest) (rw is at e) in
+      let below : 10 * n + (c - 48) < limit = ltb-true _ _ g.0 in
+      let more = digits_take limit (10 * n + (c - 48)) cs m rest fits (omega arith) below g.1 in
+      let head : 48 + (c - 48) ≡ c = omega arith in
+      let push : decimal (10 * n + (c - 48)) ≡ decimal n ++ (c ∷ []) = decimal_push n (c - 48) low (omega arith) (omega arith) ∙ rw head refl in
+      (sym (append_assoc (decimal n) (c ∷ []) cs) ∙ ap (λ (t : List ℕ). t ++ cs) (sym push) ∙ more.0, more.1)
+  | inr not ↦
+      let g = some_is (n, c ∷ cs) (m, rest) (rw not at e) in
+      let value : n ≡ m = ap (λ (p : ℕ × List ℕ). p.0) g in
+      let behind : c ∷ cs ≡ rest = ap (λ (p : ℕ × List ℕ). p.1) g in
+      (cc, omega arith)
+]
 
 -- what is read as a number, and what it is
 pub record IsNumberIn (low limit : ℕ) (bytes : List ℕ) (n : ℕ) (rest : List ℕ) : Type 0 where
@@ -93,33 +92,33 @@ number_parts : (low limit : ℕ) (bytes : List ℕ) (n : ℕ) (rest : List ℕ) 
 unfolding after_text digits_at
 number_parts low limit [] n rest fits one no_zero e le = absurd (let zero_is = ap (λ (p : ℕ × List ℕ). p.0) (some_is (0, []) (n, rest) e) in omega (arith, zero_is))
 number_parts low limit (c ∷ cs) n rest fits one no_zero e le = elim (cases_Bool (is_ascii_digit c)) [
-      | inl is ↦
-        let both = and_parts (leb 48 c) (leb c 57) is in
-        let first : 48 ≤ c = leb-true 48 c both.0 in
-        let last : c ≤ 57 = leb-true c 57 both.1 in
-        let g = test_some (ltb (10 * 0 + (c - 48)) limit) (digits_at limit (10 * 0 + (c - 48)) cs) (n, rest) (rw is at e) in
-        let below : 10 * 0 + (c - 48) < limit = ltb-true _ _ g.0 in
-        let not_zero : c ≢ 48 = λ same. no_none (rw (eq-eqb c 48 same) at no_zero) in
-        let more = digits_take limit (10 * 0 + (c - 48)) cs n rest fits (omega arith) below g.1 in
-        let value : 10 * 0 + (c - 48) ≡ c - 48 = omega arith in
-        let head : 48 + (c - 48) ≡ c = omega arith in
-        let digit : decimal (10 * 0 + (c - 48)) ≡ c ∷ [] = ap decimal value ∙ decimal_digit (c - 48) (omega arith) ∙ rw head refl in
-        record { text = ap (λ (t : List ℕ). t ++ cs) (sym digit) ∙ more.0; least = le; below = more.1 }
-      | inr not ↦
-        let zero_is = ap (λ (p : ℕ × List ℕ). p.0) (some_is (0, c ∷ cs) (n, rest) (rw not at e)) in
-        absurd (omega (arith, zero_is))
-    ]
+  | inl is ↦
+      let both = and_parts (leb 48 c) (leb c 57) is in
+      let first : 48 ≤ c = leb-true 48 c both.0 in
+      let last : c ≤ 57 = leb-true c 57 both.1 in
+      let g = test_some (ltb (10 * 0 + (c - 48)) limit) (digits_at limit (10 * 0 + (c - 48)) cs) (n, rest) (rw is at e) in
+      let below : 10 * 0 + (c - 48) < limit = ltb-true _ _ g.0 in
+      let not_zero : c ≢ 48 = λ same. no_none (rw (eq-eqb c 48 same) at no_zero) in
+      let more = digits_take limit (10 * 0 + (c - 48)) cs n rest fits (omega arith) below g.1 in
+      let value : 10 * 0 + (c - 48) ≡ c - 48 = omega arith in
+      let head : 48 + (c - 48) ≡ c = omega arith in
+      let digit : decimal (10 * 0 + (c - 48)) ≡ c ∷ [] = ap decimal value ∙ decimal_digit (c - 48) (omega arith) ∙ rw head refl in
+      record { text = ap (λ (t : List ℕ). t ++ cs) (sym digit) ∙ more.0; least = le; below = more.1 }
+  | inr not ↦
+      let zero_is = ap (λ (p : ℕ × List ℕ). p.0) (some_is (0, c ∷ cs) (n, rest) (rw not at e)) in
+      absurd (omega (arith, zero_is))
+]
 
 pub number_takes : (low limit : ℕ) (bytes : List ℕ) (n : ℕ) (rest : List ℕ) → limit ≤ 2 ^ 32 → 1 ≤ low → number_at low limit bytes ≡ Some (n, rest) → IsNumberIn low limit bytes n rest
 unfolding number_at
 number_takes low limit bytes n rest fits one e =
     elim (choice_some (λ (_ : List ℕ). None) (after_text (codes "0") bytes) (digits_at limit 0 bytes >>= λ m. cond (leb low m.0) (Some m) None) (n, rest) e) [
       | inl w ↦
-        let b = bind_some (digits_at limit 0 bytes) (λ m. cond (leb low m.0) (Some m) None) (n, rest) w.1 in
-        let g = guard_some (leb low b.0.0) b.0 (n, rest) b.2 in
-        let is : digits_at limit 0 bytes ≡ Some (n, rest) = b.1 ∙ ap (λ (p : ℕ × List ℕ). Some p) g.1 in
-        let le : low ≤ n = leb-true low n (ap (λ (p : ℕ × List ℕ). leb low p.0) (sym g.1) ∙ g.0) in
-        number_parts low limit bytes n rest fits one w.0 is le
+          let b = bind_some (digits_at limit 0 bytes) (λ m. cond (leb low m.0) (Some m) None) (n, rest) w.1 in
+          let g = guard_some (leb low b.0.0) b.0 (n, rest) b.2 in
+          let is : digits_at limit 0 bytes ≡ Some (n, rest) = b.1 ∙ ap (λ (p : ℕ × List ℕ). Some p) g.1 in
+          let le : low ≤ n = leb-true low n (ap (λ (p : ℕ × List ℕ). leb low p.0) (sym g.1) ∙ g.0) in
+          number_parts low limit bytes n rest fits one w.0 is le
       | inr w ↦ absurd (let none = w.2 in cc)
     ]
 

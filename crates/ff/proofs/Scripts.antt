@@ -1,6 +1,5 @@
 -- A script is read in one way, and has one first bad line or none.
-use Rattle.std.proofs.Common.{◌≡◌, ◌≢◌, ℕ, suc, true, false, eqb, ◌+◌, ◌<◌, ◌≤◌, List, [], ◌∷◌, ◌++◌, length, codes, Option, Some, None, refl, sym, ap, subst, ◌∙◌, append_assoc, arith}
-use Rattle.std.specs.List.{flat_map}
+use Rattle.std.proofs.Common.{◌≡◌, ◌≢◌, ℕ, suc, true, false, eqb, ◌+◌, ◌<◌, ◌≤◌, List, [], ◌∷◌, ◌++◌, length, codes, Some, None, refl, sym, ap, subst, ◌∙◌, append_assoc, arith}
 use Rattle.std.proofs.lemmas.Bool.{eqb-true, eqb-false, false≢true}
 use Rattle.std.proofs.lemmas.List.{append-nil, length-append, nil_from_length}
 use Rattle.std.proofs.lemmas.List.Concat.{flat_map-append}
@@ -19,23 +18,23 @@ after_all_place place (s ∷ ss) small are = after_all_place (after place s) ss 
 
 -- ---- one statement more at the end
 
-pub AreIn-push : (place : Place) (ss : List Statement) (s : Statement) → AreIn place ss → IsIn (after_all place ss) s → AreIn place (ss ++ s ∷ [])
-AreIn-push place [] s are is = (is, tt)
-AreIn-push place (t ∷ ss) s are is = (are.0, AreIn-push (after place t) ss s are.1 is)
+pub are_in_push : (place : Place) (ss : List Statement) (s : Statement) → AreIn place ss → IsIn (after_all place ss) s → AreIn place (ss ++ s ∷ [])
+are_in_push place [] s are is = (is, tt)
+are_in_push place (t ∷ ss) s are is = (are.0, are_in_push (after place t) ss s are.1 is)
 
-pub after_all-push : (place : Place) (ss : List Statement) (s : Statement) → after_all place (ss ++ s ∷ []) ≡ after (after_all place ss) s
-after_all-push place [] s = refl
-after_all-push place (t ∷ ss) s = after_all-push (after place t) ss s
+pub after_all_push : (place : Place) (ss : List Statement) (s : Statement) → after_all place (ss ++ s ∷ []) ≡ after (after_all place ss) s
+after_all_push place [] s = refl
+after_all_push place (t ∷ ss) s = after_all_push (after place t) ss s
 
 abbrev line_text : Statement → List ℕ
 line_text s = statement_text s ++ codes "\n"
 
-script_text-push : (ss : List Statement) (s : Statement) → script_text (ss ++ s ∷ []) ≡ script_text ss ++ line_text s
-script_text-push ss s = flat_map-append line_text ss (s ∷ []) ∙ ap (λ (t : List ℕ). script_text ss ++ t) (append-nil (line_text s))
+script_text_push : (ss : List Statement) (s : Statement) → script_text (ss ++ s ∷ []) ≡ script_text ss ++ line_text s
+script_text_push ss s = flat_map-append line_text ss (s ∷ []) ∙ ap (λ (t : List ℕ). script_text ss ++ t) (append-nil (line_text s))
 
 pub script_grows : (bytes : List ℕ) (ss : List Statement) (rest : List ℕ) (s : Statement) (behind : List ℕ) → bytes ≡ script_text ss ++ rest → rest ≡ line_text s ++ behind → bytes ≡ script_text (ss ++ s ∷ []) ++ behind
 script_grows bytes ss rest s behind so_far next =
-    so_far ∙ ap (λ (t : List ℕ). script_text ss ++ t) next ∙ sym (append_assoc (script_text ss) (line_text s) behind) ∙ ap (λ (t : List ℕ). t ++ behind) (sym (script_text-push ss s))
+    so_far ∙ ap (λ (t : List ℕ). script_text ss ++ t) next ∙ sym (append_assoc (script_text ss) (line_text s) behind) ∙ ap (λ (t : List ℕ). t ++ behind) (sym (script_text_push ss s))
 
 -- a script has a byte for each statement
 pub script_long : (ss : List Statement) → length ss ≤ length (script_text ss)
@@ -123,8 +122,8 @@ pub one_more : (bytes : List ℕ) (ss : List Statement) (place : Place) (rest : 
 one_more bytes ss place rest s behind so_far e =
     let line = line_takes place rest s behind (small_so_far so_far) e in
     record {
-      in_place = AreIn-push Start ss s so_far.in_place (subst (λ (p : Place). IsIn p s) so_far.next line.is);
-      next = ap (λ (p : Place). after p s) so_far.next ∙ sym (after_all-push Start ss s);
+      in_place = are_in_push Start ss s so_far.in_place (subst (λ (p : Place). IsIn p s) so_far.next line.is);
+      next = ap (λ (p : Place). after p s) so_far.next ∙ sym (after_all_push Start ss s);
       text = script_grows bytes ss rest s behind so_far.text line.parts;
     }
 

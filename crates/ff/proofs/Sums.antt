@@ -1,11 +1,9 @@
 -- Terms one after the other, and polynomials.
-use Rattle.std.proofs.Common.{◌≡◌, ℕ, zero, suc, ◌-◌, ◌+◌, ◌^◌, ◌<◌, ◌≤◌, List, [], ◌∷◌, ◌++◌, length, map, All, codes, false, eqb, Option, Some, None, refl, sym, ap, subst, ◌∙◌, append_assoc, arith, inl, inr}
+use Rattle.std.proofs.Common.{◌≡◌, ℕ, zero, suc, ◌-◌, ◌^◌, ◌<◌, ◌≤◌, List, [], ◌∷◌, ◌++◌, length, map, All, codes, false, eqb, Option, Some, None, refl, sym, ap, subst, ◌∙◌, append_assoc, arith, inl, inr}
 use Rattle.std.specs.Char.{is_ascii_digit}
 use Rattle.std.specs.List.{flat_map}
-use Rattle.std.specs.Option.{option_map_or}
 use Rattle.std.proofs.lemmas.List.{append-nil}
 use Rattle.std.proofs.lemmas.List.Elements.{All-nil, All-cons, All-head, All-tail}
-use Rattle.std.proofs.lemmas.List.Concat.{flat_map-cons}
 use Rattle.ff.specs.declared.script.Term.{Term}
 use Rattle.ff.specs.Text.{joined, term_text, terms_text}
 use Rattle.ff.specs.Form.{IsTerm}
@@ -109,12 +107,12 @@ some_more_take (suc k) p y_limit bytes b p_fits y_fits e =
     elim (choice_some (λ rest. term_at p y_limit rest >>= λ t. with_first t.0 (some_more_at k p y_limit t.1)) (after_text (codes " + ") bytes) (Some ([], bytes)) b e) [
       | inl w ↦ subst P (some_is ([], bytes) b w.1) (record { parts = refl; are = All-nil (IsTerm p (y_limit - 1)) })
       | inr w ↦
-        let t = bind_some (term_at p y_limit w.0) (λ t. with_first t.0 (some_more_at k p y_limit t.1)) b w.2 in
-        let ts = bind_some (some_more_at k p y_limit t.0.1) (λ x. Some (t.0.0 ∷ x.0, x.1)) b t.2 in
-        let one = term_takes p y_limit w.0 t.0 p_fits y_fits t.1 in
-        let others = some_more_take k p y_limit t.0.1 ts.0 p_fits y_fits ts.1 in
-        let start : bytes ≡ plus t.0.0 ++ t.0.1 = then_takes bytes (codes " + ") w.0 (term_text t.0.0) t.0.1 (text_takes (codes " + ") bytes w.0 w.1) one.parts in
-        subst P (some_is (t.0.0 ∷ ts.0.0, ts.0.1) b ts.2) (record { parts = then_takes bytes (plus t.0.0) t.0.1 (flat_map plus ts.0.0) ts.0.1 start others.parts; are = All-cons (IsTerm p (y_limit - 1)) t.0.0 ts.0.0 one.is others.are })
+          let t = bind_some (term_at p y_limit w.0) (λ t. with_first t.0 (some_more_at k p y_limit t.1)) b w.2 in
+          let ts = bind_some (some_more_at k p y_limit t.0.1) (λ x. Some (t.0.0 ∷ x.0, x.1)) b t.2 in
+          let one = term_takes p y_limit w.0 t.0 p_fits y_fits t.1 in
+          let others = some_more_take k p y_limit t.0.1 ts.0 p_fits y_fits ts.1 in
+          let start : bytes ≡ plus t.0.0 ++ t.0.1 = then_takes bytes (codes " + ") w.0 (term_text t.0.0) t.0.1 (text_takes (codes " + ") bytes w.0 w.1) one.parts in
+          subst P (some_is (t.0.0 ∷ ts.0.0, ts.0.1) b ts.2) (record { parts = then_takes bytes (plus t.0.0) t.0.1 (flat_map plus ts.0.0) ts.0.1 start others.parts; are = All-cons (IsTerm p (y_limit - 1)) t.0.0 ts.0.0 one.is others.are })
     ]
 
 pub more_takes : (p y_limit : ℕ) (bytes : List ℕ) (b : List Term × List ℕ) → p ≤ 2 ^ 32 → y_limit ≤ 2 ^ 32 → more_at p y_limit bytes ≡ Some b → IsTermsIn (flat_map plus b.0) bytes p y_limit b.0 b.1
@@ -154,15 +152,15 @@ poly_takes p bytes b fits e =
     let P : List Term × List ℕ → Type 0 = λ a. IsTermsIn (terms_text a.0) bytes p 1 a.0 a.1 in
     elim (choice_some (λ t. with_first t.0 (more_at p 1 t.1)) (term_at p 1 bytes) (after_text (codes "0") bytes >>= λ rest. Some ([], rest)) b e) [
       | inl w ↦
-        let a = bind_some (after_text (codes "0") bytes) (λ rest. Some ([], rest)) b w.1 in
-        subst P (some_is ([], a.0) b a.2) (record { parts = text_takes (codes "0") bytes a.0 a.1; are = All-nil (IsTerm p 0) })
+          let a = bind_some (after_text (codes "0") bytes) (λ rest. Some ([], rest)) b w.1 in
+          subst P (some_is ([], a.0) b a.2) (record { parts = text_takes (codes "0") bytes a.0 a.1; are = All-nil (IsTerm p 0) })
       | inr w ↦
-        let t = w.0 in
-        let ts = bind_some (more_at p 1 t.1) (λ x. Some (t.0 ∷ x.0, x.1)) b w.2 in
-        let one = term_takes p 1 bytes t fits (omega arith) w.1 in
-        let others = more_takes p 1 t.1 ts.0 fits (omega arith) ts.1 in
-        let whole : bytes ≡ (term_text t.0 ++ flat_map plus ts.0.0) ++ ts.0.1 = then_takes bytes (term_text t.0) t.1 (flat_map plus ts.0.0) ts.0.1 one.parts others.parts in
-        subst P (some_is (t.0 ∷ ts.0.0, ts.0.1) b ts.2) (record { parts = whole ∙ ap (λ (x : List ℕ). x ++ ts.0.1) (sym (joined_is (codes " + ") term_text t.0 ts.0.0)); are = All-cons (IsTerm p 0) t.0 ts.0.0 one.is others.are })
+          let t = w.0 in
+          let ts = bind_some (more_at p 1 t.1) (λ x. Some (t.0 ∷ x.0, x.1)) b w.2 in
+          let one = term_takes p 1 bytes t fits (omega arith) w.1 in
+          let others = more_takes p 1 t.1 ts.0 fits (omega arith) ts.1 in
+          let whole : bytes ≡ (term_text t.0 ++ flat_map plus ts.0.0) ++ ts.0.1 = then_takes bytes (term_text t.0) t.1 (flat_map plus ts.0.0) ts.0.1 one.parts others.parts in
+          subst P (some_is (t.0 ∷ ts.0.0, ts.0.1) b ts.2) (record { parts = whole ∙ ap (λ (x : List ℕ). x ++ ts.0.1) (sym (joined_is (codes " + ") term_text t.0 ts.0.0)); are = All-cons (IsTerm p 0) t.0 ts.0.0 one.is others.are })
     ]
 
 no_term : (p : ℕ) (rest : List ℕ) → term_at p 1 (48 ∷ rest) ≡ None

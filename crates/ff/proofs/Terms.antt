@@ -1,5 +1,5 @@
 -- Terms that are read are written so, and terms that are written are read again.
-use Rattle.std.proofs.Common.{◌≡◌, ◌≢◌, ℕ, zero, suc, ◌+◌, ◌-◌, ◌^◌, ◌<◌, ◌≤◌, Bool, true, false, cond, eqb, ltb, List, [], ◌∷◌, ◌++◌, length, codes, Option, Some, None, refl, sym, ap, subst, ◌∙◌, append_assoc, arith, inl, inr}
+use Rattle.std.proofs.Common.{◌≡◌, ℕ, zero, suc, ◌+◌, ◌-◌, ◌^◌, ◌<◌, ◌≤◌, false, cond, eqb, ltb, List, [], ◌∷◌, ◌++◌, length, codes, Option, Some, None, refl, sym, ap, subst, ◌∙◌, append_assoc, arith, inl, inr}
 use Rattle.std.specs.Char.{is_ascii_digit}
 use Rattle.std.specs.Fmt.{decimal}
 use Rattle.std.specs.Option.{option_map_or}
@@ -9,9 +9,9 @@ use Rattle.std.proofs.lemmas.List.{length-append}
 use Rattle.ff.specs.declared.script.Term.{Term}
 use Rattle.ff.specs.Text.{joined, power_texts, term_text}
 use Rattle.ff.specs.Form.{IsTerm}
-use Rattle.ff.specs.Reading.{◌>>=◌, after_text, digit_at, digits_at, number_at, exponent_at, power_at, powers_at, term_at}
+use Rattle.ff.specs.Reading.{◌>>=◌, after_text, digit_at, number_at, exponent_at, power_at, powers_at, term_at}
 use Rattle.ff.proofs.Found.{bind_some, choice_some, guard_some, some_is, found, no_none, text_takes, text_again}
-use Rattle.ff.proofs.Numbers.{IsNumberIn, digits_ended, number_takes, number_again}
+use Rattle.ff.proofs.Numbers.{digits_ended, number_takes, number_again}
 
 -- what may stand behind a term: no digit, no `^` and no `*`
 pub record IsApart (rest : List ℕ) : Type 0 where
@@ -48,14 +48,14 @@ unfolding exponent_at
 exponent_takes limit bytes j rest fits e =
     elim (choice_some (number_at 2 limit) (after_text (codes "^") bytes) (cond (ltb 1 limit) (Some (1, bytes)) None) (j, rest) e) [
       | inl w ↦
-        let g = guard_some (ltb 1 limit) (1, bytes) (j, rest) w.1 in
-        let below : 1 < limit = ltb-true 1 limit g.0 in
-        subst (λ (p : ℕ × List ℕ). IsExponentIn (exponent_text p.0) bytes limit p.0 p.1) g.1 (record { parts = refl; least = omega arith; below = below })
+          let g = guard_some (ltb 1 limit) (1, bytes) (j, rest) w.1 in
+          let below : 1 < limit = ltb-true 1 limit g.0 in
+          subst (λ (p : ℕ × List ℕ). IsExponentIn (exponent_text p.0) bytes limit p.0 p.1) g.1 (record { parts = refl; least = omega arith; below = below })
       | inr w ↦
-        let n = number_takes 2 limit w.0 j rest fits (omega arith) w.2 in
-        let written = exponent_written j n.least in
-        let least : 2 ≤ j = n.least in
-        record { parts = text_takes (codes "^") bytes w.0 w.1 ∙ ap (λ (t : List ℕ). 94 ∷ t) n.text ∙ ap (λ (t : List ℕ). t ++ rest) (sym written); least = omega arith; below = n.below }
+          let n = number_takes 2 limit w.0 j rest fits (omega arith) w.2 in
+          let written = exponent_written j n.least in
+          let least : 2 ≤ j = n.least in
+          record { parts = text_takes (codes "^") bytes w.0 w.1 ∙ ap (λ (t : List ℕ). 94 ∷ t) n.text ∙ ap (λ (t : List ℕ). t ++ rest) (sym written); least = omega arith; below = n.below }
     ]
 
 exponent_again : (limit j : ℕ) (rest : List ℕ) → limit ≤ 2 ^ 32 → 1 ≤ j → j < limit → digit_at rest ≡ None → after_text (codes "^") rest ≡ None → exponent_at limit (exponent_text j ++ rest) ≡ Some (j, rest)
@@ -121,27 +121,27 @@ powers_take y_limit bytes b fits e =
     let behind_x : (ℕ × List ℕ) → Option ((ℕ × ℕ) × List ℕ) = λ x. option_map_or (λ rest. power_at (codes "y") y_limit rest >>= λ y. Some ((x.0, y.0), y.1)) (after_text (codes "*") x.1) (Some ((x.0, 0), x.1)) in
     elim (choice_some behind_x (power_at (codes "x") 33 bytes) (power_at (codes "y") y_limit bytes >>= λ y. Some ((0, y.0), y.1)) b e) [
       | inl w ↦
-        let a = bind_some (power_at (codes "y") y_limit bytes) (λ y. Some ((0, y.0), y.1)) b w.1 in
-        let q = power_takes 121 y_limit bytes a.0.0 a.0.1 fits a.1 in
-        let low : 1 ≤ a.0.0 = q.least in
-        let high : a.0.0 < y_limit = q.below in
-        subst P (some_is ((0, a.0.0), a.0.1) b a.2) (record { parts = q.parts ∙ ap (λ (t : List ℕ). t ++ a.0.1) (sym (text_y a.0.0 q.least)); x_fits = omega arith; y_fits = omega arith; some = omega arith })
+          let a = bind_some (power_at (codes "y") y_limit bytes) (λ y. Some ((0, y.0), y.1)) b w.1 in
+          let q = power_takes 121 y_limit bytes a.0.0 a.0.1 fits a.1 in
+          let low : 1 ≤ a.0.0 = q.least in
+          let high : a.0.0 < y_limit = q.below in
+          subst P (some_is ((0, a.0.0), a.0.1) b a.2) (record { parts = q.parts ∙ ap (λ (t : List ℕ). t ++ a.0.1) (sym (text_y a.0.0 q.least)); x_fits = omega arith; y_fits = omega arith; some = omega arith })
       | inr w ↦
-        let x = w.0 in
-        let q = power_takes 120 33 bytes x.0 x.1 (omega arith) w.1 in
-        let low : 1 ≤ x.0 = q.least in
-        let high : x.0 < 33 = q.below in
-        elim (choice_some (λ rest. power_at (codes "y") y_limit rest >>= λ y. Some ((x.0, y.0), y.1)) (after_text (codes "*") x.1) (Some ((x.0, 0), x.1)) b w.2) [
-          | inl v ↦ subst P (some_is ((x.0, 0), x.1) b v.1) (record { parts = q.parts ∙ ap (λ (t : List ℕ). t ++ x.1) (sym (text_x x.0 q.least)); x_fits = omega arith; y_fits = omega arith; some = omega arith })
-          | inr v ↦
-            let a = bind_some (power_at (codes "y") y_limit v.0) (λ y. Some ((x.0, y.0), y.1)) b v.2 in
-            let r = power_takes 121 y_limit v.0 a.0.0 a.0.1 fits a.1 in
-            let y_high : a.0.0 < y_limit = r.below in
-            let star : x.1 ≡ 42 ∷ v.0 = text_takes (codes "*") x.1 v.0 v.1 in
-            let whole : bytes ≡ (120 ∷ exponent_text x.0) ++ (42 ∷ 121 ∷ (exponent_text a.0.0 ++ a.0.1)) = q.parts ∙ ap (λ (t : List ℕ). (120 ∷ exponent_text x.0) ++ t) (star ∙ ap (λ (t : List ℕ). 42 ∷ t) r.parts) in
-            let regrouped : (120 ∷ exponent_text x.0) ++ (42 ∷ 121 ∷ (exponent_text a.0.0 ++ a.0.1)) ≡ (120 ∷ (exponent_text x.0 ++ (42 ∷ 121 ∷ exponent_text a.0.0))) ++ a.0.1 = sym (append_assoc (120 ∷ exponent_text x.0) (42 ∷ 121 ∷ exponent_text a.0.0) a.0.1) in
-            subst P (some_is ((x.0, a.0.0), a.0.1) b a.2) (record { parts = whole ∙ regrouped ∙ ap (λ (t : List ℕ). t ++ a.0.1) (sym (text_xy x.0 a.0.0 q.least r.least)); x_fits = omega arith; y_fits = omega arith; some = omega arith })
-        ]
+          let x = w.0 in
+          let q = power_takes 120 33 bytes x.0 x.1 (omega arith) w.1 in
+          let low : 1 ≤ x.0 = q.least in
+          let high : x.0 < 33 = q.below in
+          elim (choice_some (λ rest. power_at (codes "y") y_limit rest >>= λ y. Some ((x.0, y.0), y.1)) (after_text (codes "*") x.1) (Some ((x.0, 0), x.1)) b w.2) [
+            | inl v ↦ subst P (some_is ((x.0, 0), x.1) b v.1) (record { parts = q.parts ∙ ap (λ (t : List ℕ). t ++ x.1) (sym (text_x x.0 q.least)); x_fits = omega arith; y_fits = omega arith; some = omega arith })
+            | inr v ↦
+                let a = bind_some (power_at (codes "y") y_limit v.0) (λ y. Some ((x.0, y.0), y.1)) b v.2 in
+                let r = power_takes 121 y_limit v.0 a.0.0 a.0.1 fits a.1 in
+                let y_high : a.0.0 < y_limit = r.below in
+                let star : x.1 ≡ 42 ∷ v.0 = text_takes (codes "*") x.1 v.0 v.1 in
+                let whole : bytes ≡ (120 ∷ exponent_text x.0) ++ (42 ∷ 121 ∷ (exponent_text a.0.0 ++ a.0.1)) = q.parts ∙ ap (λ (t : List ℕ). (120 ∷ exponent_text x.0) ++ t) (star ∙ ap (λ (t : List ℕ). 42 ∷ t) r.parts) in
+                let regrouped : (120 ∷ exponent_text x.0) ++ (42 ∷ 121 ∷ (exponent_text a.0.0 ++ a.0.1)) ≡ (120 ∷ (exponent_text x.0 ++ (42 ∷ 121 ∷ exponent_text a.0.0))) ++ a.0.1 = sym (append_assoc (120 ∷ exponent_text x.0) (42 ∷ 121 ∷ exponent_text a.0.0) a.0.1) in
+                subst P (some_is ((x.0, a.0.0), a.0.1) b a.2) (record { parts = whole ∙ regrouped ∙ ap (λ (t : List ℕ). t ++ a.0.1) (sym (text_xy x.0 a.0.0 q.least r.least)); x_fits = omega arith; y_fits = omega arith; some = omega arith })
+          ]
     ]
 
 powers_again : (y_limit x y : ℕ) (rest : List ℕ) → y_limit ≤ 2 ^ 32 → x < 33 → y < y_limit → 1 ≤ x + y → IsApart rest → powers_at y_limit (powers_text x y ++ rest) ≡ Some ((x, y), rest)
@@ -219,22 +219,22 @@ term_takes p y_limit bytes b p_fits y_fits e =
     let powers : Option ℕ → List ℕ → Option (Term × List ℕ) = λ o rest. powers_at y_limit rest >>= λ a. Some (record { code = o; x = a.0.0; y = a.0.1 }, a.1) in
     elim (choice_some (λ c. option_map_or (powers (Some c.0)) (after_text (codes "*") c.1) (Some (record { code = Some c.0; x = 0; y = 0 }, c.1))) (number_at 1 p bytes) (powers None bytes) b e) [
       | inl w ↦
-        let a = bind_some (powers_at y_limit bytes) (λ a. Some (record { code = None; x = a.0.0; y = a.0.1 }, a.1)) b w.1 in
-        let q = powers_take y_limit bytes a.0 y_fits a.1 in
-        subst P (some_is (record { code = None; x = a.0.0.0; y = a.0.0.1 }, a.0.1) b a.2) (record { parts = q.parts; is = record { code = λ c h. absurd (let no = h in cc); x = q.x_fits; y = q.y_fits; some = λ _. q.some } })
+          let a = bind_some (powers_at y_limit bytes) (λ a. Some (record { code = None; x = a.0.0; y = a.0.1 }, a.1)) b w.1 in
+          let q = powers_take y_limit bytes a.0 y_fits a.1 in
+          subst P (some_is (record { code = None; x = a.0.0.0; y = a.0.0.1 }, a.0.1) b a.2) (record { parts = q.parts; is = record { code = λ c h. absurd (let no = h in cc); x = q.x_fits; y = q.y_fits; some = λ _. q.some } })
       | inr w ↦
-        let c = w.0 in
-        let n = number_takes 1 p bytes c.0 c.1 p_fits (omega arith) w.1 in
-        elim (choice_some (powers (Some c.0)) (after_text (codes "*") c.1) (Some (record { code = Some c.0; x = 0; y = 0 }, c.1)) b w.2) [
-          | inl v ↦ subst P (some_is (record { code = Some c.0; x = 0; y = 0 }, c.1) b v.1) (record { parts = n.text; is = record { code = code_is p c.0 n.least n.below; x = omega arith; y = omega arith; some = λ h. absurd (no_none h) } })
-          | inr v ↦
-            let a = bind_some (powers_at y_limit v.0) (λ a. Some (record { code = Some c.0; x = a.0.0; y = a.0.1 }, a.1)) b v.2 in
-            let q = powers_take y_limit v.0 a.0 y_fits a.1 in
-            let star : c.1 ≡ 42 ∷ v.0 = text_takes (codes "*") c.1 v.0 v.1 in
-            let whole : bytes ≡ decimal c.0 ++ (42 ∷ (powers_text a.0.0.0 a.0.0.1 ++ a.0.1)) = n.text ∙ ap (λ (t : List ℕ). decimal c.0 ++ t) (star ∙ ap (λ (t : List ℕ). 42 ∷ t) q.parts) in
-            let regrouped : decimal c.0 ++ (42 ∷ (powers_text a.0.0.0 a.0.0.1 ++ a.0.1)) ≡ (decimal c.0 ++ (42 ∷ powers_text a.0.0.0 a.0.0.1)) ++ a.0.1 = sym (append_assoc (decimal c.0) (42 ∷ powers_text a.0.0.0 a.0.0.1) a.0.1) in
-            subst P (some_is (record { code = Some c.0; x = a.0.0.0; y = a.0.0.1 }, a.0.1) b a.2) (record { parts = whole ∙ regrouped ∙ ap (λ (t : List ℕ). t ++ a.0.1) (sym (code_first c.0 a.0.0.0 a.0.0.1 q.some)); is = record { code = code_is p c.0 n.least n.below; x = q.x_fits; y = q.y_fits; some = λ h. absurd (no_none h) } })
-        ]
+          let c = w.0 in
+          let n = number_takes 1 p bytes c.0 c.1 p_fits (omega arith) w.1 in
+          elim (choice_some (powers (Some c.0)) (after_text (codes "*") c.1) (Some (record { code = Some c.0; x = 0; y = 0 }, c.1)) b w.2) [
+            | inl v ↦ subst P (some_is (record { code = Some c.0; x = 0; y = 0 }, c.1) b v.1) (record { parts = n.text; is = record { code = code_is p c.0 n.least n.below; x = omega arith; y = omega arith; some = λ h. absurd (no_none h) } })
+            | inr v ↦
+                let a = bind_some (powers_at y_limit v.0) (λ a. Some (record { code = Some c.0; x = a.0.0; y = a.0.1 }, a.1)) b v.2 in
+                let q = powers_take y_limit v.0 a.0 y_fits a.1 in
+                let star : c.1 ≡ 42 ∷ v.0 = text_takes (codes "*") c.1 v.0 v.1 in
+                let whole : bytes ≡ decimal c.0 ++ (42 ∷ (powers_text a.0.0.0 a.0.0.1 ++ a.0.1)) = n.text ∙ ap (λ (t : List ℕ). decimal c.0 ++ t) (star ∙ ap (λ (t : List ℕ). 42 ∷ t) q.parts) in
+                let regrouped : decimal c.0 ++ (42 ∷ (powers_text a.0.0.0 a.0.0.1 ++ a.0.1)) ≡ (decimal c.0 ++ (42 ∷ powers_text a.0.0.0 a.0.0.1)) ++ a.0.1 = sym (append_assoc (decimal c.0) (42 ∷ powers_text a.0.0.0 a.0.0.1) a.0.1) in
+                subst P (some_is (record { code = Some c.0; x = a.0.0.0; y = a.0.0.1 }, a.0.1) b a.2) (record { parts = whole ∙ regrouped ∙ ap (λ (t : List ℕ). t ++ a.0.1) (sym (code_first c.0 a.0.0.0 a.0.0.1 q.some)); is = record { code = code_is p c.0 n.least n.below; x = q.x_fits; y = q.y_fits; some = λ h. absurd (no_none h) } })
+          ]
     ]
 
 -- ---- a term has a byte

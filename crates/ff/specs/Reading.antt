@@ -73,18 +73,18 @@ power_at letter limit bytes = do
 unfoldable pub powers_at : ℕ → List ℕ → Option ((ℕ × ℕ) × List ℕ)
 powers_at y_limit bytes = option_map_or
     (λ x. option_map_or
-        (λ rest. power_at (codes "y") y_limit rest >>= λ y. Some ((x.0, y.0), y.1))
-        (after_text (codes "*") x.1)
-        (Some ((x.0, 0), x.1)))
+    (λ rest. power_at (codes "y") y_limit rest >>= λ y. Some ((x.0, y.0), y.1))
+    (after_text (codes "*") x.1)
+    (Some ((x.0, 0), x.1)))
     (power_at (codes "x") 33 bytes)
     (power_at (codes "y") y_limit bytes >>= λ y. Some ((0, y.0), y.1))
 
 unfoldable pub term_at : ℕ → ℕ → List ℕ → Option (Term × List ℕ)
 term_at p y_limit bytes = option_map_or
     (λ c. option_map_or
-        (λ rest. powers_at y_limit rest >>= λ b. Some (record { code = Some c.0; x = b.0.0; y = b.0.1 }, b.1))
-        (after_text (codes "*") c.1)
-        (Some (record { code = Some c.0; x = 0; y = 0 }, c.1)))
+    (λ rest. powers_at y_limit rest >>= λ b. Some (record { code = Some c.0; x = b.0.0; y = b.0.1 }, b.1))
+    (after_text (codes "*") c.1)
+    (Some (record { code = Some c.0; x = 0; y = 0 }, c.1)))
     (number_at 1 p bytes)
     (powers_at y_limit bytes >>= λ b. Some (record { code = None; x = b.0.0; y = b.0.1 }, b.1))
 

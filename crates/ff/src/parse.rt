@@ -10,13 +10,11 @@ mod fault;
 mod line;
 mod number;
 mod term;
-
 #[cfg(test)]
 mod tests;
 
-pub(crate) use fault::ScriptFault;
-
 use crate::script::{Place, Statement};
+pub(crate) use fault::ScriptFault;
 use fault::Unread;
 use line::line;
 use std::alloc::Global;
@@ -61,12 +59,10 @@ pub(crate) fn read_script(alloc: Global, bytes: &[u8]) -> Result<Vec<Statement>,
 /// A law: bytes are one script at most.
 pub(crate) fn one_script()
     ensures { (bytes : List ℕ) (ss ts : List Statement) → IsScript bytes ss → IsScript bytes ts → ss ≡ ts }
-{
-}
+{}
 
 /// A law: bytes have one first bad line at most, and none if they are a script.
 pub(crate) fn one_fault()
     ensures same { (bytes : List ℕ) (m n : ℕ) → IsFirstBadLine bytes m → IsFirstBadLine bytes n → m ≡ n }
     ensures none { (bytes : List ℕ) (ss : List Statement) (n : ℕ) → IsScript bytes ss → ¬ IsFirstBadLine bytes n }
-{
-}
+{}

@@ -56,9 +56,23 @@ pub(super) fn term(bytes: &[u8], p: u32, y_limit: u32) -> Option<(Term, &[u8])>
         Some((code, rest)) => match after(rest, b"*") {
             Some(rest) => {
                 let ((x, y), rest) = powers(rest, y_limit)?;
-                Some((Term { code: Some(code), x, y }, rest))
+                Some((
+                    Term {
+                        code: Some(code),
+                        x,
+                        y,
+                    },
+                    rest,
+                ))
             }
-            None => Some((Term { code: Some(code), x: 0, y: 0 }, rest)),
+            None => Some((
+                Term {
+                    code: Some(code),
+                    x: 0,
+                    y: 0,
+                },
+                rest,
+            )),
         },
         None => {
             let ((x, y), rest) = powers(bytes, y_limit)?;

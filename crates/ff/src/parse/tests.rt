@@ -11,13 +11,29 @@ fn first_run(rt: HostRuntime) -> Result<(), Fail> {
         .ok()
         .ok_or("the first run is a script")?;
     match statements.as_slice() {
-        [Statement::FieldOf { p }, Statement::CurveOf { n, lower }, Statement::Mul { a, b }] => {
+        [
+            Statement::FieldOf { p },
+            Statement::CurveOf { n, lower },
+            Statement::Mul { a, b },
+        ] => {
             assert_eq!(rt; *p, 7);
             assert_eq!(rt; *n, 2);
-            let cube = Term { code: Some(6), x: 3, y: 0 };
-            let six = Term { code: Some(6), x: 0, y: 0 };
+            let cube = Term {
+                code: Some(6),
+                x: 3,
+                y: 0,
+            };
+            let six = Term {
+                code: Some(6),
+                x: 0,
+                y: 0,
+            };
             assert_eq!(rt; lower.terms.as_slice(), [cube, six].as_slice());
-            let one = Term { code: Some(1), x: 0, y: 0 };
+            let one = Term {
+                code: Some(1),
+                x: 0,
+                y: 0,
+            };
             for z in [a, b] {
                 match z.entries.as_slice() {
                     [zero, first] => {

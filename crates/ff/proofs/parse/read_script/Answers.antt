@@ -1,7 +1,7 @@
-use Rattle.std.proofs.Common.{◌≡◌, ◌≢◌, ℕ, suc, ◌+◌, ◌<◌, ◌^◌, length, [], ◌∷◌, ◌++◌, ap, sym, subst, ◌∙◌, arith}
-use Rattle.ff.specs.Form.{after, IsFirstBadLine}
+use Rattle.std.proofs.Common.{◌≡◌, ◌+◌, length, [], ◌∷◌, ◌++◌, subst, arith}
+use Rattle.ff.specs.Form.{IsFirstBadLine}
 use Rattle.ff.proofs.Lines.{line_shorter}
-use Rattle.ff.proofs.Scripts.{AreSoFar, small_so_far, one_more, whole_script, bad_line, count_below, same_script, not_both}
+use Rattle.ff.proofs.Scripts.{small_so_far, one_more, whole_script, bad_line, count_below, same_script, not_both}
 use Rattle.ff.proofs.parse.read_script.Goals as goal
 
 pub loop-rest-smaller : goal.loop-rest-smaller

@@ -1,4 +1,4 @@
-use Rattle.std.proofs.Common.{◌≡◌, ◌++◌, ◌∷◌, [], arith}
+use Rattle.std.proofs.Common.{◌≡◌, ◌++◌, ◌∷◌, []}
 use Rattle.std.proofs.lemmas.Result.{err_from_is_err_and}
 use Rattle.ff.proofs.Elements.{polys_ended, polys_more, polys_apart, polys_fail}
 use Rattle.ff.proofs.parse.line.more_polys.Goals as goal

@@ -1,6 +1,5 @@
 use Rattle.std.proofs.Common.{◌≡◌, length}
 use Rattle.ff.specs.Reading.{with_front, more_at}
-use Rattle.ff.proofs.Terms.{IsApart}
 use Rattle.ff.proofs.parse.term.more_terms.Given as goal
 
 abbrev pub invariant-loop-start : goal.invariant-loop-start
