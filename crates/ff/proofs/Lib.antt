@@ -3,5 +3,12 @@ mod Printed
 mod Printing
 mod Runs
 mod Steps
-mod Terms
+mod TermSums
 mod Truths
+pub mod Elements
+pub mod Found
+pub mod Lines
+pub mod Numbers
+pub mod Scripts
+pub mod Sums
+pub mod Terms

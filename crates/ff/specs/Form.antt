@@ -1,7 +1,9 @@
 -- Which scripts are in the form.
-use Rattle.std.specs.Prelude.{◌≡◌, ◌≢◌, ℕ, suc, ◌+◌, ◌-◌, ◌<◌, ◌≤◌, List, [], ◌∷◌, ◌++◌, length, All, codes, Option, Some, None}
+use Rattle.std.specs.Prelude.{◌≡◌, ◌≢◌, ℕ, suc, ◌+◌, ◌-◌, ◌<◌, ◌≤◌, List, [], ◌∷◌, ◌++◌, length, All, codes}
 use Rattle.std.specs.Option.{ForSome, ForNone}
 use Rattle.ff.specs.declared.script.Term.{Term}
+use Rattle.ff.specs.declared.script.Place.{Place}
+use Rattle.ff.specs.declared.script.Place.TheVariants.{Start, AfterField, AfterCurve}
 use Rattle.ff.specs.declared.script.Statement.{Statement}
 use Rattle.ff.specs.declared.script.Statement.TheVariants.{FieldOf, CurveOf, Mul}
 use Rattle.ff.specs.Text.{statement_text, script_text}
@@ -12,12 +14,6 @@ pub record IsTerm (p highest_y : ℕ) (t : Term) : Type 0 where
   pub x : t.x ≤ 32
   pub y : t.y ≤ highest_y
   pub some : ForNone t.code (1 ≤ t.x + t.y)
-
--- what stands before a line: nothing, a field of p, or a field and a curve of degree n
-pub data Place : Type 0 where
-  Start : Place
-  AfterField : ℕ → Place
-  AfterCurve : ℕ → ℕ → Place
 
 -- an element of n polynomials in x
 pub record IsElement (p n : ℕ) (ps : List (List Term)) : Type 0 where

@@ -1,8 +1,8 @@
-pub mod Text
-pub mod Form
 pub mod Answers
-pub mod Output
-pub mod Sessions
 pub mod Bound
+pub mod Form
+pub mod Output
 pub mod Printing
-
+pub mod Reading
+pub mod Sessions
+pub mod Text

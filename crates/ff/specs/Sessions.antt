@@ -9,7 +9,8 @@ use Rattle.ff.specs.declared.script.Term.{Term}
 use Rattle.ff.specs.declared.script.Statement.{Statement}
 use Rattle.ff.specs.declared.session.Refusal.{Refusal as Told}
 use Rattle.ff.specs.declared.session.Refusal.TheVariants as told
-use Rattle.ff.specs.Form.{Place, Start, AfterField, AfterCurve}
+use Rattle.ff.specs.declared.script.Place.{Place}
+use Rattle.ff.specs.declared.script.Place.TheVariants.{Start, AfterField, AfterCurve}
 use Rattle.ff.specs.Answers.{Setting, Empty, WithField, WithCurve, Answer, Answers, Refuses, FieldSize, Element, IsProduct, element}
 use Rattle.ff.specs.Output.{answer_line, block_text}
 

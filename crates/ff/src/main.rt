@@ -2,6 +2,7 @@
 #![tactic(auto)]
 
 mod curve;
+mod parse;
 mod run;
 mod script;
 mod session;

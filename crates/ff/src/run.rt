@@ -2,7 +2,8 @@
 
 ghost use Rattle.std.specs.Prelude.{◌≡◌, ◌++◌, IfOk, OnOk, OnErr};
 ghost use Rattle.ff.specs.Answers.{FieldSize};
-ghost use Rattle.ff.specs.Form.{Start, AreIn};
+ghost use Rattle.ff.specs.declared.script.Place.TheVariants.{Start};
+ghost use Rattle.ff.specs.Form.{AreIn};
 ghost use Rattle.ff.specs.Output.{IsOut, IsPart, echo_line, refusal_line, end_line};
 ghost use Rattle.ff.specs.Printing.{Prints, BreaksOff, EndsAs, EndsWith};
 

@@ -40,6 +40,14 @@ impl Model for ElemText {
     ghost view = { λ z. z.entries.items };
 }
 
+/// What stands before a line: nothing, a field of p elements, or a field and a curve of degree n.
+#[derive(Clone, Copy, Debug, PartialEq, Eq)]
+pub enum Place {
+    Start,
+    AfterField { p: u32 },
+    AfterCurve { p: u32, n: u32 },
+}
+
 /// A line of a script.
 #[derive(Debug, Drop)]
 pub enum Statement {

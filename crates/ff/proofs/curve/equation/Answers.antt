@@ -1,5 +1,5 @@
 use Rattle.std.proofs.Common.{◌≡◌, ◌-◌, arith}
-use Rattle.ff.proofs.Terms.{equation_sound, length_coefficients}
+use Rattle.ff.proofs.TermSums.{equation_sound, length_coefficients}
 use Rattle.ff.proofs.curve.equation.Goals as goal
 
 pub new-requires-clause-one_each : goal.new-requires-clause-one_each

@@ -4,7 +4,7 @@ use Rattle.std.proofs.lemmas.List.Elements.{All-same}
 use Rattle.ff_fields.specs.Over.{IsOver}
 use Rattle.ff_poly.specs.Words.{IsPoly}
 use Rattle.ff.specs.Answers.{coefficient, sum_of_terms}
-use Rattle.ff.proofs.Terms.{polynomials_in, polynomials_poly, polynomials_more}
+use Rattle.ff.proofs.TermSums.{polynomials_in, polynomials_poly, polynomials_more}
 use Rattle.ff.proofs.curve.polynomials.Goals as goal
 
 pub loop-entry-preserved : goal.loop-entry-preserved

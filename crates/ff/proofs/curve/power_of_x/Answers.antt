@@ -3,7 +3,7 @@ use Rattle.std.proofs.lemmas.Result.{IfOk-weaker}
 use Rattle.ff_fields.specs.Over.{IsOver}
 use Rattle.ff_poly.specs.Words.{shifted}
 use Rattle.ff.specs.Answers.{code_of_term}
-use Rattle.ff.proofs.Terms.{power_in}
+use Rattle.ff.proofs.TermSums.{power_in}
 use Rattle.ff.proofs.curve.power_of_x.Goals as goal
 
 pub returns-clause-over : goal.returns-clause-over
