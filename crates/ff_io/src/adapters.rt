@@ -1,31 +1,43 @@
-//! Sources and sinks over the readers and writers of std. They tell no bytes, and they may fail at any call.
+//! Sources and sinks over the readers and writers of std. They tell no bytes, and any call may fail. A contract sees one
+//! as its count of faults.
 
-ghost use Rattle.std.specs.Prelude.{◌≡◌, None};
+ghost use Rattle.std.specs.Prelude.{◌≡◌, ◌≤◌, ◌<◌, None, length, if◌then◌else◌, is_ok, IfOk};
 ghost use Rattle.std.proofs.lemmas.Option.{none-some};
+ghost use Rattle.ff_io.specs.Streams.{next_count};
 
 use crate::Failed;
 use crate::sink::Sink;
 use crate::source::Source;
 use std::io::{Read, Write};
+use std::marker::Model;
 
-/// A reader of std as a source. Each error of the reader is a fault.
+/// A reader of std as a source. Each error of the reader is a fault, an interrupted read too.
 #[derive(Drop)]
 pub struct ReadSource<R: Read> {
     inner: R,
     faults: u64,
 }
 
+impl<R: Read> Model for ReadSource<R> {
+    ghost use Rattle.std.specs.Prelude.{ℕ};
+
+    ghost Value = { ℕ };
+
+    ghost view = { λ s. s.faults };
+}
+
 impl<R: Read> ReadSource<R> {
     /// No fault is counted yet. Takes no memory.
     pub fn new(inner: R) -> ReadSource<R>
-        ensures { ⟦<ReadSource<R> as Source>⟧.faults result ≡ 0 }
+        ensures count { result ≡ 0 }
+        ensures faults { ⟦<ReadSource<R> as Source>⟧.faults result ≡ 0 }
     {
         ReadSource { inner, faults: 0 }
     }
 
     /// How many reads failed.
     pub fn faults(&self) -> u64
-        ensures { result ≡ ⟦<ReadSource<R> as Source>⟧.faults self.now }
+        ensures { result ≡ self.now }
     {
         self.faults
     }
@@ -34,13 +46,18 @@ impl<R: Read> ReadSource<R> {
 impl<R: Read> Source for ReadSource<R> {
     ghost left = { λ _. None };
 
-    ghost faults = { λ s. s.faults };
+    ghost faults = { λ s. s };
 
     ghost steady = { λ _. ⊥ };
 
     ghost below_last = { λ s steady. absurd steady };
 
-    fn read(&mut self, buf: &mut [u8]) -> Result<usize, Failed> {
+    /// One read of the reader.
+    fn read(&mut self, buf: &mut [u8]) -> Result<usize, Failed>
+        ensures fits { IfOk result (λ n. n ≤ length buf.new) }
+        ensures counts { self.new ≡ (if is_ok result then self.old else next_count self.old) }
+        ensures never_falls { self.old ≤ self.new }
+    {
         match self.inner.read(buf) {
             Ok(n) => Ok(n),
             Err(_) => {
@@ -59,17 +76,26 @@ pub struct WriteSink<W: Write> {
     faults: u64,
 }
 
+impl<W: Write> Model for WriteSink<W> {
+    ghost use Rattle.std.specs.Prelude.{ℕ};
+
+    ghost Value = { ℕ };
+
+    ghost view = { λ s. s.faults };
+}
+
 impl<W: Write> WriteSink<W> {
     /// No fault is counted yet. Takes no memory.
     pub fn new(inner: W) -> WriteSink<W>
-        ensures { ⟦<WriteSink<W> as Sink>⟧.faults result ≡ 0 }
+        ensures count { result ≡ 0 }
+        ensures faults { ⟦<WriteSink<W> as Sink>⟧.faults result ≡ 0 }
     {
         WriteSink { inner, faults: 0 }
     }
 
     /// How many writes failed.
     pub fn faults(&self) -> u64
-        ensures { result ≡ ⟦<WriteSink<W> as Sink>⟧.faults self.now }
+        ensures { result ≡ self.now }
     {
         self.faults
     }
@@ -78,13 +104,19 @@ impl<W: Write> WriteSink<W> {
 impl<W: Write> Sink for WriteSink<W> {
     ghost taken = { λ _. None };
 
-    ghost faults = { λ s. s.faults };
+    ghost faults = { λ s. s };
 
     ghost free = { λ _. None };
 
     ghost below_last = { λ s f told. absurd (none-some f told) };
 
-    fn write(&mut self, piece: &[u8]) -> Result<usize, Failed> {
+    /// One write of the writer.
+    fn write(&mut self, piece: &[u8]) -> Result<usize, Failed>
+        ensures fits { IfOk result (λ n. n ≤ length piece.now) }
+        ensures some { IfOk result (λ n. 0 < length piece.now → 0 < n) }
+        ensures counts { self.new ≡ (if is_ok result then self.old else next_count self.old) }
+        ensures never_falls { self.old ≤ self.new }
+    {
         match self.inner.write(piece) {
             Ok(n) if n > 0 || piece.is_empty() => Ok(n),
             _ => {
