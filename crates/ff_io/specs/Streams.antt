@@ -32,3 +32,8 @@ AppendsPart before now bytes = (n : ℕ) × (n ≤ length bytes) × Appends befo
 pub record Fills (n f : ℕ) (now : Option ℕ) (faults_before faults_now : ℕ) : Type 0 where
   pub room : now ≡ Some (f - n)
   pub faultless : faults_now ≡ faults_before
+
+-- a reader or a writer, with a count of its faults
+pub record Counted (T : Type 0) : Type 0 where
+  pub inner : T
+  pub faults : ℕ

@@ -1,8 +1,9 @@
 //! Sources and sinks over the readers and writers of std. They tell no bytes, and any call may fail. A contract sees one
-//! as its count of faults.
+//! as the reader or writer and a count of faults.
 
 ghost use Rattle.std.specs.Prelude.{◌≡◌, ◌≤◌, ◌<◌, None, length, if◌then◌else◌, is_ok, IfOk};
 ghost use Rattle.std.proofs.lemmas.Option.{none-some};
+ghost use Rattle.std.specs.Io.KnownBytes.{ReadConsumes, WriteAppends};
 ghost use Rattle.ff_io.specs.Streams.{next_count};
 
 use crate::Failed;
@@ -19,17 +20,17 @@ pub struct ReadSource<R: Read> {
 }
 
 impl<R: Read> Model for ReadSource<R> {
-    ghost use Rattle.std.specs.Prelude.{ℕ};
+    ghost use Rattle.ff_io.specs.Streams.{Counted};
 
-    ghost Value = { ℕ };
+    ghost Value = { Counted R };
 
-    ghost view = { λ s. s.faults };
+    ghost view = { λ s. record { inner = s.inner; faults = s.faults } };
 }
 
 impl<R: Read> ReadSource<R> {
     /// No fault is counted yet. Takes no memory.
     pub fn new(inner: R) -> ReadSource<R>
-        ensures count { result ≡ 0 }
+        ensures made { result ≡ record { inner = inner; faults = 0 } }
         ensures faults { ⟦<ReadSource<R> as Source>⟧.faults result ≡ 0 }
     {
         ReadSource { inner, faults: 0 }
@@ -37,7 +38,7 @@ impl<R: Read> ReadSource<R> {
 
     /// How many reads failed.
     pub fn faults(&self) -> u64
-        ensures { result ≡ self.now }
+        ensures { result ≡ self.now.faults }
     {
         self.faults
     }
@@ -46,7 +47,7 @@ impl<R: Read> ReadSource<R> {
 impl<R: Read> Source for ReadSource<R> {
     ghost left = { λ _. None };
 
-    ghost faults = { λ s. s };
+    ghost faults = { λ s. s.faults };
 
     ghost steady = { λ _. ⊥ };
 
@@ -55,8 +56,9 @@ impl<R: Read> Source for ReadSource<R> {
     /// One read of the reader.
     fn read(&mut self, buf: &mut [u8]) -> Result<usize, Failed>
         ensures fits { IfOk result (λ n. n ≤ length buf.new) }
-        ensures counts { self.new ≡ (if is_ok result then self.old else next_count self.old) }
-        ensures never_falls { self.old ≤ self.new }
+        ensures bytes { ReadConsumes (R.remaining self.old.inner) (R.remaining self.new.inner) result buf.new }
+        ensures counts { self.new.faults ≡ (if is_ok result then self.old.faults else next_count self.old.faults) }
+        ensures never_falls { self.old.faults ≤ self.new.faults }
     {
         match self.inner.read(buf) {
             Ok(n) => Ok(n),
@@ -77,17 +79,17 @@ pub struct WriteSink<W: Write> {
 }
 
 impl<W: Write> Model for WriteSink<W> {
-    ghost use Rattle.std.specs.Prelude.{ℕ};
+    ghost use Rattle.ff_io.specs.Streams.{Counted};
 
-    ghost Value = { ℕ };
+    ghost Value = { Counted W };
 
-    ghost view = { λ s. s.faults };
+    ghost view = { λ s. record { inner = s.inner; faults = s.faults } };
 }
 
 impl<W: Write> WriteSink<W> {
     /// No fault is counted yet. Takes no memory.
     pub fn new(inner: W) -> WriteSink<W>
-        ensures count { result ≡ 0 }
+        ensures made { result ≡ record { inner = inner; faults = 0 } }
         ensures faults { ⟦<WriteSink<W> as Sink>⟧.faults result ≡ 0 }
     {
         WriteSink { inner, faults: 0 }
@@ -95,7 +97,7 @@ impl<W: Write> WriteSink<W> {
 
     /// How many writes failed.
     pub fn faults(&self) -> u64
-        ensures { result ≡ self.now }
+        ensures { result ≡ self.now.faults }
     {
         self.faults
     }
@@ -104,7 +106,7 @@ impl<W: Write> WriteSink<W> {
 impl<W: Write> Sink for WriteSink<W> {
     ghost taken = { λ _. None };
 
-    ghost faults = { λ s. s };
+    ghost faults = { λ s. s.faults };
 
     ghost free = { λ _. None };
 
@@ -113,9 +115,10 @@ impl<W: Write> Sink for WriteSink<W> {
     /// One write of the writer.
     fn write(&mut self, piece: &[u8]) -> Result<usize, Failed>
         ensures fits { IfOk result (λ n. n ≤ length piece.now) }
+        ensures bytes { WriteAppends (W.contents self.old.inner) (W.contents self.new.inner) result piece.now }
         ensures some { IfOk result (λ n. 0 < length piece.now → 0 < n) }
-        ensures counts { self.new ≡ (if is_ok result then self.old else next_count self.old) }
-        ensures never_falls { self.old ≤ self.new }
+        ensures counts { self.new.faults ≡ (if is_ok result then self.old.faults else next_count self.old.faults) }
+        ensures never_falls { self.old.faults ≤ self.new.faults }
     {
         match self.inner.write(piece) {
             Ok(n) if n > 0 || piece.is_empty() => Ok(n),
