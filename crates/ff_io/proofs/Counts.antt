@@ -1,5 +1,5 @@
 -- Counts of faults that rise.
-use Rattle.std.proofs.Common.{◌≡◌, ℕ, ◌+◌, ◌-◌, ◌^◌, ◌<◌, ◌≤◌, arith}
+use Rattle.std.proofs.Common.{◌≡◌, ℕ, ◌-◌, ◌^◌, ◌<◌, ◌≤◌, arith}
 use Rattle.ff_io.specs.Streams.{Rose}
 
 -- a count that rose later rose since an earlier moment

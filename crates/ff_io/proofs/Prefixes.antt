@@ -1,5 +1,5 @@
 -- Lists that begin with another one.
-use Rattle.std.proofs.Common.{◌≡◌, ℕ, List, [], ◌++◌, take, drop, refl, sym, ap, ◌∙◌, append-nil, append_assoc, take-append-drop}
+use Rattle.std.proofs.Common.{ℕ, List, [], ◌++◌, take, drop, refl, sym, ap, ◌∙◌, append-nil, append_assoc, take-append-drop}
 use Rattle.ff_io.specs.Streams.{IsPrefix}
 
 pub prefix_nil : (xs : List ℕ) → IsPrefix [] xs

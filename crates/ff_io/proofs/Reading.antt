@@ -1,5 +1,5 @@
 -- Several reads, one after another.
-use Rattle.std.proofs.Common.{◌≡◌, ℕ, ◌+◌, ◌-◌, ◌<◌, ◌≤◌, List, [], ◌++◌, Option, None, Some, IfSome, length, take, drop, sym, ap, ap₂, ◌∙◌, subst, arith, length-drop, length-append}
+use Rattle.std.proofs.Common.{◌≡◌, ℕ, ◌+◌, ◌≤◌, List, [], ◌++◌, Option, None, Some, IfSome, length, take, drop, sym, ap, ap₂, ◌∙◌, subst, arith, length-drop, length-append, length-take}
 use Rattle.std.proofs.Math.Seq.{take-add}
 use Rattle.std.proofs.lemmas.Option.{MatchOption-at_some}
 use Rattle.std.proofs.lemmas.List.{drop-drop, take_all, length-take-le}
@@ -17,9 +17,9 @@ took_more before mid now bytes buffer n fits p q =
     record {
       within = omega (arith, long, inside);
       same = take_all _ (bytes ++ take n buffer) (omega arith)
-        ∙ ap₂ (λ x y. x ++ y) (sym (take_all m bytes (omega arith)) ∙ p.same) r.same
-        ∙ sym (take-add m n before)
-        ∙ ap (λ k. take k before) (sym long);
+          ∙ ap₂ (λ x y. x ++ y) (sym (take_all m bytes (omega arith)) ∙ p.same) r.same
+          ∙ sym (take-add m n before)
+          ∙ ap (λ k. take k before) (sym long);
       others = r.others ∙ ap Some (drop-drop n m before ∙ ap (λ k. drop k before) (sym long));
     }
 
@@ -48,3 +48,6 @@ pub took_whole : (before mid now : Option (List ℕ)) (bytes buffer : List ℕ) 
 took_whole None mid now bytes buffer n none p q end = tt
 took_whole (Some xs) mid now bytes buffer n none p q end =
     took_all xs mid now bytes buffer p (subst (λ k. IfSome mid (λ ys. Took k buffer ys now)) none q) end
+
+pub grown_length : (now bytes buffer : List ℕ) (n : ℕ) → now ≡ bytes ++ take n buffer → length now ≤ length bytes + n
+grown_length now bytes buffer n grown = omega (arith, ap length grown, length-append bytes (take n buffer), length-take n buffer)

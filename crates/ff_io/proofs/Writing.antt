@@ -1,8 +1,9 @@
 -- Several writes, one after another.
-use Rattle.std.proofs.Common.{◌≡◌, ℕ, ◌+◌, ◌-◌, ◌≤◌, List, [], ◌++◌, Option, None, Some, IfSome, take, drop, sym, ap, ◌∙◌, subst, arith, append-nil, append_assoc}
+use Rattle.std.proofs.Common.{◌≡◌, ℕ, ◌+◌, ◌-◌, ◌≤◌, List, [], ◌++◌, Option, None, Some, IfSome, Result, Ok, Err, OnOk, OnErr, take, drop, sym, ap, ◌∙◌, subst, arith, append-nil, append_assoc}
 use Rattle.std.proofs.Math.Seq.{take-add}
 use Rattle.std.proofs.lemmas.Option.{MatchOption-at_some}
-use Rattle.ff_io.specs.Streams.{Appends, Fills}
+use Rattle.ff_io.specs.Streams.{Appends, AppendsPart, Fills, IsPrefix}
+use Rattle.ff_io.proofs.Prefixes.{prefix_refl, prefix_take}
 
 pub appends_more : (before mid now : Option (List ℕ)) (xs ys : List ℕ) → Appends before mid xs → Appends mid now ys → Appends before now (xs ++ ys)
 appends_more None mid now xs ys p q = tt
@@ -31,3 +32,10 @@ fills_more (Some f) mid now len rest at n faults faults_mid faults_now parts p q
     let second = MatchOption-at_some _ (λ m. rest ≤ m → Fills n m now faults_mid faults_now) (f - at) first.room q (omega arith) in
     let less : f - at - n ≡ f - (at + n) = omega arith in
     record { room = second.room ∙ ap Some less; faultless = second.faultless ∙ first.faultless }
+
+-- what a write of all or some of the bytes appended begins them
+pub written_begins : {T E : Type 0} (r : Result T E) (xs bytes : List ℕ) (now : Option (List ℕ))
+    → OnOk r (Appends (Some xs) now bytes) → OnErr r (AppendsPart (Some xs) now bytes)
+    → (part : List ℕ) × IsPrefix part bytes × (now ≡ Some (xs ++ part))
+written_begins (Ok x) xs bytes now whole part = (bytes, prefix_refl bytes, whole)
+written_begins (Err e) xs bytes now whole part = (take part.0 bytes, prefix_take part.0 bytes, part.2)

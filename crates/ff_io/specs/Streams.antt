@@ -1,9 +1,13 @@
 -- What a call does to the bytes of a stream, where the stream tells them, and to its count of faults.
 use Rattle.std.specs.Prelude.{◌≡◌, ℕ, ◌+◌, ◌-◌, ◌^◌, ◌≤◌, min, List, ◌++◌, length, take, drop, Option, Some, IfSome}
 
--- A count of faults rose in a call, or stands at its last value.
+-- one more; a count stands still at its last value
+abbrev pub next_count : ℕ → ℕ
+next_count n = min (n + 1) (2 ^ 64 - 1)
+
+-- A count rose in a call, or stands at its last value.
 abbrev pub Rose : ℕ → ℕ → Type 0
-Rose before now = min (before + 1) (2 ^ 64 - 1) ≤ now
+Rose before now = next_count before ≤ now
 
 -- the second list goes on from the first
 pub record IsPrefix (front whole : List ℕ) : Type 0 where
@@ -28,3 +32,8 @@ AppendsPart before now bytes = (n : ℕ) × (n ≤ length bytes) × Appends befo
 pub record Fills (n f : ℕ) (now : Option ℕ) (faults_before faults_now : ℕ) : Type 0 where
   pub room : now ≡ Some (f - n)
   pub faultless : faults_now ≡ faults_before
+
+-- a reader or a writer, with a count of its faults
+pub record Counted (T : Type 0) : Type 0 where
+  pub inner : T
+  pub faults : ℕ

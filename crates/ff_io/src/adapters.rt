@@ -1,31 +1,44 @@
-//! Sources and sinks over the readers and writers of std. They tell no bytes, and they may fail at any call.
+//! Sources and sinks over the readers and writers of std. They tell no bytes, and any call may fail. A contract sees one
+//! as the reader or writer and a count of faults.
 
-ghost use Rattle.std.specs.Prelude.{◌≡◌, None};
+ghost use Rattle.std.specs.Prelude.{◌≡◌, ◌≤◌, ◌<◌, None, length, if◌then◌else◌, is_ok, IfOk};
 ghost use Rattle.std.proofs.lemmas.Option.{none-some};
+ghost use Rattle.std.specs.Io.KnownBytes.{ReadConsumes, WriteAppends};
+ghost use Rattle.ff_io.specs.Streams.{next_count};
 
 use crate::Failed;
 use crate::sink::Sink;
 use crate::source::Source;
 use std::io::{Read, Write};
+use std::marker::Model;
 
-/// A reader of std as a source. Each error of the reader is a fault.
+/// A reader of std as a source. Each error of the reader is a fault, an interrupted read too.
 #[derive(Drop)]
 pub struct ReadSource<R: Read> {
     inner: R,
     faults: u64,
 }
 
+impl<R: Read> Model for ReadSource<R> {
+    ghost use Rattle.ff_io.specs.Streams.{Counted};
+
+    ghost Value = { Counted R };
+
+    ghost view = { λ s. record { inner = s.inner; faults = s.faults } };
+}
+
 impl<R: Read> ReadSource<R> {
     /// No fault is counted yet. Takes no memory.
     pub fn new(inner: R) -> ReadSource<R>
-        ensures { ⟦<ReadSource<R> as Source>⟧.faults result ≡ 0 }
+        ensures made { result ≡ record { inner = inner; faults = 0 } }
+        ensures faults { ⟦<ReadSource<R> as Source>⟧.faults result ≡ 0 }
     {
         ReadSource { inner, faults: 0 }
     }
 
     /// How many reads failed.
     pub fn faults(&self) -> u64
-        ensures { result ≡ ⟦<ReadSource<R> as Source>⟧.faults self.now }
+        ensures { result ≡ self.now.faults }
     {
         self.faults
     }
@@ -40,7 +53,13 @@ impl<R: Read> Source for ReadSource<R> {
 
     ghost below_last = { λ s steady. absurd steady };
 
-    fn read(&mut self, buf: &mut [u8]) -> Result<usize, Failed> {
+    /// One read of the reader.
+    fn read(&mut self, buf: &mut [u8]) -> Result<usize, Failed>
+        ensures fits { IfOk result (λ n. n ≤ length buf.new) }
+        ensures bytes { ReadConsumes (R.remaining self.old.inner) (R.remaining self.new.inner) result buf.new }
+        ensures counts { self.new.faults ≡ (if is_ok result then self.old.faults else next_count self.old.faults) }
+        ensures never_falls { self.old.faults ≤ self.new.faults }
+    {
         match self.inner.read(buf) {
             Ok(n) => Ok(n),
             Err(_) => {
@@ -59,17 +78,26 @@ pub struct WriteSink<W: Write> {
     faults: u64,
 }
 
+impl<W: Write> Model for WriteSink<W> {
+    ghost use Rattle.ff_io.specs.Streams.{Counted};
+
+    ghost Value = { Counted W };
+
+    ghost view = { λ s. record { inner = s.inner; faults = s.faults } };
+}
+
 impl<W: Write> WriteSink<W> {
     /// No fault is counted yet. Takes no memory.
     pub fn new(inner: W) -> WriteSink<W>
-        ensures { ⟦<WriteSink<W> as Sink>⟧.faults result ≡ 0 }
+        ensures made { result ≡ record { inner = inner; faults = 0 } }
+        ensures faults { ⟦<WriteSink<W> as Sink>⟧.faults result ≡ 0 }
     {
         WriteSink { inner, faults: 0 }
     }
 
     /// How many writes failed.
     pub fn faults(&self) -> u64
-        ensures { result ≡ ⟦<WriteSink<W> as Sink>⟧.faults self.now }
+        ensures { result ≡ self.now.faults }
     {
         self.faults
     }
@@ -84,7 +112,14 @@ impl<W: Write> Sink for WriteSink<W> {
 
     ghost below_last = { λ s f told. absurd (none-some f told) };
 
-    fn write(&mut self, piece: &[u8]) -> Result<usize, Failed> {
+    /// One write of the writer.
+    fn write(&mut self, piece: &[u8]) -> Result<usize, Failed>
+        ensures fits { IfOk result (λ n. n ≤ length piece.now) }
+        ensures bytes { WriteAppends (W.contents self.old.inner) (W.contents self.new.inner) result piece.now }
+        ensures some { IfOk result (λ n. 0 < length piece.now → 0 < n) }
+        ensures counts { self.new.faults ≡ (if is_ok result then self.old.faults else next_count self.old.faults) }
+        ensures never_falls { self.old.faults ≤ self.new.faults }
+    {
         match self.inner.write(piece) {
             Ok(n) if n > 0 || piece.is_empty() => Ok(n),
             _ => {

@@ -2,8 +2,8 @@
 
 ghost use Rattle.std.specs.Prelude.{◌≡◌, ◌+◌, ◌-◌, ◌<◌, ◌≤◌, ◌↔◌, ◌⊎◌, ◌==◌, if◌then◌else◌, min, ℕ, [], ◌++◌, Some, None, length, take, IfOk, OnErr, IfSome, IsErr, IsOkAnd};
 ghost use Rattle.std.specs.List.{Contains};
-ghost use Rattle.ff_io.specs.Streams.{Rose, Took, Appends, Fills};
-ghost use Rattle.ff_io.specs.Memory.{next_count, left_of, IsSteady, free_of, free_below};
+ghost use Rattle.ff_io.specs.Streams.{next_count, Rose, Took, Appends, Fills};
+ghost use Rattle.ff_io.specs.Memory.{left_of, IsSteady, free_of, free_below};
 
 use crate::Failed;
 use crate::sink::Sink;
