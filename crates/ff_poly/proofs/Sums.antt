@@ -80,9 +80,9 @@ module _ (k : CodeField) where
 
 module _ {A : Type 0} (r : TestedRing A) where
   open r use {◌⊕◌, ◌⊗◌, 𝟘}
+
   infixl 65 ◌⊕◌
   infixl 70 ◌⊗◌
-
   regroup : (z c x y m : A) → (z ⊕ c ⊗ m) ⊕ (c ⊗ x) ⊗ y ≡ z ⊕ c ⊗ (x ⊗ y ⊕ m)
   regroup z c x y m = grind (arith, r.ring)
 
