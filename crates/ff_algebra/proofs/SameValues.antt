@@ -1,15 +1,16 @@
 -- Two elements stand for one function exactly where they are the same by cross products.
-use Rattle.std.proofs.Common.{◌≡◌, ℕ, zero, suc, ◌-◌, List, [], ◌∷◌, length, map, refl, sym, ◌∙◌, ap, ap₂, arith, ◌↔◌, All}
+use Rattle.std.proofs.Common.{◌≡◌, ℕ, zero, suc, ◌+◌, ◌-◌, ◌<◌, ◌≤◌, Bool, IsTrue, get_or, take, subst, List, [], ◌∷◌, ◌++◌, length, map, refl, sym, ◌∙◌, ap, ap₂, arith, ◌↔◌, All}
+use Rattle.std.proofs.lemmas.List.{length-map, get_or-map, take_more_same}
 use Rattle.std.proofs.lemmas.List.Elements.{All-head, All-tail}
 use Rattle.ff_ring.specs.Rows.{Row, row_scale}
 use Rattle.ff_ring.proofs.Rows.{pair_path}
 use Rattle.ff_fields.specs.Field.{CodeField}
 use Rattle.ff_fields.specs.Over.{IsOver}
-use Rattle.ff_poly.specs.Words.{IsPoly, product_of}
+use Rattle.ff_poly.specs.Words.{IsPoly, IsMonic, product_of}
 use Rattle.ff_poly.specs.Value.{value, numbers_value}
 use Rattle.ff_poly.specs.Polynomials.{Polynomial, polynomials, polynomial_eq, polynomial_discrete, codes_of, codes_of_product, value_not_zero}
 use Rattle.ff_algebra.specs.Functions.{Equation, ring_of_x, function_eq, function_same}
-use Rattle.ff_algebra.specs.Values.{ElemValue, PresValue, IsElem, IsSame, row_of_list, equation_of, over_checked, row_over, function_of}
+use Rattle.ff_algebra.specs.Values.{ElemValue, PresValue, IsElem, IsMonicElem, IsSame, row_of_list, equation_of, over_checked, row_over, function_of}
 
 module _ (k : CodeField) where
   -- the lists of codes of a row
@@ -52,6 +53,11 @@ module _ {k : CodeField} (c : Equation k) where
   over_num v d (yes e) = refl
   over_num v d (no m) = refl
 
+-- what is monic isn't 0
+pub monic_some : (d : List ℕ) → IsMonic d → ¬ (d ≡ [])
+monic_some d ([], d_is) e = let none : 1 ∷ [] ≡ [] = sym d_is ∙ e in (cc)
+monic_some d (c ∷ lower, d_is) e = let none : c ∷ lower ++ 1 ∷ [] ≡ [] = sym d_is ∙ e in (cc)
+
 module _ (k : CodeField) (p : PresValue) where
   pub row_over_num : (z : ElemValue) → (row_over k p z).num ≡ row_of_list k (suc (p.n - 1)) z.num
   unfolding row_over
@@ -63,29 +69,50 @@ module _ (k : CodeField) (p : PresValue) where
   row_over_den z n =
       over_den (equation_of k p) (row_of_list k (suc (p.n - 1)) z.num) (value k z.den) (polynomial_discrete k (value k z.den) (polynomials k).𝟘) n
 
-  pub elem_den : (z : ElemValue) (n : ℕ) → IsElem k.ops n z → ¬ (value k z.den ≡ (polynomials k).𝟘)
-  elem_den z n h = value_not_zero k z.den h.den_over h.den_poly h.not_zero
+  pub elem_den : (z : ElemValue) (n : ℕ) → IsElem k.ops n z → IsMonicElem z → ¬ (value k z.den ≡ (polynomials k).𝟘)
+  elem_den z n h m = value_not_zero k z.den h.den_over m.den_poly (monic_some z.den m.monic)
 
-  scaled_codes : (z w : ElemValue) → IsElem k.ops (suc (p.n - 1)) z → IsElem k.ops (suc (p.n - 1)) w
+  scaled_codes : (z w : ElemValue) → IsElem k.ops (suc (p.n - 1)) z → IsMonicElem z → IsElem k.ops (suc (p.n - 1)) w → IsMonicElem w
       → row_codes k (suc (p.n - 1)) (row_scale (ring_of_x (equation_of k p)).ops (suc (p.n - 1)) (row_over k p w).den (row_over k p z).num)
       ≡ map (product_of k.ops w.den) z.num
-  scaled_codes z w h g =
+  scaled_codes z w h m g o =
       row_codes_row_scale k (suc (p.n - 1)) (row_over k p w).den (row_over k p z).num
       ∙ ap₂ (λ d vs. map (product_of k.ops d) vs)
-      (ap (codes_of k) (row_over_den w (elem_den w (suc (p.n - 1)) g)) ∙ numbers_value k w.den g.den_over g.den_poly)
-      (ap (row_codes k (suc (p.n - 1))) (row_over_num z) ∙ row_codes_row_of_list k (suc (p.n - 1)) z.num h.one_each h.num_over h.num_poly)
+      (ap (codes_of k) (row_over_den w (elem_den w (suc (p.n - 1)) g o)) ∙ numbers_value k w.den g.den_over o.den_poly)
+      (ap (row_codes k (suc (p.n - 1))) (row_over_num z) ∙ row_codes_row_of_list k (suc (p.n - 1)) z.num h.one_each h.num_over m.num_poly)
 
-  pub same_iff : (z w : ElemValue) → IsElem k.ops (suc (p.n - 1)) z → IsElem k.ops (suc (p.n - 1)) w
+  pub same_iff : (z w : ElemValue) → IsElem k.ops (suc (p.n - 1)) z → IsMonicElem z → IsElem k.ops (suc (p.n - 1)) w → IsMonicElem w
       → IsSame k.ops z w ↔ (function_of k p z ≡ function_of k p w)
-  same_iff z w h g = (to, from)
+  same_iff z w h m g o = (to, from)
     where
       to : IsSame k.ops z w → function_of k p z ≡ function_of k p w
       to e =
           function_eq (equation_of k p) (row_over k p z) (row_over k p w)
-          (row_codes_injective k (suc (p.n - 1)) _ _ (scaled_codes z w h g ∙ e ∙ sym (scaled_codes w z g h)))
+          (row_codes_injective k (suc (p.n - 1)) _ _ (scaled_codes z w h m g o ∙ e ∙ sym (scaled_codes w z g o h m)))
 
       from : function_of k p z ≡ function_of k p w → IsSame k.ops z w
       from e =
-          sym (scaled_codes z w h g)
+          sym (scaled_codes z w h m g o)
           ∙ ap (row_codes k (suc (p.n - 1))) (function_same (equation_of k p) (row_over k p z) (row_over k p w) e)
-          ∙ scaled_codes w z g h
+          ∙ scaled_codes w z g o h m
+
+-- ---- cross products, one after another
+
+pub cross_more : (f g : List ℕ → List ℕ) (vs ws : List (List ℕ)) (i : ℕ) (v w : List ℕ) → i < length vs → i < length ws → v ≡ get_or vs i v → w ≡ get_or ws i w → take i (map f vs) ≡ take i (map g ws) → f v ≡ g w → take (i + 1) (map f vs) ≡ take (i + 1) (map g ws)
+cross_more f g vs ws i v w vs_less ws_less v_is w_is same this =
+    take_more_same (map f vs) (map g ws) i []
+    (omega (arith, length-map vs f)) (omega (arith, length-map ws g)) same
+    (get_or-map f vs i v [] vs_less ∙ ap f (sym v_is) ∙ this ∙ ap g w_is ∙ sym (get_or-map g ws i w [] ws_less))
+
+pub cross_at : (f g : List ℕ → List ℕ) (vs ws : List (List ℕ)) (i : ℕ) (v w : List ℕ) → i < length vs → i < length ws → v ≡ get_or vs i v → w ≡ get_or ws i w → map f vs ≡ map g ws → f v ≡ g w
+cross_at f g vs ws i v w vs_less ws_less v_is w_is same =
+    ap f v_is ∙ sym (get_or-map f vs i v [] vs_less) ∙ ap (λ us. get_or us i []) same ∙ get_or-map g ws i w [] ws_less
+    ∙ ap g (sym w_is)
+
+-- the functions are the same exactly where the cross products are
+pub same_functions : (k : CodeField) (z w : ElemValue) (b : Bool) → IsElem k.ops (length z.num) z → IsMonicElem z → IsElem k.ops (length z.num) w → IsMonicElem w → IsTrue b ↔ IsSame k.ops z w
+    → (p : PresValue) → 1 ≤ p.n → p.n ≡ length z.num → IsTrue b ↔ (function_of k p z ≡ function_of k p w)
+same_functions k z w b z_in z_monic w_in w_monic cross p some size =
+    let n_is : length z.num ≡ suc (p.n - 1) = omega arith in
+    let both = same_iff k p z w (subst (λ n. IsElem k.ops n z) n_is z_in) z_monic (subst (λ n. IsElem k.ops n w) n_is w_in) w_monic in
+    (λ t. both.0 (cross.0 t), λ e. cross.1 (both.1 e))

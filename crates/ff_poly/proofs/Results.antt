@@ -11,7 +11,7 @@ use Rattle.ff_fields.specs.Numbers.{numbers, read, numbers_read, numbers_add, nu
 use Rattle.ff_poly.specs.Value.{same_numbers}
 
 module _ (k : CodeField) where
-  written_zeros : (a : List ℕ) (m : ℕ) → IsOver k.ops a → a ++ replicate m 0 ≡ numbers k (read k a ++ replicate m (code_ring k).𝟘)
+  pub written_zeros : (a : List ℕ) (m : ℕ) → IsOver k.ops a → a ++ replicate m 0 ≡ numbers k (read k a ++ replicate m (code_ring k).𝟘)
   written_zeros a m a_in =
       ap₂ (λ x y. x ++ y) (sym (numbers_read k a a_in)) (sym (numbers_zeros k m))
       ∙ sym (map-append (λ x. x.0) (read k a) (replicate m (code_ring k).𝟘))
