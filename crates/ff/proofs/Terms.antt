@@ -2,15 +2,14 @@
 use Rattle.std.proofs.Common.{◌≡◌, ℕ, zero, suc, ◌+◌, ◌<◌, ◌≤◌, Bool, true, false, List, [], ◌∷◌, ◌++◌, length, map, replicate, take, get_or, slice_index_or, refl, sym, ap, ap₂, ◌∙◌, arith}
 use Rattle.std.specs.Prelude.{◌==◌, filter, All, Option, Some, None, cond}
 use Rattle.std.specs.Option.{ForSome}
-use Rattle.std.proofs.lemmas.Bool.{cond-true, eq-eqb, eqb-true}
-use Rattle.std.proofs.lemmas.Bool.Decides.{Decides-eqb}
+use Rattle.std.proofs.lemmas.Bool.{eq-eqb, eqb-true}
 use Rattle.std.proofs.lemmas.List.{length_push, map-append, take_more}
 use Rattle.std.proofs.lemmas.List.Elements.{All-nil, All-head, All-tail, All-push, All-weaker, All-filter, All-map, All-get_or}
 use Rattle.ff_fields.specs.Field.{FieldOps, CodeField}
 use Rattle.ff_fields.specs.Code.{raw_ring}
 use Rattle.ff_fields.specs.Over.{IsOver, IsOver_nil, IsOver_cons, IsOver_append, IsOver_zeros, IsOver_trim}
 use Rattle.ff_ring.specs.Lists.{add_lists}
-use Rattle.ff_poly.specs.Words.{IsPoly, poly_of, sum_of, shifted}
+use Rattle.ff_poly.specs.Words.{IsPoly, sum_of, shifted}
 use Rattle.ff_poly.specs.PolyOver.{IsOver_sum_of, IsPoly_poly_of}
 use Rattle.ff.specs.declared.script.Term.{Term}
 use Rattle.ff.specs.Answers.{code_of_term, sum_of_terms, coefficient, coefficients, equation}

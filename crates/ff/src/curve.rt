@@ -8,6 +8,9 @@ ghost use Rattle.ff.specs.Answers.{equation, coefficient, sum_of_terms, code_of_
 ghost use Rattle.ff.specs.Form.{IsTerm};
 ghost use Rattle.ff.specs.Sessions.{IsEquation};
 
+#[cfg(test)]
+mod tests;
+
 use crate::script::{Term, TermList};
 use ff_algebra::elem::Pres;
 use ff_fields::field::SmallField;
@@ -27,7 +30,12 @@ fn power_of_x<K: SmallField>(alloc: Global, k: &K, t: &Term) -> Result<Poly, All
 }
 
 /// The coefficient of y^i.
-fn coefficient<K: SmallField>(alloc: Global, k: &K, terms: &[Term], i: u32) -> Result<Poly, AllocError>
+fn coefficient<K: SmallField>(
+    alloc: Global,
+    k: &K,
+    terms: &[Term],
+    i: u32,
+) -> Result<Poly, AllocError>
     requires { All (IsTerm (K.field k.now).size 3) terms.now }
     ensures sum { IfOk result (λ p. p ≡ coefficient (K.field k.now).ops terms.now i) }
     ensures over { IfOk result (IsOver (K.field k.now).ops) }
@@ -43,7 +51,12 @@ fn coefficient<K: SmallField>(alloc: Global, k: &K, terms: &[Term], i: u32) -> R
 }
 
 /// y^n and the terms.
-pub fn equation<K: SmallField>(alloc: Global, k: &K, n: u32, lower: &[Term]) -> Result<Pres, AllocError>
+pub fn equation<K: SmallField>(
+    alloc: Global,
+    k: &K,
+    n: u32,
+    lower: &[Term],
+) -> Result<Pres, AllocError>
     requires degree { (1 ≤ n) × (n ≤ 4) }
     requires terms { All (IsTerm (K.field k.now).size (n - 1)) lower.now }
     ensures equation { IfOk result (λ f. f ≡ equation (K.field k.now).ops n lower.now) }

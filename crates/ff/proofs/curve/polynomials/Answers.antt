@@ -1,4 +1,4 @@
-use Rattle.std.proofs.Common.{◌≡◌, map, length, take, arith, ap, sym, ◌∙◌}
+use Rattle.std.proofs.Common.{map, ap, ◌∙◌}
 use Rattle.std.proofs.lemmas.List.{take_all}
 use Rattle.std.proofs.lemmas.List.Elements.{All-same}
 use Rattle.ff_fields.specs.Over.{IsOver}
@@ -12,9 +12,9 @@ loop-entry-preserved g c =
     let k = g.K.SmallField.field c.args.k.now in
     c.in_ok-push.ensures.items
     ∙ polynomials_more k.ops k.size c.args.entries.now c.loop-entry.entry-index c.entry-item.result c.loop-entry.polys.items c.in_ok-coefficient.field-0
-      c.requires c.loop-entry-test.true c.entry-item.is
-      (c.in_ok-coefficient.ensures.sum ∙ ap (λ ts. coefficient k.ops ts 0) (c.as_slice.ensures.value ∙ c.entry.view_is))
-      c.loop-entry.invariant
+    c.requires c.loop-entry-test.true c.entry-item.is
+    (c.in_ok-coefficient.ensures.sum ∙ ap (λ ts. coefficient k.ops ts 0) (c.as_slice.ensures.value ∙ c.entry.view_is))
+    c.loop-entry.invariant
 
 pub returns-clause-over : goal.returns-clause-over
 returns-clause-over g c =
