@@ -1,6 +1,6 @@
 //! The equation of a curve, out of its terms.
 
-ghost use Rattle.std.specs.Prelude.{◌≡◌, ◌<◌, ◌≤◌, ◌-◌, ◌*◌, ◌+◌, ◌∷◌, [], map, All, IfOk};
+ghost use Rattle.std.specs.Prelude.{◌≡◌, ◌≤◌, ◌-◌, ◌∷◌, [], map, All, IfOk};
 ghost use Rattle.ff_fields.specs.Over.{IsOver};
 ghost use Rattle.ff_poly.specs.Words.{IsPoly, shifted};
 ghost use Rattle.ff_algebra.specs.Infinity.{IsInfinityNumber};
@@ -29,7 +29,7 @@ fn power_of_x<K: SmallField>(alloc: Global, k: &K, t: &Term) -> Result<Poly, All
     shift(alloc, &Poly::from_codes(codes), t.x as usize)
 }
 
-/// The coefficient of y^i.
+/// The coefficient of y^i, the sum of the terms that have y^i: one addition of two small polynomials for each.
 fn coefficient<K: SmallField>(
     alloc: Global,
     k: &K,
@@ -50,7 +50,7 @@ fn coefficient<K: SmallField>(
     Ok(sum)
 }
 
-/// y^n and the terms.
+/// y^n and the terms, whose exponents of y are below n. Reads the terms n times, and adds each to its coefficient once.
 pub fn equation<K: SmallField>(
     alloc: Global,
     k: &K,
@@ -69,7 +69,7 @@ pub fn equation<K: SmallField>(
     Ok(Pres::new(n as usize, coeffs))
 }
 
-/// The polynomial of each entry, the sum of its terms.
+/// The polynomial of each entry, the sum of its terms, which have no y: one addition of two small polynomials for each term.
 pub fn polynomials<K: SmallField>(
     alloc: Global,
     k: &K,

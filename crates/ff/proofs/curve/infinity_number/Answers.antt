@@ -4,6 +4,7 @@ use Rattle.ff.proofs.InfinityNumbers.{IsNumberBelow, number_of_all, number_of_mo
 use Rattle.ff.proofs.curve.infinity_number.Goals as goal
 use Rattle.ff.proofs.curve.infinity_number.Goals.{in-Some, in_default, Joined-degree}
 
+-- c is the least number for the coefficients up to this one
 next : (c : Joined-degree) → IsNumberBelow c.args.f.now (c.loop-i.i + 1) c.match-degree.c
 next c =
     let at : c.coeff.result.now ≡ get_or c.args.f.now.coeffs (c.args.f.now.n - c.loop-i.i) [] =
