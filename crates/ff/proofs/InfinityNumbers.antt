@@ -1,14 +1,14 @@
 -- How the infinity number is found, a coefficient at a time.
-use Rattle.std.proofs.Common.{◌≡◌, ℕ, zero, suc, ◌+◌, ◌-◌, ◌*◌, ◌/◌, ◌%◌, ◌<◌, ◌≤◌, List, [], ◌∷◌, length, get_or, min, max, refl, sym, ap, ◌∙◌, inl, inr, arith}
-use Rattle.std.specs.Prelude.{◌⊎◌, None}
+use Rattle.std.proofs.Common.{◌≡◌, ℕ, suc, ◌+◌, ◌-◌, ◌*◌, ◌<◌, ◌≤◌, List, [], ◌∷◌, length, get_or, max, refl, inl, inr, arith}
+use Rattle.std.specs.Prelude.{None}
 use Rattle.std.specs.Int.{div_ceil}
-use Rattle.std.proofs.Math.Nat.{mul-le-mul_right, suc-mul}
+use Rattle.std.proofs.Math.Nat.{mul-le-mul_right}
 use Rattle.std.proofs.lemmas.Bool.{cases_lt}
 use Rattle.std.proofs.lemmas.Grind.{div_ceil_times}
 use borrow.Author.Count.{below_more}
 use Rattle.ff_poly.specs.Words.{degree_of}
 use Rattle.ff_algebra.specs.Values.{PresValue}
-use Rattle.ff_algebra.specs.Infinity.{IsEnoughAtInfinity, IsInfinityNumber}
+use Rattle.ff_algebra.specs.Infinity.{IsInfinityNumber}
 
 -- e times i is below d for each number e below the quotient that is rounded up, and the quotient times i is not
 quotient_enough : (d i c : ℕ) → 1 ≤ i → div_ceil d i ≤ c → d ≤ c * i
@@ -58,7 +58,7 @@ number_of_more p i c d e low h long is = record { enough = below_more (λ j. 1 �
     least : (b : ℕ) → b < e → (j : ℕ) × (1 ≤ j) × (j < i + 1) × (b * j + 1 < length_at p j)
     least b less =
         elim (cases_lt b c) [
-            inl below ↦ let w = h.least b below in (w.0, w.1, omega (arith, w.2), w.3)
+          | inl below ↦ let w = h.least b below in (w.0, w.1, omega (arith, w.2), w.3)
           | inr above ↦ (i, low, omega arith, let m = quotient_least d i b low (omega arith) in omega (arith, m, long))
         ]
 

@@ -1,6 +1,7 @@
 mod InfinityNumbers
 mod Printed
 mod Printing
+mod Products
 mod Runs
 mod Steps
 mod TermSums

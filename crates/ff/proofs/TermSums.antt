@@ -2,20 +2,19 @@
 use Rattle.std.proofs.Common.{◌≡◌, ℕ, zero, suc, ◌+◌, ◌<◌, ◌≤◌, Bool, true, false, List, [], ◌∷◌, ◌++◌, length, map, replicate, take, get_or, slice_index_or, refl, sym, ap, ap₂, ◌∙◌, arith}
 use Rattle.std.specs.Prelude.{◌==◌, filter, All, Option, Some, None, cond}
 use Rattle.std.specs.Option.{ForSome}
-use Rattle.std.proofs.lemmas.Bool.{cond-true, eq-eqb, eqb-true}
-use Rattle.std.proofs.lemmas.Bool.Decides.{Decides-eqb}
+use Rattle.std.proofs.lemmas.Bool.{eq-eqb, eqb-true}
 use Rattle.std.proofs.lemmas.List.{length_push, map-append, take_more}
 use Rattle.std.proofs.lemmas.List.Elements.{All-nil, All-head, All-tail, All-push, All-weaker, All-filter, All-map, All-get_or}
 use Rattle.ff_fields.specs.Field.{FieldOps, CodeField}
 use Rattle.ff_fields.specs.Code.{raw_ring}
 use Rattle.ff_fields.specs.Over.{IsOver, IsOver_nil, IsOver_cons, IsOver_append, IsOver_zeros, IsOver_trim}
 use Rattle.ff_ring.specs.Lists.{add_lists}
-use Rattle.ff_poly.specs.Words.{IsPoly, poly_of, sum_of, shifted}
+use Rattle.ff_poly.specs.Words.{IsPoly, sum_of, shifted}
 use Rattle.ff_poly.specs.PolyOver.{IsOver_sum_of, IsPoly_poly_of}
 use Rattle.ff.specs.declared.script.Term.{Term}
 use Rattle.ff.specs.Answers.{code_of_term, sum_of_terms, coefficient, coefficients, equation}
 use Rattle.ff.specs.Form.{IsTerm}
-use Rattle.ff.specs.Sessions.{IsEquation}
+use Rattle.ff_algebra.specs.Values.{IsPresOver}
 
 -- terms whose exponents of y are below a bound are below a larger one
 pub terms_up : (p m n : ℕ) → m ≤ n → (ts : List Term) → All (IsTerm p m) ts → All (IsTerm p n) ts
@@ -71,12 +70,8 @@ module _ (k : CodeField) where
       All-push (IsOver k.ops) (coefficients k.ops ts n) (coefficient k.ops ts n) (coefficients_in ts m n h) (coefficient_in ts m n h)
 
   -- the coefficients of an equation are polynomials of the field
-  pub equation_sound : (ts : List Term) (m n : ℕ) → All (IsTerm k.size m) ts → IsEquation k.ops (equation k.ops n ts)
-  equation_sound ts m n h = record {
-    over = coefficients_in ts m n h;
-    polys = coefficients_poly k.ops ts n;
-    one_each = length_coefficients k.ops ts n;
-  }
+  pub equation_sound : (ts : List Term) (m n : ℕ) → All (IsTerm k.size m) ts → IsPresOver k.ops (equation k.ops n ts)
+  equation_sound ts m n h = record { coeffs_over = coefficients_in ts m n h }
 
 -- terms without y are all in the coefficient of 1
 pub coefficient_of_all : (k : FieldOps) (p : ℕ) (ts : List Term) → All (IsTerm p 0) ts → coefficient k ts 0 ≡ sum_of_terms k ts

@@ -1,9 +1,9 @@
 -- What the answers to a script's statements say, and when they are true.
-use Rattle.std.specs.Prelude.{◌≡◌, ℕ, zero, suc, ◌+◌, ◌<◌, ◌≤◌, ◌==◌, List, [], ◌∷◌, ◌++◌, length, map, filter, Option, Some, None, IsTrue, ◌⊎◌}
+use Rattle.std.specs.Prelude.{◌≡◌, ◌≢◌, ℕ, zero, suc, ◌+◌, ◌<◌, ◌≤◌, ◌==◌, List, [], ◌∷◌, ◌++◌, length, map, filter, Option, Some, None, IsTrue, ◌⊎◌}
 use Rattle.ff_ring.specs.Ring.{CommRing}
 use Rattle.ff_fields.specs.Field.{FieldOps, CodeField}
 use Rattle.ff_fields.specs.Prime.{is_listed, prime_of, prime_field}
-use Rattle.ff_poly.specs.Words.{IsMonic, sum_of, shifted}
+use Rattle.ff_poly.specs.Words.{IsMonic, IsPoly, sum_of, shifted}
 use Rattle.ff_algebra.specs.Values.{ElemValue, PresValue, IsElem, IsSame, function_of, functions}
 use Rattle.ff_algebra.specs.Infinity.{IsInfinityNumber}
 use Rattle.ff.specs.declared.script.Term.{Term}
@@ -41,7 +41,7 @@ module _ (k : FieldOps) where
   -- a monic denominator, and no denominator of the same fractions has a smaller degree
   pub record IsInLowestTerms (n : ℕ) (z : ElemValue) : Type 0 where
     pub monic : IsMonic z.den
-    pub least : (w : ElemValue) → IsElem k n w → IsSame k z w → length z.den ≤ length w.den
+    pub least : (w : ElemValue) → IsElem k n w → IsPoly w.den → w.den ≢ [] → IsSame k z w → length z.den ≤ length w.den
 
   -- q is the number of codes, and no product of two codes is 0 where neither is
   pub record IsFieldOf (q : ℕ) : Type 0 where

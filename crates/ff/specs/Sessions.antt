@@ -1,10 +1,8 @@
 -- The setting that a session stands for, and what its steps answer.
-use Rattle.std.specs.Prelude.{◌≡◌, ℕ, List, ◌++◌, length, All, IsTrue}
-use Rattle.ff_fields.specs.Field.{CodeField, FieldOps}
+use Rattle.std.specs.Prelude.{◌≡◌, ℕ, List, ◌++◌, IsTrue}
+use Rattle.ff_fields.specs.Field.{CodeField}
 use Rattle.ff_fields.specs.Prime.{is_listed, prime_of}
-use Rattle.ff_fields.specs.Over.{IsOver}
-use Rattle.ff_poly.specs.Words.{IsPoly}
-use Rattle.ff_algebra.specs.Values.{ElemValue, PresValue}
+use Rattle.ff_algebra.specs.Values.{ElemValue, PresValue, IsPresOver}
 use Rattle.ff.specs.declared.script.Term.{Term}
 use Rattle.ff.specs.declared.script.Statement.{Statement}
 use Rattle.ff.specs.declared.session.Refusal.{Refusal as Told}
@@ -20,16 +18,11 @@ place_of Empty = Start
 place_of (WithField p) = AfterField p
 place_of (WithCurve p f) = AfterCurve p f.n
 
--- a field's own polynomials, as many as the degree in y says
-pub record IsEquation (k : FieldOps) (f : PresValue) : Type 0 where
-  pub over : All (IsOver k) f.coeffs
-  pub polys : All IsPoly f.coeffs
-  pub one_each : length f.coeffs ≡ f.n
-
+-- the field is one of those that there are, and the curve's coefficients are its codes
 abbrev pub IsSound : Setting → Type 0
 IsSound Empty = Unit {0}
 IsSound (WithField p) = IsTrue (is_listed p)
-IsSound (WithCurve p f) = IsTrue (is_listed p) × IsEquation (prime_of p) f
+IsSound (WithCurve p f) = IsTrue (is_listed p) × IsPresOver (prime_of p) f
 
 -- the text of the statement's true block, and the setting that has taken it in
 pub record IsBlock (old : Setting) (s : Statement) (text : List ℕ) (new : Setting) : Type 0 where

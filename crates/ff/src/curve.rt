@@ -1,12 +1,15 @@
 //! The equation of a curve, out of its terms.
 
-ghost use Rattle.std.specs.Prelude.{◌≡◌, ◌<◌, ◌≤◌, ◌-◌, ◌*◌, ◌+◌, ◌∷◌, [], map, All, IfOk};
+ghost use Rattle.std.specs.Prelude.{◌≡◌, ◌≤◌, ◌-◌, ◌∷◌, [], map, All, IfOk};
 ghost use Rattle.ff_fields.specs.Over.{IsOver};
 ghost use Rattle.ff_poly.specs.Words.{IsPoly, shifted};
+ghost use Rattle.ff_algebra.specs.Values.{IsPresOver};
 ghost use Rattle.ff_algebra.specs.Infinity.{IsInfinityNumber};
 ghost use Rattle.ff.specs.Answers.{equation, coefficient, sum_of_terms, code_of_term};
 ghost use Rattle.ff.specs.Form.{IsTerm};
-ghost use Rattle.ff.specs.Sessions.{IsEquation};
+
+#[cfg(test)]
+mod tests;
 
 use crate::script::{Term, TermList};
 use ff_algebra::elem::Pres;
@@ -26,8 +29,13 @@ fn power_of_x<K: SmallField>(alloc: Global, k: &K, t: &Term) -> Result<Poly, All
     shift(alloc, &Poly::from_codes(codes), t.x as usize)
 }
 
-/// The coefficient of y^i.
-fn coefficient<K: SmallField>(alloc: Global, k: &K, terms: &[Term], i: u32) -> Result<Poly, AllocError>
+/// The coefficient of y^i, the sum of the terms that have y^i: one addition of two small polynomials for each.
+fn coefficient<K: SmallField>(
+    alloc: Global,
+    k: &K,
+    terms: &[Term],
+    i: u32,
+) -> Result<Poly, AllocError>
     requires { All (IsTerm (K.field k.now).size 3) terms.now }
     ensures sum { IfOk result (λ p. p ≡ coefficient (K.field k.now).ops terms.now i) }
     ensures over { IfOk result (IsOver (K.field k.now).ops) }
@@ -42,12 +50,17 @@ fn coefficient<K: SmallField>(alloc: Global, k: &K, terms: &[Term], i: u32) -> R
     Ok(sum)
 }
 
-/// y^n and the terms.
-pub fn equation<K: SmallField>(alloc: Global, k: &K, n: u32, lower: &[Term]) -> Result<Pres, AllocError>
+/// y^n and the terms, whose exponents of y are below n. Reads the terms n times, and adds each to its coefficient once.
+pub fn equation<K: SmallField>(
+    alloc: Global,
+    k: &K,
+    n: u32,
+    lower: &[Term],
+) -> Result<Pres, AllocError>
     requires degree { (1 ≤ n) × (n ≤ 4) }
     requires terms { All (IsTerm (K.field k.now).size (n - 1)) lower.now }
     ensures equation { IfOk result (λ f. f ≡ equation (K.field k.now).ops n lower.now) }
-    ensures sound { IfOk result (IsEquation (K.field k.now).ops) }
+    ensures sound { IfOk result (IsPresOver (K.field k.now).ops) }
 {
     let mut coeffs = Vec::new(alloc);
     for i in 0..n {
@@ -56,7 +69,7 @@ pub fn equation<K: SmallField>(alloc: Global, k: &K, n: u32, lower: &[Term]) -> 
     Ok(Pres::new(n as usize, coeffs))
 }
 
-/// The polynomial of each entry, the sum of its terms.
+/// The polynomial of each entry, the sum of its terms, which have no y: one addition of two small polynomials for each term.
 pub fn polynomials<K: SmallField>(
     alloc: Global,
     k: &K,
