@@ -1,18 +1,20 @@
 //! What the statements so far have bound, and the answer to the next one.
 
-ghost use Rattle.std.specs.Prelude.{◌≡◌, ℕ, ◌++◌, IsTrue, IfOk, IfErr, OnOk, OnErr};
+ghost use Rattle.std.specs.Prelude.{◌≡◌, ℕ, [], ◌∷◌, ◌++◌, All, length, IsTrue, IfOk, IfErr, OnOk, OnErr};
 ghost use Rattle.ff_fields.specs.Prime.{is_listed};
-ghost use Rattle.ff.specs.Answers.{Empty, IsCurveOf, Numbers, Size};
-ghost use Rattle.ff.specs.Form.{IsElement, IsIn};
+ghost use Rattle.ff_algebra.specs.Values.{PresValue, IsElem, IsPresOver, function_of};
+ghost use Rattle.ff.specs.Answers.{Empty, element, IsCurveOf, Numbers, Size};
+ghost use Rattle.ff.specs.Form.{IsElement, IsIn, IsTerm};
 ghost use Rattle.ff.specs.Output.{answer_line, echo_line};
-ghost use Rattle.ff.specs.Sessions.{place_of, AddsAnswer, AddsProduct, IsBlock, IsEquation, IsRefusedAs};
+ghost use Rattle.ff.specs.Sessions.{place_of, AddsAnswer, AddsProduct, IsBlock, IsRefusedAs};
 
-use crate::curve::{equation, infinity_number};
+use crate::curve::{equation, infinity_number, polynomials};
 use crate::script::{ElemText, Statement};
-use crate::text::{push_number, push_statement};
-use ff_algebra::elem::Pres;
+use crate::text::{push_number, push_polys, push_statement};
+use ff_algebra::elem::{Elem, Pres, mul};
 use ff_fields::field::SmallField;
 use ff_fields::prime::PrimeField;
+use ff_poly::Poly;
 use std::alloc::{AllocError, Global};
 use std::marker::Model;
 
@@ -135,6 +137,20 @@ impl Session {
     }
 }
 
+/// The element as it is written, over 1.
+fn element<K: SmallField>(alloc: Global, k: &K, a: &ElemText) -> Result<Elem, AllocError>
+    requires { All (All (IsTerm (K.field k.now).size 0)) a.now }
+    ensures function { let k = K.field k.now in
+        IfOk result (λ z. (f : PresValue) → function_of k f z ≡ function_of k f (element k.ops a.now)) }
+    ensures whole { IfOk result (λ z. z.den ≡ 1 ∷ []) }
+    ensures in_range { IfOk result (IsElem (K.field k.now).ops (length a.now)) }
+{
+    let num = polynomials(alloc, k, a.entries.as_slice())?;
+    let mut one = Vec::new(alloc);
+    one.push(1)?;
+    Ok(Elem::new(k, num, Poly::from_codes(one)))
+}
+
 /// The answer line of a product.
 fn push_product<K: SmallField>(
     alloc: Global,
@@ -144,11 +160,17 @@ fn push_product<K: SmallField>(
     a: &ElemText,
     b: &ElemText,
 ) -> Result<(), AllocError>
-    requires equation { IsEquation (K.field k.now).ops f.now }
+    requires equation { IsPresOver (K.field k.now).ops f.now }
     requires a_in { IsElement (K.field k.now).size f.now.n a.now }
     requires b_in { IsElement (K.field k.now).size f.now.n b.now }
     ensures { OnOk result (AddsProduct (K.field k.now) f.now a.now b.now text.old.items text.new.items) }
 {
+    let left = element(alloc, k, a)?;
+    let right = element(alloc, k, b)?;
+    let product = mul(alloc, k, f, &left, &right)?;
+    text.extend_from_slice(b"= ")?;
+    push_polys(text, product.num())?;
+    text.extend_from_slice(b"\n")?;
     Ok(())
 }
 

@@ -1,4 +1,5 @@
 use Rattle.std.proofs.Common.{◌≡◌, [], ◌-◌, ◌+◌, suc, length, get_or, max, rules, sym, ap, ◌∙◌, arith}
+use Rattle.std.proofs.lemmas.Option.{get_or_from_slice_get}
 use Rattle.ff.proofs.Printed.{length_from_degree}
 use Rattle.ff.proofs.InfinityNumbers.{IsNumberBelow, number_of_all, number_of_more, number_of_same, length_from_no_degree}
 use Rattle.ff.proofs.curve.infinity_number.Goals as goal
@@ -8,7 +9,7 @@ use Rattle.ff.proofs.curve.infinity_number.Goals.{in-Some, in_default, Joined-de
 next : (c : Joined-degree) → IsNumberBelow c.args.f.now (c.loop-i.i + 1) c.match-degree.c
 next c =
     let at : c.coeff.result.now ≡ get_or c.args.f.now.coeffs (c.args.f.now.n - c.loop-i.i) [] =
-    c.coeff.ensures ∙ ap (λ n. get_or c.args.f.now.coeffs (n - c.loop-i.i) []) c.n.ensures.degree in
+    sym (get_or_from_slice_get c.args.f.now.coeffs (c.n.result - c.loop-i.i) c.coeff.result.now [] c.coeff.ensures) ∙ ap (λ n. get_or c.args.f.now.coeffs (n - c.loop-i.i) []) c.n.ensures.n in
     elim c.match-degree.branch [
       | in-Some w ↦
           let long : length c.coeff.result.now ≡ suc w.in-Some.d = length_from_degree c.coeff.result.now w.in-Some.d (sym c.degree.ensures ∙ w.in-Some.is) in
@@ -24,4 +25,4 @@ pub loop-i-preserved : goal.loop-i-preserved
 loop-i-preserved c = next c.before
 
 pub returns-after-degree : goal.returns-after-degree
-returns-after-degree c = number_of_all c.args.f.now c.loop-i.i c.match-degree.c (omega (arith, c.n-i-end.ensures.degree)) (next c.before)
+returns-after-degree c = number_of_all c.args.f.now c.loop-i.i c.match-degree.c (omega (arith, c.n-i-end.ensures.n)) (next c.before)
