@@ -1,4 +1,5 @@
 mod InfinityNumbers
+mod Outcomes
 mod Printed
 mod Printing
 mod Products
@@ -13,3 +14,4 @@ pub mod Numbers
 pub mod Scripts
 pub mod Sums
 pub mod Terms
+mod WordLists

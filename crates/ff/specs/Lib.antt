@@ -1,5 +1,6 @@
 pub mod Answers
 pub mod Bound
+pub mod Commands
 pub mod Form
 pub mod Output
 pub mod Printing

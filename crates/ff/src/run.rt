@@ -1,18 +1,24 @@
 //! Answers a script.
 
-ghost use Rattle.std.specs.Prelude.{◌≡◌, ◌++◌, IfOk, OnOk, OnErr};
+ghost use Rattle.std.specs.Prelude.{◌≡◌, ◌≤◌, ◌++◌, length, IfOk, OnOk, OnErr};
+ghost use Rattle.ff.specs.Commands.{Runs};
 ghost use Rattle.ff.specs.Answers.{FieldSize};
 ghost use Rattle.ff.specs.declared.script.Place.TheVariants.{Start};
 ghost use Rattle.ff.specs.Form.{AreIn};
-ghost use Rattle.ff.specs.Output.{IsOut, IsPart, echo_line, refusal_line, end_line};
+ghost use Rattle.ff.specs.Output.{IsOut, IsPart, IsOutput, IsBegun, syntax_line, echo_line, refusal_line, end_line};
 ghost use Rattle.ff.specs.Printing.{Prints, BreaksOff, EndsAs, EndsWith};
 
+use crate::parse::{ScriptFault, read_script};
 use crate::script::Statement;
 use crate::session::{Refusal, Session, push_echo};
 use crate::text::{push_end, push_number};
 use ff_io::Failed;
 use ff_io::sink::{Sink, write_all};
+use ff_io::source::{ReadEnd, Source, read_all};
 use std::alloc::{AllocError, Global};
+
+/// The most bytes that a script may have.
+const LIMIT: usize = 65_536;
 
 /// How a command ended. The number of a variant is the exit status of the program.
 #[derive(Clone, Copy, Debug, PartialEq, Eq)]
@@ -93,4 +99,45 @@ pub fn run_script<T: Sink>(alloc: Global, script: &[Statement], out: &mut T) -> 
         return Status::WantOfMemory;
     };
     close(out, text.as_slice(), Status::Done)
+}
+
+/// The line of a script's first bad line.
+fn syntax_text(alloc: Global, line: u32) -> Result<Vec<u8>, AllocError>
+    ensures { IfOk result (λ text. text.items ≡ syntax_line line) }
+{
+    let mut text = Vec::new(alloc);
+    text.extend_from_slice(b"refused Syntax ")?;
+    push_number(&mut text, line as u64)?;
+    text.extend_from_slice(b"\n")?;
+    Ok(text)
+}
+
+/// Answers a script, or says which line isn't in the form.
+fn run_bytes<T: Sink>(alloc: Global, bytes: &[u8], out: &mut T) -> Status
+    requires { length bytes.now ≤ 65536 }
+    ensures { EndsAs T.taken T.faults T.free (IsOutput bytes.now) (IsBegun bytes.now) out.old out.new result }
+{
+    match read_script(alloc, bytes) {
+        Ok(script) => run_script(alloc, script.as_slice(), out),
+        Err(ScriptFault::Syntax(line)) => {
+            let Ok(text) = syntax_text(alloc, line) else {
+                return Status::WantOfMemory;
+            };
+            close(out, text.as_slice(), Status::Refused)
+        }
+        Err(ScriptFault::Memory) => Status::WantOfMemory,
+    }
+}
+
+/// Reads a script to its end, and answers it.
+pub fn run<S: Source, T: Sink>(alloc: Global, src: &mut S, out: &mut T) -> Status
+    ensures runs { Runs S.left S.faults T.taken T.faults T.free src.old src.new out.old out.new result }
+    ensures stays_steady { S.steady src.old → (S.faults src.new ≡ S.faults src.old) × S.steady src.new × ¬ (result ≡ Status.ReadFault) }
+{
+    match read_all(alloc, src, LIMIT) {
+        Ok(bytes) => run_bytes(alloc, bytes.as_slice(), out),
+        Err(ReadEnd::TooLong) => close(out, b"refused TooLong 65536\n", Status::Refused),
+        Err(ReadEnd::Fault) => Status::ReadFault,
+        Err(ReadEnd::Memory) => Status::WantOfMemory,
+    }
 }
