@@ -22,11 +22,12 @@ abbrev pub Finds : {X Y : Type 0} → (X → Y) → Option X → Option Y → Ty
 Finds view None read = read ≡ None
 Finds view (Some x) read = read ≡ Some (view x)
 
--- the same, unless memory ran out
+-- nothing is read, or memory ran out
 abbrev pub Fails : {Y : Type 0} → Unread → Option Y → Type 0
 Fails NotInForm read = read ≡ None
 Fails Memory read = Unit {0}
 
+-- the same of a result, unless memory ran out
 abbrev pub FindsUnless : {X Y : Type 0} → (X → Y) → Result X Unread → Option Y → Type 0
 FindsUnless view (Ok x) read = read ≡ Some (view x)
 FindsUnless view (Err e) read = Fails e read
@@ -35,6 +36,7 @@ FindsUnless view (Err e) read = Fails e read
 abbrev pub with_front : {X Y : Type 0} → List X → Option (List X × Y) → Option (List X × Y)
 with_front front read = read >>= λ x. Some (front ++ x.0, x.1)
 
+-- the first, and what is read behind it
 abbrev pub with_first : {X Y : Type 0} → X → Option (List X × Y) → Option (List X × Y)
 with_first first read = read >>= λ x. Some (first ∷ x.0, x.1)
 
@@ -64,27 +66,37 @@ number_at low limit bytes = option_map_or (λ _. None) (after_text (codes "0") b
 unfoldable pub exponent_at : ℕ → List ℕ → Option (ℕ × List ℕ)
 exponent_at limit bytes = option_map_or (number_at 2 limit) (after_text (codes "^") bytes) (if nat_lt 1 limit then Some (1, bytes) else None)
 
+-- the exponent of a power of the variable
 unfoldable pub power_at : List ℕ → ℕ → List ℕ → Option (ℕ × List ℕ)
 power_at letter limit bytes = do
   rest ← after_text letter bytes
   exponent_at limit rest
 
--- the exponents of x and of y
-unfoldable pub powers_at : ℕ → List ℕ → Option ((ℕ × ℕ) × List ℕ)
-powers_at y_limit bytes = option_map_or
-    (λ x. option_map_or
+-- the exponents of x and of y, where that of x is read
+abbrev pub behind_x : ℕ → ℕ × List ℕ → Option ((ℕ × ℕ) × List ℕ)
+behind_x y_limit x = option_map_or
     (λ rest. power_at (codes "y") y_limit rest >>= λ y. Some ((x.0, y.0), y.1))
     (after_text (codes "*") x.1)
-    (Some ((x.0, 0), x.1)))
+    (Some ((x.0, 0), x.1))
+
+-- the exponents of x and of y, of which one isn't 0
+unfoldable pub powers_at : ℕ → List ℕ → Option ((ℕ × ℕ) × List ℕ)
+powers_at y_limit bytes = option_map_or
+    (behind_x y_limit)
     (power_at (codes "x") 33 bytes)
     (power_at (codes "y") y_limit bytes >>= λ y. Some ((0, y.0), y.1))
 
-unfoldable pub term_at : ℕ → ℕ → List ℕ → Option (Term × List ℕ)
-term_at p y_limit bytes = option_map_or
-    (λ c. option_map_or
+-- a term whose code is read
+abbrev pub behind_code : ℕ → ℕ × List ℕ → Option (Term × List ℕ)
+behind_code y_limit c = option_map_or
     (λ rest. powers_at y_limit rest >>= λ b. Some (record { code = Some c.0; x = b.0.0; y = b.0.1 }, b.1))
     (after_text (codes "*") c.1)
-    (Some (record { code = Some c.0; x = 0; y = 0 }, c.1)))
+    (Some (record { code = Some c.0; x = 0; y = 0 }, c.1))
+
+-- a term with a code below p, or none, and an exponent of y below the limit
+unfoldable pub term_at : ℕ → ℕ → List ℕ → Option (Term × List ℕ)
+term_at p y_limit bytes = option_map_or
+    (behind_code y_limit)
     (number_at 1 p bytes)
     (powers_at y_limit bytes >>= λ b. Some (record { code = None; x = b.0.0; y = b.0.1 }, b.1))
 
@@ -96,9 +108,11 @@ some_more_at (suc k) p y_limit bytes = option_map_or
     (after_text (codes " + ") bytes)
     (Some ([], bytes))
 
+-- terms with ` + ` before each, as many as there are
 unfoldable pub more_at : ℕ → ℕ → List ℕ → Option (List Term × List ℕ)
 more_at p y_limit bytes = some_more_at (length bytes) p y_limit bytes
 
+-- `0`, or terms in x
 unfoldable pub poly_at : ℕ → List ℕ → Option (List Term × List ℕ)
 poly_at p bytes = option_map_or
     (λ t. with_first t.0 (more_at p 1 t.1))
@@ -113,6 +127,7 @@ polys_at (suc k) p bytes = do
   a ← poly_at p rest
   with_first a.0 (polys_at k p a.1)
 
+-- n polynomials in brackets
 unfoldable pub element_at : ℕ → ℕ → List ℕ → Option (List (List Term) × List ℕ)
 element_at p n bytes = do
   start ← after_text (codes "[") bytes
@@ -121,6 +136,7 @@ element_at p n bytes = do
   rest ← after_text (codes "]") others.1
   Some (first.0 ∷ others.0, rest)
 
+-- the statements of each kind
 unfoldable pub field_at : List ℕ → Option (Statement × List ℕ)
 field_at bytes = do
   start ← after_text (codes "field ") bytes
@@ -142,6 +158,7 @@ mul_at p n bytes = do
   b ← element_at p n between
   Some (Mul a.0 b.0, b.1)
 
+-- a statement that may stand in the place
 unfoldable pub statement_at : Place → List ℕ → Option (Statement × List ℕ)
 statement_at Start bytes = field_at bytes
 statement_at (AfterField p) bytes = curve_at p bytes
