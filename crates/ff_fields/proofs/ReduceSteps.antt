@@ -23,7 +23,7 @@ carried_below : (p : ℕ) → IsTrue (is_listed p) → (codes : List ℕ) → Is
 carried_below p listed codes over zero = let above = (prime_field p listed).laws.one_below in omega (arith, above)
 carried_below p listed codes over (suc n) = digit_below p listed codes over n
 
-past_end : (xs : List ℕ) (n : ℕ) → length xs ≤ n → get_or xs n 0 ≡ 0
+pub past_end : (xs : List ℕ) (n : ℕ) → length xs ≤ n → get_or xs n 0 ≡ 0
 past_end [] n past = refl
 past_end (x ∷ xs) zero past = absurd (omega arith)
 past_end (x ∷ xs) (suc n) past = past_end xs n (omega arith)

@@ -71,12 +71,12 @@ module _ (p : ℕ) (listed : IsTrue (is_listed p)) where
       go zero = e
       go (suc n) = mul_zero K.ring c
 
-  long_some : (f : Pol K) (n : ℕ) → length f.0 ≡ suc n → ¬ (f ≡ s.𝟘)
+  pub long_some : (f : Pol K) (n : ℕ) → length f.0 ≡ suc n → ¬ (f ≡ s.𝟘)
   unfolding pol_ops
   long_some f n long e = absurd (omega (arith, long, ap (λ w. length w.0) e))
 
   -- what a polynomial that is not 0 has on top
-  length_some : (f : Pol K) → ¬ (f ≡ s.𝟘) → length f.0 ≡ suc (length f.0 - 1)
+  pub length_some : (f : Pol K) → ¬ (f ≡ s.𝟘) → length f.0 ≡ suc (length f.0 - 1)
   unfolding pol_ops
   length_some ([], t) some = absurd (some (same_pol K ([], t) s.𝟘 (λ n. refl)))
   length_some ((x ∷ xs), t) some = omega arith

@@ -166,7 +166,7 @@ module _ (p : ℕ) (listed : IsTrue (is_listed p)) (m : ℕ) (some : 0 < m) (mod
       ∙ ap₂ K.◌⊕◌ (sym (coeff_trim K (digit_codes a) n)) (sym (coeff_trim K (digit_codes b) n))
       ∙ sym (series_add K (of a) (of b) n))
 
-  pub modulus_codes : List (Code k)
+  unfoldable pub modulus_codes : List (Code k)
   modulus_codes = read k modulus
 
   product_list : ℕ → ℕ → List (Code k)
@@ -215,7 +215,7 @@ module _ (p : ℕ) (listed : IsTrue (is_listed p)) (m : ℕ) (some : 0 < m) (mod
           coeff_past K (take m (product_list a b)) n (omega (arith, length_part a b))
           ∙ sym (rest_ends K modulus_codes K.𝟙 inverts (mul_lists K.ops (digit_codes a) (digit_codes b)) n (omega (arith, length_modulus_codes)))
 
-  pub M : Pol K
+  unfoldable pub M : Pol K
   M = pol_of K modulus_codes
 
   pub quotient : ℕ → ℕ → Pol K
@@ -252,7 +252,7 @@ module _ (p : ℕ) (listed : IsTrue (is_listed p)) (m : ℕ) (some : 0 < m) (mod
           series_mul K M (quotient a b) n ∙ convolution_comm K.ring _ _ n
           ∙ ap₂ (λ f g. convolution K.ops f g n) (fun_ext (coeff_trim K _)) (fun_ext (coeff_trim K modulus_codes))
 
-  of_mul : (a b : ℕ) → IsCongruent s.ops M (of (ops.mul a b)) (s.◌⊗◌ (of a) (of b))
+  pub of_mul : (a b : ℕ) → IsCongruent s.ops M (of (ops.mul a b)) (s.◌⊗◌ (of a) (of b))
   of_mul a b = congruent_sym s.ring M _ _ (record { times = quotient a b; differs = of_product a b })
 
   pub length_M : length M.0 ≡ suc m

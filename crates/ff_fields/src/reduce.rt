@@ -1,9 +1,12 @@
 //! Products of polynomials over a prime field, reduced by a monic one as they are made.
 
 ghost use Rattle.std.specs.Prelude.{◌≡◌, ℕ, ◌+◌, ◌-◌, ◌<◌, ◌≤◌, length, slice_index, IsTrue};
-ghost use Rattle.ff_fields.specs.Modulus.{IsReduction, stepped};
+ghost use Rattle.ff_fields.specs.Modulus.{IsMonicModulus, IsReduction, stepped};
 ghost use Rattle.ff_fields.specs.Over.{IsOver};
 ghost use Rattle.ff_fields.specs.Prime.{is_listed, prime_of};
+ghost use Rattle.ff_fields.specs.Residue.{residue_mul};
+
+use crate::digits::{code_of, write_digits};
 
 /// Turns `rest` into s·rest + c·row, less the multiple of the modulus that clears the top, and answers that multiple.
 fn step(p: u32, rest: &mut [u32], c: u32, row: &[u32], modulus: &[u32]) -> u32
@@ -60,4 +63,21 @@ pub(crate) fn reduce_product(
         i -= 1;
         quotient[i] = step(p, rest, a[i], b, modulus);
     }
+}
+
+/// The product of two residues modulo the monic modulus of degree m.
+#[tactic(auto, using(crate::proofs::Sizes::size_short))]
+pub(crate) fn multiply_residues(p: u32, m: u32, modulus: &[u32], a: u32, b: u32) -> u32
+    requires { IsMonicModulus p m modulus.now }
+    ensures { result ≡ residue_mul p m modulus.now a b }
+{
+    let (mut x, mut y, mut rest, mut quotient) = ([0; 16], [0; 16], [0; 16], [0; 16]);
+    let x = &mut x[..m as usize];
+    let y = &mut y[..m as usize];
+    let rest = &mut rest[..m as usize];
+    let quotient = &mut quotient[..m as usize];
+    write_digits(p, x, a);
+    write_digits(p, y, b);
+    reduce_product(p, rest, quotient, x, y, modulus);
+    code_of(p, rest)
 }

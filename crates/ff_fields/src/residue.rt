@@ -1,11 +1,12 @@
 //! The fields of p to the m elements, as polynomials modulo a monic one.
 
 ghost use Rattle.std.specs.Prelude.{◌≡◌, ◌≢◌, ◌+◌, ◌^◌, ◌<◌, take};
+ghost use Rattle.ff_fields.specs.Field.{pow_of};
 ghost use Rattle.ff_fields.specs.Modulus.{IsFieldModulus};
 
-use crate::digits::{add_digits, code_of, neg_digits, write_digits};
+use crate::digits::{add_digits, neg_digits};
 use crate::field::SmallField;
-use crate::reduce::reduce_product;
+use crate::reduce::multiply_residues;
 
 /// The polynomials over the numbers modulo p, modulo a monic one of degree m.
 #[derive(Clone, Copy)]
@@ -17,6 +18,27 @@ pub struct ResidueField {
     modulus: [u32; 17],
     ghost is_field: { IsFieldModulus p m (take (m + 1) modulus) },
     ghost size_is: { size ≡ p ^ m },
+}
+
+impl ResidueField {
+    // A power by squaring. The trait's own `pow` can't be called by a method that the trait asks for.
+    fn power(&self, a: u32, e: u32) -> u32
+        requires { a < (⟦<ResidueField as SmallField>⟧.field self.now).size }
+        ensures { result ≡ pow_of (⟦<ResidueField as SmallField>⟧.field self.now).ops a e }
+    {
+        let modulus = &self.modulus[..self.m as usize + 1];
+        let mut power = 1;
+        let mut square = a;
+        let mut left = e;
+        while left > 0 {
+            if left % 2 == 1 {
+                power = multiply_residues(self.p, self.m, modulus, power, square);
+            }
+            square = multiply_residues(self.p, self.m, modulus, square, square);
+            left /= 2;
+        }
+        power
+    }
 }
 
 impl SmallField for ResidueField {
@@ -45,25 +67,10 @@ impl SmallField for ResidueField {
     }
 
     fn mul(&self, a: u32, b: u32) -> u32 {
-        let m = self.m as usize;
-        let mut x = [0; 16];
-        let mut y = [0; 16];
-        write_digits(self.p, &mut x[..m], a);
-        write_digits(self.p, &mut y[..m], b);
-        let mut rest = [0; 16];
-        let mut quotient = [0; 16];
-        reduce_product(
-            self.p,
-            &mut rest[..m],
-            &mut quotient[..m],
-            &x[..m],
-            &y[..m],
-            &self.modulus[..m + 1],
-        );
-        code_of(self.p, &rest[..m])
+        multiply_residues(self.p, self.m, &self.modulus[..self.m as usize + 1], a, b)
     }
 
     fn inv(&self, a: u32) -> u32 {
-        self.pow(a, (self.size - 2) as u64)
+        self.power(a, self.size - 2)
     }
 }

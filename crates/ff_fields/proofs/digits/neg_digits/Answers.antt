@@ -1,5 +1,3 @@
-use Rattle.ff_fields.proofs.ZeroProducts.{no_null}
-use Rattle.ff_fields.proofs.PolyCodes.{code_monic}
 use Rattle.std.proofs.Common.{◌+◌, ◌-◌, ◌*◌, ◌%◌, ◌^◌, ◌<◌, arith, sym, ap, ◌∙◌, add-one, mod-lt, pow-suc}
 use Rattle.ff_fields.specs.Prime.{prime_laws}
 use Rattle.ff_fields.proofs.DigitSteps.{next_low, next_kept_neg, place_fits}

@@ -1,0 +1,26 @@
+-- Sizes of fields.
+use Rattle.std.proofs.Common.{◌≡◌, ℕ, zero, suc, ◌^◌, ◌<◌, ◌≤◌, ◌⊎◌, inl, inr, ◌∷◌, length, take, replicate, refl, ap, ◌∙◌, arith, IsTrue, lit<}
+use Rattle.std.proofs.lemmas.List.{length-replicate, take-replicate}
+use Rattle.std.proofs.Math.Nat.{pow-le-pow_right, pow-le-pow_left}
+use Rattle.std.proofs.lemmas.Bool.{cases_lt}
+use Rattle.ff_fields.specs.Prime.{is_listed, prime_field}
+use Rattle.ff_fields.specs.Modulus.{IsFieldSize}
+
+pub size_short : (p m : ℕ) → IsFieldSize p m → m ≤ 16
+size_short p m size = go (cases_lt 16 m)
+  where
+    go : (16 < m) ⊎ (m ≤ 16) → m ≤ 16
+    go (inr short) = short
+    go (inl long) =
+        let above = (prime_field p size.listed).laws.one_below in
+        let base : 2 ^ m ≤ p ^ m = pow-le-pow_left above m in
+        let up : 2 ^ 17 ≤ 2 ^ m = pow-le-pow_right (lit< tt) long in
+        let small = size.small in
+        absurd (omega (arith, base, up, small))
+
+-- the first m of 16 zeros
+pub first_zeros : (m : ℕ) → m ≤ 16 → take {A = ℕ} m (replicate 16 0) ≡ replicate m 0
+first_zeros m short = take-replicate m 16 0 short
+
+pub length_zeros : (m : ℕ) → m ≤ 16 → length (take {A = ℕ} m (replicate 16 0)) ≡ m
+length_zeros m short = ap length (first_zeros m short) ∙ length-replicate m 0
