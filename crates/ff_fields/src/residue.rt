@@ -1,12 +1,45 @@
 //! The fields of p to the m elements, as polynomials modulo a monic one.
 
-ghost use Rattle.std.specs.Prelude.{◌≡◌, ◌≢◌, ◌+◌, ◌^◌, ◌<◌, take};
+ghost use Rattle.std.specs.Prelude.{◌≡◌, ◌≢◌, ◌+◌, ◌^◌, ◌<◌, ◌↔◌, length, take, IsOk, IfOk, IfErr, IfNone, IfSome};
+ghost use Rattle.std.specs.Option.{SomeIff};
 ghost use Rattle.ff_fields.specs.Field.{pow_of};
-ghost use Rattle.ff_fields.specs.Modulus.{IsFieldModulus};
+ghost use Rattle.ff_fields.specs.Modulus.{IsFieldModulus, IsFieldSize, IsFirstOutside, IsFaultOf};
+ghost use Rattle.ff_fields.specs.Over.{IsOver};
+ghost use Rattle.ff_fields.specs.Prime.{prime_of};
+ghost use Rattle.ff_fields.specs.Residue.{residue_of};
 
 use crate::digits::{add_digits, neg_digits};
+use crate::factors::zero_product;
+use crate::fault::FieldFault;
 use crate::field::SmallField;
 use crate::reduce::multiply_residues;
+
+// p to the m, where a field may have that size.
+fn field_size(p: u32, m: u32) -> Option<u32>
+    ensures { SomeIff result (IsFieldSize p m) (p ^ m) }
+{
+    match (p, m) {
+        (_, 0) => None,
+        (2 | 3 | 5 | 7 | 11 | 13, _) => match p.checked_pow(m) {
+            Some(size) if size <= 65_536 => Some(size),
+            _ => None,
+        },
+        _ => None,
+    }
+}
+
+// The first coefficient that is p or more.
+fn first_outside(p: u32, modulus: &[u32]) -> Option<u32>
+    ensures none { IfNone result (IsOver (prime_of p) modulus.now) }
+    ensures some { IfSome result (IsFirstOutside p modulus.now) }
+{
+    for c in modulus {
+        if *c >= p {
+            return Some(*c);
+        }
+    }
+    None
+}
 
 /// The polynomials over the numbers modulo p, modulo a monic one of degree m.
 #[derive(Clone, Copy)]
@@ -21,6 +54,37 @@ pub struct ResidueField {
 }
 
 impl ResidueField {
+    pub fn new(p: u32, m: u32, modulus: &[u32]) -> Result<ResidueField, FieldFault>
+        requires { length modulus.now ≡ m + 1 }
+        ensures ok { IsOk result ↔ IsFieldModulus p m modulus.now }
+        ensures made {
+            IfOk result (λ k. (⟦<ResidueField as SmallField>⟧.field k).ops ≡ residue_of p m modulus.now)
+        }
+        ensures fault { IfErr result (IsFaultOf p m modulus.now) }
+    {
+        let Some(size) = field_size(p, m) else {
+            return Err(FieldFault::FieldSize(p, m));
+        };
+        if let Some(c) = first_outside(p, modulus) {
+            return Err(FieldFault::CodeRange(c));
+        }
+        let top = modulus[m as usize];
+        if top != 1 {
+            return Err(FieldFault::NotMonic(top));
+        }
+        if let Some((a, b)) = zero_product(p, m, modulus) {
+            return Err(FieldFault::NotField(a, b));
+        }
+        let mut padded = [0; 17];
+        padded[..modulus.len()].copy_from_slice(modulus);
+        Ok(ResidueField {
+            p,
+            m,
+            size,
+            modulus: padded,
+        })
+    }
+
     // A power by squaring. The trait's own `pow` can't be called by a method that the trait asks for.
     fn power(&self, a: u32, e: u32) -> u32
         requires { a < (⟦<ResidueField as SmallField>⟧.field self.now).size }
