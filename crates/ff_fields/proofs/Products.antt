@@ -261,3 +261,24 @@ written_product p m modulus poly a b zeros x y q rest zeros_are x_is y_is long o
     (subst (λ w. IsReduction p (digits p m a) (digits p m b) w q modulus rest) zeros_are
     (subst (λ w. IsReduction p w (digits p m b) zeros q modulus rest) (x_is ∙ ap (λ n. digits p n a) room)
     (subst (λ w. IsReduction p x w zeros q modulus rest) (y_is ∙ ap (λ n. digits p n b) room) done)))
+
+-- the top digit of a monic code
+pub monic_digit : (p e d : ℕ) → IsTrue (is_listed p) → IsMonicCode p e d → get_or (digits p (suc e) d) e 0 ≡ 1
+monic_digit p e d listed monic =
+    let below = monic.below in
+    let above = (prime_field p listed).laws.one_below in
+    let two : 2 * p ^ e ≤ p * p ^ e = mul-le-mul_right (p ^ e) above in
+    let next : p ^ suc e ≡ p * p ^ e = pow-suc p e ∙ mul_comm (p ^ e) p in
+    let less : d < p ^ suc e = omega (arith, below, two, next) in
+    let top = code_monic p listed (of_code p listed (suc e) d) e (subst (λ w. IsMonicCode p e w) (sym (code_of_code p listed (suc e) d less)) monic) in
+    sym (digit_of_code p listed (suc e) d e) ∙ ap (λ x. x.0) top.1
+
+-- what the trial division wrote
+pub written_division : (p m : ℕ) (modulus : List ℕ) → IsMonicModulus p m modulus → (e d : ℕ) → 0 < e → e + e ≤ m → IsMonicCode p e d → (zeros one divisor q rest : List ℕ) → length zeros ≡ suc e → divisor ≡ digits p (length zeros) d → one ≡ unit_list (e - 1) → length q ≡ m → IsOver (prime_of p) q → length rest ≡ e → IsOver (prime_of p) rest → IsReduction p (take m modulus) one one q divisor rest → (number p rest ≡ 0 → IsFactor p m modulus d (number p q)) × (number p rest ≢ 0 → (c : ℕ) → c < p ^ m → ¬ IsFactor p m modulus d c)
+written_division p m modulus poly e d e_some half monic zeros one divisor q rest places divisor_is one_is q_long q_in rest_long rest_in done =
+    let kept : IsReduction p (take m modulus) (unit_list (e - 1)) (unit_list (e - 1)) q (digits p (suc e) d) rest =
+        subst (λ w. IsReduction p (take m modulus) w w q (digits p (suc e) d) rest) one_is
+        (subst (λ w. IsReduction p (take m modulus) one one q w rest) (divisor_is ∙ ap (λ n. digits p n d) places) done) in (
+      divides p m modulus poly e d e_some half monic (e - 1) q rest q_long q_in rest_long rest_in kept,
+      divides_not p m modulus poly e d e_some half monic (e - 1) q rest q_long q_in rest_long rest_in kept,
+    )
