@@ -6,9 +6,10 @@ ghost use Rattle.ff_fields.specs.Field.{pow_of};
 ghost use Rattle.ff_fields.specs.Modulus.{IsFieldModulus, IsFieldSize, IsFirstOutside, IsFaultOf};
 ghost use Rattle.ff_fields.specs.Over.{IsOver};
 ghost use Rattle.ff_fields.specs.Prime.{prime_of};
-ghost use Rattle.ff_fields.specs.Residue.{residue_of};
+ghost use Rattle.ff_fields.specs.Residue.{digits, residue_of};
 
-use crate::digits::{add_digits, neg_digits};
+use crate::bits::multiply_bits;
+use crate::digits::{add_digits, code_of, neg_digits};
 use crate::factors::zero_product;
 use crate::fault::FieldFault;
 use crate::field::SmallField;
@@ -49,8 +50,12 @@ pub struct ResidueField {
     size: u32,
     // The coefficients, lowest first, with zeros above the top.
     modulus: [u32; 17],
+    // The coefficients as one code, which is p to the m or more.
+    code: u32,
     ghost is_field: { IsFieldModulus p m (take (m + 1) modulus) },
     ghost size_is: { size ≡ p ^ m },
+    ghost code_is: { digits p (m + 1) code ≡ take (m + 1) modulus },
+    ghost code_in: { code < p ^ (m + 1) },
 }
 
 impl ResidueField {
@@ -82,7 +87,20 @@ impl ResidueField {
             m,
             size,
             modulus: padded,
+            code: code_of(p, modulus),
         })
+    }
+
+    // The product, where the trait's `mul` can't be called.
+    fn product(&self, a: u32, b: u32) -> u32
+        requires { b < (⟦<ResidueField as SmallField>⟧.field self.now).size }
+        ensures { result ≡ (⟦<ResidueField as SmallField>⟧.field self.now).mul a b }
+    {
+        if self.p == 2 {
+            multiply_bits(self.m, self.code, a, b)
+        } else {
+            multiply_residues(self.p, self.m, &self.modulus[..self.m as usize + 1], a, b)
+        }
     }
 
     // A power by squaring. The trait's own `pow` can't be called by a method that the trait asks for.
@@ -90,15 +108,14 @@ impl ResidueField {
         requires { a < (⟦<ResidueField as SmallField>⟧.field self.now).size }
         ensures { result ≡ pow_of (⟦<ResidueField as SmallField>⟧.field self.now).ops a e }
     {
-        let modulus = &self.modulus[..self.m as usize + 1];
         let mut power = 1;
         let mut square = a;
         let mut left = e;
         while left > 0 {
             if left % 2 == 1 {
-                power = multiply_residues(self.p, self.m, modulus, power, square);
+                power = self.product(power, square);
             }
-            square = multiply_residues(self.p, self.m, modulus, square, square);
+            square = self.product(square, square);
             left /= 2;
         }
         power
@@ -119,7 +136,7 @@ impl SmallField for ResidueField {
     }
 
     fn add(&self, a: u32, b: u32) -> u32 {
-        add_digits(self.p, self.m, a, b)
+        if self.p == 2 { a ^ b } else { add_digits(self.p, self.m, a, b) }
     }
 
     fn sub(&self, a: u32, b: u32) -> u32 {
@@ -127,11 +144,11 @@ impl SmallField for ResidueField {
     }
 
     fn neg(&self, a: u32) -> u32 {
-        neg_digits(self.p, self.m, a)
+        if self.p == 2 { a } else { neg_digits(self.p, self.m, a) }
     }
 
     fn mul(&self, a: u32, b: u32) -> u32 {
-        multiply_residues(self.p, self.m, &self.modulus[..self.m as usize + 1], a, b)
+        self.product(a, b)
     }
 
     fn inv(&self, a: u32) -> u32 {

@@ -55,13 +55,13 @@ reduce_product-requires-clause-modulus_in c =
 pub code_of-requires-clause-size : goal.code_of-requires-clause-size
 code_of-requires-clause-size c =
     let le = (short c.args.p c.args.m c.args.degree c.args.modulus.now c.requires.modulus c.requires.half).1 in
-    subst (λ n. c.args.p ^ n ≤ 65536) (sym (c.reduce_product.auto.rest ∙ length_unit c.args.degree c.requires.some le))
-    (power_small c.args.p c.args.m c.args.degree c.requires.modulus.size (omega (arith, c.requires.half)))
+    subst (λ n. c.args.p ^ n ≤ 2 ^ 20) (sym (c.reduce_product.auto.rest ∙ length_unit c.args.degree c.requires.some le))
+    (let small = power_small c.args.p c.args.m c.args.degree c.requires.modulus.size (omega (arith, c.requires.half)) in omega (arith, small))
 
 pub code_of-requires-then-code_of-eq0-clause-size : goal.code_of-requires-then-code_of-eq0-clause-size
 code_of-requires-then-code_of-eq0-clause-size c =
     let le = (short c.args.p c.args.m c.args.degree c.args.modulus.now c.requires.modulus c.requires.half).0 in
-    subst (λ n. c.args.p ^ n ≤ 65536) (sym (c.reduce_product.auto.quotient ∙ length_zeros c.args.m le)) c.requires.modulus.size.small
+    subst (λ n. c.args.p ^ n ≤ 2 ^ 20) (sym (c.reduce_product.auto.quotient ∙ length_zeros c.args.m le)) (let small = c.requires.modulus.size.small in omega (arith, small))
 
 pub returns-then-code_of-eq0-clause-some : goal.returns-then-code_of-eq0-clause-some
 returns-then-code_of-eq0-clause-some c =

@@ -38,7 +38,7 @@ reduce_product-requires-clause-b_in c =
 pub code_of-requires-clause-size : goal.code_of-requires-clause-size
 code_of-requires-clause-size c =
     let short = size_short c.args.p c.args.m c.requires.size in
-    subst (λ n. c.args.p ^ n ≤ 65536) (sym (c.reduce_product.auto.rest ∙ length_zeros c.args.m short)) c.requires.size.small
+    subst (λ n. c.args.p ^ n ≤ 2 ^ 20) (sym (c.reduce_product.auto.rest ∙ length_zeros c.args.m short)) (let small = c.requires.size.small in omega (arith, small))
 
 pub returns : goal.returns
 returns c =
