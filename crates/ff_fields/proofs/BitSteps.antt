@@ -1,9 +1,8 @@
 -- Codes in base 2: their digits are their bits, and a sum by digits is one exclusive or.
-use Rattle.std.proofs.Common.{◌≡◌, ◌≢◌, ℕ, zero, suc, ◌+◌, ◌-◌, ◌*◌, ◌/◌, ◌%◌, ◌^◌, ◌<◌, ◌≤◌, List, [], ◌∷◌, length, get_or, drop, replicate, ◌⊎◌, inl, inr, refl, sym, ap, ap₂, ◌∙◌, arith, subst, add-one, pow-suc, mul_comm, mod-lt, lit<}
+use Rattle.std.proofs.Common.{◌≡◌, ℕ, zero, suc, ◌+◌, ◌-◌, ◌*◌, ◌/◌, ◌%◌, ◌^◌, ◌<◌, ◌≤◌, List, [], ◌∷◌, length, get_or, drop, replicate, refl, sym, ap, ap₂, ◌∙◌, arith, subst, add-one, pow-suc, mul_comm, lit<}
 use Rattle.std.specs.Int.Bits.{bit_xor}
 use Rattle.std.specs.Int.{bit_at}
-use Rattle.std.proofs.Math.Nat.{div-div-eq-div-mul, div-lt_iff_lt-mul, div-one, pow-zero, add-mod-mod, mod-add-mod, mod-mod, mul-div_cancel_left, mul-mod_right, one-le-pow}
-use Rattle.std.proofs.lemmas.Bool.{cases_lt}
+use Rattle.std.proofs.Math.Nat.{div-div-eq-div-mul, div-lt_iff_lt-mul, div-one, pow-zero, mul-div_cancel_left, mul-mod_right, one-le-pow}
 use Rattle.std.proofs.lemmas.Nat.{xor_lt}
 use Rattle.std.proofs.lemmas.Nat.Bits.{bit_at_lowest, bit_at-suc, bit_at-zero, bit_at_xor, bit_at-lt, bit_at_above}
 use Rattle.std.proofs.lemmas.List.{drop_more, drop_all}

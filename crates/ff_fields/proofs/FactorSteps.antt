@@ -1,8 +1,7 @@
 -- Steps of the search for a factor of the modulus.
-use Rattle.std.proofs.Common.{◌≡◌, ℕ, zero, suc, ◌+◌, ◌-◌, ◌*◌, ◌/◌, ◌^◌, ◌<◌, ◌≤◌, List, IsTrue, ◌⊎◌, inl, inr, sym, ap, ◌∙◌, arith, subst, add-one, pow-suc, mul_comm, eq-or-lt_of_le}
-use Rattle.std.proofs.Math.Nat.{mul-le-mul_left, mul-le-mul_right, pow-le-pow_right, le_trans}
+use Rattle.std.proofs.Common.{◌≡◌, ℕ, suc, ◌+◌, ◌*◌, ◌/◌, ◌^◌, ◌<◌, ◌≤◌, List, ◌⊎◌, inl, inr, ◌∙◌, arith, subst, pow-suc, mul_comm, eq-or-lt_of_le}
+use Rattle.std.proofs.Math.Nat.{mul-le-mul_right, pow-le-pow_right}
 use Rattle.std.proofs.lemmas.Bool.{cases_lt}
-use Rattle.ff_fields.specs.Prime.{is_listed, prime_field}
 use Rattle.ff_fields.specs.Modulus.{IsMonicCode, IsFactor, NoFactorBelow}
 
 module _ (p : ℕ) (above : 1 < p) where

@@ -1,17 +1,17 @@
 -- Polynomials over a prime field by their codes: a longer one has a larger code, and of two as long as each other the
 -- one with the larger top.
-use Rattle.std.proofs.Common.{◌≡◌, ◌≢◌, ℕ, zero, suc, ◌+◌, ◌-◌, ◌*◌, ◌/◌, ◌%◌, ◌^◌, ◌<◌, ◌≤◌, Bool, true, false, cond, List, [], ◌∷◌, length, get_or, nat_eq, IsTrue, ◌⊎◌, inl, inr, refl, sym, ap, ap₂, ◌∙◌, arith, subst, mod-eq_of_lt, pow-suc, mul_comm, eqb-true, pos_of_ne-zero}
-use Rattle.std.proofs.Math.Nat.{mul-le-mul_left, mul-le-mul_right, mul-le-mul, pow-le-pow_right, pow-zero, add-mul-mod_self_left, add-mul-div_left, div-eq_of_lt, le_trans}
-use Rattle.std.proofs.lemmas.Bool.{cases_lt, cases_eq}
+use Rattle.std.proofs.Common.{◌≡◌, ◌≢◌, ℕ, zero, suc, ◌+◌, ◌-◌, ◌*◌, ◌^◌, ◌<◌, ◌≤◌, Bool, true, false, cond, List, [], ◌∷◌, length, get_or, IsTrue, ◌⊎◌, inl, inr, refl, sym, ap, ◌∙◌, arith, subst, mod-eq_of_lt, pow-suc, mul_comm, eqb-true, pos_of_ne-zero}
+use Rattle.std.proofs.Math.Nat.{mul-le-mul_left, mul-le-mul_right, pow-le-pow_right, pow-zero, add-mul-mod_self_left, add-mul-div_left, div-eq_of_lt, le_trans}
+use Rattle.std.proofs.lemmas.Bool.{cases_lt}
 use Rattle.std.proofs.lemmas.List.{length-map}
 use Rattle.ff_ring.specs.Ring.{TestedRing}
 use Rattle.ff_ring.specs.Lists.{coeff_of, trim_onto, trim}
 use Rattle.ff_ring.proofs.Lists.{coeff_trim}
-use Rattle.ff_ring.proofs.Polynomials.{Pol, pol_of, pol_ring, pol_ops, same_pol, coeff_top, length_from_top}
+use Rattle.ff_ring.proofs.Polynomials.{Pol, pol_ring, pol_ops, same_pol, coeff_top}
 use Rattle.ff_fields.specs.Field.{CodeField}
 use Rattle.ff_fields.specs.Prime.{is_listed, prime_of, prime_field}
 use Rattle.ff_fields.specs.Code.{Code, code_ring, same_code, is_zero_code}
-use Rattle.ff_fields.specs.Over.{IsOver, IsOver_nil, IsOver_head, IsOver_tail, IsOver_trim}
+use Rattle.ff_fields.specs.Over.{IsOver, IsOver_head, IsOver_tail}
 use Rattle.ff_fields.specs.Numbers.{read, numbers, numbers_read, numbers_trim, numbers_get_or, IsOver_numbers}
 use Rattle.ff_fields.specs.Residue.{digits, number, number_digits, IsOver_digits}
 use Rattle.ff_fields.specs.Modulus.{IsMonicCode, polynomial}

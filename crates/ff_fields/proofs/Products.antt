@@ -1,28 +1,24 @@
 -- What a reduction says of residues, and what factors of the modulus say of products that are 0.
-use Rattle.std.proofs.Common.{◌≡◌, ◌≢◌, ℕ, zero, suc, ◌+◌, ◌-◌, ◌*◌, ◌/◌, ◌^◌, ◌<◌, ◌≤◌, List, [], ◌∷◌, ◌++◌, length, get_or, take, replicate, IsTrue, true, ◌⊎◌, inl, inr, refl, sym, ap, ap₂, ◌∙◌, arith, subst, pow-suc, mul_comm}
-use Rattle.std.proofs.Math.Nat.{mul-le-mul_left, mul-le-mul_right, pow-le-pow_right, pow-zero}
-use Rattle.std.proofs.lemmas.Bool.{cases_lt, cases_eq}
+use Rattle.std.proofs.Common.{◌≡◌, ◌≢◌, ℕ, suc, ◌+◌, ◌-◌, ◌*◌, ◌^◌, ◌<◌, ◌≤◌, List, length, get_or, take, replicate, IsTrue, true, ◌⊎◌, inl, inr, refl, sym, ap, ap₂, ◌∙◌, arith, subst, pow-suc, mul_comm}
+use Rattle.std.proofs.Math.Nat.{mul-le-mul_right, pow-le-pow_right}
+use Rattle.std.proofs.lemmas.Bool.{cases_lt}
 use Rattle.std.proofs.lemmas.List.{length-replicate}
-use mathlib.Core.Path.{fun_ext}
-use Rattle.ff_ring.specs.Ring.{CommRing, TestedRing}
-use Rattle.ff_ring.specs.Lists.{coeff_of, convolution, mul_lists, mul_onto, scale_list}
+use Rattle.ff_ring.specs.Ring.{TestedRing}
+use Rattle.ff_ring.specs.Lists.{coeff_of}
 use Rattle.ff_ring.specs.Congruence.{IsCongruent}
-use Rattle.ff_ring.proofs.Ring.{zero_add, one_mul, mul_zero, zero_mul, domain_cancel}
+use Rattle.ff_ring.proofs.Ring.{zero_add, one_mul, mul_zero, domain_cancel}
 use Rattle.ff_ring.proofs.Congruence.{congruent_sym, congruent_trans, congruent_same}
-use Rattle.ff_ring.proofs.Sequences.{convolution_comm, convolution_top}
-use Rattle.ff_ring.proofs.Lists.{coeff_trim, coeff_add, coeff_scale, coeff_mul, coeff_mul_onto}
-use Rattle.ff_ring.proofs.Polynomials.{Pol, pol_of, pol_ring, pol_ops, pol_domain, same_pol, series_add, series_mul, coeff_past, length_from_top, length_product}
-use Rattle.ff_ring.proofs.Division.{IsDivision, one_way, length_bound}
+use Rattle.ff_ring.proofs.Sequences.{convolution_top}
+use Rattle.ff_ring.proofs.Polynomials.{Pol, pol_ring, pol_ops, pol_domain, series_mul, coeff_past, length_product}
+use Rattle.ff_ring.proofs.Division.{IsDivision, one_way}
 use Rattle.ff_fields.specs.Field.{CodeField}
 use Rattle.ff_fields.specs.Prime.{is_listed, prime_of, prime_field}
-use Rattle.ff_fields.specs.Code.{Code, code_ring, code_domain, same_code, read_code_below}
-use Rattle.ff_fields.specs.Over.{IsOver, IsOver_tail}
-use Rattle.ff_fields.specs.Numbers.{read, numbers}
-use Rattle.ff_fields.specs.Residue.{digits, number, residue_mul, M, modulus_codes, quotient, of_product, of_mul, of_null, same_class, number_below, product_below, zero_below, length_digits, length_of, length_M, IsOver_digits}
+use Rattle.ff_fields.specs.Code.{Code, code_ring, code_domain, same_code}
+use Rattle.ff_fields.specs.Over.{IsOver}
+use Rattle.ff_fields.specs.Residue.{digits, number, residue_mul, M, modulus_codes, quotient, of_product, of_null, same_class, number_below, product_below, zero_below, length_of, length_M}
 use Rattle.ff_fields.specs.Modulus.{IsMonicModulus, IsMonicCode, IsFactor, IsReduction, IsZeroProduct, IsLeastZeroProduct, NoZeroProduct, NoFactorBelow, polynomial}
-use Rattle.ff_fields.proofs.ReduceSteps.{read_at, past_end}
-use Rattle.ff_fields.proofs.PolyCodes.{code, of_code, of_code_code, code_of_code, digit_of_code, digit_of_number, monic_code, code_monic, code_below, code_null, base_pos}
-use Rattle.ff_fields.proofs.ZeroProducts.{NoDivisor, no_null, least_multiple, long_some, length_some}
+use Rattle.ff_fields.proofs.PolyCodes.{code, of_code, of_code_code, code_of_code, digit_of_code, monic_code, code_monic, code_below, code_null, base_pos}
+use Rattle.ff_fields.proofs.ZeroProducts.{NoDivisor, no_null, least_multiple, long_some}
 use mathlib.Core.Bool.{Bool-set}
 use Rattle.ff_fields.proofs.Reductions.{coeff_polynomial, length_polynomial, of_number, of_code_same, reduced_product, unit_list, reduced_quotient}
 
@@ -205,8 +201,8 @@ module _ (p m : ℕ) (modulus : List ℕ) (poly : IsMonicModulus p m modulus) wh
         least_b y z =
             let multiple = null_multiple d y z.null in
             let y_is : of y ≡ s.◌⊗◌ (of c) multiple.0 =
-                domain_cancel s.ring (pol_domain K (code_domain k)) (of d) (of y) (s.◌⊗◌ (of c) multiple.0) d_some
-                (multiple.1 ∙ ap (λ w. s.◌⊗◌ w multiple.0) (sym whole) ∙ s.mul_assoc (of d) (of c) multiple.0) in
+            domain_cancel s.ring (pol_domain K (code_domain k)) (of d) (of y) (s.◌⊗◌ (of c) multiple.0) d_some
+            (multiple.1 ∙ ap (λ w. s.◌⊗◌ w multiple.0) (sym whole) ∙ s.mul_assoc (of d) (of c) multiple.0) in
             let t_some : ¬ (multiple.0 ≡ s.𝟘) = λ e'. some_of y z.b_in z.b_some (y_is ∙ ap (s.◌⊗◌ (of c)) e' ∙ mul_zero s.ring (of c)) in
             let least = least_multiple p listed (of c) multiple.0 (m - e) c_long c_top t_some in
             omega (arith, least, code_of c c_in, ap (code p listed) y_is, code_of y z.b_in)
@@ -241,7 +237,7 @@ module _ (p m : ℕ) (modulus : List ℕ) (poly : IsMonicModulus p m modulus) wh
         let here : IsDivision K F (of d) (of (number p q)) (polynomial p listed rest) = record { whole = tried; shorter = omega (arith, rest_short, divisor_long) } in
         let there : IsDivision K F (of d) (of c) s.𝟘 = record { whole = sym (factor.product listed) ∙ sym (s.add_zero _); shorter = null_short } in
         let nothing : of (number p rest) ≡ s.𝟘 =
-            of_number p listed m rest (omega (arith, rest_long, half)) rest_in ∙ (one_way K (code_domain k) F (of d) (of (number p q)) (of c) (polynomial p listed rest) s.𝟘 here there).1 in
+        of_number p listed m rest (omega (arith, rest_long, half)) rest_in ∙ (one_way K (code_domain k) F (of d) (of (number p q)) (of c) (polynomial p listed rest) s.𝟘 here there).1 in
         some (sym (code_of (number p rest) rest_below) ∙ ap (code p listed) nothing ∙ code_null p listed)
       where
         null_short : length s.𝟘.0 < length (of d).0
@@ -277,8 +273,8 @@ monic_digit p e d listed monic =
 pub written_division : (p m : ℕ) (modulus : List ℕ) → IsMonicModulus p m modulus → (e d : ℕ) → 0 < e → e + e ≤ m → IsMonicCode p e d → (zeros one divisor q rest : List ℕ) → length zeros ≡ suc e → divisor ≡ digits p (length zeros) d → one ≡ unit_list (e - 1) → length q ≡ m → IsOver (prime_of p) q → length rest ≡ e → IsOver (prime_of p) rest → IsReduction p (take m modulus) one one q divisor rest → (number p rest ≡ 0 → IsFactor p m modulus d (number p q)) × (number p rest ≢ 0 → (c : ℕ) → c < p ^ m → ¬ IsFactor p m modulus d c)
 written_division p m modulus poly e d e_some half monic zeros one divisor q rest places divisor_is one_is q_long q_in rest_long rest_in done =
     let kept : IsReduction p (take m modulus) (unit_list (e - 1)) (unit_list (e - 1)) q (digits p (suc e) d) rest =
-        subst (λ w. IsReduction p (take m modulus) w w q (digits p (suc e) d) rest) one_is
-        (subst (λ w. IsReduction p (take m modulus) one one q w rest) (divisor_is ∙ ap (λ n. digits p n d) places) done) in (
+    subst (λ w. IsReduction p (take m modulus) w w q (digits p (suc e) d) rest) one_is
+    (subst (λ w. IsReduction p (take m modulus) one one q w rest) (divisor_is ∙ ap (λ n. digits p n d) places) done) in (
       divides p m modulus poly e d e_some half monic (e - 1) q rest q_long q_in rest_long rest_in kept,
       divides_not p m modulus poly e d e_some half monic (e - 1) q rest q_long q_in rest_long rest_in kept,
     )

@@ -1,18 +1,18 @@
 -- Steps of the loop that reduces a product.
-use Rattle.std.proofs.Common.{◌≡◌, ◌≢◌, ℕ, zero, suc, ◌+◌, ◌-◌, ◌*◌, ◌%◌, ◌<◌, ◌≤◌, List, [], ◌∷◌, length, get_or, set, drop, IsTrue, ◌⊎◌, inl, inr, refl, sym, ap, ap₂, ◌∙◌, arith, mod-lt, mod-eq_of_lt, add-one, subst}
+use Rattle.std.proofs.Common.{◌≡◌, ℕ, zero, suc, ◌+◌, ◌-◌, ◌*◌, ◌%◌, ◌<◌, ◌≤◌, List, [], ◌∷◌, length, get_or, IsTrue, ◌⊎◌, inl, inr, refl, sym, ap, ap₂, ◌∙◌, arith, mod-lt, subst}
 use Rattle.std.proofs.Math.Nat.{mod-add-mod, add-mod-mod, add-mul-mod_self_left}
 use Rattle.std.proofs.lemmas.Bool.{cases_lt}
-use Rattle.std.proofs.lemmas.List.{drop_more, drop-set, drop_all, get_or_default}
+use Rattle.std.proofs.lemmas.List.{get_or_default}
 use Rattle.ff_ring.specs.Ring.{CommRing, TestedRing}
 use Rattle.ff_ring.specs.Lists.{coeff_of, convolution, scale_list, mul_onto}
-use Rattle.ff_ring.proofs.Ring.{zero_add, ring_rules}
+use Rattle.ff_ring.proofs.Ring.{zero_add}
 use Rattle.ff_ring.proofs.Lists.{coeff_add, coeff_scale}
 use Rattle.ff_ring.proofs.Sequences.{convolution_null_left}
 use Rattle.ff_fields.specs.Field.{CodeField}
 use Rattle.ff_fields.specs.Prime.{is_listed, prime_of, prime_field}
 use Rattle.ff_fields.specs.Code.{Code, code_ring, same_code, read_code, read_code_below}
-use Rattle.ff_fields.specs.Over.{IsOver, IsOver_nil, IsOver_cons, IsOver_drop, get_or_below}
-use Rattle.ff_fields.specs.Numbers.{read, numbers, numbers_read, numbers_get_or}
+use Rattle.ff_fields.specs.Over.{IsOver, get_or_below}
+use Rattle.ff_fields.specs.Numbers.{read, numbers_read, numbers_get_or}
 use Rattle.ff_fields.specs.Modulus.{IsReduction, stepped}
 
 -- each place of a list over the prime field is below p, also past its end

@@ -1,27 +1,22 @@
 -- Reductions as equations of polynomials.
-use Rattle.std.proofs.Common.{◌≡◌, ◌≢◌, ℕ, zero, suc, ◌+◌, ◌-◌, ◌*◌, ◌/◌, ◌^◌, ◌<◌, ◌≤◌, List, [], ◌∷◌, ◌++◌, length, get_or, take, replicate, IsTrue, ◌⊎◌, inl, inr, refl, sym, ap, ap₂, ◌∙◌, arith, subst, pow-suc, mul_comm}
-use Rattle.std.proofs.Math.Nat.{mul-le-mul_left, mul-le-mul_right, pow-le-pow_right, pow-zero}
-use Rattle.std.proofs.lemmas.Bool.{cases_lt, cases_eq}
-use Rattle.std.proofs.lemmas.List.{length-take-le, get_or-take}
+use Rattle.std.proofs.Common.{◌≡◌, ℕ, zero, suc, ◌^◌, ◌<◌, ◌≤◌, List, [], ◌∷◌, ◌++◌, length, get_or, take, replicate, IsTrue, refl, sym, ap, ap₂, ◌∙◌, arith}
 use mathlib.Core.Path.{fun_ext}
-use Rattle.ff_ring.specs.Ring.{CommRing, TestedRing}
-use Rattle.ff_ring.specs.Lists.{coeff_of, convolution, mul_lists, mul_onto, scale_list}
-use Rattle.ff_ring.specs.Congruence.{IsCongruent}
-use Rattle.ff_ring.proofs.Ring.{zero_add, one_mul, mul_zero, zero_mul, domain_cancel}
-use Rattle.ff_ring.proofs.Congruence.{congruent_sym, congruent_trans, congruent_same}
-use Rattle.ff_ring.proofs.Sequences.{convolution_comm, convolution_top}
+use Rattle.ff_ring.specs.Ring.{TestedRing}
+use Rattle.ff_ring.specs.Lists.{coeff_of, convolution, mul_onto, scale_list}
+use Rattle.ff_ring.proofs.Ring.{zero_add, mul_zero}
+use Rattle.ff_ring.proofs.Sequences.{convolution_comm}
 use Rattle.ff_ring.proofs.Lists.{coeff_trim, coeff_add, coeff_scale, coeff_mul, coeff_mul_onto}
-use Rattle.ff_ring.proofs.Polynomials.{Pol, pol_of, pol_ring, pol_ops, pol_domain, same_pol, series_add, series_mul, coeff_past, length_from_top, length_product}
-use Rattle.ff_ring.proofs.Division.{IsDivision, one_way, length_bound}
+use Rattle.ff_ring.proofs.Polynomials.{Pol, pol_ring, same_pol, series_add, series_mul}
+use Rattle.ff_ring.proofs.Division.{length_bound}
 use Rattle.ff_fields.specs.Field.{CodeField}
 use Rattle.ff_fields.specs.Prime.{is_listed, prime_of, prime_field}
-use Rattle.ff_fields.specs.Code.{Code, code_ring, code_domain, same_code, read_code_below}
+use Rattle.ff_fields.specs.Code.{Code, code_ring, same_code, read_code_below}
 use Rattle.ff_fields.specs.Over.{IsOver, IsOver_tail}
-use Rattle.ff_fields.specs.Numbers.{read, numbers}
-use Rattle.ff_fields.specs.Residue.{digits, number, residue_mul, M, modulus_codes, quotient, of_product, of_mul, of_null, same_class, number_below, product_below, zero_below, length_digits, length_of, length_M, IsOver_digits}
-use Rattle.ff_fields.specs.Modulus.{IsMonicModulus, IsMonicCode, IsFactor, IsReduction, IsZeroProduct, IsLeastZeroProduct, NoZeroProduct, NoFactorBelow, polynomial}
+use Rattle.ff_fields.specs.Numbers.{read}
+use Rattle.ff_fields.specs.Residue.{digits, number, length_digits, IsOver_digits}
+use Rattle.ff_fields.specs.Modulus.{IsReduction, polynomial}
 use Rattle.ff_fields.proofs.ReduceSteps.{read_at, past_end}
-use Rattle.ff_fields.proofs.PolyCodes.{code, of_code, of_code_code, code_of_code, digit_of_code, digit_of_number, monic_code, code_monic, code_below, code_null, base_pos}
+use Rattle.ff_fields.proofs.PolyCodes.{of_code, of_code_code, code_of_code, digit_of_code, digit_of_number, base_pos}
 
 -- the list [1, 0, .., 0], which stands for one
 abbrev pub unit_list : ℕ → List ℕ

@@ -1,9 +1,9 @@
 -- Sizes of fields.
-use Rattle.std.proofs.Common.{◌≡◌, ℕ, zero, suc, ◌-◌, ◌^◌, ◌<◌, ◌≤◌, ◌⊎◌, inl, inr, ◌∷◌, length, take, replicate, refl, ap, ◌∙◌, arith, IsTrue, lit<}
+use Rattle.std.proofs.Common.{◌≡◌, ℕ, zero, suc, ◌-◌, ◌^◌, ◌<◌, ◌≤◌, ◌⊎◌, inl, inr, ◌∷◌, length, take, replicate, ap, ◌∙◌, arith, lit<}
 use Rattle.std.proofs.lemmas.List.{length-replicate, take-replicate}
 use Rattle.std.proofs.Math.Nat.{pow-le-pow_right, pow-le-pow_left}
 use Rattle.std.proofs.lemmas.Bool.{cases_lt}
-use Rattle.ff_fields.specs.Prime.{is_listed, prime_field}
+use Rattle.ff_fields.specs.Prime.{prime_field}
 use Rattle.ff_fields.specs.Modulus.{IsFieldSize}
 
 pub size_short : (p m : ℕ) → IsFieldSize p m → m ≤ 16

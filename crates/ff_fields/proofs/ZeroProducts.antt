@@ -1,19 +1,19 @@
 -- The least two codes whose product is 0: the first monic divisor of the modulus, in the order of codes and of at most
 -- half its degree, and its cofactor.
-use Rattle.std.proofs.Common.{◌≡◌, ◌≢◌, ℕ, zero, suc, ◌+◌, ◌-◌, ◌*◌, ◌^◌, ◌<◌, ◌≤◌, Bool, true, false, List, [], ◌∷◌, length, get_or, IsTrue, ◌⊎◌, inl, inr, refl, sym, ap, ap₂, ◌∙◌, arith, subst, add-one}
+use Rattle.std.proofs.Common.{◌≡◌, ℕ, zero, suc, ◌+◌, ◌-◌, ◌<◌, ◌≤◌, [], ◌∷◌, length, IsTrue, ◌⊎◌, inl, inr, refl, sym, ap, ap₂, ◌∙◌, arith, subst}
 use Rattle.std.proofs.lemmas.Bool.{cases_lt, cases_eq}
 use mathlib.Core.Path.{fun_ext}
 use Rattle.ff_ring.specs.Ring.{CommRing, TestedRing, IsDomain}
 use Rattle.ff_ring.specs.Lists.{coeff_of, convolution, rest_from, quotient_from}
-use Rattle.ff_ring.proofs.Ring.{zero_add, one_mul, mul_zero, domain_cancel, product_not_zero, mul_neg, add_mul, mul_left_comm, ring_rules}
-use Rattle.ff_ring.proofs.Sequences.{convolution_comm, convolution_constant_left, convolution_top}
+use Rattle.ff_ring.proofs.Ring.{one_mul, mul_zero, mul_neg, add_mul, mul_left_comm}
+use Rattle.ff_ring.proofs.Sequences.{convolution_comm, convolution_constant_left}
 use Rattle.ff_ring.proofs.Lists.{coeff_trim}
 use Rattle.ff_ring.proofs.Polynomials.{Pol, pol_of, pol_ring, pol_ops, pol_domain, same_pol, series_add, series_mul, coeff_past, length_from_top, length_product}
 use Rattle.ff_ring.proofs.Division.{divided, rest_ends, length_bound, short_multiple}
 use Rattle.ff_fields.specs.Field.{CodeField}
-use Rattle.ff_fields.specs.Prime.{is_listed, prime_of, prime_field}
+use Rattle.ff_fields.specs.Prime.{is_listed, prime_field}
 use Rattle.ff_fields.specs.Code.{Code, code_ring, code_field, code_domain, same_code}
-use Rattle.ff_fields.proofs.PolyCodes.{code, digit_at, code_from_top, code_to_top, code_longer, code_higher, code_least, code_below, top_some, top_pos, base_pos}
+use Rattle.ff_fields.proofs.PolyCodes.{code, digit_at, code_longer, code_higher, top_some, top_pos}
 
 -- where f · g and M · t are one, and M is f · q and r, r · g is a multiple of M
 module _ {A : Type 0} (R : CommRing A) where

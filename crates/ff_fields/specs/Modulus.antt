@@ -1,5 +1,5 @@
 -- What a modulus must be, and what stands in the way of a field.
-use Rattle.std.specs.Prelude.{◌≡◌, ◌≢◌, ℕ, zero, suc, ◌+◌, ◌*◌, ◌%◌, ◌^◌, ◌<◌, ◌≤◌, List, [], ◌∷◌, length, get_or, IsTrue}
+use Rattle.std.specs.Prelude.{◌≡◌, ◌≢◌, ℕ, suc, ◌+◌, ◌*◌, ◌%◌, ◌^◌, ◌<◌, ◌≤◌, List, ◌∷◌, length, get_or, IsTrue}
 use Rattle.ff_ring.specs.Lists.{coeff_of, convolution, mul_onto}
 use Rattle.ff_ring.proofs.Polynomials.{Pol, pol_of, pol_ring}
 use Rattle.ff_fields.specs.declared.fault.FieldFault.{FieldFault}

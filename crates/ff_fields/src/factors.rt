@@ -26,7 +26,11 @@ fn cofactor(p: u32, m: u32, modulus: &[u32], degree: u32, d: u32) -> Option<u32>
     let mut quotient = [0; 16];
     let quotient = &mut quotient[..m as usize];
     reduce_product(p, rest, quotient, &modulus[..m as usize], one, divisor);
-    if code_of(p, rest) == 0 { Some(code_of(p, quotient)) } else { None }
+    if code_of(p, rest) == 0 {
+        Some(code_of(p, quotient))
+    } else {
+        None
+    }
 }
 
 /// The least two residues whose product is 0, where the first has this degree and none of a lower degree has such another.

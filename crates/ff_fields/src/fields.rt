@@ -4,10 +4,12 @@ use crate::field::SmallField;
 use crate::prime::PrimeField;
 use crate::residue::ResidueField;
 
-/// A field of at most 65,536 elements.
+/// A field of either kind. Each call is that of the field it holds, at the same cost.
 #[derive(Clone, Copy)]
 pub enum Field {
+    /// The numbers modulo a prime.
     Prime(PrimeField),
+    /// Polynomials modulo a monic one.
     Residue(ResidueField),
 }
 

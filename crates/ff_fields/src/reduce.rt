@@ -19,10 +19,8 @@ fn step(p: u32, rest: &mut [u32], c: u32, row: &[u32], modulus: &[u32]) -> u32
     requires row_in { IsOver (prime_of p) row.now }
     requires modulus_in { IsOver (prime_of p) modulus.now }
     ensures top { result ≡ slice_index rest.old (length rest.old - 1) }
-    ensures each {
-        (n : ℕ) → n < length rest.old
-        → slice_index rest.new n ≡ stepped p rest.old c row.now (p - result) modulus.now n
-    }
+    ensures each { (n : ℕ) → n < length rest.old
+        → slice_index rest.new n ≡ stepped p rest.old c row.now (p - result) modulus.now n }
 {
     let top = rest[rest.len() - 1];
     let lost = p - top;

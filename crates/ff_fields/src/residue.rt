@@ -42,7 +42,8 @@ fn first_outside(p: u32, modulus: &[u32]) -> Option<u32>
     None
 }
 
-/// The polynomials over the numbers modulo p, modulo a monic one of degree m.
+/// The polynomials over the numbers modulo p, modulo a monic one of degree m that makes them a field of at most 65,536
+/// elements.
 #[derive(Clone, Copy)]
 pub struct ResidueField {
     p: u32,
@@ -59,12 +60,17 @@ pub struct ResidueField {
 }
 
 impl ResidueField {
+    /// The field of p to the m elements by this modulus, whose m + 1 coefficients stand lowest first.
+    ///
+    /// `FieldSize(p, m)` where p isn't listed, m is 0 or p to the m is above 65,536; else `CodeRange(c)` at the first
+    /// coefficient c that is p or more; else `NotMonic(c)` where the top coefficient c isn't 1; else `NotField(a, b)` where
+    /// a·b = 0 for codes that aren't 0, at the least such a and then the least b. That a is the first monic divisor of the
+    /// modulus, of at most half its degree, in the order of codes, and b is its cofactor, so at most 510 trial divisions find
+    /// them.
     pub fn new(p: u32, m: u32, modulus: &[u32]) -> Result<ResidueField, FieldFault>
         requires { length modulus.now ≡ m + 1 }
         ensures ok { IsOk result ↔ IsFieldModulus p m modulus.now }
-        ensures made {
-            IfOk result (λ k. (⟦<ResidueField as SmallField>⟧.field k).ops ≡ residue_of p m modulus.now)
-        }
+        ensures made { IfOk result (λ k. (⟦<ResidueField as SmallField>⟧.field k).ops ≡ residue_of p m modulus.now) }
         ensures fault { IfErr result (IsFaultOf p m modulus.now) }
     {
         let Some(size) = field_size(p, m) else {
@@ -136,7 +142,11 @@ impl SmallField for ResidueField {
     }
 
     fn add(&self, a: u32, b: u32) -> u32 {
-        if self.p == 2 { a ^ b } else { add_digits(self.p, self.m, a, b) }
+        if self.p == 2 {
+            a ^ b
+        } else {
+            add_digits(self.p, self.m, a, b)
+        }
     }
 
     fn sub(&self, a: u32, b: u32) -> u32 {
@@ -144,7 +154,11 @@ impl SmallField for ResidueField {
     }
 
     fn neg(&self, a: u32) -> u32 {
-        if self.p == 2 { a } else { neg_digits(self.p, self.m, a) }
+        if self.p == 2 {
+            a
+        } else {
+            neg_digits(self.p, self.m, a)
+        }
     }
 
     fn mul(&self, a: u32, b: u32) -> u32 {

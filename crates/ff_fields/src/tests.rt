@@ -1,23 +1,34 @@
 //! Worked values.
 
-use std::test::Fail;
-
 use crate::fault::FieldFault;
 use crate::field::SmallField;
 use crate::fields::Field;
 use crate::prime::PrimeField;
 use crate::residue::ResidueField;
+use std::test::Fail;
 
 fn product<K: SmallField>(k: &K, a: u32, b: u32) -> Option<u32> {
-    if a < k.size() && b < k.size() { Some(k.mul(a, b)) } else { None }
+    if a < k.size() && b < k.size() {
+        Some(k.mul(a, b))
+    } else {
+        None
+    }
 }
 
 fn inverse<K: SmallField>(k: &K, a: u32) -> Option<u32> {
-    if a < k.size() && a != 0 { Some(k.inv(a)) } else { None }
+    if a < k.size() && a != 0 {
+        Some(k.inv(a))
+    } else {
+        None
+    }
 }
 
 fn difference<K: SmallField>(k: &K, a: u32, b: u32) -> Option<u32> {
-    if a < k.size() && b < k.size() { Some(k.sub(a, b)) } else { None }
+    if a < k.size() && b < k.size() {
+        Some(k.sub(a, b))
+    } else {
+        None
+    }
 }
 
 #[test]
@@ -77,7 +88,7 @@ fn faults(rt: HostRuntime) {
     assert_eq!(rt; fault, Some(FieldFault::CodeRange(3)));
     let fault = ResidueField::new(5, 0, &[1]).err();
     assert_eq!(rt; fault, Some(FieldFault::FieldSize(5, 0)));
-    // (s + 1)(s + 2), and a factor of degree 2 after four of degree 1 that are none.
+    // (s + 1)(s + 2), and the square of s² + s + 1, which nothing of degree 1 divides.
     let fault = ResidueField::new(3, 2, &[2, 0, 1]).err();
     assert_eq!(rt; fault, Some(FieldFault::NotField(4, 5)));
     let fault = ResidueField::new(2, 4, &[1, 0, 1, 0, 1]).err();

@@ -1,4 +1,4 @@
-use Rattle.std.proofs.Common.{◌≡◌, ◌-◌, ◌≤◌, suc, refl, arith}
+use Rattle.std.proofs.Common.{◌≡◌, ◌-◌, suc, refl, arith}
 use Rattle.ff_fields.proofs.BitSteps.{part_none, part_more, part_whole}
 use Rattle.ff_fields.proofs.bits.multiply_bits.Goals as goal
 

@@ -1,4 +1,4 @@
-use Rattle.std.proofs.Common.{◌+◌, ◌-◌, ◌*◌, ◌%◌, ◌^◌, ◌<◌, arith, sym, ap, ◌∙◌, add-one, mod-lt, pow-suc}
+use Rattle.std.proofs.Common.{◌-◌, ◌*◌, ◌%◌, ◌^◌, ◌<◌, arith, sym, ap, ◌∙◌, add-one, mod-lt, pow-suc}
 use Rattle.ff_fields.specs.Prime.{prime_laws}
 use Rattle.ff_fields.proofs.DigitSteps.{next_low, next_kept_neg, place_fits}
 use Rattle.ff_fields.proofs.digits.neg_digits.Goals as goal

@@ -1,4 +1,4 @@
-use Rattle.std.proofs.Common.{◌≡◌, ◌≢◌, ℕ, ◌+◌, ◌-◌, ◌^◌, ◌<◌, ◌≤◌, List, length, get_or, take, suc, add-one, sym, ap, ◌∙◌, arith, subst}
+use Rattle.std.proofs.Common.{ℕ, ◌+◌, ◌^◌, ◌<◌, ◌≤◌, List, get_or, add-one, sym, ap, ◌∙◌, arith, subst}
 use Rattle.std.proofs.lemmas.List.{length-take-le}
 use Rattle.ff_fields.specs.Over.{IsOver}
 use Rattle.ff_fields.specs.Prime.{prime_of}
@@ -69,19 +69,21 @@ returns-then-code_of-eq0-clause-some c =
     let le = short p c.args.m c.args.degree c.args.modulus.now c.requires.modulus c.requires.half in
     let q_long = c.reduce_product.auto.quotient ∙ length_zeros c.args.m le.0 in
     let trial = written_division p c.args.m c.args.modulus.now c.requires.modulus c.args.degree c.args.d c.requires.some c.requires.half c.requires.monic _ _ c.write_digits.new.out c.reduce_product.new.quotient c.reduce_product.new.rest
-        (length_places (c.args.degree + 1) le.2 ∙ add-one c.args.degree) c.write_digits.ensures (first_unit c.args.degree c.requires.some le.1)
-        q_long c.reduce_product.ensures.quotient_in
-        (c.reduce_product.auto.rest ∙ length_unit c.args.degree c.requires.some le.1) c.reduce_product.ensures.rest_in c.reduce_product.ensures.whole in
+    (length_places (c.args.degree + 1) le.2 ∙ add-one c.args.degree) c.write_digits.ensures (first_unit c.args.degree c.requires.some le.1)
+    q_long c.reduce_product.ensures.quotient_in
+    (c.reduce_product.auto.rest ∙ length_unit c.args.degree c.requires.some le.1) c.reduce_product.ensures.rest_in c.reduce_product.ensures.whole in
     subst (λ w. (w < p ^ c.args.m) × IsFactor p c.args.m c.args.modulus.now c.args.d w) (sym c.code_of-then-code_of-eq0.ensures)
-    ((number_below p (base_pos p c.requires.modulus.size.listed) c.args.m c.reduce_product.new.quotient q_long c.reduce_product.ensures.quotient_in,
-    trial.0 (sym c.code_of.ensures ∙ c.if-code_of-eq0.true)))
+    ((
+      number_below p (base_pos p c.requires.modulus.size.listed) c.args.m c.reduce_product.new.quotient q_long c.reduce_product.ensures.quotient_in,
+      trial.0 (sym c.code_of.ensures ∙ c.if-code_of-eq0.true),
+    ))
 
 pub returns-else-code_of-eq0-clause-none : goal.returns-else-code_of-eq0-clause-none
 returns-else-code_of-eq0-clause-none c =
     let p = c.args.p in
     let le = short p c.args.m c.args.degree c.args.modulus.now c.requires.modulus c.requires.half in
     let trial = written_division p c.args.m c.args.modulus.now c.requires.modulus c.args.degree c.args.d c.requires.some c.requires.half c.requires.monic _ _ c.write_digits.new.out c.reduce_product.new.quotient c.reduce_product.new.rest
-        (length_places (c.args.degree + 1) le.2 ∙ add-one c.args.degree) c.write_digits.ensures (first_unit c.args.degree c.requires.some le.1)
-        (c.reduce_product.auto.quotient ∙ length_zeros c.args.m le.0) c.reduce_product.ensures.quotient_in
-        (c.reduce_product.auto.rest ∙ length_unit c.args.degree c.requires.some le.1) c.reduce_product.ensures.rest_in c.reduce_product.ensures.whole in
+    (length_places (c.args.degree + 1) le.2 ∙ add-one c.args.degree) c.write_digits.ensures (first_unit c.args.degree c.requires.some le.1)
+    (c.reduce_product.auto.quotient ∙ length_zeros c.args.m le.0) c.reduce_product.ensures.quotient_in
+    (c.reduce_product.auto.rest ∙ length_unit c.args.degree c.requires.some le.1) c.reduce_product.ensures.rest_in c.reduce_product.ensures.whole in
     trial.1 (λ e. c.if-code_of-eq0.false (c.code_of.ensures ∙ e))

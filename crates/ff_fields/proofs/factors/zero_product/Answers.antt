@@ -1,4 +1,4 @@
-use Rattle.std.proofs.Common.{◌≡◌, ◌+◌, ◌/◌, ◌≤◌, arith}
+use Rattle.std.proofs.Common.{arith}
 use Rattle.ff_fields.specs.Prime.{prime_laws}
 use Rattle.ff_fields.proofs.Products.{none_null}
 use Rattle.ff_fields.proofs.FactorSteps.{none_first, none_all}

@@ -1,9 +1,9 @@
-use Rattle.std.proofs.Common.{◌≡◌, ℕ, suc, ◌+◌, ◌*◌, ◌^◌, ◌<◌, ◌≤◌, add-one, arith, subst, sym, ap}
+use Rattle.std.proofs.Common.{suc, ◌*◌, ◌^◌, ◌<◌, arith}
 use Rattle.ff_fields.specs.Prime.{prime_laws}
 use Rattle.ff_fields.specs.Modulus.{IsMonicCode}
 use Rattle.ff_fields.proofs.Products.{least_null}
 use Rattle.ff_fields.proofs.Sizes.{power_small}
-use Rattle.ff_fields.proofs.FactorSteps.{doubled, none_more, none_between}
+use Rattle.ff_fields.proofs.FactorSteps.{doubled, none_between}
 use Rattle.ff_fields.proofs.factors.zero_product_of.Goals as goal
 
 pub pow-least-requires : goal.pow-least-requires

@@ -1,4 +1,4 @@
-use Rattle.std.proofs.Common.{◌≡◌, ◌^◌, ◌≤◌}
+use Rattle.std.proofs.Common.{◌^◌, ◌≤◌}
 use Rattle.ff_fields.specs.Modulus.{NoFactorBelow}
 use Rattle.ff_fields.proofs.factors.zero_product_of.Given as goal
 

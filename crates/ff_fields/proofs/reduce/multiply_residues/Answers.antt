@@ -1,4 +1,4 @@
-use Rattle.std.proofs.Common.{◌≡◌, ◌+◌, ◌^◌, ◌≤◌, length, get_or, suc, sym, ap, ◌∙◌, arith, subst}
+use Rattle.std.proofs.Common.{◌^◌, ◌≤◌, get_or, sym, ap, ◌∙◌, arith, subst}
 use Rattle.ff_fields.specs.Over.{IsOver}
 use Rattle.ff_fields.specs.Prime.{prime_of}
 use Rattle.ff_fields.specs.Residue.{IsOver_digits}

@@ -1,4 +1,4 @@
-use Rattle.ff_fields.proofs.BitSteps.{xor_at_two, next_step}
+use Rattle.ff_fields.proofs.BitSteps.{xor_at_two}
 use Rattle.ff_fields.proofs.residue.ResidueFieldSmallField.add.Goals as goal
 
 pub returns-then-self-eq2 : goal.returns-then-self-eq2

@@ -1,4 +1,4 @@
-use Rattle.std.proofs.Common.{◌≡◌, ℕ, zero, suc, ◌+◌, ◌-◌, take, refl, sym, ap, ◌∙◌}
+use Rattle.std.proofs.Common.{◌≡◌, ℕ, zero, suc, ◌+◌, ◌-◌, take, refl, ap, ◌∙◌}
 use Rattle.ff_fields.specs.Field.{FieldOps, pow_of}
 use Rattle.ff_fields.specs.Modulus.{modulus_field}
 use Rattle.ff_fields.specs.Residue.{power_by}
