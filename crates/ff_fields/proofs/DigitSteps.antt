@@ -3,7 +3,7 @@ use Rattle.std.proofs.Common.{◌≡◌, ℕ, suc, ◌+◌, ◌-◌, ◌*◌, �
 use Rattle.std.proofs.lemmas.List.{append-nil, drop_more, length-drop, take_all, take_more_set}
 use Rattle.std.proofs.Math.Nat.{mul-le-mul_right, pow-le-pow_right, le_trans}
 use Rattle.ff_fields.specs.Code.{raw_ring}
-use Rattle.ff_ring.specs.Lists.{add_lists}
+use Rattle.ff_ring.specs.Lists.{add_lists, neg_list}
 use Rattle.ff_fields.specs.Prime.{prime_of}
 use Rattle.ff_fields.specs.Over.{IsOver, IsOver_drop}
 use Rattle.ff_fields.specs.Residue.{digits, number, number_below}
@@ -52,6 +52,25 @@ at_start p m x y =
   where
     one_time : (n : ℕ) → 0 + 1 * n ≡ n
     one_time n = omega arith
+
+-- ---- the same of the negative
+
+pub next_kept_neg : (p m i sum place x total : ℕ) → i < m → sum + place * number p (neg_list (raw_ring (prime_of p)) (digits p (m - i) x)) ≡ total → sum + (p - x % p) % p * place + place * p * number p (neg_list (raw_ring (prime_of p)) (digits p (m - (i + 1)) (x / p))) ≡ total
+next_kept_neg p m i sum place x total less kept =
+    let f = raw_ring (prime_of p) in
+    let next : m - i ≡ suc (m - (i + 1)) = omega arith in
+    sym (regroup sum place ((p - x % p) % p) p (number p (neg_list f (digits p (m - (i + 1)) (x / p)))))
+    ∙ ap (λ n. sum + place * number p (neg_list f (digits p n x))) (sym next)
+    ∙ kept
+
+pub at_end_neg : (p m i sum place x total : ℕ) → m ≤ i → sum + place * number p (neg_list (raw_ring (prime_of p)) (digits p (m - i) x)) ≡ total → sum ≡ total
+at_end_neg p m i sum place x total over kept =
+    let f = raw_ring (prime_of p) in
+    let none : m - i ≡ 0 = omega arith in
+    nothing sum place ∙ ap (λ n. sum + place * number p (neg_list f (digits p n x))) (sym none) ∙ kept
+  where
+    nothing : (sum place : ℕ) → sum ≡ sum + place * 0
+    nothing sum place = omega arith
 
 -- ---- digits are written, and read from the top
 

@@ -105,36 +105,36 @@ module _ (p : ℕ) (pos : 0 < p) where
 -- the codes below p^m are the classes of polynomials modulo the modulus
 
 module _ (p : ℕ) (listed : IsTrue (is_listed p)) (m : ℕ) (some : 0 < m) (modulus : List ℕ) (long : length modulus ≡ suc m) (modulus_in : IsOver (prime_of p) modulus) (monic : get_or modulus m 0 ≡ 1) where
-  abbrev k : CodeField
+  abbrev pub k : CodeField
   k = prime_field p listed
 
-  abbrev K : TestedRing (Code k)
+  abbrev pub K : TestedRing (Code k)
   K = code_ring k
 
-  abbrev s : TestedRing (Pol K)
+  abbrev pub s : TestedRing (Pol K)
   s = pol_ring K
 
   abbrev pub ops : FieldOps
   ops = residue_of p m modulus
 
-  pos : 0 < p
+  pub pos : 0 < p
   pos = omega (arith, k.laws.one_below)
 
   -- the digits of a code, and the polynomial that it stands for
-  abbrev digit_codes : ℕ → List (Code k)
+  abbrev pub digit_codes : ℕ → List (Code k)
   digit_codes c = read k (digits p m c)
 
-  abbrev of : ℕ → Pol K
+  abbrev pub of : ℕ → Pol K
   of c = pol_of K (digit_codes c)
 
-  length_digit_codes : (c : ℕ) → length (digit_codes c) ≡ m
+  pub length_digit_codes : (c : ℕ) → length (digit_codes c) ≡ m
   length_digit_codes c = length-map (digits p m c) (read_code k) ∙ length_digits p m c
 
-  numbers_digit_codes : (c : ℕ) → numbers k (digit_codes c) ≡ digits p m c
+  pub numbers_digit_codes : (c : ℕ) → numbers k (digit_codes c) ≡ digits p m c
   numbers_digit_codes c = numbers_read k (digits p m c) (IsOver_digits p pos m c)
 
   -- a list of m codes is that of the digits of its number
-  digit_codes_number : (xs : List (Code k)) → length xs ≡ m → digit_codes (number p (numbers k xs)) ≡ xs
+  pub digit_codes_number : (xs : List (Code k)) → length xs ≡ m → digit_codes (number p (numbers k xs)) ≡ xs
   digit_codes_number xs same =
       ap (read k) (digits_number p pos m (numbers k xs) (length-map xs (λ x. x.0) ∙ same) (IsOver_numbers k xs))
       ∙ read_numbers k xs
@@ -166,7 +166,7 @@ module _ (p : ℕ) (listed : IsTrue (is_listed p)) (m : ℕ) (some : 0 < m) (mod
       ∙ ap₂ K.◌⊕◌ (sym (coeff_trim K (digit_codes a) n)) (sym (coeff_trim K (digit_codes b) n))
       ∙ sym (series_add K (of a) (of b) n))
 
-  modulus_codes : List (Code k)
+  unfoldable pub modulus_codes : List (Code k)
   modulus_codes = read k modulus
 
   product_list : ℕ → ℕ → List (Code k)
@@ -185,11 +185,11 @@ module _ (p : ℕ) (listed : IsTrue (is_listed p)) (m : ℕ) (some : 0 < m) (mod
       ∙ sym (numbers_rest_from k modulus_codes (mul_lists K.ops (digit_codes a) (digit_codes b)) K.𝟙))
       ∙ ap (number p) (take-map (λ x. x.0) m (product_list a b))
 
-  length_modulus_codes : length modulus_codes ≡ suc m
+  pub length_modulus_codes : length modulus_codes ≡ suc m
   unfolding modulus_codes
   length_modulus_codes = length-map modulus (read_code k) ∙ long
 
-  top : coeff_of K.ops modulus_codes m ≡ K.𝟙
+  pub top : coeff_of K.ops modulus_codes m ≡ K.𝟙
   unfolding modulus_codes
   top = same_code k _ _ (numbers_get_or k modulus_codes m ∙ ap (λ w. get_or w m 0) modulus_back ∙ monic)
 
@@ -215,14 +215,14 @@ module _ (p : ℕ) (listed : IsTrue (is_listed p)) (m : ℕ) (some : 0 < m) (mod
           coeff_past K (take m (product_list a b)) n (omega (arith, length_part a b))
           ∙ sym (rest_ends K modulus_codes K.𝟙 inverts (mul_lists K.ops (digit_codes a) (digit_codes b)) n (omega (arith, length_modulus_codes)))
 
-  pub M : Pol K
+  unfoldable pub M : Pol K
   M = pol_of K modulus_codes
 
-  quotient : ℕ → ℕ → Pol K
+  pub quotient : ℕ → ℕ → Pol K
   quotient a b = pol_of K (quotient_from K.ops modulus_codes K.𝟙 (mul_lists K.ops (digit_codes a) (digit_codes b)))
 
   -- a product of polynomials is that of the codes and a multiple of the modulus
-  of_product : (a b : ℕ) → s.◌⊗◌ (of a) (of b) ≡ s.◌⊕◌ (of (ops.mul a b)) (s.◌⊗◌ M (quotient a b))
+  pub of_product : (a b : ℕ) → s.◌⊗◌ (of a) (of b) ≡ s.◌⊕◌ (of (ops.mul a b)) (s.◌⊗◌ M (quotient a b))
   unfolding M quotient product_list pol_ops
   of_product a b =
       same_pol K _ _ (λ n.
@@ -252,23 +252,23 @@ module _ (p : ℕ) (listed : IsTrue (is_listed p)) (m : ℕ) (some : 0 < m) (mod
           series_mul K M (quotient a b) n ∙ convolution_comm K.ring _ _ n
           ∙ ap₂ (λ f g. convolution K.ops f g n) (fun_ext (coeff_trim K _)) (fun_ext (coeff_trim K modulus_codes))
 
-  of_mul : (a b : ℕ) → IsCongruent s.ops M (of (ops.mul a b)) (s.◌⊗◌ (of a) (of b))
+  pub of_mul : (a b : ℕ) → IsCongruent s.ops M (of (ops.mul a b)) (s.◌⊗◌ (of a) (of b))
   of_mul a b = congruent_sym s.ring M _ _ (record { times = quotient a b; differs = of_product a b })
 
-  length_M : length M.0 ≡ suc m
+  pub length_M : length M.0 ≡ suc m
   unfolding M
   length_M =
       length_from_top K M.0 m M.1
       (λ e. (code_domain k).one_not_zero (sym (coeff_trim K modulus_codes m ∙ top) ∙ e))
       (λ i less. coeff_trim K modulus_codes i ∙ coeff_past K modulus_codes i (omega (arith, length_modulus_codes)))
 
-  length_of : (c : ℕ) → length (of c).0 ≤ m
+  pub length_of : (c : ℕ) → length (of c).0 ≤ m
   length_of c =
       length_bound K (of c).0 m (of c).1 (λ i le.
       coeff_trim K (digit_codes c) i ∙ coeff_past K (digit_codes c) i (omega (arith, length_digit_codes c)))
 
   -- codes below p^m that stand for one class are one
-  same_class : (a b : ℕ) → a < p ^ m → b < p ^ m → IsCongruent s.ops M (of a) (of b) → a ≡ b
+  pub same_class : (a b : ℕ) → a < p ^ m → b < p ^ m → IsCongruent s.ops M (of a) (of b) → a ≡ b
   same_class a b a_in b_in c =
       sym (number_digits p pos m a a_in)
       ∙ ap (number p) (sym (numbers_digit_codes a) ∙ ap (numbers k) lists ∙ numbers_digit_codes b)
@@ -335,7 +335,7 @@ module _ (p : ℕ) (listed : IsTrue (is_listed p)) (m : ℕ) (some : 0 < m) (mod
       none : (p : ℕ) → 0 + p * 0 ≡ 0
       none p = omega arith
 
-  of_null : of 0 ≡ s.𝟘
+  pub of_null : of 0 ≡ s.𝟘
   unfolding pol_ops
   of_null =
       same_pol K _ _ (λ n.
@@ -343,7 +343,7 @@ module _ (p : ℕ) (listed : IsTrue (is_listed p)) (m : ℕ) (some : 0 < m) (mod
       ∙ ap (λ w. coeff_of K.ops w n) (ap digit_codes (sym (number_zeros m)) ∙ digit_codes_number (replicate m K.𝟘) (length-replicate m K.𝟘))
       ∙ coeff_append_zeros K [] m n)
 
-  of_unit : of 1 ≡ s.𝟙
+  pub of_unit : of 1 ≡ s.𝟙
   unfolding pol_ops
   of_unit =
       same_pol K _ _ (λ n.
