@@ -97,8 +97,8 @@ module _ {S T : Type 0} (left : S → Option (List ℕ)) (source_faults : S → 
   runs_too_long status read (inl (e, k)) =
       subst (Runs left source_faults taken faults free source source' sink sink') (sym e)
       (λ xs told.
-          let facts = at_some (λ xs. (65536 < length xs) × (left source' ≡ Some (drop (65536 + 1) xs))) (left source) xs told read in
-          record { read = facts.1; ends = (too_long_line, TooLong facts.0, k) })
+      let facts = at_some (λ xs. (65536 < length xs) × (left source' ≡ Some (drop (65536 + 1) xs))) (left source) xs told read in
+      record { read = facts.1; ends = (too_long_line, TooLong facts.0, k) })
   runs_too_long status read (inr (e, k)) =
       subst (Runs left source_faults taken faults free source source' sink sink') (sym e) (
         k.cause,

@@ -24,7 +24,7 @@ module _ (k : CodeField) where
   one_times_one =
       let once : k.ops.mul 1 1 ≡ 1 = k.laws.one_mul 1 one_below in
       let sum : k.ops.add (k.ops.mul 1 1) 0 ≡ 1 =
-          ap (λ c. k.ops.add c 0) once ∙ k.laws.add_comm 1 0 one_below zero_below ∙ k.laws.zero_add 1 one_below in
+      ap (λ c. k.ops.add c 0) once ∙ k.laws.add_comm 1 0 one_below zero_below ∙ k.laws.zero_add 1 one_below in
       one_code (k.ops.add (k.ops.mul 1 1) 0) sum
 
   pub one_scaled : multiple_of k.ops (1 ∷ []) (k.ops.inv 1) ≡ 1 ∷ []

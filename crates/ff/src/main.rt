@@ -8,17 +8,15 @@ mod program;
 mod run;
 mod script;
 mod session;
-mod text;
-
 #[cfg(test)]
 mod tests;
+mod text;
 
 use ff_io::adapters::{ReadSource, WriteSink};
 use program::top;
 use run::Status;
-use std::env;
-use std::io;
 use std::process::ExitCode;
+use std::{env, io};
 
 /// The words after the program's own name.
 fn words(rt: &HostRuntime) -> io::Result<Vec<String>> {

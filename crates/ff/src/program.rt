@@ -28,12 +28,7 @@ fn is_run(words: &[String]) -> bool
 /// tell them. `WantOfMemory` may come at any moment.
 ///
 /// Reading and parsing take time in proportion to the bytes; a product takes the square of the degrees.
-pub fn top<S: Source, T: Sink>(
-    alloc: Global,
-    words: &[String],
-    src: &mut S,
-    out: &mut T,
-) -> Status
+pub fn top<S: Source, T: Sink>(alloc: Global, words: &[String], src: &mut S, out: &mut T) -> Status
     // Usage comes exactly where the words are no command.
     ensures usage { result ≡ Status.Usage → ¬ IsRun (map string_bytes words.now) }
     ensures no_command { ¬ IsRun (map string_bytes words.now) →

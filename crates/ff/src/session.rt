@@ -95,12 +95,7 @@ impl Session {
     }
 
     /// Writes the answer line, and takes the statement in. After a refusal the session is as before.
-    fn answer(
-        &mut self,
-        alloc: Global,
-        s: &Statement,
-        text: &mut Vec<u8>,
-    ) -> Result<(), Refusal>
+    fn answer(&mut self, alloc: Global, s: &Statement, text: &mut Vec<u8>) -> Result<(), Refusal>
         requires { IsIn (place_of self.old) s.now }
         ensures answer { OnOk result (AddsAnswer self.old s.now text.old.items text.new.items self.new) }
         ensures refused { IfErr result (IsRefusedAs self.old s.now) }

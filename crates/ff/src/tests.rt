@@ -10,7 +10,9 @@ use std::test::Fail;
 
 /// The first run: a product on y^2 = x^3 + 1 over the field of 7 elements.
 const FIRST: &[u8] = b"field 7\ncurve y^2 + 6*x^3 + 6\nmul [0, 1] [0, 1]\n";
-const FIRST_OUTPUT: &[u8] = b"> field 7\n= q 7\n> curve y^2 + 6*x^3 + 6\n= n 2 c 2\n> mul [0, 1] [0, 1]\n= [x^3 + 1, 0]\nend 3\n";
+
+const FIRST_OUTPUT: &[u8] =
+    b"> field 7\n= q 7\n> curve y^2 + 6*x^3 + 6\n= n 2 c 2\n> mul [0, 1] [0, 1]\n= [x^3 + 1, 0]\nend 3\n";
 
 /// A command over a script in memory: its status, and the bytes that the sink took.
 fn ran(
@@ -43,9 +45,17 @@ fn scripts_and_outputs(rt: HostRuntime) -> Result<(), Fail> {
     let alloc = rt.alloc();
     let rows: [(&[u8], Status, &[u8]); 6] = [
         (b"", Status::Done, b"end 0\n"),
-        (b"field 6\n", Status::Refused, b"> field 6\nrefused FieldSize 6 1\n"),
+        (
+            b"field 6\n",
+            Status::Refused,
+            b"> field 6\nrefused FieldSize 6 1\n",
+        ),
         (b"field 13\n", Status::Done, b"> field 13\n= q 13\nend 1\n"),
-        (b"field 17\n", Status::Refused, b"> field 17\nrefused FieldSize 17 1\n"),
+        (
+            b"field 17\n",
+            Status::Refused,
+            b"> field 17\nrefused FieldSize 17 1\n",
+        ),
         (FIRST, Status::Done, FIRST_OUTPUT),
         (
             b"field 2\ncurve y^3 + x*y + x^5\nmul [1, x, x^2] [x, 0, 1]\n",
@@ -76,8 +86,14 @@ fn first_bad_line(rt: HostRuntime) -> Result<(), Fail> {
         (b"field 7\ncurve y^2 + x^1\n", b"refused Syntax 2\n"),
         (b"field 7\ncurve y^2 + x*6\n", b"refused Syntax 2\n"),
         (b"field 7\ncurve y^2 + 7\n", b"refused Syntax 2\n"),
-        (b"field 7\ncurve y^2 + x\nmul [0, 1] [0]\n", b"refused Syntax 3\n"),
-        (b"field 7\ncurve y^2 + x\nmul [0, 1] [0, 1]\nfield 7\n", b"refused Syntax 4\n"),
+        (
+            b"field 7\ncurve y^2 + x\nmul [0, 1] [0]\n",
+            b"refused Syntax 3\n",
+        ),
+        (
+            b"field 7\ncurve y^2 + x\nmul [0, 1] [0, 1]\nfield 7\n",
+            b"refused Syntax 4\n",
+        ),
         (b"field 17\ncurve y^2 + 17\n", b"refused Syntax 2\n"),
     ];
     for (script, output) in rows {
@@ -109,7 +125,10 @@ fn one_byte_past_the_limit(rt: HostRuntime) -> Result<(), Fail> {
     feeds.resize(65_540, b'\n')?;
     let mut src = MemSource::new(feeds, Vec::new(alloc), 1000);
     let mut out = MemSink::new(alloc, 100, Vec::new(alloc), 100)?;
-    assert_eq!(rt; top(alloc, words.as_slice(), &mut src, &mut out), Status::Refused);
+    assert_eq!(rt;
+        top(alloc, words.as_slice(), &mut src, &mut out),
+        Status::Refused
+    );
     assert_eq!(rt; out.taken(), b"refused TooLong 65536\n".as_slice());
     assert_eq!(rt; src.place(), 65_537);
     Ok(())
@@ -121,14 +140,31 @@ fn each_call_fails_in_turn(rt: HostRuntime) -> Result<(), Fail> {
     for step in [1, 16] {
         let reads = FIRST.len().div_ceil(step) + 1;
         for call in 1..=reads as u64 {
-            let (ended, out) = ran(alloc, "run", FIRST, one(alloc, call)?, Vec::new(alloc), step)?;
+            let (ended, out) = ran(
+                alloc,
+                "run",
+                FIRST,
+                one(alloc, call)?,
+                Vec::new(alloc),
+                step,
+            )?;
             assert_eq!(rt; ended, Status::ReadFault, "read {call} by {step}");
             assert!(rt; out.taken().is_empty(), "read {call} by {step}");
         }
         let mut call = 1;
         for _ in 0..200 {
-            let (ended, out) = ran(alloc, "run", FIRST, Vec::new(alloc), one(alloc, call)?, step)?;
-            assert!(rt; FIRST_OUTPUT.starts_with(out.taken()), "write {call} by {step}");
+            let (ended, out) = ran(
+                alloc,
+                "run",
+                FIRST,
+                Vec::new(alloc),
+                one(alloc, call)?,
+                step,
+            )?;
+            assert!(rt;
+                FIRST_OUTPUT.starts_with(out.taken()),
+                "write {call} by {step}"
+            );
             if ended == Status::Done {
                 break;
             }

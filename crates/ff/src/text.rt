@@ -132,7 +132,11 @@ fn push_lower(out: &mut Vec<u8>, terms: &[Term]) -> Result<(), AllocError>
 fn push_printed(out: &mut Vec<u8>, c: u32, exponent: u64) -> Result<(), AllocError>
     ensures { OnOk result (out.new.items ≡ out.old.items ++ term_text (printed_term c exponent)) }
 {
-    let code = if c == 1 && exponent > 0 { None } else { Some(c) };
+    let code = if c == 1 && exponent > 0 {
+        None
+    } else {
+        Some(c)
+    };
     push_factors(out, code, exponent, 0)
 }
 

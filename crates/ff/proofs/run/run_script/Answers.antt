@@ -15,7 +15,7 @@ returns-then-is_err g c =
     broken g.T.Sink.taken g.T.Sink.faults g.T.Sink.free c.args.script.now c.args.out.now inv.0 c.loop-s.session c.s-item.result (drop (c.loop-s.s-index + 1) c.args.script.now)
     c.loop-s.out c.print.new.out (subst (IsAnswered c.args.script.now inv.0 c.loop-s.session) rest inv.1) inv.2 c.step.new.self c.in-Ok.text.items c.in-Ok.ensures.block
     (subst (BreaksOff g.T.Sink.taken g.T.Sink.faults g.T.Sink.free c.loop-s.out c.print.new.out) c.as_slice.ensures.value
-        (on_err c.print.result _ (sym c.is_err.ensures.value ∙ c.if-is_err.true) c.print.ensures.part))
+    (on_err c.print.result _ (sym c.is_err.ensures.value ∙ c.if-is_err.true) c.print.ensures.part))
 
 pub returns-in-Err-Memory : goal.returns-in-Err-Memory
 returns-in-Err-Memory g c =
@@ -40,7 +40,7 @@ returns-in-Err-FieldSize g c =
     c.loop-s.out c.close.new.out (subst (IsAnswered c.args.script.now inv.0 c.loop-s.session) rest inv.1) inv.2
     (FieldSize c.in-Err-FieldSize.p c.in-Err-FieldSize.m) c.as_slice-in-Err-FieldSize.result.now c.close.result
     (rw c.in-Err-FieldSize.field-0-is at c.in-Err-FieldSize.ensures.refused) (c.as_slice-in-Err-FieldSize.ensures.value ∙ c.in-Ok-refusal_text.ensures
-        ∙ ap₂ (λ p m. echo_line c.s-item.result ++ refusal_line (FieldSize p m)) c.in-Err-FieldSize.p-is c.in-Err-FieldSize.m-is) c.close.ensures
+    ∙ ap₂ (λ p m. echo_line c.s-item.result ++ refusal_line (FieldSize p m)) c.in-Err-FieldSize.p-is c.in-Err-FieldSize.m-is) c.close.ensures
 
 pub loop-s-preserved : goal.loop-s-preserved
 loop-s-preserved g c =
@@ -53,7 +53,7 @@ loop-s-preserved g c =
           (drop (c.loop-s.s-index + 1) c.args.script.now) c.loop-s.out c.print.new.out
           (subst (IsAnswered c.args.script.now inv.0 c.loop-s.session) rest inv.1) inv.2 c.step.new.self c.in-Ok.text.items c.in-Ok.ensures.block
           (subst (Prints g.T.Sink.taken g.T.Sink.faults g.T.Sink.free c.loop-s.out c.print.new.out) c.as_slice.ensures.value
-              (on_ok c.print.result _ (sym c.is_err.ensures.value ∙ c.if-is_err.false) c.print.ensures.whole));
+          (on_ok c.print.result _ (sym c.is_err.ensures.value ∙ c.if-is_err.false) c.print.ensures.whole));
     }
 
 pub returns : goal.returns

@@ -30,7 +30,7 @@ loop-j-preserved-in-Continue-branch-4 c =
           ∙ append_assoc c.loop-j.out.items (codes " + ") (term_text (printed_term c.coeff-c.result (c.loop-j.j - 1)))
           ∙ ap (λ x. c.loop-j.out.items ++ (codes " + " ++ term_text (printed_term x (c.loop-j.j - 1)))) c.coeff-c.ensures
           ∙ printed_more c.args.out.now.items c.loop-j.out.items c.args.p.now (c.loop-j.j - 1) c.loop-j.j next (omega arith) some
-              c.loop-j.invariant.some c.loop-j.invariant.written;
+          c.loop-j.invariant.some c.loop-j.invariant.written;
       some = length_printed_some c.args.p.now (c.loop-j.j - 1) c.loop-j.j next (omega arith) some;
     }
 
