@@ -1,16 +1,14 @@
 -- From what a script's run does to what the run of its bytes does, and to what the program does.
-use Rattle.std.proofs.Common.{◌≡◌, ℕ, suc, ◌+◌, ◌<◌, ◌≤◌, List, [], ◌∷◌, ◌++◌, length, drop, Option, Some, None, Bool, true, false, IfSome, ◌⊎◌, inl, inr, refl, sym, ap, ◌∙◌, arith, subst}
-use Rattle.std.specs.Option.{ForSome}
+use Rattle.std.proofs.Common.{◌≡◌, ℕ, ◌+◌, ◌<◌, ◌≤◌, List, [], ◌∷◌, ◌++◌, length, drop, Option, Some, Bool, true, false, IfSome, ◌⊎◌, inl, inr, refl, sym, ap, ◌∙◌, arith, subst}
 use Rattle.std.proofs.lemmas.List.{drop_all}
-use Rattle.ff_io.specs.Streams.{Rose, Fills}
+use Rattle.ff_io.specs.Streams.{Rose}
 use Rattle.ff.specs.declared.script.Statement.{Statement}
 use Rattle.ff.specs.declared.run.Status.{Status}
 use Rattle.ff.specs.declared.run.Status.TheVariants.{Done, Refused, Usage, ReadFault, WriteFault, WantOfMemory, CheckNo}
 use Rattle.ff.specs.Form.{IsScript}
-use Rattle.ff.specs.Answers.{Setting}
-use Rattle.ff.specs.Output.{Block, IsAnswered, IsClosing, IsOut, IsPart, IsOutput, TooLong, Syntax, Script, IsBegun, Nothing, Line, Part, blocks_text, end_line, too_long_line}
-use Rattle.ff.specs.Printing.{Prints, BreaksOff, EndsAs, EndsWith}
-use Rattle.ff.specs.Commands.{IsAnsweredWhole, RunEnds, Runs, IsFaultless}
+use Rattle.ff.specs.Output.{IsAnswered, IsClosing, IsOut, IsPart, IsOutput, TooLong, Syntax, Script, IsBegun, Nothing, Line, Part, blocks_text, too_long_line}
+use Rattle.ff.specs.Printing.{Prints, EndsAs, EndsWith}
+use Rattle.ff.specs.Commands.{IsAnsweredWhole, Runs, IsFaultless}
 use Rattle.ff.proofs.Printing.{prints_nothing}
 
 pub at_some : {A : Type 0} (P : A → Type 0) (o : Option A) (x : A) → o ≡ Some x → IfSome o P → P x

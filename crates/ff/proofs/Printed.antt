@@ -1,10 +1,10 @@
 -- How the text of a polynomial grows by its next term.
-use Rattle.std.proofs.Common.{◌≡◌, ◌≢◌, ℕ, zero, suc, ◌+◌, ◌-◌, ◌<◌, ◌≤◌, List, Some, [], ◌∷◌, ◌++◌, length, drop, get_or, codes, refl, sym, ap, ◌∙◌, subst, arith, append_assoc}
+use Rattle.std.proofs.Common.{◌≡◌, ◌≢◌, ℕ, zero, suc, ◌<◌, List, Some, [], ◌∷◌, ◌++◌, length, drop, get_or, codes, refl, sym, ap, ◌∙◌, arith, append_assoc}
 use Rattle.std.proofs.Math.Seq.{drop-cons}
 use Rattle.std.proofs.lemmas.Grind.{flat_map-append, common_steps}
 use Rattle.std.proofs.lemmas.List.{length_push, drop_all}
 use Rattle.ff.specs.declared.script.Term.{Term}
-use Rattle.ff.specs.Text.{term_text, terms_text, lower_text}
+use Rattle.ff.specs.Text.{term_text, terms_text}
 use Rattle.ff_poly.specs.Words.{degree_of}
 use Rattle.ff.specs.Output.{printed_term, printed_terms}
 

@@ -1,10 +1,9 @@
 -- Texts that are printed one after the other.
-use Rattle.std.proofs.Common.{◌≡◌, ℕ, ◌+◌, ◌-◌, ◌≤◌, List, [], ◌++◌, length, take, Option, Some, None, IfSome, IsOk, Result, Ok, Err, refl, sym, ap, ◌∙◌, arith, subst, append_assoc}
-use Rattle.std.specs.Option.{ForSome}
-use Rattle.std.proofs.lemmas.List.{length-append, take-append-le}
+use Rattle.std.proofs.Common.{◌≡◌, ℕ, ◌+◌, ◌-◌, List, [], ◌++◌, length, take, Option, Some, None, refl, sym, ap, ◌∙◌, arith, subst, append_assoc}
+use Rattle.std.proofs.lemmas.List.{length-append}
 use Rattle.std.proofs.lemmas.Grind.{common_steps}
 use Rattle.std.proofs.Math.Seq.{take-append-add}
-use Rattle.ff_io.specs.Streams.{Rose, Fills, Appends}
+use Rattle.ff_io.specs.Streams.{Fills, Appends}
 use Rattle.ff.specs.Printing.{Prints, BreaksOff}
 
 pub appends_join : (before mid now : Option (List ℕ)) (xs ys : List ℕ) → Appends before mid xs → Appends mid now ys → Appends before now (xs ++ ys)

@@ -1,11 +1,11 @@
 -- Elements over 1, and their products.
-use Rattle.std.proofs.Common.{◌≡◌, ◌≢◌, ℕ, zero, suc, ◌<◌, ◌≤◌, List, [], ◌∷◌, ◌++◌, length, map, codes, refl, sym, ap, ap₂, ◌∙◌, arith, subst}
+use Rattle.std.proofs.Common.{◌≡◌, ◌≢◌, ℕ, ◌<◌, ◌≤◌, List, [], ◌∷◌, ◌++◌, length, codes, refl, sym, ap, ap₂, ◌∙◌, arith}
 use Rattle.std.proofs.lemmas.Grind.{common_steps}
-use Rattle.ff_fields.specs.Field.{FieldOps, CodeField}
-use Rattle.ff_poly.specs.Words.{IsMonic, IsPoly, poly_of, product_of, multiple_of, top_of}
-use Rattle.ff_algebra.specs.Values.{ElemValue, PresValue, IsElem, IsSame, function_of, functions}
+use Rattle.ff_fields.specs.Field.{CodeField}
+use Rattle.ff_poly.specs.Words.{poly_of, product_of, multiple_of}
+use Rattle.ff_algebra.specs.Values.{ElemValue, PresValue, IsElem, function_of, functions}
 use Rattle.ff.specs.declared.script.Term.{Term}
-use Rattle.ff.specs.Answers.{Element, IsInLowestTerms, IsProduct, element}
+use Rattle.ff.specs.Answers.{Element, IsInLowestTerms, element}
 use Rattle.ff.specs.Output.{answer_line, polys_text, over_text}
 use Rattle.ff.specs.Sessions.{AddsProduct}
 

@@ -1,13 +1,13 @@
 -- What a run has printed after one more statement, and how it ends.
-use Rattle.std.proofs.Common.{◌≡◌, ℕ, suc, ◌+◌, ◌<◌, List, [], ◌∷◌, ◌++◌, length, map, drop, get_or, Option, Bool, true, false, Result, Ok, Err, OnOk, OnErr, ◌⊎◌, inl, inr, refl, sym, ap, ◌∙◌, arith, subst, append_assoc}
+use Rattle.std.proofs.Common.{◌≡◌, ℕ, ◌+◌, ◌<◌, List, [], ◌∷◌, ◌++◌, length, map, drop, get_or, Option, true, false, Result, Ok, Err, OnOk, OnErr, inl, inr, refl, sym, ap, ◌∙◌, arith, subst}
 use Rattle.std.specs.Result.{is_err}
 use Rattle.std.proofs.lemmas.List.{drop_more, length-append, length-map}
 use Rattle.ff.specs.declared.script.Statement.{Statement}
 use Rattle.ff.specs.declared.run.Status.{Status}
-use Rattle.ff.specs.declared.run.Status.TheVariants.{Done, Refused, WriteFault}
-use Rattle.ff.specs.Form.{IsIn, AreIn, after}
+use Rattle.ff.specs.declared.run.Status.TheVariants.{Done, Refused}
+use Rattle.ff.specs.Form.{AreIn}
 use Rattle.ff.specs.Answers.{Setting, Refusal, Refuses}
-use Rattle.ff.specs.Output.{Block, block_text, blocks_text, echo_line, refusal_line, end_line, IsAnswered, IsOut, IsPart, Blocks, Whole}
+use Rattle.ff.specs.Output.{Block, blocks_text, echo_line, refusal_line, end_line, IsAnswered, IsOut, IsPart, Blocks, Whole}
 use Rattle.ff.specs.Printing.{Prints, BreaksOff, EndsAs, EndsWith}
 use Rattle.ff.specs.Sessions.{place_of, IsBlock}
 use Rattle.ff.proofs.Printing.{prints_join, breaks_later}

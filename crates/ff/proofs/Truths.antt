@@ -1,14 +1,14 @@
 -- Answers that are true.
-use Rattle.std.proofs.Common.{◌≡◌, ◌≢◌, ℕ, ◌<◌, ◌⊎◌, inl, inr, List, ◌++◌, IsTrue, refl, sym, ap, ◌∙◌, arith, subst}
+use Rattle.std.proofs.Common.{◌≡◌, ℕ, ◌<◌, ◌⊎◌, inl, inr, List, ◌++◌, IsTrue, refl, sym, ap, subst}
 use native.Mathlib.Decide.{ℕ_discrete}
 use Rattle.ff_fields.specs.Field.{CodeField}
 use Rattle.ff_fields.specs.Prime.{is_listed, prime_of, prime_field}
-use Rattle.ff_fields.specs.Code.{Code, code_ops, code_domain, same_code}
+use Rattle.ff_fields.specs.Code.{Code, code_domain, same_code}
 use Rattle.ff_algebra.specs.Values.{PresValue}
 use Rattle.ff.specs.declared.script.Term.{Term}
 use Rattle.ff.specs.declared.script.Statement.{Statement}
 use Rattle.ff.specs.declared.script.Statement.TheVariants.{FieldOf, CurveOf, Mul}
-use Rattle.ff.specs.Answers.{Setting, Empty, WithField, WithCurve, Answer, Size, Numbers, Element, Answers, IsFieldOf, IsCurveOf, equation}
+use Rattle.ff.specs.Answers.{Setting, Empty, WithField, WithCurve, Size, Numbers, Element, Answers, IsCurveOf, equation}
 use Rattle.ff.specs.Output.{answer_line}
 use Rattle.ff.specs.Sessions.{AddsAnswer, AddsProduct}
 

@@ -1,14 +1,14 @@
 -- The commands, and what a run does to its source and its sink.
-use Rattle.std.specs.Prelude.{◌≡◌, ℕ, ◌+◌, ◌≤◌, List, [], ◌∷◌, ◌++◌, length, drop, map, codes, Option, Some, String, string_bytes, true, false}
+use Rattle.std.specs.Prelude.{◌≡◌, ℕ, List, [], ◌∷◌, ◌++◌, length, drop, codes, Option, Some}
 use Rattle.std.specs.Option.{ForSome}
 use Rattle.ff_io.specs.Streams.{Rose, Fills}
 use Rattle.ff.specs.declared.script.Statement.{Statement}
 use Rattle.ff.specs.declared.run.Status.{Status}
-use Rattle.ff.specs.declared.run.Status.TheVariants.{Done, Refused, Usage, ReadFault, WriteFault, WantOfMemory, CheckNo}
+use Rattle.ff.specs.declared.run.Status.TheVariants.{Done, Refused, ReadFault, WriteFault, WantOfMemory}
 use Rattle.ff.specs.Form.{IsScript}
 use Rattle.ff.specs.Answers.{Setting}
 use Rattle.ff.specs.Output.{Block, IsAnswered, IsOutput, IsBegun, blocks_text, end_line}
-use Rattle.ff.specs.Printing.{Prints, BreaksOff, EndsAs}
+use Rattle.ff.specs.Printing.{Prints, EndsAs}
 
 -- the words after the program's own name are the one word `run`
 abbrev pub IsRun : List (List ℕ) → Type 0

@@ -1,5 +1,5 @@
 -- What a call does to the sink that it prints to.
-use Rattle.std.specs.Prelude.{◌≡◌, ℕ, ◌-◌, ◌≤◌, List, Bool, true, false, length, take, Option, ◌⊎◌}
+use Rattle.std.specs.Prelude.{◌≡◌, ℕ, ◌≤◌, List, Bool, true, false, length, take, Option, ◌⊎◌}
 use Rattle.std.specs.Option.{ForSome}
 use Rattle.ff_io.specs.Streams.{Rose, Fills, Appends}
 use Rattle.ff.specs.declared.run.Status.{Status}

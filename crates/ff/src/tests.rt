@@ -134,45 +134,60 @@ fn one_byte_past_the_limit(rt: HostRuntime) -> Result<(), Fail> {
     Ok(())
 }
 
+/// Does each read that fails end the run, with nothing written?
+fn each_read_fails(alloc: Global, step: usize) -> Result<bool, AllocError>
+    requires { 1 ≤ step }
+{
+    let reads = FIRST.len().div_ceil(step) + 1;
+    for call in 1..=reads as u64 {
+        let (ended, out) = ran(
+            alloc,
+            "run",
+            FIRST,
+            one(alloc, call)?,
+            Vec::new(alloc),
+            step,
+        )?;
+        if ended != Status::ReadFault || !out.taken().is_empty() {
+            return Ok(false);
+        }
+    }
+    Ok(true)
+}
+
+/// How many writes there are, if each that fails ends the run, and what was written before begins the output.
+fn failing_writes(alloc: Global, step: usize) -> Result<Option<u64>, AllocError>
+    requires { 1 ≤ step }
+{
+    for call in 1..200 {
+        let (ended, out) = ran(
+            alloc,
+            "run",
+            FIRST,
+            Vec::new(alloc),
+            one(alloc, call)?,
+            step,
+        )?;
+        if ended == Status::Done && out.taken() == FIRST_OUTPUT {
+            return Ok(Some(call - 1));
+        }
+        if ended != Status::WriteFault
+            || !FIRST_OUTPUT.starts_with(out.taken())
+            || out.calls() != call
+        {
+            return Ok(None);
+        }
+    }
+    Ok(None)
+}
+
 #[test]
 fn each_call_fails_in_turn(rt: HostRuntime) -> Result<(), Fail> {
     let alloc = rt.alloc();
-    for step in [1, 16] {
-        let reads = FIRST.len().div_ceil(step) + 1;
-        for call in 1..=reads as u64 {
-            let (ended, out) = ran(
-                alloc,
-                "run",
-                FIRST,
-                one(alloc, call)?,
-                Vec::new(alloc),
-                step,
-            )?;
-            assert_eq!(rt; ended, Status::ReadFault, "read {call} by {step}");
-            assert!(rt; out.taken().is_empty(), "read {call} by {step}");
-        }
-        let mut call = 1;
-        for _ in 0..200 {
-            let (ended, out) = ran(
-                alloc,
-                "run",
-                FIRST,
-                Vec::new(alloc),
-                one(alloc, call)?,
-                step,
-            )?;
-            assert!(rt;
-                FIRST_OUTPUT.starts_with(out.taken()),
-                "write {call} by {step}"
-            );
-            if ended == Status::Done {
-                break;
-            }
-            assert_eq!(rt; ended, Status::WriteFault, "write {call} by {step}");
-            assert_eq!(rt; out.calls(), call, "write {call} by {step}");
-            call += 1;
-        }
-        assert!(rt; call > 5);
-    }
+    assert!(rt; each_read_fails(alloc, 1)?);
+    assert!(rt; each_read_fails(alloc, 16)?);
+    assert_eq!(rt; failing_writes(alloc, 1)?, Some(FIRST_OUTPUT.len() as u64));
+    // Blocks of 16, 34 and 35 bytes, and the end of 6, each written by 16 bytes at most.
+    assert_eq!(rt; failing_writes(alloc, 16)?, Some(1 + 3 + 3 + 1));
     Ok(())
 }

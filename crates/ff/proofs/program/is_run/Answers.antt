@@ -1,4 +1,4 @@
-use Rattle.std.proofs.Common.{◌≡◌, ap, ◌∙◌, codes, string_bytes}
+use Rattle.std.proofs.Common.{ap, ◌∙◌, codes, string_bytes}
 use Rattle.std.specs.Prelude.{nat_eq}
 use lib.Pointwise.{pointwise}
 use Rattle.ff.proofs.WordLists.{one_word}

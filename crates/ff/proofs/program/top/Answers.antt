@@ -1,5 +1,4 @@
-use Rattle.std.proofs.Common.{◌≡◌, refl, subst}
-use Rattle.ff.specs.declared.run.Status.TheVariants.{Done}
+use Rattle.std.proofs.Common.{refl, subst}
 use Rattle.ff.specs.Commands.{Runs}
 use Rattle.ff.proofs.Outcomes.{truth_of, faultless_of}
 use Rattle.ff.proofs.program.top.Goals as goal

@@ -1,4 +1,4 @@
-use Rattle.std.proofs.Common.{◌≡◌, Err, sym, ap, ◌∙◌, subst}
+use Rattle.std.proofs.Common.{Err, sym, ap, ◌∙◌, subst}
 use Rattle.ff.specs.Form.{IsScript}
 use Rattle.ff.specs.Output.{IsOutput, Syntax}
 use Rattle.ff.proofs.Outcomes.{script_ends, line_ends, nothing_begun}

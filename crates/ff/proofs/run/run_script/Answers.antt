@@ -1,8 +1,8 @@
-use Rattle.std.proofs.Common.{◌≡◌, ◌+◌, List, [], ◌++◌, drop, sym, ap, ap₂, ◌∙◌, refl, subst, arith}
+use Rattle.std.proofs.Common.{◌≡◌, ◌+◌, [], ◌++◌, drop, sym, ap₂, ◌∙◌, subst, arith}
 use Rattle.std.proofs.lemmas.List.{drop_all}
 use Rattle.ff.specs.Answers.{FieldSize}
 use Rattle.ff.specs.Form.{AreIn}
-use Rattle.ff.specs.Output.{Block, IsAnswered, echo_line, refusal_line}
+use Rattle.ff.specs.Output.{IsAnswered, echo_line, refusal_line}
 use Rattle.ff.specs.Printing.{Prints, BreaksOff}
 use Rattle.ff.specs.Sessions.{place_of}
 use Rattle.ff.proofs.Steps.{on_err, on_ok, rest_at, places_after, stopped, broken, printed_on, refused, finished}

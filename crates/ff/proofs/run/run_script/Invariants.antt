@@ -1,4 +1,4 @@
-use Rattle.std.proofs.Common.{◌≡◌, List, drop}
+use Rattle.std.proofs.Common.{List, drop}
 use Rattle.ff.specs.Form.{AreIn}
 use Rattle.ff.specs.Output.{Block, IsAnswered, blocks_text}
 use Rattle.ff.specs.Printing.{Prints}

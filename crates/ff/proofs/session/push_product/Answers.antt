@@ -1,4 +1,4 @@
-use Rattle.std.proofs.Common.{◌≡◌, [], ◌∷◌, ◌++◌, codes, sym, ap, ap₂, ◌∙◌, append_assoc}
+use Rattle.std.proofs.Common.{◌≡◌, [], ◌∷◌, ◌++◌, codes, ap, ap₂, ◌∙◌, append_assoc}
 use Rattle.ff_poly.specs.Words.{product_of}
 use Rattle.ff.specs.Output.{polys_text}
 use Rattle.ff.proofs.Products.{adds_whole, one_times_one}

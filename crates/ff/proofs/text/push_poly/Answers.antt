@@ -1,5 +1,4 @@
-use Rattle.std.proofs.Common.{◌≡◌, ◌≢◌, suc, ◌++◌, [], ◌∷◌, codes, ◌-◌, ◌<◌, ◌≤◌, length, get_or, refl, sym, ap, ◌∙◌, arith, append_assoc}
-use Rattle.std.specs.Prelude.{Some}
+use Rattle.std.proofs.Common.{◌≡◌, ◌≢◌, suc, ◌++◌, codes, ◌-◌, length, get_or, refl, sym, ap, ◌∙◌, arith, append_assoc}
 use Rattle.ff.specs.Text.{term_text, terms_text}
 use Rattle.ff.specs.Output.{printed_term}
 use Rattle.ff.proofs.Printed.{printed_zero, printed_more, length_printed_some, printed_first, terms_alone, length_from_degree}

@@ -1,4 +1,4 @@
-use Rattle.std.proofs.Common.{◌≡◌, sym, ap, ◌∙◌, refl, arith}
+use Rattle.std.proofs.Common.{sym, ap, ◌∙◌}
 use Rattle.ff_fields.specs.Prime.{prime_of}
 use Rattle.ff.specs.Answers.{equation}
 use Rattle.ff.specs.Bound.{setting_of}
