@@ -1,8 +1,7 @@
 -- Polynomials at t = 1/x: a power of x times the value is the reversed polynomial.
-use Rattle.std.proofs.Common.{◌≡◌, ℕ, zero, suc, List, [], ◌∷◌, length, reverse, refl, sym, ◌∙◌, ap, ap₂}
-use Rattle.ff_ring.specs.Ring.{CommRing, pow}
-use Rattle.ff_ring.proofs.Ring.{one_mul, mul_zero}
-use Rattle.ff_ring.proofs.RowMaps.{IsHom, hom_zero}
+use Rattle.std.proofs.Common.{◌≡◌, ℕ, List, [], ◌∷◌, length, reverse, refl, sym, ◌∙◌, ap}
+use Rattle.ff_ring.specs.Ring.{pow}
+use Rattle.ff_ring.proofs.RowMaps.{IsHom}
 use Rattle.ff_ring.proofs.Evaluate.{constant, constant_hom, evaluate, evaluate_trim, value_of, value_hom, hom_after}
 use Rattle.ff_fields.specs.Field.{CodeField}
 use Rattle.ff_fields.specs.Code.{Code, code_ring}
@@ -10,8 +9,8 @@ use Rattle.ff_fields.specs.Numbers.{read}
 use Rattle.ff_poly.specs.Value.{value}
 use Rattle.ff_poly.specs.Polynomials.{Polynomial, polynomials, polynomials_domain, codes_of, value_codes_of, value_nil, IsOver_codes_of, IsPoly_codes_of, x_poly, x_poly_not_zero}
 use Rattle.ff_algebra.specs.declared.elem.Side.TheVariants.{Finite, Infinite}
-use Rattle.ff_algebra.specs.Functions.{ring_of, of_poly}
-use Rattle.ff_algebra.specs.Values.{PresValue, Functions, functions, setting, equation_of}
+use Rattle.ff_algebra.specs.Functions.{of_poly}
+use Rattle.ff_algebra.specs.Values.{PresValue, Functions, functions, equation_of}
 use Rattle.ff_algebra.specs.Infinity.{constant as constant_code, value_at, variable}
 use Rattle.ff_algebra.proofs.Reversal.{value as value_by, value_reverse}
 use Rattle.ff_algebra.proofs.OnSide.{value_at_x, den_inverse, reverse_not_zero}

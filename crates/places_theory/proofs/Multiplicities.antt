@@ -1,11 +1,11 @@
 -- The multiplicity of a divisor at a place: there is at most one, and there is one where sameness with the divisor's places is decided.
-use Rattle.std.proofs.Common.{◌≡◌, ◌⊎◌, inl, inr, ℕ, zero, suc, ◌<◌, List, [], ◌∷◌, length, get_or, refl, sym, ◌∙◌, subst, arith, All}
+use Rattle.std.proofs.Common.{◌≡◌, inl, inr, ℕ, zero, suc, ◌<◌, [], ◌∷◌, length, get_or, refl, sym, ◌∙◌, subst, arith, All}
 use Rattle.std.specs.List.{AllPairs, Contains}
-use Rattle.std.proofs.lemmas.List.Elements.{All-nil, All-cons, All-head, All-tail}
+use Rattle.std.proofs.lemmas.List.Elements.{All-head, All-tail}
 use Rattle.std.proofs.Math.IntN.{ℤ, pos}
 use Rattle.local_theory.proofs.Lists.{pairs_head, pairs_tail}
 use Rattle.ff_algebra.specs.Setting.{Setting}
-use Rattle.ff_algebra.specs.Places.{Place, IsPlace, IsSamePlace}
+use Rattle.ff_algebra.specs.Places.{Place, IsSamePlace}
 use Rattle.ff_algebra.specs.Divisors.{Entry, Divisor, IsDivisor, HasMultiplicity}
 use Rattle.places_theory.proofs.SamePlaces.{same_place_refl, same_place_sym, same_place_trans}
 

@@ -1,7 +1,6 @@
 -- The integral functions of a side are a ring, and the places of the side are its maximal ideals with finitely many generators.
-use Rattle.std.proofs.Common.{◌≡◌, ◌↔◌, ℕ, zero, suc, sym, ap, subst}
-use Rattle.ff_ring.specs.Ring.{CommRing}
-use Rattle.ff_ring.specs.Subsets.{IsSubring, IsModule, Product}
+use Rattle.std.proofs.Common.{◌↔◌, ℕ, zero, suc, ap, subst}
+use Rattle.ff_ring.specs.Subsets.{IsSubring, IsModule}
 use Rattle.ff_ring.proofs.Subsets.{span_module, product_module}
 use Rattle.local_theory.specs.Ideals.{IsIdeal, SameSet, Power}
 use Rattle.local_theory.specs.Places.{IsMaximalIdeal}

@@ -1,21 +1,20 @@
 -- The rules of valuations at a place that follow from its powers alone: a value of at least m + 1 is one of at least m, there is at
 -- most one value, values of sums and products.
-use Rattle.std.proofs.Common.{[], ◌∷◌, ◌≡◌, ◌↔◌, ◌⊎◌, inl, inr, ℕ, zero, suc, ◌+◌, ◌-◌, ◌≤◌, ◌<◌, refl, sym, ◌∙◌, ap, subst, arith, add-one, zero-add}
+use Rattle.std.proofs.Common.{[], ◌∷◌, ◌≡◌, ◌⊎◌, inl, inr, ℕ, zero, suc, ◌+◌, ◌-◌, ◌≤◌, ◌<◌, refl, sym, subst, arith}
 use Rattle.std.proofs.lemmas.Int.{ints, by_lt_z}
 use Rattle.std.proofs.Math.IntN.{ℤ, pos, negsuc, ◌+ℤ◌, ◌-ℤ◌}
 use lib.Signed.{◌≤ℤ◌}
-use Rattle.ff_ring.specs.Ring.{CommRing}
 use Rattle.ff_ring.specs.Subsets.{IsSubring, IsModule, Product}
 use Rattle.ff_ring.proofs.Subsets.{product_member}
 use Rattle.ff_ring.proofs.Ring.{one_mul}
 use Rattle.ff_ring.proofs.Solver.{ring, reads}
-use Rattle.local_theory.specs.Ideals.{IsIdeal, Power}
-use Rattle.local_theory.proofs.Products.{product_into, product_monotone, product_universal, additive_of_module, power_add}
+use Rattle.local_theory.specs.Ideals.{Power}
+use Rattle.local_theory.proofs.Products.{product_monotone, product_universal, additive_of_module, power_add}
 use Rattle.local_theory.proofs.Valuation.{le_or_lt}
 use Rattle.ff_algebra.specs.declared.elem.Side.{Side}
 use Rattle.ff_algebra.specs.Setting.{Setting}
 use Rattle.ff_algebra.specs.Places.{Place, IsPlace, IsIntegralAt, IsIn, InPower, IsInPowerLocally, TakesPowerLocally, HasValuationAtLeast, HasValuation}
-use Rattle.places_theory.proofs.Sides.{side_ring, place_ideal, place_module, integral_module, in_power_module, in_power_integral, in_power_descends, in_power_within, in_power_is}
+use Rattle.places_theory.proofs.Sides.{side_ring, place_module, integral_module, in_power_module, in_power_integral, in_power_descends, in_power_within, in_power_is}
 
 module _ {E : Type 0} (S : Setting E) (scalars : (s : Side) → IsSubring S.functions.ops (S.IsScalar s)) (P : Place E) (place : IsPlace S P) where
   infixl 65 ◌⊕◌

@@ -1,13 +1,13 @@
 -- The generator y is a root of its polynomial, and a row over 1 stands for the sum of v_i·y^i.
-use Rattle.std.proofs.Common.{◌≡◌, ℕ, zero, suc, [], ◌∷◌, refl, sym, ◌∙◌, ap, ap₂}
+use Rattle.std.proofs.Common.{◌≡◌, ℕ, zero, suc, [], ◌∷◌, refl, sym, ◌∙◌, ap}
 use Rattle.ff_ring.specs.Ring.{CommRing, pow}
-use Rattle.ff_ring.specs.Rows.{Row, row_zero, row_add, row_scale, shift, top, times_y}
-use Rattle.ff_ring.proofs.Ring.{one_mul, zero_add}
+use Rattle.ff_ring.specs.Rows.{Row, row_scale, shift, top, times_y}
+use Rattle.ff_ring.proofs.Ring.{one_mul}
 use Rattle.ff_ring.proofs.RowMaps.{IsHom, hom_zero, hom_neg, eval, eval_none, eval_cons, eval_add, eval_scale, eval_shift}
 use Rattle.ff_ring.proofs.Solver.{ring, reads, from_two}
 use Rattle.ff_fields.specs.Field.{CodeField}
 use Rattle.ff_poly.specs.Polynomials.{Polynomial, polynomials}
-use Rattle.ff_algebra.specs.Functions.{Equation, RowOver, FunctionOf, ring_of, ring_of_x, function, of_poly, y_of}
+use Rattle.ff_algebra.specs.Functions.{Equation, RowOver, FunctionOf, ring_of, function, of_poly, y_of}
 use Rattle.ff_algebra.proofs.Horner.{plain, horner, den_times_function, y_plain}
 use Rattle.ff_algebra.proofs.OnSide.{of_poly_plus, of_poly_times}
 use Rattle.ff_algebra.proofs.ScalarRings.{of_poly_one}
