@@ -17,7 +17,7 @@ use Rattle.local_theory.proofs.Factorisation.{entries, ramification, value_of_p_
 use Rattle.local_theory.proofs.IdealFactors.{ideal_value, ideal_factors, approximate}
 
 -- the difference of two numbers has them as parts, up to what they have in common
-parts_of : (a b : ℕ) → a + down (pos a -ℤ pos b) ≡ up (pos a -ℤ pos b) + b
+pub parts_of : (a b : ℕ) → a + down (pos a -ℤ pos b) ≡ up (pos a -ℤ pos b) + b
 parts_of a b = go (pos a -ℤ pos b) refl
   where
     go : (m : ℤ) → pos a -ℤ pos b ≡ m → a + down m ≡ up m + b

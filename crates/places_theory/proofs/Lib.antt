@@ -6,3 +6,5 @@ pub mod YRoot
 pub mod AtInfinity
 pub mod PresentationMap
 pub mod Presentations
+pub mod Decomposition
+pub mod PlaceValues

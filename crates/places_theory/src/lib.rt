@@ -5,6 +5,7 @@
 ghost use Rattle.std.specs.Prelude.{◌≡◌, ℕ, suc, ◌≤◌, ℤ, ◌+ℤ◌, List, All, ◌↔◌};
 ghost use Rattle.std.specs.List.{Contains};
 ghost use Rattle.std.proofs.Common.{pos};
+ghost use Rattle.ff_ring.specs.Ring.{CommRing, pow};
 ghost use Rattle.ff_ring.specs.Subsets.{IsSubring};
 ghost use Rattle.ff_fields.specs.Field.{CodeField};
 ghost use Rattle.ff_algebra.specs.declared.elem.Side.{Side};
@@ -13,7 +14,28 @@ ghost use Rattle.ff_algebra.specs.Places.{Place, IsPlace, IsSamePlace, IsIntegra
 ghost use Rattle.ff_algebra.specs.Divisors.{Entry, Divisor, IsDivisor, HasMultiplicity};
 ghost use Rattle.ff_algebra.specs.Infinity.{function_on, IsInfinitePresentation};
 ghost use Rattle.local_theory.specs.Places.{IsMaximalIdeal};
+ghost use Rattle.local_theory.specs.Primes.{IsPrime, Pair};
+ghost use Rattle.local_theory.specs.Systems.{IsDecomposition, IsSystem, PrimeAt};
+ghost use Rattle.local_theory.specs.IntegerValues.{ValueIs};
+ghost use Rattle.finite_algebra_theory.specs.Algebra.{FiniteAlgebra};
 ghost use Rattle.places_theory.specs.Maps.{IsIsomorphism};
+ghost use Rattle.places_theory.specs.Orders.{IsPlaceOver, InPrime};
+ghost use Rattle.places_theory.specs.Reductions.{IsReduction, Primitive};
+
+use ff_ring::sets::Subset;
+
+/// A function field with a set of functions and what is prime to some function in a base ring. Only theorems use it.
+pub trait LocalOrder {
+    ghost field: { CodeField };
+
+    ghost presentation: { PresValue };
+
+    ghost base: { Functions field presentation → Type 0 };
+
+    ghost prime_to: { Functions field presentation → Type 0 };
+
+    ghost members: { Functions field presentation → Type 0 };
+}
 
 /// The integral functions of a side are a ring over the scalars of the side.
 pub fn integral_functions_law()
@@ -78,4 +100,36 @@ pub fn presentations_law()
     ensures { (k : CodeField) (p q : PresValue) (c : ℕ) → 1 ≤ p.n → IsInfinitePresentation k p c q
         → (f : Functions k q → Functions k p) × IsIsomorphism (functions k q) (functions k p) f
         × ((z : ElemValue) → IsElem k.ops q.n z → f (function_of k q z) ≡ function_on k p c Side.Infinite z) }
+{}
+
+/// Where O modulo p is a finite algebra over a finite field, its primitive idempotents give a prime system of O at p.
+pub fn prime_system_law<T, Q, O: Subset<T>, K: Subset<Q>>()
+    ensures { (R : CommRing T) (A : CommRing Q) (p : T) (reduce : T → Q) (lift : Q → T) → IsSubring R.ops O.members → O.members p
+        → IsReduction R.ops O.members p A.ops reduce lift → FiniteAlgebra A.ops K.members
+        → (is : List (Primitive A.ops)) × IsDecomposition R.ops O.members p (Primitive A.ops) (λ i. lift i.0) is
+        × IsSystem R.ops O.members p (Primitive A.ops) (λ i. PrimeAt R.ops O.members p (lift i.0)) is }
+{}
+
+/// The valuation of a place over p is that of its prime in an order that is maximal at p. So values add on products, the value of a sum
+/// of functions with different values is the smaller one, and a function with an inverse has a value.
+pub fn place_valuation_law<C: LocalOrder>()
+    ensures prime { let S = setting C.field C.presentation in (P : Place (Functions C.field C.presentation)) (p : Functions C.field C.presentation)
+        → IsPlaceOver S P C.base C.prime_to p C.members → IsPrime S.functions.ops C.members (InPrime S P C.members) }
+    ensures same { let S = setting C.field C.presentation in (P : Place (Functions C.field C.presentation)) (p : Functions C.field C.presentation)
+        → IsPlaceOver S P C.base C.prime_to p C.members → (t : Pair S.functions.ops C.members (InPrime S P C.members))
+        → (z : Functions C.field C.presentation) (m : ℤ) → HasValuation S P z m ↔ ValueIs S.functions.ops C.members (InPrime S P C.members) t z m }
+    ensures product { let S = setting C.field C.presentation in (P : Place (Functions C.field C.presentation)) (p : Functions C.field C.presentation)
+        → IsPlaceOver S P C.base C.prime_to p C.members → Pair S.functions.ops C.members (InPrime S P C.members)
+        → (z w : Functions C.field C.presentation) (m n : ℤ) → HasValuation S P z m → HasValuation S P w n
+        → HasValuation S P (S.functions.◌⊗◌ z w) (m +ℤ n) }
+    ensures sum { let S = setting C.field C.presentation in (P : Place (Functions C.field C.presentation)) (p : Functions C.field C.presentation)
+        → IsPlaceOver S P C.base C.prime_to p C.members → Pair S.functions.ops C.members (InPrime S P C.members)
+        → (z w : Functions C.field C.presentation) (m : ℤ) → HasValuation S P z m → HasValuationAtLeast S P w (m +ℤ pos 1)
+        → HasValuation S P (S.functions.◌⊕◌ z w) m }
+    ensures exists { let S = setting C.field C.presentation in (P : Place (Functions C.field C.presentation)) (p : Functions C.field C.presentation)
+        → IsPlaceOver S P C.base C.prime_to p C.members → Pair S.functions.ops C.members (InPrime S P C.members)
+        → (z y d d' w : Functions C.field C.presentation) (e n : ℕ) → S.functions.◌⊗◌ z y ≡ S.functions.𝟙
+        → C.members d → C.members d' → C.members (S.functions.◌⊗◌ d z) → C.members (S.functions.◌⊗◌ d' y)
+        → S.functions.◌⊗◌ d d' ≡ S.functions.◌⊗◌ (pow S.functions.ops p n) w → C.members w → ¬ (IsIn S P w)
+        → HasValuation S P p (pos e) → (m : ℤ) × HasValuation S P z m }
 {}
