@@ -8,3 +8,4 @@ pub mod PresentationMap
 pub mod Presentations
 pub mod Decomposition
 pub mod PlaceValues
+pub mod InfiniteSide

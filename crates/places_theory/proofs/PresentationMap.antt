@@ -18,7 +18,7 @@ use Rattle.ff_algebra.proofs.OnSide.{value_at_x, times_inverse}
 use Rattle.ff_algebra.proofs.ScalarRings.{of_poly_one}
 use Rattle.ff_algebra.proofs.SameValues.{row_over_num, row_over_den, elem_den}
 use Rattle.ff_algebra.proofs.Stages.{row_of_function}
-use Rattle.places_theory.proofs.YRoot.{poly_hom, at_y, y_root}
+use Rattle.places_theory.proofs.YRoot.{eval_constant, poly_hom, at_y, y_root}
 use Rattle.places_theory.proofs.AtInfinity.{at, at_hom, at_codes, value_at_is}
 
 rest : List (List ℕ) → List (List ℕ)
@@ -61,18 +61,8 @@ module _ (k : CodeField) (p q : PresValue) (c : ℕ) where
   abbrev pub at_Y : (m : ℕ) → Row (Polynomial k) m → Functions k p
   at_Y m v = eval (polynomials k).ring (functions k p) (at k p (variable k p Infinite)) (at_hom k p (variable k p Infinite)) (generator k p c Infinite) m v
 
-  pub at_Y_zero : (m : ℕ) → at_Y m (row_zero (polynomials k).ops m) ≡ 𝟘
-  unfolding row_zero
-  at_Y_zero zero = eval_none (polynomials k).ring (functions k p) (at k p t) (at_hom k p t) η tt
-  at_Y_zero (suc m) =
-      eval_cons (polynomials k).ring (functions k p) (at k p t) (at_hom k p t) η m (polynomials k).𝟘 (row_zero (polynomials k).ops m)
-      ∙ ap₂ (λ s r. s ⊕ η ⊗ r) (hom_zero (polynomials k).ring (functions k p) (at k p t) (at_hom k p t)) (at_Y_zero m)
-      ∙ ap (λ s. 𝟘 ⊕ s) (mul_zero (functions k p) η) ∙ (functions k p).add_zero 𝟘
-
-  pub at_Y_constant : (m : ℕ) (a : Polynomial k) → at_Y (suc m) (a, row_zero (polynomials k).ops m) ≡ φ a
-  at_Y_constant m a =
-      eval_cons (polynomials k).ring (functions k p) (at k p t) (at_hom k p t) η m a (row_zero (polynomials k).ops m)
-      ∙ ap (λ s. φ a ⊕ η ⊗ s) (at_Y_zero m) ∙ ap (λ s. φ a ⊕ s) (mul_zero (functions k p) η) ∙ (functions k p).add_zero (φ a)
+  at_Y_constant : (m : ℕ) (a : Polynomial k) → at_Y (suc m) (a, row_zero (polynomials k).ops m) ≡ φ a
+  at_Y_constant m a = eval_constant (polynomials k).ring (functions k p) (at k p t) (at_hom k p t) η m a
 
   -- where the coefficient of Y^i is that of y^i times t^(c·(N - i)), the sums differ by a power of t
   scaled : (N m j : ℕ) → j + m ≡ N → (ps qs : List (List ℕ))

@@ -1,16 +1,31 @@
 -- The generator y is a root of its polynomial, and a row over 1 stands for the sum of v_i·y^i.
-use Rattle.std.proofs.Common.{◌≡◌, ℕ, zero, suc, [], ◌∷◌, refl, sym, ◌∙◌, ap}
+use Rattle.std.proofs.Common.{ap₂, ◌≡◌, ℕ, zero, suc, [], ◌∷◌, refl, sym, ◌∙◌, ap}
 use Rattle.ff_ring.specs.Ring.{CommRing, pow}
-use Rattle.ff_ring.specs.Rows.{Row, row_scale, shift, top, times_y}
-use Rattle.ff_ring.proofs.Ring.{one_mul}
+use Rattle.ff_ring.specs.Rows.{row_zero, Row, row_scale, shift, top, times_y}
+use Rattle.ff_ring.proofs.Ring.{mul_zero, one_mul}
 use Rattle.ff_ring.proofs.RowMaps.{IsHom, hom_zero, hom_neg, eval, eval_none, eval_cons, eval_add, eval_scale, eval_shift}
 use Rattle.ff_ring.proofs.Solver.{ring, reads, from_two}
 use Rattle.ff_fields.specs.Field.{CodeField}
 use Rattle.ff_poly.specs.Polynomials.{Polynomial, polynomials}
-use Rattle.ff_algebra.specs.Functions.{Equation, RowOver, FunctionOf, ring_of, function, of_poly, y_of}
+use Rattle.ff_algebra.specs.Functions.{Equation, RowOver, FunctionOf, ring_of, function, of_poly, row_of, over, y_of}
 use Rattle.ff_algebra.proofs.Horner.{plain, horner, den_times_function, y_plain}
-use Rattle.ff_algebra.proofs.OnSide.{of_poly_plus, of_poly_times}
+use Rattle.ff_algebra.proofs.OnSide.{of_poly_plus, of_poly_times, den_inverse}
 use Rattle.ff_algebra.proofs.ScalarRings.{of_poly_one}
+
+module _ {P E : Type 0} (S : CommRing P) (F : CommRing E) (f : P → E) (hom : IsHom S F f) (z : E) where
+  -- the row 0 goes to 0, and a constant to its image
+  pub eval_null : (m : ℕ) → eval S F f hom z m (row_zero S.ops m) ≡ F.𝟘
+  unfolding row_zero
+  eval_null zero = eval_none S F f hom z tt
+  eval_null (suc m) =
+      eval_cons S F f hom z m S.𝟘 (row_zero S.ops m)
+      ∙ ap₂ (λ s r. F.◌⊕◌ s (F.◌⊗◌ z r)) (hom_zero S F f hom) (eval_null m)
+      ∙ ap (F.◌⊕◌ F.𝟘) (mul_zero F z) ∙ F.add_zero F.𝟘
+
+  pub eval_constant : (m : ℕ) (a : P) → eval S F f hom z (suc m) (a, row_zero S.ops m) ≡ f a
+  eval_constant m a =
+      eval_cons S F f hom z m a (row_zero S.ops m)
+      ∙ ap (λ s. F.◌⊕◌ (f a) (F.◌⊗◌ z s)) (eval_null m) ∙ ap (F.◌⊕◌ (f a)) (mul_zero F z) ∙ F.add_zero (f a)
 
 module _ {k : CodeField} (c : Equation k) where
   -- polynomials as functions
@@ -40,6 +55,22 @@ module _ {k : CodeField} (c : Equation k) where
   at_y_plain v =
       sym (den_times (plain c v)) ∙ ap (λ x. (ring_of c).◌⊗◌ x (function c (plain c v))) (sym (of_poly_one c))
       ∙ one_mul (ring_of c) (function c (plain c v))
+
+  -- a/b is the only function that b takes to a
+  pub over_times_den : (a b : Polynomial k) (n : ¬ (b ≡ (polynomials k).𝟘)) → (ring_of c).◌⊗◌ (of_poly c b) (over c (row_of c a) b n) ≡ of_poly c a
+  over_times_den a b n =
+      den_times (record { num = row_of c a; den = b; den_not_zero = n })
+      ∙ eval_constant (polynomials k).ring (ring_of c) (of_poly c) poly_hom (y_of c) c.lower_degree a
+
+  pub over_unique : (a b : Polynomial k) (n : ¬ (b ≡ (polynomials k).𝟘)) (z : FunctionOf c)
+      → (ring_of c).◌⊗◌ (of_poly c b) z ≡ of_poly c a → z ≡ over c (row_of c a) b n
+  over_unique a b n z e =
+      same (of_poly c b) (over c (row_of c (polynomials k).𝟙) b n) z (over c (row_of c a) b n) (den_inverse c b n) (e ∙ sym (over_times_den a b n))
+    where
+      same : (d i z w : FunctionOf c) → (ring_of c).◌⊗◌ d i ≡ (ring_of c).𝟙 → (ring_of c).◌⊗◌ d z ≡ (ring_of c).◌⊗◌ d w → z ≡ w
+      same d i z w f g =
+          from_two (ring_of c) ((ring_of c).◌⊕◌ w ((ring_of c).⊖◌ z)) i f g
+          (ring (ring_of c) (d ∷ i ∷ z ∷ w ∷ []) λ q h. simp (reads, q, h 0, h 1, h 2, h 3) (q.equal _ _ refl))
 
   -- the row whose last entry is 1
   last_row : (n : ℕ) → Row (Polynomial k) (suc n)

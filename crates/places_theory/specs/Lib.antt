@@ -1,3 +1,4 @@
 pub mod Maps
 pub mod Reductions
 pub mod Orders
+pub mod InfiniteSide
