@@ -34,7 +34,7 @@ primitive_pair Q e f p r = go (p.least (Q.◌⊗◌ f e) (idem p.idempotent r.id
     go (inr s) (inl z) = inr (Q.mul_comm e f ∙ z)
     go (inr s) (inr t) = inl (sym s ∙ t)
 
-module _ {A B : Type 0} (R : CommRing A) (O : A → Type 0) (𝓞 : IsSubring R.ops O) (p : A) (p_in : O p)
+module _ {A B : Type 0} (R : CommRing A) (O : A → Type 0) (𝓞 : IsSubring R.ops O) (p : A)
     (Q : CommRing B) (reduce : A → B) (lift : B → A) (red : IsReduction R.ops O p Q.ops reduce lift) where
   infixl 65 ◌⊕◌
   infixl 70 ◌⊗◌
@@ -77,19 +77,41 @@ module _ {A B : Type 0} (R : CommRing A) (O : A → Type 0) (𝓞 : IsSubring R.
         red.add _ _ (red.lift_in i.0) r.0 ∙ ap₂ Q.◌⊕◌ (red.reduce_lift i.0) r.1,
       )
 
-  module _ (K : B → Type 0) (𝓐 : FiniteAlgebra Q.ops K) (is : List (Primitive Q.ops)) (one : sum_over Q.ops is (λ i. i.0) ≡ Q.𝟙) where
-    -- nilpotent elements of Q are those of the radical
-    radical_of : (a : A) → O a → IsNilpotent Q.ops (reduce a) → Radical R.ops O p a
-    radical_of a h n = record {
-      within = h;
-      nilpotent = record {
-        exponent = n.0;
-        power_in =
-            (red.kernel (pow R.ops a (suc n.0)) (power_in R O 𝓞 a h (suc n.0))).0
-            (reduce_power a h (suc n.0) ∙ ap (Q.◌⊗◌ (reduce a)) n.1 ∙ mul_zero Q (reduce a));
-      };
-    }
+  -- the radical modulo p, and the prime of an idempotent, are what reduces to nilpotent elements
+  reduced_nilpotent : (a : A) → Radical R.ops O p a → IsNilpotent Q.ops (reduce a)
+  reduced_nilpotent a h = (
+    suc h.nilpotent.exponent,
+    sym (reduce_power a h.within (suc h.nilpotent.exponent))
+        ∙ (red.kernel _ (power_in R O 𝓞 a h.within (suc h.nilpotent.exponent))).1 h.nilpotent.power_in,
+  )
 
+  of_nilpotent : (a : A) → O a → IsNilpotent Q.ops (reduce a) → Radical R.ops O p a
+  of_nilpotent a h n = record {
+    within = h;
+    nilpotent = record {
+      exponent = n.0;
+      power_in =
+          (red.kernel (pow R.ops a (suc n.0)) (power_in R O 𝓞 a h (suc n.0))).0
+          (reduce_power a h (suc n.0) ∙ ap (Q.◌⊗◌ (reduce a)) n.1 ∙ mul_zero Q (reduce a));
+    };
+  }
+
+  pub radical_iff : (a : A) → Radical R.ops O p a ↔ (O a × IsNilpotent Q.ops (reduce a))
+  radical_iff a = (λ h. (h.within, reduced_nilpotent a h), λ h. of_nilpotent a h.0 h.1)
+
+  pub prime_iff : (i : Primitive Q.ops) (z : A) → PrimeAt R.ops O p (lifted i) z ↔ (O z × NilpotentAt Q.ops i.0 (reduce z))
+  prime_iff i z = (
+    λ h. (h.within, subst (IsNilpotent Q.ops) (at h.within) (reduced_nilpotent (z ⊗ lift i.0) h.nilpotent)),
+    λ h. record {
+      within = h.0;
+      nilpotent = of_nilpotent (z ⊗ lift i.0) (𝓞.product_in _ _ h.0 (red.lift_in i.0)) (subst (IsNilpotent Q.ops) (sym (at h.0)) h.1);
+    },
+  )
+    where
+      at : O z → reduce (z ⊗ lift i.0) ≡ Q.◌⊗◌ (reduce z) i.0
+      at h = red.mul z (lift i.0) h (red.lift_in i.0) ∙ ap (Q.◌⊗◌ (reduce z)) (red.reduce_lift i.0)
+
+  module _ (K : B → Type 0) (𝓐 : FiniteAlgebra Q.ops K) (is : List (Primitive Q.ops)) (one : sum_over Q.ops is (λ i. i.0) ≡ Q.𝟙) where
     reduce_at : (z : A) → O z → (i : Primitive Q.ops) → reduce (z ⊗ lift i.0) ≡ Q.◌⊗◌ (reduce z) i.0
     reduce_at z h i = red.mul z (lift i.0) h (red.lift_in i.0) ∙ ap (Q.◌⊗◌ (reduce z)) (red.reduce_lift i.0)
 
@@ -122,7 +144,7 @@ module _ {A B : Type 0} (R : CommRing A) (O : A → Type 0) (𝓞 : IsSubring R.
         local : (i : Primitive Q.ops) (z : A) → O z → NilpotentAt Q.ops i.0 (reduce z) ⊎ IsInvertibleAt Q.ops i.0 (reduce z)
             → Radical R.ops O p (z ⊗ lift i.0) ⊎ ((c : A) × O c × Multiple R.ops p O (c ⊗ (z ⊗ lift i.0) ⊕ ⊖ lift i.0))
         local i z z_in (inl n) =
-            inl (radical_of (z ⊗ lift i.0) (𝓞.product_in _ _ z_in (red.lift_in i.0)) (subst (IsNilpotent Q.ops) (sym (reduce_at z z_in i)) n))
+            inl (of_nilpotent (z ⊗ lift i.0) (𝓞.product_in _ _ z_in (red.lift_in i.0)) (subst (IsNilpotent Q.ops) (sym (reduce_at z z_in i)) n))
         local i z z_in (inr u) =
             let c = lift u.0 in
             let c_in = red.lift_in u.0 in
@@ -145,10 +167,10 @@ module _ {A B : Type 0} (R : CommRing A) (O : A → Type 0) (𝓞 : IsSubring R.
   attach_sum (x ∷ xs) f = ap (Q.◌⊕◌ x) (attach_sum xs (λ y i. f y (inr i)))
 
   -- O has a prime system at p
-  pub prime_system : (K : B → Type 0) → FiniteAlgebra Q.ops K
+  pub prime_system : O p → (K : B → Type 0) → FiniteAlgebra Q.ops K
       → (is : List (Primitive Q.ops)) × IsDecomposition R.ops O p (Primitive Q.ops) lifted is
       × IsSystem R.ops O p (Primitive Q.ops) (λ i. PrimeAt R.ops O p (lifted i)) is
-  prime_system K 𝓐 =
+  prime_system p_in K 𝓐 =
       let es = primitives Q K 𝓐 in
       let is = attach es.0 (λ x i. (es.1 x).1 i) in
       let dec = decomposition K 𝓐 is (attach_sum es.0 (λ x i. (es.1 x).1 i) ∙ es.3) in

@@ -9,3 +9,4 @@ pub mod Presentations
 pub mod Decomposition
 pub mod PlaceValues
 pub mod InfiniteSide
+pub mod PlacesOver

@@ -6,7 +6,9 @@ ghost use Rattle.std.specs.Prelude.{◌≡◌, ℕ, suc, ◌≤◌, ℤ, ◌+ℤ
 ghost use Rattle.std.specs.List.{Contains};
 ghost use Rattle.std.proofs.Common.{pos};
 ghost use Rattle.ff_ring.specs.Ring.{CommRing, pow};
-ghost use Rattle.ff_ring.specs.Subsets.{IsSubring};
+ghost use Rattle.ff_ring.specs.Subsets.{IsSubring, Span};
+ghost use Rattle.ff_ring.specs.Integral.{IsIntegral};
+ghost use Rattle.ff_ring.specs.Local.{Locally};
 ghost use Rattle.ff_fields.specs.Field.{CodeField};
 ghost use Rattle.ff_algebra.specs.declared.elem.Side.{Side};
 ghost use Rattle.ff_algebra.specs.Values.{PresValue, ElemValue, IsElem, Functions, functions, setting, function_of};
@@ -17,14 +19,19 @@ ghost use Rattle.local_theory.specs.Places.{IsMaximalIdeal};
 ghost use Rattle.local_theory.specs.Primes.{IsPrime, Pair};
 ghost use Rattle.local_theory.specs.Systems.{IsDecomposition, IsSystem, PrimeAt};
 ghost use Rattle.local_theory.specs.IntegerValues.{ValueIs};
-ghost use Rattle.finite_algebra_theory.specs.Algebra.{FiniteAlgebra};
+ghost use Rattle.local_theory.specs.Ideals.{SameSet};
+ghost use Rattle.local_theory.specs.Orders.{Radical};
+ghost use Rattle.finite_algebra_theory.specs.Algebra.{FiniteAlgebra, IsNilpotent};
+ghost use Rattle.finite_algebra_theory.specs.Maximal.{NilpotentAt};
 ghost use Rattle.places_theory.specs.Maps.{IsIsomorphism};
-ghost use Rattle.places_theory.specs.Orders.{IsPlaceOver, InPrime};
+ghost use Rattle.places_theory.specs.InfiniteSide.{InReverse, IsPrimeToT};
+ghost use Rattle.places_theory.specs.Orders.{IsOrderAt, IsPlaceOver, InPrime};
 ghost use Rattle.places_theory.specs.Reductions.{IsReduction, Primitive};
 
 use ff_ring::sets::Subset;
 
-/// A function field with a set of functions and what is prime to some function in a base ring. Only theorems use it.
+/// A function field with a base ring, the members of that ring that are prime to some function, an order over the base ring and a prime of
+/// the order. Only theorems use it, as a type parameter that no value has.
 pub trait LocalOrder {
     ghost field: { CodeField };
 
@@ -35,6 +42,8 @@ pub trait LocalOrder {
     ghost prime_to: { Functions field presentation → Type 0 };
 
     ghost members: { Functions field presentation → Type 0 };
+
+    ghost prime: { Functions field presentation → Type 0 };
 }
 
 /// The integral functions of a side are a ring over the scalars of the side.
@@ -102,12 +111,44 @@ pub fn presentations_law()
         × ((z : ElemValue) → IsElem k.ops q.n z → f (function_of k q z) ≡ function_on k p c Side.Infinite z) }
 {}
 
-/// Where O modulo p is a finite algebra over a finite field, its primitive idempotents give a prime system of O at p.
+/// The scalars of the infinite side are k[t] at t = 1/x with denominators that t does not divide. So a function is integral there, or
+/// in a span, where a multiple by such a denominator is so over k[t].
+pub fn infinite_side_law()
+    ensures scalars { (k : CodeField) (p : PresValue)
+        → SameSet ((setting k p).IsScalar Side.Infinite) (Locally (functions k p).ops (IsPrimeToT k p) (InReverse k p)) }
+    ensures integral { (k : CodeField) (p : PresValue) → SameSet (IsIntegralAt (setting k p) Side.Infinite)
+        (Locally (functions k p).ops (IsPrimeToT k p) (IsIntegral (functions k p).ops (InReverse k p))) }
+    ensures spans { (k : CodeField) (p : PresValue) (bs : List (Functions k p))
+        → SameSet (Span (functions k p).ops ((setting k p).IsScalar Side.Infinite) bs)
+        (Locally (functions k p).ops (IsPrimeToT k p) (Span (functions k p).ops (InReverse k p) bs)) }
+{}
+
+/// Where O modulo p is a finite algebra over a finite field, its primitive idempotents give a prime system of O at p. The radical modulo
+/// p, and the prime of an idempotent, are the members of O that reduce to nilpotent elements, at the idempotent.
 pub fn prime_system_law<T, Q, O: Subset<T>, K: Subset<Q>>()
-    ensures { (R : CommRing T) (A : CommRing Q) (p : T) (reduce : T → Q) (lift : Q → T) → IsSubring R.ops O.members → O.members p
+    ensures radical { (R : CommRing T) (A : CommRing Q) (p : T) (reduce : T → Q) (lift : Q → T) → IsSubring R.ops O.members
+        → IsReduction R.ops O.members p A.ops reduce lift → (z : T)
+        → Radical R.ops O.members p z ↔ (O.members z × IsNilpotent A.ops (reduce z)) }
+    ensures prime { (R : CommRing T) (A : CommRing Q) (p : T) (reduce : T → Q) (lift : Q → T) → IsSubring R.ops O.members
+        → IsReduction R.ops O.members p A.ops reduce lift → (e : Primitive A.ops) (z : T)
+        → PrimeAt R.ops O.members p (lift e.0) z ↔ (O.members z × NilpotentAt A.ops e.0 (reduce z)) }
+    ensures system { (R : CommRing T) (A : CommRing Q) (p : T) (reduce : T → Q) (lift : Q → T) → IsSubring R.ops O.members → O.members p
         → IsReduction R.ops O.members p A.ops reduce lift → FiniteAlgebra A.ops K.members
         → (is : List (Primitive A.ops)) × IsDecomposition R.ops O.members p (Primitive A.ops) (λ i. lift i.0) is
         × IsSystem R.ops O.members p (Primitive A.ops) (λ i. PrimeAt R.ops O.members p (lift i.0)) is }
+{}
+
+/// The places over p are those of the primes over p of an order that is maximal at p: each prime that finitely many functions span is
+/// that of a place, and two places with the same prime are the same.
+pub fn places_over_law<C: LocalOrder>()
+    ensures place { let S = setting C.field C.presentation in (s : Side) (p : Functions C.field C.presentation) (rows gens : List (Functions C.field C.presentation))
+        → IsOrderAt S s C.base C.prime_to p C.members → IsPrime S.functions.ops C.members C.prime → C.prime p
+        → ((a : Functions C.field C.presentation) → C.base a → S.IsScalar s a) → SameSet C.prime (Span S.functions.ops C.base rows)
+        → SameSet (IsIntegralAt S s) (Span S.functions.ops (S.IsScalar s) gens)
+        → (P : Place (Functions C.field C.presentation)) × (P.side ≡ s) × IsPlace S P × ((z : Functions C.field C.presentation) → C.members z → IsIn S P z ↔ C.prime z) }
+    ensures once { let S = setting C.field C.presentation in (P Q : Place (Functions C.field C.presentation)) (p : Functions C.field C.presentation)
+        → IsPlaceOver S P C.base C.prime_to p C.members → IsPlaceOver S Q C.base C.prime_to p C.members → P.side ≡ Q.side
+        → ((z : Functions C.field C.presentation) → C.members z → IsIn S P z ↔ IsIn S Q z) → IsSamePlace S P Q }
 {}
 
 /// The valuation of a place over p is that of its prime in an order that is maximal at p. So values add on products, the value of a sum
