@@ -1,13 +1,25 @@
 -- The value of a polynomial at an element of a ring over its coefficients: a homomorphism. Constants are one too.
-use Rattle.std.proofs.Common.{◌≡◌, ℕ, zero, suc, Bool, true, false, cond, List, [], ◌∷◌, refl, sym, ◌∙◌, ap, ap₂}
+use Rattle.std.proofs.Common.{◌≡◌, ◌≤◌, arith, length, ℕ, zero, suc, Bool, true, false, cond, List, [], ◌∷◌, refl, sym, ◌∙◌, ap, ap₂}
 use Rattle.ff_ring.specs.Ring.{CommRing, TestedRing}
-use Rattle.ff_ring.specs.Lists.{coeff_of, add_lists, scale_list, mul_lists, trim, trim_onto}
-use Rattle.ff_ring.proofs.Ring.{zero_add, mul_zero, zero_mul}
+use Rattle.ff_ring.specs.Lists.{coeff_of, tail_of, add_lists, scale_list, mul_lists, trim, trim_onto}
+use Rattle.ff_ring.proofs.Ring.{zero_add, one_mul, mul_zero, zero_mul}
 use Rattle.ff_ring.proofs.Sequences.{convolution_constant_left}
 use Rattle.ff_ring.proofs.Lists.{coeff_trim}
 use Rattle.ff_ring.proofs.Polynomials.{Pol, pol_of, pol_ops, pol_ring, same_pol, series_add, series_mul}
 use Rattle.ff_ring.proofs.RowMaps.{IsHom, hom_zero}
 use Rattle.ff_ring.proofs.Solver.{ring, reads}
+
+pub length_trim : {A : Type 0} (z : A → Bool) (xs : List A) → length (trim z xs) ≤ length xs
+length_trim z [] = omega arith
+length_trim z (x ∷ xs) = onto (trim z xs) (length_trim z xs)
+  where
+    onto : (ys : List _) → length ys ≤ length xs → length (trim_onto z x ys) ≤ suc (length xs)
+    onto [] l = go (z x)
+      where
+        go : (b : Bool) → length (cond b [] (x ∷ [])) ≤ suc (length xs)
+        go true = omega arith
+        go false = omega arith
+    onto (y ∷ ys) l = omega arith
 
 -- a homomorphism after another
 pub hom_after : {A B C : Type 0} (R : CommRing A) (S : CommRing B) (T : CommRing C) (f : A → B) (g : B → C)
@@ -49,6 +61,40 @@ module _ {A : Type 0} (r : TestedRing A) where
       products a b zero = ap₂ r.◌⊗◌ (constant_first a) (constant_first b) ∙ sym (constant_first (r.◌⊗◌ a b))
       products a b (suc n) =
           ap (r.◌⊗◌ (coeff_of r.ops (constant a).0 zero)) (constant_rest b n) ∙ mul_zero r.ring _ ∙ sym (constant_rest (r.◌⊗◌ a b) n)
+
+  -- the polynomial x, and a list as its first coefficient plus x times the rest
+  abbrev pub x_pol : Pol r
+  x_pol = pol_of r (r.𝟘 ∷ r.𝟙 ∷ [])
+
+  x_first : coeff_of r.ops x_pol.0 zero ≡ r.𝟘
+  x_first = coeff_trim r (r.𝟘 ∷ r.𝟙 ∷ []) zero
+
+  x_second : coeff_of r.ops x_pol.0 1 ≡ r.𝟙
+  x_second = coeff_trim r (r.𝟘 ∷ r.𝟙 ∷ []) 1
+
+  x_rest : (n : ℕ) → coeff_of r.ops x_pol.0 (suc (suc n)) ≡ r.𝟘
+  x_rest n = coeff_trim r (r.𝟘 ∷ r.𝟙 ∷ []) (suc (suc n))
+
+  pub pol_cons : (c : A) (w : List A) → pol_of r (c ∷ w) ≡ (pol_ring r).◌⊕◌ (constant c) ((pol_ring r).◌⊗◌ x_pol (pol_of r w))
+  pol_cons c w =
+      same_pol r _ _ (λ n. coeff_trim r (c ∷ w) n ∙ sym (series_add r (constant c) ((pol_ring r).◌⊗◌ x_pol (pol_of r w)) n ∙ go n))
+    where
+      go : (n : ℕ) → r.◌⊕◌ (coeff_of r.ops (constant c).0 n) (coeff_of r.ops ((pol_ring r).◌⊗◌ x_pol (pol_of r w)).0 n) ≡ coeff_of r.ops (c ∷ w) n
+      go zero =
+          ap₂ r.◌⊕◌ (constant_first c)
+          (series_mul r x_pol (pol_of r w) zero ∙ ap (λ a. r.◌⊗◌ a (coeff_of r.ops (pol_of r w).0 zero)) x_first ∙ zero_mul r.ring _)
+          ∙ r.add_zero c
+      go (suc n) =
+          ap₂ r.◌⊕◌ (constant_rest c n)
+          (series_mul r x_pol (pol_of r w) (suc n)
+          ∙ ap₂ r.◌⊕◌ (ap (λ a. r.◌⊗◌ a (coeff_of r.ops (pol_of r w).0 (suc n))) x_first ∙ zero_mul r.ring _)
+          (convolution_constant_left r.ring (tail_of (coeff_of r.ops x_pol.0)) (coeff_of r.ops (pol_of r w).0) x_rest n
+          ∙ ap (λ a. r.◌⊗◌ a (coeff_of r.ops (pol_of r w).0 n)) x_second ∙ one_mul r.ring _ ∙ coeff_trim r w n)
+          ∙ zero_add r.ring _)
+          ∙ zero_add r.ring _
+
+  pub pol_self : (p : Pol r) → pol_of r p.0 ≡ p
+  pol_self p = same_pol r _ _ (λ n. coeff_trim r p.0 n)
 
 module _ {A E : Type 0} (r : TestedRing A) (F : CommRing E) (e : A → E) (hom : IsHom r.ring F e) (t : E) where
   infixl 65 ◌⊕◌
@@ -115,3 +161,18 @@ module _ {A E : Type 0} (r : TestedRing A) (F : CommRing E) (e : A → E) (hom :
   -- the value of a constant
   pub value_constant : (c : A) → value_of (constant r c) ≡ e c
   value_constant c = evaluate_trim (c ∷ []) ∙ ap (λ x. e c ⊕ x) (mul_zero F t) ∙ F.add_zero (e c)
+
+-- a homomorphism takes values to values
+pub evaluate_hom : {A E G : Type 0} (r : TestedRing A) (F : CommRing E) (e : A → E) (hom : IsHom r.ring F e) (t : E)
+    (H : CommRing G) (f : E → G) (g : IsHom F H f) (w : List A)
+    → f (evaluate r F e hom t w) ≡ evaluate r H (λ a. f (e a)) (hom_after r.ring F H e f hom g) (f t) w
+evaluate_hom r F e hom t H f g [] = hom_zero F H f g
+evaluate_hom r F e hom t H f g (c ∷ w) =
+    g.add (e c) (F.◌⊗◌ t (evaluate r F e hom t w))
+    ∙ ap (H.◌⊕◌ (f (e c))) (g.mul t (evaluate r F e hom t w) ∙ ap (H.◌⊗◌ (f t)) (evaluate_hom r F e hom t H f g w))
+
+-- a polynomial is its value at x
+pub pol_value : {A : Type 0} (r : TestedRing A) (w : List A) → pol_of r w ≡ evaluate r (pol_ring r).ring (constant r) (constant_hom r) (x_pol r) w
+unfolding pol_ops
+pol_value r [] = refl
+pol_value r (c ∷ w) = pol_cons r c w ∙ ap (λ p. (pol_ring r).◌⊕◌ (constant r c) ((pol_ring r).◌⊗◌ (x_pol r) p)) (pol_value r w)

@@ -6,7 +6,7 @@ use Rattle.ff_ring.specs.Subsets.{IsSubring}
 use Rattle.ff_ring.proofs.Ring.{mul_zero, add_cancel_left, sub_of_eq}
 use Rattle.ff_ring.proofs.Local.{power_in}
 use Rattle.ff_ring.proofs.Finite.{In}
-use Rattle.local_theory.specs.Ideals.{Multiple, OneModulo}
+use Rattle.local_theory.specs.Ideals.{Multiple}
 use Rattle.local_theory.specs.Orders.{Radical}
 use Rattle.local_theory.specs.Systems.{IsDecomposition, IsSystem, PrimeAt}
 use Rattle.local_theory.proofs.Idempotents.{idempotent_system}

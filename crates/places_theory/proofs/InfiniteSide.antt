@@ -1,7 +1,7 @@
 -- The infinite side: its scalars are k[t] with the inverses of what t does not divide, so its integral functions and its spans are
 -- those over k[t] up to such factors.
-use Rattle.std.proofs.Common.{◌≡◌, ◌↔◌, ℕ, zero, suc, ◌+◌, ◌-◌, ◌≤◌, ◌<◌, Bool, true, false, List, [], ◌∷◌, ◌++◌, length, map, get_or, reverse, replicate, refl, sym, ◌∙◌, ap, ap₂, subst, arith, cond, true≢false, eqb-true, eq-eqb}
-use Rattle.std.proofs.lemmas.List.{length-append, length-map, length-replicate, length-reverse, reverse-reverse, reverse-append, map-append}
+use Rattle.std.proofs.Common.{◌≡◌, ℕ, zero, suc, ◌+◌, ◌-◌, ◌≤◌, ◌<◌, Bool, true, false, List, [], ◌∷◌, ◌++◌, length, map, get_or, reverse, replicate, refl, sym, ◌∙◌, ap, ap₂, subst, arith, cond, true≢false, eqb-true, eq-eqb}
+use Rattle.std.proofs.lemmas.List.{length-append, length-map, length-replicate, length-reverse, reverse-reverse, map-append}
 use mathlib.Core.List.{reverse-cons}
 use Rattle.ff_ring.specs.Ring.{CommRing, pow}
 use Rattle.ff_ring.specs.Lists.{coeff_of, trim, trim_onto, IsTrimmed}
@@ -23,7 +23,7 @@ use Rattle.ff_poly.specs.Value.{value}
 use Rattle.ff_poly.specs.Words.{IsPoly}
 use Rattle.ff_poly.specs.Polynomials.{Polynomial, polynomials, polynomials_domain, codes_of, value_codes_of, value_nil, value_one, value_cons, series_read, IsOver_codes_of, IsPoly_codes_of, constant_poly, x_poly, x_poly_not_zero}
 use Rattle.ff_algebra.specs.declared.elem.Side.TheVariants.{Finite, Infinite}
-use Rattle.ff_algebra.specs.Functions.{ring_of, of_poly, over, row_of, IsFiniteAtInfinity}
+use Rattle.ff_algebra.specs.Functions.{of_poly, over, row_of, IsFiniteAtInfinity}
 use Rattle.ff_algebra.specs.Values.{PresValue, Functions, functions, equation_of}
 use Rattle.ff_algebra.specs.Infinity.{value_at, variable}
 use Rattle.local_theory.specs.Ideals.{IsMultiplicative, SameSet}
@@ -343,9 +343,17 @@ module _ (k : CodeField) (p : PresValue) where
         bottom = bottom;
         not_null = not_null;
         degrees =
-            omega (arith, x_times k m A, x_times_exact k n B some, length_product_le (code_ring k) (code_domain k) (x_poly k) (value k (reverse v)),
-            length_product (code_ring k) (code_domain k) (x_poly k) r.polynomial (x_poly_not_zero k) r.nonzero, x_length k, r.exact,
-            length_at_most k (reverse v), length-reverse v);
+            omega (
+              arith,
+              x_times k m A,
+              x_times_exact k n B some,
+              length_product_le (code_ring k) (code_domain k) (x_poly k) (value k (reverse v)),
+              length_product (code_ring k) (code_domain k) (x_poly k) r.polynomial (x_poly_not_zero k) r.nonzero,
+              x_length k,
+              r.exact,
+              length_at_most k (reverse v),
+              length-reverse v,
+            );
         value =
             over_unique (equation_of k p) top bottom not_null z
             (ap (λ s. s ⊗ z) ((poly_hom (equation_of k p)).mul _ B ∙ ap₂ (λ s t. s ⊗ t) (x_power n) (sym r.is))

@@ -10,3 +10,4 @@ pub mod Decomposition
 pub mod PlaceValues
 pub mod InfiniteSide
 pub mod PlacesOver
+pub mod CodeFields

@@ -1,17 +1,17 @@
 -- At a place over p, with an order that is maximal at p: the valuation of the place is that of its prime of the order. So it is
 -- additive on products, and each function with an inverse has one.
-use Rattle.std.proofs.Common.{◌≡◌, ◌↔◌, ◌⊎◌, inl, inr, ℕ, zero, suc, List, [], ◌∷◌, refl, sym, ◌∙◌, ap, subst, arith, All}
+use Rattle.std.proofs.Common.{◌≡◌, ◌↔◌, ◌⊎◌, inl, inr, ℕ, suc, List, [], ◌∷◌, arith}
 use Rattle.std.proofs.lemmas.Int.{ints}
 use Rattle.std.proofs.Math.IntN.{ℤ, pos, negsuc, ◌+ℤ◌, ◌-ℤ◌}
-use Rattle.ff_ring.specs.Ring.{CommRing, pow}
+use Rattle.ff_ring.specs.Ring.{pow}
 use Rattle.ff_ring.specs.Subsets.{IsSubring, Span}
 use Rattle.ff_ring.specs.Local.{Locally}
 use Rattle.ff_ring.proofs.Subsets.{span_members}
-use Rattle.local_theory.specs.Primes.{IsPrime, Outside, Pair, Exactly}
+use Rattle.local_theory.specs.Primes.{IsPrime, Pair}
 use Rattle.local_theory.specs.Places.{PlaceAtLeast, PlaceAtLeastMinus, PlaceOf}
 use Rattle.local_theory.specs.IntegerValues.{up, down, ValueAtLeast, ValueIs}
 use Rattle.local_theory.proofs.Places.{prime_of_place, place_from_prime, value_of_place, place_of_value, value_of_place_minus, place_minus_of_value}
-use Rattle.local_theory.proofs.IntegerValues.{value_of_exact, value_bounded, value_next, exact_product, exact_quotient, exact_sum}
+use Rattle.local_theory.proofs.IntegerValues.{value_of_exact, value_bounded, value_next, exact_product, exact_sum}
 use Rattle.local_theory.proofs.IntegerFactors.{parts_of}
 use Rattle.local_theory.proofs.Valuation.{eq_reindex}
 use Rattle.local_theory.proofs.Exact.{exact_of_invertible}

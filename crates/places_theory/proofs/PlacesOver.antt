@@ -1,9 +1,7 @@
 -- The places over p and the primes of an order that is maximal at p: each prime with finitely many generators is that of a place, and
 -- a place is known from its prime.
-use Rattle.std.proofs.Common.{◌≡◌, ◌↔◌, ◌⊎◌, List, ◌++◌, map, sym, subst}
-use Rattle.ff_ring.specs.Ring.{CommRing}
+use Rattle.std.proofs.Common.{◌≡◌, ◌↔◌, List, ◌++◌, map, sym, subst}
 use Rattle.ff_ring.specs.Subsets.{IsSubring, IsModule, Span}
-use Rattle.ff_ring.proofs.Local.{locally_module}
 use Rattle.local_theory.specs.Ideals.{SameSet}
 use Rattle.local_theory.specs.Primes.{IsPrime}
 use Rattle.local_theory.specs.Places.{IsMaximalIdeal, PlaceOf}
@@ -80,18 +78,24 @@ module _ {E : Type 0} (S : Setting E) (scalars : (s : Side) → IsSubring S.func
     members = λ z. (
       λ m.
           let l = (known P h z).0 m in
-          (known Q k z).1 (subst (λ s. IsIntegralAt S s z) e l.0, record {
-            factor = l.1.factor;
-            factor_in = l.1.factor_in;
-            multiple_in = (l.1.multiple_in.0, (same _ l.1.multiple_in.0).0 l.1.multiple_in.1);
-          }),
+          (known Q k z).1 (
+            subst (λ s. IsIntegralAt S s z) e l.0,
+            record {
+              factor = l.1.factor;
+              factor_in = l.1.factor_in;
+              multiple_in = (l.1.multiple_in.0, (same _ l.1.multiple_in.0).0 l.1.multiple_in.1);
+            },
+          ),
       λ m.
           let l = (known Q k z).0 m in
-          (known P h z).1 (subst (λ s. IsIntegralAt S s z) (sym e) l.0, record {
-            factor = l.1.factor;
-            factor_in = l.1.factor_in;
-            multiple_in = (l.1.multiple_in.0, (same _ l.1.multiple_in.0).1 l.1.multiple_in.1);
-          }),
+          (known P h z).1 (
+            subst (λ s. IsIntegralAt S s z) (sym e) l.0,
+            record {
+              factor = l.1.factor;
+              factor_in = l.1.factor_in;
+              multiple_in = (l.1.multiple_in.0, (same _ l.1.multiple_in.0).1 l.1.multiple_in.1);
+            },
+          ),
     );
   }
     where

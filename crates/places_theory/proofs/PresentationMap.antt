@@ -5,7 +5,7 @@ use Rattle.ff_ring.specs.Ring.{pow}
 use Rattle.ff_ring.specs.Rows.{Row, row_zero, times_y}
 use Rattle.ff_ring.proofs.Ring.{one_mul, mul_zero, pow_add, pow_mul, mul_pow}
 use Rattle.ff_ring.proofs.Rows.{pair_path, row_one}
-use Rattle.ff_ring.proofs.RowMaps.{IsHom, hom_zero, eval, eval_none, eval_cons, eval_times_y, pair_value, pair_value_is, pair_value_same, pair_add_value, pair_mul_value}
+use Rattle.ff_ring.proofs.RowMaps.{IsHom, eval, eval_none, eval_cons, eval_times_y, pair_value, pair_value_is, pair_value_same, pair_add_value, pair_mul_value}
 use Rattle.ff_ring.proofs.Solver.{ring, reads, from_one}
 use Rattle.ff_fields.specs.Field.{CodeField}
 use Rattle.ff_poly.specs.Value.{value, numbers_value}

@@ -10,6 +10,7 @@ ghost use Rattle.ff_ring.specs.Subsets.{IsSubring, Span};
 ghost use Rattle.ff_ring.specs.Integral.{IsIntegral};
 ghost use Rattle.ff_ring.specs.Local.{Locally};
 ghost use Rattle.ff_fields.specs.Field.{CodeField};
+ghost use Rattle.ff_fields.specs.Code.{code_ring};
 ghost use Rattle.ff_algebra.specs.declared.elem.Side.{Side};
 ghost use Rattle.ff_algebra.specs.Values.{PresValue, ElemValue, IsElem, Functions, functions, setting, function_of};
 ghost use Rattle.ff_algebra.specs.Places.{Place, IsPlace, IsSamePlace, IsIntegralAt, IsIn, InPower, HasValuationAtLeast, HasValuation};
@@ -22,6 +23,7 @@ ghost use Rattle.local_theory.specs.IntegerValues.{ValueIs};
 ghost use Rattle.local_theory.specs.Ideals.{SameSet};
 ghost use Rattle.local_theory.specs.Orders.{Radical};
 ghost use Rattle.finite_algebra_theory.specs.Algebra.{FiniteAlgebra, IsNilpotent};
+ghost use Rattle.finite_algebra_theory.specs.ByMap.{FiniteField};
 ghost use Rattle.finite_algebra_theory.specs.Maximal.{NilpotentAt};
 ghost use Rattle.places_theory.specs.Maps.{IsIsomorphism};
 ghost use Rattle.places_theory.specs.InfiniteSide.{InReverse, IsPrimeToT};
@@ -45,6 +47,11 @@ pub trait LocalOrder {
 
     ghost prime: { Functions field presentation → Type 0 };
 }
+
+/// The codes of a field are a finite field: equality is decided, all are listed, each once, and each is its own q-th power.
+pub fn finite_field_law()
+    ensures { (k : CodeField) → FiniteField (code_ring k).ops }
+{}
 
 /// The integral functions of a side are a ring over the scalars of the side.
 pub fn integral_functions_law()
