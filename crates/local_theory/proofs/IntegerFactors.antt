@@ -7,7 +7,7 @@ use Rattle.ff_ring.specs.Ring.{CommRing, pow}
 use Rattle.ff_ring.specs.Subsets.{IsSubring, IsModule, Span, Product}
 use Rattle.ff_ring.proofs.Subsets.{product_member}
 use Rattle.local_theory.specs.Ideals.{SameSet, Multiple}
-use Rattle.local_theory.specs.Systems.{IdealPower, IdealProduct, Entry, IsFamily, IsSystem, Distinct}
+use Rattle.local_theory.specs.Systems.{IdealPower, IdealProduct, PrimeExponent, IsFamily, IsSystem, Distinct}
 use Rattle.local_theory.specs.IntegerValues.{up, down, ValueIs, entry}
 use Rattle.local_theory.proofs.Products.{product_into, product_monotone, additive_of_module}
 use Rattle.local_theory.proofs.AtPrime.{ideal_power_module, ideal_power_add}
@@ -64,7 +64,7 @@ module _ {A : Type 0} (R : CommRing A) (O : A → Type 0) (𝓞 : IsSubring R.op
       go (inr l) = less (a - c) (move a b (c + (a - c)) (d + (a - c)) (omega arith) (omega arith) h)
 
   -- the product of the powers with given exponents
-  abbrev pub powers_of : (I → ℤ) → List I → List (Entry I)
+  abbrev pub powers_of : (I → ℤ) → List I → List (PrimeExponent I)
   powers_of v is = map (λ i. entry i (v i)) is
 
   pub entries_integers : (f g : I → ℕ) (v : I → ℤ) → ((i : I) → f i + down (v i) ≡ up (v i) + g i) → (is : List I)

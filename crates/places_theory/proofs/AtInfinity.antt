@@ -1,13 +1,15 @@
 -- Polynomials at t = 1/x: a power of x times the value is the reversed polynomial.
-use Rattle.std.proofs.Common.{◌≡◌, ℕ, List, [], ◌∷◌, length, reverse, refl, sym, ◌∙◌, ap}
+use Rattle.finite_algebra_theory.proofs.ByMap.{map_pow}
+use Rattle.ff_ring.proofs.Ring.{mul_pow, pow_one_base, product_not_zero}
+use Rattle.std.proofs.Common.{zero, suc, ◌≡◌, ℕ, List, [], ◌∷◌, length, reverse, refl, sym, ◌∙◌, ap}
 use Rattle.ff_ring.specs.Ring.{pow}
-use Rattle.ff_ring.proofs.RowMaps.{IsHom}
+use Rattle.ff_ring.proofs.RowMaps.{IsHom, hom_zero}
 use Rattle.ff_ring.proofs.Evaluate.{constant, constant_hom, evaluate, evaluate_trim, value_of, value_hom, hom_after}
 use Rattle.ff_fields.specs.Field.{CodeField}
-use Rattle.ff_fields.specs.Code.{Code, code_ring}
+use Rattle.ff_fields.specs.Code.{Code, code_ring, same_code, read_code, read_code_below, zero_in}
 use Rattle.ff_fields.specs.Numbers.{read}
 use Rattle.ff_poly.specs.Value.{value}
-use Rattle.ff_poly.specs.Polynomials.{Polynomial, polynomials, polynomials_domain, codes_of, value_codes_of, value_nil, IsOver_codes_of, IsPoly_codes_of, x_poly, x_poly_not_zero}
+use Rattle.ff_poly.specs.Polynomials.{Polynomial, polynomials, polynomials_domain, codes_of, value_codes_of, value_nil, IsOver_codes_of, IsPoly_codes_of, x_poly, x_poly_not_zero, constant_poly}
 use Rattle.ff_algebra.specs.declared.elem.Side.TheVariants.{Finite, Infinite}
 use Rattle.ff_algebra.specs.Functions.{of_poly}
 use Rattle.ff_algebra.specs.Values.{PresValue, Functions, functions, equation_of}
@@ -15,6 +17,16 @@ use Rattle.ff_algebra.specs.Infinity.{constant as constant_code, value_at, varia
 use Rattle.ff_algebra.proofs.Reversal.{value as value_by, value_reverse}
 use Rattle.ff_algebra.proofs.OnSide.{value_at_x, den_inverse, reverse_not_zero}
 use Rattle.places_theory.proofs.YRoot.{poly_hom}
+
+module _ (k : CodeField) where
+  pub constant_zero : constant_poly k 0 ≡ (polynomials k).𝟘
+  constant_zero =
+      ap (constant (code_ring k)) (same_code k (read_code k 0) (code_ring k).𝟘 (read_code_below k 0 (zero_in k)))
+      ∙ hom_zero (code_ring k).ring (polynomials k).ring (constant (code_ring k)) (constant_hom (code_ring k))
+
+  pub x_power_not_zero : (n : ℕ) → ¬ (pow (polynomials k).ops (x_poly k) n ≡ (polynomials k).𝟘)
+  x_power_not_zero zero = (polynomials_domain k).one_not_zero
+  x_power_not_zero (suc n) = product_not_zero (polynomials_domain k) (x_poly k) _ (x_poly_not_zero k) (x_power_not_zero n)
 
 module _ (k : CodeField) (p : PresValue) where
   -- a code as a function
@@ -49,6 +61,16 @@ module _ (k : CodeField) (p : PresValue) where
 
   pub x_times_t : (functions k p).◌⊗◌ (variable k p Finite) (variable k p Infinite) ≡ (functions k p).𝟙
   x_times_t = den_inverse (equation_of k p) (x_poly k) (x_poly_not_zero k)
+
+  -- powers of x and of 1/x
+  pub x_power : (n : ℕ) → of_poly (equation_of k p) (pow (polynomials k).ops (x_poly k) n) ≡ pow (functions k p).ops (variable k p Finite) n
+  x_power n = map_pow (polynomials k).ring (functions k p) (of_poly (equation_of k p)) (poly_hom (equation_of k p)) (x_poly k) n
+
+  pub powers_cancel : (n : ℕ)
+      → (functions k p).◌⊗◌ (pow (functions k p).ops (variable k p Finite) n) (pow (functions k p).ops (variable k p Infinite) n) ≡ (functions k p).𝟙
+  powers_cancel n =
+      sym (mul_pow (functions k p) (variable k p Finite) (variable k p Infinite) n)
+      ∙ ap (λ s. pow (functions k p).ops s n) x_times_t ∙ pow_one_base (functions k p) n
 
   value_at_value : (t : Functions k p) (w : List ℕ) → value_at k p t w ≡ value_by (functions k p) (constant_code k p) t w
   unfolding value_by

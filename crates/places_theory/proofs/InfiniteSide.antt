@@ -1,23 +1,23 @@
 -- The infinite side: its scalars are k[t] with the inverses of what t does not divide, so its integral functions and its spans are
 -- those over k[t] up to such factors.
-use Rattle.std.proofs.Common.{◌≡◌, ℕ, zero, suc, ◌+◌, ◌-◌, ◌≤◌, ◌<◌, Bool, true, false, List, [], ◌∷◌, ◌++◌, length, map, get_or, reverse, replicate, refl, sym, ◌∙◌, ap, ap₂, subst, arith, cond, true≢false, eqb-true, eq-eqb}
+use Rattle.local_theory.proofs.Scalars.{span_wider, integral_wider}
+use Rattle.std.proofs.Common.{◌≡◌, ℕ, zero, suc, ◌+◌, ◌-◌, ◌≤◌, ◌<◌, Bool, true, false, List, [], ◌∷◌, ◌++◌, length, map, get_or, reverse, replicate, refl, sym, ◌∙◌, ap, ap₂, subst, arith, true≢false, eqb-true, eq-eqb}
 use Rattle.std.proofs.lemmas.List.{length-append, length-map, length-replicate, length-reverse, reverse-reverse, map-append}
 use mathlib.Core.List.{reverse-cons}
 use Rattle.ff_ring.specs.Ring.{CommRing, pow}
-use Rattle.ff_ring.specs.Lists.{coeff_of, trim, trim_onto, IsTrimmed}
+use Rattle.ff_ring.specs.Lists.{coeff_of, IsTrimmed}
 use Rattle.ff_ring.specs.Subsets.{IsSubring, Span}
 use Rattle.ff_ring.specs.Local.{Locally}
 use Rattle.ff_ring.specs.Integral.{IsIntegral}
-use Rattle.ff_ring.proofs.Ring.{mul_zero, mul_pow, pow_one_base, product_not_zero}
+use Rattle.ff_ring.proofs.Ring.{mul_zero, product_not_zero}
 use Rattle.ff_ring.proofs.Lists.{trim_trimmed, IsTrimmed_push}
 use Rattle.ff_ring.proofs.Polynomials.{pol_ops, series_mul, length_product, length_product_le}
 use Rattle.ff_ring.proofs.RowMaps.{hom_zero, hom_neg}
-use Rattle.ff_ring.proofs.Evaluate.{constant, constant_hom}
+use Rattle.ff_ring.proofs.Evaluate.{length_trim}
 use Rattle.ff_ring.proofs.Solver.{ring, reads, from_one, from_two, from_three}
-use Rattle.finite_algebra_theory.proofs.ByMap.{map_pow}
 use Rattle.ff_fields.specs.Field.{CodeField}
 use Rattle.ff_fields.specs.Over.{IsOver, IsOver_nil, IsOver_cons, IsOver_head, IsOver_tail, IsOver_append}
-use Rattle.ff_fields.specs.Code.{is_zero_code, Code, code_ring, code_domain, same_code, read_code, read_code_below, zero_in}
+use Rattle.ff_fields.specs.Code.{is_zero_code, Code, code_ring, code_domain, same_code, read_code, read_code_below}
 use Rattle.ff_fields.specs.Numbers.{read}
 use Rattle.ff_poly.specs.Value.{value}
 use Rattle.ff_poly.specs.Words.{IsPoly}
@@ -30,19 +30,14 @@ use Rattle.local_theory.specs.Ideals.{IsMultiplicative, SameSet}
 use Rattle.local_theory.proofs.Denominators.{integral_cleared, integral_of_cleared, span_cleared, span_of_cleared}
 use Rattle.places_theory.specs.InfiniteSide.{InReverse, IsPrimeToT}
 use Rattle.places_theory.proofs.YRoot.{poly_hom, over_times_den, over_unique}
-use Rattle.places_theory.proofs.AtInfinity.{at, at_hom, at_codes, value_at_is, x_times_t, reversed}
+use Rattle.places_theory.proofs.AtInfinity.{at, at_hom, at_codes, value_at_is, reversed, x_power, powers_cancel, x_power_not_zero, constant_zero}
 
 module _ (k : CodeField) where
-  constant_zero : constant_poly k 0 ≡ (polynomials k).𝟘
-  constant_zero =
-      ap (constant (code_ring k)) (same_code k (read_code k 0) (code_ring k).𝟘 (read_code_below k 0 (zero_in k)))
-      ∙ hom_zero (code_ring k).ring (polynomials k).ring (constant (code_ring k)) (constant_hom (code_ring k))
-
   value_zeros : (m : ℕ) → value k (replicate m 0) ≡ (polynomials k).𝟘
   value_zeros zero = value_nil k
   value_zeros (suc m) =
       value_cons k 0 (replicate m 0)
-      ∙ ap₂ (polynomials k).◌⊕◌ constant_zero (ap ((polynomials k).◌⊗◌ (x_poly k)) (value_zeros m) ∙ mul_zero (polynomials k).ring (x_poly k))
+      ∙ ap₂ (polynomials k).◌⊕◌ (constant_zero k) (ap ((polynomials k).◌⊗◌ (x_poly k)) (value_zeros m) ∙ mul_zero (polynomials k).ring (x_poly k))
       ∙ (polynomials k).add_zero (polynomials k).𝟘
 
   -- zeros on top change nothing
@@ -72,22 +67,7 @@ module _ (k : CodeField) where
           (IsTrimmed_push (code_ring k).is_zero (read k w) (read_code k c) (nonzero ((code_ring k).is_zero (read_code k c)) refl))
 
   length_at_most : (w : List ℕ) → length (value k w).0 ≤ length w
-  length_at_most w = go (read k w) (length-map w (read_code k))
-    where
-      shorter : (xs : List (Code k)) → length (trim (code_ring k).is_zero xs) ≤ length xs
-      shorter [] = omega arith
-      shorter (x ∷ xs) = onto (trim (code_ring k).is_zero xs) (shorter xs)
-        where
-          onto : (ys : List (Code k)) → length ys ≤ length xs → length (trim_onto (code_ring k).is_zero x ys) ≤ suc (length xs)
-          onto [] l = go ((code_ring k).is_zero x)
-            where
-              go : (b : Bool) → length (cond b [] (x ∷ [])) ≤ suc (length xs)
-              go true = omega arith
-              go false = omega arith
-          onto (y ∷ ys) l = omega arith
-
-      go : (xs : List (Code k)) → length xs ≡ length w → length (trim (code_ring k).is_zero xs) ≤ length w
-      go xs e = subst (λ n. length (trim (code_ring k).is_zero xs) ≤ n) e (shorter xs)
+  length_at_most w = let l = length_trim (code_ring k).is_zero (read k w) in let e = length-map w (read_code k) in omega arith
 
   x_length : length (x_poly k).0 ≡ 2
   x_length = length_last (0 ∷ []) 1 k.laws.one_below (λ e. absurd (omega arith))
@@ -101,17 +81,13 @@ module _ (k : CodeField) where
       subst (λ b. length b.0 ≤ suc m + length a.0) (sym ((polynomials k).mul_assoc (x_poly k) (pow (polynomials k).ops (x_poly k) m) a))
       (omega (arith, x_times m a, length_product_le (code_ring k) (code_domain k) (x_poly k) b, x_length))
 
-  powers_nonzero : (m : ℕ) → ¬ (pow (polynomials k).ops (x_poly k) m ≡ (polynomials k).𝟘)
-  powers_nonzero zero = (polynomials_domain k).one_not_zero
-  powers_nonzero (suc m) = product_not_zero (polynomials_domain k) (x_poly k) _ (x_poly_not_zero k) (powers_nonzero m)
-
   x_times_exact : (m : ℕ) (a : Polynomial k) → ¬ (a ≡ (polynomials k).𝟘)
       → length ((polynomials k).◌⊗◌ (pow (polynomials k).ops (x_poly k) m) a).0 ≡ m + length a.0
   x_times_exact zero a n =
       ap (λ b. length b.0) ((polynomials k).mul_comm (polynomials k).𝟙 a ∙ (polynomials k).mul_one a) ∙ (omega arith)
   x_times_exact (suc m) a n =
       let b = (polynomials k).◌⊗◌ (pow (polynomials k).ops (x_poly k) m) a in
-      let some = product_not_zero (polynomials_domain k) (pow (polynomials k).ops (x_poly k) m) a (powers_nonzero m) n in
+      let some = product_not_zero (polynomials_domain k) (pow (polynomials k).ops (x_poly k) m) a (x_power_not_zero k m) n in
       ap (λ b. length b.0) ((polynomials k).mul_assoc (x_poly k) (pow (polynomials k).ops (x_poly k) m) a)
       ∙ (omega (arith, x_times_exact m a n, length_product (code_ring k) (code_domain k) (x_poly k) b (x_poly_not_zero k) some, x_length))
 
@@ -140,12 +116,6 @@ module _ (k : CodeField) (p : PresValue) where
 
   abbrev of : Polynomial k → Functions k p
   of a = of_poly (equation_of k p) a
-
-  x_power : (n : ℕ) → of (pow (polynomials k).ops (x_poly k) n) ≡ pow F.ops X n
-  x_power n = map_pow (polynomials k).ring F (of_poly (equation_of k p)) (poly_hom (equation_of k p)) (x_poly k) n
-
-  powers_cancel : (n : ℕ) → pow F.ops X n ⊗ pow F.ops T n ≡ 𝟙
-  powers_cancel n = sym (mul_pow F X T n) ∙ ap (λ s. pow F.ops s n) (x_times_t k p) ∙ pow_one_base F n
 
   -- k[t] is a ring
   pub reverse_ring : IsSubring F.ops (InReverse k p)
@@ -296,7 +266,7 @@ module _ (k : CodeField) (p : PresValue) where
           ≡ value_at k p T (reverse (codes_of k h.top ++ replicate (length (codes_of k h.bottom) - length (codes_of k h.top)) 0))
       multiple =
           cancel (pow F.ops X (length (codes_of k h.bottom))) (pow F.ops T (length (codes_of k h.bottom))) (of h.bottom)
-          (value_at k p T (reverse (codes_of k h.bottom))) (of h.top) _ (powers_cancel (length (codes_of k h.bottom))) bottom_is top_is
+          (value_at k p T (reverse (codes_of k h.bottom))) (of h.top) _ (powers_cancel k p (length (codes_of k h.bottom))) bottom_is top_is
           (ap (λ s. of h.bottom ⊗ s) h.value ∙ over_times_den (equation_of k p) h.top h.bottom h.not_null)
 
       ends : (w : List ℕ) → IsPoly w → ¬ (w ≡ []) → ¬ (get_or (reverse w) 0 0 ≡ 0)
@@ -337,7 +307,7 @@ module _ (k : CodeField) (p : PresValue) where
       let some = product_not_zero (polynomials_domain k) (x_poly k) r.polynomial (x_poly_not_zero k) r.nonzero in
       let bottom = (polynomials k).◌⊗◌ (pow (polynomials k).ops (x_poly k) n) B in
       let top = (polynomials k).◌⊗◌ (pow (polynomials k).ops (x_poly k) m) A in
-      let not_null = product_not_zero (polynomials_domain k) (pow (polynomials k).ops (x_poly k) n) B (powers_nonzero k n) some in
+      let not_null = product_not_zero (polynomials_domain k) (pow (polynomials k).ops (x_poly k) n) B (x_power_not_zero k n) some in
       record {
         top = top;
         bottom = bottom;
@@ -356,10 +326,10 @@ module _ (k : CodeField) (p : PresValue) where
             );
         value =
             over_unique (equation_of k p) top bottom not_null z
-            (ap (λ s. s ⊗ z) ((poly_hom (equation_of k p)).mul _ B ∙ ap₂ (λ s t. s ⊗ t) (x_power n) (sym r.is))
+            (ap (λ s. s ⊗ z) ((poly_hom (equation_of k p)).mul _ B ∙ ap₂ (λ s t. s ⊗ t) (x_power k p n) (sym r.is))
             ∙ cross (pow F.ops X n) (pow F.ops X m) (value_at k p T w) (value_at k p T v)
             (ap (λ s. s ⊗ z) (sym h.factor_in.value) ∙ h.multiple_in.value)
-            ∙ sym ((poly_hom (equation_of k p)).mul _ A ∙ ap₂ (λ s t. s ⊗ t) (x_power m) (sym (reversed k p v))));
+            ∙ sym ((poly_hom (equation_of k p)).mul _ A ∙ ap₂ (λ s t. s ⊗ t) (x_power k p m) (sym (reversed k p v))));
       }
     where
       cross : (s r w v : Functions k p) → w ⊗ z ≡ v → s ⊗ (r ⊗ w) ⊗ z ≡ r ⊗ (s ⊗ v)
@@ -370,35 +340,16 @@ module _ (k : CodeField) (p : PresValue) where
   pub scalars_local : SameSet (IsFiniteAtInfinity (equation_of k p)) (Locally F.ops U (InReverse k p))
   scalars_local z = (to_local z, of_local z)
 
-  integral_same : {S S' : Functions k p → Type 0} → ((z : Functions k p) → S z → S' z) → (z : Functions k p) → IsIntegral F.ops S z → IsIntegral F.ops S' z
-  integral_same f z h = record {
-    degree = h.degree;
-    positive = h.positive;
-    coefficient = h.coefficient;
-    coefficient_in = λ i. f _ (h.coefficient_in i);
-    root = h.root;
-  }
-
-  span_same : {S S' : Functions k p → Type 0} → ((z : Functions k p) → S z → S' z) → (bs : List (Functions k p)) (z : Functions k p) → Span F.ops S bs z → Span F.ops S' bs z
-  span_same f [] z h = h
-  span_same f (b ∷ bs) z h = record {
-    scalar = h.scalar;
-    scalar_in = f _ h.scalar_in;
-    rest = h.rest;
-    rest_in = span_same f bs h.rest h.rest_in;
-    is = h.is;
-  }
-
   -- a function is integral there where a multiple by such a denominator is integral over k[t]
   pub integral_local : SameSet (IsIntegral F.ops (IsFiniteAtInfinity (equation_of k p))) (Locally F.ops U (IsIntegral F.ops (InReverse k p)))
   integral_local z = (
-    λ h. integral_cleared F (InReverse k p) reverse_ring U denominators z (integral_same to_local z h),
-    λ h. integral_same of_local z (integral_of_cleared F (InReverse k p) reverse_ring U denominators denominator_inverse z h),
+    λ h. integral_cleared F (InReverse k p) reverse_ring U denominators z (integral_wider F (IsFiniteAtInfinity (equation_of k p)) (Locally F.ops U (InReverse k p)) to_local z h),
+    λ h. integral_wider F (Locally F.ops U (InReverse k p)) (IsFiniteAtInfinity (equation_of k p)) of_local z (integral_of_cleared F (InReverse k p) reverse_ring U denominators denominator_inverse z h),
   )
 
   -- and likewise for spans
   pub span_local : (bs : List (Functions k p)) → SameSet (Span F.ops (IsFiniteAtInfinity (equation_of k p)) bs) (Locally F.ops U (Span F.ops (InReverse k p) bs))
   span_local bs z = (
-    λ h. span_cleared F (InReverse k p) reverse_ring U denominators bs z (span_same to_local bs z h),
-    λ h. span_same of_local bs z (span_of_cleared F (InReverse k p) reverse_ring U denominators denominator_inverse bs z h),
+    λ h. span_cleared F (InReverse k p) reverse_ring U denominators bs z (span_wider F (IsFiniteAtInfinity (equation_of k p)) (Locally F.ops U (InReverse k p)) to_local bs z h),
+    λ h. span_wider F (Locally F.ops U (InReverse k p)) (IsFiniteAtInfinity (equation_of k p)) of_local bs z (span_of_cleared F (InReverse k p) reverse_ring U denominators denominator_inverse bs z h),
   )

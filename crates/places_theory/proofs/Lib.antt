@@ -11,3 +11,5 @@ pub mod PlaceValues
 pub mod InfiniteSide
 pub mod PlacesOver
 pub mod CodeFields
+pub mod Transport
+pub mod InfinitePresentation

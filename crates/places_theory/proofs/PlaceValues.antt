@@ -1,10 +1,11 @@
 -- At a place over p, with an order that is maximal at p: the valuation of the place is that of its prime of the order. So it is
 -- additive on products, and each function with an inverse has one.
-use Rattle.std.proofs.Common.{◌≡◌, ◌↔◌, ◌⊎◌, inl, inr, ℕ, suc, List, [], ◌∷◌, arith}
+use Rattle.local_theory.proofs.Scalars.{span_wider}
+use Rattle.std.proofs.Common.{◌≡◌, ◌↔◌, ◌⊎◌, inl, inr, ℕ, suc, arith}
 use Rattle.std.proofs.lemmas.Int.{ints}
 use Rattle.std.proofs.Math.IntN.{ℤ, pos, negsuc, ◌+ℤ◌, ◌-ℤ◌}
 use Rattle.ff_ring.specs.Ring.{pow}
-use Rattle.ff_ring.specs.Subsets.{IsSubring, Span}
+use Rattle.ff_ring.specs.Subsets.{IsSubring}
 use Rattle.ff_ring.specs.Local.{Locally}
 use Rattle.ff_ring.proofs.Subsets.{span_members}
 use Rattle.local_theory.specs.Primes.{IsPrime, Pair}
@@ -84,16 +85,6 @@ module _ {E : Type 0} (S : Setting E) (scalars : (s : Side) → IsSubring S.func
     },
   )
 
-  wider : (gs : List E) (z : E) → Span ops (S.IsScalar P.side) gs z → Span ops B gs z
-  wider [] z h = h
-  wider (g ∷ gs) z h = record {
-    scalar = h.scalar;
-    scalar_in = scalar_integral S scalars P.side h.scalar h.scalar_in;
-    rest = h.rest;
-    rest_in = wider gs h.rest h.rest_in;
-    is = h.is;
-  }
-
   module _ (t : Pair ops O (InPrime S P O)) where
     prime_p : (InPrime S P O) p
     prime_p = (p_order, p_in)
@@ -117,7 +108,7 @@ module _ {E : Type 0} (S : Setting E) (scalars : (s : Side) → IsSubring S.func
           (at_least_minus z (suc m)).1
           (place_minus_of_value S.functions Base order.base_ring N p order.prime_to O order.ring order.base B (side_ring S scalars P.side) order.integral order.locally
           (InPrime S P O) place_prime prime_p t M (place_ideal S scalars P place) to_local (λ a i. i.1) P.generators
-          (span_members S.functions (S.IsScalar P.side) (scalars P.side) P.generators) (wider P.generators) z (suc m) h),
+          (span_members S.functions (S.IsScalar P.side) (scalars P.side) P.generators) (span_wider S.functions (S.IsScalar P.side) B (scalar_integral S scalars P.side) P.generators) z (suc m) h),
     )
 
     pub valuation_iff : (z : E) (m : ℤ) → HasValuation S P z m ↔ ValueIs ops O (InPrime S P O) t z m

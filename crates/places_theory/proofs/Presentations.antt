@@ -3,15 +3,14 @@ use Rattle.std.proofs.Common.{◌≡◌, ℕ, zero, suc, ◌+◌, ◌-◌, ◌�
 use mathlib.Core.List.{reverse-reverse}
 use Rattle.ff_ring.specs.Ring.{CommRing, IsDomain, pow}
 use Rattle.ff_ring.specs.Rows.{Row, row_zero, row_scale}
-use Rattle.ff_ring.proofs.Ring.{one_mul, zero_add, mul_zero, pow_add, mul_pow, pow_one_base, eq_of_sub, sub_of_eq, product_not_zero}
+use Rattle.ff_ring.proofs.Ring.{one_mul, zero_add, mul_zero, pow_add, eq_of_sub, sub_of_eq}
 use Rattle.ff_ring.proofs.Rows.{pair_path, row_scale_one, row_scale_zero}
 use Rattle.ff_ring.proofs.RowFractions.{whole_pair}
 use Rattle.ff_ring.proofs.RowMaps.{hom_zero, hom_neg, eval_none, eval_cons, eval_scale}
 use Rattle.ff_ring.proofs.Evaluate.{constant, evaluate, value_constant}
 use Rattle.ff_ring.proofs.Solver.{ring, reads, from_one, from_two, from_three}
-use Rattle.finite_algebra_theory.proofs.ByMap.{map_pow}
 use Rattle.ff_fields.specs.Field.{CodeField}
-use Rattle.ff_fields.specs.Code.{Code, code_ring, same_code, read_code, read_code_below, zero_in}
+use Rattle.ff_fields.specs.Code.{Code, code_ring}
 use Rattle.ff_poly.specs.Value.{value}
 use Rattle.ff_poly.specs.Polynomials.{Polynomial, polynomials, polynomials_domain, codes_of, value_codes_of, value_nil, value_one, IsOver_codes_of, IsPoly_codes_of, x_poly, x_poly_not_zero}
 use Rattle.ff_algebra.specs.Functions.{RowOver, function, function_eq, function_same, of_poly, over, row_of, y_of, whole_row, zero_function}
@@ -22,7 +21,7 @@ use Rattle.ff_algebra.proofs.OnSide.{reverse_not_zero}
 use Rattle.ff_algebra.proofs.Stages.{row_of_function}
 use Rattle.places_theory.specs.Maps.{IsIsomorphism}
 use Rattle.places_theory.proofs.YRoot.{poly_hom, at_y, at_y_plain, den_times}
-use Rattle.places_theory.proofs.AtInfinity.{of_code, code_hom, at_hom, at_x, value_at_is, x_times_t, reversed, turned, turned_is, turned_zero}
+use Rattle.places_theory.proofs.AtInfinity.{of_code, code_hom, at_hom, at_x, value_at_is, x_times_t, reversed, turned, turned_is, turned_zero, x_power, powers_cancel, x_power_not_zero, constant_zero}
 use Rattle.places_theory.proofs.PresentationMap.{x, t, y, η, φ, at_Y, unit, unit_law, presentation_map, map_row, map_poly, map_unit, map_y, presentation_hom}
 
 -- in a domain what is 0 after scaling by an element other than 0 is 0
@@ -32,10 +31,6 @@ unfolding row_scale row_zero
 row_scale_cancel S domain zero d v n e = refl
 row_scale_cancel S domain (suc m) d (a, v) n e =
     pair_path (domain.cancel_zero d a n (ap (λ r. r.0) e)) (row_scale_cancel S domain m d v n (ap (λ r. r.1) e))
-
-power_not_zero : {P : Type 0} (S : CommRing P) → IsDomain S.ops → (d : P) → ¬ (d ≡ S.𝟘) → (n : ℕ) → ¬ (pow S.ops d n ≡ S.𝟘)
-power_not_zero S domain d n zero = domain.one_not_zero
-power_not_zero S domain d n (suc m) = product_not_zero domain d (pow S.ops d m) n (power_not_zero S domain d n m)
 
 module _ (k : CodeField) (p q : PresValue) (c : ℕ) (h : IsInfinitePresentation k p c q) (some : 1 ≤ p.n) where
   infixl 65 ◌⊕◌
@@ -57,13 +52,6 @@ module _ (k : CodeField) (p q : PresValue) (c : ℕ) (h : IsInfinitePresentation
 
   abbrev map : Functions k q → Functions k p
   map z = presentation_map k p q c h some z
-
-  -- powers of x and of 1/x
-  powers_cancel : (n : ℕ) → pow F.ops X n ⊗ pow F.ops T n ≡ 𝟙
-  powers_cancel n = sym (mul_pow F X T n) ∙ ap (λ s. pow F.ops s n) (x_times_t k p) ∙ pow_one_base F n
-
-  x_power : (n : ℕ) → of_poly (equation_of k p) (pow (polynomials k).ops (x_poly k) n) ≡ pow F.ops X n
-  x_power n = map_pow (polynomials k).ring F (of_poly (equation_of k p)) (poly_hom (equation_of k p)) (x_poly k) n
 
   -- a power of x times the sum of v_i(1/x)·Y^i is a sum of u_i·y^i, which is 0 only where the v_i are
   record Cleared (m : ℕ) (v : Row (Polynomial k) m) : Type 0 where
@@ -97,11 +85,11 @@ module _ (k : CodeField) (p q : PresValue) (c : ℕ) (h : IsInfinitePresentation
             ap₂ (λ s w. s ⊗ w) (pow_add F X L (c + M) ∙ ap (λ s. pow F.ops X L ⊗ s) (pow_add F X c M))
             (eval_cons (polynomials k).ring F (φ k p q c) (at_hom k p T) (η k p q c) m a v)
             ∙ collect (pow F.ops X L) (pow F.ops X c) (pow F.ops X M) (pow F.ops T c) (φ k p q c a) (at_Y k p q c m v)
-            (of_poly (equation_of k p) (turned k p a)) (at_y (equation_of k p) m r.row) (turned_is k p a) r.is (powers_cancel c)
+            (of_poly (equation_of k p) (turned k p a)) (at_y (equation_of k p) m r.row) (turned_is k p a) r.is (powers_cancel k p c)
             ∙ ap₂ (λ s w. s ⊕ Y ⊗ w)
-            (ap (λ s. s ⊗ of_poly (equation_of k p) (turned k p a)) (sym (pow_add F X c M) ∙ sym (x_power (c + M)))
+            (ap (λ s. s ⊗ of_poly (equation_of k p) (turned k p a)) (sym (pow_add F X c M) ∙ sym (x_power k p (c + M)))
             ∙ sym ((poly_hom (equation_of k p)).mul xM (turned k p a)))
-            (ap (λ s. s ⊗ at_y (equation_of k p) m r.row) (sym (x_power L))
+            (ap (λ s. s ⊗ at_y (equation_of k p) m r.row) (sym (x_power k p L))
             ∙ sym (eval_scale (polynomials k).ring F (of_poly (equation_of k p)) (poly_hom (equation_of k p)) Y m xL r.row))
             ∙ sym (eval_cons (polynomials k).ring F (of_poly (equation_of k p)) (poly_hom (equation_of k p)) Y m
             ((polynomials k).◌⊗◌ xM (turned k p a)) (row_scale (polynomials k).ops m xL r.row));
@@ -112,7 +100,7 @@ module _ (k : CodeField) (p q : PresValue) (c : ℕ) (h : IsInfinitePresentation
       }
     where
       nonzero : (n : ℕ) → ¬ (pow (polynomials k).ops (x_poly k) n ≡ (polynomials k).𝟘)
-      nonzero = power_not_zero (polynomials k).ring (polynomials_domain k) (x_poly k) (x_poly_not_zero k)
+      nonzero = x_power_not_zero k
 
       collect : (l s w r a b a' b' : Functions k p) → l ⊗ a ≡ a' → w ⊗ b ≡ b' → s ⊗ r ≡ 𝟙
           → l ⊗ (s ⊗ w) ⊗ (a ⊕ Y ⊗ r ⊗ b) ≡ s ⊗ w ⊗ a' ⊕ Y ⊗ (l ⊗ b')
@@ -215,8 +203,7 @@ module _ (k : CodeField) (p q : PresValue) (c : ℕ) (h : IsInfinitePresentation
     where
       zero_code : constant_code k p 0 ≡ 𝟘
       zero_code =
-          ap (of_code k p) (same_code k (read_code k 0) (code_ring k).𝟘 (read_code_below k 0 (zero_in k)))
-          ∙ hom_zero (code_ring k).ring F (of_code k p) (code_hom k p)
+          ap (of_poly (equation_of k p)) (constant_zero k) ∙ hom_zero (polynomials k).ring F (of_poly (equation_of k p)) (poly_hom (equation_of k p))
 
       one_code : constant_code k p 1 ≡ 𝟙
       one_code =
@@ -245,7 +232,7 @@ module _ (k : CodeField) (p q : PresValue) (c : ℕ) (h : IsInfinitePresentation
 
   hit_y : Hit Y
   hit_y =
-      hit_eq _ _ (undo (pow F.ops X c) (pow F.ops T c) (powers_cancel c))
+      hit_eq _ _ (undo (pow F.ops X c) (pow F.ops T c) (powers_cancel k p c))
       (hit_product _ _ (y_of (equation_of k q), map_y k p q c h some) (hit_power X hit_x c))
     where
       undo : (s r : Functions k p) → s ⊗ r ≡ 𝟙 → Y ⊗ r ⊗ s ≡ Y
@@ -278,7 +265,7 @@ module _ (k : CodeField) (p q : PresValue) (c : ℕ) (h : IsInfinitePresentation
             (ap (λ s. pow F.ops X (length w) ⊗ s) (sym (value_at_is k p T w)) ∙ reversed k p w
             ∙ (poly_hom (equation_of k p)).mul (x_poly k) (value k (reverse w))
             ∙ ap (λ a. X ⊗ of_poly (equation_of k p) a) (ap (value k) (reverse-reverse (codes_of k d)) ∙ value_codes_of k d))
-            (powers_cancel (length w)) (unit_law k p q c h some D nonzero);
+            (powers_cancel k p (length w)) (unit_law k p q c h some D nonzero);
       }
     where
       nonzero : ¬ (value k (reverse (codes_of k d)) ≡ (polynomials k).𝟘)

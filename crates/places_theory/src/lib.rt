@@ -2,7 +2,7 @@
 //! presentations. Each main theorem is the contract of a function with an empty body; the crates above cite the lemmas of proofs/.
 #![tactic(auto)]
 
-ghost use Rattle.std.specs.Prelude.{◌≡◌, ℕ, suc, ◌≤◌, ℤ, ◌+ℤ◌, List, All, ◌↔◌};
+ghost use Rattle.std.specs.Prelude.{◌≡◌, ℕ, suc, ◌≤◌, ℤ, ◌+ℤ◌, List, map, All, ◌↔◌};
 ghost use Rattle.std.specs.List.{Contains};
 ghost use Rattle.std.proofs.Common.{pos};
 ghost use Rattle.ff_ring.specs.Ring.{CommRing, pow};
@@ -16,7 +16,7 @@ ghost use Rattle.ff_algebra.specs.Values.{PresValue, ElemValue, IsElem, Function
 ghost use Rattle.ff_algebra.specs.Places.{Place, IsPlace, IsSamePlace, IsIntegralAt, IsIn, InPower, HasValuationAtLeast, HasValuation};
 ghost use Rattle.ff_algebra.specs.Divisors.{Entry, Divisor, IsDivisor, HasMultiplicity};
 ghost use Rattle.ff_algebra.specs.Infinity.{function_on, IsInfinitePresentation};
-ghost use Rattle.local_theory.specs.Places.{IsMaximalIdeal};
+ghost use Rattle.local_theory.specs.Places.{IsMaximalIdeal, PlaceAtLeast, PlaceAtLeastMinus};
 ghost use Rattle.local_theory.specs.Primes.{IsPrime, Pair};
 ghost use Rattle.local_theory.specs.Systems.{IsDecomposition, IsSystem, PrimeAt};
 ghost use Rattle.local_theory.specs.IntegerValues.{ValueIs};
@@ -111,11 +111,29 @@ pub fn valuation_law()
         → IsIntegralAt (setting k p) P.side z → ¬ (IsIn (setting k p) P z) → HasValuation (setting k p) P z (pos 0) }
 {}
 
-/// The functions of the infinite presentation are those of the finite one: what its elements stand for is an isomorphism of rings.
+/// An isomorphism of rings carries integral elements, spans, maximal ideals and the values by powers of these over, and back.
+pub fn isomorphism_law<T, Q, O: Subset<T>, M: Subset<T>, B: Subset<Q>, N: Subset<Q>>()
+    ensures integral { (R : CommRing T) (A : CommRing Q) (f : T → Q) → IsIsomorphism R A f → ((a : T) → O.members a ↔ B.members (f a))
+        → (z : T) → IsIntegral R.ops O.members z ↔ IsIntegral A.ops B.members (f z) }
+    ensures spans { (R : CommRing T) (A : CommRing Q) (f : T → Q) → IsIsomorphism R A f → ((a : T) → O.members a ↔ B.members (f a))
+        → (gs : List T) (z : T) → Span R.ops O.members gs z ↔ Span A.ops B.members (map f gs) (f z) }
+    ensures maximal { (R : CommRing T) (A : CommRing Q) (f : T → Q) → IsIsomorphism R A f → ((a : T) → O.members a ↔ B.members (f a))
+        → ((a : T) → M.members a ↔ N.members (f a)) → IsMaximalIdeal R.ops O.members M.members ↔ IsMaximalIdeal A.ops B.members N.members }
+    ensures values { (R : CommRing T) (A : CommRing Q) (f : T → Q) → IsIsomorphism R A f → ((a : T) → O.members a ↔ B.members (f a))
+        → ((a : T) → M.members a ↔ N.members (f a)) → (z : T) (m : ℕ)
+        → PlaceAtLeast R.ops O.members M.members z m ↔ PlaceAtLeast A.ops B.members N.members (f z) m }
+    ensures poles { (R : CommRing T) (A : CommRing Q) (f : T → Q) → IsIsomorphism R A f → ((a : T) → O.members a ↔ B.members (f a))
+        → ((a : T) → M.members a ↔ N.members (f a)) → (z : T) (m : ℕ)
+        → PlaceAtLeastMinus R.ops O.members M.members z m ↔ PlaceAtLeastMinus A.ops B.members N.members (f z) m }
+{}
+
+/// The functions of the infinite presentation are those of the finite one: what its elements stand for is an isomorphism of rings, which
+/// takes what is integral over the polynomials to what is integral over k[t].
 pub fn presentations_law()
     ensures { (k : CodeField) (p q : PresValue) (c : ℕ) → 1 ≤ p.n → IsInfinitePresentation k p c q
         → (f : Functions k q → Functions k p) × IsIsomorphism (functions k q) (functions k p) f
-        × ((z : ElemValue) → IsElem k.ops q.n z → f (function_of k q z) ≡ function_on k p c Side.Infinite z) }
+        × ((z : ElemValue) → IsElem k.ops q.n z → f (function_of k q z) ≡ function_on k p c Side.Infinite z)
+        × ((z : Functions k q) → IsIntegralAt (setting k q) Side.Finite z ↔ IsIntegral (functions k p).ops (InReverse k p) (f z)) }
 {}
 
 /// The scalars of the infinite side are k[t] at t = 1/x with denominators that t does not divide. So a function is integral there, or
