@@ -10,6 +10,7 @@ pub mod Decomposition
 pub mod PlaceValues
 pub mod InfiniteSide
 pub mod PlacesOver
+pub mod PlacesComplete
 pub mod CodeFields
 pub mod Transport
 pub mod InfinitePresentation

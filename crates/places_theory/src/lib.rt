@@ -3,7 +3,7 @@
 #![tactic(auto)]
 
 ghost use Rattle.std.specs.Prelude.{◌≡◌, ℕ, suc, ◌≤◌, ℤ, ◌+ℤ◌, List, map, All, ◌↔◌};
-ghost use Rattle.std.specs.List.{Contains};
+ghost use Rattle.std.specs.List.{Contains, Any};
 ghost use Rattle.std.proofs.Common.{pos};
 ghost use Rattle.ff_ring.specs.Ring.{CommRing, pow};
 ghost use Rattle.ff_ring.specs.Subsets.{IsSubring, Span};
@@ -18,7 +18,7 @@ ghost use Rattle.ff_algebra.specs.Divisors.{Entry, Divisor, IsDivisor, HasMultip
 ghost use Rattle.ff_algebra.specs.Infinity.{function_on, IsInfinitePresentation};
 ghost use Rattle.local_theory.specs.Places.{IsMaximalIdeal, PlaceAtLeast, PlaceAtLeastMinus};
 ghost use Rattle.local_theory.specs.Primes.{IsPrime, Pair};
-ghost use Rattle.local_theory.specs.Systems.{IsDecomposition, IsSystem, PrimeAt};
+ghost use Rattle.local_theory.specs.Systems.{IsDecomposition, IsFamily, IsSystem, PrimeAt};
 ghost use Rattle.local_theory.specs.IntegerValues.{ValueIs};
 ghost use Rattle.local_theory.specs.Ideals.{SameSet};
 ghost use Rattle.local_theory.specs.Orders.{Radical};
@@ -164,8 +164,8 @@ pub fn prime_system_law<T, Q, O: Subset<T>, K: Subset<Q>>()
 {}
 
 /// The places over p are those of the primes over p of an order that is maximal at p: each prime that finitely many functions span is
-/// that of a place, and two places with the same prime are the same.
-pub fn places_over_law<C: LocalOrder>()
+/// that of a place, two places with the same prime are the same, and a list of places whose primes are a system at p has each place over p.
+pub fn places_over_law<C: LocalOrder, I>()
     ensures place { let S = setting C.field C.presentation in (s : Side) (p : Functions C.field C.presentation) (rows gens : List (Functions C.field C.presentation))
         → IsOrderAt S s C.base C.prime_to p C.members → IsPrime S.functions.ops C.members C.prime → C.prime p
         → ((a : Functions C.field C.presentation) → C.base a → S.IsScalar s a) → SameSet C.prime (Span S.functions.ops C.base rows)
@@ -174,6 +174,14 @@ pub fn places_over_law<C: LocalOrder>()
     ensures once { let S = setting C.field C.presentation in (P Q : Place (Functions C.field C.presentation)) (p : Functions C.field C.presentation)
         → IsPlaceOver S P C.base C.prime_to p C.members → IsPlaceOver S Q C.base C.prime_to p C.members → P.side ≡ Q.side
         → ((z : Functions C.field C.presentation) → C.members z → IsIn S P z ↔ IsIn S Q z) → IsSamePlace S P Q }
+    ensures every { let S = setting C.field C.presentation in (p : Functions C.field C.presentation) (places : I → Place (Functions C.field C.presentation)) (is : List I)
+        → ((i : I) → IsPlaceOver S (places i) C.base C.prime_to p C.members) → IsFamily S.functions.ops C.members I (λ i. InPrime S (places i) C.members)
+        → IsSystem S.functions.ops C.members p I (λ i. InPrime S (places i) C.members) is
+        → (P : Place (Functions C.field C.presentation)) → IsPlaceOver S P C.base C.prime_to p C.members → ((i : I) → (places i).side ≡ P.side)
+        → ((a : Functions C.field C.presentation) → C.base a → S.IsScalar P.side a)
+        → (rows : List (Functions C.field C.presentation)) → SameSet C.members (Span S.functions.ops C.base rows)
+        → ((z : Functions C.field C.presentation) → IsIn S P z → Locally S.functions.ops C.prime_to (Span S.functions.ops C.base P.generators) z)
+        → Any (λ i. IsSamePlace S (places i) P) is }
 {}
 
 /// The valuation of a place over p is that of its prime in an order that is maximal at p. So values add on products, the value of a sum
