@@ -9,6 +9,7 @@ pub mod Presentations
 pub mod Decomposition
 pub mod PlaceValues
 pub mod InfiniteSide
+pub mod OrdersAt
 pub mod PlacesOver
 pub mod PlacesComplete
 pub mod CodeFields

@@ -8,7 +8,7 @@ ghost use Rattle.std.proofs.Common.{pos};
 ghost use Rattle.ff_ring.specs.Ring.{CommRing, pow};
 ghost use Rattle.ff_ring.specs.Subsets.{IsSubring, Span};
 ghost use Rattle.ff_ring.specs.Integral.{IsIntegral};
-ghost use Rattle.ff_ring.specs.Local.{Locally};
+ghost use Rattle.ff_ring.specs.Local.{PrimeTo, Locally};
 ghost use Rattle.ff_fields.specs.Field.{CodeField};
 ghost use Rattle.ff_fields.specs.Code.{code_ring};
 ghost use Rattle.ff_algebra.specs.declared.elem.Side.{Side};
@@ -21,7 +21,7 @@ ghost use Rattle.local_theory.specs.Primes.{IsPrime, Pair};
 ghost use Rattle.local_theory.specs.Systems.{IsDecomposition, IsFamily, IsSystem, PrimeAt};
 ghost use Rattle.local_theory.specs.IntegerValues.{ValueIs};
 ghost use Rattle.local_theory.specs.Ideals.{SameSet};
-ghost use Rattle.local_theory.specs.Orders.{Radical};
+ghost use Rattle.local_theory.specs.Orders.{Radical, MaximalAt, Denominator};
 ghost use Rattle.finite_algebra_theory.specs.Algebra.{FiniteAlgebra, IsNilpotent};
 ghost use Rattle.finite_algebra_theory.specs.ByMap.{FiniteField};
 ghost use Rattle.finite_algebra_theory.specs.Maximal.{NilpotentAt};
@@ -161,6 +161,18 @@ pub fn prime_system_law<T, Q, O: Subset<T>, K: Subset<Q>>()
         → IsReduction R.ops O.members p A.ops reduce lift → FiniteAlgebra A.ops K.members
         → (is : List (Primitive A.ops)) × IsDecomposition R.ops O.members p (Primitive A.ops) (λ i. lift i.0) is
         × IsSystem R.ops O.members p (Primitive A.ops) (λ i. PrimeAt R.ops O.members p (lift i.0)) is }
+{}
+
+/// An order over the base ring that is maximal at p has each integral function of the side up to a factor prime to p, where those
+/// over the base ring have a denominator p^n·w, w prime to p, and those of the side are integral over the base ring up to such a w.
+pub fn order_law<C: LocalOrder>()
+    ensures { let S = setting C.field C.presentation in (s : Side) (p : Functions C.field C.presentation)
+        → IsSubring S.functions.ops C.base → PrimeTo S.functions.ops C.base C.prime_to p → IsSubring S.functions.ops C.members
+        → ((z : Functions C.field C.presentation) → C.base z → C.members z)
+        → ((z : Functions C.field C.presentation) → C.members z → IsIntegralAt S s z)
+        → ((z : Functions C.field C.presentation) → IsIntegralAt S s z → Locally S.functions.ops C.prime_to (IsIntegral S.functions.ops C.base) z)
+        → ((z : Functions C.field C.presentation) → IsIntegral S.functions.ops C.base z → Denominator S.functions.ops C.prime_to C.members p z)
+        → MaximalAt S.functions.ops p (IsIntegral S.functions.ops C.members) C.members → IsOrderAt S s C.base C.prime_to p C.members }
 {}
 
 /// The places over p are those of the primes over p of an order that is maximal at p: each prime that finitely many functions span is
