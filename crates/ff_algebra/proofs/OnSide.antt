@@ -131,7 +131,7 @@ module _ (k : CodeField) (p : PresValue) where
   value_at_value t (c ∷ w) = ap (λ s. (functions k p).◌⊕◌ (constant k p c) ((functions k p).◌⊗◌ t s)) (value_at_value t w)
 
   -- the reversal of a polynomial other than 0 isn't 0
-  reverse_not_zero : (d : List ℕ) → IsOver k.ops d → IsPoly d → ¬ (d ≡ []) → ¬ (value k (reverse d) ≡ (polynomials k).𝟘)
+  pub reverse_not_zero : (d : List ℕ) → IsOver k.ops d → IsPoly d → ¬ (d ≡ []) → ¬ (value k (reverse d) ≡ (polynomials k).𝟘)
   reverse_not_zero d d_in d_poly n = go (ends d d_poly.trimmed n)
     where
       go : (u : List ℕ) × (c : ℕ) × (¬ (c ≡ 0)) × (d ≡ u ++ c ∷ []) → ¬ (value k (reverse d) ≡ (polynomials k).𝟘)

@@ -1,5 +1,6 @@
 -- Lists of coefficients as functions of polynomials: leading coefficients, synthetic division, the minimal polynomial and
 -- Lagrange's idempotents as a program has them, and the q-th power of a combination.
+use Rattle.std.proofs.lemmas.List.Elements.{All-nil, All-cons, All-head, All-tail, All-weaker, All-map}
 use Rattle.std.proofs.Common.{◌≡◌, ℕ, suc, ◌<◌, ◌^◌, List, [], ◌∷◌, map, length, refl, ◌∙◌, ap, ap₂, subst}
 use Rattle.std.proofs.lemmas.List.{length-map}
 use Rattle.ff_ring.specs.Ring.{CommRing, pow}
@@ -7,7 +8,7 @@ use Rattle.ff_ring.specs.Subsets.{IsSubring, Span}
 use Rattle.ff_ring.proofs.Ring.{zero_add, mul_pow}
 use Rattle.ff_ring.proofs.Solver.{ring, reads, from_one, from_two}
 use Rattle.ff_ring.proofs.Subsets.{span_zero}
-use Rattle.finite_algebra_theory.specs.Lists.{Each}
+use Rattle.std.proofs.Common.{All}
 use Rattle.finite_algebra_theory.specs.Polynomial.{Leading, Monic}
 use Rattle.finite_algebra_theory.specs.Algebra.{FiniteAlgebra, powers}
 use Rattle.finite_algebra_theory.specs.Horner.{value, combination, suffix_values}
@@ -52,43 +53,44 @@ module _ {A : Type 0} (R : CommRing A) where
 
   module _ (S : A → Type 0) (𝓢 : IsSubring R.ops S) where
     -- a list of coefficients and a leading one are the function of a polynomial
-    pub leading_list : (cs : List A) (top : A) → Each S cs → Leading R.ops S top (length cs) (value R.ops cs top)
+    pub leading_list : (cs : List A) (top : A) → All S cs → Leading R.ops S top (length cs) (value R.ops cs top)
     leading_list [] top h = λ t. refl
     leading_list (c ∷ cs) top h = record {
       constant = c;
-      constant_in = h.0;
+      constant_in = All-head S c cs h;
       rest = value R.ops cs top;
-      rest_in = leading_list cs top h.1;
+      rest_in = leading_list cs top (All-tail S c cs h);
       is = λ t. refl;
     }
 
-    pub value_list_in : (cs : List A) (top c : A) → Each S cs → S top → S c → S (value R.ops cs top c)
+    pub value_list_in : (cs : List A) (top c : A) → All S cs → S top → S c → S (value R.ops cs top c)
     value_list_in [] top c h m k = m
-    value_list_in (d ∷ cs) top c h m k = 𝓢.sum_in _ _ h.0 (𝓢.product_in _ _ k (value_list_in cs top c h.1 m k))
+    value_list_in (d ∷ cs) top c h m k =
+        𝓢.sum_in _ _ (All-head S d cs h) (𝓢.product_in _ _ k (value_list_in cs top c (All-tail S d cs h) m k))
 
-    pub suffix_values_in : (cs : List A) (top c : A) → Each S cs → S top → S c → Each S (suffix_values R.ops cs top c)
-    suffix_values_in [] top c h m k = tt
-    suffix_values_in (d ∷ cs) top c h m k = (value_list_in (d ∷ cs) top c h m k, suffix_values_in cs top c h.1 m k)
+    pub suffix_values_in : (cs : List A) (top c : A) → All S cs → S top → S c → All S (suffix_values R.ops cs top c)
+    suffix_values_in [] top c h m k = All-nil S
+    suffix_values_in (d ∷ cs) top c h m k =
+        All-cons S _ _ (value_list_in (d ∷ cs) top c h m k) (suffix_values_in cs top c (All-tail S d cs h) m k)
 
-    negated_in : (cs : List A) → Each S cs → Each S (map ⊖◌ cs)
-    negated_in [] h = tt
-    negated_in (c ∷ cs) h = (𝓢.neg_in c h.0, negated_in cs h.1)
+    negated_in : (cs : List A) → All S cs → All S (map ⊖◌ cs)
+    negated_in cs h = All-map S ⊖◌ cs (All-weaker S (λ c. S (⊖ c)) 𝓢.neg_in cs h)
 
     -- a combination is in the span
-    pub span_of_combination : (cs bs : List A) → Each S cs → Span R.ops S bs (combination R.ops cs bs)
+    pub span_of_combination : (cs bs : List A) → All S cs → Span R.ops S bs (combination R.ops cs bs)
     span_of_combination [] bs h = span_zero R S 𝓢 bs
     span_of_combination (c ∷ cs) [] h = refl
     span_of_combination (c ∷ cs) (b ∷ bs) h = record {
       scalar = c;
-      scalar_in = h.0;
+      scalar_in = All-head S c cs h;
       rest = combination R.ops cs bs;
-      rest_in = span_of_combination cs bs h.1;
+      rest_in = span_of_combination cs bs (All-tail S c cs h);
       is = refl;
     }
 
   module _ (S : A → Type 0) (𝓐 : FiniteAlgebra R.ops S) where
     -- the coefficients of the least relation among the powers are those of the minimal polynomial, negated
-    pub minimal_list : (a e : A) (cs : List A) → Each S cs
+    pub minimal_list : (a e : A) (cs : List A) → All S cs
         → pow R.ops a (length cs) ⊗ e ≡ combination R.ops cs (powers R.ops a e (length cs))
         → ((j : ℕ) → j < length cs → ¬ (Relation R S 𝓐 a e j))
         → Minimal R.ops S a e (length cs) (value R.ops (map ⊖◌ cs) 𝟙)
@@ -104,7 +106,7 @@ module _ {A : Type 0} (R : CommRing A) where
         zero v s p f g = from_two R 𝟙 𝟙 f g (ring R (v ∷ s ∷ p ∷ e ∷ []) λ q h. simp (reads, q, h 0, h 1, h 2, h 3) (q.equal _ _ refl))
 
     -- Lagrange's idempotent at a root, by synthetic division
-    pub lagrange_of_list : (a e : A) (d : A) (cs : List A) → S d → Each S cs → (c : A) → S c → value R.ops (d ∷ cs) 𝟙 c ≡ 𝟘
+    pub lagrange_of_list : (a e : A) (d : A) (cs : List A) → S d → All S cs → (c : A) → S c → value R.ops (d ∷ cs) 𝟙 c ≡ 𝟘
         → (u : A) → S u → value R.ops (suffix_values R.ops cs 𝟙 c) 𝟙 c ⊗ u ≡ 𝟙
         → Lagrange R.ops S a e (length cs) (value R.ops (d ∷ cs) 𝟙) c (u ⊗ (value R.ops (suffix_values R.ops cs 𝟙 c) 𝟙 a ⊗ e))
     lagrange_of_list a e d cs d_in h c c_in root u u_in is = record {
@@ -123,11 +125,11 @@ module _ {A : Type 0} (R : CommRing A) where
     }
 
     -- the iterate of a combination is the combination of the iterates: so its matrix has the rows of these
-    pub iterate_combination : (m : ℕ) (cs bs : List A) → Each S cs
+    pub iterate_combination : (m : ℕ) (cs bs : List A) → All S cs
         → pow R.ops (combination R.ops cs bs) (length 𝓐.codes ^ m) ≡ combination R.ops cs (map (λ b. pow R.ops b (length 𝓐.codes ^ m)) bs)
     iterate_combination m [] bs h = iterate_scalar R S 𝓐 m 𝟘 𝓐.subring.zero_in
     iterate_combination m (c ∷ cs) [] h = iterate_scalar R S 𝓐 m 𝟘 𝓐.subring.zero_in
     iterate_combination m (c ∷ cs) (b ∷ bs) h =
         iterate_add R S 𝓐 m (c ⊗ b) (combination R.ops cs bs)
-        ∙ ap₂ ◌⊕◌ (mul_pow R c b (length 𝓐.codes ^ m) ∙ ap (λ x. x ⊗ pow R.ops b (length 𝓐.codes ^ m)) (iterate_scalar R S 𝓐 m c h.0))
-        (iterate_combination m cs bs h.1)
+        ∙ ap₂ ◌⊕◌ (mul_pow R c b (length 𝓐.codes ^ m) ∙ ap (λ x. x ⊗ pow R.ops b (length 𝓐.codes ^ m)) (iterate_scalar R S 𝓐 m c (All-head S c cs h)))
+        (iterate_combination m cs bs (All-tail S c cs h))

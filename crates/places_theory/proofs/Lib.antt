@@ -1,0 +1,17 @@
+pub mod Sides
+pub mod SamePlaces
+pub mod Multiplicities
+pub mod Valuations
+pub mod YRoot
+pub mod AtInfinity
+pub mod PresentationMap
+pub mod Presentations
+pub mod Decomposition
+pub mod PlaceValues
+pub mod InfiniteSide
+pub mod OrdersAt
+pub mod PlacesOver
+pub mod PlacesComplete
+pub mod CodeFields
+pub mod Transport
+pub mod InfinitePresentation

@@ -1,0 +1,4 @@
+pub mod Maps
+pub mod Reductions
+pub mod Orders
+pub mod InfiniteSide
