@@ -1,13 +1,9 @@
-// A library with one function.
+//! Weak Popov and Popov form of rows of polynomials over a small field, and coordinates in a Popov basis.
 #![tactic(auto)]
 
-ghost use Rattle.std.specs.Prelude.{◌≡◌};
-ghost use Rattle.ff_popov.specs.Echo.{echo_of};
+mod rows;
+pub mod steps;
+pub mod weak;
 
-// The `ensures` clause is the contract: what `echo` returns is `echo_of` of its argument, a definition
-// in `specs/Echo.antt`, which a caller's clause can cite too.
-pub fn echo(x: usize) -> usize
-    ensures { result ≡ echo_of x }
-{
-    x
-}
+pub use steps::Steps;
+pub use weak::weak_popov;

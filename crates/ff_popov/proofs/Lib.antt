@@ -1,0 +1,3 @@
+pub mod Pivots
+pub mod Lengths
+pub mod Entries
