@@ -36,6 +36,7 @@ pub(crate) fn quotient_term<K: SmallField>(k: &K, a: &Poly, b: &Poly) -> (u32, u
     requires longer { length b.now ≤ length a.now }
     ensures below { result.0 < (K.field k.now).size }
     ensures degrees { result.1 + length b.now ≡ length a.now }
+    ensures fits { length a.now < 2 ^ 64 }
     ensures shorter { length (less_multiple (K.field k.now).ops a.now result.0 result.1 b.now) < length a.now }
 {
     let top = a.coeff(a.len() - 1);
