@@ -6,3 +6,4 @@ pub mod Places
 pub mod Transformations
 pub mod Clearing
 pub mod StepSteps
+pub mod Chains
