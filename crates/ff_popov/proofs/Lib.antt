@@ -7,3 +7,4 @@ pub mod Transformations
 pub mod Clearing
 pub mod StepSteps
 pub mod Chains
+pub mod Spans
