@@ -8,3 +8,6 @@ pub mod Clearing
 pub mod StepSteps
 pub mod Chains
 pub mod Spans
+pub mod Measures
+pub mod PopovBasis
+pub mod DivisionSteps

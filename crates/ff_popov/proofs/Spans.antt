@@ -121,7 +121,7 @@ module _ (k : CodeField) where
       is = ap R v_in.is.is ∙ combination_read v_in.coefficients rows v_in.is.size v_in.is.over all;
     }
 
-    combine_same : {V : Type 0} (N : PolynomialModule (code_ring k) V) (rs : List V) (c d : ℕ → Pol (code_ring k)) → ((i : ℕ) → i < length rs → c i ≡ d i) → combine N c rs ≡ combine N d rs
+    pub combine_same : {V : Type 0} (N : PolynomialModule (code_ring k) V) (rs : List V) (c d : ℕ → Pol (code_ring k)) → ((i : ℕ) → i < length rs → c i ≡ d i) → combine N c rs ≡ combine N d rs
     combine_same N [] c d h = refl
     combine_same N (r ∷ rs) c d h =
         ap₂ N.◌⊞◌ (ap (λ p. N.◌·◌ p r) (h 0 (omega arith))) (combine_same N rs (tail_of c) (tail_of d) (λ i less. h (suc i) (omega (arith, less))))
