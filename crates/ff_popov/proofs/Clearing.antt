@@ -8,7 +8,7 @@ use Rattle.ff_fields.specs.Field.{CodeField}
 use Rattle.ff_fields.specs.Over.{IsOver}
 use Rattle.ff_poly.specs.Terms.{less_multiple}
 use Rattle.ff_poly.specs.Popov.{entry_at, IsRow, IsPivot}
-use Rattle.ff_popov.specs.Rows.{IsRowLess, IsCleared}
+use Rattle.ff_popov.specs.Rows.{IsRowLess, IsCleared, IsClearedBy}
 use Rattle.ff_popov.proofs.Entries.{any_default}
 use Rattle.ff_popov.proofs.Pivots.{pivot_below}
 use Rattle.ff_popov.proofs.Lengths.{less_multiple_length}
@@ -62,6 +62,15 @@ module _ (k : CodeField) (a b row : List (List ℕ)) (column c s : ℕ) (a_row :
       (subst (λ w. s + length (entry_at b column) ≡ length w) e (subst (λ w. s + length w ≡ length x) f degrees))
       (subst (λ w. length (less_multiple k.ops w c s (entry_at b column)) < length w) e (subst (λ w. length (less_multiple k.ops x c s w) < length x) f shorter))
       less
+
+  pub cleared_by : (x y : List ℕ) → x ≡ get_or a column x → y ≡ get_or b column y → s + length y ≡ length x → length x < 2 ^ 64 → length (less_multiple k.ops x c s y) < length x
+      → IsRowLess k.ops a c s b row → IsClearedBy k.ops a b column c s row
+  cleared_by x y x_is y_is degrees fits shorter less = record {
+    scalar_in = c_in;
+    fits = omega (arith, degrees, fits, q.some, ap length (read_at b y q y_is));
+    is = less;
+    cleared = cleared_is x y x_is y_is degrees shorter less;
+  }
 
   -- an entry of the multiple is no longer than the pivot
   pub multiple_fits : (x y : List ℕ) → x ≡ get_or a column x → y ≡ get_or b column y → s + length y ≡ length x → (n : ℕ) → length x < n → (i : ℕ) → s + length (entry_at b i) < n

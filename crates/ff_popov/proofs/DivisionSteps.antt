@@ -1,11 +1,12 @@
 -- The division by a Popov basis, one term after another.
-use Rattle.std.proofs.Common.{◌≡◌, ◌≢◌, ℕ, zero, suc, ◌+◌, ◌-◌, ◌*◌, ◌<◌, ◌≤◌, ◌⊎◌, inl, inr, List, [], ◌∷◌, length, get_or, set, replicate, refl, sym, ap, ap₂, ◌∙◌, arith, subst, length-set}
+use Rattle.std.proofs.Common.{◌≡◌, ◌≢◌, ℕ, zero, suc, ◌+◌, ◌-◌, ◌*◌, ◌^◌, ◌<◌, ◌≤◌, ◌⊎◌, inl, inr, List, [], ◌∷◌, length, get_or, set, replicate, refl, sym, ap, ap₂, ◌∙◌, arith, subst, length-set}
 use Rattle.std.specs.Prelude.{All}
 use Rattle.std.proofs.lemmas.List.{length-map, length-replicate, get_or-set_other, get_or-set_same}
 use Rattle.std.proofs.lemmas.List.Elements.{All-replicate, All-set}
 use native.Mathlib.Decide.{ℕ_discrete}
-use Rattle.ff_fields.specs.Field.{CodeField}
-use Rattle.ff_fields.specs.Code.{Code, code_ring}
+use Rattle.std.specs.Global.{Vec}
+use Rattle.ff_fields.specs.Field.{FieldOps, CodeField}
+use Rattle.ff_fields.specs.Code.{Code, code_ring, is_zero_code}
 use Rattle.ff_fields.specs.Over.{IsOver, IsOver_nil, IsOver_cons}
 use Rattle.ff_ring.specs.Ring.{TestedRing}
 use Rattle.ff_ring.specs.Lists.{tail_of}
@@ -17,7 +18,7 @@ use Rattle.ff_poly.specs.PolyOver.{IsOver_difference_of}
 use Rattle.ff_poly.specs.Value.{value}
 use Rattle.ff_poly.specs.Polynomials.{value_nil, value_one}
 use Rattle.ff_poly.specs.Terms.{term, less_multiple, value_difference, value_less_multiple, IsOver_less_multiple}
-use Rattle.ff_poly.specs.Popov.{entry_at, row_at, IsRow, IsPivot, IsZeroRow, IsPopov, InSpan, IsCombination}
+use Rattle.ff_poly.specs.Popov.{rows_of, entry_at, row_at, IsRow, IsPivot, IsZeroRow, IsPopov, InSpan, IsCombination}
 use Rattle.popov_theory.specs.Module.{PolynomialModule, measure}
 use Rattle.popov_theory.specs.Span.{combine}
 use Rattle.popov_theory.specs.Span as theory
@@ -25,7 +26,10 @@ use Rattle.popov_theory.proofs.Module.{v_add_add, v_add_neg, v_add_zero, v_zero_
 use Rattle.popov_theory.proofs.Measure.{zero_from_measure}
 use Rattle.popov_theory.proofs.Span.{combine_zero, span_row, span_submodule, sub_in, combine_in}
 use Rattle.ff_popov.specs.Reading.{read_row, row_space, read_rows}
-use Rattle.ff_popov.specs.Rows.{IsRowLess}
+use Rattle.ff_popov.specs.Rows.{IsRowLess, IsCleared, IsClearedBy, place}
+use Rattle.ff_popov.proofs.Places.{cleared_falls}
+use Rattle.ff_popov.proofs.Lengths.{trim_length}
+use Rattle.ff_popov.proofs.Entries.{any_default, read_row_of}
 use Rattle.ff_popov.proofs.ReadRows.{over_at, read_row_at, space_less}
 use Rattle.ff_popov.proofs.Transformations.{less_row}
 use Rattle.ff_popov.proofs.Spans.{combine_same, combination_from, to_space}
@@ -174,3 +178,34 @@ module _ (k : CodeField) where
             subst (theory.InSpan M rs) rest_is
             (sub_in M (theory.InSpan M rs) (span_submodule M rs) (R v) (C cs) (to_space k w basis all v v_in)
             (combine_in M (theory.InSpan M rs) (span_submodule M rs) rs (span_row M rs) (λ i. value k (get_or cs i []))))
+
+    -- the same, as the loop reads and writes
+    pub step_kept : (cs rest row b rest' out : List (List ℕ)) (coef coef' one : List ℕ) (column c s : ℕ) → IsRest k w basis v cs rest → All IsPoly rest → IsPivot rest column
+        → row ≡ rest → b ≡ row_at basis column → IsClearedBy k.ops row b column c s rest' → coef ≡ get_or cs column coef → coef' ≡ less_multiple k.ops coef c s one → one ≡ difference_of k.ops [] (1 ∷ []) → rest' ≡ out
+        → IsRest k w basis v (set cs column coef') out
+    step_kept cs rest row b rest' out coef coef' one column c s h rest_poly p row_is b_is by coef_is coef'_is one_is out_is =
+        subst (IsRest k w basis v (set cs column coef')) out_is
+        (subst (λ x. IsRest k w basis v (set cs column x) rest') (sym (coef'_is ∙ ap₂ (λ x y. less_multiple k.ops x c s y) (coef_is ∙ any_default cs column coef [] in_cs) one_is))
+        (rest_step cs rest rest' column c s h rest_poly p by.scalar_in
+        (subst (λ x. IsRowLess k.ops x c s (row_at basis column) rest') row_is (subst (λ x. IsRowLess k.ops row c s x rest') b_is by.is))))
+      where
+        in_cs : column < length cs
+        in_cs = omega (arith, pivot_below rest column p, h.row.size, h.size, popov.size)
+
+    pub step_falls : (cs rest row b rest' out : List (List ℕ)) (column c s : ℕ) → IsRest k w basis v cs rest → IsPivot rest column → row ≡ rest → IsClearedBy k.ops row b column c s rest' → rest' ≡ out → place w out < place w rest
+    step_falls cs rest row b rest' out column c s h p row_is by out_is =
+        subst (λ x. place w x < place w rest) out_is
+        (cleared_falls k.ops w column rest b rest' h.row.size p (subst (λ x. IsCleared k.ops x b column rest') row_is by.cleared))
+
+-- the row that is taken away
+pub basis_row_read : (k : CodeField) (vs : List (Vec (List ℕ))) (w column : ℕ) (u : Vec (List ℕ)) (b : List (List ℕ)) → IsPopov w (rows_of vs) → column < w → u ≡ get_or vs column u → b ≡ u.items → b ≡ row_at (rows_of vs) column
+basis_row_read k vs w column u b popov less u_is b_is = read_row_of vs column u b (omega (arith, less, popov.size, length-map vs (λ x. x.items))) u_is b_is
+
+pub self_row : (k : FieldOps) (w : ℕ) (a b : List (List ℕ)) → IsRow k w a → b ≡ a → IsRow k (length b) b
+self_row k w a b a_row e = subst (λ r. IsRow k (length r) r) (sym e) (subst (λ n. IsRow k n a) (sym a_row.size) a_row)
+
+pub other_row : (k : FieldOps) (w : ℕ) (a b c d : List (List ℕ)) → IsRow k w a → IsRow k w c → b ≡ a → d ≡ c → IsRow k (length b) d
+other_row k w a b c d a_row c_row e f = subst (λ r. IsRow k (length b) r) (sym f) (subst (λ n. IsRow k n c) (sym (ap length e ∙ a_row.size)) c_row)
+
+pub minus_fits : (k : FieldOps) (s : ℕ) (one : List ℕ) → s + 1 < 2 ^ 64 → one ≡ difference_of k [] (1 ∷ []) → s + length one < 2 ^ 64
+minus_fits k s one fits one_is = omega (arith, fits, ap length one_is, trim_length is_zero_code (k.neg 1 ∷ []))

@@ -1,5 +1,5 @@
 -- The words of the private contracts: what a simple transformation does to rows.
-use Rattle.std.specs.Prelude.{◌≡◌, ℕ, suc, ◌<◌, ◌≤◌, ◌+◌, ◌-◌, ◌*◌, ◌⊎◌, List, [], ◌∷◌, length, max, sum_by, swap, All}
+use Rattle.std.specs.Prelude.{◌≡◌, ℕ, suc, ◌<◌, ◌≤◌, ◌+◌, ◌-◌, ◌*◌, ◌^◌, ◌⊎◌, List, [], ◌∷◌, length, max, sum_by, swap, All}
 use Rattle.ff_fields.specs.Field.{FieldOps, CodeField}
 use Rattle.ff_poly.specs.Terms.{less_multiple}
 use Rattle.ff_poly.specs.Popov.{entry_at, row_at, IsRow, IsPivot}
@@ -19,6 +19,13 @@ pub record IsCleared (k : FieldOps) (a b : List (List ℕ)) (column : ℕ) (row 
   pub is : IsRowLess k a scalar power b row
   pub left : (i : ℕ) → i < column → length (entry_at row i) ≤ length (entry_at a column)
   pub right : (i : ℕ) → column ≤ i → length (entry_at row i) < length (entry_at a column)
+
+-- the same, with the term c·x^s of the multiple, whose power is one of a number of the program
+pub record IsClearedBy (k : FieldOps) (a b : List (List ℕ)) (column c s : ℕ) (row : List (List ℕ)) : Type 0 where
+  pub scalar_in : c < k.size
+  pub fits : s + 1 < 2 ^ 64
+  pub is : IsRowLess k a c s b row
+  pub cleared : IsCleared k a b column row
 
 -- row j stands before row i and has its pivot in the same column
 pub record IsClash (rows : List (List (List ℕ))) (i j column : ℕ) : Type 0 where

@@ -5,7 +5,7 @@ ghost use Rattle.ff_fields.specs.Over.{IsOver};
 ghost use Rattle.ff_poly.specs.Words.{difference_of};
 ghost use Rattle.ff_poly.specs.Popov.{rows_of, IsRow, IsPopov, InSpan, IsCombination};
 
-use crate::rows::{copy_row, pivot, quotient_term, subtract};
+use crate::rows::{clear_pivot, copy_row, pivot};
 use ff_fields::field::SmallField;
 use ff_poly::Poly;
 use std::alloc::{AllocError, Global};
@@ -51,8 +51,7 @@ pub fn coordinates<K: SmallField>(
         if rest[column].len() < row[column].len() {
             return Ok(None);
         }
-        let (c, s) = quotient_term(k, &rest[column], &row[column]);
-        subtract(k, rest.as_mut_slice(), c, s, row)?;
+        let (c, s) = clear_pivot(k, rest.as_mut_slice(), row, column)?;
         coefficients[column].sub_multiple(k, c, s, &minus)?;
     }
     Ok(Some(coefficients))

@@ -4,8 +4,8 @@ ghost use Rattle.std.specs.Prelude.{◌≡◌, ℕ, ◌+◌, ◌^◌, ◌<◌, �
 ghost use Rattle.ff_fields.specs.Over.{IsOver};
 ghost use Rattle.ff_poly.specs.Words.{IsPoly};
 ghost use Rattle.ff_poly.specs.Terms.{less_multiple};
-ghost use Rattle.ff_poly.specs.Popov.{entry_at, IsPivot, IsZeroRow};
-ghost use Rattle.ff_popov.specs.Rows.{IsRowLess};
+ghost use Rattle.ff_poly.specs.Popov.{entry_at, IsRow, IsPivot, IsZeroRow};
+ghost use Rattle.ff_popov.specs.Rows.{IsRowLess, IsClearedBy};
 
 use ff_fields::field::SmallField;
 use ff_poly::Poly;
@@ -74,4 +74,23 @@ pub(crate) fn subtract<K: SmallField>(
         row[i].sub_multiple(k, c, s, &other[i])?;
     }
     Ok(())
+}
+
+/// Takes the multiple of the other row away that clears the pivot, in place, and answers its term c·x^s.
+pub(crate) fn clear_pivot<K: SmallField>(
+    k: &K,
+    row: &mut [Poly],
+    other: &[Poly],
+    column: usize,
+) -> Result<(u32, usize), AllocError>
+    requires row_in { IsRow (K.field k.now).ops (length row.old) row.old }
+    requires other_in { IsRow (K.field k.now).ops (length row.old) other.now }
+    requires row_pivot { IsPivot row.old column }
+    requires other_pivot { IsPivot other.now column }
+    requires longer { length (entry_at other.now column) ≤ length (entry_at row.old column) }
+    ensures { IfOk result (λ t. IsClearedBy (K.field k.now).ops row.old other.now column t.0 t.1 row.new) }
+{
+    let (c, s) = quotient_term(k, &row[column], &other[column]);
+    subtract(k, row, c, s, other)?;
+    Ok((c, s))
 }
