@@ -107,10 +107,10 @@ pub quotient_top : (k : CodeField) (top lead inverse c : ℕ) → top < k.size �
 quotient_top k top lead inverse c top_in lead_in some inverse_is c_is = (
   rw (c_is, inverse_is) (k.laws.mul_below top (k.inv lead) top_in (k.laws.inv_below lead lead_in some)),
   ap (λ n. k.mul n lead) (c_is ∙ ap (k.mul top) inverse_is)
-  ∙ k.laws.mul_assoc top (k.inv lead) lead top_in (k.laws.inv_below lead lead_in some) lead_in
-  ∙ ap (k.mul top) (k.laws.inv_mul lead lead_in some)
-  ∙ k.laws.mul_comm top 1 top_in k.laws.one_below
-  ∙ k.laws.one_mul top top_in,
+      ∙ k.laws.mul_assoc top (k.inv lead) lead top_in (k.laws.inv_below lead lead_in some) lead_in
+      ∙ ap (k.mul top) (k.laws.inv_mul lead lead_in some)
+      ∙ k.laws.mul_comm top 1 top_in k.laws.one_below
+      ∙ k.laws.one_mul top top_in,
 )
 
 -- the top that is read at the length

@@ -21,7 +21,7 @@ use Rattle.ff_poly.specs.Terms.{term, less_multiple, value_less_multiple, IsOver
 use Rattle.ff_poly.specs.Popov.{entry_at, row_at, IsRow, sum_of_rows, multiple_of_row, combination}
 use Rattle.ff_poly.proofs.Results.{product_of_nil}
 use Rattle.popov_theory.specs.Module.{PolynomialModule}
-use Rattle.popov_theory.specs.Span.{combine} 
+use Rattle.popov_theory.specs.Span.{combine}
 use Rattle.popov_theory.specs.Popov.{put}
 use Rattle.popov_theory.proofs.PolynomialRows.{row_module, same_entries, entry_add, entry_neg, entry_scale, row_module_zero, row_module_add, row_module_neg, row_module_scale}
 use Rattle.ff_popov.specs.Reading.{read_row, row_space, read_rows}

@@ -9,3 +9,6 @@ pub mod weak;
 pub use members::coordinates;
 pub use steps::Steps;
 pub use weak::weak_popov;
+
+#[cfg(test)]
+mod tests;

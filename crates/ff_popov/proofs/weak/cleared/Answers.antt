@@ -35,8 +35,8 @@ returns g c =
     let k = g.K.SmallField.field c.args.k.now in
     let size = ap length (c.as_mut_slice.ensures.value ∙ c.in_ok-row.ensures) in
     let less =
-        subst (λ w. IsRowLess k.ops w c.quotient_term-c.result.0 c.quotient_term-c.result.1 c.args.b.now c.subtract.new.row)
-        (c.as_mut_slice.ensures.value ∙ c.in_ok-row.ensures) c.in_ok-subtract.ensures in
+    subst (λ w. IsRowLess k.ops w c.quotient_term-c.result.0 c.quotient_term-c.result.1 c.args.b.now c.subtract.new.row)
+    (c.as_mut_slice.ensures.value ∙ c.in_ok-row.ensures) c.in_ok-subtract.ensures in
     subst (IsCleared k.ops c.args.a.now c.args.b.now c.args.column)
     (written_row c.subtract.new.row _ _ (omega (arith, less.size, size)))
     (cleared_is k c.args.a.now c.args.b.now c.subtract.new.row c.args.column c.quotient_term-c.result.0 c.quotient_term-c.result.1

@@ -82,5 +82,8 @@ pub returns-clause-stays : goal.returns-clause-stays
 returns-clause-stays g c =
     let k = g.K.SmallField.field c.args.k.now in
     let w = width_of (rows_of c.args.rows.now) in
-    omega (arith, (stepped_from k w c.args.rows.now c.args.i c.args.j c.args.column c.requires.i_in c.requires.rows_in c.requires.pair c.requires.apart
-    c.order.new.rows c.order.ensures.rows c.index-rows-i.result c.index-rows-j.result c.deref.result.now c.deref-2.result.now c.index-rows-i.is c.index-rows-j.is c.deref.ensures.value c.deref-2.ensures.value c.in_ok-row.row c.in_ok-row.ensures).falls)
+    omega (
+      arith,
+      (stepped_from k w c.args.rows.now c.args.i c.args.j c.args.column c.requires.i_in c.requires.rows_in c.requires.pair c.requires.apart
+          c.order.new.rows c.order.ensures.rows c.index-rows-i.result c.index-rows-j.result c.deref.result.now c.deref-2.result.now c.index-rows-i.is c.index-rows-j.is c.deref.ensures.value c.deref-2.ensures.value c.in_ok-row.row c.in_ok-row.ensures).falls,
+    )
