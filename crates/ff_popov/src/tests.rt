@@ -34,6 +34,15 @@ fn sample<K: SmallField>(
     Ok(Poly::from_codes(codes))
 }
 
+// Times x to the power n.
+fn lifted<K: SmallField>(alloc: Global, k: &K, a: &Poly, n: usize) -> Result<Poly, AllocError>
+    requires { IsOver (K.field k.now).ops a.now }
+    ensures { IfOk result (IsOver (K.field k.now).ops) }
+{
+    let product = shift(alloc, a, n)?;
+    Ok(product)
+}
+
 // A row of two polynomials.
 fn pair<K: SmallField>(alloc: Global, k: &K, a: Poly, b: Poly) -> Result<Vec<Poly>, AllocError>
     requires a_in { IsOver (K.field k.now).ops a }
@@ -128,13 +137,13 @@ fn long_rows(rt: HostRuntime) -> Result<(), Fail> {
     let first = pair(
         alloc,
         &k,
-        shift(alloc, &one, 1024)?,
+        lifted(alloc, &k, &one, 1024)?,
         sample(alloc, &k, 0, 0, 0)?,
     )?;
     let second = pair(
         alloc,
         &k,
-        shift(alloc, &one, 1023)?,
+        lifted(alloc, &k, &one, 1023)?,
         sample(alloc, &k, 0, 0, 0)?,
     )?;
     let mut rows = matrix(alloc, &k, first, second)?;
