@@ -1,9 +1,9 @@
 -- A multiple by a term is taken away from a list, from a place on.
-use Rattle.std.proofs.Common.{◌≡◌, ℕ, zero, suc, ◌+◌, ◌-◌, ◌<◌, ◌≤◌, List, [], ◌∷◌, ◌++◌, length, take, drop, replicate, refl, sym, ap, ap₂, ◌∙◌, arith}
+use Rattle.std.proofs.Common.{◌≡◌, ℕ, zero, suc, ◌-◌, ◌<◌, ◌≤◌, List, [], ◌∷◌, ◌++◌, length, take, drop, replicate, refl, sym, ap, ap₂, ◌∙◌, arith}
 use Rattle.std.proofs.lemmas.List.{map-append, drop_all, length-drop, take_rest, append-nil}
 use borrow.Rule.Slice.PartMut.{put_mid}
 use Rattle.ff_fields.specs.Field.{CodeField}
-use Rattle.ff_fields.specs.Code.{raw_ring, Code, code_ring, read_code, read_code_below, same_code}
+use Rattle.ff_fields.specs.Code.{raw_ring, Code, code_ring}
 use Rattle.ff_fields.specs.Numbers.{numbers, read, numbers_read, numbers_add, numbers_neg, numbers_mul, numbers_zeros, numbers_scale, numbers_trim}
 use Rattle.ff_fields.specs.Over.{IsOver, IsOver_head, IsOver_tail}
 use Rattle.ff_ring.specs.Ring.{TestedRing}
@@ -11,10 +11,9 @@ use Rattle.ff_ring.specs.Lists.{coeff_of, convolution, add_lists, neg_list, scal
 use Rattle.ff_ring.proofs.Ring.{zero_add, zero_mul, neg_mul, neg_zero}
 use Rattle.ff_ring.proofs.Sequences.{convolution_constant_left}
 use Rattle.ff_ring.proofs.Lists.{coeff_add, coeff_neg, coeff_scale, coeff_mul, coeff_trim, coeff_append_zeros}
-use Rattle.ff_poly.specs.Words.{IsPoly, poly_of, product_of}
-use Rattle.ff_poly.specs.PolyOver.{IsPoly_poly_of}
+use Rattle.ff_poly.specs.Words.{poly_of}
 use Rattle.ff_poly.specs.Value.{same_numbers}
-use Rattle.ff_poly.specs.Terms.{term, less_multiple, IsOver_term}
+use Rattle.ff_poly.specs.Terms.{term, less_multiple}
 
 module _ {A : Type 0} (r : TestedRing A) where
   open r use {𝟘, ◌⊕◌, ◌⊗◌, ⊖◌}

@@ -1,11 +1,9 @@
 -- The steps of the calls that clear a pivot.
-use Rattle.std.proofs.Common.{◌≡◌, ◌≢◌, ℕ, zero, suc, ◌+◌, ◌-◌, ◌^◌, ◌<◌, ◌≤◌, ◌⊎◌, inl, inr, List, [], ◌∷◌, ◌++◌, length, get_or, take, refl, sym, ap, ap₂, ◌∙◌, arith, subst}
-use Rattle.std.specs.Prelude.{All}
+use Rattle.std.proofs.Common.{◌≡◌, ℕ, ◌+◌, ◌-◌, ◌^◌, ◌<◌, ◌≤◌, ◌⊎◌, inl, inr, List, [], ◌++◌, length, get_or, take, sym, ap, ◌∙◌, arith, subst}
 use Rattle.std.proofs.lemmas.Bool.{cases_lt}
 use Rattle.std.proofs.lemmas.List.{take_at}
 use native.Mathlib.Decide.{ℕ_discrete}
 use Rattle.ff_fields.specs.Field.{CodeField}
-use Rattle.ff_fields.specs.Over.{IsOver}
 use Rattle.ff_poly.specs.Terms.{less_multiple}
 use Rattle.ff_poly.specs.Popov.{entry_at, IsRow, IsPivot}
 use Rattle.ff_popov.specs.Rows.{IsRowLess, IsCleared, IsClearedBy}

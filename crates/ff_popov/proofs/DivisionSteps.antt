@@ -1,12 +1,11 @@
 -- The division by a Popov basis, one term after another.
-use Rattle.std.proofs.Common.{◌≡◌, ◌≢◌, ℕ, zero, suc, ◌+◌, ◌-◌, ◌*◌, ◌^◌, ◌<◌, ◌≤◌, ◌⊎◌, inl, inr, List, [], ◌∷◌, length, get_or, set, replicate, refl, sym, ap, ap₂, ◌∙◌, arith, subst, length-set}
+use Rattle.std.proofs.Common.{◌≡◌, ◌≢◌, ℕ, zero, suc, ◌+◌, ◌-◌, ◌^◌, ◌<◌, List, [], ◌∷◌, length, get_or, set, replicate, refl, sym, ap, ap₂, ◌∙◌, arith, subst, length-set}
 use Rattle.std.specs.Prelude.{All}
 use Rattle.std.proofs.lemmas.List.{length-map, length-replicate, get_or-set_other, get_or-set_same}
 use Rattle.std.proofs.lemmas.List.Elements.{All-replicate, All-set}
-use native.Mathlib.Decide.{ℕ_discrete}
 use Rattle.std.specs.Global.{Vec}
 use Rattle.ff_fields.specs.Field.{FieldOps, CodeField}
-use Rattle.ff_fields.specs.Code.{Code, code_ring, is_zero_code}
+use Rattle.ff_fields.specs.Code.{code_ring, is_zero_code}
 use Rattle.ff_fields.specs.Over.{IsOver, IsOver_nil, IsOver_cons}
 use Rattle.ff_ring.specs.Ring.{TestedRing}
 use Rattle.ff_ring.specs.Lists.{tail_of}
@@ -19,7 +18,7 @@ use Rattle.ff_poly.specs.Value.{value}
 use Rattle.ff_poly.specs.Polynomials.{value_nil, value_one}
 use Rattle.ff_poly.specs.Terms.{term, less_multiple, value_difference, value_less_multiple, IsOver_less_multiple}
 use Rattle.ff_poly.specs.Popov.{rows_of, entry_at, row_at, IsRow, IsPivot, IsZeroRow, IsPopov, InSpan, IsCombination}
-use Rattle.popov_theory.specs.Module.{PolynomialModule, measure}
+use Rattle.popov_theory.specs.Module.{PolynomialModule}
 use Rattle.popov_theory.specs.Span.{combine}
 use Rattle.popov_theory.specs.Span as theory
 use Rattle.popov_theory.proofs.Module.{v_add_add, v_add_neg, v_add_zero, v_zero_add, v_add_assoc, v_add_comm, add_scale}

@@ -1,27 +1,25 @@
 -- The pivot of a row of codes is that of what it stands for.
-use Rattle.std.proofs.Common.{◌≡◌, ◌≢◌, ℕ, zero, suc, ◌+◌, ◌-◌, ◌*◌, ◌<◌, ◌≤◌, ◌⊎◌, inl, inr, List, [], ◌∷◌, length, get_or, refl, sym, ap, ◌∙◌, arith, subst}
-use Rattle.std.specs.Prelude.{All}
+use Rattle.std.proofs.Common.{◌≡◌, ◌≢◌, ℕ, zero, suc, ◌+◌, ◌-◌, ◌*◌, ◌<◌, ◌≤◌, ◌⊎◌, inl, inr, List, [], ◌∷◌, length, refl, sym, ap, ◌∙◌, arith, subst}
 use Rattle.std.proofs.lemmas.Bool.{cases_lt}
 use Rattle.std.proofs.lemmas.List.{length-map}
 use Rattle.ff_fields.specs.Field.{CodeField}
-use Rattle.ff_fields.specs.Code.{Code, code_ring, code_domain, code_field, read_code}
+use Rattle.ff_fields.specs.Code.{Code, code_ring, read_code}
 use Rattle.ff_fields.specs.Over.{IsOver}
 use Rattle.ff_fields.specs.Numbers.{read}
-use Rattle.ff_ring.specs.Ring.{TestedRing}
 use Rattle.ff_ring.specs.Lists.{coeff_of, IsTrimmed}
 use Rattle.ff_ring.specs.Rows.{Row, entry}
 use Rattle.ff_ring.proofs.Polynomials.{Pol, pol_ring, coeff_past, coeff_top}
 use Rattle.ff_poly.specs.Words.{IsPoly}
 use Rattle.ff_poly.specs.Value.{value, numbers_value}
 use Rattle.ff_poly.specs.Polynomials.{value_nil}
-use Rattle.ff_poly.specs.Popov.{entry_at, row_at, IsRow, IsPivot, IsZeroRow}
+use Rattle.ff_poly.specs.Popov.{entry_at, IsPivot, IsZeroRow}
 use Rattle.popov_theory.specs.Module.{PolynomialModule, measure, pivot, row_degree}
 use Rattle.popov_theory.proofs.PolynomialRows.{row_width, row_entry, same_entries, row_module_zero, entry_zero}
 use Rattle.popov_theory.proofs.Measure.{pivot_is, measure_zero}
-use Rattle.ff_popov.specs.Reading.{read_row, row_space, read_rows}
+use Rattle.ff_popov.specs.Reading.{read_row, row_space}
 use Rattle.ff_popov.proofs.Lengths.{trim_length}
 use Rattle.ff_popov.proofs.Pivots.{PivotSoFar, so_far_none, so_far_more, so_far_skip, so_far_zero, so_far_pivot, pivot_below}
-use Rattle.ff_popov.proofs.ReadRows.{entry_read, read_row_at}
+use Rattle.ff_popov.proofs.ReadRows.{entry_read}
 use native.Mathlib.Decide.{ℕ_discrete}
 
 -- a row is zero or has a pivot

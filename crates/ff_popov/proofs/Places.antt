@@ -1,12 +1,12 @@
 -- The place of the pivot of a row, which falls with each simple transformation.
-use Rattle.std.proofs.Common.{◌≡◌, ◌≢◌, ℕ, zero, suc, ◌+◌, ◌-◌, ◌*◌, ◌<◌, ◌≤◌, ◌⊎◌, inl, inr, List, [], ◌∷◌, length, get_or, max, refl, sym, ap, ◌∙◌, arith, subst, add-mul}
-use Rattle.std.specs.Prelude.{All, sum_by}
-use Rattle.std.proofs.Math.Nat.{le-max_left, le-max_right, max-le, mul-le-mul_left}
+use Rattle.std.proofs.Common.{◌≡◌, ℕ, zero, suc, ◌+◌, ◌-◌, ◌*◌, ◌<◌, ◌≤◌, ◌⊎◌, inl, inr, List, [], ◌∷◌, length, arith, add-mul}
+use Rattle.std.specs.Prelude.{All}
+use Rattle.std.proofs.Math.Nat.{le-max_left, le-max_right, max-le}
 use Rattle.std.proofs.lemmas.Nat.{mul-le}
 use Rattle.std.proofs.lemmas.Bool.{cases_lt}
 use Rattle.std.proofs.lemmas.List.Sums.{sum_by-cons}
 use Rattle.ff_fields.specs.Field.{FieldOps}
-use Rattle.ff_poly.specs.Popov.{entry_at, row_at, IsRow, IsPivot, longest, degree_bound}
+use Rattle.ff_poly.specs.Popov.{entry_at, IsRow, IsPivot, longest, degree_bound}
 use Rattle.ff_popov.specs.Rows.{IsCleared, place_from, place, total_place}
 use Rattle.ff_popov.proofs.Pivots.{pivot_below}
 

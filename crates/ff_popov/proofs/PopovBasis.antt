@@ -1,13 +1,13 @@
 -- A Popov basis of codes, in the module that it is read into.
-use Rattle.std.proofs.Common.{◌≡◌, ◌≢◌, ℕ, zero, suc, ◌+◌, ◌-◌, ◌*◌, ◌<◌, ◌≤◌, ◌⊎◌, inl, inr, List, [], ◌∷◌, length, get_or, refl, sym, ap, ap₂, ◌∙◌, arith, subst}
+use Rattle.std.proofs.Common.{◌≡◌, ℕ, suc, ◌+◌, ◌-◌, ◌*◌, ◌<◌, ◌≤◌, ◌⊎◌, inl, inr, List, [], length, get_or, sym, ap, ◌∙◌, arith, subst}
 use Rattle.std.specs.Prelude.{All}
 use Rattle.std.proofs.lemmas.Bool.{cases_lt}
 use Rattle.std.proofs.lemmas.List.{length-map}
 use Rattle.ff_fields.specs.Field.{CodeField}
-use Rattle.ff_fields.specs.Code.{Code, code_ring, code_domain}
+use Rattle.ff_fields.specs.Code.{code_ring, code_domain}
 use Rattle.ff_ring.specs.Rows.{Row}
 use Rattle.ff_ring.proofs.Polynomials.{Pol}
-use Rattle.ff_poly.specs.Popov.{entry_at, row_at, IsRow, IsPivot, IsPopov}
+use Rattle.ff_poly.specs.Popov.{entry_at, row_at, IsRow, IsPopov}
 use Rattle.popov_theory.specs.Module.{PolynomialModule, measure, pivot, row_degree, column}
 use Rattle.popov_theory.specs.Span.{InSpan}
 use Rattle.popov_theory.specs.Popov as theory

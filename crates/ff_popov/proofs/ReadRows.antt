@@ -1,32 +1,26 @@
 -- Rows of codes and what they stand for: the operations agree, and a row over the field is known from what it stands for.
-use Rattle.std.proofs.Common.{◌≡◌, ℕ, zero, suc, ◌+◌, ◌-◌, ◌<◌, ◌≤◌, ◌⊎◌, inl, inr, List, [], ◌∷◌, length, get_or, map, set, replicate, refl, sym, ap, ap₂, ◌∙◌, arith, subst}
+use Rattle.std.proofs.Common.{◌≡◌, ℕ, zero, suc, ◌-◌, ◌<◌, ◌≤◌, ◌⊎◌, inl, inr, List, [], ◌∷◌, length, get_or, set, replicate, refl, sym, ap, ap₂, ◌∙◌, arith, subst}
 use Rattle.std.specs.Prelude.{All}
-use Rattle.std.proofs.lemmas.List.{length-map}
-use Rattle.std.proofs.lemmas.List.Elements.{All-head, All-tail, All-cons, All-nil}
 use Rattle.std.proofs.lemmas.Bool.{cases_lt}
 use Rattle.ff_fields.specs.Field.{CodeField}
-use Rattle.ff_fields.specs.Code.{Code, code_ring}
+use Rattle.ff_fields.specs.Code.{code_ring}
 use Rattle.ff_fields.specs.Over.{IsOver, IsOver_nil}
 use Rattle.ff_ring.specs.Ring.{TestedRing}
-use Rattle.ff_ring.specs.Lists.{tail_of}
 use Rattle.ff_ring.specs.Rows.{Row, row_zero, row_add, row_neg, row_scale, entry}
 use Rattle.ff_ring.proofs.Ring.{mul_zero}
 use Rattle.ff_ring.proofs.Rows.{pair_path}
 use Rattle.ff_ring.proofs.Polynomials.{Pol, pol_ring}
-use Rattle.ff_poly.specs.Words.{IsPoly, sum_of, product_of, difference_of}
-use Rattle.ff_poly.specs.PolyOver.{IsOver_sum_of, IsOver_product_of, IsPoly_poly_of}
+use Rattle.ff_poly.specs.Words.{IsPoly, difference_of}
 use Rattle.ff_poly.specs.Value.{value, value_sum, value_product, same_from_value}
-use Rattle.ff_poly.specs.Polynomials.{value_nil, codes_of, IsOver_codes_of, IsPoly_codes_of, value_codes_of}
-use Rattle.ff_poly.specs.Terms.{term, less_multiple, value_less_multiple, IsOver_less_multiple}
-use Rattle.ff_poly.specs.Popov.{entry_at, row_at, IsRow, sum_of_rows, multiple_of_row, combination}
+use Rattle.ff_poly.specs.Polynomials.{value_nil}
+use Rattle.ff_poly.specs.Terms.{term, less_multiple, value_less_multiple}
+use Rattle.ff_poly.specs.Popov.{entry_at, row_at, IsRow, sum_of_rows, multiple_of_row}
 use Rattle.ff_poly.proofs.Results.{product_of_nil}
 use Rattle.popov_theory.specs.Module.{PolynomialModule}
-use Rattle.popov_theory.specs.Span.{combine}
 use Rattle.popov_theory.specs.Popov.{put}
-use Rattle.popov_theory.proofs.PolynomialRows.{row_module, same_entries, entry_add, entry_neg, entry_scale, row_module_zero, row_module_add, row_module_neg, row_module_scale}
+use Rattle.popov_theory.proofs.PolynomialRows.{same_entries, entry_add, entry_neg, entry_scale, row_module_zero, row_module_add, row_module_neg, row_module_scale}
 use Rattle.ff_popov.specs.Reading.{read_row, row_space, read_rows}
 use Rattle.ff_popov.specs.Rows.{IsRowLess}
-use Rattle.ff_popov.proofs.Entries.{any_default}
 
 -- entries past the end are zero
 pub past_row : (row : List (List ℕ)) (j : ℕ) → length row ≤ j → entry_at row j ≡ []

@@ -1,19 +1,19 @@
 -- The lattice of rows of codes is the span of what they stand for.
-use Rattle.std.proofs.Common.{◌≡◌, ℕ, zero, suc, ◌+◌, ◌-◌, ◌<◌, ◌≤◌, List, [], ◌∷◌, length, get_or, map, replicate, refl, sym, ap, ap₂, ◌∙◌, arith, subst}
+use Rattle.std.proofs.Common.{◌≡◌, ℕ, zero, suc, ◌-◌, ◌<◌, List, [], ◌∷◌, length, get_or, refl, sym, ap, ap₂, ◌∙◌, arith, subst}
 use Rattle.std.specs.Prelude.{All}
 use Rattle.std.proofs.lemmas.List.{length-map, length-replicate}
 use Rattle.std.proofs.lemmas.List.Elements.{All-nil, All-cons, All-replicate}
 use Rattle.ff_fields.specs.Field.{CodeField}
-use Rattle.ff_fields.specs.Code.{Code, code_ring, raw_ring}
+use Rattle.ff_fields.specs.Code.{code_ring, raw_ring}
 use Rattle.ff_fields.specs.Over.{IsOver, IsOver_nil}
 use Rattle.ff_ring.specs.Lists.{tail_of, add_lists}
-use Rattle.ff_ring.specs.Rows.{Row, row_add, row_scale}
-use Rattle.ff_ring.proofs.Polynomials.{Pol, pol_ring}
+use Rattle.ff_ring.specs.Rows.{Row}
+use Rattle.ff_ring.proofs.Polynomials.{Pol}
 use Rattle.ff_poly.specs.Words.{IsPoly, sum_of, product_of}
 use Rattle.ff_poly.specs.PolyOver.{IsOver_sum_of, IsOver_product_of, IsPoly_poly_of}
 use Rattle.ff_poly.specs.Value.{value}
 use Rattle.ff_poly.specs.Polynomials.{codes_of, IsOver_codes_of, value_codes_of}
-use Rattle.ff_poly.specs.Popov.{entry_at, row_at, IsRow, sum_of_rows, multiple_of_row, combination, IsCombination, InSpan, HaveSameSpan}
+use Rattle.ff_poly.specs.Popov.{IsRow, sum_of_rows, multiple_of_row, combination, IsCombination, InSpan, HaveSameSpan}
 use Rattle.popov_theory.specs.Module.{PolynomialModule}
 use Rattle.popov_theory.specs.Span.{combine}
 use Rattle.popov_theory.specs.Span as theory

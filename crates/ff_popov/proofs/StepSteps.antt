@@ -1,12 +1,12 @@
 -- The steps of the call that makes one simple transformation.
-use Rattle.std.proofs.Common.{◌≡◌, ◌≢◌, ℕ, ◌+◌, ◌<◌, ◌≤◌, ◌⊎◌, inl, inr, List, [], length, get_or, set, refl, sym, ap, ◌∙◌, arith, subst}
+use Rattle.std.proofs.Common.{◌≡◌, ◌≢◌, ℕ, ◌<◌, ◌≤◌, ◌⊎◌, inl, inr, List, [], length, get_or, set, refl, sym, ap, ◌∙◌, arith, subst}
 use Rattle.std.specs.Prelude.{All, swap}
 use Rattle.std.specs.Global.{Vec}
 use Rattle.std.proofs.lemmas.List.{length-map}
 use Rattle.std.proofs.lemmas.List.Edits.{Swapped, swapped_from_swap, length-swap}
 use Rattle.ff_fields.specs.Field.{CodeField}
-use Rattle.ff_poly.specs.Popov.{rows_of, row_at, entry_at, width_of, IsRow, IsPivot}
-use Rattle.ff_popov.specs.Rows.{IsCleared, IsClash, IsApartBelow, SameOrSwapped, Keeps, place, total_place}
+use Rattle.ff_poly.specs.Popov.{rows_of, row_at, entry_at, IsRow, IsPivot}
+use Rattle.ff_popov.specs.Rows.{IsCleared, IsClash, IsApartBelow, SameOrSwapped, Keeps, total_place}
 use Rattle.ff_popov.proofs.Entries.{rows_swap, rows_set, read_row_of}
 use Rattle.ff_popov.proofs.Places.{cleared_falls}
 use Rattle.ff_popov.proofs.Transformations.{row_in, keeps_refl, keeps_trans, keeps_less, keeps_swap, total_set, total_swap, apart_set, apart_swap}

@@ -1,5 +1,5 @@
 -- What a simple transformation and an exchange of two rows keep.
-use Rattle.std.proofs.Common.{◌≡◌, ◌≢◌, ℕ, zero, suc, ◌+◌, ◌-◌, ◌<◌, ◌≤◌, ◌⊎◌, inl, inr, List, [], ◌∷◌, length, get_or, map, set, refl, sym, ap, ap₂, ◌∙◌, arith, subst, length-set}
+use Rattle.std.proofs.Common.{◌≡◌, ◌≢◌, ℕ, zero, suc, ◌+◌, ◌-◌, ◌<◌, ◌≤◌, ◌⊎◌, inl, inr, List, [], ◌∷◌, length, get_or, set, refl, sym, ap, ap₂, ◌∙◌, arith, subst, length-set}
 use Rattle.std.specs.Prelude.{All, swap}
 use Rattle.std.proofs.lemmas.List.{length-map, get_or-set_other}
 use Rattle.std.proofs.lemmas.List.Elements.{All-set}
@@ -9,12 +9,12 @@ use Rattle.std.proofs.lemmas.List.Sums.{sum_by-set}
 use Rattle.std.specs.Global.{Vec}
 use native.Mathlib.Decide.{ℕ_discrete}
 use Rattle.ff_fields.specs.Field.{FieldOps, CodeField}
-use Rattle.ff_fields.specs.Code.{Code, code_ring}
+use Rattle.ff_fields.specs.Code.{code_ring}
 use Rattle.ff_fields.specs.Over.{IsOver}
 use Rattle.ff_ring.specs.Rows.{Row}
-use Rattle.ff_ring.proofs.Polynomials.{Pol, pol_ring}
+use Rattle.ff_ring.proofs.Polynomials.{Pol}
 use Rattle.ff_poly.specs.Value.{value}
-use Rattle.ff_poly.specs.Terms.{term, less_multiple, IsOver_less_multiple}
+use Rattle.ff_poly.specs.Terms.{term, IsOver_less_multiple}
 use Rattle.ff_poly.specs.Popov.{rows_of, entry_at, row_at, width_of, IsRow, IsPivot, IsWeakPopov}
 use Rattle.popov_theory.specs.Module.{PolynomialModule}
 use Rattle.popov_theory.specs.Span.{InSpan, HaveSameSpan}
@@ -22,11 +22,10 @@ use Rattle.popov_theory.specs.Popov.{put}
 use Rattle.popov_theory.proofs.Span.{span_row, within_rows, same_span_refl, same_span_trans}
 use Rattle.popov_theory.proofs.Reduction.{changed_span}
 use Rattle.ff_popov.specs.Reading.{read_row, row_space, read_rows}
-use Rattle.ff_popov.specs.Rows.{IsRowLess, IsCleared, IsClash, IsApartAt, IsApartBelow, SameOrSwapped, Keeps, place, total_place}
-use Rattle.ff_popov.proofs.Entries.{any_default, rows_swap, rows_set, row_of, read_entry}
+use Rattle.ff_popov.specs.Rows.{IsRowLess, IsClash, IsApartAt, IsApartBelow, Keeps, place, total_place}
+use Rattle.ff_popov.proofs.Entries.{any_default, rows_swap, read_entry}
 use Rattle.ff_popov.proofs.Pivots.{one_pivot, pivot_below}
-use Rattle.ff_popov.proofs.ReadRows.{past_row, over_at, read_row_at, read_set, space_less}
-use Rattle.ff_popov.proofs.Places.{cleared_falls}
+use Rattle.ff_popov.proofs.ReadRows.{over_at, read_row_at, read_set, space_less}
 
 -- the row at a place of rows of the width
 pub row_in : (k : FieldOps) (w : ℕ) (rows : List (List (List ℕ))) → All (IsRow k w) rows → (i : ℕ) → i < length rows → IsRow k w (row_at rows i)

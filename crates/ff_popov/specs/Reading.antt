@@ -1,7 +1,7 @@
 -- What rows of lists of codes stand for: members of the module of rows of polynomials over k.
 use Rattle.std.specs.Prelude.{ℕ, zero, suc, ◌-◌, List, [], ◌∷◌, map}
 use Rattle.ff_fields.specs.Field.{CodeField}
-use Rattle.ff_fields.specs.Code.{Code, code_ring}
+use Rattle.ff_fields.specs.Code.{code_ring}
 use Rattle.ff_ring.specs.Rows.{Row}
 use Rattle.ff_ring.proofs.Polynomials.{Pol, pol_ring}
 use Rattle.ff_poly.specs.Value.{value}

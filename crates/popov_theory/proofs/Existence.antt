@@ -1,12 +1,12 @@
 -- Each list of rows of full rank has one Popov basis, and full rank is decided.
-use Rattle.std.proofs.Common.{◌≡◌, ◌≢◌, ℕ, zero, suc, ◌<◌, ◌+◌, ◌*◌, ◌⊎◌, inl, inr, List, length, refl, sym, ◌∙◌, ap, arith, subst}
+use Rattle.std.proofs.Common.{◌≡◌, ℕ, zero, suc, ◌<◌, ◌+◌, ◌*◌, ◌⊎◌, inl, inr, List, length, refl, sym, ◌∙◌, ap, arith, subst}
 use native.Mathlib.Decide.{ℕ_discrete}
 use Rattle.ff_ring.specs.Ring.{TestedRing, IsDomain, IsField}
 use Rattle.ff_ring.proofs.Ring.{field_domain}
 use Rattle.ff_ring.proofs.Polynomials.{Pol, pol_ring}
 use Rattle.popov_theory.specs.Module.{PolynomialModule, measure, column}
-use Rattle.popov_theory.specs.Span.{row_at, InSpan, HaveSameSpan, HasMultipleIn, HasFullRank}
-use Rattle.popov_theory.specs.Popov.{put, IsWeakPopov, IsFull, IsPopov}
+use Rattle.popov_theory.specs.Span.{row_at, InSpan, HaveSameSpan, HasFullRank}
+use Rattle.popov_theory.specs.Popov.{put, IsWeakPopov, IsFull}
 use Rattle.popov_theory.specs.Laws.{PopovForm}
 use Rattle.popov_theory.proofs.Module.{scale_scale, scale_one}
 use Rattle.popov_theory.proofs.Places.{column_at}
@@ -74,7 +74,7 @@ module _ {A V : Type 0} {k : TestedRing A} (M : PolynomialModule k V) where
       sized j h some (suc d) e = (
         d,
         measure_scale M domain h (M.unit j) d e (λ z. absurd (omega (arith, z, measure_unit M domain j)))
-        ∙ omega (arith, measure_unit M domain j),
+            ∙ omega (arith, measure_unit M domain j),
       )
 
       is : (j : ℕ) → (d : ℕ) × (measure M (member j) ≡ suc (d * M.width + j))

@@ -1,4 +1,4 @@
-use Rattle.std.proofs.Common.{length, refl}
+use Rattle.std.proofs.Common.{length}
 use Rattle.ff_poly.specs.Popov.{rows_of}
 use Rattle.ff_popov.specs.Rows.{place}
 use Rattle.ff_popov.proofs.DivisionSteps.{IsRest}

@@ -1,4 +1,4 @@
-use Rattle.std.proofs.Common.{◌<◌, length, sym, arith, subst}
+use Rattle.std.proofs.Common.{◌<◌, length, arith}
 use Rattle.ff_popov.proofs.rows.subtract.Goals as goal
 use Rattle.ff_fields.specs.Over.{IsOver}
 use Rattle.ff_popov.proofs.Entries.{read_same, read_default}

@@ -1,4 +1,4 @@
-use Rattle.std.proofs.Common.{◌<◌, ◌≢◌, ℕ, length, sym, arith, subst, below_more}
+use Rattle.std.proofs.Common.{◌<◌, length, sym, arith, subst, below_more}
 use Rattle.ff_poly.specs.Popov.{rows_of, row_at, IsPivot}
 use Rattle.ff_popov.proofs.weak.clash.Goals as goal
 use Rattle.ff_popov.proofs.weak.clash.Goals.{in-Some+else-other-column, in_default}

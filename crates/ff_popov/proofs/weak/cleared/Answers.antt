@@ -1,4 +1,4 @@
-use Rattle.std.proofs.Common.{◌<◌, ◌^◌, length, sym, ap, arith, subst, ◌∙◌}
+use Rattle.std.proofs.Common.{◌^◌, length, sym, ap, arith, subst, ◌∙◌}
 use Rattle.ff_popov.proofs.weak.cleared.Goals as goal
 use Rattle.std.specs.Prelude.{All}
 use Rattle.ff_fields.specs.Over.{IsOver}

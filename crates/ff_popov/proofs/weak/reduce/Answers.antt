@@ -1,4 +1,4 @@
-use Rattle.std.proofs.Common.{arith, ap, subst, sym}
+use Rattle.std.proofs.Common.{arith}
 use Rattle.ff_poly.specs.Popov.{rows_of, width_of}
 use Rattle.ff_popov.proofs.weak.reduce.Goals as goal
 use Rattle.ff_popov.proofs.Chains.{mid_rows, chained, chained_steps}

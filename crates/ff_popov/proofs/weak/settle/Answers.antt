@@ -1,8 +1,8 @@
-use Rattle.std.proofs.Common.{arith, refl}
+use Rattle.std.proofs.Common.{arith}
 use Rattle.ff_poly.specs.Popov.{rows_of, width_of}
 use Rattle.ff_popov.proofs.weak.settle.Goals as goal
 use Rattle.ff_popov.proofs.Chains.{mid_rows, chained, chained_falls, chained_stays}
-use Rattle.ff_popov.proofs.Transformations.{keeps_refl, apart_more}
+use Rattle.ff_popov.proofs.Transformations.{keeps_refl}
 
 pub loop-j-init : goal.loop-j-init
 loop-j-init g c =

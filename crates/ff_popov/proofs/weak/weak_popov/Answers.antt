@@ -1,6 +1,6 @@
-use Rattle.std.proofs.Common.{◌≡◌, ◌+◌, ◌≤◌, length, take, ◌++◌, sym, ap, subst, arith, ◌∙◌}
-use Rattle.std.proofs.lemmas.List.{take_at, length-map}
-use Rattle.ff_poly.specs.Popov.{rows_of, width_of, HaveSameSpan, degree_bound}
+use Rattle.std.proofs.Common.{◌+◌, ◌≤◌, sym, subst, arith}
+use Rattle.std.proofs.lemmas.List.{take_at}
+use Rattle.ff_poly.specs.Popov.{rows_of, width_of, HaveSameSpan}
 use Rattle.ff_popov.specs.Rows.{Keeps, total_place}
 use Rattle.ff_popov.proofs.weak.weak_popov.Goals as goal
 use Rattle.ff_popov.proofs.Spans.{same_lattice}

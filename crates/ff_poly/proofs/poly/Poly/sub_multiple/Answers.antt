@@ -1,4 +1,4 @@
-use Rattle.std.proofs.Common.{◌≡◌, ◌-◌, ◌++◌, length, take, replicate, arith, sym, ap, ap₂, ◌∙◌}
+use Rattle.std.proofs.Common.{◌-◌, ◌++◌, replicate, arith, ap, ap₂, ◌∙◌}
 use Rattle.std.proofs.lemmas.List.{take_all}
 use Rattle.ff_poly.proofs.poly.Poly.sub_multiple.Goals as goal
 use Rattle.ff_fields.specs.Code.{raw_ring}
