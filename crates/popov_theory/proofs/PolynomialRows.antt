@@ -16,32 +16,32 @@ module _ {A : Type 0} (k : TestedRing A) where
   abbrev P : TestedRing (Pol k)
   P = pol_ring k
 
-  entry_zero : (n i : ℕ) → entry P.ops n i (row_zero P.ops n) ≡ P.𝟘
+  pub entry_zero : (n i : ℕ) → entry P.ops n i (row_zero P.ops n) ≡ P.𝟘
   unfolding entry row_zero
   entry_zero zero i = refl
   entry_zero (suc n) zero = refl
   entry_zero (suc n) (suc i) = entry_zero n i
 
-  entry_add : (n i : ℕ) (u v : Row (Pol k) n) → entry P.ops n i (row_add P.ops n u v) ≡ P.◌⊕◌ (entry P.ops n i u) (entry P.ops n i v)
+  pub entry_add : (n i : ℕ) (u v : Row (Pol k) n) → entry P.ops n i (row_add P.ops n u v) ≡ P.◌⊕◌ (entry P.ops n i u) (entry P.ops n i v)
   unfolding entry row_add
   entry_add zero i u v = sym (P.add_zero P.𝟘)
   entry_add (suc n) zero (a, u) (b, v) = refl
   entry_add (suc n) (suc i) (a, u) (b, v) = entry_add n i u v
 
-  entry_neg : (n i : ℕ) (v : Row (Pol k) n) → entry P.ops n i (row_neg P.ops n v) ≡ P.⊖◌ (entry P.ops n i v)
+  pub entry_neg : (n i : ℕ) (v : Row (Pol k) n) → entry P.ops n i (row_neg P.ops n v) ≡ P.⊖◌ (entry P.ops n i v)
   unfolding entry row_neg
   entry_neg zero i v = sym (neg_zero P.ring)
   entry_neg (suc n) zero (a, v) = refl
   entry_neg (suc n) (suc i) (a, v) = entry_neg n i v
 
-  entry_scale : (n i : ℕ) (c : Pol k) (v : Row (Pol k) n) → entry P.ops n i (row_scale P.ops n c v) ≡ P.◌⊗◌ c (entry P.ops n i v)
+  pub entry_scale : (n i : ℕ) (c : Pol k) (v : Row (Pol k) n) → entry P.ops n i (row_scale P.ops n c v) ≡ P.◌⊗◌ c (entry P.ops n i v)
   unfolding entry row_scale
   entry_scale zero i c v = sym (mul_zero P.ring c)
   entry_scale (suc n) zero c (a, v) = refl
   entry_scale (suc n) (suc i) c (a, v) = entry_scale n i c v
 
   -- rows with the same entries are the same
-  same_entries : (n : ℕ) (u v : Row (Pol k) n) → ((i : ℕ) → i < n → entry P.ops n i u ≡ entry P.ops n i v) → u ≡ v
+  pub same_entries : (n : ℕ) (u v : Row (Pol k) n) → ((i : ℕ) → i < n → entry P.ops n i u ≡ entry P.ops n i v) → u ≡ v
   unfolding entry
   same_entries zero u v h = refl
   same_entries (suc n) (a, u) (b, v) h = pair_path (h 0 (omega arith)) (same_entries n u v (λ i less. h (suc i) (omega (arith, less))))
@@ -82,7 +82,7 @@ module _ {A : Type 0} (k : TestedRing A) where
   series_zero i = refl
 
   module _ (n : ℕ) where
-    abbrev w : ℕ
+    abbrev pub w : ℕ
     w = suc n
 
     -- the coefficient of x^(e / w) in the entry e % w
@@ -145,3 +145,20 @@ module _ {A : Type 0} (k : TestedRing A) where
     pub row_entry : (v : Row (Pol k) w) (s j : ℕ) → j < w → row_module.coef v (s * row_module.width + j) ≡ coeff_of k.ops (entry P.ops w j v).0 s
     unfolding row_module
     row_entry v s j less = row_coef_at v s j less
+
+    -- its operations are those of rows
+    pub row_module_zero : row_module.𝟎 ≡ row_zero P.ops w
+    unfolding row_module
+    row_module_zero = refl
+
+    pub row_module_add : (u v : Row (Pol k) w) → row_module.◌⊞◌ u v ≡ row_add P.ops w u v
+    unfolding row_module
+    row_module_add u v = refl
+
+    pub row_module_neg : (v : Row (Pol k) w) → row_module.⊟◌ v ≡ row_neg P.ops w v
+    unfolding row_module
+    row_module_neg v = refl
+
+    pub row_module_scale : (c : Pol k) (v : Row (Pol k) w) → row_module.◌·◌ c v ≡ row_scale P.ops w c v
+    unfolding row_module
+    row_module_scale c v = refl

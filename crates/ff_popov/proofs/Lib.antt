@@ -1,0 +1,13 @@
+pub mod Pivots
+pub mod Lengths
+pub mod Entries
+pub mod ReadRows
+pub mod Places
+pub mod Transformations
+pub mod Clearing
+pub mod StepSteps
+pub mod Chains
+pub mod Spans
+pub mod Measures
+pub mod PopovBasis
+pub mod DivisionSteps
