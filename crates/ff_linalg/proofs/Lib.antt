@@ -1,0 +1,4 @@
+pub mod Multiples
+pub mod Flat
+pub mod RowSteps
+pub mod Views

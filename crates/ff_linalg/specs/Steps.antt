@@ -1,0 +1,22 @@
+-- The steps of elimination on lists of rows.
+use Rattle.std.specs.Prelude.{ℕ, suc, List, [], ◌∷◌, ◌++◌, take, drop, map, slice_index, slice_index_or}
+use Rattle.ff_fields.specs.Field.{FieldOps}
+use Rattle.ff_fields.specs.Code.{raw_ring}
+use Rattle.ff_ring.specs.Lists.{add_lists, scale_list}
+
+abbrev pub entry_at : List (List ℕ) → ℕ → ℕ → ℕ
+entry_at rows r c = slice_index (slice_index_or rows r []) c
+
+-- a row divided by its entry in column c
+abbrev pub normalized : FieldOps → ℕ → List ℕ → List ℕ
+normalized k c row = scale_list (raw_ring k) (k.inv (slice_index row c)) row
+
+-- a row less the multiple of the pivot's row that clears its entry in column c
+abbrev pub cleared : FieldOps → ℕ → List ℕ → List ℕ → List ℕ
+cleared k c pivot row = add_lists (raw_ring k) row (scale_list (raw_ring k) (k.neg (slice_index row c)) pivot)
+
+-- row p divided by its entry in column c, and the others cleared there
+abbrev pub eliminated : FieldOps → ℕ → ℕ → List (List ℕ) → List (List ℕ)
+eliminated k p c rows =
+    let pivot = normalized k c (slice_index_or rows p []) in
+    map (cleared k c pivot) (take p rows) ++ pivot ∷ map (cleared k c pivot) (drop (suc p) rows)
