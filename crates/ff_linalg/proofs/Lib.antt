@@ -2,3 +2,5 @@ pub mod Multiples
 pub mod Flat
 pub mod RowSteps
 pub mod Views
+pub mod Reading
+pub mod Reduction
