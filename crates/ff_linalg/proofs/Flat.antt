@@ -1,13 +1,13 @@
 -- Rows that stand one after another in a list.
 use Rattle.std.proofs.Common.{◌≡◌, ℕ, zero, suc, ◌+◌, ◌-◌, ◌*◌, ◌<◌, ◌≤◌, List, [], ◌∷◌, ◌++◌, length, get_or, take, drop, set, replicate, refl, sym, ap, ap₂, ◌∙◌, subst, arith, suc-add, zero-add, append_assoc}
 use Rattle.std.proofs.lemmas.List.{length-append, length-drop, length-take-le, take-append-drop, take-append-le, drop-append-le, take_at, drop_at, drop-drop, get_or-drop, get_or-take, set_at, nil_from_length, take-replicate, drop-replicate, length-set}
-use Rattle.std.proofs.lemmas.List.Elements.{All-nil, All-cons}
+use Rattle.std.proofs.lemmas.List.Elements.{All-nil, All-cons, All-head, All-tail}
 use Rattle.std.proofs.Math.Nat.{suc-mul, zero-mul, mul-le-mul_right}
 use Rattle.std.proofs.Math.Seq.{get_or-append_seam}
 use Rattle.std.specs.Prelude.{All}
 use borrow.Rule.Slice.PartMut.{put_mid, set_mid_at}
 use Rattle.ff_fields.specs.Field.{FieldOps}
-use Rattle.ff_fields.specs.Over.{IsOver, IsOver_take, IsOver_drop}
+use Rattle.ff_fields.specs.Over.{IsOver, IsOver_nil, IsOver_append, IsOver_take, IsOver_drop}
 use Rattle.ff_linalg.specs.Matrix.{rows_in}
 
 pub row_end : (i n c : ℕ) → i < n → i * c + c ≤ n * c
@@ -110,3 +110,10 @@ rows_in_set c n i j xs v shape within l =
     ap (rows_in c n) (sym (set_mid_at (i * c) c j xs v (omega (arith, long))))
     ∙ rows_in_put c n i xs shape within (set part j v) (length-set part j v ∙ long)
     ∙ ap (λ r. set (rows_in c n xs) i (set r j v)) (sym (rows_in_get c n i xs shape within))
+
+pub over_from_rows : (k : FieldOps) (c n : ℕ) (xs : List ℕ) → length xs ≡ n * c → All (IsOver k) (rows_in c n xs) → IsOver k xs
+over_from_rows k c zero xs e over = subst (IsOver k) (sym (nil_from_length xs (e ∙ zero-mul c))) IsOver_nil
+over_from_rows k c (suc n) xs e over =
+    subst (IsOver k) (take-append-drop c xs)
+    (IsOver_append (All-head (IsOver k) (take c xs) (rows_in c n (drop c xs)) over)
+    (over_from_rows k c n (drop c xs) (omega (arith, suc-mul n c, length-drop c xs)) (All-tail (IsOver k) (take c xs) (rows_in c n (drop c xs)) over)))

@@ -4,3 +4,5 @@ pub mod RowSteps
 pub mod Views
 pub mod Reading
 pub mod Reduction
+pub mod Bridge
+pub mod Reduced

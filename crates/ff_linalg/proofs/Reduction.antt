@@ -3,7 +3,7 @@ use Rattle.std.proofs.Common.{◌≡◌, ◌≢◌, ℕ, zero, suc, ◌+◌, ◌
 use native.Mathlib.Decide.{ℕ_discrete}
 use Rattle.std.proofs.lemmas.List.{length-map, length-take-le, length-append, length-drop, length-set, get_or_append_left, get_or-append_right, get_or-map, get_or-take, get_or-drop, get_or-set_same, get_or-set_other, set-get_or}
 use Rattle.std.specs.Prelude.{All, swap}
-use Rattle.std.proofs.lemmas.List.Elements.{All-get_or}
+use Rattle.std.proofs.lemmas.List.Elements.{All-get_or, All-from_get_or}
 use Rattle.ff_fields.specs.Field.{FieldOps, CodeField}
 use Rattle.ff_fields.specs.Code.{Code, code_ring, raw_ring, read_code, same_code, read_code_below}
 use Rattle.ff_fields.specs.Over.{IsOver}
@@ -15,7 +15,7 @@ use Rattle.linear_theory.specs.Echelon.{row, IsReduced, SameRowSpace}
 use Rattle.linear_theory.proofs.Elimination.{next, normal, normal_is, from, from_here, from_other, length_next, next_reduced, next_rank, next_same, row_pivot, row_other, skip_column, same_trans, same_refl, at_number_here, at_number_other}
 use Rattle.linear_theory.proofs.SameRows.{HasEntries, same_of_entries, reduced_of_entries}
 use Rattle.ff_linalg.specs.Steps.{entry_at, normalized, cleared, eliminated}
-use Rattle.ff_linalg.specs.Forms.{sequences_of, IsReducedBelow, HaveSameSpace}
+use Rattle.ff_linalg.specs.Forms.{sequences_of, IsReducedBelow, HaveSameSpace, IsStep}
 use Rattle.ff_linalg.proofs.Reading.{read_zero, read_add, read_mul, read_neg, read_one, row_entry, length_sequences, entry_in}
 
 -- the rows after an exchange
@@ -246,11 +246,6 @@ module _ (k : CodeField) (width : ℕ) (rows : List (List ℕ)) (wide : All (λ 
   stepped_same : HaveSameSpace k width stepped rows
   stepped_same = same_of_entries R width N (sequences_of k stepped) has_entries F (next_same R width F c c_below r i i_late below v inverts)
 
--- what a step of the loop keeps
-pub record IsStep (k : CodeField) (width c : ℕ) (rows rows' : List (List ℕ)) (rank : ℕ) : Type 0 where
-  pub reduced : IsReducedBelow k (suc c) rows' rank
-  pub same : HaveSameSpace k width rows' rows
-
 pub pivot_step : (k : CodeField) (width : ℕ) (rows : List (List ℕ)) → All (λ r. length r ≡ width) rows → All (IsOver k.ops) rows → (c : ℕ) → c < width
     → (p : ℕ) → IsReducedBelow k c rows p → (i : ℕ) → p ≤ i → i < length rows → entry_at rows i c ≢ 0
     → IsStep k width c rows (eliminated k.ops p c (swap rows p i)) (suc p)
@@ -274,3 +269,32 @@ skip_step k width rows c p below none = record {
   };
   same = same_refl (code_ring k).ring width (sequences_of k rows);
 }
+
+-- before the first column nothing is asked
+pub reduced_start : (k : CodeField) (rows : List (List ℕ)) → IsReducedBelow k 0 rows 0
+reduced_start k rows = record {
+  form = record {
+    rank = 0;
+    rank_within = omega arith;
+    zero_rows = λ i j a b l. absurd (omega arith);
+    pivot = λ i. i;
+    pivot_below = λ i l. absurd (omega arith);
+    increasing = λ i j l m. absurd (omega arith);
+    left_zero = λ i j l m. absurd (omega arith);
+    pivot_one = λ i l. absurd (omega arith);
+    column_zero = λ i l a b ne. absurd (omega arith);
+  };
+  rank_is = refl;
+}
+
+-- what holds of each row holds of each after an exchange
+pub all_swap : (P : List ℕ → Type 0) (rows : List (List ℕ)) (p i : ℕ) → p < length rows → i < length rows → All P rows → All P (swap rows p i)
+all_swap P rows p i p_in i_in h =
+    All-from_get_or P (swap rows p i) [] (λ l l_in. go l (omega (arith, l_in, length_swap rows p i p_in i_in)) (ℕ_discrete l p) (ℕ_discrete l i))
+  where
+    go : (l : ℕ) → l < length rows → Dec (l ≡ p) → Dec (l ≡ i) → P (get_or (swap rows p i) l [])
+    go l l_in (yes e) d =
+        subst P (sym (ap (λ n. get_or (swap rows p i) n []) e ∙ swap_here rows p i p_in i_in)) (All-get_or P rows i [] i_in h)
+    go l l_in (no ne) (yes e) =
+        subst P (sym (ap (λ n. get_or (swap rows p i) n []) e ∙ swap_there rows p i p_in i_in)) (All-get_or P rows p [] p_in h)
+    go l l_in (no ne) (no nf) = subst P (sym (swap_other rows p i p_in i_in l ne nf)) (All-get_or P rows l [] l_in h)

@@ -1,5 +1,5 @@
 -- Row spaces and reduced row echelon forms of lists of rows of codes, read as rows over the field.
-use Rattle.std.specs.Prelude.{◌≡◌, ℕ, List, map}
+use Rattle.std.specs.Prelude.{◌≡◌, ℕ, suc, List, map}
 use Rattle.ff_fields.specs.Field.{CodeField}
 use Rattle.ff_fields.specs.Code.{Code, code_ring}
 use Rattle.ff_fields.specs.Numbers.{read}
@@ -17,3 +17,8 @@ pub record IsReducedBelow (k : CodeField) (bound : ℕ) (rows : List (List ℕ))
 -- each row of one list is a combination of the rows of the other, in the columns below the width
 abbrev pub HaveSameSpace : (k : CodeField) → ℕ → List (List ℕ) → List (List ℕ) → Type 0
 HaveSameSpace k width rows rows' = SameRowSpace (code_ring k).ops width (sequences_of k rows) (sequences_of k rows')
+
+-- what a step in column c makes of the rows: one column more is reduced, and the row space stays
+pub record IsStep (k : CodeField) (width c : ℕ) (rows rows' : List (List ℕ)) (rank : ℕ) : Type 0 where
+  pub reduced : IsReducedBelow k (suc c) rows' rank
+  pub same : HaveSameSpace k width rows' rows

@@ -1,3 +1,4 @@
 pub mod Matrix
 pub mod Steps
 pub mod Forms
+pub mod Space

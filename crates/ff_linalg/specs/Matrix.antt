@@ -1,5 +1,5 @@
 -- Matrices as contracts see them: how many columns, and the list of the rows, each a list of codes.
-use Rattle.std.specs.Prelude.{ℕ, zero, suc, List, [], ◌∷◌, take, drop, replicate, slice_index, slice_index_or, slice_set, All}
+use Rattle.std.specs.Prelude.{◌≡◌, ℕ, zero, suc, List, [], ◌∷◌, length, take, drop, replicate, slice_index, slice_index_or, slice_set, All}
 use Rattle.ff_fields.specs.Field.{FieldOps}
 use Rattle.ff_fields.specs.Over.{IsOver}
 
@@ -28,3 +28,9 @@ with_entry m r c v = record { cols = m.cols; rows = slice_set m.rows r (slice_se
 -- each entry is a code of the field
 pub record IsMatrixOver (k : FieldOps) (m : MatrixValue) : Type 0 where
   pub each : All (IsOver k) m.rows
+
+-- so many rows of so many columns
+pub record HasShape (m : MatrixValue) (rows cols : ℕ) : Type 0 where
+  pub row_count : length m.rows ≡ rows
+  pub col_count : m.cols ≡ cols
+  pub each : All (λ r. length r ≡ cols) m.rows

@@ -1,5 +1,5 @@
 -- The steps of elimination on lists of rows.
-use Rattle.std.specs.Prelude.{ℕ, suc, List, [], ◌∷◌, ◌++◌, take, drop, map, slice_index, slice_index_or}
+use Rattle.std.specs.Prelude.{◌≡◌, ◌≢◌, ◌<◌, ◌≤◌, ℕ, suc, List, [], ◌∷◌, ◌++◌, take, drop, map, length, swap, slice_index, slice_index_or}
 use Rattle.ff_fields.specs.Field.{FieldOps}
 use Rattle.ff_fields.specs.Code.{raw_ring}
 use Rattle.ff_ring.specs.Lists.{add_lists, scale_list}
@@ -20,3 +20,15 @@ abbrev pub eliminated : FieldOps → ℕ → ℕ → List (List ℕ) → List (L
 eliminated k p c rows =
     let pivot = normalized k c (slice_index_or rows p []) in
     map (cleared k c pivot) (take p rows) ++ pivot ∷ map (cleared k c pivot) (drop (suc p) rows)
+
+-- a row from the rank on whose entry in column c isn't 0 is exchanged with the one at the rank
+pub record RaisesPivot (old new : List (List ℕ)) (rank c : ℕ) : Type 0 where
+  pub place : ℕ
+  pub late : rank ≤ place
+  pub within : place < length old
+  pub nonzero : entry_at old place c ≢ 0
+  pub is : new ≡ swap old rank place
+
+-- column c is 0 from the rank on
+abbrev pub HasNoPivot : List (List ℕ) → ℕ → ℕ → Type 0
+HasNoPivot rows rank c = (l : ℕ) → rank ≤ l → l < length rows → entry_at rows l c ≡ 0

@@ -1,8 +1,10 @@
 //! Matrices over a small field: reduced row echelon form, kernel, solutions and the first relation of the rows.
 #![tactic(auto)]
 
+pub mod elimination;
 pub mod matrix;
 mod rows;
 mod slices;
 
+pub use elimination::echelon;
 pub use matrix::Matrix;
