@@ -79,7 +79,7 @@ module _ (k : CodeField) where
   look_scale : (a : Code k) (xs : List (Code k)) (j : ℕ) → look R.ops (scale_list R.ops a xs) j ≡ R.◌⊗◌ a (look R.ops xs j)
   look_scale a xs j = look_is_coeff R.ops (scale_list R.ops a xs) j ∙ coeff_scale (code_ring k) a xs j ∙ ap (R.◌⊗◌ a) (sym (look_is_coeff R.ops xs j))
 
-  look_zeros : (n j : ℕ) → look R.ops (read k (replicate n 0)) j ≡ R.𝟘
+  pub look_zeros : (n j : ℕ) → look R.ops (read k (replicate n 0)) j ≡ R.𝟘
   look_zeros zero j = refl
   look_zeros (suc n) zero = read_zero k
   look_zeros (suc n) (suc j) = look_zeros n j

@@ -1,6 +1,6 @@
 -- Rows that stand one after another in a list.
-use Rattle.std.proofs.Common.{◌≡◌, ℕ, zero, suc, ◌+◌, ◌-◌, ◌*◌, ◌<◌, ◌≤◌, List, [], ◌∷◌, ◌++◌, length, get_or, take, drop, set, replicate, refl, sym, ap, ap₂, ◌∙◌, subst, arith, suc-add, zero-add, append_assoc}
-use Rattle.std.proofs.lemmas.List.{length-append, length-drop, length-take-le, take-append-drop, take-append-le, drop-append-le, take_at, drop_at, drop-drop, get_or-drop, get_or-take, set_at, nil_from_length, take-replicate, drop-replicate, length-set}
+use Rattle.std.proofs.Common.{◌≡◌, ℕ, zero, suc, ◌+◌, ◌-◌, ◌*◌, ◌<◌, ◌≤◌, List, [], ◌∷◌, ◌++◌, length, get_or, take, drop, set, map, replicate, refl, sym, ap, ap₂, ◌∙◌, subst, arith, suc-add, zero-add, add-one, append_assoc}
+use Rattle.std.proofs.lemmas.List.{take_all, drop-take, map_more, length-append, length-drop, length-take-le, take-append-drop, take-append-le, drop-append-le, take_at, drop_at, drop-drop, get_or-drop, get_or-take, set_at, nil_from_length, take-replicate, drop-replicate, length-set}
 use Rattle.std.proofs.lemmas.List.Elements.{All-nil, All-cons, All-head, All-tail}
 use Rattle.std.proofs.Math.Nat.{suc-mul, zero-mul, mul-le-mul_right}
 use Rattle.std.proofs.Math.Seq.{get_or-append_seam}
@@ -117,3 +117,37 @@ over_from_rows k c (suc n) xs e over =
     subst (IsOver k) (take-append-drop c xs)
     (IsOver_append (All-head (IsOver k) (take c xs) (rows_in c n (drop c xs)) over)
     (over_from_rows k c n (drop c xs) (omega (arith, suc-mul n c, length-drop c xs)) (All-tail (IsOver k) (take c xs) (rows_in c n (drop c xs)) over)))
+
+-- one row more without its first entries
+pub lower_step : (w left top i n : ℕ) (entries out row new : List ℕ) → length entries ≡ n * w → left ≤ w → top + i < n → length out ≡ i * (w - left)
+    → rows_in (w - left) i out ≡ map (drop left) (take i (drop top (rows_in w n entries)))
+    → row ≡ take ((top + i) * w + w - ((top + i) * w + left)) (drop ((top + i) * w + left) entries) → new ≡ out ++ row
+    → (length new ≡ (i + 1) * (w - left)) × (rows_in (w - left) (i + 1) new ≡ map (drop left) (take (i + 1) (drop top (rows_in w n entries))))
+lower_step w left top i n entries out row new shape left_in within long before row_is new_is = (
+  ap length new_is ∙ length-append out row ∙ ap₂ (λ x y. x + y) long row_length ∙ sym (ap (λ m. m * (w - left)) (add-one i) ∙ suc-mul i (w - left)),
+  ap (rows_in (w - left) (i + 1)) new_is ∙ rows_in_append (w - left) i 1 out row long
+  ∙ ap₂ (λ x y. x ++ y ∷ []) before (take_all (w - left) row (omega (arith, row_length)) ∙ row_entry)
+  ∙ sym (map_more (drop left) (drop top (rows_in w n entries)) i [] (omega (arith, within, length-drop top (rows_in w n entries), length_rows_in w n entries))),
+)
+  where
+    at : ℕ
+    at = (top + i) * w
+
+    part : row ≡ drop left (take w (drop at entries))
+    part =
+        row_is ∙ ap (λ m. take m (drop (at + left) entries)) (let e : at + w - (at + left) ≡ w - left = omega arith in e)
+        ∙ ap (take (w - left)) (sym (drop-drop left at entries))
+        ∙ sym (ap (λ m. drop left (take m (drop at entries))) (let e : w ≡ left + (w - left) = omega arith in e) ∙ drop-take left (w - left) (drop at entries))
+
+    row_entry : row ≡ drop left (get_or (drop top (rows_in w n entries)) i [])
+    row_entry = part ∙ ap (drop left) (sym (rows_in_get w n (top + i) entries shape within) ∙ sym (get_or-drop top (rows_in w n entries) i []))
+
+    row_length : length row ≡ w - left
+    row_length =
+        ap length part ∙ length-drop left (take w (drop at entries))
+        ∙ ap (λ m. m - left) (length-take-le w (drop at entries) (omega (arith, shape, row_end (top + i) n w within, length-drop at entries)))
+
+-- the rows that are left
+pub lower_end : (w left top n : ℕ) (entries : List ℕ) → top ≤ n → map (drop left) (take (n - top) (drop top (rows_in w n entries))) ≡ map (drop left) (drop top (rows_in w n entries))
+lower_end w left top n entries top_in =
+    ap (map (drop left)) (take_all (n - top) (drop top (rows_in w n entries)) (omega (arith, length-drop top (rows_in w n entries), length_rows_in w n entries)))

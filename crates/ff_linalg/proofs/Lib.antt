@@ -6,3 +6,6 @@ pub mod Reading
 pub mod Reduction
 pub mod Bridge
 pub mod Reduced
+pub mod UnitRows
+pub mod Beside
+pub mod KernelBasis

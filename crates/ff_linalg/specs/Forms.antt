@@ -4,6 +4,7 @@ use Rattle.ff_fields.specs.Field.{CodeField}
 use Rattle.ff_fields.specs.Code.{Code, code_ring}
 use Rattle.ff_fields.specs.Numbers.{read}
 use Rattle.linear_theory.specs.Echelon.{IsReduced, SameRowSpace, rows_of}
+use Rattle.linear_theory.proofs.Kernel.{Eliminated}
 
 -- the rows as sequences of members of the field, 0 past the end
 abbrev pub sequences_of : (k : CodeField) → List (List ℕ) → List (ℕ → Code k)
@@ -22,3 +23,9 @@ HaveSameSpace k width rows rows' = SameRowSpace (code_ring k).ops width (sequenc
 pub record IsStep (k : CodeField) (width c : ℕ) (rows rows' : List (List ℕ)) (rank : ℕ) : Type 0 where
   pub reduced : IsReducedBelow k (suc c) rows' rank
   pub same : HaveSameSpace k width rows' rows
+
+-- the reduced form of the rows with the unit matrix on their right, of which so many pivots belong to the rows
+pub record IsEliminated (k : CodeField) (cols : ℕ) (rows whole : List (List ℕ)) (rank : ℕ) : Type 0 where
+  pub elimination : Eliminated (code_ring k).ring cols (sequences_of k rows)
+  pub form_is : elimination.form ≡ sequences_of k whole
+  pub split_is : elimination.split ≡ rank

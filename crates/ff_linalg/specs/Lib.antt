@@ -2,3 +2,4 @@ pub mod Matrix
 pub mod Steps
 pub mod Forms
 pub mod Space
+pub mod Kernel

@@ -1,5 +1,5 @@
 -- The steps of elimination on lists of rows.
-use Rattle.std.specs.Prelude.{◌≡◌, ◌≢◌, ◌<◌, ◌≤◌, ℕ, suc, List, [], ◌∷◌, ◌++◌, take, drop, map, length, swap, slice_index, slice_index_or}
+use Rattle.std.specs.Prelude.{◌≡◌, ◌≢◌, ◌<◌, ◌≤◌, ℕ, suc, List, [], ◌∷◌, ◌++◌, take, drop, map, length, swap, slice_index, slice_index_or, slice_set, replicate}
 use Rattle.ff_fields.specs.Field.{FieldOps}
 use Rattle.ff_fields.specs.Code.{raw_ring}
 use Rattle.ff_ring.specs.Lists.{add_lists, scale_list}
@@ -32,3 +32,11 @@ pub record RaisesPivot (old new : List (List ℕ)) (rank c : ℕ) : Type 0 where
 -- column c is 0 from the rank on
 abbrev pub HasNoPivot : List (List ℕ) → ℕ → ℕ → Type 0
 HasNoPivot rows rank c = (l : ℕ) → rank ≤ l → l < length rows → entry_at rows l c ≡ 0
+
+-- n codes of which the one with this number is 1 and the others 0
+abbrev pub unit_row : ℕ → ℕ → List ℕ
+unit_row n i = slice_set (replicate n 0) i 1
+
+-- n rows, and the same with a unit row on the right of each
+abbrev pub IsBesideUnit : ℕ → List (List ℕ) → List (List ℕ) → Type 0
+IsBesideUnit n rows whole = (l : ℕ) → l < n → slice_index_or whole l [] ≡ slice_index_or rows l [] ++ unit_row n l

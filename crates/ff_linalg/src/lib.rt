@@ -2,9 +2,11 @@
 #![tactic(auto)]
 
 pub mod elimination;
+pub mod kernels;
 pub mod matrix;
 mod rows;
 mod slices;
 
 pub use elimination::echelon;
+pub use kernels::kernel;
 pub use matrix::Matrix;

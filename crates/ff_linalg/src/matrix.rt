@@ -1,6 +1,6 @@
 //! Matrices of codes.
 
-ghost use Rattle.std.specs.Prelude.{◌≡◌, ◌*◌, ◌<◌, length, IfOk};
+ghost use Rattle.std.specs.Prelude.{◌≡◌, ◌*◌, ◌<◌, length, replicate, IfOk};
 ghost use Rattle.ff_linalg.specs.Matrix.{zero_matrix, entry_of, row_of, with_entry};
 
 use std::alloc::{AllocError, Global};
@@ -25,14 +25,22 @@ impl Model for Matrix {
     ghost invariant = { λ m. length m.entries.items ≡ m.rows * m.cols };
 }
 
+/// As many zeros as a matrix has entries. More than `usize::MAX` are want of memory.
+pub(crate) fn zeros(alloc: Global, rows: usize, cols: usize) -> Result<Vec<u32>, AllocError>
+    ensures { IfOk result (λ v. v.items ≡ replicate (rows * cols) 0) }
+{
+    let count = rows.checked_mul(cols).ok_or(AllocError)?;
+    let mut entries = Vec::new(alloc);
+    entries.resize(count, 0)?;
+    Ok(entries)
+}
+
 impl Matrix {
     /// All entries 0. More than `usize::MAX` entries are want of memory.
     pub fn zero(alloc: Global, rows: usize, cols: usize) -> Result<Matrix, AllocError>
         ensures { IfOk result (λ m. m ≡ zero_matrix rows cols) }
     {
-        let count = rows.checked_mul(cols).ok_or(AllocError)?;
-        let mut entries = Vec::new(alloc);
-        entries.resize(count, 0)?;
+        let entries = zeros(alloc, rows, cols)?;
         Ok(Matrix {
             rows,
             cols,

@@ -36,6 +36,12 @@ module _ {A : Type 0} (R : CommRing A) where
     pub count : length rows' ≡ length rows
     pub entry : (i j : ℕ) → i < length rows → j < width → row R.ops rows' i j ≡ row R.ops rows i j
 
+  pub entries_back : (width : ℕ) (rows rows' : List (ℕ → A)) → HasEntries width rows rows' → HasEntries width rows' rows
+  entries_back width rows rows' same = record {
+    count = sym same.count;
+    entry = λ i j l b. sym (same.entry i j (subst (λ n. i < n) same.count l) b);
+  }
+
   combine_entries : (c : ℕ → A) (rows rows' : List (ℕ → A)) (j : ℕ) → length rows' ≡ length rows
       → ((i : ℕ) → i < length rows → row R.ops rows' i j ≡ row R.ops rows i j)
       → combine (sequence_ops R.ops) c rows' j ≡ combine (sequence_ops R.ops) c rows j
