@@ -1,7 +1,7 @@
 -- Combinations, row spaces and reduced forms of codes are those over the field.
 use Rattle.std.proofs.Common.{◌≡◌, ℕ, zero, suc, ◌<◌, ◌≤◌, List, [], ◌∷◌, length, get_or, map, replicate, refl, sym, ◌∙◌, ap, ap₂, subst, arith, ◌↔◌}
 use Rattle.std.proofs.lemmas.List.{length-map, length-replicate}
-use Rattle.std.proofs.lemmas.List.Elements.{All-head, All-tail}
+use Rattle.std.proofs.lemmas.List.Elements.{All-head, All-tail, All-get_or}
 use Rattle.std.specs.Prelude.{All}
 use Rattle.ff_fields.specs.Field.{FieldOps, CodeField}
 use Rattle.ff_fields.specs.Code.{Code, code_ring, raw_ring, read_code, read_code_below}
@@ -17,7 +17,7 @@ use Rattle.linear_theory.proofs.Combination.{sequences, combine_cong, combine_no
 use Rattle.linear_theory.proofs.Division.{look_add, look_is_coeff}
 use Rattle.linear_theory.proofs.Echelon.{list_ext}
 use Rattle.linear_theory.proofs.EchelonBasis.{cut, look_cut, length_cut}
-use Rattle.linear_theory.proofs.Augment.{same_row_space}
+use Rattle.linear_theory.proofs.Augment.{same_row_space, own_row}
 use Rattle.linear_theory.proofs.SameRows.{reduced_across}
 use Rattle.ff_linalg.specs.Matrix.{MatrixValue, IsMatrixOver, HasShape}
 use Rattle.ff_linalg.specs.Steps.{entry_at}
@@ -162,6 +162,21 @@ module _ (k : CodeField) where
 
       cs_in : IsOver k.ops cs
       cs_in = IsOver_numbers k (cut (length m.rows) h.coefficient)
+
+  row_look : (rows : List (List ℕ)) (i j : ℕ) → row R.ops (sequences_of k rows) i j ≡ look R.ops (read k (get_or rows i [])) j
+  row_look [] i j = refl
+  row_look (r ∷ rows) zero j = refl
+  row_look (r ∷ rows) (suc i) j = row_look rows i j
+
+  -- a row is in the row space
+  pub own_row_codes : (m : MatrixValue) → All (IsOver k.ops) m.rows → All (λ r. length r ≡ m.cols) m.rows → (i : ℕ) → i < length m.rows
+      → IsInRowSpace k.ops m (get_or m.rows i [])
+  own_row_codes m over wide i l =
+      codes_of_space m (get_or m.rows i []) over wide (All-get_or (IsOver k.ops) m.rows i [] l over) (All-get_or (λ r. length r ≡ m.cols) m.rows i [] l wide)
+      (record { coefficient = h.coefficient; is = λ j a. sym (row_look m.rows i j) ∙ h.is j a })
+    where
+      h : InRowSpace R.ops m.cols (sequences_of k m.rows) (row R.ops (sequences_of k m.rows) i)
+      h = own_row R m.cols (sequences_of k m.rows) i (subst (λ n. i < n) (sym (length_sequences k m.rows)) l)
 
   -- the row spaces of matrices of one width
   pub same_space_within : (m m' : MatrixValue) → m.cols ≡ m'.cols → IsMatrixOver k.ops m → IsMatrixOver k.ops m' → All (λ r. length r ≡ m.cols) m.rows

@@ -9,3 +9,4 @@ pub mod Reduced
 pub mod UnitRows
 pub mod Beside
 pub mod KernelBasis
+pub mod Solving

@@ -1,15 +1,12 @@
 -- The kernel of a matrix, said of codes.
 use Rattle.std.specs.Prelude.{◌≡◌, ℕ, List, length, replicate, ◌↔◌}
 use Rattle.ff_fields.specs.Field.{FieldOps}
-use Rattle.ff_fields.specs.Over.{IsOver}
 use Rattle.ff_linalg.specs.Matrix.{MatrixValue, IsMatrixOver, HasShape}
-use Rattle.ff_linalg.specs.Space.{product_of, IsInRowSpace, IsReducedForm}
+use Rattle.ff_linalg.specs.Space.{IsInRowSpace, IsReducedForm, IsSolution}
 
 -- v·a = 0
-pub record IsInKernel (k : FieldOps) (a : MatrixValue) (v : List ℕ) : Type 0 where
-  pub one_each : length v ≡ length a.rows
-  pub over : IsOver k v
-  pub product : product_of k v a ≡ replicate a.cols 0
+abbrev pub IsInKernel : FieldOps → MatrixValue → List ℕ → Type 0
+IsInKernel k a v = IsSolution k a (replicate a.cols 0) v
 
 -- the reduced echelon basis of the kernel of a: a matrix in reduced row echelon form without rows that are 0, whose row
 -- space is the kernel

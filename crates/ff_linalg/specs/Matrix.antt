@@ -25,6 +25,10 @@ entry_of m r c = slice_index (row_of m r) c
 abbrev pub with_entry : MatrixValue → ℕ → ℕ → ℕ → MatrixValue
 with_entry m r c v = record { cols = m.cols; rows = slice_set m.rows r (slice_set (row_of m r) c v) }
 
+-- m with the row b above its rows
+abbrev pub with_first_row : List ℕ → MatrixValue → MatrixValue
+with_first_row b m = record { cols = m.cols; rows = b ∷ m.rows }
+
 -- each entry is a code of the field
 pub record IsMatrixOver (k : FieldOps) (m : MatrixValue) : Type 0 where
   pub each : All (IsOver k) m.rows

@@ -27,3 +27,12 @@ pub record IsInRowSpace (k : FieldOps) (m : MatrixValue) (w : List ℕ) : Type 0
 pub record IsReducedForm (k : FieldOps) (m : MatrixValue) (rank : ℕ) : Type 0 where
   pub form : IsReduced (raw_ring k) m.cols (rows_of (raw_ring k) m.rows)
   pub rank_is : form.rank ≡ rank
+
+-- v·a = b
+pub record IsSolution (k : FieldOps) (a : MatrixValue) (b v : List ℕ) : Type 0 where
+  pub one_each : length v ≡ length a.rows
+  pub over : IsOver k v
+  pub product : product_of k v a ≡ b
+
+abbrev pub HasNoSolution : FieldOps → MatrixValue → List ℕ → Type 0
+HasNoSolution k a b = (v : List ℕ) → ¬ IsSolution k a b v

@@ -6,7 +6,9 @@ pub mod kernels;
 pub mod matrix;
 mod rows;
 mod slices;
+pub mod solutions;
 
 pub use elimination::echelon;
 pub use kernels::kernel;
 pub use matrix::Matrix;
+pub use solutions::solve;
