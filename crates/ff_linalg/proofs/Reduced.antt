@@ -40,3 +40,8 @@ module _ (k : CodeField) (cols rows : ℕ) (old new : List ℕ) (m : MatrixValue
         (rows_in_wide cols rows old old_long) (rows_in_wide cols rows new new_long) (record { first_in = same.second_in; second_in = same.first_in }) w
         (subst (λ v. IsInRowSpace k.ops v w) (sym view_is) h),
   )
+
+pub view_shape : (cols rows : ℕ) (xs : List ℕ) (m : MatrixValue) → view_of cols rows xs ≡ m → length xs ≡ rows * cols → HasShape m (length m.rows) m.cols
+view_shape cols rows xs m view_is long =
+    subst (λ v. HasShape v (length v.rows) v.cols) view_is
+    (record { row_count = refl; col_count = refl; each = rows_in_wide cols rows xs long })

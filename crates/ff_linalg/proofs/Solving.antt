@@ -1,9 +1,9 @@
 -- Solutions of v·a = b are relations of the rows of a with b above them, whose first coefficient is 1.
-use Rattle.std.proofs.Common.{◌≡◌, ◌≢◌, ℕ, zero, suc, ◌<◌, ◌≤◌, List, [], ◌∷◌, length, get_or, replicate, refl, sym, ◌∙◌, ap, ap₂, subst, arith}
-use Rattle.std.proofs.lemmas.List.{length-map, length-replicate}
+use Rattle.std.proofs.Common.{◌≡◌, ◌≢◌, ℕ, zero, suc, ◌-◌, ◌<◌, ◌≤◌, List, [], ◌∷◌, ◌++◌, length, get_or, take, drop, replicate, refl, sym, ◌∙◌, ap, ap₂, subst, arith}
+use Rattle.std.proofs.lemmas.List.{length-replicate, take_all}
 use Rattle.std.proofs.lemmas.List.Elements.{All-cons}
 use Rattle.std.specs.Prelude.{All}
-use Rattle.ff_fields.specs.Field.{CodeField}
+use Rattle.ff_fields.specs.Field.{FieldOps, CodeField}
 use Rattle.ff_fields.specs.Code.{Code, code_ring, raw_ring, read_code}
 use Rattle.ff_fields.specs.Numbers.{read, numbers, numbers_read, read_numbers, numbers_neg}
 use Rattle.ff_fields.specs.Over.{IsOver, IsOver_cons, IsOver_head, IsOver_tail, IsOver_neg, IsOver_zeros}
@@ -144,7 +144,7 @@ module _ (k : CodeField) where
           go p = first p.0 p.1 p.2
 
       pub no_solution : ¬ BeginsWithOne → HasNoSolution k.ops a b
-      no_solution no v h = no (first_of_solution v h)
+      no_solution none v h = none (first_of_solution v h)
 
       -- and gives one
       pub solution_of_first : (w : List ℕ) → 0 < length m.rows → get_or m.rows 0 [] ≡ 1 ∷ w → IsSolution k.ops a b (neg_list (raw_ring k.ops) w)
@@ -153,3 +153,37 @@ module _ (k : CodeField) where
           (subst (IsInKernel k.ops S) e
           ((basis.row_space (get_or m.rows 0 [])).0 (own_row_codes k m basis.over.each
           (subst (λ n. All (λ r. length r ≡ n) m.rows) (sym basis.shape.col_count) basis.shape.each) 0 some)))
+
+split_first : (xs : List ℕ) → 0 < length xs → (rest : List ℕ) × (xs ≡ get_or xs 0 0 ∷ take (length xs - 1) (drop 1 xs))
+split_first [] l = absurd (omega arith)
+split_first (x ∷ xs) l = (xs, ap (λ ys. x ∷ ys) (sym (take_all (length (x ∷ xs) - 1) xs (omega arith))))
+
+-- what the code knows of the matrices
+module _ (k : CodeField) (a : MatrixValue) (b : List ℕ) (s m : MatrixValue) (s_is : s ≡ with_first_row b a) (shape : HasShape a (length a.rows) a.cols)
+    (a_in : IsMatrixOver k.ops a) (b_in : IsOver k.ops b) (width : length b ≡ a.cols) (basis : IsKernelBasis k.ops s m) where
+  of_stack : IsKernelBasis k.ops (with_first_row b a) m
+  of_stack = subst (λ v. IsKernelBasis k.ops v m) s_is basis
+
+  pub solve_none : ¬ ((0 < length m.rows) × (entry_at m.rows 0 0 ≡ 1)) → HasNoSolution k.ops a b
+  solve_none none = no_solution k a b a_in.each shape.each b_in width m of_stack (λ h. none (h.some, h.one))
+
+  pub solve_some : (first v : List ℕ) → first ≡ get_or m.rows 0 [] → 0 < length m.rows → get_or first 0 0 ≡ 1
+      → v ≡ neg_list (raw_ring k.ops) (take (length first - 1) (drop 1 first)) → IsSolution k.ops a b v
+  solve_some first v first_is some one v_is =
+      subst (IsSolution k.ops a b) (sym v_is)
+      (solution_of_first k a b a_in.each shape.each b_in width m of_stack (take (length first - 1) (drop 1 first)) some
+      (sym first_is ∙ (split_first first long).1 ∙ ap (λ x. x ∷ take (length first - 1) (drop 1 first)) one))
+    where
+      long : 0 < length first
+      long = nonempty first one
+        where
+          nonempty : (xs : List ℕ) → get_or xs 0 0 ≡ 1 → 0 < length xs
+          nonempty [] e = absurd (omega arith)
+          nonempty (x ∷ xs) e = omega arith
+
+-- codes are negated one after another
+pub neg_list_more : (k : FieldOps) (xs : List ℕ) (i : ℕ) → i < length xs
+    → neg_list (raw_ring k) (take (suc i) xs) ≡ neg_list (raw_ring k) (take i xs) ++ k.neg (get_or xs i 0) ∷ []
+neg_list_more k [] i l = absurd (omega arith)
+neg_list_more k (x ∷ xs) zero l = refl
+neg_list_more k (x ∷ xs) (suc i) l = ap (λ ys. k.neg x ∷ ys) (neg_list_more k xs i (omega arith))

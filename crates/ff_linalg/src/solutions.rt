@@ -4,7 +4,7 @@ ghost use Rattle.std.specs.Prelude.{◌≡◌, length, IfOk, MatchOption};
 ghost use Rattle.ff_fields.specs.Over.{IsOver};
 ghost use Rattle.ff_ring.specs.Lists.{neg_list};
 ghost use Rattle.ff_fields.specs.Code.{raw_ring};
-ghost use Rattle.ff_linalg.specs.Matrix.{IsMatrixOver, with_first_row};
+ghost use Rattle.ff_linalg.specs.Matrix.{HasShape, IsMatrixOver, with_first_row};
 ghost use Rattle.ff_linalg.specs.Space.{IsSolution, HasNoSolution};
 
 use crate::kernels::kernel;
@@ -15,7 +15,8 @@ use std::alloc::{AllocError, Global};
 /// The row b above the rows of a.
 fn stacked(alloc: Global, b: &[u32], a: &Matrix) -> Result<Matrix, AllocError>
     requires { length b.now ≡ a.now.cols }
-    ensures { IfOk result (λ m. m ≡ with_first_row b.now a.now) }
+    ensures made { IfOk result (λ m. m ≡ with_first_row b.now a.now) }
+    ensures shape { IfOk result (λ _. HasShape a.now (length a.now.rows) a.now.cols) }
 {
     let rows = a.rows.checked_add(1).ok_or(AllocError)?;
     let mut entries = b.to_vec(alloc)?;
