@@ -163,7 +163,7 @@ module _ (k : CodeField) where
       cs_in : IsOver k.ops cs
       cs_in = IsOver_numbers k (cut (length m.rows) h.coefficient)
 
-  row_look : (rows : List (List ℕ)) (i j : ℕ) → row R.ops (sequences_of k rows) i j ≡ look R.ops (read k (get_or rows i [])) j
+  pub row_look : (rows : List (List ℕ)) (i j : ℕ) → row R.ops (sequences_of k rows) i j ≡ look R.ops (read k (get_or rows i [])) j
   row_look [] i j = refl
   row_look (r ∷ rows) zero j = refl
   row_look (r ∷ rows) (suc i) j = row_look rows i j

@@ -126,8 +126,8 @@ pub lower_step : (w left top i n : ℕ) (entries out row new : List ℕ) → len
 lower_step w left top i n entries out row new shape left_in within long before row_is new_is = (
   ap length new_is ∙ length-append out row ∙ ap₂ (λ x y. x + y) long row_length ∙ sym (ap (λ m. m * (w - left)) (add-one i) ∙ suc-mul i (w - left)),
   ap (rows_in (w - left) (i + 1)) new_is ∙ rows_in_append (w - left) i 1 out row long
-  ∙ ap₂ (λ x y. x ++ y ∷ []) before (take_all (w - left) row (omega (arith, row_length)) ∙ row_entry)
-  ∙ sym (map_more (drop left) (drop top (rows_in w n entries)) i [] (omega (arith, within, length-drop top (rows_in w n entries), length_rows_in w n entries))),
+      ∙ ap₂ (λ x y. x ++ y ∷ []) before (take_all (w - left) row (omega (arith, row_length)) ∙ row_entry)
+      ∙ sym (map_more (drop left) (drop top (rows_in w n entries)) i [] (omega (arith, within, length-drop top (rows_in w n entries), length_rows_in w n entries))),
 )
   where
     at : ℕ
@@ -151,3 +151,10 @@ lower_step w left top i n entries out row new shape left_in within long before r
 pub lower_end : (w left top n : ℕ) (entries : List ℕ) → top ≤ n → map (drop left) (take (n - top) (drop top (rows_in w n entries))) ≡ map (drop left) (drop top (rows_in w n entries))
 lower_end w left top n entries top_in =
     ap (map (drop left)) (take_all (n - top) (drop top (rows_in w n entries)) (omega (arith, length-drop top (rows_in w n entries), length_rows_in w n entries)))
+
+-- the first rows
+pub rows_in_take : (c n r : ℕ) (xs : List ℕ) → length xs ≡ n * c → r ≤ n → rows_in c r (take (r * c) xs) ≡ take r (rows_in c n xs)
+rows_in_take c n r xs shape le =
+    sym (ap (take r) (ap₂ (rows_in c) (let e : n ≡ r + (n - r) = omega arith in e) (sym (take-append-drop (r * c) xs))
+    ∙ rows_in_append c r (n - r) (take (r * c) xs) (drop (r * c) xs) (length-take-le (r * c) xs (omega (arith, shape, mul-le-mul_right c le))))
+    ∙ take_at (rows_in c r (take (r * c) xs)) (rows_in c (n - r) (drop (r * c) xs)) r (length_rows_in c r (take (r * c) xs)))

@@ -10,3 +10,5 @@ pub mod UnitRows
 pub mod Beside
 pub mod KernelBasis
 pub mod Solving
+pub mod Unique
+pub mod FirstRelation

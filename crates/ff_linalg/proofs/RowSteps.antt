@@ -69,8 +69,16 @@ swapped_rows c n u l xs upper lower shape less within upper_is lower_is =
     put_length : length (put_mid (u * c) c front upper) ≡ l * c
     put_length =
         length-append (take (u * c) front) (upper ++ drop c (drop (u * c) front))
-        ∙ omega (arith, length-append upper (drop c (drop (u * c) front)), upper_length, row_end u l c less, front_length, length-drop (u * c) front,
-        length-drop c (drop (u * c) front), length-take-le (u * c) front (omega (arith, row_end u l c less, front_length)))
+        ∙ omega (
+          arith,
+          length-append upper (drop c (drop (u * c) front)),
+          upper_length,
+          row_end u l c less,
+          front_length,
+          length-drop (u * c) front,
+          length-drop c (drop (u * c) front),
+          length-take-le (u * c) front (omega (arith, row_end u l c less, front_length)),
+        )
 
 -- all rows after elimination by one of them
 eliminated_middle : (k : FieldOps) (p c : ℕ) (before bs : List (List ℕ)) (r : List ℕ) → length before ≡ p

@@ -29,6 +29,10 @@ with_entry m r c v = record { cols = m.cols; rows = slice_set m.rows r (slice_se
 abbrev pub with_first_row : List ℕ → MatrixValue → MatrixValue
 with_first_row b m = record { cols = m.cols; rows = b ∷ m.rows }
 
+-- m without its rows from a place on
+abbrev pub first_rows_of : MatrixValue → ℕ → MatrixValue
+first_rows_of m r = record { cols = m.cols; rows = take r m.rows }
+
 -- each entry is a code of the field
 pub record IsMatrixOver (k : FieldOps) (m : MatrixValue) : Type 0 where
   pub each : All (IsOver k) m.rows

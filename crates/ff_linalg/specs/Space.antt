@@ -1,12 +1,12 @@
 -- Combinations of rows, row spaces and the reduced row echelon form, said of codes.
-use Rattle.std.specs.Prelude.{◌≡◌, ℕ, List, length, replicate}
+use Rattle.std.specs.Prelude.{◌≡◌, ◌<◌, ℕ, List, length, replicate}
 use Rattle.ff_fields.specs.Field.{FieldOps}
 use Rattle.ff_fields.specs.Code.{raw_ring}
 use Rattle.ff_fields.specs.Over.{IsOver}
 use Rattle.ff_ring.specs.Lists.{add_lists, scale_list}
 use Rattle.linear_theory.specs.Module.{ModuleOps, combination}
 use Rattle.linear_theory.specs.Echelon.{IsReduced, rows_of}
-use Rattle.ff_linalg.specs.Matrix.{MatrixValue}
+use Rattle.ff_linalg.specs.Matrix.{MatrixValue, row_of, first_rows_of}
 
 -- rows of so many codes, which are added place by place
 abbrev pub row_ops : FieldOps → ℕ → ModuleOps ℕ (List ℕ)
@@ -36,3 +36,13 @@ pub record IsSolution (k : FieldOps) (a : MatrixValue) (b v : List ℕ) : Type 0
 
 abbrev pub HasNoSolution : FieldOps → MatrixValue → List ℕ → Type 0
 HasNoSolution k a b = (v : List ℕ) → ¬ IsSolution k a b v
+
+-- no row is a combination of the rows before it
+abbrev pub HasIndependentRows : FieldOps → MatrixValue → Type 0
+HasIndependentRows k a = (i : ℕ) → i < length a.rows → HasNoSolution k (first_rows_of a i) (row_of a i)
+
+-- the coefficients of the first row that is a combination of the rows before it; there are as many as rows before it
+pub record IsFirstRelation (k : FieldOps) (a : MatrixValue) (v : List ℕ) : Type 0 where
+  pub within : length v < length a.rows
+  pub relation : IsSolution k (first_rows_of a (length v)) (row_of a (length v)) v
+  pub earlier : (i : ℕ) → i < length v → HasNoSolution k (first_rows_of a i) (row_of a i)

@@ -92,3 +92,13 @@ pub fn echelon<K: SmallField>(k: &K, a: &mut Matrix) -> usize
     let cols = a.cols;
     reduce(k, a.entries.as_mut_slice(), rows, cols, 0, 0, cols)
 }
+
+/// Two matrices of one shape in reduced row echelon form that have one row space are equal, and so are their ranks.
+pub fn echelon_law<K: SmallField>(k: &K, a: &Matrix, b: &Matrix)
+    requires a_shape { HasShape a.now (length a.now.rows) a.now.cols }
+    requires b_shape { HasShape b.now (length a.now.rows) a.now.cols }
+    requires a_in { IsMatrixOver (K.field k.now).ops a.now }
+    requires b_in { IsMatrixOver (K.field k.now).ops b.now }
+    ensures { (r s : ℕ) → IsReducedForm (K.field k.now).ops a.now r → IsReducedForm (K.field k.now).ops b.now s
+        → ((v : List ℕ) → IsInRowSpace (K.field k.now).ops a.now v ↔ IsInRowSpace (K.field k.now).ops b.now v) → (a.now ≡ b.now) × (r ≡ s) }
+{}

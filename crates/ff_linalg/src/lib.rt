@@ -4,6 +4,7 @@
 pub mod elimination;
 pub mod kernels;
 pub mod matrix;
+pub mod relations;
 mod rows;
 mod slices;
 pub mod solutions;
@@ -11,4 +12,5 @@ pub mod solutions;
 pub use elimination::echelon;
 pub use kernels::kernel;
 pub use matrix::Matrix;
+pub use relations::min_relation;
 pub use solutions::solve;
