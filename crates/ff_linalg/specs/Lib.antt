@@ -3,3 +3,4 @@ pub mod Steps
 pub mod Forms
 pub mod Space
 pub mod Kernel
+pub mod MatrixOver

@@ -14,3 +14,6 @@ pub use kernels::kernel;
 pub use matrix::Matrix;
 pub use relations::min_relation;
 pub use solutions::solve;
+
+#[cfg(test)]
+mod tests;
