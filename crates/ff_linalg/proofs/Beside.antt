@@ -1,5 +1,5 @@
 -- Rows of codes with unit rows on their right, reduced, are the eliminated matrix of the theory.
-use Rattle.std.proofs.Common.{◌≡◌, ◌≢◌, ℕ, zero, suc, ◌+◌, ◌-◌, ◌<◌, ◌≤◌, ◌⊎◌, inl, inr, List, [], ◌∷◌, ◌++◌, length, get_or, replicate, set, refl, sym, ◌∙◌, ap, ap₂, subst, arith}
+use Rattle.std.proofs.Common.{◌≡◌, ℕ, zero, suc, ◌+◌, ◌-◌, ◌<◌, ◌≤◌, ◌⊎◌, inl, inr, List, [], length, get_or, replicate, refl, sym, ◌∙◌, ap, subst, arith}
 use native.Mathlib.Decide.{ℕ_discrete}
 use Rattle.std.proofs.lemmas.List.{length-replicate, get_or_append_left, get_or-append_right, get_or-set_same, get_or-set_other}
 use Rattle.std.proofs.lemmas.List.Elements.{All-get_or}
@@ -14,7 +14,7 @@ use Rattle.linear_theory.proofs.Echelon.{same_rank}
 use Rattle.linear_theory.proofs.Elimination.{same_refl, same_trans}
 use Rattle.linear_theory.proofs.Kernel.{size, Eliminated, eliminated, left_reduced, left_rank}
 use Rattle.linear_theory.proofs.SameRows.{HasEntries, same_of_entries}
-use Rattle.ff_linalg.specs.Steps.{entry_at, unit_row, IsBesideUnit}
+use Rattle.ff_linalg.specs.Steps.{unit_row, IsBesideUnit}
 use Rattle.ff_linalg.specs.Forms.{sequences_of, IsReducedBelow, HaveSameSpace, IsEliminated}
 use Rattle.ff_linalg.proofs.Reading.{read_zero, read_one, row_entry, length_sequences}
 

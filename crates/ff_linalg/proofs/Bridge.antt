@@ -1,29 +1,29 @@
 -- Combinations, row spaces and reduced forms of codes are those over the field.
-use Rattle.std.proofs.Common.{◌≡◌, ℕ, zero, suc, ◌<◌, ◌≤◌, List, [], ◌∷◌, length, get_or, map, replicate, refl, sym, ◌∙◌, ap, ap₂, subst, arith, ◌↔◌}
+use Rattle.std.proofs.Common.{◌≡◌, ℕ, zero, suc, ◌<◌, List, [], ◌∷◌, length, get_or, replicate, refl, sym, ◌∙◌, ap, ap₂, subst, arith}
 use Rattle.std.proofs.lemmas.List.{length-map, length-replicate}
 use Rattle.std.proofs.lemmas.List.Elements.{All-head, All-tail, All-get_or}
 use Rattle.std.specs.Prelude.{All}
 use Rattle.ff_fields.specs.Field.{FieldOps, CodeField}
 use Rattle.ff_fields.specs.Code.{Code, code_ring, raw_ring, read_code, read_code_below}
 use Rattle.ff_fields.specs.Numbers.{read, numbers, numbers_read, read_numbers, numbers_add, numbers_scale, IsOver_numbers}
-use Rattle.ff_fields.specs.Over.{IsOver, IsOver_head, IsOver_tail, IsOver_zeros, IsOver_add, IsOver_scale, get_or_below}
+use Rattle.ff_fields.specs.Over.{IsOver, IsOver_head, IsOver_tail, IsOver_zeros, IsOver_add, IsOver_scale}
 use Rattle.ff_ring.specs.Ring.{CommRing}
 use Rattle.ff_ring.specs.Lists.{add_lists, scale_list}
 use Rattle.ff_ring.proofs.Lists.{coeff_scale, length_add_lists, length_scale_list}
 use Rattle.ff_ring.proofs.Solver.{look}
 use Rattle.linear_theory.specs.Module.{combine, combination, sequence_ops}
-use Rattle.linear_theory.specs.Echelon.{row, rows_of, IsReduced, InRowSpace, SameRowSpace}
+use Rattle.linear_theory.specs.Echelon.{row, rows_of, InRowSpace}
 use Rattle.linear_theory.proofs.Combination.{sequences, combine_cong, combine_none}
 use Rattle.linear_theory.proofs.Division.{look_add, look_is_coeff}
 use Rattle.linear_theory.proofs.Echelon.{list_ext}
 use Rattle.linear_theory.proofs.EchelonBasis.{cut, look_cut, length_cut}
 use Rattle.linear_theory.proofs.Augment.{same_row_space, own_row}
 use Rattle.linear_theory.proofs.SameRows.{reduced_across}
-use Rattle.ff_linalg.specs.Matrix.{MatrixValue, IsMatrixOver, HasShape}
+use Rattle.ff_linalg.specs.Matrix.{MatrixValue, IsMatrixOver}
 use Rattle.ff_linalg.specs.Steps.{entry_at}
 use Rattle.ff_linalg.specs.Forms.{sequences_of, IsReducedBelow, HaveSameSpace}
 use Rattle.ff_linalg.specs.Space.{row_ops, product_of, IsInRowSpace, IsReducedForm}
-use Rattle.ff_linalg.proofs.Reading.{read_zero, read_one, read_same, look_read, row_entry, length_sequences, entry_in}
+use Rattle.ff_linalg.proofs.Reading.{read_zero, read_one, read_same, row_entry, length_sequences, entry_in}
 
 -- the entries of rows of numbers
 look_raw : (k : FieldOps) (xs : List ℕ) (j : ℕ) → look (raw_ring k) xs j ≡ get_or xs j 0

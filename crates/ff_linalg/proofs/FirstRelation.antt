@@ -1,5 +1,5 @@
 -- The first row that is a combination of the rows before it, found one row after another.
-use Rattle.std.proofs.Common.{◌≡◌, ℕ, ◌+◌, ◌<◌, ◌≤◌, ◌⊎◌, inl, inr, List, length, take, refl, sym, ap, ◌∙◌, subst, arith}
+use Rattle.std.proofs.Common.{◌≡◌, ℕ, ◌+◌, ◌<◌, ◌⊎◌, inl, inr, List, length, sym, ap, ◌∙◌, subst, arith}
 use Rattle.std.proofs.lemmas.List.{length-take-le}
 use Rattle.ff_fields.specs.Field.{FieldOps}
 use Rattle.ff_linalg.specs.Matrix.{MatrixValue, first_rows_of, row_of}

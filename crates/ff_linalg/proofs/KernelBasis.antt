@@ -1,5 +1,5 @@
 -- The lower right part of the eliminated matrix is the reduced echelon basis of the kernel.
-use Rattle.std.proofs.Common.{◌≡◌, ℕ, suc, ◌+◌, ◌-◌, ◌*◌, ◌<◌, ◌≤◌, List, [], ◌∷◌, length, get_or, drop, map, replicate, refl, sym, ◌∙◌, ap, ap₂, subst, arith, ◌↔◌}
+use Rattle.std.proofs.Common.{◌≡◌, ℕ, ◌+◌, ◌-◌, ◌*◌, ◌<◌, List, [], ◌∷◌, length, get_or, drop, map, replicate, refl, sym, ◌∙◌, ap, ap₂, subst, arith}
 use Rattle.std.proofs.lemmas.List.{length-map, length-drop, length-replicate, get_or-map, get_or-drop}
 use Rattle.std.proofs.lemmas.List.Elements.{All-nil, All-cons, All-head, All-tail, All-drop}
 use Rattle.std.specs.Prelude.{All}
@@ -9,14 +9,12 @@ use Rattle.ff_fields.specs.Numbers.{read}
 use Rattle.ff_fields.specs.Over.{IsOver, IsOver_drop, IsOver_zeros}
 use Rattle.ff_ring.specs.Ring.{CommRing}
 use Rattle.ff_ring.proofs.Solver.{look}
-use Rattle.linear_theory.specs.Echelon.{row, IsReduced, InRowSpace}
-use Rattle.linear_theory.proofs.Augment.{total}
-use Rattle.linear_theory.proofs.Kernel.{size, Eliminated, kernel_rows, kernel_entry, length_kernel_rows, kernel_reduced, kernel_rank, kernel_spanned, kernel_members, full_rank}
+use Rattle.linear_theory.specs.Echelon.{row, InRowSpace}
+use Rattle.linear_theory.proofs.Kernel.{Eliminated, kernel_rows, kernel_entry, length_kernel_rows, kernel_reduced, kernel_rank, kernel_spanned, kernel_members, full_rank}
 use Rattle.linear_theory.proofs.SameRows.{HasEntries, entries_back, reduced_of_entries, space_of_entries}
-use Rattle.ff_linalg.specs.Matrix.{MatrixValue, rows_in, IsMatrixOver, HasShape}
-use Rattle.ff_linalg.specs.Steps.{entry_at}
+use Rattle.ff_linalg.specs.Matrix.{MatrixValue, rows_in, IsMatrixOver}
 use Rattle.ff_linalg.specs.Forms.{sequences_of, IsReducedBelow, IsEliminated}
-use Rattle.ff_linalg.specs.Space.{product_of, IsInRowSpace, IsReducedForm}
+use Rattle.ff_linalg.specs.Space.{product_of, IsInRowSpace}
 use Rattle.ff_linalg.specs.Kernel.{IsInKernel, IsKernelBasis}
 use Rattle.ff_linalg.proofs.Flat.{length_rows_in, rows_in_wide, rows_in_over}
 use Rattle.ff_linalg.proofs.Views.{view_of}

@@ -1,12 +1,12 @@
 -- Codes read as members of the field, and rows of codes as rows over it.
-use Rattle.std.proofs.Common.{◌≡◌, ℕ, zero, suc, ◌<◌, ◌%◌, List, [], ◌∷◌, length, get_or, map, refl, sym, ◌∙◌, ap, ap₂, arith}
+use Rattle.std.proofs.Common.{◌≡◌, ℕ, zero, suc, ◌<◌, List, [], ◌∷◌, length, get_or, map, refl, sym, ◌∙◌, ap, ap₂}
 use Rattle.std.proofs.lemmas.List.{length-map}
 use Rattle.std.proofs.lemmas.List.Elements.{All-head, All-tail}
 use Rattle.std.specs.Prelude.{All}
 use Rattle.ff_fields.specs.Field.{CodeField}
-use Rattle.ff_fields.specs.Code.{Code, code_ring, same_code, read_code, read_code_below, zero_in}
+use Rattle.ff_fields.specs.Code.{code_ring, same_code, read_code, read_code_below, zero_in}
 use Rattle.ff_fields.specs.Numbers.{read}
-use Rattle.ff_fields.specs.Over.{IsOver, IsOver_head, IsOver_tail, get_or_below}
+use Rattle.ff_fields.specs.Over.{IsOver, get_or_below}
 use Rattle.ff_ring.proofs.Solver.{look}
 use Rattle.linear_theory.specs.Echelon.{row}
 use Rattle.ff_linalg.specs.Steps.{entry_at}

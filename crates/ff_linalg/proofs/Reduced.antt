@@ -1,15 +1,13 @@
 -- What the reduction of a buffer says of the matrix that contracts see.
-use Rattle.std.proofs.Common.{◌≡◌, ℕ, ◌*◌, List, length, refl, sym, ◌∙◌, ap, subst, ◌↔◌}
-use Rattle.std.specs.Prelude.{All}
+use Rattle.std.proofs.Common.{◌≡◌, ℕ, ◌*◌, List, length, refl, sym, subst, ◌↔◌}
 use Rattle.ff_fields.specs.Field.{CodeField}
-use Rattle.ff_fields.specs.Code.{code_ring}
 use Rattle.ff_fields.specs.Over.{IsOver}
 use Rattle.ff_linalg.specs.Matrix.{MatrixValue, rows_in, IsMatrixOver, HasShape}
-use Rattle.ff_linalg.specs.Forms.{sequences_of, IsReducedBelow, HaveSameSpace}
-use Rattle.ff_linalg.specs.Space.{IsInRowSpace, IsReducedForm}
+use Rattle.ff_linalg.specs.Forms.{HaveSameSpace}
+use Rattle.ff_linalg.specs.Space.{IsInRowSpace}
 use Rattle.ff_linalg.proofs.Flat.{rows_in_wide, rows_in_over, length_rows_in, over_from_rows}
 use Rattle.ff_linalg.proofs.Views.{view_of, view_length, view_cols}
-use Rattle.ff_linalg.proofs.Bridge.{form_of_codes, same_space_within}
+use Rattle.ff_linalg.proofs.Bridge.{same_space_within}
 
 pub shape_of : (cols rows : ℕ) (xs : List ℕ) → length xs ≡ rows * cols → HasShape (view_of cols rows xs) rows cols
 shape_of cols rows xs long = record { row_count = length_rows_in cols rows xs; col_count = refl; each = rows_in_wide cols rows xs long }

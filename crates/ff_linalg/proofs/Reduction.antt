@@ -1,18 +1,18 @@
 -- One column's step of elimination on rows of codes is the step over the field.
-use Rattle.std.proofs.Common.{◌≡◌, ◌≢◌, ℕ, zero, suc, ◌+◌, ◌-◌, ◌<◌, ◌≤◌, ◌⊎◌, inl, inr, List, [], ◌∷◌, ◌++◌, length, get_or, take, drop, set, map, refl, sym, ◌∙◌, ap, ap₂, subst, arith}
+use Rattle.std.proofs.Common.{◌≡◌, ◌≢◌, ℕ, zero, suc, ◌+◌, ◌-◌, ◌<◌, ◌≤◌, ◌⊎◌, inl, inr, List, [], ◌∷◌, length, get_or, take, drop, set, map, refl, sym, ◌∙◌, ap, ap₂, subst, arith}
 use native.Mathlib.Decide.{ℕ_discrete}
 use Rattle.std.proofs.lemmas.List.{length-map, length-take-le, length-append, length-drop, length-set, get_or_append_left, get_or-append_right, get_or-map, get_or-take, get_or-drop, get_or-set_same, get_or-set_other, set-get_or}
 use Rattle.std.specs.Prelude.{All, swap}
 use Rattle.std.proofs.lemmas.List.Elements.{All-get_or, All-from_get_or}
 use Rattle.ff_fields.specs.Field.{FieldOps, CodeField}
-use Rattle.ff_fields.specs.Code.{Code, code_ring, raw_ring, read_code, same_code, read_code_below}
+use Rattle.ff_fields.specs.Code.{Code, code_ring, raw_ring, read_code}
 use Rattle.ff_fields.specs.Over.{IsOver}
 use Rattle.ff_ring.specs.Ring.{CommRing}
 use Rattle.ff_ring.specs.Lists.{add_lists, scale_list}
 use Rattle.ff_ring.proofs.Ring.{neg_mul}
 use Rattle.ff_ring.proofs.Lists.{get_or_scale_list, length_scale_list}
-use Rattle.linear_theory.specs.Echelon.{row, IsReduced, SameRowSpace}
-use Rattle.linear_theory.proofs.Elimination.{next, normal, normal_is, from, from_here, from_other, length_next, next_reduced, next_rank, next_same, row_pivot, row_other, skip_column, same_trans, same_refl, at_number_here, at_number_other}
+use Rattle.linear_theory.specs.Echelon.{row, IsReduced}
+use Rattle.linear_theory.proofs.Elimination.{next, normal, normal_is, from, from_here, from_other, length_next, next_reduced, next_rank, next_same, row_pivot, row_other, skip_column, same_refl}
 use Rattle.linear_theory.proofs.SameRows.{HasEntries, same_of_entries, reduced_of_entries}
 use Rattle.ff_linalg.specs.Steps.{entry_at, normalized, cleared, eliminated}
 use Rattle.ff_linalg.specs.Forms.{sequences_of, IsReducedBelow, HaveSameSpace, IsStep}

@@ -1,15 +1,15 @@
 -- Solutions of v·a = b are relations of the rows of a with b above them, whose first coefficient is 1.
-use Rattle.std.proofs.Common.{◌≡◌, ◌≢◌, ℕ, zero, suc, ◌-◌, ◌<◌, ◌≤◌, List, [], ◌∷◌, ◌++◌, length, get_or, take, drop, replicate, refl, sym, ◌∙◌, ap, ap₂, subst, arith}
+use Rattle.std.proofs.Common.{◌≡◌, ℕ, zero, suc, ◌-◌, ◌<◌, List, [], ◌∷◌, ◌++◌, length, get_or, take, drop, replicate, refl, sym, ◌∙◌, ap, subst, arith}
 use Rattle.std.proofs.lemmas.List.{length-replicate, take_all}
 use Rattle.std.proofs.lemmas.List.Elements.{All-cons}
 use Rattle.std.specs.Prelude.{All}
 use Rattle.ff_fields.specs.Field.{FieldOps, CodeField}
-use Rattle.ff_fields.specs.Code.{Code, code_ring, raw_ring, read_code}
-use Rattle.ff_fields.specs.Numbers.{read, numbers, numbers_read, read_numbers, numbers_neg}
-use Rattle.ff_fields.specs.Over.{IsOver, IsOver_cons, IsOver_head, IsOver_tail, IsOver_neg, IsOver_zeros}
+use Rattle.ff_fields.specs.Code.{Code, code_ring, raw_ring}
+use Rattle.ff_fields.specs.Numbers.{read, numbers_read, read_numbers, numbers_neg}
+use Rattle.ff_fields.specs.Over.{IsOver, IsOver_cons, IsOver_tail, IsOver_neg, IsOver_zeros}
 use Rattle.ff_ring.specs.Ring.{CommRing}
 use Rattle.ff_ring.specs.Lists.{neg_list}
-use Rattle.ff_ring.proofs.Ring.{neg_unique, neg_neg, neg_mul, one_mul, neg_add, neg_zero}
+use Rattle.ff_ring.proofs.Ring.{neg_unique, neg_neg, neg_mul, one_mul}
 use Rattle.ff_ring.proofs.Lists.{length_neg_list, coeff_neg}
 use Rattle.ff_ring.proofs.Solver.{look}
 use Rattle.linear_theory.specs.Module.{combine, sequence_ops}
@@ -20,9 +20,9 @@ use Rattle.linear_theory.proofs.Echelon.{Leading, leading_is_pivot}
 use Rattle.ff_linalg.specs.Matrix.{MatrixValue, IsMatrixOver, HasShape, with_first_row}
 use Rattle.ff_linalg.specs.Steps.{entry_at}
 use Rattle.ff_linalg.specs.Forms.{sequences_of, IsReducedBelow}
-use Rattle.ff_linalg.specs.Space.{product_of, IsInRowSpace, IsSolution, HasNoSolution}
+use Rattle.ff_linalg.specs.Space.{product_of, IsSolution, HasNoSolution}
 use Rattle.ff_linalg.specs.Kernel.{IsInKernel, IsKernelBasis}
-use Rattle.ff_linalg.proofs.Reading.{read_zero, read_one, read_same, row_entry, entry_in}
+use Rattle.ff_linalg.proofs.Reading.{read_one, read_same, row_entry, entry_in}
 use Rattle.ff_linalg.proofs.Bridge.{look_zeros, combination_over, length_combination, combination_is, codes_ext, space_of_codes, codes_of_form, own_row_codes}
 use Rattle.ff_linalg.proofs.Beside.{domain_of_codes}
 

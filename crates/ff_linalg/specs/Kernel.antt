@@ -1,5 +1,5 @@
 -- The kernel of a matrix, said of codes.
-use Rattle.std.specs.Prelude.{◌≡◌, ℕ, List, length, replicate, ◌↔◌}
+use Rattle.std.specs.Prelude.{ℕ, List, length, replicate, ◌↔◌}
 use Rattle.ff_fields.specs.Field.{FieldOps}
 use Rattle.ff_linalg.specs.Matrix.{MatrixValue, IsMatrixOver, HasShape}
 use Rattle.ff_linalg.specs.Space.{IsInRowSpace, IsReducedForm, IsSolution}

@@ -1,9 +1,9 @@
-use Rattle.std.proofs.Common.{◌≡◌, ◌*◌, List, ℕ, length, sym, ap, ◌∙◌, subst, ◌↔◌, arith}
+use Rattle.std.proofs.Common.{◌≡◌, ◌*◌, List, ℕ, length, sym, subst, ◌↔◌, arith}
 use Rattle.std.proofs.lemmas.List.{take_at}
 use Rattle.ff_linalg.proofs.elimination.echelon.Goals as goal
 use Rattle.ff_fields.specs.Over.{IsOver}
 use Rattle.ff_linalg.specs.Matrix.{rows_in, IsMatrixOver, HasShape}
-use Rattle.ff_linalg.specs.Forms.{IsReducedBelow, HaveSameSpace}
+use Rattle.ff_linalg.specs.Forms.{HaveSameSpace}
 use Rattle.ff_linalg.specs.Space.{IsInRowSpace, IsReducedForm}
 use Rattle.ff_linalg.proofs.Views.{view_of}
 use Rattle.ff_linalg.proofs.Reduction.{reduced_start}

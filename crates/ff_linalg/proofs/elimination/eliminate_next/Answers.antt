@@ -1,9 +1,9 @@
-use Rattle.std.proofs.Common.{◌≡◌, ◌+◌, ◌*◌, ◌<◌, [], suc, length, get_or, sym, ap, ◌∙◌, subst, add-one, arith}
+use Rattle.std.proofs.Common.{◌≡◌, ◌*◌, [], suc, length, get_or, sym, ap, ◌∙◌, subst, add-one, arith}
 use Rattle.std.specs.Prelude.{All}
 use Rattle.ff_linalg.proofs.elimination.eliminate_next.Goals as goal
 use Rattle.ff_fields.specs.Over.{IsOver}
 use Rattle.ff_linalg.specs.Matrix.{rows_in}
-use Rattle.ff_linalg.specs.Steps.{entry_at, eliminated}
+use Rattle.ff_linalg.specs.Steps.{eliminated}
 use Rattle.ff_linalg.specs.Forms.{IsStep}
 use Rattle.ff_linalg.proofs.Flat.{length_rows_in, rows_in_wide, rows_in_over, over_from_rows}
 use Rattle.ff_linalg.proofs.Reduction.{swap_here, all_swap, pivot_step, skip_step}

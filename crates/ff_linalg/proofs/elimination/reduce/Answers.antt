@@ -1,4 +1,4 @@
-use Rattle.std.proofs.Common.{◌≡◌, ◌+◌, suc, sym, subst, add-one, arith}
+use Rattle.std.proofs.Common.{◌≡◌, sym, subst, add-one, arith}
 use Rattle.ff_fields.specs.Code.{code_ring}
 use Rattle.linear_theory.proofs.Elimination.{same_refl, same_trans}
 use Rattle.ff_linalg.proofs.elimination.reduce.Goals as goal

@@ -1,9 +1,8 @@
-use Rattle.std.proofs.Common.{◌≡◌, ◌<◌, ℕ, ◌+◌, ◌⊎◌, inl, inr, [], length, take, sym, ap, ap₂, ◌∙◌, subst, arith}
-use Rattle.std.specs.Prelude.{All}
+use Rattle.std.proofs.Common.{◌<◌, [], length, sym, subst, arith}
 use Rattle.std.proofs.lemmas.List.Elements.{All-take, All-get_or}
 use Rattle.ff_linalg.proofs.relations.min_relation.Goals as goal
 use Rattle.ff_fields.specs.Over.{IsOver}
-use Rattle.ff_linalg.specs.Matrix.{IsMatrixOver, first_rows_of, row_of}
+use Rattle.ff_linalg.specs.Matrix.{IsMatrixOver}
 use Rattle.ff_linalg.proofs.FirstRelation.{first_relation, no_relation_yet}
 
 pub loop-r-init : goal.loop-r-init

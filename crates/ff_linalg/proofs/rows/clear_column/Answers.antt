@@ -1,10 +1,8 @@
 use Rattle.std.proofs.Common.{◌≡◌, ◌+◌, ◌-◌, ◌*◌, length, take, drop, suc, map, sym, ap, ap₂, ◌∙◌, arith, refl}
-use Rattle.std.proofs.lemmas.List.{length-take-le}
 use Rattle.ff_linalg.proofs.rows.clear_column.Goals as goal
-use Rattle.ff_fields.specs.Over.{IsOver, IsOver_append}
+use Rattle.ff_fields.specs.Over.{IsOver_append}
 use Rattle.ff_linalg.specs.Matrix.{rows_in}
 use Rattle.ff_linalg.specs.Steps.{normalized, cleared}
-use Rattle.ff_linalg.proofs.Flat.{row_end}
 use Rattle.ff_linalg.proofs.RowSteps.{eliminated_rows, pivot_row, rows_after}
 
 pub inv-inverse-requires-clause-not_zero : goal.inv-inverse-requires-clause-not_zero

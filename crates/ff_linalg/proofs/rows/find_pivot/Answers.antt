@@ -1,4 +1,4 @@
-use Rattle.std.proofs.Common.{◌≡◌, arith, below_more, inl, inr, eq-or-lt_of_le, sym, subst, ◌∙◌, ◌<◌, ◌≤◌, ◌+◌, ◌⊎◌, ℕ}
+use Rattle.std.proofs.Common.{◌≡◌, arith, inl, inr, sym, subst, ◌∙◌, ◌<◌, ◌≤◌, ◌+◌, ◌⊎◌, ℕ}
 use Rattle.ff_linalg.proofs.rows.find_pivot.Goals as goal
 use Rattle.ff_linalg.specs.Matrix.{rows_in}
 use Rattle.ff_linalg.specs.Steps.{entry_at}

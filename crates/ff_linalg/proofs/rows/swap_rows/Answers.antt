@@ -1,4 +1,4 @@
-use Rattle.std.proofs.Common.{◌++◌, ◌*◌, ◌+◌, ◌-◌, take, drop, ap, ap₂, sym, ◌∙◌}
+use Rattle.std.proofs.Common.{◌++◌, ◌*◌, ◌+◌, ◌-◌, take, drop, ap, ap₂, ◌∙◌}
 use borrow.Rule.Slice.PartMut.{put_mid}
 use Rattle.ff_linalg.proofs.rows.swap_rows.Goals as goal
 use Rattle.ff_linalg.specs.Matrix.{rows_in}

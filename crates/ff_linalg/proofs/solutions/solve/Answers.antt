@@ -1,8 +1,8 @@
-use Rattle.std.proofs.Common.{◌≡◌, ◌<◌, [], length, get_or, sym, ap, ◌∙◌, subst, arith}
+use Rattle.std.proofs.Common.{◌<◌, [], length, get_or, sym, ap, ◌∙◌, subst, arith}
 use Rattle.std.proofs.lemmas.List.Elements.{All-cons, All-get_or}
 use Rattle.ff_linalg.proofs.solutions.solve.Goals as goal
 use Rattle.ff_fields.specs.Over.{IsOver, IsOver_take, IsOver_drop}
-use Rattle.ff_linalg.specs.Matrix.{IsMatrixOver, row_of}
+use Rattle.ff_linalg.specs.Matrix.{IsMatrixOver}
 use Rattle.ff_linalg.proofs.Solving.{solve_none, solve_some}
 
 pub kernel-requires : goal.kernel-requires

@@ -1,4 +1,4 @@
-use Rattle.std.proofs.Common.{◌≡◌, ◌∷◌, ◌++◌, length, ap, ap₂, sym, ◌∙◌, add-one, arith}
+use Rattle.std.proofs.Common.{◌≡◌, ◌∷◌, ◌++◌, length, ap, ap₂, sym, ◌∙◌, add-one}
 use Rattle.std.proofs.lemmas.List.{take_at, drop_at}
 use Rattle.ff_linalg.proofs.solutions.stacked.Goals as goal
 use Rattle.ff_linalg.specs.Matrix.{rows_in, with_first_row}

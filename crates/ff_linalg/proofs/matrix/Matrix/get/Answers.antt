@@ -1,4 +1,4 @@
-use Rattle.std.proofs.Common.{◌≡◌, ◌<◌, [], get_or, arith, sym, ap, ◌∙◌}
+use Rattle.std.proofs.Common.{◌<◌, [], get_or, arith, sym, ap, ◌∙◌}
 use Rattle.std.proofs.lemmas.List.{get_or_read}
 use Rattle.ff_linalg.proofs.matrix.Matrix.get.Goals as goal
 use Rattle.ff_linalg.proofs.Flat.{entry_below, rows_in_entry}

@@ -1,4 +1,4 @@
-use Rattle.std.proofs.Common.{◌≡◌, ◌<◌, [], get_or, length, take, drop, ◌+◌, ◌*◌, ◌≤◌, arith, sym, ap, ◌∙◌}
+use Rattle.std.proofs.Common.{◌<◌, length, take, drop, ◌+◌, ◌*◌, ◌≤◌, arith, sym, ap, ◌∙◌}
 use Rattle.ff_linalg.proofs.matrix.Matrix.row.Goals as goal
 use Rattle.ff_linalg.specs.Matrix.{row_of}
 use Rattle.ff_linalg.proofs.Flat.{row_end, row_span, rows_in_get}

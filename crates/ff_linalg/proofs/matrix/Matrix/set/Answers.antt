@@ -1,6 +1,6 @@
-use Rattle.std.proofs.Common.{◌≡◌, ◌<◌, [], get_or, set, arith, ap, ◌∙◌}
+use Rattle.std.proofs.Common.{◌<◌, arith, ap, ◌∙◌}
 use Rattle.ff_linalg.proofs.matrix.Matrix.set.Goals as goal
-use Rattle.ff_linalg.specs.Matrix.{MatrixValue, with_entry}
+use Rattle.ff_linalg.specs.Matrix.{with_entry}
 use Rattle.ff_linalg.proofs.Flat.{entry_below, rows_in_set}
 use Rattle.ff_linalg.proofs.Views.{view_length, view_cols}
 

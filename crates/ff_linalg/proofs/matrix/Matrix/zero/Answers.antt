@@ -1,4 +1,4 @@
-use Rattle.std.proofs.Common.{◌*◌, length, ◌∙◌, ap, arith}
+use Rattle.std.proofs.Common.{◌*◌, length, ◌∙◌, ap}
 use Rattle.std.proofs.lemmas.List.{length-replicate}
 use Rattle.ff_linalg.proofs.matrix.Matrix.zero.Goals as goal
 use Rattle.ff_linalg.specs.Matrix.{rows_in}
