@@ -6,15 +6,15 @@ use Rattle.std.proofs.lemmas.List.Elements.{All-cons, All-head, All-tail}
 use Rattle.ff_ring.specs.Ring.{CommRing}
 use Rattle.ff_ring.proofs.Ring.{zero_mul, zero_add}
 use Rattle.ff_ring.proofs.Solver.{reads}
-use Rattle.linear_theory.specs.Fields.{Field}
+use Rattle.linear_theory.specs.Fields.{Field, domain_of}
 use Rattle.linear_theory.specs.Module.{Module, combine}
 use Rattle.linear_theory.specs.Basis.{IsSubspace, IsCombination, IsIndependent, IsBasis, IsNull}
 use Rattle.linear_theory.proofs.Lists.{entry, remove, insert, omit, length_remove, All_remove, remove_append, insert_split}
 use Rattle.linear_theory.proofs.Module.{linear, parts, vector, scalar, zero_plus, scale_zero}
 use Rattle.linear_theory.proofs.Combination.{combine_none, combine_linear, combine_scale, combine_append, combine_insert, combine_omit}
-use Rattle.linear_theory.proofs.Domain.{cancel_right, first_nonzero}
+use Rattle.linear_theory.proofs.Domain.{cancel_right, first_nonzero, inverse_of, inverse_is}
 
-module _ {A V : Type 0} (K : Field A) (M : Module K.domain.ring V) where
+module _ {A V : Type 0} (K : Field A) (M : Module K.ring V) where
   infixl 65 ◌⊞◌
   infixr 75 ◌•◌
   open M use {𝟬, ◌⊞◌, ◌•◌}
@@ -22,10 +22,10 @@ module _ {A V : Type 0} (K : Field A) (M : Module K.domain.ring V) where
   infixl 65 ◌⊕◌
   infixl 70 ◌⊗◌
   infixr 80 ⊖◌
-  open K.domain.ring use {𝟘, 𝟙, ◌⊕◌, ◌⊗◌, ⊖◌}
+  open K.ring use {𝟘, 𝟙, ◌⊕◌, ◌⊗◌, ⊖◌}
 
   abbrev R : CommRing A
-  R = K.domain.ring
+  R = K.ring
 
   pub null_subspace : IsSubspace M.ops (IsNull M.ops)
   null_subspace = record {
@@ -69,9 +69,9 @@ module _ {A V : Type 0} (K : Field A) (M : Module K.domain.ring V) where
         v_is : v ≡ (a • p ⊞ x) ⊞ h.rest
         v_is = h.is ∙ ap (λ y. y ⊞ h.rest) (combine_omit M i c ws l)
 
-        divided : (d : A) → d ≡ (d ⊗ K.inverse a) ⊗ a
+        divided : (d : A) → d ≡ (d ⊗ inverse_of K a) ⊗ a
         divided d =
-            sym (R.mul_one d) ∙ ap (λ y. d ⊗ y) (sym (K.inverse_is a nonzero) ∙ R.mul_comm _ _) ∙ sym (R.mul_assoc _ _ _)
+            sym (R.mul_one d) ∙ ap (λ y. d ⊗ y) (sym (inverse_is K a nonzero) ∙ R.mul_comm _ _) ∙ sym (R.mul_assoc _ _ _)
 
         step : (s a : A) (p x x' t t' : V)
             → ((s ⊗ a) • p ⊞ x') ⊞ t' ≡ (s • ((a • p ⊞ x) ⊞ t) ⊞ (⊖ s • x ⊞ x')) ⊞ (t' ⊞ ⊖ s • t)
@@ -81,7 +81,7 @@ module _ {A V : Type 0} (K : Field A) (M : Module K.domain.ring V) where
 
         spans : (w : V) → IsCombination M.ops U ws w → IsCombination M.ops U (v ∷ others) w
         spans w k =
-            let s = k.coefficient i ⊗ K.inverse a in
+            let s = k.coefficient i ⊗ inverse_of K a in
             record {
               coefficient = insert 0 s (λ j. ⊖ s ⊗ omit i c j ⊕ omit i k.coefficient j);
               rest = k.rest ⊞ ⊖ s • h.rest;
@@ -111,7 +111,7 @@ module _ {A V : Type 0} (K : Field A) (M : Module K.domain.ring V) where
             let size = length_remove i ws l in
             let both = insert_split (λ z. z ≡ 𝟘) i (e 0 ⊗ a) (λ j. e 0 ⊗ omit i c j ⊕ e (suc j)) (length others)
             (subst (λ n. i < n) size l) (λ k k_below. zeros k (subst (λ n. k < n) (sym size) k_below)) in
-            let first : e 0 ≡ 𝟘 = cancel_right K.domain (e 0) a nonzero both.0 in
+            let first : e 0 ≡ 𝟘 = cancel_right (domain_of K) (e 0) a nonzero both.0 in
             elim [
               | zero ↦ λ k. first
               | suc j ↦ λ k.
@@ -133,7 +133,7 @@ module _ {A V : Type 0} (K : Field A) (M : Module K.domain.ring V) where
     -- no member of the list is a combination of the others
     pub not_combination : (v : V) (vs : List V) → IsIndependent R.ops M.ops U (v ∷ vs) → ¬ IsCombination M.ops U vs v
     not_combination v vs free h =
-        K.domain.one_not_zero
+        K.is_field.one_not_zero
         (free (insert 0 𝟙 (λ i. ⊖ 𝟙 ⊗ h.coefficient i)) (subst U (sym e) h.rest_in) 0 (omega arith))
       where
         step : (x t : V) → 𝟙 • (x ⊞ t) ⊞ ⊖ 𝟙 • x ≡ t
@@ -151,7 +151,7 @@ module _ {A V : Type 0} (K : Field A) (M : Module K.domain.ring V) where
     complete P (v ∷ vs) ws b p h free =
         let r = complete P vs ws b p (All-tail W v vs h) (independent_tail v vs free) in
         let k = r.basis.spanning v (All-head W v vs h) in
-        go r k (first_nonzero K.domain (λ j. k.coefficient (length vs + j)) (length r.others))
+        go r k (first_nonzero (domain_of K) (λ j. k.coefficient (length vs + j)) (length r.others))
       where
         go : (r : Completion P vs ws) (k : IsCombination M.ops U (vs ++ r.others) v)
             → ((i : ℕ) × (i < length r.others) × (¬ (k.coefficient (length vs + i) ≡ 𝟘)) × ((j : ℕ) → j < i → k.coefficient (length vs + j) ≡ 𝟘))

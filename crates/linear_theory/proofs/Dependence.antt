@@ -6,14 +6,14 @@ use Rattle.std.proofs.lemmas.List.Elements.{All-nil, All-cons, All-head, All-tai
 use Rattle.ff_ring.specs.Ring.{CommRing}
 use Rattle.ff_ring.proofs.Ring.{mul_zero, zero_mul, zero_add, one_mul, eq_of_sub}
 use Rattle.ff_ring.proofs.Solver.{ring, reads}
-use Rattle.linear_theory.specs.Fields.{Field}
+use Rattle.linear_theory.specs.Fields.{Field, domain_of}
 use Rattle.linear_theory.specs.Module.{Module, combine, sequence_ops}
 use Rattle.linear_theory.specs.Basis.{IsSubspace, IsCombination, IsIndependent, IsBasis}
 use Rattle.linear_theory.specs.Echelon.{row}
 use Rattle.linear_theory.proofs.Lists.{entry, join, join_left, join_right, All_entry}
 use Rattle.linear_theory.proofs.Module.{linear, parts, vector, scalar}
 use Rattle.linear_theory.proofs.Combination.{combine_none, combine_zero, combine_linear, combine_scale, combine_append, combine_join}
-use Rattle.linear_theory.proofs.Domain.{first_nonzero}
+use Rattle.linear_theory.proofs.Domain.{first_nonzero, inverse_of, inverse_is, decide_equal}
 use Rattle.linear_theory.proofs.Bases.{complete, Completion}
 use Rattle.linear_theory.proofs.Echelon.{column_none}
 
@@ -116,7 +116,7 @@ module _ {A V : Type 0} {R : CommRing A} (M : Module R V) (U : V → Type 0) (�
           ∙ ap₂ (λ x y. x ⊞ (𝟙 • y ⊞ 𝟬)) (combine_scale M (⊖ 𝟙) h.coefficient vs) h.is
           ∙ step (combine M.ops h.coefficient vs) h.rest
 
-module _ {A V : Type 0} (K : Field A) (M : Module K.domain.ring V) (U : V → Type 0) (𝓤 : IsSubspace M.ops U) where
+module _ {A V : Type 0} (K : Field A) (M : Module K.ring V) (U : V → Type 0) (𝓤 : IsSubspace M.ops U) where
   infixl 65 ◌⊞◌
   infixr 75 ◌•◌
   open M use {𝟬, ◌⊞◌, ◌•◌}
@@ -124,15 +124,15 @@ module _ {A V : Type 0} (K : Field A) (M : Module K.domain.ring V) (U : V → Ty
   infixl 65 ◌⊕◌
   infixl 70 ◌⊗◌
   infixr 80 ⊖◌
-  open K.domain.ring use {𝟘, 𝟙, ◌⊕◌, ◌⊗◌, ⊖◌}
+  open K.ring use {𝟘, 𝟙, ◌⊕◌, ◌⊗◌, ⊖◌}
 
   abbrev R : CommRing A
-  R = K.domain.ring
+  R = K.ring
 
   -- a vector that is no combination of independent ones is independent with them
   pub independent_more : (vs : List V) (v : V) → IsIndependent R.ops M.ops U vs → ¬ IsCombination M.ops U vs v
       → IsIndependent R.ops M.ops U (vs ++ v ∷ [])
-  independent_more vs v free no_h c m i l = all (K.domain.decide (c (n + 0)) 𝟘) (less_or_same i n)
+  independent_more vs v free no_h c m i l = all (decide_equal K.tested (c (n + 0)) 𝟘) (less_or_same i n)
     where
       n : ℕ
       n = length vs
@@ -152,13 +152,13 @@ module _ {A V : Type 0} (K : Field A) (M : Module K.domain.ring V) (U : V → Ty
       last : Dec (c (n + 0) ≡ 𝟘) → c (n + 0) ≡ 𝟘
       last (yes e) = e
       last (no ne) =
-          let b = K.inverse (c (n + 0)) in
+          let b = inverse_of K (c (n + 0)) in
           absurd (no_h (record {
             coefficient = λ i. ⊖ b ⊗ c i;
             rest = b • (combine M.ops c vs ⊞ (c (n + 0) • v ⊞ 𝟬));
             rest_in = 𝓤.scale_in b _ m';
             is =
-                step (combine M.ops c vs) v (c (n + 0)) b (K.inverse_is (c (n + 0)) ne)
+                step (combine M.ops c vs) v (c (n + 0)) b (inverse_is K (c (n + 0)) ne)
                 ∙ ap (λ x. x ⊞ b • (combine M.ops c vs ⊞ (c (n + 0) • v ⊞ 𝟬))) (sym (combine_scale M (⊖ b) c vs));
           }))
 
@@ -185,7 +185,7 @@ module _ {A V : Type 0} (K : Field A) (M : Module K.domain.ring V) (U : V → Ty
       → ¬ IsCombination M.ops U (front i rows) (entry 𝟬 rows i)
   none_of_independent rows free i l =
       let r = front_rest (suc i) rows in
-      last_not_combination M U 𝓤 K.domain.one_not_zero (front i rows) (entry 𝟬 rows i)
+      last_not_combination M U 𝓤 K.is_field.one_not_zero (front i rows) (entry 𝟬 rows i)
       (subst (IsIndependent R.ops M.ops U) (front_more 𝟬 i rows l)
       (independent_left M U 𝓤 (front (suc i) rows) r.0 (subst (IsIndependent R.ops M.ops U) r.1 free)))
 
@@ -203,7 +203,7 @@ module _ {A V : Type 0} (K : Field A) (M : Module K.domain.ring V) (U : V → Ty
     decide_combination vs h free v v_in = go (complete K M U W 𝓤 𝓦 W vs ws b b.members_in h free)
       where
         go : Completion K M U W 𝓤 𝓦 W vs ws → Dec (IsCombination M.ops U vs v)
-        go r = decide (first_nonzero K.domain (λ j. k.coefficient (length vs + j)) (length r.others))
+        go r = decide (first_nonzero (domain_of K) (λ j. k.coefficient (length vs + j)) (length r.others))
           where
             k : IsCombination M.ops U (vs ++ r.others) v
             k = r.basis.spanning v v_in

@@ -1,8 +1,8 @@
 -- Constants and the variable among the polynomials over a field, and polynomials by their coefficients.
-use Rattle.std.proofs.Common.{◌≡◌, ℕ, zero, suc, ◌<◌, ◌≤◌, ◌⊎◌, inl, inr, Bool, true, false, [], ◌∷◌, length, refl, sym, ◌∙◌, ap, ap₂, arith}
+use Rattle.std.proofs.Common.{◌≡◌, ℕ, zero, suc, ◌<◌, ◌≤◌, ◌⊎◌, inl, inr, [], ◌∷◌, length, refl, sym, ◌∙◌, ap, ap₂, arith}
 use Rattle.ff_ring.specs.Ring.{TestedRing, IsDomain, IsField}
 use Rattle.ff_ring.specs.Lists.{coeff_of}
-use Rattle.ff_ring.proofs.Ring.{zero_add, zero_mul, one_mul, eq_of_sub, sub_of_eq, field_domain}
+use Rattle.ff_ring.proofs.Ring.{zero_add, zero_mul, one_mul, field_domain}
 use Rattle.ff_ring.proofs.Sequences.{convolution_constant_left}
 use Rattle.ff_ring.proofs.Lists.{coeff_trim}
 use Rattle.ff_ring.proofs.Polynomials.{Pol, pol_ops, pol_ring, pol_domain, same_pol, series_add, series_mul, coeff_past}
@@ -124,45 +124,13 @@ module _ {C : Type 0} (k : TestedRing C) where
   pub polynomial_zero : (l : ℕ) (c : ℕ → C) → polynomial l c ≡ s.𝟘 → (n : ℕ) → n < l → c n ≡ k.𝟘
   polynomial_zero l c e n h = sym (polynomial_below l c n h) ∙ ap (λ p. series k p n) e ∙ series_zero n
 
--- equality is decided by the test for zero
-module _ {C : Type 0} (k : TestedRing C) where
-  pub decide : (a b : C) → Dec (a ≡ b)
-  decide a b = go (k.is_zero (k.◌⊕◌ a (k.⊖◌ b))) refl
-    where
-      go : (t : Bool) → k.is_zero (k.◌⊕◌ a (k.⊖◌ b)) ≡ t → Dec (a ≡ b)
-      go true e = yes (eq_of_sub k.ring a b (k.zero_from _ e))
-      go false e = no (λ f. let z : true ≡ false = sym k.zero_is_zero ∙ ap k.is_zero (sym (sub_of_eq k.ring a b f)) ∙ e in (cc))
-
--- the field with a decision of equality, and the domain of its polynomials
+-- the coefficients as a field, and the domain of its polynomials
 module _ {C : Type 0} (k : TestedRing C) (field : IsField k.ops) where
-  pub inverse_of : (a : C) → Dec (a ≡ k.𝟘) → C
-  inverse_of a (yes e) = k.𝟘
-  inverse_of a (no h) = (field.inverse a h).0
-
-  pub inverse_of_is : (a : C) (d : Dec (a ≡ k.𝟘)) → ¬ (a ≡ k.𝟘) → k.◌⊗◌ a (inverse_of a d) ≡ k.𝟙
-  unfolding inverse_of
-  inverse_of_is a (yes e) h = absurd (h e)
-  inverse_of_is a (no h') h = (field.inverse a h').1
-
   abbrev pub coefficients : Field C
-  coefficients = record {
-    domain = record {
-      ring = k.ring;
-      decide = decide k;
-      one_not_zero = field.one_not_zero;
-      no_divisors = λ a b e. elim (decide k a k.𝟘) [ yes z ↦ inl z | no h ↦ inr ((field_domain k.ring field).cancel_zero a b h e) ];
-    };
-    inverse = λ a. inverse_of a (decide k a k.𝟘);
-    inverse_is = λ a h. inverse_of_is a (decide k a k.𝟘) h;
-  }
+  coefficients = record { tested = k; is_field = field }
 
   abbrev pub polynomials : IsDomain (pol_ring k).ops
   polynomials = pol_domain k (field_domain k.ring field)
 
   abbrev pub polynomial_domain : Domain (Pol k)
-  polynomial_domain = record {
-    ring = (pol_ring k).ring;
-    decide = decide (pol_ring k);
-    one_not_zero = polynomials.one_not_zero;
-    no_divisors = λ a b e. elim (decide (pol_ring k) a (pol_ring k).𝟘) [ yes z ↦ inl z | no h ↦ inr (polynomials.cancel_zero a b h e) ];
-  }
+  polynomial_domain = record { tested = pol_ring k; is_domain = polynomials }

@@ -1,0 +1,14 @@
+pub mod Multiples
+pub mod Flat
+pub mod RowSteps
+pub mod Views
+pub mod Reading
+pub mod Reduction
+pub mod Bridge
+pub mod Reduced
+pub mod UnitRows
+pub mod Beside
+pub mod KernelBasis
+pub mod Solving
+pub mod Unique
+pub mod FirstRelation

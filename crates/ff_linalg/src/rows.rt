@@ -1,0 +1,90 @@
+//! Steps on rows that stand one after another in a buffer.
+
+ghost use Rattle.std.specs.Prelude.{◌≡◌, ◌≢◌, ℕ, ◌*◌, ◌<◌, ◌≤◌, length, map, swap, MatchOption};
+ghost use Rattle.ff_fields.specs.Over.{IsOver};
+ghost use Rattle.ff_linalg.specs.Matrix.{rows_in};
+ghost use Rattle.ff_linalg.specs.Steps.{entry_at, cleared, eliminated};
+
+use crate::slices::{add_multiple, scale_all};
+use ff_fields::field::SmallField;
+
+/// The first row from `rank` on whose entry in column c isn't 0.
+pub(crate) fn find_pivot(
+    entries: &[u32],
+    rows: usize,
+    cols: usize,
+    rank: usize,
+    c: usize,
+) -> Option<usize>
+    requires shape { length entries.now ≡ rows * cols }
+    requires col_in { c < cols }
+    ensures { let m = rows_in cols rows entries.now in MatchOption result ((l : ℕ) → rank ≤ l → l < rows → entry_at m l c ≡ 0)
+        (λ i. (rank ≤ i) × (i < rows) × (entry_at m i c ≢ 0)) }
+{
+    for i in rank..rows {
+        if entries[i * cols + c] != 0 {
+            return Some(i);
+        }
+    }
+    None
+}
+
+/// Exchanges two rows.
+pub(crate) fn swap_rows(entries: &mut [u32], rows: usize, cols: usize, upper: usize, lower: usize)
+    requires shape { length entries.old ≡ rows * cols }
+    requires order { upper < lower }
+    requires within { lower < rows }
+    ensures { rows_in cols rows entries.new ≡ swap (rows_in cols rows entries.old) upper lower }
+{
+    let (front, back) = entries.split_at_mut(lower * cols);
+    front[upper * cols..upper * cols + cols].swap_with_slice(&mut back[..cols]);
+}
+
+/// Takes from each row the multiple of the pivot's row that clears its entry in column c.
+pub(crate) fn clear_rows<K: SmallField>(
+    k: &K,
+    part: &mut [u32],
+    count: usize,
+    pivot: &[u32],
+    c: usize,
+)
+    requires shape { length part.old ≡ count * length pivot.now }
+    requires col_in { c < length pivot.now }
+    requires part_in { IsOver (K.field k.now).ops part.old }
+    requires pivot_in { IsOver (K.field k.now).ops pivot.now }
+    ensures cleared { let w = length pivot.now in
+        rows_in w count part.new ≡ map (cleared (K.field k.now).ops c pivot.now) (rows_in w count part.old) }
+    ensures over { IsOver (K.field k.now).ops part.new }
+{
+    let cols = pivot.len();
+    for i in 0..count {
+        let row = &mut part[i * cols..i * cols + cols];
+        let factor = k.neg(row[c]);
+        add_multiple(k, row, factor, pivot);
+    }
+}
+
+/// Makes the entry of row p in column c 1 and those of the other rows 0.
+pub(crate) fn clear_column<K: SmallField>(
+    k: &K,
+    entries: &mut [u32],
+    rows: usize,
+    cols: usize,
+    p: usize,
+    c: usize,
+)
+    requires shape { length entries.old ≡ rows * cols }
+    requires row_in { p < rows }
+    requires col_in { c < cols }
+    requires nonzero { entry_at (rows_in cols rows entries.old) p c ≢ 0 }
+    requires entries_in { IsOver (K.field k.now).ops entries.old }
+    ensures eliminated { rows_in cols rows entries.new ≡ eliminated (K.field k.now).ops p c (rows_in cols rows entries.old) }
+    ensures over { IsOver (K.field k.now).ops entries.new }
+{
+    let (front, rest) = entries.split_at_mut(p * cols);
+    let (pivot, back) = rest.split_at_mut(cols);
+    let inverse = k.inv(pivot[c]);
+    scale_all(k, pivot, inverse);
+    clear_rows(k, front, p, pivot, c);
+    clear_rows(k, back, rows - p - 1, pivot, c);
+}
