@@ -4,7 +4,7 @@ ghost use Rattle.std.specs.Prelude.{◌≡◌, ◌≢◌, ◌<◌, [], IfOk};
 ghost use Rattle.ff_fields.specs.Over.{IsOver};
 ghost use Rattle.ff_algebra.specs.Values.{IsElem, IsPresOver};
 
-use crate::elem::{Elem, Pres, add, mul, same};
+use crate::elem::{Elem, Pres, add, mul, same, trace};
 use ff_fields::field::SmallField;
 use ff_fields::prime::PrimeField;
 use ff_poly::Poly;
@@ -116,6 +116,16 @@ fn half_of_two<K: SmallField>(alloc: Global, k: &K) -> Result<Elem, AllocError>
     fraction(alloc, k, top, Poly::zero(alloc), den)
 }
 
+// The numerator of the trace of 3 + y, whose denominator is 1.
+fn trace_of_sum<K: SmallField>(alloc: Global, k: &K) -> Result<Poly, AllocError>
+    requires { 6 < (K.field k.now).size }
+{
+    let p = curve(alloc, k)?;
+    let z = sum_of_terms(alloc, k, cubic(alloc, k, 3, 0, 0)?, 1)?;
+    let (num, _) = trace(alloc, k, &p, &z)?;
+    Ok(num)
+}
+
 #[test]
 fn denominators_become_monic(rt: HostRuntime) -> Result<(), Fail> {
     let k = PrimeField::new(7)?;
@@ -138,5 +148,14 @@ fn sums_products_and_equality(rt: HostRuntime) -> Result<(), Fail> {
     assert!(rt; has_sum(alloc, &k)?);
     assert!(rt; quotient_is(alloc, &k, 1, 0)?);
     assert!(rt; !quotient_is(alloc, &k, 0, 1)?);
+    Ok(())
+}
+
+#[test]
+fn traces(rt: HostRuntime) -> Result<(), Fail> {
+    let k = PrimeField::new(7)?;
+    let num = trace_of_sum(rt.alloc(), &k)?;
+    assert_eq!(rt; num.degree(), Some(0));
+    assert_eq!(rt; num.coeff(0), 6);
     Ok(())
 }
