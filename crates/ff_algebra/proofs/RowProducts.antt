@@ -216,7 +216,7 @@ module _ (k : CodeField) where
     poly = All-replicate IsPoly n [] (record { trimmed = tt });
   }
 
-  row_of_zeros : (m n : ℕ) → row_of_list k m (replicate n []) ≡ row_zero (polynomials k).ops m
+  pub row_of_zeros : (m n : ℕ) → row_of_list k m (replicate n []) ≡ row_zero (polynomials k).ops m
   unfolding row_zero
   row_of_zeros zero n = refl
   row_of_zeros (suc m) zero = pair_path refl (row_of_zeros m zero)

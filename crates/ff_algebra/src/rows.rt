@@ -1,9 +1,11 @@
 //! The inner loops, on rows of polynomials.
 
 ghost use Rattle.std.specs.Prelude.{◌≡◌, ◌-◌, ◌<◌, ◌≤◌, [], suc, length, map, replicate, All, IfOk, OnOk};
+ghost use Rattle.ff_ring.specs.Rows.{row_trace};
 ghost use Rattle.ff_ring.proofs.Rows.{row_mul};
 ghost use Rattle.ff_fields.specs.Over.{IsOver};
 ghost use Rattle.ff_poly.specs.Words.{multiple_of};
+ghost use Rattle.ff_poly.specs.Value.{value};
 ghost use Rattle.ff_poly.specs.Polynomials.{polynomials};
 ghost use Rattle.ff_algebra.specs.Values.{IsPresOver, equation_of};
 ghost use Rattle.ff_algebra.specs.RowProducts.{IsRow, add_products, cross_sums, row_at, y_times};
@@ -140,4 +142,27 @@ pub(crate) fn row_product<K: SmallField>(
         add_products(k, product.as_mut_slice(), 1, &v[i], w)?;
     }
     Ok(product)
+}
+
+/// The trace of multiplication by the row: the sum of the coefficients of y^i in y^i times the row, for i below n.
+pub(crate) fn row_trace<K: SmallField>(
+    alloc: Global,
+    k: &K,
+    p: &Pres,
+    v: &[Poly],
+) -> Result<Poly, AllocError>
+    requires p_in { IsPresOver (K.field k.now).ops p.now }
+    requires v_in { IsRow (K.field k.now).ops p.now.n v.now }
+    ensures trace { let k = K.field k.now in
+        let f = (equation_of k p.now).coefficients in
+        IfOk result (λ t. value k t ≡ row_trace (polynomials k).ops (p.now.n - 1) f (row_at k p.now v.now)) }
+    ensures over { IfOk result (IsOver (K.field k.now).ops) }
+{
+    let mut row = copy_all(alloc, v)?;
+    let mut sum = Poly::zero(alloc);
+    for i in 0..p.n() {
+        sum = poly::add(alloc, k, &sum, &row[i])?;
+        multiply_by_y(alloc, k, p, &mut row)?;
+    }
+    Ok(sum)
 }
