@@ -9,14 +9,15 @@ use Rattle.ff_ring.proofs.RowMaps.{IsHom, eval, eval_none, eval_cons, eval_times
 use Rattle.ff_ring.proofs.Solver.{ring, reads, from_one}
 use Rattle.ff_fields.specs.Field.{CodeField}
 use Rattle.ff_poly.specs.Value.{value, numbers_value}
-use Rattle.ff_poly.specs.Polynomials.{Polynomial, polynomials, polynomials_domain, codes_of, value_codes_of, value_nil, IsOver_codes_of, IsPoly_codes_of}
+use Rattle.ff_poly.specs.Words.{IsPoly}
+use Rattle.ff_poly.specs.Polynomials.{Polynomial, polynomials, polynomials_domain, codes_of, value_codes_of, value_nil, value_not_zero, IsOver_codes_of, IsPoly_codes_of}
 use Rattle.ff_algebra.specs.declared.elem.Side.TheVariants.{Finite, Infinite}
 use Rattle.ff_algebra.specs.Functions.{RowOver, AreSame, function, row_of, of_poly, over, y_of, add_rows, mul_rows, add_function, mul_function, from_rows, from_rows_value}
 use Rattle.ff_algebra.specs.Values.{PresValue, ElemValue, IsElem, Functions, functions, equation_of, row_of_list, row_over, function_of}
 use Rattle.ff_algebra.specs.Infinity.{row_value_at, variable, generator, inverse_at, function_on, IsInfinitePresentation}
 use Rattle.ff_algebra.proofs.OnSide.{value_at_x, times_inverse}
 use Rattle.ff_algebra.proofs.ScalarRings.{of_poly_one}
-use Rattle.ff_algebra.proofs.SameValues.{row_over_num, row_over_den, elem_den}
+use Rattle.ff_algebra.proofs.SameValues.{row_over_num, row_over_den}
 use Rattle.ff_algebra.proofs.Stages.{row_of_function}
 use Rattle.places_theory.proofs.YRoot.{eval_constant, poly_hom, at_y, y_root}
 use Rattle.places_theory.proofs.AtInfinity.{at, at_hom, at_codes, value_at_is}
@@ -227,11 +228,11 @@ module _ (k : CodeField) (p q : PresValue) (c : ℕ) where
         eval_cons (polynomials k).ring (functions k p) (at k p t) (at_hom k p t) η m (value k v) (row_of_list k m vs)
         ∙ ap₂ (λ s r. s ⊕ η ⊗ r) (sym (value_at_is k p t v)) (at_Y_list m vs (omega arith))
 
-    pub map_element : (z : ElemValue) → IsElem k.ops q.n z → presentation_map (function_of k q z) ≡ function_on k p c Infinite z
-    map_element z g =
+    pub map_element : (z : ElemValue) → IsElem k.ops q.n z → IsPoly z.den → ¬ (z.den ≡ []) → presentation_map (function_of k q z) ≡ function_on k p c Infinite z
+    map_element z g poly not_zero =
         map_row (row_over k q z)
         ∙ ap₂ (λ d v. inverse_at k p Infinite d ⊗ at_Y (suc (q.n - 1)) v)
-        (ap (codes_of k) (row_over_den k q z (elem_den k q z q.n g)) ∙ numbers_value k z.den g.den_over g.den_poly)
+        (ap (codes_of k) (row_over_den k q z (value_not_zero k z.den g.den_over poly not_zero)) ∙ numbers_value k z.den g.den_over poly)
         (row_over_num k q z)
         ∙ ap (λ s. inverse_at k p Infinite z.den ⊗ s)
         (at_Y_list (suc (q.n - 1)) z.num (let e : length z.num ≡ q.n = g.one_each in let f : q.n ≡ p.n = h.degree in omega arith))

@@ -2,7 +2,7 @@
 //! presentations. Each main theorem is the contract of a function with an empty body; the crates above cite the lemmas of proofs/.
 #![tactic(auto)]
 
-ghost use Rattle.std.specs.Prelude.{◌≡◌, ℕ, suc, ◌≤◌, ℤ, ◌+ℤ◌, List, map, All, ◌↔◌};
+ghost use Rattle.std.specs.Prelude.{◌≡◌, ◌≢◌, ℕ, [], suc, ◌≤◌, ℤ, ◌+ℤ◌, List, map, All, ◌↔◌};
 ghost use Rattle.std.specs.List.{Contains, Any};
 ghost use Rattle.std.proofs.Common.{pos};
 ghost use Rattle.ff_ring.specs.Ring.{CommRing, pow};
@@ -11,6 +11,7 @@ ghost use Rattle.ff_ring.specs.Integral.{IsIntegral};
 ghost use Rattle.ff_ring.specs.Local.{PrimeTo, Locally};
 ghost use Rattle.ff_fields.specs.Field.{CodeField};
 ghost use Rattle.ff_fields.specs.Code.{code_ring};
+ghost use Rattle.ff_poly.specs.Words.{IsPoly};
 ghost use Rattle.ff_algebra.specs.declared.elem.Side.{Side};
 ghost use Rattle.ff_algebra.specs.Values.{PresValue, ElemValue, IsElem, Functions, functions, setting, function_of};
 ghost use Rattle.ff_algebra.specs.Places.{Place, IsPlace, IsSamePlace, IsIntegralAt, IsIn, InPower, HasValuationAtLeast, HasValuation};
@@ -132,7 +133,7 @@ pub fn isomorphism_law<T, Q, O: Subset<T>, M: Subset<T>, B: Subset<Q>, N: Subset
 pub fn presentations_law()
     ensures { (k : CodeField) (p q : PresValue) (c : ℕ) → 1 ≤ p.n → IsInfinitePresentation k p c q
         → (f : Functions k q → Functions k p) × IsIsomorphism (functions k q) (functions k p) f
-        × ((z : ElemValue) → IsElem k.ops q.n z → f (function_of k q z) ≡ function_on k p c Side.Infinite z)
+        × ((z : ElemValue) → IsElem k.ops q.n z → IsPoly z.den → z.den ≢ [] → f (function_of k q z) ≡ function_on k p c Side.Infinite z)
         × ((z : Functions k q) → IsIntegralAt (setting k q) Side.Finite z ↔ IsIntegral (functions k p).ops (InReverse k p) (f z)) }
 {}
 
