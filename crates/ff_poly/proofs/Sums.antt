@@ -1,6 +1,6 @@
 -- Steps of the loop that adds a product in place, and what it leaves.
 use Rattle.std.proofs.Common.{◌≡◌, ℕ, zero, suc, ◌+◌, ◌-◌, ◌<◌, ◌≤◌, List, [], ◌∷◌, ◌++◌, length, get_or, take, drop, replicate, refl, sym, ap, ap₂, ◌∙◌, arith, add-one, append_assoc}
-use Rattle.std.proofs.lemmas.List.{take-append-drop, length-map, length-append, length-replicate, take_all, drop_all, drop_at, take_at, length-drop, length-take-le, drop_more, take_more, take_rest, append-nil}
+use Rattle.std.proofs.lemmas.List.{take-append-drop, length-map, length-append, length-replicate, drop_all, drop_at, take_at, length-drop, length-take-le, drop_more, take_more, take_rest, append-nil}
 use borrow.Rule.Slice.PartMut.{put_mid}
 use Rattle.ff_ring.specs.Ring.{Operations, TestedRing}
 use Rattle.ff_ring.specs.Lists.{coeff_of, add_lists, scale_list, mul_lists, trim}

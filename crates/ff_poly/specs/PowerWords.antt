@@ -1,5 +1,5 @@
 -- Values at a code, powers, and the rest of a division.
-use Rattle.std.specs.Prelude.{◌≡◌, ℕ, zero, suc, List, [], ◌∷◌}
+use Rattle.std.specs.Prelude.{ℕ, zero, suc, List, [], ◌∷◌}
 use Rattle.ff_fields.specs.Field.{FieldOps}
 use Rattle.ff_poly.specs.Words.{IsQuotient, product_of}
 

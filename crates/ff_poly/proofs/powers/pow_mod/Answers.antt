@@ -1,4 +1,4 @@
-use Rattle.std.proofs.Common.{◌≡◌, zero, ◌%◌, length, refl, ap, ap₂, sym, ◌∙◌, arith, inl, inr}
+use Rattle.std.proofs.Common.{◌≡◌, zero, ◌%◌, length, refl, ap, arith, inl, inr}
 use Rattle.ff_ring.specs.Ring.{pow}
 use Rattle.ff_poly.specs.Value.{value}
 use Rattle.ff_poly.specs.Polynomials.{polynomials}

@@ -1,8 +1,8 @@
-use Rattle.std.proofs.Common.{◌≡◌, suc, ◌-◌, ◌≤◌, length, drop, take, arith, refl}
+use Rattle.std.proofs.Common.{◌≡◌, suc, ◌-◌, ◌≤◌, length, drop, arith, refl}
 use Rattle.ff_poly.proofs.slices.add_product_to.Goals as goal
 use Rattle.ff_fields.specs.Code.{raw_ring}
 use Rattle.ff_fields.specs.Over.{IsOver_append, IsOver_drop, IsOver_take}
-use Rattle.ff_poly.proofs.Sums.{IsOver_add_onto, add_onto_init, add_onto_step}
+use Rattle.ff_poly.proofs.Sums.{IsOver_add_onto, add_onto_step}
 
 pub add_multiple-requires-clause-sum_in : goal.add_multiple-requires-clause-sum_in
 add_multiple-requires-clause-sum_in g c =

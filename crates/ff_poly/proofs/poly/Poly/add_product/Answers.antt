@@ -1,4 +1,4 @@
-use Rattle.std.proofs.Common.{◌≡◌, [], ◌∙◌, ap, ap₂, arith, sym, length, eqb-true, ◌-◌, ◌+◌, take, replicate, ◌++◌, vec_len, ◌≤◌}
+use Rattle.std.proofs.Common.{◌≡◌, [], ◌∙◌, ap, ap₂, arith, sym, length, eqb-true, ◌-◌, replicate, ◌++◌, vec_len, ◌≤◌}
 use Rattle.std.proofs.lemmas.List.{nil_from_length, take_all}
 use Rattle.ff_poly.proofs.poly.Poly.add_product.Goals as goal
 use Rattle.ff_poly.proofs.poly.Poly.add_product.Goals.{then-is_empty-via-then-is_empty, then-is_empty-via-else-is_empty+then-is_empty-2}
