@@ -76,7 +76,7 @@ module _ (k : CodeField) where
         let in_row : j < suc (w - 1) = omega (arith, less, space_width) in
         row_entry (code_ring k) (w - 1) (R v) s j in_row ∙ ap (λ p. coeff_of (code_ring k).ops p.0 s) (entry_read k (suc (w - 1)) j v in_row)
 
-    coef_short : (v : List (List ℕ)) (s j : ℕ) → j < M.width → length (entry_at v j) ≤ s → M.coef (R v) (s * M.width + j) ≡ (code_ring k).𝟘
+    pub coef_short : (v : List (List ℕ)) (s j : ℕ) → j < M.width → length (entry_at v j) ≤ s → M.coef (R v) (s * M.width + j) ≡ (code_ring k).𝟘
     coef_short v s j less short = coef_read v s j less ∙ coeff_past (code_ring k) (value k (entry_at v j)).0 s (omega (arith, value_short (entry_at v j), short))
 
     -- the measure, the degree and the pivot of a row with a pivot

@@ -1,10 +1,10 @@
 -- A Popov basis of codes, in the module that it is read into.
-use Rattle.std.proofs.Common.{◌≡◌, ℕ, suc, ◌+◌, ◌-◌, ◌*◌, ◌<◌, ◌≤◌, ◌⊎◌, inl, inr, List, [], length, get_or, sym, ap, ◌∙◌, arith, subst}
+use Rattle.std.proofs.Common.{◌≡◌, ℕ, suc, ◌+◌, ◌-◌, ◌*◌, ◌<◌, ◌≤◌, ◌⊎◌, inl, inr, List, [], length, get_or, sym, ap, ◌∙◌, arith, subst, ◌++◌, ◌∷◌, refl, ap₂, length-append}
 use Rattle.std.specs.Prelude.{All}
 use Rattle.std.proofs.lemmas.Bool.{cases_lt}
-use Rattle.std.proofs.lemmas.List.{length-map}
+use Rattle.std.proofs.lemmas.List.{length-map, get_or-map, get_or-append_right}
 use Rattle.ff_fields.specs.Field.{CodeField}
-use Rattle.ff_fields.specs.Code.{code_ring, code_domain}
+use Rattle.ff_fields.specs.Code.{code_ring, code_domain, read_code, read_code_below, same_code}
 use Rattle.ff_ring.specs.Rows.{Row}
 use Rattle.ff_ring.proofs.Polynomials.{Pol}
 use Rattle.ff_poly.specs.Popov.{entry_at, row_at, IsRow, IsPopov}
@@ -17,9 +17,12 @@ use Rattle.popov_theory.proofs.PredictableDegree.{leading}
 use Rattle.popov_theory.proofs.PopovForm.{row_past}
 use Rattle.ff_popov.specs.Reading.{read_row, row_space, read_rows}
 use Rattle.ff_popov.proofs.ReadRows.{over_at, read_row_at}
-use Rattle.ff_popov.proofs.Measures.{measured, space_width}
+use Rattle.ff_popov.proofs.Measures.{measured, space_width, coef_read, coef_short}
 use Rattle.ff_popov.proofs.Places.{times_le}
 use Rattle.std.proofs.Common.{add-mul}
+use Rattle.ff_ring.specs.Lists.{coeff_of}
+use Rattle.ff_poly.specs.Value.{value}
+use Rattle.ff_poly.specs.Polynomials.{series_read}
 
 module _ (k : CodeField) (w : ℕ) (basis : List (List (List ℕ))) (all : All (IsRow k.ops w) basis) (popov : IsPopov w basis) where
   abbrev M : PolynomialModule (code_ring k) (Row (Pol (code_ring k)) (suc (w - 1)))
@@ -90,3 +93,42 @@ module _ (k : CodeField) (w : ℕ) (basis : List (List (List ℕ))) (all : All (
             add-mul (len - 1) 1 M.width,
             M.positive,
           ))
+
+  -- it is a Popov basis of the module that it is read into, so that the theory speaks of it
+  pub basis_popov : 0 < w → theory.IsPopov M rs
+  basis_popov positive = record {
+    size = omega (arith, basis_length, space_width k w, positive);
+    some = λ i less z. absurd (omega (arith, z, (basis_measured i (inside i less)).0));
+    pivot_at = λ i less. (basis_measured i (inside i less)).2;
+    monic = λ i less. monic i (inside i less) (popov.monic i (inside i less));
+    small = λ i j s i_less j_less differ le. small i j s (inside i i_less) (inside j j_less) differ le;
+  }
+    where
+      inside : (i : ℕ) → i < M.width → i < w
+      inside i less = omega (arith, less, space_width k w, positive)
+
+      small : (i j s : ℕ) → i < w → j < w → ¬ (i ≡ j) → row_degree M (get_or rs j M.𝟎) ≤ s → M.coef (get_or rs i M.𝟎) (s * M.width + j) ≡ (code_ring k).𝟘
+      small i j s i_less j_less differ le =
+          ap (λ r. M.coef r (s * M.width + j)) (read_row_at k w basis i)
+          ∙ coef_short k w (row_at basis i) s j (omega (arith, j_less, space_width k w, positive))
+          (omega (arith, popov.smaller i j i_less j_less differ, le, (basis_measured j j_less).1))
+
+      top_one : (a : List ℕ) → (lower : List ℕ) × (a ≡ lower ++ 1 ∷ []) → coeff_of (code_ring k).ops (value k a).0 (length a - 1) ≡ (code_ring k).𝟙
+      top_one a (lower, e) =
+          series_read k a (length a - 1)
+          ∙ get_or-map (read_code k) a (length a - 1) 0 (code_ring k).𝟘 (omega (arith, size))
+          ∙ ap (read_code k) (ap (λ x. get_or x (length a - 1) 0) e ∙ get_or-append_right lower (1 ∷ []) (length lower) (length a - 1) 0 refl (omega (arith, size)) ∙ ap (λ n. get_or (1 ∷ []) n 0) none)
+          ∙ same_code k (read_code k 1) (code_ring k).𝟙 (read_code_below k 1 k.laws.one_below)
+        where
+          size : length a ≡ length lower + 1
+          size = ap length e ∙ length-append lower (1 ∷ [])
+
+          none : length a - 1 - length lower ≡ 0
+          none = omega (arith, size)
+
+      monic : (i : ℕ) → i < w → (lower : List ℕ) × (entry_at (row_at basis i) i ≡ lower ++ 1 ∷ []) → M.coef (get_or rs i M.𝟎) (measure M (get_or rs i M.𝟎) - 1) ≡ (code_ring k).𝟙
+      monic i less one =
+          ap₂ (λ r n. M.coef r (n - 1)) (read_row_at k w basis i) (basis_measured i less).0
+          ∙ ap (M.coef (R (row_at basis i))) (omega arith)
+          ∙ coef_read k w (row_at basis i) (length (entry_at (row_at basis i) i) - 1) i (omega (arith, less, space_width k w, positive))
+          ∙ top_one (entry_at (row_at basis i) i) one
