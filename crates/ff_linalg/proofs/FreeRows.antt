@@ -1,6 +1,6 @@
 -- The rows of a matrix whose kernel is 0 are independent.
-use Rattle.std.proofs.Common.{◌≡◌, ℕ, zero, suc, ◌<◌, List, [], ◌∷◌, length, get_or, take, replicate, refl, sym, ◌∙◌, ap, ap₂, subst, arith}
-use Rattle.std.proofs.lemmas.List.{length-replicate, nil_from_length}
+use Rattle.std.proofs.Common.{◌≡◌, ℕ, zero, suc, ◌<◌, ◌≤◌, List, [], ◌∷◌, length, get_or, take, drop, replicate, refl, sym, ◌∙◌, ap, subst, arith}
+use Rattle.std.proofs.lemmas.List.{length-replicate, length-take-le, nil_from_length, get_or-take, take-append-drop, take-append-le}
 use Rattle.std.proofs.lemmas.List.Elements.{All-take}
 use Rattle.std.specs.Prelude.{All}
 use Rattle.ff_fields.specs.Field.{CodeField}
@@ -19,7 +19,7 @@ use Rattle.linear_theory.proofs.Lists.{entry}
 use Rattle.linear_theory.proofs.Standard.{Vanishes, vanishing, row_space_is_span}
 use Rattle.ff_linalg.specs.Matrix.{MatrixValue, first_rows_of, row_of}
 use Rattle.ff_linalg.specs.Forms.{sequences_of}
-use Rattle.ff_linalg.specs.Space.{row_ops, product_of, IsInRowSpace, HasNoSolution}
+use Rattle.ff_linalg.specs.Space.{row_ops, product_of, IsInRowSpace, HasNoSolution, HasIndependentStart}
 use Rattle.ff_linalg.specs.Kernel.{IsInKernel, IsKernelBasis}
 use Rattle.ff_linalg.proofs.Reading.{length_sequences}
 use Rattle.ff_linalg.proofs.Bridge.{look_zeros, combination_over, length_combination, combination_is, codes_ext, codes_of, length_codes_of, look_codes_of}
@@ -88,3 +88,17 @@ module _ (k : CodeField) where
               ∙ combination_is k a.cols v (take i a.rows) h.over (All-take (IsOver k.ops) i a.rows over) j
               ∙ ap (λ fs. combine (sequence_ops R.ops) (look R.ops (read k v)) fs j) (sym (front_sequences i a.rows));
         }))
+
+-- the same of the first rows of a matrix
+pub free_start : (k : CodeField) (a m : MatrixValue) (count : ℕ) → count ≤ length a.rows → All (IsOver k.ops) a.rows → All (λ r. length r ≡ a.cols) a.rows
+    → IsKernelBasis k.ops (first_rows_of a count) m → length m.rows ≡ 0 → HasIndependentStart k.ops a count
+free_start k a m count within over wide basis none i l =
+    subst (HasNoSolution k.ops (first_rows_of a i)) (get_or-take count a.rows i [] l)
+    (subst (λ rows. HasNoSolution k.ops (record { cols = a.cols; rows = rows }) (row_of (first_rows_of a count) i)) shorter
+    (free_rows k (first_rows_of a count) m (All-take (IsOver k.ops) count a.rows over) (All-take (λ r. length r ≡ a.cols) count a.rows wide) basis none i
+    (omega (arith, l, length-take-le count a.rows within))))
+  where
+    shorter : take i (take count a.rows) ≡ take i a.rows
+    shorter =
+        sym (ap (take i) (sym (take-append-drop count a.rows))
+        ∙ take-append-le i (take count a.rows) (drop count a.rows) (omega (arith, l, length-take-le count a.rows within)))
