@@ -12,3 +12,4 @@ pub mod KernelBasis
 pub mod Solving
 pub mod Unique
 pub mod FirstRelation
+pub mod FreeRows

@@ -37,12 +37,16 @@ pub record IsSolution (k : FieldOps) (a : MatrixValue) (b v : List ℕ) : Type 0
 abbrev pub HasNoSolution : FieldOps → MatrixValue → List ℕ → Type 0
 HasNoSolution k a b = (v : List ℕ) → ¬ IsSolution k a b v
 
+-- none of the first rows is a combination of the rows before it
+abbrev pub HasIndependentStart : FieldOps → MatrixValue → ℕ → Type 0
+HasIndependentStart k a count = (i : ℕ) → i < count → HasNoSolution k (first_rows_of a i) (row_of a i)
+
 -- no row is a combination of the rows before it
 abbrev pub HasIndependentRows : FieldOps → MatrixValue → Type 0
-HasIndependentRows k a = (i : ℕ) → i < length a.rows → HasNoSolution k (first_rows_of a i) (row_of a i)
+HasIndependentRows k a = HasIndependentStart k a (length a.rows)
 
 -- the coefficients of the first row that is a combination of the rows before it; there are as many as rows before it
 pub record IsFirstRelation (k : FieldOps) (a : MatrixValue) (v : List ℕ) : Type 0 where
   pub within : length v < length a.rows
   pub relation : IsSolution k (first_rows_of a (length v)) (row_of a (length v)) v
-  pub earlier : (i : ℕ) → i < length v → HasNoSolution k (first_rows_of a i) (row_of a i)
+  pub earlier : HasIndependentStart k a (length v)

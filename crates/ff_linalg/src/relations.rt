@@ -1,9 +1,10 @@
 //! The first relation of the rows of a matrix.
 
-ghost use Rattle.std.specs.Prelude.{◌≡◌, ◌≤◌, length, IfOk, MatchOption};
+ghost use Rattle.std.specs.Prelude.{◌≡◌, ◌≤◌, length, IfOk, IsTrue, MatchOption};
 ghost use Rattle.ff_linalg.specs.Matrix.{HasShape, IsMatrixOver, first_rows_of};
-ghost use Rattle.ff_linalg.specs.Space.{HasIndependentRows, IsFirstRelation};
+ghost use Rattle.ff_linalg.specs.Space.{HasIndependentRows, HasIndependentStart, IsFirstRelation};
 
+use crate::kernels::kernel;
 use crate::matrix::Matrix;
 use crate::solutions::solve;
 use ff_fields::field::SmallField;
@@ -23,9 +24,43 @@ fn first_rows(alloc: Global, a: &Matrix, r: usize) -> Result<Matrix, AllocError>
     })
 }
 
+/// Whether the first `count` rows are independent; true only where they are.
+fn is_independent_start<K: SmallField>(
+    alloc: Global,
+    k: &K,
+    a: &Matrix,
+    count: usize,
+) -> Result<bool, AllocError>
+    requires a_in { IsMatrixOver (K.field k.now).ops a.now }
+    requires within { count ≤ length a.now.rows }
+    ensures { IfOk result (λ t. IsTrue t → HasIndependentStart (K.field k.now).ops a.now count) }
+{
+    let start = first_rows(alloc, a, count)?;
+    let relations = kernel(alloc, k, &start)?;
+    Ok(relations.rows() == 0)
+}
+
+/// A number of first rows that are independent, found by halving. That it is the greatest matters to the cost alone.
+fn independent_count<K: SmallField>(alloc: Global, k: &K, a: &Matrix) -> Result<usize, AllocError>
+    requires { IsMatrixOver (K.field k.now).ops a.now }
+    ensures { IfOk result (λ n. (n ≤ length a.now.rows) × HasIndependentStart (K.field k.now).ops a.now n) }
+{
+    let mut low = 0;
+    let mut high = a.rows();
+    while low < high {
+        let middle = high - (high - low) / 2;
+        if is_independent_start(alloc, k, a, middle)? {
+            low = middle;
+        } else {
+            high = middle - 1;
+        }
+    }
+    Ok(low)
+}
+
 /// For the least r such that row r is a combination of the rows before it, the r coefficients of that combination; None
 /// exactly where the rows are independent.
-/// Cost: that of r + 1 calls of `solve`.
+/// Cost: that of as many kernels as the number of rows has binary digits, and of one call of `solve`.
 pub fn min_relation<K: SmallField>(
     alloc: Global,
     k: &K,
@@ -34,7 +69,7 @@ pub fn min_relation<K: SmallField>(
     requires { IsMatrixOver (K.field k.now).ops a.now }
     ensures { IfOk result (λ o. MatchOption o (HasIndependentRows (K.field k.now).ops a.now) (λ v. IsFirstRelation (K.field k.now).ops a.now v.items)) }
 {
-    for r in 0..a.rows() {
+    for r in independent_count(alloc, k, a)?..a.rows() {
         let before = first_rows(alloc, a, r)?;
         if let Some(v) = solve(alloc, k, &before, a.row(r))? {
             return Ok(Some(v));

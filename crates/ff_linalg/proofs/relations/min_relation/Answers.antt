@@ -6,7 +6,7 @@ use Rattle.ff_linalg.specs.Matrix.{IsMatrixOver}
 use Rattle.ff_linalg.proofs.FirstRelation.{first_relation, no_relation_yet}
 
 pub loop-r-init : goal.loop-r-init
-loop-r-init g c = λ i l. absurd (omega arith)
+loop-r-init g c = let h = c.in_ok-r.ensures in h.1
 
 pub solve-requires-clause-a_in : goal.solve-requires-clause-a_in
 solve-requires-clause-a_in g c =
