@@ -6,7 +6,6 @@ use Rattle.ff_fields.specs.Over.{IsOver}
 use Rattle.ff_poly.specs.Words.{IsPoly, sum_of, multiple_of, product_of}
 use Rattle.ff_poly.specs.Value.{value}
 use Rattle.ff_poly.specs.Polynomials.{Polynomial, polynomials}
-use Rattle.ff_algebra.specs.Functions.{Equation}
 use Rattle.ff_algebra.specs.Values.{PresValue, row_of_list, equation_of}
 
 module _ (k : FieldOps) where

@@ -1,12 +1,11 @@
-use Rattle.std.proofs.Common.{◌≡◌, ◌<◌, ◌↔◌, IsTrue, true, false, length, get_or, take, map, All, refl, ap, ap₂, sym, ◌∙◌, subst, arith}
+use Rattle.std.proofs.Common.{◌≡◌, true, false, length, get_or, map, refl, ap, sym, ◌∙◌, subst, arith}
 use Rattle.std.proofs.lemmas.List.{take_all, length-map}
 use Rattle.std.proofs.lemmas.List.Elements.{All-get_or}
 use Rattle.ff_fields.specs.Over.{IsOver}
 use Rattle.ff_poly.specs.Words.{product_of}
-use Rattle.ff_algebra.specs.Values.{ElemValue, IsMonicElem, IsSame}
+use Rattle.ff_algebra.specs.Values.{ElemValue, IsMonicElem}
 use Rattle.ff_algebra.proofs.SameValues.{cross_more, cross_at, same_functions}
 use Rattle.ff_algebra.proofs.elem.same.Goals as goal
-use Rattle.ff_algebra.proofs.elem.same.Given.{Over}
 
 pub mul-requires-clause-b_in : goal.mul-requires-clause-b_in
 mul-requires-clause-b_in g c =

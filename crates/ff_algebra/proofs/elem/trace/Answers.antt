@@ -1,4 +1,4 @@
-use Rattle.std.proofs.Common.{◌≡◌, ◌-◌, ap, sym, subst, ◌∙◌}
+use Rattle.std.proofs.Common.{◌-◌, ap, sym, subst, ◌∙◌}
 use Rattle.ff_ring.specs.Rows.{row_trace}
 use Rattle.ff_poly.specs.Words.{IsMonic}
 use Rattle.ff_poly.specs.Polynomials.{polynomials}

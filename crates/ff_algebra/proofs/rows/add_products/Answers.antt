@@ -1,7 +1,7 @@
-use Rattle.std.proofs.Common.{sym, arith}
+use Rattle.std.proofs.Common.{arith}
 use Rattle.std.proofs.lemmas.List.Elements.{All-get_or, All-set}
 use Rattle.ff_fields.specs.Over.{IsOver}
-use Rattle.ff_algebra.proofs.RowProducts.{add_products_step, add_products_all}
+use Rattle.ff_algebra.proofs.RowProducts.{add_products_step}
 use Rattle.ff_algebra.proofs.rows.add_products.Goals as goal
 
 pub add_product-requires-clause-self_in : goal.add_product-requires-clause-self_in

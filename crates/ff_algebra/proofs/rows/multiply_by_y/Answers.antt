@@ -1,7 +1,7 @@
-use Rattle.std.proofs.Common.{◌≡◌, suc, ◌-◌, [], ◌∷◌, ◌++◌, length, take, All, Some, ap, ap₂, sym, ◌∙◌, arith}
+use Rattle.std.proofs.Common.{◌≡◌, [], ◌∷◌, ap, ap₂, ◌∙◌, arith}
 use Rattle.std.proofs.lemmas.List.Elements.{All-same}
 use Rattle.ff_fields.specs.Over.{IsOver}
-use Rattle.ff_algebra.specs.RowProducts.{IsRow, add_products, row_at}
+use Rattle.ff_algebra.specs.RowProducts.{add_products, row_at}
 use Rattle.ff_algebra.proofs.RowProducts.{written_row, IsRow_shifted, IsRow_add_products, row_at_shifted}
 use Rattle.ff_algebra.proofs.rows.multiply_by_y.Goals as goal
 

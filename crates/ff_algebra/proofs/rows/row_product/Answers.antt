@@ -1,4 +1,4 @@
-use Rattle.std.proofs.Common.{◌≡◌, zero, suc, ◌-◌, ◌≤◌, [], length, drop, replicate, All, arith, ap, ap₂, sym, ◌∙◌}
+use Rattle.std.proofs.Common.{◌≡◌, zero, suc, ◌-◌, [], length, drop, replicate, arith, ap, ◌∙◌}
 use Rattle.std.proofs.lemmas.List.Elements.{All-same, All-get_or}
 use Rattle.ff_fields.specs.Over.{IsOver}
 use Rattle.ff_algebra.specs.RowProducts.{add_products, row_at, list_times}

@@ -1,9 +1,9 @@
-use Rattle.std.proofs.Common.{◌≡◌, suc, ◌-◌, ◌<◌, [], get_or, length, arith, ap, ◌∙◌}
+use Rattle.std.proofs.Common.{◌≡◌, suc, ◌-◌, ◌<◌, [], length, arith, ap, ◌∙◌}
 use Rattle.std.proofs.lemmas.List.{get_or_read}
 use Rattle.std.proofs.lemmas.List.Elements.{All-get_or}
 use Rattle.ff_fields.specs.Over.{IsOver, IsOver_nil}
 use Rattle.ff_poly.specs.Value.{value}
-use Rattle.ff_algebra.specs.RowProducts.{IsRow, row_at}
+use Rattle.ff_algebra.specs.RowProducts.{row_at}
 use Rattle.ff_algebra.proofs.Traces.{trace_start, sum_start, trace_more, sum_more, trace_end}
 use Rattle.ff_algebra.proofs.rows.row_trace.Goals as goal
 
