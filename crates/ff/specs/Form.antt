@@ -20,17 +20,17 @@ pub record IsElement (q n : ℕ) (ps : List (List Term)) : Type 0 where
   pub one_each : length ps ≡ n
   pub terms : All (All (IsTerm q 0)) ps
 
--- a number of a line with a modulus
+-- a number of a line with a modulus, 0 too
 abbrev pub IsNumber : ℕ → Type 0
 IsNumber n = n < 1000000000
 
--- a degree, and the coefficients of 1, s, up to s^m
+-- a degree m, and m + 1 coefficients, that of s^0 first
 pub record IsModulus (m : ℕ) (modulus : List ℕ) : Type 0 where
   pub degree : IsNumber m
   pub one_each : length modulus ≡ suc m
   pub coefficients : All IsNumber modulus
 
--- p to the m, which the codes of later lines are below; they are numbers too
+-- what the codes of later lines are below: p to the m, or 1,000,000,000 where that is less
 abbrev pub codes_below : ℕ → ℕ → ℕ
 codes_below p m = if nat_lt (p ^ m) 1000000000 then p ^ m else 1000000000
 

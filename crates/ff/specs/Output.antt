@@ -67,7 +67,7 @@ block_text b = echo_line b.statement ++ answer_line b.answer
 abbrev pub blocks_text : List Block → List ℕ
 blocks_text bs = flat_map block_text bs
 
--- what keeps a line from being a field, in words
+-- the line of a refused field
 abbrev pub fault_line : FieldFault → List ℕ
 fault_line (FieldSize p m) = codes "refused FieldSize " ++ (decimal p ++ (codes " " ++ (decimal m ++ codes "\n")))
 fault_line (CodeRange c) = codes "refused CodeRange " ++ (decimal c ++ codes "\n")

@@ -38,4 +38,4 @@ pub record AddsProduct (k : CodeField) (f : PresValue) (a b : List (List Term)) 
 -- the refusal is the statement's, unless memory ran out
 abbrev pub IsRefusedAs : Setting → Statement → Told → Type 0
 IsRefusedAs old s told.Memory = Unit {0}
-IsRefusedAs old s (told.Field fault) = Refuses old s (NoField fault)
+IsRefusedAs old s (told.NoField fault) = Refuses old s (NoField fault)

@@ -19,7 +19,7 @@ use fault::Unread;
 use line::line;
 use std::alloc::Global;
 
-/// p to the m, or the bound of all numbers where that is less: what the codes of later lines are below.
+/// What the codes of later lines are below: p to the m, or 1,000,000,000 where that is less.
 fn codes_below(p: u32, m: u32) -> u32
     ensures { result ≡ codes_below p m }
 {

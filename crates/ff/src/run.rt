@@ -51,7 +51,7 @@ pub fn close<T: Sink>(out: &mut T, text: &[u8], status: Status) -> Status
     }
 }
 
-/// The line of what keeps a line from being a field.
+/// The line of a refused field.
 fn push_fault(out: &mut Vec<u8>, fault: FieldFault) -> Result<(), AllocError>
     ensures { OnOk result (out.new.items ≡ out.old.items ++ fault_line fault) }
 {
@@ -116,7 +116,7 @@ pub fn run_script<T: Sink>(alloc: Global, script: &[Statement], out: &mut T) -> 
                 }
             }
             Err(Refusal::Memory) => return Status::WantOfMemory,
-            Err(Refusal::Field(fault)) => {
+            Err(Refusal::NoField(fault)) => {
                 let Ok(text) = refusal_text(alloc, s, fault) else {
                     return Status::WantOfMemory;
                 };

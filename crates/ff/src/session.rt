@@ -50,17 +50,17 @@ impl Model for Session {
 #[derive(Clone, Copy, Debug, PartialEq, Eq)]
 pub enum Refusal {
     /// The line gives no field.
-    Field(FieldFault),
+    NoField(FieldFault),
     Memory,
 }
 
 impl From<FieldFault> for Refusal {
     ghost use Rattle.ff.specs.declared.session.Refusal.TheVariants as refusals;
 
-    ghost from_gives = { λ fault e. e ≡ refusals.Field fault };
+    ghost from_gives = { λ fault e. e ≡ refusals.NoField fault };
 
     fn from(fault: FieldFault) -> Self {
-        Refusal::Field(fault)
+        Refusal::NoField(fault)
     }
 }
 

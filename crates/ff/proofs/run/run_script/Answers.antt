@@ -32,15 +32,15 @@ returns-in_default-end_text g c =
     let inv = c.loop-s.invariant.printed in
     stopped g.T.Sink.taken g.T.Sink.faults g.T.Sink.free c.args.script.now c.args.out.now inv.0 c.loop-s.session (drop c.loop-s.s-index c.args.script.now) c.loop-s.out inv.1 inv.2
 
-pub returns-in-Err-Field : goal.returns-in-Err-Field
-returns-in-Err-Field g c =
+pub returns-in-Err-NoField : goal.returns-in-Err-NoField
+returns-in-Err-NoField g c =
     let inv = c.loop-s.invariant.printed in
     let rest = rest_at c.args.script.now c.loop-s.s-index c.s-item.result (omega arith) c.s-item.is in
     refused g.T.Sink.taken g.T.Sink.faults g.T.Sink.free c.args.script.now c.args.out.now inv.0 c.loop-s.session c.s-item.result (drop (c.loop-s.s-index + 1) c.args.script.now)
     c.loop-s.out c.close.new.out (subst (IsAnswered c.args.script.now inv.0 c.loop-s.session) rest inv.1) inv.2
-    (NoField c.in-Err-Field.fault) c.as_slice-in-Err-Field.result.now c.close.result
-    (rw c.in-Err-Field.field-0-is at c.in-Err-Field.ensures.refused) (c.as_slice-in-Err-Field.ensures.value ∙ c.in-Ok-refusal_text.ensures
-    ∙ ap (λ f. echo_line c.s-item.result ++ refusal_line (NoField f)) c.in-Err-Field.fault-is) c.close.ensures
+    (NoField c.in-Err-NoField.fault) c.as_slice-in-Err-NoField.result.now c.close.result
+    (rw c.in-Err-NoField.field-0-is at c.in-Err-NoField.ensures.refused) (c.as_slice-in-Err-NoField.ensures.value ∙ c.in-Ok-refusal_text.ensures
+    ∙ ap (λ f. echo_line c.s-item.result ++ refusal_line (NoField f)) c.in-Err-NoField.fault-is) c.close.ensures
 
 pub loop-s-preserved : goal.loop-s-preserved
 loop-s-preserved g c =
