@@ -10,6 +10,7 @@ mod Truths
 pub mod Elements
 pub mod Found
 pub mod Lines
+pub mod Moduli
 pub mod Numbers
 pub mod Scripts
 pub mod Sums

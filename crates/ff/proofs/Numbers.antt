@@ -1,12 +1,12 @@
 -- Numbers that are read are written so, and numbers that are written are read again.
-use Rattle.std.proofs.Common.{◌≡◌, ◌≢◌, ℕ, ◌+◌, ◌*◌, ◌-◌, ◌/◌, ◌%◌, ◌^◌, ◌<◌, ◌≤◌, true, false, cond, eqb, ltb, leb, List, [], ◌∷◌, ◌++◌, length, codes, Option, Some, None, refl, sym, ap, ◌∙◌, append_assoc, arith, inl, inr}
+use Rattle.std.proofs.Common.{◌≡◌, ◌≢◌, ℕ, zero, suc, ◌+◌, ◌*◌, ◌-◌, ◌/◌, ◌%◌, ◌^◌, ◌<◌, ◌≤◌, true, false, cond, eqb, ltb, leb, List, [], ◌∷◌, ◌++◌, length, codes, Option, Some, None, refl, sym, ap, ◌∙◌, append_assoc, arith, inl, inr}
 use Rattle.std.specs.Prelude.{nat_lt}
 use Rattle.std.specs.Char.{is_ascii_digit}
 use Rattle.std.specs.Fmt.{decimal}
 use Rattle.std.proofs.lemmas.Bool.{ltb-true, leb-true, eq-eqb, ne_eqb, le-ltb, lt-ltb, le-leb, and_parts, and_from, cases_Bool}
 use Rattle.std.proofs.lemmas.Fmt.{decimal_digit, decimal_step, decimal_by_steps}
-use Rattle.ff.specs.Reading.{◌>>=◌, after_text, digit_at, digits_at, number_at}
-use Rattle.ff.proofs.Found.{bind_some, choice_some, guard_some, test_some, some_is, no_none}
+use Rattle.ff.specs.Reading.{◌>>=◌, after_text, digit_at, digits_at, number_at, plain_at}
+use Rattle.ff.proofs.Found.{bind_some, choice_some, guard_some, test_some, some_is, no_none, text_takes}
 
 -- ---- one digit
 
@@ -160,3 +160,32 @@ number_again low limit n rest fits one le lt ended =
     let front = continues limit n (omega arith) (omega arith) lt rest in
     let read : digits_at limit 0 (decimal n ++ rest) ≡ Some (n, rest) = front.1 ∙ digits_ended limit n rest ended in
     rw (front.0, read, le-leb low n le) refl
+
+-- ---- numbers that may be 0
+
+pub plain_takes : (bytes : List ℕ) (n : ℕ) (rest : List ℕ) → plain_at bytes ≡ Some (n, rest) → IsNumberIn 0 1000000000 bytes n rest
+unfolding plain_at
+plain_takes bytes n rest e =
+    elim (choice_some (λ (r : List ℕ). Some (0, r)) (after_text (codes "0") bytes) (number_at 1 1000000000 bytes) (n, rest) e) [
+      | inl w ↦ let one = number_takes 1 1000000000 bytes n rest (omega arith) (omega arith) w.1 in record { text = one.text; least = omega arith; below = one.below }
+      | inr w ↦
+          let both = some_is (0, w.0) (n, rest) w.2 in
+          let value : 0 ≡ n = ap (λ (p : ℕ × List ℕ). p.0) both in
+          let behind : w.0 ≡ rest = ap (λ (p : ℕ × List ℕ). p.1) both in
+          record {
+            text = text_takes (codes "0") bytes w.0 w.1 ∙ ap (λ (t : List ℕ). codes "0" ++ t) behind ∙ ap (λ (t : List ℕ). t ++ rest) (sym (decimal_digit 0 (omega arith)) ∙ ap decimal value);
+            least = omega arith;
+            below = omega (arith, value);
+          }
+    ]
+
+zero_again : (rest : List ℕ) → plain_at (48 ∷ rest) ≡ Some (0, rest)
+unfolding plain_at after_text
+zero_again rest = refl
+
+pub plain_again : (n : ℕ) (rest : List ℕ) → n < 1000000000 → digit_at rest ≡ None → plain_at (decimal n ++ rest) ≡ Some (n, rest)
+unfolding plain_at
+plain_again zero rest lt ended = ap (λ (t : List ℕ). plain_at (t ++ rest)) (decimal_digit 0 (omega arith)) ∙ zero_again rest
+plain_again (suc n) rest lt ended =
+    let front = continues 1000000000 (suc n) (omega arith) (omega arith) lt rest in
+    rw (front.0, number_again 1 1000000000 (suc n) rest (omega arith) (omega arith) (omega arith) lt ended) refl

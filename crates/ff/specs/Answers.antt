@@ -1,13 +1,17 @@
 -- What the answers to a script's statements say, and when they are true.
 use Rattle.std.specs.Prelude.{◌≡◌, ◌≢◌, ℕ, zero, suc, ◌<◌, ◌≤◌, ◌==◌, List, [], ◌∷◌, ◌++◌, length, map, filter, Option, Some, None, IsTrue, ◌⊎◌}
 use Rattle.ff_fields.specs.Field.{FieldOps, CodeField}
+use Rattle.ff_fields.specs.declared.fault.FieldFault.{FieldFault}
+use Rattle.ff_fields.specs.declared.fault.FieldFault.TheVariants.{FieldSize}
 use Rattle.ff_fields.specs.Prime.{is_listed, prime_of, prime_field}
+use Rattle.ff_fields.specs.Residue.{residue_of}
+use Rattle.ff_fields.specs.Modulus.{IsFieldModulus, IsFaultOf, modulus_field}
 use Rattle.ff_poly.specs.Words.{IsMonic, IsPoly, sum_of, shifted}
 use Rattle.ff_algebra.specs.Values.{ElemValue, PresValue, IsElem, IsSame, function_of, functions}
 use Rattle.ff_algebra.specs.Infinity.{IsInfinityNumber}
 use Rattle.ff.specs.declared.script.Term.{Term}
 use Rattle.ff.specs.declared.script.Statement.{Statement}
-use Rattle.ff.specs.declared.script.Statement.TheVariants.{FieldOf, CurveOf, Mul}
+use Rattle.ff.specs.declared.script.Statement.TheVariants.{FieldOf, FieldBy, CurveOf, Mul}
 
 -- the code of a term, 1 where none is written
 abbrev pub code_of_term : Option ℕ → ℕ
@@ -58,11 +62,45 @@ pub record IsProduct (k : CodeField) (f : PresValue) (a b z : ElemValue) : Type 
   pub product : function_of k f z ≡ (functions k f).◌⊗◌ (function_of k f a) (function_of k f b)
   pub lowest : IsInLowestTerms k.ops f.n z
 
--- what the statements so far have bound: a field of p elements, and the equation of a curve
+-- a field by its data: the numbers modulo p, or the polynomials over them modulo one of degree m
+pub data FieldData : Type 0 where
+  Modulo : ℕ → FieldData
+  ByModulus : ℕ → ℕ → List ℕ → FieldData
+
+-- the operations on its codes
+abbrev pub ops_of : FieldData → FieldOps
+ops_of (Modulo p) = prime_of p
+ops_of (ByModulus p m modulus) = residue_of p m modulus
+
+-- there is such a field here
+abbrev pub IsField : FieldData → Type 0
+IsField (Modulo p) = IsTrue (is_listed p)
+IsField (ByModulus p m modulus) = IsFieldModulus p m modulus
+
+-- its operations with their laws
+abbrev pub with_laws : (d : FieldData) → IsField d → CodeField
+with_laws (Modulo p) is = prime_field p is
+with_laws (ByModulus p m modulus) is = modulus_field p m modulus is
+
+-- the statement is that of a field, with these operations
+abbrev pub Names : Statement → FieldOps → Type 0
+Names (FieldOf p) k = IsTrue (is_listed p) × (k ≡ prime_of p)
+Names (FieldBy p m modulus) k = IsFieldModulus p m modulus × (k ≡ residue_of p m modulus)
+Names _ k = ⊥
+
+-- what the statements so far have bound: a field, and the equation of a curve
 pub data Setting : Type 0 where
   Empty : Setting
-  WithField : ℕ → Setting
-  WithCurve : ℕ → PresValue → Setting
+  WithField : FieldData → Setting
+  WithCurve : FieldData → PresValue → Setting
+
+-- the field that the statement names is bound, and q is its size
+pub record BindsField (s : Statement) (q : ℕ) (next : Setting) : Type 0 where
+  pub field : FieldData
+  pub is_field : IsField field
+  pub named : Names s (ops_of field)
+  pub size : IsFieldOf (ops_of field) q
+  pub bound : next ≡ WithField field
 
 -- what an answer line says
 pub data Answer : Type 0 where
@@ -72,19 +110,21 @@ pub data Answer : Type 0 where
 
 -- in the setting the answer to the statement is true, and the last setting has taken it in
 abbrev pub Answers : Setting → Statement → Answer → Setting → Type 0
-Answers Empty (FieldOf p) (Size q) next = IsTrue (is_listed p) × IsFieldOf (prime_of p) q × (next ≡ WithField p)
-Answers (WithField p) (CurveOf n lower) (Numbers degree c) next =
-    IsCurveOf (equation (prime_of p) n lower) degree c × (next ≡ WithCurve p (equation (prime_of p) n lower))
-Answers (WithCurve p f) (Mul a b) (Element z) next =
-    (listed : IsTrue (is_listed p)) × IsProduct (prime_field p listed) f (element (prime_of p) a) (element (prime_of p) b) z
-    × (next ≡ WithCurve p f)
+Answers Empty (FieldOf p) (Size q) next = BindsField (FieldOf p) q next
+Answers Empty (FieldBy p m modulus) (Size q) next = BindsField (FieldBy p m modulus) q next
+Answers (WithField d) (CurveOf n lower) (Numbers degree c) next =
+    IsCurveOf (equation (ops_of d) n lower) degree c × (next ≡ WithCurve d (equation (ops_of d) n lower))
+Answers (WithCurve d f) (Mul a b) (Element z) next =
+    (is : IsField d) × IsProduct (with_laws d is) f (element (ops_of d) a) (element (ops_of d) b) z
+    × (next ≡ WithCurve d f)
 Answers _ _ _ _ = ⊥
 
 -- why a statement is refused
 pub data Refusal : Type 0 where
-  FieldSize : ℕ → ℕ → Refusal
+  NoField : FieldFault → Refusal
 
 -- in the setting the statement is refused so: the row of the refusal holds, and none before it
 abbrev pub Refuses : Setting → Statement → Refusal → Type 0
-Refuses Empty (FieldOf p) (FieldSize p' m) = ¬ IsTrue (is_listed p) × (p' ≡ p) × (m ≡ 1)
+Refuses Empty (FieldOf p) (NoField fault) = ¬ IsTrue (is_listed p) × (fault ≡ FieldSize p 1)
+Refuses Empty (FieldBy p m modulus) (NoField fault) = IsFaultOf p m modulus fault
 Refuses _ _ _ = ⊥

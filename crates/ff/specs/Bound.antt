@@ -1,9 +1,24 @@
 -- The setting that what is bound stands for.
+use Rattle.std.specs.Prelude.{◌+◌, take}
+use Rattle.ff_fields.specs.declared.fields.Field.{Field as AnyField}
+use Rattle.ff_fields.specs.declared.fields.Field.TheVariants.{Prime, Residue}
+use Rattle.ff_fields.specs.Fields.{field_of}
+use Rattle.ff_algebra.specs.Values.{IsPresOver}
 use Rattle.ff.specs.declared.session.Bound.{Bound}
 use Rattle.ff.specs.declared.session.Bound.TheVariants.{Nothing, Field, Curve}
-use Rattle.ff.specs.Answers.{Setting, Empty, WithField, WithCurve}
+use Rattle.ff.specs.Answers.{FieldData, Modulo, ByModulus, Setting, Empty, WithField, WithCurve}
+
+-- the field by its data
+abbrev pub data_of : AnyField → FieldData
+data_of (Prime k) = Modulo k.p
+data_of (Residue k) = ByModulus k.p k.m (take (k.m + 1) k.modulus)
 
 abbrev pub setting_of : Bound → Setting
 setting_of Nothing = Empty
-setting_of (Field k) = WithField k.p
-setting_of (Curve k f) = WithCurve k.p f
+setting_of (Field k) = WithField (data_of k)
+setting_of (Curve k f) = WithCurve (data_of k) f
+
+-- the curve's coefficients are codes of the field
+abbrev pub IsSound : Bound → Type 0
+IsSound (Curve k f) = IsPresOver (field_of k).ops f
+IsSound _ = Unit {0}

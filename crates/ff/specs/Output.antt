@@ -7,7 +7,9 @@ use Rattle.ff.specs.declared.script.Term.{Term}
 use Rattle.ff.specs.declared.script.Statement.{Statement}
 use Rattle.ff.specs.Text.{element_text, terms_text, statement_text}
 use Rattle.ff.specs.Form.{IsScript, IsFirstBadLine}
-use Rattle.ff.specs.Answers.{Setting, Empty, Answer, Size, Numbers, Element, Answers, Refusal, FieldSize, Refuses}
+use Rattle.ff.specs.Answers.{Setting, Empty, Answer, Size, Numbers, Element, Answers, Refusal, NoField, Refuses}
+use Rattle.ff_fields.specs.declared.fault.FieldFault.{FieldFault}
+use Rattle.ff_fields.specs.declared.fault.FieldFault.TheVariants.{FieldSize, CodeRange, NotMonic, NotField}
 
 -- c·x^j as it is printed: a code 1 stands alone at exponent 0 only
 abbrev pub printed_term : ℕ → ℕ → Term
@@ -65,8 +67,15 @@ block_text b = echo_line b.statement ++ answer_line b.answer
 abbrev pub blocks_text : List Block → List ℕ
 blocks_text bs = flat_map block_text bs
 
+-- the line of a refused field
+abbrev pub fault_line : FieldFault → List ℕ
+fault_line (FieldSize p m) = codes "refused FieldSize " ++ (decimal p ++ (codes " " ++ (decimal m ++ codes "\n")))
+fault_line (CodeRange c) = codes "refused CodeRange " ++ (decimal c ++ codes "\n")
+fault_line (NotMonic c) = codes "refused NotMonic " ++ (decimal c ++ codes "\n")
+fault_line (NotField a b) = codes "refused NotField " ++ (decimal a ++ (codes " " ++ (decimal b ++ codes "\n")))
+
 abbrev pub refusal_line : Refusal → List ℕ
-refusal_line (FieldSize p m) = codes "refused FieldSize " ++ (decimal p ++ (codes " " ++ (decimal m ++ codes "\n")))
+refusal_line (NoField fault) = fault_line fault
 
 abbrev pub end_line : ℕ → List ℕ
 end_line n = codes "end " ++ (decimal n ++ codes "\n")

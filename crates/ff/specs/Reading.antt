@@ -1,5 +1,5 @@
 -- Reading a script from left to right.
-use Rattle.std.specs.Prelude.{◌≡◌, ℕ, zero, suc, ◌+◌, ◌-◌, ◌*◌, List, [], ◌∷◌, ◌++◌, length, codes, Option, Some, None, Result, Ok, Err, option_and_then, nat_lt, nat_le, ◌==◌, if◌then◌else◌}
+use Rattle.std.specs.Prelude.{◌≡◌, ℕ, zero, suc, ◌+◌, ◌-◌, ◌*◌, List, [], ◌∷◌, ◌++◌, length, codes, Option, Some, None, Result, Ok, Err, option_and_then, nat_lt, nat_le, ◌==◌, ◌&&◌, if◌then◌else◌}
 use Rattle.std.specs.Char.{is_ascii_digit}
 use Rattle.std.specs.Option.{option_map_or}
 use Rattle.std.specs.Global.{Vec}
@@ -7,7 +7,7 @@ use Rattle.ff.specs.declared.script.Term.{Term}
 use Rattle.ff.specs.declared.script.Place.{Place}
 use Rattle.ff.specs.declared.script.Place.TheVariants.{Start, AfterField, AfterCurve}
 use Rattle.ff.specs.declared.script.Statement.{Statement}
-use Rattle.ff.specs.declared.script.Statement.TheVariants.{FieldOf, CurveOf, Mul}
+use Rattle.ff.specs.declared.script.Statement.TheVariants.{FieldOf, FieldBy, CurveOf, Mul}
 use Rattle.ff.specs.declared.parse.fault.ScriptFault.{ScriptFault}
 use Rattle.ff.specs.declared.parse.fault.ScriptFault.TheVariants as script_faults
 use Rattle.ff.specs.declared.parse.fault.Unread.{Unread}
@@ -136,12 +136,38 @@ element_at p n bytes = do
   rest ← after_text (codes "]") others.1
   Some (first.0 ∷ others.0, rest)
 
+-- a number of a line with a modulus, 0 too
+unfoldable pub plain_at : List ℕ → Option (ℕ × List ℕ)
+plain_at bytes = option_map_or (λ rest. Some (0, rest)) (after_text (codes "0") bytes) (number_at 1 1000000000 bytes)
+
+-- so many numbers with a space before each
+unfoldable pub numbers_at : ℕ → List ℕ → Option (List ℕ × List ℕ)
+numbers_at zero bytes = Some ([], bytes)
+numbers_at (suc k) bytes = do
+  start ← after_text (codes " ") bytes
+  n ← plain_at start
+  with_first n.0 (numbers_at k n.1)
+
+-- the degree and the coefficients of a modulus, where p is read
+unfoldable pub modulus_at : ℕ → List ℕ → Option (Statement × List ℕ)
+modulus_at p bytes = do
+  m ← plain_at bytes
+  modulus ← numbers_at (m.0 + 1) m.1
+  Some (FieldBy p m.0 modulus.0, modulus.1)
+
+-- a field of p elements, or one with a modulus, where p is read
+abbrev pub behind_p : ℕ × List ℕ → Option (Statement × List ℕ)
+behind_p p = option_map_or
+    (modulus_at p.0)
+    (after_text (codes " ") p.1)
+    (if nat_le 2 p.0 && nat_le p.0 65536 then Some (FieldOf p.0, p.1) else None)
+
 -- the statements of each kind
 unfoldable pub field_at : List ℕ → Option (Statement × List ℕ)
 field_at bytes = do
   start ← after_text (codes "field ") bytes
-  p ← number_at 2 65537 start
-  Some (FieldOf p.0, p.1)
+  p ← plain_at start
+  behind_p p
 
 unfoldable pub curve_at : ℕ → List ℕ → Option (Statement × List ℕ)
 curve_at p bytes = do

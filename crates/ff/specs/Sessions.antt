@@ -1,28 +1,21 @@
 -- The setting that a session stands for, and what its steps answer.
-use Rattle.std.specs.Prelude.{◌≡◌, ℕ, List, ◌++◌, IsTrue}
+use Rattle.std.specs.Prelude.{◌≡◌, ℕ, List, ◌++◌}
 use Rattle.ff_fields.specs.Field.{CodeField}
-use Rattle.ff_fields.specs.Prime.{is_listed, prime_of}
-use Rattle.ff_algebra.specs.Values.{ElemValue, PresValue, IsPresOver}
+use Rattle.ff_algebra.specs.Values.{ElemValue, PresValue}
 use Rattle.ff.specs.declared.script.Term.{Term}
 use Rattle.ff.specs.declared.script.Statement.{Statement}
 use Rattle.ff.specs.declared.session.Refusal.{Refusal as Told}
 use Rattle.ff.specs.declared.session.Refusal.TheVariants as told
 use Rattle.ff.specs.declared.script.Place.{Place}
 use Rattle.ff.specs.declared.script.Place.TheVariants.{Start, AfterField, AfterCurve}
-use Rattle.ff.specs.Answers.{Setting, Empty, WithField, WithCurve, Answer, Answers, Refuses, FieldSize, Element, IsProduct, element}
+use Rattle.ff.specs.Answers.{Setting, Empty, WithField, WithCurve, Answer, Answers, Refuses, NoField, Element, IsProduct, element, ops_of}
 use Rattle.ff.specs.Output.{answer_line, block_text}
 
 -- what stands before the next line
 abbrev pub place_of : Setting → Place
 place_of Empty = Start
-place_of (WithField p) = AfterField p
-place_of (WithCurve p f) = AfterCurve p f.n
-
--- the field is one of those that there are, and the curve's coefficients are its codes
-abbrev pub IsSound : Setting → Type 0
-IsSound Empty = Unit {0}
-IsSound (WithField p) = IsTrue (is_listed p)
-IsSound (WithCurve p f) = IsTrue (is_listed p) × IsPresOver (prime_of p) f
+place_of (WithField d) = AfterField (ops_of d).size
+place_of (WithCurve d f) = AfterCurve (ops_of d).size f.n
 
 -- the text of the statement's true block, and the setting that has taken it in
 pub record IsBlock (old : Setting) (s : Statement) (text : List ℕ) (new : Setting) : Type 0 where
@@ -45,4 +38,4 @@ pub record AddsProduct (k : CodeField) (f : PresValue) (a b : List (List Term)) 
 -- the refusal is the statement's, unless memory ran out
 abbrev pub IsRefusedAs : Setting → Statement → Told → Type 0
 IsRefusedAs old s told.Memory = Unit {0}
-IsRefusedAs old s (told.FieldSize p m) = Refuses old s (FieldSize p m)
+IsRefusedAs old s (told.NoField fault) = Refuses old s (NoField fault)

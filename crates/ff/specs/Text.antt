@@ -4,7 +4,7 @@ use Rattle.std.specs.List.{flat_map}
 use Rattle.std.specs.Fmt.{decimal}
 use Rattle.ff.specs.declared.script.Term.{Term}
 use Rattle.ff.specs.declared.script.Statement.{Statement}
-use Rattle.ff.specs.declared.script.Statement.TheVariants.{FieldOf, CurveOf, Mul}
+use Rattle.ff.specs.declared.script.Statement.TheVariants.{FieldOf, FieldBy, CurveOf, Mul}
 
 -- a power of the variable: nothing at exponent 0, and the variable alone at 1
 abbrev pub power_text : ℕ → ℕ → List ℕ
@@ -45,9 +45,14 @@ abbrev pub element_text : List (List Term) → List ℕ
 element_text [] = codes "[]"
 element_text (p ∷ ps) = codes "[" ++ (terms_text p ++ (entries_text ps ++ codes "]"))
 
+-- the numbers, each behind a space
+abbrev pub numbers_text : List ℕ → List ℕ
+numbers_text ns = flat_map (λ n. codes " " ++ decimal n) ns
+
 -- the line of a statement, without its line feed
 abbrev pub statement_text : Statement → List ℕ
 statement_text (FieldOf p) = codes "field " ++ decimal p
+statement_text (FieldBy p m modulus) = codes "field " ++ (decimal p ++ (codes " " ++ (decimal m ++ numbers_text modulus)))
 statement_text (CurveOf n lower) = codes "curve y^" ++ (decimal n ++ lower_text lower)
 statement_text (Mul a b) = codes "mul " ++ (element_text a ++ (codes " " ++ element_text b))
 

@@ -3,7 +3,7 @@
 ghost use Rattle.std.specs.Prelude.{◌≡◌, ◌<◌, ◌^◌, ℕ, List, length, IfOk, Err};
 ghost use Rattle.ff.specs.declared.script.Statement.{Statement};
 ghost use Rattle.ff.specs.declared.parse.fault.ScriptFault.TheVariants.{Syntax};
-ghost use Rattle.ff.specs.Form.{after, IsScript, IsFirstBadLine};
+ghost use Rattle.ff.specs.Form.{after, codes_below, IsScript, IsFirstBadLine};
 ghost use Rattle.ff.specs.Reading.{GivesScript};
 
 mod fault;
@@ -19,13 +19,26 @@ use fault::Unread;
 use line::line;
 use std::alloc::Global;
 
+/// What the codes of later lines are below: p to the m, or 1,000,000,000 where that is less.
+fn codes_below(p: u32, m: u32) -> u32
+    ensures { result ≡ codes_below p m }
+{
+    match p.checked_pow(m) {
+        Some(q) if q < 1_000_000_000 => q,
+        _ => 1_000_000_000,
+    }
+}
+
 /// The place after the statement.
 fn place_after(place: Place, statement: &Statement) -> Place
     ensures { result ≡ after place statement.now }
 {
     match (place, statement) {
-        (Place::Start, Statement::FieldOf { p }) => Place::AfterField { p: *p },
-        (Place::AfterField { p }, Statement::CurveOf { n, .. }) => Place::AfterCurve { p, n: *n },
+        (Place::Start, Statement::FieldOf { p }) => Place::AfterField { q: *p },
+        (Place::Start, Statement::FieldBy { p, m, .. }) => Place::AfterField {
+            q: codes_below(*p, *m),
+        },
+        (Place::AfterField { q }, Statement::CurveOf { n, .. }) => Place::AfterCurve { q, n: *n },
         _ => place,
     }
 }

@@ -1,17 +1,18 @@
 //! Answers a script.
 
-ghost use Rattle.std.specs.Prelude.{◌≡◌, ◌≤◌, ◌++◌, length, IfOk, OnOk, OnErr};
+ghost use Rattle.std.specs.Prelude.{◌≡◌, ◌≤◌, ◌++◌, codes, decimal, length, IfOk, OnOk, OnErr};
 ghost use Rattle.ff.specs.Commands.{Runs};
-ghost use Rattle.ff.specs.Answers.{FieldSize};
+ghost use Rattle.ff.specs.Answers.{NoField};
 ghost use Rattle.ff.specs.declared.script.Place.TheVariants.{Start};
 ghost use Rattle.ff.specs.Form.{AreIn};
-ghost use Rattle.ff.specs.Output.{IsOut, IsPart, IsOutput, IsBegun, syntax_line, echo_line, refusal_line, end_line};
+ghost use Rattle.ff.specs.Output.{IsOut, IsPart, IsOutput, IsBegun, syntax_line, echo_line, fault_line, refusal_line, end_line};
 ghost use Rattle.ff.specs.Printing.{Prints, BreaksOff, EndsAs, EndsWith};
 
 use crate::parse::{ScriptFault, read_script};
 use crate::script::Statement;
 use crate::session::{Refusal, Session, push_echo};
 use crate::text::{push_end, push_number};
+use ff_fields::fault::FieldFault;
 use ff_io::Failed;
 use ff_io::sink::{Sink, write_all};
 use ff_io::source::{ReadEnd, Source, read_all};
@@ -50,17 +51,45 @@ pub fn close<T: Sink>(out: &mut T, text: &[u8], status: Status) -> Status
     }
 }
 
+/// The line of a refused field.
+fn push_fault(out: &mut Vec<u8>, fault: FieldFault) -> Result<(), AllocError>
+    ensures { OnOk result (out.new.items ≡ out.old.items ++ fault_line fault) }
+{
+    match fault {
+        FieldFault::FieldSize(p, m) => push_pair(out, b"refused FieldSize ", p, m),
+        FieldFault::CodeRange(c) => push_code(out, b"refused CodeRange ", c),
+        FieldFault::NotMonic(c) => push_code(out, b"refused NotMonic ", c),
+        FieldFault::NotField(a, b) => push_pair(out, b"refused NotField ", a, b),
+    }
+}
+
+/// A line of a text and a number.
+fn push_code(out: &mut Vec<u8>, text: &[u8], c: u32) -> Result<(), AllocError>
+    ensures { OnOk result (out.new.items ≡ out.old.items ++ (text.now ++ (decimal c ++ codes "\n"))) }
+{
+    out.extend_from_slice(text)?;
+    push_number(out, c as u64)?;
+    out.extend_from_slice(b"\n")
+}
+
+/// A line of a text and two numbers.
+fn push_pair(out: &mut Vec<u8>, text: &[u8], a: u32, b: u32) -> Result<(), AllocError>
+    ensures { OnOk result (out.new.items ≡ out.old.items ++ (text.now ++ (decimal a ++ (codes " " ++ (decimal b ++ codes "\n"))))) }
+{
+    out.extend_from_slice(text)?;
+    push_number(out, a as u64)?;
+    out.extend_from_slice(b" ")?;
+    push_number(out, b as u64)?;
+    out.extend_from_slice(b"\n")
+}
+
 /// The echo and the refusal of a statement.
-fn refusal_text(alloc: Global, s: &Statement, p: u32, m: u32) -> Result<Vec<u8>, AllocError>
-    ensures { IfOk result (λ text. text.items ≡ echo_line s.now ++ refusal_line (FieldSize p m)) }
+fn refusal_text(alloc: Global, s: &Statement, fault: FieldFault) -> Result<Vec<u8>, AllocError>
+    ensures { IfOk result (λ text. text.items ≡ echo_line s.now ++ refusal_line (NoField fault)) }
 {
     let mut text = Vec::new(alloc);
     push_echo(&mut text, s)?;
-    text.extend_from_slice(b"refused FieldSize ")?;
-    push_number(&mut text, p as u64)?;
-    text.extend_from_slice(b" ")?;
-    push_number(&mut text, m as u64)?;
-    text.extend_from_slice(b"\n")?;
+    push_fault(&mut text, fault)?;
     Ok(text)
 }
 
@@ -87,8 +116,8 @@ pub fn run_script<T: Sink>(alloc: Global, script: &[Statement], out: &mut T) -> 
                 }
             }
             Err(Refusal::Memory) => return Status::WantOfMemory,
-            Err(Refusal::FieldSize(p, m)) => {
-                let Ok(text) = refusal_text(alloc, s, p, m) else {
+            Err(Refusal::NoField(fault)) => {
+                let Ok(text) = refusal_text(alloc, s, fault) else {
                     return Status::WantOfMemory;
                 };
                 return close(out, text.as_slice(), Status::Refused);

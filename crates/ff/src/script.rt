@@ -25,6 +25,20 @@ impl Model for TermList {
     ghost view = { λ t. t.terms.items };
 }
 
+/// The coefficients of a modulus as they are written, lowest first.
+#[derive(Debug, Drop)]
+pub struct CodeList {
+    pub codes: Vec<u32>,
+}
+
+impl Model for CodeList {
+    ghost use Rattle.std.specs.Prelude.{ℕ, List};
+
+    ghost Value = { List ℕ };
+
+    ghost view = { λ t. t.codes.items };
+}
+
 /// An element as it is written: a polynomial at 1, y, and so on.
 #[derive(Debug, Drop)]
 pub struct ElemText {
@@ -40,12 +54,12 @@ impl Model for ElemText {
     ghost view = { λ z. z.entries.items };
 }
 
-/// What stands before a line: nothing, a field of p elements, or a field and a curve of degree n.
+/// What stands before a line: nothing, a field, or a field and a curve of degree n. The codes that may follow are below q.
 #[derive(Clone, Copy, Debug, PartialEq, Eq)]
 pub enum Place {
     Start,
-    AfterField { p: u32 },
-    AfterCurve { p: u32, n: u32 },
+    AfterField { q: u32 },
+    AfterCurve { q: u32, n: u32 },
 }
 
 /// A line of a script.
@@ -53,6 +67,8 @@ pub enum Place {
 pub enum Statement {
     /// `field p`
     FieldOf { p: u32 },
+    /// `field p m c_0 .. c_m`
+    FieldBy { p: u32, m: u32, modulus: CodeList },
     /// `curve y^n + ..`, with the terms after the first
     CurveOf { n: u32, lower: TermList },
     /// `mul [..] [..]`

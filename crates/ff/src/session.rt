@@ -1,9 +1,9 @@
 //! What the statements so far have bound, and the answer to the next one.
 
 ghost use Rattle.std.specs.Prelude.{◌≡◌, ℕ, [], ◌∷◌, ◌++◌, All, length, IsTrue, IfOk, IfErr, OnOk, OnErr};
-ghost use Rattle.ff_fields.specs.Prime.{is_listed};
 ghost use Rattle.ff_algebra.specs.Values.{PresValue, IsElem, IsPresOver, function_of};
-ghost use Rattle.ff.specs.Answers.{Empty, element, IsCurveOf, Numbers, Size};
+ghost use Rattle.ff.specs.Answers.{Empty, Names, NoField, Refuses, element, IsCurveOf, Numbers, Size};
+ghost use Rattle.ff.specs.declared.script.Place.TheVariants.{Start};
 ghost use Rattle.ff.specs.Form.{IsElement, IsIn, IsTerm};
 ghost use Rattle.ff.specs.Output.{answer_line, echo_line};
 ghost use Rattle.ff.specs.Sessions.{place_of, AddsAnswer, AddsProduct, IsBlock, IsRefusedAs};
@@ -12,8 +12,11 @@ use crate::curve::{equation, infinity_number, polynomials};
 use crate::script::{ElemText, Statement};
 use crate::text::{push_number, push_polys, push_statement};
 use ff_algebra::elem::{Elem, Pres, mul};
+use ff_fields::fault::FieldFault;
 use ff_fields::field::SmallField;
+use ff_fields::fields::Field;
 use ff_fields::prime::PrimeField;
+use ff_fields::residue::ResidueField;
 use ff_poly::Poly;
 use std::alloc::{AllocError, Global};
 use std::marker::Model;
@@ -22,8 +25,8 @@ use std::marker::Model;
 #[derive(Drop)]
 enum Bound {
     Nothing,
-    Field { k: PrimeField },
-    Curve { k: PrimeField, f: Pres },
+    Field { k: Field },
+    Curve { k: Field, f: Pres },
 }
 
 /// What the statements so far have bound.
@@ -34,22 +37,31 @@ pub struct Session {
 
 impl Model for Session {
     ghost use Rattle.ff.specs.Answers.{Setting};
-    ghost use Rattle.ff.specs.Bound.{setting_of};
-    ghost use Rattle.ff.specs.Sessions.{IsSound};
+    ghost use Rattle.ff.specs.Bound.{setting_of, IsSound};
 
     ghost Value = { Setting };
 
     ghost view = { λ s. setting_of s.bound };
 
-    ghost invariant = { λ s. IsSound (setting_of s.bound) };
+    ghost invariant = { λ s. IsSound s.bound };
 }
 
 /// Why a statement isn't answered.
 #[derive(Clone, Copy, Debug, PartialEq, Eq)]
 pub enum Refusal {
-    /// There is no field of p^m elements here.
-    FieldSize(u32, u32),
+    /// The line gives no field.
+    NoField(FieldFault),
     Memory,
+}
+
+impl From<FieldFault> for Refusal {
+    ghost use Rattle.ff.specs.declared.session.Refusal.TheVariants as refusals;
+
+    ghost from_gives = { λ fault e. e ≡ refusals.NoField fault };
+
+    fn from(fault: FieldFault) -> Self {
+        Refusal::NoField(fault)
+    }
 }
 
 impl From<AllocError> for Refusal {
@@ -103,10 +115,7 @@ impl Session {
     {
         match &self.bound {
             Bound::Nothing => {
-                let Statement::FieldOf { p } = s else {
-                    unreachable!()
-                };
-                let k = field(*p)?;
+                let k = field(s)?;
                 push_size(text, &k)?;
                 self.bound = Bound::Field { k };
                 Ok(())
@@ -169,14 +178,19 @@ fn push_product<K: SmallField>(
     Ok(())
 }
 
-/// The field of p elements.
-fn field(p: u32) -> Result<PrimeField, Refusal>
-    ensures made { IfOk result (λ k. k.p ≡ p) }
-    ensures refused { IfErr result (λ r. (r ≡ Refusal.FieldSize p 1) × ¬ IsTrue (is_listed p)) }
+/// The field that the statement names.
+fn field(s: &Statement) -> Result<Field, FieldFault>
+    requires { IsIn Start s.now }
+    ensures made { IfOk result (λ k. Names s.now (⟦<Field as SmallField>⟧.field k).ops) }
+    ensures refused { IfErr result (λ fault. Refuses Empty s.now (NoField fault)) }
 {
-    match PrimeField::new(p) {
-        Ok(k) => Ok(k),
-        Err(_) => Err(Refusal::FieldSize(p, 1)),
+    match s {
+        Statement::FieldOf { p } => Ok(Field::Prime(PrimeField::new(*p)?)),
+        Statement::FieldBy { p, m, modulus } => {
+            let k = ResidueField::new(*p, *m, modulus.codes.as_slice())?;
+            Ok(Field::Residue(k))
+        }
+        _ => unreachable!(),
     }
 }
 

@@ -43,8 +43,44 @@ fn one(alloc: Global, call: u64) -> Result<Vec<u64>, AllocError> {
 #[test]
 fn scripts_and_outputs(rt: HostRuntime) -> Result<(), Fail> {
     let alloc = rt.alloc();
-    let rows: [(&[u8], Status, &[u8]); 6] = [
+    let rows: [(&[u8], Status, &[u8]); 13] = [
         (b"", Status::Done, b"end 0\n"),
+        (
+            b"field 2 2 1 0 1\n",
+            Status::Refused,
+            b"> field 2 2 1 0 1\nrefused NotField 3 3\n",
+        ),
+        (
+            b"field 2 2 1 1 0\n",
+            Status::Refused,
+            b"> field 2 2 1 1 0\nrefused NotMonic 0\n",
+        ),
+        (
+            b"field 13 5 0 0 0 0 0 1\n",
+            Status::Refused,
+            b"> field 13 5 0 0 0 0 0 1\nrefused FieldSize 13 5\n",
+        ),
+        (
+            b"field 2 16 1 0 1 1 0 1 0 0 0 0 0 0 0 0 0 0 1\n",
+            Status::Done,
+            b"> field 2 16 1 0 1 1 0 1 0 0 0 0 0 0 0 0 0 0 1\n= q 65536\nend 1\n",
+        ),
+        (
+            b"field 7 1 3 1\n",
+            Status::Done,
+            b"> field 7 1 3 1\n= q 7\nend 1\n",
+        ),
+        (
+            b"field 3 2 1 0 3\n",
+            Status::Refused,
+            b"> field 3 2 1 0 3\nrefused CodeRange 3\n",
+        ),
+        // With s^3 = s + 1, (s^2·y)^2 = s^4·y^2 = (s^2 + s)·(x + 1), since y^2 = x + 1: the code of s^2 + s is 6.
+        (
+            b"field 2 3 1 1 0 1\ncurve y^2 + x + 1\nmul [0, 4] [0, 4]\n",
+            Status::Done,
+            b"> field 2 3 1 1 0 1\n= q 8\n> curve y^2 + x + 1\n= n 2 c 1\n> mul [0, 4] [0, 4]\n= [6*x + 6, 0]\nend 3\n",
+        ),
         (
             b"field 6\n",
             Status::Refused,
@@ -76,8 +112,15 @@ fn scripts_and_outputs(rt: HostRuntime) -> Result<(), Fail> {
 #[test]
 fn first_bad_line(rt: HostRuntime) -> Result<(), Fail> {
     let alloc = rt.alloc();
-    let rows: [(&[u8], &[u8]); 12] = [
+    let rows: [(&[u8], &[u8]); 19] = [
         (b"field 7", b"refused Syntax 1\n"),
+        (b"field 2 2 1 1\n", b"refused Syntax 1\n"),
+        (b"field 2 2 1 1 1 0\n", b"refused Syntax 1\n"),
+        (b"field 2 2 1 01 1\n", b"refused Syntax 1\n"),
+        (b"field 2 02 1 1 1\n", b"refused Syntax 1\n"),
+        (b"field 2 2  1 1 1\n", b"refused Syntax 1\n"),
+        (b"field 0\n", b"refused Syntax 1\n"),
+        (b"field 2 2 1 1 1\ncurve y^2 + 4*x\n", b"refused Syntax 2\n"),
         (b"field 07\n", b"refused Syntax 1\n"),
         (b"field 7 \n", b"refused Syntax 1\n"),
         (b"field 70000\n", b"refused Syntax 1\n"),

@@ -1,7 +1,7 @@
 //! Texts, each written at the end of one buffer. After an error the buffer holds a part of the text.
 
 ghost use Rattle.std.specs.Prelude.{◌≡◌, ◌++◌, [], ◌∷◌, codes, map, OnOk, decimal};
-ghost use Rattle.ff.specs.Text.{entries_text, factors_text, lower_text, power_text, term_text, terms_text, element_text, statement_text};
+ghost use Rattle.ff.specs.Text.{entries_text, factors_text, lower_text, power_text, term_text, terms_text, element_text, numbers_text, statement_text};
 ghost use Rattle.ff.specs.Output.{end_line, polys_text, printed_term, printed_terms, poly_text};
 
 use crate::script::{Statement, Term, TermList};
@@ -94,6 +94,17 @@ fn push_entries(out: &mut Vec<u8>, entries: &[TermList]) -> Result<(), AllocErro
     Ok(())
 }
 
+/// The numbers, each behind a space.
+fn push_numbers(out: &mut Vec<u8>, numbers: &[u32]) -> Result<(), AllocError>
+    ensures { OnOk result (out.new.items ≡ out.old.items ++ numbers_text numbers.now) }
+{
+    for n in numbers {
+        out.push(b' ')?;
+        push_number(out, *n as u64)?;
+    }
+    Ok(())
+}
+
 /// The line of a statement, without its line feed.
 pub fn push_statement(out: &mut Vec<u8>, s: &Statement) -> Result<(), AllocError>
     ensures { OnOk result (out.new.items ≡ out.old.items ++ statement_text s.now) }
@@ -102,6 +113,13 @@ pub fn push_statement(out: &mut Vec<u8>, s: &Statement) -> Result<(), AllocError
         Statement::FieldOf { p } => {
             out.extend_from_slice(b"field ")?;
             push_number(out, *p as u64)
+        }
+        Statement::FieldBy { p, m, modulus } => {
+            out.extend_from_slice(b"field ")?;
+            push_number(out, *p as u64)?;
+            out.push(b' ')?;
+            push_number(out, *m as u64)?;
+            push_numbers(out, modulus.codes.as_slice())
         }
         Statement::CurveOf { n, lower } => {
             out.extend_from_slice(b"curve y^")?;

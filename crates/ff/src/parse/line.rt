@@ -1,12 +1,12 @@
 //! Reads lines.
 
 ghost use Rattle.std.specs.Prelude.{◌-◌};
-ghost use Rattle.ff.specs.Reading.{Finds, FindsUnless, with_front, polys_at, element_at, field_at, curve_at, mul_at, statement_at, line_at};
+ghost use Rattle.ff.specs.Reading.{FindsUnless, with_front, polys_at, element_at, numbers_at, modulus_at, field_at, curve_at, mul_at, statement_at, line_at};
 
 use super::fault::Unread;
-use super::number::{after, number};
+use super::number::{after, number, plain};
 use super::term::{more_terms, poly};
-use crate::script::{ElemText, Place, Statement, TermList};
+use crate::script::{CodeList, ElemText, Place, Statement, TermList};
 use std::alloc::Global;
 
 /// The polynomials, and those that follow up to n in all, with `, ` before each.
@@ -51,13 +51,54 @@ fn element(alloc: Global, bytes: &[u8], p: u32, n: u32) -> Result<(ElemText, &[u
     }
 }
 
-/// `field p`
-#[tactic(auto, unfolding(crate::specs::Reading::field_at))]
-fn field(bytes: &[u8]) -> Option<(Statement, &[u8])>
-    ensures { Finds (λ x. (x.0, x.1.now)) result (field_at bytes.now) }
+/// The numbers, with a space before each.
+fn numbers(alloc: Global, bytes: &[u8], count: u32) -> Result<(Vec<u32>, &[u8]), Unread>
+    ensures { FindsUnless (λ x. (x.0.items, x.1.now)) result (numbers_at count bytes.now) }
 {
-    let (p, rest) = number(after(bytes, b"field ")?, 2, 65537)?;
-    Some((Statement::FieldOf { p }, rest))
+    let mut numbers = Vec::new(alloc);
+    let mut rest = bytes;
+    for _ in 0..count {
+        let Some(start) = after(rest, b" ") else {
+            return Err(Unread::NotInForm);
+        };
+        let Some((n, behind)) = plain(start) else {
+            return Err(Unread::NotInForm);
+        };
+        numbers.push(n)?;
+        rest = behind;
+    }
+    Ok((numbers, rest))
+}
+
+/// `m c_0 .. c_m`
+#[tactic(auto, unfolding(crate::specs::Reading::modulus_at, crate::specs::Reading::plain_at))]
+fn modulus(alloc: Global, bytes: &[u8], p: u32) -> Result<(Statement, &[u8]), Unread>
+    ensures { FindsUnless (λ x. (x.0, x.1.now)) result (modulus_at p bytes.now) }
+{
+    let Some((m, rest)) = plain(bytes) else {
+        return Err(Unread::NotInForm);
+    };
+    let (codes, rest) = numbers(alloc, rest, m + 1)?;
+    let modulus = CodeList { codes };
+    Ok((Statement::FieldBy { p, m, modulus }, rest))
+}
+
+/// `field p`, or `field p m c_0 .. c_m`
+#[tactic(auto, unfolding(crate::specs::Reading::field_at))]
+fn field(alloc: Global, bytes: &[u8]) -> Result<(Statement, &[u8]), Unread>
+    ensures { FindsUnless (λ x. (x.0, x.1.now)) result (field_at bytes.now) }
+{
+    let Some(start) = after(bytes, b"field ") else {
+        return Err(Unread::NotInForm);
+    };
+    let Some((p, rest)) = plain(start) else {
+        return Err(Unread::NotInForm);
+    };
+    match after(rest, b" ") {
+        Some(start) => modulus(alloc, start, p),
+        None if 2 <= p && p <= 65_536 => Ok((Statement::FieldOf { p }, rest)),
+        None => Err(Unread::NotInForm),
+    }
 }
 
 /// `curve y^n + ..`
@@ -98,9 +139,9 @@ fn statement(alloc: Global, place: Place, bytes: &[u8]) -> Result<(Statement, &[
     ensures { FindsUnless (λ x. (x.0, x.1.now)) result (statement_at place bytes.now) }
 {
     match place {
-        Place::Start => field(bytes).ok_or(Unread::NotInForm),
-        Place::AfterField { p } => curve(alloc, bytes, p),
-        Place::AfterCurve { p, n } => mul(alloc, bytes, p, n),
+        Place::Start => field(alloc, bytes),
+        Place::AfterField { q } => curve(alloc, bytes, q),
+        Place::AfterCurve { q, n } => mul(alloc, bytes, q, n),
     }
 }
 

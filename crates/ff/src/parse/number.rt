@@ -1,7 +1,7 @@
 //! Reads texts and numbers.
 
 ghost use Rattle.std.specs.Prelude.{◌≡◌};
-ghost use Rattle.ff.specs.Reading.{Finds, after_text, digit_at, digits_at, number_at};
+ghost use Rattle.ff.specs.Reading.{Finds, after_text, digit_at, digits_at, number_at, plain_at};
 
 /// The bytes after the text that they begin with.
 pub(super) fn after<'a>(bytes: &'a [u8], text: &[u8]) -> Option<&'a [u8]>
@@ -49,4 +49,15 @@ pub(super) fn number(bytes: &[u8], low: u32, limit: u32) -> Option<(u32, &[u8])>
     }
     let (n, rest) = digits(bytes, limit)?;
     (low <= n).then_some((n, rest))
+}
+
+/// A number with no leading zero, 0 too, below 1,000,000,000.
+#[tactic(auto, unfolding(crate::specs::Reading::plain_at))]
+pub(super) fn plain(bytes: &[u8]) -> Option<(u32, &[u8])>
+    ensures { Finds (λ x. (x.0, x.1.now)) result (plain_at bytes.now) }
+{
+    match after(bytes, b"0") {
+        Some(rest) => Some((0, rest)),
+        None => number(bytes, 1, 1_000_000_000),
+    }
 }

@@ -1,6 +1,6 @@
-use Rattle.std.proofs.Common.{◌≡◌, ◌+◌, [], ◌++◌, drop, sym, ap₂, ◌∙◌, subst, arith}
+use Rattle.std.proofs.Common.{◌≡◌, ◌+◌, [], ◌++◌, drop, sym, ap, ◌∙◌, subst, arith}
 use Rattle.std.proofs.lemmas.List.{drop_all}
-use Rattle.ff.specs.Answers.{FieldSize}
+use Rattle.ff.specs.Answers.{NoField}
 use Rattle.ff.specs.Form.{AreIn}
 use Rattle.ff.specs.Output.{IsAnswered, echo_line, refusal_line}
 use Rattle.ff.specs.Printing.{Prints, BreaksOff}
@@ -32,15 +32,15 @@ returns-in_default-end_text g c =
     let inv = c.loop-s.invariant.printed in
     stopped g.T.Sink.taken g.T.Sink.faults g.T.Sink.free c.args.script.now c.args.out.now inv.0 c.loop-s.session (drop c.loop-s.s-index c.args.script.now) c.loop-s.out inv.1 inv.2
 
-pub returns-in-Err-FieldSize : goal.returns-in-Err-FieldSize
-returns-in-Err-FieldSize g c =
+pub returns-in-Err-NoField : goal.returns-in-Err-NoField
+returns-in-Err-NoField g c =
     let inv = c.loop-s.invariant.printed in
     let rest = rest_at c.args.script.now c.loop-s.s-index c.s-item.result (omega arith) c.s-item.is in
     refused g.T.Sink.taken g.T.Sink.faults g.T.Sink.free c.args.script.now c.args.out.now inv.0 c.loop-s.session c.s-item.result (drop (c.loop-s.s-index + 1) c.args.script.now)
     c.loop-s.out c.close.new.out (subst (IsAnswered c.args.script.now inv.0 c.loop-s.session) rest inv.1) inv.2
-    (FieldSize c.in-Err-FieldSize.p c.in-Err-FieldSize.m) c.as_slice-in-Err-FieldSize.result.now c.close.result
-    (rw c.in-Err-FieldSize.field-0-is at c.in-Err-FieldSize.ensures.refused) (c.as_slice-in-Err-FieldSize.ensures.value ∙ c.in-Ok-refusal_text.ensures
-    ∙ ap₂ (λ p m. echo_line c.s-item.result ++ refusal_line (FieldSize p m)) c.in-Err-FieldSize.p-is c.in-Err-FieldSize.m-is) c.close.ensures
+    (NoField c.in-Err-NoField.fault) c.as_slice-in-Err-NoField.result.now c.close.result
+    (rw c.in-Err-NoField.field-0-is at c.in-Err-NoField.ensures.refused) (c.as_slice-in-Err-NoField.ensures.value ∙ c.in-Ok-refusal_text.ensures
+    ∙ ap (λ f. echo_line c.s-item.result ++ refusal_line (NoField f)) c.in-Err-NoField.fault-is) c.close.ensures
 
 pub loop-s-preserved : goal.loop-s-preserved
 loop-s-preserved g c =
