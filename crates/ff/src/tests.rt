@@ -225,6 +225,25 @@ fn failing_writes(alloc: Global, step: usize) -> Result<Option<u64>, AllocError>
 }
 
 #[test]
+fn long_line(rt: HostRuntime) -> Result<(), Fail> {
+    let alloc = rt.alloc();
+    let mut script = b"field ".to_vec(alloc)?;
+    script.resize(60_000, b'7')?;
+    script.push(b'\n')?;
+    let (ended, out) = ran(
+        alloc,
+        "run",
+        script.as_slice(),
+        Vec::new(alloc),
+        Vec::new(alloc),
+        4096,
+    )?;
+    assert_eq!(rt; ended, Status::Refused);
+    assert_eq!(rt; out.taken(), b"refused Syntax 1\n".as_slice());
+    Ok(())
+}
+
+#[test]
 fn each_call_fails_in_turn(rt: HostRuntime) -> Result<(), Fail> {
     let alloc = rt.alloc();
     assert!(rt; each_read_fails(alloc, 1)?);
