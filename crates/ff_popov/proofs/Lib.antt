@@ -11,3 +11,5 @@ pub mod Spans
 pub mod Measures
 pub mod PopovBasis
 pub mod DivisionSteps
+pub mod Lowering
+pub mod Congruence
