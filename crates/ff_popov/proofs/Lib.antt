@@ -13,3 +13,4 @@ pub mod PopovBasis
 pub mod DivisionSteps
 pub mod Lowering
 pub mod Congruence
+pub mod OwnerBasis

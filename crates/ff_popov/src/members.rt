@@ -11,7 +11,7 @@ use ff_poly::Poly;
 use std::alloc::{AllocError, Global};
 
 /// A row of zeros.
-pub(crate) fn zero_row(alloc: Global, width: usize) -> Result<Vec<Poly>, AllocError>
+fn zero_row(alloc: Global, width: usize) -> Result<Vec<Poly>, AllocError>
     ensures { IfOk result (λ v. v.items ≡ replicate width []) }
 {
     let mut row = Vec::new(alloc);
