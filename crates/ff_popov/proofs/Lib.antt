@@ -14,3 +14,4 @@ pub mod DivisionSteps
 pub mod Lowering
 pub mod Congruence
 pub mod OwnerBasis
+pub mod SpikeRows

@@ -1,5 +1,5 @@
 -- Rows that are lowered by the rows whose pivots are in the columns.
-use Rattle.std.proofs.Common.{◌≡◌, ◌≢◌, ℕ, zero, suc, ◌+◌, ◌-◌, ◌^◌, ◌<◌, ◌≤◌, ◌⊎◌, inl, inr, List, [], ◌∷◌, ◌++◌, length, get_or, sym, ap, ◌∙◌, arith, subst, length-append}
+use Rattle.std.proofs.Common.{◌≡◌, ◌≢◌, ℕ, suc, ◌+◌, ◌-◌, ◌<◌, ◌≤◌, ◌⊎◌, inl, inr, List, [], ◌∷◌, ◌++◌, length, get_or, sym, ap, ◌∙◌, arith, subst, length-append}
 use Rattle.std.proofs.lemmas.Bool.{cases_lt}
 use Rattle.std.proofs.lemmas.List.{length-map, get_or_append_left, get_or-append_right}
 use Rattle.std.specs.Prelude.{All}
@@ -9,7 +9,7 @@ use Rattle.ff_fields.specs.Field.{FieldOps, CodeField}
 use Rattle.ff_poly.specs.Terms.{less_multiple}
 use Rattle.ff_poly.specs.Popov.{rows_of, entry_at, row_at, IsRow, IsPivot}
 use Rattle.ff_popov.specs.Rows.{IsRowLess, IsShortened, IsOwner, IsOwners, IsLow, owner_length}
-use Rattle.ff_popov.proofs.Entries.{any_default, read_row_of}
+use Rattle.ff_popov.proofs.Entries.{read_row_of}
 use Rattle.ff_popov.proofs.Transformations.{row_past}
 use Rattle.ff_popov.proofs.Pivots.{pivot_below}
 use Rattle.ff_popov.proofs.Lengths.{less_multiple_length}

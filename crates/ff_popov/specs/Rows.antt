@@ -100,6 +100,7 @@ pub record IsLow (rows : List (List (List ℕ))) (owners : List ℕ) (len column
 -- a row that differs from another by a member of the lattice
 pub record IsCongruent (k : CodeField) (width : ℕ) (rows : List (List (List ℕ))) (old new : List (List ℕ)) : Type 0 where
   pub row : IsRow k.ops width new
+  pub trimmed : All IsPoly old → All IsPoly new
   pub difference : InSpan (row_space k width) (read_rows k width rows) ((row_space k width).◌⊞◌ (read_row k (suc (width - 1)) old) ((row_space k width).⊟◌ (read_row k (suc (width - 1)) new)))
 
 -- the row of the Popov basis with its pivot in column i

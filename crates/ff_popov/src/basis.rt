@@ -1,9 +1,11 @@
 //! The Popov basis.
 
-ghost use Rattle.std.specs.Prelude.{◌≡◌, ◌+◌, ◌<◌, ◌≤◌, ℕ, length, All, IfOk, OnOk, MatchOption};
+ghost use Rattle.std.specs.Prelude.{◌≡◌, ◌∷◌, [], ◌+◌, ◌<◌, ◌≤◌, ℕ, length, All, IfOk, OnOk, MatchOption};
+ghost use Rattle.ff_poly.specs.Words.{poly_of};
 ghost use Rattle.ff_poly.specs.Popov.{rows_of, row_at, entry_at, IsRow, IsPivot};
 ghost use Rattle.ff_popov.specs.Rows.{IsShortened, IsOwner, IsMissing, IsOwners, IsLow, IsCongruent, IsPopovRow, owner_length};
 
+use crate::members::{minus_one, zero_row};
 use crate::rows::{pivot, quotient_term, subtract};
 use ff_fields::field::SmallField;
 use ff_poly::Poly;
@@ -106,4 +108,37 @@ fn reduce_row<K: SmallField>(
         lower_level(k, row, rows, owners, level + 1)?;
     }
     Ok(())
+}
+
+/// The constant polynomial.
+fn constant(alloc: Global, code: u32) -> Result<Poly, AllocError>
+    ensures { IfOk result (λ p. p ≡ poly_of (code ∷ [])) }
+{
+    let mut codes = Vec::new(alloc);
+    codes.push(code)?;
+    Ok(Poly::from_codes(codes))
+}
+
+/// The row of the Popov basis with its pivot in column i: the rest of -x^d modulo the lattice, and x^d, where d is the degree
+/// of the pivot there.
+fn popov_row<K: SmallField>(
+    alloc: Global,
+    k: &K,
+    rows: &[Vec<Poly>],
+    owners: &[usize],
+    i: usize,
+) -> Result<Vec<Poly>, AllocError>
+    requires i_in { i < length owners.now }
+    requires rows_in { All (IsRow (K.field k.now).ops (length owners.now)) (rows_of rows.now) }
+    requires owners { IsOwners (length owners.now) (rows_of rows.now) owners.now }
+    ensures { IfOk result (λ row. IsPopovRow (K.field k.now) (length owners.now) (rows_of rows.now) owners.now i row.items) }
+{
+    let one = constant(alloc, 1)?;
+    let minus = minus_one(alloc, k)?;
+    let degree = rows[owners[i]][i].len() - 1;
+    let mut row = zero_row(alloc, owners.len())?;
+    row[i].sub_multiple(k, 1, degree, &one)?;
+    reduce_row(k, row.as_mut_slice(), rows, owners, degree + 1)?;
+    row[i].sub_multiple(k, 1, degree, &minus)?;
+    Ok(row)
 }

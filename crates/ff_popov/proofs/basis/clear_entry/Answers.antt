@@ -1,9 +1,9 @@
-use Rattle.std.proofs.Common.{◌^◌, ◌∙◌, length, get_or, arith}
+use Rattle.std.proofs.Common.{◌∙◌, get_or, arith}
 use Rattle.ff_fields.specs.Over.{IsOver}
 use Rattle.ff_popov.proofs.basis.clear_entry.Goals as goal
 use Rattle.ff_popov.proofs.Entries.{read_default, any_default}
 use Rattle.ff_popov.proofs.Pivots.{pivot_below}
-use Rattle.ff_popov.proofs.Lowering.{shortened, shortened_fits}
+use Rattle.ff_popov.proofs.Lowering.{shortened}
 
 pub quotient_term-c-requires-clause-a_in : goal.quotient_term-c-requires-clause-a_in
 quotient_term-c-requires-clause-a_in g c =

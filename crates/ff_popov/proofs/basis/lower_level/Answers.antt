@@ -1,6 +1,6 @@
-use Rattle.std.proofs.Common.{◌≡◌, ◌-◌, ◌<◌, ◌≤◌, inl, inr, ℕ, [], length, get_or, refl, sym, ap, ◌∙◌, arith, subst}
-use Rattle.ff_poly.specs.Popov.{rows_of, row_at, entry_at, IsRow, IsPivot}
-use Rattle.ff_popov.specs.Rows.{IsShortened, IsOwners, IsLow, IsCongruent}
+use Rattle.std.proofs.Common.{◌-◌, ◌<◌, inl, inr, [], length, get_or, refl, sym, ap, ◌∙◌, arith, subst}
+use Rattle.ff_poly.specs.Popov.{rows_of, entry_at, IsRow}
+use Rattle.ff_popov.specs.Rows.{IsLow}
 use Rattle.ff_popov.proofs.basis.lower_level.Goals as goal
 use Rattle.ff_popov.proofs.basis.lower_level.Goals.{else-len-via-then-len+else-len-2, else-len-via-else-len}
 use Rattle.ff_popov.proofs.Entries.{any_default}

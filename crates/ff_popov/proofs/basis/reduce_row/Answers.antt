@@ -1,8 +1,8 @@
-use Rattle.std.proofs.Common.{◌≡◌, ◌+◌, ◌-◌, ◌<◌, length, refl, sym, ap, ◌∙◌, arith, subst}
+use Rattle.std.proofs.Common.{◌-◌, length, refl, subst}
 use Rattle.ff_poly.specs.Popov.{rows_of}
-use Rattle.ff_popov.specs.Rows.{IsLow, IsCongruent}
+use Rattle.ff_popov.specs.Rows.{IsCongruent}
 use Rattle.ff_popov.proofs.basis.reduce_row.Goals as goal
-use Rattle.ff_popov.proofs.Lowering.{low_start, low_next, low_done}
+use Rattle.ff_popov.proofs.Lowering.{low_start, low_next}
 use Rattle.ff_popov.proofs.Congruence.{congruent_refl, congruent_trans}
 
 pub loop-level-init : goal.loop-level-init
