@@ -12,6 +12,7 @@ use Rattle.ff_poly.specs.Words.{IsPoly}
 use Rattle.ff_poly.specs.Popov.{entry_at, row_at, IsRow, IsPivot, IsZeroRow, IsWeakPopov, IsPopov}
 use Rattle.popov_theory.specs.Module.{PolynomialModule, measure, pivot, row_degree, column}
 use Rattle.popov_theory.specs.Span.{InSpan, IsWithin, HaveSameSpan}
+use Rattle.ff_poly.specs.Popov as codes
 use Rattle.popov_theory.specs.Popov as theory
 use Rattle.popov_theory.specs.Popov.{Leading}
 use Rattle.popov_theory.proofs.Places.{column_shift}
@@ -21,8 +22,9 @@ use Rattle.popov_theory.proofs.Span.{within_rows, span_zero}
 use Rattle.popov_theory.proofs.PopovForm.{row_past}
 use Rattle.popov_theory.proofs.Monotone.{within_from_leading}
 use Rattle.ff_popov.specs.Reading.{read_row, row_space, read_rows}
-use Rattle.ff_popov.specs.Rows.{IsOwner, IsOwners, IsPopovRow, owner_length}
+use Rattle.ff_popov.specs.Rows.{IsOwner, IsOwners, IsPopovRow, IsPopovRows, owner_length}
 use Rattle.ff_popov.proofs.Entries.{any_default}
+use Rattle.ff_popov.proofs.Spans.{same_lattice}
 use Rattle.ff_popov.proofs.ReadRows.{past_row, over_at, read_row_at}
 use Rattle.ff_popov.proofs.Measures.{measured, space_width, zero_read}
 use Rattle.ff_popov.proofs.Pivots.{pivot_below}
@@ -240,3 +242,7 @@ module _ (k : CodeField) (w : ℕ) (rows : List (List (List ℕ))) (os : List �
     -- the rows of the Popov basis span the lattice
     pub rows_span : HaveSameSpan M rs qs
     rows_span = record { left = within_from_leading M (code_field k) qs rs owners_weak within leads; right = within }
+
+  -- the rows of the Popov basis are the Popov basis of the lattice
+  pub basis_is : (ps : List (List (List ℕ))) → 0 < w → IsPopovRows k w rows os w ps → IsPopov w ps × codes.HaveSameSpan k.ops w rows ps
+  basis_is ps positive h = (rows_popov positive ps h.size h.each, same_lattice k w rows ps all (rows_in positive ps h.size h.each) (rows_span positive ps h.size h.each))

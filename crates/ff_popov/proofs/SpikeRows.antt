@@ -1,8 +1,9 @@
 -- A row of the Popov basis: the rest of -x^d in one column modulo the lattice, and x^d.
-use Rattle.std.proofs.Common.{◌≡◌, ℕ, suc, ◌+◌, ◌-◌, ◌<◌, ◌≤◌, ◌⊎◌, inl, inr, List, [], ◌∷◌, length, get_or, set, replicate, sym, ap, ap₂, ◌∙◌, arith, subst, length-set, length-append}
+use Rattle.std.proofs.Common.{◌++◌, ◌≡◌, ℕ, suc, ◌+◌, ◌-◌, ◌<◌, ◌≤◌, ◌⊎◌, inl, inr, List, [], ◌∷◌, length, get_or, set, replicate, sym, ap, ap₂, ◌∙◌, arith, subst, length-set, length-append}
 use Rattle.std.proofs.lemmas.Bool.{cases_lt}
-use Rattle.std.proofs.lemmas.List.{length-replicate, get_or-map, get_or-append_right, get_or-set_other, get_or-set_same}
+use Rattle.std.proofs.lemmas.List.{length-replicate, get_or-map, map-append, get_or_append_left, get_or-append_right, get_or-set_other, get_or-set_same}
 use Rattle.std.proofs.lemmas.List.Elements.{All-replicate, All-set}
+use Rattle.std.specs.Global.{Vec}
 use native.Mathlib.Decide.{ℕ_discrete}
 use Rattle.ff_fields.specs.Field.{CodeField}
 use Rattle.ff_fields.specs.Code.{code_ring, code_field, read_code, read_code_below, same_code, is_zero_code}
@@ -16,7 +17,7 @@ use Rattle.ff_poly.specs.Words.{IsPoly, IsMonic, difference_of}
 use Rattle.ff_poly.specs.Value.{value}
 use Rattle.ff_poly.specs.Polynomials.{value_nil, value_one, series_read}
 use Rattle.ff_poly.specs.Terms.{term, less_multiple, value_less_multiple, IsOver_less_multiple, IsPoly_less_multiple}
-use Rattle.ff_poly.specs.Popov.{entry_at}
+use Rattle.ff_poly.specs.Popov.{rows_of, entry_at, row_at, IsRow}
 use Rattle.ff_poly.proofs.Parts.{IsMonic_from_top}
 use Rattle.popov_theory.specs.Module.{PolynomialModule}
 use Rattle.popov_theory.specs.Span.{InSpan}
@@ -24,7 +25,7 @@ use Rattle.popov_theory.proofs.Module.{v_neg_add, v_neg_neg, v_add_comm}
 use Rattle.popov_theory.proofs.Span.{span_submodule, neg_in}
 use Rattle.popov_theory.proofs.PolynomialRows.{same_entries, entry_add, entry_neg, row_module_add, row_module_neg}
 use Rattle.ff_popov.specs.Reading.{read_row, row_space, read_rows}
-use Rattle.ff_popov.specs.Rows.{IsOwners, IsCongruent, IsPopovRow, owner_length}
+use Rattle.ff_popov.specs.Rows.{IsOwners, IsCongruent, IsPopovRow, IsPopovRows, owner_length}
 use Rattle.ff_popov.proofs.Entries.{any_default}
 use Rattle.ff_popov.proofs.ReadRows.{entry_read, over_at}
 use Rattle.ff_popov.proofs.Lengths.{less_multiple_length, trim_length}
@@ -172,3 +173,22 @@ spike_is k w i d items v x y one less items_is x_is y_is one_is v_is =
 
 pub spike_length : (w i : ℕ) (v : List (List ℕ)) (y : List ℕ) → v ≡ set (replicate w []) i y → length v ≡ w
 spike_length w i v y is = ap length is ∙ length-set (replicate w []) i y ∙ length-replicate w []
+
+-- a row more
+pub popov_rows_more : (k : CodeField) (w : ℕ) (rows : List (List (List ℕ))) (os : List ℕ) (n : ℕ) (basis : List (Vec (List ℕ))) (v : Vec (List ℕ)) → IsPopovRows k w rows os n (rows_of basis) → IsPopovRow k w rows os n v.items → IsPopovRows k w rows os (n + 1) (rows_of (basis ++ v ∷ []))
+popov_rows_more k w rows os n basis v h here = record {
+  size = ap length is ∙ length-append (rows_of basis) (v.items ∷ []) ∙ ap (λ m. m + 1) h.size;
+  each = λ i less. subst (λ b. IsPopovRow k w rows os i (row_at b i)) (sym is) (at i less (cases_lt i n));
+}
+  where
+    is : rows_of (basis ++ v ∷ []) ≡ rows_of basis ++ v.items ∷ []
+    is = map-append (λ u. u.items) basis (v ∷ [])
+
+    none : n - n ≡ 0
+    none = omega arith
+
+    at : (i : ℕ) → i < n + 1 → (i < n) ⊎ (n ≤ i) → IsPopovRow k w rows os i (row_at (rows_of basis ++ v.items ∷ []) i)
+    at i less (inl lower) = subst (IsPopovRow k w rows os i) (sym (get_or_append_left (rows_of basis) (v.items ∷ []) [] i (omega (arith, lower, h.size)))) (h.each i lower)
+    at i less (inr more) =
+        subst (λ l. IsPopovRow k w rows os l (row_at (rows_of basis ++ v.items ∷ []) l)) (omega (arith, less, more))
+        (subst (IsPopovRow k w rows os n) (sym (get_or-append_right (rows_of basis) (v.items ∷ []) n n [] h.size (omega arith) ∙ ap (λ m. get_or (v.items ∷ []) m []) none)) here)

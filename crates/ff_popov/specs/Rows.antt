@@ -111,3 +111,8 @@ pub record IsPopovRow (k : CodeField) (width : ℕ) (rows : List (List (List ℕ
   pub size : length (entry_at row i) ≡ owner_length rows owners i
   pub monic : IsMonic (entry_at row i)
   pub smaller : (j : ℕ) → j < width → ¬ (j ≡ i) → length (entry_at row j) < owner_length rows owners j
+
+-- the rows of the Popov basis for the columns below n
+pub record IsPopovRows (k : CodeField) (width : ℕ) (rows : List (List (List ℕ))) (owners : List ℕ) (n : ℕ) (basis : List (List (List ℕ))) : Type 0 where
+  pub size : length basis ≡ n
+  pub each : (i : ℕ) → i < n → IsPopovRow k width rows owners i (row_at basis i)

@@ -3,7 +3,7 @@
 ghost use Rattle.std.specs.Prelude.{◌≡◌, ◌∷◌, [], ◌+◌, ◌<◌, ◌≤◌, ℕ, length, All, IfOk, OnOk, MatchOption};
 ghost use Rattle.ff_poly.specs.Words.{poly_of};
 ghost use Rattle.ff_poly.specs.Popov.{rows_of, row_at, entry_at, IsRow, IsPivot};
-ghost use Rattle.ff_popov.specs.Rows.{IsShortened, IsOwner, IsMissing, IsOwners, IsLow, IsCongruent, IsPopovRow, owner_length};
+ghost use Rattle.ff_popov.specs.Rows.{IsShortened, IsOwner, IsMissing, IsOwners, IsLow, IsCongruent, IsPopovRow, IsPopovRows, owner_length};
 
 use crate::members::{minus_one, zero_row};
 use crate::rows::{pivot, quotient_term, subtract};
@@ -141,4 +141,22 @@ fn popov_row<K: SmallField>(
     reduce_row(k, row.as_mut_slice(), rows, owners, degree + 1)?;
     row[i].sub_multiple(k, 1, degree, &minus)?;
     Ok(row)
+}
+
+/// The rows of the Popov basis, one for each column.
+fn popov_rows<K: SmallField>(
+    alloc: Global,
+    k: &K,
+    rows: &[Vec<Poly>],
+    owners: &[usize],
+) -> Result<Vec<Vec<Poly>>, AllocError>
+    requires rows_in { All (IsRow (K.field k.now).ops (length owners.now)) (rows_of rows.now) }
+    requires owners { IsOwners (length owners.now) (rows_of rows.now) owners.now }
+    ensures { IfOk result (λ basis. IsPopovRows (K.field k.now) (length owners.now) (rows_of rows.now) owners.now (length owners.now) (rows_of basis.items)) }
+{
+    let mut basis = Vec::new(alloc);
+    for i in 0..owners.len() {
+        basis.push(popov_row(alloc, k, rows, owners, i)?)?;
+    }
+    Ok(basis)
 }
