@@ -53,11 +53,14 @@ zero_or_pivot_of (a ∷ row) = go (zero_or_pivot_of row)
       where
         at : (length (entry_at row j) < length a) ⊎ (length a ≤ length (entry_at row j)) → IsZeroRow (a ∷ row) ⊎ ((i : ℕ) × IsPivot (a ∷ row) i)
         at (inl less) = inr (0, first (omega (arith, less)) (λ i. omega (arith, p.greatest i, less)))
-        at (inr le) = inr (suc j, record {
-          some = p.some;
-          greatest = elim [ zero ↦ le | suc i ↦ p.greatest i ];
-          rightmost = elim [ zero ↦ λ after. absurd (omega (arith, after)) | suc i ↦ λ after. p.rightmost i (omega (arith, after)) ];
-        })
+        at (inr le) = inr (
+          suc j,
+          record {
+            some = p.some;
+            greatest = elim [ zero ↦ le | suc i ↦ p.greatest i ];
+            rightmost = elim [ zero ↦ λ after. absurd (omega (arith, after)) | suc i ↦ λ after. p.rightmost i (omega (arith, after)) ];
+          },
+        )
 
 module _ (k : CodeField) (w : ℕ) (rows : List (List (List ℕ))) (os : List ℕ) (all : All (IsRow k.ops w) rows) (weak : IsWeakPopov rows) (owners : IsOwners w rows os) where
   abbrev M : PolynomialModule (code_ring k) (Row (Pol (code_ring k)) (suc (w - 1)))

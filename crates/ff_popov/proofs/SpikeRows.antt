@@ -17,7 +17,7 @@ use Rattle.ff_poly.specs.Words.{IsPoly, IsMonic, difference_of}
 use Rattle.ff_poly.specs.Value.{value}
 use Rattle.ff_poly.specs.Polynomials.{value_nil, value_one, series_read}
 use Rattle.ff_poly.specs.Terms.{term, less_multiple, value_less_multiple, IsOver_less_multiple, IsPoly_less_multiple}
-use Rattle.ff_poly.specs.Popov.{rows_of, entry_at, row_at, IsRow}
+use Rattle.ff_poly.specs.Popov.{rows_of, entry_at, row_at}
 use Rattle.ff_poly.proofs.Parts.{IsMonic_from_top}
 use Rattle.popov_theory.specs.Module.{PolynomialModule}
 use Rattle.popov_theory.specs.Span.{InSpan}

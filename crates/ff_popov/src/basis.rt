@@ -2,7 +2,7 @@
 
 ghost use Rattle.std.specs.Prelude.{◌≡◌, ◌∷◌, [], ◌+◌, ◌<◌, ◌≤◌, ℕ, length, All, IfOk, OnOk, MatchOption};
 ghost use Rattle.ff_poly.specs.Words.{poly_of};
-ghost use Rattle.ff_poly.specs.Popov.{rows_of, row_at, entry_at, IsRow, IsPivot};
+ghost use Rattle.ff_poly.specs.Popov.{rows_of, row_at, entry_at, IsRow, IsPivot, IsWeakPopov, IsPopov, HaveSameSpan};
 ghost use Rattle.ff_popov.specs.Rows.{IsShortened, IsOwner, IsMissing, IsOwners, IsLow, IsCongruent, IsPopovRow, IsPopovRows, owner_length};
 
 use crate::members::{minus_one, zero_row};
@@ -26,11 +26,7 @@ fn owner(rows: &[Vec<Poly>], column: usize) -> Option<usize>
 }
 
 /// For each column the row with its pivot there; None where a column has none.
-fn owners(
-    alloc: Global,
-    rows: &[Vec<Poly>],
-    width: usize,
-) -> Result<Option<Vec<usize>>, AllocError>
+fn owners(alloc: Global, rows: &[Vec<Poly>], width: usize) -> Result<Option<Vec<usize>>, AllocError>
     ensures { IfOk result (λ found. MatchOption found ((j : ℕ) × (j < width) × IsMissing (rows_of rows.now) j) (λ v. IsOwners width (rows_of rows.now) v.items)) }
 {
     let mut found = Vec::new(alloc);
@@ -159,4 +155,25 @@ fn popov_rows<K: SmallField>(
         basis.push(popov_row(alloc, k, rows, owners, i)?)?;
     }
     Ok(basis)
+}
+
+/// The Popov basis of rows in weak Popov form, of a width above 0; None where a column has no pivot.
+fn basis_of<K: SmallField>(
+    alloc: Global,
+    k: &K,
+    rows: &[Vec<Poly>],
+    width: usize,
+) -> Result<Option<Vec<Vec<Poly>>>, AllocError>
+    requires positive { 0 < width }
+    requires rows_in { All (IsRow (K.field k.now).ops width) (rows_of rows.now) }
+    requires weak { IsWeakPopov (rows_of rows.now) }
+    ensures { IfOk result (λ found. MatchOption found ((j : ℕ) × (j < width) × IsMissing (rows_of rows.now) j) (λ basis. IsPopov width (rows_of basis.items) × HaveSameSpan (K.field k.now).ops width (rows_of rows.now) (rows_of basis.items))) }
+{
+    match owners(alloc, rows, width)? {
+        None => Ok(None),
+        Some(places) => {
+            let basis = popov_rows(alloc, k, rows, &places)?;
+            Ok(Some(basis))
+        }
+    }
 }
