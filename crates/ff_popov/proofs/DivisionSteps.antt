@@ -44,7 +44,7 @@ pub record IsRest (k : CodeField) (w : ℕ) (basis : List (List (List ℕ))) (v 
   pub whole : read_row k (suc (w - 1)) v ≡ (row_space k w).◌⊞◌ (combine (row_space k w) (λ i. value k (get_or cs i [])) (read_rows k w basis)) (read_row k (suc (w - 1)) rest)
   pub trimmed : All IsPoly rest → All IsPoly v
 
-zeros_at : (n i : ℕ) → get_or (replicate {A = List ℕ} n []) i [] ≡ []
+pub zeros_at : (n i : ℕ) → get_or (replicate {A = List ℕ} n []) i [] ≡ []
 zeros_at zero i = refl
 zeros_at (suc n) zero = refl
 zeros_at (suc n) (suc i) = zeros_at n i
@@ -73,7 +73,7 @@ module _ (k : CodeField) where
   minus : List ℕ
   minus = difference_of k.ops [] (1 ∷ [])
 
-  one_over : IsOver k.ops (1 ∷ [])
+  pub one_over : IsOver k.ops (1 ∷ [])
   one_over = IsOver_cons k.laws.one_below IsOver_nil
 
   pub minus_over : IsOver k.ops (difference_of k.ops [] (1 ∷ []))
@@ -85,7 +85,7 @@ module _ (k : CodeField) where
       ∙ ap₂ (λ x y. S.◌⊕◌ x (S.⊖◌ y)) (value_nil k) (value_one k) ∙ zero_add S.ring (S.⊖◌ S.𝟙)
 
   -- a term is added where its multiple of -1 is taken away
-  term_added : (a : List ℕ) (c s : ℕ) → IsOver k.ops a → c < k.size → value k (less_multiple k.ops a c s (difference_of k.ops [] (1 ∷ []))) ≡ S.◌⊕◌ (value k a) (value k (term c s))
+  pub term_added : (a : List ℕ) (c s : ℕ) → IsOver k.ops a → c < k.size → value k (less_multiple k.ops a c s (difference_of k.ops [] (1 ∷ []))) ≡ S.◌⊕◌ (value k a) (value k (term c s))
   term_added a c s a_in c_in =
       value_less_multiple k a c s (difference_of k.ops [] (1 ∷ [])) a_in c_in minus_over
       ∙ ap (S.◌⊕◌ (value k a))

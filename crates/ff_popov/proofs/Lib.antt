@@ -11,3 +11,7 @@ pub mod Spans
 pub mod Measures
 pub mod PopovBasis
 pub mod DivisionSteps
+pub mod Lowering
+pub mod Congruence
+pub mod OwnerBasis
+pub mod SpikeRows

@@ -45,7 +45,7 @@ zero_or_pivot row trimmed = go (search_pivot (length row))
         at (no some) = inr (column, so_far_pivot row (length row) column longest so_far (omega arith) some)
 
 module _ (k : CodeField) where
-  value_short : (a : List ℕ) → length (value k a).0 ≤ length a
+  pub value_short : (a : List ℕ) → length (value k a).0 ≤ length a
   value_short a = omega (arith, trim_length (code_ring k).is_zero (read k a), length-map a (read_code k))
 
   value_top : (a : List ℕ) → IsOver k.ops a → IsPoly a → 0 < length a → coeff_of (code_ring k).ops (value k a).0 (length a - 1) ≢ (code_ring k).𝟘

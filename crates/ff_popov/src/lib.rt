@@ -1,6 +1,7 @@
 //! Weak Popov and Popov form of rows of polynomials over a small field, and coordinates in a Popov basis.
 #![tactic(auto)]
 
+pub mod basis;
 pub mod members;
 mod rows;
 pub mod steps;

@@ -11,7 +11,7 @@ use ff_poly::Poly;
 use std::alloc::{AllocError, Global};
 
 /// A row of zeros.
-fn zero_row(alloc: Global, width: usize) -> Result<Vec<Poly>, AllocError>
+pub(crate) fn zero_row(alloc: Global, width: usize) -> Result<Vec<Poly>, AllocError>
     ensures { IfOk result (λ v. v.items ≡ replicate width []) }
 {
     let mut row = Vec::new(alloc);
@@ -22,7 +22,7 @@ fn zero_row(alloc: Global, width: usize) -> Result<Vec<Poly>, AllocError>
 }
 
 /// The constant -1.
-fn minus_one<K: SmallField>(alloc: Global, k: &K) -> Result<Poly, AllocError>
+pub(crate) fn minus_one<K: SmallField>(alloc: Global, k: &K) -> Result<Poly, AllocError>
     ensures { IfOk result (λ p. p ≡ difference_of (K.field k.now).ops [] (1 ∷ [])) }
 {
     let mut codes = Vec::new(alloc);
