@@ -15,3 +15,4 @@ pub mod Lowering
 pub mod Congruence
 pub mod OwnerBasis
 pub mod SpikeRows
+pub mod FullRank

@@ -247,5 +247,5 @@ module _ (k : CodeField) (w : ℕ) (rows : List (List (List ℕ))) (os : List �
     rows_span = record { left = within_from_leading M (code_field k) qs rs owners_weak within leads; right = within }
 
   -- the rows of the Popov basis are the Popov basis of the lattice
-  pub basis_is : (ps : List (List (List ℕ))) → 0 < w → IsPopovRows k w rows os w ps → IsPopov w ps × codes.HaveSameSpan k.ops w rows ps
-  basis_is ps positive h = (rows_popov positive ps h.size h.each, same_lattice k w rows ps all (rows_in positive ps h.size h.each) (rows_span positive ps h.size h.each))
+  pub basis_is : (ps : List (List (List ℕ))) → 0 < w → IsPopovRows k w rows os w ps → IsPopov w ps × All (IsRow k.ops w) ps × codes.HaveSameSpan k.ops w rows ps
+  basis_is ps positive h = (rows_popov positive ps h.size h.each, rows_in positive ps h.size h.each, same_lattice k w rows ps all (rows_in positive ps h.size h.each) (rows_span positive ps h.size h.each))

@@ -75,7 +75,8 @@ module _ (k : CodeField) where
     pub space_multiple : (c : List ℕ) (v : List (List ℕ)) → IsOver k.ops c → All (IsOver k.ops) v → R (multiple_of_row k.ops c v) ≡ M.◌·◌ (value k c) (R v)
     space_multiple c v c_in v_in = read_multiple k (suc (w - 1)) c v c_in v_in ∙ sym (row_module_scale (code_ring k) (w - 1) (value k c) (R v))
 
-    combination_row : (cs : List (List ℕ)) (rows : List (List (List ℕ))) → All (IsOver k.ops) cs → All (IsRow k.ops w) rows → IsRow k.ops w (combination k.ops w cs rows)
+    -- a combination is a row of the width
+    pub combination_row : (cs : List (List ℕ)) (rows : List (List (List ℕ))) → All (IsOver k.ops) cs → All (IsRow k.ops w) rows → IsRow k.ops w (combination k.ops w cs rows)
     combination_row [] rows cs_in all = record { size = length-replicate w []; over = All-replicate (IsOver k.ops) w [] IsOver_nil }
     combination_row (c ∷ cs) [] cs_in all = record { size = length-replicate w []; over = All-replicate (IsOver k.ops) w [] IsOver_nil }
     combination_row (c ∷ cs) (r ∷ rows) cs_in all =

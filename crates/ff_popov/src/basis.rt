@@ -2,14 +2,18 @@
 
 ghost use Rattle.std.specs.Prelude.{◌≡◌, ◌∷◌, [], ◌+◌, ◌<◌, ◌≤◌, ℕ, length, All, IfOk, OnOk, MatchOption};
 ghost use Rattle.ff_poly.specs.Words.{poly_of};
-ghost use Rattle.ff_poly.specs.Popov.{rows_of, row_at, entry_at, IsRow, IsPivot, IsWeakPopov, IsPopov, HaveSameSpan};
+ghost use Rattle.ff_poly.specs.Popov.{rows_of, row_at, entry_at, width_of, IsRow, IsPivot, IsWeakPopov, IsPopov, HaveSameSpan, HasFullRank};
 ghost use Rattle.ff_popov.specs.Rows.{IsShortened, IsOwner, IsMissing, IsOwners, IsLow, IsCongruent, IsPopovRow, IsPopovRows, owner_length};
 
 use crate::members::{minus_one, zero_row};
 use crate::rows::{pivot, quotient_term, subtract};
+use crate::steps::Steps;
+use crate::weak::weak_popov;
 use ff_fields::field::SmallField;
 use ff_poly::Poly;
 use std::alloc::{AllocError, Global};
+use std::marker::Brand;
+use std::sync::ledger::{Blank, Ledger};
 
 /// The first row with its pivot in the column. No memory.
 fn owner(rows: &[Vec<Poly>], column: usize) -> Option<usize>
@@ -167,7 +171,7 @@ fn basis_of<K: SmallField>(
     requires positive { 0 < width }
     requires rows_in { All (IsRow (K.field k.now).ops width) (rows_of rows.now) }
     requires weak { IsWeakPopov (rows_of rows.now) }
-    ensures { IfOk result (λ found. MatchOption found ((j : ℕ) × (j < width) × IsMissing (rows_of rows.now) j) (λ basis. IsPopov width (rows_of basis.items) × HaveSameSpan (K.field k.now).ops width (rows_of rows.now) (rows_of basis.items))) }
+    ensures { IfOk result (λ found. MatchOption found ((j : ℕ) × (j < width) × IsMissing (rows_of rows.now) j) (λ basis. IsPopov width (rows_of basis.items) × All (IsRow (K.field k.now).ops width) (rows_of basis.items) × HaveSameSpan (K.field k.now).ops width (rows_of rows.now) (rows_of basis.items))) }
 {
     match owners(alloc, rows, width)? {
         None => Ok(None),
@@ -176,4 +180,46 @@ fn basis_of<K: SmallField>(
             Ok(Some(basis))
         }
     }
+}
+
+/// Weak Popov form, with a counter of its own.
+fn reduce_rows<K: SmallField, L: Ledger>(
+    alloc: Global,
+    k: &K,
+    blank: Blank,
+    rows: &mut Vec<Vec<Poly>>,
+) -> Result<(), AllocError>
+    requires name { blank.name ≡ L.name }
+    requires parts { blank.parts ≡ L.parts }
+    requires one { blank.parts ≡ 1 }
+    requires rows_in { All (IsRow (K.field k.now).ops (width_of (rows_of rows.old.items))) (rows_of rows.old.items) }
+    ensures weak { OnOk result (IsWeakPopov (rows_of rows.new.items)) }
+    ensures span { HaveSameSpan (K.field k.now).ops (width_of (rows_of rows.old.items)) (rows_of rows.old.items) (rows_of rows.new.items) }
+    ensures rows_in { All (IsRow (K.field k.now).ops (width_of (rows_of rows.old.items))) (rows_of rows.new.items) }
+{
+    let mut steps = Steps::<L>::new(blank);
+    weak_popov(alloc, k, rows, &mut steps)
+}
+
+/// The Popov basis of the lattice of the rows; None exactly where their rank is below the width. Of width 0 it has no rows.
+/// Takes as many simple transformations as `weak_popov`, and then one division of -x^d for each column.
+pub fn popov<K: SmallField>(
+    alloc: Global,
+    k: &K,
+    rows: Vec<Vec<Poly>>,
+    width: usize,
+) -> Result<Option<Vec<Vec<Poly>>>, AllocError>
+    requires { All (IsRow (K.field k.now).ops width) (rows_of rows.items) }
+    ensures { IfOk result (λ found. MatchOption found (¬ HasFullRank (K.field k.now).ops width (rows_of rows.items)) (λ basis. IsPopov width (rows_of basis.items) × All (IsRow (K.field k.now).ops width) (rows_of basis.items) × HaveSameSpan (K.field k.now).ops width (rows_of rows.items) (rows_of basis.items))) }
+{
+    if width == 0 {
+        return Ok(Some(Vec::new(alloc)));
+    }
+    if rows.is_empty() {
+        return Ok(None);
+    }
+    let mut reduced = rows;
+    reduce_rows::<K, Brand>(alloc, k, Blank::new(1), &mut reduced)?;
+    let found = basis_of(alloc, k, &reduced, width)?;
+    Ok(found)
 }

@@ -7,6 +7,7 @@ mod rows;
 pub mod steps;
 pub mod weak;
 
+pub use basis::popov;
 pub use members::coordinates;
 pub use steps::Steps;
 pub use weak::weak_popov;
