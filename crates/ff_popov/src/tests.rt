@@ -2,9 +2,9 @@
 
 ghost use Rattle.std.specs.Prelude.{◌≡◌, ◌<◌, All, IfOk};
 ghost use Rattle.ff_fields.specs.Over.{IsOver};
-ghost use Rattle.ff_poly.specs.Popov.{rows_of, width_of, IsRow};
+ghost use Rattle.ff_poly.specs.Popov.{rows_of, width_of, IsRow, IsPopov};
 
-use crate::{Steps, weak_popov};
+use crate::{Steps, coordinates, popov, weak_popov};
 use ff_fields::field::SmallField;
 use ff_fields::prime::PrimeField;
 use ff_poly::Poly;
@@ -64,7 +64,8 @@ fn matrix<K: SmallField>(
 ) -> Result<Vec<Vec<Poly>>, AllocError>
     requires first_in { IsRow (K.field k.now).ops 2 first.items }
     requires second_in { IsRow (K.field k.now).ops 2 second.items }
-    ensures { IfOk result (λ rows. All (IsRow (K.field k.now).ops (width_of (rows_of rows.items))) (rows_of rows.items)) }
+    ensures rows_in { IfOk result (λ rows. All (IsRow (K.field k.now).ops (width_of (rows_of rows.items))) (rows_of rows.items)) }
+    ensures pairs_in { IfOk result (λ rows. All (IsRow (K.field k.now).ops 2) (rows_of rows.items)) }
 {
     let mut rows = Vec::new(alloc);
     rows.push(first)?;
@@ -89,9 +90,29 @@ fn steps_taken<K: SmallField, L: Ledger>(
     Ok(steps.taken())
 }
 
+// Coordinates in a basis of two rows.
+fn coordinates_of<K: SmallField>(
+    alloc: Global,
+    k: &K,
+    basis: &Vec<Vec<Poly>>,
+    v: &Vec<Poly>,
+) -> Result<Option<Vec<Poly>>, AllocError>
+    requires basis_in { All (IsRow (K.field k.now).ops 2) (rows_of basis.now.items) }
+    requires popov { IsPopov 2 (rows_of basis.now.items) }
+    requires v_in { IsRow (K.field k.now).ops 2 v.now.items }
+{
+    let found = coordinates(alloc, k, basis.as_slice(), v.as_slice())?;
+    Ok(found)
+}
+
 // The code at x to the power n in row i, column j.
 fn code_at(rows: &[Vec<Poly>], i: usize, j: usize, n: usize) -> Option<u32> {
     Some(rows.get(i)?.get(j)?.coeff(n))
+}
+
+// The code at x to the power n in entry i.
+fn coeff_in(row: &[Poly], i: usize, n: usize) -> Option<u32> {
+    Some(row.get(i)?.coeff(n))
 }
 
 fn degree_at(rows: &[Vec<Poly>], i: usize, j: usize) -> Option<usize> {
@@ -165,5 +186,87 @@ fn empty_rows(rt: HostRuntime) -> Result<(), Fail> {
         steps_taken::<PrimeField, Brand>(alloc, &k, Blank::new(1), &mut none)?,
         0
     );
+    Ok(())
+}
+
+// (x^2 + 1, 0) and (6x + 4, 1) have the Popov basis (x + 3, 6), (3, x + 4), in which (x^2 + 1, 0) has the coordinates
+// (x + 4, 1), and (1, 0) none.
+#[test]
+fn popov_basis(rt: HostRuntime) -> Result<(), Fail> {
+    let alloc = rt.alloc();
+    let k = PrimeField::new(7)?;
+    let first = pair(
+        alloc,
+        &k,
+        sample(alloc, &k, 1, 0, 1)?,
+        sample(alloc, &k, 0, 0, 0)?,
+    )?;
+    let second = pair(
+        alloc,
+        &k,
+        sample(alloc, &k, 4, 6, 0)?,
+        sample(alloc, &k, 1, 0, 0)?,
+    )?;
+    let rows = matrix(alloc, &k, first, second)?;
+    let Some(basis) = popov(alloc, &k, rows, 2)? else {
+        return Err(Fail::new("no basis"));
+    };
+    assert_eq!(rt; degree_at(&basis, 0, 0), Some(1));
+    assert_eq!(rt; code_at(&basis, 0, 0, 0), Some(3));
+    assert_eq!(rt; code_at(&basis, 0, 1, 0), Some(6));
+    assert_eq!(rt; code_at(&basis, 1, 0, 0), Some(3));
+    assert_eq!(rt; degree_at(&basis, 1, 1), Some(1));
+    assert_eq!(rt; code_at(&basis, 1, 1, 0), Some(4));
+    let member = pair(
+        alloc,
+        &k,
+        sample(alloc, &k, 1, 0, 1)?,
+        sample(alloc, &k, 0, 0, 0)?,
+    )?;
+    let Some(found) = coordinates_of(alloc, &k, &basis, &member)? else {
+        return Err(Fail::new("no coordinates"));
+    };
+    assert_eq!(rt; coeff_in(&found, 0, 0), Some(4));
+    assert_eq!(rt; coeff_in(&found, 0, 1), Some(1));
+    assert_eq!(rt; coeff_in(&found, 1, 0), Some(1));
+    let other = pair(
+        alloc,
+        &k,
+        sample(alloc, &k, 1, 0, 0)?,
+        sample(alloc, &k, 0, 0, 0)?,
+    )?;
+    assert!(rt; coordinates_of(alloc, &k, &basis, &other)?.is_none());
+    Ok(())
+}
+
+// (x, 0) and (1, 0) have rank 1.
+#[test]
+fn lower_rank(rt: HostRuntime) -> Result<(), Fail> {
+    let alloc = rt.alloc();
+    let k = PrimeField::new(7)?;
+    let first = pair(
+        alloc,
+        &k,
+        sample(alloc, &k, 0, 1, 0)?,
+        sample(alloc, &k, 0, 0, 0)?,
+    )?;
+    let second = pair(
+        alloc,
+        &k,
+        sample(alloc, &k, 1, 0, 0)?,
+        sample(alloc, &k, 0, 0, 0)?,
+    )?;
+    let rows = matrix(alloc, &k, first, second)?;
+    assert!(rt; popov(alloc, &k, rows, 2)?.is_none());
+    Ok(())
+}
+
+// No rows have full rank of width 0, and not of width 1.
+#[test]
+fn no_columns(rt: HostRuntime) -> Result<(), Fail> {
+    let alloc = rt.alloc();
+    let k = PrimeField::new(7)?;
+    assert!(rt; popov(alloc, &k, Vec::new(alloc), 0)?.is_some());
+    assert!(rt; popov(alloc, &k, Vec::new(alloc), 1)?.is_none());
     Ok(())
 }
