@@ -3,7 +3,7 @@ use Rattle.std.proofs.Common.{◌≡◌, ◌≢◌, ℕ, ◌<◌, ◌≤◌, Lis
 use Rattle.std.proofs.lemmas.Grind.{common_steps}
 use Rattle.ff_fields.specs.Field.{CodeField}
 use Rattle.ff_poly.specs.Words.{poly_of, product_of, multiple_of}
-use Rattle.ff_algebra.specs.Values.{ElemValue, PresValue, IsElem, function_of, functions}
+use Rattle.ff_algebra.specs.Values.{ElemValue, PresValue, IsElem, IsMonicElem, function_of, functions}
 use Rattle.ff.specs.declared.script.Term.{Term}
 use Rattle.ff.specs.Answers.{Element, IsInLowestTerms, element}
 use Rattle.ff.specs.Output.{answer_line, polys_text, over_text}
@@ -44,12 +44,13 @@ module _ (k : CodeField) where
   pub adds_whole : (f : PresValue) (a b : List (List Term)) (x y z : ElemValue) (before now : List ℕ)
       → function_of k f x ≡ function_of k f (element k.ops a) → function_of k f y ≡ function_of k f (element k.ops b)
       → function_of k f z ≡ (functions k f).◌⊗◌ (function_of k f x) (function_of k f y)
-      → IsElem k.ops f.n z → z.den ≡ 1 ∷ [] → now ≡ before ++ (codes "= " ++ (polys_text z.num ++ codes "\n"))
+      → IsElem k.ops f.n z → IsMonicElem z → z.den ≡ 1 ∷ [] → now ≡ before ++ (codes "= " ++ (polys_text z.num ++ codes "\n"))
       → AddsProduct k f a b before now
-  adds_whole f a b x y z before now x_is y_is product in_range whole added = record {
+  adds_whole f a b x y z before now x_is y_is product in_range trimmed whole added = record {
     product = z;
     is_product = record {
       element = in_range;
+      trimmed = trimmed;
       product = product ∙ ap₂ (functions k f).◌⊗◌ x_is y_is;
       lowest = whole_is_lowest f.n z whole;
     };

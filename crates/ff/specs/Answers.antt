@@ -7,7 +7,7 @@ use Rattle.ff_fields.specs.Prime.{is_listed, prime_of, prime_field}
 use Rattle.ff_fields.specs.Residue.{residue_of}
 use Rattle.ff_fields.specs.Modulus.{IsFieldModulus, IsFaultOf, modulus_field}
 use Rattle.ff_poly.specs.Words.{IsMonic, IsPoly, sum_of, shifted}
-use Rattle.ff_algebra.specs.Values.{ElemValue, PresValue, IsElem, IsSame, function_of, functions}
+use Rattle.ff_algebra.specs.Values.{ElemValue, PresValue, IsElem, IsMonicElem, IsSame, function_of, functions}
 use Rattle.ff_algebra.specs.Infinity.{IsInfinityNumber}
 use Rattle.ff.specs.declared.script.Term.{Term}
 use Rattle.ff.specs.declared.script.Statement.{Statement}
@@ -59,6 +59,7 @@ pub record IsCurveOf (f : PresValue) (n c : ℕ) : Type 0 where
 -- z is the product of a and b in k(x)[y]/(f), in lowest terms
 pub record IsProduct (k : CodeField) (f : PresValue) (a b z : ElemValue) : Type 0 where
   pub element : IsElem k.ops f.n z
+  pub trimmed : IsMonicElem z
   pub product : function_of k f z ≡ (functions k f).◌⊗◌ (function_of k f a) (function_of k f b)
   pub lowest : IsInLowestTerms k.ops f.n z
 

@@ -15,4 +15,4 @@ returns g c =
     ∙ append_assoc (c.args.text.now.items ++ codes "= ") (polys_text c.in_ok-product.product.num) (codes "\n")
     ∙ append_assoc c.args.text.now.items (codes "= ") (polys_text c.in_ok-product.product.num ++ codes "\n") in
     adds_whole k c.args.f.now c.args.a.now c.args.b.now c.in_ok-left.left c.in_ok-right.right c.in_ok-product.product _ _
-    (c.in_ok-left.ensures.function c.args.f.now) (c.in_ok-right.ensures.function c.args.f.now) c.in_ok-product.ensures.product c.in_ok-product.ensures.in_range whole printed
+    (c.in_ok-left.ensures.function c.args.f.now) (c.in_ok-right.ensures.function c.args.f.now) c.in_ok-product.ensures.product c.in_ok-product.ensures.in_range c.in_ok-product.ensures.monic whole printed
