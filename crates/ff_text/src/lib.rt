@@ -1,0 +1,7 @@
+//! Texts of numbers, polynomials and elements: how they are written in scripts, and how they are printed.
+#![tactic(auto)]
+
+pub mod fault;
+pub mod number;
+
+pub use fault::TextFault;
