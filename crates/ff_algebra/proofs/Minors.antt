@@ -9,10 +9,10 @@ use Rattle.ff_ring.proofs.Sums.{below_cong}
 use Rattle.ff_ring.proofs.Ring.{one_mul, neg_mul, neg_unique}
 use Rattle.ff_fields.specs.Field.{CodeField}
 use Rattle.ff_fields.specs.Over.{IsOver, IsOver_nil, IsOver_cons}
-use Rattle.ff_poly.specs.Words.{poly_of, sum_of, product_of, multiple_of}
+use Rattle.ff_poly.specs.Words.{IsPoly, poly_of, sum_of, product_of, multiple_of}
 use Rattle.ff_poly.specs.Value.{value, value_sum}
 use Rattle.ff_poly.specs.Polynomials.{Polynomial, polynomials, constant_poly, value_nil, value_one}
-use Rattle.ff_poly.proofs.Parts.{value_sum_with_product}
+use Rattle.ff_poly.proofs.Parts.{IsPoly_sum_of, value_sum_with_product}
 use Rattle.ff_algebra.specs.Curves.{matrix_of}
 
 -- ---- matrices with the same entries
@@ -62,6 +62,7 @@ module _ (k : CodeField) (entries : List (List ℕ)) (rows : List ℕ) (column :
   -- the sum and the sign before row i
   pub record IsExpanded (i sign : ℕ) (sum : List ℕ) : Type 0 where
     pub sum_in : IsOver k.ops sum
+    pub sum_poly : IsPoly sum
     pub sign_in : sign < k.size
     pub sign_is : constant_poly k sign ≡ pow (polynomials k).ops ((polynomials k).⊖◌ (polynomials k).𝟙) i
     pub sum_is : value k sum ≡ sum_below (polynomials k).ops i term
@@ -69,6 +70,7 @@ module _ (k : CodeField) (entries : List (List ℕ)) (rows : List ℕ) (column :
   pub expanded_none : (sum : List ℕ) → sum ≡ [] → IsExpanded 0 1 sum
   expanded_none sum sum_none = rw sum_none (record {
     sum_in = IsOver_nil;
+    sum_poly = record { trimmed = tt };
     sign_in = k.laws.one_below;
     sign_is = value_one k;
     sum_is = value_nil k;
@@ -88,6 +90,7 @@ module _ (k : CodeField) (entries : List (List ℕ)) (rows : List ℕ) (column :
       → new ≡ sum_of k.ops old (multiple_of k.ops (product_of k.ops entry det) sign) → IsOver k.ops new → next ≡ k.neg sign → IsExpanded (i + 1) next new
   expanded_more i sign next old new entry det others place less h others_is place_is entry_in det_in entry_is size det_is new_is new_in next_is = record {
     sum_in = new_in;
+    sum_poly = rw new_is (IsPoly_sum_of k.ops old (multiple_of k.ops (product_of k.ops entry det) sign));
     sign_in = rw next_is (k.laws.neg_below sign h.sign_in);
     sign_is =
         ap (constant_poly k) next_is ∙ constant_neg sign h.sign_in ∙ ap (polynomials k).⊖◌ h.sign_is ∙ sym (negative (pow P.ops (P.⊖◌ P.𝟙) i))

@@ -3,6 +3,7 @@
 ghost use Rattle.std.specs.Prelude.{◌≡◌, ℕ, ◌+◌, ◌-◌, ◌*◌, ◌<◌, ◌≤◌, [], length, get_or, All, IfOk};
 ghost use Rattle.ff_ring.specs.Determinant.{determinant};
 ghost use Rattle.ff_fields.specs.Over.{IsOver};
+ghost use Rattle.ff_poly.specs.Words.{IsPoly};
 ghost use Rattle.ff_poly.specs.Value.{value};
 ghost use Rattle.ff_poly.specs.Polynomials.{polynomials};
 ghost use Rattle.ff_algebra.specs.Values.{IsPresOver, equation_of};
@@ -47,6 +48,7 @@ fn determinant<K: SmallField>(
     ensures value { let k = K.field k.now in
         IfOk result (λ d. value k d ≡ determinant (polynomials k).ops (length rows.now) (matrix_of k entries.now rows.now column)) }
     ensures over { IfOk result (IsOver (K.field k.now).ops) }
+    ensures poly { IfOk result IsPoly }
 {
     if rows.is_empty() {
         return Poly::one(alloc);
