@@ -126,8 +126,8 @@ module _ (k : CodeField) (p : PresValue) where
     pub infinite_over : IsPresOver k.ops p → IsPresOver k.ops q
     infinite_over p_in = record {
       coeffs_over = All-from_get_or (IsOver k.ops) q.coeffs [] (λ i less.
-      let less' : i < p.n = omega (arith, one_each, degree) in
-      rw (reversed i less') (over_reversed k (get_or p.coeffs i []) (c * (p.n - i) + 1) (All-get_or (IsOver k.ops) p.coeffs i [] (omega (arith, p_one_each)) p_in.coeffs_over)));
+          let less' : i < p.n = omega (arith, one_each, degree) in
+          rw (reversed i less') (over_reversed k (get_or p.coeffs i []) (c * (p.n - i) + 1) (All-get_or (IsOver k.ops) p.coeffs i [] (omega (arith, p_one_each)) p_in.coeffs_over)));
     }
 
 -- ---- the infinity number is small

@@ -5,6 +5,8 @@ ghost use Rattle.std.specs.Prelude.{◌≡◌, ◌<◌, ◌≤◌, ◌*◌, ◌-
 mod discriminant;
 mod equation;
 mod infinity;
+#[cfg(test)]
+mod tests;
 
 use crate::elem::Pres;
 use discriminant::discriminant;

@@ -85,11 +85,7 @@ fn coefficients<K: SmallField>(
 }
 
 /// The presentation by f, or the first of the faults that are seen without the discriminant.
-pub(crate) fn equation<K: SmallField>(
-    alloc: Global,
-    k: &K,
-    f: &Terms,
-) -> Result<Pres, CurveFault>
+pub(crate) fn equation<K: SmallField>(alloc: Global, k: &K, f: &Terms) -> Result<Pres, CurveFault>
     requires { All (λ t. t.2 < (K.field k.now).size) f.now }
     ensures equation { IfOk result (IsSmallEquation (K.field k.now).ops f.now) }
     ensures over { IfOk result (IsPresOver (K.field k.now).ops) }
