@@ -6,15 +6,14 @@ use Rattle.ff_ring.specs.Lists.{IsTrimmed}
 use Rattle.ff_fields.specs.Field.{FieldOps, CodeField}
 use Rattle.ff_fields.specs.Code.{is_zero_code}
 use Rattle.ff_fields.specs.Over.{IsOver_nil}
-use Rattle.ff_poly.specs.Words.{IsPoly}
 use Rattle.ff_poly.specs.Value.{same_from_value}
-use Rattle.ff_poly.specs.Polynomials.{polynomials, value_nil}
+use Rattle.ff_poly.specs.Polynomials.{value_nil}
 use Rattle.ff_algebra.specs.declared.curve.CurveFault.{CurveFault}
 use Rattle.ff_algebra.specs.declared.curve.CurveFault.TheVariants.{LimitY, LimitX, NotMonic, NotSeparable, LimitDisc, LimitInf, Memory}
 use Rattle.ff_algebra.specs.Values.{PresValue, equation_of}
 use Rattle.ff_algebra.specs.Infinity.{IsInfinityNumber}
 use Rattle.ff_algebra.specs.Discriminant.{discriminant}
-use Rattle.ff_algebra.specs.Curves.{CurveValue, degree_in_y, degree_in_x, IsSmallInY, IsSmall, IsCoefficient, IsEquationOf, IsSmallEquation, IsDiscriminant, IsCurveOf, IsInseparable, ExceedsDisc, ExceedsInf, IsCurveFault}
+use Rattle.ff_algebra.specs.Curves.{CurveValue, degree_in_y, degree_in_x, IsSmallInY, IsSmall, IsCoefficient, IsEquationOf, IsSmallEquation, IsDiscriminant, IsCurveOf, IsCurveFault}
 use Rattle.ff_algebra.proofs.CurveTerms.{read_any}
 
 -- ---- polynomials with the same codes

@@ -2,8 +2,7 @@
 use Rattle.std.proofs.Common.{◌≡◌, ℕ, zero, suc, ◌+◌, ◌-◌, ◌*◌, ◌<◌, ◌≤◌, ◌⊎◌, inl, inr, Bool, true, false, cond, eqb-true, List, [], ◌∷◌, ◌++◌, length, get_or, reverse, replicate, refl, sym, ap, ap₂, ◌∙◌, arith, All}
 use Rattle.std.proofs.Math.Nat.{mul-le-mul_right}
 use Rattle.std.proofs.lemmas.Bool.{cases_lt}
-use Rattle.std.proofs.lemmas.List.{length-reverse}
-use Rattle.std.proofs.lemmas.List.Elements.{All-get_or, All-from_get_or, All-nil, All-head, All-tail, All-push}
+use Rattle.std.proofs.lemmas.List.Elements.{All-get_or, All-from_get_or, All-head, All-tail, All-push}
 use mathlib.Core.List.{reverse-cons}
 use Rattle.ff_ring.specs.Ring.{CommRing, pow}
 use Rattle.ff_ring.specs.Lists.{trim_onto}
@@ -12,13 +11,12 @@ use Rattle.ff_fields.specs.Field.{CodeField}
 use Rattle.ff_fields.specs.Code.{is_zero_code, zero_in}
 use Rattle.ff_fields.specs.Over.{IsOver, IsOver_nil, IsOver_cons, IsOver_trim, IsOver_append, IsOver_zeros}
 use Rattle.ff_fields.specs.Numbers.{read, numbers_read, numbers_trim}
-use Rattle.ff_poly.specs.Words.{IsPoly, poly_of, shifted}
-use Rattle.ff_poly.specs.Value.{value}
-use Rattle.ff_poly.specs.Polynomials.{Polynomial, polynomials, codes_of, constant_poly, x_poly, x_poly_not_zero, polynomial_eq, value_nil}
+use Rattle.ff_poly.specs.Words.{poly_of}
+use Rattle.ff_poly.specs.Polynomials.{polynomials, codes_of, constant_poly, x_poly, x_poly_not_zero, polynomial_eq, value_nil}
 use Rattle.ff_algebra.specs.declared.elem.Side.TheVariants.{Finite, Infinite}
-use Rattle.ff_algebra.specs.Functions.{ring_of, of_poly}
+use Rattle.ff_algebra.specs.Functions.{of_poly}
 use Rattle.ff_algebra.specs.Values.{PresValue, IsPresOver, Functions, functions, equation_of}
-use Rattle.ff_algebra.specs.Infinity.{IsEnoughAtInfinity, IsInfinityNumber, IsInfinitePresentation, constant, value_at, variable}
+use Rattle.ff_algebra.specs.Infinity.{IsInfinityNumber, IsInfinitePresentation, constant, value_at, variable}
 use Rattle.ff_algebra.specs.Curves.{reversed_of}
 use Rattle.ff_algebra.proofs.OnSide.{of_poly_zero, den_inverse}
 use Rattle.ff_algebra.proofs.Reversal.{value as value_of, value_reverse}

@@ -1,8 +1,8 @@
 -- Determinants by expansion along the first column, as a recursion over lists of rows makes them.
 use mathlib.Core.Path.{fun_ext}
-use Rattle.std.proofs.Common.{◌≡◌, ℕ, zero, suc, ◌+◌, ◌-◌, ◌<◌, ◌≤◌, List, [], ◌∷◌, ◌++◌, length, get_or, take, drop, refl, sym, ap, ap₂, ◌∙◌, arith, add-one}
+use Rattle.std.proofs.Common.{◌≡◌, ℕ, zero, suc, ◌+◌, ◌-◌, ◌<◌, List, [], ◌∷◌, length, get_or, refl, sym, ap, ap₂, ◌∙◌, arith, add-one}
 use Rattle.std.specs.List.{remove}
-use Rattle.ff_ring.specs.Ring.{Operations, CommRing, pow}
+use Rattle.ff_ring.specs.Ring.{CommRing, pow}
 use Rattle.ff_ring.specs.Sums.{sum_below}
 use Rattle.ff_ring.specs.Determinant.{minor, determinant}
 use Rattle.ff_ring.proofs.Sums.{below_cong}

@@ -4,15 +4,14 @@ use Rattle.std.proofs.Common.{Ok, Err, Result}
 use Rattle.std.specs.Prelude.{IfOk}
 use Rattle.std.proofs.lemmas.List.{length-replicate, length-take, get_or-take}
 use Rattle.std.proofs.lemmas.List.Elements.{All-cons, All-push, All-replicate}
-use Rattle.ff_ring.specs.Rows.{row_trace, y_to, times_y}
+use Rattle.ff_ring.specs.Rows.{row_trace, y_to}
 use Rattle.ff_ring.specs.Determinant.{determinant}
 use Rattle.ff_ring.proofs.Rows.{pair_path}
 use Rattle.ff_fields.specs.Field.{CodeField}
 use Rattle.ff_fields.specs.Over.{IsOver, IsOver_nil, IsOver_cons}
 use Rattle.ff_poly.specs.Words.{IsPoly}
 use Rattle.ff_poly.specs.Value.{value}
-use Rattle.ff_poly.specs.Polynomials.{Polynomial, polynomials, value_one}
-use Rattle.ff_algebra.specs.Functions.{degree_of_y}
+use Rattle.ff_poly.specs.Polynomials.{polynomials, value_one}
 use Rattle.ff_algebra.specs.Values.{PresValue, equation_of}
 use Rattle.ff_algebra.specs.RowProducts.{IsRow, row_at, y_times}
 use Rattle.ff_algebra.specs.Discriminant.{power_trace, discriminant}

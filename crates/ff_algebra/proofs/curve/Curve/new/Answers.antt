@@ -1,6 +1,6 @@
-use Rattle.std.proofs.Common.{◌≡◌, ◌≢◌, ◌≤◌, ◌<◌, ◌*◌, ◌-◌, ℕ, suc, List, [], ◌∷◌, length, refl, sym, ap, ap₂, ◌∙◌, arith}
+use Rattle.std.proofs.Common.{◌≡◌, ◌≤◌, ◌*◌, ◌-◌, ℕ, suc, List, [], ◌∷◌, length, refl, sym, ap, ap₂, ◌∙◌, arith}
 use Rattle.std.proofs.lemmas.List.Elements.{All-from_get_or}
-use Rattle.ff_poly.specs.Words.{IsPoly, degree_of}
+use Rattle.ff_poly.specs.Words.{IsPoly}
 use Rattle.ff_poly.specs.Value.{value}
 use Rattle.ff_poly.specs.Polynomials.{value_nil}
 use Rattle.ff_algebra.proofs.InfinityNumbers.{length_from_degree, length_from_no_degree}

@@ -1,4 +1,4 @@
-use Rattle.std.proofs.Common.{◌≡◌, List, ℕ, [], ◌∷◌, ◌-◌, replicate, ap, ap₂, ◌∙◌}
+use Rattle.std.proofs.Common.{◌≡◌, [], ◌∷◌, ◌-◌, replicate, ap, ap₂, ◌∙◌}
 use Rattle.ff_ring.specs.Rows.{row_trace}
 use Rattle.ff_poly.specs.Polynomials.{polynomials}
 use Rattle.ff_algebra.specs.Values.{equation_of}

@@ -1,4 +1,4 @@
-use Rattle.std.proofs.Common.{[], length, ◌≤◌, arith, All}
+use Rattle.std.proofs.Common.{[], length, ◌≤◌, arith}
 use Rattle.std.proofs.lemmas.List.Elements.{All-push}
 use Rattle.ff_fields.specs.Over.{IsOver}
 use Rattle.ff_algebra.specs.Curves.{IsCoefficient}
