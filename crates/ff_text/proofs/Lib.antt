@@ -1,0 +1,3 @@
+pub mod PrintedFound
+pub mod PrintedNumbers
+pub mod PrintedLists
