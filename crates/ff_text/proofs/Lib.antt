@@ -1,3 +1,4 @@
 pub mod PrintedFound
 pub mod PrintedNumbers
 pub mod PrintedLists
+pub mod PrintedTerms

@@ -1,6 +1,6 @@
 //! Printed forms, each written at the end of one buffer. After an error the buffer holds a part of the text.
 
-ghost use Rattle.std.specs.Prelude.{◌≡◌, ◌≢◌, ◌++◌, OnOk};
+ghost use Rattle.std.specs.Prelude.{◌≡◌, ◌↔◌, [], ◌∷◌, ◌++◌, IsTrue, OnOk};
 ghost use Rattle.ff_text.specs.Printed.{power_text, term_text, poly_text, term_count, den_text, over_text, elem_text};
 ghost use Rattle.ff_text.specs.PrintedWriting.{commas_text};
 
@@ -87,11 +87,17 @@ fn push_den(out: &mut Vec<u8>, den: &Poly) -> Result<(), AllocError>
     Ok(())
 }
 
+fn is_one(p: &Poly) -> bool
+    ensures { IsTrue result ↔ (p.now ≡ 1 ∷ []) }
+{
+    p.codes() == [1].as_slice()
+}
+
 /// The denominator behind `/`, and nothing where it is 1.
 fn push_over(out: &mut Vec<u8>, den: &Poly) -> Result<(), AllocError>
     ensures { OnOk result (out.new.items ≡ out.old.items ++ over_text den.now) }
 {
-    if matches!(den.codes(), [1]) {
+    if is_one(den) {
         return Ok(());
     }
     out.push(b'/')?;
