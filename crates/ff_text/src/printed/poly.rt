@@ -39,6 +39,7 @@ fn push_codes<'a>(
 }
 
 /// A polynomial with codes below 65,536 and a degree of at most 1,024, and the bytes behind it.
+#[tactic(auto, unfolding(crate::specs::PrintedReading::poly_at))]
 pub(super) fn poly(alloc: Global, bytes: &[u8]) -> Result<(Poly, &[u8]), TextFault>
     ensures { FindsUnless (λ x. (x.0, x.1.now)) result (poly_at bytes.now) }
 {

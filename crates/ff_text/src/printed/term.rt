@@ -1,6 +1,6 @@
 //! Reads terms in x.
 
-ghost use Rattle.std.specs.Prelude.{◌≡◌};
+ghost use Rattle.std.specs.Prelude.{◌≡◌, ◌<◌, IfSome};
 ghost use Rattle.ff_text.specs.PrintedReading.{Finds, exponent_at, power_at, factor_at, term_at, plus_at, lower_at};
 
 use super::digits::{after, number};
@@ -63,7 +63,8 @@ fn plus(bytes: &[u8]) -> Option<((u32, u32), &[u8])>
 /// A term behind ` + `, of a degree below the bound.
 #[tactic(auto, unfolding(crate::specs::PrintedReading::lower_at))]
 pub(super) fn lower(bytes: &[u8], bound: u32) -> Option<((u32, u32), &[u8])>
-    ensures { Finds (λ x. (x.0, x.1.now)) result (lower_at bound bytes.now) }
+    ensures found { Finds (λ x. (x.0, x.1.now)) result (lower_at bound bytes.now) }
+    ensures below { IfSome result (λ x. x.0.1 < bound) }
 {
     let ((code, degree), rest) = plus(bytes)?;
     (degree < bound).then_some(((code, degree), rest))
