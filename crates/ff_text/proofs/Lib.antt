@@ -6,3 +6,4 @@ pub mod PrintedCodes
 pub mod PrintedPolys
 pub mod PrintedAgain
 pub mod PrintedTexts
+pub mod PrintedNumerators

@@ -163,17 +163,3 @@ term_again (suc (suc c)) (suc j) rest least small degree end =
     ap (λ (t : List ℕ). term_at (t ++ rest)) (factor_written (suc (suc c)) (suc j) (omega arith) (omega arith))
     ∙ ap term_at (append_assoc (decimal (suc (suc c))) (42 ∷ power_text (suc j)) rest)
     ∙ factor_again (suc (suc c)) (suc j) rest (omega arith) small (omega arith) degree end.power_end
-
--- ---- a term has a byte
-
-power_long : (j : ℕ) → 1 ≤ j → 1 ≤ length (power_text j)
-power_long zero h = absurd (omega arith)
-power_long (suc zero) h = omega arith
-power_long (suc (suc j)) h = omega arith
-
-pub term_long : (c j : ℕ) → 1 ≤ c → c < 65536 → 1 ≤ length (term_text c j)
-term_long c zero least small = omega (arith, decimal_nonempty c (omega arith))
-term_long zero (suc j) least small = absurd (omega arith)
-term_long (suc zero) (suc j) least small = power_long (suc j) (omega arith)
-term_long (suc (suc c)) (suc j) least small =
-    omega (arith, length-append (decimal (suc (suc c))) (42 ∷ power_text (suc j)), decimal_nonempty (suc (suc c)) (omega arith), ap length (factor_written (suc (suc c)) (suc j) (omega arith) (omega arith)))
