@@ -7,3 +7,4 @@ pub mod PrintedPolys
 pub mod PrintedAgain
 pub mod PrintedTexts
 pub mod PrintedNumerators
+pub mod PrintedDenominators

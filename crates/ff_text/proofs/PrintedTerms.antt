@@ -37,7 +37,7 @@ no_number b bs e other = rw (other_text 48 b [] bs e, digits_ended 65536 0 (b �
 -- ---- powers of x
 
 -- what is written behind x
-abbrev exponent_text : ℕ → List ℕ
+abbrev pub exponent_text : ℕ → List ℕ
 exponent_text zero = []
 exponent_text (suc zero) = []
 exponent_text (suc (suc j)) = 94 ∷ decimal (suc (suc j))
@@ -47,7 +47,7 @@ exponent_written zero h = absurd (omega arith)
 exponent_written (suc zero) h = absurd (omega arith)
 exponent_written (suc (suc j)) h = refl
 
-power_written : (j : ℕ) → 1 ≤ j → power_text j ≡ 120 ∷ exponent_text j
+pub power_written : (j : ℕ) → 1 ≤ j → power_text j ≡ 120 ∷ exponent_text j
 power_written zero h = absurd (omega arith)
 power_written (suc zero) h = refl
 power_written (suc (suc j)) h = refl
@@ -93,7 +93,7 @@ power_again j rest least most end =
 
 -- ---- terms
 
-one_written : (j : ℕ) → 1 ≤ j → term_text 1 j ≡ power_text j
+pub one_written : (j : ℕ) → 1 ≤ j → term_text 1 j ≡ power_text j
 one_written zero h = absurd (omega arith)
 one_written (suc j) h = refl
 

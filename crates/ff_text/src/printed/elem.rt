@@ -6,7 +6,7 @@ ghost use Rattle.ff_text.specs.Printed.{term_count};
 ghost use Rattle.ff_text.specs.PrintedReading.{FindsUnless, with_front, polys_at, num_at, inner_at, power_of_x, den_at, over_at, elem_at};
 
 use super::digits::after;
-use super::poly::poly;
+use super::poly::{poly, push_zeros};
 use super::term::power;
 use super::write::count_terms;
 use crate::fault::TextFault;
@@ -54,7 +54,7 @@ fn power_of_x(alloc: Global, j: u32) -> Result<Poly, AllocError>
     ensures { IfOk result (λ p. p ≡ power_of_x j) }
 {
     let mut codes = Vec::new(alloc);
-    codes.resize(j as usize, 0)?;
+    push_zeros(&mut codes, j)?;
     codes.push(1)?;
     Ok(Poly::from_codes(codes))
 }

@@ -10,7 +10,7 @@ use ff_poly::Poly;
 use std::alloc::{AllocError, Global};
 
 /// Appends zeros.
-fn push_zeros(codes: &mut Vec<u32>, count: u32) -> Result<(), AllocError>
+pub(super) fn push_zeros(codes: &mut Vec<u32>, count: u32) -> Result<(), AllocError>
     ensures { OnOk result (codes.new.items ≡ codes.old.items ++ replicate count 0) }
 {
     codes.resize(codes.len() + count as usize, 0)
