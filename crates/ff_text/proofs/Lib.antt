@@ -8,3 +8,4 @@ pub mod PrintedAgain
 pub mod PrintedTexts
 pub mod PrintedNumerators
 pub mod PrintedDenominators
+pub mod PrintedElements

@@ -74,7 +74,7 @@ longer_poly b q rest read long p is e =
     let same = some_is (p, []) (q, rest) (sym (read_whole p b is e) ∙ read) in
     long (sym (ap (λ (r : List ℕ × List ℕ). length r.1) same))
 
-none_left : (rest : List ℕ) → length rest ≡ 0 → rest ≡ []
+pub none_left : (rest : List ℕ) → length rest ≡ 0 → rest ≡ []
 none_left [] e = refl
 none_left (c ∷ cs) e = absurd (omega arith)
 
