@@ -1,13 +1,13 @@
 -- One text for one element.
-use Rattle.std.proofs.Common.{◌≡◌, ◌≢◌, ℕ, zero, suc, ◌≤◌, Bool, true, false, eqb, List, [], ◌∷◌, ◌++◌, length, All, codes, Option, Some, None, refl, sym, ap, subst, ◌∙◌, append_assoc, arith}
+use Rattle.std.proofs.Common.{◌≡◌, ◌≢◌, ℕ, zero, suc, ◌-◌, ◌≤◌, Bool, true, false, eqb, List, [], ◌∷◌, ◌++◌, length, drop, All, codes, Option, Some, None, refl, sym, ap, subst, ◌∙◌, append_assoc, arith}
 use Rattle.std.specs.Char.{is_ascii_digit}
 use Rattle.std.specs.List.{join_by}
 use Rattle.std.proofs.lemmas.List.{append-nil}
-use Rattle.ff_text.specs.Printed.{poly_text, over_text, elem_text, IsPrintable, IsPrintableElem, ends_elem}
+use Rattle.ff_text.specs.Printed.{poly_text, over_text, elem_text, IsPrintable, IsPrintableElem, IsElemAt, ends_elem}
 use Rattle.ff_text.specs.PrintedReading.{◌>>=◌, after_text, num_at, over_at, elem_at}
 use Rattle.ff_text.proofs.PrintedFound.{bind_some, some_is, no_none, then_takes}
 use Rattle.ff_text.proofs.PrintedTerms.{other_text, no_digit}
-use Rattle.ff_text.proofs.PrintedTexts.{no_parts, not_true, power_end_nil, none_left}
+use Rattle.ff_text.proofs.PrintedTexts.{no_parts, not_true, power_end_nil, none_left, drop_rest, rest_fits, from, from_is, wrong_end}
 use Rattle.ff_text.proofs.PrintedNumerators.{Polys, num_text, num_takes, num_again}
 use Rattle.ff_text.proofs.PrintedDenominators.{IsElemEnd, over_takes, over_again}
 
@@ -75,6 +75,33 @@ whole_elem b read found e =
     let is = elem_takes b read found in
     (is.printable, sym (is.parts ∙ ap (λ r. elem_text read.0.0 read.0.1 ++ r) (none_left read.1 e) ∙ append-nil (elem_text read.0.0 read.0.1)))
 
+-- ---- texts inside a line
+
+pub elem_found_at : (line : List ℕ) (read : ReadElem) (at : ℕ) → at ≤ length line → elem_at (from line at) ≡ Some read → ends_elem read.1 ≡ true → IsElemAt line at read.0.0 read.0.1 (length line - length read.1)
+elem_found_at line read at within found ends =
+    let is = elem_takes (drop at line) read (ap elem_at (sym (from_is line at)) ∙ found) in
+    let left = drop_rest line (elem_text read.0.0 read.0.1) read.1 at within is.parts in
+    record {
+      printable = is.printable;
+      text = is.parts ∙ ap (λ t. elem_text read.0.0 read.0.1 ++ t) (sym left);
+      within = omega arith;
+      ends = ap ends_elem left ∙ ends;
+    }
+
+pub elem_fits_at : (line : List ℕ) (read : ReadElem) (at : ℕ) → elem_at (from line at) ≡ Some read → length read.1 ≤ length line
+elem_fits_at line read at found = rest_fits line (elem_text read.0.0 read.0.1) read.1 at (elem_takes (drop at line) read (ap elem_at (sym (from_is line at)) ∙ found)).parts
+
+read_at : (line : List ℕ) (num : Polys) (den : List ℕ) (at end : ℕ) → IsElemAt line at num den end → elem_at (from line at) ≡ Some ((num, den), drop end line)
+read_at line num den at end is = ap elem_at (from_is line at ∙ is.text) ∙ elem_again num den (drop end line) is.printable (elem_end (drop end line) is.ends)
+
+pub no_elem_at : (line : List ℕ) (at : ℕ) → elem_at (from line at) ≡ None → (num : Polys) (den : List ℕ) (end : ℕ) → ¬ IsElemAt line at num den end
+no_elem_at line at none num den end is = no_none (sym (read_at line num den at end is) ∙ none)
+
+pub no_end_at : (line : List ℕ) (read : ReadElem) (at : ℕ) → elem_at (from line at) ≡ Some read → ends_elem read.1 ≡ false → (num : Polys) (den : List ℕ) (end : ℕ) → ¬ IsElemAt line at num den end
+no_end_at line read at found open_end num den end is =
+    let same = some_is ((num, den), drop end line) read (sym (read_at line num den at end is) ∙ found) in
+    wrong_end (ends_elem read.1) open_end (ap (λ (r : ReadElem). ends_elem r.1) (sym same) ∙ is.ends)
+
 -- ---- the law
 
 pub one_elem : (num other : Polys) (den over r s : List ℕ) → IsPrintableElem num den → IsPrintableElem other over → ends_elem r ≡ true → ends_elem s ≡ true
@@ -82,3 +109,6 @@ pub one_elem : (num other : Polys) (den over r s : List ℕ) → IsPrintableElem
 one_elem num other den over r s is other_is r_ends s_ends e =
     let same = some_is ((num, den), r) ((other, over), s) (sym (elem_again num den r is (elem_end r r_ends)) ∙ ap elem_at e ∙ elem_again other over s other_is (elem_end s s_ends)) in
     (ap (λ (x : ReadElem). x.0.0) same, ap (λ (x : ReadElem). x.0.1) same, ap (λ (x : ReadElem). x.1) same)
+
+pub same_elem : (num other : Polys) (den over : List ℕ) → IsPrintableElem num den → IsPrintableElem other over → elem_text num den ≡ elem_text other over → (num ≡ other) × (den ≡ over)
+same_elem num other den over is other_is e = let all = one_elem num other den over [] [] is other_is refl refl (ap (λ t. t ++ []) e) in (all.0, all.1)

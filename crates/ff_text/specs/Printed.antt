@@ -1,5 +1,5 @@
 -- How polynomials and elements are printed, byte by byte.
-use Rattle.std.specs.Prelude.{◌≡◌, ℕ, zero, suc, ◌<◌, ◌≤◌, ◌==◌, ◌||◌, not, Bool, true, false, if◌then◌else◌, nat_lt, nat_eq, IsTrue, List, [], ◌∷◌, ◌++◌, length, reverse, codes, All, ⊤}
+use Rattle.std.specs.Prelude.{◌≡◌, ℕ, zero, suc, ◌<◌, ◌≤◌, ◌==◌, ◌||◌, not, Bool, true, false, if◌then◌else◌, nat_lt, nat_eq, IsTrue, List, [], ◌∷◌, ◌++◌, length, drop, reverse, codes, All, ⊤}
 use Rattle.std.specs.List.{join_by, starts_with, count_by}
 use Rattle.std.specs.Char.{is_ascii_digit}
 use Rattle.std.specs.Fmt.{decimal}
@@ -42,6 +42,13 @@ abbrev pub ends_poly : List ℕ → Bool
 ends_poly [] = true
 ends_poly (c ∷ cs) = not (is_ascii_digit c || (c == 94 || (c == 42 || starts_with nat_eq (c ∷ cs) (codes " + "))))
 
+-- the line has the text of p from column at to before column end, and what follows can't go on it
+pub record IsPolyAt (line : List ℕ) (at : ℕ) (p : List ℕ) (end : ℕ) : Type 0 where
+  pub printable : IsPrintable p
+  pub text : drop at line ≡ poly_text p ++ drop end line
+  pub within : end ≤ length line
+  pub ends : IsTrue (ends_poly (drop end line))
+
 -- ---- elements
 
 -- how many codes aren't 0
@@ -77,6 +84,13 @@ pub record IsPrintableElem (num : List (List ℕ)) (den : List ℕ) : Type 0 whe
 abbrev pub ends_elem : List ℕ → Bool
 ends_elem [] = true
 ends_elem (c ∷ cs) = not (is_ascii_digit c || (c == 94 || c == 47))
+
+-- the line has the text of the element from column at to before column end, and what follows can't go on it
+pub record IsElemAt (line : List ℕ) (at : ℕ) (num : List (List ℕ)) (den : List ℕ) (end : ℕ) : Type 0 where
+  pub printable : IsPrintableElem num den
+  pub text : drop at line ≡ elem_text num den ++ drop end line
+  pub within : end ≤ length line
+  pub ends : IsTrue (ends_elem (drop end line))
 
 -- ---- faults
 

@@ -1,11 +1,11 @@
 //! Printed forms: the one text of a polynomial, and of an element.
 
-ghost use Rattle.std.specs.Prelude.{◌≡◌, ◌≢◌, ℕ, List, length, All, IfOk, IfErr};
-ghost use Rattle.ff_poly.specs.Words.{IsMonic};
-ghost use Rattle.ff_text.specs.Printed.{poly_text, elem_text, IsPrintable, IsPrintableElem, IsNoText};
+ghost use Rattle.std.specs.Prelude.{◌≡◌, ◌≢◌, ◌≤◌, ◌++◌, ℕ, List, length, IfOk, IfErr, IsTrue};
+ghost use Rattle.ff_text.specs.Printed.{poly_text, elem_text, ends_poly, ends_elem, IsPrintable, IsPrintableElem, IsPolyAt, IsElemAt, IsNoText};
 
 mod digits;
 mod elem;
+mod follow;
 mod poly;
 mod term;
 mod write;
@@ -16,6 +16,7 @@ pub use written::Written;
 
 use crate::fault::TextFault;
 use elem::elem;
+use follow::{ends_elem, ends_poly};
 use ff_poly::Poly;
 use poly::poly;
 use std::alloc::{AllocError, Global};
@@ -66,4 +67,53 @@ pub fn elem_of_text(alloc: Global, b: &[u8]) -> Result<(Vec<Poly>, Poly), TextFa
         return Err(TextFault::Syntax(0));
     }
     Ok(z)
+}
+
+/// The printable polynomial whose text stands in the line from column `at` on, and the place after it. Behind it stands
+/// nothing that could go on a polynomial: no digit, `^` or `*`, and not ` + `. `Syntax(0)` exactly where none stands so.
+/// Time grows with its text and degree.
+pub fn read_poly(alloc: Global, line: &[u8], at: usize) -> Result<(Poly, usize), TextFault>
+    requires { at ≤ length line.now }
+    ensures found { IfOk result (λ x. IsPolyAt line.now at x.0 x.1) }
+    ensures fault { IfErr result (λ e. IsNoText e ((p : List ℕ) (end : ℕ) → ¬ IsPolyAt line.now at p end)) }
+{
+    let (p, rest) = poly(alloc, &line[at..])?;
+    if !ends_poly(rest) {
+        return Err(TextFault::Syntax(0));
+    }
+    Ok((p, line.len() - rest.len()))
+}
+
+/// The printable element whose text stands in the line from column `at` on, and the place after it. Behind it stands
+/// nothing that could go on an element: no digit, `^` or `/`. `Syntax(0)` exactly where none stands so. Time grows with
+/// its text and the sum of its degrees.
+pub fn read_elem(alloc: Global, line: &[u8], at: usize) -> Result<(Written, usize), TextFault>
+    requires { at ≤ length line.now }
+    ensures found { IfOk result (λ x. IsElemAt line.now at x.0.num x.0.den x.1) }
+    ensures fault { IfErr result (λ e. IsNoText e
+        ((num : List (List ℕ)) (den : List ℕ) (end : ℕ) → ¬ IsElemAt line.now at num den end)) }
+{
+    let ((num, den), rest) = elem(alloc, &line[at..])?;
+    if !ends_elem(rest) {
+        return Err(TextFault::Syntax(0));
+    }
+    Ok((Written::new(num, den), line.len() - rest.len()))
+}
+
+/// One text belongs to one polynomial, also where something follows that can't go on a polynomial.
+pub fn one_poly_text()
+    ensures front { (p q r s : List ℕ) → IsPrintable p → IsPrintable q → IsTrue (ends_poly r) → IsTrue (ends_poly s) →
+        poly_text p ++ r ≡ poly_text q ++ s → (p ≡ q) × (r ≡ s) }
+    ensures whole { (p q : List ℕ) → IsPrintable p → IsPrintable q → poly_text p ≡ poly_text q → p ≡ q }
+{
+}
+
+/// One text belongs to one element, also where something follows that can't go on an element.
+pub fn one_elem_text()
+    ensures front { (num other : List (List ℕ)) (den over r s : List ℕ) →
+        IsPrintableElem num den → IsPrintableElem other over → IsTrue (ends_elem r) → IsTrue (ends_elem s) →
+        elem_text num den ++ r ≡ elem_text other over ++ s → (num ≡ other) × (den ≡ over) × (r ≡ s) }
+    ensures whole { (num other : List (List ℕ)) (den over : List ℕ) → IsPrintableElem num den → IsPrintableElem other over →
+        elem_text num den ≡ elem_text other over → (num ≡ other) × (den ≡ over) }
+{
 }
