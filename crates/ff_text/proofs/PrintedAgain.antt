@@ -76,7 +76,7 @@ top_again : (c : ℕ) (cs rest : List ℕ) → c ≢ 0 → IsSmall (c ∷ cs) �
 unfolding poly_at
 top_again c cs rest some small degree end =
     let one : term_at (term_text c (length cs) ++ (plus_text cs ++ rest)) ≡ Some ((c, length cs), plus_text cs ++ rest) =
-        term_again c (length cs) (plus_text cs ++ rest) (omega arith) (All-head (λ c. c < 65536) c cs small) degree (behind_end cs rest end.term_end) in
+    term_again c (length cs) (plus_text cs ++ rest) (omega arith) (All-head (λ c. c < 65536) c cs small) degree (behind_end cs rest end.term_end) in
     let others = codes_again cs rest (All-tail (λ c. c < 65536) c cs small) (omega arith) end in
     ap poly_at (append_assoc (term_text c (length cs)) (plus_text cs) rest) ∙ rw (one, others) refl
 

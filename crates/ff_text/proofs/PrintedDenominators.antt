@@ -125,11 +125,14 @@ inner_takes bytes b e =
     let g = guard_some (eqb (top_of d.0.0) 1 && ltb 1 (term_count d.0.0)) (d.0.0, rest.0) b rest.2 in
     let tests = and_parts (eqb (top_of d.0.0) 1) (ltb 1 (term_count d.0.0)) g.0 in
     let is = poly_takes bytes d.0 d.1 in
-    subst (λ (r : List ℕ × List ℕ). IsDenIn (poly_text r.0 ++ codes ")") bytes r.0 r.1 × (1 < term_count r.0)) g.1 (record {
-      parts = then_takes bytes (poly_text d.0.0) d.0.1 (codes ")") rest.0 is.parts (text_takes (codes ")") d.0.1 rest.0 rest.1);
-      printable = is.printable;
-      monic = monic_top d.0.0 (eqb-true _ _ tests.0);
-    }, ltb-true _ _ tests.1)
+    subst (λ (r : List ℕ × List ℕ). IsDenIn (poly_text r.0 ++ codes ")") bytes r.0 r.1 × (1 < term_count r.0)) g.1 (
+      record {
+        parts = then_takes bytes (poly_text d.0.0) d.0.1 (codes ")") rest.0 is.parts (text_takes (codes ")") d.0.1 rest.0 rest.1);
+        printable = is.printable;
+        monic = monic_top d.0.0 (eqb-true _ _ tests.0);
+      },
+      ltb-true _ _ tests.1,
+    )
 
 inner_again : (d rest : List ℕ) → IsPrintable d → IsMonic d → 1 < term_count d → inner_at (poly_text d ++ (codes ")" ++ rest)) ≡ Some (d, rest)
 unfolding inner_at
@@ -148,19 +151,24 @@ den_takes bytes b e =
           let j = bind_some (power_at bytes) (λ j. Some (power_of_x j.0, j.1)) b w.1 in
           let is = power_takes bytes j.0.0 j.0.1 j.1 in
           let least : 1 ≤ j.0.0 = is.least in
-          subst P (some_is (power_of_x j.0.0, j.0.1) b j.2) (record {
-            parts = is.parts ∙ ap (λ (t : List ℕ). t ++ j.0.1) (sym (power_den_text j.0.0 least));
-            printable = power_printable j.0.0 is.most;
-            monic = (replicate j.0.0 0, refl);
-          }, λ one. omega (arith, ap length one, length_power j.0.0))
+          subst P (some_is (power_of_x j.0.0, j.0.1) b j.2) (
+            record {
+              parts = is.parts ∙ ap (λ (t : List ℕ). t ++ j.0.1) (sym (power_den_text j.0.0 least));
+              printable = power_printable j.0.0 is.most;
+              monic = (replicate j.0.0 0, refl);
+            },
+            λ one. omega (arith, ap length one, length_power j.0.0),
+          )
       | inr w ↦
           let is = inner_takes w.0 b w.2 in
-          let more : 1 < term_count b.0 = is.1 in
-          (record {
-            parts = then_takes bytes (codes "(") w.0 (poly_text b.0 ++ codes ")") b.1 (text_takes (codes "(") bytes w.0 w.1) is.0.parts ∙ ap (λ (t : List ℕ). t ++ b.1) (sym (long_text b.0 more));
-            printable = is.0.printable;
-            monic = is.0.monic;
-          }, λ one. omega (arith, ap (λ d. term_count d) one))
+          let more : 1 < term_count b.0 = is.1 in (
+            record {
+              parts = then_takes bytes (codes "(") w.0 (poly_text b.0 ++ codes ")") b.1 (text_takes (codes "(") bytes w.0 w.1) is.0.parts ∙ ap (λ (t : List ℕ). t ++ b.1) (sym (long_text b.0 more));
+              printable = is.0.printable;
+              monic = is.0.monic;
+            },
+            λ one. omega (arith, ap (λ d. term_count d) one),
+          )
     ]
 
 -- a monic polynomial without a second term is a power of x

@@ -38,7 +38,7 @@ plus_more out p c i j e lt is some =
     let long : length (reverse (take i p)) ≡ i = length_reverse_take p i (omega arith) in
     let next : reverse (take j p) ≡ c ∷ reverse (take i p) = ap (λ n. reverse (take n p)) e ∙ reverse_take p i lt ∙ ap (λ d. d ∷ reverse (take i p)) (sym is) in
     let text : plus_text (reverse (take j p)) ≡ (codes " + " ++ term_text c i) ++ plus_text (reverse (take i p)) =
-        ap plus_text next ∙ plus_some c (reverse (take i p)) some ∙ ap (λ n. (codes " + " ++ term_text c n) ++ plus_text (reverse (take i p))) long in
+    ap plus_text next ∙ plus_some c (reverse (take i p)) some ∙ ap (λ n. (codes " + " ++ term_text c n) ++ plus_text (reverse (take i p))) long in
     append_assoc (out ++ codes " + ") (term_text c i) (plus_text (reverse (take i p)))
     ∙ append_assoc out (codes " + ") (term_text c i ++ plus_text (reverse (take i p)))
     ∙ ap (λ t. out ++ t) (sym (append_assoc (codes " + ") (term_text c i) (plus_text (reverse (take i p)))) ∙ sym text)
@@ -56,7 +56,7 @@ poly_first (a ∷ bs) d c e is some =
     let code : c ≡ get_or (a ∷ bs) d 0 = is ∙ ap (λ i. get_or (a ∷ bs) i 0) (omega arith) in
     let long : length (reverse (take d (a ∷ bs))) ≡ d = length_reverse_take (a ∷ bs) d (omega arith) in
     let whole : reverse (a ∷ bs) ≡ c ∷ reverse (take d (a ∷ bs)) =
-        ap reverse (sym (take_all (suc d) (a ∷ bs) (omega arith))) ∙ reverse_take (a ∷ bs) d (omega arith) ∙ ap (λ x. x ∷ reverse (take d (a ∷ bs))) (sym code) in
+    ap reverse (sym (take_all (suc d) (a ∷ bs) (omega arith))) ∙ reverse_take (a ∷ bs) d (omega arith) ∙ ap (λ x. x ∷ reverse (take d (a ∷ bs))) (sym code) in
     top_text c (reverse (take d (a ∷ bs))) some (a ∷ bs) whole ∙ ap (λ n. term_text c n ++ plus_text (reverse (take d (a ∷ bs)))) long
 
 pub length_from_degree : (p : List ℕ) (d : ℕ) → degree_of p ≡ Some d → length p ≡ suc d

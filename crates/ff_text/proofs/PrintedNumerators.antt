@@ -157,6 +157,20 @@ pub record AreNumeratorsIn (bytes : List ℕ) (ps : List (List ℕ)) (rest : Lis
   pub some : 1 ≤ length ps
   pub are : All IsPrintable ps
 
+num_in : (bytes start : List ℕ) (first : List ℕ × List ℕ) (others : Polys × List ℕ) (rest : List ℕ)
+    → after_text (codes "[") bytes ≡ Some start → poly_at start ≡ Some first → polys_at first.1 ≡ Some others → after_text (codes "]") others.1 ≡ Some rest
+    → AreNumeratorsIn bytes (first.0 ∷ others.0) rest
+num_in bytes start first others rest open_is first_is others_are closed_is =
+    let one = poly_takes start first first_is in
+    let more = polys_take first.1 others others_are in
+    let closed : others.1 ≡ codes "]" ++ rest = text_takes (codes "]") others.1 rest closed_is in
+    let inner : first.1 ≡ commas_text others.0 ++ (codes "]" ++ rest) = more.parts ∙ ap (λ (t : List ℕ). commas_text others.0 ++ t) closed in
+    record {
+      parts = num_joined bytes start first.0 first.1 others.0 rest (text_takes (codes "[") bytes start open_is) one.parts inner;
+      some = omega arith;
+      are = All-cons IsPrintable first.0 others.0 one.printable more.are;
+    }
+
 pub num_takes : (bytes : List ℕ) (b : Polys × List ℕ) → num_at bytes ≡ Some b → AreNumeratorsIn bytes b.0 b.1
 unfolding num_at
 num_takes bytes b e =
@@ -164,16 +178,8 @@ num_takes bytes b e =
     let first = bind_some (poly_at start.0) (λ first. polys_at first.1 >>= λ others. after_text (codes "]") others.1 >>= λ rest. Some (first.0 ∷ others.0, rest)) b start.2 in
     let others = bind_some (polys_at first.0.1) (λ others. after_text (codes "]") others.1 >>= λ rest. Some (first.0.0 ∷ others.0, rest)) b first.2 in
     let rest = bind_some (after_text (codes "]") others.0.1) (λ rest. Some (first.0.0 ∷ others.0.0, rest)) b others.2 in
-    let one = poly_takes start.0 first.0 first.1 in
-    let more = polys_take first.0.1 others.0 others.1 in
-    let closed : others.0.1 ≡ codes "]" ++ rest.0 = text_takes (codes "]") others.0.1 rest.0 rest.1 in
-    let inner : first.0.1 ≡ commas_text others.0.0 ++ (codes "]" ++ rest.0) = more.parts ∙ ap (λ (t : List ℕ). commas_text others.0.0 ++ t) closed in
-    let whole = num_joined bytes start.0 first.0.0 first.0.1 others.0.0 rest.0 (text_takes (codes "[") bytes start.0 start.1) one.parts inner in
-    subst (λ (c : Polys × List ℕ). AreNumeratorsIn bytes c.0 c.1) (some_is (first.0.0 ∷ others.0.0, rest.0) b rest.2) (record {
-      parts = whole;
-      some = omega arith;
-      are = All-cons IsPrintable first.0.0 others.0.0 one.printable more.are;
-    })
+    subst (λ (c : Polys × List ℕ). AreNumeratorsIn bytes c.0 c.1) (some_is (first.0.0 ∷ others.0.0, rest.0) b rest.2)
+    (num_in bytes start.0 first.0 others.0 rest.0 start.1 first.1 others.1 rest.1)
 
 pub num_again : (ps : Polys) (rest : List ℕ) → 1 ≤ length ps → All IsPrintable ps → num_at (num_text ps ++ rest) ≡ Some (ps, rest)
 unfolding num_at

@@ -11,15 +11,14 @@ mod term;
 mod write;
 mod written;
 
-pub use write::{push_elem, push_poly};
-pub use written::Written;
-
 use crate::fault::TextFault;
 use elem::elem;
-use follow::{ends_elem, ends_poly};
 use ff_poly::Poly;
+use follow::{ends_elem, ends_poly};
 use poly::poly;
 use std::alloc::{AllocError, Global};
+pub use write::{push_elem, push_poly};
+pub use written::Written;
 
 /// The text of a polynomial: its nonzero terms from the greatest degree down, joined by ` + `, and `0` for 0. Time and
 /// memory grow with the degree.
@@ -105,8 +104,7 @@ pub fn one_poly_text()
     ensures front { (p q r s : List ℕ) → IsPrintable p → IsPrintable q → IsTrue (ends_poly r) → IsTrue (ends_poly s) →
         poly_text p ++ r ≡ poly_text q ++ s → (p ≡ q) × (r ≡ s) }
     ensures whole { (p q : List ℕ) → IsPrintable p → IsPrintable q → poly_text p ≡ poly_text q → p ≡ q }
-{
-}
+{}
 
 /// One text belongs to one element, also where something follows that can't go on an element.
 pub fn one_elem_text()
@@ -115,5 +113,4 @@ pub fn one_elem_text()
         elem_text num den ++ r ≡ elem_text other over ++ s → (num ≡ other) × (den ≡ over) × (r ≡ s) }
     ensures whole { (num other : List (List ℕ)) (den over : List ℕ) → IsPrintableElem num den → IsPrintableElem other over →
         elem_text num den ≡ elem_text other over → (num ≡ other) × (den ≡ over) }
-{
-}
+{}

@@ -87,6 +87,7 @@ fn push_den(out: &mut Vec<u8>, den: &Poly) -> Result<(), AllocError>
     Ok(())
 }
 
+/// Is it the polynomial 1?
 fn is_one(p: &Poly) -> bool
     ensures { IsTrue result ↔ (p.now ≡ 1 ∷ []) }
 {

@@ -44,6 +44,15 @@ impl Written {
         &self.den
     }
 
+    /// The numerators and the denominator. No memory is taken.
+    pub fn into_parts(self) -> (Vec<Poly>, Poly)
+        ensures num { result.0.items ≡ self.num }
+        ensures den { result.1 ≡ self.den }
+    {
+        let Written { num, den } = self;
+        (num, den)
+    }
+
     /// An equal element, in memory of its own.
     pub fn copy(&self, alloc: Global) -> Result<Written, AllocError>
         ensures { IfOk result (λ z. z ≡ self.now) }
