@@ -1,17 +1,16 @@
 -- Polynomials that are printed are read again.
-use Rattle.std.proofs.Common.{◌≡◌, ◌≢◌, ℕ, zero, suc, ◌+◌, ◌-◌, ◌<◌, ◌≤◌, Bool, false, true, eqb, List, [], ◌∷◌, ◌++◌, length, reverse, All, codes, Option, Some, None, refl, sym, ap, subst, ◌∙◌, ◌⊎◌, append_assoc, arith, inl, inr}
-use Rattle.std.specs.Char.{is_ascii_digit}
-use Rattle.std.proofs.lemmas.Bool.{eqb-true, eq-eqb, ne_eqb, cases_Bool}
+use Rattle.std.proofs.Common.{◌≡◌, ◌≢◌, ℕ, zero, suc, ◌<◌, ◌≤◌, List, [], ◌∷◌, ◌++◌, length, reverse, codes, Some, None, refl, sym, ap, subst, ◌∙◌, append_assoc, arith}
+use Rattle.std.proofs.lemmas.Bool.{eq-eqb}
 use Rattle.std.proofs.lemmas.List.{reverse-append, reverse-reverse, length-reverse}
 use Rattle.std.proofs.lemmas.List.Elements.{All-head, All-tail}
 use Rattle.ff_fields.specs.Code.{is_zero_code}
 use Rattle.ff_ring.specs.Lists.{IsTrimmed}
-use Rattle.ff_text.specs.Printed.{term_text, poly_text, IsPrintable, ends_poly}
+use Rattle.ff_text.specs.Printed.{term_text, poly_text, IsPrintable}
 use Rattle.ff_text.specs.PrintedWriting.{plus_text}
-use Rattle.ff_text.specs.PrintedReading.{◌>>=◌, after_text, digit_at, number_at, power_at, term_at, plus_at, on_top, codes_at, below_top, poly_at}
+use Rattle.ff_text.specs.PrintedReading.{after_text, number_at, power_at, term_at, plus_at, on_top, codes_at, poly_at}
 use Rattle.ff_text.proofs.PrintedFound.{some_is, no_none, text_again}
-use Rattle.ff_text.proofs.PrintedLists.{plus_some, plus_zero, top_text}
-use Rattle.ff_text.proofs.PrintedTerms.{IsPowerEnd, IsTermEnd, other_text, no_digit, term_again}
+use Rattle.ff_text.proofs.PrintedLists.{top_text}
+use Rattle.ff_text.proofs.PrintedTerms.{IsTermEnd, other_text, no_digit, term_again}
 use Rattle.ff_text.proofs.PrintedCodes.{ReadTerm, codes_skip, codes_take}
 use Rattle.ff_text.proofs.PrintedPolys.{IsSmall, All-reverse, differ}
 

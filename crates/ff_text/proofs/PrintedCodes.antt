@@ -1,14 +1,8 @@
 -- The codes of terms that are read one after the other.
-use Rattle.std.proofs.Common.{◌≡◌, ◌≢◌, ℕ, zero, suc, ◌+◌, ◌-◌, ◌<◌, ◌≤◌, Bool, false, true, cond, eqb, ltb, List, [], ◌∷◌, ◌++◌, length, replicate, All, codes, Option, Some, None, refl, sym, ap, subst, ◌∙◌, ◌⊎◌, append_assoc, arith, inl, inr}
-use Rattle.std.specs.Prelude.{nat_lt}
+use Rattle.std.proofs.Common.{◌≡◌, ◌≢◌, ℕ, zero, suc, ◌-◌, ◌<◌, ◌≤◌, Bool, false, true, cond, eqb, ltb, List, [], ◌∷◌, ◌++◌, replicate, Option, Some, None, refl, sym, ap, ◌∙◌, append_assoc, arith, inl, inr}
 use Rattle.std.proofs.lemmas.Bool.{ltb-true, ltb-false, eqb-true, eq-eqb, ne_eqb, cases_Bool}
-use Rattle.std.proofs.lemmas.List.Elements.{All-nil, All-cons, All-head, All-tail}
-use Rattle.ff_text.specs.Printed.{term_text, terms_down}
-use Rattle.ff_text.specs.PrintedWriting.{plus_text}
-use Rattle.ff_text.specs.PrintedReading.{◌>>=◌, after_text, term_at, plus_at, lower_at, on_top, codes_at}
-use Rattle.ff_text.proofs.PrintedFound.{bind_some, guard_some, some_is, no_none, text_takes, text_again, then_takes}
-use Rattle.ff_text.proofs.PrintedLists.{plus_some, plus_zero}
-use Rattle.ff_text.proofs.PrintedTerms.{IsPowerEnd, IsTermEnd, IsTermIn, other_text, no_digit, term_takes, term_again}
+use Rattle.ff_text.specs.PrintedReading.{◌>>=◌, plus_at, lower_at, on_top, codes_at}
+use Rattle.ff_text.proofs.PrintedFound.{bind_some, guard_some, some_is, no_none}
 
 abbrev pub ReadTerm : Type 0
 ReadTerm = (ℕ × ℕ) × List ℕ

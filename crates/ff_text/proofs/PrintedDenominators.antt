@@ -1,7 +1,6 @@
 -- Denominators that are read are printed so, and denominators that are printed are read again.
-use Rattle.std.proofs.Common.{◌≡◌, ◌≢◌, ℕ, zero, suc, ◌+◌, ◌-◌, ◌<◌, ◌≤◌, Bool, true, false, cond, eqb, ltb, ◌&&◌, List, [], ◌∷◌, ◌++◌, length, get_or, take, reverse, replicate, All, codes, Option, Some, None, refl, sym, ap, subst, ◌∙◌, ◌⊎◌, append_assoc, arith, inl, inr}
+use Rattle.std.proofs.Common.{◌≡◌, ◌≢◌, ℕ, zero, suc, ◌+◌, ◌-◌, ◌<◌, ◌≤◌, cond, eqb, ltb, ◌&&◌, List, [], ◌∷◌, ◌++◌, length, get_or, take, reverse, replicate, codes, Some, None, refl, sym, ap, subst, ◌∙◌, ◌⊎◌, append_assoc, arith, inl, inr}
 use Rattle.std.specs.Prelude.{nat_lt}
-use Rattle.std.specs.List.{sum_by}
 use Rattle.std.proofs.lemmas.Bool.{eqb-true, eq-eqb, ltb-true, ltb-false, lt-ltb, le-ltb, and_parts, cases_Bool}
 use Rattle.std.proofs.lemmas.List.{append-nil, length-append, length-replicate, reverse-append, replicate-append-replicate, take_all}
 use Rattle.std.proofs.lemmas.List.Elements.{All-nil, All-cons, All-append, All-replicate}
@@ -13,12 +12,12 @@ use Rattle.ff_ring.proofs.Lists.{IsTrimmed_push, trim_trimmed}
 use Rattle.ff_poly.specs.Words.{IsPoly, poly_of, IsMonic, top_of}
 use Rattle.ff_text.specs.Printed.{power_text, term_text, poly_text, term_count, den_text, over_text, IsPrintable}
 use Rattle.ff_text.specs.PrintedWriting.{plus_text}
-use Rattle.ff_text.specs.PrintedReading.{◌>>=◌, after_text, digit_at, power_at, poly_at, inner_at, power_of_x, den_at, over_at}
+use Rattle.ff_text.specs.PrintedReading.{◌>>=◌, after_text, power_at, poly_at, inner_at, power_of_x, den_at, over_at}
 use Rattle.ff_text.proofs.PrintedFound.{bind_some, choice_some, guard_some, some_is, text_takes, text_again, then_takes}
-use Rattle.ff_text.proofs.PrintedLists.{plus_zero, top_text, over_written}
-use Rattle.ff_text.proofs.PrintedTerms.{IsPowerEnd, IsTermEnd, other_text, no_digit, exponent_text, one_written, power_written, power_takes, power_again}
-use Rattle.ff_text.proofs.PrintedPolys.{differ, poly_takes}
-use Rattle.ff_text.proofs.PrintedAgain.{IsPolyEnd, poly_again}
+use Rattle.ff_text.proofs.PrintedLists.{top_text, over_written}
+use Rattle.ff_text.proofs.PrintedTerms.{IsPowerEnd, other_text, exponent_text, one_written, power_written, power_takes, power_again}
+use Rattle.ff_text.proofs.PrintedPolys.{poly_takes}
+use Rattle.ff_text.proofs.PrintedAgain.{poly_again}
 use Rattle.ff_text.proofs.PrintedTexts.{poly_end}
 
 -- ---- monic polynomials

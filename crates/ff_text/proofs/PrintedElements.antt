@@ -1,11 +1,10 @@
 -- One text for one element.
-use Rattle.std.proofs.Common.{◌≡◌, ◌≢◌, ℕ, zero, suc, ◌-◌, ◌≤◌, Bool, true, false, eqb, List, [], ◌∷◌, ◌++◌, length, drop, All, codes, Option, Some, None, refl, sym, ap, subst, ◌∙◌, append_assoc, arith}
+use Rattle.std.proofs.Common.{◌≡◌, ◌≢◌, ℕ, ◌-◌, ◌≤◌, true, false, eqb, List, [], ◌∷◌, ◌++◌, length, drop, Some, None, refl, sym, ap, subst, ◌∙◌, append_assoc, arith}
 use Rattle.std.specs.Char.{is_ascii_digit}
-use Rattle.std.specs.List.{join_by}
 use Rattle.std.proofs.lemmas.List.{append-nil}
-use Rattle.ff_text.specs.Printed.{poly_text, over_text, elem_text, IsPrintable, IsPrintableElem, IsElemAt, ends_elem}
+use Rattle.ff_text.specs.Printed.{over_text, elem_text, IsPrintableElem, IsElemAt, ends_elem}
 use Rattle.ff_text.specs.PrintedReading.{◌>>=◌, after_text, num_at, over_at, elem_at}
-use Rattle.ff_text.proofs.PrintedFound.{bind_some, some_is, no_none, then_takes}
+use Rattle.ff_text.proofs.PrintedFound.{bind_some, some_is, no_none}
 use Rattle.ff_text.proofs.PrintedTerms.{other_text, no_digit}
 use Rattle.ff_text.proofs.PrintedTexts.{no_parts, not_true, power_end_nil, none_left, drop_rest, rest_fits, from, from_is, wrong_end}
 use Rattle.ff_text.proofs.PrintedNumerators.{Polys, num_text, num_takes, num_again}

@@ -1,12 +1,12 @@
 -- Numbers that are read are written so, and numbers that are written are read again.
-use Rattle.std.proofs.Common.{◌≡◌, ◌≢◌, ℕ, zero, suc, ◌+◌, ◌*◌, ◌-◌, ◌/◌, ◌%◌, ◌^◌, ◌<◌, ◌≤◌, true, false, cond, eqb, ltb, leb, List, [], ◌∷◌, ◌++◌, length, codes, Option, Some, None, refl, sym, ap, ◌∙◌, append_assoc, arith, inl, inr}
+use Rattle.std.proofs.Common.{◌≡◌, ◌≢◌, ℕ, ◌+◌, ◌*◌, ◌-◌, ◌/◌, ◌%◌, ◌^◌, ◌<◌, ◌≤◌, true, false, cond, eqb, ltb, leb, List, [], ◌∷◌, ◌++◌, length, codes, Option, Some, None, refl, sym, ap, ◌∙◌, append_assoc, arith, inl, inr}
 use Rattle.std.specs.Prelude.{nat_lt}
 use Rattle.std.specs.Char.{is_ascii_digit}
 use Rattle.std.specs.Fmt.{decimal}
 use Rattle.std.proofs.lemmas.Bool.{ltb-true, leb-true, eq-eqb, ne_eqb, le-ltb, lt-ltb, le-leb, and_parts, and_from, cases_Bool}
 use Rattle.std.proofs.lemmas.Fmt.{decimal_digit, decimal_step, decimal_by_steps}
 use Rattle.ff_text.specs.PrintedReading.{◌>>=◌, after_text, digit_at, digits_at, number_at}
-use Rattle.ff_text.proofs.PrintedFound.{bind_some, choice_some, guard_some, test_some, some_is, no_none, text_takes}
+use Rattle.ff_text.proofs.PrintedFound.{bind_some, choice_some, guard_some, test_some, some_is, no_none}
 
 -- ---- one digit
 

@@ -1,15 +1,14 @@
 -- Numerators that are read are printed so, and numerators that are printed are read again.
-use Rattle.std.proofs.Common.{◌≡◌, ℕ, zero, suc, ◌<◌, ◌≤◌, List, [], ◌∷◌, ◌++◌, length, All, codes, true, Option, Some, None, refl, sym, ap, subst, ◌∙◌, append_assoc, arith, inl, inr}
-use Rattle.std.specs.List.{flat_map, join_by}
+use Rattle.std.proofs.Common.{◌≡◌, ℕ, zero, suc, ◌<◌, ◌≤◌, List, [], ◌∷◌, ◌++◌, length, All, codes, Option, Some, None, refl, sym, ap, subst, ◌∙◌, append_assoc, arith, inl, inr}
+use Rattle.std.specs.List.{join_by}
 use Rattle.std.proofs.lemmas.List.{append-nil, length-append}
 use Rattle.std.proofs.lemmas.List.Elements.{All-nil, All-cons, All-head, All-tail}
 use Rattle.ff_text.specs.declared.fault.TextFault.{TextFault}
-use Rattle.ff_text.specs.declared.fault.TextFault.TheVariants.{Syntax, CodeRange, Memory}
 use Rattle.ff_text.specs.Printed.{poly_text, IsPrintable, IsNoText}
 use Rattle.ff_text.specs.PrintedWriting.{commas_text}
 use Rattle.ff_text.specs.PrintedReading.{◌>>=◌, with_front, with_first, after_text, poly_at, some_polys_at, polys_at, num_at}
 use Rattle.ff_text.proofs.PrintedFound.{bind_some, choice_some, some_is, text_takes, text_again, then_takes, with_front_push}
-use Rattle.ff_text.proofs.PrintedTerms.{other_text, no_digit}
+use Rattle.ff_text.proofs.PrintedTerms.{other_text}
 use Rattle.ff_text.proofs.PrintedPolys.{poly_takes}
 use Rattle.ff_text.proofs.PrintedAgain.{IsPolyEnd, poly_again}
 use Rattle.ff_text.proofs.PrintedTexts.{poly_end, no_text}

@@ -1,19 +1,17 @@
 -- Polynomials that are read are printed so, and polynomials that are printed are read again.
-use Rattle.std.proofs.Common.{◌≡◌, ◌≢◌, ℕ, zero, suc, ◌+◌, ◌-◌, ◌<◌, ◌≤◌, Bool, false, true, eqb, List, [], ◌∷◌, ◌++◌, length, reverse, All, codes, Option, Some, None, refl, sym, ap, subst, ◌∙◌, ◌⊎◌, append_assoc, arith, inl, inr}
-use Rattle.std.specs.Char.{is_ascii_digit}
+use Rattle.std.proofs.Common.{◌≡◌, ◌≢◌, ℕ, zero, suc, ◌<◌, ◌≤◌, Bool, false, true, eqb, List, [], ◌∷◌, ◌++◌, length, reverse, All, codes, Option, Some, None, refl, sym, ap, subst, ◌∙◌, arith, inl, inr}
 use Rattle.std.proofs.lemmas.Bool.{eqb-true, eq-eqb, ne_eqb, cases_Bool}
 use Rattle.std.proofs.lemmas.List.{reverse-append, reverse-reverse, length-reverse}
 use Rattle.std.proofs.lemmas.List.Elements.{All-nil, All-cons, All-head, All-tail, All-append}
 use Rattle.ff_fields.specs.Code.{is_zero_code}
-use Rattle.ff_ring.specs.Lists.{IsTrimmed}
 use Rattle.ff_ring.proofs.Lists.{IsTrimmed_push, trim_trimmed}
 use Rattle.ff_poly.specs.Words.{IsPoly, poly_of}
 use Rattle.ff_text.specs.Printed.{term_text, poly_text, IsPrintable}
 use Rattle.ff_text.specs.PrintedWriting.{plus_text}
-use Rattle.ff_text.specs.PrintedReading.{◌>>=◌, after_text, digit_at, term_at, plus_at, on_top, codes_at, below_top, poly_at}
-use Rattle.ff_text.proofs.PrintedFound.{bind_some, choice_some, some_is, no_none, text_takes, text_again, then_takes}
+use Rattle.ff_text.specs.PrintedReading.{◌>>=◌, after_text, term_at, plus_at, codes_at, below_top, poly_at}
+use Rattle.ff_text.proofs.PrintedFound.{bind_some, choice_some, some_is, no_none, text_takes, then_takes}
 use Rattle.ff_text.proofs.PrintedLists.{plus_some, plus_zero, top_text}
-use Rattle.ff_text.proofs.PrintedTerms.{IsPowerEnd, IsTermEnd, IsTermIn, other_text, no_digit, term_takes, term_again}
+use Rattle.ff_text.proofs.PrintedTerms.{IsTermIn, term_takes}
 use Rattle.ff_text.proofs.PrintedCodes.{ReadTerm, codes_skip, codes_take}
 
 abbrev pub IsSmall : List ℕ → Type 0

@@ -1,10 +1,8 @@
 -- Terms that are read are printed so, and terms that are printed are read again.
-use Rattle.std.proofs.Common.{◌≡◌, ◌≢◌, ℕ, zero, suc, ◌+◌, ◌^◌, ◌<◌, ◌≤◌, false, true, cond, eqb, ltb, List, [], ◌∷◌, ◌++◌, length, codes, Option, Some, None, refl, sym, ap, subst, ◌∙◌, append_assoc, arith, inl, inr}
+use Rattle.std.proofs.Common.{◌≡◌, ℕ, zero, suc, ◌<◌, ◌≤◌, false, eqb, ltb, List, [], ◌∷◌, ◌++◌, codes, Some, None, refl, sym, ap, subst, ◌∙◌, append_assoc, arith, inl, inr}
 use Rattle.std.specs.Char.{is_ascii_digit}
 use Rattle.std.specs.Fmt.{decimal}
 use Rattle.std.proofs.lemmas.Bool.{ltb-true, lt-ltb, ne_eqb}
-use Rattle.std.proofs.lemmas.Fmt.{decimal_nonempty}
-use Rattle.std.proofs.lemmas.List.{length-append}
 use Rattle.ff_text.specs.Printed.{power_text, term_text}
 use Rattle.ff_text.specs.PrintedReading.{◌>>=◌, after_text, digit_at, number_at, exponent_at, power_at, factor_at, behind_code, term_at}
 use Rattle.ff_text.proofs.PrintedFound.{bind_some, choice_some, test_some, some_is, text_takes, text_again}

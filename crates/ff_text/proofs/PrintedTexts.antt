@@ -1,6 +1,6 @@
 -- One text for one polynomial.
-use Rattle.std.proofs.Common.{◌≡◌, ◌≢◌, ℕ, zero, suc, ◌-◌, ◌≤◌, Bool, true, false, eqb, ◌||◌, not, List, [], ◌∷◌, ◌++◌, length, take, drop, codes, Option, Some, None, refl, sym, ap, subst, ◌∙◌, append_assoc, arith, inl, inr}
-use Rattle.std.specs.Prelude.{nat_eq, ◌&&◌}
+use Rattle.std.proofs.Common.{◌≡◌, ◌≢◌, ℕ, ◌-◌, ◌≤◌, Bool, true, false, eqb, ◌||◌, not, List, [], ◌∷◌, ◌++◌, length, take, drop, codes, Some, None, refl, sym, ap, ◌∙◌, append_assoc, arith, inl, inr}
+use Rattle.std.specs.Prelude.{nat_eq}
 use Rattle.std.specs.Char.{is_ascii_digit}
 use Rattle.std.specs.List.{starts_with}
 use Rattle.std.proofs.lemmas.Bool.{eqb-true, eq-eqb, cases_Bool}
@@ -11,7 +11,7 @@ use Rattle.ff_text.specs.declared.fault.TextFault.TheVariants.{Syntax, CodeRange
 use Rattle.ff_text.specs.Printed.{poly_text, IsPrintable, IsPolyAt, ends_poly, IsNoText}
 use Rattle.ff_text.specs.PrintedReading.{after_text, digit_at, poly_at}
 use Rattle.ff_text.proofs.PrintedFound.{some_is, no_none}
-use Rattle.ff_text.proofs.PrintedTerms.{IsPowerEnd, IsTermEnd, other_text, no_digit}
+use Rattle.ff_text.proofs.PrintedTerms.{IsPowerEnd, other_text, no_digit}
 use Rattle.ff_text.proofs.PrintedPolys.{poly_takes}
 use Rattle.ff_text.proofs.PrintedAgain.{IsPolyEnd, poly_again}
 

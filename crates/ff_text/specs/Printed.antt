@@ -1,5 +1,5 @@
 -- How polynomials and elements are printed, byte by byte.
-use Rattle.std.specs.Prelude.{◌≡◌, ℕ, zero, suc, ◌<◌, ◌≤◌, ◌==◌, ◌||◌, not, Bool, true, false, if◌then◌else◌, nat_lt, nat_eq, IsTrue, List, [], ◌∷◌, ◌++◌, length, drop, reverse, codes, All, ⊤}
+use Rattle.std.specs.Prelude.{◌≡◌, ℕ, zero, suc, ◌<◌, ◌≤◌, ◌==◌, ◌||◌, not, Bool, true, if◌then◌else◌, nat_lt, nat_eq, IsTrue, List, [], ◌∷◌, ◌++◌, length, drop, reverse, codes, All, ⊤}
 use Rattle.std.specs.List.{join_by, starts_with, count_by}
 use Rattle.std.specs.Char.{is_ascii_digit}
 use Rattle.std.specs.Fmt.{decimal}

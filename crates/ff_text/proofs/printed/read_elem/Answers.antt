@@ -1,4 +1,4 @@
-use Rattle.std.proofs.Common.{◌≡◌, ◌∙◌, refl, sym}
+use Rattle.std.proofs.Common.{◌∙◌, refl, sym}
 use Rattle.std.proofs.lemmas.Result.{err_from_is_err_and}
 use Rattle.ff_text.proofs.PrintedTexts.{no_text}
 use Rattle.ff_text.proofs.PrintedElements.{ReadElem, elem_found_at, elem_fits_at, no_elem_at, no_end_at}

@@ -1,4 +1,4 @@
-use Rattle.std.proofs.Common.{◌≡◌, ◌∙◌, refl, sym}
+use Rattle.std.proofs.Common.{◌∙◌, refl, sym}
 use Rattle.std.proofs.lemmas.Result.{err_from_is_err_and}
 use Rattle.ff_text.proofs.PrintedTexts.{no_text, poly_found_at, poly_fits_at, no_poly_at, no_end_at}
 use Rattle.ff_text.proofs.printed.read_poly.Goals as goal

@@ -1,4 +1,4 @@
-use Rattle.std.proofs.Common.{◌≡◌, ◌++◌, ◌∷◌, [], replicate, ap, ◌∙◌}
+use Rattle.std.proofs.Common.{◌++◌, ◌∷◌, [], replicate, ap, ◌∙◌}
 use Rattle.ff_poly.specs.Words.{poly_of}
 use Rattle.ff_text.proofs.PrintedDenominators.{power_trimmed}
 use Rattle.ff_text.proofs.printed.elem.power_of_x.Goals as goal

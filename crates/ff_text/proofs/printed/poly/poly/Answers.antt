@@ -1,4 +1,4 @@
-use Rattle.std.proofs.Common.{◌≡◌, [], ◌∷◌, ◌++◌, reverse, ap, ◌∙◌}
+use Rattle.std.proofs.Common.{[], ◌∷◌, ◌++◌, ap, ◌∙◌}
 use Rattle.ff_poly.specs.Words.{poly_of}
 use Rattle.ff_text.specs.PrintedReading.{codes_at}
 use Rattle.ff_text.proofs.PrintedPolys.{poly_found}

@@ -1,4 +1,4 @@
-use Rattle.std.proofs.Common.{◌≡◌, ◌≢◌, suc, ◌++◌, take, reverse, codes, ◌-◌, get_or, refl, sym, ap, ◌∙◌, arith, append_assoc}
+use Rattle.std.proofs.Common.{◌≡◌, suc, ◌++◌, take, reverse, ◌-◌, sym, ap, ◌∙◌, arith, append_assoc}
 use Rattle.ff_text.specs.Printed.{term_text}
 use Rattle.ff_text.specs.PrintedWriting.{plus_text}
 use Rattle.ff_text.proofs.PrintedLists.{plus_more, poly_first, length_from_degree}
