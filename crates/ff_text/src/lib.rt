@@ -3,5 +3,10 @@
 
 pub mod fault;
 pub mod number;
+pub mod printed;
 
 pub use fault::TextFault;
+pub use printed::Written;
+
+#[cfg(test)]
+mod tests;

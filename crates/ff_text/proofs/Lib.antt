@@ -1,0 +1,11 @@
+pub mod PrintedFound
+pub mod PrintedNumbers
+pub mod PrintedLists
+pub mod PrintedTerms
+pub mod PrintedCodes
+pub mod PrintedPolys
+pub mod PrintedAgain
+pub mod PrintedTexts
+pub mod PrintedNumerators
+pub mod PrintedDenominators
+pub mod PrintedElements
