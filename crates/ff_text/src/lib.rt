@@ -3,5 +3,9 @@
 
 pub mod fault;
 pub mod number;
+pub mod print;
+pub mod terms;
 
 pub use fault::TextFault;
+pub use print::{print_element, print_terms, push_element, push_terms};
+pub use terms::{ElemText, EntryList, Factor, FactorList, Term, TermList};
