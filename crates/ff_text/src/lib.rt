@@ -4,6 +4,8 @@
 pub mod fault;
 pub mod number;
 pub mod print;
+mod element;
+mod scan;
 pub mod terms;
 
 pub use fault::TextFault;
