@@ -3,3 +3,4 @@ pub mod Reading
 pub mod Printing
 pub mod Scanning
 pub mod ElementScanning
+pub mod Values

@@ -1,6 +1,7 @@
 //! Texts of numbers, polynomials and elements: how they are written in scripts, and how they are printed.
 #![tactic(auto)]
 
+
 mod element;
 pub mod fault;
 pub mod number;
@@ -10,7 +11,9 @@ mod scan;
 #[cfg(test)]
 mod reading_tests;
 pub mod terms;
+pub mod values;
 
+pub use values::collect;
 pub use fault::TextFault;
 pub use print::{print_element, print_terms, push_element, push_terms};
 pub use read::{read_element, read_number, read_terms, read_terms_in_x};
