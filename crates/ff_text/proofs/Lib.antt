@@ -1,3 +1,6 @@
 pub mod Machines
 pub mod Digits
 pub mod Gathered
+pub mod Texts
+pub mod Marks
+pub mod ScanSound
