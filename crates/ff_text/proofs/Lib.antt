@@ -4,3 +4,4 @@ pub mod Gathered
 pub mod Texts
 pub mod Marks
 pub mod ScanSound
+pub mod ScanComplete
