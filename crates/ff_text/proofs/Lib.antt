@@ -5,3 +5,4 @@ pub mod Texts
 pub mod Marks
 pub mod ScanSound
 pub mod ScanComplete
+pub mod ReadTerms

@@ -24,6 +24,9 @@ use Rattle.ff_text.proofs.Digits.{IsDigit, digit_of_value}
 use Rattle.ff_text.proofs.Marks.{mark-blank, mark-digit}
 use Rattle.ff_text.proofs.ScanSound.{scan_at, scanned, whole_scan}
 
+abbrev pub is_whole_scan : Scan → Bool
+is_whole_scan s = is_whole_place s.place
+
 module _ (rules : Rules) where
   abbrev pub ScanLeads : Scan → List ℕ → Scan → Type 0
   ScanLeads = Leads (scan_step rules)
@@ -470,9 +473,6 @@ module _ (rules : Rules) where
   live_at ts m fs (Behind k n) = (codes "*0", scan_at ts m (fs ++ factor_of k n ∷ []) (Digits kinds.Code 1 0), refl, refl)
 
   -- ---- the machine of polynomials
-
-  abbrev pub is_whole_scan : Scan → Bool
-  is_whole_scan s = is_whole_place s.place
 
   pub scan_machine : rules.signs ≡ true → IsMachine (scan_step rules) begun is_whole_scan last_terms (SpellsTerms rules.y)
   scan_machine signs = record {
