@@ -9,3 +9,11 @@ pub mod PrintedTexts
 pub mod PrintedNumerators
 pub mod PrintedDenominators
 pub mod PrintedElements
+pub mod Machines
+pub mod Digits
+pub mod Gathered
+pub mod Texts
+pub mod Marks
+pub mod ScanSound
+pub mod ScanComplete
+pub mod ReadTerms
