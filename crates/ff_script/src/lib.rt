@@ -1,0 +1,10 @@
+//! Scripts: statements as they are spelled on lines, how a script is read, and how a statement is printed.
+#![tactic(auto)]
+
+pub mod fault;
+pub mod printing;
+pub mod script;
+
+pub use fault::ScriptFault;
+pub use printing::{print, push_statement};
+pub use script::{CodeList, Modulus, Statement};
