@@ -1,3 +1,5 @@
 pub mod Spans
 pub mod Spelled
 pub mod Fronts
+pub mod Steps
+pub mod Behind

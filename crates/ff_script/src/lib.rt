@@ -3,8 +3,10 @@
 
 pub mod fault;
 pub mod printing;
+pub mod reading;
 pub mod script;
 
 pub use fault::ScriptFault;
 pub use printing::{print, push_statement};
+pub use reading::read_statement;
 pub use script::{CodeList, Modulus, Statement};
