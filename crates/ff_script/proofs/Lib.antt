@@ -3,3 +3,5 @@ pub mod Spelled
 pub mod Fronts
 pub mod Steps
 pub mod Behind
+pub mod Cuts
+pub mod Progress
