@@ -1,0 +1,44 @@
+-- How statements are printed, and which are read again as they were.
+use Rattle.std.specs.Prelude.{◌≡◌, ℕ, suc, ◌<◌, true, List, [], ◌∷◌, ◌++◌, length, codes, Option, Some, None, decimal, flat_map}
+use Rattle.std.specs.List.{AllByRecursion}
+use Rattle.ff_text.specs.Printing.{terms_text, element_text, IsWritableTerms, IsWritableElement}
+use Rattle.ff_text.specs.declared.terms.ElemText.{ElemText}
+use Rattle.ff_script.specs.declared.script.Modulus.{Modulus}
+use Rattle.ff_script.specs.declared.script.Statement.{Statement}
+use Rattle.ff_script.specs.declared.script.Statement.TheVariants.{FieldOf, CurveOf, Mul}
+use Rattle.ff_script.specs.Grammar.{numbers_of, IsWhole}
+
+-- the numbers, each behind a space
+abbrev pub numbers_text : List ℕ → List ℕ
+numbers_text ns = flat_map (λ n. codes " " ++ decimal n) ns
+
+-- the degree and the coefficients of a modulus, each behind a space
+abbrev pub tail_text : Option Modulus → List ℕ
+tail_text tail = numbers_text (numbers_of tail)
+
+-- the line of a statement, without its line feed
+abbrev pub statement_text : Statement → List ℕ
+statement_text (FieldOf p tail) = codes "field " ++ (decimal p ++ tail_text tail)
+statement_text (CurveOf f) = codes "curve " ++ terms_text f
+statement_text (Mul a b) = codes "mul " ++ (element_text a ++ (codes " " ++ element_text b))
+
+-- each statement on a line that a line feed ends
+abbrev pub script_text : List Statement → List ℕ
+script_text ss = flat_map (λ s. statement_text s ++ codes "\n") ss
+
+-- ---- what is read again as it was
+
+-- at most nine digits
+abbrev pub IsShort : ℕ → Type 0
+IsShort n = n < 1000000000
+
+-- the element can be written, and has no denominator
+pub record IsWritableFactor (e : ElemText) : Type 0 where
+  pub plain : e.den ≡ None
+  pub element : IsWritableElement e
+
+-- a statement that its text spells
+abbrev pub IsWritable : Statement → Type 0
+IsWritable (FieldOf p tail) = AllByRecursion IsShort (p ∷ numbers_of tail) × IsWhole tail
+IsWritable (CurveOf f) = IsWritableTerms true f
+IsWritable (Mul a b) = IsWritableFactor a × IsWritableFactor b

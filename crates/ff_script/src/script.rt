@@ -1,0 +1,92 @@
+//! Statements as they are spelled.
+
+ghost use Rattle.std.specs.Prelude.{◌≡◌, IfOk};
+
+use ff_text::{ElemText, TermList};
+use std::alloc::{AllocError, Global};
+use std::marker::Model;
+
+/// The coefficients of a modulus as they are written, lowest first.
+#[derive(Debug, Drop)]
+pub struct CodeList {
+    pub codes: Vec<u32>,
+}
+
+impl Model for CodeList {
+    ghost use Rattle.std.specs.Prelude.{ℕ, List};
+
+    ghost Value = { List ℕ };
+
+    ghost view = { λ t. t.codes.items };
+}
+
+/// A degree and the coefficients of a modulus.
+#[derive(Debug, Drop)]
+pub struct Modulus {
+    pub m: u32,
+    pub codes: CodeList,
+}
+
+/// A statement of a script.
+#[derive(Debug, Drop)]
+pub enum Statement {
+    /// `field p`, or `field p m c_0 .. c_m`
+    FieldOf { p: u32, tail: Option<Modulus> },
+    /// `curve f`
+    CurveOf { f: TermList },
+    /// `mul a b`
+    Mul { a: ElemText, b: ElemText },
+}
+
+impl CodeList {
+    /// Equal codes, in memory of their own.
+    pub fn copy(&self, alloc: Global) -> Result<CodeList, AllocError>
+        ensures { IfOk result (λ t. t ≡ self.now) }
+    {
+        let codes = self.codes.as_slice().to_vec(alloc)?;
+        Ok(CodeList { codes })
+    }
+}
+
+impl Modulus {
+    /// An equal modulus, in memory of its own.
+    pub fn copy(&self, alloc: Global) -> Result<Modulus, AllocError>
+        ensures { IfOk result (λ t. t ≡ self.now) }
+    {
+        let codes = self.codes.copy(alloc)?;
+        Ok(Modulus { m: self.m, codes })
+    }
+}
+
+/// An equal tail of `field`.
+fn copy_tail(alloc: Global, tail: &Option<Modulus>) -> Result<Option<Modulus>, AllocError>
+    ensures { IfOk result (λ t. t ≡ tail.now) }
+{
+    match tail {
+        Some(modulus) => Ok(Some(modulus.copy(alloc)?)),
+        None => Ok(None),
+    }
+}
+
+impl Statement {
+    /// An equal statement, in memory of its own.
+    pub fn copy(&self, alloc: Global) -> Result<Statement, AllocError>
+        ensures { IfOk result (λ t. t ≡ self.now) }
+    {
+        match self {
+            Statement::FieldOf { p, tail } => {
+                let tail = copy_tail(alloc, tail)?;
+                Ok(Statement::FieldOf { p: *p, tail })
+            }
+            Statement::CurveOf { f } => {
+                let f = f.copy(alloc)?;
+                Ok(Statement::CurveOf { f })
+            }
+            Statement::Mul { a, b } => {
+                let a = a.copy(alloc)?;
+                let b = b.copy(alloc)?;
+                Ok(Statement::Mul { a, b })
+            }
+        }
+    }
+}
