@@ -1,0 +1,5 @@
+mod RowMatrix
+mod Determinants
+mod RowForm
+mod FunctionTraces
+mod TraceForm

@@ -1,0 +1,30 @@
+//! Traces and discriminants in a function field F = k(x)[y]/(f), and the functions that are integral over the polynomials or over the
+//! fractions of degree at most 0. Nothing is asked of f: F need not be a field. Each main theorem is the contract of a function with an
+//! empty body; the crates above cite the lemmas of proofs/.
+#![tactic(auto)]
+
+ghost use Rattle.std.specs.Prelude.{◌≡◌, ℕ, ◌<◌, ◌↔◌};
+ghost use Rattle.ff_ring.specs.Ring.{pow, nat};
+ghost use Rattle.ff_fields.specs.Field.{CodeField};
+ghost use Rattle.ff_poly.specs.Polynomials.{Polynomial, polynomials};
+ghost use Rattle.ff_algebra.specs.Functions.{Equation, FunctionOf, ring_of, over, row_of, of_poly, y_of, trace_of, degree_of_y, IsPolynomial};
+ghost use Rattle.ff_algebra.specs.Discriminant.{discriminant};
+ghost use Rattle.trace_theory.specs.Traces.{IsRational, HasPolynomialCoordinates};
+
+/// The trace of F over k(x) is additive and linear over k(x), has its values in k(x), and is n at 1.
+pub fn trace_law()
+    ensures sum { (k : CodeField) (c : Equation k) (z w : FunctionOf c)
+        → trace_of c ((ring_of c).◌⊕◌ z w) ≡ (ring_of c).◌⊕◌ (trace_of c z) (trace_of c w) }
+    ensures linear { (k : CodeField) (c : Equation k) (a z : FunctionOf c) → IsRational c a
+        → trace_of c ((ring_of c).◌⊗◌ a z) ≡ (ring_of c).◌⊗◌ a (trace_of c z) }
+    ensures rational { (k : CodeField) (c : Equation k) (z : FunctionOf c) → IsRational c (trace_of c z) }
+    ensures one { (k : CodeField) (c : Equation k) → trace_of c (ring_of c).𝟙 ≡ nat (ring_of c).ops (degree_of_y c) }
+{}
+
+/// Where the products of a function with 1, y, up to y^(n-1) have polynomials as traces, the discriminant times the function has
+/// polynomials as coordinates (Cramer's rule).
+pub fn trace_form_law()
+    ensures { (k : CodeField) (c : Equation k) (z : FunctionOf c)
+        → ((i : ℕ) → i < degree_of_y c → IsPolynomial c (trace_of c ((ring_of c).◌⊗◌ z (pow (ring_of c).ops (y_of c) i))))
+        → HasPolynomialCoordinates c ((ring_of c).◌⊗◌ (of_poly c (discriminant c)) z) }
+{}
