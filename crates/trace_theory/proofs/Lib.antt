@@ -3,3 +3,5 @@ mod Determinants
 mod RowForm
 mod FunctionTraces
 mod TraceForm
+mod Dependence
+mod Degenerate

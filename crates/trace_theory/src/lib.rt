@@ -9,7 +9,7 @@ ghost use Rattle.ff_fields.specs.Field.{CodeField};
 ghost use Rattle.ff_poly.specs.Polynomials.{Polynomial, polynomials};
 ghost use Rattle.ff_algebra.specs.Functions.{Equation, FunctionOf, ring_of, over, row_of, of_poly, y_of, trace_of, degree_of_y, IsPolynomial};
 ghost use Rattle.ff_algebra.specs.Discriminant.{discriminant};
-ghost use Rattle.trace_theory.specs.Traces.{IsRational, HasPolynomialCoordinates};
+ghost use Rattle.trace_theory.specs.Traces.{IsRational, HasPolynomialCoordinates, HasDegenerateTraceForm};
 
 /// The trace of F over k(x) is additive and linear over k(x), has its values in k(x), and is n at 1.
 pub fn trace_law()
@@ -27,4 +27,11 @@ pub fn trace_form_law()
     ensures { (k : CodeField) (c : Equation k) (z : FunctionOf c)
         → ((i : ℕ) → i < degree_of_y c → IsPolynomial c (trace_of c ((ring_of c).◌⊗◌ z (pow (ring_of c).ops (y_of c) i))))
         → HasPolynomialCoordinates c ((ring_of c).◌⊗◌ (of_poly c (discriminant c)) z) }
+{}
+
+/// The trace form is degenerate exactly where the discriminant is 0.
+pub fn degenerate_law()
+    ensures degenerate { (k : CodeField) (c : Equation k) → (discriminant c ≡ (polynomials k).𝟘) ↔ HasDegenerateTraceForm c }
+    ensures zero { (k : CodeField) (c : Equation k) (z : FunctionOf c) → ¬ (discriminant c ≡ (polynomials k).𝟘)
+        → ((i : ℕ) → i < degree_of_y c → trace_of c ((ring_of c).◌⊗◌ z (pow (ring_of c).ops (y_of c) i)) ≡ (ring_of c).𝟘) → z ≡ (ring_of c).𝟘 }
 {}
