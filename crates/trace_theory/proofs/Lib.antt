@@ -5,3 +5,4 @@ mod FunctionTraces
 mod TraceForm
 mod Dependence
 mod Degenerate
+mod Powers
