@@ -228,11 +228,11 @@ module _ {A : Type 0} (R : CommRing A) where
 
 -- a homomorphism takes determinants to determinants
 module _ {A B : Type 0} (R : CommRing A) (S : CommRing B) (φ : A → B) (hom : IsHom R S φ) where
-  image_sum : (n : ℕ) (f : ℕ → A) → φ (sum_below R.ops n f) ≡ sum_below S.ops n (λ i. φ (f i))
+  pub image_sum : (n : ℕ) (f : ℕ → A) → φ (sum_below R.ops n f) ≡ sum_below S.ops n (λ i. φ (f i))
   image_sum zero f = hom_zero R S φ hom
   image_sum (suc n) f = hom.add _ _ ∙ ap (λ x. S.◌⊕◌ x (φ (f n))) (image_sum n f)
 
-  image_power : (n : ℕ) (a : A) → φ (pow R.ops a n) ≡ pow S.ops (φ a) n
+  pub image_power : (n : ℕ) (a : A) → φ (pow R.ops a n) ≡ pow S.ops (φ a) n
   image_power zero a = hom.𝟙
   image_power (suc n) a = hom.mul _ _ ∙ ap (S.◌⊗◌ (φ a)) (image_power n a)
 

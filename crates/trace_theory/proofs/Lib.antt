@@ -6,3 +6,6 @@ mod TraceForm
 mod Dependence
 mod Degenerate
 mod Powers
+mod Norms
+mod TracePowers
+mod FunctionPowers

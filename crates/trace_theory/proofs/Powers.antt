@@ -51,6 +51,19 @@ module _ (k : CodeField) where
   unfolding size_less
   length_codes = some_codes (code_finite k).codes ((code_finite k).codes_all (code_ring k).𝟘)
 
+  -- 0 and 1 are two codes
+  two_codes : (xs : List (Code k)) → In (code_ring k).𝟘 xs → In (code_ring k).𝟙 xs → 1 ≤ length xs - 1
+  two_codes [] h g = absurd h
+  two_codes (x ∷ []) (inl e) (inl f) = absurd ((code_domain k).one_not_zero (f ∙ sym e))
+  two_codes (x ∷ []) (inr e) g = absurd e
+  two_codes (x ∷ []) (inl e) (inr g) = absurd g
+  two_codes (x ∷ y ∷ xs) h g = omega arith
+
+  pub size_some : 1 ≤ size_less
+  unfolding size_less
+  size_some =
+      two_codes (code_finite k).codes ((code_finite k).codes_all (code_ring k).𝟘) ((code_finite k).codes_all (code_ring k).𝟙)
+
   code_power : (a : Code k) → pow (code_ring k).ops a q ≡ a
   code_power a = ap (pow (code_ring k).ops a) (sym length_codes) ∙ (code_finite k).power a
 

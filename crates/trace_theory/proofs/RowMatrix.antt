@@ -201,16 +201,16 @@ module _ {P : Type 0} (S : CommRing P) (n : ℕ) (f : Row P (suc n)) where
   pub trace_scale : (d : P) (v : Row P (suc n)) → tr (row_scale S.ops (suc n) d v) ≡ d ⊗ tr v
   trace_scale d v = row_trace_scale S n f d v
 
+  pub left_scale : (d : P) (u : Row P (suc n)) (j : ℕ) → rows.◌⊗◌ (row_scale S.ops (suc n) d u) (y j) ≡ row_scale S.ops (suc n) d (rows.◌⊗◌ u (y j))
+  left_scale d u j = sym (scale_row_mul S n f d u (y j))
+
   -- the trace of v·y^j is the sum of v_i times the trace of y^(i+j)
   pub trace_form : (v : Row P (suc n)) (j : ℕ) → tr (rows.◌⊗◌ v (y j)) ≡ sum_below S.ops (suc n) (λ i. at i v ⊗ tr (y (i + j)))
   trace_form v j =
       map_sum (λ u. tr (rows.◌⊗◌ u (y j)))
       (λ u u'. ap tr (rows.mul_comm _ _ ∙ rows.mul_add (y j) u u' ∙ ap₂ rows.◌⊕◌ (rows.mul_comm _ _) (rows.mul_comm _ _)) ∙ trace_add _ _)
-      (λ d u. ap tr (left_scale d u) ∙ trace_scale d _) v
+      (λ d u. ap tr (left_scale d u j) ∙ trace_scale d _) v
       ∙ below_cong S (suc n) _ _ (λ i l. ap (λ u. at i v ⊗ tr u) (y_product i j))
-    where
-      left_scale : (d : P) (u : Row P (suc n)) → rows.◌⊗◌ (row_scale S.ops (suc n) d u) (y j) ≡ row_scale S.ops (suc n) d (rows.◌⊗◌ u (y j))
-      left_scale d u = sym (scale_row_mul S n f d u (y j))
 
   pub trace_unit : tr rows.𝟙 ≡ sum_below S.ops (suc n) (λ i. 𝟙)
   unfolding matrix
