@@ -9,3 +9,4 @@ mod Powers
 mod Norms
 mod TracePowers
 mod FunctionPowers
+mod Reduced
