@@ -3,8 +3,8 @@
 //! empty body; the crates above cite the lemmas of proofs/.
 #![tactic(auto)]
 
-ghost use Rattle.std.specs.Prelude.{◌≡◌, ℕ, ◌<◌, ◌↔◌};
-ghost use Rattle.ff_ring.specs.Ring.{pow, nat};
+ghost use Rattle.std.specs.Prelude.{◌≡◌, ℕ, ◌<◌, ◌↔◌, ◌⊎◌};
+ghost use Rattle.ff_ring.specs.Ring.{IsField, pow, nat};
 ghost use Rattle.ff_fields.specs.Field.{CodeField};
 ghost use Rattle.ff_poly.specs.Polynomials.{Polynomial, polynomials};
 ghost use Rattle.ff_algebra.specs.Functions.{Equation, FunctionOf, ring_of, over, row_of, of_poly, y_of, trace_of, degree_of_y, IsPolynomial};
@@ -34,4 +34,12 @@ pub fn degenerate_law()
     ensures degenerate { (k : CodeField) (c : Equation k) → (discriminant c ≡ (polynomials k).𝟘) ↔ HasDegenerateTraceForm c }
     ensures zero { (k : CodeField) (c : Equation k) (z : FunctionOf c) → ¬ (discriminant c ≡ (polynomials k).𝟘)
         → ((i : ℕ) → i < degree_of_y c → trace_of c ((ring_of c).◌⊗◌ z (pow (ring_of c).ops (y_of c) i)) ≡ (ring_of c).𝟘) → z ≡ (ring_of c).𝟘 }
+{}
+
+/// Where the discriminant isn't 0, no function but 0 is nilpotent, and F is a field where 0 and 1 are its only idempotents.
+pub fn reduced_law()
+    ensures reduced { (k : CodeField) (c : Equation k) (z : FunctionOf c) (m : ℕ) → ¬ (discriminant c ≡ (polynomials k).𝟘)
+        → pow (ring_of c).ops z m ≡ (ring_of c).𝟘 → z ≡ (ring_of c).𝟘 }
+    ensures field { (k : CodeField) (c : Equation k) → ¬ (discriminant c ≡ (polynomials k).𝟘)
+        → ((e : FunctionOf c) → (ring_of c).◌⊗◌ e e ≡ e → (e ≡ (ring_of c).𝟘) ⊎ (e ≡ (ring_of c).𝟙)) → IsField (ring_of c).ops }
 {}
