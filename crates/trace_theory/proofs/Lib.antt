@@ -10,3 +10,6 @@ mod Norms
 mod TracePowers
 mod FunctionPowers
 mod Reduced
+mod Division
+mod IntegralTraces
+mod IntegralFunctions

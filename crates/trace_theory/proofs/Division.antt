@@ -1,0 +1,63 @@
+-- Division of polynomials, and k[x] as a Euclidean domain.
+use mathlib.Core.Path.{fun_ext}
+use Rattle.std.proofs.Common.{◌≡◌, ◌≢◌, ℕ, zero, suc, ◌<◌, ◌≤◌, ◌-◌, ◌⊎◌, inl, inr, List, [], ◌∷◌, length, refl, sym, ◌∙◌, ap, ap₂, arith}
+use Rattle.ff_ring.specs.Ring.{TestedRing}
+use Rattle.ff_ring.specs.Lists.{coeff_of, convolution, rest_from, quotient_from}
+use Rattle.ff_ring.proofs.Sequences.{convolution_comm}
+use Rattle.ff_ring.proofs.Lists.{coeff_trim}
+use Rattle.ff_ring.proofs.Polynomials.{Pol, pol_of, same_pol, series_add, series_mul, coeff_top, length_product}
+use Rattle.ff_ring.proofs.Division.{divided, rest_ends, length_bound}
+use Rattle.linear_theory.specs.Euclidean.{Euclidean}
+use Rattle.ff_fields.specs.Field.{CodeField}
+use Rattle.ff_fields.specs.Code.{Code, code_ring, code_field, code_domain}
+use Rattle.ff_poly.specs.Polynomials.{Polynomial, polynomials, polynomials_domain, polynomial_discrete, polynomial_eq}
+use Rattle.trace_theory.proofs.TracePowers.{some_long}
+use Rattle.trace_theory.proofs.Degenerate.{domain}
+
+module _ (k : CodeField) where
+  -- a is b times a quotient and a rest that is shorter than b
+  pub record Divided (a b : Polynomial k) : Type 0 where
+    pub quotient : Polynomial k
+    pub rest : Polynomial k
+    pub is : a ≡ (polynomials k).◌⊕◌ ((polynomials k).◌⊗◌ b quotient) rest
+    pub shorter : length rest.0 < length b.0
+
+  top_not_zero : (b : Polynomial k) → 0 < length b.0 → ¬ (coeff_of (code_ring k).ops b.0 (length b.0 - 1) ≡ (code_ring k).𝟘)
+  top_not_zero ([], t) l e = absurd (omega arith)
+  top_not_zero ((x ∷ xs), t) l e =
+      coeff_top (code_ring k) x xs t
+      (ap (coeff_of (code_ring k).ops (x ∷ xs)) (let q : length xs ≡ length (x ∷ xs) - 1 = omega arith in q) ∙ e)
+
+  pub divide : (a b : Polynomial k) → ¬ (b ≡ (polynomials k).𝟘) → Divided a b
+  divide a b n = record { quotient = by_quotient; rest = by_rest; is = by_whole; shorter = by_shorter }
+    where
+      unit : (u : Code k) × ((code_ring k).◌⊗◌ (coeff_of (code_ring k).ops b.0 (length b.0 - 1)) u ≡ (code_ring k).𝟙)
+      unit = (code_field k).inverse (coeff_of (code_ring k).ops b.0 (length b.0 - 1)) (top_not_zero b (some_long k b n))
+
+      by_quotient : Polynomial k
+      by_quotient = pol_of (code_ring k) (quotient_from (code_ring k).ops b.0 unit.0 a.0)
+
+      by_rest : Polynomial k
+      by_rest = pol_of (code_ring k) (rest_from (code_ring k).ops b.0 unit.0 a.0)
+
+      inverts : (code_ring k).◌⊗◌ unit.0 (coeff_of (code_ring k).ops b.0 (length b.0 - 1)) ≡ (code_ring k).𝟙
+      inverts = (code_ring k).mul_comm unit.0 _ ∙ unit.1
+
+      by_whole : a ≡ (polynomials k).◌⊕◌ ((polynomials k).◌⊗◌ b by_quotient) by_rest
+      by_whole =
+          same_pol (code_ring k) _ _ (λ n.
+          divided (code_ring k) b.0 unit.0 a.0 n
+          ∙ sym (series_add (code_ring k) ((polynomials k).◌⊗◌ b by_quotient) by_rest n
+          ∙ ap₂ (code_ring k).◌⊕◌
+          (series_mul (code_ring k) b by_quotient n ∙ convolution_comm (code_ring k).ring _ _ n
+          ∙ ap (λ g. convolution (code_ring k).ops g (coeff_of (code_ring k).ops b.0) n)
+          (fun_ext (coeff_trim (code_ring k) (quotient_from (code_ring k).ops b.0 unit.0 a.0))))
+          (coeff_trim (code_ring k) (rest_from (code_ring k).ops b.0 unit.0 a.0) n)))
+
+      short : length by_rest.0 ≤ length b.0 - 1
+      short =
+          length_bound (code_ring k) by_rest.0 (length b.0 - 1) by_rest.1 (λ i le.
+          coeff_trim (code_ring k) (rest_from (code_ring k).ops b.0 unit.0 a.0) i ∙ rest_ends (code_ring k) b.0 unit.0 inverts a.0 i le)
+
+      by_shorter : length by_rest.0 < length b.0
+      by_shorter = omega (arith, short, some_long k b n)
