@@ -85,7 +85,7 @@ module _ {k : CodeField} (c : Equation k) where
       subst (λ p. length p.0 ≤ length ((K c).◌⊗◌ (pow (K c).ops (x_poly k) m) b).0) (sym (one_mul (K c) a))
       (omega (arith, l, x_power_long k m, some_long k b n, length_product (code_ring k) (code_domain k) (pow (K c).ops (x_poly k) m) b (x_power_not_zero k m) n))
 
-  rational_cleared : (s : Side) (t : FunctionOf c) → IsRational c t
+  pub rational_cleared : (s : Side) (t : FunctionOf c) → IsRational c t
       → Cleared F (IsScalar c s) (scalars_subring c s) (trace_of c) (trace_plus c) (λ a z h. trace_times c a z (scalar_rational s a h)) t
   rational_cleared Finite t h = record {
     factor = of_poly c h.bottom;

@@ -13,3 +13,4 @@ mod Reduced
 mod Division
 mod IntegralTraces
 mod IntegralFunctions
+mod IntegralLaw

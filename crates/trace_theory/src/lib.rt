@@ -7,7 +7,10 @@ ghost use Rattle.std.specs.Prelude.{◌≡◌, ℕ, ◌<◌, ◌↔◌, ◌⊎�
 ghost use Rattle.ff_ring.specs.Ring.{IsField, pow, nat};
 ghost use Rattle.ff_fields.specs.Field.{CodeField};
 ghost use Rattle.ff_poly.specs.Polynomials.{Polynomial, polynomials};
-ghost use Rattle.ff_algebra.specs.Functions.{Equation, FunctionOf, ring_of, over, row_of, of_poly, y_of, trace_of, degree_of_y, IsPolynomial};
+ghost use Rattle.ff_algebra.specs.Functions.{Equation, FunctionOf, ring_of, over, row_of, of_poly, y_of, trace_of, degree_of_y, setting_of, IsPolynomial, IsScalar};
+ghost use Rattle.ff_algebra.specs.declared.elem.Side.{Side};
+ghost use Rattle.ff_algebra.specs.declared.elem.Side.TheVariants.{Finite};
+ghost use Rattle.ff_algebra.specs.Places.{IsIntegralAt};
 ghost use Rattle.ff_algebra.specs.Discriminant.{discriminant};
 ghost use Rattle.trace_theory.specs.Traces.{IsRational, HasPolynomialCoordinates, HasDegenerateTraceForm};
 
@@ -42,4 +45,12 @@ pub fn reduced_law()
         → pow (ring_of c).ops z m ≡ (ring_of c).𝟘 → z ≡ (ring_of c).𝟘 }
     ensures field { (k : CodeField) (c : Equation k) → ¬ (discriminant c ≡ (polynomials k).𝟘)
         → ((e : FunctionOf c) → (ring_of c).◌⊗◌ e e ≡ e → (e ≡ (ring_of c).𝟘) ⊎ (e ≡ (ring_of c).𝟙)) → IsField (ring_of c).ops }
+{}
+
+/// The trace of a function that is integral over the polynomials is a polynomial, and of one that is integral over the fractions of degree
+/// at most 0 such a fraction. So the discriminant times a function that is integral over the polynomials has polynomials as coordinates.
+pub fn integral_trace_law()
+    ensures trace { (k : CodeField) (c : Equation k) (s : Side) (z : FunctionOf c) → IsIntegralAt (setting_of c) s z → IsScalar c s (trace_of c z) }
+    ensures discriminant { (k : CodeField) (c : Equation k) (z : FunctionOf c) → IsIntegralAt (setting_of c) Finite z
+        → HasPolynomialCoordinates c ((ring_of c).◌⊗◌ (of_poly c (discriminant c)) z) }
 {}
