@@ -22,7 +22,7 @@ module _ (k : CodeField) where
     pub is : a ≡ (polynomials k).◌⊕◌ ((polynomials k).◌⊗◌ b quotient) rest
     pub shorter : length rest.0 < length b.0
 
-  top_not_zero : (b : Polynomial k) → 0 < length b.0 → ¬ (coeff_of (code_ring k).ops b.0 (length b.0 - 1) ≡ (code_ring k).𝟘)
+  pub top_not_zero : (b : Polynomial k) → 0 < length b.0 → ¬ (coeff_of (code_ring k).ops b.0 (length b.0 - 1) ≡ (code_ring k).𝟘)
   top_not_zero ([], t) l e = absurd (omega arith)
   top_not_zero ((x ∷ xs), t) l e =
       coeff_top (code_ring k) x xs t
@@ -61,3 +61,45 @@ module _ (k : CodeField) where
 
       by_shorter : length by_rest.0 < length b.0
       by_shorter = omega (arith, short, some_long k b n)
+
+  by_decision : (a b : Polynomial k) → Dec (b ≡ (polynomials k).𝟘) → Polynomial k × Polynomial k
+  by_decision a b (yes e) = ((polynomials k).𝟘, a)
+  by_decision a b (no n) = ((divide a b n).quotient, (divide a b n).rest)
+
+  -- the quotient and the rest, total
+  pub quotient_of : Polynomial k → Polynomial k → Polynomial k
+  quotient_of a b = (by_decision a b (polynomial_discrete k b (polynomials k).𝟘)).0
+
+  pub rest_of : Polynomial k → Polynomial k → Polynomial k
+  rest_of a b = (by_decision a b (polynomial_discrete k b (polynomials k).𝟘)).1
+
+  pub whole_of : (a b : Polynomial k) → ¬ (b ≡ (polynomials k).𝟘) → a ≡ (polynomials k).◌⊕◌ ((polynomials k).◌⊗◌ b (quotient_of a b)) (rest_of a b)
+  unfolding quotient_of rest_of by_decision
+  whole_of a b n = go (polynomial_discrete k b (polynomials k).𝟘)
+    where
+      go : (d : Dec (b ≡ (polynomials k).𝟘)) → a ≡ (polynomials k).◌⊕◌ ((polynomials k).◌⊗◌ b (by_decision a b d).0) (by_decision a b d).1
+      go (yes e) = absurd (n e)
+      go (no m) = (divide a b m).is
+
+  pub rest_shorter : (a b : Polynomial k) → ¬ (b ≡ (polynomials k).𝟘) → length (rest_of a b).0 < length b.0
+  unfolding rest_of by_decision
+  rest_shorter a b n = go (polynomial_discrete k b (polynomials k).𝟘)
+    where
+      go : (d : Dec (b ≡ (polynomials k).𝟘)) → length (by_decision a b d).1.0 < length b.0
+      go (yes e) = absurd (n e)
+      go (no m) = (divide a b m).shorter
+
+  pub product_longer : (a b : Polynomial k) → ¬ (a ≡ (polynomials k).𝟘) → ¬ (b ≡ (polynomials k).𝟘) → length a.0 ≤ length ((polynomials k).◌⊗◌ a b).0
+  product_longer a b n m = omega (arith, some_long k b m, length_product (code_ring k) (code_domain k) a b n m)
+
+  -- k[x] is Euclidean, by the number of coefficients
+  abbrev pub euclidean : Euclidean (Polynomial k)
+  euclidean = record {
+    domain = record { tested = polynomials k; is_domain = polynomials_domain k };
+    size = λ a. length a.0;
+    quotient = quotient_of;
+    rest = rest_of;
+    division = whole_of;
+    rest_smaller = λ a b n. inr (rest_shorter a b n);
+    size_product = product_longer;
+  }

@@ -6,7 +6,7 @@ use Rattle.ff_ring.specs.Subsets.{IsSubring}
 use Rattle.ff_ring.proofs.Ring.{one_mul, zero_mul, mul_zero, product_not_zero, neg_mul, mul_neg}
 use Rattle.ff_ring.proofs.Rows.{pair_path, row_scale_zero}
 use Rattle.ff_ring.proofs.Solver.{ring, reads, from_one}
-use Rattle.ff_ring.proofs.Polynomials.{pol_ops, length_product, length_product_le}
+use Rattle.ff_ring.proofs.Polynomials.{length_product, length_product_le}
 use Rattle.ff_fields.specs.Field.{CodeField}
 use Rattle.ff_fields.specs.Code.{code_ring, code_domain}
 use Rattle.ff_poly.specs.Polynomials.{Polynomial, polynomials, polynomials_domain, polynomial_discrete, x_poly}
@@ -42,10 +42,6 @@ module _ (k : CodeField) where
         omega (arith, l, h.2, length_product (code_ring k) (code_domain k) a (pow (polynomials k).ops a m) n h.0,
         length_product (code_ring k) (code_domain k) b (pow (polynomials k).ops b m) n' h.1),
       )
-
-  pub zero_length : length (polynomials k).𝟘.0 ≡ 0
-  unfolding pol_ops
-  zero_length = refl
 
 module _ {k : CodeField} (c : Equation k) where
   infixl 65 ◌⊕◌

@@ -26,14 +26,14 @@ use Rattle.ff_algebra.proofs.ScalarRings.{over_plus, over_times, bottoms_not_zer
 use Rattle.places_theory.proofs.YRoot.{poly_hom, y_root}
 use Rattle.trace_theory.specs.Traces.{IsRational, HasPolynomialCoordinates}
 use Rattle.trace_theory.proofs.FunctionTraces.{K, R, one_some, trace_plus, trace_times, trace_rational, polynomial_value}
-use Rattle.trace_theory.proofs.TracePowers.{some_long}
+use Rattle.trace_theory.proofs.TracePowers.{some_long, zero_length}
 use Rattle.trace_theory.proofs.FunctionPowers.{power_some, Exponent, exponent_of}
 use Rattle.trace_theory.proofs.Degenerate.{zero_over}
 use Rattle.trace_theory.proofs.TraceForm.{trace_form}
 use Rattle.trace_theory.proofs.Reduced.{one_not_zero}
 use Rattle.trace_theory.proofs.Division.{Divided, divide}
 use Rattle.trace_theory.proofs.IntegralTraces.{PowersCleared, powers_cleared}
-use Rattle.trace_theory.proofs.IntegralFunctions.{power_gap, zero_length, fraction_eq, fraction_same, fraction_power, scalar_rational, rational_cleared}
+use Rattle.trace_theory.proofs.IntegralFunctions.{power_gap, fraction_eq, fraction_same, fraction_power, scalar_rational, rational_cleared}
 
 module _ {P E : Type 0} (S : CommRing P) (F : CommRing E) (φ : P → E) (hom : IsHom S F φ) (η : E) where
   -- a row at η as a sum
@@ -190,10 +190,18 @@ module _ {k : CodeField} (c : Equation k) where
         (sym (eval_sum (K c) F (of_poly c) (poly_hom c) (y_of c) (suc c.lower_degree) c.coefficients)) ∙ y_root c;
   }
 
+  pub integral_times : (z w : FunctionOf c) → IsIntegralAt (setting_of c) Finite z → IsIntegralAt (setting_of c) Finite w
+      → IsIntegralAt (setting_of c) Finite (z ⊗ w)
+  integral_times z w h g = (integral_ring F (IsPolynomial c) (polynomials_subring c)).product_in z w h g
+
+  -- the traces of the products of an integral function with the powers of y
+  pub integral_traces : (z : FunctionOf c) → IsIntegralAt (setting_of c) Finite z
+      → (i : ℕ) → i < degree_of_y c → IsPolynomial c (trace_of c (z ⊗ pow F.ops (y_of c) i))
+  integral_traces z h i l =
+      integral_trace Finite (z ⊗ pow F.ops (y_of c) i)
+      (integral_times _ _ h
+      (power_in F (IsIntegral F.ops (IsPolynomial c)) (integral_ring F (IsPolynomial c) (polynomials_subring c)) (y_of c) y_integral i))
+
   -- the discriminant takes a function that is integral over the polynomials to polynomial coordinates
   pub discriminant_clears : (z : FunctionOf c) → IsIntegralAt (setting_of c) Finite z → HasPolynomialCoordinates c (of_poly c (discriminant c) ⊗ z)
-  discriminant_clears z h =
-      trace_form c z (λ i l.
-      integral_trace Finite (z ⊗ pow F.ops (y_of c) i)
-      ((integral_ring F (IsPolynomial c) (polynomials_subring c)).product_in _ _ h
-      (power_in F (IsIntegral F.ops (IsPolynomial c)) (integral_ring F (IsPolynomial c) (polynomials_subring c)) (y_of c) y_integral i)))
+  discriminant_clears z h = trace_form c z (integral_traces z h)

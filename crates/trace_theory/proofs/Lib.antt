@@ -14,3 +14,5 @@ mod Division
 mod IntegralTraces
 mod IntegralFunctions
 mod IntegralLaw
+mod Irreducible
+mod SquareLaw

@@ -212,6 +212,12 @@ module _ {P : Type 0} (S : CommRing P) (n : ℕ) (f : Row P (suc n)) where
       (λ d u. ap tr (left_scale d u j) ∙ trace_scale d _) v
       ∙ below_cong S (suc n) _ _ (λ i l. ap (λ u. at i v ⊗ tr u) (y_product i j))
 
+  -- the trace of v·w is the sum of v_i times the trace of w·y^i
+  pub trace_product : (v w : Row P (suc n)) → tr (rows.◌⊗◌ v w) ≡ sum_below S.ops (suc n) (λ i. at i v ⊗ tr (rows.◌⊗◌ w (y i)))
+  trace_product v w =
+      ap tr (rows.mul_comm v w)
+      ∙ map_sum (λ u. tr (rows.◌⊗◌ w u)) (λ u u'. ap tr (rows.mul_add w u u') ∙ trace_add _ _) (λ d u. ap tr (right_scale d w u) ∙ trace_scale d _) v
+
   pub trace_unit : tr rows.𝟙 ≡ sum_below S.ops (suc n) (λ i. 𝟙)
   unfolding matrix
   trace_unit =

@@ -4,7 +4,7 @@ use Rattle.ff_ring.specs.Ring.{CommRing, pow}
 use Rattle.ff_ring.specs.Rows.{Row, row_scale}
 use Rattle.ff_ring.proofs.Ring.{one_mul, mul_pow, pow_one_base, eq_of_sub, domain_cancel, product_not_zero, mul_zero}
 use Rattle.ff_ring.proofs.Solver.{ring, reads, from_one}
-use Rattle.ff_ring.proofs.Polynomials.{coeff_past, length_product}
+use Rattle.ff_ring.proofs.Polynomials.{pol_ops, coeff_past, length_product}
 use Rattle.ff_fields.specs.Field.{CodeField}
 use Rattle.ff_fields.specs.Code.{code_ring, code_domain, read_code, read_code_below}
 use Rattle.ff_poly.specs.Polynomials.{Polynomial, polynomials, polynomials_domain, polynomial_discrete, x_poly, x_poly_not_zero, series_read}
@@ -28,6 +28,10 @@ module _ (k : CodeField) where
       go (inr l) =
           let e : (read_code k 1).0 ≡ 0 = ap (λ c. c.0) (sym (series_read k (0 ∷ 1 ∷ []) 1) ∙ coeff_past (code_ring k) (x_poly k).0 1 l) in
           let f = read_code_below k 1 k.laws.one_below in absurd (omega arith)
+
+  pub zero_length : length (polynomials k).𝟘.0 ≡ 0
+  unfolding pol_ops
+  zero_length = refl
 
   pub some_long : (a : Polynomial k) → ¬ (a ≡ (polynomials k).𝟘) → 0 < length a.0
   some_long a n = omega (arith, length_product (code_ring k) (code_domain k) a a n n)

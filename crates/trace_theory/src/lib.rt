@@ -6,7 +6,9 @@
 ghost use Rattle.std.specs.Prelude.{◌≡◌, ℕ, ◌<◌, ◌↔◌, ◌⊎◌};
 ghost use Rattle.ff_ring.specs.Ring.{IsField, pow, nat};
 ghost use Rattle.ff_fields.specs.Field.{CodeField};
-ghost use Rattle.ff_poly.specs.Polynomials.{Polynomial, polynomials};
+ghost use Rattle.linear_theory.specs.Euclidean.{IsDivisor};
+ghost use Rattle.ff_poly.specs.Words.{IsIrreducible};
+ghost use Rattle.ff_poly.specs.Polynomials.{Polynomial, polynomials, codes_of};
 ghost use Rattle.ff_algebra.specs.Functions.{Equation, FunctionOf, ring_of, over, row_of, of_poly, y_of, trace_of, degree_of_y, setting_of, IsPolynomial, IsScalar};
 ghost use Rattle.ff_algebra.specs.declared.elem.Side.{Side};
 ghost use Rattle.ff_algebra.specs.declared.elem.Side.TheVariants.{Finite};
@@ -53,4 +55,17 @@ pub fn integral_trace_law()
     ensures trace { (k : CodeField) (c : Equation k) (s : Side) (z : FunctionOf c) → IsIntegralAt (setting_of c) s z → IsScalar c s (trace_of c z) }
     ensures discriminant { (k : CodeField) (c : Equation k) (z : FunctionOf c) → IsIntegralAt (setting_of c) Finite z
         → HasPolynomialCoordinates c ((ring_of c).◌⊗◌ (of_poly c (discriminant c)) z) }
+{}
+
+/// Where an irreducible p takes a function z to polynomial coordinates that z doesn't have, while the traces of z·y^i and of z² are
+/// polynomials, the square of p divides the discriminant. So where it doesn't, k[x][y] has each integral function that p takes into it.
+pub fn square_law()
+    ensures square { (k : CodeField) (c : Equation k) (p : Polynomial k) (z : FunctionOf c) → IsIrreducible k.ops (codes_of k p)
+        → HasPolynomialCoordinates c ((ring_of c).◌⊗◌ (of_poly c p) z) → ¬ HasPolynomialCoordinates c z
+        → ((i : ℕ) → i < degree_of_y c → IsPolynomial c (trace_of c ((ring_of c).◌⊗◌ z (pow (ring_of c).ops (y_of c) i))))
+        → IsPolynomial c (trace_of c ((ring_of c).◌⊗◌ z z))
+        → IsDivisor (polynomials k).ops ((polynomials k).◌⊗◌ p p) (discriminant c) }
+    ensures maximal { (k : CodeField) (c : Equation k) (p : Polynomial k) (z : FunctionOf c) → IsIrreducible k.ops (codes_of k p)
+        → ¬ IsDivisor (polynomials k).ops ((polynomials k).◌⊗◌ p p) (discriminant c) → IsIntegralAt (setting_of c) Finite z
+        → HasPolynomialCoordinates c ((ring_of c).◌⊗◌ (of_poly c p) z) → HasPolynomialCoordinates c z }
 {}
