@@ -16,3 +16,4 @@ mod IntegralFunctions
 mod IntegralLaw
 mod Irreducible
 mod SquareLaw
+mod Weights
