@@ -17,3 +17,4 @@ mod IntegralLaw
 mod Irreducible
 mod SquareLaw
 mod Weights
+mod InfiniteDiscriminant
