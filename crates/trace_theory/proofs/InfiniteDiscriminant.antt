@@ -138,10 +138,11 @@ module _ (k : CodeField) (p q : PresValue) (c : ℕ) (h : IsInfinitePresentation
           from_three (functions k p) ((functions k p).⊖◌ ((functions k p).◌⊗◌ m X)) ((functions k p).⊖◌ ((functions k p).◌⊗◌ X a)) m e f g
           (ring (functions k p) (X ∷ a ∷ b ∷ s ∷ m ∷ u ∷ []) λ q h. simp (reads, q, h 0, h 1, h 2, h 3, h 4, h 5) (q.equal _ _ refl))
 
-  pub discriminant_degree : length (discriminant (equation_of k p)).0 ≤ c * (p.n * (p.n - 1)) + 1
+  pub discriminant_degree : length (codes_of k (discriminant (equation_of k p))) ≤ c * (p.n * (p.n - 1)) + 1
   discriminant_degree =
-      go (discriminant (equation_of k p)) (discriminant (equation_of k q)) (c * (p.n * (p.n - 1))) at_discriminant
-      (polynomial_discrete k (discriminant (equation_of k p)) (polynomials k).𝟘)
+      subst (λ l. l ≤ c * (p.n * (p.n - 1)) + 1) (sym (length-map (discriminant (equation_of k p)).0 (λ a. a.0)))
+      (go (discriminant (equation_of k p)) (discriminant (equation_of k q)) (c * (p.n * (p.n - 1))) at_discriminant
+      (polynomial_discrete k (discriminant (equation_of k p)) (polynomials k).𝟘))
     where
       go : (a b : Polynomial k) (M : ℕ) → at k p (variable k p Infinite) b ≡ (functions k p).◌⊗◌ (of_poly (equation_of k p) a) (pow (functions k p).ops (variable k p Infinite) M)
           → Dec (a ≡ (polynomials k).𝟘) → length a.0 ≤ M + 1

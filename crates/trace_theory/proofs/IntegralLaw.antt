@@ -37,7 +37,7 @@ use Rattle.trace_theory.proofs.IntegralFunctions.{power_gap, fraction_eq, fracti
 
 module _ {P E : Type 0} (S : CommRing P) (F : CommRing E) (φ : P → E) (hom : IsHom S F φ) (η : E) where
   -- a row at η as a sum
-  eval_sum : (m : ℕ) (v : Row P m) → eval S F φ hom η m v ≡ sum_below F.ops m (λ i. F.◌⊗◌ (φ (entry S.ops m i v)) (pow F.ops η i))
+  pub eval_sum : (m : ℕ) (v : Row P m) → eval S F φ hom η m v ≡ sum_below F.ops m (λ i. F.◌⊗◌ (φ (entry S.ops m i v)) (pow F.ops η i))
   unfolding entry
   eval_sum zero v = eval_none S F φ hom η v
   eval_sum (suc m) (a, v) =

@@ -18,3 +18,4 @@ mod Irreducible
 mod SquareLaw
 mod Weights
 mod InfiniteDiscriminant
+mod InfiniteTraces

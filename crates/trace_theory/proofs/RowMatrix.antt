@@ -212,6 +212,9 @@ module _ {P : Type 0} (S : CommRing P) (n : ℕ) (f : Row P (suc n)) where
       (λ d u. ap tr (left_scale d u j) ∙ trace_scale d _) v
       ∙ below_cong S (suc n) _ _ (λ i l. ap (λ u. at i v ⊗ tr u) (y_product i j))
 
+  pub trace_expand : (v : Row P (suc n)) → tr v ≡ sum_below S.ops (suc n) (λ i. at i v ⊗ tr (y i))
+  trace_expand v = map_sum tr trace_add trace_scale v
+
   -- the trace of v·w is the sum of v_i times the trace of w·y^i
   pub trace_product : (v w : Row P (suc n)) → tr (rows.◌⊗◌ v w) ≡ sum_below S.ops (suc n) (λ i. at i v ⊗ tr (rows.◌⊗◌ w (y i)))
   trace_product v w =

@@ -3,17 +3,20 @@
 //! empty body; the crates above cite the lemmas of proofs/.
 #![tactic(auto)]
 
-ghost use Rattle.std.specs.Prelude.{◌≡◌, ℕ, ◌<◌, ◌↔◌, ◌⊎◌};
+ghost use Rattle.std.specs.Prelude.{◌≡◌, ◌≢◌, ℕ, ◌+◌, ◌-◌, ◌*◌, ◌≤◌, ◌<◌, ◌↔◌, ◌⊎◌, [], length};
 ghost use Rattle.ff_ring.specs.Ring.{IsField, pow, nat};
 ghost use Rattle.ff_fields.specs.Field.{CodeField};
 ghost use Rattle.linear_theory.specs.Euclidean.{IsDivisor};
-ghost use Rattle.ff_poly.specs.Words.{IsIrreducible};
+ghost use Rattle.ff_poly.specs.Words.{IsIrreducible, IsPoly};
 ghost use Rattle.ff_poly.specs.Polynomials.{Polynomial, polynomials, codes_of};
 ghost use Rattle.ff_algebra.specs.Functions.{Equation, FunctionOf, ring_of, over, row_of, of_poly, y_of, trace_of, degree_of_y, setting_of, IsPolynomial, IsScalar};
 ghost use Rattle.ff_algebra.specs.declared.elem.Side.{Side};
-ghost use Rattle.ff_algebra.specs.declared.elem.Side.TheVariants.{Finite};
+ghost use Rattle.ff_algebra.specs.declared.elem.Side.TheVariants.{Finite, Infinite};
 ghost use Rattle.ff_algebra.specs.Places.{IsIntegralAt};
 ghost use Rattle.ff_algebra.specs.Discriminant.{discriminant};
+ghost use Rattle.ff_algebra.specs.Values.{PresValue, ElemValue, IsElem, Functions, functions, setting, equation_of, function_of};
+ghost use Rattle.ff_algebra.specs.Infinity.{value_at, variable, function_on, IsInfinitePresentation};
+ghost use Rattle.places_theory.specs.Maps.{IsIsomorphism};
 ghost use Rattle.trace_theory.specs.Traces.{IsRational, HasPolynomialCoordinates, HasDegenerateTraceForm};
 
 /// The trace of F over k(x) is additive and linear over k(x), has its values in k(x), and is n at 1.
@@ -47,6 +50,25 @@ pub fn reduced_law()
         → pow (ring_of c).ops z m ≡ (ring_of c).𝟘 → z ≡ (ring_of c).𝟘 }
     ensures field { (k : CodeField) (c : Equation k) → ¬ (discriminant c ≡ (polynomials k).𝟘)
         → ((e : FunctionOf c) → (ring_of c).◌⊗◌ e e ≡ e → (e ≡ (ring_of c).𝟘) ⊎ (e ≡ (ring_of c).𝟙)) → IsField (ring_of c).ops }
+{}
+
+/// The discriminant of the infinite presentation, read at t = 1/x, is that of the finite one times t^(c·n·(n-1)); so that one has a degree
+/// of at most c·n·(n-1).
+pub fn infinite_discriminant_law()
+    ensures discriminant { (k : CodeField) (p q : PresValue) (c : ℕ) → 1 ≤ p.n → IsInfinitePresentation k p c q
+        → value_at k p (variable k p Infinite) (codes_of k (discriminant (equation_of k q)))
+        ≡ (functions k p).◌⊗◌ (of_poly (equation_of k p) (discriminant (equation_of k p))) (pow (functions k p).ops (variable k p Infinite) (c * (p.n * (p.n - 1)))) }
+    ensures degree { (k : CodeField) (p q : PresValue) (c : ℕ) → 1 ≤ p.n → IsInfinitePresentation k p c q
+        → length (codes_of k (discriminant (equation_of k p))) ≤ c * (p.n * (p.n - 1)) + 1 }
+{}
+
+/// The trace of a function is the same in both presentations: what elements of the infinite one stand for is an isomorphism that takes
+/// traces to traces.
+pub fn infinite_trace_law()
+    ensures { (k : CodeField) (p q : PresValue) (c : ℕ) → 1 ≤ p.n → IsInfinitePresentation k p c q
+        → (f : Functions k q → Functions k p) × IsIsomorphism (functions k q) (functions k p) f
+        × ((z : ElemValue) → IsElem k.ops q.n z → IsPoly z.den → z.den ≢ [] → f (function_of k q z) ≡ function_on k p c Infinite z)
+        × ((z : Functions k q) → (setting k p).trace (f z) ≡ f ((setting k q).trace z)) }
 {}
 
 /// The trace of a function that is integral over the polynomials is a polynomial, and of one that is integral over the fractions of degree
