@@ -1,11 +1,11 @@
 -- Over a domain a square matrix whose determinant is 0 has a relation between its rows.
-use Rattle.std.proofs.Common.{◌≡◌, ℕ, zero, suc, ◌<◌, ◌⊎◌, inl, inr, List, [], ◌∷◌, length, refl, sym, ◌∙◌, ap, ap₂, subst, arith}
+use Rattle.std.proofs.Common.{◌≡◌, ℕ, zero, suc, ◌<◌, ◌⊎◌, inl, inr, ◌∷◌, length, refl, sym, ◌∙◌, ap, subst, arith}
 use native.Mathlib.Decide.{ℕ_discrete}
-use Rattle.ff_ring.specs.Ring.{Operations, CommRing}
+use Rattle.ff_ring.specs.Ring.{CommRing}
 use Rattle.ff_ring.specs.Sums.{sum_below, matrix_product}
 use Rattle.ff_ring.specs.Determinant.{determinant}
 use Rattle.ff_ring.proofs.Ring.{mul_zero, zero_mul, zero_add, neg_mul, neg_unique, product_not_zero}
-use Rattle.ff_ring.proofs.Sums.{below_first, below_cong, below_neg, below_single}
+use Rattle.ff_ring.proofs.Sums.{below_first, below_cong, below_neg}
 use Rattle.ff_ring.proofs.Determinant.{determinant_product}
 use Rattle.linear_theory.specs.Fields.{Domain}
 use Rattle.linear_theory.specs.Module.{combine, sequence_ops}
@@ -14,7 +14,6 @@ use Rattle.linear_theory.proofs.Standard.{Vanishes}
 use Rattle.linear_theory.proofs.Relation.{relation}
 use Rattle.linear_theory.proofs.Elimination.{tabulate}
 use Rattle.linear_theory.proofs.Independence.{independent_or_relation}
-use Rattle.linear_theory.proofs.Domain.{decide_equal}
 use Rattle.trace_theory.proofs.TraceForm.{Choice, choose}
 use Rattle.trace_theory.proofs.Determinants.{diagonal, product_below, diagonal_determinant, diagonal_here, diagonal_other, determinant_cong}
 
@@ -69,8 +68,7 @@ module _ {A : Type 0} (D : Domain A) where
   unit_multiple n m free j l =
       let rows = diagonal R.ops (λ i. 𝟙) j ∷ tabulate n m in
       let r = relation D n rows (let q = length_listed n m in omega arith) in
-      let w : ℕ → A = λ i. ⊖ r.coefficient (suc i) in
-      (
+      let w : ℕ → A = λ i. ⊖ r.coefficient (suc i) in (
         w,
         record {
           factor = r.coefficient 0;

@@ -1,12 +1,12 @@
 -- Determinants: of matrices with equal entries, of diagonal matrices, of a multiple of a row, of matrices near 1, and of images.
 use mathlib.Core.Path.{fun_ext}
-use Rattle.std.proofs.Common.{◌≡◌, ℕ, zero, suc, ◌<◌, List, [], ◌∷◌, refl, sym, ◌∙◌, ap, ap₂, arith}
+use Rattle.std.proofs.Common.{◌≡◌, ℕ, zero, suc, ◌<◌, [], ◌∷◌, refl, sym, ◌∙◌, ap, ap₂, arith}
 use Rattle.ff_ring.specs.Ring.{Operations, CommRing, pow}
 use Rattle.ff_ring.specs.Sums.{sum_below, matrix_product, trace}
 use Rattle.ff_ring.specs.Determinant.{determinant, minor, with_row}
-use Rattle.ff_ring.proofs.Ring.{zero_add, one_mul, mul_zero, zero_mul, add_cancel, add_cancel_left}
-use Rattle.ff_ring.proofs.Sums.{below_cong, below_first, below_zero, below_single, below_scale, below_add, below_swap}
-use Rattle.ff_ring.proofs.Solver.{ring, reads, from_one}
+use Rattle.ff_ring.proofs.Ring.{zero_add, one_mul, mul_zero, zero_mul, add_cancel_left}
+use Rattle.ff_ring.proofs.Sums.{below_cong, below_first, below_zero, below_single, below_scale, below_swap}
+use Rattle.ff_ring.proofs.Solver.{ring, reads}
 use Rattle.ff_ring.proofs.RowMaps.{IsHom, hom_zero, hom_neg}
 use Rattle.ff_ring.proofs.Determinant.{determinant_product}
 use Rattle.ff_ring.proofs.Cramer.{determinant_linear}
@@ -142,12 +142,11 @@ module _ {A : Type 0} (R : CommRing A) where
   square_term zero i l a m = absurd (omega arith)
   square_term (suc n) i l a m =
       let v : ℕ → A = λ j. m 0 (suc j) in
-      let d = determinant R.ops (suc n) (with_row 0 v (minor (suc i) (near a m))) in
-      (
+      let d = determinant R.ops (suc n) (with_row 0 v (minor (suc i) (near a m))) in (
         pow R.ops (⊖ 𝟙) (suc i) ⊗ (m (suc i) 0 ⊗ d),
         ap₂ (λ x y. pow R.ops (⊖ 𝟙) (suc i) ⊗ (x ⊗ y)) (zero_add R _)
-        (multiple_row n a v (minor (suc i) (near a m)) (λ j. zero_add R _))
-        ∙ regroup (pow R.ops (⊖ 𝟙) (suc i)) a (m (suc i) 0) d,
+            (multiple_row n a v (minor (suc i) (near a m)) (λ j. zero_add R _))
+            ∙ regroup (pow R.ops (⊖ 𝟙) (suc i)) a (m (suc i) 0) d,
       )
     where
       regroup : (s a x d : A) → s ⊗ (a ⊗ x ⊗ (a ⊗ d)) ≡ a ⊗ a ⊗ (s ⊗ (x ⊗ d))

@@ -1,18 +1,16 @@
 -- Division of polynomials, and k[x] as a Euclidean domain.
 use mathlib.Core.Path.{fun_ext}
-use Rattle.std.proofs.Common.{◌≡◌, ◌≢◌, ℕ, zero, suc, ◌<◌, ◌≤◌, ◌-◌, ◌⊎◌, inl, inr, List, [], ◌∷◌, length, refl, sym, ◌∙◌, ap, ap₂, arith}
-use Rattle.ff_ring.specs.Ring.{TestedRing}
+use Rattle.std.proofs.Common.{◌≡◌, ◌<◌, ◌≤◌, ◌-◌, inr, [], ◌∷◌, length, sym, ◌∙◌, ap, ap₂, arith}
 use Rattle.ff_ring.specs.Lists.{coeff_of, convolution, rest_from, quotient_from}
 use Rattle.ff_ring.proofs.Sequences.{convolution_comm}
 use Rattle.ff_ring.proofs.Lists.{coeff_trim}
-use Rattle.ff_ring.proofs.Polynomials.{Pol, pol_of, same_pol, series_add, series_mul, coeff_top, length_product}
+use Rattle.ff_ring.proofs.Polynomials.{pol_of, same_pol, series_add, series_mul, coeff_top, length_product}
 use Rattle.ff_ring.proofs.Division.{divided, rest_ends, length_bound}
 use Rattle.linear_theory.specs.Euclidean.{Euclidean}
 use Rattle.ff_fields.specs.Field.{CodeField}
 use Rattle.ff_fields.specs.Code.{Code, code_ring, code_field, code_domain}
-use Rattle.ff_poly.specs.Polynomials.{Polynomial, polynomials, polynomials_domain, polynomial_discrete, polynomial_eq}
+use Rattle.ff_poly.specs.Polynomials.{Polynomial, polynomials, polynomials_domain, polynomial_discrete}
 use Rattle.trace_theory.proofs.TracePowers.{some_long}
-use Rattle.trace_theory.proofs.Degenerate.{domain}
 
 module _ (k : CodeField) where
   -- a is b times a quotient and a rest that is shorter than b

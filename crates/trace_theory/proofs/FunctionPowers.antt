@@ -1,21 +1,20 @@
 -- Powers of functions, and exponents m, as large as wanted, for which the m-th power keeps sums and traces.
-use Rattle.std.proofs.Common.{◌≡◌, ℕ, zero, suc, ◌≤◌, ◌*◌, ◌+◌, ◌-◌, ◌⊎◌, inl, inr, List, [], ◌∷◌, length, refl, sym, ◌∙◌, ap, ap₂, arith, mul-suc}
+use Rattle.std.proofs.Common.{◌≡◌, ℕ, zero, suc, ◌≤◌, ◌*◌, ◌+◌, refl, sym, ◌∙◌, ap, ap₂, arith, mul-suc}
 use Rattle.ff_ring.specs.Ring.{CommRing, pow}
 use Rattle.ff_ring.specs.Rows.{Row, row_zero, row_scale}
-use Rattle.ff_ring.proofs.Ring.{one_mul, pow_one, pow_mul, pow_add, product_not_zero, mul_zero}
+use Rattle.ff_ring.proofs.Ring.{pow_one, pow_mul, product_not_zero}
 use Rattle.ff_ring.proofs.Rows.{row_scale_one, row_scale_zero}
 use Rattle.ff_ring.proofs.RowMaps.{IsHom}
-use Rattle.ff_ring.proofs.Finite.{In}
 use Rattle.ff_ring.proofs.Evaluate.{constant, constant_hom, hom_after}
 use Rattle.ff_fields.specs.Field.{CodeField}
-use Rattle.ff_fields.specs.Code.{Code, code_ring, code_domain}
-use Rattle.ff_poly.specs.Polynomials.{Polynomial, polynomials, polynomials_domain, polynomial_discrete}
+use Rattle.ff_fields.specs.Code.{code_ring}
+use Rattle.ff_poly.specs.Polynomials.{Polynomial, polynomials_domain, polynomial_discrete}
 use Rattle.ff_algebra.specs.Functions.{Equation, FunctionOf, ring_of, row_of, of_poly, over, trace_of}
 use Rattle.places_theory.proofs.YRoot.{poly_hom}
 use Rattle.trace_theory.specs.Traces.{IsRational}
 use Rattle.trace_theory.proofs.RowMatrix.{y_zero}
 use Rattle.trace_theory.proofs.Determinants.{image_power}
-use Rattle.trace_theory.proofs.FunctionTraces.{K, R, Y, Tr, one_some, over_product, over_same, over_eq, AsRow, as_row, y_power, trace_over}
+use Rattle.trace_theory.proofs.FunctionTraces.{K, R, Tr, one_some, over_product, over_same, over_eq, as_row, y_power, trace_over}
 use Rattle.trace_theory.proofs.Powers.{q, size_less, size_some, power_add, row_hom}
 use Rattle.trace_theory.proofs.TracePowers.{row_trace_power}
 use Rattle.trace_theory.proofs.Degenerate.{zero_over}

@@ -2,20 +2,19 @@
 use Rattle.std.proofs.Common.{◌≡◌, ℕ, zero, suc, ◌<◌, ◌≤◌, ◌+◌, ◌-◌, ◌*◌, List, [], ◌∷◌, length, get_or, reverse, refl, sym, ◌∙◌, ap, ap₂, subst, arith}
 use Rattle.std.proofs.lemmas.List.{length-map, length-reverse}
 use Rattle.ff_ring.specs.Ring.{CommRing, pow}
-use Rattle.ff_ring.specs.Rows.{Row, entry}
-use Rattle.ff_ring.proofs.Ring.{pow_mul, mul_pow, pow_one_base, product_not_zero, mul_left_comm}
-use Rattle.ff_ring.proofs.RowMaps.{IsHom}
+use Rattle.ff_ring.specs.Rows.{entry}
+use Rattle.ff_ring.proofs.Ring.{pow_mul, mul_pow, pow_one_base}
 use Rattle.ff_ring.proofs.Evaluate.{length_trim}
-use Rattle.ff_ring.proofs.Solver.{ring, reads, from_two, from_three}
+use Rattle.ff_ring.proofs.Solver.{ring, reads, from_three}
 use Rattle.ff_ring.proofs.Polynomials.{length_product, length_product_le}
 use Rattle.ff_fields.specs.Field.{CodeField}
 use Rattle.ff_fields.specs.Code.{code_ring, code_domain, read_code}
 use Rattle.ff_fields.specs.Numbers.{read}
 use Rattle.ff_poly.specs.Value.{value}
-use Rattle.ff_poly.specs.Polynomials.{Polynomial, polynomials, polynomials_domain, polynomial_discrete, codes_of, value_nil, x_poly, x_poly_not_zero}
+use Rattle.ff_poly.specs.Polynomials.{Polynomial, polynomials, polynomials_domain, polynomial_discrete, codes_of, value_nil, x_poly}
 use Rattle.ff_algebra.specs.declared.elem.Side.TheVariants.{Finite, Infinite}
 use Rattle.ff_algebra.specs.Functions.{of_poly}
-use Rattle.ff_algebra.specs.Values.{PresValue, Functions, functions, setting, equation_of, row_of_list}
+use Rattle.ff_algebra.specs.Values.{PresValue, Functions, functions, equation_of, row_of_list}
 use Rattle.ff_algebra.specs.Infinity.{variable, value_at, IsInfinitePresentation}
 use Rattle.ff_algebra.specs.Discriminant.{discriminant}
 use Rattle.ff_algebra.proofs.OnSide.{value_at_x}
@@ -23,7 +22,7 @@ use Rattle.places_theory.proofs.YRoot.{poly_hom}
 use Rattle.places_theory.proofs.AtInfinity.{at, at_hom, at_codes, value_at_is, x_times_t, x_power, powers_cancel, x_power_not_zero, turned, turned_is}
 use Rattle.trace_theory.proofs.RowMatrix.{tr, y}
 use Rattle.trace_theory.proofs.RowForm.{disc}
-use Rattle.trace_theory.proofs.TracePowers.{some_long, zero_length, x_power_long}
+use Rattle.trace_theory.proofs.TracePowers.{zero_length, x_power_long}
 use Rattle.trace_theory.proofs.FunctionTraces.{polynomial_value}
 use Rattle.trace_theory.proofs.Weights.{trace_weights, discriminant_weights}
 
@@ -52,8 +51,13 @@ module _ (k : CodeField) where
 
   turned_short : (p : PresValue) (a : Polynomial k) → length (turned k p a).0 ≤ suc (length (codes_of k a))
   turned_short p a =
-      omega (arith, value_short (0 ∷ 1 ∷ []), value_short (reverse (codes_of k a)), length-reverse (codes_of k a),
-      length_product_le (code_ring k) (code_domain k) (x_poly k) (value k (reverse (codes_of k a))))
+      omega (
+        arith,
+        value_short (0 ∷ 1 ∷ []),
+        value_short (reverse (codes_of k a)),
+        length-reverse (codes_of k a),
+        length_product_le (code_ring k) (code_domain k) (x_poly k) (value k (reverse (codes_of k a))),
+      )
 
 module _ (k : CodeField) (p q : PresValue) (c : ℕ) (h : IsInfinitePresentation k p c q) (some : 1 ≤ p.n) where
   infixl 70 ◌⊗◌
@@ -152,5 +156,12 @@ module _ (k : CodeField) (p q : PresValue) (c : ℕ) (h : IsInfinitePresentation
           let X = pow (polynomials k).ops (x_poly k) L in
           let same : length ((polynomials k).◌⊗◌ X a).0 ≡ length ((polynomials k).◌⊗◌ (turned k p b) (pow (polynomials k).ops (x_poly k) M)).0
           = ap (λ p. length p.0) (turned_discriminant a b M e) in
-          omega (arith, same, x_power_long k L, length_product (code_ring k) (code_domain k) X a (x_power_not_zero k L) n, turned_short k p b,
-          x_power_short k M, length_product_le (code_ring k) (code_domain k) (turned k p b) (pow (polynomials k).ops (x_poly k) M))
+          omega (
+            arith,
+            same,
+            x_power_long k L,
+            length_product (code_ring k) (code_domain k) X a (x_power_not_zero k L) n,
+            turned_short k p b,
+            x_power_short k M,
+            length_product_le (code_ring k) (code_domain k) (turned k p b) (pow (polynomials k).ops (x_poly k) M),
+          )

@@ -1,30 +1,29 @@
 -- The trace of a function is the same in both presentations.
-use Rattle.std.proofs.Common.{◌≡◌, ℕ, zero, suc, ◌<◌, ◌≤◌, ◌+◌, ◌-◌, ◌*◌, List, [], ◌∷◌, length, refl, sym, ◌∙◌, ap, ap₂, subst, arith}
+use Rattle.std.proofs.Common.{◌≡◌, ℕ, zero, suc, ◌≤◌, ◌-◌, ◌*◌, length, sym, ◌∙◌, ap, ap₂}
 use Rattle.ff_ring.specs.Ring.{CommRing, pow}
-use Rattle.ff_ring.specs.Rows.{Row, row_zero, entry, y_to, row_trace}
+use Rattle.ff_ring.specs.Rows.{Row, entry}
 use Rattle.ff_ring.specs.Sums.{sum_below}
-use Rattle.ff_ring.proofs.Ring.{mul_pow, pow_mul, mul_left_comm, add_cancel_left, mul_zero}
-use Rattle.ff_ring.proofs.Sums.{below_cong, below_scale}
-use Rattle.ff_ring.proofs.RowMaps.{IsHom, eval}
-use Rattle.ff_ring.proofs.Solver.{ring, reads, from_two}
+use Rattle.ff_ring.proofs.Ring.{mul_pow, pow_mul}
+use Rattle.ff_ring.proofs.Sums.{below_cong}
+use Rattle.ff_ring.proofs.RowMaps.{eval}
 use Rattle.ff_fields.specs.Field.{CodeField}
-use Rattle.ff_poly.specs.Polynomials.{Polynomial, polynomials, polynomials_domain, codes_of, x_poly, x_poly_not_zero}
+use Rattle.ff_poly.specs.Polynomials.{Polynomial, polynomials, codes_of, x_poly, x_poly_not_zero}
 use Rattle.ff_algebra.specs.declared.elem.Side.TheVariants.{Finite, Infinite}
-use Rattle.ff_algebra.specs.Functions.{RowOver, function, row_of, of_poly, over, y_of, trace_of}
-use Rattle.ff_algebra.specs.Values.{PresValue, Functions, functions, setting, equation_of}
+use Rattle.ff_algebra.specs.Functions.{row_of, y_of, trace_of}
+use Rattle.ff_algebra.specs.Values.{PresValue, Functions, functions, equation_of}
 use Rattle.ff_algebra.specs.Infinity.{variable, IsInfinitePresentation}
 use Rattle.places_theory.proofs.YRoot.{over_unique, eval_constant}
 use Rattle.places_theory.proofs.AtInfinity.{at, at_hom, x_power, x_power_not_zero, turned, turned_is, turned_zero}
-use Rattle.places_theory.proofs.PresentationMap.{presentation_map, map_row, unit as unit_of, unit_law, η, φ}
+use Rattle.places_theory.proofs.PresentationMap.{presentation_map, map_row, unit as unit_of, unit_law, η}
 use Rattle.trace_theory.specs.Traces.{IsRational}
 use Rattle.trace_theory.proofs.RowMatrix.{tr, y, trace_expand}
 use Rattle.trace_theory.proofs.Determinants.{image_sum}
-use Rattle.trace_theory.proofs.FunctionTraces.{AsRow, as_row, trace_over, trace_plus, trace_times, y_power, one_some}
+use Rattle.trace_theory.proofs.FunctionTraces.{as_row, trace_over, trace_plus, trace_times, y_power}
 use Rattle.trace_theory.proofs.FunctionPowers.{power_some}
 use Rattle.trace_theory.proofs.Reduced.{trace_zero}
 use Rattle.trace_theory.proofs.IntegralFunctions.{fraction_power}
 use Rattle.trace_theory.proofs.IntegralLaw.{eval_sum}
-use Rattle.trace_theory.proofs.InfiniteDiscriminant.{t, T, infinite_trace}
+use Rattle.trace_theory.proofs.InfiniteDiscriminant.{T, infinite_trace}
 
 module _ (k : CodeField) (p q : PresValue) (c : ℕ) (h : IsInfinitePresentation k p c q) (some : 1 ≤ p.n) where
   infixl 70 ◌⊗◌

@@ -1,32 +1,27 @@
 -- The traces of integral functions of both sides.
-use Rattle.std.proofs.Common.{◌≡◌, ℕ, zero, suc, ◌<◌, ◌≤◌, ◌+◌, ◌⊎◌, inl, inr, List, [], ◌∷◌, length, refl, sym, ◌∙◌, ap, ap₂, subst, arith, le_refl}
+use Rattle.std.proofs.Common.{◌≡◌, ℕ, zero, suc, ◌<◌, ◌≤◌, ◌+◌, length, refl, sym, ◌∙◌, ap, subst, arith, le_refl}
 use Rattle.ff_ring.specs.Ring.{CommRing, pow}
-use Rattle.ff_ring.specs.Rows.{Row, row_zero, row_scale}
-use Rattle.ff_ring.specs.Subsets.{IsSubring}
-use Rattle.ff_ring.proofs.Ring.{one_mul, zero_mul, mul_zero, product_not_zero, neg_mul, mul_neg}
+use Rattle.ff_ring.specs.Rows.{row_scale}
+use Rattle.ff_ring.proofs.Ring.{one_mul, product_not_zero}
 use Rattle.ff_ring.proofs.Rows.{pair_path, row_scale_zero}
-use Rattle.ff_ring.proofs.Solver.{ring, reads, from_one}
-use Rattle.ff_ring.proofs.Polynomials.{length_product, length_product_le}
+use Rattle.ff_ring.proofs.Polynomials.{length_product}
 use Rattle.ff_fields.specs.Field.{CodeField}
 use Rattle.ff_fields.specs.Code.{code_ring, code_domain}
-use Rattle.ff_poly.specs.Polynomials.{Polynomial, polynomials, polynomials_domain, polynomial_discrete, x_poly}
+use Rattle.ff_poly.specs.Polynomials.{Polynomial, polynomials, polynomials_domain, x_poly}
 use Rattle.ff_algebra.specs.declared.elem.Side.{Side}
 use Rattle.ff_algebra.specs.declared.elem.Side.TheVariants.{Finite, Infinite}
-use Rattle.ff_algebra.specs.Places.{IsIntegralAt}
-use Rattle.ff_algebra.specs.Functions.{Equation, FunctionOf, ring_of, row_of, of_poly, over, trace_of, IsPolynomial, IsFiniteAtInfinity, IsScalar, setting_of}
-use Rattle.ff_algebra.proofs.OnSide.{den_inverse, of_poly_zero}
-use Rattle.ff_algebra.proofs.ScalarRings.{over_plus, over_times, bottoms_not_zero, scalars_subring, polynomials_subring}
+use Rattle.ff_algebra.specs.Functions.{Equation, FunctionOf, ring_of, row_of, of_poly, over, trace_of, IsScalar}
+use Rattle.ff_algebra.proofs.OnSide.{den_inverse}
+use Rattle.ff_algebra.proofs.ScalarRings.{over_times, bottoms_not_zero, scalars_subring}
 use Rattle.places_theory.proofs.AtInfinity.{x_power_not_zero}
 use Rattle.trace_theory.specs.Traces.{IsRational}
-use Rattle.trace_theory.proofs.FunctionTraces.{K, R, Tr, one_some, over_same, over_eq, trace_plus, trace_times, trace_rational, polynomial_value}
+use Rattle.trace_theory.proofs.FunctionTraces.{K, R, one_some, over_same, over_eq, trace_plus, trace_times}
 use Rattle.trace_theory.proofs.Determinants.{image_power}
 use Rattle.trace_theory.proofs.Powers.{row_hom}
 use Rattle.trace_theory.proofs.TracePowers.{some_long, x_power_long}
-use Rattle.trace_theory.proofs.FunctionPowers.{power_some, power_over, Exponent, exponent_of}
-use Rattle.trace_theory.proofs.Degenerate.{zero_over}
-use Rattle.trace_theory.proofs.Reduced.{den_clears, one_not_zero}
-use Rattle.trace_theory.proofs.Division.{Divided, divide}
-use Rattle.trace_theory.proofs.IntegralTraces.{Cleared, PowersCleared, powers_cleared}
+use Rattle.trace_theory.proofs.FunctionPowers.{power_some, power_over}
+use Rattle.trace_theory.proofs.Reduced.{den_clears}
+use Rattle.trace_theory.proofs.IntegralTraces.{Cleared}
 
 module _ (k : CodeField) where
   -- powers of a longer polynomial are longer, by one for each factor
@@ -35,12 +30,16 @@ module _ (k : CodeField) where
       × (length (pow (polynomials k).ops b m).0 + m ≤ length (pow (polynomials k).ops a m).0)
   power_gap a b n n' l zero = ((polynomials_domain k).one_not_zero, (polynomials_domain k).one_not_zero, omega arith)
   power_gap a b n n' l (suc m) =
-      let h = power_gap a b n n' l m in
-      (
+      let h = power_gap a b n n' l m in (
         product_not_zero (polynomials_domain k) a (pow (polynomials k).ops a m) n h.0,
         product_not_zero (polynomials_domain k) b (pow (polynomials k).ops b m) n' h.1,
-        omega (arith, l, h.2, length_product (code_ring k) (code_domain k) a (pow (polynomials k).ops a m) n h.0,
-        length_product (code_ring k) (code_domain k) b (pow (polynomials k).ops b m) n' h.1),
+        omega (
+          arith,
+          l,
+          h.2,
+          length_product (code_ring k) (code_domain k) a (pow (polynomials k).ops a m) n h.0,
+          length_product (code_ring k) (code_domain k) b (pow (polynomials k).ops b m) n' h.1,
+        ),
       )
 
 module _ {k : CodeField} (c : Equation k) where

@@ -1,10 +1,9 @@
 -- A rational function t with a multiple d·t^m in the polynomials, or in the fractions of degree at most 0, for one d and for exponents
 -- m as large as wanted, is such a function itself; so traces of integral functions are.
-use Rattle.std.proofs.Common.{◌≡◌, ℕ, zero, suc, ◌<◌, ◌≤◌, ◌+◌, ◌⊎◌, inl, inr, List, [], ◌∷◌, length, refl, sym, ◌∙◌, ap, ap₂, subst, arith, le_refl}
+use Rattle.std.proofs.Common.{◌≡◌, ℕ, zero, suc, ◌<◌, ◌≤◌, ◌⊎◌, inl, inr, [], ◌∷◌, length, refl, sym, ◌∙◌, ap, ap₂, subst, arith}
 use Rattle.ff_ring.specs.Ring.{CommRing, pow}
 use Rattle.ff_ring.specs.Rows.{Row, row_zero, entry}
 use Rattle.ff_ring.specs.Sums.{sum_below}
-use Rattle.ff_ring.specs.Subsets.{IsSubring}
 use Rattle.ff_ring.specs.Integral.{IsIntegral}
 use Rattle.ff_ring.proofs.Ring.{one_mul, zero_mul, mul_zero, mul_left_comm, product_not_zero}
 use Rattle.ff_ring.proofs.Sums.{below_scale, below_cong, below_first}
@@ -25,13 +24,13 @@ use Rattle.ff_algebra.proofs.OnSide.{of_poly_zero}
 use Rattle.ff_algebra.proofs.ScalarRings.{over_plus, over_times, bottoms_not_zero, scalars_subring, polynomials_subring}
 use Rattle.places_theory.proofs.YRoot.{poly_hom, y_root}
 use Rattle.trace_theory.specs.Traces.{IsRational, HasPolynomialCoordinates}
-use Rattle.trace_theory.proofs.FunctionTraces.{K, R, one_some, trace_plus, trace_times, trace_rational, polynomial_value}
+use Rattle.trace_theory.proofs.FunctionTraces.{K, one_some, trace_plus, trace_times, trace_rational, polynomial_value}
 use Rattle.trace_theory.proofs.TracePowers.{some_long, zero_length}
 use Rattle.trace_theory.proofs.FunctionPowers.{power_some, Exponent, exponent_of}
 use Rattle.trace_theory.proofs.Degenerate.{zero_over}
 use Rattle.trace_theory.proofs.TraceForm.{trace_form}
 use Rattle.trace_theory.proofs.Reduced.{one_not_zero}
-use Rattle.trace_theory.proofs.Division.{Divided, divide}
+use Rattle.trace_theory.proofs.Division.{divide}
 use Rattle.trace_theory.proofs.IntegralTraces.{PowersCleared, powers_cleared}
 use Rattle.trace_theory.proofs.IntegralFunctions.{power_gap, fraction_eq, fraction_same, fraction_power, scalar_rational, rational_cleared}
 
@@ -81,8 +80,15 @@ module _ {k : CodeField} (c : Equation k) where
       let w_some : ¬ (w ≡ (K c).𝟘)
       = λ z. product_not_zero (polynomials_domain k) d Q d_some gap.1 (f ∙ ap ((K c).◌⊗◌ B) z ∙ mul_zero (K c) B) in
       absurd
-      (omega (arith, gap.2, large, some_long k w w_some, ap (λ p. length p.0) f, length_product (code_ring k) (code_domain k) d Q d_some gap.1,
-      length_product (code_ring k) (code_domain k) B w gap.0 w_some))
+      (omega (
+        arith,
+        gap.2,
+        large,
+        some_long k w w_some,
+        ap (λ p. length p.0) f,
+        length_product (code_ring k) (code_domain k) d Q d_some gap.1,
+        length_product (code_ring k) (code_domain k) B w gap.0 w_some,
+      ))
 
   finite_end : (d i t : FunctionOf c) → d ⊗ i ≡ 𝟙 → IsPolynomial c d → IsRational c t
       → ((n : ℕ) → (e : Exponent c n) → IsPolynomial c (d ⊗ pow F.ops t e.exponent)) → IsPolynomial c t
@@ -134,9 +140,18 @@ module _ {k : CodeField} (c : Equation k) where
       let u_some : ¬ (u ≡ (K c).𝟘)
       = λ z. product_not_zero (polynomials_domain k) v ((K c).◌⊗◌ d1 A) nv left (f ∙ ap ((K c).◌⊗◌ ((K c).◌⊗◌ d2 B)) z ∙ mul_zero (K c) _) in
       absurd
-      (omega (arith, gap.2, large, short, some_long k d1 some, ap (λ p. length p.0) f,
-      length_product (code_ring k) (code_domain k) v ((K c).◌⊗◌ d1 A) nv left, length_product (code_ring k) (code_domain k) d1 A some gap.0,
-      length_product (code_ring k) (code_domain k) ((K c).◌⊗◌ d2 B) u right u_some, length_product (code_ring k) (code_domain k) d2 B n2 gap.1))
+      (omega (
+        arith,
+        gap.2,
+        large,
+        short,
+        some_long k d1 some,
+        ap (λ p. length p.0) f,
+        length_product (code_ring k) (code_domain k) v ((K c).◌⊗◌ d1 A) nv left,
+        length_product (code_ring k) (code_domain k) d1 A some gap.0,
+        length_product (code_ring k) (code_domain k) ((K c).◌⊗◌ d2 B) u right u_some,
+        length_product (code_ring k) (code_domain k) d2 B n2 gap.1,
+      ))
 
   infinite_end : (d i t : FunctionOf c) → d ⊗ i ≡ 𝟙 → IsFiniteAtInfinity c d → IsRational c t
       → ((n : ℕ) → (e : Exponent c n) → IsFiniteAtInfinity c (d ⊗ pow F.ops t e.exponent)) → IsFiniteAtInfinity c t

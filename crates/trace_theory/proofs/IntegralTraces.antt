@@ -1,13 +1,13 @@
 -- The trace of a function that is integral over the polynomials, or over the fractions of degree at most 0, is one of these.
 -- The traces of all powers of such a function have a common denominator, and that of an m-th power is the m-th power of the trace for
 -- exponents m as large as wanted.
-use Rattle.std.proofs.Common.{eq-or-lt_of_le, le_of_suc-le-suc, ◌≡◌, ℕ, zero, suc, ◌<◌, ◌≤◌, ◌+◌, ◌-◌, ◌*◌, ◌⊎◌, inl, inr, List, [], ◌∷◌, length, refl, sym, ◌∙◌, ap, ap₂, subst, arith}
+use Rattle.std.proofs.Common.{eq-or-lt_of_le, le_of_suc-le-suc, ◌≡◌, ℕ, zero, suc, ◌<◌, ◌⊎◌, inl, inr, [], ◌∷◌, refl, sym, ◌∙◌, ap, subst, arith}
 use Rattle.ff_ring.specs.Ring.{CommRing, pow}
 use Rattle.ff_ring.specs.Subsets.{IsSubring}
 use Rattle.ff_ring.specs.Integral.{IsIntegral}
-use Rattle.ff_ring.proofs.Ring.{one_mul, mul_zero, zero_mul, product_not_zero, add_cancel_left}
+use Rattle.ff_ring.proofs.Ring.{one_mul, mul_zero, add_cancel_left}
 use Rattle.ff_ring.proofs.Integral.{Low}
-use Rattle.ff_ring.proofs.Solver.{ring, reads, from_one, from_two}
+use Rattle.ff_ring.proofs.Solver.{ring, reads, from_two}
 use Rattle.local_theory.proofs.Adjoined.{power_low, low_by_root, low_has}
 
 -- in a ring with a subring S and a map that is additive and linear over S

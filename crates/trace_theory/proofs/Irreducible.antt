@@ -1,6 +1,6 @@
 -- A polynomial that no monic polynomial of smaller degree divides, but 1, is irreducible in the Euclidean ring k[x]: if it divides a product
 -- it divides a factor.
-use Rattle.std.proofs.Common.{◌≡◌, ◌≢◌, ℕ, zero, suc, ◌<◌, ◌≤◌, ◌+◌, ◌-◌, ◌⊎◌, inl, inr, List, [], ◌∷◌, ◌++◌, map, length, refl, sym, ◌∙◌, ap, ap₂, subst, arith}
+use Rattle.std.proofs.Common.{◌≡◌, ℕ, suc, ◌<◌, ◌≤◌, ◌+◌, ◌-◌, ◌⊎◌, inl, inr, List, [], ◌∷◌, ◌++◌, length, refl, sym, ◌∙◌, ap, subst, arith}
 use Rattle.std.proofs.lemmas.List.{length-map, map-append}
 use Rattle.ff_ring.specs.Lists.{coeff_of}
 use Rattle.ff_ring.proofs.Ring.{mul_zero, zero_mul, mul_mul}
@@ -13,10 +13,10 @@ use Rattle.linear_theory.proofs.Euclid.{euclid, decide_divisor}
 use Rattle.ff_fields.specs.Field.{CodeField}
 use Rattle.ff_fields.specs.Code.{Code, code_ring, code_field, code_domain}
 use Rattle.ff_fields.specs.Numbers.{numbers}
-use Rattle.ff_poly.specs.Words.{IsIrreducible, Divides, IsMonic}
+use Rattle.ff_poly.specs.Words.{IsIrreducible, IsMonic}
 use Rattle.ff_poly.specs.Polynomials.{Polynomial, polynomials, polynomials_domain, polynomial_discrete, codes_of, IsOver_codes_of, IsPoly_codes_of, codes_of_product}
 use Rattle.trace_theory.proofs.TracePowers.{some_long, zero_length}
-use Rattle.trace_theory.proofs.Division.{top_not_zero, euclidean, Divided, divide}
+use Rattle.trace_theory.proofs.Division.{top_not_zero, euclidean, divide}
 
 -- a list is its last member and what is before it
 last_of : {A : Type 0} (f : List A → ℕ → A) → ((x : A) (xs : List A) → f (x ∷ xs) 0 ≡ x) → ((x : A) (xs : List A) (n : ℕ) → f (x ∷ xs) (suc n) ≡ f xs n)
@@ -24,11 +24,10 @@ last_of : {A : Type 0} (f : List A → ℕ → A) → ((x : A) (xs : List A) →
 last_of f first next [] l = absurd (omega arith)
 last_of f first next (x ∷ []) l = ([], ap (λ y. y ∷ []) (sym (first x [])))
 last_of f first next (x ∷ y ∷ xs) l =
-    let r = last_of f first next (y ∷ xs) (omega arith) in
-    (
+    let r = last_of f first next (y ∷ xs) (omega arith) in (
       x ∷ r.0,
       ap (λ ys. x ∷ ys)
-      (r.1 ∙ ap (λ z. r.0 ++ z ∷ []) (sym (next x (y ∷ xs) (length (y ∷ xs) - 1)) ∙ ap (f (x ∷ y ∷ xs)) (let q : suc (length (y ∷ xs) - 1) ≡ length (x ∷ y ∷ xs) - 1 = omega arith in q))),
+          (r.1 ∙ ap (λ z. r.0 ++ z ∷ []) (sym (next x (y ∷ xs) (length (y ∷ xs) - 1)) ∙ ap (f (x ∷ y ∷ xs)) (let q : suc (length (y ∷ xs) - 1) ≡ length (x ∷ y ∷ xs) - 1 = omega arith in q))),
     )
 
 module _ (k : CodeField) where

@@ -1,21 +1,21 @@
-mod RowMatrix
-mod Determinants
-mod RowForm
-mod FunctionTraces
-mod TraceForm
-mod Dependence
-mod Degenerate
-mod Powers
-mod Norms
-mod TracePowers
-mod FunctionPowers
-mod Reduced
-mod Division
-mod IntegralTraces
-mod IntegralFunctions
-mod IntegralLaw
-mod Irreducible
-mod SquareLaw
-mod Weights
-mod InfiniteDiscriminant
-mod InfiniteTraces
+pub mod RowMatrix
+pub mod Determinants
+pub mod RowForm
+pub mod FunctionTraces
+pub mod TraceForm
+pub mod Dependence
+pub mod Degenerate
+pub mod Powers
+pub mod Norms
+pub mod TracePowers
+pub mod FunctionPowers
+pub mod Reduced
+pub mod Division
+pub mod IntegralTraces
+pub mod IntegralFunctions
+pub mod IntegralLaw
+pub mod Irreducible
+pub mod SquareLaw
+pub mod Weights
+pub mod InfiniteDiscriminant
+pub mod InfiniteTraces

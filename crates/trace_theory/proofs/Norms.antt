@@ -1,9 +1,9 @@
 -- The norm of a row, the determinant of its matrix: it is multiplicative, and that of 1 + a·v is 1 + a·(the trace of v) up to a multiple of a².
 use native.Mathlib.Decide.{ℕ_discrete}
-use Rattle.std.proofs.Common.{◌≡◌, ℕ, zero, suc, ◌<◌, List, [], ◌∷◌, refl, sym, ◌∙◌, ap, ap₂, arith}
+use Rattle.std.proofs.Common.{◌≡◌, ℕ, zero, suc, ◌<◌, refl, sym, ◌∙◌, ap, ap₂}
 use Rattle.ff_ring.specs.Ring.{CommRing, pow}
 use Rattle.ff_ring.specs.Rows.{Row, row_scale}
-use Rattle.ff_ring.specs.Sums.{sum_below, matrix_product, trace}
+use Rattle.ff_ring.specs.Sums.{matrix_product}
 use Rattle.ff_ring.specs.Determinant.{determinant}
 use Rattle.ff_ring.proofs.Ring.{one_mul, add_mul}
 use Rattle.ff_ring.proofs.Determinant.{determinant_product}

@@ -1,26 +1,26 @@
 -- Where the discriminant isn't 0, no function but 0 is nilpotent, and F is a field where 0 and 1 are its only idempotents.
-use Rattle.std.proofs.Common.{◌≡◌, ℕ, zero, suc, ◌<◌, ◌≤◌, ◌+◌, ◌-◌, ◌⊎◌, inl, inr, List, [], ◌∷◌, length, refl, sym, ◌∙◌, ap, ap₂, subst, arith}
+use Rattle.std.proofs.Common.{◌≡◌, ℕ, zero, suc, ◌<◌, ◌≤◌, ◌+◌, ◌-◌, ◌⊎◌, inl, inr, List, [], ◌∷◌, refl, sym, ◌∙◌, ap, ap₂, subst, arith}
 use Rattle.ff_ring.specs.Ring.{CommRing, IsField, pow}
 use Rattle.ff_ring.specs.Rows.{Row, row_zero, row_scale, entry}
 use Rattle.ff_ring.specs.Sums.{sum_below}
 use Rattle.ff_ring.proofs.Ring.{one_mul, zero_mul, mul_zero, zero_add, mul_left_comm, mul_pow, pow_add, add_cancel_left}
 use Rattle.ff_ring.proofs.Sums.{below_first, below_cong, below_scale}
-use Rattle.ff_ring.proofs.Solver.{ring, reads, from_one, from_two}
+use Rattle.ff_ring.proofs.Solver.{ring, reads, from_two}
 use Rattle.ff_ring.proofs.Rows.{row_scale_one}
 use Rattle.linear_theory.specs.Basis.{Relation}
 use Rattle.linear_theory.proofs.Relation.{relation}
 use Rattle.linear_theory.proofs.Elimination.{tabulate}
 use Rattle.linear_theory.proofs.Domain.{first_nonzero}
 use Rattle.ff_fields.specs.Field.{CodeField}
-use Rattle.ff_poly.specs.Polynomials.{Polynomial, polynomials, polynomials_domain}
-use Rattle.ff_algebra.specs.Functions.{Equation, FunctionOf, ring_of, row_of, of_poly, over, y_of, trace_of, functions_discrete}
+use Rattle.ff_poly.specs.Polynomials.{Polynomial, polynomials}
+use Rattle.ff_algebra.specs.Functions.{Equation, FunctionOf, ring_of, row_of, of_poly, over, y_of, trace_of}
 use Rattle.ff_algebra.specs.Discriminant.{discriminant}
-use Rattle.ff_algebra.proofs.Horner.{add_plain, mul_plain, plain}
+use Rattle.ff_algebra.proofs.Horner.{add_plain, mul_plain}
 use Rattle.ff_algebra.proofs.OnSide.{den_inverse, of_poly_zero}
 use Rattle.ff_algebra.proofs.ScalarRings.{of_poly_one}
 use Rattle.trace_theory.proofs.RowMatrix.{entry_add, at_scale, entry_zero, row_by_entries}
-use Rattle.trace_theory.proofs.FunctionTraces.{K, R, Y, Tr, one_some, over_same, over_eq, AsRow, as_row, trace_plus, trace_rational, row_of_times, over_product, polynomial_value}
-use Rattle.trace_theory.proofs.FunctionPowers.{Exponent, exponent_of, rational_reduced, power_over}
+use Rattle.trace_theory.proofs.FunctionTraces.{K, R, one_some, over_eq, as_row, trace_plus, trace_rational, row_of_times, over_product, polynomial_value}
+use Rattle.trace_theory.proofs.FunctionPowers.{exponent_of, rational_reduced, power_over}
 use Rattle.trace_theory.proofs.Dependence.{length_listed, combine_listed}
 use Rattle.trace_theory.proofs.Degenerate.{domain, zero_over, zero_by_traces}
 

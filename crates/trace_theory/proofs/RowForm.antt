@@ -1,8 +1,8 @@
 -- Rows whose products with the powers of y have multiples of d as traces: the discriminant times such a row is a multiple of d.
 use native.Mathlib.Decide.{ℕ_discrete}
-use Rattle.std.proofs.Common.{◌≡◌, ℕ, zero, suc, ◌<◌, ◌+◌, ◌⊎◌, inl, inr, List, [], ◌∷◌, length, map, refl, sym, ◌∙◌, ap, ap₂, subst, arith}
-use Rattle.ff_ring.specs.Ring.{Operations, CommRing, IsDomain}
-use Rattle.ff_ring.specs.Rows.{Row, row_scale, entry}
+use Rattle.std.proofs.Common.{◌≡◌, ℕ, zero, suc, ◌<◌, ◌+◌, refl, sym, ◌∙◌, ap, arith}
+use Rattle.ff_ring.specs.Ring.{CommRing, IsDomain}
+use Rattle.ff_ring.specs.Rows.{Row, row_scale}
 use Rattle.ff_ring.specs.Sums.{sum_below}
 use Rattle.ff_ring.specs.Determinant.{determinant, with_row}
 use Rattle.ff_ring.proofs.Ring.{domain_cancel, mul_left_comm}
@@ -94,16 +94,15 @@ module _ {P : Type 0} (S : CommRing P) (n : ℕ) (f : Row P (suc n)) where
 
       pub entry_square : (i : ℕ) → i < suc n → (g : P) × (at S n f i v ⊗ (at S n f i v ⊗ disc) ≡ d ⊗ (d ⊗ g))
       entry_square i l =
-          let u : ℕ → P = λ c. last i c (ℕ_discrete c i) in
-          (
+          let u : ℕ → P = λ c. last i c (ℕ_discrete c i) in (
             determinant S.ops (suc n) (with_row i u (λ r c. H i c r)),
             ap (λ x. at S n f i v ⊗ x) (entry_form i l) ∙ mul_left_comm S _ _ _
-            ∙ ap (λ x. d ⊗ x)
-            (ap (λ x. at S n f i v ⊗ x) (sym (transposed S (suc n) (H i)))
-            ∙ sym (cramer S (suc n) i l (λ k. at S n f k v) (λ r c. H i c r))
-            ∙ determinant_cong S (suc n) _ (with_row i (λ c. d ⊗ u c) (λ r c. H i c r))
-            (λ r c k b.
-            with_row_cong (suc n) i (λ c. sum_below S.ops (suc n) (λ j. at S n f j v ⊗ H i c j)) (λ c. d ⊗ u c) (λ r c. H i c r)
-            (λ c b. times_column i c l b (ℕ_discrete c i)) r c b)
-            ∙ scaled_row S (suc n) i l d u (λ r c. H i c r)),
+                ∙ ap (λ x. d ⊗ x)
+                (ap (λ x. at S n f i v ⊗ x) (sym (transposed S (suc n) (H i)))
+                ∙ sym (cramer S (suc n) i l (λ k. at S n f k v) (λ r c. H i c r))
+                ∙ determinant_cong S (suc n) _ (with_row i (λ c. d ⊗ u c) (λ r c. H i c r))
+                (λ r c k b.
+                with_row_cong (suc n) i (λ c. sum_below S.ops (suc n) (λ j. at S n f j v ⊗ H i c j)) (λ c. d ⊗ u c) (λ r c. H i c r)
+                (λ c b. times_column i c l b (ℕ_discrete c i)) r c b)
+                ∙ scaled_row S (suc n) i l d u (λ r c. H i c r)),
           )

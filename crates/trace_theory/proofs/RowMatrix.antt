@@ -1,11 +1,11 @@
 -- A row is the sum of its entries times the powers of y, and multiplication by a row has a matrix.
-use Rattle.std.proofs.Common.{◌≡◌, ℕ, zero, suc, ◌<◌, ◌≤◌, ◌+◌, refl, sym, ◌∙◌, ap, ap₂, arith, zero-add, suc-add}
-use Rattle.ff_ring.specs.Ring.{Operations, CommRing}
+use Rattle.std.proofs.Common.{◌≡◌, ℕ, zero, suc, ◌<◌, ◌+◌, refl, sym, ◌∙◌, ap, ap₂, arith, zero-add}
+use Rattle.ff_ring.specs.Ring.{CommRing}
 use Rattle.ff_ring.specs.Rows.{Row, row_zero, row_add, row_scale, shift, top, times_y, row_times, entry, y_to, diagonal_sum, row_trace}
 use Rattle.ff_ring.specs.Sums.{sum_below, matrix_product, trace}
-use Rattle.ff_ring.proofs.Ring.{zero_add, mul_zero, neg_zero}
-use Rattle.ff_ring.proofs.Sums.{below_cong, below_first, below_add, below_scale, below_single}
-use Rattle.ff_ring.proofs.Rows.{pair_path, row_set, row_add_assoc, row_add_comm, row_add_zero, row_zero_scale, row_scale_one, row_scale_zero, times_y_add, times_y_scale, times_y_zero, times_add, times_scale, times_times_y, times_zero, scale_times, row_one, row_mul, row_ring, row_mul_one, row_mul_comm, row_mul_assoc, entry_scale, row_trace_scale, scale_row_mul}
+use Rattle.ff_ring.proofs.Ring.{mul_zero, neg_zero}
+use Rattle.ff_ring.proofs.Sums.{below_cong, below_first, below_add}
+use Rattle.ff_ring.proofs.Rows.{pair_path, row_add_zero, row_zero_scale, times_scale, times_times_y, row_one, row_mul, row_ring, row_mul_one, entry_scale, row_trace_scale, scale_row_mul}
 
 module _ {P : Type 0} (S : CommRing P) where
   -- the row of the i-th power of y

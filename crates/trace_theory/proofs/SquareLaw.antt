@@ -1,11 +1,11 @@
 -- Where an irreducible p takes a function to polynomial coordinates that the function doesn't have, while its traces are polynomials, the
 -- square of p divides the discriminant.
-use Rattle.std.proofs.Common.{◌≡◌, ℕ, zero, suc, ◌<◌, ◌⊎◌, inl, inr, List, [], ◌∷◌, refl, sym, ◌∙◌, ap, ap₂, subst, arith}
-use Rattle.ff_ring.specs.Ring.{CommRing, pow}
-use Rattle.ff_ring.specs.Rows.{Row, row_zero, row_scale}
-use Rattle.ff_ring.proofs.Ring.{one_mul, mul_left_comm, domain_cancel, product_not_zero}
+use Rattle.std.proofs.Common.{◌≡◌, ℕ, suc, ◌<◌, ◌⊎◌, inl, inr, [], ◌∷◌, refl, sym, ◌∙◌, ap, ap₂, subst}
+use Rattle.ff_ring.specs.Ring.{pow}
+use Rattle.ff_ring.specs.Rows.{Row}
+use Rattle.ff_ring.proofs.Ring.{mul_left_comm, domain_cancel, product_not_zero}
 use Rattle.ff_ring.proofs.Rows.{row_scale_one}
-use Rattle.ff_ring.proofs.Solver.{ring, reads, from_one, from_two}
+use Rattle.ff_ring.proofs.Solver.{ring, reads, from_two}
 use Rattle.linear_theory.specs.Euclidean.{IsDivisor}
 use Rattle.linear_theory.proofs.Domain.{least}
 use Rattle.ff_fields.specs.Field.{CodeField}
@@ -95,11 +95,12 @@ module _ {k : CodeField} (c : Equation k) (p : Polynomial k) (h : IsIrreducible 
     where
       t : Choice (λ j a. Tr c ((R c).◌⊗◌ times.coordinates (Y c j)) ≡ (K c).◌⊗◌ p a) (suc c.lower_degree)
       t =
-          choose _ (suc c.lower_degree) (K c).𝟘 (λ j l.
-          ((traces j l).polynomial,
-          polynomial_value c (Tr c ((R c).◌⊗◌ times.coordinates (Y c j))) (traces j l).polynomial p p_some
-          (sym (trace_power c times.coordinates p p_some j) ∙ ap (λ u. trace_of c ((ring_of c).◌⊗◌ u (pow (ring_of c).ops (y_of c) j))) (sym (over_p z times.coordinates times.value))
-          ∙ (traces j l).value)))
+          choose _ (suc c.lower_degree) (K c).𝟘 (λ j l. (
+            (traces j l).polynomial,
+            polynomial_value c (Tr c ((R c).◌⊗◌ times.coordinates (Y c j))) (traces j l).polynomial p p_some
+                (sym (trace_power c times.coordinates p p_some j) ∙ ap (λ u. trace_of c ((ring_of c).◌⊗◌ u (pow (ring_of c).ops (y_of c) j))) (sym (over_p z times.coordinates times.value))
+                ∙ (traces j l).value),
+          ))
 
       squared : Tr c ((R c).◌⊗◌ times.coordinates times.coordinates) ≡ (K c).◌⊗◌ p ((K c).◌⊗◌ p square.polynomial)
       squared =

@@ -1,18 +1,17 @@
 -- The discriminant takes a function whose products with the powers of y have polynomials as traces to polynomial coordinates.
-use Rattle.std.proofs.Common.{◌≡◌, ℕ, zero, suc, ◌<◌, refl, sym, ◌∙◌, ap, ap₂, arith}
-use Rattle.ff_ring.specs.Ring.{CommRing, pow}
+use Rattle.std.proofs.Common.{◌≡◌, ℕ, zero, suc, ◌<◌, sym, ◌∙◌, ap, arith}
+use Rattle.ff_ring.specs.Ring.{pow}
 use Rattle.ff_ring.specs.Rows.{Row, row_scale}
 use Rattle.ff_ring.proofs.Ring.{one_mul}
 use Rattle.ff_ring.proofs.Rows.{row_scale_one}
 use Rattle.ff_fields.specs.Field.{CodeField}
-use Rattle.ff_poly.specs.Polynomials.{Polynomial, polynomials, polynomials_domain}
+use Rattle.ff_poly.specs.Polynomials.{Polynomial, polynomials}
 use Rattle.ff_algebra.specs.Functions.{Equation, FunctionOf, ring_of, row_of, of_poly, over, y_of, trace_of, degree_of_y, IsPolynomial}
 use Rattle.ff_algebra.specs.Discriminant.{discriminant}
-use Rattle.ff_algebra.proofs.ScalarRings.{bottoms_not_zero}
 use Rattle.trace_theory.specs.Traces.{HasPolynomialCoordinates}
 use Rattle.trace_theory.proofs.RowMatrix.{row_with}
 use Rattle.trace_theory.proofs.RowForm.{replaced, row_form}
-use Rattle.trace_theory.proofs.FunctionTraces.{K, R, Y, Tr, one_some, over_product, over_eq, AsRow, as_row, row_of_times, trace_power, polynomial_value}
+use Rattle.trace_theory.proofs.FunctionTraces.{R, Y, Tr, one_some, over_product, over_eq, as_row, row_of_times, trace_power, polynomial_value}
 
 -- a value for each number below m, as a function of all numbers
 pub record Choice {P : Type 0} (Q : ℕ → P → Type 0) (m : ℕ) : Type 0 where

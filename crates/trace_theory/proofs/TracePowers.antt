@@ -1,8 +1,8 @@
 -- The trace of a q-th power is the q-th power of the trace.
-use Rattle.std.proofs.Common.{◌≡◌, ◌≢◌, ℕ, zero, suc, ◌<◌, ◌≤◌, ◌⊎◌, inl, inr, List, [], ◌∷◌, length, refl, sym, ◌∙◌, ap, ap₂, arith}
+use Rattle.std.proofs.Common.{◌≡◌, ℕ, zero, suc, ◌<◌, ◌≤◌, ◌⊎◌, inl, inr, [], ◌∷◌, length, refl, sym, ◌∙◌, ap, ap₂, arith}
 use Rattle.ff_ring.specs.Ring.{CommRing, pow}
 use Rattle.ff_ring.specs.Rows.{Row, row_scale}
-use Rattle.ff_ring.proofs.Ring.{one_mul, mul_pow, pow_one_base, eq_of_sub, domain_cancel, product_not_zero, mul_zero}
+use Rattle.ff_ring.proofs.Ring.{mul_pow, pow_one_base, eq_of_sub, domain_cancel, product_not_zero, mul_zero}
 use Rattle.ff_ring.proofs.Solver.{ring, reads, from_one}
 use Rattle.ff_ring.proofs.Polynomials.{pol_ops, coeff_past, length_product}
 use Rattle.ff_fields.specs.Field.{CodeField}
@@ -10,7 +10,6 @@ use Rattle.ff_fields.specs.Code.{code_ring, code_domain, read_code, read_code_be
 use Rattle.ff_poly.specs.Polynomials.{Polynomial, polynomials, polynomials_domain, polynomial_discrete, x_poly, x_poly_not_zero, series_read}
 use Rattle.ff_algebra.specs.Functions.{Equation, row_of}
 use Rattle.places_theory.proofs.AtInfinity.{x_power_not_zero}
-use Rattle.trace_theory.proofs.RowMatrix.{rows, tr}
 use Rattle.trace_theory.proofs.Determinants.{Near, image_power}
 use Rattle.trace_theory.proofs.Norms.{norm, norm_power, norm_near}
 use Rattle.trace_theory.proofs.FunctionTraces.{K, R, Tr, row_of_times}
@@ -53,8 +52,13 @@ module _ (k : CodeField) where
       impossible n (w, e) =
           let some : ¬ (w ≡ (polynomials k).𝟘) = λ z. n (e ∙ ap (λ w. (polynomials k).◌⊗◌ (pow (polynomials k).ops (x_poly k) (length b.0)) w) z ∙ mul_zero (polynomials k).ring _) in
           absurd
-          (omega (arith, x_power_long (length b.0), some_long w some, ap (λ p. length p.0) e,
-          length_product (code_ring k) (code_domain k) (pow (polynomials k).ops (x_poly k) (length b.0)) w (x_power_not_zero k (length b.0)) some))
+          (omega (
+            arith,
+            x_power_long (length b.0),
+            some_long w some,
+            ap (λ p. length p.0) e,
+            length_product (code_ring k) (code_domain k) (pow (polynomials k).ops (x_poly k) (length b.0)) w (x_power_not_zero k (length b.0)) some,
+          ))
 
       go : Dec (b ≡ (polynomials k).𝟘) → b ≡ (polynomials k).𝟘
       go (yes e) = e
@@ -108,11 +112,10 @@ module _ {k : CodeField} (c : Equation k) where
       let r = pow P.ops one.rest (q k) in
       let e : 𝟙 ⊕ A ⊗ T ⊕ A ⊗ A ⊗ all.rest ≡ 𝟙 ⊕ A ⊗ t ⊕ A ⊗ A ⊗ r
       = sym all.is ∙ ap (norm (K c) c.lower_degree c.coefficients) (sym (near_row_power a v))
-      ∙ norm_power (K c) c.lower_degree c.coefficients (near_row a v) (q k) ∙ ap (λ x. pow P.ops x (q k)) one.is ∙ near_power a (Tr c v) one.rest in
-      (
+      ∙ norm_power (K c) c.lower_degree c.coefficients (near_row a v) (q k) ∙ ap (λ x. pow P.ops x (q k)) one.is ∙ near_power a (Tr c v) one.rest in (
         pow P.ops a (size_less k) ⊗ (r ⊕ ⊖ all.rest),
         domain_cancel P (polynomials_domain k) A (T ⊕ ⊖ t) (A ⊗ (r ⊕ ⊖ all.rest)) (some (q k)) (step A T t all.rest r e)
-        ∙ P.mul_assoc _ _ _,
+            ∙ P.mul_assoc _ _ _,
       )
     where
       some : (m : ℕ) → ¬ (pow P.ops a m ≡ 𝟘)
