@@ -1,5 +1,5 @@
 -- The trace of a function is the same in both presentations.
-use Rattle.std.proofs.Common.{◌≡◌, ℕ, zero, suc, ◌≤◌, ◌-◌, ◌*◌, length, sym, ◌∙◌, ap, ap₂}
+use Rattle.std.proofs.Common.{◌≡◌, ℕ, suc, ◌≤◌, ◌-◌, ◌*◌, length, sym, ◌∙◌, ap, ap₂}
 use Rattle.ff_ring.specs.Ring.{CommRing, pow}
 use Rattle.ff_ring.specs.Rows.{Row, entry}
 use Rattle.ff_ring.specs.Sums.{sum_below}
@@ -18,9 +18,9 @@ use Rattle.places_theory.proofs.PresentationMap.{presentation_map, map_row, unit
 use Rattle.trace_theory.specs.Traces.{IsRational}
 use Rattle.trace_theory.proofs.RowMatrix.{tr, y, trace_expand}
 use Rattle.trace_theory.proofs.Determinants.{image_sum}
-use Rattle.trace_theory.proofs.FunctionTraces.{as_row, trace_over, trace_plus, trace_times, y_power}
+use Rattle.trace_theory.proofs.FunctionTraces.{as_row, trace_over, trace_times, y_power}
 use Rattle.trace_theory.proofs.FunctionPowers.{power_some}
-use Rattle.trace_theory.proofs.Reduced.{trace_zero}
+use Rattle.trace_theory.proofs.Reduced.{trace_sum}
 use Rattle.trace_theory.proofs.IntegralFunctions.{fraction_power}
 use Rattle.trace_theory.proofs.IntegralLaw.{eval_sum}
 use Rattle.trace_theory.proofs.InfiniteDiscriminant.{T, infinite_trace}
@@ -84,17 +84,13 @@ module _ (k : CodeField) (p q : PresValue) (c : ℕ) (h : IsInfinitePresentation
       (ap (trace_of (equation_of k p)) (y_power (equation_of k p) i) ∙ trace_over (equation_of k p) _ _ _)
       ∙ F.mul_comm _ _ ∙ sym (infinite_trace k p q c h some i)
 
-  trace_sum : (m : ℕ) (f : ℕ → Functions k p) → trace_of (equation_of k p) (sum_below F.ops m f) ≡ sum_below F.ops m (λ i. trace_of (equation_of k p) (f i))
-  trace_sum zero f = trace_zero (equation_of k p)
-  trace_sum (suc m) f = trace_plus (equation_of k p) _ _ ∙ ap (λ s. F.◌⊕◌ s (trace_of (equation_of k p) (f m))) (trace_sum m f)
-
   -- the trace of the sum of v_i(1/x)·Y^i
   trace_row : (v : Row (Polynomial k) (suc (q.n - 1)))
       → trace_of (equation_of k p) (eval P F (at k p (variable k p Infinite)) (at_hom k p (variable k p Infinite)) (η k p q c) (suc (q.n - 1)) v)
       ≡ at k p (variable k p Infinite) (tr P (q.n - 1) (equation_of k q).coefficients v)
   trace_row v =
       ap (trace_of (equation_of k p)) (eval_sum P F (at k p (variable k p Infinite)) (at_hom k p (variable k p Infinite)) (η k p q c) (suc (q.n - 1)) v)
-      ∙ trace_sum (suc (q.n - 1)) _
+      ∙ trace_sum (equation_of k p) (suc (q.n - 1)) _
       ∙ below_cong F (suc (q.n - 1)) _ (λ i. at k p (variable k p Infinite) (P.◌⊗◌ (entry P.ops (suc (q.n - 1)) i v) (Yq i))) (λ i l.
       trace_times (equation_of k p) (at k p (variable k p Infinite) (entry P.ops (suc (q.n - 1)) i v)) (pow F.ops (η k p q c) i) (at_rational (entry P.ops (suc (q.n - 1)) i v))
       ∙ ap (λ z. at k p (variable k p Infinite) (entry P.ops (suc (q.n - 1)) i v) ⊗ z) (trace_generator i)

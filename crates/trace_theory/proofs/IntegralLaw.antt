@@ -4,6 +4,7 @@ use Rattle.std.proofs.Common.{◌≡◌, ℕ, zero, suc, ◌<◌, ◌≤◌, ◌
 use Rattle.ff_ring.specs.Ring.{CommRing, pow}
 use Rattle.ff_ring.specs.Rows.{Row, row_zero, entry}
 use Rattle.ff_ring.specs.Sums.{sum_below}
+use Rattle.ff_ring.specs.Subsets.{IsSubring}
 use Rattle.ff_ring.specs.Integral.{IsIntegral}
 use Rattle.ff_ring.proofs.Ring.{one_mul, zero_mul, mul_zero, mul_left_comm, product_not_zero}
 use Rattle.ff_ring.proofs.Sums.{below_scale, below_cong, below_first}
@@ -44,6 +45,25 @@ module _ {P E : Type 0} (S : CommRing P) (F : CommRing E) (φ : P → E) (hom : 
       ∙ ap₂ F.◌⊕◌ (sym (F.mul_one (φ a)))
       (ap (F.◌⊗◌ η) (eval_sum m v) ∙ sym (below_scale F m η _) ∙ below_cong F m _ _ (λ i l. mul_left_comm F η (φ (entry S.ops m i v)) (pow F.ops η i)))
       ∙ sym (below_first F m (λ i. F.◌⊗◌ (φ (entry S.ops (suc m) i (a, v))) (pow F.ops η i)))
+
+-- the equation e² - e of an idempotent
+square_minus : {A : Type 0} (R : CommRing A) → ℕ → A
+square_minus R zero = R.𝟘
+square_minus R (suc i) = R.⊖◌ R.𝟙
+
+idempotent_flat : {A : Type 0} (R : CommRing A) (e : A) → R.◌⊗◌ e e ≡ e
+    → R.◌⊕◌ (R.◌⊗◌ e (R.◌⊗◌ e R.𝟙)) (R.◌⊕◌ (R.◌⊕◌ R.𝟘 (R.◌⊗◌ R.𝟘 R.𝟙)) (R.◌⊗◌ (R.⊖◌ R.𝟙) (R.◌⊗◌ e R.𝟙))) ≡ R.𝟘
+idempotent_flat R e h = from_one R R.𝟙 h (ring R (e ∷ []) λ q x. simp (reads, q, x 0) (q.equal _ _ refl))
+
+idempotent_integral : {A : Type 0} (R : CommRing A) (S : A → Type 0) → IsSubring R.ops S → (e : A) → R.◌⊗◌ e e ≡ e → IsIntegral R.ops S e
+unfolding square_minus
+idempotent_integral R S 𝓢 e h = record {
+  degree = 2;
+  positive = omega arith;
+  coefficient = square_minus R;
+  coefficient_in = elim [ zero ↦ 𝓢.zero_in | suc i ↦ 𝓢.neg_in R.𝟙 𝓢.one_in ];
+  root = idempotent_flat R e h;
+}
 
 module _ {k : CodeField} (c : Equation k) where
   infixl 65 ◌⊕◌
@@ -220,3 +240,6 @@ module _ {k : CodeField} (c : Equation k) where
   -- the discriminant takes a function that is integral over the polynomials to polynomial coordinates
   pub discriminant_clears : (z : FunctionOf c) → IsIntegralAt (setting_of c) Finite z → HasPolynomialCoordinates c (of_poly c (discriminant c) ⊗ z)
   discriminant_clears z h = trace_form c z (integral_traces z h)
+
+  pub idempotent_at : (s : Side) (e : FunctionOf c) → e ⊗ e ≡ e → IsIntegralAt (setting_of c) s e
+  idempotent_at s e h = idempotent_integral F (IsScalar c s) (scalars_subring c s) e h

@@ -19,3 +19,4 @@ pub mod SquareLaw
 pub mod Weights
 pub mod InfiniteDiscriminant
 pub mod InfiniteTraces
+pub mod BasisDiscriminant

@@ -1,5 +1,5 @@
 -- Where the discriminant isn't 0, no function but 0 is nilpotent, and F is a field where 0 and 1 are its only idempotents.
-use Rattle.std.proofs.Common.{◌≡◌, ℕ, zero, suc, ◌<◌, ◌≤◌, ◌+◌, ◌-◌, ◌⊎◌, inl, inr, List, [], ◌∷◌, refl, sym, ◌∙◌, ap, ap₂, subst, arith}
+use Rattle.std.proofs.Common.{◌≡◌, ℕ, zero, suc, ◌<◌, ◌≤◌, ◌+◌, ◌-◌, ◌⊎◌, inl, inr, List, [], ◌∷◌, refl, sym, ◌∙◌, ap, ap₂, subst, arith, ◌↔◌}
 use Rattle.ff_ring.specs.Ring.{CommRing, IsField, pow}
 use Rattle.ff_ring.specs.Rows.{Row, row_zero, row_scale, entry}
 use Rattle.ff_ring.specs.Sums.{sum_below}
@@ -13,7 +13,7 @@ use Rattle.linear_theory.proofs.Elimination.{tabulate}
 use Rattle.linear_theory.proofs.Domain.{first_nonzero}
 use Rattle.ff_fields.specs.Field.{CodeField}
 use Rattle.ff_poly.specs.Polynomials.{Polynomial, polynomials}
-use Rattle.ff_algebra.specs.Functions.{Equation, FunctionOf, ring_of, row_of, of_poly, over, y_of, trace_of}
+use Rattle.ff_algebra.specs.Functions.{Equation, FunctionOf, ring_of, row_of, of_poly, over, y_of, trace_of, functions_discrete}
 use Rattle.ff_algebra.specs.Discriminant.{discriminant}
 use Rattle.ff_algebra.proofs.Horner.{add_plain, mul_plain}
 use Rattle.ff_algebra.proofs.OnSide.{den_inverse, of_poly_zero}
@@ -111,6 +111,10 @@ module _ {k : CodeField} (c : Equation k) where
   trace_zero =
       add_cancel_left F (trace_of c 𝟘) (trace_of c 𝟘) 𝟘
       (sym (trace_plus c 𝟘 𝟘) ∙ ap (trace_of c) (F.add_zero 𝟘) ∙ sym (F.add_zero (trace_of c 𝟘)))
+
+  pub trace_sum : (m : ℕ) (f : ℕ → FunctionOf c) → trace_of c (sum_below F.ops m f) ≡ sum_below F.ops m (λ i. trace_of c (f i))
+  trace_sum zero f = trace_zero
+  trace_sum (suc m) f = trace_plus c _ _ ∙ ap (λ s. s ⊕ trace_of c (f m)) (trace_sum m f)
 
   pub nilpotent_zero : (z : FunctionOf c) (m : ℕ) → ¬ (discriminant c ≡ (polynomials k).𝟘) → pow F.ops z m ≡ 𝟘 → z ≡ 𝟘
   nilpotent_zero z m some e =
@@ -234,3 +238,17 @@ module _ {k : CodeField} (c : Equation k) where
           (λ e. nonzero (undone (of_poly c r.den) (over c (row_of c (K c).𝟙) r.den r.not_zero) z (den_inverse c r.den r.not_zero)
           (clear ∙ nilpotent_zero V p.exponent some e))) idempotents in
           ((ring_of c).◌⊗◌ (of_poly c r.den) i.0, turn z (of_poly c r.den) i.0 ∙ ap (λ v. (ring_of c).◌⊗◌ v i.0) clear ∙ i.1)
+
+  -- in a field 0 and 1 are the only idempotents
+  idempotents_of_field : IsField F.ops → (e : FunctionOf c) → e ⊗ e ≡ e → (e ≡ 𝟘) ⊎ (e ≡ 𝟙)
+  idempotents_of_field field e h = go (functions_discrete c e 𝟘)
+    where
+      go : Dec (e ≡ (ring_of c).𝟘) → (e ≡ (ring_of c).𝟘) ⊎ (e ≡ (ring_of c).𝟙)
+      go (yes z) = inl z
+      go (no n) =
+          let i = field.inverse e n in
+          inr (sym ((ring_of c).mul_one e) ∙ ap ((ring_of c).◌⊗◌ e) (sym i.1) ∙ sym ((ring_of c).mul_assoc e e i.0) ∙ ap (λ z. (ring_of c).◌⊗◌ z i.0) h ∙ i.1)
+
+  pub field_iff : ¬ (discriminant c ≡ (polynomials k).𝟘)
+      → IsField F.ops ↔ ((e : FunctionOf c) → e ⊗ e ≡ e → (e ≡ 𝟘) ⊎ (e ≡ 𝟙))
+  field_iff some = (idempotents_of_field, field_of_idempotents some)

@@ -1,9 +1,9 @@
 -- Where an irreducible p takes a function to polynomial coordinates that the function doesn't have, while its traces are polynomials, the
 -- square of p divides the discriminant.
-use Rattle.std.proofs.Common.{◌≡◌, ℕ, suc, ◌<◌, ◌⊎◌, inl, inr, [], ◌∷◌, refl, sym, ◌∙◌, ap, ap₂, subst}
+use Rattle.std.proofs.Common.{◌≡◌, ℕ, suc, ◌<◌, ◌⊎◌, inl, inr, [], ◌∷◌, refl, sym, ◌∙◌, ap, ap₂, subst, zero}
 use Rattle.ff_ring.specs.Ring.{pow}
 use Rattle.ff_ring.specs.Rows.{Row}
-use Rattle.ff_ring.proofs.Ring.{mul_left_comm, domain_cancel, product_not_zero}
+use Rattle.ff_ring.proofs.Ring.{mul_left_comm, domain_cancel, product_not_zero, one_mul}
 use Rattle.ff_ring.proofs.Rows.{row_scale_one}
 use Rattle.ff_ring.proofs.Solver.{ring, reads, from_two}
 use Rattle.linear_theory.specs.Euclidean.{IsDivisor}
@@ -16,6 +16,10 @@ use Rattle.ff_algebra.specs.declared.elem.Side.TheVariants.{Finite}
 use Rattle.ff_algebra.specs.Places.{IsIntegralAt}
 use Rattle.ff_algebra.specs.Discriminant.{discriminant}
 use Rattle.ff_algebra.proofs.OnSide.{den_inverse}
+use Rattle.ff_algebra.proofs.ScalarRings.{polynomials_subring}
+use Rattle.local_theory.specs.Orders.{MaximalAt}
+use Rattle.local_theory.proofs.IntegralRing.{integral_base}
+use Rattle.ff_ring.proofs.Local.{power_in}
 use Rattle.trace_theory.specs.Traces.{HasPolynomialCoordinates}
 use Rattle.trace_theory.proofs.RowMatrix.{at, at_scale, row_with, entry_with, row_by_entries}
 use Rattle.trace_theory.proofs.RowForm.{entry_square}
@@ -131,3 +135,18 @@ module _ {k : CodeField} (c : Equation k) (p : Polynomial k) (h : IsIrreducible 
   whole_at free z integral times =
       elim (square_or_whole z times (integral_traces c z integral) (integral_trace c Finite (z ⊗ z) (integral_times c z z integral integral)))
       [ inl d ↦ absurd (free d) | inr w ↦ w ]
+
+  -- so it is maximal at p
+  pub maximal_at : ¬ IsDivisor (polynomials k).ops ((K c).◌⊗◌ p p) (discriminant c)
+      → MaximalAt (ring_of c).ops (of_poly c p) (IsIntegralAt (setting_of c) Finite) (HasPolynomialCoordinates c)
+  maximal_at free z zero h g = subst (HasPolynomialCoordinates c) (one_mul (ring_of c) z) g
+  maximal_at free z (suc n) h g =
+      maximal_at free z n h
+      (whole_at free (pow (ring_of c).ops (of_poly c p) n ⊗ z)
+      (integral_times c (pow (ring_of c).ops (of_poly c p) n) z (power_integral n) h)
+      (subst (HasPolynomialCoordinates c) ((ring_of c).mul_assoc (of_poly c p) (pow (ring_of c).ops (of_poly c p) n) z) g))
+    where
+      power_integral : (n : ℕ) → IsIntegralAt (setting_of c) Finite (pow (ring_of c).ops (of_poly c p) n)
+      power_integral n =
+          integral_base (ring_of c) (IsPolynomial c) (polynomials_subring c) _
+          (power_in (ring_of c) (IsPolynomial c) (polynomials_subring c) (of_poly c p) (record { polynomial = p; value = refl }) n)

@@ -5,6 +5,8 @@
 
 ghost use Rattle.std.specs.Prelude.{◌≡◌, ◌≢◌, ℕ, ◌+◌, ◌-◌, ◌*◌, ◌≤◌, ◌<◌, ◌↔◌, ◌⊎◌, [], length};
 ghost use Rattle.ff_ring.specs.Ring.{IsField, pow, nat};
+ghost use Rattle.ff_ring.specs.Sums.{sum_below};
+ghost use Rattle.ff_ring.specs.Determinant.{determinant};
 ghost use Rattle.ff_fields.specs.Field.{CodeField};
 ghost use Rattle.linear_theory.specs.Euclidean.{IsDivisor};
 ghost use Rattle.ff_poly.specs.Words.{IsIrreducible, IsPoly};
@@ -16,6 +18,7 @@ ghost use Rattle.ff_algebra.specs.Places.{IsIntegralAt};
 ghost use Rattle.ff_algebra.specs.Discriminant.{discriminant};
 ghost use Rattle.ff_algebra.specs.Values.{PresValue, ElemValue, IsElem, Functions, functions, setting, equation_of, function_of};
 ghost use Rattle.ff_algebra.specs.Infinity.{value_at, variable, function_on, IsInfinitePresentation};
+ghost use Rattle.local_theory.specs.Orders.{MaximalAt};
 ghost use Rattle.places_theory.specs.Maps.{IsIsomorphism};
 ghost use Rattle.trace_theory.specs.Traces.{IsRational, HasPolynomialCoordinates, HasDegenerateTraceForm};
 
@@ -44,12 +47,25 @@ pub fn degenerate_law()
         → ((i : ℕ) → i < degree_of_y c → trace_of c ((ring_of c).◌⊗◌ z (pow (ring_of c).ops (y_of c) i)) ≡ (ring_of c).𝟘) → z ≡ (ring_of c).𝟘 }
 {}
 
-/// Where the discriminant isn't 0, no function but 0 is nilpotent, and F is a field where 0 and 1 are its only idempotents.
+/// Where the discriminant isn't 0, no function but 0 is nilpotent, and F is a field exactly where 0 and 1 are its only
+/// idempotents. Idempotents are integral on both sides.
 pub fn reduced_law()
     ensures reduced { (k : CodeField) (c : Equation k) (z : FunctionOf c) (m : ℕ) → ¬ (discriminant c ≡ (polynomials k).𝟘)
         → pow (ring_of c).ops z m ≡ (ring_of c).𝟘 → z ≡ (ring_of c).𝟘 }
     ensures field { (k : CodeField) (c : Equation k) → ¬ (discriminant c ≡ (polynomials k).𝟘)
-        → ((e : FunctionOf c) → (ring_of c).◌⊗◌ e e ≡ e → (e ≡ (ring_of c).𝟘) ⊎ (e ≡ (ring_of c).𝟙)) → IsField (ring_of c).ops }
+        → IsField (ring_of c).ops ↔ ((e : FunctionOf c) → (ring_of c).◌⊗◌ e e ≡ e → (e ≡ (ring_of c).𝟘) ⊎ (e ≡ (ring_of c).𝟙)) }
+    ensures integral { (k : CodeField) (c : Equation k) (s : Side) (e : FunctionOf c) → (ring_of c).◌⊗◌ e e ≡ e → IsIntegralAt (setting_of c) s e }
+{}
+
+/// The discriminant of another basis: where w_i is the sum of b_ij·y^j with b_ij in k(x), the determinant of the traces of w_i·w_j is the
+/// square of the determinant of the b_ij times the discriminant.
+pub fn basis_discriminant_law()
+    ensures { (k : CodeField) (c : Equation k) (w : ℕ → FunctionOf c) (b : ℕ → ℕ → FunctionOf c)
+        → ((i j : ℕ) → i < degree_of_y c → j < degree_of_y c → IsRational c (b i j))
+        → ((i : ℕ) → i < degree_of_y c
+        → w i ≡ sum_below (ring_of c).ops (degree_of_y c) (λ j. (ring_of c).◌⊗◌ (b i j) (pow (ring_of c).ops (y_of c) j)))
+        → determinant (ring_of c).ops (degree_of_y c) (λ i j. trace_of c ((ring_of c).◌⊗◌ (w i) (w j)))
+        ≡ (ring_of c).◌⊗◌ ((ring_of c).◌⊗◌ (determinant (ring_of c).ops (degree_of_y c) b) (determinant (ring_of c).ops (degree_of_y c) b)) (of_poly c (discriminant c)) }
 {}
 
 /// The discriminant of the infinite presentation, read at t = 1/x, is that of the finite one times t^(c·n·(n-1)); so that one has a degree
@@ -80,14 +96,15 @@ pub fn integral_trace_law()
 {}
 
 /// Where an irreducible p takes a function z to polynomial coordinates that z doesn't have, while the traces of z·y^i and of z² are
-/// polynomials, the square of p divides the discriminant. So where it doesn't, k[x][y] has each integral function that p takes into it.
+/// polynomials, the square of p divides the discriminant. So where it doesn't, k[x][y] is maximal at p: it has each integral function that
+/// a power of p takes into it.
 pub fn square_law()
     ensures square { (k : CodeField) (c : Equation k) (p : Polynomial k) (z : FunctionOf c) → IsIrreducible k.ops (codes_of k p)
         → HasPolynomialCoordinates c ((ring_of c).◌⊗◌ (of_poly c p) z) → ¬ HasPolynomialCoordinates c z
         → ((i : ℕ) → i < degree_of_y c → IsPolynomial c (trace_of c ((ring_of c).◌⊗◌ z (pow (ring_of c).ops (y_of c) i))))
         → IsPolynomial c (trace_of c ((ring_of c).◌⊗◌ z z))
         → IsDivisor (polynomials k).ops ((polynomials k).◌⊗◌ p p) (discriminant c) }
-    ensures maximal { (k : CodeField) (c : Equation k) (p : Polynomial k) (z : FunctionOf c) → IsIrreducible k.ops (codes_of k p)
-        → ¬ IsDivisor (polynomials k).ops ((polynomials k).◌⊗◌ p p) (discriminant c) → IsIntegralAt (setting_of c) Finite z
-        → HasPolynomialCoordinates c ((ring_of c).◌⊗◌ (of_poly c p) z) → HasPolynomialCoordinates c z }
+    ensures maximal { (k : CodeField) (c : Equation k) (p : Polynomial k) → IsIrreducible k.ops (codes_of k p)
+        → ¬ IsDivisor (polynomials k).ops ((polynomials k).◌⊗◌ p p) (discriminant c)
+        → MaximalAt (ring_of c).ops (of_poly c p) (IsIntegralAt (setting_of c) Finite) (HasPolynomialCoordinates c) }
 {}
