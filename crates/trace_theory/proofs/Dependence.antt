@@ -3,7 +3,7 @@ use Rattle.std.proofs.Common.{◌≡◌, ℕ, zero, suc, ◌<◌, ◌⊎◌, inl
 use native.Mathlib.Decide.{ℕ_discrete}
 use Rattle.ff_ring.specs.Ring.{CommRing}
 use Rattle.ff_ring.specs.Sums.{sum_below, matrix_product}
-use Rattle.ff_ring.specs.Determinant.{determinant}
+use Rattle.ff_ring.specs.Determinant.{determinant, with_row}
 use Rattle.ff_ring.proofs.Ring.{mul_zero, zero_mul, zero_add, neg_mul, neg_unique, product_not_zero}
 use Rattle.ff_ring.proofs.Sums.{below_first, below_cong, below_neg}
 use Rattle.ff_ring.proofs.Determinant.{determinant_product}
@@ -14,8 +14,10 @@ use Rattle.linear_theory.proofs.Standard.{Vanishes}
 use Rattle.linear_theory.proofs.Relation.{relation}
 use Rattle.linear_theory.proofs.Elimination.{tabulate}
 use Rattle.linear_theory.proofs.Independence.{independent_or_relation}
+use Rattle.ff_ring.proofs.Cramer.{cramer}
+use Rattle.trace_theory.proofs.RowForm.{with_row_cong}
 use Rattle.trace_theory.proofs.TraceForm.{Choice, choose}
-use Rattle.trace_theory.proofs.Determinants.{diagonal, product_below, diagonal_determinant, diagonal_here, diagonal_other, determinant_cong}
+use Rattle.trace_theory.proofs.Determinants.{diagonal, product_below, diagonal_determinant, diagonal_here, diagonal_other, determinant_cong, zero_row}
 
 pub length_listed : {X : Type 0} (n : ℕ) (f : ℕ → X) → length (tabulate n f) ≡ n
 length_listed zero f = refl
@@ -58,10 +60,10 @@ module _ {A : Type 0} (D : Domain A) where
   }
 
   -- a combination of the rows that is a multiple of a row of the unit matrix
-  record UnitMultiple (n : ℕ) (m : ℕ → ℕ → A) (j : ℕ) (w : ℕ → A) : Type 0 where
-    factor : A
-    factor_nonzero : ¬ (factor ≡ 𝟘)
-    is : (l : ℕ) → l < n → sum_below R.ops n (λ i. w i ⊗ m i l) ≡ factor ⊗ diagonal R.ops (λ i. 𝟙) j l
+  pub record UnitMultiple (n : ℕ) (m : ℕ → ℕ → A) (j : ℕ) (w : ℕ → A) : Type 0 where
+    pub factor : A
+    pub factor_nonzero : ¬ (factor ≡ 𝟘)
+    pub is : (l : ℕ) → l < n → sum_below R.ops n (λ i. w i ⊗ m i l) ≡ factor ⊗ diagonal R.ops (λ i. 𝟙) j l
 
   unit_multiple : (n : ℕ) (m : ℕ → ℕ → A) → IsIndependent R.ops (sequence_ops R.ops) (Vanishes R n) (tabulate n m)
       → (j : ℕ) → j < n → (w : ℕ → A) × UnitMultiple n m j w
@@ -123,9 +125,27 @@ module _ {A : Type 0} (D : Domain A) where
       scaled r i j (no ne) =
           ap (λ x. r i ⊗ x) (diagonal_other R (λ i. 𝟙) i j ne) ∙ mul_zero R _ ∙ sym (diagonal_other R r i j ne)
 
+  -- rows with a relation have determinant 0: in place of the row with a nonzero coefficient their combination is 0
+  relation_determinant : (n : ℕ) (m : ℕ → ℕ → A) → RowRelation n m → determinant R.ops n m ≡ 𝟘
+  relation_determinant n m r =
+      D.is_domain.cancel_zero (r.coefficient r.place) (determinant R.ops n m) r.nonzero
+      (sym (cramer R n r.place r.place_below r.coefficient m)
+      ∙ determinant_cong R n _ (with_row r.place (λ j. 𝟘) m)
+      (λ i j k l. with_row_cong n r.place (λ j. sum_below R.ops n (λ i. r.coefficient i ⊗ m i j)) (λ j. 𝟘) m r.is i j l)
+      ∙ zero_row R n r.place r.place_below m)
+
   pub row_relation : (n : ℕ) (m : ℕ → ℕ → A) → determinant R.ops n m ≡ 𝟘 → RowRelation n m
   row_relation n m e = go (independent_or_relation D n (tabulate n m))
     where
       go : Relation R.ops n (tabulate n m) ⊎ IsIndependent R.ops (sequence_ops R.ops) (Vanishes R n) (tabulate n m) → RowRelation n m
       go (inl r) = of_relation n m r
       go (inr free) = absurd (independent_determinant n m free e)
+
+  -- where the determinant isn't 0, each row of the unit matrix has a multiple that is a combination of the rows
+  pub unit_multiples : (n : ℕ) (m : ℕ → ℕ → A) → ¬ (determinant R.ops n m ≡ 𝟘) → (j : ℕ) → j < n → (w : ℕ → A) × UnitMultiple n m j w
+  unit_multiples n m some j l = unit_multiple n m (free (independent_or_relation D n (tabulate n m))) j l
+    where
+      free : Relation R.ops n (tabulate n m) ⊎ IsIndependent R.ops (sequence_ops R.ops) (Vanishes R n) (tabulate n m)
+          → IsIndependent R.ops (sequence_ops R.ops) (Vanishes R n) (tabulate n m)
+      free (inr h) = h
+      free (inl r) = absurd (some (relation_determinant n m (of_relation n m r)))

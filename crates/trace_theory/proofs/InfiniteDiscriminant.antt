@@ -3,23 +3,26 @@ use Rattle.std.proofs.Common.{◌≡◌, ℕ, zero, suc, ◌<◌, ◌≤◌, ◌
 use Rattle.std.proofs.lemmas.List.{length-map, length-reverse}
 use Rattle.ff_ring.specs.Ring.{CommRing, pow}
 use Rattle.ff_ring.specs.Rows.{entry}
-use Rattle.ff_ring.proofs.Ring.{pow_mul, mul_pow, pow_one_base}
+use Rattle.ff_ring.proofs.Ring.{pow_mul, mul_pow, pow_one_base, eq_of_sub, sub_of_eq, mul_zero, pow_add}
 use Rattle.ff_ring.proofs.Evaluate.{length_trim}
-use Rattle.ff_ring.proofs.Solver.{ring, reads, from_three}
+use mathlib.Core.List.{reverse-reverse}
+use Rattle.ff_ring.proofs.RowMaps.{hom_neg}
+use Rattle.trace_theory.proofs.Determinants.{image_power}
+use Rattle.ff_ring.proofs.Solver.{ring, reads, from_three, from_one}
 use Rattle.ff_ring.proofs.Polynomials.{length_product, length_product_le}
 use Rattle.ff_fields.specs.Field.{CodeField}
 use Rattle.ff_fields.specs.Code.{code_ring, code_domain, read_code}
 use Rattle.ff_fields.specs.Numbers.{read}
 use Rattle.ff_poly.specs.Value.{value}
-use Rattle.ff_poly.specs.Polynomials.{Polynomial, polynomials, polynomials_domain, polynomial_discrete, codes_of, value_nil, x_poly}
+use Rattle.ff_poly.specs.Polynomials.{Polynomial, polynomials, polynomials_domain, polynomial_discrete, codes_of, value_nil, x_poly, value_one, value_codes_of}
 use Rattle.ff_algebra.specs.declared.elem.Side.TheVariants.{Finite, Infinite}
 use Rattle.ff_algebra.specs.Functions.{of_poly}
 use Rattle.ff_algebra.specs.Values.{PresValue, Functions, functions, equation_of, row_of_list}
 use Rattle.ff_algebra.specs.Infinity.{variable, value_at, IsInfinitePresentation}
 use Rattle.ff_algebra.specs.Discriminant.{discriminant}
-use Rattle.ff_algebra.proofs.OnSide.{value_at_x}
+use Rattle.ff_algebra.proofs.OnSide.{value_at_x, of_poly_zero}
 use Rattle.places_theory.proofs.YRoot.{poly_hom}
-use Rattle.places_theory.proofs.AtInfinity.{at, at_hom, at_codes, value_at_is, x_times_t, x_power, powers_cancel, x_power_not_zero, turned, turned_is}
+use Rattle.places_theory.proofs.AtInfinity.{at, at_hom, at_codes, value_at_is, x_times_t, x_power, powers_cancel, x_power_not_zero, turned, turned_is, turned_zero, constant_zero, reversed}
 use Rattle.trace_theory.proofs.RowMatrix.{tr, y}
 use Rattle.trace_theory.proofs.RowForm.{disc}
 use Rattle.trace_theory.proofs.TracePowers.{zero_length, x_power_long}
@@ -165,3 +168,70 @@ module _ (k : CodeField) (p q : PresValue) (c : ℕ) (h : IsInfinitePresentation
             x_power_short k M,
             length_product_le (code_ring k) (code_domain k) (turned k p b) (pow (polynomials k).ops (x_poly k) M),
           )
+
+  -- what is 0 at t is 0
+  at_injective : (a b : Polynomial k) → at k p t a ≡ at k p t b → a ≡ b
+  at_injective a b e =
+      eq_of_sub P a b
+      (turned_zero k p (P.◌⊕◌ a (P.⊖◌ b))
+      (poly_injective (turned k p (P.◌⊕◌ a (P.⊖◌ b))) P.𝟘
+      (sym (turned_is k p (P.◌⊕◌ a (P.⊖◌ b)))
+      ∙ ap (λ z. pow F.ops x (length (codes_of k (P.◌⊕◌ a (P.⊖◌ b)))) ⊗ z)
+      ((at_hom k p t).add a (P.⊖◌ b) ∙ ap (F.◌⊕◌ (at k p t a)) (hom_neg P F (at k p t) (at_hom k p t) b) ∙ sub_of_eq F _ _ e)
+      ∙ mul_zero F _ ∙ of_poly_zero (equation_of k p))))
+
+  at_x : at k p t (x_poly k) ≡ t
+  at_x =
+      sym (value_at_is k p t (0 ∷ 1 ∷ []))
+      ∙ ap₂ (λ a b. F.◌⊕◌ a (t ⊗ F.◌⊕◌ b (t ⊗ F.𝟘)))
+      (ap (of_poly (equation_of k p)) (constant_zero k) ∙ sym (of_poly_zero (equation_of k p)))
+      (ap (of_poly (equation_of k p)) (value_one k) ∙ (poly_hom (equation_of k p)).𝟙)
+      ∙ flat t
+    where
+      flat : (t : Functions k p) → (functions k p).◌⊕◌ (functions k p).𝟘 ((functions k p).◌⊗◌ t ((functions k p).◌⊕◌ (functions k p).𝟙 ((functions k p).◌⊗◌ t (functions k p).𝟘))) ≡ t
+      flat t = ring (functions k p) (t ∷ []) λ q h. simp (reads, q, h 0) (q.equal _ _ refl)
+
+  at_x_power : (m : ℕ) → at k p t (pow P.ops (x_poly k) m) ≡ pow F.ops t m
+  at_x_power m = image_power P F (at k p t) (at_hom k p t) m (x_poly k) ∙ ap (λ z. pow F.ops z m) at_x
+
+  -- a reversed polynomial at t, times a power of t
+  reversed_at : (a : Polynomial k) (v M : ℕ) → v + length (codes_of k a) ≡ suc M
+      → of_poly (equation_of k p) a ⊗ pow F.ops t M ≡ pow F.ops t v ⊗ at k p t (value k (reverse (codes_of k a)))
+  reversed_at a v M e =
+      sym
+      (open_up (pow F.ops t v) (pow F.ops x l) (pow F.ops t l) (at k p t V) (powers_cancel k p l)
+      ∙ ap₂ ◌⊗◌ (sym (pow_add F t v l) ∙ ap (pow F.ops t) e)
+      (ap₂ ◌⊗◌ (ap (pow F.ops x) (sym (length-reverse (codes_of k a)))) (sym (value_at_is k p t (reverse (codes_of k a))))
+      ∙ reversed k p (reverse (codes_of k a))
+      ∙ ap (λ b. of_poly (equation_of k p) (P.◌⊗◌ (x_poly k) b)) (ap (value k) (reverse-reverse (codes_of k a)) ∙ value_codes_of k a)
+      ∙ (poly_hom (equation_of k p)).mul (x_poly k) a)
+      ∙ close x t (pow F.ops t M) (of_poly (equation_of k p) a) (x_times_t k p))
+    where
+      l : ℕ
+      l = length (codes_of k a)
+
+      V : Polynomial k
+      V = value k (reverse (codes_of k a))
+
+      open_up : (u X Y A : Functions k p) → (functions k p).◌⊗◌ X Y ≡ (functions k p).𝟙
+          → (functions k p).◌⊗◌ u A ≡ (functions k p).◌⊗◌ ((functions k p).◌⊗◌ u Y) ((functions k p).◌⊗◌ X A)
+      open_up u X Y A f =
+          from_one (functions k p) ((functions k p).⊖◌ ((functions k p).◌⊗◌ u A)) f
+          (ring (functions k p) (u ∷ X ∷ Y ∷ A ∷ []) λ q h. simp (reads, q, h 0, h 1, h 2, h 3) (q.equal _ _ refl))
+
+      close : (x t m D : Functions k p) → (functions k p).◌⊗◌ x t ≡ (functions k p).𝟙
+          → (functions k p).◌⊗◌ ((functions k p).◌⊗◌ t m) ((functions k p).◌⊗◌ x D) ≡ (functions k p).◌⊗◌ D m
+      close x t m D f =
+          from_one (functions k p) ((functions k p).◌⊗◌ m D) f
+          (ring (functions k p) (x ∷ t ∷ m ∷ D ∷ []) λ q h. simp (reads, q, h 0, h 1, h 2, h 3) (q.equal _ _ refl))
+
+  -- the codes of the discriminant in reverse, times the power of the variable by which its degree is short of c·n·(n-1)
+  pub discriminant_reversed : discriminant (equation_of k q)
+      ≡ P.◌⊗◌ (pow P.ops (x_poly k) (c * (p.n * (p.n - 1)) + 1 - length (codes_of k (discriminant (equation_of k p)))))
+      (value k (reverse (codes_of k (discriminant (equation_of k p)))))
+  discriminant_reversed =
+      at_injective _ _
+      (at_discriminant
+      ∙ reversed_at (discriminant (equation_of k p)) (c * (p.n * (p.n - 1)) + 1 - length (codes_of k (discriminant (equation_of k p)))) (c * (p.n * (p.n - 1)))
+      (let l = discriminant_degree in omega arith)
+      ∙ sym ((at_hom k p t).mul _ _ ∙ ap (λ z. z ⊗ at k p t (value k (reverse (codes_of k (discriminant (equation_of k p)))))) (at_x_power _)))

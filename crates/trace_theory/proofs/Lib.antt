@@ -20,3 +20,4 @@ pub mod Weights
 pub mod InfiniteDiscriminant
 pub mod InfiniteTraces
 pub mod BasisDiscriminant
+pub mod DualBasis

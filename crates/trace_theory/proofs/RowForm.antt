@@ -22,6 +22,13 @@ with_row_other zero (suc j) v m ne = refl
 with_row_other (suc i) zero v m ne = refl
 with_row_other (suc i) (suc j) v m ne = with_row_other i j v (λ j. m (suc j)) (λ e. ne (ap suc e))
 
+pub with_row_cong : {A : Type 0} (m i : ℕ) (u v : ℕ → A) (a : ℕ → ℕ → A) → ((c : ℕ) → c < m → u c ≡ v c)
+    → (r c : ℕ) → c < m → with_row i u a r c ≡ with_row i v a r c
+with_row_cong m zero u v a h zero c l = h c l
+with_row_cong m zero u v a h (suc r) c l = refl
+with_row_cong m (suc i) u v a h zero c l = refl
+with_row_cong m (suc i) u v a h (suc r) c l = with_row_cong m i u v (λ j. a (suc j)) h r c l
+
 module _ {P : Type 0} (S : CommRing P) (n : ℕ) (f : Row P (suc n)) where
   infixl 65 ◌⊕◌
   infixl 70 ◌⊗◌
@@ -38,13 +45,6 @@ module _ {P : Type 0} (S : CommRing P) (n : ℕ) (f : Row P (suc n)) where
   -- the determinants with t in place of a row
   abbrev pub replaced : (ℕ → P) → ℕ → P
   replaced t i = determinant S.ops (suc n) (with_row i t gram)
-
-  with_row_cong : {A : Type 0} (m i : ℕ) (u v : ℕ → A) (a : ℕ → ℕ → A) → ((c : ℕ) → c < m → u c ≡ v c)
-      → (r c : ℕ) → c < m → with_row i u a r c ≡ with_row i v a r c
-  with_row_cong m zero u v a h zero c l = h c l
-  with_row_cong m zero u v a h (suc r) c l = refl
-  with_row_cong m (suc i) u v a h zero c l = refl
-  with_row_cong m (suc i) u v a h (suc r) c l = with_row_cong m i u v (λ j. a (suc j)) h r c l
 
   module _ (v : Row P (suc n)) (d : P) (t : ℕ → P)
       (traces : (j : ℕ) → j < suc n → tr S n f ((rows S n f).◌⊗◌ v (y S n f j)) ≡ d ⊗ t j) where

@@ -1,6 +1,7 @@
--- The rational functions among the functions, and the polynomials in x and y.
+-- Rational functions, polynomials in x and y, and the trace form (Stichtenoth, Algebraic Function Fields and Codes, chapter 3).
 use Rattle.std.specs.Prelude.{◌≡◌, ℕ, suc, ◌<◌}
 use Rattle.ff_ring.specs.Ring.{pow}
+use Rattle.ff_ring.specs.Sums.{sum_below}
 use Rattle.ff_ring.specs.Rows.{Row}
 use Rattle.ff_fields.specs.Field.{CodeField}
 use Rattle.ff_poly.specs.Polynomials.{Polynomial, polynomials, polynomials_domain}
@@ -25,3 +26,14 @@ module _ {k : CodeField} (c : Equation k) where
     pub not_null : ¬ (member ≡ (ring_of c).𝟘)
     pub traces :
         (i : ℕ) → i < degree_of_y c → trace_of c ((ring_of c).◌⊗◌ member (pow (ring_of c).ops (y_of c) i)) ≡ (ring_of c).𝟘
+
+  -- the basis that is dual to 1, y, up to y^(n-1) under the trace form
+  pub record IsDualToPowers (d : ℕ → FunctionOf c) : Type 0 where
+    pub same : (i : ℕ) → i < degree_of_y c → trace_of c ((ring_of c).◌⊗◌ (pow (ring_of c).ops (y_of c) i) (d i)) ≡ (ring_of c).𝟙
+    pub other :
+        (i j : ℕ) → i < degree_of_y c → j < degree_of_y c → ¬ (i ≡ j)
+        → trace_of c ((ring_of c).◌⊗◌ (pow (ring_of c).ops (y_of c) i) (d j)) ≡ (ring_of c).𝟘
+    pub spanning :
+        (z : FunctionOf c)
+        → z
+        ≡ sum_below (ring_of c).ops (degree_of_y c) (λ i. (ring_of c).◌⊗◌ (trace_of c ((ring_of c).◌⊗◌ z (pow (ring_of c).ops (y_of c) i))) (d i))

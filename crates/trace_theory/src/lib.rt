@@ -1,17 +1,18 @@
 //! Traces and discriminants in a function field F = k(x)[y]/(f), and the functions that are integral over the polynomials or over the
-//! fractions of degree at most 0. Nothing is asked of f: F need not be a field. Each main theorem is the contract of a function with an
+//! fractions of degree at most 0. The field k is finite. Nothing is asked of f: F need not be a field. Each main theorem is the contract of a function with an
 //! empty body; the crates above cite the lemmas of proofs/.
 #![tactic(auto)]
 
-ghost use Rattle.std.specs.Prelude.{◌≡◌, ◌≢◌, ℕ, ◌+◌, ◌-◌, ◌*◌, ◌≤◌, ◌<◌, ◌↔◌, ◌⊎◌, [], length};
+ghost use Rattle.std.specs.Prelude.{◌≡◌, ◌≢◌, ℕ, ◌+◌, ◌-◌, ◌*◌, ◌≤◌, ◌<◌, ◌↔◌, ◌⊎◌, [], length, reverse};
 ghost use Rattle.ff_ring.specs.Ring.{IsField, pow, nat};
 ghost use Rattle.ff_ring.specs.Sums.{sum_below};
 ghost use Rattle.ff_ring.specs.Determinant.{determinant};
 ghost use Rattle.ff_fields.specs.Field.{CodeField};
 ghost use Rattle.linear_theory.specs.Euclidean.{IsDivisor};
 ghost use Rattle.ff_poly.specs.Words.{IsIrreducible, IsPoly};
-ghost use Rattle.ff_poly.specs.Polynomials.{Polynomial, polynomials, codes_of};
-ghost use Rattle.ff_algebra.specs.Functions.{Equation, FunctionOf, ring_of, over, row_of, of_poly, y_of, trace_of, degree_of_y, setting_of, IsPolynomial, IsScalar};
+ghost use Rattle.ff_poly.specs.Polynomials.{Polynomial, polynomials, codes_of, x_poly};
+ghost use Rattle.ff_poly.specs.Value.{value};
+ghost use Rattle.ff_algebra.specs.Functions.{Equation, FunctionOf, ring_of, of_poly, y_of, trace_of, degree_of_y, setting_of, IsPolynomial, IsScalar};
 ghost use Rattle.ff_algebra.specs.declared.elem.Side.{Side};
 ghost use Rattle.ff_algebra.specs.declared.elem.Side.TheVariants.{Finite, Infinite};
 ghost use Rattle.ff_algebra.specs.Places.{IsIntegralAt};
@@ -20,7 +21,7 @@ ghost use Rattle.ff_algebra.specs.Values.{PresValue, ElemValue, IsElem, Function
 ghost use Rattle.ff_algebra.specs.Infinity.{value_at, variable, function_on, IsInfinitePresentation};
 ghost use Rattle.local_theory.specs.Orders.{MaximalAt};
 ghost use Rattle.places_theory.specs.Maps.{IsIsomorphism};
-ghost use Rattle.trace_theory.specs.Traces.{IsRational, HasPolynomialCoordinates, HasDegenerateTraceForm};
+ghost use Rattle.trace_theory.specs.Traces.{IsRational, HasPolynomialCoordinates, HasDegenerateTraceForm, IsDualToPowers};
 
 /// The trace of F over k(x) is additive and linear over k(x), has its values in k(x), and is n at 1.
 pub fn trace_law()
@@ -47,14 +48,9 @@ pub fn degenerate_law()
         → ((i : ℕ) → i < degree_of_y c → trace_of c ((ring_of c).◌⊗◌ z (pow (ring_of c).ops (y_of c) i)) ≡ (ring_of c).𝟘) → z ≡ (ring_of c).𝟘 }
 {}
 
-/// Where the discriminant isn't 0, no function but 0 is nilpotent, and F is a field exactly where 0 and 1 are its only
-/// idempotents. Idempotents are integral on both sides.
-pub fn reduced_law()
-    ensures reduced { (k : CodeField) (c : Equation k) (z : FunctionOf c) (m : ℕ) → ¬ (discriminant c ≡ (polynomials k).𝟘)
-        → pow (ring_of c).ops z m ≡ (ring_of c).𝟘 → z ≡ (ring_of c).𝟘 }
-    ensures field { (k : CodeField) (c : Equation k) → ¬ (discriminant c ≡ (polynomials k).𝟘)
-        → IsField (ring_of c).ops ↔ ((e : FunctionOf c) → (ring_of c).◌⊗◌ e e ≡ e → (e ≡ (ring_of c).𝟘) ⊎ (e ≡ (ring_of c).𝟙)) }
-    ensures integral { (k : CodeField) (c : Equation k) (s : Side) (e : FunctionOf c) → (ring_of c).◌⊗◌ e e ≡ e → IsIntegralAt (setting_of c) s e }
+/// Where the discriminant isn't 0, the powers of y have a dual basis under the trace form.
+pub fn dual_basis_law()
+    ensures { (k : CodeField) (c : Equation k) → ¬ (discriminant c ≡ (polynomials k).𝟘) → (d : ℕ → FunctionOf c) × IsDualToPowers c d }
 {}
 
 /// The discriminant of another basis: where w_i is the sum of b_ij·y^j with b_ij in k(x), the determinant of the traces of w_i·w_j is the
@@ -68,14 +64,18 @@ pub fn basis_discriminant_law()
         ≡ (ring_of c).◌⊗◌ ((ring_of c).◌⊗◌ (determinant (ring_of c).ops (degree_of_y c) b) (determinant (ring_of c).ops (degree_of_y c) b)) (of_poly c (discriminant c)) }
 {}
 
-/// The discriminant of the infinite presentation, read at t = 1/x, is that of the finite one times t^(c·n·(n-1)); so that one has a degree
-/// of at most c·n·(n-1).
+/// The discriminant of the infinite presentation, read at t = 1/x, is that of the finite one times t^(c·n·(n-1)). So that one has a degree
+/// of at most c·n·(n-1), and this one has its codes in reverse, times the power of the variable by which the degree is short of that.
 pub fn infinite_discriminant_law()
     ensures discriminant { (k : CodeField) (p q : PresValue) (c : ℕ) → 1 ≤ p.n → IsInfinitePresentation k p c q
         → value_at k p (variable k p Infinite) (codes_of k (discriminant (equation_of k q)))
         ≡ (functions k p).◌⊗◌ (of_poly (equation_of k p) (discriminant (equation_of k p))) (pow (functions k p).ops (variable k p Infinite) (c * (p.n * (p.n - 1)))) }
     ensures degree { (k : CodeField) (p q : PresValue) (c : ℕ) → 1 ≤ p.n → IsInfinitePresentation k p c q
         → length (codes_of k (discriminant (equation_of k p))) ≤ c * (p.n * (p.n - 1)) + 1 }
+    ensures reversed { (k : CodeField) (p q : PresValue) (c : ℕ) → 1 ≤ p.n → IsInfinitePresentation k p c q
+        → discriminant (equation_of k q)
+        ≡ (polynomials k).◌⊗◌ (pow (polynomials k).ops (x_poly k) (c * (p.n * (p.n - 1)) + 1 - length (codes_of k (discriminant (equation_of k p)))))
+        (value k (reverse (codes_of k (discriminant (equation_of k p))))) }
 {}
 
 /// The trace of a function is the same in both presentations: what elements of the infinite one stand for is an isomorphism that takes
@@ -107,4 +107,14 @@ pub fn square_law()
     ensures maximal { (k : CodeField) (c : Equation k) (p : Polynomial k) → IsIrreducible k.ops (codes_of k p)
         → ¬ IsDivisor (polynomials k).ops ((polynomials k).◌⊗◌ p p) (discriminant c)
         → MaximalAt (ring_of c).ops (of_poly c p) (IsIntegralAt (setting_of c) Finite) (HasPolynomialCoordinates c) }
+{}
+
+/// Where the discriminant isn't 0, no function but 0 is nilpotent, and F is a field exactly where 0 and 1 are its only
+/// idempotents. Idempotents are integral on both sides.
+pub fn reduced_law()
+    ensures reduced { (k : CodeField) (c : Equation k) (z : FunctionOf c) (m : ℕ) → ¬ (discriminant c ≡ (polynomials k).𝟘)
+        → pow (ring_of c).ops z m ≡ (ring_of c).𝟘 → z ≡ (ring_of c).𝟘 }
+    ensures field { (k : CodeField) (c : Equation k) → ¬ (discriminant c ≡ (polynomials k).𝟘)
+        → IsField (ring_of c).ops ↔ ((e : FunctionOf c) → (ring_of c).◌⊗◌ e e ≡ e → (e ≡ (ring_of c).𝟘) ⊎ (e ≡ (ring_of c).𝟙)) }
+    ensures integral { (k : CodeField) (c : Equation k) (s : Side) (e : FunctionOf c) → (ring_of c).◌⊗◌ e e ≡ e → IsIntegralAt (setting_of c) s e }
 {}
