@@ -136,7 +136,7 @@ module _ (k : CodeField) where
               product = ap (codes_of k) whole ∙ codes_of_product k m (T ⊗ e);
             }))
 
-    irreducible : IsIrreducibleIn (euclidean k) p
+    pub irreducible : IsIrreducibleIn (euclidean k) p
     irreducible = record {
       nonzero = p_some;
       nonunit = λ u. let l = unit_length p u.0 u.1 in let m = p_long in absurd (omega arith);

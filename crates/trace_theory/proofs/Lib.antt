@@ -21,3 +21,4 @@ pub mod InfiniteDiscriminant
 pub mod InfiniteTraces
 pub mod BasisDiscriminant
 pub mod DualBasis
+pub mod MaximalOrder

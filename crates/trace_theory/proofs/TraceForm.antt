@@ -18,15 +18,15 @@ pub record Choice {P : Type 0} (Q : ℕ → P → Type 0) (m : ℕ) : Type 0 whe
   pub chosen : ℕ → P
   pub holds : (j : ℕ) → j < m → Q j (chosen j)
 
-then : {P : Type 0} → P → (ℕ → P) → ℕ → P
-then a t zero = a
-then a t (suc j) = t j
+first_then : {P : Type 0} → P → (ℕ → P) → ℕ → P
+first_then a t zero = a
+first_then a t (suc j) = t j
 
 more : {P : Type 0} (Q : ℕ → P → Type 0) (m : ℕ) (a : P) → Q 0 a → Choice (λ j. Q (suc j)) m → Choice Q (suc m)
-unfolding then
-more Q m a h rest = record { chosen = then a rest.chosen; holds = at_each }
+unfolding first_then
+more Q m a h rest = record { chosen = first_then a rest.chosen; holds = at_each }
   where
-    at_each : (j : ℕ) → j < suc m → Q j (then a rest.chosen j)
+    at_each : (j : ℕ) → j < suc m → Q j (first_then a rest.chosen j)
     at_each zero l = h
     at_each (suc j) l = rest.holds j (omega arith)
 

@@ -3,8 +3,9 @@
 //! empty body; the crates above cite the lemmas of proofs/.
 #![tactic(auto)]
 
-ghost use Rattle.std.specs.Prelude.{◌≡◌, ◌≢◌, ℕ, ◌+◌, ◌-◌, ◌*◌, ◌≤◌, ◌<◌, ◌↔◌, ◌⊎◌, [], length, reverse};
+ghost use Rattle.std.specs.Prelude.{◌≡◌, ◌≢◌, ℕ, ◌+◌, ◌-◌, ◌*◌, ◌≤◌, ◌<◌, ◌↔◌, ◌⊎◌, [], length, reverse, List, All};
 ghost use Rattle.ff_ring.specs.Ring.{IsField, pow, nat};
+ghost use Rattle.ff_ring.specs.Subsets.{IsSubring};
 ghost use Rattle.ff_ring.specs.Sums.{sum_below};
 ghost use Rattle.ff_ring.specs.Determinant.{determinant};
 ghost use Rattle.ff_fields.specs.Field.{CodeField};
@@ -21,7 +22,16 @@ ghost use Rattle.ff_algebra.specs.Values.{PresValue, ElemValue, IsElem, Function
 ghost use Rattle.ff_algebra.specs.Infinity.{value_at, variable, function_on, IsInfinitePresentation};
 ghost use Rattle.local_theory.specs.Orders.{MaximalAt};
 ghost use Rattle.places_theory.specs.Maps.{IsIsomorphism};
-ghost use Rattle.trace_theory.specs.Traces.{IsRational, HasPolynomialCoordinates, HasDegenerateTraceForm, IsDualToPowers};
+ghost use Rattle.trace_theory.specs.Traces.{IsRational, HasPolynomialCoordinates, HasDegenerateTraceForm, IsDualToPowers, polynomial_product};
+
+/// A set of functions of a curve. Only theorems use it, as a type parameter that no value has.
+pub trait Overring {
+    ghost field: { CodeField };
+
+    ghost equation: { Equation field };
+
+    ghost members: { FunctionOf equation → Type 0 };
+}
 
 /// The trace of F over k(x) is additive and linear over k(x), has its values in k(x), and is n at 1.
 pub fn trace_law()
@@ -107,6 +117,18 @@ pub fn square_law()
     ensures maximal { (k : CodeField) (c : Equation k) (p : Polynomial k) → IsIrreducible k.ops (codes_of k p)
         → ¬ IsDivisor (polynomials k).ops ((polynomials k).◌⊗◌ p p) (discriminant c)
         → MaximalAt (ring_of c).ops (of_poly c p) (IsIntegralAt (setting_of c) Finite) (HasPolynomialCoordinates c) }
+{}
+
+/// A ring that has k[x][y] has each function that is integral over the polynomials, where it is maximal at the irreducible polynomials whose
+/// squares divide the discriminant. The factors of the discriminant are given as a list of irreducible polynomials whose product it divides.
+pub fn maximal_order_law<C: Overring>()
+    ensures { (ps : List (Polynomial C.field)) → IsSubring (ring_of C.equation).ops C.members
+        → ((z : FunctionOf C.equation) → HasPolynomialCoordinates C.equation z → C.members z)
+        → IsDivisor (polynomials C.field).ops (discriminant C.equation) (polynomial_product C.field ps)
+        → All (λ p. IsIrreducible C.field.ops (codes_of C.field p)) ps
+        → All (λ p. IsDivisor (polynomials C.field).ops ((polynomials C.field).◌⊗◌ p p) (discriminant C.equation)
+        → MaximalAt (ring_of C.equation).ops (of_poly C.equation p) (IsIntegralAt (setting_of C.equation) Finite) C.members) ps
+        → (z : FunctionOf C.equation) → IsIntegralAt (setting_of C.equation) Finite z → C.members z }
 {}
 
 /// Where the discriminant isn't 0, no function but 0 is nilpotent, and F is a field exactly where 0 and 1 are its only
