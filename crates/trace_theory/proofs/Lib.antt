@@ -22,3 +22,5 @@ pub mod InfiniteTraces
 pub mod BasisDiscriminant
 pub mod DualBasis
 pub mod MaximalOrder
+pub mod Similar
+pub mod BasisTrace

@@ -6,7 +6,7 @@
 ghost use Rattle.std.specs.Prelude.{◌≡◌, ◌≢◌, ℕ, ◌+◌, ◌-◌, ◌*◌, ◌≤◌, ◌<◌, ◌↔◌, ◌⊎◌, [], length, reverse, List, All};
 ghost use Rattle.ff_ring.specs.Ring.{IsField, pow, nat};
 ghost use Rattle.ff_ring.specs.Subsets.{IsSubring};
-ghost use Rattle.ff_ring.specs.Sums.{sum_below};
+ghost use Rattle.ff_ring.specs.Sums.{sum_below, trace};
 ghost use Rattle.ff_ring.specs.Determinant.{determinant};
 ghost use Rattle.ff_fields.specs.Field.{CodeField};
 ghost use Rattle.linear_theory.specs.Euclidean.{IsDivisor};
@@ -61,6 +61,23 @@ pub fn degenerate_law()
 /// Where the discriminant isn't 0, the powers of y have a dual basis under the trace form.
 pub fn dual_basis_law()
     ensures { (k : CodeField) (c : Equation k) → ¬ (discriminant c ≡ (polynomials k).𝟘) → (d : ℕ → FunctionOf c) × IsDualToPowers c d }
+{}
+
+/// The trace is that of the matrix of multiplication by z in any basis w of F over k(x): where z·w_i is the sum of m_ij·w_j, it is the sum
+/// of the m_ii.
+pub fn basis_trace_law()
+    ensures { (k : CodeField) (c : Equation k) (w : ℕ → FunctionOf c) (b b' : ℕ → ℕ → FunctionOf c)
+        → ((i j : ℕ) → i < degree_of_y c → j < degree_of_y c → IsRational c (b i j))
+        → ((i j : ℕ) → i < degree_of_y c → j < degree_of_y c → IsRational c (b' i j))
+        → ((i : ℕ) → i < degree_of_y c
+        → w i ≡ sum_below (ring_of c).ops (degree_of_y c) (λ j. (ring_of c).◌⊗◌ (b i j) (pow (ring_of c).ops (y_of c) j)))
+        → ((i : ℕ) → i < degree_of_y c
+        → pow (ring_of c).ops (y_of c) i ≡ sum_below (ring_of c).ops (degree_of_y c) (λ j. (ring_of c).◌⊗◌ (b' i j) (w j)))
+        → (z : FunctionOf c) (m : ℕ → ℕ → FunctionOf c)
+        → ((i j : ℕ) → i < degree_of_y c → j < degree_of_y c → IsRational c (m i j))
+        → ((i : ℕ) → i < degree_of_y c
+        → (ring_of c).◌⊗◌ z (w i) ≡ sum_below (ring_of c).ops (degree_of_y c) (λ j. (ring_of c).◌⊗◌ (m i j) (w j)))
+        → trace_of c z ≡ trace (ring_of c).ops (degree_of_y c) m }
 {}
 
 /// The discriminant of another basis: where w_i is the sum of b_ij·y^j with b_ij in k(x), the determinant of the traces of w_i·w_j is the
