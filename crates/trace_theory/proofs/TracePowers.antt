@@ -1,0 +1,129 @@
+-- The trace of a q-th power is the q-th power of the trace.
+use Rattle.std.proofs.Common.{◌≡◌, ℕ, zero, suc, ◌<◌, ◌≤◌, ◌⊎◌, inl, inr, [], ◌∷◌, length, refl, sym, ◌∙◌, ap, ap₂, arith}
+use Rattle.ff_ring.specs.Ring.{CommRing, pow}
+use Rattle.ff_ring.specs.Rows.{Row, row_scale}
+use Rattle.ff_ring.proofs.Ring.{mul_pow, pow_one_base, eq_of_sub, domain_cancel, product_not_zero, mul_zero}
+use Rattle.ff_ring.proofs.Solver.{ring, reads, from_one}
+use Rattle.ff_ring.proofs.Polynomials.{pol_ops, coeff_past, length_product}
+use Rattle.ff_fields.specs.Field.{CodeField}
+use Rattle.ff_fields.specs.Code.{code_ring, code_domain, read_code, read_code_below}
+use Rattle.ff_poly.specs.Polynomials.{Polynomial, polynomials, polynomials_domain, polynomial_discrete, x_poly, x_poly_not_zero, series_read}
+use Rattle.ff_algebra.specs.Functions.{Equation, row_of}
+use Rattle.places_theory.proofs.AtInfinity.{x_power_not_zero}
+use Rattle.trace_theory.proofs.Determinants.{Near, image_power}
+use Rattle.trace_theory.proofs.Norms.{norm, norm_power, norm_near}
+use Rattle.trace_theory.proofs.FunctionTraces.{K, R, Tr, row_of_times}
+use Rattle.trace_theory.proofs.Powers.{q, size_less, polynomial_power_add, row_power_add, row_hom}
+
+module _ (k : CodeField) where
+  x_long : 2 ≤ length (x_poly k).0
+  x_long = go (long_or_short (length (x_poly k).0))
+    where
+      long_or_short : (n : ℕ) → (2 ≤ n) ⊎ (n ≤ 1)
+      long_or_short n = grind arith
+
+      go : (2 ≤ length (x_poly k).0) ⊎ (length (x_poly k).0 ≤ 1) → 2 ≤ length (x_poly k).0
+      go (inl l) = l
+      go (inr l) =
+          let e : (read_code k 1).0 ≡ 0 = ap (λ c. c.0) (sym (series_read k (0 ∷ 1 ∷ []) 1) ∙ coeff_past (code_ring k) (x_poly k).0 1 l) in
+          let f = read_code_below k 1 k.laws.one_below in absurd (omega arith)
+
+  pub zero_length : length (polynomials k).𝟘.0 ≡ 0
+  unfolding pol_ops
+  zero_length = refl
+
+  pub some_long : (a : Polynomial k) → ¬ (a ≡ (polynomials k).𝟘) → 0 < length a.0
+  some_long a n = omega (arith, length_product (code_ring k) (code_domain k) a a n n)
+
+  -- x^m has m + 1 coefficients at least
+  pub x_power_long : (m : ℕ) → m < length (pow (polynomials k).ops (x_poly k) m).0
+  x_power_long zero = some_long (polynomials k).𝟙 (polynomials_domain k).one_not_zero
+  x_power_long (suc m) =
+      omega (arith, x_long, x_power_long m, length_product (code_ring k) (code_domain k) (x_poly k) (pow (polynomials k).ops (x_poly k) m) (x_poly_not_zero k) (x_power_not_zero k m))
+
+  -- what is divided by every polynomial but 0 is 0
+  zero_of_multiples : (b : Polynomial k) → ((a : Polynomial k) → ¬ (a ≡ (polynomials k).𝟘) → (w : Polynomial k) × (b ≡ (polynomials k).◌⊗◌ a w)) → b ≡ (polynomials k).𝟘
+  zero_of_multiples b h = go (polynomial_discrete k b (polynomials k).𝟘)
+    where
+      a : Polynomial k
+      a = pow (polynomials k).ops (x_poly k) (length b.0)
+
+      impossible : ¬ (b ≡ (polynomials k).𝟘) → (w : Polynomial k) × (b ≡ (polynomials k).◌⊗◌ (pow (polynomials k).ops (x_poly k) (length b.0)) w) → ⊥
+      impossible n (w, e) =
+          let some : ¬ (w ≡ (polynomials k).𝟘) = λ z. n (e ∙ ap (λ w. (polynomials k).◌⊗◌ (pow (polynomials k).ops (x_poly k) (length b.0)) w) z ∙ mul_zero (polynomials k).ring _) in
+          absurd
+          (omega (
+            arith,
+            x_power_long (length b.0),
+            some_long w some,
+            ap (λ p. length p.0) e,
+            length_product (code_ring k) (code_domain k) (pow (polynomials k).ops (x_poly k) (length b.0)) w (x_power_not_zero k (length b.0)) some,
+          ))
+
+      go : Dec (b ≡ (polynomials k).𝟘) → b ≡ (polynomials k).𝟘
+      go (yes e) = e
+      go (no n) = absurd (impossible n (h (pow (polynomials k).ops (x_poly k) (length b.0)) (x_power_not_zero k (length b.0))))
+
+module _ {k : CodeField} (c : Equation k) where
+  infixl 65 ◌⊕◌
+  infixl 70 ◌⊗◌
+  infixr 80 ⊖◌
+  open K c use {𝟘, 𝟙, ◌⊕◌, ◌⊗◌, ⊖◌}
+
+  abbrev P : CommRing (Polynomial k)
+  P = K c
+
+  -- 1 + a·v
+  near_row : Polynomial k → Row (Polynomial k) (suc c.lower_degree) → Row (Polynomial k) (suc c.lower_degree)
+  near_row a v = (R c).◌⊕◌ (R c).𝟙 (row_scale (K c).ops (suc c.lower_degree) a v)
+
+  near_row_power : (a : Polynomial k) (v : Row (Polynomial k) (suc c.lower_degree))
+      → pow (R c).ops (near_row a v) (q k) ≡ near_row (pow (K c).ops a (q k)) (pow (R c).ops v (q k))
+  unfolding near_row
+  near_row_power a v =
+      row_power_add c (R c).𝟙 (row_scale (K c).ops (suc c.lower_degree) a v)
+      ∙ ap₂ (R c).◌⊕◌ (pow_one_base (R c) (q k))
+      (ap (λ u. pow (R c).ops u (q k)) (sym (row_of_times c a v)) ∙ mul_pow (R c) (row_of c a) v (q k)
+      ∙ ap (λ u. (R c).◌⊗◌ u (pow (R c).ops v (q k))) (sym (image_power (K c) (R c) (row_of c) (row_hom c) (q k) a))
+      ∙ row_of_times c (pow (K c).ops a (q k)) (pow (R c).ops v (q k)))
+
+  norm_near_row : (a : Polynomial k) (v : Row (Polynomial k) (suc c.lower_degree))
+      → Near (K c) a (norm (K c) c.lower_degree c.coefficients (near_row a v)) (Tr c v)
+  unfolding near_row
+  norm_near_row a v = norm_near (K c) c.lower_degree c.coefficients a v
+
+  -- the q-th power of what is near 1
+  near_power : (a t r : Polynomial k) → pow P.ops (𝟙 ⊕ a ⊗ t ⊕ a ⊗ a ⊗ r) (q k)
+      ≡ 𝟙 ⊕ pow P.ops a (q k) ⊗ pow P.ops t (q k) ⊕ pow P.ops a (q k) ⊗ pow P.ops a (q k) ⊗ pow P.ops r (q k)
+  near_power a t r =
+      polynomial_power_add k _ _
+      ∙ ap₂ ◌⊕◌ (polynomial_power_add k _ _ ∙ ap₂ ◌⊕◌ (pow_one_base P (q k)) (mul_pow P a t (q k)))
+      (mul_pow P (a ⊗ a) r (q k) ∙ ap (λ x. x ⊗ pow P.ops r (q k)) (mul_pow P a a (q k)))
+
+  -- the difference is a multiple of the q-th power of each a
+  difference : (v : Row (Polynomial k) (suc c.lower_degree)) (a : Polynomial k) → ¬ (a ≡ 𝟘)
+      → (w : Polynomial k) × (Tr c (pow (R c).ops v (q k)) ⊕ ⊖ pow P.ops (Tr c v) (q k) ≡ a ⊗ w)
+  difference v a n =
+      let one = norm_near_row a v in
+      let all = norm_near_row (pow P.ops a (q k)) (pow (R c).ops v (q k)) in
+      let A = pow P.ops a (q k) in
+      let T = Tr c (pow (R c).ops v (q k)) in
+      let t = pow P.ops (Tr c v) (q k) in
+      let r = pow P.ops one.rest (q k) in
+      let e : 𝟙 ⊕ A ⊗ T ⊕ A ⊗ A ⊗ all.rest ≡ 𝟙 ⊕ A ⊗ t ⊕ A ⊗ A ⊗ r
+      = sym all.is ∙ ap (norm (K c) c.lower_degree c.coefficients) (sym (near_row_power a v))
+      ∙ norm_power (K c) c.lower_degree c.coefficients (near_row a v) (q k) ∙ ap (λ x. pow P.ops x (q k)) one.is ∙ near_power a (Tr c v) one.rest in (
+        pow P.ops a (size_less k) ⊗ (r ⊕ ⊖ all.rest),
+        domain_cancel P (polynomials_domain k) A (T ⊕ ⊖ t) (A ⊗ (r ⊕ ⊖ all.rest)) (some (q k)) (step A T t all.rest r e)
+            ∙ P.mul_assoc _ _ _,
+      )
+    where
+      some : (m : ℕ) → ¬ (pow P.ops a m ≡ 𝟘)
+      some zero = (polynomials_domain k).one_not_zero
+      some (suc m) = product_not_zero (polynomials_domain k) a (pow P.ops a m) n (some m)
+
+      step : (A T t r r' : Polynomial k) → 𝟙 ⊕ A ⊗ T ⊕ A ⊗ A ⊗ r ≡ 𝟙 ⊕ A ⊗ t ⊕ A ⊗ A ⊗ r' → A ⊗ (T ⊕ ⊖ t) ≡ A ⊗ (A ⊗ (r' ⊕ ⊖ r))
+      step A T t r r' e = from_one P 𝟙 e (ring P (A ∷ T ∷ t ∷ r ∷ r' ∷ []) λ q h. simp (reads, q, h 0, h 1, h 2, h 3, h 4) (q.equal _ _ refl))
+
+  pub row_trace_power : (v : Row (Polynomial k) (suc c.lower_degree)) → Tr c (pow (R c).ops v (q k)) ≡ pow P.ops (Tr c v) (q k)
+  row_trace_power v = eq_of_sub P _ _ (zero_of_multiples k _ (difference v))
