@@ -35,7 +35,7 @@ fn power_traces<K: SmallField>(alloc: Global, k: &K, p: &Pres) -> Result<Vec<Pol
 }
 
 /// The determinant of the square matrix whose row i has the entries of the list from place rows\[i\] + column on, by
-/// expansion along the first column. It takes m! products of polynomials, for m rows.
+/// expansion along the first column. It takes less than 3·m! products of polynomials, for m rows.
 fn determinant<K: SmallField>(
     alloc: Global,
     k: &K,
