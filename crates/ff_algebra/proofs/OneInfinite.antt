@@ -17,7 +17,6 @@ use Rattle.ff_algebra.specs.Functions.{Equation, function_same, of_poly}
 use Rattle.ff_algebra.specs.Values.{PresValue, IsPresOver, functions, equation_of}
 use Rattle.ff_algebra.specs.Curves.{CurveValue, IsCurveOf}
 use Rattle.ff_algebra.specs.Infinity.{IsInfinitePresentation, constant, value_at, variable}
-use Rattle.ff_algebra.proofs.Horner.{plain}
 use Rattle.ff_algebra.proofs.OnSide.{den_inverse, value_at_x}
 use Rattle.ff_algebra.proofs.Reversal.{value as value_of, value_reverse}
 use Rattle.ff_algebra.proofs.CurveTerms.{read_any, get_or_poly_of}
