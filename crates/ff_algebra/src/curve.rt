@@ -1,6 +1,6 @@
 //! Curves: the equation of terms in x and y, its discriminant, and its presentation at infinity.
 
-ghost use Rattle.std.specs.Prelude.{◌≡◌, ◌≢◌, ◌<◌, ◌≤◌, ◌*◌, ◌-◌, length, All, IfOk, IfErr};
+ghost use Rattle.std.specs.Prelude.{◌≡◌, ◌≢◌, ◌<◌, All, IfOk, IfErr};
 ghost use Rattle.ff_algebra.specs.Curves.{CurveValue, IsCurveOf, IsCurveFault};
 ghost use Rattle.ff_algebra.specs.declared.curve.CurveFault.{CurveFault};
 
@@ -150,9 +150,11 @@ impl Curve {
 /// give a curve, which is the only one.
 pub fn one_fault<K: SmallField>(k: &K, f: &Terms)
     ensures fault { let k = K.field k.now in
-        (e d : CurveFault) → e ≢ CurveFault.Memory → d ≢ CurveFault.Memory → IsCurveFault k f.now e → IsCurveFault k f.now d → e ≡ d }
+        (e d : CurveFault) → e ≢ CurveFault.Memory → d ≢ CurveFault.Memory →
+        IsCurveFault k f.now e → IsCurveFault k f.now d → e ≡ d }
     ensures no_curve { let k = K.field k.now in
-        (e : CurveFault) (c : CurveValue) → e ≢ CurveFault.Memory → IsCurveFault k f.now e → ¬ IsCurveOf k f.now c }
+        (e : CurveFault) (c : CurveValue) → e ≢ CurveFault.Memory →
+        IsCurveFault k f.now e → ¬ IsCurveOf k f.now c }
     ensures curve { let k = K.field k.now in
         (c d : CurveValue) → IsCurveOf k f.now c → IsCurveOf k f.now d → c ≡ d }
 {}
