@@ -27,14 +27,14 @@ trimmed_tail : (c : ℕ) (a : List ℕ) → IsTrimmed is_zero_code (c ∷ a) →
 trimmed_tail c [] t = tt
 trimmed_tail c (d ∷ a) t = t
 
-same_codes : (a b : List ℕ) → IsTrimmed is_zero_code a → IsTrimmed is_zero_code b → ((j : ℕ) → get_or a j 0 ≡ get_or b j 0) → a ≡ b
+pub same_codes : (a b : List ℕ) → IsTrimmed is_zero_code a → IsTrimmed is_zero_code b → ((j : ℕ) → get_or a j 0 ≡ get_or b j 0) → a ≡ b
 same_codes [] [] s t h = refl
 same_codes [] (d ∷ b) s t h = absurd (some_code (d ∷ b) t (λ e. cc) (λ j. sym (h j)))
 same_codes (c ∷ a) [] s t h = absurd (some_code (c ∷ a) s (λ e. cc) h)
 same_codes (c ∷ a) (d ∷ b) s t h =
     ap₂ (λ x xs. x ∷ xs) (h 0) (same_codes a b (trimmed_tail c a s) (trimmed_tail d b t) (λ j. h (suc j)))
 
-same_pres : (p q : PresValue) → p.n ≡ q.n → p.coeffs ≡ q.coeffs → p ≡ q
+pub same_pres : (p q : PresValue) → p.n ≡ q.n → p.coeffs ≡ q.coeffs → p ≡ q
 same_pres p q e d = λ i. record { n = e i; coeffs = d i }
 
 same_number : (p : PresValue) (c d : ℕ) → IsInfinityNumber p c → IsInfinityNumber p d → c ≡ d
@@ -187,8 +187,8 @@ module _ (k : CodeField) (f : List (ℕ × ℕ × ℕ)) where
   no_fault e c some h g = (fails e some h).failed (all_stages c g (rank e))
 
   -- curves of the same terms have the same equation, discriminant and infinity number
-  pub one_curve : (c d : CurveValue) → IsCurveOf k f c → IsCurveOf k f d → (c.fin ≡ d.fin) × (c.disc ≡ d.disc) × (c.c ≡ d.c)
-  one_curve c d h g = (
+  pub same_parts : (c d : CurveValue) → IsCurveOf k f c → IsCurveOf k f d → (c.fin ≡ d.fin) × (c.disc ≡ d.disc) × (c.c ≡ d.c)
+  same_parts c d h g = (
     same_equation k.ops f c.fin d.fin h.equation.equation g.equation.equation,
     same_disc c.fin d.fin c.disc d.disc h.equation.equation g.equation.equation h.curve.disc g.curve.disc,
     same_number_at c.fin d.fin c.c d.c h.equation.equation g.equation.equation h.curve.infinite.number g.curve.infinite.number,

@@ -85,7 +85,7 @@ module _ (k : CodeField) where
       (numbers_trim k (read k (0 ∷ [])) ∙ ap poly_of (numbers_read k (0 ∷ []) (IsOver_cons (zero_in k) IsOver_nil)) ∙ sym (ap (codes_of k) (sym (value_nil k))))
 
   -- a reversed list has its codes in range
-  All_reverse : {A : Type 0} (P : A → Type 0) (xs : List A) → All P xs → All P (reverse xs)
+  pub All_reverse : {A : Type 0} (P : A → Type 0) (xs : List A) → All P xs → All P (reverse xs)
   All_reverse P [] h = h
   All_reverse P (x ∷ xs) h = rw (reverse-cons x xs) (All-push P (reverse xs) x (All_reverse P xs (All-tail P x xs h)) (All-head P x xs h))
 
@@ -95,16 +95,19 @@ module _ (k : CodeField) where
       (IsOver_append (IsOver_zeros k (m - length a)) (IsOver_trim (reverse a) (record { each = All_reverse (λ c. c < k.size) a a_in.each })))
 
 module _ (k : CodeField) (p : PresValue) where
-  value_at_value : (t : Functions k p) (w : List ℕ) → value_at k p t w ≡ value_of (functions k p) (constant k p) t w
+  pub value_at_value : (t : Functions k p) (w : List ℕ) → value_at k p t w ≡ value_of (functions k p) (constant k p) t w
   unfolding value_of
   value_at_value t [] = refl
   value_at_value t (c ∷ w) = ap (λ s. (functions k p).◌⊕◌ (constant k p c) ((functions k p).◌⊗◌ t s)) (value_at_value t w)
+
+  pub constant_zero : constant k p 0 ≡ (functions k p).𝟘
+  constant_zero = ap (of_poly (equation_of k p)) (zero_constant k) ∙ sym (of_poly_zero (equation_of k p))
 
   reversed_at : (a : List ℕ) (d : ℕ) → length a ≤ d + 1 → value_at k p (variable k p Infinite) (reversed_of a (d + 1))
       ≡ (functions k p).◌⊗◌ (value_at k p (variable k p Finite) a) (pow (functions k p).ops (variable k p Infinite) d)
   reversed_at a d le =
       value_at_value (variable k p Infinite) (reversed_of a (d + 1))
-      ∙ value_reversed (functions k p) (constant k p) (ap (of_poly (equation_of k p)) (zero_constant k) ∙ sym (of_poly_zero (equation_of k p)))
+      ∙ value_reversed (functions k p) (constant k p) constant_zero
       (variable k p Finite) (variable k p Infinite) (den_inverse (equation_of k p) (x_poly k) (x_poly_not_zero k)) a d le
       ∙ ap (λ v. (functions k p).◌⊗◌ v (pow (functions k p).ops (variable k p Infinite) d)) (sym (value_at_value (variable k p Finite) a))
 

@@ -122,6 +122,6 @@ module _ (k : CodeField) where
   IsCurveFault f (LimitInf d) = ExceedsInf f d
   IsCurveFault f Memory = Unit {0}
 
-  -- the determinant of these entries is expanded: row i has the polynomials of the list from place rows_i + column on
+  -- the matrix whose row i has the polynomials of the list from place rows_i + column on
   abbrev pub matrix_of : List (List ℕ) → List ℕ → ℕ → ℕ → ℕ → Polynomial k
   matrix_of entries rows column i j = value k (get_or entries (get_or rows i 0 + column + j) [])

@@ -1,6 +1,6 @@
 //! Curves: the equation of terms in x and y, its discriminant, and its presentation at infinity.
 
-ghost use Rattle.std.specs.Prelude.{◌≡◌, ◌≢◌, ◌<◌, ◌≤◌, ◌*◌, ◌-◌, length, All, IfOk, IfErr};
+ghost use Rattle.std.specs.Prelude.{◌≡◌, ◌≢◌, ◌<◌, All, IfOk, IfErr};
 ghost use Rattle.ff_algebra.specs.Curves.{CurveValue, IsCurveOf, IsCurveFault};
 ghost use Rattle.ff_algebra.specs.declared.curve.CurveFault.{CurveFault};
 
@@ -74,7 +74,7 @@ impl From<AllocError> for CurveFault {
 impl Curve {
     /// The curve of the terms, or the first fault in the order of `CurveFault`. Its infinite presentation is by
     /// Y = y/x^c over the polynomials in t = 1/x, for the least c that makes its coefficients polynomials. It takes
-    /// the time of some hundred products of polynomials.
+    /// the time of at most some 200 products of polynomials, whose degrees are at most those of the traces of y^6.
     pub fn new<K: SmallField>(alloc: Global, k: &K, f: &Terms) -> Result<Curve, CurveFault>
         requires { All (λ t. t.2 < (K.field k.now).size) f.now }
         ensures ok { IfOk result (IsCurveOf (K.field k.now) f.now) }
@@ -147,12 +147,14 @@ impl Curve {
 }
 
 /// The faults exclude each other and the curve: terms give one fault at most but for want of memory, and none where they
-/// give a curve. Curves of the same terms have the same equation, discriminant and infinity number.
+/// give a curve, which is the only one.
 pub fn one_fault<K: SmallField>(k: &K, f: &Terms)
     ensures fault { let k = K.field k.now in
-        (e d : CurveFault) → e ≢ CurveFault.Memory → d ≢ CurveFault.Memory → IsCurveFault k f.now e → IsCurveFault k f.now d → e ≡ d }
+        (e d : CurveFault) → e ≢ CurveFault.Memory → d ≢ CurveFault.Memory →
+        IsCurveFault k f.now e → IsCurveFault k f.now d → e ≡ d }
     ensures no_curve { let k = K.field k.now in
-        (e : CurveFault) (c : CurveValue) → e ≢ CurveFault.Memory → IsCurveFault k f.now e → ¬ IsCurveOf k f.now c }
+        (e : CurveFault) (c : CurveValue) → e ≢ CurveFault.Memory →
+        IsCurveFault k f.now e → ¬ IsCurveOf k f.now c }
     ensures curve { let k = K.field k.now in
-        (c d : CurveValue) → IsCurveOf k f.now c → IsCurveOf k f.now d → (c.fin ≡ d.fin) × (c.disc ≡ d.disc) × (c.c ≡ d.c) }
+        (c d : CurveValue) → IsCurveOf k f.now c → IsCurveOf k f.now d → c ≡ d }
 {}

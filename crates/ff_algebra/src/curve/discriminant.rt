@@ -21,7 +21,8 @@ fn power_traces<K: SmallField>(alloc: Global, k: &K, p: &Pres) -> Result<Vec<Pol
     requires { IsPresOver (K.field k.now).ops p.now }
     ensures count { IfOk result (λ ts. length ts.items + 1 ≡ 2 * p.now.n) }
     ensures traces { let k = K.field k.now in
-        IfOk result (λ ts. (m : ℕ) → m < length ts.items → value k (get_or ts.items m []) ≡ power_trace (equation_of k p.now) m) }
+        IfOk result (λ ts. (m : ℕ) → m < length ts.items →
+        value k (get_or ts.items m []) ≡ power_trace (equation_of k p.now) m) }
     ensures over { IfOk result (λ ts. All (IsOver (K.field k.now).ops) ts.items) }
 {
     let mut power = zeros(alloc, p.n() - 1)?;
@@ -35,7 +36,7 @@ fn power_traces<K: SmallField>(alloc: Global, k: &K, p: &Pres) -> Result<Vec<Pol
 }
 
 /// The determinant of the square matrix whose row i has the entries of the list from place rows\[i\] + column on, by
-/// expansion along the first column. It takes m! products of polynomials, for m rows.
+/// expansion along the first column. It takes less than 3·m! products of polynomials, for m rows.
 fn determinant<K: SmallField>(
     alloc: Global,
     k: &K,
@@ -46,7 +47,8 @@ fn determinant<K: SmallField>(
     requires entries_in { All (IsOver (K.field k.now).ops) entries.now }
     requires inside { All (λ r. r + column + length rows.now ≤ length entries.now) rows.now }
     ensures value { let k = K.field k.now in
-        IfOk result (λ d. value k d ≡ determinant (polynomials k).ops (length rows.now) (matrix_of k entries.now rows.now column)) }
+        IfOk result (λ d. value k d ≡
+        determinant (polynomials k).ops (length rows.now) (matrix_of k entries.now rows.now column)) }
     ensures over { IfOk result (IsOver (K.field k.now).ops) }
     ensures poly { IfOk result IsPoly }
 {

@@ -40,7 +40,8 @@ pub(crate) fn infinite_presentation(alloc: Global, f: &Pres, c: usize) -> Result
     requires fits { c < 2 ^ 32 }
     ensures degree { IfOk result (λ q. q.n ≡ f.now.n) }
     ensures one_each { IfOk result (λ q. length q.coeffs ≡ q.n) }
-    ensures coefficients { IfOk result (λ q. (i : ℕ) → i < f.now.n → get_or q.coeffs i [] ≡ reversed_of (get_or f.now.coeffs i []) (c * (f.now.n - i) + 1)) }
+    ensures coefficients { IfOk result (λ q. (i : ℕ) → i < f.now.n →
+        get_or q.coeffs i [] ≡ reversed_of (get_or f.now.coeffs i []) (c * (f.now.n - i) + 1)) }
     ensures poly { IfOk result (λ q. All IsPoly q.coeffs) }
 {
     let mut coeffs = Vec::new(alloc);

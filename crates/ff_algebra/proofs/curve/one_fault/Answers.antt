@@ -1,4 +1,5 @@
-use Rattle.ff_algebra.proofs.CurveFaults.{one_fault, no_fault, one_curve}
+use Rattle.ff_algebra.proofs.CurveFaults.{one_fault, no_fault}
+use Rattle.ff_algebra.proofs.OneInfinite.{one_curve}
 use Rattle.ff_algebra.proofs.curve.one_fault.Goals as goal
 
 pub returns : goal.returns
