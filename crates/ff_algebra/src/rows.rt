@@ -27,7 +27,7 @@ pub(crate) fn copy_all(alloc: Global, row: &[Poly]) -> Result<Vec<Poly>, AllocEr
 }
 
 /// n zeros.
-fn zeros(alloc: Global, n: usize) -> Result<Vec<Poly>, AllocError>
+pub(crate) fn zeros(alloc: Global, n: usize) -> Result<Vec<Poly>, AllocError>
     ensures { IfOk result (λ row. row.items ≡ replicate n []) }
 {
     let mut row = Vec::new(alloc);
@@ -49,7 +49,7 @@ pub(crate) fn multiply_all<K: SmallField>(k: &K, row: &mut [Poly], c: u32)
 }
 
 /// Adds c·a·w to the entry at the place of each w of the row, in place.
-fn add_products<K: SmallField>(
+pub(crate) fn add_products<K: SmallField>(
     k: &K,
     sums: &mut [Poly],
     c: u32,

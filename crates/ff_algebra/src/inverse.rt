@@ -1,0 +1,85 @@
+//! Inverses of functions.
+
+ghost use Rattle.std.specs.Prelude.{◌≡◌, IfOk, IfErr};
+ghost use Rattle.ff_algebra.specs.Values.{Functions, IsPresOver, IsElem, IsMonicElem, function_of, functions};
+ghost use Rattle.ff_algebra.specs.RowProducts.{IsRow, row_at};
+ghost use Rattle.ff_algebra.specs.Inverses.{IfKills};
+
+mod elimination;
+
+use crate::elem::{Elem, Pres};
+use crate::inverse::elimination::relation;
+use crate::rows::{add_products, zeros};
+use ff_fields::field::SmallField;
+use ff_poly::Poly;
+use std::alloc::{AllocError, Global};
+
+/// Why a function isn't inverted.
+#[derive(Debug, Drop)]
+pub enum ZeroDivisor {
+    /// An element that isn't 0 and whose product with the function is 0.
+    Kills(Elem),
+    Memory,
+}
+
+impl From<AllocError> for ZeroDivisor {
+    ghost use Rattle.ff_algebra.specs.declared.inverse.ZeroDivisor.TheVariants.{Memory};
+
+    ghost from_gives = { λ _ e. e ≡ Memory };
+
+    fn from(_: AllocError) -> Self {
+        ZeroDivisor::Memory
+    }
+}
+
+/// Each polynomial of the row, times d.
+fn multiples<K: SmallField>(
+    alloc: Global,
+    k: &K,
+    d: &Poly,
+    row: &[Poly],
+) -> Result<Vec<Poly>, AllocError>
+{
+    let mut products = zeros(alloc, row.len())?;
+    add_products(k, products.as_mut_slice(), 1, d, row)?;
+    Ok(products)
+}
+
+/// The inverse of a. Where there is none, a is 0 or a divisor of 0, and the error holds an element that isn't 0 and
+/// whose product with a is 0. Neither is in lowest terms: the degrees grow by a factor 2^n at most. Both presentation
+/// and element are over the field, and a has n numerators. It takes the time of about n³ products of polynomials.
+pub fn try_inverse<K: SmallField>(
+    alloc: Global,
+    k: &K,
+    p: &Pres,
+    a: &Elem,
+) -> Result<Elem, ZeroDivisor>
+    requires p_in { IsPresOver (K.field k.now).ops p.now }
+    requires a_in { IsElem (K.field k.now).ops p.now.n a.now }
+    ensures inverse { let k = K.field k.now in
+        IfOk result (λ z.
+        (functions k p.now).◌⊗◌ (function_of k p.now a.now) (function_of k p.now z) ≡ (functions k p.now).𝟙) }
+    ensures kills { let k = K.field k.now in
+        IfErr result (λ e. IfKills e (λ w.
+        (functions k p.now).◌⊗◌ (function_of k p.now a.now) (function_of k p.now w) ≡ (functions k p.now).𝟘)) }
+    ensures not_zero { let k = K.field k.now in
+        IfErr result (λ e. IfKills e (λ w. ¬ (function_of k p.now w ≡ (functions k p.now).𝟘))) }
+    ensures no_inverse { let k = K.field k.now in
+        IfErr result (λ e. IfKills e (λ _.
+        (z : Functions k p.now) → ¬ ((functions k p.now).◌⊗◌ (function_of k p.now a.now) z ≡ (functions k p.now).𝟙))) }
+    ensures in_range { IfOk result (IsElem (K.field k.now).ops p.now.n) }
+    ensures monic { IfOk result IsMonicElem }
+    ensures killer_in_range { IfErr result (λ e. IfKills e (IsElem (K.field k.now).ops p.now.n)) }
+    ensures killer_monic { IfErr result (λ e. IfKills e IsMonicElem) }
+{
+    let mut factors = relation(alloc, k, p, a.num())?;
+    let Some(d) = factors.pop() else {
+        return Err(ZeroDivisor::Memory);
+    };
+    if d.is_zero() {
+        let one = Poly::one(alloc)?;
+        return Err(ZeroDivisor::Kills(Elem::new(k, factors, one)));
+    }
+    let num = multiples(alloc, k, a.den(), factors.as_slice())?;
+    Ok(Elem::new(k, num, d))
+}
