@@ -1,8 +1,11 @@
 //! Inverses of functions.
 
-ghost use Rattle.std.specs.Prelude.{◌≡◌, IfOk, IfErr};
-ghost use Rattle.ff_algebra.specs.Values.{Functions, IsPresOver, IsElem, IsMonicElem, function_of, functions};
-ghost use Rattle.ff_algebra.specs.RowProducts.{IsRow, row_at};
+ghost use Rattle.std.specs.Prelude.{◌≡◌, ℕ, length, All, IfOk, IfErr};
+ghost use Rattle.ff_ring.specs.Rows.{row_scale};
+ghost use Rattle.ff_fields.specs.Over.{IsOver};
+ghost use Rattle.ff_poly.specs.Value.{value};
+ghost use Rattle.ff_poly.specs.Polynomials.{polynomials};
+ghost use Rattle.ff_algebra.specs.Values.{Functions, IsPresOver, IsElem, IsMonicElem, function_of, functions, row_of_list};
 ghost use Rattle.ff_algebra.specs.Inverses.{IfKills};
 
 mod elimination;
@@ -39,6 +42,14 @@ fn multiples<K: SmallField>(
     d: &Poly,
     row: &[Poly],
 ) -> Result<Vec<Poly>, AllocError>
+    requires d_in { IsOver (K.field k.now).ops d.now }
+    requires row_in { All (IsOver (K.field k.now).ops) row.now }
+    ensures products { let k = K.field k.now in
+        let R = (polynomials k).ops in
+        IfOk result (λ products.
+        (n : ℕ) → row_of_list k n products.items ≡ row_scale R n (value k d.now) (row_of_list k n row.now)) }
+    ensures over { IfOk result (λ products. All (IsOver (K.field k.now).ops) products.items) }
+    ensures count { IfOk result (λ products. length products.items ≡ length row.now) }
 {
     let mut products = zeros(alloc, row.len())?;
     add_products(k, products.as_mut_slice(), 1, d, row)?;
@@ -74,7 +85,7 @@ pub fn try_inverse<K: SmallField>(
 {
     let mut factors = relation(alloc, k, p, a.num())?;
     let Some(d) = factors.pop() else {
-        return Err(ZeroDivisor::Memory);
+        unreachable!()
     };
     if d.is_zero() {
         let one = Poly::one(alloc)?;

@@ -73,16 +73,19 @@ fn shortest_at(lines: &[Vec<Poly>], column: usize) -> Option<usize>
     requires { All (λ line. column < length line) (rows_of lines.now) }
     ensures { MatchOption result ((i : ℕ) → entry_of (rows_of lines.now) i column ≡ []) (λ i. (i < length lines.now) × (entry_of (rows_of lines.now) i column ≢ [])) }
 {
-    let mut found = None;
-    let mut least = 0;
+    let mut found: Option<(usize, usize)> = None;
     for i in 0..lines.len() {
-        let len = lines[i][column].codes().len();
-        if len > 0 && (found.is_none() || len < least) {
-            found = Some(i);
-            least = len;
+        let Some(degree) = lines[i][column].degree() else {
+            continue;
+        };
+        if let Some((_, least)) = found {
+            if least <= degree {
+                continue;
+            }
         }
+        found = Some((i, degree));
     }
-    found
+    found.map(|(i, _)| i)
 }
 
 /// b times the line less a times the pivot, where b and a are the entries of the pivot and of the line in the column.

@@ -1,0 +1,29 @@
+-- What is read of vectors of polynomials.
+use Rattle.std.proofs.Common.{◌≡◌, ℕ, suc, ◌<◌, ◌+◌, ◌-◌, List, [], ◌∷◌, ◌++◌, length, get_or, take, drop, map, Option, None, Some, MatchOption, below_more, refl, sym, ap, ◌∙◌, arith, subst, All}
+use Rattle.std.specs.Prelude.{remove}
+use Rattle.std.specs.Global.{Vec}
+use Rattle.std.proofs.lemmas.List.{get_or-map, get_or_read, length-map, map_more}
+use Rattle.ff_poly.specs.Words.{degree_of}
+use Rattle.ff_poly.specs.Popov.{rows_of}
+use Rattle.ff_algebra.specs.Inverses.{entry_of}
+
+pub line_read : (lines : List (Vec (List ℕ))) (i : ℕ) (line : Vec (List ℕ)) → i < length lines → line ≡ get_or lines i line → line.items ≡ get_or (rows_of lines) i []
+line_read lines i line less is = ap (λ (r : Vec (List ℕ)). r.items) is ∙ sym (get_or-map (λ (r : Vec (List ℕ)). r.items) lines i line [] less)
+
+pub entry_read : (lines : List (Vec (List ℕ))) (i column : ℕ) (line : Vec (List ℕ)) (entry : List ℕ) → i < length lines → line ≡ get_or lines i line → column < length line.items → entry ≡ get_or line.items column entry → entry ≡ entry_of (rows_of lines) i column
+entry_read lines i column line entry less is within entry_is =
+    get_or_read line.items column entry within entry_is [] ∙ ap (λ r. get_or r column []) (line_read lines i line less is)
+
+-- a property of each line holds of one that is read
+pub all_read : (P : List (List ℕ) → Type 0) (lines : List (Vec (List ℕ))) (i : ℕ) (line : Vec (List ℕ)) → All P (rows_of lines) → i < length lines → line ≡ get_or lines i line → P line.items
+all_read P lines i line all less is =
+    subst P (sym (line_read lines i line less is)) (all i [] (let size = length-map lines (λ (r : Vec (List ℕ)). r.items) in omega (arith, size)))
+
+pub no_degree : (a : List ℕ) → None ≡ degree_of a → a ≡ []
+no_degree [] e = refl
+no_degree (c ∷ a) e = (cc)
+
+-- what holds of each index below i, where nothing was found, and of i
+pub found_more : {X : Type 0} (P : ℕ → Type 0) (Q : X → Type 0) (i : ℕ) (found : Option X) → MatchOption found ((j : ℕ) → j < i → P j) Q → P i → MatchOption found ((j : ℕ) → j < i + 1 → P j) Q
+found_more P Q i None so_far here = below_more P i so_far here
+found_more P Q i (Some x) so_far here = so_far
