@@ -142,7 +142,7 @@ module _ (k : CodeField) (p : PresValue) (v : List (List ℕ)) where
   row_of_nothing (suc m) [] none = pair_path refl (row_of_nothing m [] (λ j less. refl))
   row_of_nothing (suc m) (v ∷ vs) none = pair_path (ap (value k) (none 0 (omega arith)) ∙ value_nil k) (row_of_nothing m vs (λ j less. none (suc j) (omega arith)))
 
-  row_of_take : (m t : ℕ) (vs : List (List ℕ)) → m ≤ t → row_of_list k m (take t vs) ≡ row_of_list k m vs
+  pub row_of_take : (m t : ℕ) (vs : List (List ℕ)) → m ≤ t → row_of_list k m (take t vs) ≡ row_of_list k m vs
   row_of_take zero t vs le = refl
   row_of_take (suc m) zero vs le = absurd (omega arith)
   row_of_take (suc m) (suc t) [] le = refl
