@@ -2,7 +2,9 @@
 use Rattle.std.proofs.Common.{◌≡◌, ℕ, suc, ◌<◌, ◌+◌, ◌-◌, List, [], ◌∷◌, ◌++◌, length, get_or, take, drop, map, Option, None, Some, MatchOption, below_more, refl, sym, ap, ◌∙◌, arith, subst, All}
 use Rattle.std.specs.Prelude.{remove}
 use Rattle.std.specs.Global.{Vec}
-use Rattle.std.proofs.lemmas.List.{get_or-map, get_or_read, length-map, map_more}
+use Rattle.std.proofs.lemmas.List.{get_or-map, get_or_read, length-map, map_more, map-append}
+use Rattle.std.proofs.Math.ListN.{get_or-append}
+use Rattle.std.proofs.Math.Seq.{get_or-append_seam}
 use Rattle.ff_poly.specs.Words.{degree_of}
 use Rattle.ff_poly.specs.Popov.{rows_of}
 use Rattle.ff_algebra.specs.Inverses.{entry_of}
@@ -27,3 +29,13 @@ no_degree (c ∷ a) e = (cc)
 pub found_more : {X : Type 0} (P : ℕ → Type 0) (Q : X → Type 0) (i : ℕ) (found : Option X) → MatchOption found ((j : ℕ) → j < i → P j) Q → P i → MatchOption found ((j : ℕ) → j < i + 1 → P j) Q
 found_more P Q i None so_far here = below_more P i so_far here
 found_more P Q i (Some x) so_far here = so_far
+
+-- what holds of each line below i, and of the line that comes behind them
+pub pushed_line : (P : ℕ → List (List ℕ) → Type 0) (i : ℕ) (lines new : List (Vec (List ℕ))) (line : Vec (List ℕ)) → length lines ≡ i → new ≡ lines ++ line ∷ [] → ((j : ℕ) → j < i → P j (get_or (rows_of lines) j [])) → P i line.items → (j : ℕ) → j < i + 1 → P j (get_or (rows_of new) j [])
+pushed_line P i lines new line size new_is before here =
+    let items : Vec (List ℕ) → List (List ℕ) = λ r. r.items in
+    let rows_is : rows_of new ≡ rows_of lines ++ line.items ∷ [] = ap rows_of new_is ∙ map-append items lines (line ∷ []) in
+    let rows_size : length (rows_of lines) ≡ i = length-map lines items ∙ size in
+    below_more (λ j. P j (get_or (rows_of new) j [])) i
+    (λ j less. subst (P j) (sym (ap (λ rows. get_or rows j []) rows_is ∙ get_or-append (rows_of lines) (line.items ∷ []) [] j (omega arith))) (before j less))
+    (subst (P i) (sym (ap (λ rows. get_or rows i []) rows_is ∙ ap (λ j. get_or (rows_of lines ++ line.items ∷ []) j []) (sym rows_size) ∙ get_or-append_seam (rows_of lines) line.items [] [])) here)
