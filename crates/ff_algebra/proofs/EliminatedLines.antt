@@ -2,7 +2,7 @@
 use Rattle.std.proofs.Common.{◌≡◌, ◌≢◌, ℕ, zero, suc, ◌+◌, ◌-◌, ◌*◌, ◌<◌, ◌≤◌, ◌⊎◌, inl, inr, List, [], ◌∷◌, ◌++◌, length, get_or, take, drop, set, map, replicate, refl, sym, ap, ap₂, ◌∙◌, arith, subst, All}
 use Rattle.std.specs.Prelude.{remove}
 use Rattle.std.proofs.lemmas.Bool.{cases_lt, cases_eq}
-use Rattle.std.proofs.lemmas.List.{get_or_past, get_or-map, get_or-drop, get_or-take, get_or-set_same, get_or-set_other, get_or-replicate, length-map, length-take, length-replicate}
+use Rattle.std.proofs.lemmas.List.{get_or_past, get_or_default, get_or-map, get_or-drop, get_or-take, get_or-set_same, get_or-set_other, get_or-replicate, length-map, length-take, length-replicate}
 use Rattle.std.proofs.lemmas.List.Edits.{length-remove}
 use Rattle.std.proofs.lemmas.List.Elements.{All-take}
 use Rattle.ff_ring.specs.Rows.{Row, row_zero, row_add, row_scale}
@@ -178,3 +178,7 @@ module _ (k : CodeField) (p : PresValue) (v : List (List ℕ)) where
         within = mine.within;
         some = λ e. mine.some (sym (at mine.column mine.within) ∙ e);
       })
+
+  pub rows_in : (width column : ℕ) (lines : List (List (List ℕ))) → width ≡ 2 * p.n + 1 → IsEliminated k p v column lines → All (IsRow k.ops width) lines
+  rows_in width column lines width_is is i d less =
+      subst (IsRow k.ops width) (get_or_default lines i [] d less) (subst (λ w. IsRow k.ops w (get_or lines i [])) (sym width_is) (is.each i less).row)
