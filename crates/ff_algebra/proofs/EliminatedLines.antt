@@ -14,7 +14,7 @@ use Rattle.ff_poly.specs.Value.{value}
 use Rattle.ff_poly.specs.Polynomials.{polynomials, value_nil}
 use Rattle.ff_algebra.specs.Values.{PresValue, row_of_list, equation_of}
 use Rattle.ff_algebra.specs.RowProducts.{IsRow, row_at}
-use Rattle.ff_algebra.specs.Inverses.{entry_of, HasOwnEntry, eliminated, IsEliminatedBy, ClearsColumn, IsLine, IsEliminated, IsRelation}
+use Rattle.ff_algebra.specs.Inverses.{entry_of, HasOwnEntry, eliminated, IsEliminatedBy, ClearsColumn, IsLine, IsEliminated}
 use Rattle.ff_algebra.proofs.Elimination.{skip, skip_other, skip_apart, skip_below, get_or_skip, cleared_here, cleared_kept, own_kept, line_eliminated}
 
 -- past the last line, and past the end of a line, entries are empty
@@ -148,9 +148,19 @@ module _ (k : CodeField) (p : PresValue) (v : List (List ℕ)) where
   row_of_take (suc m) (suc t) [] le = refl
   row_of_take (suc m) (suc t) (v ∷ vs) le = pair_path refl (row_of_take m t vs (omega arith))
 
-  -- the factors of a line whose last entries are all 0 are a relation
-  pub relation_of_line : (lines : List (List (List ℕ))) (factors : List (List ℕ)) → 1 ≤ p.n → 0 < length lines → IsEliminated k p v (2 * p.n + 1) lines → factors ≡ take (p.n + 1) (get_or lines 0 []) → IsRelation k p v factors
-  relation_of_line lines factors positive some is factors_are =
+  -- w, then a polynomial d, not all 0, with w·v equal to d
+  pub record HasFactors (factors : List (List ℕ)) : Type 0 where
+    pub row : IsRow k.ops (p.n + 1) factors
+    pub product :
+        row_scale (polynomials k).ops (suc (p.n - 1)) (value k (get_or factors p.n [])) (row_one (polynomials k).ring (p.n - 1))
+        ≡ row_mul (polynomials k).ring (p.n - 1) (equation_of k p).coefficients (row_at k p factors) (row_at k p v)
+    pub place : ℕ
+    pub within : place < p.n + 1
+    pub some : get_or factors place [] ≢ []
+
+  -- the factors of a line whose last entries are all 0
+  pub factors_of_line : (lines : List (List (List ℕ))) (factors : List (List ℕ)) → 1 ≤ p.n → 0 < length lines → IsEliminated k p v (2 * p.n + 1) lines → factors ≡ take (p.n + 1) (get_or lines 0 []) → HasFactors factors
+  factors_of_line lines factors positive some is factors_are =
       let m = suc (p.n - 1) in
       let line = get_or lines 0 [] in
       let is_line = is.each 0 some in
@@ -161,7 +171,7 @@ module _ (k : CodeField) (p : PresValue) (v : List (List ℕ)) where
       let one = row_one S (p.n - 1) in
       let last = λ (j : ℕ) (less : j < m). get_or-drop (p.n + 1) line j [] ∙ is.cleared 0 (p.n + 1 + j) (omega arith) (omega arith) in
       let at = λ (j : ℕ) (less : j < p.n + 1). get_or-take (p.n + 1) line j [] less in
-      subst (IsRelation k p v) (sym factors_are)
+      subst (HasFactors) (sym factors_are)
       (record {
         row = record {
           one_each = length-take (p.n + 1) line ∙ omega (arith, is_line.row.one_each);

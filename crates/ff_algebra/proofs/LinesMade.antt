@@ -31,7 +31,7 @@ first_back S n a b d r b_is =
     (ap (row_add S.ops n r) (row_scale_zero S n d) ∙ row_add_zero S n r)
 
 module _ (k : CodeField) where
-  row_of_append : (m : ℕ) (xs ys : List (List ℕ)) → m ≤ length xs → row_of_list k m (xs ++ ys) ≡ row_of_list k m xs
+  pub row_of_append : (m : ℕ) (xs ys : List (List ℕ)) → m ≤ length xs → row_of_list k m (xs ++ ys) ≡ row_of_list k m xs
   row_of_append zero xs ys le = refl
   row_of_append (suc m) [] ys le = absurd (omega arith)
   row_of_append (suc m) (x ∷ xs) ys le = pair_path refl (row_of_append m xs ys (omega arith))

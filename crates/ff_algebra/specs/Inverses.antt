@@ -3,7 +3,8 @@ use Rattle.std.specs.Prelude.{◌≡◌, ◌≢◌, ℕ, suc, ◌+◌, ◌-◌, 
 use Rattle.ff_ring.specs.Rows.{row_add, row_scale}
 use Rattle.ff_ring.proofs.Rows.{row_one, row_mul}
 use Rattle.ff_fields.specs.Field.{FieldOps, CodeField}
-use Rattle.ff_poly.specs.Words.{multiple_of}
+use Rattle.ff_fields.specs.Over.{IsOver}
+use Rattle.ff_poly.specs.Words.{IsPoly, multiple_of}
 use Rattle.ff_poly.specs.Value.{value}
 use Rattle.ff_poly.specs.Polynomials.{polynomials}
 use Rattle.ff_algebra.specs.declared.inverse.ZeroDivisor.{ZeroDivisor}
@@ -59,12 +60,12 @@ module _ (k : CodeField) (p : PresValue) (v : List (List ℕ)) where
     pub cleared : (i j : ℕ) → p.n < j → j < column → entry_of lines i j ≡ []
     pub own : (i : ℕ) → i < length lines → HasOwnEntry (p.n + 1) lines i
 
-  -- w, then a polynomial d, not all 0, with w·v equal to d
-  pub record IsRelation (factors : List (List ℕ)) : Type 0 where
-    pub row : IsRow k.ops (p.n + 1) factors
+  -- w·v is d, and w isn't 0 where d is 0
+  pub record IsRelation (w : List (List ℕ)) (d : List ℕ) : Type 0 where
+    pub row : IsRow k.ops p.n w
+    pub over : IsOver k.ops d
+    pub poly : IsPoly d
     pub product :
-        row_scale (polynomials k).ops (suc (p.n - 1)) (value k (get_or factors p.n [])) (row_one (polynomials k).ring (p.n - 1))
-        ≡ row_mul (polynomials k).ring (p.n - 1) (equation_of k p).coefficients (row_at k p factors) (row_at k p v)
-    pub place : ℕ
-    pub within : place < p.n + 1
-    pub some : get_or factors place [] ≢ []
+        row_scale (polynomials k).ops (suc (p.n - 1)) (value k d) (row_one (polynomials k).ring (p.n - 1))
+        ≡ row_mul (polynomials k).ring (p.n - 1) (equation_of k p).coefficients (row_at k p w) (row_at k p v)
+    pub some : d ≡ [] → (j : ℕ) × (j < p.n) × (get_or w j [] ≢ [])

@@ -83,14 +83,12 @@ pub fn try_inverse<K: SmallField>(
     ensures killer_in_range { IfErr result (λ e. IfKills e (IsElem (K.field k.now).ops p.now.n)) }
     ensures killer_monic { IfErr result (λ e. IfKills e IsMonicElem) }
 {
-    let mut factors = relation(alloc, k, p, a.num())?;
-    let Some(d) = factors.pop() else {
-        unreachable!()
-    };
+    let den = a.den();
+    let (w, d) = relation(alloc, k, p, a.num())?;
     if d.is_zero() {
         let one = Poly::one(alloc)?;
-        return Err(ZeroDivisor::Kills(Elem::new(k, factors, one)));
+        return Err(ZeroDivisor::Kills(Elem::new(k, w, one)));
     }
-    let num = multiples(alloc, k, a.den(), factors.as_slice())?;
+    let num = multiples(alloc, k, den, w.as_slice())?;
     Ok(Elem::new(k, num, d))
 }

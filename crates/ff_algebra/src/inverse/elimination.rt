@@ -129,16 +129,17 @@ fn clear_column<K: SmallField>(
     Ok(rest)
 }
 
-/// Factors w and d, not all 0, with w·v equal to d: those of a line that is 0 in each of the n last columns.
+/// A row w and a polynomial d, not both 0, with w·v equal to d: the factors of a line that is 0 in each of the n last
+/// columns.
 pub(super) fn relation<K: SmallField>(
     alloc: Global,
     k: &K,
     p: &Pres,
     v: &[Poly],
-) -> Result<Vec<Poly>, AllocError>
+) -> Result<(Vec<Poly>, Poly), AllocError>
     requires p_in { IsPresOver (K.field k.now).ops p.now }
     requires v_in { IsRow (K.field k.now).ops p.now.n v.now }
-    ensures { IfOk result (λ factors. IsRelation (K.field k.now) p.now v.now factors.items) }
+    ensures { IfOk result (λ r. IsRelation (K.field k.now) p.now v.now r.0.items r.1) }
 {
     let first = p.n() + 1;
     let width = p.n() + first;
@@ -148,5 +149,8 @@ pub(super) fn relation<K: SmallField>(
     }
     let mut factors = lines.remove(0);
     factors.truncate(first);
-    Ok(factors)
+    let Some(d) = factors.pop() else {
+        unreachable!()
+    };
+    Ok((factors, d))
 }
