@@ -147,6 +147,3 @@ module _ (k : CodeField) (p : PresValue) (a : ElemValue) (a_in : IsElem k.ops p.
         ∙ row_scale_zero R m y.den in
         value_not_zero k (get_or w found.0 []) (over_at k p.n w is.row found.0) (poly_at k p.n w is.row found.0) found.2
         (nothing_of_row m found.0 w (omega (arith, found.1)) empty)
-
-    pub killer_exact : (u : Functions k p) → ¬ (E.◌⊗◌ (function_of k p a) u ≡ E.𝟙)
-    killer_exact u = killed_has_none E (function_of k p a) (function_of k p z) u kills_function killer_not_zero
