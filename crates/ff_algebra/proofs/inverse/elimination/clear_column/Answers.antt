@@ -58,10 +58,13 @@ returns g c =
     let k = g.K.SmallField.field c.args.k.now in
     let found = found_in c.args.lines.items c.as_slice.result.now c.in-Some.i c.args.column c.as_slice.ensures.value c.in-Some.ensures in
     let pivot_is = line_read c.args.lines.items c.in-Some.i c.remove-pivot.result found.0 c.remove-pivot.ensures.value in
-    inr (c.in-Some.i, record {
-      within = let size = length-map c.args.lines.items (λ r. r.items) in omega (arith, size, found.0);
-      some = found.1;
-      others = mapped_all (eliminated k.ops c.args.column c.remove-pivot.result.items) c.in-Some.i c.loop-line.line-index c.args.lines.items c.deref-line-items.result.now c.loop-line.rest.items c.loop-line.invariant (omega arith)
-          (c.deref-line-items.ensures.value ∙ c.remove-pivot.ensures.items)
-          ∙ ap (λ row. map (eliminated k.ops c.args.column row) (remove (rows_of c.args.lines.items) c.in-Some.i)) pivot_is;
-    })
+    inr (
+      c.in-Some.i,
+      record {
+        within = let size = length-map c.args.lines.items (λ r. r.items) in omega (arith, size, found.0);
+        some = found.1;
+        others = mapped_all (eliminated k.ops c.args.column c.remove-pivot.result.items) c.in-Some.i c.loop-line.line-index c.args.lines.items c.deref-line-items.result.now c.loop-line.rest.items c.loop-line.invariant (omega arith)
+            (c.deref-line-items.ensures.value ∙ c.remove-pivot.ensures.items)
+            ∙ ap (λ row. map (eliminated k.ops c.args.column row) (remove (rows_of c.args.lines.items) c.in-Some.i)) pivot_is;
+      },
+    )
