@@ -1,13 +1,13 @@
 -- Lines from the start of the elimination to its end.
-use Rattle.std.proofs.Common.{◌≡◌, ◌≢◌, ℕ, zero, suc, ◌+◌, ◌-◌, ◌*◌, ◌<◌, ◌≤◌, ◌⊎◌, inl, inr, List, [], ◌∷◌, ◌++◌, length, get_or, take, drop, set, map, replicate, refl, sym, ap, ap₂, ◌∙◌, arith, subst, All}
+use Rattle.std.proofs.Common.{◌≡◌, ◌≢◌, ℕ, zero, suc, ◌+◌, ◌-◌, ◌*◌, ◌<◌, ◌≤◌, inl, inr, List, [], ◌∷◌, length, get_or, take, drop, set, replicate, refl, sym, ap, ◌∙◌, arith, subst, All}
 use Rattle.std.specs.Prelude.{remove}
-use Rattle.std.proofs.lemmas.Bool.{cases_lt, cases_eq}
+use Rattle.std.proofs.lemmas.Bool.{cases_lt}
 use Rattle.std.proofs.lemmas.List.{get_or_past, get_or_default, get_or-map, get_or-drop, get_or-take, get_or-set_same, get_or-set_other, get_or-replicate, length-map, length-take, length-replicate}
 use Rattle.std.proofs.lemmas.List.Edits.{length-remove}
 use Rattle.std.proofs.lemmas.List.Elements.{All-take}
-use Rattle.ff_ring.specs.Rows.{Row, row_zero, row_add, row_scale}
+use Rattle.ff_ring.specs.Rows.{row_zero, row_add, row_scale}
 use Rattle.ff_ring.proofs.Rows.{pair_path, row_one, row_mul, row_add_comm, row_add_zero}
-use Rattle.ff_fields.specs.Field.{FieldOps, CodeField}
+use Rattle.ff_fields.specs.Field.{CodeField}
 use Rattle.ff_fields.specs.Over.{IsOver}
 use Rattle.ff_poly.specs.Words.{IsPoly}
 use Rattle.ff_poly.specs.Value.{value}

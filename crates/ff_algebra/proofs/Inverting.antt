@@ -1,5 +1,5 @@
 -- What a relation w·v = d says of functions: an inverse where d isn't 0, and else an element that kills.
-use Rattle.std.proofs.Common.{◌≡◌, ◌≢◌, Some, ℕ, zero, suc, ◌+◌, ◌-◌, ◌<◌, ◌≤◌, ◌⊎◌, inl, inr, List, [], ◌∷◌, ◌++◌, length, get_or, refl, sym, ap, ap₂, ◌∙◌, arith, subst, All}
+use Rattle.std.proofs.Common.{◌≡◌, ◌≢◌, Some, ℕ, zero, suc, ◌-◌, ◌<◌, ◌≤◌, inl, inr, List, [], ◌∷◌, ◌++◌, length, get_or, sym, ap, ap₂, ◌∙◌, arith, subst}
 use Rattle.std.proofs.lemmas.Bool.{cases_lt}
 use Rattle.std.proofs.lemmas.List.{length-append}
 use Rattle.std.proofs.lemmas.List.Elements.{All-pop}
@@ -14,10 +14,10 @@ use Rattle.ff_fields.specs.Field.{CodeField}
 use Rattle.ff_fields.specs.Over.{IsOver}
 use Rattle.ff_poly.specs.Words.{IsPoly}
 use Rattle.ff_poly.specs.Value.{value}
-use Rattle.ff_poly.specs.Polynomials.{Polynomial, polynomials, polynomials_domain, value_nil, value_one, value_not_zero}
-use Rattle.ff_algebra.specs.Functions.{RowOver, function, function_eq, function_same, mul_rows, whole_row, mul_function, zero_function, one_function}
+use Rattle.ff_poly.specs.Polynomials.{Polynomial, polynomials, value_nil, value_not_zero}
+use Rattle.ff_algebra.specs.Functions.{RowOver, function_eq, function_same, mul_rows, whole_row, mul_function, zero_function, one_function}
 use Rattle.ff_algebra.specs.Values.{ElemValue, PresValue, IsElem, IsMonicElem, row_of_list, equation_of, row_over, function_of, functions, Functions}
-use Rattle.ff_algebra.specs.RowProducts.{IsRow, row_at}
+use Rattle.ff_algebra.specs.RowProducts.{row_at}
 use Rattle.ff_algebra.specs.Inverses.{IsRelation}
 use Rattle.ff_algebra.proofs.SameValues.{elem_den, row_over_num, row_over_den}
 use Rattle.ff_algebra.proofs.Elimination.{over_at, poly_at}

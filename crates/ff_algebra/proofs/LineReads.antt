@@ -1,5 +1,5 @@
 -- What is read of vectors of polynomials.
-use Rattle.std.proofs.Common.{◌≡◌, ◌≢◌, ℕ, suc, ◌<◌, ◌≤◌, ◌+◌, ◌-◌, List, [], ◌∷◌, ◌++◌, length, get_or, take, drop, map, Option, None, Some, MatchOption, below_more, refl, sym, ap, ap₂, ◌∙◌, arith, subst, All}
+use Rattle.std.proofs.Common.{◌≡◌, ◌≢◌, ℕ, suc, ◌<◌, ◌≤◌, ◌+◌, List, [], ◌∷◌, ◌++◌, length, get_or, take, drop, map, Option, None, Some, MatchOption, below_more, refl, sym, ap, ap₂, ◌∙◌, arith, subst, All}
 use Rattle.std.specs.Prelude.{remove}
 use Rattle.std.specs.Global.{Vec}
 use Rattle.std.proofs.lemmas.List.{get_or-map, get_or_read, length-map, map_more, map-append, take-map, drop-map, take_all}

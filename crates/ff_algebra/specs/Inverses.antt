@@ -1,5 +1,5 @@
 -- How an inverse or a zero divisor is found: elimination on multiples of a row.
-use Rattle.std.specs.Prelude.{◌≡◌, ◌≢◌, ℕ, suc, ◌+◌, ◌-◌, ◌*◌, ◌<◌, List, [], ◌∷◌, length, get_or, map, drop, remove, ◌⊎◌}
+use Rattle.std.specs.Prelude.{◌≡◌, ◌≢◌, ℕ, suc, ◌+◌, ◌-◌, ◌*◌, ◌<◌, List, [], length, get_or, map, drop, remove, ◌⊎◌}
 use Rattle.ff_ring.specs.Rows.{row_add, row_scale}
 use Rattle.ff_ring.proofs.Rows.{row_one, row_mul}
 use Rattle.ff_fields.specs.Field.{FieldOps, CodeField}

@@ -35,7 +35,7 @@ impl From<AllocError> for ZeroDivisor {
     }
 }
 
-/// Each polynomial of the row, times d.
+/// Each polynomial of the row times d.
 fn multiples<K: SmallField>(
     alloc: Global,
     k: &K,
@@ -57,8 +57,9 @@ fn multiples<K: SmallField>(
 }
 
 /// The inverse of a. Where there is none, a is 0 or a divisor of 0, and the error holds an element that isn't 0 and
-/// whose product with a is 0. Neither is in lowest terms: the degrees grow by a factor 2^n at most. Both presentation
-/// and element are over the field, and a has n numerators. It takes the time of about n³ products of polynomials.
+/// whose product with a is 0. Neither is in lowest terms. Conditions: the presentation and a are over the field, and a
+/// has n numerators. Errors: `Kills` only where a has no inverse; `Memory` where memory runs out. It takes the time of
+/// about 4·n³ products of polynomials, whose degrees at most double with each of n columns.
 pub fn try_inverse<K: SmallField>(
     alloc: Global,
     k: &K,

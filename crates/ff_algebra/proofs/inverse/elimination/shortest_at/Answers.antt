@@ -1,4 +1,4 @@
-use Rattle.std.proofs.Common.{◌≡◌, ◌≢◌, ◌<◌, ℕ, [], length, sym, ◌∙◌, arith}
+use Rattle.std.proofs.Common.{◌≡◌, ◌≢◌, ◌<◌, [], length, sym, ◌∙◌, arith}
 use Rattle.ff_poly.specs.Popov.{rows_of}
 use Rattle.ff_algebra.specs.Inverses.{entry_of}
 use Rattle.ff_algebra.proofs.LineReads.{entry_read, all_read, no_degree, found_more}
