@@ -49,7 +49,7 @@ pub(crate) fn multiply_all<K: SmallField>(k: &K, row: &mut [Poly], c: u32)
 }
 
 /// Adds c·a·w to the entry at the place of each w of the row, in place.
-fn add_products<K: SmallField>(
+pub(crate) fn add_products<K: SmallField>(
     k: &K,
     sums: &mut [Poly],
     c: u32,
