@@ -6,3 +6,5 @@ pub mod Marks
 pub mod ScanSound
 pub mod ScanComplete
 pub mod ReadTerms
+pub mod ElementSound
+pub mod ElementComplete

@@ -56,14 +56,14 @@ along step P keeps s t g (b ∷ bs) p e =
 
 -- ---- a machine of a relation
 
--- The machine reaches a whole state exactly by a spelling, and has its value. Each state can become whole. The last value
+-- The machine reaches a whole state exactly by a spelling, and has its value. Each state that is reached can become whole. The last value
 -- is that of the longest spelling so far.
 pub record IsMachine {S V : Type 0} (step : S → ℕ → Option S) (start : S) (whole : S → Bool) (last : S → Option V) (Spells : V → List ℕ → Type 0) : Type 0 where
   pub fresh : whole start ≡ false
   pub none : last start ≡ None
   pub sound : (g : List ℕ) (s : S) → Leads step start g s → whole s ≡ true → (v : V) × (last s ≡ Some v) × Spells v g
   pub complete : (v : V) (g : List ℕ) → Spells v g → (s : S) × Leads step start g s × (whole s ≡ true) × (last s ≡ Some v)
-  pub live : (s : S) → (rest : List ℕ) × (t : S) × Leads step s rest t × (whole t ≡ true)
+  pub live : (g : List ℕ) (s : S) → Leads step start g s → (rest : List ℕ) × (t : S) × Leads step s rest t × (whole t ≡ true)
   pub kept : (g : List ℕ) (s t : S) (b : ℕ) → Leads step start g s → step s b ≡ Some t → whole t ≡ false → last t ≡ last s
 
 -- ---- parts of a line
@@ -216,7 +216,7 @@ module _ {S V : Type 0} (step : S → ℕ → Option S) (start : S) (whole : S �
   pub read_nothing : Machine → (line : List ℕ) (at reach end : ℕ) (s : S) → IsRead line at reach end s → Stops line reach s → last s ≡ None → IsNoSpelling Spells line at × IsFurthest Spells line at reach
   read_nothing m line at reach end s r stops e =
       let none : IsNoneYet line at reach = let P : Option V → Type 0 = λ o. MatchOption o (IsNoneYet line at reach) (IsLast line at reach end) in subst P e r.value in
-      let more = m.live s in
+      let more = m.live (slice_range line at reach) s r.state in
       let leads = leads_then step start s more.1 (slice_range line at reach) more.0 r.state more.2 in
       let found = m.sound (slice_range line at reach ++ more.0) more.1 leads more.3 in
       (λ w j low high spelled. further w j low high (cases_lt reach j) spelled none,
