@@ -8,3 +8,4 @@ pub mod ScanComplete
 pub mod ReadTerms
 pub mod ElementSound
 pub mod ElementComplete
+pub mod ReadElement

@@ -8,7 +8,7 @@ use Rattle.std.proofs.Math.Nat.{eq-or-lt_of_le}
 use Rattle.std.proofs.lemmas.Bool.{cases_lt}
 use Rattle.std.proofs.lemmas.List.{append-nil, get_or-drop, length-drop}
 use Rattle.ff_text.specs.Reading.{BeginsSpelling, IsLongestSpelling, IsNoSpelling, IsFurthest}
-use Rattle.ff_text.specs.Scanning.{run}
+use Rattle.ff_text.specs.Scanning.{run, Moves}
 
 -- ---- runs
 
@@ -65,6 +65,16 @@ pub record IsMachine {S V : Type 0} (step : S → ℕ → Option S) (start : S) 
   pub complete : (v : V) (g : List ℕ) → Spells v g → (s : S) × Leads step start g s × (whole s ≡ true) × (last s ≡ Some v)
   pub live : (g : List ℕ) (s : S) → Leads step start g s → (rest : List ℕ) × (t : S) × Leads step s rest t × (whole t ≡ true)
   pub kept : (g : List ℕ) (s t : S) (b : ℕ) → Leads step start g s → step s b ≡ Some t → whole t ≡ false → last t ≡ last s
+
+-- ---- a step that may be refused
+
+pub step_made : {S : Type 0} (next : Option S) (old new : S) (b : Bool) → Moves next old new b → b ≡ true → next ≡ Some new
+step_made next old new true moves made = moves
+step_made next old new false moves made = absurd cc
+
+step_refused : {S : Type 0} (next : Option S) (old new : S) (b : Bool) → Moves next old new b → b ≡ false → (next ≡ None) × (new ≡ old)
+step_refused next old new true moves refused = absurd cc
+step_refused next old new false moves refused = moves
 
 -- ---- parts of a line
 
@@ -180,6 +190,19 @@ module _ {S V : Type 0} (step : S → ℕ → Option S) (start : S) (whole : S �
   -- nothing goes on from `reach`
   abbrev pub Stops : List ℕ → ℕ → S → Type 0
   Stops line reach s = (length line ≤ reach) ⊎ (step s (get_or line reach 0) ≡ None)
+
+  -- where a loop over the bytes ended, nothing goes on
+  abbrev pub IsReadToStop : List ℕ → ℕ → ℕ → ℕ → S → Type 0
+  IsReadToStop line at reach end s = IsRead line at reach end s × Stops line reach s
+
+  pub read_ended : (line : List ℕ) (at reach end : ℕ) (s t : S) → IsRead line at reach end s → t ≡ s → length line ≤ reach → IsReadToStop line at reach end t
+  read_ended line at reach end s t r same le = (subst (IsRead line at reach end) (sym same) r, inl le)
+
+  pub read_stopped : (line : List ℕ) (at reach end : ℕ) (s t u : S) (b : Bool) → IsRead line at reach end s → u ≡ t → Moves (step s (get_or line reach 0)) s t b → b ≡ false → IsReadToStop line at reach end u
+  read_stopped line at reach end s t u b r same moves refused =
+      let w = step_refused (step s (get_or line reach 0)) s t b moves refused in
+      let back : u ≡ s = same ∙ w.1 in
+      (subst (IsRead line at reach end) (sym back) r, inr (subst (λ (v : S). step v (get_or line reach 0) ≡ None) (sym back) w.0))
 
   beyond : Machine → (line : List ℕ) (at reach end : ℕ) (s : S) → IsRead line at reach end s → Stops line reach s → (j : ℕ) → reach < j → j ≤ length line → BeginsSpelling Spells (slice_range line at j) → ⊥
   beyond m line at reach end s r (inl short) j lt le begins = omega arith
