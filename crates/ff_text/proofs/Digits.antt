@@ -207,3 +207,7 @@ pub number_nothing : (line : List ℕ) (at end n : ℕ) → IsReadNumber line at
 number_nothing line at end n r stops here =
     let none : nat_lt 0 (end - at) ≡ false = le-ltb 0 (end - at) (omega arith) in
     subst (λ (i : ℕ). IsReadFault SpellsNumber line at (Syntax i)) here (read_nothing number_step (0, 0) number_whole number_last SpellsNumber number_machine line at end end (end - at, n) r stops (rw none refl))
+
+-- bytes spell one number at most
+pub same_number : (m n : ℕ) (g : List ℕ) → SpellsNumber m g → SpellsNumber n g → m ≡ n
+same_number m n g first second = sym first.value ∙ second.value

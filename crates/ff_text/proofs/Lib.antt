@@ -9,3 +9,4 @@ pub mod ReadTerms
 pub mod ElementSound
 pub mod ElementComplete
 pub mod ReadElement
+pub mod Written

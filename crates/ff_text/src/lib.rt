@@ -4,6 +4,7 @@
 
 mod element;
 pub mod fault;
+pub mod laws;
 pub mod number;
 pub mod print;
 pub mod read;
