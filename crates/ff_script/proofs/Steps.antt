@@ -322,12 +322,11 @@ factor_none bytes none e rest f = none e (length f.front) (omega arith) (front_f
 slash_behind : (den : Option (List Term)) (tail : List ℕ) → den ≢ None → SpellsTail den tail → (gap more : List ℕ) × Blanks gap × (tail ≡ gap ++ (47 ∷ more))
 slash_behind None tail some h = absurd (some refl)
 slash_behind (Some d) tail some h =
-    let mark : h.first.back ≡ 47 ∷ h.first.second.back = h.first.second.whole ∙ ap (λ (t : List ℕ). t ++ h.first.second.back) h.first.second.first in
-    (
+    let mark : h.first.back ≡ 47 ∷ h.first.second.back = h.first.second.whole ∙ ap (λ (t : List ℕ). t ++ h.first.second.back) h.first.second.first in (
       h.first.front,
       h.first.second.back ++ h.back,
       h.first.first,
-      h.whole ∙ ap (λ (t : List ℕ). t ++ h.back) (h.first.whole ∙ ap (λ (t : List ℕ). h.first.front ++ t) mark) ∙ append_assoc h.first.front (47 ∷ h.first.second.back) h.back
+      h.whole ∙ ap (λ (t : List ℕ). t ++ h.back) (h.first.whole ∙ ap (λ (t : List ℕ). h.first.front ++ t) mark) ∙ append_assoc h.first.front (47 ∷ h.first.second.back) h.back,
     )
 
 pub some_den : (den : Option (List Term)) (b : Bool) → b ≡ is_some den → b ≡ true → den ≢ None
