@@ -1,0 +1,12 @@
+pub mod Machines
+pub mod Digits
+pub mod Gathered
+pub mod Texts
+pub mod Marks
+pub mod ScanSound
+pub mod ScanComplete
+pub mod ReadTerms
+pub mod ElementSound
+pub mod ElementComplete
+pub mod ReadElement
+pub mod Written
