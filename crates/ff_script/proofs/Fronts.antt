@@ -48,15 +48,14 @@ fronts_from part [] core end starts h blanks = (
     edge = refl;
     apart = λ e. gap_no_word end [] blanks refl;
   },
-  refl
+  refl,
 )
 fronts_from part (next ∷ parts) core end starts h blanks =
     let gap : List ℕ = h.second.front in
     let back : List ℕ = h.second.back in
     let begin = parts_begin next parts back h.second.second in
     let is : back ++ end ≡ next ++ (begin.0 ++ end) = ap (λ (t : List ℕ). t ++ end) begin.1 ∙ append_assoc next begin.0 end in
-    let joined : core ≡ part ++ (gap ++ back) = h.whole ∙ ap (λ (t : List ℕ). t ++ h.back) h.first ∙ ap (λ (t : List ℕ). part ++ t) h.second.whole in
-    (
+    let joined : core ≡ part ++ (gap ++ back) = h.whole ∙ ap (λ (t : List ℕ). t ++ h.back) h.first ∙ ap (λ (t : List ℕ). part ++ t) h.second.whole in (
       back ++ end,
       record {
         front = part;
@@ -70,7 +69,7 @@ fronts_from part (next ∷ parts) core end starts h blanks =
           | inr other ↦ gap_no_word gap (back ++ end) h.second.first.blanks (ap begins_with_word is ∙ word_begins next (begin.0 ++ end) starts.1.0 ∙ other)
         ];
       },
-      fronts_from next parts back end starts.1 h.second.second blanks
+      fronts_from next parts back end starts.1 h.second.second blanks,
     )
 
 -- parts with gaps between them, and blanks behind
@@ -85,10 +84,10 @@ gap_between : (part next : List ℕ) (bytes rest tail : List ℕ) (f : IsFront (
 gap_between part next bytes rest tail f is = record {
   blanks = f.blanks;
   apart = λ both none.
-    let each = and_parts (ends_with_word part) (begins_with_word next) both in
-    let ended : begins_with_word (f.gap ++ rest) ≡ false = f.apart (ap ends_with_word f.part ∙ each.0) in
-    let here : f.gap ++ rest ≡ next ++ tail = ap (λ (t : List ℕ). t ++ rest) none ∙ is in
-    both_ways (begins_with_word (next ++ tail)) (ap begins_with_word (sym here) ∙ ended) (word_goes_on next tail each.1);
+      let each = and_parts (ends_with_word part) (begins_with_word next) both in
+      let ended : begins_with_word (f.gap ++ rest) ≡ false = f.apart (ap ends_with_word f.part ∙ each.0) in
+      let here : f.gap ++ rest ≡ next ++ tail = ap (λ (t : List ℕ). t ++ rest) none ∙ is in
+      both_ways (begins_with_word (next ++ tail)) (ap begins_with_word (sym here) ∙ ended) (word_goes_on next tail each.1);
 }
 
 pub parts_from : (part : List ℕ) (parts : List (List ℕ)) (bytes : List ℕ) → AreFronts (part ∷ parts) bytes → HasParts (part ∷ parts) bytes
@@ -184,11 +183,10 @@ statement_parts (CurveOf f) bytes h =
     (codes "curve" ∷ f_front.front ∷ [], (f_front.front, refl, f_front.part), (h.rest, subst (λ (w : List ℕ). IsFront (Is w) bytes h.rest) h.behind.0 h.front, ([], front_itself (SpellsTerms true f) h.rest [] f_front, refl)))
 statement_parts (Mul a b) bytes h =
     let left = h.behind.1.1 in
-    let right = h.behind.1.2 in
-    (
+    let right = h.behind.1.2 in (
       codes "mul" ∷ left.front ∷ right.front ∷ [],
       (left.front, right.front, refl, left.part, right.part),
-      (h.rest, subst (λ (w : List ℕ). IsFront (Is w) bytes h.rest) h.behind.0 h.front, (h.behind.1.0, front_itself (SpellsFactor a) h.rest h.behind.1.0 left, ([], front_itself (SpellsFactor b) h.behind.1.0 [] right, refl)))
+      (h.rest, subst (λ (w : List ℕ). IsFront (Is w) bytes h.rest) h.behind.0 h.front, (h.behind.1.0, front_itself (SpellsFactor a) h.rest h.behind.1.0 left, ([], front_itself (SpellsFactor b) h.behind.1.0 [] right, refl))),
     )
 
 -- ---- lines
@@ -197,10 +195,9 @@ core_at : (s : Statement) (parts : List (List ℕ)) (core end : List ℕ) → Ar
 core_at s [] core end named joined blanks = absurd (no_parts s named)
 core_at s (part ∷ parts) core end named joined blanks =
     let starts = parts_start s (part ∷ parts) named in
-    let begin = parts_begin part parts core joined in
-    (
+    let begin = parts_begin part parts core joined in (
       statement_at s (part ∷ parts) (core ++ end) named (fronts_from part parts core end starts joined blanks),
-      ap begins_with_blank (ap (λ (t : List ℕ). t ++ end) begin.1 ∙ append_assoc part begin.0 end) ∙ starts_edge part (begin.0 ++ end) starts.0
+      ap begins_with_blank (ap (λ (t : List ℕ). t ++ end) begin.1 ∙ append_assoc part begin.0 end) ∙ starts_edge part (begin.0 ++ end) starts.0,
     )
 
 -- a line that spells a statement has it behind its first blanks

@@ -224,8 +224,8 @@ element_bracketed e bytes h =
     let entries = w.second in
     let last = entries.second in
     let brackets : h.front ≡ codes "[" ++ (w.front ++ (entries.front ++ (last.front ++ codes "]"))) =
-      h.first.whole ∙ ap (λ (t : List ℕ). t ++ h.first.back) h.first.first
-      ∙ ap (λ (t : List ℕ). codes "[" ++ t) (w.whole ∙ ap (λ (t : List ℕ). w.front ++ t) (entries.whole ∙ ap (λ (t : List ℕ). entries.front ++ t) (last.whole ∙ ap (λ (t : List ℕ). last.front ++ t) last.second))) in
+    h.first.whole ∙ ap (λ (t : List ℕ). t ++ h.first.back) h.first.first
+    ∙ ap (λ (t : List ℕ). codes "[" ++ t) (w.whole ∙ ap (λ (t : List ℕ). w.front ++ t) (entries.whole ∙ ap (λ (t : List ℕ). entries.front ++ t) (last.whole ∙ ap (λ (t : List ℕ). last.front ++ t) last.second))) in
     let solid : IsSolid entries.front = joined_solid (SpellsTerms false) (codes ",") e.entries entries.front ((refl, refl), tt) (terms_solid false) entries.first in
     record {
       inner = w.front ++ (entries.front ++ last.front);

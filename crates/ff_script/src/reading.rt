@@ -67,11 +67,11 @@ fn next_number(bytes: &[u8]) -> Option<(u32, &[u8])>
         Ok(read) => read,
         Err(_) => return None,
     };
-    let rest = &bytes[end..];
-    if begins_with_word(rest) {
+    let behind = &bytes[end..];
+    if begins_with_word(behind) {
         return None;
     }
-    Some((n, behind_blanks(rest)))
+    Some((n, behind_blanks(behind)))
 }
 
 /// The numbers that the bytes are, with blanks between them.
