@@ -24,6 +24,9 @@ use Rattle.ff_text.proofs.Digits.{IsDigit, digit_of_value}
 use Rattle.ff_text.proofs.Marks.{mark-blank, mark-digit}
 use Rattle.ff_text.proofs.ScanSound.{scan_at, scanned, whole_scan}
 
+regrouped : {A : Type 0} (front : List A) (u v : A) (more all : List A) → u ≡ v → all ≡ (front ++ u ∷ []) ++ more → all ≡ front ++ v ∷ more
+regrouped {A = A} front u v more all same whole = whole ∙ append_assoc front (u ∷ []) more ∙ ap (λ (w : A). front ++ w ∷ more) same
+
 abbrev pub is_whole_scan : Scan → Bool
 is_whole_scan s = is_whole_place s.place
 
@@ -315,7 +318,7 @@ module _ (rules : Rules) where
         done = rest.done;
         leads = scan_parts (scan_at ts m fs p) (scan_at (ts ++ term_of m (fs ++ f ∷ []) ∷ []) t.minus one.front one.place) (scan_at rest.terms rest.minus rest.front rest.place) g s
             (scan_parts (scan_at ts m fs p) (scan_at (ts ++ term_of m (fs ++ f ∷ []) ∷ []) t.minus [] Signed) (scan_at (ts ++ term_of m (fs ++ f ∷ []) ∷ []) t.minus one.front one.place) s.front part sign one.leads) rest.leads;
-        whole = rest.whole ∙ append_assoc (ts ++ term_of m (fs ++ f ∷ []) ∷ []) (term_of t.minus (one.front ++ one.last ∷ []) ∷ []) more ∙ ap (λ (u : Term). (ts ++ term_of m (fs ++ f ∷ []) ∷ []) ++ u ∷ more) same;
+        whole = regrouped (ts ++ term_of m (fs ++ f ∷ []) ∷ []) (term_of t.minus (one.front ++ one.last ∷ [])) t more (rest.terms ++ term_of rest.minus (rest.front ++ rest.last ∷ []) ∷ []) same rest.whole;
       }
 
   leads_first : (m : Bool) (g : List ℕ) → rules.signs ≡ true → FirstSign m g → (p : Place) × ScanLeads begun g (scan_at [] m [] p) × IsReady p
@@ -341,7 +344,7 @@ module _ (rules : Rules) where
         done = rest.done;
         leads = scan_parts begun (scan_at [] t.minus one.front one.place) (scan_at rest.terms rest.minus rest.front rest.place) g s
             (scan_parts begun (scan_at [] t.minus [] sign.0) (scan_at [] t.minus one.front one.place) s.front part sign.1 one.leads) rest.leads;
-        whole = rest.whole ∙ ap (λ (u : Term). u ∷ ts) same;
+        whole = regrouped [] (term_of t.minus (one.front ++ one.last ∷ [])) t ts (rest.terms ++ term_of rest.minus (rest.front ++ rest.last ∷ []) ∷ []) same rest.whole;
       }
 
   pub last_ended : (s : Scan) (p : Place) (f : Factor) → ended p ≡ Some f → last_at s p ≡ Some (s.terms ++ term_of s.minus (s.factors ++ f ∷ []) ∷ [])
