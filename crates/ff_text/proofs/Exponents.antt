@@ -1,13 +1,15 @@
 -- The exponents of a polynomial that is spelled in few bytes are small.
-use Rattle.std.proofs.Common.{◌≡◌, ℕ, ◌+◌, ◌*◌, ◌^◌, ◌<◌, ◌≤◌, Bool, true, false, List, [], ◌∷◌, ◌++◌, length, codes, All, refl, sym, ap, ◌∙◌, subst, inl, inr, arith}
+use Rattle.std.proofs.Common.{◌≡◌, ℕ, ◌+◌, ◌-◌, ◌*◌, ◌^◌, ◌<◌, ◌≤◌, Bool, List, [], ◌∷◌, length, drop, codes, All, refl, ap, ◌∙◌, inl, inr, arith}
 use Rattle.std.specs.Prelude.{sum_by}
-use Rattle.std.proofs.lemmas.List.{length-append}
+use Rattle.std.specs.List.{slice_range}
+use Rattle.std.proofs.lemmas.List.{length-append, length-drop, length-take-le}
 use Rattle.std.proofs.lemmas.List.Sums.{sum_by-cons}
 use Rattle.std.proofs.lemmas.List.Elements.{All-nil, All-cons}
 use Rattle.ff_text.specs.declared.terms.Factor.{Factor}
 use Rattle.ff_text.specs.declared.terms.Factor.TheVariants.{Code, X, Y}
 use Rattle.ff_text.specs.declared.terms.Term.{Term}
-use Rattle.ff_text.specs.Spelling.{Then, Is, Around, Each, Joined, SpellsNumber, SpellsPower, SpellsFactor, SpellsFactors, FirstSign, NextSign, SpellsFirst, SpellsNext, SpellsTerms}
+use Rattle.ff_text.specs.Spelling.{Then, Around, Each, SpellsPower, SpellsFactor, SpellsFactors, SpellsNext, SpellsTerms}
+use Rattle.ff_text.specs.Reading.{IsLongestSpelling}
 use Rattle.ff_text.specs.Values.{exponent_of_x, exponent_of_y, HasSmallExponents}
 use Rattle.ff_text.proofs.Digits.{number_small}
 
@@ -75,3 +77,12 @@ module _ (y : Bool) where
   terms_small (t ∷ ts) g s short =
       let long = length_then g s in
       All-cons HasSmallExponents t ts (term_small t s.front (omega arith) s.first) (next_terms_small ts s.back (omega arith) s.second)
+
+  -- a polynomial that is read in a short line
+  pub read_small : (line : List ℕ) (at : ℕ) (v : List Term) (end : ℕ) → IsLongestSpelling (SpellsTerms y) line at v end → length line < 2 ^ 34 → All HasSmallExponents v
+  read_small line at v end r short =
+      let within = r.within in
+      let from = r.from in
+      let left : length (drop at line) ≡ length line - at = length-drop at line in
+      let cut : length (slice_range line at end) ≡ end - at = length-take-le (end - at) (drop at line) (omega arith) in
+      terms_small v (slice_range line at end) r.spelled (omega arith)

@@ -5,6 +5,7 @@ use crate::{
     read_terms_in_x,
 };
 use ff_fields::prime::PrimeField;
+use ff_poly::Terms;
 use std::alloc::Global;
 use std::process::Abort;
 use std::test::Fail;
@@ -240,14 +241,30 @@ fn numbers(rt: HostRuntime) {
     }
 }
 
+/// The sum of the terms of a short line.
+fn sum_of(alloc: Global, k: &PrimeField, line: &[u8]) -> Result<Terms, TextFault> {
+    if line.len() > 100 {
+        return Err(TextFault::Syntax(100));
+    }
+    let (terms, _) = read_terms(alloc, line, 0)?;
+    collect(alloc, k, &terms)
+}
+
 #[test]
-fn values(rt: HostRuntime) -> Result<(), Fail> {
+fn sums(rt: HostRuntime) -> Result<(), Fail> {
     let alloc = rt.alloc();
     let k = PrimeField::new(7)?;
-    let (terms, _) = read_terms(alloc, b"-x+2", 0)?;
-    let sum = collect(alloc, &k, &terms)?;
+    let sum = sum_of(alloc, &k, b"-x+2")?;
     assert_eq!(rt; sum.list(), [(0, 0, 2), (0, 1, 6)].as_slice());
-    let (terms, _) = read_terms(alloc, b"3*x - 9*8", 0)?;
-    assert!(rt; collect(alloc, &k, &terms).is_err());
+    let sum = sum_of(alloc, &k, b"2*x*y*3*x^2 - y*x^3 + x - 1*x")?;
+    assert_eq!(rt; sum.list(), [(1, 3, 5)].as_slice());
+    assert_eq!(rt;
+        sum_of(alloc, &k, b"9").err(),
+        Some(TextFault::CodeRange(9))
+    );
+    assert_eq!(rt;
+        sum_of(alloc, &k, b"3*x - 9*8").err(),
+        Some(TextFault::CodeRange(9))
+    );
     Ok(())
 }
