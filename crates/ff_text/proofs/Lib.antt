@@ -10,3 +10,4 @@ pub mod ElementSound
 pub mod ElementComplete
 pub mod ReadElement
 pub mod Written
+pub mod Exponents

@@ -210,7 +210,7 @@ module _ {S V : Type 0} (step : S → ℕ → Option S) (start : S) (whole : S �
       let c = m.complete begins.0 (slice_range line at j ++ begins.1) begins.2 in
       let from = r.from in
       let stopped : run step start (slice_range line at reach ++ get_or line reach 0 ∷ []) ≡ None =
-        run-append step start (slice_range line at reach) (get_or line reach 0 ∷ []) ∙ ap (λ o. option_and_then (λ u. run step u (get_or line reach 0 ∷ [])) o) r.state ∙ ap (λ o. option_and_then (λ u. Some u) o) stops in
+      run-append step start (slice_range line at reach) (get_or line reach 0 ∷ []) ∙ ap (λ o. option_and_then (λ u. run step u (get_or line reach 0 ∷ [])) o) r.state ∙ ap (λ o. option_and_then (λ u. Some u) o) stops in
       let dead : run step start (slice_range line at (reach + 1)) ≡ None = ap (run step start) (slice_more line at reach from (omega arith)) ∙ stopped in
       let longer : run step start (slice_range line at j) ≡ None = ap (run step start) (slice_split line at (reach + 1) j (omega arith) (omega arith)) ∙ dead_then step start (slice_range line at (reach + 1)) (take (j - (reach + 1)) (drop (reach + 1 - at) (drop at line))) dead in
       let all : run step start (slice_range line at j ++ begins.1) ≡ None = dead_then step start (slice_range line at j) begins.1 longer in
@@ -241,14 +241,15 @@ module _ {S V : Type 0} (step : S → ℕ → Option S) (start : S) (whole : S �
       let none : IsNoneYet line at reach = let P : Option V → Type 0 = λ o. MatchOption o (IsNoneYet line at reach) (IsLast line at reach end) in subst P e r.value in
       let more = m.live (slice_range line at reach) s r.state in
       let leads = leads_then step start s more.1 (slice_range line at reach) more.0 r.state more.2 in
-      let found = m.sound (slice_range line at reach ++ more.0) more.1 leads more.3 in
-      (λ w j low high spelled. further w j low high (cases_lt reach j) spelled none,
-       record {
-         from = r.from;
-         within = r.within;
-         begins = (found.0, more.0, found.2);
-         furthest = beyond m line at reach end s r stops;
-       })
+      let found = m.sound (slice_range line at reach ++ more.0) more.1 leads more.3 in (
+        λ w j low high spelled. further w j low high (cases_lt reach j) spelled none,
+        record {
+          from = r.from;
+          within = r.within;
+          begins = (found.0, more.0, found.2);
+          furthest = beyond m line at reach end s r stops;
+        },
+      )
     where
       further : (w : V) (j : ℕ) → at ≤ j → j ≤ length line → (reach < j) ⊎ (j ≤ reach) → Spells w (slice_range line at j) → IsNoneYet line at reach → ⊥
       further w j low high (inr early) spelled none = none w j low early spelled

@@ -55,12 +55,7 @@ pub fn read_terms_in_x(
     terms(alloc, false, line, at)
 }
 
-fn terms(
-    alloc: Global,
-    y: bool,
-    line: &[u8],
-    at: usize,
-) -> Result<(TermList, usize), TextFault>
+fn terms(alloc: Global, y: bool, line: &[u8], at: usize) -> Result<(TermList, usize), TextFault>
     requires { at ≤ length line.now }
     ensures found { IfOk result (λ r. IsLongestSpelling (SpellsTerms y) line.now at r.0 r.1) }
     ensures fault { IfErr result (IsReadFault (SpellsTerms y) line.now at) }
