@@ -1,10 +1,9 @@
 -- What is spelled as an element is read.
-use Rattle.std.proofs.Common.{◌≡◌, ℕ, ◌+◌, ◌<◌, ◌≤◌, Bool, true, false, cond, eqb, List, [], ◌∷◌, ◌++◌, codes, Option, Some, None, refl, sym, ap, ◌∙◌, subst, append_assoc, ◌⊎◌, inl, inr}
+use Rattle.std.proofs.Common.{◌≡◌, ℕ, Bool, true, false, cond, eqb, List, [], ◌∷◌, ◌++◌, codes, Option, Some, None, refl, sym, ap, ◌∙◌, subst, append_assoc, inl, inr}
 use Rattle.std.specs.Prelude.{is_some}
 use Rattle.std.specs.Option.{option_map, option_to_list}
 use Rattle.std.proofs.lemmas.Bool.{eqb-true, cases_Bool}
 use Rattle.std.proofs.lemmas.List.{append-nil}
-use Rattle.ff_text.specs.declared.terms.Factor.{Factor}
 use Rattle.ff_text.specs.declared.terms.Factor.TheVariants as factors
 use Rattle.ff_text.specs.declared.terms.Term.{Term}
 use Rattle.ff_text.specs.declared.terms.ElemText.{ElemText}
@@ -15,9 +14,9 @@ use Rattle.ff_text.specs.declared.scan.Scan.{Scan}
 use Rattle.ff_text.specs.declared.element.Stage.{Stage}
 use Rattle.ff_text.specs.declared.element.Stage.TheVariants.{Outside, Opened, Entry, Closed, Spaced, Slash, OneTerm, Paren, Inner, Done}
 use Rattle.ff_text.specs.declared.element.ElementScan.{ElementScan}
-use Rattle.ff_text.specs.Spelling.{Then, Is, is_blank, Blanks, Around, Within, Each, Joined, SpellsFactors, SpellsTerms, SpellsOneTerm, SpellsDen, SpellsTail, SpellsEntries, SpellsElement}
+use Rattle.ff_text.specs.Spelling.{Then, Is, is_blank, Blanks, Around, Within, Each, SpellsTerms, SpellsOneTerm, SpellsDen, SpellsTail, SpellsEntries, SpellsElement}
 use Rattle.ff_text.specs.Scanning.{mark_of, term_of, ended, after_mark, scan_step, begun, is_whole_place, last_terms}
-use Rattle.ff_text.specs.ElementScanning.{in_x, at_stage, opened, inside, before, entry_ended, in_entry, behind_entries, behind_slash, in_den, stage_step, element_step, outside, is_whole_stage, over, last_at_stage, last_element}
+use Rattle.ff_text.specs.ElementScanning.{in_x, inside, entry_ended, stage_step, element_step, outside, is_whole_stage, over, last_element}
 use Rattle.ff_text.proofs.Machines.{Leads, leads_then, leads_one, first_step, IsMachine}
 use Rattle.ff_text.proofs.Marks.{mark-blank}
 use Rattle.ff_text.proofs.ScanComplete.{whole_ended, scan_gap, leads_term, leads_poly, last_ended, kept_scan, live_at}

@@ -1,13 +1,11 @@
 -- What is read of an element is spelled so.
-use Rattle.std.proofs.Common.{◌≡◌, ℕ, ◌+◌, ◌<◌, ◌≤◌, Bool, true, false, cond, eqb, List, [], ◌∷◌, ◌++◌, codes, Option, Some, None, refl, sym, ap, ◌∙◌, subst, append_assoc, ◌⊎◌, inl, inr}
+use Rattle.std.proofs.Common.{◌≡◌, ℕ, Bool, true, false, cond, eqb, List, [], ◌∷◌, ◌++◌, codes, Option, Some, None, refl, sym, ap, ◌∙◌, subst, append_assoc, ◌⊎◌, inl, inr}
 use Rattle.std.specs.Prelude.{is_some}
 use Rattle.std.specs.Option.{option_map, option_to_list}
 use Rattle.std.proofs.lemmas.Bool.{eqb-true}
-use Rattle.std.proofs.lemmas.List.{append-nil}
 use Rattle.ff_text.specs.declared.terms.Factor.{Factor}
 use Rattle.ff_text.specs.declared.terms.Term.{Term}
 use Rattle.ff_text.specs.declared.terms.ElemText.{ElemText}
-use Rattle.ff_text.specs.declared.scan.Rules.{Rules}
 use Rattle.ff_text.specs.declared.scan.Mark.{Mark}
 use Rattle.ff_text.specs.declared.scan.Mark.TheVariants as marks
 use Rattle.ff_text.specs.declared.scan.Place.{Place}
@@ -16,11 +14,11 @@ use Rattle.ff_text.specs.declared.scan.Scan.{Scan}
 use Rattle.ff_text.specs.declared.element.Stage.{Stage}
 use Rattle.ff_text.specs.declared.element.Stage.TheVariants.{Outside, Opened, Entry, Closed, Spaced, Slash, OneTerm, Paren, Inner, Done}
 use Rattle.ff_text.specs.declared.element.ElementScan.{ElementScan}
-use Rattle.ff_text.specs.Spelling.{Then, Is, is_blank, Blanks, Around, Within, Each, Joined, SpellsFactors, SpellsTerms, SpellsOneTerm, SpellsDen, SpellsTail, SpellsEntries, SpellsElement}
-use Rattle.ff_text.specs.Scanning.{mark_of, term_of, ended, moved, after_star, after_mark, scan_step, begun, is_whole_place, last_at, last_terms, HasRoom}
-use Rattle.ff_text.specs.ElementScanning.{in_x, at_stage, opened, inside, before, entry_ended, in_entry, behind_entries, behind_slash, in_den, stage_step, element_step, outside, is_whole_stage, over, last_at_stage, last_element}
+use Rattle.ff_text.specs.Spelling.{Then, Is, is_blank, Blanks, Around, Within, SpellsTerms, SpellsOneTerm, SpellsDen, SpellsEntries, SpellsElement}
+use Rattle.ff_text.specs.Scanning.{mark_of, term_of, ended, moved, after_mark, scan_step, begun, is_whole_place, last_terms, HasRoom}
+use Rattle.ff_text.specs.ElementScanning.{in_x, opened, inside, entry_ended, stage_step, element_step, outside, is_whole_stage, over, last_at_stage}
 use Rattle.ff_text.proofs.Machines.{Leads, leads_then, leads_one, along}
-use Rattle.ff_text.proofs.Texts.{then_of, then_more, then_map, then_map_first, then_left, then_right, then_nothing, blanks_push, around_push, around_of, then_blanks, JoinedFront, joined_push}
+use Rattle.ff_text.proofs.Texts.{then_of, then_more, then_map_first, then_right, then_nothing, blanks_push, around_push, around_of, then_blanks, joined_push}
 use Rattle.ff_text.proofs.ScanSound.{IsScannedAt, scanned, whole_factors, room_at, terms_done}
 use Rattle.ff_text.proofs.ScanComplete.{last_ended}
 

@@ -1,8 +1,8 @@
 -- What is spelled as a polynomial is read.
-use Rattle.std.proofs.Common.{◌≡◌, ℕ, suc, ◌+◌, ◌-◌, ◌*◌, ◌<◌, ◌≤◌, Bool, true, false, cond, nat_lt, List, [], ◌∷◌, ◌++◌, length, codes, Option, Some, None, refl, sym, ap, ◌∙◌, subst, append_assoc, ◌⊎◌, inl, inr, arith}
-use Rattle.std.specs.Prelude.{IsTrue, is_some}
+use Rattle.std.proofs.Common.{◌≡◌, ℕ, suc, ◌+◌, ◌-◌, ◌*◌, ◌≤◌, Bool, true, false, cond, nat_lt, List, [], ◌∷◌, ◌++◌, length, codes, Option, Some, None, refl, sym, ap, ◌∙◌, subst, append_assoc, inl, inr, arith}
+use Rattle.std.specs.Prelude.{is_some}
 use Rattle.std.specs.Char.{digit_value}
-use Rattle.std.specs.Str.Parse.{AllDigits, digits_value, digits_value_after}
+use Rattle.std.specs.Str.Parse.{AllDigits, digits_value_after}
 use Rattle.std.specs.Option.{option_map}
 use Rattle.std.proofs.lemmas.Bool.{lt-ltb}
 use Rattle.std.proofs.lemmas.List.{append-nil}
@@ -17,7 +17,7 @@ use Rattle.ff_text.specs.declared.scan.Kind.TheVariants as kinds
 use Rattle.ff_text.specs.declared.scan.Place.{Place}
 use Rattle.ff_text.specs.declared.scan.Place.TheVariants.{Begin, Signed, Starred, Letter, Spaced, Raised, Digits, Behind}
 use Rattle.ff_text.specs.declared.scan.Scan.{Scan}
-use Rattle.ff_text.specs.Spelling.{Then, Is, is_blank, Blanks, Around, Each, Joined, SpellsNumber, SpellsPower, SpellsFactor, SpellsFactors, FirstSign, NextSign, SpellsFirst, SpellsNext, SpellsTerms}
+use Rattle.ff_text.specs.Spelling.{Then, is_blank, Blanks, Around, Each, SpellsNumber, SpellsPower, SpellsFactor, SpellsFactors, FirstSign, NextSign, SpellsNext, SpellsTerms}
 use Rattle.ff_text.specs.Scanning.{mark_of, factor_of, term_of, after_blank, after_digit, after_letter, after_raise, ended, moved, after_star, after_sign, after_minus, after_mark, scan_step, begun, is_whole_place, some_terms, last_at, last_terms}
 use Rattle.ff_text.proofs.Machines.{Leads, leads_then, leads_one, IsMachine}
 use Rattle.ff_text.proofs.Digits.{IsDigit, digit_of_value}

@@ -1,5 +1,5 @@
 -- What is read of a polynomial is spelled so.
-use Rattle.std.proofs.Common.{◌≡◌, ℕ, suc, ◌+◌, ◌-◌, ◌*◌, ◌<◌, ◌≤◌, Bool, true, false, cond, nat_lt, List, [], ◌∷◌, ◌++◌, length, codes, Option, Some, None, refl, sym, ap, ◌∙◌, subst, append_assoc, ◌⊎◌, inl, inr, arith}
+use Rattle.std.proofs.Common.{◌≡◌, ℕ, ◌+◌, ◌-◌, ◌*◌, ◌<◌, Bool, true, false, cond, nat_lt, List, [], ◌∷◌, ◌++◌, length, codes, Option, Some, None, refl, sym, ap, ◌∙◌, subst, append_assoc, ◌⊎◌, inl, inr, arith}
 use Rattle.std.specs.Prelude.{IsTrue}
 use Rattle.std.specs.Option.{option_map}
 use Rattle.std.proofs.lemmas.Bool.{ltb-true}
@@ -14,8 +14,8 @@ use Rattle.ff_text.specs.declared.scan.Kind.TheVariants as kinds
 use Rattle.ff_text.specs.declared.scan.Place.{Place}
 use Rattle.ff_text.specs.declared.scan.Place.TheVariants.{Begin, Signed, Starred, Letter, Spaced, Raised, Digits, Behind}
 use Rattle.ff_text.specs.declared.scan.Scan.{Scan}
-use Rattle.ff_text.specs.Spelling.{Then, Is, is_blank, Blanks, Around, Each, Joined, SpellsNumber, SpellsPower, SpellsFactor, SpellsFactors, FirstSign, NextSign, SpellsFirst, SpellsNext, SpellsTerms}
-use Rattle.ff_text.specs.Scanning.{mark_of, factor_of, term_of, after_blank, after_digit, after_letter, after_raise, ended, moved, after_star, after_sign, after_minus, after_mark, scan_step, begun, is_whole_place, some_terms, last_at, last_terms, HasRoom}
+use Rattle.ff_text.specs.Spelling.{Then, Is, is_blank, Blanks, Around, Each, SpellsNumber, SpellsFactor, SpellsFactors, FirstSign, NextSign, SpellsNext, SpellsTerms}
+use Rattle.ff_text.specs.Scanning.{mark_of, factor_of, term_of, after_blank, after_digit, after_letter, after_raise, ended, moved, after_star, after_sign, after_minus, after_mark, scan_step, begun, is_whole_place, last_at, HasRoom}
 use Rattle.ff_text.proofs.Machines.{Leads, along}
 use Rattle.ff_text.proofs.Digits.{IsDigit, number_one, number_more, number_room}
 use Rattle.ff_text.proofs.Texts.{then_of, then_more, then_map, then_map_first, then_left, then_right, then_nothing, nothing_then, from_nothing_then, blanks_push, blanks_one, around_push, around_of, then_blanks, each_push, JoinedFront, joined_push}

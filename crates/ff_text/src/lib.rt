@@ -1,4 +1,8 @@
 //! Texts of numbers, polynomials and elements: how they are written in scripts, and how they are printed.
+//!
+//! A spelling is what may be written, with blanks and signs as the writer likes; a value has many. The relations of
+//! specs/Spelling.antt say which. The readers of `read` read them, `print` prints each value in one way, and `collect`
+//! makes a polynomial over a field of what was read.
 #![tactic(auto)]
 
 mod element;
