@@ -1,5 +1,5 @@
 -- The spelling of a line, read from left to right.
-use Rattle.std.proofs.Common.{◌≡◌, ◌≢◌, ℕ, Bool, true, false, ◌&&◌, List, [], ◌∷◌, ◌++◌, codes, Option, Some, None, refl, sym, ap, subst, ◌∙◌, append_assoc, ◌⊎◌, inl, inr}
+use Rattle.std.proofs.Common.{◌≡◌, ℕ, true, false, List, [], ◌∷◌, ◌++◌, codes, refl, sym, ap, subst, ◌∙◌, append_assoc, inl, inr}
 use Rattle.std.specs.List.{AllByRecursion}
 use Rattle.std.proofs.lemmas.Bool.{cases_Bool, both_ways, and_parts, and_from}
 use Rattle.std.proofs.lemmas.List.{append-nil}
@@ -7,10 +7,10 @@ use Rattle.ff_text.specs.Spelling.{Is, Blanks, SpellsNumber, SpellsTerms}
 use Rattle.ff_text.specs.declared.terms.ElemText.{ElemText}
 use Rattle.ff_script.specs.declared.script.Statement.{Statement}
 use Rattle.ff_script.specs.declared.script.Statement.TheVariants.{FieldOf, CurveOf, Mul}
-use Rattle.ff_script.specs.Grammar.{begins_with_word, ends_with_word, IsGap, SpellsParts, AreNumbers, numbers_of, SpellsFactor, ArePartsOf, SpellsStatement, SpellsLine}
+use Rattle.ff_script.specs.Grammar.{begins_with_word, ends_with_word, IsGap, SpellsParts, AreNumbers, numbers_of, SpellsPlain, ArePartsOf, SpellsLine}
 use Rattle.ff_script.specs.Reading.{behind_blanks, begins_with_blank, IsFront, AreNumbersAt, IsBehind}
 use Rattle.ff_script.proofs.Spans.{passed, blanks_passed, gap_no_word, some_gap_no_word, word_goes_on}
-use Rattle.ff_script.proofs.Spelled.{Starts, starts_before, starts_edge, number_solid, terms_solid, element_bracketed}
+use Rattle.ff_script.proofs.Spelled.{Starts, starts_edge, number_solid, terms_solid, element_bracketed}
 
 -- ---- parts from left to right
 
@@ -133,13 +133,13 @@ numbers_start [] parts h = subst (AllByRecursion Starts) (sym h) tt
 numbers_start (n ∷ ns) [] h = absurd h
 numbers_start (n ∷ ns) (part ∷ parts) h = ((number_solid n part h.0).starts, numbers_start ns parts h.1)
 
-pub factor_starts : (e : ElemText) (bytes : List ℕ) → SpellsFactor e bytes → Starts bytes
-factor_starts e bytes h = subst Starts (sym (element_bracketed e bytes h.element).whole) refl
+pub plain_starts : (e : ElemText) (bytes : List ℕ) → SpellsPlain e bytes → Starts bytes
+plain_starts e bytes h = subst Starts (sym (element_bracketed e bytes h.element).whole) refl
 
 pub parts_start : (s : Statement) (parts : List (List ℕ)) → ArePartsOf s parts → AllByRecursion Starts parts
 parts_start (FieldOf p tail) parts h = subst (AllByRecursion Starts) (sym h.1) (refl, numbers_start (p ∷ numbers_of tail) h.0 h.2)
 parts_start (CurveOf f) parts h = subst (AllByRecursion Starts) (sym h.1) (refl, ((terms_solid true f h.0 h.2).starts, tt))
-parts_start (Mul a b) parts h = subst (AllByRecursion Starts) (sym h.2) (refl, (factor_starts a h.0 h.3, (factor_starts b h.1 h.4, tt)))
+parts_start (Mul a b) parts h = subst (AllByRecursion Starts) (sym h.2) (refl, (plain_starts a h.0 h.3, (plain_starts b h.1 h.4, tt)))
 
 no_parts : (s : Statement) → ArePartsOf s [] → ⊥
 no_parts (FieldOf p tail) h = let e = h.1 in cc
@@ -167,9 +167,9 @@ statement_at (CurveOf f) parts bytes h fronts =
     record { word = codes "curve"; rest = at.0; front = at.1; behind = (refl, subst (IsFront (SpellsTerms true f) at.0) at.2.2 last) }
 statement_at (Mul a b) parts bytes h fronts =
     let at = subst (λ (p : List (List ℕ)). AreFronts p bytes) h.2 fronts in
-    let left : IsFront (SpellsFactor a) at.0 at.2.0 = front_as (Is h.0) (SpellsFactor a) at.0 at.2.0 (λ c e. subst (SpellsFactor a) (sym e) h.3) at.2.1 in
-    let right : IsFront (SpellsFactor b) at.2.0 at.2.2.0 = front_as (Is h.1) (SpellsFactor b) at.2.0 at.2.2.0 (λ c e. subst (SpellsFactor b) (sym e) h.4) at.2.2.1 in
-    record { word = codes "mul"; rest = at.0; front = at.1; behind = (refl, (at.2.0, left, subst (IsFront (SpellsFactor b) at.2.0) at.2.2.2 right)) }
+    let left : IsFront (SpellsPlain a) at.0 at.2.0 = front_as (Is h.0) (SpellsPlain a) at.0 at.2.0 (λ c e. subst (SpellsPlain a) (sym e) h.3) at.2.1 in
+    let right : IsFront (SpellsPlain b) at.2.0 at.2.2.0 = front_as (Is h.1) (SpellsPlain b) at.2.0 at.2.2.0 (λ c e. subst (SpellsPlain b) (sym e) h.4) at.2.2.1 in
+    record { word = codes "mul"; rest = at.0; front = at.1; behind = (refl, (at.2.0, left, subst (IsFront (SpellsPlain b) at.2.0) at.2.2.2 right)) }
 
 abbrev IsNamed : Statement → List ℕ → Type 0
 IsNamed s bytes = (parts : List (List ℕ)) × ArePartsOf s parts × AreFronts parts bytes
@@ -186,7 +186,7 @@ statement_parts (Mul a b) bytes h =
     let right = h.behind.1.2 in (
       codes "mul" ∷ left.front ∷ right.front ∷ [],
       (left.front, right.front, refl, left.part, right.part),
-      (h.rest, subst (λ (w : List ℕ). IsFront (Is w) bytes h.rest) h.behind.0 h.front, (h.behind.1.0, front_itself (SpellsFactor a) h.rest h.behind.1.0 left, ([], front_itself (SpellsFactor b) h.behind.1.0 [] right, refl))),
+      (h.rest, subst (λ (w : List ℕ). IsFront (Is w) bytes h.rest) h.behind.0 h.front, (h.behind.1.0, front_itself (SpellsPlain a) h.rest h.behind.1.0 left, ([], front_itself (SpellsPlain b) h.behind.1.0 [] right, refl))),
     )
 
 -- ---- lines

@@ -9,3 +9,4 @@ pub mod OneLine
 pub mod OneScript
 pub mod Printed
 pub mod TextLaws
+pub mod Writable

@@ -1,5 +1,5 @@
 -- What the lines so far came to, one line further.
-use Rattle.std.proofs.Common.{◌≡◌, ◌≢◌, ℕ, suc, Bool, true, false, ◌+◌, ◌<◌, ◌≤◌, List, [], ◌∷◌, ◌++◌, length, Option, Some, None, refl, sym, ap, subst, ◌∙◌, append_assoc, zero-add, arith, ◌⊎◌, inl, inr}
+use Rattle.std.proofs.Common.{◌≡◌, ◌≢◌, ℕ, suc, Bool, true, false, ◌+◌, ◌<◌, ◌≤◌, List, [], ◌∷◌, ◌++◌, length, Option, Some, None, refl, sym, ap, subst, ◌∙◌, append_assoc, zero-add, arith, inl, inr}
 use Rattle.std.specs.Prelude.{All}
 use Rattle.std.specs.Option.{is_some}
 use Rattle.std.proofs.lemmas.Bool.{both_ways}
@@ -9,7 +9,8 @@ use Rattle.ff_script.specs.declared.fault.ScriptFault.{ScriptFault}
 use Rattle.ff_script.specs.declared.fault.ScriptFault.TheVariants.{Syntax, Misplaced, Memory}
 use Rattle.ff_script.specs.declared.script.Statement.{Statement}
 use Rattle.ff_script.specs.Grammar.{SpellsLine, IsSkipped, IsInGrammar}
-use Rattle.ff_script.specs.Scripts.{lines_of, IsReadAs, MayFollow, AreInOrderFrom, IsInOrder, IsScript, IsLine, IsOutOfOrder, IsSyntaxFault, IsMisplaced, IsScriptFault, IsSoFar, IsLineFault}
+use Rattle.ff_script.specs.Scripts.{lines_of, IsReadAs, MayFollow, AreInOrderFrom, IsScript, IsOutOfOrder, IsSyntaxFault, IsMisplaced, IsScriptFault}
+use Rattle.ff_script.specs.Reading.{IsSoFar, IsLineFault}
 
 -- ---- lists of lines
 

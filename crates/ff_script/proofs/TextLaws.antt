@@ -1,5 +1,5 @@
 -- The laws of spelled texts, as the lemmas here take them.
-use Rattle.std.proofs.Common.{◌≡◌, ℕ, ◌<◌, true, List, arith}
+use Rattle.std.proofs.Common.{ℕ, ◌<◌, true, arith}
 use Rattle.std.specs.Prelude.{decimal}
 use Rattle.std.proofs.lemmas.Fmt.{decimal_is_IsNumeral, length-decimal-le}
 use Rattle.ff_text.specs.Spelling.{SpellsNumber, SpellsTerms}

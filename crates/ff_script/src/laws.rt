@@ -27,6 +27,11 @@ pub fn one_fault()
     ensures no_misplaced { (bytes : List ℕ) (ss : List Statement) (n : ℕ) → IsScript bytes ss → ¬ IsMisplaced bytes n }
 {}
 
+/// A law: a statement that a line spells can be written.
+pub fn spelled_is_writable()
+    ensures { (s : Statement) (line : List ℕ) → SpellsLine s line → IsWritable s }
+{}
+
 /// A law: a statement that can be written is spelled by its text, and the texts of such statements in order, each ended
 /// by a line feed, are a script of them. So each is read again as it was, and two with one text are equal.
 pub fn printed_is_read()

@@ -1,6 +1,6 @@
-use Rattle.std.proofs.Common.{◌≡◌, true, Err, refl}
+use Rattle.std.proofs.Common.{true, Err, refl}
 use Rattle.std.proofs.lemmas.Result.{err_from_is_err_and}
-use Rattle.ff_script.specs.Scripts.{IsScriptFault, IsMisplaced}
+use Rattle.ff_script.specs.Scripts.{IsScriptFault}
 use Rattle.ff_script.proofs.Steps.{nil_tested}
 use Rattle.ff_script.proofs.Progress.{line_fault, misplaced_taken, script_taken}
 use Rattle.ff_script.proofs.OneScript.{script_given, script_no_misplaced, same_script}
