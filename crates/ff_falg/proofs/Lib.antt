@@ -3,3 +3,5 @@ pub mod Vectors
 pub mod CodeFields
 pub mod UnitRows
 pub mod VectorAlgebra
+pub mod RowSteps
+pub mod PowerLaws

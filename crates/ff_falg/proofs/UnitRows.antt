@@ -1,5 +1,5 @@
 -- The unit rows, of which each row is the combination by its entries.
-use Rattle.std.proofs.Common.{◌≡◌, ℕ, zero, suc, ◌<◌, List, [], ◌∷◌, length, get_or, map, replicate, All, refl, ap, ap₂, ◌∙◌, arith}
+use Rattle.std.proofs.Common.{◌≡◌, ℕ, zero, suc, ◌<◌, List, [], ◌∷◌, length, get_or, map, replicate, All, refl, ap, ap₂, ◌∙◌, arith, subst}
 use Rattle.std.proofs.lemmas.List.{length-map, length-replicate}
 use Rattle.std.proofs.lemmas.List.Elements.{All-nil, All-cons, All-head, All-tail}
 use Rattle.ff_ring.specs.Lists.{add_lists, scale_list}
@@ -68,3 +68,6 @@ module _ (k : CodeField) where
       (ap₂ (add_lists (raw_ring k.ops)) (scale_zeros k x (length xs) (IsOver_head xs_in)) (combination_units xs (IsOver_tail xs_in))
       ∙ lists_comm k (replicate (length xs) 0) xs (IsOver_zeros k (length xs)) (IsOver_tail xs_in)
       ∙ lists_zero k xs (IsOver_tail xs_in))
+
+  pub unit_in : (n i : ℕ) → i < n → IsVector k.ops n (unit_row n i)
+  unit_in n i l = subst (IsVector k.ops n) (unit_rows_get n i l) (unit_rows_in n i [] (omega (arith, length_unit_rows n)))

@@ -23,12 +23,12 @@ pub record IsAlgebra (k : CodeField) (A : AlgebraOps) : Type 0 where
   pub product_in : (a b : List ℕ) → IsVector k.ops A.size a → IsVector k.ops A.size b → IsVector k.ops A.size (A.product k.ops a b)
   pub commutative : (a b : List ℕ) → IsVector k.ops A.size a → IsVector k.ops A.size b → A.product k.ops a b ≡ A.product k.ops b a
   pub associative : (a b c : List ℕ) → IsVector k.ops A.size a → IsVector k.ops A.size b → IsVector k.ops A.size c
-    → A.product k.ops (A.product k.ops a b) c ≡ A.product k.ops a (A.product k.ops b c)
+      → A.product k.ops (A.product k.ops a b) c ≡ A.product k.ops a (A.product k.ops b c)
   pub unit_times : (a : List ℕ) → IsVector k.ops A.size a → A.product k.ops A.unit a ≡ a
   pub distributive : (a b c : List ℕ) → IsVector k.ops A.size a → IsVector k.ops A.size b → IsVector k.ops A.size c
-    → A.product k.ops a (add_lists (raw_ring k.ops) b c) ≡ add_lists (raw_ring k.ops) (A.product k.ops a b) (A.product k.ops a c)
+      → A.product k.ops a (add_lists (raw_ring k.ops) b c) ≡ add_lists (raw_ring k.ops) (A.product k.ops a b) (A.product k.ops a c)
   pub linear : (c : ℕ) (a b : List ℕ) → c < k.size → IsVector k.ops A.size a → IsVector k.ops A.size b
-    → A.product k.ops (scale_list (raw_ring k.ops) c a) b ≡ scale_list (raw_ring k.ops) c (A.product k.ops a b)
+      → A.product k.ops (scale_list (raw_ring k.ops) c a) b ≡ scale_list (raw_ring k.ops) c (A.product k.ops a b)
 
 -- the zero of the algebra
 abbrev pub zero_of : AlgebraOps → List ℕ

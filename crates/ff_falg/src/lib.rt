@@ -2,5 +2,10 @@
 #![tactic(auto)]
 
 pub mod algebra;
+pub mod powers;
+mod rows;
+pub mod spaces;
 
 pub use algebra::FiniteAlgebra;
+pub use powers::frobenius;
+pub use spaces::{fixed, nilpotents};
