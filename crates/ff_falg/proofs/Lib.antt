@@ -5,3 +5,4 @@ pub mod UnitRows
 pub mod VectorAlgebra
 pub mod RowSteps
 pub mod PowerLaws
+pub mod SpaceLaws

@@ -6,7 +6,7 @@ use Rattle.ff_ring.specs.Lists.{add_lists, neg_list}
 use Rattle.ff_linalg.specs.Matrix.{MatrixValue, IsMatrixOver, HasShape, row_of}
 use Rattle.ff_linalg.specs.Space.{product_of}
 use Rattle.ff_linalg.specs.Steps.{unit_row}
-use Rattle.ff_falg.specs.Algebras.{AlgebraOps, IsVector, power}
+use Rattle.ff_falg.specs.Algebras.{AlgebraOps, power}
 
 -- m with another row i
 abbrev pub with_row : MatrixValue → ℕ → List ℕ → MatrixValue
@@ -26,13 +26,14 @@ pub record IsProductBelow (k : FieldOps) (a b : MatrixValue) (i : ℕ) (m : Matr
 pub record IsFrobeniusBelow (k : FieldOps) (A : AlgebraOps) (i : ℕ) (m : MatrixValue) : Type 0 where
   pub written : HasRowsBelow k (λ l. power k A (unit_row A.size l) k.size) A.size A.size i m
 
--- the matrix of an iterate of the map a to a^q, so often that q to this number is at least the dimension
-pub record IsHighIterate (k : FieldOps) (A : AlgebraOps) (m : MatrixValue) : Type 0 where
+-- the matrix of an iterate of the map a to a^q, so often that q to this number is at least the bound: its rows are the powers
+-- of the unit rows
+pub record IsIterate (k : FieldOps) (A : AlgebraOps) (bound : ℕ) (m : MatrixValue) : Type 0 where
   pub shape : HasShape m A.size A.size
   pub over : IsMatrixOver k m
   pub times : ℕ
-  pub enough : A.size ≤ k.size ^ times
-  pub values : (v : List ℕ) → IsVector k A.size v → product_of k v m ≡ power k A v (k.size ^ times)
+  pub reached : bound ≤ k.size ^ times
+  pub rows : (l : ℕ) → l < A.size → row_of m l ≡ power k A (unit_row A.size l) (k.size ^ times)
 
 -- m with the unit matrix taken from its first i rows
 pub record IsLessUnit (k : FieldOps) (m : MatrixValue) (i : ℕ) (new : MatrixValue) : Type 0 where

@@ -4,7 +4,7 @@ ghost use Rattle.std.specs.Prelude.{◌≡◌, ◌<◌, ◌≤◌, length, IfOk}
 ghost use Rattle.ff_linalg.specs.Matrix.{IsMatrixOver, HasShape};
 ghost use Rattle.ff_falg.specs.Algebras.{IsNilpotent, IsFixed};
 ghost use Rattle.ff_falg.specs.Spaces.{IsEchelonBasis};
-ghost use Rattle.ff_falg.specs.Steps.{IsHighIterate, IsLessUnit};
+ghost use Rattle.ff_falg.specs.Steps.{IsIterate, IsLessUnit};
 
 use crate::algebra::FiniteAlgebra;
 use crate::powers::frobenius;
@@ -21,7 +21,7 @@ fn high_iterate<K: SmallField, A: FiniteAlgebra<K>>(
     a: &A,
 ) -> Result<Matrix, AllocError>
     requires { A.IsOver a.now (K.field k.now) }
-    ensures { IfOk result (IsHighIterate (K.field k.now).ops (A.algebra a.now)) }
+    ensures { IfOk result (IsIterate (K.field k.now).ops (A.algebra a.now) (A.algebra a.now).size) }
 {
     let mut iterate = frobenius(alloc, k, a)?;
     let mut reach = k.size() as usize;
