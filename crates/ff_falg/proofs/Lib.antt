@@ -6,3 +6,5 @@ pub mod VectorAlgebra
 pub mod RowSteps
 pub mod PowerLaws
 pub mod SpaceLaws
+pub mod Bases
+pub mod FieldLaws

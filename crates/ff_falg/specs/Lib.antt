@@ -1,3 +1,4 @@
 pub mod Algebras
 pub mod Spaces
 pub mod Steps
+pub mod Samples

@@ -2,10 +2,15 @@
 #![tactic(auto)]
 
 pub mod algebra;
+pub mod decisions;
 pub mod powers;
 mod rows;
 pub mod spaces;
 
 pub use algebra::FiniteAlgebra;
+pub use decisions::is_field;
 pub use powers::frobenius;
 pub use spaces::{fixed, nilpotents};
+
+#[cfg(test)]
+mod tests;
