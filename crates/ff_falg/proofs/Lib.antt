@@ -8,3 +8,4 @@ pub mod PowerLaws
 pub mod SpaceLaws
 pub mod Bases
 pub mod FieldLaws
+pub mod PowerRows

@@ -1,4 +1,5 @@
 pub mod Algebras
 pub mod Spaces
 pub mod Steps
+pub mod Relations
 pub mod Samples

@@ -4,6 +4,7 @@
 pub mod algebra;
 pub mod decisions;
 pub mod powers;
+mod relations;
 mod rows;
 pub mod spaces;
 
