@@ -9,3 +9,6 @@ pub mod SpaceLaws
 pub mod Bases
 pub mod FieldLaws
 pub mod PowerRows
+pub mod RootSteps
+pub mod PowerSpans
+pub mod Pigeonhole

@@ -2,4 +2,5 @@ pub mod Algebras
 pub mod Spaces
 pub mod Steps
 pub mod Relations
+pub mod Roots
 pub mod Samples

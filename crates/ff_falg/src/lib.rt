@@ -5,6 +5,7 @@ pub mod algebra;
 pub mod decisions;
 pub mod powers;
 mod relations;
+mod roots;
 mod rows;
 pub mod spaces;
 
