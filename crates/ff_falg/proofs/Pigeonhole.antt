@@ -20,6 +20,6 @@ module _ {X : Type 0} where
   at_most (x ∷ xs) ys distinct within =
       let s = around x ys (within x (inl refl)) in
       let l = at_most xs (s.0 ++ s.1) distinct.1 (λ z i.
-          other z x s.0 s.1 (subst (In z) s.2 (within z (inr i))) (λ e. distinct.0 (subst (λ w. In w xs) e i))) in
+      other z x s.0 s.1 (subst (In z) s.2 (within z (inr i))) (λ e. distinct.0 (subst (λ w. In w xs) e i))) in
       let e = ap length s.2 in
       omega (arith, length-append s.0 s.1, length-append s.0 (x ∷ s.1))

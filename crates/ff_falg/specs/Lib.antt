@@ -3,4 +3,6 @@ pub mod Spaces
 pub mod Steps
 pub mod Relations
 pub mod Roots
+pub mod Idempotents
+pub mod Splits
 pub mod Samples

@@ -3,6 +3,7 @@
 
 pub mod algebra;
 pub mod decisions;
+pub mod parts;
 pub mod powers;
 mod relations;
 mod roots;
@@ -11,6 +12,7 @@ pub mod spaces;
 
 pub use algebra::FiniteAlgebra;
 pub use decisions::is_field;
+pub use parts::idempotents;
 pub use powers::frobenius;
 pub use spaces::{fixed, nilpotents};
 

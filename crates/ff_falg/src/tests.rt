@@ -3,7 +3,7 @@
 ghost use Rattle.std.specs.Prelude.{◌≡◌, ◌<◌};
 ghost use Rattle.ff_falg.specs.Samples.{places_algebra, places_laws, root_algebra, root_laws};
 
-use crate::{FiniteAlgebra, fixed, frobenius, is_field, nilpotents};
+use crate::{FiniteAlgebra, fixed, frobenius, idempotents, is_field, nilpotents};
 use ff_fields::field::SmallField;
 use ff_fields::prime::PrimeField;
 use ff_linalg::Matrix;
@@ -77,6 +77,19 @@ fn has_rows<const N: usize>(m: &Matrix, rows: &[[u32; N]]) -> bool {
     true
 }
 
+// Whether the vectors are these.
+fn are<const N: usize>(vectors: &[Vec<u32>], expected: &[[u32; N]]) -> bool {
+    if vectors.len() != expected.len() {
+        return false;
+    }
+    for i in 0..vectors.len() {
+        if vectors[i].as_slice() != expected[i].as_slice() {
+            return false;
+        }
+    }
+    true
+}
+
 #[test]
 fn two_roots(rt: HostRuntime) -> Result<(), Fail> {
     let alloc = rt.alloc();
@@ -88,6 +101,7 @@ fn two_roots(rt: HostRuntime) -> Result<(), Fail> {
     assert!(rt; has_rows(&frobenius(alloc, &k, &a)?, &[[1, 0], [0, 1]]));
     assert!(rt; has_rows::<2>(&nilpotents(alloc, &k, &a)?, &[]));
     assert!(rt; has_rows(&fixed(alloc, &k, &a)?, &[[1, 0], [0, 1]]));
+    assert!(rt; are(&idempotents(alloc, &k, &a)?, &[[4, 3], [4, 4]]));
     assert!(rt; !is_field(alloc, &k, &a)?);
     Ok(())
 }
@@ -103,11 +117,13 @@ fn one_root_and_none(rt: HostRuntime) -> Result<(), Fail> {
     assert!(rt; has_rows(&frobenius(alloc, &k, &double)?, &[[1, 0], [0, 0]]));
     assert!(rt; has_rows(&nilpotents(alloc, &k, &double)?, &[[0, 1]]));
     assert!(rt; has_rows(&fixed(alloc, &k, &double)?, &[[1, 0]]));
+    assert!(rt; are(&idempotents(alloc, &k, &double)?, &[[1, 0]]));
     assert!(rt; !is_field(alloc, &k, &double)?);
     let none = Root(3);
     assert!(rt; has_rows(&frobenius(alloc, &k, &none)?, &[[1, 0], [0, 6]]));
     assert!(rt; has_rows::<2>(&nilpotents(alloc, &k, &none)?, &[]));
     assert!(rt; has_rows(&fixed(alloc, &k, &none)?, &[[1, 0]]));
+    assert!(rt; are(&idempotents(alloc, &k, &none)?, &[[1, 0]]));
     assert!(rt; is_field(alloc, &k, &none)?);
     Ok(())
 }
@@ -122,6 +138,9 @@ fn copies_of_the_field(rt: HostRuntime) -> Result<(), Fail> {
         assert_eq!(rt; nilpotents(alloc, &k, &a)?.rows(), 0);
         assert_eq!(rt; fixed(alloc, &k, &a)?.rows(), n);
         assert_eq!(rt; is_field(alloc, &k, &a)?, n == 1);
+        assert_eq!(rt; idempotents(alloc, &k, &a)?.len(), n);
     }
+    let three = idempotents(alloc, &k, &Places(3))?;
+    assert!(rt; are(&three, &[[0, 0, 1], [0, 1, 0], [1, 0, 0]]));
     Ok(())
 }
