@@ -12,3 +12,4 @@ pub mod PowerRows
 pub mod RootSteps
 pub mod PowerSpans
 pub mod Pigeonhole
+pub mod PolynomialValues

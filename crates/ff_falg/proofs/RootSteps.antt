@@ -4,8 +4,9 @@ use native.Mathlib.Decide.{ℕ_discrete}
 use Rattle.std.proofs.Math.Seq.{drop-cons}
 use Rattle.ff_ring.specs.Lists.{neg_list}
 use Rattle.ff_ring.proofs.Finite.{In, IsDistinct}
-use Rattle.ff_fields.specs.Field.{FieldOps}
+use Rattle.ff_fields.specs.Field.{FieldOps, CodeField}
 use Rattle.ff_fields.specs.Code.{raw_ring}
+use Rattle.ff_fields.specs.Over.{IsOver, IsOver_nil, IsOver_cons, IsOver_head, IsOver_tail}
 use Rattle.finite_algebra_theory.proofs.Lists.{in_append, in_append_left, in_append_right}
 use Rattle.ff_falg.specs.Roots.{monic_value, quotient_of, IsRootsBelow}
 
@@ -79,3 +80,17 @@ roots_push k lower n v found new v_is none new_is h =
     go : (c : ℕ) → c < n + 1 → monic_value k lower c ≡ 0 → Dec (c ≡ n) → In c (found ++ n ∷ [])
     go c less z (yes e) = in_append_right c found (n ∷ []) (inl e)
     go c less z (no ne) = in_append_left c found (n ∷ []) (h.all c (omega arith) z)
+
+pub length_quotient : (k : FieldOps) (lower : List ℕ) (c : ℕ) → length (quotient_of k lower c) ≡ length lower
+length_quotient k [] c = refl
+length_quotient k (d ∷ lower) c = ap suc (length_quotient k lower c)
+
+module _ (k : CodeField) where
+  pub monic_below : (lower : List ℕ) (c : ℕ) → IsOver k.ops lower → c < k.size → monic_value k.ops lower c < k.size
+  monic_below [] c over c_in = k.laws.one_below
+  monic_below (d ∷ lower) c over c_in =
+      k.laws.add_below d _ (IsOver_head over) (k.laws.mul_below c _ c_in (monic_below lower c (IsOver_tail over) c_in))
+
+  pub quotient_over : (lower : List ℕ) (c : ℕ) → IsOver k.ops lower → c < k.size → IsOver k.ops (quotient_of k.ops lower c)
+  quotient_over [] c over c_in = IsOver_nil
+  quotient_over (d ∷ lower) c over c_in = IsOver_cons (monic_below lower c (IsOver_tail over) c_in) (quotient_over lower c (IsOver_tail over) c_in)
