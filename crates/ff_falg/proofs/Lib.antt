@@ -13,3 +13,4 @@ pub mod RootSteps
 pub mod PowerSpans
 pub mod Pigeonhole
 pub mod PolynomialValues
+pub mod SplitLaws
