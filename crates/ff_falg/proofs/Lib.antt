@@ -14,3 +14,5 @@ pub mod PowerSpans
 pub mod Pigeonhole
 pub mod PolynomialValues
 pub mod SplitLaws
+pub mod Splittings
+pub mod SplitSteps
