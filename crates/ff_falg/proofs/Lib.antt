@@ -16,3 +16,4 @@ pub mod PolynomialValues
 pub mod SplitLaws
 pub mod Splittings
 pub mod SplitSteps
+pub mod RefineSteps

@@ -1,18 +1,16 @@
 -- What a call of `split` does.
-use Rattle.std.proofs.Common.{◌≡◌, ◌≢◌, ℕ, zero, suc, ◌+◌, ◌<◌, ◌≤◌, inl, inr, List, [], ◌∷◌, ◌++◌, length, get_or, map, replicate, All, refl, sym, ap, ap₂, ◌∙◌, subst, arith}
+use Rattle.std.proofs.Common.{◌≡◌, ◌≢◌, ℕ, ◌<◌, ◌≤◌, List, [], ◌∷◌, length, get_or, map, replicate, All, refl, sym, ap, ap₂, ◌∙◌, subst, arith}
 use Rattle.std.proofs.lemmas.List.{length-map, nil_from_length}
-use Rattle.std.proofs.lemmas.List.Elements.{All-nil, All-cons}
 use Rattle.ff_ring.specs.Ring.{CommRing, pow}
 use Rattle.ff_ring.specs.Lists.{neg_list}
 use Rattle.ff_ring.proofs.Ring.{pow_one}
 use Rattle.ff_ring.proofs.Lists.{length_neg_list}
-use Rattle.ff_ring.proofs.Finite.{In}
 use Rattle.ff_fields.specs.Field.{CodeField}
-use Rattle.ff_fields.specs.Code.{Code, raw_ring, read_code, read_code_below}
+use Rattle.ff_fields.specs.Code.{Code, raw_ring, read_code}
 use Rattle.ff_fields.specs.Numbers.{read}
-use Rattle.ff_fields.specs.Over.{IsOver, IsOver_head, IsOver_neg}
+use Rattle.ff_fields.specs.Over.{IsOver, IsOver_neg}
 use Rattle.ff_linalg.specs.Matrix.{MatrixValue, row_of, first_rows_of}
-use Rattle.ff_linalg.specs.Space.{IsFirstRelation, IsSolution}
+use Rattle.ff_linalg.specs.Space.{IsSolution}
 use Rattle.finite_algebra_theory.specs.Algebra.{powers}
 use Rattle.finite_algebra_theory.specs.ByMap.{Image}
 use Rattle.finite_algebra_theory.specs.Horner.{value, combination}
@@ -20,14 +18,14 @@ use Rattle.finite_algebra_theory.specs.Minimal.{Minimal}
 use Rattle.finite_algebra_theory.proofs.Idempotents.{split_one}
 use Rattle.finite_algebra_theory.proofs.Lists.{all_of_in}
 use Rattle.ff_falg.specs.Algebras.{AlgebraOps, IsAlgebra, IsVector, IsIdempotent, IsFixed, zero_of}
-use Rattle.ff_falg.specs.Relations.{IsPowers, IsRelation}
+use Rattle.ff_falg.specs.Relations.{IsRelation}
 use Rattle.ff_falg.specs.Roots.{IsRoots}
 use Rattle.ff_falg.specs.Splits.{IsSimple, IsSplit, part_of}
 use Rattle.ff_falg.proofs.PolynomialValues.{negatives_scalar, read_in, over_of_in}
 use Rattle.ff_falg.proofs.PowerLaws.{empty_or}
 use Rattle.ff_falg.proofs.PowerRows.{powers_first}
 use Rattle.ff_falg.proofs.PowerSpans.{solution_relation, minimal_of_first}
-use Rattle.ff_falg.proofs.SplitLaws.{weight_some, parts_split, parts_are, part_vector}
+use Rattle.ff_falg.proofs.SplitLaws.{weight_some, parts_split, parts_are}
 use Rattle.ff_falg.proofs.Splittings.{split_value}
 use Rattle.ff_falg.proofs.Vectors.{Vector, vector_ring, same_vector, power_value}
 use Rattle.ff_falg.proofs.VectorAlgebra.{scalar, vector_algebra, length_scalars}

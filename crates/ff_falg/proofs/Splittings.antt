@@ -1,11 +1,11 @@
 -- Orthogonal idempotents as lists of codes and as vectors.
-use Rattle.std.proofs.Common.{◌≡◌, ◌≢◌, ℕ, zero, suc, ◌+◌, ◌<◌, ◌≤◌, inl, inr, List, [], ◌∷◌, ◌++◌, length, map, All, refl, sym, ap, ap₂, ◌∙◌, subst, arith}
+use Rattle.std.proofs.Common.{◌≡◌, ℕ, ◌+◌, ◌<◌, ◌≤◌, inl, inr, List, [], ◌∷◌, ◌++◌, length, map, All, refl, sym, ap, ap₂, ◌∙◌, subst, arith}
 use native.Mathlib.Decide.{ℕ_discrete}
-use Rattle.std.proofs.lemmas.List.{map-append, length-map}
+use Rattle.std.proofs.lemmas.List.{map-append}
 use Rattle.std.proofs.lemmas.List.Elements.{All-nil, All-cons, All-head, All-tail, All-map, All-weaker}
 use Rattle.ff_ring.specs.Ring.{CommRing}
 use Rattle.ff_ring.specs.Sums.{sum_over}
-use Rattle.ff_ring.specs.Lists.{add_lists, scale_list}
+use Rattle.ff_ring.specs.Lists.{add_lists}
 use Rattle.ff_ring.proofs.Finite.{In}
 use Rattle.ff_fields.specs.Field.{CodeField}
 use Rattle.ff_fields.specs.Code.{Code, raw_ring}
@@ -14,7 +14,7 @@ use Rattle.finite_algebra_theory.specs.ByMap.{Image}
 use Rattle.finite_algebra_theory.specs.Idempotents.{Orthogonal, ScalarAt, Splitting, Split, Refines}
 use Rattle.finite_algebra_theory.proofs.Lists.{all_in, all_of_in}
 use Rattle.finite_algebra_theory.proofs.Idempotents.{refines_push, splitting_step}
-use Rattle.ff_falg.specs.Algebras.{AlgebraOps, IsAlgebra, IsVector, IsIdempotent, zero_of}
+use Rattle.ff_falg.specs.Algebras.{AlgebraOps, IsAlgebra, IsVector, zero_of}
 use Rattle.ff_falg.specs.Idempotents.{sum_of}
 use Rattle.ff_falg.specs.Splits.{IsOrthogonal, IsScalarAt, IsSplit, IsSplitOnto, IsSplitting}
 use Rattle.ff_falg.proofs.Vectors.{Vector, vector_ring, same_vector}
