@@ -17,3 +17,4 @@ pub mod SplitLaws
 pub mod Splittings
 pub mod SplitSteps
 pub mod RefineSteps
+pub mod Sorting
