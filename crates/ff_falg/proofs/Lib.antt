@@ -18,3 +18,4 @@ pub mod Splittings
 pub mod SplitSteps
 pub mod RefineSteps
 pub mod Sorting
+pub mod PrimitiveLists

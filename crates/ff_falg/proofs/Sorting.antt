@@ -1,13 +1,17 @@
 -- Lists of codes that are sorted: the same members, and each before the next.
-use Rattle.std.proofs.Common.{◌≡◌, ◌≢◌, ℕ, zero, suc, ◌<◌, ◌⊎◌, inl, inr, Bool, true, false, cond, List, [], ◌∷◌, length, get_or, refl, sym, ap, ◌∙◌, subst, arith, IsPermutation}
-use native.Mathlib.Decide.{ℕ_discrete}
+use Rattle.std.proofs.Common.{◌≡◌, ◌≢◌, ℕ, zero, suc, ◌<◌, ◌⊎◌, inl, inr, true, false, List, [], ◌∷◌, length, get_or, refl, sym, ap, ap₂, ◌∙◌, subst, arith, add-one, IsPermutation, Equal, Less}
+use native.Mathlib.Decide.{ℕ_discrete, dec_le}
+use Rattle.std.specs.Global.{Vec}
+use Rattle.std.proofs.lemmas.List.{get_or-map, length-map}
+use Rattle.std.proofs.lemmas.Bool.Decides.{nat_tests}
+use Rattle.std.specs.List.Sorted.{IsSorted}
 use Rattle.std.proofs.lemmas.List.Sorted.{IsPermutation-keeps}
 use Rattle.std.specs.Prelude.{swap}
-use Rattle.std.specs.Ordering.{is_lt, nat_cmp}
+use Rattle.std.specs.Ordering.{is_lt, nat_cmp, ordering_then}
 use Rattle.std.specs.Cmp.Lexicographic.{slice_cmp}
 use Rattle.ff_ring.proofs.Finite.{In, IsDistinct}
 use Rattle.ff_linalg.proofs.Reduction.{swap_here, swap_there, swap_other, length_swap}
-use Rattle.ff_falg.specs.Idempotents.{IsBefore}
+use Rattle.ff_falg.specs.Idempotents.{IsBefore, IsAscending, elements_of}
 
 -- by places
 
@@ -116,8 +120,40 @@ reordered xs ys distinct p =
 
 -- what isn't before is after, or the same
 
-pub before_of_cmp : (xs ys : List ℕ) → is_lt (slice_cmp nat_cmp ys xs) ≡ false → xs ≢ ys → IsBefore xs ys
+cmp_same : (y x : ℕ) → y ≡ x → nat_cmp y x ≡ Equal
+cmp_same y x e = grind (arith, nat_tests)
+
+cmp_less : (y x : ℕ) → y < x → nat_cmp y x ≡ Less
+cmp_less y x l = grind (arith, nat_tests)
+
+before_of_cmp : (xs ys : List ℕ) → is_lt (slice_cmp nat_cmp ys xs) ≡ false → xs ≢ ys → IsBefore xs ys
 before_of_cmp [] [] e ne = ne refl
 before_of_cmp [] (y ∷ ys) e ne = tt
-before_of_cmp (x ∷ xs) [] e ne = ?
-before_of_cmp (x ∷ xs) (y ∷ ys) e ne = ?
+before_of_cmp (x ∷ xs) [] e ne = (cc)
+before_of_cmp (x ∷ xs) (y ∷ ys) e ne = go (ℕ_discrete x y) (dec_le (suc x) y) (before_of_cmp xs ys)
+  where
+    go : Dec (x ≡ y) → Dec (x < y) → (is_lt (slice_cmp nat_cmp ys xs) ≡ false → xs ≢ ys → IsBefore xs ys) → (x < y) ⊎ ((x ≡ y) × IsBefore xs ys)
+    go (yes s) d rest =
+        inr (s, rest (sym (ap (λ o. is_lt (ordering_then o (slice_cmp nat_cmp ys xs))) (cmp_same y x (sym s))) ∙ e) (λ f. ne (ap₂ ◌∷◌ s f)))
+    go (no n) (yes l) rest = inl l
+    go (no n) (no m) rest =
+        let f : true ≡ false
+        = sym (ap (λ o. is_lt (ordering_then o (slice_cmp nat_cmp ys xs))) (cmp_less y x (omega arith))) ∙ e in
+        absurd ((cc))
+
+-- sorted vectors of different codes stand in ascending order
+pub ascending : (ts : List (Vec ℕ)) → IsSorted (λ x y. slice_cmp nat_cmp x.items y.items) ts → IsDistinct (elements_of ts) → IsAscending (elements_of ts)
+ascending ts sorted distinct = record { next = λ i less. go ts sorted distinct i less }
+  where
+    go : (ts : List (Vec ℕ)) → IsSorted (λ x y. slice_cmp nat_cmp x.items y.items) ts → IsDistinct (elements_of ts)
+        → (i : ℕ) → suc i < length (elements_of ts) → IsBefore (get_or (elements_of ts) i []) (get_or (elements_of ts) (suc i) [])
+    go [] sorted distinct i less = absurd (omega arith)
+    go (t ∷ ts) sorted distinct i less =
+        let size = length-map (t ∷ ts) (λ v. v.items) in
+        let l : suc i < length (t ∷ ts) = omega arith in
+        let here = get_or-map (λ v. v.items) (t ∷ ts) i t [] (omega arith) in
+        let there = get_or-map (λ v. v.items) (t ∷ ts) (suc i) t [] l in
+        before_of_cmp _ _
+        (ap₂ (λ x y. is_lt (slice_cmp nat_cmp x y)) (there ∙ ap (λ n. (get_or (t ∷ ts) n t).items) (sym (add-one i))) here
+        ∙ sorted i t (omega arith) (subst (λ n. n < length (t ∷ ts)) (sym (add-one i)) l))
+        (λ e. let f : i ≡ suc i = distinct_at (elements_of (t ∷ ts)) distinct i (suc i) (omega arith) less e in absurd (omega arith))
