@@ -1,0 +1,2 @@
+pub mod Fracs
+pub mod Members

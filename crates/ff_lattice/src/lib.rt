@@ -1,0 +1,6 @@
+//! Lattices in F = k(x)[y]/(f): modules over k[x] of full rank, by their Popov bases.
+#![tactic(auto)]
+
+pub mod lattice;
+
+pub use lattice::Lattice;
