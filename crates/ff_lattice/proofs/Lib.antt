@@ -1,2 +1,4 @@
 pub mod Fracs
 pub mod Members
+pub mod Elements
+pub mod Scaled
