@@ -2,3 +2,4 @@ pub mod Fracs
 pub mod Members
 pub mod Elements
 pub mod Scaled
+pub mod Transport
