@@ -3,3 +3,4 @@ pub mod Members
 pub mod Elements
 pub mod Scaled
 pub mod Transport
+pub mod KernelRows
