@@ -4,3 +4,4 @@ pub mod Elements
 pub mod Scaled
 pub mod Transport
 pub mod KernelRows
+pub mod SplitRows
