@@ -5,3 +5,4 @@ pub mod Scaled
 pub mod Transport
 pub mod KernelRows
 pub mod SplitRows
+pub mod Spaces
