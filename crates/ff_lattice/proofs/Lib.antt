@@ -6,3 +6,4 @@ pub mod Transport
 pub mod KernelRows
 pub mod SplitRows
 pub mod Spaces
+pub mod Preimages
