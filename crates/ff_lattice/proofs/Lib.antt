@@ -7,3 +7,4 @@ pub mod KernelRows
 pub mod SplitRows
 pub mod Spaces
 pub mod Preimages
+pub mod Pushes

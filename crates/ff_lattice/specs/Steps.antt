@@ -14,6 +14,11 @@ unit_row n i = slice_set (replicate n []) i (1 ∷ [])
 abbrev pub lifted : ℕ → List (List ℕ) → List (List ℕ)
 lifted power row = map (λ v. shifted v power) row
 
+-- the rows of m times the power behind those of the unit matrix
+pub record IsBesideUnit (power : ℕ) (m rows : List (List (List ℕ))) : Type 0 where
+  pub size : length rows ≡ length m
+  pub at : (i : ℕ) → i < length m → row_at rows i ≡ unit_row (length m) i ++ lifted power (row_at m i)
+
 -- the rows of m times the power behind those of the unit matrix, and those of ls times the power behind zeros
 pub record IsTwistedRows (power : ℕ) (m ls rows : List (List (List ℕ))) : Type 0 where
   pub size : length rows ≡ length m + length ls

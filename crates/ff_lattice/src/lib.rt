@@ -2,5 +2,7 @@
 #![tactic(auto)]
 
 pub mod lattice;
+mod preimage;
+mod rows;
 
 pub use lattice::Lattice;
