@@ -8,3 +8,4 @@ pub mod SplitRows
 pub mod Spaces
 pub mod Preimages
 pub mod Pushes
+pub mod Divisors
