@@ -9,3 +9,4 @@ pub mod Spaces
 pub mod Preimages
 pub mod Pushes
 pub mod Divisors
+pub mod Annihilators

@@ -4,7 +4,7 @@ use Rattle.ff_fields.specs.Field.{FieldOps}
 use Rattle.ff_fields.specs.Over.{IsOver}
 use Rattle.ff_poly.specs.Words.{IsPoly, IsMonic, Divides, product_of, shifted}
 use Rattle.ff_poly.specs.Popov.{entry_at, row_at, IsRow, IsPopov, InSpan, combination, multiple_of_row}
-use Rattle.ff_lattice.specs.Lattices.{LatticeValue}
+use Rattle.ff_lattice.specs.Lattices.{LatticeValue, IsMultiplier}
 
 -- n polynomials of which the one with this number is 1 and the others 0
 abbrev pub unit_row : ℕ → ℕ → List (List ℕ)
@@ -38,3 +38,49 @@ pub record IsPreimage (k : FieldOps) (n width : ℕ) (m ls basis : List (List (L
   pub rows_in : All (IsRow k n) basis
   pub popov : IsPopov n basis
   pub members : (z : List (List ℕ)) → IsRow k n z → All IsPoly z → InSpan k n basis z ↔ InSpan k width ls (combination k width z m)
+
+-- the monic polynomial whose multiples are the polynomials u for which e divides u·v
+pub record IsAnnihilator (k : FieldOps) (e v h : List ℕ) : Type 0 where
+  pub over : IsOver k h
+  pub poly : IsPoly h
+  pub monic : IsMonic h
+  pub divides : (u : List ℕ) → IsOver k u → IsPoly u → Divides k h u ↔ Divides k e (product_of k u v)
+
+-- monic, and its multiples are those of h with a property
+pub record IsNext (k : FieldOps) (h : List ℕ) (T : List ℕ → Type 0) (next : List ℕ) : Type 0 where
+  pub over : IsOver k next
+  pub poly : IsPoly next
+  pub monic : IsMonic next
+  pub divides : (u : List ℕ) → IsOver k u → IsPoly u → Divides k next u ↔ (Divides k h u × T u)
+
+-- u times each entry of the row is a multiple of e
+abbrev pub IsRowMultiplier : FieldOps → List ℕ → List (List ℕ) → List ℕ → Type 0
+IsRowMultiplier k e row u = All (λ v. Divides k e (product_of k u v)) row
+
+-- the monic polynomial whose multiples are those u for which u times each entry of the rows is a multiple of e
+pub record IsLeastMultiplier (k : FieldOps) (rows : List (List (List ℕ))) (e h : List ℕ) : Type 0 where
+  pub over : IsOver k h
+  pub poly : IsPoly h
+  pub monic : IsMonic h
+  pub divides : (u : List ℕ) → IsOver k u → IsPoly u → Divides k h u ↔ IsMultiplier k rows e u
+
+-- g times each entry is the row
+pub record IsRowQuotient (k : FieldOps) (g : List ℕ) (row quotient : List (List ℕ)) : Type 0 where
+  pub over : All (IsOver k) quotient
+  pub poly : All IsPoly quotient
+  pub is : multiple_of_row k g quotient ≡ row
+
+-- the same of each row
+pub record IsQuotientOfRows (k : FieldOps) (g : List ℕ) (n : ℕ) (rows quotients : List (List (List ℕ))) : Type 0 where
+  pub rows_in : All (IsRow k n) quotients
+  pub poly : All (All IsPoly) quotients
+  pub is : map (multiple_of_row k g) quotients ≡ rows
+
+-- the lattice with a common factor of its rows and its denominator is the rows over e
+pub record IsReducedTo (k : FieldOps) (rows : List (List (List ℕ))) (e : List ℕ) (l : LatticeValue) : Type 0 where
+  pub factor : List ℕ
+  pub factor_in : IsOver k factor
+  pub factor_poly : IsPoly factor
+  pub factor_monic : IsMonic factor
+  pub den_is : e ≡ product_of k factor l.den
+  pub rows_are : map (multiple_of_row k factor) l.rows ≡ rows
