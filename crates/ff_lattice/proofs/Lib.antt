@@ -10,3 +10,4 @@ pub mod Preimages
 pub mod Pushes
 pub mod Divisors
 pub mod Annihilators
+pub mod Quotients
