@@ -11,3 +11,4 @@ pub mod Pushes
 pub mod Divisors
 pub mod Annihilators
 pub mod Quotients
+pub mod Normal
