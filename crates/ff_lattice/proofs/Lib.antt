@@ -12,3 +12,4 @@ pub mod Divisors
 pub mod Annihilators
 pub mod Quotients
 pub mod Normal
+pub mod Sets
