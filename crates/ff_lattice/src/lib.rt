@@ -2,8 +2,10 @@
 #![tactic(auto)]
 
 mod denominators;
+pub mod generators;
 pub mod lattice;
 mod preimage;
 mod rows;
 
+pub use generators::LatticeFault;
 pub use lattice::Lattice;
