@@ -13,3 +13,4 @@ pub mod Annihilators
 pub mod Quotients
 pub mod Normal
 pub mod Sets
+pub mod CommonDenominators

@@ -8,17 +8,19 @@ use Rattle.ff_ring.specs.Subsets.{Span}
 use Rattle.ff_ring.proofs.Ring.{product_not_zero, mul_rules}
 use Rattle.ff_ring.proofs.Rows.{row_scale_scale}
 use Rattle.ff_fields.specs.Field.{CodeField}
-use Rattle.ff_fields.specs.Code.{code_ring}
+use Rattle.ff_fields.specs.Code.{code_ring, code_field}
 use Rattle.ff_fields.specs.Over.{IsOver}
 use Rattle.ff_poly.specs.Words.{IsPoly, IsMonic, product_of}
 use Rattle.ff_poly.specs.Value.{value, value_product}
 use Rattle.ff_poly.specs.Polynomials.{Polynomial, polynomials, polynomials_domain, codes_of, IsOver_codes_of, IsPoly_codes_of, value_codes_of, value_nil, value_not_zero}
-use Rattle.ff_poly.specs.Popov.{row_at, IsRow, multiple_of_row, HaveSameSpan}
+use Rattle.ff_poly.specs.Popov.{row_at, IsRow, IsPopov, multiple_of_row, HaveSameSpan}
 use Rattle.ff_poly.specs.Popov as codes
 use Rattle.ff_poly.proofs.Parts.{IsPoly_product_of}
 use Rattle.popov_theory.specs.Module.{PolynomialModule}
 use Rattle.popov_theory.specs.Span as theory
 use Rattle.popov_theory.proofs.Span.{span_scale}
+use Rattle.popov_theory.proofs.Existence.{rank_from_full}
+use Rattle.ff_popov.proofs.PopovBasis.{basis_weak, basis_full}
 use Rattle.popov_theory.proofs.PolynomialRows.{row_module_scale}
 use Rattle.ff_popov.specs.Reading.{read_row, row_space, read_rows}
 use Rattle.ff_popov.proofs.ReadRows.{read_multiple}
@@ -26,7 +28,8 @@ use Rattle.ff_popov.proofs.Spans.{to_space, from_space, space_multiple, multiple
 use Rattle.ff_algebra.specs.Functions.{Equation, RowOver, ring_of, of_poly, over, IsPolynomial}
 use Rattle.ff_algebra.specs.Values.{PresValue, Functions, functions, function_of, equation_of}
 use Rattle.ff_algebra.proofs.Stages.{row_of_function}
-use Rattle.ff_lattice.specs.Lattices.{LatticeValue, IsLattice, elems_over, InSpanOf, Contains, HasMultipleIn, IsFull}
+use Rattle.ff_lattice.specs.Lattices.{LatticeValue, IsLattice, elems_over, InSpanOf, Contains, HasMultipleIn, IsFull, IsSpannedBy}
+use Rattle.ff_lattice.proofs.Normal.{monic_poly, popov_poly}
 use Rattle.ff_lattice.specs.Steps.{IsReducedTo}
 use Rattle.ff_lattice.proofs.Fracs.{over_eq, over_expand, over_scale}
 use Rattle.ff_lattice.proofs.Members.{Member, member_numerator}
@@ -107,15 +110,15 @@ module _ (k : CodeField) (p : PresValue) where
     codes_some q q_some none = q_some (sym (value_codes_of k q) ∙ ap (value k) none ∙ value_nil k)
 
     -- full rank of the rows is that of the set
-    pub full_from_rank : (rows : List (List (List ℕ))) → 0 < p.n → All (IsRow k.ops p.n) rows → codes.HasFullRank k.ops p.n rows → IsFull k p (InSpanOf k p (elems_over rows e))
-    full_from_rank rows positive rows_in full = record { multiple = multiple }
+    pub full_from_rank : (rows : List (List (List ℕ))) → theory.HasFullRank M (read_rows k p.n rows) → IsFull k p (InSpanOf k p (elems_over rows e))
+    full_from_rank rows full = record { multiple = multiple }
       where
         multiple : (z : Functions k p) → HasMultipleIn k p (InSpanOf k p (elems_over rows e)) z
         multiple z = record {
           factor = codes_of k factor;
           factor_in = IsOver_codes_of k factor;
           factor_poly = IsPoly_codes_of k factor;
-          some = codes_some factor (product_not_zero (polynomials_domain k) q d (value_not_zero k m.factor m.factor_in m.factor_poly m.factor_some) a.den_not_zero);
+          some = codes_some factor (product_not_zero (polynomials_domain k) q d (full.multiple v).some a.den_not_zero);
           is_in =
               (in_span_of k p e some rows ((functions k p).◌⊗◌ (of_poly c (value k (codes_of k factor))) z)).1
               (record { numerator = row_scale S.ops n (value k e) (row_scale S.ops n q v); in_rows = in_rows; is = is });
@@ -130,17 +133,8 @@ module _ (k : CodeField) (p : PresValue) where
             d : Polynomial k
             d = ((row_of_function (equation_of k p) z).0).den
 
-            u : List (List ℕ)
-            u = codes_row k (suc (p.n - 1)) ((row_of_function (equation_of k p) z).0).num
-
-            u_row : IsRow k.ops p.n (codes_row k (suc (p.n - 1)) ((row_of_function (equation_of k p) z).0).num)
-            u_row = record { size = omega (arith, codes_row_length k (suc (p.n - 1)) v, positive); over = codes_row_over k (suc (p.n - 1)) v }
-
-            m : codes.HasMultipleIn k.ops p.n rows (codes_row k (suc (p.n - 1)) ((row_of_function (equation_of k p) z).0).num)
-            m = full.multiple u u_row
-
             q : Polynomial k
-            q = value k (full.multiple (codes_row k (suc (p.n - 1)) ((row_of_function (equation_of k p) z).0).num) u_row).factor
+            q = (full.multiple ((row_of_function (equation_of k p) z).0).num).factor
 
             factor : Polynomial k
             factor = (polynomials k).◌⊗◌ q d
@@ -149,9 +143,7 @@ module _ (k : CodeField) (p : PresValue) where
             in_rows =
                 subst (theory.InSpan M (read_rows k p.n rows)) (row_module_scale (code_ring k) (p.n - 1) (value k e) (row_scale S.ops n q v))
                 (span_scale M (read_rows k p.n rows) (value k e) (row_scale S.ops n q v)
-                (subst (theory.InSpan M (read_rows k p.n rows))
-                (space_multiple k p.n m.factor u m.factor_in u_row.over ∙ row_module_scale (code_ring k) (p.n - 1) q (read_row k n u) ∙ ap (row_scale S.ops n q) (read_codes_row k n v))
-                (to_space k p.n rows rows_in (multiple_of_row k.ops m.factor u) m.in_span)))
+                (subst (theory.InSpan M (read_rows k p.n rows)) (row_module_scale (code_ring k) (p.n - 1) q v) (full.multiple v).in_span))
 
             is : (functions k p).◌⊗◌ (of_poly c (value k (codes_of k factor))) z ≡ over c (row_scale S.ops n (value k e) (row_scale S.ops n q v)) (value k e) some
             is =
@@ -166,8 +158,8 @@ module _ (k : CodeField) (p : PresValue) where
                 moved : (e q d : Polynomial k) → (polynomials k).◌⊗◌ e ((polynomials k).◌⊗◌ q d) ≡ (polynomials k).◌⊗◌ d ((polynomials k).◌⊗◌ e q)
                 moved e q d = sym (S.mul_assoc e q d) ∙ S.mul_comm ((polynomials k).◌⊗◌ e q) d
 
-    pub rank_from_full : (rows : List (List (List ℕ))) → All (IsRow k.ops p.n) rows → IsFull k p (InSpanOf k p (elems_over rows e)) → codes.HasFullRank k.ops p.n rows
-    rank_from_full rows rows_in full = record { multiple = multiple }
+    pub rank_of_full : (rows : List (List (List ℕ))) → All (IsRow k.ops p.n) rows → IsFull k p (InSpanOf k p (elems_over rows e)) → codes.HasFullRank k.ops p.n rows
+    rank_of_full rows rows_in full = record { multiple = multiple }
       where
         multiple : (v : List (List ℕ)) → IsRow k.ops p.n v → codes.HasMultipleIn k.ops p.n rows v
         multiple v v_row =
@@ -187,3 +179,24 @@ module _ (k : CodeField) (p : PresValue) where
                   (subst (theory.InSpan M (read_rows k p.n rows))
                   (sym (space_multiple k p.n m.factor v m.factor_in v_row.over ∙ row_module_scale (code_ring k) (p.n - 1) q (read_row k n v))) numerator);
             }
+
+  -- each function has a multiple in a lattice
+  pub lattice_full : (l : LatticeValue) → 0 < p.n → IsLattice k.ops p.n l → IsFull k p (Contains k p l)
+  lattice_full l positive lattice =
+      full_from_rank l.den (monic_value k l.den lattice.den_in lattice.den_poly lattice.monic) l.rows
+      (rank_from_full M (code_field k) (read_rows k p.n l.rows) (basis_weak k p.n l.rows lattice.rows_in lattice.popov) (basis_full k p.n l.rows lattice.rows_in lattice.popov positive))
+
+-- rows, their Popov basis, and the lattice that it makes
+pub rows_spanned : (k : CodeField) (n : ℕ) (rows basis : List (List (List ℕ))) (e : List ℕ) (l : LatticeValue) → All (IsRow k.ops n) rows → All (All IsPoly) rows → All (IsRow k.ops n) basis → IsPopov n basis → HaveSameSpan k.ops n rows basis
+    → IsOver k.ops e → IsMonic e → IsLattice k.ops n l → IsReducedTo k.ops basis e l → IsSpannedBy k n (elems_over rows e) l
+rows_spanned k n rows basis e l rows_in rows_poly basis_in popov same e_in e_monic lattice reduced = record {
+  members = λ p n_is z.
+      let reduced_to = reduced_set k p n basis e l lattice reduced z in
+      let sets =
+      same_set k p e (monic_value k e e_in (monic_poly e e_monic) e_monic) rows basis
+          (subst (λ m. All (IsRow k.ops m) rows) (sym n_is) rows_in) (subst (λ m. All (IsRow k.ops m) basis) (sym n_is) basis_in) rows_poly (popov_poly n basis popov)
+          (subst (λ m. HaveSameSpan k.ops m rows basis) (sym n_is) same) z in (
+        λ h. sets.1 (reduced_to.0 h),
+        λ h. reduced_to.1 (sets.0 h),
+      );
+}
