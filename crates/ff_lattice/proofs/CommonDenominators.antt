@@ -13,18 +13,20 @@ use Rattle.ff_poly.specs.Words.{IsPoly, IsMonic, IsQuotient, Divides, product_of
 use Rattle.ff_poly.specs.PolyOver.{IsOver_product_of}
 use Rattle.ff_poly.specs.Value.{value, value_product}
 use Rattle.ff_poly.specs.Polynomials.{Polynomial, polynomials}
-use Rattle.ff_poly.specs.Popov.{rows_of, row_at, IsRow, multiple_of_row}
+use Rattle.ff_poly.specs.Popov.{rows_of, row_at, IsRow, HasFullRank, multiple_of_row}
 use Rattle.ff_poly.proofs.Parts.{IsPoly_product_of, IsMonic_product}
 use Rattle.ff_popov.proofs.Spans.{multiple_over}
 use Rattle.ff_popov.proofs.Entries.{any_default}
-use Rattle.ff_algebra.specs.Values.{ElemValue, PresValue, IsElem, Functions, function_of}
-use Rattle.ff_lattice.specs.Lattices.{elems_over, InSpanOf}
+use Rattle.ff_algebra.specs.Values.{ElemValue, PresValue, IsElem, Functions, functions, function_of, equation_of}
+use Rattle.ff_ring.specs.Subsets.{Span}
+use Rattle.ff_algebra.specs.Functions.{IsPolynomial}
+use Rattle.ff_lattice.specs.Lattices.{LatticeValue, elems_over, InSpanOf, Contains, IsFull, IsSpannedBy}
 use Rattle.ff_lattice.specs.Steps.{IsCommonMultiple, IsExpansion, IsExpanded}
 use Rattle.ff_lattice.proofs.Elements.{DividesPol, divides_value, divides_codes}
 use Rattle.ff_lattice.proofs.Divisors.{pol_times, divides_self, product_comm, sum_nil, monic_value}
 use Rattle.ff_lattice.proofs.Annihilators.{all_more}
 use Rattle.ff_lattice.proofs.Normal.{monic_poly, monic_positive}
-use Rattle.ff_lattice.proofs.Sets.{factor_elem}
+use Rattle.ff_lattice.proofs.Sets.{factor_elem, rank_of_full}
 use Rattle.ff_lattice.proofs.Pushes.{rows_push}
 
 module _ (k : CodeField) where
@@ -154,3 +156,24 @@ module _ (k : CodeField) where
         ap₂ ◌∷◌ (expansion_function z row (All-head (IsElem k.ops n) z zs zs_in) (x.each 0 z (omega arith)) p)
         (expanded_functions p zs rows (All-tail (IsElem k.ops n) z zs zs_in)
         (record { size = omega (arith, x.size); each = λ i d less. x.each (suc i) d (omega (arith, less)) }))
+
+-- the lattice of generators
+module _ (k : CodeField) (p : PresValue) (zs : List ElemValue) (e : List ℕ) (rows : List (List (List ℕ))) (zs_in : All (IsElem k.ops p.n) zs) (e_in : IsOver k.ops e) (e_monic : IsMonic e) (x : IsExpanded k.ops p.n e zs rows) where
+  abbrev InSpan : List (Functions k p) → Functions k p → Type 0
+  InSpan fs = Span (functions k p).ops (IsPolynomial (equation_of k p)) fs
+
+  same_functions : map (function_of k p) (elems_over rows e) ≡ map (function_of k p) zs
+  same_functions = expanded_functions k p.n e e_in e_monic p zs rows zs_in x
+
+  pub gens_set : (l : LatticeValue) → IsSpannedBy k p.n (elems_over rows e) l → (z : Functions k p) → Contains k p l z ↔ InSpanOf k p zs z
+  gens_set l spanned z =
+      let m = spanned.members p refl z in (
+        λ h. subst (λ fs. InSpan fs z) same_functions (m.0 h),
+        λ h. m.1 (subst (λ fs. InSpan fs z) (sym same_functions) h),
+      )
+
+  pub gens_not_full : ¬ HasFullRank k.ops p.n rows → ¬ IsFull k p (InSpanOf k p zs)
+  gens_not_full none full =
+      none
+      (rank_of_full k p e (monic_value k e e_in (monic_poly e e_monic) e_monic) rows (expanded_rows k p.n e e_in e_monic zs rows zs_in x)
+      (subst (λ fs. IsFull k p (InSpan fs)) (sym same_functions) full))

@@ -14,3 +14,4 @@ pub mod Quotients
 pub mod Normal
 pub mod Sets
 pub mod CommonDenominators
+pub mod RowElems
