@@ -26,7 +26,7 @@ use Rattle.ff_lattice.proofs.Elements.{DividesPol, divides_value, divides_codes}
 use Rattle.ff_lattice.proofs.Divisors.{pol_times, divides_self, product_comm, sum_nil, monic_value}
 use Rattle.ff_lattice.proofs.Annihilators.{all_more}
 use Rattle.ff_lattice.proofs.Normal.{monic_poly, monic_positive}
-use Rattle.ff_lattice.proofs.Sets.{factor_elem, rank_of_full}
+use Rattle.ff_lattice.proofs.SpannedSets.{factor_elem, rank_of_full}
 use Rattle.ff_lattice.proofs.Pushes.{rows_push}
 
 module _ (k : CodeField) where

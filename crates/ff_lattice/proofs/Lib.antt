@@ -12,6 +12,8 @@ pub mod Divisors
 pub mod Annihilators
 pub mod Quotients
 pub mod Normal
-pub mod Sets
+pub mod SpannedSets
 pub mod CommonDenominators
 pub mod RowElems
+pub mod Membership
+pub mod OneForm

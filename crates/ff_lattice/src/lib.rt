@@ -6,6 +6,7 @@ pub mod generators;
 pub mod lattice;
 mod preimage;
 mod rows;
+pub mod sets;
 
 pub use generators::LatticeFault;
 pub use lattice::Lattice;

@@ -2,7 +2,7 @@ use Rattle.std.proofs.Common.{subst}
 use Rattle.std.specs.Prelude.{All, MatchOption}
 use Rattle.ff_poly.specs.Popov.{rows_of, IsRow, IsPopov, HaveSameSpan, HasFullRank}
 use Rattle.ff_lattice.specs.Steps.{IsReducedTo}
-use Rattle.ff_lattice.proofs.Sets.{rows_spanned}
+use Rattle.ff_lattice.proofs.SpannedSets.{rows_spanned}
 use Rattle.ff_lattice.proofs.lattice.from_rows.Goals as goal
 
 pub returns-in_ok-normalized-in-Some-clause-members : goal.returns-in_ok-normalized-in-Some-clause-members

@@ -6,7 +6,7 @@ use Rattle.ff_ring.specs.Subsets.{Span}
 use Rattle.ff_lattice.specs.Lattices.{IsLattice, IsSpannedBy, elems_over, IsFull, Contains}
 use Rattle.ff_lattice.specs.Steps.{IsExpanded}
 use Rattle.ff_lattice.proofs.CommonDenominators.{expanded_rows, expanded_poly, gens_set, gens_not_full}
-use Rattle.ff_lattice.proofs.Sets.{lattice_full}
+use Rattle.ff_lattice.proofs.SpannedSets.{lattice_full}
 use Rattle.ff_lattice.proofs.lattice.Lattice.from_generators.Goals as goal
 
 pub from_rows-requires-clause-rows_in : goal.from_rows-requires-clause-rows_in

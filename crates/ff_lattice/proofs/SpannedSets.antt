@@ -41,7 +41,7 @@ use Rattle.ff_lattice.proofs.Spaces.{same_space, codes_row, codes_row_length, co
 pub polys_at : (rows : List (List (List ℕ))) → All (All IsPoly) rows → (i : ℕ) → i < length rows → All IsPoly (row_at rows i)
 polys_at rows all i less = all i [] less
 
-multiple_poly : (k : CodeField) (c : List ℕ) (v : List (List ℕ)) → All IsPoly (multiple_of_row k.ops c v)
+pub multiple_poly : (k : CodeField) (c : List ℕ) (v : List (List ℕ)) → All IsPoly (multiple_of_row k.ops c v)
 multiple_poly k c [] = All-nil IsPoly
 multiple_poly k c (a ∷ v) = All-cons IsPoly (product_of k.ops c a) (multiple_of_row k.ops c v) (IsPoly_product_of k.ops c a) (multiple_poly k c v)
 
