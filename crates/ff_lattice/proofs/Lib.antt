@@ -17,3 +17,4 @@ pub mod CommonDenominators
 pub mod RowElems
 pub mod Membership
 pub mod OneForm
+pub mod RowLists

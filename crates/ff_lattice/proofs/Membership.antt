@@ -1,5 +1,7 @@
 -- Members of a lattice by scaled rows, and that a lattice has one form.
-use Rattle.std.proofs.Common.{◌≡◌, ◌≢◌, ℕ, zero, suc, ◌+◌, ◌-◌, ◌<◌, ◌≤◌, ◌↔◌, List, [], ◌∷◌, length, map, refl, sym, ◌∙◌, ap, ap₂, subst, arith, All}
+use Rattle.std.proofs.Common.{◌≡◌, ◌≢◌, ℕ, zero, suc, ◌+◌, ◌-◌, ◌<◌, ◌≤◌, ◌↔◌, List, [], ◌∷◌, length, map, refl, sym, ◌∙◌, ap, ap₂, subst, arith, All, Bool, true, false, IsTrue, Option, None, Some}
+use Rattle.std.specs.Prelude.{MatchOption, is_some}
+use Rattle.std.specs.Global.{Vec}
 use Rattle.std.proofs.lemmas.List.{length-map}
 use Rattle.std.proofs.lemmas.List.Elements.{All-nil, All-cons, All-head, All-tail}
 use Rattle.ff_ring.specs.Ring.{CommRing, TestedRing}
@@ -12,7 +14,7 @@ use Rattle.ff_fields.specs.Over.{IsOver}
 use Rattle.ff_poly.specs.Words.{IsPoly, IsMonic}
 use Rattle.ff_poly.specs.Value.{value}
 use Rattle.ff_poly.specs.Polynomials.{Polynomial, polynomials}
-use Rattle.ff_poly.specs.Popov.{IsRow, InSpan, multiple_of_row}
+use Rattle.ff_poly.specs.Popov.{IsRow, InSpan, IsCombination, multiple_of_row}
 use Rattle.ff_poly.proofs.Parts.{IsPoly_product_of}
 use Rattle.popov_theory.specs.Module.{PolynomialModule}
 use Rattle.popov_theory.specs.Span as theory
@@ -128,3 +130,22 @@ module _ (k : CodeField) (p : PresValue) where
             (subst (theory.InSpan M (read_rows k p.n scaled))
             (row_module_scale (code_ring k) (p.n - 1) (value k z.den) m.numerator ∙ sym same ∙ sym (row_module_scale (code_ring k) (p.n - 1) (value k l.den) v) ∙ sym read_dv)
             (subst (λ xs. theory.InSpan M xs (M.◌·◌ (value k z.den) m.numerator)) (sym (read_multiples k p.n z.den l.rows z_in.den_over lattice.rows_in)) (span_up M (value k z.den) rs m.numerator m.in_rows)))
+
+-- the answer of the division by the scaled rows
+pub contains_decided : (k : CodeField) (n : ℕ) (l : LatticeValue) (z : ElemValue) (found : Option (Vec (List ℕ))) (r : Bool) → IsLattice k.ops n l → IsElem k.ops n z → IsMonicElem z
+    → MatchOption found (¬ InSpan k.ops n (map (multiple_of_row k.ops z.den) l.rows) (multiple_of_row k.ops l.den z.num)) (λ x. IsCombination k.ops n (map (multiple_of_row k.ops z.den) l.rows) (multiple_of_row k.ops l.den z.num) x.items)
+    → r ≡ is_some found → (p : PresValue) → 1 ≤ p.n → p.n ≡ n → IsTrue r ↔ Contains k p l (function_of k p z)
+contains_decided k n l z found r lattice z_in z_monic m r_is p positive n_is =
+    let iff = contains_iff k p l (subst (λ n. IsLattice k.ops n l) (sym n_is) lattice) z (subst (λ n. IsElem k.ops n z) (sym n_is) z_in) z_monic in
+    let scaled = map (multiple_of_row k.ops z.den) l.rows in
+    let v = multiple_of_row k.ops l.den z.num in
+    let T = subst (λ n. InSpan k.ops n scaled v → Contains k p l (function_of k p z)) n_is iff.0 in
+    let T' = subst (λ n. Contains k p l (function_of k p z) → InSpan k.ops n scaled v) n_is iff.1 in
+    go found m r_is T T'
+  where
+    go : (found : Option (Vec (List ℕ)))
+        → MatchOption found (¬ InSpan k.ops n (map (multiple_of_row k.ops z.den) l.rows) (multiple_of_row k.ops l.den z.num)) (λ x. IsCombination k.ops n (map (multiple_of_row k.ops z.den) l.rows) (multiple_of_row k.ops l.den z.num) x.items)
+        → r ≡ is_some found → (InSpan k.ops n (map (multiple_of_row k.ops z.den) l.rows) (multiple_of_row k.ops l.den z.num) → Contains k p l (function_of k p z)) → (Contains k p l (function_of k p z) → InSpan k.ops n (map (multiple_of_row k.ops z.den) l.rows) (multiple_of_row k.ops l.den z.num))
+        → IsTrue r ↔ Contains k p l (function_of k p z)
+    go None none is to from = (λ t. let no : false ≡ true = sym is ∙ t in (cc), λ h. absurd (none (from h)))
+    go (Some x) some is to from = (λ t. to (record { coefficients = x.items; is = some }), λ h. is)
