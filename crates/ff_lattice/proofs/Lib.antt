@@ -18,3 +18,4 @@ pub mod RowElems
 pub mod Membership
 pub mod OneForm
 pub mod RowLists
+pub mod SumsAndProducts

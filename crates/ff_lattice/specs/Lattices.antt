@@ -65,3 +65,19 @@ module _ (k : CodeField) (p : PresValue) where
 -- the lattice contains the combinations of these elements, over each presentation of degree n
 pub record IsSpannedBy (k : CodeField) (n : ℕ) (zs : List ElemValue) (l : LatticeValue) : Type 0 where
   pub members : (p : PresValue) → p.n ≡ n → (z : Functions k p) → Contains k p l z ↔ InSpanOf k p zs z
+
+-- z is the sum of a member of each set
+pub record IsSumOf (k : CodeField) (p : PresValue) (A B : Functions k p → Type 0) (z : Functions k p) : Type 0 where
+  pub left : Functions k p
+  pub left_in : A left
+  pub right : Functions k p
+  pub right_in : B right
+  pub is : z ≡ (functions k p).◌⊕◌ left right
+
+-- den·z is num·w for a member w of the set, so that z is num/den times w
+pub record IsScaled (k : CodeField) (p : PresValue) (num den : List ℕ) (A : Functions k p → Type 0) (z : Functions k p) : Type 0 where
+  pub member : Functions k p
+  pub member_in : A member
+  pub is :
+    (functions k p).◌⊗◌ (of_poly (equation_of k p) (value k den)) z
+    ≡ (functions k p).◌⊗◌ (of_poly (equation_of k p) (value k num)) member
