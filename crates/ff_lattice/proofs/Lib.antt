@@ -19,3 +19,4 @@ pub mod Membership
 pub mod OneForm
 pub mod RowLists
 pub mod SumsAndProducts
+pub mod Results

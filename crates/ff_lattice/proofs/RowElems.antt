@@ -20,6 +20,9 @@ elem_at [] den i less = absurd (omega (arith, less))
 elem_at (row ∷ rows) den zero less = refl
 elem_at (row ∷ rows) den (suc i) less = elem_at rows den i (omega (arith, less))
 
+pub elems_length : (l : LatticeValue) → length (row_elems l) ≡ length l.rows
+elems_length l = length-map {B = ElemValue} l.rows (λ v. record { num = v; den = l.den })
+
 module _ (k : CodeField) where
   inverse_one : k.inv 1 ≡ 1
   inverse_one =

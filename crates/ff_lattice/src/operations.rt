@@ -63,10 +63,9 @@ pub fn sum<K: SmallField>(
     ensures members { let k = K.field k.now in
         IfOk result (λ l. (z : Functions k p.now) → Contains k p.now l z ↔ IsSumOf k p.now (Contains k p.now a.now) (Contains k p.now b.now) z) }
 {
-    let mut gens = Vec::new(alloc);
+    let mut gens = Vec::with_capacity(alloc, 2 * p.n())?;
     push_rows(alloc, k, &mut gens, a)?;
     push_rows(alloc, k, &mut gens, b)?;
-    let n = p.n();
     spanned(alloc, k, p, &gens)
 }
 
@@ -110,11 +109,10 @@ pub fn product<K: SmallField>(
     ensures members { let k = K.field k.now in
         IfOk result (λ l. (z : Functions k p.now) → Contains k p.now l z ↔ Product (functions k p.now).ops (Contains k p.now a.now) (Contains k p.now b.now) z) }
 {
-    let mut gens = Vec::new(alloc);
+    let mut gens = Vec::with_capacity(alloc, p.n() * p.n())?;
     for i in 0..a.len() {
         let row = a.row(alloc, k, i)?;
         push_products(alloc, k, p, &mut gens, &row, b)?;
     }
-    let n = p.n();
     spanned(alloc, k, p, &gens)
 }
