@@ -20,3 +20,4 @@ pub mod OneForm
 pub mod RowLists
 pub mod SumsAndProducts
 pub mod Results
+pub mod ScaledSets

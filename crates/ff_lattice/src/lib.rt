@@ -4,6 +4,7 @@
 mod denominators;
 pub mod generators;
 pub mod lattice;
+pub mod multiples;
 pub mod operations;
 mod preimage;
 mod rows;
