@@ -12,3 +12,6 @@ pub mod sets;
 
 pub use generators::LatticeFault;
 pub use lattice::Lattice;
+
+#[cfg(test)]
+mod tests;
