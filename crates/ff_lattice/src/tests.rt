@@ -1,0 +1,186 @@
+//! Known answers on the curve y^2 = x^3 + 1 over the field of 7 elements, on y^2 = x over that of 2 elements, and with zero
+//! divisors.
+
+ghost use Rattle.std.specs.Prelude.{◌≡◌, ◌<◌, IfOk, ◌∷◌, []};
+ghost use Rattle.ff_fields.specs.Over.{IsOver};
+ghost use Rattle.ff_algebra.specs.Values.{IsElem, IsPresOver};
+ghost use Rattle.ff_lattice.specs.Lattices.{IsLattice};
+
+use crate::multiples::scale;
+use crate::operations::{product, sum};
+use crate::sets::{contains, same_lattice};
+use crate::{Lattice, LatticeFault};
+use ff_algebra::{Elem, Pres};
+use ff_fields::field::SmallField;
+use ff_fields::prime::PrimeField;
+use ff_poly::Poly;
+use std::alloc::{AllocError, Global};
+use std::test::Fail;
+
+// c + b·x.
+fn line<K: SmallField>(alloc: Global, k: &K, c: u32, b: u32) -> Result<Poly, AllocError>
+    requires c_in { c < (K.field k.now).size }
+    requires b_in { b < (K.field k.now).size }
+    ensures { IfOk result (IsOver (K.field k.now).ops) }
+{
+    let mut codes = Vec::new(alloc);
+    codes.push(c)?;
+    codes.push(b)?;
+    Ok(Poly::from_codes(codes))
+}
+
+// c + b·x + w·y.
+fn elem<K: SmallField>(alloc: Global, k: &K, c: u32, b: u32, w: u32) -> Result<Elem, AllocError>
+    requires c_in { c < (K.field k.now).size }
+    requires b_in { b < (K.field k.now).size }
+    requires w_in { w < (K.field k.now).size }
+    requires size { 1 < (K.field k.now).size }
+    ensures { IfOk result (IsElem (K.field k.now).ops 2) }
+{
+    let mut num = Vec::new(alloc);
+    num.push(line(alloc, k, c, b)?)?;
+    num.push(line(alloc, k, w, 0)?)?;
+    let one = Poly::one(alloc)?;
+    Ok(Elem::new(k, num, one))
+}
+
+// y^2 + c + b·x + d·x^3.
+fn curve<K: SmallField>(alloc: Global, k: &K, c: u32, b: u32, d: u32) -> Result<Pres, AllocError>
+    requires c_in { c < (K.field k.now).size }
+    requires b_in { b < (K.field k.now).size }
+    requires d_in { d < (K.field k.now).size }
+    requires size { 1 < (K.field k.now).size }
+    ensures over { IfOk result (IsPresOver (K.field k.now).ops) }
+    ensures degree { IfOk result (λ p. p.n ≡ 2) }
+{
+    let mut codes = Vec::new(alloc);
+    codes.push(c)?;
+    codes.push(b)?;
+    codes.push(0)?;
+    codes.push(d)?;
+    let mut coeffs = Vec::new(alloc);
+    coeffs.push(Poly::from_codes(codes))?;
+    coeffs.push(Poly::zero(alloc))?;
+    Ok(Pres::new(2, coeffs))
+}
+
+// The two elements.
+fn pair(alloc: Global, first: Elem, second: Elem) -> Result<Vec<Elem>, AllocError>
+    ensures { IfOk result (λ v. v.items ≡ first ∷ second ∷ []) }
+{
+    let mut gens = Vec::new(alloc);
+    gens.push(first)?;
+    gens.push(second)?;
+    Ok(gens)
+}
+
+// The lattice of two generators.
+fn lattice<K: SmallField>(
+    alloc: Global,
+    k: &K,
+    p: &Pres,
+    first: Elem,
+    second: Elem,
+) -> Result<Lattice, LatticeFault>
+    requires degree { p.now.n ≡ 2 }
+    requires first_in { IsElem (K.field k.now).ops 2 first }
+    requires second_in { IsElem (K.field k.now).ops 2 second }
+    ensures { IfOk result (IsLattice (K.field k.now).ops 2) }
+{
+    let gens = pair(alloc, first, second)?;
+    Lattice::from_generators(alloc, k, p, &gens)
+}
+
+// Are these sums, products and multiples of x, 1 + y and of x, 6 + y, and their members, the known ones?
+fn answers<K: SmallField>(alloc: Global, k: &K) -> Result<bool, LatticeFault>
+    requires { 6 < (K.field k.now).size }
+{
+    let p = curve(alloc, k, 6, 0, 6)?;
+    let whole = lattice(alloc, k, &p, elem(alloc, k, 1, 0, 0)?, elem(alloc, k, 0, 0, 1)?)?;
+    let a = lattice(alloc, k, &p, elem(alloc, k, 0, 1, 0)?, elem(alloc, k, 1, 0, 1)?)?;
+    let b = lattice(alloc, k, &p, elem(alloc, k, 0, 1, 0)?, elem(alloc, k, 6, 0, 1)?)?;
+    let x = line(alloc, k, 0, 1)?;
+    let one = Poly::one(alloc)?;
+    if x.is_zero() || one.is_zero() || whole.len() != 2 {
+        return Ok(false);
+    }
+    let multiple = scale(alloc, k, &whole, &x, &one)?;
+    let total = sum(alloc, k, &p, &a, &b)?;
+    let both = product(alloc, k, &p, &a, &b)?;
+    if total.len() != 2 || both.len() != 2 || a.len() != 2 {
+        return Ok(false);
+    }
+    let same = same_lattice(k, &total, &whole) && same_lattice(k, &both, &multiple);
+    let inside = contains(alloc, k, &a, &elem(alloc, k, 0, 1, 0)?)?;
+    let outside = contains(alloc, k, &a, &elem(alloc, k, 1, 0, 0)?)?;
+    Ok(same && inside && !outside && !same_lattice(k, &a, &b))
+}
+
+// Row 1 of the lattice of x and 1 + y.
+fn second_row<K: SmallField>(alloc: Global, k: &K) -> Result<Elem, LatticeFault>
+    requires { 6 < (K.field k.now).size }
+{
+    let p = curve(alloc, k, 6, 0, 6)?;
+    let a = lattice(alloc, k, &p, elem(alloc, k, 0, 1, 0)?, elem(alloc, k, 1, 0, 1)?)?;
+    if a.len() != 2 {
+        return Err(LatticeFault::NotFull);
+    }
+    let row = a.row(alloc, k, 1)?;
+    Ok(row)
+}
+
+// The generators x and 1, and over y^2 = 1 the zero divisors y - 1 and 2·(y - 1).
+fn not_full<K: SmallField>(alloc: Global, k: &K) -> Result<bool, AllocError>
+    requires { 6 < (K.field k.now).size }
+{
+    let p = curve(alloc, k, 6, 0, 6)?;
+    let first = lattice(alloc, k, &p, elem(alloc, k, 0, 1, 0)?, elem(alloc, k, 1, 0, 0)?);
+    let q = curve(alloc, k, 6, 0, 0)?;
+    let second = lattice(alloc, k, &q, elem(alloc, k, 6, 0, 1)?, elem(alloc, k, 5, 0, 2)?);
+    Ok(first.is_err() && second.is_err())
+}
+
+// Over y^2 = x, is the square of the lattice of x and y that of x and x·y?
+fn inseparable<K: SmallField>(alloc: Global, k: &K) -> Result<bool, LatticeFault>
+    requires { 1 < (K.field k.now).size }
+{
+    let p = curve(alloc, k, 0, 1, 0)?;
+    let whole = lattice(alloc, k, &p, elem(alloc, k, 1, 0, 0)?, elem(alloc, k, 0, 0, 1)?)?;
+    let a = lattice(alloc, k, &p, elem(alloc, k, 0, 1, 0)?, elem(alloc, k, 0, 0, 1)?)?;
+    let x = line(alloc, k, 0, 1)?;
+    let one = Poly::one(alloc)?;
+    if x.is_zero() || one.is_zero() || whole.len() != 2 {
+        return Ok(false);
+    }
+    let square = product(alloc, k, &p, &a, &a)?;
+    let multiple = scale(alloc, k, &whole, &x, &one)?;
+    Ok(square.len() == 2 && same_lattice(k, &square, &multiple))
+}
+
+#[test]
+fn sums_products_and_members(rt: HostRuntime) -> Result<(), Fail> {
+    let k = PrimeField::new(7)?;
+    assert!(rt; answers(rt.alloc(), &k)?);
+    assert!(rt; not_full(rt.alloc(), &k)?);
+    Ok(())
+}
+
+#[test]
+fn rows(rt: HostRuntime) -> Result<(), Fail> {
+    let k = PrimeField::new(7)?;
+    let row = second_row(rt.alloc(), &k)?;
+    assert_eq!(rt; row.len(), 2);
+    assert_eq!(rt; row.den().degree(), Some(0));
+    for v in row.num() {
+        assert_eq!(rt; v.degree(), Some(0));
+        assert_eq!(rt; v.coeff(0), 1);
+    }
+    Ok(())
+}
+
+#[test]
+fn characteristic_two(rt: HostRuntime) -> Result<(), Fail> {
+    let k = PrimeField::new(2)?;
+    assert!(rt; inseparable(rt.alloc(), &k)?);
+    Ok(())
+}
