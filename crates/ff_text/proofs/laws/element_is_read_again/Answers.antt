@@ -2,7 +2,7 @@ use Rattle.ff_text.specs.Spelling.{SpellsElement}
 use Rattle.ff_text.specs.Printing.{element_text}
 use Rattle.ff_text.proofs.Machines.{whole_read, only_memory}
 use Rattle.ff_text.proofs.ReadElement.{one_element}
-use Rattle.ff_text.proofs.Written.{element_written}
+use Rattle.ff_text.proofs.Spelled.{element_written}
 use Rattle.ff_text.proofs.laws.element_is_read_again.Goals as goal
 
 pub returns-clause-value : goal.returns-clause-value

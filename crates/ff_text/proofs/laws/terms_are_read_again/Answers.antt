@@ -2,7 +2,7 @@ use Rattle.ff_text.specs.Spelling.{SpellsTerms}
 use Rattle.ff_text.specs.Printing.{terms_text}
 use Rattle.ff_text.proofs.Machines.{whole_read, only_memory}
 use Rattle.ff_text.proofs.ReadTerms.{one_polynomial}
-use Rattle.ff_text.proofs.Written.{terms_written}
+use Rattle.ff_text.proofs.Spelled.{terms_written}
 use Rattle.ff_text.proofs.laws.terms_are_read_again.Goals as goal
 
 pub returns-clause-value : goal.returns-clause-value
