@@ -96,9 +96,27 @@ fn answers<K: SmallField>(alloc: Global, k: &K) -> Result<bool, LatticeFault>
     requires { 6 < (K.field k.now).size }
 {
     let p = curve(alloc, k, 6, 0, 6)?;
-    let whole = lattice(alloc, k, &p, elem(alloc, k, 1, 0, 0)?, elem(alloc, k, 0, 0, 1)?)?;
-    let a = lattice(alloc, k, &p, elem(alloc, k, 0, 1, 0)?, elem(alloc, k, 1, 0, 1)?)?;
-    let b = lattice(alloc, k, &p, elem(alloc, k, 0, 1, 0)?, elem(alloc, k, 6, 0, 1)?)?;
+    let whole = lattice(
+        alloc,
+        k,
+        &p,
+        elem(alloc, k, 1, 0, 0)?,
+        elem(alloc, k, 0, 0, 1)?,
+    )?;
+    let a = lattice(
+        alloc,
+        k,
+        &p,
+        elem(alloc, k, 0, 1, 0)?,
+        elem(alloc, k, 1, 0, 1)?,
+    )?;
+    let b = lattice(
+        alloc,
+        k,
+        &p,
+        elem(alloc, k, 0, 1, 0)?,
+        elem(alloc, k, 6, 0, 1)?,
+    )?;
     let x = line(alloc, k, 0, 1)?;
     let one = Poly::one(alloc)?;
     if x.is_zero() || one.is_zero() || whole.len() != 2 {
@@ -121,7 +139,13 @@ fn second_row<K: SmallField>(alloc: Global, k: &K) -> Result<Elem, LatticeFault>
     requires { 6 < (K.field k.now).size }
 {
     let p = curve(alloc, k, 6, 0, 6)?;
-    let a = lattice(alloc, k, &p, elem(alloc, k, 0, 1, 0)?, elem(alloc, k, 1, 0, 1)?)?;
+    let a = lattice(
+        alloc,
+        k,
+        &p,
+        elem(alloc, k, 0, 1, 0)?,
+        elem(alloc, k, 1, 0, 1)?,
+    )?;
     if a.len() != 2 {
         return Err(LatticeFault::NotFull);
     }
@@ -134,9 +158,21 @@ fn not_full<K: SmallField>(alloc: Global, k: &K) -> Result<bool, AllocError>
     requires { 6 < (K.field k.now).size }
 {
     let p = curve(alloc, k, 6, 0, 6)?;
-    let first = lattice(alloc, k, &p, elem(alloc, k, 0, 1, 0)?, elem(alloc, k, 1, 0, 0)?);
+    let first = lattice(
+        alloc,
+        k,
+        &p,
+        elem(alloc, k, 0, 1, 0)?,
+        elem(alloc, k, 1, 0, 0)?,
+    );
     let q = curve(alloc, k, 6, 0, 0)?;
-    let second = lattice(alloc, k, &q, elem(alloc, k, 6, 0, 1)?, elem(alloc, k, 5, 0, 2)?);
+    let second = lattice(
+        alloc,
+        k,
+        &q,
+        elem(alloc, k, 6, 0, 1)?,
+        elem(alloc, k, 5, 0, 2)?,
+    );
     Ok(first.is_err() && second.is_err())
 }
 
@@ -145,8 +181,20 @@ fn inseparable<K: SmallField>(alloc: Global, k: &K) -> Result<bool, LatticeFault
     requires { 1 < (K.field k.now).size }
 {
     let p = curve(alloc, k, 0, 1, 0)?;
-    let whole = lattice(alloc, k, &p, elem(alloc, k, 1, 0, 0)?, elem(alloc, k, 0, 0, 1)?)?;
-    let a = lattice(alloc, k, &p, elem(alloc, k, 0, 1, 0)?, elem(alloc, k, 0, 0, 1)?)?;
+    let whole = lattice(
+        alloc,
+        k,
+        &p,
+        elem(alloc, k, 1, 0, 0)?,
+        elem(alloc, k, 0, 0, 1)?,
+    )?;
+    let a = lattice(
+        alloc,
+        k,
+        &p,
+        elem(alloc, k, 0, 1, 0)?,
+        elem(alloc, k, 0, 0, 1)?,
+    )?;
     let x = line(alloc, k, 0, 1)?;
     let one = Poly::one(alloc)?;
     if x.is_zero() || one.is_zero() || whole.len() != 2 {
