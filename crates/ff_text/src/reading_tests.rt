@@ -10,7 +10,7 @@ use std::alloc::Global;
 use std::process::Abort;
 use std::test::Fail;
 
-/// What is read of a polynomial, as it is printed, and where it ends, or the column of the fault.
+/// What is read of a polynomial, as its copy is printed, and where it ends, or the column of the fault.
 fn terms_at(
     alloc: Global,
     y: bool,
@@ -26,10 +26,7 @@ fn terms_at(
         read_terms_in_x(alloc, line, at)
     };
     match read {
-        Ok((t, end)) => match print_terms(alloc, &t) {
-            Ok(text) => Ok((Some(text), end)),
-            Err(_) => Err(TextFault::Memory),
-        },
+        Ok((t, end)) => Ok((Some(print_terms(alloc, &t.copy(alloc)?)?), end)),
         Err(TextFault::Syntax(column)) => Ok((None, column)),
         Err(fault) => Err(fault),
     }
@@ -44,10 +41,7 @@ fn element_at(
         return Err(TextFault::Syntax(at));
     }
     match read_element(alloc, line, at) {
-        Ok((e, end)) => match print_element(alloc, &e) {
-            Ok(text) => Ok((Some(text), end)),
-            Err(_) => Err(TextFault::Memory),
-        },
+        Ok((e, end)) => Ok((Some(print_element(alloc, &e.copy(alloc)?)?), end)),
         Err(TextFault::Syntax(column)) => Ok((None, column)),
         Err(fault) => Err(fault),
     }
