@@ -8,7 +8,7 @@ use Rattle.ff_ring.proofs.Finite.{In, IsDistinct}
 use Rattle.ff_ring.proofs.Solver.{ring, reads, from_two}
 use Rattle.ff_fields.specs.Field.{CodeField}
 use Rattle.ff_linalg.specs.Matrix.{MatrixValue}
-use Rattle.finite_algebra_theory.specs.Algebra.{FiniteAlgebra} 
+use Rattle.finite_algebra_theory.specs.Algebra.{FiniteAlgebra}
 use Rattle.finite_algebra_theory.specs.Algebra.{IsPrimitive as IsPrimitiveVector}
 use Rattle.finite_algebra_theory.specs.ByMap.{Image}
 use Rattle.finite_algebra_theory.specs.Idempotents.{Orthogonal, Splitting}
@@ -222,7 +222,7 @@ module _ (k : CodeField) (A : AlgebraOps) (law : IsAlgebra k A) where
             lists k A law ks,
             subst (IsPart (lists k A law ks)) lists_us (kept_part R 𝓐.decide v square (λ y. y.0) us),
             sym (sym (sum_value k A law ks)
-            ∙ ap (λ y. y.0) (kept_sum R 𝓐.decide v square us (λ e j. (primitive e).1 j) ∙ ap (R.◌⊗◌ v) sum ∙ R.mul_one v)),
+                ∙ ap (λ y. y.0) (kept_sum R 𝓐.decide v square us (λ e j. (primitive e).1 j) ∙ ap (R.◌⊗◌ v) sum ∙ R.mul_one v)),
           )
 
       -- the reordered list is that of the primitive idempotents
@@ -261,10 +261,12 @@ module _ (k : CodeField) (A : AlgebraOps) (law : IsAlgebra k A) where
       size =
           empty_or A.size (A.size ≡ 0) (λ e. e)
           (λ some. absurd (one_not_zero k A law some (no_rows k A law (IsFixed k.ops A) basis h none R.𝟙
-          (record { is =
-              sym (power_value k A law R.𝟙 k.size)
-              ∙ ap (λ y. y.0) (ap (pow R.ops R.𝟙) (sym (length_scalars k A law some))
-              ∙ (vector_algebra k A law some).power R.𝟙 (vector_algebra k A law some).subring.one_in) }))))
+          (record {
+            is =
+                sym (power_value k A law R.𝟙 k.size)
+                ∙ ap (λ y. y.0) (ap (pow R.ops R.𝟙) (sym (length_scalars k A law some))
+                ∙ (vector_algebra k A law some).power R.𝟙 (vector_algebra k A law some).subring.one_in);
+          }))))
 
       empty : (e : List ℕ) → IsVector k.ops A.size e → e ≡ zero_of A
       empty e e_in = nil_from_length e (e_in.size ∙ size) ∙ sym (ap (λ n. replicate n 0) size)

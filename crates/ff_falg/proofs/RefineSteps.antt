@@ -74,7 +74,7 @@ module _ (k : CodeField) (A : AlgebraOps) (law : IsAlgebra k A) where
     basis_some some =
         empty_or A.size (0 < A.size)
         (λ z. absurd (let r = rows_none k A law (IsFixed k.ops A) basis h (λ x s. same_vector k A.size _ _
-            (by_dimension k A law x.0 (zero_of A) x.1 (zeros_in k A.size) (λ l. absurd (omega arith)))) in
+        (by_dimension k A law x.0 (zero_of A) x.1 (zeros_in k A.size) (λ l. absurd (omega arith)))) in
         omega arith))
         (λ l. l)
 

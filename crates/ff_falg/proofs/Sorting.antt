@@ -36,9 +36,9 @@ at_distinct : (xs : List (List ℕ)) → ((i j : ℕ) → i < length xs → j < 
 at_distinct [] h = tt
 at_distinct (x ∷ xs) h = (
   (λ i. let r = in_at x xs i in
-  let l : r.0 < length xs = r.1 in
-  let e : 0 ≡ suc r.0 = h 0 (suc r.0) (omega arith) (omega arith) (sym r.2) in
-  absurd (omega arith)),
+      let l : r.0 < length xs = r.1 in
+      let e : 0 ≡ suc r.0 = h 0 (suc r.0) (omega arith) (omega arith) (sym r.2) in
+      absurd (omega arith)),
   at_distinct xs (λ i j l m e. let s : suc i ≡ suc j = h (suc i) (suc j) (omega arith) (omega arith) e in omega arith),
 )
 

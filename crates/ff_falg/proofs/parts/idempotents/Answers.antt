@@ -23,6 +23,6 @@ returns g c =
     let es = elements_of c.in_ok-parts.parts.items in
     let ts = elements_of c.sort.new.self.items in
     let r = reordered es ts (distinct_lists k A law c.in_ok-basis.basis c.in_ok-basis.ensures some es c.in_ok-parts.ensures)
-        (IsPermutation-map (λ v. v.items) _ _ c.in_ok-sort.ensures.permutation) in
+    (IsPermutation-map (λ v. v.items) _ _ c.in_ok-sort.ensures.permutation) in
     primitive_list k A law c.in_ok-basis.basis c.in_ok-basis.ensures some es c.in_ok-parts.ensures ts r
     (ascending c.sort.new.self.items c.in_ok-sort.ensures.sorted r.distinct)

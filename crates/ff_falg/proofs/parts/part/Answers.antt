@@ -46,7 +46,7 @@ pub scale_all-requires-clause-codes_in : goal.scale_all-requires-clause-codes_in
 scale_all-requires-clause-codes_in g c =
     let k = g.K.SmallField.field c.args.k.now in
     let over = subst (IsOver k.ops) (sym (c.as_slice.ensures.value ∙ c.in_ok-coefficients.ensures))
-        (quotient_over k c.args.lower.now c.args.c c.requires.lower_in c.requires.simple.code) in
+    (quotient_over k c.args.lower.now c.args.c c.requires.lower_in c.requires.simple.code) in
     subst (IsOver k.ops) (sym (c.as_mut_slice.ensures.value ∙ c.in_ok-sum.ensures))
     (product_in k c.args.powers.now _ over c.requires.shape c.requires.powers_in).over
 
@@ -54,7 +54,7 @@ pub scale_all-requires-clause-c_in : goal.scale_all-requires-clause-c_in
 scale_all-requires-clause-c_in g c =
     let k = g.K.SmallField.field c.args.k.now in
     let is = c.value-weight.ensures
-        ∙ ap (λ xs. monic_value k.ops (take (length c.args.lower.now - 1) xs) c.args.c) (c.deref.ensures.value ∙ c.in_ok-coefficients.ensures) in
+    ∙ ap (λ xs. monic_value k.ops (take (length c.args.lower.now - 1) xs) c.args.c) (c.deref.ensures.value ∙ c.in_ok-coefficients.ensures) in
     subst (λ x. x < k.size) (sym (c.inv.ensures ∙ ap k.inv is))
     (k.laws.inv_below _ (monic_below k _ c.args.c
     (IsOver_take (length c.args.lower.now - 1) (quotient_over k c.args.lower.now c.args.c c.requires.lower_in c.requires.simple.code)) c.requires.simple.code)
