@@ -19,3 +19,4 @@ pub mod SplitSteps
 pub mod RefineSteps
 pub mod Sorting
 pub mod PrimitiveLists
+pub mod PrimitiveUse

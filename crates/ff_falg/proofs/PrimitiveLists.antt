@@ -40,7 +40,7 @@ module _ {E : Type 0} (R : CommRing E) where
   absorbed s [] h = zero_mul R s
   absorbed s (e ∷ xs) h = add_mul R e (sum_over R.ops xs (λ e. e)) s ∙ ap₂ ◌⊕◌ (h e (inl refl)) (absorbed s xs (λ y i. h y (inr i)))
 
-  orthogonal_of : (xs : List E) → IsDistinct xs → ((e : E) → In e xs → (e ⊗ e ≡ e) × (¬ (e ≡ 𝟘)))
+  pub orthogonal_of : (xs : List E) → IsDistinct xs → ((e : E) → In e xs → (e ⊗ e ≡ e) × (¬ (e ≡ 𝟘)))
       → ((e f : E) → In e xs → In f xs → (e ≡ f) ⊎ (e ⊗ f ≡ 𝟘)) → Orthogonal R.ops xs
   orthogonal_of [] d h p = tt
   orthogonal_of (x ∷ xs) d h p = (
@@ -104,7 +104,7 @@ module _ (k : CodeField) (A : AlgebraOps) (law : IsAlgebra k A) where
   abbrev S : V → Type 0
   S = Image (scalar k A law)
 
-  primitive_value : (e : V) → IsPrimitiveVector R.ops e → IsPrimitive k.ops A e.0
+  pub primitive_value : (e : V) → IsPrimitiveVector R.ops e → IsPrimitive k.ops A e.0
   primitive_value e p = record {
     idempotent = record { vector = e.1; square = ap (λ y. y.0) p.idempotent };
     nonzero = λ z. p.nonzero (same_vector k A.size _ _ z);
@@ -114,7 +114,7 @@ module _ (k : CodeField) (A : AlgebraOps) (law : IsAlgebra k A) where
     ];
   }
 
-  value_primitive : (e : List ℕ) (p : IsPrimitive k.ops A e) → IsPrimitiveVector R.ops (e, p.idempotent.vector)
+  pub value_primitive : (e : List ℕ) (p : IsPrimitive k.ops A e) → IsPrimitiveVector R.ops (e, p.idempotent.vector)
   value_primitive e p = record {
     nonzero = λ z. p.nonzero (ap (λ y. y.0) z);
     idempotent = same_vector k A.size _ _ p.idempotent.square;
@@ -124,7 +124,7 @@ module _ (k : CodeField) (A : AlgebraOps) (law : IsAlgebra k A) where
     ];
   }
 
-  in_lists : (x : V) (xs : List V) → In x.0 (lists k A law xs) → In x xs
+  pub in_lists : (x : V) (xs : List V) → In x.0 (lists k A law xs) → In x xs
   in_lists x xs i = let r = of_map (λ y. y.0) xs x.0 i in subst (λ y. In y xs) (sym (same_vector k A.size x r.0 r.2)) r.1
 
   module _ (basis : MatrixValue) (h : IsEchelonBasis k.ops A.size (IsFixed k.ops A) basis) (some : 0 < A.size)
