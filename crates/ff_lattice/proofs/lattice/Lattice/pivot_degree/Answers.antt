@@ -1,8 +1,8 @@
-use Rattle.std.proofs.Common.{◌≡◌, ◌+◌, ◌-◌, ◌<◌, ◌≤◌, ◌*◌, ◌^◌, length, ap, ap₂, sym, subst, ◌∙◌, arith, ℤ, pos, ◌-ℤ◌}
+use Rattle.std.proofs.Common.{◌≡◌, ◌+◌, ◌-◌, ◌<◌, ◌*◌, ◌^◌, length, ap, ap₂, sym, subst, ◌∙◌, arith, pos, ◌-ℤ◌}
 use Rattle.std.proofs.lemmas.List.{length-map}
-use Rattle.ff_poly.specs.Popov.{rows_of, IsPopov, entry_at, row_at, pivot_degree}
+use Rattle.ff_poly.specs.Popov.{rows_of, IsPopov, pivot_degree}
 use Rattle.ff_lattice.specs.Steps.{pivot_sum}
-use Rattle.ff_lattice.proofs.PivotSums.{whole_sum, next_sum, added, reduced, pivot_some, entry_inside, pivot_is}
+use Rattle.ff_lattice.proofs.PivotSums.{whole_sum, next_sum, added, reduced, entry_inside, pivot_is}
 use Rattle.ff_lattice.proofs.lattice.Lattice.pivot_degree.Goals as goal
 
 pub index-requires : goal.index-requires
