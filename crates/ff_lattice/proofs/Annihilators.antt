@@ -90,8 +90,8 @@ module _ (k : CodeField) where
   rest_divides : (e v q w u : List ℕ) → IsOver k.ops e → IsOver k.ops v → IsOver k.ops u → IsQuotient k.ops v e q w → Divides k.ops e (product_of k.ops u v) ↔ Divides k.ops e (product_of k.ops u w)
   rest_divides e v q w u e_in v_in u_in d =
       let v_is = ap (value k) d.whole
-          ∙ value_sum k (product_of k.ops e q) w (IsOver_product_of k e_in d.quotient_in) d.rest_in
-          ∙ ap (λ x. (polynomials k).◌⊕◌ x (value k w)) (value_product k e q e_in d.quotient_in) in
+      ∙ value_sum k (product_of k.ops e q) w (IsOver_product_of k e_in d.quotient_in) d.rest_in
+      ∙ ap (λ x. (polynomials k).◌⊕◌ x (value k w)) (value_product k e q e_in d.quotient_in) in
       let whole = divides_product k e u v e_in u_in v_in in
       let rest = divides_product k e u w e_in u_in d.rest_in in
       let both = pol_rest k (value k e) (value k u) (value k v) (value k q) (value k w) v_is in (
@@ -164,8 +164,8 @@ module _ (k : CodeField) where
           let thv : DividesPol k (value k e) (P.◌⊗◌ t (P.◌⊗◌ (value k h) (value k v)))
           = subst (DividesPol k (value k e)) (ap (λ x. P.◌⊗◌ x (value k v)) dp.is ∙ swap_right (value k h) t (value k v)) uv in
           let at = (ann.divides t_codes t_in (IsPoly_codes_of k t)).1
-              ((divides_product k e t_codes hv e_in t_in hv_in).1
-              (subst (DividesPol k (value k e)) (ap₂ P.◌⊗◌ (sym (value_codes_of k t)) (sym hv_value)) thv)) in
+          ((divides_product k e t_codes hv e_in t_in hv_in).1
+          (subst (DividesPol k (value k e)) (ap₂ P.◌⊗◌ (sym (value_codes_of k t)) (sym hv_value)) thv)) in
           divides_codes k (product_of k.ops h a) u (IsOver_product_of k h_in ann.over) u_in u_poly
           (subst (λ x. DividesPol k x (value k u)) (sym (value_product k h a h_in ann.over))
           (subst (DividesPol k (P.◌⊗◌ (value k h) (value k a))) (sym dp.is)

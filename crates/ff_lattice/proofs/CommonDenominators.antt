@@ -60,8 +60,7 @@ module _ (k : CodeField) where
   pub denominators_more : (n : ℕ) (zs : List ElemValue) (i : ℕ) (z : ElemValue) (e m : List ℕ) → All (IsElem k.ops n) zs → i < length zs → z ≡ get_or zs i z → IsOver k.ops e → All (λ z. Divides k.ops z.den e) (take i zs) → IsCommonMultiple k.ops e z.den m
       → All (λ z. Divides k.ops z.den m) (take (i + 1) zs)
   denominators_more n zs i z e m zs_in less z_is e_in so_far common =
-      (all_more (λ z. Divides k.ops z.den m) zs i z less).0
-      (
+      (all_more (λ z. Divides k.ops z.den m) zs i z less).0 (
         (λ j d j_less.
             let in_zs : j < length zs = omega (arith, less, j_less, length_take j_less) in
             divides_trans (get_or (take i zs) j d).den e m

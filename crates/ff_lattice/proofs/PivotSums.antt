@@ -51,8 +51,8 @@ pub reduced : (bits s n d : ℕ) → to_z w128 bits ≡ pos s → n < 2 ^ 62 →
     → to_z w128 (of_z w128 (to_z w128 bits -ℤ to_z w128 (of_z w128 (to_z w128 n *ℤ to_z w128 d)))) ≡ pos s -ℤ pos (n * d)
 reduced bits s n d is few small low =
     let product : to_z w128 (of_z w128 (to_z w128 n *ℤ to_z w128 d)) ≡ pos (n * d) =
-        ap (λ z. to_z w128 (of_z w128 z)) (ap₂ (λ a b. a *ℤ b) (to_z_pos w128 (omega (arith, few))) (to_z_pos w128 (omega (arith, small))) ∙ pos-*ℤ-pos n d)
-        ∙ to_z-of_z {w = w128} {z = pos (n * d)} (record { sfits = product_small n d few small }) in
+    ap (λ z. to_z w128 (of_z w128 z)) (ap₂ (λ a b. a *ℤ b) (to_z_pos w128 (omega (arith, few))) (to_z_pos w128 (omega (arith, small))) ∙ pos-*ℤ-pos n d)
+    ∙ to_z-of_z {w = w128} {z = pos (n * d)} (record { sfits = product_small n d few small }) in
     ap (λ z. to_z w128 (of_z w128 z)) (ap₂ (λ a b. a -ℤ b) is product)
     ∙ to_z-of_z {w = w128} {z = pos s -ℤ pos (n * d)} (omega (arith, ints, low, few, product_small n d few small))
 

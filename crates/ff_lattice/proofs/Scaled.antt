@@ -56,11 +56,11 @@ module _ (k : CodeField) where
       let g_top : gs γ ≡ K.𝟙 = same_code k (gs γ) K.𝟙 (coeff_code g γ g_in ∙ (top_of_monic g g_monic).2) in
       let product_top : coeff_of K.ops (value k (product_of k.ops g a)).0 (γ + m) ≡ as' m
       = ap (λ q. coeff_of K.ops q.0 (γ + m)) (value_product k g a g_in a_in)
-          ∙ series_mul K (value k g) (value k a) (γ + m)
-          ∙ convolution_top K.ring γ m gs as'
-          (λ i past. coeff_past K (value k g).0 i (omega (arith, past, value_length g g_in g_poly, g_size)))
-          (λ i past. coeff_past K (value k a).0 i (omega (arith, past, value_length a a_in a_poly, size)))
-          ∙ ap (λ x. K.◌⊗◌ x (as' m)) g_top ∙ one_mul K.ring (as' m) in
+      ∙ series_mul K (value k g) (value k a) (γ + m)
+      ∙ convolution_top K.ring γ m gs as'
+      (λ i past. coeff_past K (value k g).0 i (omega (arith, past, value_length g g_in g_poly, g_size)))
+      (λ i past. coeff_past K (value k a).0 i (omega (arith, past, value_length a a_in a_poly, size)))
+      ∙ ap (λ x. K.◌⊗◌ x (as' m)) g_top ∙ one_mul K.ring (as' m) in
       IsMonic_from_top m a size
       (sym (coeff_code a m a_in) ∙ ap (λ x. x.0) (sym product_top)
       ∙ coeff_code (product_of k.ops g a) (γ + m) (IsOver_product_of k g_in a_in)

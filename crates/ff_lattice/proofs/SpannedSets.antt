@@ -85,7 +85,7 @@ module _ (k : CodeField) (p : PresValue) where
   reduced_set m rows e l lattice r z =
       let same : map (function_of k p) (elems_over rows e) ≡ map (function_of k p) (elems_over l.rows l.den)
       = ap₂ (λ xs d. map (function_of k p) (elems_over xs d)) (sym r.rows_are) r.den_is
-          ∙ factor_elems m r.factor l.den l.rows r.factor_in lattice.den_in lattice.rows_in (monic_value k r.factor r.factor_in r.factor_poly r.factor_monic) (monic_value k l.den lattice.den_in lattice.den_poly lattice.monic) in (
+      ∙ factor_elems m r.factor l.den l.rows r.factor_in lattice.den_in lattice.rows_in (monic_value k r.factor r.factor_in r.factor_poly r.factor_monic) (monic_value k l.den lattice.den_in lattice.den_poly lattice.monic) in (
         subst (λ fs. InSpan fs z) (sym same),
         subst (λ fs. InSpan fs z) same,
       )
@@ -167,7 +167,7 @@ module _ (k : CodeField) (p : PresValue) where
             let q = value k m.factor in
             let member = (in_span_of k p e some rows ((functions k p).◌⊗◌ (of_poly c q) z)).0 m.is_in in
             let numerator = member_numerator c (value k e) some (read_rows k p.n rows) (row_scale S.ops n q (read_row k n v))
-                (subst (Member c (value k e) some (read_rows k p.n rows)) (over_scale c q (read_row k n v) (value k e) some) member) in
+            (subst (Member c (value k e) some (read_rows k p.n rows)) (over_scale c q (read_row k n v) (value k e) some) member) in
             record {
               factor = m.factor;
               factor_in = m.factor_in;
@@ -193,8 +193,8 @@ rows_spanned k n rows basis e l rows_in rows_poly basis_in popov same e_in e_mon
       let reduced_to = reduced_set k p n basis e l lattice reduced z in
       let sets =
       same_set k p e (monic_value k e e_in (monic_poly e e_monic) e_monic) rows basis
-          (subst (λ m. All (IsRow k.ops m) rows) (sym n_is) rows_in) (subst (λ m. All (IsRow k.ops m) basis) (sym n_is) basis_in) rows_poly (popov_poly n basis popov)
-          (subst (λ m. HaveSameSpan k.ops m rows basis) (sym n_is) same) z in (
+      (subst (λ m. All (IsRow k.ops m) rows) (sym n_is) rows_in) (subst (λ m. All (IsRow k.ops m) basis) (sym n_is) basis_in) rows_poly (popov_poly n basis popov)
+      (subst (λ m. HaveSameSpan k.ops m rows basis) (sym n_is) same) z in (
         λ h. sets.1 (reduced_to.0 h),
         λ h. reduced_to.1 (sets.0 h),
       );

@@ -28,11 +28,10 @@ loop-i-preserved c =
     let is = pivot_is (length (rows_of vs)) vs popov c.loop-i.i (omega arith) (sym size) c.index-rows-i.result c.index-rows-i.is c.index.result.now c.index.ensures in
     let d_is = c.len.ensures.length ∙ ap length is in
     let (sum_is, low) = c.loop-i.invariant in
-    let small : c.len.result - 1 < 2 ^ 64 = omega arith in
-    (
+    let small : c.len.result - 1 < 2 ^ 64 = omega arith in (
       added c.loop-i.sum-bits (pivot_sum (rows_of vs) c.loop-i.i) c.loop-i.i (c.len.result - 1) sum_is low (omega (arith, c.requires.few, ap length c.rows-rows.ensures.rows, size)) (omega arith)
-      ∙ ap (λ d. pos (pivot_sum (rows_of vs) c.loop-i.i + (d - 1))) d_is
-      ∙ ap pos (sym (next_sum (rows_of vs) c.loop-i.i)),
+          ∙ ap (λ d. pos (pivot_sum (rows_of vs) c.loop-i.i + (d - 1))) d_is
+          ∙ ap pos (sym (next_sum (rows_of vs) c.loop-i.i)),
       omega (arith, low, d_is, small, next_sum (rows_of vs) c.loop-i.i),
     )
 
@@ -47,5 +46,5 @@ returns c =
     reduced c.loop-i.sum-bits (pivot_sum (rows_of vs) c.loop-i.i) (length vs) (c.len-degree.result - 1)
     sum_is (omega (arith, c.requires.few, rows_length, size)) (omega arith) (omega (arith, low, end))
     ∙ ap₂ (λ s m. pos s -ℤ pos m)
-      (ap (pivot_sum (rows_of vs)) end' ∙ whole_sum (rows_of vs) ∙ ap pivot_degree c.rows-rows.ensures.rows)
-      (ap₂ (λ n d. n * (d - 1)) (sym size ∙ rows_length) (c.len-degree.ensures.length ∙ ap length c.den.ensures.den))
+    (ap (pivot_sum (rows_of vs)) end' ∙ whole_sum (rows_of vs) ∙ ap pivot_degree c.rows-rows.ensures.rows)
+    (ap₂ (λ n d. n * (d - 1)) (sym size ∙ rows_length) (c.len-degree.ensures.length ∙ ap length c.den.ensures.den))
