@@ -1,25 +1,22 @@
 -- The polynomials that take a polynomial, a row or rows into the multiples of e have one monic generator.
-use Rattle.std.proofs.Common.{◌≡◌, ◌≢◌, ℕ, zero, suc, ◌+◌, ◌-◌, ◌<◌, ◌≤◌, ◌⊎◌, ◌↔◌, inl, inr, List, [], ◌∷◌, ◌++◌, length, get_or, map, take, refl, sym, ◌∙◌, ap, ap₂, subst, arith, All}
-use Rattle.std.proofs.lemmas.Bool.{cases_lt}
+use Rattle.std.proofs.Common.{◌≡◌, ℕ, ◌+◌, ◌<◌, ◌≤◌, ◌↔◌, List, [], ◌∷◌, length, get_or, take, refl, sym, ◌∙◌, ap, ap₂, subst, arith, All}
 use Rattle.std.proofs.lemmas.List.{length-map, get_or-take, length-take-le, take_more, take_all}
-use Rattle.std.proofs.lemmas.List.Elements.{All-nil, All-cons, All-head, All-tail, All-append}
-use Rattle.ff_ring.specs.Ring.{CommRing, TestedRing}
+use Rattle.std.proofs.lemmas.List.Elements.{All-nil, All-cons, All-head, All-append}
+use Rattle.ff_ring.specs.Ring.{TestedRing}
 use Rattle.ff_ring.proofs.Ring.{one_mul}
 use Rattle.ff_ring.proofs.Solver.{ring, reads}
 use Rattle.ff_fields.specs.Field.{CodeField}
 use Rattle.ff_fields.specs.Over.{IsOver, IsOver_nil, IsOver_cons}
-use Rattle.ff_poly.specs.Words.{IsPoly, IsMonic, IsQuotient, Divides, product_of, sum_of}
+use Rattle.ff_poly.specs.Words.{IsPoly, IsMonic, IsQuotient, Divides, product_of}
 use Rattle.ff_poly.specs.PolyOver.{IsOver_product_of}
 use Rattle.ff_poly.specs.Value.{value, value_product, value_sum}
 use Rattle.ff_poly.specs.Polynomials.{Polynomial, polynomials, codes_of, IsOver_codes_of, IsPoly_codes_of, value_codes_of, value_one}
-use Rattle.ff_poly.specs.Popov.{rows_of, row_at, entry_at, IsRow, IsPopov, InSpan, combination}
+use Rattle.ff_poly.specs.Popov.{rows_of, row_at, entry_at, IsRow, InSpan, combination}
 use Rattle.std.specs.Global.{Vec}
-use Rattle.ff_poly.proofs.Parts.{IsPoly_product_of, IsMonic_product, top_of_monic}
-use Rattle.ff_popov.proofs.Entries.{any_default}
-use Rattle.ff_lattice.specs.Lattices.{IsMultiplier}
+use Rattle.ff_poly.proofs.Parts.{IsPoly_product_of, IsMonic_product}
 use Rattle.ff_lattice.specs.Steps.{IsPreimage, IsAnnihilator, IsNext, IsRowMultiplier, IsLeastMultiplier}
 use Rattle.ff_lattice.proofs.Elements.{DividesPol, divides_value, divides_codes}
-use Rattle.ff_lattice.proofs.Divisors.{pol_rest, pol_times, pol_scale, pol_cancel, divides_product, divides_self, product_comm, sum_nil, monic_value}
+use Rattle.ff_lattice.proofs.Divisors.{pol_rest, pol_times, pol_scale, divides_product, divides_self, product_comm, sum_nil}
 
 -- a fact of each entry of a first part, and of the next
 pub all_more : {X : Type 0} (P : X → Type 0) (xs : List X) (i : ℕ) (d : X) → i < length xs → (All P (take i xs) × P (get_or xs i d)) ↔ All P (take (i + 1) xs)

@@ -6,6 +6,7 @@ pub mod Transport
 pub mod KernelRows
 pub mod SplitRows
 pub mod Spaces
+pub mod PivotSums
 pub mod Preimages
 pub mod Pushes
 pub mod Divisors

@@ -1,7 +1,7 @@
 -- Rows times a monic polynomial: they are in Popov form exactly where the rows are.
-use Rattle.std.proofs.Common.{◌≡◌, ◌≢◌, ℕ, zero, suc, ◌+◌, ◌-◌, ◌<◌, ◌≤◌, ◌⊎◌, inl, inr, List, [], ◌∷◌, length, get_or, map, refl, sym, ◌∙◌, ap, ap₂, subst, arith, All}
+use Rattle.std.proofs.Common.{◌≡◌, ℕ, zero, suc, ◌+◌, ◌-◌, ◌<◌, ◌≤◌, ◌⊎◌, inl, inr, List, [], ◌∷◌, length, get_or, map, refl, sym, ◌∙◌, ap, ap₂, subst, arith, All}
 use Rattle.std.proofs.lemmas.List.{length-map}
-use Rattle.std.proofs.lemmas.List.Elements.{All-nil, All-cons, All-head, All-tail}
+use Rattle.std.proofs.lemmas.List.Elements.{All-nil, All-head, All-tail}
 use Rattle.ff_ring.specs.Ring.{TestedRing}
 use Rattle.ff_ring.specs.Lists.{coeff_of}
 use Rattle.ff_ring.proofs.Ring.{one_mul}
@@ -14,7 +14,7 @@ use Rattle.ff_fields.specs.Over.{IsOver}
 use Rattle.ff_poly.specs.Words.{IsPoly, IsMonic, product_of}
 use Rattle.ff_poly.specs.PolyOver.{IsOver_product_of}
 use Rattle.ff_poly.specs.Value.{value, numbers_value, value_product}
-use Rattle.ff_poly.specs.Polynomials.{Polynomial, polynomials, codes_of, series_read, value_not_zero}
+use Rattle.ff_poly.specs.Polynomials.{polynomials, series_read, value_not_zero}
 use Rattle.ff_poly.specs.Popov.{entry_at, row_at, IsRow, IsPivot, IsPopov, multiple_of_row}
 use Rattle.ff_poly.proofs.Parts.{IsPoly_product_of, IsMonic_product, IsMonic_from_top, top_of_monic}
 use Rattle.ff_poly.proofs.Results.{product_of_nil}

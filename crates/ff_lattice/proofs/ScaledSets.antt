@@ -1,6 +1,6 @@
 -- A fraction times a lattice.
-use Rattle.std.proofs.Common.{◌≡◌, ◌≢◌, ℕ, zero, suc, ◌+◌, ◌-◌, ◌<◌, ◌≤◌, ◌↔◌, List, [], ◌∷◌, length, map, refl, sym, ◌∙◌, ap, ap₂, subst, arith, All}
-use Rattle.std.proofs.lemmas.List.Elements.{All-nil, All-cons, All-head, All-tail}
+use Rattle.std.proofs.Common.{◌≡◌, ◌≢◌, ℕ, suc, ◌-◌, ◌<◌, ◌↔◌, List, [], ◌∷◌, length, map, refl, sym, ◌∙◌, ap, subst, arith, All}
+use Rattle.std.proofs.lemmas.List.Elements.{All-nil, All-cons}
 use Rattle.ff_ring.specs.Ring.{CommRing, TestedRing, IsDomain}
 use Rattle.ff_ring.specs.Rows.{Row, row_scale}
 use Rattle.ff_ring.proofs.Ring.{product_not_zero, zero_mul}
@@ -11,7 +11,7 @@ use Rattle.ff_fields.specs.Field.{CodeField}
 use Rattle.ff_fields.specs.Code.{code_ring, code_field}
 use Rattle.ff_fields.specs.Over.{IsOver, get_or_below}
 use Rattle.ff_poly.specs.Words.{IsPoly, IsMonic, product_of, multiple_of, top_of}
-use Rattle.ff_poly.specs.PolyOver.{IsOver_product_of, IsOver_multiple_of}
+use Rattle.ff_poly.specs.PolyOver.{IsOver_multiple_of}
 use Rattle.ff_poly.specs.Value.{value, value_product}
 use Rattle.ff_poly.specs.Polynomials.{Polynomial, polynomials, polynomials_domain, codes_of, IsOver_codes_of, IsPoly_codes_of, value_codes_of, value_nil, constant_poly}
 use Rattle.ff_poly.specs.Popov.{IsRow, multiple_of_row}
@@ -20,18 +20,16 @@ use Rattle.ff_poly.proofs.Parts.{IsMonic_multiple, value_multiple}
 use Rattle.popov_theory.specs.Module.{PolynomialModule}
 use Rattle.popov_theory.specs.Span as theory
 use Rattle.popov_theory.proofs.Module.{scale_scale}
-use Rattle.popov_theory.proofs.Span.{span_scale}
 use Rattle.popov_theory.proofs.Existence.{rank_from_full}
 use Rattle.popov_theory.proofs.PolynomialRows.{row_module_scale}
 use Rattle.ff_popov.specs.Reading.{read_row, row_space, read_rows}
 use Rattle.ff_popov.proofs.PopovBasis.{basis_weak, basis_full}
 use Rattle.ff_popov.proofs.Spans.{from_space, space_multiple, multiple_row}
-use Rattle.ff_algebra.specs.Functions.{Equation, RowOver, of_poly, over}
+use Rattle.ff_algebra.specs.Functions.{Equation, of_poly, over}
 use Rattle.ff_algebra.specs.Values.{PresValue, Functions, functions, equation_of}
 use Rattle.ff_algebra.proofs.Stages.{row_of_function}
 use Rattle.ff_lattice.specs.Lattices.{LatticeValue, IsLattice, elems_over, InSpanOf, Contains, IsScaled, IsSpannedBy}
 use Rattle.ff_lattice.proofs.Fracs.{over_eq, over_same, over_scale}
-use Rattle.ff_lattice.proofs.Members.{Member}
 use Rattle.ff_lattice.proofs.Elements.{in_span_of}
 use Rattle.ff_lattice.proofs.Divisors.{monic_value}
 use Rattle.ff_lattice.proofs.Normal.{monic_poly}

@@ -1,11 +1,11 @@
 -- Lattices in F = k(x)[y]/(f): what a value of rows over a denominator stands for, and the form that each lattice has
 -- (Hess, Computing Riemann-Roch spaces in algebraic function fields; Kailath, Linear Systems, for Popov forms).
-use Rattle.std.specs.Prelude.{◌≡◌, ℕ, ◌≤◌, ◌↔◌, List, [], length, map, All}
+use Rattle.std.specs.Prelude.{◌≡◌, ℕ, ◌≤◌, ◌*◌, ◌-◌, ◌↔◌, ℤ, pos, ◌-ℤ◌, List, [], length, map, All}
 use Rattle.ff_ring.specs.Subsets.{Span}
 use Rattle.ff_fields.specs.Field.{FieldOps, CodeField}
 use Rattle.ff_fields.specs.Over.{IsOver}
 use Rattle.ff_poly.specs.Words.{IsPoly, IsMonic, Divides, product_of}
-use Rattle.ff_poly.specs.Popov.{IsRow, IsPopov}
+use Rattle.ff_poly.specs.Popov.{IsRow, IsPopov, pivot_degree}
 use Rattle.ff_poly.specs.Value.{value}
 use Rattle.ff_algebra.specs.Functions.{IsPolynomial, of_poly}
 use Rattle.ff_algebra.specs.Values.{ElemValue, PresValue, Functions, functions, function_of, equation_of}
@@ -21,6 +21,10 @@ elems_over rows den = map (λ v. record { num = v; den = den }) rows
 
 abbrev pub row_elems : LatticeValue → List ElemValue
 row_elems l = elems_over l.rows l.den
+
+-- the sum of the degrees of the pivots, less the number of rows times the degree of the denominator
+abbrev pub pivot_degree_of : LatticeValue → ℤ
+pivot_degree_of l = pos (pivot_degree l.rows) -ℤ pos (length l.rows * (length l.den - 1))
 
 -- a Popov basis over a monic polynomial
 pub record IsForm (l : LatticeValue) : Type 0 where

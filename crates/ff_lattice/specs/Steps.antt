@@ -1,5 +1,5 @@
 -- The words of the private contracts.
-use Rattle.std.specs.Prelude.{◌≡◌, ℕ, ◌+◌, ◌<◌, ◌≤◌, ◌↔◌, List, [], ◌∷◌, ◌++◌, length, get_or, map, replicate, take, slice_set, All}
+use Rattle.std.specs.Prelude.{◌≡◌, ℕ, zero, suc, ◌+◌, ◌-◌, ◌<◌, ◌≤◌, ◌↔◌, List, [], ◌∷◌, ◌++◌, length, get_or, map, replicate, take, slice_set, All}
 use Rattle.ff_fields.specs.Field.{FieldOps}
 use Rattle.ff_fields.specs.Over.{IsOver}
 use Rattle.ff_poly.specs.Words.{IsPoly, IsMonic, Divides, product_of, shifted}
@@ -104,3 +104,8 @@ pub record IsExpansion (k : FieldOps) (e : List ℕ) (z : ElemValue) (row : List
 pub record IsExpanded (k : FieldOps) (n : ℕ) (e : List ℕ) (zs : List ElemValue) (rows : List (List (List ℕ))) : Type 0 where
   pub size : length rows ≡ length zs
   pub each : (i : ℕ) (d : ElemValue) → i < length zs → IsExpansion k e (get_or zs i d) (row_at rows i)
+
+-- the sum of the degrees of the pivots of the first i rows
+abbrev pub pivot_sum : List (List (List ℕ)) → ℕ → ℕ
+pivot_sum rows zero = 0
+pivot_sum rows (suc i) = pivot_sum rows i + (length (entry_at (row_at rows i) i) - 1)

@@ -91,47 +91,136 @@ fn lattice<K: SmallField>(
     Lattice::from_generators(alloc, k, p, &gens)
 }
 
-// Are these sums, products and multiples of x, 1 + y and of x, 6 + y, and their members, the known ones?
-fn answers<K: SmallField>(alloc: Global, k: &K) -> Result<bool, LatticeFault>
+// The lattice of 1 and y.
+fn whole<K: SmallField>(alloc: Global, k: &K, p: &Pres) -> Result<Lattice, LatticeFault>
+    requires size { 1 < (K.field k.now).size }
+    requires degree { p.now.n ≡ 2 }
+    ensures { IfOk result (IsLattice (K.field k.now).ops 2) }
+{
+    lattice(
+        alloc,
+        k,
+        p,
+        elem(alloc, k, 1, 0, 0)?,
+        elem(alloc, k, 0, 0, 1)?,
+    )
+}
+
+// The lattice of x and c + y.
+fn at<K: SmallField>(alloc: Global, k: &K, p: &Pres, c: u32) -> Result<Lattice, LatticeFault>
+    requires size { 1 < (K.field k.now).size }
+    requires c_in { c < (K.field k.now).size }
+    requires degree { p.now.n ≡ 2 }
+    ensures { IfOk result (IsLattice (K.field k.now).ops 2) }
+{
+    lattice(
+        alloc,
+        k,
+        p,
+        elem(alloc, k, 0, 1, 0)?,
+        elem(alloc, k, c, 0, 1)?,
+    )
+}
+
+// The members of the lattice times x.
+fn times_x<K: SmallField>(alloc: Global, k: &K, a: &Lattice) -> Result<Lattice, LatticeFault>
+    requires size { 1 < (K.field k.now).size }
+    requires form { IsLattice (K.field k.now).ops 2 a.now }
+    ensures { IfOk result (IsLattice (K.field k.now).ops 2) }
+{
+    let x = line(alloc, k, 0, 1)?;
+    let one = Poly::one(alloc)?;
+    if x.is_zero() || one.is_zero() || a.len() != 2 {
+        return Err(LatticeFault::NotFull);
+    }
+    let multiple = scale(alloc, k, a, &x, &one)?;
+    Ok(multiple)
+}
+
+// Are they the same?
+fn same<K: SmallField>(k: &K, a: &Lattice, b: &Lattice) -> bool
+    requires a_form { IsLattice (K.field k.now).ops 2 a.now }
+    requires b_form { IsLattice (K.field k.now).ops 2 b.now }
+{
+    a.len() == 2 && same_lattice(k, a, b)
+}
+
+// Is the sum of x, 1 + y and x, 6 + y the lattice of 1 and y?
+fn known_sum<K: SmallField>(alloc: Global, k: &K) -> Result<bool, LatticeFault>
     requires { 6 < (K.field k.now).size }
 {
     let p = curve(alloc, k, 6, 0, 6)?;
-    let whole = lattice(
-        alloc,
-        k,
-        &p,
-        elem(alloc, k, 1, 0, 0)?,
-        elem(alloc, k, 0, 0, 1)?,
-    )?;
-    let a = lattice(
-        alloc,
-        k,
-        &p,
-        elem(alloc, k, 0, 1, 0)?,
-        elem(alloc, k, 1, 0, 1)?,
-    )?;
-    let b = lattice(
-        alloc,
-        k,
-        &p,
-        elem(alloc, k, 0, 1, 0)?,
-        elem(alloc, k, 6, 0, 1)?,
-    )?;
-    let x = line(alloc, k, 0, 1)?;
-    let one = Poly::one(alloc)?;
-    if x.is_zero() || one.is_zero() || whole.len() != 2 {
-        return Ok(false);
+    let total = sum(alloc, k, &p, &at(alloc, k, &p, 1)?, &at(alloc, k, &p, 6)?)?;
+    Ok(same(k, &total, &whole(alloc, k, &p)?))
+}
+
+// Is the product of x, c + y and x, d + y that of x and x·y?
+fn known_product<K: SmallField>(
+    alloc: Global,
+    k: &K,
+    p: &Pres,
+    c: u32,
+    d: u32,
+) -> Result<bool, LatticeFault>
+    requires size { 1 < (K.field k.now).size }
+    requires c_in { c < (K.field k.now).size }
+    requires d_in { d < (K.field k.now).size }
+    requires degree { p.now.n ≡ 2 }
+    requires p_in { IsPresOver (K.field k.now).ops p.now }
+{
+    let both = product(alloc, k, p, &at(alloc, k, p, c)?, &at(alloc, k, p, d)?)?;
+    Ok(same(k, &both, &times_x(alloc, k, &whole(alloc, k, p)?)?))
+}
+
+// Are the lattices of x, 1 + y and of x, 6 + y the same?
+fn one_at_both<K: SmallField>(alloc: Global, k: &K) -> Result<bool, LatticeFault>
+    requires { 6 < (K.field k.now).size }
+{
+    let p = curve(alloc, k, 6, 0, 6)?;
+    Ok(same(k, &at(alloc, k, &p, 1)?, &at(alloc, k, &p, 6)?))
+}
+
+// Is c + b·x in the lattice of x and 1 + y?
+fn member<K: SmallField>(alloc: Global, k: &K, c: u32, b: u32) -> Result<bool, LatticeFault>
+    requires size { 6 < (K.field k.now).size }
+    requires c_in { c < (K.field k.now).size }
+    requires b_in { b < (K.field k.now).size }
+{
+    let p = curve(alloc, k, 6, 0, 6)?;
+    let a = at(alloc, k, &p, 1)?;
+    if a.len() != 2 {
+        return Err(LatticeFault::NotFull);
     }
-    let multiple = scale(alloc, k, &whole, &x, &one)?;
-    let total = sum(alloc, k, &p, &a, &b)?;
-    let both = product(alloc, k, &p, &a, &b)?;
-    if total.len() != 2 || both.len() != 2 || a.len() != 2 {
-        return Ok(false);
+    let found = contains(alloc, k, &a, &elem(alloc, k, c, b, 0)?)?;
+    Ok(found)
+}
+
+// The pivot degree of the lattice of x and 1 + y.
+fn degree<K: SmallField>(alloc: Global, k: &K) -> Result<i128, LatticeFault>
+    requires { 6 < (K.field k.now).size }
+{
+    let p = curve(alloc, k, 6, 0, 6)?;
+    let a = at(alloc, k, &p, 1)?;
+    if a.len() != 2 {
+        return Err(LatticeFault::NotFull);
     }
-    let same = same_lattice(k, &total, &whole) && same_lattice(k, &both, &multiple);
-    let inside = contains(alloc, k, &a, &elem(alloc, k, 0, 1, 0)?)?;
-    let outside = contains(alloc, k, &a, &elem(alloc, k, 1, 0, 0)?)?;
-    Ok(same && inside && !outside && !same_lattice(k, &a, &b))
+    Ok(a.pivot_degree())
+}
+
+// The product over y^2 + 6·x^3 + 6.
+fn separable<K: SmallField>(alloc: Global, k: &K) -> Result<bool, LatticeFault>
+    requires { 6 < (K.field k.now).size }
+{
+    let p = curve(alloc, k, 6, 0, 6)?;
+    known_product(alloc, k, &p, 1, 6)
+}
+
+// The square of x and y over y^2 + x.
+fn inseparable<K: SmallField>(alloc: Global, k: &K) -> Result<bool, LatticeFault>
+    requires { 1 < (K.field k.now).size }
+{
+    let p = curve(alloc, k, 0, 1, 0)?;
+    known_product(alloc, k, &p, 0, 0)
 }
 
 // Row 1 of the lattice of x and 1 + y.
@@ -139,13 +228,7 @@ fn second_row<K: SmallField>(alloc: Global, k: &K) -> Result<Elem, LatticeFault>
     requires { 6 < (K.field k.now).size }
 {
     let p = curve(alloc, k, 6, 0, 6)?;
-    let a = lattice(
-        alloc,
-        k,
-        &p,
-        elem(alloc, k, 0, 1, 0)?,
-        elem(alloc, k, 1, 0, 1)?,
-    )?;
+    let a = at(alloc, k, &p, 1)?;
     if a.len() != 2 {
         return Err(LatticeFault::NotFull);
     }
@@ -176,39 +259,14 @@ fn not_full<K: SmallField>(alloc: Global, k: &K) -> Result<bool, AllocError>
     Ok(first.is_err() && second.is_err())
 }
 
-// Over y^2 = x, is the square of the lattice of x and y that of x and x·y?
-fn inseparable<K: SmallField>(alloc: Global, k: &K) -> Result<bool, LatticeFault>
-    requires { 1 < (K.field k.now).size }
-{
-    let p = curve(alloc, k, 0, 1, 0)?;
-    let whole = lattice(
-        alloc,
-        k,
-        &p,
-        elem(alloc, k, 1, 0, 0)?,
-        elem(alloc, k, 0, 0, 1)?,
-    )?;
-    let a = lattice(
-        alloc,
-        k,
-        &p,
-        elem(alloc, k, 0, 1, 0)?,
-        elem(alloc, k, 0, 0, 1)?,
-    )?;
-    let x = line(alloc, k, 0, 1)?;
-    let one = Poly::one(alloc)?;
-    if x.is_zero() || one.is_zero() || whole.len() != 2 {
-        return Ok(false);
-    }
-    let square = product(alloc, k, &p, &a, &a)?;
-    let multiple = scale(alloc, k, &whole, &x, &one)?;
-    Ok(square.len() == 2 && same_lattice(k, &square, &multiple))
-}
-
 #[test]
 fn sums_products_and_members(rt: HostRuntime) -> Result<(), Fail> {
     let k = PrimeField::new(7)?;
-    assert!(rt; answers(rt.alloc(), &k)?);
+    assert!(rt; known_sum(rt.alloc(), &k)?);
+    assert!(rt; separable(rt.alloc(), &k)?);
+    assert!(rt; !one_at_both(rt.alloc(), &k)?);
+    assert!(rt; member(rt.alloc(), &k, 0, 1)?);
+    assert!(rt; !member(rt.alloc(), &k, 1, 0)?);
     assert!(rt; not_full(rt.alloc(), &k)?);
     Ok(())
 }
@@ -216,6 +274,7 @@ fn sums_products_and_members(rt: HostRuntime) -> Result<(), Fail> {
 #[test]
 fn rows(rt: HostRuntime) -> Result<(), Fail> {
     let k = PrimeField::new(7)?;
+    assert_eq!(rt; degree(rt.alloc(), &k)?, 1);
     let row = second_row(rt.alloc(), &k)?;
     assert_eq!(rt; row.len(), 2);
     assert_eq!(rt; row.den().degree(), Some(0));

@@ -1,4 +1,4 @@
-use Rattle.std.proofs.Common.{◌≡◌, length, map, subst, sym, ap, ap₂, All, ◌∙◌}
+use Rattle.std.proofs.Common.{◌≡◌, length, map, subst, sym, ap₂, All, ◌∙◌}
 use Rattle.std.specs.Prelude.{MatchOption, IfSome}
 use Rattle.ff_poly.specs.Words.{IsPoly, IsMonic, product_of, multiple_of}
 use Rattle.ff_poly.specs.PolyOver.{IsOver_multiple_of}

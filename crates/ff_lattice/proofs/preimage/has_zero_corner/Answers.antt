@@ -1,4 +1,4 @@
-use Rattle.std.proofs.Common.{◌≡◌, ℕ, ◌<◌, ◌≤◌, [], length, subst, sym, ◌∙◌, arith}
+use Rattle.std.proofs.Common.{◌≡◌, ◌<◌, [], length, subst, ◌∙◌, arith}
 use borrow.Author.Count.{below_more}
 use Rattle.ff_poly.specs.Popov.{rows_of, row_at, entry_at}
 use Rattle.ff_lattice.proofs.Pushes.{read_row}

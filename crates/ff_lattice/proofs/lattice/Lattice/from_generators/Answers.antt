@@ -1,9 +1,7 @@
-use Rattle.std.proofs.Common.{◌≡◌, ◌<◌, length, subst, sym, ap, ap₂, All, ◌∙◌, arith}
+use Rattle.std.proofs.Common.{subst, sym, All}
 use Rattle.std.specs.Prelude.{MatchOption, IfSome}
-use Rattle.ff_poly.specs.Words.{IsPoly, IsMonic}
 use Rattle.ff_poly.specs.Popov.{rows_of, IsRow, HasFullRank}
-use Rattle.ff_ring.specs.Subsets.{Span}
-use Rattle.ff_lattice.specs.Lattices.{IsLattice, IsSpannedBy, elems_over, IsFull, Contains}
+use Rattle.ff_lattice.specs.Lattices.{IsLattice, IsSpannedBy, elems_over}
 use Rattle.ff_lattice.specs.Steps.{IsExpanded}
 use Rattle.ff_lattice.proofs.CommonDenominators.{expanded_rows, expanded_poly, gens_set, gens_not_full}
 use Rattle.ff_lattice.proofs.SpannedSets.{lattice_full}
