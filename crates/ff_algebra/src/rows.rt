@@ -27,7 +27,7 @@ pub(crate) fn copy_all(alloc: Global, row: &[Poly]) -> Result<Vec<Poly>, AllocEr
 }
 
 /// n zeros.
-fn zeros(alloc: Global, n: usize) -> Result<Vec<Poly>, AllocError>
+pub(crate) fn zeros(alloc: Global, n: usize) -> Result<Vec<Poly>, AllocError>
     ensures { IfOk result (λ row. row.items ≡ replicate n []) }
 {
     let mut row = Vec::new(alloc);
@@ -95,7 +95,7 @@ pub(crate) fn cross_sums<K: SmallField>(
 }
 
 /// Multiplies the row by y in place, with y^n replaced by y^n - f.
-fn multiply_by_y<K: SmallField>(
+pub(crate) fn multiply_by_y<K: SmallField>(
     alloc: Global,
     k: &K,
     p: &Pres,

@@ -1,3 +1,4 @@
 pub mod Grammar
 pub mod Scripts
 pub mod Printing
+pub mod Reading

@@ -1,6 +1,9 @@
 -- Which bytes are a script, and what keeps bytes from being one.
-use Rattle.std.specs.Prelude.{◌≡◌, ℕ, suc, ◌≤◌, ◌⊎◌, ◌==◌, List, [], ◌∷◌, ◌++◌, length, All}
+use Rattle.std.specs.Prelude.{◌≡◌, ℕ, suc, ◌≤◌, ◌⊎◌, ◌==◌, List, [], ◌∷◌, ◌++◌, length, All, Option, Some, None, Result, Ok, Err}
 use Rattle.std.specs.List.{slice_split}
+use Rattle.std.specs.Global.{Vec}
+use Rattle.ff_script.specs.declared.fault.ScriptFault.{ScriptFault}
+use Rattle.ff_script.specs.declared.fault.ScriptFault.TheVariants.{Syntax, Misplaced, Memory}
 use Rattle.ff_script.specs.declared.script.Statement.{Statement}
 use Rattle.ff_script.specs.declared.script.Statement.TheVariants.{FieldOf, CurveOf, Mul}
 use Rattle.ff_script.specs.Grammar.{SpellsLine, IsSkipped, IsInGrammar}
@@ -41,29 +44,59 @@ pub record IsScript (bytes : List ℕ) (ss : List Statement) : Type 0 where
   pub read : IsReadAs (lines_of bytes) ss
   pub order : IsInOrder ss
 
--- a line of the bytes, with the lines before it and behind it; its number counts from 1
-pub record IsLine (bytes : List ℕ) (before : List (List ℕ)) (line : List ℕ) (n : ℕ) : Type 0 where
+-- one of the lines, with those before it; its number counts from 1
+pub record IsLine (lines before : List (List ℕ)) (line : List ℕ) (n : ℕ) : Type 0 where
   pub behind : List (List ℕ)
-  pub lines : lines_of bytes ≡ before ++ line ∷ behind
+  pub parts : lines ≡ before ++ line ∷ behind
   pub number : n ≡ suc (length before)
 
--- the first line that isn't in the grammar
-pub record IsSyntaxFault (bytes : List ℕ) (n : ℕ) : Type 0 where
+-- the first line whose statement stands out of order
+pub record IsOutOfOrder (lines : List (List ℕ)) (n : ℕ) : Type 0 where
   pub before : List (List ℕ)
   pub line : List ℕ
-  pub at : IsLine bytes before line n
-  pub good : All IsInGrammar before
-  pub bad : ¬ IsInGrammar line
-
--- every line is in the grammar, and this is the first whose statement stands out of order
-pub record IsMisplaced (bytes : List ℕ) (n : ℕ) : Type 0 where
-  pub before : List (List ℕ)
-  pub line : List ℕ
-  pub at : IsLine bytes before line n
-  pub good : All IsInGrammar (lines_of bytes)
+  pub at : IsLine lines before line n
   pub statements : List Statement
   pub read : IsReadAs before statements
   pub order : IsInOrder statements
   pub statement : Statement
   pub spelled : SpellsLine statement line
   pub misplaced : ¬ IsInOrder (statements ++ statement ∷ [])
+
+-- the first line that isn't in the grammar
+pub record IsSyntaxFault (bytes : List ℕ) (n : ℕ) : Type 0 where
+  pub before : List (List ℕ)
+  pub line : List ℕ
+  pub at : IsLine (lines_of bytes) before line n
+  pub good : All IsInGrammar before
+  pub bad : ¬ IsInGrammar line
+
+-- every line is in the grammar, and this is the first whose statement stands out of order
+pub record IsMisplaced (bytes : List ℕ) (n : ℕ) : Type 0 where
+  pub good : All IsInGrammar (lines_of bytes)
+  pub first : IsOutOfOrder (lines_of bytes) n
+
+-- what keeps the bytes from being a script, or want of memory
+abbrev pub IsScriptFault : List ℕ → ScriptFault → Type 0
+IsScriptFault bytes (Syntax n) = IsSyntaxFault bytes n
+IsScriptFault bytes (Misplaced n) = IsMisplaced bytes n
+IsScriptFault bytes Memory = Unit {0}
+
+-- the statements, or want of memory
+abbrev pub GivesScript : Result (Vec Statement) ScriptFault → List Statement → Type 0
+GivesScript (Ok v) ss = v.items ≡ ss
+GivesScript (Err (Syntax n)) ss = ⊥
+GivesScript (Err (Misplaced n)) ss = ⊥
+GivesScript (Err Memory) ss = Unit {0}
+
+-- ---- while a script is read
+
+-- what the lines so far came to: their statements in order, or the first line whose statement stands out of order
+abbrev pub IsSoFar : List (List ℕ) → List Statement → Option ℕ → Type 0
+IsSoFar lines ss None = IsReadAs lines ss × IsInOrder ss
+IsSoFar lines ss (Some n) = All IsInGrammar lines × IsOutOfOrder lines n
+
+-- a line that can't be taken: it isn't in the grammar, or memory ran out
+abbrev pub IsLineFault : List ℕ → ℕ → ScriptFault → Type 0
+IsLineFault line n (Syntax k) = (k ≡ n) × ¬ IsInGrammar line
+IsLineFault line n (Misplaced k) = ⊥
+IsLineFault line n Memory = Unit {0}

@@ -2,9 +2,13 @@
 #![tactic(auto)]
 
 pub mod fault;
+pub mod parsing;
 pub mod printing;
+pub mod reading;
 pub mod script;
 
 pub use fault::ScriptFault;
+pub use parsing::parse;
 pub use printing::{print, push_statement};
+pub use reading::read_statement;
 pub use script::{CodeList, Modulus, Statement};

@@ -1,3 +1,9 @@
+pub mod Printed
+pub mod PrintedReading
+pub mod PrintedWriting
 pub mod Spelling
 pub mod Reading
 pub mod Printing
+pub mod Scanning
+pub mod ElementScanning
+pub mod Values

@@ -3,7 +3,7 @@
 ghost use Rattle.std.specs.Prelude.{◌≡◌};
 ghost use Rattle.ff_text.specs.declared.fault.TextFault.TheVariants.{Memory};
 
-use std::alloc::AllocFailed;
+use std::alloc::{AllocError, AllocFailed};
 
 /// What keeps a text from being read.
 #[derive(Clone, Copy, Debug, PartialEq, Eq)]
@@ -20,6 +20,14 @@ impl<T: Drop> From<AllocFailed<T>> for TextFault {
     ghost from_gives = { λ _ e. e ≡ Memory };
 
     fn from(_e: AllocFailed<T>) -> TextFault {
+        TextFault::Memory
+    }
+}
+
+impl From<AllocError> for TextFault {
+    ghost from_gives = { λ _ e. e ≡ Memory };
+
+    fn from(_e: AllocError) -> TextFault {
         TextFault::Memory
     }
 }

@@ -1,11 +1,24 @@
 //! Texts of numbers, polynomials and elements: how they are written in scripts, and how they are printed.
 #![tactic(auto)]
 
+mod element;
 pub mod fault;
 pub mod number;
 pub mod print;
+pub mod printed;
+pub mod read;
+mod scan;
 pub mod terms;
+pub mod values;
 
 pub use fault::TextFault;
 pub use print::{print_element, print_terms, push_element, push_terms};
+pub use printed::Written;
+pub use read::{read_element, read_number, read_terms, read_terms_in_x};
 pub use terms::{ElemText, EntryList, Factor, FactorList, Term, TermList};
+pub use values::collect;
+
+#[cfg(test)]
+mod reading_tests;
+#[cfg(test)]
+mod tests;

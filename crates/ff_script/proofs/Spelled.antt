@@ -1,0 +1,236 @@
+-- What spelled texts begin with, end with and hold.
+use Rattle.std.proofs.Common.{◌≡◌, ◌≢◌, ℕ, Bool, true, false, cond, eqb, ◌+◌, ◌<◌, ◌≤◌, ◌||◌, List, [], ◌∷◌, ◌++◌, length, codes, Option, Some, None, refl, sym, ap, subst, ◌∙◌, append_assoc, arith, ◌⊎◌, inl, inr}
+use Rattle.std.specs.Prelude.{IsTrue}
+use Rattle.std.specs.List.{AllByRecursion}
+use Rattle.std.specs.Char.{digit_value}
+use Rattle.std.specs.Str.Parse.{AllDigits}
+use Rattle.std.proofs.lemmas.Bool.{ne_eqb, or_from, le-leb, or_left, and_from}
+use Rattle.std.proofs.lemmas.List.{append-nil}
+use Rattle.std.proofs.lemmas.Bool.Decides.{nat_tests}
+use Rattle.ff_text.specs.declared.terms.Factor.{Factor}
+use Rattle.ff_text.specs.declared.terms.Factor.TheVariants.{Code, X, Y}
+use Rattle.ff_text.specs.declared.terms.Term.{Term}
+use Rattle.ff_text.specs.declared.terms.ElemText.{ElemText}
+use Rattle.ff_text.specs.Spelling.{Then, Is, is_blank, Blanks, Around, Within, Each, Joined, SpellsNumber, SpellsPower, SpellsFactor, SpellsFactors, FirstSign, NextSign, SpellsFirst, SpellsNext, SpellsTerms, SpellsEntries, SpellsTail, SpellsElement}
+use Rattle.ff_script.specs.Grammar.{is_word_byte, ends_with_word}
+use Rattle.ff_script.specs.Reading.{begins_with_blank}
+use Rattle.ff_script.proofs.Spans.{all_append, each_blank, AllWord, all_word_ends, IsStopped, stopped_behind}
+
+-- ---- bytes
+
+-- neither a closing bracket nor a line feed
+abbrev pub IsInside : ℕ → Type 0
+IsInside b = (eqb b 93 ≡ false) × (eqb b 10 ≡ false)
+
+abbrev pub AreInside : List ℕ → Type 0
+AreInside bytes = AllByRecursion IsInside bytes
+
+-- the first byte is no blank
+abbrev pub Starts : List ℕ → Type 0
+Starts [] = ⊥
+Starts (b ∷ bs) = is_blank b ≡ false
+
+pub starts_before : (a b : List ℕ) → Starts a → Starts (a ++ b)
+starts_before [] b h = absurd h
+starts_before (c ∷ a) b h = h
+
+pub starts_edge : (a b : List ℕ) → Starts a → begins_with_blank (a ++ b) ≡ false
+starts_edge [] b h = absurd h
+starts_edge (c ∷ a) b h = h
+
+-- a digit is a byte from `0` to `9`
+digit_byte : (c : ℕ) → digit_value c < 10 → (48 ≤ c) × (c ≤ 57)
+digit_byte c h = (grind (arith, nat_tests), grind (arith, nat_tests))
+
+digit_not : (c b : ℕ) → digit_value c < 10 → ((48 ≤ b) × (b ≤ 57) → ⊥) → eqb c b ≡ false
+digit_not c b h other = ne_eqb c b (λ e. other (let k = digit_byte c h in subst (λ n. (48 ≤ n) × (n ≤ 57)) e k))
+
+digit_no_blank : (c : ℕ) → digit_value c < 10 → is_blank c ≡ false
+digit_no_blank c h =
+    or_from (eqb c 32 || eqb c 9) (eqb c 13)
+    (or_from (eqb c 32) (eqb c 9) (digit_not c 32 h (λ k. omega arith)) (digit_not c 9 h (λ k. omega arith)))
+    (digit_not c 13 h (λ k. omega arith))
+
+digit_inside : (c : ℕ) → digit_value c < 10 → IsInside c
+digit_inside c h = (digit_not c 93 h (λ k. omega arith), digit_not c 10 h (λ k. omega arith))
+
+digit_word : (c : ℕ) → digit_value c < 10 → is_word_byte c ≡ true
+digit_word c h = let k = digit_byte c h in rw (le-leb 48 c k.0, le-leb c 57 k.1) refl
+
+-- ---- texts
+
+-- a text without blanks at its ends, without a closing bracket and without a line feed
+pub record IsSolid (bytes : List ℕ) : Type 0 where
+  pub starts : Starts bytes
+  pub stops : IsStopped bytes
+  pub inside : AreInside bytes
+
+-- such a text, with blanks at its front
+pub record IsEnding (bytes : List ℕ) : Type 0 where
+  pub stops : IsStopped bytes
+  pub inside : AreInside bytes
+
+pub blanks_inside : (gap : List ℕ) → Blanks gap → AreInside gap
+blanks_inside [] h = tt
+blanks_inside (g ∷ gap) h = (each_blank IsInside (refl, refl) (refl, refl) (refl, refl) g h.0, blanks_inside gap h.1)
+
+around_inside : (mark bytes : List ℕ) → AreInside mark → Around mark bytes → AreInside bytes
+around_inside mark bytes h t =
+    let last : AreInside t.second.front = subst AreInside (sym t.second.first) h in
+    let behind : AreInside t.back = subst AreInside (sym t.second.whole) (all_append IsInside t.second.front t.second.back last (blanks_inside t.second.back t.second.second)) in
+    subst AreInside (sym t.whole) (all_append IsInside t.front t.back (blanks_inside t.front t.first) behind)
+
+-- a text before an ending
+ending_behind : (a b : List ℕ) → AreInside a → IsEnding b → IsEnding (a ++ b)
+ending_behind a b h k = record { stops = stopped_behind a b k.stops; inside = all_append IsInside a b h k.inside }
+
+solid_before : (a b : List ℕ) → IsSolid a → IsEnding b → IsSolid (a ++ b)
+solid_before a b h k = record { starts = starts_before a b h.starts; stops = stopped_behind a b k.stops; inside = all_append IsInside a b h.inside k.inside }
+
+pub solid_ending : (a : List ℕ) → IsSolid a → IsEnding a
+solid_ending a h = record { stops = h.stops; inside = h.inside }
+
+-- ---- numbers
+
+digits_word : (bytes : List ℕ) → AllDigits 10 bytes → AllWord bytes
+digits_word [] h = tt
+digits_word (c ∷ cs) h = (digit_word c h.0, digits_word cs h.1)
+
+digits_inside : (bytes : List ℕ) → AllDigits 10 bytes → AreInside bytes
+digits_inside [] h = tt
+digits_inside (c ∷ cs) h = (digit_inside c h.0, digits_inside cs h.1)
+
+digits_start : (bytes : List ℕ) → 0 < length bytes → AllDigits 10 bytes → Starts bytes
+digits_start [] some h = absurd (omega arith)
+digits_start (c ∷ cs) some h = digit_no_blank c h.0
+
+digits_stop : (bytes : List ℕ) → 0 < length bytes → AllDigits 10 bytes → IsStopped bytes
+digits_stop [] some h = absurd (omega arith)
+digits_stop (c ∷ []) some h = digit_no_blank c h.0
+digits_stop (c ∷ d ∷ cs) some h = digits_stop (d ∷ cs) (omega arith) h.1
+
+pub number_word : (n : ℕ) (bytes : List ℕ) → SpellsNumber n bytes → AllWord bytes
+number_word n bytes h = digits_word bytes h.numeral.1
+
+pub number_some : (n : ℕ) (bytes : List ℕ) → SpellsNumber n bytes → bytes ≢ []
+number_some n bytes h e = let l : length bytes ≡ 0 = ap length e in omega (arith, l, h.numeral.0)
+
+pub number_ends : (n : ℕ) (bytes : List ℕ) → SpellsNumber n bytes → ends_with_word bytes ≡ true
+number_ends n bytes h = all_word_ends bytes (number_word n bytes h) (number_some n bytes h)
+
+pub number_solid : (n : ℕ) (bytes : List ℕ) → SpellsNumber n bytes → IsSolid bytes
+number_solid n bytes h = record {
+  starts = digits_start bytes h.numeral.0 h.numeral.1;
+  stops = digits_stop bytes h.numeral.0 h.numeral.1;
+  inside = digits_inside bytes h.numeral.1;
+}
+
+-- ---- texts one after the other
+
+-- nothing, or an ending
+abbrev IsTail : List ℕ → Type 0
+IsTail bytes = (bytes ≡ []) ⊎ IsEnding bytes
+
+solid_tail : (a b : List ℕ) → IsSolid a → IsTail b → IsSolid (a ++ b)
+solid_tail a b h k = elim k [
+  | inl e ↦ subst IsSolid (sym (ap (λ (t : List ℕ). a ++ t) e ∙ append-nil a)) h
+  | inr ends ↦ solid_before a b h ends
+]
+
+ending_tail : (a b : List ℕ) → IsEnding a → IsTail b → IsEnding (a ++ b)
+ending_tail a b h k = elim k [
+  | inl e ↦ subst IsEnding (sym (ap (λ (t : List ℕ). a ++ t) e ∙ append-nil a)) h
+  | inr ends ↦ ending_behind a b h.inside ends
+]
+
+module _ {V : Type 0} (Part : V → List ℕ → Type 0) where
+  each_tail : (vs : List V) (bytes : List ℕ) → ((v : V) (b : List ℕ) → Part v b → IsEnding b) → Each Part vs bytes → IsTail bytes
+  each_tail [] bytes ends h = inl h
+  each_tail (v ∷ vs) bytes ends h = inr (subst IsEnding (sym h.whole) (ending_tail h.front h.back (ends v h.front h.first) (each_tail vs h.back ends h.second)))
+
+  joined_solid : (mark : List ℕ) (vs : List V) (bytes : List ℕ) → AreInside mark → ((v : V) (b : List ℕ) → Part v b → IsSolid b) → Joined mark Part vs bytes → IsSolid bytes
+  joined_solid mark [] bytes inside solid h = absurd h
+  joined_solid mark (v ∷ vs) bytes inside solid h =
+      subst IsSolid (sym h.whole) (solid_tail h.front h.back (solid v h.front h.first) (next_tail vs h.back h.second))
+    where
+      next_tail : (ws : List V) (b : List ℕ) → Each (λ w. Then (Around mark) (Part w)) ws b → IsTail b
+      next_tail [] b k = inl k
+      next_tail (w ∷ ws) b k =
+          let sign : AreInside k.first.front = around_inside mark k.first.front inside k.first.first in
+          let one : IsEnding k.front = subst IsEnding (sym k.first.whole) (ending_behind k.first.front k.first.back sign (solid_ending k.first.back (solid w k.first.back k.first.second))) in
+          inr (subst IsEnding (sym k.whole) (ending_tail k.front k.back one (next_tail ws k.back k.second)))
+
+-- ---- polynomials
+
+power_solid : (letter : List ℕ) (n : ℕ) (bytes : List ℕ) → IsSolid letter → SpellsPower letter n bytes → IsSolid bytes
+power_solid letter n bytes solid (inl h) = subst IsSolid (sym h.1) solid
+power_solid letter n bytes solid (inr h) =
+    let sign : AreInside h.second.front = around_inside (codes "^") h.second.front ((refl, refl), tt) h.second.first in
+    let behind : IsEnding h.back = subst IsEnding (sym h.second.whole) (ending_behind h.second.front h.second.back sign (solid_ending h.second.back (number_solid n h.second.back h.second.second))) in
+    subst IsSolid (sym h.whole) (solid_before h.front h.back (subst IsSolid (sym h.first) solid) behind)
+
+letter_solid : (b : ℕ) → is_blank b ≡ false → IsInside b → IsSolid (b ∷ [])
+letter_solid b h k = record { starts = h; stops = h; inside = (k, tt) }
+
+factor_solid : (with_y : Bool) (f : Factor) (bytes : List ℕ) → SpellsFactor with_y f bytes → IsSolid bytes
+factor_solid with_y (Code n) bytes h = number_solid n bytes h
+factor_solid with_y (X n) bytes h = power_solid (codes "x") n bytes (letter_solid 120 refl (refl, refl)) h
+factor_solid with_y (Y n) bytes h = power_solid (codes "y") n bytes (letter_solid 121 refl (refl, refl)) h.1
+
+factors_solid : (with_y : Bool) (fs : List Factor) (bytes : List ℕ) → SpellsFactors with_y fs bytes → IsSolid bytes
+factors_solid with_y fs bytes h = joined_solid (SpellsFactor with_y) (codes "*") fs bytes ((refl, refl), tt) (factor_solid with_y) h
+
+signed_solid : (minus : Bool) (front back : List ℕ) → FirstSign minus front → IsSolid back → IsSolid (front ++ back)
+signed_solid true front back h solid =
+    let sign : AreInside h.front = subst AreInside (sym h.first) ((refl, refl), tt) in
+    let starts : Starts front = subst Starts (sym h.whole) (starts_before h.front h.back (subst Starts (sym h.first) refl)) in
+    let inside : AreInside front = subst AreInside (sym h.whole) (all_append IsInside h.front h.back sign (blanks_inside h.back h.second)) in
+    record {
+      starts = starts_before front back starts;
+      stops = stopped_behind front back solid.stops;
+      inside = all_append IsInside front back inside solid.inside;
+    }
+signed_solid false front back h solid = subst (λ (t : List ℕ). IsSolid (t ++ back)) (sym h) solid
+
+sign_inside : (minus : Bool) (bytes : List ℕ) → NextSign minus bytes → AreInside bytes
+sign_inside true bytes h = around_inside (codes "-") bytes ((refl, refl), tt) h
+sign_inside false bytes h = around_inside (codes "+") bytes ((refl, refl), tt) h
+
+next_ending : (with_y : Bool) (t : Term) (bytes : List ℕ) → SpellsNext with_y t bytes → IsEnding bytes
+next_ending with_y t bytes h = subst IsEnding (sym h.whole) (ending_behind h.front h.back (sign_inside t.minus h.front h.first) (solid_ending h.back (factors_solid with_y t.factors h.back h.second)))
+
+pub terms_solid : (with_y : Bool) (ts : List Term) (bytes : List ℕ) → SpellsTerms with_y ts bytes → IsSolid bytes
+terms_solid with_y [] bytes h = absurd h
+terms_solid with_y (t ∷ ts) bytes h =
+    let first : IsSolid h.front = subst IsSolid (sym h.first.whole) (signed_solid t.minus h.first.front h.first.back h.first.first (factors_solid with_y t.factors h.first.back h.first.second)) in
+    subst IsSolid (sym h.whole) (solid_tail h.front h.back first (each_tail (SpellsNext with_y) ts h.back (next_ending with_y) h.second))
+
+-- ---- elements
+
+-- an element up to its closing bracket, and behind it
+pub record IsBracketed (den : Option (List Term)) (bytes : List ℕ) : Type 0 where
+  pub inner : List ℕ
+  pub tail : List ℕ
+  pub inside : AreInside inner
+  pub behind : SpellsTail den tail
+  pub whole : bytes ≡ 91 ∷ (inner ++ (93 ∷ tail))
+
+regrouped : (g p h tail : List ℕ) → (codes "[" ++ (g ++ (p ++ (h ++ codes "]")))) ++ tail ≡ 91 ∷ ((g ++ (p ++ h)) ++ (93 ∷ tail))
+regrouped g p h tail = simp append_assoc
+
+pub element_bracketed : (e : ElemText) (bytes : List ℕ) → SpellsElement e bytes → IsBracketed e.den bytes
+element_bracketed e bytes h =
+    let w = h.first.second in
+    let entries = w.second in
+    let last = entries.second in
+    let brackets : h.front ≡ codes "[" ++ (w.front ++ (entries.front ++ (last.front ++ codes "]"))) =
+      h.first.whole ∙ ap (λ (t : List ℕ). t ++ h.first.back) h.first.first
+      ∙ ap (λ (t : List ℕ). codes "[" ++ t) (w.whole ∙ ap (λ (t : List ℕ). w.front ++ t) (entries.whole ∙ ap (λ (t : List ℕ). entries.front ++ t) (last.whole ∙ ap (λ (t : List ℕ). last.front ++ t) last.second))) in
+    let solid : IsSolid entries.front = joined_solid (SpellsTerms false) (codes ",") e.entries entries.front ((refl, refl), tt) (terms_solid false) entries.first in
+    record {
+      inner = w.front ++ (entries.front ++ last.front);
+      tail = h.back;
+      inside = all_append IsInside w.front (entries.front ++ last.front) (blanks_inside w.front w.first) (all_append IsInside entries.front last.front solid.inside (blanks_inside last.front last.first));
+      behind = h.second;
+      whole = h.whole ∙ ap (λ (t : List ℕ). t ++ h.back) brackets ∙ regrouped w.front entries.front last.front h.back;
+    }

@@ -1,0 +1,50 @@
+-- What the functions that read a line answer.
+use Rattle.std.specs.Prelude.{◌≡◌, ℕ, Bool, true, false, List, [], ◌∷◌, ◌++◌, codes, Option, Some, None, if◌then◌else◌}
+use Rattle.ff_text.specs.Spelling.{Is, is_blank, Blanks, SpellsNumber, SpellsTerms}
+use Rattle.ff_script.specs.declared.script.Modulus.{Modulus}
+use Rattle.ff_script.specs.declared.script.Statement.{Statement}
+use Rattle.ff_script.specs.declared.script.Statement.TheVariants.{FieldOf, CurveOf, Mul}
+use Rattle.ff_script.specs.Grammar.{begins_with_word, ends_with_word, numbers_of, IsWhole, SpellsFactor}
+
+-- the value that the bytes spell, or none where they spell nothing
+abbrev pub IsReading : {V : Type 0} → (V → List ℕ → Type 0) → List ℕ → Option V → Type 0
+IsReading {V} Spells bytes None = (v : V) → ¬ Spells v bytes
+IsReading Spells bytes (Some v) = Spells v bytes
+
+-- the bytes from the first on that is no blank
+abbrev pub behind_blanks : List ℕ → List ℕ
+behind_blanks [] = []
+behind_blanks (b ∷ bs) = if is_blank b then behind_blanks bs else b ∷ bs
+
+abbrev pub begins_with_blank : List ℕ → Bool
+begins_with_blank [] = false
+begins_with_blank (b ∷ bs) = is_blank b
+
+-- a part at the front of the bytes, and what stands behind the blanks after it
+pub record IsFront (Part : List ℕ → Type 0) (bytes rest : List ℕ) : Type 0 where
+  pub front : List ℕ
+  pub gap : List ℕ
+  pub part : Part front
+  pub blanks : Blanks gap
+  pub whole : bytes ≡ front ++ (gap ++ rest)
+  pub edge : begins_with_blank rest ≡ false
+  pub apart : ends_with_word front ≡ true → begins_with_word (gap ++ rest) ≡ false
+
+-- numbers up to the end of the bytes
+abbrev pub AreNumbersAt : List ℕ → List ℕ → Type 0
+AreNumbersAt [] bytes = bytes ≡ []
+AreNumbersAt (n ∷ ns) bytes = (rest : List ℕ) × IsFront (SpellsNumber n) bytes rest × AreNumbersAt ns rest
+
+-- a degree and its coefficients up to the end of the bytes
+abbrev pub IsModulusAt : Modulus → List ℕ → Type 0
+IsModulusAt modulus bytes = IsWhole (Some modulus) × AreNumbersAt (numbers_of (Some modulus)) bytes
+
+-- what stands behind the word of a statement
+abbrev pub IsBehind : List ℕ → Statement → List ℕ → Type 0
+IsBehind word (FieldOf p tail) bytes = (word ≡ codes "field") × IsWhole tail × AreNumbersAt (p ∷ numbers_of tail) bytes
+IsBehind word (CurveOf f) bytes = (word ≡ codes "curve") × IsFront (SpellsTerms true f) bytes []
+IsBehind word (Mul a b) bytes = (word ≡ codes "mul") × ((rest : List ℕ) × IsFront (SpellsFactor a) bytes rest × IsFront (SpellsFactor b) rest [])
+
+-- the bytes begin with a slash
+abbrev pub IsSlashed : List ℕ → Type 0
+IsSlashed bytes = (more : List ℕ) × (bytes ≡ codes "/" ++ more)

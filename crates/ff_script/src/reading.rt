@@ -1,0 +1,210 @@
+//! Reads the statement of a line.
+
+ghost use Rattle.std.specs.Prelude.{◌≡◌, ◌↔◌, List, ℕ, IsTrue, IfOk, MatchOption, codes};
+ghost use Rattle.ff_text.specs.Spelling.{Is, is_blank, SpellsNumber};
+ghost use Rattle.ff_text.specs.declared.terms.ElemText.{ElemText};
+ghost use Rattle.ff_script.specs.Grammar.{begins_with_word, ends_with_word, SpellsFactor, SpellsLine, IsSkipped};
+ghost use Rattle.ff_script.specs.Reading.{IsReading, behind_blanks, IsFront, AreNumbersAt, IsModulusAt, IsBehind, IsSlashed};
+
+use crate::script::{CodeList, Modulus, Statement};
+use ff_text::{ElemText, TextFault, read_element, read_number, read_terms};
+use std::alloc::{AllocError, Global};
+
+/// A space, a tab or a carriage return.
+fn is_blank(b: u8) -> bool
+    ensures { result ≡ is_blank b }
+{
+    b == b' ' || b == b'\t' || b == b'\r'
+}
+
+/// The first byte is a letter, a digit or `_`.
+fn begins_with_word(bytes: &[u8]) -> bool
+    ensures { result ≡ begins_with_word bytes.now }
+{
+    match bytes {
+        [first, ..] => first.is_ascii_alphanumeric() || *first == b'_',
+        [] => false,
+    }
+}
+
+/// The bytes from the first on that is no blank.
+fn behind_blanks(bytes: &[u8]) -> &[u8]
+    ensures { result.now ≡ behind_blanks bytes.now }
+{
+    let mut rest = bytes;
+    while let Some((first, others)) = rest.split_first() {
+        if !is_blank(*first) {
+            return rest;
+        }
+        rest = others;
+    }
+    rest
+}
+
+/// What stands behind the word and the blanks after it, if the word begins the bytes and ends there.
+fn behind_word<'a>(bytes: &'a [u8], word: &[u8]) -> Option<&'a [u8]>
+    requires { IsTrue (ends_with_word word.now) }
+    ensures { MatchOption result
+        ((rest : List ℕ) → ¬ IsFront (Is word.now) bytes.now rest)
+        (λ rest. IsFront (Is word.now) bytes.now rest.now) }
+{
+    let Some(rest) = bytes.strip_prefix(word) else {
+        return None;
+    };
+    if begins_with_word(rest) {
+        return None;
+    }
+    Some(behind_blanks(rest))
+}
+
+/// The number that the bytes begin with, and what stands behind the blanks after it.
+fn next_number(bytes: &[u8]) -> Option<(u32, &[u8])>
+    ensures { MatchOption result
+        ((n : ℕ) (rest : List ℕ) → ¬ IsFront (SpellsNumber n) bytes.now rest)
+        (λ x. IsFront (SpellsNumber x.0) bytes.now x.1.now) }
+{
+    let (n, end) = match read_number(bytes, 0) {
+        Ok(read) => read,
+        Err(_) => return None,
+    };
+    let rest = &bytes[end..];
+    if begins_with_word(rest) {
+        return None;
+    }
+    Some((n, behind_blanks(rest)))
+}
+
+/// The numbers that the bytes are, with blanks between them.
+fn numbers(alloc: Global, bytes: &[u8]) -> Result<Option<Vec<u32>>, AllocError>
+    ensures { IfOk result (λ o. MatchOption o
+        ((ns : List ℕ) → ¬ AreNumbersAt ns bytes.now)
+        (λ v. AreNumbersAt v.items bytes.now)) }
+{
+    let mut numbers = Vec::new(alloc);
+    let mut rest = bytes;
+    while !rest.is_empty() {
+        let Some((n, behind)) = next_number(rest) else {
+            return Ok(None);
+        };
+        numbers.push(n)?;
+        rest = behind;
+    }
+    Ok(Some(numbers))
+}
+
+/// The degree and the coefficients that the bytes are.
+fn modulus(alloc: Global, bytes: &[u8]) -> Result<Option<Modulus>, AllocError>
+    ensures { IfOk result (IsReading IsModulusAt bytes.now) }
+{
+    let Some((m, rest)) = next_number(bytes) else {
+        return Ok(None);
+    };
+    let Some(codes) = numbers(alloc, rest)? else {
+        return Ok(None);
+    };
+    if codes.len() as u64 != u64::from(m) + 1 {
+        return Ok(None);
+    }
+    let codes = CodeList { codes };
+    Ok(Some(Modulus { m, codes }))
+}
+
+/// The statement `field`, of what stands behind its word.
+fn field(alloc: Global, bytes: &[u8]) -> Result<Option<Statement>, AllocError>
+    ensures { IfOk result (IsReading (IsBehind (codes "field")) bytes.now) }
+{
+    let Some((p, rest)) = next_number(bytes) else {
+        return Ok(None);
+    };
+    if rest.is_empty() {
+        return Ok(Some(Statement::FieldOf { p, tail: None }));
+    }
+    match modulus(alloc, rest)? {
+        Some(tail) => Ok(Some(Statement::FieldOf {
+            p,
+            tail: Some(tail),
+        })),
+        None => Ok(None),
+    }
+}
+
+/// The statement `curve`, of what stands behind its word.
+fn curve(alloc: Global, bytes: &[u8]) -> Result<Option<Statement>, AllocError>
+    ensures { IfOk result (IsReading (IsBehind (codes "curve")) bytes.now) }
+{
+    let (f, end) = match read_terms(alloc, bytes, 0) {
+        Ok(read) => read,
+        Err(TextFault::Memory) => return Err(AllocError),
+        Err(TextFault::Syntax(_)) => return Ok(None),
+        Err(TextFault::CodeRange(_)) => unreachable!(),
+    };
+    if behind_blanks(&bytes[end..]).is_empty() {
+        return Ok(Some(Statement::CurveOf { f }));
+    }
+    Ok(None)
+}
+
+/// The element without a denominator that the bytes begin with, and what stands behind the blanks after it. Where one is
+/// followed by a slash, it may be none.
+fn next_factor(alloc: Global, bytes: &[u8]) -> Result<Option<(ElemText, &[u8])>, AllocError>
+    ensures { IfOk result (λ o. MatchOption o
+        ((e : ElemText) (rest : List ℕ) → IsFront (SpellsFactor e) bytes.now rest → IsSlashed rest)
+        (λ x. IsFront (SpellsFactor x.0) bytes.now x.1.now)) }
+{
+    let (e, end) = match read_element(alloc, bytes, 0) {
+        Ok(read) => read,
+        Err(TextFault::Memory) => return Err(AllocError),
+        Err(TextFault::Syntax(_)) => return Ok(None),
+        Err(TextFault::CodeRange(_)) => unreachable!(),
+    };
+    if e.den.is_some() {
+        return Ok(None);
+    }
+    Ok(Some((e, behind_blanks(&bytes[end..]))))
+}
+
+/// The statement `mul`, of what stands behind its word.
+fn mul(alloc: Global, bytes: &[u8]) -> Result<Option<Statement>, AllocError>
+    ensures { IfOk result (IsReading (IsBehind (codes "mul")) bytes.now) }
+{
+    let Some((a, rest)) = next_factor(alloc, bytes)? else {
+        return Ok(None);
+    };
+    let Some((b, rest)) = next_factor(alloc, rest)? else {
+        return Ok(None);
+    };
+    if rest.is_empty() {
+        return Ok(Some(Statement::Mul { a, b }));
+    }
+    Ok(None)
+}
+
+/// The statement that a line spells, given without its line feed. Linear in the bytes.
+///
+/// A line that a script skips spells none, and neither does a `mul` with a denominator.
+pub fn read_statement(alloc: Global, line: &[u8]) -> Result<Option<Statement>, AllocError>
+    // The statement that the line spells, or none where it spells none.
+    ensures { IfOk result (IsReading SpellsLine line.now) }
+{
+    let bytes = behind_blanks(line);
+    if let Some(rest) = behind_word(bytes, b"field") {
+        return field(alloc, rest);
+    }
+    if let Some(rest) = behind_word(bytes, b"curve") {
+        return curve(alloc, rest);
+    }
+    match behind_word(bytes, b"mul") {
+        Some(rest) => mul(alloc, rest),
+        None => Ok(None),
+    }
+}
+
+/// Whether a script skips the line: blanks alone, or a comment.
+pub fn is_skipped(line: &[u8]) -> bool
+    ensures { IsTrue result ↔ IsSkipped line.now }
+{
+    match behind_blanks(line) {
+        [first, ..] => *first == b'#',
+        [] => true,
+    }
+}

@@ -1,0 +1,147 @@
+//! Known spellings, and known places of faults.
+
+use crate::{
+    ElemText, TermList, TextFault, print_element, print_terms, read_element, read_number, read_terms,
+    read_terms_in_x,
+};
+use std::alloc::Global;
+use std::process::Abort;
+use std::test::Fail;
+
+/// What is read of a polynomial, as it is printed, and where it ends, or the column of the fault.
+fn terms_at(
+    alloc: Global,
+    y: bool,
+    line: &[u8],
+    at: usize,
+) -> Result<(Option<Vec<u8>>, usize), TextFault> {
+    if at > line.len() {
+        return Err(TextFault::Syntax(at));
+    }
+    let read = if y {
+        read_terms(alloc, line, at)
+    } else {
+        read_terms_in_x(alloc, line, at)
+    };
+    match read {
+        Ok((t, end)) => match print_terms(alloc, &t) {
+            Ok(text) => Ok((Some(text), end)),
+            Err(_) => Err(TextFault::Memory),
+        },
+        Err(TextFault::Syntax(column)) => Ok((None, column)),
+        Err(fault) => Err(fault),
+    }
+}
+
+fn element_at(
+    alloc: Global,
+    line: &[u8],
+    at: usize,
+) -> Result<(Option<Vec<u8>>, usize), TextFault> {
+    if at > line.len() {
+        return Err(TextFault::Syntax(at));
+    }
+    match read_element(alloc, line, at) {
+        Ok((e, end)) => match print_element(alloc, &e) {
+            Ok(text) => Ok((Some(text), end)),
+            Err(_) => Err(TextFault::Memory),
+        },
+        Err(TextFault::Syntax(column)) => Ok((None, column)),
+        Err(fault) => Err(fault),
+    }
+}
+
+fn check(
+    rt: &impl Abort,
+    read: Result<(Option<Vec<u8>>, usize), TextFault>,
+    text: &[u8],
+    column: usize,
+) -> Result<(), TextFault> {
+    let (found, end) = read?;
+    assert_eq!(rt; end, column);
+    match found {
+        Some(found) => {
+            assert_eq!(rt; found.as_slice(), text);
+        }
+        None => {
+            assert!(rt; text.is_empty());
+        }
+    }
+    Ok(())
+}
+
+/// A line, the polynomial that is read at its start, as it is printed, and the place after it. Where nothing is read, the
+/// text is empty.
+const POLYNOMIALS: [(&[u8], &[u8], usize); 62] = [
+    (b"", b"", 0),
+    (b" x", b"", 0),
+    (b"0", b"0", 1),
+    (b"007", b"7", 3),
+    (b"123456789", b"123456789", 9),
+    (b"1234567890", b"123456789", 9),
+    (b"000000000x", b"0", 9),
+    (b"x", b"x", 1),
+    (b"y", b"y", 1),
+    (b"z", b"", 0),
+    (b"3x", b"3", 1),
+    (b"x3", b"x", 1),
+    (b"xy", b"x", 1),
+    (b"x^", b"x", 1),
+    (b"x^1", b"x", 3),
+    (b"x^0", b"x^0", 3),
+    (b"x^02", b"x^2", 4),
+    (b"x ^ 2", b"x^2", 5),
+    (b"x\t^\r2", b"x^2", 5),
+    (b"x^y", b"x", 1),
+    (b"x^-1", b"x", 1),
+    (b"x^2^3", b"x^2", 3),
+    (b"x^1234567890", b"x^123456789", 11),
+    (b"2^3", b"2", 1),
+    (b"x*y", b"x*y", 3),
+    (b"x * y ^ 3 * 2 * x", b"x*y^3*2*x", 17),
+    (b"x*", b"x", 1),
+    (b"x* ", b"x", 1),
+    (b"x**y", b"x", 1),
+    (b"x *+ y", b"x", 1),
+    (b"*x", b"", 0),
+    (b"-", b"", 1),
+    (b"- ", b"", 2),
+    (b"--", b"", 1),
+    (b"--x", b"", 1),
+    (b"-*x", b"", 1),
+    (b"- *x", b"", 2),
+    (b"+x", b"", 0),
+    (b"-x", b"-x", 2),
+    (b"- \t x", b"-x", 5),
+    (b"-x+2", b"-x + 2", 4),
+    (b"3*x - 1", b"3*x - 1", 7),
+    (b"3*x - 1 ", b"3*x - 1", 7),
+    (b"x + ", b"x", 1),
+    (b"x - - 1", b"x", 1),
+    (b"x + - 1", b"x", 1),
+    (b"x +1", b"x + 1", 4),
+    (b"x\r-\t1", b"x - 1", 5),
+    (b"x  y", b"x", 1),
+    (b"x\n+1", b"x", 1),
+    (b"x\x0b+1", b"x", 1),
+    (b"\xc3\xa9", b"", 0),
+    (b"x\xff", b"x", 1),
+    (b"x + \xff", b"x", 1),
+    (b"x + 1*x^3 - 2*y", b"x + 1*x^3 - 2*y", 15),
+    (b"X", b"", 0),
+    (b"x(", b"x", 1),
+    (b"(x)", b"", 0),
+    (b"x/2", b"x", 1),
+    (b"1 000", b"1", 1),
+    (b"x+y*x*y-0*0", b"x + y*x*y - 0*0", 11),
+    (b"-5 * x # no", b"-5*x", 6),
+];
+
+#[test]
+fn polynomials(rt: HostRuntime) -> Result<(), Fail> {
+    let alloc = rt.alloc();
+    for (line, text, column) in POLYNOMIALS {
+        check(&rt, terms_at(alloc, true, line, 0), text, column)?;
+    }
+    Ok(())
+}
