@@ -11,14 +11,14 @@ use Rattle.ff_algebra.specs.declared.curve.CurveFault.TheVariants as curves
 use Rattle.ff_algebra.specs.Curves.{CurveValue, IsCurveFault}
 use Rattle.ff_text.specs.declared.terms.Term.{Term}
 use Rattle.ff_text.specs.declared.terms.ElemText.{ElemText}
-use Rattle.ff_text.specs.Sums.{IsFirstCodeFrom, AreElementCodesBelow, IsFirstElementCodeFrom}
+use Rattle.ff_text.specs.Values.{written_codes}
 use Rattle.ff_script.specs.declared.script.Modulus.{Modulus}
 use Rattle.ff_script.specs.declared.script.Statement.{Statement}
 use Rattle.ff_script.specs.declared.script.Statement.TheVariants.{FieldOf, CurveOf, Mul}
 use Rattle.ff_session.specs.declared.refusal.Refusal.{Refusal}
 use Rattle.ff_session.specs.declared.refusal.Refusal.TheVariants.{FieldSize, NotField, LimitY, LimitX, NotMonic, NotSeparable, LimitDisc, LimitInf, CodeRange, Length, LimitDegree, LimitOutput}
 use Rattle.ff_session.specs.Settings.{FieldData, IsField, ops_of, with_laws, Setting, Empty, WithField, WithCurve, SessionValue}
-use Rattle.ff_session.specs.Meaning.{IsSumOf, IsElementOf, degree_of_element}
+use Rattle.ff_session.specs.Meaning.{AreCodesBelow, IsFirstCodeFrom, codes_of_element, IsSumOf, IsElementOf, degree_of_element}
 use Rattle.ff_session.specs.Answers.{Answer, Size, Numbers, Element, Answers}
 use Rattle.ff_session.specs.Texts.{block_text}
 
@@ -53,22 +53,22 @@ TellsCurveFault (curves.LimitInf d) r = r ≡ LimitInf d
 TellsCurveFault curves.Memory r = ⊥
 
 pub data IsCurveRow (d : FieldData) (f : List Term) : Refusal → Type 0 where
-  range : (c : ℕ) → IsFirstCodeFrom (ops_of d).size f c → IsCurveRow d f (CodeRange c)
+  range : (c : ℕ) → IsFirstCodeFrom (ops_of d).size (written_codes f) c → IsCurveRow d f (CodeRange c)
   fault : {r : Refusal} (is : IsField d) (sum : List (ℕ × ℕ × ℕ)) → IsSumOf (ops_of d) f sum → (e : CurveFault) → IsCurveFault (with_laws d is) sum e → TellsCurveFault e r → IsCurveRow d f r
 
 -- ---- the rows of a product
 
 -- an element of n entries, of degrees up to 512
 pub record IsWithin (d : FieldData) (n : ℕ) (e : ElemText) : Type 0 where
-  pub written : AreElementCodesBelow (ops_of d).size e
+  pub written : AreCodesBelow (ops_of d).size (codes_of_element e)
   pub size : length e.entries ≡ n
   pub value : ElemValue
   pub is : IsElementOf (ops_of d) e value
   pub small : degree_of_element value ≤ 512
 
 pub data IsElementRow (d : FieldData) (n : ℕ) (e : ElemText) : Refusal → Type 0 where
-  range : (c : ℕ) → IsFirstElementCodeFrom (ops_of d).size e c → IsElementRow d n e (CodeRange c)
-  size : AreElementCodesBelow (ops_of d).size e → length e.entries ≢ n → IsElementRow d n e (Length (length e.entries))
+  range : (c : ℕ) → IsFirstCodeFrom (ops_of d).size (codes_of_element e) c → IsElementRow d n e (CodeRange c)
+  size : AreCodesBelow (ops_of d).size (codes_of_element e) → length e.entries ≢ n → IsElementRow d n e (Length (length e.entries))
   degree : length e.entries ≡ n → (z : ElemValue) → IsElementOf (ops_of d) e z → 512 < degree_of_element z → IsElementRow d n e (LimitX (degree_of_element z))
 
 -- the first element's rows come before the second's
