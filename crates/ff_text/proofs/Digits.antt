@@ -146,7 +146,7 @@ number_machine = record {
       let some = spelled.numeral.0 in
       let is : nat_lt 0 (0 + length g) ≡ true = lt-ltb 0 (0 + length g) (omega arith) in
       ((0 + length g, digits_value 10 g), leads_digits 0 0 g spelled.numeral.1 (let few = spelled.few in omega arith), is, ap (λ b. cond b (Some (digits_value 10 g)) None) is ∙ ap (λ n. Some n) spelled.value);
-  live = λ s. live s (nat_lt 0 s.0) refl;
+  live = λ g s leads. live s (nat_lt 0 s.0) refl;
   kept = λ g s t b leads stepped unfinished.
       let p = test_some (is_ascii_digit b && nat_lt s.0 9) (s.0 + 1, 10 * s.1 + (b - 48)) t stepped in
       let is : nat_lt 0 (s.0 + 1) ≡ true = lt-ltb 0 (s.0 + 1) (omega arith) in
@@ -207,3 +207,7 @@ pub number_nothing : (line : List ℕ) (at end n : ℕ) → IsReadNumber line at
 number_nothing line at end n r stops here =
     let none : nat_lt 0 (end - at) ≡ false = le-ltb 0 (end - at) (omega arith) in
     subst (λ (i : ℕ). IsReadFault SpellsNumber line at (Syntax i)) here (read_nothing number_step (0, 0) number_whole number_last SpellsNumber number_machine line at end end (end - at, n) r stops (rw none refl))
+
+-- bytes spell one number at most
+pub same_number : (m n : ℕ) (g : List ℕ) → SpellsNumber m g → SpellsNumber n g → m ≡ n
+same_number m n g first second = sym first.value ∙ second.value

@@ -17,3 +17,7 @@ pub mod Marks
 pub mod ScanSound
 pub mod ScanComplete
 pub mod ReadTerms
+pub mod ElementSound
+pub mod ElementComplete
+pub mod ReadElement
+pub mod Written

@@ -8,7 +8,7 @@ use Rattle.std.proofs.Math.Nat.{eq-or-lt_of_le}
 use Rattle.std.proofs.lemmas.Bool.{cases_lt}
 use Rattle.std.proofs.lemmas.List.{append-nil, get_or-drop, length-drop}
 use Rattle.ff_text.specs.Reading.{BeginsSpelling, IsLongestSpelling, IsNoSpelling, IsFurthest}
-use Rattle.ff_text.specs.Scanning.{run}
+use Rattle.ff_text.specs.Scanning.{run, Moves}
 
 -- ---- runs
 
@@ -56,15 +56,25 @@ along step P keeps s t g (b ∷ bs) p e =
 
 -- ---- a machine of a relation
 
--- The machine reaches a whole state exactly by a spelling, and has its value. Each state can become whole. The last value
+-- The machine reaches a whole state exactly by a spelling, and has its value. Each state that is reached can become whole. The last value
 -- is that of the longest spelling so far.
 pub record IsMachine {S V : Type 0} (step : S → ℕ → Option S) (start : S) (whole : S → Bool) (last : S → Option V) (Spells : V → List ℕ → Type 0) : Type 0 where
   pub fresh : whole start ≡ false
   pub none : last start ≡ None
   pub sound : (g : List ℕ) (s : S) → Leads step start g s → whole s ≡ true → (v : V) × (last s ≡ Some v) × Spells v g
   pub complete : (v : V) (g : List ℕ) → Spells v g → (s : S) × Leads step start g s × (whole s ≡ true) × (last s ≡ Some v)
-  pub live : (s : S) → (rest : List ℕ) × (t : S) × Leads step s rest t × (whole t ≡ true)
+  pub live : (g : List ℕ) (s : S) → Leads step start g s → (rest : List ℕ) × (t : S) × Leads step s rest t × (whole t ≡ true)
   pub kept : (g : List ℕ) (s t : S) (b : ℕ) → Leads step start g s → step s b ≡ Some t → whole t ≡ false → last t ≡ last s
+
+-- ---- a step that may be refused
+
+pub step_made : {S : Type 0} (next : Option S) (old new : S) (b : Bool) → Moves next old new b → b ≡ true → next ≡ Some new
+step_made next old new true moves made = moves
+step_made next old new false moves made = absurd cc
+
+step_refused : {S : Type 0} (next : Option S) (old new : S) (b : Bool) → Moves next old new b → b ≡ false → (next ≡ None) × (new ≡ old)
+step_refused next old new true moves refused = absurd cc
+step_refused next old new false moves refused = moves
 
 -- ---- parts of a line
 
@@ -181,6 +191,19 @@ module _ {S V : Type 0} (step : S → ℕ → Option S) (start : S) (whole : S �
   abbrev pub Stops : List ℕ → ℕ → S → Type 0
   Stops line reach s = (length line ≤ reach) ⊎ (step s (get_or line reach 0) ≡ None)
 
+  -- where a loop over the bytes ended, nothing goes on
+  abbrev pub IsReadToStop : List ℕ → ℕ → ℕ → ℕ → S → Type 0
+  IsReadToStop line at reach end s = IsRead line at reach end s × Stops line reach s
+
+  pub read_ended : (line : List ℕ) (at reach end : ℕ) (s t : S) → IsRead line at reach end s → t ≡ s → length line ≤ reach → IsReadToStop line at reach end t
+  read_ended line at reach end s t r same le = (subst (IsRead line at reach end) (sym same) r, inl le)
+
+  pub read_stopped : (line : List ℕ) (at reach end : ℕ) (s t u : S) (b : Bool) → IsRead line at reach end s → u ≡ t → Moves (step s (get_or line reach 0)) s t b → b ≡ false → IsReadToStop line at reach end u
+  read_stopped line at reach end s t u b r same moves refused =
+      let w = step_refused (step s (get_or line reach 0)) s t b moves refused in
+      let back : u ≡ s = same ∙ w.1 in
+      (subst (IsRead line at reach end) (sym back) r, inr (subst (λ (v : S). step v (get_or line reach 0) ≡ None) (sym back) w.0))
+
   beyond : Machine → (line : List ℕ) (at reach end : ℕ) (s : S) → IsRead line at reach end s → Stops line reach s → (j : ℕ) → reach < j → j ≤ length line → BeginsSpelling Spells (slice_range line at j) → ⊥
   beyond m line at reach end s r (inl short) j lt le begins = omega arith
   beyond m line at reach end s r (inr stops) j lt le begins =
@@ -216,7 +239,7 @@ module _ {S V : Type 0} (step : S → ℕ → Option S) (start : S) (whole : S �
   pub read_nothing : Machine → (line : List ℕ) (at reach end : ℕ) (s : S) → IsRead line at reach end s → Stops line reach s → last s ≡ None → IsNoSpelling Spells line at × IsFurthest Spells line at reach
   read_nothing m line at reach end s r stops e =
       let none : IsNoneYet line at reach = let P : Option V → Type 0 = λ o. MatchOption o (IsNoneYet line at reach) (IsLast line at reach end) in subst P e r.value in
-      let more = m.live s in
+      let more = m.live (slice_range line at reach) s r.state in
       let leads = leads_then step start s more.1 (slice_range line at reach) more.0 r.state more.2 in
       let found = m.sound (slice_range line at reach ++ more.0) more.1 leads more.3 in
       (λ w j low high spelled. further w j low high (cases_lt reach j) spelled none,

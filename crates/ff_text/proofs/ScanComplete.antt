@@ -1,6 +1,6 @@
 -- What is spelled as a polynomial is read.
 use Rattle.std.proofs.Common.{◌≡◌, ℕ, suc, ◌+◌, ◌-◌, ◌*◌, ◌<◌, ◌≤◌, Bool, true, false, cond, nat_lt, List, [], ◌∷◌, ◌++◌, length, codes, Option, Some, None, refl, sym, ap, ◌∙◌, subst, append_assoc, ◌⊎◌, inl, inr, arith}
-use Rattle.std.specs.Prelude.{IsTrue}
+use Rattle.std.specs.Prelude.{IsTrue, is_some}
 use Rattle.std.specs.Char.{digit_value}
 use Rattle.std.specs.Str.Parse.{AllDigits, digits_value, digits_value_after}
 use Rattle.std.specs.Option.{option_map}
@@ -334,7 +334,7 @@ module _ (rules : Rules) where
         whole = rest.whole ∙ ap (λ (u : Term). u ∷ ts) same;
       }
 
-  last_ended : (s : Scan) (p : Place) (f : Factor) → ended p ≡ Some f → last_at s p ≡ Some (s.terms ++ term_of s.minus (s.factors ++ f ∷ []) ∷ [])
+  pub last_ended : (s : Scan) (p : Place) (f : Factor) → ended p ≡ Some f → last_at s p ≡ Some (s.terms ++ term_of s.minus (s.factors ++ f ∷ []) ∷ [])
   last_ended s Begin f e = absurd cc
   last_ended s Signed f e = absurd cc
   last_ended s Starred f e = absurd cc
@@ -350,6 +350,31 @@ module _ (rules : Rules) where
       let r = leads_terms v g signs spelled in
       (scan_at r.terms r.minus r.front r.place, r.leads, r.done.is_whole,
        last_ended (scan_at r.terms r.minus r.front r.place) r.place r.last r.done.is_ended ∙ ap (λ u. Some u) r.whole)
+
+  pub whole_ended : (p : Place) → is_whole_place p ≡ true → (f : Factor) × (ended p ≡ Some f)
+  whole_ended Begin is = absurd cc
+  whole_ended Signed is = absurd cc
+  whole_ended Starred is = absurd cc
+  whole_ended (Letter k) is = (factor_of k 1, refl)
+  whole_ended (Spaced k) is = absurd cc
+  whole_ended (Raised k) is = absurd cc
+  whole_ended (Digits k count n) is = (factor_of k n, refl)
+  whole_ended (Behind k n) is = absurd cc
+
+  -- blanks behind a polynomial keep it
+  pub scan_gap : (s : Scan) (g : List ℕ) → is_whole_place s.place ≡ true → Blanks g → (t : Scan) × ScanLeads s g t × (is_some (ended t.place) ≡ true) × (last_terms t ≡ last_terms s)
+  scan_gap s g is all =
+      let f = whole_ended s.place is in
+      let gap = leads_gap s.terms s.minus s.factors s.place f.0 g f.1 all in
+      (scan_at s.terms s.minus s.factors gap.0, gap.1, ap is_some gap.2.is_ended,
+       last_ended (scan_at s.terms s.minus s.factors gap.0) gap.0 f.0 gap.2.is_ended ∙ sym (last_ended s s.place f.0 f.1))
+
+  -- one term without a sign leads to its value, whether signs may stand or not
+  pub leads_term : (all : List Factor) (g : List ℕ) → SpellsFactors rules.y all g → (s : Scan) × ScanLeads begun g s × (is_whole_place s.place ≡ true) × (last_terms s ≡ Some (term_of false all ∷ []))
+  leads_term all g spelled =
+      let r = leads_factors [] false Begin all g ready_begin spelled in
+      (scan_at [] false r.front r.place, r.leads, r.done.is_whole,
+       last_ended (scan_at [] false r.front r.place) r.place r.last r.done.is_ended ∙ ap (λ fs. Some (term_of false fs ∷ [])) r.whole)
 
   -- ---- what isn't whole keeps the last value
 
@@ -480,6 +505,6 @@ module _ (rules : Rules) where
     none = refl;
     sound = λ g s leads is. whole_scan rules s s.place g (scanned rules g s leads) is;
     complete = λ v g spelled. leads_poly v g signs spelled;
-    live = λ s. live_at s.terms s.minus s.factors s.place;
+    live = λ g s leads. live_at s.terms s.minus s.factors s.place;
     kept = λ g s t b leads stepped unfinished. kept_scan s t b stepped unfinished;
   }

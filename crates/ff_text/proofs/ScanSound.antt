@@ -138,6 +138,17 @@ module _ (rules : Rules) where
       (terms_push ts m (fs ++ f ∷ []) t.front t.back t.first
       (subst (SpellsFactors rules.y (fs ++ f ∷ [])) (sym u.whole) (joined_push (codes "*") (SpellsFactor rules.y) fs f u.front u.back u.first u.second)))
 
+  no_front : (m : Bool) (g : List ℕ) → m ≡ false → TermsFront [] m g → g ≡ []
+  no_front true g none front = absurd cc
+  no_front false g none (inl first) = first.1
+  no_front false g none (inr next) = absurd next.first
+
+  alone_factors : (m : Bool) (fs : List Factor) (f : Factor) (g : List ℕ) → m ≡ false → Then (Before [] m fs) (SpellsFactor rules.y f) g → SpellsFactors rules.y (fs ++ f ∷ []) g
+  alone_factors m fs f g none h =
+      let t = then_right g h in
+      let u = t.second in
+      subst (SpellsFactors rules.y (fs ++ f ∷ [])) (sym (t.whole ∙ ap (λ x. x ++ t.back) (no_front m t.front none t.first) ∙ u.whole)) (joined_push (codes "*") (SpellsFactor rules.y) fs f u.front u.back u.first u.second)
+
   -- what is whole is spelled
   pub whole_scan : (s : Scan) (p : Place) (g : List ℕ) → IsScannedAt s.terms s.minus s.factors p g → is_whole_place p ≡ true → (v : List Term) × (last_at s p ≡ Some v) × SpellsTerms rules.y v g
   whole_scan s Begin g h is = absurd cc
@@ -148,6 +159,17 @@ module _ (rules : Rules) where
   whole_scan s (Raised k) g h is = absurd cc
   whole_scan s (Digits k count n) g h is = (s.terms ++ term_of s.minus (s.factors ++ factor_of k n ∷ []) ∷ [], refl, whole_terms s.terms s.minus s.factors (factor_of k n) g (then_map g h (digits_factor k n count)))
   whole_scan s (Behind k n) g h is = absurd cc
+
+  -- so is a term alone, where no sign was read
+  pub whole_factors : (m : Bool) (fs : List Factor) (p : Place) (g : List ℕ) → m ≡ false → IsScannedAt [] m fs p g → is_whole_place p ≡ true → (f : Factor) × (ended p ≡ Some f) × SpellsFactors rules.y (fs ++ f ∷ []) g
+  whole_factors m fs Begin g none h is = absurd cc
+  whole_factors m fs Signed g none h is = absurd cc
+  whole_factors m fs Starred g none h is = absurd cc
+  whole_factors m fs (Letter k) g none h is = (factor_of k 1, refl, alone_factors m fs (factor_of k 1) g none (then_map g h (letter_factor k)))
+  whole_factors m fs (Spaced k) g none h is = absurd cc
+  whole_factors m fs (Raised k) g none h is = absurd cc
+  whole_factors m fs (Digits k count n) g none h is = (factor_of k n, refl, alone_factors m fs (factor_of k n) g none (then_map g h (digits_factor k n count)))
+  whole_factors m fs (Behind k n) g none h is = absurd cc
 
   -- there is room for a digit
   pub room_at : (ts : List Term) (m : Bool) (fs : List Factor) (p : Place) (g : List ℕ) → IsScannedAt ts m fs p g → HasRoom p

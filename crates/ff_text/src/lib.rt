@@ -3,6 +3,7 @@
 
 mod element;
 pub mod fault;
+pub mod laws;
 pub mod number;
 pub mod print;
 pub mod printed;

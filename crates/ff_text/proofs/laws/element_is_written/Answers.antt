@@ -1,0 +1,5 @@
+use Rattle.ff_text.proofs.Written.{element_written}
+use Rattle.ff_text.proofs.laws.element_is_written.Goals as goal
+
+pub returns : goal.returns
+returns c = element_written
