@@ -18,7 +18,7 @@ use Rattle.ff_script.proofs.Fronts.{IsStatementAt, line_at, line_from}
 use Rattle.ff_script.proofs.Steps.{no_front, number_same, numbers_same, factor_same, factor_closed}
 
 -- lists that differ at their front
-differ : (b c : ℕ) (bs cs : List ℕ) → eqb b c ≡ false → b ∷ bs ≡ c ∷ cs → ⊥
+pub differ : (b c : ℕ) (bs cs : List ℕ) → eqb b c ≡ false → b ∷ bs ≡ c ∷ cs → ⊥
 differ b c bs cs apart e = eqb-false b c apart (head_same b c bs cs e)
 
 -- ---- one word
@@ -115,7 +115,7 @@ curve_word = record { all = (refl, (refl, (refl, (refl, (refl, tt))))); ends = r
 pub mul_word : IsWord (codes "mul")
 mul_word = record { all = (refl, (refl, (refl, tt))); ends = refl }
 
-word_of_statement : (word : List ℕ) (s : Statement) (rest : List ℕ) → IsBehind word s rest → IsWord word
+pub word_of_statement : (word : List ℕ) (s : Statement) (rest : List ℕ) → IsBehind word s rest → IsWord word
 word_of_statement word (FieldOf p tail) rest h = subst IsWord (sym h.0) field_word
 word_of_statement word (CurveOf f) rest h = subst IsWord (sym h.0) curve_word
 word_of_statement word (Mul a b) rest h = subst IsWord (sym h.0) mul_word

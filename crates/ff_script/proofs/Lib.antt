@@ -5,3 +5,6 @@ pub mod Steps
 pub mod Behind
 pub mod Cuts
 pub mod Progress
+pub mod OneLine
+pub mod OneScript
+pub mod Printed

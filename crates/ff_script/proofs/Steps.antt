@@ -264,7 +264,7 @@ pub record IsClosed (bytes behind : List ℕ) : Type 0 where
   pub inside : AreInside inner
   pub whole : bytes ≡ 91 ∷ (inner ++ (93 ∷ behind))
 
-closed_same : (bytes x y : List ℕ) → IsClosed bytes x → IsClosed bytes y → x ≡ y
+pub closed_same : (bytes x y : List ℕ) → IsClosed bytes x → IsClosed bytes y → x ≡ y
 closed_same bytes x y h k = (bracket_same h.inner k.inner x y h.inside k.inside (tail_same 91 91 (h.inner ++ (93 ∷ x)) (k.inner ++ (93 ∷ y)) (sym h.whole ∙ k.whole))).1
 
 plain_tail : (den : Option (List Term)) (tail : List ℕ) → den ≡ None → SpellsTail den tail → tail ≡ []
@@ -289,6 +289,17 @@ factor_same bytes d e r s f g =
     let left = closed_more f.front [] (f.gap ++ r) bytes (factor_closed d f.front f.part) f.whole in
     let right = closed_more g.front [] (g.gap ++ s) bytes (factor_closed e g.front g.part) g.whole in
     blanks_same f.gap g.gap r s f.blanks g.blanks f.edge g.edge (closed_same bytes (f.gap ++ r) (g.gap ++ s) left right)
+
+-- two elements at the front are one text
+pub front_closed : (bytes : List ℕ) (d e : ElemText) (r s : List ℕ) (f : IsFront (SpellsFactor d) bytes r) (g : IsFront (SpellsFactor e) bytes s) → (f.front ≡ g.front) × (r ≡ s)
+unfolding closed_more
+front_closed bytes d e r s f g =
+    let a = factor_closed d f.front f.part in
+    let b = factor_closed e g.front g.part in
+    let left = closed_more f.front [] (f.gap ++ r) bytes a f.whole in
+    let right = closed_more g.front [] (g.gap ++ s) bytes b g.whole in
+    let inner : a.inner ≡ b.inner = (bracket_same a.inner b.inner (f.gap ++ r) (g.gap ++ s) a.inside b.inside (tail_same 91 91 (a.inner ++ (93 ∷ (f.gap ++ r))) (b.inner ++ (93 ∷ (g.gap ++ s))) (sym left.whole ∙ right.whole))).0 in
+    (a.whole ∙ ap (λ (t : List ℕ). 91 ∷ (t ++ (93 ∷ []))) inner ∙ sym b.whole, factor_same bytes d e r s f g)
 
 -- a text that ends with a closing bracket ends with no word
 closing_ends : (a : List ℕ) → ends_with_word (a ++ (93 ∷ [])) ≡ false
