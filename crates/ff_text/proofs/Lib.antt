@@ -20,4 +20,4 @@ pub mod ReadTerms
 pub mod ElementSound
 pub mod ElementComplete
 pub mod ReadElement
-pub mod Written
+pub mod SpelledForms
