@@ -46,25 +46,28 @@ pub record BindsField (p : ℕ) (tail : Option Modulus) (q : ℕ) (next : Settin
   pub size : IsFieldOf (ops_of field) q
   pub bound : next ≡ WithField field
 
+-- the curve of the terms
+pub record IsCurveOfTerms (k : CodeField) (f : List Term) (c : CurveValue) : Type 0 where
+  pub sum : List (ℕ × ℕ × ℕ)
+  pub is_sum : IsSumOf k.ops f sum
+  pub is_curve : IsCurveOf k sum c
+
 -- the curve of the terms is bound; n is its degree in y, and c is its number at infinity
 pub record BindsCurve (d : FieldData) (f : List Term) (n c : ℕ) (next : Setting) : Type 0 where
   pub is_field : IsField d
-  pub sum : List (ℕ × ℕ × ℕ)
-  pub is_sum : IsSumOf (ops_of d) f sum
   pub curve : CurveValue
-  pub is_curve : IsCurveOf (with_laws d is_field) sum curve
+  pub is_curve : IsCurveOfTerms (with_laws d is_field) f curve
   pub degree : n ≡ curve.fin.n
   pub number : c ≡ curve.c
   pub bound : next ≡ WithCurve d curve
 
--- z is the product of the elements in lowest terms
-pub record IsProductOf (d : FieldData) (c : CurveValue) (a b : ElemText) (z : ElemValue) : Type 0 where
-  pub is_field : IsField d
+-- z is the product of the elements in k(x)[y]/(f), in lowest terms
+pub record IsProductOf (k : CodeField) (f : PresValue) (a b : ElemText) (z : ElemValue) : Type 0 where
   pub left : ElemValue
-  pub is_left : IsElementOf (ops_of d) a left
+  pub is_left : IsElementOf k.ops a left
   pub right : ElemValue
-  pub is_right : IsElementOf (ops_of d) b right
-  pub product : IsProduct (with_laws d is_field) c.fin left right z
+  pub is_right : IsElementOf k.ops b right
+  pub product : IsProduct k f left right z
 
 -- what an answer line says
 pub data Answer : Type 0 where
@@ -76,5 +79,6 @@ pub data Answer : Type 0 where
 abbrev pub Answers : Setting → Statement → Answer → Setting → Type 0
 Answers Empty (FieldOf p tail) (Size q) next = BindsField p tail q next
 Answers (WithField d) (CurveOf f) (Numbers n c) next = BindsCurve d f n c next
-Answers (WithCurve d c) (Mul a b) (Element z) next = IsProductOf d c a b z × (next ≡ WithCurve d c)
+Answers (WithCurve d c) (Mul a b) (Element z) next =
+    (is : IsField d) × IsProductOf (with_laws d is) c.fin a b z × (next ≡ WithCurve d c)
 Answers _ _ _ _ = ⊥

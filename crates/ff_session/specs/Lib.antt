@@ -4,3 +4,6 @@ pub mod Answers
 pub mod Texts
 pub mod Refusals
 pub mod Sessions
+pub mod Bound
+pub mod Elements
+pub mod Steps

@@ -2,6 +2,7 @@
 use Rattle.std.specs.Prelude.{◌≡◌, ◌≢◌, ℕ, ◌<◌, ◌≤◌, ◌+◌, ◌⊎◌, List, [], ◌∷◌, length, Option, Some, None, IsTrue}
 use Rattle.ff_fields.specs.declared.fault.FieldFault.{FieldFault}
 use Rattle.ff_fields.specs.declared.fault.FieldFault.TheVariants as fields
+use Rattle.ff_fields.specs.Field.{FieldOps, CodeField}
 use Rattle.ff_fields.specs.Prime.{is_listed}
 use Rattle.ff_fields.specs.Modulus.{IsFaultOf}
 use Rattle.ff_poly.specs.Words.{poly_of}
@@ -16,11 +17,19 @@ use Rattle.ff_script.specs.declared.script.Modulus.{Modulus}
 use Rattle.ff_script.specs.declared.script.Statement.{Statement}
 use Rattle.ff_script.specs.declared.script.Statement.TheVariants.{FieldOf, CurveOf, Mul}
 use Rattle.ff_session.specs.declared.refusal.Refusal.{Refusal}
-use Rattle.ff_session.specs.declared.refusal.Refusal.TheVariants.{FieldSize, NotField, LimitY, LimitX, NotMonic, NotSeparable, LimitDisc, LimitInf, CodeRange, Length, LimitDegree, LimitOutput}
+use Rattle.ff_session.specs.declared.refusal.Refusal.TheVariants.{FieldSize, NotField, LimitY, LimitX, NotMonic, NotSeparable, LimitDisc, LimitInf, CodeRange, Length, LimitDegree, LimitOutput, Memory}
 use Rattle.ff_session.specs.Settings.{FieldData, IsField, ops_of, with_laws, Setting, Empty, WithField, WithCurve, SessionValue}
 use Rattle.ff_session.specs.Meaning.{AreCodesBelow, IsFirstCodeFrom, codes_of_element, IsSumOf, IsElementOf, degree_of_element}
 use Rattle.ff_session.specs.Answers.{Answer, Size, Numbers, Element, Answers}
 use Rattle.ff_session.specs.Texts.{block_text}
+
+-- the row holds, unless the refusal is want of memory, which is no row
+abbrev pub UnlessMemory : (Refusal → Type 0) → Refusal → Type 0
+UnlessMemory Row r = r ≢ Memory → Row r
+
+-- the refusal tells the first written code that is q or more
+abbrev pub IsCodeRow : ℕ → List ℕ → Refusal → Type 0
+IsCodeRow q codes r = (c : ℕ) × IsFirstCodeFrom q codes c × (r ≡ CodeRange c)
 
 -- ---- the rows of a field line
 
@@ -42,46 +51,54 @@ pub record IsFieldRow (p : ℕ) (tail : Option Modulus) (r : Refusal) : Type 0 w
 
 -- ---- the rows of a curve
 
--- the refusal tells the fault; want of memory is no row
-abbrev pub TellsCurveFault : CurveFault → Refusal → Type 0
-TellsCurveFault (curves.LimitY n) r = r ≡ LimitY n
-TellsCurveFault (curves.LimitX d) r = r ≡ LimitX d
-TellsCurveFault (curves.NotMonic p) r = r ≡ NotMonic p
-TellsCurveFault curves.NotSeparable r = r ≡ NotSeparable
-TellsCurveFault (curves.LimitDisc d) r = r ≡ LimitDisc d
-TellsCurveFault (curves.LimitInf d) r = r ≡ LimitInf d
-TellsCurveFault curves.Memory r = ⊥
+abbrev pub refusal_of_curve : CurveFault → Refusal
+refusal_of_curve (curves.LimitY n) = LimitY n
+refusal_of_curve (curves.LimitX d) = LimitX d
+refusal_of_curve (curves.NotMonic p) = NotMonic p
+refusal_of_curve curves.NotSeparable = NotSeparable
+refusal_of_curve (curves.LimitDisc d) = LimitDisc d
+refusal_of_curve (curves.LimitInf d) = LimitInf d
+refusal_of_curve curves.Memory = Memory
 
-pub data IsCurveRow (d : FieldData) (f : List Term) : Refusal → Type 0 where
-  range : (c : ℕ) → IsFirstCodeFrom (ops_of d).size (written_codes f) c → IsCurveRow d f (CodeRange c)
-  fault : {r : Refusal} (is : IsField d) (sum : List (ℕ × ℕ × ℕ)) → IsSumOf (ops_of d) f sum → (e : CurveFault) → IsCurveFault (with_laws d is) sum e → TellsCurveFault e r → IsCurveRow d f r
+-- a code is too great, or the sum of the terms gives no curve
+pub data IsNoCurve (k : CodeField) (f : List Term) (r : Refusal) : Type 0 where
+  range : IsCodeRow k.size (written_codes f) r → IsNoCurve k f r
+  fault : (sum : List (ℕ × ℕ × ℕ)) → IsSumOf k.ops f sum → (e : CurveFault) → e ≢ curves.Memory → IsCurveFault k sum e → r ≡ refusal_of_curve e → IsNoCurve k f r
+
+abbrev pub IsCurveRow : FieldData → List Term → Refusal → Type 0
+IsCurveRow d f r = (is : IsField d) × IsNoCurve (with_laws d is) f r
 
 -- ---- the rows of a product
 
--- an element of n entries, of degrees up to 512
-pub record IsWithin (d : FieldData) (n : ℕ) (e : ElemText) : Type 0 where
-  pub written : AreCodesBelow (ops_of d).size (codes_of_element e)
-  pub size : length e.entries ≡ n
-  pub value : ElemValue
-  pub is : IsElementOf (ops_of d) e value
-  pub small : degree_of_element value ≤ 512
+module _ (k : FieldOps) (n : ℕ) where
+  -- an element of n entries, of degrees up to 512
+  pub record IsWithin (e : ElemText) : Type 0 where
+    pub written : AreCodesBelow k.size (codes_of_element e)
+    pub size : length e.entries ≡ n
+    pub value : ElemValue
+    pub is : IsElementOf k e value
+    pub small : degree_of_element value ≤ 512
 
-pub data IsElementRow (d : FieldData) (n : ℕ) (e : ElemText) : Refusal → Type 0 where
-  range : (c : ℕ) → IsFirstCodeFrom (ops_of d).size (codes_of_element e) c → IsElementRow d n e (CodeRange c)
-  size : AreCodesBelow (ops_of d).size (codes_of_element e) → length e.entries ≢ n → IsElementRow d n e (Length (length e.entries))
-  degree : length e.entries ≡ n → (z : ElemValue) → IsElementOf (ops_of d) e z → 512 < degree_of_element z → IsElementRow d n e (LimitX (degree_of_element z))
+  pub data IsElementRow (e : ElemText) (r : Refusal) : Type 0 where
+    range : IsCodeRow k.size (codes_of_element e) r → IsElementRow e r
+    size : AreCodesBelow k.size (codes_of_element e) → length e.entries ≢ n → r ≡ Length (length e.entries) → IsElementRow e r
+    degree : length e.entries ≡ n → (z : ElemValue) → IsElementOf k e z → 512 < degree_of_element z → r ≡ LimitX (degree_of_element z) → IsElementRow e r
 
--- the first element's rows come before the second's
-abbrev pub IsProductRow : FieldData → CurveValue → ElemText → ElemText → Refusal → Type 0
-IsProductRow d c a b r = IsElementRow d c.fin.n a r ⊎ (IsWithin d c.fin.n a × IsElementRow d c.fin.n b r)
+  -- the first element's rows come before the second's
+  abbrev pub IsProductRow : ElemText → ElemText → Refusal → Type 0
+  IsProductRow a b r = IsElementRow a r ⊎ (IsWithin a × IsElementRow b r)
 
 -- ---- all rows
 
 abbrev pub IsRow : Setting → Statement → Refusal → Type 0
 IsRow Empty (FieldOf p tail) r = IsFieldRow p tail r
 IsRow (WithField d) (CurveOf f) r = IsCurveRow d f r
-IsRow (WithCurve d c) (Mul a b) r = IsProductRow d c a b r
+IsRow (WithCurve d c) (Mul a b) r = IsProductRow (ops_of d) c.fin.n a b r
 IsRow _ _ _ = ⊥
+
+-- none of the rows of the statement holds
+abbrev pub HasNoRow : Setting → Statement → Type 0
+HasNoRow old s = (r : Refusal) → ¬ IsRow old s r
 
 -- the greatest degree of a polynomial in the answer lines
 abbrev pub degree_of_answer : Answer → ℕ
@@ -92,12 +109,12 @@ degree_of_answer _ = 0
 abbrev pub output_after : ℕ → List ℕ → ℕ
 output_after printed text = printed + length text + 32
 
--- the statement has a true answer, but its text may not be printed
+-- the answer's text may not be printed
 pub data IsTextRow (old : SessionValue) (s : Statement) (a : Answer) : Refusal → Type 0 where
   degree : 1024 < degree_of_answer a → IsTextRow old s a (LimitDegree (degree_of_answer a))
   output : degree_of_answer a ≤ 1024 → 268435456 < output_after old.printed (block_text s a) → IsTextRow old s a (LimitOutput (output_after old.printed (block_text s a)))
 
--- the statement is refused so
+-- one of the statement's rows holds, or it has a true answer whose text may not be printed
 pub data Refuses (old : SessionValue) (s : Statement) (r : Refusal) : Type 0 where
   row : IsRow old.setting s r → Refuses old s r
-  text : (a : Answer) (next : Setting) → Answers old.setting s a next → IsTextRow old s a r → Refuses old s r
+  text : (a : Answer) (next : Setting) → Answers old.setting s a next → HasNoRow old.setting s → IsTextRow old s a r → Refuses old s r

@@ -4,7 +4,7 @@ ghost use Rattle.std.specs.Prelude.{◌≡◌, ◌≢◌, ◌++◌, [], ◌∷�
 ghost use Rattle.ff_session.specs.declared.refusal.Refusal.TheVariants.{Memory};
 ghost use Rattle.ff_session.specs.Texts.{refusal_text, refusal_words, one_value, two_values};
 
-use ff_fields::fault::FieldFault;
+use ff_algebra::curve::CurveFault;
 use ff_poly::Poly;
 use ff_text::number::push_number;
 use ff_text::printed::push_poly;
@@ -46,6 +46,24 @@ impl From<AllocError> for Refusal {
 
     fn from(_: AllocError) -> Self {
         Refusal::Memory
+    }
+}
+
+impl From<CurveFault> for Refusal {
+    ghost use Rattle.ff_session.specs.Refusals.{refusal_of_curve};
+
+    ghost from_gives = { λ fault e. e ≡ refusal_of_curve fault };
+
+    fn from(fault: CurveFault) -> Self {
+        match fault {
+            CurveFault::LimitY(n) => Refusal::LimitY(n),
+            CurveFault::LimitX(d) => Refusal::LimitX(d),
+            CurveFault::NotMonic(p) => Refusal::NotMonic(p),
+            CurveFault::NotSeparable => Refusal::NotSeparable,
+            CurveFault::LimitDisc(d) => Refusal::LimitDisc(d),
+            CurveFault::LimitInf(d) => Refusal::LimitInf(d),
+            CurveFault::Memory => Refusal::Memory,
+        }
     }
 }
 
