@@ -1,6 +1,6 @@
 //! Polynomials and elements as they are written, over a field.
 
-ghost use Rattle.std.specs.Prelude.{◌≡◌, ◌<◌, ◌≤◌, length, All, IfOk, IfErr};
+ghost use Rattle.std.specs.Prelude.{◌≡◌, ◌<◌, ◌≤◌, All, IfOk, IfErr};
 ghost use Rattle.std.specs.List.{flat_map};
 ghost use Rattle.ff_fields.specs.Over.{IsOver};
 ghost use Rattle.ff_algebra.specs.Curves.{IsCoefficient, degree_in_x};
@@ -87,7 +87,6 @@ fn polynomial<K: SmallField>(
     requires low { degree_in_x terms.now ≤ 512 }
     ensures coefficient { IfOk result (IsCoefficient (K.field k.now).ops terms.now 0) }
     ensures over { IfOk result (IsOver (K.field k.now).ops) }
-    ensures short { IfOk result (λ p. length p ≤ 513) }
 {
     let mut codes = [0; CODES];
     for j in (0..terms.len()).rev() {
@@ -109,7 +108,6 @@ fn polynomials<K: SmallField>(
     requires low { greatest_in_x sums.now ≤ 512 }
     ensures coefficients { IfOk result (λ ps. AreCoefficients (K.field k.now).ops sums.now ps.items) }
     ensures over { IfOk result (λ ps. All (IsOver (K.field k.now).ops) ps.items) }
-    ensures short { IfOk result (λ ps. All (λ p. length p ≤ 513) ps.items) }
 {
     let mut polys = Vec::new(alloc);
     for terms in sums {
