@@ -1,7 +1,6 @@
 -- What stands behind the word of a statement is read in one way.
-use Rattle.std.proofs.Common.{◌≡◌, ◌≢◌, ℕ, suc, Bool, true, false, eqb, ◌+◌, List, [], ◌∷◌, ◌++◌, length, codes, Option, Some, None, Result, Ok, Err, refl, sym, ap, subst, ◌∙◌, arith, ◌⊎◌, inl, inr}
+use Rattle.std.proofs.Common.{◌≡◌, ◌≢◌, ℕ, suc, true, false, eqb, ◌+◌, List, [], ◌∷◌, ◌++◌, length, codes, Option, Some, None, Result, Ok, Err, refl, sym, ap, subst, ◌∙◌, arith}
 use Rattle.std.specs.Prelude.{IfOk}
-use Rattle.std.specs.Option.{is_some}
 use Rattle.std.proofs.lemmas.Bool.{eqb-false}
 use Rattle.std.specs.declared.alloc.AllocError.{AllocError}
 use Rattle.ff_text.specs.Spelling.{Is, SpellsNumber, SpellsTerms}
@@ -11,11 +10,11 @@ use Rattle.ff_text.specs.declared.terms.ElemText.{ElemText}
 use Rattle.ff_script.specs.declared.script.Modulus.{Modulus}
 use Rattle.ff_script.specs.declared.script.Statement.{Statement}
 use Rattle.ff_script.specs.declared.script.Statement.TheVariants.{FieldOf, CurveOf, Mul}
-use Rattle.ff_script.specs.Grammar.{begins_with_word, ends_with_word, numbers_of, IsWhole, SpellsFactor, SpellsLine}
+use Rattle.ff_script.specs.Grammar.{ends_with_word, numbers_of, IsWhole, SpellsPlain, SpellsLine}
 use Rattle.ff_script.specs.Reading.{IsReading, behind_blanks, IsFront, AreNumbersAt, IsModulusAt, IsBehind, IsSlashed}
 use Rattle.ff_script.proofs.Spans.{head_same, AllWord, blanks_same, words_same}
 use Rattle.ff_script.proofs.Fronts.{IsStatementAt, line_at, line_from}
-use Rattle.ff_script.proofs.Steps.{no_front, number_same, numbers_same, factor_same, factor_closed}
+use Rattle.ff_script.proofs.Steps.{no_front, number_same, numbers_same, plain_same, plain_closed}
 
 -- lists that differ at their front
 pub differ : (b c : ℕ) (bs cs : List ℕ) → eqb b c ≡ false → b ∷ bs ≡ c ∷ cs → ⊥
@@ -33,7 +32,7 @@ only_curve bytes none (FieldOf p tail) h = differ 99 102 (codes "urve") (codes "
 only_curve bytes none (CurveOf f) h = none f h.1
 only_curve bytes none (Mul a b) h = differ 99 109 (codes "urve") (codes "ul") refl h.0
 
-pub only_mul : (bytes : List ℕ) → ((a b : ElemText) (rest : List ℕ) → IsFront (SpellsFactor a) bytes rest → IsFront (SpellsFactor b) rest [] → ⊥) → (s : Statement) → IsBehind (codes "mul") s bytes → ⊥
+pub only_mul : (bytes : List ℕ) → ((a b : ElemText) (rest : List ℕ) → IsFront (SpellsPlain a) bytes rest → IsFront (SpellsPlain b) rest [] → ⊥) → (s : Statement) → IsBehind (codes "mul") s bytes → ⊥
 only_mul bytes none (FieldOf p tail) h = differ 109 102 (codes "ul") (codes "ield") refl h.0
 only_mul bytes none (CurveOf f) h = differ 109 99 (codes "ul") (codes "urve") refl h.0
 only_mul bytes none (Mul a b) h = none a b h.1.0 h.1.1 h.1.2
@@ -73,31 +72,31 @@ no_tail_here bytes n rest f some none s h = only_field bytes go s h
 -- ---- elements behind `mul`
 
 -- an element at the front is no slash
-pub front_no_slash : (e : ElemText) (bytes rest : List ℕ) → IsFront (SpellsFactor e) bytes rest → IsSlashed bytes → ⊥
+pub front_no_slash : (e : ElemText) (bytes rest : List ℕ) → IsFront (SpellsPlain e) bytes rest → IsSlashed bytes → ⊥
 front_no_slash e bytes rest f h =
-    let c = factor_closed e f.front f.part in
+    let c = plain_closed e f.front f.part in
     differ 91 47 ((c.inner ++ (93 ∷ [])) ++ (f.gap ++ rest)) h.0 refl (sym (f.whole ∙ ap (λ (t : List ℕ). t ++ (f.gap ++ rest)) c.whole) ∙ h.1)
 
-pub no_first_factor : (bytes : List ℕ) → ((e : ElemText) (rest : List ℕ) → IsFront (SpellsFactor e) bytes rest → IsSlashed rest) → (s : Statement) → IsBehind (codes "mul") s bytes → ⊥
-no_first_factor bytes slashed s h = only_mul bytes (λ a b rest f g. front_no_slash b rest [] g (slashed a rest f)) s h
+pub no_first_element : (bytes : List ℕ) → ((e : ElemText) (rest : List ℕ) → IsFront (SpellsPlain e) bytes rest → IsSlashed rest) → (s : Statement) → IsBehind (codes "mul") s bytes → ⊥
+no_first_element bytes slashed s h = only_mul bytes (λ a b rest f g. front_no_slash b rest [] g (slashed a rest f)) s h
 
-pub no_second_factor : (bytes : List ℕ) (e : ElemText) (rest : List ℕ) → IsFront (SpellsFactor e) bytes rest → ((d : ElemText) (more : List ℕ) → IsFront (SpellsFactor d) rest more → IsSlashed more) → (s : Statement) → IsBehind (codes "mul") s bytes → ⊥
-no_second_factor bytes e rest here slashed s h = only_mul bytes go s h
+pub no_second_element : (bytes : List ℕ) (e : ElemText) (rest : List ℕ) → IsFront (SpellsPlain e) bytes rest → ((d : ElemText) (more : List ℕ) → IsFront (SpellsPlain d) rest more → IsSlashed more) → (s : Statement) → IsBehind (codes "mul") s bytes → ⊥
+no_second_element bytes e rest here slashed s h = only_mul bytes go s h
   where
-    go : (a b : ElemText) (r : List ℕ) → IsFront (SpellsFactor a) bytes r → IsFront (SpellsFactor b) r [] → ⊥
+    go : (a b : ElemText) (r : List ℕ) → IsFront (SpellsPlain a) bytes r → IsFront (SpellsPlain b) r [] → ⊥
     go a b r f g =
-        let same : r ≡ rest = factor_same bytes a e r rest f here in
-        let slash = slashed b [] (subst (λ (t : List ℕ). IsFront (SpellsFactor b) t []) same g) in
+        let same : r ≡ rest = plain_same bytes a e r rest f here in
+        let slash = slashed b [] (subst (λ (t : List ℕ). IsFront (SpellsPlain b) t []) same g) in
         let is : [] ≡ 47 ∷ slash.0 = slash.1 in
         cc
 
-pub more_behind : (bytes : List ℕ) (e : ElemText) (rest : List ℕ) (d : ElemText) (more : List ℕ) → IsFront (SpellsFactor e) bytes rest → IsFront (SpellsFactor d) rest more → more ≢ [] → (s : Statement) → IsBehind (codes "mul") s bytes → ⊥
+pub more_behind : (bytes : List ℕ) (e : ElemText) (rest : List ℕ) (d : ElemText) (more : List ℕ) → IsFront (SpellsPlain e) bytes rest → IsFront (SpellsPlain d) rest more → more ≢ [] → (s : Statement) → IsBehind (codes "mul") s bytes → ⊥
 more_behind bytes e rest d more here there some s h = only_mul bytes go s h
   where
-    go : (a b : ElemText) (r : List ℕ) → IsFront (SpellsFactor a) bytes r → IsFront (SpellsFactor b) r [] → ⊥
+    go : (a b : ElemText) (r : List ℕ) → IsFront (SpellsPlain a) bytes r → IsFront (SpellsPlain b) r [] → ⊥
     go a b r f g =
-        let same : r ≡ rest = factor_same bytes a e r rest f here in
-        some (factor_same rest d b more [] there (subst (λ (t : List ℕ). IsFront (SpellsFactor b) t []) same g))
+        let same : r ≡ rest = plain_same bytes a e r rest f here in
+        some (plain_same rest d b more [] there (subst (λ (t : List ℕ). IsFront (SpellsPlain b) t []) same g))
 
 -- ---- words
 

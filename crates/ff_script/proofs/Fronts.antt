@@ -1,5 +1,5 @@
 -- The spelling of a line, read from left to right.
-use Rattle.std.proofs.Common.{◌≡◌, ◌≢◌, ℕ, Bool, true, false, ◌&&◌, List, [], ◌∷◌, ◌++◌, codes, Option, Some, None, refl, sym, ap, subst, ◌∙◌, append_assoc, ◌⊎◌, inl, inr}
+use Rattle.std.proofs.Common.{◌≡◌, ℕ, true, false, List, [], ◌∷◌, ◌++◌, codes, refl, sym, ap, subst, ◌∙◌, append_assoc, inl, inr}
 use Rattle.std.specs.List.{AllByRecursion}
 use Rattle.std.proofs.lemmas.Bool.{cases_Bool, both_ways, and_parts, and_from}
 use Rattle.std.proofs.lemmas.List.{append-nil}
@@ -7,10 +7,10 @@ use Rattle.ff_text.specs.Spelling.{Is, Blanks, SpellsNumber, SpellsTerms}
 use Rattle.ff_text.specs.declared.terms.ElemText.{ElemText}
 use Rattle.ff_script.specs.declared.script.Statement.{Statement}
 use Rattle.ff_script.specs.declared.script.Statement.TheVariants.{FieldOf, CurveOf, Mul}
-use Rattle.ff_script.specs.Grammar.{begins_with_word, ends_with_word, IsGap, SpellsParts, AreNumbers, numbers_of, SpellsFactor, ArePartsOf, SpellsStatement, SpellsLine}
+use Rattle.ff_script.specs.Grammar.{begins_with_word, ends_with_word, IsGap, SpellsParts, AreNumbers, numbers_of, SpellsPlain, ArePartsOf, SpellsLine}
 use Rattle.ff_script.specs.Reading.{behind_blanks, begins_with_blank, IsFront, AreNumbersAt, IsBehind}
 use Rattle.ff_script.proofs.Spans.{passed, blanks_passed, gap_no_word, some_gap_no_word, word_goes_on}
-use Rattle.ff_script.proofs.Spelled.{Starts, starts_before, starts_edge, number_solid, terms_solid, element_bracketed}
+use Rattle.ff_script.proofs.Spelled.{Starts, starts_edge, number_solid, terms_solid, element_bracketed}
 
 -- ---- parts from left to right
 
@@ -48,15 +48,14 @@ fronts_from part [] core end starts h blanks = (
     edge = refl;
     apart = λ e. gap_no_word end [] blanks refl;
   },
-  refl
+  refl,
 )
 fronts_from part (next ∷ parts) core end starts h blanks =
     let gap : List ℕ = h.second.front in
     let back : List ℕ = h.second.back in
     let begin = parts_begin next parts back h.second.second in
     let is : back ++ end ≡ next ++ (begin.0 ++ end) = ap (λ (t : List ℕ). t ++ end) begin.1 ∙ append_assoc next begin.0 end in
-    let joined : core ≡ part ++ (gap ++ back) = h.whole ∙ ap (λ (t : List ℕ). t ++ h.back) h.first ∙ ap (λ (t : List ℕ). part ++ t) h.second.whole in
-    (
+    let joined : core ≡ part ++ (gap ++ back) = h.whole ∙ ap (λ (t : List ℕ). t ++ h.back) h.first ∙ ap (λ (t : List ℕ). part ++ t) h.second.whole in (
       back ++ end,
       record {
         front = part;
@@ -70,7 +69,7 @@ fronts_from part (next ∷ parts) core end starts h blanks =
           | inr other ↦ gap_no_word gap (back ++ end) h.second.first.blanks (ap begins_with_word is ∙ word_begins next (begin.0 ++ end) starts.1.0 ∙ other)
         ];
       },
-      fronts_from next parts back end starts.1 h.second.second blanks
+      fronts_from next parts back end starts.1 h.second.second blanks,
     )
 
 -- parts with gaps between them, and blanks behind
@@ -85,10 +84,10 @@ gap_between : (part next : List ℕ) (bytes rest tail : List ℕ) (f : IsFront (
 gap_between part next bytes rest tail f is = record {
   blanks = f.blanks;
   apart = λ both none.
-    let each = and_parts (ends_with_word part) (begins_with_word next) both in
-    let ended : begins_with_word (f.gap ++ rest) ≡ false = f.apart (ap ends_with_word f.part ∙ each.0) in
-    let here : f.gap ++ rest ≡ next ++ tail = ap (λ (t : List ℕ). t ++ rest) none ∙ is in
-    both_ways (begins_with_word (next ++ tail)) (ap begins_with_word (sym here) ∙ ended) (word_goes_on next tail each.1);
+      let each = and_parts (ends_with_word part) (begins_with_word next) both in
+      let ended : begins_with_word (f.gap ++ rest) ≡ false = f.apart (ap ends_with_word f.part ∙ each.0) in
+      let here : f.gap ++ rest ≡ next ++ tail = ap (λ (t : List ℕ). t ++ rest) none ∙ is in
+      both_ways (begins_with_word (next ++ tail)) (ap begins_with_word (sym here) ∙ ended) (word_goes_on next tail each.1);
 }
 
 pub parts_from : (part : List ℕ) (parts : List (List ℕ)) (bytes : List ℕ) → AreFronts (part ∷ parts) bytes → HasParts (part ∷ parts) bytes
@@ -134,13 +133,13 @@ numbers_start [] parts h = subst (AllByRecursion Starts) (sym h) tt
 numbers_start (n ∷ ns) [] h = absurd h
 numbers_start (n ∷ ns) (part ∷ parts) h = ((number_solid n part h.0).starts, numbers_start ns parts h.1)
 
-pub factor_starts : (e : ElemText) (bytes : List ℕ) → SpellsFactor e bytes → Starts bytes
-factor_starts e bytes h = subst Starts (sym (element_bracketed e bytes h.element).whole) refl
+pub plain_starts : (e : ElemText) (bytes : List ℕ) → SpellsPlain e bytes → Starts bytes
+plain_starts e bytes h = subst Starts (sym (element_bracketed e bytes h.element).whole) refl
 
 pub parts_start : (s : Statement) (parts : List (List ℕ)) → ArePartsOf s parts → AllByRecursion Starts parts
 parts_start (FieldOf p tail) parts h = subst (AllByRecursion Starts) (sym h.1) (refl, numbers_start (p ∷ numbers_of tail) h.0 h.2)
 parts_start (CurveOf f) parts h = subst (AllByRecursion Starts) (sym h.1) (refl, ((terms_solid true f h.0 h.2).starts, tt))
-parts_start (Mul a b) parts h = subst (AllByRecursion Starts) (sym h.2) (refl, (factor_starts a h.0 h.3, (factor_starts b h.1 h.4, tt)))
+parts_start (Mul a b) parts h = subst (AllByRecursion Starts) (sym h.2) (refl, (plain_starts a h.0 h.3, (plain_starts b h.1 h.4, tt)))
 
 no_parts : (s : Statement) → ArePartsOf s [] → ⊥
 no_parts (FieldOf p tail) h = let e = h.1 in cc
@@ -168,9 +167,9 @@ statement_at (CurveOf f) parts bytes h fronts =
     record { word = codes "curve"; rest = at.0; front = at.1; behind = (refl, subst (IsFront (SpellsTerms true f) at.0) at.2.2 last) }
 statement_at (Mul a b) parts bytes h fronts =
     let at = subst (λ (p : List (List ℕ)). AreFronts p bytes) h.2 fronts in
-    let left : IsFront (SpellsFactor a) at.0 at.2.0 = front_as (Is h.0) (SpellsFactor a) at.0 at.2.0 (λ c e. subst (SpellsFactor a) (sym e) h.3) at.2.1 in
-    let right : IsFront (SpellsFactor b) at.2.0 at.2.2.0 = front_as (Is h.1) (SpellsFactor b) at.2.0 at.2.2.0 (λ c e. subst (SpellsFactor b) (sym e) h.4) at.2.2.1 in
-    record { word = codes "mul"; rest = at.0; front = at.1; behind = (refl, (at.2.0, left, subst (IsFront (SpellsFactor b) at.2.0) at.2.2.2 right)) }
+    let left : IsFront (SpellsPlain a) at.0 at.2.0 = front_as (Is h.0) (SpellsPlain a) at.0 at.2.0 (λ c e. subst (SpellsPlain a) (sym e) h.3) at.2.1 in
+    let right : IsFront (SpellsPlain b) at.2.0 at.2.2.0 = front_as (Is h.1) (SpellsPlain b) at.2.0 at.2.2.0 (λ c e. subst (SpellsPlain b) (sym e) h.4) at.2.2.1 in
+    record { word = codes "mul"; rest = at.0; front = at.1; behind = (refl, (at.2.0, left, subst (IsFront (SpellsPlain b) at.2.0) at.2.2.2 right)) }
 
 abbrev IsNamed : Statement → List ℕ → Type 0
 IsNamed s bytes = (parts : List (List ℕ)) × ArePartsOf s parts × AreFronts parts bytes
@@ -184,11 +183,10 @@ statement_parts (CurveOf f) bytes h =
     (codes "curve" ∷ f_front.front ∷ [], (f_front.front, refl, f_front.part), (h.rest, subst (λ (w : List ℕ). IsFront (Is w) bytes h.rest) h.behind.0 h.front, ([], front_itself (SpellsTerms true f) h.rest [] f_front, refl)))
 statement_parts (Mul a b) bytes h =
     let left = h.behind.1.1 in
-    let right = h.behind.1.2 in
-    (
+    let right = h.behind.1.2 in (
       codes "mul" ∷ left.front ∷ right.front ∷ [],
       (left.front, right.front, refl, left.part, right.part),
-      (h.rest, subst (λ (w : List ℕ). IsFront (Is w) bytes h.rest) h.behind.0 h.front, (h.behind.1.0, front_itself (SpellsFactor a) h.rest h.behind.1.0 left, ([], front_itself (SpellsFactor b) h.behind.1.0 [] right, refl)))
+      (h.rest, subst (λ (w : List ℕ). IsFront (Is w) bytes h.rest) h.behind.0 h.front, (h.behind.1.0, front_itself (SpellsPlain a) h.rest h.behind.1.0 left, ([], front_itself (SpellsPlain b) h.behind.1.0 [] right, refl))),
     )
 
 -- ---- lines
@@ -197,10 +195,9 @@ core_at : (s : Statement) (parts : List (List ℕ)) (core end : List ℕ) → Ar
 core_at s [] core end named joined blanks = absurd (no_parts s named)
 core_at s (part ∷ parts) core end named joined blanks =
     let starts = parts_start s (part ∷ parts) named in
-    let begin = parts_begin part parts core joined in
-    (
+    let begin = parts_begin part parts core joined in (
       statement_at s (part ∷ parts) (core ++ end) named (fronts_from part parts core end starts joined blanks),
-      ap begins_with_blank (ap (λ (t : List ℕ). t ++ end) begin.1 ∙ append_assoc part begin.0 end) ∙ starts_edge part (begin.0 ++ end) starts.0
+      ap begins_with_blank (ap (λ (t : List ℕ). t ++ end) begin.1 ∙ append_assoc part begin.0 end) ∙ starts_edge part (begin.0 ++ end) starts.0,
     )
 
 -- a line that spells a statement has it behind its first blanks

@@ -8,3 +8,5 @@ pub mod Progress
 pub mod OneLine
 pub mod OneScript
 pub mod Printed
+pub mod TextLaws
+pub mod Writable

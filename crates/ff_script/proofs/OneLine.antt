@@ -1,5 +1,5 @@
 -- A line spells one statement at most.
-use Rattle.std.proofs.Common.{◌≡◌, ◌≢◌, ℕ, suc, Bool, true, false, eqb, ◌+◌, ◌<◌, ◌≤◌, List, [], ◌∷◌, ◌++◌, length, codes, Option, Some, None, refl, sym, ap, subst, ◌∙◌, append_assoc, arith, ◌⊎◌, inl, inr}
+use Rattle.std.proofs.Common.{◌≡◌, ℕ, true, List, [], ◌∷◌, ◌++◌, codes, Option, Some, None, refl, sym, ap, subst, ◌∙◌, arith, ◌⊎◌, inl, inr}
 use Rattle.std.proofs.lemmas.List.{append-nil}
 use Rattle.ff_text.specs.Spelling.{Is, Blanks, SpellsTerms, SpellsElement}
 use Rattle.ff_text.specs.declared.terms.Term.{Term}
@@ -7,13 +7,13 @@ use Rattle.ff_text.specs.declared.terms.ElemText.{ElemText}
 use Rattle.ff_script.specs.declared.script.Modulus.{Modulus}
 use Rattle.ff_script.specs.declared.script.Statement.{Statement}
 use Rattle.ff_script.specs.declared.script.Statement.TheVariants.{FieldOf, CurveOf, Mul}
-use Rattle.ff_script.specs.Grammar.{numbers_of, SpellsFactor, IsSkipped, SpellsLine}
+use Rattle.ff_script.specs.Grammar.{numbers_of, SpellsPlain, IsSkipped, SpellsLine}
 use Rattle.ff_script.specs.Reading.{behind_blanks, IsFront, AreNumbersAt, IsBehind}
 use Rattle.ff_script.proofs.Spans.{stopped_same}
 use Rattle.ff_script.proofs.Spelled.{terms_solid}
-use Rattle.ff_script.proofs.Fronts.{IsStatementAt, line_at}
-use Rattle.ff_script.proofs.Steps.{numbers_same, factor_closed, closed_same, front_closed, comment_at, blank_at}
-use Rattle.ff_script.proofs.Behind.{IsWord, differ, word_of_statement, statement_behind}
+use Rattle.ff_script.proofs.Fronts.{line_at}
+use Rattle.ff_script.proofs.Steps.{numbers_same, front_closed, comment_at, blank_at}
+use Rattle.ff_script.proofs.Behind.{differ, word_of_statement, statement_behind}
 
 -- a text spells one value at most
 abbrev pub OneValue : {V : Type 0} → (V → List ℕ → Type 0) → Type 0
@@ -51,7 +51,7 @@ module _ (one_terms : OneValue (SpellsTerms true)) (one_element : OneValue Spell
       one_terms f g k.front (subst (SpellsTerms true f) fronts h.part) k.part
 
   -- an element at the front, and what stands behind it
-  element_same : (a b : ElemText) (bytes r s : List ℕ) → IsFront (SpellsFactor a) bytes r → IsFront (SpellsFactor b) bytes s → (a ≡ b) × (r ≡ s)
+  element_same : (a b : ElemText) (bytes r s : List ℕ) → IsFront (SpellsPlain a) bytes r → IsFront (SpellsPlain b) bytes s → (a ≡ b) × (r ≡ s)
   element_same a b bytes r s h k =
       let both = front_closed bytes a b r s h k in
       (one_element a b k.front (subst (SpellsElement a) both.0 h.part.element) k.part.element, both.1)
@@ -61,7 +61,7 @@ module _ (one_terms : OneValue (SpellsTerms true)) (one_element : OneValue Spell
   behind_same word bytes (CurveOf f) (CurveOf g) h k = ap (λ (x : List Term). CurveOf x) (terms_same f g bytes h.1 k.1)
   behind_same word bytes (Mul a b) (Mul c d) h k =
       let first = element_same a c bytes h.1.0 k.1.0 h.1.1 k.1.1 in
-      let second = element_same b d k.1.0 [] [] (subst (λ (t : List ℕ). IsFront (SpellsFactor b) t []) first.1 h.1.2) k.1.2 in
+      let second = element_same b d k.1.0 [] [] (subst (λ (t : List ℕ). IsFront (SpellsPlain b) t []) first.1 h.1.2) k.1.2 in
       let left : a ≡ c = first.0 in
       let right : b ≡ d = second.0 in
       cc

@@ -1,13 +1,13 @@
 -- Bytes are one script at most, and have one fault at most, and none if they are a script.
-use Rattle.std.proofs.Common.{◌≡◌, ◌≢◌, ℕ, suc, ◌+◌, ◌<◌, ◌≤◌, List, [], ◌∷◌, ◌++◌, length, Option, Some, None, Result, Ok, Err, refl, sym, ap, subst, ◌∙◌, append_assoc, arith, ◌⊎◌, inl, inr}
+use Rattle.std.proofs.Common.{◌≡◌, ℕ, suc, ◌<◌, List, [], ◌∷◌, ◌++◌, length, Result, Ok, Err, sym, ap, subst, ◌∙◌, append_assoc, arith, inl, inr}
 use Rattle.std.specs.Prelude.{All}
 use Rattle.std.specs.Global.{Vec}
 use Rattle.std.proofs.lemmas.Bool.{cases_order}
-use Rattle.std.proofs.lemmas.List.{append-nil, length-append}
+use Rattle.std.proofs.lemmas.List.{append-nil}
 use Rattle.ff_script.specs.declared.script.Statement.{Statement}
 use Rattle.ff_script.specs.declared.fault.ScriptFault.{ScriptFault}
 use Rattle.ff_script.specs.declared.fault.ScriptFault.TheVariants.{Syntax, Misplaced, Memory}
-use Rattle.ff_script.specs.Grammar.{SpellsLine, IsSkipped, IsInGrammar}
+use Rattle.ff_script.specs.Grammar.{SpellsLine, IsInGrammar}
 use Rattle.ff_script.specs.Scripts.{lines_of, IsReadAs, AreInOrderFrom, IsInOrder, IsScript, IsLine, IsOutOfOrder, IsSyntaxFault, IsMisplaced, IsScriptFault, GivesScript}
 use Rattle.ff_script.proofs.OneLine.{skipped_none}
 use Rattle.ff_script.proofs.Progress.{read_good}

@@ -1,23 +1,22 @@
 -- Statements that can be written are spelled by their texts.
-use Rattle.std.proofs.Common.{◌≡◌, ◌≢◌, ℕ, suc, Bool, true, false, eqb, ◌+◌, ◌<◌, ◌≤◌, List, [], ◌∷◌, ◌++◌, length, map, codes, Option, Some, None, refl, sym, ap, subst, ◌∙◌, append_assoc, arith, ◌⊎◌, inl, inr}
-use Rattle.std.specs.Prelude.{All, decimal, flat_map}
+use Rattle.std.proofs.Common.{◌≡◌, ℕ, true, false, eqb, ◌<◌, List, [], ◌∷◌, ◌++◌, map, codes, refl, sym, ap, subst, ◌∙◌, append_assoc, inr}
+use Rattle.std.specs.Prelude.{All, decimal}
 use Rattle.std.specs.List.{AllByRecursion, slice_split}
 use Rattle.std.proofs.lemmas.List.{append-nil}
 use Rattle.std.proofs.lemmas.List.Elements.{All-nil, All-cons}
 use Rattle.std.proofs.lemmas.List.Splits.{slice_split_at}
-use Rattle.ff_text.specs.Spelling.{Is, Blanks, SpellsNumber, SpellsTerms, SpellsElement}
+use Rattle.ff_text.specs.Spelling.{Blanks, SpellsNumber, SpellsTerms, SpellsElement}
 use Rattle.ff_text.specs.Printing.{terms_text, element_text, IsWritableTerms, IsWritableElement}
 use Rattle.ff_text.specs.declared.terms.Term.{Term}
 use Rattle.ff_text.specs.declared.terms.ElemText.{ElemText}
-use Rattle.ff_script.specs.declared.script.Modulus.{Modulus}
 use Rattle.ff_script.specs.declared.script.Statement.{Statement}
 use Rattle.ff_script.specs.declared.script.Statement.TheVariants.{FieldOf, CurveOf, Mul}
-use Rattle.ff_script.specs.Grammar.{IsGap, SpellsParts, AreNumbers, numbers_of, SpellsFactor, ArePartsOf, SpellsLine}
+use Rattle.ff_script.specs.Grammar.{IsGap, SpellsParts, AreNumbers, numbers_of, SpellsPlain, ArePartsOf, SpellsLine}
 use Rattle.ff_script.specs.Printing.{numbers_text, statement_text, script_text, IsShort, IsWritable}
 use Rattle.ff_script.specs.Scripts.{lines_of, IsReadAs, IsInOrder, IsScript}
 use Rattle.ff_script.proofs.Spans.{all_append, each_blank}
-use Rattle.ff_script.proofs.Spelled.{IsInside, AreInside, number_solid, terms_solid}
-use Rattle.ff_script.proofs.Steps.{factor_closed}
+use Rattle.ff_script.proofs.Spelled.{AreInside, number_solid, terms_solid}
+use Rattle.ff_script.proofs.Steps.{plain_closed}
 use Rattle.ff_script.proofs.Cuts.{is_feed, lines_cut}
 use Rattle.ff_script.proofs.OneScript.{IsOneLine}
 
@@ -37,9 +36,9 @@ blanks_unfed : (gap : List ℕ) → Blanks gap → AreUnfed gap
 blanks_unfed [] h = tt
 blanks_unfed (g ∷ gap) h = (each_blank IsUnfed refl refl refl g h.0, blanks_unfed gap h.1)
 
-factor_unfed : (e : ElemText) (bytes : List ℕ) → SpellsFactor e bytes → AreUnfed bytes
-factor_unfed e bytes h =
-    let c = factor_closed e bytes h in
+plain_unfed : (e : ElemText) (bytes : List ℕ) → SpellsPlain e bytes → AreUnfed bytes
+plain_unfed e bytes h =
+    let c = plain_closed e bytes h in
     subst AreUnfed (sym c.whole) (refl, all_append IsUnfed c.inner (93 ∷ []) (inside_unfed c.inner c.inside) (refl, tt))
 
 numbers_unfed : (ns : List ℕ) (parts : List (List ℕ)) → AreNumbers ns parts → AllByRecursion AreUnfed parts
@@ -50,7 +49,7 @@ numbers_unfed (n ∷ ns) (part ∷ parts) h = (inside_unfed part (number_solid n
 parts_unfed : (s : Statement) (parts : List (List ℕ)) → ArePartsOf s parts → AllByRecursion AreUnfed parts
 parts_unfed (FieldOf p tail) parts h = subst (AllByRecursion AreUnfed) (sym h.1) ((refl, (refl, (refl, (refl, (refl, tt))))), numbers_unfed (p ∷ numbers_of tail) h.0 h.2)
 parts_unfed (CurveOf f) parts h = subst (AllByRecursion AreUnfed) (sym h.1) ((refl, (refl, (refl, (refl, (refl, tt))))), (inside_unfed h.0 (terms_solid true f h.0 h.2).inside, tt))
-parts_unfed (Mul a b) parts h = subst (AllByRecursion AreUnfed) (sym h.2) ((refl, (refl, (refl, tt))), (factor_unfed a h.0 h.3, (factor_unfed b h.1 h.4, tt)))
+parts_unfed (Mul a b) parts h = subst (AllByRecursion AreUnfed) (sym h.2) ((refl, (refl, (refl, tt))), (plain_unfed a h.0 h.3, (plain_unfed b h.1 h.4, tt)))
 
 joined_unfed : (parts : List (List ℕ)) (core : List ℕ) → AllByRecursion AreUnfed parts → SpellsParts parts core → AreUnfed core
 joined_unfed [] core h joined = subst AreUnfed (sym joined) tt

@@ -1,13 +1,16 @@
 -- What the lines so far came to, one line further.
-use Rattle.std.proofs.Common.{◌≡◌, ◌≢◌, ℕ, suc, Bool, true, false, ◌+◌, ◌<◌, ◌≤◌, List, [], ◌∷◌, ◌++◌, length, Option, Some, None, refl, sym, ap, subst, ◌∙◌, append_assoc, zero-add, arith, ◌⊎◌, inl, inr}
+use Rattle.std.proofs.Common.{◌≡◌, ◌≢◌, ℕ, suc, Bool, true, false, ◌+◌, ◌<◌, ◌≤◌, List, [], ◌∷◌, ◌++◌, length, Option, Some, None, refl, sym, ap, subst, ◌∙◌, append_assoc, zero-add, arith, inl, inr}
 use Rattle.std.specs.Prelude.{All}
 use Rattle.std.specs.Option.{is_some}
 use Rattle.std.proofs.lemmas.Bool.{both_ways}
 use Rattle.std.proofs.lemmas.List.Elements.{All-nil, All-cons, All-append}
 use Rattle.std.proofs.lemmas.List.{append-nil, length-append}
+use Rattle.ff_script.specs.declared.fault.ScriptFault.{ScriptFault}
+use Rattle.ff_script.specs.declared.fault.ScriptFault.TheVariants.{Syntax, Misplaced, Memory}
 use Rattle.ff_script.specs.declared.script.Statement.{Statement}
 use Rattle.ff_script.specs.Grammar.{SpellsLine, IsSkipped, IsInGrammar}
-use Rattle.ff_script.specs.Scripts.{lines_of, IsReadAs, MayFollow, AreInOrderFrom, IsInOrder, IsScript, IsLine, IsOutOfOrder, IsSyntaxFault, IsMisplaced, IsSoFar}
+use Rattle.ff_script.specs.Scripts.{lines_of, IsReadAs, MayFollow, AreInOrderFrom, IsScript, IsOutOfOrder, IsSyntaxFault, IsMisplaced, IsScriptFault}
+use Rattle.ff_script.specs.Reading.{IsSoFar, IsLineFault}
 
 -- ---- lists of lines
 
@@ -96,7 +99,7 @@ stop_so_far lines ss ts None line s n none number spelled out h = (
     statement = s;
     spelled = spelled;
     misplaced = λ order. out (subst (λ (k : ℕ). MayFollow k s) (zero-add (length ss)) (order_last 0 ss s order));
-  }
+  },
 )
 
 -- the next statement
@@ -153,3 +156,9 @@ syntax_taken bytes rest behind line count n ss o h first number bad = record {
   good = good_so_far h.lines ss o h.so_far;
   bad = bad;
 }
+
+-- the fault of a line is that of the bytes
+pub line_fault : (bytes rest behind line : List ℕ) (count : ℕ) (ss : List Statement) (o : Option ℕ) (e : ScriptFault) → HaveTaken bytes rest count ss o → lines_of rest ≡ line ∷ lines_of behind → IsLineFault line (count + 1) e → IsScriptFault bytes e
+line_fault bytes rest behind line count ss o (Syntax n) h first fault = syntax_taken bytes rest behind line count n ss o h first fault.0 fault.1
+line_fault bytes rest behind line count ss o (Misplaced n) h first fault = absurd fault
+line_fault bytes rest behind line count ss o Memory h first fault = tt

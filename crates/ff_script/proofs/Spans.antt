@@ -1,5 +1,5 @@
 -- Runs of blanks and of word bytes at the front of a list.
-use Rattle.std.proofs.Common.{◌≡◌, ◌≢◌, ℕ, Bool, true, false, cond, eqb, ◌+◌, ◌<◌, ◌≤◌, ◌||◌, List, [], ◌∷◌, ◌++◌, length, refl, sym, ap, subst, ◌∙◌, append_assoc, arith, ◌⊎◌, inl, inr}
+use Rattle.std.proofs.Common.{◌≡◌, ◌≢◌, ℕ, true, false, eqb, ◌≤◌, ◌||◌, List, [], ◌∷◌, ◌++◌, length, refl, sym, ap, subst, ◌∙◌, arith, ◌⊎◌, inl, inr}
 use Rattle.std.specs.Prelude.{IsTrue}
 use Rattle.std.specs.List.{AllByRecursion}
 use Rattle.std.proofs.lemmas.Bool.{eqb-true, or_cases, cases_Bool, both_ways}
@@ -45,9 +45,9 @@ module _ (P : ℕ → Type 0) where
 pub blank_byte : (b : ℕ) → is_blank b ≡ true → (b ≡ 32) ⊎ ((b ≡ 9) ⊎ (b ≡ 13))
 blank_byte b h = elim (or_cases (eqb b 32 || eqb b 9) (eqb b 13) h) [
   | inl k ↦ elim (or_cases (eqb b 32) (eqb b 9) k) [
-      | inl e ↦ inl (eqb-true b 32 e)
-      | inr e ↦ inr (inl (eqb-true b 9 e))
-    ]
+    | inl e ↦ inl (eqb-true b 32 e)
+    | inr e ↦ inr (inl (eqb-true b 9 e))
+  ]
   | inr e ↦ inr (inr (eqb-true b 13 e))
 ]
 

@@ -1,17 +1,16 @@
 -- What spelled texts begin with, end with and hold.
-use Rattle.std.proofs.Common.{◌≡◌, ◌≢◌, ℕ, Bool, true, false, cond, eqb, ◌+◌, ◌<◌, ◌≤◌, ◌||◌, List, [], ◌∷◌, ◌++◌, length, codes, Option, Some, None, refl, sym, ap, subst, ◌∙◌, append_assoc, arith, ◌⊎◌, inl, inr}
-use Rattle.std.specs.Prelude.{IsTrue}
+use Rattle.std.proofs.Common.{◌≡◌, ◌≢◌, ℕ, Bool, true, false, eqb, ◌<◌, ◌≤◌, ◌||◌, List, [], ◌∷◌, ◌++◌, length, codes, Option, refl, sym, ap, subst, ◌∙◌, append_assoc, arith, ◌⊎◌, inl, inr}
 use Rattle.std.specs.List.{AllByRecursion}
 use Rattle.std.specs.Char.{digit_value}
 use Rattle.std.specs.Str.Parse.{AllDigits}
-use Rattle.std.proofs.lemmas.Bool.{ne_eqb, or_from, le-leb, or_left, and_from}
+use Rattle.std.proofs.lemmas.Bool.{ne_eqb, or_from, le-leb}
 use Rattle.std.proofs.lemmas.List.{append-nil}
 use Rattle.std.proofs.lemmas.Bool.Decides.{nat_tests}
 use Rattle.ff_text.specs.declared.terms.Factor.{Factor}
 use Rattle.ff_text.specs.declared.terms.Factor.TheVariants.{Code, X, Y}
 use Rattle.ff_text.specs.declared.terms.Term.{Term}
 use Rattle.ff_text.specs.declared.terms.ElemText.{ElemText}
-use Rattle.ff_text.specs.Spelling.{Then, Is, is_blank, Blanks, Around, Within, Each, Joined, SpellsNumber, SpellsPower, SpellsFactor, SpellsFactors, FirstSign, NextSign, SpellsFirst, SpellsNext, SpellsTerms, SpellsEntries, SpellsTail, SpellsElement}
+use Rattle.ff_text.specs.Spelling.{Then, is_blank, Blanks, Around, Each, Joined, SpellsNumber, SpellsPower, SpellsFactor, SpellsFactors, FirstSign, NextSign, SpellsNext, SpellsTerms, SpellsTail, SpellsElement}
 use Rattle.ff_script.specs.Grammar.{is_word_byte, ends_with_word}
 use Rattle.ff_script.specs.Reading.{begins_with_blank}
 use Rattle.ff_script.proofs.Spans.{all_append, each_blank, AllWord, all_word_ends, IsStopped, stopped_behind}
@@ -224,8 +223,8 @@ element_bracketed e bytes h =
     let entries = w.second in
     let last = entries.second in
     let brackets : h.front ≡ codes "[" ++ (w.front ++ (entries.front ++ (last.front ++ codes "]"))) =
-      h.first.whole ∙ ap (λ (t : List ℕ). t ++ h.first.back) h.first.first
-      ∙ ap (λ (t : List ℕ). codes "[" ++ t) (w.whole ∙ ap (λ (t : List ℕ). w.front ++ t) (entries.whole ∙ ap (λ (t : List ℕ). entries.front ++ t) (last.whole ∙ ap (λ (t : List ℕ). last.front ++ t) last.second))) in
+    h.first.whole ∙ ap (λ (t : List ℕ). t ++ h.first.back) h.first.first
+    ∙ ap (λ (t : List ℕ). codes "[" ++ t) (w.whole ∙ ap (λ (t : List ℕ). w.front ++ t) (entries.whole ∙ ap (λ (t : List ℕ). entries.front ++ t) (last.whole ∙ ap (λ (t : List ℕ). last.front ++ t) last.second))) in
     let solid : IsSolid entries.front = joined_solid (SpellsTerms false) (codes ",") e.entries entries.front ((refl, refl), tt) (terms_solid false) entries.first in
     record {
       inner = w.front ++ (entries.front ++ last.front);

@@ -1,8 +1,8 @@
 -- The steps of reading a line: what a part at the front says, and that there is one at most.
-use Rattle.std.proofs.Common.{◌≡◌, ◌≢◌, ℕ, suc, Bool, true, false, eqb, ◌+◌, ◌-◌, ◌<◌, ◌≤◌, List, [], ◌∷◌, ◌++◌, length, take, drop, codes, Option, Some, None, Result, Err, get_or, refl, sym, ap, subst, ◌∙◌, append_assoc, arith, ◌⊎◌, inl, inr}
+use Rattle.std.proofs.Common.{◌≡◌, ◌≢◌, ℕ, Bool, true, false, eqb, ◌-◌, ◌<◌, ◌≤◌, List, [], ◌∷◌, ◌++◌, length, take, drop, codes, Option, Some, None, Result, Err, get_or, refl, sym, ap, subst, ◌∙◌, append_assoc, arith, inl, inr}
 use Rattle.std.specs.Prelude.{IsTrue}
 use Rattle.std.specs.Option.{is_some}
-use Rattle.std.specs.List.{AllByRecursion, slice_range}
+use Rattle.std.specs.List.{slice_range}
 use Rattle.std.proofs.lemmas.Bool.{both_ways, cases_lt, eqb-true, eqb-false}
 use Rattle.std.proofs.lemmas.List.{append-nil, append_cancel_left, take_at, take-append-drop, length-append, length-take-le, take_rest, nil_from_length}
 use Rattle.ff_text.specs.Spelling.{Then, Is, is_blank, Blanks, SpellsNumber, SpellsTerms, SpellsElement, SpellsTail}
@@ -11,13 +11,10 @@ use Rattle.ff_text.specs.declared.fault.TextFault.{TextFault}
 use Rattle.ff_text.specs.declared.fault.TextFault.TheVariants.{Syntax, CodeRange, Memory}
 use Rattle.ff_text.specs.declared.terms.Term.{Term}
 use Rattle.ff_text.specs.declared.terms.ElemText.{ElemText}
-use Rattle.ff_script.specs.declared.script.Modulus.{Modulus}
-use Rattle.ff_script.specs.declared.script.Statement.{Statement}
-use Rattle.ff_script.specs.declared.script.Statement.TheVariants.{FieldOf, CurveOf, Mul}
-use Rattle.ff_script.specs.Grammar.{begins_with_word, ends_with_word, numbers_of, IsWhole, SpellsFactor, Any, IsSkipped}
-use Rattle.ff_script.specs.Reading.{behind_blanks, begins_with_blank, IsFront, AreNumbersAt, IsModulusAt, IsBehind, IsSlashed}
-use Rattle.ff_script.proofs.Spans.{head_same, tail_same, all_front, all_back, passed, blanks_passed, blanks_same, gap_no_word, words_longest, words_same}
-use Rattle.ff_script.proofs.Spelled.{IsInside, AreInside, number_word, number_some, number_ends, element_bracketed}
+use Rattle.ff_script.specs.Grammar.{begins_with_word, ends_with_word, SpellsPlain, Any, IsSkipped}
+use Rattle.ff_script.specs.Reading.{behind_blanks, IsFront, AreNumbersAt, IsSlashed}
+use Rattle.ff_script.proofs.Spans.{head_same, tail_same, all_back, passed, blanks_passed, blanks_same, gap_no_word, words_longest, words_same}
+use Rattle.ff_script.proofs.Spelled.{AreInside, number_word, number_ends, element_bracketed}
 
 -- ---- a part that was read
 
@@ -271,9 +268,9 @@ plain_tail : (den : Option (List Term)) (tail : List ℕ) → den ≡ None → S
 plain_tail None tail e h = h
 plain_tail (Some d) tail e h = absurd cc
 
--- a factor is a text in brackets, and nothing behind it
-pub factor_closed : (e : ElemText) (front : List ℕ) → SpellsFactor e front → IsClosed front []
-factor_closed e front h =
+-- an element without a denominator is a text in brackets, and nothing behind it
+pub plain_closed : (e : ElemText) (front : List ℕ) → SpellsPlain e front → IsClosed front []
+plain_closed e front h =
     let b = element_bracketed e front h.element in
     record { inner = b.inner; inside = b.inside; whole = b.whole ∙ ap (λ (t : List ℕ). 91 ∷ (b.inner ++ (93 ∷ t))) (plain_tail e.den b.tail h.plain b.behind) }
 
@@ -284,22 +281,22 @@ closed_more front tail more bytes h e = record {
   whole = e ∙ ap (λ (t : List ℕ). t ++ more) h.whole ∙ ap (λ (t : List ℕ). 91 ∷ t) (append_assoc h.inner (93 ∷ tail) more);
 }
 
-pub factor_same : (bytes : List ℕ) (d e : ElemText) (r s : List ℕ) → IsFront (SpellsFactor d) bytes r → IsFront (SpellsFactor e) bytes s → r ≡ s
-factor_same bytes d e r s f g =
-    let left = closed_more f.front [] (f.gap ++ r) bytes (factor_closed d f.front f.part) f.whole in
-    let right = closed_more g.front [] (g.gap ++ s) bytes (factor_closed e g.front g.part) g.whole in
+pub plain_same : (bytes : List ℕ) (d e : ElemText) (r s : List ℕ) → IsFront (SpellsPlain d) bytes r → IsFront (SpellsPlain e) bytes s → r ≡ s
+plain_same bytes d e r s f g =
+    let left = closed_more f.front [] (f.gap ++ r) bytes (plain_closed d f.front f.part) f.whole in
+    let right = closed_more g.front [] (g.gap ++ s) bytes (plain_closed e g.front g.part) g.whole in
     blanks_same f.gap g.gap r s f.blanks g.blanks f.edge g.edge (closed_same bytes (f.gap ++ r) (g.gap ++ s) left right)
 
 -- two elements at the front are one text
-pub front_closed : (bytes : List ℕ) (d e : ElemText) (r s : List ℕ) (f : IsFront (SpellsFactor d) bytes r) (g : IsFront (SpellsFactor e) bytes s) → (f.front ≡ g.front) × (r ≡ s)
+pub front_closed : (bytes : List ℕ) (d e : ElemText) (r s : List ℕ) (f : IsFront (SpellsPlain d) bytes r) (g : IsFront (SpellsPlain e) bytes s) → (f.front ≡ g.front) × (r ≡ s)
 unfolding closed_more
 front_closed bytes d e r s f g =
-    let a = factor_closed d f.front f.part in
-    let b = factor_closed e g.front g.part in
+    let a = plain_closed d f.front f.part in
+    let b = plain_closed e g.front g.part in
     let left = closed_more f.front [] (f.gap ++ r) bytes a f.whole in
     let right = closed_more g.front [] (g.gap ++ s) bytes b g.whole in
     let inner : a.inner ≡ b.inner = (bracket_same a.inner b.inner (f.gap ++ r) (g.gap ++ s) a.inside b.inside (tail_same 91 91 (a.inner ++ (93 ∷ (f.gap ++ r))) (b.inner ++ (93 ∷ (g.gap ++ s))) (sym left.whole ∙ right.whole))).0 in
-    (a.whole ∙ ap (λ (t : List ℕ). 91 ∷ (t ++ (93 ∷ []))) inner ∙ sym b.whole, factor_same bytes d e r s f g)
+    (a.whole ∙ ap (λ (t : List ℕ). 91 ∷ (t ++ (93 ∷ []))) inner ∙ sym b.whole, plain_same bytes d e r s f g)
 
 -- a text that ends with a closing bracket ends with no word
 closing_ends : (a : List ℕ) → ends_with_word (a ++ (93 ∷ [])) ≡ false
@@ -307,27 +304,26 @@ closing_ends [] = refl
 closing_ends (c ∷ []) = refl
 closing_ends (c ∷ d ∷ a) = closing_ends (d ∷ a)
 
-pub factor_ends : (e : ElemText) (front : List ℕ) → SpellsFactor e front → ends_with_word front ≡ false
-factor_ends e front h = let b = factor_closed e front h in ap ends_with_word b.whole ∙ closing_ends (91 ∷ b.inner)
+pub plain_ends : (e : ElemText) (front : List ℕ) → SpellsPlain e front → ends_with_word front ≡ false
+plain_ends e front h = let b = plain_closed e front h in ap ends_with_word b.whole ∙ closing_ends (91 ∷ b.inner)
 
-pub factor_front : (bytes : List ℕ) (e : ElemText) (end : ℕ) → IsLongestSpelling SpellsElement bytes 0 e end → e.den ≡ None → IsFront (SpellsFactor e) bytes (behind_blanks (drop end bytes))
-factor_front bytes e end h plain =
-    let part : SpellsFactor e (slice_range bytes 0 end) = record { plain = plain; element = h.spelled } in
-    front_here (SpellsFactor e) bytes (slice_range bytes 0 end) (drop end bytes) part (split_at bytes end) (λ k. absurd (both_ways (ends_with_word (slice_range bytes 0 end)) (factor_ends e (slice_range bytes 0 end) part) k))
+pub plain_front : (bytes : List ℕ) (e : ElemText) (end : ℕ) → IsLongestSpelling SpellsElement bytes 0 e end → e.den ≡ None → IsFront (SpellsPlain e) bytes (behind_blanks (drop end bytes))
+plain_front bytes e end h plain =
+    let part : SpellsPlain e (slice_range bytes 0 end) = record { plain = plain; element = h.spelled } in
+    front_here (SpellsPlain e) bytes (slice_range bytes 0 end) (drop end bytes) part (split_at bytes end) (λ k. absurd (both_ways (ends_with_word (slice_range bytes 0 end)) (plain_ends e (slice_range bytes 0 end) part) k))
 
-pub factor_none : (bytes : List ℕ) → IsNoSpelling SpellsElement bytes 0 → (e : ElemText) (rest : List ℕ) → IsFront (SpellsFactor e) bytes rest → ⊥
-factor_none bytes none e rest f = none e (length f.front) (omega arith) (front_fits bytes f.front (f.gap ++ rest) f.whole) (subst (SpellsElement e) (sym (range_front bytes f.front (f.gap ++ rest) f.whole)) f.part.element)
+pub plain_none : (bytes : List ℕ) → IsNoSpelling SpellsElement bytes 0 → (e : ElemText) (rest : List ℕ) → IsFront (SpellsPlain e) bytes rest → ⊥
+plain_none bytes none e rest f = none e (length f.front) (omega arith) (front_fits bytes f.front (f.gap ++ rest) f.whole) (subst (SpellsElement e) (sym (range_front bytes f.front (f.gap ++ rest) f.whole)) f.part.element)
 
 -- blanks and a slash behind an element with a denominator
 slash_behind : (den : Option (List Term)) (tail : List ℕ) → den ≢ None → SpellsTail den tail → (gap more : List ℕ) × Blanks gap × (tail ≡ gap ++ (47 ∷ more))
 slash_behind None tail some h = absurd (some refl)
 slash_behind (Some d) tail some h =
-    let mark : h.first.back ≡ 47 ∷ h.first.second.back = h.first.second.whole ∙ ap (λ (t : List ℕ). t ++ h.first.second.back) h.first.second.first in
-    (
+    let mark : h.first.back ≡ 47 ∷ h.first.second.back = h.first.second.whole ∙ ap (λ (t : List ℕ). t ++ h.first.second.back) h.first.second.first in (
       h.first.front,
       h.first.second.back ++ h.back,
       h.first.first,
-      h.whole ∙ ap (λ (t : List ℕ). t ++ h.back) (h.first.whole ∙ ap (λ (t : List ℕ). h.first.front ++ t) mark) ∙ append_assoc h.first.front (47 ∷ h.first.second.back) h.back
+      h.whole ∙ ap (λ (t : List ℕ). t ++ h.back) (h.first.whole ∙ ap (λ (t : List ℕ). h.first.front ++ t) mark) ∙ append_assoc h.first.front (47 ∷ h.first.second.back) h.back,
     )
 
 pub some_den : (den : Option (List Term)) (b : Bool) → b ≡ is_some den → b ≡ true → den ≢ None
@@ -338,13 +334,13 @@ pub no_den : (den : Option (List Term)) (b : Bool) → b ≡ is_some den → b �
 no_den None b tested not = refl
 no_den (Some d) b tested not = absurd (both_ways b not tested)
 
-pub factor_slashed : (bytes : List ℕ) (d : ElemText) (end : ℕ) → IsLongestSpelling SpellsElement bytes 0 d end → d.den ≢ None → (e : ElemText) (rest : List ℕ) → IsFront (SpellsFactor e) bytes rest → IsSlashed rest
-factor_slashed bytes d end h some e rest f =
+pub plain_slashed : (bytes : List ℕ) (d : ElemText) (end : ℕ) → IsLongestSpelling SpellsElement bytes 0 d end → d.den ≢ None → (e : ElemText) (rest : List ℕ) → IsFront (SpellsPlain e) bytes rest → IsSlashed rest
+plain_slashed bytes d end h some e rest f =
     let b = element_bracketed d (slice_range bytes 0 end) h.spelled in
     let slash = slash_behind d.den b.tail some b.behind in
     let here : IsClosed (slice_range bytes 0 end) b.tail = record { inner = b.inner; inside = b.inside; whole = b.whole } in
     let left = closed_more (slice_range bytes 0 end) b.tail (drop end bytes) bytes here (split_at bytes end) in
-    let right = closed_more f.front [] (f.gap ++ rest) bytes (factor_closed e f.front f.part) f.whole in
+    let right = closed_more f.front [] (f.gap ++ rest) bytes (plain_closed e f.front f.part) f.whole in
     let same : b.tail ++ drop end bytes ≡ f.gap ++ rest = closed_same bytes (b.tail ++ drop end bytes) (f.gap ++ rest) left right in
     let more : List ℕ = slash.1 ++ drop end bytes in
     let regrouped : b.tail ++ drop end bytes ≡ slash.0 ++ (47 ∷ more) = ap (λ (t : List ℕ). t ++ drop end bytes) slash.3 ∙ append_assoc slash.0 (47 ∷ slash.1) (drop end bytes) in

@@ -52,7 +52,7 @@ IsWhole None = Unit {0}
 IsWhole (Some modulus) = length modulus.codes ≡ suc modulus.m
 
 -- an element without a denominator: denominators aren't in the grammar of statements yet
-pub record SpellsFactor (e : ElemText) (bytes : List ℕ) : Type 0 where
+pub record SpellsPlain (e : ElemText) (bytes : List ℕ) : Type 0 where
   pub plain : e.den ≡ None
   pub element : SpellsElement e bytes
 
@@ -60,7 +60,7 @@ pub record SpellsFactor (e : ElemText) (bytes : List ℕ) : Type 0 where
 abbrev pub ArePartsOf : Statement → List (List ℕ) → Type 0
 ArePartsOf (FieldOf p tail) parts = (numbers : List (List ℕ)) × (parts ≡ codes "field" ∷ numbers) × AreNumbers (p ∷ numbers_of tail) numbers × IsWhole tail
 ArePartsOf (CurveOf f) parts = (polynomial : List ℕ) × (parts ≡ codes "curve" ∷ polynomial ∷ []) × SpellsTerms true f polynomial
-ArePartsOf (Mul a b) parts = (left : List ℕ) × (right : List ℕ) × (parts ≡ codes "mul" ∷ left ∷ right ∷ []) × SpellsFactor a left × SpellsFactor b right
+ArePartsOf (Mul a b) parts = (left : List ℕ) × (right : List ℕ) × (parts ≡ codes "mul" ∷ left ∷ right ∷ []) × SpellsPlain a left × SpellsPlain b right
 
 -- a statement
 pub record SpellsStatement (s : Statement) (bytes : List ℕ) : Type 0 where

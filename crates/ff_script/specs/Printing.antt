@@ -1,5 +1,5 @@
 -- How statements are printed, and which are read again as they were.
-use Rattle.std.specs.Prelude.{◌≡◌, ℕ, suc, ◌<◌, true, List, [], ◌∷◌, ◌++◌, length, codes, Option, Some, None, decimal, flat_map}
+use Rattle.std.specs.Prelude.{◌≡◌, ℕ, ◌<◌, true, List, ◌∷◌, ◌++◌, codes, Option, None, decimal, flat_map}
 use Rattle.std.specs.List.{AllByRecursion}
 use Rattle.ff_text.specs.Printing.{terms_text, element_text, IsWritableTerms, IsWritableElement}
 use Rattle.ff_text.specs.declared.terms.ElemText.{ElemText}
@@ -33,7 +33,7 @@ abbrev pub IsShort : ℕ → Type 0
 IsShort n = n < 1000000000
 
 -- the element can be written, and has no denominator
-pub record IsWritableFactor (e : ElemText) : Type 0 where
+pub record IsWritablePlain (e : ElemText) : Type 0 where
   pub plain : e.den ≡ None
   pub element : IsWritableElement e
 
@@ -41,4 +41,4 @@ pub record IsWritableFactor (e : ElemText) : Type 0 where
 abbrev pub IsWritable : Statement → Type 0
 IsWritable (FieldOf p tail) = AllByRecursion IsShort (p ∷ numbers_of tail) × IsWhole tail
 IsWritable (CurveOf f) = IsWritableTerms true f
-IsWritable (Mul a b) = IsWritableFactor a × IsWritableFactor b
+IsWritable (Mul a b) = IsWritablePlain a × IsWritablePlain b

@@ -1,10 +1,13 @@
 -- What the functions that read a line answer.
-use Rattle.std.specs.Prelude.{◌≡◌, ℕ, Bool, true, false, List, [], ◌∷◌, ◌++◌, codes, Option, Some, None, if◌then◌else◌}
-use Rattle.ff_text.specs.Spelling.{Is, is_blank, Blanks, SpellsNumber, SpellsTerms}
+use Rattle.std.specs.Prelude.{◌≡◌, ℕ, Bool, true, false, List, [], ◌∷◌, ◌++◌, codes, Option, Some, None, All, if◌then◌else◌}
+use Rattle.ff_text.specs.Spelling.{is_blank, Blanks, SpellsNumber, SpellsTerms}
+use Rattle.ff_script.specs.declared.fault.ScriptFault.{ScriptFault}
+use Rattle.ff_script.specs.declared.fault.ScriptFault.TheVariants.{Syntax, Misplaced, Memory}
 use Rattle.ff_script.specs.declared.script.Modulus.{Modulus}
 use Rattle.ff_script.specs.declared.script.Statement.{Statement}
 use Rattle.ff_script.specs.declared.script.Statement.TheVariants.{FieldOf, CurveOf, Mul}
-use Rattle.ff_script.specs.Grammar.{begins_with_word, ends_with_word, numbers_of, IsWhole, SpellsFactor}
+use Rattle.ff_script.specs.Grammar.{begins_with_word, ends_with_word, numbers_of, IsWhole, SpellsPlain, IsInGrammar}
+use Rattle.ff_script.specs.Scripts.{IsReadAs, IsInOrder, IsOutOfOrder}
 
 -- the value that the bytes spell, or none where they spell nothing
 abbrev pub IsReading : {V : Type 0} → (V → List ℕ → Type 0) → List ℕ → Option V → Type 0
@@ -43,8 +46,21 @@ IsModulusAt modulus bytes = IsWhole (Some modulus) × AreNumbersAt (numbers_of (
 abbrev pub IsBehind : List ℕ → Statement → List ℕ → Type 0
 IsBehind word (FieldOf p tail) bytes = (word ≡ codes "field") × IsWhole tail × AreNumbersAt (p ∷ numbers_of tail) bytes
 IsBehind word (CurveOf f) bytes = (word ≡ codes "curve") × IsFront (SpellsTerms true f) bytes []
-IsBehind word (Mul a b) bytes = (word ≡ codes "mul") × ((rest : List ℕ) × IsFront (SpellsFactor a) bytes rest × IsFront (SpellsFactor b) rest [])
+IsBehind word (Mul a b) bytes = (word ≡ codes "mul") × ((rest : List ℕ) × IsFront (SpellsPlain a) bytes rest × IsFront (SpellsPlain b) rest [])
 
 -- the bytes begin with a slash
 abbrev pub IsSlashed : List ℕ → Type 0
 IsSlashed bytes = (more : List ℕ) × (bytes ≡ codes "/" ++ more)
+
+-- ---- while a script is read
+
+-- what the lines so far came to: their statements in order, or the first line whose statement stands out of order
+abbrev pub IsSoFar : List (List ℕ) → List Statement → Option ℕ → Type 0
+IsSoFar lines ss None = IsReadAs lines ss × IsInOrder ss
+IsSoFar lines ss (Some n) = All IsInGrammar lines × IsOutOfOrder lines n
+
+-- a line that can't be taken: it isn't in the grammar, or memory ran out
+abbrev pub IsLineFault : List ℕ → ℕ → ScriptFault → Type 0
+IsLineFault line n (Syntax k) = (k ≡ n) × ¬ IsInGrammar line
+IsLineFault line n (Misplaced k) = ⊥
+IsLineFault line n Memory = Unit {0}

@@ -1,5 +1,5 @@
 -- Which bytes are a script, and what keeps bytes from being one.
-use Rattle.std.specs.Prelude.{◌≡◌, ℕ, suc, ◌≤◌, ◌⊎◌, ◌==◌, List, [], ◌∷◌, ◌++◌, length, All, Option, Some, None, Result, Ok, Err}
+use Rattle.std.specs.Prelude.{◌≡◌, ℕ, suc, ◌≤◌, ◌⊎◌, ◌==◌, List, [], ◌∷◌, ◌++◌, length, All, Result, Ok, Err}
 use Rattle.std.specs.List.{slice_split}
 use Rattle.std.specs.Global.{Vec}
 use Rattle.ff_script.specs.declared.fault.ScriptFault.{ScriptFault}
@@ -87,16 +87,3 @@ GivesScript (Ok v) ss = v.items ≡ ss
 GivesScript (Err (Syntax n)) ss = ⊥
 GivesScript (Err (Misplaced n)) ss = ⊥
 GivesScript (Err Memory) ss = Unit {0}
-
--- ---- while a script is read
-
--- what the lines so far came to: their statements in order, or the first line whose statement stands out of order
-abbrev pub IsSoFar : List (List ℕ) → List Statement → Option ℕ → Type 0
-IsSoFar lines ss None = IsReadAs lines ss × IsInOrder ss
-IsSoFar lines ss (Some n) = All IsInGrammar lines × IsOutOfOrder lines n
-
--- a line that can't be taken: it isn't in the grammar, or memory ran out
-abbrev pub IsLineFault : List ℕ → ℕ → ScriptFault → Type 0
-IsLineFault line n (Syntax k) = (k ≡ n) × ¬ IsInGrammar line
-IsLineFault line n (Misplaced k) = ⊥
-IsLineFault line n Memory = Unit {0}

@@ -2,10 +2,13 @@
 #![tactic(auto)]
 
 pub mod fault;
+pub mod laws;
 pub mod parsing;
 pub mod printing;
 pub mod reading;
 pub mod script;
+#[cfg(test)]
+mod tests;
 
 pub use fault::ScriptFault;
 pub use parsing::parse;

@@ -3,7 +3,8 @@
 ghost use Rattle.std.specs.Prelude.{◌≡◌, ◌↔◌, ◌<◌, ◌^◌, ℕ, suc, List, [], ◌∷◌, ◌++◌, length, position, ◌==◌, IsTrue, IfOk, IfErr, OnOk};
 ghost use Rattle.ff_script.specs.declared.script.Statement.{Statement};
 ghost use Rattle.ff_script.specs.Grammar.{SpellsLine};
-ghost use Rattle.ff_script.specs.Scripts.{lines_of, MayFollow, IsScript, IsScriptFault, GivesScript, IsSoFar, IsLineFault};
+ghost use Rattle.ff_script.specs.Scripts.{lines_of, MayFollow, IsScript, IsScriptFault, GivesScript};
+ghost use Rattle.ff_script.specs.Reading.{IsSoFar, IsLineFault};
 
 use crate::fault::ScriptFault;
 use crate::reading::{is_skipped, read_statement};

@@ -3,7 +3,7 @@
 ghost use Rattle.std.specs.Prelude.{◌≡◌, ◌↔◌, List, ℕ, IsTrue, IfOk, MatchOption, codes};
 ghost use Rattle.ff_text.specs.Spelling.{Is, is_blank, SpellsNumber};
 ghost use Rattle.ff_text.specs.declared.terms.ElemText.{ElemText};
-ghost use Rattle.ff_script.specs.Grammar.{begins_with_word, ends_with_word, SpellsFactor, SpellsLine, IsSkipped};
+ghost use Rattle.ff_script.specs.Grammar.{begins_with_word, ends_with_word, SpellsPlain, SpellsLine, IsSkipped};
 ghost use Rattle.ff_script.specs.Reading.{IsReading, behind_blanks, IsFront, AreNumbersAt, IsModulusAt, IsBehind, IsSlashed};
 
 use crate::script::{CodeList, Modulus, Statement};
@@ -67,11 +67,11 @@ fn next_number(bytes: &[u8]) -> Option<(u32, &[u8])>
         Ok(read) => read,
         Err(_) => return None,
     };
-    let rest = &bytes[end..];
-    if begins_with_word(rest) {
+    let behind = &bytes[end..];
+    if begins_with_word(behind) {
         return None;
     }
-    Some((n, behind_blanks(rest)))
+    Some((n, behind_blanks(behind)))
 }
 
 /// The numbers that the bytes are, with blanks between them.
@@ -146,10 +146,10 @@ fn curve(alloc: Global, bytes: &[u8]) -> Result<Option<Statement>, AllocError>
 
 /// The element without a denominator that the bytes begin with, and what stands behind the blanks after it. Where one is
 /// followed by a slash, it may be none.
-fn next_factor(alloc: Global, bytes: &[u8]) -> Result<Option<(ElemText, &[u8])>, AllocError>
+fn next_element(alloc: Global, bytes: &[u8]) -> Result<Option<(ElemText, &[u8])>, AllocError>
     ensures { IfOk result (λ o. MatchOption o
-        ((e : ElemText) (rest : List ℕ) → IsFront (SpellsFactor e) bytes.now rest → IsSlashed rest)
-        (λ x. IsFront (SpellsFactor x.0) bytes.now x.1.now)) }
+        ((e : ElemText) (rest : List ℕ) → IsFront (SpellsPlain e) bytes.now rest → IsSlashed rest)
+        (λ x. IsFront (SpellsPlain x.0) bytes.now x.1.now)) }
 {
     let (e, end) = match read_element(alloc, bytes, 0) {
         Ok(read) => read,
@@ -167,10 +167,10 @@ fn next_factor(alloc: Global, bytes: &[u8]) -> Result<Option<(ElemText, &[u8])>,
 fn mul(alloc: Global, bytes: &[u8]) -> Result<Option<Statement>, AllocError>
     ensures { IfOk result (IsReading (IsBehind (codes "mul")) bytes.now) }
 {
-    let Some((a, rest)) = next_factor(alloc, bytes)? else {
+    let Some((a, rest)) = next_element(alloc, bytes)? else {
         return Ok(None);
     };
-    let Some((b, rest)) = next_factor(alloc, rest)? else {
+    let Some((b, rest)) = next_element(alloc, rest)? else {
         return Ok(None);
     };
     if rest.is_empty() {

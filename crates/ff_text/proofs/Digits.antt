@@ -4,14 +4,13 @@ use Rattle.std.specs.Prelude.{◌&&◌, nat_lt}
 use Rattle.std.specs.Char.{digit_value, is_ascii_digit}
 use Rattle.std.specs.Int.{IsInRange}
 use Rattle.std.specs.List.{slice_range}
-use Rattle.std.specs.Str.Parse.{AllDigits, IsNumeral, digits_value, digits_value_after}
+use Rattle.std.specs.Str.Parse.{AllDigits, digits_value, digits_value_after}
 use Rattle.std.proofs.lemmas.Bool.{ltb-true, ltb-false, leb-true, le-leb, lt-ltb, le-ltb, and_parts, and_from}
 use Rattle.std.proofs.lemmas.List.{length-append}
 use Rattle.std.proofs.lemmas.Str.{digit_value_digit}
 use Rattle.std.proofs.lemmas.Str.Parse.{digit_from_value, digits_value_short, numerals_by_value, tells_digits}
 use Rattle.std.proofs.lemmas.Int.Digits.{digits_push, digits_value_push}
 use Rattle.ff_text.specs.Spelling.{SpellsNumber}
-use Rattle.ff_text.specs.Scanning.{run}
 use Rattle.ff_text.specs.Reading.{IsLongestSpelling, IsReadFault}
 use Rattle.ff_text.specs.declared.fault.TextFault.TheVariants.{Syntax}
 use Rattle.ff_text.proofs.Machines.{Leads, IsMachine, IsRead, Stops, along, read_start, read_whole, read_found, read_nothing}

@@ -1,10 +1,9 @@
 -- What is spelled as an element is read.
-use Rattle.std.proofs.Common.{◌≡◌, ℕ, ◌+◌, ◌<◌, ◌≤◌, Bool, true, false, cond, eqb, List, [], ◌∷◌, ◌++◌, codes, Option, Some, None, refl, sym, ap, ◌∙◌, subst, append_assoc, ◌⊎◌, inl, inr}
+use Rattle.std.proofs.Common.{◌≡◌, ℕ, Bool, true, false, cond, eqb, List, [], ◌∷◌, ◌++◌, codes, Option, Some, None, refl, sym, ap, ◌∙◌, subst, append_assoc, inl, inr}
 use Rattle.std.specs.Prelude.{is_some}
 use Rattle.std.specs.Option.{option_map, option_to_list}
 use Rattle.std.proofs.lemmas.Bool.{eqb-true, cases_Bool}
 use Rattle.std.proofs.lemmas.List.{append-nil}
-use Rattle.ff_text.specs.declared.terms.Factor.{Factor}
 use Rattle.ff_text.specs.declared.terms.Factor.TheVariants as factors
 use Rattle.ff_text.specs.declared.terms.Term.{Term}
 use Rattle.ff_text.specs.declared.terms.ElemText.{ElemText}
@@ -15,9 +14,9 @@ use Rattle.ff_text.specs.declared.scan.Scan.{Scan}
 use Rattle.ff_text.specs.declared.element.Stage.{Stage}
 use Rattle.ff_text.specs.declared.element.Stage.TheVariants.{Outside, Opened, Entry, Closed, Spaced, Slash, OneTerm, Paren, Inner, Done}
 use Rattle.ff_text.specs.declared.element.ElementScan.{ElementScan}
-use Rattle.ff_text.specs.Spelling.{Then, Is, is_blank, Blanks, Around, Within, Each, Joined, SpellsFactors, SpellsTerms, SpellsOneTerm, SpellsDen, SpellsTail, SpellsEntries, SpellsElement}
+use Rattle.ff_text.specs.Spelling.{Then, Is, is_blank, Blanks, Around, Within, Each, SpellsTerms, SpellsOneTerm, SpellsDen, SpellsTail, SpellsEntries, SpellsElement}
 use Rattle.ff_text.specs.Scanning.{mark_of, term_of, ended, after_mark, scan_step, begun, is_whole_place, last_terms}
-use Rattle.ff_text.specs.ElementScanning.{in_x, at_stage, opened, inside, before, entry_ended, in_entry, behind_entries, behind_slash, in_den, stage_step, element_step, outside, is_whole_stage, over, last_at_stage, last_element}
+use Rattle.ff_text.specs.ElementScanning.{in_x, inside, entry_ended, stage_step, element_step, outside, is_whole_stage, over, last_element}
 use Rattle.ff_text.proofs.Machines.{Leads, leads_then, leads_one, first_step, IsMachine}
 use Rattle.ff_text.proofs.Marks.{mark-blank}
 use Rattle.ff_text.proofs.ScanComplete.{whole_ended, scan_gap, leads_term, leads_poly, last_ended, kept_scan, live_at}
@@ -181,8 +180,8 @@ leads_comma es s v g is e w =
     let behind = w.second in
     element_parts (element_at Entry es s) (element_at Entry es gap.0) (element_at Opened (es ++ v ∷ []) begun) g w (lift true (element_at Entry es) (entry_inside es) s gap.0 w.front gap.1)
     (element_parts (element_at Entry es gap.0) (element_at Opened (es ++ v ∷ []) begun) (element_at Opened (es ++ v ∷ []) begun) w.back behind
-     (element_mark (element_at Entry es gap.0) (element_at Opened (es ++ v ∷ []) begun) 44 behind.front behind.first (step-comma es gap.0 v gap.2 (gap.3 ∙ e)))
-     (element_blanks (element_at Opened (es ++ v ∷ []) begun) behind.back (opened_stays (es ++ v ∷ [])) behind.second))
+    (element_mark (element_at Entry es gap.0) (element_at Opened (es ++ v ∷ []) begun) 44 behind.front behind.first (step-comma es gap.0 v gap.2 (gap.3 ∙ e)))
+    (element_blanks (element_at Opened (es ++ v ∷ []) begun) behind.back (opened_stays (es ++ v ∷ [])) behind.second))
 
 leads_more_entries : (es more : List (List Term)) (s : Scan) (v : List Term) (g : List ℕ) → is_whole_place s.place ≡ true → last_terms s ≡ Some v → Each (λ w. Then (Around (codes ",")) (SpellsTerms false w)) more g → IsEntryRead (element_at Entry es s) g ((es ++ v ∷ []) ++ more)
 leads_more_entries es [] s v g is e w = record {
@@ -242,10 +241,10 @@ leads_bracketed all g w =
     let close = leads_close r.front r.scan r.last body.back r.is_whole r.value body.second in
     subst (λ (es : List (List Term)). ElementLeads outside g (element_at Closed es begun)) r.whole
     (element_parts outside (element_at Opened [] begun) (element_at Closed (r.front ++ r.last ∷ []) begun) g w
-     (element_mark outside (element_at Opened [] begun) 91 w.front w.first step-open)
-     (element_parts (element_at Opened [] begun) (element_at Opened [] begun) (element_at Closed (r.front ++ r.last ∷ []) begun) w.back inner
-      (element_blanks (element_at Opened [] begun) inner.front (opened_stays []) inner.first)
-      (element_parts (element_at Opened [] begun) (element_at Entry r.front r.scan) (element_at Closed (r.front ++ r.last ∷ []) begun) inner.back body r.leads close)))
+    (element_mark outside (element_at Opened [] begun) 91 w.front w.first step-open)
+    (element_parts (element_at Opened [] begun) (element_at Opened [] begun) (element_at Closed (r.front ++ r.last ∷ []) begun) w.back inner
+    (element_blanks (element_at Opened [] begun) inner.front (opened_stays []) inner.first)
+    (element_parts (element_at Opened [] begun) (element_at Entry r.front r.scan) (element_at Closed (r.front ++ r.last ∷ []) begun) inner.back body r.leads close)))
 
 -- ---- denominators
 
@@ -266,9 +265,12 @@ leads_one_term es [] g s = absurd s
 leads_one_term es (t ∷ u ∷ ts) g s = absurd s
 leads_one_term es (t ∷ []) g s =
     let p = leads_term (in_x false) t.factors g s.1 in
-    let same : term_of false t.factors ≡ t = ap (λ m. term_of m t.factors) (sym s.0) in
-    (element_at OneTerm es p.0, lift_first false (element_at Slash es begun) (element_at OneTerm es) (term_first es) (term_inside es) p.0 g p.1 p.2, p.2,
-     ap (over es) (p.3 ∙ ap (λ (u : Term). Some (u ∷ [])) same))
+    let same : term_of false t.factors ≡ t = ap (λ m. term_of m t.factors) (sym s.0) in (
+      element_at OneTerm es p.0,
+      lift_first false (element_at Slash es begun) (element_at OneTerm es) (term_first es) (term_inside es) p.0 g p.1 p.2,
+      p.2,
+      ap (over es) (p.3 ∙ ap (λ (u : Term). Some (u ∷ [])) same),
+    )
 
 leads_inner : (es : List (List Term)) (d : List Term) (g : List ℕ) → Within (codes "(") (SpellsTerms false d) (codes ")") g → IsRead (element_at Slash es begun) g (record { entries = es; den = Some d })
 leads_inner es d g w =
@@ -277,18 +279,19 @@ leads_inner es d g w =
     let p = leads_poly (in_x true) d body.front refl body.first in
     let poly = lift_first true (element_at Paren es begun) (element_at Inner es) (inner_first es) (inner_inside es) p.0 body.front p.1 p.2 in
     let end = body.second in
-    let gap = scan_gap (in_x true) p.0 end.front p.2 end.first in
-    (element_at Done es gap.0,
-     element_parts (element_at Slash es begun) (element_at Paren es begun) (element_at Done es gap.0) g w
-     (element_mark (element_at Slash es begun) (element_at Paren es begun) 40 w.front w.first (step-paren es))
-     (element_parts (element_at Paren es begun) (element_at Paren es begun) (element_at Done es gap.0) w.back inner
-      (element_blanks (element_at Paren es begun) inner.front (paren_stays es) inner.first)
-      (element_parts (element_at Paren es begun) (element_at Inner es p.0) (element_at Done es gap.0) inner.back body poly
-       (element_parts (element_at Inner es p.0) (element_at Inner es gap.0) (element_at Done es gap.0) body.back end
-        (lift true (element_at Inner es) (inner_inside es) p.0 gap.0 end.front gap.1)
-        (element_mark (element_at Inner es gap.0) (element_at Done es gap.0) 41 end.back end.second (step-done es gap.0 gap.2))))),
-     refl,
-     ap (over es) (gap.3 ∙ p.3))
+    let gap = scan_gap (in_x true) p.0 end.front p.2 end.first in (
+      element_at Done es gap.0,
+      element_parts (element_at Slash es begun) (element_at Paren es begun) (element_at Done es gap.0) g w
+          (element_mark (element_at Slash es begun) (element_at Paren es begun) 40 w.front w.first (step-paren es))
+          (element_parts (element_at Paren es begun) (element_at Paren es begun) (element_at Done es gap.0) w.back inner
+          (element_blanks (element_at Paren es begun) inner.front (paren_stays es) inner.first)
+          (element_parts (element_at Paren es begun) (element_at Inner es p.0) (element_at Done es gap.0) inner.back body poly
+          (element_parts (element_at Inner es p.0) (element_at Inner es gap.0) (element_at Done es gap.0) body.back end
+          (lift true (element_at Inner es) (inner_inside es) p.0 gap.0 end.front gap.1)
+          (element_mark (element_at Inner es gap.0) (element_at Done es gap.0) 41 end.back end.second (step-done es gap.0 gap.2))))),
+      refl,
+      ap (over es) (gap.3 ∙ p.3),
+    )
 
 leads_den : (es : List (List Term)) (d : List Term) (g : List ℕ) → SpellsDen d g → IsRead (element_at Slash es begun) g (record { entries = es; den = Some d })
 leads_den es d g (inl one) = leads_one_term es d g one
@@ -334,27 +337,27 @@ keeps_stage Opened es s u g b r e =
 keeps_stage Entry es s u g b r e =
     choose (eqb b 44) (entry_ended Opened (element_at Entry es s)) (cond (eqb b 93) (entry_ended Closed (element_at Entry es s)) (inside true Entry (element_at Entry es s) b)) u (Keeps (element_at Entry es s) u) e
     (λ o. choose (is_some (ended s.place)) (Some (element_at Opened (es ++ option_to_list (last_terms s)) begun)) None u (Keeps (element_at Entry es s) u) o
-        (λ q. keeps_some (element_at Entry es s) (element_at Opened (es ++ option_to_list (last_terms s)) begun) u q (λ w. refl)) (λ q. absurd cc))
+    (λ q. keeps_some (element_at Entry es s) (element_at Opened (es ++ option_to_list (last_terms s)) begun) u q (λ w. refl)) (λ q. absurd cc))
     (λ o. choose (eqb b 93) (entry_ended Closed (element_at Entry es s)) (inside true Entry (element_at Entry es s) b) u (Keeps (element_at Entry es s) u) o
-        (λ p. choose (is_some (ended s.place)) (Some (element_at Closed (es ++ option_to_list (last_terms s)) begun)) None u (Keeps (element_at Entry es s) u) p
-            (λ q. keeps_some (element_at Entry es s) (element_at Closed (es ++ option_to_list (last_terms s)) begun) u q (λ w. absurd cc)) (λ q. absurd cc))
-        (λ p. keeps_inside true Entry (element_at Entry es s) u b p (λ t c w. refl)))
+    (λ p. choose (is_some (ended s.place)) (Some (element_at Closed (es ++ option_to_list (last_terms s)) begun)) None u (Keeps (element_at Entry es s) u) p
+    (λ q. keeps_some (element_at Entry es s) (element_at Closed (es ++ option_to_list (last_terms s)) begun) u q (λ w. absurd cc)) (λ q. absurd cc))
+    (λ p. keeps_inside true Entry (element_at Entry es s) u b p (λ t c w. refl)))
 keeps_stage Closed es s u g b r e =
     choose (is_blank b) (Some (element_at Spaced es s)) (cond (eqb b 47) (Some (element_at Slash es s)) None) u (Keeps (element_at Closed es s) u) e
     (λ o. keeps_some (element_at Closed es s) (element_at Spaced es s) u o (λ w. refl))
     (λ o. choose (eqb b 47) (Some (element_at Slash es s)) None u (Keeps (element_at Closed es s) u) o
-        (λ p. keeps_some (element_at Closed es s) (element_at Slash es s) u p (λ w. refl)) (λ p. absurd cc))
+    (λ p. keeps_some (element_at Closed es s) (element_at Slash es s) u p (λ w. refl)) (λ p. absurd cc))
 keeps_stage Spaced es s u g b r e =
     choose (is_blank b) (Some (element_at Spaced es s)) (cond (eqb b 47) (Some (element_at Slash es s)) None) u (Keeps (element_at Spaced es s) u) e
     (λ o. keeps_some (element_at Spaced es s) (element_at Spaced es s) u o (λ w. refl))
     (λ o. choose (eqb b 47) (Some (element_at Slash es s)) None u (Keeps (element_at Spaced es s) u) o
-        (λ p. keeps_some (element_at Spaced es s) (element_at Slash es s) u p (λ w. refl)) (λ p. absurd cc))
+    (λ p. keeps_some (element_at Spaced es s) (element_at Slash es s) u p (λ w. refl)) (λ p. absurd cc))
 keeps_stage Slash es s u g b r e =
     choose (is_blank b) (Some (element_at Slash es s)) (cond (eqb b 40) (Some (element_at Paren es s)) (inside false OneTerm (element_at Slash es s) b)) u (Keeps (element_at Slash es s) u) e
     (λ o. keeps_some (element_at Slash es s) (element_at Slash es s) u o (λ w. refl))
     (λ o. choose (eqb b 40) (Some (element_at Paren es s)) (inside false OneTerm (element_at Slash es s) b) u (Keeps (element_at Slash es s) u) o
-        (λ p. keeps_some (element_at Slash es s) (element_at Paren es s) u p (λ w. refl))
-        (λ p. keeps_inside false OneTerm (element_at Slash es s) u b p (λ t c w. ap (over es) (kept_scan (in_x false) s t b c w ∙ ap last_terms r.0))))
+    (λ p. keeps_some (element_at Slash es s) (element_at Paren es s) u p (λ w. refl))
+    (λ p. keeps_inside false OneTerm (element_at Slash es s) u b p (λ t c w. ap (over es) (kept_scan (in_x false) s t b c w ∙ ap last_terms r.0))))
 keeps_stage OneTerm es s u g b r e = keeps_inside false OneTerm (element_at OneTerm es s) u b e (λ t c w. ap (over es) (kept_scan (in_x false) s t b c w))
 keeps_stage Paren es s u g b r e =
     choose (is_blank b) (Some (element_at Paren es s)) (inside true Inner (element_at Paren es s) b) u (Keeps (element_at Paren es s) u) e
@@ -363,7 +366,7 @@ keeps_stage Paren es s u g b r e =
 keeps_stage Inner es s u g b r e =
     choose (eqb b 41) (cond (is_some (ended s.place)) (Some (element_at Done es s)) None) (inside true Inner (element_at Inner es s) b) u (Keeps (element_at Inner es s) u) e
     (λ o. choose (is_some (ended s.place)) (Some (element_at Done es s)) None u (Keeps (element_at Inner es s) u) o
-        (λ q. keeps_some (element_at Inner es s) (element_at Done es s) u q (λ w. absurd cc)) (λ q. absurd cc))
+    (λ q. keeps_some (element_at Inner es s) (element_at Done es s) u q (λ w. absurd cc)) (λ q. absurd cc))
     (λ o. keeps_inside true Inner (element_at Inner es s) u b o (λ t c w. refl))
 keeps_stage Done es s u g b r e = absurd cc
 
@@ -396,18 +399,22 @@ can_end Entry es s g r =
     let more = live_at (in_x true) s.terms s.minus s.factors s.place in
     let f = whole_ended (in_x true) more.1.place more.3 in
     let last = last_ended (in_x true) more.1 more.1.place f.0 f.1 in
-    let v : List Term = more.1.terms ++ term_of more.1.minus (more.1.factors ++ f.0 ∷ []) ∷ [] in
-    (more.0 ++ codes "]", element_at Closed (es ++ v ∷ []) begun,
-     element_then (element_at Entry es s) (element_at Entry es more.1) (element_at Closed (es ++ v ∷ []) begun) more.0 (codes "]") (lift true (element_at Entry es) (entry_inside es) s more.1 more.0 more.2)
-     (leads_one element_step (element_at Entry es more.1) (element_at Closed (es ++ v ∷ []) begun) 93 (step-close es more.1 v (ap is_some f.1) last)),
-     refl)
+    let v : List Term = more.1.terms ++ term_of more.1.minus (more.1.factors ++ f.0 ∷ []) ∷ [] in (
+      more.0 ++ codes "]",
+      element_at Closed (es ++ v ∷ []) begun,
+      element_then (element_at Entry es s) (element_at Entry es more.1) (element_at Closed (es ++ v ∷ []) begun) more.0 (codes "]") (lift true (element_at Entry es) (entry_inside es) s more.1 more.0 more.2)
+          (leads_one element_step (element_at Entry es more.1) (element_at Closed (es ++ v ∷ []) begun) 93 (step-close es more.1 v (ap is_some f.1) last)),
+      refl,
+    )
 can_end Inner es s g r =
     let more = live_at (in_x true) s.terms s.minus s.factors s.place in
-    let f = whole_ended (in_x true) more.1.place more.3 in
-    (more.0 ++ codes ")", element_at Done es more.1,
-     element_then (element_at Inner es s) (element_at Inner es more.1) (element_at Done es more.1) more.0 (codes ")") (lift true (element_at Inner es) (inner_inside es) s more.1 more.0 more.2)
-     (leads_one element_step (element_at Inner es more.1) (element_at Done es more.1) 41 (step-done es more.1 (ap is_some f.1))),
-     refl)
+    let f = whole_ended (in_x true) more.1.place more.3 in (
+      more.0 ++ codes ")",
+      element_at Done es more.1,
+      element_then (element_at Inner es s) (element_at Inner es more.1) (element_at Done es more.1) more.0 (codes ")") (lift true (element_at Inner es) (inner_inside es) s more.1 more.0 more.2)
+          (leads_one element_step (element_at Inner es more.1) (element_at Done es more.1) 41 (step-done es more.1 (ap is_some f.1))),
+      refl,
+    )
 
 -- ---- the machine of elements
 

@@ -1,13 +1,11 @@
 -- What is read of an element is spelled so.
-use Rattle.std.proofs.Common.{◌≡◌, ℕ, ◌+◌, ◌<◌, ◌≤◌, Bool, true, false, cond, eqb, List, [], ◌∷◌, ◌++◌, codes, Option, Some, None, refl, sym, ap, ◌∙◌, subst, append_assoc, ◌⊎◌, inl, inr}
+use Rattle.std.proofs.Common.{◌≡◌, ℕ, Bool, true, false, cond, eqb, List, [], ◌∷◌, ◌++◌, codes, Option, Some, None, refl, sym, ap, ◌∙◌, subst, append_assoc, ◌⊎◌, inl, inr}
 use Rattle.std.specs.Prelude.{is_some}
 use Rattle.std.specs.Option.{option_map, option_to_list}
 use Rattle.std.proofs.lemmas.Bool.{eqb-true}
-use Rattle.std.proofs.lemmas.List.{append-nil}
 use Rattle.ff_text.specs.declared.terms.Factor.{Factor}
 use Rattle.ff_text.specs.declared.terms.Term.{Term}
 use Rattle.ff_text.specs.declared.terms.ElemText.{ElemText}
-use Rattle.ff_text.specs.declared.scan.Rules.{Rules}
 use Rattle.ff_text.specs.declared.scan.Mark.{Mark}
 use Rattle.ff_text.specs.declared.scan.Mark.TheVariants as marks
 use Rattle.ff_text.specs.declared.scan.Place.{Place}
@@ -16,11 +14,11 @@ use Rattle.ff_text.specs.declared.scan.Scan.{Scan}
 use Rattle.ff_text.specs.declared.element.Stage.{Stage}
 use Rattle.ff_text.specs.declared.element.Stage.TheVariants.{Outside, Opened, Entry, Closed, Spaced, Slash, OneTerm, Paren, Inner, Done}
 use Rattle.ff_text.specs.declared.element.ElementScan.{ElementScan}
-use Rattle.ff_text.specs.Spelling.{Then, Is, is_blank, Blanks, Around, Within, Each, Joined, SpellsFactors, SpellsTerms, SpellsOneTerm, SpellsDen, SpellsTail, SpellsEntries, SpellsElement}
-use Rattle.ff_text.specs.Scanning.{mark_of, term_of, ended, moved, after_star, after_mark, scan_step, begun, is_whole_place, last_at, last_terms, HasRoom}
-use Rattle.ff_text.specs.ElementScanning.{in_x, at_stage, opened, inside, before, entry_ended, in_entry, behind_entries, behind_slash, in_den, stage_step, element_step, outside, is_whole_stage, over, last_at_stage, last_element}
+use Rattle.ff_text.specs.Spelling.{Then, Is, is_blank, Blanks, Around, Within, SpellsTerms, SpellsOneTerm, SpellsDen, SpellsEntries, SpellsElement}
+use Rattle.ff_text.specs.Scanning.{mark_of, term_of, ended, moved, after_mark, scan_step, begun, is_whole_place, last_terms, HasRoom}
+use Rattle.ff_text.specs.ElementScanning.{in_x, opened, inside, entry_ended, stage_step, element_step, outside, is_whole_stage, over, last_at_stage}
 use Rattle.ff_text.proofs.Machines.{Leads, leads_then, leads_one, along}
-use Rattle.ff_text.proofs.Texts.{then_of, then_more, then_map, then_map_first, then_left, then_right, then_nothing, blanks_push, around_push, around_of, then_blanks, JoinedFront, joined_push}
+use Rattle.ff_text.proofs.Texts.{then_of, then_more, then_map_first, then_right, then_nothing, blanks_push, around_push, around_of, then_blanks, joined_push}
 use Rattle.ff_text.proofs.ScanSound.{IsScannedAt, scanned, whole_factors, room_at, terms_done}
 use Rattle.ff_text.proofs.ScanComplete.{last_ended}
 
@@ -89,9 +87,11 @@ poly_done s h r is = go (ended s.place) refl is
   where
     go : (o : Option Factor) → ended s.place ≡ o → is_some o ≡ true → (v : List Term) × (last_terms s ≡ Some v) × Then (SpellsTerms false v) Blanks h
     go None e none = absurd cc
-    go (Some f) e some =
-        (s.terms ++ term_of s.minus (s.factors ++ f ∷ []) ∷ [], last_ended (in_x true) s s.place f e,
-         terms_done (in_x true) s.terms s.minus s.factors s.place h f (scanned (in_x true) h s r) e)
+    go (Some f) e some = (
+      s.terms ++ term_of s.minus (s.factors ++ f ∷ []) ∷ [],
+      last_ended (in_x true) s s.place f e,
+      terms_done (in_x true) s.terms s.minus s.factors s.place h f (scanned (in_x true) h s r) e,
+    )
 
 -- ---- room for a digit
 
@@ -114,9 +114,9 @@ entry_push es v g h (inl first) p =
     (then_more g h first.1 (λ i all. then_of i h all (then_map_first h p (λ j s. then_nothing j s))))
 entry_push es v g h (inr next) p =
     then_more g h next (λ i t. then_more i h t (λ j u.
-        subst (Then (SpellsEntries (es ++ v ∷ [])) Blanks) (ap (λ x. j ++ x) (sym p.whole)) (
-        subst (Then (SpellsEntries (es ++ v ∷ [])) Blanks) (append_assoc j p.front p.back)
-        (then_of (j ++ p.front) p.back (joined_push (codes ",") (SpellsTerms false) es v j p.front (inr u) p.first) p.second))))
+    subst (Then (SpellsEntries (es ++ v ∷ [])) Blanks) (ap (λ x. j ++ x) (sym p.whole)) (
+    subst (Then (SpellsEntries (es ++ v ∷ [])) Blanks) (append_assoc j p.front p.back)
+    (then_of (j ++ p.front) p.back (joined_push (codes ",") (SpellsTerms false) es v j p.front (inr u) p.first) p.second))))
 
 choose : {A : Type 0} (t : Bool) (o p : Option A) (x : A) (P : Type 0) → cond t o p ≡ Some x → (t ≡ true → o ≡ Some x → P) → (t ≡ false → p ≡ Some x → P) → P
 choose true o p x P e left right = left refl e
@@ -133,19 +133,19 @@ entry_step : (es : List (List Term)) (s : Scan) (stage : Stage) (u : ElementScan
 entry_step es s stage u g c h e behind =
     choose (is_some (ended s.place)) (Some (element_at stage (es ++ option_to_list (last_terms s)) begun)) None u (IsElementRead u (g ++ c ∷ [])) e
     (λ is made.
-        let d = poly_done s h.back h.second is in
-        let list : option_to_list (last_terms s) ≡ d.0 ∷ [] = ap option_to_list d.1 in
-        arrive (element_at stage (es ++ option_to_list (last_terms s)) begun) u (g ++ c ∷ []) made
-        (behind (es ++ option_to_list (last_terms s))
-         (subst (λ (l : List (List Term)). Then (Is (codes "[")) (Then Blanks (Then (SpellsEntries (es ++ l)) Blanks)) g) (sym list)
-          (subst (Then (Is (codes "[")) (Then Blanks (Then (SpellsEntries (es ++ d.0 ∷ [])) Blanks))) (sym h.whole) (entry_push es d.0 h.front h.back h.first d.2)))))
+    let d = poly_done s h.back h.second is in
+    let list : option_to_list (last_terms s) ≡ d.0 ∷ [] = ap option_to_list d.1 in
+    arrive (element_at stage (es ++ option_to_list (last_terms s)) begun) u (g ++ c ∷ []) made
+    (behind (es ++ option_to_list (last_terms s))
+    (subst (λ (l : List (List Term)). Then (Is (codes "[")) (Then Blanks (Then (SpellsEntries (es ++ l)) Blanks)) g) (sym list)
+    (subst (Then (Is (codes "[")) (Then Blanks (Then (SpellsEntries (es ++ d.0 ∷ [])) Blanks))) (sym h.whole) (entry_push es d.0 h.front h.back h.first d.2)))))
     (λ is none. absurd cc)
 
 open_step : (es : List (List Term)) (s : Scan) (u : ElementScan) (g : List ℕ) (b : ℕ) → IsStageRead es s Outside g → opened (element_at Outside es s) b ≡ Some u → IsElementRead u (g ++ b ∷ [])
 open_step es s u g b h e =
     choose (eqb b 91) (Some (element_at Opened es s)) None u (IsElementRead u (g ++ b ∷ [])) e
     (λ is made. arrive (element_at Opened es s) u (g ++ b ∷ []) made
-        (h.1, inl (h.0, at_byte (Then (Is (codes "[")) Blanks) g b 91 is (subst (λ (x : List ℕ). Then (Is (codes "[")) Blanks (x ++ codes "[")) (sym h.2) (then_blanks (codes "[") refl)))))
+    (h.1, inl (h.0, at_byte (Then (Is (codes "[")) Blanks) g b 91 is (subst (λ (x : List ℕ). Then (Is (codes "[")) Blanks (x ++ codes "[")) (sym h.2) (then_blanks (codes "[") refl)))))
     (λ is none. absurd cc)
 
 -- a byte of a polynomial
@@ -156,9 +156,11 @@ inside_step signs stage es old s u g b e steps =
 
 -- a denominator in parentheses
 den_done : (es : List (List Term)) (s : Scan) (d : List Term) (f i : List ℕ) → HasRoom s.place → last_terms s ≡ Some d → ParenFront es f → Then (SpellsTerms false d) Blanks i → IsStageRead es s Done ((f ++ i) ++ codes ")")
-den_done es s d f i room e front p =
-    (room, subst (Then (Bracketed es) (Then (Around (codes "/")) (DenRead s))) (sym (append_assoc f i (codes ")"))) (then_right (f ++ (i ++ codes ")")) (then_more f (i ++ codes ")") front (λ j a.
-        (d, e, inr (then_more j (i ++ codes ")") a (λ k all. then_of k (i ++ codes ")") all (then_more i (codes ")") p (λ l gap. then_of l (codes ")") gap refl)))))))))
+den_done es s d f i room e front p = (
+  room,
+  subst (Then (Bracketed es) (Then (Around (codes "/")) (DenRead s))) (sym (append_assoc f i (codes ")"))) (then_right (f ++ (i ++ codes ")")) (then_more f (i ++ codes ")") front (λ j a.
+      (d, e, inr (then_more j (i ++ codes ")") a (λ k all. then_of k (i ++ codes ")") all (then_more i (codes ")") p (λ l gap. then_of l (codes ")") gap refl)))))))),
+)
 
 stage_read : (stage : Stage) (es : List (List Term)) (s : Scan) (u : ElementScan) (g : List ℕ) (b : ℕ) → IsStageRead es s stage g → stage_step (element_at stage es s) stage b ≡ Some u → IsElementRead u (g ++ b ∷ [])
 stage_read Outside es s u g b h e = open_step es s u g b h e
@@ -170,26 +172,26 @@ stage_read Entry es s u g b h e =
     choose (eqb b 44) (entry_ended Opened (element_at Entry es s)) (cond (eqb b 93) (entry_ended Closed (element_at Entry es s)) (inside true Entry (element_at Entry es s) b)) u (IsElementRead u (g ++ b ∷ [])) e
     (λ is made. at_byte (IsElementRead u) g b 44 is (entry_step es s Opened u g 44 h made (λ fs w. (refl, inr (then_more g (codes ",") w (λ i t. then_more i (codes ",") t (λ j v. then_more j (codes ",") v (λ k all. around_of (codes ",") k all))))))))
     (λ is other. choose (eqb b 93) (entry_ended Closed (element_at Entry es s)) (inside true Entry (element_at Entry es s) b) u (IsElementRead u (g ++ b ∷ [])) other
-        (λ closes made. at_byte (IsElementRead u) g b 93 closes (entry_step es s Closed u g 93 h made (λ fs w. (refl, then_more g (codes "]") w (λ i t. then_more i (codes "]") t (λ j v. then_more j (codes "]") v (λ k all. then_of k (codes "]") all refl)))))))
-        (λ closes made. inside_step true Entry es Entry s u g b made (λ t r. then_more g (b ∷ []) h (λ i v. reads_more true s t i b v r))))
+    (λ closes made. at_byte (IsElementRead u) g b 93 closes (entry_step es s Closed u g 93 h made (λ fs w. (refl, then_more g (codes "]") w (λ i t. then_more i (codes "]") t (λ j v. then_more j (codes "]") v (λ k all. then_of k (codes "]") all refl)))))))
+    (λ closes made. inside_step true Entry es Entry s u g b made (λ t r. then_more g (b ∷ []) h (λ i v. reads_more true s t i b v r))))
 stage_read Closed es s u g b h e =
     choose (is_blank b) (Some (element_at Spaced es s)) (cond (eqb b 47) (Some (element_at Slash es s)) None) u (IsElementRead u (g ++ b ∷ [])) e
     (λ is made. arrive (element_at Spaced es s) u (g ++ b ∷ []) made (h.0, then_of g (b ∷ []) h.1 (is, tt)))
     (λ is other. choose (eqb b 47) (Some (element_at Slash es s)) None u (IsElementRead u (g ++ b ∷ [])) other
-        (λ slash made. arrive (element_at Slash es s) u (g ++ b ∷ []) made (h.0, at_byte (DenFront es) g b 47 slash (then_of g (codes "/") h.1 (around_of (codes "/") [] tt))))
-        (λ slash none. absurd cc))
+    (λ slash made. arrive (element_at Slash es s) u (g ++ b ∷ []) made (h.0, at_byte (DenFront es) g b 47 slash (then_of g (codes "/") h.1 (around_of (codes "/") [] tt))))
+    (λ slash none. absurd cc))
 stage_read Spaced es s u g b h e =
     choose (is_blank b) (Some (element_at Spaced es s)) (cond (eqb b 47) (Some (element_at Slash es s)) None) u (IsElementRead u (g ++ b ∷ [])) e
     (λ is made. arrive (element_at Spaced es s) u (g ++ b ∷ []) made (h.0, then_more g (b ∷ []) h.1 (λ i all. blanks_push i b is all)))
     (λ is other. choose (eqb b 47) (Some (element_at Slash es s)) None u (IsElementRead u (g ++ b ∷ [])) other
-        (λ slash made. arrive (element_at Slash es s) u (g ++ b ∷ []) made (h.0, at_byte (DenFront es) g b 47 slash (then_more g (codes "/") h.1 (λ i all. around_of (codes "/") i all))))
-        (λ slash none. absurd cc))
+    (λ slash made. arrive (element_at Slash es s) u (g ++ b ∷ []) made (h.0, at_byte (DenFront es) g b 47 slash (then_more g (codes "/") h.1 (λ i all. around_of (codes "/") i all))))
+    (λ slash none. absurd cc))
 stage_read Slash es s u g b h e =
     choose (is_blank b) (Some (element_at Slash es s)) (cond (eqb b 40) (Some (element_at Paren es s)) (inside false OneTerm (element_at Slash es s) b)) u (IsElementRead u (g ++ b ∷ [])) e
     (λ is made. arrive (element_at Slash es s) u (g ++ b ∷ []) made (h.0, then_more g (b ∷ []) h.1 (λ i t. around_push (codes "/") i b is t)))
     (λ is other. choose (eqb b 40) (Some (element_at Paren es s)) (inside false OneTerm (element_at Slash es s) b) u (IsElementRead u (g ++ b ∷ [])) other
-        (λ paren made. arrive (element_at Paren es s) u (g ++ b ∷ []) made (h.0, at_byte (ParenFront es) g b 40 paren (then_of g (codes "(") h.1 (then_blanks (codes "(") refl))))
-        (λ paren made. inside_step false OneTerm es Slash s u g b made (λ t r. then_of g (b ∷ []) h.1 (reads_first false s t b h.0 r))))
+    (λ paren made. arrive (element_at Paren es s) u (g ++ b ∷ []) made (h.0, at_byte (ParenFront es) g b 40 paren (then_of g (codes "(") h.1 (then_blanks (codes "(") refl))))
+    (λ paren made. inside_step false OneTerm es Slash s u g b made (λ t r. then_of g (b ∷ []) h.1 (reads_first false s t b h.0 r))))
 stage_read OneTerm es s u g b h e = inside_step false OneTerm es OneTerm s u g b e (λ t r. then_more g (b ∷ []) h (λ i v. reads_more false s t i b v r))
 stage_read Paren es s u g b h e =
     choose (is_blank b) (Some (element_at Paren es s)) (inside true Inner (element_at Paren es s) b) u (IsElementRead u (g ++ b ∷ [])) e
@@ -198,13 +200,13 @@ stage_read Paren es s u g b h e =
 stage_read Inner es s u g b h e =
     choose (eqb b 41) (cond (is_some (ended s.place)) (Some (element_at Done es s)) None) (inside true Inner (element_at Inner es s) b) u (IsElementRead u (g ++ b ∷ [])) e
     (λ is other. choose (is_some (ended s.place)) (Some (element_at Done es s)) None u (IsElementRead u (g ++ b ∷ [])) other
-        (λ may made.
-            let d = poly_done s h.back h.second may in
-            arrive (element_at Done es s) u (g ++ b ∷ []) made
-            (at_byte (IsStageRead es s Done) g b 41 is
-             (subst (λ (x : List ℕ). IsStageRead es s Done (x ++ codes ")")) (sym h.whole)
-              (den_done es s d.0 h.front h.back (reads_room true s h.back h.second) d.1 h.first d.2))))
-        (λ may none. absurd cc))
+    (λ may made.
+    let d = poly_done s h.back h.second may in
+    arrive (element_at Done es s) u (g ++ b ∷ []) made
+    (at_byte (IsStageRead es s Done) g b 41 is
+    (subst (λ (x : List ℕ). IsStageRead es s Done (x ++ codes ")")) (sym h.whole)
+    (den_done es s d.0 h.front h.back (reads_room true s h.back h.second) d.1 h.first d.2))))
+    (λ may none. absurd cc))
     (λ is made. inside_step true Inner es Inner s u g b made (λ t r. then_more g (b ∷ []) h (λ i v. reads_more true s t i b v r)))
 stage_read Done es s u g b h e = absurd cc
 
@@ -256,10 +258,11 @@ one_term : (s : Scan) (h : List ℕ) → Reads false s h → is_whole_place s.pl
 one_term s h r is =
     let a = alone s h r in
     let at : IsScannedAt (in_x false) [] s.minus s.factors s.place h = subst (λ (ts : List Term). IsScannedAt (in_x false) ts s.minus s.factors s.place h) a.0 (scanned (in_x false) h s r) in
-    let w = whole_factors (in_x false) s.minus s.factors s.place h a.1 at is in
-    (term_of false (s.factors ++ w.0 ∷ []) ∷ [],
-     last_ended (in_x false) s s.place w.0 w.1 ∙ ap (λ ts. Some (ts ++ term_of s.minus (s.factors ++ w.0 ∷ []) ∷ [])) a.0 ∙ ap (λ m. Some (term_of m (s.factors ++ w.0 ∷ []) ∷ [])) a.1,
-     (refl, w.2))
+    let w = whole_factors (in_x false) s.minus s.factors s.place h a.1 at is in (
+      term_of false (s.factors ++ w.0 ∷ []) ∷ [],
+      last_ended (in_x false) s s.place w.0 w.1 ∙ ap (λ ts. Some (ts ++ term_of s.minus (s.factors ++ w.0 ∷ []) ∷ [])) a.0 ∙ ap (λ m. Some (term_of m (s.factors ++ w.0 ∷ []) ∷ [])) a.1,
+      (refl, w.2),
+    )
 
 pub whole_stage : (stage : Stage) (es : List (List Term)) (s : Scan) (g : List ℕ) → IsStageRead es s stage g → is_whole_stage s stage ≡ true → (v : ElemText) × (last_at_stage (element_at stage es s) stage ≡ Some v) × SpellsElement v g
 whole_stage Outside es s g h is = absurd cc
@@ -269,16 +272,20 @@ whole_stage Closed es s g h is = (record { entries = es; den = None }, refl, the
 whole_stage Spaced es s g h is = absurd cc
 whole_stage Slash es s g h is = absurd cc
 whole_stage OneTerm es s g h is =
-    let w = one_term s h.back h.second is in
-    (record { entries = es; den = Some w.0 }, ap (over es) w.1,
-     then_right g (record { front = h.front; back = h.back; first = h.first; second = inl w.2; whole = h.whole }))
+    let w = one_term s h.back h.second is in (
+      record { entries = es; den = Some w.0 },
+      ap (over es) w.1,
+      then_right g (record { front = h.front; back = h.back; first = h.first; second = inl w.2; whole = h.whole }),
+    )
 whole_stage Paren es s g h is = absurd cc
 whole_stage Inner es s g h is = absurd cc
 whole_stage Done es s g h is =
     let t = h.1 in
-    let d = t.second.second in
-    (record { entries = es; den = Some d.0 }, ap (over es) d.1,
-     record { front = t.front; back = t.back; first = t.first; second = record { front = t.second.front; back = t.second.back; first = t.second.first; second = d.2; whole = t.second.whole }; whole = t.whole })
+    let d = t.second.second in (
+      record { entries = es; den = Some d.0 },
+      ap (over es) d.1,
+      record { front = t.front; back = t.back; first = t.first; second = record { front = t.second.front; back = t.second.back; first = t.second.first; second = d.2; whole = t.second.whole }; whole = t.whole },
+    )
 
 pub element_room : (stage : Stage) (es : List (List Term)) (s : Scan) (g : List ℕ) → IsStageRead es s stage g → HasRoom s.place
 element_room Outside es s g h = begun_room s h.1

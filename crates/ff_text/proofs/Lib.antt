@@ -20,4 +20,5 @@ pub mod ReadTerms
 pub mod ElementSound
 pub mod ElementComplete
 pub mod ReadElement
-pub mod SpelledForms
+pub mod Spelled
+pub mod Exponents

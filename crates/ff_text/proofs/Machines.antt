@@ -1,13 +1,15 @@
 -- Machines that go on from byte to byte, and what they say of the parts of a line.
-use Rattle.std.proofs.Common.{◌≡◌, ◌≢◌, ℕ, suc, ◌+◌, ◌-◌, ◌<◌, ◌≤◌, Bool, true, false, List, [], ◌∷◌, ◌++◌, length, take, drop, get_or, Option, Some, None, refl, sym, ap, ◌∙◌, subst, ◌⊎◌, inl, inr, add-one, arith}
+use Rattle.std.proofs.Common.{◌≡◌, ℕ, suc, ◌+◌, ◌-◌, ◌<◌, ◌≤◌, Bool, true, false, List, [], ◌∷◌, ◌++◌, length, take, drop, get_or, Option, Some, None, refl, sym, ap, ◌∙◌, subst, ◌⊎◌, inl, inr, arith}
 use Rattle.std.specs.Prelude.{MatchOption}
 use Rattle.std.specs.List.{slice_range}
 use Rattle.std.specs.Option.{option_and_then}
-use Rattle.std.proofs.Math.Seq.{take-suc, take-add}
+use Rattle.std.proofs.Math.Seq.{take-suc, take-add, take-length}
 use Rattle.std.proofs.Math.Nat.{eq-or-lt_of_le}
 use Rattle.std.proofs.lemmas.Bool.{cases_lt}
 use Rattle.std.proofs.lemmas.List.{append-nil, get_or-drop, length-drop}
-use Rattle.ff_text.specs.Reading.{BeginsSpelling, IsLongestSpelling, IsNoSpelling, IsFurthest}
+use Rattle.ff_text.specs.declared.fault.TextFault.{TextFault}
+use Rattle.ff_text.specs.declared.fault.TextFault.TheVariants.{Syntax, CodeRange, Memory}
+use Rattle.ff_text.specs.Reading.{BeginsSpelling, IsLongestSpelling, IsNoSpelling, IsFurthest, IsReadFault}
 use Rattle.ff_text.specs.Scanning.{run, Moves}
 
 -- ---- runs
@@ -210,7 +212,7 @@ module _ {S V : Type 0} (step : S → ℕ → Option S) (start : S) (whole : S �
       let c = m.complete begins.0 (slice_range line at j ++ begins.1) begins.2 in
       let from = r.from in
       let stopped : run step start (slice_range line at reach ++ get_or line reach 0 ∷ []) ≡ None =
-        run-append step start (slice_range line at reach) (get_or line reach 0 ∷ []) ∙ ap (λ o. option_and_then (λ u. run step u (get_or line reach 0 ∷ [])) o) r.state ∙ ap (λ o. option_and_then (λ u. Some u) o) stops in
+      run-append step start (slice_range line at reach) (get_or line reach 0 ∷ []) ∙ ap (λ o. option_and_then (λ u. run step u (get_or line reach 0 ∷ [])) o) r.state ∙ ap (λ o. option_and_then (λ u. Some u) o) stops in
       let dead : run step start (slice_range line at (reach + 1)) ≡ None = ap (run step start) (slice_more line at reach from (omega arith)) ∙ stopped in
       let longer : run step start (slice_range line at j) ≡ None = ap (run step start) (slice_split line at (reach + 1) j (omega arith) (omega arith)) ∙ dead_then step start (slice_range line at (reach + 1)) (take (j - (reach + 1)) (drop (reach + 1 - at) (drop at line))) dead in
       let all : run step start (slice_range line at j ++ begins.1) ≡ None = dead_then step start (slice_range line at j) begins.1 longer in
@@ -241,14 +243,15 @@ module _ {S V : Type 0} (step : S → ℕ → Option S) (start : S) (whole : S �
       let none : IsNoneYet line at reach = let P : Option V → Type 0 = λ o. MatchOption o (IsNoneYet line at reach) (IsLast line at reach end) in subst P e r.value in
       let more = m.live (slice_range line at reach) s r.state in
       let leads = leads_then step start s more.1 (slice_range line at reach) more.0 r.state more.2 in
-      let found = m.sound (slice_range line at reach ++ more.0) more.1 leads more.3 in
-      (λ w j low high spelled. further w j low high (cases_lt reach j) spelled none,
-       record {
-         from = r.from;
-         within = r.within;
-         begins = (found.0, more.0, found.2);
-         furthest = beyond m line at reach end s r stops;
-       })
+      let found = m.sound (slice_range line at reach ++ more.0) more.1 leads more.3 in (
+        λ w j low high spelled. further w j low high (cases_lt reach j) spelled none,
+        record {
+          from = r.from;
+          within = r.within;
+          begins = (found.0, more.0, found.2);
+          furthest = beyond m line at reach end s r stops;
+        },
+      )
     where
       further : (w : V) (j : ℕ) → at ≤ j → j ≤ length line → (reach < j) ⊎ (j ≤ reach) → Spells w (slice_range line at j) → IsNoneYet line at reach → ⊥
       further w j low high (inr early) spelled none = none w j low early spelled
@@ -264,3 +267,29 @@ module _ {S V : Type 0} (step : S → ℕ → Option S) (start : S) (whole : S �
     where
       some_same : {A : Type 0} (x y : A) → Some x ≡ Some y → x ≡ y
       some_same x y e = cc
+
+-- ---- a line that is a spelling
+
+slice_whole : (text : List ℕ) → slice_range text 0 (length text) ≡ text
+slice_whole text = let all : length text - 0 ≡ length text = omega arith in ap (λ n. take n text) all ∙ take-length text
+
+module _ {V : Type 0} (Spells : V → List ℕ → Type 0) (one : (v w : V) (g : List ℕ) → Spells v g → Spells w g → v ≡ w) where
+  -- it is read whole
+  pub whole_read : (text : List ℕ) (v w : V) (end : ℕ) → Spells v text → IsLongestSpelling Spells text 0 w end → (w ≡ v) × (end ≡ length text)
+  whole_read text v w end spelled r = go (cases_lt end (length text))
+    where
+      here : Spells v (slice_range text 0 (length text))
+      here = subst (Spells v) (sym (slice_whole text)) spelled
+
+      go : (end < length text) ⊎ (length text ≤ end) → (w ≡ v) × (end ≡ length text)
+      go (inl short) = absurd (r.longest v (length text) short (omega arith) here)
+      go (inr long) =
+          let within = r.within in
+          let same : end ≡ length text = omega arith in
+          (one w v (slice_range text 0 (length text)) (subst (λ (i : ℕ). Spells w (slice_range text 0 i)) same r.spelled) here, same)
+
+  -- and it is refused for want of memory alone
+  pub only_memory : (text : List ℕ) (v : V) (e : TextFault) → Spells v text → IsReadFault Spells text 0 e → e ≡ Memory
+  only_memory text v (Syntax column) spelled fault = absurd (fault.0 v (length text) (omega arith) (omega arith) (subst (Spells v) (sym (slice_whole text)) spelled))
+  only_memory text v (CodeRange code) spelled fault = absurd fault
+  only_memory text v Memory spelled fault = refl

@@ -1,5 +1,5 @@
 -- Reading an element in a line.
-use Rattle.std.proofs.Common.{◌≡◌, ℕ, ◌+◌, ◌<◌, ◌≤◌, Bool, true, false, List, length, get_or, Option, Some, None, refl}
+use Rattle.std.proofs.Common.{◌≡◌, ℕ, ◌+◌, ◌<◌, ◌≤◌, Bool, true, false, List, length, get_or, Some, None}
 use Rattle.std.specs.List.{slice_range}
 use Rattle.ff_text.specs.declared.terms.ElemText.{ElemText}
 use Rattle.ff_text.specs.declared.fault.TextFault.TheVariants.{Syntax}
@@ -18,7 +18,6 @@ IsReadElement = IsRead element_step outside is_whole_element last_element Spells
 
 abbrev pub IsElementAllRead : List ℕ → ℕ → ℕ → ℕ → ElementScan → Type 0
 IsElementAllRead = IsReadToStop element_step outside is_whole_element last_element SpellsElement
-
 
 pub element_whole : (line : List ℕ) (at reach end : ℕ) (s t : ElementScan) → IsReadElement line at reach end s → reach < length line → element_step s (get_or line reach 0) ≡ Some t → is_whole_element t ≡ true → IsReadElement line at (reach + 1) (reach + 1) t
 element_whole = read_whole element_step outside is_whole_element last_element SpellsElement element_machine

@@ -1,8 +1,8 @@
 -- What is spelled as a polynomial is read.
-use Rattle.std.proofs.Common.{◌≡◌, ℕ, suc, ◌+◌, ◌-◌, ◌*◌, ◌<◌, ◌≤◌, Bool, true, false, cond, nat_lt, List, [], ◌∷◌, ◌++◌, length, codes, Option, Some, None, refl, sym, ap, ◌∙◌, subst, append_assoc, ◌⊎◌, inl, inr, arith}
-use Rattle.std.specs.Prelude.{IsTrue, is_some}
+use Rattle.std.proofs.Common.{◌≡◌, ℕ, suc, ◌+◌, ◌-◌, ◌*◌, ◌≤◌, Bool, true, false, cond, nat_lt, List, [], ◌∷◌, ◌++◌, length, codes, Option, Some, None, refl, sym, ap, ◌∙◌, subst, append_assoc, inl, inr, arith}
+use Rattle.std.specs.Prelude.{is_some}
 use Rattle.std.specs.Char.{digit_value}
-use Rattle.std.specs.Str.Parse.{AllDigits, digits_value, digits_value_after}
+use Rattle.std.specs.Str.Parse.{AllDigits, digits_value_after}
 use Rattle.std.specs.Option.{option_map}
 use Rattle.std.proofs.lemmas.Bool.{lt-ltb}
 use Rattle.std.proofs.lemmas.List.{append-nil}
@@ -17,12 +17,15 @@ use Rattle.ff_text.specs.declared.scan.Kind.TheVariants as kinds
 use Rattle.ff_text.specs.declared.scan.Place.{Place}
 use Rattle.ff_text.specs.declared.scan.Place.TheVariants.{Begin, Signed, Starred, Letter, Spaced, Raised, Digits, Behind}
 use Rattle.ff_text.specs.declared.scan.Scan.{Scan}
-use Rattle.ff_text.specs.Spelling.{Then, Is, is_blank, Blanks, Around, Each, Joined, SpellsNumber, SpellsPower, SpellsFactor, SpellsFactors, FirstSign, NextSign, SpellsFirst, SpellsNext, SpellsTerms}
+use Rattle.ff_text.specs.Spelling.{Then, is_blank, Blanks, Around, Each, SpellsNumber, SpellsPower, SpellsFactor, SpellsFactors, FirstSign, NextSign, SpellsNext, SpellsTerms}
 use Rattle.ff_text.specs.Scanning.{mark_of, factor_of, term_of, after_blank, after_digit, after_letter, after_raise, ended, moved, after_star, after_sign, after_minus, after_mark, scan_step, begun, is_whole_place, some_terms, last_at, last_terms}
 use Rattle.ff_text.proofs.Machines.{Leads, leads_then, leads_one, IsMachine}
 use Rattle.ff_text.proofs.Digits.{IsDigit, digit_of_value}
 use Rattle.ff_text.proofs.Marks.{mark-blank, mark-digit}
 use Rattle.ff_text.proofs.ScanSound.{scan_at, scanned, whole_scan}
+
+regrouped : {A : Type 0} (front : List A) (u v : A) (more all : List A) → u ≡ v → all ≡ (front ++ u ∷ []) ++ more → all ≡ front ++ v ∷ more
+regrouped {A = A} front u v more all same whole = whole ∙ append_assoc front (u ∷ []) more ∙ ap (λ (w : A). front ++ w ∷ more) same
 
 abbrev pub is_whole_scan : Scan → Bool
 is_whole_scan s = is_whole_place s.place
@@ -101,9 +104,11 @@ module _ (rules : Rules) where
   leads_gap ts m fs p f (b ∷ g) e all =
       let one = blank_ended p f e in
       let step : scan_step rules (scan_at ts m fs p) b ≡ Some (scan_at ts m fs one.0) = step-blank (scan_at ts m fs p) b all.0 ∙ ap (moved (scan_at ts m fs p)) one.1 in
-      let more = leads_gap ts m fs one.0 f g one.2.is_ended all.1 in
-      (more.0, scan_then (scan_at ts m fs p) (scan_at ts m fs one.0) (scan_at ts m fs more.0) (b ∷ []) g (leads_one (scan_step rules) (scan_at ts m fs p) (scan_at ts m fs one.0) b step) more.1,
-       record { is_ended = more.2.is_ended; raise = more.2.raise ∙ one.2.raise })
+      let more = leads_gap ts m fs one.0 f g one.2.is_ended all.1 in (
+        more.0,
+        scan_then (scan_at ts m fs p) (scan_at ts m fs one.0) (scan_at ts m fs more.0) (b ∷ []) g (leads_one (scan_step rules) (scan_at ts m fs p) (scan_at ts m fs one.0) b step) more.1,
+        record { is_ended = more.2.is_ended; raise = more.2.raise ∙ one.2.raise },
+      )
 
   -- ---- numbers
 
@@ -115,7 +120,7 @@ module _ (rules : Rules) where
       let number : 10 * n + (c - 48) ≡ n * 10 + digit_value c = let v = d.value in omega arith in
       let longer : count + 1 + length cs ≡ count + suc (length cs) = omega arith in
       let step : scan_step rules (scan_at ts m fs (Digits k count n)) c ≡ Some (scan_at ts m fs (Digits k (count + 1) (n * 10 + digit_value c))) =
-          step-digit (scan_at ts m fs (Digits k count n)) c d ∙ ap (λ b. moved (scan_at ts m fs (Digits k count n)) (cond b (Some (Digits k (count + 1) (10 * n + (c - 48)))) None)) room ∙ ap (λ i. Some (scan_at ts m fs (Digits k (count + 1) i))) number in
+      step-digit (scan_at ts m fs (Digits k count n)) c d ∙ ap (λ b. moved (scan_at ts m fs (Digits k count n)) (cond b (Some (Digits k (count + 1) (10 * n + (c - 48)))) None)) room ∙ ap (λ i. Some (scan_at ts m fs (Digits k (count + 1) i))) number in
       let more : ScanLeads (scan_at ts m fs (Digits k (count + 1) (n * 10 + digit_value c))) cs (scan_at ts m fs (Digits k (count + 1 + length cs) (digits_value_after 10 (n * 10 + digit_value c) cs))) = leads_digits ts m fs k (count + 1) (n * 10 + digit_value c) cs all.1 (omega arith) in
       scan_then (scan_at ts m fs (Digits k count n)) (scan_at ts m fs (Digits k (count + 1) (n * 10 + digit_value c))) (scan_at ts m fs (Digits k (count + suc (length cs)) (digits_value_after 10 (n * 10 + digit_value c) cs))) (c ∷ []) cs
       (leads_one (scan_step rules) (scan_at ts m fs (Digits k count n)) (scan_at ts m fs (Digits k (count + 1) (n * 10 + digit_value c))) c step)
@@ -129,10 +134,12 @@ module _ (rules : Rules) where
       let first : c - 48 ≡ 0 * 10 + digit_value c = let v = d.value in omega arith in
       let few = s.few in
       let step : scan_step rules (scan_at ts m fs p) c ≡ Some (scan_at ts m fs (Digits k 1 (0 * 10 + digit_value c))) = step-digit (scan_at ts m fs p) c d ∙ ap (moved (scan_at ts m fs p)) (begins (c - 48)) ∙ ap (λ i. Some (scan_at ts m fs (Digits k 1 i))) first in
-      let more = leads_digits ts m fs k 1 (0 * 10 + digit_value c) cs s.numeral.1.1 (omega arith) in
-      (1 + length cs, scan_then (scan_at ts m fs p) (scan_at ts m fs (Digits k 1 (0 * 10 + digit_value c))) (scan_at ts m fs (Digits k (1 + length cs) n)) (c ∷ []) cs
-       (leads_one (scan_step rules) (scan_at ts m fs p) (scan_at ts m fs (Digits k 1 (0 * 10 + digit_value c))) c step)
-       (more ∙ ap (λ i. Some (scan_at ts m fs (Digits k (1 + length cs) i))) s.value))
+      let more = leads_digits ts m fs k 1 (0 * 10 + digit_value c) cs s.numeral.1.1 (omega arith) in (
+        1 + length cs,
+        scan_then (scan_at ts m fs p) (scan_at ts m fs (Digits k 1 (0 * 10 + digit_value c))) (scan_at ts m fs (Digits k (1 + length cs) n)) (c ∷ []) cs
+            (leads_one (scan_step rules) (scan_at ts m fs p) (scan_at ts m fs (Digits k 1 (0 * 10 + digit_value c))) c step)
+            (more ∙ ap (λ i. Some (scan_at ts m fs (Digits k (1 + length cs) i))) s.value),
+      )
 
   -- ---- factors
 
@@ -164,21 +171,27 @@ module _ (rules : Rules) where
       let step : scan_step rules (scan_at ts m fs gap.0) 94 ≡ Some (scan_at ts m fs (Raised k)) = step-raise (scan_at ts m fs gap.0) ∙ ap (moved (scan_at ts m fs gap.0)) gap.2.raise in
       let mark : ScanLeads (scan_at ts m fs gap.0) raised.front (scan_at ts m fs (Raised k)) = subst (λ (h : List ℕ). ScanLeads (scan_at ts m fs gap.0) h (scan_at ts m fs (Raised k))) (sym raised.first) (leads_one (scan_step rules) (scan_at ts m fs gap.0) (scan_at ts m fs (Raised k)) 94 step) in
       let blanks = leads_blanks (scan_at ts m fs (Raised k)) raised.back refl raised.second in
-      let number = leads_number ts m fs (Raised k) k n w.back (λ d. refl) w.second in
-      (number.0, scan_parts (scan_at ts m fs (Letter k)) (scan_at ts m fs (Raised k)) (scan_at ts m fs (Digits k number.0 n)) g w
-       (scan_parts (scan_at ts m fs (Letter k)) (scan_at ts m fs gap.0) (scan_at ts m fs (Raised k)) w.front around gap.1
-       (scan_parts (scan_at ts m fs gap.0) (scan_at ts m fs (Raised k)) (scan_at ts m fs (Raised k)) around.back raised mark blanks))
-       number.1)
+      let number = leads_number ts m fs (Raised k) k n w.back (λ d. refl) w.second in (
+        number.0,
+        scan_parts (scan_at ts m fs (Letter k)) (scan_at ts m fs (Raised k)) (scan_at ts m fs (Digits k number.0 n)) g w
+            (scan_parts (scan_at ts m fs (Letter k)) (scan_at ts m fs gap.0) (scan_at ts m fs (Raised k)) w.front around gap.1
+            (scan_parts (scan_at ts m fs gap.0) (scan_at ts m fs (Raised k)) (scan_at ts m fs (Raised k)) around.back raised mark blanks))
+            number.1,
+      )
 
   leads_power : (ts : List Term) (m : Bool) (fs : List Factor) (p : Place) (k : Kind) (letter : List ℕ) (n : ℕ) (g : List ℕ) → ScanLeads (scan_at ts m fs p) letter (scan_at ts m fs (Letter k)) → SpellsPower letter n g → (q : Place) × ScanLeads (scan_at ts m fs p) g (scan_at ts m fs q) × IsDone q (factor_of k n)
-  leads_power ts m fs p k letter n g read (inl alone) =
-      (Letter k, subst (λ (h : List ℕ). ScanLeads (scan_at ts m fs p) h (scan_at ts m fs (Letter k))) (sym alone.1) read,
-       record { is_ended = ap (λ i. Some (factor_of k i)) (sym alone.0); is_whole = refl })
+  leads_power ts m fs p k letter n g read (inl alone) = (
+    Letter k,
+    subst (λ (h : List ℕ). ScanLeads (scan_at ts m fs p) h (scan_at ts m fs (Letter k))) (sym alone.1) read,
+    record { is_ended = ap (λ i. Some (factor_of k i)) (sym alone.0); is_whole = refl },
+  )
   leads_power ts m fs p k letter n g read (inr w) =
-      let more = leads_exponent ts m fs k n w.back w.second in
-      (Digits k more.0 n, scan_parts (scan_at ts m fs p) (scan_at ts m fs (Letter k)) (scan_at ts m fs (Digits k more.0 n)) g w
-       (subst (λ (h : List ℕ). ScanLeads (scan_at ts m fs p) h (scan_at ts m fs (Letter k))) (sym w.first) read) more.1,
-       record { is_ended = refl; is_whole = refl })
+      let more = leads_exponent ts m fs k n w.back w.second in (
+        Digits k more.0 n,
+        scan_parts (scan_at ts m fs p) (scan_at ts m fs (Letter k)) (scan_at ts m fs (Digits k more.0 n)) g w
+            (subst (λ (h : List ℕ). ScanLeads (scan_at ts m fs p) h (scan_at ts m fs (Letter k))) (sym w.first) read) more.1,
+        record { is_ended = refl; is_whole = refl },
+      )
 
   leads_factor : (ts : List Term) (m : Bool) (fs : List Factor) (p : Place) (f : Factor) (g : List ℕ) → IsReady p → SpellsFactor rules.y f g → (q : Place) × ScanLeads (scan_at ts m fs p) g (scan_at ts m fs q) × IsDone q f
   leads_factor ts m fs p (factors.Code n) g r s =
@@ -305,7 +318,7 @@ module _ (rules : Rules) where
         done = rest.done;
         leads = scan_parts (scan_at ts m fs p) (scan_at (ts ++ term_of m (fs ++ f ∷ []) ∷ []) t.minus one.front one.place) (scan_at rest.terms rest.minus rest.front rest.place) g s
             (scan_parts (scan_at ts m fs p) (scan_at (ts ++ term_of m (fs ++ f ∷ []) ∷ []) t.minus [] Signed) (scan_at (ts ++ term_of m (fs ++ f ∷ []) ∷ []) t.minus one.front one.place) s.front part sign one.leads) rest.leads;
-        whole = rest.whole ∙ append_assoc (ts ++ term_of m (fs ++ f ∷ []) ∷ []) (term_of t.minus (one.front ++ one.last ∷ []) ∷ []) more ∙ ap (λ (u : Term). (ts ++ term_of m (fs ++ f ∷ []) ∷ []) ++ u ∷ more) same;
+        whole = regrouped (ts ++ term_of m (fs ++ f ∷ []) ∷ []) (term_of t.minus (one.front ++ one.last ∷ [])) t more (rest.terms ++ term_of rest.minus (rest.front ++ rest.last ∷ []) ∷ []) same rest.whole;
       }
 
   leads_first : (m : Bool) (g : List ℕ) → rules.signs ≡ true → FirstSign m g → (p : Place) × ScanLeads begun g (scan_at [] m [] p) × IsReady p
@@ -331,7 +344,7 @@ module _ (rules : Rules) where
         done = rest.done;
         leads = scan_parts begun (scan_at [] t.minus one.front one.place) (scan_at rest.terms rest.minus rest.front rest.place) g s
             (scan_parts begun (scan_at [] t.minus [] sign.0) (scan_at [] t.minus one.front one.place) s.front part sign.1 one.leads) rest.leads;
-        whole = rest.whole ∙ ap (λ (u : Term). u ∷ ts) same;
+        whole = regrouped [] (term_of t.minus (one.front ++ one.last ∷ [])) t ts (rest.terms ++ term_of rest.minus (rest.front ++ rest.last ∷ []) ∷ []) same rest.whole;
       }
 
   pub last_ended : (s : Scan) (p : Place) (f : Factor) → ended p ≡ Some f → last_at s p ≡ Some (s.terms ++ term_of s.minus (s.factors ++ f ∷ []) ∷ [])
@@ -347,9 +360,12 @@ module _ (rules : Rules) where
   -- what is spelled as a polynomial leads to its value
   pub leads_poly : (v : List Term) (g : List ℕ) → rules.signs ≡ true → SpellsTerms rules.y v g → (s : Scan) × ScanLeads begun g s × (is_whole_place s.place ≡ true) × (last_terms s ≡ Some v)
   leads_poly v g signs spelled =
-      let r = leads_terms v g signs spelled in
-      (scan_at r.terms r.minus r.front r.place, r.leads, r.done.is_whole,
-       last_ended (scan_at r.terms r.minus r.front r.place) r.place r.last r.done.is_ended ∙ ap (λ u. Some u) r.whole)
+      let r = leads_terms v g signs spelled in (
+        scan_at r.terms r.minus r.front r.place,
+        r.leads,
+        r.done.is_whole,
+        last_ended (scan_at r.terms r.minus r.front r.place) r.place r.last r.done.is_ended ∙ ap (λ u. Some u) r.whole,
+      )
 
   pub whole_ended : (p : Place) → is_whole_place p ≡ true → (f : Factor) × (ended p ≡ Some f)
   whole_ended Begin is = absurd cc
@@ -365,16 +381,22 @@ module _ (rules : Rules) where
   pub scan_gap : (s : Scan) (g : List ℕ) → is_whole_place s.place ≡ true → Blanks g → (t : Scan) × ScanLeads s g t × (is_some (ended t.place) ≡ true) × (last_terms t ≡ last_terms s)
   scan_gap s g is all =
       let f = whole_ended s.place is in
-      let gap = leads_gap s.terms s.minus s.factors s.place f.0 g f.1 all in
-      (scan_at s.terms s.minus s.factors gap.0, gap.1, ap is_some gap.2.is_ended,
-       last_ended (scan_at s.terms s.minus s.factors gap.0) gap.0 f.0 gap.2.is_ended ∙ sym (last_ended s s.place f.0 f.1))
+      let gap = leads_gap s.terms s.minus s.factors s.place f.0 g f.1 all in (
+        scan_at s.terms s.minus s.factors gap.0,
+        gap.1,
+        ap is_some gap.2.is_ended,
+        last_ended (scan_at s.terms s.minus s.factors gap.0) gap.0 f.0 gap.2.is_ended ∙ sym (last_ended s s.place f.0 f.1),
+      )
 
   -- one term without a sign leads to its value, whether signs may stand or not
   pub leads_term : (all : List Factor) (g : List ℕ) → SpellsFactors rules.y all g → (s : Scan) × ScanLeads begun g s × (is_whole_place s.place ≡ true) × (last_terms s ≡ Some (term_of false all ∷ []))
   leads_term all g spelled =
-      let r = leads_factors [] false Begin all g ready_begin spelled in
-      (scan_at [] false r.front r.place, r.leads, r.done.is_whole,
-       last_ended (scan_at [] false r.front r.place) r.place r.last r.done.is_ended ∙ ap (λ fs. Some (term_of false fs ∷ [])) r.whole)
+      let r = leads_factors [] false Begin all g ready_begin spelled in (
+        scan_at [] false r.front r.place,
+        r.leads,
+        r.done.is_whole,
+        last_ended (scan_at [] false r.front r.place) r.place r.last r.done.is_ended ∙ ap (λ fs. Some (term_of false fs ∷ [])) r.whole,
+      )
 
   -- ---- what isn't whole keeps the last value
 

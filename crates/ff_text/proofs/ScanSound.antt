@@ -1,5 +1,5 @@
 -- What is read of a polynomial is spelled so.
-use Rattle.std.proofs.Common.{◌≡◌, ℕ, suc, ◌+◌, ◌-◌, ◌*◌, ◌<◌, ◌≤◌, Bool, true, false, cond, nat_lt, List, [], ◌∷◌, ◌++◌, length, codes, Option, Some, None, refl, sym, ap, ◌∙◌, subst, append_assoc, ◌⊎◌, inl, inr, arith}
+use Rattle.std.proofs.Common.{◌≡◌, ℕ, ◌+◌, ◌-◌, ◌*◌, ◌<◌, Bool, true, false, cond, nat_lt, List, [], ◌∷◌, ◌++◌, length, codes, Option, Some, None, refl, sym, ap, ◌∙◌, subst, append_assoc, ◌⊎◌, inl, inr, arith}
 use Rattle.std.specs.Prelude.{IsTrue}
 use Rattle.std.specs.Option.{option_map}
 use Rattle.std.proofs.lemmas.Bool.{ltb-true}
@@ -14,8 +14,8 @@ use Rattle.ff_text.specs.declared.scan.Kind.TheVariants as kinds
 use Rattle.ff_text.specs.declared.scan.Place.{Place}
 use Rattle.ff_text.specs.declared.scan.Place.TheVariants.{Begin, Signed, Starred, Letter, Spaced, Raised, Digits, Behind}
 use Rattle.ff_text.specs.declared.scan.Scan.{Scan}
-use Rattle.ff_text.specs.Spelling.{Then, Is, is_blank, Blanks, Around, Each, Joined, SpellsNumber, SpellsPower, SpellsFactor, SpellsFactors, FirstSign, NextSign, SpellsFirst, SpellsNext, SpellsTerms}
-use Rattle.ff_text.specs.Scanning.{mark_of, factor_of, term_of, after_blank, after_digit, after_letter, after_raise, ended, moved, after_star, after_sign, after_minus, after_mark, scan_step, begun, is_whole_place, some_terms, last_at, last_terms, HasRoom}
+use Rattle.ff_text.specs.Spelling.{Then, Is, is_blank, Blanks, Around, Each, SpellsNumber, SpellsFactor, SpellsFactors, FirstSign, NextSign, SpellsNext, SpellsTerms}
+use Rattle.ff_text.specs.Scanning.{mark_of, factor_of, term_of, after_blank, after_digit, after_letter, after_raise, ended, moved, after_star, after_sign, after_minus, after_mark, scan_step, begun, is_whole_place, last_at, HasRoom}
 use Rattle.ff_text.proofs.Machines.{Leads, along}
 use Rattle.ff_text.proofs.Digits.{IsDigit, number_one, number_more, number_room}
 use Rattle.ff_text.proofs.Texts.{then_of, then_more, then_map, then_map_first, then_left, then_right, then_nothing, nothing_then, from_nothing_then, blanks_push, blanks_one, around_push, around_of, then_blanks, each_push, JoinedFront, joined_push}
@@ -112,7 +112,7 @@ module _ (rules : Rules) where
   factors_done : (ts : List Term) (m : Bool) (fs : List Factor) (f : Factor) (g : List ℕ) → Then (Before ts m fs) (Then (SpellsFactor rules.y f) Blanks) g → Then (TermsFront ts m) (Then (SpellsFactors rules.y (fs ++ f ∷ [])) Blanks) g
   factors_done ts m fs f g h =
       then_map g (then_right g h) (λ b t. then_map_first b (then_left b t) (λ a u.
-          subst (SpellsFactors rules.y (fs ++ f ∷ [])) (sym u.whole) (joined_push (codes "*") (SpellsFactor rules.y) fs f u.front u.back u.first u.second)))
+      subst (SpellsFactors rules.y (fs ++ f ∷ [])) (sym u.whole) (joined_push (codes "*") (SpellsFactor rules.y) fs f u.front u.back u.first u.second)))
 
   -- a term more
   terms_push : (ts : List Term) (m : Bool) (fs : List Factor) (g h : List ℕ) → TermsFront ts m g → SpellsFactors rules.y fs h → SpellsTerms rules.y (ts ++ term_of m fs ∷ []) (g ++ h)
@@ -121,13 +121,13 @@ module _ (rules : Rules) where
   terms_push (t ∷ ts) m fs g h (inl first) spelled = absurd (let e = first.0 in cc)
   terms_push (t ∷ ts) m fs g h (inr next) spelled =
       then_more g h (then_right g next) (λ b rest.
-          subst (Each (SpellsNext rules.y) (ts ++ term_of m fs ∷ [])) (sym (ap (λ x. x ++ h) rest.whole ∙ append_assoc rest.front rest.back h))
-          (each_push (SpellsNext rules.y) ts (term_of m fs) rest.front (rest.back ++ h) rest.first (then_of rest.back h rest.second spelled)))
+      subst (Each (SpellsNext rules.y) (ts ++ term_of m fs ∷ [])) (sym (ap (λ x. x ++ h) rest.whole ∙ append_assoc rest.front rest.back h))
+      (each_push (SpellsNext rules.y) ts (term_of m fs) rest.front (rest.back ++ h) rest.first (then_of rest.back h rest.second spelled)))
 
   pub terms_done : (ts : List Term) (m : Bool) (fs : List Factor) (p : Place) (g : List ℕ) (f : Factor) → IsScannedAt ts m fs p g → ended p ≡ Some f → Then (SpellsTerms rules.y (ts ++ term_of m (fs ++ f ∷ []) ∷ [])) Blanks g
   terms_done ts m fs p g f h e =
       then_map_first g (then_left g (factors_done ts m fs f g (ended_factor ts m fs p g f h e))) (λ a t.
-          subst (SpellsTerms rules.y (ts ++ term_of m (fs ++ f ∷ []) ∷ [])) (sym t.whole) (terms_push ts m (fs ++ f ∷ []) t.front t.back t.first t.second))
+      subst (SpellsTerms rules.y (ts ++ term_of m (fs ++ f ∷ []) ∷ [])) (sym t.whole) (terms_push ts m (fs ++ f ∷ []) t.front t.back t.first t.second))
 
   -- a factor without blanks behind it makes a polynomial
   whole_terms : (ts : List Term) (m : Bool) (fs : List Factor) (f : Factor) (g : List ℕ) → Then (Before ts m fs) (SpellsFactor rules.y f) g → SpellsTerms rules.y (ts ++ term_of m (fs ++ f ∷ []) ∷ []) g
@@ -255,9 +255,9 @@ module _ (rules : Rules) where
       let w = test_some (nat_lt count 9) (Digits k (count + 1) (10 * n + (b - 48))) q e in
       let room : count < 9 = ltb-true count 9 w.0 in
       arrive (λ r. IsScannedAt ts m fs r (g ++ b ∷ [])) (Digits k (count + 1) (10 * n + (b - 48))) q w.1 (then_more g (b ∷ []) h (λ c t. then_more c (b ∷ []) t (λ a u.
-          let long = u.1 in
-          let more = length_push a b in
-          (number_more n a b u.0 (omega arith) d, omega arith))))
+      let long = u.1 in
+      let more = length_push a b in
+      (number_more n a b u.0 (omega arith) d, omega arith))))
   digit_step ts m fs (Behind k n) q g b d h e = absurd cc
 
   first_letter : (ts : List Term) (m : Bool) (fs : List Factor) (p q : Place) (k : Kind) (g l : List ℕ) → IsLetter k l → IsReady p → IsScannedAt ts m fs p g → Some (Letter k) ≡ Some q → IsScannedAt ts m fs q (g ++ l)

@@ -1,5 +1,5 @@
 -- Texts one after another: blanks, marks and joined parts, with more behind them.
-use Rattle.std.proofs.Common.{◌≡◌, ℕ, Bool, true, false, List, [], ◌∷◌, ◌++◌, refl, sym, ap, ◌∙◌, subst, append_assoc, ◌⊎◌, inl, inr}
+use Rattle.std.proofs.Common.{◌≡◌, ℕ, true, List, [], ◌∷◌, ◌++◌, refl, sym, ap, ◌∙◌, subst, append_assoc, ◌⊎◌, inl, inr}
 use Rattle.std.proofs.lemmas.List.{append-nil}
 use Rattle.ff_text.specs.Spelling.{Then, Is, is_blank, Blanks, Around, Each, Joined}
 
@@ -101,5 +101,5 @@ joined_push mark Part [] v g h (inr some) p = absurd some.first
 joined_push mark Part (w ∷ vs) v g h (inl none) p = absurd (let e = none.0 in cc)
 joined_push mark Part (w ∷ vs) v g h (inr some) p =
     then_more g h (then_right g some) (λ b rest.
-        subst (Each (λ u. Then (Around mark) (Part u)) (vs ++ v ∷ [])) (sym (ap (λ x. x ++ h) rest.whole ∙ append_assoc rest.front rest.back h))
-        (each_push (λ u. Then (Around mark) (Part u)) vs v rest.front (rest.back ++ h) rest.first (then_of rest.back h rest.second p)))
+    subst (Each (λ u. Then (Around mark) (Part u)) (vs ++ v ∷ [])) (sym (ap (λ x. x ++ h) rest.whole ∙ append_assoc rest.front rest.back h))
+    (each_push (λ u. Then (Around mark) (Part u)) vs v rest.front (rest.back ++ h) rest.first (then_of rest.back h rest.second p)))

@@ -1,4 +1,5 @@
-//! Prints polynomials and elements. What appends to a buffer leaves a part of the text there after an error.
+//! Prints polynomials and elements, in time in proportion to their texts. What appends to a buffer leaves a part of the
+//! text there after an error.
 
 ghost use Rattle.std.specs.Prelude.{◌≡◌, ◌++◌, IfOk, OnOk};
 ghost use Rattle.ff_text.specs.Printing.{letter_text, factor_text, next_factors_text, factors_text, next_terms_text, terms_text, next_entries_text, entries_text, den_text, is_one_term, element_text};

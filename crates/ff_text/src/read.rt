@@ -1,8 +1,9 @@
 //! Reads numbers, polynomials and elements in the middle of a line.
 //!
-//! Each reader reads the longest spelling that begins at a column, and answers its value and the column behind it. Where
-//! none begins there, it answers `TextFault::Syntax` with the greatest column such that the bytes from the one to before
-//! the other begin a spelling. It takes time in proportion to the bytes that it reads.
+//! Each reader reads the longest spelling that begins at a column of the line, and answers its value and the column behind
+//! it. Where none begins there, it answers `TextFault::Syntax` with the greatest column such that the bytes from the one
+//! to before the other begin a spelling. It never answers `TextFault::CodeRange`, and takes time in proportion to the bytes
+//! that it looks at. Condition of each: the column isn't behind the end of the line.
 
 ghost use Rattle.std.specs.Prelude.{◌≡◌, ◌≢◌, ◌≤◌, true, false, length, Err, IfOk, IfErr};
 ghost use Rattle.ff_text.specs.Spelling.{SpellsNumber, SpellsTerms, SpellsElement};
@@ -55,12 +56,7 @@ pub fn read_terms_in_x(
     terms(alloc, false, line, at)
 }
 
-fn terms(
-    alloc: Global,
-    y: bool,
-    line: &[u8],
-    at: usize,
-) -> Result<(TermList, usize), TextFault>
+fn terms(alloc: Global, y: bool, line: &[u8], at: usize) -> Result<(TermList, usize), TextFault>
     requires { at ≤ length line.now }
     ensures found { IfOk result (λ r. IsLongestSpelling (SpellsTerms y) line.now at r.0 r.1) }
     ensures fault { IfErr result (IsReadFault (SpellsTerms y) line.now at) }

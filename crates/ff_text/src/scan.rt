@@ -289,7 +289,11 @@ impl Scan {
             place,
         } = self;
         if matches!(place, Place::Begin | Place::Signed) {
-            return Ok(if terms.terms.is_empty() { None } else { Some(terms) });
+            return Ok(if terms.terms.is_empty() {
+                None
+            } else {
+                Some(terms)
+            });
         }
         if let Some(f) = place.last() {
             factors.factors.push(f)?;

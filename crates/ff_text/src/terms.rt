@@ -1,4 +1,5 @@
-//! Polynomials and elements as they are spelled.
+//! Polynomials and elements as they are spelled: what a reader answers and what is printed. Contracts see them as plain
+//! records and lists.
 
 ghost use Rattle.std.specs.Prelude.{◌≡◌, IfOk};
 
@@ -19,6 +20,7 @@ pub enum Factor {
 /// Factors, joined by `*`.
 #[derive(Debug, Drop)]
 pub struct FactorList {
+    /// The factors in the order in which they are written.
     pub factors: Vec<Factor>,
 }
 
@@ -34,13 +36,16 @@ impl Model for FactorList {
 /// The product of the factors, with the sign before it.
 #[derive(Debug, Drop)]
 pub struct Term {
+    /// A minus is before it.
     pub minus: bool,
+    /// What is multiplied.
     pub factors: FactorList,
 }
 
 /// A polynomial: the sum of the terms.
 #[derive(Debug, Drop)]
 pub struct TermList {
+    /// The terms in the order in which they are written.
     pub terms: Vec<Term>,
 }
 
@@ -56,6 +61,7 @@ impl Model for TermList {
 /// Polynomials: numerators at 1, y and so on.
 #[derive(Debug, Drop)]
 pub struct EntryList {
+    /// The polynomials in the order in which they are written.
     pub entries: Vec<TermList>,
 }
 
@@ -71,12 +77,14 @@ impl Model for EntryList {
 /// An element: numerators in brackets, and a denominator if one is written.
 #[derive(Debug, Drop)]
 pub struct ElemText {
+    /// The numerators.
     pub entries: EntryList,
+    /// The denominator, if one is written.
     pub den: Option<TermList>,
 }
 
 impl FactorList {
-    /// Equal factors, in memory of their own.
+    /// Equal factors, in memory of their own. It takes time in proportion to them.
     pub fn copy(&self, alloc: Global) -> Result<FactorList, AllocError>
         ensures { IfOk result (λ t. t ≡ self.now) }
     {
@@ -86,7 +94,7 @@ impl FactorList {
 }
 
 impl Term {
-    /// An equal term, in memory of its own.
+    /// An equal term, in memory of its own. It takes time in proportion to it.
     pub fn copy(&self, alloc: Global) -> Result<Term, AllocError>
         ensures { IfOk result (λ t. t ≡ self.now) }
     {
@@ -99,7 +107,7 @@ impl Term {
 }
 
 impl TermList {
-    /// Equal terms, in memory of their own.
+    /// Equal terms, in memory of their own. It takes time in proportion to them.
     pub fn copy(&self, alloc: Global) -> Result<TermList, AllocError>
         ensures { IfOk result (λ t. t ≡ self.now) }
     {
@@ -112,7 +120,7 @@ impl TermList {
 }
 
 impl EntryList {
-    /// Equal polynomials, in memory of their own.
+    /// Equal polynomials, in memory of their own. It takes time in proportion to them.
     pub fn copy(&self, alloc: Global) -> Result<EntryList, AllocError>
         ensures { IfOk result (λ t. t ≡ self.now) }
     {
@@ -125,7 +133,7 @@ impl EntryList {
 }
 
 impl ElemText {
-    /// An equal element, in memory of its own.
+    /// An equal element, in memory of its own. It takes time in proportion to it.
     pub fn copy(&self, alloc: Global) -> Result<ElemText, AllocError>
         ensures { IfOk result (λ t. t ≡ self.now) }
     {

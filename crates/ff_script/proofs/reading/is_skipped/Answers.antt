@@ -8,5 +8,5 @@ returns-in-empty c = (λ _. skipped_blank c.args.line.now c.behind_blanks.result
 pub returns-in-len1-up : goal.returns-in-len1-up
 returns-in-len1-up c = (
   skipped_mark c.args.line.now c.behind_blanks.result.now c.behind_blanks.ensures c.in-len1-up.len_at_least,
-  skipped_marked c.args.line.now c.behind_blanks.result.now c.behind_blanks.ensures c.in-len1-up.len_at_least
+  skipped_marked c.args.line.now c.behind_blanks.result.now c.behind_blanks.ensures c.in-len1-up.len_at_least,
 )

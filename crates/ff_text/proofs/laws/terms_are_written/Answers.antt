@@ -1,4 +1,4 @@
-use Rattle.ff_text.proofs.SpelledForms.{terms_written}
+use Rattle.ff_text.proofs.Spelled.{terms_written}
 use Rattle.ff_text.proofs.laws.terms_are_written.Goals as goal
 
 pub returns : goal.returns

@@ -1,5 +1,4 @@
-use Rattle.std.proofs.Common.{◌≡◌, ℕ, ◌+◌, ◌-◌, ◌*◌, ◌<◌, true, false, get_or, sym, ◌∙◌, arith}
-use Rattle.std.specs.Char.{is_ascii_digit}
+use Rattle.std.proofs.Common.{◌+◌, ◌*◌, get_or, sym, ◌∙◌, arith}
 use Rattle.ff_text.proofs.Digits.{NumberStops, digit_of_test, number_goes_on, number_room_at, stops_at_end, stops_at_nine, stops_at_other, number_found, number_nothing}
 use Rattle.ff_text.proofs.read.read_number.Goals as goal
 use Rattle.ff_text.proofs.read.read_number.Goals.{then-loop-end-test+then-end-at-lt9+else-is_ascii_digit, then-loop-end-test+else-end-at-lt9, else-loop-end-test}

@@ -1,5 +1,5 @@
-use Rattle.std.proofs.Common.{◌≡◌, ◌+◌, ◌<◌, sym, ap, ◌∙◌, subst, arith}
-use Rattle.ff_text.proofs.Gathered.{IsGathered, gathered_code, gathered_x, gathered_y, gathered_end}
+use Rattle.std.proofs.Common.{◌<◌, arith}
+use Rattle.ff_text.proofs.Gathered.{gathered_code, gathered_x, gathered_y, gathered_end}
 use Rattle.ff_text.proofs.values.triple.Goals as goal
 use Rattle.ff_text.proofs.values.triple.Goals.{in-Code+else-n-size, in-X, in-Y}
 

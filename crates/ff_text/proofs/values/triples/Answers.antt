@@ -1,5 +1,5 @@
 use Rattle.std.proofs.lemmas.Result.{err_from_is_err_and}
-use Rattle.std.proofs.Common.{sym, refl}
+use Rattle.std.proofs.Common.{refl}
 use Rattle.ff_text.proofs.Gathered.{listed_none, listed_more, listed_all, no_more, fault_of_all}
 use Rattle.ff_text.proofs.values.triples.Goals as goal
 

@@ -1,6 +1,6 @@
-use Rattle.std.proofs.Common.{◌≡◌, ℕ, [], ◌∷◌, ◌++◌, length, sym, subst, arith}
+use Rattle.std.proofs.Common.{◌≡◌, ℕ, [], ◌∷◌, ◌++◌, length, subst, arith}
 use Rattle.std.proofs.lemmas.Bool.{both_ways}
-use Rattle.ff_script.specs.Scripts.{MayFollow, IsSoFar}
+use Rattle.ff_script.specs.Scripts.{MayFollow}
 use Rattle.ff_script.proofs.Progress.{not_none, is_none, pass_so_far, stop_so_far, push_so_far}
 use Rattle.ff_script.proofs.parsing.Progress.add.Goals as goal
 

@@ -1,15 +1,15 @@
 -- What is printed is spelled so.
-use Rattle.std.proofs.Common.{◌≡◌, ◌≢◌, ℕ, ◌^◌, ◌<◌, ◌≤◌, Bool, true, false, cond, eqb, List, [], ◌∷◌, ◌++◌, length, codes, Option, Some, None, refl, sym, ap, ◌∙◌, subst, append_assoc, inl, inr, arith}
-use Rattle.std.specs.Prelude.{decimal, flat_map, not, IfSome}
+use Rattle.std.proofs.Common.{◌≡◌, ◌≢◌, ℕ, ◌<◌, Bool, true, false, cond, eqb, List, [], ◌∷◌, ◌++◌, codes, Option, Some, None, refl, sym, ap, ◌∙◌, subst, append_assoc, inl, inr, arith}
+use Rattle.std.specs.Prelude.{decimal, not, IfSome}
 use Rattle.std.specs.List.{AllByRecursion}
-use Rattle.std.proofs.lemmas.Bool.{eqb-true, cases_Bool}
+use Rattle.std.proofs.lemmas.Bool.{eqb-true}
 use Rattle.std.proofs.lemmas.Fmt.{decimal_is_IsNumeral, length-decimal-le}
 use Rattle.std.proofs.lemmas.List.{append-nil}
 use Rattle.ff_text.specs.declared.terms.Factor.{Factor}
 use Rattle.ff_text.specs.declared.terms.Factor.TheVariants.{Code, X, Y}
 use Rattle.ff_text.specs.declared.terms.Term.{Term}
 use Rattle.ff_text.specs.declared.terms.ElemText.{ElemText}
-use Rattle.ff_text.specs.Spelling.{Then, Is, Blanks, Around, Within, Each, Joined, SpellsNumber, SpellsPower, SpellsFactor, SpellsFactors, FirstSign, NextSign, SpellsFirst, SpellsNext, SpellsTerms, SpellsOneTerm, SpellsDen, SpellsTail, SpellsEntries, SpellsElement}
+use Rattle.ff_text.specs.Spelling.{Then, Around, Within, Each, SpellsNumber, SpellsPower, SpellsFactor, SpellsFactors, FirstSign, NextSign, SpellsNext, SpellsTerms, SpellsDen, SpellsTail, SpellsEntries, SpellsElement}
 use Rattle.ff_text.specs.Printing.{letter_text, factor_text, next_factors_text, factors_text, first_sign, next_sign, next_terms_text, terms_text, next_entries_text, entries_text, is_one_term, den_text, element_text, IsWritableFactor, IsWritableTerm, IsWritableTerms, IsWritableElement}
 use Rattle.ff_text.proofs.Texts.{then_of, around_of, then_blanks}
 
