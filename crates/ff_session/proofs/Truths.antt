@@ -5,6 +5,7 @@ use Rattle.std.specs.Option.{ForSome}
 use Rattle.std.proofs.lemmas.List.Elements.{All-get_or}
 use native.Mathlib.Decide.{ℕ_discrete}
 use native.Mathlib.Nat.{ℕ_set}
+use Rattle.std.proofs.Math.Bool.{Bool-set}
 use Rattle.std.proofs.Math.Bridge.{le_prop}
 use Rattle.ff_fields.specs.declared.fields.Field.{Field as AnyField}
 use Rattle.ff_fields.specs.declared.fields.Field.TheVariants.{Prime, Residue}
@@ -95,8 +96,8 @@ no_curve_row k f c r h (fault sum is e some holds told) =
 -- ---- with the laws of any proof that there is such a field
 
 FieldData-prop : (d : FieldData) → IsProp (IsField d)
-FieldData-prop (Modulo p) = hlevel (ℕ_set, le_prop)
-FieldData-prop (ByModulus p m modulus) = hlevel (ℕ_set, le_prop)
+FieldData-prop (Modulo p) = hlevel (ℕ_set, le_prop, Bool-set)
+FieldData-prop (ByModulus p m modulus) = hlevel (ℕ_set, le_prop, Bool-set)
 
 laws_are : (k : AnyField) (is : IsField (data_of k)) → with_laws (data_of k) is ≡ field_of k
 laws_are k is = ap (with_laws (data_of k)) (FieldData-prop (data_of k) is (data_is k)) ∙ same_field k

@@ -7,7 +7,7 @@ use Rattle.ff_algebra.specs.Values.{ElemValue, PresValue, IsElem, IsMonicElem, f
 use Rattle.ff_text.specs.declared.terms.Term.{Term}
 use Rattle.ff_text.specs.declared.terms.ElemText.{ElemText}
 use Rattle.ff_text.specs.Printing.{IsWritableTerms}
-use Rattle.ff_script.specs.Printing.{IsWritableFactor}
+use Rattle.ff_script.specs.Printing.{IsWritablePlain}
 use Rattle.ff_session.specs.declared.refusal.Refusal.{Refusal}
 use Rattle.ff_session.specs.declared.refusal.Refusal.TheVariants.{Length, LimitX}
 use Rattle.ff_session.specs.Meaning.{IsElementOf, degree_of_element}
@@ -52,7 +52,7 @@ module _ (k : CodeField) where
   degree_of_polys : (es : List (List Term)) (ss : List Terms) (ps : List (List ℕ)) → AllByRecursion (IsWritableTerms false) es → AreSumsOf k.ops es ss → AreCoefficients k.ops ss ps → degree_of_element (record { num = ps; den = 1 ∷ [] }) ≡ greatest_in_x ss
   degree_of_polys es ss ps writable h g = let e = greatest_is k es ss ps writable h g in omega (arith, e)
 
-  module _ (n : ℕ) (e : ElemText) (writable : IsWritableFactor e) (ss : List Terms) (sums : AreSumsOf k.ops e.entries ss) where
+  module _ (n : ℕ) (e : ElemText) (writable : IsWritablePlain e) (ss : List Terms) (sums : AreSumsOf k.ops e.entries ss) where
     pub wrong_length : (m : ℕ) → m ≡ length ss → m ≢ n → IsElementRow k.ops n e (Length m)
     wrong_length m m_is other =
         let same : m ≡ length e.entries = m_is ∙ length_sums k.ops e.entries ss sums in

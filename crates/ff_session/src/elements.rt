@@ -5,7 +5,7 @@ ghost use Rattle.std.specs.List.{flat_map};
 ghost use Rattle.ff_fields.specs.Over.{IsOver};
 ghost use Rattle.ff_algebra.specs.Curves.{IsCoefficient, degree_in_x};
 ghost use Rattle.ff_text.specs.Values.{written_codes, HasSmallExponents};
-ghost use Rattle.ff_script.specs.Printing.{IsWritableFactor};
+ghost use Rattle.ff_script.specs.Printing.{IsWritablePlain};
 ghost use Rattle.ff_session.specs.Meaning.{IsSumOf};
 ghost use Rattle.ff_session.specs.Refusals.{UnlessMemory, IsCodeRow, IsElementRow};
 ghost use Rattle.ff_session.specs.Elements.{greatest_in_x, AreSumsOf, AreCoefficients, IsElementRead};
@@ -123,7 +123,7 @@ pub(crate) fn element<K: SmallField>(
     n: usize,
     e: &ElemText,
 ) -> Result<Elem, Refusal>
-    requires writable { IsWritableFactor e.now }
+    requires writable { IsWritablePlain e.now }
     requires powers { All (All HasSmallExponents) e.now.entries }
     ensures read { IfOk result (IsElementRead (K.field k.now) n e.now) }
     ensures refused { IfErr result (UnlessMemory (IsElementRow (K.field k.now).ops n e.now)) }

@@ -5,7 +5,7 @@ ghost use Rattle.ff_fields.specs.Fields.{field_of};
 ghost use Rattle.ff_algebra.specs.Values.{IsPresOver};
 ghost use Rattle.ff_text.specs.Values.{HasSmallExponents};
 ghost use Rattle.ff_script.specs.Grammar.{IsWhole};
-ghost use Rattle.ff_script.specs.Printing.{IsWritable, IsWritableFactor};
+ghost use Rattle.ff_script.specs.Printing.{IsWritable, IsWritablePlain};
 ghost use Rattle.ff_session.specs.Settings.{Empty, SessionValue};
 ghost use Rattle.ff_session.specs.Meaning.{degree_of_element};
 ghost use Rattle.ff_session.specs.Answers.{Names, Size};
@@ -219,8 +219,8 @@ fn product<K: SmallField>(
     b: &ElemText,
 ) -> Result<Elem, Refusal>
     requires equation { IsPresOver (K.field k.now).ops f.now }
-    requires a_writable { IsWritableFactor a.now }
-    requires b_writable { IsWritableFactor b.now }
+    requires a_writable { IsWritablePlain a.now }
+    requires b_writable { IsWritablePlain b.now }
     requires a_powers { All (All HasSmallExponents) a.now.entries }
     requires b_powers { All (All HasSmallExponents) b.now.entries }
     ensures product { IfOk result (IsProductRead (K.field k.now) f.now a.now b.now) }
@@ -252,8 +252,8 @@ fn answer_product<K: SmallField>(
     b: &ElemText,
 ) -> Result<(), Refusal>
     requires equation { IsPresOver (K.field k.now).ops f.now }
-    requires a_writable { IsWritableFactor a.now }
-    requires b_writable { IsWritableFactor b.now }
+    requires a_writable { IsWritablePlain a.now }
+    requires b_writable { IsWritablePlain b.now }
     requires a_powers { All (All HasSmallExponents) a.now.entries }
     requires b_powers { All (All HasSmallExponents) b.now.entries }
     ensures product { OnOk result (AddsProduct (K.field k.now) f.now a.now b.now text.old.items text.new.items) }
