@@ -1,6 +1,6 @@
 //! Why a statement isn't answered, and the line that says so.
 
-ghost use Rattle.std.specs.Prelude.{◌≡◌, ◌≢◌, ◌++◌, [], ◌∷◌, IfOk, OnOk, decimal};
+ghost use Rattle.std.specs.Prelude.{◌≡◌, ◌≢◌, ◌↔◌, ◌++◌, IsTrue, IfOk, OnOk, decimal};
 ghost use Rattle.ff_session.specs.declared.refusal.Refusal.TheVariants.{Memory};
 ghost use Rattle.ff_session.specs.Texts.{refusal_text, refusal_words, one_value, two_values};
 
@@ -39,6 +39,18 @@ pub enum Refusal {
     LimitOutput(u64),
     /// Memory ran out.
     Memory,
+}
+
+impl Refusal {
+    /// Is it want of memory, which has no line?
+    pub fn is_memory(&self) -> bool
+        ensures { IsTrue result ↔ (self.now ≡ Memory) }
+    {
+        match self {
+            Refusal::Memory => true,
+            _ => false,
+        }
+    }
 }
 
 impl From<AllocError> for Refusal {
