@@ -136,9 +136,10 @@ pub coefficients_exist : (k : FieldOps) (ss : List Terms) → (ps : List (List �
 coefficients_exist k [] = ([], refl)
 coefficients_exist k (s ∷ ss) =
     let codes = table (λ j. code_at k 0 j s) (degree_in_x s + 1) in
-    let rest = coefficients_exist k ss in
-    (poly_of codes ∷ rest.0,
-    (IsCoefficient_poly_of k s 0 codes (poly_of codes) (get_or_table (λ j. code_at k 0 j s) (degree_in_x s + 1) (λ j le. code_above k 0 j s (omega arith))) refl, rest.1))
+    let rest = coefficients_exist k ss in (
+      poly_of codes ∷ rest.0,
+      (IsCoefficient_poly_of k s 0 codes (poly_of codes) (get_or_table (λ j. code_at k 0 j s) (degree_in_x s + 1) (λ j le. code_above k 0 j s (omega arith))) refl, rest.1),
+    )
 
 -- ---- elements without a denominator
 

@@ -125,12 +125,12 @@ module _ (k : CodeField) where
   same_terms_from (t ∷ ts) [] h = absurd (no_terms t ts h.terms (All-head (λ t. t.2 < k.size) t ts h.terms_in) (h.same t.0 t.1))
   same_terms_from (t ∷ ts) (u ∷ us) h =
       ap₂ (λ x xs. x ∷ xs) (same_term t u e.0 e.1 codes) (same_terms_from ts us (record {
-      terms = terms_tail t ts h.terms;
-      others = terms_tail u us h.others;
-      terms_in = All-tail (λ t. t.2 < k.size) t ts h.terms_in;
-      others_in = All-tail (λ t. t.2 < k.size) u us h.others_in;
-      same = rest;
-    }))
+        terms = terms_tail t ts h.terms;
+        others = terms_tail u us h.others;
+        terms_in = All-tail (λ t. t.2 < k.size) t ts h.terms_in;
+        others_in = All-tail (λ t. t.2 < k.size) u us h.others_in;
+        same = rest;
+      }))
     where
       e : (t.0 ≡ u.0) × (t.1 ≡ u.1)
       e = same_exponents t u ts us h

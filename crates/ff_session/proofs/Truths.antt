@@ -112,18 +112,18 @@ pub adds_field : (old : Setting) (s : Statement) (p : ℕ) (tail : Option Modulu
 adds_field old s p tail k before now is s_is named added =
     subst (λ o. AddsAnswer o s before now (Some (Field k))) is
     (subst (λ t. AddsAnswer Empty t before now (Some (Field k))) (sym s_is) (record {
-    answer = Size (field_of k).ops.size;
-    is_true = record {
-      field = data_of k;
-      is_field = data_is k;
-      named = subst (Names p tail) (sym (same_ops k)) named;
-      size = subst (λ (o : FieldOps). IsFieldOf o (field_of k).ops.size) (sym (same_ops k)) (record { size = refl; no_divisors = no_divisors (field_of k) });
-      bound = refl;
-    };
-    not_refused = λ r. no_field_row p tail (field_of k).ops r named;
-    small = omega arith;
-    added = added;
-    sound = λ b e. subst IsSound (some_bound (Field k) b e) tt;
+      answer = Size (field_of k).ops.size;
+      is_true = record {
+        field = data_of k;
+        is_field = data_is k;
+        named = subst (Names p tail) (sym (same_ops k)) named;
+        size = subst (λ (o : FieldOps). IsFieldOf o (field_of k).ops.size) (sym (same_ops k)) (record { size = refl; no_divisors = no_divisors (field_of k) });
+        bound = refl;
+      };
+      not_refused = λ r. no_field_row p tail (field_of k).ops r named;
+      small = omega arith;
+      added = added;
+      sound = λ b e. subst IsSound (some_bound (Field k) b e) tt;
     }))
 
 pub adds_curve : (old : Setting) (s : Statement) (f : List Term) (k : AnyField) (c : CurveValue) (before now : List ℕ) → WithField (data_of k) ≡ old → s ≡ CurveOf f → AddsCurve (field_of k) f before now c
@@ -131,19 +131,19 @@ pub adds_curve : (old : Setting) (s : Statement) (f : List Term) (k : AnyField) 
 adds_curve old s f k c before now is s_is h =
     subst (λ o. AddsAnswer o s before now (Some (Curve k c))) is
     (subst (λ t. AddsAnswer (WithField (data_of k)) t before now (Some (Curve k c))) (sym s_is) (record {
-    answer = Numbers c.fin.n c.c;
-    is_true = record {
-      is_field = data_is k;
-      curve = c;
-      is_curve = subst (λ (l : CodeField). IsCurveOfTerms l f c) (sym (same_field k)) h.is_curve;
-      degree = refl;
-      number = refl;
-      bound = refl;
-    };
-    not_refused = λ r found. no_curve_row (field_of k) f c r h.is_curve (subst (λ (l : CodeField). IsNoCurve l f r) (laws_are k found.0) found.1);
-    small = omega arith;
-    added = h.added;
-    sound = λ b e. subst IsSound (some_bound (Curve k c) b e) h.is_curve.is_curve.curve;
+      answer = Numbers c.fin.n c.c;
+      is_true = record {
+        is_field = data_is k;
+        curve = c;
+        is_curve = subst (λ (l : CodeField). IsCurveOfTerms l f c) (sym (same_field k)) h.is_curve;
+        degree = refl;
+        number = refl;
+        bound = refl;
+      };
+      not_refused = λ r found. no_curve_row (field_of k) f c r h.is_curve (subst (λ (l : CodeField). IsNoCurve l f r) (laws_are k found.0) found.1);
+      small = omega arith;
+      added = h.added;
+      sound = λ b e. subst IsSound (some_bound (Curve k c) b e) h.is_curve.is_curve.curve;
     }))
 
 product_true : (k : AnyField) (c : CurveValue) (a b : ElemText) (z : ElemValue) → IsProductRead (field_of k) c.fin a b z → Answers (WithCurve (data_of k) c) (Mul a b) (Element z) (WithCurve (data_of k) c)
@@ -160,12 +160,12 @@ pub adds_product : (old : Setting) (s : Statement) (a b : ElemText) (k : AnyFiel
 adds_product old s a b k c before now is s_is h =
     subst (λ o. AddsAnswer o s before now None) is
     (subst (λ t. AddsAnswer (WithCurve (data_of k) c) t before now None) (sym s_is) (record {
-    answer = Element h.product;
-    is_true = product_true k c a b h.product h.is_product;
-    not_refused = product_admitted k c a b h.product h.is_product;
-    small = h.small;
-    added = h.added;
-    sound = λ b e. absurd cc;
+      answer = Element h.product;
+      is_true = product_true k c a b h.product h.is_product;
+      not_refused = product_admitted k c a b h.product h.is_product;
+      small = h.small;
+      added = h.added;
+      sound = λ b e. absurd cc;
     }))
 
 -- ---- refusals

@@ -38,11 +38,7 @@ pub(crate) fn sum<K: SmallField>(alloc: Global, k: &K, terms: &TermList) -> Resu
 }
 
 /// The sum of each entry.
-fn sums<K: SmallField>(
-    alloc: Global,
-    k: &K,
-    entries: &[TermList],
-) -> Result<Vec<Terms>, Refusal>
+fn sums<K: SmallField>(alloc: Global, k: &K, entries: &[TermList]) -> Result<Vec<Terms>, Refusal>
     requires { All (All HasSmallExponents) entries.now }
     ensures sums { IfOk result (λ v. AreSumsOf (K.field k.now).ops entries.now v.items) }
     ensures refused { IfErr result (UnlessMemory
@@ -99,11 +95,7 @@ fn polynomial<K: SmallField>(
 }
 
 /// The polynomial of each sum.
-fn polynomials<K: SmallField>(
-    alloc: Global,
-    k: &K,
-    sums: &[Terms],
-) -> Result<Vec<Poly>, AllocError>
+fn polynomials<K: SmallField>(alloc: Global, k: &K, sums: &[Terms]) -> Result<Vec<Poly>, AllocError>
     requires codes_in { All (All (λ t. t.2 < (K.field k.now).size)) sums.now }
     requires low { greatest_in_x sums.now ≤ 512 }
     ensures coefficients { IfOk result (λ ps. AreCoefficients (K.field k.now).ops sums.now ps.items) }
