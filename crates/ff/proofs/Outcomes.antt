@@ -2,11 +2,11 @@
 use Rattle.std.proofs.Common.{◌≡◌, ℕ, ◌+◌, ◌<◌, ◌≤◌, List, [], ◌∷◌, ◌++◌, length, drop, Option, Some, Bool, true, false, IfSome, ◌⊎◌, inl, inr, refl, sym, ap, ◌∙◌, arith, subst}
 use Rattle.std.proofs.lemmas.List.{drop_all}
 use Rattle.ff_io.specs.Streams.{Rose}
-use Rattle.ff.specs.declared.script.Statement.{Statement}
+use Rattle.ff_script.specs.declared.script.Statement.{Statement}
+use Rattle.ff_script.specs.Scripts.{IsScript}
 use Rattle.ff.specs.declared.run.Status.{Status}
 use Rattle.ff.specs.declared.run.Status.TheVariants.{Done, Refused, Usage, ReadFault, WriteFault, WantOfMemory, CheckNo}
-use Rattle.ff.specs.Form.{IsScript}
-use Rattle.ff.specs.Output.{IsAnswered, IsClosing, IsOut, IsPart, IsOutput, TooLong, Syntax, Script, IsBegun, Nothing, Line, Part, blocks_text, too_long_line}
+use Rattle.ff.specs.Output.{IsAnswered, IsClosing, IsOut, IsPart, IsOutput, TooLong, Syntax, Misplaced, Script, IsBegun, Nothing, Line, Part, blocks_text, too_long_line}
 use Rattle.ff.specs.Printing.{Prints, EndsAs, EndsWith}
 use Rattle.ff.specs.Commands.{IsAnsweredWhole, Runs, IsFaultless}
 use Rattle.ff.proofs.Printing.{prints_nothing}
@@ -18,6 +18,7 @@ at_some P o x e h = subst (λ p. IfSome p P) e h
 pub truth_of : (bytes text : List ℕ) (finished : Bool) → IsOutput bytes text finished → finished ≡ true → IsAnsweredWhole bytes text
 truth_of bytes text finished (TooLong h) e = absurd (cc)
 truth_of bytes text finished (Syntax line l h) e = absurd (cc)
+truth_of bytes text finished (Misplaced line l h) e = absurd (cc)
 truth_of bytes text finished (Script ss t f l s out) e = closed out.rest out.answered out.closes
   where
     closed : (rest : List Statement) → IsAnswered ss out.blocks out.last rest → IsClosing (length out.blocks) out.last rest out.closing f → IsAnsweredWhole bytes t

@@ -2,16 +2,18 @@
 use Rattle.std.proofs.Common.{◌≡◌, ℕ, ◌+◌, ◌<◌, List, [], ◌∷◌, ◌++◌, length, map, drop, get_or, Option, true, false, Result, Ok, Err, OnOk, OnErr, inl, inr, refl, sym, ap, ◌∙◌, arith, subst}
 use Rattle.std.specs.Result.{is_err}
 use Rattle.std.proofs.lemmas.List.{drop_more, length-append, length-map}
-use Rattle.ff.specs.declared.script.Statement.{Statement}
+use Rattle.ff_script.specs.declared.script.Statement.{Statement}
+use Rattle.ff_session.specs.declared.refusal.Refusal.{Refusal}
+use Rattle.ff_session.specs.Settings.{SessionValue}
+use Rattle.ff_session.specs.Refusals.{Refuses}
+use Rattle.ff_session.specs.Sessions.{IsStep}
+use Rattle.ff_session.specs.Texts.{echo_line}
 use Rattle.ff.specs.declared.run.Status.{Status}
 use Rattle.ff.specs.declared.run.Status.TheVariants.{Done, Refused}
-use Rattle.ff.specs.Form.{AreIn}
-use Rattle.ff.specs.Answers.{Setting, Refusal, Refuses}
-use Rattle.ff.specs.Output.{Block, blocks_text, echo_line, refusal_line, end_line, IsAnswered, IsOut, IsPart, Blocks, Whole}
+use Rattle.ff.specs.Output.{Block, blocks_text, refusal_line, end_line, IsAnswered, IsOut, IsPart, Blocks, Whole}
 use Rattle.ff.specs.Printing.{Prints, BreaksOff, EndsAs, EndsWith}
-use Rattle.ff.specs.Sessions.{place_of, IsBlock}
 use Rattle.ff.proofs.Printing.{prints_join, breaks_later}
-use Rattle.ff.proofs.Runs.{answered_more, blocks_text_more, place_after}
+use Rattle.ff.proofs.Runs.{answered_more, blocks_text_more}
 
 -- what holds on an error, and what holds without one
 pub on_err : {A E : Type 0} (r : Result A E) (P : Type 0) → is_err r ≡ true → OnErr r P → P
@@ -26,25 +28,17 @@ on_ok (Err x) P e h = absurd (cc)
 pub rest_at : {X : Type 0} (ss : List X) (i : ℕ) (s : X) → i < length ss → s ≡ get_or ss i s → drop i ss ≡ s ∷ drop (i + 1) ss
 rest_at ss i s h e = drop_more ss i s h ∙ ap (λ t. t ∷ drop (i + 1) ss) (sym e)
 
--- the statements after one that is answered stand in their places
-pub places_after : (old new : Setting) (s : Statement) (rest : List Statement) (text : List ℕ)
-    → AreIn (place_of old) (s ∷ rest) → IsBlock old s text new → AreIn (place_of new) rest
-places_after old new s rest text h b = subst (λ p. AreIn p rest) (sym (place_after old s b.answer new h.0 b.is_true)) h.1
-
-block_of : (old new : Setting) (s : Statement) (text : List ℕ) → IsBlock old s text new → Block
-block_of old new s text b = record { statement = s; answer = b.answer }
-
 module _ {T : Type 0} (taken : T → Option (List ℕ)) (faults : T → ℕ) (free : T → Option ℕ) (ss : List Statement) (start : T) where
   -- a run that stops between two pieces
-  pub stopped : (blocks : List Block) (old : Setting) (rest : List Statement) (now : T)
+  pub stopped : (blocks : List Block) (old : SessionValue) (rest : List Statement) (now : T)
       → IsAnswered ss blocks old rest → Prints taken faults free start now (blocks_text blocks)
       → (text : List ℕ) × IsPart ss text × Prints taken faults free start now text
   stopped blocks old rest now h w = (blocks_text blocks, Blocks blocks old rest h, w)
 
-  module _ (blocks : List Block) (old : Setting) (s : Statement) (rest : List Statement) (now then : T)
+  module _ (blocks : List Block) (old : SessionValue) (s : Statement) (rest : List Statement) (now then : T)
       (h : IsAnswered ss blocks old (s ∷ rest)) (w : Prints taken faults free start now (blocks_text blocks)) where
     -- the sink fails in a block
-    pub broken : (new : Setting) (text : List ℕ) → IsBlock old s text new → BreaksOff taken faults free now then text
+    pub broken : (new : SessionValue) (text : List ℕ) → IsStep old s text new → BreaksOff taken faults free now then text
         → (all : List ℕ) × IsPart ss all × BreaksOff taken faults free start then all
     broken new text b k =
         let d : Block = record { statement = s; answer = b.answer } in
@@ -56,7 +50,7 @@ module _ {T : Type 0} (taken : T → Option (List ℕ)) (faults : T → ℕ) (fr
         )
 
     -- one more block is printed
-    pub printed_on : (new : Setting) (text : List ℕ) → IsBlock old s text new → Prints taken faults free now then text
+    pub printed_on : (new : SessionValue) (text : List ℕ) → IsStep old s text new → Prints taken faults free now then text
         → (more : List Block) × IsAnswered ss more new rest × Prints taken faults free start then (blocks_text more)
     printed_on new text b k =
         let d : Block = record { statement = s; answer = b.answer } in
@@ -86,7 +80,7 @@ module _ {T : Type 0} (taken : T → Option (List ℕ)) (faults : T → ℕ) (fr
         )
 
   -- every statement is answered
-  pub finished : (blocks : List Block) (old : Setting) (now then : T) → IsAnswered ss blocks old [] → Prints taken faults free start now (blocks_text blocks)
+  pub finished : (blocks : List Block) (old : SessionValue) (now then : T) → IsAnswered ss blocks old [] → Prints taken faults free start now (blocks_text blocks)
       → (text : List ℕ) (status : Status) → text ≡ end_line (length ss)
       → EndsWith taken faults free now then text Done status
       → EndsAs taken faults free (IsOut ss) (IsPart ss) start then status

@@ -2,11 +2,11 @@
 use Rattle.std.specs.Prelude.{◌≡◌, ℕ, List, [], ◌∷◌, ◌++◌, length, drop, codes, Option, Some}
 use Rattle.std.specs.Option.{ForSome}
 use Rattle.ff_io.specs.Streams.{Rose, Fills}
-use Rattle.ff.specs.declared.script.Statement.{Statement}
+use Rattle.ff_script.specs.declared.script.Statement.{Statement}
+use Rattle.ff_script.specs.Scripts.{IsScript}
+use Rattle.ff_session.specs.Settings.{SessionValue}
 use Rattle.ff.specs.declared.run.Status.{Status}
 use Rattle.ff.specs.declared.run.Status.TheVariants.{Done, Refused, ReadFault, WriteFault, WantOfMemory}
-use Rattle.ff.specs.Form.{IsScript}
-use Rattle.ff.specs.Answers.{Setting}
 use Rattle.ff.specs.Output.{Block, IsAnswered, IsOutput, IsBegun, blocks_text, end_line}
 use Rattle.ff.specs.Printing.{Prints, EndsAs}
 
@@ -21,7 +21,7 @@ usage_line = codes "usage: ff run [--bare] | ff check | ff sample N\n"
 pub record IsAnsweredWhole (bytes text : List ℕ) : Type 0 where
   pub statements : List Statement
   pub blocks : List Block
-  pub last : Setting
+  pub last : SessionValue
   pub script : IsScript bytes statements
   pub answered : IsAnswered statements blocks last []
   pub is : text ≡ blocks_text blocks ++ end_line (length blocks)

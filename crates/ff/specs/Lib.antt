@@ -1,9 +1,4 @@
-pub mod Answers
-pub mod Bound
 pub mod Commands
-pub mod Form
 pub mod Output
 pub mod Printing
-pub mod Reading
-pub mod Sessions
-pub mod Text
+pub mod Ready

@@ -2,15 +2,10 @@
 //! to standard output a block for each statement. `program::top` does the work, and says what is printed.
 #![tactic(auto)]
 
-mod curve;
-mod parse;
 mod program;
 mod run;
-mod script;
-mod session;
 #[cfg(test)]
 mod tests;
-mod text;
 
 use ff_io::adapters::{ReadSource, WriteSink};
 use program::top;

@@ -1,21 +1,20 @@
 //! Answers a script.
 
-ghost use Rattle.std.specs.Prelude.{◌≡◌, ◌≤◌, ◌++◌, codes, decimal, length, IfOk, OnOk, OnErr};
+ghost use Rattle.std.specs.Prelude.{◌≡◌, ◌≢◌, ◌≤◌, ◌++◌, length, All, IfOk, OnOk, OnErr};
+ghost use Rattle.ff_script.specs.Scripts.{IsInOrder};
+ghost use Rattle.ff_session.specs.declared.refusal.Refusal.{Refusal};
+ghost use Rattle.ff_session.specs.Texts.{echo_line};
 ghost use Rattle.ff.specs.Commands.{Runs};
-ghost use Rattle.ff.specs.Answers.{NoField};
-ghost use Rattle.ff.specs.declared.script.Place.TheVariants.{Start};
-ghost use Rattle.ff.specs.Form.{AreIn};
-ghost use Rattle.ff.specs.Output.{IsOut, IsPart, IsOutput, IsBegun, syntax_line, echo_line, fault_line, refusal_line, end_line};
+ghost use Rattle.ff.specs.Output.{IsOut, IsPart, IsOutput, IsBegun, syntax_line, misplaced_line, refusal_line, end_line};
 ghost use Rattle.ff.specs.Printing.{Prints, BreaksOff, EndsAs, EndsWith};
+ghost use Rattle.ff.specs.Ready.{IsReady};
 
-use crate::parse::{ScriptFault, read_script};
-use crate::script::Statement;
-use crate::session::{Refusal, Session, push_echo};
-use crate::text::{push_end, push_number};
-use ff_fields::fault::FieldFault;
 use ff_io::Failed;
 use ff_io::sink::{Sink, write_all};
 use ff_io::source::{ReadEnd, Source, read_all};
+use ff_script::{ScriptFault, Statement, parse};
+use ff_session::{Refusal, Session, push_echo, push_refusal};
+use ff_text::number::push_number;
 use std::alloc::{AllocError, Global};
 
 /// The most bytes that a script may have.
@@ -51,45 +50,15 @@ pub fn close<T: Sink>(out: &mut T, text: &[u8], status: Status) -> Status
     }
 }
 
-/// The line of a refused field.
-fn push_fault(out: &mut Vec<u8>, fault: FieldFault) -> Result<(), AllocError>
-    ensures { OnOk result (out.new.items ≡ out.old.items ++ fault_line fault) }
-{
-    match fault {
-        FieldFault::FieldSize(p, m) => push_pair(out, b"refused FieldSize ", p, m),
-        FieldFault::CodeRange(c) => push_code(out, b"refused CodeRange ", c),
-        FieldFault::NotMonic(c) => push_code(out, b"refused NotMonic ", c),
-        FieldFault::NotField(a, b) => push_pair(out, b"refused NotField ", a, b),
-    }
-}
-
-/// A line of a text and a number.
-fn push_code(out: &mut Vec<u8>, text: &[u8], c: u32) -> Result<(), AllocError>
-    ensures { OnOk result (out.new.items ≡ out.old.items ++ (text.now ++ (decimal c ++ codes "\n"))) }
-{
-    out.extend_from_slice(text)?;
-    push_number(out, c as u64)?;
-    out.extend_from_slice(b"\n")
-}
-
-/// A line of a text and two numbers.
-fn push_pair(out: &mut Vec<u8>, text: &[u8], a: u32, b: u32) -> Result<(), AllocError>
-    ensures { OnOk result (out.new.items ≡ out.old.items ++ (text.now ++ (decimal a ++ (codes " " ++ (decimal b ++ codes "\n"))))) }
-{
-    out.extend_from_slice(text)?;
-    push_number(out, a as u64)?;
-    out.extend_from_slice(b" ")?;
-    push_number(out, b as u64)?;
-    out.extend_from_slice(b"\n")
-}
-
 /// The echo and the refusal of a statement.
-fn refusal_text(alloc: Global, s: &Statement, fault: FieldFault) -> Result<Vec<u8>, AllocError>
-    ensures { IfOk result (λ text. text.items ≡ echo_line s.now ++ refusal_line (NoField fault)) }
+fn refusal_text(alloc: Global, s: &Statement, r: &Refusal) -> Result<Vec<u8>, AllocError>
+    requires { r.now ≢ Refusal.Memory }
+    ensures { IfOk result (λ text. text.items ≡ echo_line s.now ++ refusal_line r.now) }
 {
     let mut text = Vec::new(alloc);
     push_echo(&mut text, s)?;
-    push_fault(&mut text, fault)?;
+    push_refusal(&mut text, r)?;
+    text.extend_from_slice(b"\n")?;
     Ok(text)
 }
 
@@ -98,26 +67,31 @@ fn end_text(alloc: Global, blocks: u64) -> Result<Vec<u8>, AllocError>
     ensures { IfOk result (λ text. text.items ≡ end_line blocks) }
 {
     let mut text = Vec::new(alloc);
-    push_end(&mut text, blocks)?;
+    text.extend_from_slice(b"end ")?;
+    push_number(&mut text, blocks)?;
+    text.extend_from_slice(b"\n")?;
     Ok(text)
 }
 
 /// Answers the statements in order, and prints each block as it is made.
 pub fn run_script<T: Sink>(alloc: Global, script: &[Statement], out: &mut T) -> Status
-    requires { AreIn Start script.now }
+    requires order { IsInOrder script.now }
+    requires ready { All IsReady script.now }
     ensures { EndsAs T.taken T.faults T.free (IsOut script.now) (IsPart script.now) out.old out.new result }
 {
-    let mut session = Session::new();
+    let mut session = Session::new(alloc, true, 0);
     for s in script {
-        match session.step(alloc, s) {
+        match session.step(s) {
             Ok(text) => {
                 if print(out, text.as_slice()).is_err() {
                     return Status::WriteFault;
                 }
             }
-            Err(Refusal::Memory) => return Status::WantOfMemory,
-            Err(Refusal::NoField(fault)) => {
-                let Ok(text) = refusal_text(alloc, s, fault) else {
+            Err(r) => {
+                if r.is_memory() {
+                    return Status::WantOfMemory;
+                }
+                let Ok(text) = refusal_text(alloc, s, &r) else {
                     return Status::WantOfMemory;
                 };
                 return close(out, text.as_slice(), Status::Refused);
@@ -136,20 +110,37 @@ fn syntax_text(alloc: Global, line: u32) -> Result<Vec<u8>, AllocError>
 {
     let mut text = Vec::new(alloc);
     text.extend_from_slice(b"refused Syntax ")?;
-    push_number(&mut text, line as u64)?;
+    push_number(&mut text, u64::from(line))?;
     text.extend_from_slice(b"\n")?;
     Ok(text)
 }
 
-/// Answers a script, or says which line isn't in the form.
+/// The line of a script's first statement out of order.
+fn misplaced_text(alloc: Global, line: u32) -> Result<Vec<u8>, AllocError>
+    ensures { IfOk result (λ text. text.items ≡ misplaced_line line) }
+{
+    let mut text = Vec::new(alloc);
+    text.extend_from_slice(b"refused Misplaced ")?;
+    push_number(&mut text, u64::from(line))?;
+    text.extend_from_slice(b"\n")?;
+    Ok(text)
+}
+
+/// Answers a script, or says which line isn't in the grammar or out of order.
 fn run_bytes<T: Sink>(alloc: Global, bytes: &[u8], out: &mut T) -> Status
     requires { length bytes.now ≤ 65536 }
     ensures { EndsAs T.taken T.faults T.free (IsOutput bytes.now) (IsBegun bytes.now) out.old out.new result }
 {
-    match read_script(alloc, bytes) {
+    match parse(alloc, bytes) {
         Ok(script) => run_script(alloc, script.as_slice(), out),
         Err(ScriptFault::Syntax(line)) => {
             let Ok(text) = syntax_text(alloc, line) else {
+                return Status::WantOfMemory;
+            };
+            close(out, text.as_slice(), Status::Refused)
+        }
+        Err(ScriptFault::Misplaced(line)) => {
+            let Ok(text) = misplaced_text(alloc, line) else {
                 return Status::WantOfMemory;
             };
             close(out, text.as_slice(), Status::Refused)

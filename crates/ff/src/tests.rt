@@ -43,8 +43,24 @@ fn one(alloc: Global, call: u64) -> Result<Vec<u64>, AllocError> {
 #[test]
 fn scripts_and_outputs(rt: HostRuntime) -> Result<(), Fail> {
     let alloc = rt.alloc();
-    let rows: [(&[u8], Status, &[u8]); 13] = [
+    let rows: [(&[u8], Status, &[u8]); 34] = [
         (b"", Status::Done, b"end 0\n"),
+        (
+            b"field 6\n",
+            Status::Refused,
+            b"> field 6\nrefused FieldSize 6 1\n",
+        ),
+        (b"field 13\n", Status::Done, b"> field 13\n= q 13\nend 1\n"),
+        (
+            b"field 17\n",
+            Status::Refused,
+            b"> field 17\nrefused FieldSize 17 1\n",
+        ),
+        (
+            b"field 0\n",
+            Status::Refused,
+            b"> field 0\nrefused FieldSize 0 1\n",
+        ),
         (
             b"field 2 2 1 0 1\n",
             Status::Refused,
@@ -75,28 +91,117 @@ fn scripts_and_outputs(rt: HostRuntime) -> Result<(), Fail> {
             Status::Refused,
             b"> field 3 2 1 0 3\nrefused CodeRange 3\n",
         ),
-        // With s^3 = s + 1, (s^2·y)^2 = s^4·y^2 = (s^2 + s)·(x + 1), since y^2 = x + 1: the code of s^2 + s is 6.
+        // With s^3 = s + 1, (s^2·y)^2 = s^4·y^2 = (s^2 + s)·(y + x + 1), since y^2 = y + x + 1: the code of s^2 + s is 6.
         (
-            b"field 2 3 1 1 0 1\ncurve y^2 + x + 1\nmul [0, 4] [0, 4]\n",
+            b"field 2 3 1 1 0 1\ncurve y^2 + y + x + 1\nmul [0, 4] [0, 4]\n",
             Status::Done,
-            b"> field 2 3 1 1 0 1\n= q 8\n> curve y^2 + x + 1\n= n 2 c 1\n> mul [0, 4] [0, 4]\n= [6*x + 6, 0]\nend 3\n",
+            b"> field 2 3 1 1 0 1\n= q 8\n> curve y^2 + y + x + 1\n= n 2 c 1\n> mul [0, 4] [0, 4]\n= [6*x + 6, 6]\nend 3\n",
         ),
         (
-            b"field 6\n",
+            b"field 2 3 1 1 0 1\ncurve y^2 + x + 1\n",
             Status::Refused,
-            b"> field 6\nrefused FieldSize 6 1\n",
+            b"> field 2 3 1 1 0 1\n= q 8\n> curve y^2 + x + 1\nrefused NotSeparable\n",
         ),
-        (b"field 13\n", Status::Done, b"> field 13\n= q 13\nend 1\n"),
         (
-            b"field 17\n",
-            Status::Refused,
-            b"> field 17\nrefused FieldSize 17 1\n",
+            b"field 7\ncurve y^2 - x^3 - 1\nmul [0, 1] [0, 1]\n",
+            Status::Done,
+            b"> field 7\n= q 7\n> curve y^2 - x^3 - 1\n= n 2 c 2\n> mul [0, 1] [0, 1]\n= [x^3 + 1, 0]\nend 3\n",
         ),
-        (FIRST, Status::Done, FIRST_OUTPUT),
         (
             b"field 2\ncurve y^3 + x*y + x^5\nmul [1, x, x^2] [x, 0, 1]\n",
             Status::Done,
             b"> field 2\n= q 2\n> curve y^3 + x*y + x^5\n= n 3 c 2\n> mul [1, x, x^2] [x, 0, 1]\n= [x^6 + x, x^7, 1]\nend 3\n",
+        ),
+        (
+            b"field 7\ncurve y^2 + 2*x*y + x^2\n",
+            Status::Refused,
+            b"> field 7\n= q 7\n> curve y^2 + 2*x*y + x^2\nrefused NotSeparable\n",
+        ),
+        (
+            b"field 7\ncurve y^5 + x\n",
+            Status::Refused,
+            b"> field 7\n= q 7\n> curve y^5 + x\nrefused LimitY 5\n",
+        ),
+        (
+            b"field 7\ncurve y + x\n",
+            Status::Refused,
+            b"> field 7\n= q 7\n> curve y + x\nrefused LimitY 1\n",
+        ),
+        (
+            b"field 7\ncurve y^2 + x^33\n",
+            Status::Refused,
+            b"> field 7\n= q 7\n> curve y^2 + x^33\nrefused LimitX 33\n",
+        ),
+        (
+            b"field 7\ncurve 2*y^2 + x\n",
+            Status::Refused,
+            b"> field 7\n= q 7\n> curve 2*y^2 + x\nrefused NotMonic 2\n",
+        ),
+        (
+            b"field 7\ncurve y^3 + x^22*y + 1\n",
+            Status::Refused,
+            b"> field 7\n= q 7\n> curve y^3 + x^22*y + 1\nrefused LimitDisc 66\n",
+        ),
+        (
+            b"field 7\ncurve y^2 + 9*x\n",
+            Status::Refused,
+            b"> field 7\n= q 7\n> curve y^2 + 9*x\nrefused CodeRange 9\n",
+        ),
+        (
+            b"field 7\ncurve y^3 + x^32\n",
+            Status::Done,
+            b"> field 7\n= q 7\n> curve y^3 + x^32\n= n 3 c 11\nend 2\n",
+        ),
+        (
+            b"field 3\ncurve y^4 + x^19*y^3 + 1\n",
+            Status::Refused,
+            b"> field 3\n= q 3\n> curve y^4 + x^19*y^3 + 1\nrefused LimitInf 228\n",
+        ),
+        (
+            b"field 7\ncurve y^2 + 6*x^3 + 6\nmul [1, 0, 0] [0, 1]\n",
+            Status::Refused,
+            b"> field 7\n= q 7\n> curve y^2 + 6*x^3 + 6\n= n 2 c 2\n> mul [1, 0, 0] [0, 1]\nrefused Length 3\n",
+        ),
+        (
+            b"field 7\ncurve y^2 + 6*x^3 + 6\nmul [0, 1] [0]\n",
+            Status::Refused,
+            b"> field 7\n= q 7\n> curve y^2 + 6*x^3 + 6\n= n 2 c 2\n> mul [0, 1] [0]\nrefused Length 1\n",
+        ),
+        (
+            b"field 7\ncurve y^2 + 6*x^3 + 6\nmul [0, x^512] [0, x^512]\n",
+            Status::Refused,
+            b"> field 7\n= q 7\n> curve y^2 + 6*x^3 + 6\n= n 2 c 2\n> mul [0, x^512] [0, x^512]\nrefused LimitDegree 1027\n",
+        ),
+        (
+            b"field 7\ncurve y^2 + 6*x^3 + 6\nmul [0, x^513] [0, 1]\n",
+            Status::Refused,
+            b"> field 7\n= q 7\n> curve y^2 + 6*x^3 + 6\n= n 2 c 2\n> mul [0, x^513] [0, 1]\nrefused LimitX 513\n",
+        ),
+        (
+            b"field 7\ncurve y^2 + 6*x^3 + 6\nmul [0, 7] [0, 1]\n",
+            Status::Refused,
+            b"> field 7\n= q 7\n> curve y^2 + 6*x^3 + 6\n= n 2 c 2\n> mul [0, 7] [0, 1]\nrefused CodeRange 7\n",
+        ),
+        (
+            b"field 7\ncurve y^2 + 6*x^3 + 6\nmul [x^600, 0, 8] [9, 1]\n",
+            Status::Refused,
+            b"> field 7\n= q 7\n> curve y^2 + 6*x^3 + 6\n= n 2 c 2\n> mul [x^600, 0, 8] [9, 1]\nrefused CodeRange 8\n",
+        ),
+        (
+            b"field 7\ncurve y^2 + 6*x^3 + 6\nmul [x^513, 1] [9, 1]\n",
+            Status::Refused,
+            b"> field 7\n= q 7\n> curve y^2 + 6*x^3 + 6\n= n 2 c 2\n> mul [x^513, 1] [9, 1]\nrefused LimitX 513\n",
+        ),
+        (FIRST, Status::Done, FIRST_OUTPUT),
+        (
+            b"\n# E7\n  field\t7  \n curve y ^ 2+6 * x^3 + 6 \r\nmul[0,1][ 0 , 1 ]\n",
+            Status::Done,
+            b"> field 7\n= q 7\n> curve y^2 + 6*x^3 + 6\n= n 2 c 2\n> mul [0, 1] [0, 1]\n= [x^3 + 1, 0]\nend 3\n",
+        ),
+        (
+            b"field 7\ncurve y^2 + x\n",
+            Status::Done,
+            b"> field 7\n= q 7\n> curve y^2 + x\n= n 2 c 1\nend 2\n",
         ),
     ];
     for (script, status, output) in rows {
@@ -110,34 +215,37 @@ fn scripts_and_outputs(rt: HostRuntime) -> Result<(), Fail> {
 }
 
 #[test]
-fn first_bad_line(rt: HostRuntime) -> Result<(), Fail> {
+fn first_bad_or_misplaced_line(rt: HostRuntime) -> Result<(), Fail> {
     let alloc = rt.alloc();
-    let rows: [(&[u8], &[u8]); 19] = [
-        (b"field 7", b"refused Syntax 1\n"),
+    let rows: [(&[u8], &[u8]); 16] = [
         (b"field 2 2 1 1\n", b"refused Syntax 1\n"),
         (b"field 2 2 1 1 1 0\n", b"refused Syntax 1\n"),
-        (b"field 2 2 1 01 1\n", b"refused Syntax 1\n"),
-        (b"field 2 02 1 1 1\n", b"refused Syntax 1\n"),
-        (b"field 2 2  1 1 1\n", b"refused Syntax 1\n"),
-        (b"field 0\n", b"refused Syntax 1\n"),
-        (b"field 2 2 1 1 1\ncurve y^2 + 4*x\n", b"refused Syntax 2\n"),
-        (b"field 07\n", b"refused Syntax 1\n"),
-        (b"field 7 \n", b"refused Syntax 1\n"),
-        (b"field 70000\n", b"refused Syntax 1\n"),
-        (b"\n", b"refused Syntax 1\n"),
+        (b"field -7\n", b"refused Syntax 1\n"),
         (b"field 7\x00\n", b"refused Syntax 1\n"),
-        (b"field 7\ncurve y^2 + x^1\n", b"refused Syntax 2\n"),
-        (b"field 7\ncurve y^2 + x*6\n", b"refused Syntax 2\n"),
-        (b"field 7\ncurve y^2 + 7\n", b"refused Syntax 2\n"),
+        (b"field7\n", b"refused Syntax 1\n"),
+        (b"\nfield 7\ncurve y^2 + \n", b"refused Syntax 3\n"),
         (
-            b"field 7\ncurve y^2 + x\nmul [0, 1] [0]\n",
+            b"field 7\ncurve y^2 + x\nmul [0 1] [0, 1]\n",
             b"refused Syntax 3\n",
         ),
         (
-            b"field 7\ncurve y^2 + x\nmul [0, 1] [0, 1]\nfield 7\n",
-            b"refused Syntax 4\n",
+            b"field 7\ncurve y^2 + x\nmul [0, y] [0, 1]\n",
+            b"refused Syntax 3\n",
         ),
-        (b"field 17\ncurve y^2 + 17\n", b"refused Syntax 2\n"),
+        (
+            b"field 7\ncurve y^2 + x\nmul [1, 0]/x [0, 1]\n",
+            b"refused Syntax 3\n",
+        ),
+        (b"field 7\ncurve y^2 + 1000000000\n", b"refused Syntax 2\n"),
+        (b"mul [0] [0]\nnothing\n", b"refused Syntax 2\n"),
+        (b"mul [0] [0]\n", b"refused Misplaced 1\n"),
+        (b"field 7\nmul [0] [0]\n", b"refused Misplaced 2\n"),
+        (b"\ncurve y^2 + x\n", b"refused Misplaced 2\n"),
+        (
+            b"field 7\ncurve y^2 + x\nfield 7\n",
+            b"refused Misplaced 3\n",
+        ),
+        (b"field 7\nfield 7\n", b"refused Misplaced 2\n"),
     ];
     for (script, output) in rows {
         let (ended, out) = ran(alloc, "run", script, Vec::new(alloc), Vec::new(alloc), 16)?;
@@ -159,21 +267,29 @@ fn usage_without_reading(rt: HostRuntime) -> Result<(), Fail> {
     Ok(())
 }
 
-#[test]
-fn one_byte_past_the_limit(rt: HostRuntime) -> Result<(), Fail> {
-    let alloc = rt.alloc();
+/// A run over so many line feeds: its status, what was printed, and how many bytes were read.
+fn ran_feeds(alloc: Global, count: usize) -> Result<(Status, MemSink, usize), AllocError> {
     let mut words = Vec::new(alloc);
     words.push("run".to_string(alloc)?)?;
     let mut feeds = Vec::new(alloc);
-    feeds.resize(65_540, b'\n')?;
+    feeds.resize(count, b'\n')?;
     let mut src = MemSource::new(feeds, Vec::new(alloc), 1000);
     let mut out = MemSink::new(alloc, 100, Vec::new(alloc), 100)?;
-    assert_eq!(rt;
-        top(alloc, words.as_slice(), &mut src, &mut out),
-        Status::Refused
-    );
+    let status = top(alloc, words.as_slice(), &mut src, &mut out);
+    Ok((status, out, src.place()))
+}
+
+#[test]
+fn line_feeds(rt: HostRuntime) -> Result<(), Fail> {
+    let alloc = rt.alloc();
+    let (status, out, place) = ran_feeds(alloc, 65_540)?;
+    assert_eq!(rt; status, Status::Refused);
     assert_eq!(rt; out.taken(), b"refused TooLong 65536\n".as_slice());
-    assert_eq!(rt; src.place(), 65_537);
+    assert_eq!(rt; place, 65_537);
+    let (status, out, place) = ran_feeds(alloc, 65_536)?;
+    assert_eq!(rt; status, Status::Done);
+    assert_eq!(rt; out.taken(), b"end 0\n".as_slice());
+    assert_eq!(rt; place, 65_536);
     Ok(())
 }
 

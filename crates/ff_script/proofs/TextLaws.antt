@@ -5,7 +5,7 @@ use Rattle.std.proofs.lemmas.Fmt.{decimal_is_IsNumeral, length-decimal-le}
 use Rattle.ff_text.specs.Spelling.{SpellsNumber, SpellsTerms}
 use Rattle.ff_text.proofs.ReadTerms.{one_polynomial}
 use Rattle.ff_text.proofs.ReadElement.{one_element}
-use Rattle.ff_text.proofs.Written.{terms_written, element_written}
+use Rattle.ff_text.proofs.Spelled.{terms_written, element_written}
 use Rattle.ff_script.proofs.OneLine.{OneValue, same_statement}
 use Rattle.ff_script.proofs.OneScript.{IsOneLine}
 use Rattle.ff_script.proofs.Printed.{AreSpelled}

@@ -1,5 +1,0 @@
-use Rattle.ff.proofs.InfinityNumbers.{IsNumberBelow}
-use Rattle.ff.proofs.curve.infinity_number.Given as goal
-
-abbrev pub invariant-loop-i : goal.invariant-loop-i
-invariant-loop-i l = IsNumberBelow l.f l.i l.c

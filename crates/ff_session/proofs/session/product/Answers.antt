@@ -1,0 +1,28 @@
+use Rattle.std.proofs.Common.{subst, inl, inr}
+use Rattle.std.proofs.lemmas.Result.{err_from_is_err_and}
+use Rattle.ff_session.specs.Refusals.{IsElementRow}
+use Rattle.ff_session.specs.Elements.{IsElementRead}
+use Rattle.ff_session.proofs.WholeElements.{product_read}
+use Rattle.ff_session.proofs.session.product.Goals as goal
+
+pub returns-in_err-left-clause-refused : goal.returns-in_err-left-clause-refused
+returns-in_err-left-clause-refused g c =
+    let k = g.K.SmallField.field c.args.k.now in
+    let e = err_from_is_err_and c.from_residual.result c.from_residual.ensures.1 in
+    rw (e.1, e.2) (λ some. inl (subst (λ n. IsElementRow k.ops n c.args.a.now c.in_err-left.field-0.0) c.n.ensures.n (c.in_err-left.ensures.refused some)))
+
+pub returns-in_err-right-clause-refused : goal.returns-in_err-right-clause-refused
+returns-in_err-right-clause-refused g c =
+    let k = g.K.SmallField.field c.args.k.now in
+    let e = err_from_is_err_and c.from_residual-in_err-right.result c.from_residual-in_err-right.ensures.1 in
+    let read = subst (λ n. IsElementRead k n c.args.a.now c.in_ok-left.left) c.n.ensures.n c.in_ok-left.ensures.read in
+    rw (e.1, e.2) (λ some. inr (read.within, subst (λ n. IsElementRow k.ops n c.args.b.now c.in_err-right.field-0.0) c.n-2.ensures.n (c.in_err-right.ensures.refused some)))
+
+pub returns-clause-product : goal.returns-clause-product
+returns-clause-product g c =
+    let k = g.K.SmallField.field c.args.k.now in
+    let f = c.args.f.now in
+    product_read k f c.args.a.now c.args.b.now c.in_ok-left.left c.in_ok-right.right c.in_ok-mul.field-0
+    (subst (λ n. IsElementRead k n c.args.a.now c.in_ok-left.left) c.n.ensures.n c.in_ok-left.ensures.read)
+    (subst (λ n. IsElementRead k n c.args.b.now c.in_ok-right.right) c.n-2.ensures.n c.in_ok-right.ensures.read)
+    c.in_ok-mul.ensures.product c.in_ok-mul.ensures.den c.in_ok-mul.ensures.in_range c.in_ok-mul.ensures.monic

@@ -1,0 +1,9 @@
+pub mod Settings
+pub mod Meaning
+pub mod Answers
+pub mod Texts
+pub mod Refusals
+pub mod Sessions
+pub mod Bound
+pub mod Elements
+pub mod Steps

@@ -1,0 +1,14 @@
+//! Sessions: what the statements of a script bind and answer, block by block, and when a statement is refused.
+#![tactic(auto)]
+
+mod answers;
+mod elements;
+pub mod refusal;
+pub mod session;
+
+pub use answers::push_echo;
+pub use refusal::{Refusal, push_refusal, refusal_text};
+pub use session::Session;
+
+#[cfg(test)]
+mod tests;
