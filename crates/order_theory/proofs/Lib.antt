@@ -1,0 +1,4 @@
+pub mod Parts
+pub mod Lattices
+pub mod Indices
+pub mod Between
