@@ -1,6 +1,6 @@
 -- A module between two lattices whose membership is decided is a lattice: k is finite, so finitely many functions represent the larger
 -- lattice modulo the smaller one.
-use Rattle.std.proofs.Common.{◌≡◌, All, ℕ, zero, suc, List, [], ◌∷◌, ◌++◌, inl, inr, ◌⊎◌, refl, sym, ◌∙◌, ap, ap₂, subst}
+use Rattle.std.proofs.Common.{◌≡◌, All, ℕ, suc, List, [], ◌∷◌, ◌++◌, inl, inr, refl, sym, ◌∙◌, ap, subst}
 use Rattle.std.proofs.lemmas.List.Elements.{All-cons, All-nil, All-append, All-head, All-tail, All-weaker}
 use Rattle.ff_ring.specs.Subsets.{IsModule, Span}
 use Rattle.ff_ring.proofs.Subsets.{span_head, span_append_left, span_append_right, span_least, span_module}
@@ -8,16 +8,14 @@ use Rattle.ff_ring.proofs.Ring.{zero_add}
 use Rattle.ff_ring.proofs.Solver.{ring, reads}
 use Rattle.ff_ring.proofs.Finite.{In}
 use Rattle.linear_theory.specs.Module.{combine}
-use Rattle.linear_theory.specs.Basis.{IsCombination}
-use Rattle.linear_theory.proofs.Bases.{combine_in}
 use Rattle.ff_fields.specs.Field.{CodeField}
-use Rattle.ff_fields.specs.Code.{Code, code_ring}
+use Rattle.ff_fields.specs.Code.{Code}
 use Rattle.ff_algebra.specs.Functions.{Equation, FunctionOf, ring_of, IsPolynomial}
 use Rattle.ff_algebra.proofs.ScalarRings.{polynomials_subring}
 use Rattle.places_theory.proofs.CodeFields.{code_finite}
 use Rattle.order_theory.specs.Lattices.{IsLattice, space_ops, HasIndex}
 use Rattle.order_theory.proofs.Lattices.{lattice_module, lattice_generators}
-use Rattle.order_theory.proofs.Indices.{codes, space, code_of, lattice_subspace, index_of}
+use Rattle.order_theory.proofs.Indices.{code_of, lattice_subspace, index_of}
 
 module _ {k : CodeField} (c : Equation k) where
   infixl 65 ◌⊕◌

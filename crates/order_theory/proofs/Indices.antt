@@ -1,8 +1,7 @@
 -- The index of a lattice in another: it exists, is one number, adds along chains, and is 0 only for equal lattices.
-use Rattle.std.proofs.Common.{◌≡◌, ◌≢◌, ℕ, zero, suc, ◌+◌, ◌<◌, List, [], ◌∷◌, ◌++◌, length, map, refl, sym, ◌∙◌, ap, ap₂, subst, arith}
+use Rattle.std.proofs.Common.{◌≡◌, ℕ, zero, suc, ◌+◌, ◌<◌, List, [], ◌∷◌, ◌++◌, length, map, refl, sym, ◌∙◌, ap, ap₂, subst, arith}
 use Rattle.std.proofs.lemmas.List.{length-append, length-map}
 use Rattle.std.proofs.lemmas.List.Elements.{All-map, All-from_get_or, All-nil}
-use Rattle.ff_ring.specs.Ring.{CommRing}
 use Rattle.ff_ring.specs.Lists.{tail_of}
 use Rattle.ff_ring.specs.Subsets.{IsModule}
 use Rattle.ff_ring.proofs.Ring.{neg_unique, add_sub, zero_add}
@@ -28,7 +27,7 @@ use Rattle.ff_algebra.proofs.OnSide.{of_poly_zero}
 use Rattle.places_theory.proofs.YRoot.{poly_hom}
 use Rattle.order_theory.specs.Lattices.{IsLattice, space_ops, HasIndex}
 use Rattle.order_theory.proofs.Parts.{Rows, module_of, part, part_add, part_scale, part_zero}
-use Rattle.order_theory.proofs.Lattices.{AtDen, BothAt, two_lattices, lattice_module}
+use Rattle.order_theory.proofs.Lattices.{AtDen, two_lattices, lattice_module}
 
 module _ (k : CodeField) where
   abbrev pub codes : Field (Code k)

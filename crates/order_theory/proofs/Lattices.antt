@@ -1,5 +1,5 @@
 -- Lattices over a denominator as spans of rows: membership is decided, and one denominator serves two lattices.
-use Rattle.std.proofs.Common.{◌≡◌, All, ℕ, List, [], ◌∷◌, map, inl, inr, ◌⊎◌, refl, sym, ◌∙◌, ap, subst}
+use Rattle.std.proofs.Common.{◌≡◌, All, List, [], ◌∷◌, map, inl, inr, ◌⊎◌, refl, sym, subst}
 use Rattle.std.proofs.lemmas.List.Elements.{All-weaker}
 use Rattle.ff_ring.specs.Subsets.{IsModule, Span}
 use Rattle.ff_ring.proofs.Subsets.{span_module, span_members}
@@ -10,13 +10,13 @@ use Rattle.popov_theory.proofs.Existence.{popov_basis}
 use Rattle.popov_theory.proofs.Division.{in_span_or_not}
 use Rattle.popov_theory.proofs.Reduction.{Reduced, reduce, reduced_span}
 use Rattle.ff_fields.specs.Field.{CodeField}
-use Rattle.ff_fields.specs.Code.{code_ring, code_field}
+use Rattle.ff_fields.specs.Code.{code_field}
 use Rattle.ff_poly.specs.Polynomials.{Polynomial, polynomials, polynomials_domain}
 use Rattle.ff_ring.proofs.Ring.{product_not_zero}
-use Rattle.ff_algebra.specs.Functions.{Equation, FunctionOf, ring_of, of_poly, IsPolynomial}
+use Rattle.ff_algebra.specs.Functions.{Equation, FunctionOf, ring_of, IsPolynomial}
 use Rattle.ff_algebra.proofs.ScalarRings.{polynomials_subring}
-use Rattle.order_theory.specs.Lattices.{IsLattice, HasMultiple}
-use Rattle.order_theory.proofs.Parts.{Rows, module_of, part, part_scale, part_same, span_of_rows, rows_of_span, rows_of_part, OverOne, more, Common, common}
+use Rattle.order_theory.specs.Lattices.{IsLattice}
+use Rattle.order_theory.proofs.Parts.{Rows, module_of, part, part_scale, span_of_rows, rows_of_span, rows_of_part, OverOne, more, Common, common}
 
 module _ {k : CodeField} (c : Equation k) where
   infixl 65 ◌⊕◌

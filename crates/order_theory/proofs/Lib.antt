@@ -2,3 +2,4 @@ pub mod Parts
 pub mod Lattices
 pub mod Indices
 pub mod Between
+pub mod Operations
