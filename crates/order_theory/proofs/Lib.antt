@@ -3,3 +3,4 @@ pub mod Lattices
 pub mod Indices
 pub mod Between
 pub mod Operations
+pub mod IntegralLattice
