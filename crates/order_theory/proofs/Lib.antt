@@ -4,3 +4,5 @@ pub mod Indices
 pub mod Between
 pub mod Operations
 pub mod IntegralLattice
+pub mod Bases
+pub mod LocalOrders

@@ -5,7 +5,7 @@ use Rattle.ff_ring.specs.Subsets.{Span}
 use Rattle.ff_ring.proofs.Evaluate.{constant}
 use Rattle.local_theory.specs.Ideals.{SameSet}
 use Rattle.linear_theory.specs.Module.{ModuleOps, restricted_ops}
-use Rattle.linear_theory.specs.Basis.{IsBasis}
+use Rattle.linear_theory.specs.Basis.{IsBasis, IsNull}
 use Rattle.ff_fields.specs.Field.{CodeField}
 use Rattle.ff_fields.specs.Code.{Code, code_ring}
 use Rattle.ff_poly.specs.Polynomials.{Polynomial, polynomials}
@@ -27,6 +27,14 @@ module _ {k : CodeField} (c : Equation k) where
   -- the functions as a vector space over k
   abbrev pub space_ops : ModuleOps (Code k) (FunctionOf c)
   space_ops = restricted_ops (ring_of c).ops (λ a. of_poly c (constant (code_ring k) a))
+
+  -- the functions as a module over the polynomials
+  abbrev pub polynomial_ops : ModuleOps (Polynomial k) (FunctionOf c)
+  polynomial_ops = restricted_ops (ring_of c).ops (of_poly c)
+
+  -- a basis of L over the polynomials: each member is a combination of the list, in one way only
+  abbrev pub IsBasisOf : (FunctionOf c → Type 0) → List (FunctionOf c) → Type 0
+  IsBasisOf L bs = IsBasis (polynomials k).ops polynomial_ops (IsNull polynomial_ops) L bs
 
   -- B has the dimension g over k modulo A: a list of g functions is a basis of B modulo A
   pub record HasIndex (A B : FunctionOf c → Type 0) (g : ℕ) : Type 0 where

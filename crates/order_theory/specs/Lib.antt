@@ -1,1 +1,2 @@
 pub mod Lattices
+pub mod Orders

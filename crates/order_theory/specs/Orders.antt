@@ -1,0 +1,20 @@
+-- Orders of F: lattices that are rings; and what is prime to a polynomial.
+use Rattle.std.specs.Prelude.{◌≡◌}
+use Rattle.ff_ring.specs.Subsets.{IsSubring}
+use Rattle.linear_theory.specs.Euclidean.{IsDivisor}
+use Rattle.ff_fields.specs.Field.{CodeField}
+use Rattle.ff_poly.specs.Polynomials.{Polynomial, polynomials}
+use Rattle.ff_algebra.specs.Functions.{Equation, FunctionOf, ring_of, of_poly}
+use Rattle.order_theory.specs.Lattices.{IsLattice}
+
+module _ {k : CodeField} (c : Equation k) where
+  -- a lattice with 1 that is closed under products
+  pub record IsOrder (O : FunctionOf c → Type 0) : Type 0 where
+    pub lattice : IsLattice c O
+    pub ring : IsSubring (ring_of c).ops O
+
+  -- a polynomial that p doesn't divide
+  pub record IsPrimeTo (p : Polynomial k) (z : FunctionOf c) : Type 0 where
+    pub polynomial : Polynomial k
+    pub not_divided : ¬ IsDivisor (polynomials k).ops p polynomial
+    pub value : z ≡ of_poly c polynomial
