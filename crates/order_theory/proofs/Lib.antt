@@ -6,3 +6,4 @@ pub mod Operations
 pub mod IntegralLattice
 pub mod Bases
 pub mod LocalOrders
+pub mod Classes
