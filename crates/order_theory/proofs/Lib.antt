@@ -7,3 +7,4 @@ pub mod IntegralLattice
 pub mod Bases
 pub mod LocalOrders
 pub mod Classes
+pub mod ReductionAt
