@@ -45,12 +45,12 @@ module _ {A C : Type 0} (R : CommRing A) (O : A → Type 0) (𝓞 : IsSubring R.
   neg_step : (a u : A) → ⊖ 𝟙 ⊗ (u ⊕ ⊖ a) ≡ ⊖ u ⊕ ⊖ (⊖ a)
   neg_step a u = ring R (a ∷ u ∷ []) λ q i. simp (reads, q, i 0, i 1) (q.equal _ _ refl)
 
-  add_class : (a b : A) → O a → O b → reduce (lift (reduce a) ⊕ lift (reduce b)) ≡ reduce (a ⊕ b)
+  pub add_class : (a b : A) → O a → O b → reduce (lift (reduce a) ⊕ lift (reduce b)) ≡ reduce (a ⊕ b)
   add_class a b a_in b_in =
       h.same _ _ (𝓞.sum_in _ _ (h.lift_in (reduce a)) (h.lift_in (reduce b))) (𝓞.sum_in a b a_in b_in)
       (subst (Multiple R.ops p O) (add_step a b (lift (reduce a)) (lift (reduce b))) (𝓟.sum_in _ _ (back a a_in) (back b b_in)))
 
-  mul_class : (a b : A) → O a → O b → reduce (lift (reduce a) ⊗ lift (reduce b)) ≡ reduce (a ⊗ b)
+  pub mul_class : (a b : A) → O a → O b → reduce (lift (reduce a) ⊗ lift (reduce b)) ≡ reduce (a ⊗ b)
   mul_class a b a_in b_in =
       h.same _ _ (𝓞.product_in _ _ (h.lift_in (reduce a)) (h.lift_in (reduce b))) (𝓞.product_in a b a_in b_in)
       (subst (Multiple R.ops p O) (mul_step a b (lift (reduce a)) (lift (reduce b)))
@@ -67,7 +67,7 @@ module _ {A C : Type 0} (R : CommRing A) (O : A → Type 0) (𝓞 : IsSubring R.
   abbrev times : C → C → C
   times x y = reduce (lift x ⊗ lift y)
 
-  pub class_ring : IsSet C → CommRing C
+  abbrev pub class_ring : IsSet C → CommRing C
   class_ring set = record {
     ops = class_ops;
     is_set = set;

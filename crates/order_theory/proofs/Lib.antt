@@ -8,3 +8,4 @@ pub mod Bases
 pub mod LocalOrders
 pub mod Classes
 pub mod ReductionAt
+pub mod PrimesOver

@@ -31,7 +31,7 @@ use Rattle.order_theory.proofs.Bases.{index_of_multiple}
 use Rattle.order_theory.proofs.Classes.{HasRepresentatives, class_ring}
 
 -- equality of rows of codes is decided
-code_rows : (k : CodeField) (n : ℕ) (v w : Row (Code k) n) → Dec (v ≡ w)
+pub code_rows : (k : CodeField) (n : ℕ) (v w : Row (Code k) n) → Dec (v ≡ w)
 code_rows k zero v w = yes refl
 code_rows k (suc n) (a, v) (b, w) = go ((code_finite k).decide a b) (code_rows k n v w)
   where
@@ -99,7 +99,7 @@ module _ {k : CodeField} (c : Equation k) (p : Polynomial k) (h : IsIrreducible 
   abbrev pub Classes : Type 0
   Classes = Row (Code k) (length index_of_p.basis)
 
-  pub lift : Classes → FunctionOf c
+  unfoldable pub lift : Classes → FunctionOf c
   lift x = combine (space_ops c) (λ i. entry (code_ring k).ops (length index_of_p.basis) i x) index_of_p.basis
 
   coordinates : (z : FunctionOf c) → Dec (O z) → ℕ → Code k
@@ -183,5 +183,5 @@ module _ {k : CodeField} (c : Equation k) (p : Polynomial k) (h : IsIrreducible 
       lift_in x = combine_in (codes k) (space c) O (lattice_subspace c O 𝓞.lattice) _ index_of_p.basis index_of_p.is.members_in
 
   -- the order modulo p
-  pub residue_ring : CommRing Classes
+  abbrev pub residue_ring : CommRing Classes
   residue_ring = class_ring (ring_of c) O 𝓞.ring (of_poly c p) p_in reduce lift representatives (row_set (code_ring k).ring (length index_of_p.basis))
