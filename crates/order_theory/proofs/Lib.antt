@@ -9,3 +9,4 @@ pub mod LocalOrders
 pub mod Classes
 pub mod ReductionAt
 pub mod PrimesOver
+pub mod IndexProducts

@@ -1,15 +1,16 @@
 -- The primes over p of an order that is maximal at p: they are lattices with inverses, finitely many, and listed.
-use Rattle.std.proofs.Common.{All, ◌⊎◌, inl, inr, ℕ, suc, List, [], ◌∷◌, map, refl, sym, ◌∙◌, ap, subst}
-use Rattle.std.proofs.lemmas.List.Elements.{All-head, All-tail}
+use Rattle.std.proofs.Common.{◌≡◌, arith, All, ◌⊎◌, inl, inr, ℕ, suc, List, [], ◌∷◌, map, refl, sym, ◌∙◌, ap, subst}
+use Rattle.std.proofs.lemmas.List.Elements.{All-nil, All-cons, All-head, All-tail}
+use Rattle.std.proofs.lemmas.List.Kept.{AllPairs-cons}
 use Rattle.ff_ring.specs.Ring.{CommRing}
-use Rattle.ff_ring.specs.Subsets.{Span, Product}
+use Rattle.ff_ring.specs.Subsets.{Colon, Span, Product}
 use Rattle.ff_ring.proofs.RowMaps.{IsHom}
-use Rattle.local_theory.specs.Ideals.{Inverse, IsIdeal}
-use Rattle.local_theory.specs.Primes.{IsPrime}
+use Rattle.local_theory.specs.Ideals.{Inverse, Invertible, SameSet, IsIdeal}
+use Rattle.local_theory.specs.Primes.{Different, IsPrime}
 use Rattle.local_theory.specs.Orders.{MaximalAt}
-use Rattle.local_theory.specs.Systems.{IsDecomposition, IsSystem, IsFamily, PrimeAt, Generators}
+use Rattle.local_theory.specs.Systems.{Distinct, TraceGenerators, IsDecomposition, IsSystem, IsFamily, PrimeAt, Generators}
 use Rattle.local_theory.proofs.Idempotents.{idempotent_prime}
-use Rattle.local_theory.proofs.IdempotentFamily.{idempotent_family}
+use Rattle.local_theory.proofs.IdempotentFamily.{idempotent_family, idempotent_invertible}
 use Rattle.local_theory.proofs.Scalars.{span_wider}
 use Rattle.local_theory.proofs.Radicals.{p_in_radical}
 use Rattle.trace_theory.proofs.Irreducible.{irreducible_some}
@@ -37,6 +38,46 @@ use Rattle.order_theory.proofs.Operations.{inverse_of, product_lattice, colon_la
 use Rattle.order_theory.proofs.LocalOrders.{stable_integral}
 use Rattle.order_theory.proofs.Classes.{class_reduction}
 use Rattle.order_theory.proofs.ReductionAt.{pO, p_in, p_not_unit, multiple_is_lattice, index_of_p, Classes, lift, reduce, code_rows, representatives, residue_ring}
+
+-- the members of a list of primes, each once
+record Thinned {A I : Type 0} (P : I → A → Type 0) (T : I → Type 0) (is : List I) : Type 0 where
+  pub list : List I
+  pub distinct : Distinct P list
+  pub kept : All T is → All T list
+  pub all : (z : A) → All (λ i. P i z) list → All (λ i. P i z) is
+
+module _ {A : Type 0} (R : CommRing A) (O : A → Type 0) (I : Type 0) (P : I → A → Type 0) (fam : IsFamily R.ops O I P) where
+  -- i is in the list up to sameness, or different from all of it
+  find : (i : I) (js : List I) → ((z : A) → All (λ j. P j z) js → P i z) ⊎ All (λ j. Different (P i) (P j)) js
+  find i [] = inr (All-nil (λ j. Different (P i) (P j)))
+  find i (j ∷ js) = go (fam.compare i j) (find i js)
+    where
+      go : SameSet (P i) (P j) ⊎ Different (P i) (P j) → ((z : A) → All (λ j. P j z) js → P i z) ⊎ All (λ j. Different (P i) (P j)) js
+          → ((z : A) → All (λ j. P j z) (j ∷ js) → P i z) ⊎ All (λ j. Different (P i) (P j)) (j ∷ js)
+      go (inl s) r = inl (λ z m. (s z).1 (All-head (λ j. P j z) j js m))
+      go (inr d) (inl f) = inl (λ z m. f z (All-tail (λ j. P j z) j js m))
+      go (inr d) (inr e) = inr (All-cons (λ j. Different (P i) (P j)) j js d e)
+
+  thin : (T : I → Type 0) (is : List I) → Thinned P T is
+  thin T [] = record { list = []; distinct = λ i j d l m. absurd (omega arith); kept = λ m. m; all = λ z m. m }
+  thin T (i ∷ is) = go (thin T is)
+    where
+      by : (t : Thinned P T is) → ((z : A) → All (λ j. P j z) t.list → P i z) ⊎ All (λ j. Different (P i) (P j)) t.list → Thinned P T (i ∷ is)
+      by t (inl f) = record {
+        list = t.list;
+        distinct = t.distinct;
+        kept = λ m. t.kept (All-tail T i is m);
+        all = λ z m. All-cons (λ j. P j z) i is (f z m) (t.all z m);
+      }
+      by t (inr e) = record {
+        list = i ∷ t.list;
+        distinct = AllPairs-cons (λ i j. Different (P i) (P j)) i t.list e t.distinct;
+        kept = λ m. All-cons T i t.list (All-head T i is m) (t.kept (All-tail T i is m));
+        all = λ z m. All-cons (λ j. P j z) i is (All-head (λ j. P j z) i t.list m) (t.all z (All-tail (λ j. P j z) i t.list m));
+      }
+
+      go : Thinned P T is → Thinned P T (i ∷ is)
+      go t = by t (find i t.list)
 
 module _ {k : CodeField} (c : Equation k) (p : Polynomial k) (h : IsIrreducible k.ops (codes_of k p)) (O : FunctionOf c → Type 0) (𝓞 : IsOrder c O) where
   infixl 65 ◌⊕◌
@@ -140,19 +181,53 @@ module _ {k : CodeField} (c : Equation k) (p : Polynomial k) (h : IsIrreducible 
   }
 
   -- where the order is maximal at p, the primes over p have inverses
-  pub family_of : MaximalAt (ring_of c).ops (of_poly c p) (IsIntegralAt (setting_of c) Finite) O → IsFamily (ring_of c).ops O Index PrimeOf
-  family_of maximal =
-      idempotent_family (ring_of c) O 𝓞.ring (of_poly c p) (p_in c p h O 𝓞) Index (λ i. lift c p h O 𝓞 i.0) listed.0 listed.1
-      (inverse_of c p (irreducible_some k p h)).0 ((ring_of c).mul_comm _ _ ∙ (inverse_of c p (irreducible_some k p h)).1)
-      (λ x m. by (lattice_decided c (pO c p h O 𝓞) (multiple_is_lattice c p h O 𝓞) x))
-      (λ i z m n.
-      maximal z 1
-      (stable_integral c (Inverse (ring_of c).ops O (PrimeOf i)) (colon_lattice c O (PrimeOf i) 𝓞.lattice (prime_lattice i)) z (λ y y_in. m y y_in))
-      (subst (λ x. O (x ⊗ z)) (sym ((ring_of c).mul_one _)) n))
-      (λ i.
-      order_generators (Product (ring_of c).ops (PrimeOf i) (Inverse (ring_of c).ops O (PrimeOf i)))
-      (product_lattice c (PrimeOf i) (Inverse (ring_of c).ops O (PrimeOf i)) (prime_lattice i) (colon_lattice c O (PrimeOf i) 𝓞.lattice (prime_lattice i))))
-    where
-      by : {P : Type 0} → Dec P → P ⊎ (¬ P)
-      by (yes m) = inl m
-      by (no n) = inr n
+  module _ (maximal : MaximalAt (ring_of c).ops (of_poly c p) (IsIntegralAt (setting_of c) Finite) O) where
+    p_decided : (x : FunctionOf c) → O x → pO c p h O 𝓞 x ⊎ (¬ (pO c p h O 𝓞 x))
+    p_decided x m = by (lattice_decided c (pO c p h O 𝓞) (multiple_is_lattice c p h O 𝓞) x)
+      where
+        by : Dec (pO c p h O 𝓞 x) → pO c p h O 𝓞 x ⊎ (¬ (pO c p h O 𝓞 x))
+        by (yes m) = inl m
+        by (no n) = inr n
+
+    multipliers : (i : Index) (z : FunctionOf c)
+        → Colon (ring_of c).ops (Inverse (ring_of c).ops O (PrimeOf i)) (Inverse (ring_of c).ops O (PrimeOf i)) z → O (of_poly c p ⊗ z) → O z
+    multipliers i z m n =
+        maximal z 1
+        (stable_integral c (Inverse (ring_of c).ops O (PrimeOf i)) (colon_lattice c O (PrimeOf i) 𝓞.lattice (prime_lattice i)) z (λ y y_in. m y y_in))
+        (subst (λ x. O (x ⊗ z)) (sym ((ring_of c).mul_one _)) n)
+
+    trace_generators : (i : Index) → TraceGenerators (ring_of c).ops O (PrimeOf i)
+    trace_generators i =
+        order_generators (Product (ring_of c).ops (PrimeOf i) (Inverse (ring_of c).ops O (PrimeOf i)))
+        (product_lattice c (PrimeOf i) (Inverse (ring_of c).ops O (PrimeOf i)) (prime_lattice i) (colon_lattice c O (PrimeOf i) 𝓞.lattice (prime_lattice i)))
+
+    inverse : (u : FunctionOf c) × (u ⊗ of_poly c p ≡ 𝟙)
+    inverse = let u = inverse_of c p (irreducible_some k p h) in (u.0, (ring_of c).mul_comm _ _ ∙ u.1)
+
+    pub prime_invertible : (i : Index) → Invertible (ring_of c).ops O (PrimeOf i)
+    prime_invertible =
+        idempotent_invertible (ring_of c) O 𝓞.ring (of_poly c p) (p_in c p h O 𝓞) Index (λ i. lift c p h O 𝓞 i.0) listed.0 listed.1
+        inverse.0 inverse.1 p_decided multipliers trace_generators
+
+    pub family_of : IsFamily (ring_of c).ops O Index PrimeOf
+    family_of =
+        idempotent_family (ring_of c) O 𝓞.ring (of_poly c p) (p_in c p h O 𝓞) Index (λ i. lift c p h O 𝓞 i.0) listed.0 listed.1
+        inverse.0 inverse.1 p_decided multipliers trace_generators
+
+    -- the primes over p, each once
+    pub record PrimesAt : Type 0 where
+      pub list : List Index
+      pub system : IsSystem (ring_of c).ops O (of_poly c p) Index PrimeOf list
+      pub distinct : Distinct PrimeOf list
+
+    pub primes_at : PrimesAt
+    primes_at =
+        let t = thin (ring_of c) O Index PrimeOf family_of (λ i. PrimeOf i (of_poly c p)) listed.0 in
+        record {
+          list = t.list;
+          system = record {
+            over = t.kept listed.2.over;
+            nilpotent = λ z z_in m. listed.2.nilpotent z z_in (t.all z m);
+          };
+          distinct = t.distinct;
+        }
