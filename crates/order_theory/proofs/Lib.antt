@@ -10,3 +10,4 @@ pub mod Classes
 pub mod ReductionAt
 pub mod PrimesOver
 pub mod IndexProducts
+pub mod Ramification
