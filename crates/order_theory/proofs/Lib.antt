@@ -11,3 +11,4 @@ pub mod ReductionAt
 pub mod PrimesOver
 pub mod IndexProducts
 pub mod Ramification
+pub mod FinitePlaces
