@@ -12,3 +12,5 @@ pub mod PrimesOver
 pub mod IndexProducts
 pub mod Ramification
 pub mod FinitePlaces
+pub mod Degrees
+pub mod PlaceLists
