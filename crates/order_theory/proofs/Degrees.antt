@@ -1,5 +1,5 @@
 -- The degree of a finite place is its index in the integral functions.
-use Rattle.std.proofs.Common.{◌≡◌, All, ℕ, zero, suc, ◌<◌, ◌≤◌, List, [], ◌∷◌, length, map, refl, sym, ◌∙◌, ap, ap₂, subst, arith}
+use Rattle.std.proofs.Common.{◌≡◌, All, ℕ, zero, suc, ◌<◌, ◌≤◌, List, [], ◌∷◌, length, refl, sym, ◌∙◌, ap, ap₂, subst, arith}
 use Rattle.std.proofs.lemmas.List.Elements.{All-nil, All-cons, All-head, All-tail}
 use Rattle.ff_ring.specs.Lists.{coeff_of}
 use Rattle.ff_ring.specs.Subsets.{Span}
@@ -10,13 +10,11 @@ use Rattle.ff_ring.proofs.Polynomials.{same_pol, coeff_past}
 use Rattle.linear_theory.specs.Module.{combine}
 use Rattle.ff_fields.specs.Field.{CodeField}
 use Rattle.ff_fields.specs.Code.{Code, code_ring}
-use Rattle.ff_poly.specs.Polynomials.{Polynomial, polynomials}
-use Rattle.ff_algebra.specs.declared.elem.Side.TheVariants.{Finite}
+use Rattle.ff_poly.specs.Polynomials.{Polynomial}
 use Rattle.ff_algebra.specs.Spans.{combination}
-use Rattle.ff_algebra.specs.Places.{Place, IsPlace, IsIn, IsIntegralAt}
+use Rattle.ff_algebra.specs.Places.{IsIn}
 use Rattle.ff_algebra.specs.Divisors.{HasDegree}
 use Rattle.ff_algebra.specs.Functions.{Equation, FunctionOf, ring_of, of_poly, IsCode, setting_of}
-use Rattle.ff_algebra.proofs.OnSide.{of_poly_zero}
 use Rattle.order_theory.specs.Lattices.{HasIndex, space_ops}
 use Rattle.order_theory.proofs.Indices.{code_of, code_hom}
 use Rattle.order_theory.proofs.FinitePlaces.{Int, finite}

@@ -14,3 +14,4 @@ pub mod Ramification
 pub mod FinitePlaces
 pub mod Degrees
 pub mod PlaceLists
+pub mod PlaceEntries

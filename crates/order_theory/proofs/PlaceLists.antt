@@ -1,32 +1,21 @@
 -- The finite places over an irreducible polynomial: all of them, each once, with the fundamental equality.
-use Rattle.std.proofs.Common.{◌≡◌, All, ◌⊎◌, inl, inr, ℕ, zero, suc, ◌+◌, ◌*◌, ◌-◌, ◌<◌, List, [], ◌∷◌, length, map, pos, refl, sym, ◌∙◌, ap, ap₂, subst, arith, ◌↔◌}
-use Rattle.std.specs.List.{Any, AllPairs}
-use Rattle.std.proofs.lemmas.List.Kept.{AllPairs-cons}
-use Rattle.std.proofs.lemmas.List.Elements.{All-nil, All-cons, All-head, All-tail, All-map, All-weaker}
-use Rattle.ff_ring.specs.Local.{Locally}
+use Rattle.std.proofs.Common.{◌≡◌, List, refl, ap, subst}
+use Rattle.std.specs.List.{Any}
 use Rattle.local_theory.specs.Ideals.{SameSet}
 use Rattle.local_theory.specs.Orders.{MaximalAt}
-use Rattle.local_theory.specs.Primes.{IsPrime, Different}
-use Rattle.local_theory.specs.IntegerValues.{ValueIs}
-use Rattle.local_theory.proofs.Lists.{pairs_head, pairs_tail, any_here, any_there, any_cases, any_none}
+use Rattle.local_theory.specs.Primes.{Different}
 use Rattle.local_theory.proofs.Compare.{prime_in_system}
 use Rattle.ff_fields.specs.Field.{CodeField}
 use Rattle.ff_poly.specs.Words.{IsIrreducible}
 use Rattle.ff_poly.specs.Polynomials.{Polynomial, polynomials, codes_of}
-use Rattle.ff_algebra.specs.declared.elem.Side.{Side}
-use Rattle.ff_algebra.specs.declared.elem.Side.TheVariants.{Finite, Infinite}
-use Rattle.ff_algebra.specs.Places.{Place, IsPlace, IsIn, IsIntegralAt, IsSamePlace, LiesOver}
-use Rattle.ff_algebra.specs.Functions.{Equation, FunctionOf, ring_of, of_poly, IsPolynomial, degree_of_y, setting_of}
+use Rattle.ff_algebra.specs.Places.{IsPlace, IsIn, IsSamePlace}
+use Rattle.ff_algebra.specs.Functions.{Equation, FunctionOf, ring_of, of_poly, setting_of}
 use Rattle.ff_algebra.specs.Discriminant.{discriminant}
-use Rattle.order_theory.specs.Lattices.{IsLattice, HasIndex}
 use Rattle.order_theory.specs.Orders.{IsOrder}
-use Rattle.order_theory.specs.PlaceLists.{PlaceOver, IsAllOver, sum_of_degrees}
-use Rattle.order_theory.proofs.Bases.{index_same}
 use Rattle.order_theory.proofs.IntegralLattice.{integral_lattice, integral_subring}
 use Rattle.order_theory.proofs.FinitePlaces.{Int, finite, place_lattice, place_prime}
 use Rattle.order_theory.proofs.ReductionAt.{p_in}
-use Rattle.order_theory.proofs.PrimesOver.{Index, PrimeOf, prime_is, prime_over, prime_lattice, family_of, order_generators, primes_at}
-use Rattle.order_theory.proofs.Ramification.{prime_index, ramified, fundamental_equality}
+use Rattle.order_theory.proofs.PrimesOver.{Index, PrimeOf, prime_is, prime_lattice, family_of, order_generators, primes_at}
 
 module _ {k : CodeField} (c : Equation k) (some : ¬ (discriminant c ≡ (polynomials k).𝟘)) (p : Polynomial k) (h : IsIrreducible k.ops (codes_of k p)) where
   infixl 65 ◌⊕◌
@@ -38,7 +27,7 @@ module _ {k : CodeField} (c : Equation k) (some : ¬ (discriminant c ≡ (polyno
   pub integral_order : IsOrder c (Int c)
   integral_order = record { lattice = integral_lattice c some; ring = integral_subring c }
 
-  integral_maximal : MaximalAt (ring_of c).ops (of_poly c p) (Int c) (Int c)
+  pub integral_maximal : MaximalAt (ring_of c).ops (of_poly c p) (Int c) (Int c)
   integral_maximal z n m i = m
 
   abbrev I : Type 0
@@ -47,15 +36,15 @@ module _ {k : CodeField} (c : Equation k) (some : ¬ (discriminant c ≡ (polyno
   abbrev P : Index c p h (Int c) integral_order → FunctionOf c → Type 0
   P = PrimeOf c p h (Int c) integral_order
 
-  rows : Index c p h (Int c) integral_order → List (FunctionOf c)
+  pub rows : Index c p h (Int c) integral_order → List (FunctionOf c)
   rows i = (prime_lattice c p h (Int c) integral_order i).generators
 
-  members : (i : Index c p h (Int c) integral_order) → SameSet (PrimeOf c p h (Int c) integral_order i) (IsIn (setting_of c) (finite c (rows i)))
+  pub members : (i : Index c p h (Int c) integral_order) → SameSet (PrimeOf c p h (Int c) integral_order i) (IsIn (setting_of c) (finite c (rows i)))
   unfolding rows
   members i = (prime_lattice c p h (Int c) integral_order i).spanned
 
   -- each prime is a place
-  prime_place : (i : Index c p h (Int c) integral_order) → IsPlace (setting_of c) (finite c (rows i))
+  pub prime_place : (i : Index c p h (Int c) integral_order) → IsPlace (setting_of c) (finite c (rows i))
   prime_place i =
       let 𝓟 = prime_is c p h (Int c) integral_order i in
       record {
@@ -68,7 +57,7 @@ module _ {k : CodeField} (c : Equation k) (some : ¬ (discriminant c ≡ (polyno
       }
 
   -- and each place over p is one of them
-  place_is_listed : (gs : List (FunctionOf c)) (place : IsPlace (setting_of c) (finite c gs)) → IsIn (setting_of c) (finite c gs) (of_poly c p)
+  pub place_is_listed : (gs : List (FunctionOf c)) (place : IsPlace (setting_of c) (finite c gs)) → IsIn (setting_of c) (finite c gs) (of_poly c p)
       → Any (λ i. SameSet (P i) (IsIn (setting_of c) (finite c gs))) (primes_at c p h (Int c) integral_order integral_maximal).list
   place_is_listed gs place over =
       prime_in_system (ring_of c) (Int c) (integral_subring c) (of_poly c p) (p_in c p h (Int c) integral_order) (Index c p h (Int c) integral_order) P
@@ -76,8 +65,8 @@ module _ {k : CodeField} (c : Equation k) (some : ¬ (discriminant c ≡ (polyno
       (order_generators c p h (Int c) integral_order (IsIn (setting_of c) (finite c gs)) (place_lattice c gs place))
       (primes_at c p h (Int c) integral_order integral_maximal).list (primes_at c p h (Int c) integral_order integral_maximal).system over
 
-  same_place : (i : I) (gs : List (FunctionOf c)) → SameSet (P i) (IsIn (setting_of c) (finite c gs)) → IsSamePlace (setting_of c) (finite c (rows i)) (finite c gs)
+  pub same_place : (i : I) (gs : List (FunctionOf c)) → SameSet (P i) (IsIn (setting_of c) (finite c gs)) → IsSamePlace (setting_of c) (finite c (rows i)) (finite c gs)
   same_place i gs s = record { side = refl; members = λ z. (λ m. (s z).0 ((members i z).1 m), λ m. (members i z).0 ((s z).1 m)) }
 
-  different : (i j : I) → Different (P i) (P j) → ¬ IsSamePlace (setting_of c) (finite c (rows i)) (finite c (rows j))
+  pub different : (i j : I) → Different (P i) (P j) → ¬ IsSamePlace (setting_of c) (finite c (rows i)) (finite c (rows j))
   different i j d s = d.first_out ((members j d.first).1 ((s.members d.first).0 ((members i d.first).0 d.first_in)))

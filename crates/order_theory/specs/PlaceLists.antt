@@ -1,5 +1,5 @@
 -- The places over a polynomial, with their ramification and degrees (Stichtenoth, section 3.1).
-use Rattle.std.specs.Prelude.{◌≡◌, ℕ, ◌+◌, ◌*◌, List, [], ◌∷◌, All, AllPairs}
+use Rattle.std.specs.Prelude.{ℕ, ◌+◌, ◌*◌, List, [], ◌∷◌, AllPairs}
 use Rattle.std.specs.List.{Any}
 use Rattle.ff_algebra.specs.Setting.{Setting}
 use Rattle.ff_algebra.specs.Places.{Place, IsPlace, IsSamePlace, LiesOver}
