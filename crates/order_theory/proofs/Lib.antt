@@ -15,3 +15,4 @@ pub mod FinitePlaces
 pub mod Degrees
 pub mod PlaceLists
 pub mod PlaceEntries
+pub mod SideOfPlaces

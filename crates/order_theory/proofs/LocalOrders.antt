@@ -114,6 +114,14 @@ module _ {k : CodeField} (c : Equation k) where
         maximal_iff_locally (ring_of c) (IsPolynomial c) 𝓢 (IsPrimeTo c p) (of_poly c p) prime_to Int O (lattice_module c O 𝓞)
         (λ w z m n. (integral_module c).scale_in w z (prime_to.within w m) n) (λ z m. denominator O 𝓞 z)
 
+    -- they are maximal at p
+    pub larger_maximal : (O : FunctionOf c → Type 0) → MaximalAt (ring_of c).ops (of_poly c p) Int (Enlarged (ring_of c) Int (of_poly c p) O)
+    larger_maximal O z n z_int m = record {
+      in_Int = z_int;
+      exponent = m.exponent + n;
+      inside = subst O (sym ((ring_of c).mul_assoc _ _ z) ∙ ap (λ x. x ⊗ z) (sym (pow_add (ring_of c) (of_poly c p) m.exponent n))) m.inside;
+    }
+
     -- the integral functions that powers of p take into an order
     module _ (some : ¬ (discriminant c ≡ (polynomials k).𝟘)) (O : FunctionOf c → Type 0) (𝓞 : IsOrder c O) where
       abbrev Larger : FunctionOf c → Type 0
@@ -196,10 +204,3 @@ module _ {k : CodeField} (c : Equation k) where
         where
           from_order : (z : FunctionOf c) → O z → Larger z
           from_order z m = record { in_Int = order_integral O 𝓞 z m; exponent = 0; inside = subst O (sym (one_mul (ring_of c) z)) m }
-
-      pub larger_maximal : MaximalAt (ring_of c).ops (of_poly c p) Int Larger
-      larger_maximal z n z_int m = record {
-        in_Int = z_int;
-        exponent = m.exponent + n;
-        inside = subst O (sym ((ring_of c).mul_assoc _ _ z) ∙ ap (λ x. x ⊗ z) (sym (pow_add (ring_of c) (of_poly c p) m.exponent n))) m.inside;
-      }

@@ -281,3 +281,11 @@ module _ {k : CodeField} (c : Equation k) where
             span_least (ring_of c) (IsPolynomial c) 𝓢 (λ y. A (z ⊗ y)) (quotient_module (ring_of c) (IsPolynomial c) A (lattice_module c A 𝓐) z) 𝓑.generators h y
             ((𝓑.spanned y).0 y_in))
         by z (no n) = no (λ h. n (All-weaker B (λ b. A (z ⊗ b)) h 𝓑.generators (lattice_generators c B 𝓑)))
+
+    -- whether a lattice lies in another is decided
+    pub lattice_within : Dec ((z : FunctionOf c) → A z → B z)
+    lattice_within = go (decide_all B (lattice_decided c B 𝓑) 𝓐.generators)
+      where
+        go : Dec (All B 𝓐.generators) → Dec ((z : FunctionOf c) → A z → B z)
+        go (yes h) = yes (λ z m. span_least (ring_of c) (IsPolynomial c) 𝓢 B (lattice_module c B 𝓑) 𝓐.generators h z ((𝓐.spanned z).0 m))
+        go (no n) = no (λ f. n (All-weaker A B f 𝓐.generators (lattice_generators c A 𝓐)))

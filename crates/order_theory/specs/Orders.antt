@@ -1,10 +1,13 @@
 -- Orders of F: lattices that are rings; and what is prime to a polynomial.
 use Rattle.std.specs.Prelude.{◌≡◌}
+use Rattle.ff_algebra.specs.declared.elem.Side.TheVariants.{Finite}
+use Rattle.ff_algebra.specs.Places.{IsIntegralAt}
+use Rattle.local_theory.proofs.Enlarge.{Enlarged}
 use Rattle.ff_ring.specs.Subsets.{IsSubring}
 use Rattle.linear_theory.specs.Euclidean.{IsDivisor}
 use Rattle.ff_fields.specs.Field.{CodeField}
 use Rattle.ff_poly.specs.Polynomials.{Polynomial, polynomials}
-use Rattle.ff_algebra.specs.Functions.{Equation, FunctionOf, ring_of, of_poly}
+use Rattle.ff_algebra.specs.Functions.{Equation, FunctionOf, ring_of, of_poly, setting_of}
 use Rattle.order_theory.specs.Lattices.{IsLattice}
 
 module _ {k : CodeField} (c : Equation k) where
@@ -18,3 +21,7 @@ module _ {k : CodeField} (c : Equation k) where
     pub polynomial : Polynomial k
     pub not_divided : ¬ IsDivisor (polynomials k).ops p polynomial
     pub value : z ≡ of_poly c polynomial
+
+  -- the integral functions that a power of p takes into O
+  abbrev pub TakenByPowers : Polynomial k → (FunctionOf c → Type 0) → FunctionOf c → Type 0
+  TakenByPowers p O = Enlarged (ring_of c) (IsIntegralAt (setting_of c) Finite) (of_poly c p) O
