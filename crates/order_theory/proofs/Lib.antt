@@ -16,3 +16,4 @@ pub mod Degrees
 pub mod PlaceLists
 pub mod PlaceEntries
 pub mod SideOfPlaces
+pub mod LeastPolynomials
