@@ -29,7 +29,7 @@ module _ {k : CodeField} (c : Equation k) where
   code_is a = record { code = constant (code_ring k) a; no_degree = length_trim (code_ring k).is_zero (a ∷ []); value = refl }
 
   -- a polynomial with one coefficient is a constant
-  constant_of : (q : Polynomial k) → length q.0 ≤ 1 → q ≡ constant (code_ring k) (coeff_of (code_ring k).ops q.0 0)
+  pub constant_of : (q : Polynomial k) → length q.0 ≤ 1 → q ≡ constant (code_ring k) (coeff_of (code_ring k).ops q.0 0)
   constant_of q short = same_pol (code_ring k) q _ at
     where
       at : (n : ℕ) → coeff_of (code_ring k).ops q.0 n ≡ coeff_of (code_ring k).ops (constant (code_ring k) (coeff_of (code_ring k).ops q.0 0)).0 n

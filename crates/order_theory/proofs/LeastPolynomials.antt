@@ -1,5 +1,5 @@
 -- A polynomial of least degree with a property that is decided.
-use Rattle.std.proofs.Common.{◌≡◌, ◌⊎◌, inl, inr, ℕ, zero, suc, ◌<◌, ◌≤◌, ◌-◌, List, [], ◌∷◌, length, refl, sym, ◌∙◌, ap, subst, arith}
+use Rattle.std.proofs.Common.{◌⊎◌, inl, inr, ℕ, zero, suc, ◌<◌, ◌≤◌, List, [], ◌∷◌, length, refl, sym, subst, arith}
 use Rattle.ff_ring.proofs.Finite.{In}
 use Rattle.ff_ring.proofs.Evaluate.{pol_self}
 use Rattle.ff_ring.proofs.Polynomials.{pol_of}
@@ -82,9 +82,10 @@ module _ (k : CodeField) where
           by b s (inr le) = le
           by b s (inl less) =
               absurd (m (
-              b.0,
-              omega arith,
-              (subst T (sym (pol_self (code_ring k) b)) s, subst (λ p. length p.0 < length a.0) (sym (pol_self (code_ring k) b)) less)))
+                b.0,
+                omega arith,
+                (subst T (sym (pol_self (code_ring k) b)) s, subst (λ p. length p.0 < length a.0) (sym (pol_self (code_ring k) b)) less),
+              ))
 
   pub least_polynomial : (T : Polynomial k → Type 0) → ((b : Polynomial k) → Dec (T b)) → (a : Polynomial k) → T a → Least T
   least_polynomial T d a t = least_from T d (suc (length a.0)) a t (omega arith)

@@ -17,3 +17,4 @@ pub mod PlaceLists
 pub mod PlaceEntries
 pub mod SideOfPlaces
 pub mod LeastPolynomials
+pub mod IrreducibleIn
