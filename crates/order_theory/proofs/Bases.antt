@@ -44,7 +44,7 @@ module _ (k : CodeField) where
     pub monic : IsMonic (code_ring k) product
     pub degree : monic.degree ≡ length a.0 - 1
 
-  constant_times : (u : Code k) (a : Polynomial k) (n : ℕ)
+  pub constant_times : (u : Code k) (a : Polynomial k) (n : ℕ)
       → coeff_of (code_ring k).ops (constant (code_ring k) u ⊗ a).0 n ≡ (code_ring k).◌⊗◌ u (coeff_of (code_ring k).ops a.0 n)
   constant_times u a n =
       series_mul (code_ring k) (constant (code_ring k) u) a n

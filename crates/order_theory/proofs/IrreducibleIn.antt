@@ -1,20 +1,20 @@
 -- Each finite place lies over an irreducible polynomial, and over one only.
-use Rattle.std.proofs.Common.{◌≡◌, ◌⊎◌, inl, inr, ℕ, zero, suc, ◌<◌, ◌≤◌, List, [], ◌∷◌, ◌++◌, length, get_or, refl, sym, ◌∙◌, ap, subst, arith}
+use Rattle.std.proofs.Common.{◌+◌, ◌≡◌, ◌⊎◌, inl, inr, ℕ, zero, suc, ◌<◌, ◌≤◌, List, [], ◌∷◌, ◌++◌, length, get_or, refl, sym, ◌∙◌, ap, subst, arith}
 use Rattle.std.proofs.lemmas.List.{length-map}
 use Rattle.ff_ring.specs.Lists.{coeff_of, IsTrimmed}
 use Rattle.ff_ring.specs.Subsets.{IsModule}
-use Rattle.ff_ring.proofs.Ring.{zero_mul, mul_zero}
+use Rattle.ff_ring.proofs.Ring.{one_mul, zero_mul, mul_zero}
 use Rattle.ff_ring.proofs.Solver.{ring, reads}
 use Rattle.ff_ring.proofs.Evaluate.{constant, constant_hom}
 use Rattle.ff_ring.proofs.Polynomials.{length_product}
 use Rattle.linear_theory.specs.Euclidean.{IsDivisor}
 use Rattle.linear_theory.proofs.Euclid.{bezout}
 use Rattle.ff_fields.specs.Field.{CodeField}
-use Rattle.ff_fields.specs.Code.{Code, code_ring, code_domain, is_zero_code}
+use Rattle.ff_fields.specs.Code.{same_code, Code, code_ring, code_domain, is_zero_code}
 use Rattle.ff_fields.specs.Numbers.{numbers}
 use Rattle.ff_poly.specs.Words.{IsIrreducible, IsMonic, IsPoly}
 use Rattle.ff_poly.specs.Value.{value, value_product, numbers_value}
-use Rattle.ff_poly.proofs.Parts.{IsMonic_from_top}
+use Rattle.ff_poly.proofs.Parts.{top_of_monic, IsMonic_from_top}
 use Rattle.ff_poly.specs.Polynomials.{Polynomial, polynomials, polynomial_discrete, codes_of, value_codes_of}
 use Rattle.ff_algebra.specs.declared.elem.Side.TheVariants.{Finite}
 use Rattle.ff_algebra.proofs.ScalarRings.{polynomials_subring}
@@ -23,9 +23,9 @@ use Rattle.ff_algebra.specs.Functions.{Equation, FunctionOf, ring_of, of_poly, I
 use Rattle.places_theory.proofs.YRoot.{poly_hom}
 use Rattle.trace_theory.proofs.TracePowers.{some_long}
 use Rattle.trace_theory.proofs.Division.{euclidean}
-use Rattle.trace_theory.proofs.Irreducible.{irreducible, decide_divides}
+use Rattle.trace_theory.proofs.Irreducible.{irreducible_some, irreducible, decide_divides}
 use Rattle.order_theory.proofs.LeastPolynomials.{Least, least_polynomial}
-use Rattle.order_theory.proofs.Bases.{MonicMultiple, monic_multiple}
+use Rattle.order_theory.proofs.Bases.{MonicMultiple, monic_multiple, constant_times}
 use Rattle.order_theory.proofs.Lattices.{lattice_module}
 use Rattle.order_theory.proofs.IntegralLattice.{polynomial_integral}
 use Rattle.order_theory.proofs.FinitePlaces.{finite, place_lattice, place_polynomial, in_place_decided}
@@ -70,7 +70,7 @@ module _ {k : CodeField} (c : Equation k) (gs : List (FunctionOf c)) (place : Is
   sum : (a b : Polynomial k) → In a → In b → In ((polynomials k).◌⊕◌ a b)
   sum a b h h' = subst (IsIn (setting_of c) (finite c gs)) (sym ((poly_hom c).add a b)) (𝓜.sum_in _ _ h h')
 
-  one_out : ¬ In (polynomials k).𝟙
+  pub one_out : ¬ In (polynomials k).𝟙
   one_out h = place.proper (subst (IsIn (setting_of c) (finite c gs)) (poly_hom c).𝟙 h)
 
   -- a product in the place has a factor in it
@@ -118,7 +118,7 @@ module _ {k : CodeField} (c : Equation k) (gs : List (FunctionOf c)) (place : Is
   shorter_out : (b : Polynomial k) → ¬ (b ≡ (polynomials k).𝟘) → length b.0 < length monic.product.0 → ¬ In b
   shorter_out b n l m = let le = least.least b (n, m) in let e = length_is in absurd (omega arith)
 
-  codes_length : (a : Polynomial k) → length (codes_of k a) ≡ length a.0
+  pub codes_length : (a : Polynomial k) → length (codes_of k a) ≡ length a.0
   codes_length a = length-map a.0 (λ x. x.0)
 
   generator_long : 2 ≤ length monic.product.0
@@ -139,7 +139,7 @@ module _ {k : CodeField} (c : Equation k) (gs : List (FunctionOf c)) (place : Is
           = constant_of c monic.product (omega arith) ∙ ap (constant (code_ring k)) top ∙ (constant_hom (code_ring k)).𝟙 in
           absurd (one_out (subst In one generator_in))
 
-  numbers_at : (xs : List (Code k)) (n : ℕ) → n < length xs → get_or (numbers k xs) n 0 ≡ (coeff_of (code_ring k).ops xs n).0
+  pub numbers_at : (xs : List (Code k)) (n : ℕ) → n < length xs → get_or (numbers k xs) n 0 ≡ (coeff_of (code_ring k).ops xs n).0
   numbers_at [] n l = absurd (omega arith)
   numbers_at (x ∷ xs) zero l = refl
   numbers_at (x ∷ xs) (suc n) l = numbers_at xs n (omega arith)
@@ -178,3 +178,45 @@ module _ {k : CodeField} (c : Equation k) (gs : List (FunctionOf c)) (place : Is
       go (no n) =
           let b = bezout (euclidean k) p (irreducible k p h) q n in
           absurd (one_out (subst In b.is (sum _ _ (times b.left q q_in) (times b.right p p_in))))
+
+  -- so they are the same
+  pub same_irreducible : (p q : Polynomial k) → IsIrreducible k.ops (codes_of k p) → IsIrreducible k.ops (codes_of k q) → In p → In q → p ≡ q
+  same_irreducible p q h h' p_in q_in = go (divides_other p q h h' p_in q_in) (divides_other q p h' h q_in p_in)
+    where
+      top : (a : Polynomial k) → IsMonic (codes_of k a) → (n : ℕ) × (length a.0 ≡ suc n) × (coeff_of (code_ring k).ops a.0 n ≡ (code_ring k).𝟙)
+      top a m =
+          let t = top_of_monic (codes_of k a) m in
+          let size : length a.0 ≡ suc t.0 = sym (codes_length a) ∙ t.1 in (
+            t.0,
+            size,
+            same_code k _ (code_ring k).𝟙 (sym (numbers_at a.0 t.0 (omega arith)) ∙ t.2),
+          )
+
+      factor : (a b u : Polynomial k) → ¬ (a ≡ (polynomials k).𝟘) → b ≡ (polynomials k).◌⊗◌ a u → ¬ (b ≡ (polynomials k).𝟘) → ¬ (u ≡ (polynomials k).𝟘)
+      factor a b u n e m z = m (e ∙ ap ((polynomials k).◌⊗◌ a) z ∙ mul_zero (polynomials k).ring a)
+
+      length_le : (a b u : Polynomial k) → ¬ (a ≡ (polynomials k).𝟘) → ¬ (b ≡ (polynomials k).𝟘) → b ≡ (polynomials k).◌⊗◌ a u → suc (length b.0) ≡ length a.0 + length u.0
+      length_le a b u n m e =
+          let f : length b.0 ≡ length ((polynomials k).◌⊗◌ a u).0 = ap (λ p. length p.0) e in
+          omega (arith, f, length_product (code_ring k) (code_domain k) a u n (factor a b u n e m))
+
+      go : IsDivisor (polynomials k).ops p q → IsDivisor (polynomials k).ops q p → p ≡ q
+      go (u, e) (v, f) =
+          let n = irreducible_some k p h in
+          let m = irreducible_some k q h' in
+          let l = length_le p q u n m e in
+          let l' = length_le q p v m n f in
+          let u_long = some_long k u (factor p q u n e m) in
+          let v_long = some_long k v (factor q p v m f n) in
+          let short : length u.0 ≤ 1 = omega arith in
+          let s = top p h.monic in
+          let t = top q h'.monic in
+          let same : t.0 ≡ s.0 = let a = s.1 in let b = t.1 in omega arith in
+          let x = coeff_of (code_ring k).ops u.0 0 in
+          let u_is : u ≡ constant (code_ring k) x = constant_of c u short in
+          let q_is : q ≡ (polynomials k).◌⊗◌ (constant (code_ring k) x) p = e ∙ (polynomials k).mul_comm p u ∙ ap (λ w. (polynomials k).◌⊗◌ w p) u_is in
+          let one : x ≡ (code_ring k).𝟙
+          = sym ((code_ring k).mul_one x) ∙ ap ((code_ring k).◌⊗◌ x) (sym s.2) ∙ sym (constant_times k x p s.0)
+          ∙ ap (λ w. coeff_of (code_ring k).ops w.0 s.0) (sym q_is) ∙ ap (coeff_of (code_ring k).ops q.0) (sym same) ∙ t.2 in
+          sym (q_is ∙ ap (λ w. (polynomials k).◌⊗◌ (constant (code_ring k) w) p) one ∙ ap (λ w. (polynomials k).◌⊗◌ w p) (constant_hom (code_ring k)).𝟙
+          ∙ one_mul (polynomials k).ring p)

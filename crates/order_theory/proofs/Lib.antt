@@ -18,3 +18,4 @@ pub mod PlaceEntries
 pub mod SideOfPlaces
 pub mod LeastPolynomials
 pub mod IrreducibleIn
+pub mod Values

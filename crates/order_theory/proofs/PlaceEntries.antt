@@ -96,7 +96,7 @@ module _ {k : CodeField} (c : Equation k) (some : ¬ (discriminant c ≡ (polyno
     pair : Pair (ring_of c).ops (Int c) (P i)
     pair = (family_of c p h (Int c) (integral_order c some p h) (integral_maximal c some p h)).pair i
 
-    place_pair : Pair (ring_of c).ops (Int c) (InPrime (setting_of c) (finite c gs) (Int c))
+    pub place_pair : Pair (ring_of c).ops (Int c) (InPrime (setting_of c) (finite c gs) (Int c))
     place_pair = record {
       tau = pair.tau;
       tau_in = (in_prime pair.tau).0 pair.tau_in;

@@ -1,13 +1,18 @@
 -- The theorems on finite places, for places whose side is given by an equation.
-use Rattle.std.proofs.Common.{◌≡◌, ℕ, List}
+use Rattle.std.proofs.Common.{refl, ◌≡◌, ℕ, List}
 use Rattle.local_theory.specs.Primes.{IsPrime}
 use Rattle.ff_fields.specs.Field.{CodeField}
-use Rattle.ff_poly.specs.Polynomials.{polynomials}
+use Rattle.ff_poly.specs.Words.{IsIrreducible}
+use Rattle.ff_poly.specs.Polynomials.{Polynomial, polynomials, codes_of}
+use Rattle.std.specs.Prelude.{ℤ}
+use Rattle.std.proofs.Common.{refl, pos}
+use Rattle.order_theory.proofs.IrreducibleIn.{generator_of, generator_in, generator_irreducible, same_irreducible}
+use Rattle.order_theory.proofs.Values.{value_exists, value_zero}
 use Rattle.ff_algebra.specs.declared.elem.Side.{Side}
 use Rattle.ff_algebra.specs.declared.elem.Side.TheVariants.{Finite, Infinite}
-use Rattle.ff_algebra.specs.Places.{Place, IsPlace, IsIn, IsSamePlace}
+use Rattle.ff_algebra.specs.Places.{Place, IsPlace, IsIn, IsSamePlace, LiesOver, HasValuation}
 use Rattle.ff_algebra.specs.Divisors.{HasDegree}
-use Rattle.ff_algebra.specs.Functions.{Equation, FunctionOf, ring_of, setting_of}
+use Rattle.ff_algebra.specs.Functions.{Equation, FunctionOf, ring_of, of_poly, setting_of}
 use Rattle.ff_algebra.specs.Discriminant.{discriminant}
 use Rattle.ff_algebra.proofs.ScalarRings.{scalars_subring}
 use Rattle.places_theory.proofs.SamePlaces.{same_place_decided}
@@ -47,3 +52,28 @@ module _ {k : CodeField} (c : Equation k) where
   degree_of_place some P h e =
       let i = index_of c (IsIn (setting_of c) P) (Int c) (lattice_of_place P h e) (integral_lattice c some) (prime_of_place P h e).ideal.within in
       (i.0, degree_from_index P i.0 e i.1)
+
+  pub place_lies_over : (P : Place (FunctionOf c)) → IsPlace (setting_of c) P → P.side ≡ Finite
+      → (p : Polynomial k) × IsIrreducible k.ops (codes_of k p) × LiesOver (setting_of c) P (of_poly c p)
+  place_lies_over P h e =
+      by_side (λ P. IsPlace (setting_of c) P → (p : Polynomial k) × IsIrreducible k.ops (codes_of k p) × LiesOver (setting_of c) P (of_poly c p))
+      (λ gs h. (generator_of c gs h, generator_irreducible c gs h, record { side = refl; member = generator_in c gs h })) P.side P.generators e h
+
+  pub lies_over_once : (P : Place (FunctionOf c)) (p q : Polynomial k) → IsPlace (setting_of c) P → IsIrreducible k.ops (codes_of k p)
+      → IsIrreducible k.ops (codes_of k q) → LiesOver (setting_of c) P (of_poly c p) → LiesOver (setting_of c) P (of_poly c q) → p ≡ q
+  lies_over_once P p q h i j m n =
+      by_side (λ P. IsPlace (setting_of c) P → IsIn (setting_of c) P (of_poly c p) → IsIn (setting_of c) P (of_poly c q) → p ≡ q)
+      (λ gs h m n. same_irreducible c gs h p q i j m n) P.side P.generators m.side h m.member n.member
+
+  pub value_at_place : ¬ (discriminant c ≡ (polynomials k).𝟘) → (P : Place (FunctionOf c)) → IsPlace (setting_of c) P → P.side ≡ Finite
+      → (z y : FunctionOf c) → (ring_of c).◌⊗◌ z y ≡ (ring_of c).𝟙 → (m : ℤ) × HasValuation (setting_of c) P z m
+  value_at_place some P h e z y inverse =
+      by_side (λ P. IsPlace (setting_of c) P → (m : ℤ) × HasValuation (setting_of c) P z m) (λ gs h. value_exists c some gs h z y inverse) P.side P.generators e h
+
+  pub value_zero_at : (P : Place (FunctionOf c)) → IsPlace (setting_of c) P → P.side ≡ Finite
+      → (z y a b : FunctionOf c) → (ring_of c).◌⊗◌ z y ≡ (ring_of c).𝟙
+      → Int c a → ¬ (IsIn (setting_of c) P a) → Int c ((ring_of c).◌⊗◌ a z) → Int c b → ¬ (IsIn (setting_of c) P b) → Int c ((ring_of c).◌⊗◌ b y)
+      → HasValuation (setting_of c) P z (pos 0)
+  value_zero_at P h e z y a b inverse a_in a_out az b_in b_out b_y =
+      by_side (λ P. IsPlace (setting_of c) P → ¬ (IsIn (setting_of c) P a) → ¬ (IsIn (setting_of c) P b) → HasValuation (setting_of c) P z (pos 0))
+      (λ gs h a_out b_out. value_zero c gs h z y a b inverse a_in a_out az b_in b_out b_y) P.side P.generators e h a_out b_out

@@ -4,7 +4,8 @@
 //! the crates above cite the lemmas of proofs/. For the infinite side the same theorems hold of the infinite presentation.
 #![tactic(auto)]
 
-ghost use Rattle.std.specs.Prelude.{◌≡◌, ℕ, ◌+◌, ◌-◌, ◌*◌, ◌<◌, ◌↔◌, List, length};
+ghost use Rattle.std.specs.Prelude.{◌≡◌, ℕ, ℤ, ◌+◌, ◌-◌, ◌*◌, ◌<◌, ◌↔◌, List, length};
+ghost use Rattle.std.proofs.Common.{pos};
 ghost use Rattle.ff_ring.specs.Subsets.{IsModule, Product, Colon};
 ghost use Rattle.ff_ring.specs.Local.{Locally};
 ghost use Rattle.ff_fields.specs.Field.{CodeField};
@@ -13,7 +14,7 @@ ghost use Rattle.ff_poly.specs.Polynomials.{Polynomial, polynomials, codes_of};
 ghost use Rattle.ff_algebra.specs.declared.elem.Side.TheVariants.{Finite};
 ghost use Rattle.ff_algebra.specs.Functions.{Equation, FunctionOf, ring_of, of_poly, IsPolynomial, degree_of_y, setting_of};
 ghost use Rattle.ff_algebra.specs.Discriminant.{discriminant};
-ghost use Rattle.ff_algebra.specs.Places.{Place, IsPlace, IsIn, IsSamePlace, IsIntegralAt};
+ghost use Rattle.ff_algebra.specs.Places.{Place, IsPlace, IsIn, IsSamePlace, IsIntegralAt, LiesOver, HasValuation};
 ghost use Rattle.ff_algebra.specs.Divisors.{HasDegree};
 ghost use Rattle.local_theory.specs.Ideals.{Multiple};
 ghost use Rattle.local_theory.specs.Orders.{MaximalAt};
@@ -104,6 +105,15 @@ pub fn local_order_law<S: FunctionSets>()
         ↔ ((z : FunctionOf S.equation) → IsIntegralAt (setting_of S.equation) Finite z → Locally (ring_of S.equation).ops (IsPrimeTo S.equation p) S.first z) }
 {}
 
+/// Each finite place has a monic irreducible polynomial, and one only: the place lies over it.
+pub fn lies_over_law()
+    ensures over { (k : CodeField) (c : Equation k) (P : Place (FunctionOf c)) → IsPlace (setting_of c) P → P.side ≡ Finite
+        → (p : Polynomial k) × IsIrreducible k.ops (codes_of k p) × LiesOver (setting_of c) P (of_poly c p) }
+    ensures once { (k : CodeField) (c : Equation k) (P : Place (FunctionOf c)) (p q : Polynomial k) → IsPlace (setting_of c) P
+        → IsIrreducible k.ops (codes_of k p) → IsIrreducible k.ops (codes_of k q) → LiesOver (setting_of c) P (of_poly c p) → LiesOver (setting_of c) P (of_poly c q)
+        → p ≡ q }
+{}
+
 /// A finite place is a lattice, so membership in it and sameness with another are decided; it is a prime of the ring of integral functions. Its degree is
 /// its index there.
 pub fn finite_place_law()
@@ -123,4 +133,15 @@ pub fn places_over_law()
     ensures { (k : CodeField) (c : Equation k) (p : Polynomial k) → ¬ (discriminant c ≡ (polynomials k).𝟘) → IsIrreducible k.ops (codes_of k p)
         → (ps : List (PlaceOver (setting_of c) (of_poly c p))) × IsAllOver (setting_of c) (of_poly c p) ps
         × (sum_of_degrees (setting_of c) (of_poly c p) ps ≡ degree_of_y c * (length p.0 - 1)) }
+{}
+
+/// A function with an inverse has a value at each finite place; it is 0 where the function and its inverse have denominators that aren't in the place.
+pub fn value_law()
+    ensures exists { (k : CodeField) (c : Equation k) (P : Place (FunctionOf c)) → ¬ (discriminant c ≡ (polynomials k).𝟘) → IsPlace (setting_of c) P
+        → P.side ≡ Finite → (z y : FunctionOf c) → (ring_of c).◌⊗◌ z y ≡ (ring_of c).𝟙 → (m : ℤ) × HasValuation (setting_of c) P z m }
+    ensures zero { (k : CodeField) (c : Equation k) (P : Place (FunctionOf c)) → IsPlace (setting_of c) P → P.side ≡ Finite
+        → (z y a b : FunctionOf c) → (ring_of c).◌⊗◌ z y ≡ (ring_of c).𝟙
+        → IsIntegralAt (setting_of c) Finite a → ¬ (IsIn (setting_of c) P a) → IsIntegralAt (setting_of c) Finite ((ring_of c).◌⊗◌ a z)
+        → IsIntegralAt (setting_of c) Finite b → ¬ (IsIn (setting_of c) P b) → IsIntegralAt (setting_of c) Finite ((ring_of c).◌⊗◌ b y)
+        → HasValuation (setting_of c) P z (pos 0) }
 {}
