@@ -37,7 +37,7 @@ trimmed_end [] = refl
 trimmed_end (x ∷ []) = refl
 trimmed_end (x ∷ y ∷ lower) = trimmed_end (y ∷ lower)
 
-monic_poly : (b : List ℕ) → IsMonic b → IsPoly b
+pub monic_poly : (b : List ℕ) → IsMonic b → IsPoly b
 monic_poly b m = record { trimmed = subst (IsTrimmed is_zero_code) (sym m.1) (trimmed_end m.0) }
 
 module _ {k : CodeField} (c : Equation k) (gs : List (FunctionOf c)) (place : IsPlace (setting_of c) (finite c gs)) where

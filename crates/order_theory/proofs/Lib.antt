@@ -19,3 +19,4 @@ pub mod SideOfPlaces
 pub mod LeastPolynomials
 pub mod IrreducibleIn
 pub mod Values
+pub mod InvertibleIdeals
