@@ -40,6 +40,11 @@ trimmed_end (x ∷ y ∷ lower) = trimmed_end (y ∷ lower)
 pub monic_poly : (b : List ℕ) → IsMonic b → IsPoly b
 monic_poly b m = record { trimmed = subst (IsTrimmed is_zero_code) (sym m.1) (trimmed_end m.0) }
 
+pub numbers_get : (k : CodeField) (xs : List (Code k)) (n : ℕ) → n < length xs → get_or (numbers k xs) n 0 ≡ (coeff_of (code_ring k).ops xs n).0
+numbers_get k [] n l = absurd (omega arith)
+numbers_get k (x ∷ xs) zero l = refl
+numbers_get k (x ∷ xs) (suc n) l = numbers_get k xs n (omega arith)
+
 module _ {k : CodeField} (c : Equation k) (gs : List (FunctionOf c)) (place : IsPlace (setting_of c) (finite c gs)) where
   infixl 65 ◌⊕◌
   infixl 70 ◌⊗◌
@@ -70,7 +75,7 @@ module _ {k : CodeField} (c : Equation k) (gs : List (FunctionOf c)) (place : Is
   sum : (a b : Polynomial k) → In a → In b → In ((polynomials k).◌⊕◌ a b)
   sum a b h h' = subst (IsIn (setting_of c) (finite c gs)) (sym ((poly_hom c).add a b)) (𝓜.sum_in _ _ h h')
 
-  pub one_out : ¬ In (polynomials k).𝟙
+  one_out : ¬ In (polynomials k).𝟙
   one_out h = place.proper (subst (IsIn (setting_of c) (finite c gs)) (poly_hom c).𝟙 h)
 
   -- a product in the place has a factor in it
@@ -118,7 +123,7 @@ module _ {k : CodeField} (c : Equation k) (gs : List (FunctionOf c)) (place : Is
   shorter_out : (b : Polynomial k) → ¬ (b ≡ (polynomials k).𝟘) → length b.0 < length monic.product.0 → ¬ In b
   shorter_out b n l m = let le = least.least b (n, m) in let e = length_is in absurd (omega arith)
 
-  pub codes_length : (a : Polynomial k) → length (codes_of k a) ≡ length a.0
+  codes_length : (a : Polynomial k) → length (codes_of k a) ≡ length a.0
   codes_length a = length-map a.0 (λ x. x.0)
 
   generator_long : 2 ≤ length monic.product.0
@@ -139,17 +144,12 @@ module _ {k : CodeField} (c : Equation k) (gs : List (FunctionOf c)) (place : Is
           = constant_of c monic.product (omega arith) ∙ ap (constant (code_ring k)) top ∙ (constant_hom (code_ring k)).𝟙 in
           absurd (one_out (subst In one generator_in))
 
-  pub numbers_at : (xs : List (Code k)) (n : ℕ) → n < length xs → get_or (numbers k xs) n 0 ≡ (coeff_of (code_ring k).ops xs n).0
-  numbers_at [] n l = absurd (omega arith)
-  numbers_at (x ∷ xs) zero l = refl
-  numbers_at (x ∷ xs) (suc n) l = numbers_at xs n (omega arith)
-
   pub generator_irreducible : IsIrreducible k.ops (codes_of k generator_of)
   unfolding generator_of
   generator_irreducible = record {
     monic =
         IsMonic_from_top monic.monic.degree (codes_of k monic.product) (codes_length monic.product ∙ monic.monic.size)
-        (numbers_at monic.product.0 monic.monic.degree (let s = monic.monic.size in omega arith) ∙ ap (λ x. x.0) monic.monic.top);
+        (numbers_get k monic.product.0 monic.monic.degree (let s = monic.monic.size in omega arith) ∙ ap (λ x. x.0) monic.monic.top);
     not_constant = subst (λ n. 2 ≤ n) (sym (codes_length monic.product)) generator_long;
     no_divisor = λ b b_in b_monic long short d.
         let B = value k b in
@@ -189,7 +189,7 @@ module _ {k : CodeField} (c : Equation k) (gs : List (FunctionOf c)) (place : Is
           let size : length a.0 ≡ suc t.0 = sym (codes_length a) ∙ t.1 in (
             t.0,
             size,
-            same_code k _ (code_ring k).𝟙 (sym (numbers_at a.0 t.0 (omega arith)) ∙ t.2),
+            same_code k _ (code_ring k).𝟙 (sym (numbers_get k a.0 t.0 (omega arith)) ∙ t.2),
           )
 
       factor : (a b u : Polynomial k) → ¬ (a ≡ (polynomials k).𝟘) → b ≡ (polynomials k).◌⊗◌ a u → ¬ (b ≡ (polynomials k).𝟘) → ¬ (u ≡ (polynomials k).𝟘)
