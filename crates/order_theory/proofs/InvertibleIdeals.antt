@@ -17,7 +17,7 @@ use Rattle.local_theory.specs.Orders.{MaximalAt, Radical}
 use Rattle.local_theory.specs.Systems.{IsDecomposition, UnitModulo}
 use Rattle.local_theory.proofs.Primes.{ideal_neg}
 use Rattle.local_theory.proofs.PohstZassenhaus.{multiples_ideal}
-use Rattle.local_theory.proofs.Invertible.{Obstruction, obstruction, unit_at, trace_at, trace_ideal}
+use Rattle.local_theory.proofs.Invertible.{Obstruction, obstruction, unit_at, trace_at, trace_of_local, trace_ideal}
 use Rattle.linear_theory.specs.Basis.{IsSum}
 use Rattle.linear_theory.specs.Euclidean.{IsDivisor}
 use Rattle.linear_theory.proofs.Euclid.{decide_divisor}
@@ -29,18 +29,18 @@ use Rattle.ff_poly.proofs.Parts.{IsMonic_from_top}
 use Rattle.ff_poly.specs.Polynomials.{Polynomial, polynomials, polynomial_discrete, codes_of, value_codes_of}
 use Rattle.ff_algebra.specs.declared.elem.Side.TheVariants.{Finite}
 use Rattle.ff_algebra.specs.Places.{IsIntegralAt}
-use Rattle.ff_algebra.specs.Functions.{Equation, FunctionOf, ring_of, of_poly, setting_of}
+use Rattle.ff_algebra.specs.Functions.{Equation, FunctionOf, ring_of, of_poly, IsPolynomial, setting_of}
 use Rattle.places_theory.proofs.YRoot.{poly_hom}
 use Rattle.trace_theory.proofs.TracePowers.{some_long, zero_length}
 use Rattle.trace_theory.proofs.Division.{euclidean}
 use Rattle.trace_theory.proofs.Irreducible.{irreducible_some}
 use Rattle.order_theory.specs.Lattices.{IsLattice, space_ops}
-use Rattle.order_theory.specs.Orders.{IsOrder}
+use Rattle.order_theory.specs.Orders.{IsOrder, IsOrderUpTo}
 use Rattle.order_theory.proofs.Lattices.{lattice_module, lattice_decided}
 use Rattle.order_theory.proofs.LeastPolynomials.{Least, least_polynomial}
 use Rattle.order_theory.proofs.Bases.{MonicMultiple, monic_multiple}
 use Rattle.order_theory.proofs.Operations.{inverse_of, product_lattice, colon_lattice, sum_lattice, polynomial_of}
-use Rattle.order_theory.proofs.LocalOrders.{stable_integral}
+use Rattle.order_theory.proofs.LocalOrders.{stable_integral, prime_to}
 use Rattle.order_theory.proofs.ReductionAt.{pO, p_in, multiple_is_lattice, lift}
 use Rattle.order_theory.proofs.PrimesOver.{Index, listed, order_generators}
 use Rattle.order_theory.proofs.IrreducibleIn.{monic_poly, numbers_get}
@@ -185,8 +185,9 @@ module _ (k : CodeField) (g : Polynomial k) (some : ¬ (g ≡ (polynomials k).�
   }
 
 module _ {k : CodeField} (c : Equation k) (O : FunctionOf c → Type 0) (𝓞 : IsOrder c O)
-    (maximal : (p : Polynomial k) → IsIrreducible k.ops (codes_of k p) → MaximalAt (ring_of c).ops (of_poly c p) (IsIntegralAt (setting_of c) Finite) O)
-    (M : FunctionOf c → Type 0) (lattice : IsLattice c M) (𝓜 : IsModule (ring_of c).ops O M) where
+    (M : FunctionOf c → Type 0) (lattice : IsLattice c M) (𝓜 : IsModule (ring_of c).ops O M)
+    (admitted : (p : Polynomial k) → IsIrreducible k.ops (codes_of k p)
+    → MaximalAt (ring_of c).ops (of_poly c p) (IsIntegralAt (setting_of c) Finite) O ⊎ IsOrderUpTo c p O M) where
   infixl 65 ◌⊕◌
   infixl 70 ◌⊗◌
   infixr 80 ⊖◌
@@ -256,15 +257,33 @@ module _ {k : CodeField} (c : Equation k) (O : FunctionOf c → Type 0) (𝓞 : 
 
     -- what p takes into T is in T
     pub cancelled : (w : FunctionOf c) → O w → T (of_poly c p ⊗ w) → T w
-    cancelled w w_in m =
-        let u = inverse_of c p (irreducible_some k p h) in
-        trace_at (ring_of c) O 𝓞.ring (of_poly c p) (p_in c p h O 𝓞) M 𝓜
-        (unit_at (ring_of c) O 𝓞.ring (of_poly c p) u.0 ((ring_of c).mul_comm _ _ ∙ u.1) M 𝓜
-        (λ z f n.
-        maximal p h z 1 (stable_integral c (Inverse (ring_of c).ops O M) (colon_lattice c O M 𝓞.lattice lattice) z (λ y y_in. f y y_in))
-        (subst (λ x. O (x ⊗ z)) (sym ((ring_of c).mul_one _)) n))
-        decided)
-        1 w w_in (subst (λ x. T (x ⊗ w)) (sym ((ring_of c).mul_one _)) m)
+    cancelled w w_in m = go (admitted p h)
+      where
+        go : MaximalAt (ring_of c).ops (of_poly c p) (IsIntegralAt (setting_of c) Finite) O ⊎ IsOrderUpTo c p O M → T w
+        go (inl maximal) =
+            let u = inverse_of c p (irreducible_some k p h) in
+            trace_at (ring_of c) O 𝓞.ring (of_poly c p) (p_in c p h O 𝓞) M 𝓜
+            (unit_at (ring_of c) O 𝓞.ring (of_poly c p) u.0 ((ring_of c).mul_comm _ _ ∙ u.1) M 𝓜
+            (λ z f n.
+            maximal z 1 (stable_integral c (Inverse (ring_of c).ops O M) (colon_lattice c O M 𝓞.lattice lattice) z (λ y y_in. f y y_in))
+            (subst (λ x. O (x ⊗ z)) (sym ((ring_of c).mul_one _)) n))
+            decided)
+            1 w w_in (subst (λ x. T (x ⊗ w)) (sym ((ring_of c).mul_one _)) m)
+        go (inr l) =
+            let 𝓝 = prime_to c p h in
+            let b = 𝓝.comaximal (l.member ⊗ l.factor) (𝓝.product_in _ _ l.member_in l.factor_in) in
+            let one = trace_of_local (ring_of c) O 𝓞.ring M l.factor l.member l.takes l.has in
+            subst T (split b.left (l.member ⊗ l.factor) b.right (of_poly c p) b.is)
+            (T_ideal.sum_in _ _
+            (T_ideal.scale_in (b.left ⊗ w) _ (𝓞.ring.product_in _ _ (scalar_in b.left b.left_in) w_in) one)
+            (T_ideal.scale_in b.right _ (scalar_in b.right b.right_in) m))
+          where
+            split : (x a y q : FunctionOf c) → x ⊗ a ⊕ y ⊗ q ≡ 𝟙 → (x ⊗ w) ⊗ a ⊕ y ⊗ (q ⊗ w) ≡ w
+            split x a y q e =
+                from_one (ring_of c) w e (ring (ring_of c) (x ∷ a ∷ y ∷ q ∷ w ∷ []) λ q h. simp (reads, q, h 0, h 1, h 2, h 3, h 4) (q.equal _ _ refl))
+
+            scalar_in : (s : FunctionOf c) → IsPolynomial c s → O s
+            scalar_in s s_in = subst O ((ring_of c).mul_one s) ((lattice_module c O 𝓞.lattice).scale_in s 𝟙 s_in 𝓞.ring.one_in)
 
   abbrev Some : Polynomial k → Type 0
   Some a = (¬ (a ≡ (polynomials k).𝟘)) × Product (ring_of c).ops M (Inverse (ring_of c).ops O M) (of_poly c a)

@@ -25,3 +25,12 @@ module _ {k : CodeField} (c : Equation k) where
   -- the integral functions that a power of p takes into O
   abbrev pub TakenByPowers : Polynomial k → (FunctionOf c → Type 0) → FunctionOf c → Type 0
   TakenByPowers p O = Enlarged (ring_of c) (IsIntegralAt (setting_of c) Finite) (of_poly c p) O
+
+  -- M is O up to functions prime to p: one takes M into O, and one is in M
+  pub record IsOrderUpTo (p : Polynomial k) (O M : FunctionOf c → Type 0) : Type 0 where
+    pub factor : FunctionOf c
+    pub factor_in : IsPrimeTo p factor
+    pub takes : (z : FunctionOf c) → M z → O ((ring_of c).◌⊗◌ factor z)
+    pub member : FunctionOf c
+    pub member_in : IsPrimeTo p member
+    pub has : M member

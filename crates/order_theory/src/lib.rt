@@ -4,7 +4,7 @@
 //! the crates above cite the lemmas of proofs/. For the infinite side the same theorems hold of the infinite presentation.
 #![tactic(auto)]
 
-ghost use Rattle.std.specs.Prelude.{◌≡◌, ℕ, ℤ, ◌+◌, ◌-◌, ◌*◌, ◌<◌, ◌↔◌, List, length};
+ghost use Rattle.std.specs.Prelude.{◌≡◌, ℕ, ℤ, ◌+◌, ◌-◌, ◌*◌, ◌<◌, ◌↔◌, ◌⊎◌, List, length};
 ghost use Rattle.std.proofs.Common.{pos};
 ghost use Rattle.ff_ring.specs.Subsets.{IsModule, Product, Colon};
 ghost use Rattle.ff_ring.specs.Local.{Locally};
@@ -16,13 +16,13 @@ ghost use Rattle.ff_algebra.specs.Functions.{Equation, FunctionOf, ring_of, of_p
 ghost use Rattle.ff_algebra.specs.Discriminant.{discriminant};
 ghost use Rattle.ff_algebra.specs.Places.{Place, IsPlace, IsIn, IsSamePlace, IsIntegralAt, LiesOver, HasValuation};
 ghost use Rattle.ff_algebra.specs.Divisors.{HasDegree};
-ghost use Rattle.local_theory.specs.Ideals.{Multiple};
+ghost use Rattle.local_theory.specs.Ideals.{Multiple, Invertible};
 ghost use Rattle.local_theory.specs.Orders.{MaximalAt};
 ghost use Rattle.local_theory.specs.Primes.{IsPrime};
 ghost use Rattle.linear_theory.specs.Basis.{IsSum};
 ghost use Rattle.trace_theory.specs.Traces.{HasPolynomialCoordinates};
 ghost use Rattle.order_theory.specs.Lattices.{IsLattice, HasIndex, IsBasisOf, space_ops};
-ghost use Rattle.order_theory.specs.Orders.{IsOrder, IsPrimeTo, TakenByPowers};
+ghost use Rattle.order_theory.specs.Orders.{IsOrder, IsPrimeTo, TakenByPowers, IsOrderUpTo};
 ghost use Rattle.order_theory.specs.PlaceLists.{PlaceOver, IsAllOver, sum_of_degrees};
 
 /// Three sets of functions of a curve. Only theorems use it, as a type parameter that no value has.
@@ -103,6 +103,15 @@ pub fn local_order_law<S: FunctionSets>()
     ensures locally { (p : Polynomial S.field) → IsIrreducible S.field.ops (codes_of S.field p) → IsLattice S.equation S.first
         → MaximalAt (ring_of S.equation).ops (of_poly S.equation p) (IsIntegralAt (setting_of S.equation) Finite) S.first
         ↔ ((z : FunctionOf S.equation) → IsIntegralAt (setting_of S.equation) Finite z → Locally (ring_of S.equation).ops (IsPrimeTo S.equation p) S.first z) }
+{}
+
+/// Each lattice that is closed under an order is invertible, where at each irreducible p the order is maximal or the lattice is the order up to
+/// functions prime to p. So each one is where the order has all integral functions.
+pub fn inverse_law<S: FunctionSets>()
+    ensures { IsOrder S.equation S.first → IsLattice S.equation S.second → IsModule (ring_of S.equation).ops S.first S.second
+        → ((p : Polynomial S.field) → IsIrreducible S.field.ops (codes_of S.field p)
+        → MaximalAt (ring_of S.equation).ops (of_poly S.equation p) (IsIntegralAt (setting_of S.equation) Finite) S.first ⊎ IsOrderUpTo S.equation p S.first S.second)
+        → Invertible (ring_of S.equation).ops S.first S.second }
 {}
 
 /// Each finite place has a monic irreducible polynomial, and one only: the place lies over it.
