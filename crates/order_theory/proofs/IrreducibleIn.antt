@@ -69,17 +69,17 @@ module _ {k : CodeField} (c : Equation k) (gs : List (FunctionOf c)) (place : Is
       go (no n) (yes m) = yes (n, m)
       go (no n) (no m) = no (λ h. m h.1)
 
-  times : (a b : Polynomial k) → In b → In ((polynomials k).◌⊗◌ a b)
+  pub times : (a b : Polynomial k) → In b → In ((polynomials k).◌⊗◌ a b)
   times a b h = subst (IsIn (setting_of c) (finite c gs)) (sym ((poly_hom c).mul a b)) (𝓜.scale_in _ _ (record { polynomial = a; value = refl }) h)
 
   sum : (a b : Polynomial k) → In a → In b → In ((polynomials k).◌⊕◌ a b)
   sum a b h h' = subst (IsIn (setting_of c) (finite c gs)) (sym ((poly_hom c).add a b)) (𝓜.sum_in _ _ h h')
 
-  one_out : ¬ In (polynomials k).𝟙
+  pub one_out : ¬ In (polynomials k).𝟙
   one_out h = place.proper (subst (IsIn (setting_of c) (finite c gs)) (poly_hom c).𝟙 h)
 
   -- a product in the place has a factor in it
-  factor_in : (a b : Polynomial k) → In ((polynomials k).◌⊗◌ a b) → ¬ In a → In b
+  pub factor_in : (a b : Polynomial k) → In ((polynomials k).◌⊗◌ a b) → ¬ In a → In b
   factor_in a b h n =
       let i = place.inverse (of_poly c a) (polynomial_integral c _ (record { polynomial = a; value = refl })) n in
       subst (IsIn (setting_of c) (finite c gs)) (step (of_poly c a) (of_poly c b) i.0)

@@ -20,3 +20,4 @@ pub mod LeastPolynomials
 pub mod IrreducibleIn
 pub mod Values
 pub mod InvertibleIdeals
+pub mod FinitelyMany

@@ -1,5 +1,5 @@
 -- The theorems on finite places, for places whose side is given by an equation.
-use Rattle.std.proofs.Common.{refl, ◌≡◌, ℕ, List}
+use Rattle.std.proofs.Common.{◌⊎◌, refl, ◌≡◌, ℕ, List}
 use Rattle.local_theory.specs.Primes.{IsPrime}
 use Rattle.ff_fields.specs.Field.{CodeField}
 use Rattle.ff_poly.specs.Words.{IsIrreducible}
@@ -7,6 +7,8 @@ use Rattle.ff_poly.specs.Polynomials.{Polynomial, polynomials, codes_of}
 use Rattle.std.specs.Prelude.{ℤ}
 use Rattle.std.proofs.Common.{refl, pos}
 use Rattle.order_theory.proofs.IrreducibleIn.{generator_of, generator_in, generator_irreducible, same_irreducible}
+use Rattle.std.specs.List.{Any}
+use Rattle.order_theory.proofs.FinitelyMany.{finitely_many}
 use Rattle.order_theory.proofs.Values.{value_exists, value_zero}
 use Rattle.ff_algebra.specs.declared.elem.Side.{Side}
 use Rattle.ff_algebra.specs.declared.elem.Side.TheVariants.{Finite, Infinite}
@@ -77,3 +79,14 @@ module _ {k : CodeField} (c : Equation k) where
   value_zero_at P h e z y a b inverse a_in a_out az b_in b_out b_y =
       by_side (λ P. IsPlace (setting_of c) P → ¬ (IsIn (setting_of c) P a) → ¬ (IsIn (setting_of c) P b) → HasValuation (setting_of c) P z (pos 0))
       (λ gs h a_out b_out. value_zero c gs h z y a b inverse a_in a_out az b_in b_out b_y) P.side P.generators e h a_out b_out
+
+  pub values_finitely_many : ¬ (discriminant c ≡ (polynomials k).𝟘) → (z y : FunctionOf c) → (ring_of c).◌⊗◌ z y ≡ (ring_of c).𝟙
+      → (ps : List (Place (FunctionOf c))) × ((P : Place (FunctionOf c)) → IsPlace (setting_of c) P → P.side ≡ Finite
+      → HasValuation (setting_of c) P z (pos 0) ⊎ Any (λ Q. IsSamePlace (setting_of c) Q P) ps)
+  values_finitely_many some z y inverse =
+      let r = finitely_many c some z y inverse in (
+        r.0,
+        λ P h e.
+            by_side (λ P. IsPlace (setting_of c) P → HasValuation (setting_of c) P z (pos 0) ⊎ Any (λ Q. IsSamePlace (setting_of c) Q P) r.0)
+            (λ gs h. r.1 gs h) P.side P.generators e h,
+      )

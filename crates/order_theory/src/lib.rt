@@ -5,6 +5,7 @@
 #![tactic(auto)]
 
 ghost use Rattle.std.specs.Prelude.{◌≡◌, ℕ, ℤ, ◌+◌, ◌-◌, ◌*◌, ◌<◌, ◌↔◌, ◌⊎◌, List, length};
+ghost use Rattle.std.specs.List.{Any};
 ghost use Rattle.std.proofs.Common.{pos};
 ghost use Rattle.ff_ring.specs.Subsets.{IsModule, Product, Colon};
 ghost use Rattle.ff_ring.specs.Local.{Locally};
@@ -144,10 +145,14 @@ pub fn places_over_law()
         × (sum_of_degrees (setting_of c) (of_poly c p) ps ≡ degree_of_y c * (length p.0 - 1)) }
 {}
 
-/// A function with an inverse has a value at each finite place; it is 0 where the function and its inverse have denominators that aren't in the place.
+/// A function with an inverse has a value at each finite place; it is 0 where the function and its inverse have denominators that aren't in the place, and
+/// so at all but finitely many.
 pub fn value_law()
     ensures exists { (k : CodeField) (c : Equation k) (P : Place (FunctionOf c)) → ¬ (discriminant c ≡ (polynomials k).𝟘) → IsPlace (setting_of c) P
         → P.side ≡ Finite → (z y : FunctionOf c) → (ring_of c).◌⊗◌ z y ≡ (ring_of c).𝟙 → (m : ℤ) × HasValuation (setting_of c) P z m }
+    ensures finitely { (k : CodeField) (c : Equation k) → ¬ (discriminant c ≡ (polynomials k).𝟘) → (z y : FunctionOf c)
+        → (ring_of c).◌⊗◌ z y ≡ (ring_of c).𝟙 → (ps : List (Place (FunctionOf c))) × ((P : Place (FunctionOf c)) → IsPlace (setting_of c) P → P.side ≡ Finite
+        → HasValuation (setting_of c) P z (pos 0) ⊎ Any (λ Q. IsSamePlace (setting_of c) Q P) ps) }
     ensures zero { (k : CodeField) (c : Equation k) (P : Place (FunctionOf c)) → IsPlace (setting_of c) P → P.side ≡ Finite
         → (z y a b : FunctionOf c) → (ring_of c).◌⊗◌ z y ≡ (ring_of c).𝟙
         → IsIntegralAt (setting_of c) Finite a → ¬ (IsIn (setting_of c) P a) → IsIntegralAt (setting_of c) Finite ((ring_of c).◌⊗◌ a z)
