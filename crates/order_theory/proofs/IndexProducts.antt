@@ -81,25 +81,25 @@ module _ {k : CodeField} (c : Equation k) (O : FunctionOf c → Type 0) (𝓞 : 
   combine_times a e [] = sym (mul_zero (ring_of c) a)
   combine_times a e (v ∷ vs) = ap₂ ◌⊕◌ (mul_left_comm (ring_of c) _ a v) (combine_times a (λ i. e (suc i)) vs) ∙ sym ((ring_of c).mul_add a _ _)
 
-  module _ (P : FunctionOf c → Type 0) (𝓟 : IsPrime (ring_of c).ops O P) (factor : IsFactor P) (f : ℕ) (index : HasIndex c P O f) where
+  module _ (P : FunctionOf c → Type 0) (𝓟 : IsPrime (ring_of c).ops O P) (f : ℕ) (index : HasIndex c P O f) where
     -- the index of X·P in X is that of P in the order
-    pub times_index : (X : FunctionOf c → Type 0) → IsFactor X → HasIndex c (Product (ring_of c).ops X P) X f
-    times_index X h = record {
+    pub times_index : (X : FunctionOf c → Type 0) → IsModule (ring_of c).ops O X → Invertible (ring_of c).ops O X → HasIndex c (Product (ring_of c).ops X P) X f
+    times_index X 𝓧 inverse = record {
       basis = map (◌⊗◌ a.element) index.basis;
       is = record {
         members_in =
             All-map X (◌⊗◌ a.element) index.basis
-            (All-weaker O (λ w. X (a.element ⊗ w)) (λ w m. subst X ((ring_of c).mul_comm w a.element) (h.module_is.scale_in w a.element m a.element_in)) index.basis
+            (All-weaker O (λ w. X (a.element ⊗ w)) (λ w m. subst X ((ring_of c).mul_comm w a.element) (𝓧.scale_in w a.element m a.element_in)) index.basis
             index.is.members_in);
         spanning = λ z z_in.
-            let r = generated (ring_of c) O 𝓞.ring P 𝓟 X h.module_is a z z_in in
+            let r = generated (ring_of c) O 𝓞.ring P 𝓟 X 𝓧 a z z_in in
             let t = index.is.spanning r.scalar r.scalar_in in
             let XP = Product (ring_of c).ops X P in
             record {
               coefficient = t.coefficient;
               rest = a.element ⊗ t.rest ⊕ r.rest;
               rest_in =
-                  (product_module (ring_of c) O 𝓞.ring X P h.module_is).sum_in _ _
+                  (product_module (ring_of c) O 𝓞.ring X P 𝓧).sum_in _ _
                   (product_member (ring_of c) O 𝓞.ring X P a.element t.rest a.element_in t.rest_in) r.rest_in;
               is =
                   r.is ∙ ap (λ x. a.element ⊗ x ⊕ r.rest) t.is ∙ moved a.element (combine (space_ops c) t.coefficient index.basis) t.rest r.rest
@@ -107,7 +107,7 @@ module _ {k : CodeField} (c : Equation k) (O : FunctionOf c → Type 0) (𝓞 : 
             };
         independent = λ e m i l.
             index.is.independent e
-            (generator_free (ring_of c) O 𝓞.ring P 𝓟 X h.module_is a (combine (space_ops c) e index.basis)
+            (generator_free (ring_of c) O 𝓞.ring P 𝓟 X 𝓧 a (combine (space_ops c) e index.basis)
             (combine_in (codes k) (space c) O (lattice_subspace c O 𝓞.lattice) e index.basis index.is.members_in)
             (subst (Product (ring_of c).ops X P) (combine_times a.element e index.basis) m)) i
             (subst (λ n. i < n) (length-map index.basis (◌⊗◌ a.element)) l);
@@ -116,11 +116,12 @@ module _ {k : CodeField} (c : Equation k) (O : FunctionOf c → Type 0) (𝓞 : 
     }
       where
         a : Generator (ring_of c) O P X
-        a = generator (ring_of c) O 𝓞.ring P 𝓟 X h.module_is h.invertible
+        a = generator (ring_of c) O 𝓞.ring P 𝓟 X 𝓧 inverse
 
         moved : (a v r s : FunctionOf c) → a ⊗ (v ⊕ r) ⊕ s ≡ a ⊗ v ⊕ (a ⊗ r ⊕ s)
         moved a v r s = ring (ring_of c) (a ∷ v ∷ r ∷ s ∷ []) λ q h. simp (reads, q, h 0, h 1, h 2, h 3) (q.equal _ _ refl)
 
+  module _ (P : FunctionOf c → Type 0) (𝓟 : IsPrime (ring_of c).ops O P) (factor : IsFactor P) (f : ℕ) (index : HasIndex c P O f) where
     times_within : (X : FunctionOf c → Type 0) → IsFactor X → (z : FunctionOf c) → Product (ring_of c).ops X P z → X z
     times_within X h =
         product_into (ring_of c) X P X (additive_of_module (ring_of c) O X h.module_is)
@@ -210,7 +211,7 @@ module _ {k : CodeField} (c : Equation k) (O : FunctionOf c → Type 0) (𝓞 : 
           index_same c (Product (ring_of c).ops (Powered n X) P) (Powered (suc n) X) X X s (λ z. (λ m. m, λ m. m)) _
               (subst (HasIndex c (Product (ring_of c).ops (Powered n X) P) X) (let q : f + n * f ≡ suc n * f = omega (arith, suc-mul n f) in q)
               (index_add c (Product (ring_of c).ops (Powered n X) P) (Powered n X) X t.lattice r.0.lattice h.lattice (times_within (Powered n X) r.0)
-              (powered_within n X h) f (n * f) (times_index (Powered n X) r.0) r.1)),
+              (powered_within n X h) f (n * f) (times_index P 𝓟 f index (Powered n X) r.0.module_is r.0.invertible) r.1)),
         )
 
   -- the product of powers of several primes

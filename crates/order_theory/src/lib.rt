@@ -115,6 +115,13 @@ pub fn inverse_law<S: FunctionSets>()
         → Invertible (ring_of S.equation).ops S.first S.second }
 {}
 
+/// The index of X·P in X, for a prime P of an order and an invertible module X over it, is that of P in the order.
+pub fn product_index_law<S: FunctionSets>()
+    ensures { IsOrder S.equation S.first → IsPrime (ring_of S.equation).ops S.first S.third → IsModule (ring_of S.equation).ops S.first S.second
+        → Invertible (ring_of S.equation).ops S.first S.second → (g : ℕ) → HasIndex S.equation S.third S.first g
+        → HasIndex S.equation (Product (ring_of S.equation).ops S.second S.third) S.second g }
+{}
+
 /// Each finite place has a monic irreducible polynomial, and one only: the place lies over it.
 pub fn lies_over_law()
     ensures over { (k : CodeField) (c : Equation k) (P : Place (FunctionOf c)) → IsPlace (setting_of c) P → P.side ≡ Finite
