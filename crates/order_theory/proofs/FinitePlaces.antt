@@ -25,9 +25,12 @@ use Rattle.order_theory.specs.Lattices.{IsLattice, HasMultiple}
 use Rattle.order_theory.proofs.Lattices.{span_decided}
 use Rattle.order_theory.proofs.IntegralLattice.{integral_subring, polynomial_integral, coordinates_integral}
 
-one_short : (k : CodeField) → length (polynomials k).𝟙.0 ≤ 1
+pub one_short : (k : CodeField) → length (polynomials k).𝟙.0 ≤ 1
 unfolding pol_ops
 one_short k = length_trim (code_ring k).is_zero ((code_ring k).𝟙 ∷ [])
+
+pub x_long : (k : CodeField) → 2 ≤ length (x_poly k).0
+x_long k = subst (λ p. 2 ≤ length p.0) ((polynomials k).mul_one (x_poly k)) (x_power_long k 1)
 
 module _ {k : CodeField} (c : Equation k) where
   infixl 65 ◌⊕◌
@@ -80,9 +83,6 @@ module _ {k : CodeField} (c : Equation k) where
         is : (polynomials k).◌⊗◌ (x_poly k) ((polynomials k).⊖◌ b) ≡ (polynomials k).𝟙
         is = inverse (x_poly k) b e
 
-        x_long : 2 ≤ length (x_poly k).0
-        x_long = subst (λ p. 2 ≤ length p.0) ((polynomials k).mul_one (x_poly k)) (x_power_long k 1)
-
         go : Dec ((polynomials k).⊖◌ b ≡ (polynomials k).𝟘) → ⊥
         go (yes z) =
             (polynomials_domain k).one_not_zero
@@ -91,7 +91,7 @@ module _ {k : CodeField} (c : Equation k) where
             let l = product_longer k (x_poly k) ((polynomials k).⊖◌ b) (x_poly_not_zero k) n in
             let m : length ((polynomials k).◌⊗◌ (x_poly k) ((polynomials k).⊖◌ b)).0 ≡ length (polynomials k).𝟙.0 = ap (λ p. length p.0) is in
             let o = one_short k in
-            let x = x_long in absurd (omega arith)
+            let x = x_long k in absurd (omega arith)
 
     -- a polynomial other than 0 in the place
     pub place_polynomial : (a : Polynomial k) × (¬ (a ≡ (polynomials k).𝟘)) × M (of_poly c a)

@@ -21,3 +21,4 @@ pub mod IrreducibleIn
 pub mod Values
 pub mod InvertibleIdeals
 pub mod FinitelyMany
+pub mod InfinitePlaces
