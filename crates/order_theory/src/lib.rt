@@ -1,0 +1,174 @@
+//! Lattices and orders in a function field F = k(x)[y]/(f) over a finite field k: dimensions over k of one lattice modulo another, the
+//! lattice of the functions that are integral over the polynomials, and the finite places over an irreducible polynomial. Nothing is asked of
+//! f but, where it is said, that its discriminant isn't 0: F need not be a field. Each main theorem is the contract of a function with an empty body;
+//! the crates above cite the lemmas of proofs/. For the infinite side the same theorems hold of the infinite presentation.
+#![tactic(auto)]
+
+ghost use Rattle.std.specs.Prelude.{◌≡◌, ℕ, ℤ, ◌+◌, ◌-◌, ◌*◌, ◌<◌, ◌↔◌, ◌⊎◌, List, length};
+ghost use Rattle.std.specs.List.{Any};
+ghost use Rattle.std.proofs.Common.{pos};
+ghost use Rattle.ff_ring.specs.Subsets.{IsModule, Product, Colon};
+ghost use Rattle.ff_ring.specs.Local.{Locally};
+ghost use Rattle.ff_fields.specs.Field.{CodeField};
+ghost use Rattle.ff_poly.specs.Words.{IsIrreducible};
+ghost use Rattle.ff_poly.specs.Polynomials.{Polynomial, polynomials, codes_of};
+ghost use Rattle.ff_algebra.specs.declared.elem.Side.TheVariants.{Finite, Infinite};
+ghost use Rattle.ff_algebra.specs.Functions.{Equation, FunctionOf, ring_of, of_poly, IsPolynomial, degree_of_y, setting_of};
+ghost use Rattle.ff_algebra.specs.Discriminant.{discriminant};
+ghost use Rattle.ff_algebra.specs.Places.{Place, IsPlace, IsIn, IsSamePlace, IsIntegralAt, LiesOver, HasValuation};
+ghost use Rattle.ff_algebra.specs.Divisors.{HasDegree};
+ghost use Rattle.local_theory.specs.Ideals.{Multiple, Invertible};
+ghost use Rattle.local_theory.specs.Orders.{MaximalAt};
+ghost use Rattle.local_theory.specs.Primes.{IsPrime};
+ghost use Rattle.linear_theory.specs.Basis.{IsSum};
+ghost use Rattle.trace_theory.specs.Traces.{HasPolynomialCoordinates};
+ghost use Rattle.order_theory.specs.Lattices.{IsLattice, HasIndex, IsBasisOf, space_ops};
+ghost use Rattle.order_theory.specs.Orders.{IsOrder, IsPrimeTo, TakenByPowers, IsOrderUpTo};
+ghost use Rattle.order_theory.specs.PlaceLists.{PlaceOver, IsAllOver, sum_of_degrees};
+
+/// Three sets of functions of a curve. Only theorems use it, as a type parameter that no value has.
+pub trait FunctionSets {
+    ghost field: { CodeField };
+
+    ghost equation: { Equation field };
+
+    ghost first: { FunctionOf equation → Type 0 };
+
+    ghost second: { FunctionOf equation → Type 0 };
+
+    ghost third: { FunctionOf equation → Type 0 };
+}
+
+/// Membership in a lattice is decided, and whether a lattice lies in another. A lattice has a basis of n functions over the polynomials, and some
+/// polynomial other than 0 takes it into a given lattice. A module between two lattices whose membership is decided is a lattice.
+pub fn lattice_law<S: FunctionSets>()
+    ensures decided { IsLattice S.equation S.first → (z : FunctionOf S.equation) → Dec (S.first z) }
+    ensures within { IsLattice S.equation S.first → IsLattice S.equation S.second → Dec ((z : FunctionOf S.equation) → S.first z → S.second z) }
+    ensures basis { IsLattice S.equation S.first → (bs : List (FunctionOf S.equation)) × (length bs ≡ degree_of_y S.equation) × IsBasisOf S.equation S.first bs }
+    ensures factor { IsLattice S.equation S.first → IsLattice S.equation S.second → (a : Polynomial S.field) × (¬ (a ≡ (polynomials S.field).𝟘))
+        × ((z : FunctionOf S.equation) → S.first z → S.second ((ring_of S.equation).◌⊗◌ (of_poly S.equation a) z)) }
+    ensures between { IsLattice S.equation S.first → IsLattice S.equation S.third → IsModule (ring_of S.equation).ops (IsPolynomial S.equation) S.second
+        → ((z : FunctionOf S.equation) → S.first z → S.second z) → ((z : FunctionOf S.equation) → S.second z → S.third z)
+        → ((z : FunctionOf S.equation) → S.third z → Dec (S.second z)) → IsLattice S.equation S.second }
+{}
+
+/// Lattices: k[x][y], the multiples of a lattice by an invertible function, and the sum, the product, the intersection and the colon of two.
+pub fn lattices_law<S: FunctionSets>()
+    ensures coordinates { IsLattice S.equation (HasPolynomialCoordinates S.equation) }
+    ensures multiple { IsLattice S.equation S.first → (u v : FunctionOf S.equation) → (ring_of S.equation).◌⊗◌ u v ≡ (ring_of S.equation).𝟙
+        → IsLattice S.equation (Multiple (ring_of S.equation).ops u S.first) }
+    ensures sum { IsLattice S.equation S.first → IsLattice S.equation S.second → IsLattice S.equation (IsSum (space_ops S.equation) S.first S.second) }
+    ensures product { IsLattice S.equation S.first → IsLattice S.equation S.second → IsLattice S.equation (Product (ring_of S.equation).ops S.first S.second) }
+    ensures intersection { IsLattice S.equation S.first → IsLattice S.equation S.second → IsLattice S.equation (λ z. S.first z × S.second z) }
+    ensures colon { IsLattice S.equation S.first → IsLattice S.equation S.second → IsLattice S.equation (Colon (ring_of S.equation).ops S.first S.second) }
+{}
+
+/// The index of a lattice in a larger one, as the dimension over k: there is one, it is one number, it is 0 where the two are equal alone, indices
+/// add along a chain, and the multiple of a lattice by a polynomial has the index n times the degree.
+pub fn index_law<S: FunctionSets>()
+    ensures exists { IsLattice S.equation S.first → IsLattice S.equation S.second → ((z : FunctionOf S.equation) → S.first z → S.second z)
+        → (g : ℕ) × HasIndex S.equation S.first S.second g }
+    ensures once { IsLattice S.equation S.first → (g h : ℕ) → HasIndex S.equation S.first S.second g → HasIndex S.equation S.first S.second h → g ≡ h }
+    ensures equal { IsLattice S.equation S.first → HasIndex S.equation S.first S.second 0 ↔ ((z : FunctionOf S.equation) → S.second z → S.first z) }
+    ensures add { IsLattice S.equation S.first → IsLattice S.equation S.second → IsLattice S.equation S.third
+        → ((z : FunctionOf S.equation) → S.first z → S.second z) → ((z : FunctionOf S.equation) → S.second z → S.third z) → (g h : ℕ)
+        → HasIndex S.equation S.first S.second g → HasIndex S.equation S.second S.third h → HasIndex S.equation S.first S.third (g + h) }
+    ensures less { IsLattice S.equation S.first → IsLattice S.equation S.second → IsLattice S.equation S.third
+        → ((z : FunctionOf S.equation) → S.first z → S.second z) → ((z : FunctionOf S.equation) → S.second z → S.third z)
+        → ¬ ((z : FunctionOf S.equation) → S.second z → S.first z) → (g h : ℕ)
+        → HasIndex S.equation S.first S.third g → HasIndex S.equation S.second S.third h → h < g }
+    ensures multiple { IsLattice S.equation S.first → (a : Polynomial S.field) → ¬ (a ≡ (polynomials S.field).𝟘)
+        → HasIndex S.equation (Multiple (ring_of S.equation).ops (of_poly S.equation a) S.first) S.first (degree_of_y S.equation * (length a.0 - 1)) }
+{}
+
+/// The members of an order are integral over the polynomials, and so is what takes a lattice into itself.
+pub fn order_law<S: FunctionSets>()
+    ensures member { IsOrder S.equation S.first → (z : FunctionOf S.equation) → S.first z → IsIntegralAt (setting_of S.equation) Finite z }
+    ensures stable { IsLattice S.equation S.first → (z : FunctionOf S.equation)
+        → ((y : FunctionOf S.equation) → S.first y → S.first ((ring_of S.equation).◌⊗◌ z y)) → IsIntegralAt (setting_of S.equation) Finite z }
+{}
+
+/// Where the discriminant isn't 0, the functions that are integral over the polynomials are an order, the maximal one; and integrality is decided.
+pub fn integral_order_law()
+    ensures order { (k : CodeField) (c : Equation k) → ¬ (discriminant c ≡ (polynomials k).𝟘) → IsOrder c (IsIntegralAt (setting_of c) Finite) }
+    ensures decided { (k : CodeField) (c : Equation k) → ¬ (discriminant c ≡ (polynomials k).𝟘) → (z : FunctionOf c) → Dec (IsIntegralAt (setting_of c) Finite z) }
+{}
+
+/// The integral functions that powers of an irreducible p take into an order are an order that is maximal at p. A lattice that is a ring is maximal at p
+/// exactly where it has each integral function up to a factor prime to p.
+pub fn local_order_law<S: FunctionSets>()
+    ensures order { (p : Polynomial S.field) → IsIrreducible S.field.ops (codes_of S.field p) → ¬ (discriminant S.equation ≡ (polynomials S.field).𝟘)
+        → IsOrder S.equation S.first → IsOrder S.equation (TakenByPowers S.equation p S.first) }
+    ensures maximal { (p : Polynomial S.field) → IsIrreducible S.field.ops (codes_of S.field p) → IsOrder S.equation S.first
+        → MaximalAt (ring_of S.equation).ops (of_poly S.equation p) (IsIntegralAt (setting_of S.equation) Finite) (TakenByPowers S.equation p S.first) }
+    ensures locally { (p : Polynomial S.field) → IsIrreducible S.field.ops (codes_of S.field p) → IsLattice S.equation S.first
+        → MaximalAt (ring_of S.equation).ops (of_poly S.equation p) (IsIntegralAt (setting_of S.equation) Finite) S.first
+        ↔ ((z : FunctionOf S.equation) → IsIntegralAt (setting_of S.equation) Finite z → Locally (ring_of S.equation).ops (IsPrimeTo S.equation p) S.first z) }
+{}
+
+/// Each lattice that is closed under an order is invertible, where at each irreducible p the order is maximal or the lattice is the order up to
+/// functions prime to p. So each one is where the order has all integral functions.
+pub fn inverse_law<S: FunctionSets>()
+    ensures { IsOrder S.equation S.first → IsLattice S.equation S.second → IsModule (ring_of S.equation).ops S.first S.second
+        → ((p : Polynomial S.field) → IsIrreducible S.field.ops (codes_of S.field p)
+        → MaximalAt (ring_of S.equation).ops (of_poly S.equation p) (IsIntegralAt (setting_of S.equation) Finite) S.first ⊎ IsOrderUpTo S.equation p S.first S.second)
+        → Invertible (ring_of S.equation).ops S.first S.second }
+{}
+
+/// The index of X·P in X, for a prime P of an order and an invertible module X over it, is that of P in the order.
+pub fn product_index_law<S: FunctionSets>()
+    ensures { IsOrder S.equation S.first → IsPrime (ring_of S.equation).ops S.first S.third → IsModule (ring_of S.equation).ops S.first S.second
+        → Invertible (ring_of S.equation).ops S.first S.second → (g : ℕ) → HasIndex S.equation S.third S.first g
+        → HasIndex S.equation (Product (ring_of S.equation).ops S.second S.third) S.second g }
+{}
+
+/// Each finite place has a monic irreducible polynomial, and one only: the place lies over it.
+pub fn lies_over_law()
+    ensures over { (k : CodeField) (c : Equation k) (P : Place (FunctionOf c)) → IsPlace (setting_of c) P → P.side ≡ Finite
+        → (p : Polynomial k) × IsIrreducible k.ops (codes_of k p) × LiesOver (setting_of c) P (of_poly c p) }
+    ensures once { (k : CodeField) (c : Equation k) (P : Place (FunctionOf c)) (p q : Polynomial k) → IsPlace (setting_of c) P
+        → IsIrreducible k.ops (codes_of k p) → IsIrreducible k.ops (codes_of k q) → LiesOver (setting_of c) P (of_poly c p) → LiesOver (setting_of c) P (of_poly c q)
+        → p ≡ q }
+{}
+
+/// Each infinite place lies over t = 1/x, where it is decided whether t is in it.
+pub fn infinite_place_law()
+    ensures { (k : CodeField) (c : Equation k) (P : Place (FunctionOf c)) → IsPlace (setting_of c) P → P.side ≡ Infinite
+        → Dec (IsIn (setting_of c) P (setting_of c).one_over_x) → IsIn (setting_of c) P (setting_of c).one_over_x }
+{}
+
+/// A finite place is a lattice, so membership in it and sameness with another are decided; it is a prime of the ring of integral functions. Its degree is
+/// its index there.
+pub fn finite_place_law()
+    ensures lattice { (k : CodeField) (c : Equation k) (P : Place (FunctionOf c)) → IsPlace (setting_of c) P → P.side ≡ Finite → IsLattice c (IsIn (setting_of c) P) }
+    ensures prime { (k : CodeField) (c : Equation k) (P : Place (FunctionOf c)) → IsPlace (setting_of c) P → P.side ≡ Finite
+        → IsPrime (ring_of c).ops (IsIntegralAt (setting_of c) Finite) (IsIn (setting_of c) P) }
+    ensures same { (k : CodeField) (c : Equation k) (P Q : Place (FunctionOf c)) → IsPlace (setting_of c) P → P.side ≡ Finite → IsPlace (setting_of c) Q
+        → Q.side ≡ Finite → Dec (IsSamePlace (setting_of c) P Q) }
+    ensures degree { (k : CodeField) (c : Equation k) (P : Place (FunctionOf c)) (g : ℕ) → P.side ≡ Finite
+        → HasIndex c (IsIn (setting_of c) P) (IsIntegralAt (setting_of c) Finite) g → HasDegree (setting_of c) P g }
+    ensures has_degree { (k : CodeField) (c : Equation k) (P : Place (FunctionOf c)) → ¬ (discriminant c ≡ (polynomials k).𝟘) → IsPlace (setting_of c) P
+        → P.side ≡ Finite → (g : ℕ) × HasDegree (setting_of c) P g }
+{}
+
+/// The places over an irreducible polynomial p are finitely many, and listed; the sum of e·f over them is n times the degree of p.
+pub fn places_over_law()
+    ensures { (k : CodeField) (c : Equation k) (p : Polynomial k) → ¬ (discriminant c ≡ (polynomials k).𝟘) → IsIrreducible k.ops (codes_of k p)
+        → (ps : List (PlaceOver (setting_of c) (of_poly c p))) × IsAllOver (setting_of c) (of_poly c p) ps
+        × (sum_of_degrees (setting_of c) (of_poly c p) ps ≡ degree_of_y c * (length p.0 - 1)) }
+{}
+
+/// A function with an inverse has a value at each finite place; it is 0 where the function and its inverse have denominators that aren't in the place, and
+/// so at all but finitely many.
+pub fn value_law()
+    ensures exists { (k : CodeField) (c : Equation k) (P : Place (FunctionOf c)) → ¬ (discriminant c ≡ (polynomials k).𝟘) → IsPlace (setting_of c) P
+        → P.side ≡ Finite → (z y : FunctionOf c) → (ring_of c).◌⊗◌ z y ≡ (ring_of c).𝟙 → (m : ℤ) × HasValuation (setting_of c) P z m }
+    ensures finitely { (k : CodeField) (c : Equation k) → ¬ (discriminant c ≡ (polynomials k).𝟘) → (z y : FunctionOf c)
+        → (ring_of c).◌⊗◌ z y ≡ (ring_of c).𝟙 → (ps : List (Place (FunctionOf c))) × ((P : Place (FunctionOf c)) → IsPlace (setting_of c) P → P.side ≡ Finite
+        → HasValuation (setting_of c) P z (pos 0) ⊎ Any (λ Q. IsSamePlace (setting_of c) Q P) ps) }
+    ensures zero { (k : CodeField) (c : Equation k) (P : Place (FunctionOf c)) → IsPlace (setting_of c) P → P.side ≡ Finite
+        → (z y a b : FunctionOf c) → (ring_of c).◌⊗◌ z y ≡ (ring_of c).𝟙
+        → IsIntegralAt (setting_of c) Finite a → ¬ (IsIn (setting_of c) P a) → IsIntegralAt (setting_of c) Finite ((ring_of c).◌⊗◌ a z)
+        → IsIntegralAt (setting_of c) Finite b → ¬ (IsIn (setting_of c) P b) → IsIntegralAt (setting_of c) Finite ((ring_of c).◌⊗◌ b y)
+        → HasValuation (setting_of c) P z (pos 0) }
+{}
