@@ -22,3 +22,4 @@ pub mod Values
 pub mod InvertibleIdeals
 pub mod FinitelyMany
 pub mod InfinitePlaces
+pub mod RegularFunctions

@@ -15,7 +15,7 @@ ghost use Rattle.ff_poly.specs.Polynomials.{Polynomial, polynomials, codes_of};
 ghost use Rattle.ff_algebra.specs.declared.elem.Side.TheVariants.{Finite, Infinite};
 ghost use Rattle.ff_algebra.specs.Functions.{Equation, FunctionOf, ring_of, of_poly, IsPolynomial, degree_of_y, setting_of};
 ghost use Rattle.ff_algebra.specs.Discriminant.{discriminant};
-ghost use Rattle.ff_algebra.specs.Places.{Place, IsPlace, IsIn, IsSamePlace, IsIntegralAt, LiesOver, HasValuation};
+ghost use Rattle.ff_algebra.specs.Places.{Place, IsPlace, IsIn, IsSamePlace, IsIntegralAt, LiesOver, HasValuation, HasValuationAtLeast};
 ghost use Rattle.ff_algebra.specs.Divisors.{HasDegree};
 ghost use Rattle.local_theory.specs.Ideals.{Multiple, Invertible};
 ghost use Rattle.local_theory.specs.Orders.{MaximalAt};
@@ -81,9 +81,17 @@ pub fn index_law<S: FunctionSets>()
         → HasIndex S.equation (Multiple (ring_of S.equation).ops (of_poly S.equation a) S.first) S.first (degree_of_y S.equation * (length a.0 - 1)) }
 {}
 
-/// The members of an order are integral over the polynomials, and so is what takes a lattice into itself.
+/// The members of an order are integral over the polynomials, and so is what takes a lattice into itself. Where the discriminant isn't 0, a polynomial
+/// takes all integral functions into an order; so a chain of orders over one is no longer than the index of that in the integral functions.
 pub fn order_law<S: FunctionSets>()
     ensures member { IsOrder S.equation S.first → (z : FunctionOf S.equation) → S.first z → IsIntegralAt (setting_of S.equation) Finite z }
+    ensures factor { ¬ (discriminant S.equation ≡ (polynomials S.field).𝟘) → IsOrder S.equation S.first
+        → (a : Polynomial S.field) × (¬ (a ≡ (polynomials S.field).𝟘)) × ((z : FunctionOf S.equation) → IsIntegralAt (setting_of S.equation) Finite z
+        → S.first ((ring_of S.equation).◌⊗◌ (of_poly S.equation a) z)) }
+    ensures chain { ¬ (discriminant S.equation ≡ (polynomials S.field).𝟘) → IsOrder S.equation S.first → IsOrder S.equation S.second
+        → ((z : FunctionOf S.equation) → S.first z → S.second z) → ¬ ((z : FunctionOf S.equation) → S.second z → S.first z) → (g h : ℕ)
+        → HasIndex S.equation S.first (IsIntegralAt (setting_of S.equation) Finite) g
+        → HasIndex S.equation S.second (IsIntegralAt (setting_of S.equation) Finite) h → h < g }
     ensures stable { IsLattice S.equation S.first → (z : FunctionOf S.equation)
         → ((y : FunctionOf S.equation) → S.first y → S.first ((ring_of S.equation).◌⊗◌ z y)) → IsIntegralAt (setting_of S.equation) Finite z }
 {}
@@ -156,6 +164,13 @@ pub fn places_over_law()
     ensures { (k : CodeField) (c : Equation k) (p : Polynomial k) → ¬ (discriminant c ≡ (polynomials k).𝟘) → IsIrreducible k.ops (codes_of k p)
         → (ps : List (PlaceOver (setting_of c) (of_poly c p))) × IsAllOver (setting_of c) (of_poly c p) ps
         × (sum_of_degrees (setting_of c) (of_poly c p) ps ≡ degree_of_y c * (length p.0 - 1)) }
+{}
+
+/// The functions without poles at finite places are those that are integral over the polynomials.
+pub fn regular_law()
+    ensures { (k : CodeField) (c : Equation k) (z : FunctionOf c) → ¬ (discriminant c ≡ (polynomials k).𝟘)
+        → ((P : Place (FunctionOf c)) → IsPlace (setting_of c) P → P.side ≡ Finite → HasValuationAtLeast (setting_of c) P z (pos 0))
+        ↔ IsIntegralAt (setting_of c) Finite z }
 {}
 
 /// A function with an inverse has a value at each finite place; it is 0 where the function and its inverse have denominators that aren't in the place, and
