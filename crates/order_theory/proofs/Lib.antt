@@ -1,10 +1,4 @@
-pub mod Parts
-pub mod Lattices
-pub mod Indices
-pub mod Between
-pub mod Operations
 pub mod IntegralLattice
-pub mod Bases
 pub mod LocalOrders
 pub mod Classes
 pub mod ReductionAt

@@ -20,9 +20,9 @@ use Rattle.ff_algebra.specs.Discriminant.{discriminant}
 use Rattle.places_theory.proofs.YRoot.{poly_hom}
 use Rattle.trace_theory.proofs.TracePowers.{some_long}
 use Rattle.trace_theory.proofs.Irreducible.{irreducible_some}
-use Rattle.order_theory.proofs.Lattices.{lattice_decided}
+use Rattle.lattice_theory.proofs.Lattices.{lattice_decided}
 use Rattle.order_theory.proofs.LeastPolynomials.{Least, least_polynomial}
-use Rattle.order_theory.proofs.Bases.{monic_multiple}
+use Rattle.lattice_theory.proofs.Bases.{monic_multiple}
 use Rattle.order_theory.proofs.Degrees.{constant_of}
 use Rattle.order_theory.proofs.IntegralLattice.{integral_lattice, integral_subring, polynomial_integral}
 use Rattle.order_theory.proofs.FinitePlaces.{Int, finite}

@@ -20,9 +20,9 @@ use Rattle.ff_algebra.specs.Functions.{Equation, FunctionOf, ring_of, of_poly, s
 use Rattle.ff_algebra.specs.Discriminant.{discriminant}
 use Rattle.ff_algebra.proofs.ScalarRings.{scalars_subring}
 use Rattle.places_theory.proofs.SamePlaces.{same_place_decided}
-use Rattle.order_theory.specs.Lattices.{IsLattice, HasIndex}
-use Rattle.order_theory.proofs.Lattices.{lattice_decided}
-use Rattle.order_theory.proofs.Indices.{index_of}
+use Rattle.lattice_theory.specs.Lattices.{IsLattice, HasIndex}
+use Rattle.lattice_theory.proofs.Lattices.{lattice_decided}
+use Rattle.lattice_theory.proofs.Indices.{index_of}
 use Rattle.order_theory.proofs.IntegralLattice.{integral_lattice, integral_subring}
 use Rattle.order_theory.proofs.FinitePlaces.{Int, finite, place_lattice, place_prime}
 use Rattle.order_theory.proofs.Degrees.{degree_of_index}

@@ -1,7 +1,7 @@
 -- The theorems of `LocalOrders`.
-use Rattle.order_theory.proofs.Indices.{index_less}
+use Rattle.lattice_theory.proofs.Indices.{index_less}
 use Rattle.order_theory.proofs.IntegralLattice.{integral_lattice}
-use Rattle.order_theory.proofs.Operations.{common_factor}
+use Rattle.lattice_theory.proofs.Operations.{common_factor}
 use Rattle.order_theory.proofs.LocalOrders.{order_integral, stable_integral}
 use Rattle.order_theory.proofs.order_law.Goals as goal
 
