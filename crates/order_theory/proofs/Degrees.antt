@@ -15,8 +15,8 @@ use Rattle.ff_algebra.specs.Spans.{combination}
 use Rattle.ff_algebra.specs.Places.{IsIn}
 use Rattle.ff_algebra.specs.Divisors.{HasDegree}
 use Rattle.ff_algebra.specs.Functions.{Equation, FunctionOf, ring_of, of_poly, IsCode, setting_of}
-use Rattle.order_theory.specs.Lattices.{HasIndex, space_ops}
-use Rattle.order_theory.proofs.Indices.{code_of, code_hom}
+use Rattle.lattice_theory.specs.Lattices.{HasIndex, space_ops}
+use Rattle.lattice_theory.proofs.Indices.{code_of, code_hom}
 use Rattle.order_theory.proofs.FinitePlaces.{Int, finite}
 
 module _ {k : CodeField} (c : Equation k) where

@@ -21,8 +21,8 @@ use Rattle.places_theory.proofs.YRoot.{poly_hom, den_times, at_y_plain}
 use Rattle.trace_theory.proofs.Division.{product_longer}
 use Rattle.trace_theory.proofs.TracePowers.{x_power_long}
 use Rattle.trace_theory.proofs.FunctionTraces.{as_row}
-use Rattle.order_theory.specs.Lattices.{IsLattice, HasMultiple}
-use Rattle.order_theory.proofs.Lattices.{span_decided}
+use Rattle.lattice_theory.specs.Lattices.{IsLattice, HasMultiple}
+use Rattle.lattice_theory.proofs.Lattices.{span_decided}
 use Rattle.order_theory.proofs.IntegralLattice.{integral_subring, polynomial_integral, coordinates_integral}
 
 pub one_short : (k : CodeField) → length (polynomials k).𝟙.0 ≤ 1

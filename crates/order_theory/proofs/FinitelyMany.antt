@@ -15,8 +15,8 @@ use Rattle.ff_algebra.specs.Functions.{Equation, FunctionOf, ring_of, of_poly, s
 use Rattle.ff_algebra.specs.Discriminant.{discriminant}
 use Rattle.trace_theory.proofs.TracePowers.{some_long}
 use Rattle.trace_theory.proofs.Irreducible.{irreducible_some}
-use Rattle.order_theory.specs.Lattices.{HasMultiple}
-use Rattle.order_theory.proofs.Bases.{monic_multiple}
+use Rattle.lattice_theory.specs.Lattices.{HasMultiple}
+use Rattle.lattice_theory.proofs.Bases.{monic_multiple}
 use Rattle.order_theory.proofs.Degrees.{constant_of}
 use Rattle.order_theory.proofs.IntegralLattice.{integral_lattice, polynomial_integral}
 use Rattle.order_theory.proofs.FinitePlaces.{Int, finite, in_place_decided}

@@ -19,11 +19,11 @@ use Rattle.linear_theory.proofs.Bases.{combine_in}
 use Rattle.ff_fields.specs.Field.{CodeField}
 use Rattle.ff_fields.specs.Code.{Code}
 use Rattle.ff_algebra.specs.Functions.{Equation, FunctionOf, ring_of}
-use Rattle.order_theory.specs.Lattices.{IsLattice, HasIndex, space_ops}
+use Rattle.lattice_theory.specs.Lattices.{IsLattice, HasIndex, space_ops}
 use Rattle.order_theory.specs.Orders.{IsOrder}
-use Rattle.order_theory.proofs.Indices.{codes, space, lattice_subspace, index_add, index_none}
-use Rattle.order_theory.proofs.Bases.{index_same}
-use Rattle.order_theory.proofs.Operations.{product_lattice}
+use Rattle.lattice_theory.proofs.Indices.{codes, space, lattice_subspace, index_add, index_none}
+use Rattle.lattice_theory.proofs.Bases.{index_same}
+use Rattle.lattice_theory.proofs.Operations.{product_lattice}
 
 -- the sum of e_i·f_i over a list
 abbrev pub total : {I : Type 0} → (I → ℕ) → (I → ℕ) → List I → ℕ

@@ -1,25 +1,22 @@
 -- Each infinite place where it is decided whether t = 1/x is a member has t.
-use Rattle.std.proofs.Common.{◌≡◌, ◌⊎◌, inl, inr, ℕ, zero, suc, ◌<◌, ◌≤◌, ◌-◌, List, [], ◌∷◌, length, refl, sym, ◌∙◌, ap, ap₂, subst, arith}
-use Rattle.ff_ring.specs.Ring.{CommRing}
-use Rattle.ff_ring.specs.Subsets.{IsSubring, IsModule, Span}
-use Rattle.ff_ring.specs.Integral.{IsIntegral}
+use Rattle.std.proofs.Common.{◌≡◌, ◌⊎◌, inl, inr, ℕ, zero, suc, ◌<◌, ◌≤◌, ◌-◌, List, [], ◌∷◌, length, refl, sym, ◌∙◌, ap, subst, arith}
+use Rattle.ff_ring.specs.Subsets.{IsSubring, IsModule}
 use Rattle.ff_ring.proofs.Integral.{Low}
-use Rattle.ff_ring.proofs.Ring.{one_mul, neg_mul, product_not_zero}
+use Rattle.ff_ring.proofs.Ring.{one_mul, neg_mul}
 use Rattle.ff_ring.proofs.Solver.{ring, reads, from_two}
 use Rattle.ff_ring.proofs.Subsets.{span_module}
 use Rattle.ff_ring.proofs.Division.{length_add, length_neg}
-use Rattle.local_theory.proofs.IntegralRing.{Unit, unit_trick, integral_ring, integral_base}
+use Rattle.local_theory.proofs.IntegralRing.{unit_trick, integral_ring, integral_base}
 use Rattle.ff_fields.specs.Field.{CodeField}
 use Rattle.ff_fields.specs.Code.{code_ring, code_domain}
 use Rattle.ff_ring.proofs.Polynomials.{length_product}
-use Rattle.ff_poly.specs.Polynomials.{Polynomial, polynomials, polynomials_domain, x_poly, x_poly_not_zero}
+use Rattle.ff_poly.specs.Polynomials.{Polynomial, polynomials, x_poly, x_poly_not_zero}
 use Rattle.ff_algebra.specs.declared.elem.Side.TheVariants.{Infinite}
 use Rattle.ff_algebra.specs.Places.{Place, IsPlace, IsIn, IsIntegralAt}
 use Rattle.ff_algebra.specs.Functions.{Equation, FunctionOf, ring_of, of_poly, row_of, over, IsFiniteAtInfinity, setting_of}
 use Rattle.ff_algebra.proofs.ScalarRings.{finite_at_infinity_subring, of_poly_one}
 use Rattle.places_theory.proofs.YRoot.{poly_hom, over_times_den}
-use Rattle.trace_theory.proofs.Division.{product_longer}
-use Rattle.trace_theory.proofs.TracePowers.{some_long, zero_length}
+use Rattle.trace_theory.proofs.TracePowers.{zero_length}
 use Rattle.order_theory.proofs.FinitePlaces.{one_short, x_long}
 
 -- what is added is shorter: the sum isn't

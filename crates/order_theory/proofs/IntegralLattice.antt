@@ -21,11 +21,11 @@ use Rattle.places_theory.proofs.SamePlaces.{decide_all}
 use Rattle.places_theory.proofs.YRoot.{poly_hom, at_y, at_y_plain, y_root}
 use Rattle.trace_theory.specs.Traces.{HasPolynomialCoordinates}
 use Rattle.trace_theory.proofs.IntegralLaw.{discriminant_clears, eval_sum}
-use Rattle.order_theory.specs.Lattices.{IsLattice, HasIndex, HasMultiple}
-use Rattle.order_theory.proofs.Lattices.{lattice_module, lattice_decided, lattice_generators, span_decided}
-use Rattle.order_theory.proofs.Indices.{index_of, index_less}
-use Rattle.order_theory.proofs.Between.{lattice_between}
-use Rattle.order_theory.proofs.Operations.{multiple_lattice, polynomial_lattice, inverse_of, quotient_module}
+use Rattle.lattice_theory.specs.Lattices.{IsLattice, HasIndex, HasMultiple}
+use Rattle.lattice_theory.proofs.Lattices.{lattice_module, lattice_decided, lattice_generators, span_decided}
+use Rattle.lattice_theory.proofs.Indices.{index_of, index_less}
+use Rattle.lattice_theory.proofs.Between.{lattice_between}
+use Rattle.lattice_theory.proofs.Operations.{multiple_lattice, polynomial_lattice, inverse_of, quotient_module}
 
 module _ {k : CodeField} (c : Equation k) where
   infixl 65 ◌⊕◌

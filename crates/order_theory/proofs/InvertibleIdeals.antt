@@ -34,12 +34,12 @@ use Rattle.places_theory.proofs.YRoot.{poly_hom}
 use Rattle.trace_theory.proofs.TracePowers.{some_long, zero_length}
 use Rattle.trace_theory.proofs.Division.{euclidean}
 use Rattle.trace_theory.proofs.Irreducible.{irreducible_some}
-use Rattle.order_theory.specs.Lattices.{IsLattice, space_ops}
+use Rattle.lattice_theory.specs.Lattices.{IsLattice, space_ops}
 use Rattle.order_theory.specs.Orders.{IsOrder, IsOrderUpTo}
-use Rattle.order_theory.proofs.Lattices.{lattice_module, lattice_decided}
+use Rattle.lattice_theory.proofs.Lattices.{lattice_module, lattice_decided}
 use Rattle.order_theory.proofs.LeastPolynomials.{Least, least_polynomial}
-use Rattle.order_theory.proofs.Bases.{MonicMultiple, monic_multiple}
-use Rattle.order_theory.proofs.Operations.{inverse_of, product_lattice, colon_lattice, sum_lattice, polynomial_of}
+use Rattle.lattice_theory.proofs.Bases.{MonicMultiple, monic_multiple}
+use Rattle.lattice_theory.proofs.Operations.{inverse_of, product_lattice, colon_lattice, sum_lattice, polynomial_of}
 use Rattle.order_theory.proofs.LocalOrders.{stable_integral, prime_to}
 use Rattle.order_theory.proofs.ReductionAt.{pO, p_in, multiple_is_lattice, lift}
 use Rattle.order_theory.proofs.PrimesOver.{Index, listed, order_generators}

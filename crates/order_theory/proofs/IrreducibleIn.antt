@@ -25,8 +25,8 @@ use Rattle.trace_theory.proofs.TracePowers.{some_long}
 use Rattle.trace_theory.proofs.Division.{euclidean}
 use Rattle.trace_theory.proofs.Irreducible.{irreducible_some, irreducible, decide_divides}
 use Rattle.order_theory.proofs.LeastPolynomials.{Least, least_polynomial}
-use Rattle.order_theory.proofs.Bases.{MonicMultiple, monic_multiple, constant_times}
-use Rattle.order_theory.proofs.Lattices.{lattice_module}
+use Rattle.lattice_theory.proofs.Bases.{MonicMultiple, monic_multiple, constant_times}
+use Rattle.lattice_theory.proofs.Lattices.{lattice_module}
 use Rattle.order_theory.proofs.IntegralLattice.{polynomial_integral}
 use Rattle.order_theory.proofs.FinitePlaces.{finite, place_lattice, place_polynomial, in_place_decided}
 use Rattle.order_theory.proofs.Degrees.{constant_of}

@@ -1,10 +1,4 @@
-pub mod Parts
-pub mod Lattices
-pub mod Indices
-pub mod Between
-pub mod Operations
 pub mod IntegralLattice
-pub mod Bases
 pub mod LocalOrders
 pub mod Classes
 pub mod ReductionAt
@@ -22,3 +16,4 @@ pub mod Values
 pub mod InvertibleIdeals
 pub mod FinitelyMany
 pub mod InfinitePlaces
+pub mod RegularFunctions

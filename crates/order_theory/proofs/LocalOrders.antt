@@ -23,11 +23,11 @@ use Rattle.ff_algebra.proofs.ScalarRings.{polynomials_subring, of_poly_one}
 use Rattle.places_theory.proofs.YRoot.{poly_hom}
 use Rattle.trace_theory.proofs.Division.{euclidean}
 use Rattle.trace_theory.proofs.Irreducible.{irreducible, prime}
-use Rattle.order_theory.specs.Lattices.{IsLattice}
+use Rattle.lattice_theory.specs.Lattices.{IsLattice}
 use Rattle.order_theory.specs.Orders.{IsOrder, IsPrimeTo}
-use Rattle.order_theory.proofs.Lattices.{lattice_module, lattice_decided}
-use Rattle.order_theory.proofs.Between.{lattice_between}
-use Rattle.order_theory.proofs.Operations.{common_factor, polynomial_of, inverse_of}
+use Rattle.lattice_theory.proofs.Lattices.{lattice_module, lattice_decided}
+use Rattle.lattice_theory.proofs.Between.{lattice_between}
+use Rattle.lattice_theory.proofs.Operations.{common_factor, polynomial_of, inverse_of}
 use Rattle.order_theory.proofs.IntegralLattice.{integral_subring, integral_lattice, integral_module}
 
 module _ {k : CodeField} (c : Equation k) where

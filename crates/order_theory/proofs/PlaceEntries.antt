@@ -23,7 +23,7 @@ use Rattle.places_theory.specs.Orders.{IsOrderAt, InPrime}
 use Rattle.places_theory.proofs.PlaceValues.{valuation_iff}
 use Rattle.order_theory.specs.Orders.{IsPrimeTo}
 use Rattle.order_theory.specs.PlaceLists.{PlaceOver, IsAllOver, sum_of_degrees}
-use Rattle.order_theory.proofs.Bases.{index_same}
+use Rattle.lattice_theory.proofs.Bases.{index_same}
 use Rattle.order_theory.proofs.IntegralLattice.{integral_subring, polynomial_integral}
 use Rattle.order_theory.proofs.LocalOrders.{prime_to}
 use Rattle.order_theory.proofs.FinitePlaces.{Int, finite, place_prime}

@@ -29,12 +29,12 @@ use Rattle.ff_algebra.specs.Functions.{Equation, FunctionOf, ring_of, of_poly, I
 use Rattle.places_theory.proofs.CodeFields.{code_finite}
 use Rattle.places_theory.proofs.Decomposition.{prime_system}
 use Rattle.places_theory.specs.Reductions.{IsReduction, Primitive}
-use Rattle.order_theory.specs.Lattices.{IsLattice, space_ops}
+use Rattle.lattice_theory.specs.Lattices.{IsLattice, space_ops}
 use Rattle.order_theory.specs.Orders.{IsOrder}
-use Rattle.order_theory.proofs.Lattices.{lattice_module, lattice_decided, lattice_generators}
-use Rattle.order_theory.proofs.Indices.{codes, space, code_of, code_hom, lattice_subspace}
-use Rattle.order_theory.proofs.Between.{lattice_between}
-use Rattle.order_theory.proofs.Operations.{inverse_of, product_lattice, colon_lattice}
+use Rattle.lattice_theory.proofs.Lattices.{lattice_module, lattice_decided, lattice_generators}
+use Rattle.lattice_theory.proofs.Indices.{codes, space, code_of, code_hom, lattice_subspace}
+use Rattle.lattice_theory.proofs.Between.{lattice_between}
+use Rattle.lattice_theory.proofs.Operations.{inverse_of, product_lattice, colon_lattice}
 use Rattle.order_theory.proofs.LocalOrders.{stable_integral}
 use Rattle.order_theory.proofs.Classes.{class_reduction}
 use Rattle.order_theory.proofs.ReductionAt.{pO, p_in, p_not_unit, multiple_is_lattice, index_of_p, Classes, lift, reduce, code_rows, representatives, residue_ring}

@@ -12,11 +12,11 @@ use Rattle.ff_algebra.specs.declared.elem.Side.TheVariants.{Finite}
 use Rattle.ff_algebra.specs.Places.{IsIntegralAt}
 use Rattle.ff_algebra.specs.Functions.{Equation, FunctionOf, ring_of, of_poly, degree_of_y, setting_of}
 use Rattle.trace_theory.proofs.Irreducible.{irreducible_some}
-use Rattle.order_theory.specs.Lattices.{HasIndex}
+use Rattle.lattice_theory.specs.Lattices.{HasIndex}
 use Rattle.order_theory.specs.Orders.{IsOrder}
-use Rattle.order_theory.proofs.Indices.{index_of, index_once}
-use Rattle.order_theory.proofs.Bases.{index_same}
-use Rattle.order_theory.proofs.Operations.{inverse_of}
+use Rattle.lattice_theory.proofs.Indices.{index_of, index_once}
+use Rattle.lattice_theory.proofs.Bases.{index_same}
+use Rattle.lattice_theory.proofs.Operations.{inverse_of}
 use Rattle.order_theory.proofs.ReductionAt.{pO, p_in, multiple_is_lattice, index_of_p}
 use Rattle.order_theory.proofs.PrimesOver.{Index, PrimeOf, prime_is, prime_lattice, prime_invertible, family_of, PrimesAt, primes_at}
 use Rattle.order_theory.proofs.IndexProducts.{total, IsFactor, product_index}

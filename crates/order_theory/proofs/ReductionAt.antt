@@ -22,12 +22,12 @@ use Rattle.ff_algebra.specs.Functions.{Equation, FunctionOf, ring_of, of_poly, d
 use Rattle.places_theory.proofs.CodeFields.{code_finite}
 use Rattle.trace_theory.proofs.RowMatrix.{row_with, entry_with, row_by_entries}
 use Rattle.trace_theory.proofs.Irreducible.{irreducible_some}
-use Rattle.order_theory.specs.Lattices.{IsLattice, HasIndex, space_ops}
+use Rattle.lattice_theory.specs.Lattices.{IsLattice, HasIndex, space_ops}
 use Rattle.order_theory.specs.Orders.{IsOrder}
-use Rattle.order_theory.proofs.Lattices.{lattice_module, lattice_decided}
-use Rattle.order_theory.proofs.Indices.{codes, space, lattice_subspace, index_none, index_once}
-use Rattle.order_theory.proofs.Operations.{multiple_lattice, inverse_of}
-use Rattle.order_theory.proofs.Bases.{index_of_multiple}
+use Rattle.lattice_theory.proofs.Lattices.{lattice_module, lattice_decided}
+use Rattle.lattice_theory.proofs.Indices.{codes, space, lattice_subspace, index_none, index_once}
+use Rattle.lattice_theory.proofs.Operations.{multiple_lattice, inverse_of}
+use Rattle.lattice_theory.proofs.Bases.{index_of_multiple}
 use Rattle.order_theory.proofs.Classes.{HasRepresentatives, class_ring}
 
 -- equality of rows of codes is decided

@@ -1,5 +1,5 @@
 -- The theorems on finite places, for places whose side is given by an equation.
-use Rattle.std.proofs.Common.{◌⊎◌, refl, ◌≡◌, ℕ, List}
+use Rattle.std.proofs.Common.{◌↔◌, ◌⊎◌, refl, ◌≡◌, ℕ, List}
 use Rattle.local_theory.specs.Primes.{IsPrime}
 use Rattle.ff_fields.specs.Field.{CodeField}
 use Rattle.ff_poly.specs.Words.{IsIrreducible}
@@ -10,19 +10,20 @@ use Rattle.order_theory.proofs.IrreducibleIn.{generator_of, generator_in, genera
 use Rattle.std.specs.List.{Any}
 use Rattle.order_theory.proofs.FinitelyMany.{finitely_many}
 use Rattle.order_theory.proofs.InfinitePlaces.{infinite_over_t}
+use Rattle.order_theory.proofs.RegularFunctions.{regular_is_integral}
 use Rattle.order_theory.proofs.Values.{value_exists, value_zero}
 use Rattle.ff_algebra.specs.declared.elem.Side.{Side}
 use Rattle.ff_algebra.specs.declared.elem.Side.TheVariants.{Finite, Infinite}
-use Rattle.ff_algebra.specs.Places.{Place, IsPlace, IsIn, IsSamePlace, LiesOver, HasValuation}
+use Rattle.ff_algebra.specs.Places.{Place, IsPlace, IsIn, IsSamePlace, LiesOver, HasValuation, HasValuationAtLeast}
 use Rattle.ff_algebra.specs.Divisors.{HasDegree}
 use Rattle.ff_algebra.specs.Functions.{Equation, FunctionOf, ring_of, of_poly, setting_of}
 use Rattle.ff_algebra.specs.Discriminant.{discriminant}
 use Rattle.ff_algebra.proofs.ScalarRings.{scalars_subring}
 use Rattle.places_theory.proofs.SamePlaces.{same_place_decided}
-use Rattle.order_theory.specs.Lattices.{IsLattice, HasIndex}
-use Rattle.order_theory.proofs.Lattices.{lattice_decided}
-use Rattle.order_theory.proofs.Indices.{index_of}
-use Rattle.order_theory.proofs.IntegralLattice.{integral_lattice}
+use Rattle.lattice_theory.specs.Lattices.{IsLattice, HasIndex}
+use Rattle.lattice_theory.proofs.Lattices.{lattice_decided}
+use Rattle.lattice_theory.proofs.Indices.{index_of}
+use Rattle.order_theory.proofs.IntegralLattice.{integral_lattice, integral_subring}
 use Rattle.order_theory.proofs.FinitePlaces.{Int, finite, place_lattice, place_prime}
 use Rattle.order_theory.proofs.Degrees.{degree_of_index}
 
@@ -101,3 +102,17 @@ module _ {k : CodeField} (c : Equation k) where
           → IsIn (setting_of c) (record { side = s; generators = gs }) (setting_of c).one_over_x
       at Finite e gs h d = absurd (cc)
       at Infinite e gs h d = infinite_over_t c gs h d
+
+  pub regular_functions : (z : FunctionOf c) → ¬ (discriminant c ≡ (polynomials k).𝟘)
+      → ((P : Place (FunctionOf c)) → IsPlace (setting_of c) P → P.side ≡ Finite → HasValuationAtLeast (setting_of c) P z (pos 0)) ↔ Int c z
+  regular_functions z some = (
+    λ f. regular_is_integral c some z (λ gs h. f (finite c gs) h refl),
+    λ m P h e.
+        by_side (λ P. IsPlace (setting_of c) P → HasValuationAtLeast (setting_of c) P z (pos 0))
+        (λ gs h. record {
+          factor = (ring_of c).𝟙;
+          integral = (integral_subring c).one_in;
+          outside = h.proper;
+          product = (integral_subring c).product_in _ z (integral_subring c).one_in m;
+        }) P.side P.generators e h,
+  )

@@ -1,3 +1,2 @@
-pub mod Lattices
 pub mod Orders
 pub mod PlaceLists

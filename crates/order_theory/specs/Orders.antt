@@ -8,7 +8,7 @@ use Rattle.linear_theory.specs.Euclidean.{IsDivisor}
 use Rattle.ff_fields.specs.Field.{CodeField}
 use Rattle.ff_poly.specs.Polynomials.{Polynomial, polynomials}
 use Rattle.ff_algebra.specs.Functions.{Equation, FunctionOf, ring_of, of_poly, setting_of}
-use Rattle.order_theory.specs.Lattices.{IsLattice}
+use Rattle.lattice_theory.specs.Lattices.{IsLattice}
 
 module _ {k : CodeField} (c : Equation k) where
   -- a lattice with 1 that is closed under products

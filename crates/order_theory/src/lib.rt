@@ -1,89 +1,42 @@
-//! Lattices and orders in a function field F = k(x)[y]/(f) over a finite field k: dimensions over k of one lattice modulo another, the
-//! lattice of the functions that are integral over the polynomials, and the finite places over an irreducible polynomial. Nothing is asked of
-//! f but, where it is said, that its discriminant isn't 0: F need not be a field. Each main theorem is the contract of a function with an empty body;
-//! the crates above cite the lemmas of proofs/. For the infinite side the same theorems hold of the infinite presentation.
+//! Orders and finite places of a function field F = k(x)[y]/(f) over a finite field k: the order of the functions that are integral over the
+//! polynomials, invertible modules over orders, and the finite places over an irreducible polynomial. Nothing is asked of f but, where it is said, that its
+//! discriminant isn't 0: F need not be a field. Each main theorem is the contract of a function with an empty body; the crates above cite the lemmas of
+//! proofs/. For functions integral over k[t], t = 1/x, the same theorems hold of the infinite presentation.
 #![tactic(auto)]
 
-ghost use Rattle.std.specs.Prelude.{◌≡◌, ℕ, ℤ, ◌+◌, ◌-◌, ◌*◌, ◌<◌, ◌↔◌, ◌⊎◌, List, length};
+ghost use Rattle.std.specs.Prelude.{◌≡◌, ℕ, ℤ, ◌-◌, ◌*◌, ◌<◌, ◌↔◌, ◌⊎◌, List, length};
 ghost use Rattle.std.specs.List.{Any};
 ghost use Rattle.std.proofs.Common.{pos};
-ghost use Rattle.ff_ring.specs.Subsets.{IsModule, Product, Colon};
+ghost use Rattle.ff_ring.specs.Subsets.{IsModule, Product};
 ghost use Rattle.ff_ring.specs.Local.{Locally};
 ghost use Rattle.ff_fields.specs.Field.{CodeField};
 ghost use Rattle.ff_poly.specs.Words.{IsIrreducible};
 ghost use Rattle.ff_poly.specs.Polynomials.{Polynomial, polynomials, codes_of};
 ghost use Rattle.ff_algebra.specs.declared.elem.Side.TheVariants.{Finite, Infinite};
-ghost use Rattle.ff_algebra.specs.Functions.{Equation, FunctionOf, ring_of, of_poly, IsPolynomial, degree_of_y, setting_of};
+ghost use Rattle.ff_algebra.specs.Functions.{Equation, FunctionOf, ring_of, of_poly, degree_of_y, setting_of};
 ghost use Rattle.ff_algebra.specs.Discriminant.{discriminant};
-ghost use Rattle.ff_algebra.specs.Places.{Place, IsPlace, IsIn, IsSamePlace, IsIntegralAt, LiesOver, HasValuation};
+ghost use Rattle.ff_algebra.specs.Places.{Place, IsPlace, IsIn, IsSamePlace, IsIntegralAt, LiesOver, HasValuation, HasValuationAtLeast};
 ghost use Rattle.ff_algebra.specs.Divisors.{HasDegree};
-ghost use Rattle.local_theory.specs.Ideals.{Multiple, Invertible};
+ghost use Rattle.local_theory.specs.Ideals.{Invertible};
 ghost use Rattle.local_theory.specs.Orders.{MaximalAt};
 ghost use Rattle.local_theory.specs.Primes.{IsPrime};
-ghost use Rattle.linear_theory.specs.Basis.{IsSum};
-ghost use Rattle.trace_theory.specs.Traces.{HasPolynomialCoordinates};
-ghost use Rattle.order_theory.specs.Lattices.{IsLattice, HasIndex, IsBasisOf, space_ops};
+ghost use Rattle.lattice_theory.specs.Lattices.{IsLattice, HasIndex};
 ghost use Rattle.order_theory.specs.Orders.{IsOrder, IsPrimeTo, TakenByPowers, IsOrderUpTo};
 ghost use Rattle.order_theory.specs.PlaceLists.{PlaceOver, IsAllOver, sum_of_degrees};
 
-/// Three sets of functions of a curve. Only theorems use it, as a type parameter that no value has.
-pub trait FunctionSets {
-    ghost field: { CodeField };
+use lattice_theory::FunctionSets;
 
-    ghost equation: { Equation field };
-
-    ghost first: { FunctionOf equation → Type 0 };
-
-    ghost second: { FunctionOf equation → Type 0 };
-
-    ghost third: { FunctionOf equation → Type 0 };
-}
-
-/// Membership in a lattice is decided, and whether a lattice lies in another. A lattice has a basis of n functions over the polynomials, and some
-/// polynomial other than 0 takes it into a given lattice. A module between two lattices whose membership is decided is a lattice.
-pub fn lattice_law<S: FunctionSets>()
-    ensures decided { IsLattice S.equation S.first → (z : FunctionOf S.equation) → Dec (S.first z) }
-    ensures within { IsLattice S.equation S.first → IsLattice S.equation S.second → Dec ((z : FunctionOf S.equation) → S.first z → S.second z) }
-    ensures basis { IsLattice S.equation S.first → (bs : List (FunctionOf S.equation)) × (length bs ≡ degree_of_y S.equation) × IsBasisOf S.equation S.first bs }
-    ensures factor { IsLattice S.equation S.first → IsLattice S.equation S.second → (a : Polynomial S.field) × (¬ (a ≡ (polynomials S.field).𝟘))
-        × ((z : FunctionOf S.equation) → S.first z → S.second ((ring_of S.equation).◌⊗◌ (of_poly S.equation a) z)) }
-    ensures between { IsLattice S.equation S.first → IsLattice S.equation S.third → IsModule (ring_of S.equation).ops (IsPolynomial S.equation) S.second
-        → ((z : FunctionOf S.equation) → S.first z → S.second z) → ((z : FunctionOf S.equation) → S.second z → S.third z)
-        → ((z : FunctionOf S.equation) → S.third z → Dec (S.second z)) → IsLattice S.equation S.second }
-{}
-
-/// Lattices: k[x][y], the multiples of a lattice by an invertible function, and the sum, the product, the intersection and the colon of two.
-pub fn lattices_law<S: FunctionSets>()
-    ensures coordinates { IsLattice S.equation (HasPolynomialCoordinates S.equation) }
-    ensures multiple { IsLattice S.equation S.first → (u v : FunctionOf S.equation) → (ring_of S.equation).◌⊗◌ u v ≡ (ring_of S.equation).𝟙
-        → IsLattice S.equation (Multiple (ring_of S.equation).ops u S.first) }
-    ensures sum { IsLattice S.equation S.first → IsLattice S.equation S.second → IsLattice S.equation (IsSum (space_ops S.equation) S.first S.second) }
-    ensures product { IsLattice S.equation S.first → IsLattice S.equation S.second → IsLattice S.equation (Product (ring_of S.equation).ops S.first S.second) }
-    ensures intersection { IsLattice S.equation S.first → IsLattice S.equation S.second → IsLattice S.equation (λ z. S.first z × S.second z) }
-    ensures colon { IsLattice S.equation S.first → IsLattice S.equation S.second → IsLattice S.equation (Colon (ring_of S.equation).ops S.first S.second) }
-{}
-
-/// The index of a lattice in a larger one, as the dimension over k: there is one, it is one number, it is 0 where the two are equal alone, indices
-/// add along a chain, and the multiple of a lattice by a polynomial has the index n times the degree.
-pub fn index_law<S: FunctionSets>()
-    ensures exists { IsLattice S.equation S.first → IsLattice S.equation S.second → ((z : FunctionOf S.equation) → S.first z → S.second z)
-        → (g : ℕ) × HasIndex S.equation S.first S.second g }
-    ensures once { IsLattice S.equation S.first → (g h : ℕ) → HasIndex S.equation S.first S.second g → HasIndex S.equation S.first S.second h → g ≡ h }
-    ensures equal { IsLattice S.equation S.first → HasIndex S.equation S.first S.second 0 ↔ ((z : FunctionOf S.equation) → S.second z → S.first z) }
-    ensures add { IsLattice S.equation S.first → IsLattice S.equation S.second → IsLattice S.equation S.third
-        → ((z : FunctionOf S.equation) → S.first z → S.second z) → ((z : FunctionOf S.equation) → S.second z → S.third z) → (g h : ℕ)
-        → HasIndex S.equation S.first S.second g → HasIndex S.equation S.second S.third h → HasIndex S.equation S.first S.third (g + h) }
-    ensures less { IsLattice S.equation S.first → IsLattice S.equation S.second → IsLattice S.equation S.third
-        → ((z : FunctionOf S.equation) → S.first z → S.second z) → ((z : FunctionOf S.equation) → S.second z → S.third z)
-        → ¬ ((z : FunctionOf S.equation) → S.second z → S.first z) → (g h : ℕ)
-        → HasIndex S.equation S.first S.third g → HasIndex S.equation S.second S.third h → h < g }
-    ensures multiple { IsLattice S.equation S.first → (a : Polynomial S.field) → ¬ (a ≡ (polynomials S.field).𝟘)
-        → HasIndex S.equation (Multiple (ring_of S.equation).ops (of_poly S.equation a) S.first) S.first (degree_of_y S.equation * (length a.0 - 1)) }
-{}
-
-/// The members of an order are integral over the polynomials, and so is what takes a lattice into itself.
+/// The members of an order are integral over the polynomials, and so is what takes a lattice into itself. Where the discriminant isn't 0, a polynomial
+/// takes all integral functions into an order; so a chain of orders over one is no longer than the index of that in the integral functions.
 pub fn order_law<S: FunctionSets>()
     ensures member { IsOrder S.equation S.first → (z : FunctionOf S.equation) → S.first z → IsIntegralAt (setting_of S.equation) Finite z }
+    ensures factor { ¬ (discriminant S.equation ≡ (polynomials S.field).𝟘) → IsOrder S.equation S.first
+        → (a : Polynomial S.field) × (¬ (a ≡ (polynomials S.field).𝟘)) × ((z : FunctionOf S.equation) → IsIntegralAt (setting_of S.equation) Finite z
+        → S.first ((ring_of S.equation).◌⊗◌ (of_poly S.equation a) z)) }
+    ensures chain { ¬ (discriminant S.equation ≡ (polynomials S.field).𝟘) → IsOrder S.equation S.first → IsOrder S.equation S.second
+        → ((z : FunctionOf S.equation) → S.first z → S.second z) → ¬ ((z : FunctionOf S.equation) → S.second z → S.first z) → (g h : ℕ)
+        → HasIndex S.equation S.first (IsIntegralAt (setting_of S.equation) Finite) g
+        → HasIndex S.equation S.second (IsIntegralAt (setting_of S.equation) Finite) h → h < g }
     ensures stable { IsLattice S.equation S.first → (z : FunctionOf S.equation)
         → ((y : FunctionOf S.equation) → S.first y → S.first ((ring_of S.equation).◌⊗◌ z y)) → IsIntegralAt (setting_of S.equation) Finite z }
 {}
@@ -156,6 +109,13 @@ pub fn places_over_law()
     ensures { (k : CodeField) (c : Equation k) (p : Polynomial k) → ¬ (discriminant c ≡ (polynomials k).𝟘) → IsIrreducible k.ops (codes_of k p)
         → (ps : List (PlaceOver (setting_of c) (of_poly c p))) × IsAllOver (setting_of c) (of_poly c p) ps
         × (sum_of_degrees (setting_of c) (of_poly c p) ps ≡ degree_of_y c * (length p.0 - 1)) }
+{}
+
+/// The functions without poles at finite places are those that are integral over the polynomials.
+pub fn regular_law()
+    ensures { (k : CodeField) (c : Equation k) (z : FunctionOf c) → ¬ (discriminant c ≡ (polynomials k).𝟘)
+        → ((P : Place (FunctionOf c)) → IsPlace (setting_of c) P → P.side ≡ Finite → HasValuationAtLeast (setting_of c) P z (pos 0))
+        ↔ IsIntegralAt (setting_of c) Finite z }
 {}
 
 /// A function with an inverse has a value at each finite place; it is 0 where the function and its inverse have denominators that aren't in the place, and

@@ -1,6 +1,6 @@
 -- The theorem of `IntegralLattice`.
 use Rattle.order_theory.proofs.IntegralLattice.{integral_lattice, integral_subring}
-use Rattle.order_theory.proofs.Lattices.{lattice_decided}
+use Rattle.lattice_theory.proofs.Lattices.{lattice_decided}
 use Rattle.order_theory.proofs.integral_order_law.Goals as goal
 
 pub returns-clause-order : goal.returns-clause-order

@@ -25,10 +25,10 @@ use Rattle.ff_algebra.specs.Functions.{Equation, FunctionOf, ring_of, of_poly, d
 use Rattle.places_theory.proofs.YRoot.{poly_hom}
 use Rattle.trace_theory.proofs.TracePowers.{some_long}
 use Rattle.trace_theory.proofs.Division.{top_not_zero}
-use Rattle.order_theory.specs.Lattices.{IsLattice, HasIndex, IsBasisOf, polynomial_ops}
-use Rattle.order_theory.proofs.Parts.{Rows, module_of, part, part_add, part_scale, part_zero, part_same, Common, common}
-use Rattle.order_theory.proofs.Lattices.{AtDen, lattice_at, lattice_module}
-use Rattle.order_theory.proofs.Indices.{dimension, index_at, index_size}
+use Rattle.lattice_theory.specs.Lattices.{IsLattice, HasIndex, IsBasisOf, polynomial_ops}
+use Rattle.lattice_theory.proofs.Parts.{Rows, module_of, part, part_add, part_scale, part_zero, part_same, Common, common}
+use Rattle.lattice_theory.proofs.Lattices.{AtDen, lattice_at, lattice_module}
+use Rattle.lattice_theory.proofs.Indices.{dimension, index_at, index_size}
 
 module _ (k : CodeField) where
   infixl 70 ◌⊗◌

@@ -15,8 +15,8 @@ use Rattle.ff_poly.specs.Polynomials.{Polynomial, polynomials, polynomials_domai
 use Rattle.ff_ring.proofs.Ring.{product_not_zero}
 use Rattle.ff_algebra.specs.Functions.{Equation, FunctionOf, ring_of, IsPolynomial}
 use Rattle.ff_algebra.proofs.ScalarRings.{polynomials_subring}
-use Rattle.order_theory.specs.Lattices.{IsLattice}
-use Rattle.order_theory.proofs.Parts.{Rows, module_of, part, part_scale, span_of_rows, rows_of_span, rows_of_part, OverOne, more, Common, common}
+use Rattle.lattice_theory.specs.Lattices.{IsLattice}
+use Rattle.lattice_theory.proofs.Parts.{Rows, module_of, part, part_scale, span_of_rows, rows_of_span, rows_of_part, OverOne, more, Common, common}
 
 module _ {k : CodeField} (c : Equation k) where
   infixl 65 ◌⊕◌

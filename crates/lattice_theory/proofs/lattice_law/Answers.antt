@@ -1,9 +1,9 @@
 -- The theorems of `Lattices`, `Bases`, `Operations` and `Between`.
-use Rattle.order_theory.proofs.Lattices.{lattice_decided}
-use Rattle.order_theory.proofs.Bases.{lattice_basis}
-use Rattle.order_theory.proofs.Operations.{common_factor, lattice_within}
-use Rattle.order_theory.proofs.Between.{lattice_between}
-use Rattle.order_theory.proofs.lattice_law.Goals as goal
+use Rattle.lattice_theory.proofs.Lattices.{lattice_decided}
+use Rattle.lattice_theory.proofs.Bases.{lattice_basis}
+use Rattle.lattice_theory.proofs.Operations.{common_factor, lattice_within}
+use Rattle.lattice_theory.proofs.Between.{lattice_between}
+use Rattle.lattice_theory.proofs.lattice_law.Goals as goal
 
 pub returns-clause-decided : goal.returns-clause-decided
 returns-clause-decided g c = λ 𝓐. lattice_decided g.S.FunctionSets.equation g.S.FunctionSets.first 𝓐

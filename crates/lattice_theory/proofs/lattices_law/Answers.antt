@@ -1,6 +1,6 @@
 -- The theorems of `Operations`.
-use Rattle.order_theory.proofs.Operations.{polynomial_lattice, multiple_lattice, sum_lattice, product_lattice, intersection_lattice, colon_lattice}
-use Rattle.order_theory.proofs.lattices_law.Goals as goal
+use Rattle.lattice_theory.proofs.Operations.{polynomial_lattice, multiple_lattice, sum_lattice, product_lattice, intersection_lattice, colon_lattice}
+use Rattle.lattice_theory.proofs.lattices_law.Goals as goal
 
 pub returns-clause-coordinates : goal.returns-clause-coordinates
 returns-clause-coordinates g c = polynomial_lattice g.S.FunctionSets.equation

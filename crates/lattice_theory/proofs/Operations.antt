@@ -14,14 +14,14 @@ use Rattle.popov_theory.proofs.Dimension.{units, in_units}
 use Rattle.trace_theory.specs.Traces.{HasPolynomialCoordinates}
 use Rattle.trace_theory.proofs.FunctionTraces.{as_row}
 use Rattle.ff_fields.specs.Code.{code_field}
-use Rattle.order_theory.proofs.Parts.{module_of, part, span_of_rows, rows_of_span}
+use Rattle.lattice_theory.proofs.Parts.{module_of, part, span_of_rows, rows_of_span}
 use Rattle.ff_fields.specs.Field.{CodeField}
 use Rattle.ff_poly.specs.Polynomials.{Polynomial, polynomials, polynomials_domain}
 use Rattle.ff_algebra.specs.Functions.{Equation, FunctionOf, ring_of, of_poly, row_of, over, IsPolynomial}
 use Rattle.ff_algebra.proofs.ScalarRings.{polynomials_subring, of_poly_one}
-use Rattle.order_theory.specs.Lattices.{IsLattice, space_ops}
-use Rattle.order_theory.proofs.Lattices.{lattice_module, lattice_generators, lattice_decided}
-use Rattle.order_theory.proofs.Between.{lattice_between}
+use Rattle.lattice_theory.specs.Lattices.{IsLattice, space_ops}
+use Rattle.lattice_theory.proofs.Lattices.{lattice_module, lattice_generators, lattice_decided}
+use Rattle.lattice_theory.proofs.Between.{lattice_between}
 
 module _ {A : Type 0} (R : CommRing A) (S L : A → Type 0) (𝓛 : IsModule R.ops S L) (u : A) where
   infixl 65 ◌⊕◌

@@ -13,9 +13,9 @@ use Rattle.ff_fields.specs.Code.{Code}
 use Rattle.ff_algebra.specs.Functions.{Equation, FunctionOf, ring_of, IsPolynomial}
 use Rattle.ff_algebra.proofs.ScalarRings.{polynomials_subring}
 use Rattle.places_theory.proofs.CodeFields.{code_finite}
-use Rattle.order_theory.specs.Lattices.{IsLattice, space_ops, HasIndex}
-use Rattle.order_theory.proofs.Lattices.{lattice_module, lattice_generators}
-use Rattle.order_theory.proofs.Indices.{code_of, lattice_subspace, index_of}
+use Rattle.lattice_theory.specs.Lattices.{IsLattice, space_ops, HasIndex}
+use Rattle.lattice_theory.proofs.Lattices.{lattice_module, lattice_generators}
+use Rattle.lattice_theory.proofs.Indices.{code_of, lattice_subspace, index_of}
 
 module _ {k : CodeField} (c : Equation k) where
   infixl 65 ◌⊕◌

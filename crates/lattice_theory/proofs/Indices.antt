@@ -25,9 +25,9 @@ use Rattle.ff_poly.specs.Polynomials.{Polynomial, polynomials}
 use Rattle.ff_algebra.specs.Functions.{Equation, FunctionOf, ring_of, of_poly, IsPolynomial}
 use Rattle.ff_algebra.proofs.OnSide.{of_poly_zero}
 use Rattle.places_theory.proofs.YRoot.{poly_hom}
-use Rattle.order_theory.specs.Lattices.{IsLattice, space_ops, HasIndex}
-use Rattle.order_theory.proofs.Parts.{Rows, module_of, part, part_add, part_scale, part_zero}
-use Rattle.order_theory.proofs.Lattices.{AtDen, two_lattices, lattice_module}
+use Rattle.lattice_theory.specs.Lattices.{IsLattice, space_ops, HasIndex}
+use Rattle.lattice_theory.proofs.Parts.{Rows, module_of, part, part_add, part_scale, part_zero}
+use Rattle.lattice_theory.proofs.Lattices.{AtDen, two_lattices, lattice_module}
 
 module _ (k : CodeField) where
   abbrev pub codes : Field (Code k)

@@ -1,7 +1,7 @@
 -- The theorems of `Indices` and `Bases`.
-use Rattle.order_theory.proofs.Indices.{index_of, index_once, index_zero, index_none, index_add, index_less}
-use Rattle.order_theory.proofs.Bases.{index_of_multiple}
-use Rattle.order_theory.proofs.index_law.Goals as goal
+use Rattle.lattice_theory.proofs.Indices.{index_of, index_once, index_zero, index_none, index_add, index_less}
+use Rattle.lattice_theory.proofs.Bases.{index_of_multiple}
+use Rattle.lattice_theory.proofs.index_law.Goals as goal
 
 pub returns-clause-exists : goal.returns-clause-exists
 returns-clause-exists g c = λ 𝓐 𝓑 inner. index_of g.S.FunctionSets.equation g.S.FunctionSets.first g.S.FunctionSets.second 𝓐 𝓑 inner
