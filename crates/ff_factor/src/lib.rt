@@ -1,8 +1,10 @@
 //! Polynomials over a small field modulo a monic one, and factors of polynomials.
 #![tactic(auto)]
 
+pub mod decisions;
 pub mod quotient;
 mod steps;
 
+pub use decisions::is_irreducible;
 pub use quotient::PolyQuotient;
 
