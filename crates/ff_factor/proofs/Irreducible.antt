@@ -14,7 +14,9 @@ use Rattle.ff_fields.specs.Field.{CodeField}
 use Rattle.ff_fields.specs.Code.{Code, code_ring, code_field, code_domain}
 use Rattle.ff_fields.specs.Numbers.{numbers}
 use Rattle.ff_poly.specs.Words.{IsIrreducible, IsMonic}
-use Rattle.ff_poly.specs.Polynomials.{Polynomial, polynomials, polynomials_domain, polynomial_discrete, codes_of, IsOver_codes_of, IsPoly_codes_of, codes_of_product}
+use Rattle.ff_fields.specs.Over.{IsOver}
+use Rattle.ff_poly.specs.Value.{value}
+use Rattle.ff_poly.specs.Polynomials.{Polynomial, polynomials, polynomials_domain, polynomial_discrete, codes_of, IsOver_codes_of, IsPoly_codes_of, codes_of_product, value_codes_of}
 use Rattle.ff_factor.proofs.Lengths.{some_long, zero_length}
 use Rattle.ff_factor.proofs.Division.{top_not_zero, euclidean, divide}
 
@@ -86,6 +88,43 @@ module _ (k : CodeField) where
       empty : {a : Polynomial k} → Dec (a ≡ 𝟘) → length a.0 ≤ 0 → a ≡ 𝟘
       empty (yes e) l = e
       empty {a} (no n) l = absurd (omega (arith, some_long k a n))
+
+  -- what makes a polynomial monic
+  pub record MadeMonic (d : Polynomial k) : Type 0 where
+    pub codes : List ℕ
+    pub over : IsOver k.ops codes
+    pub monic : IsMonic codes
+    pub length_is : length codes ≡ length d.0
+    pub factor : Polynomial k
+    pub is : value k codes ≡ factor ⊗ d
+    pub inverse : Polynomial k
+    pub inverts : inverse ⊗ factor ≡ 𝟙
+
+  pub made_monic : (d : Polynomial k) → ¬ (d ≡ 𝟘) → MadeMonic d
+  made_monic d d_some =
+      let u = inverse.0 in
+      let U = constant (code_ring k) u in
+      let T = constant (code_ring k) (top_of d) in
+      let one : T ⊗ U ≡ 𝟙 = unit_some (top_of d) u inverse.1 in
+      let U_long = unit_length U T ((polynomials k).mul_comm U T ∙ one) in
+      let m = U ⊗ d in
+      let m_long : length m.0 ≡ length d.0
+      = omega (arith, U_long, length_product (code_ring k) (code_domain k) U d (some_of_long U (omega arith)) d_some) in
+      let top_one : top_of m ≡ (code_ring k).𝟙
+      = ap (λ n. coeff_of (code_ring k).ops m.0 (n - 1)) m_long ∙ constant_times u d (length d.0 - 1) ∙ (code_ring k).mul_comm _ _ ∙ inverse.1 in
+      record {
+        codes = codes_of k m;
+        over = IsOver_codes_of k m;
+        monic = monic_codes m (omega (arith, m_long, some_long k d d_some)) top_one;
+        length_is = length_codes m ∙ m_long;
+        factor = U;
+        is = value_codes_of k m;
+        inverse = T;
+        inverts = one;
+      }
+    where
+      inverse : (u : Code k) × ((code_ring k).◌⊗◌ (top_of d) u ≡ (code_ring k).𝟙)
+      inverse = (code_field k).inverse (top_of d) (top_not_zero k d (some_long k d d_some))
 
   module _ (p : Polynomial k) (h : IsIrreducible k.ops (codes_of k p)) where
     p_long : 2 ≤ length p.0

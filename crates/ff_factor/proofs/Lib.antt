@@ -3,3 +3,7 @@ pub mod Lengths
 pub mod Division
 pub mod Irreducible
 pub mod FieldsByIrreducibles
+pub mod VectorClasses
+pub mod PowerBounds
+pub mod PrimeIdeals
+pub mod HighPowers

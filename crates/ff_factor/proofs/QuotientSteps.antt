@@ -1,6 +1,6 @@
 -- Steps of the loop that multiplies modulo a polynomial.
 use Rattle.std.proofs.Common.{◌≡◌, ℕ, zero, suc, ◌+◌, ◌-◌, ◌<◌, ◌≤◌, List, [], ◌∷◌, ◌++◌, length, get_or, take, drop, set, replicate, refl, sym, ap, ap₂, ◌∙◌, arith, add-one}
-use Rattle.std.proofs.lemmas.List.{drop_more, drop_all}
+use Rattle.std.proofs.lemmas.List.{drop_more, drop_all, take_at}
 use Rattle.ff_ring.specs.Lists.{add_lists, scale_list}
 use Rattle.ff_fields.specs.Field.{FieldOps}
 use Rattle.ff_fields.specs.Code.{raw_ring}
@@ -39,3 +39,7 @@ product_step k g a b old moved new i c less old_is moved_is c_is new_is =
     new_is
     ∙ ap₂ (λ v d. add_lists (raw_ring k) v (scale_list (raw_ring k) d b)) (moved_is ∙ ap (times_x k g) old_is) c_is
     ∙ sym (ap (λ w. product_modulo k g w b) (drop_more a i 0 less))
+
+-- a vector whose codes were written over, as a whole
+pub written : (now rest : List ℕ) (n : ℕ) → length now ≡ n → take n (now ++ rest) ≡ now
+written now rest n size = take_at now rest n size

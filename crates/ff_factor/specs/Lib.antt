@@ -1,3 +1,4 @@
 pub mod Quotients
 pub mod ListValues
 pub mod QuotientLaws
+pub mod Primes

@@ -3,6 +3,7 @@
 
 pub mod decisions;
 pub mod quotient;
+pub mod primes;
 mod steps;
 
 pub use decisions::is_irreducible;
