@@ -14,3 +14,8 @@ pub mod PowerSpans
 pub mod Pigeonhole
 pub mod PolynomialValues
 pub mod SplitLaws
+pub mod Splittings
+pub mod SplitSteps
+pub mod RefineSteps
+pub mod Sorting
+pub mod PrimitiveLists

@@ -1,5 +1,5 @@
 -- Polynomials as lists of codes and as lists of vectors: values, quotients, roots.
-use Rattle.std.proofs.Common.{◌≡◌, ℕ, zero, suc, ◌-◌, ◌<◌, List, [], ◌∷◌, ◌++◌, length, take, map, inl, inr, refl, sym, ap, ap₂, ◌∙◌, subst, arith}
+use Rattle.std.proofs.Common.{◌≡◌, ℕ, suc, ◌-◌, ◌<◌, List, [], ◌∷◌, ◌++◌, length, take, map, inl, inr, refl, sym, ap, ap₂, ◌∙◌, subst, arith}
 use Rattle.std.proofs.lemmas.List.{length-map, take_at}
 use Rattle.ff_ring.specs.Ring.{CommRing}
 use Rattle.ff_ring.proofs.RowMaps.{hom_neg, hom_zero}
@@ -17,7 +17,6 @@ use Rattle.ff_falg.specs.Algebras.{AlgebraOps, IsAlgebra}
 use Rattle.ff_falg.specs.Roots.{monic_value, quotient_of}
 use Rattle.ff_falg.specs.Splits.{weight_of}
 use Rattle.ff_falg.proofs.CodeFields.{code_finite}
-use Rattle.ff_falg.proofs.RootSteps.{length_quotient}
 use Rattle.ff_falg.proofs.Vectors.{Vector, vector_ring, vector_discrete}
 use Rattle.ff_falg.proofs.VectorAlgebra.{scalar, scalar_map, one_not_zero, basis, basis_spans}
 

@@ -1,5 +1,5 @@
 -- A fixed element splits an idempotent: the roots of its minimal polynomial there, and the parts at the roots.
-use Rattle.std.proofs.Common.{◌≡◌, ◌≢◌, ℕ, zero, suc, ◌<◌, ◌≤◌, ◌⊎◌, inl, inr, List, [], ◌∷◌, ◌++◌, length, take, map, refl, sym, ap, ap₂, ◌∙◌, subst, arith}
+use Rattle.std.proofs.Common.{◌≡◌, ◌≢◌, ℕ, suc, ◌<◌, ◌≤◌, ◌⊎◌, inl, inr, List, [], ◌∷◌, ◌++◌, length, take, map, refl, sym, ap, ap₂, ◌∙◌, subst, arith}
 use Rattle.std.proofs.lemmas.List.{length-map, map-append}
 use Rattle.ff_ring.specs.Ring.{CommRing}
 use Rattle.ff_ring.specs.Lists.{scale_list}
@@ -8,7 +8,7 @@ use Rattle.ff_ring.proofs.RowMaps.{hom_zero}
 use Rattle.ff_ring.proofs.Finite.{In, IsDistinct}
 use Rattle.ff_fields.specs.Field.{CodeField}
 use Rattle.ff_fields.specs.Code.{Code, code_ring, raw_ring, read_code, read_code_below, same_code}
-use Rattle.ff_fields.specs.Numbers.{numbers, read}
+use Rattle.ff_fields.specs.Numbers.{read}
 use Rattle.ff_fields.specs.Over.{IsOver, IsOver_head, IsOver_tail}
 use Rattle.linear_theory.specs.Module.{combination as row_combination}
 use Rattle.ff_linalg.specs.Matrix.{MatrixValue}
@@ -24,16 +24,16 @@ use Rattle.finite_algebra_theory.proofs.Lists.{in_map, of_map, distinct_map}
 use Rattle.finite_algebra_theory.proofs.Frobenius.{cancel}
 use Rattle.finite_algebra_theory.proofs.Splitting.{monic_roots, minimal_roots, roots_among, roots_among_in, roots_among_distinct}
 use Rattle.finite_algebra_theory.proofs.Lagrange.{lagrange_split}
-use Rattle.ff_falg.specs.Algebras.{AlgebraOps, IsAlgebra, IsVector}
+use Rattle.ff_falg.specs.Algebras.{AlgebraOps, IsAlgebra}
 use Rattle.ff_falg.specs.Relations.{IsPowers}
-use Rattle.ff_falg.specs.Roots.{monic_value, quotient_of, IsRoots}
+use Rattle.ff_falg.specs.Roots.{quotient_of, IsRoots}
 use Rattle.ff_falg.specs.Splits.{weight_of, part_of}
 use Rattle.ff_falg.proofs.CodeFields.{code_finite}
 use Rattle.ff_falg.proofs.Pigeonhole.{at_most}
 use Rattle.ff_falg.proofs.PolynomialValues.{value_combination, suffix_read, weight_read, read_in, of_read, read_distinct, over_of_in, scalar_injective, value_scalar, suffix_scalar, root_scalar, scalar_root}
 use Rattle.ff_falg.proofs.PowerSpans.{powers_rows}
 use Rattle.ff_falg.proofs.RootSteps.{length_quotient}
-use Rattle.ff_falg.proofs.Vectors.{Vector, vector_ring, vector_discrete, same_vector}
+use Rattle.ff_falg.proofs.Vectors.{Vector, vector_ring, vector_discrete}
 use Rattle.ff_falg.proofs.VectorAlgebra.{scalar, scalar_map, scalar_times, scalars_in, combination_value, vector_algebra}
 
 -- only as many rows count as there are coefficients
