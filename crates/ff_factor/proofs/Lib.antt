@@ -7,3 +7,4 @@ pub mod VectorClasses
 pub mod PowerBounds
 pub mod PrimeIdeals
 pub mod HighPowers
+pub mod Orders

@@ -3,7 +3,8 @@
 
 pub mod decisions;
 pub mod quotient;
-pub mod primes;
+mod order;
+mod primes;
 mod steps;
 
 pub use decisions::is_irreducible;

@@ -16,7 +16,7 @@ use ff_poly::powers::pow_mod;
 use std::alloc::{AllocError, Global};
 
 /// The class of x to a power of q that is at least the degree of g, where q is the size of the field.
-pub(crate) fn high_power<K: SmallField>(alloc: Global, k: &K, g: &Poly) -> Result<Vec<u32>, AllocError>
+fn high_power<K: SmallField>(alloc: Global, k: &K, g: &Poly) -> Result<Vec<u32>, AllocError>
     requires { IsModulus (K.field k.now).ops g.now }
     ensures vector { IfOk result (λ v. IsVector (K.field k.now).ops (length g.now - 1) v.items) }
     ensures power { IfOk result (λ v. IsHighPower (K.field k.now) g.now (length g.now - 1) v.items) }
