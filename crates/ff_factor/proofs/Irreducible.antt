@@ -36,7 +36,7 @@ module _ (k : CodeField) where
   infixl 70 ◌⊗◌
   open polynomials k use {𝟘, 𝟙, ◌⊗◌}
 
-  length_codes : (a : Polynomial k) → length (codes_of k a) ≡ length a.0
+  pub length_codes : (a : Polynomial k) → length (codes_of k a) ≡ length a.0
   length_codes a = length-map a.0 (λ x. x.0)
 
   -- the coefficient on top
@@ -48,7 +48,7 @@ module _ (k : CodeField) where
       let r = last_of (coeff_of (code_ring k).ops) (λ x xs. refl) (λ x xs n. refl) a.0 l in
       (numbers k r.0, ap (numbers k) (r.1 ∙ ap (λ x. r.0 ++ x ∷ []) e) ∙ map-append (λ x. x.0) r.0 ((code_ring k).𝟙 ∷ []))
 
-  some_of_long : (a : Polynomial k) → 0 < length a.0 → ¬ (a ≡ 𝟘)
+  pub some_of_long : (a : Polynomial k) → 0 < length a.0 → ¬ (a ≡ 𝟘)
   some_of_long a l e = let q : length a.0 ≡ 0 = ap (λ p. length p.0) e ∙ zero_length k in absurd (omega arith)
 
   -- a multiple by a code
@@ -63,7 +63,7 @@ module _ (k : CodeField) where
   unit_some u v e = sym ((constant_hom (code_ring k)).mul u v) ∙ ap (constant (code_ring k)) e ∙ (constant_hom (code_ring k)).𝟙
 
   -- units have one coefficient
-  unit_length : (a b : Polynomial k) → a ⊗ b ≡ 𝟙 → length a.0 ≡ 1
+  pub unit_length : (a b : Polynomial k) → a ⊗ b ≡ 𝟙 → length a.0 ≡ 1
   unit_length a b e = go (length_product (code_ring k) (code_domain k) 𝟙 𝟙 (polynomials_domain k).one_not_zero (polynomials_domain k).one_not_zero)
     where
       a_some : ¬ (a ≡ 𝟘)

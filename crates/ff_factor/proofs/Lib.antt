@@ -8,3 +8,5 @@ pub mod PowerBounds
 pub mod PrimeIdeals
 pub mod HighPowers
 pub mod Orders
+pub mod PrimeFacts
+pub mod PullSteps

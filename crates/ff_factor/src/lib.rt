@@ -2,6 +2,7 @@
 #![tactic(auto)]
 
 pub mod decisions;
+pub mod factors;
 pub mod quotient;
 mod order;
 mod primes;
