@@ -10,3 +10,5 @@ pub mod HighPowers
 pub mod Orders
 pub mod PrimeFacts
 pub mod PullSteps
+pub mod SplitSteps
+pub mod Factorisations

@@ -216,3 +216,7 @@ at_start i a b e same = subst (λ n. drop n a ≡ drop n b) e same
 
 pub not_so : IsTrue false → ⊥
 not_so t = cc
+
+pub before_irreflexive : (p : List ℕ) → IsBefore p p → ⊥
+before_irreflexive p (inl l) = omega arith
+before_irreflexive p (inr h) = below_same p p refl h.1

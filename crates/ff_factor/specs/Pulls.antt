@@ -6,7 +6,7 @@ use Rattle.ff_ring.proofs.Finite.{In}
 use Rattle.linear_theory.specs.Euclidean.{IsDivisor}
 use Rattle.ff_fields.specs.Field.{FieldOps, CodeField}
 use Rattle.ff_fields.specs.Over.{IsOver}
-use Rattle.ff_poly.specs.Words.{IsPoly}
+use Rattle.ff_poly.specs.Words.{IsPoly, IsIrreducible}
 use Rattle.ff_poly.specs.Value.{value}
 use Rattle.ff_poly.specs.Polynomials.{Polynomial, polynomials}
 use Rattle.ff_factor.specs.Factors.{AreAscending, polys_of}
@@ -42,6 +42,15 @@ pub record IsSplitOff (k : CodeField) (g : List ℕ) (ps : List (List ℕ)) (par
   pub polys : polys_of parts ≡ ps
   pub over : IsOver k.ops rest
   pub poly : IsPoly rest
+  pub some : rest ≢ []
   pub product : value k g ≡ (polynomials k).◌⊗◌ (value_of_parts k parts) (value k rest)
   pub free : (p : List ℕ) → In p ps → ¬ IsDivisor (polynomials k).ops (value k p) (value k rest)
   pub exponents : All (λ f. 1 ≤ f.1) parts
+
+-- irreducible divisors of g in ascending order, of which none divides another
+pub record IsPrimeList (k : CodeField) (g : List ℕ) (ps : List (List ℕ)) : Type 0 where
+  pub over : (p : List ℕ) → In p ps → IsOver k.ops p
+  pub irreducible : (p : List ℕ) → In p ps → IsIrreducible k.ops p
+  pub divides : (p : List ℕ) → In p ps → IsDivisor (polynomials k).ops (value k p) (value k g)
+  pub different : (p q : List ℕ) → In p ps → In q ps → ¬ (p ≡ q) → ¬ IsDivisor (polynomials k).ops (value k p) (value k q)
+  pub ascending : AreAscending ps

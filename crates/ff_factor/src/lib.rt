@@ -9,5 +9,6 @@ mod primes;
 mod steps;
 
 pub use decisions::is_irreducible;
+pub use factors::{Factors, factor};
 pub use quotient::PolyQuotient;
 

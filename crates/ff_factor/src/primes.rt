@@ -1,13 +1,16 @@
 //! The primes that belong to the idempotents of the polynomials modulo a monic one.
 
-ghost use Rattle.std.specs.Prelude.{◌≡◌, ◌-◌, ◌≤◌, length, IfOk};
+ghost use Rattle.std.specs.Prelude.{◌≡◌, ◌-◌, ◌≤◌, length, All, IfOk};
 ghost use Rattle.ff_fields.specs.Code.{raw_ring};
 ghost use Rattle.ff_fields.specs.Over.{IsOver};
 ghost use Rattle.ff_ring.specs.Lists.{neg_list};
 ghost use Rattle.ff_falg.specs.Algebras.{IsPrimitive, IsVector};
+ghost use Rattle.ff_falg.specs.Idempotents.{elements_of};
 ghost use Rattle.ff_factor.specs.Primes.{IsHighPower, IsPrimeAt};
+ghost use Rattle.ff_factor.specs.Pulls.{ArePrimesOf};
 ghost use Rattle.ff_factor.specs.Quotients.{IsModulus, quotient_algebra};
 
+use crate::order::insert;
 use crate::quotient::PolyQuotient;
 use ff_falg::relations::first_relation;
 use ff_fields::field::SmallField;
@@ -45,7 +48,7 @@ fn negate_all<K: SmallField>(k: &K, codes: &mut [u32])
 }
 
 /// The prime of the primitive idempotent e, by the first relation among e, z·e, z·z·e, .. where z is a high power of x.
-pub(crate) fn prime_at<K: SmallField>(
+fn prime_at<K: SmallField>(
     alloc: Global,
     k: &K,
     a: &PolyQuotient,
@@ -64,4 +67,24 @@ pub(crate) fn prime_at<K: SmallField>(
     negate_all(k, codes.as_mut_slice());
     codes.push(1)?;
     Ok(Poly::from_codes(codes))
+}
+
+/// The primes of primitive idempotents, in ascending order.
+pub(crate) fn primes_of<K: SmallField>(
+    alloc: Global,
+    k: &K,
+    a: &PolyQuotient,
+    idempotents: &[Vec<u32>],
+) -> Result<Vec<Poly>, AllocError>
+    requires modulus { IsModulus (K.field k.now).ops a.now }
+    requires primitive { All (IsPrimitive (K.field k.now).ops (quotient_algebra a.now)) (elements_of idempotents.now) }
+    ensures { IfOk result (λ v. ArePrimesOf (K.field k.now).ops a.now (elements_of idempotents.now) v.items) }
+{
+    let z = high_power(alloc, k, a.modulus())?;
+    let mut primes = Vec::new(alloc);
+    for e in idempotents {
+        let p = prime_at(alloc, k, a, z.as_slice(), e.as_slice())?;
+        insert(&mut primes, p)?;
+    }
+    Ok(primes)
 }
