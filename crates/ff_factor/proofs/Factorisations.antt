@@ -27,6 +27,7 @@ use Rattle.ff_factor.specs.Quotients.{IsModulus, quotient_algebra}
 use Rattle.ff_factor.proofs.FieldsByIrreducibles.{some_value}
 use Rattle.ff_factor.proofs.Irreducible.{unit_length}
 use Rattle.ff_factor.proofs.PrimeFacts.{generates, prime_irreducible, prime_divides_modulus, primes_different, monic_unique, divisor_refl, rest_unit}
+use Rattle.ff_factor.proofs.PullSteps.{positive}
 use Rattle.ff_factor.proofs.SplitSteps.{all_of_in}
 
 -- a list with one code
@@ -195,3 +196,34 @@ module _ (k : CodeField) where
           size =
               let l = unit_length k (value k rest) unit_of.0 unit_of.1 in
               omega (arith, l, length_value k rest s.over s.poly)
+
+  -- a is g divided by its top code, which isn't 0, where g has degree 1 or more
+  pub record IsScaled (g a : List ℕ) : Type 0 where
+    pub over : IsOver k.ops g
+    pub poly : IsPoly g
+    pub long : 2 ≤ length g
+    pub top_some : top_of g ≢ 0
+    pub is : a ≡ multiple_of k.ops g (k.inv (top_of g))
+
+  pub scaled : (g codes a : List ℕ) (top inverse : ℕ) → IsOver k.ops g → IsPoly g → codes ≡ g → ¬ (length codes ≡ 1) → g ≢ [] → top ≡ top_of g → top ≢ 0
+      → inverse ≡ k.inv top → a ≡ multiple_of k.ops g inverse → IsScaled g a
+  scaled g codes a top inverse g_in g_poly codes_is not_one some top_is top_some inverse_is a_is = record {
+    over = g_in;
+    poly = g_poly;
+    long = let l = ap length codes_is in let n = positive k g some in omega arith;
+    top_some = λ e. top_some (top_is ∙ e);
+    is = a_is ∙ ap (multiple_of k.ops g) (inverse_is ∙ ap k.inv top_is);
+  }
+
+  pub scaled_modulus : (g a : List ℕ) → IsScaled g a → IsModulus k.ops a
+  scaled_modulus g a s = subst (IsModulus k.ops) (sym s.is) (made_modulus g s.over s.poly s.long s.top_some)
+
+  pub scaled_primes : (g a : List ℕ) (es ps : List (List ℕ)) → IsScaled g a → IsPrimitiveList k.ops (quotient_algebra a) es → ArePrimesOf k.ops a es ps → IsPrimeList k g ps
+  scaled_primes g a es ps s list primes =
+      made_primes g s.over s.poly s.long s.top_some es ps (subst (λ w. IsPrimitiveList k.ops (quotient_algebra w) es) s.is list) (subst (λ w. ArePrimesOf k.ops w es ps) s.is primes)
+
+  pub scaled_factors : (g a : List ℕ) (es ps : List (List ℕ)) → IsScaled g a → IsPrimitiveList k.ops (quotient_algebra a) es → ArePrimesOf k.ops a es ps
+      → (parts : List (List ℕ × ℕ)) (rest : List ℕ) (unit : ℕ) → IsSplitOff k g ps parts rest → unit ≡ top_of rest → unit ≢ 0
+      → IsFactorisation k.ops g (record { unit = unit; parts = parts })
+  scaled_factors g a es ps s list primes =
+      factorised g s.over s.poly s.long s.top_some es ps (subst (λ w. IsPrimitiveList k.ops (quotient_algebra w) es) s.is list) (subst (λ w. ArePrimesOf k.ops w es ps) s.is primes)

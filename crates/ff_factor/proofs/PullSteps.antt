@@ -33,7 +33,7 @@ module _ (k : CodeField) where
   abbrev P : CommRing (Polynomial k)
   P = (polynomials k).ring
 
-  positive : (d : List ℕ) → d ≢ [] → 0 < length d
+  pub positive : (d : List ℕ) → d ≢ [] → 0 < length d
   positive [] ne = absurd (ne refl)
   positive (x ∷ d) ne = omega arith
 

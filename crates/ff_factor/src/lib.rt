@@ -12,3 +12,6 @@ pub use decisions::is_irreducible;
 pub use factors::{Factors, factor};
 pub use quotient::PolyQuotient;
 
+
+#[cfg(test)]
+mod tests;
