@@ -120,8 +120,14 @@ module _ (k : CodeField) where
           let u_size = unit_length k (constant_poly k (k.inv (top_of g))) (constant_poly k (top_of g)) inverts in
           let u_some : ¬ (constant_poly k (k.inv (top_of g)) ≡ 𝟘) = λ z. (polynomials_domain k).one_not_zero (sym inverts ∙ ap (λ w. w ⊗ constant_poly k (top_of g)) z ∙ zero_mul P (constant_poly k (top_of g))) in
           let s : length (value k m).0 ≡ length (constant_poly k (k.inv (top_of g)) ⊗ value k g).0 = ap (λ w. length w.0) m_is in
-          omega (arith, u_size, s, length_product (code_ring k) (code_domain k) (constant_poly k (k.inv (top_of g))) (value k g) u_some (some_value k g g_in g_poly (omega arith)),
-          length_value k g g_in g_poly, length_value k m (IsOver_multiple_of k g_in inverse_in) (IsPoly_multiple_of k.ops g (k.inv (top_of g))));
+          omega (
+            arith,
+            u_size,
+            s,
+            length_product (code_ring k) (code_domain k) (constant_poly k (k.inv (top_of g))) (value k g) u_some (some_value k g g_in g_poly (omega arith)),
+            length_value k g g_in g_poly,
+            length_value k m (IsOver_multiple_of k g_in inverse_in) (IsPoly_multiple_of k.ops g (k.inv (top_of g))),
+          );
     }
 
     module _ (es ps : List (List ℕ)) (list : IsPrimitiveList k.ops (quotient_algebra m) es) (primes : ArePrimesOf k.ops m es ps) where

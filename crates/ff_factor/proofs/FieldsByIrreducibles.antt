@@ -100,8 +100,8 @@ module _ (k : CodeField) where
             let law = quotient_laws k g h in
             let n = length g - 1 in
             let some : s.vector ≢ replicate n 0 = λ e.
-                b_some (short_eq k g h B 𝟘 (omega (arith, b_length)) (let z = zero_length k in omega (arith, h.not_constant))
-                (congruent_trans S G B (value k s.vector) 𝟘 (congruent_sym S G (value k s.vector) B s.value_is) ((zero_class k g h s.vector s.vector_in).0 e))) in
+            b_some (short_eq k g h B 𝟘 (omega (arith, b_length)) (let z = zero_length k in omega (arith, h.not_constant))
+            (congruent_trans S G B (value k s.vector) 𝟘 (congruent_sym S G (value k s.vector) B s.value_is) ((zero_class k g h s.vector s.vector_in).0 e))) in
             let i = F.inverse s.vector s.vector_in some in
             let one : IsCongruent (polynomials k).ops G (B ⊗ value k i.0) 𝟙
             = congruent_trans S G (B ⊗ value k i.0) (value k s.vector ⊗ value k i.0) 𝟙
@@ -143,13 +143,15 @@ module _ (k : CodeField) where
         inverse a a_in ne =
             let no_divide : ¬ IsDivisor (polynomials k).ops G (value k a) = not_divisor a a_in ne in
             let z = bezout (euclidean k) G (irreducible k G i') (value k a) no_divide in
-            let s = stands_for k g h z.left in
-            (s.vector, s.vector_in,
-            same_by k g h _ _ 𝟙 𝟙 (product_in k g h a s.vector a_in.over s.vector_in) (quotient_laws k g h).unit_in
-            (congruent_trans S G _ (value k a ⊗ value k s.vector) 𝟙 (value_product_modulo k g h a s.vector a_in.over s.vector_in)
-            (congruent_trans S G _ (value k a ⊗ z.left) 𝟙 (congruent_mul_left S G (value k a) (value k s.vector) z.left s.value_is)
-            (record { times = ⊖ z.right; differs = from_one S 𝟙 z.is (step z.left (value k a) z.right G) })))
-            (congruent_same S G _ _ (value_quotient_unit k g h)) refl)
+            let s = stands_for k g h z.left in (
+              s.vector,
+              s.vector_in,
+              same_by k g h _ _ 𝟙 𝟙 (product_in k g h a s.vector a_in.over s.vector_in) (quotient_laws k g h).unit_in
+                  (congruent_trans S G _ (value k a ⊗ value k s.vector) 𝟙 (value_product_modulo k g h a s.vector a_in.over s.vector_in)
+                  (congruent_trans S G _ (value k a ⊗ z.left) 𝟙 (congruent_mul_left S G (value k a) (value k s.vector) z.left s.value_is)
+                  (record { times = ⊖ z.right; differs = from_one S 𝟙 z.is (step z.left (value k a) z.right G) })))
+                  (congruent_same S G _ _ (value_quotient_unit k g h)) refl,
+            )
           where
             step : (l a r p : Polynomial k) → a ⊗ l ⊕ ⊖ (𝟙 ⊕ p ⊗ ⊖ r) ≡ 𝟙 ⊗ (l ⊗ a ⊕ r ⊗ p ⊕ ⊖ 𝟙)
             step l a r p = ring S (l ∷ a ∷ r ∷ p ∷ []) λ x y. simp (reads, x, y 0, y 1, y 2, y 3) (x.equal _ _ refl)

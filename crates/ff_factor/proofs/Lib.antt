@@ -12,3 +12,4 @@ pub mod PrimeFacts
 pub mod PullSteps
 pub mod SplitSteps
 pub mod Factorisations
+pub mod LowestTerms

@@ -61,9 +61,12 @@ module _ (k : CodeField) (A : AlgebraOps) (law : IsAlgebra k A) (some : 0 < A.si
     relation n more =
         let d = more_dependent R S 𝓐.subring (λ c. 𝓐.decide c R.𝟘) 𝓐.inverse (basis k A law) (down x e n)
         (all_down (Span R.ops S (basis k A law)) n (λ i less. basis_spans k A law _)) (let l = length_down n in omega arith) in
-        let r = dependent_down n d in
-        (r.0, r.1, span_within R S 𝓐.subring (down x e r.0) (powers R.ops x e r.0)
-        (all_down (Span R.ops S (powers R.ops x e r.0)) r.0 (λ i less. power_member r.0 i less)) _ r.2)
+        let r = dependent_down n d in (
+          r.0,
+          r.1,
+          span_within R S 𝓐.subring (down x e r.0) (powers R.ops x e r.0)
+              (all_down (Span R.ops S (powers R.ops x e r.0)) r.0 (λ i less. power_member r.0 i less)) _ r.2,
+        )
 
   pub powers_bounded_by_size : (x e : List ℕ) → IsVector k.ops A.size x → IsVector k.ops A.size e → IsBounded k.ops A x e A.size
   powers_bounded_by_size x e x_in e_in = record { bounded = λ m h independent. go m h independent (dec_le (length m.rows) A.size) }

@@ -288,10 +288,11 @@ module _ (k : CodeField) where
         let rest = over_sum r es (λ f i. primitive f (inr i)) (λ f i. out f (inr i)) in
         let p = primitive e (inl refl) in
         let E : V k g h = (e, p.idempotent.vector) in
-        let i = pick (nilpotent_or_invertible R (Image (scalar k (quotient_algebra g) law)) (vector_algebra k (quotient_algebra g) law some) E (primitive_vector k (quotient_algebra g) law e p) (of r)) (out e (inl refl)) in
-        (R.◌⊕◌ (R.◌⊗◌ i.0 E) rest.0,
-        ap (λ y. y.0) (R.mul_add (of r) (R.◌⊗◌ i.0 E) rest.0 ∙ ap (λ y. R.◌⊕◌ y (R.◌⊗◌ (of r) rest.0)) (sym (R.mul_assoc (of r) i.0 E) ∙ i.1))
-        ∙ ap (add_lists (raw_ring k.ops) e) rest.1)
+        let i = pick (nilpotent_or_invertible R (Image (scalar k (quotient_algebra g) law)) (vector_algebra k (quotient_algebra g) law some) E (primitive_vector k (quotient_algebra g) law e p) (of r)) (out e (inl refl)) in (
+          R.◌⊕◌ (R.◌⊗◌ i.0 E) rest.0,
+          ap (λ y. y.0) (R.mul_add (of r) (R.◌⊗◌ i.0 E) rest.0 ∙ ap (λ y. R.◌⊕◌ y (R.◌⊗◌ (of r) rest.0)) (sym (R.mul_assoc (of r) i.0 E) ∙ i.1))
+              ∙ ap (add_lists (raw_ring k.ops) e) rest.1,
+        )
       where
         pick : {N M : Type 0} → N ⊎ M → ¬ N → M
         pick (inl n) not = absurd (not n)

@@ -76,8 +76,13 @@ module _ (k : CodeField) where
       let whole = exact p rest q left p_in d e in
       let q_some : ¬ (value k q ≡ 𝟘) = λ z. list_some rest h.over h.poly h.some (whole ∙ ap (λ w. value k p ⊗ w) z ∙ mul_zero P (value k p)) in
       let l : length (value k rest).0 ≡ length (value k p ⊗ value k q).0 = ap (λ w. length w.0) whole in
-      omega (arith, length_product (code_ring k) (code_domain k) (value k p) (value k q) p_some q_some, length_value k p p_in p_poly,
-      length_value k q d.quotient_in d.quotient_poly, length_value k rest h.over h.poly)
+      omega (
+        arith,
+        length_product (code_ring k) (code_domain k) (value k p) (value k q) p_some q_some,
+        length_value k p p_in p_poly,
+        length_value k q d.quotient_in d.quotient_poly,
+        length_value k rest h.over h.poly,
+      )
 
   pub pulled_out : (g p rest q left : List ℕ) (count : ℕ) → IsOver k.ops p → IsPoly p → 2 ≤ length p → IsPulling k g p count rest → IsQuotient k.ops rest p q left → ¬ (left ≡ [])
       → IsPulledOut k g p count rest

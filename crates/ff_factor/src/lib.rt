@@ -3,15 +3,14 @@
 
 pub mod decisions;
 pub mod factors;
-pub mod quotient;
 mod order;
 mod primes;
+pub mod quotient;
 mod steps;
 
 pub use decisions::is_irreducible;
 pub use factors::{Factors, factor};
 pub use quotient::PolyQuotient;
-
 
 #[cfg(test)]
 mod tests;

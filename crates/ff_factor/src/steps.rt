@@ -36,13 +36,7 @@ fn multiply_by_x<K: SmallField>(k: &K, g: &[u32], codes: &mut [u32])
 }
 
 /// Writes the product of a and b modulo g over zeros: from the top code of a on, x times what is there and a code times b.
-pub(crate) fn multiply<K: SmallField>(
-    k: &K,
-    g: &[u32],
-    product: &mut [u32],
-    a: &[u32],
-    b: &[u32],
-)
+pub(crate) fn multiply<K: SmallField>(k: &K, g: &[u32], product: &mut [u32], a: &[u32], b: &[u32])
     requires modulus { IsModulus (K.field k.now).ops g.now }
     requires a_in { IsOver (K.field k.now).ops a.now }
     requires b_in { IsVector (K.field k.now).ops (length g.now - 1) b.now }

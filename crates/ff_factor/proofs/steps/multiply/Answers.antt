@@ -24,5 +24,5 @@ add_multiple-requires-clause-sum_in g c =
     let k = g.K.SmallField.field c.args.k.now in
     let h = c.requires.modulus in
     let before = subst (IsVector k.ops _) (sym c.loop-i.invariant)
-        (product_in k c.args.g.now h (drop _ c.args.a.now) c.args.b.now (IsOver_drop _ c.requires.a_in) c.requires.b_in) in
+    (product_in k c.args.g.now h (drop _ c.args.a.now) c.args.b.now (IsOver_drop _ c.requires.a_in) c.requires.b_in) in
     (subst (IsVector k.ops _) (sym c.multiply_by_x.ensures) (times_x_in k c.args.g.now h c.loop-i.product before)).over
