@@ -5,7 +5,7 @@ pub mod algebra;
 pub mod decisions;
 pub mod parts;
 pub mod powers;
-mod relations;
+pub mod relations;
 mod roots;
 mod rows;
 pub mod spaces;

@@ -14,7 +14,7 @@ use std::alloc::{AllocError, Global};
 /// The elements e, x·e, x·x·e, .. as rows, as far as there is a relation among them, and the coefficients of the first row
 /// that is a combination of the rows before it.
 #[derive(Drop)]
-pub(crate) struct Relation {
+pub struct Relation {
     pub powers: Matrix,
     pub coefficients: Vec<u32>,
 }
@@ -79,7 +79,7 @@ fn more_powers<K: SmallField, A: FiniteAlgebra<K>>(
 
 /// The first relation among e, x·e, x·x·e, .., of which at most `bound` are independent. The number of rows is doubled until
 /// there is one.
-pub(crate) fn first_relation<K: SmallField, A: FiniteAlgebra<K>>(
+pub fn first_relation<K: SmallField, A: FiniteAlgebra<K>>(
     alloc: Global,
     k: &K,
     a: &A,

@@ -1,0 +1,15 @@
+pub mod QuotientSteps
+pub mod Lengths
+pub mod Division
+pub mod Irreducible
+pub mod FieldsByIrreducibles
+pub mod VectorClasses
+pub mod PowerBounds
+pub mod PrimeIdeals
+pub mod HighPowers
+pub mod Orders
+pub mod PrimeFacts
+pub mod PullSteps
+pub mod SplitSteps
+pub mod Factorisations
+pub mod LowestTerms

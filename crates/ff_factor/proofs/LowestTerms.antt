@@ -1,0 +1,168 @@
+-- Fractions over one denominator, none of whose primes divides all numerators: the denominator divides every other one.
+use Rattle.std.proofs.Common.{◌≡◌, ℕ, zero, suc, ◌+◌, ◌<◌, ◌≤◌, ◌⊎◌, inl, inr, List, [], ◌∷◌, length, All, refl, sym, ap, ap₂, ◌∙◌, subst, arith}
+use Rattle.std.proofs.lemmas.List.Elements.{All-nil, All-cons, All-head, All-tail}
+use Rattle.ff_ring.specs.Ring.{CommRing, pow}
+use Rattle.ff_ring.proofs.Finite.{In}
+use Rattle.ff_ring.proofs.Ring.{zero_mul, mul_zero, zero_add, eq_of_sub, sub_of_eq}
+use Rattle.ff_ring.proofs.Solver.{ring, reads, from_one, from_two}
+use Rattle.ff_ring.proofs.Polynomials.{length_product}
+use Rattle.ff_fields.specs.Field.{CodeField}
+use Rattle.ff_fields.specs.Code.{code_ring, code_domain}
+use Rattle.ff_fields.specs.Over.{IsOver}
+use Rattle.linear_theory.specs.Euclidean.{IsDivisor, IsUnit, Bezout}
+use Rattle.linear_theory.proofs.Euclid.{bezout, bezout_power, bezout_product, bezout_swap, divisor_of_coprime, divisor_trans}
+use Rattle.ff_poly.specs.Words.{IsIrreducible}
+use Rattle.ff_poly.specs.Value.{value, numbers_value}
+use Rattle.ff_poly.specs.Polynomials.{Polynomial, polynomials, polynomials_domain, codes_of}
+use Rattle.ff_factor.specs.Factors.{polys_of}
+use Rattle.ff_factor.specs.ListValues.{monic_poly, length_value}
+use Rattle.ff_factor.specs.Pulls.{value_of_parts}
+use Rattle.ff_factor.proofs.Division.{euclidean}
+use Rattle.ff_factor.proofs.Irreducible.{irreducible, prime, decide_divides}
+
+module _ (k : CodeField) where
+  infixl 65 ◌⊕◌
+  infixl 70 ◌⊗◌
+  infixr 80 ⊖◌
+  open polynomials k use {𝟘, 𝟙, ◌⊕◌, ◌⊗◌, ⊖◌}
+
+  abbrev P : CommRing (Polynomial k)
+  P = (polynomials k).ring
+
+  cancel : (p x y : Polynomial k) → ¬ (p ≡ 𝟘) → p ⊗ x ≡ p ⊗ y → x ≡ y
+  cancel p x y some e = eq_of_sub P x y ((polynomials_domain k).cancel_zero p (x ⊕ ⊖ y) some (step p x y ∙ sub_of_eq P _ _ e))
+    where
+      step : (p x y : Polynomial k) → p ⊗ (x ⊕ ⊖ y) ≡ p ⊗ x ⊕ ⊖ (p ⊗ y)
+      step p x y = ring P (p ∷ x ∷ y ∷ []) λ q h. simp (reads, q, h 0, h 1, h 2) (q.equal _ _ refl)
+
+  -- an irreducible polynomial, said of its list
+  pub record IsPrime (p : List ℕ) : Type 0 where
+    pub over : IsOver k.ops p
+    pub irreducible : IsIrreducible k.ops p
+
+  of_codes : (p : List ℕ) → IsPrime p → IsIrreducible k.ops (codes_of k (value k p))
+  of_codes p h = subst (IsIrreducible k.ops) (sym (numbers_value k p h.over (monic_poly k p h.irreducible.monic))) h.irreducible
+
+  -- what none of the primes divides is coprime to the product of their powers
+  coprime_parts : (r : Polynomial k) (fs : List (List ℕ × ℕ)) → ((p : List ℕ) → In p (polys_of fs) → IsPrime p)
+      → ((p : List ℕ) → In p (polys_of fs) → ¬ IsDivisor P.ops (value k p) r) → Bezout P.ops r (value_of_parts k fs)
+  coprime_parts r [] primes none = record { left = 𝟘; right = 𝟙; is = ap₂ ◌⊕◌ (zero_mul P r) (P.mul_one 𝟙) ∙ zero_add P 𝟙 }
+  coprime_parts r (f ∷ fs) primes none =
+      bezout_product P r (pow P.ops (value k f.0) f.1) (value_of_parts k fs)
+      (bezout_power P r (value k f.0) f.1 (bezout (euclidean k) (value k f.0) (irreducible k (value k f.0) (of_codes f.0 (primes f.0 (inl refl)))) r (none f.0 (inl refl))))
+      (coprime_parts r fs (λ p i. primes p (inr i)) (λ p i. none p (inr i)))
+
+  -- some of the primes divides r, or none
+  some_prime : (r : Polynomial k) (fs : List (List ℕ × ℕ)) → ((p : List ℕ) → In p (polys_of fs) → IsPrime p)
+      → ((p : List ℕ) × In p (polys_of fs) × IsDivisor P.ops (value k p) r) ⊎ ((p : List ℕ) → In p (polys_of fs) → ¬ IsDivisor P.ops (value k p) r)
+  some_prime r [] primes = inr (λ p i. absurd i)
+  some_prime r (f ∷ fs) primes =
+      go (decide_divides k (value k f.0) (of_codes f.0 (primes f.0 (inl refl))) r) (some_prime r fs (λ p i. primes p (inr i)))
+    where
+      go : Dec (IsDivisor P.ops (value k f.0) r)
+          → ((p : List ℕ) × In p (polys_of fs) × IsDivisor P.ops (value k p) r) ⊎ ((p : List ℕ) → In p (polys_of fs) → ¬ IsDivisor P.ops (value k p) r)
+          → ((p : List ℕ) × In p (polys_of (f ∷ fs)) × IsDivisor P.ops (value k p) r) ⊎ ((p : List ℕ) → In p (polys_of (f ∷ fs)) → ¬ IsDivisor P.ops (value k p) r)
+      go (yes d) rest = inl (f.0, inl refl, d)
+      go (no n) (inl s) = inl (s.0, inr s.1, s.2)
+      go (no n) (inr none) = inr none'
+        where
+          none' : (p : List ℕ) → In p (polys_of (f ∷ fs)) → ¬ IsDivisor P.ops (value k p) r
+          none' p (inl e) d = n (subst (λ x. IsDivisor P.ops (value k x) r) e d)
+          none' p (inr i) d = none p i d
+
+  -- a divisor of the product of powers of primes, up to a unit, has one of them or is a unit
+  pub prime_or_unit : (fs : List (List ℕ × ℕ)) → ((p : List ℕ) → In p (polys_of fs) → IsPrime p) → (c : Polynomial k) → IsUnit P.ops c
+      → (r : Polynomial k) → IsDivisor P.ops r (value_of_parts k fs ⊗ c) → ((p : List ℕ) × In p (polys_of fs) × IsDivisor P.ops (value k p) r) ⊎ IsUnit P.ops r
+  prime_or_unit fs primes c unit r d = go (some_prime r fs primes)
+    where
+      go : ((p : List ℕ) × In p (polys_of fs) × IsDivisor P.ops (value k p) r) ⊎ ((p : List ℕ) → In p (polys_of fs) → ¬ IsDivisor P.ops (value k p) r)
+          → ((p : List ℕ) × In p (polys_of fs) × IsDivisor P.ops (value k p) r) ⊎ IsUnit P.ops r
+      go (inl s) = inl s
+      go (inr none) =
+          let b = divisor_of_coprime P (value_of_parts k fs) c r (bezout_swap P r (value_of_parts k fs) (coprime_parts r fs primes none)) d in
+          inr (b.0 ⊗ unit.0, sym (P.mul_assoc r b.0 unit.0) ∙ ap (λ x. x ⊗ unit.0) (sym b.1) ∙ unit.1)
+
+  -- a member that p doesn't divide
+  missed : (p : List ℕ) → IsPrime p → (vs : List (Polynomial k)) → ¬ All (IsDivisor P.ops (value k p)) vs → (v : Polynomial k) × In v vs × (¬ IsDivisor P.ops (value k p) v)
+  missed p h [] no_all = absurd (no_all (All-nil (IsDivisor P.ops (value k p))))
+  missed p h (v ∷ vs) no_all = go (decide_divides k (value k p) (of_codes p h) v) (missed p h vs)
+    where
+      go : Dec (IsDivisor P.ops (value k p) v) → (¬ All (IsDivisor P.ops (value k p)) vs → (v : Polynomial k) × In v vs × (¬ IsDivisor P.ops (value k p) v))
+          → (w : Polynomial k) × In w (v ∷ vs) × (¬ IsDivisor P.ops (value k p) w)
+      go (no n) f = (v, inl refl, n)
+      go (yes d) f =
+          let r = f (λ all. no_all (All-cons (IsDivisor P.ops (value k p)) v vs d all)) in (r.0, inr r.1, r.2)
+
+  -- a denominator none of whose primes divides all numerators divides each e for which e times the fractions are polynomials
+  pub least_denominator : (fs : List (List ℕ × ℕ)) → ((p : List ℕ) → In p (polys_of fs) → IsPrime p) → (c : Polynomial k) → IsUnit P.ops c
+      → (n : ℕ) (d : Polynomial k) → length d.0 < n → ¬ (d ≡ 𝟘) → IsDivisor P.ops d (value_of_parts k fs ⊗ c) → (vs : List (Polynomial k))
+      → ((p : List ℕ) → In p (polys_of fs) → IsDivisor P.ops (value k p) d → ¬ All (IsDivisor P.ops (value k p)) vs)
+      → (e : Polynomial k) → ((v : Polynomial k) → In v vs → IsDivisor P.ops d (e ⊗ v)) → IsDivisor P.ops d e
+  least_denominator fs primes c unit zero d short d_some within vs free e whole = absurd (omega arith)
+  least_denominator fs primes c unit (suc n) d short d_some within vs free e whole =
+      go (prime_or_unit fs primes c unit d within) (least_denominator fs primes c unit n)
+    where
+      go : ((p : List ℕ) × In p (polys_of fs) × IsDivisor P.ops (value k p) d) ⊎ IsUnit P.ops d
+          → ((d : Polynomial k) → length d.0 < n → ¬ (d ≡ 𝟘) → IsDivisor P.ops d (value_of_parts k fs ⊗ c) → (vs : List (Polynomial k))
+          → ((p : List ℕ) → In p (polys_of fs) → IsDivisor P.ops (value k p) d → ¬ All (IsDivisor P.ops (value k p)) vs)
+          → (e : Polynomial k) → ((v : Polynomial k) → In v vs → IsDivisor P.ops d (e ⊗ v)) → IsDivisor P.ops d e)
+          → IsDivisor P.ops d e
+      go (inr u) ih = (u.0 ⊗ e, sym (sym (P.mul_assoc d u.0 e) ∙ ap (λ x. x ⊗ e) u.1 ∙ P.mul_comm 𝟙 e ∙ P.mul_one e))
+      go (inl r) ih =
+          let a = ih d' d'_short d'_some within' vs free' e' whole' in
+          (a.0, e_is ∙ ap (λ x. p ⊗ x) a.1 ∙ sym (P.mul_assoc p d' a.0) ∙ ap (λ x. x ⊗ a.0) (sym d_is))
+        where
+          h : IsPrime r.0
+          h = primes r.0 r.1
+
+          p : Polynomial k
+          p = value k r.0
+
+          d' : Polynomial k
+          d' = r.2.0
+
+          d_is : d ≡ p ⊗ d'
+          d_is = r.2.1
+
+          miss : (v : Polynomial k) × In v vs × (¬ IsDivisor P.ops p v)
+          miss = missed r.0 h vs (free r.0 r.1 r.2)
+
+          p_divides : IsDivisor P.ops p e
+          p_divides = pick (prime k p (of_codes r.0 h) e miss.0 (divisor_trans P p d (e ⊗ miss.0) r.2 (whole miss.0 miss.1)))
+            where
+              pick : IsDivisor P.ops p e ⊎ IsDivisor P.ops p miss.0 → IsDivisor P.ops p e
+              pick (inl x) = x
+              pick (inr x) = absurd (miss.2 x)
+
+          e' : Polynomial k
+          e' = p_divides.0
+
+          e_is : e ≡ p ⊗ e'
+          e_is = p_divides.1
+
+          d'_some : ¬ (d' ≡ 𝟘)
+          d'_some z = d_some (d_is ∙ ap (λ x. p ⊗ x) z ∙ mul_zero P p)
+
+          p_some : ¬ (p ≡ 𝟘)
+          p_some z = d_some (d_is ∙ ap (λ x. x ⊗ d') z ∙ zero_mul P d')
+
+          d'_short : length d'.0 < n
+          d'_short =
+              let s : length d.0 ≡ length (p ⊗ d').0 = ap (λ x. length x.0) d_is in
+              let l = h.irreducible.not_constant in
+              omega (arith, length_product (code_ring k) (code_domain k) p d' p_some d'_some, length_value k r.0 h.over (monic_poly k r.0 h.irreducible.monic))
+
+          divides' : IsDivisor P.ops d' d
+          divides' = (p, d_is ∙ P.mul_comm p d')
+
+          within' : IsDivisor P.ops d' (value_of_parts k fs ⊗ c)
+          within' = divisor_trans P d' d (value_of_parts k fs ⊗ c) divides' within
+
+          free' : (q : List ℕ) → In q (polys_of fs) → IsDivisor P.ops (value k q) d' → ¬ All (IsDivisor P.ops (value k q)) vs
+          free' q i x = free q i (divisor_trans P (value k q) d' d x divides')
+
+          whole' : (v : Polynomial k) → In v vs → IsDivisor P.ops d' (e' ⊗ v)
+          whole' v i =
+              let w = whole v i in
+              (w.0, cancel p (e' ⊗ v) (d' ⊗ w.0) p_some
+              (sym (P.mul_assoc p e' v) ∙ ap (λ x. x ⊗ v) (sym e_is) ∙ w.1 ∙ ap (λ x. x ⊗ w.0) d_is ∙ P.mul_assoc p d' w.0))

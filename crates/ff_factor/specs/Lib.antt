@@ -1,0 +1,6 @@
+pub mod Quotients
+pub mod ListValues
+pub mod QuotientLaws
+pub mod Primes
+pub mod Factors
+pub mod Pulls

@@ -1,0 +1,74 @@
+//! Polynomials modulo a monic one, as a finite algebra.
+
+ghost use Rattle.std.specs.Prelude.{◌≡◌, ◌≤◌, length};
+ghost use Rattle.ff_poly.specs.Words.{IsMonic};
+ghost use Rattle.ff_factor.specs.Quotients.{IsModulus, quotient_algebra};
+ghost use Rattle.ff_factor.specs.QuotientLaws.{quotient_laws};
+
+use crate::steps::multiply;
+use ff_falg::FiniteAlgebra;
+use ff_fields::field::SmallField;
+use ff_poly::Poly;
+use std::alloc::{AllocError, Global};
+use std::marker::Model;
+
+/// The algebra k[x]/(g) with the basis 1, x, up to x to the power deg g - 1, for a monic g of degree 1 or more. An element
+/// stands for the polynomial with its codes, lowest first.
+#[derive(Debug, Drop)]
+pub struct PolyQuotient {
+    g: Poly,
+}
+
+impl Model for PolyQuotient {
+    ghost use Rattle.std.specs.Prelude.{List, ℕ};
+    ghost use Rattle.ff_factor.specs.Quotients.{IsMonicOverOne};
+
+    ghost Value = { List ℕ };
+
+    ghost view = { λ q. q.g };
+
+    ghost invariant = { λ q. IsMonicOverOne q.g };
+}
+
+impl PolyQuotient {
+    /// The polynomials modulo g. No memory is taken.
+    pub fn new(g: Poly) -> PolyQuotient
+        requires monic { IsMonic g }
+        requires not_constant { 2 ≤ length g }
+        ensures { result ≡ g }
+    {
+        PolyQuotient { g }
+    }
+
+    /// The polynomial g. No memory is taken.
+    pub fn modulus(&self) -> &Poly
+        ensures { result.now ≡ self.now }
+    {
+        &self.g
+    }
+}
+
+impl<K: SmallField> FiniteAlgebra<K> for PolyQuotient {
+    ghost algebra = { quotient_algebra };
+
+    ghost IsOver = { λ g k. IsModulus k.ops g };
+
+    ghost laws = { λ g k over. quotient_laws k g over };
+
+    fn dim(&self) -> usize {
+        self.g.codes().len() - 1
+    }
+
+    fn one(&self, alloc: Global) -> Result<Vec<u32>, AllocError> {
+        let mut unit = vec![in alloc; 0; self.g.codes().len() - 1]?;
+        unit[0] = 1;
+        Ok(unit)
+    }
+
+    /// The product takes the degree of g many steps, each in time of that degree, and memory for the answer alone.
+    fn mul(&self, alloc: Global, k: &K, a: &[u32], b: &[u32]) -> Result<Vec<u32>, AllocError> {
+        let mut product = vec![in alloc; 0; b.len()]?;
+        multiply(k, self.g.codes(), product.as_mut_slice(), a, b);
+        Ok(product)
+    }
+}

@@ -1,0 +1,50 @@
+//! Steps of products modulo a monic polynomial, in place.
+
+ghost use Rattle.std.specs.Prelude.{◌≡◌, ◌-◌, ◌<◌, ◌≤◌, length, replicate};
+ghost use Rattle.ff_fields.specs.Code.{raw_ring};
+ghost use Rattle.ff_fields.specs.Over.{IsOver};
+ghost use Rattle.ff_ring.specs.Lists.{add_lists, scale_list};
+ghost use Rattle.ff_falg.specs.Algebras.{IsVector};
+ghost use Rattle.ff_factor.specs.Quotients.{IsModulus, product_modulo, times_x};
+
+use ff_fields::field::SmallField;
+
+/// Adds c times the codes to the sum.
+pub(crate) fn add_multiple<K: SmallField>(k: &K, sum: &mut [u32], c: u32, codes: &[u32])
+    requires fits { length codes.now ≤ length sum.old }
+    requires sum_in { IsOver (K.field k.now).ops sum.old }
+    requires c_in { c < (K.field k.now).size }
+    requires codes_in { IsOver (K.field k.now).ops codes.now }
+    ensures { let r = raw_ring (K.field k.now).ops in sum.new ≡ add_lists r sum.old (scale_list r c codes.now) }
+{
+    for j in 0..codes.len() {
+        sum[j] = k.add(sum[j], k.mul(c, codes[j]));
+    }
+}
+
+/// Multiplies by x modulo g: the codes move up, and what comes to the place of the leading 1 is taken away times g.
+fn multiply_by_x<K: SmallField>(k: &K, g: &[u32], codes: &mut [u32])
+    requires g_in { IsOver (K.field k.now).ops g.now }
+    requires some { 0 < length codes.old }
+    requires codes_in { IsVector (K.field k.now).ops (length g.now - 1) codes.old }
+    ensures { codes.new ≡ times_x (K.field k.now).ops g.now codes.old }
+{
+    codes.rotate_right(1);
+    let top = codes[0];
+    codes[0] = 0;
+    add_multiple(k, codes, k.neg(top), &g[..g.len() - 1]);
+}
+
+/// Writes the product of a and b modulo g over zeros: from the top code of a on, x times what is there and a code times b.
+pub(crate) fn multiply<K: SmallField>(k: &K, g: &[u32], product: &mut [u32], a: &[u32], b: &[u32])
+    requires modulus { IsModulus (K.field k.now).ops g.now }
+    requires a_in { IsOver (K.field k.now).ops a.now }
+    requires b_in { IsVector (K.field k.now).ops (length g.now - 1) b.now }
+    requires zeros { product.old ≡ replicate (length g.now - 1) 0 }
+    ensures { product.new ≡ product_modulo (K.field k.now).ops g.now a.now b.now }
+{
+    for i in (0..a.len()).rev() {
+        multiply_by_x(k, g, product);
+        add_multiple(k, product, a[i], b);
+    }
+}
