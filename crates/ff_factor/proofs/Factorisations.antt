@@ -1,16 +1,15 @@
 -- What is left where all primes are divided out is a code, and so a polynomial is factored.
-use Rattle.std.proofs.Common.{◌≡◌, ◌≢◌, ℕ, zero, suc, ◌+◌, ◌-◌, ◌<◌, ◌≤◌, ◌⊎◌, inl, inr, List, [], ◌∷◌, ◌++◌, length, get_or, All, refl, sym, ap, ap₂, ◌∙◌, subst, arith}
+use Rattle.std.proofs.Common.{◌≡◌, ◌≢◌, ℕ, ◌-◌, ◌<◌, ◌≤◌, inl, inr, List, [], ◌∷◌, length, refl, sym, ap, ap₂, ◌∙◌, subst, arith}
 use Rattle.std.proofs.lemmas.List.Elements.{All-nil}
-use Rattle.ff_ring.specs.Ring.{CommRing, pow}
-use Rattle.ff_ring.specs.Lists.{scale_list}
+use Rattle.ff_ring.specs.Ring.{CommRing}
 use Rattle.ff_ring.proofs.Finite.{In}
-use Rattle.ff_ring.proofs.Ring.{zero_mul, mul_zero, one_mul}
+use Rattle.ff_ring.proofs.Ring.{zero_mul, one_mul}
 use Rattle.ff_ring.proofs.Polynomials.{length_product}
 use Rattle.ff_fields.specs.Field.{CodeField}
-use Rattle.ff_fields.specs.Code.{raw_ring, code_ring, code_domain, zero_in}
+use Rattle.ff_fields.specs.Code.{code_ring, code_domain}
 use Rattle.ff_fields.specs.Over.{IsOver, IsOver_nil, IsOver_cons, get_or_below}
 use Rattle.linear_theory.specs.Euclidean.{IsDivisor}
-use Rattle.ff_poly.specs.Words.{IsPoly, IsIrreducible, top_of, multiple_of, product_of}
+use Rattle.ff_poly.specs.Words.{IsPoly, IsIrreducible, top_of, multiple_of}
 use Rattle.ff_poly.specs.PowerWords.{power_of}
 use Rattle.ff_poly.specs.PolyOver.{IsOver_multiple_of, IsOver_product_of}
 use Rattle.ff_poly.specs.Value.{value, value_product, same_from_value}
@@ -19,7 +18,7 @@ use Rattle.ff_poly.proofs.Parts.{value_multiple, IsPoly_multiple_of, IsMonic_mul
 use Rattle.ff_poly.proofs.PowerRests.{IsOver_one, IsOver_power_of, value_power}
 use Rattle.ff_falg.specs.Algebras.{IsPrimitive}
 use Rattle.ff_falg.specs.Idempotents.{IsPrimitiveList}
-use Rattle.ff_factor.specs.Factors.{FactorsValue, IsFactorisation, AreAscending, polys_of, product_of_parts}
+use Rattle.ff_factor.specs.Factors.{IsFactorisation, AreAscending, polys_of, product_of_parts}
 use Rattle.ff_factor.specs.ListValues.{length_value, value_scale_list}
 use Rattle.ff_factor.specs.Primes.{IsPrimeAt}
 use Rattle.ff_factor.specs.Pulls.{ArePrimesOf, IsPrimeList, IsSplitOff, value_of_parts}

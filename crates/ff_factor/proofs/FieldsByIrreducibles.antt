@@ -3,24 +3,24 @@ use Rattle.std.proofs.Common.{◌≡◌, ◌≢◌, Result, Ok, Err, Bool, IfOk,
 use Rattle.std.proofs.lemmas.List.{length_push, get_or_push, take_more, take_all}
 use Rattle.ff_ring.specs.Ring.{CommRing}
 use Rattle.ff_ring.specs.Congruence.{IsCongruent}
-use Rattle.ff_ring.proofs.Ring.{zero_mul, mul_zero, one_mul, zero_add}
+use Rattle.ff_ring.proofs.Ring.{mul_zero, zero_add}
 use Rattle.ff_ring.proofs.Solver.{ring, reads, from_one}
 use Rattle.ff_ring.proofs.Polynomials.{length_product}
 use Rattle.ff_ring.proofs.Congruence.{congruent_same, congruent_sym, congruent_trans, congruent_mul_left}
-use Rattle.linear_theory.specs.Euclidean.{IsDivisor, Bezout}
+use Rattle.linear_theory.specs.Euclidean.{IsDivisor}
 use Rattle.linear_theory.proofs.Euclid.{bezout}
 use Rattle.ff_fields.specs.Field.{CodeField}
 use Rattle.ff_fields.specs.Code.{code_ring, code_domain}
 use Rattle.ff_fields.specs.Over.{IsOver}
 use Rattle.ff_poly.specs.Words.{IsPoly, IsMonic, IsIrreducible, Divides, top_of}
 use Rattle.ff_poly.specs.Value.{value, numbers_value, value_product}
-use Rattle.ff_poly.specs.Polynomials.{Polynomial, polynomials, polynomials_domain, polynomial_discrete, value_not_zero, value_codes_of, codes_of}
+use Rattle.ff_poly.specs.Polynomials.{Polynomial, polynomials, value_not_zero, codes_of}
 use Rattle.ff_falg.specs.Algebras.{IsVector, IsFieldAlgebra}
-use Rattle.ff_factor.specs.Quotients.{IsModulus, IsMonicOverOne, product_modulo, quotient_algebra}
-use Rattle.ff_factor.specs.ListValues.{length_value, monic_poly, value_zeros}
-use Rattle.ff_factor.specs.QuotientLaws.{modulus_length, short_eq, vector_short, same_by, product_in, value_product_modulo, value_quotient_unit, quotient_laws, zero_class, stands_for}
-use Rattle.ff_factor.proofs.Lengths.{zero_length, some_long}
-use Rattle.ff_factor.proofs.Division.{euclidean, product_longer}
+use Rattle.ff_factor.specs.Quotients.{IsModulus, product_modulo, quotient_algebra}
+use Rattle.ff_factor.specs.ListValues.{length_value, monic_poly}
+use Rattle.ff_factor.specs.QuotientLaws.{modulus_length, short_eq, same_by, product_in, value_product_modulo, value_quotient_unit, quotient_laws, zero_class, stands_for}
+use Rattle.ff_factor.proofs.Lengths.{zero_length}
+use Rattle.ff_factor.proofs.Division.{euclidean}
 use Rattle.ff_factor.proofs.Irreducible.{irreducible}
 
 -- an answer to one question answers an equivalent one

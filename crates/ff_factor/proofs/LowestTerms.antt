@@ -1,10 +1,10 @@
 -- Fractions over one denominator, none of whose primes divides all numerators: the denominator divides every other one.
-use Rattle.std.proofs.Common.{◌≡◌, ℕ, zero, suc, ◌+◌, ◌<◌, ◌≤◌, ◌⊎◌, inl, inr, List, [], ◌∷◌, length, All, refl, sym, ap, ap₂, ◌∙◌, subst, arith}
-use Rattle.std.proofs.lemmas.List.Elements.{All-nil, All-cons, All-head, All-tail}
+use Rattle.std.proofs.Common.{◌≡◌, ℕ, zero, suc, ◌<◌, ◌⊎◌, inl, inr, List, [], ◌∷◌, length, All, refl, sym, ap, ap₂, ◌∙◌, subst, arith}
+use Rattle.std.proofs.lemmas.List.Elements.{All-nil, All-cons}
 use Rattle.ff_ring.specs.Ring.{CommRing, pow}
 use Rattle.ff_ring.proofs.Finite.{In}
 use Rattle.ff_ring.proofs.Ring.{zero_mul, mul_zero, zero_add, eq_of_sub, sub_of_eq}
-use Rattle.ff_ring.proofs.Solver.{ring, reads, from_one, from_two}
+use Rattle.ff_ring.proofs.Solver.{ring, reads}
 use Rattle.ff_ring.proofs.Polynomials.{length_product}
 use Rattle.ff_fields.specs.Field.{CodeField}
 use Rattle.ff_fields.specs.Code.{code_ring, code_domain}
@@ -163,6 +163,8 @@ module _ (k : CodeField) where
 
           whole' : (v : Polynomial k) → In v vs → IsDivisor P.ops d' (e' ⊗ v)
           whole' v i =
-              let w = whole v i in
-              (w.0, cancel p (e' ⊗ v) (d' ⊗ w.0) p_some
-              (sym (P.mul_assoc p e' v) ∙ ap (λ x. x ⊗ v) (sym e_is) ∙ w.1 ∙ ap (λ x. x ⊗ w.0) d_is ∙ P.mul_assoc p d' w.0))
+              let w = whole v i in (
+                w.0,
+                cancel p (e' ⊗ v) (d' ⊗ w.0) p_some
+                    (sym (P.mul_assoc p e' v) ∙ ap (λ x. x ⊗ v) (sym e_is) ∙ w.1 ∙ ap (λ x. x ⊗ w.0) d_is ∙ P.mul_assoc p d' w.0),
+              )

@@ -1,23 +1,21 @@
 -- In an algebra of dimension n at most n of the elements e, x·e, x·x·e, .. are independent.
-use Rattle.std.proofs.Common.{◌≡◌, ℕ, zero, suc, ◌<◌, ◌≤◌, ◌⊎◌, inl, inr, List, [], ◌∷◌, length, get_or, All, refl, sym, ap, ◌∙◌, subst, arith}
+use Rattle.std.proofs.Common.{◌≡◌, ℕ, zero, suc, ◌<◌, ◌≤◌, inl, inr, List, [], ◌∷◌, length, All, refl, ap, subst, arith}
 use Rattle.std.proofs.lemmas.List.Elements.{All-nil, All-cons}
 use native.Mathlib.Decide.{dec_le}
 use Rattle.ff_ring.specs.Ring.{CommRing, pow}
 use Rattle.ff_ring.specs.Subsets.{Span}
 use Rattle.ff_ring.proofs.Subsets.{span_members, span_within}
 use Rattle.ff_fields.specs.Field.{CodeField}
-use Rattle.ff_fields.specs.Code.{code_ring}
 use Rattle.ff_linalg.specs.Matrix.{MatrixValue}
 use Rattle.ff_linalg.specs.Space.{HasIndependentRows}
 use Rattle.finite_algebra_theory.specs.Algebra.{FiniteAlgebra, Dependent, powers}
 use Rattle.finite_algebra_theory.specs.ByMap.{Image}
-use Rattle.finite_algebra_theory.proofs.ByMap.{image_subring}
 use Rattle.finite_algebra_theory.proofs.Dependence.{more_dependent}
 use Rattle.ff_falg.specs.Algebras.{AlgebraOps, IsAlgebra, IsVector}
 use Rattle.ff_falg.specs.Relations.{IsPowers, IsBounded}
 use Rattle.ff_falg.proofs.PowerSpans.{length_powers, powers_get, relation_solution}
 use Rattle.ff_falg.proofs.Vectors.{Vector, vector_ring}
-use Rattle.ff_falg.proofs.VectorAlgebra.{scalar, scalar_map, vector_algebra, basis, length_basis, basis_spans}
+use Rattle.ff_falg.proofs.VectorAlgebra.{scalar, vector_algebra, basis, length_basis, basis_spans}
 
 module _ (k : CodeField) (A : AlgebraOps) (law : IsAlgebra k A) (some : 0 < A.size) where
   abbrev R : CommRing (Vector k A.size)

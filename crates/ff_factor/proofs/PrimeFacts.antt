@@ -1,13 +1,13 @@
 -- The primes of primitive idempotents are irreducible, different ones don't divide each other, and what none of them divides is a unit modulo g.
-use Rattle.std.proofs.Common.{◌≡◌, ◌≢◌, ℕ, zero, suc, ◌+◌, ◌-◌, ◌<◌, ◌≤◌, ◌↔◌, ◌⊎◌, inl, inr, List, [], ◌∷◌, ◌++◌, length, refl, sym, ap, ap₂, ◌∙◌, subst, arith}
+use Rattle.std.proofs.Common.{◌≡◌, ℕ, ◌-◌, ◌<◌, ◌≤◌, ◌↔◌, ◌⊎◌, inl, inr, List, [], ◌∷◌, ◌++◌, length, refl, sym, ap, ap₂, ◌∙◌, subst, arith}
 use Rattle.std.proofs.lemmas.List.{length_push}
-use Rattle.ff_ring.specs.Ring.{CommRing, pow}
+use Rattle.ff_ring.specs.Ring.{CommRing}
 use Rattle.ff_ring.specs.Lists.{coeff_of, add_lists}
 use Rattle.ff_ring.specs.Congruence.{IsCongruent}
 use Rattle.ff_ring.proofs.Congruence.{congruent_same, congruent_sym, congruent_trans, congruent_mul, congruent_refl}
 use Rattle.ff_ring.proofs.RowMaps.{hom_neg}
 use Rattle.ff_ring.proofs.Finite.{In}
-use Rattle.ff_ring.proofs.Ring.{zero_mul, mul_zero, one_mul, eq_of_sub, zero_add}
+use Rattle.ff_ring.proofs.Ring.{zero_mul, mul_zero, eq_of_sub, zero_add}
 use Rattle.ff_ring.proofs.Solver.{ring, reads, from_one, from_two}
 use Rattle.ff_ring.proofs.Polynomials.{length_product, series_add, series_neg, coeff_past}
 use Rattle.ff_ring.proofs.Division.{length_bound, short_multiple}
@@ -17,21 +17,19 @@ use Rattle.ff_fields.specs.Over.{IsOver}
 use Rattle.linear_theory.specs.Euclidean.{IsDivisor}
 use Rattle.ff_poly.specs.Words.{IsPoly, IsMonic, IsIrreducible, Divides}
 use Rattle.ff_poly.specs.Value.{value, same_from_value}
-use Rattle.ff_poly.specs.Polynomials.{value_one, Polynomial, polynomials, polynomials_domain, codes_of, IsOver_codes_of, IsPoly_codes_of, value_codes_of}
-use Rattle.finite_algebra_theory.specs.Algebra.{FiniteAlgebra, IsPrimitive as IsPrimitiveIn, IsInvertibleAt}
+use Rattle.ff_poly.specs.Polynomials.{value_one, Polynomial, polynomials, codes_of, IsOver_codes_of, IsPoly_codes_of, value_codes_of}
 use Rattle.finite_algebra_theory.specs.ByMap.{Image}
-use Rattle.finite_algebra_theory.specs.Maximal.{NilpotentAt, IsMaximal}
+use Rattle.finite_algebra_theory.specs.Maximal.{NilpotentAt}
 use Rattle.finite_algebra_theory.proofs.Above.{maximal_prime}
-use Rattle.finite_algebra_theory.proofs.Maximal.{nilpotent_or_invertible, nilpotent_not_invertible}
-use Rattle.ff_falg.specs.Algebras.{IsAlgebra, IsVector, IsPrimitive, zero_of}
+use Rattle.finite_algebra_theory.proofs.Maximal.{nilpotent_or_invertible}
+use Rattle.ff_falg.specs.Algebras.{IsAlgebra, IsPrimitive, zero_of}
 use Rattle.ff_falg.specs.Idempotents.{sum_of}
-use Rattle.ff_falg.proofs.Vectors.{Vector, vector_ring, same_vector}
+use Rattle.ff_falg.proofs.Vectors.{same_vector}
 use Rattle.ff_falg.proofs.VectorAlgebra.{scalar, vector_algebra}
 use Rattle.ff_factor.specs.Quotients.{IsModulus, product_modulo, quotient_algebra}
 use Rattle.ff_factor.specs.Primes.{IsPrimeAt}
 use Rattle.ff_factor.specs.QuotientLaws.{quotient_laws, value_product_modulo, value_quotient_unit}
 use Rattle.ff_factor.specs.ListValues.{length_value, monic_poly, monic_top}
-use Rattle.ff_factor.proofs.Lengths.{some_long, zero_length}
 use Rattle.ff_factor.proofs.Division.{product_longer}
 use Rattle.ff_factor.proofs.FieldsByIrreducibles.{divisor_of_divides, some_value}
 use Rattle.ff_factor.proofs.PrimeIdeals.{At, at_maximal, at_nilpotent, divides_of_divisor}

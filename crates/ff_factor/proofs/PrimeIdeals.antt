@@ -1,13 +1,12 @@
 -- The prime of a primitive idempotent, out of the first relation among its products with powers of a high power of x.
-use Rattle.std.proofs.Common.{◌≡◌, ◌≢◌, ℕ, zero, suc, ◌+◌, ◌-◌, ◌*◌, ◌<◌, ◌≤◌, ◌^◌, ◌↔◌, ◌⊎◌, inl, inr, List, [], ◌∷◌, ◌++◌, length, map, take, refl, sym, ap, ap₂, ◌∙◌, subst, arith}
+use Rattle.std.proofs.Common.{◌≡◌, ℕ, zero, suc, ◌+◌, ◌-◌, ◌<◌, ◌≤◌, ◌^◌, ◌↔◌, ◌⊎◌, inl, inr, List, [], ◌∷◌, ◌++◌, length, map, take, refl, sym, ap, ap₂, ◌∙◌, subst, arith}
 use Rattle.std.proofs.lemmas.List.{length-map, length_push}
 use Rattle.ff_ring.specs.Ring.{CommRing, pow}
 use Rattle.ff_ring.specs.Lists.{neg_list}
-use Rattle.ff_ring.specs.Congruence.{IsCongruent}
-use Rattle.ff_ring.proofs.Ring.{zero_mul, mul_zero, one_mul, mul_pow, eq_of_sub}
+use Rattle.ff_ring.proofs.Ring.{mul_pow}
 use Rattle.ff_ring.proofs.Solver.{ring, reads, from_one}
 use Rattle.ff_ring.proofs.Lists.{length_neg_list}
-use Rattle.ff_ring.proofs.Congruence.{congruent_sym, congruent_trans, congruent_refl}
+use Rattle.ff_ring.proofs.Congruence.{congruent_refl}
 use Rattle.ff_ring.proofs.Evaluate.{evaluate}
 use Rattle.ff_fields.specs.Field.{CodeField}
 use Rattle.ff_fields.specs.Code.{Code, raw_ring, code_ring, read_code}
@@ -19,7 +18,6 @@ use Rattle.ff_poly.specs.PolyOver.{IsOver_product_of, IsPoly_poly_of}
 use Rattle.ff_poly.specs.Value.{value, value_product, same_from_value}
 use Rattle.ff_poly.specs.Polynomials.{Polynomial, polynomials, polynomial_discrete, x_poly, codes_of, IsOver_codes_of, IsPoly_codes_of, value_codes_of}
 use Rattle.ff_ring.specs.Lists.{mul_lists}
-use Rattle.linear_theory.specs.Euclidean.{Euclidean}
 use Rattle.ff_linalg.specs.Matrix.{MatrixValue}
 use Rattle.finite_algebra_theory.specs.Algebra.{FiniteAlgebra, IsPrimitive as IsPrimitiveIn}
 use Rattle.finite_algebra_theory.specs.ByMap.{Image}
@@ -33,7 +31,6 @@ use Rattle.ff_falg.specs.Algebras.{IsAlgebra, IsVector, IsPrimitive, IsNilpotent
 use Rattle.ff_falg.specs.Relations.{IsRelation}
 use Rattle.ff_falg.proofs.PolynomialValues.{negatives_scalar}
 use Rattle.ff_falg.proofs.PowerSpans.{minimal_of_first}
-use Rattle.ff_falg.proofs.Vectors.{Vector, vector_ring}
 use Rattle.ff_falg.proofs.VectorAlgebra.{scalar, scalar_map, scalars_in, vector_algebra, length_scalars, length_basis}
 use Rattle.ff_factor.specs.Quotients.{IsModulus, product_modulo, quotient_algebra}
 use Rattle.ff_factor.specs.Primes.{IsPrimeAt, IsHighPower}

@@ -1,8 +1,7 @@
 -- The loop that divides by a polynomial as often as it goes.
-use Rattle.std.proofs.Common.{◌≡◌, ◌≢◌, ℕ, zero, suc, ◌+◌, ◌<◌, ◌≤◌, List, [], ◌∷◌, length, refl, sym, ap, ap₂, ◌∙◌, subst, arith}
-use Rattle.std.proofs.lemmas.List.{nil_from_length}
+use Rattle.std.proofs.Common.{◌≡◌, ◌≢◌, ℕ, suc, ◌+◌, ◌<◌, ◌≤◌, List, [], ◌∷◌, length, refl, sym, ap, ◌∙◌, subst, arith}
 use Rattle.ff_ring.specs.Ring.{CommRing, pow}
-use Rattle.ff_ring.proofs.Ring.{zero_mul, mul_zero, one_mul}
+use Rattle.ff_ring.proofs.Ring.{mul_zero, one_mul}
 use Rattle.ff_ring.proofs.Polynomials.{length_product}
 use Rattle.ff_ring.proofs.Division.{IsDivision, one_way}
 use Rattle.ff_fields.specs.Field.{CodeField}
@@ -12,10 +11,10 @@ use Rattle.linear_theory.specs.Euclidean.{IsDivisor}
 use Rattle.ff_poly.specs.Words.{IsPoly, IsQuotient, product_of}
 use Rattle.ff_poly.specs.PolyOver.{IsOver_product_of}
 use Rattle.ff_poly.specs.Value.{value, value_sum, value_product}
-use Rattle.ff_poly.specs.Polynomials.{Polynomial, polynomials, polynomials_domain, value_nil}
+use Rattle.ff_poly.specs.Polynomials.{Polynomial, polynomials, value_nil}
 use Rattle.ff_factor.specs.ListValues.{length_value}
 use Rattle.ff_factor.specs.Pulls.{IsPulledOut}
-use Rattle.ff_factor.proofs.Lengths.{some_long, zero_length}
+use Rattle.ff_factor.proofs.Lengths.{zero_length}
 use Rattle.ff_factor.proofs.FieldsByIrreducibles.{some_value}
 
 -- what stands at each turn: g is p to the power count times the rest, which isn't 0

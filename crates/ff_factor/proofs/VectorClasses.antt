@@ -1,24 +1,23 @@
 -- The vectors of k[x] modulo g as the image of k[x], and the values there of polynomials at powers of x.
-use Rattle.std.proofs.Common.{◌≡◌, ◌≢◌, ℕ, zero, suc, ◌+◌, ◌-◌, ◌*◌, ◌<◌, ◌≤◌, ◌^◌, ◌↔◌, ◌⊎◌, inl, inr, List, [], ◌∷◌, ◌++◌, length, map, refl, sym, ap, ap₂, ◌∙◌, subst, arith}
+use Rattle.std.proofs.Common.{◌≡◌, ℕ, zero, suc, ◌-◌, ◌<◌, ◌^◌, ◌↔◌, ◌⊎◌, inl, inr, List, [], ◌∷◌, ◌++◌, length, map, refl, sym, ap, ap₂, ◌∙◌}
 use Rattle.ff_ring.specs.Ring.{CommRing, pow}
-use Rattle.ff_ring.specs.Lists.{scale_list}
 use Rattle.ff_ring.specs.Congruence.{IsCongruent}
-use Rattle.ff_ring.proofs.Ring.{zero_mul, mul_zero, one_mul, mul_pow}
+use Rattle.ff_ring.proofs.Ring.{mul_zero, mul_pow}
 use Rattle.ff_ring.proofs.Congruence.{congruent_same, congruent_sym, congruent_trans, congruent_add, congruent_mul, congruent_refl}
 use Rattle.ff_ring.proofs.RowMaps.{IsHom, hom_zero}
 use Rattle.ff_ring.proofs.Evaluate.{evaluate}
 use Rattle.ff_fields.specs.Field.{CodeField}
-use Rattle.ff_fields.specs.Code.{Code, raw_ring, code_ring, same_code, read_code, read_code_below}
+use Rattle.ff_fields.specs.Code.{Code, code_ring, same_code, read_code, read_code_below}
 use Rattle.ff_fields.specs.Numbers.{read}
 use Rattle.ff_fields.specs.Over.{IsOver, IsOver_head, IsOver_tail}
 use Rattle.ff_poly.specs.Value.{value}
 use Rattle.ff_poly.specs.Polynomials.{Polynomial, polynomials, constant_poly, x_poly, value_cons, value_nil}
-use Rattle.finite_algebra_theory.specs.Algebra.{FiniteAlgebra, IsPrimitive as IsPrimitiveIn, IsNilpotent as IsNilpotentIn, IsIdempotent as IsIdempotentIn}
+use Rattle.finite_algebra_theory.specs.Algebra.{IsPrimitive as IsPrimitiveIn, IsNilpotent as IsNilpotentIn}
 use Rattle.finite_algebra_theory.specs.ByMap.{Image}
 use Rattle.finite_algebra_theory.specs.Horner.{value as horner}
 use Rattle.finite_algebra_theory.proofs.Frobenius.{iterate_add, iterate_scalar}
-use Rattle.ff_falg.specs.Algebras.{AlgebraOps, IsAlgebra, IsVector, IsPrimitive, IsNilpotent}
-use Rattle.ff_falg.proofs.Vectors.{Vector, vector_ring, same_vector, power_value, multiple_in, sum_in}
+use Rattle.ff_falg.specs.Algebras.{AlgebraOps, IsAlgebra, IsPrimitive, IsNilpotent}
+use Rattle.ff_falg.proofs.Vectors.{Vector, vector_ring, same_vector, power_value}
 use Rattle.ff_falg.proofs.VectorAlgebra.{scalar, scalar_map, vector_algebra}
 use Rattle.ff_factor.specs.Quotients.{IsModulus, product_modulo, quotient_algebra}
 use Rattle.ff_factor.specs.ListValues.{value_add_lists, value_scale_list}

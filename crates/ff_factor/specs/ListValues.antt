@@ -1,8 +1,6 @@
 -- What sums, multiples, zeros and shifted lists of codes stand for, where zeros may be on top.
 use Rattle.std.proofs.Common.{◌≡◌, ℕ, zero, suc, ◌+◌, ◌-◌, ◌<◌, ◌≤◌, List, [], ◌∷◌, ◌++◌, length, get_or, replicate, refl, sym, ap, ap₂, ◌∙◌, subst, arith}
 use Rattle.std.proofs.lemmas.List.{length-map, get_or_push, length_push}
-use mathlib.Core.Path.{fun_ext}
-use Rattle.ff_ring.specs.Ring.{CommRing, TestedRing}
 use Rattle.ff_ring.specs.Lists.{coeff_of, add_lists, scale_list, IsTrimmed}
 use Rattle.ff_ring.proofs.Ring.{mul_zero}
 use Rattle.ff_ring.proofs.Sequences.{convolution_constant_left}
@@ -10,12 +8,12 @@ use Rattle.ff_ring.proofs.Lists.{coeff_add, coeff_scale, IsTrimmed_push}
 use Rattle.ff_ring.proofs.Polynomials.{pol_ops, same_pol, series_add, series_mul}
 use Rattle.ff_ring.proofs.Evaluate.{length_trim}
 use Rattle.ff_fields.specs.Field.{CodeField}
-use Rattle.ff_fields.specs.Code.{Code, raw_ring, code_ring, same_code, read_code, read_code_below, zero_in, is_zero_code}
+use Rattle.ff_fields.specs.Code.{raw_ring, code_ring, same_code, read_code, read_code_below, zero_in, is_zero_code}
 use Rattle.ff_fields.specs.Numbers.{numbers, read, read_numbers, numbers_read, numbers_add, numbers_scale, numbers_get_or}
 use Rattle.ff_fields.specs.Over.{IsOver, IsOver_head, IsOver_tail}
 use Rattle.ff_poly.specs.Words.{IsPoly, IsMonic}
 use Rattle.ff_poly.specs.Value.{value, numbers_value}
-use Rattle.ff_poly.specs.Polynomials.{Polynomial, polynomials, constant_poly, x_poly, series_read, value_cons, value_one}
+use Rattle.ff_poly.specs.Polynomials.{polynomials, constant_poly, x_poly, series_read, value_cons, value_one}
 
 module _ (k : CodeField) where
   pub value_add_lists : (a b : List ℕ) → IsOver k.ops a → IsOver k.ops b

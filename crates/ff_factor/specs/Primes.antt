@@ -1,5 +1,5 @@
 -- The primes that belong to the idempotents of k[x] modulo a monic polynomial.
-use Rattle.std.specs.Prelude.{◌≡◌, ℕ, ◌-◌, ◌≤◌, ◌^◌, ◌↔◌, List, length}
+use Rattle.std.specs.Prelude.{ℕ, ◌≤◌, ◌^◌, ◌↔◌, List}
 use Rattle.ff_ring.specs.Ring.{pow}
 use Rattle.ff_ring.specs.Congruence.{IsCongruent}
 use Rattle.ff_fields.specs.Field.{FieldOps, CodeField}
@@ -7,7 +7,7 @@ use Rattle.ff_fields.specs.Over.{IsOver}
 use Rattle.ff_poly.specs.Words.{IsPoly, IsMonic, Divides}
 use Rattle.ff_poly.specs.Value.{value}
 use Rattle.ff_poly.specs.Polynomials.{polynomials, x_poly}
-use Rattle.ff_falg.specs.Algebras.{IsVector, IsNilpotent}
+use Rattle.ff_falg.specs.Algebras.{IsNilpotent}
 use Rattle.ff_factor.specs.Quotients.{product_modulo, quotient_algebra}
 
 -- p is monic, and its multiples are the polynomials whose product with e is nilpotent modulo g

@@ -1,6 +1,5 @@
 -- The words of the private contracts on factors that are divided out.
-use Rattle.std.specs.Prelude.{◌≡◌, ◌≢◌, ℕ, suc, ◌+◌, ◌<◌, ◌≤◌, List, [], ◌∷◌, length, map, take, drop, insert, All}
-use Rattle.std.specs.Global.{Vec}
+use Rattle.std.specs.Prelude.{◌≡◌, ◌≢◌, ℕ, ◌≤◌, List, [], ◌∷◌, All}
 use Rattle.ff_ring.specs.Ring.{pow}
 use Rattle.ff_ring.proofs.Finite.{In}
 use Rattle.linear_theory.specs.Euclidean.{IsDivisor}

@@ -1,4 +1,4 @@
-use Rattle.std.proofs.Common.{◌≤◌, length, sym, subst}
+use Rattle.std.proofs.Common.{sym, subst}
 use Rattle.ff_falg.specs.Algebras.{IsPrimitive}
 use Rattle.ff_falg.specs.Idempotents.{elements_of, IsPrimitiveList}
 use Rattle.ff_factor.specs.Pulls.{ArePrimesOf, IsPrimeList, IsSplitOff}

@@ -1,4 +1,4 @@
-use Rattle.std.proofs.Common.{◌≡◌, [], refl, sym, ap, ◌∙◌, arith}
+use Rattle.std.proofs.Common.{refl}
 use Rattle.ff_factor.proofs.PullSteps.{pulling_start, pulling_step, pulling_shorter, pulled_out}
 use Rattle.ff_factor.proofs.Orders.{not_so}
 use Rattle.ff_factor.proofs.factors.pull_out.Goals as goal

@@ -1,4 +1,4 @@
-use Rattle.std.proofs.Common.{◌≡◌, ◌<◌, length, ap, arith}
+use Rattle.std.proofs.Common.{arith}
 use Rattle.ff_factor.proofs.Orders.{answer_at, answer_same, at_start}
 use Rattle.ff_factor.proofs.order.is_before.Goals as goal
 

@@ -1,6 +1,6 @@
-use Rattle.std.proofs.Common.{◌≡◌, ◌<◌, ◌≤◌, ◌-◌, length, arith, sym, ap, ◌∙◌, [], ◌∷◌, subst}
+use Rattle.std.proofs.Common.{◌≡◌, ◌-◌, length, arith, sym, ap, ◌∙◌, [], ◌∷◌, subst}
 use Rattle.ff_fields.specs.Code.{zero_in}
-use Rattle.ff_fields.specs.Over.{IsOver, IsOver_nil, IsOver_cons}
+use Rattle.ff_fields.specs.Over.{IsOver_nil, IsOver_cons}
 use Rattle.ff_poly.specs.Words.{poly_of}
 use Rattle.ff_poly.specs.PowerWords.{IsRest, power_of}
 use Rattle.ff_factor.specs.Primes.{IsHighPower}

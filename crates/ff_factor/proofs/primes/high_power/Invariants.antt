@@ -1,4 +1,4 @@
-use Rattle.std.proofs.Common.{◌≡◌, ◌-◌, ◌<◌, ◌≤◌, ◌^◌, ℕ, length}
+use Rattle.std.proofs.Common.{◌-◌, ◌<◌, ◌≤◌, length}
 use Rattle.ff_fields.specs.Over.{IsOver}
 use Rattle.ff_factor.specs.Primes.{IsHighPower}
 use Rattle.ff_factor.proofs.primes.high_power.Given as goal

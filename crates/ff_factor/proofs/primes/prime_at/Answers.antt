@@ -1,4 +1,4 @@
-use Rattle.std.proofs.Common.{◌≡◌, ◌<◌, ◌≤◌, ◌-◌, ◌++◌, [], ◌∷◌, length, arith, sym, ap, ◌∙◌, subst}
+use Rattle.std.proofs.Common.{◌≡◌, ◌-◌, ◌++◌, [], ◌∷◌, length, arith, sym, ap, ◌∙◌, subst}
 use Rattle.ff_falg.specs.Relations.{IsBounded}
 use Rattle.ff_ring.specs.Lists.{neg_list}
 use Rattle.ff_ring.proofs.Lists.{trim_trimmed}
@@ -10,7 +10,7 @@ use Rattle.ff_factor.specs.Quotients.{quotient_algebra}
 use Rattle.ff_factor.specs.QuotientLaws.{quotient_laws}
 use Rattle.ff_factor.specs.ListValues.{monic_poly}
 use Rattle.ff_factor.proofs.PowerBounds.{powers_bounded_by_size}
-use Rattle.ff_factor.proofs.PrimeIdeals.{prime, prime_of_relation}
+use Rattle.ff_factor.proofs.PrimeIdeals.{prime_of_relation}
 use Rattle.ff_factor.proofs.primes.prime_at.Goals as goal
 
 pub first_relation-requires-clause-bounded : goal.first_relation-requires-clause-bounded

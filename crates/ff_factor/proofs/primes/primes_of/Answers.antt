@@ -1,8 +1,7 @@
-use Rattle.std.proofs.Common.{◌≡◌, ◌<◌, [], length, map, get_or, sym, ap, ◌∙◌, subst, arith}
+use Rattle.std.proofs.Common.{◌≡◌, ◌<◌, [], length, get_or, sym, ap, ◌∙◌, subst, arith}
 use Rattle.std.proofs.lemmas.List.{get_or-map, length-map}
 use Rattle.ff_falg.specs.Algebras.{IsPrimitive}
 use Rattle.ff_falg.specs.Idempotents.{elements_of}
-use Rattle.ff_factor.specs.Primes.{IsPrimeAt}
 use Rattle.ff_factor.specs.Quotients.{quotient_algebra}
 use Rattle.ff_factor.proofs.SplitSteps.{primes_more}
 use Rattle.ff_factor.proofs.primes.primes_of.Goals as goal

@@ -1,10 +1,9 @@
-use Rattle.std.proofs.Common.{◌+◌, drop, length, arith, sym, ap, ◌∙◌, subst}
+use Rattle.std.proofs.Common.{drop, length, arith, sym, ap, ◌∙◌, subst}
 use Rattle.std.proofs.lemmas.List.{drop_all}
 use Rattle.ff_fields.specs.Over.{IsOver_drop}
 use Rattle.ff_falg.specs.Algebras.{IsVector}
 use Rattle.ff_factor.specs.Quotients.{product_modulo}
 use Rattle.ff_factor.specs.QuotientLaws.{product_in, times_x_in}
-use Rattle.ff_factor.proofs.QuotientSteps.{product_step}
 use Rattle.ff_factor.proofs.steps.multiply.Goals as goal
 
 pub loop-i-init : goal.loop-i-init
