@@ -1,7 +1,7 @@
 -- Division by powers of the variable, where the variable acts with an inverse.
 use Rattle.std.proofs.Common.{◌≡◌, ℕ, zero, suc, ◌∙◌, ap}
 use Rattle.ff_ring.specs.Ring.{TestedRing, IsField}
-use Rattle.ff_ring.proofs.Polynomials.{Pol, pol_ring}
+use Rattle.ff_ring.proofs.Polynomials.{pol_ring}
 use Rattle.linear_theory.specs.Module.{Module}
 use Rattle.reduced_theory.specs.Reduced.{variable, HasDivision}
 use Rattle.reduced_theory.proofs.Powers.{power}

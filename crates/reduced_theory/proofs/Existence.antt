@@ -1,7 +1,7 @@
 -- Each pair of a lattice and a family has a reduced basis: by the Popov form of the coordinates of the one in a reduced basis for the other.
 use Rattle.std.proofs.Common.{◌≡◌, ℕ, zero, suc, ◌<◌, ◌≤◌, ◌+◌, ◌-◌, ◌↔◌, ℤ, pos, ◌+ℤ◌, ◌-ℤ◌, List, [], ◌∷◌, length, refl, sym, ◌∙◌, ap, ap₂, subst, arith}
 use Rattle.std.proofs.lemmas.Int.{ints}
-use Rattle.ff_ring.specs.Ring.{TestedRing, IsField, pow}
+use Rattle.ff_ring.specs.Ring.{TestedRing, IsField}
 use Rattle.ff_ring.specs.Rows.{Row, entry}
 use Rattle.ff_ring.proofs.Ring.{field_domain, product_not_zero, domain_cancel, mul_left_comm, pow_add}
 use Rattle.ff_ring.proofs.Polynomials.{Pol, pol_ring}
@@ -27,7 +27,7 @@ use Rattle.reduced_theory.proofs.Totals.{IsLarge, large}
 use Rattle.reduced_theory.proofs.Converse.{same_coefficients}
 use Rattle.reduced_theory.proofs.DualBasis.{length_tabulate, entry_tabulate}
 use Rattle.reduced_theory.proofs.Predictable.{combine_rows}
-use Rattle.reduced_theory.proofs.WeightedRows.{w, Rows, weighted, entry_weighted, weighted_injective, weighted_combine, weighted_predictable}
+use Rattle.reduced_theory.proofs.WeightedRows.{Rows, weighted, entry_weighted, weighted_injective, weighted_combine, weighted_predictable}
 
 -- the member of a list at i
 abbrev member : {V : Type 0} → V → List V → ℕ → V

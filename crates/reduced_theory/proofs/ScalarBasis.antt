@@ -1,5 +1,5 @@
 -- Over a subspace that a larger field of scalars leaves in itself, a space with a basis over the smaller field has one over the larger.
-use Rattle.std.proofs.Common.{◌≡◌, ℕ, ◌<◌, List, [], ◌∷◌, ◌++◌, length, All, refl, sym, ◌∙◌, ap, subst, arith}
+use Rattle.std.proofs.Common.{◌≡◌, List, [], ◌∷◌, ◌++◌, length, All, sym, ◌∙◌, ap, subst, arith}
 use Rattle.std.proofs.lemmas.List.Elements.{All-nil, All-cons, All-weaker}
 use Rattle.linear_theory.specs.Fields.{Field}
 use Rattle.linear_theory.specs.Module.{Module, combine, IsLinear}

@@ -4,8 +4,8 @@ use Rattle.std.proofs.lemmas.Nat.{div-add-mod', mod_below, le-div}
 use Rattle.std.proofs.lemmas.Bool.{cases_lt}
 use Rattle.std.proofs.lemmas.Int.{ints}
 use Rattle.ff_ring.specs.Ring.{TestedRing, IsField}
-use Rattle.ff_ring.specs.Lists.{coeff_of, tail_of}
-use Rattle.ff_ring.specs.Rows.{Row, row_zero, row_add, row_scale, entry}
+use Rattle.ff_ring.specs.Lists.{coeff_of}
+use Rattle.ff_ring.specs.Rows.{Row, row_add, row_scale, entry}
 use Rattle.ff_ring.proofs.Ring.{field_domain, domain_cancel, mul_left_comm, mul_zero}
 use Rattle.ff_ring.proofs.Polynomials.{Pol, pol_ring, coeff_past, coeff_top}
 use Rattle.popov_theory.specs.Module.{PolynomialModule, measure, pivot, row_degree}
@@ -13,12 +13,12 @@ use Rattle.popov_theory.specs.Span.{combine, row_at}
 use Rattle.popov_theory.specs.Popov.{IsWeakPopov}
 use Rattle.popov_theory.proofs.Module.{zero_scale}
 use Rattle.popov_theory.proofs.Places.{row_le}
-use Rattle.popov_theory.proofs.Measure.{measure_past, measure_bound, measure_zero, zero_row, measure_scale, measure_parts}
+use Rattle.popov_theory.proofs.Measure.{measure_past, measure_bound, zero_row, measure_scale, measure_parts}
 use Rattle.popov_theory.proofs.PredictableDegree.{predict}
 use Rattle.popov_theory.proofs.PolynomialRows.{row_module, row_width, row_entry, row_module_zero, row_module_add, row_module_scale, entry_zero, entry_add, entry_scale, same_entries}
 use Rattle.reduced_theory.specs.Degree.{DegreeAtMost, degree, size}
 use Rattle.reduced_theory.specs.Rows.{row_times, IsPredictable}
-use Rattle.reduced_theory.proofs.Degree.{size_least, size_greatest, degree_of_zero, decide_zero, zero_of_length, degree_product, degree_cancel, degree_own}
+use Rattle.reduced_theory.proofs.Degree.{size_least, size_greatest, degree_of_zero, decide_zero, degree_product, degree_cancel, degree_own}
 use Rattle.reduced_theory.proofs.Constants.{polynomials}
 
 module _ {C : Type 0} (k : TestedRing C) where
