@@ -2,12 +2,12 @@
 use Rattle.std.proofs.Common.{◌≡◌, ℕ, suc, ◌<◌, ◌↔◌, ℤ, pos, negsuc, ◌+ℤ◌, ◌-ℤ◌, List, sym, ◌∙◌, ap, subst, arith}
 use Rattle.std.proofs.lemmas.Int.{ints}
 use Rattle.ff_ring.specs.Ring.{TestedRing, CommRing, IsField}
-use Rattle.ff_ring.proofs.Ring.{field_domain, product_not_zero, mul_left_comm, one_mul}
+use Rattle.ff_ring.proofs.Ring.{field_domain, product_not_zero, one_mul}
 use Rattle.ff_ring.proofs.Polynomials.{Pol, pol_ring}
 use Rattle.linear_theory.specs.Module.{Module, combine}
 use Rattle.reduced_theory.specs.Degree.{DegreeAtMost, degree}
 use Rattle.reduced_theory.specs.Reduced.{IsReducedAt}
-use Rattle.reduced_theory.specs.Dual.{AreFractions, Fraction, FractionAtMost, IsRestriction, IsPowerOfX}
+use Rattle.reduced_theory.specs.Dual.{AreFractions, FractionAtMost, IsRestriction, IsPowerOfX}
 use Rattle.reduced_theory.proofs.Degree.{degree_cancel, degree_product, degree_own, degree_multiply}
 use Rattle.reduced_theory.proofs.Constants.{polynomials}
 use Rattle.reduced_theory.proofs.Powers.{power, degree_power, power_nonzero}
