@@ -1,9 +1,9 @@
 -- Division by powers of the variable, where the variable acts with an inverse.
 use Rattle.std.proofs.Common.{◌≡◌, ℕ, zero, suc, ◌∙◌, ap}
 use Rattle.ff_ring.specs.Ring.{TestedRing, IsField}
-use Rattle.ff_ring.proofs.Polynomials.{Pol, pol_ring}
+use Rattle.ff_ring.proofs.Polynomials.{pol_ring}
 use Rattle.linear_theory.specs.Module.{Module}
-use Rattle.reduced_theory.specs.Reduced.{variable, HasDivision}
+use Rattle.reduced_theory.specs.Reduced.{variable, divided, HasDivision}
 use Rattle.reduced_theory.proofs.Powers.{power}
 
 module _ {C V : Type 0} (k : TestedRing C) (field : IsField k.ops) (M : Module (pol_ring k).ring V) (x : HasDivision k M.ops) where
@@ -12,8 +12,7 @@ module _ {C V : Type 0} (k : TestedRing C) (field : IsField k.ops) (M : Module (
 
   -- z divided by x^j
   abbrev pub quotient : ℕ → V → V
-  quotient zero z = z
-  quotient (suc j) z = quotient j (x.divide z)
+  quotient = divided x.divide
 
   pub undo_power : (j : ℕ) (z : V) → power k field j • quotient j z ≡ z
   undo_power zero z = M.one_scale z

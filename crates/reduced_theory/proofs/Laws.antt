@@ -21,6 +21,7 @@ use Rattle.reduced_theory.proofs.SumOfDegrees.{family_index_zero, local_index, s
 use Rattle.reduced_theory.proofs.Genus.{genus, sum_space}
 use Rattle.reduced_theory.proofs.RiemannRoch.{total_identity, riemann_roch}
 use Rattle.reduced_theory.proofs.ScalarTower.{tower_dimension}
+use Rattle.reduced_theory.proofs.ScalarBasis.{scalar_basis}
 use Rattle.reduced_theory.proofs.Division.{quotient, undo_power, redo_power}
 
 -- the sum of the max(0, d i - 1) is that of the dual degrees
@@ -127,6 +128,19 @@ module _ {C V : Type 0} (k : TestedRing C) (field : IsField k.ops) (M : Module (
         h.basis h.is in
         let f = h.size in
         omega (arith, ints)
+
+    -- a basis of V over I + N over a larger field of constants
+    pub constants_basis : {B : Type 0} (L : Field B) (S : Module k.ring B) (X : Module L.ring V) → IsExtension k M.ops L.ring.ops S.ops X.ops
+        → (θ : List B) → IsBasis k.ops S.ops (IsNull S.ops) (λ t. Unit {0}) θ
+        → (I : V → Type 0) (N : ℤ → V → Type 0) (b : List V) (d : ℕ → ℤ) → IsReduced k M.ops n I N b d → HasDivision k M.ops
+        → IsSubspace X.ops (IsSum (constants_ops k M.ops) I (N (pos 0)))
+        → (ws : List V) × IsBasis L.ring.ops X.ops (IsSum (constants_ops k M.ops) I (N (pos 0))) (λ z. Unit {0}) ws
+    constants_basis L S X extension θ θ_basis I N b d reduced x closed =
+        let h = genus_dimension n I N b d reduced x in
+        scalar_basis (coefficients k field) L S (over_constants k M) X extension.sum extension.zero extension.scale θ θ_basis extension.null
+        (IsSum (constants_ops k M.ops) I (N (pos 0)))
+        (sum_space (over_constants k M) I (N (pos 0)) (lattice_space k M I b reduced.lattice) (family_space k M field n N b d reduced.at (pos 0)))
+        closed h.basis h.is
 
     -- Riemann and Roch
     module _ {Q : Type 0} (F : CommRing V) (R : CommRing Q) (ι : Pol k → Q) (T : V → V → Q) (trace : IsTraceForm k M.ops F.ops R.ops ι T)
