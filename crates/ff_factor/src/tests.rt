@@ -2,10 +2,13 @@
 
 ghost use Rattle.std.specs.Prelude.{IfOk};
 ghost use Rattle.ff_fields.specs.Over.{IsOver};
+ghost use Rattle.ff_factor.specs.Quotients.{IsModulus};
 
-use crate::{factor, is_irreducible};
+use crate::{PolyQuotient, factor, is_irreducible};
+use ff_falg::{FiniteAlgebra, fixed, frobenius, idempotents, is_field, nilpotents};
 use ff_fields::field::SmallField;
 use ff_fields::prime::PrimeField;
+use ff_linalg::Matrix;
 use ff_poly::Poly;
 use std::alloc::{AllocError, Global};
 use std::test::Fail;
@@ -77,5 +80,78 @@ fn irreducible(rt: HostRuntime) -> Result<(), Fail> {
     assert!(rt; !is_irreducible(alloc, &k, &poly(alloc, &k, &[0, 2])?)?);
     assert!(rt; !is_irreducible(alloc, &k, &poly(alloc, &k, &[1])?)?);
     assert!(rt; !is_irreducible(alloc, &k, &poly(alloc, &k, &[])?)?);
+    Ok(())
+}
+
+// The polynomials modulo the one with these codes; it has to be monic, of degree 1 or more.
+fn modulo<K: SmallField>(alloc: Global, k: &K, codes: &[u32]) -> Result<PolyQuotient, AllocError>
+    ensures { IfOk result (IsModulus (K.field k.now).ops) }
+{
+    let g = poly(alloc, k, codes)?;
+    if g.codes().len() < 2 || g.top() != 1 {
+        return Err(AllocError);
+    }
+    Ok(PolyQuotient::new(g))
+}
+
+// Whether the rows of the matrix are these.
+fn has_rows(m: &Matrix, rows: &[[u32; 2]]) -> bool {
+    if m.rows() != rows.len() || m.cols() != 2 {
+        return false;
+    }
+    for i in 0..rows.len() {
+        if m.row(i) != rows[i].as_slice() {
+            return false;
+        }
+    }
+    true
+}
+
+// Are the unit, the square of x and the primitive idempotents modulo x^2 + 6 over the field of 7 elements as known?
+fn has_known_elements<K: SmallField>(
+    alloc: Global,
+    k: &K,
+    a: &PolyQuotient,
+) -> Result<bool, AllocError>
+    requires { IsModulus (K.field k.now).ops a.now }
+{
+    let one = <PolyQuotient as FiniteAlgebra<K>>::one(a, alloc)?;
+    if a.modulus().codes().len() != 3 {
+        return Ok(false);
+    }
+    let square = a.mul(alloc, k, &[0, 1], &[0, 1])?;
+    if one.as_slice() != [1, 0].as_slice() || square.as_slice() != [1, 0].as_slice() {
+        return Ok(false);
+    }
+    let parts = idempotents(alloc, k, a)?;
+    if parts.len() != 2 {
+        return Ok(false);
+    }
+    Ok(parts[0].as_slice() == [4, 3].as_slice() && parts[1].as_slice() == [4, 4].as_slice())
+}
+
+// Are the matrices of x^2 + 6 over the field of 7 elements as known, and is the quotient no field?
+fn has_known_spaces<K: SmallField>(
+    alloc: Global,
+    k: &K,
+    a: &PolyQuotient,
+) -> Result<bool, AllocError>
+    requires { IsModulus (K.field k.now).ops a.now }
+{
+    Ok(
+        has_rows(&frobenius(alloc, k, a)?, &[[1, 0], [0, 1]])
+            && has_rows(&nilpotents(alloc, k, a)?, &[])
+            && has_rows(&fixed(alloc, k, a)?, &[[1, 0], [0, 1]])
+            && !is_field(alloc, k, a)?,
+    )
+}
+
+#[test]
+fn modulo_a_polynomial(rt: HostRuntime) -> Result<(), Fail> {
+    let alloc = rt.alloc();
+    let k = PrimeField::new(7)?;
+    let a = modulo(alloc, &k, &[6, 0, 1])?;
+    assert!(rt; has_known_elements(alloc, &k, &a)?);
+    assert!(rt; has_known_spaces(alloc, &k, &a)?);
     Ok(())
 }
