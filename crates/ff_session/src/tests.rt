@@ -7,17 +7,13 @@ use ff_script::Statement;
 use std::alloc::{AllocError, Global};
 use std::test::Fail;
 
-/// The statement `field p`.
-fn field(p: u32) -> Statement {
-    Statement::FieldOf { p, tail: None }
-}
-
 /// What a step of `field 7` answers, where so many bytes were printed before: the block, or the line of the refusal.
 fn first_step(alloc: Global, printed: u64) -> Result<Vec<u8>, AllocError>
     requires { printed ≤ 268435456 }
 {
     let mut session = Session::new(alloc, false, printed);
-    match session.step(&field(7)) {
+    let s = Statement::FieldOf { p: 7, tail: None };
+    match session.step(&s) {
         Ok(text) => Ok(text),
         Err(r) => {
             let mut line = Vec::new(alloc);
