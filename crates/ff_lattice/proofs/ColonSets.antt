@@ -1,33 +1,31 @@
 -- The colon of two lattices: a polynomial in the one, and the conditions for each of its rows.
-use Rattle.std.proofs.Common.{◌≡◌, ℕ, zero, suc, ◌+◌, ◌-◌, ◌<◌, ◌≤◌, ◌↔◌, List, [], ◌∷◌, length, get_or, map, take, replicate, refl, sym, ◌∙◌, ap, ap₂, subst, arith, All, Some}
+use Rattle.std.proofs.Common.{◌≡◌, ℕ, suc, ◌+◌, ◌-◌, ◌<◌, ◌↔◌, List, [], ◌∷◌, length, get_or, map, take, replicate, refl, sym, ◌∙◌, ap, ap₂, subst, arith, All, Some}
 use Rattle.std.specs.Prelude.{slice_get}
 use Rattle.std.proofs.lemmas.List.Elements.{All-nil, All-cons, All-head, All-tail, All-set, All-replicate}
 use Rattle.std.proofs.lemmas.List.{length-set, length-replicate}
 use Rattle.std.proofs.lemmas.Option.{get_or_from_slice_get}
 use Rattle.ff_ring.specs.Ring.{CommRing}
-use Rattle.ff_ring.specs.Rows.{Row, row_scale, row_zero}
-use Rattle.ff_ring.specs.Subsets.{IsSubring, IsModule, Span}
+use Rattle.ff_ring.specs.Rows.{row_scale, row_zero}
+use Rattle.ff_ring.specs.Subsets.{IsSubring, IsModule}
 use Rattle.ff_ring.proofs.Ring.{mul_zero, one_mul}
 use Rattle.ff_ring.proofs.Rows.{pair_path, row_scale_zero}
 use Rattle.ff_ring.proofs.Solver.{ring, reads}
 use Rattle.ff_ring.proofs.Subsets.{span_zero, span_sum, span_scale, span_least, span_head, span_tail}
 use Rattle.ff_fields.specs.Field.{CodeField}
-use Rattle.ff_fields.specs.Code.{code_ring}
 use Rattle.ff_fields.specs.Over.{IsOver, IsOver_nil}
 use Rattle.ff_poly.specs.Words.{IsPoly, IsMonic}
 use Rattle.ff_poly.specs.Value.{value}
 use Rattle.ff_poly.specs.Polynomials.{Polynomial, polynomials, polynomials_domain, value_one}
 use Rattle.ff_poly.specs.Popov.{row_at, entry_at, IsRow, InSpan, combination}
-use Rattle.popov_theory.specs.Module.{PolynomialModule}
 use Rattle.popov_theory.specs.Span as theory
 use Rattle.popov_theory.proofs.Span.{span_row}
 use Rattle.ff_popov.specs.Reading.{read_row, row_space, read_rows}
 use Rattle.ff_popov.proofs.ReadRows.{read_row_at, read_zeros}
-use Rattle.ff_popov.proofs.Spans.{to_space, from_space, combination_row}
+use Rattle.ff_popov.proofs.Spans.{to_space, from_space}
 use Rattle.ff_algebra.specs.Functions.{Equation, IsPolynomial, of_poly, over, row_of}
 use Rattle.ff_algebra.specs.Values.{ElemValue, PresValue, Functions, functions, function_of, equation_of}
 use Rattle.ff_algebra.proofs.ScalarRings.{polynomials_subring, of_poly_one}
-use Rattle.ff_lattice.specs.Lattices.{LatticeValue, IsLattice, Contains, InSpanOf, IsScaled, elems_over, row_elems}
+use Rattle.ff_lattice.specs.Lattices.{LatticeValue, IsLattice, Contains, InSpanOf, IsScaled, row_elems}
 use Rattle.ff_lattice.specs.Colons.{IsColon, one_row}
 use Rattle.ff_lattice.specs.Steps.{IsPreimage}
 use Rattle.ff_lattice.proofs.Annihilators.{all_more}

@@ -1,15 +1,15 @@
 -- The coefficients that a preimage gives are those of the functions whose product with w is in a.
-use Rattle.std.proofs.Common.{◌≡◌, ℕ, ◌-◌, ◌<◌, ◌↔◌, List, [], ◌∷◌, length, map, sym, ◌∙◌, ap, subst, All}
+use Rattle.std.proofs.Common.{◌≡◌, ℕ, List, length, map, sym, ◌∙◌, ap, subst, All}
 use Rattle.std.proofs.lemmas.List.{length-map}
 use Rattle.ff_fields.specs.Field.{CodeField}
 use Rattle.ff_fields.specs.Over.{IsOver}
-use Rattle.ff_poly.specs.Words.{IsPoly, IsMonic}
+use Rattle.ff_poly.specs.Words.{IsMonic}
 use Rattle.ff_poly.specs.Value.{value}
 use Rattle.ff_poly.specs.Polynomials.{polynomials}
 use Rattle.ff_poly.specs.Popov.{IsRow, InSpan, combination, multiple_of_row}
 use Rattle.ff_popov.proofs.Spans.{combination_row}
-use Rattle.ff_algebra.specs.Values.{ElemValue, PresValue, IsElem, IsMonicElem, Functions, functions, function_of}
-use Rattle.ff_lattice.specs.Lattices.{LatticeValue, IsLattice, Contains, elems_over, row_elems}
+use Rattle.ff_algebra.specs.Values.{ElemValue, PresValue, IsElem, Functions, functions, function_of}
+use Rattle.ff_lattice.specs.Lattices.{LatticeValue, IsLattice, Contains, row_elems}
 use Rattle.ff_lattice.specs.Colons.{IsKept}
 use Rattle.ff_lattice.specs.Steps.{IsExpanded, IsPreimage}
 use Rattle.ff_lattice.proofs.CommonDenominators.{expanded_rows, expanded_functions}

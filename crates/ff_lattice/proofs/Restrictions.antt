@@ -1,10 +1,10 @@
 -- The members of a lattice whose product with a function is in another lattice.
-use Rattle.std.proofs.Common.{◌≡◌, ℕ, zero, suc, ◌-◌, ◌<◌, ◌≤◌, ◌↔◌, List, [], ◌∷◌, length, map, refl, sym, ◌∙◌, ap, ap₂, subst, arith, All}
+use Rattle.std.proofs.Common.{◌≡◌, ℕ, suc, ◌-◌, ◌<◌, ◌↔◌, List, [], ◌∷◌, length, map, refl, sym, ◌∙◌, ap, subst, arith, All}
 use Rattle.std.proofs.lemmas.List.{length-map}
 use Rattle.std.proofs.lemmas.List.Elements.{All-nil, All-cons, All-head, All-tail}
 use Rattle.ff_ring.specs.Ring.{CommRing}
 use Rattle.ff_ring.specs.Rows.{Row}
-use Rattle.ff_ring.specs.Subsets.{IsSubring, IsModule, Span}
+use Rattle.ff_ring.specs.Subsets.{IsSubring, IsModule}
 use Rattle.ff_ring.proofs.Ring.{mul_zero}
 use Rattle.ff_ring.proofs.Solver.{ring, reads}
 use Rattle.ff_ring.proofs.Subsets.{span_zero, span_sum, span_scale, span_least}
@@ -17,7 +17,7 @@ use Rattle.ff_poly.specs.PolyOver.{IsOver_product_of}
 use Rattle.ff_poly.specs.Value.{value_product}
 use Rattle.ff_poly.proofs.Parts.{IsPoly_product_of}
 use Rattle.ff_poly.specs.Polynomials.{Polynomial, polynomials, codes_of, IsOver_codes_of, IsPoly_codes_of, value_codes_of}
-use Rattle.ff_poly.specs.Popov.{row_at, entry_at, IsRow, InSpan, combination, multiple_of_row, HasFullRank}
+use Rattle.ff_poly.specs.Popov.{row_at, entry_at, IsRow, InSpan, combination, HasFullRank}
 use Rattle.popov_theory.specs.Module.{PolynomialModule}
 use Rattle.popov_theory.specs.Span as theory
 use Rattle.popov_theory.specs.Span.{combine}
@@ -39,7 +39,7 @@ use Rattle.ff_lattice.proofs.Scaled.{product_length}
 use Rattle.ff_lattice.proofs.Spaces.{combination_poly}
 use Rattle.ff_lattice.proofs.SpannedSets.{lattice_full, rank_of_full, polys_at}
 use Rattle.ff_lattice.proofs.SumsAndProducts.{full_within}
-use Rattle.ff_lattice.proofs.RowCombinations.{apply, apply_read, image_in}
+use Rattle.ff_lattice.proofs.RowCombinations.{apply_read, image_in}
 
 listed_all : {X : Type 0} (P : X → Type 0) (n : ℕ) (g : ℕ → X) → ((i : ℕ) → P (g i)) → All P (listed n g)
 listed_all P n g h i d less = subst P (sym (listed_at n g i d (omega (arith, less, listed_length n g)))) (h i)
@@ -102,9 +102,10 @@ module _ (k : CodeField) (p : PresValue) where
             factor_poly = IsPoly_product_of k.ops b.factor a.factor;
             some = some b.factor a.factor b.factor_in a.factor_in b.factor_poly a.factor_poly b.some a.some;
             is_in =
-                subst B product
-                (span_scale F T 𝓢 (map f ls) r (F.◌⊗◌ q z) scalar a.is_in,
-                subst (InSpanOf k p es) (sym (move w r (F.◌⊗◌ q z))) b.is_in);
+                subst B product (
+                  span_scale F T 𝓢 (map f ls) r (F.◌⊗◌ q z) scalar a.is_in,
+                  subst (InSpanOf k p es) (sym (move w r (F.◌⊗◌ q z))) b.is_in,
+                );
           };
     }
       where
@@ -157,11 +158,12 @@ module _ (k : CodeField) (p : PresValue) where
     each : (i : ℕ) → i < length basis → Both (Contains k p l) (Contains k p a) W (fun (row_at basis i))
     each i less =
         let row = kept.rows_in i [] less in
-        let poly = polys_at basis basis_poly i less in
-        (combined_in (row_at basis i) row,
-        (kept.members (row_at basis i) row poly).0
-        (from_space k p.n basis kept.rows_in (row_at basis i) row poly
-        (subst (theory.InSpan M (read_rows k p.n basis)) (read_row_at k p.n basis i) (span_row M (read_rows k p.n basis) i))))
+        let poly = polys_at basis basis_poly i less in (
+          combined_in (row_at basis i) row,
+          (kept.members (row_at basis i) row poly).0
+              (from_space k p.n basis kept.rows_in (row_at basis i) row poly
+              (subst (theory.InSpan M (read_rows k p.n basis)) (read_row_at k p.n basis i) (span_row M (read_rows k p.n basis) i))),
+        )
 
     all_functions : (N : Functions k p → Type 0) (zs : List (List (List ℕ))) → ((i : ℕ) → i < length zs → N (fun (row_at zs i))) → All N (map (function_of k p) (elems_over (map (λ z. combination k.ops p.n z l.rows) zs) l.den))
     all_functions N [] h = All-nil N

@@ -1,5 +1,5 @@
 -- Combinations of rows over a denominator, as functions.
-use Rattle.std.proofs.Common.{◌≡◌, ℕ, zero, suc, ◌-◌, ◌<◌, ◌↔◌, List, [], ◌∷◌, length, map, refl, sym, ◌∙◌, ap, ap₂, subst, arith, All}
+use Rattle.std.proofs.Common.{◌≡◌, ℕ, zero, suc, ◌-◌, ◌<◌, List, [], ◌∷◌, length, map, refl, sym, ◌∙◌, ap, ap₂, arith, All}
 use Rattle.std.proofs.lemmas.List.{length-map}
 use Rattle.std.proofs.lemmas.List.Elements.{All-head, All-tail}
 use mathlib.Core.Path.{fun_ext}
@@ -12,22 +12,21 @@ use Rattle.ff_ring.proofs.Polynomials.{Pol, pol_ring}
 use Rattle.ff_fields.specs.Field.{CodeField}
 use Rattle.ff_fields.specs.Code.{code_ring}
 use Rattle.ff_fields.specs.Over.{IsOver}
-use Rattle.ff_poly.specs.Words.{IsPoly}
 use Rattle.ff_poly.specs.Value.{value}
 use Rattle.ff_poly.specs.Polynomials.{Polynomial, polynomials}
-use Rattle.ff_poly.specs.Popov.{entry_at, row_at, IsRow, multiple_of_row, combination}
+use Rattle.ff_poly.specs.Popov.{entry_at, IsRow, multiple_of_row, combination}
 use Rattle.popov_theory.specs.Module.{PolynomialModule}
 use Rattle.popov_theory.specs.Span.{combine}
 use Rattle.popov_theory.specs.Span as theory
 use Rattle.popov_theory.proofs.Module.{scale_zero, scale_add, scale_scale, zero_scale}
-use Rattle.popov_theory.proofs.Span.{combine_add, combine_scale, combine_zero}
+use Rattle.popov_theory.proofs.Span.{combine_add, combine_scale}
 use Rattle.popov_theory.proofs.Kernel.{IsLinear}
 use Rattle.popov_theory.proofs.PolynomialRows.{row_module_zero, row_module_add, row_module_scale, entry_add, entry_scale}
 use Rattle.ff_popov.specs.Reading.{read_row, row_space, read_rows}
 use Rattle.ff_popov.proofs.ReadRows.{entry_read, same_from_read}
 use Rattle.ff_popov.proofs.Spans.{combination_read, combination_row, combine_same, space_multiple, multiple_row}
 use Rattle.ff_algebra.specs.Functions.{Equation, FunctionOf, ring_of, of_poly, over}
-use Rattle.ff_algebra.specs.Values.{ElemValue, PresValue, Functions, functions, function_of, equation_of}
+use Rattle.ff_algebra.specs.Values.{PresValue, Functions, functions, function_of, equation_of}
 use Rattle.ff_lattice.specs.Lattices.{elems_over}
 use Rattle.ff_lattice.proofs.Fracs.{over_zero}
 use Rattle.ff_lattice.proofs.Elements.{elem_over, elems_functions}

@@ -1,6 +1,6 @@
-use Rattle.std.proofs.Common.{◌<◌, ◌∙◌, ◌∷◌, ◌++◌, [], sym, ap, ap₂, length, arith}
+use Rattle.std.proofs.Common.{◌∙◌, ◌∷◌, ◌++◌, [], sym, ap, ap₂, arith}
 use Rattle.ff_fields.specs.Over.{IsOver}
-use Rattle.ff_poly.specs.Words.{sum_of, product_of}
+use Rattle.ff_poly.specs.Words.{sum_of}
 use Rattle.ff_popov.proofs.Entries.{read_default}
 use Rattle.ff_lattice.proofs.RowSums.{sums_more}
 use Rattle.ff_lattice.proofs.colons.add_multiple.Goals as goal

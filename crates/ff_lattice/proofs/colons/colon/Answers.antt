@@ -1,6 +1,6 @@
-use Rattle.std.proofs.Common.{◌≡◌, ◌≤◌, ◌∙◌, ◌↔◌, [], ◌∷◌, ap, sym, subst, length}
+use Rattle.std.proofs.Common.{◌≤◌, ◌↔◌, [], ◌∷◌, sym, subst}
 use Rattle.ff_algebra.specs.Values.{Functions}
-use Rattle.ff_lattice.specs.Lattices.{Contains, IsScaled, IsLattice}
+use Rattle.ff_lattice.specs.Lattices.{Contains, IsScaled}
 use Rattle.ff_lattice.proofs.Results.{members_through}
 use Rattle.ff_lattice.proofs.ColonSets.{colon_is}
 use Rattle.ff_lattice.proofs.colons.colon.Goals as goal

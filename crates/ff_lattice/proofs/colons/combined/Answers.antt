@@ -1,4 +1,4 @@
-use Rattle.std.proofs.Common.{◌≡◌, ◌<◌, ◌-◌, ◌∙◌, sym, ap, ap₂, subst, length, drop, arith, All}
+use Rattle.std.proofs.Common.{◌-◌, ◌∙◌, sym, ap, ap₂, subst, length, arith, All}
 use Rattle.std.proofs.lemmas.List.{length-map}
 use Rattle.ff_fields.specs.Over.{IsOver}
 use Rattle.ff_poly.specs.Popov.{rows_of, IsRow, multiple_of_row, sum_of_rows}

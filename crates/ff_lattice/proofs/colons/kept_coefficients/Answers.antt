@@ -1,9 +1,8 @@
-use Rattle.std.proofs.Common.{◌≡◌, ◌<◌, ◌∙◌, sym, ap, ap₂, subst, length, map, List, [], ℕ, ◌++◌, All}
+use Rattle.std.proofs.Common.{◌≡◌, ◌<◌, ◌∙◌, sym, ap, ap₂, subst, length, map, ◌++◌, All}
 use Rattle.std.proofs.lemmas.List.{length-map}
 use Rattle.ff_poly.specs.Popov.{rows_of, IsRow, multiple_of_row}
 use Rattle.ff_algebra.specs.Values.{IsElem, functions, function_of}
 use Rattle.ff_lattice.specs.Lattices.{row_elems}
-use Rattle.ff_lattice.specs.Colons.{IsKept}
 use Rattle.ff_lattice.specs.Steps.{IsExpanded, IsPreimage}
 use Rattle.ff_lattice.proofs.Kept.{kept_is, rows_size}
 use Rattle.ff_lattice.proofs.CommonDenominators.{expanded_rows}

@@ -1,8 +1,7 @@
-use Rattle.std.proofs.Common.{◌≡◌, ◌<◌, ◌∙◌, ◌++◌, sym, ap, ap₂, subst, length, get_or, List, [], ◌∷◌, ℕ, All, arith}
+use Rattle.std.proofs.Common.{◌≡◌, ◌<◌, ◌∙◌, ◌++◌, sym, ap, subst, length, get_or, [], ◌∷◌, All, arith}
 use Rattle.std.proofs.lemmas.List.{length-map}
 use Rattle.std.proofs.lemmas.List.Elements.{All-nil, All-cons}
 use Rattle.ff_poly.specs.Popov.{rows_of, row_at, IsRow}
-use Rattle.ff_algebra.specs.Values.{PresValue}
 use Rattle.ff_popov.proofs.Entries.{any_default}
 use Rattle.ff_lattice.specs.Lattices.{IsLattice}
 use Rattle.ff_lattice.specs.Colons.{one_row}
@@ -99,5 +98,5 @@ returns-clause-inside g c =
     let row_size = (pre.rows_in 0 [] (omega (arith, pre.popov.size))).size in
     let h_is = c.in_ok-h.ensures ∙ c.index-2.ensures ∙ ap (λ row. get_or row 0 c.index-2.result.now) read ∙ any_default (row_at basis 0) 0 c.index-2.result.now [] (omega (arith, row_size)) in
     λ p n_is.
-        polynomial_inside k p b (subst (λ n. 0 < n) (sym n_is) c.requires.positive) (subst (λ n. IsLattice k.ops n b) (sym n_is) c.requires.b_form) basis
-        (subst (λ n. IsPreimage k.ops 1 n (one_row n b.den ∷ []) b.rows basis) (sym n_is) pre) c.in_ok-h.h h_is
+    polynomial_inside k p b (subst (λ n. 0 < n) (sym n_is) c.requires.positive) (subst (λ n. IsLattice k.ops n b) (sym n_is) c.requires.b_form) basis
+    (subst (λ n. IsPreimage k.ops 1 n (one_row n b.den ∷ []) b.rows basis) (sym n_is) pre) c.in_ok-h.h h_is

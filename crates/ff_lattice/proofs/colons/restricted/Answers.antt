@@ -90,8 +90,8 @@ returns-clause-members g c =
     (subst (λ xs. IsSpannedBy k p.n (elems_over xs c.den.result.now) r) made_is
     (subst (λ n. IsSpannedBy k n (elems_over (rows_of c.in_ok-rows.rows.items) c.den.result.now) r) c.n-2.ensures.n spanned)) in
     λ z.
-        let m = spanned_n.members p refl z in
-        let s = kept_iff k p l a w basis c.n.ensures.range.positive c.requires.l_form c.requires.a_form c.in_ok-basis.ensures z in (
-          λ h. s.0 (m.0 h),
-          λ h. m.1 (s.1 h),
-        )
+    let m = spanned_n.members p refl z in
+    let s = kept_iff k p l a w basis c.n.ensures.range.positive c.requires.l_form c.requires.a_form c.in_ok-basis.ensures z in (
+      λ h. s.0 (m.0 h),
+      λ h. m.1 (s.1 h),
+    )

@@ -1,4 +1,4 @@
-use Rattle.std.proofs.Common.{◌<◌, ◌≤◌, ◌∙◌, length, subst, sym, ap, arith, All, ◌↔◌}
+use Rattle.std.proofs.Common.{◌<◌, ◌≤◌, length, subst, arith, All, ◌↔◌}
 use Rattle.std.proofs.lemmas.List.{take_all}
 use Rattle.ff_algebra.specs.Values.{Functions, functions, function_of}
 use Rattle.ff_lattice.specs.Lattices.{row_elems, Contains}
