@@ -22,3 +22,8 @@ pub mod RowLists
 pub mod SumsAndProducts
 pub mod Results
 pub mod ScaledSets
+pub mod RowCombinations
+pub mod Restrictions
+pub mod RowSums
+pub mod ColonSets
+pub mod Kept

@@ -45,7 +45,7 @@ module _ {k : CodeField} (c : Equation k) where
     frac_zero : frac M.𝟎 ≡ F.𝟘
     frac_zero = ap frac (row_module_zero (code_ring k) c.lower_degree) ∙ over_zero c e some
 
-    frac_add : (u v : Row (Polynomial k) (suc c.lower_degree)) → F.◌⊕◌ (frac u) (frac v) ≡ frac (M.◌⊞◌ u v)
+    pub frac_add : (u v : Row (Polynomial k) (suc c.lower_degree)) → F.◌⊕◌ (frac u) (frac v) ≡ frac (M.◌⊞◌ u v)
     frac_add u v = over_add c u v e some ∙ ap frac (sym (row_module_add (code_ring k) c.lower_degree u v))
 
     pub frac_scale : (a : Polynomial k) (v : Row (Polynomial k) (suc c.lower_degree)) → F.◌⊗◌ (of_poly c a) (frac v) ≡ frac (M.◌·◌ a v)

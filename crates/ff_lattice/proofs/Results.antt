@@ -10,3 +10,8 @@ pub members_through : {E : Type 0} (k : CodeField) (p : PresValue) (r : Result L
     → IfOk r (λ l. (z : Functions k p) → Contains k p l z ↔ A z) → IfOk r (λ l. (z : Functions k p) → Contains k p l z ↔ B z)
 members_through k p (Ok l) same h = λ z. (λ x. (same z).0 ((h z).0 x), λ y. (h z).1 ((same z).1 y))
 members_through k p (Err e) same h = h
+
+-- what follows from the promise on an answer
+pub ok_through : {X E : Type 0} (r : Result X E) {P Q : X → Type 0} → ((x : X) → P x → Q x) → IfOk r P → IfOk r Q
+ok_through (Ok x) f h = f x h
+ok_through (Err e) f h = h

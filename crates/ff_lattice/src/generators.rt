@@ -67,7 +67,7 @@ fn common_multiple<K: SmallField>(
 }
 
 /// A monic polynomial that each denominator divides.
-fn common_denominator<K: SmallField>(
+pub(crate) fn common_denominator<K: SmallField>(
     alloc: Global,
     k: &K,
     gens: &[Elem],
@@ -86,7 +86,7 @@ fn common_denominator<K: SmallField>(
 }
 
 /// The numerators over a polynomial that each denominator divides.
-fn numerators<K: SmallField>(
+pub(crate) fn numerators<K: SmallField>(
     alloc: Global,
     k: &K,
     gens: &[Elem],

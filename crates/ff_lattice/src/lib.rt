@@ -1,6 +1,7 @@
 //! Lattices in F = k(x)[y]/(f): modules over k[x] of full rank, by their Popov bases.
 #![tactic(auto)]
 
+pub mod colons;
 mod degrees;
 mod denominators;
 pub mod generators;

@@ -70,7 +70,7 @@ pub fn sum<K: SmallField>(
 }
 
 /// Appends the products of z and the rows of the lattice.
-fn push_products<K: SmallField>(
+pub(crate) fn push_products<K: SmallField>(
     alloc: Global,
     k: &K,
     p: &Pres,

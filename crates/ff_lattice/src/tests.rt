@@ -6,6 +6,7 @@ ghost use Rattle.ff_fields.specs.Over.{IsOver};
 ghost use Rattle.ff_algebra.specs.Values.{IsElem, IsPresOver};
 ghost use Rattle.ff_lattice.specs.Lattices.{IsLattice};
 
+use crate::colons::colon;
 use crate::multiples::scale;
 use crate::operations::{product, sum};
 use crate::sets::{contains, same_lattice};
@@ -172,6 +173,24 @@ fn known_product<K: SmallField>(
     Ok(same(k, &both, &times_x(alloc, k, &whole(alloc, k, p)?)?))
 }
 
+// Are the functions that take x and 1 + y into the lattice of 1 and y the combinations of 1 and (6 + y)/x?
+fn known_colon<K: SmallField>(alloc: Global, k: &K, p: &Pres) -> Result<bool, LatticeFault>
+    requires size { 6 < (K.field k.now).size }
+    requires degree { p.now.n ≡ 2 }
+    requires p_in { IsPresOver (K.field k.now).ops p.now }
+{
+    let found = colon(alloc, k, p, &whole(alloc, k, p)?, &at(alloc, k, p, 1)?)?;
+    Ok(same(k, &times_x(alloc, k, &found)?, &at(alloc, k, p, 6)?))
+}
+
+// The colon over y^2 + 6·x^3 + 6.
+fn separable_colon<K: SmallField>(alloc: Global, k: &K) -> Result<bool, LatticeFault>
+    requires { 6 < (K.field k.now).size }
+{
+    let p = curve(alloc, k, 6, 0, 6)?;
+    known_colon(alloc, k, &p)
+}
+
 // Are the lattices of x, 1 + y and of x, 6 + y the same?
 fn one_at_both<K: SmallField>(alloc: Global, k: &K) -> Result<bool, LatticeFault>
     requires { 6 < (K.field k.now).size }
@@ -289,5 +308,12 @@ fn rows(rt: HostRuntime) -> Result<(), Fail> {
 fn characteristic_two(rt: HostRuntime) -> Result<(), Fail> {
     let k = PrimeField::new(2)?;
     assert!(rt; inseparable(rt.alloc(), &k)?);
+    Ok(())
+}
+
+#[test]
+fn colons(rt: HostRuntime) -> Result<(), Fail> {
+    let k = PrimeField::new(7)?;
+    assert!(rt; separable_colon(rt.alloc(), &k)?);
     Ok(())
 }
