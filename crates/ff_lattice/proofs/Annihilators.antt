@@ -12,7 +12,8 @@ use Rattle.ff_poly.specs.Words.{IsPoly, IsMonic, IsQuotient, Divides, product_of
 use Rattle.ff_poly.specs.PolyOver.{IsOver_product_of}
 use Rattle.ff_poly.specs.Value.{value, value_product, value_sum}
 use Rattle.ff_poly.specs.Polynomials.{Polynomial, polynomials, codes_of, IsOver_codes_of, IsPoly_codes_of, value_codes_of, value_one}
-use Rattle.ff_poly.specs.Popov.{row_at, entry_at, IsRow, IsPopov, InSpan, combination}
+use Rattle.ff_poly.specs.Popov.{rows_of, row_at, entry_at, IsRow, IsPopov, InSpan, combination}
+use Rattle.std.specs.Global.{Vec}
 use Rattle.ff_poly.proofs.Parts.{IsPoly_product_of, IsMonic_product, top_of_monic}
 use Rattle.ff_popov.proofs.Entries.{any_default}
 use Rattle.ff_lattice.specs.Lattices.{IsMultiplier}
@@ -243,3 +244,12 @@ module _ (k : CodeField) where
             quotient = value k u;
             is = sym (ap (λ x. (polynomials k).◌⊗◌ x (value k u)) (value_one k) ∙ one_mul (polynomials k).ring (value k u));
           })
+
+  -- the preimage that the code asks for
+  pub single_preimage : (w e : List ℕ) (m ls : List (Vec (List ℕ))) (basis : List (List (List ℕ))) → rows_of m ≡ (w ∷ []) ∷ [] → rows_of ls ≡ (e ∷ []) ∷ [] → IsPreimage k.ops (length m) 1 (rows_of m) (rows_of ls) basis
+      → IsPreimage k.ops 1 1 ((w ∷ []) ∷ []) ((e ∷ []) ∷ []) basis
+  single_preimage w e m ls basis m_is ls_is p =
+      let size : length m ≡ 1 = sym (length-map m (λ (v : Vec (List ℕ)). v.items)) ∙ ap length m_is in
+      subst (λ n. IsPreimage k.ops n 1 ((w ∷ []) ∷ []) ((e ∷ []) ∷ []) basis) size
+      (subst (λ xs. IsPreimage k.ops (length m) 1 xs ((e ∷ []) ∷ []) basis) m_is
+      (subst (λ ys. IsPreimage k.ops (length m) 1 (rows_of m) ys basis) ls_is p))

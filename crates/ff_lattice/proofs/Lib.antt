@@ -10,3 +10,13 @@ pub mod Preimages
 pub mod Pushes
 pub mod Divisors
 pub mod Annihilators
+pub mod Quotients
+pub mod Normal
+pub mod SpannedSets
+pub mod CommonDenominators
+pub mod RowElems
+pub mod Membership
+pub mod OneForm
+pub mod RowLists
+pub mod SumsAndProducts
+pub mod Results

@@ -1,6 +1,6 @@
 -- Lattices in F = k(x)[y]/(f): what a value of rows over a denominator stands for, and the form that each lattice has
 -- (Hess, Computing Riemann-Roch spaces in algebraic function fields; Kailath, Linear Systems, for Popov forms).
-use Rattle.std.specs.Prelude.{◌≡◌, ℕ, ◌≤◌, List, [], length, map, All}
+use Rattle.std.specs.Prelude.{◌≡◌, ℕ, ◌≤◌, ◌↔◌, List, [], length, map, All}
 use Rattle.ff_ring.specs.Subsets.{Span}
 use Rattle.ff_fields.specs.Field.{FieldOps, CodeField}
 use Rattle.ff_fields.specs.Over.{IsOver}
@@ -61,3 +61,23 @@ module _ (k : CodeField) (p : PresValue) where
   -- the rank is n: each function has a multiple in the set
   pub record IsFull (L : Functions k p → Type 0) : Type 0 where
     pub multiple : (z : Functions k p) → HasMultipleIn L z
+
+-- the lattice contains the combinations of these elements, over each presentation of degree n
+pub record IsSpannedBy (k : CodeField) (n : ℕ) (zs : List ElemValue) (l : LatticeValue) : Type 0 where
+  pub members : (p : PresValue) → p.n ≡ n → (z : Functions k p) → Contains k p l z ↔ InSpanOf k p zs z
+
+-- z is the sum of a member of each set
+pub record IsSumOf (k : CodeField) (p : PresValue) (A B : Functions k p → Type 0) (z : Functions k p) : Type 0 where
+  pub left : Functions k p
+  pub left_in : A left
+  pub right : Functions k p
+  pub right_in : B right
+  pub is : z ≡ (functions k p).◌⊕◌ left right
+
+-- den·z is num·w for a member w of the set, so that z is num/den times w
+pub record IsScaled (k : CodeField) (p : PresValue) (num den : List ℕ) (A : Functions k p → Type 0) (z : Functions k p) : Type 0 where
+  pub member : Functions k p
+  pub member_in : A member
+  pub is :
+    (functions k p).◌⊗◌ (of_poly (equation_of k p) (value k den)) z
+    ≡ (functions k p).◌⊗◌ (of_poly (equation_of k p) (value k num)) member

@@ -1,9 +1,10 @@
 -- The words of the private contracts.
-use Rattle.std.specs.Prelude.{◌≡◌, ℕ, ◌+◌, ◌<◌, ◌≤◌, ◌↔◌, List, [], ◌∷◌, ◌++◌, length, map, replicate, take, slice_set, All}
+use Rattle.std.specs.Prelude.{◌≡◌, ℕ, ◌+◌, ◌<◌, ◌≤◌, ◌↔◌, List, [], ◌∷◌, ◌++◌, length, get_or, map, replicate, take, slice_set, All}
 use Rattle.ff_fields.specs.Field.{FieldOps}
 use Rattle.ff_fields.specs.Over.{IsOver}
 use Rattle.ff_poly.specs.Words.{IsPoly, IsMonic, Divides, product_of, shifted}
 use Rattle.ff_poly.specs.Popov.{entry_at, row_at, IsRow, IsPopov, InSpan, combination, multiple_of_row}
+use Rattle.ff_algebra.specs.Values.{ElemValue}
 use Rattle.ff_lattice.specs.Lattices.{LatticeValue, IsMultiplier}
 
 -- n polynomials of which the one with this number is 1 and the others 0
@@ -84,3 +85,22 @@ pub record IsReducedTo (k : FieldOps) (rows : List (List (List ℕ))) (e : List 
   pub factor_monic : IsMonic factor
   pub den_is : e ≡ product_of k factor l.den
   pub rows_are : map (multiple_of_row k factor) l.rows ≡ rows
+
+-- monic, and a multiple of both
+pub record IsCommonMultiple (k : FieldOps) (e d m : List ℕ) : Type 0 where
+  pub over : IsOver k m
+  pub monic : IsMonic m
+  pub of_first : Divides k e m
+  pub of_second : Divides k d m
+
+-- a row over e is the element
+pub record IsExpansion (k : FieldOps) (e : List ℕ) (z : ElemValue) (row : List (List ℕ)) : Type 0 where
+  pub factor : List ℕ
+  pub factor_in : IsOver k factor
+  pub den_is : e ≡ product_of k z.den factor
+  pub num_is : row ≡ multiple_of_row k factor z.num
+
+-- the rows over e are the elements
+pub record IsExpanded (k : FieldOps) (n : ℕ) (e : List ℕ) (zs : List ElemValue) (rows : List (List (List ℕ))) : Type 0 where
+  pub size : length rows ≡ length zs
+  pub each : (i : ℕ) (d : ElemValue) → i < length zs → IsExpansion k e (get_or zs i d) (row_at rows i)

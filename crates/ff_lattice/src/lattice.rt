@@ -1,9 +1,19 @@
 //! The lattices: rows in Popov form over a denominator.
 
-ghost use Rattle.std.specs.Prelude.{◌≡◌, ◌<◌, ◌≤◌, length, IfOk, slice_get, Some};
-ghost use Rattle.ff_lattice.specs.Lattices.{LatticeValue, IsForm, IsLattice, row_elems};
+ghost use Rattle.std.specs.Prelude.{◌≡◌, ◌≢◌, ◌<◌, ◌≤◌, length, All, IfOk, IfSome, MatchOption, slice_get, Some};
+ghost use Rattle.ff_fields.specs.Over.{IsOver};
+ghost use Rattle.ff_poly.specs.Words.{IsPoly, IsMonic};
+ghost use Rattle.ff_poly.specs.Popov.{rows_of, IsRow, IsPopov, HasFullRank};
+ghost use Rattle.ff_algebra.specs.Values.{IsElem, IsMonicElem};
+ghost use Rattle.ff_lattice.specs.Lattices.{LatticeValue, IsForm, IsLattice, IsSpannedBy, elems_over, row_elems};
+ghost use Rattle.ff_lattice.specs.Steps.{IsReducedTo};
 
+use crate::denominators::{exact_quotient, least_multiplier, quotient_rows};
+use crate::rows::{copy_row, copy_rows};
+use ff_algebra::Elem;
+use ff_fields::field::SmallField;
 use ff_poly::Poly;
+use ff_popov::popov;
 use std::alloc::{AllocError, Global};
 use std::marker::Model;
 
@@ -27,10 +37,91 @@ impl Model for Lattice {
 }
 
 impl Lattice {
-    /// The number of rows.
+    /// The number of rows, which is the degree in y.
     pub fn len(&self) -> usize
         ensures { result ≡ length self.now.rows }
     {
         self.rows.len()
+    }
+
+    /// The rows of numerators, in Popov form.
+    pub fn rows(&self) -> &[Vec<Poly>]
+        ensures rows { rows_of result.now ≡ self.now.rows }
+        ensures form { IsForm self.now }
+    {
+        self.rows.as_slice()
+    }
+
+    /// The denominator, which is monic.
+    pub fn den(&self) -> &Poly
+        ensures den { result.now ≡ self.now.den }
+        ensures form { IsForm self.now }
+    {
+        &self.den
+    }
+
+    /// Row i over the denominator, counted from 0.
+    pub fn row<K: SmallField>(&self, alloc: Global, k: &K, i: usize) -> Result<Elem, AllocError>
+        requires in_rows { i < length self.now.rows }
+        requires form { IsLattice (K.field k.now).ops (length self.now.rows) self.now }
+        ensures row { IfOk result (λ z. slice_get (row_elems self.now) i ≡ Some z) }
+        ensures in_range { IfOk result (IsElem (K.field k.now).ops (length self.now.rows)) }
+        ensures monic { IfOk result IsMonicElem }
+    {
+        let num = copy_row(alloc, &self.rows[i])?;
+        let den = self.den.copy(alloc)?;
+        Ok(Elem::new(k, num, den))
+    }
+
+    /// An equal lattice, in memory of its own.
+    pub fn copy(&self, alloc: Global) -> Result<Lattice, AllocError>
+        ensures { IfOk result (λ l. l ≡ self.now) }
+    {
+        let rows = copy_rows(alloc, &self.rows)?;
+        let den = self.den.copy(alloc)?;
+        Ok(Lattice { rows, den })
+    }
+}
+
+/// The lattice of n rows in Popov form over a monic polynomial. Its time is that of `least_multiplier`.
+pub(crate) fn normalized<K: SmallField>(
+    alloc: Global,
+    k: &K,
+    rows: &[Vec<Poly>],
+    n: usize,
+    e: &Poly,
+) -> Result<Lattice, AllocError>
+    requires rows_in { All (IsRow (K.field k.now).ops n) (rows_of rows.now) }
+    requires popov { IsPopov n (rows_of rows.now) }
+    requires e_in { IsOver (K.field k.now).ops e.now }
+    requires e_monic { IsMonic e.now }
+    ensures form { IfOk result (IsLattice (K.field k.now).ops n) }
+    ensures reduced { IfOk result (IsReducedTo (K.field k.now).ops (rows_of rows.now) e.now) }
+{
+    let den = least_multiplier(alloc, k, rows, n, e)?;
+    let factor = exact_quotient(alloc, k, e, &den)?;
+    let rows = quotient_rows(alloc, k, &factor, rows, n)?;
+    Ok(Lattice { rows, den })
+}
+
+/// The lattice of the rows over a monic polynomial; None exactly where their rank is below n.
+pub(crate) fn from_rows<K: SmallField>(
+    alloc: Global,
+    k: &K,
+    rows: Vec<Vec<Poly>>,
+    n: usize,
+    e: &Poly,
+) -> Result<Option<Lattice>, AllocError>
+    requires positive { 0 < n }
+    requires rows_in { All (IsRow (K.field k.now).ops n) (rows_of rows.items) }
+    requires rows_poly { All (All IsPoly) (rows_of rows.items) }
+    requires e_in { IsOver (K.field k.now).ops e.now }
+    requires e_monic { IsMonic e.now }
+    ensures form { IfOk result (λ found. MatchOption found (¬ HasFullRank (K.field k.now).ops n (rows_of rows.items)) (IsLattice (K.field k.now).ops n)) }
+    ensures members { IfOk result (λ found. IfSome found (IsSpannedBy (K.field k.now) n (elems_over (rows_of rows.items) e.now))) }
+{
+    match popov(alloc, k, rows, n)? {
+        None => Ok(None),
+        Some(basis) => Ok(Some(normalized(alloc, k, &basis, n, e)?)),
     }
 }

@@ -1,8 +1,13 @@
 //! Lattices in F = k(x)[y]/(f): modules over k[x] of full rank, by their Popov bases.
 #![tactic(auto)]
 
+mod denominators;
+pub mod generators;
 pub mod lattice;
+pub mod operations;
 mod preimage;
 mod rows;
+pub mod sets;
 
+pub use generators::LatticeFault;
 pub use lattice::Lattice;

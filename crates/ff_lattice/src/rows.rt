@@ -2,7 +2,7 @@
 
 ghost use Rattle.std.specs.Prelude.{◌≡◌, ◌<◌, [], map, replicate, All, IfOk};
 ghost use Rattle.ff_fields.specs.Over.{IsOver};
-ghost use Rattle.ff_poly.specs.Popov.{rows_of, multiple_of_row};
+ghost use Rattle.ff_poly.specs.Popov.{rows_of, IsRow, multiple_of_row};
 ghost use Rattle.ff_lattice.specs.Steps.{unit_row};
 
 use ff_fields::field::SmallField;
@@ -68,4 +68,23 @@ pub(crate) fn multiple_row<K: SmallField>(
         product.push(poly::mul(alloc, k, c, entry)?)?;
     }
     Ok(product)
+}
+
+/// c times each row.
+pub(crate) fn multiple_rows<K: SmallField>(
+    alloc: Global,
+    k: &K,
+    c: &Poly,
+    rows: &[Vec<Poly>],
+    n: usize,
+) -> Result<Vec<Vec<Poly>>, AllocError>
+    requires c_in { IsOver (K.field k.now).ops c.now }
+    requires rows_in { All (IsRow (K.field k.now).ops n) (rows_of rows.now) }
+    ensures { IfOk result (λ products. rows_of products.items ≡ map (multiple_of_row (K.field k.now).ops c.now) (rows_of rows.now)) }
+{
+    let mut products = Vec::new(alloc);
+    for row in rows {
+        products.push(multiple_row(alloc, k, c, row)?)?;
+    }
+    Ok(products)
 }
