@@ -6,3 +6,14 @@ pub mod VectorAlgebra
 pub mod RowSteps
 pub mod PowerLaws
 pub mod SpaceLaws
+pub mod Bases
+pub mod FieldLaws
+pub mod PowerRows
+pub mod RootSteps
+pub mod PowerSpans
+pub mod Pigeonhole
+pub mod PolynomialValues
+pub mod SplitLaws
+pub mod Splittings
+pub mod SplitSteps
+pub mod RefineSteps

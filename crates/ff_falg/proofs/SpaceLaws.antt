@@ -156,9 +156,11 @@ module _ (k : CodeField) (A : AlgebraOps) (law : IsAlgebra k A) where
       → IsEchelonBasis k.ops A.size (IsFixed k.ops A) m
   fixed_space f a m h less kernel =
       kernel_space k A.size a m (IsFixed k.ops A) shape kernel
-      (λ v v_in e. record { is =
-          ap (λ y. y.0) (eq_of_sub (vector_ring k A law) (power k.ops A v k.size, power_in k A law v k.size v_in) (v, v_in)
-          (same_vector k A.size _ _ (sym (values v v_in) ∙ e))) })
+      (λ v v_in e. record {
+        is =
+            ap (λ y. y.0) (eq_of_sub (vector_ring k A law) (power k.ops A v k.size, power_in k A law v k.size v_in) (v, v_in)
+            (same_vector k A.size _ _ (sym (values v v_in) ∙ e)));
+      })
       (λ v v_in s.
       values v v_in
       ∙ ap (λ y. y.0) (sub_of_eq (vector_ring k A law) (power k.ops A v k.size, power_in k A law v k.size v_in) (v, v_in)

@@ -1,3 +1,8 @@
 pub mod Algebras
 pub mod Spaces
 pub mod Steps
+pub mod Relations
+pub mod Roots
+pub mod Idempotents
+pub mod Splits
+pub mod Samples

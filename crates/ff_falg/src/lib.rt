@@ -2,10 +2,19 @@
 #![tactic(auto)]
 
 pub mod algebra;
+pub mod decisions;
+pub mod parts;
 pub mod powers;
+mod relations;
+mod roots;
 mod rows;
 pub mod spaces;
 
 pub use algebra::FiniteAlgebra;
+pub use decisions::is_field;
+pub use parts::idempotents;
 pub use powers::frobenius;
 pub use spaces::{fixed, nilpotents};
+
+#[cfg(test)]
+mod tests;

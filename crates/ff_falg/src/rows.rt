@@ -39,7 +39,7 @@ pub(crate) fn add_multiple<K: SmallField>(k: &K, sum: &mut [u32], c: u32, codes:
 }
 
 /// n zeros.
-fn zeros(alloc: Global, n: usize) -> Result<Vec<u32>, AllocError>
+pub(crate) fn zeros(alloc: Global, n: usize) -> Result<Vec<u32>, AllocError>
     ensures { IfOk result (λ v. v.items ≡ replicate n 0) }
 {
     vec![in alloc; 0; n]

@@ -33,7 +33,7 @@ fn high_iterate<K: SmallField, A: FiniteAlgebra<K>>(
 }
 
 /// Takes the unit matrix from a square one.
-fn take_unit<K: SmallField>(k: &K, m: &mut Matrix)
+pub(crate) fn take_unit<K: SmallField>(k: &K, m: &mut Matrix)
     requires over { IsMatrixOver (K.field k.now).ops m.old }
     requires shape { HasShape m.old m.old.cols m.old.cols }
     ensures { IsLessUnit (K.field k.now).ops m.old m.old.cols m.new }

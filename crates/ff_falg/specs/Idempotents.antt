@@ -1,0 +1,41 @@
+-- The primitive idempotents of an algebra, as a list (Lang, Algebra).
+use Rattle.std.specs.Prelude.{◌≡◌, ◌≢◌, ℕ, suc, ◌<◌, ◌⊎◌, ◌↔◌, List, [], ◌∷◌, length, get_or, map}
+use Rattle.std.specs.Global.{Vec}
+use Rattle.ff_ring.specs.Lists.{add_lists}
+use Rattle.ff_ring.proofs.Finite.{In}
+use Rattle.ff_fields.specs.Field.{FieldOps}
+use Rattle.ff_fields.specs.Code.{raw_ring}
+use Rattle.ff_falg.specs.Algebras.{AlgebraOps, IsIdempotent, IsPrimitive, zero_of}
+
+-- the elements that vectors of codes hold
+abbrev pub elements_of : List (Vec ℕ) → List (List ℕ)
+elements_of vectors = map (λ v. v.items) vectors
+
+-- lists of codes in their order: compared from the first entry
+abbrev pub IsBefore : List ℕ → List ℕ → Type 0
+IsBefore [] [] = ⊥
+IsBefore [] (y ∷ ys) = Unit {0}
+IsBefore (x ∷ xs) [] = ⊥
+IsBefore (x ∷ xs) (y ∷ ys) = (x < y) ⊎ ((x ≡ y) × IsBefore xs ys)
+
+-- each member stands before the next in that order
+pub record IsAscending (es : List (List ℕ)) : Type 0 where
+  pub next : (i : ℕ) → suc i < length es → IsBefore (get_or es i []) (get_or es (suc i) [])
+
+-- some of the members of a list, in their order there
+abbrev pub IsPart : List (List ℕ) → List (List ℕ) → Type 0
+IsPart fs [] = fs ≡ []
+IsPart fs (e ∷ es) = IsPart fs es ⊎ ((gs : List (List ℕ)) × (fs ≡ e ∷ gs) × IsPart gs es)
+
+-- the sum of the members of a list
+abbrev pub sum_of : FieldOps → AlgebraOps → List (List ℕ) → List ℕ
+sum_of k A [] = zero_of A
+sum_of k A (e ∷ es) = add_lists (raw_ring k) e (sum_of k A es)
+
+-- all primitive idempotents, in ascending order: products of two are 0, their sum is 1, and each idempotent is the sum of some
+pub record IsPrimitiveList (k : FieldOps) (A : AlgebraOps) (es : List (List ℕ)) : Type 0 where
+  pub members : (e : List ℕ) → In e es ↔ IsPrimitive k A e
+  pub ascending : IsAscending es
+  pub product : (e f : List ℕ) → In e es → In f es → e ≢ f → A.product k e f ≡ zero_of A
+  pub sum : sum_of k A es ≡ A.unit
+  pub idempotents : (f : List ℕ) → IsIdempotent k A f → (fs : List (List ℕ)) × IsPart fs es × (f ≡ sum_of k A fs)
