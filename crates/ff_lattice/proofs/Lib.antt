@@ -19,4 +19,6 @@ pub mod Membership
 pub mod OneForm
 pub mod RowLists
 pub mod SumsAndProducts
+pub mod OrderRows
+pub mod Ones
 pub mod Results

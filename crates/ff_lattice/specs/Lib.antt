@@ -1,2 +1,3 @@
 pub mod Lattices
+pub mod Orders
 pub mod Steps

@@ -5,9 +5,11 @@ mod denominators;
 pub mod generators;
 pub mod lattice;
 pub mod operations;
+pub mod order;
 mod preimage;
 mod rows;
 pub mod sets;
 
 pub use generators::LatticeFault;
 pub use lattice::Lattice;
+pub use order::Order;
