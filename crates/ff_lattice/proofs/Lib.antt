@@ -21,4 +21,6 @@ pub mod RowLists
 pub mod SumsAndProducts
 pub mod OrderRows
 pub mod Ones
+pub mod PlaceCodes
+pub mod PlaceClasses
 pub mod Results

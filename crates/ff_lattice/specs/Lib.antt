@@ -1,3 +1,4 @@
 pub mod Lattices
 pub mod Orders
+pub mod PlaceLists
 pub mod Steps

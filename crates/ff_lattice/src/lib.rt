@@ -7,6 +7,7 @@ pub mod lattice;
 pub mod operations;
 pub mod order;
 mod preimage;
+mod quotient;
 mod rows;
 pub mod sets;
 
