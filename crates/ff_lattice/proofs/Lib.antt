@@ -21,6 +21,8 @@ pub mod RowLists
 pub mod SumsAndProducts
 pub mod OrderRows
 pub mod Ones
+pub mod ClassAlgebras
 pub mod PlaceCodes
 pub mod PlaceClasses
+pub mod CodeSums
 pub mod Results
