@@ -154,20 +154,28 @@ module _ (n : ℕ) (positive : 0 < n) (W J : List (List (List ℕ))) where
         go (inr more) = omega (arith, more, deep (e % n) (mod_below e n positive))
 
     pub count_past : (m : ℕ) → code_count n W J (depth * n + m) ≡ code_count n W J (depth * n)
-    count_past zero = refl
-    count_past (suc m) = go (true_or_false (is_outside n W J (depth * n + m)))
+    count_past zero =
+        let z : depth * n + 0 ≡ depth * n = omega arith in
+        ap (code_count n W J) z
+    count_past (suc m) =
+        let z : depth * n + suc m ≡ suc (depth * n + m) = omega arith in
+        ap (code_count n W J) z ∙ go (true_or_false (is_outside n W J (depth * n + m))) (count_past m)
       where
-        go : (is_outside n W J (depth * n + m) ≡ true) ⊎ (is_outside n W J (depth * n + m) ≡ false) → code_count n W J (depth * n + suc m) ≡ code_count n W J (depth * n)
-        go (inl o) = count_outside n W J (depth * n + m) o ∙ count_past m
-        go (inr o) = count_ideal n W J (depth * n + m) o (not_kept (depth * n + m) (omega arith)) ∙ count_past m
+        go : (is_outside n W J (depth * n + m) ≡ true) ⊎ (is_outside n W J (depth * n + m) ≡ false) → code_count n W J (depth * n + m) ≡ code_count n W J (depth * n) → code_count n W J (suc (depth * n + m)) ≡ code_count n W J (depth * n)
+        go (inl o) h = count_outside n W J (depth * n + m) o ∙ h
+        go (inr o) h = count_ideal n W J (depth * n + m) o (not_kept (depth * n + m) (omega arith)) ∙ h
 
     pub sum_past : {V : Type 0} (add : V → V → V) (null : V) (t : ℕ → ℕ → ℕ → V) (m : ℕ) (a : List ℕ) → sum_of_codes n W J add null t (depth * n + m) a ≡ sum_of_codes n W J add null t (depth * n) a
-    sum_past add null t zero a = refl
-    sum_past add null t (suc m) a = go (true_or_false (is_outside n W J (depth * n + m)))
+    sum_past add null t zero a =
+        let z : depth * n + 0 ≡ depth * n = omega arith in
+        ap (λ e. sum_of_codes n W J add null t e a) z
+    sum_past add null t (suc m) a =
+        let z : depth * n + suc m ≡ suc (depth * n + m) = omega arith in
+        ap (λ e. sum_of_codes n W J add null t e a) z ∙ go (true_or_false (is_outside n W J (depth * n + m))) (sum_past add null t m a)
       where
-        go : (is_outside n W J (depth * n + m) ≡ true) ⊎ (is_outside n W J (depth * n + m) ≡ false) → sum_of_codes n W J add null t (depth * n + suc m) a ≡ sum_of_codes n W J add null t (depth * n) a
-        go (inl o) = sum_outside n W J add null t (depth * n + m) a o ∙ sum_past add null t m a
-        go (inr o) = sum_ideal n W J add null t (depth * n + m) a o (not_kept (depth * n + m) (omega arith)) ∙ sum_past add null t m a
+        go : (is_outside n W J (depth * n + m) ≡ true) ⊎ (is_outside n W J (depth * n + m) ≡ false) → sum_of_codes n W J add null t (depth * n + m) a ≡ sum_of_codes n W J add null t (depth * n) a → sum_of_codes n W J add null t (suc (depth * n + m)) a ≡ sum_of_codes n W J add null t (depth * n) a
+        go (inl o) h = sum_outside n W J add null t (depth * n + m) a o ∙ h
+        go (inr o) h = sum_ideal n W J add null t (depth * n + m) a o (not_kept (depth * n + m) (omega arith)) ∙ h
 
 -- the row that the code makes
 module _ (k : CodeField) (n : ℕ) (positive : 0 < n) (W J rows : List (List (List ℕ))) (rows_in : (j : ℕ) → j < n → IsRow k.ops n (row_at rows j)) where
@@ -177,8 +185,11 @@ module _ (k : CodeField) (n : ℕ) (positive : 0 < n) (W J rows : List (List (Li
   abbrev R : List (List ℕ) → Row (Pol (code_ring k)) (suc (n - 1))
   R v = read_row k (suc (n - 1)) v
 
+  abbrev pub spread_code : ℕ → ℕ → ℕ → Row (Pol (code_ring k)) (suc (n - 1))
+  spread_code c s j = M.◌·◌ (value k (term c s)) (R (row_at rows j))
+
   abbrev pub spread_sum : ℕ → List ℕ → Row (Pol (code_ring k)) (suc (n - 1))
-  spread_sum e a = sum_of_codes n W J M.◌⊞◌ M.𝟎 (λ c s j. M.◌·◌ (value k (term c s)) (R (row_at rows j))) e a
+  spread_sum e a = sum_of_codes n W J M.◌⊞◌ M.𝟎 spread_code e a
 
   first_below : (a : List ℕ) → IsOver k.ops a → get_or a 0 0 < k.size
   first_below [] a_in = zero_in k
@@ -189,9 +200,6 @@ module _ (k : CodeField) (n : ℕ) (positive : 0 < n) (W J rows : List (List (Li
   spread_is zero a row a_in row_in = (row_in, sym (v_add_zero M (R row)))
   spread_is (suc e) a row a_in row_in = go (true_or_false (is_outside n W J e)) (true_or_false (is_kept n W J e)) (spread_is e)
     where
-      T : ℕ → List ℕ → List (List ℕ) → List (List ℕ) → Type 0
-      T e a row made = IsRow k.ops n made × (R made ≡ M.◌⊞◌ (R row) (spread_sum e a))
-
       go : (is_outside n W J e ≡ true) ⊎ (is_outside n W J e ≡ false) → (is_kept n W J e ≡ true) ⊎ (is_kept n W J e ≡ false)
           → ((a : List ℕ) (row : List (List ℕ)) → IsOver k.ops a → IsRow k.ops n row → IsRow k.ops n (spread_onto n W J k.ops rows e a row) × (R (spread_onto n W J k.ops rows e a row) ≡ M.◌⊞◌ (R row) (spread_sum e a)))
           → IsRow k.ops n (spread_onto n W J k.ops rows (suc e) a row) × (R (spread_onto n W J k.ops rows (suc e) a row) ≡ M.◌⊞◌ (R row) (spread_sum (suc e) a))
@@ -199,20 +207,20 @@ module _ (k : CodeField) (n : ℕ) (positive : 0 < n) (W J rows : List (List (Li
           let h = rec a row a_in row_in in
           let is = cond_true (is_outside n W J e) _ _ o in (
             subst (IsRow k.ops n) (sym is) h.0,
-            ap R is ∙ h.1 ∙ ap (M.◌⊞◌ (R row)) (sym (sum_outside n W J M.◌⊞◌ M.𝟎 _ e a o)),
+            ap R is ∙ h.1 ∙ ap (M.◌⊞◌ (R row)) (sym (sum_outside n W J M.◌⊞◌ M.𝟎 spread_code e a o)),
           )
       go (inr o) (inr q) rec =
           let h = rec a row a_in row_in in
           let is = cond_false (is_outside n W J e) _ _ o ∙ cond_false (is_kept n W J e) _ _ q in (
             subst (IsRow k.ops n) (sym is) h.0,
-            ap R is ∙ h.1 ∙ ap (M.◌⊞◌ (R row)) (sym (sum_ideal n W J M.◌⊞◌ M.𝟎 _ e a o q)),
+            ap R is ∙ h.1 ∙ ap (M.◌⊞◌ (R row)) (sym (sum_ideal n W J M.◌⊞◌ M.𝟎 spread_code e a o q)),
           )
       go (inr o) (inl q) rec = (
         subst (IsRow k.ops n) (sym is) h.0,
         ap R is ∙ h.1
         ∙ ap (λ x. M.◌⊞◌ x (spread_sum e (drop 1 a))) less_is
         ∙ v_add_assoc M (R row) (M.◌·◌ (value k (term c s)) (R b)) (spread_sum e (drop 1 a))
-        ∙ ap (M.◌⊞◌ (R row)) (sym (sum_kept n W J M.◌⊞◌ M.𝟎 _ e a o q)),
+        ∙ ap (M.◌⊞◌ (R row)) (sym (sum_kept n W J M.◌⊞◌ M.𝟎 spread_code e a o q)),
       )
         where
           c : ℕ
