@@ -25,4 +25,5 @@ pub mod ClassAlgebras
 pub mod PlaceCodes
 pub mod PlaceClasses
 pub mod CodeSums
+pub mod QuotientLaws
 pub mod Results

@@ -1,4 +1,5 @@
 pub mod Lattices
 pub mod Orders
 pub mod PlaceLists
+pub mod Quotients
 pub mod Steps
