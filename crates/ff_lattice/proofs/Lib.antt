@@ -26,4 +26,5 @@ pub mod PlaceCodes
 pub mod PlaceClasses
 pub mod CodeSums
 pub mod QuotientLaws
+pub mod PlaceSteps
 pub mod Results

@@ -1,10 +1,10 @@
 -- The normal form of a row of an order modulo an ideal, as a list of codes. The coefficient of x^t in column j stands at the
 -- place t·n + j. There is one code for each place at which a row of the order ends and none of the ideal, from the highest
 -- place down (Becker and Weispfenning, Gröbner Bases, on normal forms).
-use Rattle.std.specs.Prelude.{ℕ, zero, suc, ◌+◌, ◌-◌, ◌/◌, ◌%◌, Bool, cond, nat_lt, List, [], ◌∷◌, length, get_or, drop}
+use Rattle.std.specs.Prelude.{◌≡◌, ℕ, zero, suc, ◌+◌, ◌-◌, ◌/◌, ◌%◌, Bool, cond, nat_lt, List, [], ◌∷◌, ◌++◌, length, get_or, drop}
 use Rattle.ff_fields.specs.Field.{FieldOps}
 use Rattle.ff_poly.specs.Terms.{less_multiple}
-use Rattle.ff_poly.specs.Popov.{entry_at, row_at}
+use Rattle.ff_poly.specs.Popov.{entry_at, row_at, IsRow}
 
 -- the length of the pivot in a column
 abbrev pub pivot_length : List (List (List ℕ)) → ℕ → ℕ
@@ -63,3 +63,8 @@ module _ (n : ℕ) (order ideal : List (List (List ℕ))) where
   spread_onto k rows (suc e) a row =
       cond (is_outside e) (spread_onto k rows e a row)
       (cond (is_kept e) (spread_onto k rows e (drop 1 a) (row_less k row (k.neg (get_or a 0 0)) (lift_power order e) (row_at rows (e % n)))) (spread_onto k rows e a row))
+
+-- from one place down to another: the codes that were appended, and the row that is left
+pub record IsReadDown (k : FieldOps) (n : ℕ) (order ideal : List (List (List ℕ))) (high low : ℕ) (row : List (List ℕ)) (codes : List ℕ) (rest : List (List ℕ)) (more : List ℕ) : Type 0 where
+  pub row_in : IsRow k n rest
+  pub codes_are : more ++ codes_below n order ideal k low rest ≡ codes ++ codes_below n order ideal k high row

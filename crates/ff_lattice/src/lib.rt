@@ -6,6 +6,7 @@ pub mod generators;
 pub mod lattice;
 pub mod operations;
 pub mod order;
+mod places;
 mod preimage;
 mod quotient;
 mod rows;
