@@ -9,7 +9,7 @@ use Rattle.ff_poly.specs.Popov.{entry_at, row_at, longest, IsRow, IsPopov}
 use Rattle.ff_popov.proofs.ReadRows.{same_row}
 use Rattle.ff_popov.specs.Rows.{IsRowLess}
 use Rattle.ff_popov.proofs.Transformations.{less_row}
-use Rattle.ff_lattice.specs.PlaceLists.{pivot_length, row_less, is_outside, is_kept, lift_power, code_at, cleared, codes_below, IsReadDown}
+use Rattle.ff_lattice.specs.PlaceLists.{pivot_length, row_less, is_outside, is_kept, lift_power, code_at, cleared, code_count, codes_below, spread_onto, IsReadDown, IsSpreadDown}
 use Rattle.ff_lattice.proofs.PlaceCodes.{cond_true, cond_false, row_less_length, row_less_at, row_less_is, code_below}
 
 -- a row with the entries of a row less a multiple
@@ -26,10 +26,10 @@ module _ (k : FieldOps) (n : ℕ) (W J : List (List (List ℕ))) (t j : ℕ) (le
   abbrev e : ℕ
   e = t * n + j
 
-  high : (t * n + j) / n ≡ t
+  pub high : (t * n + j) / n ≡ t
   high = div-mul-add t n j less
 
-  column : (t * n + j) % n ≡ j
+  pub column : (t * n + j) % n ≡ j
   column = mod-mul-add t n j less
 
   cleared_row_is : (rows : List (List (List ℕ))) (v : List (List ℕ))
@@ -94,3 +94,80 @@ longest_take (a ∷ row) (suc i) less =
     ap (λ m. longest (take m (a ∷ row))) back
     ∙ ap (max (length a)) (longest_take row i (omega (arith, less)))
     ∙ omega arith
+
+module _ (k : FieldOps) (n : ℕ) (W J rows : List (List (List ℕ))) (t j : ℕ) (less : j < n) where
+  -- no code is spread
+  pub spread_outside : (v : List (List ℕ)) (codes : List ℕ) → IsRow k n v → length codes ≡ code_count n W J (suc (t * n + j)) → suc t < pivot_length W j
+      → IsSpreadDown k n W J rows (suc (t * n + j)) (t * n + j) v codes v codes
+  spread_outside v codes v_in size h =
+      let o = outside_at k n W J t j less h in
+      record {
+        row_in = v_in;
+        left_in = size ∙ cond_true (is_outside n W J (t * n + j)) _ _ o;
+        row_is = sym (cond_true (is_outside n W J (t * n + j)) _ _ o);
+      }
+
+  pub spread_ideal : (v : List (List ℕ)) (codes : List ℕ) → IsRow k n v → length codes ≡ code_count n W J (suc (t * n + j)) → pivot_length W j ≤ suc t → pivot_length J j ≤ suc t
+      → IsSpreadDown k n W J rows (suc (t * n + j)) (t * n + j) v codes v codes
+  spread_ideal v codes v_in size h q_le =
+      let o = inside_at k n W J t j less h in
+      let q = ideal_at k n W J t j less q_le in
+      record {
+        row_in = v_in;
+        left_in = size ∙ cond_false (is_outside n W J (t * n + j)) _ _ o ∙ cond_false (is_kept n W J (t * n + j)) _ _ q;
+        row_is = sym (cond_false (is_outside n W J (t * n + j)) _ _ o ∙ cond_false (is_kept n W J (t * n + j)) _ _ q);
+      }
+
+  -- there is a code to spread
+  pub spread_some : (codes : List ℕ) → length codes ≡ code_count n W J (suc (t * n + j)) → pivot_length W j ≤ suc t → suc t < pivot_length J j → length codes ≡ suc (code_count n W J (t * n + j))
+  spread_some codes size h q_less =
+      size ∙ cond_false (is_outside n W J (t * n + j)) _ _ (inside_at k n W J t j less h) ∙ cond_true (is_kept n W J (t * n + j)) _ _ (kept_at k n W J t j less q_less)
+
+  pub spread_kept : (v row : List (List ℕ)) (codes left : List ℕ) → IsRow k n row → length codes ≡ code_count n W J (suc (t * n + j)) → pivot_length W j ≤ suc t → suc t < pivot_length J j
+      → left ≡ drop 1 codes → suc (length left) ≡ length codes → row ≡ row_less k v (k.neg (get_or codes 0 0)) (suc t - pivot_length W j) (row_at rows j)
+      → IsSpreadDown k n W J rows (suc (t * n + j)) (t * n + j) v codes row left
+  spread_kept v row codes left row_in size h q_less left_is left_size row_is =
+      let o = inside_at k n W J t j less h in
+      let q = kept_at k n W J t j less q_less in
+      record {
+        row_in = row_in;
+        left_in = omega (arith, spread_some codes size h q_less, left_size);
+        row_is =
+            ap₂ (spread_onto n W J k rows (t * n + j)) left_is
+            (row_is ∙ sym (ap₂ (λ a b. row_less k v (k.neg (get_or codes 0 0)) (suc a - pivot_length W b) (row_at rows b)) (high k n W J t j less) (column k n W J t j less)))
+            ∙ sym (cond_false (is_outside n W J (t * n + j)) _ _ o ∙ cond_true (is_kept n W J (t * n + j)) _ _ q);
+      }
+
+module _ (k : FieldOps) (n : ℕ) (W J rows : List (List (List ℕ))) where
+  pub spread_on : (a b d : ℕ) (v u x : List (List ℕ)) (xs ys zs : List ℕ) → IsSpreadDown k n W J rows a b v xs u ys → IsSpreadDown k n W J rows b d u ys x zs → IsSpreadDown k n W J rows a d v xs x zs
+  spread_on a b d v u x xs ys zs h g = record { row_in = g.row_in; left_in = g.left_in; row_is = g.row_is ∙ h.row_is }
+
+-- the codes from a place of the list on
+pub drop_at : (xs : List ℕ) (i d : ℕ) → get_or (drop i xs) 0 d ≡ get_or xs i d
+drop_at [] zero d = refl
+drop_at [] (suc i) d = refl
+drop_at (x ∷ xs) zero d = refl
+drop_at (x ∷ xs) (suc i) d = drop_at xs i d
+
+pub drop_next : (xs : List ℕ) (i : ℕ) → drop (i + 1) xs ≡ drop 1 (drop i xs)
+drop_next [] zero = refl
+drop_next [] (suc i) =
+    let back : suc i + 1 ≡ suc (i + 1) = omega arith in
+    ap (λ m. drop m []) back
+drop_next (x ∷ xs) zero = refl
+drop_next (x ∷ xs) (suc i) =
+    let back : suc i + 1 ≡ suc (i + 1) = omega arith in
+    ap (λ m. drop m (x ∷ xs)) back ∙ drop_next xs i
+
+pub drop_size : (xs : List ℕ) (i : ℕ) → i < length xs → suc (length (drop (i + 1) xs)) ≡ length (drop i xs)
+drop_size [] i less = absurd (omega (arith, less))
+drop_size (x ∷ xs) zero less = refl
+drop_size (x ∷ xs) (suc i) less =
+    let back : suc i + 1 ≡ suc (i + 1) = omega arith in
+    ap (λ m. suc (length (drop m (x ∷ xs)))) back ∙ drop_size xs i (omega (arith, less))
+
+pub drop_some : (xs : List ℕ) (i m : ℕ) → length (drop i xs) ≡ suc m → i < length xs
+drop_some [] zero m e = absurd (omega (arith, e))
+drop_some [] (suc i) m e = absurd (omega (arith, e))
+drop_some (x ∷ xs) zero m e = omega arith
+drop_some (x ∷ xs) (suc i) m e = omega (arith, drop_some xs i m e)

@@ -68,3 +68,9 @@ module _ (n : ℕ) (order ideal : List (List (List ℕ))) where
 pub record IsReadDown (k : FieldOps) (n : ℕ) (order ideal : List (List (List ℕ))) (high low : ℕ) (row : List (List ℕ)) (codes : List ℕ) (rest : List (List ℕ)) (more : List ℕ) : Type 0 where
   pub row_in : IsRow k n rest
   pub codes_are : more ++ codes_below n order ideal k low rest ≡ codes ++ codes_below n order ideal k high row
+
+-- from one place down to another: the codes that are left, and the row to which multiples were added
+pub record IsSpreadDown (k : FieldOps) (n : ℕ) (order ideal rows : List (List (List ℕ))) (high low : ℕ) (row : List (List ℕ)) (codes : List ℕ) (more : List (List ℕ)) (left : List ℕ) : Type 0 where
+  pub row_in : IsRow k n more
+  pub left_in : length left ≡ code_count n order ideal low
+  pub row_is : spread_onto n order ideal k rows low left more ≡ spread_onto n order ideal k rows high codes row

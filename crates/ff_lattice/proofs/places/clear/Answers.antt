@@ -22,18 +22,6 @@ subtract-requires-clause-other_in g c =
     let is = read_row_of c.args.rows.now c.args.j c.index-rows-j.result c.deref.result.now in_rows c.index-rows-j.is c.deref.ensures.value in
     subst (IsRow k.ops (length c.args.row.now)) (sym is) (c.requires.rows_in c.args.j [] (omega (arith, c.requires.j_in, c.requires.popov.size)))
 
-pub subtract-requires-clause-fits : goal.subtract-requires-clause-fits
-subtract-requires-clause-fits g c =
-    let k = g.K.SmallField.field c.args.k.now in
-    let in_rows : c.args.j < length c.args.rows.now = omega (arith, c.requires.j_in, c.requires.popov.size, length-map c.args.rows.now (λ x. x.items)) in
-    let is = read_row_of c.args.rows.now c.args.j c.index-rows-j.result c.deref.result.now in_rows c.index-rows-j.is c.deref.ensures.value in
-    λ i.
-        omega (
-          arith,
-          pivot_fits (length c.args.row.now) (rows_of c.args.rows.now) c.args.j c.args.t (c.args.t + 1 - c.pivot_len.result) _ c.requires.popov c.requires.j_in (ap (λ m. c.args.t + 1 - m) c.pivot_len.ensures) c.requires.reaches c.requires.fits i,
-          ap (λ r. length (entry_at r i)) is,
-        )
-
 pub returns : goal.returns
 returns g c =
     let k = g.K.SmallField.field c.args.k.now in

@@ -14,7 +14,7 @@ pub sub_multiple-requires-clause-other_in : goal.sub_multiple-requires-clause-ot
 sub_multiple-requires-clause-other_in g c =
     let k = g.K.SmallField.field c.args.k.now in
     let less : c.loop-i.i < length c.args.other.now = omega (arith, c.requires.other_in.size) in
-    read_default (IsOver k.ops) c.args.other.now c.loop-i.i c.index-other-i.result c.requires.other_in.over less c.index-other-i.is
+    read_default (IsOver k.ops) c.args.other.now c.loop-i.i c.index-other-i-in-loop-i.result c.requires.other_in.over less c.index-other-i-in-loop-i.is
 
 pub returns : goal.returns
 returns g c =
