@@ -27,4 +27,5 @@ pub mod PlaceClasses
 pub mod CodeSums
 pub mod QuotientLaws
 pub mod PlaceSteps
+pub mod OrderElems
 pub mod Results

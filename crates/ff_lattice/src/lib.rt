@@ -8,10 +8,11 @@ pub mod operations;
 pub mod order;
 mod places;
 mod preimage;
-mod quotient;
+pub mod quotient;
 mod rows;
 pub mod sets;
 
 pub use generators::LatticeFault;
 pub use lattice::Lattice;
 pub use order::Order;
+pub use quotient::Quotient;

@@ -1,9 +1,154 @@
-//! Quotients of orders by ideals.
+//! Quotients of orders by ideals, as finite algebras.
 
-ghost use Rattle.std.specs.Prelude.{◌≡◌};
+ghost use Rattle.std.specs.Prelude.{◌≡◌, ◌≤◌, ◌<◌, ◌*◌, [], length, map, replicate, All, IfOk};
+ghost use Rattle.ff_fields.specs.Over.{IsOver};
+ghost use Rattle.ff_poly.specs.Popov.{rows_of, IsRow};
+ghost use Rattle.ff_algebra.specs.Values.{PresValue, Functions, functions, function_of, IsElem, IsMonicElem};
+ghost use Rattle.ff_falg.specs.Algebras.{IsVector};
+ghost use Rattle.ff_lattice.specs.Lattices.{LatticeValue, IsLattice, Contains};
+ghost use Rattle.ff_lattice.specs.Quotients.{QuotientValue, IsQuotient, IsClassOf, IsRowOf, HasClasses, dimension, lifted, quotient_ops, spread};
 
-fn probe() -> usize
-    ensures { result ≡ 0 }
-{
-    0
+use crate::denominators::row_quotient;
+use crate::lattice::Lattice;
+use crate::order::Order;
+use crate::places::{read_codes, spread_codes};
+use crate::rows::multiple_row;
+use ff_algebra::{Elem, Pres};
+use ff_falg::FiniteAlgebra;
+use ff_fields::field::SmallField;
+use ff_poly::Poly;
+use std::alloc::{AllocError, Global};
+use std::marker::Model;
+
+/// An order modulo an ideal, as a finite algebra over the field that it was made over. A class is a list of codes.
+#[derive(Debug, Drop)]
+pub struct Quotient {
+    p: Pres,
+    order: Order,
+    ideal: Lattice,
+    rows: Vec<Vec<Poly>>,
+    depth: usize,
+    products: Vec<Vec<Vec<Poly>>>,
+    one: Vec<u32>,
 }
+
+impl Model for Quotient {
+    ghost use Rattle.std.specs.Prelude.{◌≡◌, length, map};
+    ghost use Rattle.ff_poly.specs.Popov.{rows_of};
+    ghost use Rattle.ff_lattice.specs.Quotients.{QuotientValue, dimension};
+
+    ghost Value = { QuotientValue };
+
+    ghost view = { λ q. record { p = q.p; order = q.order; ideal = q.ideal; rows = rows_of q.rows.items; depth = q.depth; products = map (λ m. rows_of m.items) q.products.items; one = q.one.items } };
+
+    ghost invariant = { λ q. length q.one.items ≡ dimension (record { p = q.p; order = q.order; ideal = q.ideal; rows = rows_of q.rows.items; depth = q.depth; products = map (λ m. rows_of m.items) q.products.items; one = q.one.items }) };
+}
+
+/// The row that stands for z, which is in the lattice, over the lattice's denominator.
+fn row_over<K: SmallField>(
+    alloc: Global,
+    k: &K,
+    p: &Pres,
+    l: &Lattice,
+    z: &Elem,
+) -> Result<Vec<Poly>, AllocError>
+    requires l_form { IsLattice (K.field k.now).ops p.now.n l.now }
+    requires z_in { IsElem (K.field k.now).ops p.now.n z.now }
+    requires member { let k = K.field k.now in Contains k p.now l.now (function_of k p.now z.now) }
+    ensures { let k = K.field k.now in
+        IfOk result (λ row. IsRowOf k p.now l.now (function_of k p.now z.now) row.items) }
+{
+    let v = multiple_row(alloc, k, l.den(), z.num())?;
+    let row = row_quotient(alloc, k, z.den(), &v)?;
+    Ok(row)
+}
+
+impl Quotient {
+    /// The presentation.
+    pub fn p(&self) -> &Pres
+        ensures { result.now ≡ self.now.p }
+    {
+        &self.p
+    }
+
+    /// The order.
+    pub fn order(&self) -> &Order
+        ensures { result.now ≡ self.now.order }
+    {
+        &self.order
+    }
+
+    /// The ideal.
+    pub fn ideal(&self) -> &Lattice
+        ensures { result.now ≡ self.now.ideal }
+    {
+        &self.ideal
+    }
+
+    /// The codes of the class of a member of the order. It takes the time of one row division, and of two subtractions of
+    /// rows for each place of the row.
+    pub fn reduce<K: SmallField>(
+        &self,
+        alloc: Global,
+        k: &K,
+        z: &Elem,
+    ) -> Result<Vec<u32>, AllocError>
+        requires over { IsQuotient (K.field k.now) self.now }
+        requires z_in { IsElem (K.field k.now).ops self.now.p.n z.now }
+        requires member { let k = K.field k.now in Contains k self.now.p self.now.order (function_of k self.now.p z.now) }
+        ensures { let k = K.field k.now in
+            IfOk result (λ a. IsClassOf k self.now (function_of k self.now.p z.now) a.items) }
+    {
+        let l = self.order.lattice();
+        let mut row = row_over(alloc, k, &self.p, l, z)?;
+        let codes = read_codes(alloc, k, &mut row, l.rows(), &self.rows, self.depth)?;
+        Ok(codes)
+    }
+
+    /// The combination of rows by the codes.
+    fn spread<K: SmallField>(
+        &self,
+        alloc: Global,
+        k: &K,
+        rows: &[Vec<Poly>],
+        a: &[u32],
+    ) -> Result<Vec<Poly>, AllocError>
+        requires over { IsQuotient (K.field k.now) self.now }
+        requires rows_in { All (IsRow (K.field k.now).ops self.now.p.n) (rows_of rows.now) }
+        requires rows_size { length rows.now ≡ self.now.p.n }
+        requires a_in { IsVector (K.field k.now).ops (dimension self.now) a.now }
+        ensures { IfOk result (λ v. v.items ≡ spread (K.field k.now).ops self.now (rows_of rows.now) a.now) }
+    {
+        let l = self.order.lattice();
+        let row = spread_codes(alloc, k, l.rows(), &self.rows, self.depth, rows, a)?;
+        Ok(row)
+    }
+
+    /// A member of the order of the class with these codes, of which there are as many as the dimension. It takes the time
+    /// of a subtraction of rows for each code.
+    pub fn lift<K: SmallField>(
+        &self,
+        alloc: Global,
+        k: &K,
+        a: &[u32],
+    ) -> Result<Elem, AllocError>
+        requires over { IsQuotient (K.field k.now) self.now }
+        requires a_in { IsVector (K.field k.now).ops (dimension self.now) a.now }
+        ensures lifted { let k = K.field k.now in
+            IfOk result (λ z. function_of k self.now.p z ≡ function_of k self.now.p (lifted k.ops self.now a.now)) }
+        ensures member { let k = K.field k.now in
+            IfOk result (λ z. Contains k self.now.p self.now.order (function_of k self.now.p z)) }
+        ensures in_range { IfOk result (IsElem (K.field k.now).ops self.now.p.n) }
+    {
+        let l = self.order.lattice();
+        let num = self.spread(alloc, k, l.rows(), a)?;
+        let den = l.den().copy(alloc)?;
+        Ok(Elem::new(k, num, den))
+    }
+}
+
+/// Taking classes keeps sums, products and 1, and takes exactly the ideal to 0; each class has one list of codes.
+pub fn classes_law<K: SmallField>(k: &K, q: &Quotient)
+    requires { IsQuotient (K.field k.now) q.now }
+    ensures { HasClasses (K.field k.now) q.now }
+{}
