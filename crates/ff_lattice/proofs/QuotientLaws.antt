@@ -448,3 +448,16 @@ module _ (k : CodeField) (q : QuotientValue) (h : IsQuotient k q) where
         λ z_in. record { codes = zeros_vector; difference = subst I (sym (ap (λ x. F.◌⊕◌ z (F.⊖◌ x)) lift_zeros ∙ no_zero z)) z_in },
     );
   }
+
+  -- the row that codes are lifted to
+  pub lifted_row : (a : List ℕ) → V a → IsRow k.ops n (spread k.ops q q.order.rows a)
+  lifted_row a a_in = spread_row q.order.rows order_rows a a_in.over
+
+-- the codes that the call reads, in the words of the quotient
+pub codes_read : (k : CodeField) (q : QuotientValue) (m d : ℕ) (W J : List (List (List ℕ))) (row v : List (List ℕ)) (codes : List ℕ) → m ≡ q.p.n → W ≡ q.order.rows → J ≡ q.rows → d ≡ q.depth → row ≡ v
+    → codes ≡ codes_below m W J k.ops (max d (longest row) * m) row → codes ≡ codes_of_row k.ops q v
+codes_read k q m d W J row v codes m_is W_is J_is d_is row_is codes_is =
+    codes_is
+    ∙ ap₂ (λ m W. codes_below m W J k.ops (max d (longest row) * m) row) m_is W_is
+    ∙ ap₂ (λ J d. codes_below q.p.n q.order.rows J k.ops (max d (longest row) * q.p.n) row) J_is d_is
+    ∙ ap (λ row. codes_below q.p.n q.order.rows q.rows k.ops (max q.depth (longest row) * q.p.n) row) row_is

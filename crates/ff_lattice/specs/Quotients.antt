@@ -5,7 +5,7 @@ use Rattle.ff_fields.specs.Field.{FieldOps, CodeField}
 use Rattle.ff_fields.specs.Code.{raw_ring}
 use Rattle.ff_poly.specs.Popov.{row_at, longest, IsRow, IsPopov}
 use Rattle.ff_algebra.specs.Values.{ElemValue, PresValue, IsPresOver, Functions, functions, function_of}
-use Rattle.ff_falg.specs.Algebras.{AlgebraOps, IsVector}
+use Rattle.ff_falg.specs.Algebras.{AlgebraOps, IsAlgebra, IsVector}
 use Rattle.ff_lattice.specs.Lattices.{LatticeValue, IsLattice, Contains, InSpanOf, elems_over}
 use Rattle.ff_lattice.specs.Orders.{IsOrder}
 use Rattle.ff_lattice.specs.PlaceLists.{pivot_length, code_count, codes_below, spread_onto}
@@ -80,6 +80,11 @@ pub record IsQuotient (k : CodeField) (q : QuotientValue) : Type 0 where
         ((functions k q.p).◌⊗◌ (function_of k q.p (record { num = row_at q.order.rows i; den = q.order.den })) (function_of k q.p (record { num = row_at q.order.rows j; den = q.order.den })))
         (row_at (get_or q.products i []) j)
   pub one_is : IsClassOf k q (functions k q.p).𝟙 q.one
+
+-- the same, and that it is an algebra over the field (which `quotient_law` says of each that was made)
+pub record IsQuotientOver (k : CodeField) (q : QuotientValue) : Type 0 where
+  pub quotient : IsQuotient k q
+  pub algebra : IsAlgebra k (quotient_ops q)
 
 -- taking classes: each has one list of codes, and sums, products, 1 and the ideal go to sums, products, the unit and 0
 pub record HasClasses (k : CodeField) (q : QuotientValue) : Type 0 where

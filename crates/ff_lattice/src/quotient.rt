@@ -6,7 +6,7 @@ ghost use Rattle.ff_poly.specs.Popov.{rows_of, IsRow};
 ghost use Rattle.ff_algebra.specs.Values.{PresValue, Functions, functions, function_of, IsElem, IsMonicElem};
 ghost use Rattle.ff_falg.specs.Algebras.{IsVector};
 ghost use Rattle.ff_lattice.specs.Lattices.{LatticeValue, IsLattice, Contains};
-ghost use Rattle.ff_lattice.specs.Quotients.{QuotientValue, IsQuotient, IsClassOf, IsRowOf, HasClasses, dimension, lifted, quotient_ops, spread};
+ghost use Rattle.ff_lattice.specs.Quotients.{QuotientValue, IsQuotient, IsQuotientOver, IsClassOf, IsRowOf, HasClasses, dimension, lifted, quotient_ops, spread};
 
 use crate::denominators::row_quotient;
 use crate::lattice::Lattice;
@@ -147,8 +147,60 @@ impl Quotient {
     }
 }
 
+impl Quotient {
+    /// For each row of the order the combination by the codes of its products by the rows.
+    fn multiples<K: SmallField>(
+        &self,
+        alloc: Global,
+        k: &K,
+        b: &[u32],
+    ) -> Result<Vec<Vec<Poly>>, AllocError>
+        requires over { IsQuotient (K.field k.now) self.now }
+        requires b_in { IsVector (K.field k.now).ops (dimension self.now) b.now }
+        ensures { let k = K.field k.now in
+            IfOk result (λ v. rows_of v.items ≡ map (λ rows. spread k.ops self.now rows b.now) self.now.products) }
+    {
+        let mut multiples = Vec::new(alloc);
+        for i in 0..self.products.len() {
+            multiples.push(self.spread(alloc, k, &self.products[i], b)?)?;
+        }
+        Ok(multiples)
+    }
+}
+
+impl<K: SmallField> FiniteAlgebra<K> for Quotient {
+    ghost algebra = { quotient_ops };
+
+    ghost IsOver = { λ q k. IsQuotientOver k q };
+
+    ghost laws = { λ q k over. over.algebra };
+
+    fn dim(&self) -> usize {
+        self.one.len()
+    }
+
+    fn one(&self, alloc: Global) -> Result<Vec<u32>, AllocError> {
+        let codes = Vec::from_slice(alloc, &self.one)?;
+        Ok(codes)
+    }
+
+    fn mul(&self, alloc: Global, k: &K, a: &[u32], b: &[u32]) -> Result<Vec<u32>, AllocError> {
+        let multiples = self.multiples(alloc, k, b)?;
+        let mut row = self.spread(alloc, k, &multiples, a)?;
+        let rows = self.order.lattice().rows();
+        let codes = read_codes(alloc, k, &mut row, rows, &self.rows, self.depth)?;
+        Ok(codes)
+    }
+}
+
 /// Taking classes keeps sums, products and 1, and takes exactly the ideal to 0; each class has one list of codes.
 pub fn classes_law<K: SmallField>(k: &K, q: &Quotient)
     requires { IsQuotient (K.field k.now) q.now }
     ensures { HasClasses (K.field k.now) q.now }
+{}
+
+/// A quotient is a commutative algebra with unit over the field that it was made over.
+pub fn quotient_law<K: SmallField>(k: &K, q: &Quotient)
+    requires { IsQuotient (K.field k.now) q.now }
+    ensures { IsQuotientOver (K.field k.now) q.now }
 {}
