@@ -28,4 +28,5 @@ pub mod CodeSums
 pub mod QuotientLaws
 pub mod PlaceSteps
 pub mod OrderElems
+pub mod QuotientSteps
 pub mod Results

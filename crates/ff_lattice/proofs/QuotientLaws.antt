@@ -29,6 +29,7 @@ use Rattle.popov_theory.proofs.PolynomialRows.{row_module_zero, row_module_add, 
 use Rattle.ff_popov.specs.Reading.{read_row, row_space, read_rows}
 use Rattle.ff_popov.proofs.ReadRows.{read_zeros}
 use Rattle.ff_popov.proofs.Measures.{coef_short}
+use Rattle.ff_popov.proofs.Entries.{any_default}
 use Rattle.ff_algebra.specs.Functions.{Equation, of_poly, over, IsPolynomial}
 use Rattle.ff_algebra.specs.Values.{ElemValue, PresValue, Functions, functions, function_of, equation_of}
 use Rattle.ff_algebra.proofs.ScalarRings.{polynomials_subring, of_poly_neg, of_poly_one}
@@ -383,8 +384,8 @@ module _ (k : CodeField) (q : QuotientValue) (h : IsQuotient k q) where
   same_class : (z : Functions k q.p) (a : List ℕ) → IsClassOf k q z a → IsSameModulo F O I ideal_of (lift a) z
   same_class z a k_of = same_sym F O I ideal_of z (lift a) (record { difference = k_of.difference })
 
-  product_in : (a b : List ℕ) → V a → V b → V (product_codes k.ops q a b)
-  product_in a b a_in b_in = (product_class a b a_in b_in).codes
+  codes_in : (a b : List ℕ) → V a → V b → V (product_codes k.ops q a b)
+  codes_in a b a_in b_in = (product_class a b a_in b_in).codes
 
   product_is : (a b : List ℕ) → V a → V b → IsSameModulo F O I ideal_of (lift (product_codes k.ops q a b)) (F.◌⊗◌ (lift a) (lift b))
   product_is a b a_in b_in = same_class (F.◌⊗◌ (lift a) (lift b)) (product_codes k.ops q a b) (product_class a b a_in b_in)
@@ -397,13 +398,13 @@ module _ (k : CodeField) (q : QuotientValue) (h : IsQuotient k q) where
   pub quotient_algebra : IsAlgebra k (quotient_ops q)
   quotient_algebra = record {
     unit_in = h.one_is.codes;
-    product_in = product_in;
-    commutative = product_commutes F O I ideal_of V lift lift_member one_vector (product_codes k.ops q) product_in product_is;
-    associative = product_associates F O I ideal_of V lift lift_member one_vector (product_codes k.ops q) product_in product_is;
-    unit_times = product_unit F O I ideal_of V lift lift_member one_vector (product_codes k.ops q) product_in product_is q.one h.one_is.codes (same_class F.𝟙 q.one h.one_is);
-    distributive = product_adds F O I ideal_of V lift lift_member one_vector (product_codes k.ops q) product_in product_is (add_lists (raw_ring k.ops)) sum_vector lift_add;
+    product_in = codes_in;
+    commutative = product_commutes F O I ideal_of V lift lift_member one_vector (product_codes k.ops q) codes_in product_is;
+    associative = product_associates F O I ideal_of V lift lift_member one_vector (product_codes k.ops q) codes_in product_is;
+    unit_times = product_unit F O I ideal_of V lift lift_member one_vector (product_codes k.ops q) codes_in product_is q.one h.one_is.codes (same_class F.𝟙 q.one h.one_is);
+    distributive = product_adds F O I ideal_of V lift lift_member one_vector (product_codes k.ops q) codes_in product_is (add_lists (raw_ring k.ops)) sum_vector lift_add;
     linear = λ x a b x_in a_in b_in.
-        product_scales F O I ideal_of V lift lift_member one_vector (product_codes k.ops q) product_in product_is (scale_list (raw_ring k.ops) x) (of_poly c (constant_poly k x)) (polynomial_member (constant_poly k x))
+        product_scales F O I ideal_of V lift lift_member one_vector (product_codes k.ops q) codes_in product_is (scale_list (raw_ring k.ops) x) (of_poly c (constant_poly k x)) (polynomial_member (constant_poly k x))
         (scale_vector x x_in) (lift_scale x x_in) a b a_in b_in;
   }
 
@@ -437,7 +438,7 @@ module _ (k : CodeField) (q : QuotientValue) (h : IsQuotient k q) where
         (subst (λ x. IsSameModulo F O I ideal_of x (F.◌⊕◌ z u)) (sym (lift_add a b a_of.codes b_of.codes))
         (same_sum F O I ideal_of (lift a) z (lift b) u (same_class z a a_of) (same_class u b b_of)));
     of_product = λ z u a b z_in u_in a_of b_of.
-        class_of (F.◌⊗◌ z u) (product_codes k.ops q a b) (product_in a b a_of.codes b_of.codes)
+        class_of (F.◌⊗◌ z u) (product_codes k.ops q a b) (codes_in a b a_of.codes b_of.codes)
         (same_trans F O I ideal_of (lift (product_codes k.ops q a b)) (F.◌⊗◌ (lift a) (lift b)) (F.◌⊗◌ z u) (product_is a b a_of.codes b_of.codes)
         (same_trans F O I ideal_of (F.◌⊗◌ (lift a) (lift b)) (F.◌⊗◌ z (lift b)) (F.◌⊗◌ z u)
         (same_right F O I ideal_of (lift b) (lift a) z (lift_member b b_of.codes) (same_class z a a_of))
@@ -452,6 +453,19 @@ module _ (k : CodeField) (q : QuotientValue) (h : IsQuotient k q) where
   -- the row that codes are lifted to
   pub lifted_row : (a : List ℕ) → V a → IsRow k.ops n (spread k.ops q q.order.rows a)
   lifted_row a a_in = spread_row q.order.rows order_rows a a_in.over
+
+  -- the products of row i are rows
+  pub products_in : (i : ℕ) → i < n → All (IsRow k.ops n) (get_or q.products i [])
+  products_in i less j d less' =
+      subst (IsRow k.ops n) (any_default (get_or q.products i []) j [] d less') (products_rows i less j (omega (arith, less', h.products_each i less)))
+
+  -- the rows that products are made of
+  pub multiples_size : (b : List ℕ) → length (map (λ rows. spread k.ops q rows b) q.products) ≡ n
+  multiples_size b = length-map q.products (λ rows. spread k.ops q rows b) ∙ h.products_size
+
+  pub multiples_in : (b : List ℕ) → IsOver k.ops b → All (IsRow k.ops n) (map (λ rows. spread k.ops q rows b) q.products)
+  multiples_in b b_in j d less =
+      subst (IsRow k.ops n) (any_default (map (λ rows. spread k.ops q rows b) q.products) j [] d less) (right_rows b b_in j (omega (arith, less, multiples_size b)))
 
 -- the codes that the call reads, in the words of the quotient
 pub codes_read : (k : CodeField) (q : QuotientValue) (m d : ℕ) (W J : List (List (List ℕ))) (row v : List (List ℕ)) (codes : List ℕ) → m ≡ q.p.n → W ≡ q.order.rows → J ≡ q.rows → d ≡ q.depth → row ≡ v

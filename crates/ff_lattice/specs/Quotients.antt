@@ -75,6 +75,7 @@ pub record IsQuotient (k : CodeField) (q : QuotientValue) : Type 0 where
   pub rows_are : (z : Functions k q.p) → Contains k q.p q.ideal z ↔ InSpanOf k q.p (elems_over q.rows q.order.den) z
   pub deep : (j : ℕ) → j < q.p.n → pivot_length q.rows j ≤ q.depth
   pub products_size : length q.products ≡ q.p.n
+  pub products_each : (i : ℕ) → i < q.p.n → length (get_or q.products i []) ≡ q.p.n
   pub products_are : (i j : ℕ) → i < q.p.n → j < q.p.n
       → IsRowOf k q.p q.order
         ((functions k q.p).◌⊗◌ (function_of k q.p (record { num = row_at q.order.rows i; den = q.order.den })) (function_of k q.p (record { num = row_at q.order.rows j; den = q.order.den })))
