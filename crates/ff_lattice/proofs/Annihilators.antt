@@ -1,25 +1,22 @@
 -- The polynomials that take a polynomial, a row or rows into the multiples of e have one monic generator.
-use Rattle.std.proofs.Common.{◌≡◌, ◌≢◌, ℕ, zero, suc, ◌+◌, ◌-◌, ◌<◌, ◌≤◌, ◌⊎◌, ◌↔◌, inl, inr, List, [], ◌∷◌, ◌++◌, length, get_or, map, take, refl, sym, ◌∙◌, ap, ap₂, subst, arith, All}
-use Rattle.std.proofs.lemmas.Bool.{cases_lt}
+use Rattle.std.proofs.Common.{◌≡◌, ℕ, ◌+◌, ◌<◌, ◌≤◌, ◌↔◌, List, [], ◌∷◌, length, get_or, take, refl, sym, ◌∙◌, ap, ap₂, subst, arith, All}
 use Rattle.std.proofs.lemmas.List.{length-map, get_or-take, length-take-le, take_more, take_all}
-use Rattle.std.proofs.lemmas.List.Elements.{All-nil, All-cons, All-head, All-tail, All-append}
-use Rattle.ff_ring.specs.Ring.{CommRing, TestedRing}
+use Rattle.std.proofs.lemmas.List.Elements.{All-nil, All-cons, All-head, All-append}
+use Rattle.ff_ring.specs.Ring.{TestedRing}
 use Rattle.ff_ring.proofs.Ring.{one_mul}
 use Rattle.ff_ring.proofs.Solver.{ring, reads}
 use Rattle.ff_fields.specs.Field.{CodeField}
 use Rattle.ff_fields.specs.Over.{IsOver, IsOver_nil, IsOver_cons}
-use Rattle.ff_poly.specs.Words.{IsPoly, IsMonic, IsQuotient, Divides, product_of, sum_of}
+use Rattle.ff_poly.specs.Words.{IsPoly, IsMonic, IsQuotient, Divides, product_of}
 use Rattle.ff_poly.specs.PolyOver.{IsOver_product_of}
 use Rattle.ff_poly.specs.Value.{value, value_product, value_sum}
 use Rattle.ff_poly.specs.Polynomials.{Polynomial, polynomials, codes_of, IsOver_codes_of, IsPoly_codes_of, value_codes_of, value_one}
-use Rattle.ff_poly.specs.Popov.{rows_of, row_at, entry_at, IsRow, IsPopov, InSpan, combination}
+use Rattle.ff_poly.specs.Popov.{rows_of, row_at, entry_at, IsRow, InSpan, combination}
 use Rattle.std.specs.Global.{Vec}
-use Rattle.ff_poly.proofs.Parts.{IsPoly_product_of, IsMonic_product, top_of_monic}
-use Rattle.ff_popov.proofs.Entries.{any_default}
-use Rattle.ff_lattice.specs.Lattices.{IsMultiplier}
+use Rattle.ff_poly.proofs.Parts.{IsPoly_product_of, IsMonic_product}
 use Rattle.ff_lattice.specs.Steps.{IsPreimage, IsAnnihilator, IsNext, IsRowMultiplier, IsLeastMultiplier}
 use Rattle.ff_lattice.proofs.Elements.{DividesPol, divides_value, divides_codes}
-use Rattle.ff_lattice.proofs.Divisors.{pol_rest, pol_times, pol_scale, pol_cancel, divides_product, divides_self, product_comm, sum_nil, monic_value}
+use Rattle.ff_lattice.proofs.Divisors.{pol_rest, pol_times, pol_scale, divides_product, divides_self, product_comm, sum_nil}
 
 -- a fact of each entry of a first part, and of the next
 pub all_more : {X : Type 0} (P : X → Type 0) (xs : List X) (i : ℕ) (d : X) → i < length xs → (All P (take i xs) × P (get_or xs i d)) ↔ All P (take (i + 1) xs)
@@ -93,8 +90,8 @@ module _ (k : CodeField) where
   rest_divides : (e v q w u : List ℕ) → IsOver k.ops e → IsOver k.ops v → IsOver k.ops u → IsQuotient k.ops v e q w → Divides k.ops e (product_of k.ops u v) ↔ Divides k.ops e (product_of k.ops u w)
   rest_divides e v q w u e_in v_in u_in d =
       let v_is = ap (value k) d.whole
-          ∙ value_sum k (product_of k.ops e q) w (IsOver_product_of k e_in d.quotient_in) d.rest_in
-          ∙ ap (λ x. (polynomials k).◌⊕◌ x (value k w)) (value_product k e q e_in d.quotient_in) in
+      ∙ value_sum k (product_of k.ops e q) w (IsOver_product_of k e_in d.quotient_in) d.rest_in
+      ∙ ap (λ x. (polynomials k).◌⊕◌ x (value k w)) (value_product k e q e_in d.quotient_in) in
       let whole = divides_product k e u v e_in u_in v_in in
       let rest = divides_product k e u w e_in u_in d.rest_in in
       let both = pol_rest k (value k e) (value k u) (value k v) (value k q) (value k w) v_is in (
@@ -167,8 +164,8 @@ module _ (k : CodeField) where
           let thv : DividesPol k (value k e) (P.◌⊗◌ t (P.◌⊗◌ (value k h) (value k v)))
           = subst (DividesPol k (value k e)) (ap (λ x. P.◌⊗◌ x (value k v)) dp.is ∙ swap_right (value k h) t (value k v)) uv in
           let at = (ann.divides t_codes t_in (IsPoly_codes_of k t)).1
-              ((divides_product k e t_codes hv e_in t_in hv_in).1
-              (subst (DividesPol k (value k e)) (ap₂ P.◌⊗◌ (sym (value_codes_of k t)) (sym hv_value)) thv)) in
+          ((divides_product k e t_codes hv e_in t_in hv_in).1
+          (subst (DividesPol k (value k e)) (ap₂ P.◌⊗◌ (sym (value_codes_of k t)) (sym hv_value)) thv)) in
           divides_codes k (product_of k.ops h a) u (IsOver_product_of k h_in ann.over) u_in u_poly
           (subst (λ x. DividesPol k x (value k u)) (sym (value_product k h a h_in ann.over))
           (subst (DividesPol k (P.◌⊗◌ (value k h) (value k a))) (sym dp.is)

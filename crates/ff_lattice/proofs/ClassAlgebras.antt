@@ -1,7 +1,6 @@
 -- An algebra on vectors by what they stand for in a ring modulo an ideal: its laws are those of the ring.
-use Rattle.std.proofs.Common.{◌≡◌, ℕ, List, sym, ap, ap₂, ◌∙◌, subst}
+use Rattle.std.proofs.Common.{◌≡◌, ℕ, List, sym, ap, ◌∙◌, subst}
 use Rattle.ff_ring.specs.Ring.{CommRing}
-use Rattle.ff_ring.proofs.Ring.{neg_neg}
 use Rattle.std.proofs.Common.{[], ◌∷◌, refl}
 use Rattle.ff_ring.proofs.Solver.{ring, reads}
 
@@ -58,7 +57,6 @@ module _ {A : Type 0} (R : CommRing A) (O I : A → Type 0) (h : IsIdealOf R O I
       (one_vector : (a b : List ℕ) → V a → V b → IsSameModulo (lift a) (lift b) → a ≡ b)
       (product : List ℕ → List ℕ → List ℕ) (product_in : (a b : List ℕ) → V a → V b → V (product a b))
       (product_is : (a b : List ℕ) → V a → V b → IsSameModulo (lift (product a b)) (lift a ⊗ lift b)) where
-
     pub product_commutes : (a b : List ℕ) → V a → V b → product a b ≡ product b a
     product_commutes a b a_in b_in =
         one_vector (product a b) (product b a) (product_in a b a_in b_in) (product_in b a b_in a_in)
@@ -70,9 +68,9 @@ module _ {A : Type 0} (R : CommRing A) (O I : A → Type 0) (h : IsIdealOf R O I
         let ab_in = product_in a b a_in b_in in
         let bc_in = product_in b c b_in c_in in
         let left = same_trans (lift (product (product a b) c)) (lift (product a b) ⊗ lift c) ((lift a ⊗ lift b) ⊗ lift c)
-            (product_is (product a b) c ab_in c_in) (same_right (lift c) (lift (product a b)) (lift a ⊗ lift b) (lift_in c c_in) (product_is a b a_in b_in)) in
+        (product_is (product a b) c ab_in c_in) (same_right (lift c) (lift (product a b)) (lift a ⊗ lift b) (lift_in c c_in) (product_is a b a_in b_in)) in
         let right = same_trans (lift (product a (product b c))) (lift a ⊗ lift (product b c)) (lift a ⊗ (lift b ⊗ lift c))
-            (product_is a (product b c) a_in bc_in) (same_scaled (lift a) (lift (product b c)) (lift b ⊗ lift c) (lift_in a a_in) (product_is b c b_in c_in)) in
+        (product_is a (product b c) a_in bc_in) (same_scaled (lift a) (lift (product b c)) (lift b ⊗ lift c) (lift_in a a_in) (product_is b c b_in c_in)) in
         one_vector (product (product a b) c) (product a (product b c)) (product_in (product a b) c ab_in c_in) (product_in a (product b c) a_in bc_in)
         (same_trans (lift (product (product a b) c)) ((lift a ⊗ lift b) ⊗ lift c) (lift (product a (product b c))) left
         (subst (λ x. IsSameModulo x (lift (product a (product b c)))) (sym (R.mul_assoc (lift a) (lift b) (lift c))) (same_sym (lift (product a (product b c))) (lift a ⊗ (lift b ⊗ lift c)) right)))

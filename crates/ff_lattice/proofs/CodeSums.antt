@@ -1,18 +1,17 @@
 -- Sums of what codes stand for: maps, sums and multiples of them; the rows that the code makes of them.
-use Rattle.std.proofs.Common.{◌≡◌, ◌≢◌, ℕ, zero, suc, ◌+◌, ◌-◌, ◌*◌, ◌/◌, ◌%◌, ◌<◌, ◌≤◌, ◌⊎◌, inl, inr, Bool, true, false, cond, nat_lt, List, [], ◌∷◌, ◌++◌, length, get_or, drop, replicate, refl, sym, ap, ap₂, ◌∙◌, subst, arith, eq-or-lt_of_le}
-use Rattle.std.specs.Prelude.{All}
-use Rattle.std.proofs.lemmas.Bool.{cases_lt, ltb-true, ltb-false, le-ltb}
+use Rattle.std.proofs.Common.{◌≡◌, ℕ, zero, suc, ◌+◌, ◌-◌, ◌*◌, ◌/◌, ◌%◌, ◌<◌, ◌≤◌, ◌⊎◌, inl, inr, true, false, List, [], ◌∷◌, length, get_or, drop, refl, sym, ap, ap₂, ◌∙◌, subst, arith}
+use Rattle.std.proofs.lemmas.Bool.{cases_lt, le-ltb}
 use Rattle.std.proofs.lemmas.Nat.{div-add-mod', mod_below, row_fits}
 use Rattle.ff_ring.specs.Ring.{CommRing, TestedRing}
 use Rattle.ff_ring.specs.Lists.{add_lists, scale_list, coeff_of}
 use Rattle.ff_ring.specs.Rows.{Row}
-use Rattle.ff_ring.proofs.Ring.{zero_add, mul_zero, neg_unique}
+use Rattle.ff_ring.proofs.Ring.{mul_zero, neg_unique}
 use Rattle.ff_ring.proofs.Polynomials.{Pol, pol_ring, same_pol}
 use Rattle.ff_fields.specs.Field.{CodeField}
 use Rattle.ff_fields.specs.Code.{Code, code_ring, raw_ring, zero_in}
 use Rattle.ff_fields.specs.Numbers.{read, numbers_read}
-use Rattle.ff_fields.specs.Over.{IsOver, IsOver_head, IsOver_tail, IsOver_drop, IsOver_scale}
-use Rattle.ff_poly.specs.Words.{poly_of, multiple_of, sum_of}
+use Rattle.ff_fields.specs.Over.{IsOver, IsOver_head, IsOver_tail, IsOver_drop}
+use Rattle.ff_poly.specs.Words.{poly_of}
 use Rattle.ff_poly.specs.Value.{value, value_sum, series_value}
 use Rattle.ff_poly.specs.Polynomials.{series_read, constant_poly}
 use Rattle.ff_poly.specs.Terms.{term, IsOver_term}
@@ -20,7 +19,7 @@ use Rattle.ff_poly.specs.Popov.{row_at, IsRow}
 use Rattle.ff_poly.proofs.Parts.{value_multiple}
 use Rattle.popov_theory.specs.Module.{PolynomialModule}
 use Rattle.popov_theory.proofs.Module.{v_add_zero, v_add_assoc, v_neg_neg, neg_scale}
-use Rattle.ff_popov.specs.Reading.{read_row, row_space, read_rows}
+use Rattle.ff_popov.specs.Reading.{read_row, row_space}
 use Rattle.ff_popov.proofs.ReadRows.{space_less}
 use Rattle.ff_popov.proofs.Transformations.{less_row}
 use Rattle.ff_lattice.specs.PlaceLists.{pivot_length, row_less, is_outside, is_kept, lift_power, code_count, sum_of_codes, spread_onto}
@@ -218,9 +217,9 @@ module _ (k : CodeField) (n : ℕ) (positive : 0 < n) (W J rows : List (List (Li
       go (inr o) (inl q) rec = (
         subst (IsRow k.ops n) (sym is) h.0,
         ap R is ∙ h.1
-        ∙ ap (λ x. M.◌⊞◌ x (spread_sum e (drop 1 a))) less_is
-        ∙ v_add_assoc M (R row) (M.◌·◌ (value k (term c s)) (R b)) (spread_sum e (drop 1 a))
-        ∙ ap (M.◌⊞◌ (R row)) (sym (sum_kept n W J M.◌⊞◌ M.𝟎 spread_code e a o q)),
+            ∙ ap (λ x. M.◌⊞◌ x (spread_sum e (drop 1 a))) less_is
+            ∙ v_add_assoc M (R row) (M.◌·◌ (value k (term c s)) (R b)) (spread_sum e (drop 1 a))
+            ∙ ap (M.◌⊞◌ (R row)) (sym (sum_kept n W J M.◌⊞◌ M.𝟎 spread_code e a o q)),
       )
         where
           c : ℕ

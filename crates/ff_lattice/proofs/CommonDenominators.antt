@@ -1,18 +1,16 @@
 -- Elements over a common denominator.
-use Rattle.std.proofs.Common.{◌≡◌, ◌≢◌, ℕ, zero, suc, ◌+◌, ◌-◌, ◌<◌, ◌≤◌, ◌↔◌, List, [], ◌∷◌, ◌++◌, length, get_or, map, take, refl, sym, ◌∙◌, ap, ap₂, subst, arith, All}
+use Rattle.std.proofs.Common.{◌≡◌, ℕ, suc, ◌+◌, ◌-◌, ◌<◌, ◌↔◌, List, [], ◌∷◌, ◌++◌, length, get_or, map, take, refl, sym, ◌∙◌, ap, ap₂, subst, arith, All}
 use Rattle.std.specs.Global.{Vec}
 use Rattle.std.proofs.lemmas.List.{length-map, length-append, length-take-le, get_or-take, get_or_append_left, get_or-append_right}
 use Rattle.std.proofs.lemmas.List.Elements.{All-nil, All-cons, All-head, All-tail}
 use borrow.Author.Count.{below_more}
-use Rattle.ff_ring.specs.Ring.{CommRing}
-use Rattle.ff_ring.proofs.Ring.{zero_mul, mul_zero, product_not_zero}
+use Rattle.ff_ring.proofs.Ring.{zero_mul, mul_zero}
 use Rattle.ff_fields.specs.Field.{CodeField}
-use Rattle.ff_fields.specs.Code.{code_ring, code_field}
-use Rattle.ff_fields.specs.Over.{IsOver, IsOver_nil}
+use Rattle.ff_fields.specs.Over.{IsOver}
 use Rattle.ff_poly.specs.Words.{IsPoly, IsMonic, IsQuotient, Divides, product_of, sum_of}
 use Rattle.ff_poly.specs.PolyOver.{IsOver_product_of}
 use Rattle.ff_poly.specs.Value.{value, value_product}
-use Rattle.ff_poly.specs.Polynomials.{Polynomial, polynomials}
+use Rattle.ff_poly.specs.Polynomials.{polynomials}
 use Rattle.ff_poly.specs.Popov.{rows_of, row_at, IsRow, HasFullRank, multiple_of_row}
 use Rattle.ff_poly.proofs.Parts.{IsPoly_product_of, IsMonic_product}
 use Rattle.ff_popov.proofs.Spans.{multiple_over}
@@ -25,7 +23,7 @@ use Rattle.ff_lattice.specs.Steps.{IsCommonMultiple, IsExpansion, IsExpanded}
 use Rattle.ff_lattice.proofs.Elements.{DividesPol, divides_value, divides_codes}
 use Rattle.ff_lattice.proofs.Divisors.{pol_times, divides_self, product_comm, sum_nil, monic_value}
 use Rattle.ff_lattice.proofs.Annihilators.{all_more}
-use Rattle.ff_lattice.proofs.Normal.{monic_poly, monic_positive}
+use Rattle.ff_lattice.proofs.Normal.{monic_poly}
 use Rattle.ff_lattice.proofs.SpannedSets.{factor_elem, rank_of_full}
 use Rattle.ff_lattice.proofs.Pushes.{rows_push}
 
@@ -62,8 +60,7 @@ module _ (k : CodeField) where
   pub denominators_more : (n : ℕ) (zs : List ElemValue) (i : ℕ) (z : ElemValue) (e m : List ℕ) → All (IsElem k.ops n) zs → i < length zs → z ≡ get_or zs i z → IsOver k.ops e → All (λ z. Divides k.ops z.den e) (take i zs) → IsCommonMultiple k.ops e z.den m
       → All (λ z. Divides k.ops z.den m) (take (i + 1) zs)
   denominators_more n zs i z e m zs_in less z_is e_in so_far common =
-      (all_more (λ z. Divides k.ops z.den m) zs i z less).0
-      (
+      (all_more (λ z. Divides k.ops z.den m) zs i z less).0 (
         (λ j d j_less.
             let in_zs : j < length zs = omega (arith, less, j_less, length_take j_less) in
             divides_trans (get_or (take i zs) j d).den e m

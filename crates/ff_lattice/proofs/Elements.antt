@@ -1,10 +1,8 @@
 -- The elements that rows of codes are over a denominator, as functions.
-use Rattle.std.proofs.Common.{◌≡◌, ℕ, zero, suc, ◌-◌, ◌<◌, ◌+◌, List, [], ◌∷◌, length, get_or, map, refl, sym, ◌∙◌, ap, ap₂, subst, arith, All, ◌↔◌}
-use Rattle.ff_ring.specs.Rows.{Row}
+use Rattle.std.proofs.Common.{◌≡◌, ℕ, zero, suc, ◌-◌, List, [], ◌∷◌, map, refl, sym, ◌∙◌, ap, ap₂, subst, ◌↔◌}
 use Rattle.ff_ring.specs.Subsets.{Span}
 use Rattle.ff_ring.proofs.Rows.{pair_path}
 use Rattle.ff_fields.specs.Field.{CodeField}
-use Rattle.ff_fields.specs.Code.{code_ring}
 use Rattle.ff_fields.specs.Over.{IsOver}
 use Rattle.ff_poly.specs.Words.{IsPoly, Divides, product_of}
 use Rattle.ff_poly.specs.PolyOver.{IsOver_product_of}
@@ -13,7 +11,7 @@ use Rattle.ff_poly.specs.Polynomials.{Polynomial, polynomials, codes_of, IsOver_
 use Rattle.ff_poly.proofs.Parts.{IsPoly_product_of}
 use Rattle.ff_popov.specs.Reading.{read_row, read_rows}
 use Rattle.ff_algebra.specs.Functions.{IsPolynomial, over}
-use Rattle.ff_algebra.specs.Values.{ElemValue, PresValue, Functions, functions, function_of, equation_of, row_of_list}
+use Rattle.ff_algebra.specs.Values.{PresValue, Functions, functions, function_of, equation_of, row_of_list}
 use Rattle.ff_algebra.proofs.ElemParts.{function_parts}
 use Rattle.ff_lattice.specs.Lattices.{elems_over, InSpanOf}
 use Rattle.ff_lattice.proofs.Members.{overs, Member, span_member}

@@ -1,6 +1,6 @@
 -- What a linear map takes into a span, by a Popov form of the pairs (v, t·(φ v + l)): where the right parts of its first
 -- rows are zero, their left parts are the Popov form of these elements.
-use Rattle.std.proofs.Common.{◌≡◌, ℕ, zero, suc, ◌<◌, ◌≤◌, ◌+◌, ◌*◌, ◌-◌, ◌/◌, ◌⊎◌, inl, inr, List, [], ◌∷◌, ◌++◌, length, refl, sym, ◌∙◌, ap, ap₂, arith, subst, add-mul}
+use Rattle.std.proofs.Common.{◌≡◌, ℕ, suc, ◌<◌, ◌≤◌, ◌+◌, ◌*◌, ◌-◌, ◌/◌, ◌⊎◌, inl, inr, List, length, refl, sym, ◌∙◌, ap, ap₂, arith, subst, add-mul}
 use Rattle.std.proofs.lemmas.Bool.{cases_lt}
 use Rattle.std.proofs.lemmas.Nat.{div-mul-add}
 use Rattle.ff_ring.specs.Ring.{TestedRing, IsField, IsDomain}
@@ -16,7 +16,7 @@ use Rattle.popov_theory.proofs.Span.{span_submodule, neg_in, sub_in, span_zero, 
 use Rattle.popov_theory.proofs.PopovForm.{popov_weak, popov_leading, row_past, popov_measure, tabulate, tabulate_at, tabulate_length}
 use Rattle.popov_theory.proofs.Division.{normal_form, normal_form_reduced, difference_in, in_span_from_normal, reduced_in_span}
 use Rattle.popov_theory.proofs.Dimension.{units, units_at, units_length, in_units}
-use Rattle.popov_theory.proofs.Product.{product_zero, product_module, product_width, product_left, product_right, product_add, product_scale}
+use Rattle.popov_theory.proofs.Product.{product_zero, product_width, product_left, product_right, product_add, product_scale}
 use Rattle.popov_theory.proofs.Kernel.{W, IsLinear, measure_first}
 
 module _ {A V U : Type 0} {k : TestedRing A} (M : PolynomialModule k V) (N : PolynomialModule k U) (field : IsField k.ops) (φ : V → U) (linear : IsLinear M N φ) (ls : List U)

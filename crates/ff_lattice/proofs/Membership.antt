@@ -1,21 +1,18 @@
 -- Members of a lattice by scaled rows, and that a lattice has one form.
-use Rattle.std.proofs.Common.{◌≡◌, ◌≢◌, ℕ, zero, suc, ◌+◌, ◌-◌, ◌<◌, ◌≤◌, ◌↔◌, List, [], ◌∷◌, length, map, refl, sym, ◌∙◌, ap, ap₂, subst, arith, All, Bool, true, false, IsTrue, Option, None, Some}
+use Rattle.std.proofs.Common.{◌≡◌, ℕ, zero, suc, ◌-◌, ◌≤◌, ◌↔◌, List, [], ◌∷◌, map, refl, sym, ◌∙◌, ap, ap₂, subst, All, Bool, true, false, IsTrue, Option, None, Some}
 use Rattle.std.specs.Prelude.{MatchOption, is_some}
 use Rattle.std.specs.Global.{Vec}
-use Rattle.std.proofs.lemmas.List.{length-map}
 use Rattle.std.proofs.lemmas.List.Elements.{All-nil, All-cons, All-head, All-tail}
 use Rattle.ff_ring.specs.Ring.{CommRing, TestedRing}
 use Rattle.ff_ring.specs.Lists.{tail_of}
-use Rattle.ff_ring.specs.Rows.{Row, row_scale}
+use Rattle.ff_ring.specs.Rows.{Row}
 use Rattle.ff_ring.proofs.Polynomials.{Pol, pol_ring}
 use Rattle.ff_fields.specs.Field.{CodeField}
 use Rattle.ff_fields.specs.Code.{code_ring}
 use Rattle.ff_fields.specs.Over.{IsOver}
-use Rattle.ff_poly.specs.Words.{IsPoly, IsMonic}
 use Rattle.ff_poly.specs.Value.{value}
 use Rattle.ff_poly.specs.Polynomials.{Polynomial, polynomials}
 use Rattle.ff_poly.specs.Popov.{IsRow, InSpan, IsCombination, multiple_of_row}
-use Rattle.ff_poly.proofs.Parts.{IsPoly_product_of}
 use Rattle.popov_theory.specs.Module.{PolynomialModule}
 use Rattle.popov_theory.specs.Span as theory
 use Rattle.popov_theory.specs.Span.{combine}
@@ -23,15 +20,13 @@ use Rattle.popov_theory.proofs.Module.{scale_add, scale_scale, scale_zero}
 use Rattle.popov_theory.proofs.PolynomialRows.{row_module_scale}
 use Rattle.ff_popov.specs.Reading.{read_row, row_space, read_rows}
 use Rattle.ff_popov.proofs.Spans.{to_space, from_space, space_multiple, multiple_row}
-use Rattle.ff_algebra.specs.Functions.{Equation, of_poly, over}
-use Rattle.ff_algebra.specs.Values.{ElemValue, PresValue, IsElem, IsMonicElem, Functions, functions, function_of, equation_of}
+use Rattle.ff_algebra.specs.Functions.{Equation, over}
+use Rattle.ff_algebra.specs.Values.{ElemValue, PresValue, IsElem, IsMonicElem, function_of, equation_of}
 use Rattle.ff_lattice.specs.Lattices.{LatticeValue, IsLattice, Contains}
-use Rattle.ff_lattice.proofs.Fracs.{over_eq, over_same, row_cancel}
-use Rattle.ff_lattice.proofs.Members.{Member}
+use Rattle.ff_lattice.proofs.Fracs.{over_eq, over_same}
 use Rattle.ff_lattice.proofs.Elements.{elem_over, in_span_of}
 use Rattle.ff_lattice.proofs.Divisors.{monic_value}
 use Rattle.ff_lattice.proofs.SpannedSets.{multiple_poly}
-use Rattle.ff_lattice.proofs.Normal.{monic_poly}
 
 module _ {A V : Type 0} {k : TestedRing A} (M : PolynomialModule k V) (h : Pol k) where
   combine_scaled : (rs : List V) (c : ℕ → Pol k) → combine M c (map (M.◌·◌ h) rs) ≡ M.◌·◌ h (combine M c rs)

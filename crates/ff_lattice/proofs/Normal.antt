@@ -1,9 +1,7 @@
 -- Rows in Popov form over a monic polynomial, with the denominator made least.
-use Rattle.std.proofs.Common.{◌≡◌, ◌≢◌, ℕ, zero, suc, ◌+◌, ◌-◌, ◌<◌, ◌≤◌, ◌⊎◌, inl, inr, List, [], ◌∷◌, ◌++◌, length, get_or, map, refl, sym, ◌∙◌, ap, ap₂, subst, arith, All}
+use Rattle.std.proofs.Common.{◌≡◌, ◌≢◌, ℕ, zero, suc, ◌<◌, ◌≤◌, ◌⊎◌, inl, inr, List, [], ◌∷◌, length, get_or, map, refl, sym, ◌∙◌, ap, subst, arith, All}
 use Rattle.std.proofs.lemmas.Bool.{cases_lt}
-use Rattle.std.proofs.lemmas.List.{length-map}
 use Rattle.std.proofs.lemmas.List.Elements.{All-nil, All-cons, All-head, All-tail}
-use Rattle.ff_ring.specs.Ring.{CommRing}
 use Rattle.ff_ring.proofs.Lists.{IsTrimmed_push}
 use Rattle.ff_ring.proofs.Solver.{ring, reads}
 use Rattle.ff_fields.specs.Field.{CodeField}
@@ -14,13 +12,13 @@ use Rattle.ff_poly.specs.PolyOver.{IsOver_product_of}
 use Rattle.ff_poly.specs.Value.{value, value_product}
 use Rattle.ff_poly.specs.Polynomials.{Polynomial, polynomials}
 use Rattle.ff_poly.specs.Popov.{row_at, entry_at, IsRow, IsPopov, multiple_of_row}
-use Rattle.ff_poly.proofs.Parts.{IsPoly_product_of, top_of_monic}
+use Rattle.ff_poly.proofs.Parts.{top_of_monic}
 use Rattle.ff_poly.proofs.Results.{product_of_nil}
 use Rattle.ff_popov.proofs.Entries.{any_default}
 use Rattle.ff_popov.proofs.ReadRows.{past_row}
 use Rattle.ff_lattice.specs.Lattices.{LatticeValue, IsForm, IsLattice, IsMultiplier}
 use Rattle.ff_lattice.specs.Steps.{IsLeastMultiplier, IsQuotientOfRows, IsReducedTo}
-use Rattle.ff_lattice.proofs.Elements.{DividesPol, divides_value, divides_codes}
+use Rattle.ff_lattice.proofs.Elements.{DividesPol, divides_codes}
 use Rattle.ff_lattice.proofs.Scaled.{monic_factor, popov_from_multiples}
 use Rattle.ff_lattice.proofs.Divisors.{pol_self, pol_scale, pol_cancel, divides_product, divides_self, divisor_short, monic_value, product_comm}
 

@@ -1,13 +1,13 @@
 -- A lattice has one form: its least denominator and its Popov basis are determined by the set.
-use Rattle.std.proofs.Common.{◌≡◌, ◌≢◌, ℕ, zero, suc, ◌+◌, ◌-◌, ◌<◌, ◌≤◌, ◌⊎◌, ◌↔◌, inl, inr, List, [], ◌∷◌, length, get_or, map, refl, sym, ◌∙◌, ap, ap₂, subst, arith, All}
+use Rattle.std.proofs.Common.{◌≡◌, ◌≢◌, ℕ, zero, suc, ◌-◌, ◌<◌, ◌≤◌, ◌⊎◌, ◌↔◌, inl, inr, List, [], ◌∷◌, length, get_or, refl, sym, ◌∙◌, ap, ap₂, subst, arith, All}
 use Rattle.std.proofs.lemmas.Bool.{cases_lt}
 use Rattle.std.proofs.lemmas.List.{length-map}
 use Rattle.std.proofs.lemmas.List.Elements.{All-nil, All-cons, All-head, All-tail}
-use Rattle.ff_ring.specs.Ring.{CommRing, TestedRing}
+use Rattle.ff_ring.specs.Ring.{CommRing}
 use Rattle.ff_ring.specs.Lists.{coeff_of, scale_list, add_lists, neg_list}
 use Rattle.ff_ring.specs.Rows.{Row, row_zero, row_add, row_scale}
 use Rattle.ff_ring.proofs.Ring.{mul_zero, one_mul, eq_of_sub, neg_mul, add_mul}
-use Rattle.ff_ring.proofs.Rows.{pair_path, row_scale_add, row_scale_zero, row_scale_scale, row_scale_comm, row_scale_one}
+use Rattle.ff_ring.proofs.Rows.{pair_path, row_scale_add, row_scale_zero, row_scale_comm, row_scale_one}
 use Rattle.ff_ring.proofs.Polynomials.{series_add, series_neg}
 use Rattle.ff_ring.proofs.Division.{length_add, length_neg}
 use Rattle.ff_fields.specs.Field.{CodeField}
@@ -15,11 +15,11 @@ use Rattle.ff_fields.specs.Code.{code_ring, code_domain, same_code, raw_ring, is
 use Rattle.ff_fields.specs.Over.{IsOver, get_or_below}
 use Rattle.ff_poly.specs.Words.{IsPoly, IsMonic, Divides, product_of, difference_of, multiple_of, top_of}
 use Rattle.ff_poly.specs.PolyOver.{IsPoly_poly_of, IsOver_difference_of, IsOver_multiple_of}
-use Rattle.ff_poly.specs.Value.{value, value_product, same_from_value}
+use Rattle.ff_poly.specs.Value.{value, same_from_value}
 use Rattle.ff_poly.specs.Terms.{value_difference}
 use Rattle.ff_poly.specs.Polynomials.{Polynomial, polynomials, polynomials_domain, numbers_discrete, constant_poly, value_nil}
 use Rattle.ff_poly.specs.Popov.{row_at, IsRow}
-use Rattle.ff_poly.proofs.Parts.{IsPoly_product_of, IsMonic_multiple, value_multiple, top_of_monic}
+use Rattle.ff_poly.proofs.Parts.{IsMonic_multiple, value_multiple, top_of_monic}
 use Rattle.ff_poly.proofs.Quotients.{top_some}
 use Rattle.popov_theory.specs.Module.{PolynomialModule}
 use Rattle.popov_theory.specs.Span as theory
@@ -31,13 +31,13 @@ use Rattle.ff_popov.proofs.ReadRows.{read_row_at, same_from_read}
 use Rattle.ff_popov.proofs.PopovBasis.{basis_popov}
 use Rattle.ff_popov.proofs.Entries.{any_default}
 use Rattle.ff_popov.proofs.Lengths.{trim_length}
-use Rattle.ff_algebra.specs.Functions.{Equation, ring_of, of_poly, over}
-use Rattle.ff_algebra.specs.Values.{PresValue, Functions, functions, function_of, equation_of}
+use Rattle.ff_algebra.specs.Functions.{Equation, of_poly, over}
+use Rattle.ff_algebra.specs.Values.{PresValue, Functions, functions, equation_of}
 use Rattle.ff_algebra.proofs.OnSide.{of_poly_plus, of_poly_times}
 use Rattle.ff_lattice.specs.Lattices.{LatticeValue, IsLattice, IsMultiplier, InSpanOf, elems_over, Contains}
 use Rattle.ff_lattice.proofs.Fracs.{over_eq, over_same, over_scale, over_add}
 use Rattle.ff_lattice.proofs.Members.{Member, member_numerator}
-use Rattle.ff_lattice.proofs.Elements.{DividesPol, divides_value, divides_codes, in_span_of}
+use Rattle.ff_lattice.proofs.Elements.{in_span_of}
 use Rattle.ff_lattice.proofs.Divisors.{divides_product, pol_self, monic_value}
 use Rattle.ff_lattice.proofs.Normal.{monic_poly, popov_poly}
 use Rattle.ff_lattice.proofs.Scaled.{value_length, coeff_code}

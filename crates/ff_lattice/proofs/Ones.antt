@@ -1,15 +1,13 @@
 -- The element 1.
-use Rattle.std.proofs.Common.{◌≡◌, ◌≢◌, ℕ, zero, suc, ◌-◌, ◌<◌, ◌≤◌, List, [], ◌∷◌, length, replicate, refl, sym, ap, ap₂, ◌∙◌, subst, arith}
-use Rattle.ff_ring.specs.Rows.{Row, row_zero}
+use Rattle.std.proofs.Common.{◌≡◌, ℕ, zero, suc, ◌-◌, ◌≤◌, [], ◌∷◌, sym, ◌∙◌, arith}
 use Rattle.ff_ring.proofs.Rows.{pair_path, row_one}
 use Rattle.ff_ring.proofs.RowFractions.{whole_pair}
 use Rattle.ff_fields.specs.Field.{CodeField}
-use Rattle.ff_poly.specs.Polynomials.{Polynomial, polynomials, polynomials_domain, value_one}
-use Rattle.ff_poly.specs.Value.{value}
+use Rattle.ff_poly.specs.Polynomials.{polynomials, value_one}
 use Rattle.ff_popov.specs.Reading.{read_row}
 use Rattle.ff_popov.proofs.ReadRows.{read_zeros}
 use Rattle.ff_algebra.specs.Functions.{one_function, whole_row}
-use Rattle.ff_algebra.specs.Values.{ElemValue, PresValue, Functions, functions, function_of, equation_of}
+use Rattle.ff_algebra.specs.Values.{PresValue, functions, function_of, equation_of}
 use Rattle.ff_lattice.specs.Steps.{unit_row}
 use Rattle.ff_algebra.proofs.ElemParts.{function_parts}
 use Rattle.ff_lattice.proofs.Elements.{read_is}

@@ -1,22 +1,22 @@
 -- A member of a lattice as a row over the lattice's denominator.
-use Rattle.std.proofs.Common.{◌≡◌, ◌≢◌, ℕ, suc, ◌-◌, ◌<◌, List, [], length, map, refl, sym, ◌∙◌, ap, ap₂, subst, arith, All}
-use Rattle.std.proofs.lemmas.List.{length-map, get_or-map}
+use Rattle.std.proofs.Common.{◌≡◌, ℕ, suc, ◌-◌, ◌<◌, List, [], length, sym, ◌∙◌, ap, subst, arith, All}
+use Rattle.std.proofs.lemmas.List.{length-map}
 use Rattle.ff_ring.specs.Ring.{CommRing}
-use Rattle.ff_ring.specs.Rows.{Row, row_scale, entry}
+use Rattle.ff_ring.specs.Rows.{row_scale, entry}
 use Rattle.ff_fields.specs.Field.{CodeField}
 use Rattle.ff_fields.specs.Code.{code_ring}
 use Rattle.ff_fields.specs.Over.{IsOver}
-use Rattle.ff_poly.specs.Words.{IsPoly, Divides, product_of}
+use Rattle.ff_poly.specs.Words.{Divides, product_of}
 use Rattle.ff_poly.specs.Value.{value}
 use Rattle.ff_poly.specs.Polynomials.{Polynomial, polynomials}
-use Rattle.ff_poly.specs.Popov.{entry_at, IsRow, multiple_of_row}
+use Rattle.ff_poly.specs.Popov.{entry_at, multiple_of_row}
 use Rattle.popov_theory.proofs.PolynomialRows.{entry_scale}
 use Rattle.ff_popov.specs.Reading.{read_row, read_rows}
 use Rattle.ff_popov.proofs.Entries.{any_default}
 use Rattle.ff_popov.proofs.ReadRows.{entry_read, read_multiple, over_at}
 use Rattle.ff_popov.proofs.Spans.{multiple_over}
-use Rattle.ff_algebra.specs.Functions.{Equation, over}
-use Rattle.ff_algebra.specs.Values.{ElemValue, PresValue, IsElem, IsMonicElem, Functions, functions, function_of, equation_of}
+use Rattle.ff_algebra.specs.Functions.{Equation}
+use Rattle.ff_algebra.specs.Values.{ElemValue, PresValue, IsElem, IsMonicElem, function_of, equation_of}
 use Rattle.ff_lattice.specs.Lattices.{LatticeValue, IsLattice, Contains}
 use Rattle.ff_lattice.specs.Steps.{IsRowQuotient}
 use Rattle.ff_lattice.specs.Quotients.{IsRowOf}

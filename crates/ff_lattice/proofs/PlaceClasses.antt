@@ -1,16 +1,13 @@
 -- Each member of the order has one list of codes modulo the ideal, and the sum of what its codes stand for differs from it by a
 -- member of the ideal.
-use Rattle.std.proofs.Common.{◌≡◌, ◌≢◌, ℕ, zero, suc, ◌+◌, ◌-◌, ◌*◌, ◌/◌, ◌%◌, ◌<◌, ◌≤◌, ◌⊎◌, inl, inr, Bool, true, false, cond, nat_lt, List, [], ◌∷◌, ◌++◌, length, get_or, drop, replicate, refl, sym, ap, ap₂, ◌∙◌, subst, arith, eq-or-lt_of_le}
+use Rattle.std.proofs.Common.{◌≡◌, ◌≢◌, ℕ, zero, suc, ◌-◌, ◌/◌, ◌%◌, ◌<◌, ◌≤◌, ◌⊎◌, inl, inr, true, false, nat_lt, List, [], ◌∷◌, length, get_or, drop, replicate, refl, sym, ap, ap₂, ◌∙◌, subst, arith, eq-or-lt_of_le}
 use Rattle.std.specs.Prelude.{All}
 use Rattle.std.proofs.lemmas.Bool.{ltb-true, ltb-false}
-use Rattle.std.proofs.lemmas.Nat.{mod_below}
 use Rattle.ff_ring.specs.Ring.{TestedRing}
-use Rattle.ff_ring.specs.Lists.{coeff_of}
 use Rattle.ff_ring.specs.Rows.{Row}
-use Rattle.ff_ring.proofs.Ring.{zero_add}
 use Rattle.ff_ring.proofs.Polynomials.{Pol, pol_ring, same_pol}
 use Rattle.ff_fields.specs.Field.{CodeField}
-use Rattle.ff_fields.specs.Code.{Code, code_ring, read_code, read_code_below, zero_in}
+use Rattle.ff_fields.specs.Code.{Code, code_ring, read_code, read_code_below}
 use Rattle.ff_fields.specs.Over.{IsOver, IsOver_nil, IsOver_cons, IsOver_head, IsOver_tail}
 use Rattle.ff_poly.specs.Value.{value}
 use Rattle.ff_poly.specs.Polynomials.{value_nil}
@@ -19,12 +16,12 @@ use Rattle.ff_poly.specs.Popov.{row_at, IsRow, IsPopov}
 use Rattle.popov_theory.specs.Module.{PolynomialModule, measure}
 use Rattle.popov_theory.specs.Span.{InSpan}
 use Rattle.popov_theory.proofs.Measure.{measure_past, measure_add_le, measure_zero, zero_from_measure}
-use Rattle.popov_theory.proofs.Module.{v_add_neg, v_add_zero, v_zero_add, v_neg_zero, v_neg_add, v_add_assoc, v_add_comm, v_sub_add, zero_scale}
+use Rattle.popov_theory.proofs.Module.{v_add_neg, v_zero_add, v_neg_add, v_add_assoc, v_add_comm, v_sub_add, zero_scale}
 use Rattle.popov_theory.proofs.Span.{span_zero, span_add, span_scale, span_row, span_submodule, sub_in}
 use Rattle.ff_popov.specs.Reading.{read_row, row_space, read_rows}
 use Rattle.ff_popov.proofs.ReadRows.{read_row_at}
 use Rattle.ff_lattice.specs.PlaceLists.{pivot_length, is_outside, is_kept, lift_power, code_at, cleared, code_count, codes_below, sum_of_codes}
-use Rattle.ff_lattice.proofs.PlaceCodes.{cond_true, cond_false, true_or_false, coeff_code, code_below, coef_place, cleared_row, cleared_is, cleared_falls, ends_nowhere, multiple_ends, multiple_top}
+use Rattle.ff_lattice.proofs.PlaceCodes.{cond_true, cond_false, true_or_false, coeff_code, code_below, cleared_row, cleared_is, cleared_falls, ends_nowhere, multiple_ends, multiple_top}
 
 -- sums of codes, place by place
 module _ (n : ℕ) (W J : List (List (List ℕ))) {V : Type 0} (add : V → V → V) (null : V) (t : ℕ → ℕ → ℕ → V) where

@@ -1,33 +1,31 @@
 -- The codes of a row of an order modulo an ideal: each row has one list of codes.
-use Rattle.std.proofs.Common.{◌≡◌, ◌≢◌, ℕ, zero, suc, ◌+◌, ◌-◌, ◌*◌, ◌/◌, ◌%◌, ◌<◌, ◌≤◌, ◌⊎◌, inl, inr, Bool, true, false, cond, nat_lt, List, [], ◌∷◌, length, get_or, drop, replicate, refl, sym, ap, ap₂, ◌∙◌, subst, arith, add-mul, eq-or-lt_of_le}
+use Rattle.std.proofs.Common.{◌≡◌, ◌≢◌, ℕ, zero, suc, ◌+◌, ◌-◌, ◌*◌, ◌/◌, ◌%◌, ◌<◌, ◌≤◌, ◌⊎◌, inl, inr, Bool, true, false, cond, List, [], ◌∷◌, length, get_or, replicate, refl, sym, ap, ap₂, ◌∙◌, subst, arith, add-mul}
 use Rattle.std.specs.Prelude.{All}
-use Rattle.std.proofs.lemmas.Bool.{cases_lt, ltb-true, ltb-false}
+use Rattle.std.proofs.lemmas.Bool.{cases_lt}
 use Rattle.std.proofs.lemmas.Nat.{div-add-mod', mod_below}
-use Rattle.std.proofs.lemmas.List.{length-map, get_or-map, length-append, length-replicate, get_or-append_right}
-use Rattle.ff_ring.specs.Ring.{TestedRing, IsDomain, IsField}
+use Rattle.std.proofs.lemmas.List.{get_or-map, length-append, length-replicate, get_or-append_right}
+use Rattle.ff_ring.specs.Ring.{TestedRing}
 use Rattle.ff_ring.specs.Lists.{coeff_of}
 use Rattle.ff_ring.specs.Rows.{Row}
-use Rattle.ff_ring.proofs.Polynomials.{Pol, pol_ring, coeff_past}
+use Rattle.ff_ring.proofs.Polynomials.{Pol, coeff_past}
 use Rattle.ff_fields.specs.Field.{FieldOps, CodeField}
-use Rattle.ff_fields.specs.Code.{Code, code_ring, code_field, read_code, read_code_below, same_code, zero_in}
-use Rattle.ff_fields.specs.Over.{IsOver, IsOver_nil, IsOver_cons}
+use Rattle.ff_fields.specs.Code.{Code, code_ring, read_code, read_code_below, same_code, zero_in}
+use Rattle.ff_fields.specs.Over.{IsOver}
 use Rattle.ff_poly.specs.Value.{value}
 use Rattle.ff_poly.specs.Polynomials.{series_read}
-use Rattle.ff_poly.specs.Terms.{term, less_multiple, IsOver_term}
+use Rattle.ff_poly.specs.Terms.{term, less_multiple}
 use Rattle.ff_poly.specs.Popov.{entry_at, row_at, IsRow, IsPopov}
 use Rattle.popov_theory.specs.Module.{PolynomialModule, measure, pivot, column}
 use Rattle.popov_theory.specs.Span.{InSpan}
-use Rattle.popov_theory.specs.Popov as theory
 use Rattle.popov_theory.proofs.Places.{column_at}
-use Rattle.popov_theory.proofs.Measure.{measure_past, measure_top, measure_bound, measure_falls, scale_top, scale_past, measure_is, zero_from_measure, zero_row, measure_zero}
-use Rattle.popov_theory.proofs.Module.{v_add_neg, v_add_zero, v_zero_add}
+use Rattle.popov_theory.proofs.Measure.{measure_past, measure_bound, measure_falls, scale_top, scale_past}
 use Rattle.ff_popov.specs.Reading.{read_row, row_space, read_rows}
 use Rattle.ff_popov.specs.Rows.{IsRowLess}
-use Rattle.ff_popov.proofs.ReadRows.{past_row, over_at, read_row_at, space_less}
+use Rattle.ff_popov.proofs.ReadRows.{over_at, read_row_at, space_less}
 use Rattle.ff_popov.proofs.Transformations.{less_row}
 use Rattle.ff_popov.proofs.Measures.{value_short, space_width, coef_read}
 use Rattle.ff_popov.proofs.PopovBasis.{basis_measured, basis_popov, member_longer}
-use Rattle.ff_lattice.specs.PlaceLists.{pivot_length, row_less, is_outside, is_kept, lift_power, code_at, cleared, code_count, codes_below}
+use Rattle.ff_lattice.specs.PlaceLists.{pivot_length, row_less, lift_power, code_at, cleared}
 
 -- the places of three kinds
 pub cond_true : {X : Type 0} (b : Bool) (x y : X) → b ≡ true → cond b x y ≡ x

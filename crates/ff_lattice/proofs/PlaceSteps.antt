@@ -1,16 +1,15 @@
 -- The steps of the calls that read codes and combine rows by codes.
-use Rattle.std.proofs.Common.{◌≡◌, ◌≢◌, ℕ, zero, suc, ◌+◌, ◌-◌, ◌*◌, ◌/◌, ◌%◌, ◌<◌, ◌≤◌, ◌^◌, Bool, true, false, cond, nat_lt, List, [], ◌∷◌, ◌++◌, length, get_or, drop, take, max, refl, sym, ap, ap₂, ◌∙◌, subst, arith, append_assoc}
-use Rattle.std.specs.Prelude.{All}
+use Rattle.std.proofs.Common.{◌≡◌, ℕ, zero, suc, ◌+◌, ◌-◌, ◌*◌, ◌/◌, ◌%◌, ◌<◌, ◌≤◌, true, false, nat_lt, List, [], ◌∷◌, ◌++◌, length, get_or, drop, take, max, refl, sym, ap, ap₂, ◌∙◌, arith, append_assoc}
 use Rattle.std.proofs.lemmas.Bool.{lt-ltb, le-ltb}
 use Rattle.std.proofs.lemmas.Nat.{div-mul-add, mod-mul-add}
-use Rattle.std.proofs.Math.Nat.{le-max_left, le-max_right}
+use Rattle.std.proofs.Math.Nat.{le-max_left}
 use Rattle.ff_fields.specs.Field.{FieldOps, CodeField}
 use Rattle.ff_poly.specs.Popov.{entry_at, row_at, longest, IsRow, IsPopov}
 use Rattle.ff_popov.proofs.ReadRows.{same_row}
 use Rattle.ff_popov.specs.Rows.{IsRowLess}
 use Rattle.ff_popov.proofs.Transformations.{less_row}
-use Rattle.ff_lattice.specs.PlaceLists.{pivot_length, row_less, is_outside, is_kept, lift_power, code_at, cleared, code_count, codes_below, spread_onto, IsReadDown, IsSpreadDown}
-use Rattle.ff_lattice.proofs.PlaceCodes.{cond_true, cond_false, row_less_length, row_less_at, row_less_is, code_below}
+use Rattle.ff_lattice.specs.PlaceLists.{pivot_length, row_less, is_outside, is_kept, cleared, code_count, codes_below, spread_onto, IsReadDown, IsSpreadDown}
+use Rattle.ff_lattice.proofs.PlaceCodes.{cond_true, cond_false, row_less_length, row_less_at, row_less_is}
 
 -- a row with the entries of a row less a multiple
 pub row_less_from : (k : FieldOps) (a : List (List ℕ)) (c s : ℕ) (b row : List (List ℕ)) → IsRowLess k a c s b row → row ≡ row_less k a c s b

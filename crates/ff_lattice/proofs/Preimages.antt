@@ -1,37 +1,35 @@
 -- The rows z with z·m in a lattice, from the Popov basis of the rows of m beside those of the unit matrix.
-use Rattle.std.proofs.Common.{◌≡◌, ◌≢◌, ℕ, zero, suc, ◌+◌, ◌-◌, ◌*◌, ◌<◌, ◌≤◌, ◌⊎◌, ◌↔◌, inl, inr, List, [], ◌∷◌, ◌++◌, length, get_or, set, map, replicate, take, drop, refl, sym, ◌∙◌, ap, ap₂, subst, arith, All, length-append, suc-mul}
+use Rattle.std.proofs.Common.{◌≡◌, ◌≢◌, ℕ, zero, suc, ◌+◌, ◌-◌, ◌*◌, ◌<◌, ◌≤◌, ◌⊎◌, inl, inr, List, [], ◌∷◌, ◌++◌, length, get_or, map, replicate, take, drop, refl, sym, ◌∙◌, ap, ap₂, subst, arith, All, length-append, suc-mul}
 use Rattle.std.proofs.lemmas.Bool.{cases_lt}
-use Rattle.std.proofs.lemmas.List.{length-map, length-set, length-replicate, length-take-le, get_or-take, get_or-drop, get_or-set_same, get_or-set_other, get_or-replicate, get_or_append_left}
+use Rattle.std.proofs.lemmas.List.{length-map, length-set, length-replicate, length-take-le, get_or-take, get_or-drop, get_or-set_same, get_or-set_other}
 use Rattle.std.proofs.Math.Seq.{take-append_seam, drop-append_seam, get_or-append_seam}
 use Rattle.std.proofs.lemmas.List.Elements.{All-nil, All-cons, All-head, All-tail, All-append, All-set, All-replicate}
 use native.Mathlib.Decide.{ℕ_discrete}
 use mathlib.Core.Path.{fun_ext}
-use Rattle.ff_ring.specs.Ring.{TestedRing}
 use Rattle.ff_ring.specs.Lists.{coeff_of}
 use Rattle.ff_ring.specs.Rows.{Row, row_zero, row_scale, entry}
 use Rattle.ff_ring.proofs.Ring.{mul_zero}
 use Rattle.ff_ring.proofs.Rows.{pair_path, row_scale_zero}
-use Rattle.ff_ring.proofs.Polynomials.{Pol}
 use Rattle.ff_fields.specs.Field.{CodeField}
 use Rattle.ff_fields.specs.Code.{code_ring, code_field, same_code}
 use Rattle.ff_fields.specs.Over.{IsOver, IsOver_nil, IsOver_cons, IsOver_zeros, IsOver_append, IsOver_trim}
 use Rattle.ff_poly.specs.Words.{IsPoly, IsMonic, shifted}
 use Rattle.ff_poly.specs.PolyOver.{IsPoly_poly_of}
 use Rattle.ff_poly.specs.Value.{value}
-use Rattle.ff_poly.specs.Polynomials.{Polynomial, polynomials, polynomials_domain, value_nil, value_one, value_not_zero}
-use Rattle.ff_poly.specs.Popov.{row_at, entry_at, IsRow, IsPivot, IsPopov, InSpan, HaveSameSpan, combination}
+use Rattle.ff_poly.specs.Polynomials.{Polynomial, polynomials, polynomials_domain, value_nil, value_one}
+use Rattle.ff_poly.specs.Popov.{row_at, entry_at, IsRow, IsPivot, IsPopov, HaveSameSpan, combination}
 use Rattle.popov_theory.specs.Module.{PolynomialModule}
 use Rattle.popov_theory.specs.Span as theory
 use Rattle.popov_theory.specs.Popov as forms
 use Rattle.popov_theory.specs.Span.{combine}
 use Rattle.popov_theory.proofs.Module.{same_columns, scale_zero}
 use Rattle.popov_theory.proofs.Product.{product_zero}
-use Rattle.popov_theory.proofs.Span.{span_row, span_zero, span_least, span_submodule, combine_add, combine_scale, within_rows}
+use Rattle.popov_theory.proofs.Span.{span_row, span_zero, span_least, combine_add, combine_scale, within_rows}
 use Rattle.popov_theory.proofs.PopovForm.{row_past}
-use Rattle.popov_theory.proofs.PolynomialRows.{row_module, row_width, row_module_zero, row_module_add, row_module_scale, entry_add, entry_scale, entry_zero, same_entries}
+use Rattle.popov_theory.proofs.PolynomialRows.{row_module_zero, row_module_add, row_module_scale, entry_add, entry_scale, entry_zero, same_entries}
 use Rattle.popov_theory.proofs.Kernel.{W, IsLinear}
 use Rattle.ff_popov.specs.Reading.{read_row, row_space, read_rows}
-use Rattle.ff_popov.proofs.ReadRows.{entry_read, read_row_at, over_at, past_row, read_zeros}
+use Rattle.ff_popov.proofs.ReadRows.{entry_read, read_row_at, past_row, read_zeros}
 use Rattle.ff_popov.proofs.Spans.{to_space, from_space, combination_read, combination_row, combine_same}
 use Rattle.ff_popov.proofs.Measures.{space_width, coef_read, coef_short}
 use Rattle.ff_popov.proofs.PopovBasis.{basis_popov}
@@ -39,7 +37,7 @@ use Rattle.ff_popov.proofs.Entries.{any_default}
 use Rattle.ff_lattice.specs.Steps.{unit_row, lifted, IsTwistedRows, HasZeroCorner, corner, IsPreimage}
 use Rattle.ff_lattice.proofs.Fracs.{row_cancel}
 use Rattle.ff_lattice.proofs.Scaled.{coeff_code}
-use Rattle.ff_lattice.proofs.Spaces.{combine_one, value_shifted, power_of_x, codes_row, codes_row_length, codes_row_over, codes_row_poly, read_codes_row, same_space, combination_poly}
+use Rattle.ff_lattice.proofs.Spaces.{combine_one, value_shifted, power_of_x, same_space, combination_poly}
 use Rattle.ff_lattice.proofs.Transport.{moved, moved_at, moved_popov, span_moved, span_back}
 use Rattle.ff_lattice.proofs.SplitRows.{cut, join, cut_join, cut_width, cut_coef, cut_read}
 use Rattle.ff_lattice.proofs.KernelRows.{Twisted, twisted_submodule, twisted_first, twisted_second, twisted_in, kernel_rows, kernel_at, kernel_length, kernel_in, kernel_all}

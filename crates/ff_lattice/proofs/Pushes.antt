@@ -2,9 +2,9 @@
 use Rattle.std.proofs.Common.{◌≡◌, ℕ, ◌+◌, ◌<◌, List, [], ◌∷◌, ◌++◌, length, get_or, map, take, refl, sym, ap, ap₂, ◌∙◌, arith, subst, append_assoc}
 use Rattle.std.specs.Prelude.{All}
 use Rattle.std.specs.Global.{Vec}
-use Rattle.std.proofs.lemmas.List.{take_more, length-map, map-append}
+use Rattle.std.proofs.lemmas.List.{take_more, length-map}
 use Rattle.ff_poly.specs.Popov.{rows_of, row_at}
-use Rattle.ff_popov.proofs.Entries.{row_of, any_default}
+use Rattle.ff_popov.proofs.Entries.{row_of}
 
 pub rows_push : (vs : List (Vec (List ℕ))) (v : Vec (List ℕ)) → rows_of (vs ++ v ∷ []) ≡ rows_of vs ++ v.items ∷ []
 rows_push [] v = refl

@@ -1,5 +1,5 @@
 -- The quotient of an order by an ideal obeys the laws of an algebra.
-use Rattle.std.proofs.Common.{◌≡◌, ◌≢◌, ℕ, zero, suc, ◌+◌, ◌-◌, ◌*◌, ◌/◌, ◌%◌, ◌<◌, ◌≤◌, ◌↔◌, ◌⊎◌, inl, inr, max, List, [], ◌∷◌, length, get_or, map, drop, replicate, refl, sym, ap, ap₂, ◌∙◌, subst, arith, All}
+use Rattle.std.proofs.Common.{◌≡◌, ℕ, zero, suc, ◌+◌, ◌-◌, ◌*◌, ◌/◌, ◌%◌, ◌<◌, ◌≤◌, ◌⊎◌, inl, inr, max, List, [], ◌∷◌, length, get_or, map, drop, replicate, refl, sym, ap, ap₂, ◌∙◌, subst, arith, All}
 use Rattle.std.proofs.lemmas.List.{length-map, get_or-map, length-replicate}
 use Rattle.std.proofs.lemmas.List.Elements.{All-replicate}
 use Rattle.std.proofs.lemmas.Nat.{mul-le, div-add-mod', mod_below, row_fits}
@@ -7,19 +7,18 @@ use Rattle.std.proofs.lemmas.Bool.{cases_lt}
 use Rattle.std.proofs.Math.Nat.{le-max_left, le-max_right}
 use Rattle.ff_ring.specs.Ring.{CommRing, TestedRing}
 use Rattle.ff_ring.specs.Lists.{add_lists, scale_list}
-use Rattle.ff_ring.specs.Rows.{Row, row_zero, row_add, row_scale}
-use Rattle.ff_ring.specs.Subsets.{IsSubring, Span}
+use Rattle.ff_ring.specs.Rows.{Row}
+use Rattle.ff_ring.specs.Subsets.{IsSubring}
 use Rattle.ff_ring.proofs.Ring.{add_mul, mul_zero, zero_mul, neg_mul, neg_zero, one_mul, eq_of_sub, neg_unique}
 use Rattle.ff_ring.proofs.Subsets.{span_zero, span_sum, span_scale}
-use Rattle.ff_ring.proofs.Polynomials.{Pol, pol_ring}
+use Rattle.ff_ring.proofs.Polynomials.{Pol}
 use Rattle.ff_fields.specs.Field.{CodeField}
 use Rattle.ff_fields.specs.Code.{Code, code_ring, raw_ring, zero_in, same_code}
 use Rattle.ff_fields.specs.Over.{IsOver, IsOver_nil, IsOver_head, IsOver_tail, IsOver_scale, IsOver_add, IsOver_zeros}
-use Rattle.ff_poly.specs.Words.{IsPoly}
 use Rattle.ff_poly.specs.Value.{value}
 use Rattle.ff_poly.specs.Polynomials.{Polynomial, polynomials, constant_poly}
 use Rattle.ff_poly.specs.Terms.{term}
-use Rattle.ff_poly.specs.Popov.{entry_at, row_at, longest, IsRow, IsPopov}
+use Rattle.ff_poly.specs.Popov.{entry_at, row_at, longest, IsRow}
 use Rattle.ff_poly.proofs.Parts.{minus_one}
 use Rattle.popov_theory.specs.Module.{PolynomialModule, measure}
 use Rattle.popov_theory.specs.Span.{InSpan}
@@ -31,16 +30,16 @@ use Rattle.ff_popov.proofs.ReadRows.{read_zeros}
 use Rattle.ff_popov.proofs.Measures.{coef_short}
 use Rattle.ff_popov.proofs.Entries.{any_default}
 use Rattle.ff_algebra.specs.Functions.{Equation, of_poly, over, IsPolynomial}
-use Rattle.ff_algebra.specs.Values.{ElemValue, PresValue, Functions, functions, function_of, equation_of}
+use Rattle.ff_algebra.specs.Values.{PresValue, Functions, functions, function_of, equation_of}
 use Rattle.ff_algebra.proofs.ScalarRings.{polynomials_subring, of_poly_neg, of_poly_one}
 use Rattle.ff_algebra.proofs.OnSide.{of_poly_plus, of_poly_times, of_poly_zero}
-use Rattle.ff_falg.specs.Algebras.{AlgebraOps, IsAlgebra, IsVector}
+use Rattle.ff_falg.specs.Algebras.{IsAlgebra, IsVector}
 use Rattle.ff_ring.proofs.Lists.{length_add_lists, length_scale_list}
-use Rattle.ff_lattice.specs.Lattices.{LatticeValue, IsLattice, Contains, row_elems}
-use Rattle.ff_lattice.specs.PlaceLists.{code_count, codes_below, sum_of_codes, spread_onto}
-use Rattle.ff_lattice.specs.Quotients.{QuotientValue, dimension, spread, codes_of_row, lifted, product_codes, quotient_ops, IsClassOf, IsQuotient, HasClasses, IsRowOf}
+use Rattle.ff_lattice.specs.Lattices.{IsLattice, Contains, row_elems}
+use Rattle.ff_lattice.specs.PlaceLists.{code_count, codes_below, sum_of_codes}
+use Rattle.ff_lattice.specs.Quotients.{QuotientValue, dimension, spread, codes_of_row, lifted, product_codes, quotient_ops, IsClassOf, IsQuotient, HasClasses}
 use Rattle.ff_lattice.proofs.Fracs.{over_zero, over_add, over_scale}
-use Rattle.ff_lattice.proofs.Members.{Member, member_numerator}
+use Rattle.ff_lattice.proofs.Members.{member_numerator}
 use Rattle.ff_lattice.proofs.Elements.{elem_over, in_span_of}
 use Rattle.ff_lattice.proofs.Divisors.{monic_value}
 use Rattle.ff_lattice.proofs.ClassAlgebras.{IsIdealOf, IsSameModulo, same_of, same_sym, same_trans, same_sum, same_scaled, same_right, product_commutes, product_associates, product_unit, product_adds, product_scales}
@@ -369,10 +368,10 @@ module _ (k : CodeField) (q : QuotientValue) (h : IsQuotient k q) where
   product_row a b a_in b_in = (
     spread_row (of_right b) (right_rows b b_in.over) a a_in.over,
     spread_function (of_right b) (right_rows b b_in.over) a a_in.over
-    ∙ sym (sum_map n h.positive W J F.◌⊕◌ F.𝟘 (t w) F.◌⊕◌ F.𝟘 (t (λ j. g (row_at (of_right b) j))) (λ u. F.◌⊗◌ u (lift b)) (zero_mul F (lift b)) (λ u v. add_mul F u v (lift b))
-    (λ x s j less. F.mul_assoc (of_poly c (value k (term x s))) (w j) (lift b) ∙ ap (F.◌⊗◌ (of_poly c (value k (term x s)))) (sym (right_is b b_in.over j less)))
-    E a)
-    ∙ ap (λ u. F.◌⊗◌ u (lift b)) (sym (lift_is a a_in.over)),
+        ∙ sym (sum_map n h.positive W J F.◌⊕◌ F.𝟘 (t w) F.◌⊕◌ F.𝟘 (t (λ j. g (row_at (of_right b) j))) (λ u. F.◌⊗◌ u (lift b)) (zero_mul F (lift b)) (λ u v. add_mul F u v (lift b))
+        (λ x s j less. F.mul_assoc (of_poly c (value k (term x s))) (w j) (lift b) ∙ ap (F.◌⊗◌ (of_poly c (value k (term x s)))) (sym (right_is b b_in.over j less)))
+        E a)
+        ∙ ap (λ u. F.◌⊗◌ u (lift b)) (sym (lift_is a a_in.over)),
   )
 
   pub product_class : (a b : List ℕ) → V a → V b → IsClassOf k q (F.◌⊗◌ (lift a) (lift b)) (product_codes k.ops q a b)
@@ -445,8 +444,8 @@ module _ (k : CodeField) (q : QuotientValue) (h : IsQuotient k q) where
         (same_scaled F O I ideal_of z (lift b) u z_in (same_class u b b_of))));
     of_one = h.one_is;
     of_ideal = λ z. (
-        λ z_of. subst I (ap (λ x. F.◌⊕◌ z (F.⊖◌ x)) lift_zeros ∙ no_zero z) z_of.difference,
-        λ z_in. record { codes = zeros_vector; difference = subst I (sym (ap (λ x. F.◌⊕◌ z (F.⊖◌ x)) lift_zeros ∙ no_zero z)) z_in },
+      λ z_of. subst I (ap (λ x. F.◌⊕◌ z (F.⊖◌ x)) lift_zeros ∙ no_zero z) z_of.difference,
+      λ z_in. record { codes = zeros_vector; difference = subst I (sym (ap (λ x. F.◌⊕◌ z (F.⊖◌ x)) lift_zeros ∙ no_zero z)) z_in },
     );
   }
 

@@ -1,13 +1,12 @@
 -- Rows that are divided entry by entry.
-use Rattle.std.proofs.Common.{◌≡◌, ◌≢◌, ℕ, ◌+◌, ◌<◌, List, [], ◌∷◌, ◌++◌, length, get_or, map, take, refl, sym, ◌∙◌, ap, ap₂, subst, arith, All}
+use Rattle.std.proofs.Common.{◌≡◌, ℕ, ◌+◌, ◌<◌, List, [], ◌∷◌, ◌++◌, length, get_or, map, take, refl, sym, ◌∙◌, ap, ap₂, subst, arith, All}
 use Rattle.std.specs.Global.{Vec}
-use Rattle.std.proofs.lemmas.List.{length-map, take_more, take_all}
+use Rattle.std.proofs.lemmas.List.{length-map, take_more}
 use Rattle.std.proofs.lemmas.List.Elements.{All-nil, All-cons, All-append}
-use Rattle.ff_fields.specs.Field.{FieldOps, CodeField}
+use Rattle.ff_fields.specs.Field.{FieldOps}
 use Rattle.ff_fields.specs.Over.{IsOver}
 use Rattle.ff_poly.specs.Words.{IsPoly, product_of}
-use Rattle.ff_poly.specs.Popov.{rows_of, row_at, IsRow, multiple_of_row}
-use Rattle.ff_popov.proofs.Entries.{any_default}
+use Rattle.ff_poly.specs.Popov.{rows_of, IsRow, multiple_of_row}
 use Rattle.ff_lattice.specs.Steps.{IsRowQuotient, IsQuotientOfRows}
 use Rattle.ff_lattice.proofs.Pushes.{rows_push, read_row}
 

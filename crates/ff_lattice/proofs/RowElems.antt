@@ -1,16 +1,15 @@
 -- The rows of a lattice as elements.
-use Rattle.std.proofs.Common.{◌≡◌, ◌≢◌, ℕ, zero, suc, ◌+◌, ◌-◌, ◌<◌, List, [], ◌∷◌, length, get_or, map, refl, sym, ◌∙◌, ap, ap₂, subst, arith, All, Option, Some}
+use Rattle.std.proofs.Common.{◌≡◌, ◌≢◌, ℕ, zero, suc, ◌-◌, ◌<◌, List, [], ◌∷◌, length, get_or, map, refl, sym, ◌∙◌, ap, ap₂, arith, All, Some}
 use Rattle.std.specs.Prelude.{slice_get}
 use Rattle.std.proofs.lemmas.List.{length-map}
-use Rattle.std.proofs.lemmas.List.Elements.{All-nil, All-cons, All-head, All-tail}
+use Rattle.std.proofs.lemmas.List.Elements.{All-head, All-tail}
 use Rattle.ff_fields.specs.Field.{CodeField}
 use Rattle.ff_fields.specs.Over.{IsOver}
 use Rattle.ff_poly.specs.Words.{IsPoly, IsMonic, top_of, multiple_of}
 use Rattle.ff_poly.specs.PolyOver.{IsOver_multiple_of}
-use Rattle.ff_poly.specs.Value.{value, same_from_value}
-use Rattle.ff_poly.specs.Popov.{row_at, entry_at, IsRow}
+use Rattle.ff_poly.specs.Value.{same_from_value}
+use Rattle.ff_poly.specs.Popov.{row_at, IsRow}
 use Rattle.ff_poly.proofs.Parts.{IsPoly_multiple_of, value_multiple_one, top_of_monic}
-use Rattle.ff_popov.proofs.Entries.{any_default}
 use Rattle.ff_algebra.specs.Values.{ElemValue, IsElem}
 use Rattle.ff_lattice.specs.Lattices.{LatticeValue, IsLattice, elems_over, row_elems}
 use Rattle.ff_lattice.proofs.Normal.{popov_poly}

@@ -1,7 +1,7 @@
 -- Rows times a monic polynomial: they are in Popov form exactly where the rows are.
-use Rattle.std.proofs.Common.{◌≡◌, ◌≢◌, ℕ, zero, suc, ◌+◌, ◌-◌, ◌<◌, ◌≤◌, ◌⊎◌, inl, inr, List, [], ◌∷◌, length, get_or, map, refl, sym, ◌∙◌, ap, ap₂, subst, arith, All}
+use Rattle.std.proofs.Common.{◌≡◌, ℕ, zero, suc, ◌+◌, ◌-◌, ◌<◌, ◌≤◌, ◌⊎◌, inl, inr, List, [], ◌∷◌, length, get_or, map, refl, sym, ◌∙◌, ap, ap₂, subst, arith, All}
 use Rattle.std.proofs.lemmas.List.{length-map}
-use Rattle.std.proofs.lemmas.List.Elements.{All-nil, All-cons, All-head, All-tail}
+use Rattle.std.proofs.lemmas.List.Elements.{All-nil, All-head, All-tail}
 use Rattle.ff_ring.specs.Ring.{TestedRing}
 use Rattle.ff_ring.specs.Lists.{coeff_of}
 use Rattle.ff_ring.proofs.Ring.{one_mul}
@@ -14,7 +14,7 @@ use Rattle.ff_fields.specs.Over.{IsOver}
 use Rattle.ff_poly.specs.Words.{IsPoly, IsMonic, product_of}
 use Rattle.ff_poly.specs.PolyOver.{IsOver_product_of}
 use Rattle.ff_poly.specs.Value.{value, numbers_value, value_product}
-use Rattle.ff_poly.specs.Polynomials.{Polynomial, polynomials, codes_of, series_read, value_not_zero}
+use Rattle.ff_poly.specs.Polynomials.{polynomials, series_read, value_not_zero}
 use Rattle.ff_poly.specs.Popov.{entry_at, row_at, IsRow, IsPivot, IsPopov, multiple_of_row}
 use Rattle.ff_poly.proofs.Parts.{IsPoly_product_of, IsMonic_product, IsMonic_from_top, top_of_monic}
 use Rattle.ff_poly.proofs.Results.{product_of_nil}
@@ -56,11 +56,11 @@ module _ (k : CodeField) where
       let g_top : gs γ ≡ K.𝟙 = same_code k (gs γ) K.𝟙 (coeff_code g γ g_in ∙ (top_of_monic g g_monic).2) in
       let product_top : coeff_of K.ops (value k (product_of k.ops g a)).0 (γ + m) ≡ as' m
       = ap (λ q. coeff_of K.ops q.0 (γ + m)) (value_product k g a g_in a_in)
-          ∙ series_mul K (value k g) (value k a) (γ + m)
-          ∙ convolution_top K.ring γ m gs as'
-          (λ i past. coeff_past K (value k g).0 i (omega (arith, past, value_length g g_in g_poly, g_size)))
-          (λ i past. coeff_past K (value k a).0 i (omega (arith, past, value_length a a_in a_poly, size)))
-          ∙ ap (λ x. K.◌⊗◌ x (as' m)) g_top ∙ one_mul K.ring (as' m) in
+      ∙ series_mul K (value k g) (value k a) (γ + m)
+      ∙ convolution_top K.ring γ m gs as'
+      (λ i past. coeff_past K (value k g).0 i (omega (arith, past, value_length g g_in g_poly, g_size)))
+      (λ i past. coeff_past K (value k a).0 i (omega (arith, past, value_length a a_in a_poly, size)))
+      ∙ ap (λ x. K.◌⊗◌ x (as' m)) g_top ∙ one_mul K.ring (as' m) in
       IsMonic_from_top m a size
       (sym (coeff_code a m a_in) ∙ ap (λ x. x.0) (sym product_top)
       ∙ coeff_code (product_of k.ops g a) (γ + m) (IsOver_product_of k g_in a_in)

@@ -1,22 +1,22 @@
 -- Rows of codes against what they stand for: spans, multiples by a power of x, and combinations with one coefficient.
-use Rattle.std.proofs.Common.{◌≡◌, ◌≢◌, ℕ, zero, suc, ◌+◌, ◌-◌, ◌<◌, ◌≤◌, ◌⊎◌, inl, inr, List, [], ◌∷◌, ◌++◌, length, get_or, map, replicate, refl, sym, ◌∙◌, ap, ap₂, subst, arith, All, le_of_suc-le-suc}
+use Rattle.std.proofs.Common.{◌≡◌, ℕ, zero, suc, ◌-◌, ◌<◌, ◌≤◌, ◌⊎◌, inl, inr, List, [], ◌∷◌, ◌++◌, length, replicate, refl, sym, ◌∙◌, ap, ap₂, subst, arith, All}
 use Rattle.std.proofs.lemmas.Bool.{cases_lt}
-use Rattle.std.proofs.lemmas.List.Elements.{All-nil, All-cons, All-head, All-tail}
+use Rattle.std.proofs.lemmas.List.Elements.{All-nil, All-cons}
 use Rattle.std.proofs.lemmas.List.{length-map}
 use Rattle.ff_ring.specs.Ring.{TestedRing}
 use Rattle.ff_ring.specs.Lists.{tail_of}
 use Rattle.ff_ring.specs.Rows.{Row}
-use Rattle.ff_ring.proofs.Ring.{one_mul, zero_add, zero_mul}
+use Rattle.ff_ring.proofs.Ring.{one_mul, zero_add}
 use Rattle.ff_ring.proofs.Rows.{pair_path}
 use Rattle.ff_ring.proofs.Polynomials.{Pol, pol_ring, same_pol}
 use Rattle.ff_fields.specs.Field.{CodeField}
 use Rattle.ff_fields.specs.Code.{code_ring}
 use Rattle.ff_fields.specs.Numbers.{numbers_read, read}
-use Rattle.ff_fields.specs.Over.{IsOver, IsOver_append, IsOver_zeros, IsOver_nil, IsOver_cons}
+use Rattle.ff_fields.specs.Over.{IsOver, IsOver_append, IsOver_zeros}
 use Rattle.ff_poly.specs.Words.{IsPoly, poly_of, shifted}
 use Rattle.ff_poly.specs.Value.{value, series_value}
 use Rattle.ff_poly.specs.Polynomials.{Polynomial, polynomials, codes_of, IsOver_codes_of, IsPoly_codes_of, value_codes_of, value_nil, value_one, value_cons, x_poly, series_read, constant_poly}
-use Rattle.ff_poly.specs.Popov.{row_at, entry_at, IsRow, InSpan, HaveSameSpan, combination}
+use Rattle.ff_poly.specs.Popov.{row_at, IsRow, InSpan, HaveSameSpan, combination}
 use Rattle.popov_theory.specs.Module.{PolynomialModule}
 use Rattle.popov_theory.specs.Span as theory
 use Rattle.popov_theory.specs.Span.{combine}
@@ -25,7 +25,7 @@ use Rattle.popov_theory.proofs.Span.{span_row, span_zero, within_rows}
 use Rattle.popov_theory.proofs.PopovForm.{row_past}
 use Rattle.ff_popov.specs.Reading.{read_row, row_space, read_rows}
 use Rattle.ff_popov.proofs.ReadRows.{read_row_at}
-use Rattle.ff_popov.proofs.Spans.{to_space, from_space, member_poly, combination_row}
+use Rattle.ff_popov.proofs.Spans.{to_space, from_space, member_poly}
 
 module _ {A V : Type 0} {k : TestedRing A} (M : PolynomialModule k V) where
   combine_none : (rs : List V) (c : ℕ → Pol k) → ((i : ℕ) → c i ≡ (pol_ring k).𝟘) → combine M c rs ≡ M.𝟎

@@ -1,18 +1,17 @@
 -- The sets of functions that rows over a polynomial span: common factors, rows with the same lattice, and full rank.
-use Rattle.std.proofs.Common.{◌≡◌, ◌≢◌, ℕ, zero, suc, ◌+◌, ◌-◌, ◌<◌, ◌≤◌, ◌↔◌, List, [], ◌∷◌, length, map, refl, sym, ◌∙◌, ap, ap₂, subst, arith, All}
-use Rattle.std.proofs.lemmas.List.{length-map}
+use Rattle.std.proofs.Common.{◌≡◌, ℕ, suc, ◌-◌, ◌<◌, ◌↔◌, List, [], ◌∷◌, length, map, refl, sym, ◌∙◌, ap, ap₂, subst, All}
 use Rattle.std.proofs.lemmas.List.Elements.{All-nil, All-cons, All-head, All-tail}
 use Rattle.ff_ring.specs.Ring.{CommRing}
 use Rattle.ff_ring.specs.Rows.{Row, row_scale}
 use Rattle.ff_ring.specs.Subsets.{Span}
-use Rattle.ff_ring.proofs.Ring.{product_not_zero, mul_rules}
+use Rattle.ff_ring.proofs.Ring.{product_not_zero}
 use Rattle.ff_ring.proofs.Rows.{row_scale_scale}
 use Rattle.ff_fields.specs.Field.{CodeField}
 use Rattle.ff_fields.specs.Code.{code_ring, code_field}
 use Rattle.ff_fields.specs.Over.{IsOver}
 use Rattle.ff_poly.specs.Words.{IsPoly, IsMonic, product_of}
 use Rattle.ff_poly.specs.Value.{value, value_product}
-use Rattle.ff_poly.specs.Polynomials.{Polynomial, polynomials, polynomials_domain, codes_of, IsOver_codes_of, IsPoly_codes_of, value_codes_of, value_nil, value_not_zero}
+use Rattle.ff_poly.specs.Polynomials.{Polynomial, polynomials, polynomials_domain, codes_of, IsOver_codes_of, IsPoly_codes_of, value_codes_of, value_nil}
 use Rattle.ff_poly.specs.Popov.{row_at, IsRow, IsPopov, multiple_of_row, HaveSameSpan}
 use Rattle.ff_poly.specs.Popov as codes
 use Rattle.ff_poly.proofs.Parts.{IsPoly_product_of}
@@ -24,18 +23,18 @@ use Rattle.ff_popov.proofs.PopovBasis.{basis_weak, basis_full}
 use Rattle.popov_theory.proofs.PolynomialRows.{row_module_scale}
 use Rattle.ff_popov.specs.Reading.{read_row, row_space, read_rows}
 use Rattle.ff_popov.proofs.ReadRows.{read_multiple}
-use Rattle.ff_popov.proofs.Spans.{to_space, from_space, space_multiple, multiple_row}
-use Rattle.ff_algebra.specs.Functions.{Equation, RowOver, ring_of, of_poly, over, IsPolynomial}
+use Rattle.ff_popov.proofs.Spans.{from_space, space_multiple, multiple_row}
+use Rattle.ff_algebra.specs.Functions.{Equation, RowOver, of_poly, over, IsPolynomial}
 use Rattle.ff_algebra.specs.Values.{PresValue, Functions, functions, function_of, equation_of}
 use Rattle.ff_algebra.proofs.Stages.{row_of_function}
 use Rattle.ff_lattice.specs.Lattices.{LatticeValue, IsLattice, elems_over, InSpanOf, Contains, HasMultipleIn, IsFull, IsSpannedBy}
 use Rattle.ff_lattice.proofs.Normal.{monic_poly, popov_poly}
 use Rattle.ff_lattice.specs.Steps.{IsReducedTo}
-use Rattle.ff_lattice.proofs.Fracs.{over_eq, over_expand, over_scale}
+use Rattle.ff_lattice.proofs.Fracs.{over_eq, over_scale}
 use Rattle.ff_lattice.proofs.Members.{Member, member_numerator}
 use Rattle.ff_lattice.proofs.Elements.{elem_over, in_span_of}
 use Rattle.ff_lattice.proofs.Divisors.{monic_value}
-use Rattle.ff_lattice.proofs.Spaces.{same_space, codes_row, codes_row_length, codes_row_over, read_codes_row}
+use Rattle.ff_lattice.proofs.Spaces.{same_space}
 
 -- a list of polynomials, none with a zero on top
 pub polys_at : (rows : List (List (List ℕ))) → All (All IsPoly) rows → (i : ℕ) → i < length rows → All IsPoly (row_at rows i)
@@ -86,7 +85,7 @@ module _ (k : CodeField) (p : PresValue) where
   reduced_set m rows e l lattice r z =
       let same : map (function_of k p) (elems_over rows e) ≡ map (function_of k p) (elems_over l.rows l.den)
       = ap₂ (λ xs d. map (function_of k p) (elems_over xs d)) (sym r.rows_are) r.den_is
-          ∙ factor_elems m r.factor l.den l.rows r.factor_in lattice.den_in lattice.rows_in (monic_value k r.factor r.factor_in r.factor_poly r.factor_monic) (monic_value k l.den lattice.den_in lattice.den_poly lattice.monic) in (
+      ∙ factor_elems m r.factor l.den l.rows r.factor_in lattice.den_in lattice.rows_in (monic_value k r.factor r.factor_in r.factor_poly r.factor_monic) (monic_value k l.den lattice.den_in lattice.den_poly lattice.monic) in (
         subst (λ fs. InSpan fs z) (sym same),
         subst (λ fs. InSpan fs z) same,
       )
@@ -168,7 +167,7 @@ module _ (k : CodeField) (p : PresValue) where
             let q = value k m.factor in
             let member = (in_span_of k p e some rows ((functions k p).◌⊗◌ (of_poly c q) z)).0 m.is_in in
             let numerator = member_numerator c (value k e) some (read_rows k p.n rows) (row_scale S.ops n q (read_row k n v))
-                (subst (Member c (value k e) some (read_rows k p.n rows)) (over_scale c q (read_row k n v) (value k e) some) member) in
+            (subst (Member c (value k e) some (read_rows k p.n rows)) (over_scale c q (read_row k n v) (value k e) some) member) in
             record {
               factor = m.factor;
               factor_in = m.factor_in;
@@ -194,8 +193,8 @@ rows_spanned k n rows basis e l rows_in rows_poly basis_in popov same e_in e_mon
       let reduced_to = reduced_set k p n basis e l lattice reduced z in
       let sets =
       same_set k p e (monic_value k e e_in (monic_poly e e_monic) e_monic) rows basis
-          (subst (λ m. All (IsRow k.ops m) rows) (sym n_is) rows_in) (subst (λ m. All (IsRow k.ops m) basis) (sym n_is) basis_in) rows_poly (popov_poly n basis popov)
-          (subst (λ m. HaveSameSpan k.ops m rows basis) (sym n_is) same) z in (
+      (subst (λ m. All (IsRow k.ops m) rows) (sym n_is) rows_in) (subst (λ m. All (IsRow k.ops m) basis) (sym n_is) basis_in) rows_poly (popov_poly n basis popov)
+      (subst (λ m. HaveSameSpan k.ops m rows basis) (sym n_is) same) z in (
         λ h. sets.1 (reduced_to.0 h),
         λ h. reduced_to.1 (sets.0 h),
       );

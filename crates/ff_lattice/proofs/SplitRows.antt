@@ -1,5 +1,5 @@
 -- A row of polynomials cut into a left and a right part.
-use Rattle.std.proofs.Common.{◌≡◌, ◌≢◌, ℕ, zero, suc, ◌+◌, ◌-◌, ◌*◌, ◌<◌, ◌≤◌, ◌/◌, ◌%◌, ◌⊎◌, inl, inr, List, [], ◌∷◌, length, get_or, take, drop, refl, sym, ◌∙◌, ap, ap₂, subst, arith, le_of_suc-le-suc}
+use Rattle.std.proofs.Common.{◌≡◌, ℕ, zero, suc, ◌+◌, ◌-◌, ◌*◌, ◌<◌, ◌≤◌, ◌/◌, ◌%◌, ◌⊎◌, inl, inr, List, [], take, drop, refl, sym, ◌∙◌, ap, subst, arith, le_of_suc-le-suc}
 use Rattle.std.proofs.lemmas.Bool.{cases_lt}
 use Rattle.std.proofs.lemmas.List.{get_or-take, get_or-drop}
 use Rattle.ff_ring.specs.Ring.{TestedRing}
@@ -8,9 +8,8 @@ use Rattle.ff_ring.specs.Rows.{Row, entry}
 use Rattle.ff_ring.proofs.Rows.{pair_path}
 use Rattle.ff_ring.proofs.Polynomials.{Pol, pol_ring}
 use Rattle.ff_fields.specs.Field.{CodeField}
-use Rattle.ff_fields.specs.Code.{Code, code_ring}
+use Rattle.ff_fields.specs.Code.{code_ring}
 use Rattle.ff_poly.specs.Value.{value}
-use Rattle.ff_poly.specs.Popov.{entry_at}
 use Rattle.popov_theory.specs.Module.{PolynomialModule}
 use Rattle.popov_theory.proofs.Module.{split, column_below}
 use Rattle.popov_theory.proofs.PolynomialRows.{row_module, row_width, row_entry, same_entries}

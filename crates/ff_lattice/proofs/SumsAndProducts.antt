@@ -1,14 +1,13 @@
 -- Sums and products of lattices as spans of elements.
-use Rattle.std.proofs.Common.{◌≡◌, ◌≢◌, ℕ, zero, suc, ◌+◌, ◌-◌, ◌<◌, ◌≤◌, ◌↔◌, List, [], ◌∷◌, ◌++◌, length, get_or, map, take, refl, sym, ◌∙◌, ap, ap₂, subst, arith, All, Option, Some, append_assoc}
+use Rattle.std.proofs.Common.{◌≡◌, ℕ, ◌+◌, ◌<◌, ◌↔◌, List, [], ◌∷◌, ◌++◌, length, map, take, refl, sym, ◌∙◌, ap, ap₂, subst, arith, All, Some, append_assoc}
 use Rattle.std.specs.Prelude.{slice_get}
-use Rattle.std.proofs.lemmas.List.{length-map, take_more, take_all}
-use Rattle.std.proofs.lemmas.List.Elements.{All-nil, All-cons, All-head, All-tail, All-append}
+use Rattle.std.proofs.lemmas.List.{take_more}
+use Rattle.std.proofs.lemmas.List.Elements.{All-nil, All-cons, All-head, All-tail}
 use Rattle.std.proofs.lemmas.Option.{get_or_from_slice_get}
 use Rattle.ff_ring.specs.Ring.{CommRing}
 use Rattle.ff_ring.specs.Subsets.{IsSubring, Span, Product, products}
-use Rattle.ff_ring.proofs.Ring.{add_mul, zero_mul}
 use Rattle.ff_ring.proofs.Solver.{ring, reads}
-use Rattle.ff_ring.proofs.Subsets.{span_zero, span_sum, span_append_left, span_append_right, product_member, product_of_spans}
+use Rattle.ff_ring.proofs.Subsets.{span_sum, span_append_left, span_append_right, product_member, product_of_spans}
 use Rattle.ff_fields.specs.Field.{CodeField}
 use Rattle.ff_fields.specs.Over.{IsOver}
 use Rattle.ff_poly.specs.Words.{IsPoly, product_of}
@@ -20,10 +19,8 @@ use Rattle.ff_algebra.specs.Functions.{IsPolynomial, of_poly}
 use Rattle.ff_algebra.specs.Values.{ElemValue, PresValue, IsElem, Functions, functions, function_of, equation_of}
 use Rattle.ff_algebra.proofs.ScalarRings.{polynomials_subring}
 use Rattle.ff_algebra.proofs.OnSide.{of_poly_times}
-use Rattle.ff_lattice.specs.Lattices.{LatticeValue, IsLattice, row_elems, elems_over, InSpanOf, Contains, HasMultipleIn, IsFull, IsSumOf}
+use Rattle.ff_lattice.specs.Lattices.{LatticeValue, IsLattice, row_elems, elems_over, InSpanOf, IsFull, IsSumOf}
 use Rattle.ff_lattice.proofs.Scaled.{product_length}
-use Rattle.ff_lattice.proofs.RowElems.{row_elem}
-use Rattle.ff_lattice.proofs.SpannedSets.{lattice_full}
 
 pub map_join : {X Y : Type 0} (f : X → Y) (xs ys : List X) → map f (xs ++ ys) ≡ map f xs ++ map f ys
 map_join f [] ys = refl

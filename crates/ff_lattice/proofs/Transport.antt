@@ -1,12 +1,12 @@
 -- Two modules of one width with the same coefficients: measures, Popov forms and spans are the same.
-use Rattle.std.proofs.Common.{◌≡◌, ◌≢◌, ℕ, zero, suc, ◌+◌, ◌-◌, ◌*◌, ◌<◌, ◌≤◌, ◌/◌, List, [], ◌∷◌, length, map, refl, sym, ◌∙◌, ap, ap₂, subst, arith}
+use Rattle.std.proofs.Common.{◌≡◌, ℕ, zero, suc, ◌+◌, ◌-◌, ◌*◌, ◌<◌, ◌≤◌, ◌/◌, List, [], ◌∷◌, map, refl, sym, ◌∙◌, ap, ap₂, subst, arith}
 use Rattle.std.proofs.lemmas.List.{length-map}
 use mathlib.Core.Path.{fun_ext}
 use Rattle.ff_ring.specs.Ring.{TestedRing}
 use Rattle.ff_ring.specs.Lists.{coeff_of, convolution, tail_of}
 use Rattle.ff_ring.proofs.Polynomials.{Pol}
 use Rattle.popov_theory.specs.Module.{PolynomialModule, measure, pivot, row_degree, column}
-use Rattle.popov_theory.specs.Span.{row_at, combine, InSpan, HaveSameSpan}
+use Rattle.popov_theory.specs.Span.{row_at, combine, InSpan}
 use Rattle.popov_theory.specs.Popov.{IsPopov}
 use Rattle.popov_theory.proofs.Module.{same_columns}
 use Rattle.popov_theory.proofs.Measure.{measure_past, measure_top, measure_is, measure_bound}

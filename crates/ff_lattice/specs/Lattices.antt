@@ -79,5 +79,5 @@ pub record IsScaled (k : CodeField) (p : PresValue) (num den : List ℕ) (A : Fu
   pub member : Functions k p
   pub member_in : A member
   pub is :
-    (functions k p).◌⊗◌ (of_poly (equation_of k p) (value k den)) z
-    ≡ (functions k p).◌⊗◌ (of_poly (equation_of k p) (value k num)) member
+      (functions k p).◌⊗◌ (of_poly (equation_of k p) (value k den)) z
+      ≡ (functions k p).◌⊗◌ (of_poly (equation_of k p) (value k num)) member

@@ -1,7 +1,7 @@
 -- The normal form of a row of an order modulo an ideal, as a list of codes. The coefficient of x^t in column j stands at the
 -- place t·n + j. There is one code for each place at which a row of the order ends and none of the ideal, from the highest
 -- place down (Becker and Weispfenning, Gröbner Bases, on normal forms).
-use Rattle.std.specs.Prelude.{◌≡◌, ℕ, zero, suc, ◌+◌, ◌-◌, ◌/◌, ◌%◌, Bool, cond, nat_lt, List, [], ◌∷◌, ◌++◌, length, get_or, drop}
+use Rattle.std.specs.Prelude.{◌≡◌, ℕ, zero, suc, ◌-◌, ◌/◌, ◌%◌, Bool, cond, nat_lt, List, [], ◌∷◌, ◌++◌, length, get_or, drop}
 use Rattle.ff_fields.specs.Field.{FieldOps}
 use Rattle.ff_poly.specs.Terms.{less_multiple}
 use Rattle.ff_poly.specs.Popov.{entry_at, row_at, IsRow}

@@ -78,8 +78,8 @@ pub record IsQuotient (k : CodeField) (q : QuotientValue) : Type 0 where
   pub products_each : (i : ℕ) → i < q.p.n → length (get_or q.products i []) ≡ q.p.n
   pub products_are : (i j : ℕ) → i < q.p.n → j < q.p.n
       → IsRowOf k q.p q.order
-        ((functions k q.p).◌⊗◌ (function_of k q.p (record { num = row_at q.order.rows i; den = q.order.den })) (function_of k q.p (record { num = row_at q.order.rows j; den = q.order.den })))
-        (row_at (get_or q.products i []) j)
+      ((functions k q.p).◌⊗◌ (function_of k q.p (record { num = row_at q.order.rows i; den = q.order.den })) (function_of k q.p (record { num = row_at q.order.rows j; den = q.order.den })))
+      (row_at (get_or q.products i []) j)
   pub one_is : IsClassOf k q (functions k q.p).𝟙 q.one
 
 -- the same, and that it is an algebra over the field (which `quotient_law` says of each that was made)

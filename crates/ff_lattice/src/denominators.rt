@@ -23,12 +23,7 @@ fn single(alloc: Global, v: Poly) -> Result<Vec<Vec<Poly>>, AllocError>
 }
 
 /// The monic polynomial whose multiples are the u for which e divides u·v.
-fn annihilator<K: SmallField>(
-    alloc: Global,
-    k: &K,
-    e: &Poly,
-    v: &Poly,
-) -> Result<Poly, AllocError>
+fn annihilator<K: SmallField>(alloc: Global, k: &K, e: &Poly, v: &Poly) -> Result<Poly, AllocError>
     requires e_in { IsOver (K.field k.now).ops e.now }
     requires e_some { e.now ≢ [] }
     requires v_in { IsOver (K.field k.now).ops v.now }

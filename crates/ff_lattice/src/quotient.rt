@@ -126,12 +126,7 @@ impl Quotient {
 
     /// A member of the order of the class with these codes, of which there are as many as the dimension. It takes the time
     /// of a subtraction of rows for each code.
-    pub fn lift<K: SmallField>(
-        &self,
-        alloc: Global,
-        k: &K,
-        a: &[u32],
-    ) -> Result<Elem, AllocError>
+    pub fn lift<K: SmallField>(&self, alloc: Global, k: &K, a: &[u32]) -> Result<Elem, AllocError>
         requires over { IsQuotient (K.field k.now) self.now }
         requires a_in { IsVector (K.field k.now).ops (dimension self.now) a.now }
         ensures lifted { let k = K.field k.now in

@@ -1,6 +1,6 @@
-use Rattle.std.proofs.Common.{◌≡◌, ◌<◌, [], ◌∷◌, length, get_or, refl, subst, sym, ap, ap₂, ◌∙◌, arith}
+use Rattle.std.proofs.Common.{◌<◌, [], ◌∷◌, length, get_or, ap, ◌∙◌, arith}
 use Rattle.std.proofs.lemmas.List.{length-map}
-use Rattle.ff_poly.specs.Popov.{rows_of, row_at, entry_at}
+use Rattle.ff_poly.specs.Popov.{rows_of, row_at}
 use Rattle.ff_popov.proofs.Entries.{any_default}
 use Rattle.ff_lattice.proofs.Pushes.{read_row}
 use Rattle.ff_lattice.proofs.Annihilators.{single_preimage, annihilator_is}

@@ -1,7 +1,7 @@
 use Rattle.std.proofs.Common.{ℕ, List, [], ◌∷◌, ◌<◌, length, subst, sym, All, ◌∙◌, arith}
 use Rattle.std.proofs.lemmas.List.{length-map}
 use Rattle.ff_fields.specs.Over.{IsOver}
-use Rattle.ff_poly.specs.Popov.{rows_of, row_at, IsRow}
+use Rattle.ff_poly.specs.Popov.{rows_of, IsRow}
 use Rattle.ff_lattice.specs.Steps.{IsNext, IsRowMultiplier}
 use Rattle.ff_lattice.proofs.Pushes.{read_all, read_row}
 use Rattle.ff_lattice.proofs.Annihilators.{next_more, next_all, least_multiplier_is}

@@ -1,4 +1,4 @@
-use Rattle.std.proofs.Common.{length, subst, sym, All, ◌∙◌}
+use Rattle.std.proofs.Common.{subst, sym, All}
 use Rattle.ff_fields.specs.Over.{IsOver}
 use Rattle.ff_poly.specs.Words.{IsPoly, Divides}
 use Rattle.ff_poly.specs.Popov.{IsRow}

@@ -1,9 +1,9 @@
-use Rattle.std.proofs.Common.{ℕ, List, subst, sym, arith}
+use Rattle.std.proofs.Common.{ℕ, List, subst, arith}
 use Rattle.ff_fields.specs.Over.{IsOver}
 use Rattle.ff_poly.specs.Words.{Divides, product_of}
 use Rattle.ff_lattice.specs.Steps.{IsNext}
 use Rattle.ff_popov.proofs.Entries.{read_default}
-use Rattle.ff_lattice.proofs.Annihilators.{next_more, next_all, next_start}
+use Rattle.ff_lattice.proofs.Annihilators.{next_more, next_all}
 use Rattle.ff_lattice.proofs.denominators.row_multiplier.Goals as goal
 
 pub next_multiplier-requires-clause-v_in : goal.next_multiplier-requires-clause-v_in

@@ -1,4 +1,4 @@
-use Rattle.std.proofs.Common.{length, subst, sym, take, All, arith}
+use Rattle.std.proofs.Common.{subst, All, arith}
 use Rattle.std.proofs.lemmas.List.{take_all}
 use Rattle.ff_poly.specs.Words.{Divides}
 use Rattle.ff_lattice.specs.Steps.{IsCommonMultiple}

@@ -1,4 +1,4 @@
-use Rattle.std.proofs.Common.{◌≡◌, length, subst, sym, ap, ap₂, All, ◌∙◌, arith}
+use Rattle.std.proofs.Common.{subst, sym, ap, All, ◌∙◌}
 use Rattle.ff_fields.specs.Over.{IsOver}
 use Rattle.ff_poly.specs.Words.{product_of}
 use Rattle.ff_poly.specs.Popov.{multiple_of_row}

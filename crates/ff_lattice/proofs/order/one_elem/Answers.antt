@@ -1,4 +1,4 @@
-use Rattle.std.proofs.Common.{◌≡◌, ◌≤◌, [], ◌∷◌, ap, ap₂, ◌∙◌, sym, subst, refl}
+use Rattle.std.proofs.Common.{◌≡◌, ◌≤◌, [], ◌∷◌, ap, ap₂, ◌∙◌, sym, subst}
 use Rattle.ff_algebra.specs.Values.{ElemValue, function_of}
 use Rattle.ff_lattice.specs.Steps.{unit_row}
 use Rattle.ff_lattice.proofs.Ones.{one_is}

@@ -1,11 +1,10 @@
-use Rattle.std.proofs.Common.{◌≡◌, ◌<◌, suc, ◌+◌, ◌-◌, [], length, get_or, refl, sym, ap, ap₂, ◌∙◌, arith, subst}
+use Rattle.std.proofs.Common.{◌≡◌, ◌<◌, suc, ◌+◌, ◌-◌, [], length, get_or, sym, ap, ap₂, ◌∙◌, arith, subst}
 use Rattle.std.proofs.lemmas.List.{length-map}
 use Rattle.ff_fields.specs.Over.{get_or_below}
-use Rattle.ff_poly.specs.Popov.{rows_of, row_at, entry_at, IsRow}
+use Rattle.ff_poly.specs.Popov.{rows_of, entry_at, IsRow}
 use Rattle.ff_popov.proofs.Entries.{read_row_of, any_default}
 use Rattle.ff_popov.proofs.ReadRows.{over_at}
 use Rattle.ff_lattice.specs.PlaceLists.{pivot_length, row_less}
-use Rattle.ff_lattice.proofs.PlaceSteps.{pivot_fits}
 use Rattle.ff_lattice.proofs.places.clear.Goals as goal
 
 pub subtract-requires-clause-c_in : goal.subtract-requires-clause-c_in

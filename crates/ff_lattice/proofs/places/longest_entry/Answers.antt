@@ -1,5 +1,4 @@
-use Rattle.std.proofs.Common.{◌≡◌, ◌<◌, [], length, get_or, max, refl, sym, ap, ap₂, ◌∙◌, arith}
-use Rattle.ff_poly.specs.Popov.{longest, entry_at}
+use Rattle.std.proofs.Common.{◌<◌, [], length, ap, ◌∙◌, arith}
 use Rattle.ff_popov.proofs.Entries.{any_default}
 use Rattle.ff_lattice.proofs.PlaceSteps.{longest_take}
 use Rattle.ff_lattice.proofs.places.longest_entry.Goals as goal

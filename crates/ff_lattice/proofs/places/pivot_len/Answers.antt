@@ -1,6 +1,6 @@
-use Rattle.std.proofs.Common.{◌≡◌, ◌<◌, [], length, refl, ap, ◌∙◌, arith}
+use Rattle.std.proofs.Common.{◌<◌, [], length, refl, ap, ◌∙◌, arith}
 use Rattle.std.proofs.lemmas.List.{length-map}
-use Rattle.ff_poly.specs.Popov.{rows_of, row_at, entry_at}
+use Rattle.ff_poly.specs.Popov.{rows_of, entry_at}
 use Rattle.ff_popov.proofs.Entries.{read_row_of, any_default}
 use Rattle.ff_lattice.proofs.places.pivot_len.Goals as goal
 

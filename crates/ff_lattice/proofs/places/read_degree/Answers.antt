@@ -1,4 +1,4 @@
-use Rattle.std.proofs.Common.{◌≡◌, ◌<◌, ◌≤◌, suc, ◌+◌, ◌-◌, ◌*◌, [], length, get_or, refl, sym, ap, ap₂, ◌∙◌, arith, subst, suc-mul}
+use Rattle.std.proofs.Common.{◌≡◌, suc, ◌+◌, ◌-◌, ◌*◌, length, arith, subst, suc-mul}
 use Rattle.ff_poly.specs.Popov.{rows_of}
 use Rattle.ff_lattice.specs.PlaceLists.{IsReadDown}
 use Rattle.ff_lattice.proofs.PlaceSteps.{read_none, read_on}

@@ -1,10 +1,9 @@
-use Rattle.std.proofs.Common.{◌≡◌, ◌<◌, ◌≤◌, suc, ◌+◌, ◌-◌, [], length, get_or, refl, sym, ap, ap₂, ◌∙◌, arith, subst}
-use Rattle.std.proofs.lemmas.List.{length-map}
+use Rattle.std.proofs.Common.{suc, ◌-◌, [], length, get_or, sym, ap, ◌∙◌, arith, subst}
 use Rattle.ff_fields.specs.Over.{get_or_below}
 use Rattle.ff_poly.specs.Popov.{rows_of, row_at, entry_at, IsRow}
 use Rattle.ff_popov.proofs.Entries.{any_default}
 use Rattle.ff_popov.proofs.ReadRows.{over_at}
-use Rattle.ff_lattice.specs.PlaceLists.{pivot_length, row_less}
+use Rattle.ff_lattice.specs.PlaceLists.{pivot_length}
 use Rattle.ff_lattice.proofs.PlaceSteps.{read_outside, read_ideal, read_kept, row_less_row}
 use Rattle.ff_lattice.proofs.places.read_place.Goals as goal
 

@@ -1,4 +1,4 @@
-use Rattle.std.proofs.Common.{◌≡◌, ◌<◌, ◌≤◌, suc, ◌+◌, ◌-◌, ◌*◌, [], length, drop, refl, sym, ap, ◌∙◌, arith, subst, suc-mul, All}
+use Rattle.std.proofs.Common.{◌≡◌, suc, ◌+◌, ◌-◌, ◌*◌, length, drop, refl, sym, ap, ◌∙◌, arith, subst, suc-mul}
 use Rattle.ff_poly.specs.Popov.{rows_of, IsRow}
 use Rattle.ff_lattice.specs.PlaceLists.{IsSpreadDown, code_count}
 use Rattle.ff_lattice.proofs.PlaceSteps.{spread_on}

@@ -1,8 +1,8 @@
-use Rattle.std.proofs.Common.{rules, ◌≡◌, ◌<◌, ◌≤◌, suc, ◌+◌, ◌-◌, ◌*◌, [], length, get_or, drop, refl, sym, ap, ap₂, ◌∙◌, arith, subst}
+use Rattle.std.proofs.Common.{rules, ◌≡◌, ◌<◌, ◌≤◌, suc, ◌+◌, ◌-◌, [], length, get_or, drop, sym, ap, ap₂, ◌∙◌, arith, subst}
 use Rattle.std.proofs.lemmas.List.{length-map}
 use Rattle.ff_fields.specs.Over.{get_or_below}
-use Rattle.ff_poly.specs.Popov.{rows_of, row_at, entry_at, IsRow}
-use Rattle.ff_popov.proofs.Entries.{any_default, read_row_of}
+use Rattle.ff_poly.specs.Popov.{rows_of, row_at, IsRow}
+use Rattle.ff_popov.proofs.Entries.{read_row_of}
 use Rattle.ff_lattice.specs.PlaceLists.{pivot_length, row_less}
 use Rattle.ff_lattice.proofs.PlaceSteps.{spread_outside, spread_ideal, spread_some, spread_kept, drop_at, drop_next, drop_size, drop_some, row_less_row}
 use Rattle.ff_lattice.proofs.places.spread_place.Goals as goal
@@ -127,7 +127,7 @@ returns g c =
     let neg_in = k.laws.neg_below (get_or c.args.codes.now c.args.done 0) code_in in
     let power : t + 1 - c.pivot_len-first.result ≡ suc t - pivot_length W j = omega (arith, c.pivot_len-first.ensures) in
     let made = c.in_ok-subtract.ensures ∙ ap₂ (λ x s. row_less k.ops row x s c.deref.result.now) c.neg-c.ensures power
-        ∙ ap (row_less k.ops row (k.neg (get_or c.args.codes.now c.args.done 0)) (suc t - pivot_length W j)) is in
+    ∙ ap (row_less k.ops row (k.neg (get_or c.args.codes.now c.args.done 0)) (suc t - pivot_length W j)) is in
     spread_kept k.ops n W J rows t j c.requires.j_in row c.subtract.new.row left (drop (c.args.done + 1) c.args.codes.now)
     (subst (IsRow k.ops n) (sym made) (row_less_row k n row (row_at rows j) (k.neg (get_or c.args.codes.now c.args.done 0)) (suc t - pivot_length W j) c.requires.row_in b_in neg_in))
     c.requires.left h q (drop_next c.args.codes.now c.args.done) (drop_size c.args.codes.now c.args.done less)

@@ -1,4 +1,4 @@
-use Rattle.std.proofs.Common.{◌≡◌, ◌<◌, length, arith, sym, ◌∙◌}
+use Rattle.std.proofs.Common.{◌<◌, length, arith}
 use Rattle.ff_fields.specs.Over.{IsOver}
 use Rattle.ff_popov.proofs.Entries.{read_same, read_default}
 use Rattle.ff_lattice.proofs.PlaceSteps.{row_less_from}

@@ -1,6 +1,5 @@
-use Rattle.std.proofs.Common.{◌≡◌, ℕ, ◌<◌, ◌≤◌, [], ◌++◌, length, take, map, subst, sym, ap, ◌∙◌, arith}
+use Rattle.std.proofs.Common.{◌<◌, [], length, take, sym, ap, ◌∙◌, arith}
 use Rattle.std.proofs.lemmas.List.{length-take-le}
-use Rattle.ff_poly.specs.Popov.{rows_of, row_at}
 use Rattle.ff_lattice.proofs.Pushes.{read_row, pushed_rows}
 use Rattle.ff_lattice.proofs.preimage.corner.Goals as goal
 

@@ -1,4 +1,4 @@
-use Rattle.std.proofs.Common.{◌≡◌, ℕ, ◌<◌, ◌≤◌, [], length, subst, sym, ◌∙◌, arith}
+use Rattle.std.proofs.Common.{◌≡◌, ◌<◌, [], length, subst, ◌∙◌, arith}
 use borrow.Author.Count.{below_more}
 use Rattle.ff_poly.specs.Popov.{rows_of, row_at, entry_at}
 use Rattle.ff_lattice.proofs.Pushes.{read_row}
@@ -10,5 +10,5 @@ loop-i-preserved c =
     let zeros = c.is_zero_from.ensures c.if-not-is_zero_from.false in
     let is = c.deref.ensures.value ∙ read_row c.args.rows.now c.loop-i.i c.index-rows-i.result less c.index-rows-i.is in
     λ m j m_less past.
-        below_more (λ n. entry_at (row_at (rows_of c.args.rows.now) n) j ≡ []) c.loop-i.i (λ n n_less. c.loop-i.invariant n j n_less past)
-        (subst (λ row. entry_at row j ≡ []) is (zeros j past)) m m_less
+    below_more (λ n. entry_at (row_at (rows_of c.args.rows.now) n) j ≡ []) c.loop-i.i (λ n n_less. c.loop-i.invariant n j n_less past)
+    (subst (λ row. entry_at row j ≡ []) is (zeros j past)) m m_less

@@ -1,4 +1,4 @@
-use Rattle.std.proofs.Common.{◌≡◌, ◌++◌, [], replicate, ap₂, ◌∙◌}
+use Rattle.std.proofs.Common.{◌++◌, [], replicate, ap₂, ◌∙◌}
 use Rattle.ff_poly.specs.Popov.{rows_of}
 use Rattle.ff_lattice.specs.Steps.{lifted}
 use Rattle.ff_lattice.proofs.Pushes.{pushed_rows}

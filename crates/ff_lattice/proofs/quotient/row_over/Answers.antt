@@ -1,4 +1,4 @@
-use Rattle.std.proofs.Common.{◌≡◌, sym, ap, ap₂, ◌∙◌, subst, All}
+use Rattle.std.proofs.Common.{sym, ap₂, ◌∙◌, subst, All}
 use Rattle.ff_fields.specs.Over.{IsOver}
 use Rattle.ff_poly.specs.Words.{IsPoly, Divides}
 use Rattle.ff_poly.specs.Popov.{multiple_of_row}

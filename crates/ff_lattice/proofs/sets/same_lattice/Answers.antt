@@ -1,5 +1,4 @@
-use Rattle.std.proofs.Common.{◌≡◌, length, false, true, refl, sym, ap, ap₂, ◌∙◌, subst, arith}
-use Rattle.ff_poly.specs.Popov.{rows_of}
+use Rattle.std.proofs.Common.{◌≡◌, false, true, sym, ap, ap₂, ◌∙◌, subst, arith}
 use Rattle.ff_lattice.specs.Lattices.{LatticeValue, IsLattice, Contains}
 use Rattle.ff_lattice.proofs.OneForm.{one_form}
 use Rattle.ff_lattice.proofs.sets.same_lattice.Goals as goal

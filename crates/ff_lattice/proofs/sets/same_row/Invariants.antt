@@ -1,4 +1,4 @@
-use Rattle.std.proofs.Common.{◌≡◌, ℕ, ◌<◌, []}
+use Rattle.std.proofs.Common.{◌≡◌, ℕ, ◌<◌}
 use Rattle.ff_poly.specs.Popov.{entry_at}
 use Rattle.ff_lattice.proofs.sets.same_row.Given as goal
 

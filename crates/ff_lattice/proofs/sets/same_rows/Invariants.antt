@@ -1,4 +1,4 @@
-use Rattle.std.proofs.Common.{◌≡◌, ℕ, ◌<◌, []}
+use Rattle.std.proofs.Common.{◌≡◌, ℕ, ◌<◌}
 use Rattle.ff_poly.specs.Popov.{rows_of, row_at}
 use Rattle.ff_lattice.proofs.sets.same_rows.Given as goal
 

@@ -1,9 +1,7 @@
-use Rattle.std.proofs.Common.{◌≡◌, ◌<◌, length, subst, sym, ap, ap₂, All, ◌∙◌, arith}
+use Rattle.std.proofs.Common.{subst, sym, All}
 use Rattle.std.specs.Prelude.{MatchOption, IfSome}
-use Rattle.ff_poly.specs.Words.{IsPoly, IsMonic}
 use Rattle.ff_poly.specs.Popov.{rows_of, IsRow, HasFullRank}
-use Rattle.ff_ring.specs.Subsets.{Span}
-use Rattle.ff_lattice.specs.Lattices.{IsLattice, IsSpannedBy, elems_over, IsFull, Contains}
+use Rattle.ff_lattice.specs.Lattices.{IsLattice, IsSpannedBy, elems_over}
 use Rattle.ff_lattice.specs.Steps.{IsExpanded}
 use Rattle.ff_lattice.proofs.CommonDenominators.{expanded_rows, expanded_poly, gens_set, gens_not_full}
 use Rattle.ff_lattice.proofs.SpannedSets.{lattice_full}
@@ -34,7 +32,7 @@ returns-in-None-clause-not_full g c =
     let expanded = subst (λ n. IsExpanded k.ops n c.in_ok-e.e c.args.gens.now rows) c.n-2.ensures.n c.in_ok-rows.ensures in
     let found = subst (λ f. MatchOption f (¬ HasFullRank k.ops c.n-3.result rows) (IsLattice k.ops c.n-3.result)) c.in-None.is c.in_ok-from_rows.ensures.form in
     λ _. gens_not_full k p c.args.gens.now c.in_ok-e.e rows c.requires c.in_ok-e.ensures.over c.in_ok-e.ensures.monic expanded
-        (subst (λ n. ¬ HasFullRank k.ops n rows) c.n-3.ensures.n found)
+    (subst (λ n. ¬ HasFullRank k.ops n rows) c.n-3.ensures.n found)
 
 pub returns-clause-members : goal.returns-clause-members
 returns-clause-members g c =

@@ -35,9 +35,9 @@ returns-clause-row g c =
     let den_is : c.in_ok-den.den ≡ c.args.self.now.den = c.in_ok-den.ensures ∙ ap (λ (l : LatticeValue). l.den) c.self.view_is in
     let elem_is : ◌≡◌ {A = ElemValue} c.new.result (record { num = row_at c.args.self.now.rows c.args.i; den = c.args.self.now.den })
     = made_elem k c.new.result c.in_ok-num.num.items c.in_ok-den.den num_in
-        (subst (All IsPoly) (sym num_is) (row_poly k (length l.rows) l form c.args.i c.requires.in_rows))
-        (subst (IsOver k.ops) (sym den_is) form.den_in) (subst IsPoly (sym den_is) form.den_poly) (subst IsMonic (sym den_is) form.monic) c.new.ensures.num c.new.ensures.den
-        ∙ ap₂ (λ v e. record { num = v; den = e }) num_is den_is in
+    (subst (All IsPoly) (sym num_is) (row_poly k (length l.rows) l form c.args.i c.requires.in_rows))
+    (subst (IsOver k.ops) (sym den_is) form.den_in) (subst IsPoly (sym den_is) form.den_poly) (subst IsMonic (sym den_is) form.monic) c.new.ensures.num c.new.ensures.den
+    ∙ ap₂ (λ v e. record { num = v; den = e }) num_is den_is in
     elem_at l.rows l.den c.args.i c.requires.in_rows ∙ ap Some (sym elem_is)
 
 pub returns-clause-in_range : goal.returns-clause-in_range
@@ -54,7 +54,7 @@ returns-clause-in_range g c =
     let den_is : c.in_ok-den.den ≡ c.args.self.now.den = c.in_ok-den.ensures ∙ ap (λ (l : LatticeValue). l.den) c.self.view_is in
     let elem_is : ◌≡◌ {A = ElemValue} c.new.result (record { num = row_at c.args.self.now.rows c.args.i; den = c.args.self.now.den })
     = made_elem k c.new.result c.in_ok-num.num.items c.in_ok-den.den num_in
-        (subst (All IsPoly) (sym num_is) (row_poly k (length l.rows) l form c.args.i c.requires.in_rows))
-        (subst (IsOver k.ops) (sym den_is) form.den_in) (subst IsPoly (sym den_is) form.den_poly) (subst IsMonic (sym den_is) form.monic) c.new.ensures.num c.new.ensures.den
-        ∙ ap₂ (λ v e. record { num = v; den = e }) num_is den_is in
+    (subst (All IsPoly) (sym num_is) (row_poly k (length l.rows) l form c.args.i c.requires.in_rows))
+    (subst (IsOver k.ops) (sym den_is) form.den_in) (subst IsPoly (sym den_is) form.den_poly) (subst IsMonic (sym den_is) form.monic) c.new.ensures.num c.new.ensures.den
+    ∙ ap₂ (λ v e. record { num = v; den = e }) num_is den_is in
     subst (IsElem k.ops (length l.rows)) (sym elem_is) (row_elem k (length l.rows) l c.requires.form c.args.i c.requires.in_rows)

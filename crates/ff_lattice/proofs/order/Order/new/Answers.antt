@@ -1,4 +1,4 @@
-use Rattle.std.proofs.Common.{rules, ◌≡◌, length, subst, sym, ◌∙◌, refl, false, true}
+use Rattle.std.proofs.Common.{rules, ◌≡◌, subst, sym, ◌∙◌, refl, false, true}
 use Rattle.ff_lattice.specs.Lattices.{Contains}
 use Rattle.ff_lattice.proofs.OrderRows.{order_from_rows, rows_of_order, false_true}
 use Rattle.ff_lattice.proofs.order.Order.new.Goals as goal

@@ -1,4 +1,4 @@
-use Rattle.std.proofs.Common.{◌≡◌, ◌<◌, ◌≤◌, List, ℕ, [], length, get_or, map, sym, ap, ◌∙◌, subst, arith, All}
+use Rattle.std.proofs.Common.{◌<◌, ◌≤◌, [], length, get_or, map, sym, ap, ◌∙◌, subst, arith, All}
 use Rattle.std.proofs.lemmas.List.{length-map, take_all}
 use Rattle.ff_poly.specs.Popov.{rows_of, IsRow}
 use Rattle.ff_lattice.specs.Quotients.{QuotientValue, spread}

@@ -1,4 +1,4 @@
-use Rattle.std.proofs.Common.{◌≡◌, List, ℕ, length, sym, ap, ◌∙◌, subst}
+use Rattle.std.proofs.Common.{◌≡◌, length, sym, ap, ◌∙◌, subst}
 use Rattle.ff_algebra.specs.Values.{function_of}
 use Rattle.ff_poly.specs.Popov.{rows_of}
 use Rattle.ff_lattice.specs.Lattices.{LatticeValue, Contains}
@@ -18,7 +18,7 @@ returns g c =
     let ideal_is = ap rows_of c.deref.ensures.value ∙ ap (λ (q : QuotientValue). q.rows) c.self.view_is in
     let codes_is : c.in_ok-codes.codes.items ≡ codes_of_row k.ops q items
     = codes_read k q (length c.deref_mut.result.now) c.self.inside.depth (rows_of c.rows.result.now) (rows_of c.deref.result.now) c.deref_mut.result.now items c.in_ok-codes.codes.items
-        (ap length c.deref_mut.ensures.value ∙ r2.row_in.size) order_is ideal_is (ap (λ (q : QuotientValue). q.depth) c.self.view_is) c.deref_mut.ensures.value c.in_ok-codes.ensures in
+    (ap length c.deref_mut.ensures.value ∙ r2.row_in.size) order_is ideal_is (ap (λ (q : QuotientValue). q.depth) c.self.view_is) c.deref_mut.ensures.value c.in_ok-codes.ensures in
     subst (IsClassOf k q (function_of k q.p z)) (sym codes_is)
     (subst (λ x. IsClassOf k q x (codes_of_row k.ops q items)) r2.is
     (class_of_row k q c.requires.over items r2.row_in (subst (Contains k q.p q.order) (sym r2.is) c.requires.member)))
