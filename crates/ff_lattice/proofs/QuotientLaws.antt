@@ -37,7 +37,7 @@ use Rattle.ff_falg.specs.Algebras.{IsAlgebra, IsVector}
 use Rattle.ff_ring.proofs.Lists.{length_add_lists, length_scale_list}
 use Rattle.ff_lattice.specs.Lattices.{IsLattice, Contains, row_elems}
 use Rattle.ff_lattice.specs.PlaceLists.{code_count, codes_below, sum_of_codes}
-use Rattle.ff_lattice.specs.Quotients.{QuotientValue, dimension, spread, codes_of_row, lifted, product_codes, quotient_ops, IsClassOf, IsQuotient, HasClasses}
+use Rattle.ff_lattice.specs.Quotients.{QuotientValue, dimension, spread, codes_of_row, lifted, product_codes, quotient_ops, IsClassOf, IsFrame, HasClasses}
 use Rattle.ff_lattice.proofs.Fracs.{over_zero, over_add, over_scale}
 use Rattle.ff_lattice.proofs.Members.{member_numerator}
 use Rattle.ff_lattice.proofs.Elements.{elem_over, in_span_of}
@@ -74,7 +74,7 @@ lists_same k (suc m) (c ∷ a) (d ∷ b) a_size b_size a_in b_in e =
         eq_of_sub A.ring x y
         (ap (A.◌⊕◌ x) (sym (neg_mul A.ring A.𝟙 y ∙ ap A.⊖◌ (one_mul A.ring y))) ∙ zero_is)
 
-module _ (k : CodeField) (q : QuotientValue) (h : IsQuotient k q) where
+module _ (k : CodeField) (q : QuotientValue) (h : IsFrame k q) where
   abbrev p : PresValue
   p = q.p
 
@@ -394,13 +394,13 @@ module _ (k : CodeField) (q : QuotientValue) (h : IsQuotient k q) where
       subst O (F.mul_one (of_poly c a))
       (span_scale F T 𝓢 (map (function_of k q.p) (row_elems q.order)) (of_poly c a) F.𝟙 (record { polynomial = a; value = refl }) h.order.one_in)
 
-  pub quotient_algebra : IsAlgebra k (quotient_ops q)
-  quotient_algebra = record {
-    unit_in = h.one_is.codes;
+  pub quotient_algebra : IsClassOf k q F.𝟙 q.one → IsAlgebra k (quotient_ops q)
+  quotient_algebra one_is = record {
+    unit_in = one_is.codes;
     product_in = codes_in;
     commutative = product_commutes F O I ideal_of V lift lift_member one_vector (product_codes k.ops q) codes_in product_is;
     associative = product_associates F O I ideal_of V lift lift_member one_vector (product_codes k.ops q) codes_in product_is;
-    unit_times = product_unit F O I ideal_of V lift lift_member one_vector (product_codes k.ops q) codes_in product_is q.one h.one_is.codes (same_class F.𝟙 q.one h.one_is);
+    unit_times = product_unit F O I ideal_of V lift lift_member one_vector (product_codes k.ops q) codes_in product_is q.one one_is.codes (same_class F.𝟙 q.one one_is);
     distributive = product_adds F O I ideal_of V lift lift_member one_vector (product_codes k.ops q) codes_in product_is (add_lists (raw_ring k.ops)) sum_vector lift_add;
     linear = λ x a b x_in a_in b_in.
         product_scales F O I ideal_of V lift lift_member one_vector (product_codes k.ops q) codes_in product_is (scale_list (raw_ring k.ops) x) (of_poly c (constant_poly k x)) (polynomial_member (constant_poly k x))
@@ -427,8 +427,8 @@ module _ (k : CodeField) (q : QuotientValue) (h : IsQuotient k q) where
   no_zero : (z : Functions k q.p) → F.◌⊕◌ z (F.⊖◌ F.𝟘) ≡ z
   no_zero z = ap (F.◌⊕◌ z) (neg_zero F) ∙ F.add_zero z
 
-  pub has_classes : HasClasses k q
-  has_classes = record {
+  pub has_classes : IsClassOf k q F.𝟙 q.one → HasClasses k q
+  has_classes one_is = record {
     only = λ z a b a_of b_of.
         one_vector a b a_of.codes b_of.codes (same_trans F O I ideal_of (lift a) z (lift b) (same_class z a a_of) (same_sym F O I ideal_of (lift b) z (same_class z b b_of)));
     of_lifted = λ a a_in. class_of (lift a) a a_in (same_of F O I ideal_of (lift a) (lift a) refl);
@@ -442,7 +442,7 @@ module _ (k : CodeField) (q : QuotientValue) (h : IsQuotient k q) where
         (same_trans F O I ideal_of (F.◌⊗◌ (lift a) (lift b)) (F.◌⊗◌ z (lift b)) (F.◌⊗◌ z u)
         (same_right F O I ideal_of (lift b) (lift a) z (lift_member b b_of.codes) (same_class z a a_of))
         (same_scaled F O I ideal_of z (lift b) u z_in (same_class u b b_of))));
-    of_one = h.one_is;
+    of_one = one_is;
     of_ideal = λ z. (
       λ z_of. subst I (ap (λ x. F.◌⊕◌ z (F.⊖◌ x)) lift_zeros ∙ no_zero z) z_of.difference,
       λ z_in. record { codes = zeros_vector; difference = subst I (sym (ap (λ x. F.◌⊕◌ z (F.⊖◌ x)) lift_zeros ∙ no_zero z)) z_in },

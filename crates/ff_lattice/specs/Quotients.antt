@@ -64,8 +64,8 @@ pub record IsRowOf (k : CodeField) (p : PresValue) (order : LatticeValue) (z : F
   pub row_in : IsRow k.ops p.n row
   pub is : function_of k p (record { num = row; den = order.den }) ≡ z
 
--- the quotient was made over this field
-pub record IsQuotient (k : CodeField) (q : QuotientValue) : Type 0 where
+-- an order, an ideal of it, and their rows and products over the denominator of the order
+pub record IsFrame (k : CodeField) (q : QuotientValue) : Type 0 where
   pub positive : 1 ≤ q.p.n
   pub p_in : IsPresOver k.ops q.p
   pub order : IsOrder k q.p q.order
@@ -80,6 +80,15 @@ pub record IsQuotient (k : CodeField) (q : QuotientValue) : Type 0 where
       → IsRowOf k q.p q.order
       ((functions k q.p).◌⊗◌ (function_of k q.p (record { num = row_at q.order.rows i; den = q.order.den })) (function_of k q.p (record { num = row_at q.order.rows j; den = q.order.den })))
       (row_at (get_or q.products i []) j)
+
+-- rows that stand for elements
+pub record IsRowsOf (k : CodeField) (p : PresValue) (order : LatticeValue) (zs : List ElemValue) (rows : List (List (List ℕ))) : Type 0 where
+  pub size : length rows ≡ length zs
+  pub each : (j : ℕ) (d : ElemValue) → j < length zs → IsRowOf k p order (function_of k p (get_or zs j d)) (row_at rows j)
+
+-- the quotient was made over this field
+pub record IsQuotient (k : CodeField) (q : QuotientValue) : Type 0 where
+  pub frame : IsFrame k q
   pub one_is : IsClassOf k q (functions k q.p).𝟙 q.one
 
 -- the same, and that it is an algebra over the field (which `quotient_law` says of each that was made)

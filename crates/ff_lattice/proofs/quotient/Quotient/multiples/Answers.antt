@@ -13,9 +13,9 @@ spread-requires-clause-rows_in g c =
     let ms = c.self.inside.products.items in
     let products = ap (λ (q : QuotientValue). q.products) c.self.view_is in
     let less : c.loop-i.i < length ms = omega arith in
-    let in_n : c.loop-i.i < q.p.n = omega (arith, less, length-map ms (λ m. rows_of m.items), ap length products, c.requires.over.products_size) in
+    let in_n : c.loop-i.i < q.p.n = omega (arith, less, length-map ms (λ m. rows_of m.items), ap length products, c.requires.over.frame.products_size) in
     let is = ap rows_of c.deref.ensures.value ∙ read_matrix ms c.loop-i.i c.index.result.now less c.index.ensures ∙ ap (λ xs. get_or xs c.loop-i.i []) products in
-    subst (All (IsRow k.ops q.p.n)) (sym is) (products_in k q c.requires.over c.loop-i.i in_n)
+    subst (All (IsRow k.ops q.p.n)) (sym is) (products_in k q c.requires.over.frame c.loop-i.i in_n)
 
 pub spread-requires-clause-rows_size : goal.spread-requires-clause-rows_size
 spread-requires-clause-rows_size g c =
@@ -23,9 +23,9 @@ spread-requires-clause-rows_size g c =
     let ms = c.self.inside.products.items in
     let products = ap (λ (q : QuotientValue). q.products) c.self.view_is in
     let less : c.loop-i.i < length ms = omega arith in
-    let in_n : c.loop-i.i < q.p.n = omega (arith, less, length-map ms (λ m. rows_of m.items), ap length products, c.requires.over.products_size) in
+    let in_n : c.loop-i.i < q.p.n = omega (arith, less, length-map ms (λ m. rows_of m.items), ap length products, c.requires.over.frame.products_size) in
     let is = ap rows_of c.deref.ensures.value ∙ read_matrix ms c.loop-i.i c.index.result.now less c.index.ensures ∙ ap (λ xs. get_or xs c.loop-i.i []) products in
-    sym (length-map c.deref.result.now (λ v. v.items)) ∙ ap length is ∙ c.requires.over.products_each c.loop-i.i in_n
+    sym (length-map c.deref.result.now (λ v. v.items)) ∙ ap length is ∙ c.requires.over.frame.products_each c.loop-i.i in_n
 
 pub loop-i-preserved : goal.loop-i-preserved
 loop-i-preserved g c =

@@ -21,4 +21,4 @@ returns g c =
     (ap length c.deref_mut.ensures.value ∙ r2.row_in.size) order_is ideal_is (ap (λ (q : QuotientValue). q.depth) c.self.view_is) c.deref_mut.ensures.value c.in_ok-codes.ensures in
     subst (IsClassOf k q (function_of k q.p z)) (sym codes_is)
     (subst (λ x. IsClassOf k q x (codes_of_row k.ops q items)) r2.is
-    (class_of_row k q c.requires.over items r2.row_in (subst (Contains k q.p q.order) (sym r2.is) c.requires.member)))
+    (class_of_row k q c.requires.over.frame items r2.row_in (subst (Contains k q.p q.order) (sym r2.is) c.requires.member)))
