@@ -76,6 +76,7 @@ module _ (k : CodeField) (p : PresValue) (l : LatticeValue) (lattice : IsLattice
   pub quotient_is_row : (r : List (List ℕ)) → IsRowQuotient k.ops z.den scaled r → IsRowOf k p l (function_of k p z) r
   quotient_is_row r h = record {
     row_in = record { size = sym (length-map r (product_of k.ops z.den)) ∙ ap length h.is ∙ scaled_size; over = h.over };
+    row_poly = h.poly;
     is =
         elem_over k p l.den den_some r
         ∙ over_eq c (read_row k n r) (read_row k n z.num) (value k l.den) (value k z.den) den_some e_some

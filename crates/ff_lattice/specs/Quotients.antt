@@ -3,6 +3,7 @@ use Rattle.std.specs.Prelude.{◌≡◌, ℕ, ◌*◌, ◌<◌, ◌≤◌, ◌�
 use Rattle.ff_ring.specs.Lists.{add_lists}
 use Rattle.ff_fields.specs.Field.{FieldOps, CodeField}
 use Rattle.ff_fields.specs.Code.{raw_ring}
+use Rattle.ff_poly.specs.Words.{IsPoly}
 use Rattle.ff_poly.specs.Popov.{row_at, longest, IsRow, IsPopov}
 use Rattle.ff_algebra.specs.Values.{ElemValue, PresValue, IsPresOver, Functions, functions, function_of}
 use Rattle.ff_falg.specs.Algebras.{AlgebraOps, IsAlgebra, IsVector}
@@ -62,7 +63,17 @@ pub record IsIdeal (k : CodeField) (p : PresValue) (order ideal : LatticeValue) 
 -- a row over the denominator of the order stands for z
 pub record IsRowOf (k : CodeField) (p : PresValue) (order : LatticeValue) (z : Functions k p) (row : List (List ℕ)) : Type 0 where
   pub row_in : IsRow k.ops p.n row
+  pub row_poly : All IsPoly row
   pub is : function_of k p (record { num = row; den = order.den }) ≡ z
+
+-- for the first rows of the order the rows that stand for their products by all rows
+pub record AreProducts (k : CodeField) (p : PresValue) (order : LatticeValue) (count : ℕ) (products : List (List (List (List ℕ)))) : Type 0 where
+  pub size : length products ≡ count
+  pub each : (i : ℕ) → i < count → length (get_or products i []) ≡ length order.rows
+  pub are : (i j : ℕ) → i < count → j < length order.rows
+      → IsRowOf k p order
+        ((functions k p).◌⊗◌ (function_of k p (record { num = row_at order.rows i; den = order.den })) (function_of k p (record { num = row_at order.rows j; den = order.den })))
+        (row_at (get_or products i []) j)
 
 -- an order, an ideal of it, and their rows and products over the denominator of the order
 pub record IsFrame (k : CodeField) (q : QuotientValue) : Type 0 where

@@ -30,7 +30,7 @@ impl Model for Order {
 }
 
 /// The element 1, with n numerators.
-fn one_elem<K: SmallField>(alloc: Global, k: &K, n: usize) -> Result<Elem, AllocError>
+pub(crate) fn one_elem<K: SmallField>(alloc: Global, k: &K, n: usize) -> Result<Elem, AllocError>
     requires { 1 ≤ n }
     ensures one { let k = K.field k.now in
         IfOk result (λ z. (p : PresValue) → p.n ≡ n → function_of k p z ≡ (functions k p).𝟙) }

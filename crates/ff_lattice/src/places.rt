@@ -41,6 +41,21 @@ fn pivot_len<K: SmallField>(k: &K, rows: &[Vec<Poly>], j: usize) -> usize
     rows[j][j].len()
 }
 
+/// The length of the longest pivot.
+pub(crate) fn deepest<K: SmallField>(k: &K, rows: &[Vec<Poly>]) -> usize
+    requires { All (IsRow (K.field k.now).ops (length rows.now)) (rows_of rows.now) }
+    ensures { (j : ℕ) → j < length rows.now → pivot_length (rows_of rows.now) j ≤ result }
+{
+    let mut most = 0;
+    for j in 0..rows.len() {
+        let len = pivot_len(k, rows, j);
+        if most < len {
+            most = len;
+        }
+    }
+    most
+}
+
 /// Takes away the multiple of row j that clears the place of x^t in column j.
 fn clear<K: SmallField>(
     k: &K,

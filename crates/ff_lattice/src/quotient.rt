@@ -1,15 +1,17 @@
 //! Quotients of orders by ideals, as finite algebras.
 
-ghost use Rattle.std.specs.Prelude.{◌≡◌, ◌≤◌, ◌<◌, ◌*◌, [], length, map, replicate, All, IfOk};
+ghost use Rattle.std.specs.Prelude.{◌≡◌, ◌↔◌, ◌≤◌, ◌<◌, ◌*◌, [], length, map, replicate, All, IfOk};
 ghost use Rattle.ff_fields.specs.Over.{IsOver};
-ghost use Rattle.ff_poly.specs.Popov.{rows_of, IsRow};
-ghost use Rattle.ff_algebra.specs.Values.{PresValue, Functions, functions, function_of, IsElem, IsMonicElem};
+ghost use Rattle.ff_poly.specs.Popov.{rows_of, IsRow, IsPopov};
+ghost use Rattle.ff_algebra.specs.Values.{PresValue, IsPresOver, Functions, functions, function_of, IsElem, IsMonicElem};
 ghost use Rattle.ff_falg.specs.Algebras.{IsVector};
-ghost use Rattle.ff_lattice.specs.Lattices.{LatticeValue, IsLattice, Contains};
-ghost use Rattle.ff_lattice.specs.Quotients.{QuotientValue, IsQuotient, IsQuotientOver, IsClassOf, IsRowOf, HasClasses, dimension, lifted, quotient_ops, spread};
+ghost use Rattle.ff_lattice.specs.Lattices.{LatticeValue, IsLattice, Contains, InSpanOf, elems_over};
+ghost use Rattle.ff_lattice.specs.Orders.{IsOrder};
+ghost use Rattle.ff_lattice.specs.Quotients.{QuotientValue, IsQuotient, IsQuotientOver, IsClassOf, IsRowOf, IsRowsOf, IsIdeal, AreProducts, HasClasses, dimension, lifted, quotient_ops, spread};
 
 use crate::denominators::row_quotient;
 use crate::lattice::Lattice;
+use crate::operations::{push_products, push_rows};
 use crate::order::Order;
 use crate::places::{read_codes, spread_codes};
 use crate::rows::multiple_row;
@@ -17,6 +19,7 @@ use ff_algebra::{Elem, Pres};
 use ff_falg::FiniteAlgebra;
 use ff_fields::field::SmallField;
 use ff_poly::Poly;
+use ff_popov::popov;
 use std::alloc::{AllocError, Global};
 use std::marker::Model;
 
@@ -61,6 +64,72 @@ fn row_over<K: SmallField>(
     let v = multiple_row(alloc, k, l.den(), z.num())?;
     let row = row_quotient(alloc, k, z.den(), &v)?;
     Ok(row)
+}
+
+/// The rows that stand for members of the lattice, over its denominator.
+fn rows_over<K: SmallField>(
+    alloc: Global,
+    k: &K,
+    p: &Pres,
+    l: &Lattice,
+    zs: &[Elem],
+) -> Result<Vec<Vec<Poly>>, AllocError>
+    requires l_form { IsLattice (K.field k.now).ops p.now.n l.now }
+    requires zs_in { All (IsElem (K.field k.now).ops p.now.n) zs.now }
+    requires members { let k = K.field k.now in All (λ z. Contains k p.now l.now (function_of k p.now z)) zs.now }
+    ensures { let k = K.field k.now in IfOk result (λ rows. IsRowsOf k p.now l.now zs.now (rows_of rows.items)) }
+{
+    let mut rows = Vec::new(alloc);
+    for z in zs {
+        rows.push(row_over(alloc, k, p, l, z)?)?;
+    }
+    Ok(rows)
+}
+
+/// The Popov basis of the ideal's rows over the denominator of the order.
+fn ideal_basis<K: SmallField>(
+    alloc: Global,
+    k: &K,
+    p: &Pres,
+    l: &Lattice,
+    i: &Lattice,
+) -> Result<Vec<Vec<Poly>>, AllocError>
+    requires l_form { IsLattice (K.field k.now).ops p.now.n l.now }
+    requires ideal { IsIdeal (K.field k.now) p.now l.now i.now }
+    ensures rows_in { IfOk result (λ rows. All (IsRow (K.field k.now).ops p.now.n) (rows_of rows.items)) }
+    ensures popov { IfOk result (λ rows. IsPopov p.now.n (rows_of rows.items)) }
+    ensures members { let k = K.field k.now in
+        IfOk result (λ rows. (z : Functions k p.now) → Contains k p.now i.now z ↔ InSpanOf k p.now (elems_over (rows_of rows.items) l.now.den) z) }
+{
+    let mut gens = Vec::new(alloc);
+    push_rows(alloc, k, &mut gens, i)?;
+    let rows = rows_over(alloc, k, p, l, &gens)?;
+    match popov(alloc, k, rows, p.n())? {
+        None => unreachable!(),
+        Some(basis) => Ok(basis),
+    }
+}
+
+/// For each row of the order the rows that stand for its products by the rows.
+fn product_rows<K: SmallField>(
+    alloc: Global,
+    k: &K,
+    p: &Pres,
+    l: &Lattice,
+) -> Result<Vec<Vec<Vec<Poly>>>, AllocError>
+    requires p_in { IsPresOver (K.field k.now).ops p.now }
+    requires order { IsOrder (K.field k.now) p.now l.now }
+    ensures { let k = K.field k.now in
+        IfOk result (λ ms. AreProducts k p.now l.now (length l.now.rows) (map (λ m. rows_of m.items) ms.items)) }
+{
+    let mut products = Vec::new(alloc);
+    for i in 0..l.len() {
+        let row = l.row(alloc, k, i)?;
+        let mut gens = Vec::new(alloc);
+        push_products(alloc, k, p, &mut gens, &row, l)?;
+        products.push(rows_over(alloc, k, p, l, &gens)?)?;
+    }
+    Ok(products)
 }
 
 impl Quotient {
