@@ -29,4 +29,5 @@ pub mod QuotientLaws
 pub mod PlaceSteps
 pub mod OrderElems
 pub mod QuotientSteps
+pub mod MadeQuotients
 pub mod Results

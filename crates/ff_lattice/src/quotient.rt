@@ -12,8 +12,8 @@ ghost use Rattle.ff_lattice.specs.Quotients.{QuotientValue, IsQuotient, IsQuotie
 use crate::denominators::row_quotient;
 use crate::lattice::Lattice;
 use crate::operations::{push_products, push_rows};
-use crate::order::Order;
-use crate::places::{read_codes, spread_codes};
+use crate::order::{Order, one_elem};
+use crate::places::{deepest, read_codes, spread_codes};
 use crate::rows::multiple_row;
 use ff_algebra::{Elem, Pres};
 use ff_falg::FiniteAlgebra;
@@ -133,6 +133,44 @@ fn product_rows<K: SmallField>(
 }
 
 impl Quotient {
+    /// The order modulo the ideal. It takes the time of n² products of rows, and of the Popov basis of the ideal.
+    pub fn new<K: SmallField>(
+        alloc: Global,
+        k: &K,
+        p: &Pres,
+        o: &Order,
+        i: &Lattice,
+    ) -> Result<Quotient, AllocError>
+        requires p_in { IsPresOver (K.field k.now).ops p.now }
+        requires order { IsOrder (K.field k.now) p.now o.now }
+        requires ideal { IsIdeal (K.field k.now) p.now o.now i.now }
+        ensures p { IfOk result (λ q. q.p ≡ p.now) }
+        ensures order { IfOk result (λ q. q.order ≡ o.now) }
+        ensures ideal { IfOk result (λ q. q.ideal ≡ i.now) }
+        ensures quotient { IfOk result (IsQuotient (K.field k.now)) }
+        ensures over { IfOk result (IsQuotientOver (K.field k.now)) }
+    {
+        let l = o.lattice();
+        let rows = ideal_basis(alloc, k, p, l, i)?;
+        let depth = deepest(k, &rows);
+        let products = product_rows(alloc, k, p, l)?;
+        let unit = one_elem(alloc, k, p.n())?;
+        let mut row = row_over(alloc, k, p, l, &unit)?;
+        let one = read_codes(alloc, k, &mut row, l.rows(), &rows, depth)?;
+        let p = p.copy(alloc)?;
+        let order = o.copy(alloc)?;
+        let ideal = i.copy(alloc)?;
+        Ok(Quotient {
+            p,
+            order,
+            ideal,
+            rows,
+            depth,
+            products,
+            one,
+        })
+    }
+
     /// The presentation.
     pub fn p(&self) -> &Pres
         ensures { result.now ≡ self.now.p }
