@@ -2,7 +2,7 @@
 use Rattle.std.proofs.Common.{◌≡◌, ℕ, ◌*◌, ◌<◌, ◌≤◌, ◌↔◌, max, List, length, sym, subst, arith, All}
 use Rattle.ff_fields.specs.Field.{CodeField}
 use Rattle.ff_poly.specs.Popov.{longest, IsRow, IsPopov}
-use Rattle.ff_algebra.specs.Values.{PresValue, IsPresOver, Functions, functions, function_of}
+use Rattle.ff_algebra.specs.Values.{PresValue, IsPresOver, Functions, functions}
 use Rattle.ff_lattice.specs.Lattices.{LatticeValue, Contains, InSpanOf, elems_over}
 use Rattle.ff_lattice.specs.Orders.{IsOrder}
 use Rattle.ff_lattice.specs.PlaceLists.{pivot_length, codes_below}

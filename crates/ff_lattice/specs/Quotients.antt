@@ -72,8 +72,8 @@ pub record AreProducts (k : CodeField) (p : PresValue) (order : LatticeValue) (c
   pub each : (i : ℕ) → i < count → length (get_or products i []) ≡ length order.rows
   pub are : (i j : ℕ) → i < count → j < length order.rows
       → IsRowOf k p order
-        ((functions k p).◌⊗◌ (function_of k p (record { num = row_at order.rows i; den = order.den })) (function_of k p (record { num = row_at order.rows j; den = order.den })))
-        (row_at (get_or products i []) j)
+      ((functions k p).◌⊗◌ (function_of k p (record { num = row_at order.rows i; den = order.den })) (function_of k p (record { num = row_at order.rows j; den = order.den })))
+      (row_at (get_or products i []) j)
 
 -- an order, an ideal of it, and their rows and products over the denominator of the order
 pub record IsFrame (k : CodeField) (q : QuotientValue) : Type 0 where

@@ -1,4 +1,4 @@
-use Rattle.std.proofs.Common.{◌≡◌, [], ◌++◌, length, get_or, sym, ap, ◌∙◌, subst, All}
+use Rattle.std.proofs.Common.{◌≡◌, ◌++◌, get_or, sym, ap, ◌∙◌, subst, All}
 use Rattle.std.specs.Prelude.{MatchOption}
 use Rattle.ff_poly.specs.Popov.{rows_of, IsRow, IsPopov, HaveSameSpan, HasFullRank}
 use Rattle.ff_algebra.specs.Values.{IsElem, function_of}

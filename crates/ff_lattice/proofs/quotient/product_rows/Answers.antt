@@ -3,7 +3,7 @@ use Rattle.std.proofs.lemmas.Option.{get_or_from_slice_get}
 use Rattle.ff_poly.specs.Popov.{rows_of}
 use Rattle.ff_algebra.specs.Values.{ElemValue, functions, function_of}
 use Rattle.ff_lattice.specs.Lattices.{Contains, row_elems}
-use Rattle.ff_lattice.specs.Quotients.{AreProducts, IsRowsOf}
+use Rattle.ff_lattice.specs.Quotients.{AreProducts}
 use Rattle.ff_lattice.proofs.RowElems.{elems_length}
 use Rattle.ff_lattice.proofs.OrderRows.{all_of_map, all_from_map, rows_members}
 use Rattle.ff_lattice.proofs.SumsAndProducts.{map_join}
