@@ -20,6 +20,17 @@ pub mod Membership
 pub mod OneForm
 pub mod RowLists
 pub mod SumsAndProducts
+pub mod OrderRows
+pub mod Ones
+pub mod ClassAlgebras
+pub mod PlaceCodes
+pub mod PlaceClasses
+pub mod CodeSums
+pub mod QuotientLaws
+pub mod PlaceSteps
+pub mod OrderElems
+pub mod QuotientSteps
+pub mod MadeQuotients
 pub mod Results
 pub mod ScaledSets
 pub mod RowCombinations

@@ -126,7 +126,7 @@ pub(crate) fn exact_quotient<K: SmallField>(
 }
 
 /// The quotients of the entries by g, which divides them.
-fn row_quotient<K: SmallField>(
+pub(crate) fn row_quotient<K: SmallField>(
     alloc: Global,
     k: &K,
     g: &Poly,

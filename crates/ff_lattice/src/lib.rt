@@ -8,12 +8,17 @@ pub mod generators;
 pub mod lattice;
 pub mod multiples;
 pub mod operations;
+pub mod order;
+mod places;
 mod preimage;
+pub mod quotient;
 mod rows;
 pub mod sets;
 
 pub use generators::LatticeFault;
 pub use lattice::Lattice;
+pub use order::Order;
+pub use quotient::Quotient;
 
 #[cfg(test)]
 mod tests;

@@ -34,7 +34,7 @@ pub(crate) fn spanned<K: SmallField>(
 }
 
 /// Appends the rows of the lattice, as elements.
-fn push_rows<K: SmallField>(
+pub(crate) fn push_rows<K: SmallField>(
     alloc: Global,
     k: &K,
     gens: &mut Vec<Elem>,

@@ -1,0 +1,134 @@
+//! Orders: the lattices that are rings.
+
+ghost use Rattle.std.specs.Prelude.{◌≡◌, ◌↔◌, ◌≤◌, length, All, IfOk, IfSome, IsSome, IsTrue};
+ghost use Rattle.ff_algebra.specs.Values.{PresValue, IsPresOver, IsElem, IsMonicElem, Functions, functions, function_of};
+ghost use Rattle.ff_lattice.specs.Lattices.{LatticeValue, IsLattice, Contains, row_elems};
+ghost use Rattle.ff_lattice.specs.Orders.{IsOrder, IsOrderByRows, TakesRowsIn};
+
+use crate::lattice::Lattice;
+use crate::rows::unit_row;
+use crate::sets::contains;
+use ff_algebra::elem::mul;
+use ff_algebra::{Elem, Pres};
+use ff_fields::field::SmallField;
+use ff_poly::Poly;
+use std::alloc::{AllocError, Global};
+use std::marker::Model;
+
+/// An order of F: a lattice that contains 1 and the products of its members. Which lattices are orders, `Order::new` says.
+#[derive(Debug, Drop)]
+pub struct Order {
+    lattice: Lattice,
+}
+
+impl Model for Order {
+    ghost use Rattle.ff_lattice.specs.Lattices.{LatticeValue};
+
+    ghost Value = { LatticeValue };
+
+    ghost view = { λ o. o.lattice };
+}
+
+/// The element 1, with n numerators.
+pub(crate) fn one_elem<K: SmallField>(alloc: Global, k: &K, n: usize) -> Result<Elem, AllocError>
+    requires { 1 ≤ n }
+    ensures one { let k = K.field k.now in
+        IfOk result (λ z. (p : PresValue) → p.n ≡ n → function_of k p z ≡ (functions k p).𝟙) }
+    ensures in_range { IfOk result (IsElem (K.field k.now).ops n) }
+    ensures monic { IfOk result IsMonicElem }
+{
+    let num = unit_row(alloc, n, 0)?;
+    let den = Poly::one(alloc)?;
+    Ok(Elem::new(k, num, den))
+}
+
+/// Are the products of z and the rows of the lattice members?
+fn takes_rows_in<K: SmallField>(
+    alloc: Global,
+    k: &K,
+    p: &Pres,
+    l: &Lattice,
+    z: &Elem,
+) -> Result<bool, AllocError>
+    requires p_in { IsPresOver (K.field k.now).ops p.now }
+    requires l_form { IsLattice (K.field k.now).ops p.now.n l.now }
+    requires z_in { IsElem (K.field k.now).ops p.now.n z.now }
+    ensures { let k = K.field k.now in
+        IfOk result (λ r. IsTrue r ↔ TakesRowsIn k p.now l.now (function_of k p.now z.now)) }
+{
+    for j in 0..l.len() {
+        let row = l.row(alloc, k, j)?;
+        let product = mul(alloc, k, p, z, &row)?;
+        if !contains(alloc, k, l, &product)? {
+            return Ok(false);
+        }
+    }
+    Ok(true)
+}
+
+/// Are the products of each two rows members?
+fn has_products<K: SmallField>(
+    alloc: Global,
+    k: &K,
+    p: &Pres,
+    l: &Lattice,
+) -> Result<bool, AllocError>
+    requires p_in { IsPresOver (K.field k.now).ops p.now }
+    requires l_form { IsLattice (K.field k.now).ops p.now.n l.now }
+    ensures { let k = K.field k.now in
+        IfOk result (λ r. IsTrue r ↔ All (λ z. TakesRowsIn k p.now l.now (function_of k p.now z)) (row_elems l.now)) }
+{
+    for i in 0..l.len() {
+        let row = l.row(alloc, k, i)?;
+        if !takes_rows_in(alloc, k, p, l, &row)? {
+            return Ok(false);
+        }
+    }
+    Ok(true)
+}
+
+impl Order {
+    /// The lattice as an order; None exactly where 1 or a product of two rows isn't a member. It takes the time of n²
+    /// products of rows, and of as many questions whether an element is in the lattice.
+    pub fn new<K: SmallField>(
+        alloc: Global,
+        k: &K,
+        p: &Pres,
+        l: Lattice,
+    ) -> Result<Option<Order>, AllocError>
+        requires p_in { IsPresOver (K.field k.now).ops p.now }
+        requires l_form { IsLattice (K.field k.now).ops p.now.n l }
+        ensures decides { IfOk result (λ found. IsSome found ↔ IsOrder (K.field k.now) p.now l) }
+        ensures same { IfOk result (λ found. IfSome found (λ o. o ≡ l)) }
+    {
+        let one = one_elem(alloc, k, p.n())?;
+        if !contains(alloc, k, &l, &one)? {
+            return Ok(None);
+        }
+        if !has_products(alloc, k, p, &l)? {
+            return Ok(None);
+        }
+        Ok(Some(Order { lattice: l }))
+    }
+
+    /// The lattice of its members.
+    pub fn lattice(&self) -> &Lattice
+        ensures { result.now ≡ self.now }
+    {
+        &self.lattice
+    }
+
+    /// An equal order, in memory of its own.
+    pub fn copy(&self, alloc: Global) -> Result<Order, AllocError>
+        ensures { IfOk result (λ o. o ≡ self.now) }
+    {
+        let lattice = self.lattice.copy(alloc)?;
+        Ok(Order { lattice })
+    }
+}
+
+/// A lattice is an order exactly where 1 and the products of its rows are members.
+pub fn order_by_rows<K: SmallField>(k: &K, p: &Pres, l: &Lattice)
+    requires { IsLattice (K.field k.now).ops p.now.n l.now }
+    ensures { let k = K.field k.now in IsOrder k p.now l.now ↔ IsOrderByRows k p.now l.now }
+{}

@@ -1,0 +1,308 @@
+//! Quotients of orders by ideals, as finite algebras.
+
+ghost use Rattle.std.specs.Prelude.{◌≡◌, ◌↔◌, ◌≤◌, ◌<◌, ◌*◌, [], length, map, replicate, All, IfOk};
+ghost use Rattle.ff_fields.specs.Over.{IsOver};
+ghost use Rattle.ff_poly.specs.Popov.{rows_of, IsRow, IsPopov};
+ghost use Rattle.ff_algebra.specs.Values.{PresValue, IsPresOver, Functions, functions, function_of, IsElem, IsMonicElem};
+ghost use Rattle.ff_falg.specs.Algebras.{IsVector};
+ghost use Rattle.ff_lattice.specs.Lattices.{LatticeValue, IsLattice, Contains, InSpanOf, elems_over};
+ghost use Rattle.ff_lattice.specs.Orders.{IsOrder};
+ghost use Rattle.ff_lattice.specs.Quotients.{QuotientValue, IsQuotient, IsQuotientOver, IsClassOf, IsRowOf, IsRowsOf, IsIdeal, AreProducts, HasClasses, dimension, lifted, quotient_ops, spread};
+
+use crate::denominators::row_quotient;
+use crate::lattice::Lattice;
+use crate::operations::{push_products, push_rows};
+use crate::order::{Order, one_elem};
+use crate::places::{deepest, read_codes, spread_codes};
+use crate::rows::multiple_row;
+use ff_algebra::{Elem, Pres};
+use ff_falg::FiniteAlgebra;
+use ff_fields::field::SmallField;
+use ff_poly::Poly;
+use ff_popov::popov;
+use std::alloc::{AllocError, Global};
+use std::marker::Model;
+
+/// An order modulo an ideal, as a finite algebra over the field that it was made over. A class is a list of codes.
+#[derive(Debug, Drop)]
+pub struct Quotient {
+    p: Pres,
+    order: Order,
+    ideal: Lattice,
+    rows: Vec<Vec<Poly>>,
+    depth: usize,
+    products: Vec<Vec<Vec<Poly>>>,
+    one: Vec<u32>,
+}
+
+impl Model for Quotient {
+    ghost use Rattle.std.specs.Prelude.{◌≡◌, length, map};
+    ghost use Rattle.ff_poly.specs.Popov.{rows_of};
+    ghost use Rattle.ff_lattice.specs.Quotients.{QuotientValue, dimension};
+
+    ghost Value = { QuotientValue };
+
+    ghost view = { λ q. record { p = q.p; order = q.order; ideal = q.ideal; rows = rows_of q.rows.items; depth = q.depth; products = map (λ m. rows_of m.items) q.products.items; one = q.one.items } };
+
+    ghost invariant = { λ q. length q.one.items ≡ dimension (record { p = q.p; order = q.order; ideal = q.ideal; rows = rows_of q.rows.items; depth = q.depth; products = map (λ m. rows_of m.items) q.products.items; one = q.one.items }) };
+}
+
+/// The row that stands for z, which is in the lattice, over the lattice's denominator.
+fn row_over<K: SmallField>(
+    alloc: Global,
+    k: &K,
+    p: &Pres,
+    l: &Lattice,
+    z: &Elem,
+) -> Result<Vec<Poly>, AllocError>
+    requires l_form { IsLattice (K.field k.now).ops p.now.n l.now }
+    requires z_in { IsElem (K.field k.now).ops p.now.n z.now }
+    requires member { let k = K.field k.now in Contains k p.now l.now (function_of k p.now z.now) }
+    ensures { let k = K.field k.now in
+        IfOk result (λ row. IsRowOf k p.now l.now (function_of k p.now z.now) row.items) }
+{
+    let v = multiple_row(alloc, k, l.den(), z.num())?;
+    let row = row_quotient(alloc, k, z.den(), &v)?;
+    Ok(row)
+}
+
+/// The rows that stand for members of the lattice, over its denominator.
+fn rows_over<K: SmallField>(
+    alloc: Global,
+    k: &K,
+    p: &Pres,
+    l: &Lattice,
+    zs: &[Elem],
+) -> Result<Vec<Vec<Poly>>, AllocError>
+    requires l_form { IsLattice (K.field k.now).ops p.now.n l.now }
+    requires zs_in { All (IsElem (K.field k.now).ops p.now.n) zs.now }
+    requires members { let k = K.field k.now in All (λ z. Contains k p.now l.now (function_of k p.now z)) zs.now }
+    ensures { let k = K.field k.now in IfOk result (λ rows. IsRowsOf k p.now l.now zs.now (rows_of rows.items)) }
+{
+    let mut rows = Vec::new(alloc);
+    for z in zs {
+        rows.push(row_over(alloc, k, p, l, z)?)?;
+    }
+    Ok(rows)
+}
+
+/// The Popov basis of the ideal's rows over the denominator of the order.
+fn ideal_basis<K: SmallField>(
+    alloc: Global,
+    k: &K,
+    p: &Pres,
+    l: &Lattice,
+    i: &Lattice,
+) -> Result<Vec<Vec<Poly>>, AllocError>
+    requires l_form { IsLattice (K.field k.now).ops p.now.n l.now }
+    requires ideal { IsIdeal (K.field k.now) p.now l.now i.now }
+    ensures rows_in { IfOk result (λ rows. All (IsRow (K.field k.now).ops p.now.n) (rows_of rows.items)) }
+    ensures popov { IfOk result (λ rows. IsPopov p.now.n (rows_of rows.items)) }
+    ensures members { let k = K.field k.now in
+        IfOk result (λ rows. (z : Functions k p.now) → Contains k p.now i.now z ↔ InSpanOf k p.now (elems_over (rows_of rows.items) l.now.den) z) }
+{
+    let mut gens = Vec::new(alloc);
+    push_rows(alloc, k, &mut gens, i)?;
+    let rows = rows_over(alloc, k, p, l, &gens)?;
+    match popov(alloc, k, rows, p.n())? {
+        None => unreachable!(),
+        Some(basis) => Ok(basis),
+    }
+}
+
+/// For each row of the order the rows that stand for its products by the rows.
+fn product_rows<K: SmallField>(
+    alloc: Global,
+    k: &K,
+    p: &Pres,
+    l: &Lattice,
+) -> Result<Vec<Vec<Vec<Poly>>>, AllocError>
+    requires p_in { IsPresOver (K.field k.now).ops p.now }
+    requires order { IsOrder (K.field k.now) p.now l.now }
+    ensures { let k = K.field k.now in
+        IfOk result (λ ms. AreProducts k p.now l.now (length l.now.rows) (map (λ m. rows_of m.items) ms.items)) }
+{
+    let mut products = Vec::new(alloc);
+    for i in 0..l.len() {
+        let row = l.row(alloc, k, i)?;
+        let mut gens = Vec::new(alloc);
+        push_products(alloc, k, p, &mut gens, &row, l)?;
+        products.push(rows_over(alloc, k, p, l, &gens)?)?;
+    }
+    Ok(products)
+}
+
+impl Quotient {
+    /// The order modulo the ideal. It takes the time of n² products of rows, and of the Popov basis of the ideal.
+    pub fn new<K: SmallField>(
+        alloc: Global,
+        k: &K,
+        p: &Pres,
+        o: &Order,
+        i: &Lattice,
+    ) -> Result<Quotient, AllocError>
+        requires p_in { IsPresOver (K.field k.now).ops p.now }
+        requires order { IsOrder (K.field k.now) p.now o.now }
+        requires ideal { IsIdeal (K.field k.now) p.now o.now i.now }
+        ensures p { IfOk result (λ q. q.p ≡ p.now) }
+        ensures order { IfOk result (λ q. q.order ≡ o.now) }
+        ensures ideal { IfOk result (λ q. q.ideal ≡ i.now) }
+        ensures quotient { IfOk result (IsQuotient (K.field k.now)) }
+        ensures over { IfOk result (IsQuotientOver (K.field k.now)) }
+    {
+        let l = o.lattice();
+        let rows = ideal_basis(alloc, k, p, l, i)?;
+        let depth = deepest(k, &rows);
+        let products = product_rows(alloc, k, p, l)?;
+        let unit = one_elem(alloc, k, p.n())?;
+        let mut row = row_over(alloc, k, p, l, &unit)?;
+        let one = read_codes(alloc, k, &mut row, l.rows(), &rows, depth)?;
+        let p = p.copy(alloc)?;
+        let order = o.copy(alloc)?;
+        let ideal = i.copy(alloc)?;
+        Ok(Quotient {
+            p,
+            order,
+            ideal,
+            rows,
+            depth,
+            products,
+            one,
+        })
+    }
+
+    /// The presentation.
+    pub fn p(&self) -> &Pres
+        ensures { result.now ≡ self.now.p }
+    {
+        &self.p
+    }
+
+    /// The order.
+    pub fn order(&self) -> &Order
+        ensures { result.now ≡ self.now.order }
+    {
+        &self.order
+    }
+
+    /// The ideal.
+    pub fn ideal(&self) -> &Lattice
+        ensures { result.now ≡ self.now.ideal }
+    {
+        &self.ideal
+    }
+
+    /// The codes of the class of a member of the order. It takes the time of one row division, and of two subtractions of
+    /// rows for each place of the row.
+    pub fn reduce<K: SmallField>(
+        &self,
+        alloc: Global,
+        k: &K,
+        z: &Elem,
+    ) -> Result<Vec<u32>, AllocError>
+        requires over { IsQuotient (K.field k.now) self.now }
+        requires z_in { IsElem (K.field k.now).ops self.now.p.n z.now }
+        requires member { let k = K.field k.now in Contains k self.now.p self.now.order (function_of k self.now.p z.now) }
+        ensures { let k = K.field k.now in
+            IfOk result (λ a. IsClassOf k self.now (function_of k self.now.p z.now) a.items) }
+    {
+        let l = self.order.lattice();
+        let mut row = row_over(alloc, k, &self.p, l, z)?;
+        let codes = read_codes(alloc, k, &mut row, l.rows(), &self.rows, self.depth)?;
+        Ok(codes)
+    }
+
+    /// The combination of rows by the codes.
+    fn spread<K: SmallField>(
+        &self,
+        alloc: Global,
+        k: &K,
+        rows: &[Vec<Poly>],
+        a: &[u32],
+    ) -> Result<Vec<Poly>, AllocError>
+        requires over { IsQuotient (K.field k.now) self.now }
+        requires rows_in { All (IsRow (K.field k.now).ops self.now.p.n) (rows_of rows.now) }
+        requires rows_size { length rows.now ≡ self.now.p.n }
+        requires a_in { IsVector (K.field k.now).ops (dimension self.now) a.now }
+        ensures { IfOk result (λ v. v.items ≡ spread (K.field k.now).ops self.now (rows_of rows.now) a.now) }
+    {
+        let l = self.order.lattice();
+        let row = spread_codes(alloc, k, l.rows(), &self.rows, self.depth, rows, a)?;
+        Ok(row)
+    }
+
+    /// A member of the order of the class with these codes, of which there are as many as the dimension. It takes the time
+    /// of a subtraction of rows for each code.
+    pub fn lift<K: SmallField>(&self, alloc: Global, k: &K, a: &[u32]) -> Result<Elem, AllocError>
+        requires over { IsQuotient (K.field k.now) self.now }
+        requires a_in { IsVector (K.field k.now).ops (dimension self.now) a.now }
+        ensures lifted { let k = K.field k.now in
+            IfOk result (λ z. function_of k self.now.p z ≡ function_of k self.now.p (lifted k.ops self.now a.now)) }
+        ensures member { let k = K.field k.now in
+            IfOk result (λ z. Contains k self.now.p self.now.order (function_of k self.now.p z)) }
+        ensures in_range { IfOk result (IsElem (K.field k.now).ops self.now.p.n) }
+    {
+        let l = self.order.lattice();
+        let num = self.spread(alloc, k, l.rows(), a)?;
+        let den = l.den().copy(alloc)?;
+        Ok(Elem::new(k, num, den))
+    }
+}
+
+impl Quotient {
+    /// For each row of the order the combination by the codes of its products by the rows.
+    fn multiples<K: SmallField>(
+        &self,
+        alloc: Global,
+        k: &K,
+        b: &[u32],
+    ) -> Result<Vec<Vec<Poly>>, AllocError>
+        requires over { IsQuotient (K.field k.now) self.now }
+        requires b_in { IsVector (K.field k.now).ops (dimension self.now) b.now }
+        ensures { let k = K.field k.now in
+            IfOk result (λ v. rows_of v.items ≡ map (λ rows. spread k.ops self.now rows b.now) self.now.products) }
+    {
+        let mut multiples = Vec::new(alloc);
+        for i in 0..self.products.len() {
+            multiples.push(self.spread(alloc, k, &self.products[i], b)?)?;
+        }
+        Ok(multiples)
+    }
+}
+
+impl<K: SmallField> FiniteAlgebra<K> for Quotient {
+    ghost algebra = { quotient_ops };
+
+    ghost IsOver = { λ q k. IsQuotientOver k q };
+
+    ghost laws = { λ q k over. over.algebra };
+
+    fn dim(&self) -> usize {
+        self.one.len()
+    }
+
+    fn one(&self, alloc: Global) -> Result<Vec<u32>, AllocError> {
+        let codes = Vec::from_slice(alloc, &self.one)?;
+        Ok(codes)
+    }
+
+    fn mul(&self, alloc: Global, k: &K, a: &[u32], b: &[u32]) -> Result<Vec<u32>, AllocError> {
+        let multiples = self.multiples(alloc, k, b)?;
+        let mut row = self.spread(alloc, k, &multiples, a)?;
+        let rows = self.order.lattice().rows();
+        let codes = read_codes(alloc, k, &mut row, rows, &self.rows, self.depth)?;
+        Ok(codes)
+    }
+}
+
+/// Taking classes keeps sums, products and 1, and takes exactly the ideal to 0; each class has one list of codes.
+pub fn classes_law<K: SmallField>(k: &K, q: &Quotient)
+    requires { IsQuotient (K.field k.now) q.now }
+    ensures { HasClasses (K.field k.now) q.now }
+{}
+
+/// A quotient is a commutative algebra with unit over the field that it was made over.
+pub fn quotient_law<K: SmallField>(k: &K, q: &Quotient)
+    requires { IsQuotient (K.field k.now) q.now }
+    ensures { IsQuotientOver (K.field k.now) q.now }
+{}
