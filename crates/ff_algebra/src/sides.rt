@@ -6,6 +6,9 @@ ghost use Rattle.ff_algebra.specs.Values.{PresValue, IsElem, IsMonicElem, functi
 ghost use Rattle.ff_algebra.specs.Infinity.{function_on};
 ghost use Rattle.ff_algebra.specs.Curves.{IsCurve};
 
+#[cfg(test)]
+mod tests;
+
 use crate::curve::Curve;
 use crate::curve::infinity::reversed;
 use crate::elem::Elem;
@@ -39,8 +42,8 @@ pub fn to_fin<K: SmallField>(alloc: Global, k: &K, c: &Curve, z: &Elem) -> Resul
     turned(alloc, k, c.c() as usize, z)
 }
 
-/// The element of either presentation in the other one. The variables are inverse to each other, so one body serves both
-/// ways: the generators differ by the c-th power of a variable, and that of the one is a polynomial in the other's.
+/// The element of either presentation in the other one. One body serves both ways, since the one variable is the inverse of the
+/// other, and each generator is the other one divided by the c-th power of its variable.
 fn turned<K: SmallField>(alloc: Global, k: &K, c: usize, z: &Elem) -> Result<Elem, AllocError>
     requires small { c < 2 ^ 32 }
     requires short { length z.now.num ≤ 4 }
