@@ -5,3 +5,4 @@ pub mod InfiniteTransport
 pub mod InfiniteOrders
 pub mod PushedPlaces
 pub mod PushedDegrees
+pub mod PushedValues
