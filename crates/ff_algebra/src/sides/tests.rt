@@ -2,7 +2,7 @@
 //!
 //! With x = 1/t and y = Y/t^c they were worked out by hand.
 
-ghost use Rattle.std.specs.Prelude.{◌≡◌, ◌<◌, length, All, IfOk};
+ghost use Rattle.std.specs.Prelude.{◌≡◌, ◌<◌, length, All, IfOk, IsTrue};
 ghost use Rattle.ff_fields.specs.Over.{IsOver};
 ghost use Rattle.ff_algebra.specs.Values.{IsElem};
 ghost use Rattle.ff_algebra.specs.Curves.{IsCurve};
@@ -72,7 +72,7 @@ fn is(z: &Elem, num: &[&[u32]], den: &[u32]) -> bool {
 fn returns<K: SmallField>(alloc: Global, k: &K, c: &Curve, z: &Elem) -> Result<bool, Fail>
     requires curve { IsCurve (K.field k.now) c.now }
     requires z_in { IsElem (K.field k.now).ops c.now.fin.n z.now }
-    ensures { IfOk result (λ r. r ≡ true) }
+    ensures { IfOk result IsTrue }
 {
     let back = to_fin(alloc, k, c, &to_inf(alloc, k, c, z)?)?;
     Ok(same(alloc, k, &back, z)?)
