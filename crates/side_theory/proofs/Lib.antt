@@ -6,3 +6,5 @@ pub mod InfiniteOrders
 pub mod PushedPlaces
 pub mod PushedDegrees
 pub mod PushedValues
+pub mod SamePlaceValues
+pub mod InfiniteDecisions
