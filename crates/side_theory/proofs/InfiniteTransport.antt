@@ -1,6 +1,7 @@
 -- The isomorphism between the functions of the infinite presentation and those of the curve carries the variable to t = 1/x, fractions with
 -- denominators that the variable doesn't divide to those of degree at most 0, and what is integral, or spanned, over the ones to what is so over the others.
 use Rattle.std.proofs.Common.{◌≡◌, ◌↔◌, ℕ, ◌≤◌, List, [], ◌∷◌, length, map, get_or, refl, sym, ◌∙◌, ap, ap₂, subst, arith}
+use Rattle.std.proofs.lemmas.List.{length-map}
 use Rattle.ff_ring.specs.Ring.{CommRing}
 use Rattle.ff_ring.specs.Lists.{coeff_of}
 use Rattle.ff_ring.specs.Subsets.{Span}
@@ -40,6 +41,9 @@ use Rattle.side_theory.specs.InfiniteMaps.{IsInfiniteMap}
 module _ (k : CodeField) where
   x_codes : codes_of k (x_poly k) ≡ 0 ∷ 1 ∷ []
   x_codes = numbers_value k (0 ∷ 1 ∷ []) (IsOver_cons (zero_in k) (IsOver_cons k.laws.one_below IsOver_nil)) (record { trimmed = refl })
+
+  pub x_length : length (x_poly k).0 ≡ 2
+  x_length = sym (length-map (x_poly k).0 (λ x. x.0)) ∙ ap length x_codes
 
   pub x_irreducible : IsIrreducible k.ops (codes_of k (x_poly k))
   x_irreducible = record {

@@ -8,3 +8,6 @@ pub mod PushedDegrees
 pub mod PushedValues
 pub mod SamePlaceValues
 pub mod InfiniteDecisions
+pub mod PulledPlaces
+pub mod InfiniteLists
+pub mod InfiniteLaws

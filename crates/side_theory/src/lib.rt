@@ -4,7 +4,7 @@
 //! main theorem is the contract of a function with an empty body; the crates above cite the lemmas of proofs/.
 #![tactic(auto)]
 
-ghost use Rattle.std.specs.Prelude.{◌≡◌, ℕ, ◌≤◌, ◌↔◌, List};
+ghost use Rattle.std.specs.Prelude.{◌≡◌, ℕ, ℤ, ◌≤◌, ◌↔◌, List};
 ghost use Rattle.ff_ring.specs.Ring.{pow};
 ghost use Rattle.ff_ring.specs.Subsets.{IsModule, Span, Product, Colon};
 ghost use Rattle.ff_fields.specs.Field.{CodeField};
@@ -13,9 +13,9 @@ ghost use Rattle.linear_theory.specs.Euclidean.{IsDivisor};
 ghost use Rattle.ff_poly.specs.Words.{IsIrreducible};
 ghost use Rattle.ff_poly.specs.Polynomials.{Polynomial, polynomials, codes_of, x_poly};
 ghost use Rattle.ff_algebra.specs.declared.elem.Side.TheVariants.{Finite, Infinite};
-ghost use Rattle.ff_algebra.specs.Functions.{Equation, FunctionOf, ring_of, of_poly, setting_of, IsPolynomial};
+ghost use Rattle.ff_algebra.specs.Functions.{Equation, FunctionOf, ring_of, of_poly, setting_of, degree_of_y, IsPolynomial};
 ghost use Rattle.ff_algebra.specs.Values.{PresValue, Functions, functions, setting, equation_of};
-ghost use Rattle.ff_algebra.specs.Places.{IsIntegralAt};
+ghost use Rattle.ff_algebra.specs.Places.{Place, IsPlace, IsIn, IsSamePlace, IsIntegralAt, HasValuation};
 ghost use Rattle.ff_algebra.specs.Infinity.{IsInfinitePresentation};
 ghost use Rattle.ff_algebra.specs.Discriminant.{discriminant};
 ghost use Rattle.local_theory.specs.Ideals.{Multiple, SameSet};
@@ -25,6 +25,7 @@ ghost use Rattle.lattice_theory.specs.Lattices.{IsLattice, space_ops};
 ghost use Rattle.order_theory.specs.Orders.{IsOrder, IsPrimeTo, TakenByPowers};
 ghost use Rattle.side_theory.specs.Tame.{IsTame, HasPowerDenominator, IsLocallyIn};
 ghost use Rattle.side_theory.specs.InfiniteMaps.{IsInfiniteMap, IsCombinationAtInfinity};
+ghost use Rattle.side_theory.specs.InfinitePlaces.{InfinitePlace, IsAllInfinite, sum_of_infinite_degrees};
 
 use lattice_theory::FunctionSets;
 
@@ -133,6 +134,21 @@ pub fn combination_law<L: InfiniteSet>()
         ↔ (HasPowerDenominator (equation_of L.field L.infinite) (x_poly L.field) z × IsCombinationAtInfinity L.field L.presentation L.infinite f gs z) }
 {}
 
+/// The discriminant of the infinite presentation isn't 0 where that of the curve isn't; then the integral functions that powers of t take into k[t][Y] are what
+/// O_inf has with powers of t as denominators, and O_inf is, up to factors that t doesn't divide, what they are.
+pub fn infinite_maximal_law()
+    ensures discriminant { (k : CodeField) (p q : PresValue) (c : ℕ) → 1 ≤ p.n → IsInfinitePresentation k p c q
+        → ¬ (discriminant (equation_of k p) ≡ (polynomials k).𝟘) → ¬ (discriminant (equation_of k q) ≡ (polynomials k).𝟘) }
+    ensures members { (k : CodeField) (p q : PresValue) (c : ℕ) (f : Functions k q → Functions k p) → IsInfiniteMap k p q c f
+        → ¬ (discriminant (equation_of k q) ≡ (polynomials k).𝟘) → (z : Functions k q)
+        → TakenByPowers (equation_of k q) (x_poly k) (HasPolynomialCoordinates (equation_of k q)) z
+        ↔ (HasPowerDenominator (equation_of k q) (x_poly k) z × IsIntegralAt (setting k p) Infinite (f z)) }
+    ensures locally { (k : CodeField) (p q : PresValue) (c : ℕ) (f : Functions k q → Functions k p) → IsInfiniteMap k p q c f
+        → ¬ (discriminant (equation_of k q) ≡ (polynomials k).𝟘) → (z : Functions k q)
+        → IsLocallyIn (equation_of k q) (x_poly k) (TakenByPowers (equation_of k q) (x_poly k) (HasPolynomialCoordinates (equation_of k q))) z
+        ↔ IsIntegralAt (setting k p) Infinite (f z) }
+{}
+
 /// The infinite maximal order: of an order over k[t] that is maximal at t, the combinations over the fractions of degree at most 0 are O_inf. Where it is
 /// tame, it has what O_inf has with powers of t as denominators.
 pub fn infinite_order_law<O: InfiniteSet>()
@@ -148,4 +164,30 @@ pub fn infinite_order_law<O: InfiniteSet>()
         → MaximalAt (functions O.field O.infinite).ops (of_poly (equation_of O.field O.infinite) (x_poly O.field)) (IsIntegralAt (setting O.field O.infinite) Finite) O.members
         → (z : Functions O.field O.infinite) → O.members z
         ↔ (HasPowerDenominator (equation_of O.field O.infinite) (x_poly O.field) z × IsIntegralAt (setting O.field O.presentation) Infinite (f z)) }
+{}
+
+/// Membership at infinity is decided: in a span over the fractions of degree at most 0, and in O_inf. So each infinite place has t = 1/x, and sameness of
+/// two is decided.
+pub fn infinite_decided_law()
+    ensures spans { (k : CodeField) (p q : PresValue) (c : ℕ) → 1 ≤ p.n → IsInfinitePresentation k p c q → (gs : List (Functions k p)) (z : Functions k p)
+        → Dec (Span (functions k p).ops ((setting k p).IsScalar Infinite) gs z) }
+    ensures integral { (k : CodeField) (p q : PresValue) (c : ℕ) → 1 ≤ p.n → IsInfinitePresentation k p c q
+        → ¬ (discriminant (equation_of k p) ≡ (polynomials k).𝟘) → (z : Functions k p) → Dec (IsIntegralAt (setting k p) Infinite z) }
+    ensures over { (k : CodeField) (p q : PresValue) (c : ℕ) → 1 ≤ p.n → IsInfinitePresentation k p c q → (P : Place (Functions k p)) → IsPlace (setting k p) P
+        → P.side ≡ Infinite → IsIn (setting k p) P (setting k p).one_over_x }
+    ensures same { (k : CodeField) (p q : PresValue) (c : ℕ) → 1 ≤ p.n → IsInfinitePresentation k p c q → (P Q : Place (Functions k p))
+        → P.side ≡ Infinite → Q.side ≡ Infinite → Dec (IsSamePlace (setting k p) P Q) }
+{}
+
+/// The infinite places are finitely many, and listed; the sum of e·f over them is n.
+pub fn infinite_places_law()
+    ensures { (k : CodeField) (p q : PresValue) (c : ℕ) → 1 ≤ p.n → IsInfinitePresentation k p c q → ¬ (discriminant (equation_of k p) ≡ (polynomials k).𝟘)
+        → (ps : List (InfinitePlace (setting k p))) × IsAllInfinite (setting k p) ps × (sum_of_infinite_degrees (setting k p) ps ≡ degree_of_y (equation_of k p)) }
+{}
+
+/// A function with an inverse has a value at each infinite place.
+pub fn infinite_value_law()
+    ensures { (k : CodeField) (p q : PresValue) (c : ℕ) → 1 ≤ p.n → IsInfinitePresentation k p c q → ¬ (discriminant (equation_of k p) ≡ (polynomials k).𝟘)
+        → (P : Place (Functions k p)) → IsPlace (setting k p) P → P.side ≡ Infinite → (z y : Functions k p) → (functions k p).◌⊗◌ z y ≡ (functions k p).𝟙
+        → (m : ℤ) × HasValuation (setting k p) P z m }
 {}
