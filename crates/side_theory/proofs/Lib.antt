@@ -10,4 +10,5 @@ pub mod SamePlaceValues
 pub mod InfiniteDecisions
 pub mod PulledPlaces
 pub mod InfiniteLists
+pub mod EachEquation
 pub mod InfiniteLaws
