@@ -1,14 +1,16 @@
 -- The theorems on infinite places, for places whose side is given by an equation.
 use Rattle.std.proofs.Common.{◌≡◌, ◌↔◌, ◌≤◌, ◌-◌, ℕ, suc, List, sym, ◌∙◌, ap, subst, arith}
 use Rattle.std.specs.Prelude.{ℤ}
+use Rattle.ff_ring.specs.Subsets.{Span}
 use Rattle.ff_fields.specs.Field.{CodeField}
 use Rattle.ff_poly.specs.Polynomials.{polynomials, x_poly}
 use Rattle.ff_algebra.specs.declared.elem.Side.{Side}
 use Rattle.ff_algebra.specs.declared.elem.Side.TheVariants.{Finite, Infinite}
-use Rattle.ff_algebra.specs.Functions.{degree_of_y}
+use Rattle.ff_algebra.specs.Functions.{Equation, FunctionOf, ring_of, setting_of, degree_of_y, IsFiniteAtInfinity}
 use Rattle.ff_algebra.specs.Discriminant.{discriminant}
 use Rattle.ff_algebra.specs.Values.{PresValue, Functions, functions, setting, equation_of}
 use Rattle.ff_algebra.specs.Places.{Place, IsPlace, IsIn, IsIntegralAt, IsSamePlace, HasValuation}
+use Rattle.ff_algebra.specs.Divisors.{HasDegree}
 use Rattle.ff_algebra.specs.Infinity.{IsInfinitePresentation}
 use Rattle.ff_algebra.proofs.ScalarRings.{scalars_subring}
 use Rattle.places_theory.proofs.SamePlaces.{same_place_decided}
@@ -22,8 +24,9 @@ use Rattle.side_theory.specs.InfinitePlaces.{InfinitePlace, IsAllInfinite, sum_o
 use Rattle.side_theory.proofs.InfiniteTransport.{x_irreducible, infinite_map}
 use Rattle.side_theory.proofs.LocalIntegral.{maximal_local, taken_order, taken_is_tame, taken_maximal}
 use Rattle.side_theory.proofs.InfiniteOrders.{infinite_members}
-use Rattle.side_theory.proofs.InfiniteDecisions.{infinite_some, infinite_span_decided, infinite_has_t}
-use Rattle.side_theory.proofs.PulledPlaces.{infinite_value_exists}
+use Rattle.side_theory.proofs.InfiniteDecisions.{infinite_some, infinite_span_decided, infinite_has_t, infinite_integral_decided}
+use Rattle.side_theory.proofs.PulledPlaces.{infinite_value_exists, infinite_degree_exists}
+use Rattle.side_theory.proofs.EachEquation.{each_equation}
 use Rattle.side_theory.proofs.InfiniteLists.{infinite_places, all_infinite_places, sum_of_infinite_places}
 
 -- what holds of each place that is spanned over the fractions of degree at most 0 holds of each infinite place
@@ -71,18 +74,69 @@ module _ (k : CodeField) (p q : PresValue) (c : ℕ) (h : IsInfinitePresentation
   infinite_over P place e = by_side k p (λ P. IsPlace (setting k p) P → In P (setting k p).one_over_x) (infinite_has_t k p q c f g) P e place
 
   module _ (d : ¬ (discriminant (equation_of k p) ≡ (polynomials k).𝟘)) where
+    r : ¬ (discriminant (equation_of k q) ≡ (polynomials k).𝟘)
+    r = infinite_some k p q c h some d
+
     pub infinite_value : (P : Place (Functions k p)) → IsPlace (setting k p) P → P.side ≡ Infinite → (z y : Functions k p)
         → (functions k p).◌⊗◌ z y ≡ (functions k p).𝟙 → (m : ℤ) × HasValuation (setting k p) P z m
     infinite_value P place e z y i =
         by_side k p (λ P. IsPlace (setting k p) P → (m : ℤ) × HasValuation (setting k p) P z m)
-        (λ ws place. infinite_value_exists k p q c f g ws place (infinite_some k p q c h some d) z y i) P e place
+        (λ ws place. infinite_value_exists k p q c f g ws place r z y i) P e place
+
+    pub infinite_degree : (P : Place (Functions k p)) → IsPlace (setting k p) P → P.side ≡ Infinite → (d : ℕ) × HasDegree (setting k p) P d
+    infinite_degree P place e =
+        by_side k p (λ P. IsPlace (setting k p) P → (d : ℕ) × HasDegree (setting k p) P d) (λ ws place. infinite_degree_exists k p q c f g ws place r) P e place
 
     -- all infinite places, with the sum of e·f
     pub listed : (ps : List (InfinitePlace (setting k p))) × IsAllInfinite (setting k p) ps
         × (sum_of_infinite_degrees (setting k p) ps ≡ degree_of_y (equation_of k p))
-    listed =
-        let r = infinite_some k p q c h some d in (
-          infinite_places k p q c f g r,
-          all_infinite_places k p q c f g r,
-          sum_of_infinite_places k p q c f g r ∙ (let e : q.n ≡ p.n = h.degree in omega arith),
-        )
+    listed = (
+      infinite_places k p q c f g r,
+      all_infinite_places k p q c f g r,
+      sum_of_infinite_places k p q c f g r ∙ (let e : q.n ≡ p.n = h.degree in omega arith),
+    )
+
+-- so for each equation
+module _ (k : CodeField) (c : Equation k) where
+  pub spans_decided : (gs : List (FunctionOf c)) (z : FunctionOf c) → Dec (Span (ring_of c).ops (IsFiniteAtInfinity c) gs z)
+  spans_decided =
+      each_equation k (λ c. (gs : List (FunctionOf c)) (z : FunctionOf c) → Dec (Span (ring_of c).ops (IsFiniteAtInfinity c) gs z))
+      (λ p q n some h. infinite_span_decided k p q n (f k p q n h some) (g k p q n h some)) c
+
+  pub integral_decided : ¬ (discriminant c ≡ (polynomials k).𝟘) → (z : FunctionOf c) → Dec (IsIntegralAt (setting_of c) Infinite z)
+  integral_decided =
+      each_equation k (λ c. ¬ (discriminant c ≡ (polynomials k).𝟘) → (z : FunctionOf c) → Dec (IsIntegralAt (setting_of c) Infinite z))
+      (λ p q n some h d. infinite_integral_decided k p q n (f k p q n h some) (g k p q n h some) (infinite_some k p q n h some d)) c
+
+  pub over_t : (P : Place (FunctionOf c)) → IsPlace (setting_of c) P → P.side ≡ Infinite → IsIn (setting_of c) P (setting_of c).one_over_x
+  over_t =
+      each_equation k (λ c. (P : Place (FunctionOf c)) → IsPlace (setting_of c) P → P.side ≡ Infinite → IsIn (setting_of c) P (setting_of c).one_over_x)
+      (λ p q n some h. infinite_over k p q n h some) c
+
+  pub same_decided : (P Q : Place (FunctionOf c)) → P.side ≡ Infinite → Q.side ≡ Infinite → Dec (IsSamePlace (setting_of c) P Q)
+  same_decided =
+      each_equation k (λ c. (P Q : Place (FunctionOf c)) → P.side ≡ Infinite → Q.side ≡ Infinite → Dec (IsSamePlace (setting_of c) P Q))
+      (λ p q n some h. same_infinite_decided k p q n h some) c
+
+  pub degree_exists : ¬ (discriminant c ≡ (polynomials k).𝟘) → (P : Place (FunctionOf c)) → IsPlace (setting_of c) P → P.side ≡ Infinite
+      → (d : ℕ) × HasDegree (setting_of c) P d
+  degree_exists =
+      each_equation k
+      (λ c. ¬ (discriminant c ≡ (polynomials k).𝟘) → (P : Place (FunctionOf c)) → IsPlace (setting_of c) P → P.side ≡ Infinite → (d : ℕ) × HasDegree (setting_of c) P d)
+      (λ p q n some h. infinite_degree k p q n h some) c
+
+  pub value_exists : ¬ (discriminant c ≡ (polynomials k).𝟘) → (P : Place (FunctionOf c)) → IsPlace (setting_of c) P → P.side ≡ Infinite → (z y : FunctionOf c)
+      → (ring_of c).◌⊗◌ z y ≡ (ring_of c).𝟙 → (m : ℤ) × HasValuation (setting_of c) P z m
+  value_exists =
+      each_equation k
+      (λ c. ¬ (discriminant c ≡ (polynomials k).𝟘) → (P : Place (FunctionOf c)) → IsPlace (setting_of c) P → P.side ≡ Infinite → (z y : FunctionOf c)
+      → (ring_of c).◌⊗◌ z y ≡ (ring_of c).𝟙 → (m : ℤ) × HasValuation (setting_of c) P z m)
+      (λ p q n some h. infinite_value k p q n h some) c
+
+  pub all_listed : ¬ (discriminant c ≡ (polynomials k).𝟘)
+      → (ps : List (InfinitePlace (setting_of c))) × IsAllInfinite (setting_of c) ps × (sum_of_infinite_degrees (setting_of c) ps ≡ degree_of_y c)
+  all_listed =
+      each_equation k
+      (λ c. ¬ (discriminant c ≡ (polynomials k).𝟘)
+      → (ps : List (InfinitePlace (setting_of c))) × IsAllInfinite (setting_of c) ps × (sum_of_infinite_degrees (setting_of c) ps ≡ degree_of_y c))
+      (λ p q n some h. listed k p q n h some) c

@@ -15,6 +15,7 @@ use Rattle.ff_algebra.specs.Functions.{of_poly, IsPolynomial, IsFiniteAtInfinity
 use Rattle.ff_algebra.specs.Discriminant.{discriminant}
 use Rattle.ff_algebra.specs.Values.{PresValue, Functions, functions, setting, equation_of}
 use Rattle.ff_algebra.specs.Places.{IsPlace, IsIn, IsSamePlace, IsIntegralAt, HasValuation}
+use Rattle.ff_algebra.specs.Divisors.{HasDegree}
 use Rattle.ff_algebra.proofs.ScalarRings.{finite_at_infinity_subring}
 use Rattle.places_theory.proofs.Transport.{back, f_back}
 use Rattle.lattice_theory.specs.Lattices.{IsLattice}
@@ -25,14 +26,16 @@ use Rattle.order_theory.proofs.LocalOrders.{prime_to}
 use Rattle.order_theory.proofs.FinitePlaces.{finite}
 use Rattle.order_theory.proofs.PlaceLists.{integral_order}
 use Rattle.order_theory.proofs.PrimesOver.{ideal_lattice}
+use Rattle.order_theory.proofs.SideOfPlaces.{degree_of_place}
 use Rattle.order_theory.proofs.Values.{value_exists}
 use Rattle.side_theory.specs.Tame.{IsLocallyIn}
 use Rattle.side_theory.specs.InfiniteMaps.{IsInfiniteMap}
 use Rattle.side_theory.proofs.InfiniteTransport.{x_irreducible}
 use Rattle.side_theory.proofs.InfiniteDecisions.{infinite_span_decided, infinite_has_t}
 use Rattle.side_theory.proofs.PushedPlaces.{each, integral_of, prime_integral, pushed}
+use Rattle.side_theory.proofs.PushedDegrees.{pushed_degree}
 use Rattle.side_theory.proofs.PushedValues.{pushed_value}
-use Rattle.side_theory.proofs.SamePlaceValues.{value_same}
+use Rattle.side_theory.proofs.SamePlaceValues.{value_same, degree_same}
 
 module _ (k : CodeField) (p q : PresValue) (c : ℕ) (f : Functions k q → Functions k p) (g : IsInfiniteMap k p q c f)
     (ws : List (Functions k p)) (place : IsPlace (setting k p) (infinite (equation_of k p) ws)) where
@@ -200,3 +203,11 @@ module _ (k : CodeField) (p q : PresValue) (c : ℕ) (f : Functions k q → Func
           v.0,
           value_same (setting k p) Infinite _ ws pulled_same.members (f z) v.0 (pushed_value k p q c f g rows pulled_place pulled_over some z v.0 v.1),
         )))
+
+    -- and it has a degree
+    pub infinite_degree_exists : (d : ℕ) × HasDegree (setting k p) (infinite (equation_of k p) ws) d
+    infinite_degree_exists =
+        let d = degree_of_place (equation_of k q) some (finite (equation_of k q) rows) pulled_place refl in (
+          d.0,
+          degree_same (setting k p) Infinite _ ws pulled_same.members d.0 (pushed_degree k p q c f g rows pulled_place pulled_over d.0 d.1),
+        )

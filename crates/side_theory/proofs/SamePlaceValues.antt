@@ -1,4 +1,4 @@
--- Places with the same members have the same valuation.
+-- Places with the same members have the same valuation and the same degree.
 use Rattle.std.proofs.Common.{◌≡◌, ◌↔◌, ℕ, zero, suc, List, refl}
 use Rattle.std.specs.Prelude.{ℤ, pos, negsuc}
 use Rattle.ff_ring.specs.Ring.{CommRing}
@@ -6,6 +6,7 @@ use Rattle.ff_ring.proofs.RowMaps.{IsHom}
 use Rattle.ff_algebra.specs.declared.elem.Side.{Side}
 use Rattle.ff_algebra.specs.Setting.{Setting}
 use Rattle.ff_algebra.specs.Places.{Place, IsIn, InPower, HasValuationAtLeast, HasValuation}
+use Rattle.ff_algebra.specs.Divisors.{HasDegree}
 use Rattle.places_theory.proofs.Transport.{product_image}
 
 module _ {E : Type 0} (S : Setting E) (s : Side) where
@@ -43,4 +44,13 @@ module _ {E : Type 0} (S : Setting E) (s : Side) where
   value_same gs hs e z m v = record {
     reached = at_least_same gs hs e z m v.reached;
     not_more = λ n. v.not_more (at_least_same hs gs (turn gs hs e) z _ n);
+  }
+
+  pub degree_same : (gs hs : List E) → ((z : E) → IsIn S (at gs) z ↔ IsIn S (at hs) z) → (d : ℕ) → HasDegree S (at gs) d → HasDegree S (at hs) d
+  degree_same gs hs e d h = record {
+    classes = h.classes;
+    count = h.count;
+    members = h.members;
+    spanning = λ z z_in. let s = h.spanning z z_in in (s.0, s.1, (e _).0 s.2);
+    independent = λ cs size all m. h.independent cs size all ((e _).1 m);
   }

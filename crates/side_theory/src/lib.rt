@@ -13,9 +13,10 @@ ghost use Rattle.linear_theory.specs.Euclidean.{IsDivisor};
 ghost use Rattle.ff_poly.specs.Words.{IsIrreducible};
 ghost use Rattle.ff_poly.specs.Polynomials.{Polynomial, polynomials, codes_of, x_poly};
 ghost use Rattle.ff_algebra.specs.declared.elem.Side.TheVariants.{Finite, Infinite};
-ghost use Rattle.ff_algebra.specs.Functions.{Equation, FunctionOf, ring_of, of_poly, setting_of, degree_of_y, IsPolynomial};
+ghost use Rattle.ff_algebra.specs.Functions.{Equation, FunctionOf, ring_of, of_poly, setting_of, degree_of_y, IsPolynomial, IsScalar};
 ghost use Rattle.ff_algebra.specs.Values.{PresValue, Functions, functions, setting, equation_of};
 ghost use Rattle.ff_algebra.specs.Places.{Place, IsPlace, IsIn, IsSamePlace, IsIntegralAt, HasValuation};
+ghost use Rattle.ff_algebra.specs.Divisors.{HasDegree};
 ghost use Rattle.ff_algebra.specs.Infinity.{IsInfinitePresentation};
 ghost use Rattle.ff_algebra.specs.Discriminant.{discriminant};
 ghost use Rattle.local_theory.specs.Ideals.{Multiple, SameSet};
@@ -166,28 +167,29 @@ pub fn infinite_order_law<O: InfiniteSet>()
         ↔ (HasPowerDenominator (equation_of O.field O.infinite) (x_poly O.field) z × IsIntegralAt (setting O.field O.presentation) Infinite (f z)) }
 {}
 
-/// Membership at infinity is decided: in a span over the fractions of degree at most 0, and in O_inf. So each infinite place has t = 1/x, and sameness of
-/// two is decided.
+/// Membership at infinity is decided: in a span over the fractions of degree at most 0, and in O_inf.
 pub fn infinite_decided_law()
-    ensures spans { (k : CodeField) (p q : PresValue) (c : ℕ) → 1 ≤ p.n → IsInfinitePresentation k p c q → (gs : List (Functions k p)) (z : Functions k p)
-        → Dec (Span (functions k p).ops ((setting k p).IsScalar Infinite) gs z) }
-    ensures integral { (k : CodeField) (p q : PresValue) (c : ℕ) → 1 ≤ p.n → IsInfinitePresentation k p c q
-        → ¬ (discriminant (equation_of k p) ≡ (polynomials k).𝟘) → (z : Functions k p) → Dec (IsIntegralAt (setting k p) Infinite z) }
-    ensures over { (k : CodeField) (p q : PresValue) (c : ℕ) → 1 ≤ p.n → IsInfinitePresentation k p c q → (P : Place (Functions k p)) → IsPlace (setting k p) P
-        → P.side ≡ Infinite → IsIn (setting k p) P (setting k p).one_over_x }
-    ensures same { (k : CodeField) (p q : PresValue) (c : ℕ) → 1 ≤ p.n → IsInfinitePresentation k p c q → (P Q : Place (Functions k p))
-        → P.side ≡ Infinite → Q.side ≡ Infinite → Dec (IsSamePlace (setting k p) P Q) }
+    ensures spans { (k : CodeField) (c : Equation k) (gs : List (FunctionOf c)) (z : FunctionOf c) → Dec (Span (ring_of c).ops (IsScalar c Infinite) gs z) }
+    ensures integral { (k : CodeField) (c : Equation k) → ¬ (discriminant c ≡ (polynomials k).𝟘) → (z : FunctionOf c) → Dec (IsIntegralAt (setting_of c) Infinite z) }
+{}
+
+/// Each infinite place has t = 1/x, sameness of two is decided, and each has a degree.
+pub fn infinite_place_law()
+    ensures over { (k : CodeField) (c : Equation k) (P : Place (FunctionOf c)) → IsPlace (setting_of c) P → P.side ≡ Infinite
+        → IsIn (setting_of c) P (setting_of c).one_over_x }
+    ensures same { (k : CodeField) (c : Equation k) (P Q : Place (FunctionOf c)) → P.side ≡ Infinite → Q.side ≡ Infinite → Dec (IsSamePlace (setting_of c) P Q) }
+    ensures has_degree { (k : CodeField) (c : Equation k) → ¬ (discriminant c ≡ (polynomials k).𝟘) → (P : Place (FunctionOf c)) → IsPlace (setting_of c) P
+        → P.side ≡ Infinite → (d : ℕ) × HasDegree (setting_of c) P d }
 {}
 
 /// The infinite places are finitely many, and listed; the sum of e·f over them is n.
 pub fn infinite_places_law()
-    ensures { (k : CodeField) (p q : PresValue) (c : ℕ) → 1 ≤ p.n → IsInfinitePresentation k p c q → ¬ (discriminant (equation_of k p) ≡ (polynomials k).𝟘)
-        → (ps : List (InfinitePlace (setting k p))) × IsAllInfinite (setting k p) ps × (sum_of_infinite_degrees (setting k p) ps ≡ degree_of_y (equation_of k p)) }
+    ensures { (k : CodeField) (c : Equation k) → ¬ (discriminant c ≡ (polynomials k).𝟘) → (ps : List (InfinitePlace (setting_of c)))
+        × IsAllInfinite (setting_of c) ps × (sum_of_infinite_degrees (setting_of c) ps ≡ degree_of_y c) }
 {}
 
 /// A function with an inverse has a value at each infinite place.
 pub fn infinite_value_law()
-    ensures { (k : CodeField) (p q : PresValue) (c : ℕ) → 1 ≤ p.n → IsInfinitePresentation k p c q → ¬ (discriminant (equation_of k p) ≡ (polynomials k).𝟘)
-        → (P : Place (Functions k p)) → IsPlace (setting k p) P → P.side ≡ Infinite → (z y : Functions k p) → (functions k p).◌⊗◌ z y ≡ (functions k p).𝟙
-        → (m : ℤ) × HasValuation (setting k p) P z m }
+    ensures { (k : CodeField) (c : Equation k) (P : Place (FunctionOf c)) → ¬ (discriminant c ≡ (polynomials k).𝟘) → IsPlace (setting_of c) P
+        → P.side ≡ Infinite → (z y : FunctionOf c) → (ring_of c).◌⊗◌ z y ≡ (ring_of c).𝟙 → (m : ℤ) × HasValuation (setting_of c) P z m }
 {}

@@ -1,6 +1,6 @@
--- The theorem of `InfiniteLists`.
-use Rattle.side_theory.proofs.InfiniteLaws.{listed}
+-- The theorem of `InfiniteLists`, for each equation.
+use Rattle.side_theory.proofs.InfiniteLaws.{all_listed}
 use Rattle.side_theory.proofs.infinite_places_law.Goals as goal
 
 pub returns : goal.returns
-returns c = λ k p q n some h d. listed k p q n h some d
+returns c = all_listed
