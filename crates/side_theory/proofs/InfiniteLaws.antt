@@ -1,7 +1,8 @@
 -- The theorems on infinite places, for places whose side is given by an equation.
-use Rattle.std.proofs.Common.{◌≡◌, ◌↔◌, ◌≤◌, ◌-◌, ℕ, suc, List, sym, ◌∙◌, ap, subst, arith}
-use Rattle.std.specs.Prelude.{ℤ}
+use Rattle.std.proofs.Common.{◌≡◌, ◌↔◌, ◌≤◌, ◌-◌, ℕ, suc, List, refl, sym, ◌∙◌, ap, subst, arith}
+use Rattle.std.specs.Prelude.{ℤ, pos}
 use Rattle.ff_ring.specs.Subsets.{Span}
+use Rattle.ff_ring.proofs.Ring.{one_mul}
 use Rattle.ff_fields.specs.Field.{CodeField}
 use Rattle.ff_poly.specs.Polynomials.{polynomials, x_poly}
 use Rattle.ff_algebra.specs.declared.elem.Side.{Side}
@@ -9,7 +10,7 @@ use Rattle.ff_algebra.specs.declared.elem.Side.TheVariants.{Finite, Infinite}
 use Rattle.ff_algebra.specs.Functions.{Equation, FunctionOf, ring_of, setting_of, degree_of_y, IsFiniteAtInfinity}
 use Rattle.ff_algebra.specs.Discriminant.{discriminant}
 use Rattle.ff_algebra.specs.Values.{PresValue, Functions, functions, setting, equation_of}
-use Rattle.ff_algebra.specs.Places.{Place, IsPlace, IsIn, IsIntegralAt, IsSamePlace, HasValuation}
+use Rattle.ff_algebra.specs.Places.{Place, IsPlace, IsIn, IsIntegralAt, IsSamePlace, HasValuationAtLeast, HasValuation}
 use Rattle.ff_algebra.specs.Divisors.{HasDegree}
 use Rattle.ff_algebra.specs.Infinity.{IsInfinitePresentation}
 use Rattle.ff_algebra.proofs.ScalarRings.{scalars_subring}
@@ -18,6 +19,8 @@ use Rattle.places_theory.proofs.PresentationMap.{presentation_map}
 use Rattle.trace_theory.specs.Traces.{HasPolynomialCoordinates}
 use Rattle.order_theory.specs.Orders.{TakenByPowers}
 use Rattle.order_theory.proofs.InfinitePlaces.{infinite}
+use Rattle.order_theory.proofs.IntegralLattice.{integral_subring}
+use Rattle.order_theory.proofs.RegularFunctions.{regular_locally}
 use Rattle.side_theory.specs.Tame.{HasPowerDenominator, IsLocallyIn}
 use Rattle.side_theory.specs.InfiniteMaps.{IsInfiniteMap}
 use Rattle.side_theory.specs.InfinitePlaces.{InfinitePlace, IsAllInfinite, sum_of_infinite_degrees}
@@ -25,6 +28,8 @@ use Rattle.side_theory.proofs.InfiniteTransport.{x_irreducible, infinite_map}
 use Rattle.side_theory.proofs.LocalIntegral.{maximal_local, taken_order, taken_is_tame, taken_maximal}
 use Rattle.side_theory.proofs.InfiniteOrders.{infinite_members}
 use Rattle.side_theory.proofs.InfiniteDecisions.{infinite_some, infinite_span_decided, infinite_has_t, infinite_integral_decided}
+use Rattle.side_theory.proofs.PushedPlaces.{each, integral_of, pushed, pushed_place}
+use Rattle.side_theory.proofs.PushedValues.{at_least_back}
 use Rattle.side_theory.proofs.PulledPlaces.{infinite_value_exists, infinite_degree_exists}
 use Rattle.side_theory.proofs.EachEquation.{each_equation}
 use Rattle.side_theory.proofs.InfiniteLists.{infinite_places, all_infinite_places, sum_of_infinite_places}
@@ -73,6 +78,9 @@ module _ (k : CodeField) (p q : PresValue) (c : ℕ) (h : IsInfinitePresentation
   pub infinite_over : (P : Place (Functions k p)) → IsPlace (setting k p) P → P.side ≡ Infinite → IsIn (setting k p) P (setting k p).one_over_x
   infinite_over P place e = by_side k p (λ P. IsPlace (setting k p) P → In P (setting k p).one_over_x) (infinite_has_t k p q c f g) P e place
 
+  abbrev Inf : Functions k p → Type 0
+  Inf = IsIntegralAt (setting k p) Infinite
+
   module _ (d : ¬ (discriminant (equation_of k p) ≡ (polynomials k).𝟘)) where
     r : ¬ (discriminant (equation_of k q) ≡ (polynomials k).𝟘)
     r = infinite_some k p q c h some d
@@ -86,6 +94,33 @@ module _ (k : CodeField) (p q : PresValue) (c : ℕ) (h : IsInfinitePresentation
     pub infinite_degree : (P : Place (Functions k p)) → IsPlace (setting k p) P → P.side ≡ Infinite → (d : ℕ) × HasDegree (setting k p) P d
     infinite_degree P place e =
         by_side k p (λ P. IsPlace (setting k p) P → (d : ℕ) × HasDegree (setting k p) P d) (λ ws place. infinite_degree_exists k p q c f g ws place r) P e place
+
+    -- the functions without poles at infinite places are O_inf
+    pub infinite_regular : (z : Functions k p) → ((P : Place (Functions k p)) → IsPlace (setting k p) P → P.side ≡ Infinite → HasValuationAtLeast (setting k p) P z (pos 0))
+        ↔ IsIntegralAt (setting k p) Infinite z
+    infinite_regular =
+        each k p q c f g
+        (λ z. ((P : Place (Functions k p)) → IsPlace (setting k p) P → P.side ≡ Infinite → HasValuationAtLeast (setting k p) P z (pos 0)) ↔ Inf z) (λ z. (to z, from z))
+      where
+        to : (z : Functions k q)
+            → ((P : Place (Functions k p)) → IsPlace (setting k p) P → P.side ≡ Infinite → HasValuationAtLeast (setting k p) P (presentation_map k p q c h some z) (pos 0))
+            → Inf (presentation_map k p q c h some z)
+        to z v =
+            (g.integral z).0
+            (regular_locally (equation_of k q) r z (x_poly k) (x_irreducible k)
+            (λ gs place over.
+            at_least_back k p q c f g gs place over r z (pos 0) (v (pushed k p q c f g gs) (pushed_place k p q c f g gs place over) refl)))
+
+        from : (z : Functions k q) → Inf (presentation_map k p q c h some z) → (P : Place (Functions k p)) → IsPlace (setting k p) P → P.side ≡ Infinite
+            → HasValuationAtLeast (setting k p) P (presentation_map k p q c h some z) (pos 0)
+        from z z_in P place e =
+            by_side k p (λ P. IsPlace (setting k p) P → HasValuationAtLeast (setting k p) P (f z) (pos 0))
+            (λ ws place. record {
+              factor = (functions k p).𝟙;
+              integral = subst Inf g.isomorphism.hom.𝟙 (integral_of k p q c f g (functions k q).𝟙 (integral_subring (equation_of k q)).one_in);
+              outside = place.proper;
+              product = subst Inf (sym (one_mul (functions k p) (f z))) z_in;
+            }) P e place
 
     -- all infinite places, with the sum of e·f
     pub listed : (ps : List (InfinitePlace (setting k p))) × IsAllInfinite (setting k p) ps
@@ -140,3 +175,11 @@ module _ (k : CodeField) (c : Equation k) where
       (λ c. ¬ (discriminant c ≡ (polynomials k).𝟘)
       → (ps : List (InfinitePlace (setting_of c))) × IsAllInfinite (setting_of c) ps × (sum_of_infinite_degrees (setting_of c) ps ≡ degree_of_y c))
       (λ p q n some h. listed k p q n h some) c
+
+  pub regular_integral : ¬ (discriminant c ≡ (polynomials k).𝟘) → (z : FunctionOf c)
+      → ((P : Place (FunctionOf c)) → IsPlace (setting_of c) P → P.side ≡ Infinite → HasValuationAtLeast (setting_of c) P z (pos 0)) ↔ IsIntegralAt (setting_of c) Infinite z
+  regular_integral =
+      each_equation k
+      (λ c. ¬ (discriminant c ≡ (polynomials k).𝟘) → (z : FunctionOf c)
+      → ((P : Place (FunctionOf c)) → IsPlace (setting_of c) P → P.side ≡ Infinite → HasValuationAtLeast (setting_of c) P z (pos 0)) ↔ IsIntegralAt (setting_of c) Infinite z)
+      (λ p q n some h. infinite_regular k p q n h some) c

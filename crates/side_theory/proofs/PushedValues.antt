@@ -151,7 +151,7 @@ module _ (k : CodeField) (p q : PresValue) (c : ℕ) (f : Functions k q → Func
     power_lattice zero = integral_lattice (equation_of k q) some
     power_lattice (suc m) = product_lattice (equation_of k q) (Power m) M (power_lattice m) (place_lattice (equation_of k q) gs place)
 
-    at_least_back : (z : Functions k q) (m : ℤ) → HasValuationAtLeast (setting k p) (pushed k p q c f g gs) (f z) m
+    pub at_least_back : (z : Functions k q) (m : ℤ) → HasValuationAtLeast (setting k p) (pushed k p q c f g gs) (f z) m
         → HasValuationAtLeast (setting k q) (finite (equation_of k q) gs) z m
     at_least_back z (pos m) v =
         let u = lift v.factor in

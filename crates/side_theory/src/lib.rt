@@ -5,6 +5,7 @@
 #![tactic(auto)]
 
 ghost use Rattle.std.specs.Prelude.{◌≡◌, ℕ, ℤ, ◌≤◌, ◌↔◌, List};
+ghost use Rattle.std.proofs.Common.{pos};
 ghost use Rattle.ff_ring.specs.Ring.{pow};
 ghost use Rattle.ff_ring.specs.Subsets.{IsModule, Span, Product, Colon};
 ghost use Rattle.ff_fields.specs.Field.{CodeField};
@@ -15,7 +16,7 @@ ghost use Rattle.ff_poly.specs.Polynomials.{Polynomial, polynomials, codes_of, x
 ghost use Rattle.ff_algebra.specs.declared.elem.Side.TheVariants.{Finite, Infinite};
 ghost use Rattle.ff_algebra.specs.Functions.{Equation, FunctionOf, ring_of, of_poly, setting_of, degree_of_y, IsPolynomial, IsScalar};
 ghost use Rattle.ff_algebra.specs.Values.{PresValue, Functions, functions, setting, equation_of};
-ghost use Rattle.ff_algebra.specs.Places.{Place, IsPlace, IsIn, IsSamePlace, IsIntegralAt, HasValuation};
+ghost use Rattle.ff_algebra.specs.Places.{Place, IsPlace, IsIn, IsSamePlace, IsIntegralAt, HasValuation, HasValuationAtLeast};
 ghost use Rattle.ff_algebra.specs.Divisors.{HasDegree};
 ghost use Rattle.ff_algebra.specs.Infinity.{IsInfinitePresentation};
 ghost use Rattle.ff_algebra.specs.Discriminant.{discriminant};
@@ -192,4 +193,11 @@ pub fn infinite_places_law()
 pub fn infinite_value_law()
     ensures { (k : CodeField) (c : Equation k) (P : Place (FunctionOf c)) → ¬ (discriminant c ≡ (polynomials k).𝟘) → IsPlace (setting_of c) P
         → P.side ≡ Infinite → (z y : FunctionOf c) → (ring_of c).◌⊗◌ z y ≡ (ring_of c).𝟙 → (m : ℤ) × HasValuation (setting_of c) P z m }
+{}
+
+/// The functions without poles at infinite places are O_inf.
+pub fn infinite_regular_law()
+    ensures { (k : CodeField) (c : Equation k) (z : FunctionOf c) → ¬ (discriminant c ≡ (polynomials k).𝟘)
+        → ((P : Place (FunctionOf c)) → IsPlace (setting_of c) P → P.side ≡ Infinite → HasValuationAtLeast (setting_of c) P z (pos 0))
+        ↔ IsIntegralAt (setting_of c) Infinite z }
 {}
