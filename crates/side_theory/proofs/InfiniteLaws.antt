@@ -3,6 +3,7 @@ use Rattle.std.proofs.Common.{◌≡◌, ◌↔◌, ◌≤◌, ◌-◌, ℕ, suc
 use Rattle.std.specs.Prelude.{ℤ, pos}
 use Rattle.ff_ring.specs.Subsets.{Span}
 use Rattle.ff_ring.proofs.Ring.{one_mul}
+use Rattle.linear_theory.specs.Euclidean.{IsDivisor}
 use Rattle.ff_fields.specs.Field.{CodeField}
 use Rattle.ff_poly.specs.Polynomials.{polynomials, x_poly}
 use Rattle.ff_algebra.specs.declared.elem.Side.{Side}
@@ -25,7 +26,7 @@ use Rattle.side_theory.specs.Tame.{HasPowerDenominator, IsLocallyIn}
 use Rattle.side_theory.specs.InfiniteMaps.{IsInfiniteMap}
 use Rattle.side_theory.specs.InfinitePlaces.{InfinitePlace, IsAllInfinite, sum_of_infinite_degrees}
 use Rattle.side_theory.proofs.InfiniteTransport.{x_irreducible, infinite_map}
-use Rattle.side_theory.proofs.LocalIntegral.{maximal_local, taken_order, taken_is_tame, taken_maximal}
+use Rattle.side_theory.proofs.LocalIntegral.{maximal_local, taken_order, taken_is_tame, taken_maximal, taken_whole}
 use Rattle.side_theory.proofs.InfiniteOrders.{infinite_members}
 use Rattle.side_theory.proofs.InfiniteDecisions.{infinite_some, infinite_span_decided, infinite_has_t, infinite_integral_decided}
 use Rattle.side_theory.proofs.PushedPlaces.{each, integral_of, pushed, pushed_place}
@@ -58,6 +59,12 @@ module _ (k : CodeField) (p q : PresValue) (c : ℕ) (f : Functions k q → Func
   taken_locally z =
       let b = maximal_local (equation_of k q) (x_poly k) (x_irreducible k) Taken (taken_order (equation_of k q) (x_poly k) (x_irreducible k) some)
       (taken_maximal (equation_of k q) (x_poly k) (x_irreducible k)) z in (λ m. (g.integral z).0 (b.0 m), λ m. b.1 ((g.integral z).1 m))
+
+  -- where the square of t doesn't divide the discriminant they are k[t][Y]
+  pub whole_members : ¬ IsDivisor (polynomials k).ops ((polynomials k).◌⊗◌ (x_poly k) (x_poly k)) (discriminant (equation_of k q)) → (z : Functions k q)
+      → HasPolynomialCoordinates (equation_of k q) z ↔ (HasPowerDenominator (equation_of k q) (x_poly k) z × IsIntegralAt (setting k p) Infinite (f z))
+  whole_members free z =
+      let s = taken_whole (equation_of k q) (x_poly k) (x_irreducible k) free z in (λ m. (taken_members z).0 (s.1 m), λ m. s.0 ((taken_members z).1 m))
 
 module _ (k : CodeField) (p q : PresValue) (c : ℕ) (h : IsInfinitePresentation k p c q) (some : 1 ≤ p.n) where
   abbrev f : Functions k q → Functions k p

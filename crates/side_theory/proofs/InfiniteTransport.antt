@@ -66,11 +66,11 @@ module _ (k : CodeField) where
   first_read (c ∷ w) h = read_code_below k c (IsOver_head h)
 
   -- a list that does not begin with 0 stands for no multiple of the variable
-  first_not_zero : (w : List ℕ) → IsOver k.ops w → ¬ (get_or w 0 0 ≡ 0) → ¬ (IsDivisor (polynomials k).ops (x_poly k) (value k w))
+  pub first_not_zero : (w : List ℕ) → IsOver k.ops w → ¬ (get_or w 0 0 ≡ 0) → ¬ (IsDivisor (polynomials k).ops (x_poly k) (value k w))
   first_not_zero w w_in n d = n (sym (first_read w w_in) ∙ ap (λ x. x.0) (sym (series_read k w 0) ∙ first_of_multiple (value k w) d))
 
   -- a list that begins with 0 stands for a multiple
-  first_zero : (w : List ℕ) → get_or w 0 0 ≡ 0 → IsDivisor (polynomials k).ops (x_poly k) (value k w)
+  pub first_zero : (w : List ℕ) → get_or w 0 0 ≡ 0 → IsDivisor (polynomials k).ops (x_poly k) (value k w)
   first_zero [] e = ((polynomials k).𝟘, value_nil k ∙ sym (mul_zero (polynomials k).ring (x_poly k)))
   first_zero (c ∷ w) e =
       let z : c ≡ 0 = e in (

@@ -9,6 +9,7 @@ pub mod PushedValues
 pub mod SamePlaceValues
 pub mod InfiniteDecisions
 pub mod PulledPlaces
+pub mod PlaceMaps
 pub mod InfiniteLists
 pub mod EachEquation
 pub mod InfiniteLaws

@@ -16,7 +16,7 @@ ghost use Rattle.ff_poly.specs.Polynomials.{Polynomial, polynomials, codes_of, x
 ghost use Rattle.ff_algebra.specs.declared.elem.Side.TheVariants.{Finite, Infinite};
 ghost use Rattle.ff_algebra.specs.Functions.{Equation, FunctionOf, ring_of, of_poly, setting_of, degree_of_y, IsPolynomial, IsScalar};
 ghost use Rattle.ff_algebra.specs.Values.{PresValue, Functions, functions, setting, equation_of};
-ghost use Rattle.ff_algebra.specs.Places.{Place, IsPlace, IsIn, IsSamePlace, IsIntegralAt, HasValuation, HasValuationAtLeast};
+ghost use Rattle.ff_algebra.specs.Places.{Place, IsPlace, IsIn, IsSamePlace, IsIntegralAt, LiesOver, HasValuation, HasValuationAtLeast};
 ghost use Rattle.ff_algebra.specs.Divisors.{HasDegree};
 ghost use Rattle.ff_algebra.specs.Infinity.{IsInfinitePresentation};
 ghost use Rattle.ff_algebra.specs.Discriminant.{discriminant};
@@ -26,7 +26,7 @@ ghost use Rattle.trace_theory.specs.Traces.{HasPolynomialCoordinates};
 ghost use Rattle.lattice_theory.specs.Lattices.{IsLattice, space_ops};
 ghost use Rattle.order_theory.specs.Orders.{IsOrder, IsPrimeTo, TakenByPowers};
 ghost use Rattle.side_theory.specs.Tame.{IsTame, HasPowerDenominator, IsLocallyIn};
-ghost use Rattle.side_theory.specs.InfiniteMaps.{IsInfiniteMap, IsCombinationAtInfinity};
+ghost use Rattle.side_theory.specs.InfiniteMaps.{IsInfiniteMap, IsCombinationAtInfinity, place_at_infinity};
 ghost use Rattle.side_theory.specs.InfinitePlaces.{InfinitePlace, IsAllInfinite, sum_of_infinite_degrees};
 
 use lattice_theory::FunctionSets;
@@ -137,7 +137,8 @@ pub fn combination_law<L: InfiniteSet>()
 {}
 
 /// The discriminant of the infinite presentation isn't 0 where that of the curve isn't; then the integral functions that powers of t take into k[t][Y] are what
-/// O_inf has with powers of t as denominators, and O_inf is, up to factors that t doesn't divide, what they are.
+/// O_inf has with powers of t as denominators, and O_inf is, up to factors that t doesn't divide, what they are. Where
+/// the square of t doesn't divide the discriminant, they are k[t][Y].
 pub fn infinite_maximal_law()
     ensures discriminant { (k : CodeField) (p q : PresValue) (c : ℕ) → 1 ≤ p.n → IsInfinitePresentation k p c q
         → ¬ (discriminant (equation_of k p) ≡ (polynomials k).𝟘) → ¬ (discriminant (equation_of k q) ≡ (polynomials k).𝟘) }
@@ -149,6 +150,10 @@ pub fn infinite_maximal_law()
         → ¬ (discriminant (equation_of k q) ≡ (polynomials k).𝟘) → (z : Functions k q)
         → IsLocallyIn (equation_of k q) (x_poly k) (TakenByPowers (equation_of k q) (x_poly k) (HasPolynomialCoordinates (equation_of k q))) z
         ↔ IsIntegralAt (setting k p) Infinite (f z) }
+    ensures whole { (k : CodeField) (p q : PresValue) (c : ℕ) (f : Functions k q → Functions k p) → IsInfiniteMap k p q c f
+        → ¬ (discriminant (equation_of k q) ≡ (polynomials k).𝟘)
+        → ¬ IsDivisor (polynomials k).ops ((polynomials k).◌⊗◌ (x_poly k) (x_poly k)) (discriminant (equation_of k q)) → (z : Functions k q)
+        → HasPolynomialCoordinates (equation_of k q) z ↔ (HasPowerDenominator (equation_of k q) (x_poly k) z × IsIntegralAt (setting k p) Infinite (f z)) }
 {}
 
 /// The infinite maximal order: of an order over k[t] that is maximal at t, the combinations over the fractions of degree at most 0 are O_inf. Where it is
@@ -166,6 +171,27 @@ pub fn infinite_order_law<O: InfiniteSet>()
         → MaximalAt (functions O.field O.infinite).ops (of_poly (equation_of O.field O.infinite) (x_poly O.field)) (IsIntegralAt (setting O.field O.infinite) Finite) O.members
         → (z : Functions O.field O.infinite) → O.members z
         ↔ (HasPowerDenominator (equation_of O.field O.infinite) (x_poly O.field) z × IsIntegralAt (setting O.field O.presentation) Infinite (f z)) }
+{}
+
+/// The finite places of the infinite presentation over its variable are the infinite places, with the same degrees and valuations: each gives the one that
+/// the images of its generators span, which has the same integral functions over k[t], and each infinite place is given so.
+pub fn place_map_law()
+    ensures place { (k : CodeField) (p q : PresValue) (c : ℕ) (f : Functions k q → Functions k p) → IsInfiniteMap k p q c f → (Q : Place (Functions k q))
+        → IsPlace (setting k q) Q → LiesOver (setting k q) Q (setting k q).x → IsPlace (setting k p) (place_at_infinity k p q f Q) }
+    ensures members { (k : CodeField) (p q : PresValue) (c : ℕ) (f : Functions k q → Functions k p) → IsInfiniteMap k p q c f → (Q : Place (Functions k q))
+        → IsPlace (setting k q) Q → LiesOver (setting k q) Q (setting k q).x → (z : Functions k q) → IsIntegralAt (setting k q) Finite z
+        → IsIn (setting k p) (place_at_infinity k p q f Q) (f z) ↔ IsIn (setting k q) Q z }
+    ensures degree { (k : CodeField) (p q : PresValue) (c : ℕ) (f : Functions k q → Functions k p) → IsInfiniteMap k p q c f → (Q : Place (Functions k q))
+        → IsPlace (setting k q) Q → LiesOver (setting k q) Q (setting k q).x → (d : ℕ) → HasDegree (setting k q) Q d
+        → HasDegree (setting k p) (place_at_infinity k p q f Q) d }
+    ensures value { (k : CodeField) (p q : PresValue) (c : ℕ) (f : Functions k q → Functions k p) → IsInfiniteMap k p q c f
+        → ¬ (discriminant (equation_of k q) ≡ (polynomials k).𝟘) → (Q : Place (Functions k q)) → IsPlace (setting k q) Q
+        → LiesOver (setting k q) Q (setting k q).x → (z : Functions k q) (m : ℤ) → HasValuation (setting k q) Q z m
+        → HasValuation (setting k p) (place_at_infinity k p q f Q) (f z) m }
+    ensures every { (k : CodeField) (p q : PresValue) (c : ℕ) (f : Functions k q → Functions k p) → IsInfiniteMap k p q c f
+        → ¬ (discriminant (equation_of k q) ≡ (polynomials k).𝟘) → (P : Place (Functions k p)) → IsPlace (setting k p) P → P.side ≡ Infinite
+        → (Q : Place (Functions k q)) × IsPlace (setting k q) Q × LiesOver (setting k q) Q (setting k q).x
+        × IsSamePlace (setting k p) (place_at_infinity k p q f Q) P }
 {}
 
 /// Membership at infinity is decided: in a span over the fractions of degree at most 0, and in O_inf.
