@@ -81,7 +81,7 @@ module _ {k : CodeField} (c : Equation k) (some : ¬ (discriminant c ≡ (polyno
       (family_of c p h (Int c) (integral_order c some p h) (integral_maximal c some p h)) primes.list primes.system (λ u. Int c u × Int c (u ⊗ z)) (𝓙 c z)
       (everywhere (λ i. Escapes (λ u. Int c u × Int c (u ⊗ z)) (P i))
       (λ i. let v =
-          regular (rows c some p h i) (prime_place c some p h i) ((members c some p h i _).0 (prime_over c p h (Int c) (integral_order c some p h) i)) in
+      regular (rows c some p h i) (prime_place c some p h i) ((members c some p h i _).0 (prime_over c p h (Int c) (integral_order c some p h) i)) in
       record {
         member = v.factor;
         member_in = (v.integral, v.product);

@@ -1,5 +1,5 @@
 -- Each equation is that of a presentation by lists of codes, and that has an infinite presentation.
-use Rattle.std.proofs.Common.{◌≡◌, ℕ, zero, suc, ◌+◌, ◌-◌, ◌*◌, ◌≤◌, ◌<◌, List, [], ◌∷◌, length, get_or, refl, sym, ◌∙◌, ap, subst, arith}
+use Rattle.std.proofs.Common.{◌≡◌, ℕ, zero, suc, ◌+◌, ◌-◌, ◌*◌, ◌≤◌, ◌<◌, List, [], ◌∷◌, length, get_or, refl, ◌∙◌, ap, subst, arith}
 use Rattle.ff_ring.specs.Rows.{Row}
 use Rattle.ff_ring.proofs.Rows.{pair_path}
 use Rattle.std.specs.Int.{div_ceil}

@@ -1,17 +1,17 @@
 -- Membership in O_inf, and in a span over the fractions of degree at most 0, is decided; so each infinite place has t.
-use Rattle.std.proofs.Common.{◌≡◌, ◌↔◌, ℕ, ◌≤◌, ◌*◌, ◌-◌, List, [], ◌∷◌, map, refl, sym, ◌∙◌, ap, ap₂, subst}
+use Rattle.std.proofs.Common.{◌≡◌, ℕ, ◌≤◌, ◌*◌, ◌-◌, List, [], ◌∷◌, map, refl, sym, ◌∙◌, ap, ap₂, subst}
 use Rattle.ff_ring.specs.Ring.{pow}
 use Rattle.ff_ring.specs.Subsets.{Span}
 use Rattle.ff_ring.proofs.Ring.{mul_zero, mul_left_comm}
 use Rattle.ff_ring.proofs.RowMaps.{hom_zero}
 use Rattle.ff_fields.specs.Field.{CodeField}
-use Rattle.ff_poly.specs.Polynomials.{polynomials, polynomials_domain, codes_of, x_poly}
+use Rattle.ff_poly.specs.Polynomials.{polynomials, polynomials_domain, x_poly}
 use Rattle.ff_algebra.specs.declared.elem.Side.TheVariants.{Finite, Infinite}
 use Rattle.ff_algebra.specs.Functions.{of_poly, IsPolynomial, IsFiniteAtInfinity}
 use Rattle.ff_algebra.specs.Discriminant.{discriminant}
 use Rattle.ff_algebra.specs.Values.{PresValue, Functions, functions, setting, equation_of}
 use Rattle.ff_algebra.specs.Places.{IsPlace, IsIn, IsIntegralAt}
-use Rattle.ff_algebra.specs.Infinity.{value_at, variable, IsInfinitePresentation}
+use Rattle.ff_algebra.specs.Infinity.{variable, IsInfinitePresentation}
 use Rattle.ff_algebra.proofs.OnSide.{of_poly_zero}
 use Rattle.places_theory.proofs.AtInfinity.{at, at_hom, at_codes, powers_cancel}
 use Rattle.places_theory.proofs.Transport.{back, f_back}

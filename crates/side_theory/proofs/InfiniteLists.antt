@@ -1,6 +1,6 @@
 -- The infinite places are finitely many, and listed with their ramification and degrees: the fundamental equality over 1/x.
-use Rattle.std.proofs.Common.{◌≡◌, ◌↔◌, ◌≤◌, ◌+◌, ◌*◌, ◌-◌, ℕ, List, [], ◌∷◌, length, map, pos, refl, sym, ◌∙◌, ap, subst, arith}
-use Rattle.std.specs.List.{Any, AllPairs}
+use Rattle.std.proofs.Common.{◌≡◌, ◌↔◌, ◌+◌, ◌*◌, ◌-◌, ℕ, List, [], ◌∷◌, map, pos, refl, sym, ◌∙◌, ap, subst, arith}
+use Rattle.std.specs.List.{Any}
 use Rattle.ff_fields.specs.Field.{CodeField}
 use Rattle.ff_poly.specs.Polynomials.{polynomials, x_poly}
 use Rattle.ff_algebra.specs.declared.elem.Side.{Side}
@@ -8,10 +8,10 @@ use Rattle.ff_algebra.specs.declared.elem.Side.TheVariants.{Finite, Infinite}
 use Rattle.ff_algebra.specs.Functions.{of_poly, degree_of_y}
 use Rattle.ff_algebra.specs.Discriminant.{discriminant}
 use Rattle.ff_algebra.specs.Values.{PresValue, Functions, setting, equation_of}
-use Rattle.ff_algebra.specs.Places.{Place, IsPlace, IsIn, IsSamePlace, HasValuation}
+use Rattle.ff_algebra.specs.Places.{IsPlace, IsIn, IsSamePlace, HasValuation}
 use Rattle.ff_algebra.specs.Divisors.{HasDegree, HasRamification}
 use Rattle.places_theory.proofs.SamePlaces.{same_place_trans}
-use Rattle.order_theory.specs.PlaceLists.{PlaceOver, IsAllOver, sum_of_degrees}
+use Rattle.order_theory.specs.PlaceLists.{PlaceOver, sum_of_degrees}
 use Rattle.order_theory.proofs.InfinitePlaces.{infinite}
 use Rattle.order_theory.proofs.FinitePlaces.{finite}
 use Rattle.order_theory.proofs.PlaceEntries.{pairs_map, any_map, places_over_p, all_places_over, sum_of_places}

@@ -1,5 +1,5 @@
 -- The finite places of the infinite presentation over its variable are the infinite places: for places whose side is given by an equation.
-use Rattle.std.proofs.Common.{◌≡◌, ◌↔◌, ℕ, List, refl, ap, subst}
+use Rattle.std.proofs.Common.{◌≡◌, ◌↔◌, ℕ, List, refl}
 use Rattle.std.specs.Prelude.{ℤ}
 use Rattle.ff_fields.specs.Field.{CodeField}
 use Rattle.ff_poly.specs.Polynomials.{polynomials, x_poly}

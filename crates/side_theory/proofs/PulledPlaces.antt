@@ -17,7 +17,6 @@ use Rattle.ff_algebra.specs.Values.{PresValue, Functions, functions, setting, eq
 use Rattle.ff_algebra.specs.Places.{IsPlace, IsIn, IsSamePlace, IsIntegralAt, HasValuation}
 use Rattle.ff_algebra.specs.Divisors.{HasDegree}
 use Rattle.ff_algebra.proofs.ScalarRings.{finite_at_infinity_subring}
-use Rattle.places_theory.proofs.Transport.{back, f_back}
 use Rattle.lattice_theory.specs.Lattices.{IsLattice}
 use Rattle.order_theory.specs.Orders.{IsPrimeTo}
 use Rattle.order_theory.proofs.InfinitePlaces.{infinite}
@@ -28,7 +27,6 @@ use Rattle.order_theory.proofs.PlaceLists.{integral_order}
 use Rattle.order_theory.proofs.PrimesOver.{ideal_lattice}
 use Rattle.order_theory.proofs.SideOfPlaces.{degree_of_place}
 use Rattle.order_theory.proofs.Values.{value_exists}
-use Rattle.side_theory.specs.Tame.{IsLocallyIn}
 use Rattle.side_theory.specs.InfiniteMaps.{IsInfiniteMap}
 use Rattle.side_theory.proofs.InfiniteTransport.{x_irreducible}
 use Rattle.side_theory.proofs.InfiniteDecisions.{infinite_span_decided, infinite_has_t}

@@ -1,10 +1,9 @@
 -- A finite place of the infinite presentation over its variable has the valuation of the infinite place that it gives.
-use Rattle.std.proofs.Common.{◌≡◌, ◌↔◌, All, ℕ, zero, suc, List, [], ◌∷◌, refl, sym, ◌∙◌, ap, ap₂, subst}
+use Rattle.std.proofs.Common.{◌≡◌, ℕ, zero, suc, List, [], ◌∷◌, refl, sym, ◌∙◌, ap, subst}
 use Rattle.std.specs.Prelude.{ℤ, pos, negsuc}
 use Rattle.std.proofs.lemmas.List.Elements.{All-weaker}
-use Rattle.ff_ring.specs.Subsets.{IsSubring, IsModule, Product}
-use Rattle.ff_ring.specs.Local.{PrimeTo, Locally}
-use Rattle.ff_ring.proofs.Ring.{mul_mul}
+use Rattle.ff_ring.specs.Subsets.{IsSubring, IsModule}
+use Rattle.ff_ring.specs.Local.{PrimeTo}
 use Rattle.ff_ring.proofs.RowMaps.{IsHom, hom_zero}
 use Rattle.ff_ring.proofs.Solver.{ring, reads}
 use Rattle.ff_ring.proofs.Subsets.{span_least}

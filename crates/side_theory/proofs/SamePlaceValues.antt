@@ -1,7 +1,6 @@
 -- Places with the same members have the same valuation and the same degree.
-use Rattle.std.proofs.Common.{◌≡◌, ◌↔◌, ℕ, zero, suc, List, refl}
+use Rattle.std.proofs.Common.{◌↔◌, ℕ, zero, suc, List, refl}
 use Rattle.std.specs.Prelude.{ℤ, pos, negsuc}
-use Rattle.ff_ring.specs.Ring.{CommRing}
 use Rattle.ff_ring.proofs.RowMaps.{IsHom}
 use Rattle.ff_algebra.specs.declared.elem.Side.{Side}
 use Rattle.ff_algebra.specs.Setting.{Setting}
