@@ -13,3 +13,4 @@ pub mod PlaceMaps
 pub mod InfiniteLists
 pub mod EachEquation
 pub mod InfiniteLaws
+pub mod ValueRules

@@ -14,7 +14,7 @@ use Rattle.order_theory.proofs.FinitePlaces.{finite}
 use Rattle.side_theory.specs.InfiniteMaps.{IsInfiniteMap, place_at_infinity}
 use Rattle.side_theory.proofs.PushedPlaces.{pushed_of, pushed_members, pushed_place}
 use Rattle.side_theory.proofs.PushedDegrees.{pushed_degree}
-use Rattle.side_theory.proofs.PushedValues.{pushed_value}
+use Rattle.side_theory.proofs.PushedValues.{pushed_value, value_back}
 use Rattle.side_theory.proofs.PulledPlaces.{rows, pulled_over, pulled_place, pulled_same}
 
 module _ (k : CodeField) (p q : PresValue) (c : ℕ) (f : Functions k q → Functions k p) (g : IsInfiniteMap k p q c f) where
@@ -48,12 +48,12 @@ module _ (k : CodeField) (p q : PresValue) (c : ℕ) (f : Functions k q → Func
       (λ gs m place. pushed_degree k p q c f g gs place m) Q over place
 
   module _ (some : ¬ (discriminant (equation_of k q) ≡ (polynomials k).𝟘)) where
-    pub value_of : (Q : Place (Functions k q)) → IsPlace (setting k q) Q → LiesOver (setting k q) Q X → (z : Functions k q) (m : ℤ) → HasValuation (setting k q) Q z m
-        → HasValuation (setting k p) (place_at_infinity k p q f Q) (f z) m
+    pub value_of : (Q : Place (Functions k q)) → IsPlace (setting k q) Q → LiesOver (setting k q) Q X → (z : Functions k q) (m : ℤ)
+        → HasValuation (setting k p) (place_at_infinity k p q f Q) (f z) m ↔ HasValuation (setting k q) Q z m
     value_of Q place over =
         by_over
-        (λ Q. IsPlace (setting k q) Q → (z : Functions k q) (m : ℤ) → HasValuation (setting k q) Q z m → HasValuation (setting k p) (place_at_infinity k p q f Q) (f z) m)
-        (λ gs m place. pushed_value k p q c f g gs place m some) Q over place
+        (λ Q. IsPlace (setting k q) Q → (z : Functions k q) (m : ℤ) → HasValuation (setting k p) (place_at_infinity k p q f Q) (f z) m ↔ HasValuation (setting k q) Q z m)
+        (λ gs m place z n. (value_back k p q c f g gs place m some z n, pushed_value k p q c f g gs place m some z n)) Q over place
 
     pub every_place : (P : Place (Functions k p)) → IsPlace (setting k p) P → P.side ≡ Infinite
         → (Q : Place (Functions k q)) × IsPlace (setting k q) Q × LiesOver (setting k q) Q X × IsSamePlace (setting k p) (place_at_infinity k p q f Q) P

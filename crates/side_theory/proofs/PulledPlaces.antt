@@ -14,7 +14,7 @@ use Rattle.ff_algebra.specs.declared.elem.Side.TheVariants.{Finite, Infinite}
 use Rattle.ff_algebra.specs.Functions.{of_poly, IsPolynomial, IsFiniteAtInfinity}
 use Rattle.ff_algebra.specs.Discriminant.{discriminant}
 use Rattle.ff_algebra.specs.Values.{PresValue, Functions, functions, setting, equation_of}
-use Rattle.ff_algebra.specs.Places.{IsPlace, IsIn, IsSamePlace, IsIntegralAt, HasValuation}
+use Rattle.ff_algebra.specs.Places.{IsPlace, IsIn, IsSamePlace, IsIntegralAt, HasValuationAtLeast, HasValuation}
 use Rattle.ff_algebra.specs.Divisors.{HasDegree}
 use Rattle.ff_algebra.proofs.ScalarRings.{finite_at_infinity_subring}
 use Rattle.lattice_theory.specs.Lattices.{IsLattice}
@@ -32,8 +32,8 @@ use Rattle.side_theory.proofs.InfiniteTransport.{x_irreducible}
 use Rattle.side_theory.proofs.InfiniteDecisions.{infinite_span_decided, infinite_has_t}
 use Rattle.side_theory.proofs.PushedPlaces.{each, integral_of, prime_integral, pushed}
 use Rattle.side_theory.proofs.PushedDegrees.{pushed_degree}
-use Rattle.side_theory.proofs.PushedValues.{pushed_value}
-use Rattle.side_theory.proofs.SamePlaceValues.{value_same, degree_same}
+use Rattle.side_theory.proofs.PushedValues.{at_least_back, pushed_value, value_back}
+use Rattle.side_theory.proofs.SamePlaceValues.{turn, at_least_same, value_same, degree_same}
 
 module _ (k : CodeField) (p q : PresValue) (c : ℕ) (f : Functions k q → Functions k p) (g : IsInfiniteMap k p q c f)
     (ws : List (Functions k p)) (place : IsPlace (setting k p) (infinite (equation_of k p) ws)) where
@@ -191,6 +191,23 @@ module _ (k : CodeField) (p q : PresValue) (c : ℕ) (f : Functions k q → Func
                   (a.multiple_in, into_scale a.factor z (integral_of k p q c f g a.factor (prime_integral k p q c f g a.factor a.factor_in)) m);
             })
 
+    -- with the valuation of the finite place
+    pub value_down : (z : Functions k q) (m : ℤ) → HasValuation (setting k p) (infinite (equation_of k p) ws) (f z) m
+        → HasValuation (setting k q) (finite (equation_of k q) rows) z m
+    value_down z m v =
+        value_back k p q c f g rows pulled_place pulled_over some z m
+        (value_same (setting k p) Infinite ws _ (turn (setting k p) Infinite _ ws pulled_same.members) (f z) m v)
+
+    pub value_up : (z : Functions k q) (m : ℤ) → HasValuation (setting k q) (finite (equation_of k q) rows) z m
+        → HasValuation (setting k p) (infinite (equation_of k p) ws) (f z) m
+    value_up z m v = value_same (setting k p) Infinite _ ws pulled_same.members (f z) m (pushed_value k p q c f g rows pulled_place pulled_over some z m v)
+
+    pub at_least_down : (z : Functions k q) (m : ℤ) → HasValuationAtLeast (setting k p) (infinite (equation_of k p) ws) (f z) m
+        → HasValuationAtLeast (setting k q) (finite (equation_of k q) rows) z m
+    at_least_down z m v =
+        at_least_back k p q c f g rows pulled_place pulled_over some z m
+        (at_least_same (setting k p) Infinite ws _ (turn (setting k p) Infinite _ ws pulled_same.members) (f z) m v)
+
     -- so a function with an inverse has a value at it
     pub infinite_value_exists : (z y : Functions k p) → (functions k p).◌⊗◌ z y ≡ (functions k p).𝟙 → (m : ℤ) × HasValuation (setting k p) (infinite (equation_of k p) ws) z m
     infinite_value_exists = each k p q c f g
@@ -199,7 +216,7 @@ module _ (k : CodeField) (p q : PresValue) (c : ℕ) (f : Functions k q → Func
         (λ y e.
         let v = value_exists (equation_of k q) some rows pulled_place z y (g.isomorphism.injective _ _ (g.isomorphism.hom.mul z y ∙ e ∙ sym g.isomorphism.hom.𝟙)) in (
           v.0,
-          value_same (setting k p) Infinite _ ws pulled_same.members (f z) v.0 (pushed_value k p q c f g rows pulled_place pulled_over some z v.0 v.1),
+          value_up z v.0 v.1,
         )))
 
     -- and it has a degree

@@ -117,7 +117,7 @@ module _ (k : CodeField) (p q : PresValue) (c : ℕ) (f : Functions k q → Func
   three u z w = g.isomorphism.hom.mul (u ⊗ z) w ∙ ap (λ x. (functions k p).◌⊗◌ x (f w)) (g.isomorphism.hom.mul u z)
 
   -- a value of at least m here is one there
-  at_least_image : (z : Functions k q) (m : ℤ) → HasValuationAtLeast (setting k q) (finite (equation_of k q) gs) z m
+  pub at_least_image : (z : Functions k q) (m : ℤ) → HasValuationAtLeast (setting k q) (finite (equation_of k q) gs) z m
       → HasValuationAtLeast (setting k p) (pushed k p q c f g gs) (f z) m
   at_least_image z (pos m) v = record {
     factor = f v.factor;
@@ -219,3 +219,7 @@ module _ (k : CodeField) (p q : PresValue) (c : ℕ) (f : Functions k q → Func
     pub pushed_value : (z : Functions k q) (m : ℤ) → HasValuation (setting k q) (finite (equation_of k q) gs) z m
         → HasValuation (setting k p) (pushed k p q c f g gs) (f z) m
     pushed_value z m v = record { reached = at_least_image z m v.reached; not_more = λ n. v.not_more (at_least_back z _ n) }
+
+    pub value_back : (z : Functions k q) (m : ℤ) → HasValuation (setting k p) (pushed k p q c f g gs) (f z) m
+        → HasValuation (setting k q) (finite (equation_of k q) gs) z m
+    value_back z m v = record { reached = at_least_back z m v.reached; not_more = λ n. v.not_more (at_least_image z _ n) }

@@ -21,10 +21,10 @@ module _ {E : Type 0} (S : Setting E) (s : Side) where
       product_image S.functions S.functions (λ z. z) self (InPower S (at gs) m) (IsIn S (at gs)) (InPower S (at hs) m) (IsIn S (at hs))
       (in_power_same gs hs e m) (λ a. (e a).0) z h
 
-  turn : (gs hs : List E) → ((z : E) → IsIn S (at gs) z ↔ IsIn S (at hs) z) → (z : E) → IsIn S (at hs) z ↔ IsIn S (at gs) z
+  pub turn : (gs hs : List E) → ((z : E) → IsIn S (at gs) z ↔ IsIn S (at hs) z) → (z : E) → IsIn S (at hs) z ↔ IsIn S (at gs) z
   turn gs hs e z = ((e z).1, (e z).0)
 
-  at_least_same : (gs hs : List E) → ((z : E) → IsIn S (at gs) z ↔ IsIn S (at hs) z) → (z : E) (m : ℤ) → HasValuationAtLeast S (at gs) z m
+  pub at_least_same : (gs hs : List E) → ((z : E) → IsIn S (at gs) z ↔ IsIn S (at hs) z) → (z : E) (m : ℤ) → HasValuationAtLeast S (at gs) z m
       → HasValuationAtLeast S (at hs) z m
   at_least_same gs hs e z (pos m) v = record {
     factor = v.factor;

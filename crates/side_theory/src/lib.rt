@@ -4,7 +4,7 @@
 //! main theorem is the contract of a function with an empty body; the crates above cite the lemmas of proofs/.
 #![tactic(auto)]
 
-ghost use Rattle.std.specs.Prelude.{◌≡◌, ℕ, ℤ, ◌≤◌, ◌↔◌, List};
+ghost use Rattle.std.specs.Prelude.{◌≡◌, ℕ, ℤ, ◌+ℤ◌, ◌≤◌, ◌↔◌, List};
 ghost use Rattle.std.proofs.Common.{pos};
 ghost use Rattle.ff_ring.specs.Ring.{pow};
 ghost use Rattle.ff_ring.specs.Subsets.{IsModule, Span, Product, Colon};
@@ -186,8 +186,8 @@ pub fn place_map_law()
         → HasDegree (setting k p) (place_at_infinity k p q f Q) d }
     ensures value { (k : CodeField) (p q : PresValue) (c : ℕ) (f : Functions k q → Functions k p) → IsInfiniteMap k p q c f
         → ¬ (discriminant (equation_of k q) ≡ (polynomials k).𝟘) → (Q : Place (Functions k q)) → IsPlace (setting k q) Q
-        → LiesOver (setting k q) Q (setting k q).x → (z : Functions k q) (m : ℤ) → HasValuation (setting k q) Q z m
-        → HasValuation (setting k p) (place_at_infinity k p q f Q) (f z) m }
+        → LiesOver (setting k q) Q (setting k q).x → (z : Functions k q) (m : ℤ)
+        → HasValuation (setting k p) (place_at_infinity k p q f Q) (f z) m ↔ HasValuation (setting k q) Q z m }
     ensures every { (k : CodeField) (p q : PresValue) (c : ℕ) (f : Functions k q → Functions k p) → IsInfiniteMap k p q c f
         → ¬ (discriminant (equation_of k q) ≡ (polynomials k).𝟘) → (P : Place (Functions k p)) → IsPlace (setting k p) P → P.side ≡ Infinite
         → (Q : Place (Functions k q)) × IsPlace (setting k q) Q × LiesOver (setting k q) Q (setting k q).x
@@ -226,4 +226,14 @@ pub fn infinite_regular_law()
     ensures { (k : CodeField) (c : Equation k) (z : FunctionOf c) → ¬ (discriminant c ≡ (polynomials k).𝟘)
         → ((P : Place (FunctionOf c)) → IsPlace (setting_of c) P → P.side ≡ Infinite → HasValuationAtLeast (setting_of c) P z (pos 0))
         ↔ IsIntegralAt (setting_of c) Infinite z }
+{}
+
+/// At each place, values add on products, and the value of a sum of functions with different values is the smaller one.
+pub fn value_rules_law()
+    ensures product { (k : CodeField) (c : Equation k) (P : Place (FunctionOf c)) → ¬ (discriminant c ≡ (polynomials k).𝟘) → IsPlace (setting_of c) P
+        → (z w : FunctionOf c) (m n : ℤ) → HasValuation (setting_of c) P z m → HasValuation (setting_of c) P w n
+        → HasValuation (setting_of c) P ((ring_of c).◌⊗◌ z w) (m +ℤ n) }
+    ensures sum { (k : CodeField) (c : Equation k) (P : Place (FunctionOf c)) → ¬ (discriminant c ≡ (polynomials k).𝟘) → IsPlace (setting_of c) P
+        → (z w : FunctionOf c) (m : ℤ) → HasValuation (setting_of c) P z m → HasValuationAtLeast (setting_of c) P w (m +ℤ pos 1)
+        → HasValuation (setting_of c) P ((ring_of c).◌⊕◌ z w) m }
 {}
