@@ -4,7 +4,7 @@
 //! main theorem is the contract of a function with an empty body; the crates above cite the lemmas of proofs/.
 #![tactic(auto)]
 
-ghost use Rattle.std.specs.Prelude.{◌≡◌, ℕ, ℤ, ◌+ℤ◌, ◌≤◌, ◌↔◌, List};
+ghost use Rattle.std.specs.Prelude.{◌≡◌, ℕ, ℤ, ◌+ℤ◌, ◌≤◌, ◌↔◌, List, map};
 ghost use Rattle.std.proofs.Common.{pos};
 ghost use Rattle.ff_ring.specs.Ring.{pow};
 ghost use Rattle.ff_ring.specs.Subsets.{IsModule, Span, Product, Colon};
@@ -22,6 +22,7 @@ ghost use Rattle.ff_algebra.specs.Infinity.{IsInfinitePresentation};
 ghost use Rattle.ff_algebra.specs.Discriminant.{discriminant};
 ghost use Rattle.local_theory.specs.Ideals.{Multiple, SameSet};
 ghost use Rattle.local_theory.specs.Orders.{MaximalAt, Radical};
+ghost use Rattle.local_theory.specs.Primes.{IsPrime};
 ghost use Rattle.trace_theory.specs.Traces.{HasPolynomialCoordinates};
 ghost use Rattle.lattice_theory.specs.Lattices.{IsLattice, space_ops};
 ghost use Rattle.order_theory.specs.Orders.{IsOrder, IsPrimeTo, TakenByPowers};
@@ -31,8 +32,9 @@ ghost use Rattle.side_theory.specs.InfinitePlaces.{InfinitePlace, IsAllInfinite,
 
 use lattice_theory::FunctionSets;
 
-/// A curve's presentation, its infinite one, and a set of functions of that. Only theorems use it, as a type parameter that no value has.
-pub trait InfiniteSet {
+/// A curve's presentation, its infinite one, and two sets of functions of that: an order, say, and a prime of it. Only theorems use it, as a type parameter that
+/// no value has.
+pub trait InfiniteSets {
     ghost field: { CodeField };
 
     ghost presentation: { PresValue };
@@ -40,6 +42,8 @@ pub trait InfiniteSet {
     ghost infinite: { PresValue };
 
     ghost members: { Functions field infinite → Type 0 };
+
+    ghost prime: { Functions field infinite → Type 0 };
 }
 
 /// Tame lattices, which are k[x][y] up to powers of p: k[x][y] is one, and so are the sum, the product and the colon of two, the multiples of one by what
@@ -115,7 +119,7 @@ pub fn infinite_map_law()
 
 /// For a lattice over k[t], the combinations of its generators over the fractions of degree at most 0 are what is locally at t in it. Where it is tame,
 /// it has those of them that have powers of t as denominators, and whether a function is one is membership of a multiple.
-pub fn combination_law<L: InfiniteSet>()
+pub fn combination_law<L: InfiniteSets>()
     ensures locally { (c : ℕ) (f : Functions L.field L.infinite → Functions L.field L.presentation) → IsInfiniteMap L.field L.presentation L.infinite c f
         → IsLattice (equation_of L.field L.infinite) L.members → (gs : List (Functions L.field L.infinite))
         → SameSet L.members (Span (functions L.field L.infinite).ops (IsPolynomial (equation_of L.field L.infinite)) gs)
@@ -158,7 +162,7 @@ pub fn infinite_maximal_law()
 
 /// The infinite maximal order: of an order over k[t] that is maximal at t, the combinations over the fractions of degree at most 0 are O_inf. Where it is
 /// tame, it has what O_inf has with powers of t as denominators.
-pub fn infinite_order_law<O: InfiniteSet>()
+pub fn infinite_order_law<O: InfiniteSets>()
     ensures integral { (c : ℕ) (f : Functions O.field O.infinite → Functions O.field O.presentation) → IsInfiniteMap O.field O.presentation O.infinite c f
         → IsOrder (equation_of O.field O.infinite) O.members
         → MaximalAt (functions O.field O.infinite).ops (of_poly (equation_of O.field O.infinite) (x_poly O.field)) (IsIntegralAt (setting O.field O.infinite) Finite) O.members
@@ -192,6 +196,19 @@ pub fn place_map_law()
         → ¬ (discriminant (equation_of k q) ≡ (polynomials k).𝟘) → (P : Place (Functions k p)) → IsPlace (setting k p) P → P.side ≡ Infinite
         → (Q : Place (Functions k q)) × IsPlace (setting k q) Q × LiesOver (setting k q) Q (setting k q).x
         × IsSamePlace (setting k p) (place_at_infinity k p q f Q) P }
+{}
+
+/// Of an order over k[t] that is maximal at t, each prime over t gives an infinite place: the images of functions that span the prime over k[t] span the place,
+/// and the order has the same members of both.
+pub fn prime_at_infinity_law<O: InfiniteSets>()
+    ensures { (c : ℕ) (f : Functions O.field O.infinite → Functions O.field O.presentation) → IsInfiniteMap O.field O.presentation O.infinite c f
+        → IsOrder (equation_of O.field O.infinite) O.members
+        → MaximalAt (functions O.field O.infinite).ops (of_poly (equation_of O.field O.infinite) (x_poly O.field)) (IsIntegralAt (setting O.field O.infinite) Finite) O.members
+        → IsPrime (functions O.field O.infinite).ops O.members O.prime → O.prime (setting O.field O.infinite).x → (gs : List (Functions O.field O.infinite))
+        → SameSet O.prime (Span (functions O.field O.infinite).ops (IsPolynomial (equation_of O.field O.infinite)) gs)
+        → IsPlace (setting O.field O.presentation) (record { side = Infinite; generators = map f gs })
+        × ((z : Functions O.field O.infinite) → O.members z
+        → IsIn (setting O.field O.presentation) (record { side = Infinite; generators = map f gs }) (f z) ↔ O.prime z) }
 {}
 
 /// Membership at infinity is decided: in a span over the fractions of degree at most 0, and in O_inf.
