@@ -22,7 +22,7 @@ use Rattle.order_theory.proofs.IntegralLattice.{integral_lattice, polynomial_int
 use Rattle.order_theory.proofs.FinitePlaces.{Int, finite, in_place_decided}
 use Rattle.order_theory.proofs.InvertibleIdeals.{divisor_of, divides_it, divisor_irreducible}
 use Rattle.order_theory.proofs.IrreducibleIn.{factor_in, one_out, times}
-use Rattle.order_theory.proofs.PlaceEntries.{places_over_p, all_places_over}
+use Rattle.order_theory.proofs.PlaceEntries.{any_map, places_over_p, all_places_over}
 use Rattle.order_theory.proofs.Values.{value_zero}
 
 module _ {X : Type 0} (P : X → Type 0) where
@@ -37,14 +37,6 @@ module _ {X : Type 0} (P : X → Type 0) where
   any_right : (xs ys : List X) → Any P ys → Any P (xs ++ ys)
   any_right [] ys h = h
   any_right (x ∷ xs) ys h = any_there P x (xs ++ ys) (any_right xs ys h)
-
-any_place : {X Y : Type 0} (T : Y → Type 0) (f : X → Y) (xs : List X) → Any (λ x. T (f x)) xs → Any T (map f xs)
-any_place T f [] h = absurd (any_none (λ x. T (f x)) h)
-any_place T f (x ∷ xs) h = go (any_place T f xs) (any_cases (λ x. T (f x)) x xs h)
-  where
-    go : (Any (λ x. T (f x)) xs → Any T (map f xs)) → T (f x) ⊎ Any (λ x. T (f x)) xs → Any T (f x ∷ map f xs)
-    go again (inl t) = any_here T (f x) (map f xs) t
-    go again (inr a) = any_there T (f x) (map f xs) (again a)
 
 module _ {k : CodeField} (c : Equation k) (some : ¬ (discriminant c ≡ (polynomials k).𝟘)) where
   infixl 70 ◌⊗◌
@@ -103,7 +95,8 @@ module _ {k : CodeField} (c : Equation k) (some : ¬ (discriminant c ≡ (polyno
             list = first ++ r.list;
             all = λ gs place m. by gs place p d.0 (subst (λ a. IsIn (setting_of c) (finite c gs) (of_poly c a)) d.1 m) (in_place_decided c gs place (of_poly c p)) first r.list
                 (λ p_in.
-                any_place (λ Q. IsSamePlace (setting_of c) Q (finite c gs)) (λ P. P.place) (places_over_p c some p irr)
+                any_map (λ P. IsSamePlace (setting_of c) P.place (finite c gs)) (λ Q. IsSamePlace (setting_of c) Q (finite c gs)) (λ P. P.place) (λ P s. s)
+                (places_over_p c some p irr)
                 ((all_places_over c some p irr).complete (finite c gs) place (record { side = refl; member = p_in })))
                 (λ u_in. r.all gs place u_in);
           }

@@ -34,13 +34,13 @@ use Rattle.order_theory.proofs.Ramification.{prime_index, ramified, fundamental_
 use Rattle.order_theory.proofs.PlaceLists.{integral_order, integral_maximal, rows, members, prime_place, place_is_listed, same_place, different}
 
 -- pairs of a mapped list
-pairs_map : {X Y : Type 0} (R : X → X → Type 0) (T : Y → Y → Type 0) (f : X → Y) → ((x y : X) → R x y → T (f x) (f y)) → (xs : List X) → AllPairs R xs → AllPairs T (map f xs)
+pub pairs_map : {X Y : Type 0} (R : X → X → Type 0) (T : Y → Y → Type 0) (f : X → Y) → ((x y : X) → R x y → T (f x) (f y)) → (xs : List X) → AllPairs R xs → AllPairs T (map f xs)
 pairs_map R T f g [] h = λ i j d l m. absurd (omega arith)
 pairs_map R T f g (x ∷ xs) h =
     AllPairs-cons T (f x) (map f xs) (All-map (T (f x)) f xs (All-weaker (R x) (λ y. T (f x) (f y)) (g x) xs (pairs_head R x xs h)))
     (pairs_map R T f g xs (pairs_tail R x xs h))
 
-any_map : {X Y : Type 0} (Q : X → Type 0) (T : Y → Type 0) (f : X → Y) → ((x : X) → Q x → T (f x)) → (xs : List X) → Any Q xs → Any T (map f xs)
+pub any_map : {X Y : Type 0} (Q : X → Type 0) (T : Y → Type 0) (f : X → Y) → ((x : X) → Q x → T (f x)) → (xs : List X) → Any Q xs → Any T (map f xs)
 any_map Q T f g [] h = absurd (any_none Q h)
 any_map Q T f g (x ∷ xs) h = go (any_map Q T f g xs) (any_cases Q x xs h)
   where

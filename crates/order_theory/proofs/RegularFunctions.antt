@@ -1,11 +1,16 @@
--- A function whose value is at least 0 at each finite place is integral over the polynomials.
-use Rattle.std.proofs.Common.{◌≡◌, ◌⊎◌, inl, inr, ℕ, ◌≤◌, List, length, pos, refl, sym, ◌∙◌, ap, subst, arith}
+-- A function whose value is at least 0 at each place over p is integral over the polynomials up to a factor prime to p; so where it is at least 0 at each
+-- finite place, it is integral.
+use Rattle.std.proofs.Common.{◌≡◌, ◌⊎◌, inl, inr, ℕ, zero, suc, ◌≤◌, List, length, pos, refl, sym, ◌∙◌, ap, subst, arith}
 use Rattle.std.proofs.lemmas.List.{length-map}
+use Rattle.ff_ring.specs.Ring.{pow}
+use Rattle.ff_ring.specs.Local.{Locally}
 use Rattle.ff_ring.specs.Lists.{coeff_of}
+use Rattle.ff_ring.proofs.Local.{power_in}
 use Rattle.ff_ring.proofs.Ring.{one_mul, mul_zero, zero_mul, add_mul}
 use Rattle.ff_ring.proofs.Evaluate.{constant, constant_hom}
 use Rattle.ff_ring.proofs.Polynomials.{length_product}
 use Rattle.local_theory.specs.Ideals.{IsIdeal}
+use Rattle.local_theory.specs.Orders.{Denominator}
 use Rattle.local_theory.specs.Systems.{Escapes}
 use Rattle.local_theory.proofs.Lists.{everywhere}
 use Rattle.local_theory.proofs.Systems.{covering}
@@ -14,7 +19,7 @@ use Rattle.ff_fields.specs.Field.{CodeField}
 use Rattle.ff_fields.specs.Code.{code_ring, code_domain}
 use Rattle.ff_poly.specs.Words.{IsIrreducible}
 use Rattle.ff_poly.specs.Polynomials.{Polynomial, polynomials, polynomial_discrete, codes_of}
-use Rattle.ff_algebra.specs.Places.{IsPlace, HasValuationAtLeast}
+use Rattle.ff_algebra.specs.Places.{IsPlace, IsIn, HasValuationAtLeast}
 use Rattle.ff_algebra.specs.Functions.{Equation, FunctionOf, ring_of, of_poly, setting_of}
 use Rattle.ff_algebra.specs.Discriminant.{discriminant}
 use Rattle.places_theory.proofs.YRoot.{poly_hom}
@@ -24,15 +29,16 @@ use Rattle.lattice_theory.proofs.Lattices.{lattice_decided}
 use Rattle.order_theory.proofs.LeastPolynomials.{Least, least_polynomial}
 use Rattle.lattice_theory.proofs.Bases.{monic_multiple}
 use Rattle.order_theory.proofs.Degrees.{constant_of}
+use Rattle.order_theory.specs.Orders.{IsPrimeTo}
+use Rattle.order_theory.proofs.LocalOrders.{prime_to, denominator}
 use Rattle.order_theory.proofs.IntegralLattice.{integral_lattice, integral_subring, polynomial_integral}
 use Rattle.order_theory.proofs.FinitePlaces.{Int, finite}
 use Rattle.order_theory.proofs.ReductionAt.{p_in}
-use Rattle.order_theory.proofs.PrimesOver.{Index, PrimeOf, family_of, primes_at}
+use Rattle.order_theory.proofs.PrimesOver.{Index, PrimeOf, prime_over, family_of, primes_at}
 use Rattle.order_theory.proofs.PlaceLists.{integral_order, integral_maximal, rows, members, prime_place}
 use Rattle.order_theory.proofs.InvertibleIdeals.{divisor_of, divides_it, divisor_irreducible}
 
-module _ {k : CodeField} (c : Equation k) (some : ¬ (discriminant c ≡ (polynomials k).𝟘)) (z : FunctionOf c)
-    (regular : (gs : List (FunctionOf c)) → IsPlace (setting_of c) (finite c gs) → HasValuationAtLeast (setting_of c) (finite c gs) z (pos 0)) where
+module _ {k : CodeField} (c : Equation k) (z : FunctionOf c) where
   infixl 65 ◌⊕◌
   infixl 70 ◌⊗◌
   open ring_of c use {𝟘, 𝟙, ◌⊕◌, ◌⊗◌}
@@ -58,21 +64,62 @@ module _ {k : CodeField} (c : Equation k) (some : ¬ (discriminant c ≡ (polyno
   polynomial_in : (a : Polynomial k) → Int c (of_poly c a)
   polynomial_in a = polynomial_integral c (of_poly c a) (record { polynomial = a; value = refl })
 
-  -- what an irreducible p takes into J is in J
-  cancelled : (p : Polynomial k) → IsIrreducible k.ops (codes_of k p) → (w : FunctionOf c) → Int c w → J (of_poly c p ⊗ w) → J w
-  cancelled p h w w_in m =
+module _ {k : CodeField} (c : Equation k) (some : ¬ (discriminant c ≡ (polynomials k).𝟘)) (z : FunctionOf c)
+    (p : Polynomial k) (h : IsIrreducible k.ops (codes_of k p))
+    (regular : (gs : List (FunctionOf c)) → IsPlace (setting_of c) (finite c gs) → IsIn (setting_of c) (finite c gs) (of_poly c p)
+    → HasValuationAtLeast (setting_of c) (finite c gs) z (pos 0)) where
+  infixl 65 ◌⊕◌
+  infixl 70 ◌⊗◌
+  open ring_of c use {𝟘, 𝟙, ◌⊕◌, ◌⊗◌}
+
+  -- what p takes into J is in J
+  cancelled : (w : FunctionOf c) → Int c w → J c z (of_poly c p ⊗ w) → J c z w
+  cancelled w w_in m =
       let primes = primes_at c p h (Int c) (integral_order c some p h) (integral_maximal c some p h) in
       let P = PrimeOf c p h (Int c) (integral_order c some p h) in
       let u = covering (ring_of c) (Int c) (integral_subring c) (of_poly c p) (p_in c p h (Int c) (integral_order c some p h)) (Index c p h (Int c) (integral_order c some p h)) P
-      (family_of c p h (Int c) (integral_order c some p h) (integral_maximal c some p h)) primes.list primes.system (λ u. Int c u × Int c (u ⊗ z)) 𝓙
+      (family_of c p h (Int c) (integral_order c some p h) (integral_maximal c some p h)) primes.list primes.system (λ u. Int c u × Int c (u ⊗ z)) (𝓙 c z)
       (everywhere (λ i. Escapes (λ u. Int c u × Int c (u ⊗ z)) (P i))
-      (λ i. let v = regular (rows c some p h i) (prime_place c some p h i) in record {
+      (λ i. let v =
+      regular (rows c some p h i) (prime_place c some p h i) ((members c some p h i _).0 (prime_over c p h (Int c) (integral_order c some p h) i)) in
+      record {
         member = v.factor;
         member_in = (v.integral, v.product);
         out = λ n. v.outside ((members c some p h i v.factor).0 n);
       }) primes.list) in
-      lift (ring_of c) (Int c) (integral_subring c) (of_poly c p) (p_in c p h (Int c) (integral_order c some p h)) (λ u. Int c u × Int c (u ⊗ z)) 𝓙
-      u.member u.member_in u.one_modulo 1 w w_in (subst (λ x. J (x ⊗ w)) (sym ((ring_of c).mul_one _)) m)
+      lift (ring_of c) (Int c) (integral_subring c) (of_poly c p) (p_in c p h (Int c) (integral_order c some p h)) (λ u. Int c u × Int c (u ⊗ z)) (𝓙 c z)
+      u.member u.member_in u.one_modulo 1 w w_in (subst (λ x. J c z (x ⊗ w)) (sym ((ring_of c).mul_one _)) m)
+
+  -- a factor prime to p takes z to an integral function
+  pub regular_locally : Locally (ring_of c).ops (IsPrimeTo c p) (Int c) z
+  regular_locally =
+      record { factor = d.cofactor; factor_in = d.cofactor_in; multiple_in = (go d.exponent (power_in (ring_of c) (Int c) (integral_subring c) _ p_int d.exponent, d.multiple_in)).1 }
+    where
+      d : Denominator (ring_of c).ops (IsPrimeTo c p) (Int c) (of_poly c p) z
+      d = denominator c p h (Int c) (integral_lattice c some) z
+
+      p_int : Int c (of_poly c p)
+      p_int = polynomial_integral c (of_poly c p) (record { polynomial = p; value = refl })
+
+      w_int : Int c d.cofactor
+      w_int = polynomial_integral c d.cofactor ((prime_to c p h).within d.cofactor d.cofactor_in)
+
+      go : (n : ℕ) → Int c (pow (ring_of c).ops (of_poly c p) n) × Int c (pow (ring_of c).ops (of_poly c p) n ⊗ d.cofactor ⊗ z) → J c z d.cofactor
+      go zero m = (w_int, subst (λ x. Int c (x ⊗ z)) (one_mul (ring_of c) d.cofactor) m.1)
+      go (suc n) m =
+          let q = power_in (ring_of c) (Int c) (integral_subring c) (of_poly c p) p_int n in
+          let q_w = (integral_subring c).product_in _ _ q w_int in
+          go n (
+            q,
+            (cancelled (pow (ring_of c).ops (of_poly c p) n ⊗ d.cofactor) q_w
+                ((integral_subring c).product_in _ _ p_int q_w, subst (λ x. Int c (x ⊗ z)) ((ring_of c).mul_assoc _ _ d.cofactor) m.1)).1,
+          )
+
+module _ {k : CodeField} (c : Equation k) (some : ¬ (discriminant c ≡ (polynomials k).𝟘)) (z : FunctionOf c)
+    (regular : (gs : List (FunctionOf c)) → IsPlace (setting_of c) (finite c gs) → HasValuationAtLeast (setting_of c) (finite c gs) z (pos 0)) where
+  infixl 65 ◌⊕◌
+  infixl 70 ◌⊗◌
+  open ring_of c use {𝟘, 𝟙, ◌⊕◌, ◌⊗◌}
 
   abbrev Clears : Polynomial k → Type 0
   Clears a = (¬ (a ≡ (polynomials k).𝟘)) × Int c (of_poly c a ⊗ z)
@@ -106,7 +153,7 @@ module _ {k : CodeField} (c : Equation k) (some : ¬ (discriminant c ≡ (polyno
           let one : m.product ≡ (polynomials k).𝟙
           = constant_of c m.product (omega arith) ∙ ap (constant (code_ring k)) top ∙ (constant_hom (code_ring k)).𝟙 in
           subst (λ u. Int c (u ⊗ z)) (sym ((poly_hom c).mul _ _) ∙ ap (of_poly c) (sym m.is ∙ one) ∙ (poly_hom c).𝟙)
-          (𝓙.scale_in (of_poly c m.unit) (of_poly c smallest.member) (polynomial_in m.unit) (polynomial_in smallest.member, smallest.has.1)).1
+          ((𝓙 c z).scale_in (of_poly c m.unit) (of_poly c smallest.member) (polynomial_in c z m.unit) (polynomial_in c z smallest.member, smallest.has.1)).1
       go (inl long) =
           let g = smallest.member in
           let p = divisor_of k g smallest.has.0 long in
@@ -114,7 +161,8 @@ module _ {k : CodeField} (c : Equation k) (some : ¬ (discriminant c ≡ (polyno
           let d = divides_it k g smallest.has.0 long in
           let u = d.0 in
           let u_some : ¬ (u ≡ (polynomials k).𝟘) = λ e. smallest.has.0 (d.1 ∙ ap ((polynomials k).◌⊗◌ p) e ∙ mul_zero (polynomials k).ring p) in
-          let u_in = cancelled p irr (of_poly c u) (polynomial_in u) (subst J (ap (of_poly c) d.1 ∙ (poly_hom c).mul p u) (polynomial_in g, smallest.has.1)) in
+          let u_in = cancelled c some z p irr (λ gs place over. regular gs place) (of_poly c u) (polynomial_in c z u)
+          (subst (J c z) (ap (of_poly c) d.1 ∙ (poly_hom c).mul p u) (polynomial_in c z g, smallest.has.1)) in
           let le = smallest.least u (u_some, u_in.1) in
           let l = length_product (code_ring k) (code_domain k) p u (irreducible_some k p irr) u_some in
           let f : length g.0 ≡ length ((polynomials k).◌⊗◌ p u).0 = ap (λ q. length q.0) d.1 in

@@ -9,7 +9,6 @@ use Rattle.std.proofs.Common.{refl, pos}
 use Rattle.order_theory.proofs.IrreducibleIn.{generator_of, generator_in, generator_irreducible, same_irreducible}
 use Rattle.std.specs.List.{Any}
 use Rattle.order_theory.proofs.FinitelyMany.{finitely_many}
-use Rattle.order_theory.proofs.InfinitePlaces.{infinite_over_t}
 use Rattle.order_theory.proofs.RegularFunctions.{regular_is_integral}
 use Rattle.order_theory.proofs.Values.{value_exists, value_zero}
 use Rattle.ff_algebra.specs.declared.elem.Side.{Side}
@@ -92,16 +91,6 @@ module _ {k : CodeField} (c : Equation k) where
             by_side (λ P. IsPlace (setting_of c) P → HasValuation (setting_of c) P z (pos 0) ⊎ Any (λ Q. IsSamePlace (setting_of c) Q P) r.0)
             (λ gs h. r.1 gs h) P.side P.generators e h,
       )
-
-  pub infinite_place_over : (P : Place (FunctionOf c)) → IsPlace (setting_of c) P → P.side ≡ Infinite → Dec (IsIn (setting_of c) P (setting_of c).one_over_x)
-      → IsIn (setting_of c) P (setting_of c).one_over_x
-  infinite_place_over P h e d = at P.side e P.generators h d
-    where
-      at : (s : Side) → s ≡ Infinite → (gs : List (FunctionOf c)) → IsPlace (setting_of c) (record { side = s; generators = gs })
-          → Dec (IsIn (setting_of c) (record { side = s; generators = gs }) (setting_of c).one_over_x)
-          → IsIn (setting_of c) (record { side = s; generators = gs }) (setting_of c).one_over_x
-      at Finite e gs h d = absurd (cc)
-      at Infinite e gs h d = infinite_over_t c gs h d
 
   pub regular_functions : (z : FunctionOf c) → ¬ (discriminant c ≡ (polynomials k).𝟘)
       → ((P : Place (FunctionOf c)) → IsPlace (setting_of c) P → P.side ≡ Finite → HasValuationAtLeast (setting_of c) P z (pos 0)) ↔ Int c z

@@ -12,7 +12,7 @@ ghost use Rattle.ff_ring.specs.Local.{Locally};
 ghost use Rattle.ff_fields.specs.Field.{CodeField};
 ghost use Rattle.ff_poly.specs.Words.{IsIrreducible};
 ghost use Rattle.ff_poly.specs.Polynomials.{Polynomial, polynomials, codes_of};
-ghost use Rattle.ff_algebra.specs.declared.elem.Side.TheVariants.{Finite, Infinite};
+ghost use Rattle.ff_algebra.specs.declared.elem.Side.TheVariants.{Finite};
 ghost use Rattle.ff_algebra.specs.Functions.{Equation, FunctionOf, ring_of, of_poly, degree_of_y, setting_of};
 ghost use Rattle.ff_algebra.specs.Discriminant.{discriminant};
 ghost use Rattle.ff_algebra.specs.Places.{Place, IsPlace, IsIn, IsSamePlace, IsIntegralAt, LiesOver, HasValuation, HasValuationAtLeast};
@@ -82,12 +82,6 @@ pub fn lies_over_law()
     ensures once { (k : CodeField) (c : Equation k) (P : Place (FunctionOf c)) (p q : Polynomial k) → IsPlace (setting_of c) P
         → IsIrreducible k.ops (codes_of k p) → IsIrreducible k.ops (codes_of k q) → LiesOver (setting_of c) P (of_poly c p) → LiesOver (setting_of c) P (of_poly c q)
         → p ≡ q }
-{}
-
-/// Each infinite place lies over t = 1/x, where it is decided whether t is in it.
-pub fn infinite_place_law()
-    ensures { (k : CodeField) (c : Equation k) (P : Place (FunctionOf c)) → IsPlace (setting_of c) P → P.side ≡ Infinite
-        → Dec (IsIn (setting_of c) P (setting_of c).one_over_x) → IsIn (setting_of c) P (setting_of c).one_over_x }
 {}
 
 /// A finite place is a lattice, so membership in it and sameness with another are decided; it is a prime of the ring of integral functions. Its degree is

@@ -1,15 +1,16 @@
 -- Orders over k[t] that are k[t][Y] up to powers of t and maximal at t: their combinations over the fractions of degree at most 0 are O_inf,
 -- and they are what O_inf has with powers of t as denominators.
-use Rattle.std.proofs.Common.{◌↔◌, ℕ, List}
+use Rattle.std.proofs.Common.{◌↔◌, ℕ, List, subst}
 use Rattle.ff_ring.specs.Subsets.{Span}
 use Rattle.local_theory.specs.Ideals.{SameSet}
 use Rattle.local_theory.specs.Orders.{MaximalAt}
+use Rattle.local_theory.specs.Primes.{IsPrime}
 use Rattle.ff_fields.specs.Field.{CodeField}
 use Rattle.ff_poly.specs.Polynomials.{x_poly}
 use Rattle.ff_algebra.specs.declared.elem.Side.TheVariants.{Finite, Infinite}
 use Rattle.ff_algebra.specs.Functions.{of_poly, IsPolynomial}
 use Rattle.ff_algebra.specs.Values.{PresValue, Functions, functions, setting, equation_of}
-use Rattle.ff_algebra.specs.Places.{IsIntegralAt}
+use Rattle.ff_algebra.specs.Places.{IsPlace, IsIn, IsIntegralAt}
 use Rattle.lattice_theory.specs.Lattices.{IsLattice}
 use Rattle.lattice_theory.proofs.Lattices.{lattice_module}
 use Rattle.order_theory.specs.Orders.{IsOrder, IsPrimeTo}
@@ -17,6 +18,7 @@ use Rattle.side_theory.specs.Tame.{IsTame, HasPowerDenominator, IsLocallyIn}
 use Rattle.side_theory.specs.InfiniteMaps.{IsInfiniteMap, IsCombinationAtInfinity}
 use Rattle.side_theory.proofs.InfiniteTransport.{x_irreducible}
 use Rattle.side_theory.proofs.TameLattices.{local_member, local_members}
+use Rattle.side_theory.proofs.PushedPlaces.{pushed, prime_place, prime_members}
 use Rattle.side_theory.proofs.LocalIntegral.{maximal_local, maximal_members}
 
 module _ (k : CodeField) (p q : PresValue) (c : ℕ) (f : Functions k q → Functions k p) (g : IsInfiniteMap k p q c f) where
@@ -74,3 +76,17 @@ module _ (k : CodeField) (p q : PresValue) (c : ℕ) (f : Functions k q → Func
           λ m. ((b.0 m).0, (g.integral z).0 (b.0 m).1),
           λ m. b.1 (m.0, (g.integral z).1 m.1),
         )
+
+    -- a prime over t gives an infinite place
+    pub prime_at_infinity : (P : Functions k q → Type 0) → IsPrime (functions k q).ops O P → P (setting k q).x → (gs : List (Functions k q))
+        → SameSet P (Span (functions k q).ops (IsPolynomial (equation_of k q)) gs)
+        → IsPlace (setting k p) (pushed k p q c f g gs) × ((z : Functions k q) → O z → IsIn (setting k p) (pushed k p q c f g gs) (f z) ↔ P z)
+    prime_at_infinity P 𝓟 over gs spanned =
+        let local = maximal_local (equation_of k q) (x_poly k) (x_irreducible k) O 𝓞 maximal in (
+          prime_place k p q c f g O P 𝓞.ring polynomial_in local 𝓟 over gs spanned,
+          prime_members k p q c f g O P 𝓞.ring polynomial_in local 𝓟 over gs spanned,
+        )
+      where
+        polynomial_in : (s : Functions k q) → IsPolynomial (equation_of k q) s → O s
+        polynomial_in s m =
+            subst O ((functions k q).mul_one s) ((lattice_module (equation_of k q) O 𝓞.lattice).scale_in s (functions k q).𝟙 m 𝓞.ring.one_in)

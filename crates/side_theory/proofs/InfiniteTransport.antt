@@ -1,6 +1,7 @@
 -- The isomorphism between the functions of the infinite presentation and those of the curve carries the variable to t = 1/x, fractions with
 -- denominators that the variable doesn't divide to those of degree at most 0, and what is integral, or spanned, over the ones to what is so over the others.
 use Rattle.std.proofs.Common.{◌≡◌, ◌↔◌, ℕ, ◌≤◌, List, [], ◌∷◌, length, map, get_or, refl, sym, ◌∙◌, ap, ap₂, subst, arith}
+use Rattle.std.proofs.lemmas.List.{length-map}
 use Rattle.ff_ring.specs.Ring.{CommRing}
 use Rattle.ff_ring.specs.Lists.{coeff_of}
 use Rattle.ff_ring.specs.Subsets.{Span}
@@ -41,6 +42,9 @@ module _ (k : CodeField) where
   x_codes : codes_of k (x_poly k) ≡ 0 ∷ 1 ∷ []
   x_codes = numbers_value k (0 ∷ 1 ∷ []) (IsOver_cons (zero_in k) (IsOver_cons k.laws.one_below IsOver_nil)) (record { trimmed = refl })
 
+  pub x_length : length (x_poly k).0 ≡ 2
+  x_length = sym (length-map (x_poly k).0 (λ x. x.0)) ∙ ap length x_codes
+
   pub x_irreducible : IsIrreducible k.ops (codes_of k (x_poly k))
   x_irreducible = record {
     monic = (0 ∷ [], x_codes);
@@ -62,11 +66,11 @@ module _ (k : CodeField) where
   first_read (c ∷ w) h = read_code_below k c (IsOver_head h)
 
   -- a list that does not begin with 0 stands for no multiple of the variable
-  first_not_zero : (w : List ℕ) → IsOver k.ops w → ¬ (get_or w 0 0 ≡ 0) → ¬ (IsDivisor (polynomials k).ops (x_poly k) (value k w))
+  pub first_not_zero : (w : List ℕ) → IsOver k.ops w → ¬ (get_or w 0 0 ≡ 0) → ¬ (IsDivisor (polynomials k).ops (x_poly k) (value k w))
   first_not_zero w w_in n d = n (sym (first_read w w_in) ∙ ap (λ x. x.0) (sym (series_read k w 0) ∙ first_of_multiple (value k w) d))
 
   -- a list that begins with 0 stands for a multiple
-  first_zero : (w : List ℕ) → get_or w 0 0 ≡ 0 → IsDivisor (polynomials k).ops (x_poly k) (value k w)
+  pub first_zero : (w : List ℕ) → get_or w 0 0 ≡ 0 → IsDivisor (polynomials k).ops (x_poly k) (value k w)
   first_zero [] e = ((polynomials k).𝟘, value_nil k ∙ sym (mul_zero (polynomials k).ring (x_poly k)))
   first_zero (c ∷ w) e =
       let z : c ≡ 0 = e in (

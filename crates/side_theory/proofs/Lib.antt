@@ -6,3 +6,11 @@ pub mod InfiniteOrders
 pub mod PushedPlaces
 pub mod PushedDegrees
 pub mod PushedValues
+pub mod SamePlaceValues
+pub mod InfiniteDecisions
+pub mod PulledPlaces
+pub mod PlaceMaps
+pub mod InfiniteLists
+pub mod EachEquation
+pub mod InfiniteLaws
+pub mod ValueRules

@@ -1,11 +1,13 @@
--- The finite places of the infinite presentation over its variable, as infinite places of the curve.
-use Rattle.std.proofs.Common.{◌≡◌, ℕ, List, [], ◌∷◌, map, refl, sym, ◌∙◌, ap, ap₂, subst}
-use Rattle.ff_ring.specs.Subsets.{IsSubring, IsModule}
+-- Primes over the variable of orders of the infinite presentation, and its finite places over the variable, as infinite places of the curve.
+use Rattle.std.proofs.Common.{◌≡◌, ◌↔◌, ℕ, List, [], ◌∷◌, map, refl, sym, ◌∙◌, ap, ap₂, subst}
+use Rattle.ff_ring.specs.Subsets.{IsSubring, Span}
 use Rattle.ff_ring.specs.Local.{PrimeTo}
 use Rattle.ff_ring.proofs.Ring.{one_mul, mul_mul}
 use Rattle.ff_ring.proofs.RowMaps.{hom_neg}
 use Rattle.ff_ring.proofs.Solver.{ring, reads, from_one}
 use Rattle.ff_ring.proofs.Subsets.{span_module}
+use Rattle.local_theory.specs.Ideals.{SameSet}
+use Rattle.local_theory.specs.Primes.{IsPrime}
 use Rattle.ff_fields.specs.Field.{CodeField}
 use Rattle.ff_poly.specs.Polynomials.{x_poly}
 use Rattle.ff_algebra.specs.declared.elem.Side.TheVariants.{Finite, Infinite}
@@ -16,7 +18,7 @@ use Rattle.ff_algebra.proofs.ScalarRings.{polynomials_subring}
 use Rattle.order_theory.specs.Orders.{IsPrimeTo}
 use Rattle.order_theory.proofs.IntegralLattice.{integral_subring, polynomial_integral}
 use Rattle.order_theory.proofs.LocalOrders.{prime_to}
-use Rattle.order_theory.proofs.FinitePlaces.{finite}
+use Rattle.order_theory.proofs.FinitePlaces.{finite, place_prime}
 use Rattle.side_theory.specs.Tame.{IsLocallyIn}
 use Rattle.side_theory.specs.InfiniteMaps.{IsInfiniteMap}
 use Rattle.side_theory.proofs.InfiniteTransport.{x_irreducible}
@@ -57,82 +59,108 @@ module _ (k : CodeField) (p q : PresValue) (c : ℕ) (f : Functions k q → Func
   abbrev pub pushed : List (Functions k q) → Place (Functions k p)
   pushed gs = record { side = Infinite; generators = map f gs }
 
+  -- a prime P over the variable of a ring O over k[x] that has the integral functions up to factors prime to the variable, spanned by a list over k[x]
+  module _ (O P : Functions k q → Type 0) (𝓞 : IsSubring (functions k q).ops O) (base : (s : Functions k q) → IsPolynomial (equation_of k q) s → O s)
+      (same : (z : Functions k q) → IsLocallyIn (equation_of k q) (x_poly k) O z ↔ IsLocallyIn (equation_of k q) (x_poly k) (IsIntegralAt (setting k q) Finite) z)
+      (𝓟 : IsPrime (functions k q).ops O P) (over : P (of_poly (equation_of k q) (x_poly k)))
+      (gs : List (Functions k q)) (spanned : SameSet P (Span (functions k q).ops (IsPolynomial (equation_of k q)) gs)) where
+    abbrev In : Functions k p → Type 0
+    In = IsIn (setting k p) (pushed gs)
+
+    abbrev Near : (Functions k q → Type 0) → Functions k q → Type 0
+    Near L = IsLocallyIn (equation_of k q) (x_poly k) L
+
+    near_of : (L : Functions k q → Type 0) (z : Functions k q) → L z → Near L z
+    near_of L z m = record { factor = 𝟙; factor_in = 𝓝.one_in; multiple_in = subst L (sym (one_mul (functions k q) z)) m }
+
+    -- the span of the images is P up to such factors, and O_inf is O
+    to_near : (z : Functions k q) → In (f z) → Near P z
+    to_near z m = let l = (g.spans gs z).1 m in record { factor = l.factor; factor_in = l.factor_in; multiple_in = (spanned _).1 l.multiple_in }
+
+    of_near : (z : Functions k q) → Near P z → In (f z)
+    of_near z m = (g.spans gs z).0 (record { factor = m.factor; factor_in = m.factor_in; multiple_in = (spanned _).0 m.multiple_in })
+
+    ring_near : (z : Functions k q) → Inf (f z) → Near O z
+    ring_near z m = (same z).1 ((g.integral z).1 m)
+
+    ring_image : (z : Functions k q) → Near O z → Inf (f z)
+    ring_image z m = (g.integral z).0 ((same z).0 m)
+
+    -- a member of O is in the place exactly where it is in P
+    pub prime_members : (z : Functions k q) → O z → IsIn (setting k p) (pushed gs) (f z) ↔ P z
+    prime_members z z_in = (
+      λ n.
+          let m = to_near z n in
+          let b = 𝓝.comaximal m.factor m.factor_in in
+          subst P (sum b.left m.factor b.right X z b.is)
+          (𝓟.ideal.sum_in _ _ (𝓟.ideal.scale_in b.left _ (base b.left b.left_in) m.multiple_in)
+          (𝓟.ideal.scale_in (b.right ⊗ z) X (𝓞.product_in _ _ (base b.right b.right_in) z_in) over)),
+      λ n. of_near z (near_of P z n),
+    )
+      where
+        sum : (l u r p z : Functions k q) → l ⊗ u ⊕ r ⊗ p ≡ 𝟙 → l ⊗ (u ⊗ z) ⊕ (r ⊗ z) ⊗ p ≡ z
+        sum l u r p z e = from_one (functions k q) z e (ring (functions k q) (l ∷ u ∷ r ∷ p ∷ z ∷ []) λ o i. simp (reads, o, i 0, i 1, i 2, i 3, i 4) (o.equal _ _ refl))
+
+    -- the images span an infinite place
+    pub prime_place : IsPlace (setting k p) (pushed gs)
+    prime_place = record {
+      integral = each (λ w. In w → Inf w) integral;
+      ideal = each (λ z. (w : Functions k p) → Inf z → In w → In ((functions k p).◌⊗◌ z w)) (λ z. each (λ w. Inf (f z) → In w → In ((functions k p).◌⊗◌ (f z) w)) (ideal z));
+      proper = λ m. 𝓟.proper ((prime_members 𝟙 𝓞.one_in).0 (subst In (sym g.isomorphism.hom.𝟙) m));
+      inverse = each
+          (λ z. Inf z → ¬ (In z) → (w : Functions k p) × Inf w × In ((functions k p).◌⊕◌ ((functions k p).◌⊗◌ z w) ((functions k p).⊖◌ (functions k p).𝟙))) inverse;
+    }
+      where
+        integral : (z : Functions k q) → In (f z) → Inf (f z)
+        integral z m =
+            let l = to_near z m in ring_image z (record { factor = l.factor; factor_in = l.factor_in; multiple_in = 𝓟.ideal.within _ l.multiple_in })
+
+        ideal : (z w : Functions k q) → Inf (f z) → In (f w) → In ((functions k p).◌⊗◌ (f z) (f w))
+        ideal z w z_in m =
+            let a = ring_near z z_in in
+            let b = to_near w m in
+            subst In (g.isomorphism.hom.mul z w)
+            (of_near (z ⊗ w)
+            (record {
+              factor = a.factor ⊗ b.factor;
+              factor_in = 𝓝.product_in _ _ a.factor_in b.factor_in;
+              multiple_in = subst P (mul_mul (functions k q) a.factor z b.factor w) (𝓟.ideal.scale_in _ _ a.multiple_in b.multiple_in);
+            }))
+
+        inverse : (z : Functions k q) → Inf (f z) → ¬ (In (f z))
+            → (w : Functions k p) × Inf w × In ((functions k p).◌⊕◌ ((functions k p).◌⊗◌ (f z) w) ((functions k p).⊖◌ (functions k p).𝟙))
+        inverse z z_in n =
+            let a = ring_near z z_in in
+            let i = 𝓟.invert (a.factor ⊗ z) a.multiple_in (λ m. n (of_near z (record { factor = a.factor; factor_in = a.factor_in; multiple_in = m }))) in (
+              f (a.factor ⊗ i.inverse),
+              ring_image _ (near_of O _ (𝓞.product_in _ _ (base a.factor (𝓝.within a.factor a.factor_in)) i.inverse_in)),
+              subst In
+                  (g.isomorphism.hom.add _ _
+                  ∙ ap₂ (functions k p).◌⊕◌ (g.isomorphism.hom.mul z (a.factor ⊗ i.inverse))
+                  (hom_neg (functions k q) (functions k p) f g.isomorphism.hom 𝟙 ∙ ap (functions k p).⊖◌ g.isomorphism.hom.𝟙))
+                  (of_near _ (near_of P _ (subst P (ap (λ x. x ⊕ ⊖ 𝟙) (moved a.factor z i.inverse)) i.is))),
+            )
+          where
+            moved : (u z w : Functions k q) → w ⊗ (u ⊗ z) ≡ z ⊗ (u ⊗ w)
+            moved u z w = ring (functions k q) (u ∷ z ∷ w ∷ []) λ o i. simp (reads, o, i 0, i 1, i 2) (o.equal _ _ refl)
+
   module _ (gs : List (Functions k q)) where
     abbrev M : Functions k q → Type 0
     M = IsIn (setting k q) (finite (equation_of k q) gs)
 
-    𝓜 : IsModule (functions k q).ops (IsPolynomial (equation_of k q)) (IsIn (setting k q) (finite (equation_of k q) gs))
-    𝓜 = span_module (functions k q) (IsPolynomial (equation_of k q)) (polynomials_subring (equation_of k q)) gs
-
     pub pushed_of : (z : Functions k q) → IsIn (setting k q) (finite (equation_of k q) gs) z → IsIn (setting k p) (pushed gs) (f z)
     pushed_of z m = (g.spans gs z).0 (record { factor = 𝟙; factor_in = 𝓝.one_in; multiple_in = subst M (sym (one_mul (functions k q) z)) m })
 
-    -- an integral function of q's ring is in the pushed place only where it is in the place
+    -- a finite place over the variable is a prime of the ring of integral functions
     module _ (place : IsPlace (setting k q) (finite (equation_of k q) gs)) (over : IsIn (setting k q) (finite (equation_of k q) gs) (of_poly (equation_of k q) (x_poly k))) where
-      -- u·z in the place for u prime to the variable puts an integral z there
-      pub place_local : (z : Functions k q) → IsIntegralAt (setting k q) Finite z → IsLocallyIn (equation_of k q) (x_poly k) M z → M z
-      place_local z z_in m =
-          let b = 𝓝.comaximal m.factor m.factor_in in
-          subst M (sum b.left m.factor b.right X z b.is)
-          (𝓜.sum_in _ _ (𝓜.scale_in b.left _ b.left_in m.multiple_in)
-          (place.ideal (b.right ⊗ z) X (𝓘.product_in _ _ (polynomial_integral (equation_of k q) b.right b.right_in) z_in) over))
-        where
-          sum : (l u r p z : Functions k q) → l ⊗ u ⊕ r ⊗ p ≡ 𝟙 → l ⊗ (u ⊗ z) ⊕ (r ⊗ z) ⊗ p ≡ z
-          sum l u r p z e = from_one (functions k q) z e (ring (functions k q) (l ∷ u ∷ r ∷ p ∷ z ∷ []) λ o i. simp (reads, o, i 0, i 1, i 2, i 3, i 4) (o.equal _ _ refl))
-
       pub pushed_members : (z : Functions k q) → IsIntegralAt (setting k q) Finite z → IsIn (setting k p) (pushed gs) (f z) → IsIn (setting k q) (finite (equation_of k q) gs) z
-      pushed_members z z_in m = place_local z z_in ((g.spans gs z).1 m)
-
-      pub prime_out : (w : Functions k q) → IsPrimeTo (equation_of k q) (x_poly k) w → ¬ (IsIn (setting k q) (finite (equation_of k q) gs) w)
-      prime_out w w_in m =
-          place.proper (place_local 𝟙 𝓘.one_in (record { factor = w; factor_in = w_in; multiple_in = subst M (sym ((functions k q).mul_one w)) m }))
+      pushed_members z z_in m =
+          (prime_members Int M 𝓘 (polynomial_integral (equation_of k q)) (λ z. (λ n. n, λ n. n)) (place_prime (equation_of k q) gs place) over gs (λ z. (λ n. n, λ n. n))
+          z z_in).0 m
 
       pub pushed_place : IsPlace (setting k p) (pushed gs)
-      pushed_place = record {
-        integral = each (λ w. IsIn (setting k p) (pushed gs) w → Inf w) integral;
-        ideal = each (λ z. (w : Functions k p) → Inf z → IsIn (setting k p) (pushed gs) w → IsIn (setting k p) (pushed gs) ((functions k p).◌⊗◌ z w))
-            (λ z. each (λ w. Inf (f z) → IsIn (setting k p) (pushed gs) w → IsIn (setting k p) (pushed gs) ((functions k p).◌⊗◌ (f z) w)) (ideal z));
-        proper = λ m. place.proper (pushed_members 𝟙 𝓘.one_in (subst (IsIn (setting k p) (pushed gs)) (sym g.isomorphism.hom.𝟙) m));
-        inverse = each
-            (λ z. Inf z → ¬ (IsIn (setting k p) (pushed gs) z)
-            → (w : Functions k p) × Inf w × IsIn (setting k p) (pushed gs) ((functions k p).◌⊕◌ ((functions k p).◌⊗◌ z w) ((functions k p).⊖◌ (functions k p).𝟙))) inverse;
-      }
-        where
-          integral : (z : Functions k q) → IsIn (setting k p) (pushed gs) (f z) → IsIntegralAt (setting k p) Infinite (f z)
-          integral z m =
-              let l = (g.spans gs z).1 m in
-              (g.integral z).0 (record { factor = l.factor; factor_in = l.factor_in; multiple_in = place.integral _ l.multiple_in })
-
-          ideal : (z w : Functions k q) → IsIntegralAt (setting k p) Infinite (f z) → IsIn (setting k p) (pushed gs) (f w)
-              → IsIn (setting k p) (pushed gs) ((functions k p).◌⊗◌ (f z) (f w))
-          ideal z w z_in m =
-              let a = (g.integral z).1 z_in in
-              let b = (g.spans gs w).1 m in
-              subst (IsIn (setting k p) (pushed gs)) (g.isomorphism.hom.mul z w)
-              ((g.spans gs (z ⊗ w)).0
-              (record {
-                factor = a.factor ⊗ b.factor;
-                factor_in = 𝓝.product_in _ _ a.factor_in b.factor_in;
-                multiple_in = subst M (mul_mul (functions k q) a.factor z b.factor w) (place.ideal _ _ a.multiple_in b.multiple_in);
-              }))
-
-          inverse : (z : Functions k q) → IsIntegralAt (setting k p) Infinite (f z) → ¬ (IsIn (setting k p) (pushed gs) (f z))
-              → (w : Functions k p) × IsIntegralAt (setting k p) Infinite w
-              × IsIn (setting k p) (pushed gs) ((functions k p).◌⊕◌ ((functions k p).◌⊗◌ (f z) w) ((functions k p).⊖◌ (functions k p).𝟙))
-          inverse z z_in n =
-              let a = (g.integral z).1 z_in in
-              let i = place.inverse (a.factor ⊗ z) a.multiple_in (λ m. n ((g.spans gs z).0 (record { factor = a.factor; factor_in = a.factor_in; multiple_in = m }))) in (
-                f (a.factor ⊗ i.0),
-                integral_of _ (𝓘.product_in _ _ (prime_integral a.factor a.factor_in) i.1),
-                subst (IsIn (setting k p) (pushed gs))
-                    (g.isomorphism.hom.add _ _
-                    ∙ ap₂ (functions k p).◌⊕◌ (g.isomorphism.hom.mul z (a.factor ⊗ i.0))
-                    (hom_neg (functions k q) (functions k p) f g.isomorphism.hom 𝟙 ∙ ap (functions k p).⊖◌ g.isomorphism.hom.𝟙))
-                    (pushed_of _ (subst M (ap (λ x. x ⊕ ⊖ 𝟙) (moved a.factor z i.0)) i.2)),
-              )
-            where
-              moved : (u z w : Functions k q) → u ⊗ z ⊗ w ≡ z ⊗ (u ⊗ w)
-              moved u z w = ring (functions k q) (u ∷ z ∷ w ∷ []) λ o i. simp (reads, o, i 0, i 1, i 2) (o.equal _ _ refl)
+      pushed_place =
+          prime_place Int M 𝓘 (polynomial_integral (equation_of k q)) (λ z. (λ n. n, λ n. n)) (place_prime (equation_of k q) gs place) over gs (λ z. (λ n. n, λ n. n))
 
   -- two places that are the same as infinite places are the same
   pub pushed_same : (gs hs : List (Functions k q)) → IsPlace (setting k q) (finite (equation_of k q) gs) → IsPlace (setting k q) (finite (equation_of k q) hs)

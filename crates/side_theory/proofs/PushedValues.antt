@@ -1,10 +1,9 @@
 -- A finite place of the infinite presentation over its variable has the valuation of the infinite place that it gives.
-use Rattle.std.proofs.Common.{◌≡◌, ◌↔◌, All, ℕ, zero, suc, List, [], ◌∷◌, refl, sym, ◌∙◌, ap, ap₂, subst}
+use Rattle.std.proofs.Common.{◌≡◌, ℕ, zero, suc, List, [], ◌∷◌, refl, sym, ◌∙◌, ap, subst}
 use Rattle.std.specs.Prelude.{ℤ, pos, negsuc}
 use Rattle.std.proofs.lemmas.List.Elements.{All-weaker}
-use Rattle.ff_ring.specs.Subsets.{IsSubring, IsModule, Product}
-use Rattle.ff_ring.specs.Local.{PrimeTo, Locally}
-use Rattle.ff_ring.proofs.Ring.{mul_mul}
+use Rattle.ff_ring.specs.Subsets.{IsSubring, IsModule}
+use Rattle.ff_ring.specs.Local.{PrimeTo}
 use Rattle.ff_ring.proofs.RowMaps.{IsHom, hom_zero}
 use Rattle.ff_ring.proofs.Solver.{ring, reads}
 use Rattle.ff_ring.proofs.Subsets.{span_least}
@@ -118,7 +117,7 @@ module _ (k : CodeField) (p q : PresValue) (c : ℕ) (f : Functions k q → Func
   three u z w = g.isomorphism.hom.mul (u ⊗ z) w ∙ ap (λ x. (functions k p).◌⊗◌ x (f w)) (g.isomorphism.hom.mul u z)
 
   -- a value of at least m here is one there
-  at_least_image : (z : Functions k q) (m : ℤ) → HasValuationAtLeast (setting k q) (finite (equation_of k q) gs) z m
+  pub at_least_image : (z : Functions k q) (m : ℤ) → HasValuationAtLeast (setting k q) (finite (equation_of k q) gs) z m
       → HasValuationAtLeast (setting k p) (pushed k p q c f g gs) (f z) m
   at_least_image z (pos m) v = record {
     factor = f v.factor;
@@ -151,7 +150,7 @@ module _ (k : CodeField) (p q : PresValue) (c : ℕ) (f : Functions k q → Func
     power_lattice zero = integral_lattice (equation_of k q) some
     power_lattice (suc m) = product_lattice (equation_of k q) (Power m) M (power_lattice m) (place_lattice (equation_of k q) gs place)
 
-    at_least_back : (z : Functions k q) (m : ℤ) → HasValuationAtLeast (setting k p) (pushed k p q c f g gs) (f z) m
+    pub at_least_back : (z : Functions k q) (m : ℤ) → HasValuationAtLeast (setting k p) (pushed k p q c f g gs) (f z) m
         → HasValuationAtLeast (setting k q) (finite (equation_of k q) gs) z m
     at_least_back z (pos m) v =
         let u = lift v.factor in
@@ -220,3 +219,7 @@ module _ (k : CodeField) (p q : PresValue) (c : ℕ) (f : Functions k q → Func
     pub pushed_value : (z : Functions k q) (m : ℤ) → HasValuation (setting k q) (finite (equation_of k q) gs) z m
         → HasValuation (setting k p) (pushed k p q c f g gs) (f z) m
     pushed_value z m v = record { reached = at_least_image z m v.reached; not_more = λ n. v.not_more (at_least_back z _ n) }
+
+    pub value_back : (z : Functions k q) (m : ℤ) → HasValuation (setting k p) (pushed k p q c f g gs) (f z) m
+        → HasValuation (setting k q) (finite (equation_of k q) gs) z m
+    value_back z m v = record { reached = at_least_back z m v.reached; not_more = λ n. v.not_more (at_least_image z _ n) }

@@ -8,7 +8,7 @@ use Rattle.ff_poly.specs.Polynomials.{Polynomial, codes_of, x_poly}
 use Rattle.ff_algebra.specs.declared.elem.Side.TheVariants.{Finite, Infinite}
 use Rattle.ff_algebra.specs.Functions.{of_poly, y_of, IsPolynomial}
 use Rattle.ff_algebra.specs.Values.{PresValue, ElemValue, IsElem, Functions, functions, setting, equation_of, function_of}
-use Rattle.ff_algebra.specs.Places.{IsIntegralAt}
+use Rattle.ff_algebra.specs.Places.{Place, IsIntegralAt}
 use Rattle.ff_algebra.specs.Infinity.{value_at, variable as variable_of, generator, function_on}
 use Rattle.places_theory.specs.Maps.{IsIsomorphism}
 use Rattle.places_theory.specs.InfiniteSide.{InReverse, IsPrimeToT}
@@ -18,6 +18,10 @@ use Rattle.side_theory.specs.Tame.{IsLocallyIn}
 -- f takes z to a combination, over the fractions of degree at most 0, of what it takes a list to
 abbrev pub IsCombinationAtInfinity : (k : CodeField) (p q : PresValue) → (Functions k q → Functions k p) → List (Functions k q) → Functions k q → Type 0
 IsCombinationAtInfinity k p q f gs z = Span (functions k p).ops ((setting k p).IsScalar Infinite) (map f gs) (f z)
+
+-- the place at infinity that f takes the generators of a place to
+abbrev pub place_at_infinity : (k : CodeField) (p q : PresValue) → (Functions k q → Functions k p) → Place (Functions k q) → Place (Functions k p)
+place_at_infinity k p q f Q = record { side = Infinite; generators = map f Q.generators }
 
 -- f takes the elements of the infinite presentation q to the functions that they stand for, and what is said of q's variable to what is said of t = 1/x
 pub record IsInfiniteMap (k : CodeField) (p q : PresValue) (c : ℕ) (f : Functions k q → Functions k p) : Type 0 where

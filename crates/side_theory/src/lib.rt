@@ -4,7 +4,8 @@
 //! main theorem is the contract of a function with an empty body; the crates above cite the lemmas of proofs/.
 #![tactic(auto)]
 
-ghost use Rattle.std.specs.Prelude.{◌≡◌, ℕ, ◌≤◌, ◌↔◌, List};
+ghost use Rattle.std.specs.Prelude.{◌≡◌, ℕ, ℤ, ◌+ℤ◌, ◌≤◌, ◌↔◌, List, map};
+ghost use Rattle.std.proofs.Common.{pos};
 ghost use Rattle.ff_ring.specs.Ring.{pow};
 ghost use Rattle.ff_ring.specs.Subsets.{IsModule, Span, Product, Colon};
 ghost use Rattle.ff_fields.specs.Field.{CodeField};
@@ -13,23 +14,27 @@ ghost use Rattle.linear_theory.specs.Euclidean.{IsDivisor};
 ghost use Rattle.ff_poly.specs.Words.{IsIrreducible};
 ghost use Rattle.ff_poly.specs.Polynomials.{Polynomial, polynomials, codes_of, x_poly};
 ghost use Rattle.ff_algebra.specs.declared.elem.Side.TheVariants.{Finite, Infinite};
-ghost use Rattle.ff_algebra.specs.Functions.{Equation, FunctionOf, ring_of, of_poly, setting_of, IsPolynomial};
+ghost use Rattle.ff_algebra.specs.Functions.{Equation, FunctionOf, ring_of, of_poly, setting_of, degree_of_y, IsPolynomial, IsScalar};
 ghost use Rattle.ff_algebra.specs.Values.{PresValue, Functions, functions, setting, equation_of};
-ghost use Rattle.ff_algebra.specs.Places.{IsIntegralAt};
+ghost use Rattle.ff_algebra.specs.Places.{Place, IsPlace, IsIn, IsSamePlace, IsIntegralAt, LiesOver, HasValuation, HasValuationAtLeast};
+ghost use Rattle.ff_algebra.specs.Divisors.{HasDegree};
 ghost use Rattle.ff_algebra.specs.Infinity.{IsInfinitePresentation};
 ghost use Rattle.ff_algebra.specs.Discriminant.{discriminant};
 ghost use Rattle.local_theory.specs.Ideals.{Multiple, SameSet};
 ghost use Rattle.local_theory.specs.Orders.{MaximalAt, Radical};
+ghost use Rattle.local_theory.specs.Primes.{IsPrime};
 ghost use Rattle.trace_theory.specs.Traces.{HasPolynomialCoordinates};
 ghost use Rattle.lattice_theory.specs.Lattices.{IsLattice, space_ops};
 ghost use Rattle.order_theory.specs.Orders.{IsOrder, IsPrimeTo, TakenByPowers};
 ghost use Rattle.side_theory.specs.Tame.{IsTame, HasPowerDenominator, IsLocallyIn};
-ghost use Rattle.side_theory.specs.InfiniteMaps.{IsInfiniteMap, IsCombinationAtInfinity};
+ghost use Rattle.side_theory.specs.InfiniteMaps.{IsInfiniteMap, IsCombinationAtInfinity, place_at_infinity};
+ghost use Rattle.side_theory.specs.InfinitePlaces.{InfinitePlace, IsAllInfinite, sum_of_infinite_degrees};
 
 use lattice_theory::FunctionSets;
 
-/// A curve's presentation, its infinite one, and a set of functions of that. Only theorems use it, as a type parameter that no value has.
-pub trait InfiniteSet {
+/// A curve's presentation, its infinite one, and two sets of functions of that: an order, say, and a prime of it. Only theorems use it, as a type parameter that
+/// no value has.
+pub trait InfiniteSets {
     ghost field: { CodeField };
 
     ghost presentation: { PresValue };
@@ -37,6 +42,8 @@ pub trait InfiniteSet {
     ghost infinite: { PresValue };
 
     ghost members: { Functions field infinite → Type 0 };
+
+    ghost prime: { Functions field infinite → Type 0 };
 }
 
 /// Tame lattices, which are k[x][y] up to powers of p: k[x][y] is one, and so are the sum, the product and the colon of two, the multiples of one by what
@@ -112,7 +119,7 @@ pub fn infinite_map_law()
 
 /// For a lattice over k[t], the combinations of its generators over the fractions of degree at most 0 are what is locally at t in it. Where it is tame,
 /// it has those of them that have powers of t as denominators, and whether a function is one is membership of a multiple.
-pub fn combination_law<L: InfiniteSet>()
+pub fn combination_law<L: InfiniteSets>()
     ensures locally { (c : ℕ) (f : Functions L.field L.infinite → Functions L.field L.presentation) → IsInfiniteMap L.field L.presentation L.infinite c f
         → IsLattice (equation_of L.field L.infinite) L.members → (gs : List (Functions L.field L.infinite))
         → SameSet L.members (Span (functions L.field L.infinite).ops (IsPolynomial (equation_of L.field L.infinite)) gs)
@@ -133,9 +140,29 @@ pub fn combination_law<L: InfiniteSet>()
         ↔ (HasPowerDenominator (equation_of L.field L.infinite) (x_poly L.field) z × IsCombinationAtInfinity L.field L.presentation L.infinite f gs z) }
 {}
 
+/// The discriminant of the infinite presentation isn't 0 where that of the curve isn't; then the integral functions that powers of t take into k[t][Y] are what
+/// O_inf has with powers of t as denominators, and O_inf is, up to factors that t doesn't divide, what they are. Where
+/// the square of t doesn't divide the discriminant, they are k[t][Y].
+pub fn infinite_maximal_law()
+    ensures discriminant { (k : CodeField) (p q : PresValue) (c : ℕ) → 1 ≤ p.n → IsInfinitePresentation k p c q
+        → ¬ (discriminant (equation_of k p) ≡ (polynomials k).𝟘) → ¬ (discriminant (equation_of k q) ≡ (polynomials k).𝟘) }
+    ensures members { (k : CodeField) (p q : PresValue) (c : ℕ) (f : Functions k q → Functions k p) → IsInfiniteMap k p q c f
+        → ¬ (discriminant (equation_of k q) ≡ (polynomials k).𝟘) → (z : Functions k q)
+        → TakenByPowers (equation_of k q) (x_poly k) (HasPolynomialCoordinates (equation_of k q)) z
+        ↔ (HasPowerDenominator (equation_of k q) (x_poly k) z × IsIntegralAt (setting k p) Infinite (f z)) }
+    ensures locally { (k : CodeField) (p q : PresValue) (c : ℕ) (f : Functions k q → Functions k p) → IsInfiniteMap k p q c f
+        → ¬ (discriminant (equation_of k q) ≡ (polynomials k).𝟘) → (z : Functions k q)
+        → IsLocallyIn (equation_of k q) (x_poly k) (TakenByPowers (equation_of k q) (x_poly k) (HasPolynomialCoordinates (equation_of k q))) z
+        ↔ IsIntegralAt (setting k p) Infinite (f z) }
+    ensures whole { (k : CodeField) (p q : PresValue) (c : ℕ) (f : Functions k q → Functions k p) → IsInfiniteMap k p q c f
+        → ¬ (discriminant (equation_of k q) ≡ (polynomials k).𝟘)
+        → ¬ IsDivisor (polynomials k).ops ((polynomials k).◌⊗◌ (x_poly k) (x_poly k)) (discriminant (equation_of k q)) → (z : Functions k q)
+        → HasPolynomialCoordinates (equation_of k q) z ↔ (HasPowerDenominator (equation_of k q) (x_poly k) z × IsIntegralAt (setting k p) Infinite (f z)) }
+{}
+
 /// The infinite maximal order: of an order over k[t] that is maximal at t, the combinations over the fractions of degree at most 0 are O_inf. Where it is
 /// tame, it has what O_inf has with powers of t as denominators.
-pub fn infinite_order_law<O: InfiniteSet>()
+pub fn infinite_order_law<O: InfiniteSets>()
     ensures integral { (c : ℕ) (f : Functions O.field O.infinite → Functions O.field O.presentation) → IsInfiniteMap O.field O.presentation O.infinite c f
         → IsOrder (equation_of O.field O.infinite) O.members
         → MaximalAt (functions O.field O.infinite).ops (of_poly (equation_of O.field O.infinite) (x_poly O.field)) (IsIntegralAt (setting O.field O.infinite) Finite) O.members
@@ -148,4 +175,82 @@ pub fn infinite_order_law<O: InfiniteSet>()
         → MaximalAt (functions O.field O.infinite).ops (of_poly (equation_of O.field O.infinite) (x_poly O.field)) (IsIntegralAt (setting O.field O.infinite) Finite) O.members
         → (z : Functions O.field O.infinite) → O.members z
         ↔ (HasPowerDenominator (equation_of O.field O.infinite) (x_poly O.field) z × IsIntegralAt (setting O.field O.presentation) Infinite (f z)) }
+{}
+
+/// The finite places of the infinite presentation over its variable are the infinite places, with the same degrees and valuations: each gives the one that
+/// the images of its generators span, which has the same integral functions over k[t], and each infinite place is given so.
+pub fn place_map_law()
+    ensures place { (k : CodeField) (p q : PresValue) (c : ℕ) (f : Functions k q → Functions k p) → IsInfiniteMap k p q c f → (Q : Place (Functions k q))
+        → IsPlace (setting k q) Q → LiesOver (setting k q) Q (setting k q).x → IsPlace (setting k p) (place_at_infinity k p q f Q) }
+    ensures members { (k : CodeField) (p q : PresValue) (c : ℕ) (f : Functions k q → Functions k p) → IsInfiniteMap k p q c f → (Q : Place (Functions k q))
+        → IsPlace (setting k q) Q → LiesOver (setting k q) Q (setting k q).x → (z : Functions k q) → IsIntegralAt (setting k q) Finite z
+        → IsIn (setting k p) (place_at_infinity k p q f Q) (f z) ↔ IsIn (setting k q) Q z }
+    ensures degree { (k : CodeField) (p q : PresValue) (c : ℕ) (f : Functions k q → Functions k p) → IsInfiniteMap k p q c f → (Q : Place (Functions k q))
+        → IsPlace (setting k q) Q → LiesOver (setting k q) Q (setting k q).x → (d : ℕ) → HasDegree (setting k q) Q d
+        → HasDegree (setting k p) (place_at_infinity k p q f Q) d }
+    ensures value { (k : CodeField) (p q : PresValue) (c : ℕ) (f : Functions k q → Functions k p) → IsInfiniteMap k p q c f
+        → ¬ (discriminant (equation_of k q) ≡ (polynomials k).𝟘) → (Q : Place (Functions k q)) → IsPlace (setting k q) Q
+        → LiesOver (setting k q) Q (setting k q).x → (z : Functions k q) (m : ℤ)
+        → HasValuation (setting k p) (place_at_infinity k p q f Q) (f z) m ↔ HasValuation (setting k q) Q z m }
+    ensures every { (k : CodeField) (p q : PresValue) (c : ℕ) (f : Functions k q → Functions k p) → IsInfiniteMap k p q c f
+        → ¬ (discriminant (equation_of k q) ≡ (polynomials k).𝟘) → (P : Place (Functions k p)) → IsPlace (setting k p) P → P.side ≡ Infinite
+        → (Q : Place (Functions k q)) × IsPlace (setting k q) Q × LiesOver (setting k q) Q (setting k q).x
+        × IsSamePlace (setting k p) (place_at_infinity k p q f Q) P }
+{}
+
+/// Of an order over k[t] that is maximal at t, each prime over t gives an infinite place: the images of functions that span the prime over k[t] span the place,
+/// and the order has the same members of both.
+pub fn prime_at_infinity_law<O: InfiniteSets>()
+    ensures { (c : ℕ) (f : Functions O.field O.infinite → Functions O.field O.presentation) → IsInfiniteMap O.field O.presentation O.infinite c f
+        → IsOrder (equation_of O.field O.infinite) O.members
+        → MaximalAt (functions O.field O.infinite).ops (of_poly (equation_of O.field O.infinite) (x_poly O.field)) (IsIntegralAt (setting O.field O.infinite) Finite) O.members
+        → IsPrime (functions O.field O.infinite).ops O.members O.prime → O.prime (setting O.field O.infinite).x → (gs : List (Functions O.field O.infinite))
+        → SameSet O.prime (Span (functions O.field O.infinite).ops (IsPolynomial (equation_of O.field O.infinite)) gs)
+        → IsPlace (setting O.field O.presentation) (record { side = Infinite; generators = map f gs })
+        × ((z : Functions O.field O.infinite) → O.members z
+        → IsIn (setting O.field O.presentation) (record { side = Infinite; generators = map f gs }) (f z) ↔ O.prime z) }
+{}
+
+/// Membership at infinity is decided: in a span over the fractions of degree at most 0, and in O_inf.
+pub fn infinite_decided_law()
+    ensures spans { (k : CodeField) (c : Equation k) (gs : List (FunctionOf c)) (z : FunctionOf c) → Dec (Span (ring_of c).ops (IsScalar c Infinite) gs z) }
+    ensures integral { (k : CodeField) (c : Equation k) → ¬ (discriminant c ≡ (polynomials k).𝟘) → (z : FunctionOf c) → Dec (IsIntegralAt (setting_of c) Infinite z) }
+{}
+
+/// Each infinite place has t = 1/x, sameness of two is decided, and each has a degree.
+pub fn infinite_place_law()
+    ensures over { (k : CodeField) (c : Equation k) (P : Place (FunctionOf c)) → IsPlace (setting_of c) P → P.side ≡ Infinite
+        → IsIn (setting_of c) P (setting_of c).one_over_x }
+    ensures same { (k : CodeField) (c : Equation k) (P Q : Place (FunctionOf c)) → P.side ≡ Infinite → Q.side ≡ Infinite → Dec (IsSamePlace (setting_of c) P Q) }
+    ensures has_degree { (k : CodeField) (c : Equation k) → ¬ (discriminant c ≡ (polynomials k).𝟘) → (P : Place (FunctionOf c)) → IsPlace (setting_of c) P
+        → P.side ≡ Infinite → (d : ℕ) × HasDegree (setting_of c) P d }
+{}
+
+/// The infinite places are finitely many, and listed; the sum of e·f over them is n.
+pub fn infinite_places_law()
+    ensures { (k : CodeField) (c : Equation k) → ¬ (discriminant c ≡ (polynomials k).𝟘) → (ps : List (InfinitePlace (setting_of c)))
+        × IsAllInfinite (setting_of c) ps × (sum_of_infinite_degrees (setting_of c) ps ≡ degree_of_y c) }
+{}
+
+/// A function with an inverse has a value at each infinite place.
+pub fn infinite_value_law()
+    ensures { (k : CodeField) (c : Equation k) (P : Place (FunctionOf c)) → ¬ (discriminant c ≡ (polynomials k).𝟘) → IsPlace (setting_of c) P
+        → P.side ≡ Infinite → (z y : FunctionOf c) → (ring_of c).◌⊗◌ z y ≡ (ring_of c).𝟙 → (m : ℤ) × HasValuation (setting_of c) P z m }
+{}
+
+/// The functions without poles at infinite places are O_inf.
+pub fn infinite_regular_law()
+    ensures { (k : CodeField) (c : Equation k) (z : FunctionOf c) → ¬ (discriminant c ≡ (polynomials k).𝟘)
+        → ((P : Place (FunctionOf c)) → IsPlace (setting_of c) P → P.side ≡ Infinite → HasValuationAtLeast (setting_of c) P z (pos 0))
+        ↔ IsIntegralAt (setting_of c) Infinite z }
+{}
+
+/// At each place, values add on products, and the value of a sum of functions with different values is the smaller one.
+pub fn value_rules_law()
+    ensures product { (k : CodeField) (c : Equation k) (P : Place (FunctionOf c)) → ¬ (discriminant c ≡ (polynomials k).𝟘) → IsPlace (setting_of c) P
+        → (z w : FunctionOf c) (m n : ℤ) → HasValuation (setting_of c) P z m → HasValuation (setting_of c) P w n
+        → HasValuation (setting_of c) P ((ring_of c).◌⊗◌ z w) (m +ℤ n) }
+    ensures sum { (k : CodeField) (c : Equation k) (P : Place (FunctionOf c)) → ¬ (discriminant c ≡ (polynomials k).𝟘) → IsPlace (setting_of c) P
+        → (z w : FunctionOf c) (m : ℤ) → HasValuation (setting_of c) P z m → HasValuationAtLeast (setting_of c) P w (m +ℤ pos 1)
+        → HasValuation (setting_of c) P ((ring_of c).◌⊕◌ z w) m }
 {}
