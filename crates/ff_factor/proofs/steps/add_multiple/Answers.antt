@@ -19,11 +19,11 @@ loop-j-preserved g c =
     let r = raw_ring k.ops in
     let same = length_scale_list r c.args.c c.args.codes.now in
     elim c.if-codes-j-ne0.branch [
-      then-codes-j-ne0 w ↦ w.sum-is ∙ add_lists_step r c.args.sum.now c.loop-j.sum _ c.loop-j.j _ w.mul.result c.loop-j.invariant
-      (omega (arith, same)) (omega (arith, same))
-      (w.mul.ensures ∙ sym (get_or_scale_list r c.args.c c.args.codes.now c.loop-j.j 0 c.loop-j-test.true)) w.add.ensures
-    | else-codes-j-ne0 w ↦ w.sum-is ∙ add_lists_pass k c.args.sum.now c.loop-j.sum c.args.codes.now c.args.c c.loop-j.j c.requires.sum_in c.requires.c_in
-      c.loop-j.invariant c.loop-j-test.true c.requires.fits w.if-codes-j-ne0.false
+      | then-codes-j-ne0 w ↦ w.sum-is ∙ add_lists_step r c.args.sum.now c.loop-j.sum _ c.loop-j.j _ w.mul.result c.loop-j.invariant
+          (omega (arith, same)) (omega (arith, same))
+          (w.mul.ensures ∙ sym (get_or_scale_list r c.args.c c.args.codes.now c.loop-j.j 0 c.loop-j-test.true)) w.add.ensures
+      | else-codes-j-ne0 w ↦ w.sum-is ∙ add_lists_pass k c.args.sum.now c.loop-j.sum c.args.codes.now c.args.c c.loop-j.j c.requires.sum_in c.requires.c_in
+          c.loop-j.invariant c.loop-j-test.true c.requires.fits w.if-codes-j-ne0.false
     ]
 
 pub returns-then-c-eq0 : goal.returns-then-c-eq0
