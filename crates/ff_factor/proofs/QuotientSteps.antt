@@ -1,10 +1,18 @@
 -- Steps of the loop that multiplies modulo a polynomial.
-use Rattle.std.proofs.Common.{◌≡◌, ℕ, suc, ◌+◌, ◌-◌, ◌<◌, List, [], ◌∷◌, ◌++◌, length, get_or, take, drop, set, sym, ap, ap₂, ◌∙◌, arith}
+use Rattle.std.proofs.Common.{◌≡◌, ℕ, suc, ◌+◌, ◌-◌, ◌<◌, ◌≤◌, List, [], ◌∷◌, ◌++◌, length, get_or, take, drop, set, replicate, sym, ap, ap₂, ◌∙◌, arith}
 use Rattle.std.proofs.lemmas.List.{drop_more, drop_all, take_at}
 use Rattle.ff_ring.specs.Lists.{add_lists, scale_list}
-use Rattle.ff_fields.specs.Field.{FieldOps}
+use Rattle.ff_ring.proofs.Ring.{zero_mul}
+use Rattle.ff_ring.proofs.Congruence.{congruent_same, congruent_trans}
+use Rattle.ff_fields.specs.Field.{FieldOps, CodeField}
 use Rattle.ff_fields.specs.Code.{raw_ring}
-use Rattle.ff_factor.specs.Quotients.{times_x, product_modulo}
+use Rattle.ff_fields.specs.Over.{IsOver_zeros}
+use Rattle.ff_poly.specs.Value.{value}
+use Rattle.ff_poly.specs.Polynomials.{polynomials}
+use Rattle.ff_falg.specs.Algebras.{IsVector}
+use Rattle.ff_factor.specs.Quotients.{IsModulus, times_x, product_modulo}
+use Rattle.ff_factor.specs.ListValues.{value_zeros}
+use Rattle.ff_factor.specs.QuotientLaws.{product_in, value_product_modulo, zero_class}
 
 -- a list that is turned by one place, whose first code is then made 0
 turned : (v : List ℕ) (m : ℕ) → length v ≡ suc m → set (drop m v ++ take m v) 0 0 ≡ take (suc m) (0 ∷ v)
@@ -39,6 +47,24 @@ product_step k g a b old moved new i c less old_is moved_is c_is new_is =
     new_is
     ∙ ap₂ (λ v d. add_lists (raw_ring k) v (scale_list (raw_ring k) d b)) (moved_is ∙ ap (times_x k g) old_is) c_is
     ∙ sym (ap (λ w. product_modulo k g w b) (drop_more a i 0 less))
+
+-- zeros alone give the product 0
+pub product_of_zeros : (k : CodeField) (g : List ℕ) (h : IsModulus k.ops g) (m : ℕ) (b : List ℕ) → IsVector k.ops (length g - 1) b
+    → product_modulo k.ops g (replicate m 0) b ≡ replicate (length g - 1) 0
+product_of_zeros k g h m b b_in =
+    let zeros_over = IsOver_zeros k m in
+    let S = (polynomials k).ring in
+    (zero_class k g h _ (product_in k g h (replicate m 0) b zeros_over b_in)).1
+    (congruent_trans S (value k g) _ _ _ (value_product_modulo k g h (replicate m 0) b zeros_over b_in)
+    (congruent_same S (value k g) _ _ (ap (λ w. (polynomials k).◌⊗◌ w (value k b)) (value_zeros k m) ∙ zero_mul S (value k b))))
+
+-- one zero more at the end of a list
+pub zeros_step : (xs : List ℕ) (i : ℕ) → 0 < i → i ≤ length xs → get_or xs (i - 1) 0 ≡ 0 → drop i xs ≡ replicate (length xs - i) 0
+    → drop (i - 1) xs ≡ replicate (length xs - (i - 1)) 0
+zeros_step xs i some le zero_is zeros =
+    let back : i - 1 + 1 ≡ i = omega arith in
+    let more : suc (length xs - i) ≡ length xs - (i - 1) = omega arith in
+    drop_more xs (i - 1) 0 (omega arith) ∙ ap₂ ◌∷◌ zero_is (ap (λ m. drop m xs) back ∙ zeros) ∙ ap (λ m. replicate m 0) more
 
 -- a vector whose codes were written over, as a whole
 pub written : (now rest : List ℕ) (n : ℕ) → length now ≡ n → take n (now ++ rest) ≡ now

@@ -65,7 +65,8 @@ impl<K: SmallField> FiniteAlgebra<K> for PolyQuotient {
         Ok(unit)
     }
 
-    /// The product takes the degree of g many steps, each in time of that degree, and memory for the answer alone.
+    /// The product takes as many steps as a has codes up to the last that isn't 0, each in time of the degree of g, and memory
+    /// for the answer alone.
     fn mul(&self, alloc: Global, k: &K, a: &[u32], b: &[u32]) -> Result<Vec<u32>, AllocError> {
         let mut product = vec![in alloc; 0; b.len()]?;
         multiply(k, self.g.codes(), product.as_mut_slice(), a, b);

@@ -1,6 +1,6 @@
 //! Steps of products modulo a monic polynomial, in place.
 
-ghost use Rattle.std.specs.Prelude.{◌≡◌, ◌-◌, ◌<◌, ◌≤◌, length, replicate};
+ghost use Rattle.std.specs.Prelude.{◌≡◌, ◌-◌, ◌<◌, ◌≤◌, length, replicate, drop};
 ghost use Rattle.ff_fields.specs.Code.{raw_ring};
 ghost use Rattle.ff_fields.specs.Over.{IsOver};
 ghost use Rattle.ff_ring.specs.Lists.{add_lists, scale_list};
@@ -9,7 +9,7 @@ ghost use Rattle.ff_factor.specs.Quotients.{IsModulus, product_modulo, times_x};
 
 use ff_fields::field::SmallField;
 
-/// Adds c times the codes to the sum.
+/// Adds c times the codes to the sum. Where c or a code is 0, nothing is multiplied.
 pub(crate) fn add_multiple<K: SmallField>(k: &K, sum: &mut [u32], c: u32, codes: &[u32])
     requires fits { length codes.now ≤ length sum.old }
     requires sum_in { IsOver (K.field k.now).ops sum.old }
@@ -17,9 +17,27 @@ pub(crate) fn add_multiple<K: SmallField>(k: &K, sum: &mut [u32], c: u32, codes:
     requires codes_in { IsOver (K.field k.now).ops codes.now }
     ensures { let r = raw_ring (K.field k.now).ops in sum.new ≡ add_lists r sum.old (scale_list r c codes.now) }
 {
-    for j in 0..codes.len() {
-        sum[j] = k.add(sum[j], k.mul(c, codes[j]));
+    if c == 0 {
+        return;
     }
+    for j in 0..codes.len() {
+        if codes[j] != 0 {
+            sum[j] = k.add(sum[j], k.mul(c, codes[j]));
+        }
+    }
+}
+
+/// How many codes there are up to the last that isn't 0.
+fn trimmed_length(codes: &[u32]) -> usize
+    ensures within { result ≤ length codes.now }
+    ensures zeros { drop result codes.now ≡ replicate (length codes.now - result) 0 }
+{
+    for i in (0..codes.len()).rev() {
+        if codes[i] != 0 {
+            return i + 1;
+        }
+    }
+    0
 }
 
 /// Multiplies by x modulo g: the codes move up, and what comes to the place of the leading 1 is taken away times g.
@@ -35,7 +53,8 @@ fn multiply_by_x<K: SmallField>(k: &K, g: &[u32], codes: &mut [u32])
     add_multiple(k, codes, k.neg(top), &g[..g.len() - 1]);
 }
 
-/// Writes the product of a and b modulo g over zeros: from the top code of a on, x times what is there and a code times b.
+/// Writes the product of a and b modulo g over zeros: from the last code of a that isn't 0 down, x times what is there and a
+/// code times b.
 pub(crate) fn multiply<K: SmallField>(k: &K, g: &[u32], product: &mut [u32], a: &[u32], b: &[u32])
     requires modulus { IsModulus (K.field k.now).ops g.now }
     requires a_in { IsOver (K.field k.now).ops a.now }
@@ -43,7 +62,7 @@ pub(crate) fn multiply<K: SmallField>(k: &K, g: &[u32], product: &mut [u32], a: 
     requires zeros { product.old ≡ replicate (length g.now - 1) 0 }
     ensures { product.new ≡ product_modulo (K.field k.now).ops g.now a.now b.now }
 {
-    for i in (0..a.len()).rev() {
+    for i in (0..trimmed_length(a)).rev() {
         multiply_by_x(k, g, product);
         add_multiple(k, product, a[i], b);
     }

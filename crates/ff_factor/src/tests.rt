@@ -1,13 +1,14 @@
-//! Known answers over the field of 7 elements.
+//! Known answers.
 
 ghost use Rattle.std.specs.Prelude.{IfOk};
 ghost use Rattle.ff_fields.specs.Over.{IsOver};
 ghost use Rattle.ff_factor.specs.Quotients.{IsModulus};
 
-use crate::{PolyQuotient, factor, is_irreducible};
+use crate::{Factors, PolyQuotient, factor, is_irreducible};
 use ff_falg::{FiniteAlgebra, fixed, frobenius, idempotents, is_field, nilpotents};
 use ff_fields::field::SmallField;
 use ff_fields::prime::PrimeField;
+use ff_fields::residue::ResidueField;
 use ff_linalg::Matrix;
 use ff_poly::Poly;
 use std::alloc::{AllocError, Global};
@@ -68,6 +69,75 @@ fn factors(rt: HostRuntime) -> Result<(), Fail> {
     let mixed: [(&[u32], u32); 2] = [(&[0, 1], 2), (&[1, 0, 1], 1)];
     assert!(rt; has_factors(alloc, &k, &[0, 0, 2, 0, 2], 2, &mixed)?);
     assert!(rt; has_factors(alloc, &k, &[5], 5, &[])?);
+    Ok(())
+}
+
+// How many parts have exponent 1 and a polynomial of this many codes.
+fn count_simple(found: &Factors, length: usize) -> usize {
+    found
+        .parts()
+        .iter()
+        .filter(|part| part.0.codes().len() == length && part.1 == 1)
+        .count()
+}
+
+// How many irreducible factors of degree 1 and of degree 2 the polynomial has, those with exponent 1 alone.
+fn simple_factors<K: SmallField>(
+    alloc: Global,
+    k: &K,
+    codes: &[u32],
+) -> Result<(usize, usize), AllocError> {
+    let g = poly(alloc, k, codes)?;
+    if g.is_zero() {
+        return Ok((0, 0));
+    }
+    let found = factor(alloc, k, &g)?;
+    Ok((count_simple(&found, 2), count_simple(&found, 3)))
+}
+
+// The elements of the field of 49 elements but 0 are the roots of x^48 - 1: six codes, and 21 pairs of conjugates.
+#[test]
+fn roots_of_unity(rt: HostRuntime) -> Result<(), Fail> {
+    let alloc = rt.alloc();
+    let k = PrimeField::new(7)?;
+    let mut codes = [0; 49];
+    codes[0] = 6;
+    codes[48] = 1;
+    assert_eq!(rt; simple_factors(alloc, &k, &codes)?, (6, 21));
+    Ok(())
+}
+
+// Modulo 13, 2 is no square and no cube, and p-th powers of codes are the codes.
+#[test]
+fn modulo_thirteen(rt: HostRuntime) -> Result<(), Fail> {
+    let alloc = rt.alloc();
+    let k = PrimeField::new(13)?;
+    let two: [(&[u32], u32); 2] = [(&[11, 0, 1], 1), (&[11, 0, 0, 1], 1)];
+    assert!(rt; has_factors(alloc, &k, &[4, 0, 11, 11, 0, 1], 1, &two)?);
+    let power: [(&[u32], u32); 1] = [(&[11, 1], 13)];
+    let codes = [11, 0, 0, 0, 0, 0, 0, 0, 0, 0, 0, 0, 0, 1];
+    assert!(rt; has_factors(alloc, &k, &codes, 1, &power)?);
+    Ok(())
+}
+
+// With a^4 = a + 1 the trace of a^3 is 1, so x^2 + x + a^3 has no root; the rest is (x + a)^2.
+#[test]
+fn sixteen_elements(rt: HostRuntime) -> Result<(), Fail> {
+    let alloc = rt.alloc();
+    let k = ResidueField::new(2, 4, &[1, 1, 0, 0, 1])?;
+    let parts: [(&[u32], u32); 2] = [(&[2, 1], 2), (&[8, 1, 1], 1)];
+    assert!(rt; has_factors(alloc, &k, &[6, 4, 12, 1, 1], 1, &parts)?);
+    Ok(())
+}
+
+// With a^16 = a^5 + a^3 + a^2 + 1 it is (x + a)(x + a^15).
+#[test]
+fn largest_field(rt: HostRuntime) -> Result<(), Fail> {
+    let alloc = rt.alloc();
+    let modulus = [1, 0, 1, 1, 0, 1, 0, 0, 0, 0, 0, 0, 0, 0, 0, 0, 1];
+    let k = ResidueField::new(2, 16, &modulus)?;
+    let parts: [(&[u32], u32); 2] = [(&[2, 1], 1), (&[32_768, 1], 1)];
+    assert!(rt; has_factors(alloc, &k, &[45, 32_770, 1], 1, &parts)?);
     Ok(())
 }
 

@@ -25,7 +25,7 @@ pub(crate) fn scale_all<K: SmallField>(k: &K, codes: &mut [u32], c: u32)
     }
 }
 
-/// Adds c times the codes to the sum.
+/// Adds c times the codes to the sum. Where c or a code is 0, nothing is multiplied.
 pub(crate) fn add_multiple<K: SmallField>(k: &K, sum: &mut [u32], c: u32, codes: &[u32])
     requires fits { length codes.now ≤ length sum.old }
     requires sum_in { IsOver (K.field k.now).ops sum.old }
@@ -33,8 +33,13 @@ pub(crate) fn add_multiple<K: SmallField>(k: &K, sum: &mut [u32], c: u32, codes:
     requires codes_in { IsOver (K.field k.now).ops codes.now }
     ensures { let r = raw_ring (K.field k.now).ops in sum.new ≡ add_lists r sum.old (scale_list r c codes.now) }
 {
+    if c == 0 {
+        return;
+    }
     for j in 0..codes.len() {
-        sum[j] = k.add(sum[j], k.mul(c, codes[j]));
+        if codes[j] != 0 {
+            sum[j] = k.add(sum[j], k.mul(c, codes[j]));
+        }
     }
 }
 

@@ -40,13 +40,17 @@ fn is_independent_start<K: SmallField>(
     Ok(relations.rows() == 0)
 }
 
-/// A number of first rows that are independent, found by halving. That it is the greatest matters to the cost alone.
+/// A number of first rows that are independent: the rank, if as many are, and else one that is found by halving. That it is
+/// the greatest matters to the cost alone.
 fn independent_count<K: SmallField>(alloc: Global, k: &K, a: &Matrix) -> Result<usize, AllocError>
     requires { IsMatrixOver (K.field k.now).ops a.now }
     ensures { IfOk result (λ n. (n ≤ length a.now.rows) × HasIndependentStart (K.field k.now).ops a.now n) }
 {
     let mut low = 0;
-    let mut high = a.rows();
+    let mut high = a.rows().saturating_sub(kernel(alloc, k, a)?.rows());
+    if is_independent_start(alloc, k, a, high)? {
+        return Ok(high);
+    }
     while low < high {
         let middle = high - (high - low) / 2;
         if is_independent_start(alloc, k, a, middle)? {
@@ -60,7 +64,8 @@ fn independent_count<K: SmallField>(alloc: Global, k: &K, a: &Matrix) -> Result<
 
 /// For the least r such that row r is a combination of the rows before it, the r coefficients of that combination; None
 /// exactly where the rows are independent.
-/// Cost: that of as many kernels as the number of rows has binary digits, and of one call of `solve`.
+/// Cost: that of two kernels and of one call of `solve` where each row from the first such one on is a combination of rows
+/// before it, as powers of an element are; else of as many more kernels as the number of rows has binary digits.
 pub fn min_relation<K: SmallField>(
     alloc: Global,
     k: &K,
