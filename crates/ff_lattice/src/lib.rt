@@ -5,6 +5,8 @@ pub mod colons;
 mod degrees;
 mod denominators;
 pub mod generators;
+pub mod ideals;
+pub mod indices;
 pub mod lattice;
 pub mod multiples;
 pub mod operations;
