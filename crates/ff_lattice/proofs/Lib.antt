@@ -38,3 +38,7 @@ pub mod Restrictions
 pub mod RowSums
 pub mod ColonSets
 pub mod Kept
+pub mod IdealRows
+pub mod PivotIndices
+pub mod CodeCounts
+pub mod QuotientDimensions

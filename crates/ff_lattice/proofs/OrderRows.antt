@@ -11,7 +11,7 @@ use Rattle.ff_fields.specs.Field.{CodeField}
 use Rattle.ff_algebra.specs.Functions.{IsPolynomial}
 use Rattle.ff_algebra.specs.Values.{ElemValue, PresValue, Functions, functions, function_of, equation_of}
 use Rattle.ff_algebra.proofs.ScalarRings.{polynomials_subring}
-use Rattle.ff_lattice.specs.Lattices.{LatticeValue, IsLattice, Contains, row_elems}
+use Rattle.ff_lattice.specs.Lattices.{LatticeValue, IsLattice, Contains, InSpanOf, row_elems}
 use Rattle.ff_lattice.specs.Orders.{IsOrder, IsOrderByRows, TakesRowsIn}
 
 pub false_true : false ≡ true → ⊥
@@ -90,6 +90,10 @@ module _ (k : CodeField) (p : PresValue) where
     rows_to_gens xs all =
         all_of_map f (λ a. All (λ c. L (F.◌⊗◌ a c)) gens) xs
         (λ i d less. all_of_map f (λ c. L (F.◌⊗◌ (f (get_or xs i d)) c)) (row_elems l) (all i d less))
+
+    -- the products of combinations of other elements and members are members where the products with the rows are
+    pub products_from_rows : (xs : List ElemValue) → All (λ z. TakesRowsIn k p l (f z)) xs → (u v : Functions k p) → InSpanOf k p xs u → L v → L (F.◌⊗◌ u v)
+    products_from_rows xs all = spans_product F T 𝓢 gens (map f xs) gens (rows_to_gens xs all)
 
     -- the rows are members
     pub rows_members : All (λ z. L (f z)) (row_elems l)

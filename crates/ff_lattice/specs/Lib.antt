@@ -4,3 +4,4 @@ pub mod PlaceLists
 pub mod Quotients
 pub mod Steps
 pub mod Colons
+pub mod Indices

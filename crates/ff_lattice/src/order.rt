@@ -43,7 +43,7 @@ pub(crate) fn one_elem<K: SmallField>(alloc: Global, k: &K, n: usize) -> Result<
 }
 
 /// Are the products of z and the rows of the lattice members?
-fn takes_rows_in<K: SmallField>(
+pub(crate) fn takes_rows_in<K: SmallField>(
     alloc: Global,
     k: &K,
     p: &Pres,

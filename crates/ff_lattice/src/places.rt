@@ -135,7 +135,7 @@ fn read_degree<K: SmallField>(
 }
 
 /// The length of the longest entry. No memory.
-fn longest_entry(row: &[Poly]) -> usize
+pub(crate) fn longest_entry(row: &[Poly]) -> usize
     ensures { result ≡ longest row.now }
 {
     let mut most = 0;

@@ -4,6 +4,7 @@ ghost use Rattle.std.specs.Prelude.{◌≡◌, ◌+◌, ◌<◌, ◌≤◌, ℕ,
 ghost use Rattle.ff_poly.specs.Popov.{rows_of, row_at, entry_at, IsRow, IsPopov};
 ghost use Rattle.ff_lattice.specs.Steps.{lifted, unit_row, IsTwistedRows, IsBesideUnit, HasZeroCorner, corner, IsPreimage};
 
+use crate::places::longest_entry;
 use crate::rows::{copy_row, unit_row, zero_row};
 use ff_fields::field::SmallField;
 use ff_poly::Poly;
@@ -142,9 +143,19 @@ fn preimage_at<K: SmallField>(
     Ok(Some(basis))
 }
 
+/// The length of the longest entry of the rows. No memory.
+fn longest_of(rows: &[Vec<Poly>]) -> usize {
+    let mut most = 0;
+    for row in rows {
+        most = longest_entry(row).max(most);
+    }
+    most
+}
+
 /// The Popov basis of the rows z with z·m in the lattice of the rows ls, which has full rank. It is read off the Popov basis
 /// of the rows of m behind the unit matrix and those of ls behind zeros, both times a power of x that is doubled until it is
-/// above the degree of the answer. It takes the time of that Popov basis, of as many rows as m and ls have.
+/// above the degree of the answer; it begins with the length of the longest entry of ls, which mostly serves. It takes the
+/// time of that Popov basis, of as many rows as m and ls have.
 pub(crate) fn preimage<K: SmallField>(
     alloc: Global,
     k: &K,
@@ -159,7 +170,7 @@ pub(crate) fn preimage<K: SmallField>(
     ensures { IfOk result (λ basis.
         IsPreimage (K.field k.now).ops (length m.now) width (rows_of m.now) (rows_of ls.now) (rows_of basis.items)) }
 {
-    let mut power: usize = 1;
+    let mut power: usize = longest_of(ls).max(1);
     for _ in 0..64u32 {
         if let Some(basis) = preimage_at(alloc, k, m, ls, width, power)? {
             return Ok(basis);

@@ -1,0 +1,9 @@
+use Rattle.std.proofs.Common.{ℕ, ◌<◌, get_or}
+use Rattle.ff_algebra.specs.Values.{ElemValue, function_of}
+use Rattle.ff_lattice.specs.Lattices.{Contains, row_elems}
+use Rattle.ff_lattice.proofs.ideals.has_rows.Given as goal
+
+abbrev pub invariant-loop-j : goal.invariant-loop-j
+invariant-loop-j g l =
+    let k = g.K.SmallField.field l.k in
+    (m : ℕ) (d : ElemValue) → m < l.j → Contains k l.p l.l (function_of k l.p (get_or (row_elems l.i) m d))
