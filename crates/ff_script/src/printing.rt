@@ -9,7 +9,8 @@ use ff_text::{push_element, push_terms};
 use std::alloc::{AllocError, Global};
 
 /// The text of a statement, without a line feed: one space between tokens, and none within polynomials and elements
-/// but around `+` and `-` and behind `,`. Linear in the text.
+/// but around `+` and `-` and behind `,`. A denominator stands in parentheses unless it is one term without `-`. Linear in
+/// the text.
 pub fn print(alloc: Global, s: &Statement) -> Result<Vec<u8>, AllocError>
     ensures { IfOk result (λ v. v.items ≡ statement_text s.now) }
 {
@@ -60,6 +61,10 @@ pub fn push_statement(out: &mut Vec<u8>, s: &Statement) -> Result<(), AllocError
             push_element(out, a)?;
             out.push(b' ')?;
             push_element(out, b)
+        }
+        Statement::Factor { g } => {
+            out.extend_from_slice(b"factor ")?;
+            push_terms(out, g)
         }
     }
 }

@@ -36,6 +36,8 @@ pub enum Statement {
     CurveOf { f: TermList },
     /// `mul a b`
     Mul { a: ElemText, b: ElemText },
+    /// `factor g`
+    Factor { g: TermList },
 }
 
 impl CodeList {
@@ -86,6 +88,10 @@ impl Statement {
                 let a = a.copy(alloc)?;
                 let b = b.copy(alloc)?;
                 Ok(Statement::Mul { a, b })
+            }
+            Statement::Factor { g } => {
+                let g = g.copy(alloc)?;
+                Ok(Statement::Factor { g })
             }
         }
     }
