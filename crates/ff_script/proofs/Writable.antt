@@ -1,12 +1,12 @@
 -- What is spelled can be written.
-use Rattle.std.proofs.Common.{◌≡◌, ◌≢◌, ℕ, ◌<◌, Bool, true, false, List, [], ◌∷◌, codes, Option, Some, None, sym, subst, arith, inl, inr}
+use Rattle.std.proofs.Common.{◌≢◌, ℕ, ◌<◌, Bool, true, false, List, [], ◌∷◌, codes, Option, Some, None, arith, inl, inr}
 use Rattle.std.specs.Prelude.{IfSome}
 use Rattle.std.specs.List.{AllByRecursion}
 use Rattle.ff_text.specs.declared.terms.Factor.{Factor}
 use Rattle.ff_text.specs.declared.terms.Factor.TheVariants.{Code, X, Y}
 use Rattle.ff_text.specs.declared.terms.Term.{Term}
 use Rattle.ff_text.specs.declared.terms.ElemText.{ElemText}
-use Rattle.ff_text.specs.Spelling.{Then, Around, Each, SpellsNumber, SpellsPower, SpellsFactor, SpellsFactors, SpellsNext, SpellsTerms, SpellsDen, SpellsTail, SpellsEntries, SpellsElement}
+use Rattle.ff_text.specs.Spelling.{Then, Around, Each, SpellsPower, SpellsFactor, SpellsFactors, SpellsNext, SpellsTerms, SpellsDen, SpellsTail, SpellsEntries, SpellsElement}
 use Rattle.ff_text.specs.Printing.{IsWritableFactor, IsWritableTerm, IsWritableTerms, IsWritableElement}
 use Rattle.ff_text.proofs.Digits.{number_small}
 use Rattle.ff_script.specs.declared.script.Statement.{Statement}

@@ -166,14 +166,20 @@ fn products(rt: HostRuntime) -> Result<(), Fail> {
 #[test]
 fn denominators(rt: HostRuntime) -> Result<(), Fail> {
     let rows: [(&[u8], &[u8]); 30] = [
-        (b"mul [x, 0]/(x + 1) [x + 1, 0]/x", b"mul [x, 0]/(x + 1) [x + 1, 0]/x"),
+        (
+            b"mul [x, 0]/(x + 1) [x + 1, 0]/x",
+            b"mul [x, 0]/(x + 1) [x + 1, 0]/x",
+        ),
         (b"mul [1, 0]/x [0, 1]", b"mul [1, 0]/x [0, 1]"),
         (b"mul [1, 0] [0, 1]/x", b"mul [1, 0] [0, 1]/x"),
         (b"mul [0] /\t( x+1\r) [0]", b"mul [0]/(x + 1) [0]"),
         (b"mul[0]/x ^ 2[1]/ 03 * x", b"mul [0]/x^2 [1]/3*x"),
         (b"mul [0]/(x) [0]/(2*x^1)", b"mul [0]/x [0]/2*x"),
         (b"mul [0]/(-x) [0]/( - 1)", b"mul [0]/(-x) [0]/(-1)"),
-        (b"mul [0]/(x - 1) [0]/(1 + 1)", b"mul [0]/(x - 1) [0]/(1 + 1)"),
+        (
+            b"mul [0]/(x - 1) [0]/(1 + 1)",
+            b"mul [0]/(x - 1) [0]/(1 + 1)",
+        ),
         (b"mul [0]/0 [0]", b"mul [0]/0 [0]"),
         (b"mul [0]/ [0]", b""),
         (b"mul [0] [0]/", b""),
