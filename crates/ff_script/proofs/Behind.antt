@@ -1,49 +1,49 @@
 -- What stands behind the word of a statement is read in one way.
-use Rattle.std.proofs.Common.{◌≡◌, ◌≢◌, ℕ, suc, true, false, eqb, ◌+◌, List, [], ◌∷◌, ◌++◌, length, codes, Option, Some, None, Result, Ok, Err, refl, sym, ap, subst, ◌∙◌, arith}
+use Rattle.std.proofs.Common.{◌≡◌, ◌≢◌, ℕ, suc, Bool, true, false, ◌+◌, List, [], ◌∷◌, ◌++◌, length, codes, Option, Some, None, Result, Ok, Err, refl, sym, ap, subst, ◌∙◌, arith}
 use Rattle.std.specs.Prelude.{IfOk}
-use Rattle.std.proofs.lemmas.Bool.{eqb-false}
 use Rattle.std.specs.declared.alloc.AllocError.{AllocError}
-use Rattle.ff_text.specs.Spelling.{Is, SpellsNumber, SpellsTerms}
+use Rattle.ff_text.specs.Spelling.{Is, SpellsNumber, SpellsTerms, SpellsElement}
 use Rattle.ff_text.specs.Reading.{IsNoSpelling}
 use Rattle.ff_text.specs.declared.terms.Term.{Term}
 use Rattle.ff_text.specs.declared.terms.ElemText.{ElemText}
+use Rattle.ff_algebra.specs.declared.elem.Side.{Side}
+use Rattle.ff_algebra.specs.declared.elem.Side.TheVariants.{Finite, Infinite}
 use Rattle.ff_script.specs.declared.script.Modulus.{Modulus}
 use Rattle.ff_script.specs.declared.script.Statement.{Statement}
-use Rattle.ff_script.specs.declared.script.Statement.TheVariants.{FieldOf, CurveOf, Mul}
-use Rattle.ff_script.specs.Grammar.{ends_with_word, numbers_of, IsWhole, SpellsPlain, SpellsLine}
-use Rattle.ff_script.specs.Reading.{IsReading, behind_blanks, IsFront, AreNumbersAt, IsModulusAt, IsBehind, IsSlashed}
-use Rattle.ff_script.proofs.Spans.{head_same, AllWord, blanks_same, words_same}
+use Rattle.ff_script.specs.declared.script.Statement.TheVariants.{Mul}
+use Rattle.ff_script.specs.Grammar.{ends_with_word, numbers_of, IsWhole, SpellsLine}
+use Rattle.ff_script.specs.Reading.{IsReading, behind_blanks, IsFront, AreNumbersAt, IsModulusAt, AreTermsAt, IsSideAt, IsElementFront, IsBehind}
+use Rattle.ff_script.proofs.Spans.{AllWord, blanks_same, words_same}
+use Rattle.ff_script.proofs.ByKind.{Kind, FieldKind, CurveKind, MulKind, FactorKind, OrderKind, word_of, IsHeldAt, kind_of, none_of_kind, word_of_behind, IsWord, word_of_statement}
 use Rattle.ff_script.proofs.Fronts.{IsStatementAt, line_at, line_from}
-use Rattle.ff_script.proofs.Steps.{no_front, number_same, numbers_same, plain_same, plain_closed}
+use Rattle.ff_script.proofs.Steps.{no_front, number_same, numbers_same}
+use Rattle.ff_script.proofs.Elements.{begins_element, fronts_one}
 
--- lists that differ at their front
-pub differ : (b c : ℕ) (bs cs : List ℕ) → eqb b c ≡ false → b ∷ bs ≡ c ∷ cs → ⊥
-differ b c bs cs apart e = eqb-false b c apart (head_same b c bs cs e)
+-- ---- polynomials
 
--- ---- one word
+-- where no polynomial is read, none is there
+pub no_terms_here : (with_y : Bool) (bytes : List ℕ) → IsNoSpelling (SpellsTerms with_y) bytes 0 → (f : List Term) → AreTermsAt with_y f bytes → ⊥
+no_terms_here with_y bytes none f k = no_front (SpellsTerms with_y) bytes none f [] k
 
-pub only_field : (bytes : List ℕ) → ((p : ℕ) (tail : Option Modulus) → IsWhole tail → AreNumbersAt (p ∷ numbers_of tail) bytes → ⊥) → (s : Statement) → IsBehind (codes "field") s bytes → ⊥
-only_field bytes none (FieldOf p tail) h = none p tail h.1 h.2
-only_field bytes none (CurveOf f) h = differ 102 99 (codes "ield") (codes "urve") refl h.0
-only_field bytes none (Mul a b) h = differ 102 109 (codes "ield") (codes "ul") refl h.0
+pub no_curve_here : (bytes : List ℕ) → ((f : List Term) → AreTermsAt true f bytes → ⊥) → (s : Statement) → IsBehind (codes "curve") s bytes → ⊥
+no_curve_here bytes none s h = none_of_kind CurveKind bytes none s h
 
-pub only_curve : (bytes : List ℕ) → ((f : List Term) → IsFront (SpellsTerms true f) bytes [] → ⊥) → (s : Statement) → IsBehind (codes "curve") s bytes → ⊥
-only_curve bytes none (FieldOf p tail) h = differ 99 102 (codes "urve") (codes "ield") refl h.0
-only_curve bytes none (CurveOf f) h = none f h.1
-only_curve bytes none (Mul a b) h = differ 99 109 (codes "urve") (codes "ul") refl h.0
+pub no_factor_here : (bytes : List ℕ) → ((g : List Term) → AreTermsAt false g bytes → ⊥) → (s : Statement) → IsBehind (codes "factor") s bytes → ⊥
+no_factor_here bytes none s h = none_of_kind FactorKind bytes none s h
 
-pub only_mul : (bytes : List ℕ) → ((a b : ElemText) (rest : List ℕ) → IsFront (SpellsPlain a) bytes rest → IsFront (SpellsPlain b) rest [] → ⊥) → (s : Statement) → IsBehind (codes "mul") s bytes → ⊥
-only_mul bytes none (FieldOf p tail) h = differ 109 102 (codes "ul") (codes "ield") refl h.0
-only_mul bytes none (CurveOf f) h = differ 109 99 (codes "ul") (codes "urve") refl h.0
-only_mul bytes none (Mul a b) h = none a b h.1.0 h.1.1 h.1.2
+-- ---- sides
 
-pub no_terms_here : (bytes : List ℕ) → IsNoSpelling (SpellsTerms true) bytes 0 → (s : Statement) → IsBehind (codes "curve") s bytes → ⊥
-no_terms_here bytes none s h = only_curve bytes (λ f k. no_front (SpellsTerms true) bytes none f [] k) s h
+pub no_side_here : (bytes : List ℕ) → (IsFront (Is (codes "finite")) bytes [] → ⊥) → (side : Side) → IsSideAt side bytes → ⊥
+no_side_here bytes no_finite Finite h = no_finite h
+no_side_here bytes no_finite Infinite h = h.part
+
+pub no_order_here : (bytes : List ℕ) → ((side : Side) → IsSideAt side bytes → ⊥) → (s : Statement) → IsBehind (codes "order") s bytes → ⊥
+no_order_here bytes none s h = none_of_kind OrderKind bytes none s h
 
 -- ---- numbers behind `field`
 
 pub no_number_here : (bytes : List ℕ) → ((n : ℕ) (rest : List ℕ) → IsFront (SpellsNumber n) bytes rest → ⊥) → (s : Statement) → IsBehind (codes "field") s bytes → ⊥
-no_number_here bytes none s h = only_field bytes (λ p tail whole k. none p k.0 k.1) s h
+no_number_here bytes none s h = none_of_kind FieldKind bytes (λ held k. none held.0 k.1.0 k.1.1) s h
 
 pub no_modulus_here : (bytes : List ℕ) → ((n : ℕ) (rest : List ℕ) → IsFront (SpellsNumber n) bytes rest → ⊥) → (m : Modulus) → IsModulusAt m bytes → ⊥
 no_modulus_here bytes none m h = none m.m h.1.0 h.1.1
@@ -63,7 +63,7 @@ other_count bytes n rest ns f are other m h =
     other (omega arith)
 
 pub no_tail_here : (bytes : List ℕ) (n : ℕ) (rest : List ℕ) → IsFront (SpellsNumber n) bytes rest → rest ≢ [] → ((m : Modulus) → IsModulusAt m rest → ⊥) → (s : Statement) → IsBehind (codes "field") s bytes → ⊥
-no_tail_here bytes n rest f some none s h = only_field bytes go s h
+no_tail_here bytes n rest f some none s h = none_of_kind FieldKind bytes (λ held k. go held.0 held.1 k.0 k.1) s h
   where
     go : (p : ℕ) (tail : Option Modulus) → IsWhole tail → AreNumbersAt (p ∷ numbers_of tail) bytes → ⊥
     go p None whole k = some ((number_same bytes n p rest k.0 f k.1).1 ∙ k.2)
@@ -71,53 +71,33 @@ no_tail_here bytes n rest f some none s h = only_field bytes go s h
 
 -- ---- elements behind `mul`
 
--- an element at the front is no slash
-pub front_no_slash : (e : ElemText) (bytes rest : List ℕ) → IsFront (SpellsPlain e) bytes rest → IsSlashed bytes → ⊥
-front_no_slash e bytes rest f h =
-    let c = plain_closed e f.front f.part in
-    differ 91 47 ((c.inner ++ (93 ∷ [])) ++ (f.gap ++ rest)) h.0 refl (sym (f.whole ∙ ap (λ (t : List ℕ). t ++ (f.gap ++ rest)) c.whole) ∙ h.1)
+-- the first element of a product, with the second behind it
+first_front : (a b : ElemText) (bytes rest : List ℕ) → IsFront (SpellsElement a) bytes rest → IsFront (SpellsElement b) rest [] → IsElementFront a bytes rest
+first_front a b bytes rest f g = record { front = f; behind = begins_element b rest [] g }
 
-pub no_first_element : (bytes : List ℕ) → ((e : ElemText) (rest : List ℕ) → IsFront (SpellsPlain e) bytes rest → IsSlashed rest) → (s : Statement) → IsBehind (codes "mul") s bytes → ⊥
-no_first_element bytes slashed s h = only_mul bytes (λ a b rest f g. front_no_slash b rest [] g (slashed a rest f)) s h
+last_front : (b : ElemText) (rest : List ℕ) → IsFront (SpellsElement b) rest [] → IsElementFront b rest []
+last_front b rest g = record { front = g; behind = refl }
 
-pub no_second_element : (bytes : List ℕ) (e : ElemText) (rest : List ℕ) → IsFront (SpellsPlain e) bytes rest → ((d : ElemText) (more : List ℕ) → IsFront (SpellsPlain d) rest more → IsSlashed more) → (s : Statement) → IsBehind (codes "mul") s bytes → ⊥
-no_second_element bytes e rest here slashed s h = only_mul bytes go s h
-  where
-    go : (a b : ElemText) (r : List ℕ) → IsFront (SpellsPlain a) bytes r → IsFront (SpellsPlain b) r [] → ⊥
-    go a b r f g =
-        let same : r ≡ rest = plain_same bytes a e r rest f here in
-        let slash = slashed b [] (subst (λ (t : List ℕ). IsFront (SpellsPlain b) t []) same g) in
-        let is : [] ≡ 47 ∷ slash.0 = slash.1 in
-        cc
+-- where the first element was read, the second stands behind it
+second_front : (bytes : List ℕ) (e : ElemText) (rest : List ℕ) → IsElementFront e bytes rest → (held : ElemText × ElemText) → IsHeldAt MulKind held bytes → IsElementFront held.1 rest []
+second_front bytes e rest here held k =
+    let same : k.0 ≡ rest = (fronts_one bytes held.0 e k.0 rest (first_front held.0 held.1 bytes k.0 k.1 k.2) here).1 in
+    subst (λ (t : List ℕ). IsElementFront held.1 t []) same (last_front held.1 k.0 k.2)
 
-pub more_behind : (bytes : List ℕ) (e : ElemText) (rest : List ℕ) (d : ElemText) (more : List ℕ) → IsFront (SpellsPlain e) bytes rest → IsFront (SpellsPlain d) rest more → more ≢ [] → (s : Statement) → IsBehind (codes "mul") s bytes → ⊥
-more_behind bytes e rest d more here there some s h = only_mul bytes go s h
-  where
-    go : (a b : ElemText) (r : List ℕ) → IsFront (SpellsPlain a) bytes r → IsFront (SpellsPlain b) r [] → ⊥
-    go a b r f g =
-        let same : r ≡ rest = plain_same bytes a e r rest f here in
-        some (plain_same rest d b more [] there (subst (λ (t : List ℕ). IsFront (SpellsPlain b) t []) same g))
+pub no_first_element : (bytes : List ℕ) → ((e : ElemText) (rest : List ℕ) → IsElementFront e bytes rest → ⊥) → (s : Statement) → IsBehind (codes "mul") s bytes → ⊥
+no_first_element bytes none s h = none_of_kind MulKind bytes (λ held k. none held.0 k.0 (first_front held.0 held.1 bytes k.0 k.1 k.2)) s h
+
+pub no_second_element : (bytes : List ℕ) (e : ElemText) (rest : List ℕ) → IsElementFront e bytes rest → ((d : ElemText) (more : List ℕ) → IsElementFront d rest more → ⊥) → (s : Statement) → IsBehind (codes "mul") s bytes → ⊥
+no_second_element bytes e rest here none s h = none_of_kind MulKind bytes (λ held k. none held.1 [] (second_front bytes e rest here held k)) s h
+
+pub more_behind : (bytes : List ℕ) (e : ElemText) (rest : List ℕ) (d : ElemText) (more : List ℕ) → IsElementFront e bytes rest → IsElementFront d rest more → more ≢ [] → (s : Statement) → IsBehind (codes "mul") s bytes → ⊥
+more_behind bytes e rest d more here there some s h =
+    none_of_kind MulKind bytes (λ held k. some (fronts_one rest d held.1 more [] there (second_front bytes e rest here held k)).1) s h
+
+pub two_elements : (bytes : List ℕ) (a : ElemText) (rest : List ℕ) (b : ElemText) (more : List ℕ) → IsElementFront a bytes rest → IsElementFront b rest more → more ≡ [] → IsBehind (codes "mul") (Mul a b) bytes
+two_elements bytes a rest b more first second none = (refl, (rest, first.front, subst (IsFront (SpellsElement b) rest) none second.front))
 
 -- ---- words
-
--- a word of a statement
-pub record IsWord (word : List ℕ) : Type 0 where
-  pub all : AllWord word
-  pub ends : ends_with_word word ≡ true
-
-pub field_word : IsWord (codes "field")
-field_word = record { all = (refl, (refl, (refl, (refl, (refl, tt))))); ends = refl }
-
-pub curve_word : IsWord (codes "curve")
-curve_word = record { all = (refl, (refl, (refl, (refl, (refl, tt))))); ends = refl }
-
-pub mul_word : IsWord (codes "mul")
-mul_word = record { all = (refl, (refl, (refl, tt))); ends = refl }
-
-pub word_of_statement : (word : List ℕ) (s : Statement) (rest : List ℕ) → IsBehind word s rest → IsWord word
-word_of_statement word (FieldOf p tail) rest h = subst IsWord (sym h.0) field_word
-word_of_statement word (CurveOf f) rest h = subst IsWord (sym h.0) curve_word
-word_of_statement word (Mul a b) rest h = subst IsWord (sym h.0) mul_word
 
 pub word_same : (v w bytes r s : List ℕ) → IsWord v → IsWord w → IsFront (Is v) bytes r → IsFront (Is w) bytes s → (v ≡ w) × (r ≡ s)
 word_same v w bytes r s is_v is_w f g =
@@ -141,15 +121,19 @@ pub read_of_line : (word line bytes rest : List ℕ) → bytes ≡ behind_blanks
 read_of_line word line bytes rest e is f (Ok o) h = reading_of_line word line rest is (subst (λ (t : List ℕ). IsFront (Is word) t rest) e f) o h
 read_of_line word line bytes rest e is f (Err fault) h = tt
 
+-- the word isn't at the front
 abbrev pub IsNoWord : List ℕ → List ℕ → Type 0
 IsNoWord word bytes = (rest : List ℕ) → IsFront (Is word) bytes rest → ⊥
 
-pub no_statement : (line bytes : List ℕ) → bytes ≡ behind_blanks line → IsNoWord (codes "field") bytes → IsNoWord (codes "curve") bytes → IsNoWord (codes "mul") bytes → (s : Statement) → SpellsLine s line → ⊥
-no_statement line bytes e no_field no_curve no_mul s h =
+pub no_statement : (line bytes : List ℕ) → bytes ≡ behind_blanks line → ((k : Kind) → IsNoWord (word_of k) bytes) → (s : Statement) → SpellsLine s line → ⊥
+no_statement line bytes e none s h =
     let at = subst (IsStatementAt s) (sym e) (line_at s line h) in
-    go s at.word at.rest at.front at.behind
-  where
-    go : (t : Statement) (word rest : List ℕ) → IsFront (Is word) bytes rest → IsBehind word t rest → ⊥
-    go (FieldOf p tail) word rest f k = no_field rest (subst (λ (w : List ℕ). IsFront (Is w) bytes rest) k.0 f)
-    go (CurveOf g) word rest f k = no_curve rest (subst (λ (w : List ℕ). IsFront (Is w) bytes rest) k.0 f)
-    go (Mul a b) word rest f k = no_mul rest (subst (λ (w : List ℕ). IsFront (Is w) bytes rest) k.0 f)
+    none (kind_of s) at.rest (subst (λ (w : List ℕ). IsFront (Is w) bytes at.rest) (word_of_behind at.word s at.rest at.behind) at.front)
+
+-- there is one kind for each word that was looked for
+pub no_kind : (bytes : List ℕ) → IsNoWord (codes "field") bytes → IsNoWord (codes "curve") bytes → IsNoWord (codes "mul") bytes → IsNoWord (codes "factor") bytes → IsNoWord (codes "order") bytes → (k : Kind) → IsNoWord (word_of k) bytes
+no_kind bytes no_field no_curve no_mul no_factor no_order FieldKind = no_field
+no_kind bytes no_field no_curve no_mul no_factor no_order CurveKind = no_curve
+no_kind bytes no_field no_curve no_mul no_factor no_order MulKind = no_mul
+no_kind bytes no_field no_curve no_mul no_factor no_order FactorKind = no_factor
+no_kind bytes no_field no_curve no_mul no_factor no_order OrderKind = no_order

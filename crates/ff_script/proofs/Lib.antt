@@ -2,6 +2,8 @@ pub mod Spans
 pub mod Spelled
 pub mod Fronts
 pub mod Steps
+pub mod Elements
+pub mod ByKind
 pub mod Behind
 pub mod Cuts
 pub mod Progress

@@ -1,19 +1,24 @@
 -- A line spells one statement at most.
-use Rattle.std.proofs.Common.{◌≡◌, ℕ, true, List, [], ◌∷◌, ◌++◌, codes, Option, Some, None, refl, sym, ap, subst, ◌∙◌, arith, ◌⊎◌, inl, inr}
+use Rattle.std.proofs.Common.{◌≡◌, ℕ, Bool, true, false, List, [], ◌∷◌, ◌++◌, codes, Option, Some, None, refl, sym, ap, subst, ◌∙◌, inl, inr}
+use Rattle.std.proofs.lemmas.Bool.{both_ways}
 use Rattle.std.proofs.lemmas.List.{append-nil}
-use Rattle.ff_text.specs.Spelling.{Is, Blanks, SpellsTerms, SpellsElement}
+use Rattle.ff_text.specs.Spelling.{Blanks, SpellsTerms, SpellsElement}
 use Rattle.ff_text.specs.declared.terms.Term.{Term}
 use Rattle.ff_text.specs.declared.terms.ElemText.{ElemText}
+use Rattle.ff_algebra.specs.declared.elem.Side.{Side}
+use Rattle.ff_algebra.specs.declared.elem.Side.TheVariants.{Finite, Infinite}
 use Rattle.ff_script.specs.declared.script.Modulus.{Modulus}
 use Rattle.ff_script.specs.declared.script.Statement.{Statement}
-use Rattle.ff_script.specs.declared.script.Statement.TheVariants.{FieldOf, CurveOf, Mul}
-use Rattle.ff_script.specs.Grammar.{numbers_of, SpellsPlain, IsSkipped, SpellsLine}
-use Rattle.ff_script.specs.Reading.{behind_blanks, IsFront, AreNumbersAt, IsBehind}
-use Rattle.ff_script.proofs.Spans.{stopped_same}
-use Rattle.ff_script.proofs.Spelled.{terms_solid}
+use Rattle.ff_script.specs.declared.script.Statement.TheVariants.{FieldOf, CurveOf, Mul, Factor, OrderOf}
+use Rattle.ff_script.specs.Grammar.{is_word_byte, numbers_of, SpellsSide, IsSkipped, SpellsLine}
+use Rattle.ff_script.specs.Reading.{behind_blanks, IsFront, AreNumbersAt, IsElementFront, IsBehind}
+use Rattle.ff_script.proofs.Spans.{head_same, stopped_same}
+use Rattle.ff_script.proofs.Spelled.{IsSolid, terms_solid, side_solid}
 use Rattle.ff_script.proofs.Fronts.{line_at}
-use Rattle.ff_script.proofs.Steps.{numbers_same, front_closed, comment_at, blank_at}
-use Rattle.ff_script.proofs.Behind.{differ, word_of_statement, statement_behind}
+use Rattle.ff_script.proofs.Steps.{numbers_same, comment_at, blank_at}
+use Rattle.ff_script.proofs.Elements.{begins_element, fronts_one}
+use Rattle.ff_script.proofs.ByKind.{Kind, FieldKind, CurveKind, MulKind, FactorKind, OrderKind, word_of, Held, statement, IsHeldAt, kind_of, word_of_behind, IsWord, word_of_statement, of_kind}
+use Rattle.ff_script.proofs.Behind.{statement_behind}
 
 -- a text spells one value at most
 abbrev pub OneValue : {V : Type 0} → (V → List ℕ → Type 0) → Type 0
@@ -42,35 +47,43 @@ field_same p q s t bytes h k =
     let tail : s ≡ t = tail_equal s t others in
     cc
 
-module _ (one_terms : OneValue (SpellsTerms true)) (one_element : OneValue SpellsElement) where
-  terms_same : (f g : List Term) (bytes : List ℕ) → IsFront (SpellsTerms true f) bytes [] → IsFront (SpellsTerms true g) bytes [] → f ≡ g
-  terms_same f g bytes h k =
-      let blanks : Blanks (h.gap ++ []) = subst Blanks (sym (append-nil h.gap)) h.blanks in
-      let others : Blanks (k.gap ++ []) = subst Blanks (sym (append-nil k.gap)) k.blanks in
-      let fronts : h.front ≡ k.front = stopped_same h.front k.front (h.gap ++ []) (k.gap ++ []) (terms_solid true f h.front h.part).stops (terms_solid true g k.front k.part).stops blanks others (sym h.whole ∙ k.whole) in
-      one_terms f g k.front (subst (SpellsTerms true f) fronts h.part) k.part
+one_side : OneValue SpellsSide
+one_side Finite Finite bytes h k = refl
+one_side Finite Infinite bytes h k = absurd k
+one_side Infinite t bytes h k = absurd h
 
+-- the last part spells one value at most
+last_same : {V : Type 0} (Spells : V → List ℕ → Type 0) → OneValue Spells → ((v : V) (b : List ℕ) → Spells v b → IsSolid b) → (v w : V) (bytes : List ℕ) → IsFront (Spells v) bytes [] → IsFront (Spells w) bytes [] → v ≡ w
+last_same Spells one solid v w bytes h k =
+    let blanks : Blanks (h.gap ++ []) = subst Blanks (sym (append-nil h.gap)) h.blanks in
+    let others : Blanks (k.gap ++ []) = subst Blanks (sym (append-nil k.gap)) k.blanks in
+    let fronts : h.front ≡ k.front = stopped_same h.front k.front (h.gap ++ []) (k.gap ++ []) (solid v h.front h.part).stops (solid w k.front k.part).stops blanks others (sym h.whole ∙ k.whole) in
+    one v w k.front (subst (Spells v) fronts h.part) k.part
+
+module _ (one_terms : (with_y : Bool) → OneValue (SpellsTerms with_y)) (one_element : OneValue SpellsElement) where
   -- an element at the front, and what stands behind it
-  element_same : (a b : ElemText) (bytes r s : List ℕ) → IsFront (SpellsPlain a) bytes r → IsFront (SpellsPlain b) bytes s → (a ≡ b) × (r ≡ s)
+  element_same : (a b : ElemText) (bytes r s : List ℕ) → IsElementFront a bytes r → IsElementFront b bytes s → (a ≡ b) × (r ≡ s)
   element_same a b bytes r s h k =
-      let both = front_closed bytes a b r s h k in
-      (one_element a b k.front (subst (SpellsElement a) both.0 h.part.element) k.part.element, both.1)
+      let both = fronts_one bytes a b r s h k in
+      (one_element a b k.front.front (subst (SpellsElement a) both.0 h.front.part) k.front.part, both.1)
+
+  -- the bytes are one thing of a kind at most
+  held_same : (k : Kind) (a b : Held k) (bytes : List ℕ) → IsHeldAt k a bytes → IsHeldAt k b bytes → statement k a ≡ statement k b
+  held_same FieldKind a b bytes h k = field_same a.0 b.0 a.1 b.1 bytes h.1 k.1
+  held_same CurveKind f g bytes h k = ap (λ (x : List Term). CurveOf x) (last_same (SpellsTerms true) (one_terms true) (terms_solid true) f g bytes h k)
+  held_same MulKind a b bytes h k =
+      let left = element_same a.0 b.0 bytes h.0 k.0 (record { front = h.1; behind = begins_element a.1 h.0 [] h.2 }) (record { front = k.1; behind = begins_element b.1 k.0 [] k.2 }) in
+      let right = element_same a.1 b.1 k.0 [] [] (record { front = subst (λ (t : List ℕ). IsFront (SpellsElement a.1) t []) left.1 h.2; behind = refl }) (record { front = k.2; behind = refl }) in
+      ap (λ (x : ElemText). Mul x a.1) left.0 ∙ ap (Mul b.0) right.0
+  held_same FactorKind f g bytes h k = ap (λ (x : List Term). Factor x) (last_same (SpellsTerms false) (one_terms false) (terms_solid false) f g bytes h k)
+  held_same OrderKind s t bytes h k = ap (λ (x : Side). OrderOf x) (last_same SpellsSide one_side side_solid s t bytes h k)
 
   behind_same : (word bytes : List ℕ) (s t : Statement) → IsBehind word s bytes → IsBehind word t bytes → s ≡ t
-  behind_same word bytes (FieldOf p s) (FieldOf q t) h k = field_same p q s t bytes h.2 k.2
-  behind_same word bytes (CurveOf f) (CurveOf g) h k = ap (λ (x : List Term). CurveOf x) (terms_same f g bytes h.1 k.1)
-  behind_same word bytes (Mul a b) (Mul c d) h k =
-      let first = element_same a c bytes h.1.0 k.1.0 h.1.1 k.1.1 in
-      let second = element_same b d k.1.0 [] [] (subst (λ (t : List ℕ). IsFront (SpellsPlain b) t []) first.1 h.1.2) k.1.2 in
-      let left : a ≡ c = first.0 in
-      let right : b ≡ d = second.0 in
-      cc
-  behind_same word bytes (FieldOf p s) (CurveOf f) h k = absurd (differ 102 99 (codes "ield") (codes "urve") refl (sym h.0 ∙ k.0))
-  behind_same word bytes (FieldOf p s) (Mul a b) h k = absurd (differ 102 109 (codes "ield") (codes "ul") refl (sym h.0 ∙ k.0))
-  behind_same word bytes (CurveOf f) (FieldOf p s) h k = absurd (differ 99 102 (codes "urve") (codes "ield") refl (sym h.0 ∙ k.0))
-  behind_same word bytes (CurveOf f) (Mul a b) h k = absurd (differ 99 109 (codes "urve") (codes "ul") refl (sym h.0 ∙ k.0))
-  behind_same word bytes (Mul a b) (FieldOf p s) h k = absurd (differ 109 102 (codes "ul") (codes "ield") refl (sym h.0 ∙ k.0))
-  behind_same word bytes (Mul a b) (CurveOf f) h k = absurd (differ 109 99 (codes "ul") (codes "urve") refl (sym h.0 ∙ k.0))
+  behind_same word bytes s t h k =
+      let at : word ≡ word_of (kind_of s) = word_of_behind word s bytes h in
+      let one = of_kind (kind_of s) s bytes (subst (λ (w : List ℕ). IsBehind w s bytes) at h) in
+      let other = of_kind (kind_of s) t bytes (subst (λ (w : List ℕ). IsBehind w t bytes) at k) in
+      one.made ∙ held_same (kind_of s) one.held other.held bytes one.at other.at ∙ sym other.made
 
   pub same_statement : (line : List ℕ) (s t : Statement) → SpellsLine s line → SpellsLine t line → s ≡ t
   same_statement line s t h k =
@@ -81,31 +94,25 @@ module _ (one_terms : OneValue (SpellsTerms true)) (one_element : OneValue Spell
 
 -- ---- skipped lines
 
--- the first byte of a word of a statement
-abbrev IsLetter : ℕ → Type 0
-IsLetter b = (b ≡ 102) ⊎ ((b ≡ 99) ⊎ (b ≡ 109))
+-- bytes that begin with a word begin with a word byte
+word_first : (word more : List ℕ) → IsWord word → (b : ℕ) × (bs : List ℕ) × (word ++ more ≡ b ∷ bs) × (is_word_byte b ≡ true)
+word_first [] more h = let none : false ≡ true = h.ends in absurd cc
+word_first (b ∷ bs) more h = (b, bs ++ more, refl, h.all.0)
 
-begins : (word bytes rest : List ℕ) (s : Statement) → IsFront (Is word) bytes rest → IsBehind word s rest → (b : ℕ) × (bs : List ℕ) × (bytes ≡ b ∷ bs) × IsLetter b
-begins word bytes rest (FieldOf p tail) f h = (102, codes "ield" ++ (f.gap ++ rest), f.whole ∙ ap (λ (t : List ℕ). t ++ (f.gap ++ rest)) (f.part ∙ h.0), inl refl)
-begins word bytes rest (CurveOf g) f h = (99, codes "urve" ++ (f.gap ++ rest), f.whole ∙ ap (λ (t : List ℕ). t ++ (f.gap ++ rest)) (f.part ∙ h.0), inr (inl refl))
-begins word bytes rest (Mul a b) f h = (109, codes "ul" ++ (f.gap ++ rest), f.whole ∙ ap (λ (t : List ℕ). t ++ (f.gap ++ rest)) (f.part ∙ h.0), inr (inr refl))
-
-no_mark : (b : ℕ) → IsLetter b → b ≡ 35 → ⊥
-no_mark b (inl e) f = omega arith
-no_mark b (inr (inl e)) f = omega arith
-no_mark b (inr (inr e)) f = omega arith
+begins : (line : List ℕ) (s : Statement) → SpellsLine s line → (b : ℕ) × (bs : List ℕ) × (behind_blanks line ≡ b ∷ bs) × (is_word_byte b ≡ true)
+begins line s h =
+    let at = line_at s line h in
+    let first = word_first at.word (at.front.gap ++ at.rest) (word_of_statement at.word s at.rest at.behind) in
+    (first.0, first.1, at.front.whole ∙ ap (λ (t : List ℕ). t ++ (at.front.gap ++ at.rest)) at.front.part ∙ first.2, first.3)
 
 -- a line that is skipped spells no statement
 pub skipped_none : (line : List ℕ) (s : Statement) → IsSkipped line → SpellsLine s line → ⊥
 skipped_none line s (inl blank) h =
-    let at = line_at s line h in
-    let first = begins at.word (behind_blanks line) at.rest s at.front at.behind in
+    let first = begins line s h in
     let is : [] ≡ first.0 ∷ first.1 = sym (blank_at line blank) ∙ first.2 in
     cc
 skipped_none line s (inr comment) h =
-    let at = line_at s line h in
-    let first = begins at.word (behind_blanks line) at.rest s at.front at.behind in
+    let first = begins line s h in
     let mark = comment_at line comment in
-    let is : first.0 ∷ first.1 ≡ 35 ∷ mark.0 = sym first.2 ∙ mark.1 in
-    let same : first.0 ≡ 35 = cc in
-    no_mark first.0 first.3 same
+    let same : first.0 ≡ 35 = head_same first.0 35 first.1 mark.0 (sym first.2 ∙ mark.1) in
+    both_ways (is_word_byte first.0) (subst (λ (n : ℕ). is_word_byte n ≡ false) (sym same) refl) first.3

@@ -1,5 +1,5 @@
 -- Statements that can be written are spelled by their texts.
-use Rattle.std.proofs.Common.{◌≡◌, ℕ, true, false, eqb, ◌<◌, List, [], ◌∷◌, ◌++◌, map, codes, refl, sym, ap, subst, ◌∙◌, append_assoc, inr}
+use Rattle.std.proofs.Common.{◌≡◌, ℕ, Bool, true, false, eqb, ◌<◌, List, [], ◌∷◌, ◌++◌, map, codes, refl, sym, ap, subst, ◌∙◌, append_assoc, inr}
 use Rattle.std.specs.Prelude.{All, decimal}
 use Rattle.std.specs.List.{AllByRecursion, slice_split}
 use Rattle.std.proofs.lemmas.List.{append-nil}
@@ -9,14 +9,15 @@ use Rattle.ff_text.specs.Spelling.{Blanks, SpellsNumber, SpellsTerms, SpellsElem
 use Rattle.ff_text.specs.Printing.{terms_text, element_text, IsWritableTerms, IsWritableElement}
 use Rattle.ff_text.specs.declared.terms.Term.{Term}
 use Rattle.ff_text.specs.declared.terms.ElemText.{ElemText}
+use Rattle.ff_algebra.specs.declared.elem.Side.{Side}
+use Rattle.ff_algebra.specs.declared.elem.Side.TheVariants.{Finite, Infinite}
 use Rattle.ff_script.specs.declared.script.Statement.{Statement}
-use Rattle.ff_script.specs.declared.script.Statement.TheVariants.{FieldOf, CurveOf, Mul}
-use Rattle.ff_script.specs.Grammar.{IsGap, SpellsParts, AreNumbers, numbers_of, SpellsPlain, ArePartsOf, SpellsLine}
-use Rattle.ff_script.specs.Printing.{numbers_text, statement_text, script_text, IsShort, IsWritable}
+use Rattle.ff_script.specs.declared.script.Statement.TheVariants.{FieldOf, CurveOf, Mul, Factor, OrderOf}
+use Rattle.ff_script.specs.Grammar.{IsGap, SpellsParts, AreNumbers, numbers_of, SpellsSide, ArePartsOf, SpellsLine}
+use Rattle.ff_script.specs.Printing.{numbers_text, side_text, statement_text, script_text, IsShort, IsWritable}
 use Rattle.ff_script.specs.Scripts.{lines_of, IsReadAs, IsInOrder, IsScript}
 use Rattle.ff_script.proofs.Spans.{all_append, each_blank}
-use Rattle.ff_script.proofs.Spelled.{AreInside, number_solid, terms_solid}
-use Rattle.ff_script.proofs.Steps.{plain_closed}
+use Rattle.ff_script.proofs.Spelled.{AreInside, number_solid, terms_solid, side_solid, element_bracketed}
 use Rattle.ff_script.proofs.Cuts.{is_feed, lines_cut}
 use Rattle.ff_script.proofs.OneScript.{IsOneLine}
 
@@ -36,10 +37,10 @@ blanks_unfed : (gap : List ℕ) → Blanks gap → AreUnfed gap
 blanks_unfed [] h = tt
 blanks_unfed (g ∷ gap) h = (each_blank IsUnfed refl refl refl g h.0, blanks_unfed gap h.1)
 
-plain_unfed : (e : ElemText) (bytes : List ℕ) → SpellsPlain e bytes → AreUnfed bytes
-plain_unfed e bytes h =
-    let c = plain_closed e bytes h in
-    subst AreUnfed (sym c.whole) (refl, all_append IsUnfed c.inner (93 ∷ []) (inside_unfed c.inner c.inside) (refl, tt))
+element_unfed : (e : ElemText) (bytes : List ℕ) → SpellsElement e bytes → AreUnfed bytes
+element_unfed e bytes h =
+    let b = element_bracketed e bytes h in
+    subst AreUnfed (sym b.whole) (refl, inside_unfed b.body b.ending.inside)
 
 numbers_unfed : (ns : List ℕ) (parts : List (List ℕ)) → AreNumbers ns parts → AllByRecursion AreUnfed parts
 numbers_unfed [] parts h = subst (AllByRecursion AreUnfed) (sym h) tt
@@ -49,7 +50,9 @@ numbers_unfed (n ∷ ns) (part ∷ parts) h = (inside_unfed part (number_solid n
 parts_unfed : (s : Statement) (parts : List (List ℕ)) → ArePartsOf s parts → AllByRecursion AreUnfed parts
 parts_unfed (FieldOf p tail) parts h = subst (AllByRecursion AreUnfed) (sym h.1) ((refl, (refl, (refl, (refl, (refl, tt))))), numbers_unfed (p ∷ numbers_of tail) h.0 h.2)
 parts_unfed (CurveOf f) parts h = subst (AllByRecursion AreUnfed) (sym h.1) ((refl, (refl, (refl, (refl, (refl, tt))))), (inside_unfed h.0 (terms_solid true f h.0 h.2).inside, tt))
-parts_unfed (Mul a b) parts h = subst (AllByRecursion AreUnfed) (sym h.2) ((refl, (refl, (refl, tt))), (plain_unfed a h.0 h.3, (plain_unfed b h.1 h.4, tt)))
+parts_unfed (Mul a b) parts h = subst (AllByRecursion AreUnfed) (sym h.2) ((refl, (refl, (refl, tt))), (element_unfed a h.0 h.3, (element_unfed b h.1 h.4, tt)))
+parts_unfed (Factor g) parts h = subst (AllByRecursion AreUnfed) (sym h.1) ((refl, (refl, (refl, (refl, (refl, (refl, tt)))))), (inside_unfed h.0 (terms_solid false g h.0 h.2).inside, tt))
+parts_unfed (OrderOf side) parts h = subst (AllByRecursion AreUnfed) (sym h.1) ((refl, (refl, (refl, (refl, (refl, tt))))), (inside_unfed h.0 (side_solid side h.0 h.2).inside, tt))
 
 joined_unfed : (parts : List (List ℕ)) (core : List ℕ) → AllByRecursion AreUnfed parts → SpellsParts parts core → AreUnfed core
 joined_unfed [] core h joined = subst AreUnfed (sym joined) tt
@@ -91,10 +94,14 @@ numbers_spaced : (part : List ℕ) (ns : List ℕ) → SpellsParts (part ∷ map
 numbers_spaced part [] = append-nil part
 numbers_spaced part (n ∷ ns) = spaced part (decimal n) (map decimal ns) (decimal n ++ numbers_text ns) (numbers_spaced (decimal n) ns)
 
+side_spelled : (side : Side) → side ≡ Finite → SpellsSide side (side_text side)
+side_spelled Finite h = refl
+side_spelled Infinite h = absurd cc
+
 -- numbers, polynomials and elements that can be written are spelled by their texts
 pub record AreSpelled : Type 1 where
   pub number : (n : ℕ) → n < 1000000000 → SpellsNumber n (decimal n)
-  pub terms : (ts : List Term) → IsWritableTerms true ts → SpellsTerms true ts (terms_text ts)
+  pub terms : (with_y : Bool) (ts : List Term) → IsWritableTerms with_y ts → SpellsTerms with_y ts (terms_text ts)
   pub element : (e : ElemText) → IsWritableElement e → SpellsElement e (element_text e)
 
 module _ (spelled : AreSpelled) where
@@ -106,16 +113,22 @@ module _ (spelled : AreSpelled) where
   parts_of (FieldOf p tail) = codes "field" ∷ map decimal (p ∷ numbers_of tail)
   parts_of (CurveOf f) = codes "curve" ∷ terms_text f ∷ []
   parts_of (Mul a b) = codes "mul" ∷ element_text a ∷ element_text b ∷ []
+  parts_of (Factor g) = codes "factor" ∷ terms_text g ∷ []
+  parts_of (OrderOf side) = codes "order" ∷ side_text side ∷ []
 
   parts_named : (s : Statement) → IsWritable s → ArePartsOf s (parts_of s)
   parts_named (FieldOf p tail) h = (map decimal (p ∷ numbers_of tail), refl, numbers_spelled (p ∷ numbers_of tail) h.0, h.1)
-  parts_named (CurveOf f) h = (terms_text f, refl, spelled.terms f h)
-  parts_named (Mul a b) h = (element_text a, element_text b, refl, record { plain = h.0.plain; element = spelled.element a h.0.element }, record { plain = h.1.plain; element = spelled.element b h.1.element })
+  parts_named (CurveOf f) h = (terms_text f, refl, spelled.terms true f h)
+  parts_named (Mul a b) h = (element_text a, element_text b, refl, spelled.element a h.0, spelled.element b h.1)
+  parts_named (Factor g) h = (terms_text g, refl, spelled.terms false g h)
+  parts_named (OrderOf side) h = (side_text side, refl, side_spelled side h)
 
   parts_joined : (s : Statement) → SpellsParts (parts_of s) (statement_text s)
   parts_joined (FieldOf p tail) = numbers_spaced (codes "field") (p ∷ numbers_of tail)
   parts_joined (CurveOf f) = spaced (codes "curve") (terms_text f) [] (terms_text f) refl
   parts_joined (Mul a b) = spaced (codes "mul") (element_text a) (element_text b ∷ []) (element_text a ++ (32 ∷ element_text b)) (spaced (element_text a) (element_text b) [] (element_text b) refl)
+  parts_joined (Factor g) = spaced (codes "factor") (terms_text g) [] (terms_text g) refl
+  parts_joined (OrderOf side) = spaced (codes "order") (side_text side) [] (side_text side) refl
 
   pub text_spells : (s : Statement) → IsWritable s → SpellsLine s (statement_text s)
   text_spells s h = record {

@@ -150,7 +150,7 @@ stopped_no_blanks [] h k = h
 stopped_no_blanks (b ∷ []) h k = both_ways (is_blank b) h k.0
 stopped_no_blanks (b ∷ c ∷ a) h k = stopped_no_blanks (c ∷ a) h k.1
 
-stopped_within : (a b g h : List ℕ) → IsStopped a → Blanks h → a ++ g ≡ b ++ h → length a ≤ length b
+pub stopped_within : (a b g h : List ℕ) → IsStopped a → Blanks h → a ++ g ≡ b ++ h → length a ≤ length b
 stopped_within a [] g h stops blanks e =
     let is : Blanks (a ++ g) = subst Blanks (sym e) blanks in
     absurd (stopped_no_blanks a stops (all_front (λ b. IsTrue (is_blank b)) a g is))

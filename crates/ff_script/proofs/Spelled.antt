@@ -1,25 +1,27 @@
 -- What spelled texts begin with, end with and hold.
-use Rattle.std.proofs.Common.{◌≡◌, ◌≢◌, ℕ, Bool, true, false, eqb, ◌<◌, ◌≤◌, ◌||◌, List, [], ◌∷◌, ◌++◌, length, codes, Option, refl, sym, ap, subst, ◌∙◌, append_assoc, arith, ◌⊎◌, inl, inr}
+use Rattle.std.proofs.Common.{◌≡◌, ◌≢◌, ℕ, Bool, true, false, eqb, ◌<◌, ◌≤◌, ◌||◌, List, [], ◌∷◌, ◌++◌, length, codes, Option, Some, None, refl, sym, ap, subst, ◌∙◌, arith, ◌⊎◌, inl, inr}
 use Rattle.std.specs.List.{AllByRecursion}
 use Rattle.std.specs.Char.{digit_value}
 use Rattle.std.specs.Str.Parse.{AllDigits}
 use Rattle.std.proofs.lemmas.Bool.{ne_eqb, or_from, le-leb}
 use Rattle.std.proofs.lemmas.List.{append-nil}
 use Rattle.std.proofs.lemmas.Bool.Decides.{nat_tests}
+use Rattle.ff_algebra.specs.declared.elem.Side.{Side}
+use Rattle.ff_algebra.specs.declared.elem.Side.TheVariants.{Finite, Infinite}
 use Rattle.ff_text.specs.declared.terms.Factor.{Factor}
 use Rattle.ff_text.specs.declared.terms.Factor.TheVariants.{Code, X, Y}
 use Rattle.ff_text.specs.declared.terms.Term.{Term}
 use Rattle.ff_text.specs.declared.terms.ElemText.{ElemText}
-use Rattle.ff_text.specs.Spelling.{Then, is_blank, Blanks, Around, Each, Joined, SpellsNumber, SpellsPower, SpellsFactor, SpellsFactors, FirstSign, NextSign, SpellsNext, SpellsTerms, SpellsTail, SpellsElement}
-use Rattle.ff_script.specs.Grammar.{is_word_byte, ends_with_word}
+use Rattle.ff_text.specs.Spelling.{Then, Is, is_blank, Blanks, Around, Each, Joined, SpellsNumber, SpellsPower, SpellsFactor, SpellsFactors, FirstSign, NextSign, SpellsNext, SpellsTerms, SpellsOneTerm, SpellsDen, SpellsTail, SpellsEntries, SpellsElement}
+use Rattle.ff_script.specs.Grammar.{is_word_byte, ends_with_word, SpellsSide}
 use Rattle.ff_script.specs.Reading.{begins_with_blank}
 use Rattle.ff_script.proofs.Spans.{all_append, each_blank, AllWord, all_word_ends, IsStopped, stopped_behind}
 
 -- ---- bytes
 
--- neither a closing bracket nor a line feed
+-- neither an opening bracket nor a line feed
 abbrev pub IsInside : ℕ → Type 0
-IsInside b = (eqb b 93 ≡ false) × (eqb b 10 ≡ false)
+IsInside b = (eqb b 91 ≡ false) × (eqb b 10 ≡ false)
 
 abbrev pub AreInside : List ℕ → Type 0
 AreInside bytes = AllByRecursion IsInside bytes
@@ -51,14 +53,14 @@ digit_no_blank c h =
     (digit_not c 13 h (λ k. omega arith))
 
 digit_inside : (c : ℕ) → digit_value c < 10 → IsInside c
-digit_inside c h = (digit_not c 93 h (λ k. omega arith), digit_not c 10 h (λ k. omega arith))
+digit_inside c h = (digit_not c 91 h (λ k. omega arith), digit_not c 10 h (λ k. omega arith))
 
 digit_word : (c : ℕ) → digit_value c < 10 → is_word_byte c ≡ true
 digit_word c h = let k = digit_byte c h in rw (le-leb 48 c k.0, le-leb c 57 k.1) refl
 
 -- ---- texts
 
--- a text without blanks at its ends, without a closing bracket and without a line feed
+-- a text without blanks at its ends, without an opening bracket and without a line feed
 pub record IsSolid (bytes : List ℕ) : Type 0 where
   pub starts : Starts bytes
   pub stops : IsStopped bytes
@@ -204,32 +206,53 @@ terms_solid with_y (t ∷ ts) bytes h =
     let first : IsSolid h.front = subst IsSolid (sym h.first.whole) (signed_solid t.minus h.first.front h.first.back h.first.first (factors_solid with_y t.factors h.first.back h.first.second)) in
     subst IsSolid (sym h.whole) (solid_tail h.front h.back first (each_tail (SpellsNext with_y) ts h.back (next_ending with_y) h.second))
 
+-- ---- sides
+
+pub side_solid : (side : Side) (bytes : List ℕ) → SpellsSide side bytes → IsSolid bytes
+side_solid Finite bytes h = subst IsSolid (sym h) (record { starts = refl; stops = refl; inside = ((refl, refl), ((refl, refl), ((refl, refl), ((refl, refl), ((refl, refl), ((refl, refl), tt)))))) })
+side_solid Infinite bytes h = absurd h
+
 -- ---- elements
 
--- an element up to its closing bracket, and behind it
-pub record IsBracketed (den : Option (List Term)) (bytes : List ℕ) : Type 0 where
-  pub inner : List ℕ
-  pub tail : List ℕ
-  pub inside : AreInside inner
-  pub behind : SpellsTail den tail
-  pub whole : bytes ≡ 91 ∷ (inner ++ (93 ∷ tail))
+-- a part between blanks and a closing mark
+closed_ending : (Part : List ℕ → Type 0) (mark bytes : List ℕ) → IsSolid mark → ((b : List ℕ) → Part b → IsSolid b) → Then Blanks (Then Part (Then Blanks (Is mark))) bytes → IsEnding bytes
+closed_ending Part mark bytes closes solid h =
+    let part = h.second in
+    let last = part.second in
+    let close : IsEnding last.back = subst IsEnding (sym last.second) (solid_ending mark closes) in
+    let behind : IsEnding part.back = subst IsEnding (sym last.whole) (ending_behind last.front last.back (blanks_inside last.front last.first) close) in
+    let from : IsEnding h.back = subst IsEnding (sym part.whole) (ending_behind part.front part.back (solid part.front part.first).inside behind) in
+    subst IsEnding (sym h.whole) (ending_behind h.front h.back (blanks_inside h.front h.first) from)
 
-regrouped : (g p h tail : List ℕ) → (codes "[" ++ (g ++ (p ++ (h ++ codes "]")))) ++ tail ≡ 91 ∷ ((g ++ (p ++ h)) ++ (93 ∷ tail))
-regrouped g p h tail = simp append_assoc
+one_term_solid : (ts : List Term) (bytes : List ℕ) → SpellsOneTerm ts bytes → IsSolid bytes
+one_term_solid [] bytes h = absurd h
+one_term_solid (t ∷ []) bytes h = factors_solid false t.factors bytes h.1
+one_term_solid (t ∷ u ∷ ts) bytes h = absurd h
 
-pub element_bracketed : (e : ElemText) (bytes : List ℕ) → SpellsElement e bytes → IsBracketed e.den bytes
+den_solid : (ts : List Term) (bytes : List ℕ) → SpellsDen ts bytes → IsSolid bytes
+den_solid ts bytes (inl h) = one_term_solid ts bytes h
+den_solid ts bytes (inr h) =
+    let left : IsSolid h.front = subst IsSolid (sym h.first) (letter_solid 40 refl (refl, refl)) in
+    subst IsSolid (sym h.whole) (solid_before h.front h.back left (closed_ending (SpellsTerms false ts) (codes ")") h.back (letter_solid 41 refl (refl, refl)) (terms_solid false ts) h.second))
+
+den_tail : (den : Option (List Term)) (bytes : List ℕ) → SpellsTail den bytes → IsTail bytes
+den_tail None bytes h = inl h
+den_tail (Some d) bytes h =
+    let slash : AreInside h.front = around_inside (codes "/") h.front ((refl, refl), tt) h.first in
+    inr (subst IsEnding (sym h.whole) (ending_behind h.front h.back slash (solid_ending h.back (den_solid d h.back h.second))))
+
+-- an opening bracket, and what no further one stands in
+pub record IsBracketed (bytes : List ℕ) : Type 0 where
+  pub body : List ℕ
+  pub ending : IsEnding body
+  pub whole : bytes ≡ 91 ∷ body
+
+pub element_bracketed : (e : ElemText) (bytes : List ℕ) → SpellsElement e bytes → IsBracketed bytes
 element_bracketed e bytes h =
-    let w = h.first.second in
-    let entries = w.second in
-    let last = entries.second in
-    let brackets : h.front ≡ codes "[" ++ (w.front ++ (entries.front ++ (last.front ++ codes "]"))) =
-    h.first.whole ∙ ap (λ (t : List ℕ). t ++ h.first.back) h.first.first
-    ∙ ap (λ (t : List ℕ). codes "[" ++ t) (w.whole ∙ ap (λ (t : List ℕ). w.front ++ t) (entries.whole ∙ ap (λ (t : List ℕ). entries.front ++ t) (last.whole ∙ ap (λ (t : List ℕ). last.front ++ t) last.second))) in
-    let solid : IsSolid entries.front = joined_solid (SpellsTerms false) (codes ",") e.entries entries.front ((refl, refl), tt) (terms_solid false) entries.first in
+    let entries : (b : List ℕ) → SpellsEntries e.entries b → IsSolid b = λ b k. joined_solid (SpellsTerms false) (codes ",") e.entries b ((refl, refl), tt) (terms_solid false) k in
+    let close : IsEnding h.first.back = closed_ending (SpellsEntries e.entries) (codes "]") h.first.back (letter_solid 93 refl (refl, refl)) entries h.first.second in
     record {
-      inner = w.front ++ (entries.front ++ last.front);
-      tail = h.back;
-      inside = all_append IsInside w.front (entries.front ++ last.front) (blanks_inside w.front w.first) (all_append IsInside entries.front last.front solid.inside (blanks_inside last.front last.first));
-      behind = h.second;
-      whole = h.whole ∙ ap (λ (t : List ℕ). t ++ h.back) brackets ∙ regrouped w.front entries.front last.front h.back;
+      body = h.first.back ++ h.back;
+      ending = ending_tail h.first.back h.back close (den_tail e.den h.back h.second);
+      whole = h.whole ∙ ap (λ (t : List ℕ). t ++ h.back) (h.first.whole ∙ ap (λ (t : List ℕ). t ++ h.first.back) h.first.first);
     }

@@ -1,20 +1,18 @@
 -- The steps of reading a line: what a part at the front says, and that there is one at most.
-use Rattle.std.proofs.Common.{◌≡◌, ◌≢◌, ℕ, Bool, true, false, eqb, ◌-◌, ◌<◌, ◌≤◌, List, [], ◌∷◌, ◌++◌, length, take, drop, codes, Option, Some, None, Result, Err, get_or, refl, sym, ap, subst, ◌∙◌, append_assoc, arith, inl, inr}
+use Rattle.std.proofs.Common.{◌≡◌, ◌≢◌, ℕ, Bool, true, false, eqb, ◌-◌, ◌<◌, ◌≤◌, List, [], ◌∷◌, ◌++◌, length, take, drop, codes, Result, Err, get_or, refl, sym, ap, subst, ◌∙◌, append_assoc, arith, inl, inr}
 use Rattle.std.specs.Prelude.{IsTrue}
-use Rattle.std.specs.Option.{is_some}
 use Rattle.std.specs.List.{slice_range}
 use Rattle.std.proofs.lemmas.Bool.{both_ways, cases_lt, eqb-true, eqb-false}
 use Rattle.std.proofs.lemmas.List.{append-nil, append_cancel_left, take_at, take-append-drop, length-append, length-take-le, take_rest, nil_from_length}
-use Rattle.ff_text.specs.Spelling.{Then, Is, is_blank, Blanks, SpellsNumber, SpellsTerms, SpellsElement, SpellsTail}
+use Rattle.ff_text.specs.Spelling.{Then, Is, is_blank, Blanks, SpellsNumber, SpellsTerms}
 use Rattle.ff_text.specs.Reading.{IsLongestSpelling, IsNoSpelling, IsReadFault}
 use Rattle.ff_text.specs.declared.fault.TextFault.{TextFault}
 use Rattle.ff_text.specs.declared.fault.TextFault.TheVariants.{Syntax, CodeRange, Memory}
 use Rattle.ff_text.specs.declared.terms.Term.{Term}
-use Rattle.ff_text.specs.declared.terms.ElemText.{ElemText}
-use Rattle.ff_script.specs.Grammar.{begins_with_word, ends_with_word, SpellsPlain, Any, IsSkipped}
-use Rattle.ff_script.specs.Reading.{behind_blanks, IsFront, AreNumbersAt, IsSlashed}
+use Rattle.ff_script.specs.Grammar.{begins_with_word, ends_with_word, Any, IsSkipped}
+use Rattle.ff_script.specs.Reading.{behind_blanks, IsFront, AreNumbersAt, AreTermsAt}
 use Rattle.ff_script.proofs.Spans.{head_same, tail_same, all_back, passed, blanks_passed, blanks_same, gap_no_word, words_longest, words_same}
-use Rattle.ff_script.proofs.Spelled.{AreInside, number_word, number_ends, element_bracketed}
+use Rattle.ff_script.proofs.Spelled.{number_word, number_ends}
 
 -- ---- a part that was read
 
@@ -46,7 +44,7 @@ split_at bytes end =
     let at : end - 0 ≡ end = omega arith in
     sym (ap (λ (n : ℕ). take n bytes ++ drop end bytes) at ∙ take-append-drop end bytes)
 
-range_length : (bytes : List ℕ) (end : ℕ) → end ≤ length bytes → length (slice_range bytes 0 end) ≡ end
+pub range_length : (bytes : List ℕ) (end : ℕ) → end ≤ length bytes → length (slice_range bytes 0 end) ≡ end
 range_length bytes end h =
     let at : end - 0 ≡ end = omega arith in
     ap (λ (n : ℕ). length (take n bytes)) at ∙ length-take-le end bytes h
@@ -80,6 +78,13 @@ word_front_on word bytes more ends e on rest f =
     let behind : more ≡ f.gap ++ rest = append_cancel_left word more (f.gap ++ rest) (sym e ∙ f.whole ∙ ap (λ (t : List ℕ). t ++ (f.gap ++ rest)) f.part) in
     both_ways (begins_with_word more) (ap begins_with_word behind ∙ f.apart (ap ends_with_word f.part ∙ ends)) on
 
+-- one rest stands behind a word
+pub word_rest : (word bytes r s : List ℕ) → IsFront (Is word) bytes r → IsFront (Is word) bytes s → r ≡ s
+word_rest word bytes r s f g =
+    let left : bytes ≡ word ++ (f.gap ++ r) = f.whole ∙ ap (λ (t : List ℕ). t ++ (f.gap ++ r)) f.part in
+    let right : bytes ≡ word ++ (g.gap ++ s) = g.whole ∙ ap (λ (t : List ℕ). t ++ (g.gap ++ s)) g.part in
+    blanks_same f.gap g.gap r s f.blanks g.blanks f.edge g.edge (append_cancel_left word (f.gap ++ r) (g.gap ++ s) (sym left ∙ right))
+
 -- ---- what the code says
 
 -- the bytes behind a place, as a slice up to the end
@@ -100,6 +105,9 @@ not_blank_behind bytes rest end b e tested not none = eqb-false (length rest) 0 
 
 pub nil_tested : (rest : List ℕ) (b : Bool) → b ≡ eqb (length rest) 0 → b ≡ true → rest ≡ []
 nil_tested rest b tested is = nil_from_length rest (eqb-true (length rest) 0 (sym tested ∙ is))
+
+pub nil_tests : (rest : List ℕ) (b : Bool) → b ≡ eqb (length rest) 0 → rest ≡ [] → b ≡ true
+nil_tests rest b tested e = tested ∙ ap (λ (t : List ℕ). eqb (length t) 0) e
 
 pub some_tested : (rest : List ℕ) (b : Bool) → b ≡ eqb (length rest) 0 → b ≡ false → rest ≢ []
 some_tested rest b tested not none = eqb-false (length rest) 0 (sym tested ∙ not) (ap length none)
@@ -211,137 +219,39 @@ read_none bytes numbers rest h some none ns k = let m = h.back ns k in go m.0 m.
 
 -- ---- polynomials
 
--- what the reader left is blank
-pub terms_front : (bytes : List ℕ) (f : List Term) (end : ℕ) → IsLongestSpelling (SpellsTerms true) bytes 0 f end → behind_blanks (drop end bytes) ≡ [] → IsFront (SpellsTerms true f) bytes []
-terms_front bytes f end h e =
-    let p = passed (drop end bytes) in
-    let gap : drop end bytes ≡ p.gap = p.whole ∙ ap (λ (t : List ℕ). p.gap ++ t) e ∙ append-nil p.gap in
-    record {
-      front = slice_range bytes 0 end;
-      gap = p.gap;
-      part = h.spelled;
-      blanks = p.blanks;
-      whole = split_at bytes end ∙ ap (λ (t : List ℕ). slice_range bytes 0 end ++ t) (gap ∙ sym (append-nil p.gap));
-      edge = refl;
-      apart = λ k. gap_no_word p.gap [] p.blanks refl;
-    }
+module _ (with_y : Bool) where
+  -- what the reader left is blank
+  pub terms_front : (bytes : List ℕ) (f : List Term) (end : ℕ) → IsLongestSpelling (SpellsTerms with_y) bytes 0 f end → behind_blanks (drop end bytes) ≡ [] → AreTermsAt with_y f bytes
+  terms_front bytes f end h e =
+      let p = passed (drop end bytes) in
+      let gap : drop end bytes ≡ p.gap = p.whole ∙ ap (λ (t : List ℕ). p.gap ++ t) e ∙ append-nil p.gap in
+      record {
+        front = slice_range bytes 0 end;
+        gap = p.gap;
+        part = h.spelled;
+        blanks = p.blanks;
+        whole = split_at bytes end ∙ ap (λ (t : List ℕ). slice_range bytes 0 end ++ t) (gap ∙ sym (append-nil p.gap));
+        edge = refl;
+        apart = λ k. gap_no_word p.gap [] p.blanks refl;
+      }
 
--- what stands behind a shorter front
-suffix_of : (a x b y : List ℕ) → length b ≤ length a → a ++ x ≡ b ++ y → (c : List ℕ) × (y ≡ c ++ x)
-suffix_of [] x [] y h e = ([], sym e)
-suffix_of [] x (d ∷ b) y h e = absurd (omega arith)
-suffix_of (c ∷ a) x [] y h e = (c ∷ a, sym e)
-suffix_of (c ∷ a) x (d ∷ b) y h e = suffix_of a x b y (omega arith) (tail_same c d (a ++ x) (b ++ y) e)
+-- two fronts, of which the second isn't longer: what it lacks stands behind it
+pub shorter_front : (a x b y : List ℕ) → length b ≤ length a → a ++ x ≡ b ++ y → (c : List ℕ) × (a ≡ b ++ c) × (y ≡ c ++ x)
+shorter_front [] x [] y h e = ([], refl, sym e)
+shorter_front [] x (d ∷ b) y h e = absurd (omega arith)
+shorter_front (c ∷ a) x [] y h e = (c ∷ a, refl, sym e)
+shorter_front (c ∷ a) x (d ∷ b) y h e =
+    let more = shorter_front a x b y (omega arith) (tail_same c d (a ++ x) (b ++ y) e) in
+    let head : c ≡ d = head_same c d (a ++ x) (b ++ y) e in
+    let tail : a ≡ b ++ more.0 = more.1 in
+    (more.0, cc, more.2)
 
--- what the reader left isn't blank
-pub terms_front_on : (bytes : List ℕ) (f : List Term) (end : ℕ) → IsLongestSpelling (SpellsTerms true) bytes 0 f end → behind_blanks (drop end bytes) ≢ [] → (g : List Term) → IsFront (SpellsTerms true g) bytes [] → ⊥
-terms_front_on bytes f end h some g k =
-    let short : length k.front ≤ length (slice_range bytes 0 end) = omega (arith, front_short (SpellsTerms true) bytes f end h g [] k, range_length bytes end h.within) in
-    let c = suffix_of (slice_range bytes 0 end) (drop end bytes) k.front (k.gap ++ []) short (sym (split_at bytes end) ∙ k.whole) in
-    let is : Blanks (c.0 ++ drop end bytes) = subst Blanks (sym (append-nil k.gap) ∙ c.1) k.blanks in
-    let left : Blanks (drop end bytes) = all_back (λ b. IsTrue (is_blank b)) c.0 (drop end bytes) is in
-    some (ap behind_blanks (sym (append-nil (drop end bytes))) ∙ blanks_passed (drop end bytes) [] left refl)
-
--- ---- elements
-
--- the first closing bracket
-bracket_same : (a b x y : List ℕ) → AreInside a → AreInside b → a ++ (93 ∷ x) ≡ b ++ (93 ∷ y) → (a ≡ b) × (x ≡ y)
-bracket_same [] [] x y h k e = (refl, tail_same 93 93 x y e)
-bracket_same [] (d ∷ b) x y h k e = absurd (both_ways (eqb d 93) k.0.0 (ap (λ n. eqb n 93) (sym (head_same 93 d x (b ++ (93 ∷ y)) e))))
-bracket_same (c ∷ a) [] x y h k e = absurd (both_ways (eqb c 93) h.0.0 (ap (λ n. eqb n 93) (head_same c 93 (a ++ (93 ∷ x)) y e)))
-bracket_same (c ∷ a) (d ∷ b) x y h k e =
-    let more = bracket_same a b x y h.1 k.1 (tail_same c d (a ++ (93 ∷ x)) (b ++ (93 ∷ y)) e) in
-    let head : c ≡ d = head_same c d (a ++ (93 ∷ x)) (b ++ (93 ∷ y)) e in
-    let tail : a ≡ b = more.0 in
-    (cc, more.1)
-
--- a text in brackets, and any text behind it
-pub record IsClosed (bytes behind : List ℕ) : Type 0 where
-  pub inner : List ℕ
-  pub inside : AreInside inner
-  pub whole : bytes ≡ 91 ∷ (inner ++ (93 ∷ behind))
-
-pub closed_same : (bytes x y : List ℕ) → IsClosed bytes x → IsClosed bytes y → x ≡ y
-closed_same bytes x y h k = (bracket_same h.inner k.inner x y h.inside k.inside (tail_same 91 91 (h.inner ++ (93 ∷ x)) (k.inner ++ (93 ∷ y)) (sym h.whole ∙ k.whole))).1
-
-plain_tail : (den : Option (List Term)) (tail : List ℕ) → den ≡ None → SpellsTail den tail → tail ≡ []
-plain_tail None tail e h = h
-plain_tail (Some d) tail e h = absurd cc
-
--- an element without a denominator is a text in brackets, and nothing behind it
-pub plain_closed : (e : ElemText) (front : List ℕ) → SpellsPlain e front → IsClosed front []
-plain_closed e front h =
-    let b = element_bracketed e front h.element in
-    record { inner = b.inner; inside = b.inside; whole = b.whole ∙ ap (λ (t : List ℕ). 91 ∷ (b.inner ++ (93 ∷ t))) (plain_tail e.den b.tail h.plain b.behind) }
-
-closed_more : (front tail more bytes : List ℕ) → IsClosed front tail → bytes ≡ front ++ more → IsClosed bytes (tail ++ more)
-closed_more front tail more bytes h e = record {
-  inner = h.inner;
-  inside = h.inside;
-  whole = e ∙ ap (λ (t : List ℕ). t ++ more) h.whole ∙ ap (λ (t : List ℕ). 91 ∷ t) (append_assoc h.inner (93 ∷ tail) more);
-}
-
-pub plain_same : (bytes : List ℕ) (d e : ElemText) (r s : List ℕ) → IsFront (SpellsPlain d) bytes r → IsFront (SpellsPlain e) bytes s → r ≡ s
-plain_same bytes d e r s f g =
-    let left = closed_more f.front [] (f.gap ++ r) bytes (plain_closed d f.front f.part) f.whole in
-    let right = closed_more g.front [] (g.gap ++ s) bytes (plain_closed e g.front g.part) g.whole in
-    blanks_same f.gap g.gap r s f.blanks g.blanks f.edge g.edge (closed_same bytes (f.gap ++ r) (g.gap ++ s) left right)
-
--- two elements at the front are one text
-pub front_closed : (bytes : List ℕ) (d e : ElemText) (r s : List ℕ) (f : IsFront (SpellsPlain d) bytes r) (g : IsFront (SpellsPlain e) bytes s) → (f.front ≡ g.front) × (r ≡ s)
-unfolding closed_more
-front_closed bytes d e r s f g =
-    let a = plain_closed d f.front f.part in
-    let b = plain_closed e g.front g.part in
-    let left = closed_more f.front [] (f.gap ++ r) bytes a f.whole in
-    let right = closed_more g.front [] (g.gap ++ s) bytes b g.whole in
-    let inner : a.inner ≡ b.inner = (bracket_same a.inner b.inner (f.gap ++ r) (g.gap ++ s) a.inside b.inside (tail_same 91 91 (a.inner ++ (93 ∷ (f.gap ++ r))) (b.inner ++ (93 ∷ (g.gap ++ s))) (sym left.whole ∙ right.whole))).0 in
-    (a.whole ∙ ap (λ (t : List ℕ). 91 ∷ (t ++ (93 ∷ []))) inner ∙ sym b.whole, plain_same bytes d e r s f g)
-
--- a text that ends with a closing bracket ends with no word
-closing_ends : (a : List ℕ) → ends_with_word (a ++ (93 ∷ [])) ≡ false
-closing_ends [] = refl
-closing_ends (c ∷ []) = refl
-closing_ends (c ∷ d ∷ a) = closing_ends (d ∷ a)
-
-pub plain_ends : (e : ElemText) (front : List ℕ) → SpellsPlain e front → ends_with_word front ≡ false
-plain_ends e front h = let b = plain_closed e front h in ap ends_with_word b.whole ∙ closing_ends (91 ∷ b.inner)
-
-pub plain_front : (bytes : List ℕ) (e : ElemText) (end : ℕ) → IsLongestSpelling SpellsElement bytes 0 e end → e.den ≡ None → IsFront (SpellsPlain e) bytes (behind_blanks (drop end bytes))
-plain_front bytes e end h plain =
-    let part : SpellsPlain e (slice_range bytes 0 end) = record { plain = plain; element = h.spelled } in
-    front_here (SpellsPlain e) bytes (slice_range bytes 0 end) (drop end bytes) part (split_at bytes end) (λ k. absurd (both_ways (ends_with_word (slice_range bytes 0 end)) (plain_ends e (slice_range bytes 0 end) part) k))
-
-pub plain_none : (bytes : List ℕ) → IsNoSpelling SpellsElement bytes 0 → (e : ElemText) (rest : List ℕ) → IsFront (SpellsPlain e) bytes rest → ⊥
-plain_none bytes none e rest f = none e (length f.front) (omega arith) (front_fits bytes f.front (f.gap ++ rest) f.whole) (subst (SpellsElement e) (sym (range_front bytes f.front (f.gap ++ rest) f.whole)) f.part.element)
-
--- blanks and a slash behind an element with a denominator
-slash_behind : (den : Option (List Term)) (tail : List ℕ) → den ≢ None → SpellsTail den tail → (gap more : List ℕ) × Blanks gap × (tail ≡ gap ++ (47 ∷ more))
-slash_behind None tail some h = absurd (some refl)
-slash_behind (Some d) tail some h =
-    let mark : h.first.back ≡ 47 ∷ h.first.second.back = h.first.second.whole ∙ ap (λ (t : List ℕ). t ++ h.first.second.back) h.first.second.first in (
-      h.first.front,
-      h.first.second.back ++ h.back,
-      h.first.first,
-      h.whole ∙ ap (λ (t : List ℕ). t ++ h.back) (h.first.whole ∙ ap (λ (t : List ℕ). h.first.front ++ t) mark) ∙ append_assoc h.first.front (47 ∷ h.first.second.back) h.back,
-    )
-
-pub some_den : (den : Option (List Term)) (b : Bool) → b ≡ is_some den → b ≡ true → den ≢ None
-some_den None b tested is e = both_ways b tested is
-some_den (Some d) b tested is e = cc
-
-pub no_den : (den : Option (List Term)) (b : Bool) → b ≡ is_some den → b ≡ false → den ≡ None
-no_den None b tested not = refl
-no_den (Some d) b tested not = absurd (both_ways b not tested)
-
-pub plain_slashed : (bytes : List ℕ) (d : ElemText) (end : ℕ) → IsLongestSpelling SpellsElement bytes 0 d end → d.den ≢ None → (e : ElemText) (rest : List ℕ) → IsFront (SpellsPlain e) bytes rest → IsSlashed rest
-plain_slashed bytes d end h some e rest f =
-    let b = element_bracketed d (slice_range bytes 0 end) h.spelled in
-    let slash = slash_behind d.den b.tail some b.behind in
-    let here : IsClosed (slice_range bytes 0 end) b.tail = record { inner = b.inner; inside = b.inside; whole = b.whole } in
-    let left = closed_more (slice_range bytes 0 end) b.tail (drop end bytes) bytes here (split_at bytes end) in
-    let right = closed_more f.front [] (f.gap ++ rest) bytes (plain_closed e f.front f.part) f.whole in
-    let same : b.tail ++ drop end bytes ≡ f.gap ++ rest = closed_same bytes (b.tail ++ drop end bytes) (f.gap ++ rest) left right in
-    let more : List ℕ = slash.1 ++ drop end bytes in
-    let regrouped : b.tail ++ drop end bytes ≡ slash.0 ++ (47 ∷ more) = ap (λ (t : List ℕ). t ++ drop end bytes) slash.3 ∙ append_assoc slash.0 (47 ∷ slash.1) (drop end bytes) in
-    (more, blanks_same f.gap slash.0 rest (47 ∷ more) f.blanks slash.2 f.edge refl (sym same ∙ regrouped))
+module _ (with_y : Bool) where
+  -- what the reader left isn't blank
+  pub terms_front_on : (bytes : List ℕ) (f : List Term) (end : ℕ) → IsLongestSpelling (SpellsTerms with_y) bytes 0 f end → behind_blanks (drop end bytes) ≢ [] → (g : List Term) → AreTermsAt with_y g bytes → ⊥
+  terms_front_on bytes f end h some g k =
+      let short : length k.front ≤ length (slice_range bytes 0 end) = omega (arith, front_short (SpellsTerms with_y) bytes f end h g [] k, range_length bytes end h.within) in
+      let c = shorter_front (slice_range bytes 0 end) (drop end bytes) k.front (k.gap ++ []) short (sym (split_at bytes end) ∙ k.whole) in
+      let is : Blanks (c.0 ++ drop end bytes) = subst Blanks (sym (append-nil k.gap) ∙ c.2) k.blanks in
+      let left : Blanks (drop end bytes) = all_back (λ b. IsTrue (is_blank b)) c.0 (drop end bytes) is in
+      some (ap behind_blanks (sym (append-nil (drop end bytes))) ∙ blanks_passed (drop end bytes) [] left refl)

@@ -1,5 +1,5 @@
 -- The laws of spelled texts, as the lemmas here take them.
-use Rattle.std.proofs.Common.{ℕ, ◌<◌, true, arith}
+use Rattle.std.proofs.Common.{ℕ, Bool, ◌<◌, arith}
 use Rattle.std.specs.Prelude.{decimal}
 use Rattle.std.proofs.lemmas.Fmt.{decimal_is_IsNumeral, length-decimal-le}
 use Rattle.ff_text.specs.Spelling.{SpellsNumber, SpellsTerms}
@@ -10,8 +10,8 @@ use Rattle.ff_script.proofs.OneLine.{OneValue, same_statement}
 use Rattle.ff_script.proofs.OneScript.{IsOneLine}
 use Rattle.ff_script.proofs.Printed.{AreSpelled}
 
-one_terms : OneValue (SpellsTerms true)
-one_terms v w bytes h k = one_polynomial true v w bytes h k
+one_terms : (with_y : Bool) → OneValue (SpellsTerms with_y)
+one_terms with_y v w bytes h k = one_polynomial with_y v w bytes h k
 
 -- a line spells one statement at most
 pub one_line : IsOneLine
@@ -23,4 +23,4 @@ number_written n small =
     record { numeral = d.0; few = length-decimal-le 9 n (omega arith) (omega arith) (omega arith); value = d.1 }
 
 pub are_spelled : AreSpelled
-are_spelled = record { number = number_written; terms = terms_written true; element = element_written }
+are_spelled = record { number = number_written; terms = terms_written; element = element_written }

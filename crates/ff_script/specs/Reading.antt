@@ -1,12 +1,15 @@
 -- What the functions that read a line answer.
-use Rattle.std.specs.Prelude.{◌≡◌, ℕ, Bool, true, false, List, [], ◌∷◌, ◌++◌, codes, Option, Some, None, All, if◌then◌else◌}
-use Rattle.ff_text.specs.Spelling.{is_blank, Blanks, SpellsNumber, SpellsTerms}
+use Rattle.std.specs.Prelude.{◌≡◌, ℕ, Bool, true, false, List, [], ◌∷◌, ◌++◌, codes, Option, Some, None, All, IsTrue, ◌==◌, if◌then◌else◌}
+use Rattle.ff_text.specs.Spelling.{is_blank, Blanks, SpellsNumber, SpellsTerms, SpellsElement}
+use Rattle.ff_text.specs.declared.terms.Term.{Term}
+use Rattle.ff_text.specs.declared.terms.ElemText.{ElemText}
+use Rattle.ff_algebra.specs.declared.elem.Side.{Side}
 use Rattle.ff_script.specs.declared.fault.ScriptFault.{ScriptFault}
 use Rattle.ff_script.specs.declared.fault.ScriptFault.TheVariants.{Syntax, Misplaced, Memory}
 use Rattle.ff_script.specs.declared.script.Modulus.{Modulus}
 use Rattle.ff_script.specs.declared.script.Statement.{Statement}
-use Rattle.ff_script.specs.declared.script.Statement.TheVariants.{FieldOf, CurveOf, Mul}
-use Rattle.ff_script.specs.Grammar.{begins_with_word, ends_with_word, numbers_of, IsWhole, SpellsPlain, IsInGrammar}
+use Rattle.ff_script.specs.declared.script.Statement.TheVariants.{FieldOf, CurveOf, Mul, Factor, OrderOf}
+use Rattle.ff_script.specs.Grammar.{begins_with_word, ends_with_word, numbers_of, IsWhole, SpellsSide, IsInGrammar}
 use Rattle.ff_script.specs.Scripts.{IsReadAs, IsInOrder, IsOutOfOrder}
 
 -- the value that the bytes spell, or none where they spell nothing
@@ -42,15 +45,31 @@ AreNumbersAt (n ∷ ns) bytes = (rest : List ℕ) × IsFront (SpellsNumber n) by
 abbrev pub IsModulusAt : Modulus → List ℕ → Type 0
 IsModulusAt modulus bytes = IsWhole (Some modulus) × AreNumbersAt (numbers_of (Some modulus)) bytes
 
+-- a polynomial up to the end of the bytes, in which y may stand or not
+abbrev pub AreTermsAt : Bool → List Term → List ℕ → Type 0
+AreTermsAt with_y f bytes = IsFront (SpellsTerms with_y f) bytes []
+
+-- a side up to the end of the bytes
+abbrev pub IsSideAt : Side → List ℕ → Type 0
+IsSideAt side bytes = IsFront (SpellsSide side) bytes []
+
+-- nothing, or an opening bracket first: what may stand behind an element and its blanks
+abbrev pub is_behind_element : List ℕ → Bool
+is_behind_element [] = true
+is_behind_element (b ∷ bs) = b == 91
+
+-- an element at the front of the bytes, with the end or a further element behind its blanks
+pub record IsElementFront (e : ElemText) (bytes rest : List ℕ) : Type 0 where
+  pub front : IsFront (SpellsElement e) bytes rest
+  pub behind : IsTrue (is_behind_element rest)
+
 -- what stands behind the word of a statement
 abbrev pub IsBehind : List ℕ → Statement → List ℕ → Type 0
 IsBehind word (FieldOf p tail) bytes = (word ≡ codes "field") × IsWhole tail × AreNumbersAt (p ∷ numbers_of tail) bytes
-IsBehind word (CurveOf f) bytes = (word ≡ codes "curve") × IsFront (SpellsTerms true f) bytes []
-IsBehind word (Mul a b) bytes = (word ≡ codes "mul") × ((rest : List ℕ) × IsFront (SpellsPlain a) bytes rest × IsFront (SpellsPlain b) rest [])
-
--- the bytes begin with a slash
-abbrev pub IsSlashed : List ℕ → Type 0
-IsSlashed bytes = (more : List ℕ) × (bytes ≡ codes "/" ++ more)
+IsBehind word (CurveOf f) bytes = (word ≡ codes "curve") × AreTermsAt true f bytes
+IsBehind word (Mul a b) bytes = (word ≡ codes "mul") × ((rest : List ℕ) × IsFront (SpellsElement a) bytes rest × IsFront (SpellsElement b) rest [])
+IsBehind word (Factor g) bytes = (word ≡ codes "factor") × AreTermsAt false g bytes
+IsBehind word (OrderOf side) bytes = (word ≡ codes "order") × IsSideAt side bytes
 
 -- ---- while a script is read
 

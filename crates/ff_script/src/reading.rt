@@ -1,13 +1,17 @@
 //! Reads the statement of a line.
 
-ghost use Rattle.std.specs.Prelude.{◌≡◌, ◌↔◌, List, ℕ, IsTrue, IfOk, MatchOption, codes};
-ghost use Rattle.ff_text.specs.Spelling.{Is, is_blank, SpellsNumber};
+ghost use Rattle.std.specs.Prelude.{◌≡◌, ◌↔◌, List, [], ℕ, IsTrue, IfOk, IfErr, MatchOption, codes};
+ghost use Rattle.ff_text.specs.Spelling.{Is, is_blank, SpellsNumber, SpellsTerms};
+ghost use Rattle.ff_text.specs.Reading.{IsLongestSpelling, IsReadFault};
 ghost use Rattle.ff_text.specs.declared.terms.ElemText.{ElemText};
-ghost use Rattle.ff_script.specs.Grammar.{begins_with_word, ends_with_word, SpellsPlain, SpellsLine, IsSkipped};
-ghost use Rattle.ff_script.specs.Reading.{IsReading, behind_blanks, IsFront, AreNumbersAt, IsModulusAt, IsBehind, IsSlashed};
+ghost use Rattle.ff_script.specs.Grammar.{begins_with_word, ends_with_word, SpellsLine, IsSkipped};
+ghost use Rattle.ff_script.specs.Reading.{IsReading, behind_blanks, IsFront, AreNumbersAt, IsModulusAt, AreTermsAt, IsSideAt, is_behind_element, IsElementFront, IsBehind};
 
 use crate::script::{CodeList, Modulus, Statement};
-use ff_text::{ElemText, TextFault, read_element, read_number, read_terms};
+use ff_algebra::elem::Side;
+use ff_text::{
+    ElemText, TermList, TextFault, read_element, read_number, read_terms, read_terms_in_x,
+};
 use std::alloc::{AllocError, Global};
 
 /// A space, a tab or a carriage return.
@@ -128,28 +132,70 @@ fn field(alloc: Global, bytes: &[u8]) -> Result<Option<Statement>, AllocError>
     }
 }
 
-/// The statement `curve`, of what stands behind its word.
-fn curve(alloc: Global, bytes: &[u8]) -> Result<Option<Statement>, AllocError>
-    ensures { IfOk result (IsReading (IsBehind (codes "curve")) bytes.now) }
+/// The longest polynomial that the bytes begin with, and the column behind it. `y` says whether y may stand in it.
+fn longest_terms(alloc: Global, y: bool, bytes: &[u8]) -> Result<(TermList, usize), TextFault>
+    ensures found { IfOk result (λ r. IsLongestSpelling (SpellsTerms y) bytes.now 0 r.0 r.1) }
+    ensures fault { IfErr result (IsReadFault (SpellsTerms y) bytes.now 0) }
 {
-    let (f, end) = match read_terms(alloc, bytes, 0) {
+    if y {
+        read_terms(alloc, bytes, 0)
+    } else {
+        read_terms_in_x(alloc, bytes, 0)
+    }
+}
+
+/// The polynomial that the bytes are. `y` says whether y may stand in it.
+fn polynomial(alloc: Global, y: bool, bytes: &[u8]) -> Result<Option<TermList>, AllocError>
+    ensures { IfOk result (IsReading (AreTermsAt y) bytes.now) }
+{
+    let (f, end) = match longest_terms(alloc, y, bytes) {
         Ok(read) => read,
         Err(TextFault::Memory) => return Err(AllocError),
         Err(TextFault::Syntax(_)) => return Ok(None),
         Err(TextFault::CodeRange(_)) => unreachable!(),
     };
     if behind_blanks(&bytes[end..]).is_empty() {
-        return Ok(Some(Statement::CurveOf { f }));
+        return Ok(Some(f));
     }
     Ok(None)
 }
 
-/// The element without a denominator that the bytes begin with, and what stands behind the blanks after it. Where one is
-/// followed by a slash, it may be none.
+/// The statement `curve`, of what stands behind its word.
+fn curve(alloc: Global, bytes: &[u8]) -> Result<Option<Statement>, AllocError>
+    ensures { IfOk result (IsReading (IsBehind (codes "curve")) bytes.now) }
+{
+    match polynomial(alloc, true, bytes)? {
+        Some(f) => Ok(Some(Statement::CurveOf { f })),
+        None => Ok(None),
+    }
+}
+
+/// The statement `factor`, of what stands behind its word.
+fn factor(alloc: Global, bytes: &[u8]) -> Result<Option<Statement>, AllocError>
+    ensures { IfOk result (IsReading (IsBehind (codes "factor")) bytes.now) }
+{
+    match polynomial(alloc, false, bytes)? {
+        Some(g) => Ok(Some(Statement::Factor { g })),
+        None => Ok(None),
+    }
+}
+
+/// Nothing is left, or a further element begins.
+fn is_behind_element(rest: &[u8]) -> bool
+    ensures { result ≡ is_behind_element rest.now }
+{
+    match rest {
+        [first, ..] => *first == b'[',
+        [] => true,
+    }
+}
+
+/// The element that the bytes begin with, if nothing or a further element stands behind the blanks after it; and what
+/// stands there.
 fn next_element(alloc: Global, bytes: &[u8]) -> Result<Option<(ElemText, &[u8])>, AllocError>
     ensures { IfOk result (λ o. MatchOption o
-        ((e : ElemText) (rest : List ℕ) → IsFront (SpellsPlain e) bytes.now rest → IsSlashed rest)
-        (λ x. IsFront (SpellsPlain x.0) bytes.now x.1.now)) }
+        ((e : ElemText) (rest : List ℕ) → ¬ IsElementFront e bytes.now rest)
+        (λ x. IsElementFront x.0 bytes.now x.1.now)) }
 {
     let (e, end) = match read_element(alloc, bytes, 0) {
         Ok(read) => read,
@@ -157,10 +203,11 @@ fn next_element(alloc: Global, bytes: &[u8]) -> Result<Option<(ElemText, &[u8])>
         Err(TextFault::Syntax(_)) => return Ok(None),
         Err(TextFault::CodeRange(_)) => unreachable!(),
     };
-    if e.den.is_some() {
-        return Ok(None);
+    let rest = behind_blanks(&bytes[end..]);
+    if is_behind_element(rest) {
+        return Ok(Some((e, rest)));
     }
-    Ok(Some((e, behind_blanks(&bytes[end..]))))
+    Ok(None)
 }
 
 /// The statement `mul`, of what stands behind its word.
@@ -179,9 +226,40 @@ fn mul(alloc: Global, bytes: &[u8]) -> Result<Option<Statement>, AllocError>
     Ok(None)
 }
 
+/// The bytes are the word, with blanks behind it.
+fn is_word(bytes: &[u8], word: &[u8]) -> bool
+    requires { IsTrue (ends_with_word word.now) }
+    ensures { IsTrue result ↔ IsFront (Is word.now) bytes.now [] }
+{
+    match behind_word(bytes, word) {
+        Some(rest) => rest.is_empty(),
+        None => false,
+    }
+}
+
+/// The side whose word the bytes are.
+fn side_at(bytes: &[u8]) -> Option<Side>
+    ensures { IsReading IsSideAt bytes.now result }
+{
+    if is_word(bytes, b"finite") {
+        return Some(Side::Finite);
+    }
+    None
+}
+
+/// The statement `order`, of what stands behind its word.
+fn order(bytes: &[u8]) -> Option<Statement>
+    ensures { IsReading (IsBehind (codes "order")) bytes.now result }
+{
+    match side_at(bytes) {
+        Some(side) => Some(Statement::OrderOf { side }),
+        None => None,
+    }
+}
+
 /// The statement that a line spells, given without its line feed. Linear in the bytes.
 ///
-/// A line that a script skips spells none, and neither does a `mul` with a denominator.
+/// A line that a script skips spells none.
 pub fn read_statement(alloc: Global, line: &[u8]) -> Result<Option<Statement>, AllocError>
     // The statement that the line spells, or none where it spells none.
     ensures { IfOk result (IsReading SpellsLine line.now) }
@@ -193,8 +271,14 @@ pub fn read_statement(alloc: Global, line: &[u8]) -> Result<Option<Statement>, A
     if let Some(rest) = behind_word(bytes, b"curve") {
         return curve(alloc, rest);
     }
-    match behind_word(bytes, b"mul") {
-        Some(rest) => mul(alloc, rest),
+    if let Some(rest) = behind_word(bytes, b"mul") {
+        return mul(alloc, rest);
+    }
+    if let Some(rest) = behind_word(bytes, b"factor") {
+        return factor(alloc, rest);
+    }
+    match behind_word(bytes, b"order") {
+        Some(rest) => Ok(order(rest)),
         None => Ok(None),
     }
 }

@@ -2,6 +2,7 @@
 
 ghost use Rattle.std.specs.Prelude.{◌≡◌, IfOk};
 
+use ff_algebra::elem::Side;
 use ff_text::{ElemText, TermList};
 use std::alloc::{AllocError, Global};
 use std::marker::Model;
@@ -36,6 +37,10 @@ pub enum Statement {
     CurveOf { f: TermList },
     /// `mul a b`
     Mul { a: ElemText, b: ElemText },
+    /// `factor g`
+    Factor { g: TermList },
+    /// `order finite`
+    OrderOf { side: Side },
 }
 
 impl CodeList {
@@ -87,6 +92,11 @@ impl Statement {
                 let b = b.copy(alloc)?;
                 Ok(Statement::Mul { a, b })
             }
+            Statement::Factor { g } => {
+                let g = g.copy(alloc)?;
+                Ok(Statement::Factor { g })
+            }
+            Statement::OrderOf { side } => Ok(Statement::OrderOf { side: *side }),
         }
     }
 }

@@ -93,8 +93,43 @@ fn curves(rt: HostRuntime) -> Result<(), Fail> {
 }
 
 #[test]
+fn factors(rt: HostRuntime) -> Result<(), Fail> {
+    let rows: [(&[u8], &[u8]); 24] = [
+        (b"factor 3*x^6 + 4", b"factor 3*x^6 + 4"),
+        (b"factor -x", b"factor -x"),
+        (b"factor-x", b"factor -x"),
+        (b" factor\t- x\r", b"factor -x"),
+        (b"factor x ^ 2+1 * 02 - 3", b"factor x^2 + 1*2 - 3"),
+        (b"factor 0", b"factor 0"),
+        (b"factor x^0", b"factor x^0"),
+        (b"factor y", b""),
+        (b"factor x + y^2", b""),
+        (b"factor x*y", b""),
+        (b"factor", b""),
+        (b"factor ", b""),
+        (b"factorx", b""),
+        (b"factor2", b""),
+        (b"fact x", b""),
+        (b"Factor x", b""),
+        (b"factor x x", b""),
+        (b"factor x +", b""),
+        (b"factor + x", b""),
+        (b"factor x^-1", b""),
+        (b"factor (x)", b""),
+        (b"factor [x]", b""),
+        (b"factor x/2", b""),
+        (b"factor x # a factor", b""),
+    ];
+    for (line, text) in rows {
+        let found = printed(rt.alloc(), line)?;
+        assert_eq!(rt; found.as_slice(), text);
+    }
+    Ok(())
+}
+
+#[test]
 fn products(rt: HostRuntime) -> Result<(), Fail> {
-    let rows: [(&[u8], &[u8]); 30] = [
+    let rows: [(&[u8], &[u8]); 24] = [
         (b"mul [0] [0]", b"mul [0] [0]"),
         (b"mul[0][0]", b"mul [0] [0]"),
         (b"\tmul [ 0 , 1 ]\r[x]  ", b"mul [0, 1] [x]"),
@@ -111,20 +146,86 @@ fn products(rt: HostRuntime) -> Result<(), Fail> {
         (b"mul (0) (0)", b""),
         (b"mul [x*y] [0]", b""),
         (b"mul [0] [y]", b""),
-        (b"mul [0]/x [0]", b""),
-        (b"mul [0] / (x + 1) [0]", b""),
-        (b"mul [0] [0]/x", b""),
-        (b"mul [0]/ [0]", b""),
         (b"mul [0]x[0]", b""),
         (b"mulx [0] [0]", b""),
         (b"", b""),
         (b" \t\r", b""),
         (b"# 7", b""),
         (b"genus", b""),
-        (b"factor x", b""),
-        (b"order finite", b""),
         (b"place A = inf 1", b""),
         (b"\xffmul [0] [0]", b""),
+    ];
+    for (line, text) in rows {
+        let found = printed(rt.alloc(), line)?;
+        assert_eq!(rt; found.as_slice(), text);
+    }
+    Ok(())
+}
+
+#[test]
+fn denominators(rt: HostRuntime) -> Result<(), Fail> {
+    let rows: [(&[u8], &[u8]); 30] = [
+        (
+            b"mul [x, 0]/(x + 1) [x + 1, 0]/x",
+            b"mul [x, 0]/(x + 1) [x + 1, 0]/x",
+        ),
+        (b"mul [1, 0]/x [0, 1]", b"mul [1, 0]/x [0, 1]"),
+        (b"mul [1, 0] [0, 1]/x", b"mul [1, 0] [0, 1]/x"),
+        (b"mul [0] /\t( x+1\r) [0]", b"mul [0]/(x + 1) [0]"),
+        (b"mul[0]/x ^ 2[1]/ 03 * x", b"mul [0]/x^2 [1]/3*x"),
+        (b"mul [0]/(x) [0]/(2*x^1)", b"mul [0]/x [0]/2*x"),
+        (b"mul [0]/(-x) [0]/( - 1)", b"mul [0]/(-x) [0]/(-1)"),
+        (
+            b"mul [0]/(x - 1) [0]/(1 + 1)",
+            b"mul [0]/(x - 1) [0]/(1 + 1)",
+        ),
+        (b"mul [0]/0 [0]", b"mul [0]/0 [0]"),
+        (b"mul [0]/ [0]", b""),
+        (b"mul [0] [0]/", b""),
+        (b"mul [0]/-x [0]", b""),
+        (b"mul [0]/x + 1 [0]", b""),
+        (b"mul [0]/y [0]", b""),
+        (b"mul [0] [0]/(x + y)", b""),
+        (b"mul [0]/() [0]", b""),
+        (b"mul [0]/(x [0]", b""),
+        (b"mul [0]/x) [0]", b""),
+        (b"mul [0]/((x)) [0]", b""),
+        (b"mul [0]/x/x [0]", b""),
+        (b"mul [0]//x [0]", b""),
+        (b"mul [0]/x3 [0]", b""),
+        (b"mul [0]/x 3 [0]", b""),
+        (b"mul [0] [0]/x3", b""),
+        (b"mul [0] [0]/x 3", b""),
+        (b"mul [0] [0]/x [0]", b""),
+        (b"mul [0]/[x] [0]", b""),
+        (b"mul /x [0] [0]", b""),
+        (b"mul x/[0] [0]", b""),
+        (b"mul [0]/x^1000000000 [0]", b""),
+    ];
+    for (line, text) in rows {
+        let found = printed(rt.alloc(), line)?;
+        assert_eq!(rt; found.as_slice(), text);
+    }
+    Ok(())
+}
+
+#[test]
+fn orders(rt: HostRuntime) -> Result<(), Fail> {
+    let rows: [(&[u8], &[u8]); 14] = [
+        (b"order finite", b"order finite"),
+        (b"\torder \r finite ", b"order finite"),
+        (b"order", b""),
+        (b"order ", b""),
+        (b"orderfinite", b""),
+        (b"order finite1", b""),
+        (b"order finite_", b""),
+        (b"order finite 1", b""),
+        (b"order finite finite", b""),
+        (b"order Finite", b""),
+        (b"order infinite", b""),
+        (b"order inf", b""),
+        (b"order x", b""),
+        (b"finite", b""),
     ];
     for (line, text) in rows {
         let found = printed(rt.alloc(), line)?;
@@ -144,7 +245,7 @@ fn outcome(alloc: Global, bytes: &[u8]) -> Result<usize, ScriptFault> {
 
 #[test]
 fn scripts(rt: HostRuntime) {
-    let rows: [(&[u8], Result<usize, ScriptFault>); 24] = [
+    let rows: [(&[u8], Result<usize, ScriptFault>); 29] = [
         (b"", Ok(0)),
         (b"\n\n", Ok(0)),
         (b"# 7", Ok(0)),
@@ -154,6 +255,8 @@ fn scripts(rt: HostRuntime) {
         (b" #\xff\n\r\n\tfield 7\r\n", Ok(1)),
         (b"field 7\ncurve y^2 + 6*x^3 + 6", Ok(2)),
         (b"field 7\ncurve y\nmul [0] [1]\nmul [x] [2]\n", Ok(4)),
+        (b"field 7\ncurve y\nfactor x\nmul [0]/x [1]\n", Ok(4)),
+        (b"field 7\ncurve y\norder finite", Ok(3)),
         (b"genus", Err(ScriptFault::Syntax(1))),
         (b"field 7\n\ngenus\n", Err(ScriptFault::Syntax(3))),
         (b"field\n7", Err(ScriptFault::Syntax(1))),
@@ -162,6 +265,9 @@ fn scripts(rt: HostRuntime) {
         (b"mul [0] [0]\ncurve", Err(ScriptFault::Syntax(2))),
         (b"mul [0] [0]", Err(ScriptFault::Misplaced(1))),
         (b"field 7\nmul [0] [0]", Err(ScriptFault::Misplaced(2))),
+        (b"factor x", Err(ScriptFault::Misplaced(1))),
+        (b"field 7\norder finite\n", Err(ScriptFault::Misplaced(2))),
+        (b"field 7\nfactor x\n", Err(ScriptFault::Misplaced(2))),
         (b"field 7\n#\nfield 7\n", Err(ScriptFault::Misplaced(3))),
         (b"curve y\nfield 7\n", Err(ScriptFault::Misplaced(1))),
         (b"mul [0] [0]\nmul [0] [0]", Err(ScriptFault::Misplaced(1))),
