@@ -14,3 +14,4 @@ pub mod InfiniteLists
 pub mod EachEquation
 pub mod InfiniteLaws
 pub mod ValueRules
+pub mod PrimeValues

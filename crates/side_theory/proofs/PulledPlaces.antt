@@ -110,11 +110,11 @@ module _ (k : CodeField) (p q : PresValue) (c : ℕ) (f : Functions k q → Func
     pub rows : List (Functions k q)
     rows = below_lattice.generators
 
-    to_rows : (z : Functions k q) → Below z → IsIn (setting k q) (finite (equation_of k q) rows) z
+    pub to_rows : (z : Functions k q) → Below z → IsIn (setting k q) (finite (equation_of k q) rows) z
     unfolding rows
     to_rows z m = (below_lattice.spanned z).0 m
 
-    of_rows : (z : Functions k q) → IsIn (setting k q) (finite (equation_of k q) rows) z → Below z
+    pub of_rows : (z : Functions k q) → IsIn (setting k q) (finite (equation_of k q) rows) z → Below z
     unfolding rows
     of_rows z m = (below_lattice.spanned z).1 m
 

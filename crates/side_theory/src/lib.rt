@@ -22,9 +22,10 @@ ghost use Rattle.ff_algebra.specs.Infinity.{IsInfinitePresentation};
 ghost use Rattle.ff_algebra.specs.Discriminant.{discriminant};
 ghost use Rattle.local_theory.specs.Ideals.{Multiple, SameSet};
 ghost use Rattle.local_theory.specs.Orders.{MaximalAt, Radical};
-ghost use Rattle.local_theory.specs.Primes.{IsPrime};
+ghost use Rattle.local_theory.specs.Primes.{IsPrime, Pair};
+ghost use Rattle.local_theory.specs.IntegerValues.{ValueIs};
 ghost use Rattle.trace_theory.specs.Traces.{HasPolynomialCoordinates};
-ghost use Rattle.lattice_theory.specs.Lattices.{IsLattice, space_ops};
+ghost use Rattle.lattice_theory.specs.Lattices.{IsLattice, HasIndex, space_ops};
 ghost use Rattle.order_theory.specs.Orders.{IsOrder, IsPrimeTo, TakenByPowers};
 ghost use Rattle.side_theory.specs.Tame.{IsTame, HasPowerDenominator, IsLocallyIn};
 ghost use Rattle.side_theory.specs.InfiniteMaps.{IsInfiniteMap, IsCombinationAtInfinity, place_at_infinity};
@@ -199,9 +200,9 @@ pub fn place_map_law()
 {}
 
 /// Of an order over k[t] that is maximal at t, each prime over t gives an infinite place: the images of functions that span the prime over k[t] span the place,
-/// and the order has the same members of both.
+/// and the order has the same members of both. The degree of the place is the index of the prime in the order, and its valuation that of the prime.
 pub fn prime_at_infinity_law<O: InfiniteSets>()
-    ensures { (c : ℕ) (f : Functions O.field O.infinite → Functions O.field O.presentation) → IsInfiniteMap O.field O.presentation O.infinite c f
+    ensures place { (c : ℕ) (f : Functions O.field O.infinite → Functions O.field O.presentation) → IsInfiniteMap O.field O.presentation O.infinite c f
         → IsOrder (equation_of O.field O.infinite) O.members
         → MaximalAt (functions O.field O.infinite).ops (of_poly (equation_of O.field O.infinite) (x_poly O.field)) (IsIntegralAt (setting O.field O.infinite) Finite) O.members
         → IsPrime (functions O.field O.infinite).ops O.members O.prime → O.prime (setting O.field O.infinite).x → (gs : List (Functions O.field O.infinite))
@@ -209,6 +210,22 @@ pub fn prime_at_infinity_law<O: InfiniteSets>()
         → IsPlace (setting O.field O.presentation) (record { side = Infinite; generators = map f gs })
         × ((z : Functions O.field O.infinite) → O.members z
         → IsIn (setting O.field O.presentation) (record { side = Infinite; generators = map f gs }) (f z) ↔ O.prime z) }
+    ensures degree { (c : ℕ) (f : Functions O.field O.infinite → Functions O.field O.presentation) → IsInfiniteMap O.field O.presentation O.infinite c f
+        → IsOrder (equation_of O.field O.infinite) O.members
+        → MaximalAt (functions O.field O.infinite).ops (of_poly (equation_of O.field O.infinite) (x_poly O.field)) (IsIntegralAt (setting O.field O.infinite) Finite) O.members
+        → IsPrime (functions O.field O.infinite).ops O.members O.prime → O.prime (setting O.field O.infinite).x → (gs : List (Functions O.field O.infinite))
+        → SameSet O.prime (Span (functions O.field O.infinite).ops (IsPolynomial (equation_of O.field O.infinite)) gs)
+        → (d : ℕ) → HasIndex (equation_of O.field O.infinite) O.prime O.members d
+        → HasDegree (setting O.field O.presentation) (record { side = Infinite; generators = map f gs }) d }
+    ensures value { (c : ℕ) (f : Functions O.field O.infinite → Functions O.field O.presentation) → IsInfiniteMap O.field O.presentation O.infinite c f
+        → IsOrder (equation_of O.field O.infinite) O.members
+        → MaximalAt (functions O.field O.infinite).ops (of_poly (equation_of O.field O.infinite) (x_poly O.field)) (IsIntegralAt (setting O.field O.infinite) Finite) O.members
+        → IsPrime (functions O.field O.infinite).ops O.members O.prime → O.prime (setting O.field O.infinite).x → (gs : List (Functions O.field O.infinite))
+        → SameSet O.prime (Span (functions O.field O.infinite).ops (IsPolynomial (equation_of O.field O.infinite)) gs)
+        → ¬ (discriminant (equation_of O.field O.infinite) ≡ (polynomials O.field).𝟘)
+        → (t : Pair (functions O.field O.infinite).ops O.members O.prime) (z : Functions O.field O.infinite) (m : ℤ)
+        → HasValuation (setting O.field O.presentation) (record { side = Infinite; generators = map f gs }) (f z) m
+        ↔ ValueIs (functions O.field O.infinite).ops O.members O.prime t z m }
 {}
 
 /// Membership at infinity is decided: in a span over the fractions of degree at most 0, and in O_inf.
