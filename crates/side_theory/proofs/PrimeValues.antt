@@ -5,7 +5,7 @@ use Rattle.ff_ring.specs.Subsets.{Span}
 use Rattle.local_theory.specs.Ideals.{SameSet}
 use Rattle.local_theory.specs.IntegerValues.{ValueIs}
 use Rattle.local_theory.specs.Orders.{MaximalAt}
-use Rattle.local_theory.specs.Primes.{IsPrime, Outside, Pair}
+use Rattle.local_theory.specs.Primes.{IsPrime, Pair}
 use Rattle.ff_fields.specs.Field.{CodeField}
 use Rattle.ff_poly.specs.Polynomials.{polynomials, x_poly}
 use Rattle.ff_algebra.specs.declared.elem.Side.TheVariants.{Finite, Infinite}
@@ -23,16 +23,13 @@ use Rattle.order_theory.specs.Orders.{IsOrder, IsPrimeTo}
 use Rattle.order_theory.proofs.Degrees.{classes_of_index}
 use Rattle.order_theory.proofs.LocalOrders.{prime_to, order_integral, maximal_iff}
 use Rattle.order_theory.proofs.FinitePlaces.{finite}
+use Rattle.order_theory.proofs.PlaceEntries.{outside_same}
 use Rattle.side_theory.specs.InfiniteMaps.{IsInfiniteMap}
 use Rattle.side_theory.proofs.InfiniteTransport.{x_irreducible}
 use Rattle.side_theory.proofs.LocalIntegral.{maximal_local}
 use Rattle.side_theory.proofs.PushedPlaces.{pushed, prime_members, prime_place}
 use Rattle.side_theory.proofs.PushedDegrees.{prime_degree}
 use Rattle.side_theory.proofs.PulledPlaces.{rows, to_rows, of_rows, pulled_over, pulled_place, value_down, value_up}
-
-module _ {A : Type 0} (O P P' : A → Type 0) (s : SameSet P P') where
-  outside_same : (u : A) → Outside O P u → Outside O P' u
-  outside_same u o = record { within = o.within; out = λ m. o.out ((s u).1 m) }
 
 module _ (k : CodeField) (p q : PresValue) (c : ℕ) (f : Functions k q → Functions k p) (g : IsInfiniteMap k p q c f)
     (O : Functions k q → Type 0) (𝓞 : IsOrder (equation_of k q) O)

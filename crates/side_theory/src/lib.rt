@@ -101,7 +101,7 @@ pub fn local_integral_law<S: FunctionSets>()
 
 /// The integral functions that powers of p take into k[x][y] are the tame order that is maximal at p. Where the square of p doesn't divide the discriminant,
 /// they are k[x][y].
-pub fn local_order_law()
+pub fn tame_order_law()
     ensures order { (k : CodeField) (c : Equation k) (p : Polynomial k) → IsIrreducible k.ops (codes_of k p) → ¬ (discriminant c ≡ (polynomials k).𝟘)
         → IsOrder c (TakenByPowers c p (HasPolynomialCoordinates c)) × IsTame c p (TakenByPowers c p (HasPolynomialCoordinates c))
         × MaximalAt (ring_of c).ops (of_poly c p) (IsIntegralAt (setting_of c) Finite) (TakenByPowers c p (HasPolynomialCoordinates c)) }
