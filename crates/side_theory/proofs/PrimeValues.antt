@@ -8,7 +8,7 @@ use Rattle.local_theory.specs.Orders.{MaximalAt}
 use Rattle.local_theory.specs.Primes.{IsPrime, Pair}
 use Rattle.ff_fields.specs.Field.{CodeField}
 use Rattle.ff_poly.specs.Polynomials.{polynomials, x_poly}
-use Rattle.ff_algebra.specs.declared.elem.Side.TheVariants.{Finite, Infinite}
+use Rattle.ff_algebra.specs.declared.elem.Side.TheVariants.{Finite}
 use Rattle.ff_algebra.specs.Functions.{of_poly, IsPolynomial}
 use Rattle.ff_algebra.specs.Discriminant.{discriminant}
 use Rattle.ff_algebra.specs.Values.{PresValue, Functions, functions, setting, equation_of}
@@ -93,14 +93,14 @@ module _ (k : CodeField) (p q : PresValue) (c : ℕ) (f : Functions k q → Func
       unfolding pair
       value_at_infinity z m =
           let i =
-              valuation_iff (setting k q) (scalars_subring (equation_of k q)) (finite (equation_of k q) hs) (pulled_place k p q c f g (map f gs) place some)
-              (IsPolynomial (equation_of k q)) (IsPrimeTo (equation_of k q) (x_poly k)) O (of_poly (equation_of k q) (x_poly k)) order_at
-              (pulled_over k p q c f g (map f gs) place some) decide pair z m in (
+          valuation_iff (setting k q) (scalars_subring (equation_of k q)) (finite (equation_of k q) hs) (pulled_place k p q c f g (map f gs) place some)
+          (IsPolynomial (equation_of k q)) (IsPrimeTo (equation_of k q) (x_poly k)) O (of_poly (equation_of k q) (x_poly k)) order_at
+          (pulled_over k p q c f g (map f gs) place some) decide pair z m in (
             λ v. let w = i.0 (value_down k p q c f g (map f gs) place some z m v) in record {
-                unit = w.unit;
-                unit_out = outside_same O (InPrime (setting k q) (finite (equation_of k q) hs) O) P back _ w.unit_out;
-                inside = outside_same O (InPrime (setting k q) (finite (equation_of k q) hs) O) P back _ w.inside;
-              },
+              unit = w.unit;
+              unit_out = outside_same O (InPrime (setting k q) (finite (equation_of k q) hs) O) P back _ w.unit_out;
+              inside = outside_same O (InPrime (setting k q) (finite (equation_of k q) hs) O) P back _ w.inside;
+            },
             λ w.
                 value_up k p q c f g (map f gs) place some z m
                 (i.1 (record {

@@ -155,6 +155,11 @@ pub fn infinite_maximal_law()
         → ¬ (discriminant (equation_of k q) ≡ (polynomials k).𝟘) → (z : Functions k q)
         → IsLocallyIn (equation_of k q) (x_poly k) (TakenByPowers (equation_of k q) (x_poly k) (HasPolynomialCoordinates (equation_of k q))) z
         ↔ IsIntegralAt (setting k p) Infinite (f z) }
+    ensures spans { (k : CodeField) (p q : PresValue) (c : ℕ) (f : Functions k q → Functions k p) → IsInfiniteMap k p q c f
+        → ¬ (discriminant (equation_of k q) ≡ (polynomials k).𝟘) → (gs : List (Functions k q))
+        → SameSet (TakenByPowers (equation_of k q) (x_poly k) (HasPolynomialCoordinates (equation_of k q)))
+        (Span (functions k q).ops (IsPolynomial (equation_of k q)) gs) → (z : Functions k q)
+        → IsIntegralAt (setting k p) Infinite (f z) ↔ IsCombinationAtInfinity k p q f gs z }
     ensures whole { (k : CodeField) (p q : PresValue) (c : ℕ) (f : Functions k q → Functions k p) → IsInfiniteMap k p q c f
         → ¬ (discriminant (equation_of k q) ≡ (polynomials k).𝟘)
         → ¬ IsDivisor (polynomials k).ops ((polynomials k).◌⊗◌ (x_poly k) (x_poly k)) (discriminant (equation_of k q)) → (z : Functions k q)
