@@ -8,6 +8,7 @@ pub mod PushedDegrees
 pub mod PushedValues
 pub mod SamePlaceValues
 pub mod InfiniteDecisions
+pub mod PulledPrimes
 pub mod PulledPlaces
 pub mod PlaceMaps
 pub mod InfiniteLists
