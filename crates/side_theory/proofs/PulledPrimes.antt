@@ -1,5 +1,5 @@
 -- An infinite place has a prime over t in each order over k[t] that is maximal at t: the members of the order that go into it. It is spanned by the images of functions that span the prime.
-use Rattle.std.proofs.Common.{◌≡◌, ◌↔◌, ◌⊎◌, inl, inr, ℕ, List, [], ◌∷◌, refl, sym, ◌∙◌, ap, ap₂, subst}
+use Rattle.std.proofs.Common.{◌≡◌, ◌↔◌, ◌⊎◌, inl, inr, ℕ, List, [], ◌∷◌, map, refl, sym, ◌∙◌, ap, ap₂, subst}
 use Rattle.ff_ring.specs.Subsets.{IsModule, Span}
 use Rattle.ff_ring.specs.Local.{PrimeTo}
 use Rattle.ff_ring.proofs.Ring.{one_mul}
@@ -12,10 +12,11 @@ use Rattle.local_theory.specs.Primes.{IsPrime, InverseModulo}
 use Rattle.local_theory.proofs.IntegralRing.{integral_ring}
 use Rattle.ff_fields.specs.Field.{CodeField}
 use Rattle.ff_poly.specs.Polynomials.{x_poly}
+use Rattle.ff_algebra.specs.declared.elem.Side.{Side}
 use Rattle.ff_algebra.specs.declared.elem.Side.TheVariants.{Finite, Infinite}
 use Rattle.ff_algebra.specs.Functions.{of_poly, IsPolynomial, IsFiniteAtInfinity}
 use Rattle.ff_algebra.specs.Values.{PresValue, Functions, functions, setting, equation_of}
-use Rattle.ff_algebra.specs.Places.{IsPlace, IsIn, IsSamePlace, IsIntegralAt}
+use Rattle.ff_algebra.specs.Places.{Place, IsPlace, IsIn, IsSamePlace, IsIntegralAt}
 use Rattle.ff_algebra.proofs.ScalarRings.{finite_at_infinity_subring}
 use Rattle.lattice_theory.specs.Lattices.{IsLattice}
 use Rattle.lattice_theory.proofs.Lattices.{lattice_module}
@@ -24,7 +25,7 @@ use Rattle.order_theory.proofs.InfinitePlaces.{infinite}
 use Rattle.order_theory.proofs.LocalOrders.{prime_to, order_integral}
 use Rattle.order_theory.proofs.PrimesOver.{ideal_lattice}
 use Rattle.side_theory.specs.Tame.{IsLocallyIn}
-use Rattle.side_theory.specs.InfiniteMaps.{IsInfiniteMap}
+use Rattle.side_theory.specs.InfiniteMaps.{IsInfiniteMap, IsMemberBelow}
 use Rattle.side_theory.proofs.InfiniteTransport.{x_irreducible}
 use Rattle.side_theory.proofs.LocalIntegral.{maximal_local}
 use Rattle.side_theory.proofs.InfiniteDecisions.{infinite_span_decided, infinite_has_t}
@@ -173,3 +174,29 @@ module _ (k : CodeField) (p q : PresValue) (c : ℕ) (f : Functions k q → Func
               multiple_in = (spanned (a.factor ⊗ z)).0
                   (a.multiple_in, into_scale a.factor z (image a.factor (base a.factor (𝓝.within a.factor a.factor_in))) m);
             })
+
+-- for places whose side is given by an equation
+module _ (k : CodeField) (p q : PresValue) (c : ℕ) (f : Functions k q → Functions k p) (g : IsInfiniteMap k p q c f)
+    (O : Functions k q → Type 0) (𝓞 : IsOrder (equation_of k q) O)
+    (maximal : MaximalAt (functions k q).ops (of_poly (equation_of k q) (x_poly k)) (IsIntegralAt (setting k q) Finite) O) where
+  abbrev Under : Place (Functions k p) → Functions k q → Type 0
+  Under = IsMemberBelow k p q f O
+
+  pub every_prime : (P : Place (Functions k p)) → IsPlace (setting k p) P → P.side ≡ Infinite
+      → IsPrime (functions k q).ops O (IsMemberBelow k p q f O P) × IsLattice (equation_of k q) (IsMemberBelow k p q f O P) × IsMemberBelow k p q f O P (setting k q).x
+      × ((gs : List (Functions k q)) → SameSet (IsMemberBelow k p q f O P) (Span (functions k q).ops (IsPolynomial (equation_of k q)) gs)
+      → IsSamePlace (setting k p) (record { side = Infinite; generators = map f gs }) P)
+  every_prime P place e = go P.side P.generators e place
+    where
+      go : (s : Side) (ws : List (Functions k p)) → s ≡ Infinite → IsPlace (setting k p) (record { side = s; generators = ws })
+          → IsPrime (functions k q).ops O (Under (record { side = s; generators = ws })) × IsLattice (equation_of k q) (Under (record { side = s; generators = ws }))
+          × Under (record { side = s; generators = ws }) (setting k q).x
+          × ((gs : List (Functions k q)) → SameSet (Under (record { side = s; generators = ws })) (Span (functions k q).ops (IsPolynomial (equation_of k q)) gs)
+          → IsSamePlace (setting k p) (record { side = Infinite; generators = map f gs }) (record { side = s; generators = ws }))
+      go Finite ws e place = absurd (cc)
+      go Infinite ws e place = (
+        below_prime k p q c f g ws place O 𝓞 maximal,
+        below_lattice k p q c f g ws place O 𝓞 maximal,
+        below_variable k p q c f g ws place O 𝓞 maximal,
+        below_same k p q c f g ws place O 𝓞 maximal,
+      )

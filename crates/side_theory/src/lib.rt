@@ -28,7 +28,7 @@ ghost use Rattle.trace_theory.specs.Traces.{HasPolynomialCoordinates};
 ghost use Rattle.lattice_theory.specs.Lattices.{IsLattice, HasIndex, space_ops};
 ghost use Rattle.order_theory.specs.Orders.{IsOrder, IsPrimeTo, TakenByPowers};
 ghost use Rattle.side_theory.specs.Tame.{IsTame, HasPowerDenominator, IsLocallyIn};
-ghost use Rattle.side_theory.specs.InfiniteMaps.{IsInfiniteMap, IsCombinationAtInfinity, place_at_infinity};
+ghost use Rattle.side_theory.specs.InfiniteMaps.{IsInfiniteMap, IsCombinationAtInfinity, IsMemberBelow, place_at_infinity};
 ghost use Rattle.side_theory.specs.InfinitePlaces.{InfinitePlace, IsAllInfinite, sum_of_infinite_degrees};
 
 use lattice_theory::FunctionSets;
@@ -206,6 +206,7 @@ pub fn place_map_law()
 
 /// Of an order over k[t] that is maximal at t, each prime over t gives an infinite place: the images of functions that span the prime over k[t] span the place,
 /// and the order has the same members of both. The degree of the place is the index of the prime in the order, and its valuation that of the prime.
+/// Each infinite place has such a prime, of the members of the order that go into it, and is the place that it gives.
 pub fn prime_at_infinity_law<O: InfiniteSets>()
     ensures place { (c : ℕ) (f : Functions O.field O.infinite → Functions O.field O.presentation) → IsInfiniteMap O.field O.presentation O.infinite c f
         → IsOrder (equation_of O.field O.infinite) O.members
@@ -231,6 +232,16 @@ pub fn prime_at_infinity_law<O: InfiniteSets>()
         → (t : Pair (functions O.field O.infinite).ops O.members O.prime) (z : Functions O.field O.infinite) (m : ℤ)
         → HasValuation (setting O.field O.presentation) (record { side = Infinite; generators = map f gs }) (f z) m
         ↔ ValueIs (functions O.field O.infinite).ops O.members O.prime t z m }
+    ensures every { (c : ℕ) (f : Functions O.field O.infinite → Functions O.field O.presentation) → IsInfiniteMap O.field O.presentation O.infinite c f
+        → IsOrder (equation_of O.field O.infinite) O.members
+        → MaximalAt (functions O.field O.infinite).ops (of_poly (equation_of O.field O.infinite) (x_poly O.field)) (IsIntegralAt (setting O.field O.infinite) Finite) O.members
+        → (P : Place (Functions O.field O.presentation)) → IsPlace (setting O.field O.presentation) P → P.side ≡ Infinite
+        → IsPrime (functions O.field O.infinite).ops O.members (IsMemberBelow O.field O.presentation O.infinite f O.members P)
+        × IsLattice (equation_of O.field O.infinite) (IsMemberBelow O.field O.presentation O.infinite f O.members P)
+        × IsMemberBelow O.field O.presentation O.infinite f O.members P (setting O.field O.infinite).x
+        × ((gs : List (Functions O.field O.infinite)) → SameSet (IsMemberBelow O.field O.presentation O.infinite f O.members P)
+        (Span (functions O.field O.infinite).ops (IsPolynomial (equation_of O.field O.infinite)) gs)
+        → IsSamePlace (setting O.field O.presentation) (record { side = Infinite; generators = map f gs }) P) }
 {}
 
 /// Membership at infinity is decided: in a span over the fractions of degree at most 0, and in O_inf.
