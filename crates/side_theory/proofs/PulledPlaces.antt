@@ -1,38 +1,27 @@
 -- Each infinite place is given by a finite place of the infinite presentation over its variable: the integral functions that go into it.
-use Rattle.std.proofs.Common.{◌≡◌, ◌↔◌, ◌⊎◌, inl, inr, List, [], ◌∷◌, refl, sym, ◌∙◌, ap, ap₂, subst}
+use Rattle.std.proofs.Common.{◌≡◌, List, refl, sym, ◌∙◌, ap, subst}
 use Rattle.std.specs.Prelude.{ℤ, ℕ}
-use Rattle.ff_ring.specs.Subsets.{IsSubring, IsModule}
-use Rattle.ff_ring.specs.Local.{PrimeTo}
-use Rattle.ff_ring.proofs.RowMaps.{hom_zero, hom_neg}
-use Rattle.ff_ring.proofs.Solver.{ring, reads, from_one}
-use Rattle.ff_ring.proofs.Subsets.{span_module}
 use Rattle.local_theory.specs.Orders.{MaximalAt}
 use Rattle.local_theory.specs.Primes.{IsPrime}
-use Rattle.local_theory.proofs.IntegralRing.{integral_ring}
 use Rattle.ff_fields.specs.Field.{CodeField}
 use Rattle.ff_poly.specs.Polynomials.{polynomials, x_poly}
 use Rattle.ff_algebra.specs.declared.elem.Side.TheVariants.{Finite, Infinite}
-use Rattle.ff_algebra.specs.Functions.{of_poly, IsPolynomial, IsFiniteAtInfinity}
+use Rattle.ff_algebra.specs.Functions.{of_poly}
 use Rattle.ff_algebra.specs.Discriminant.{discriminant}
 use Rattle.ff_algebra.specs.Values.{PresValue, Functions, functions, setting, equation_of}
 use Rattle.ff_algebra.specs.Places.{IsPlace, IsIn, IsSamePlace, IsIntegralAt, HasValuationAtLeast, HasValuation}
 use Rattle.ff_algebra.specs.Divisors.{HasDegree}
-use Rattle.ff_algebra.proofs.ScalarRings.{finite_at_infinity_subring}
 use Rattle.lattice_theory.specs.Lattices.{IsLattice}
 use Rattle.order_theory.specs.Orders.{IsOrder}
 use Rattle.order_theory.proofs.InfinitePlaces.{infinite}
-use Rattle.order_theory.proofs.IntegralLattice.{integral_subring, polynomial_integral}
-use Rattle.order_theory.proofs.LocalOrders.{prime_to}
 use Rattle.order_theory.proofs.FinitePlaces.{finite}
 use Rattle.order_theory.proofs.PlaceLists.{integral_order, integral_maximal}
-use Rattle.order_theory.proofs.PrimesOver.{ideal_lattice}
 use Rattle.order_theory.proofs.SideOfPlaces.{degree_of_place}
 use Rattle.order_theory.proofs.Values.{value_exists}
 use Rattle.side_theory.specs.InfiniteMaps.{IsInfiniteMap}
 use Rattle.side_theory.proofs.InfiniteTransport.{x_irreducible}
-use Rattle.side_theory.proofs.InfiniteDecisions.{infinite_span_decided, infinite_has_t}
 use Rattle.side_theory.proofs.PulledPrimes.{below_lattice, below_prime, below_variable, below_same}
-use Rattle.side_theory.proofs.PushedPlaces.{each, integral_of, prime_integral, pushed}
+use Rattle.side_theory.proofs.PushedPlaces.{each, pushed}
 use Rattle.side_theory.proofs.PushedDegrees.{pushed_degree}
 use Rattle.side_theory.proofs.PushedValues.{at_least_back, pushed_value, value_back}
 use Rattle.side_theory.proofs.SamePlaceValues.{turn, at_least_same, value_same, degree_same}

@@ -2,7 +2,6 @@
 use Rattle.std.proofs.Common.{◌≡◌, ◌↔◌, ◌⊎◌, inl, inr, ℕ, List, [], ◌∷◌, map, refl, sym, ◌∙◌, ap, ap₂, subst}
 use Rattle.ff_ring.specs.Subsets.{IsModule, Span}
 use Rattle.ff_ring.specs.Local.{PrimeTo}
-use Rattle.ff_ring.proofs.Ring.{one_mul}
 use Rattle.ff_ring.proofs.RowMaps.{hom_zero, hom_neg}
 use Rattle.ff_ring.proofs.Solver.{ring, reads, from_one}
 use Rattle.ff_ring.proofs.Subsets.{span_module}
