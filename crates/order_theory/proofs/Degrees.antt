@@ -74,8 +74,16 @@ module _ {k : CodeField} (c : Equation k) where
       ((code_at z (All-head (IsCode c) z cs h)).1 ∙ ap (code_of c) (f 0 (omega arith)) ∙ (code_hom c).zero_is)
       (sequence_zero cs (All-tail (IsCode c) z cs h) (λ i l. f (suc i) (omega (arith, l))))
 
-  pub degree_of_index : (gs : List (FunctionOf c)) (g : ℕ) → HasIndex c (IsIn (setting_of c) (finite c gs)) (Int c) g → HasDegree (setting_of c) (finite c gs) g
-  degree_of_index gs g i = record {
+  -- a list of g members of O that spans O over P by codes, in one way only
+  pub record HasClasses (O P : FunctionOf c → Type 0) (g : ℕ) : Type 0 where
+    pub classes : List (FunctionOf c)
+    pub count : length classes ≡ g
+    pub members : All O classes
+    pub spanning : (z : FunctionOf c) → O z → (v : FunctionOf c) × Span (ring_of c).ops (IsCode c) classes v × P (z ⊕ ⊖ v)
+    pub independent : (cs : List (FunctionOf c)) → length cs ≡ g → All (IsCode c) cs → P (combination (ring_of c).ops cs classes) → All (λ z. z ≡ 𝟘) cs
+
+  pub classes_of_index : (O P : FunctionOf c → Type 0) (g : ℕ) → HasIndex c P O g → HasClasses O P g
+  classes_of_index O P g i = record {
     classes = i.basis;
     count = i.count;
     members = i.is.members_in;
@@ -83,13 +91,18 @@ module _ {k : CodeField} (c : Equation k) where
         let t = i.is.spanning z z_in in (
           combine (space_ops c) t.coefficient i.basis,
           span_codes t.coefficient i.basis,
-          subst (IsIn (setting_of c) (finite c gs)) (sym (less z t.rest _ t.is)) t.rest_in,
+          subst P (sym (less z t.rest _ t.is)) t.rest_in,
         );
     independent = λ cs size all m.
         sequence_zero cs all (λ j l.
-        i.is.independent (sequence cs all) (subst (IsIn (setting_of c) (finite c gs)) (sequence_is cs i.basis all (size ∙ sym i.count)) m) j
+        i.is.independent (sequence cs all) (subst P (sequence_is cs i.basis all (size ∙ sym i.count)) m) j
         (let e = i.count in omega (arith, e, l, size)));
   }
     where
       less : (z r v : FunctionOf c) → z ≡ v ⊕ r → z ⊕ ⊖ v ≡ r
       less z r v e = from_one (ring_of c) 𝟙 e (ring (ring_of c) (z ∷ r ∷ v ∷ []) λ q h. simp (reads, q, h 0, h 1, h 2) (q.equal _ _ refl))
+
+  pub degree_of_index : (gs : List (FunctionOf c)) (g : ℕ) → HasIndex c (IsIn (setting_of c) (finite c gs)) (Int c) g → HasDegree (setting_of c) (finite c gs) g
+  degree_of_index gs g i =
+      let h = classes_of_index (Int c) (IsIn (setting_of c) (finite c gs)) g i in
+      record { classes = h.classes; count = h.count; members = h.members; spanning = h.spanning; independent = h.independent }

@@ -66,7 +66,7 @@ module _ {k : CodeField} (c : Equation k) (p : Polynomial k) (h : IsIrreducible 
   }
 
 module _ {A : Type 0} (O P P' : A → Type 0) (s : SameSet P P') where
-  outside_same : (u : A) → Outside O P u → Outside O P' u
+  pub outside_same : (u : A) → Outside O P u → Outside O P' u
   outside_same u o = record { within = o.within; out = λ m. o.out ((s u).1 m) }
 
 module _ {k : CodeField} (c : Equation k) (some : ¬ (discriminant c ≡ (polynomials k).𝟘)) (p : Polynomial k) (h : IsIrreducible k.ops (codes_of k p)) where

@@ -3,12 +3,13 @@ use Rattle.std.proofs.Common.{◌≡◌, ◌↔◌, ◌≤◌, ℕ, List, refl, 
 use Rattle.std.specs.Prelude.{ℤ, pos}
 use Rattle.ff_ring.specs.Subsets.{Span}
 use Rattle.ff_ring.proofs.Ring.{one_mul}
+use Rattle.local_theory.specs.Ideals.{SameSet}
 use Rattle.linear_theory.specs.Euclidean.{IsDivisor}
 use Rattle.ff_fields.specs.Field.{CodeField}
 use Rattle.ff_poly.specs.Polynomials.{polynomials, x_poly}
 use Rattle.ff_algebra.specs.declared.elem.Side.{Side}
 use Rattle.ff_algebra.specs.declared.elem.Side.TheVariants.{Finite, Infinite}
-use Rattle.ff_algebra.specs.Functions.{Equation, FunctionOf, ring_of, setting_of, degree_of_y, IsFiniteAtInfinity}
+use Rattle.ff_algebra.specs.Functions.{Equation, FunctionOf, ring_of, setting_of, degree_of_y, IsPolynomial, IsFiniteAtInfinity}
 use Rattle.ff_algebra.specs.Discriminant.{discriminant}
 use Rattle.ff_algebra.specs.Values.{PresValue, Functions, functions, setting, equation_of}
 use Rattle.ff_algebra.specs.Places.{Place, IsPlace, IsIn, IsIntegralAt, IsSamePlace, HasValuationAtLeast, HasValuation}
@@ -23,11 +24,11 @@ use Rattle.order_theory.proofs.InfinitePlaces.{infinite}
 use Rattle.order_theory.proofs.IntegralLattice.{integral_subring}
 use Rattle.order_theory.proofs.RegularFunctions.{regular_locally}
 use Rattle.side_theory.specs.Tame.{HasPowerDenominator, IsLocallyIn}
-use Rattle.side_theory.specs.InfiniteMaps.{IsInfiniteMap}
+use Rattle.side_theory.specs.InfiniteMaps.{IsInfiniteMap, IsCombinationAtInfinity}
 use Rattle.side_theory.specs.InfinitePlaces.{InfinitePlace, IsAllInfinite, sum_of_infinite_degrees}
 use Rattle.side_theory.proofs.InfiniteTransport.{x_irreducible, infinite_map}
 use Rattle.side_theory.proofs.LocalIntegral.{maximal_local, taken_order, taken_is_tame, taken_maximal, taken_whole}
-use Rattle.side_theory.proofs.InfiniteOrders.{infinite_members}
+use Rattle.side_theory.proofs.InfiniteOrders.{infinite_integral, infinite_members}
 use Rattle.side_theory.proofs.InfiniteDecisions.{infinite_some, infinite_span_decided, infinite_has_t, infinite_integral_decided}
 use Rattle.side_theory.proofs.PushedPlaces.{each, integral_of, pushed, pushed_place}
 use Rattle.side_theory.proofs.PushedValues.{at_least_back}
@@ -59,6 +60,12 @@ module _ (k : CodeField) (p q : PresValue) (c : ℕ) (f : Functions k q → Func
   taken_locally z =
       let b = maximal_local (equation_of k q) (x_poly k) (x_irreducible k) Taken (taken_order (equation_of k q) (x_poly k) (x_irreducible k) some)
       (taken_maximal (equation_of k q) (x_poly k) (x_irreducible k)) z in (λ m. (g.integral z).0 (b.0 m), λ m. b.1 ((g.integral z).1 m))
+
+  -- their combinations over the fractions of degree at most 0 are O_inf
+  pub taken_spans : (gs : List (Functions k q)) → SameSet Taken (Span (functions k q).ops (IsPolynomial (equation_of k q)) gs) → (z : Functions k q)
+      → IsIntegralAt (setting k p) Infinite (f z) ↔ IsCombinationAtInfinity k p q f gs z
+  taken_spans =
+      infinite_integral k p q c f g Taken (taken_order (equation_of k q) (x_poly k) (x_irreducible k) some) (taken_maximal (equation_of k q) (x_poly k) (x_irreducible k))
 
   -- where the square of t doesn't divide the discriminant they are k[t][Y]
   pub whole_members : ¬ IsDivisor (polynomials k).ops ((polynomials k).◌⊗◌ (x_poly k) (x_poly k)) (discriminant (equation_of k q)) → (z : Functions k q)

@@ -8,9 +8,11 @@ pub mod PushedDegrees
 pub mod PushedValues
 pub mod SamePlaceValues
 pub mod InfiniteDecisions
+pub mod PulledPrimes
 pub mod PulledPlaces
 pub mod PlaceMaps
 pub mod InfiniteLists
 pub mod EachEquation
 pub mod InfiniteLaws
 pub mod ValueRules
+pub mod PrimeValues

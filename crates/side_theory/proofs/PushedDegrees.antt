@@ -1,18 +1,21 @@
--- A finite place of the infinite presentation over its variable has the degree of the infinite place that it gives.
-use Rattle.std.proofs.Common.{◌≡◌, All, ℕ, ◌≤◌, List, [], ◌∷◌, length, map, refl, sym, ◌∙◌, ap, ap₂, subst, arith}
+-- A prime over the variable of an order of the infinite presentation, and a finite place there, has the degree of the infinite place that it gives.
+use Rattle.std.proofs.Common.{◌↔◌, ◌≡◌, All, ℕ, ◌≤◌, List, [], ◌∷◌, length, map, refl, sym, ◌∙◌, ap, ap₂, subst, arith}
 use Rattle.std.proofs.lemmas.List.{length-map}
 use Rattle.std.proofs.lemmas.List.Elements.{All-nil, All-cons, All-head, All-tail, All-map, All-weaker}
-use Rattle.ff_ring.specs.Subsets.{IsModule, Span}
-use Rattle.ff_ring.proofs.Ring.{mul_zero}
+use Rattle.ff_ring.specs.Subsets.{IsSubring, IsModule, Span}
+use Rattle.ff_ring.specs.Local.{PrimeTo}
+use Rattle.ff_ring.proofs.Ring.{one_mul, mul_zero}
 use Rattle.ff_ring.proofs.RowMaps.{hom_zero, hom_neg}
 use Rattle.ff_ring.proofs.Solver.{ring, reads, from_one}
 use Rattle.ff_ring.proofs.Subsets.{span_module}
+use Rattle.local_theory.specs.Ideals.{SameSet}
+use Rattle.local_theory.specs.Primes.{IsPrime}
 use Rattle.local_theory.proofs.IntegralRing.{integral_ring}
 use Rattle.ff_fields.specs.Field.{CodeField}
 use Rattle.ff_poly.specs.Value.{value}
 use Rattle.ff_poly.specs.Polynomials.{Polynomial, codes_of, value_codes_of, value_nil, x_poly}
 use Rattle.ff_algebra.specs.declared.elem.Side.TheVariants.{Finite, Infinite}
-use Rattle.ff_algebra.specs.Functions.{of_poly, IsCode, IsFiniteAtInfinity}
+use Rattle.ff_algebra.specs.Functions.{of_poly, IsCode, IsPolynomial, IsFiniteAtInfinity}
 use Rattle.ff_algebra.specs.Values.{PresValue, Functions, functions, setting, equation_of}
 use Rattle.ff_algebra.specs.Spans.{combination}
 use Rattle.ff_algebra.specs.Places.{IsPlace, IsIn, IsIntegralAt}
@@ -23,10 +26,13 @@ use Rattle.ff_algebra.proofs.ScalarRings.{finite_at_infinity_subring}
 use Rattle.places_theory.proofs.Transport.{back, f_back, span_image}
 use Rattle.order_theory.proofs.IntegralLattice.{integral_subring, polynomial_integral}
 use Rattle.order_theory.proofs.LocalOrders.{prime_to}
-use Rattle.order_theory.proofs.FinitePlaces.{finite}
+use Rattle.order_theory.proofs.FinitePlaces.{finite, place_prime}
+use Rattle.order_theory.proofs.Degrees.{HasClasses}
+use Rattle.order_theory.specs.Orders.{IsPrimeTo}
+use Rattle.side_theory.specs.Tame.{IsLocallyIn}
 use Rattle.side_theory.specs.InfiniteMaps.{IsInfiniteMap}
 use Rattle.side_theory.proofs.InfiniteTransport.{x_irreducible}
-use Rattle.side_theory.proofs.PushedPlaces.{each, integral_of, pushed, pushed_of, pushed_members, pushed_place}
+use Rattle.side_theory.proofs.PushedPlaces.{each, pushed, prime_members, prime_place}
 
 module _ (k : CodeField) (p q : PresValue) (c : ℕ) (f : Functions k q → Functions k p) (g : IsInfiniteMap k p q c f) where
   infixl 65 ◌⊕◌
@@ -71,16 +77,14 @@ module _ (k : CodeField) (p q : PresValue) (c : ℕ) (f : Functions k q → Func
       ap₂ (functions k p).◌⊕◌ (ap (λ x. (functions k p).◌⊗◌ x (f w)) (sym (f_lift a)) ∙ sym (g.isomorphism.hom.mul (lift a) w)) (combination_image cs ws)
       ∙ sym (g.isomorphism.hom.add _ _)
 
-  combination_integral : (ds ws : List (Functions k q)) → All (IsCode (equation_of k q)) ds → All (IsIntegralAt (setting k q) Finite) ws
-      → IsIntegralAt (setting k q) Finite (combination (functions k q).ops ds ws)
-  combination_integral [] ws h j = (integral_subring (equation_of k q)).zero_in
-  combination_integral (d ∷ ds) [] h j = (integral_subring (equation_of k q)).zero_in
-  combination_integral (d ∷ ds) (w ∷ ws) h j =
+  combination_in : (O : Functions k q → Type 0) → IsSubring (functions k q).ops O → ((s : Functions k q) → IsPolynomial (equation_of k q) s → O s)
+      → (ds ws : List (Functions k q)) → All (IsCode (equation_of k q)) ds → All O ws → O (combination (functions k q).ops ds ws)
+  combination_in O 𝓞 base [] ws h j = 𝓞.zero_in
+  combination_in O 𝓞 base (d ∷ ds) [] h j = 𝓞.zero_in
+  combination_in O 𝓞 base (d ∷ ds) (w ∷ ws) h j =
       let e = All-head (IsCode (equation_of k q)) d ds h in
-      (integral_subring (equation_of k q)).sum_in _ _
-      ((integral_subring (equation_of k q)).product_in d w (polynomial_integral (equation_of k q) d (record { polynomial = e.code; value = e.value }))
-      (All-head (IsIntegralAt (setting k q) Finite) w ws j))
-      (combination_integral ds ws (All-tail (IsCode (equation_of k q)) d ds h) (All-tail (IsIntegralAt (setting k q) Finite) w ws j))
+      𝓞.sum_in _ _ (𝓞.product_in d w (base d (record { polynomial = e.code; value = e.value })) (All-head O w ws j))
+      (combination_in O 𝓞 base ds ws (All-tail (IsCode (equation_of k q)) d ds h) (All-tail O w ws j))
 
   lifted_codes : (cs : List (Functions k p)) → All (IsCode (equation_of k p)) cs → All (IsCode (equation_of k q)) (map lift cs)
   lifted_codes cs h =
@@ -94,38 +98,56 @@ module _ (k : CodeField) (p q : PresValue) (c : ℕ) (f : Functions k q → Func
       (sym (f_lift a) ∙ ap f (All-head (λ d. d ≡ 𝟘) (lift a) (map lift cs) h) ∙ hom_zero (functions k q) (functions k p) f g.isomorphism.hom)
       (zeros cs (All-tail (λ d. d ≡ 𝟘) (lift a) (map lift cs) h))
 
-  module _ (gs : List (Functions k q)) (place : IsPlace (setting k q) (finite (equation_of k q) gs))
-      (over : IsIn (setting k q) (finite (equation_of k q) gs) (of_poly (equation_of k q) (x_poly k))) where
+  -- a prime P over the variable of a ring O, as in `PushedPlaces`
+  module _ (O P : Functions k q → Type 0) (𝓞 : IsSubring (functions k q).ops O) (base : (s : Functions k q) → IsPolynomial (equation_of k q) s → O s)
+      (same : (z : Functions k q) → IsLocallyIn (equation_of k q) (x_poly k) O z ↔ IsLocallyIn (equation_of k q) (x_poly k) (IsIntegralAt (setting k q) Finite) z)
+      (𝓟 : IsPrime (functions k q).ops O P) (over : P (of_poly (equation_of k q) (x_poly k)))
+      (gs : List (Functions k q)) (spanned : SameSet P (Span (functions k q).ops (IsPolynomial (equation_of k q)) gs)) where
     abbrev In : Functions k p → Type 0
     In = IsIn (setting k p) (pushed k p q c f g gs)
+
+    abbrev Inf : Functions k p → Type 0
+    Inf = IsIntegralAt (setting k p) Infinite
+
+    𝓝 : PrimeTo (functions k q).ops (IsPolynomial (equation_of k q)) (IsPrimeTo (equation_of k q) (x_poly k)) (of_poly (equation_of k q) (x_poly k))
+    𝓝 = prime_to (equation_of k q) (x_poly k) (x_irreducible k)
+
+    members : (z : Functions k q) → O z → In (f z) ↔ P z
+    members = prime_members k p q c f g O P 𝓞 base same 𝓟 over gs spanned
+
+    image : (z : Functions k q) → O z → Inf (f z)
+    image z m = (g.integral z).0 ((same z).0 (record { factor = 𝟙; factor_in = 𝓝.one_in; multiple_in = subst O (sym (one_mul (functions k q) z)) m }))
 
     𝓜 : IsModule (functions k p).ops (IsFiniteAtInfinity (equation_of k p)) (IsIn (setting k p) (pushed k p q c f g gs))
     𝓜 = span_module (functions k p) (IsFiniteAtInfinity (equation_of k p)) (finite_at_infinity_subring (equation_of k p)) (map f gs)
 
-    pub pushed_degree : (d : ℕ) → HasDegree (setting k q) (finite (equation_of k q) gs) d → HasDegree (setting k p) (pushed k p q c f g gs) d
-    pushed_degree d deg = record {
+    pub prime_degree : (d : ℕ) → HasClasses (equation_of k q) O P d → HasDegree (setting k p) (pushed k p q c f g gs) d
+    prime_degree d deg = record {
       classes = map f deg.classes;
       count = length-map deg.classes f ∙ deg.count;
-      members = All-map (IsIntegralAt (setting k p) Infinite) f deg.classes
-          (All-weaker (IsIntegralAt (setting k q) Finite) (λ z. IsIntegralAt (setting k p) Infinite (f z)) (integral_of k p q c f g) deg.classes deg.members);
+      members = All-map Inf f deg.classes (All-weaker O (λ z. Inf (f z)) image deg.classes deg.members);
       spanning = each k p q c f g
-          (λ w. IsIntegralAt (setting k p) Infinite w → (v : Functions k p) × Span (functions k p).ops (IsCode (equation_of k p)) (map f deg.classes) v
-          × IsIn (setting k p) (pushed k p q c f g gs) ((functions k p).◌⊕◌ w ((functions k p).⊖◌ v))) spanning;
+          (λ w. Inf w → (v : Functions k p) × Span (functions k p).ops (IsCode (equation_of k p)) (map f deg.classes) v × In ((functions k p).◌⊕◌ w ((functions k p).⊖◌ v))) spanning;
       independent = λ cs size all m.
           zeros cs
           (deg.independent (map lift cs) (length-map cs lift ∙ size) (lifted_codes cs all)
-          (pushed_members k p q c f g gs place over _ (combination_integral (map lift cs) deg.classes (lifted_codes cs all) deg.members)
-          (subst In (combination_image cs deg.classes) m)));
+          ((members _ (combination_in O 𝓞 base (map lift cs) deg.classes (lifted_codes cs all) deg.members)).0 (subst In (combination_image cs deg.classes) m)));
     }
       where
-        spanning : (z : Functions k q) → IsIntegralAt (setting k p) Infinite (f z)
-            → (v : Functions k p) × Span (functions k p).ops (IsCode (equation_of k p)) (map f deg.classes) v
-            × IsIn (setting k p) (pushed k p q c f g gs) ((functions k p).◌⊕◌ (f z) ((functions k p).⊖◌ v))
+        infinite_product : (u w : Functions k p) → Inf u → Inf w → Inf ((functions k p).◌⊗◌ u w)
+        infinite_product = (integral_ring (functions k p) (IsFiniteAtInfinity (equation_of k p)) (finite_at_infinity_subring (equation_of k p))).product_in
+
+        sum : (l u r x z v : Functions k q) → l ⊗ u ⊕ r ⊗ x ≡ 𝟙 → l ⊗ (u ⊗ z) ⊕ ⊖ v ⊕ (r ⊗ z) ⊗ x ≡ z ⊕ ⊖ v
+        sum l u r x z v e =
+            from_one (functions k q) z e (ring (functions k q) (l ∷ u ∷ r ∷ x ∷ z ∷ v ∷ []) λ o i. simp (reads, o, i 0, i 1, i 2, i 3, i 4, i 5) (o.equal _ _ refl))
+
+        spanning : (z : Functions k q) → Inf (f z)
+            → (v : Functions k p) × Span (functions k p).ops (IsCode (equation_of k p)) (map f deg.classes) v × In ((functions k p).◌⊕◌ (f z) ((functions k p).⊖◌ v))
         spanning z z_in =
-            let a = (g.integral z).1 z_in in
-            let b = (prime_to (equation_of k q) (x_poly k) (x_irreducible k)).comaximal a.factor a.factor_in in
-            let s = deg.spanning (b.left ⊗ (a.factor ⊗ z))
-            ((integral_subring (equation_of k q)).product_in _ _ (polynomial_integral (equation_of k q) b.left b.left_in) a.multiple_in) in (
+            let a = (same z).1 ((g.integral z).1 z_in) in
+            let b = 𝓝.comaximal a.factor a.factor_in in
+            let y_in = 𝓞.product_in b.left (a.factor ⊗ z) (base b.left b.left_in) a.multiple_in in
+            let s = deg.spanning (b.left ⊗ (a.factor ⊗ z)) y_in in (
               f s.0,
               span_image (functions k q) (functions k p) f g.isomorphism.hom (IsCode (equation_of k q)) (IsCode (equation_of k p)) code_image deg.classes s.0 s.1,
               subst In
@@ -134,15 +156,15 @@ module _ (k : CodeField) (p q : PresValue) (c : ℕ) (f : Functions k q → Func
                   ∙ sym (g.isomorphism.hom.add _ _) ∙ ap f (sum b.left a.factor b.right (of_poly (equation_of k q) (x_poly k)) z s.0 b.is)
                   ∙ g.isomorphism.hom.add z (⊖ s.0)
                   ∙ ap ((functions k p).◌⊕◌ (f z)) (hom_neg (functions k q) (functions k p) f g.isomorphism.hom s.0))
-                  (𝓜.sum_in _ _ (pushed_of k p q c f g gs _ s.2)
-                  ((pushed_place k p q c f g gs place over).ideal _ _ (infinite_product (f b.right) (f z) (integral_of k p q c f g b.right (polynomial_integral (equation_of k q) b.right b.right_in)) z_in)
-                  (pushed_of k p q c f g gs _ over))),
+                  (𝓜.sum_in _ _ ((members _ (𝓟.ideal.within _ s.2)).1 s.2)
+                  ((prime_place k p q c f g O P 𝓞 base same 𝓟 over gs spanned).ideal _ _ (infinite_product (f b.right) (f z) (image b.right (base b.right b.right_in)) z_in)
+                  ((members _ (𝓟.ideal.within _ over)).1 over))),
             )
-          where
-            infinite_product : (u w : Functions k p) → IsIntegralAt (setting k p) Infinite u → IsIntegralAt (setting k p) Infinite w
-                → IsIntegralAt (setting k p) Infinite ((functions k p).◌⊗◌ u w)
-            infinite_product = (integral_ring (functions k p) (IsFiniteAtInfinity (equation_of k p)) (finite_at_infinity_subring (equation_of k p))).product_in
 
-            sum : (l u r x z v : Functions k q) → l ⊗ u ⊕ r ⊗ x ≡ 𝟙 → l ⊗ (u ⊗ z) ⊕ ⊖ v ⊕ (r ⊗ z) ⊗ x ≡ z ⊕ ⊖ v
-            sum l u r x z v e =
-                from_one (functions k q) z e (ring (functions k q) (l ∷ u ∷ r ∷ x ∷ z ∷ v ∷ []) λ o i. simp (reads, o, i 0, i 1, i 2, i 3, i 4, i 5) (o.equal _ _ refl))
+  module _ (gs : List (Functions k q)) (place : IsPlace (setting k q) (finite (equation_of k q) gs))
+      (over : IsIn (setting k q) (finite (equation_of k q) gs) (of_poly (equation_of k q) (x_poly k))) where
+    pub pushed_degree : (d : ℕ) → HasDegree (setting k q) (finite (equation_of k q) gs) d → HasDegree (setting k p) (pushed k p q c f g gs) d
+    pushed_degree d deg =
+        prime_degree (IsIntegralAt (setting k q) Finite) (IsIn (setting k q) (finite (equation_of k q) gs)) (integral_subring (equation_of k q))
+        (polynomial_integral (equation_of k q)) (λ z. (λ n. n, λ n. n)) (place_prime (equation_of k q) gs place) over gs (λ z. (λ n. n, λ n. n)) d
+        (record { classes = deg.classes; count = deg.count; members = deg.members; spanning = deg.spanning; independent = deg.independent })

@@ -5,7 +5,6 @@ use Rattle.ff_ring.specs.Local.{PrimeTo}
 use Rattle.ff_ring.proofs.Ring.{one_mul, mul_mul}
 use Rattle.ff_ring.proofs.RowMaps.{hom_neg}
 use Rattle.ff_ring.proofs.Solver.{ring, reads, from_one}
-use Rattle.ff_ring.proofs.Subsets.{span_module}
 use Rattle.local_theory.specs.Ideals.{SameSet}
 use Rattle.local_theory.specs.Primes.{IsPrime}
 use Rattle.ff_fields.specs.Field.{CodeField}
@@ -14,7 +13,6 @@ use Rattle.ff_algebra.specs.declared.elem.Side.TheVariants.{Finite, Infinite}
 use Rattle.ff_algebra.specs.Functions.{of_poly, IsPolynomial}
 use Rattle.ff_algebra.specs.Values.{PresValue, Functions, functions, setting, equation_of}
 use Rattle.ff_algebra.specs.Places.{Place, IsPlace, IsIn, IsSamePlace, IsIntegralAt}
-use Rattle.ff_algebra.proofs.ScalarRings.{polynomials_subring}
 use Rattle.order_theory.specs.Orders.{IsPrimeTo}
 use Rattle.order_theory.proofs.IntegralLattice.{integral_subring, polynomial_integral}
 use Rattle.order_theory.proofs.LocalOrders.{prime_to}

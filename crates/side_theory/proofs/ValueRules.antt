@@ -1,5 +1,5 @@
 -- Values add on products at each place, and the value of a sum of functions with different values is the smaller one.
-use Rattle.std.proofs.Common.{◌≡◌, ℕ, ◌≤◌, List, sym, subst}
+use Rattle.std.proofs.Common.{◌≡◌, ℕ, List, subst}
 use Rattle.std.specs.Prelude.{ℤ, ◌+ℤ◌, pos}
 use Rattle.local_theory.specs.Ideals.{SameSet}
 use Rattle.ff_fields.specs.Field.{CodeField}
@@ -10,7 +10,6 @@ use Rattle.ff_algebra.specs.Functions.{Equation, FunctionOf, ring_of, of_poly, s
 use Rattle.ff_algebra.specs.Discriminant.{discriminant}
 use Rattle.ff_algebra.specs.Values.{PresValue, Functions, functions, setting, equation_of}
 use Rattle.ff_algebra.specs.Places.{Place, IsPlace, IsIn, HasValuationAtLeast, HasValuation}
-use Rattle.ff_algebra.specs.Infinity.{IsInfinitePresentation}
 use Rattle.ff_algebra.proofs.ScalarRings.{scalars_subring}
 use Rattle.places_theory.proofs.PlaceValues.{valuation_product, valuation_sum}
 use Rattle.places_theory.proofs.PresentationMap.{presentation_map}

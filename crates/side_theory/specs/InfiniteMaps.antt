@@ -8,7 +8,7 @@ use Rattle.ff_poly.specs.Polynomials.{Polynomial, codes_of, x_poly}
 use Rattle.ff_algebra.specs.declared.elem.Side.TheVariants.{Finite, Infinite}
 use Rattle.ff_algebra.specs.Functions.{of_poly, y_of, IsPolynomial}
 use Rattle.ff_algebra.specs.Values.{PresValue, ElemValue, IsElem, Functions, functions, setting, equation_of, function_of}
-use Rattle.ff_algebra.specs.Places.{Place, IsIntegralAt}
+use Rattle.ff_algebra.specs.Places.{Place, IsIn, IsIntegralAt}
 use Rattle.ff_algebra.specs.Infinity.{value_at, variable as variable_of, generator, function_on}
 use Rattle.places_theory.specs.Maps.{IsIsomorphism}
 use Rattle.places_theory.specs.InfiniteSide.{InReverse, IsPrimeToT}
@@ -22,6 +22,10 @@ IsCombinationAtInfinity k p q f gs z = Span (functions k p).ops ((setting k p).I
 -- the place at infinity that f takes the generators of a place to
 abbrev pub place_at_infinity : (k : CodeField) (p q : PresValue) → (Functions k q → Functions k p) → Place (Functions k q) → Place (Functions k p)
 place_at_infinity k p q f Q = record { side = Infinite; generators = map f Q.generators }
+
+-- a member of O that f takes into the place P
+abbrev pub IsMemberBelow : (k : CodeField) (p q : PresValue) → (Functions k q → Functions k p) → (Functions k q → Type 0) → Place (Functions k p) → Functions k q → Type 0
+IsMemberBelow k p q f O P z = O z × IsIn (setting k p) P (f z)
 
 -- f takes the elements of the infinite presentation q to the functions that they stand for, and what is said of q's variable to what is said of t = 1/x
 pub record IsInfiniteMap (k : CodeField) (p q : PresValue) (c : ℕ) (f : Functions k q → Functions k p) : Type 0 where

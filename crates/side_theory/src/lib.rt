@@ -22,12 +22,13 @@ ghost use Rattle.ff_algebra.specs.Infinity.{IsInfinitePresentation};
 ghost use Rattle.ff_algebra.specs.Discriminant.{discriminant};
 ghost use Rattle.local_theory.specs.Ideals.{Multiple, SameSet};
 ghost use Rattle.local_theory.specs.Orders.{MaximalAt, Radical};
-ghost use Rattle.local_theory.specs.Primes.{IsPrime};
+ghost use Rattle.local_theory.specs.Primes.{IsPrime, Pair};
+ghost use Rattle.local_theory.specs.IntegerValues.{ValueIs};
 ghost use Rattle.trace_theory.specs.Traces.{HasPolynomialCoordinates};
-ghost use Rattle.lattice_theory.specs.Lattices.{IsLattice, space_ops};
+ghost use Rattle.lattice_theory.specs.Lattices.{IsLattice, HasIndex, space_ops};
 ghost use Rattle.order_theory.specs.Orders.{IsOrder, IsPrimeTo, TakenByPowers};
 ghost use Rattle.side_theory.specs.Tame.{IsTame, HasPowerDenominator, IsLocallyIn};
-ghost use Rattle.side_theory.specs.InfiniteMaps.{IsInfiniteMap, IsCombinationAtInfinity, place_at_infinity};
+ghost use Rattle.side_theory.specs.InfiniteMaps.{IsInfiniteMap, IsCombinationAtInfinity, IsMemberBelow, place_at_infinity};
 ghost use Rattle.side_theory.specs.InfinitePlaces.{InfinitePlace, IsAllInfinite, sum_of_infinite_degrees};
 
 use lattice_theory::FunctionSets;
@@ -100,7 +101,7 @@ pub fn local_integral_law<S: FunctionSets>()
 
 /// The integral functions that powers of p take into k[x][y] are the tame order that is maximal at p. Where the square of p doesn't divide the discriminant,
 /// they are k[x][y].
-pub fn local_order_law()
+pub fn tame_order_law()
     ensures order { (k : CodeField) (c : Equation k) (p : Polynomial k) → IsIrreducible k.ops (codes_of k p) → ¬ (discriminant c ≡ (polynomials k).𝟘)
         → IsOrder c (TakenByPowers c p (HasPolynomialCoordinates c)) × IsTame c p (TakenByPowers c p (HasPolynomialCoordinates c))
         × MaximalAt (ring_of c).ops (of_poly c p) (IsIntegralAt (setting_of c) Finite) (TakenByPowers c p (HasPolynomialCoordinates c)) }
@@ -154,6 +155,11 @@ pub fn infinite_maximal_law()
         → ¬ (discriminant (equation_of k q) ≡ (polynomials k).𝟘) → (z : Functions k q)
         → IsLocallyIn (equation_of k q) (x_poly k) (TakenByPowers (equation_of k q) (x_poly k) (HasPolynomialCoordinates (equation_of k q))) z
         ↔ IsIntegralAt (setting k p) Infinite (f z) }
+    ensures spans { (k : CodeField) (p q : PresValue) (c : ℕ) (f : Functions k q → Functions k p) → IsInfiniteMap k p q c f
+        → ¬ (discriminant (equation_of k q) ≡ (polynomials k).𝟘) → (gs : List (Functions k q))
+        → SameSet (TakenByPowers (equation_of k q) (x_poly k) (HasPolynomialCoordinates (equation_of k q)))
+        (Span (functions k q).ops (IsPolynomial (equation_of k q)) gs) → (z : Functions k q)
+        → IsIntegralAt (setting k p) Infinite (f z) ↔ IsCombinationAtInfinity k p q f gs z }
     ensures whole { (k : CodeField) (p q : PresValue) (c : ℕ) (f : Functions k q → Functions k p) → IsInfiniteMap k p q c f
         → ¬ (discriminant (equation_of k q) ≡ (polynomials k).𝟘)
         → ¬ IsDivisor (polynomials k).ops ((polynomials k).◌⊗◌ (x_poly k) (x_poly k)) (discriminant (equation_of k q)) → (z : Functions k q)
@@ -199,9 +205,10 @@ pub fn place_map_law()
 {}
 
 /// Of an order over k[t] that is maximal at t, each prime over t gives an infinite place: the images of functions that span the prime over k[t] span the place,
-/// and the order has the same members of both.
+/// and the order has the same members of both. The degree of the place is the index of the prime in the order, and its valuation that of the prime.
+/// Each infinite place has such a prime, of the members of the order that go into it, and is the place that it gives.
 pub fn prime_at_infinity_law<O: InfiniteSets>()
-    ensures { (c : ℕ) (f : Functions O.field O.infinite → Functions O.field O.presentation) → IsInfiniteMap O.field O.presentation O.infinite c f
+    ensures place { (c : ℕ) (f : Functions O.field O.infinite → Functions O.field O.presentation) → IsInfiniteMap O.field O.presentation O.infinite c f
         → IsOrder (equation_of O.field O.infinite) O.members
         → MaximalAt (functions O.field O.infinite).ops (of_poly (equation_of O.field O.infinite) (x_poly O.field)) (IsIntegralAt (setting O.field O.infinite) Finite) O.members
         → IsPrime (functions O.field O.infinite).ops O.members O.prime → O.prime (setting O.field O.infinite).x → (gs : List (Functions O.field O.infinite))
@@ -209,6 +216,32 @@ pub fn prime_at_infinity_law<O: InfiniteSets>()
         → IsPlace (setting O.field O.presentation) (record { side = Infinite; generators = map f gs })
         × ((z : Functions O.field O.infinite) → O.members z
         → IsIn (setting O.field O.presentation) (record { side = Infinite; generators = map f gs }) (f z) ↔ O.prime z) }
+    ensures degree { (c : ℕ) (f : Functions O.field O.infinite → Functions O.field O.presentation) → IsInfiniteMap O.field O.presentation O.infinite c f
+        → IsOrder (equation_of O.field O.infinite) O.members
+        → MaximalAt (functions O.field O.infinite).ops (of_poly (equation_of O.field O.infinite) (x_poly O.field)) (IsIntegralAt (setting O.field O.infinite) Finite) O.members
+        → IsPrime (functions O.field O.infinite).ops O.members O.prime → O.prime (setting O.field O.infinite).x → (gs : List (Functions O.field O.infinite))
+        → SameSet O.prime (Span (functions O.field O.infinite).ops (IsPolynomial (equation_of O.field O.infinite)) gs)
+        → (d : ℕ) → HasIndex (equation_of O.field O.infinite) O.prime O.members d
+        → HasDegree (setting O.field O.presentation) (record { side = Infinite; generators = map f gs }) d }
+    ensures value { (c : ℕ) (f : Functions O.field O.infinite → Functions O.field O.presentation) → IsInfiniteMap O.field O.presentation O.infinite c f
+        → IsOrder (equation_of O.field O.infinite) O.members
+        → MaximalAt (functions O.field O.infinite).ops (of_poly (equation_of O.field O.infinite) (x_poly O.field)) (IsIntegralAt (setting O.field O.infinite) Finite) O.members
+        → IsPrime (functions O.field O.infinite).ops O.members O.prime → O.prime (setting O.field O.infinite).x → (gs : List (Functions O.field O.infinite))
+        → SameSet O.prime (Span (functions O.field O.infinite).ops (IsPolynomial (equation_of O.field O.infinite)) gs)
+        → ¬ (discriminant (equation_of O.field O.infinite) ≡ (polynomials O.field).𝟘)
+        → (t : Pair (functions O.field O.infinite).ops O.members O.prime) (z : Functions O.field O.infinite) (m : ℤ)
+        → HasValuation (setting O.field O.presentation) (record { side = Infinite; generators = map f gs }) (f z) m
+        ↔ ValueIs (functions O.field O.infinite).ops O.members O.prime t z m }
+    ensures every { (c : ℕ) (f : Functions O.field O.infinite → Functions O.field O.presentation) → IsInfiniteMap O.field O.presentation O.infinite c f
+        → IsOrder (equation_of O.field O.infinite) O.members
+        → MaximalAt (functions O.field O.infinite).ops (of_poly (equation_of O.field O.infinite) (x_poly O.field)) (IsIntegralAt (setting O.field O.infinite) Finite) O.members
+        → (P : Place (Functions O.field O.presentation)) → IsPlace (setting O.field O.presentation) P → P.side ≡ Infinite
+        → IsPrime (functions O.field O.infinite).ops O.members (IsMemberBelow O.field O.presentation O.infinite f O.members P)
+        × IsLattice (equation_of O.field O.infinite) (IsMemberBelow O.field O.presentation O.infinite f O.members P)
+        × IsMemberBelow O.field O.presentation O.infinite f O.members P (setting O.field O.infinite).x
+        × ((gs : List (Functions O.field O.infinite)) → SameSet (IsMemberBelow O.field O.presentation O.infinite f O.members P)
+        (Span (functions O.field O.infinite).ops (IsPolynomial (equation_of O.field O.infinite)) gs)
+        → IsSamePlace (setting O.field O.presentation) (record { side = Infinite; generators = map f gs }) P) }
 {}
 
 /// Membership at infinity is decided: in a span over the fractions of degree at most 0, and in O_inf.
