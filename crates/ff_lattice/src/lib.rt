@@ -41,4 +41,6 @@ pub use order::Order;
 pub use quotient::Quotient;
 
 #[cfg(test)]
+mod order_tests;
+#[cfg(test)]
 mod tests;

@@ -19,7 +19,7 @@ use std::alloc::{AllocError, Global};
 use std::test::Fail;
 
 // c + b·x.
-fn line<K: SmallField>(alloc: Global, k: &K, c: u32, b: u32) -> Result<Poly, AllocError>
+pub(crate) fn line<K: SmallField>(alloc: Global, k: &K, c: u32, b: u32) -> Result<Poly, AllocError>
     requires c_in { c < (K.field k.now).size }
     requires b_in { b < (K.field k.now).size }
     ensures { IfOk result (IsOver (K.field k.now).ops) }
@@ -31,7 +31,13 @@ fn line<K: SmallField>(alloc: Global, k: &K, c: u32, b: u32) -> Result<Poly, All
 }
 
 // c + b·x + w·y.
-fn elem<K: SmallField>(alloc: Global, k: &K, c: u32, b: u32, w: u32) -> Result<Elem, AllocError>
+pub(crate) fn elem<K: SmallField>(
+    alloc: Global,
+    k: &K,
+    c: u32,
+    b: u32,
+    w: u32,
+) -> Result<Elem, AllocError>
     requires c_in { c < (K.field k.now).size }
     requires b_in { b < (K.field k.now).size }
     requires w_in { w < (K.field k.now).size }
@@ -46,7 +52,13 @@ fn elem<K: SmallField>(alloc: Global, k: &K, c: u32, b: u32, w: u32) -> Result<E
 }
 
 // y^2 + c + b·x + d·x^3.
-fn curve<K: SmallField>(alloc: Global, k: &K, c: u32, b: u32, d: u32) -> Result<Pres, AllocError>
+pub(crate) fn curve<K: SmallField>(
+    alloc: Global,
+    k: &K,
+    c: u32,
+    b: u32,
+    d: u32,
+) -> Result<Pres, AllocError>
     requires c_in { c < (K.field k.now).size }
     requires b_in { b < (K.field k.now).size }
     requires d_in { d < (K.field k.now).size }
@@ -76,7 +88,7 @@ fn pair(alloc: Global, first: Elem, second: Elem) -> Result<Vec<Elem>, AllocErro
 }
 
 // The lattice of two generators.
-fn lattice<K: SmallField>(
+pub(crate) fn lattice<K: SmallField>(
     alloc: Global,
     k: &K,
     p: &Pres,
@@ -93,7 +105,7 @@ fn lattice<K: SmallField>(
 }
 
 // The lattice of 1 and y.
-fn whole<K: SmallField>(alloc: Global, k: &K, p: &Pres) -> Result<Lattice, LatticeFault>
+pub(crate) fn whole<K: SmallField>(alloc: Global, k: &K, p: &Pres) -> Result<Lattice, LatticeFault>
     requires size { 1 < (K.field k.now).size }
     requires degree { p.now.n ≡ 2 }
     ensures { IfOk result (IsLattice (K.field k.now).ops 2) }
@@ -108,7 +120,12 @@ fn whole<K: SmallField>(alloc: Global, k: &K, p: &Pres) -> Result<Lattice, Latti
 }
 
 // The lattice of x and c + y.
-fn at<K: SmallField>(alloc: Global, k: &K, p: &Pres, c: u32) -> Result<Lattice, LatticeFault>
+pub(crate) fn at<K: SmallField>(
+    alloc: Global,
+    k: &K,
+    p: &Pres,
+    c: u32,
+) -> Result<Lattice, LatticeFault>
     requires size { 1 < (K.field k.now).size }
     requires c_in { c < (K.field k.now).size }
     requires degree { p.now.n ≡ 2 }
@@ -124,7 +141,11 @@ fn at<K: SmallField>(alloc: Global, k: &K, p: &Pres, c: u32) -> Result<Lattice, 
 }
 
 // The members of the lattice times x.
-fn times_x<K: SmallField>(alloc: Global, k: &K, a: &Lattice) -> Result<Lattice, LatticeFault>
+pub(crate) fn times_x<K: SmallField>(
+    alloc: Global,
+    k: &K,
+    a: &Lattice,
+) -> Result<Lattice, LatticeFault>
     requires size { 1 < (K.field k.now).size }
     requires form { IsLattice (K.field k.now).ops 2 a.now }
     ensures { IfOk result (IsLattice (K.field k.now).ops 2) }
@@ -139,20 +160,28 @@ fn times_x<K: SmallField>(alloc: Global, k: &K, a: &Lattice) -> Result<Lattice, 
 }
 
 // Are they the same?
-fn same<K: SmallField>(k: &K, a: &Lattice, b: &Lattice) -> bool
+pub(crate) fn same<K: SmallField>(k: &K, a: &Lattice, b: &Lattice) -> bool
     requires a_form { IsLattice (K.field k.now).ops 2 a.now }
     requires b_form { IsLattice (K.field k.now).ops 2 b.now }
 {
     a.len() == 2 && same_lattice(k, a, b)
 }
 
-// Is the sum of x, 1 + y and x, 6 + y the lattice of 1 and y?
-fn known_sum<K: SmallField>(alloc: Global, k: &K) -> Result<bool, LatticeFault>
-    requires { 6 < (K.field k.now).size }
+// Is the sum of x, c + y and x, d + y the lattice of 1 and y?
+fn known_sum<K: SmallField>(
+    alloc: Global,
+    k: &K,
+    p: &Pres,
+    c: u32,
+    d: u32,
+) -> Result<bool, LatticeFault>
+    requires size { 1 < (K.field k.now).size }
+    requires c_in { c < (K.field k.now).size }
+    requires d_in { d < (K.field k.now).size }
+    requires degree { p.now.n ≡ 2 }
 {
-    let p = curve(alloc, k, 6, 0, 6)?;
-    let total = sum(alloc, k, &p, &at(alloc, k, &p, 1)?, &at(alloc, k, &p, 6)?)?;
-    Ok(same(k, &total, &whole(alloc, k, &p)?))
+    let total = sum(alloc, k, p, &at(alloc, k, p, c)?, &at(alloc, k, p, d)?)?;
+    Ok(same(k, &total, &whole(alloc, k, p)?))
 }
 
 // Is the product of x, c + y and x, d + y that of x and x·y?
@@ -173,14 +202,30 @@ fn known_product<K: SmallField>(
     Ok(same(k, &both, &times_x(alloc, k, &whole(alloc, k, p)?)?))
 }
 
-// Are the functions that take x and 1 + y into the lattice of 1 and y the combinations of 1 and (6 + y)/x?
-fn known_colon<K: SmallField>(alloc: Global, k: &K, p: &Pres) -> Result<bool, LatticeFault>
-    requires size { 6 < (K.field k.now).size }
+// Are the functions that take x and c + y into the lattice of 1 and y the combinations of 1 and (d + y)/x?
+fn known_colon<K: SmallField>(
+    alloc: Global,
+    k: &K,
+    p: &Pres,
+    c: u32,
+    d: u32,
+) -> Result<bool, LatticeFault>
+    requires size { 1 < (K.field k.now).size }
+    requires c_in { c < (K.field k.now).size }
+    requires d_in { d < (K.field k.now).size }
     requires degree { p.now.n ≡ 2 }
     requires p_in { IsPresOver (K.field k.now).ops p.now }
 {
-    let found = colon(alloc, k, p, &whole(alloc, k, p)?, &at(alloc, k, p, 1)?)?;
-    Ok(same(k, &times_x(alloc, k, &found)?, &at(alloc, k, p, 6)?))
+    let found = colon(alloc, k, p, &whole(alloc, k, p)?, &at(alloc, k, p, c)?)?;
+    Ok(same(k, &times_x(alloc, k, &found)?, &at(alloc, k, p, d)?))
+}
+
+// The sum over y^2 + 6·x^3 + 6.
+fn separable_sum<K: SmallField>(alloc: Global, k: &K) -> Result<bool, LatticeFault>
+    requires { 6 < (K.field k.now).size }
+{
+    let p = curve(alloc, k, 6, 0, 6)?;
+    known_sum(alloc, k, &p, 1, 6)
 }
 
 // The colon over y^2 + 6·x^3 + 6.
@@ -188,7 +233,7 @@ fn separable_colon<K: SmallField>(alloc: Global, k: &K) -> Result<bool, LatticeF
     requires { 6 < (K.field k.now).size }
 {
     let p = curve(alloc, k, 6, 0, 6)?;
-    known_colon(alloc, k, &p)
+    known_colon(alloc, k, &p, 1, 6)
 }
 
 // Are the lattices of x, 1 + y and of x, 6 + y the same?
@@ -234,12 +279,77 @@ fn separable<K: SmallField>(alloc: Global, k: &K) -> Result<bool, LatticeFault>
     known_product(alloc, k, &p, 1, 6)
 }
 
-// The square of x and y over y^2 + x.
+// Over y^2 + x, where f has no derivative: the square of x and y, the sum of x, y and x, 1 + y, and the functions that take x
+// and y into the lattice of 1 and y.
 fn inseparable<K: SmallField>(alloc: Global, k: &K) -> Result<bool, LatticeFault>
     requires { 1 < (K.field k.now).size }
 {
     let p = curve(alloc, k, 0, 1, 0)?;
-    known_product(alloc, k, &p, 0, 0)
+    Ok(
+        known_product(alloc, k, &p, 0, 0)?
+            && known_sum(alloc, k, &p, 0, 1)?
+            && known_colon(alloc, k, &p, 0, 0)?,
+    )
+}
+
+// y^2 + 6·x^2, of which y - x and y + x are factors.
+fn two_lines<K: SmallField>(alloc: Global, k: &K) -> Result<Pres, AllocError>
+    requires { 6 < (K.field k.now).size }
+    ensures over { IfOk result (IsPresOver (K.field k.now).ops) }
+    ensures degree { IfOk result (λ p. p.n ≡ 2) }
+{
+    let mut codes = Vec::new(alloc);
+    codes.push(0)?;
+    codes.push(0)?;
+    codes.push(6)?;
+    let mut coeffs = Vec::new(alloc);
+    coeffs.push(Poly::from_codes(codes))?;
+    coeffs.push(Poly::zero(alloc))?;
+    Ok(Pres::new(2, coeffs))
+}
+
+// The lattice of the zero divisors y - x and y + x.
+fn divisors<K: SmallField>(alloc: Global, k: &K, p: &Pres) -> Result<Lattice, LatticeFault>
+    requires size { 6 < (K.field k.now).size }
+    requires degree { p.now.n ≡ 2 }
+    ensures { IfOk result (IsLattice (K.field k.now).ops 2) }
+{
+    lattice(
+        alloc,
+        k,
+        p,
+        elem(alloc, k, 0, 6, 1)?,
+        elem(alloc, k, 0, 1, 1)?,
+    )
+}
+
+// Is the lattice of y - x and y + x that of x and y, and so its sum with x times the lattice of 1 and y?
+fn divisors_sum<K: SmallField>(alloc: Global, k: &K) -> Result<bool, LatticeFault>
+    requires { 6 < (K.field k.now).size }
+{
+    let p = two_lines(alloc, k)?;
+    let u = divisors(alloc, k, &p)?;
+    let total = sum(alloc, k, &p, &times_x(alloc, k, &whole(alloc, k, &p)?)?, &u)?;
+    Ok(same(k, &u, &at(alloc, k, &p, 0)?) && same(k, &total, &u))
+}
+
+// Is the square of y - x and y + x the lattice times x?
+fn divisors_product<K: SmallField>(alloc: Global, k: &K) -> Result<bool, LatticeFault>
+    requires { 6 < (K.field k.now).size }
+{
+    let p = two_lines(alloc, k)?;
+    let u = divisors(alloc, k, &p)?;
+    Ok(same(k, &product(alloc, k, &p, &u, &u)?, &times_x(alloc, k, &u)?))
+}
+
+// Are the functions that take y - x and y + x into the lattice of 1 and y the combinations of 1 and y/x?
+fn divisors_colon<K: SmallField>(alloc: Global, k: &K) -> Result<bool, LatticeFault>
+    requires { 6 < (K.field k.now).size }
+{
+    let p = two_lines(alloc, k)?;
+    let u = divisors(alloc, k, &p)?;
+    let found = colon(alloc, k, &p, &whole(alloc, k, &p)?, &u)?;
+    Ok(same(k, &times_x(alloc, k, &found)?, &u))
 }
 
 // Row 1 of the lattice of x and 1 + y.
@@ -281,7 +391,7 @@ fn not_full<K: SmallField>(alloc: Global, k: &K) -> Result<bool, AllocError>
 #[test]
 fn sums_products_and_members(rt: HostRuntime) -> Result<(), Fail> {
     let k = PrimeField::new(7)?;
-    assert!(rt; known_sum(rt.alloc(), &k)?);
+    assert!(rt; separable_sum(rt.alloc(), &k)?);
     assert!(rt; separable(rt.alloc(), &k)?);
     assert!(rt; !one_at_both(rt.alloc(), &k)?);
     assert!(rt; member(rt.alloc(), &k, 0, 1)?);
@@ -315,5 +425,14 @@ fn characteristic_two(rt: HostRuntime) -> Result<(), Fail> {
 fn colons(rt: HostRuntime) -> Result<(), Fail> {
     let k = PrimeField::new(7)?;
     assert!(rt; separable_colon(rt.alloc(), &k)?);
+    Ok(())
+}
+
+#[test]
+fn zero_divisors(rt: HostRuntime) -> Result<(), Fail> {
+    let k = PrimeField::new(7)?;
+    assert!(rt; divisors_sum(rt.alloc(), &k)?);
+    assert!(rt; divisors_product(rt.alloc(), &k)?);
+    assert!(rt; divisors_colon(rt.alloc(), &k)?);
     Ok(())
 }
