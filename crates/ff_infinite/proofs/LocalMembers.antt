@@ -1,7 +1,7 @@
 -- Membership over the fractions of degree at most 0 is membership over k[t], once the denominator is a power of t.
-use Rattle.std.proofs.Common.{◌≡◌, ◌↔◌, All, ℕ, zero, suc, ◌+◌, ◌-◌, ◌≤◌, Bool, IsTrue, List, [], ◌∷◌, ◌++◌, length, map, get_or, replicate, refl, sym, ◌∙◌, ap, ap₂, subst, arith}
+use Rattle.std.proofs.Common.{◌≡◌, ◌↔◌, All, ℕ, zero, suc, ◌-◌, ◌≤◌, Bool, IsTrue, List, [], ◌∷◌, ◌++◌, map, get_or, replicate, refl, sym, ◌∙◌, ap, ap₂, subst}
 use Rattle.std.proofs.lemmas.List.Elements.{All-head, All-tail}
-use Rattle.ff_ring.specs.Ring.{CommRing, pow}
+use Rattle.ff_ring.specs.Ring.{pow}
 use Rattle.ff_ring.specs.Subsets.{Span}
 use Rattle.ff_ring.proofs.Ring.{one_mul, zero_add}
 use Rattle.ff_ring.proofs.Subsets.{span_module}
@@ -11,16 +11,15 @@ use Rattle.ff_fields.specs.Over.{IsOver}
 use Rattle.ff_poly.specs.Words.{IsPoly}
 use Rattle.ff_poly.specs.Value.{value}
 use Rattle.ff_poly.specs.Popov.{IsRow}
-use Rattle.ff_poly.specs.Polynomials.{Polynomial, polynomials, polynomials_domain, codes_of, value_cons, value_one, x_poly}
+use Rattle.ff_poly.specs.Polynomials.{Polynomial, polynomials, value_cons, value_one, x_poly}
 use Rattle.ff_algebra.specs.declared.elem.Side.TheVariants.{Infinite}
 use Rattle.ff_algebra.specs.Functions.{of_poly, over, row_of, IsPolynomial}
 use Rattle.ff_algebra.specs.Values.{PresValue, ElemValue, IsElem, IsMonicElem, Functions, functions, setting, equation_of, row_of_list, row_over, function_of}
-use Rattle.ff_algebra.specs.Infinity.{value_at, variable, function_on, IsInfinitePresentation}
+use Rattle.ff_algebra.specs.Infinity.{variable, function_on, IsInfinitePresentation}
 use Rattle.ff_algebra.specs.InfiniteSpans.{InInfiniteSpan}
 use Rattle.ff_algebra.proofs.OnSide.{den_inverse}
 use Rattle.ff_algebra.proofs.SameValues.{row_over_num, row_over_den, monic_some, elem_den}
 use Rattle.ff_algebra.proofs.ScalarRings.{polynomials_subring}
-use Rattle.places_theory.specs.InfiniteSide.{IsPrimeToT}
 use Rattle.places_theory.proofs.YRoot.{poly_hom, at_y, den_times, at_y_plain}
 use Rattle.places_theory.proofs.AtInfinity.{constant_zero, x_power_not_zero, x_power, at_codes, value_at_is}
 use Rattle.places_theory.proofs.PresentationMap.{presentation_map}

@@ -1,5 +1,5 @@
 -- The elements 1, y, up to y^(n-1) span the functions that have polynomials as coordinates.
-use Rattle.std.proofs.Common.{◌≡◌, ◌↔◌, All, ℕ, zero, suc, ◌+◌, ◌-◌, ◌<◌, ◌≤◌, ◌⊎◌, inl, inr, List, [], ◌∷◌, ◌++◌, length, map, get_or, refl, sym, ◌∙◌, ap, ap₂, subst, arith}
+use Rattle.std.proofs.Common.{◌≡◌, ◌↔◌, All, ℕ, suc, ◌+◌, ◌-◌, ◌<◌, ◌≤◌, ◌⊎◌, inl, inr, List, [], ◌∷◌, ◌++◌, length, map, get_or, refl, sym, ◌∙◌, ap, subst, arith}
 use Rattle.std.proofs.lemmas.Bool.{cases_lt}
 use Rattle.std.proofs.lemmas.List.{same_lists, length-append, length-map, get_or-map, get_or_append_left, get_or_at}
 use Rattle.std.proofs.lemmas.List.Elements.{All-nil, All-push}
@@ -10,7 +10,7 @@ use Rattle.ff_fields.specs.Code.{code_field}
 use Rattle.ff_poly.specs.Value.{value}
 use Rattle.ff_poly.specs.Polynomials.{Polynomial, polynomials, polynomials_domain, codes_of, value_codes_of, value_nil, value_one, IsOver_codes_of, IsPoly_codes_of, x_poly}
 use Rattle.popov_theory.proofs.Dimension.{units, units_at, units_length, in_units}
-use Rattle.ff_popov.specs.Reading.{read_row, row_space}
+use Rattle.ff_popov.specs.Reading.{row_space}
 use Rattle.ff_popov.proofs.Measures.{space_width}
 use Rattle.ff_algebra.specs.Functions.{of_poly, over, IsPolynomial}
 use Rattle.ff_algebra.specs.Values.{ElemValue, PresValue, IsElem, Functions, functions, equation_of, function_of}

@@ -1,4 +1,4 @@
-use Rattle.std.proofs.Common.{◌≡◌, ◌↔◌, ℕ, ◌<◌, [], ◌∷◌, sym, subst, ap, ◌∙◌, arith}
+use Rattle.std.proofs.Common.{◌≡◌, ◌↔◌, ◌<◌, [], ◌∷◌, sym, subst, ap, ◌∙◌, arith}
 use Rattle.ff_poly.specs.Polynomials.{x_poly}
 use Rattle.ff_algebra.specs.Values.{IsElem, Functions, equation_of, function_of}
 use Rattle.trace_theory.specs.Traces.{HasPolynomialCoordinates}
