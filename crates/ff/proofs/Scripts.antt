@@ -1,21 +1,21 @@
 -- The statements of a short script can be taken by a session.
 use Rattle.std.proofs.Common.{◌≡◌, ℕ, suc, ◌+◌, ◌^◌, ◌<◌, ◌≤◌, ◌⊎◌, inl, inr, Bool, true, false, cond, List, [], ◌∷◌, ◌++◌, length, All, codes, refl, sym, ap, ◌∙◌, subst, arith}
-use Rattle.std.specs.Prelude.{◌==◌}
+use Rattle.std.specs.Prelude.{◌==◌, IfSome, Option, Some, None}
 use Rattle.std.specs.List.{slice_split, onto_first, AllByRecursion}
-use Rattle.std.proofs.lemmas.List.{length-append}
+use Rattle.std.proofs.lemmas.List.{length-append, append-nil}
 use Rattle.std.proofs.lemmas.List.Elements.{All-nil, All-cons}
 use Rattle.ff_text.specs.declared.terms.Term.{Term}
 use Rattle.ff_text.specs.declared.terms.ElemText.{ElemText}
-use Rattle.ff_text.specs.Spelling.{Then, Is, Blanks, Around, Each, SpellsTerms, SpellsEntries, SpellsElement}
+use Rattle.ff_text.specs.Spelling.{Then, Is, Blanks, Around, Each, FirstSign, SpellsFirst, SpellsOneTerm, SpellsTerms, SpellsDen, SpellsTail, SpellsEntries, SpellsElement}
 use Rattle.ff_text.specs.Values.{HasSmallExponents}
 use Rattle.ff_text.proofs.Exponents.{terms_small}
 use Rattle.ff_script.specs.declared.script.Statement.{Statement}
-use Rattle.ff_script.specs.declared.script.Statement.TheVariants.{FieldOf, CurveOf, Mul}
+use Rattle.ff_script.specs.declared.script.Statement.TheVariants.{FieldOf, CurveOf, Mul, Factor}
 use Rattle.ff_script.specs.Grammar.{IsGap, SpellsParts, ArePartsOf, SpellsLine}
 use Rattle.ff_script.specs.Scripts.{without_empty_last, lines_of, IsReadAs, IsScript, MayFollow, AreInOrderFrom}
 use Rattle.ff_script.specs.Printing.{IsWritable}
 use Rattle.ff_script.proofs.Writable.{line_writable}
-use Rattle.ff_session.specs.Sessions.{HasSmallPowers}
+use Rattle.ff_session.specs.Sessions.{HasSmallElement, HasSmallPowers}
 use Rattle.ff.specs.Ready.{IsReady}
 
 length_then : {A B : List ℕ → Type 0} (g : List ℕ) (t : Then A B g) → length g ≡ length t.front + length t.back
@@ -83,13 +83,41 @@ entries_small (e ∷ es) g short h =
     let long = length_then g h in
     All-cons (All HasSmallExponents) e es (terms_small false e h.front h.first (omega arith)) (more_small es h.back (omega arith) h.second)
 
-element_small : (e : ElemText) (g : List ℕ) → length g < 2 ^ 34 → SpellsElement e g → All (All HasSmallExponents) e.entries
+one_term_small : (d : List Term) (g : List ℕ) → length g < 2 ^ 34 → SpellsOneTerm d g → All HasSmallExponents d
+one_term_small [] g short h = absurd h
+one_term_small (t ∷ []) g short h = terms_small false (t ∷ []) g spelled short
+  where
+    first : SpellsFirst false t g
+    first = record { front = []; back = g; whole = refl; first = subst (λ m. FirstSign m []) (sym h.0) refl; second = h.1 }
+
+    spelled : SpellsTerms false (t ∷ []) g
+    spelled = record { front = g; back = []; whole = sym (append-nil g); first = first; second = refl }
+one_term_small (t ∷ u ∷ ts) g short h = absurd h
+
+den_small : (d : List Term) (g : List ℕ) → length g < 2 ^ 34 → SpellsDen d g → All HasSmallExponents d
+den_small d g short (inl h) = one_term_small d g short h
+den_small d g short (inr h) =
+    let open_ = length_then g h in
+    let blanks = length_then h.back h.second in
+    let inner = length_then h.second.back h.second.second in
+    terms_small false d h.second.second.front h.second.second.first (omega arith)
+
+tail_small : (o : Option (List Term)) (g : List ℕ) → length g < 2 ^ 34 → SpellsTail o g → IfSome o (All HasSmallExponents)
+tail_small None g short h = tt
+tail_small (Some d) g short h =
+    let slash = length_then g h in
+    den_small d h.back (omega arith) h.second
+
+element_small : (e : ElemText) (g : List ℕ) → length g < 2 ^ 34 → SpellsElement e g → HasSmallElement e
 element_small e g short h =
     let whole = length_then g h in
     let open_ = length_then h.front h.first in
     let blanks = length_then h.first.back h.first.second in
     let inner = length_then h.first.second.back h.first.second.second in
-    entries_small e.entries h.first.second.second.front (omega arith) h.first.second.second.first
+    record {
+      entries = entries_small e.entries h.first.second.second.front (omega arith) h.first.second.second.first;
+      den = tail_small e.den h.back (omega arith) h.second;
+    }
 
 powers_small : (s : Statement) (parts : List (List ℕ)) (n : ℕ) → n < 2 ^ 34 → AllByRecursion (IsShort n) parts → ArePartsOf s parts → HasSmallPowers s
 powers_small (FieldOf p tail) parts n small short h = tt
@@ -101,7 +129,11 @@ powers_small (Mul a b) parts n small short h =
     let all = subst (AllByRecursion (IsShort n)) h.2 short in
     let left = all.1.0 in
     let right = all.1.1.0 in
-    (element_small a h.0 (omega (arith, left)) h.3.element, element_small b h.1 (omega (arith, right)) h.4.element)
+    (element_small a h.0 (omega (arith, left)) h.3, element_small b h.1 (omega (arith, right)) h.4)
+powers_small (Factor g) parts n small short h =
+    let all = subst (AllByRecursion (IsShort n)) h.1 short in
+    let le = all.1.0 in
+    terms_small false g h.0 h.2 (omega (arith, le))
 
 line_ready : (s : Statement) (line : List ℕ) → length line < 2 ^ 34 → SpellsLine s line → IsReady s
 line_ready s line short h =

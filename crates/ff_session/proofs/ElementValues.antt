@@ -1,16 +1,16 @@
 -- The element that is written: its polynomials, their degrees, and that there is one.
 use Rattle.std.proofs.Common.{◌≡◌, ◌≢◌, ℕ, zero, suc, ◌+◌, ◌-◌, ◌<◌, ◌≤◌, ◌⊎◌, inl, inr, max, true≢false, eq-eqb, Bool, true, false, List, [], ◌∷◌, ◌++◌, length, get_or, map, refl, sym, ap, ap₂, ◌∙◌, subst, arith, add-zero, All, Option, Some, None}
-use Rattle.std.specs.Prelude.{find, nat_le, flat_map, IsTrue, sum_by, fold}
+use Rattle.std.specs.Prelude.{find, nat_le, flat_map, IfSome, IsTrue, sum_by, fold}
 use Rattle.std.specs.List.{AllByRecursion, slice_index_or}
 use Rattle.std.proofs.lemmas.Bool.{cases_lt}
 use Rattle.std.proofs.lemmas.List.{append-nil}
-use Rattle.std.proofs.lemmas.List.Elements.{All-nil, All-cons}
+use Rattle.std.proofs.lemmas.List.Elements.{All-nil, All-cons, All-append}
 use native.Mathlib.Decide.{ℕ_discrete}
 use Rattle.ff_ring.specs.Lists.{IsTrimmed}
 use Rattle.ff_fields.specs.Field.{FieldOps, CodeField}
 use Rattle.ff_fields.specs.Code.{is_zero_code}
 use Rattle.ff_poly.specs.Words.{IsPoly, poly_of}
-use Rattle.ff_poly.specs.TermWords.{IsTerms, code_at}
+use Rattle.ff_poly.specs.TermWords.{IsBefore, IsTerms, code_at}
 use Rattle.ff_poly.proofs.Quotients.{top_some}
 use Rattle.ff_algebra.specs.Values.{ElemValue}
 use Rattle.ff_algebra.specs.Curves.{IsCoefficient, degree_in_x}
@@ -19,14 +19,15 @@ use Rattle.ff_text.specs.declared.terms.Factor.{Factor}
 use Rattle.ff_text.specs.declared.terms.Factor.TheVariants.{Code, X, Y}
 use Rattle.ff_text.specs.declared.terms.Term.{Term}
 use Rattle.ff_text.specs.declared.terms.ElemText.{ElemText}
-use Rattle.ff_text.specs.Printing.{IsWritableFactor, IsWritableTerm, IsWritableTerms}
+use Rattle.ff_text.specs.Printing.{IsWritableFactor, IsWritableTerm, IsWritableTerms, IsWritableElement}
 use Rattle.ff_text.specs.Values.{written_codes, exponent_of_y, triple_of, triples_of}
 use Rattle.ff_text.proofs.Gathered.{found_behind}
 use Rattle.ff_session.specs.declared.refusal.Refusal.{Refusal}
-use Rattle.ff_session.specs.Meaning.{codes_of_element, AreCodesBelow, IsSumOf, IsPolyOf, ArePolysOf, IsDenOf, IsElementOf, greatest_degree, degree_of_element}
-use Rattle.ff_session.specs.Refusals.{IsWithin, IsElementRow, range, size, degree}
-use Rattle.ff_session.specs.Elements.{greatest_in_x, AreSumsOf, AreCoefficients}
-use Rattle.ff_session.proofs.TermCodes.{IsAt, code_none, code_of_each, code_above, code_on_top}
+use Rattle.ff_session.specs.Meaning.{codes_of_den, codes_of_element, AreCodesBelow, IsSumOf, IsPolyOf, ArePolysOf, IsDenOf, IsElementOf, greatest_degree, degree_of_element}
+use Rattle.ff_session.specs.Refusals.{IsWithin, IsElementRow, range, size, degree, zero_den}
+use Rattle.ff_session.specs.Elements.{greatest_in_x, AreSumsOf, IsDenSumOf, AreElementSums, AreCoefficients}
+use Rattle.ff_session.proofs.TermCodes.{IsAt, code_none, code_other, code_of_each, code_above, code_on_top, same_terms}
+use Rattle.ff_session.proofs.EntrySums.{codes_below}
 
 abbrev pub Terms : Type 0
 Terms = List (ℕ × ℕ × ℕ)
@@ -54,7 +55,7 @@ module _ (k : FieldOps) where
 
 module _ (k : CodeField) where
   -- no term of the sum has y
-  no_y_sum : (ts : List Term) (s : Terms) → IsWritableTerms false ts → IsSumOf k.ops ts s → All (λ t. t.0 ≡ 0) s
+  pub no_y_sum : (ts : List Term) (s : Terms) → IsWritableTerms false ts → IsSumOf k.ops ts s → All (λ t. t.0 ≡ 0) s
   no_y_sum ts s writable h n d less = go (ℕ_discrete t.0 0)
     where
       t : ℕ × ℕ × ℕ
@@ -81,7 +82,7 @@ module _ (k : CodeField) where
       go (inl less) = absurd ((top_some (c ∷ p) h.poly (λ e. cc)).1 (h.codes (length (c ∷ p) - 1) ∙ code_above k.ops 0 (length (c ∷ p) - 1) s less))
       go (inr le) = omega arith
 
-  degree_is : (s : Terms) (p : List ℕ) → IsTerms s → All (λ t. t.2 < k.size) s → All (λ t. t.0 ≡ 0) s → IsCoefficient k.ops s 0 p → length p - 1 ≡ degree_in_x s
+  pub degree_is : (s : Terms) (p : List ℕ) → IsTerms s → All (λ t. t.2 < k.size) s → All (λ t. t.0 ≡ 0) s → IsCoefficient k.ops s 0 p → length p - 1 ≡ degree_in_x s
   degree_is [] p terms terms_in no_y h = let le = not_longer [] p h in omega (arith, le)
   degree_is (t ∷ ts) p terms terms_in no_y h =
       let le = not_longer (t ∷ ts) p h in
@@ -107,6 +108,10 @@ module _ (k : CodeField) where
 
 -- ---- the polynomials of the entries
 
+-- the polynomial of a sum is that of the terms
+pub poly_is : (k : FieldOps) (ts : List Term) (s : Terms) (p : List ℕ) → IsSumOf k ts s → IsCoefficient k s 0 p → IsPolyOf k ts p
+poly_is k ts s p h g = record { written = h.written; poly = g.poly; codes = λ j. g.codes j ∙ h.codes 0 j }
+
 pub polys_of : (k : FieldOps) (es : List (List Term)) (ss : List Terms) (ps : List (List ℕ)) → AreSumsOf k es ss → AreCoefficients k ss ps → ArePolysOf k es ps
 polys_of k [] ss ps h g = none ss h g
   where
@@ -115,10 +120,7 @@ polys_of k [] ss ps h g = none ss h g
     none (s ∷ ss) e g = absurd cc
 polys_of k (e ∷ es) [] ps h g = absurd h
 polys_of k (e ∷ es) (s ∷ ss) [] h g = absurd g
-polys_of k (e ∷ es) (s ∷ ss) (p ∷ ps) h g = (
-  record { written = h.0.written; poly = g.0.poly; codes = λ j. g.0.codes j ∙ h.0.codes 0 j },
-  polys_of k es ss ps h.1 g.1,
-)
+polys_of k (e ∷ es) (s ∷ ss) (p ∷ ps) h g = (poly_is k e s p h.0 g.0, polys_of k es ss ps h.1 g.1)
 
 -- the values of a function below n
 table : (ℕ → ℕ) → ℕ → List ℕ
@@ -132,24 +134,19 @@ get_or_table f (suc n) none zero = refl
 get_or_table f (suc n) none (suc j) = get_or_table (λ i. f (suc i)) n (λ j le. none (suc j) (omega arith)) j
 
 -- each sum has a polynomial, of whatever degree
+pub coefficient_exists : (k : FieldOps) (s : Terms) → (p : List ℕ) × IsCoefficient k s 0 p
+coefficient_exists k s =
+    let codes = table (λ j. code_at k 0 j s) (degree_in_x s + 1) in (
+      poly_of codes,
+      IsCoefficient_poly_of k s 0 codes (poly_of codes) (get_or_table (λ j. code_at k 0 j s) (degree_in_x s + 1) (λ j le. code_above k 0 j s (omega arith))) refl,
+    )
+
 pub coefficients_exist : (k : FieldOps) (ss : List Terms) → (ps : List (List ℕ)) × AreCoefficients k ss ps
 coefficients_exist k [] = ([], refl)
 coefficients_exist k (s ∷ ss) =
-    let codes = table (λ j. code_at k 0 j s) (degree_in_x s + 1) in
-    let rest = coefficients_exist k ss in (
-      poly_of codes ∷ rest.0,
-      (IsCoefficient_poly_of k s 0 codes (poly_of codes) (get_or_table (λ j. code_at k 0 j s) (degree_in_x s + 1) (λ j le. code_above k 0 j s (omega arith))) refl, rest.1),
-    )
-
--- ---- elements without a denominator
-
-pub codes_plain : (e : ElemText) → e.den ≡ None → codes_of_element e ≡ flat_map written_codes e.entries
-codes_plain e plain =
-    ap (λ (o : Option (List Term)). flat_map written_codes e.entries ++ elim o [ None ↦ [] | Some d ↦ written_codes d ]) plain
-    ∙ append-nil (flat_map written_codes e.entries)
-
-pub element_of : (k : FieldOps) (e : ElemText) (ps : List (List ℕ)) → e.den ≡ None → ArePolysOf k e.entries ps → IsElementOf k e (record { num = ps; den = 1 ∷ [] })
-element_of k e ps plain h = record { numerators = h; denominator = subst (λ o. IsDenOf k o (1 ∷ [])) (sym plain) refl }
+    let first = coefficient_exists k s in
+    let rest = coefficients_exist k ss in
+    (first.0 ∷ rest.0, (first.1, rest.1))
 
 -- ---- one element
 
@@ -170,7 +167,7 @@ same_codes (c ∷ a) (d ∷ b) s t h =
     ap₂ (λ x xs. x ∷ xs) (h 0) (same_codes a b (trimmed_tail c a s) (trimmed_tail d b t) (λ j. h (suc j)))
 
 module _ (k : FieldOps) where
-  same_poly : (ts : List Term) (p q : List ℕ) → IsPolyOf k ts p → IsPolyOf k ts q → p ≡ q
+  pub same_poly : (ts : List Term) (p q : List ℕ) → IsPolyOf k ts p → IsPolyOf k ts q → p ≡ q
   same_poly ts p q h g = same_codes p q h.poly.trimmed g.poly.trimmed (λ j. h.codes j ∙ sym (g.codes j))
 
   same_polys : (es : List (List Term)) (ps qs : List (List ℕ)) → ArePolysOf k es ps → ArePolysOf k es qs → ps ≡ qs
@@ -197,3 +194,65 @@ module _ (k : FieldOps) where
   no_element_row n e r h (size below other is) = other h.size
   no_element_row n e r h (degree long z z_is great is) =
       let same = same_degree e z h.value z_is h.is in let le = h.small in omega (arith, same, le, great)
+  no_element_row n e r h (zero_den long z z_is small none is) = h.over (same_den e.den h.value.den z.den h.is.denominator z_is.denominator ∙ none)
+
+-- ---- denominators
+
+-- the term 1
+abbrev one_sum : Terms
+one_sum = (0, 0, 1) ∷ []
+
+one_terms : IsTerms one_sum
+one_terms = record {
+  ascending = (All-nil (IsBefore (0, 0, 1)), tt);
+  some = All-cons (λ (t : ℕ × ℕ × ℕ). t.2 ≢ 0) (0, 0, 1) [] (λ e. absurd (omega (arith, e))) (All-nil (λ (t : ℕ × ℕ × ℕ). t.2 ≢ 0));
+}
+
+module _ (k : CodeField) where
+  abbrev AreIn : Terms → Type 0
+  AreIn s = All (λ t. t.2 < k.size) s
+
+  one_in : AreIn one_sum
+  one_in = All-cons (λ (t : ℕ × ℕ × ℕ). t.2 < k.size) (0, 0, 1) [] k.laws.one_below (All-nil (λ (t : ℕ × ℕ × ℕ). t.2 < k.size))
+
+  -- terms with the sums of the term 1 are that term
+  pub only_one : (s : Terms) → IsTerms s → AreIn s → ((i j : ℕ) → code_at k.ops i j s ≡ code_at k.ops i j one_sum) → s ≡ one_sum
+  only_one s terms terms_in same = same_terms k s one_sum terms one_terms terms_in one_in same
+
+  code_of_one : (j : ℕ) → code_at k.ops 0 j one_sum ≡ get_or (1 ∷ []) j 0
+  code_of_one zero =
+      let one : 1 < k.size = k.laws.one_below in
+      k.laws.add_comm 1 0 one (omega (arith, one)) ∙ k.laws.zero_add 1 one
+  code_of_one (suc j) = code_other k.ops 0 (suc j) (0, 0, 1) [] (λ e. absurd (let z = e.1 in omega (arith, z)))
+
+  den_of : (o : Option (List Term)) (s : Terms) (d : List ℕ) → IsDenSumOf k.ops o s → IsCoefficient k.ops s 0 d → IsDenOf k.ops o d
+  den_of None s d h g = same_codes d (1 ∷ []) g.poly.trimmed refl (λ j. g.codes j ∙ ap (code_at k.ops 0 j) h ∙ code_of_one j)
+  den_of (Some ts) s d h g = poly_is k.ops ts s d h g
+
+  den_degree : (o : Option (List Term)) (s : Terms) (d : List ℕ) → IfSome o (IsWritableTerms false) → IsDenSumOf k.ops o s → IsCoefficient k.ops s 0 d → length d - 1 ≡ degree_in_x s
+  den_degree None s d writable h g =
+      degree_is k s d (subst IsTerms (sym h) one_terms) (subst AreIn (sym h) one_in)
+      (subst (All (λ (t : ℕ × ℕ × ℕ). t.0 ≡ 0)) (sym h) (All-cons (λ (t : ℕ × ℕ × ℕ). t.0 ≡ 0) (0, 0, 1) [] refl (All-nil (λ (t : ℕ × ℕ × ℕ). t.0 ≡ 0)))) g
+  den_degree (Some ts) s d writable h g = degree_is k s d h.terms h.codes_in (no_y_sum k ts s writable h) g
+
+  pub den_in : (o : Option (List Term)) (s : Terms) → IsDenSumOf k.ops o s → AreIn s
+  den_in None s h = subst AreIn (sym h) one_in
+  den_in (Some ts) s h = h.codes_in
+
+  den_below : (o : Option (List Term)) (s : Terms) → IsDenSumOf k.ops o s → AreCodesBelow k.size (codes_of_den o)
+  den_below None s h = All-nil (λ c. c < k.size)
+  den_below (Some ts) s h = h.written
+
+  -- ---- elements
+
+  module _ (e : ElemText) (ss : List Terms) (s : Terms) (h : AreElementSums k.ops e ss s) where
+    pub element_below : AreCodesBelow k.size (codes_of_element e)
+    element_below = All-append (λ c. c < k.size) (flat_map written_codes e.entries) (codes_of_den e.den) (codes_below k.ops e.entries ss h.entries) (den_below e.den s h.denominator)
+
+    module _ (ps : List (List ℕ)) (d : List ℕ) (num : AreCoefficients k.ops ss ps) (den : IsCoefficient k.ops s 0 d) where
+      pub element_of : IsElementOf k.ops e (record { num = ps; den = d })
+      element_of = record { numerators = polys_of k.ops e.entries ss ps h.entries num; denominator = den_of e.den s d h.denominator den }
+
+      -- the greatest degree of the written element
+      pub element_degree : IsWritableElement e → degree_of_element (record { num = ps; den = d }) ≡ max (greatest_in_x ss) (degree_in_x s)
+      element_degree writable = ap₂ max (greatest_is k e.entries ss ps writable.entries h.entries num) (den_degree e.den s d writable.den h.denominator den)

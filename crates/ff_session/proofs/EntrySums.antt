@@ -6,10 +6,11 @@ use Rattle.std.proofs.lemmas.List.Elements.{All-nil, All-cons, All-append}
 use Rattle.ff_fields.specs.Field.{FieldOps, CodeField}
 use Rattle.ff_algebra.specs.Curves.{IsCoefficient, degree_in_x}
 use Rattle.ff_text.specs.declared.terms.Term.{Term}
+use Rattle.ff_text.specs.declared.terms.ElemText.{ElemText}
 use Rattle.ff_text.specs.Values.{written_codes}
 use Rattle.ff_text.proofs.Gathered.{found_front, found_behind}
 use Rattle.ff_session.specs.declared.refusal.Refusal.{Refusal}
-use Rattle.ff_session.specs.Meaning.{AreCodesBelow, IsSumOf}
+use Rattle.ff_session.specs.Meaning.{codes_of_den, codes_of_element, AreCodesBelow, IsSumOf}
 use Rattle.ff_session.specs.Refusals.{IsCodeRow}
 use Rattle.ff_session.specs.Elements.{greatest_in_x, AreSumsOf, AreCoefficients}
 
@@ -64,6 +65,18 @@ module _ (size : ℕ) where
   pub row_of_entry : (es : Entries) (i : ℕ) (e : List Term) (r : Refusal) → i < length es → e ≡ get_or es i e → IsFoundFrom es i → IsCodeRow size (written_codes e) r → IsCodeRow size (flat_map written_codes es) r
   row_of_entry es i e r less at found row =
       (row.0, sym found ∙ split es i e less at ∙ found_front size (written_codes e) (flat_map written_codes (drop (i + 1) es)) row.0 row.1, row.2)
+
+  -- the first in the entries or, where there is none, in the denominator is the first in the element
+  pub row_of_entries : (e : ElemText) (es : Entries) (r : Refusal) → es ≡ e.entries → IsCodeRow size (flat_map written_codes es) r → IsCodeRow size (codes_of_element e) r
+  row_of_entries e es r same row =
+      (row.0, found_front size (flat_map written_codes e.entries) (codes_of_den e.den) row.0 (ap (λ fs. find (λ d. nat_le size d) (flat_map written_codes fs)) (sym same) ∙ row.1), row.2)
+
+  pub row_of_den : (e : ElemText) (o : Option (List Term)) (r : Refusal) → o ≡ e.den → AreCodesBelow size (flat_map written_codes e.entries) → IsCodeRow size (codes_of_den o) r → IsCodeRow size (codes_of_element e) r
+  row_of_den e o r same below row = (
+    row.0,
+    found_behind size (flat_map written_codes e.entries) (codes_of_den e.den) below ∙ ap (λ o. find (λ d. nat_le size d) (codes_of_den o)) (sym same) ∙ row.1,
+    row.2,
+  )
 
 -- ---- polynomials
 

@@ -2,5 +2,8 @@ pub mod TermCodes
 pub mod PolynomialTerms
 pub mod EntrySums
 pub mod ElementValues
-pub mod WholeElements
+pub mod ReadElements
+pub mod LowestElements
+pub mod FactorDegrees
+pub mod FactorRows
 pub mod Truths

@@ -1,6 +1,6 @@
 -- Answers that are true, and what is refused.
 use Rattle.std.proofs.Common.{◌≡◌, ◌≢◌, ℕ, ◌+◌, ◌<◌, ◌≤◌, ◌⊎◌, inl, inr, List, ◌++◌, length, Option, Some, None, refl, sym, ap, ◌∙◌, subst, arith, All, get_or}
-use Rattle.std.specs.Prelude.{IsTrue, find, nat_le}
+use Rattle.std.specs.Prelude.{IsTrue, find, nat_le, Result, Ok, Err, OnOk, IfErr}
 use Rattle.std.specs.Option.{ForSome}
 use Rattle.std.proofs.lemmas.List.Elements.{All-get_or}
 use native.Mathlib.Decide.{ℕ_discrete}
@@ -23,7 +23,7 @@ use Rattle.ff_text.specs.declared.terms.Term.{Term}
 use Rattle.ff_text.specs.declared.terms.ElemText.{ElemText}
 use Rattle.ff_script.specs.declared.script.Modulus.{Modulus}
 use Rattle.ff_script.specs.declared.script.Statement.{Statement}
-use Rattle.ff_script.specs.declared.script.Statement.TheVariants.{FieldOf, CurveOf, Mul}
+use Rattle.ff_script.specs.declared.script.Statement.TheVariants.{FieldOf, CurveOf, Mul, Factor}
 use Rattle.ff_session.specs.declared.refusal.Refusal.{Refusal}
 use Rattle.ff_session.specs.declared.refusal.Refusal.TheVariants.{LimitDegree, LimitOutput}
 use Rattle.ff_session.specs.declared.session.Bound.{Bound}
@@ -31,13 +31,13 @@ use Rattle.ff_session.specs.declared.session.Bound.TheVariants.{Nothing, Field, 
 use Rattle.ff_session.specs.Bound.{data_of, IsSound}
 use Rattle.ff_session.specs.Settings.{FieldData, Modulo, ByModulus, IsField, ops_of, with_laws, Setting, Empty, WithField, WithCurve, SessionValue}
 use Rattle.ff_session.specs.Meaning.{IsSumOf, degree_of_element}
-use Rattle.ff_session.specs.Answers.{Answer, Size, Numbers, Element, Answers, Names, IsFieldOf, BindsField, IsCurveOfTerms, IsProductOf}
-use Rattle.ff_session.specs.Refusals.{UnlessMemory, IsFieldLineFault, IsFieldRow, IsNoCurve, range, fault, IsProductRow, IsRow, HasNoRow, Refuses, row, text, degree, output, output_after, IsTextRow}
+use Rattle.ff_session.specs.Answers.{Answer, Size, Numbers, Element, Factored, Answers, Names, IsFieldOf, BindsField, IsCurveOfTerms, IsProductOf, IsFactorisationOf}
+use Rattle.ff_session.specs.Refusals.{UnlessMemory, IsFieldLineFault, IsFieldRow, IsNoCurve, range, fault, IsProductRow, IsFactorRow, IsRow, HasNoRow, Refuses, row, text, degree, output, output_after, IsTextRow}
 use Rattle.ff_session.specs.Elements.{IsProductRead}
-use Rattle.ff_session.specs.Steps.{setting_after, AddsAnswer, AddsCurve, AddsProduct, IsNoProduct}
+use Rattle.ff_session.specs.Steps.{setting_after, AddsAnswer, AddsCurve, AddsProduct, AddsFactors, IsNoProduct, IsUnanswered}
 use Rattle.ff_session.specs.Steps as steps
 use Rattle.ff_session.specs.Sessions.{IsRefusedAs, IsStep}
-use Rattle.ff_session.specs.Texts.{answer_line, block_text, echo_line}
+use Rattle.ff_session.specs.Texts.{answer_lines, block_text, echo_line}
 use Rattle.ff_session.proofs.TermCodes.{same_terms}
 use Rattle.ff_session.proofs.ElementValues.{none_found}
 
@@ -108,7 +108,7 @@ some_bound b c e = cc
 -- ---- answers
 
 pub adds_field : (old : Setting) (s : Statement) (p : ℕ) (tail : Option Modulus) (k : AnyField) (before now : List ℕ) → Empty ≡ old → s ≡ FieldOf p tail → Names p tail (field_of k).ops
-    → now ≡ before ++ answer_line (Size (field_of k).ops.size) → AddsAnswer old s before now (Some (Field k))
+    → now ≡ before ++ answer_lines (Size (field_of k).ops.size) → AddsAnswer old s before now (Some (Field k))
 adds_field old s p tail k before now is s_is named added =
     subst (λ o. AddsAnswer o s before now (Some (Field k))) is
     (subst (λ t. AddsAnswer Empty t before now (Some (Field k))) (sym s_is) (record {
@@ -155,18 +155,39 @@ product_row k c a b r h = subst (λ (o : FieldOps). IsProductRow o c.fin.n a b r
 product_admitted : (k : AnyField) (c : CurveValue) (a b : ElemText) (z : ElemValue) → IsProductRead (field_of k) c.fin a b z → HasNoRow (WithCurve (data_of k) c) (Mul a b)
 product_admitted k c a b z h r found = h.no_row r (subst (λ (o : FieldOps). IsProductRow o c.fin.n a b r) (same_ops k) found)
 
-pub adds_product : (old : Setting) (s : Statement) (a b : ElemText) (k : AnyField) (c : CurveValue) (before now : List ℕ) → WithCurve (data_of k) c ≡ old → s ≡ Mul a b → AddsProduct (field_of k) c.fin a b before now
-    → AddsAnswer old s before now None
-adds_product old s a b k c before now is s_is h =
-    subst (λ o. AddsAnswer o s before now None) is
-    (subst (λ t. AddsAnswer (WithCurve (data_of k) c) t before now None) (sym s_is) (record {
+pub adds_product : (s : Statement) (a b : ElemText) (k : AnyField) (c : CurveValue) (before now : List ℕ) → s ≡ Mul a b → AddsProduct (field_of k) c.fin a b before now
+    → AddsAnswer (WithCurve (data_of k) c) s before now None
+adds_product s a b k c before now s_is h =
+    subst (λ t. AddsAnswer (WithCurve (data_of k) c) t before now None) (sym s_is) (record {
       answer = Element h.product;
       is_true = product_true k c a b h.product h.is_product;
       not_refused = product_admitted k c a b h.product h.is_product;
       small = h.small;
       added = h.added;
       sound = λ b e. absurd cc;
-    }))
+    })
+
+pub adds_factors : (s : Statement) (g : List Term) (k : AnyField) (c : CurveValue) (before now : List ℕ) → s ≡ Factor g → AddsFactors (field_of k).ops g before now
+    → AddsAnswer (WithCurve (data_of k) c) s before now None
+adds_factors s g k c before now s_is h =
+    subst (λ t. AddsAnswer (WithCurve (data_of k) c) t before now None) (sym s_is) (record {
+      answer = Factored h.factors;
+      is_true = (subst (λ (o : FieldOps). IsFactorisationOf o g h.factors) (sym (same_ops k)) h.are_factors.is, refl);
+      not_refused = λ r found. h.are_factors.no_row r (subst (λ (o : FieldOps). IsFactorRow o g r) (same_ops k) found);
+      small = let le = h.are_factors.small in omega (arith, le);
+      added = h.added;
+      sound = λ b e. absurd cc;
+    })
+
+-- ---- a result that is handed on
+
+pub on_ok_as : {A : Type 0} (r : Result A Refusal) (P Q : Type 0) → (P → Q) → OnOk r P → OnOk r Q
+on_ok_as (Ok a) P Q f h = f h
+on_ok_as (Err e) P Q f h = h
+
+pub if_err_as : {A : Type 0} (r : Result A Refusal) (P Q : Refusal → Type 0) → ((e : Refusal) → P e → Q e) → IfErr r P → IfErr r Q
+if_err_as (Ok a) P Q f h = h
+if_err_as (Err e) P Q f h = f e h
 
 -- ---- refusals
 
@@ -175,22 +196,29 @@ refuses_curve old s f k r is s_is h some =
     row (subst (λ o. IsRow o s r) is (subst (λ t. IsRow (WithField (data_of k)) t r) (sym s_is)
     (data_is k, subst (λ (l : CodeField). IsNoCurve l f r) (sym (same_field k)) (h some))))
 
-pub refuses_product : (old : SessionValue) (s : Statement) (a b : ElemText) (k : AnyField) (c : CurveValue) (r : Refusal) → WithCurve (data_of k) c ≡ old.setting → s ≡ Mul a b → UnlessMemory (IsNoProduct (field_of k) c.fin a b) r → IsRefusedAs old s r
-refuses_product old s a b k c r is s_is h some = go (h some)
+pub unanswered_product : (s : Statement) (a b : ElemText) (k : AnyField) (c : CurveValue) (r : Refusal) → s ≡ Mul a b → UnlessMemory (IsNoProduct (field_of k) c.fin a b) r → UnlessMemory (IsUnanswered (WithCurve (data_of k) c) s) r
+unanswered_product s a b k c r s_is h some = subst (λ t. IsUnanswered (WithCurve (data_of k) c) t r) (sym s_is) (go (h some))
   where
-    go : IsNoProduct (field_of k) c.fin a b r → Refuses old s r
-    go (steps.row found) = row (subst (λ o. IsRow o s r) is (subst (λ t. IsRow (WithCurve (data_of k) c) t r) (sym s_is) (product_row k c a b r found)))
-    go (steps.degree z read great told) =
-        subst (Refuses old s) (sym told)
-        (text (Element z) old.setting
-        (subst (λ o. Answers o s (Element z) o) is (subst (λ t. Answers (WithCurve (data_of k) c) t (Element z) (WithCurve (data_of k) c)) (sym s_is) (product_true k c a b z read)))
-        (subst (λ o. HasNoRow o s) is (subst (HasNoRow (WithCurve (data_of k) c)) (sym s_is) (product_admitted k c a b z read)))
-        (degree great))
+    go : IsNoProduct (field_of k) c.fin a b r → IsUnanswered (WithCurve (data_of k) c) (Mul a b) r
+    go (steps.row found) = steps.row (product_row k c a b r found)
+    go (steps.degree z read great told) = steps.degree (Element z) (WithCurve (data_of k) c) (product_true k c a b z read) (product_admitted k c a b z read) great told
+
+pub unanswered_factors : (s : Statement) (g : List Term) (k : AnyField) (c : CurveValue) (r : Refusal) → s ≡ Factor g → UnlessMemory (IsFactorRow (field_of k).ops g) r → UnlessMemory (IsUnanswered (WithCurve (data_of k) c) s) r
+unanswered_factors s g k c r s_is h some =
+    subst (λ t. IsUnanswered (WithCurve (data_of k) c) t r) (sym s_is)
+    (steps.row (subst (λ (o : FieldOps). IsFactorRow o g r) (sym (same_ops k)) (h some)))
+
+pub refuses_unanswered : (old : SessionValue) (s : Statement) (r : Refusal) → UnlessMemory (IsUnanswered old.setting s) r → IsRefusedAs old s r
+refuses_unanswered old s r h some = go (h some)
+  where
+    go : IsUnanswered old.setting s r → Refuses old s r
+    go (steps.row found) = row found
+    go (steps.degree a next is admitted great told) = subst (Refuses old s) (sym told) (text a next is admitted (degree great))
 
 -- the block's text has no room
 pub refuses_output : (old : SessionValue) (s : Statement) (before now : List ℕ) (next : Option Bound) (b : ℕ) → AddsAnswer old.setting s before now next → before ≡ echo_line s → b ≡ output_after old.printed now → 268435456 < b → Refuses old s (LimitOutput b)
 refuses_output old s before now next b h echo b_is great =
-    let printed : now ≡ block_text s h.answer = h.added ∙ ap (λ t. t ++ answer_line h.answer) echo in
+    let printed : now ≡ block_text s h.answer = h.added ∙ ap (λ t. t ++ answer_lines h.answer) echo in
     let told : b ≡ output_after old.printed (block_text s h.answer) = b_is ∙ ap (output_after old.printed) printed in
     subst (λ b. Refuses old s (LimitOutput b)) (sym told)
     (text h.answer (setting_after old.setting next) h.is_true h.not_refused (output h.small (omega (arith, told))))

@@ -7,13 +7,14 @@ use Rattle.ff_fields.specs.Modulus.{IsFieldModulus}
 use Rattle.ff_poly.specs.Words.{IsMonic, IsPoly}
 use Rattle.ff_algebra.specs.Values.{ElemValue, PresValue, IsElem, IsMonicElem, IsSame, function_of, functions}
 use Rattle.ff_algebra.specs.Curves.{CurveValue, IsCurveOf}
+use Rattle.ff_factor.specs.Factors.{FactorsValue, IsFactorisation}
 use Rattle.ff_text.specs.declared.terms.Term.{Term}
 use Rattle.ff_text.specs.declared.terms.ElemText.{ElemText}
 use Rattle.ff_script.specs.declared.script.Modulus.{Modulus}
 use Rattle.ff_script.specs.declared.script.Statement.{Statement}
-use Rattle.ff_script.specs.declared.script.Statement.TheVariants.{FieldOf, CurveOf, Mul}
+use Rattle.ff_script.specs.declared.script.Statement.TheVariants.{FieldOf, CurveOf, Mul, Factor}
 use Rattle.ff_session.specs.Settings.{FieldData, IsField, ops_of, with_laws, Setting, Empty, WithField, WithCurve}
-use Rattle.ff_session.specs.Meaning.{IsSumOf, IsElementOf}
+use Rattle.ff_session.specs.Meaning.{IsSumOf, IsPolyOf, IsElementOf}
 
 module _ (k : FieldOps) where
   -- a monic denominator, and no denominator of the same fractions has a smaller degree
@@ -61,19 +62,28 @@ pub record BindsCurve (d : FieldData) (f : List Term) (n c : ℕ) (next : Settin
   pub number : c ≡ curve.c
   pub bound : next ≡ WithCurve d curve
 
--- z is the product of the elements in k(x)[y]/(f), in lowest terms
+-- z is the product of the elements in k(x)[y]/(f), in lowest terms; no denominator is 0
 pub record IsProductOf (k : CodeField) (f : PresValue) (a b : ElemText) (z : ElemValue) : Type 0 where
   pub left : ElemValue
   pub is_left : IsElementOf k.ops a left
+  pub left_over : left.den ≢ []
   pub right : ElemValue
   pub is_right : IsElementOf k.ops b right
+  pub right_over : right.den ≢ []
   pub product : IsProduct k f left right z
 
--- what an answer line says
+-- these are the factors of the polynomial that the terms add up to
+pub record IsFactorisationOf (k : FieldOps) (g : List Term) (f : FactorsValue) : Type 0 where
+  pub sum : List ℕ
+  pub is_sum : IsPolyOf k g sum
+  pub factors : IsFactorisation k sum f
+
+-- what the answer lines say
 pub data Answer : Type 0 where
   Size : ℕ → Answer
   Numbers : ℕ → ℕ → Answer
   Element : ElemValue → Answer
+  Factored : FactorsValue → Answer
 
 -- in the setting the answer to the statement is true, and the next setting has taken it in
 abbrev pub Answers : Setting → Statement → Answer → Setting → Type 0
@@ -81,4 +91,5 @@ Answers Empty (FieldOf p tail) (Size q) next = BindsField p tail q next
 Answers (WithField d) (CurveOf f) (Numbers n c) next = BindsCurve d f n c next
 Answers (WithCurve d c) (Mul a b) (Element z) next =
     (is : IsField d) × IsProductOf (with_laws d is) c.fin a b z × (next ≡ WithCurve d c)
+Answers (WithCurve d c) (Factor g) (Factored f) next = IsFactorisationOf (ops_of d) g f × (next ≡ WithCurve d c)
 Answers _ _ _ _ = ⊥

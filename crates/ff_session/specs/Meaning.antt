@@ -9,9 +9,13 @@ use Rattle.ff_text.specs.declared.terms.Term.{Term}
 use Rattle.ff_text.specs.declared.terms.ElemText.{ElemText}
 use Rattle.ff_text.specs.Values.{triples_of, written_codes}
 
--- the codes that are written in an element, in their order
+-- the codes that are written in a denominator, and in an element, in their order
+abbrev pub codes_of_den : Option (List Term) → List ℕ
+codes_of_den None = []
+codes_of_den (Some ts) = written_codes ts
+
 abbrev pub codes_of_element : ElemText → List ℕ
-codes_of_element e = flat_map written_codes e.entries ++ elim e.den [ None ↦ [] | Some d ↦ written_codes d ]
+codes_of_element e = flat_map written_codes e.entries ++ codes_of_den e.den
 
 -- each written code is below q
 abbrev pub AreCodesBelow : ℕ → List ℕ → Type 0

@@ -1,5 +1,5 @@
 -- When a statement is refused, and how. The rows of a statement exclude each other: each says that those before it don't hold.
-use Rattle.std.specs.Prelude.{◌≡◌, ◌≢◌, ℕ, ◌<◌, ◌≤◌, ◌+◌, ◌⊎◌, List, [], ◌∷◌, length, Option, Some, None, IsTrue}
+use Rattle.std.specs.Prelude.{◌≡◌, ◌≢◌, ℕ, ◌<◌, ◌≤◌, ◌+◌, ◌-◌, ◌⊎◌, List, [], ◌∷◌, length, Option, Some, None, IsTrue}
 use Rattle.ff_fields.specs.declared.fault.FieldFault.{FieldFault}
 use Rattle.ff_fields.specs.declared.fault.FieldFault.TheVariants as fields
 use Rattle.ff_fields.specs.Field.{FieldOps, CodeField}
@@ -10,17 +10,18 @@ use Rattle.ff_algebra.specs.Values.{ElemValue}
 use Rattle.ff_algebra.specs.declared.curve.CurveFault.{CurveFault}
 use Rattle.ff_algebra.specs.declared.curve.CurveFault.TheVariants as curves
 use Rattle.ff_algebra.specs.Curves.{CurveValue, IsCurveFault}
+use Rattle.ff_factor.specs.Factors.{polys_of}
 use Rattle.ff_text.specs.declared.terms.Term.{Term}
 use Rattle.ff_text.specs.declared.terms.ElemText.{ElemText}
 use Rattle.ff_text.specs.Values.{written_codes}
 use Rattle.ff_script.specs.declared.script.Modulus.{Modulus}
 use Rattle.ff_script.specs.declared.script.Statement.{Statement}
-use Rattle.ff_script.specs.declared.script.Statement.TheVariants.{FieldOf, CurveOf, Mul}
+use Rattle.ff_script.specs.declared.script.Statement.TheVariants.{FieldOf, CurveOf, Mul, Factor}
 use Rattle.ff_session.specs.declared.refusal.Refusal.{Refusal}
-use Rattle.ff_session.specs.declared.refusal.Refusal.TheVariants.{FieldSize, NotField, LimitY, LimitX, NotMonic, NotSeparable, LimitDisc, LimitInf, CodeRange, Length, LimitDegree, LimitOutput, Memory}
+use Rattle.ff_session.specs.declared.refusal.Refusal.TheVariants.{FieldSize, NotField, LimitY, LimitX, NotMonic, NotSeparable, LimitDisc, LimitInf, CodeRange, Length, Zero, LimitDegree, LimitOutput, Memory}
 use Rattle.ff_session.specs.Settings.{FieldData, IsField, ops_of, with_laws, Setting, Empty, WithField, WithCurve, SessionValue}
-use Rattle.ff_session.specs.Meaning.{AreCodesBelow, IsFirstCodeFrom, codes_of_element, IsSumOf, IsElementOf, degree_of_element}
-use Rattle.ff_session.specs.Answers.{Answer, Size, Numbers, Element, Answers}
+use Rattle.ff_session.specs.Meaning.{AreCodesBelow, IsFirstCodeFrom, codes_of_element, IsSumOf, IsPolyOf, IsElementOf, greatest_degree, degree_of_element}
+use Rattle.ff_session.specs.Answers.{Answer, Size, Numbers, Element, Factored, Answers}
 use Rattle.ff_session.specs.Texts.{block_text}
 
 -- the row holds, unless the refusal is want of memory, which is no row
@@ -71,22 +72,32 @@ IsCurveRow d f r = (is : IsField d) × IsNoCurve (with_laws d is) f r
 -- ---- the rows of a product
 
 module _ (k : FieldOps) (n : ℕ) where
-  -- an element of n entries, of degrees up to 512
+  -- an element of n entries, of degrees up to 512, over a denominator that isn't 0
   pub record IsWithin (e : ElemText) : Type 0 where
     pub written : AreCodesBelow k.size (codes_of_element e)
     pub size : length e.entries ≡ n
     pub value : ElemValue
     pub is : IsElementOf k e value
     pub small : degree_of_element value ≤ 512
+    pub over : value.den ≢ []
 
   pub data IsElementRow (e : ElemText) (r : Refusal) : Type 0 where
     range : IsCodeRow k.size (codes_of_element e) r → IsElementRow e r
     size : AreCodesBelow k.size (codes_of_element e) → length e.entries ≢ n → r ≡ Length (length e.entries) → IsElementRow e r
     degree : length e.entries ≡ n → (z : ElemValue) → IsElementOf k e z → 512 < degree_of_element z → r ≡ LimitX (degree_of_element z) → IsElementRow e r
+    zero_den : length e.entries ≡ n → (z : ElemValue) → IsElementOf k e z → degree_of_element z ≤ 512 → z.den ≡ [] → r ≡ Zero → IsElementRow e r
 
   -- the first element's rows come before the second's
   abbrev pub IsProductRow : ElemText → ElemText → Refusal → Type 0
   IsProductRow a b r = IsElementRow a r ⊎ (IsWithin a × IsElementRow b r)
+
+-- ---- the rows of a factorisation
+
+-- a code is too great, or the degree of the polynomial is, or it is 0
+pub data IsFactorRow (k : FieldOps) (g : List Term) (r : Refusal) : Type 0 where
+  range : IsCodeRow k.size (written_codes g) r → IsFactorRow k g r
+  degree : (p : List ℕ) → IsPolyOf k g p → 512 < length p - 1 → r ≡ LimitX (length p - 1) → IsFactorRow k g r
+  zero_sum : IsPolyOf k g [] → r ≡ Zero → IsFactorRow k g r
 
 -- ---- all rows
 
@@ -94,6 +105,7 @@ abbrev pub IsRow : Setting → Statement → Refusal → Type 0
 IsRow Empty (FieldOf p tail) r = IsFieldRow p tail r
 IsRow (WithField d) (CurveOf f) r = IsCurveRow d f r
 IsRow (WithCurve d c) (Mul a b) r = IsProductRow (ops_of d) c.fin.n a b r
+IsRow (WithCurve d c) (Factor g) r = IsFactorRow (ops_of d) g r
 IsRow _ _ _ = ⊥
 
 -- none of the rows of the statement holds
@@ -103,6 +115,7 @@ HasNoRow old s = (r : Refusal) → ¬ IsRow old s r
 -- the greatest degree of a polynomial in the answer lines
 abbrev pub degree_of_answer : Answer → ℕ
 degree_of_answer (Element z) = degree_of_element z
+degree_of_answer (Factored f) = greatest_degree (polys_of f.parts)
 degree_of_answer _ = 0
 
 -- what the rest of a run writes at most behind a block

@@ -1,8 +1,9 @@
 -- What a step of a session answers.
-use Rattle.std.specs.Prelude.{◌≡◌, ℕ, ◌<◌, ◌≤◌, ◌+◌, List, length, All}
+use Rattle.std.specs.Prelude.{◌≡◌, ℕ, ◌<◌, ◌≤◌, ◌+◌, List, length, All, IfSome}
 use Rattle.ff_script.specs.declared.script.Statement.{Statement}
-use Rattle.ff_script.specs.declared.script.Statement.TheVariants.{FieldOf, CurveOf, Mul}
+use Rattle.ff_script.specs.declared.script.Statement.TheVariants.{FieldOf, CurveOf, Mul, Factor}
 use Rattle.ff_session.specs.declared.refusal.Refusal.{Refusal}
+use Rattle.ff_text.specs.declared.terms.ElemText.{ElemText}
 use Rattle.ff_text.specs.Values.{HasSmallExponents}
 use Rattle.ff_session.specs.Settings.{Setting, Empty, WithField, WithCurve, SessionValue}
 use Rattle.ff_session.specs.Answers.{Answer, Answers}
@@ -14,6 +15,7 @@ abbrev pub IsInPlace : Setting → Statement → Type 0
 IsInPlace Empty (FieldOf p tail) = Unit {0}
 IsInPlace (WithField d) (CurveOf f) = Unit {0}
 IsInPlace (WithCurve d c) (Mul a b) = Unit {0}
+IsInPlace (WithCurve d c) (Factor g) = Unit {0}
 IsInPlace _ _ = ⊥
 
 -- The answer to the statement is true, none of its rows of refusals holds, its text may be printed, and the session has taken
@@ -36,8 +38,14 @@ pub record IsStep (old : SessionValue) (s : Statement) (text : List ℕ) (new : 
 abbrev pub IsRefusedAs : SessionValue → Statement → Refusal → Type 0
 IsRefusedAs old s r = UnlessMemory (Refuses old s) r
 
--- the exponents of each variable add up to less than 2^64 in each term, which is what `collect` asks for
+-- the exponents of each variable add up to less than 2^64 in each term of the entries and of the denominator
+pub record HasSmallElement (e : ElemText) : Type 0 where
+  pub entries : All (All HasSmallExponents) e.entries
+  pub den : IfSome e.den (All HasSmallExponents)
+
+-- they do in each term of the statement, which is what `collect` asks for
 abbrev pub HasSmallPowers : Statement → Type 0
 HasSmallPowers (FieldOf p tail) = Unit {0}
 HasSmallPowers (CurveOf f) = All HasSmallExponents f
-HasSmallPowers (Mul a b) = All (All HasSmallExponents) a.entries × All (All HasSmallExponents) b.entries
+HasSmallPowers (Mul a b) = HasSmallElement a × HasSmallElement b
+HasSmallPowers (Factor g) = All HasSmallExponents g

@@ -1,19 +1,29 @@
 -- What is printed of a block, and of a refusal.
-use Rattle.std.specs.Prelude.{ℕ, List, ◌++◌, codes, decimal}
+use Rattle.std.specs.Prelude.{ℕ, List, ◌++◌, codes, decimal, flat_map}
 use Rattle.ff_text.specs.Printed.{poly_text, elem_text}
 use Rattle.ff_script.specs.declared.script.Statement.{Statement}
 use Rattle.ff_script.specs.Printing.{statement_text}
 use Rattle.ff_session.specs.declared.refusal.Refusal.{Refusal}
-use Rattle.ff_session.specs.declared.refusal.Refusal.TheVariants.{FieldSize, NotField, LimitY, LimitX, NotMonic, NotSeparable, LimitDisc, LimitInf, CodeRange, Length, LimitDegree, LimitOutput, Memory}
-use Rattle.ff_session.specs.Answers.{Answer, Size, Numbers, Element}
+use Rattle.ff_session.specs.declared.refusal.Refusal.TheVariants.{FieldSize, NotField, LimitY, LimitX, NotMonic, NotSeparable, LimitDisc, LimitInf, CodeRange, Length, Zero, LimitDegree, LimitOutput, Memory}
+use Rattle.ff_session.specs.Answers.{Answer, Size, Numbers, Element, Factored}
 
-abbrev pub answer_text : Answer → List ℕ
-answer_text (Size q) = codes "q " ++ decimal q
-answer_text (Numbers n c) = codes "n " ++ (decimal n ++ (codes " c " ++ decimal c))
-answer_text (Element z) = elem_text z.num z.den
+-- a line of an answer
+abbrev pub answer_line : List ℕ → List ℕ
+answer_line text = codes "= " ++ (text ++ codes "\n")
 
-abbrev pub answer_line : Answer → List ℕ
-answer_line a = codes "= " ++ (answer_text a ++ codes "\n")
+-- an irreducible factor behind its exponent
+abbrev pub part_text : List ℕ × ℕ → List ℕ
+part_text part = decimal part.1 ++ (codes " " ++ poly_text part.0)
+
+-- a line for each irreducible factor
+abbrev pub part_lines : List (List ℕ × ℕ) → List ℕ
+part_lines parts = flat_map (λ part. answer_line (part_text part)) parts
+
+abbrev pub answer_lines : Answer → List ℕ
+answer_lines (Size q) = answer_line (codes "q " ++ decimal q)
+answer_lines (Numbers n c) = answer_line (codes "n " ++ (decimal n ++ (codes " c " ++ decimal c)))
+answer_lines (Element z) = answer_line (elem_text z.num z.den)
+answer_lines (Factored f) = answer_line (codes "unit " ++ decimal f.unit) ++ part_lines f.parts
 
 -- the line that repeats the statement
 abbrev pub echo_line : Statement → List ℕ
@@ -21,7 +31,7 @@ echo_line s = codes "> " ++ (statement_text s ++ codes "\n")
 
 -- a statement with its answer
 abbrev pub block_text : Statement → Answer → List ℕ
-block_text s a = echo_line s ++ answer_line a
+block_text s a = echo_line s ++ answer_lines a
 
 -- a name and its values
 abbrev pub one_value : List ℕ → List ℕ → List ℕ
@@ -42,6 +52,7 @@ refusal_words (LimitDisc d) = one_value (codes "LimitDisc") (decimal d)
 refusal_words (LimitInf d) = one_value (codes "LimitInf") (decimal d)
 refusal_words (CodeRange c) = one_value (codes "CodeRange") (decimal c)
 refusal_words (Length n) = one_value (codes "Length") (decimal n)
+refusal_words Zero = codes "Zero"
 refusal_words (LimitDegree d) = one_value (codes "LimitDegree") (decimal d)
 refusal_words (LimitOutput b) = one_value (codes "LimitOutput") (decimal b)
 refusal_words Memory = codes "Memory"

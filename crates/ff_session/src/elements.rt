@@ -1,14 +1,15 @@
 //! Polynomials and elements as they are written, over a field.
 
-ghost use Rattle.std.specs.Prelude.{◌≡◌, ◌<◌, ◌≤◌, All, IfOk, IfErr};
+ghost use Rattle.std.specs.Prelude.{◌≡◌, ◌<◌, ◌≤◌, All, IfOk, IfErr, IfSome};
 ghost use Rattle.std.specs.List.{flat_map};
 ghost use Rattle.ff_fields.specs.Over.{IsOver};
 ghost use Rattle.ff_algebra.specs.Curves.{IsCoefficient, degree_in_x};
 ghost use Rattle.ff_text.specs.Values.{written_codes, HasSmallExponents};
-ghost use Rattle.ff_script.specs.Printing.{IsWritablePlain};
-ghost use Rattle.ff_session.specs.Meaning.{IsSumOf};
+ghost use Rattle.ff_text.specs.Printing.{IsWritableElement};
+ghost use Rattle.ff_session.specs.Meaning.{IsSumOf, codes_of_den, codes_of_element};
 ghost use Rattle.ff_session.specs.Refusals.{UnlessMemory, IsCodeRow, IsElementRow};
-ghost use Rattle.ff_session.specs.Elements.{greatest_in_x, AreSumsOf, AreCoefficients, IsElementRead};
+ghost use Rattle.ff_session.specs.Sessions.{HasSmallElement};
+ghost use Rattle.ff_session.specs.Elements.{greatest_in_x, AreSumsOf, IsDenSumOf, AreElementSums, AreCoefficients, IsElementRead};
 
 use crate::refusal::Refusal;
 use ff_algebra::elem::Elem;
@@ -17,8 +18,8 @@ use ff_poly::{Poly, Terms};
 use ff_text::{ElemText, TermList, TextFault, collect};
 use std::alloc::{AllocError, Global};
 
-/// The greatest degree of an element's polynomials.
-const MAX_DEGREE: u64 = 512;
+/// The greatest degree of an element's polynomials, and of a polynomial to factor.
+pub(crate) const MAX_DEGREE: u64 = 512;
 
 /// How many codes a polynomial of that degree has.
 const CODES: usize = 513;
@@ -51,8 +52,39 @@ fn sums<K: SmallField>(alloc: Global, k: &K, entries: &[TermList]) -> Result<Vec
     Ok(sums)
 }
 
+/// The sum of the denominator that is written, and 1 where there is none.
+fn denominator<K: SmallField>(
+    alloc: Global,
+    k: &K,
+    den: &Option<TermList>,
+) -> Result<Terms, Refusal>
+    requires { IfSome den.now (All HasSmallExponents) }
+    ensures sum { IfOk result (IsDenSumOf (K.field k.now).ops den.now) }
+    ensures refused { IfErr result (UnlessMemory (IsCodeRow (K.field k.now).size (codes_of_den den.now))) }
+{
+    match den {
+        Some(terms) => sum(alloc, k, terms),
+        None => Ok(Terms::from_list(alloc, k, &[(0, 0, 1)])?),
+    }
+}
+
+/// The sums of the entries, and that of the denominator.
+fn element_sums<K: SmallField>(
+    alloc: Global,
+    k: &K,
+    e: &ElemText,
+) -> Result<(Vec<Terms>, Terms), Refusal>
+    requires { HasSmallElement e.now }
+    ensures sums { IfOk result (λ s. AreElementSums (K.field k.now).ops e.now s.0.items s.1) }
+    ensures refused { IfErr result (UnlessMemory (IsCodeRow (K.field k.now).size (codes_of_element e.now))) }
+{
+    let entries = sums(alloc, k, e.entries.entries.as_slice())?;
+    let den = denominator(alloc, k, &e.den)?;
+    Ok((entries, den))
+}
+
 /// The greatest exponent of x.
-fn degree_in_x(terms: &[(u64, u64, u32)]) -> u64
+pub(crate) fn degree_in_x(terms: &[(u64, u64, u32)]) -> u64
     ensures { result ≡ degree_in_x terms.now }
 {
     let mut degree = 0;
@@ -74,7 +106,7 @@ fn greatest_in_x(sums: &[Terms]) -> u64
 }
 
 /// The polynomial in x of the terms without y. No exponent of x is above 512.
-fn polynomial<K: SmallField>(
+pub(crate) fn polynomial<K: SmallField>(
     alloc: Global,
     k: &K,
     terms: &[(u64, u64, u32)],
@@ -108,26 +140,30 @@ fn polynomials<K: SmallField>(alloc: Global, k: &K, sums: &[Terms]) -> Result<Ve
     Ok(polys)
 }
 
-/// The element as it is written, over 1, or why it may not stand in a product over a curve of degree n in y.
+/// The element as it is written, or why it may not stand in a product over a curve of degree n in y.
 pub(crate) fn element<K: SmallField>(
     alloc: Global,
     k: &K,
     n: usize,
     e: &ElemText,
 ) -> Result<Elem, Refusal>
-    requires writable { IsWritablePlain e.now }
-    requires powers { All (All HasSmallExponents) e.now.entries }
+    requires writable { IsWritableElement e.now }
+    requires powers { HasSmallElement e.now }
     ensures read { IfOk result (IsElementRead (K.field k.now) n e.now) }
     ensures refused { IfErr result (UnlessMemory (IsElementRow (K.field k.now).ops n e.now)) }
 {
-    let sums = sums(alloc, k, e.entries.entries.as_slice())?;
+    let (sums, den) = element_sums(alloc, k, e)?;
     if sums.len() != n {
         return Err(Refusal::Length(sums.len()));
     }
-    let degree = greatest_in_x(sums.as_slice());
+    let degree = greatest_in_x(sums.as_slice()).max(degree_in_x(den.list()));
     if degree > MAX_DEGREE {
         return Err(Refusal::LimitX(degree));
     }
     let num = polynomials(alloc, k, sums.as_slice())?;
-    Ok(Elem::new(k, num, Poly::one(alloc)?))
+    let den = polynomial(alloc, k, den.list())?;
+    if den.is_zero() {
+        return Err(Refusal::Zero);
+    }
+    Ok(Elem::new(k, num, den))
 }

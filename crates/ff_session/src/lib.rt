@@ -3,6 +3,8 @@
 
 mod answers;
 mod elements;
+mod factors;
+mod products;
 pub mod refusal;
 pub mod session;
 

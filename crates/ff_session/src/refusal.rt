@@ -19,7 +19,7 @@ pub enum Refusal {
     NotField(u32, u32),
     /// The degree in y of a curve, which isn't from 2 to 4. That of 0 counts as 0.
     LimitY(u64),
-    /// The greatest degree in x, which is above 32 in a curve, or above 512 in an element.
+    /// The greatest degree in x, which is above 32 in a curve, or above 512 in an element or a polynomial to factor.
     LimitX(u64),
     /// The top coefficient, which isn't 1: a code of a modulus as a constant, or a polynomial in x of a curve.
     NotMonic(Poly),
@@ -33,6 +33,8 @@ pub enum Refusal {
     CodeRange(u32),
     /// The number of an element's entries, which isn't the degree of the curve in y.
     Length(usize),
+    /// A denominator is 0, or the polynomial to factor is.
+    Zero,
     /// The greatest degree in the answer, which is above 1,024.
     LimitDegree(usize),
     /// The bytes that would have been written at most by the end, which are above 268,435,456.
@@ -125,6 +127,7 @@ fn push_words(out: &mut Vec<u8>, r: &Refusal) -> Result<(), AllocError>
         Refusal::LimitInf(d) => push_one(out, b"LimitInf", u64::from(*d)),
         Refusal::CodeRange(c) => push_one(out, b"CodeRange", u64::from(*c)),
         Refusal::Length(n) => push_one(out, b"Length", *n as u64),
+        Refusal::Zero => out.extend_from_slice(b"Zero"),
         Refusal::LimitDegree(d) => push_one(out, b"LimitDegree", *d as u64),
         Refusal::LimitOutput(b) => push_one(out, b"LimitOutput", *b),
         Refusal::Memory => out.extend_from_slice(b"Memory"),

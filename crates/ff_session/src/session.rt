@@ -1,25 +1,25 @@
 //! What the statements so far have bound, and the block of the next one.
 
-ghost use Rattle.std.specs.Prelude.{◌≡◌, ◌<◌, ◌≤◌, ◌++◌, All, IfOk, IfErr, OnOk, OnErr};
+ghost use Rattle.std.specs.Prelude.{◌≡◌, ◌<◌, ◌≤◌, ◌++◌, All, None, IfOk, IfErr, OnOk, OnErr};
 ghost use Rattle.ff_fields.specs.Fields.{field_of};
-ghost use Rattle.ff_algebra.specs.Values.{IsPresOver};
+ghost use Rattle.ff_algebra.specs.Curves.{IsCurve};
 ghost use Rattle.ff_text.specs.Values.{HasSmallExponents};
 ghost use Rattle.ff_script.specs.Grammar.{IsWhole};
-ghost use Rattle.ff_script.specs.Printing.{IsWritable, IsWritablePlain};
-ghost use Rattle.ff_session.specs.Settings.{Empty, SessionValue};
-ghost use Rattle.ff_session.specs.Meaning.{degree_of_element};
+ghost use Rattle.ff_script.specs.Printing.{IsWritable};
+ghost use Rattle.ff_session.specs.Settings.{Empty, WithCurve, SessionValue};
+ghost use Rattle.ff_session.specs.Bound.{data_of};
 ghost use Rattle.ff_session.specs.Answers.{Names, Size};
-ghost use Rattle.ff_session.specs.Texts.{answer_line};
-ghost use Rattle.ff_session.specs.Refusals.{UnlessMemory, IsFieldLineFault, IsFieldRow, IsNoCurve, IsProductRow, refusal_of_field};
-ghost use Rattle.ff_session.specs.Elements.{IsProductRead};
-ghost use Rattle.ff_session.specs.Steps.{AddsAnswer, AddsCurve, AddsProduct, IsNoProduct};
+ghost use Rattle.ff_session.specs.Texts.{answer_lines};
+ghost use Rattle.ff_session.specs.Refusals.{UnlessMemory, IsFieldLineFault, IsFieldRow, IsNoCurve, refusal_of_field};
+ghost use Rattle.ff_session.specs.Steps.{AddsAnswer, AddsCurve, IsUnanswered};
 ghost use Rattle.ff_session.specs.Sessions.{IsInPlace, HasSmallPowers, IsStep, IsRefusedAs};
 
-use crate::answers::{push_echo, push_numbers, push_product, push_size};
-use crate::elements::{element, sum};
+use crate::answers::{push_echo, push_numbers, push_size};
+use crate::elements::sum;
+use crate::factors::answer_factors;
+use crate::products::answer_product;
 use crate::refusal::Refusal;
 use ff_algebra::curve::Curve;
-use ff_algebra::elem::{Elem, Pres, mul};
 use ff_fields::fault::FieldFault;
 use ff_fields::field::SmallField;
 use ff_fields::fields::Field;
@@ -27,12 +27,9 @@ use ff_fields::prime::PrimeField;
 use ff_fields::residue::ResidueField;
 use ff_poly::Poly;
 use ff_script::{Modulus, Statement};
-use ff_text::{ElemText, TermList};
+use ff_text::TermList;
 use std::alloc::{AllocError, Global};
 use std::marker::Model;
-
-/// The greatest degree of a polynomial in an answer.
-const MAX_DEGREE: usize = 1024;
 
 /// The most bytes that a run may write.
 const MAX_OUTPUT: u64 = 268_435_456;
@@ -84,7 +81,8 @@ impl Session {
     }
 
     /// The text of the statement's block, or why there is none. The statement has a spelling and stands in its place. After
-    /// a refusal the session is as before. A product takes the square of the degrees; a curve, some hundred products.
+    /// a refusal the session is as before. A product takes the square of the degrees, and the factors of its denominator; a
+    /// curve, some hundred products; factors, what `factor` takes.
     pub fn step(&mut self, s: &Statement) -> Result<Vec<u8>, Refusal>
         requires in_place { IsInPlace self.old.setting s.now }
         requires spelled { IsWritable s.now }
@@ -107,7 +105,7 @@ impl Session {
         Ok(text)
     }
 
-    /// Writes the answer line, and tells what is bound next where that changes.
+    /// Writes the answer lines, and tells what is bound next where that changes.
     fn answer(&self, s: &Statement, text: &mut Vec<u8>) -> Result<Option<Bound>, Refusal>
         requires in_place { IsInPlace self.now.setting s.now }
         requires spelled { IsWritable s.now }
@@ -131,10 +129,7 @@ impl Session {
                 Ok(Some(Bound::Curve { k: *k, curve }))
             }
             Bound::Curve { k, curve } => {
-                let Statement::Mul { a, b } = s else {
-                    unreachable!()
-                };
-                answer_product(self.alloc, text, k, curve.fin(), a, b)?;
+                answer_on_curve(self.alloc, text, k, curve, s)?;
                 Ok(None)
             }
         }
@@ -181,7 +176,7 @@ fn answer_field(
 ) -> Result<Field, Refusal>
     requires { IsWhole tail.now }
     ensures made { IfOk result (λ k. Names p tail.now (field_of k).ops) }
-    ensures added { IfOk result (λ k. text.new.items ≡ text.old.items ++ answer_line (Size (field_of k).size)) }
+    ensures added { IfOk result (λ k. text.new.items ≡ text.old.items ++ answer_lines (Size (field_of k).size)) }
     ensures refused { IfErr result (UnlessMemory (IsFieldRow p tail.now)) }
 {
     match field(p, tail) {
@@ -210,60 +205,24 @@ fn answer_curve<K: SmallField>(
     Ok(curve)
 }
 
-/// The product of the elements, over 1.
-fn product<K: SmallField>(
-    alloc: Global,
-    k: &K,
-    f: &Pres,
-    a: &ElemText,
-    b: &ElemText,
-) -> Result<Elem, Refusal>
-    requires equation { IsPresOver (K.field k.now).ops f.now }
-    requires a_writable { IsWritablePlain a.now }
-    requires b_writable { IsWritablePlain b.now }
-    requires a_powers { All (All HasSmallExponents) a.now.entries }
-    requires b_powers { All (All HasSmallExponents) b.now.entries }
-    ensures product { IfOk result (IsProductRead (K.field k.now) f.now a.now b.now) }
-    ensures refused { IfErr result (UnlessMemory (IsProductRow (K.field k.now).ops f.now.n a.now b.now)) }
-{
-    let left = element(alloc, k, f.n(), a)?;
-    let right = element(alloc, k, f.n(), b)?;
-    Ok(mul(alloc, k, f, &left, &right)?)
-}
-
-/// The greatest degree of the element's polynomials.
-fn degree_of(z: &Elem) -> usize
-    ensures { result ≡ degree_of_element z.now }
-{
-    let mut degree = z.den().degree().unwrap_or(0);
-    for p in z.num() {
-        degree = p.degree().unwrap_or(0).max(degree);
-    }
-    degree
-}
-
-/// The answer line of the product of the elements.
-fn answer_product<K: SmallField>(
+/// The answer lines of a statement over the curve.
+fn answer_on_curve(
     alloc: Global,
     text: &mut Vec<u8>,
-    k: &K,
-    f: &Pres,
-    a: &ElemText,
-    b: &ElemText,
+    k: &Field,
+    curve: &Curve,
+    s: &Statement,
 ) -> Result<(), Refusal>
-    requires equation { IsPresOver (K.field k.now).ops f.now }
-    requires a_writable { IsWritablePlain a.now }
-    requires b_writable { IsWritablePlain b.now }
-    requires a_powers { All (All HasSmallExponents) a.now.entries }
-    requires b_powers { All (All HasSmallExponents) b.now.entries }
-    ensures product { OnOk result (AddsProduct (K.field k.now) f.now a.now b.now text.old.items text.new.items) }
-    ensures refused { IfErr result (UnlessMemory (IsNoProduct (K.field k.now) f.now a.now b.now)) }
+    requires sound { IsCurve (field_of k.now) curve.now }
+    requires in_place { IsInPlace (WithCurve (data_of k.now) curve.now) s.now }
+    requires spelled { IsWritable s.now }
+    requires powers { HasSmallPowers s.now }
+    ensures answer { OnOk result (AddsAnswer (WithCurve (data_of k.now) curve.now) s.now text.old.items text.new.items None) }
+    ensures refused { IfErr result (UnlessMemory (IsUnanswered (WithCurve (data_of k.now) curve.now) s.now)) }
 {
-    let z = product(alloc, k, f, a, b)?;
-    let degree = degree_of(&z);
-    if degree > MAX_DEGREE {
-        return Err(Refusal::LimitDegree(degree));
+    match s {
+        Statement::Mul { a, b } => answer_product(alloc, text, k, curve.fin(), a, b),
+        Statement::Factor { g } => answer_factors(alloc, text, k, g),
+        _ => unreachable!(),
     }
-    push_product(text, &z)?;
-    Ok(())
 }

@@ -8,10 +8,10 @@ use std::alloc::{AllocError, Global};
 use std::test::Fail;
 
 /// What a step of `field 7` answers, where so many bytes were printed before: the block, or the line of the refusal.
-fn first_step(alloc: Global, printed: u64) -> Result<Vec<u8>, AllocError>
+fn first_step(alloc: Global, bare: bool, printed: u64) -> Result<Vec<u8>, AllocError>
     requires { printed ≤ 268435456 }
 {
-    let mut session = Session::new(alloc, false, printed);
+    let mut session = Session::new(alloc, bare, printed);
     let s = Statement::FieldOf { p: 7, tail: None };
     match session.step(&s) {
         Ok(text) => Ok(text),
@@ -28,14 +28,15 @@ fn first_step(alloc: Global, printed: u64) -> Result<Vec<u8>, AllocError>
 #[test]
 fn bytes_are_counted(rt: HostRuntime) -> Result<(), Fail> {
     let alloc = rt.alloc();
-    let rows: [(u64, &[u8]); 4] = [
-        (0, b"> field 7\n= q 7\n"),
-        (268_435_408, b"> field 7\n= q 7\n"),
-        (268_435_409, b"refused LimitOutput 268435457"),
-        (268_435_420, b"refused LimitOutput 268435468"),
+    let rows: [(bool, u64, &[u8]); 5] = [
+        (true, 0, b"> field 7\n= q 7\n"),
+        (false, 0, b"> field 7\n= q 7\n"),
+        (false, 268_435_408, b"> field 7\n= q 7\n"),
+        (false, 268_435_409, b"refused LimitOutput 268435457"),
+        (false, 268_435_420, b"refused LimitOutput 268435468"),
     ];
-    for (printed, text) in rows {
-        assert_eq!(rt; first_step(alloc, printed)?.as_slice(), text);
+    for (bare, printed, text) in rows {
+        assert_eq!(rt; first_step(alloc, bare, printed)?.as_slice(), text);
     }
     Ok(())
 }

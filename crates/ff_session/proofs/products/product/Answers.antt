@@ -1,9 +1,9 @@
 use Rattle.std.proofs.Common.{subst, inl, inr}
 use Rattle.std.proofs.lemmas.Result.{err_from_is_err_and}
 use Rattle.ff_session.specs.Refusals.{IsElementRow}
-use Rattle.ff_session.specs.Elements.{IsElementRead}
-use Rattle.ff_session.proofs.WholeElements.{product_read}
-use Rattle.ff_session.proofs.session.product.Goals as goal
+use Rattle.ff_session.specs.Elements.{IsElementRead, IsLowest}
+use Rattle.ff_session.proofs.ReadElements.{product_read}
+use Rattle.ff_session.proofs.products.product.Goals as goal
 
 pub returns-in_err-left-clause-refused : goal.returns-in_err-left-clause-refused
 returns-in_err-left-clause-refused g c =
@@ -22,7 +22,8 @@ pub returns-clause-product : goal.returns-clause-product
 returns-clause-product g c =
     let k = g.K.SmallField.field c.args.k.now in
     let f = c.args.f.now in
-    product_read k f c.args.a.now c.args.b.now c.in_ok-left.left c.in_ok-right.right c.in_ok-mul.field-0
+    product_read k f c.args.a.now c.args.b.now c.in_ok-left.left c.in_ok-right.right c.in_ok-z.z c.in_ok-in_lowest_terms.field-0 c.n.ensures.range.positive
     (subst (λ n. IsElementRead k n c.args.a.now c.in_ok-left.left) c.n.ensures.n c.in_ok-left.ensures.read)
     (subst (λ n. IsElementRead k n c.args.b.now c.in_ok-right.right) c.n-2.ensures.n c.in_ok-right.ensures.read)
-    c.in_ok-mul.ensures.product c.in_ok-mul.ensures.den c.in_ok-mul.ensures.in_range c.in_ok-mul.ensures.monic
+    c.in_ok-z.ensures.product
+    (subst (λ n. IsLowest k n c.in_ok-z.z c.in_ok-in_lowest_terms.field-0) c.n-3.ensures.n c.in_ok-in_lowest_terms.ensures)

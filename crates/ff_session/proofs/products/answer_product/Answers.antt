@@ -2,7 +2,7 @@ use Rattle.std.proofs.Common.{ap, arith}
 use Rattle.std.proofs.lemmas.Result.{err_from_is_err_and}
 use Rattle.ff_session.specs.declared.refusal.Refusal.TheVariants.{LimitDegree}
 use Rattle.ff_session.specs.Steps.{row, degree}
-use Rattle.ff_session.proofs.session.answer_product.Goals as goal
+use Rattle.ff_session.proofs.products.answer_product.Goals as goal
 
 pub returns-in_err-z-clause-refused : goal.returns-in_err-z-clause-refused
 returns-in_err-z-clause-refused g c =
