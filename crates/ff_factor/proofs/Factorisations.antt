@@ -43,15 +43,20 @@ module _ (k : CodeField) where
   abbrev P : CommRing (Polynomial k)
   P = (polynomials k).ring
 
-  parts_over : (fs : List (List ℕ × ℕ)) → ((p : List ℕ) → In p (polys_of fs) → IsOver k.ops p) → IsOver k.ops (product_of_parts k.ops fs)
+  pub parts_over : (fs : List (List ℕ × ℕ)) → ((p : List ℕ) → In p (polys_of fs) → IsOver k.ops p) → IsOver k.ops (product_of_parts k.ops fs)
   parts_over [] f = IsOver_one k
   parts_over (x ∷ fs) f = IsOver_product_of k (IsOver_power_of k x.0 x.1 (f x.0 (inl refl))) (parts_over fs (λ p i. f p (inr i)))
 
-  parts_value : (fs : List (List ℕ × ℕ)) → ((p : List ℕ) → In p (polys_of fs) → IsOver k.ops p) → value k (product_of_parts k.ops fs) ≡ value_of_parts k fs
+  pub parts_value : (fs : List (List ℕ × ℕ)) → ((p : List ℕ) → In p (polys_of fs) → IsOver k.ops p) → value k (product_of_parts k.ops fs) ≡ value_of_parts k fs
   parts_value [] f = value_one k
   parts_value (x ∷ fs) f =
       value_product k (power_of k.ops x.0 x.1) (product_of_parts k.ops fs) (IsOver_power_of k x.0 x.1 (f x.0 (inl refl))) (parts_over fs (λ p i. f p (inr i)))
       ∙ ap₂ ◌⊗◌ (value_power k x.0 x.1 (f x.0 (inl refl))) (parts_value fs (λ p i. f p (inr i)))
+
+  pub code_inverts : (c : ℕ) → c < k.size → c ≢ 0 → constant_poly k (k.inv c) ⊗ constant_poly k c ≡ 𝟙
+  code_inverts c c_in some =
+      sym (value_scale_list k (k.inv c) (c ∷ []) (k.laws.inv_below c c_in some) (IsOver_cons c_in IsOver_nil))
+      ∙ ap (λ x. value k (x ∷ [])) (k.laws.inv_mul c c_in some) ∙ value_one k
 
   -- g is a code times the product of the parts
   product_is : (g : List ℕ) (parts : List (List ℕ × ℕ)) (rest : List ℕ) → IsOver k.ops g → IsPoly g → IsOver k.ops rest → length rest ≡ 1
@@ -98,9 +103,7 @@ module _ (k : CodeField) where
     T = constant_poly k (top_of g)
 
     inverts : constant_poly k (k.inv (top_of g)) ⊗ constant_poly k (top_of g) ≡ 𝟙
-    inverts =
-        sym (value_scale_list k (k.inv (top_of g)) (top_of g ∷ []) inverse_in (IsOver_cons t_in IsOver_nil))
-        ∙ ap (λ c. value k (c ∷ [])) (k.laws.inv_mul (top_of g) t_in top_some) ∙ value_one k
+    inverts = code_inverts (top_of g) t_in top_some
 
     m_is : value k m ≡ constant_poly k (k.inv (top_of g)) ⊗ value k g
     m_is = value_multiple k g (k.inv (top_of g)) g_in inverse_in

@@ -13,3 +13,8 @@ pub mod PullSteps
 pub mod SplitSteps
 pub mod Factorisations
 pub mod LowestTerms
+pub mod CommonFactors
+pub mod ValueLists
+pub mod LowerTerms
+pub mod OneLowest
+pub mod OneFactorisation

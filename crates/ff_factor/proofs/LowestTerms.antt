@@ -29,7 +29,7 @@ module _ (k : CodeField) where
   abbrev P : CommRing (Polynomial k)
   P = (polynomials k).ring
 
-  cancel : (p x y : Polynomial k) → ¬ (p ≡ 𝟘) → p ⊗ x ≡ p ⊗ y → x ≡ y
+  pub cancel : (p x y : Polynomial k) → ¬ (p ≡ 𝟘) → p ⊗ x ≡ p ⊗ y → x ≡ y
   cancel p x y some e = eq_of_sub P x y ((polynomials_domain k).cancel_zero p (x ⊕ ⊖ y) some (step p x y ∙ sub_of_eq P _ _ e))
     where
       step : (p x y : Polynomial k) → p ⊗ (x ⊕ ⊖ y) ≡ p ⊗ x ⊕ ⊖ (p ⊗ y)
@@ -40,7 +40,7 @@ module _ (k : CodeField) where
     pub over : IsOver k.ops p
     pub irreducible : IsIrreducible k.ops p
 
-  of_codes : (p : List ℕ) → IsPrime p → IsIrreducible k.ops (codes_of k (value k p))
+  pub of_codes : (p : List ℕ) → IsPrime p → IsIrreducible k.ops (codes_of k (value k p))
   of_codes p h = subst (IsIrreducible k.ops) (sym (numbers_value k p h.over (monic_poly k p h.irreducible.monic))) h.irreducible
 
   -- what none of the primes divides is coprime to the product of their powers

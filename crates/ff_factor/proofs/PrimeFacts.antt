@@ -56,6 +56,42 @@ module _ (k : CodeField) where
       let c_some : ¬ (d.0 ≡ 𝟘) = λ z. b_some (d.1 ∙ ap (λ x. a ⊗ x) z ∙ mul_zero P a) in
       subst (λ w. length a.0 ≤ length w.0) (sym d.1) (product_longer k a d.0 a_some c_some)
 
+  -- the difference of two monic lists of one length is shorter
+  pub monic_gap : (p q : List ℕ) → IsOver k.ops p → IsOver k.ops q → IsMonic p → IsMonic q → length q ≡ length p
+      → length (value k q ⊕ ⊖ value k p).0 ≤ length p - 1
+  monic_gap p q p_in q_in p_monic q_monic same =
+      length_bound (code_ring k) gap.0 (length p - 1) gap.1 (λ i le.
+      series_add (code_ring k) (value k q) (⊖ value k p) i
+      ∙ ap (λ w. (code_ring k).◌⊕◌ (coeff_of (code_ring k).ops (value k q).0 i) w) (series_neg (code_ring k) (value k p) i)
+      ∙ go i (split i le))
+    where
+      gap : Polynomial k
+      gap = value k q ⊕ ⊖ value k p
+
+      p_long : 0 < length p
+      p_long = let l = ap length p_monic.1 in let m = length_push p_monic.0 1 in omega arith
+
+      p_size : length (value k p).0 ≡ length p
+      p_size = length_value k p p_in (monic_poly k p p_monic)
+
+      q_size : length (value k q).0 ≡ length q
+      q_size = length_value k q q_in (monic_poly k q q_monic)
+
+      split : (i : ℕ) → length p - 1 ≤ i → (i ≡ length p - 1) ⊎ (length p ≤ i)
+      split i le = let l = p_long in grind arith
+
+      go : (i : ℕ) → (i ≡ length p - 1) ⊎ (length p ≤ i)
+          → (code_ring k).◌⊕◌ (coeff_of (code_ring k).ops (value k q).0 i) ((code_ring k).⊖◌ (coeff_of (code_ring k).ops (value k p).0 i)) ≡ (code_ring k).𝟘
+      go i (inl e) =
+          ap₂ (λ x y. (code_ring k).◌⊕◌ x ((code_ring k).⊖◌ y))
+          (ap (coeff_of (code_ring k).ops (value k q).0) (let s = same in let t = q_size in let f : i ≡ length (value k q).0 - 1 = omega arith in f) ∙ monic_top k q q_in q_monic)
+          (ap (coeff_of (code_ring k).ops (value k p).0) (let t = p_size in let f : i ≡ length (value k p).0 - 1 = omega arith in f) ∙ monic_top k p p_in p_monic)
+          ∙ (code_ring k).add_neg (code_ring k).𝟙
+      go i (inr l) =
+          ap₂ (λ x y. (code_ring k).◌⊕◌ x ((code_ring k).⊖◌ y))
+          (coeff_past (code_ring k) (value k q).0 i (let s = same in let t = q_size in omega arith)) (coeff_past (code_ring k) (value k p).0 i (let t = p_size in omega arith))
+          ∙ (code_ring k).add_neg (code_ring k).𝟘
+
   -- monic lists that divide each other are the same
   pub monic_unique : (p q : List ℕ) → IsOver k.ops p → IsOver k.ops q → IsMonic p → IsMonic q → IsDivisor P.ops (value k p) (value k q)
       → IsDivisor P.ops (value k q) (value k p) → p ≡ q
@@ -90,26 +126,7 @@ module _ (k : CodeField) where
           step q p c = ring P (q ∷ p ∷ c ∷ []) λ x y. simp (reads, x, y 0, y 1, y 2) (x.equal _ _ refl)
 
       short : length gap.0 ≤ length p - 1
-      short =
-          length_bound (code_ring k) gap.0 (length p - 1) gap.1 (λ i le.
-          series_add (code_ring k) (value k q) (⊖ value k p) i
-          ∙ ap (λ w. (code_ring k).◌⊕◌ (coeff_of (code_ring k).ops (value k q).0 i) w) (series_neg (code_ring k) (value k p) i)
-          ∙ go i (split i le))
-        where
-          split : (i : ℕ) → length p - 1 ≤ i → (i ≡ length p - 1) ⊎ (length p ≤ i)
-          split i le = let l = p_long in grind arith
-
-          go : (i : ℕ) → (i ≡ length p - 1) ⊎ (length p ≤ i)
-              → (code_ring k).◌⊕◌ (coeff_of (code_ring k).ops (value k q).0 i) ((code_ring k).⊖◌ (coeff_of (code_ring k).ops (value k p).0 i)) ≡ (code_ring k).𝟘
-          go i (inl e) =
-              ap₂ (λ x y. (code_ring k).◌⊕◌ x ((code_ring k).⊖◌ y))
-              (ap (coeff_of (code_ring k).ops (value k q).0) (let s = same in let t = q_size in let f : i ≡ length (value k q).0 - 1 = omega arith in f) ∙ monic_top k q q_in q_monic)
-              (ap (coeff_of (code_ring k).ops (value k p).0) (let t = p_size in let f : i ≡ length (value k p).0 - 1 = omega arith in f) ∙ monic_top k p p_in p_monic)
-              ∙ (code_ring k).add_neg (code_ring k).𝟙
-          go i (inr l) =
-              ap₂ (λ x y. (code_ring k).◌⊕◌ x ((code_ring k).⊖◌ y))
-              (coeff_past (code_ring k) (value k q).0 i (let s = same in let t = q_size in omega arith)) (coeff_past (code_ring k) (value k p).0 i (let t = p_size in omega arith))
-              ∙ (code_ring k).add_neg (code_ring k).𝟘
+      short = monic_gap p q p_in q_in p_monic q_monic same
 
       none : gap ≡ 𝟘
       none =

@@ -49,7 +49,8 @@ module _ (k : CodeField) where
       subst (λ w. IsPulling k g p count w) (sym same) (subst (λ c. IsPulling k g p c g) (sym none)
       (record { over = g_in; poly = g_poly; some = ne; product = sym (one_mul P (value k g)) }))
 
-  exact : (p rest q left : List ℕ) → IsOver k.ops p → IsQuotient k.ops rest p q left → left ≡ [] → value k rest ≡ value k p ⊗ value k q
+  -- with rest 0 the divisor times the quotient is what is divided
+  pub exact : (p rest q left : List ℕ) → IsOver k.ops p → IsQuotient k.ops rest p q left → left ≡ [] → value k rest ≡ value k p ⊗ value k q
   exact p rest q left p_in d e =
       quotient_value rest p q left p_in d ∙ ap (λ w. value k p ⊗ value k q ⊕ w) (ap (value k) e ∙ value_nil k) ∙ P.add_zero _
 
@@ -83,21 +84,23 @@ module _ (k : CodeField) where
         length_value k rest h.over h.poly,
       )
 
-  pub pulled_out : (g p rest q left : List ℕ) (count : ℕ) → IsOver k.ops p → IsPoly p → 2 ≤ length p → IsPulling k g p count rest → IsQuotient k.ops rest p q left → ¬ (left ≡ [])
-      → IsPulledOut k g p count rest
-  pulled_out g p rest q left count p_in p_poly long h d ne = record { over = h.over; poly = h.poly; product = h.product; free = free }
+  -- with another rest it is no divisor
+  pub not_divisor : (p a q left : List ℕ) → IsOver k.ops p → IsPoly p → 2 ≤ length p → IsQuotient k.ops a p q left → ¬ (left ≡ []) → ¬ IsDivisor P.ops (value k p) (value k a)
+  not_divisor p a q left p_in p_poly long d ne c =
+      list_some left d.rest_in d.rest_poly ne
+      (one_way (code_ring k) (code_domain k) (value k a) (value k p) (value k q) c.0 (value k left) 𝟘 by_division
+      (record { whole = c.1 ∙ sym (P.add_zero (value k p ⊗ c.0)); shorter = omega (arith, zero_length k, p_size) })).1
     where
       p_size : length (value k p).0 ≡ length p
       p_size = length_value k p p_in p_poly
 
-      by_division : IsDivision (code_ring k) (value k rest) (value k p) (value k q) (value k left)
+      by_division : IsDivision (code_ring k) (value k a) (value k p) (value k q) (value k left)
       by_division = record {
-        whole = quotient_value rest p q left p_in d;
+        whole = quotient_value a p q left p_in d;
         shorter = omega (arith, d.shorter, p_size, length_value k left d.rest_in d.rest_poly);
       }
 
-      free : ¬ IsDivisor P.ops (value k p) (value k rest)
-      free c =
-          list_some left d.rest_in d.rest_poly ne
-          (one_way (code_ring k) (code_domain k) (value k rest) (value k p) (value k q) c.0 (value k left) 𝟘 by_division
-          (record { whole = c.1 ∙ sym (P.add_zero (value k p ⊗ c.0)); shorter = omega (arith, zero_length k, p_size) })).1
+  pub pulled_out : (g p rest q left : List ℕ) (count : ℕ) → IsOver k.ops p → IsPoly p → 2 ≤ length p → IsPulling k g p count rest → IsQuotient k.ops rest p q left → ¬ (left ≡ [])
+      → IsPulledOut k g p count rest
+  pulled_out g p rest q left count p_in p_poly long h d ne =
+      record { over = h.over; poly = h.poly; product = h.product; free = not_divisor p rest q left p_in p_poly long d ne }

@@ -79,7 +79,7 @@ primes_none k g ps none = subst (ArePrimesOf k g []) (sym none) (record { each =
 
 -- ---- powers that are divided out
 
-polys_push : (fs : List (List ℕ × ℕ)) (f : List ℕ × ℕ) → polys_of (fs ++ f ∷ []) ≡ polys_of fs ++ f.0 ∷ []
+pub polys_push : (fs : List (List ℕ × ℕ)) (f : List ℕ × ℕ) → polys_of (fs ++ f ∷ []) ≡ polys_of fs ++ f.0 ∷ []
 polys_push [] f = refl
 polys_push (x ∷ fs) f = ap (λ w. x.0 ∷ w) (polys_push fs f)
 
@@ -114,7 +114,7 @@ module _ (k : CodeField) where
         go (inr d) f = f d
 
     -- a prime that divides none of the polynomials divides no product of their powers
-    of_parts : (fs : List (List ℕ × ℕ)) → ((q : List ℕ) → In q (polys_of fs) → ¬ IsDivisor P.ops (value k p) (value k q)) → ¬ IsDivisor P.ops (value k p) (value_of_parts k fs)
+    pub of_parts : (fs : List (List ℕ × ℕ)) → ((q : List ℕ) → In q (polys_of fs) → ¬ IsDivisor P.ops (value k p) (value k q)) → ¬ IsDivisor P.ops (value k p) (value_of_parts k fs)
     of_parts [] none d = (irreducible k (value k p) h).nonunit (d.0, sym d.1)
     of_parts (f ∷ fs) none d = go (prime k (value k p) h (pow P.ops (value k f.0) f.1) (value_of_parts k fs) d) (of_parts fs (λ q i. none q (inr i)))
       where

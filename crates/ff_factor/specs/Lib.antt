@@ -4,3 +4,5 @@ pub mod QuotientLaws
 pub mod Primes
 pub mod Factors
 pub mod Pulls
+pub mod LowestTerms
+pub mod Reductions

@@ -1,9 +1,9 @@
 //! Factors of polynomials.
 
-ghost use Rattle.std.specs.Prelude.{◌≡◌, ◌≢◌, ◌≤◌, [], length, All, IfOk};
+ghost use Rattle.std.specs.Prelude.{◌≡◌, ◌≢◌, ◌≤◌, ℕ, List, [], length, All, IfOk};
 ghost use Rattle.ff_fields.specs.Over.{IsOver};
 ghost use Rattle.ff_poly.specs.Words.{IsPoly};
-ghost use Rattle.ff_factor.specs.Factors.{IsFactorisation};
+ghost use Rattle.ff_factor.specs.Factors.{FactorsValue, IsFactorisation};
 ghost use Rattle.ff_factor.specs.Pulls.{IsPrimeList, IsPulledOut, IsSplitOff};
 
 use crate::primes::primes_of;
@@ -122,3 +122,9 @@ pub fn factor<K: SmallField>(alloc: Global, k: &K, g: &Poly) -> Result<Factors, 
         parts,
     })
 }
+
+/// A law: a polynomial has one factorisation.
+pub fn one_factorisation<K: SmallField>(k: &K)
+    ensures { let ops = (K.field k.now).ops in
+        (g : List ℕ) (a b : FactorsValue) → IsFactorisation ops g a → IsFactorisation ops g b → a ≡ b }
+{}
