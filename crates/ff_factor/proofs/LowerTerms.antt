@@ -4,7 +4,7 @@ use Rattle.std.proofs.lemmas.List.{length-map, map-append, get_or-map, take_more
 use Rattle.std.proofs.lemmas.List.Elements.{All-nil, All-cons, All-append}
 use Rattle.ff_ring.specs.Ring.{CommRing}
 use Rattle.ff_ring.proofs.Finite.{In}
-use Rattle.ff_ring.proofs.Ring.{zero_mul, mul_zero, one_mul, mul_left_comm}
+use Rattle.ff_ring.proofs.Ring.{mul_zero, one_mul, mul_left_comm}
 use Rattle.ff_ring.proofs.Polynomials.{length_product}
 use Rattle.ff_fields.specs.Field.{CodeField}
 use Rattle.ff_fields.specs.Code.{code_ring, code_domain}
@@ -17,7 +17,7 @@ use Rattle.ff_poly.specs.Polynomials.{Polynomial, polynomials, constant_poly, va
 use Rattle.ff_poly.proofs.Parts.{IsPoly_multiple_of, IsMonic_multiple, value_multiple}
 use Rattle.ff_factor.specs.Factors.{FactorsValue, IsFactorisation, polys_of, product_of_parts}
 use Rattle.ff_factor.specs.LowestTerms.{IsInLowestTermsOf}
-use Rattle.ff_factor.specs.ListValues.{length_value, monic_poly}
+use Rattle.ff_factor.specs.ListValues.{length_value}
 use Rattle.ff_factor.specs.Pulls.{value_of_parts}
 use Rattle.ff_factor.specs.Reductions.{values, DividesAll, AreQuotients, IsFree, AreReduced, AreLowerAt, ArePrimes}
 use Rattle.ff_factor.proofs.CommonFactors.{times, times_one, times_times, times_swap, divides_members, divides_times}

@@ -1,18 +1,18 @@
 -- A polynomial has one factorisation.
-use Rattle.std.proofs.Common.{◌≡◌, ℕ, zero, suc, ◌<◌, ◌≤◌, ◌⊎◌, inl, inr, List, [], ◌∷◌, length, All, refl, sym, ap, ap₂, ◌∙◌, subst, arith}
+use Rattle.std.proofs.Common.{◌≡◌, ℕ, zero, suc, ◌≤◌, ◌⊎◌, inl, inr, List, [], ◌∷◌, length, All, refl, sym, ap, ap₂, ◌∙◌, subst, arith}
 use Rattle.std.proofs.lemmas.List.Elements.{All-head, All-tail}
 use Rattle.ff_ring.specs.Ring.{CommRing, pow}
 use Rattle.ff_ring.proofs.Finite.{In}
-use Rattle.ff_ring.proofs.Ring.{one_mul, zero_mul, mul_zero}
+use Rattle.ff_ring.proofs.Ring.{one_mul, mul_zero}
 use Rattle.ff_ring.proofs.Polynomials.{length_product}
 use Rattle.ff_fields.specs.Field.{CodeField}
 use Rattle.ff_fields.specs.Code.{code_ring, code_domain}
 use Rattle.ff_fields.specs.Over.{IsOver, IsOver_nil, IsOver_cons}
 use Rattle.linear_theory.specs.Euclidean.{IsDivisor, IsUnit}
-use Rattle.linear_theory.proofs.Euclid.{divisor_product, divisor_trans, order_unique}
+use Rattle.linear_theory.proofs.Euclid.{divisor_product, order_unique}
 use Rattle.ff_poly.specs.Words.{IsIrreducible}
-use Rattle.ff_poly.specs.Value.{value, numbers_value}
-use Rattle.ff_poly.specs.Polynomials.{Polynomial, polynomials, constant_poly, codes_of}
+use Rattle.ff_poly.specs.Value.{value}
+use Rattle.ff_poly.specs.Polynomials.{Polynomial, polynomials, constant_poly}
 use Rattle.ff_factor.specs.Factors.{FactorsValue, IsFactorisation, IsBefore, AreAscending, polys_of}
 use Rattle.ff_factor.specs.ListValues.{length_value, monic_poly, same_lists}
 use Rattle.ff_factor.specs.Pulls.{value_of_parts}

@@ -1,5 +1,5 @@
 -- Fractions have one form in lowest terms: of two denominators of least degree the difference would be a smaller one.
-use Rattle.std.proofs.Common.{◌≡◌, ◌≢◌, ℕ, ◌-◌, ◌<◌, ◌≤◌, List, [], ◌∷◌, length, map, All, refl, sym, ap, ◌∙◌, subst, arith}
+use Rattle.std.proofs.Common.{◌≡◌, ◌≢◌, ℕ, ◌-◌, ◌<◌, ◌≤◌, List, [], length, map, All, sym, ap, ◌∙◌, subst, arith}
 use Rattle.std.proofs.lemmas.List.{length-map, length_push}
 use Rattle.ff_ring.specs.Ring.{CommRing}
 use Rattle.ff_ring.proofs.Ring.{eq_of_sub}

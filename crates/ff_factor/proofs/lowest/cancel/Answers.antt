@@ -1,4 +1,4 @@
-use Rattle.std.proofs.Common.{[], ◌∷◌, length, All, sym, subst}
+use Rattle.std.proofs.Common.{[], All, sym, subst}
 use Rattle.ff_fields.specs.Over.{IsOver}
 use Rattle.ff_poly.specs.Value.{value}
 use Rattle.ff_factor.specs.Reductions.{AreReduced, IsFree}
