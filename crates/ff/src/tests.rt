@@ -225,7 +225,14 @@ fn answers(alloc: Global, line: &[u8], status: Status, lines: &[u8]) -> Result<b
     output.extend_from_slice(line)?;
     output.extend_from_slice(b"\n")?;
     output.extend_from_slice(lines)?;
-    let (ended, out) = ran(alloc, "run", script.as_slice(), Vec::new(alloc), Vec::new(alloc), 4096)?;
+    let (ended, out) = ran(
+        alloc,
+        "run",
+        script.as_slice(),
+        Vec::new(alloc),
+        Vec::new(alloc),
+        4096,
+    )?;
     Ok(ended == status && out.taken() == output.as_slice())
 }
 
@@ -240,10 +247,18 @@ fn factors_and_fractions(rt: HostRuntime) -> Result<(), Fail> {
             done,
             b"= unit 3\n= 1 x + 1\n= 1 x + 2\n= 1 x + 3\n= 1 x + 4\n= 1 x + 5\n= 1 x + 6\nend 3\n",
         ),
-        (b"factor x^14 + 2*x^7 + 1", done, b"= unit 1\n= 14 x + 1\nend 3\n"),
+        (
+            b"factor x^14 + 2*x^7 + 1",
+            done,
+            b"= unit 1\n= 14 x + 1\nend 3\n",
+        ),
         (b"factor 5", done, b"= unit 5\nend 3\n"),
         // x^2 = -1 has no solution modulo 7, and x^4 + 2*x^2 + 1 is (x^2 + 1)^2.
-        (b"factor x^5 + 2*x^3 + x", done, b"= unit 1\n= 1 x\n= 2 x^2 + 1\nend 3\n"),
+        (
+            b"factor x^5 + 2*x^3 + x",
+            done,
+            b"= unit 1\n= 1 x\n= 2 x^2 + 1\nend 3\n",
+        ),
         (b"factor -x", done, b"= unit 6\n= 1 x\nend 3\n"),
         (b"factor 0", refused, b"refused Zero\n"),
         (b"factor x - x", refused, b"refused Zero\n"),
@@ -252,10 +267,22 @@ fn factors_and_fractions(rt: HostRuntime) -> Result<(), Fail> {
         (b"factor 9", refused, b"refused CodeRange 9\n"),
         (b"factor 0*9", refused, b"refused CodeRange 9\n"),
         (b"factor 8*x^513", refused, b"refused CodeRange 8\n"),
-        (b"mul [x, 0]/(x + 1) [x + 1, 0]/x", done, b"= [1, 0]\nend 3\n"),
+        (
+            b"mul [x, 0]/(x + 1) [x + 1, 0]/x",
+            done,
+            b"= [1, 0]\nend 3\n",
+        ),
         // Divided by x and by the top coefficient 2: 4 is its inverse.
-        (b"mul [x, x^2]/(2*x^2 + 2*x) [1, 0]", done, b"= [4, 4*x]/(x + 1)\nend 3\n"),
-        (b"mul [0, 1]/x [0, 1]/x", done, b"= [x^3 + 1, 0]/x^2\nend 3\n"),
+        (
+            b"mul [x, x^2]/(2*x^2 + 2*x) [1, 0]",
+            done,
+            b"= [4, 4*x]/(x + 1)\nend 3\n",
+        ),
+        (
+            b"mul [0, 1]/x [0, 1]/x",
+            done,
+            b"= [x^3 + 1, 0]/x^2\nend 3\n",
+        ),
         (b"mul [1, 0]/0 [0, 1]", refused, b"refused Zero\n"),
         (b"mul [1, 0]/(x - x) [9, 1, 0]", refused, b"refused Zero\n"),
         (b"mul [1, 0]/0*9 [0, 1]", refused, b"refused CodeRange 9\n"),
@@ -292,10 +319,7 @@ fn first_bad_or_misplaced_line(rt: HostRuntime) -> Result<(), Fail> {
             b"field 7\ncurve y^2 + x\nmul [1, 0]/y [0, 1]\n",
             b"refused Syntax 3\n",
         ),
-        (
-            b"field 7\ncurve y^2 + x\nfactor y\n",
-            b"refused Syntax 3\n",
-        ),
+        (b"field 7\ncurve y^2 + x\nfactor y\n", b"refused Syntax 3\n"),
         (b"field 7\nfactor x\n", b"refused Misplaced 2\n"),
         (b"field 7\ncurve y^2 + 1000000000\n", b"refused Syntax 2\n"),
         (b"mul [0] [0]\nnothing\n", b"refused Syntax 2\n"),

@@ -65,10 +65,10 @@ module _ {k : CodeField} (c : Equation k) where
     all_integral start qs divides irreducible listed z = (
       λ m. ((is z).0 m).integral,
       maximal_order c M 𝓜.ring contains qs divides irreducible
-      (All-weaker (λ q. IsDivisor (polynomials k).ops ((polynomials k).◌⊗◌ q q) (discriminant c) → Any (λ r. r ≡ q) ps)
-      (λ q. IsDivisor (polynomials k).ops ((polynomials k).◌⊗◌ q q) (discriminant c)
-      → MaximalAt (ring_of c).ops (of_poly c q) (IsIntegralAt (setting_of c) Finite) M)
-      (λ q listed d. maximal_at q (listed d)) qs listed) z,
+          (All-weaker (λ q. IsDivisor (polynomials k).ops ((polynomials k).◌⊗◌ q q) (discriminant c) → Any (λ r. r ≡ q) ps)
+          (λ q. IsDivisor (polynomials k).ops ((polynomials k).◌⊗◌ q q) (discriminant c)
+          → MaximalAt (ring_of c).ops (of_poly c q) (IsIntegralAt (setting_of c) Finite) M)
+          (λ q listed d. maximal_at q (listed d)) qs listed) z,
     )
       where
         contains : (z : FunctionOf c) → HasPolynomialCoordinates c z → M z

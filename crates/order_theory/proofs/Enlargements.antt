@@ -205,10 +205,12 @@ module _ {k : CodeField} (c : Equation k) where
       (λ a. MaximalAt (ring_of c).ops a Int M)
       (λ a raise z n z_int m.
       let t = ((is (pow (ring_of c).ops a n ⊗ z)).0 m).1 in
-      (is z).1
-      (z_int, (
-        pow (ring_of c).ops a n ⊗ t.0,
-        raise n t.0 t.1,
-        subst O (sym ((ring_of c).mul_assoc _ _ z) ∙ ap (λ x. x ⊗ z) ((ring_of c).mul_comm _ _)) t.2,
-      )))
+      (is z).1 (
+        z_int,
+        (
+          pow (ring_of c).ops a n ⊗ t.0,
+          raise n t.0 t.1,
+          subst O (sym ((ring_of c).mul_assoc _ _ z) ∙ ap (λ x. x ⊗ z) ((ring_of c).mul_comm _ _)) t.2,
+        ),
+      ))
       es (powers_raised es)
