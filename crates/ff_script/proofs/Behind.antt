@@ -6,13 +6,15 @@ use Rattle.ff_text.specs.Spelling.{Is, SpellsNumber, SpellsTerms, SpellsElement}
 use Rattle.ff_text.specs.Reading.{IsNoSpelling}
 use Rattle.ff_text.specs.declared.terms.Term.{Term}
 use Rattle.ff_text.specs.declared.terms.ElemText.{ElemText}
+use Rattle.ff_algebra.specs.declared.elem.Side.{Side}
+use Rattle.ff_algebra.specs.declared.elem.Side.TheVariants.{Finite, Infinite}
 use Rattle.ff_script.specs.declared.script.Modulus.{Modulus}
 use Rattle.ff_script.specs.declared.script.Statement.{Statement}
 use Rattle.ff_script.specs.declared.script.Statement.TheVariants.{Mul}
 use Rattle.ff_script.specs.Grammar.{ends_with_word, numbers_of, IsWhole, SpellsLine}
-use Rattle.ff_script.specs.Reading.{IsReading, behind_blanks, IsFront, AreNumbersAt, IsModulusAt, AreTermsAt, IsElementFront, IsBehind}
+use Rattle.ff_script.specs.Reading.{IsReading, behind_blanks, IsFront, AreNumbersAt, IsModulusAt, AreTermsAt, IsSideAt, IsElementFront, IsBehind}
 use Rattle.ff_script.proofs.Spans.{AllWord, blanks_same, words_same}
-use Rattle.ff_script.proofs.ByKind.{Kind, FieldKind, CurveKind, MulKind, FactorKind, word_of, IsHeldAt, kind_of, none_of_kind, word_of_behind, IsWord, word_of_statement}
+use Rattle.ff_script.proofs.ByKind.{Kind, FieldKind, CurveKind, MulKind, FactorKind, OrderKind, word_of, IsHeldAt, kind_of, none_of_kind, word_of_behind, IsWord, word_of_statement}
 use Rattle.ff_script.proofs.Fronts.{IsStatementAt, line_at, line_from}
 use Rattle.ff_script.proofs.Steps.{no_front, number_same, numbers_same}
 use Rattle.ff_script.proofs.Elements.{begins_element, fronts_one}
@@ -28,6 +30,15 @@ no_curve_here bytes none s h = none_of_kind CurveKind bytes none s h
 
 pub no_factor_here : (bytes : List ℕ) → ((g : List Term) → AreTermsAt false g bytes → ⊥) → (s : Statement) → IsBehind (codes "factor") s bytes → ⊥
 no_factor_here bytes none s h = none_of_kind FactorKind bytes none s h
+
+-- ---- sides
+
+pub no_side_here : (bytes : List ℕ) → (IsFront (Is (codes "finite")) bytes [] → ⊥) → (side : Side) → IsSideAt side bytes → ⊥
+no_side_here bytes no_finite Finite h = no_finite h
+no_side_here bytes no_finite Infinite h = h.part
+
+pub no_order_here : (bytes : List ℕ) → ((side : Side) → IsSideAt side bytes → ⊥) → (s : Statement) → IsBehind (codes "order") s bytes → ⊥
+no_order_here bytes none s h = none_of_kind OrderKind bytes none s h
 
 -- ---- numbers behind `field`
 
@@ -120,8 +131,9 @@ no_statement line bytes e none s h =
     none (kind_of s) at.rest (subst (λ (w : List ℕ). IsFront (Is w) bytes at.rest) (word_of_behind at.word s at.rest at.behind) at.front)
 
 -- there is one kind for each word that was looked for
-pub no_kind : (bytes : List ℕ) → IsNoWord (codes "field") bytes → IsNoWord (codes "curve") bytes → IsNoWord (codes "mul") bytes → IsNoWord (codes "factor") bytes → (k : Kind) → IsNoWord (word_of k) bytes
-no_kind bytes no_field no_curve no_mul no_factor FieldKind = no_field
-no_kind bytes no_field no_curve no_mul no_factor CurveKind = no_curve
-no_kind bytes no_field no_curve no_mul no_factor MulKind = no_mul
-no_kind bytes no_field no_curve no_mul no_factor FactorKind = no_factor
+pub no_kind : (bytes : List ℕ) → IsNoWord (codes "field") bytes → IsNoWord (codes "curve") bytes → IsNoWord (codes "mul") bytes → IsNoWord (codes "factor") bytes → IsNoWord (codes "order") bytes → (k : Kind) → IsNoWord (word_of k) bytes
+no_kind bytes no_field no_curve no_mul no_factor no_order FieldKind = no_field
+no_kind bytes no_field no_curve no_mul no_factor no_order CurveKind = no_curve
+no_kind bytes no_field no_curve no_mul no_factor no_order MulKind = no_mul
+no_kind bytes no_field no_curve no_mul no_factor no_order FactorKind = no_factor
+no_kind bytes no_field no_curve no_mul no_factor no_order OrderKind = no_order

@@ -4,11 +4,12 @@ use Rattle.std.specs.Prelude.{if◌then◌else◌}
 use Rattle.ff_text.specs.Spelling.{SpellsElement}
 use Rattle.ff_text.specs.declared.terms.Term.{Term}
 use Rattle.ff_text.specs.declared.terms.ElemText.{ElemText}
+use Rattle.ff_algebra.specs.declared.elem.Side.{Side}
 use Rattle.ff_script.specs.declared.script.Modulus.{Modulus}
 use Rattle.ff_script.specs.declared.script.Statement.{Statement}
-use Rattle.ff_script.specs.declared.script.Statement.TheVariants.{FieldOf, CurveOf, Mul, Factor}
+use Rattle.ff_script.specs.declared.script.Statement.TheVariants.{FieldOf, CurveOf, Mul, Factor, OrderOf}
 use Rattle.ff_script.specs.Grammar.{ends_with_word, numbers_of, IsWhole}
-use Rattle.ff_script.specs.Reading.{IsFront, AreNumbersAt, AreTermsAt, IsBehind}
+use Rattle.ff_script.specs.Reading.{IsFront, AreNumbersAt, AreTermsAt, IsSideAt, IsBehind}
 use Rattle.ff_script.proofs.Spans.{AllWord}
 
 -- one for each word
@@ -17,12 +18,14 @@ pub data Kind : Type 0 where
   CurveKind : Kind
   MulKind : Kind
   FactorKind : Kind
+  OrderKind : Kind
 
 abbrev pub word_of : Kind → List ℕ
 word_of FieldKind = codes "field"
 word_of CurveKind = codes "curve"
 word_of MulKind = codes "mul"
 word_of FactorKind = codes "factor"
+word_of OrderKind = codes "order"
 
 -- what a statement of the kind holds
 abbrev pub Held : Kind → Type 0
@@ -30,12 +33,14 @@ Held FieldKind = ℕ × Option Modulus
 Held CurveKind = List Term
 Held MulKind = ElemText × ElemText
 Held FactorKind = List Term
+Held OrderKind = Side
 
 abbrev pub statement : (k : Kind) → Held k → Statement
 statement FieldKind h = FieldOf h.0 h.1
 statement CurveKind f = CurveOf f
 statement MulKind h = Mul h.0 h.1
 statement FactorKind g = Factor g
+statement OrderKind side = OrderOf side
 
 -- it is what the bytes behind the word are
 abbrev pub IsHeldAt : (k : Kind) → Held k → List ℕ → Type 0
@@ -43,6 +48,7 @@ IsHeldAt FieldKind h bytes = IsWhole h.1 × AreNumbersAt (h.0 ∷ numbers_of h.1
 IsHeldAt CurveKind f bytes = AreTermsAt true f bytes
 IsHeldAt MulKind h bytes = (rest : List ℕ) × IsFront (SpellsElement h.0) bytes rest × IsFront (SpellsElement h.1) rest []
 IsHeldAt FactorKind g bytes = AreTermsAt false g bytes
+IsHeldAt OrderKind side bytes = IsSideAt side bytes
 
 -- ---- each statement is of one kind
 
@@ -51,24 +57,28 @@ kind_of (FieldOf p tail) = FieldKind
 kind_of (CurveOf f) = CurveKind
 kind_of (Mul a b) = MulKind
 kind_of (Factor g) = FactorKind
+kind_of (OrderOf side) = OrderKind
 
 abbrev pub held_by : (s : Statement) → Held (kind_of s)
 held_by (FieldOf p tail) = (p, tail)
 held_by (CurveOf f) = f
 held_by (Mul a b) = (a, b)
 held_by (Factor g) = g
+held_by (OrderOf side) = side
 
 made_again : (s : Statement) → s ≡ statement (kind_of s) (held_by s)
 made_again (FieldOf p tail) = refl
 made_again (CurveOf f) = refl
 made_again (Mul a b) = refl
 made_again (Factor g) = refl
+made_again (OrderOf side) = refl
 
 behind_held : (word : List ℕ) (s : Statement) (bytes : List ℕ) → IsBehind word s bytes → (word ≡ word_of (kind_of s)) × IsHeldAt (kind_of s) (held_by s) bytes
 behind_held word (FieldOf p tail) bytes h = (h.0, (h.1, h.2))
 behind_held word (CurveOf f) bytes h = h
 behind_held word (Mul a b) bytes h = h
 behind_held word (Factor g) bytes h = h
+behind_held word (OrderOf side) bytes h = h
 
 -- ---- each word is of one kind
 
@@ -78,13 +88,14 @@ mark [] = 0
 mark (b ∷ bs) = b + 2 * mark bs
 
 abbrev kind_at : ℕ → Kind
-kind_at n = if eqb n 3180 then FieldKind else if eqb n 3349 then CurveKind else if eqb n 775 then MulKind else FactorKind
+kind_at n = if eqb n 3180 then FieldKind else if eqb n 3349 then CurveKind else if eqb n 775 then MulKind else if eqb n 7044 then FactorKind else OrderKind
 
 told : (k : Kind) → kind_at (mark (word_of k)) ≡ k
 told FieldKind = refl
 told CurveKind = refl
 told MulKind = refl
 told FactorKind = refl
+told OrderKind = refl
 
 same_kind : (k l : Kind) → word_of k ≡ word_of l → k ≡ l
 same_kind k l e = sym (told k) ∙ ap (λ (w : List ℕ). kind_at (mark w)) e ∙ told l
@@ -121,6 +132,7 @@ kind_word FieldKind = record { all = (refl, (refl, (refl, (refl, (refl, tt)))));
 kind_word CurveKind = record { all = (refl, (refl, (refl, (refl, (refl, tt))))); ends = refl }
 kind_word MulKind = record { all = (refl, (refl, (refl, tt))); ends = refl }
 kind_word FactorKind = record { all = (refl, (refl, (refl, (refl, (refl, (refl, tt)))))); ends = refl }
+kind_word OrderKind = record { all = (refl, (refl, (refl, (refl, (refl, tt))))); ends = refl }
 
 pub word_of_statement : (word : List ℕ) (s : Statement) (bytes : List ℕ) → IsBehind word s bytes → IsWord word
 word_of_statement word s bytes h = subst IsWord (sym (word_of_behind word s bytes h)) (kind_word (kind_of s))

@@ -7,10 +7,10 @@ use Rattle.std.proofs.lemmas.List.{append-nil, length-append}
 use Rattle.ff_text.specs.Spelling.{is_blank, Blanks, SpellsElement}
 use Rattle.ff_text.specs.Reading.{IsLongestSpelling, IsNoSpelling}
 use Rattle.ff_text.specs.declared.terms.ElemText.{ElemText}
-use Rattle.ff_script.specs.Grammar.{is_word_byte, begins_with_word, ends_with_word}
+use Rattle.ff_script.specs.Grammar.{is_word_byte, begins_with_word}
 use Rattle.ff_script.specs.Reading.{behind_blanks, IsFront, is_behind_element, IsElementFront}
-use Rattle.ff_script.proofs.Spans.{head_same, tail_same, all_append, all_back, passed, blanks_passed, gap_no_word, IsStopped, stopped_behind, stopped_same, stopped_within}
-use Rattle.ff_script.proofs.Spelled.{IsInside, AreInside, IsEnding, blanks_inside, element_bracketed}
+use Rattle.ff_script.proofs.Spans.{head_same, tail_same, all_append, all_back, passed, blanks_passed, gap_no_word, IsStopped, stopped_same, stopped_within}
+use Rattle.ff_script.proofs.Spelled.{IsInside, AreInside, blanks_inside, element_bracketed}
 use Rattle.ff_script.proofs.Steps.{front_here, no_front, front_short, split_at, range_length, shorter_front}
 
 -- ---- what may stand behind an element

@@ -1,17 +1,16 @@
 -- The spelling of a line, read from left to right.
-use Rattle.std.proofs.Common.{◌≡◌, ℕ, Bool, true, false, List, [], ◌∷◌, ◌++◌, codes, refl, sym, ap, subst, ◌∙◌, append_assoc, inl, inr}
+use Rattle.std.proofs.Common.{◌≡◌, ℕ, true, false, List, [], ◌∷◌, ◌++◌, codes, refl, sym, ap, subst, ◌∙◌, append_assoc, inl, inr}
 use Rattle.std.specs.List.{AllByRecursion}
 use Rattle.std.proofs.lemmas.Bool.{cases_Bool, both_ways, and_parts, and_from}
 use Rattle.std.proofs.lemmas.List.{append-nil}
 use Rattle.ff_text.specs.Spelling.{Is, Blanks, SpellsNumber, SpellsTerms, SpellsElement}
-use Rattle.ff_text.specs.declared.terms.Term.{Term}
 use Rattle.ff_text.specs.declared.terms.ElemText.{ElemText}
 use Rattle.ff_script.specs.declared.script.Statement.{Statement}
-use Rattle.ff_script.specs.declared.script.Statement.TheVariants.{FieldOf, CurveOf, Mul, Factor}
-use Rattle.ff_script.specs.Grammar.{begins_with_word, ends_with_word, IsGap, SpellsParts, AreNumbers, numbers_of, ArePartsOf, SpellsLine}
-use Rattle.ff_script.specs.Reading.{behind_blanks, begins_with_blank, IsFront, AreNumbersAt, AreTermsAt, IsBehind}
+use Rattle.ff_script.specs.declared.script.Statement.TheVariants.{FieldOf, CurveOf, Mul, Factor, OrderOf}
+use Rattle.ff_script.specs.Grammar.{begins_with_word, ends_with_word, IsGap, SpellsParts, AreNumbers, numbers_of, SpellsSide, ArePartsOf, SpellsLine}
+use Rattle.ff_script.specs.Reading.{behind_blanks, begins_with_blank, IsFront, AreNumbersAt, IsBehind}
 use Rattle.ff_script.proofs.Spans.{passed, blanks_passed, gap_no_word, some_gap_no_word, word_goes_on}
-use Rattle.ff_script.proofs.Spelled.{Starts, starts_edge, number_solid, terms_solid, element_bracketed}
+use Rattle.ff_script.proofs.Spelled.{Starts, starts_edge, number_solid, terms_solid, side_solid, element_bracketed}
 
 -- ---- parts from left to right
 
@@ -142,12 +141,14 @@ parts_start (FieldOf p tail) parts h = subst (AllByRecursion Starts) (sym h.1) (
 parts_start (CurveOf f) parts h = subst (AllByRecursion Starts) (sym h.1) (refl, ((terms_solid true f h.0 h.2).starts, tt))
 parts_start (Mul a b) parts h = subst (AllByRecursion Starts) (sym h.2) (refl, (element_starts a h.0 h.3, (element_starts b h.1 h.4, tt)))
 parts_start (Factor g) parts h = subst (AllByRecursion Starts) (sym h.1) (refl, ((terms_solid false g h.0 h.2).starts, tt))
+parts_start (OrderOf side) parts h = subst (AllByRecursion Starts) (sym h.1) (refl, ((side_solid side h.0 h.2).starts, tt))
 
 no_parts : (s : Statement) → ArePartsOf s [] → ⊥
 no_parts (FieldOf p tail) h = let e = h.1 in cc
 no_parts (CurveOf f) h = let e = h.1 in cc
 no_parts (Mul a b) h = let e = h.2 in cc
 no_parts (Factor g) h = let e = h.1 in cc
+no_parts (OrderOf side) h = let e = h.1 in cc
 
 numbers_at : (ns : List ℕ) (parts : List (List ℕ)) (bytes : List ℕ) → AreNumbers ns parts → AreFronts parts bytes → AreNumbersAt ns bytes
 numbers_at [] parts bytes h fronts = subst (λ (p : List (List ℕ)). AreFronts p bytes) h fronts
@@ -160,12 +161,12 @@ numbers_parts (n ∷ ns) bytes h =
     let more = numbers_parts ns h.0 h.2 in
     (h.1.front ∷ more.0, (h.1.part, more.1), (h.0, front_itself (SpellsNumber n) bytes h.0 h.1, more.2))
 
--- a polynomial is the last part
-terms_at : (with_y : Bool) (f : List Term) (part : List ℕ) (bytes : List ℕ) → SpellsTerms with_y f part → AreFronts (part ∷ []) bytes → AreTermsAt with_y f bytes
-terms_at with_y f part bytes h fronts = subst (IsFront (SpellsTerms with_y f) bytes) fronts.2 (front_as (Is part) (SpellsTerms with_y f) bytes fronts.0 (λ b e. subst (SpellsTerms with_y f) (sym e) h) fronts.1)
+-- the last part stands up to the end
+last_at : (Part : List ℕ → Type 0) (part bytes : List ℕ) → Part part → AreFronts (part ∷ []) bytes → IsFront Part bytes []
+last_at Part part bytes h fronts = subst (IsFront Part bytes) fronts.2 (front_as (Is part) Part bytes fronts.0 (λ b e. subst Part (sym e) h) fronts.1)
 
-terms_parts : (with_y : Bool) (f : List Term) (bytes : List ℕ) → AreTermsAt with_y f bytes → (part : List ℕ) × SpellsTerms with_y f part × AreFronts (part ∷ []) bytes
-terms_parts with_y f bytes h = (h.front, h.part, ([], front_itself (SpellsTerms with_y f) bytes [] h, refl))
+last_parts : (Part : List ℕ → Type 0) (bytes : List ℕ) → IsFront Part bytes [] → (part : List ℕ) × Part part × AreFronts (part ∷ []) bytes
+last_parts Part bytes h = (h.front, h.part, ([], front_itself Part bytes [] h, refl))
 
 pub statement_at : (s : Statement) (parts : List (List ℕ)) (bytes : List ℕ) → ArePartsOf s parts → AreFronts parts bytes → IsStatementAt s bytes
 statement_at (FieldOf p tail) parts bytes h fronts =
@@ -173,7 +174,7 @@ statement_at (FieldOf p tail) parts bytes h fronts =
     record { word = codes "field"; rest = at.0; front = at.1; behind = (refl, h.3, numbers_at (p ∷ numbers_of tail) h.0 at.0 h.2 at.2) }
 statement_at (CurveOf f) parts bytes h fronts =
     let at = subst (λ (p : List (List ℕ)). AreFronts p bytes) h.1 fronts in
-    record { word = codes "curve"; rest = at.0; front = at.1; behind = (refl, terms_at true f h.0 at.0 h.2 at.2) }
+    record { word = codes "curve"; rest = at.0; front = at.1; behind = (refl, last_at (SpellsTerms true f) h.0 at.0 h.2 at.2) }
 statement_at (Mul a b) parts bytes h fronts =
     let at = subst (λ (p : List (List ℕ)). AreFronts p bytes) h.2 fronts in
     let left : IsFront (SpellsElement a) at.0 at.2.0 = front_as (Is h.0) (SpellsElement a) at.0 at.2.0 (λ c e. subst (SpellsElement a) (sym e) h.3) at.2.1 in
@@ -181,7 +182,10 @@ statement_at (Mul a b) parts bytes h fronts =
     record { word = codes "mul"; rest = at.0; front = at.1; behind = (refl, (at.2.0, left, subst (IsFront (SpellsElement b) at.2.0) at.2.2.2 right)) }
 statement_at (Factor g) parts bytes h fronts =
     let at = subst (λ (p : List (List ℕ)). AreFronts p bytes) h.1 fronts in
-    record { word = codes "factor"; rest = at.0; front = at.1; behind = (refl, terms_at false g h.0 at.0 h.2 at.2) }
+    record { word = codes "factor"; rest = at.0; front = at.1; behind = (refl, last_at (SpellsTerms false g) h.0 at.0 h.2 at.2) }
+statement_at (OrderOf side) parts bytes h fronts =
+    let at = subst (λ (p : List (List ℕ)). AreFronts p bytes) h.1 fronts in
+    record { word = codes "order"; rest = at.0; front = at.1; behind = (refl, last_at (SpellsSide side) h.0 at.0 h.2 at.2) }
 
 abbrev IsNamed : Statement → List ℕ → Type 0
 IsNamed s bytes = (parts : List (List ℕ)) × ArePartsOf s parts × AreFronts parts bytes
@@ -191,7 +195,7 @@ statement_parts (FieldOf p tail) bytes h =
     let numbers = numbers_parts (p ∷ numbers_of tail) h.rest h.behind.2 in
     (codes "field" ∷ numbers.0, (numbers.0, refl, numbers.1, h.behind.1), (h.rest, subst (λ (w : List ℕ). IsFront (Is w) bytes h.rest) h.behind.0 h.front, numbers.2))
 statement_parts (CurveOf f) bytes h =
-    let last = terms_parts true f h.rest h.behind.1 in
+    let last = last_parts (SpellsTerms true f) h.rest h.behind.1 in
     (codes "curve" ∷ last.0 ∷ [], (last.0, refl, last.1), (h.rest, subst (λ (w : List ℕ). IsFront (Is w) bytes h.rest) h.behind.0 h.front, last.2))
 statement_parts (Mul a b) bytes h =
     let left = h.behind.1.1 in
@@ -201,8 +205,11 @@ statement_parts (Mul a b) bytes h =
       (h.rest, subst (λ (w : List ℕ). IsFront (Is w) bytes h.rest) h.behind.0 h.front, (h.behind.1.0, front_itself (SpellsElement a) h.rest h.behind.1.0 left, ([], front_itself (SpellsElement b) h.behind.1.0 [] right, refl))),
     )
 statement_parts (Factor g) bytes h =
-    let last = terms_parts false g h.rest h.behind.1 in
+    let last = last_parts (SpellsTerms false g) h.rest h.behind.1 in
     (codes "factor" ∷ last.0 ∷ [], (last.0, refl, last.1), (h.rest, subst (λ (w : List ℕ). IsFront (Is w) bytes h.rest) h.behind.0 h.front, last.2))
+statement_parts (OrderOf side) bytes h =
+    let last = last_parts (SpellsSide side) h.rest h.behind.1 in
+    (codes "order" ∷ last.0 ∷ [], (last.0, refl, last.1), (h.rest, subst (λ (w : List ℕ). IsFront (Is w) bytes h.rest) h.behind.0 h.front, last.2))
 
 -- ---- lines
 

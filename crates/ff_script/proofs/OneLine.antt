@@ -1,21 +1,23 @@
 -- A line spells one statement at most.
-use Rattle.std.proofs.Common.{◌≡◌, ℕ, Bool, true, false, List, [], ◌∷◌, ◌++◌, codes, Option, Some, None, refl, sym, ap, subst, ◌∙◌, arith, ◌⊎◌, inl, inr}
+use Rattle.std.proofs.Common.{◌≡◌, ℕ, Bool, true, false, List, [], ◌∷◌, ◌++◌, codes, Option, Some, None, refl, sym, ap, subst, ◌∙◌, inl, inr}
 use Rattle.std.proofs.lemmas.Bool.{both_ways}
 use Rattle.std.proofs.lemmas.List.{append-nil}
-use Rattle.ff_text.specs.Spelling.{Is, Blanks, SpellsTerms, SpellsElement}
+use Rattle.ff_text.specs.Spelling.{Blanks, SpellsTerms, SpellsElement}
 use Rattle.ff_text.specs.declared.terms.Term.{Term}
 use Rattle.ff_text.specs.declared.terms.ElemText.{ElemText}
+use Rattle.ff_algebra.specs.declared.elem.Side.{Side}
+use Rattle.ff_algebra.specs.declared.elem.Side.TheVariants.{Finite, Infinite}
 use Rattle.ff_script.specs.declared.script.Modulus.{Modulus}
 use Rattle.ff_script.specs.declared.script.Statement.{Statement}
-use Rattle.ff_script.specs.declared.script.Statement.TheVariants.{FieldOf, CurveOf, Mul, Factor}
-use Rattle.ff_script.specs.Grammar.{is_word_byte, numbers_of, IsSkipped, SpellsLine}
-use Rattle.ff_script.specs.Reading.{behind_blanks, IsFront, AreNumbersAt, AreTermsAt, IsElementFront, IsBehind}
+use Rattle.ff_script.specs.declared.script.Statement.TheVariants.{FieldOf, CurveOf, Mul, Factor, OrderOf}
+use Rattle.ff_script.specs.Grammar.{is_word_byte, numbers_of, SpellsSide, IsSkipped, SpellsLine}
+use Rattle.ff_script.specs.Reading.{behind_blanks, IsFront, AreNumbersAt, IsElementFront, IsBehind}
 use Rattle.ff_script.proofs.Spans.{head_same, stopped_same}
-use Rattle.ff_script.proofs.Spelled.{terms_solid}
+use Rattle.ff_script.proofs.Spelled.{IsSolid, terms_solid, side_solid}
 use Rattle.ff_script.proofs.Fronts.{line_at}
 use Rattle.ff_script.proofs.Steps.{numbers_same, comment_at, blank_at}
 use Rattle.ff_script.proofs.Elements.{begins_element, fronts_one}
-use Rattle.ff_script.proofs.ByKind.{Kind, FieldKind, CurveKind, MulKind, FactorKind, word_of, Held, statement, IsHeldAt, kind_of, word_of_behind, IsWord, word_of_statement, of_kind}
+use Rattle.ff_script.proofs.ByKind.{Kind, FieldKind, CurveKind, MulKind, FactorKind, OrderKind, word_of, Held, statement, IsHeldAt, kind_of, word_of_behind, IsWord, word_of_statement, of_kind}
 use Rattle.ff_script.proofs.Behind.{statement_behind}
 
 -- a text spells one value at most
@@ -45,14 +47,20 @@ field_same p q s t bytes h k =
     let tail : s ≡ t = tail_equal s t others in
     cc
 
-module _ (one_terms : (with_y : Bool) → OneValue (SpellsTerms with_y)) (one_element : OneValue SpellsElement) where
-  terms_same : (with_y : Bool) (f g : List Term) (bytes : List ℕ) → AreTermsAt with_y f bytes → AreTermsAt with_y g bytes → f ≡ g
-  terms_same with_y f g bytes h k =
-      let blanks : Blanks (h.gap ++ []) = subst Blanks (sym (append-nil h.gap)) h.blanks in
-      let others : Blanks (k.gap ++ []) = subst Blanks (sym (append-nil k.gap)) k.blanks in
-      let fronts : h.front ≡ k.front = stopped_same h.front k.front (h.gap ++ []) (k.gap ++ []) (terms_solid with_y f h.front h.part).stops (terms_solid with_y g k.front k.part).stops blanks others (sym h.whole ∙ k.whole) in
-      one_terms with_y f g k.front (subst (SpellsTerms with_y f) fronts h.part) k.part
+one_side : OneValue SpellsSide
+one_side Finite Finite bytes h k = refl
+one_side Finite Infinite bytes h k = absurd k
+one_side Infinite t bytes h k = absurd h
 
+-- the last part spells one value at most
+last_same : {V : Type 0} (Spells : V → List ℕ → Type 0) → OneValue Spells → ((v : V) (b : List ℕ) → Spells v b → IsSolid b) → (v w : V) (bytes : List ℕ) → IsFront (Spells v) bytes [] → IsFront (Spells w) bytes [] → v ≡ w
+last_same Spells one solid v w bytes h k =
+    let blanks : Blanks (h.gap ++ []) = subst Blanks (sym (append-nil h.gap)) h.blanks in
+    let others : Blanks (k.gap ++ []) = subst Blanks (sym (append-nil k.gap)) k.blanks in
+    let fronts : h.front ≡ k.front = stopped_same h.front k.front (h.gap ++ []) (k.gap ++ []) (solid v h.front h.part).stops (solid w k.front k.part).stops blanks others (sym h.whole ∙ k.whole) in
+    one v w k.front (subst (Spells v) fronts h.part) k.part
+
+module _ (one_terms : (with_y : Bool) → OneValue (SpellsTerms with_y)) (one_element : OneValue SpellsElement) where
   -- an element at the front, and what stands behind it
   element_same : (a b : ElemText) (bytes r s : List ℕ) → IsElementFront a bytes r → IsElementFront b bytes s → (a ≡ b) × (r ≡ s)
   element_same a b bytes r s h k =
@@ -62,12 +70,13 @@ module _ (one_terms : (with_y : Bool) → OneValue (SpellsTerms with_y)) (one_el
   -- the bytes are one thing of a kind at most
   held_same : (k : Kind) (a b : Held k) (bytes : List ℕ) → IsHeldAt k a bytes → IsHeldAt k b bytes → statement k a ≡ statement k b
   held_same FieldKind a b bytes h k = field_same a.0 b.0 a.1 b.1 bytes h.1 k.1
-  held_same CurveKind f g bytes h k = ap (λ (x : List Term). CurveOf x) (terms_same true f g bytes h k)
+  held_same CurveKind f g bytes h k = ap (λ (x : List Term). CurveOf x) (last_same (SpellsTerms true) (one_terms true) (terms_solid true) f g bytes h k)
   held_same MulKind a b bytes h k =
       let left = element_same a.0 b.0 bytes h.0 k.0 (record { front = h.1; behind = begins_element a.1 h.0 [] h.2 }) (record { front = k.1; behind = begins_element b.1 k.0 [] k.2 }) in
       let right = element_same a.1 b.1 k.0 [] [] (record { front = subst (λ (t : List ℕ). IsFront (SpellsElement a.1) t []) left.1 h.2; behind = refl }) (record { front = k.2; behind = refl }) in
       ap (λ (x : ElemText). Mul x a.1) left.0 ∙ ap (Mul b.0) right.0
-  held_same FactorKind f g bytes h k = ap (λ (x : List Term). Factor x) (terms_same false f g bytes h k)
+  held_same FactorKind f g bytes h k = ap (λ (x : List Term). Factor x) (last_same (SpellsTerms false) (one_terms false) (terms_solid false) f g bytes h k)
+  held_same OrderKind s t bytes h k = ap (λ (x : Side). OrderOf x) (last_same SpellsSide one_side side_solid s t bytes h k)
 
   behind_same : (word bytes : List ℕ) (s t : Statement) → IsBehind word s bytes → IsBehind word t bytes → s ≡ t
   behind_same word bytes s t h k =

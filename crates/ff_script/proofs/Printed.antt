@@ -9,13 +9,15 @@ use Rattle.ff_text.specs.Spelling.{Blanks, SpellsNumber, SpellsTerms, SpellsElem
 use Rattle.ff_text.specs.Printing.{terms_text, element_text, IsWritableTerms, IsWritableElement}
 use Rattle.ff_text.specs.declared.terms.Term.{Term}
 use Rattle.ff_text.specs.declared.terms.ElemText.{ElemText}
+use Rattle.ff_algebra.specs.declared.elem.Side.{Side}
+use Rattle.ff_algebra.specs.declared.elem.Side.TheVariants.{Finite, Infinite}
 use Rattle.ff_script.specs.declared.script.Statement.{Statement}
-use Rattle.ff_script.specs.declared.script.Statement.TheVariants.{FieldOf, CurveOf, Mul, Factor}
-use Rattle.ff_script.specs.Grammar.{IsGap, SpellsParts, AreNumbers, numbers_of, ArePartsOf, SpellsLine}
-use Rattle.ff_script.specs.Printing.{numbers_text, statement_text, script_text, IsShort, IsWritable}
+use Rattle.ff_script.specs.declared.script.Statement.TheVariants.{FieldOf, CurveOf, Mul, Factor, OrderOf}
+use Rattle.ff_script.specs.Grammar.{IsGap, SpellsParts, AreNumbers, numbers_of, SpellsSide, ArePartsOf, SpellsLine}
+use Rattle.ff_script.specs.Printing.{numbers_text, side_text, statement_text, script_text, IsShort, IsWritable}
 use Rattle.ff_script.specs.Scripts.{lines_of, IsReadAs, IsInOrder, IsScript}
 use Rattle.ff_script.proofs.Spans.{all_append, each_blank}
-use Rattle.ff_script.proofs.Spelled.{AreInside, number_solid, terms_solid, element_bracketed}
+use Rattle.ff_script.proofs.Spelled.{AreInside, number_solid, terms_solid, side_solid, element_bracketed}
 use Rattle.ff_script.proofs.Cuts.{is_feed, lines_cut}
 use Rattle.ff_script.proofs.OneScript.{IsOneLine}
 
@@ -50,6 +52,7 @@ parts_unfed (FieldOf p tail) parts h = subst (AllByRecursion AreUnfed) (sym h.1)
 parts_unfed (CurveOf f) parts h = subst (AllByRecursion AreUnfed) (sym h.1) ((refl, (refl, (refl, (refl, (refl, tt))))), (inside_unfed h.0 (terms_solid true f h.0 h.2).inside, tt))
 parts_unfed (Mul a b) parts h = subst (AllByRecursion AreUnfed) (sym h.2) ((refl, (refl, (refl, tt))), (element_unfed a h.0 h.3, (element_unfed b h.1 h.4, tt)))
 parts_unfed (Factor g) parts h = subst (AllByRecursion AreUnfed) (sym h.1) ((refl, (refl, (refl, (refl, (refl, (refl, tt)))))), (inside_unfed h.0 (terms_solid false g h.0 h.2).inside, tt))
+parts_unfed (OrderOf side) parts h = subst (AllByRecursion AreUnfed) (sym h.1) ((refl, (refl, (refl, (refl, (refl, tt))))), (inside_unfed h.0 (side_solid side h.0 h.2).inside, tt))
 
 joined_unfed : (parts : List (List ℕ)) (core : List ℕ) → AllByRecursion AreUnfed parts → SpellsParts parts core → AreUnfed core
 joined_unfed [] core h joined = subst AreUnfed (sym joined) tt
@@ -91,6 +94,10 @@ numbers_spaced : (part : List ℕ) (ns : List ℕ) → SpellsParts (part ∷ map
 numbers_spaced part [] = append-nil part
 numbers_spaced part (n ∷ ns) = spaced part (decimal n) (map decimal ns) (decimal n ++ numbers_text ns) (numbers_spaced (decimal n) ns)
 
+side_spelled : (side : Side) → side ≡ Finite → SpellsSide side (side_text side)
+side_spelled Finite h = refl
+side_spelled Infinite h = absurd cc
+
 -- numbers, polynomials and elements that can be written are spelled by their texts
 pub record AreSpelled : Type 1 where
   pub number : (n : ℕ) → n < 1000000000 → SpellsNumber n (decimal n)
@@ -107,18 +114,21 @@ module _ (spelled : AreSpelled) where
   parts_of (CurveOf f) = codes "curve" ∷ terms_text f ∷ []
   parts_of (Mul a b) = codes "mul" ∷ element_text a ∷ element_text b ∷ []
   parts_of (Factor g) = codes "factor" ∷ terms_text g ∷ []
+  parts_of (OrderOf side) = codes "order" ∷ side_text side ∷ []
 
   parts_named : (s : Statement) → IsWritable s → ArePartsOf s (parts_of s)
   parts_named (FieldOf p tail) h = (map decimal (p ∷ numbers_of tail), refl, numbers_spelled (p ∷ numbers_of tail) h.0, h.1)
   parts_named (CurveOf f) h = (terms_text f, refl, spelled.terms true f h)
   parts_named (Mul a b) h = (element_text a, element_text b, refl, spelled.element a h.0, spelled.element b h.1)
   parts_named (Factor g) h = (terms_text g, refl, spelled.terms false g h)
+  parts_named (OrderOf side) h = (side_text side, refl, side_spelled side h)
 
   parts_joined : (s : Statement) → SpellsParts (parts_of s) (statement_text s)
   parts_joined (FieldOf p tail) = numbers_spaced (codes "field") (p ∷ numbers_of tail)
   parts_joined (CurveOf f) = spaced (codes "curve") (terms_text f) [] (terms_text f) refl
   parts_joined (Mul a b) = spaced (codes "mul") (element_text a) (element_text b ∷ []) (element_text a ++ (32 ∷ element_text b)) (spaced (element_text a) (element_text b) [] (element_text b) refl)
   parts_joined (Factor g) = spaced (codes "factor") (terms_text g) [] (terms_text g) refl
+  parts_joined (OrderOf side) = spaced (codes "order") (side_text side) [] (side_text side) refl
 
   pub text_spells : (s : Statement) → IsWritable s → SpellsLine s (statement_text s)
   text_spells s h = record {

@@ -6,12 +6,14 @@ use Rattle.std.specs.Str.Parse.{AllDigits}
 use Rattle.std.proofs.lemmas.Bool.{ne_eqb, or_from, le-leb}
 use Rattle.std.proofs.lemmas.List.{append-nil}
 use Rattle.std.proofs.lemmas.Bool.Decides.{nat_tests}
+use Rattle.ff_algebra.specs.declared.elem.Side.{Side}
+use Rattle.ff_algebra.specs.declared.elem.Side.TheVariants.{Finite, Infinite}
 use Rattle.ff_text.specs.declared.terms.Factor.{Factor}
 use Rattle.ff_text.specs.declared.terms.Factor.TheVariants.{Code, X, Y}
 use Rattle.ff_text.specs.declared.terms.Term.{Term}
 use Rattle.ff_text.specs.declared.terms.ElemText.{ElemText}
 use Rattle.ff_text.specs.Spelling.{Then, Is, is_blank, Blanks, Around, Each, Joined, SpellsNumber, SpellsPower, SpellsFactor, SpellsFactors, FirstSign, NextSign, SpellsNext, SpellsTerms, SpellsOneTerm, SpellsDen, SpellsTail, SpellsEntries, SpellsElement}
-use Rattle.ff_script.specs.Grammar.{is_word_byte, ends_with_word}
+use Rattle.ff_script.specs.Grammar.{is_word_byte, ends_with_word, SpellsSide}
 use Rattle.ff_script.specs.Reading.{begins_with_blank}
 use Rattle.ff_script.proofs.Spans.{all_append, each_blank, AllWord, all_word_ends, IsStopped, stopped_behind}
 
@@ -203,6 +205,12 @@ terms_solid with_y [] bytes h = absurd h
 terms_solid with_y (t ∷ ts) bytes h =
     let first : IsSolid h.front = subst IsSolid (sym h.first.whole) (signed_solid t.minus h.first.front h.first.back h.first.first (factors_solid with_y t.factors h.first.back h.first.second)) in
     subst IsSolid (sym h.whole) (solid_tail h.front h.back first (each_tail (SpellsNext with_y) ts h.back (next_ending with_y) h.second))
+
+-- ---- sides
+
+pub side_solid : (side : Side) (bytes : List ℕ) → SpellsSide side bytes → IsSolid bytes
+side_solid Finite bytes h = subst IsSolid (sym h) (record { starts = refl; stops = refl; inside = ((refl, refl), ((refl, refl), ((refl, refl), ((refl, refl), ((refl, refl), ((refl, refl), tt)))))) })
+side_solid Infinite bytes h = absurd h
 
 -- ---- elements
 

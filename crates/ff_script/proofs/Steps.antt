@@ -78,6 +78,13 @@ word_front_on word bytes more ends e on rest f =
     let behind : more ≡ f.gap ++ rest = append_cancel_left word more (f.gap ++ rest) (sym e ∙ f.whole ∙ ap (λ (t : List ℕ). t ++ (f.gap ++ rest)) f.part) in
     both_ways (begins_with_word more) (ap begins_with_word behind ∙ f.apart (ap ends_with_word f.part ∙ ends)) on
 
+-- one rest stands behind a word
+pub word_rest : (word bytes r s : List ℕ) → IsFront (Is word) bytes r → IsFront (Is word) bytes s → r ≡ s
+word_rest word bytes r s f g =
+    let left : bytes ≡ word ++ (f.gap ++ r) = f.whole ∙ ap (λ (t : List ℕ). t ++ (f.gap ++ r)) f.part in
+    let right : bytes ≡ word ++ (g.gap ++ s) = g.whole ∙ ap (λ (t : List ℕ). t ++ (g.gap ++ s)) g.part in
+    blanks_same f.gap g.gap r s f.blanks g.blanks f.edge g.edge (append_cancel_left word (f.gap ++ r) (g.gap ++ s) (sym left ∙ right))
+
 -- ---- what the code says
 
 -- the bytes behind a place, as a slice up to the end
@@ -98,6 +105,9 @@ not_blank_behind bytes rest end b e tested not none = eqb-false (length rest) 0 
 
 pub nil_tested : (rest : List ℕ) (b : Bool) → b ≡ eqb (length rest) 0 → b ≡ true → rest ≡ []
 nil_tested rest b tested is = nil_from_length rest (eqb-true (length rest) 0 (sym tested ∙ is))
+
+pub nil_tests : (rest : List ℕ) (b : Bool) → b ≡ eqb (length rest) 0 → rest ≡ [] → b ≡ true
+nil_tests rest b tested e = tested ∙ ap (λ (t : List ℕ). eqb (length t) 0) e
 
 pub some_tested : (rest : List ℕ) (b : Bool) → b ≡ eqb (length rest) 0 → b ≡ false → rest ≢ []
 some_tested rest b tested not none = eqb-false (length rest) 0 (sym tested ∙ not) (ap length none)

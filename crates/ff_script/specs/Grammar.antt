@@ -2,9 +2,11 @@
 use Rattle.std.specs.Prelude.{◌≡◌, ◌≢◌, ℕ, suc, ◌⊎◌, ◌||◌, ◌&&◌, ◌==◌, Bool, true, false, List, [], ◌∷◌, length, codes, Option, Some, None, IsTrue}
 use Rattle.std.specs.Char.{is_ascii_alphanumeric}
 use Rattle.ff_text.specs.Spelling.{Then, Is, Blanks, SpellsNumber, SpellsTerms, SpellsElement}
+use Rattle.ff_algebra.specs.declared.elem.Side.{Side}
+use Rattle.ff_algebra.specs.declared.elem.Side.TheVariants.{Finite, Infinite}
 use Rattle.ff_script.specs.declared.script.Modulus.{Modulus}
 use Rattle.ff_script.specs.declared.script.Statement.{Statement}
-use Rattle.ff_script.specs.declared.script.Statement.TheVariants.{FieldOf, CurveOf, Mul, Factor}
+use Rattle.ff_script.specs.declared.script.Statement.TheVariants.{FieldOf, CurveOf, Mul, Factor, OrderOf}
 
 -- ---- parts with gaps between them
 
@@ -50,12 +52,18 @@ abbrev pub IsWhole : Option Modulus → Type 0
 IsWhole None = Unit {0}
 IsWhole (Some modulus) = length modulus.codes ≡ suc modulus.m
 
--- the parts that spell a statement: its word, and then its numbers, its polynomial or its elements; y stands in that of `curve` alone
+-- a side's word; that of the infinite one isn't in the grammar yet
+abbrev pub SpellsSide : Side → List ℕ → Type 0
+SpellsSide Finite bytes = bytes ≡ codes "finite"
+SpellsSide Infinite bytes = ⊥
+
+-- the parts that spell a statement: its word, and then its numbers, its polynomial, its elements or its side; y stands in that of `curve` alone
 abbrev pub ArePartsOf : Statement → List (List ℕ) → Type 0
 ArePartsOf (FieldOf p tail) parts = (numbers : List (List ℕ)) × (parts ≡ codes "field" ∷ numbers) × AreNumbers (p ∷ numbers_of tail) numbers × IsWhole tail
 ArePartsOf (CurveOf f) parts = (polynomial : List ℕ) × (parts ≡ codes "curve" ∷ polynomial ∷ []) × SpellsTerms true f polynomial
 ArePartsOf (Mul a b) parts = (left : List ℕ) × (right : List ℕ) × (parts ≡ codes "mul" ∷ left ∷ right ∷ []) × SpellsElement a left × SpellsElement b right
 ArePartsOf (Factor g) parts = (polynomial : List ℕ) × (parts ≡ codes "factor" ∷ polynomial ∷ []) × SpellsTerms false g polynomial
+ArePartsOf (OrderOf side) parts = (word : List ℕ) × (parts ≡ codes "order" ∷ word ∷ []) × SpellsSide side word
 
 -- a statement
 pub record SpellsStatement (s : Statement) (bytes : List ℕ) : Type 0 where

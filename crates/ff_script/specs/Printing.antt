@@ -1,10 +1,12 @@
 -- How statements are printed, and which are read again as they were.
-use Rattle.std.specs.Prelude.{ℕ, ◌<◌, true, false, List, ◌∷◌, ◌++◌, codes, Option, decimal, flat_map}
+use Rattle.std.specs.Prelude.{◌≡◌, ℕ, ◌<◌, true, false, List, ◌∷◌, ◌++◌, codes, Option, decimal, flat_map}
 use Rattle.std.specs.List.{AllByRecursion}
 use Rattle.ff_text.specs.Printing.{terms_text, element_text, IsWritableTerms, IsWritableElement}
+use Rattle.ff_algebra.specs.declared.elem.Side.{Side}
+use Rattle.ff_algebra.specs.declared.elem.Side.TheVariants.{Finite, Infinite}
 use Rattle.ff_script.specs.declared.script.Modulus.{Modulus}
 use Rattle.ff_script.specs.declared.script.Statement.{Statement}
-use Rattle.ff_script.specs.declared.script.Statement.TheVariants.{FieldOf, CurveOf, Mul, Factor}
+use Rattle.ff_script.specs.declared.script.Statement.TheVariants.{FieldOf, CurveOf, Mul, Factor, OrderOf}
 use Rattle.ff_script.specs.Grammar.{numbers_of, IsWhole}
 
 -- the numbers, each behind a space
@@ -15,12 +17,17 @@ numbers_text ns = flat_map (λ n. codes " " ++ decimal n) ns
 abbrev pub tail_text : Option Modulus → List ℕ
 tail_text tail = numbers_text (numbers_of tail)
 
+abbrev pub side_text : Side → List ℕ
+side_text Finite = codes "finite"
+side_text Infinite = codes "infinite"
+
 -- the line of a statement, without its line feed
 abbrev pub statement_text : Statement → List ℕ
 statement_text (FieldOf p tail) = codes "field " ++ (decimal p ++ tail_text tail)
 statement_text (CurveOf f) = codes "curve " ++ terms_text f
 statement_text (Mul a b) = codes "mul " ++ (element_text a ++ (codes " " ++ element_text b))
 statement_text (Factor g) = codes "factor " ++ terms_text g
+statement_text (OrderOf side) = codes "order " ++ side_text side
 
 -- each statement on a line that a line feed ends
 abbrev pub script_text : List Statement → List ℕ
@@ -38,3 +45,4 @@ IsWritable (FieldOf p tail) = AllByRecursion IsShort (p ∷ numbers_of tail) × 
 IsWritable (CurveOf f) = IsWritableTerms true f
 IsWritable (Mul a b) = IsWritableElement a × IsWritableElement b
 IsWritable (Factor g) = IsWritableTerms false g
+IsWritable (OrderOf side) = side ≡ Finite

@@ -3,12 +3,13 @@ use Rattle.std.specs.Prelude.{◌≡◌, ℕ, Bool, true, false, List, [], ◌�
 use Rattle.ff_text.specs.Spelling.{is_blank, Blanks, SpellsNumber, SpellsTerms, SpellsElement}
 use Rattle.ff_text.specs.declared.terms.Term.{Term}
 use Rattle.ff_text.specs.declared.terms.ElemText.{ElemText}
+use Rattle.ff_algebra.specs.declared.elem.Side.{Side}
 use Rattle.ff_script.specs.declared.fault.ScriptFault.{ScriptFault}
 use Rattle.ff_script.specs.declared.fault.ScriptFault.TheVariants.{Syntax, Misplaced, Memory}
 use Rattle.ff_script.specs.declared.script.Modulus.{Modulus}
 use Rattle.ff_script.specs.declared.script.Statement.{Statement}
-use Rattle.ff_script.specs.declared.script.Statement.TheVariants.{FieldOf, CurveOf, Mul, Factor}
-use Rattle.ff_script.specs.Grammar.{begins_with_word, ends_with_word, numbers_of, IsWhole, IsInGrammar}
+use Rattle.ff_script.specs.declared.script.Statement.TheVariants.{FieldOf, CurveOf, Mul, Factor, OrderOf}
+use Rattle.ff_script.specs.Grammar.{begins_with_word, ends_with_word, numbers_of, IsWhole, SpellsSide, IsInGrammar}
 use Rattle.ff_script.specs.Scripts.{IsReadAs, IsInOrder, IsOutOfOrder}
 
 -- the value that the bytes spell, or none where they spell nothing
@@ -48,6 +49,10 @@ IsModulusAt modulus bytes = IsWhole (Some modulus) × AreNumbersAt (numbers_of (
 abbrev pub AreTermsAt : Bool → List Term → List ℕ → Type 0
 AreTermsAt with_y f bytes = IsFront (SpellsTerms with_y f) bytes []
 
+-- a side up to the end of the bytes
+abbrev pub IsSideAt : Side → List ℕ → Type 0
+IsSideAt side bytes = IsFront (SpellsSide side) bytes []
+
 -- nothing, or an opening bracket first: what may stand behind an element and its blanks
 abbrev pub is_behind_element : List ℕ → Bool
 is_behind_element [] = true
@@ -64,6 +69,7 @@ IsBehind word (FieldOf p tail) bytes = (word ≡ codes "field") × IsWhole tail 
 IsBehind word (CurveOf f) bytes = (word ≡ codes "curve") × AreTermsAt true f bytes
 IsBehind word (Mul a b) bytes = (word ≡ codes "mul") × ((rest : List ℕ) × IsFront (SpellsElement a) bytes rest × IsFront (SpellsElement b) rest [])
 IsBehind word (Factor g) bytes = (word ≡ codes "factor") × AreTermsAt false g bytes
+IsBehind word (OrderOf side) bytes = (word ≡ codes "order") × IsSideAt side bytes
 
 -- ---- while a script is read
 

@@ -1,9 +1,10 @@
 //! Prints statements. What appends to a buffer leaves a part of the text there after an error.
 
 ghost use Rattle.std.specs.Prelude.{◌≡◌, ◌++◌, codes, IfOk, OnOk};
-ghost use Rattle.ff_script.specs.Printing.{numbers_text, tail_text, statement_text};
+ghost use Rattle.ff_script.specs.Printing.{numbers_text, tail_text, side_text, statement_text};
 
 use crate::script::{Modulus, Statement};
+use ff_algebra::elem::Side;
 use ff_text::number::push_number;
 use ff_text::{push_element, push_terms};
 use std::alloc::{AllocError, Global};
@@ -42,6 +43,17 @@ fn push_tail(out: &mut Vec<u8>, tail: &Option<Modulus>) -> Result<(), AllocError
     push_numbers(out, modulus.codes.codes.as_slice())
 }
 
+/// The word of a side.
+fn push_side(out: &mut Vec<u8>, side: Side) -> Result<(), AllocError>
+    ensures { OnOk result (out.new.items ≡ out.old.items ++ side_text side) }
+{
+    match side {
+        Side::Finite => out.extend_from_slice(b"finite")?,
+        Side::Infinite => out.extend_from_slice(b"infinite")?,
+    }
+    Ok(())
+}
+
 /// The text of a statement at the end of the buffer, without a line feed.
 pub fn push_statement(out: &mut Vec<u8>, s: &Statement) -> Result<(), AllocError>
     ensures { OnOk result (out.new.items ≡ out.old.items ++ statement_text s.now) }
@@ -65,6 +77,10 @@ pub fn push_statement(out: &mut Vec<u8>, s: &Statement) -> Result<(), AllocError
         Statement::Factor { g } => {
             out.extend_from_slice(b"factor ")?;
             push_terms(out, g)
+        }
+        Statement::OrderOf { side } => {
+            out.extend_from_slice(b"order ")?;
+            push_side(out, *side)
         }
     }
 }

@@ -1,13 +1,14 @@
 //! Reads the statement of a line.
 
-ghost use Rattle.std.specs.Prelude.{◌≡◌, ◌↔◌, List, ℕ, IsTrue, IfOk, IfErr, MatchOption, codes};
+ghost use Rattle.std.specs.Prelude.{◌≡◌, ◌↔◌, List, [], ℕ, IsTrue, IfOk, IfErr, MatchOption, codes};
 ghost use Rattle.ff_text.specs.Spelling.{Is, is_blank, SpellsNumber, SpellsTerms};
 ghost use Rattle.ff_text.specs.Reading.{IsLongestSpelling, IsReadFault};
 ghost use Rattle.ff_text.specs.declared.terms.ElemText.{ElemText};
 ghost use Rattle.ff_script.specs.Grammar.{begins_with_word, ends_with_word, SpellsLine, IsSkipped};
-ghost use Rattle.ff_script.specs.Reading.{IsReading, behind_blanks, IsFront, AreNumbersAt, IsModulusAt, AreTermsAt, is_behind_element, IsElementFront, IsBehind};
+ghost use Rattle.ff_script.specs.Reading.{IsReading, behind_blanks, IsFront, AreNumbersAt, IsModulusAt, AreTermsAt, IsSideAt, is_behind_element, IsElementFront, IsBehind};
 
 use crate::script::{CodeList, Modulus, Statement};
+use ff_algebra::elem::Side;
 use ff_text::{
     ElemText, TermList, TextFault, read_element, read_number, read_terms, read_terms_in_x,
 };
@@ -225,6 +226,37 @@ fn mul(alloc: Global, bytes: &[u8]) -> Result<Option<Statement>, AllocError>
     Ok(None)
 }
 
+/// The bytes are the word, with blanks behind it.
+fn is_word(bytes: &[u8], word: &[u8]) -> bool
+    requires { IsTrue (ends_with_word word.now) }
+    ensures { IsTrue result ↔ IsFront (Is word.now) bytes.now [] }
+{
+    match behind_word(bytes, word) {
+        Some(rest) => rest.is_empty(),
+        None => false,
+    }
+}
+
+/// The side whose word the bytes are.
+fn side_at(bytes: &[u8]) -> Option<Side>
+    ensures { IsReading IsSideAt bytes.now result }
+{
+    if is_word(bytes, b"finite") {
+        return Some(Side::Finite);
+    }
+    None
+}
+
+/// The statement `order`, of what stands behind its word.
+fn order(bytes: &[u8]) -> Option<Statement>
+    ensures { IsReading (IsBehind (codes "order")) bytes.now result }
+{
+    match side_at(bytes) {
+        Some(side) => Some(Statement::OrderOf { side }),
+        None => None,
+    }
+}
+
 /// The statement that a line spells, given without its line feed. Linear in the bytes.
 ///
 /// A line that a script skips spells none.
@@ -242,8 +274,11 @@ pub fn read_statement(alloc: Global, line: &[u8]) -> Result<Option<Statement>, A
     if let Some(rest) = behind_word(bytes, b"mul") {
         return mul(alloc, rest);
     }
-    match behind_word(bytes, b"factor") {
-        Some(rest) => factor(alloc, rest),
+    if let Some(rest) = behind_word(bytes, b"factor") {
+        return factor(alloc, rest);
+    }
+    match behind_word(bytes, b"order") {
+        Some(rest) => Ok(order(rest)),
         None => Ok(None),
     }
 }

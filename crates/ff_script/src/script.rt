@@ -2,6 +2,7 @@
 
 ghost use Rattle.std.specs.Prelude.{◌≡◌, IfOk};
 
+use ff_algebra::elem::Side;
 use ff_text::{ElemText, TermList};
 use std::alloc::{AllocError, Global};
 use std::marker::Model;
@@ -38,6 +39,8 @@ pub enum Statement {
     Mul { a: ElemText, b: ElemText },
     /// `factor g`
     Factor { g: TermList },
+    /// `order finite`
+    OrderOf { side: Side },
 }
 
 impl CodeList {
@@ -93,6 +96,7 @@ impl Statement {
                 let g = g.copy(alloc)?;
                 Ok(Statement::Factor { g })
             }
+            Statement::OrderOf { side } => Ok(Statement::OrderOf { side: *side }),
         }
     }
 }

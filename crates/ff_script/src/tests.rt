@@ -129,7 +129,7 @@ fn factors(rt: HostRuntime) -> Result<(), Fail> {
 
 #[test]
 fn products(rt: HostRuntime) -> Result<(), Fail> {
-    let rows: [(&[u8], &[u8]); 25] = [
+    let rows: [(&[u8], &[u8]); 24] = [
         (b"mul [0] [0]", b"mul [0] [0]"),
         (b"mul[0][0]", b"mul [0] [0]"),
         (b"\tmul [ 0 , 1 ]\r[x]  ", b"mul [0, 1] [x]"),
@@ -152,7 +152,6 @@ fn products(rt: HostRuntime) -> Result<(), Fail> {
         (b" \t\r", b""),
         (b"# 7", b""),
         (b"genus", b""),
-        (b"order finite", b""),
         (b"place A = inf 1", b""),
         (b"\xffmul [0] [0]", b""),
     ];
@@ -166,14 +165,20 @@ fn products(rt: HostRuntime) -> Result<(), Fail> {
 #[test]
 fn denominators(rt: HostRuntime) -> Result<(), Fail> {
     let rows: [(&[u8], &[u8]); 30] = [
-        (b"mul [x, 0]/(x + 1) [x + 1, 0]/x", b"mul [x, 0]/(x + 1) [x + 1, 0]/x"),
+        (
+            b"mul [x, 0]/(x + 1) [x + 1, 0]/x",
+            b"mul [x, 0]/(x + 1) [x + 1, 0]/x",
+        ),
         (b"mul [1, 0]/x [0, 1]", b"mul [1, 0]/x [0, 1]"),
         (b"mul [1, 0] [0, 1]/x", b"mul [1, 0] [0, 1]/x"),
         (b"mul [0] /\t( x+1\r) [0]", b"mul [0]/(x + 1) [0]"),
         (b"mul[0]/x ^ 2[1]/ 03 * x", b"mul [0]/x^2 [1]/3*x"),
         (b"mul [0]/(x) [0]/(2*x^1)", b"mul [0]/x [0]/2*x"),
         (b"mul [0]/(-x) [0]/( - 1)", b"mul [0]/(-x) [0]/(-1)"),
-        (b"mul [0]/(x - 1) [0]/(1 + 1)", b"mul [0]/(x - 1) [0]/(1 + 1)"),
+        (
+            b"mul [0]/(x - 1) [0]/(1 + 1)",
+            b"mul [0]/(x - 1) [0]/(1 + 1)",
+        ),
         (b"mul [0]/0 [0]", b"mul [0]/0 [0]"),
         (b"mul [0]/ [0]", b""),
         (b"mul [0] [0]/", b""),
@@ -204,6 +209,31 @@ fn denominators(rt: HostRuntime) -> Result<(), Fail> {
     Ok(())
 }
 
+#[test]
+fn orders(rt: HostRuntime) -> Result<(), Fail> {
+    let rows: [(&[u8], &[u8]); 14] = [
+        (b"order finite", b"order finite"),
+        (b"\torder \r finite ", b"order finite"),
+        (b"order", b""),
+        (b"order ", b""),
+        (b"orderfinite", b""),
+        (b"order finite1", b""),
+        (b"order finite_", b""),
+        (b"order finite 1", b""),
+        (b"order finite finite", b""),
+        (b"order Finite", b""),
+        (b"order infinite", b""),
+        (b"order inf", b""),
+        (b"order x", b""),
+        (b"finite", b""),
+    ];
+    for (line, text) in rows {
+        let found = printed(rt.alloc(), line)?;
+        assert_eq!(rt; found.as_slice(), text);
+    }
+    Ok(())
+}
+
 /// How many statements a short script has, or its fault.
 fn outcome(alloc: Global, bytes: &[u8]) -> Result<usize, ScriptFault> {
     if bytes.len() > 100 {
@@ -215,7 +245,7 @@ fn outcome(alloc: Global, bytes: &[u8]) -> Result<usize, ScriptFault> {
 
 #[test]
 fn scripts(rt: HostRuntime) {
-    let rows: [(&[u8], Result<usize, ScriptFault>); 27] = [
+    let rows: [(&[u8], Result<usize, ScriptFault>); 29] = [
         (b"", Ok(0)),
         (b"\n\n", Ok(0)),
         (b"# 7", Ok(0)),
@@ -226,6 +256,7 @@ fn scripts(rt: HostRuntime) {
         (b"field 7\ncurve y^2 + 6*x^3 + 6", Ok(2)),
         (b"field 7\ncurve y\nmul [0] [1]\nmul [x] [2]\n", Ok(4)),
         (b"field 7\ncurve y\nfactor x\nmul [0]/x [1]\n", Ok(4)),
+        (b"field 7\ncurve y\norder finite", Ok(3)),
         (b"genus", Err(ScriptFault::Syntax(1))),
         (b"field 7\n\ngenus\n", Err(ScriptFault::Syntax(3))),
         (b"field\n7", Err(ScriptFault::Syntax(1))),
@@ -235,6 +266,7 @@ fn scripts(rt: HostRuntime) {
         (b"mul [0] [0]", Err(ScriptFault::Misplaced(1))),
         (b"field 7\nmul [0] [0]", Err(ScriptFault::Misplaced(2))),
         (b"factor x", Err(ScriptFault::Misplaced(1))),
+        (b"field 7\norder finite\n", Err(ScriptFault::Misplaced(2))),
         (b"field 7\nfactor x\n", Err(ScriptFault::Misplaced(2))),
         (b"field 7\n#\nfield 7\n", Err(ScriptFault::Misplaced(3))),
         (b"curve y\nfield 7\n", Err(ScriptFault::Misplaced(1))),

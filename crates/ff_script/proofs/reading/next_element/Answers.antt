@@ -1,4 +1,4 @@
-use Rattle.std.proofs.Common.{false, sym, subst, ◌∙◌, ap}
+use Rattle.std.proofs.Common.{sym, subst, ◌∙◌, ap}
 use Rattle.ff_text.specs.Spelling.{SpellsElement}
 use Rattle.ff_script.specs.Reading.{is_behind_element, IsElementFront}
 use Rattle.ff_script.proofs.Steps.{no_spelling, passed_behind}

@@ -1,4 +1,3 @@
-use Rattle.std.proofs.Common.{true, false}
 use Rattle.ff_text.specs.Spelling.{SpellsTerms}
 use Rattle.ff_script.proofs.Steps.{no_spelling, terms_front, terms_front_on, blank_behind, not_blank_behind}
 use Rattle.ff_script.proofs.Behind.{no_terms_here}
