@@ -1,5 +1,5 @@
 -- An order that has k[x][y], enlarged at the irreducible polynomials whose squares divide the discriminant, has all integral functions.
-use Rattle.std.proofs.Common.{◌≡◌, ◌↔◌, ℕ, ◌<◌, List, [], ◌∷◌, length, get_or, map, refl, sym, ap, ◌∙◌, subst, All}
+use Rattle.std.proofs.Common.{◌≡◌, ◌↔◌, ℕ, ◌<◌, List, [], ◌∷◌, get_or, map, refl, sym, ap, ◌∙◌, subst, All}
 use Rattle.std.specs.List.{Any}
 use Rattle.std.proofs.lemmas.List.Elements.{All-weaker, All-map}
 use Rattle.std.proofs.lemmas.List.{length-map, get_or-map}
@@ -20,7 +20,7 @@ use Rattle.trace_theory.specs.Traces.{HasPolynomialCoordinates, polynomial_produ
 use Rattle.trace_theory.proofs.MaximalOrder.{maximal_order}
 use Rattle.order_theory.specs.Orders.{IsOrder}
 use Rattle.order_theory.proofs.LocalOrders.{order_integral}
-use Rattle.order_theory.proofs.Enlargements.{products_iff, products_maximal}
+use Rattle.order_theory.proofs.Enlargements.{products_maximal}
 use Rattle.ff_lattice.proofs.OrderRows.{all_from_map}
 use Rattle.ff_order.specs.Enlargements.{TakenByProducts}
 use Rattle.ff_order.proofs.Bridge.{irreducible_value}
@@ -65,10 +65,10 @@ module _ {k : CodeField} (c : Equation k) where
     all_integral start qs divides irreducible listed z = (
       λ m. ((is z).0 m).integral,
       maximal_order c M 𝓜.ring contains qs divides irreducible
-      (All-weaker (λ q. IsDivisor (polynomials k).ops ((polynomials k).◌⊗◌ q q) (discriminant c) → Any (λ r. r ≡ q) ps)
-      (λ q. IsDivisor (polynomials k).ops ((polynomials k).◌⊗◌ q q) (discriminant c)
-      → MaximalAt (ring_of c).ops (of_poly c q) (IsIntegralAt (setting_of c) Finite) M)
-      (λ q listed d. maximal_at q (listed d)) qs listed) z,
+          (All-weaker (λ q. IsDivisor (polynomials k).ops ((polynomials k).◌⊗◌ q q) (discriminant c) → Any (λ r. r ≡ q) ps)
+          (λ q. IsDivisor (polynomials k).ops ((polynomials k).◌⊗◌ q q) (discriminant c)
+          → MaximalAt (ring_of c).ops (of_poly c q) (IsIntegralAt (setting_of c) Finite) M)
+          (λ q listed d. maximal_at q (listed d)) qs listed) z,
     )
       where
         contains : (z : FunctionOf c) → HasPolynomialCoordinates c z → M z

@@ -24,7 +24,14 @@ use ff_poly::Poly;
 /// What `maximal` answers for an order that has k[x][y] are exactly the integral functions, where the listed polynomials are
 /// all irreducible ones whose squares divide the discriminant. The factors of the discriminant are given as a list of
 /// irreducible polynomials, with repeats, whose product it divides.
-pub fn integral_law<K: SmallField>(k: &K, p: &Pres, o: &Order, m: &Order, primes: &[Poly], factors: &[Poly])
+pub fn integral_law<K: SmallField>(
+    k: &K,
+    p: &Pres,
+    o: &Order,
+    m: &Order,
+    primes: &[Poly],
+    factors: &[Poly],
+)
     requires positive { 1 ≤ p.now.n }
     requires o_order { IsOrder (K.field k.now) p.now o.now }
     requires start { let k = K.field k.now in

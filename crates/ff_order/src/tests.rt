@@ -161,7 +161,13 @@ fn node<K: SmallField>(alloc: Global, k: &K) -> Result<bool, AllocError>
 }
 
 // y^2 = x^m, with the member y/x^e, where m is 2·e or 2·e + 1.
-fn power<K: SmallField>(alloc: Global, k: &K, m: u64, degree: i128, e: usize) -> Result<bool, AllocError>
+fn power<K: SmallField>(
+    alloc: Global,
+    k: &K,
+    m: u64,
+    degree: i128,
+    e: usize,
+) -> Result<bool, AllocError>
     requires { 6 < (K.field k.now).size }
 {
     let c = curve(alloc, k, 2, ((0, m, 6), (0, 0, 0), (0, 0, 0), (0, 0, 0)))?;
