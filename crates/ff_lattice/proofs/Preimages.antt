@@ -49,7 +49,7 @@ none_at zero j = refl
 none_at (suc n) zero = refl
 none_at (suc n) (suc j) = none_at n j
 
-unit_length : (n i : ℕ) → length (unit_row n i) ≡ n
+pub unit_length : (n i : ℕ) → length (unit_row n i) ≡ n
 unit_length n i = length-set (replicate n []) i (1 ∷ []) ∙ length-replicate n []
 
 unit_at : (n i : ℕ) → i < n → entry_at (unit_row n i) i ≡ 1 ∷ []
@@ -67,7 +67,7 @@ rows_past (r ∷ rows) zero le = absurd (omega (arith, le))
 rows_past (r ∷ rows) (suc i) le = rows_past rows i (omega (arith, le))
 
 module _ (k : CodeField) where
-  unit_over : (n i : ℕ) → All (IsOver k.ops) (unit_row n i)
+  pub unit_over : (n i : ℕ) → All (IsOver k.ops) (unit_row n i)
   unit_over n i = All-set (IsOver k.ops) (replicate n []) i (1 ∷ []) (IsOver_cons k.laws.one_below IsOver_nil) (All-replicate (IsOver k.ops) n [] IsOver_nil)
 
   one_poly : IsPoly (1 ∷ [])
@@ -96,7 +96,7 @@ module _ (k : CodeField) where
       pair_path (value_shifted k a power (All-head (IsOver k.ops) a v v_in)) (read_lifted n power v (All-tail (IsOver k.ops) a v v_in))
 
   -- what a unit row stands for
-  read_unit : (r i : ℕ) → 0 < r → i < r → read_row k (suc (r - 1)) (unit_row r i) ≡ (row_space k r).unit i
+  pub read_unit : (r i : ℕ) → 0 < r → i < r → read_row k (suc (r - 1)) (unit_row r i) ≡ (row_space k r).unit i
   read_unit r i positive less =
       same_columns M (read_row k (suc (r - 1)) (unit_row r i)) (M.unit i) (λ s j j_less. at s j j_less (ℕ_discrete j i))
     where

@@ -13,8 +13,8 @@ use ff_algebra::{Elem, Pres};
 use ff_fields::field::SmallField;
 use std::alloc::{AllocError, Global};
 
-/// The lattice of generators of full rank.
-pub(crate) fn spanned<K: SmallField>(
+/// The lattice of all combinations of generators of full rank. It takes the time of `Lattice::from_generators`.
+pub fn spanned<K: SmallField>(
     alloc: Global,
     k: &K,
     p: &Pres,
@@ -34,7 +34,7 @@ pub(crate) fn spanned<K: SmallField>(
 }
 
 /// Appends the rows of the lattice, as elements.
-pub(crate) fn push_rows<K: SmallField>(
+pub fn push_rows<K: SmallField>(
     alloc: Global,
     k: &K,
     gens: &mut Vec<Elem>,

@@ -1,9 +1,10 @@
 //! Orders: the lattices that are rings.
 
-ghost use Rattle.std.specs.Prelude.{◌≡◌, ◌↔◌, ◌≤◌, length, All, IfOk, IfSome, IsSome, IsTrue};
+ghost use Rattle.std.specs.Prelude.{◌≡◌, ◌↔◌, ◌≤◌, ◌<◌, [], ◌∷◌, length, All, IfOk, IfSome, IsSome, IsTrue};
 ghost use Rattle.ff_algebra.specs.Values.{PresValue, IsPresOver, IsElem, IsMonicElem, Functions, functions, function_of};
 ghost use Rattle.ff_lattice.specs.Lattices.{LatticeValue, IsLattice, Contains, row_elems};
 ghost use Rattle.ff_lattice.specs.Orders.{IsOrder, IsOrderByRows, TakesRowsIn};
+ghost use Rattle.ff_lattice.specs.Steps.{unit_row};
 
 use crate::lattice::Lattice;
 use crate::rows::unit_row;
@@ -38,6 +39,23 @@ pub(crate) fn one_elem<K: SmallField>(alloc: Global, k: &K, n: usize) -> Result<
     ensures monic { IfOk result IsMonicElem }
 {
     let num = unit_row(alloc, n, 0)?;
+    let den = Poly::one(alloc)?;
+    Ok(Elem::new(k, num, den))
+}
+
+/// The element y^i, with n numerators, of which there is one for y^i.
+pub fn power_of_y<K: SmallField>(
+    alloc: Global,
+    k: &K,
+    n: usize,
+    i: usize,
+) -> Result<Elem, AllocError>
+    requires { i < n }
+    ensures row { let k = K.field k.now in
+        IfOk result (λ z. (p : PresValue) → function_of k p z ≡ function_of k p (record { num = unit_row n i; den = 1 ∷ [] })) }
+    ensures in_range { IfOk result (IsElem (K.field k.now).ops n) }
+{
+    let num = unit_row(alloc, n, i)?;
     let den = Poly::one(alloc)?;
     Ok(Elem::new(k, num, den))
 }
@@ -109,6 +127,14 @@ impl Order {
             return Ok(None);
         }
         Ok(Some(Order { lattice: l }))
+    }
+
+    /// The order of a lattice that is known to be one. No test is made.
+    pub fn of<K: SmallField>(k: &K, p: &Pres, l: Lattice) -> Order
+        requires { IsOrder (K.field k.now) p.now l }
+        ensures { result ≡ l }
+    {
+        Order { lattice: l }
     }
 
     /// The lattice of its members.

@@ -17,3 +17,4 @@ pub mod InvertibleIdeals
 pub mod FinitelyMany
 pub mod InfinitePlaces
 pub mod RegularFunctions
+pub mod Enlargements

@@ -1,0 +1,10 @@
+pub mod Results
+pub mod Bridge
+pub mod NilpotentClasses
+pub mod RadicalSets
+pub mod Turns
+pub mod Measure
+pub mod Powers
+pub mod IntegralFunctions
+pub mod Products
+pub mod SquareParts

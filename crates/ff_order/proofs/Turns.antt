@@ -1,0 +1,78 @@
+-- One turn of the enlargement at an irreducible polynomial, and what it leaves after each turn.
+use Rattle.std.proofs.Common.{◌≡◌, ℕ, ◌<◌, ◌↔◌, List, subst}
+use Rattle.ff_fields.specs.Field.{CodeField}
+use Rattle.ff_fields.specs.Over.{IsOver}
+use Rattle.ff_poly.specs.Words.{IsIrreducible}
+use Rattle.ff_poly.specs.Value.{value}
+use Rattle.ff_algebra.specs.Functions.{of_poly}
+use Rattle.ff_algebra.specs.Values.{PresValue, Functions, functions, equation_of}
+use Rattle.local_theory.specs.Ideals as local
+use Rattle.local_theory.specs.Orders.{Radical}
+use Rattle.order_theory.specs.Orders as theory
+use Rattle.order_theory.specs.Orders.{TakenByPowers}
+use Rattle.order_theory.proofs.Enlargements.{radical_of_order, radical_has, multipliers_have, multipliers_taken, maximal_of_multipliers, taken_has, taken_again, taken_is}
+use Rattle.ff_lattice.specs.Lattices.{LatticeValue, IsLattice, Contains}
+use Rattle.ff_lattice.specs.Orders.{IsOrder}
+use Rattle.ff_lattice.specs.Quotients.{IsIdeal}
+use Rattle.ff_lattice.specs.Colons.{IsColon}
+use Rattle.ff_order.specs.Steps.{IsTurn, IsBetween}
+use Rattle.ff_order.proofs.Bridge.{row_functions, lattice_set, order_set, irreducible_value}
+
+module _ (k : CodeField) (p : PresValue) (positive : 0 < p.n) where
+  module _ (o : LatticeValue) (order : IsOrder k p o) (pi : List ℕ) where
+    abbrev O : Functions k p → Type 0
+    O = Contains k p o
+
+    𝓞 : theory.IsOrder (equation_of k p) (Contains k p o)
+    𝓞 = order_set k p positive o order
+
+    abbrev R : Functions k p → Type 0
+    R = Radical (functions k p).ops (Contains k p o) (of_poly (equation_of k p) (value k pi))
+
+    𝓡 : local.IsIdeal (functions k p).ops (Contains k p o) (Radical (functions k p).ops (Contains k p o) (of_poly (equation_of k p) (value k pi)))
+    𝓡 = radical_of_order (equation_of k p) O 𝓞 (value k pi)
+
+    module _ (i : LatticeValue) (form : IsLattice k.ops p.n i)
+        (members : (z : Functions k p) → Contains k p i z ↔ Radical (functions k p).ops (Contains k p o) (of_poly (equation_of k p) (value k pi)) z) where
+      -- the radical is an ideal
+      pub radical_is_ideal : IsIdeal k p o i
+      radical_is_ideal = record {
+        lattice = form;
+        within = λ z h. ((members z).0 h).within;
+        closed = λ u v u_in v_in. (members _).1 (𝓡.scale_in u v u_in ((members v).0 v_in));
+      }
+
+      -- its multipliers are a turn
+      pub turn : IsOver k.ops pi → IsIrreducible k.ops pi → (next : LatticeValue) → IsOrder k p next
+          → ((z : Functions k p) → Contains k p next z ↔ IsColon k p i i z) → IsTurn k p pi o next
+      turn over irreducible next next_order next_members = record {
+        order = next_order;
+        has = λ z h.
+            (next_members z).1
+            (λ y y_in. (members _).1 (multipliers_have (equation_of k p) O 𝓞 (value k pi) R 𝓡 z h y ((members y).0 y_in)));
+        taken = λ z h.
+            multipliers_taken (equation_of k p) O 𝓞 (value k pi) (Contains k p i) (lattice_set k p positive i form) radical_is_ideal.within
+            ((members _).1 (radical_has (equation_of k p) O 𝓞 (value k pi))) z ((next_members z).0 h);
+        last = λ none.
+            maximal_of_multipliers (equation_of k p) O 𝓞 (value k pi) (irreducible_value k pi over irreducible) (row_functions k p i)
+            (λ z. ((members z).1, (members z).0))
+            (λ z h. none z ((next_members z).1 (λ y y_in. (members _).1 (h y ((members y).0 y_in)))));
+      }
+
+    -- before the first turn
+    pub between_start : IsBetween k p pi o o
+    between_start = record { order = order; has = λ z h. h; taken = taken_has (equation_of k p) O 𝓞 (value k pi) }
+
+    -- after one turn more
+    pub between_more : (cur next : LatticeValue) → IsBetween k p pi o cur → IsTurn k p pi cur next → IsBetween k p pi o next
+    between_more cur next b t = record {
+      order = t.order;
+      has = λ z h. t.has z (b.has z h);
+      taken = λ z h. taken_again (equation_of k p) O 𝓞 (value k pi) (Contains k p cur) b.taken z (t.taken z h);
+    }
+
+    -- after the last turn
+    pub between_last : (cur next : LatticeValue) → IsBetween k p pi o cur → IsTurn k p pi cur next → next ≡ cur
+        → (z : Functions k p) → Contains k p cur z ↔ TakenByPowers (equation_of k p) (value k pi) (Contains k p o) z
+    between_last cur next b t same =
+        taken_is (equation_of k p) O 𝓞 (value k pi) (Contains k p cur) b.has b.taken (t.last (λ z h. subst (λ l. Contains k p l z) same h))

@@ -1,0 +1,2 @@
+pub mod Enlargements
+pub mod Steps

@@ -1,0 +1,122 @@
+//! The enlargement of an order at irreducible polynomials by the multipliers of its radicals.
+
+ghost use Rattle.std.specs.Prelude.{◌≡◌, ◌↔◌, map, All, IfOk};
+ghost use Rattle.ff_fields.specs.Over.{IsOver};
+ghost use Rattle.ff_poly.specs.Words.{IsIrreducible};
+ghost use Rattle.ff_poly.specs.Value.{value};
+ghost use Rattle.ff_poly.specs.Polynomials.{polynomials};
+ghost use Rattle.ff_algebra.specs.Discriminant.{discriminant};
+ghost use Rattle.ff_algebra.specs.Values.{PresValue, IsPresOver, Functions, functions, equation_of};
+ghost use Rattle.ff_lattice.specs.Lattices.{LatticeValue, IsLattice, Contains};
+ghost use Rattle.ff_lattice.specs.Orders.{IsOrder};
+ghost use Rattle.ff_lattice.specs.Quotients.{IsIdeal};
+ghost use Rattle.ff_lattice.specs.Colons.{IsColon};
+ghost use Rattle.order_theory.specs.Orders.{TakenByPowers};
+ghost use Rattle.ff_order.specs.Steps.{IsTurn};
+ghost use Rattle.ff_order.specs.Enlargements.{TakenByProducts};
+
+use crate::radicals::radical;
+use ff_algebra::Pres;
+use ff_fields::field::SmallField;
+use ff_lattice::colons::colon;
+use ff_lattice::sets::same_lattice;
+use ff_lattice::{Lattice, Order};
+use ff_poly::Poly;
+use std::alloc::{AllocError, Global};
+
+/// The functions whose products with the members of an ideal of the order are in the ideal. It takes the time of `colon`.
+pub fn multiplier<K: SmallField>(
+    alloc: Global,
+    k: &K,
+    p: &Pres,
+    o: &Order,
+    i: &Lattice,
+) -> Result<Order, AllocError>
+    requires p_in { IsPresOver (K.field k.now).ops p.now }
+    requires ideal { IsIdeal (K.field k.now) p.now o.now i.now }
+    ensures order { IfOk result (IsOrder (K.field k.now) p.now) }
+    ensures members { let k = K.field k.now in
+        IfOk result (λ m. (z : Functions k p.now) → Contains k p.now m z ↔ IsColon k p.now i.now i.now z) }
+{
+    let multipliers = colon(alloc, k, p, i, i)?;
+    Ok(Order::of(k, p, multipliers))
+}
+
+/// One turn: the multipliers of the radical at pi.
+fn enlarged<K: SmallField>(
+    alloc: Global,
+    k: &K,
+    p: &Pres,
+    o: &Order,
+    pi: &Poly,
+) -> Result<Order, AllocError>
+    requires p_in { IsPresOver (K.field k.now).ops p.now }
+    requires order { IsOrder (K.field k.now) p.now o.now }
+    requires pi_in { IsOver (K.field k.now).ops pi.now }
+    requires irreducible { IsIrreducible (K.field k.now).ops pi.now }
+    ensures { IfOk result (IsTurn (K.field k.now) p.now pi.now o.now) }
+{
+    let degree = p.n();
+    prove!(degree > 0);
+    let i = radical(alloc, k, p, o, pi)?;
+    multiplier(alloc, k, p, o, &i)
+}
+
+/// The integral functions that a power of an irreducible monic polynomial takes into the order. The discriminant isn't 0.
+/// It takes the time of a radical and its multipliers for each turn; each turn but the last enlarges the order.
+pub fn p_maximal<K: SmallField>(
+    alloc: Global,
+    k: &K,
+    p: &Pres,
+    o: &Order,
+    pi: &Poly,
+) -> Result<Order, AllocError>
+    requires p_in { IsPresOver (K.field k.now).ops p.now }
+    requires some { let k = K.field k.now in ¬ (discriminant (equation_of k p.now) ≡ (polynomials k).𝟘) }
+    requires order { IsOrder (K.field k.now) p.now o.now }
+    requires pi_in { IsOver (K.field k.now).ops pi.now }
+    requires irreducible { IsIrreducible (K.field k.now).ops pi.now }
+    ensures order { IfOk result (IsOrder (K.field k.now) p.now) }
+    ensures members { let k = K.field k.now in
+        IfOk result (λ m. (z : Functions k p.now) →
+        Contains k p.now m z ↔ TakenByPowers (equation_of k p.now) (value k pi.now) (Contains k p.now o.now) z) }
+{
+    let degree = p.n();
+    prove!(degree > 0);
+    let mut cur = o.copy(alloc)?;
+    'turns: loop {
+        let next = enlarged(alloc, k, p, &cur, pi)?;
+        if same_lattice(k, next.lattice(), cur.lattice()) {
+            return Ok(cur);
+        }
+        cur = next;
+    }
+}
+
+/// The integral functions that a product of powers of irreducible monic polynomials takes into the order. The discriminant
+/// isn't 0. It takes the time of `p_maximal` for each of the polynomials.
+pub fn maximal<K: SmallField>(
+    alloc: Global,
+    k: &K,
+    p: &Pres,
+    o: &Order,
+    primes: &[Poly],
+) -> Result<Order, AllocError>
+    requires p_in { IsPresOver (K.field k.now).ops p.now }
+    requires some { let k = K.field k.now in ¬ (discriminant (equation_of k p.now) ≡ (polynomials k).𝟘) }
+    requires order { IsOrder (K.field k.now) p.now o.now }
+    requires primes_in { All (IsOver (K.field k.now).ops) primes.now }
+    requires irreducible { All (IsIrreducible (K.field k.now).ops) primes.now }
+    ensures order { IfOk result (IsOrder (K.field k.now) p.now) }
+    ensures members { let k = K.field k.now in
+        IfOk result (λ m. (z : Functions k p.now) →
+        Contains k p.now m z ↔ TakenByProducts (equation_of k p.now) (map (value k) primes.now) (Contains k p.now o.now) z) }
+{
+    let degree = p.n();
+    prove!(degree > 0);
+    let mut cur = o.copy(alloc)?;
+    for pi in primes {
+        cur = p_maximal(alloc, k, p, &cur, pi)?;
+    }
+    Ok(cur)
+}

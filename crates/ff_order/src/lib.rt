@@ -1,0 +1,15 @@
+//! Maximal orders of F = k(x)[y]/(f): the radical of an order at an irreducible polynomial, its multipliers, and the
+//! enlargement by them (Pohst and Zassenhaus).
+#![tactic(auto)]
+
+pub mod enlarge;
+pub mod laws;
+pub mod radicals;
+pub mod start;
+
+pub use enlarge::{maximal, multiplier, p_maximal};
+pub use radicals::radical;
+pub use start::equation_order;
+
+#[cfg(test)]
+mod tests;

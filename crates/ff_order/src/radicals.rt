@@ -1,0 +1,107 @@
+//! The radical of an order at an irreducible polynomial.
+
+ghost use Rattle.std.specs.Prelude.{◌≡◌, ◌≢◌, ◌↔◌, [], All, IfOk};
+ghost use Rattle.ff_fields.specs.Over.{IsOver};
+ghost use Rattle.ff_poly.specs.Words.{IsIrreducible};
+ghost use Rattle.ff_poly.specs.Value.{value};
+ghost use Rattle.ff_algebra.specs.Functions.{of_poly};
+ghost use Rattle.ff_algebra.specs.Values.{PresValue, IsPresOver, Functions, functions, equation_of};
+ghost use Rattle.ff_falg.specs.Algebras.{IsVector};
+ghost use Rattle.ff_lattice.specs.Lattices.{LatticeValue, IsLattice, Contains};
+ghost use Rattle.ff_lattice.specs.Orders.{IsOrder};
+ghost use Rattle.ff_lattice.specs.Quotients.{QuotientValue, IsQuotient, IsQuotientOver, IsIdeal, dimension};
+ghost use Rattle.local_theory.specs.Ideals.{Multiple};
+ghost use Rattle.local_theory.specs.Orders.{Radical};
+ghost use Rattle.ff_order.specs.Steps.{AreLifts, IsNilpotentBasis};
+
+use ff_algebra::{Elem, Pres};
+use ff_falg::nilpotents;
+use ff_fields::field::SmallField;
+use ff_lattice::multiples::scale;
+use ff_lattice::operations::{push_rows, spanned};
+use ff_lattice::{Lattice, Order, Quotient};
+use ff_linalg::Matrix;
+use ff_poly::Poly;
+use std::alloc::{AllocError, Global};
+
+/// The multiples of the members of the order by a polynomial other than 0.
+fn multiples<K: SmallField>(
+    alloc: Global,
+    k: &K,
+    p: &Pres,
+    o: &Order,
+    a: &Poly,
+) -> Result<Lattice, AllocError>
+    requires order { IsOrder (K.field k.now) p.now o.now }
+    requires a_in { IsOver (K.field k.now).ops a.now }
+    requires some { a.now ≢ [] }
+    ensures ideal { IfOk result (IsIdeal (K.field k.now) p.now o.now) }
+    ensures members { let k = K.field k.now in
+        IfOk result (λ l. (z : Functions k p.now) →
+        Contains k p.now l z ↔ Multiple (functions k p.now).ops (of_poly (equation_of k p.now) (value k a.now)) (Contains k p.now o.now) z) }
+{
+    let degree = p.n();
+    prove!(degree > 0);
+    let one = Poly::one(alloc)?;
+    scale(alloc, k, o.lattice(), a, &one)
+}
+
+/// What the rows of codes are lifted to.
+fn lift_rows<K: SmallField>(
+    alloc: Global,
+    k: &K,
+    q: &Quotient,
+    m: &Matrix,
+) -> Result<Vec<Elem>, AllocError>
+    requires over { IsQuotient (K.field k.now) q.now }
+    requires rows_in { All (IsVector (K.field k.now).ops (dimension q.now)) m.now.rows }
+    ensures { IfOk result (λ zs. AreLifts (K.field k.now) q.now m.now.rows zs.items) }
+{
+    let mut lifts = Vec::new(alloc);
+    for r in 0..m.rows() {
+        lifts.push(q.lift(alloc, k, m.row(r))?)?;
+    }
+    Ok(lifts)
+}
+
+/// Lifts of a basis of the nilpotent classes.
+fn nilpotent_lifts<K: SmallField>(
+    alloc: Global,
+    k: &K,
+    q: &Quotient,
+) -> Result<Vec<Elem>, AllocError>
+    requires { IsQuotientOver (K.field k.now) q.now }
+    ensures { let k = K.field k.now in IfOk result (λ zs. IsNilpotentBasis k q.now.p q.now.order q.now.ideal zs.items) }
+{
+    let basis = nilpotents(alloc, k, q)?;
+    lift_rows(alloc, k, q, &basis)
+}
+
+/// The radical of the order at an irreducible monic polynomial: the members of which a power is a multiple of the polynomial
+/// by a member. It takes the time of the nilpotent elements of the order modulo the polynomial, an algebra of n times
+/// its degree dimensions, and of a Popov basis of so many rows.
+pub fn radical<K: SmallField>(
+    alloc: Global,
+    k: &K,
+    p: &Pres,
+    o: &Order,
+    pi: &Poly,
+) -> Result<Lattice, AllocError>
+    requires p_in { IsPresOver (K.field k.now).ops p.now }
+    requires order { IsOrder (K.field k.now) p.now o.now }
+    requires pi_in { IsOver (K.field k.now).ops pi.now }
+    requires irreducible { IsIrreducible (K.field k.now).ops pi.now }
+    ensures form { IfOk result (IsLattice (K.field k.now).ops p.now.n) }
+    ensures ideal { IfOk result (IsIdeal (K.field k.now) p.now o.now) }
+    ensures members { let k = K.field k.now in
+        IfOk result (λ l. (z : Functions k p.now) →
+        Contains k p.now l z ↔ Radical (functions k p.now).ops (Contains k p.now o.now) (of_poly (equation_of k p.now) (value k pi.now)) z) }
+{
+    let degree = p.n();
+    prove!(degree > 0);
+    let ideal = multiples(alloc, k, p, o, pi)?;
+    let q = Quotient::new(alloc, k, p, o, &ideal)?;
+    let mut gens = nilpotent_lifts(alloc, k, &q)?;
+    push_rows(alloc, k, &mut gens, &ideal)?;
+    spanned(alloc, k, p, &gens)
+}
