@@ -30,7 +30,7 @@ module _ {E : Type 0} (F : CommRing E) (e : ℕ → E) (e_zero : e 0 ≡ F.𝟘)
   infixl 70 ◌⊗◌
   infixr 80 ⊖◌
   -- zeros on top don't count
-  value_trim : (t : E) (w : List ℕ) → value_of F e t (poly_of w) ≡ value_of F e t w
+  pub value_trim : (t : E) (w : List ℕ) → value_of F e t (poly_of w) ≡ value_of F e t w
   unfolding value_of
   value_trim t [] = refl
   value_trim t (c ∷ w) = onto (poly_of w) ∙ ap (λ v. e c ⊕ t ⊗ v) (value_trim t w)
@@ -44,7 +44,7 @@ module _ {E : Type 0} (F : CommRing E) (e : ℕ → E) (e_zero : e 0 ≡ F.𝟘)
       onto (d ∷ v) = refl
 
   -- zeros below are a power of t
-  value_zeros : (t : E) (m : ℕ) (w : List ℕ) → value_of F e t (replicate m 0 ++ w) ≡ pow F.ops t m ⊗ value_of F e t w
+  pub value_zeros : (t : E) (m : ℕ) (w : List ℕ) → value_of F e t (replicate m 0 ++ w) ≡ pow F.ops t m ⊗ value_of F e t w
   unfolding value_of
   value_zeros t zero w = sym (one_mul F (value_of F e t w))
   value_zeros t (suc m) w =
@@ -89,7 +89,7 @@ module _ (k : CodeField) where
   All_reverse P [] h = h
   All_reverse P (x ∷ xs) h = rw (reverse-cons x xs) (All-push P (reverse xs) x (All_reverse P xs (All-tail P x xs h)) (All-head P x xs h))
 
-  over_reversed : (a : List ℕ) (m : ℕ) → IsOver k.ops a → IsOver k.ops (reversed_of a m)
+  pub over_reversed : (a : List ℕ) (m : ℕ) → IsOver k.ops a → IsOver k.ops (reversed_of a m)
   over_reversed a m a_in =
       IsOver_trim (replicate (m - length a) 0 ++ poly_of (reverse a))
       (IsOver_append (IsOver_zeros k (m - length a)) (IsOver_trim (reverse a) (record { each = All_reverse (λ c. c < k.size) a a_in.each })))

@@ -6,7 +6,7 @@ ghost use Rattle.ff_algebra.specs.declared.curve.CurveFault.{CurveFault};
 
 mod discriminant;
 mod equation;
-mod infinity;
+pub(crate) mod infinity;
 #[cfg(test)]
 mod tests;
 

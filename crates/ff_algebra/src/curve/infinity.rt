@@ -7,7 +7,6 @@ ghost use Rattle.ff_algebra.specs.Curves.{reversed_of};
 
 use crate::elem::Pres;
 use ff_poly::Poly;
-use ff_poly::poly::shift;
 use std::alloc::{AllocError, Global};
 
 /// The least number c, 0 or more, such that the coefficient of y^(n-i) has a degree of at most c·i.
@@ -24,14 +23,15 @@ pub(crate) fn infinity_number(f: &Pres) -> usize
 }
 
 /// The polynomial t^(m-1)·a(1/t) in t, for at most m codes of a.
-fn reversed(alloc: Global, a: &Poly, m: usize) -> Result<Poly, AllocError>
+pub(crate) fn reversed(alloc: Global, a: &Poly, m: usize) -> Result<Poly, AllocError>
     requires { length a.now ≤ m }
     ensures { IfOk result (λ p. p ≡ reversed_of a.now m) }
 {
-    let mut codes = a.codes().to_vec(alloc)?;
+    let mut codes = Vec::with_capacity(alloc, m)?;
+    codes.extend_from_slice(a.codes())?;
+    codes.resize(m, 0)?;
     codes.reverse();
-    let missing = m - codes.len();
-    shift(alloc, &Poly::from_codes(codes), missing)
+    Ok(Poly::from_codes(codes))
 }
 
 /// The polynomial of y/x^c over the polynomials in 1/x, for a number c that is enough.

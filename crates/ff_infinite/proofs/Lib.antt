@@ -1,0 +1,3 @@
+pub mod LowZeros
+pub mod LocalMembers
+pub mod PowersOfY

@@ -1,0 +1,34 @@
+//! The order k[t][Y].
+
+ghost use Rattle.std.specs.Prelude.{◌≡◌, ◌↔◌, IfOk};
+ghost use Rattle.ff_poly.specs.Polynomials.{x_poly};
+ghost use Rattle.ff_algebra.specs.Values.{PresValue, Functions, equation_of};
+ghost use Rattle.trace_theory.specs.Traces.{HasPolynomialCoordinates};
+ghost use Rattle.side_theory.specs.Tame.{IsTame};
+ghost use Rattle.ff_lattice.specs.Lattices.{LatticeValue, Contains};
+ghost use Rattle.ff_lattice.specs.Orders.{IsOrder};
+
+use ff_algebra::Curve;
+use ff_fields::field::SmallField;
+use ff_lattice::Order;
+use ff_lattice::operations::spanned;
+use ff_lattice::order::power_of_y;
+use std::alloc::{AllocError, Global};
+
+/// The order k[t][Y] of the infinite presentation: the functions that have polynomials in t as coordinates. Its rows are 1, Y,
+/// up to Y^(n-1). It takes the time of a Popov basis of the unit matrix.
+pub fn infinite_start<K: SmallField>(alloc: Global, k: &K, c: &Curve) -> Result<Order, AllocError>
+    ensures order { IfOk result (IsOrder (K.field k.now) c.now.inf) }
+    ensures members { let k = K.field k.now in
+        IfOk result (λ o. (z : Functions k c.now.inf) → Contains k c.now.inf o z ↔ HasPolynomialCoordinates (equation_of k c.now.inf) z) }
+    ensures tame { let k = K.field k.now in
+        IfOk result (λ o. IsTame (equation_of k c.now.inf) (x_poly k) (Contains k c.now.inf o)) }
+{
+    let p = c.inf();
+    let mut powers = Vec::new(alloc);
+    for i in 0..p.n() {
+        powers.push(power_of_y(alloc, k, p.n(), i)?)?;
+    }
+    let l = spanned(alloc, k, p, &powers)?;
+    Ok(Order::of(k, p, l))
+}
