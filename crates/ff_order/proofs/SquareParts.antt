@@ -76,7 +76,7 @@ module _ (k : CodeField) where
           ∙ ap ((polynomials k).◌⊗◌ (value k p)) (value_one k) ∙ S.mul_one (value k p)))
 
   -- the product of the powers of a list
-  pub product_of_powers : List (List ℕ × ℕ) → Polynomial k
+  unfoldable pub product_of_powers : List (List ℕ × ℕ) → Polynomial k
   product_of_powers [] = (polynomials k).𝟙
   product_of_powers (f ∷ fs) = (polynomials k).◌⊗◌ (pow (polynomials k).ops (value k f.0) f.1) (product_of_powers fs)
 
