@@ -10,7 +10,7 @@ use Rattle.ff_text.specs.Spelling.{Then, Is, Blanks, Around, Each, FirstSign, Sp
 use Rattle.ff_text.specs.Values.{HasSmallExponents}
 use Rattle.ff_text.proofs.Exponents.{terms_small}
 use Rattle.ff_script.specs.declared.script.Statement.{Statement}
-use Rattle.ff_script.specs.declared.script.Statement.TheVariants.{FieldOf, CurveOf, Mul, Factor}
+use Rattle.ff_script.specs.declared.script.Statement.TheVariants.{FieldOf, CurveOf, Mul, Factor, OrderOf}
 use Rattle.ff_script.specs.Grammar.{IsGap, SpellsParts, ArePartsOf, SpellsLine}
 use Rattle.ff_script.specs.Scripts.{without_empty_last, lines_of, IsReadAs, IsScript, MayFollow, AreInOrderFrom}
 use Rattle.ff_script.specs.Printing.{IsWritable}
@@ -134,6 +134,7 @@ powers_small (Factor g) parts n small short h =
     let all = subst (AllByRecursion (IsShort n)) h.1 short in
     let le = all.1.0 in
     terms_small false g h.0 h.2 (omega (arith, le))
+powers_small (OrderOf s) parts n small short h = tt
 
 line_ready : (s : Statement) (line : List ℕ) → length line < 2 ^ 34 → SpellsLine s line → IsReady s
 line_ready s line short h =

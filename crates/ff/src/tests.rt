@@ -298,6 +298,55 @@ fn factors_and_fractions(rt: HostRuntime) -> Result<(), Fail> {
 }
 
 #[test]
+fn finite_orders(rt: HostRuntime) -> Result<(), Fail> {
+    let alloc = rt.alloc();
+    let rows: [(&[u8], &[u8]); 8] = [
+        (
+            b"field 7\ncurve y^2 + 6*x^3 + 6\norder finite\n",
+            b"> field 7\n= q 7\n> curve y^2 + 6*x^3 + 6\n= n 2 c 2\n> order finite\n= [1, 0]\n= [0, 1]\nend 3\n",
+        ),
+        (
+            b"field 7\ncurve y^2 - x^3 - 1\n order  finite\norder finite\n",
+            b"> field 7\n= q 7\n> curve y^2 - x^3 - 1\n= n 2 c 2\n> order finite\n= [1, 0]\n= [0, 1]\n> order finite\n= [1, 0]\n= [0, 1]\nend 4\n",
+        ),
+        (
+            b"field 7\ncurve y^2 + 6*x^3 + 6*x^2\norder finite\n",
+            b"> field 7\n= q 7\n> curve y^2 + 6*x^3 + 6*x^2\n= n 2 c 2\n> order finite\n= [1, 0]\n= [0, 1]/x\nend 3\n",
+        ),
+        (
+            b"field 7\ncurve y^2 + 6*x^5\norder finite\n",
+            b"> field 7\n= q 7\n> curve y^2 + 6*x^5\n= n 2 c 3\n> order finite\n= [1, 0]\n= [0, 1]/x^2\nend 3\n",
+        ),
+        // Not a field: (y/x)^2 = 1.
+        (
+            b"field 7\ncurve y^2 + 6*x^2\norder finite\n",
+            b"> field 7\n= q 7\n> curve y^2 + 6*x^2\n= n 2 c 1\n> order finite\n= [1, 0]\n= [0, 1]/x\nend 3\n",
+        ),
+        // A row with two entries: (y + 1)^2 = x^3 + x^2.
+        (
+            b"field 7\ncurve y^2 + 2*y + 1 + 6*x^3 + 6*x^2\norder finite\n",
+            b"> field 7\n= q 7\n> curve y^2 + 2*y + 1 + 6*x^3 + 6*x^2\n= n 2 c 2\n> order finite\n= [1, 0]\n= [1, 1]/x\nend 3\n",
+        ),
+        // y is x times a fourth root of x.
+        (
+            b"field 7\ncurve y^4 + 6*x^5\norder finite\n",
+            b"> field 7\n= q 7\n> curve y^4 + 6*x^5\n= n 4 c 2\n> order finite\n= [1, 0, 0, 0]\n= [0, 1, 0, 0]/x\n= [0, 0, 1, 0]/x^2\n= [0, 0, 0, 1]/x^3\nend 3\n",
+        ),
+        // Klein's quartic: x^2 divides the discriminant, and k[x][y] has all integral functions.
+        (
+            b"field 2 3 1 1 0 1\ncurve y^3 + x^3*y + x\norder finite\n",
+            b"> field 2 3 1 1 0 1\n= q 8\n> curve y^3 + x^3*y + x\n= n 3 c 2\n> order finite\n= [1, 0, 0]\n= [0, 1, 0]\n= [0, 0, 1]\nend 3\n",
+        ),
+    ];
+    for (script, output) in rows {
+        let (ended, out) = ran(alloc, "run", script, Vec::new(alloc), Vec::new(alloc), 4096)?;
+        assert_eq!(rt; ended, Status::Done);
+        assert_eq!(rt; out.taken(), output);
+    }
+    Ok(())
+}
+
+#[test]
 fn first_bad_or_misplaced_line(rt: HostRuntime) -> Result<(), Fail> {
     let alloc = rt.alloc();
     let rows: [(&[u8], &[u8]); 18] = [

@@ -1,13 +1,11 @@
 -- Lattices and orders of codes as sets of functions: what contracts say of them, in the words of the theory.
-use Rattle.std.proofs.Common.{◌≡◌, ℕ, ◌<◌, ◌↔◌, List, [], ◌∷◌, length, map, refl, sym, ◌∙◌, ap, subst, arith}
-use Rattle.ff_ring.specs.Subsets.{IsSubring, Span, Colon}
+use Rattle.std.proofs.Common.{◌≡◌, ℕ, ◌<◌, ◌↔◌, List, [], length, map, sym, ◌∙◌, ap, subst, arith}
 use Rattle.ff_ring.proofs.Ring.{neg_mul, one_mul}
 use Rattle.ff_fields.specs.Field.{CodeField}
 use Rattle.ff_fields.specs.Over.{IsOver}
 use Rattle.ff_poly.specs.Words.{IsPoly, IsIrreducible}
 use Rattle.ff_poly.specs.Value.{value, numbers_value}
-use Rattle.ff_poly.specs.Polynomials.{Polynomial, polynomials, codes_of, value_not_zero}
-use Rattle.ff_algebra.specs.Functions.{Equation, IsPolynomial, of_poly}
+use Rattle.ff_poly.specs.Polynomials.{polynomials, codes_of, value_not_zero}
 use Rattle.ff_algebra.specs.Values.{PresValue, Functions, functions, function_of, equation_of}
 use Rattle.ff_algebra.proofs.ScalarRings.{polynomials_subring}
 use Rattle.lattice_theory.specs.Lattices as theory

@@ -1,5 +1,5 @@
 -- An order that has k[x][y], enlarged at the irreducible polynomials whose squares divide the discriminant, has all integral functions.
-use Rattle.std.proofs.Common.{◌≡◌, ◌↔◌, ℕ, ◌<◌, List, [], ◌∷◌, length, get_or, map, refl, sym, ap, ◌∙◌, subst, All}
+use Rattle.std.proofs.Common.{◌≡◌, ◌↔◌, ℕ, ◌<◌, List, [], ◌∷◌, get_or, map, refl, sym, ap, ◌∙◌, subst, All}
 use Rattle.std.specs.List.{Any}
 use Rattle.std.proofs.lemmas.List.Elements.{All-weaker, All-map}
 use Rattle.std.proofs.lemmas.List.{length-map, get_or-map}
@@ -20,7 +20,7 @@ use Rattle.trace_theory.specs.Traces.{HasPolynomialCoordinates, polynomial_produ
 use Rattle.trace_theory.proofs.MaximalOrder.{maximal_order}
 use Rattle.order_theory.specs.Orders.{IsOrder}
 use Rattle.order_theory.proofs.LocalOrders.{order_integral}
-use Rattle.order_theory.proofs.Enlargements.{products_iff, products_maximal}
+use Rattle.order_theory.proofs.Enlargements.{products_maximal}
 use Rattle.ff_lattice.proofs.OrderRows.{all_from_map}
 use Rattle.ff_order.specs.Enlargements.{TakenByProducts}
 use Rattle.ff_order.proofs.Bridge.{irreducible_value}

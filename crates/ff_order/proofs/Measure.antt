@@ -1,7 +1,7 @@
 -- The measure of the enlargement: the index of an order in the integral functions, as a number that is found for any rows over a polynomial.
-use Rattle.std.proofs.Common.{◌≡◌, ℕ, ◌<◌, ◌⊎◌, inl, inr, List, subst, sym}
+use Rattle.std.proofs.Common.{◌≡◌, ℕ, ◌<◌, ◌⊎◌, inl, inr, List}
 use Rattle.ff_fields.specs.Field.{CodeField}
-use Rattle.ff_fields.specs.Code.{code_field, code_ring}
+use Rattle.ff_fields.specs.Code.{code_field}
 use Rattle.ff_poly.specs.Value.{value}
 use Rattle.ff_poly.specs.Polynomials.{polynomials, polynomial_discrete}
 use Rattle.popov_theory.specs.Span as spans
@@ -12,14 +12,14 @@ use Rattle.ff_algebra.specs.declared.elem.Side.TheVariants.{Finite}
 use Rattle.ff_algebra.specs.Places.{IsIntegralAt}
 use Rattle.ff_algebra.specs.Functions.{setting_of}
 use Rattle.ff_algebra.specs.Discriminant.{discriminant}
-use Rattle.ff_algebra.specs.Values.{PresValue, Functions, functions, equation_of}
+use Rattle.ff_algebra.specs.Values.{PresValue, Functions, equation_of}
 use Rattle.lattice_theory.specs.Lattices as theory
 use Rattle.lattice_theory.specs.Lattices.{HasIndex}
 use Rattle.lattice_theory.proofs.Operations.{lattice_within}
 use Rattle.lattice_theory.proofs.Indices.{index_of, index_less}
 use Rattle.order_theory.proofs.IntegralLattice.{integral_lattice}
 use Rattle.order_theory.proofs.LocalOrders.{order_integral}
-use Rattle.ff_lattice.specs.Lattices.{LatticeValue, IsLattice, Contains}
+use Rattle.ff_lattice.specs.Lattices.{LatticeValue, Contains}
 use Rattle.ff_lattice.specs.Orders.{IsOrder}
 use Rattle.ff_lattice.proofs.Divisors.{monic_value}
 use Rattle.ff_lattice.proofs.OneForm.{one_form}

@@ -4,27 +4,27 @@ use Rattle.std.proofs.Common.{◌≡◌, ℕ, zero, suc, ◌+◌, ◌-◌, ◌<�
 use Rattle.std.proofs.lemmas.List.{length-replicate, take_more}
 use Rattle.std.proofs.lemmas.List.Elements.{All-nil, All-cons, All-head, All-tail, All-append, All-map}
 use Rattle.ff_ring.specs.Ring.{CommRing, pow}
-use Rattle.ff_ring.specs.Lists.{add_lists, scale_list}
+use Rattle.ff_ring.specs.Lists.{scale_list}
 use Rattle.ff_ring.specs.Rows.{Row}
 use Rattle.ff_ring.specs.Subsets.{IsSubring, Span}
 use Rattle.ff_ring.proofs.Ring.{zero_add, add_sub}
 use Rattle.ff_ring.proofs.Subsets.{span_zero}
 use Rattle.ff_fields.specs.Field.{CodeField}
-use Rattle.ff_fields.specs.Code.{raw_ring, zero_in}
+use Rattle.ff_fields.specs.Code.{raw_ring}
 use Rattle.ff_fields.specs.Over.{IsOver, IsOver_head, IsOver_tail, IsOver_zeros}
 use Rattle.ff_poly.specs.Value.{value}
 use Rattle.ff_poly.specs.Polynomials.{Polynomial, constant_poly}
 use Rattle.ff_poly.specs.Popov.{IsRow}
 use Rattle.linear_theory.specs.Module.{combination}
 use Rattle.ff_linalg.specs.Matrix.{MatrixValue}
-use Rattle.ff_linalg.specs.Space.{row_ops, IsInRowSpace}
+use Rattle.ff_linalg.specs.Space.{row_ops}
 use Rattle.ff_linalg.proofs.Bridge.{own_row_codes}
 use Rattle.ff_falg.specs.Algebras.{IsVector, IsNilpotent, power}
 use Rattle.ff_falg.specs.Spaces.{IsEchelonBasis}
 use Rattle.ff_algebra.specs.Functions.{of_poly, over, IsPolynomial}
 use Rattle.ff_algebra.specs.Values.{ElemValue, IsElem, Functions, functions, function_of, equation_of}
 use Rattle.ff_algebra.proofs.ScalarRings.{polynomials_subring}
-use Rattle.ff_lattice.specs.Lattices.{Contains, InSpanOf, IsSumOf}
+use Rattle.ff_lattice.specs.Lattices.{Contains, IsSumOf}
 use Rattle.ff_lattice.specs.Quotients.{QuotientValue, IsQuotient, IsClassOf, HasClasses, dimension, lifted, codes_of_row, quotient_ops}
 use Rattle.ff_lattice.proofs.Elements.{elem_over, in_span_of}
 use Rattle.ff_lattice.proofs.Spaces.{codes_row, codes_row_length, codes_row_over, read_codes_row}

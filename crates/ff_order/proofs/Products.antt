@@ -1,8 +1,8 @@
 -- One polynomial of a list after another: the order after each of them.
-use Rattle.std.proofs.Common.{◌≡◌, ◌↔◌, ℕ, ◌+◌, ◌<◌, List, [], ◌∷◌, ◌++◌, length, get_or, map, take, refl, sym, ◌∙◌, ap, ap₂, subst, arith}
+use Rattle.std.proofs.Common.{◌≡◌, ◌↔◌, ℕ, ◌+◌, ◌<◌, List, [], ◌∷◌, ◌++◌, length, get_or, map, take, refl, sym, ◌∙◌, ap, subst}
 use Rattle.std.proofs.lemmas.List.{take_more}
 use Rattle.ff_ring.proofs.Ring.{one_mul}
-use Rattle.local_theory.proofs.Enlarge.{Enlarged, EnlargedAt}
+use Rattle.local_theory.proofs.Enlarge.{EnlargedAt}
 use Rattle.ff_fields.specs.Field.{CodeField}
 use Rattle.ff_poly.specs.Value.{value}
 use Rattle.ff_poly.specs.Polynomials.{Polynomial}

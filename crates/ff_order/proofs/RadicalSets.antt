@@ -1,15 +1,15 @@
 -- The radical of an order at a polynomial: the multiples of the order by it, and the nilpotent classes modulo them.
-use Rattle.std.proofs.Common.{◌≡◌, ℕ, ◌<◌, ◌↔◌, List, [], ◌∷◌, ◌++◌, length, map, refl, sym, ◌∙◌, ap, ap₂, subst, All}
-use Rattle.std.proofs.lemmas.List.Elements.{All-map, All-append, All-weaker}
+use Rattle.std.proofs.Common.{◌≡◌, ℕ, ◌<◌, ◌↔◌, List, [], ◌∷◌, ◌++◌, length, map, sym, ◌∙◌, ap, subst, All}
+use Rattle.std.proofs.lemmas.List.Elements.{All-map, All-weaker}
 use Rattle.ff_ring.specs.Ring.{CommRing}
 use Rattle.ff_ring.specs.Subsets.{IsSubring, Span}
-use Rattle.ff_ring.proofs.Ring.{one_mul, mul_left_comm}
+use Rattle.ff_ring.proofs.Ring.{one_mul}
 use Rattle.ff_ring.proofs.Subsets.{span_least, span_append_right}
 use Rattle.ff_fields.specs.Field.{CodeField}
 use Rattle.ff_poly.specs.Value.{value}
 use Rattle.ff_poly.specs.Polynomials.{value_one}
 use Rattle.ff_algebra.specs.Functions.{IsPolynomial, of_poly}
-use Rattle.ff_algebra.specs.Values.{ElemValue, PresValue, IsElem, Functions, functions, function_of, equation_of}
+use Rattle.ff_algebra.specs.Values.{ElemValue, PresValue, Functions, functions, function_of, equation_of}
 use Rattle.ff_algebra.proofs.ScalarRings.{polynomials_subring, of_poly_one}
 use Rattle.local_theory.specs.Ideals.{Multiple}
 use Rattle.local_theory.specs.Ideals as local
@@ -22,7 +22,7 @@ use Rattle.ff_lattice.specs.Lattices.{LatticeValue, IsLattice, Contains, InSpanO
 use Rattle.ff_lattice.specs.Orders.{IsOrder}
 use Rattle.ff_lattice.specs.Quotients.{IsIdeal}
 use Rattle.ff_lattice.proofs.SpannedSets.{lattice_full}
-use Rattle.ff_lattice.proofs.SumsAndProducts.{map_join, rows_elems, sum_iff, full_within}
+use Rattle.ff_lattice.proofs.SumsAndProducts.{map_join, sum_iff, full_within}
 use Rattle.ff_order.specs.Steps.{IsNilpotentModulo, IsNilpotentBasis}
 use Rattle.ff_order.proofs.Bridge.{order_set}
 

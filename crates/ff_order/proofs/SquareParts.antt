@@ -1,5 +1,5 @@
 -- In a factorisation the square of an irreducible polynomial divides the product where the exponent of that polynomial is 2 or more.
-use Rattle.std.proofs.Common.{◌≡◌, ◌⊎◌, ℕ, zero, suc, ◌+◌, ◌*◌, ◌<◌, ◌≤◌, List, [], ◌∷◌, ◌++◌, length, get_or, inl, inr, refl, sym, ◌∙◌, ap, ap₂, subst, arith, All}
+use Rattle.std.proofs.Common.{◌≡◌, ◌⊎◌, ℕ, zero, suc, ◌<◌, ◌≤◌, List, [], ◌∷◌, length, get_or, inl, inr, refl, sym, ◌∙◌, ap, subst, arith, All}
 use Rattle.std.proofs.lemmas.List.Elements.{All-head, All-tail}
 use Rattle.ff_ring.specs.Ring.{CommRing, pow}
 use Rattle.ff_ring.proofs.Ring.{mul_zero, mul_left_comm}
@@ -11,13 +11,13 @@ use Rattle.ff_fields.specs.Field.{CodeField}
 use Rattle.ff_fields.specs.Over.{IsOver}
 use Rattle.ff_poly.specs.Words.{IsPoly, IsMonic, IsIrreducible, Divides, product_of}
 use Rattle.ff_poly.specs.Value.{value, value_product, same_from_value}
-use Rattle.ff_poly.specs.Polynomials.{Polynomial, polynomials, codes_of, numbers_discrete, value_one, value_not_zero}
+use Rattle.ff_poly.specs.Polynomials.{Polynomial, polynomials, codes_of, numbers_discrete, value_one}
 use Rattle.trace_theory.proofs.Division.{euclidean}
 use Rattle.trace_theory.proofs.Irreducible.{irreducible}
 use Rattle.ff_lattice.proofs.Elements.{divides_codes}
 use Rattle.ff_lattice.proofs.Normal.{monic_poly}
 use Rattle.ff_lattice.proofs.Scaled.{product_length, monic_factor}
-use Rattle.ff_order.proofs.Bridge.{irreducible_value, irreducible_poly, irreducible_some, irreducible_not_zero}
+use Rattle.ff_order.proofs.Bridge.{irreducible_value}
 
 module _ (k : CodeField) where
   abbrev S : CommRing (Polynomial k)
@@ -76,7 +76,7 @@ module _ (k : CodeField) where
           ∙ ap ((polynomials k).◌⊗◌ (value k p)) (value_one k) ∙ S.mul_one (value k p)))
 
   -- the product of the powers of a list
-  pub product_of_powers : List (List ℕ × ℕ) → Polynomial k
+  unfoldable pub product_of_powers : List (List ℕ × ℕ) → Polynomial k
   product_of_powers [] = (polynomials k).𝟙
   product_of_powers (f ∷ fs) = (polynomials k).◌⊗◌ (pow (polynomials k).ops (value k f.0) f.1) (product_of_powers fs)
 

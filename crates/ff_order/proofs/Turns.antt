@@ -1,6 +1,5 @@
 -- One turn of the enlargement at an irreducible polynomial, and what it leaves after each turn.
-use Rattle.std.proofs.Common.{◌≡◌, ℕ, ◌<◌, ◌↔◌, List, sym, subst}
-use Rattle.ff_ring.specs.Subsets.{Colon}
+use Rattle.std.proofs.Common.{◌≡◌, ℕ, ◌<◌, ◌↔◌, List, subst}
 use Rattle.ff_fields.specs.Field.{CodeField}
 use Rattle.ff_fields.specs.Over.{IsOver}
 use Rattle.ff_poly.specs.Words.{IsIrreducible}

@@ -7,3 +7,6 @@ pub mod LowestElements
 pub mod FactorDegrees
 pub mod FactorRows
 pub mod Truths
+pub mod OrderAnswers
+pub mod RepeatedFactors
+pub mod FiniteOrders

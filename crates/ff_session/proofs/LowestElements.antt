@@ -11,7 +11,7 @@ use Rattle.ff_algebra.specs.Values.{ElemValue, PresValue, IsElem, IsMonicElem, I
 use Rattle.ff_algebra.proofs.SameValues.{same_iff}
 use Rattle.ff_factor.specs.LowestTerms.{IsInLowestTermsOf}
 use Rattle.ff_factor.specs.ListValues.{monic_poly}
-use Rattle.ff_session.specs.Answers.{IsInLowestTerms}
+use Rattle.ff_session.specs.LowestTerms.{IsInLowestTerms}
 use Rattle.ff_session.specs.Elements.{IsLowest}
 
 module _ (k : CodeField) where

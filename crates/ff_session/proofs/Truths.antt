@@ -15,6 +15,7 @@ use Rattle.ff_fields.specs.Field.{CodeField, FieldOps}
 use Rattle.ff_fields.specs.Fields.{field_of}
 use Rattle.ff_fields.specs.Code.{Code, code_domain, same_code}
 use Rattle.ff_fields.specs.Modulus.{IsFieldModulus, IsFaultOf}
+use Rattle.ff_algebra.specs.declared.elem.Side.{Side}
 use Rattle.ff_algebra.specs.Values.{ElemValue}
 use Rattle.ff_text.specs.Values.{written_codes}
 use Rattle.ff_algebra.specs.Curves.{CurveValue, IsCurveFault}
@@ -23,7 +24,7 @@ use Rattle.ff_text.specs.declared.terms.Term.{Term}
 use Rattle.ff_text.specs.declared.terms.ElemText.{ElemText}
 use Rattle.ff_script.specs.declared.script.Modulus.{Modulus}
 use Rattle.ff_script.specs.declared.script.Statement.{Statement}
-use Rattle.ff_script.specs.declared.script.Statement.TheVariants.{FieldOf, CurveOf, Mul, Factor}
+use Rattle.ff_script.specs.declared.script.Statement.TheVariants.{FieldOf, CurveOf, Mul, Factor, OrderOf}
 use Rattle.ff_session.specs.declared.refusal.Refusal.{Refusal}
 use Rattle.ff_session.specs.declared.refusal.Refusal.TheVariants.{LimitDegree, LimitOutput}
 use Rattle.ff_session.specs.declared.session.Bound.{Bound}
@@ -31,10 +32,11 @@ use Rattle.ff_session.specs.declared.session.Bound.TheVariants.{Nothing, Field, 
 use Rattle.ff_session.specs.Bound.{data_of, IsSound}
 use Rattle.ff_session.specs.Settings.{FieldData, Modulo, ByModulus, IsField, ops_of, with_laws, Setting, Empty, WithField, WithCurve, SessionValue}
 use Rattle.ff_session.specs.Meaning.{IsSumOf, degree_of_element}
-use Rattle.ff_session.specs.Answers.{Answer, Size, Numbers, Element, Factored, Answers, Names, IsFieldOf, BindsField, IsCurveOfTerms, IsProductOf, IsFactorisationOf}
+use Rattle.ff_session.specs.Answers.{Answer, Size, Numbers, Element, Factored, Rows, Answers, Names, IsFieldOf, BindsField, IsCurveOfTerms, IsProductOf, IsFactorisationOf}
 use Rattle.ff_session.specs.Refusals.{UnlessMemory, IsFieldLineFault, IsFieldRow, IsNoCurve, range, fault, IsProductRow, IsFactorRow, IsRow, HasNoRow, Refuses, row, text, degree, output, output_after, IsTextRow}
+use Rattle.ff_session.specs.Orders.{IsOrderAnswer}
 use Rattle.ff_session.specs.Elements.{IsProductRead}
-use Rattle.ff_session.specs.Steps.{setting_after, AddsAnswer, AddsCurve, AddsProduct, AddsFactors, IsNoProduct, IsUnanswered}
+use Rattle.ff_session.specs.Steps.{setting_after, AddsAnswer, AddsCurve, AddsProduct, AddsFactors, AddsRows, HaveGreatDegree, IsNoProduct, IsUnanswered}
 use Rattle.ff_session.specs.Steps as steps
 use Rattle.ff_session.specs.Sessions.{IsRefusedAs, IsStep}
 use Rattle.ff_session.specs.Texts.{answer_lines, block_text, echo_line}
@@ -179,6 +181,21 @@ adds_factors s g k c before now s_is h =
       sound = λ b e. absurd cc;
     })
 
+rows_true : (k : AnyField) (c : CurveValue) (side : Side) (zs : List ElemValue) → IsOrderAnswer (field_of k) c side zs → Answers (WithCurve (data_of k) c) (OrderOf side) (Rows zs) (WithCurve (data_of k) c)
+rows_true k c side zs h = (data_is k, subst (λ (l : CodeField). IsOrderAnswer l c side zs) (sym (same_field k)) h, refl)
+
+pub adds_rows : (s : Statement) (side : Side) (k : AnyField) (c : CurveValue) (before now : List ℕ) → s ≡ OrderOf side → AddsRows (field_of k) c side before now
+    → AddsAnswer (WithCurve (data_of k) c) s before now None
+adds_rows s side k c before now s_is h =
+    subst (λ t. AddsAnswer (WithCurve (data_of k) c) t before now None) (sym s_is) (record {
+      answer = Rows h.rows;
+      is_true = rows_true k c side h.rows h.are_rows;
+      not_refused = λ r found. found;
+      small = h.small;
+      added = h.added;
+      sound = λ b e. absurd cc;
+    })
+
 -- ---- a result that is handed on
 
 pub on_ok_as : {A : Type 0} (r : Result A Refusal) (P Q : Type 0) → (P → Q) → OnOk r P → OnOk r Q
@@ -207,6 +224,12 @@ pub unanswered_factors : (s : Statement) (g : List Term) (k : AnyField) (c : Cur
 unanswered_factors s g k c r s_is h some =
     subst (λ t. IsUnanswered (WithCurve (data_of k) c) t r) (sym s_is)
     (steps.row (subst (λ (o : FieldOps). IsFactorRow o g r) (sym (same_ops k)) (h some)))
+
+pub unanswered_rows : (s : Statement) (side : Side) (k : AnyField) (c : CurveValue) (r : Refusal) → s ≡ OrderOf side → UnlessMemory (HaveGreatDegree (field_of k) c side) r → UnlessMemory (IsUnanswered (WithCurve (data_of k) c) s) r
+unanswered_rows s side k c r s_is h some =
+    let great = h some in
+    subst (λ t. IsUnanswered (WithCurve (data_of k) c) t r) (sym s_is)
+    (steps.degree (Rows great.rows) (WithCurve (data_of k) c) (rows_true k c side great.rows great.are_rows) (λ r found. found) great.great great.told)
 
 pub refuses_unanswered : (old : SessionValue) (s : Statement) (r : Refusal) → UnlessMemory (IsUnanswered old.setting s) r → IsRefusedAs old s r
 refuses_unanswered old s r h some = go (h some)

@@ -12,16 +12,13 @@ use Rattle.ff_text.specs.declared.terms.Term.{Term}
 use Rattle.ff_text.specs.declared.terms.ElemText.{ElemText}
 use Rattle.ff_script.specs.declared.script.Modulus.{Modulus}
 use Rattle.ff_script.specs.declared.script.Statement.{Statement}
-use Rattle.ff_script.specs.declared.script.Statement.TheVariants.{FieldOf, CurveOf, Mul, Factor}
+use Rattle.ff_script.specs.declared.script.Statement.TheVariants.{FieldOf, CurveOf, Mul, Factor, OrderOf}
 use Rattle.ff_session.specs.Settings.{FieldData, IsField, ops_of, with_laws, Setting, Empty, WithField, WithCurve}
 use Rattle.ff_session.specs.Meaning.{IsSumOf, IsPolyOf, IsElementOf}
+use Rattle.ff_session.specs.LowestTerms.{IsInLowestTerms}
+use Rattle.ff_session.specs.Orders.{IsOrderAnswer}
 
 module _ (k : FieldOps) where
-  -- a monic denominator, and no denominator of the same fractions has a smaller degree
-  pub record IsInLowestTerms (n : ℕ) (z : ElemValue) : Type 0 where
-    pub monic : IsMonic z.den
-    pub least : (w : ElemValue) → IsElem k n w → IsPoly w.den → w.den ≢ [] → IsSame k z w → length z.den ≤ length w.den
-
   -- q is the number of codes, and no product of two codes is 0 where neither is
   pub record IsFieldOf (q : ℕ) : Type 0 where
     pub size : q ≡ k.size
@@ -84,6 +81,7 @@ pub data Answer : Type 0 where
   Numbers : ℕ → ℕ → Answer
   Element : ElemValue → Answer
   Factored : FactorsValue → Answer
+  Rows : List ElemValue → Answer
 
 -- in the setting the answer to the statement is true, and the next setting has taken it in
 abbrev pub Answers : Setting → Statement → Answer → Setting → Type 0
@@ -92,4 +90,6 @@ Answers (WithField d) (CurveOf f) (Numbers n c) next = BindsCurve d f n c next
 Answers (WithCurve d c) (Mul a b) (Element z) next =
     (is : IsField d) × IsProductOf (with_laws d is) c.fin a b z × (next ≡ WithCurve d c)
 Answers (WithCurve d c) (Factor g) (Factored f) next = IsFactorisationOf (ops_of d) g f × (next ≡ WithCurve d c)
+Answers (WithCurve d c) (OrderOf s) (Rows zs) next =
+    (is : IsField d) × IsOrderAnswer (with_laws d is) c s zs × (next ≡ WithCurve d c)
 Answers _ _ _ _ = ⊥

@@ -8,7 +8,8 @@ use Rattle.ff_text.specs.declared.terms.Term.{Term}
 use Rattle.ff_text.specs.declared.terms.ElemText.{ElemText}
 use Rattle.ff_session.specs.declared.refusal.Refusal.{Refusal}
 use Rattle.ff_session.specs.Meaning.{IsSumOf, greatest_degree}
-use Rattle.ff_session.specs.Answers.{IsInLowestTerms, IsProductOf, IsFactorisationOf}
+use Rattle.ff_session.specs.LowestTerms.{IsInLowestTerms}
+use Rattle.ff_session.specs.Answers.{IsProductOf, IsFactorisationOf}
 use Rattle.ff_session.specs.Refusals.{IsWithin, IsProductRow, IsFactorRow}
 
 -- the greatest exponent of x in lists of terms

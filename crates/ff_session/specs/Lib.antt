@@ -1,5 +1,7 @@
 pub mod Settings
 pub mod Meaning
+pub mod LowestTerms
+pub mod Orders
 pub mod Answers
 pub mod Texts
 pub mod Refusals

@@ -62,3 +62,8 @@ greatest_degree (p ∷ ps) = max (length p - 1) (greatest_degree ps)
 
 abbrev pub degree_of_element : ElemValue → ℕ
 degree_of_element z = max (greatest_degree z.num) (length z.den - 1)
+
+-- the greatest of the degrees in elements, 0 where there are none
+abbrev pub degree_of_rows : List ElemValue → ℕ
+degree_of_rows [] = 0
+degree_of_rows (z ∷ zs) = max (degree_of_element z) (degree_of_rows zs)

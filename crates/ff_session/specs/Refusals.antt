@@ -20,8 +20,8 @@ use Rattle.ff_script.specs.declared.script.Statement.TheVariants.{FieldOf, Curve
 use Rattle.ff_session.specs.declared.refusal.Refusal.{Refusal}
 use Rattle.ff_session.specs.declared.refusal.Refusal.TheVariants.{FieldSize, NotField, LimitY, LimitX, NotMonic, NotSeparable, LimitDisc, LimitInf, CodeRange, Length, Zero, LimitDegree, LimitOutput, Memory}
 use Rattle.ff_session.specs.Settings.{FieldData, IsField, ops_of, with_laws, Setting, Empty, WithField, WithCurve, SessionValue}
-use Rattle.ff_session.specs.Meaning.{AreCodesBelow, IsFirstCodeFrom, codes_of_element, IsSumOf, IsPolyOf, IsElementOf, greatest_degree, degree_of_element}
-use Rattle.ff_session.specs.Answers.{Answer, Size, Numbers, Element, Factored, Answers}
+use Rattle.ff_session.specs.Meaning.{AreCodesBelow, IsFirstCodeFrom, codes_of_element, IsSumOf, IsPolyOf, IsElementOf, greatest_degree, degree_of_element, degree_of_rows}
+use Rattle.ff_session.specs.Answers.{Answer, Size, Numbers, Element, Factored, Rows, Answers}
 use Rattle.ff_session.specs.Texts.{block_text}
 
 -- the row holds, unless the refusal is want of memory, which is no row
@@ -116,6 +116,7 @@ HasNoRow old s = (r : Refusal) → ¬ IsRow old s r
 abbrev pub degree_of_answer : Answer → ℕ
 degree_of_answer (Element z) = degree_of_element z
 degree_of_answer (Factored f) = greatest_degree (polys_of f.parts)
+degree_of_answer (Rows zs) = degree_of_rows zs
 degree_of_answer _ = 0
 
 -- what the rest of a run writes at most behind a block

@@ -1,7 +1,7 @@
 -- What a step of a session answers.
 use Rattle.std.specs.Prelude.{◌≡◌, ℕ, ◌<◌, ◌≤◌, ◌+◌, List, length, All, IfSome}
 use Rattle.ff_script.specs.declared.script.Statement.{Statement}
-use Rattle.ff_script.specs.declared.script.Statement.TheVariants.{FieldOf, CurveOf, Mul, Factor}
+use Rattle.ff_script.specs.declared.script.Statement.TheVariants.{FieldOf, CurveOf, Mul, Factor, OrderOf}
 use Rattle.ff_session.specs.declared.refusal.Refusal.{Refusal}
 use Rattle.ff_text.specs.declared.terms.ElemText.{ElemText}
 use Rattle.ff_text.specs.Values.{HasSmallExponents}
@@ -16,6 +16,7 @@ IsInPlace Empty (FieldOf p tail) = Unit {0}
 IsInPlace (WithField d) (CurveOf f) = Unit {0}
 IsInPlace (WithCurve d c) (Mul a b) = Unit {0}
 IsInPlace (WithCurve d c) (Factor g) = Unit {0}
+IsInPlace (WithCurve d c) (OrderOf s) = Unit {0}
 IsInPlace _ _ = ⊥
 
 -- The answer to the statement is true, none of its rows of refusals holds, its text may be printed, and the session has taken
@@ -49,3 +50,4 @@ HasSmallPowers (FieldOf p tail) = Unit {0}
 HasSmallPowers (CurveOf f) = All HasSmallExponents f
 HasSmallPowers (Mul a b) = HasSmallElement a × HasSmallElement b
 HasSmallPowers (Factor g) = All HasSmallExponents g
+HasSmallPowers (OrderOf s) = Unit {0}

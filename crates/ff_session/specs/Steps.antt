@@ -2,6 +2,7 @@
 use Rattle.std.specs.Prelude.{◌≡◌, ℕ, ◌<◌, ◌≤◌, List, ◌++◌, Option, Some, None}
 use Rattle.std.specs.Option.{ForSome}
 use Rattle.ff_fields.specs.Field.{FieldOps, CodeField}
+use Rattle.ff_algebra.specs.declared.elem.Side.{Side}
 use Rattle.ff_algebra.specs.Values.{ElemValue, PresValue}
 use Rattle.ff_algebra.specs.Curves.{CurveValue}
 use Rattle.ff_factor.specs.Factors.{FactorsValue}
@@ -13,8 +14,9 @@ use Rattle.ff_session.specs.declared.refusal.Refusal.TheVariants.{LimitDegree}
 use Rattle.ff_session.specs.declared.session.Bound.{Bound}
 use Rattle.ff_session.specs.Bound.{setting_of, IsSound}
 use Rattle.ff_session.specs.Settings.{Setting}
-use Rattle.ff_session.specs.Meaning.{degree_of_element}
-use Rattle.ff_session.specs.Answers.{Answer, Numbers, Element, Factored, Answers, IsCurveOfTerms}
+use Rattle.ff_session.specs.Meaning.{degree_of_element, degree_of_rows}
+use Rattle.ff_session.specs.Answers.{Answer, Numbers, Element, Factored, Rows, Answers, IsCurveOfTerms}
+use Rattle.ff_session.specs.Orders.{IsOrderAnswer}
 use Rattle.ff_session.specs.Refusals.{IsNoCurve, IsProductRow, IsRow, HasNoRow, degree_of_answer}
 use Rattle.ff_session.specs.Elements.{IsProductRead, AreFactorsRead}
 use Rattle.ff_session.specs.Texts.{answer_lines}
@@ -50,6 +52,20 @@ pub record AddsFactors (k : FieldOps) (g : List Term) (before now : List ℕ) : 
   pub factors : FactorsValue
   pub are_factors : AreFactorsRead k g factors
   pub added : now ≡ before ++ answer_lines (Factored factors)
+
+-- the rows of the order of a side, whose degrees are at most 1,024, and their answer lines
+pub record AddsRows (k : CodeField) (c : CurveValue) (s : Side) (before now : List ℕ) : Type 0 where
+  pub rows : List ElemValue
+  pub are_rows : IsOrderAnswer k c s rows
+  pub small : degree_of_rows rows ≤ 1024
+  pub added : now ≡ before ++ answer_lines (Rows rows)
+
+-- the rows of the order of a side have a degree above 1,024
+pub record HaveGreatDegree (k : CodeField) (c : CurveValue) (s : Side) (r : Refusal) : Type 0 where
+  pub rows : List ElemValue
+  pub are_rows : IsOrderAnswer k c s rows
+  pub great : 1024 < degree_of_rows rows
+  pub told : r ≡ LimitDegree (degree_of_rows rows)
 
 -- a row of the elements holds, or their product has a degree above 1,024
 pub data IsNoProduct (k : CodeField) (f : PresValue) (a b : ElemText) (r : Refusal) : Type 0 where

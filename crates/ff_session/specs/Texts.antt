@@ -1,11 +1,12 @@
 -- What is printed of a block, and of a refusal.
 use Rattle.std.specs.Prelude.{ℕ, List, ◌++◌, codes, decimal, flat_map}
+use Rattle.ff_algebra.specs.Values.{ElemValue}
 use Rattle.ff_text.specs.Printed.{poly_text, elem_text}
 use Rattle.ff_script.specs.declared.script.Statement.{Statement}
 use Rattle.ff_script.specs.Printing.{statement_text}
 use Rattle.ff_session.specs.declared.refusal.Refusal.{Refusal}
 use Rattle.ff_session.specs.declared.refusal.Refusal.TheVariants.{FieldSize, NotField, LimitY, LimitX, NotMonic, NotSeparable, LimitDisc, LimitInf, CodeRange, Length, Zero, LimitDegree, LimitOutput, Memory}
-use Rattle.ff_session.specs.Answers.{Answer, Size, Numbers, Element, Factored}
+use Rattle.ff_session.specs.Answers.{Answer, Size, Numbers, Element, Factored, Rows}
 
 -- a line of an answer
 abbrev pub answer_line : List ℕ → List ℕ
@@ -19,11 +20,16 @@ part_text part = decimal part.1 ++ (codes " " ++ poly_text part.0)
 abbrev pub part_lines : List (List ℕ × ℕ) → List ℕ
 part_lines parts = flat_map (λ part. answer_line (part_text part)) parts
 
+-- a line for each element
+abbrev pub row_lines : List ElemValue → List ℕ
+row_lines zs = flat_map (λ z. answer_line (elem_text z.num z.den)) zs
+
 abbrev pub answer_lines : Answer → List ℕ
 answer_lines (Size q) = answer_line (codes "q " ++ decimal q)
 answer_lines (Numbers n c) = answer_line (codes "n " ++ (decimal n ++ (codes " c " ++ decimal c)))
 answer_lines (Element z) = answer_line (elem_text z.num z.den)
 answer_lines (Factored f) = answer_line (codes "unit " ++ decimal f.unit) ++ part_lines f.parts
+answer_lines (Rows zs) = row_lines zs
 
 -- the line that repeats the statement
 abbrev pub echo_line : Statement → List ℕ

@@ -4,6 +4,7 @@
 mod answers;
 mod elements;
 mod factors;
+mod orders;
 mod products;
 pub mod refusal;
 pub mod session;

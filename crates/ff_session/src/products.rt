@@ -20,7 +20,7 @@ use ff_text::ElemText;
 use std::alloc::{AllocError, Global};
 
 /// The greatest degree of a polynomial in an answer.
-const MAX_DEGREE: usize = 1024;
+pub(crate) const MAX_DEGREE: usize = 1024;
 
 /// Equal polynomials, in memory of their own.
 fn copies(alloc: Global, polys: &[Poly]) -> Result<Vec<Poly>, AllocError>
@@ -34,7 +34,7 @@ fn copies(alloc: Global, polys: &[Poly]) -> Result<Vec<Poly>, AllocError>
 }
 
 /// The same function in lowest terms.
-fn in_lowest_terms<K: SmallField>(
+pub(crate) fn in_lowest_terms<K: SmallField>(
     alloc: Global,
     k: &K,
     n: usize,
@@ -72,7 +72,7 @@ fn product<K: SmallField>(
 }
 
 /// The greatest degree of the element's polynomials.
-fn degree_of(z: &Elem) -> usize
+pub(crate) fn degree_of(z: &Elem) -> usize
     ensures { result ≡ degree_of_element z.now }
 {
     let mut degree = z.den().degree().unwrap_or(0);

@@ -17,6 +17,7 @@ ghost use Rattle.ff_session.specs.Sessions.{IsInPlace, HasSmallPowers, IsStep, I
 use crate::answers::{push_echo, push_numbers, push_size};
 use crate::elements::sum;
 use crate::factors::answer_factors;
+use crate::orders::answer_order;
 use crate::products::answer_product;
 use crate::refusal::Refusal;
 use ff_algebra::curve::Curve;
@@ -223,6 +224,7 @@ fn answer_on_curve(
     match s {
         Statement::Mul { a, b } => answer_product(alloc, text, k, curve.fin(), a, b),
         Statement::Factor { g } => answer_factors(alloc, text, k, g),
+        Statement::OrderOf { side } => answer_order(alloc, text, k, curve, *side),
         _ => unreachable!(),
     }
 }

@@ -1,4 +1,4 @@
-use Rattle.std.proofs.Common.{◌≡◌, ◌≤◌, length, sym, subst}
+use Rattle.std.proofs.Common.{◌≤◌, length, sym, subst}
 use Rattle.ff_lattice.specs.Lattices.{LatticeValue, IsLattice}
 use Rattle.ff_lattice.proofs.Results.{ok_through}
 use Rattle.ff_order.proofs.Results.{ok_from_both}

@@ -5,8 +5,8 @@ use Rattle.ff_algebra.specs.Values.{PresValue}
 use Rattle.ff_session.specs.Settings.{WithCurve}
 use Rattle.ff_session.specs.Bound.{data_of}
 use Rattle.ff_session.specs.Refusals.{UnlessMemory, IsFactorRow}
-use Rattle.ff_session.specs.Steps.{AddsAnswer, AddsProduct, AddsFactors, IsNoProduct, IsUnanswered}
-use Rattle.ff_session.proofs.Truths.{on_ok_as, if_err_as, adds_product, adds_factors, unanswered_product, unanswered_factors}
+use Rattle.ff_session.specs.Steps.{AddsAnswer, AddsProduct, AddsFactors, AddsRows, HaveGreatDegree, IsNoProduct, IsUnanswered}
+use Rattle.ff_session.proofs.Truths.{on_ok_as, if_err_as, adds_product, adds_factors, adds_rows, unanswered_product, unanswered_factors, unanswered_rows}
 use Rattle.ff_session.proofs.session.answer_on_curve.Goals as goal
 
 pub returns-in-Mul-clause-answer : goal.returns-in-Mul-clause-answer
@@ -42,3 +42,19 @@ returns-in-Factor-clause-refused c =
     let curve = c.args.curve.now in
     if_err_as c.answer_factors.result (UnlessMemory (IsFactorRow (field_of k).ops c.in-Factor.g)) (UnlessMemory (IsUnanswered (WithCurve (data_of k) curve) c.args.s.now))
     (λ r h. unanswered_factors c.args.s.now c.in-Factor.g k curve r c.in-Factor.is h) c.answer_factors.ensures.refused
+
+pub returns-in-OrderOf-clause-answer : goal.returns-in-OrderOf-clause-answer
+returns-in-OrderOf-clause-answer c =
+    let k = c.args.k.now in
+    let curve = c.args.curve.now in
+    let before = c.args.text.now.items in
+    let now = c.answer_order.new.text.items in
+    on_ok_as c.answer_order.result (AddsRows (field_of k) curve c.in-OrderOf.side before now) (AddsAnswer (WithCurve (data_of k) curve) c.args.s.now before now None)
+    (adds_rows c.args.s.now c.in-OrderOf.side k curve before now c.in-OrderOf.is) c.answer_order.ensures.rows
+
+pub returns-in-OrderOf-clause-refused : goal.returns-in-OrderOf-clause-refused
+returns-in-OrderOf-clause-refused c =
+    let k = c.args.k.now in
+    let curve = c.args.curve.now in
+    if_err_as c.answer_order.result (UnlessMemory (HaveGreatDegree (field_of k) curve c.in-OrderOf.side)) (UnlessMemory (IsUnanswered (WithCurve (data_of k) curve) c.args.s.now))
+    (λ r h. unanswered_rows c.args.s.now c.in-OrderOf.side k curve r c.in-OrderOf.is h) c.answer_order.ensures.refused
