@@ -4,6 +4,7 @@ ghost use Rattle.std.specs.Prelude.{IfOk};
 ghost use Rattle.ff_fields.specs.Over.{IsOver};
 ghost use Rattle.ff_factor.specs.Quotients.{IsModulus};
 
+mod lowest;
 mod trials;
 
 use crate::{Factors, PolyQuotient, factor, is_irreducible};
