@@ -4,6 +4,9 @@ ghost use Rattle.std.specs.Prelude.{IfOk};
 ghost use Rattle.ff_fields.specs.Over.{IsOver};
 ghost use Rattle.ff_factor.specs.Quotients.{IsModulus};
 
+mod lowest;
+mod trials;
+
 use crate::{Factors, PolyQuotient, factor, is_irreducible};
 use ff_falg::{FiniteAlgebra, fixed, frobenius, idempotents, is_field, nilpotents};
 use ff_fields::field::SmallField;
