@@ -4,3 +4,4 @@ pub mod FiniteSide
 pub mod RelativeIndex
 pub mod Factors
 pub mod InfiniteSide
+pub mod PrincipalIdeals

@@ -4,7 +4,7 @@ use Rattle.ff_ring.specs.Subsets.{Product}
 use Rattle.local_theory.specs.IntegerValues.{PrimePower}
 use Rattle.ff_algebra.specs.declared.elem.Side.{Side}
 use Rattle.ff_algebra.specs.Setting.{Setting}
-use Rattle.ff_algebra.specs.Places.{Place, IsPlace, IsIntegralAt, IsIn, HasValuationAtLeast}
+use Rattle.ff_algebra.specs.Places.{Place, IsPlace, IsIntegralAt, IsIn, HasValuationAtLeast, HasValuation}
 use Rattle.ff_algebra.specs.Divisors.{Divisor, IsDivisor, HasMultiplicity}
 
 module _ {E : Type 0} (S : Setting E) (s : Side) where
@@ -23,6 +23,11 @@ module _ {E : Type 0} (S : Setting E) (s : Side) where
   -- v_P(z) ≥ D(P) at each place of the side
   abbrev pub HasValuesOf : Divisor E → E → Type 0
   HasValuesOf D z = (P : Place E) → IsPlace S P → P.side ≡ s → (m : ℤ) → HasMultiplicity S D P m → HasValuationAtLeast S P z m
+
+  -- D(P) is v_P(z) at each place P of the side
+  pub record IsDivisorOf (D : Divisor E) (z : E) : Type 0 where
+    pub on : IsDivisorOn D
+    pub values : (P : Place E) → IsPlace S P → P.side ≡ s → (m : ℤ) → HasMultiplicity S D P m → HasValuation S P z m
 
 -- the divisor -D
 abbrev pub opposite_divisor : {E : Type 0} → Divisor E → Divisor E
