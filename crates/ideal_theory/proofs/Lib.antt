@@ -5,3 +5,7 @@ pub mod RelativeIndex
 pub mod Factors
 pub mod InfiniteSide
 pub mod PrincipalIdeals
+pub mod DegreeIndex
+pub mod IdealIndices
+pub mod FinitePlaceLists
+pub mod SideIdeals
