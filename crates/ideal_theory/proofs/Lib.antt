@@ -9,3 +9,4 @@ pub mod DegreeIndex
 pub mod IdealIndices
 pub mod FinitePlaceLists
 pub mod SideIdeals
+pub mod Admitted

@@ -1,2 +1,3 @@
 pub mod Ideals
 pub mod Indices
+pub mod Records

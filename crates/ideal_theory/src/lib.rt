@@ -12,10 +12,13 @@ ghost use Rattle.ff_algebra.specs.Functions.{Equation, FunctionOf, ring_of, sett
 ghost use Rattle.ff_algebra.specs.Discriminant.{discriminant};
 ghost use Rattle.ff_algebra.specs.Divisors.{Divisor, HasTotalDegree};
 ghost use Rattle.ff_algebra.specs.Places.{IsIntegralAt};
-ghost use Rattle.local_theory.specs.Ideals.{SameSet, Multiple};
+ghost use Rattle.local_theory.specs.Ideals.{SameSet, Multiple, Inverse, Invertible};
+ghost use Rattle.ff_ring.specs.Subsets.{IsModule, Product};
+ghost use Rattle.order_theory.specs.Orders.{IsOrder};
 ghost use Rattle.lattice_theory.specs.Lattices.{IsLattice};
 ghost use Rattle.ideal_theory.specs.Ideals.{IsDivisorOn, IsDivisorOf, DivisorIdeal, HasValuesOf};
 ghost use Rattle.ideal_theory.specs.Indices.{HasRelativeIndex};
+ghost use Rattle.ideal_theory.specs.Records.{IsAdmitted};
 
 use lattice_theory::FunctionSets;
 
@@ -60,4 +63,15 @@ pub fn principal_ideal_law()
     ensures index { (k : CodeField) (c : Equation k) (z y : FunctionOf c) (D : Divisor (FunctionOf c)) (d : ℤ) → ¬ (discriminant c ≡ (polynomials k).𝟘)
         → (ring_of c).◌⊗◌ z y ≡ (ring_of c).𝟙 → IsDivisorOf (setting_of c) Finite D z → HasTotalDegree (setting_of c) D d
         → HasRelativeIndex c (Multiple (ring_of c).ops z (IsIntegralAt (setting_of c) Finite)) (IsIntegralAt (setting_of c) Finite) d }
+{}
+
+/// Products and inverses of lattices that are admitted over an order are admitted: at each irreducible polynomial the order is maximal, or the lattice is the
+/// order up to functions prime to it. An admitted lattice that is closed under the order is invertible.
+pub fn admitted_law<S: FunctionSets>()
+    ensures product { IsOrder S.equation S.first → IsAdmitted S.equation S.first S.second → IsAdmitted S.equation S.first S.third
+        → IsAdmitted S.equation S.first (Product (ring_of S.equation).ops S.second S.third) }
+    ensures inverse { IsOrder S.equation S.first → IsAdmitted S.equation S.first S.second
+        → IsAdmitted S.equation S.first (Inverse (ring_of S.equation).ops S.first S.second) }
+    ensures invertible { IsOrder S.equation S.first → IsLattice S.equation S.second → IsModule (ring_of S.equation).ops S.first S.second
+        → IsAdmitted S.equation S.first S.second → Invertible (ring_of S.equation).ops S.first S.second }
 {}
