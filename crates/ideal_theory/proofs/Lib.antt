@@ -1,0 +1,12 @@
+pub mod PowerValues
+pub mod DivisorIdeals
+pub mod FiniteSide
+pub mod RelativeIndex
+pub mod Factors
+pub mod InfiniteSide
+pub mod PrincipalIdeals
+pub mod DegreeIndex
+pub mod IdealIndices
+pub mod FinitePlaceLists
+pub mod SideIdeals
+pub mod Admitted

@@ -1,0 +1,3 @@
+pub mod Ideals
+pub mod Indices
+pub mod Records
