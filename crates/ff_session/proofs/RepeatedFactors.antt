@@ -118,8 +118,7 @@ module _ (k : CodeField) where
           → All (λ (g : List ℕ × ℕ). IsPrime k g.0 × ¬ (f.0 ≡ g.0)) gs
       others [] a b c = All-nil (λ (g : List ℕ × ℕ). IsPrime k g.0 × ¬ (f.0 ≡ g.0))
       others (g ∷ gs) a b c =
-          All-cons (λ (g : List ℕ × ℕ). IsPrime k g.0 × ¬ (f.0 ≡ g.0)) g gs
-          (
+          All-cons (λ (g : List ℕ × ℕ). IsPrime k g.0 × ¬ (f.0 ≡ g.0)) g gs (
             record { over = All-head (IsOver k.ops) g.0 (polys_of gs) a; irreducible = All-head (IsIrreducible k.ops) g.0 (polys_of gs) b },
             before_differs f.0 g.0 (All-head (IsBefore f.0) g.0 (polys_of gs) c),
           )

@@ -64,7 +64,7 @@ module _ {k : CodeField} (c : Equation k) where
             divides = (
               r.divides.0,
               ap ((polynomials k).◌⊗◌ p) r.divides.1 ∙ sym ((polynomials k).mul_assoc p d.0 r.divides.0)
-              ∙ ap (λ x. (polynomials k).◌⊗◌ x r.divides.0) (sym d.1),
+                  ∙ ap (λ x. (polynomials k).◌⊗◌ x r.divides.0) (sym d.1),
             );
           }
 
