@@ -1,30 +1,37 @@
 -- The greatest power of a prime over p that has a given lattice, in an order that is maximal at p.
-use Rattle.std.proofs.Common.{◌≡◌, ◌↔◌, ℕ, zero, suc, ◌+◌, ◌*◌, ◌≤◌, ◌<◌, pos, sym, subst, arith, le-mul_of_pos_right}
+use Rattle.std.proofs.Common.{◌≡◌, ◌↔◌, ◌⊎◌, List, ℕ, zero, suc, ◌+◌, ◌*◌, ◌≤◌, ◌<◌, pos, sym, subst, arith, le-mul_of_pos_right}
 use Rattle.std.specs.List.{Any}
 use Rattle.std.proofs.lemmas.Int.{ints}
 use Rattle.std.proofs.Math.IntN.{ℤ, ◌-ℤ◌}
 use Rattle.ff_ring.specs.Subsets.{Colon, IsModule}
 use Rattle.local_theory.specs.Ideals.{Inverse, SameSet, Power}
 use Rattle.local_theory.specs.Orders.{MaximalAt}
-use Rattle.local_theory.specs.Primes.{IsPrime}
+use Rattle.local_theory.specs.Primes.{IsPrime, Pair, AtLeast}
 use Rattle.local_theory.proofs.Compare.{prime_in_system}
-use Rattle.local_theory.proofs.Factorisation.{power_iff_colon}
+use Rattle.local_theory.proofs.Factorisation.{power_iff_colon, power_of_value, value_of_power}
 use Rattle.local_theory.proofs.Invertible.{inverse_is_module}
-use Rattle.local_theory.proofs.Primes.{ideal_module}
-use Rattle.local_theory.proofs.PrimeProducts.{power_monotone, power_within, inverse_same}
+use Rattle.local_theory.proofs.Primes.{ideal_module, pair_of_invertible}
+use Rattle.local_theory.proofs.PrimeProducts.{power_monotone, power_within, inverse_same, value_same}
 use Rattle.ff_fields.specs.Field.{CodeField}
 use Rattle.ff_poly.specs.Words.{IsIrreducible}
 use Rattle.ff_poly.specs.Polynomials.{Polynomial, codes_of}
 use Rattle.ff_algebra.specs.declared.elem.Side.TheVariants.{Finite}
-use Rattle.ff_algebra.specs.Places.{IsIntegralAt}
-use Rattle.ff_algebra.specs.Functions.{Equation, FunctionOf, ring_of, of_poly, setting_of}
+use Rattle.ff_algebra.specs.Places.{Place, IsPlace, IsIn, IsIntegralAt, LiesOver, HasValuationAtLeast}
+use Rattle.ff_algebra.specs.Functions.{Equation, FunctionOf, ring_of, of_poly, IsPolynomial, setting_of}
+use Rattle.ff_algebra.proofs.ScalarRings.{polynomials_subring, scalars_subring}
+use Rattle.places_theory.specs.Orders.{IsOrderAt, InPrime}
+use Rattle.places_theory.proofs.PlaceValues.{value_iff, place_prime as prime_at_order}
+use Rattle.lattice_theory.proofs.Lattices.{lattice_module}
 use Rattle.lattice_theory.specs.Lattices.{IsLattice, HasIndex}
 use Rattle.lattice_theory.proofs.Indices.{index_add, index_none, index_of, index_once, index_zero}
 use Rattle.lattice_theory.proofs.Operations.{lattice_within}
-use Rattle.order_theory.specs.Orders.{IsOrder}
+use Rattle.order_theory.specs.Orders.{IsOrder, IsPrimeTo}
+use Rattle.order_theory.proofs.FinitePlaces.{finite, place_prime}
+use Rattle.order_theory.proofs.LocalOrders.{prime_to, order_integral, maximal_iff}
 use Rattle.order_theory.proofs.PrimesOver.{Index, PrimeOf, prime_is, prime_lattice, prime_invertible, prime_over, ideal_lattice, order_generators, family_of, primes_at}
 use Rattle.order_theory.proofs.ReductionAt.{p_in}
 use Rattle.ideal_theory.proofs.IdealIndices.{IsInvertibleLattice, invertible_same, power_of_prime}
+use Rattle.ideal_theory.proofs.PowerValues.{on_side}
 use Rattle.ideal_theory.proofs.RelativeIndex.{relative_at}
 
 module _ {k : CodeField} (c : Equation k) (p : Polynomial k) (h : IsIrreducible k.ops (codes_of k p)) (O : FunctionOf c → Type 0) (𝓞 : IsOrder c O)
@@ -75,6 +82,26 @@ module _ {k : CodeField} (c : Equation k) (p : Polynomial k) (h : IsIrreducible 
             (power_monotone (ring_of c) O 𝓞.ring (Inverse ops O Q) (Inverse ops O P) (inverse_is_module (ring_of c) O 𝓞.ring P) (inverse_same (ring_of c) O 𝓞.ring Q P (λ x. (s x).1)) m y n))),
       )
 
+  -- of members of the order, it is those of a value of at least m
+  pub power_by_value : (t : Pair (ring_of c).ops O P) (m : ℕ) (z : FunctionOf c) → O z
+      → AtLeast (ring_of c).ops O P t.tau t.gamma z m 0 ↔ Power (ring_of c).ops O P m z
+  power_by_value t m z z_in =
+      let i = listed.0 in
+      let s = listed.1 in
+      let Q = PrimeOf c p h O 𝓞 i in
+      let 𝓠 = prime_is c p h O 𝓞 i in
+      let fam = family_of c p h O 𝓞 maximal in
+      let l = primes_at c p h O 𝓞 maximal in (
+        λ v.
+            power_monotone (ring_of c) O 𝓞.ring Q P 𝓜 (λ x. (s x).0) m z
+            (power_of_value (ring_of c) O 𝓞.ring (of_poly c p) (p_in c p h O 𝓞) (Index c p h O 𝓞) (PrimeOf c p h O 𝓞) fam l.list l.system i (prime_over c p h O 𝓞 i) m z z_in
+            (value_same (ring_of c) O 𝓞.ring P Q 𝓟 𝓠 t (fam.pair i) (λ x. ((s x).1, (s x).0)) z m 0 v)),
+        λ w.
+            value_same (ring_of c) O 𝓞.ring Q P 𝓠 𝓟 (fam.pair i) t s z m 0
+            (value_of_power (ring_of c) O 𝓞.ring (of_poly c p) (p_in c p h O 𝓞) (Index c p h O 𝓞) (PrimeOf c p h O 𝓞) fam l.list l.system i m z
+            (power_monotone (ring_of c) O 𝓞.ring P Q (ideal_module (ring_of c) O 𝓞.ring Q 𝓠.ideal) (λ x. (s x).1) m z w)),
+      )
+
   module _ (D : FunctionOf c → Type 0) (𝓓 : IsLattice c D) (within : (z : FunctionOf c) → D z → O z) where
     abbrev Fits : ℕ → Type 0
     Fits m = (z : FunctionOf c) → D z → Power (ring_of c).ops O P m z
@@ -120,3 +147,44 @@ module _ {k : CodeField} (c : Equation k) (p : Polynomial k) (h : IsIrreducible 
             go m fits
             (lattice_within c D (Power ops O P (suc m)) 𝓓 (power_of_prime c O 𝓞 P 𝓟 prime_lattice_invertible prime_size.0 prime_size.1 (suc m)).0.lattice)
             (λ more. search fuel (suc m) more (omega (arith, l)))
+
+-- the powers of the prime of a finite place over p are the values at the place
+module _ {k : CodeField} (c : Equation k) (p : Polynomial k) (h : IsIrreducible k.ops (codes_of k p)) (O : FunctionOf c → Type 0) (𝓞 : IsOrder c O)
+    (maximal : MaximalAt (ring_of c).ops (of_poly c p) (IsIntegralAt (setting_of c) Finite) O) where
+  open ring_of c use {ops, 𝟙, ◌⊗◌}
+
+  polynomial_in : (s : FunctionOf c) → IsPolynomial c s → O s
+  polynomial_in s m = subst O ((ring_of c).mul_one s) ((lattice_module c O 𝓞.lattice).scale_in s 𝟙 m 𝓞.ring.one_in)
+
+  order_at : IsOrderAt (setting_of c) Finite (IsPolynomial c) (IsPrimeTo c p) (of_poly c p) O
+  order_at = record {
+    base_ring = polynomials_subring c;
+    prime_to = prime_to c p h;
+    ring = 𝓞.ring;
+    base = polynomial_in;
+    integral = order_integral c O 𝓞;
+    locally = (maximal_iff c p h O 𝓞.lattice).0 maximal;
+  }
+
+  pub power_at_place : (M : Place (FunctionOf c)) → IsPlace (setting_of c) M → LiesOver (setting_of c) M (of_poly c p) → (z : FunctionOf c) → O z → (m : ℕ)
+      → HasValuationAtLeast (setting_of c) M z (pos m) ↔ Power (ring_of c).ops O (InPrime (setting_of c) M O) m z
+  power_at_place M place over =
+      on_side (setting_of c) (scalars_subring c) Finite
+      (λ M. IsPlace (setting_of c) M → IsIn (setting_of c) M (of_poly c p) → (z : FunctionOf c) → O z → (m : ℕ)
+      → HasValuationAtLeast (setting_of c) M z (pos m) ↔ Power ops O (InPrime (setting_of c) M O) m z)
+      at M over.side place over.member
+    where
+      decide : (gs : List (FunctionOf c)) → IsPlace (setting_of c) (finite c gs) → (u : FunctionOf c) → O u
+          → IsIn (setting_of c) (finite c gs) u ⊎ (¬ (IsIn (setting_of c) (finite c gs) u))
+      decide gs place u u_in = (place_prime c gs place).decide u (order_integral c O 𝓞 u u_in)
+
+      at : (gs : List (FunctionOf c)) → IsPlace (setting_of c) (finite c gs) → IsIn (setting_of c) (finite c gs) (of_poly c p) → (z : FunctionOf c) → O z → (m : ℕ)
+          → HasValuationAtLeast (setting_of c) (finite c gs) z (pos m) ↔ Power (ring_of c).ops O (InPrime (setting_of c) (finite c gs) O) m z
+      at gs place m_in z z_in m =
+          let S = setting_of c in
+          let P = InPrime S (finite c gs) O in
+          let 𝓟 = prime_at_order S (scalars_subring c) (finite c gs) place (IsPolynomial c) (IsPrimeTo c p) O (of_poly c p) order_at m_in (decide gs place) in
+          let over : P (of_poly c p) = (p_in c p h O 𝓞, m_in) in
+          let t = pair_of_invertible (ring_of c) O 𝓞.ring P 𝓟 (prime_lattice_invertible c p h O 𝓞 maximal P 𝓟 over).invertible in
+          let v = value_iff S (scalars_subring c) (finite c gs) place (IsPolynomial c) (IsPrimeTo c p) O (of_poly c p) order_at m_in (decide gs place) t z (pos m) in
+          let w = power_by_value c p h O 𝓞 maximal P 𝓟 over t m z z_in in (λ x. w.0 (v.0 x), λ x. v.1 (w.1 x))

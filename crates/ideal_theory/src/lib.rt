@@ -11,8 +11,10 @@ ghost use Rattle.ff_algebra.specs.declared.elem.Side.{Side};
 ghost use Rattle.ff_algebra.specs.declared.elem.Side.TheVariants.{Finite, Infinite};
 ghost use Rattle.ff_algebra.specs.Functions.{Equation, FunctionOf, ring_of, of_poly, y_of, degree_of_y, setting_of};
 ghost use Rattle.ff_algebra.specs.Discriminant.{discriminant};
-ghost use Rattle.ff_algebra.specs.Divisors.{Divisor, HasTotalDegree};
-ghost use Rattle.ff_algebra.specs.Places.{IsIntegralAt};
+ghost use Rattle.ff_algebra.specs.Divisors.{Divisor, HasTotalDegree, MeetsOn};
+ghost use Rattle.ff_algebra.specs.Places.{Place, IsPlace, LiesOver, IsIntegralAt, HasValuationAtLeast};
+ghost use Rattle.places_theory.specs.Orders.{InPrime};
+ghost use Rattle.std.proofs.Common.{pos};
 ghost use Rattle.local_theory.specs.Ideals.{SameSet, Multiple, Inverse, Invertible, Power};
 ghost use Rattle.local_theory.specs.Orders.{MaximalAt};
 ghost use Rattle.local_theory.specs.Primes.{IsPrime};
@@ -22,7 +24,7 @@ ghost use Rattle.ff_ring.specs.Ring.{pow};
 ghost use Rattle.ff_ring.specs.Subsets.{IsModule, Product, Colon};
 ghost use Rattle.order_theory.specs.Orders.{IsOrder};
 ghost use Rattle.lattice_theory.specs.Lattices.{IsLattice};
-ghost use Rattle.ideal_theory.specs.Ideals.{IsDivisorOn, IsDivisorOf, DivisorIdeal, HasValuesOf};
+ghost use Rattle.ideal_theory.specs.Ideals.{IsDivisorOn, IsDivisorOf, DivisorIdeal, HasValuesOf, opposite_divisor};
 ghost use Rattle.ideal_theory.specs.Indices.{HasRelativeIndex};
 ghost use Rattle.ideal_theory.specs.Records.{IsAdmitted, RowSpan, RecordedPrime, ProductOfPowers, IsRecordAt, AreAllPlaces};
 
@@ -82,14 +84,20 @@ pub fn admitted_law<S: FunctionSets>()
         → IsAdmitted S.equation S.first S.second → Invertible (ring_of S.equation).ops S.first S.second }
 {}
 
-/// In an order that is maximal at p, a function lies in a power of a prime over p exactly where the power of the inverse takes it into the order; and of the
-/// powers that have a given lattice within the order there is a greatest exponent.
+/// In an order that is maximal at p, a function lies in a power of a prime over p exactly where the power of the inverse takes it into the order; for the
+/// prime of a place over p, a member of the order does where its value is at least the exponent; and of the powers that have a given lattice within the order
+/// there is a greatest exponent.
 pub fn greatest_power_law<S: FunctionSets>()
     ensures inverse { (p : Polynomial S.field) → IsIrreducible S.field.ops (codes_of S.field p) → IsOrder S.equation S.first
         → MaximalAt (ring_of S.equation).ops (of_poly S.equation p) (IsIntegralAt (setting_of S.equation) Finite) S.first
         → IsPrime (ring_of S.equation).ops S.first S.second → S.second (of_poly S.equation p) → (m : ℕ) (z : FunctionOf S.equation)
         → Power (ring_of S.equation).ops S.first S.second m z
         ↔ Colon (ring_of S.equation).ops S.first (Power (ring_of S.equation).ops S.first (Inverse (ring_of S.equation).ops S.first S.second) m) z }
+    ensures value { (p : Polynomial S.field) → IsIrreducible S.field.ops (codes_of S.field p) → IsOrder S.equation S.first
+        → MaximalAt (ring_of S.equation).ops (of_poly S.equation p) (IsIntegralAt (setting_of S.equation) Finite) S.first
+        → (M : Place (FunctionOf S.equation)) → IsPlace (setting_of S.equation) M → LiesOver (setting_of S.equation) M (of_poly S.equation p)
+        → (z : FunctionOf S.equation) → S.first z → (m : ℕ) → HasValuationAtLeast (setting_of S.equation) M z (pos m)
+        ↔ Power (ring_of S.equation).ops S.first (InPrime (setting_of S.equation) M S.first) m z }
     ensures greatest { (p : Polynomial S.field) → IsIrreducible S.field.ops (codes_of S.field p) → IsOrder S.equation S.first
         → MaximalAt (ring_of S.equation).ops (of_poly S.equation p) (IsIntegralAt (setting_of S.equation) Finite) S.first
         → IsPrime (ring_of S.equation).ops S.first S.second → S.second (of_poly S.equation p)
@@ -122,6 +130,12 @@ pub fn recorded_places_law()
     ensures { (k : CodeField) (c : Equation k) (p : Polynomial k) (ps : List (RecordedPrime c (IsIntegralAt (setting_of c) Finite)))
         → ¬ (discriminant c ≡ (polynomials k).𝟘) → IsIrreducible k.ops (codes_of k p) → IsRecordAt c (IsIntegralAt (setting_of c) Finite) p ps
         → AreAllPlaces c p ps }
+{}
+
+/// The conditions of L(D) on a side are those of the ideal of -D.
+pub fn space_conditions_law()
+    ensures { (k : CodeField) (c : Equation k) (s : Side) (D : Divisor (FunctionOf c)) → ¬ (discriminant c ≡ (polynomials k).𝟘)
+        → IsDivisorOn (setting_of c) s D → (z : FunctionOf c) → DivisorIdeal (setting_of c) s (opposite_divisor D) z ↔ MeetsOn (setting_of c) D s z }
 {}
 
 /// An order with 1, y, up to y^(n-1) is that of all integral functions where it is maximal at each irreducible polynomial whose square divides the
