@@ -1,6 +1,6 @@
 -- The ideal of a divisor is its conditions at all places of its side, where the places of the side are invertible primes of the ring of integral
 -- functions, and this ring is all functions without poles on the side.
-use Rattle.std.proofs.Common.{◌≡◌, ◌⊎◌, ◌↔◌, inl, inr, ℕ, zero, suc, ◌+◌, List, [], ◌∷◌, refl, sym, ◌∙◌, subst, arith, All}
+use Rattle.std.proofs.Common.{◌≡◌, ◌⊎◌, ◌↔◌, inl, inr, zero, suc, ◌+◌, List, [], ◌∷◌, refl, sym, ◌∙◌, subst, arith, All}
 use Rattle.std.specs.List.{AllPairs}
 use Rattle.std.specs.Prelude.{neg_ℤ}
 use Rattle.std.proofs.lemmas.List.Elements.{All-nil, All-cons, All-head, All-tail, All-weaker}
@@ -27,7 +27,7 @@ use Rattle.ff_algebra.specs.Places.{Place, IsPlace, IsSamePlace, IsIntegralAt, I
 use Rattle.ff_algebra.specs.Divisors.{Entry, Divisor, HasMultiplicity, MeetsOn}
 use Rattle.places_theory.proofs.Sides.{side_ring, scalar_integral}
 use Rattle.places_theory.proofs.SamePlaces.{same_place_sym, same_place_trans}
-use Rattle.places_theory.proofs.Multiplicities.{multiplicity_exists, multiplicity_elsewhere, multiplicity_unique}
+use Rattle.places_theory.proofs.Multiplicities.{multiplicity_exists, multiplicity_elsewhere}
 use Rattle.places_theory.proofs.Valuations.{at_least_of_integral, at_least_product, at_least_weaker}
 use Rattle.ideal_theory.specs.Ideals.{IsDivisorOn, DivisorIdeal, HasValuesOf, opposite_divisor}
 use Rattle.ideal_theory.proofs.PowerValues.{place_at, on_side, values_additive, same_value, other_value}

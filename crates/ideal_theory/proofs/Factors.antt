@@ -1,5 +1,5 @@
 -- Each polynomial other than 0 divides a product of irreducible polynomials.
-use Rattle.std.proofs.Common.{◌≡◌, ◌⊎◌, inl, inr, ℕ, zero, suc, ◌<◌, ◌≤◌, List, [], ◌∷◌, length, All, refl, sym, ◌∙◌, ap, subst, arith}
+use Rattle.std.proofs.Common.{◌≡◌, ◌⊎◌, inl, inr, ℕ, zero, suc, ◌<◌, ◌≤◌, List, [], ◌∷◌, length, All, sym, ◌∙◌, ap, subst, arith}
 use Rattle.std.proofs.lemmas.List.{length-map}
 use Rattle.std.proofs.lemmas.List.Elements.{All-nil, All-cons}
 use Rattle.ff_ring.specs.Lists.{coeff_of}
@@ -64,7 +64,7 @@ module _ {k : CodeField} (c : Equation k) where
             divides = (
               r.divides.0,
               ap ((polynomials k).◌⊗◌ p) r.divides.1 ∙ sym ((polynomials k).mul_assoc p d.0 r.divides.0)
-              ∙ ap (λ x. (polynomials k).◌⊗◌ x r.divides.0) (sym d.1),
+                  ∙ ap (λ x. (polynomials k).◌⊗◌ x r.divides.0) (sym d.1),
             );
           }
 

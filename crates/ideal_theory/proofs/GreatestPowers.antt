@@ -1,8 +1,7 @@
 -- The greatest power of a prime over p that has a given lattice, in an order that is maximal at p.
-use Rattle.std.proofs.Common.{◌≡◌, ◌↔◌, ◌⊎◌, List, ℕ, zero, suc, ◌+◌, ◌*◌, ◌≤◌, ◌<◌, pos, sym, subst, arith, le-mul_of_pos_right}
-use Rattle.std.specs.List.{Any}
+use Rattle.std.proofs.Common.{◌≡◌, ◌↔◌, ◌⊎◌, List, ℕ, zero, suc, ◌+◌, ◌*◌, ◌≤◌, ◌<◌, pos, subst, arith, le-mul_of_pos_right}
 use Rattle.std.proofs.lemmas.Int.{ints}
-use Rattle.std.proofs.Math.IntN.{ℤ, ◌-ℤ◌}
+use Rattle.std.proofs.Math.IntN.{◌-ℤ◌}
 use Rattle.ff_ring.specs.Subsets.{Colon, IsModule}
 use Rattle.local_theory.specs.Ideals.{Inverse, SameSet, Power}
 use Rattle.local_theory.specs.Orders.{MaximalAt}

@@ -1,7 +1,6 @@
 -- The index of the product of a power of a prime with an invertible lattice, relative to the lattice, is the exponent times the index of the prime; so
 -- the index of the ideal of a divisor relative to the integral functions is its degree.
-use Rattle.std.proofs.Common.{◌≡◌, ℕ, zero, suc, ◌+◌, ◌*◌, List, [], ◌∷◌, refl, sym, subst, arith, All, suc-mul}
-use Rattle.std.proofs.lemmas.List.Elements.{All-head, All-tail}
+use Rattle.std.proofs.Common.{◌≡◌, ℕ, zero, suc, ◌+◌, ◌*◌, sym, subst, arith, suc-mul}
 use Rattle.std.proofs.lemmas.Int.{ints}
 use Rattle.std.proofs.Math.IntN.{ℤ, pos, negsuc, ◌+ℤ◌, ◌-ℤ◌, ◌*ℤ◌}
 use Rattle.ff_ring.specs.Subsets.{IsModule, Product}

@@ -1,12 +1,11 @@
 -- A record of primes over p for the maximal order lists the places over p, with their ramification indices and degrees.
-use Rattle.std.proofs.Common.{◌≡◌, ◌⊎◌, inl, inr, ℕ, zero, suc, ◌+◌, ◌*◌, ◌≤◌, ◌<◌, List, [], ◌∷◌, map, get_or, pos, refl, sym, ◌∙◌, ap, subst, arith, All, suc-mul, mul-le-mul_right}
+use Rattle.std.proofs.Common.{◌≡◌, ◌⊎◌, inl, inr, ℕ, zero, suc, ◌+◌, ◌*◌, ◌≤◌, List, [], ◌∷◌, pos, refl, sym, ◌∙◌, subst, arith, All, suc-mul, mul-le-mul_right}
 use Rattle.std.specs.Prelude.{ℤ}
-use Rattle.std.specs.List.{Any, AllPairs}
 use Rattle.std.proofs.lemmas.List.Elements.{All-nil, All-cons, All-head, All-tail, All-weaker}
 use Rattle.local_theory.specs.Ideals.{SameSet}
-use Rattle.local_theory.specs.IntegerValues.{ValueIs, entry}
+use Rattle.local_theory.specs.IntegerValues.{ValueIs}
 use Rattle.local_theory.specs.Primes.{Pair, Outside, AtLeast}
-use Rattle.local_theory.specs.Systems.{IdealProduct, IsFamily, IsSystem, Distinct}
+use Rattle.local_theory.specs.Systems.{IsFamily, IsSystem, Distinct}
 use Rattle.local_theory.proofs.Compare.{prime_in_system}
 use Rattle.local_theory.proofs.Factorisation.{values_of_entries}
 use Rattle.local_theory.proofs.IntegerFactors.{entries_integers, ramification_of}
@@ -15,8 +14,7 @@ use Rattle.local_theory.proofs.Valuation.{ge_bounded}
 use Rattle.ff_fields.specs.Field.{CodeField}
 use Rattle.ff_poly.specs.Words.{IsIrreducible}
 use Rattle.ff_poly.specs.Polynomials.{Polynomial, polynomials, codes_of}
-use Rattle.ff_algebra.specs.declared.elem.Side.TheVariants.{Finite}
-use Rattle.ff_algebra.specs.Places.{Place, IsPlace, IsIn, IsSamePlace, LiesOver, HasValuation}
+use Rattle.ff_algebra.specs.Places.{IsPlace, IsIn, IsSamePlace, LiesOver, HasValuation}
 use Rattle.ff_algebra.specs.Divisors.{HasDegree, HasRamification}
 use Rattle.ff_algebra.specs.Functions.{Equation, FunctionOf, ring_of, of_poly, IsPolynomial, setting_of}
 use Rattle.ff_algebra.specs.Discriminant.{discriminant}
@@ -39,7 +37,7 @@ use Rattle.order_theory.proofs.ReductionAt.{pO, p_in}
 use Rattle.order_theory.proofs.SideOfPlaces.{lattice_of_place, prime_of_place}
 use Rattle.ideal_theory.specs.Records.{RecordedPrime, IsRecordAt, AreAllPlaces, place_of_rows}
 use Rattle.ideal_theory.proofs.FiniteSide.{maximal_order}
-use Rattle.ideal_theory.proofs.Records.{IdealOf, Powers, recorded_family, recorded_factor, powers_index, record_powers, record_system, record_distinct}
+use Rattle.ideal_theory.proofs.Records.{IdealOf, Powers, recorded_family, powers_index, record_powers, record_system, record_distinct}
 
 -- where exponents are bounded by others with the same sum of products, they are equal
 module _ {I : Type 0} (e f d : I → ℕ) (some : (i : I) → 1 ≤ d i) where

@@ -1,8 +1,6 @@
 -- The ideals of a record of primes are a prime system at p with the product p·O, so the order is maximal at p.
-use Rattle.std.proofs.Common.{◌≡◌, ◌⊎◌, inl, inr, ℕ, zero, suc, ◌+◌, ◌*◌, ◌-◌, ◌≤◌, List, [], ◌∷◌, map, length, get_or, pos, refl, sym, ◌∙◌, ap, ap₂, subst, arith, All}
-use Rattle.std.specs.List.{AllPairs}
-use Rattle.std.proofs.lemmas.List.Elements.{All-head, All-tail}
-use Rattle.ff_ring.specs.Subsets.{IsModule, Product}
+use Rattle.std.proofs.Common.{◌≡◌, ◌⊎◌, inl, inr, ℕ, suc, ◌+◌, ◌*◌, ◌-◌, List, [], ◌∷◌, map, length, get_or, pos, refl, sym, ap, ap₂, subst, arith}
+use Rattle.ff_ring.specs.Subsets.{IsModule}
 use Rattle.ff_ring.proofs.Subsets.{product_member, product_module}
 use Rattle.local_theory.specs.Ideals.{Inverse, Invertible, SameSet, Multiple, Power}
 use Rattle.local_theory.specs.IntegerValues.{entry}
@@ -23,7 +21,6 @@ use Rattle.ff_algebra.specs.declared.elem.Side.TheVariants.{Finite}
 use Rattle.ff_algebra.specs.Places.{IsIntegralAt}
 use Rattle.ff_algebra.specs.Functions.{Equation, FunctionOf, ring_of, of_poly, IsPolynomial, degree_of_y, setting_of}
 use Rattle.lattice_theory.specs.Lattices.{HasIndex}
-use Rattle.lattice_theory.proofs.Bases.{index_same}
 use Rattle.lattice_theory.proofs.Indices.{index_add, index_of, index_once, index_zero}
 use Rattle.lattice_theory.proofs.Lattices.{lattice_decided, lattice_module}
 use Rattle.order_theory.specs.Orders.{IsOrder}

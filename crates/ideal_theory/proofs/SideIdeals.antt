@@ -1,20 +1,17 @@
 -- The divisors and the ideals of functions, on each side.
-use Rattle.std.proofs.Common.{◌≡◌, ◌⊎◌, ◌↔◌, inr, ℕ, List, [], ◌∷◌, map, pos, refl, subst, All}
+use Rattle.std.proofs.Common.{◌≡◌, ◌↔◌, inr, [], ◌∷◌, map, pos, All}
 use Rattle.std.specs.Prelude.{ℤ, ◌+ℤ◌, ◌*ℤ◌}
-use Rattle.std.specs.List.{Any}
 use Rattle.std.proofs.lemmas.List.Elements.{All-head, All-tail}
 use Rattle.local_theory.specs.Ideals.{Multiple, SameSet}
-use Rattle.local_theory.specs.IntegerValues.{PrimePower}
 use Rattle.local_theory.proofs.Lists.{both}
 use Rattle.ff_fields.specs.Field.{CodeField}
 use Rattle.ff_poly.specs.Polynomials.{polynomials}
 use Rattle.ff_algebra.specs.declared.elem.Side.{Side}
 use Rattle.ff_algebra.specs.declared.elem.Side.TheVariants.{Finite, Infinite}
-use Rattle.ff_algebra.specs.Places.{Place, IsPlace, IsIn, IsSamePlace, IsIntegralAt, HasValuation}
+use Rattle.ff_algebra.specs.Places.{Place, IsPlace, IsIn, IsSamePlace, IsIntegralAt}
 use Rattle.ff_algebra.specs.Divisors.{Entry, Divisor, HasTotalDegree, MeetsOn, none, entry}
 use Rattle.ff_algebra.specs.Functions.{Equation, FunctionOf, ring_of, setting_of}
 use Rattle.ff_algebra.specs.Discriminant.{discriminant}
-use Rattle.ff_algebra.proofs.ScalarRings.{scalars_subring}
 use Rattle.lattice_theory.specs.Lattices.{IsLattice}
 use Rattle.lattice_theory.proofs.Indices.{index_none}
 use Rattle.order_theory.proofs.FinitePlaces.{Int}
