@@ -7,8 +7,7 @@ use Rattle.local_theory.specs.Ideals.{Inverse}
 use Rattle.local_theory.specs.Orders.{MaximalAt}
 use Rattle.local_theory.proofs.Products.{product_universal, own_module, additive_of_module}
 use Rattle.ff_fields.specs.Field.{CodeField}
-use Rattle.ff_poly.specs.Words.{IsIrreducible}
-use Rattle.ff_poly.specs.Polynomials.{Polynomial, codes_of}
+use Rattle.ff_poly.specs.Polynomials.{Polynomial}
 use Rattle.ff_algebra.specs.declared.elem.Side.TheVariants.{Finite}
 use Rattle.ff_algebra.specs.Places.{IsIntegralAt}
 use Rattle.ff_algebra.specs.Functions.{Equation, FunctionOf, ring_of, of_poly, setting_of}

@@ -3,14 +3,14 @@ use Rattle.std.proofs.Common.{◌≡◌, All, ℕ, zero, suc, ◌<◌, List, [],
 use Rattle.std.proofs.lemmas.List.Elements.{All-nil, All-cons, All-head, All-tail}
 use Rattle.ff_ring.specs.Lists.{coeff_of}
 use Rattle.ff_ring.specs.Subsets.{Span}
-use Rattle.ff_ring.proofs.Solver.{ring, reads, from_one}
+use Rattle.ff_ring.proofs.Solver.{ring, reads}
 use Rattle.ff_ring.proofs.Evaluate.{constant, length_trim}
 use Rattle.ff_ring.proofs.Lists.{coeff_trim}
 use Rattle.ff_ring.proofs.Polynomials.{pol_ops}
 use Rattle.linear_theory.specs.Module.{combine}
 use Rattle.ff_fields.specs.Field.{CodeField}
 use Rattle.ff_fields.specs.Code.{Code, code_ring}
-use Rattle.ff_poly.specs.Polynomials.{Polynomial, polynomials, polynomial_discrete}
+use Rattle.ff_poly.specs.Polynomials.{polynomials, polynomial_discrete}
 use Rattle.ff_algebra.specs.declared.elem.Side.TheVariants.{Finite}
 use Rattle.ff_algebra.specs.Spans.{combination}
 use Rattle.ff_algebra.specs.Places.{Place, IsPlace, IsIn}

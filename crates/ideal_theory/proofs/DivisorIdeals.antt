@@ -1,6 +1,6 @@
 -- The ideal of a divisor is its conditions at all places of its side, where the places of the side are invertible primes of the ring of integral
 -- functions, and this ring is all functions without poles on the side.
-use Rattle.std.proofs.Common.{◌≡◌, ◌⊎◌, ◌↔◌, inl, inr, ℕ, zero, suc, ◌+◌, List, [], ◌∷◌, refl, sym, ◌∙◌, subst, arith, All}
+use Rattle.std.proofs.Common.{◌≡◌, ◌⊎◌, ◌↔◌, inl, inr, zero, suc, ◌+◌, List, [], ◌∷◌, refl, sym, ◌∙◌, subst, arith, All}
 use Rattle.std.specs.List.{AllPairs}
 use Rattle.std.specs.Prelude.{neg_ℤ}
 use Rattle.std.proofs.lemmas.List.Elements.{All-nil, All-cons, All-head, All-tail, All-weaker}
@@ -24,10 +24,10 @@ use Rattle.local_theory.proofs.Scalars.{span_wider}
 use Rattle.ff_algebra.specs.declared.elem.Side.{Side}
 use Rattle.ff_algebra.specs.Setting.{Setting}
 use Rattle.ff_algebra.specs.Places.{Place, IsPlace, IsSamePlace, IsIntegralAt, IsIn, HasValuationAtLeast}
-use Rattle.ff_algebra.specs.Divisors.{Entry, Divisor, HasMultiplicity}
+use Rattle.ff_algebra.specs.Divisors.{Entry, Divisor, HasMultiplicity, MeetsOn}
 use Rattle.places_theory.proofs.Sides.{side_ring, scalar_integral}
 use Rattle.places_theory.proofs.SamePlaces.{same_place_sym, same_place_trans}
-use Rattle.places_theory.proofs.Multiplicities.{multiplicity_exists, multiplicity_elsewhere, multiplicity_unique}
+use Rattle.places_theory.proofs.Multiplicities.{multiplicity_exists, multiplicity_elsewhere}
 use Rattle.places_theory.proofs.Valuations.{at_least_of_integral, at_least_product, at_least_weaker}
 use Rattle.ideal_theory.specs.Ideals.{IsDivisorOn, DivisorIdeal, HasValuesOf, opposite_divisor}
 use Rattle.ideal_theory.proofs.PowerValues.{place_at, on_side, values_additive, same_value, other_value}
@@ -47,6 +47,14 @@ module _ {E : Type 0} (S : Setting E) where
   multiplicity_opposite (e ∷ D) P m (inl h) = inl (h.0, subst (λ n. neg_ℤ e.times ≡ neg_ℤ n) h.1 refl)
   multiplicity_opposite (e ∷ D) P m (inr h) = inr (h.0, multiplicity_opposite D P m h.1)
 
+  multiplicity_opposite_back : (D : Divisor E) (P : Place E) (m : ℤ) → HasMultiplicity S (opposite_divisor D) P m → HasMultiplicity S D P (neg_ℤ m)
+  multiplicity_opposite_back [] P m h = subst (λ n. neg_ℤ n ≡ pos 0) (sym h) refl
+  multiplicity_opposite_back (e ∷ D) P m (inl h) = inl (h.0, twice e.times m h.1)
+    where
+      twice : (a b : ℤ) → neg_ℤ a ≡ b → a ≡ neg_ℤ b
+      twice a b e = omega (arith, ints)
+  multiplicity_opposite_back (e ∷ D) P m (inr h) = inr (h.0, multiplicity_opposite_back D P m h.1)
+
   opposite_all : (T : Place E → Type 0) (D : Divisor E) → All (λ e. T e.place) D → All (λ e. T e.place) (opposite_divisor D)
   opposite_all T [] h = All-nil (λ e. T e.place)
   opposite_all T (e ∷ D) h =
@@ -60,6 +68,23 @@ module _ {E : Type 0} (S : Setting E) where
       AllPairs-cons (λ e e'. ¬ IsSamePlace S e.place e'.place) (record { place = e.place; times = neg_ℤ e.times }) (opposite_divisor D)
       (opposite_all (λ P. ¬ IsSamePlace S e.place P) D (pairs_head (λ e e'. ¬ IsSamePlace S e.place e'.place) e D h))
       (opposite_apart D (pairs_tail (λ e e'. ¬ IsSamePlace S e.place e'.place) e D h))
+
+  pub opposite_on : (s : Side) (D : Divisor E) → IsDivisorOn S s D → IsDivisorOn S s (opposite_divisor D)
+  opposite_on s D on = record {
+    divisor = record { places = opposite_all (IsPlace S) D on.divisor.places; different = opposite_apart D on.divisor.different };
+    sides = opposite_all (λ P. P.side ≡ s) D on.sides;
+  }
+
+  -- the conditions of L(D) on a side are the values of -D
+  pub meets_opposite : (s : Side) (D : Divisor E) (z : E) → HasValuesOf S s (opposite_divisor D) z ↔ MeetsOn S D s z
+  meets_opposite s D z = (
+    λ f P place e m h. f P place e (neg_ℤ m) (multiplicity_opposite D P m h),
+    λ f P place e m h.
+        subst (HasValuationAtLeast S P z) (again m) (f P place e (neg_ℤ m) (multiplicity_opposite_back D P m h)),
+  )
+    where
+      again : (m : ℤ) → neg_ℤ (neg_ℤ m) ≡ m
+      again m = omega (arith, ints)
 
 -- a side whose places are invertible primes
 module _ {E : Type 0} (S : Setting E) (scalars : (s : Side) → IsSubring S.functions.ops (S.IsScalar s)) (s : Side)

@@ -1,7 +1,6 @@
 -- The divisor of a function with an inverse on the finite side: the places over the irreducible factors of its denominator and that of its inverse are listed.
 use Rattle.std.proofs.Common.{◌≡◌, ◌⊎◌, inl, inr, List, [], ◌∷◌, ◌++◌, map, pos, refl, sym, ◌∙◌, subst, All}
 use Rattle.std.specs.List.{Any}
-use Rattle.std.specs.Prelude.{ℤ}
 use Rattle.std.proofs.lemmas.List.Elements.{All-head, All-tail}
 use Rattle.ff_ring.proofs.Ring.{product_not_zero}
 use Rattle.local_theory.proofs.Lists.{any_here, any_there, any_cases, any_none}
@@ -10,7 +9,6 @@ use Rattle.ff_poly.specs.Words.{IsIrreducible}
 use Rattle.ff_poly.specs.Polynomials.{Polynomial, polynomials, polynomials_domain, codes_of}
 use Rattle.ff_algebra.specs.declared.elem.Side.TheVariants.{Finite}
 use Rattle.ff_algebra.specs.Places.{Place, IsPlace, IsIn, IsSamePlace, HasValuation}
-use Rattle.ff_algebra.specs.Divisors.{Divisor}
 use Rattle.ff_algebra.specs.Functions.{Equation, FunctionOf, ring_of, of_poly, setting_of}
 use Rattle.ff_algebra.specs.Discriminant.{discriminant}
 use Rattle.ff_algebra.proofs.ScalarRings.{scalars_subring}

@@ -1,7 +1,6 @@
 -- The index of the product of a power of a prime with an invertible lattice, relative to the lattice, is the exponent times the index of the prime; so
 -- the index of the ideal of a divisor relative to the integral functions is its degree.
-use Rattle.std.proofs.Common.{◌≡◌, ℕ, zero, suc, ◌+◌, ◌*◌, List, [], ◌∷◌, refl, sym, subst, arith, All, suc-mul}
-use Rattle.std.proofs.lemmas.List.Elements.{All-head, All-tail}
+use Rattle.std.proofs.Common.{◌≡◌, ℕ, zero, suc, ◌+◌, ◌*◌, sym, subst, arith, suc-mul}
 use Rattle.std.proofs.lemmas.Int.{ints}
 use Rattle.std.proofs.Math.IntN.{ℤ, pos, negsuc, ◌+ℤ◌, ◌-ℤ◌, ◌*ℤ◌}
 use Rattle.ff_ring.specs.Subsets.{IsModule, Product}
@@ -167,4 +166,19 @@ module _ {k : CodeField} (c : Equation k) (O : FunctionOf c → Type 0) (𝓞 : 
           relative_same c U (Product ops (PrimePower ops O P m) X) X X s (λ z. (λ m. m, λ m. m)) (m *ℤ pos f)
               (subst (HasRelativeIndex c U X) (times_parts m f)
               (relative_add c U Z above.0.lattice below.0.lattice X h.lattice (pos (up m * f)) (pos 0 -ℤ pos (down m * f)) above.1 below.1)),
+        )
+
+    -- a power of the prime itself
+    pub power_of_prime : (m : ℕ) → IsInvertibleLattice (Power (ring_of c).ops O P m) × HasRelativeIndex c (Power (ring_of c).ops O P m) O (pos (m * f))
+    power_of_prime m =
+        let r = power_index P inv (pos f) (λ n. pos (n * f)) (let q : 0 * f ≡ 0 = omega arith in omega (arith, ints))
+        (λ n. let q : suc n * f ≡ n * f + f = suc-mul n f in omega (arith, ints)) step_up m O order_invertible in
+        let 𝓤 = power_module (ring_of c) O 𝓞.ring P inv.module_is m in
+        let s : SameSet (Product ops (Power ops O P m) O) (Power ops O P m)
+        = λ z. (
+          λ x. (product_one (ring_of c) O 𝓞.ring (Power ops O P m) 𝓤 z).0 (product_swap (ring_of c) O 𝓞.ring (Power ops O P m) O (own_module (ring_of c) O 𝓞.ring) z x),
+          λ x. product_swap (ring_of c) O 𝓞.ring O (Power ops O P m) 𝓤 z ((product_one (ring_of c) O 𝓞.ring (Power ops O P m) 𝓤 z).1 x),
+        ) in (
+          invertible_same (Product ops (Power ops O P m) O) (Power ops O P m) s r.0,
+          relative_same c (Product ops (Power ops O P m) O) (Power ops O P m) O O s (λ z. (λ x. x, λ x. x)) (pos (m * f)) r.1,
         )

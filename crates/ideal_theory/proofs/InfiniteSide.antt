@@ -1,5 +1,5 @@
 -- The infinite side: its places are invertible primes of O_inf, so the product of their powers is its conditions at the infinite places.
-use Rattle.std.proofs.Common.{◌≡◌, ◌↔◌, ◌⊎◌, inl, inr, ℕ, List, [], ◌∷◌, refl, sym, ◌∙◌, subst}
+use Rattle.std.proofs.Common.{◌≡◌, ◌↔◌, ◌⊎◌, inl, inr, ℕ, List, [], ◌∷◌, refl, sym, subst}
 use Rattle.ff_ring.specs.Subsets.{IsSubring, IsModule, Product}
 use Rattle.ff_ring.proofs.Ring.{one_mul}
 use Rattle.ff_ring.proofs.RowMaps.{hom_zero}
@@ -16,7 +16,6 @@ use Rattle.ff_algebra.specs.Divisors.{Divisor}
 use Rattle.ff_algebra.specs.Functions.{Equation, FunctionOf, ring_of, setting_of}
 use Rattle.ff_algebra.specs.Discriminant.{discriminant}
 use Rattle.ff_algebra.specs.Values.{PresValue, Functions, functions, setting, equation_of}
-use Rattle.ff_algebra.specs.Infinity.{IsInfinitePresentation}
 use Rattle.ff_algebra.proofs.ScalarRings.{scalars_subring}
 use Rattle.places_theory.proofs.PresentationMap.{presentation_map}
 use Rattle.places_theory.proofs.Sides.{side_ring, place_module, place_is_maximal}

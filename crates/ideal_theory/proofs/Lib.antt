@@ -10,3 +10,7 @@ pub mod IdealIndices
 pub mod FinitePlaceLists
 pub mod SideIdeals
 pub mod Admitted
+pub mod Records
+pub mod RecordPlaces
+pub mod RecordOrders
+pub mod GreatestPowers

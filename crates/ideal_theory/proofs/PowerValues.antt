@@ -1,10 +1,10 @@
 -- The values of the members of powers of places, at a place of the same side.
-use Rattle.std.proofs.Common.{◌≡◌, ℕ, zero, suc, ◌+◌, List, [], ◌∷◌, refl, sym, subst, arith}
+use Rattle.std.proofs.Common.{◌≡◌, ℕ, zero, suc, List, [], ◌∷◌, refl, sym, subst, arith}
 use Rattle.std.proofs.lemmas.Int.{ints}
 use Rattle.std.proofs.Math.IntN.{ℤ, pos, negsuc, ◌+ℤ◌}
 use Rattle.ff_ring.specs.Ring.{pow}
 use Rattle.ff_ring.specs.Subsets.{IsSubring}
-use Rattle.ff_ring.proofs.Ring.{one_mul, mul_zero, zero_mul}
+use Rattle.ff_ring.proofs.Ring.{one_mul, mul_zero}
 use Rattle.ff_ring.proofs.Solver.{ring, reads}
 use Rattle.local_theory.specs.Ideals.{IsAdditive, IsIdeal, SameSet, Inverse, Power}
 use Rattle.local_theory.specs.IntegerValues.{up, down, PrimePower}

@@ -1,11 +1,11 @@
 -- The divisor of a function with an inverse on a side, and the ideal of its multiples as the ideal of that divisor.
-use Rattle.std.proofs.Common.{◌≡◌, ◌⊎◌, ◌↔◌, inl, inr, ℕ, List, [], ◌∷◌, refl, sym, ◌∙◌, ap, subst, arith, All}
+use Rattle.std.proofs.Common.{◌≡◌, ◌⊎◌, ◌↔◌, inl, inr, List, [], ◌∷◌, sym, ◌∙◌, ap, subst, arith, All}
 use Rattle.std.specs.List.{Any, AllPairs}
 use Rattle.std.specs.Prelude.{neg_ℤ}
 use Rattle.std.proofs.lemmas.List.Elements.{All-nil, All-cons, All-head, All-tail, All-weaker}
 use Rattle.std.proofs.lemmas.List.Kept.{AllPairs-cons}
 use Rattle.std.proofs.lemmas.Int.{ints}
-use Rattle.std.proofs.Math.IntN.{ℤ, pos, negsuc, ◌+ℤ◌}
+use Rattle.std.proofs.Math.IntN.{ℤ, pos, ◌+ℤ◌}
 use lib.Signed.{◌≤ℤ◌}
 use Rattle.ff_ring.proofs.Ring.{one_mul}
 use Rattle.local_theory.specs.Ideals.{Invertible, Multiple, SameSet}
@@ -26,7 +26,7 @@ use Rattle.places_theory.proofs.Multiplicities.{multiplicity_exists}
 use Rattle.places_theory.proofs.Valuations.{at_least_of_integral, at_least_product, at_least_weaker, valuation_of_outside, valuation_unique}
 use Rattle.side_theory.proofs.SamePlaceValues.{value_same}
 use Rattle.side_theory.proofs.ValueRules.{product_rule}
-use Rattle.ideal_theory.specs.Ideals.{IsDivisorOn, IsDivisorOf, DivisorIdeal, HasValuesOf}
+use Rattle.ideal_theory.specs.Ideals.{IsDivisorOn, IsDivisorOf, DivisorIdeal}
 use Rattle.ideal_theory.proofs.DivisorIdeals.{PlaceOn, same_decided, values_of_ideal, ideal_of_values}
 
 opposite_of : (m n : ℤ) → m +ℤ n ≡ pos 0 → neg_ℤ m ≤ℤ n

@@ -1,31 +1,29 @@
 -- The divisors and the ideals of functions, on each side.
-use Rattle.std.proofs.Common.{◌≡◌, ◌⊎◌, inr, ℕ, List, [], ◌∷◌, map, pos, refl, subst, All}
+use Rattle.std.proofs.Common.{◌≡◌, ◌↔◌, inr, [], ◌∷◌, map, pos, All}
 use Rattle.std.specs.Prelude.{ℤ, ◌+ℤ◌, ◌*ℤ◌}
-use Rattle.std.specs.List.{Any}
 use Rattle.std.proofs.lemmas.List.Elements.{All-head, All-tail}
 use Rattle.local_theory.specs.Ideals.{Multiple, SameSet}
-use Rattle.local_theory.specs.IntegerValues.{PrimePower}
 use Rattle.local_theory.proofs.Lists.{both}
 use Rattle.ff_fields.specs.Field.{CodeField}
 use Rattle.ff_poly.specs.Polynomials.{polynomials}
 use Rattle.ff_algebra.specs.declared.elem.Side.{Side}
 use Rattle.ff_algebra.specs.declared.elem.Side.TheVariants.{Finite, Infinite}
-use Rattle.ff_algebra.specs.Places.{Place, IsPlace, IsIn, IsSamePlace, IsIntegralAt, HasValuation}
-use Rattle.ff_algebra.specs.Divisors.{Entry, Divisor, HasTotalDegree, none, entry}
+use Rattle.ff_algebra.specs.Places.{Place, IsPlace, IsIn, IsSamePlace, IsIntegralAt}
+use Rattle.ff_algebra.specs.Divisors.{Entry, Divisor, HasTotalDegree, MeetsOn, none, entry}
 use Rattle.ff_algebra.specs.Functions.{Equation, FunctionOf, ring_of, setting_of}
 use Rattle.ff_algebra.specs.Discriminant.{discriminant}
-use Rattle.ff_algebra.proofs.ScalarRings.{scalars_subring}
 use Rattle.lattice_theory.specs.Lattices.{IsLattice}
 use Rattle.lattice_theory.proofs.Indices.{index_none}
 use Rattle.order_theory.proofs.FinitePlaces.{Int}
 use Rattle.order_theory.proofs.PlaceEntries.{any_map}
 use Rattle.order_theory.proofs.SideOfPlaces.{lattice_of_place, prime_of_place, regular_functions, value_at_place, degree_of_place}
 use Rattle.side_theory.proofs.InfiniteLaws.{regular_integral, value_exists, all_listed}
-use Rattle.ideal_theory.specs.Ideals.{IsDivisorOn, IsDivisorOf, DivisorIdeal}
+use Rattle.ideal_theory.specs.Ideals.{IsDivisorOn, IsDivisorOf, DivisorIdeal, HasValuesOf, opposite_divisor}
+use Rattle.ideal_theory.proofs.DivisorIdeals.{opposite_on, meets_opposite}
 use Rattle.ideal_theory.specs.Indices.{HasRelativeIndex}
 use Rattle.ideal_theory.proofs.PrincipalIdeals.{principal, divisor_of_function}
-use Rattle.ideal_theory.proofs.FiniteSide.{maximal_order, finite_invertible}
-use Rattle.ideal_theory.proofs.InfiniteSide.{infinite_prime, infinite_invertible}
+use Rattle.ideal_theory.proofs.FiniteSide.{maximal_order, finite_invertible, finite_by_values}
+use Rattle.ideal_theory.proofs.InfiniteSide.{infinite_prime, infinite_invertible, infinite_by_values}
 use Rattle.ideal_theory.proofs.FinitePlaceLists.{listed_places}
 use Rattle.ideal_theory.proofs.DegreeIndex.{index_of_degree}
 use Rattle.ideal_theory.proofs.IdealIndices.{IsInvertibleLattice, order_invertible, prime_power_index}
@@ -56,6 +54,18 @@ module _ {k : CodeField} (c : Equation k) (some : ¬ (discriminant c ≡ (polyno
   side_principal Infinite z y inverse D d =
       principal c some Infinite (infinite_prime c) (infinite_invertible c some) (λ z h. (regular_integral k c some z).0 h)
       (λ P place e z y i. value_exists k c some P place e z y i) z y inverse D d
+
+  -- the conditions of L(D) on a side are those of the ideal of -D
+  pub space_conditions : (s : Side) (D : Divisor (FunctionOf c)) → IsDivisorOn (setting_of c) s D → (z : FunctionOf c)
+      → DivisorIdeal (setting_of c) s (opposite_divisor D) z ↔ MeetsOn (setting_of c) D s z
+  space_conditions s D on z =
+      let a = ideal_values s (opposite_divisor D) (opposite_on (setting_of c) s D on) in
+      let b = meets_opposite (setting_of c) s D z in (λ x. b.0 (a.0 x), λ x. a.1 (b.1 x))
+    where
+      ideal_values : (s : Side) (D : Divisor (FunctionOf c)) → IsDivisorOn (setting_of c) s D
+          → DivisorIdeal (setting_of c) s D z ↔ HasValuesOf (setting_of c) s D z
+      ideal_values Finite D on = finite_by_values c some D on z
+      ideal_values Infinite D on = infinite_by_values c some D on z
 
   abbrev OnFinite : Entry (FunctionOf c) → Type 0
   OnFinite e = IsPlace (setting_of c) e.place × (e.place.side ≡ Finite)

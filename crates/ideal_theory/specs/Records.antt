@@ -15,6 +15,10 @@ use Rattle.ff_algebra.specs.Functions.{Equation, FunctionOf, ring_of, of_poly, I
 use Rattle.lattice_theory.specs.Lattices.{IsLattice, HasIndex}
 use Rattle.order_theory.specs.Orders.{IsOrderUpTo}
 
+-- the combinations of rows over the polynomials
+abbrev pub RowSpan : {k : CodeField} (c : Equation k) → List (FunctionOf c) → FunctionOf c → Type 0
+RowSpan c = Span (ring_of c).ops (IsPolynomial c)
+
 module _ {k : CodeField} (c : Equation k) (O : FunctionOf c → Type 0) where
   -- at each irreducible polynomial the order is maximal, or M is the order up to functions prime to it
   abbrev pub IsAdmitted : (FunctionOf c → Type 0) → Type 0
@@ -22,27 +26,23 @@ module _ {k : CodeField} (c : Equation k) (O : FunctionOf c → Type 0) where
       (p : Polynomial k) → IsIrreducible k.ops (codes_of k p)
       → MaximalAt (ring_of c).ops (of_poly c p) (IsIntegralAt (setting_of c) Finite) O ⊎ IsOrderUpTo c p O M
 
-  -- the combinations of the rows over the polynomials
-  abbrev pub RowSpan : List (FunctionOf c) → FunctionOf c → Type 0
-  RowSpan = Span (ring_of c).ops (IsPolynomial c)
-
   -- the rows of an ideal modulo which the order is a field, and those of its inverse, with an exponent and the index of the ideal
   pub record RecordedPrime : Type 0 where
     pub rows : List (FunctionOf c)
     pub inverse_rows : List (FunctionOf c)
     pub exponent : ℕ
     pub degree : ℕ
-    pub lattice : IsLattice c (RowSpan rows)
-    pub field : IsMaximalIdeal (ring_of c).ops O (RowSpan rows)
-    pub closed : IsModule (ring_of c).ops O (RowSpan inverse_rows)
-    pub product : SameSet (Product (ring_of c).ops (RowSpan rows) (RowSpan inverse_rows)) O
+    pub lattice : IsLattice c (RowSpan c rows)
+    pub field : IsMaximalIdeal (ring_of c).ops O (RowSpan c rows)
+    pub closed : IsModule (ring_of c).ops O (RowSpan c inverse_rows)
+    pub product : SameSet (Product (ring_of c).ops (RowSpan c rows) (RowSpan c inverse_rows)) O
     pub positive : 1 ≤ exponent
-    pub index : HasIndex c (RowSpan rows) O degree
+    pub index : HasIndex c (RowSpan c rows) O degree
 
   -- the product of the ideals with their exponents
   abbrev pub ProductOfPowers : List RecordedPrime → FunctionOf c → Type 0
   ProductOfPowers [] = O
-  ProductOfPowers (P ∷ ps) = Product (ring_of c).ops (Power (ring_of c).ops O (RowSpan P.rows) P.exponent) (ProductOfPowers ps)
+  ProductOfPowers (P ∷ ps) = Product (ring_of c).ops (Power (ring_of c).ops O (RowSpan c P.rows) P.exponent) (ProductOfPowers ps)
 
   -- the sum of the exponents times the indices
   abbrev pub sum_of_record : List RecordedPrime → ℕ
@@ -51,7 +51,7 @@ module _ {k : CodeField} (c : Equation k) (O : FunctionOf c → Type 0) where
 
   -- a record of primes over p: different ideals, whose product is within p·O, with n times the degree of p as the sum
   pub record IsRecordAt (p : Polynomial k) (ps : List RecordedPrime) : Type 0 where
-    pub different : AllPairs (λ P Q. ¬ SameSet (RowSpan P.rows) (RowSpan Q.rows)) ps
+    pub different : AllPairs (λ P Q. ¬ SameSet (RowSpan c P.rows) (RowSpan c Q.rows)) ps
     pub sum : sum_of_record ps ≡ degree_of_y c * (length p.0 - 1)
     pub within : (z : FunctionOf c) → ProductOfPowers ps z → Multiple (ring_of c).ops (of_poly c p) O z
 

@@ -3,22 +3,30 @@
 //! F need not be a field. Each main theorem is the contract of a function with an empty body; the crates above cite the lemmas of proofs/.
 #![tactic(auto)]
 
-ghost use Rattle.std.specs.Prelude.{◌≡◌, ◌↔◌, ℤ, ◌+ℤ◌};
+ghost use Rattle.std.specs.Prelude.{◌≡◌, ◌↔◌, ℕ, suc, ◌<◌, ℤ, ◌+ℤ◌, List};
 ghost use Rattle.ff_fields.specs.Field.{CodeField};
-ghost use Rattle.ff_poly.specs.Polynomials.{polynomials};
+ghost use Rattle.ff_poly.specs.Words.{IsIrreducible};
+ghost use Rattle.ff_poly.specs.Polynomials.{Polynomial, polynomials, codes_of};
 ghost use Rattle.ff_algebra.specs.declared.elem.Side.{Side};
 ghost use Rattle.ff_algebra.specs.declared.elem.Side.TheVariants.{Finite, Infinite};
-ghost use Rattle.ff_algebra.specs.Functions.{Equation, FunctionOf, ring_of, setting_of};
+ghost use Rattle.ff_algebra.specs.Functions.{Equation, FunctionOf, ring_of, of_poly, y_of, degree_of_y, setting_of};
 ghost use Rattle.ff_algebra.specs.Discriminant.{discriminant};
-ghost use Rattle.ff_algebra.specs.Divisors.{Divisor, HasTotalDegree};
-ghost use Rattle.ff_algebra.specs.Places.{IsIntegralAt};
-ghost use Rattle.local_theory.specs.Ideals.{SameSet, Multiple, Inverse, Invertible};
-ghost use Rattle.ff_ring.specs.Subsets.{IsModule, Product};
+ghost use Rattle.ff_algebra.specs.Divisors.{Divisor, HasTotalDegree, MeetsOn};
+ghost use Rattle.ff_algebra.specs.Places.{Place, IsPlace, LiesOver, IsIntegralAt, HasValuationAtLeast};
+ghost use Rattle.places_theory.specs.Orders.{InPrime};
+ghost use Rattle.std.proofs.Common.{pos};
+ghost use Rattle.local_theory.specs.Ideals.{SameSet, Multiple, Inverse, Invertible, Power};
+ghost use Rattle.local_theory.specs.Orders.{MaximalAt};
+ghost use Rattle.local_theory.specs.Primes.{IsPrime};
+ghost use Rattle.local_theory.specs.Systems.{IsFamily, IsSystem, Distinct};
+ghost use Rattle.linear_theory.specs.Euclidean.{IsDivisor};
+ghost use Rattle.ff_ring.specs.Ring.{pow};
+ghost use Rattle.ff_ring.specs.Subsets.{IsModule, Product, Colon};
 ghost use Rattle.order_theory.specs.Orders.{IsOrder};
 ghost use Rattle.lattice_theory.specs.Lattices.{IsLattice};
-ghost use Rattle.ideal_theory.specs.Ideals.{IsDivisorOn, IsDivisorOf, DivisorIdeal, HasValuesOf};
+ghost use Rattle.ideal_theory.specs.Ideals.{IsDivisorOn, IsDivisorOf, DivisorIdeal, HasValuesOf, opposite_divisor};
 ghost use Rattle.ideal_theory.specs.Indices.{HasRelativeIndex};
-ghost use Rattle.ideal_theory.specs.Records.{IsAdmitted};
+ghost use Rattle.ideal_theory.specs.Records.{IsAdmitted, RowSpan, RecordedPrime, ProductOfPowers, IsRecordAt, AreAllPlaces};
 
 use lattice_theory::FunctionSets;
 
@@ -74,4 +82,77 @@ pub fn admitted_law<S: FunctionSets>()
         → IsAdmitted S.equation S.first (Inverse (ring_of S.equation).ops S.first S.second) }
     ensures invertible { IsOrder S.equation S.first → IsLattice S.equation S.second → IsModule (ring_of S.equation).ops S.first S.second
         → IsAdmitted S.equation S.first S.second → Invertible (ring_of S.equation).ops S.first S.second }
+{}
+
+/// In an order that is maximal at p, a function lies in a power of a prime over p exactly where the power of the inverse takes it into the order; for the
+/// prime of a place over p, a member of the order does where its value is at least the exponent; and of the powers that have a given lattice within the order
+/// there is a greatest exponent.
+pub fn greatest_power_law<S: FunctionSets>()
+    ensures inverse { (p : Polynomial S.field) → IsIrreducible S.field.ops (codes_of S.field p) → IsOrder S.equation S.first
+        → MaximalAt (ring_of S.equation).ops (of_poly S.equation p) (IsIntegralAt (setting_of S.equation) Finite) S.first
+        → IsPrime (ring_of S.equation).ops S.first S.second → S.second (of_poly S.equation p) → (m : ℕ) (z : FunctionOf S.equation)
+        → Power (ring_of S.equation).ops S.first S.second m z
+        ↔ Colon (ring_of S.equation).ops S.first (Power (ring_of S.equation).ops S.first (Inverse (ring_of S.equation).ops S.first S.second) m) z }
+    ensures value { (p : Polynomial S.field) → IsIrreducible S.field.ops (codes_of S.field p) → IsOrder S.equation S.first
+        → MaximalAt (ring_of S.equation).ops (of_poly S.equation p) (IsIntegralAt (setting_of S.equation) Finite) S.first
+        → (M : Place (FunctionOf S.equation)) → IsPlace (setting_of S.equation) M → LiesOver (setting_of S.equation) M (of_poly S.equation p)
+        → (z : FunctionOf S.equation) → S.first z → (m : ℕ) → HasValuationAtLeast (setting_of S.equation) M z (pos m)
+        ↔ Power (ring_of S.equation).ops S.first (InPrime (setting_of S.equation) M S.first) m z }
+    ensures greatest { (p : Polynomial S.field) → IsIrreducible S.field.ops (codes_of S.field p) → IsOrder S.equation S.first
+        → MaximalAt (ring_of S.equation).ops (of_poly S.equation p) (IsIntegralAt (setting_of S.equation) Finite) S.first
+        → IsPrime (ring_of S.equation).ops S.first S.second → S.second (of_poly S.equation p)
+        → IsLattice S.equation S.third → ((z : FunctionOf S.equation) → S.third z → S.first z)
+        → (m : ℕ) × ((z : FunctionOf S.equation) → S.third z → Power (ring_of S.equation).ops S.first S.second m z)
+        × (¬ ((z : FunctionOf S.equation) → S.third z → Power (ring_of S.equation).ops S.first S.second (suc m) z)) }
+{}
+
+/// A record of primes over p for an order: the second rows of each ideal span its inverse, the ideals are a prime system at p, their product with the
+/// exponents is p·O, and the order is maximal at p.
+pub fn record_law<S: FunctionSets>()
+    ensures inverse { IsOrder S.equation S.first → (P : RecordedPrime S.equation S.first)
+        → SameSet (RowSpan S.equation P.inverse_rows) (Inverse (ring_of S.equation).ops S.first (RowSpan S.equation P.rows)) }
+    ensures system { (p : Polynomial S.field) (ps : List (RecordedPrime S.equation S.first)) → IsIrreducible S.field.ops (codes_of S.field p)
+        → IsOrder S.equation S.first → IsRecordAt S.equation S.first p ps
+        → IsFamily (ring_of S.equation).ops S.first (RecordedPrime S.equation S.first) (λ P. RowSpan S.equation P.rows)
+        × IsSystem (ring_of S.equation).ops S.first (of_poly S.equation p) (RecordedPrime S.equation S.first) (λ P. RowSpan S.equation P.rows) ps
+        × Distinct (λ P. RowSpan S.equation P.rows) ps }
+    ensures product { (p : Polynomial S.field) (ps : List (RecordedPrime S.equation S.first)) → IsIrreducible S.field.ops (codes_of S.field p)
+        → IsOrder S.equation S.first → IsRecordAt S.equation S.first p ps
+        → SameSet (ProductOfPowers S.equation S.first ps) (Multiple (ring_of S.equation).ops (of_poly S.equation p) S.first) }
+    ensures maximal { (p : Polynomial S.field) (ps : List (RecordedPrime S.equation S.first)) → IsIrreducible S.field.ops (codes_of S.field p)
+        → IsOrder S.equation S.first → IsRecordAt S.equation S.first p ps
+        → MaximalAt (ring_of S.equation).ops (of_poly S.equation p) (IsIntegralAt (setting_of S.equation) Finite) S.first }
+{}
+
+/// Of the maximal order, a record of primes over p lists the places over p: the rows of its ideals span them, each once, its exponents are their ramification
+/// indices, and its numbers are their degrees.
+pub fn recorded_places_law()
+    ensures { (k : CodeField) (c : Equation k) (p : Polynomial k) (ps : List (RecordedPrime c (IsIntegralAt (setting_of c) Finite)))
+        → ¬ (discriminant c ≡ (polynomials k).𝟘) → IsIrreducible k.ops (codes_of k p) → IsRecordAt c (IsIntegralAt (setting_of c) Finite) p ps
+        → AreAllPlaces c p ps }
+{}
+
+/// The conditions of L(D) on a side are those of the ideal of -D.
+pub fn space_conditions_law()
+    ensures { (k : CodeField) (c : Equation k) (s : Side) (D : Divisor (FunctionOf c)) → ¬ (discriminant c ≡ (polynomials k).𝟘)
+        → IsDivisorOn (setting_of c) s D → (z : FunctionOf c) → DivisorIdeal (setting_of c) s (opposite_divisor D) z ↔ MeetsOn (setting_of c) D s z }
+{}
+
+/// An order with 1, y, up to y^(n-1) is that of all integral functions where it is maximal at each irreducible polynomial whose square divides the
+/// discriminant; so where it has a record of primes over each of them.
+pub fn recorded_order_law<S: FunctionSets>()
+    ensures maximal { IsOrder S.equation S.first
+        → ((i : ℕ) → i < degree_of_y S.equation → S.first (pow (ring_of S.equation).ops (y_of S.equation) i))
+        → ¬ (discriminant S.equation ≡ (polynomials S.field).𝟘)
+        → ((p : Polynomial S.field) → IsIrreducible S.field.ops (codes_of S.field p)
+        → IsDivisor (polynomials S.field).ops ((polynomials S.field).◌⊗◌ p p) (discriminant S.equation)
+        → MaximalAt (ring_of S.equation).ops (of_poly S.equation p) (IsIntegralAt (setting_of S.equation) Finite) S.first)
+        → SameSet S.first (IsIntegralAt (setting_of S.equation) Finite) }
+    ensures recorded { IsOrder S.equation S.first
+        → ((i : ℕ) → i < degree_of_y S.equation → S.first (pow (ring_of S.equation).ops (y_of S.equation) i))
+        → ¬ (discriminant S.equation ≡ (polynomials S.field).𝟘)
+        → ((p : Polynomial S.field) → IsIrreducible S.field.ops (codes_of S.field p)
+        → IsDivisor (polynomials S.field).ops ((polynomials S.field).◌⊗◌ p p) (discriminant S.equation)
+        → (ps : List (RecordedPrime S.equation S.first)) × IsRecordAt S.equation S.first p ps)
+        → SameSet S.first (IsIntegralAt (setting_of S.equation) Finite) }
 {}
