@@ -1,0 +1,4 @@
+//! Riemann-Roch spaces.
+#![tactic(auto)]
+
+ghost use Rattle.std.specs.Prelude.{◌≡◌};
