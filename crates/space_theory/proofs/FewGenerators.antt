@@ -33,6 +33,15 @@ pub record FewGenerators {k : CodeField} (c : Equation k) (gs : List (FunctionOf
   pub count : length functions ≡ degree_of_y c
   pub same : (z : FunctionOf c) → Span (ring_of c).ops (IsFiniteAtInfinity c) gs z ↔ Span (ring_of c).ops (IsFiniteAtInfinity c) functions z
 
+module _ (k : CodeField) (p q : PresValue) (c : ℕ) (f : Functions k q → Functions k p) (g : IsInfiniteMap k p q c f) where
+  -- powers of the variable go to powers of 1/x
+  pub power_image : (j : ℕ) (z : Functions k q)
+      → f ((functions k q).◌⊗◌ (pow (functions k q).ops (setting k q).x j) z) ≡ (functions k p).◌⊗◌ (pow (functions k p).ops (setting k p).one_over_x j) (f z)
+  power_image j z =
+      g.isomorphism.hom.mul _ z
+      ∙ ap (λ w. (functions k p).◌⊗◌ w (f z))
+      (image_power (functions k q) (functions k p) f g.isomorphism.hom j (setting k q).x ∙ ap (λ w. pow (functions k p).ops w j) g.variable)
+
 module _ (k : CodeField) (p q : PresValue) (c : ℕ) (f : Functions k q → Functions k p) (g : IsInfiniteMap k p q c f) (same_degree : q.n ≡ p.n)
     (gs : List (Functions k p)) (m : Functions k p → ℕ)
     (taken : (w : Functions k p)
@@ -54,13 +63,6 @@ module _ (k : CodeField) (p q : PresValue) (c : ℕ) (f : Functions k q → Func
   local_in : (z : Functions k q) → IsLocallyIn (equation_of k q) (x_poly k) L z ↔ AtInfinity gs (f z)
   local_in z = subst (λ hs. IsLocallyIn (equation_of k q) (x_poly k) L z ↔ AtInfinity hs (f z)) (map_lift gs) (g.spans (map lift gs) z)
 
-  image : (j : ℕ) (z : Functions k q)
-      → f ((functions k q).◌⊗◌ (pow (functions k q).ops (setting k q).x j) z) ≡ (functions k p).◌⊗◌ (pow (functions k p).ops (setting k p).one_over_x j) (f z)
-  image j z =
-      g.isomorphism.hom.mul _ z
-      ∙ ap (λ w. (functions k p).◌⊗◌ w (f z))
-      (image_power (functions k q) (functions k p) f g.isomorphism.hom j (setting k q).x ∙ ap (λ w. pow (functions k p).ops w j) g.variable)
-
   prime_some : (u : Functions k q) (h : IsPrimeTo (equation_of k q) (x_poly k) u) → ¬ (h.polynomial ≡ (polynomials k).𝟘)
   prime_some u h e = h.not_divided (subst (IsDivisor (polynomials k).ops (x_poly k)) (sym e) ((polynomials k).𝟘, sym (mul_zero (polynomials k).ring (x_poly k))))
 
@@ -70,7 +72,7 @@ module _ (k : CodeField) (p q : PresValue) (c : ℕ) (f : Functions k q → Func
     spanned = λ z. (λ h. h, λ h. h);
     full = λ z.
         let j = m (f z) in
-        let u = (local_in ((functions k q).◌⊗◌ (pow (functions k q).ops (setting k q).x j) z)).1 (subst (AtInfinity gs) (sym (image j z)) (taken (f z))) in
+        let u = (local_in ((functions k q).◌⊗◌ (pow (functions k q).ops (setting k q).x j) z)).1 (subst (AtInfinity gs) (sym (power_image k p q c f g j z)) (taken (f z))) in
         let a = u.factor_in.polynomial in
         record {
           factor = (polynomials k).◌⊗◌ a (pow (polynomials k).ops (x_poly k) j);

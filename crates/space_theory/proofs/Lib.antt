@@ -5,3 +5,5 @@ pub mod LatticeBases
 pub mod FewGenerators
 pub mod InfiniteBases
 pub mod Pairs
+pub mod AtInfinity
+pub mod InfiniteIndices
