@@ -7,3 +7,6 @@ pub mod InfiniteBases
 pub mod Pairs
 pub mod AtInfinity
 pub mod InfiniteIndices
+pub mod ScalarLists
+pub mod CodeBases
+pub mod RationalLists
