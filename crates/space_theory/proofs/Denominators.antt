@@ -78,7 +78,7 @@ module _ {k : CodeField} (c : Equation k) where
     abbrev part_of : FunctionOf c
     part_of = over c (row_of c (polynomials k).𝟙) e some
 
-    share : (i h r E p s : FunctionOf c) → E ⊗ i ≡ 𝟙 → E ⊗ s ≡ p → i ⊗ (p ⊗ h ⊕ r) ≡ s ⊗ h ⊕ i ⊗ r
+    pub share : (i h r E p s : FunctionOf c) → E ⊗ i ≡ 𝟙 → E ⊗ s ≡ p → i ⊗ (p ⊗ h ⊕ r) ≡ s ⊗ h ⊕ i ⊗ r
     share i h r E p s f g =
         ap (λ w. i ⊗ (w ⊗ h ⊕ r)) (sym g)
         ∙ from_one (ring_of c) (s ⊗ h) f (ring (ring_of c) (i ∷ h ∷ r ∷ E ∷ s ∷ []) λ q x. simp (reads, q, x 0, x 1, x 2, x 3, x 4) (q.equal _ _ refl))

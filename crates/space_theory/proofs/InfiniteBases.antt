@@ -109,6 +109,24 @@ module _ {k : CodeField} (c : Equation k) where
             span_of_short c e some hs z p
             (λ i l. subst (λ s. length (p i).0 ≤ s) (long e some) (h i (subst (λ n. i < n) count l))) is
 
+  -- the condition at level 0 tells the degrees at each x^m·N
+  pub multiples_reduced : (N : FunctionOf c → Type 0) (bs : List (FunctionOf c)) (d : ℕ → ℤ) → length bs ≡ degree_of_y c
+      → ((p : ℕ → Polynomial k) → combine (polynomial_ops c) p bs ≡ 𝟘 → (i : ℕ) → i < degree_of_y c → p i ≡ (polynomials k).𝟘)
+      → ((z : FunctionOf c) → Coordinates (code_ring k) (polynomial_ops c) bs z)
+      → ((z : FunctionOf c) (e : Polynomial k) (p : ℕ → Polynomial k) → ¬ (e ≡ (polynomials k).𝟘) → of_poly c e ⊗ z ≡ combine (polynomial_ops c) p bs
+      → N z ↔ CoordinatesAtMost (code_ring k) (degree_of_y c) d e p (pos 0))
+      → IsReducedAt (code_ring k) (polynomial_ops c) (degree_of_y c) (multiples_of c N) bs d
+  multiples_reduced N bs d count free coordinates at_zero =
+      let r = family_reduced (code_ring k) (code_field k) (functions_module c) (quotient (code_ring k) (code_field k) (functions_module c) (division c))
+      (undo_power (code_ring k) (code_field k) (functions_module c) (division c)) (degree_of_y c) N bs d count free coordinates at_zero in
+      record {
+        count = r.count;
+        free = r.free;
+        coordinates = r.coordinates;
+        degrees = λ m z e p some is.
+            subst (λ T. T ↔ CoordinatesAtMost (code_ring k) (degree_of_y c) d e p m) (multiples_are c N m z) (r.degrees m z e p some is);
+      }
+
   -- the basis of a lattice at infinity
   pub record InfiniteBasis (N : FunctionOf c → Type 0) : Type 0 where
     pub functions : List (FunctionOf c)
@@ -122,21 +140,13 @@ module _ {k : CodeField} (c : Equation k) where
           let taken : (z : FunctionOf c) → Span (ring_of c).ops (IsFiniteAtInfinity c) few.functions (pow (ring_of c).ops (setting_of c).one_over_x (𝓝.exponent z) ⊗ z)
           = λ z. (few.same _).0 ((𝓝.spanned _).0 (𝓝.taken z)) in
           let at_level = level few.functions few.count 𝓝.exponent taken in
-          let r = family_reduced (code_ring k) (code_field k) (functions_module c) (quotient (code_ring k) (code_field k) (functions_module c) (division c))
-          (undo_power (code_ring k) (code_field k) (functions_module c) (division c)) (degree_of_y c) N few.functions (λ i. pos 0) few.count
-          (free_at few.functions few.count 𝓝.exponent taken) (coordinates_at few.functions few.count 𝓝.exponent taken)
-          (λ z e p some is.
-          let a = at_level z e p some is in (
-            λ h. a.0 ((few.same z).0 ((𝓝.spanned z).0 h)),
-            λ h. (𝓝.spanned z).1 ((few.same z).1 (a.1 h)),
-          )) in
           record {
             functions = few.functions;
-            is = record {
-              count = r.count;
-              free = r.free;
-              coordinates = r.coordinates;
-              degrees = λ m z e p some is.
-                  subst (λ T. T ↔ CoordinatesAtMost (code_ring k) (degree_of_y c) (λ i. pos 0) e p m) (multiples_are c N m z) (r.degrees m z e p some is);
-            };
+            is = multiples_reduced N few.functions (λ i. pos 0) few.count (free_at few.functions few.count 𝓝.exponent taken)
+                (coordinates_at few.functions few.count 𝓝.exponent taken)
+                (λ z e p some is.
+                let a = at_level z e p some is in (
+                  λ h. a.0 ((few.same z).0 ((𝓝.spanned z).0 h)),
+                  λ h. (𝓝.spanned z).1 ((few.same z).1 (a.1 h)),
+                ));
           }

@@ -10,3 +10,10 @@ pub mod InfiniteIndices
 pub mod ScalarLists
 pub mod CodeBases
 pub mod RationalLists
+pub mod Simultaneous
+pub mod PartRing
+pub mod RationalPart
+pub mod TraceForms
+pub mod FractionDegrees
+pub mod TraceDuals
+pub mod GenusDimension
