@@ -17,3 +17,4 @@ pub mod TraceForms
 pub mod FractionDegrees
 pub mod TraceDuals
 pub mod GenusDimension
+pub mod Laws

@@ -111,7 +111,7 @@ module _ {k : CodeField} (c : Equation k) where
       swap a u s v f = from_one (ring_of c) (a ⊗ s) f (ring (ring_of c) (a ∷ u ∷ s ∷ v ∷ []) λ q i. simp (reads, q, i 0, i 1, i 2, i 3) (q.equal _ _ refl))
 
   -- the degrees as a list, beside the basis
-  abbrev listed : List (FunctionOf c) → (ℕ → ℤ) → List ℤ
+  abbrev pub listed : List (FunctionOf c) → (ℕ → ℤ) → List ℤ
   listed bs d = tabulate (length bs) d
 
   rational_product : (a b : FunctionOf c) → IsRational c a → IsRational c b → IsRational c (a ⊗ b)
@@ -175,7 +175,7 @@ module _ {k : CodeField} (c : Equation k) where
           swap : (r u v : FunctionOf c) → (ring_of c).◌⊗◌ r ((ring_of c).◌⊗◌ u v) ≡ (ring_of c).◌⊗◌ u ((ring_of c).◌⊗◌ r v)
           swap r u v = ring (ring_of c) (r ∷ u ∷ v ∷ []) λ q i. simp (reads, q, i 0, i 1, i 2) (q.equal _ _ refl)
 
-  shifted_length : (bs : List (FunctionOf c)) (d : ℕ → ℤ) → length (shifted (setting_of c) (listed bs d) bs) ≡ length bs
+  pub shifted_length : (bs : List (FunctionOf c)) (d : ℕ → ℤ) → length (shifted (setting_of c) (listed bs d) bs) ≡ length bs
   shifted_length [] d = refl
   shifted_length (b ∷ bs) d = ap suc (shifted_length bs (λ i. d (suc i)))
 

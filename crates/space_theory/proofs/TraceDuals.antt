@@ -74,6 +74,15 @@ module _ {k : CodeField} (c : Equation k) where
       (ap (trace_of c) (mul_left_comm (ring_of c) z (x_to (setting_of c) (neg_ℤ l)) u) ∙ trace_power (neg_ℤ l) (z ⊗ u))
       (fraction_of c s a m (ap (trace_of c) ((ring_of c).mul_assoc _ z v) ∙ trace_power (neg_ℤ m) (z ⊗ v)) (h v u_in))
 
+  -- a dimension of the intersection of a pair is that of its degrees
+  pub dimension_is : (J L : FunctionOf c → Type 0) (cs : List (FunctionOf c)) (f : ℕ → ℤ) → IsReducedBasis c J L cs f → (g : ℕ)
+      → HasIndex c (IsNull (space_ops c)) (λ z. J z × L z) g → pos g ≡ pos (dimension_sum (degree_of_y c) f (pos 0))
+  dimension_is J L cs f r g h =
+      let s = section_dimension (code_ring k) (code_field k) (functions_module c) (degree_of_y c) J (multiples_of c L) cs f r (pos 0) in
+      let i = index_same c (IsNull (space_ops c)) (IsNull (space_ops c)) (λ z. J z × L z) (Section J (multiples_of c L) (pos 0)) (λ z. (λ e. e, λ e. e))
+      (λ z. (λ m. (m.0, (level_zero c L z).1 m.1), λ m. (m.0, (level_zero c L z).0 m.1))) g h in
+      ap pos (sym i.count) ∙ s.only_size i.basis i.is
+
   module _ (some : ¬ (discriminant c ≡ (polynomials k).𝟘)) (I N : FunctionOf c → Type 0) (bs : List (FunctionOf c)) (d : ℕ → ℤ)
       (reduced : IsReducedBasis c I N bs d) where
     abbrev IsDual : List (FunctionOf c) → Type 0
@@ -132,15 +141,6 @@ module _ {k : CodeField} (c : Equation k) where
         let h = dual_exists in
         let r = dual_pair h.0 h.1 in
         record { basis = h.0; traces = traces_of h.0 h.1; dual = r; canonical = canonical_pair h.0 r }
-
-    -- a dimension of the intersection of a pair is that of its degrees
-    pub dimension_is : (J L : FunctionOf c → Type 0) (cs : List (FunctionOf c)) (f : ℕ → ℤ) → IsReducedBasis c J L cs f → (g : ℕ)
-        → HasIndex c (IsNull (space_ops c)) (λ z. J z × L z) g → pos g ≡ pos (dimension_sum (degree_of_y c) f (pos 0))
-    dimension_is J L cs f r g h =
-        let s = section_dimension (code_ring k) (code_field k) (functions_module c) (degree_of_y c) J (multiples_of c L) cs f r (pos 0) in
-        let i = index_same c (IsNull (space_ops c)) (IsNull (space_ops c)) (λ z. J z × L z) (Section J (multiples_of c L) (pos 0)) (λ z. (λ e. e, λ e. e))
-        (λ z. (λ m. (m.0, (level_zero c L z).1 m.1), λ m. (m.0, (level_zero c L z).0 m.1))) g h in
-        ap pos (sym i.count) ∙ s.only_size i.basis i.is
 
     -- Riemann and Roch
     pub riemann_roch : (g h : ℕ) → HasIndex c (IsNull (space_ops c)) (λ z. I z × N z) g
