@@ -1,5 +1,5 @@
 -- The combinations of a lattice over k[t] are a lattice at infinity, and so is O_inf where the discriminant isn't 0.
-use Rattle.std.proofs.Common.{◌≡◌, ◌↔◌, ℕ, List, map, refl, sym, ◌∙◌, ap, ap₂, subst}
+use Rattle.std.proofs.Common.{◌≡◌, ◌↔◌, ℕ, List, map, refl, ◌∙◌, ap, subst}
 use Rattle.ff_ring.specs.Ring.{pow}
 use Rattle.ff_ring.specs.Subsets.{Span}
 use Rattle.ff_ring.proofs.Ring.{mul_left_comm}

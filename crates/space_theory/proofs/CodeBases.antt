@@ -1,5 +1,5 @@
 -- Bases over k in the words of divisors.
-use Rattle.std.proofs.Common.{◌≡◌, ◌∙◌, ℕ, List, [], ◌∷◌, refl, sym, ap, ap₂, subst}
+use Rattle.std.proofs.Common.{◌≡◌, ◌∙◌, List, [], ◌∷◌, refl, sym, ap, subst}
 use Rattle.ff_ring.specs.Subsets.{Span}
 use Rattle.ff_ring.specs.Lists.{coeff_of}
 use Rattle.ff_ring.proofs.Evaluate.{constant, length_trim}

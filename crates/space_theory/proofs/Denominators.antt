@@ -12,7 +12,7 @@ use Rattle.ff_algebra.proofs.OnSide.{den_inverse}
 use Rattle.ff_algebra.proofs.ScalarRings.{bottoms_not_zero}
 use Rattle.linear_theory.specs.Module.{combine}
 use Rattle.linear_theory.proofs.Lists.{insert}
-use Rattle.linear_theory.proofs.Combination.{combine_scale, combine_zero}
+use Rattle.linear_theory.proofs.Combination.{combine_scale}
 use Rattle.places_theory.proofs.YRoot.{poly_hom, over_times_den}
 use Rattle.lattice_theory.specs.Lattices.{polynomial_ops}
 use Rattle.reduced_theory.proofs.Degree.{length_zero}

@@ -1,5 +1,5 @@
 -- What finitely many functions span over the fractions of degree at most 0, and powers of 1/x take each function into, n functions span.
-use Rattle.std.proofs.Common.{◌≡◌, ◌↔◌, ◌≤◌, ℕ, List, [], ◌∷◌, length, map, refl, sym, ◌∙◌, ap, ap₂, subst, arith}
+use Rattle.std.proofs.Common.{◌≡◌, ◌↔◌, ℕ, List, [], ◌∷◌, length, map, refl, sym, ◌∙◌, ap, ap₂, subst, arith}
 use Rattle.std.proofs.lemmas.List.{length-map}
 use Rattle.ff_ring.specs.Ring.{pow}
 use Rattle.ff_ring.specs.Subsets.{Span}
@@ -9,7 +9,6 @@ use Rattle.linear_theory.specs.Euclidean.{IsDivisor}
 use Rattle.ff_poly.specs.Polynomials.{Polynomial, polynomials, x_poly, x_poly_not_zero}
 use Rattle.ff_algebra.specs.Functions.{Equation, FunctionOf, ring_of, of_poly, setting_of, degree_of_y, IsPolynomial, IsFiniteAtInfinity}
 use Rattle.ff_algebra.specs.Values.{PresValue, Functions, functions, setting, equation_of}
-use Rattle.ff_algebra.specs.Infinity.{IsInfinitePresentation}
 use Rattle.ff_algebra.proofs.ScalarRings.{bottoms_not_zero}
 use Rattle.places_theory.proofs.Transport.{back, f_back}
 use Rattle.places_theory.proofs.YRoot.{poly_hom}
@@ -45,7 +44,7 @@ module _ (k : CodeField) (p q : PresValue) (c : ℕ) (f : Functions k q → Func
 module _ (k : CodeField) (p q : PresValue) (c : ℕ) (f : Functions k q → Functions k p) (g : IsInfiniteMap k p q c f) (same_degree : q.n ≡ p.n)
     (gs : List (Functions k p)) (m : Functions k p → ℕ)
     (taken : (w : Functions k p)
-        → Span (functions k p).ops (IsFiniteAtInfinity (equation_of k p)) gs ((functions k p).◌⊗◌ (pow (functions k p).ops (setting k p).one_over_x (m w)) w)) where
+    → Span (functions k p).ops (IsFiniteAtInfinity (equation_of k p)) gs ((functions k p).◌⊗◌ (pow (functions k p).ops (setting k p).one_over_x (m w)) w)) where
   abbrev lift : Functions k p → Functions k q
   lift w = back (functions k q) (functions k p) f g.isomorphism w
 

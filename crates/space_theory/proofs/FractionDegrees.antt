@@ -1,5 +1,5 @@
 -- The degree of a rational function, as that of a fraction and by its products with powers of x.
-use Rattle.std.proofs.Common.{◌≡◌, ◌↔◌, ℕ, zero, suc, ◌≤◌, ℤ, pos, negsuc, ◌+ℤ◌, ◌-ℤ◌, [], ◌∷◌, length, refl, sym, ◌∙◌, ap, ap₂, subst, arith}
+use Rattle.std.proofs.Common.{◌≡◌, zero, suc, ◌≤◌, ℤ, pos, negsuc, ◌+ℤ◌, ◌-ℤ◌, [], ◌∷◌, length, refl, sym, ◌∙◌, ap, ap₂, subst, arith}
 use Rattle.std.proofs.Math.IntN.{neg_ℤ}
 use Rattle.std.proofs.lemmas.Int.{ints}
 use Rattle.ff_ring.specs.Ring.{pow}
@@ -8,7 +8,7 @@ use Rattle.ff_ring.proofs.Solver.{ring, reads, from_one}
 use Rattle.ff_fields.specs.Field.{CodeField}
 use Rattle.ff_fields.specs.Code.{code_ring, code_domain}
 use Rattle.ff_poly.specs.Polynomials.{Polynomial, polynomials, x_poly, x_poly_not_zero}
-use Rattle.ff_algebra.specs.Functions.{Equation, FunctionOf, ring_of, of_poly, row_of, over, setting_of, IsFiniteAtInfinity}
+use Rattle.ff_algebra.specs.Functions.{Equation, FunctionOf, ring_of, of_poly, row_of, setting_of, IsFiniteAtInfinity}
 use Rattle.ff_algebra.specs.Divisors.{x_to}
 use Rattle.ff_algebra.proofs.ScalarRings.{bottoms_not_zero}
 use Rattle.places_theory.proofs.YRoot.{poly_hom, over_times_den}

@@ -1,14 +1,12 @@
 -- The functions of a curve as a module over the polynomials, with 1/x as division by the variable.
-use Rattle.std.proofs.Common.{◌≡◌, ◌↔◌, ℕ, zero, suc, ℤ, pos, negsuc, [], ◌∷◌, refl, sym, ◌∙◌, ap, ap₂, subst}
-use Rattle.std.proofs.Math.IntN.{neg_ℤ}
+use Rattle.std.proofs.Common.{◌≡◌, ℕ, zero, suc, ℤ, pos, negsuc, [], ◌∷◌, sym, ◌∙◌, ap, ap₂}
 use Rattle.ff_ring.specs.Ring.{pow}
-use Rattle.ff_ring.proofs.Ring.{one_mul, mul_left_comm}
+use Rattle.ff_ring.proofs.Ring.{one_mul}
 use Rattle.ff_ring.proofs.Polynomials.{pol_of}
 use Rattle.ff_fields.specs.Field.{CodeField}
 use Rattle.ff_fields.specs.Code.{code_ring, same_code, zero_in, read_code, read_code_below}
-use Rattle.ff_poly.specs.Polynomials.{Polynomial, polynomials, x_poly, x_poly_not_zero}
+use Rattle.ff_poly.specs.Polynomials.{polynomials, x_poly, x_poly_not_zero}
 use Rattle.ff_algebra.specs.Functions.{Equation, FunctionOf, ring_of, of_poly, setting_of}
-use Rattle.ff_algebra.specs.Divisors.{x_to}
 use Rattle.ff_algebra.proofs.OnSide.{of_poly_zero, den_inverse}
 use Rattle.linear_theory.specs.Module.{Module, IsHomomorphism}
 use Rattle.linear_theory.proofs.Coefficients.{restricted}

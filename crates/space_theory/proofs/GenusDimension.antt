@@ -1,5 +1,5 @@
 -- The dimension over k of the functions over the sum of the two members of a pair.
-use Rattle.std.proofs.Common.{◌≡◌, ℕ, ℤ, pos, List, length, refl, sym, ◌∙◌, ap, arith}
+use Rattle.std.proofs.Common.{◌≡◌, ℕ, ℤ, pos, List, arith}
 use Rattle.std.proofs.lemmas.Int.{ints}
 use Rattle.ff_fields.specs.Field.{CodeField}
 use Rattle.ff_fields.specs.Code.{code_ring, code_field}

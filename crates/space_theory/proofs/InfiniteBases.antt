@@ -1,5 +1,5 @@
 -- A lattice at infinity has a basis of n functions, and its multiples x^m·N are known from the degrees of coordinates.
-use Rattle.std.proofs.Common.{◌≡◌, ◌↔◌, ◌≤◌, ◌<◌, ℕ, zero, suc, ℤ, pos, ◌+ℤ◌, ◌-ℤ◌, List, [], ◌∷◌, length, All, refl, sym, ◌∙◌, ap, ap₂, subst, arith}
+use Rattle.std.proofs.Common.{◌≡◌, ◌↔◌, ◌≤◌, ◌<◌, ℕ, ℤ, pos, ◌+ℤ◌, ◌-ℤ◌, List, length, sym, ◌∙◌, ap, ap₂, subst, arith}
 use Rattle.std.proofs.lemmas.Int.{ints}
 use Rattle.std.proofs.lemmas.List.Elements.{All-weaker}
 use Rattle.ff_ring.specs.Ring.{pow}
@@ -23,7 +23,7 @@ use Rattle.reduced_theory.proofs.Division.{quotient, undo_power}
 use Rattle.space_theory.specs.Spaces.{IsLatticeAtInfinity, multiples_of}
 use Rattle.space_theory.proofs.Free.{free_of_spanning}
 use Rattle.space_theory.proofs.FunctionModule.{functions_module, division, multiples_are, x_times_t, cancel}
-use Rattle.space_theory.proofs.Denominators.{ShortCoordinates, short_coordinates, span_of_short}
+use Rattle.space_theory.proofs.Denominators.{short_coordinates, span_of_short}
 use Rattle.space_theory.proofs.LatticeBases.{lattice_of_span, span_of_lattice}
 use Rattle.space_theory.proofs.FewGenerators.{FewGenerators, few_generators}
 

@@ -1,8 +1,7 @@
 -- The index of a lattice at infinity in a larger one: there is one, it is one number, and it is the difference of the sums of degrees.
-use Rattle.std.proofs.Common.{◌≡◌, ◌↔◌, ℕ, suc, ◌+◌, ◌≤◌, ℤ, pos, ◌-ℤ◌, List, [], ◌∷◌, ◌++◌, length, refl, sym, ◌∙◌, ap, subst, arith}
-use Rattle.std.proofs.lemmas.Int.{ints}
+use Rattle.std.proofs.Common.{◌≡◌, ℕ, ◌+◌, ℤ, pos, ◌-ℤ◌, List, [], ◌∷◌, ◌++◌, length, refl, sym, ◌∙◌, ap, subst, arith}
 use Rattle.std.proofs.lemmas.List.{length-append}
-use Rattle.ff_ring.specs.Subsets.{IsModule, Span}
+use Rattle.ff_ring.specs.Subsets.{IsModule}
 use Rattle.ff_ring.proofs.Ring.{one_mul}
 use Rattle.ff_ring.proofs.Subsets.{span_module}
 use Rattle.ff_ring.proofs.Evaluate.{constant, length_trim}

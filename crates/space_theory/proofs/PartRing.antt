@@ -1,5 +1,5 @@
 -- A subring that is given by a proposition, as a ring of its own.
-use Rattle.std.proofs.Common.{◌≡◌, sym}
+use Rattle.std.proofs.Common.{◌≡◌}
 use mathlib.Core.HLevel.{Σ_prop_path}
 use Rattle.ff_ring.specs.Ring.{CommRing}
 use Rattle.ff_ring.specs.Subsets.{IsSubring}

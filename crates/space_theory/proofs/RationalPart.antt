@@ -3,7 +3,7 @@ use Rattle.std.proofs.Common.{◌≡◌, ℕ, zero, suc, refl, sym, ◌∙◌, a
 use Rattle.ff_ring.specs.Ring.{CommRing}
 use Rattle.ff_ring.specs.Rows.{Row, row_zero, row_scale}
 use Rattle.ff_ring.specs.Subsets.{IsSubring}
-use Rattle.ff_ring.proofs.Ring.{domain_cancel, one_mul}
+use Rattle.ff_ring.proofs.Ring.{one_mul}
 use Rattle.ff_ring.proofs.Rows.{pair_path, row_scale_zero}
 use Rattle.ff_fields.specs.Field.{CodeField}
 use Rattle.ff_fields.specs.Code.{code_ring}

@@ -1,11 +1,11 @@
 -- A reduced basis of a pair is a basis of the lattice over the polynomials, and its multiples by the x^(-d_i) are one of the lattice at infinity.
-use Rattle.std.proofs.Common.{◌≡◌, ◌↔◌, ℕ, zero, suc, ◌<◌, ◌≤◌, ℤ, pos, negsuc, ◌+ℤ◌, ◌-ℤ◌, List, [], ◌∷◌, length, All, refl, sym, ◌∙◌, ap, ap₂, subst, arith}
+use Rattle.std.proofs.Common.{◌≡◌, ℕ, zero, suc, ◌<◌, ◌≤◌, ℤ, pos, negsuc, ◌+ℤ◌, ◌-ℤ◌, List, [], ◌∷◌, length, All, refl, sym, ◌∙◌, ap, ap₂, subst, arith}
 use Rattle.std.proofs.Math.IntN.{neg_ℤ}
 use Rattle.std.proofs.lemmas.Int.{ints}
 use Rattle.std.proofs.lemmas.List.Elements.{All-nil, All-cons, All-head, All-tail}
 use Rattle.ff_ring.specs.Ring.{pow}
 use Rattle.ff_ring.specs.Subsets.{Span}
-use Rattle.ff_ring.proofs.Ring.{mul_zero, one_mul}
+use Rattle.ff_ring.proofs.Ring.{mul_zero}
 use Rattle.ff_ring.proofs.Solver.{ring, reads, from_one}
 use Rattle.ff_ring.proofs.Subsets.{span_least}
 use Rattle.ff_fields.specs.Field.{CodeField}
@@ -26,13 +26,12 @@ use Rattle.trace_theory.proofs.FunctionPowers.{power_some}
 use Rattle.lattice_theory.specs.Lattices.{polynomial_ops}
 use Rattle.order_theory.proofs.LocalOrders.{power_value}
 use Rattle.reduced_theory.specs.Degree.{size, DegreeAtMost, degree}
-use Rattle.reduced_theory.specs.Reduced.{variable}
 use Rattle.reduced_theory.proofs.Degree.{size_is, degree_own, degree_product, degree_multiply, length_of_nonzero}
 use Rattle.reduced_theory.proofs.Graded.{multiple_in}
 use Rattle.reduced_theory.proofs.DualBasis.{length_tabulate}
 use Rattle.reduced_theory.proofs.Powers.{degree_power}
 use Rattle.space_theory.specs.Spaces.{IsLatticeAtInfinity, multiples_of, IsReducedBasis, IsBasisOfBoth}
-use Rattle.space_theory.proofs.FunctionModule.{functions_module, variable_is, polynomial_hom, cancel, x_times_t}
+use Rattle.space_theory.proofs.FunctionModule.{functions_module, variable_is, polynomial_hom, cancel}
 use Rattle.space_theory.proofs.Denominators.{share}
 use Rattle.space_theory.proofs.LatticeBases.{lattice_of_span, span_of_lattice}
 use Rattle.space_theory.proofs.InfiniteBases.{x_to_t}

@@ -1,27 +1,26 @@
 -- Duality under the trace for pairs of lattices, and the theorem of Riemann and Roch for them.
-use Rattle.std.proofs.Common.{◌≡◌, ◌↔◌, ℕ, zero, suc, ◌<◌, ◌+◌, ℤ, pos, negsuc, ◌+ℤ◌, ◌-ℤ◌, List, [], ◌∷◌, length, refl, sym, ◌∙◌, ap, ap₂, subst, arith}
+use Rattle.std.proofs.Common.{◌≡◌, ◌↔◌, ℕ, ◌+◌, ℤ, pos, negsuc, ◌+ℤ◌, ◌-ℤ◌, List, [], ◌∷◌, refl, sym, ◌∙◌, ap, ap₂, subst, arith}
 use Rattle.std.proofs.Math.IntN.{neg_ℤ}
 use Rattle.std.proofs.lemmas.Int.{ints}
 use Rattle.ff_ring.specs.Ring.{pow}
 use Rattle.ff_ring.specs.Subsets.{Colon}
-use Rattle.ff_ring.proofs.Ring.{one_mul, mul_left_comm}
+use Rattle.ff_ring.proofs.Ring.{mul_left_comm}
 use Rattle.ff_ring.proofs.Solver.{ring, reads}
 use Rattle.local_theory.specs.Ideals.{SameSet}
 use Rattle.ff_fields.specs.Field.{CodeField}
 use Rattle.ff_fields.specs.Code.{code_ring, code_field}
-use Rattle.ff_poly.specs.Polynomials.{Polynomial, polynomials}
+use Rattle.ff_poly.specs.Polynomials.{polynomials}
 use Rattle.ff_algebra.specs.Discriminant.{discriminant}
 use Rattle.ff_algebra.specs.Functions.{Equation, FunctionOf, ring_of, of_poly, row_of, over, setting_of, trace_of, degree_of_y, IsPolynomial, IsFiniteAtInfinity}
 use Rattle.ff_algebra.specs.Divisors.{x_to}
 use Rattle.ff_algebra.proofs.OnSide.{den_inverse}
 use Rattle.linear_theory.specs.Basis.{IsNull}
-use Rattle.linear_theory.proofs.Lists.{entry}
-use Rattle.trace_theory.proofs.FunctionTraces.{trace_times, trace_rational}
+use Rattle.trace_theory.proofs.FunctionTraces.{trace_times}
 use Rattle.lattice_theory.specs.Lattices.{HasIndex, space_ops, polynomial_ops}
 use Rattle.lattice_theory.proofs.Bases.{index_same}
-use Rattle.reduced_theory.specs.Degree.{DegreeAtMost, degree, degree_sum, dimension_sum, genus_sum}
-use Rattle.reduced_theory.specs.Reduced.{CoordinatesAtMost, Section}
-use Rattle.reduced_theory.specs.Dual.{FractionAtMost, DualLattice, DualFamily, IsDualBasis, negated}
+use Rattle.reduced_theory.specs.Degree.{DegreeAtMost, degree, degree_sum, dimension_sum}
+use Rattle.reduced_theory.specs.Reduced.{Section}
+use Rattle.reduced_theory.specs.Dual.{FractionAtMost, DualLattice, DualFamily, IsDualBasis}
 use Rattle.reduced_theory.proofs.Compare.{same_degree_sum}
 use Rattle.reduced_theory.proofs.Dual.{dual_reduced}
 use Rattle.reduced_theory.proofs.DualBasis.{dual_basis}
@@ -35,7 +34,7 @@ use Rattle.space_theory.proofs.FunctionModule.{functions_module, polynomial_hom,
 use Rattle.space_theory.proofs.InfiniteBases.{multiples_reduced}
 use Rattle.space_theory.proofs.InfiniteIndices.{level_zero}
 use Rattle.space_theory.proofs.Simultaneous.{x_to_rational}
-use Rattle.space_theory.proofs.RationalPart.{rational_ring, rational_first, same_rational, polynomial_part}
+use Rattle.space_theory.proofs.RationalPart.{rational_ring, same_rational, polynomial_part}
 use Rattle.space_theory.proofs.FractionDegrees.{finite_of_fraction, fraction_of, raised}
 use Rattle.space_theory.proofs.TraceForms.{form, trace_form}
 
