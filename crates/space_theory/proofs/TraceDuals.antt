@@ -4,7 +4,7 @@ use Rattle.std.proofs.Math.IntN.{neg_ℤ}
 use Rattle.std.proofs.lemmas.Int.{ints}
 use Rattle.ff_ring.specs.Ring.{pow}
 use Rattle.ff_ring.specs.Subsets.{Colon}
-use Rattle.ff_ring.proofs.Ring.{mul_left_comm}
+use Rattle.ff_ring.proofs.Ring.{one_mul, mul_left_comm}
 use Rattle.ff_ring.proofs.Solver.{ring, reads}
 use Rattle.local_theory.specs.Ideals.{SameSet}
 use Rattle.ff_fields.specs.Field.{CodeField}
@@ -12,7 +12,9 @@ use Rattle.ff_fields.specs.Code.{code_ring, code_field}
 use Rattle.ff_poly.specs.Polynomials.{polynomials}
 use Rattle.ff_algebra.specs.Discriminant.{discriminant}
 use Rattle.ff_algebra.specs.Functions.{Equation, FunctionOf, ring_of, of_poly, row_of, over, setting_of, trace_of, degree_of_y, IsPolynomial, IsFiniteAtInfinity}
-use Rattle.ff_algebra.specs.Divisors.{x_to}
+use Rattle.ff_algebra.specs.Divisors.{x_to, Divisor, MeetsOn, IsCanonical}
+use Rattle.ff_algebra.specs.declared.elem.Side.TheVariants.{Finite, Infinite}
+use Rattle.ff_algebra.specs.Places.{IsIntegralAt}
 use Rattle.ff_algebra.proofs.OnSide.{den_inverse}
 use Rattle.linear_theory.specs.Basis.{IsNull}
 use Rattle.trace_theory.proofs.FunctionTraces.{trace_times}
@@ -179,3 +181,15 @@ module _ {k : CodeField} (c : Equation k) where
     where
       turn : (w z u v : FunctionOf c) → w ⊗ z ⊗ (v ⊗ u) ≡ w ⊗ (z ⊗ u) ⊗ v
       turn w z u v = ring (ring_of c) (w ∷ z ∷ u ∷ v ∷ []) λ q i. simp (reads, q, i 0, i 1, i 2, i 3) (q.equal _ _ refl)
+
+  -- what a canonical divisor allows are these duals of O_fin and O_inf
+  pub canonical_sides : (W : Divisor (FunctionOf c)) → IsCanonical (setting_of c) W
+      → SameSet (MeetsOn (setting_of c) W Finite) (TraceDual c (IsIntegralAt (setting_of c) Finite))
+      × SameSet (MeetsOn (setting_of c) W Infinite) (CanonicalDual c (IsIntegralAt (setting_of c) Infinite))
+  canonical_sides W h = (
+    λ z. (
+      λ m u u_in. subst (IsPolynomial c) (ap (λ w. trace_of c (w ⊗ u)) (one_mul (ring_of c) z)) ((h.finite z).0 m u u_in),
+      λ m. (h.finite z).1 (λ u u_in. subst (IsPolynomial c) (ap (λ w. trace_of c (w ⊗ u)) (sym (one_mul (ring_of c) z))) (m u u_in)),
+    ),
+    λ z. h.infinite z,
+  )

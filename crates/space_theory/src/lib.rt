@@ -15,7 +15,7 @@ ghost use Rattle.ff_algebra.specs.declared.elem.Side.TheVariants.{Finite, Infini
 ghost use Rattle.ff_algebra.specs.Functions.{Equation, FunctionOf, ring_of, setting_of, degree_of_y, IsPolynomial};
 ghost use Rattle.ff_algebra.specs.Values.{PresValue, Functions, functions, setting, equation_of};
 ghost use Rattle.ff_algebra.specs.Places.{IsIntegralAt};
-ghost use Rattle.ff_algebra.specs.Divisors.{Divisor, MeetsOn, InSpace, IsBasis, IsSimultaneousBasis, IsSumOfSides, SpansOnce};
+ghost use Rattle.ff_algebra.specs.Divisors.{Divisor, MeetsOn, InSpace, IsBasis, IsSimultaneousBasis, IsSumOfSides, SpansOnce, IsCanonical};
 ghost use Rattle.ff_algebra.specs.Discriminant.{discriminant};
 ghost use Rattle.local_theory.specs.Ideals.{SameSet};
 ghost use Rattle.lattice_theory.specs.Lattices.{IsLattice, HasIndex, space_ops, polynomial_ops};
@@ -130,4 +130,12 @@ pub fn riemann_roch_law<S: FunctionSets>()
     ensures canonical { ¬ (discriminant S.equation ≡ (polynomials S.field).𝟘) → (b b' : List (FunctionOf S.equation)) (d d' : ℕ → ℤ)
         → IsReducedBasis S.equation S.first S.second b d → IsReducedBasis S.equation (TraceDual S.equation S.first) (CanonicalDual S.equation S.second) b' d'
         → degree_sum (degree_of_y S.equation) d' +ℤ degree_sum (degree_of_y S.equation) d ≡ pos (degree_of_y S.equation + degree_of_y S.equation) }
+{}
+
+/// What a canonical divisor allows at the finite places is the dual of O_fin under the trace, and at the infinite ones that of O_inf with traces of degree at
+/// most -2.
+pub fn canonical_law()
+    ensures { (k : CodeField) (c : Equation k) (W : Divisor (FunctionOf c)) → IsCanonical (setting_of c) W
+        → SameSet (MeetsOn (setting_of c) W Finite) (TraceDual c (IsIntegralAt (setting_of c) Finite))
+        × SameSet (MeetsOn (setting_of c) W Infinite) (CanonicalDual c (IsIntegralAt (setting_of c) Infinite)) }
 {}
