@@ -3,18 +3,16 @@
 
 ghost use Rattle.std.specs.Prelude.{◌≡◌, ◌<◌, IfOk};
 ghost use Rattle.ff_fields.specs.Over.{IsOver};
-ghost use Rattle.ff_algebra.specs.Values.{IsElem, IsPresOver};
-ghost use Rattle.ff_falg.specs.Algebras.{IsVector};
+ghost use Rattle.ff_algebra.specs.Values.{IsPresOver};
 ghost use Rattle.ff_lattice.specs.Lattices.{IsLattice};
 ghost use Rattle.ff_lattice.specs.Orders.{IsOrder};
-ghost use Rattle.ff_lattice.specs.Quotients.{IsQuotientOver, dimension};
+ghost use Rattle.ff_lattice.specs.Quotients.{IsQuotientOver};
 
 use crate::ideals::is_ideal;
 use crate::multiples::scale;
-use crate::sets::contains;
-use crate::tests::{at, curve, elem, line, same, times_x, whole};
+use crate::tests::{at, curve, line, same, times_x, whole};
 use crate::{Lattice, LatticeFault, Order, Quotient};
-use ff_algebra::{Elem, Pres};
+use ff_algebra::Pres;
 use ff_falg::FiniteAlgebra;
 use ff_fields::field::SmallField;
 use ff_fields::prime::PrimeField;
@@ -140,47 +138,6 @@ fn is_ideal_at<K: SmallField>(alloc: Global, k: &K, c: u32) -> Result<bool, Latt
     Ok(found)
 }
 
-// The codes of the class of z, which has to be in the order.
-fn class<K: SmallField>(
-    alloc: Global,
-    k: &K,
-    q: &Quotient,
-    z: &Elem,
-) -> Result<Vec<u32>, LatticeFault>
-    requires over { IsQuotientOver (K.field k.now) q.now }
-    requires degree { q.now.p.n ≡ 2 }
-    requires z_in { IsElem (K.field k.now).ops 2 z.now }
-    ensures { IfOk result (λ a. IsVector (K.field k.now).ops (dimension q.now) a.items) }
-{
-    if !contains(alloc, k, q.order().lattice(), z)? {
-        return Err(LatticeFault::NotFull);
-    }
-    let codes = q.reduce(alloc, k, z)?;
-    Ok(codes)
-}
-
-// The codes of the class of y.
-fn class_of_y<K: SmallField>(alloc: Global, k: &K, q: &Quotient) -> Result<Vec<u32>, LatticeFault>
-    requires size { 6 < (K.field k.now).size }
-    requires over { IsQuotientOver (K.field k.now) q.now }
-    requires degree { q.now.p.n ≡ 2 }
-    ensures { IfOk result (λ a. IsVector (K.field k.now).ops (dimension q.now) a.items) }
-{
-    let y = elem(alloc, k, 0, 0, 1)?;
-    class(alloc, k, q, &y)
-}
-
-// The codes of the class of y^2.
-fn square_of_y<K: SmallField>(alloc: Global, k: &K, q: &Quotient) -> Result<Vec<u32>, LatticeFault>
-    requires size { 6 < (K.field k.now).size }
-    requires over { IsQuotientOver (K.field k.now) q.now }
-    requires degree { q.now.p.n ≡ 2 }
-{
-    let y = class_of_y(alloc, k, q)?;
-    let square = q.mul(alloc, k, &y, &y)?;
-    Ok(square)
-}
-
 // The codes of the class of what the codes are lifted to; as many as the dimension are wanted.
 fn class_of_lifted<K: SmallField>(
     alloc: Global,
@@ -238,20 +195,12 @@ fn three<K: SmallField>(alloc: Global, k: &K) -> Result<Vec<u32>, LatticeFault>
     class_of_lifted(alloc, k, &q, &a)
 }
 
-// The codes of 1 and of y modulo the ideal of the point.
-fn one_and_y<K: SmallField>(alloc: Global, k: &K) -> Result<(Vec<u32>, Vec<u32>), LatticeFault>
-    requires { 6 < (K.field k.now).size }
-{
-    let q = at_point(alloc, k)?;
-    Ok((class_of_one(alloc, k, &q)?, class_of_y(alloc, k, &q)?))
-}
-
-// The codes of 1 and of y^2 modulo x.
-fn one_and_square<K: SmallField>(alloc: Global, k: &K) -> Result<(Vec<u32>, Vec<u32>), LatticeFault>
+// The codes of 1 modulo x.
+fn one_at_x<K: SmallField>(alloc: Global, k: &K) -> Result<Vec<u32>, LatticeFault>
     requires { 6 < (K.field k.now).size }
 {
     let q = at_x(alloc, k)?;
-    Ok((class_of_one(alloc, k, &q)?, square_of_y(alloc, k, &q)?))
+    class_of_one(alloc, k, &q)
 }
 
 // The codes of 1 where all is 0.
@@ -285,14 +234,6 @@ fn ideals(rt: HostRuntime) -> Result<(), Fail> {
 #[test]
 fn quotient_by_a_point(rt: HostRuntime) -> Result<(), Fail> {
     let k = PrimeField::new(7)?;
-    let (one, y) = one_and_y(rt.alloc(), &k)?;
-    assert_eq!(rt; one.len(), 1);
-    assert_eq!(rt; y.len(), 1);
-    for i in 0..one.len() {
-        assert!(rt; one[i] != 0 && one[i] < 7);
-        // y is -1 at the point
-        assert!(rt; i < y.len() && y[i] == one[i] * 6 % 7);
-    }
     let found = three(rt.alloc(), &k)?;
     assert_eq!(rt; found.len(), 1);
     for code in found {
@@ -304,10 +245,7 @@ fn quotient_by_a_point(rt: HostRuntime) -> Result<(), Fail> {
 #[test]
 fn quotients_of_other_dimensions(rt: HostRuntime) -> Result<(), Fail> {
     let k = PrimeField::new(7)?;
-    let (one, square) = one_and_square(rt.alloc(), &k)?;
-    assert_eq!(rt; one.len(), 2);
-    assert!(rt; one.as_slice() == square.as_slice());
-    assert!(rt; one.as_slice() != [0, 0].as_slice());
+    assert_eq!(rt; one_at_x(rt.alloc(), &k)?.len(), 2);
     assert_eq!(rt; one_of_none(rt.alloc(), &k)?.len(), 0);
     Ok(())
 }
