@@ -8,3 +8,4 @@ pub mod Powers
 pub mod IntegralFunctions
 pub mod Products
 pub mod SquareParts
+pub mod Separable

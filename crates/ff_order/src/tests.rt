@@ -1,53 +1,39 @@
 //! Known maximal orders: tame and wild ones, several turns at one prime, two primes, degree 4 in y, and one with zero
-//! divisors. An order is known where it contains k[x][y], contains a given function, and has the pivot degree of the
-//! order that is known.
+//! divisors. An order between k[x][y] and the integral functions is known by its pivot degree. The bases in the comments
+//! were worked out by hand.
 
-ghost use Rattle.std.specs.Prelude.{◌≡◌, ◌<◌, length, All, IfOk};
+ghost use Rattle.std.specs.Prelude.{◌≡◌, ◌<◌, [], ◌∷◌, All, IfOk};
 ghost use Rattle.ff_fields.specs.Over.{IsOver};
 ghost use Rattle.ff_poly.specs.Words.{IsIrreducible};
 ghost use Rattle.ff_algebra.specs.Curves.{IsCurve};
-ghost use Rattle.ff_algebra.specs.Values.{IsElem};
-ghost use Rattle.ff_lattice.specs.Lattices.{IsLattice};
-ghost use Rattle.ff_lattice.specs.Orders.{IsOrder};
 
 use crate::{equation_order, maximal, multiplier, p_maximal, radical};
-use ff_algebra::{Curve, Elem};
+use ff_algebra::Curve;
 use ff_fields::field::SmallField;
 use ff_fields::prime::PrimeField;
-use ff_lattice::multiples::scale;
-use ff_lattice::order::power_of_y;
-use ff_lattice::sets::contains;
-use ff_lattice::{Lattice, Order};
-use ff_poly::{Poly, Terms, poly};
+use ff_lattice::Lattice;
+use ff_poly::{Poly, Terms};
 use std::alloc::{AllocError, Global};
 use std::test::Fail;
 
-// The exponent of y, that of x, and the code.
-type Term = (u64, u64, u32);
+// The terms of the list, each an exponent of y, one of x, and a code. The codes are tested first.
+fn terms<K: SmallField>(alloc: Global, k: &K, list: &[(u64, u64, u32)]) -> Result<Terms, Fail>
+    ensures { IfOk result (All (λ t. t.2 < (K.field k.now).size)) }
+{
+    let size = k.size();
+    if !list.iter().all(|t| t.2 < size) {
+        return Err(Fail::new("a code is not in the field"));
+    }
+    Ok(Terms::from_list(alloc, k, list)?)
+}
 
-// The curve of y^n and four further terms.
-fn curve<K: SmallField>(
-    alloc: Global,
-    k: &K,
-    n: u64,
-    terms: (Term, Term, Term, Term),
-) -> Result<Curve, AllocError>
-    requires one_in { 1 < (K.field k.now).size }
-    requires first_in { terms.0.2 < (K.field k.now).size }
-    requires second_in { terms.1.2 < (K.field k.now).size }
-    requires third_in { terms.2.2 < (K.field k.now).size }
-    requires fourth_in { terms.3.2 < (K.field k.now).size }
+// The curve of the terms.
+fn curve<K: SmallField>(alloc: Global, k: &K, list: &[(u64, u64, u32)]) -> Result<Curve, Fail>
     ensures { IfOk result (IsCurve (K.field k.now)) }
 {
-    let mut list = Vec::new(alloc);
-    list.push((n, 0, 1))?;
-    list.push(terms.0)?;
-    list.push(terms.1)?;
-    list.push(terms.2)?;
-    list.push(terms.3)?;
-    let f = Terms::from_list(alloc, k, &list)?;
+    let f = terms(alloc, k, list)?;
     let Ok(made) = Curve::new(alloc, k, &f) else {
-        return Err(AllocError);
+        return Err(Fail::new("no curve"));
     };
     Ok(made)
 }
@@ -65,263 +51,152 @@ fn line<K: SmallField>(alloc: Global, k: &K, c: u32) -> Result<Poly, AllocError>
     Ok(Poly::from_codes(codes))
 }
 
-// The order k[x][y], enlarged at x.
-fn at_x<K: SmallField>(alloc: Global, k: &K, c: &Curve) -> Result<Order, AllocError>
+// The pivot degree of a lattice of at most 4 rows.
+fn degree(l: &Lattice) -> Result<i128, Fail> {
+    if l.len() > 4 {
+        return Err(Fail::new("too many rows"));
+    }
+    Ok(l.pivot_degree())
+}
+
+// The pivot degree of k[x][y], enlarged at x.
+fn degree_at_x<K: SmallField>(alloc: Global, k: &K, c: &Curve) -> Result<i128, Fail>
     requires one_in { 1 < (K.field k.now).size }
     requires curve { IsCurve (K.field k.now) c.now }
-    ensures { IfOk result (IsOrder (K.field k.now) c.now.fin) }
 {
-    let start = equation_order(alloc, k, c.fin())?;
+    let p = c.fin();
     let x = line(alloc, k, 0)?;
-    p_maximal(alloc, k, c.fin(), &start, &x)
+    let start = equation_order(alloc, k, p)?;
+    let o = p_maximal(alloc, k, p, &start, &x)?;
+    degree(o.lattice())
 }
 
-// Is z/d in the lattice?
-fn has_quotient<K: SmallField>(
-    alloc: Global,
-    k: &K,
-    l: &Lattice,
-    z: &Elem,
-    d: &Poly,
-) -> Result<bool, AllocError>
-    requires some { 0 < length l.now.rows }
-    requires form { IsLattice (K.field k.now).ops (length l.now.rows) l.now }
-    requires z_in { IsElem (K.field k.now).ops (length l.now.rows) z.now }
-    requires d_in { IsOver (K.field k.now).ops d.now }
+// The same over the curve of the terms.
+fn at_x<K: SmallField>(alloc: Global, k: &K, list: &[(u64, u64, u32)]) -> Result<i128, Fail>
+    requires { 1 < (K.field k.now).size }
 {
-    let one = Poly::one(alloc)?;
-    if d.is_zero() || one.is_zero() {
-        return Ok(false);
-    }
-    let multiple = scale(alloc, k, l, d, &one)?;
-    if multiple.len() != l.len() {
-        return Ok(false);
-    }
-    contains(alloc, k, &multiple, z)
+    let c = curve(alloc, k, list)?;
+    degree_at_x(alloc, k, &c)
 }
 
-// Does the order have this pivot degree, and z/d as a member?
-fn is_known<K: SmallField>(
-    alloc: Global,
-    k: &K,
-    o: &Order,
-    degree: i128,
-    z: &Elem,
-    d: &Poly,
-) -> Result<bool, AllocError>
-    requires few { length o.now.rows < 5 }
-    requires some { 0 < length o.now.rows }
-    requires form { IsLattice (K.field k.now).ops (length o.now.rows) o.now }
-    requires z_in { IsElem (K.field k.now).ops (length o.now.rows) z.now }
-    requires d_in { IsOver (K.field k.now).ops d.now }
-{
-    let l = o.lattice();
-    if l.pivot_degree() != degree {
-        return Ok(false);
-    }
-    has_quotient(alloc, k, l, z, d)
-}
-
-// Is the order k[x][y], enlarged at x, of this pivot degree, with y/x^e as a member?
-fn has_y_over<K: SmallField>(
+// The pivot degree of k[x][y], enlarged at these polynomials.
+fn degree_at<K: SmallField>(
     alloc: Global,
     k: &K,
     c: &Curve,
-    degree: i128,
-    e: usize,
-) -> Result<bool, AllocError>
-    requires one_in { 1 < (K.field k.now).size }
+    primes: &[Poly],
+) -> Result<i128, Fail>
     requires curve { IsCurve (K.field k.now) c.now }
+    requires primes_in { All (IsOver (K.field k.now).ops) primes.now }
+    requires irreducible { All (IsIrreducible (K.field k.now).ops) primes.now }
 {
-    let o = at_x(alloc, k, c)?;
-    let y = power_of_y(alloc, k, c.fin().n(), 1)?;
-    let one = Poly::one(alloc)?;
-    let d = poly::shift(alloc, &one, e)?;
-    is_known(alloc, k, &o, degree, &y, &d)
+    let p = c.fin();
+    let start = equation_order(alloc, k, p)?;
+    let o = maximal(alloc, k, p, &start, primes)?;
+    degree(o.lattice())
 }
 
-// x + y, with two numerators.
-fn x_and_y<K: SmallField>(alloc: Global, k: &K) -> Result<Elem, AllocError>
-    requires { 1 < (K.field k.now).size }
-    ensures { IfOk result (IsElem (K.field k.now).ops 2) }
-{
-    let mut num = Vec::new(alloc);
-    num.push(line(alloc, k, 0)?)?;
-    num.push(Poly::one(alloc)?)?;
-    let one = Poly::one(alloc)?;
-    Ok(Elem::new(k, num, one))
-}
-
-// y^2 = x^3 + x^2, with the member y/x.
-fn node<K: SmallField>(alloc: Global, k: &K) -> Result<bool, AllocError>
-    requires { 6 < (K.field k.now).size }
-{
-    let c = curve(alloc, k, 2, ((0, 3, 6), (0, 2, 6), (0, 0, 0), (0, 0, 0)))?;
-    has_y_over(alloc, k, &c, -1, 1)
-}
-
-// y^2 = x^m, with the member y/x^e, where m is 2·e or 2·e + 1.
-fn power<K: SmallField>(
-    alloc: Global,
-    k: &K,
-    m: u64,
-    degree: i128,
-    e: usize,
-) -> Result<bool, AllocError>
-    requires { 6 < (K.field k.now).size }
-{
-    let c = curve(alloc, k, 2, ((0, m, 6), (0, 0, 0), (0, 0, 0), (0, 0, 0)))?;
-    has_y_over(alloc, k, &c, degree, e)
-}
-
-// y^4 = x^5, with the members 1, y/x, y^2/x^2, y^3/x^3.
-fn quartic<K: SmallField>(alloc: Global, k: &K) -> Result<bool, AllocError>
-    requires { 6 < (K.field k.now).size }
-{
-    let c = curve(alloc, k, 4, ((0, 5, 6), (0, 0, 0), (0, 0, 0), (0, 0, 0)))?;
-    has_y_over(alloc, k, &c, -6, 1)
-}
-
-// y = x·v with v^3 - v = x: the powers of v have the discriminant 1.
-fn wild_cubic<K: SmallField>(alloc: Global, k: &K) -> Result<bool, AllocError>
-    requires { 2 < (K.field k.now).size }
-{
-    let c = curve(alloc, k, 3, ((1, 2, 2), (0, 4, 2), (0, 0, 0), (0, 0, 0)))?;
-    has_y_over(alloc, k, &c, -3, 1)
-}
-
-// y = x^2·v + x with v^2 + v = x: the powers of v have the discriminant 1.
-fn wild_square<K: SmallField>(alloc: Global, k: &K) -> Result<bool, AllocError>
-    requires { 1 < (K.field k.now).size }
-{
-    let c = curve(alloc, k, 2, ((1, 2, 1), (0, 2, 1), (0, 3, 1), (0, 5, 1)))?;
-    let o = at_x(alloc, k, &c)?;
-    if o.lattice().len() != 2 {
-        return Ok(false);
-    }
-    let one = Poly::one(alloc)?;
-    let d = poly::shift(alloc, &one, 2)?;
-    is_known(alloc, k, &o, -2, &x_and_y(alloc, k)?, &d)
-}
-
-// Ramified in characteristic 2: y = x·v with v^2 + x·v = x.
-fn ramified_square<K: SmallField>(alloc: Global, k: &K) -> Result<bool, AllocError>
-    requires { 1 < (K.field k.now).size }
-{
-    let c = curve(alloc, k, 2, ((1, 2, 1), (0, 3, 1), (0, 0, 0), (0, 0, 0)))?;
-    has_y_over(alloc, k, &c, -1, 1)
-}
-
-// x and x + 1.
-fn two_primes<K: SmallField>(alloc: Global, k: &K) -> Result<Vec<Poly>, AllocError>
-    requires { 1 < (K.field k.now).size }
-    ensures over { IfOk result (λ v. All (IsOver (K.field k.now).ops) v.items) }
-    ensures irreducible { IfOk result (λ v. All (IsIrreducible (K.field k.now).ops) v.items) }
+// The polynomial alone.
+fn alone(alloc: Global, first: Poly) -> Result<Vec<Poly>, AllocError>
+    ensures { IfOk result (λ v. v.items ≡ first ∷ []) }
 {
     let mut primes = Vec::new(alloc);
-    primes.push(line(alloc, k, 0)?)?;
-    primes.push(line(alloc, k, 1)?)?;
+    primes.push(first)?;
     Ok(primes)
 }
 
-// y^2 = x^3·(x + 1)^4 over the field of 3 elements, with the member y/(x·(x + 1)^2), where e is the power of x + 1.
-fn at_both<K: SmallField>(alloc: Global, k: &K, c: &Curve, d: &Poly) -> Result<bool, AllocError>
+// The two polynomials.
+fn pair(alloc: Global, first: Poly, second: Poly) -> Result<Vec<Poly>, AllocError>
+    ensures { IfOk result (λ v. v.items ≡ first ∷ second ∷ []) }
+{
+    let mut primes = Vec::new(alloc);
+    primes.push(first)?;
+    primes.push(second)?;
+    Ok(primes)
+}
+
+// The pivot degree of k[x][y], enlarged at the list of x alone.
+fn at_x_alone<K: SmallField>(
+    alloc: Global,
+    k: &K,
+    list: &[(u64, u64, u32)],
+) -> Result<i128, Fail>
+    requires { 1 < (K.field k.now).size }
+{
+    let c = curve(alloc, k, list)?;
+    let primes = alone(alloc, line(alloc, k, 0)?)?;
+    degree_at(alloc, k, &c, &primes)
+}
+
+// The pivot degree of k[x][y], enlarged at x and x + 1.
+fn at_both<K: SmallField>(alloc: Global, k: &K, list: &[(u64, u64, u32)]) -> Result<i128, Fail>
+    requires { 1 < (K.field k.now).size }
+{
+    let c = curve(alloc, k, list)?;
+    let primes = pair(alloc, line(alloc, k, 0)?, line(alloc, k, 1)?)?;
+    degree_at(alloc, k, &c, &primes)
+}
+
+// The pivot degrees of the radical of k[x][y] at x, and of its multipliers.
+fn first_turn<K: SmallField>(alloc: Global, k: &K, c: &Curve) -> Result<(i128, i128), Fail>
     requires one_in { 1 < (K.field k.now).size }
     requires curve { IsCurve (K.field k.now) c.now }
-    requires d_in { IsOver (K.field k.now).ops d.now }
 {
-    let start = equation_order(alloc, k, c.fin())?;
-    let primes = two_primes(alloc, k)?;
-    let o = maximal(alloc, k, c.fin(), &start, &primes)?;
-    let y = power_of_y(alloc, k, c.fin().n(), 1)?;
-    is_known(alloc, k, &o, -3, &y, d)
-}
-
-// x·(x + 1)^2.
-fn divisor<K: SmallField>(alloc: Global, k: &K) -> Result<Poly, AllocError>
-    requires { 1 < (K.field k.now).size }
-    ensures { IfOk result (IsOver (K.field k.now).ops) }
-{
+    let p = c.fin();
     let x = line(alloc, k, 0)?;
-    let t = line(alloc, k, 1)?;
-    let square = poly::mul(alloc, k, &t, &t)?;
-    poly::mul(alloc, k, &x, &square)
+    let start = equation_order(alloc, k, p)?;
+    let r = radical(alloc, k, p, &start, &x)?;
+    let m = multiplier(alloc, k, p, &start, &r)?;
+    Ok((degree(&r)?, degree(m.lattice())?))
 }
 
-// y^2 = x^3·(x + 1)^4 over the field of 3 elements.
-fn several<K: SmallField>(alloc: Global, k: &K) -> Result<bool, AllocError>
-    requires { 2 < (K.field k.now).size }
-{
-    let c = curve(alloc, k, 2, ((0, 7, 2), (0, 6, 2), (0, 4, 2), (0, 3, 2)))?;
-    let d = divisor(alloc, k)?;
-    at_both(alloc, k, &c, &d)
-}
-
-// The radical of k[x][y] at x over y^2 = x^3 + x^2 is that of x and y.
-fn known_radical<K: SmallField>(alloc: Global, k: &K) -> Result<bool, AllocError>
-    requires { 6 < (K.field k.now).size }
-{
-    let c = curve(alloc, k, 2, ((0, 3, 6), (0, 2, 6), (0, 0, 0), (0, 0, 0)))?;
-    let start = equation_order(alloc, k, c.fin())?;
-    let x = line(alloc, k, 0)?;
-    let r = radical(alloc, k, c.fin(), &start, &x)?;
-    Ok(is_x_and_y(&r))
-}
-
-// The multipliers of this radical, with the member y/x.
-fn known_multiplier<K: SmallField>(alloc: Global, k: &K) -> Result<bool, AllocError>
-    requires { 6 < (K.field k.now).size }
-{
-    let c = curve(alloc, k, 2, ((0, 3, 6), (0, 2, 6), (0, 0, 0), (0, 0, 0)))?;
-    let start = equation_order(alloc, k, c.fin())?;
-    let x = line(alloc, k, 0)?;
-    let r = radical(alloc, k, c.fin(), &start, &x)?;
-    let m = multiplier(alloc, k, c.fin(), &start, &r)?;
-    let y = power_of_y(alloc, k, c.fin().n(), 1)?;
-    is_known(alloc, k, &m, -1, &y, &x)
-}
-
-// Are the rows x, 0 and 0, 1, over 1?
-fn is_x_and_y(r: &Lattice) -> bool {
-    let rows = r.rows();
-    rows.len() == 2
-        && r.den().degree() == Some(0)
-        && rows[0].len() == 2
-        && rows[1].len() == 2
-        && rows[0][0].degree() == Some(1)
-        && rows[0][0].coeff(0) == 0
-        && rows[0][1].is_zero()
-        && rows[1][0].is_zero()
-        && rows[1][1].degree() == Some(0)
-}
-
-#[test]
-fn turns(rt: HostRuntime) -> Result<(), Fail> {
-    let k = PrimeField::new(7)?;
-    assert!(rt; node(rt.alloc(), &k)?);
-    assert!(rt; power(rt.alloc(), &k, 2, -1, 1)?);
-    assert!(rt; power(rt.alloc(), &k, 5, -2, 2)?);
-    assert!(rt; !power(rt.alloc(), &k, 5, -1, 1)?);
-    assert!(rt; power(rt.alloc(), &k, 9, -4, 4)?);
-    assert!(rt; quartic(rt.alloc(), &k)?);
-    Ok(())
-}
-
+// y^2 = x^3 + x^2: the radical at x is that of x and y, and its multipliers are the combinations of 1 and y/x.
 #[test]
 fn radicals(rt: HostRuntime) -> Result<(), Fail> {
     let k = PrimeField::new(7)?;
-    assert!(rt; known_radical(rt.alloc(), &k)?);
-    assert!(rt; known_multiplier(rt.alloc(), &k)?);
+    let c = curve(rt.alloc(), &k, &[(2, 0, 1), (0, 3, 6), (0, 2, 6)])?;
+    assert_eq!(rt; first_turn(rt.alloc(), &k, &c)?, (1, -1));
     Ok(())
 }
 
+// y^2 = x^3 + x^2 has the basis 1, y/x, and y^2 = x^(2e + 1) has 1, y/x^e.
+#[test]
+fn turns(rt: HostRuntime) -> Result<(), Fail> {
+    let k = PrimeField::new(7)?;
+    assert_eq!(rt; at_x(rt.alloc(), &k, &[(2, 0, 1), (0, 3, 6), (0, 2, 6)])?, -1);
+    assert_eq!(rt; at_x(rt.alloc(), &k, &[(2, 0, 1), (0, 5, 6)])?, -2);
+    assert_eq!(rt; at_x(rt.alloc(), &k, &[(2, 0, 1), (0, 9, 6)])?, -4);
+    Ok(())
+}
+
+// y^4 = x^5 has the basis 1, y/x, y^2/x^2, y^3/x^3, and y^2 = x^2, with zero divisors, has 1, y/x.
+#[test]
+fn degrees_in_y(rt: HostRuntime) -> Result<(), Fail> {
+    let k = PrimeField::new(7)?;
+    assert_eq!(rt; at_x(rt.alloc(), &k, &[(4, 0, 1), (0, 5, 6)])?, -6);
+    assert_eq!(rt; at_x(rt.alloc(), &k, &[(2, 0, 1), (0, 2, 6)])?, -1);
+    Ok(())
+}
+
+// y^2 = x^3·(x + 1)^4 has the basis 1, y/(x·(x + 1)^2), and at x alone 1, y/x.
+#[test]
+fn primes(rt: HostRuntime) -> Result<(), Fail> {
+    let k = PrimeField::new(3)?;
+    let list = [(2, 0, 1), (0, 7, 2), (0, 6, 2), (0, 4, 2), (0, 3, 2)];
+    assert_eq!(rt; at_x_alone(rt.alloc(), &k, &list)?, -1);
+    assert_eq!(rt; at_both(rt.alloc(), &k, &list)?, -3);
+    Ok(())
+}
+
+// y = x^2·v + x with v^2 + v = x, in characteristic 2, has the basis 1, v, and y = x·v with v^3 - v = x, in
+// characteristic 3, has 1, v, v^2: the powers of v have the discriminant 1.
 #[test]
 fn wild(rt: HostRuntime) -> Result<(), Fail> {
     let two = PrimeField::new(2)?;
-    assert!(rt; wild_square(rt.alloc(), &two)?);
-    assert!(rt; ramified_square(rt.alloc(), &two)?);
+    let square = [(2, 0, 1), (1, 2, 1), (0, 2, 1), (0, 3, 1), (0, 5, 1)];
+    assert_eq!(rt; at_x(rt.alloc(), &two, &square)?, -2);
     let three = PrimeField::new(3)?;
-    assert!(rt; wild_cubic(rt.alloc(), &three)?);
-    assert!(rt; several(rt.alloc(), &three)?);
+    let cubic = [(3, 0, 1), (1, 2, 2), (0, 4, 2)];
+    assert_eq!(rt; at_x(rt.alloc(), &three, &cubic)?, -3);
     Ok(())
 }
