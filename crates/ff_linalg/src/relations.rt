@@ -1,6 +1,6 @@
 //! The first relation of the rows of a matrix.
 
-ghost use Rattle.std.specs.Prelude.{◌≡◌, ◌≤◌, length, IfOk, IsTrue, MatchOption};
+ghost use Rattle.std.specs.Prelude.{◌≡◌, ◌≤◌, length, IfOk, MatchOption};
 ghost use Rattle.ff_linalg.specs.Matrix.{HasShape, IsMatrixOver, first_rows_of};
 ghost use Rattle.ff_linalg.specs.Space.{HasIndependentRows, HasIndependentStart, IsFirstRelation};
 
@@ -24,20 +24,20 @@ fn first_rows(alloc: Global, a: &Matrix, r: usize) -> Result<Matrix, AllocError>
     })
 }
 
-/// Whether the first `count` rows are independent; true only where they are.
-fn is_independent_start<K: SmallField>(
+/// How many relations there are among the first `count` rows, in a basis of them; 0 only where the rows are independent.
+fn count_relations<K: SmallField>(
     alloc: Global,
     k: &K,
     a: &Matrix,
     count: usize,
-) -> Result<bool, AllocError>
+) -> Result<usize, AllocError>
     requires a_in { IsMatrixOver (K.field k.now).ops a.now }
     requires within { count ≤ length a.now.rows }
-    ensures { IfOk result (λ t. IsTrue t → HasIndependentStart (K.field k.now).ops a.now count) }
+    ensures { IfOk result (λ n. n ≡ 0 → HasIndependentStart (K.field k.now).ops a.now count) }
 {
     let start = first_rows(alloc, a, count)?;
     let relations = kernel(alloc, k, &start)?;
-    Ok(relations.rows() == 0)
+    Ok(relations.rows())
 }
 
 /// A number of first rows that are independent: the rank, if as many are, and else one that is found by halving. That it is
@@ -46,14 +46,18 @@ fn independent_count<K: SmallField>(alloc: Global, k: &K, a: &Matrix) -> Result<
     requires { IsMatrixOver (K.field k.now).ops a.now }
     ensures { IfOk result (λ n. (n ≤ length a.now.rows) × HasIndependentStart (K.field k.now).ops a.now n) }
 {
+    let relations = count_relations(alloc, k, a, a.rows())?;
+    if relations == 0 {
+        return Ok(a.rows());
+    }
     let mut low = 0;
-    let mut high = a.rows().saturating_sub(kernel(alloc, k, a)?.rows());
-    if is_independent_start(alloc, k, a, high)? {
+    let mut high = a.rows().saturating_sub(relations);
+    if count_relations(alloc, k, a, high)? == 0 {
         return Ok(high);
     }
     while low < high {
         let middle = high - (high - low) / 2;
-        if is_independent_start(alloc, k, a, middle)? {
+        if count_relations(alloc, k, a, middle)? == 0 {
             low = middle;
         } else {
             high = middle - 1;
@@ -64,8 +68,9 @@ fn independent_count<K: SmallField>(alloc: Global, k: &K, a: &Matrix) -> Result<
 
 /// For the least r such that row r is a combination of the rows before it, the r coefficients of that combination; None
 /// exactly where the rows are independent.
-/// Cost: that of two kernels and of one call of `solve` where each row from the first such one on is a combination of rows
-/// before it, as powers of an element are; else of as many more kernels as the number of rows has binary digits.
+/// Cost: that of one kernel where the rows are independent, and of two kernels and of one call of `solve` where each row from
+/// the first such one on is a combination of rows before it, as powers of an element are; else of as many more kernels as the
+/// number of rows has binary digits.
 pub fn min_relation<K: SmallField>(
     alloc: Global,
     k: &K,

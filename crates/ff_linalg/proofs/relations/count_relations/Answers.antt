@@ -1,6 +1,6 @@
-use Rattle.std.proofs.Common.{eqb-true, sym, subst, ◌∙◌}
+use Rattle.std.proofs.Common.{sym, subst, ◌∙◌}
 use Rattle.std.proofs.lemmas.List.Elements.{All-take}
-use Rattle.ff_linalg.proofs.relations.is_independent_start.Goals as goal
+use Rattle.ff_linalg.proofs.relations.count_relations.Goals as goal
 use Rattle.ff_fields.specs.Over.{IsOver}
 use Rattle.ff_linalg.specs.Matrix.{IsMatrixOver}
 use Rattle.ff_linalg.specs.Kernel.{IsKernelBasis}
@@ -19,4 +19,4 @@ returns g c =
     let basis = c.in_ok-relations.ensures in
     λ e. free_start k c.args.a.now c.in_ok-relations.relations c.args.count c.requires.within c.requires.a_in.each start.shape.each
     (subst (λ v. IsKernelBasis k.ops v c.in_ok-relations.relations) start.made basis)
-    (sym c.rows.ensures ∙ eqb-true c.rows.result 0 e)
+    (sym c.rows.ensures ∙ e)
