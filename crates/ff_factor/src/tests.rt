@@ -110,6 +110,19 @@ fn roots_of_unity(rt: HostRuntime) -> Result<(), Fail> {
     Ok(())
 }
 
+// Those of x^512 - 1 have orders that divide 512, and order 2^k comes in 2^(k-1) roots whose degree is the order of 7 modulo 2^k:
+// two of degree 1, and one, two and four pairs at orders 4, 8 and 16.
+#[test]
+fn roots_of_high_order(rt: HostRuntime) -> Result<(), Fail> {
+    let alloc = rt.alloc();
+    let k = PrimeField::new(7)?;
+    let mut codes = [0; 513];
+    codes[0] = 6;
+    codes[512] = 1;
+    assert_eq!(rt; simple_factors(alloc, &k, &codes)?, (2, 7));
+    Ok(())
+}
+
 // Modulo 13, 2 is no square and no cube, and p-th powers of codes are the codes.
 #[test]
 fn modulo_thirteen(rt: HostRuntime) -> Result<(), Fail> {
