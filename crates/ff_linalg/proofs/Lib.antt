@@ -11,5 +11,7 @@ pub mod Beside
 pub mod KernelBasis
 pub mod Solving
 pub mod Unique
+pub mod Columns
+pub mod Diagonal
+pub mod Transposed
 pub mod FirstRelation
-pub mod FreeRows
