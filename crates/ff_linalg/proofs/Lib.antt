@@ -1,4 +1,5 @@
 pub mod Multiples
+pub mod Tables
 pub mod Flat
 pub mod RowSteps
 pub mod Views
