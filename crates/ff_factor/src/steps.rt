@@ -1,31 +1,12 @@
 //! Steps of products modulo a monic polynomial, in place.
 
 ghost use Rattle.std.specs.Prelude.{◌≡◌, ◌-◌, ◌<◌, ◌≤◌, length, replicate, drop};
-ghost use Rattle.ff_fields.specs.Code.{raw_ring};
 ghost use Rattle.ff_fields.specs.Over.{IsOver};
-ghost use Rattle.ff_ring.specs.Lists.{add_lists, scale_list};
 ghost use Rattle.ff_falg.specs.Algebras.{IsVector};
 ghost use Rattle.ff_factor.specs.Quotients.{IsModulus, product_modulo, times_x};
 
 use ff_fields::field::SmallField;
-
-/// Adds c times the codes to the sum. Where c or a code is 0, nothing is multiplied.
-pub(crate) fn add_multiple<K: SmallField>(k: &K, sum: &mut [u32], c: u32, codes: &[u32])
-    requires fits { length codes.now ≤ length sum.old }
-    requires sum_in { IsOver (K.field k.now).ops sum.old }
-    requires c_in { c < (K.field k.now).size }
-    requires codes_in { IsOver (K.field k.now).ops codes.now }
-    ensures { let r = raw_ring (K.field k.now).ops in sum.new ≡ add_lists r sum.old (scale_list r c codes.now) }
-{
-    if c == 0 {
-        return;
-    }
-    for j in 0..codes.len() {
-        if codes[j] != 0 {
-            sum[j] = k.add(sum[j], k.mul(c, codes[j]));
-        }
-    }
-}
+use ff_linalg::add_multiple;
 
 /// How many codes there are up to the last that isn't 0.
 fn trimmed_length(codes: &[u32]) -> usize

@@ -78,7 +78,8 @@ fn more_powers<K: SmallField, A: FiniteAlgebra<K>>(
 }
 
 /// The first relation among e, x·e, x·x·e, .., of which at most `bound` are independent. The number of rows is doubled until
-/// there is one.
+/// there is one; from half of the bound on all are taken at once.
+/// Cost: one elimination for each number of rows, 1, 2, 4, .. and bound + 1.
 pub fn first_relation<K: SmallField, A: FiniteAlgebra<K>>(
     alloc: Global,
     k: &K,
@@ -97,7 +98,8 @@ pub fn first_relation<K: SmallField, A: FiniteAlgebra<K>>(
     let mut powers = first_power(alloc, e)?;
     'grow: loop {
         let known = powers.rows();
-        let more = known.min(bound - known + 1);
+        let rest = bound - known;
+        let more = if known < rest { known } else { rest + 1 };
         let count = known.checked_add(more).ok_or(AllocError)?;
         powers = more_powers(alloc, k, a, x, &powers, count)?;
         if let Some(coefficients) = min_relation(alloc, k, &powers)? {

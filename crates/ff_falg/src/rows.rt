@@ -11,7 +11,7 @@ ghost use Rattle.ff_falg.specs.Algebras.{IsVector};
 ghost use Rattle.ff_falg.specs.Steps.{with_row, IsProductBelow};
 
 use ff_fields::field::SmallField;
-use ff_linalg::Matrix;
+use ff_linalg::{Matrix, add_multiple};
 use std::alloc::{AllocError, Global};
 
 /// Multiplies each code by c.
@@ -22,24 +22,6 @@ pub(crate) fn scale_all<K: SmallField>(k: &K, codes: &mut [u32], c: u32)
 {
     for j in 0..codes.len() {
         codes[j] = k.mul(c, codes[j]);
-    }
-}
-
-/// Adds c times the codes to the sum. Where c or a code is 0, nothing is multiplied.
-pub(crate) fn add_multiple<K: SmallField>(k: &K, sum: &mut [u32], c: u32, codes: &[u32])
-    requires fits { length codes.now ≤ length sum.old }
-    requires sum_in { IsOver (K.field k.now).ops sum.old }
-    requires c_in { c < (K.field k.now).size }
-    requires codes_in { IsOver (K.field k.now).ops codes.now }
-    ensures { let r = raw_ring (K.field k.now).ops in sum.new ≡ add_lists r sum.old (scale_list r c codes.now) }
-{
-    if c == 0 {
-        return;
-    }
-    for j in 0..codes.len() {
-        if codes[j] != 0 {
-            sum[j] = k.add(sum[j], k.mul(c, codes[j]));
-        }
     }
 }
 

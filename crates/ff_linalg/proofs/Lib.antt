@@ -1,4 +1,5 @@
 pub mod Multiples
+pub mod Tables
 pub mod Flat
 pub mod RowSteps
 pub mod Views
@@ -11,5 +12,7 @@ pub mod Beside
 pub mod KernelBasis
 pub mod Solving
 pub mod Unique
+pub mod Columns
+pub mod Diagonal
+pub mod Transposed
 pub mod FirstRelation
-pub mod FreeRows

@@ -31,7 +31,8 @@ module _ (k : CodeField) where
   written [] h = refl
   written (r ∷ rows) h = ap₂ ◌∷◌ (numbers_read k r (All-head (IsOver k.ops) r rows h)) (written rows (All-tail (IsOver k.ops) r rows h))
 
-  rows_within : (a b : MatrixValue) → a.cols ≡ b.cols → IsMatrixOver k.ops a → IsMatrixOver k.ops b → All (λ r. length r ≡ a.cols) a.rows
+  -- rows of one matrix in the row space of the other
+  pub rows_within : (a b : MatrixValue) → a.cols ≡ b.cols → IsMatrixOver k.ops a → IsMatrixOver k.ops b → All (λ r. length r ≡ a.cols) a.rows
       → ((v : List ℕ) → IsInRowSpace k.ops a v → IsInRowSpace k.ops b v) → (i : ℕ) → i < length (sequences_of k a.rows)
       → InRowSpace R.ops a.cols (sequences_of k b.rows) (row R.ops (sequences_of k a.rows) i)
   rows_within a b e a_in b_in wide into i l =

@@ -4,3 +4,4 @@ pub mod Forms
 pub mod Space
 pub mod Kernel
 pub mod MatrixOver
+pub mod Relations

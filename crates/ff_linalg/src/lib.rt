@@ -6,13 +6,14 @@ pub mod kernels;
 pub mod matrix;
 pub mod relations;
 mod rows;
-mod slices;
+pub mod slices;
 pub mod solutions;
 
 pub use elimination::echelon;
 pub use kernels::kernel;
 pub use matrix::Matrix;
 pub use relations::min_relation;
+pub use slices::add_multiple;
 pub use solutions::solve;
 
 #[cfg(test)]

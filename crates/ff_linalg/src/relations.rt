@@ -1,71 +1,70 @@
 //! The first relation of the rows of a matrix.
 
-ghost use Rattle.std.specs.Prelude.{◌≡◌, ◌≤◌, length, IfOk, IsTrue, MatchOption};
-ghost use Rattle.ff_linalg.specs.Matrix.{HasShape, IsMatrixOver, first_rows_of};
-ghost use Rattle.ff_linalg.specs.Space.{HasIndependentRows, HasIndependentStart, IsFirstRelation};
+ghost use Rattle.std.specs.Prelude.{◌≡◌, ◌<◌, ◌≤◌, length, IfOk, MatchOption};
+ghost use Rattle.ff_linalg.specs.Matrix.{HasShape, IsMatrixOver};
+ghost use Rattle.ff_linalg.specs.Relations.{IsColumnWritten, IsTransposed, IsDiagonalStart, IsColumnStart};
+ghost use Rattle.ff_linalg.specs.Space.{HasIndependentRows, IsFirstRelation};
 
-use crate::kernels::kernel;
+use crate::elimination::echelon;
 use crate::matrix::Matrix;
-use crate::solutions::solve;
 use ff_fields::field::SmallField;
 use std::alloc::{AllocError, Global};
 
-/// The first r rows.
-fn first_rows(alloc: Global, a: &Matrix, r: usize) -> Result<Matrix, AllocError>
-    requires { r ≤ length a.now.rows }
-    ensures made { IfOk result (λ m. m ≡ first_rows_of a.now r) }
+/// Writes the codes into column c, from its first entry on.
+fn write_column(m: &mut Matrix, c: usize, codes: &[u32])
+    requires col_in { c < m.old.cols }
+    requires fits { length codes.now ≤ length m.old.rows }
+    requires shape { HasShape m.old (length m.old.rows) m.old.cols }
+    ensures { IsColumnWritten m.old c codes.now (length codes.now) m.new }
+{
+    for j in 0..codes.len() {
+        m.set(j, c, codes[j]);
+    }
+}
+
+/// The matrix whose rows are the columns of a.
+fn transposed(alloc: Global, a: &Matrix) -> Result<Matrix, AllocError>
+    ensures made { IfOk result (IsTransposed a.now) }
     ensures shape { IfOk result (λ _. HasShape a.now (length a.now.rows) a.now.cols) }
 {
-    let entries = a.entries[..r * a.cols].to_vec(alloc)?;
-    Ok(Matrix {
-        rows: r,
-        cols: a.cols,
-        entries,
-    })
-}
-
-/// Whether the first `count` rows are independent; true only where they are.
-fn is_independent_start<K: SmallField>(
-    alloc: Global,
-    k: &K,
-    a: &Matrix,
-    count: usize,
-) -> Result<bool, AllocError>
-    requires a_in { IsMatrixOver (K.field k.now).ops a.now }
-    requires within { count ≤ length a.now.rows }
-    ensures { IfOk result (λ t. IsTrue t → HasIndependentStart (K.field k.now).ops a.now count) }
-{
-    let start = first_rows(alloc, a, count)?;
-    let relations = kernel(alloc, k, &start)?;
-    Ok(relations.rows() == 0)
-}
-
-/// A number of first rows that are independent: the rank, if as many are, and else one that is found by halving. That it is
-/// the greatest matters to the cost alone.
-fn independent_count<K: SmallField>(alloc: Global, k: &K, a: &Matrix) -> Result<usize, AllocError>
-    requires { IsMatrixOver (K.field k.now).ops a.now }
-    ensures { IfOk result (λ n. (n ≤ length a.now.rows) × HasIndependentStart (K.field k.now).ops a.now n) }
-{
-    let mut low = 0;
-    let mut high = a.rows().saturating_sub(kernel(alloc, k, a)?.rows());
-    if is_independent_start(alloc, k, a, high)? {
-        return Ok(high);
+    let mut columns = Matrix::zero(alloc, a.cols, a.rows)?;
+    for i in 0..a.rows {
+        write_column(&mut columns, i, a.row(i));
     }
-    while low < high {
-        let middle = high - (high - low) / 2;
-        if is_independent_start(alloc, k, a, middle)? {
-            low = middle;
-        } else {
-            high = middle - 1;
+    Ok(columns)
+}
+
+/// How many rows, from the first on, have a 1 on the diagonal.
+fn diagonal_ones(m: &Matrix) -> usize
+    ensures { IsDiagonalStart m.now result }
+{
+    let count = m.rows().min(m.cols());
+    for i in 0..count {
+        if m.get(i, i) != 1 {
+            return i;
         }
     }
-    Ok(low)
+    count
+}
+
+/// The first r entries of column r.
+fn above_diagonal(alloc: Global, m: &Matrix, r: usize) -> Result<Vec<u32>, AllocError>
+    requires rows_in { r ≤ length m.now.rows }
+    requires col_in { r < m.now.cols }
+    ensures { IfOk result (λ v. IsColumnStart m.now r r v.items) }
+{
+    let mut out = Vec::new(alloc);
+    for i in 0..r {
+        out.push(m.get(i, r))?;
+    }
+    Ok(out)
 }
 
 /// For the least r such that row r is a combination of the rows before it, the r coefficients of that combination; None
 /// exactly where the rows are independent.
-/// Cost: that of two kernels and of one call of `solve` where each row from the first such one on is a combination of rows
-/// before it, as powers of an element are; else of as many more kernels as the number of rows has binary digits.
+/// The rows are the columns of the transposed matrix, and its reduced row echelon form has the same relations among its
+/// columns: the first column without a pivot shows its coefficients.
+/// Cost: that of one elimination of the transposed matrix.
 pub fn min_relation<K: SmallField>(
     alloc: Global,
     k: &K,
@@ -74,11 +73,12 @@ pub fn min_relation<K: SmallField>(
     requires { IsMatrixOver (K.field k.now).ops a.now }
     ensures { IfOk result (λ o. MatchOption o (HasIndependentRows (K.field k.now).ops a.now) (λ v. IsFirstRelation (K.field k.now).ops a.now v.items)) }
 {
-    for r in independent_count(alloc, k, a)?..a.rows() {
-        let before = first_rows(alloc, a, r)?;
-        if let Some(v) = solve(alloc, k, &before, a.row(r))? {
-            return Ok(Some(v));
-        }
+    let mut columns = transposed(alloc, a)?;
+    echelon(k, &mut columns);
+    let r = diagonal_ones(&columns);
+    if r == a.rows() {
+        return Ok(None);
     }
-    Ok(None)
+    let coefficients = above_diagonal(alloc, &columns, r)?;
+    Ok(Some(coefficients))
 }

@@ -1,9 +1,10 @@
 //! Known answers over the field of 7 elements, and edge shapes.
 
-ghost use Rattle.std.specs.Prelude.{◌≡◌, ◌<◌, IfOk};
+ghost use Rattle.std.specs.Prelude.{◌≡◌, ◌<◌, ◌+◌, length, IfOk};
+ghost use Rattle.ff_fields.specs.Over.{IsOver};
 ghost use Rattle.ff_linalg.specs.Matrix.{IsMatrixOver};
 
-use crate::{Matrix, echelon, kernel, min_relation, solve};
+use crate::{Matrix, add_multiple, echelon, kernel, min_relation, solve};
 use ff_fields::field::SmallField;
 use ff_fields::prime::PrimeField;
 use std::alloc::{AllocError, Global};
@@ -48,6 +49,24 @@ fn zeros_over<K: SmallField>(
 {
     let m = Matrix::zero(alloc, rows, cols)?;
     Ok(m)
+}
+
+// n codes x, and y after them.
+fn row_ending<K: SmallField>(
+    alloc: Global,
+    k: &K,
+    n: usize,
+    x: u32,
+    y: u32,
+) -> Result<Vec<u32>, AllocError>
+    requires x_in { x < (K.field k.now).size }
+    requires y_in { y < (K.field k.now).size }
+    ensures long { IfOk result (λ row. length row.items ≡ n + 1) }
+    ensures over { IfOk result (λ row. IsOver (K.field k.now).ops row.items) }
+{
+    let mut row = vec![in alloc; x; n]?;
+    row.push(y)?;
+    Ok(row)
 }
 
 // Solves v·a = (x y).
@@ -117,6 +136,23 @@ fn edge_shapes(rt: HostRuntime) -> Result<(), Fail> {
         assert_eq!(rt; min_relation(alloc, &k, &a)?.is_some(), rows > 0);
         assert_eq!(rt; echelon(&k, &mut a), 0);
         assert_eq!(rt; a.copy(alloc)?.rows(), rows);
+    }
+    Ok(())
+}
+
+// 65 codes are multiplied by a table, and 64 one by one.
+#[test]
+fn multiples_of_long_rows(rt: HostRuntime) -> Result<(), Fail> {
+    let alloc = rt.alloc();
+    let k = PrimeField::new(7)?;
+    for n in [64, 63] {
+        let codes = row_ending(alloc, &k, n, 2, 6)?;
+        let mut sum = row_ending(alloc, &k, n + 1, 1, 4)?;
+        add_multiple(&k, sum.as_mut_slice(), 3, codes.as_slice());
+        assert_eq!(rt; sum[0], 0);
+        assert_eq!(rt; sum[n - 1], 0);
+        assert_eq!(rt; sum[n], 5);
+        assert_eq!(rt; sum[n + 1], 4);
     }
     Ok(())
 }

@@ -1,36 +1,17 @@
-use Rattle.std.proofs.Common.{◌<◌, length, arith, sym, ◌∙◌}
-use Rattle.ff_linalg.proofs.slices.add_multiple.Goals as goal
-use Rattle.ff_linalg.proofs.slices.add_multiple.Goals.{then-codes-j-ne0, else-codes-j-ne0}
+use Rattle.std.proofs.Common.{ap, ◌∙◌}
 use Rattle.ff_fields.specs.Code.{raw_ring}
-use Rattle.ff_ring.proofs.Lists.{length_scale_list, get_or_scale_list}
-use Rattle.ff_fields.specs.Over.{IsOver_scale}
-use Rattle.ff_linalg.proofs.Multiples.{IsOver_part, add_lists_step, add_lists_pass, add_lists_all, add_nothing}
-
-pub add-requires-clause-a_in : goal.add-requires-clause-a_in
-add-requires-clause-a_in g c =
-    let k = g.K.SmallField.field c.args.k.now in
-    let within : c.loop-j.j < length c.loop-j.sum = omega arith in
-    (IsOver_part k c.args.sum.now c.loop-j.sum _ c.loop-j.j c.requires.sum_in
-    (IsOver_scale k c.args.c c.args.codes.now c.requires.c_in c.requires.codes_in) c.loop-j.invariant).each c.loop-j.j 0 within
-
-pub loop-j-preserved : goal.loop-j-preserved
-loop-j-preserved g c =
-    let k = g.K.SmallField.field c.args.k.now in
-    let r = raw_ring k.ops in
-    let same = length_scale_list r c.args.c c.args.codes.now in
-    elim c.if-codes-j-ne0.branch [
-      | then-codes-j-ne0 w ↦ w.sum-is ∙ add_lists_step r c.args.sum.now c.loop-j.sum _ c.loop-j.j _ w.mul.result c.loop-j.invariant
-          (omega (arith, same)) (omega (arith, same))
-          (w.mul.ensures ∙ sym (get_or_scale_list r c.args.c c.args.codes.now c.loop-j.j 0 c.loop-j-test.true)) w.add.ensures
-      | else-codes-j-ne0 w ↦ w.sum-is ∙ add_lists_pass k c.args.sum.now c.loop-j.sum c.args.codes.now c.args.c c.loop-j.j c.requires.sum_in c.requires.c_in
-          c.loop-j.invariant c.loop-j-test.true c.requires.fits w.if-codes-j-ne0.false
-    ]
+use Rattle.ff_ring.specs.Lists.{add_lists}
+use Rattle.ff_linalg.proofs.slices.add_multiple.Goals as goal
+use Rattle.ff_linalg.proofs.Multiples.{add_nothing}
+use Rattle.ff_linalg.proofs.Tables.{entries_multiply}
 
 pub returns-then-c-eq0 : goal.returns-then-c-eq0
 returns-then-c-eq0 g c =
     add_nothing (g.K.SmallField.field c.args.k.now) c.args.sum.now c.args.codes.now c.args.c c.requires.sum_in c.requires.codes_in c.requires.fits c.if-c-eq0.true
 
-pub returns : goal.returns
-returns g c =
-    let r = raw_ring (g.K.SmallField.field c.args.k.now).ops in
-    add_lists_all r c.args.sum.now _ _ c.loop-j.j c.loop-j.invariant (omega (arith, length_scale_list r c.args.c c.args.codes.now))
+pub returns-then-codes-gt-FEW : goal.returns-then-codes-gt-FEW
+returns-then-codes-gt-FEW g c =
+    let k = g.K.SmallField.field c.args.k.now in
+    c.add_entries.ensures
+    ∙ ap (add_lists (raw_ring k.ops) c.args.sum.now)
+    (entries_multiply k.ops c.args.c c.multiples-table.result c.args.codes.now c.multiples-table.ensures.entries c.requires.codes_in)

@@ -1,10 +1,10 @@
 use Rattle.std.proofs.Common.{◌<◌, length, arith, sym, ◌∙◌}
-use Rattle.ff_factor.proofs.steps.add_multiple.Goals as goal
-use Rattle.ff_factor.proofs.steps.add_multiple.Goals.{then-codes-j-ne0, else-codes-j-ne0}
+use Rattle.ff_linalg.proofs.slices.add_products.Goals as goal
+use Rattle.ff_linalg.proofs.slices.add_products.Goals.{then-codes-j-ne0, else-codes-j-ne0}
 use Rattle.ff_fields.specs.Code.{raw_ring}
 use Rattle.ff_ring.proofs.Lists.{length_scale_list, get_or_scale_list}
 use Rattle.ff_fields.specs.Over.{IsOver_scale}
-use Rattle.ff_linalg.proofs.Multiples.{IsOver_part, add_lists_step, add_lists_pass, add_lists_all, add_nothing}
+use Rattle.ff_linalg.proofs.Multiples.{IsOver_part, add_lists_step, add_lists_pass, add_lists_all}
 
 pub add-requires-clause-a_in : goal.add-requires-clause-a_in
 add-requires-clause-a_in g c =
@@ -25,10 +25,6 @@ loop-j-preserved g c =
       | else-codes-j-ne0 w ↦ w.sum-is ∙ add_lists_pass k c.args.sum.now c.loop-j.sum c.args.codes.now c.args.c c.loop-j.j c.requires.sum_in c.requires.c_in
           c.loop-j.invariant c.loop-j-test.true c.requires.fits w.if-codes-j-ne0.false
     ]
-
-pub returns-then-c-eq0 : goal.returns-then-c-eq0
-returns-then-c-eq0 g c =
-    add_nothing (g.K.SmallField.field c.args.k.now) c.args.sum.now c.args.codes.now c.args.c c.requires.sum_in c.requires.codes_in c.requires.fits c.if-c-eq0.true
 
 pub returns : goal.returns
 returns g c =

@@ -1,5 +1,5 @@
 use Rattle.std.proofs.Common.{◌≡◌, take}
-use Rattle.ff_falg.proofs.rows.add_multiple.Given as goal
+use Rattle.ff_linalg.proofs.slices.add_products.Given as goal
 use Rattle.ff_fields.specs.Code.{raw_ring}
 use Rattle.ff_ring.specs.Lists.{add_lists, scale_list}
 
