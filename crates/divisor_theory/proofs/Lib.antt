@@ -1,0 +1,16 @@
+pub mod Sequences
+pub mod PlacesAtInfinity
+pub mod InvertibleAtInfinity
+pub mod DegreesAtInfinity
+pub mod IndexAtInfinity
+pub mod Constants
+pub mod ConstantField
+pub mod Genus
+pub mod Parts
+pub mod Pairs
+pub mod Differences
+pub mod RiemannRoch
+pub mod PowersOfX
+pub mod LargeDegrees
+pub mod RecordValues
+pub mod InfiniteRecords
