@@ -1,23 +1,20 @@
 -- Where the degree of a divisor is above that of the canonical ones, its dual pair has no function but 0; so its space has the dimension that its degree tells.
-use Rattle.std.proofs.Common.{◌≡◌, ℕ, ◌+◌, ◌*◌, List, [], ◌∷◌, refl, sym, ◌∙◌, ap, subst, arith}
-use Rattle.std.specs.Prelude.{neg_ℤ}
+use Rattle.std.proofs.Common.{◌≡◌, ℕ, ◌+◌, ◌*◌, List, [], ◌∷◌, refl, ap, subst, arith}
 use Rattle.std.proofs.lemmas.Int.{ints}
 use Rattle.std.proofs.Math.IntN.{ℤ, pos, ◌+ℤ◌, ◌-ℤ◌}
 use lib.Signed.{◌<ℤ◌}
 use Rattle.ff_ring.specs.Ring.{IsField, pow}
-use Rattle.ff_ring.proofs.Ring.{mul_mul}
 use Rattle.ff_ring.proofs.Solver.{ring, reads}
 use Rattle.linear_theory.specs.Basis.{IsNull}
-use Rattle.linear_theory.specs.Module.{IsLinear}
 use Rattle.ff_fields.specs.Field.{CodeField}
 use Rattle.ff_fields.specs.Code.{code_ring, code_field}
 use Rattle.ff_poly.specs.Polynomials.{polynomials}
 use Rattle.ff_algebra.specs.declared.elem.Side.TheVariants.{Finite, Infinite}
 use Rattle.ff_algebra.specs.Discriminant.{discriminant}
 use Rattle.ff_algebra.specs.Places.{IsIntegralAt}
-use Rattle.ff_algebra.specs.Divisors.{Divisor, IsDivisor, HasTotalDegree, MeetsOn, InSpace, IsConstant, HasGenus, x_to}
-use Rattle.ff_algebra.specs.Functions.{Equation, FunctionOf, ring_of, of_poly, trace_of, setting_of, degree_of_y, IsPolynomial, IsFiniteAtInfinity, functions_discrete}
-use Rattle.lattice_theory.specs.Lattices.{HasIndex, space_ops, polynomial_ops}
+use Rattle.ff_algebra.specs.Divisors.{Divisor, IsDivisor, HasTotalDegree, MeetsOn, InSpace, IsConstant, HasGenus}
+use Rattle.ff_algebra.specs.Functions.{Equation, FunctionOf, ring_of, trace_of, setting_of, degree_of_y, IsPolynomial, IsFiniteAtInfinity, functions_discrete}
+use Rattle.lattice_theory.specs.Lattices.{HasIndex, space_ops}
 use Rattle.lattice_theory.proofs.Bases.{index_same}
 use Rattle.local_theory.specs.Ideals.{SameSet}
 use Rattle.reduced_theory.specs.Degree.{degree_sum}
@@ -31,7 +28,7 @@ use Rattle.space_theory.proofs.Pairs.{reduced_basis}
 use Rattle.space_theory.proofs.TraceDuals.{duality, riemann_roch, canonical_degrees}
 use Rattle.divisor_theory.proofs.DegreesAtInfinity.{index_of_same}
 use Rattle.divisor_theory.proofs.Pairs.{allowed_lattice, allowed_at_infinity, pair_degrees}
-use Rattle.divisor_theory.proofs.PowersOfX.{x_to_sum}
+use Rattle.divisor_theory.proofs.ClosedPairs.{closed_pair, times_linear}
 use Rattle.divisor_theory.proofs.RiemannRoch.{sides_basis, allowed_closed, space_is, genus_by_degrees}
 
 module _ {k : CodeField} (c : Equation k) where
@@ -62,25 +59,7 @@ module _ {k : CodeField} (c : Equation k) where
         turn x u v w = ring (ring_of c) (x ∷ u ∷ v ∷ w ∷ []) λ q i. simp (reads, q, i 0, i 1, i 2, i 3) (q.equal _ _ refl)
 
     dual_module : IsModulePair (ring_of c).ops Fin (multiples_of c Inf) (TraceDual c I) (multiples_of c (CanonicalDual c N))
-    dual_module = record {
-      scale = finite_closed;
-      scale_family = λ l l' v u v_in u_in.
-          let a = x_to (setting_of c) (neg_ℤ l') in
-          let b = x_to (setting_of c) (neg_ℤ l) in
-          subst (CanonicalDual c N)
-          (mul_mul (ring_of c) a v b u
-          ∙ ap (λ w. w ⊗ (v ⊗ u)) (sym (x_to_sum c (neg_ℤ l') (neg_ℤ l)) ∙ ap (x_to (setting_of c)) (opposite l l')))
-          (infinite_closed (a ⊗ v) (b ⊗ u) v_in u_in);
-    }
-      where
-        opposite : (l l' : ℤ) → neg_ℤ l' +ℤ neg_ℤ l ≡ neg_ℤ (l +ℤ l')
-        opposite l l' = omega (arith, ints)
-
-  times_linear : (z : FunctionOf c) → IsLinear (polynomial_ops c) (polynomial_ops c) (◌⊗◌ z)
-  times_linear z a u v = turn (of_poly c a) u v
-    where
-      turn : (a u v : FunctionOf c) → z ⊗ (a ⊗ u ⊕ v) ≡ a ⊗ (z ⊗ u) ⊕ z ⊗ v
-      turn a u v = ring (ring_of c) (z ∷ a ∷ u ∷ v ∷ []) λ q i. simp (reads, q, i 0, i 1, i 2, i 3) (q.equal _ _ refl)
+    dual_module = closed_pair c (TraceDual c I) (CanonicalDual c N) finite_closed infinite_closed
 
   module _ (some : ¬ (discriminant c ≡ (polynomials k).𝟘)) (field : IsField (ring_of c).ops) (D : Divisor (FunctionOf c)) (is : IsDivisor (setting_of c) D)
       (d : ℤ) (total : HasTotalDegree (setting_of c) D d) where
@@ -101,7 +80,7 @@ module _ {k : CodeField} (c : Equation k) where
         go (no n) =
             let y = field.inverse z n in
             let L = duality c some I N bs f reduced in
-            let a = positivity (code_ring k) (code_field k) (functions_module c) (degree_of_y c) (ring_of c) times_linear Fin (multiples_of c Inf) b δ reduced'
+            let a = positivity (code_ring k) (code_field k) (functions_module c) (degree_of_y c) (ring_of c) (times_linear c) Fin (multiples_of c Inf) b δ reduced'
             (TraceDual c I) (multiples_of c (CanonicalDual c N))
             (dual_module I N (allowed_closed c some D Finite) (allowed_closed c some D Infinite)) L.basis (λ i. pos 2 -ℤ f i) L.canonical z y.0 y.1 z_in
             ((level_zero c (CanonicalDual c N) z).1 z_in') in

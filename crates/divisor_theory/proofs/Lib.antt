@@ -14,3 +14,7 @@ pub mod PowersOfX
 pub mod LargeDegrees
 pub mod RecordValues
 pub mod InfiniteRecords
+pub mod DivisorsByValues
+pub mod Degrees
+pub mod ClosedPairs
+pub mod PrincipalDivisors

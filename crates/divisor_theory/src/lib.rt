@@ -26,7 +26,7 @@ ghost use Rattle.ideal_theory.specs.Ideals.{IsDivisorOn, DivisorIdeal};
 ghost use Rattle.ideal_theory.specs.Records.{RecordedPrime, IsRecordAt};
 ghost use Rattle.space_theory.specs.Spaces.{IsLatticeAtInfinity, IsReducedBasis};
 ghost use Rattle.divisor_theory.specs.Indices.{HasIndexAtInfinity};
-ghost use Rattle.divisor_theory.specs.Parts.{IsDifference};
+ghost use Rattle.divisor_theory.specs.Parts.{IsDifference, IsPrincipal};
 ghost use Rattle.divisor_theory.specs.InfiniteRecords.{AreInfinitePlaces};
 
 use lattice_theory::FunctionSets;
@@ -100,6 +100,34 @@ pub fn divisor_pair_law()
     ensures difference { (k : CodeField) (c : Equation k) (W D E : Divisor (FunctionOf c)) → ¬ (discriminant c ≡ (polynomials k).𝟘) → IsDivisor (setting_of c) W
         → IsDivisor (setting_of c) D → IsDifference (setting_of c) W D E → (s : Side)
         → SameSet (MeetsOn (setting_of c) E s) (Colon (ring_of c).ops (MeetsOn (setting_of c) W s) (MeetsOn (setting_of c) D s)) }
+{}
+
+/// Each two divisors have a difference. Each divisor has a degree, which is one number; and its space has a dimension over k, which the degrees of a reduced basis of
+/// its pair tell.
+pub fn divisor_degree_law()
+    ensures difference { (k : CodeField) (c : Equation k) (W D : Divisor (FunctionOf c)) → IsDivisor (setting_of c) W → IsDivisor (setting_of c) D
+        → (E : Divisor (FunctionOf c)) × IsDifference (setting_of c) W D E }
+    ensures degree { (k : CodeField) (c : Equation k) (D : Divisor (FunctionOf c)) → ¬ (discriminant c ≡ (polynomials k).𝟘) → IsDivisor (setting_of c) D
+        → (d : ℤ) × HasTotalDegree (setting_of c) D d }
+    ensures once { (k : CodeField) (c : Equation k) (D : Divisor (FunctionOf c)) → ¬ (discriminant c ≡ (polynomials k).𝟘) → IsDivisor (setting_of c) D
+        → (d e : ℤ) → HasTotalDegree (setting_of c) D d → HasTotalDegree (setting_of c) D e → d ≡ e }
+    ensures basis { (k : CodeField) (c : Equation k) (D : Divisor (FunctionOf c)) → ¬ (discriminant c ≡ (polynomials k).𝟘) → IsDivisor (setting_of c) D
+        → (b : List (FunctionOf c)) × (d : ℕ → ℤ) × IsReducedBasis c (MeetsOn (setting_of c) D Finite) (MeetsOn (setting_of c) D Infinite) b d }
+    ensures dimension { (k : CodeField) (c : Equation k) (D : Divisor (FunctionOf c)) (b : List (FunctionOf c)) (d : ℕ → ℤ)
+        → ¬ (discriminant c ≡ (polynomials k).𝟘) → IsDivisor (setting_of c) D
+        → IsReducedBasis c (MeetsOn (setting_of c) D Finite) (MeetsOn (setting_of c) D Infinite) b d
+        → HasIndex c (IsNull (space_ops c)) (InSpace (setting_of c) D) (dimension_sum (degree_of_y c) d (pos 0)) }
+{}
+
+/// A function with an inverse has a divisor, whose degree is 0. Where F is a field and the degree of D is below 0, L(D) has no function but 0.
+pub fn principal_degree_law()
+    ensures exists { (k : CodeField) (c : Equation k) (z y : FunctionOf c) → ¬ (discriminant c ≡ (polynomials k).𝟘)
+        → (ring_of c).◌⊗◌ z y ≡ (ring_of c).𝟙 → (D : Divisor (FunctionOf c)) × IsPrincipal (setting_of c) D z }
+    ensures degree { (k : CodeField) (c : Equation k) (z y : FunctionOf c) (D : Divisor (FunctionOf c)) (d : ℤ) → ¬ (discriminant c ≡ (polynomials k).𝟘)
+        → (ring_of c).◌⊗◌ z y ≡ (ring_of c).𝟙 → IsPrincipal (setting_of c) D z → HasTotalDegree (setting_of c) D d → d ≡ pos 0 }
+    ensures negative { (k : CodeField) (c : Equation k) (D : Divisor (FunctionOf c)) (d : ℤ) → ¬ (discriminant c ≡ (polynomials k).𝟘) → IsField (ring_of c).ops
+        → IsDivisor (setting_of c) D → HasTotalDegree (setting_of c) D d → d <ℤ pos 0 → (z : FunctionOf c) → InSpace (setting_of c) D z
+        → z ≡ (ring_of c).𝟘 }
 {}
 
 /// Riemann and Roch for a field F of genus g whose constants have dimension n over k: where W is canonical, the dimensions over k of L(D) and L(W - D) differ by
