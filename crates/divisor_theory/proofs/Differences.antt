@@ -59,12 +59,12 @@ module _ {k : CodeField} (c : Equation k) where
       (All-weaker (λ e. IsPlace (setting_of c) e.place) (λ e. Dec (IsSamePlace (setting_of c) P e.place)) (λ e p. places_same_decided P e.place place p) D is.places)
 
   module _ (some : ¬ (discriminant c ≡ (polynomials k).𝟘)) where
-    side_prime : (s : Side) (P : Place (FunctionOf c)) → IsPlace (setting_of c) P → P.side ≡ s
+    pub side_prime : (s : Side) (P : Place (FunctionOf c)) → IsPlace (setting_of c) P → P.side ≡ s
         → IsPrime (ring_of c).ops (IsIntegralAt (setting_of c) s) (IsIn (setting_of c) P)
     side_prime Finite P place e = prime_of_place c P place e
     side_prime Infinite P place e = infinite_prime c P place e
 
-    side_invertible : (s : Side) (P : Place (FunctionOf c)) → IsPlace (setting_of c) P → P.side ≡ s
+    pub side_invertible : (s : Side) (P : Place (FunctionOf c)) → IsPlace (setting_of c) P → P.side ≡ s
         → Invertible (ring_of c).ops (IsIntegralAt (setting_of c) s) (IsIn (setting_of c) P)
     side_invertible Finite P place e = finite_invertible c some P place e
     side_invertible Infinite P place e = infinite_invertible c some P place e

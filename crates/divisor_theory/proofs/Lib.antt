@@ -18,3 +18,4 @@ pub mod DivisorsByValues
 pub mod Degrees
 pub mod ClosedPairs
 pub mod PrincipalDivisors
+pub mod LeastValues
