@@ -45,13 +45,13 @@ module _ {k : CodeField} (c : Equation k) where
   -- the dual of a pair that is closed under (O_fin, O_inf) is so
   module _ (I N : FunctionOf c → Type 0) (closed : (v u : FunctionOf c) → IsIntegralAt (setting_of c) Finite v → I u → I (v ⊗ u))
       (closed' : (v u : FunctionOf c) → IsIntegralAt (setting_of c) Infinite v → N u → N (v ⊗ u)) where
-    finite_closed : (v u : FunctionOf c) → Fin v → TraceDual c I u → TraceDual c I (v ⊗ u)
+    pub finite_closed : (v u : FunctionOf c) → Fin v → TraceDual c I u → TraceDual c I (v ⊗ u)
     finite_closed v u v_in u_in w w_in = subst (IsPolynomial c) (ap (trace_of c) (turn u v w)) (u_in (v ⊗ w) (closed v w v_in w_in))
       where
         turn : (u v w : FunctionOf c) → u ⊗ (v ⊗ w) ≡ v ⊗ u ⊗ w
         turn u v w = ring (ring_of c) (u ∷ v ∷ w ∷ []) λ q i. simp (reads, q, i 0, i 1, i 2) (q.equal _ _ refl)
 
-    infinite_closed : (v u : FunctionOf c) → Inf v → CanonicalDual c N u → CanonicalDual c N (v ⊗ u)
+    pub infinite_closed : (v u : FunctionOf c) → Inf v → CanonicalDual c N u → CanonicalDual c N (v ⊗ u)
     infinite_closed v u v_in u_in w w_in =
         subst (IsFiniteAtInfinity c) (ap (trace_of c) (turn (pow (ring_of c).ops (setting_of c).x 2) u v w)) (u_in (v ⊗ w) (closed' v w v_in w_in))
       where

@@ -1,16 +1,16 @@
 -- Where F is a field, an invertible module over the integral functions of a side is what its least values at the places of the side allow. So two such modules, one
 -- a side, are what a divisor allows.
-use Rattle.std.proofs.Common.{◌≡◌, ◌↔◌, ◌⊎◌, inl, inr, ℕ, List, [], ◌∷◌, ◌++◌, All, refl, sym, ◌∙◌, ap, subst, arith}
+use Rattle.std.proofs.Common.{◌≡◌, ◌⊎◌, inl, inr, List, [], ◌∷◌, ◌++◌, All, refl, sym, ◌∙◌, ap, subst, arith}
 use Rattle.std.specs.List.{Any}
 use Rattle.std.specs.Prelude.{neg_ℤ}
 use Rattle.std.proofs.lemmas.Int.{ints, by_lt_z}
 use Rattle.std.proofs.lemmas.List.Elements.{All-nil, All-cons, All-head, All-tail, All-weaker}
 use Rattle.std.proofs.Math.IntN.{ℤ, pos, negsuc, ◌+ℤ◌}
-use lib.Signed.{◌≤ℤ◌, ◌<ℤ◌}
+use lib.Signed.{◌≤ℤ◌}
 use Rattle.ff_ring.specs.Ring.{IsField}
 use Rattle.ff_ring.specs.Sums.{sum_over}
-use Rattle.ff_ring.specs.Subsets.{IsModule, Factors, Product}
-use Rattle.ff_ring.proofs.Ring.{zero_mul, mul_zero, mul_left_comm}
+use Rattle.ff_ring.specs.Subsets.{IsModule, Factors}
+use Rattle.ff_ring.proofs.Ring.{zero_mul, mul_zero}
 use Rattle.ff_ring.proofs.Solver.{ring, reads}
 use Rattle.local_theory.specs.Ideals.{SameSet, Inverse, Invertible}
 use Rattle.local_theory.proofs.Products.{product_universal, additive_of_module}
@@ -21,7 +21,7 @@ use Rattle.ff_algebra.specs.declared.elem.Side.{Side}
 use Rattle.ff_algebra.specs.declared.elem.Side.TheVariants.{Finite, Infinite}
 use Rattle.ff_algebra.specs.Discriminant.{discriminant}
 use Rattle.ff_algebra.specs.Places.{Place, IsPlace, IsSamePlace, IsIn, IsIntegralAt, InPower, HasValuationAtLeast, HasValuation}
-use Rattle.ff_algebra.specs.Divisors.{Divisor, IsDivisor, HasMultiplicity, MeetsOn}
+use Rattle.ff_algebra.specs.Divisors.{Divisor, IsDivisor, MeetsOn}
 use Rattle.ff_algebra.specs.Functions.{Equation, FunctionOf, ring_of, setting_of, functions_discrete}
 use Rattle.ff_algebra.proofs.ScalarRings.{scalars_subring}
 use Rattle.places_theory.proofs.Multiplicities.{multiplicity_unique}
@@ -31,7 +31,6 @@ use Rattle.places_theory.proofs.Valuations.{at_least_of_integral, at_least_produ
 use Rattle.order_theory.proofs.SideOfPlaces.{regular_functions}
 use Rattle.side_theory.proofs.InfiniteLaws.{regular_integral}
 use Rattle.side_theory.proofs.ValueRules.{product_rule}
-use Rattle.ideal_theory.specs.Ideals.{IsDivisorOf}
 use Rattle.ideal_theory.proofs.PowerValues.{values_additive}
 use Rattle.ideal_theory.proofs.PrincipalIdeals.{value_along}
 use Rattle.ideal_theory.proofs.SideIdeals.{side_divisor}

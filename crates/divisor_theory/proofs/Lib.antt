@@ -19,3 +19,6 @@ pub mod Degrees
 pub mod ClosedPairs
 pub mod PrincipalDivisors
 pub mod LeastValues
+pub mod TraceModules
+pub mod CanonicalDivisors
+pub mod Allowed

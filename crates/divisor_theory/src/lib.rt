@@ -3,7 +3,7 @@
 //! asked only where it is said. Each main theorem is the contract of a function with an empty body; the crates above cite the lemmas of proofs/.
 #![tactic(auto)]
 
-ghost use Rattle.std.specs.Prelude.{◌≡◌, ◌↔◌, ℕ, ◌*◌, ℤ, ◌+ℤ◌, ◌-ℤ◌, ◌<ℤ◌, List};
+ghost use Rattle.std.specs.Prelude.{◌≡◌, ◌↔◌, ℕ, ◌*◌, ℤ, ◌+ℤ◌, ◌-ℤ◌, ◌<ℤ◌, ◌≤ℤ◌, List};
 ghost use Rattle.std.proofs.Common.{pos};
 ghost use Rattle.ff_ring.specs.Ring.{IsField};
 ghost use Rattle.ff_ring.specs.Subsets.{Colon};
@@ -15,8 +15,8 @@ ghost use Rattle.ff_algebra.specs.declared.elem.Side.{Side};
 ghost use Rattle.ff_algebra.specs.declared.elem.Side.TheVariants.{Finite, Infinite};
 ghost use Rattle.ff_algebra.specs.Functions.{Equation, FunctionOf, ring_of, setting_of, degree_of_y};
 ghost use Rattle.ff_algebra.specs.Values.{Functions, equation_of};
-ghost use Rattle.ff_algebra.specs.Places.{IsIntegralAt};
-ghost use Rattle.ff_algebra.specs.Divisors.{Divisor, IsDivisor, HasTotalDegree, MeetsOn, InSpace, IsConstant, HasGenus, IsCanonical};
+ghost use Rattle.ff_algebra.specs.Places.{Place, IsPlace, IsIntegralAt};
+ghost use Rattle.ff_algebra.specs.Divisors.{Divisor, IsDivisor, HasMultiplicity, HasTotalDegree, MeetsOn, InSpace, IsConstant, HasGenus, IsCanonical};
 ghost use Rattle.ff_algebra.specs.Discriminant.{discriminant};
 ghost use Rattle.lattice_theory.specs.Lattices.{IsLattice, HasIndex, space_ops};
 ghost use Rattle.order_theory.specs.Orders.{IsOrder};
@@ -128,6 +128,20 @@ pub fn principal_degree_law()
     ensures negative { (k : CodeField) (c : Equation k) (D : Divisor (FunctionOf c)) (d : ℤ) → ¬ (discriminant c ≡ (polynomials k).𝟘) → IsField (ring_of c).ops
         → IsDivisor (setting_of c) D → HasTotalDegree (setting_of c) D d → d <ℤ pos 0 → (z : FunctionOf c) → InSpace (setting_of c) D z
         → z ≡ (ring_of c).𝟘 }
+{}
+
+/// Where F is a field, there is a canonical divisor; and any two have the same multiplicities. For where a divisor allows on a side what another allows there, its
+/// multiplicities on the side are at least those of the other.
+pub fn canonical_divisor_law()
+    ensures exists { (k : CodeField) (c : Equation k) → ¬ (discriminant c ≡ (polynomials k).𝟘) → IsField (ring_of c).ops
+        → (W : Divisor (FunctionOf c)) × IsCanonical (setting_of c) W }
+    ensures once { (k : CodeField) (c : Equation k) (W V : Divisor (FunctionOf c)) → ¬ (discriminant c ≡ (polynomials k).𝟘) → IsCanonical (setting_of c) W
+        → IsCanonical (setting_of c) V → (P : Place (FunctionOf c)) → IsPlace (setting_of c) P → (m n : ℤ) → HasMultiplicity (setting_of c) W P m
+        → HasMultiplicity (setting_of c) V P n → m ≡ n }
+    ensures allowed { (k : CodeField) (c : Equation k) (D E : Divisor (FunctionOf c)) → ¬ (discriminant c ≡ (polynomials k).𝟘) → IsDivisor (setting_of c) D
+        → (P : Place (FunctionOf c)) → IsPlace (setting_of c) P
+        → ((z : FunctionOf c) → MeetsOn (setting_of c) D P.side z → MeetsOn (setting_of c) E P.side z)
+        → (m n : ℤ) → HasMultiplicity (setting_of c) D P m → HasMultiplicity (setting_of c) E P n → m ≤ℤ n }
 {}
 
 /// Riemann and Roch for a field F of genus g whose constants have dimension n over k: where W is canonical, the dimensions over k of L(D) and L(W - D) differ by
