@@ -22,3 +22,4 @@ pub mod LeastValues
 pub mod TraceModules
 pub mod CanonicalDivisors
 pub mod Allowed
+pub mod CombinationIndices
