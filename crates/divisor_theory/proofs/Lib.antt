@@ -23,3 +23,5 @@ pub mod TraceModules
 pub mod CanonicalDivisors
 pub mod Allowed
 pub mod CombinationIndices
+pub mod StandardPair
+pub mod SumsOfDegrees
