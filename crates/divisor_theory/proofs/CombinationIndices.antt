@@ -11,7 +11,7 @@ use Rattle.ff_ring.proofs.RowMaps.{hom_zero}
 use Rattle.ff_ring.proofs.Solver.{ring, reads, from_one}
 use Rattle.ff_ring.proofs.Subsets.{span_module}
 use Rattle.local_theory.specs.Ideals.{SameSet}
-use Rattle.linear_theory.specs.Basis.{IsBasis, IsSubspace, IsSum}
+use Rattle.linear_theory.specs.Basis.{IsSubspace, IsSum}
 use Rattle.linear_theory.specs.Module.{IsLinear}
 use Rattle.linear_theory.proofs.Dimension.{basis_image, basis_transport}
 use Rattle.ff_fields.specs.Field.{CodeField}

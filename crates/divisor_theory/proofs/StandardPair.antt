@@ -1,5 +1,5 @@
 -- The powers of y below the n-th, with the degrees 0, c, 2c, .., are a reduced basis of k[x][y] and the combinations of k[t][Y], where Y = y/x^c.
-use Rattle.std.proofs.Common.{◌≡◌, ◌↔◌, ℕ, zero, suc, ◌+◌, ◌*◌, ◌<◌, List, [], ◌∷◌, map, length, All, refl, sym, ◌∙◌, ap, ap₂, subst, arith}
+use Rattle.std.proofs.Common.{◌≡◌, ◌↔◌, ℕ, zero, suc, ◌+◌, ◌*◌, List, [], ◌∷◌, map, length, All, refl, sym, ◌∙◌, ap, ap₂, subst, arith}
 use Rattle.std.proofs.lemmas.Int.{ints}
 use Rattle.std.proofs.lemmas.List.{length-map}
 use Rattle.std.proofs.lemmas.List.Elements.{All-nil, All-cons}
@@ -9,17 +9,16 @@ use Rattle.ff_ring.specs.Rows.{entry}
 use Rattle.ff_ring.specs.Subsets.{Span}
 use Rattle.ff_ring.specs.Sums.{sum_below}
 use Rattle.ff_ring.proofs.Local.{power_in}
-use Rattle.ff_ring.proofs.Ring.{mul_zero, pow_mul, mul_pow, mul_left_comm}
-use Rattle.ff_ring.proofs.Solver.{ring, reads}
+use Rattle.ff_ring.proofs.Ring.{pow_mul, mul_pow, mul_left_comm}
 use Rattle.ff_ring.proofs.Subsets.{span_least}
 use Rattle.ff_ring.proofs.Sums.{below_cong, below_first}
 use Rattle.local_theory.specs.Ideals.{SameSet}
 use Rattle.linear_theory.specs.Module.{combine}
 use Rattle.linear_theory.proofs.Combination.{combine_cong}
 use Rattle.ff_fields.specs.Field.{CodeField}
-use Rattle.ff_fields.specs.Code.{code_ring, code_domain, code_field}
+use Rattle.ff_fields.specs.Code.{code_ring, code_domain}
 use Rattle.ff_poly.specs.Polynomials.{Polynomial, polynomials, polynomials_domain, x_poly}
-use Rattle.ff_algebra.specs.Functions.{Equation, FunctionOf, ring_of, of_poly, y_of, setting_of, degree_of_y, IsPolynomial, IsFiniteAtInfinity}
+use Rattle.ff_algebra.specs.Functions.{Equation, FunctionOf, ring_of, of_poly, y_of, degree_of_y, IsPolynomial}
 use Rattle.ff_algebra.specs.Values.{PresValue, Functions, functions, setting, equation_of}
 use Rattle.ff_algebra.proofs.OnSide.{of_poly_times}
 use Rattle.ff_algebra.proofs.ScalarRings.{polynomials_subring}
@@ -27,20 +26,20 @@ use Rattle.places_theory.proofs.AtInfinity.{x_power_not_zero}
 use Rattle.places_theory.proofs.YRoot.{poly_hom, at_y_plain}
 use Rattle.trace_theory.specs.Traces.{HasPolynomialCoordinates}
 use Rattle.trace_theory.proofs.IntegralLaw.{eval_sum}
-use Rattle.lattice_theory.specs.Lattices.{IsLattice, polynomial_ops}
+use Rattle.lattice_theory.specs.Lattices.{polynomial_ops}
 use Rattle.lattice_theory.proofs.Lattices.{lattice_module}
 use Rattle.lattice_theory.proofs.Operations.{polynomial_lattice}
 use Rattle.order_theory.proofs.LocalOrders.{power_value}
 use Rattle.reduced_theory.specs.Degree.{DegreeAtMost, degree}
-use Rattle.reduced_theory.specs.Reduced.{InLattice, CoordinatesAtMost, IsReducedAt}
+use Rattle.reduced_theory.specs.Reduced.{InLattice}
 use Rattle.reduced_theory.proofs.Degree.{degree_own, degree_product, degree_cancel}
 use Rattle.side_theory.specs.InfiniteMaps.{IsInfiniteMap}
 use Rattle.side_theory.proofs.TameLattices.{coordinates_ring}
-use Rattle.space_theory.specs.Spaces.{IsLatticeAtInfinity, IsReducedBasis, multiples_of}
+use Rattle.space_theory.specs.Spaces.{IsLatticeAtInfinity, IsReducedBasis}
 use Rattle.space_theory.proofs.AtInfinity.{combinations_lattice}
 use Rattle.space_theory.proofs.FunctionModule.{functions_module}
 use Rattle.space_theory.proofs.InfiniteBases.{x_to_t, free_at, level, multiples_reduced}
-use Rattle.space_theory.proofs.LatticeBases.{lattice_of_span, span_of_lattice}
+use Rattle.space_theory.proofs.LatticeBases.{span_of_lattice}
 use Rattle.space_theory.proofs.Simultaneous.{degree_of_power}
 use Rattle.divisor_theory.proofs.CombinationIndices.{Combinations}
 

@@ -1,8 +1,8 @@
 -- The sum of degrees of a lattice over k[x] with the combinations of one over k[t] that differs from k[t][Y] at t alone: the index of the one relative to k[x][y], that
 -- of the other relative to k[t][Y], and 0 + c + 2c + .. + (n-1)c.
-use Rattle.std.proofs.Common.{◌≡◌, ℕ, zero, suc, ◌+◌, ◌*◌, List, refl, sym, ◌∙◌, ap, subst, arith, mul-suc, suc-mul, mul-add}
+use Rattle.std.proofs.Common.{◌≡◌, ℕ, zero, suc, ◌+◌, ◌-◌, ◌*◌, List, refl, sym, ◌∙◌, ap, ap₂, arith, mul-suc, suc-mul, mul-add, mul-zero, zero-mul, one-mul}
 use Rattle.std.proofs.lemmas.Int.{ints}
-use Rattle.std.proofs.Math.IntN.{ℤ, pos, ◌+ℤ◌, ◌-ℤ◌}
+use Rattle.std.proofs.Math.IntN.{ℤ, pos, ◌+ℤ◌}
 use Rattle.ff_ring.specs.Subsets.{Span}
 use Rattle.ff_ring.proofs.Ring.{zero_add}
 use Rattle.local_theory.specs.Ideals.{SameSet}
@@ -102,3 +102,49 @@ module _ (k : CodeField) (p q : PresValue) (c : ℕ) (f : Functions k q → Func
         (powers R 0 n) s.0 (λ i. pos (c * i)) s.1 (standard_pair k p q c f g same) s.2 j.0
         (combination_index k p q c f g K U 𝓚 𝓤 (coordinates_tame Q (x_poly k) (x_irreducible k)) u in_right ys 𝓤.generators (powers_spanned Q) 𝓤.spanned j.0 j.1) in
         omega (arith, ints)
+
+-- 0 + c + 2c + .. + (n-1)c, taken twice
+degree_sum_cong : (n : ℕ) (d e : ℕ → ℤ) → ((i : ℕ) → d i ≡ e i) → degree_sum n d ≡ degree_sum n e
+degree_sum_cong zero d e h = refl
+degree_sum_cong (suc n) d e h = ap₂ ◌+ℤ◌ (h 0) (degree_sum_cong n (λ i. d (suc i)) (λ i. e (suc i)) (λ i. h (suc i)))
+
+degree_sum_constant : (c n : ℕ) → degree_sum n (λ i. pos c) ≡ pos (c * n)
+degree_sum_constant c zero = let e : c * 0 ≡ 0 = mul-zero c in omega (arith, ints)
+degree_sum_constant c (suc n) =
+    let r = degree_sum_constant c n in
+    let e : c * suc n ≡ c * n + c = mul-suc c n in
+    omega (arith, ints)
+
+one_more : (c n : ℕ) → degree_sum (suc n) (λ i. pos (c * i)) ≡ degree_sum n (λ i. pos (c * i)) +ℤ pos (c * n)
+one_more c n =
+    let a : degree_sum n (λ i. pos (c * suc i)) ≡ degree_sum n (λ i. pos (c * i) +ℤ pos c)
+    = degree_sum_cong n (λ i. pos (c * suc i)) (λ i. pos (c * i) +ℤ pos c) (λ i. let e : c * suc i ≡ c * i + c = mul-suc c i in omega (arith, ints)) in
+    let b = degree_sum_plus n (λ i. pos (c * i)) (pos c) in
+    let d = degree_sum_constant c n in
+    let z : c * 0 ≡ 0 = mul-zero c in
+    omega (arith, ints)
+
+pub standard_sum : (c n : ℕ) → degree_sum n (λ i. pos (c * i)) +ℤ degree_sum n (λ i. pos (c * i)) ≡ pos (c * (n * (n - 1)))
+standard_sum c zero =
+    let a : 0 * (0 - 1) ≡ 0 = zero-mul (0 - 1) in
+    let b : c * (0 * (0 - 1)) ≡ 0 = ap (λ m. c * m) a ∙ mul-zero c in
+    omega (arith, ints)
+standard_sum c (suc zero) =
+    let a : 1 * (1 - 1) ≡ 0 = one-mul (1 - 1) in
+    let b : c * (1 * (1 - 1)) ≡ 0 = ap (λ m. c * m) a ∙ mul-zero c in
+    let e = one_more c zero in
+    let z : c * 0 ≡ 0 = mul-zero c in
+    omega (arith, ints)
+standard_sum c (suc (suc m)) =
+    let r = standard_sum c (suc m) in
+    let e = one_more c (suc m) in
+    let A : ℕ = suc m * m in
+    let B : ℕ = suc m in
+    let u : suc m * (suc m - 1) ≡ A = ap (λ l. suc m * l) (let w : suc m - 1 ≡ m = omega arith in w) in
+    let v : suc (suc m) * (suc (suc m) - 1) ≡ A + (B + B)
+    = ap (λ l. suc (suc m) * l) (let w : suc (suc m) - 1 ≡ suc m = omega arith in w)
+    ∙ (let s : suc (suc m) * suc m ≡ suc m * suc m + suc m = suc-mul (suc m) (suc m) in let t : suc m * suc m ≡ suc m * m + suc m = mul-suc (suc m) m in omega (arith, s, t)) in
+    let x : c * (suc m * (suc m - 1)) ≡ c * A = ap (λ l. c * l) u in
+    let y : c * (suc (suc m) * (suc (suc m) - 1)) ≡ c * A + (c * B + c * B)
+    = ap (λ l. c * l) v ∙ mul-add c A (B + B) ∙ ap (λ l. c * A + l) (mul-add c B B) in
+    omega (arith, ints, r, e, x, y)

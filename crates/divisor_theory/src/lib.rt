@@ -3,27 +3,31 @@
 //! asked only where it is said. Each main theorem is the contract of a function with an empty body; the crates above cite the lemmas of proofs/.
 #![tactic(auto)]
 
-ghost use Rattle.std.specs.Prelude.{◌≡◌, ◌↔◌, ℕ, ◌*◌, ℤ, ◌+ℤ◌, ◌-ℤ◌, ◌<ℤ◌, ◌≤ℤ◌, List};
+ghost use Rattle.std.specs.Prelude.{◌≡◌, ◌↔◌, ℕ, ◌*◌, ◌-◌, ℤ, ◌+ℤ◌, ◌-ℤ◌, ◌<ℤ◌, ◌≤ℤ◌, List, map};
 ghost use Rattle.std.proofs.Common.{pos};
 ghost use Rattle.ff_ring.specs.Ring.{IsField};
-ghost use Rattle.ff_ring.specs.Subsets.{Colon};
+ghost use Rattle.ff_ring.specs.Subsets.{Span, Colon};
 ghost use Rattle.ff_fields.specs.Field.{CodeField};
 ghost use Rattle.ff_poly.specs.Polynomials.{polynomials, x_poly};
 ghost use Rattle.linear_theory.specs.Basis.{IsNull};
 ghost use Rattle.local_theory.specs.Ideals.{SameSet};
 ghost use Rattle.ff_algebra.specs.declared.elem.Side.{Side};
 ghost use Rattle.ff_algebra.specs.declared.elem.Side.TheVariants.{Finite, Infinite};
-ghost use Rattle.ff_algebra.specs.Functions.{Equation, FunctionOf, ring_of, setting_of, degree_of_y};
-ghost use Rattle.ff_algebra.specs.Values.{Functions, equation_of};
+ghost use Rattle.ff_algebra.specs.Functions.{Equation, FunctionOf, ring_of, setting_of, degree_of_y, IsFiniteAtInfinity};
+ghost use Rattle.ff_algebra.specs.Values.{PresValue, Functions, functions, equation_of};
 ghost use Rattle.ff_algebra.specs.Places.{Place, IsPlace, IsIntegralAt};
 ghost use Rattle.ff_algebra.specs.Divisors.{Divisor, IsDivisor, HasMultiplicity, HasTotalDegree, MeetsOn, InSpace, IsConstant, HasGenus, IsCanonical};
 ghost use Rattle.ff_algebra.specs.Discriminant.{discriminant};
+ghost use Rattle.ff_algebra.specs.Infinity.{IsInfinitePresentation};
+ghost use Rattle.trace_theory.specs.Traces.{HasPolynomialCoordinates};
 ghost use Rattle.lattice_theory.specs.Lattices.{IsLattice, HasIndex, space_ops};
 ghost use Rattle.order_theory.specs.Orders.{IsOrder};
 ghost use Rattle.reduced_theory.specs.Degree.{degree_sum, dimension_sum, genus_sum};
+ghost use Rattle.side_theory.specs.Tame.{IsTame};
 ghost use Rattle.side_theory.specs.InfiniteMaps.{IsInfiniteMap};
 ghost use Rattle.ideal_theory.specs.Ideals.{IsDivisorOn, DivisorIdeal};
-ghost use Rattle.ideal_theory.specs.Records.{RecordedPrime, IsRecordAt};
+ghost use Rattle.ideal_theory.specs.Indices.{HasRelativeIndex};
+ghost use Rattle.ideal_theory.specs.Records.{RowSpan, RecordedPrime, IsRecordAt};
 ghost use Rattle.space_theory.specs.Spaces.{IsLatticeAtInfinity, IsReducedBasis};
 ghost use Rattle.divisor_theory.specs.Indices.{HasIndexAtInfinity};
 ghost use Rattle.divisor_theory.specs.Parts.{IsDifference, IsPrincipal};
@@ -100,6 +104,21 @@ pub fn divisor_pair_law()
     ensures difference { (k : CodeField) (c : Equation k) (W D E : Divisor (FunctionOf c)) → ¬ (discriminant c ≡ (polynomials k).𝟘) → IsDivisor (setting_of c) W
         → IsDivisor (setting_of c) D → IsDifference (setting_of c) W D E → (s : Side)
         → SameSet (MeetsOn (setting_of c) E s) (Colon (ring_of c).ops (MeetsOn (setting_of c) W s) (MeetsOn (setting_of c) D s)) }
+{}
+
+/// The sum of degrees of a pair: rows that span a lattice I over k[x], and rows over k[t] that span a lattice J which differs from k[t][Y] at t alone. For the pair of I
+/// and the combinations of J over the fractions of degree at most 0 it is the index of I relative to k[x][y], that of J relative to k[t][Y], and c·n·(n - 1)/2.
+pub fn sum_of_degrees_law()
+    ensures sum { (k : CodeField) (p q : PresValue) (c : ℕ) (f : Functions k q → Functions k p) → IsInfiniteMap k p q c f → IsInfinitePresentation k p c q
+        → (rows : List (Functions k p)) → IsLattice (equation_of k p) (RowSpan (equation_of k p) rows)
+        → (infinite : List (Functions k q)) → IsLattice (equation_of k q) (RowSpan (equation_of k q) infinite)
+        → IsTame (equation_of k q) (x_poly k) (RowSpan (equation_of k q) infinite)
+        → (a b : ℤ) → HasRelativeIndex (equation_of k p) (RowSpan (equation_of k p) rows) (HasPolynomialCoordinates (equation_of k p)) a
+        → HasRelativeIndex (equation_of k q) (RowSpan (equation_of k q) infinite) (HasPolynomialCoordinates (equation_of k q)) b
+        → (bs : List (Functions k p)) (d : ℕ → ℤ) → IsReducedBasis (equation_of k p) (RowSpan (equation_of k p) rows)
+        (Span (functions k p).ops (IsFiniteAtInfinity (equation_of k p)) (map f infinite)) bs d
+        → degree_sum (degree_of_y (equation_of k p)) d ≡ (a +ℤ b) +ℤ degree_sum (degree_of_y (equation_of k p)) (λ i. pos (c * i)) }
+    ensures standard { (c n : ℕ) → (degree_sum n (λ i. pos (c * i)) +ℤ degree_sum n (λ i. pos (c * i))) ≡ pos (c * (n * (n - 1))) }
 {}
 
 /// Each two divisors have a difference. Each divisor has a degree, which is one number; and its space has a dimension over k, which the degrees of a reduced basis of
