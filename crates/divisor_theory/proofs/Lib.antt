@@ -25,3 +25,4 @@ pub mod Allowed
 pub mod CombinationIndices
 pub mod StandardPair
 pub mod SumsOfDegrees
+pub mod Certificates

@@ -3,13 +3,15 @@
 //! asked only where it is said. Each main theorem is the contract of a function with an empty body; the crates above cite the lemmas of proofs/.
 #![tactic(auto)]
 
-ghost use Rattle.std.specs.Prelude.{◌≡◌, ◌↔◌, ℕ, ◌*◌, ◌-◌, ℤ, ◌+ℤ◌, ◌-ℤ◌, ◌<ℤ◌, ◌≤ℤ◌, List, map};
+ghost use Rattle.std.specs.Prelude.{◌≡◌, ◌↔◌, ℕ, ◌+◌, ◌*◌, ◌-◌, ◌<◌, ℤ, ◌+ℤ◌, ◌-ℤ◌, ◌<ℤ◌, ◌≤ℤ◌, List, length, map};
 ghost use Rattle.std.proofs.Common.{pos};
 ghost use Rattle.ff_ring.specs.Ring.{IsField};
 ghost use Rattle.ff_ring.specs.Subsets.{Span, Colon};
 ghost use Rattle.ff_fields.specs.Field.{CodeField};
+ghost use Rattle.ff_fields.specs.Code.{code_ring};
 ghost use Rattle.ff_poly.specs.Polynomials.{polynomials, x_poly};
 ghost use Rattle.linear_theory.specs.Basis.{IsNull};
+ghost use Rattle.linear_theory.proofs.Lists.{entry};
 ghost use Rattle.local_theory.specs.Ideals.{SameSet};
 ghost use Rattle.ff_algebra.specs.declared.elem.Side.{Side};
 ghost use Rattle.ff_algebra.specs.declared.elem.Side.TheVariants.{Finite, Infinite};
@@ -20,15 +22,17 @@ ghost use Rattle.ff_algebra.specs.Divisors.{Divisor, IsDivisor, HasMultiplicity,
 ghost use Rattle.ff_algebra.specs.Discriminant.{discriminant};
 ghost use Rattle.ff_algebra.specs.Infinity.{IsInfinitePresentation};
 ghost use Rattle.trace_theory.specs.Traces.{HasPolynomialCoordinates};
-ghost use Rattle.lattice_theory.specs.Lattices.{IsLattice, HasIndex, space_ops};
+ghost use Rattle.lattice_theory.specs.Lattices.{IsLattice, HasIndex, space_ops, polynomial_ops};
 ghost use Rattle.order_theory.specs.Orders.{IsOrder};
 ghost use Rattle.reduced_theory.specs.Degree.{degree_sum, dimension_sum, genus_sum};
+ghost use Rattle.reduced_theory.specs.Reduced.{InLattice};
 ghost use Rattle.side_theory.specs.Tame.{IsTame};
 ghost use Rattle.side_theory.specs.InfiniteMaps.{IsInfiniteMap};
 ghost use Rattle.ideal_theory.specs.Ideals.{IsDivisorOn, DivisorIdeal};
 ghost use Rattle.ideal_theory.specs.Indices.{HasRelativeIndex};
 ghost use Rattle.ideal_theory.specs.Records.{RowSpan, RecordedPrime, IsRecordAt};
-ghost use Rattle.space_theory.specs.Spaces.{IsLatticeAtInfinity, IsReducedBasis};
+ghost use Rattle.space_theory.specs.Spaces.{IsLatticeAtInfinity, IsReducedBasis, multiples_of};
+ghost use Rattle.space_theory.specs.TraceDuals.{TraceDual, CanonicalDual};
 ghost use Rattle.divisor_theory.specs.Indices.{HasIndexAtInfinity};
 ghost use Rattle.divisor_theory.specs.Parts.{IsDifference, IsPrincipal};
 ghost use Rattle.divisor_theory.specs.InfiniteRecords.{AreInfinitePlaces};
@@ -121,6 +125,15 @@ pub fn sum_of_degrees_law()
     ensures standard { (c n : ℕ) → (degree_sum n (λ i. pos (c * i)) +ℤ degree_sum n (λ i. pos (c * i))) ≡ pos (c * (n * (n - 1))) }
 {}
 
+/// What a checker of a pair compares: n functions b_i in x^(d_i)·N that span I over the polynomials are a reduced basis of (I, N) where the sum of the d_i is the sum of
+/// degrees of the pair.
+pub fn reduced_certificate_law<S: FunctionSets>()
+    ensures { (a : List (FunctionOf S.equation)) (e : ℕ → ℤ) → IsReducedBasis S.equation S.first S.second a e → (b : List (FunctionOf S.equation)) (d : ℕ → ℤ)
+        → length b ≡ degree_of_y S.equation → SameSet S.first (InLattice (code_ring S.field) (polynomial_ops S.equation) b)
+        → ((i : ℕ) → i < degree_of_y S.equation → multiples_of S.equation S.second (d i) (entry (ring_of S.equation).𝟘 b i))
+        → degree_sum (degree_of_y S.equation) d ≡ degree_sum (degree_of_y S.equation) e → IsReducedBasis S.equation S.first S.second b d }
+{}
+
 /// Each two divisors have a difference. Each divisor has a degree, which is one number; and its space has a dimension over k, which the degrees of a reduced basis of
 /// its pair tell.
 pub fn divisor_degree_law()
@@ -161,6 +174,17 @@ pub fn canonical_divisor_law()
         → (P : Place (FunctionOf c)) → IsPlace (setting_of c) P
         → ((z : FunctionOf c) → MeetsOn (setting_of c) D P.side z → MeetsOn (setting_of c) E P.side z)
         → (m n : ℤ) → HasMultiplicity (setting_of c) D P m → HasMultiplicity (setting_of c) E P n → m ≤ℤ n }
+{}
+
+/// What a checker of a canonical divisor compares: a divisor W is canonical where what it allows on each side lies in the dual of the integral functions of the side, with
+/// traces of degree at most -2 at infinity, and its degree is twice the sum of degrees of (O_fin, O_inf) less 2n, for the degree n in y.
+pub fn canonical_certificate_law()
+    ensures { (k : CodeField) (c : Equation k) (W : Divisor (FunctionOf c)) → ¬ (discriminant c ≡ (polynomials k).𝟘) → IsDivisor (setting_of c) W
+        → ((z : FunctionOf c) → MeetsOn (setting_of c) W Finite z → TraceDual c (IsIntegralAt (setting_of c) Finite) z)
+        → ((z : FunctionOf c) → MeetsOn (setting_of c) W Infinite z → CanonicalDual c (IsIntegralAt (setting_of c) Infinite) z)
+        → (w : ℤ) → HasTotalDegree (setting_of c) W w → (b : List (FunctionOf c)) (d : ℕ → ℤ)
+        → IsReducedBasis c (IsIntegralAt (setting_of c) Finite) (IsIntegralAt (setting_of c) Infinite) b d
+        → w ≡ (degree_sum (degree_of_y c) d +ℤ degree_sum (degree_of_y c) d) -ℤ pos (degree_of_y c + degree_of_y c) → IsCanonical (setting_of c) W }
 {}
 
 /// Riemann and Roch for a field F of genus g whose constants have dimension n over k: where W is canonical, the dimensions over k of L(D) and L(W - D) differ by
