@@ -347,6 +347,66 @@ fn finite_orders(rt: HostRuntime) -> Result<(), Fail> {
 }
 
 #[test]
+fn infinite_orders(rt: HostRuntime) -> Result<(), Fail> {
+    let alloc = rt.alloc();
+    let rows: [(&[u8], &[u8]); 10] = [
+        (
+            b"field 7\ncurve y^2 + 6*x^3 + 6\norder infinite\n",
+            b"> field 7\n= q 7\n> curve y^2 + 6*x^3 + 6\n= n 2 c 2\n> order infinite\n= [1, 0]\n= [0, 1]/x^2\nend 3\n",
+        ),
+        (
+            b"field 7\ncurve y^2 - x^3 - 1\n order  infinite\norder finite\n",
+            b"> field 7\n= q 7\n> curve y^2 - x^3 - 1\n= n 2 c 2\n> order infinite\n= [1, 0]\n= [0, 1]/x^2\n> order finite\n= [1, 0]\n= [0, 1]\nend 4\n",
+        ),
+        (
+            b"field 7\ncurve y^2 + 6*x^5\norder infinite\n",
+            b"> field 7\n= q 7\n> curve y^2 + 6*x^5\n= n 2 c 3\n> order infinite\n= [1, 0]\n= [0, 1]/x^3\nend 3\n",
+        ),
+        // Klein's quartic: Y^3 + t*Y + t^5 for Y = y/x^2, so that Y^2/t is integral. The discriminant is t^10.
+        (
+            b"field 2 3 1 1 0 1\ncurve y^3 + x^3*y + x\norder infinite\n",
+            b"> field 2 3 1 1 0 1\n= q 8\n> curve y^3 + x^3*y + x\n= n 3 c 2\n> order infinite\n= [1, 0, 0]\n= [0, 1, 0]/x^2\n= [0, 0, 1]/x^3\nend 3\n",
+        ),
+        // y is a constant.
+        (
+            b"field 7\ncurve y^2 + 4\norder infinite\n",
+            b"> field 7\n= q 7\n> curve y^2 + 4\n= n 2 c 0\n> order infinite\n= [1, 0]\n= [0, 1]\nend 3\n",
+        ),
+        // A fourth root of t^3: its square over t, and its cube over t^2.
+        (
+            b"field 7\ncurve y^4 + 6*x^5\norder infinite\n",
+            b"> field 7\n= q 7\n> curve y^4 + 6*x^5\n= n 4 c 2\n> order infinite\n= [1, 0, 0, 0]\n= [0, 1, 0, 0]/x^2\n= [0, 0, 1, 0]/x^3\n= [0, 0, 0, 1]/x^4\nend 3\n",
+        ),
+        // (y - x^3)^2 = x, and the discriminant is 4*t^5: two turns.
+        (
+            b"field 7\ncurve y^2 + 5*x^3*y + x^6 + 6*x\norder infinite\n",
+            b"> field 7\n= q 7\n> curve y^2 + 5*x^3*y + x^6 + 6*x\n= n 2 c 3\n> order infinite\n= [1, 0]\n= [6*x^3, 1]/x\nend 3\n",
+        ),
+        // A wild place: W^2 + t*W + t = 0 for W = (y + x^3)/x^2.
+        (
+            b"field 2\ncurve y^2 + x*y + x^6 + x^4 + x^3\norder infinite\n",
+            b"> field 2\n= q 2\n> curve y^2 + x*y + x^6 + x^4 + x^3\n= n 2 c 3\n> order infinite\n= [1, 0]\n= [x^3, 1]/x^2\nend 3\n",
+        ),
+        // One of degree 3: Y^3 = t^4*Y + t^2 for Y = y/x^2. The discriminant is t^12.
+        (
+            b"field 3\ncurve y^3 - y - x^4\norder infinite\n",
+            b"> field 3\n= q 3\n> curve y^3 - y - x^4\n= n 3 c 2\n> order infinite\n= [1, 0, 0]\n= [0, 1, 0]/x^2\n= [0, 0, 1]/x^3\nend 3\n",
+        ),
+        // Not a field: y is x^2 or x^2 + 1.
+        (
+            b"field 7\ncurve y^2 + 5*x^2*y + 6*y + x^4 + x^2\norder infinite\n",
+            b"> field 7\n= q 7\n> curve y^2 + 5*x^2*y + 6*y + x^4 + x^2\n= n 2 c 2\n> order infinite\n= [1, 0]\n= [6*x^2, 1]\nend 3\n",
+        ),
+    ];
+    for (script, output) in rows {
+        let (ended, out) = ran(alloc, "run", script, Vec::new(alloc), Vec::new(alloc), 4096)?;
+        assert_eq!(rt; ended, Status::Done);
+        assert_eq!(rt; out.taken(), output);
+    }
+    Ok(())
+}
+
+#[test]
 fn first_bad_or_misplaced_line(rt: HostRuntime) -> Result<(), Fail> {
     let alloc = rt.alloc();
     let rows: [(&[u8], &[u8]); 18] = [

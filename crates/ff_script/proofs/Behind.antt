@@ -33,9 +33,9 @@ no_factor_here bytes none s h = none_of_kind FactorKind bytes none s h
 
 -- ---- sides
 
-pub no_side_here : (bytes : List ℕ) → (IsFront (Is (codes "finite")) bytes [] → ⊥) → (side : Side) → IsSideAt side bytes → ⊥
-no_side_here bytes no_finite Finite h = no_finite h
-no_side_here bytes no_finite Infinite h = h.part
+pub no_side_here : (bytes : List ℕ) → (IsFront (Is (codes "finite")) bytes [] → ⊥) → (IsFront (Is (codes "infinite")) bytes [] → ⊥) → (side : Side) → IsSideAt side bytes → ⊥
+no_side_here bytes no_finite no_infinite Finite h = no_finite h
+no_side_here bytes no_finite no_infinite Infinite h = no_infinite h
 
 pub no_order_here : (bytes : List ℕ) → ((side : Side) → IsSideAt side bytes → ⊥) → (s : Statement) → IsBehind (codes "order") s bytes → ⊥
 no_order_here bytes none s h = none_of_kind OrderKind bytes none s h

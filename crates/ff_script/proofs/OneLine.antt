@@ -1,5 +1,5 @@
 -- A line spells one statement at most.
-use Rattle.std.proofs.Common.{◌≡◌, ℕ, Bool, true, false, List, [], ◌∷◌, ◌++◌, codes, Option, Some, None, refl, sym, ap, subst, ◌∙◌, inl, inr}
+use Rattle.std.proofs.Common.{◌≡◌, ℕ, Bool, true, false, List, [], ◌∷◌, ◌++◌, codes, Option, Some, None, refl, sym, ap, subst, ◌∙◌, arith, inl, inr}
 use Rattle.std.proofs.lemmas.Bool.{both_ways}
 use Rattle.std.proofs.lemmas.List.{append-nil}
 use Rattle.ff_text.specs.Spelling.{Blanks, SpellsTerms, SpellsElement}
@@ -47,10 +47,14 @@ field_same p q s t bytes h k =
     let tail : s ≡ t = tail_equal s t others in
     cc
 
+other_word : (bytes : List ℕ) → bytes ≡ codes "finite" → bytes ≡ codes "infinite" → ⊥
+other_word bytes h k = omega (arith, head_same 102 105 (codes "inite") (codes "nfinite") (sym h ∙ k))
+
 one_side : OneValue SpellsSide
 one_side Finite Finite bytes h k = refl
-one_side Finite Infinite bytes h k = absurd k
-one_side Infinite t bytes h k = absurd h
+one_side Finite Infinite bytes h k = absurd (other_word bytes h k)
+one_side Infinite Finite bytes h k = absurd (other_word bytes k h)
+one_side Infinite Infinite bytes h k = refl
 
 -- the last part spells one value at most
 last_same : {V : Type 0} (Spells : V → List ℕ → Type 0) → OneValue Spells → ((v : V) (b : List ℕ) → Spells v b → IsSolid b) → (v w : V) (bytes : List ℕ) → IsFront (Spells v) bytes [] → IsFront (Spells w) bytes [] → v ≡ w

@@ -94,9 +94,9 @@ numbers_spaced : (part : List ℕ) (ns : List ℕ) → SpellsParts (part ∷ map
 numbers_spaced part [] = append-nil part
 numbers_spaced part (n ∷ ns) = spaced part (decimal n) (map decimal ns) (decimal n ++ numbers_text ns) (numbers_spaced (decimal n) ns)
 
-side_spelled : (side : Side) → side ≡ Finite → SpellsSide side (side_text side)
-side_spelled Finite h = refl
-side_spelled Infinite h = absurd cc
+side_spelled : (side : Side) → SpellsSide side (side_text side)
+side_spelled Finite = refl
+side_spelled Infinite = refl
 
 -- numbers, polynomials and elements that can be written are spelled by their texts
 pub record AreSpelled : Type 1 where
@@ -121,7 +121,7 @@ module _ (spelled : AreSpelled) where
   parts_named (CurveOf f) h = (terms_text f, refl, spelled.terms true f h)
   parts_named (Mul a b) h = (element_text a, element_text b, refl, spelled.element a h.0, spelled.element b h.1)
   parts_named (Factor g) h = (terms_text g, refl, spelled.terms false g h)
-  parts_named (OrderOf side) h = (side_text side, refl, side_spelled side h)
+  parts_named (OrderOf side) h = (side_text side, refl, side_spelled side)
 
   parts_joined : (s : Statement) → SpellsParts (parts_of s) (statement_text s)
   parts_joined (FieldOf p tail) = numbers_spaced (codes "field") (p ∷ numbers_of tail)

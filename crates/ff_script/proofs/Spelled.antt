@@ -210,7 +210,7 @@ terms_solid with_y (t ∷ ts) bytes h =
 
 pub side_solid : (side : Side) (bytes : List ℕ) → SpellsSide side bytes → IsSolid bytes
 side_solid Finite bytes h = subst IsSolid (sym h) (record { starts = refl; stops = refl; inside = ((refl, refl), ((refl, refl), ((refl, refl), ((refl, refl), ((refl, refl), ((refl, refl), tt)))))) })
-side_solid Infinite bytes h = absurd h
+side_solid Infinite bytes h = subst IsSolid (sym h) (record { starts = refl; stops = refl; inside = ((refl, refl), ((refl, refl), ((refl, refl), ((refl, refl), ((refl, refl), ((refl, refl), ((refl, refl), ((refl, refl), tt)))))))) })
 
 -- ---- elements
 

@@ -1,5 +1,5 @@
 -- What is spelled can be written.
-use Rattle.std.proofs.Common.{◌≡◌, ◌≢◌, ℕ, ◌<◌, Bool, true, false, List, [], ◌∷◌, codes, Option, Some, None, refl, arith, inl, inr}
+use Rattle.std.proofs.Common.{◌≢◌, ℕ, ◌<◌, Bool, true, false, List, [], ◌∷◌, codes, Option, Some, None, arith, inl, inr}
 use Rattle.std.specs.Prelude.{IfSome}
 use Rattle.std.specs.List.{AllByRecursion}
 use Rattle.ff_text.specs.declared.terms.Factor.{Factor}
@@ -9,12 +9,10 @@ use Rattle.ff_text.specs.declared.terms.ElemText.{ElemText}
 use Rattle.ff_text.specs.Spelling.{Then, Around, Each, SpellsPower, SpellsFactor, SpellsFactors, SpellsNext, SpellsTerms, SpellsDen, SpellsTail, SpellsEntries, SpellsElement}
 use Rattle.ff_text.specs.Printing.{IsWritableFactor, IsWritableTerm, IsWritableTerms, IsWritableElement}
 use Rattle.ff_text.proofs.Digits.{number_small}
-use Rattle.ff_algebra.specs.declared.elem.Side.{Side}
-use Rattle.ff_algebra.specs.declared.elem.Side.TheVariants.{Finite, Infinite}
 use Rattle.ff_script.specs.declared.script.Statement.{Statement}
 use Rattle.ff_script.specs.declared.script.Statement.TheVariants.{FieldOf, CurveOf, Mul, OrderOf}
 use Rattle.ff_script.specs.declared.script.Statement.TheVariants as statements
-use Rattle.ff_script.specs.Grammar.{AreNumbers, numbers_of, SpellsSide, ArePartsOf, SpellsLine}
+use Rattle.ff_script.specs.Grammar.{AreNumbers, numbers_of, ArePartsOf, SpellsLine}
 use Rattle.ff_script.specs.Printing.{IsShort, IsWritable}
 
 power_writable : (letter : List ℕ) (n : ℕ) (bytes : List ℕ) → SpellsPower letter n bytes → n < 1000000000
@@ -83,16 +81,12 @@ numbers_writable [] parts h = tt
 numbers_writable (n ∷ ns) [] h = absurd h
 numbers_writable (n ∷ ns) (part ∷ parts) h = (number_small n part h.0, numbers_writable ns parts h.1)
 
-side_writable : (side : Side) (bytes : List ℕ) → SpellsSide side bytes → side ≡ Finite
-side_writable Finite bytes h = refl
-side_writable Infinite bytes h = absurd h
-
 parts_writable : (s : Statement) (parts : List (List ℕ)) → ArePartsOf s parts → IsWritable s
 parts_writable (FieldOf p tail) parts h = (numbers_writable (p ∷ numbers_of tail) h.0 h.2, h.3)
 parts_writable (CurveOf f) parts h = terms_writable true f h.0 h.2
 parts_writable (Mul a b) parts h = (element_writable a h.0 h.3, element_writable b h.1 h.4)
 parts_writable (statements.Factor g) parts h = terms_writable false g h.0 h.2
-parts_writable (OrderOf side) parts h = side_writable side h.0 h.2
+parts_writable (OrderOf side) parts h = tt
 
 -- a statement that a line spells can be written
 pub line_writable : (s : Statement) (line : List ℕ) → SpellsLine s line → IsWritable s

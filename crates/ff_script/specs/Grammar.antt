@@ -52,10 +52,10 @@ abbrev pub IsWhole : Option Modulus → Type 0
 IsWhole None = Unit {0}
 IsWhole (Some modulus) = length modulus.codes ≡ suc modulus.m
 
--- a side's word; that of the infinite one isn't in the grammar yet
+-- a side's word
 abbrev pub SpellsSide : Side → List ℕ → Type 0
 SpellsSide Finite bytes = bytes ≡ codes "finite"
-SpellsSide Infinite bytes = ⊥
+SpellsSide Infinite bytes = bytes ≡ codes "infinite"
 
 -- the parts that spell a statement: its word, and then its numbers, its polynomial, its elements or its side; y stands in that of `curve` alone
 abbrev pub ArePartsOf : Statement → List (List ℕ) → Type 0

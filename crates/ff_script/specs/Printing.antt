@@ -1,5 +1,5 @@
 -- How statements are printed, and which are read again as they were.
-use Rattle.std.specs.Prelude.{◌≡◌, ℕ, ◌<◌, true, false, List, ◌∷◌, ◌++◌, codes, Option, decimal, flat_map}
+use Rattle.std.specs.Prelude.{ℕ, ◌<◌, true, false, List, ◌∷◌, ◌++◌, codes, Option, decimal, flat_map}
 use Rattle.std.specs.List.{AllByRecursion}
 use Rattle.ff_text.specs.Printing.{terms_text, element_text, IsWritableTerms, IsWritableElement}
 use Rattle.ff_algebra.specs.declared.elem.Side.{Side}
@@ -45,4 +45,4 @@ IsWritable (FieldOf p tail) = AllByRecursion IsShort (p ∷ numbers_of tail) × 
 IsWritable (CurveOf f) = IsWritableTerms true f
 IsWritable (Mul a b) = IsWritableElement a × IsWritableElement b
 IsWritable (Factor g) = IsWritableTerms false g
-IsWritable (OrderOf side) = side ≡ Finite
+IsWritable (OrderOf side) = Unit {0}

@@ -244,6 +244,9 @@ fn side_at(bytes: &[u8]) -> Option<Side>
     if is_word(bytes, b"finite") {
         return Some(Side::Finite);
     }
+    if is_word(bytes, b"infinite") {
+        return Some(Side::Infinite);
+    }
     None
 }
 

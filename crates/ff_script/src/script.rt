@@ -39,7 +39,7 @@ pub enum Statement {
     Mul { a: ElemText, b: ElemText },
     /// `factor g`
     Factor { g: TermList },
-    /// `order finite`
+    /// `order finite` or `order infinite`
     OrderOf { side: Side },
 }
 

@@ -211,7 +211,7 @@ fn denominators(rt: HostRuntime) -> Result<(), Fail> {
 
 #[test]
 fn orders(rt: HostRuntime) -> Result<(), Fail> {
-    let rows: [(&[u8], &[u8]); 14] = [
+    let rows: [(&[u8], &[u8]); 17] = [
         (b"order finite", b"order finite"),
         (b"\torder \r finite ", b"order finite"),
         (b"order", b""),
@@ -222,7 +222,10 @@ fn orders(rt: HostRuntime) -> Result<(), Fail> {
         (b"order finite 1", b""),
         (b"order finite finite", b""),
         (b"order Finite", b""),
-        (b"order infinite", b""),
+        (b"order infinite", b"order infinite"),
+        (b" order\tinfinite\r", b"order infinite"),
+        (b"order infinite 1", b""),
+        (b"order in finite", b""),
         (b"order inf", b""),
         (b"order x", b""),
         (b"finite", b""),

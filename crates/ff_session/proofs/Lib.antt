@@ -10,3 +10,5 @@ pub mod Truths
 pub mod OrderAnswers
 pub mod RepeatedFactors
 pub mod FiniteOrders
+pub mod PowerDenominators
+pub mod InfiniteOrders

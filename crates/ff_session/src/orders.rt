@@ -1,7 +1,7 @@
 //! The statement `order`.
 
-ghost use Rattle.std.specs.Prelude.{◌≡◌, ◌++◌, IfOk, IfErr, OnOk};
-ghost use Rattle.ff_algebra.specs.declared.elem.Side.TheVariants.{Finite};
+ghost use Rattle.std.specs.Prelude.{◌≡◌, [], ◌∷◌, ◌++◌, IfOk, IfErr, OnOk};
+ghost use Rattle.ff_algebra.specs.declared.elem.Side.TheVariants.{Finite, Infinite};
 ghost use Rattle.ff_algebra.specs.Values.{IsElem, IsMonicElem, function_of};
 ghost use Rattle.ff_algebra.specs.Infinity.{function_on};
 ghost use Rattle.ff_algebra.specs.Curves.{IsCurve};
@@ -21,9 +21,11 @@ use ff_algebra::elem::{Elem, Side};
 use ff_algebra::sides::to_fin;
 use ff_factor::factor;
 use ff_fields::field::SmallField;
+use ff_infinite::infinite_start;
 use ff_lattice::Order;
-use ff_order::{equation_order, maximal};
+use ff_order::{equation_order, maximal, p_maximal};
 use ff_poly::Poly;
+use ff_poly::poly::shift;
 use std::alloc::{AllocError, Global};
 
 /// The polynomials with an exponent of 2 or more.
@@ -53,20 +55,39 @@ fn finite_order<K: SmallField>(alloc: Global, k: &K, curve: &Curve) -> Result<Or
     maximal(alloc, k, p, &start, &primes)
 }
 
-/// The integral functions of a side.
+/// The variable of a presentation.
+fn variable(alloc: Global) -> Result<Poly, AllocError>
+    ensures { IfOk result (λ t. t ≡ 0 ∷ 1 ∷ []) }
+{
+    shift(alloc, &Poly::one(alloc)?, 1)
+}
+
+/// The integral functions of the infinite side that have powers of t = 1/x as denominators: k[t][Y], enlarged at t. Their
+/// combinations over the fractions of degree at most 0 are all integral functions of that side. It takes the time of
+/// `p_maximal` at t over the infinite presentation.
+fn infinite_order<K: SmallField>(alloc: Global, k: &K, curve: &Curve) -> Result<Order, AllocError>
+    requires { IsCurve (K.field k.now) curve.now }
+    ensures { IfOk result (IsIntegralLattice (K.field k.now) curve.now Infinite) }
+{
+    let p = curve.inf();
+    let t = variable(alloc)?;
+    let start = infinite_start(alloc, k, curve)?;
+    p_maximal(alloc, k, p, &start, &t)
+}
+
+/// The integral functions of a side, on the infinite one those with powers of t as denominators.
 fn integral_order<K: SmallField>(
     alloc: Global,
     k: &K,
     curve: &Curve,
     side: Side,
 ) -> Result<Order, AllocError>
-    requires curve { IsCurve (K.field k.now) curve.now }
-    requires finite { side ≡ Finite }
+    requires { IsCurve (K.field k.now) curve.now }
     ensures { IfOk result (IsIntegralLattice (K.field k.now) curve.now side) }
 {
     match side {
         Side::Finite => finite_order(alloc, k, curve),
-        Side::Infinite => unreachable!(),
+        Side::Infinite => infinite_order(alloc, k, curve),
     }
 }
 
@@ -158,8 +179,7 @@ pub(crate) fn answer_order<K: SmallField>(
     curve: &Curve,
     side: Side,
 ) -> Result<(), Refusal>
-    requires curve { IsCurve (K.field k.now) curve.now }
-    requires finite { side ≡ Finite }
+    requires { IsCurve (K.field k.now) curve.now }
     ensures rows { OnOk result (AddsRows (K.field k.now) curve.now side text.old.items text.new.items) }
     ensures refused { IfErr result (UnlessMemory (HaveGreatDegree (K.field k.now) curve.now side)) }
 {
