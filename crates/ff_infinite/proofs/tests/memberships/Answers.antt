@@ -1,0 +1,12 @@
+use Rattle.std.proofs.Common.{sym, subst}
+use Rattle.ff_poly.specs.Polynomials.{x_poly}
+use Rattle.ff_algebra.specs.Values.{equation_of}
+use Rattle.side_theory.specs.Tame.{IsTame}
+use Rattle.ff_lattice.specs.Lattices.{Contains}
+use Rattle.ff_infinite.proofs.tests.memberships.Goals as goal
+
+pub local_contains-requires-clause-tame : goal.local_contains-requires-clause-tame
+local_contains-requires-clause-tame g c =
+    let k = g.K.SmallField.field c.args.k.now in
+    let q = c.args.c.now.inf in
+    subst (λ l. IsTame (equation_of k q) (x_poly k) (Contains k q l)) (sym c.lattice-l.ensures) c.in_ok-start.ensures.tame
