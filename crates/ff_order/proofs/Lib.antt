@@ -8,3 +8,5 @@ pub mod Powers
 pub mod IntegralFunctions
 pub mod Products
 pub mod SquareParts
+pub mod Separable
+pub mod LowDegrees
