@@ -155,27 +155,26 @@ module _ (k : CodeField) where
     row_l : (i : ℕ) → i < length ls → IsRow k.ops c (row_at ls i)
     row_l i less = ls_in i [] less
 
-    first_is : (i : ℕ) → i < r → row_at gs i ≡ unit_row r i ++ lifted power (row_at m i)
-    first_is i less = twisted.first i (omega (arith, less, m_size)) ∙ ap (λ n. unit_row n i ++ lifted power (row_at m i)) m_size
+    first_is : (j : ℕ) → j < length ls → row_at gs j ≡ replicate r [] ++ lifted power (row_at ls j)
+    first_is j less = twisted.first j less ∙ ap (λ n. replicate n [] ++ lifted power (row_at ls j)) m_size
 
-    second_is : (j : ℕ) → j < length ls → row_at gs (r + j) ≡ replicate r [] ++ lifted power (row_at ls j)
-    second_is j less =
-        ap (λ n. row_at gs (n + j)) (sym m_size) ∙ twisted.second j less ∙ ap (λ n. replicate n [] ++ lifted power (row_at ls j)) m_size
+    second_is : (i : ℕ) → i < r → row_at gs (length ls + i) ≡ unit_row r i ++ lifted power (row_at m i)
+    second_is i less = twisted.second i (omega (arith, less, m_size)) ∙ ap (λ n. unit_row n i ++ lifted power (row_at m i)) m_size
 
-    gs_size : length gs ≡ r + length ls
-    gs_size = twisted.size ∙ ap (λ n. n + length ls) m_size
+    gs_size : length gs ≡ length ls + r
+    gs_size = twisted.size ∙ ap (λ n. length ls + n) m_size
 
     -- each row of the list in one of the two forms
     each_row : (T : List (List ℕ) → Type 0) → ((i : ℕ) → i < r → T (unit_row r i ++ lifted power (row_at m i))) → ((j : ℕ) → j < length ls → T (replicate r [] ++ lifted power (row_at ls j)))
         → (i : ℕ) → i < length gs → T (row_at gs i)
-    each_row T h h' i less = go (cases_lt i r)
+    each_row T h h' i less = go (cases_lt i (length ls))
       where
-        go : (i < r) ⊎ (r ≤ i) → T (row_at gs i)
-        go (inl first) = subst T (sym (first_is i first)) (h i first)
+        go : (i < length ls) ⊎ (length ls ≤ i) → T (row_at gs i)
+        go (inl first) = subst T (sym (first_is i first)) (h' i first)
         go (inr second) =
-            let j_less : i - r < length ls = omega (arith, less, second, gs_size) in
-            let place : r + (i - r) ≡ i = omega (arith, second) in
-            subst T (sym (second_is (i - r) j_less) ∙ ap (row_at gs) place) (h' (i - r) j_less)
+            let i_less : i - length ls < r = omega (arith, less, second, gs_size) in
+            let place : length ls + (i - length ls) ≡ i = omega (arith, second) in
+            subst T (sym (second_is (i - length ls) i_less) ∙ ap (row_at gs) place) (h (i - length ls) i_less)
 
     row_gs : (i : ℕ) → i < length gs → IsRow k.ops (r + c) (row_at gs i)
     row_gs = each_row (IsRow k.ops (r + c))
@@ -300,17 +299,17 @@ module _ (k : CodeField) where
     read_none : (n : ℕ) → read_row k (suc (r - 1)) (replicate n []) ≡ M.𝟎
     read_none n = read_zeros k (suc (r - 1)) n ∙ sym (row_module_zero (code_ring k) (r - 1))
 
-    moved_first : (i : ℕ) → i < r → theory.row_at W₀ (move (read_rows k (r + c) gs)) i ≡ (M.unit i, N.◌·◌ t (φ (M.unit i)))
-    moved_first i less =
-        moved_at whole W₀ ι same_width coef (read_rows k (r + c) gs) i
-        ∙ ap ι (read_row_at k (r + c) gs i ∙ ap (read_row k (suc (r + c - 1))) (first_is i less))
+    moved_second : (i : ℕ) → i < r → theory.row_at W₀ (move (read_rows k (r + c) gs)) (length ls + i) ≡ (M.unit i, N.◌·◌ t (φ (M.unit i)))
+    moved_second i less =
+        moved_at whole W₀ ι same_width coef (read_rows k (r + c) gs) (length ls + i)
+        ∙ ap ι (read_row_at k (r + c) gs (length ls + i) ∙ ap (read_row k (suc (r + c - 1))) (second_is i less))
         ∙ cut_parts (unit_row r i) (lifted power (row_at m i)) (unit_length r i)
         ∙ pair_path (read_unit r i r_pos less) (t_lifted (row_at m i) (row_m i less).over ∙ ap (N.◌·◌ t) (sym (φ_unit i less)))
 
-    moved_second : (j : ℕ) → j < length ls → theory.row_at W₀ (move (read_rows k (r + c) gs)) (r + j) ≡ (M.𝟎, N.◌·◌ t (theory.row_at N ls' j))
-    moved_second j less =
-        moved_at whole W₀ ι same_width coef (read_rows k (r + c) gs) (r + j)
-        ∙ ap ι (read_row_at k (r + c) gs (r + j) ∙ ap (read_row k (suc (r + c - 1))) (second_is j less))
+    moved_first : (j : ℕ) → j < length ls → theory.row_at W₀ (move (read_rows k (r + c) gs)) j ≡ (M.𝟎, N.◌·◌ t (theory.row_at N ls' j))
+    moved_first j less =
+        moved_at whole W₀ ι same_width coef (read_rows k (r + c) gs) j
+        ∙ ap ι (read_row_at k (r + c) gs j ∙ ap (read_row k (suc (r + c - 1))) (first_is j less))
         ∙ cut_parts (replicate r []) (lifted power (row_at ls j)) (length-replicate r [])
         ∙ pair_path (read_none r) (t_lifted (row_at ls j) (row_l j less).over ∙ ap (N.◌·◌ t) (sym (read_row_at k c ls j)))
 
@@ -318,25 +317,26 @@ module _ (k : CodeField) where
     abbrev Gs : List (Row (Polynomial k) (suc (r - 1)) × Row (Polynomial k) (suc (c - 1)))
     Gs = move (read_rows k (r + c) gs)
 
-    gs_length : length Gs ≡ r + length ls
+    gs_length : length Gs ≡ length ls + r
     gs_length = length-map (read_rows k (r + c) gs) ι ∙ length-map gs (read_row k (suc (r + c - 1))) ∙ gs_size
 
     ls_length : length ls' ≡ length ls
     ls_length = length-map ls (read_row k (suc (c - 1)))
 
     gs_twisted : (q : Row (Polynomial k) (suc (r - 1)) × Row (Polynomial k) (suc (c - 1))) → theory.InSpan W₀ Gs q → IsTwisted q
-    gs_twisted = span_least W₀ IsTwisted 𝓣 Gs (λ i. go i (cases_lt i r) (cases_lt i (r + length ls)))
+    gs_twisted = span_least W₀ IsTwisted 𝓣 Gs (λ i. go i (cases_lt i (length ls)) (cases_lt i (length ls + r)))
       where
         𝓣 : theory.IsSubmodule W₀ IsTwisted
         𝓣 = twisted_submodule M N (code_field k) φ linear ls' t cancel
 
-        go : (i : ℕ) → (i < r) ⊎ (r ≤ i) → (i < r + length ls) ⊎ (r + length ls ≤ i) → IsTwisted (theory.row_at W₀ Gs i)
-        go i (inl first) inside = subst IsTwisted (sym (moved_first i first)) (twisted_first M N (code_field k) φ linear ls' t cancel (M.unit i))
+        go : (i : ℕ) → (i < length ls) ⊎ (length ls ≤ i) → (i < length ls + r) ⊎ (length ls + r ≤ i) → IsTwisted (theory.row_at W₀ Gs i)
+        go i (inl first) inside =
+            subst IsTwisted (sym (moved_first i first)) (twisted_second M N (code_field k) φ linear ls' t cancel (theory.row_at N ls' i) (span_row N ls' i))
         go i (inr second) (inl inside) =
-            let j_less : i - r < length ls = omega (arith, inside, second) in
-            let place : r + (i - r) ≡ i = omega (arith, second) in
-            subst IsTwisted (sym (moved_second (i - r) j_less) ∙ ap (theory.row_at W₀ Gs) place)
-            (twisted_second M N (code_field k) φ linear ls' t cancel (theory.row_at N ls' (i - r)) (span_row N ls' (i - r)))
+            let i_less : i - length ls < r = omega (arith, inside, second) in
+            let place : length ls + (i - length ls) ≡ i = omega (arith, second) in
+            subst IsTwisted (sym (moved_second (i - length ls) i_less) ∙ ap (theory.row_at W₀ Gs) place)
+            (twisted_first M N (code_field k) φ linear ls' t cancel (M.unit (i - length ls)))
         go i (inr second) (inr past) = subst IsTwisted (sym (row_past W₀ Gs i (omega (arith, past, gs_length)))) 𝓣.zero_in
 
     twisted_gs : (q : Row (Polynomial k) (suc (r - 1)) × Row (Polynomial k) (suc (c - 1))) → IsTwisted q → theory.InSpan W₀ Gs q
@@ -344,12 +344,12 @@ module _ (k : CodeField) where
         twisted_in M N (code_field k) φ linear ls' t cancel Gs
         (λ i less.
         let in_r : i < r = omega (arith, less, space_width k r, r_is) in
-        subst (theory.InSpan W₀ Gs) (moved_first i in_r) (span_row W₀ Gs i))
-        (λ j. second j (cases_lt j (length ls)))
+        subst (theory.InSpan W₀ Gs) (moved_second i in_r) (span_row W₀ Gs (length ls + i)))
+        (λ j. first j (cases_lt j (length ls)))
       where
-        second : (j : ℕ) → (j < length ls) ⊎ (length ls ≤ j) → theory.InSpan W₀ Gs (M.𝟎, N.◌·◌ t (theory.row_at N ls' j))
-        second j (inl less) = subst (theory.InSpan W₀ Gs) (moved_second j less) (span_row W₀ Gs (r + j))
-        second j (inr past) =
+        first : (j : ℕ) → (j < length ls) ⊎ (length ls ≤ j) → theory.InSpan W₀ Gs (M.𝟎, N.◌·◌ t (theory.row_at N ls' j))
+        first j (inl less) = subst (theory.InSpan W₀ Gs) (moved_first j less) (span_row W₀ Gs j)
+        first j (inr past) =
             subst (theory.InSpan W₀ Gs)
             (product_zero M N ∙ pair_path refl (sym (ap (N.◌·◌ t) (row_past N ls' j (omega (arith, past, ls_length))) ∙ scale_zero N t)))
             (span_zero W₀ Gs)

@@ -20,11 +20,11 @@ pub record IsBesideUnit (power : ℕ) (m rows : List (List (List ℕ))) : Type 0
   pub size : length rows ≡ length m
   pub at : (i : ℕ) → i < length m → row_at rows i ≡ unit_row (length m) i ++ lifted power (row_at m i)
 
--- the rows of m times the power behind those of the unit matrix, and those of ls times the power behind zeros
+-- the rows of ls times the power behind zeros, and then those of m times the power behind those of the unit matrix
 pub record IsTwistedRows (power : ℕ) (m ls rows : List (List (List ℕ))) : Type 0 where
-  pub size : length rows ≡ length m + length ls
-  pub first : (i : ℕ) → i < length m → row_at rows i ≡ unit_row (length m) i ++ lifted power (row_at m i)
-  pub second : (j : ℕ) → j < length ls → row_at rows (length m + j) ≡ replicate (length m) [] ++ lifted power (row_at ls j)
+  pub size : length rows ≡ length ls + length m
+  pub first : (j : ℕ) → j < length ls → row_at rows j ≡ replicate (length m) [] ++ lifted power (row_at ls j)
+  pub second : (i : ℕ) → i < length m → row_at rows (length ls + i) ≡ unit_row (length m) i ++ lifted power (row_at m i)
 
 -- the rows of the first places have zeros from the place on
 pub record HasZeroCorner (n : ℕ) (rows : List (List (List ℕ))) : Type 0 where

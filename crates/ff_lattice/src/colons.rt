@@ -16,6 +16,7 @@ use crate::multiples::scale;
 use crate::operations::push_products;
 use crate::preimage::preimage;
 use crate::rows::{multiple_rows, zero_row};
+use crate::sets::same_rows;
 use ff_algebra::{Elem, Pres};
 use ff_fields::field::SmallField;
 use ff_poly::{Poly, poly};
@@ -110,7 +111,7 @@ fn kept_coefficients<K: SmallField>(
     preimage(alloc, k, &m, &ls, p.n())
 }
 
-/// The members of l whose product with w is in a.
+/// The members of l whose product with w is in a. Where these are all members, l is copied.
 fn restricted<K: SmallField>(
     alloc: Global,
     k: &K,
@@ -131,6 +132,10 @@ fn restricted<K: SmallField>(
 {
     let basis = kept_coefficients(alloc, k, p, l, w, a)?;
     let rows = combinations(alloc, k, &basis, l.rows(), p.n())?;
+    if same_rows(&rows, l.rows()) {
+        let copy = l.copy(alloc)?;
+        return Ok(copy);
+    }
     match from_rows(alloc, k, rows, p.n(), l.den())? {
         Some(lattice) => Ok(lattice),
         None => unreachable!(),

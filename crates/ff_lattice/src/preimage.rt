@@ -62,7 +62,8 @@ fn push_behind_zeros(
     Ok(())
 }
 
-/// The rows of m behind the unit matrix, and those of ls behind zeros, both times x to the power.
+/// The rows of ls behind zeros, and then those of m behind the unit matrix, all times x to the power. Those of ls come first
+/// since the others are reduced by them before by each other.
 fn twisted_rows(
     alloc: Global,
     m: &[Vec<Poly>],
@@ -71,8 +72,10 @@ fn twisted_rows(
 ) -> Result<Vec<Vec<Poly>>, AllocError>
     ensures { IfOk result (λ rows. IsTwistedRows power (rows_of m.now) (rows_of ls.now) (rows_of rows.items)) }
 {
-    let mut rows = rows_beside_unit(alloc, m, power)?;
+    let mut rows = Vec::new(alloc);
     push_behind_zeros(alloc, &mut rows, m.len(), ls, power)?;
+    let mut beside = rows_beside_unit(alloc, m, power)?;
+    rows.append(&mut beside)?;
     Ok(rows)
 }
 
@@ -143,19 +146,25 @@ fn preimage_at<K: SmallField>(
     Ok(Some(basis))
 }
 
-/// The length of the longest entry of the rows. No memory.
-fn longest_of(rows: &[Vec<Poly>]) -> usize {
-    let mut most = 0;
+/// The power of x to begin with, for so many rows of the answer: the length of the longest entry of the rows, or the mean of
+/// the lengths that rows of the answer can have together, if that is more. No memory.
+fn first_power(rows: &[Vec<Poly>], count: usize) -> usize
+    requires { 0 < count }
+{
+    let mut most = 1;
+    let mut total: usize = 0;
     for row in rows {
-        most = longest_entry(row).max(most);
+        let length = longest_entry(row);
+        most = length.max(most);
+        total = total.saturating_add(length);
     }
-    most
+    most.max(total / count)
 }
 
 /// The Popov basis of the rows z with z·m in the lattice of the rows ls, which has full rank. It is read off the Popov basis
-/// of the rows of m behind the unit matrix and those of ls behind zeros, both times a power of x that is doubled until it is
-/// above the degree of the answer; it begins with the length of the longest entry of ls, which mostly serves. It takes the
-/// time of that Popov basis, of as many rows as m and ls have.
+/// of the rows of ls behind zeros and those of m behind the unit matrix, all times a power of x that is doubled until it is
+/// above the degree of the answer; `first_power` mostly serves. It takes the time of that Popov basis, of as many rows as m and
+/// ls have.
 pub(crate) fn preimage<K: SmallField>(
     alloc: Global,
     k: &K,
@@ -170,7 +179,7 @@ pub(crate) fn preimage<K: SmallField>(
     ensures { IfOk result (λ basis.
         IsPreimage (K.field k.now).ops (length m.now) width (rows_of m.now) (rows_of ls.now) (rows_of basis.items)) }
 {
-    let mut power: usize = longest_of(ls).max(1);
+    let mut power = first_power(ls, m.len());
     for _ in 0..64u32 {
         if let Some(basis) = preimage_at(alloc, k, m, ls, width, power)? {
             return Ok(basis);

@@ -51,7 +51,7 @@ fn same_row(v: &[Poly], w: &[Poly]) -> bool
 }
 
 /// Are the lists of rows the same?
-fn same_rows(vs: &[Vec<Poly>], ws: &[Vec<Poly>]) -> bool
+pub(crate) fn same_rows(vs: &[Vec<Poly>], ws: &[Vec<Poly>]) -> bool
     ensures { IsTrue result ↔ (rows_of vs.now ≡ rows_of ws.now) }
 {
     if vs.len() != ws.len() {

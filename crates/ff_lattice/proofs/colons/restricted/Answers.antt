@@ -1,9 +1,10 @@
-use Rattle.std.proofs.Common.{◌≡◌, ◌∙◌, sym, ap, ap₂, subst, length, map, refl, All}
+use Rattle.std.proofs.Common.{◌≡◌, ◌↔◌, ◌∙◌, sym, ap, ap₂, subst, length, map, refl, All}
 use Rattle.std.specs.Prelude.{MatchOption, IfSome}
 use Rattle.std.proofs.lemmas.List.{length-map}
 use Rattle.ff_poly.specs.Words.{IsPoly}
 use Rattle.ff_poly.specs.Popov.{rows_of, IsRow, combination, HasFullRank}
-use Rattle.ff_lattice.specs.Lattices.{IsLattice, IsSpannedBy, elems_over}
+use Rattle.ff_algebra.specs.Values.{functions, function_of}
+use Rattle.ff_lattice.specs.Lattices.{LatticeValue, IsLattice, IsSpannedBy, Contains, InSpanOf, elems_over}
 use Rattle.ff_lattice.proofs.Restrictions.{kept_iff, made_rows, made_poly, made_rank}
 use Rattle.ff_lattice.proofs.colons.restricted.Goals as goal
 
@@ -29,6 +30,24 @@ combinations-requires-clause-rows_in g c =
     let basis = rows_of c.in_ok-basis.basis.items in
     subst (λ n. All (IsRow k.ops n) (rows_of c.rows.result.now)) (sym c.n.ensures.n)
     (subst (All (IsRow k.ops p.n)) (sym c.rows.ensures.rows) c.requires.l_form.rows_in)
+
+pub returns-then-same_rows-clause-members : goal.returns-then-same_rows-clause-members
+returns-then-same_rows-clause-members g c =
+    let k = g.K.SmallField.field c.args.k.now in
+    let p = c.args.p.now in
+    let l = c.args.l.now in
+    let a = c.args.a.now in
+    let w = c.args.w.now in
+    let basis = rows_of c.in_ok-basis.basis.items in
+    let made_is : rows_of c.in_ok-rows.rows.items ≡ map (λ z. combination k.ops p.n z l.rows) basis
+    = c.in_ok-rows.ensures ∙ ap (λ n. map (λ z. combination k.ops n z (rows_of c.rows.result.now)) (rows_of c.deref.result.now)) c.n.ensures.n
+    ∙ ap₂ (λ ls bs. map (λ z. combination k.ops p.n z ls) (rows_of bs)) c.rows.ensures.rows c.deref.ensures.value in
+    let same : map (λ z. combination k.ops p.n z l.rows) basis ≡ l.rows
+    = sym made_is ∙ ap rows_of (sym c.deref-2.ensures.value) ∙ c.same_rows.ensures.0 c.if-same_rows.true ∙ c.rows-2.ensures.rows in
+    λ z.
+    subst (λ (r : LatticeValue). Contains k p r z ↔ (Contains k p l z × Contains k p a ((functions k p).◌⊗◌ (function_of k p w) z))) (sym c.in_ok-copy.ensures)
+    (subst (λ xs. InSpanOf k p (elems_over xs l.den) z ↔ (Contains k p l z × Contains k p a ((functions k p).◌⊗◌ (function_of k p w) z))) same
+    (kept_iff k p l a w basis c.n.ensures.range.positive c.requires.l_form c.requires.a_form c.in_ok-basis.ensures z))
 
 pub from_rows-requires-clause-rows_in : goal.from_rows-requires-clause-rows_in
 from_rows-requires-clause-rows_in g c =
