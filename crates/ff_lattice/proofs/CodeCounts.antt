@@ -1,6 +1,6 @@
 -- How many codes a class has: the sum of the degrees of the ideal's pivots, less those of the order's.
-use Rattle.std.proofs.Common.{◌≡◌, ℕ, zero, suc, ◌+◌, ◌-◌, ◌*◌, ◌/◌, ◌%◌, ◌<◌, ◌≤◌, ◌⊎◌, inl, inr, true, false, cond, nat_lt, List, refl, sym, ap, ap₂, ◌∙◌, arith, suc-mul}
-use Rattle.std.proofs.lemmas.Bool.{cases_lt, ltb-true, ltb-false, lt-ltb, le-ltb}
+use Rattle.std.proofs.Common.{◌≡◌, ℕ, zero, suc, ◌+◌, ◌-◌, ◌*◌, ◌<◌, ◌≤◌, ◌⊎◌, inl, inr, true, false, cond, nat_lt, List, refl, sym, ap, ap₂, ◌∙◌, arith, suc-mul}
+use Rattle.std.proofs.lemmas.Bool.{cases_lt, ltb-true, lt-ltb, le-ltb}
 use Rattle.std.proofs.lemmas.Nat.{div-mul-add, mod-mul-add}
 use Rattle.ff_lattice.specs.Steps.{pivot_sum}
 use Rattle.ff_lattice.specs.PlaceLists.{pivot_length, is_outside, is_kept, code_count}

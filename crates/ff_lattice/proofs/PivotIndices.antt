@@ -1,5 +1,5 @@
 -- Indices of lattices by pivot degrees.
-use Rattle.std.proofs.Common.{◌≡◌, ℕ, zero, suc, ◌+◌, ◌-◌, ◌*◌, ◌<◌, ◌≤◌, ◌↔◌, List, [], ◌∷◌, length, get_or, map, refl, sym, ◌∙◌, ap, ap₂, subst, arith, All, pos, ◌-ℤ◌}
+use Rattle.std.proofs.Common.{◌≡◌, ℕ, suc, ◌+◌, ◌-◌, ◌*◌, ◌<◌, ◌↔◌, List, [], ◌∷◌, length, get_or, map, refl, sym, ◌∙◌, ap, ap₂, subst, arith, All, pos, ◌-ℤ◌}
 use Rattle.std.proofs.lemmas.Int.{ints}
 use Rattle.std.proofs.lemmas.List.{length-map}
 use Rattle.std.proofs.lemmas.List.Elements.{All-map, All-from_get_or}
@@ -17,7 +17,7 @@ use Rattle.linear_theory.specs.Module.{Module, combine, IsHomomorphism}
 use Rattle.linear_theory.specs.Basis.{IsSubspace, IsBasis}
 use Rattle.linear_theory.proofs.Coefficients.{restricted}
 use Rattle.linear_theory.proofs.Exchange.{bases_same_length}
-use Rattle.popov_theory.specs.Module.{PolynomialModule, measure, row_degree}
+use Rattle.popov_theory.specs.Module.{PolynomialModule, row_degree}
 use Rattle.popov_theory.specs.Span.{InSpan, IsWithin}
 use Rattle.popov_theory.specs.Popov as theory
 use Rattle.popov_theory.specs.Basis.{IsBasisModulo, scalar_combine}
@@ -36,7 +36,7 @@ use Rattle.ff_poly.specs.Polynomials.{Polynomial, polynomials, polynomials_domai
 use Rattle.ff_poly.specs.Popov.{entry_at, row_at, pivot_degree, pivot_degree_from, IsRow, IsPopov}
 use Rattle.ff_poly.proofs.Parts.{top_of_monic}
 use Rattle.ff_popov.specs.Reading.{read_row, row_space, read_rows}
-use Rattle.ff_popov.proofs.ReadRows.{read_row_at, over_at}
+use Rattle.ff_popov.proofs.ReadRows.{over_at}
 use Rattle.ff_popov.proofs.Measures.{measured}
 use Rattle.ff_popov.proofs.PopovBasis.{basis_popov}
 use Rattle.ff_algebra.specs.Functions.{Equation, IsPolynomial, of_poly, over}

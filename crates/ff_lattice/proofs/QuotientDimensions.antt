@@ -3,7 +3,7 @@ use Rattle.std.proofs.Common.{◌≡◌, ℕ, suc, List, ◌+◌, ◌-◌, ◌*�
 use Rattle.std.proofs.lemmas.Int.{ints}
 use Rattle.ff_ring.specs.Rows.{Row}
 use Rattle.popov_theory.specs.Module.{PolynomialModule}
-use Rattle.popov_theory.specs.Span.{InSpan, IsWithin}
+use Rattle.popov_theory.specs.Span.{IsWithin}
 use Rattle.popov_theory.proofs.Monotone.{degree_within}
 use Rattle.ff_fields.specs.Field.{CodeField}
 use Rattle.ff_fields.specs.Code.{code_ring, code_field}
@@ -14,7 +14,7 @@ use Rattle.ff_popov.specs.Reading.{row_space, read_rows}
 use Rattle.ff_popov.proofs.Measures.{space_width}
 use Rattle.ff_popov.proofs.PopovBasis.{basis_measured, basis_popov}
 use Rattle.ff_algebra.specs.Functions.{over}
-use Rattle.ff_algebra.specs.Values.{Functions, equation_of}
+use Rattle.ff_algebra.specs.Values.{equation_of}
 use Rattle.ff_lattice.specs.Lattices.{LatticeValue, pivot_degree_of}
 use Rattle.ff_lattice.specs.Steps.{pivot_sum}
 use Rattle.ff_lattice.specs.PlaceLists.{pivot_length}

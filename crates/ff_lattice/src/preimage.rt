@@ -62,8 +62,8 @@ fn push_behind_zeros(
     Ok(())
 }
 
-/// The rows of ls behind zeros, and then those of m behind the unit matrix, all times x to the power. Those of ls come first
-/// since the others are reduced by them before by each other.
+/// The rows of ls behind zeros, and then those of m behind the unit matrix, all times x to the power. Those of ls come first,
+/// so that the others are reduced by them before they are reduced by each other.
 fn twisted_rows(
     alloc: Global,
     m: &[Vec<Poly>],

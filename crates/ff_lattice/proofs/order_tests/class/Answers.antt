@@ -1,4 +1,4 @@
-use Rattle.std.proofs.Common.{rules, ◌≡◌, length, sym, ◌∙◌, ap, subst, arith, true}
+use Rattle.std.proofs.Common.{rules, ◌≡◌, length, sym, ◌∙◌, ap, subst, true}
 use Rattle.ff_algebra.specs.Values.{IsElem, function_of}
 use Rattle.ff_lattice.specs.Lattices.{LatticeValue, IsLattice, Contains}
 use Rattle.ff_lattice.proofs.order_tests.class.Goals as goal
