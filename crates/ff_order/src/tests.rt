@@ -9,7 +9,7 @@ ghost use Rattle.ff_fields.specs.Over.{IsOver};
 ghost use Rattle.ff_poly.specs.Words.{IsIrreducible};
 ghost use Rattle.ff_algebra.specs.Curves.{IsCurve};
 
-use crate::{equation_order, maximal, multiplier, p_maximal, radical};
+use crate::{equation_order, maximal, p_maximal};
 use ff_algebra::Curve;
 use ff_fields::field::SmallField;
 use ff_fields::prime::PrimeField;
@@ -125,24 +125,6 @@ fn p_enlarged<K: SmallField>(
     p_maximal(alloc, k, p, &start, pi)
 }
 
-// The radical of k[x][y] at a polynomial, and its multipliers.
-fn first_turn<K: SmallField>(
-    alloc: Global,
-    k: &K,
-    c: &Curve,
-    pi: &Poly,
-) -> Result<(Lattice, Order), AllocError>
-    requires curve { IsCurve (K.field k.now) c.now }
-    requires pi_in { IsOver (K.field k.now).ops pi.now }
-    requires irreducible { IsIrreducible (K.field k.now).ops pi.now }
-{
-    let p = c.fin();
-    let start = equation_order(alloc, k, p)?;
-    let r = radical(alloc, k, p, &start, pi)?;
-    let m = multiplier(alloc, k, p, &start, &r)?;
-    Ok((r, m))
-}
-
 // The pivot degree of a lattice of at most 4 rows.
 fn degree(l: &Lattice) -> Result<i128, Fail> {
     if l.len() > 4 {
@@ -187,48 +169,6 @@ fn degree_at_quadratic(
     let pi = quadratic(alloc, &k, c, b)?;
     let o = p_enlarged(alloc, &k, &curve, &pi)?;
     degree(o.lattice())
-}
-
-// Have the polynomials these codes?
-fn have_codes(polys: &[Poly], codes: &[&[u32]]) -> bool {
-    if polys.len() != codes.len() {
-        return false;
-    }
-    for i in 0..polys.len() {
-        if polys[i].codes() != codes[i] {
-            return false;
-        }
-    }
-    true
-}
-
-// Has the lattice these two rows over this denominator?
-fn has_rows(l: &Lattice, first: &[&[u32]], second: &[&[u32]], den: &[u32]) -> bool {
-    let rows = l.rows();
-    if rows.len() != 2 {
-        return false;
-    }
-    l.den().codes() == den && have_codes(&rows[0], first) && have_codes(&rows[1], second)
-}
-
-// Over y^2 = x^3 + x^2 the radical at x has the basis x, y, its multipliers have 1, y/x, and no turn makes them larger.
-#[test]
-fn node(rt: HostRuntime) -> Result<(), Fail> {
-    let alloc = rt.alloc();
-    let k = PrimeField::new(7)?;
-    let c = curve(alloc, &k, &[(2, 0, 1), (0, 3, 6), (0, 2, 6)])?;
-    let x = line(alloc, &k, 0)?;
-    let (r, m) = first_turn(alloc, &k, &c, &x)?;
-    let first: [&[u32]; 2] = [&[0, 1], &[]];
-    let second: [&[u32]; 2] = [&[], &[1]];
-    assert!(rt; has_rows(&r, &first, &second, &[1]));
-    assert!(rt; has_rows(m.lattice(), &first, &second, &[0, 1]));
-    let o = p_enlarged(alloc, &k, &c, &x)?;
-    assert!(rt; has_rows(o.lattice(), &first, &second, &[0, 1]));
-    let primes = lines(alloc, &k, &[0])?;
-    let o = enlarged(alloc, &k, &c, &primes)?;
-    assert!(rt; has_rows(o.lattice(), &first, &second, &[0, 1]));
-    Ok(())
 }
 
 // y^2 = x^5 has the basis 1, y/x^2, and y^2 = x^9, after four turns, 1, y/x^4. y^4 = x^5 has 1, y/x, y^2/x^2, y^3/x^3.
