@@ -9,7 +9,7 @@ ghost use Rattle.ff_fields.specs.Over.{IsOver};
 ghost use Rattle.ff_poly.specs.Words.{IsIrreducible};
 ghost use Rattle.ff_algebra.specs.Curves.{IsCurve};
 
-use crate::{equation_order, maximal, p_maximal};
+use crate::{equation_order, maximal, multiplier, p_maximal, radical};
 use ff_algebra::Curve;
 use ff_fields::field::SmallField;
 use ff_fields::prime::PrimeField;
@@ -133,6 +133,60 @@ fn degree(l: &Lattice) -> Result<i128, Fail> {
     Ok(l.pivot_degree())
 }
 
+// k[x][y] over the curve of the terms, enlarged at x + c for each of the codes.
+fn enlarged_at<K: SmallField>(
+    alloc: Global,
+    k: &K,
+    list: &[(u64, u64, u32)],
+    codes: &[u32],
+) -> Result<Order, Fail> {
+    let c = curve(alloc, k, list)?;
+    let primes = lines(alloc, k, codes)?;
+    Ok(enlarged(alloc, k, &c, &primes)?)
+}
+
+// k[x][y] over the curve of the terms, enlarged at x + c alone.
+fn p_enlarged_at<K: SmallField>(
+    alloc: Global,
+    k: &K,
+    list: &[(u64, u64, u32)],
+    c: u32,
+) -> Result<Order, Fail> {
+    let made = curve(alloc, k, list)?;
+    let pi = line(alloc, k, c)?;
+    Ok(p_enlarged(alloc, k, &made, &pi)?)
+}
+
+// The radical of k[x][y] at a polynomial, and its multipliers.
+fn first_turn<K: SmallField>(
+    alloc: Global,
+    k: &K,
+    c: &Curve,
+    pi: &Poly,
+) -> Result<(Lattice, Order), AllocError>
+    requires curve { IsCurve (K.field k.now) c.now }
+    requires pi_in { IsOver (K.field k.now).ops pi.now }
+    requires irreducible { IsIrreducible (K.field k.now).ops pi.now }
+{
+    let p = c.fin();
+    let start = equation_order(alloc, k, p)?;
+    let r = radical(alloc, k, p, &start, pi)?;
+    let m = multiplier(alloc, k, p, &start, &r)?;
+    Ok((r, m))
+}
+
+// The same over the curve of the terms, at x + c.
+fn first_turn_at<K: SmallField>(
+    alloc: Global,
+    k: &K,
+    list: &[(u64, u64, u32)],
+    c: u32,
+) -> Result<(Lattice, Order), Fail> {
+    let made = curve(alloc, k, list)?;
+    let pi = line(alloc, k, c)?;
+    Ok(first_turn(alloc, k, &made, &pi)?)
+}
+
 // The pivot degree of k[x][y] over the curve of the terms, enlarged at x + c for each of the codes.
 fn degree_at<K: SmallField>(
     alloc: Global,
@@ -140,9 +194,7 @@ fn degree_at<K: SmallField>(
     list: &[(u64, u64, u32)],
     codes: &[u32],
 ) -> Result<i128, Fail> {
-    let c = curve(alloc, k, list)?;
-    let primes = lines(alloc, k, codes)?;
-    let o = enlarged(alloc, k, &c, &primes)?;
+    let o = enlarged_at(alloc, k, list, codes)?;
     degree(o.lattice())
 }
 
@@ -169,6 +221,36 @@ fn degree_at_quadratic(
     let pi = quadratic(alloc, &k, c, b)?;
     let o = p_enlarged(alloc, &k, &curve, &pi)?;
     degree(o.lattice())
+}
+
+// Has the row these two entries?
+fn is_row(row: &[Poly], first: &[u32], second: &[u32]) -> bool {
+    row.len() == 2 && row[0].codes() == first && row[1].codes() == second
+}
+
+// Has the lattice the rows [first, 0] and [0, second] over the denominator?
+fn is_diagonal(l: &Lattice, den: &[u32], first: &[u32], second: &[u32]) -> bool {
+    let rows = l.rows();
+    rows.len() == 2
+        && l.den().codes() == den
+        && is_row(&rows[0], first, &[])
+        && is_row(&rows[1], &[], second)
+}
+
+// Over y^2 = x^3 + x^2 the radical at x has the basis x, y, its multipliers have 1, y/x, and no turn makes them larger.
+#[test]
+fn node(rt: HostRuntime) -> Result<(), Fail> {
+    let alloc = rt.alloc();
+    let k = PrimeField::new(7)?;
+    let list = [(2, 0, 1), (0, 3, 6), (0, 2, 6)];
+    let (r, m) = first_turn_at(alloc, &k, &list, 0)?;
+    assert!(rt; is_diagonal(&r, &[1], &[0, 1], &[1]));
+    assert!(rt; is_diagonal(m.lattice(), &[0, 1], &[0, 1], &[1]));
+    let one = p_enlarged_at(alloc, &k, &list, 0)?;
+    assert!(rt; is_diagonal(one.lattice(), &[0, 1], &[0, 1], &[1]));
+    let all = enlarged_at(alloc, &k, &list, &[0])?;
+    assert!(rt; is_diagonal(all.lattice(), &[0, 1], &[0, 1], &[1]));
+    Ok(())
 }
 
 // y^2 = x^5 has the basis 1, y/x^2, and y^2 = x^9, after four turns, 1, y/x^4. y^4 = x^5 has 1, y/x, y^2/x^2, y^3/x^3.
