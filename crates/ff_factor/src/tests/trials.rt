@@ -231,7 +231,7 @@ fn two(rt: HostRuntime) -> Result<(), Fail> {
 #[test]
 fn three(rt: HostRuntime) -> Result<(), Fail> {
     let k = PrimeField::new(3)?;
-    for degree in 0..5 {
+    for degree in 0..6 {
         assert!(rt; all_agree(rt.alloc(), &k, 3, degree)?, "degree {degree}");
     }
     Ok(())
