@@ -4,17 +4,17 @@ use Rattle.std.specs.Prelude.{neg_ℤ}
 use Rattle.std.proofs.lemmas.Int.{ints, by_lt_z}
 use Rattle.std.proofs.Math.IntN.{ℤ, pos, ◌+ℤ◌}
 use lib.Signed.{◌≤ℤ◌, ◌<ℤ◌}
-use Rattle.local_theory.proofs.Lists.{both}
-use Rattle.local_theory.proofs.Products.{product_into}
+use Rattle.prime_theory.proofs.Lists.{both}
+use Rattle.prime_theory.proofs.Products.{product_into}
 use Rattle.ff_fields.specs.Field.{CodeField}
 use Rattle.ff_poly.specs.Polynomials.{polynomials}
-use Rattle.ff_algebra.specs.declared.elem.Side.{Side}
-use Rattle.ff_algebra.specs.declared.elem.Side.TheVariants.{Finite, Infinite}
-use Rattle.ff_algebra.specs.Discriminant.{discriminant}
-use Rattle.ff_algebra.specs.Places.{Place, IsPlace, HasValuationAtLeast}
-use Rattle.ff_algebra.specs.Divisors.{Divisor, IsDivisor, HasMultiplicity, MeetsOn, IsCanonical}
-use Rattle.ff_algebra.specs.Functions.{Equation, FunctionOf, ring_of, setting_of}
-use Rattle.ff_algebra.proofs.ScalarRings.{scalars_subring}
+use Rattle.function_field.specs.declared.side.Side.{Side}
+use Rattle.function_field.specs.declared.side.Side.TheVariants.{Finite, Infinite}
+use Rattle.function_field.specs.Discriminant.{discriminant}
+use Rattle.function_field.specs.Places.{Place, IsPlace, HasValuationAtLeast}
+use Rattle.function_field.specs.Divisors.{Divisor, IsDivisor, HasMultiplicity, MeetsOn, IsCanonical}
+use Rattle.function_field.specs.Functions.{Equation, FunctionOf, ring_of, setting_of}
+use Rattle.function_field.proofs.ScalarRings.{scalars_subring}
 use Rattle.places_theory.proofs.Sides.{side_ring}
 use Rattle.places_theory.proofs.Valuations.{at_least_product, at_least_weaker, valuation_of_outside}
 use Rattle.ideal_theory.specs.Ideals.{DivisorIdeal, opposite_divisor}

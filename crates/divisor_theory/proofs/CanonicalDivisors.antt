@@ -1,17 +1,17 @@
 -- Where F is a field, there is a canonical divisor.
 use Rattle.std.proofs.Common.{◌≡◌, sym, ap, subst}
-use Rattle.ff_ring.specs.Ring.{IsField}
-use Rattle.ff_ring.specs.Subsets.{IsModule}
-use Rattle.ff_ring.proofs.Ring.{one_mul}
-use Rattle.local_theory.specs.Ideals.{Invertible}
+use Rattle.ring_theory.specs.Ring.{IsField}
+use Rattle.ring_theory.specs.Subsets.{IsModule}
+use Rattle.ring_theory.proofs.Ring.{one_mul}
+use Rattle.prime_theory.specs.Ideals.{Invertible}
 use Rattle.ff_fields.specs.Field.{CodeField}
 use Rattle.ff_poly.specs.Polynomials.{polynomials}
-use Rattle.ff_algebra.specs.declared.elem.Side.{Side}
-use Rattle.ff_algebra.specs.declared.elem.Side.TheVariants.{Finite, Infinite}
-use Rattle.ff_algebra.specs.Discriminant.{discriminant}
-use Rattle.ff_algebra.specs.Places.{IsIntegralAt}
-use Rattle.ff_algebra.specs.Divisors.{Divisor, IsCanonical}
-use Rattle.ff_algebra.specs.Functions.{Equation, FunctionOf, ring_of, trace_of, setting_of, IsPolynomial}
+use Rattle.function_field.specs.declared.side.Side.{Side}
+use Rattle.function_field.specs.declared.side.Side.TheVariants.{Finite, Infinite}
+use Rattle.function_field.specs.Discriminant.{discriminant}
+use Rattle.function_field.specs.Places.{IsIntegralAt}
+use Rattle.function_field.specs.Divisors.{Divisor, IsCanonical}
+use Rattle.function_field.specs.Functions.{Equation, FunctionOf, ring_of, trace_of, setting_of, IsPolynomial}
 use Rattle.space_theory.specs.TraceDuals.{TraceDual, CanonicalDual}
 use Rattle.divisor_theory.proofs.LeastValues.{module_divisor}
 use Rattle.divisor_theory.proofs.TraceModules.{finite_dual_module, finite_dual_invertible, canonical_module, canonical_invertible}

@@ -2,23 +2,23 @@
 use Rattle.std.proofs.Common.{◌≡◌, ℕ, ◌+◌, ◌<◌, List, [], ◌∷◌, length, sym, ◌∙◌, ap, subst, arith}
 use Rattle.std.proofs.lemmas.Int.{ints}
 use Rattle.std.proofs.Math.IntN.{ℤ, pos, ◌+ℤ◌, ◌-ℤ◌}
-use Rattle.ff_ring.proofs.Ring.{one_mul, zero_add}
-use Rattle.local_theory.specs.Ideals.{SameSet}
+use Rattle.ring_theory.proofs.Ring.{one_mul, zero_add}
+use Rattle.prime_theory.specs.Ideals.{SameSet}
 use Rattle.linear_theory.specs.Basis.{IsBasis}
 use Rattle.linear_theory.proofs.Lists.{entry}
 use Rattle.ff_fields.specs.Field.{CodeField}
 use Rattle.ff_fields.specs.Code.{code_ring, code_field}
 use Rattle.ff_poly.specs.Polynomials.{polynomials}
-use Rattle.ff_algebra.specs.declared.elem.Side.TheVariants.{Finite, Infinite}
-use Rattle.ff_algebra.specs.Discriminant.{discriminant}
-use Rattle.ff_algebra.specs.Places.{IsIntegralAt}
-use Rattle.ff_algebra.specs.Divisors.{Divisor, IsDivisor, HasTotalDegree, MeetsOn, IsCanonical}
-use Rattle.ff_algebra.specs.Functions.{Equation, FunctionOf, ring_of, trace_of, setting_of, degree_of_y, IsPolynomial}
+use Rattle.function_field.specs.declared.side.Side.TheVariants.{Finite, Infinite}
+use Rattle.function_field.specs.Discriminant.{discriminant}
+use Rattle.function_field.specs.Places.{IsIntegralAt}
+use Rattle.function_field.specs.Divisors.{Divisor, IsDivisor, HasTotalDegree, MeetsOn, IsCanonical}
+use Rattle.function_field.specs.Functions.{Equation, FunctionOf, ring_of, trace_of, setting_of, degree_of_y, IsPolynomial}
 use Rattle.lattice_theory.specs.Lattices.{space_ops, polynomial_ops}
-use Rattle.reduced_theory.specs.Degree.{degree_sum}
-use Rattle.reduced_theory.specs.Reduced.{InLattice}
-use Rattle.reduced_theory.proofs.Converse.{converse}
-use Rattle.reduced_theory.proofs.Laws.{lattice_dimension, family_dimension}
+use Rattle.reduced_basis_theory.specs.Degree.{degree_sum}
+use Rattle.reduced_basis_theory.specs.Reduced.{InLattice}
+use Rattle.reduced_basis_theory.proofs.Converse.{converse}
+use Rattle.reduced_basis_theory.proofs.Laws.{lattice_dimension, family_dimension}
 use Rattle.space_theory.specs.Spaces.{IsReducedBasis, multiples_of}
 use Rattle.space_theory.specs.TraceDuals.{TraceDual, CanonicalDual}
 use Rattle.space_theory.proofs.FunctionModule.{functions_module, division}

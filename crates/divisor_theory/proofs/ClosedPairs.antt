@@ -3,19 +3,19 @@ use Rattle.std.proofs.Common.{◌≡◌, List, [], ◌∷◌, map, refl, sym, �
 use Rattle.std.specs.Prelude.{ℕ, neg_ℤ}
 use Rattle.std.proofs.lemmas.Int.{ints}
 use Rattle.std.proofs.Math.IntN.{ℤ, ◌+ℤ◌}
-use Rattle.ff_ring.proofs.Ring.{mul_mul, mul_left_comm}
-use Rattle.ff_ring.proofs.Solver.{ring, reads}
-use Rattle.local_theory.specs.Ideals.{Multiple, SameSet}
+use Rattle.ring_theory.proofs.Ring.{mul_mul, mul_left_comm}
+use Rattle.ring_theory.proofs.Solver.{ring, reads}
+use Rattle.prime_theory.specs.Ideals.{Multiple, SameSet}
 use Rattle.linear_theory.specs.Module.{IsLinear}
 use Rattle.ff_fields.specs.Field.{CodeField}
 use Rattle.ff_fields.specs.Code.{code_ring}
-use Rattle.ff_algebra.specs.declared.elem.Side.TheVariants.{Finite, Infinite}
-use Rattle.ff_algebra.specs.Places.{IsIntegralAt}
-use Rattle.ff_algebra.specs.Divisors.{x_to}
-use Rattle.ff_algebra.specs.Functions.{Equation, FunctionOf, ring_of, of_poly, setting_of, degree_of_y}
+use Rattle.function_field.specs.declared.side.Side.TheVariants.{Finite, Infinite}
+use Rattle.function_field.specs.Places.{IsIntegralAt}
+use Rattle.function_field.specs.Divisors.{x_to}
+use Rattle.function_field.specs.Functions.{Equation, FunctionOf, ring_of, of_poly, setting_of, degree_of_y}
 use Rattle.lattice_theory.specs.Lattices.{polynomial_ops}
-use Rattle.reduced_theory.specs.Canonical.{IsModulePair}
-use Rattle.reduced_theory.proofs.Transport.{reduced_image, reduced_same}
+use Rattle.reduced_basis_theory.specs.Canonical.{IsModulePair}
+use Rattle.reduced_basis_theory.proofs.Transport.{reduced_image, reduced_same}
 use Rattle.space_theory.specs.Spaces.{IsReducedBasis, multiples_of}
 use Rattle.space_theory.proofs.FunctionModule.{functions_module, cancel}
 use Rattle.divisor_theory.proofs.PowersOfX.{x_to_sum}

@@ -1,16 +1,16 @@
 -- The index of a lattice over k[t] in a larger one, where both differ from k[t][Y] at t alone, is that of their combinations over the fractions of degree at most 0.
 use Rattle.std.proofs.Common.{◌≡◌, ℕ, zero, suc, ◌≤◌, List, [], ◌∷◌, map, length, refl, sym, ◌∙◌, ap, ap₂, subst, arith}
 use Rattle.std.proofs.lemmas.List.{length-map}
-use Rattle.ff_ring.specs.Local.{PrimeTo}
-use Rattle.ff_ring.specs.Ring.{pow}
-use Rattle.ff_ring.specs.Subsets.{IsModule, Span}
-use Rattle.ff_ring.proofs.Evaluate.{constant, length_trim}
-use Rattle.ff_ring.proofs.Local.{comaximal_power}
-use Rattle.ff_ring.proofs.Ring.{one_mul, mul_zero}
-use Rattle.ff_ring.proofs.RowMaps.{hom_zero}
-use Rattle.ff_ring.proofs.Solver.{ring, reads, from_one}
-use Rattle.ff_ring.proofs.Subsets.{span_module}
-use Rattle.local_theory.specs.Ideals.{SameSet}
+use Rattle.ring_theory.specs.Local.{PrimeTo}
+use Rattle.ring_theory.specs.Ring.{pow}
+use Rattle.ring_theory.specs.Subsets.{IsModule, Span}
+use Rattle.ring_theory.proofs.Evaluate.{constant, length_trim}
+use Rattle.ring_theory.proofs.Local.{comaximal_power}
+use Rattle.ring_theory.proofs.Ring.{one_mul, mul_zero}
+use Rattle.ring_theory.proofs.RowMaps.{hom_zero}
+use Rattle.ring_theory.proofs.Solver.{ring, reads, from_one}
+use Rattle.ring_theory.proofs.Subsets.{span_module}
+use Rattle.prime_theory.specs.Ideals.{SameSet}
 use Rattle.linear_theory.specs.Basis.{IsSubspace, IsSum}
 use Rattle.linear_theory.specs.Module.{IsLinear}
 use Rattle.linear_theory.proofs.Dimension.{basis_image, basis_transport}
@@ -18,22 +18,22 @@ use Rattle.ff_fields.specs.Field.{CodeField}
 use Rattle.ff_fields.specs.Code.{Code, code_ring}
 use Rattle.ff_poly.specs.Value.{value}
 use Rattle.ff_poly.specs.Polynomials.{x_poly, codes_of, value_nil, value_codes_of}
-use Rattle.ff_algebra.specs.declared.elem.Side.TheVariants.{Infinite}
-use Rattle.ff_algebra.specs.Functions.{Equation, of_poly, IsPolynomial, IsFiniteAtInfinity}
-use Rattle.ff_algebra.specs.Infinity.{value_at, variable}
-use Rattle.ff_algebra.specs.Values.{PresValue, Functions, functions, setting, equation_of}
-use Rattle.ff_algebra.proofs.OnSide.{of_poly_zero}
-use Rattle.ff_algebra.proofs.ScalarRings.{polynomials_subring, finite_at_infinity_subring}
+use Rattle.function_field.specs.declared.side.Side.TheVariants.{Infinite}
+use Rattle.function_field.specs.Functions.{Equation, of_poly, IsPolynomial, IsFiniteAtInfinity}
+use Rattle.function_field.specs.Infinity.{value_at, variable}
+use Rattle.function_field.specs.Values.{PresValue, Functions, functions, setting, equation_of}
+use Rattle.function_field.proofs.OnSide.{of_poly_zero}
+use Rattle.function_field.proofs.ScalarRings.{polynomials_subring, finite_at_infinity_subring}
 use Rattle.lattice_theory.specs.Lattices.{IsLattice, HasIndex, space_ops}
 use Rattle.lattice_theory.proofs.Indices.{codes, space, code_of, lattice_subspace}
 use Rattle.lattice_theory.proofs.Lattices.{lattice_module}
 use Rattle.order_theory.specs.Orders.{IsPrimeTo}
 use Rattle.order_theory.proofs.LocalOrders.{prime_to}
-use Rattle.side_theory.specs.Tame.{IsTame}
-use Rattle.side_theory.specs.InfiniteMaps.{IsInfiniteMap}
-use Rattle.side_theory.proofs.InfiniteOrders.{combination_local, combination_members}
-use Rattle.side_theory.proofs.InfiniteTransport.{x_irreducible}
-use Rattle.side_theory.proofs.PushedPlaces.{each}
+use Rattle.infinite_theory.specs.Supported.{IsSupportedAt}
+use Rattle.infinite_theory.specs.InfiniteMaps.{IsInfiniteMap}
+use Rattle.infinite_theory.proofs.InfiniteOrders.{combination_local, combination_members}
+use Rattle.infinite_theory.proofs.InfiniteTransport.{x_irreducible}
+use Rattle.infinite_theory.proofs.PushedPlaces.{each}
 use Rattle.space_theory.proofs.AtInfinity.{taken_at, combinations_lattice}
 use Rattle.space_theory.proofs.InfiniteIndices.{infinite_space}
 
@@ -87,7 +87,7 @@ module _ (k : CodeField) (p q : PresValue) (c : ℕ) (f : Functions k q → Func
   Combinations gs = Span (functions k p).ops (IsFiniteAtInfinity (equation_of k p)) (map f gs)
 
   module _ (A B : Functions k q → Type 0) (𝓐 : IsLattice (equation_of k q) A) (𝓑 : IsLattice (equation_of k q) B)
-      (a : IsTame (equation_of k q) (x_poly k) A) (b : IsTame (equation_of k q) (x_poly k) B) (within : (z : Functions k q) → A z → B z)
+      (a : IsSupportedAt (equation_of k q) (x_poly k) A) (b : IsSupportedAt (equation_of k q) (x_poly k) B) (within : (z : Functions k q) → A z → B z)
       (gs hs : List (Functions k q)) (spanned : SameSet A (Span (functions k q).ops (IsPolynomial (equation_of k q)) gs))
       (spanned' : SameSet B (Span (functions k q).ops (IsPolynomial (equation_of k q)) hs)) where
     𝓝 : PrimeTo (functions k q).ops (IsPolynomial (equation_of k q)) (IsPrimeTo (equation_of k q) (x_poly k)) (of_poly (equation_of k q) (x_poly k))

@@ -2,10 +2,10 @@
 use Rattle.std.proofs.Common.{◌≡◌, ℕ, suc, ◌<◌, Bool, true, false, List, [], ◌∷◌, length, All, refl, sym, ◌∙◌, ap, ap₂, subst}
 use Rattle.std.proofs.Math.Bool.{Bool-set}
 use Rattle.std.proofs.lemmas.List.Elements.{All-head, All-tail}
-use Rattle.ff_ring.specs.Ring.{CommRing, IsField}
-use Rattle.ff_ring.specs.Subsets.{IsSubring}
-use Rattle.ff_ring.proofs.Solver.{ring, reads}
-use Rattle.local_theory.proofs.Lists.{everywhere}
+use Rattle.ring_theory.specs.Ring.{CommRing, IsField}
+use Rattle.ring_theory.specs.Subsets.{IsSubring}
+use Rattle.ring_theory.proofs.Solver.{ring, reads}
+use Rattle.prime_theory.proofs.Lists.{everywhere}
 use Rattle.linear_theory.specs.Fields.{Field}
 use Rattle.linear_theory.specs.Module.{Module, IsHomomorphism, combine}
 use Rattle.linear_theory.specs.Basis.{IsBasis, IsNull}
@@ -13,15 +13,15 @@ use Rattle.linear_theory.proofs.Coefficients.{restricted}
 use Rattle.ff_fields.specs.Field.{CodeField}
 use Rattle.ff_fields.specs.Code.{Code, code_ring}
 use Rattle.ff_poly.specs.Polynomials.{polynomials}
-use Rattle.ff_algebra.specs.Discriminant.{discriminant}
-use Rattle.ff_algebra.specs.Divisors.{IsConstant}
-use Rattle.ff_algebra.specs.Functions.{Equation, FunctionOf, ring_of, setting_of, functions_discrete}
+use Rattle.function_field.specs.Discriminant.{discriminant}
+use Rattle.function_field.specs.Divisors.{IsConstant}
+use Rattle.function_field.specs.Functions.{Equation, FunctionOf, ring_of, setting_of, functions_discrete}
 use Rattle.lattice_theory.specs.Lattices.{HasIndex, space_ops, polynomial_ops}
 use Rattle.lattice_theory.proofs.Indices.{code_of, code_hom}
 use Rattle.order_theory.proofs.IntegralLattice.{integral_lattice}
 use Rattle.lattice_theory.proofs.Lattices.{lattice_decided}
-use Rattle.side_theory.proofs.InfiniteLaws.{integral_decided}
-use Rattle.reduced_theory.specs.Reduced.{IsExtension}
+use Rattle.infinite_theory.proofs.InfiniteLaws.{integral_decided}
+use Rattle.reduced_basis_theory.specs.Reduced.{IsExtension}
 use Rattle.space_theory.proofs.CodeBases.{code_is}
 use Rattle.space_theory.proofs.PartRing.{part_ring, same_part}
 use Rattle.divisor_theory.proofs.Constants.{OnBothSides, both_subring, code_on_both, constants_are, constant_inverse}

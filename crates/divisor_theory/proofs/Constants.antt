@@ -2,11 +2,11 @@
 use Rattle.std.proofs.Common.{◌≡◌, ◌↔◌, ℕ, suc, ℤ, pos, ◌-ℤ◌, ◌<◌, List, [], ◌∷◌, map, sym, ◌∙◌, ap, ap₂, subst}
 use Rattle.std.proofs.lemmas.List.{length-map}
 use Rattle.std.proofs.lemmas.List.Elements.{All-cons, All-map, All-weaker}
-use Rattle.ff_ring.specs.Subsets.{IsSubring, Span}
-use Rattle.ff_ring.proofs.Integral.{integral}
-use Rattle.ff_ring.proofs.Ring.{mul_zero, mul_left_comm, neg_unique}
-use Rattle.ff_ring.proofs.Subsets.{span_tail}
-use Rattle.local_theory.proofs.Scalars.{integral_wider}
+use Rattle.ring_theory.specs.Subsets.{IsSubring, Span}
+use Rattle.ring_theory.proofs.Integral.{integral}
+use Rattle.ring_theory.proofs.Ring.{mul_zero, mul_left_comm, neg_unique}
+use Rattle.ring_theory.proofs.Subsets.{span_tail}
+use Rattle.prime_theory.proofs.Scalars.{integral_wider}
 use Rattle.linear_theory.specs.Module.{combine}
 use Rattle.linear_theory.specs.Basis.{IsBasis as IsBasisOver, IsNull, IsSubspace}
 use Rattle.linear_theory.proofs.Bases.{combine_in, null_subspace}
@@ -14,21 +14,21 @@ use Rattle.linear_theory.proofs.Dimension.{basis_of_full_length}
 use Rattle.ff_fields.specs.Field.{CodeField}
 use Rattle.ff_fields.specs.Code.{Code, code_ring, code_field}
 use Rattle.ff_poly.specs.Polynomials.{polynomials}
-use Rattle.ff_algebra.specs.declared.elem.Side.{Side}
-use Rattle.ff_algebra.specs.declared.elem.Side.TheVariants.{Finite, Infinite}
-use Rattle.ff_algebra.specs.Discriminant.{discriminant}
-use Rattle.ff_algebra.specs.Places.{IsIntegralAt}
-use Rattle.ff_algebra.specs.Divisors.{IsConstant}
-use Rattle.ff_algebra.specs.Functions.{Equation, FunctionOf, ring_of, setting_of, degree_of_y, IsCode, IsScalar, IsFiniteAtInfinity}
-use Rattle.ff_algebra.proofs.ScalarRings.{scalars_subring}
+use Rattle.function_field.specs.declared.side.Side.{Side}
+use Rattle.function_field.specs.declared.side.Side.TheVariants.{Finite, Infinite}
+use Rattle.function_field.specs.Discriminant.{discriminant}
+use Rattle.function_field.specs.Places.{IsIntegralAt}
+use Rattle.function_field.specs.Divisors.{IsConstant}
+use Rattle.function_field.specs.Functions.{Equation, FunctionOf, ring_of, setting_of, degree_of_y, IsCode, IsScalar, IsFiniteAtInfinity}
+use Rattle.function_field.proofs.ScalarRings.{scalars_subring}
 use Rattle.places_theory.proofs.Sides.{side_ring, scalar_integral}
 use Rattle.lattice_theory.specs.Lattices.{HasIndex, space_ops, polynomial_ops}
 use Rattle.lattice_theory.proofs.Bases.{index_same}
 use Rattle.lattice_theory.proofs.Indices.{codes, space, code_of, code_hom}
 use Rattle.order_theory.proofs.IntegralLattice.{integral_lattice}
-use Rattle.reduced_theory.specs.Degree.{size, dimension_sum}
-use Rattle.reduced_theory.specs.Reduced.{layers, Section}
-use Rattle.reduced_theory.proofs.Count.{section_basis, length_section}
+use Rattle.reduced_basis_theory.specs.Degree.{size, dimension_sum}
+use Rattle.reduced_basis_theory.specs.Reduced.{layers, Section}
+use Rattle.reduced_basis_theory.proofs.Count.{section_basis, length_section}
 use Rattle.space_theory.specs.Spaces.{IsReducedBasis, multiples_of}
 use Rattle.space_theory.proofs.AtInfinity.{integral_at_infinity}
 use Rattle.space_theory.proofs.CodeBases.{code_is, code_at}

@@ -7,19 +7,19 @@ use Rattle.linear_theory.specs.Basis.{IsNull}
 use Rattle.ff_fields.specs.Field.{CodeField}
 use Rattle.ff_fields.specs.Code.{code_ring, code_field}
 use Rattle.ff_poly.specs.Polynomials.{polynomials}
-use Rattle.ff_algebra.specs.declared.elem.Side.{Side}
-use Rattle.ff_algebra.specs.declared.elem.Side.TheVariants.{Finite, Infinite}
-use Rattle.ff_algebra.specs.Discriminant.{discriminant}
-use Rattle.ff_algebra.specs.Places.{Place, IsPlace}
-use Rattle.ff_algebra.specs.Divisors.{Divisor, IsDivisor, HasDegree, HasTotalDegree, MeetsOn, InSpace, none, entry}
-use Rattle.ff_algebra.specs.Functions.{Equation, FunctionOf, setting_of, degree_of_y}
+use Rattle.function_field.specs.declared.side.Side.{Side}
+use Rattle.function_field.specs.declared.side.Side.TheVariants.{Finite, Infinite}
+use Rattle.function_field.specs.Discriminant.{discriminant}
+use Rattle.function_field.specs.Places.{Place, IsPlace}
+use Rattle.function_field.specs.Divisors.{Divisor, IsDivisor, HasDegree, HasTotalDegree, MeetsOn, InSpace, none, entry}
+use Rattle.function_field.specs.Functions.{Equation, FunctionOf, setting_of, degree_of_y}
 use Rattle.lattice_theory.specs.Lattices.{HasIndex, space_ops}
 use Rattle.lattice_theory.proofs.Bases.{index_same}
 use Rattle.order_theory.proofs.SideOfPlaces.{degree_of_place}
-use Rattle.side_theory.proofs.InfiniteLaws.{degree_exists}
-use Rattle.reduced_theory.specs.Degree.{dimension_sum}
-use Rattle.reduced_theory.specs.Reduced.{Section}
-use Rattle.reduced_theory.proofs.Count.{section_basis, length_section}
+use Rattle.infinite_theory.proofs.InfiniteLaws.{degree_exists}
+use Rattle.reduced_basis_theory.specs.Degree.{dimension_sum}
+use Rattle.reduced_basis_theory.specs.Reduced.{Section}
+use Rattle.reduced_basis_theory.proofs.Count.{section_basis, length_section}
 use Rattle.space_theory.specs.Spaces.{IsReducedBasis, multiples_of}
 use Rattle.space_theory.proofs.FunctionModule.{functions_module}
 use Rattle.space_theory.proofs.InfiniteIndices.{level_zero}

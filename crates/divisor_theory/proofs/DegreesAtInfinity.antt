@@ -5,31 +5,31 @@ use Rattle.std.proofs.lemmas.Int.{ints}
 use Rattle.std.proofs.lemmas.List.{length-map}
 use Rattle.std.proofs.lemmas.List.Elements.{All-nil, All-head, All-tail, All-map, All-weaker}
 use Rattle.std.proofs.Math.IntN.{ℤ, pos, ◌+ℤ◌, ◌-ℤ◌, ◌*ℤ◌}
-use Rattle.ff_ring.specs.Subsets.{IsModule, Product}
-use Rattle.ff_ring.proofs.Ring.{one_mul, mul_zero, mul_left_comm, zero_add}
-use Rattle.ff_ring.proofs.Solver.{ring, reads}
-use Rattle.ff_ring.proofs.Subsets.{product_member, product_module}
-use Rattle.local_theory.specs.Ideals.{Inverse, Invertible, SameSet, Power}
-use Rattle.local_theory.specs.IntegerValues.{up, down, PrimePower}
-use Rattle.local_theory.specs.Primes.{IsPrime}
-use Rattle.local_theory.proofs.Invertible.{trace_ideal}
-use Rattle.local_theory.proofs.Products.{product_into, product_monotone, product_swap, product_assoc, product_assoc_back, product_one, own_module, power_module, additive_of_module}
-use Rattle.local_theory.proofs.Residues.{Generator, generator, generated, generator_free}
+use Rattle.ring_theory.specs.Subsets.{IsModule, Product}
+use Rattle.ring_theory.proofs.Ring.{one_mul, mul_zero, mul_left_comm, zero_add}
+use Rattle.ring_theory.proofs.Solver.{ring, reads}
+use Rattle.ring_theory.proofs.Subsets.{product_member, product_module}
+use Rattle.prime_theory.specs.Ideals.{Inverse, Invertible, SameSet, Power}
+use Rattle.prime_theory.specs.IntegerValues.{up, down, PrimePower}
+use Rattle.prime_theory.specs.Primes.{IsPrime}
+use Rattle.prime_theory.proofs.Invertible.{trace_ideal}
+use Rattle.prime_theory.proofs.Products.{product_into, product_monotone, product_swap, product_assoc, product_assoc_back, product_one, own_module, power_module, additive_of_module}
+use Rattle.prime_theory.proofs.Residues.{Generator, generator, generated, generator_free}
 use Rattle.linear_theory.specs.Module.{combine}
 use Rattle.linear_theory.proofs.Bases.{combine_in}
 use Rattle.ff_fields.specs.Field.{CodeField}
 use Rattle.ff_fields.specs.Code.{Code, code_ring}
 use Rattle.ff_poly.specs.Polynomials.{polynomials}
-use Rattle.ff_algebra.specs.declared.elem.Side.TheVariants.{Infinite}
-use Rattle.ff_algebra.specs.Places.{Place, IsPlace, IsIn, IsIntegralAt}
-use Rattle.ff_algebra.specs.Divisors.{Entry, Divisor, HasTotalDegree, none, entry}
-use Rattle.ff_algebra.specs.Functions.{Equation, FunctionOf, ring_of, setting_of, degree_of_y}
-use Rattle.ff_algebra.specs.Discriminant.{discriminant}
+use Rattle.function_field.specs.declared.side.Side.TheVariants.{Infinite}
+use Rattle.function_field.specs.Places.{Place, IsPlace, IsIn, IsIntegralAt}
+use Rattle.function_field.specs.Divisors.{Entry, Divisor, HasTotalDegree, none, entry}
+use Rattle.function_field.specs.Functions.{Equation, FunctionOf, ring_of, setting_of, degree_of_y}
+use Rattle.function_field.specs.Discriminant.{discriminant}
 use Rattle.lattice_theory.specs.Lattices.{IsLattice, HasIndex, space_ops}
 use Rattle.lattice_theory.proofs.Bases.{index_same}
 use Rattle.lattice_theory.proofs.Indices.{codes, space}
-use Rattle.reduced_theory.specs.Degree.{degree_sum}
-use Rattle.side_theory.proofs.InfiniteLaws.{degree_exists}
+use Rattle.reduced_basis_theory.specs.Degree.{degree_sum}
+use Rattle.infinite_theory.proofs.InfiniteLaws.{degree_exists}
 use Rattle.ideal_theory.specs.Ideals.{DivisorIdeal}
 use Rattle.ideal_theory.proofs.IdealIndices.{times_parts}
 use Rattle.ideal_theory.proofs.InfiniteSide.{infinite_prime}

@@ -5,27 +5,27 @@ use Rattle.std.proofs.lemmas.Int.{ints}
 use Rattle.std.proofs.lemmas.List.Elements.{All-weaker}
 use Rattle.std.proofs.Math.IntN.{ℤ, ◌+ℤ◌, ◌-ℤ◌}
 use lib.Signed.{◌≤ℤ◌}
-use Rattle.ff_ring.specs.Subsets.{Colon, Product}
-use Rattle.ff_ring.proofs.Ring.{mul_left_comm}
-use Rattle.local_theory.specs.Ideals.{SameSet, Invertible}
-use Rattle.local_theory.specs.Primes.{IsPrime}
-use Rattle.local_theory.proofs.Lists.{both}
-use Rattle.local_theory.proofs.Products.{product_universal}
+use Rattle.ring_theory.specs.Subsets.{Colon, Product}
+use Rattle.ring_theory.proofs.Ring.{mul_left_comm}
+use Rattle.prime_theory.specs.Ideals.{SameSet, Invertible}
+use Rattle.prime_theory.specs.Primes.{IsPrime}
+use Rattle.prime_theory.proofs.Lists.{both}
+use Rattle.prime_theory.proofs.Products.{product_universal}
 use Rattle.ff_fields.specs.Field.{CodeField}
 use Rattle.ff_poly.specs.Polynomials.{polynomials}
-use Rattle.ff_algebra.specs.declared.elem.Side.{Side}
-use Rattle.ff_algebra.specs.declared.elem.Side.TheVariants.{Finite, Infinite}
-use Rattle.ff_algebra.specs.Discriminant.{discriminant}
-use Rattle.ff_algebra.specs.Places.{Place, IsPlace, IsSamePlace, IsIn, IsIntegralAt, HasValuationAtLeast}
-use Rattle.ff_algebra.specs.Divisors.{Divisor, IsDivisor, HasMultiplicity, MeetsOn}
-use Rattle.ff_algebra.specs.Functions.{Equation, FunctionOf, ring_of, setting_of}
-use Rattle.ff_algebra.proofs.ScalarRings.{scalars_subring}
+use Rattle.function_field.specs.declared.side.Side.{Side}
+use Rattle.function_field.specs.declared.side.Side.TheVariants.{Finite, Infinite}
+use Rattle.function_field.specs.Discriminant.{discriminant}
+use Rattle.function_field.specs.Places.{Place, IsPlace, IsSamePlace, IsIn, IsIntegralAt, HasValuationAtLeast}
+use Rattle.function_field.specs.Divisors.{Divisor, IsDivisor, HasMultiplicity, MeetsOn}
+use Rattle.function_field.specs.Functions.{Equation, FunctionOf, ring_of, setting_of}
+use Rattle.function_field.proofs.ScalarRings.{scalars_subring}
 use Rattle.places_theory.proofs.Multiplicities.{multiplicity_exists, multiplicity_unique}
 use Rattle.places_theory.proofs.SamePlaces.{same_place_decided}
 use Rattle.places_theory.proofs.Valuations.{at_least_product, at_least_weaker}
 use Rattle.lattice_theory.proofs.Lattices.{lattice_decided}
 use Rattle.order_theory.proofs.SideOfPlaces.{lattice_of_place, prime_of_place}
-use Rattle.side_theory.proofs.InfiniteLaws.{spans_decided}
+use Rattle.infinite_theory.proofs.InfiniteLaws.{spans_decided}
 use Rattle.ideal_theory.specs.Ideals.{DivisorIdeal, opposite_divisor}
 use Rattle.ideal_theory.proofs.PowerValues.{on_side, place_at, values_additive}
 use Rattle.ideal_theory.proofs.DivisorIdeals.{values_of_ideal, one_in_opposite}

@@ -5,11 +5,11 @@ use Rattle.std.proofs.lemmas.List.Elements.{All-nil, All-cons, All-head, All-tai
 use Rattle.std.proofs.lemmas.List.Kept.{AllPairs-cons}
 use Rattle.std.proofs.lemmas.Int.{ints}
 use Rattle.std.proofs.Math.IntN.{ℤ, pos, ◌-ℤ◌}
-use Rattle.local_theory.proofs.Lists.{any_here, any_there, any_none, any_cases, any_weaker}
+use Rattle.prime_theory.proofs.Lists.{any_here, any_there, any_none, any_cases, any_weaker}
 use Rattle.ff_fields.specs.Field.{CodeField}
-use Rattle.ff_algebra.specs.Places.{Place, IsPlace, IsSamePlace}
-use Rattle.ff_algebra.specs.Divisors.{Entry, Divisor, IsDivisor, HasMultiplicity}
-use Rattle.ff_algebra.specs.Functions.{Equation, FunctionOf, setting_of}
+use Rattle.function_field.specs.Places.{Place, IsPlace, IsSamePlace}
+use Rattle.function_field.specs.Divisors.{Entry, Divisor, IsDivisor, HasMultiplicity}
+use Rattle.function_field.specs.Functions.{Equation, FunctionOf, setting_of}
 use Rattle.places_theory.proofs.Multiplicities.{multiplicity_unique, multiplicity_same, multiplicity_elsewhere}
 use Rattle.places_theory.proofs.SamePlaces.{same_place_refl, same_place_sym, same_place_trans}
 use Rattle.divisor_theory.specs.Parts.{IsDifference}

@@ -1,28 +1,28 @@
 -- The genus: where F is a field, it times the dimension of the constants is the sum of the max(0, d_i - 1), for the degrees of a reduced basis of (O_fin, O_inf).
 use Rattle.std.proofs.Common.{◌≡◌, ℕ, suc, ◌+◌, ◌*◌, ◌≤◌, ◌⊎◌, inl, inr, ℤ, pos, List, [], ◌∷◌, length, refl, sym, ◌∙◌, ap, ap₂, subst, arith, suc-mul, mul-le-mul_right, mul_comm}
-use Rattle.ff_ring.specs.Ring.{IsField}
-use Rattle.ff_ring.specs.Subsets.{IsSubring}
-use Rattle.ff_ring.proofs.Ring.{add_add, zero_add}
-use Rattle.ff_ring.proofs.Solver.{ring, reads}
-use Rattle.local_theory.proofs.Lists.{everywhere}
+use Rattle.ring_theory.specs.Ring.{IsField}
+use Rattle.ring_theory.specs.Subsets.{IsSubring}
+use Rattle.ring_theory.proofs.Ring.{add_add, zero_add}
+use Rattle.ring_theory.proofs.Solver.{ring, reads}
+use Rattle.prime_theory.proofs.Lists.{everywhere}
 use Rattle.linear_theory.specs.Fields.{Field}
 use Rattle.linear_theory.specs.Module.{combine}
 use Rattle.linear_theory.specs.Basis.{IsBasis, IsNull, IsSum, IsSubspace}
 use Rattle.ff_fields.specs.Field.{CodeField}
 use Rattle.ff_fields.specs.Code.{code_ring, code_field}
 use Rattle.ff_poly.specs.Polynomials.{polynomials}
-use Rattle.ff_algebra.specs.declared.elem.Side.TheVariants.{Finite, Infinite}
-use Rattle.ff_algebra.specs.Discriminant.{discriminant}
-use Rattle.ff_algebra.specs.Places.{IsIntegralAt}
-use Rattle.ff_algebra.specs.Divisors.{IsConstant, IsSumOfSides, HasGenus}
-use Rattle.ff_algebra.specs.Functions.{Equation, FunctionOf, ring_of, setting_of, degree_of_y}
-use Rattle.ff_algebra.proofs.ScalarRings.{scalars_subring}
+use Rattle.function_field.specs.declared.side.Side.TheVariants.{Finite, Infinite}
+use Rattle.function_field.specs.Discriminant.{discriminant}
+use Rattle.function_field.specs.Places.{IsIntegralAt}
+use Rattle.function_field.specs.Divisors.{IsConstant, IsSumOfSides, HasGenus}
+use Rattle.function_field.specs.Functions.{Equation, FunctionOf, ring_of, setting_of, degree_of_y}
+use Rattle.function_field.proofs.ScalarRings.{scalars_subring}
 use Rattle.places_theory.proofs.Sides.{side_ring}
 use Rattle.lattice_theory.specs.Lattices.{HasIndex, space_ops, polynomial_ops}
 use Rattle.order_theory.proofs.IntegralLattice.{integral_lattice}
-use Rattle.reduced_theory.specs.Degree.{genus_sum}
-use Rattle.reduced_theory.specs.Reduced.{constants_ops}
-use Rattle.reduced_theory.proofs.Laws.{constants_genus, constants_basis as basis_over_constants}
+use Rattle.reduced_basis_theory.specs.Degree.{genus_sum}
+use Rattle.reduced_basis_theory.specs.Reduced.{constants_ops}
+use Rattle.reduced_basis_theory.proofs.Laws.{constants_genus, constants_basis as basis_over_constants}
 use Rattle.space_theory.specs.Spaces.{IsReducedBasis, multiples_of}
 use Rattle.space_theory.proofs.AtInfinity.{integral_at_infinity}
 use Rattle.space_theory.proofs.FunctionModule.{functions_module, division}

@@ -2,24 +2,24 @@
 use Rattle.std.proofs.Common.{◌≡◌, ℕ, List, ◌++◌, All, arith}
 use Rattle.std.proofs.lemmas.Int.{ints}
 use Rattle.std.proofs.Math.IntN.{ℤ, pos, ◌+ℤ◌, ◌-ℤ◌}
-use Rattle.ff_ring.specs.Subsets.{Span}
-use Rattle.ff_ring.proofs.Subsets.{span_append_left, span_append_right}
-use Rattle.local_theory.proofs.Lists.{both}
+use Rattle.ring_theory.specs.Subsets.{Span}
+use Rattle.ring_theory.proofs.Subsets.{span_append_left, span_append_right}
+use Rattle.prime_theory.proofs.Lists.{both}
 use Rattle.ff_fields.specs.Field.{CodeField}
 use Rattle.ff_fields.specs.Code.{code_ring, code_field}
 use Rattle.ff_poly.specs.Polynomials.{polynomials}
-use Rattle.ff_algebra.specs.declared.elem.Side.TheVariants.{Infinite}
-use Rattle.ff_algebra.specs.Places.{IsPlace, IsIntegralAt}
-use Rattle.ff_algebra.specs.Divisors.{Divisor, HasTotalDegree}
-use Rattle.ff_algebra.specs.Functions.{Equation, FunctionOf, ring_of, setting_of, degree_of_y, IsFiniteAtInfinity}
-use Rattle.ff_algebra.specs.Discriminant.{discriminant}
-use Rattle.ff_algebra.proofs.ScalarRings.{finite_at_infinity_subring}
+use Rattle.function_field.specs.declared.side.Side.TheVariants.{Infinite}
+use Rattle.function_field.specs.Places.{IsPlace, IsIntegralAt}
+use Rattle.function_field.specs.Divisors.{Divisor, HasTotalDegree}
+use Rattle.function_field.specs.Functions.{Equation, FunctionOf, ring_of, setting_of, degree_of_y, IsFiniteAtInfinity}
+use Rattle.function_field.specs.Discriminant.{discriminant}
+use Rattle.function_field.proofs.ScalarRings.{finite_at_infinity_subring}
 use Rattle.lattice_theory.specs.Lattices.{IsLattice}
 use Rattle.trace_theory.specs.Traces.{HasPolynomialCoordinates}
 use Rattle.lattice_theory.proofs.Operations.{polynomial_lattice}
-use Rattle.reduced_theory.specs.Degree.{degree_sum}
+use Rattle.reduced_basis_theory.specs.Degree.{degree_sum}
 use Rattle.ideal_theory.specs.Ideals.{IsDivisorOn, DivisorIdeal}
-use Rattle.reduced_theory.proofs.Compare.{same_degree_sum}
+use Rattle.reduced_basis_theory.proofs.Compare.{same_degree_sum}
 use Rattle.space_theory.specs.Spaces.{IsLatticeAtInfinity, IsReducedBasis, multiples_of}
 use Rattle.space_theory.proofs.AtInfinity.{integral_at_infinity}
 use Rattle.space_theory.proofs.FunctionModule.{functions_module}

@@ -1,28 +1,28 @@
 -- A record of primes over t = 1/x, of any order in the infinite presentation, lists the infinite places.
 use Rattle.std.proofs.Common.{◌≡◌, ◌↔◌, ℕ, List, get_or, pos, subst, arith}
 use Rattle.std.proofs.lemmas.List.Elements.{All-weaker}
-use Rattle.local_theory.specs.Ideals.{SameSet}
-use Rattle.local_theory.specs.IntegerValues.{ValueIs}
-use Rattle.local_theory.specs.Orders.{MaximalAt}
-use Rattle.local_theory.specs.Systems.{IsSystem, Distinct}
-use Rattle.local_theory.proofs.Compare.{prime_in_system}
-use Rattle.local_theory.proofs.Lists.{both, any_weaker}
+use Rattle.prime_theory.specs.Ideals.{SameSet}
+use Rattle.prime_theory.specs.IntegerValues.{ValueIs}
+use Rattle.prime_theory.specs.Orders.{MaximalAt}
+use Rattle.prime_theory.specs.Systems.{IsSystem, Distinct}
+use Rattle.prime_theory.proofs.Compare.{prime_in_system}
+use Rattle.prime_theory.proofs.Lists.{both, any_weaker}
 use Rattle.ff_fields.specs.Field.{CodeField}
 use Rattle.ff_poly.specs.Polynomials.{polynomials, x_poly}
-use Rattle.ff_algebra.specs.declared.elem.Side.TheVariants.{Finite}
-use Rattle.ff_algebra.specs.Discriminant.{discriminant}
-use Rattle.ff_algebra.specs.Places.{IsPlace, IsIn, IsSamePlace, IsIntegralAt, HasValuation}
-use Rattle.ff_algebra.specs.Divisors.{HasDegree, HasRamification}
-use Rattle.ff_algebra.specs.Functions.{of_poly}
-use Rattle.ff_algebra.specs.Values.{PresValue, Functions, functions, setting, equation_of}
+use Rattle.function_field.specs.declared.side.Side.TheVariants.{Finite}
+use Rattle.function_field.specs.Discriminant.{discriminant}
+use Rattle.function_field.specs.Places.{IsPlace, IsIn, IsSamePlace, IsIntegralAt, HasValuation}
+use Rattle.function_field.specs.Divisors.{HasDegree, HasRamification}
+use Rattle.function_field.specs.Functions.{of_poly}
+use Rattle.function_field.specs.Values.{PresValue, Functions, functions, setting, equation_of}
 use Rattle.order_theory.specs.Orders.{IsOrder}
 use Rattle.order_theory.proofs.PrimesOver.{order_generators}
 use Rattle.order_theory.proofs.ReductionAt.{p_in}
-use Rattle.side_theory.specs.InfiniteMaps.{IsInfiniteMap, IsMemberBelow}
-use Rattle.side_theory.proofs.InfiniteOrders.{prime_at_infinity}
-use Rattle.side_theory.proofs.InfiniteTransport.{x_irreducible}
-use Rattle.side_theory.proofs.PrimeValues.{degree_at_infinity, value_at_infinity}
-use Rattle.side_theory.proofs.PulledPrimes.{every_prime}
+use Rattle.infinite_theory.specs.InfiniteMaps.{IsInfiniteMap, IsMemberBelow}
+use Rattle.infinite_theory.proofs.InfiniteOrders.{prime_at_infinity}
+use Rattle.infinite_theory.proofs.InfiniteTransport.{x_irreducible}
+use Rattle.infinite_theory.proofs.PrimeValues.{degree_at_infinity, value_at_infinity}
+use Rattle.infinite_theory.proofs.PulledPrimes.{every_prime}
 use Rattle.ideal_theory.specs.Records.{RowSpan, RecordedPrime, IsRecordAt}
 use Rattle.ideal_theory.proofs.Records.{recorded_prime, recorded_family, record_system, record_distinct, record_maximal}
 use Rattle.divisor_theory.specs.InfiniteRecords.{place_of_prime, AreInfinitePlaces}

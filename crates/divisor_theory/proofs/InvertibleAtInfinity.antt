@@ -2,27 +2,27 @@
 -- the inverses of infinite places.
 use Rattle.std.proofs.Common.{◌≡◌, ℕ, suc, ◌+◌, List, [], ◌∷◌, map, All, refl, sym, ◌∙◌, ap, subst}
 use Rattle.std.proofs.lemmas.List.Elements.{All-map}
-use Rattle.ff_ring.specs.Ring.{pow}
-use Rattle.ff_ring.specs.Sums.{sum_over}
-use Rattle.ff_ring.specs.Subsets.{IsSubring, IsModule, Span, Factors, Product, products}
-use Rattle.ff_ring.proofs.Ring.{mul_zero, pow_add}
-use Rattle.ff_ring.proofs.Solver.{ring, reads}
-use Rattle.ff_ring.proofs.Subsets.{product_member, product_module, product_of_spans, span_head, span_tail, span_least, span_module}
-use Rattle.local_theory.specs.Ideals.{SameSet, Inverse, Invertible}
-use Rattle.local_theory.specs.Primes.{IsPrime}
-use Rattle.local_theory.proofs.Invertible.{inverse_is_module, inverse_of_product, invertible_product}
-use Rattle.local_theory.proofs.Lists.{everywhere}
-use Rattle.local_theory.proofs.Primes.{ideal_module}
-use Rattle.local_theory.proofs.Products.{product_into, product_monotone, product_swap, own_module, additive_of_module}
+use Rattle.ring_theory.specs.Ring.{pow}
+use Rattle.ring_theory.specs.Sums.{sum_over}
+use Rattle.ring_theory.specs.Subsets.{IsSubring, IsModule, Span, Factors, Product, products}
+use Rattle.ring_theory.proofs.Ring.{mul_zero, pow_add}
+use Rattle.ring_theory.proofs.Solver.{ring, reads}
+use Rattle.ring_theory.proofs.Subsets.{product_member, product_module, product_of_spans, span_head, span_tail, span_least, span_module}
+use Rattle.prime_theory.specs.Ideals.{SameSet, Inverse, Invertible}
+use Rattle.prime_theory.specs.Primes.{IsPrime}
+use Rattle.prime_theory.proofs.Invertible.{inverse_is_module, inverse_of_product, invertible_product}
+use Rattle.prime_theory.proofs.Lists.{everywhere}
+use Rattle.prime_theory.proofs.Primes.{ideal_module}
+use Rattle.prime_theory.proofs.Products.{product_into, product_monotone, product_swap, own_module, additive_of_module}
 use Rattle.ff_fields.specs.Field.{CodeField}
 use Rattle.ff_poly.specs.Polynomials.{polynomials}
-use Rattle.ff_algebra.specs.declared.elem.Side.TheVariants.{Infinite}
-use Rattle.ff_algebra.specs.Places.{Place, IsPlace, IsIn, IsIntegralAt}
-use Rattle.ff_algebra.specs.Functions.{Equation, FunctionOf, ring_of, setting_of, IsFiniteAtInfinity}
-use Rattle.ff_algebra.specs.Discriminant.{discriminant}
-use Rattle.ff_algebra.proofs.ScalarRings.{scalars_subring, finite_at_infinity_subring}
+use Rattle.function_field.specs.declared.side.Side.TheVariants.{Infinite}
+use Rattle.function_field.specs.Places.{Place, IsPlace, IsIn, IsIntegralAt}
+use Rattle.function_field.specs.Functions.{Equation, FunctionOf, ring_of, setting_of, IsFiniteAtInfinity}
+use Rattle.function_field.specs.Discriminant.{discriminant}
+use Rattle.function_field.proofs.ScalarRings.{scalars_subring, finite_at_infinity_subring}
 use Rattle.places_theory.proofs.Sides.{side_ring, scalar_integral}
-use Rattle.side_theory.proofs.InfiniteLaws.{over_t}
+use Rattle.infinite_theory.proofs.InfiniteLaws.{over_t}
 use Rattle.ideal_theory.proofs.InfiniteSide.{infinite_prime, infinite_invertible}
 use Rattle.space_theory.specs.Spaces.{IsLatticeAtInfinity}
 use Rattle.space_theory.proofs.AtInfinity.{integral_at_infinity}

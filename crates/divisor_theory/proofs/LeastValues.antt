@@ -7,30 +7,30 @@ use Rattle.std.proofs.lemmas.Int.{ints, by_lt_z}
 use Rattle.std.proofs.lemmas.List.Elements.{All-nil, All-cons, All-head, All-tail, All-weaker}
 use Rattle.std.proofs.Math.IntN.{ℤ, pos, negsuc, ◌+ℤ◌}
 use lib.Signed.{◌≤ℤ◌}
-use Rattle.ff_ring.specs.Ring.{IsField}
-use Rattle.ff_ring.specs.Sums.{sum_over}
-use Rattle.ff_ring.specs.Subsets.{IsModule, Factors}
-use Rattle.ff_ring.proofs.Ring.{zero_mul, mul_zero}
-use Rattle.ff_ring.proofs.Solver.{ring, reads}
-use Rattle.local_theory.specs.Ideals.{SameSet, Inverse, Invertible}
-use Rattle.local_theory.proofs.Products.{product_universal, additive_of_module}
-use Rattle.local_theory.proofs.Residues.{Generator, generator}
+use Rattle.ring_theory.specs.Ring.{IsField}
+use Rattle.ring_theory.specs.Sums.{sum_over}
+use Rattle.ring_theory.specs.Subsets.{IsModule, Factors}
+use Rattle.ring_theory.proofs.Ring.{zero_mul, mul_zero}
+use Rattle.ring_theory.proofs.Solver.{ring, reads}
+use Rattle.prime_theory.specs.Ideals.{SameSet, Inverse, Invertible}
+use Rattle.prime_theory.proofs.Products.{product_universal, additive_of_module}
+use Rattle.prime_theory.proofs.Residues.{Generator, generator}
 use Rattle.ff_fields.specs.Field.{CodeField}
 use Rattle.ff_poly.specs.Polynomials.{polynomials}
-use Rattle.ff_algebra.specs.declared.elem.Side.{Side}
-use Rattle.ff_algebra.specs.declared.elem.Side.TheVariants.{Finite, Infinite}
-use Rattle.ff_algebra.specs.Discriminant.{discriminant}
-use Rattle.ff_algebra.specs.Places.{Place, IsPlace, IsSamePlace, IsIn, IsIntegralAt, InPower, HasValuationAtLeast, HasValuation}
-use Rattle.ff_algebra.specs.Divisors.{Divisor, IsDivisor, MeetsOn}
-use Rattle.ff_algebra.specs.Functions.{Equation, FunctionOf, ring_of, setting_of, functions_discrete}
-use Rattle.ff_algebra.proofs.ScalarRings.{scalars_subring}
+use Rattle.function_field.specs.declared.side.Side.{Side}
+use Rattle.function_field.specs.declared.side.Side.TheVariants.{Finite, Infinite}
+use Rattle.function_field.specs.Discriminant.{discriminant}
+use Rattle.function_field.specs.Places.{Place, IsPlace, IsSamePlace, IsIn, IsIntegralAt, InPower, HasValuationAtLeast, HasValuation}
+use Rattle.function_field.specs.Divisors.{Divisor, IsDivisor, MeetsOn}
+use Rattle.function_field.specs.Functions.{Equation, FunctionOf, ring_of, setting_of, functions_discrete}
+use Rattle.function_field.proofs.ScalarRings.{scalars_subring}
 use Rattle.places_theory.proofs.Multiplicities.{multiplicity_unique}
 use Rattle.places_theory.proofs.SamePlaces.{same_place_sym}
 use Rattle.places_theory.proofs.Sides.{side_ring}
 use Rattle.places_theory.proofs.Valuations.{at_least_of_integral, at_least_product, at_least_weaker, valuation_of_outside, valuation_unique, outside_product}
 use Rattle.order_theory.proofs.SideOfPlaces.{regular_functions}
-use Rattle.side_theory.proofs.InfiniteLaws.{regular_integral}
-use Rattle.side_theory.proofs.ValueRules.{product_rule}
+use Rattle.infinite_theory.proofs.InfiniteLaws.{regular_integral}
+use Rattle.infinite_theory.proofs.ValueRules.{product_rule}
 use Rattle.ideal_theory.proofs.PowerValues.{values_additive}
 use Rattle.ideal_theory.proofs.PrincipalIdeals.{value_along}
 use Rattle.ideal_theory.proofs.SideIdeals.{side_divisor}

@@ -4,23 +4,23 @@ use Rattle.std.proofs.Common.{◌≡◌, ℕ, List, refl, sym, ◌∙◌, ap, ar
 use Rattle.std.specs.Prelude.{neg_ℤ}
 use Rattle.std.proofs.lemmas.Int.{ints}
 use Rattle.std.proofs.Math.IntN.{ℤ, pos, ◌+ℤ◌, ◌-ℤ◌}
-use Rattle.ff_ring.specs.Subsets.{Span}
-use Rattle.local_theory.specs.Ideals.{SameSet}
+use Rattle.ring_theory.specs.Subsets.{Span}
+use Rattle.prime_theory.specs.Ideals.{SameSet}
 use Rattle.ff_fields.specs.Field.{CodeField}
 use Rattle.ff_fields.specs.Code.{code_ring, code_field}
 use Rattle.ff_poly.specs.Polynomials.{polynomials}
-use Rattle.ff_algebra.specs.declared.elem.Side.{Side}
-use Rattle.ff_algebra.specs.declared.elem.Side.TheVariants.{Finite, Infinite}
-use Rattle.ff_algebra.specs.Discriminant.{discriminant}
-use Rattle.ff_algebra.specs.Places.{IsIntegralAt}
-use Rattle.ff_algebra.specs.Divisors.{Divisor, IsDivisor, HasTotalDegree, MeetsOn}
-use Rattle.ff_algebra.specs.Functions.{Equation, FunctionOf, ring_of, setting_of, degree_of_y, IsPolynomial}
+use Rattle.function_field.specs.declared.side.Side.{Side}
+use Rattle.function_field.specs.declared.side.Side.TheVariants.{Finite, Infinite}
+use Rattle.function_field.specs.Discriminant.{discriminant}
+use Rattle.function_field.specs.Places.{IsIntegralAt}
+use Rattle.function_field.specs.Divisors.{Divisor, IsDivisor, HasTotalDegree, MeetsOn}
+use Rattle.function_field.specs.Functions.{Equation, FunctionOf, ring_of, setting_of, degree_of_y, IsPolynomial}
 use Rattle.lattice_theory.specs.Lattices.{IsLattice, HasIndex}
 use Rattle.order_theory.proofs.IntegralLattice.{integral_lattice}
 use Rattle.order_theory.proofs.IndexProducts.{lattice_same}
-use Rattle.reduced_theory.specs.Degree.{degree_sum}
-use Rattle.reduced_theory.proofs.Laws.{lattice_dimension}
-use Rattle.reduced_theory.proofs.Transport.{reduced_same}
+use Rattle.reduced_basis_theory.specs.Degree.{degree_sum}
+use Rattle.reduced_basis_theory.proofs.Laws.{lattice_dimension}
+use Rattle.reduced_basis_theory.proofs.Transport.{reduced_same}
 use Rattle.ideal_theory.specs.Ideals.{IsDivisorOn, DivisorIdeal, opposite_divisor}
 use Rattle.ideal_theory.specs.Indices.{HasRelativeIndex}
 use Rattle.ideal_theory.proofs.DivisorIdeals.{opposite_on}

@@ -6,12 +6,12 @@ use Rattle.std.proofs.lemmas.Int.{ints}
 use Rattle.std.proofs.lemmas.List.Elements.{All-nil, All-cons, All-head, All-tail}
 use Rattle.std.proofs.lemmas.List.Kept.{AllPairs-cons}
 use Rattle.std.proofs.Math.IntN.{ℤ, pos, negsuc, ◌+ℤ◌, ◌*ℤ◌}
-use Rattle.local_theory.proofs.Lists.{pairs_head, pairs_tail}
-use Rattle.ff_algebra.specs.declared.elem.Side.{Side}
-use Rattle.ff_algebra.specs.declared.elem.Side.TheVariants.{Finite, Infinite}
-use Rattle.ff_algebra.specs.Setting.{Setting}
-use Rattle.ff_algebra.specs.Places.{Place, IsPlace, IsSamePlace}
-use Rattle.ff_algebra.specs.Divisors.{Entry, Divisor, IsDivisor, HasMultiplicity, HasDegree, HasTotalDegree, MeetsOn, none, entry}
+use Rattle.prime_theory.proofs.Lists.{pairs_head, pairs_tail}
+use Rattle.function_field.specs.declared.side.Side.{Side}
+use Rattle.function_field.specs.declared.side.Side.TheVariants.{Finite, Infinite}
+use Rattle.function_field.specs.Setting.{Setting}
+use Rattle.function_field.specs.Places.{Place, IsPlace, IsSamePlace}
+use Rattle.function_field.specs.Divisors.{Entry, Divisor, IsDivisor, HasMultiplicity, HasDegree, HasTotalDegree, MeetsOn, none, entry}
 use Rattle.ideal_theory.specs.Ideals.{IsDivisorOn, opposite_divisor}
 use Rattle.divisor_theory.specs.Parts.{kept, part}
 

@@ -1,19 +1,19 @@
 -- Each degree of an infinite place is its index in the functions that are integral at infinity.
 use Rattle.std.proofs.Common.{◌≡◌, ℕ, List, [], ◌∷◌, refl, sym, ◌∙◌, ap}
-use Rattle.ff_ring.specs.Lists.{coeff_of}
-use Rattle.ff_ring.proofs.Solver.{ring, reads}
-use Rattle.ff_ring.proofs.Evaluate.{constant}
-use Rattle.ff_ring.proofs.Lists.{coeff_trim}
-use Rattle.ff_ring.proofs.Polynomials.{pol_ops}
+use Rattle.ring_theory.specs.Lists.{coeff_of}
+use Rattle.ring_theory.proofs.Solver.{ring, reads}
+use Rattle.ring_theory.proofs.Evaluate.{constant}
+use Rattle.ring_theory.proofs.Lists.{coeff_trim}
+use Rattle.ring_theory.proofs.Polynomials.{pol_ops}
 use Rattle.ff_fields.specs.Field.{CodeField}
 use Rattle.ff_fields.specs.Code.{Code, code_ring}
 use Rattle.ff_poly.specs.Polynomials.{polynomials}
-use Rattle.ff_algebra.specs.declared.elem.Side.TheVariants.{Infinite}
-use Rattle.ff_algebra.specs.Places.{Place, IsIn, IsIntegralAt}
-use Rattle.ff_algebra.specs.Divisors.{HasDegree}
-use Rattle.ff_algebra.specs.Functions.{Equation, FunctionOf, ring_of, IsCode, setting_of}
-use Rattle.ff_algebra.proofs.OnSide.{of_poly_zero}
-use Rattle.ff_algebra.proofs.ScalarRings.{scalars_subring}
+use Rattle.function_field.specs.declared.side.Side.TheVariants.{Infinite}
+use Rattle.function_field.specs.Places.{Place, IsIn, IsIntegralAt}
+use Rattle.function_field.specs.Divisors.{HasDegree}
+use Rattle.function_field.specs.Functions.{Equation, FunctionOf, ring_of, IsCode, setting_of}
+use Rattle.function_field.proofs.OnSide.{of_poly_zero}
+use Rattle.function_field.proofs.ScalarRings.{scalars_subring}
 use Rattle.lattice_theory.specs.Lattices.{HasIndex}
 use Rattle.lattice_theory.proofs.Indices.{code_of}
 use Rattle.order_theory.proofs.InfinitePlaces.{infinite}

@@ -2,12 +2,12 @@
 use Rattle.std.proofs.Common.{◌≡◌, ℕ, suc, ◌+◌, sym, ◌∙◌, ap, ap₂, arith}
 use Rattle.std.proofs.lemmas.Int.{ints}
 use Rattle.std.proofs.Math.IntN.{ℤ, pos, negsuc, ◌+ℤ◌, ◌-ℤ◌}
-use Rattle.ff_ring.specs.Ring.{pow}
-use Rattle.ff_ring.proofs.Ring.{one_mul, mul_mul, pow_add}
-use Rattle.local_theory.specs.IntegerValues.{up, down}
+use Rattle.ring_theory.specs.Ring.{pow}
+use Rattle.ring_theory.proofs.Ring.{one_mul, mul_mul, pow_add}
+use Rattle.prime_theory.specs.IntegerValues.{up, down}
 use Rattle.ff_fields.specs.Field.{CodeField}
-use Rattle.ff_algebra.specs.Divisors.{x_to}
-use Rattle.ff_algebra.specs.Functions.{Equation, FunctionOf, ring_of, setting_of}
+use Rattle.function_field.specs.Divisors.{x_to}
+use Rattle.function_field.specs.Functions.{Equation, FunctionOf, ring_of, setting_of}
 use Rattle.space_theory.proofs.InfiniteBases.{x_to_t}
 
 -- an integer is its positive part less its negative part

@@ -4,25 +4,25 @@ use Rattle.std.specs.List.{Any}
 use Rattle.std.proofs.lemmas.Int.{ints}
 use Rattle.std.proofs.Math.IntN.{ℤ, pos, ◌+ℤ◌}
 use lib.Signed.{◌<ℤ◌}
-use Rattle.ff_ring.specs.Ring.{IsField}
-use Rattle.local_theory.specs.Ideals.{SameSet, Multiple}
+use Rattle.ring_theory.specs.Ring.{IsField}
+use Rattle.prime_theory.specs.Ideals.{SameSet, Multiple}
 use Rattle.ff_fields.specs.Field.{CodeField}
 use Rattle.ff_fields.specs.Code.{code_ring, code_field}
 use Rattle.ff_poly.specs.Polynomials.{polynomials}
-use Rattle.ff_algebra.specs.declared.elem.Side.{Side}
-use Rattle.ff_algebra.specs.declared.elem.Side.TheVariants.{Finite, Infinite}
-use Rattle.ff_algebra.specs.Discriminant.{discriminant}
-use Rattle.ff_algebra.specs.Places.{Place, IsPlace, IsSamePlace, IsIntegralAt, HasValuation}
-use Rattle.ff_algebra.specs.Divisors.{Divisor, IsDivisor, HasMultiplicity, HasTotalDegree, MeetsOn, InSpace}
-use Rattle.ff_algebra.specs.Functions.{Equation, FunctionOf, ring_of, setting_of, degree_of_y, functions_discrete}
-use Rattle.ff_algebra.proofs.ScalarRings.{scalars_subring}
+use Rattle.function_field.specs.declared.side.Side.{Side}
+use Rattle.function_field.specs.declared.side.Side.TheVariants.{Finite, Infinite}
+use Rattle.function_field.specs.Discriminant.{discriminant}
+use Rattle.function_field.specs.Places.{Place, IsPlace, IsSamePlace, IsIntegralAt, HasValuation}
+use Rattle.function_field.specs.Divisors.{Divisor, IsDivisor, HasMultiplicity, HasTotalDegree, MeetsOn, InSpace}
+use Rattle.function_field.specs.Functions.{Equation, FunctionOf, ring_of, setting_of, degree_of_y, functions_discrete}
+use Rattle.function_field.proofs.ScalarRings.{scalars_subring}
 use Rattle.places_theory.proofs.Multiplicities.{multiplicity_unique}
 use Rattle.places_theory.proofs.SamePlaces.{same_place_sym}
 use Rattle.places_theory.proofs.Valuations.{valuation_unique}
 use Rattle.order_theory.proofs.IntegralLattice.{integral_lattice}
 use Rattle.order_theory.proofs.SideOfPlaces.{value_at_place}
-use Rattle.side_theory.proofs.InfiniteLaws.{value_exists}
-use Rattle.reduced_theory.proofs.Positivity.{positivity}
+use Rattle.infinite_theory.proofs.InfiniteLaws.{value_exists}
+use Rattle.reduced_basis_theory.proofs.Positivity.{positivity}
 use Rattle.ideal_theory.specs.Ideals.{IsDivisorOn, DivisorIdeal, IsDivisorOf}
 use Rattle.ideal_theory.proofs.PrincipalIdeals.{value_along}
 use Rattle.ideal_theory.proofs.SideIdeals.{side_divisor, side_principal, divisor_index}

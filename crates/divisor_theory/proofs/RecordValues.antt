@@ -1,17 +1,17 @@
 -- In an order with a record of primes over p, the values of p at the primes of the record are its exponents.
 use Rattle.std.proofs.Common.{◌≡◌, ◌⊎◌, inl, inr, ℕ, zero, suc, ◌+◌, ◌*◌, ◌≤◌, List, [], ◌∷◌, pos, refl, sym, ◌∙◌, subst, arith, All, suc-mul, mul-le-mul_right}
 use Rattle.std.proofs.lemmas.List.Elements.{All-nil, All-cons, All-head, All-tail, All-weaker}
-use Rattle.local_theory.specs.Ideals.{SameSet}
-use Rattle.local_theory.specs.IntegerValues.{ValueIs}
-use Rattle.local_theory.specs.Primes.{AtLeast}
-use Rattle.local_theory.specs.Systems.{IsFamily, IsSystem, Distinct}
-use Rattle.local_theory.proofs.Factorisation.{values_of_entries}
-use Rattle.local_theory.proofs.IntegerFactors.{entries_integers, ramification_of}
-use Rattle.local_theory.proofs.Valuation.{ge_bounded}
+use Rattle.prime_theory.specs.Ideals.{SameSet}
+use Rattle.prime_theory.specs.IntegerValues.{ValueIs}
+use Rattle.prime_theory.specs.Primes.{AtLeast}
+use Rattle.prime_theory.specs.Systems.{IsFamily, IsSystem, Distinct}
+use Rattle.prime_theory.proofs.Factorisation.{values_of_entries}
+use Rattle.prime_theory.proofs.IntegerFactors.{entries_integers, ramification_of}
+use Rattle.prime_theory.proofs.Valuation.{ge_bounded}
 use Rattle.ff_fields.specs.Field.{CodeField}
 use Rattle.ff_poly.specs.Words.{IsIrreducible}
 use Rattle.ff_poly.specs.Polynomials.{Polynomial, codes_of}
-use Rattle.ff_algebra.specs.Functions.{Equation, FunctionOf, ring_of, of_poly}
+use Rattle.function_field.specs.Functions.{Equation, FunctionOf, ring_of, of_poly}
 use Rattle.trace_theory.proofs.Irreducible.{irreducible_some}
 use Rattle.lattice_theory.specs.Lattices.{HasIndex}
 use Rattle.lattice_theory.proofs.Bases.{index_same}

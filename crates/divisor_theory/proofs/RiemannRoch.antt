@@ -4,18 +4,18 @@ use Rattle.std.specs.Prelude.{neg_ℤ}
 use Rattle.std.proofs.lemmas.Int.{ints}
 use Rattle.std.proofs.Math.IntN.{ℤ, pos, ◌+ℤ◌, ◌-ℤ◌}
 use lib.Signed.{◌≤ℤ◌}
-use Rattle.ff_ring.specs.Ring.{IsField}
-use Rattle.local_theory.specs.Ideals.{SameSet}
+use Rattle.ring_theory.specs.Ring.{IsField}
+use Rattle.prime_theory.specs.Ideals.{SameSet}
 use Rattle.linear_theory.specs.Basis.{IsNull}
 use Rattle.ff_fields.specs.Field.{CodeField}
 use Rattle.ff_poly.specs.Polynomials.{polynomials}
-use Rattle.ff_algebra.specs.declared.elem.Side.{Side}
-use Rattle.ff_algebra.specs.declared.elem.Side.TheVariants.{Finite, Infinite}
-use Rattle.ff_algebra.specs.Discriminant.{discriminant}
-use Rattle.ff_algebra.specs.Places.{IsIntegralAt}
-use Rattle.ff_algebra.specs.Divisors.{Divisor, IsDivisor, HasTotalDegree, MeetsOn, InSpace, IsConstant, HasGenus, IsCanonical}
-use Rattle.ff_algebra.specs.Functions.{Equation, FunctionOf, ring_of, setting_of, degree_of_y}
-use Rattle.ff_algebra.proofs.ScalarRings.{scalars_subring}
+use Rattle.function_field.specs.declared.side.Side.{Side}
+use Rattle.function_field.specs.declared.side.Side.TheVariants.{Finite, Infinite}
+use Rattle.function_field.specs.Discriminant.{discriminant}
+use Rattle.function_field.specs.Places.{IsIntegralAt}
+use Rattle.function_field.specs.Divisors.{Divisor, IsDivisor, HasTotalDegree, MeetsOn, InSpace, IsConstant, HasGenus, IsCanonical}
+use Rattle.function_field.specs.Functions.{Equation, FunctionOf, ring_of, setting_of, degree_of_y}
+use Rattle.function_field.proofs.ScalarRings.{scalars_subring}
 use Rattle.places_theory.proofs.Sides.{side_ring}
 use Rattle.places_theory.proofs.Valuations.{at_least_of_integral, at_least_product, at_least_weaker}
 use Rattle.lattice_theory.specs.Lattices.{HasIndex, space_ops}
@@ -25,8 +25,8 @@ use Rattle.linear_theory.specs.Fields.{domain_of}
 use Rattle.linear_theory.proofs.Bases.{null_subspace}
 use Rattle.linear_theory.proofs.Exchange.{bases_same_length}
 use Rattle.order_theory.proofs.IntegralLattice.{integral_lattice}
-use Rattle.reduced_theory.specs.Degree.{degree_sum, dimension_sum, genus_sum}
-use Rattle.reduced_theory.proofs.Laws.{euler}
+use Rattle.reduced_basis_theory.specs.Degree.{degree_sum, dimension_sum, genus_sum}
+use Rattle.reduced_basis_theory.proofs.Laws.{euler}
 use Rattle.space_theory.specs.Spaces.{IsReducedBasis}
 use Rattle.space_theory.specs.TraceDuals.{TraceDual, CanonicalDual}
 use Rattle.space_theory.proofs.AtInfinity.{integral_at_infinity}

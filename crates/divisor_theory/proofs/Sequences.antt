@@ -1,11 +1,11 @@
 -- Combinations with listed scalars, as combinations with a sequence of elements of a ring that maps onto the scalars, and back.
 use Rattle.std.proofs.Common.{◌≡◌, ℕ, zero, suc, ◌<◌, List, [], ◌∷◌, length, All, refl, sym, ◌∙◌, ap, ap₂, subst, arith}
 use Rattle.std.proofs.lemmas.List.Elements.{All-nil, All-cons, All-head, All-tail}
-use Rattle.ff_ring.specs.Ring.{CommRing}
-use Rattle.ff_ring.specs.Subsets.{Span}
+use Rattle.ring_theory.specs.Ring.{CommRing}
+use Rattle.ring_theory.specs.Subsets.{Span}
 use Rattle.linear_theory.specs.Module.{combine, restricted_ops}
 use Rattle.linear_theory.specs.Basis.{IsIndependent}
-use Rattle.ff_algebra.specs.Spans.{combination}
+use Rattle.function_field.specs.Spans.{combination}
 
 module _ {C A : Type 0} (K : CommRing C) (R : CommRing A) (e : C → A) (S : A → Type 0) where
   infixl 65 ◌⊕◌

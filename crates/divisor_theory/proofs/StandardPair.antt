@@ -4,24 +4,24 @@ use Rattle.std.proofs.lemmas.Int.{ints}
 use Rattle.std.proofs.lemmas.List.{length-map}
 use Rattle.std.proofs.lemmas.List.Elements.{All-nil, All-cons}
 use Rattle.std.proofs.Math.IntN.{ℤ, pos, ◌+ℤ◌, ◌-ℤ◌}
-use Rattle.ff_ring.specs.Ring.{pow}
-use Rattle.ff_ring.specs.Rows.{entry}
-use Rattle.ff_ring.specs.Subsets.{Span}
-use Rattle.ff_ring.specs.Sums.{sum_below}
-use Rattle.ff_ring.proofs.Local.{power_in}
-use Rattle.ff_ring.proofs.Ring.{pow_mul, mul_pow, mul_left_comm}
-use Rattle.ff_ring.proofs.Subsets.{span_least}
-use Rattle.ff_ring.proofs.Sums.{below_cong, below_first}
-use Rattle.local_theory.specs.Ideals.{SameSet}
+use Rattle.ring_theory.specs.Ring.{pow}
+use Rattle.ring_theory.specs.Rows.{entry}
+use Rattle.ring_theory.specs.Subsets.{Span}
+use Rattle.ring_theory.specs.Sums.{sum_below}
+use Rattle.ring_theory.proofs.Local.{power_in}
+use Rattle.ring_theory.proofs.Ring.{pow_mul, mul_pow, mul_left_comm}
+use Rattle.ring_theory.proofs.Subsets.{span_least}
+use Rattle.ring_theory.proofs.Sums.{below_cong, below_first}
+use Rattle.prime_theory.specs.Ideals.{SameSet}
 use Rattle.linear_theory.specs.Module.{combine}
 use Rattle.linear_theory.proofs.Combination.{combine_cong}
 use Rattle.ff_fields.specs.Field.{CodeField}
 use Rattle.ff_fields.specs.Code.{code_ring, code_domain}
 use Rattle.ff_poly.specs.Polynomials.{Polynomial, polynomials, polynomials_domain, x_poly}
-use Rattle.ff_algebra.specs.Functions.{Equation, FunctionOf, ring_of, of_poly, y_of, degree_of_y, IsPolynomial}
-use Rattle.ff_algebra.specs.Values.{PresValue, Functions, functions, setting, equation_of}
-use Rattle.ff_algebra.proofs.OnSide.{of_poly_times}
-use Rattle.ff_algebra.proofs.ScalarRings.{polynomials_subring}
+use Rattle.function_field.specs.Functions.{Equation, FunctionOf, ring_of, of_poly, y_of, degree_of_y, IsPolynomial}
+use Rattle.function_field.specs.Values.{PresValue, Functions, functions, setting, equation_of}
+use Rattle.function_field.proofs.OnSide.{of_poly_times}
+use Rattle.function_field.proofs.ScalarRings.{polynomials_subring}
 use Rattle.places_theory.proofs.AtInfinity.{x_power_not_zero}
 use Rattle.places_theory.proofs.YRoot.{poly_hom, at_y_plain}
 use Rattle.trace_theory.specs.Traces.{HasPolynomialCoordinates}
@@ -30,11 +30,11 @@ use Rattle.lattice_theory.specs.Lattices.{polynomial_ops}
 use Rattle.lattice_theory.proofs.Lattices.{lattice_module}
 use Rattle.lattice_theory.proofs.Operations.{polynomial_lattice}
 use Rattle.order_theory.proofs.LocalOrders.{power_value}
-use Rattle.reduced_theory.specs.Degree.{DegreeAtMost, degree}
-use Rattle.reduced_theory.specs.Reduced.{InLattice}
-use Rattle.reduced_theory.proofs.Degree.{degree_own, degree_product, degree_cancel}
-use Rattle.side_theory.specs.InfiniteMaps.{IsInfiniteMap}
-use Rattle.side_theory.proofs.TameLattices.{coordinates_ring}
+use Rattle.reduced_basis_theory.specs.Degree.{DegreeAtMost, degree}
+use Rattle.reduced_basis_theory.specs.Reduced.{InLattice}
+use Rattle.reduced_basis_theory.proofs.Degree.{degree_own, degree_product, degree_cancel}
+use Rattle.infinite_theory.specs.InfiniteMaps.{IsInfiniteMap}
+use Rattle.infinite_theory.proofs.SupportedLattices.{coordinates_ring}
 use Rattle.space_theory.specs.Spaces.{IsLatticeAtInfinity, IsReducedBasis}
 use Rattle.space_theory.proofs.AtInfinity.{combinations_lattice}
 use Rattle.space_theory.proofs.FunctionModule.{functions_module}

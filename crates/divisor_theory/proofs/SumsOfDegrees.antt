@@ -3,27 +3,27 @@
 use Rattle.std.proofs.Common.{◌≡◌, ℕ, zero, suc, ◌+◌, ◌-◌, ◌*◌, List, refl, sym, ◌∙◌, ap, ap₂, arith, mul-suc, suc-mul, mul-add, mul-zero, zero-mul, one-mul}
 use Rattle.std.proofs.lemmas.Int.{ints}
 use Rattle.std.proofs.Math.IntN.{ℤ, pos, ◌+ℤ◌}
-use Rattle.ff_ring.specs.Subsets.{Span}
-use Rattle.ff_ring.proofs.Ring.{zero_add}
-use Rattle.local_theory.specs.Ideals.{SameSet}
+use Rattle.ring_theory.specs.Subsets.{Span}
+use Rattle.ring_theory.proofs.Ring.{zero_add}
+use Rattle.prime_theory.specs.Ideals.{SameSet}
 use Rattle.linear_theory.specs.Basis.{IsSum}
 use Rattle.ff_fields.specs.Field.{CodeField}
 use Rattle.ff_poly.specs.Polynomials.{x_poly}
-use Rattle.ff_algebra.specs.Functions.{Equation, IsPolynomial, degree_of_y}
-use Rattle.ff_algebra.specs.Values.{PresValue, Functions, functions, equation_of}
+use Rattle.function_field.specs.Functions.{Equation, IsPolynomial, degree_of_y}
+use Rattle.function_field.specs.Values.{PresValue, Functions, functions, equation_of}
 use Rattle.trace_theory.specs.Traces.{HasPolynomialCoordinates}
 use Rattle.lattice_theory.specs.Lattices.{IsLattice, space_ops}
 use Rattle.lattice_theory.proofs.Indices.{index_of}
 use Rattle.lattice_theory.proofs.Lattices.{lattice_module}
 use Rattle.lattice_theory.proofs.Operations.{polynomial_lattice, sum_lattice}
-use Rattle.reduced_theory.specs.Degree.{degree_sum}
-use Rattle.reduced_theory.proofs.Rescale.{degree_sum_plus}
-use Rattle.side_theory.specs.Tame.{IsTame}
-use Rattle.side_theory.specs.InfiniteMaps.{IsInfiniteMap}
-use Rattle.side_theory.proofs.InfiniteOrders.{combination_local}
-use Rattle.side_theory.proofs.InfiniteTransport.{x_irreducible}
-use Rattle.side_theory.proofs.PushedPlaces.{each}
-use Rattle.side_theory.proofs.TameLattices.{coordinates_tame, sum_tame}
+use Rattle.reduced_basis_theory.specs.Degree.{degree_sum}
+use Rattle.reduced_basis_theory.proofs.Rescale.{degree_sum_plus}
+use Rattle.infinite_theory.specs.Supported.{IsSupportedAt}
+use Rattle.infinite_theory.specs.InfiniteMaps.{IsInfiniteMap}
+use Rattle.infinite_theory.proofs.InfiniteOrders.{combination_local}
+use Rattle.infinite_theory.proofs.InfiniteTransport.{x_irreducible}
+use Rattle.infinite_theory.proofs.PushedPlaces.{each}
+use Rattle.infinite_theory.proofs.SupportedLattices.{coordinates_supported, sum_supported}
 use Rattle.ideal_theory.specs.Indices.{HasRelativeIndex}
 use Rattle.ideal_theory.proofs.RelativeIndex.{relative_at}
 use Rattle.space_theory.specs.Spaces.{IsReducedBasis}
@@ -56,7 +56,7 @@ module _ (k : CodeField) (p q : PresValue) (c : ℕ) (f : Functions k q → Func
       (combination_local k p q c f g B 𝓑 hs t z).1 (record { factor = l.factor; factor_in = l.factor_in; multiple_in = within _ l.multiple_in }))
 
   module _ (I : Functions k p → Type 0) (𝓘 : IsLattice (equation_of k p) I) (J : Functions k q → Type 0) (𝓙 : IsLattice (equation_of k q) J)
-      (tame : IsTame (equation_of k q) (x_poly k) J) (gs : List (Functions k q)) (spanned : SameSet J (Span (functions k q).ops (IsPolynomial (equation_of k q)) gs))
+      (tame : IsSupportedAt (equation_of k q) (x_poly k) J) (gs : List (Functions k q)) (spanned : SameSet J (Span (functions k q).ops (IsPolynomial (equation_of k q)) gs))
       (a b : ℤ) (first : HasRelativeIndex (equation_of k p) I (HasPolynomialCoordinates (equation_of k p)) a)
       (second : HasRelativeIndex (equation_of k q) J (HasPolynomialCoordinates (equation_of k q)) b) where
     abbrev P : Functions k p → Type 0
@@ -84,7 +84,7 @@ module _ (k : CodeField) (p q : PresValue) (c : ℕ) (f : Functions k q → Func
         → degree_sum (degree_of_y (equation_of k p)) d ≡ (a +ℤ b) +ℤ degree_sum (degree_of_y (equation_of k p)) (λ i. pos (c * i))
     sum_of_degrees bs d reduced =
         let 𝓤 = sum_lattice Q J K 𝓙 𝓚 in
-        let u = sum_tame Q (x_poly k) (x_irreducible k) J K 𝓙 𝓚 tame (coordinates_tame Q (x_poly k) (x_irreducible k)) in
+        let u = sum_supported Q (x_poly k) (x_irreducible k) J K 𝓙 𝓚 tame (coordinates_supported Q (x_poly k) (x_irreducible k)) in
         let ys = powers Q 0 (degree_of_y Q) in
         let C = Combinations k p q c f g in
         let 𝓝 = combinations_lattice k p q c f g J 𝓙 gs spanned in
@@ -100,7 +100,7 @@ module _ (k : CodeField) (p q : PresValue) (c : ℕ) (f : Functions k q → Func
         (combination_index k p q c f g J U 𝓙 𝓤 tame u in_left gs 𝓤.generators spanned 𝓤.spanned i.0 i.1) in
         let w = infinite_index_degrees R (C ys) (C 𝓤.generators) 𝓨 𝓛 (more_combinations K U 𝓚 𝓤 in_right ys 𝓤.generators (powers_spanned Q) 𝓤.spanned) P
         (powers R 0 n) s.0 (λ i. pos (c * i)) s.1 (standard_pair k p q c f g same) s.2 j.0
-        (combination_index k p q c f g K U 𝓚 𝓤 (coordinates_tame Q (x_poly k) (x_irreducible k)) u in_right ys 𝓤.generators (powers_spanned Q) 𝓤.spanned j.0 j.1) in
+        (combination_index k p q c f g K U 𝓚 𝓤 (coordinates_supported Q (x_poly k) (x_irreducible k)) u in_right ys 𝓤.generators (powers_spanned Q) 𝓤.spanned j.0 j.1) in
         omega (arith, ints)
 
 -- 0 + c + 2c + .. + (n-1)c, taken twice

@@ -1,25 +1,25 @@
 -- The duals of O_fin and of O_inf under the trace are modules over these rings, and invertible.
 use Rattle.std.proofs.Common.{◌≡◌, ℕ, ℤ, inl, List, [], ◌∷◌, map, All, refl, sym, ◌∙◌, ap, subst}
 use Rattle.std.proofs.lemmas.List.Elements.{All-nil, All-cons, All-head, All-tail, All-map, All-weaker}
-use Rattle.ff_ring.specs.Local.{PrimeTo}
-use Rattle.ff_ring.specs.Ring.{pow}
-use Rattle.ff_ring.specs.Subsets.{IsSubring, IsModule, Product}
-use Rattle.ff_ring.proofs.Ring.{one_mul, zero_mul, mul_zero, add_mul, mul_mul, mul_left_comm}
-use Rattle.ff_ring.proofs.RowMaps.{hom_zero}
-use Rattle.ff_ring.proofs.Solver.{ring, reads}
-use Rattle.ff_ring.proofs.Subsets.{product_member, product_module, span_least}
-use Rattle.local_theory.specs.Ideals.{Inverse, Invertible, IsAdditive}
-use Rattle.local_theory.proofs.Localisation.{Common, common}
-use Rattle.local_theory.proofs.Products.{product_into, additive_of_module, own_module}
+use Rattle.ring_theory.specs.Local.{PrimeTo}
+use Rattle.ring_theory.specs.Ring.{pow}
+use Rattle.ring_theory.specs.Subsets.{IsSubring, IsModule, Product}
+use Rattle.ring_theory.proofs.Ring.{one_mul, zero_mul, mul_zero, add_mul, mul_mul, mul_left_comm}
+use Rattle.ring_theory.proofs.RowMaps.{hom_zero}
+use Rattle.ring_theory.proofs.Solver.{ring, reads}
+use Rattle.ring_theory.proofs.Subsets.{product_member, product_module, span_least}
+use Rattle.prime_theory.specs.Ideals.{Inverse, Invertible, IsAdditive}
+use Rattle.prime_theory.proofs.Localisation.{Common, common}
+use Rattle.prime_theory.proofs.Products.{product_into, additive_of_module, own_module}
 use Rattle.ff_fields.specs.Field.{CodeField}
 use Rattle.ff_poly.specs.Polynomials.{Polynomial, polynomials, polynomials_domain, x_poly}
-use Rattle.ff_algebra.specs.declared.elem.Side.TheVariants.{Finite, Infinite}
-use Rattle.ff_algebra.specs.Discriminant.{discriminant}
-use Rattle.ff_algebra.specs.Places.{IsIntegralAt}
-use Rattle.ff_algebra.specs.Functions.{Equation, FunctionOf, ring_of, of_poly, trace_of, setting_of, IsPolynomial, IsFiniteAtInfinity}
-use Rattle.ff_algebra.specs.Values.{PresValue, Functions, functions, setting, equation_of}
-use Rattle.ff_algebra.proofs.OnSide.{of_poly_zero}
-use Rattle.ff_algebra.proofs.ScalarRings.{scalars_subring, polynomials_subring, finite_at_infinity_subring}
+use Rattle.function_field.specs.declared.side.Side.TheVariants.{Finite, Infinite}
+use Rattle.function_field.specs.Discriminant.{discriminant}
+use Rattle.function_field.specs.Places.{IsIntegralAt}
+use Rattle.function_field.specs.Functions.{Equation, FunctionOf, ring_of, of_poly, trace_of, setting_of, IsPolynomial, IsFiniteAtInfinity}
+use Rattle.function_field.specs.Values.{PresValue, Functions, functions, setting, equation_of}
+use Rattle.function_field.proofs.OnSide.{of_poly_zero}
+use Rattle.function_field.proofs.ScalarRings.{scalars_subring, polynomials_subring, finite_at_infinity_subring}
 use Rattle.places_theory.proofs.PresentationMap.{presentation_map}
 use Rattle.places_theory.proofs.Sides.{side_ring}
 use Rattle.trace_theory.specs.Traces.{IsRational}
@@ -30,12 +30,12 @@ use Rattle.order_theory.specs.Orders.{IsPrimeTo}
 use Rattle.order_theory.proofs.IntegralLattice.{integral_lattice}
 use Rattle.order_theory.proofs.InvertibleIdeals.{lattice_invertible}
 use Rattle.order_theory.proofs.LocalOrders.{prime_to}
-use Rattle.side_theory.specs.Tame.{IsLocallyIn}
-use Rattle.side_theory.specs.InfiniteMaps.{IsInfiniteMap}
-use Rattle.side_theory.proofs.EachEquation.{each_equation}
-use Rattle.side_theory.proofs.InfiniteDecisions.{infinite_some}
-use Rattle.side_theory.proofs.InfiniteTransport.{x_irreducible, infinite_map}
-use Rattle.side_theory.proofs.PushedPlaces.{each}
+use Rattle.infinite_theory.specs.Supported.{IsLocallyIn}
+use Rattle.infinite_theory.specs.InfiniteMaps.{IsInfiniteMap}
+use Rattle.infinite_theory.proofs.EachEquation.{each_equation}
+use Rattle.infinite_theory.proofs.InfiniteDecisions.{infinite_some}
+use Rattle.infinite_theory.proofs.InfiniteTransport.{x_irreducible, infinite_map}
+use Rattle.infinite_theory.proofs.PushedPlaces.{each}
 use Rattle.ideal_theory.proofs.FiniteSide.{maximal_order}
 use Rattle.space_theory.specs.Spaces.{IsReducedBasis}
 use Rattle.space_theory.specs.TraceDuals.{TraceDual, InfiniteTraceDual, CanonicalDual}

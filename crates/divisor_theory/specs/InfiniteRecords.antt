@@ -2,11 +2,11 @@
 use Rattle.std.specs.Prelude.{◌≡◌, List, All, AllPairs}
 use Rattle.std.specs.List.{Any}
 use Rattle.ff_fields.specs.Field.{CodeField}
-use Rattle.ff_algebra.specs.declared.elem.Side.TheVariants.{Infinite}
-use Rattle.ff_algebra.specs.Values.{PresValue, Functions, setting, equation_of}
-use Rattle.ff_algebra.specs.Places.{Place, IsPlace, IsSamePlace}
-use Rattle.ff_algebra.specs.Divisors.{HasDegree, HasRamification}
-use Rattle.side_theory.specs.InfiniteMaps.{place_at_infinity}
+use Rattle.function_field.specs.declared.side.Side.TheVariants.{Infinite}
+use Rattle.function_field.specs.Values.{PresValue, Functions, setting, equation_of}
+use Rattle.function_field.specs.Places.{Place, IsPlace, IsSamePlace}
+use Rattle.function_field.specs.Divisors.{HasDegree, HasRamification}
+use Rattle.infinite_theory.specs.InfiniteMaps.{place_at_infinity}
 use Rattle.ideal_theory.specs.Records.{RecordedPrime, place_of_rows}
 
 module _ (k : CodeField) (p q : PresValue) (f : Functions k q → Functions k p) (O : Functions k q → Type 0) where

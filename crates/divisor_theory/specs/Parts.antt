@@ -1,10 +1,10 @@
 -- The part of a divisor at the places of one side, differences of divisors, and principal ones (Stichtenoth, section 1.4).
 use Rattle.std.specs.Prelude.{ℤ, ◌-ℤ◌, [], ◌∷◌}
-use Rattle.ff_algebra.specs.declared.elem.Side.{Side}
-use Rattle.ff_algebra.specs.declared.elem.Side.TheVariants.{Finite, Infinite}
-use Rattle.ff_algebra.specs.Setting.{Setting}
-use Rattle.ff_algebra.specs.Places.{Place, IsPlace, HasValuation}
-use Rattle.ff_algebra.specs.Divisors.{Entry, Divisor, IsDivisor, HasMultiplicity}
+use Rattle.function_field.specs.declared.side.Side.{Side}
+use Rattle.function_field.specs.declared.side.Side.TheVariants.{Finite, Infinite}
+use Rattle.function_field.specs.Setting.{Setting}
+use Rattle.function_field.specs.Places.{Place, IsPlace, HasValuation}
+use Rattle.function_field.specs.Divisors.{Entry, Divisor, IsDivisor, HasMultiplicity}
 
 -- an entry at a place of the side t, before those of the side s
 abbrev pub kept : {E : Type 0} → Side → Side → Entry E → Divisor E → Divisor E

@@ -5,29 +5,29 @@
 
 ghost use Rattle.std.specs.Prelude.{◌≡◌, ◌↔◌, ℕ, ◌+◌, ◌*◌, ◌-◌, ◌<◌, ℤ, ◌+ℤ◌, ◌-ℤ◌, ◌<ℤ◌, ◌≤ℤ◌, List, length, map};
 ghost use Rattle.std.proofs.Common.{pos};
-ghost use Rattle.ff_ring.specs.Ring.{IsField};
-ghost use Rattle.ff_ring.specs.Subsets.{Span, Colon};
+ghost use Rattle.ring_theory.specs.Ring.{IsField};
+ghost use Rattle.ring_theory.specs.Subsets.{Span, Colon};
 ghost use Rattle.ff_fields.specs.Field.{CodeField};
 ghost use Rattle.ff_fields.specs.Code.{code_ring};
 ghost use Rattle.ff_poly.specs.Polynomials.{polynomials, x_poly};
 ghost use Rattle.linear_theory.specs.Basis.{IsNull};
 ghost use Rattle.linear_theory.proofs.Lists.{entry};
-ghost use Rattle.local_theory.specs.Ideals.{SameSet};
-ghost use Rattle.ff_algebra.specs.declared.elem.Side.{Side};
-ghost use Rattle.ff_algebra.specs.declared.elem.Side.TheVariants.{Finite, Infinite};
-ghost use Rattle.ff_algebra.specs.Functions.{Equation, FunctionOf, ring_of, setting_of, degree_of_y, IsFiniteAtInfinity};
-ghost use Rattle.ff_algebra.specs.Values.{PresValue, Functions, functions, equation_of};
-ghost use Rattle.ff_algebra.specs.Places.{Place, IsPlace, IsIntegralAt};
-ghost use Rattle.ff_algebra.specs.Divisors.{Divisor, IsDivisor, HasMultiplicity, HasTotalDegree, MeetsOn, InSpace, IsConstant, HasGenus, IsCanonical};
-ghost use Rattle.ff_algebra.specs.Discriminant.{discriminant};
-ghost use Rattle.ff_algebra.specs.Infinity.{IsInfinitePresentation};
+ghost use Rattle.prime_theory.specs.Ideals.{SameSet};
+ghost use Rattle.function_field.specs.declared.side.Side.{Side};
+ghost use Rattle.function_field.specs.declared.side.Side.TheVariants.{Finite, Infinite};
+ghost use Rattle.function_field.specs.Functions.{Equation, FunctionOf, ring_of, setting_of, degree_of_y, IsFiniteAtInfinity};
+ghost use Rattle.function_field.specs.Values.{PresValue, Functions, functions, equation_of};
+ghost use Rattle.function_field.specs.Places.{Place, IsPlace, IsIntegralAt};
+ghost use Rattle.function_field.specs.Divisors.{Divisor, IsDivisor, HasMultiplicity, HasTotalDegree, MeetsOn, InSpace, IsConstant, HasGenus, IsCanonical};
+ghost use Rattle.function_field.specs.Discriminant.{discriminant};
+ghost use Rattle.function_field.specs.Infinity.{IsInfinitePresentation};
 ghost use Rattle.trace_theory.specs.Traces.{HasPolynomialCoordinates};
 ghost use Rattle.lattice_theory.specs.Lattices.{IsLattice, HasIndex, space_ops, polynomial_ops};
 ghost use Rattle.order_theory.specs.Orders.{IsOrder};
-ghost use Rattle.reduced_theory.specs.Degree.{degree_sum, dimension_sum, genus_sum};
-ghost use Rattle.reduced_theory.specs.Reduced.{InLattice};
-ghost use Rattle.side_theory.specs.Tame.{IsTame};
-ghost use Rattle.side_theory.specs.InfiniteMaps.{IsInfiniteMap};
+ghost use Rattle.reduced_basis_theory.specs.Degree.{degree_sum, dimension_sum, genus_sum};
+ghost use Rattle.reduced_basis_theory.specs.Reduced.{InLattice};
+ghost use Rattle.infinite_theory.specs.Supported.{IsSupportedAt};
+ghost use Rattle.infinite_theory.specs.InfiniteMaps.{IsInfiniteMap};
 ghost use Rattle.ideal_theory.specs.Ideals.{IsDivisorOn, DivisorIdeal};
 ghost use Rattle.ideal_theory.specs.Indices.{HasRelativeIndex};
 ghost use Rattle.ideal_theory.specs.Records.{RowSpan, RecordedPrime, IsRecordAt};
@@ -38,7 +38,7 @@ ghost use Rattle.divisor_theory.specs.Parts.{IsDifference, IsPrincipal};
 ghost use Rattle.divisor_theory.specs.InfiniteRecords.{AreInfinitePlaces};
 
 use lattice_theory::FunctionSets;
-use side_theory::InfiniteSets;
+use infinite_theory::InfiniteSets;
 
 /// The index of one lattice at infinity relative to another, as an integer: there is one number, and it is the difference of the sums of degrees of reduced bases with
 /// any one lattice over the polynomials.
@@ -116,7 +116,7 @@ pub fn sum_of_degrees_law()
     ensures sum { (k : CodeField) (p q : PresValue) (c : ℕ) (f : Functions k q → Functions k p) → IsInfiniteMap k p q c f → IsInfinitePresentation k p c q
         → (rows : List (Functions k p)) → IsLattice (equation_of k p) (RowSpan (equation_of k p) rows)
         → (infinite : List (Functions k q)) → IsLattice (equation_of k q) (RowSpan (equation_of k q) infinite)
-        → IsTame (equation_of k q) (x_poly k) (RowSpan (equation_of k q) infinite)
+        → IsSupportedAt (equation_of k q) (x_poly k) (RowSpan (equation_of k q) infinite)
         → (a b : ℤ) → HasRelativeIndex (equation_of k p) (RowSpan (equation_of k p) rows) (HasPolynomialCoordinates (equation_of k p)) a
         → HasRelativeIndex (equation_of k q) (RowSpan (equation_of k q) infinite) (HasPolynomialCoordinates (equation_of k q)) b
         → (bs : List (Functions k p)) (d : ℕ → ℤ) → IsReducedBasis (equation_of k p) (RowSpan (equation_of k p) rows)

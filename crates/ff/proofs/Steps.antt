@@ -24,7 +24,7 @@ pub on_ok : {A E : Type 0} (r : Result A E) (P : Type 0) → is_err r ≡ false 
 on_ok (Ok a) P e h = h
 on_ok (Err x) P e h = absurd (cc)
 
--- the statement at a place and those after it
+-- the statement at a position and those after it
 pub rest_at : {X : Type 0} (ss : List X) (i : ℕ) (s : X) → i < length ss → s ≡ get_or ss i s → drop i ss ≡ s ∷ drop (i + 1) ss
 rest_at ss i s h e = drop_more ss i s h ∙ ap (λ t. t ∷ drop (i + 1) ss) (sym e)
 

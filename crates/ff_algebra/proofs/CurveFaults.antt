@@ -2,7 +2,7 @@
 use Rattle.std.proofs.Common.{◌≡◌, ◌≢◌, ℕ, zero, suc, ◌+◌, ◌-◌, ◌*◌, ◌<◌, ◌≤◌, ◌⊎◌, inl, inr, true≢false, eq-eqb, List, [], ◌∷◌, length, get_or, refl, sym, ap, ap₂, subst, ◌∙◌, arith}
 use Rattle.std.proofs.lemmas.Bool.{cases_lt}
 use Rattle.std.proofs.lemmas.List.{same_lists}
-use Rattle.ff_ring.specs.Lists.{IsTrimmed}
+use Rattle.ring_theory.specs.Lists.{IsTrimmed}
 use Rattle.ff_fields.specs.Field.{FieldOps, CodeField}
 use Rattle.ff_fields.specs.Code.{is_zero_code}
 use Rattle.ff_fields.specs.Over.{IsOver_nil}
@@ -10,10 +10,11 @@ use Rattle.ff_poly.specs.Value.{same_from_value}
 use Rattle.ff_poly.specs.Polynomials.{value_nil}
 use Rattle.ff_algebra.specs.declared.curve.CurveFault.{CurveFault}
 use Rattle.ff_algebra.specs.declared.curve.CurveFault.TheVariants.{LimitY, LimitX, NotMonic, NotSeparable, LimitDisc, LimitInf, Memory}
-use Rattle.ff_algebra.specs.Values.{PresValue, equation_of}
-use Rattle.ff_algebra.specs.Infinity.{IsInfinityNumber}
-use Rattle.ff_algebra.specs.Discriminant.{discriminant}
-use Rattle.ff_algebra.specs.Curves.{CurveValue, degree_in_y, degree_in_x, IsSmallInY, IsSmall, IsCoefficient, IsEquationOf, IsSmallEquation, IsDiscriminant, IsCurveOf, IsCurveFault}
+use Rattle.function_field.specs.Values.{PresValue, equation_of}
+use Rattle.function_field.specs.Infinity.{IsInfinityNumber}
+use Rattle.function_field.specs.Discriminant.{discriminant}
+use Rattle.function_field.specs.Curves.{CurveValue, IsDiscriminant}
+use Rattle.ff_algebra.specs.CurveTerms.{degree_in_y, degree_in_x, IsSmallInY, IsSmall, IsCoefficient, IsEquationOf, IsSmallEquation, IsCurveOf, IsCurveFault}
 use Rattle.ff_algebra.proofs.CurveTerms.{read_any}
 
 -- ---- polynomials with the same codes

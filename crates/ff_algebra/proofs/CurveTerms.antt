@@ -7,11 +7,11 @@ use borrow.Author.Count.{below_more}
 use Rattle.ff_fields.specs.Field.{FieldOps, CodeField}
 use Rattle.ff_fields.specs.Over.{IsOver, IsOver_trim, IsOver_zeros, get_or_below}
 use Rattle.ff_fields.specs.Code.{is_zero_code}
-use Rattle.ff_ring.specs.Lists.{trim_onto}
+use Rattle.ring_theory.specs.Lists.{trim_onto}
 use Rattle.ff_poly.specs.Words.{poly_of}
 use Rattle.ff_poly.specs.PolyOver.{IsPoly_poly_of}
 use Rattle.ff_poly.specs.TermWords.{code_at}
-use Rattle.ff_algebra.specs.Curves.{degree_in_y, degree_in_x, IsCoefficient}
+use Rattle.ff_algebra.specs.CurveTerms.{degree_in_y, degree_in_x, IsCoefficient}
 
 -- ---- the greatest exponents
 

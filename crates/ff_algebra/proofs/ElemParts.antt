@@ -2,10 +2,10 @@
 use Rattle.std.proofs.Common.{◌≡◌, ◌≢◌, ℕ, suc, ◌-◌, ◌<◌, List, [], ◌∷◌, length, map, refl, sym, ap, ap₂, ◌∙◌, arith, All}
 use Rattle.std.proofs.lemmas.List.{length-map}
 use Rattle.std.proofs.lemmas.List.Elements.{All-nil, All-cons, All-head, All-tail, All-same}
-use Rattle.ff_ring.specs.Rows.{row_add, row_scale}
-use Rattle.ff_ring.proofs.Ring.{mul_zero}
-use Rattle.ff_ring.proofs.Rows.{row_mul, row_scale_scale, row_scale_comm}
-use Rattle.ff_ring.proofs.RowFractions.{pair_add, pair_mul}
+use Rattle.ring_theory.specs.Rows.{row_add, row_scale}
+use Rattle.ring_theory.proofs.Ring.{mul_zero}
+use Rattle.ring_theory.proofs.Rows.{row_mul, row_scale_scale, row_scale_comm}
+use Rattle.ring_theory.proofs.RowFractions.{pair_add, pair_mul}
 use Rattle.ff_fields.specs.Field.{FieldOps, CodeField}
 use Rattle.ff_fields.specs.Over.{IsOver}
 use Rattle.ff_poly.specs.Words.{IsPoly, top_of, multiple_of, product_of}
@@ -13,10 +13,10 @@ use Rattle.ff_poly.specs.PolyOver.{IsOver_multiple_of, IsOver_product_of}
 use Rattle.ff_poly.specs.Value.{value, value_product}
 use Rattle.ff_poly.specs.Polynomials.{polynomials, constant_poly}
 use Rattle.ff_poly.proofs.Parts.{IsPoly_product_of, IsPoly_multiple_of, IsMonic_multiple, IsMonic_product, value_multiple}
-use Rattle.ff_algebra.specs.Functions.{RowOver, function, function_eq, add_rows, mul_rows, add_function, mul_function}
-use Rattle.ff_algebra.specs.Values.{ElemValue, PresValue, IsElem, IsMonicElem, equation_of, row_over, function_of, functions}
+use Rattle.function_field.specs.Functions.{RowOver, function, function_eq, add_rows, mul_rows, add_function, mul_function}
+use Rattle.function_field.specs.Values.{ElemValue, PresValue, IsElem, IsMonicElem, equation_of, row_over, function_of, functions}
 use Rattle.ff_algebra.specs.RowProducts.{cross_sums, row_at}
-use Rattle.ff_algebra.proofs.SameValues.{elem_den, row_over_num, row_over_den}
+use Rattle.function_field.proofs.SameValues.{elem_den, row_over_num, row_over_den}
 use Rattle.ff_algebra.proofs.RowProducts.{over_cross_sums, poly_cross_sums, length_cross_sums, row_of_cross_sums, row_of_multiples}
 
 module _ (k : CodeField) (p : PresValue) where

@@ -5,14 +5,14 @@ use Rattle.std.proofs.lemmas.Bool.{cases_lt}
 use Rattle.std.proofs.lemmas.List.{get_or_past, get_or_default, get_or-map, get_or-drop, get_or-take, get_or-set_same, get_or-set_other, get_or-replicate, length-map, length-take, length-replicate}
 use Rattle.std.proofs.lemmas.List.Edits.{length-remove}
 use Rattle.std.proofs.lemmas.List.Elements.{All-take}
-use Rattle.ff_ring.specs.Rows.{row_zero, row_add, row_scale}
-use Rattle.ff_ring.proofs.Rows.{pair_path, row_one, row_mul, row_add_comm, row_add_zero}
+use Rattle.ring_theory.specs.Rows.{row_zero, row_add, row_scale}
+use Rattle.ring_theory.proofs.Rows.{pair_path, row_one, row_mul, row_add_comm, row_add_zero}
 use Rattle.ff_fields.specs.Field.{CodeField}
 use Rattle.ff_fields.specs.Over.{IsOver}
 use Rattle.ff_poly.specs.Words.{IsPoly}
 use Rattle.ff_poly.specs.Value.{value}
 use Rattle.ff_poly.specs.Polynomials.{polynomials, value_nil}
-use Rattle.ff_algebra.specs.Values.{PresValue, row_of_list, equation_of}
+use Rattle.function_field.specs.Values.{PresValue, row_of_list, equation_of}
 use Rattle.ff_algebra.specs.RowProducts.{IsRow, row_at}
 use Rattle.ff_algebra.specs.Inverses.{entry_of, HasOwnEntry, eliminated, IsEliminatedBy, ClearsColumn, IsLine, IsEliminated}
 use Rattle.ff_algebra.proofs.Elimination.{skip, skip_other, skip_apart, skip_below, get_or_skip, cleared_here, cleared_kept, own_kept, line_eliminated}
@@ -154,9 +154,9 @@ module _ (k : CodeField) (p : PresValue) (v : List (List ℕ)) where
     pub product :
         row_scale (polynomials k).ops (suc (p.n - 1)) (value k (get_or factors p.n [])) (row_one (polynomials k).ring (p.n - 1))
         ≡ row_mul (polynomials k).ring (p.n - 1) (equation_of k p).coefficients (row_at k p factors) (row_at k p v)
-    pub place : ℕ
-    pub within : place < p.n + 1
-    pub some : get_or factors place [] ≢ []
+    pub position : ℕ
+    pub within : position < p.n + 1
+    pub some : get_or factors position [] ≢ []
 
   -- the factors of a line whose last entries are all 0
   pub factors_of_line : (lines : List (List (List ℕ))) (factors : List (List ℕ)) → 1 ≤ p.n → 0 < length lines → IsEliminated k p v (2 * p.n + 1) lines → factors ≡ take (p.n + 1) (get_or lines 0 []) → HasFactors factors
@@ -184,7 +184,7 @@ module _ (k : CodeField) (p : PresValue) (v : List (List ℕ)) where
             ∙ ap (λ r. row_add R m r (row_scale R m (value k (get_or line p.n [])) one)) (sym (row_of_nothing m (drop (p.n + 1) line) last))
             ∙ is_line.product
             ∙ ap (λ r. row_mul S (p.n - 1) f r (row_at k p v)) (sym (row_of_take m (p.n + 1) line (omega arith)));
-        place = mine.column;
+        position = mine.column;
         within = mine.within;
         some = λ e. mine.some (sym (at mine.column mine.within) ∙ e);
       })

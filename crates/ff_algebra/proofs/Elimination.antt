@@ -4,10 +4,10 @@ use Rattle.std.specs.Prelude.{remove}
 use Rattle.std.proofs.lemmas.Bool.{cases_lt}
 use Rattle.std.proofs.lemmas.List.{get_or_past}
 use Rattle.std.proofs.lemmas.List.Elements.{All-head, All-tail, All-drop}
-use Rattle.ff_ring.specs.Ring.{CommRing}
-use Rattle.ff_ring.specs.Rows.{Row, row_add, row_scale}
-use Rattle.ff_ring.proofs.Ring.{mul_zero, one_mul, neg_mul, add_add, neg_zero, product_not_zero}
-use Rattle.ff_ring.proofs.Rows.{row_one, row_mul, row_ring, row_add_scale, row_scale_add, row_scale_scale, scale_row_mul, row_mul_comm, row_mul_add}
+use Rattle.ring_theory.specs.Ring.{CommRing}
+use Rattle.ring_theory.specs.Rows.{Row, row_add, row_scale}
+use Rattle.ring_theory.proofs.Ring.{mul_zero, one_mul, neg_mul, add_add, neg_zero, product_not_zero}
+use Rattle.ring_theory.proofs.Rows.{row_one, row_mul, row_ring, row_add_scale, row_scale_add, row_scale_scale, scale_row_mul, row_mul_comm, row_mul_add}
 use Rattle.ff_fields.specs.Field.{FieldOps, CodeField}
 use Rattle.ff_fields.specs.Over.{IsOver, IsOver_nil}
 use Rattle.ff_poly.specs.Words.{IsPoly, multiple_of, product_of}
@@ -15,14 +15,14 @@ use Rattle.ff_poly.specs.PolyOver.{IsOver_multiple_of, IsOver_product_of}
 use Rattle.ff_poly.specs.Value.{value, value_product, same_from_value}
 use Rattle.ff_poly.specs.Polynomials.{Polynomial, polynomials, polynomials_domain, value_nil, value_one, value_not_zero}
 use Rattle.ff_poly.proofs.Parts.{value_sum_with_product, value_multiple_minus}
-use Rattle.ff_algebra.specs.Values.{PresValue, equation_of}
+use Rattle.function_field.specs.Values.{PresValue, equation_of}
 use Rattle.ff_algebra.specs.RowProducts.{IsRow, cross_sums, row_at}
 use Rattle.ff_algebra.specs.Inverses.{eliminated, IsLine}
 use Rattle.ff_algebra.proofs.RowProducts.{over_cross_sums, poly_cross_sums, length_cross_sums, row_of_cross_sums}
 
--- ---- places after one is removed
+-- ---- positions after one is removed
 
--- where the element at place j stood before the one at place i was removed
+-- where the element at position j stood before the one at position i was removed
 pub skip : ℕ → ℕ → ℕ
 skip zero j = suc j
 skip (suc i) zero = zero

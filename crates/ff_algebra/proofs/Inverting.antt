@@ -5,21 +5,21 @@ use Rattle.std.proofs.lemmas.List.{length-append}
 use Rattle.std.proofs.lemmas.List.Elements.{All-pop}
 use Rattle.std.proofs.Math.ListN.{get_or-append}
 use Rattle.std.proofs.Math.Seq.{get_or-append_seam}
-use Rattle.ff_ring.specs.Ring.{CommRing}
-use Rattle.ff_ring.specs.Rows.{Row, row_zero, row_scale}
-use Rattle.ff_ring.proofs.Ring.{one_mul, zero_mul}
-use Rattle.ff_ring.proofs.Rows.{row_one, row_mul, row_mul_comm, row_scale_one, row_scale_zero, row_zero_scale, row_scale_scale, scale_row_mul}
-use Rattle.ff_ring.proofs.RowFractions.{pair_mul, whole_pair}
+use Rattle.ring_theory.specs.Ring.{CommRing}
+use Rattle.ring_theory.specs.Rows.{Row, row_zero, row_scale}
+use Rattle.ring_theory.proofs.Ring.{one_mul, zero_mul}
+use Rattle.ring_theory.proofs.Rows.{row_one, row_mul, row_mul_comm, row_scale_one, row_scale_zero, row_zero_scale, row_scale_scale, scale_row_mul}
+use Rattle.ring_theory.proofs.RowFractions.{pair_mul, whole_pair}
 use Rattle.ff_fields.specs.Field.{CodeField}
 use Rattle.ff_fields.specs.Over.{IsOver}
 use Rattle.ff_poly.specs.Words.{IsPoly}
 use Rattle.ff_poly.specs.Value.{value}
 use Rattle.ff_poly.specs.Polynomials.{Polynomial, polynomials, value_nil, value_not_zero}
-use Rattle.ff_algebra.specs.Functions.{RowOver, function_eq, function_same, mul_rows, whole_row, mul_function, zero_function, one_function}
-use Rattle.ff_algebra.specs.Values.{ElemValue, PresValue, IsElem, IsMonicElem, row_of_list, equation_of, row_over, function_of, functions, Functions}
+use Rattle.function_field.specs.Functions.{RowOver, function_eq, function_same, mul_rows, whole_row, mul_function, zero_function, one_function}
+use Rattle.function_field.specs.Values.{ElemValue, PresValue, IsElem, IsMonicElem, row_of_list, equation_of, row_over, function_of, functions, Functions}
 use Rattle.ff_algebra.specs.RowProducts.{row_at}
 use Rattle.ff_algebra.specs.Inverses.{IsRelation}
-use Rattle.ff_algebra.proofs.SameValues.{elem_den, row_over_num, row_over_den}
+use Rattle.function_field.proofs.SameValues.{elem_den, row_over_num, row_over_den}
 use Rattle.ff_algebra.proofs.Elimination.{over_at, poly_at}
 use Rattle.ff_algebra.proofs.EliminatedLines.{HasFactors}
 use Rattle.ff_algebra.proofs.LinesMade.{row_of_append}
@@ -55,9 +55,9 @@ module _ (k : CodeField) (p : PresValue) (v : List (List ℕ)) where
             ∙ relation.product
             ∙ ap (λ r. times r (row_at k p v)) (row_of_append k (suc (p.n - 1)) w (d ∷ []) (omega arith));
         some = λ none.
-            elim (cases_lt relation.place p.n) [
-              | inl less ↦ (relation.place, less, λ e. relation.some (get_or-append w (d ∷ []) [] relation.place (omega arith) ∙ e))
-              | inr past ↦ absurd (relation.some (ap (λ j. get_or (w ++ d ∷ []) j []) (let here : relation.place ≡ p.n = omega (arith, relation.within) in here) ∙ last ∙ none))
+            elim (cases_lt relation.position p.n) [
+              | inl less ↦ (relation.position, less, λ e. relation.some (get_or-append w (d ∷ []) [] relation.position (omega arith) ∙ e))
+              | inr past ↦ absurd (relation.some (ap (λ j. get_or (w ++ d ∷ []) j []) (let here : relation.position ≡ p.n = omega (arith, relation.within) in here) ∙ last ∙ none))
             ];
       }
 

@@ -4,10 +4,10 @@ use Rattle.std.proofs.lemmas.List.{length-append, length-replicate}
 use Rattle.std.proofs.lemmas.List.Elements.{All-append, All-set}
 use Rattle.std.proofs.Math.ListN.{length-set, get_or-append}
 use Rattle.std.proofs.Math.Seq.{drop-append_seam}
-use Rattle.ff_ring.specs.Ring.{CommRing}
-use Rattle.ff_ring.specs.Rows.{Row, row_zero, row_add, row_scale}
-use Rattle.ff_ring.proofs.Ring.{one_mul, neg_mul, neg_add}
-use Rattle.ff_ring.proofs.Rows.{pair_path, row_one, row_mul, row_add_comm, row_add_zero, row_scale_zero}
+use Rattle.ring_theory.specs.Ring.{CommRing}
+use Rattle.ring_theory.specs.Rows.{Row, row_zero, row_add, row_scale}
+use Rattle.ring_theory.proofs.Ring.{one_mul, neg_mul, neg_add}
+use Rattle.ring_theory.proofs.Rows.{pair_path, row_one, row_mul, row_add_comm, row_add_zero, row_scale_zero}
 use Rattle.ff_fields.specs.Field.{CodeField}
 use Rattle.ff_fields.specs.Over.{IsOver, IsOver_nil, IsOver_cons}
 use Rattle.ff_poly.specs.Words.{IsPoly, sum_of, multiple_of, product_of}
@@ -15,7 +15,7 @@ use Rattle.ff_poly.specs.PolyOver.{IsOver_sum_of, IsOver_multiple_of, IsOver_pro
 use Rattle.ff_poly.specs.Value.{value}
 use Rattle.ff_poly.specs.Polynomials.{polynomials, value_one}
 use Rattle.ff_poly.proofs.Parts.{IsPoly_sum_of, value_sum_with_product, minus_one}
-use Rattle.ff_algebra.specs.Values.{PresValue, row_of_list, equation_of}
+use Rattle.function_field.specs.Values.{PresValue, row_of_list, equation_of}
 use Rattle.ff_algebra.specs.RowProducts.{IsRow, add_products, row_at}
 use Rattle.ff_algebra.specs.Inverses.{IsLine}
 use Rattle.ff_algebra.proofs.RowProducts.{IsRow_zeros, row_of_zeros, row_of_add_products}

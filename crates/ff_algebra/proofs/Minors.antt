@@ -2,18 +2,18 @@
 use mathlib.Core.Path.{fun_ext}
 use Rattle.std.proofs.Common.{◌≡◌, ℕ, zero, suc, ◌+◌, ◌-◌, ◌<◌, List, [], ◌∷◌, length, get_or, refl, sym, ap, ap₂, ◌∙◌, arith, add-one}
 use Rattle.std.specs.List.{remove}
-use Rattle.ff_ring.specs.Ring.{CommRing, pow}
-use Rattle.ff_ring.specs.Sums.{sum_below}
-use Rattle.ff_ring.specs.Determinant.{minor, determinant}
-use Rattle.ff_ring.proofs.Sums.{below_cong}
-use Rattle.ff_ring.proofs.Ring.{one_mul, neg_mul, neg_unique}
+use Rattle.ring_theory.specs.Ring.{CommRing, pow}
+use Rattle.ring_theory.specs.Sums.{sum_below}
+use Rattle.ring_theory.specs.Determinant.{minor, determinant}
+use Rattle.ring_theory.proofs.Sums.{below_cong}
+use Rattle.ring_theory.proofs.Ring.{one_mul, neg_mul, neg_unique}
 use Rattle.ff_fields.specs.Field.{CodeField}
 use Rattle.ff_fields.specs.Over.{IsOver, IsOver_nil, IsOver_cons}
 use Rattle.ff_poly.specs.Words.{IsPoly, poly_of, sum_of, product_of, multiple_of}
 use Rattle.ff_poly.specs.Value.{value, value_sum}
 use Rattle.ff_poly.specs.Polynomials.{Polynomial, polynomials, constant_poly, value_nil, value_one}
 use Rattle.ff_poly.proofs.Parts.{IsPoly_sum_of, value_sum_with_product}
-use Rattle.ff_algebra.specs.Curves.{matrix_of}
+use Rattle.ff_algebra.specs.CurveTerms.{matrix_of}
 
 -- ---- matrices with the same entries
 
@@ -84,11 +84,11 @@ module _ (k : CodeField) (entries : List (List ℕ)) (rows : List ℕ) (column :
       ∙ ap (λ x. value k (poly_of (x ∷ []))) (k.laws.add_comm s (k.neg s) s_in (k.laws.neg_below s s_in) ∙ k.laws.neg_add s s_in)
       ∙ value_nil k)
 
-  pub expanded_more : (i sign next : ℕ) (old new entry det others : List ℕ) (place : ℕ) → i < length rows → IsExpanded i sign old
-      → others ≡ remove rows i → place ≡ get_or rows i 0 + column → IsOver k.ops entry → IsOver k.ops det → entry ≡ get_or entries place []
+  pub expanded_more : (i sign next : ℕ) (old new entry det others : List ℕ) (position : ℕ) → i < length rows → IsExpanded i sign old
+      → others ≡ remove rows i → position ≡ get_or rows i 0 + column → IsOver k.ops entry → IsOver k.ops det → entry ≡ get_or entries position []
       → length others ≡ length rows - 1 → value k det ≡ determinant (polynomials k).ops (length others) (matrix_of k entries others (column + 1))
       → new ≡ sum_of k.ops old (multiple_of k.ops (product_of k.ops entry det) sign) → IsOver k.ops new → next ≡ k.neg sign → IsExpanded (i + 1) next new
-  expanded_more i sign next old new entry det others place less h others_is place_is entry_in det_in entry_is size det_is new_is new_in next_is = record {
+  expanded_more i sign next old new entry det others position less h others_is position_is entry_in det_in entry_is size det_is new_is new_in next_is = record {
     sum_in = new_in;
     sum_poly = rw new_is (IsPoly_sum_of k.ops old (multiple_of k.ops (product_of k.ops entry det) sign));
     sign_in = rw next_is (k.laws.neg_below sign h.sign_in);
@@ -97,15 +97,15 @@ module _ (k : CodeField) (entries : List (List ℕ)) (rows : List ℕ) (column :
         ∙ ap (pow P.ops (P.⊖◌ P.𝟙)) (sym (add-one i));
     sum_is =
         ap (value k) new_is ∙ value_sum_with_product k old entry det sign h.sum_in h.sign_in entry_in det_in
-        ∙ ap₂ P.◌⊕◌ h.sum_is (ap₂ P.◌⊗◌ h.sign_is (ap₂ P.◌⊗◌ (ap (value k) entry_is ∙ ap (λ n. value k (get_or entries n [])) same_place) minor_is))
+        ∙ ap₂ P.◌⊕◌ h.sum_is (ap₂ P.◌⊗◌ h.sign_is (ap₂ P.◌⊗◌ (ap (value k) entry_is ∙ ap (λ n. value k (get_or entries n [])) same_position) minor_is))
         ∙ ap (λ n. sum_below P.ops n term) (sym (add-one i));
   }
     where
       negative : (a : Polynomial k) → P.◌⊗◌ (P.⊖◌ P.𝟙) a ≡ P.⊖◌ a
       negative a = neg_mul P P.𝟙 a ∙ ap P.⊖◌ (one_mul P a)
 
-      same_place : place ≡ get_or rows i 0 + column + 0
-      same_place = omega (arith, place_is)
+      same_position : position ≡ get_or rows i 0 + column + 0
+      same_position = omega (arith, position_is)
 
       minor_is : value k det ≡ determinant P.ops (length rows - 1) (minor i (matrix_of k entries rows column))
       minor_is =

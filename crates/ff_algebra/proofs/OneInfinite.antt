@@ -3,25 +3,26 @@ use Rattle.std.proofs.Common.{◌≡◌, ℕ, zero, suc, ◌+◌, ◌<◌, List,
 use Rattle.std.proofs.lemmas.List.{same_lists, length-append, length-replicate, length-reverse}
 use Rattle.std.proofs.lemmas.List.Elements.{All-get_or}
 use mathlib.Core.List.{reverse-reverse}
-use Rattle.ff_ring.specs.Ring.{CommRing, pow}
-use Rattle.ff_ring.specs.Rows.{row_scale}
-use Rattle.ff_ring.proofs.Ring.{mul_zero, zero_add, one_mul}
+use Rattle.ring_theory.specs.Ring.{CommRing, pow}
+use Rattle.ring_theory.specs.Rows.{row_scale}
+use Rattle.ring_theory.proofs.Ring.{mul_zero, zero_add, one_mul}
 use Rattle.ff_fields.specs.Field.{CodeField}
 use Rattle.ff_fields.specs.Over.{IsOver, IsOver_append, IsOver_zeros}
 use Rattle.ff_fields.specs.Numbers.{read, numbers_read, numbers_trim}
 use Rattle.ff_poly.specs.Words.{IsPoly, poly_of}
 use Rattle.ff_poly.specs.Value.{value}
 use Rattle.ff_poly.specs.Polynomials.{Polynomial, polynomials, codes_of, x_poly, x_poly_not_zero}
-use Rattle.ff_algebra.specs.declared.elem.Side.TheVariants.{Finite, Infinite}
-use Rattle.ff_algebra.specs.Functions.{Equation, function_same, of_poly}
-use Rattle.ff_algebra.specs.Values.{PresValue, IsPresOver, functions, equation_of}
-use Rattle.ff_algebra.specs.Curves.{CurveValue, IsCurveOf}
-use Rattle.ff_algebra.specs.Infinity.{IsInfinitePresentation, constant, value_at, variable}
-use Rattle.ff_algebra.proofs.OnSide.{den_inverse, value_at_x}
-use Rattle.ff_algebra.proofs.Reversal.{value as value_of, value_reverse}
+use Rattle.function_field.specs.declared.side.Side.TheVariants.{Finite, Infinite}
+use Rattle.function_field.specs.Functions.{Equation, function_same, of_poly}
+use Rattle.function_field.specs.Values.{PresValue, IsPresOver, functions, equation_of}
+use Rattle.function_field.specs.Curves.{CurveValue}
+use Rattle.ff_algebra.specs.CurveTerms.{IsCurveOf}
+use Rattle.function_field.specs.Infinity.{IsInfinitePresentation, constant, value_at, variable}
+use Rattle.function_field.proofs.OnSide.{den_inverse, value_at_x}
+use Rattle.function_field.proofs.Reversal.{value as value_of, value_reverse}
 use Rattle.ff_algebra.proofs.CurveTerms.{read_any, get_or_poly_of}
 use Rattle.ff_algebra.proofs.CurveFaults.{same_codes, same_pres, same_parts}
-use Rattle.ff_algebra.proofs.InfinitePresentations.{All_reverse, constant_zero, value_at_value}
+use Rattle.function_field.proofs.InfinitePresentations.{All_reverse, constant_zero, value_at_value}
 
 -- polynomials are the same as functions only where they are the same
 pub of_poly_one_way : {k : CodeField} (c : Equation k) (a b : Polynomial k) → of_poly c a ≡ of_poly c b → a ≡ b

@@ -3,11 +3,11 @@ use Rattle.std.proofs.Common.{◌≡◌, ◌≢◌, ℕ, zero, suc, ◌+◌, ◌
 use Rattle.std.proofs.Math.Nat.{mul-suc}
 use Rattle.std.proofs.lemmas.List.Elements.{All-head, All-tail, All-get_or, All-from_get_or}
 use mathlib.Core.List.{reverse-append, reverse-cons}
-use Rattle.ff_ring.specs.Ring.{pow}
-use Rattle.ff_ring.specs.Lists.{scale_list, IsTrimmed, trim_onto}
-use Rattle.ff_ring.proofs.Ring.{mul_zero, zero_mul, pow_add, mul_pow, pow_one_base}
-use Rattle.ff_ring.proofs.Lists.{trim_trimmed, IsTrimmed_trim}
-use Rattle.ff_ring.proofs.Solver.{ring, reads}
+use Rattle.ring_theory.specs.Ring.{pow}
+use Rattle.ring_theory.specs.Lists.{scale_list, IsTrimmed, trim_onto}
+use Rattle.ring_theory.proofs.Ring.{mul_zero, zero_mul, pow_add, mul_pow, pow_one_base}
+use Rattle.ring_theory.proofs.Lists.{trim_trimmed, IsTrimmed_trim}
+use Rattle.ring_theory.proofs.Solver.{ring, reads}
 use Rattle.ff_fields.specs.Field.{CodeField}
 use Rattle.ff_fields.specs.Code.{raw_ring, is_zero_code}
 use Rattle.ff_fields.specs.Over.{IsOver, IsOver_nil, IsOver_cons, IsOver_head, IsOver_tail, get_or_below}
@@ -15,15 +15,15 @@ use Rattle.ff_poly.specs.Words.{IsMonic, poly_of, top_of, multiple_of}
 use Rattle.ff_poly.specs.Value.{value}
 use Rattle.ff_poly.specs.Polynomials.{polynomials, constant_poly, x_poly, x_poly_not_zero}
 use Rattle.ff_poly.proofs.Parts.{value_multiple}
-use Rattle.ff_algebra.specs.declared.elem.Side.TheVariants.{Finite, Infinite}
-use Rattle.ff_algebra.specs.Functions.{of_poly}
-use Rattle.ff_algebra.specs.Values.{PresValue, ElemValue, IsElem, IsMonicElem, Functions, functions, equation_of, row_of_list, row_over, function_of}
-use Rattle.ff_algebra.specs.Infinity.{constant, value_at, row_value_at, variable, generator, StandsFor, function_on}
-use Rattle.ff_algebra.specs.Curves.{reversed_of}
-use Rattle.ff_algebra.proofs.Horner.{horner, den_times_function}
-use Rattle.ff_algebra.proofs.OnSide.{of_poly_times, den_inverse, value_at_x, function_on_stands, stands_once}
-use Rattle.ff_algebra.proofs.SameValues.{row_over_num, row_over_den, monic_some, elem_den}
-use Rattle.ff_algebra.proofs.InfinitePresentations.{over_reversed, value_trim, value_zeros, value_reversed, constant_zero, value_at_value}
+use Rattle.function_field.specs.declared.side.Side.TheVariants.{Finite, Infinite}
+use Rattle.function_field.specs.Functions.{of_poly}
+use Rattle.function_field.specs.Values.{PresValue, ElemValue, IsElem, IsMonicElem, Functions, functions, equation_of, row_of_list, row_over, function_of}
+use Rattle.function_field.specs.Infinity.{constant, value_at, row_value_at, variable, generator, StandsFor, function_on}
+use Rattle.function_field.specs.Curves.{reversed_of}
+use Rattle.function_field.proofs.Horner.{horner, den_times_function}
+use Rattle.function_field.proofs.OnSide.{of_poly_times, den_inverse, value_at_x, function_on_stands, stands_once}
+use Rattle.function_field.proofs.SameValues.{row_over_num, row_over_den, monic_some, elem_den}
+use Rattle.function_field.proofs.InfinitePresentations.{over_reversed, value_trim, value_zeros, value_reversed, constant_zero, value_at_value}
 
 -- the numerators w_i are the v_i, reversed with m - c·i codes
 pub record AreTurned (c m : ℕ) (vs ws : List (List ℕ)) : Type 0 where

@@ -4,18 +4,18 @@ use Rattle.std.proofs.Common.{Ok, Err, Result}
 use Rattle.std.specs.Prelude.{IfOk}
 use Rattle.std.proofs.lemmas.List.{length-replicate, length-take, get_or-take}
 use Rattle.std.proofs.lemmas.List.Elements.{All-cons, All-push, All-replicate}
-use Rattle.ff_ring.specs.Rows.{row_trace, y_to}
-use Rattle.ff_ring.specs.Determinant.{determinant}
-use Rattle.ff_ring.proofs.Rows.{pair_path}
+use Rattle.ring_theory.specs.Rows.{row_trace, y_to}
+use Rattle.ring_theory.specs.Determinant.{determinant}
+use Rattle.ring_theory.proofs.Rows.{pair_path}
 use Rattle.ff_fields.specs.Field.{CodeField}
 use Rattle.ff_fields.specs.Over.{IsOver, IsOver_nil, IsOver_cons}
 use Rattle.ff_poly.specs.Words.{IsPoly}
 use Rattle.ff_poly.specs.Value.{value}
 use Rattle.ff_poly.specs.Polynomials.{polynomials, value_one}
-use Rattle.ff_algebra.specs.Values.{PresValue, equation_of}
+use Rattle.function_field.specs.Values.{PresValue, equation_of}
 use Rattle.ff_algebra.specs.RowProducts.{IsRow, row_at, y_times}
-use Rattle.ff_algebra.specs.Discriminant.{power_trace, discriminant}
-use Rattle.ff_algebra.specs.Curves.{matrix_of}
+use Rattle.function_field.specs.Discriminant.{power_trace, discriminant}
+use Rattle.ff_algebra.specs.CurveTerms.{matrix_of}
 use Rattle.ff_algebra.proofs.RowProducts.{row_of_zeros}
 use Rattle.ff_algebra.proofs.CurveTerms.{pushed_each}
 use Rattle.ff_algebra.proofs.Minors.{determinant_cong}

@@ -2,10 +2,10 @@
 use Rattle.std.proofs.Common.{◌≡◌, ℕ, zero, suc, ◌+◌, ◌-◌, ◌<◌, ◌≤◌, List, [], ◌∷◌, ◌++◌, length, get_or, take, drop, set, map, replicate, Some, refl, sym, ap, ap₂, ◌∙◌, arith, add-one, All}
 use Rattle.std.proofs.lemmas.List.{take_at, take_all, drop_all, drop_more, length-append, length-replicate}
 use Rattle.std.proofs.lemmas.List.Elements.{All-nil, All-cons, All-head, All-tail, All-replicate, All-pop}
-use Rattle.ff_ring.specs.Ring.{CommRing}
-use Rattle.ff_ring.specs.Rows.{Row, row_zero, row_add, row_scale, shift, top, times_y, row_times}
-use Rattle.ff_ring.proofs.Ring.{mul_zero, one_mul, neg_mul}
-use Rattle.ff_ring.proofs.Rows.{pair_path, row_add_comm, row_mul}
+use Rattle.ring_theory.specs.Ring.{CommRing}
+use Rattle.ring_theory.specs.Rows.{Row, row_zero, row_add, row_scale, shift, top, times_y, row_times}
+use Rattle.ring_theory.proofs.Ring.{mul_zero, one_mul, neg_mul}
+use Rattle.ring_theory.proofs.Rows.{pair_path, row_add_comm, row_mul}
 use Rattle.ff_fields.specs.Field.{FieldOps, CodeField}
 use Rattle.ff_fields.specs.Over.{IsOver, IsOver_nil}
 use Rattle.ff_poly.specs.Words.{IsPoly, sum_of, multiple_of, product_of}
@@ -13,7 +13,7 @@ use Rattle.ff_poly.specs.PolyOver.{IsOver_sum_of, IsOver_multiple_of, IsOver_pro
 use Rattle.ff_poly.specs.Value.{value, value_product}
 use Rattle.ff_poly.specs.Polynomials.{Polynomial, polynomials, constant_poly, value_nil, value_one}
 use Rattle.ff_poly.proofs.Parts.{IsPoly_sum_of, value_multiple, value_sum_with_product, minus_one}
-use Rattle.ff_algebra.specs.Values.{PresValue, row_of_list, equation_of}
+use Rattle.function_field.specs.Values.{PresValue, row_of_list, equation_of}
 use Rattle.ff_algebra.specs.RowProducts.{IsRow, add_products, cross_sums, row_at, y_times, list_times}
 
 -- ---- one entry after another

@@ -1,16 +1,16 @@
 -- The trace of a row, one power of y after another, and the trace of an element.
 use Rattle.std.proofs.Common.{◌≡◌, ℕ, zero, suc, ◌+◌, ◌-◌, ◌<◌, List, [], ◌∷◌, get_or, refl, sym, ap, ap₂, ◌∙◌, arith, add-one}
-use Rattle.ff_ring.specs.Rows.{Row, entry, y_to, row_times, diagonal_sum, row_trace}
-use Rattle.ff_ring.proofs.Rows.{pair_path, row_one, row_mul, row_mul_one, times_times_y}
+use Rattle.ring_theory.specs.Rows.{Row, entry, y_to, row_times, diagonal_sum, row_trace}
+use Rattle.ring_theory.proofs.Rows.{pair_path, row_one, row_mul, row_mul_one, times_times_y}
 use Rattle.ff_fields.specs.Field.{CodeField}
 use Rattle.ff_fields.specs.Over.{IsOver}
 use Rattle.ff_poly.specs.Words.{sum_of}
 use Rattle.ff_poly.specs.Value.{value, value_sum}
 use Rattle.ff_poly.specs.Polynomials.{Polynomial, polynomials, value_nil}
-use Rattle.ff_algebra.specs.Functions.{pair_trace, trace_function}
-use Rattle.ff_algebra.specs.Values.{ElemValue, PresValue, IsElem, IsMonicElem, row_of_list, equation_of, row_over, function_of, setting}
+use Rattle.function_field.specs.Functions.{pair_trace, trace_function}
+use Rattle.function_field.specs.Values.{ElemValue, PresValue, IsElem, IsMonicElem, row_of_list, equation_of, row_over, function_of, setting}
 use Rattle.ff_algebra.specs.RowProducts.{row_at, y_times}
-use Rattle.ff_algebra.proofs.SameValues.{elem_den, row_over_num, row_over_den}
+use Rattle.function_field.proofs.SameValues.{elem_den, row_over_num, row_over_den}
 use Rattle.ff_algebra.proofs.RowProducts.{row_of_zeros}
 use Rattle.ff_algebra.proofs.ElemParts.{function_parts}
 

@@ -1,7 +1,7 @@
 -- How an inverse or a zero divisor is found: elimination on multiples of a row.
 use Rattle.std.specs.Prelude.{◌≡◌, ◌≢◌, ℕ, suc, ◌+◌, ◌-◌, ◌*◌, ◌<◌, List, [], length, get_or, map, drop, remove, ◌⊎◌}
-use Rattle.ff_ring.specs.Rows.{row_add, row_scale}
-use Rattle.ff_ring.proofs.Rows.{row_one, row_mul}
+use Rattle.ring_theory.specs.Rows.{row_add, row_scale}
+use Rattle.ring_theory.proofs.Rows.{row_one, row_mul}
 use Rattle.ff_fields.specs.Field.{FieldOps, CodeField}
 use Rattle.ff_fields.specs.Over.{IsOver}
 use Rattle.ff_poly.specs.Words.{IsPoly, multiple_of}
@@ -9,7 +9,7 @@ use Rattle.ff_poly.specs.Value.{value}
 use Rattle.ff_poly.specs.Polynomials.{polynomials}
 use Rattle.ff_algebra.specs.declared.inverse.ZeroDivisor.{ZeroDivisor}
 use Rattle.ff_algebra.specs.declared.inverse.ZeroDivisor.TheVariants.{Kills, Memory}
-use Rattle.ff_algebra.specs.Values.{ElemValue, PresValue, equation_of}
+use Rattle.function_field.specs.Values.{ElemValue, PresValue, equation_of}
 use Rattle.ff_algebra.specs.RowProducts.{IsRow, cross_sums, row_at}
 
 -- P of the element that a zero divisor is killed by, where there is one

@@ -1,12 +1,12 @@
 -- How rows of polynomials are added and multiplied, as lists of lists of codes.
 use Rattle.std.specs.Prelude.{◌≡◌, ℕ, suc, ◌-◌, List, [], ◌∷◌, length, All}
-use Rattle.ff_ring.specs.Rows.{Row, row_zero, row_add, row_scale, times_y}
+use Rattle.ring_theory.specs.Rows.{Row, row_zero, row_add, row_scale, times_y}
 use Rattle.ff_fields.specs.Field.{FieldOps, CodeField}
 use Rattle.ff_fields.specs.Over.{IsOver}
 use Rattle.ff_poly.specs.Words.{IsPoly, sum_of, multiple_of, product_of}
 use Rattle.ff_poly.specs.Value.{value}
 use Rattle.ff_poly.specs.Polynomials.{Polynomial, polynomials}
-use Rattle.ff_algebra.specs.Values.{PresValue, row_of_list, equation_of}
+use Rattle.function_field.specs.Values.{PresValue, row_of_list, equation_of}
 
 module _ (k : FieldOps) where
   -- n polynomials over the field
@@ -15,7 +15,7 @@ module _ (k : FieldOps) where
     pub over : All (IsOver k) vs
     pub poly : All IsPoly vs
 
-  -- c·a·w is added to the entry at the place of each w
+  -- c·a·w is added to the entry at the position of each w
   abbrev pub add_products : ℕ → List ℕ → List (List ℕ) → List (List ℕ) → List (List ℕ)
   add_products c a [] ws = []
   add_products c a (v ∷ vs) [] = v ∷ vs

@@ -1,7 +1,8 @@
 //! Curves: the equation of terms in x and y, its discriminant, and its presentation at infinity.
 
 ghost use Rattle.std.specs.Prelude.{◌≡◌, ◌≢◌, ◌<◌, All, IfOk, IfErr};
-ghost use Rattle.ff_algebra.specs.Curves.{CurveValue, IsCurveOf, IsCurveFault};
+ghost use Rattle.function_field.specs.Curves.{CurveValue};
+ghost use Rattle.ff_algebra.specs.CurveTerms.{IsCurveOf, IsCurveFault};
 ghost use Rattle.ff_algebra.specs.declared.curve.CurveFault.{CurveFault};
 
 mod discriminant;
@@ -35,7 +36,7 @@ pub struct Curve {
 }
 
 impl Model for Curve {
-    ghost use Rattle.ff_algebra.specs.Curves.{CurveValue};
+    ghost use Rattle.function_field.specs.Curves.{CurveValue};
 
     ghost Value = { CurveValue };
 

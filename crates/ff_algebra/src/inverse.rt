@@ -1,11 +1,11 @@
 //! Inverses of functions.
 
 ghost use Rattle.std.specs.Prelude.{◌≡◌, ℕ, length, All, IfOk, IfErr};
-ghost use Rattle.ff_ring.specs.Rows.{row_scale};
+ghost use Rattle.ring_theory.specs.Rows.{row_scale};
 ghost use Rattle.ff_fields.specs.Over.{IsOver};
 ghost use Rattle.ff_poly.specs.Value.{value};
 ghost use Rattle.ff_poly.specs.Polynomials.{polynomials};
-ghost use Rattle.ff_algebra.specs.Values.{Functions, IsPresOver, IsElem, IsMonicElem, function_of, functions, row_of_list};
+ghost use Rattle.function_field.specs.Values.{Functions, IsPresOver, IsElem, IsMonicElem, function_of, functions, row_of_list};
 ghost use Rattle.ff_algebra.specs.Inverses.{IfKills};
 
 mod elimination;

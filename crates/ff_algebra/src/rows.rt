@@ -1,13 +1,13 @@
 //! The inner loops, on rows of polynomials.
 
 ghost use Rattle.std.specs.Prelude.{◌≡◌, ◌-◌, ◌<◌, ◌≤◌, [], suc, length, map, replicate, All, IfOk, OnOk};
-ghost use Rattle.ff_ring.specs.Rows.{row_trace};
-ghost use Rattle.ff_ring.proofs.Rows.{row_mul};
+ghost use Rattle.ring_theory.specs.Rows.{row_trace};
+ghost use Rattle.ring_theory.proofs.Rows.{row_mul};
 ghost use Rattle.ff_fields.specs.Over.{IsOver};
 ghost use Rattle.ff_poly.specs.Words.{multiple_of};
 ghost use Rattle.ff_poly.specs.Value.{value};
 ghost use Rattle.ff_poly.specs.Polynomials.{polynomials};
-ghost use Rattle.ff_algebra.specs.Values.{IsPresOver, equation_of};
+ghost use Rattle.function_field.specs.Values.{IsPresOver, equation_of};
 ghost use Rattle.ff_algebra.specs.RowProducts.{IsRow, add_products, cross_sums, row_at, y_times};
 
 use crate::elem::Pres;
@@ -48,7 +48,7 @@ pub(crate) fn multiply_all<K: SmallField>(k: &K, row: &mut [Poly], c: u32)
     }
 }
 
-/// Adds c·a·w to the entry at the place of each w of the row, in place.
+/// Adds c·a·w to the entry at the position of each w of the row, in place.
 pub(crate) fn add_products<K: SmallField>(
     k: &K,
     sums: &mut [Poly],

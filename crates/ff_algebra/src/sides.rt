@@ -1,10 +1,10 @@
 //! The same function in the other presentation.
 
 ghost use Rattle.std.specs.Prelude.{◌≡◌, ◌≢◌, ℕ, ◌+◌, ◌*◌, ◌^◌, ◌<◌, ◌≤◌, [], length, get_or, IfOk};
-ghost use Rattle.ff_algebra.specs.declared.elem.Side.TheVariants.{Infinite};
-ghost use Rattle.ff_algebra.specs.Values.{PresValue, IsElem, IsMonicElem, function_of};
-ghost use Rattle.ff_algebra.specs.Infinity.{function_on};
-ghost use Rattle.ff_algebra.specs.Curves.{IsCurve};
+ghost use Rattle.function_field.specs.declared.side.Side.TheVariants.{Infinite};
+ghost use Rattle.function_field.specs.Values.{PresValue, IsElem, IsMonicElem, function_of};
+ghost use Rattle.function_field.specs.Infinity.{function_on};
+ghost use Rattle.function_field.specs.Curves.{IsCurve};
 
 #[cfg(test)]
 mod tests;

@@ -2,7 +2,7 @@
 
 ghost use Rattle.std.specs.Prelude.{◌≡◌, ◌≢◌, ◌<◌, [], IfOk};
 ghost use Rattle.ff_fields.specs.Over.{IsOver};
-ghost use Rattle.ff_algebra.specs.Values.{IsElem, IsPresOver};
+ghost use Rattle.function_field.specs.Values.{IsElem, IsPresOver};
 
 use crate::elem::{Elem, Pres, add, mul, same, trace};
 use ff_fields::field::SmallField;

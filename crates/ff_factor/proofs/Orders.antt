@@ -4,11 +4,11 @@ use Rattle.std.proofs.lemmas.List.Elements.{All-nil, All-cons, All-head, All-tai
 use Rattle.std.specs.List.{insert}
 use Rattle.std.proofs.lemmas.Bool.{ltb-true, lt-ltb}
 use native.Mathlib.Decide.{ℕ_discrete}
-use Rattle.ff_ring.proofs.Finite.{In}
+use Rattle.ring_theory.proofs.Finite.{In}
 use Rattle.ff_factor.specs.Factors.{IsBelow, IsBefore, AreAscending}
 use Rattle.ff_factor.specs.Pulls.{IsWith}
 
--- the first place from the top at which two lists of one length differ decides
+-- the first position from the top at which two lists of one length differ decides
 pub below_at : (a b : List ℕ) (i : ℕ) → length a ≡ length b → i < length a → drop (i + 1) a ≡ drop (i + 1) b → get_or a i 0 ≢ get_or b i 0
     → IsBelow a b ↔ (get_or a i 0 < get_or b i 0)
 below_at a b i size less above differ = go a b i size less (ap (λ n. drop n a) (sym (add-one i)) ∙ above ∙ ap (λ n. drop n b) (add-one i)) differ

@@ -1,9 +1,9 @@
 -- The loop that divides by a polynomial as often as it goes.
 use Rattle.std.proofs.Common.{◌≡◌, ◌≢◌, ℕ, suc, ◌+◌, ◌<◌, ◌≤◌, List, [], ◌∷◌, length, refl, sym, ap, ◌∙◌, subst, arith}
-use Rattle.ff_ring.specs.Ring.{CommRing, pow}
-use Rattle.ff_ring.proofs.Ring.{mul_zero, one_mul}
-use Rattle.ff_ring.proofs.Polynomials.{length_product}
-use Rattle.ff_ring.proofs.Division.{IsDivision, one_way}
+use Rattle.ring_theory.specs.Ring.{CommRing, pow}
+use Rattle.ring_theory.proofs.Ring.{mul_zero, one_mul}
+use Rattle.ring_theory.proofs.Polynomials.{length_product}
+use Rattle.ring_theory.proofs.Division.{IsDivision, one_way}
 use Rattle.ff_fields.specs.Field.{CodeField}
 use Rattle.ff_fields.specs.Code.{code_ring, code_domain}
 use Rattle.ff_fields.specs.Over.{IsOver}

@@ -1,9 +1,9 @@
 -- Steps of the loop that multiplies modulo a polynomial.
 use Rattle.std.proofs.Common.{◌≡◌, ℕ, suc, ◌+◌, ◌-◌, ◌<◌, ◌≤◌, List, [], ◌∷◌, ◌++◌, length, get_or, take, drop, set, replicate, sym, ap, ap₂, ◌∙◌, arith}
 use Rattle.std.proofs.lemmas.List.{drop_more, drop_all, take_at}
-use Rattle.ff_ring.specs.Lists.{add_lists, scale_list}
-use Rattle.ff_ring.proofs.Ring.{zero_mul}
-use Rattle.ff_ring.proofs.Congruence.{congruent_same, congruent_trans}
+use Rattle.ring_theory.specs.Lists.{add_lists, scale_list}
+use Rattle.ring_theory.proofs.Ring.{zero_mul}
+use Rattle.ring_theory.proofs.Congruence.{congruent_same, congruent_trans}
 use Rattle.ff_fields.specs.Field.{FieldOps, CodeField}
 use Rattle.ff_fields.specs.Code.{raw_ring}
 use Rattle.ff_fields.specs.Over.{IsOver_zeros}
@@ -14,7 +14,7 @@ use Rattle.ff_factor.specs.Quotients.{IsModulus, times_x, product_modulo}
 use Rattle.ff_factor.specs.ListValues.{value_zeros}
 use Rattle.ff_factor.specs.QuotientLaws.{product_in, value_product_modulo, zero_class}
 
--- a list that is turned by one place, whose first code is then made 0
+-- a list that is turned by one position, whose first code is then made 0
 turned : (v : List ℕ) (m : ℕ) → length v ≡ suc m → set (drop m v ++ take m v) 0 0 ≡ take (suc m) (0 ∷ v)
 turned v m size = go (drop m v) (drop_more v m 0 (omega arith) ∙ ap (λ w. get_or v m 0 ∷ w) (drop_all (m + 1) v (omega arith)))
   where

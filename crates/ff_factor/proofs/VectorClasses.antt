@@ -1,11 +1,11 @@
 -- The vectors of k[x] modulo g as the image of k[x], and the values there of polynomials at powers of x.
 use Rattle.std.proofs.Common.{◌≡◌, ℕ, zero, suc, ◌-◌, ◌<◌, ◌^◌, ◌↔◌, ◌⊎◌, inl, inr, List, [], ◌∷◌, ◌++◌, length, map, refl, sym, ap, ap₂, ◌∙◌}
-use Rattle.ff_ring.specs.Ring.{CommRing, pow}
-use Rattle.ff_ring.specs.Congruence.{IsCongruent}
-use Rattle.ff_ring.proofs.Ring.{mul_zero, mul_pow}
-use Rattle.ff_ring.proofs.Congruence.{congruent_same, congruent_sym, congruent_trans, congruent_add, congruent_mul, congruent_refl}
-use Rattle.ff_ring.proofs.RowMaps.{IsHom, hom_zero}
-use Rattle.ff_ring.proofs.Evaluate.{evaluate}
+use Rattle.ring_theory.specs.Ring.{CommRing, pow}
+use Rattle.ring_theory.specs.Congruence.{IsCongruent}
+use Rattle.ring_theory.proofs.Ring.{mul_zero, mul_pow}
+use Rattle.ring_theory.proofs.Congruence.{congruent_same, congruent_sym, congruent_trans, congruent_add, congruent_mul, congruent_refl}
+use Rattle.ring_theory.proofs.RowMaps.{IsHom, hom_zero}
+use Rattle.ring_theory.proofs.Evaluate.{evaluate}
 use Rattle.ff_fields.specs.Field.{CodeField}
 use Rattle.ff_fields.specs.Code.{Code, code_ring, same_code, read_code, read_code_below}
 use Rattle.ff_fields.specs.Numbers.{read}

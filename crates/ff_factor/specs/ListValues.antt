@@ -1,12 +1,12 @@
 -- What sums, multiples, zeros and shifted lists of codes stand for, where zeros may be on top.
 use Rattle.std.proofs.Common.{◌≡◌, ℕ, zero, suc, ◌+◌, ◌-◌, ◌<◌, ◌≤◌, List, [], ◌∷◌, ◌++◌, length, get_or, replicate, refl, sym, ap, ap₂, ◌∙◌, subst, arith}
 use Rattle.std.proofs.lemmas.List.{length-map, get_or_push, length_push}
-use Rattle.ff_ring.specs.Lists.{coeff_of, add_lists, scale_list, IsTrimmed}
-use Rattle.ff_ring.proofs.Ring.{mul_zero}
-use Rattle.ff_ring.proofs.Sequences.{convolution_constant_left}
-use Rattle.ff_ring.proofs.Lists.{coeff_add, coeff_scale, IsTrimmed_push}
-use Rattle.ff_ring.proofs.Polynomials.{pol_ops, same_pol, series_add, series_mul}
-use Rattle.ff_ring.proofs.Evaluate.{length_trim}
+use Rattle.ring_theory.specs.Lists.{coeff_of, add_lists, scale_list, IsTrimmed}
+use Rattle.ring_theory.proofs.Ring.{mul_zero}
+use Rattle.ring_theory.proofs.Sequences.{convolution_constant_left}
+use Rattle.ring_theory.proofs.Lists.{coeff_add, coeff_scale, IsTrimmed_push}
+use Rattle.ring_theory.proofs.Polynomials.{pol_ops, same_pol, series_add, series_mul}
+use Rattle.ring_theory.proofs.Evaluate.{length_trim}
 use Rattle.ff_fields.specs.Field.{CodeField}
 use Rattle.ff_fields.specs.Code.{raw_ring, code_ring, same_code, read_code, read_code_below, zero_in, is_zero_code}
 use Rattle.ff_fields.specs.Numbers.{numbers, read, read_numbers, numbers_read, numbers_add, numbers_scale, numbers_get_or}

@@ -3,7 +3,7 @@ use Rattle.std.specs.Prelude.{ℕ, ◌-◌, ◌≤◌, List, [], ◌∷◌, leng
 use Rattle.ff_fields.specs.Field.{FieldOps}
 use Rattle.ff_fields.specs.Code.{raw_ring}
 use Rattle.ff_fields.specs.Over.{IsOver}
-use Rattle.ff_ring.specs.Lists.{add_lists, scale_list}
+use Rattle.ring_theory.specs.Lists.{add_lists, scale_list}
 use Rattle.ff_poly.specs.Words.{IsMonic}
 use Rattle.ff_falg.specs.Algebras.{AlgebraOps}
 
@@ -18,7 +18,7 @@ pub record IsMonicOverOne (g : List ℕ) : Type 0 where
   pub monic : IsMonic g
   pub not_constant : 2 ≤ length g
 
--- x times v: the codes move up one place, and the code that comes to the place of the leading 1 of g is taken away times g
+-- x times v: the codes move up one position, and the code that comes to the position of the leading 1 of g is taken away times g
 abbrev pub times_x : FieldOps → List ℕ → List ℕ → List ℕ
 times_x k g v =
     let n = length g - 1 in add_lists (raw_ring k) (take n (0 ∷ v)) (scale_list (raw_ring k) (k.neg (slice_index v (n - 1))) (take n g))

@@ -24,7 +24,7 @@ fn is_before(a: &Poly, b: &Poly) -> bool
     false
 }
 
-/// Puts p at its place among ascending polynomials, unless it is there.
+/// Puts p at its position among ascending polynomials, unless it is there.
 pub(crate) fn insert(polys: &mut Vec<Poly>, p: Poly) -> Result<(), AllocError>
     requires { AreAscending polys.old.items }
     ensures { OnOk result (IsWith polys.old.items p polys.new.items) }

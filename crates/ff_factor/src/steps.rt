@@ -21,7 +21,7 @@ fn trimmed_length(codes: &[u32]) -> usize
     0
 }
 
-/// Multiplies by x modulo g: the codes move up, and what comes to the place of the leading 1 is taken away times g.
+/// Multiplies by x modulo g: the codes move up, and what comes to the position of the leading 1 is taken away times g.
 fn multiply_by_x<K: SmallField>(k: &K, g: &[u32], codes: &mut [u32])
     requires g_in { IsOver (K.field k.now).ops g.now }
     requires some { 0 < length codes.old }

@@ -2,12 +2,12 @@
 use Rattle.std.proofs.Common.{◌≡◌, ℕ, zero, suc, ◌<◌, inl, inr, List, [], ◌∷◌, length, get_or, replicate, All, refl, sym, ap, ap₂, ◌∙◌, subst, arith}
 use Rattle.std.proofs.lemmas.List.{length-map}
 use Rattle.std.proofs.lemmas.List.Elements.{All-nil, All-cons, All-head, All-tail}
-use Rattle.ff_ring.specs.Ring.{CommRing}
-use Rattle.ff_ring.specs.Subsets.{Span}
-use Rattle.ff_ring.specs.Lists.{add_lists, scale_list}
-use Rattle.ff_ring.proofs.Finite.{In}
-use Rattle.ff_ring.proofs.Solver.{look}
-use Rattle.ff_ring.proofs.Subsets.{span_head, span_tail, span_zero}
+use Rattle.ring_theory.specs.Ring.{CommRing}
+use Rattle.ring_theory.specs.Subsets.{Span}
+use Rattle.ring_theory.specs.Lists.{add_lists, scale_list}
+use Rattle.ring_theory.proofs.Finite.{In}
+use Rattle.ring_theory.proofs.Solver.{look}
+use Rattle.ring_theory.proofs.Subsets.{span_head, span_tail, span_zero}
 use Rattle.ff_fields.specs.Field.{CodeField}
 use Rattle.ff_fields.specs.Code.{code_ring, raw_ring, zero_in}
 use Rattle.ff_fields.specs.Numbers.{numbers, IsOver_numbers}

@@ -2,8 +2,8 @@
 use Rattle.std.proofs.Common.{◌≡◌, ℕ, zero, suc, ◌+◌, ◌-◌, ◌<◌, ◌≤◌, ◌⊎◌, inl, inr, List, [], ◌∷◌, ◌++◌, length, get_or, drop, set, map, refl, sym, ap, ap₂, ◌∙◌, subst, arith}
 use native.Mathlib.Decide.{ℕ_discrete}
 use Rattle.std.proofs.Math.Seq.{drop-cons}
-use Rattle.ff_ring.specs.Lists.{neg_list}
-use Rattle.ff_ring.proofs.Finite.{In, IsDistinct}
+use Rattle.ring_theory.specs.Lists.{neg_list}
+use Rattle.ring_theory.proofs.Finite.{In, IsDistinct}
 use Rattle.ff_fields.specs.Field.{FieldOps, CodeField}
 use Rattle.ff_fields.specs.Code.{raw_ring}
 use Rattle.ff_fields.specs.Over.{IsOver, IsOver_nil, IsOver_cons, IsOver_head, IsOver_tail}
@@ -14,7 +14,7 @@ pub negatives : (k : FieldOps) (xs : List ℕ) → map k.neg xs ≡ neg_list (ra
 negatives k [] = refl
 negatives k (x ∷ xs) = ap (λ w. k.neg x ∷ w) (negatives k xs)
 
--- the rest of a list from the place before
+-- the rest of a list from the position before
 before : (xs : List ℕ) (j : ℕ) → 0 < j → j ≤ length xs → drop (j - 1) xs ≡ get_or xs (j - 1) 0 ∷ drop j xs
 before xs j some le =
     drop-cons xs (j - 1) 0 (omega arith) ∙ ap (λ i. get_or xs (j - 1) 0 ∷ drop i xs) (let e : suc (j - 1) ≡ j = omega arith in e)

@@ -9,11 +9,11 @@ use Rattle.std.proofs.lemmas.List.Sorted.{IsPermutation-keeps}
 use Rattle.std.specs.Prelude.{swap}
 use Rattle.std.specs.Ordering.{is_lt, nat_cmp, ordering_then}
 use Rattle.std.specs.Cmp.Lexicographic.{slice_cmp}
-use Rattle.ff_ring.proofs.Finite.{In, IsDistinct}
+use Rattle.ring_theory.proofs.Finite.{In, IsDistinct}
 use Rattle.ff_linalg.proofs.Reduction.{swap_here, swap_there, swap_other, length_swap}
 use Rattle.ff_falg.specs.Idempotents.{IsBefore, IsAscending, elements_of}
 
--- by places
+-- by positions
 
 pub in_at : (x : List ℕ) (xs : List (List ℕ)) → In x xs → (i : ℕ) × (i < length xs) × (get_or xs i [] ≡ x)
 in_at x [] i = absurd i
@@ -42,7 +42,7 @@ at_distinct (x ∷ xs) h = (
   at_distinct xs (λ i j l m e. let s : suc i ≡ suc j = h (suc i) (suc j) (omega arith) (omega arith) e in omega arith),
 )
 
--- where the element at a place stood before two were exchanged
+-- where the element at a position stood before two were exchanged
 record Moved (xs : List (List ℕ)) (p q j : ℕ) : Type 0 where
   from : ℕ
   from_in : from < length xs

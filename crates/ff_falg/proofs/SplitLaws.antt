@@ -1,11 +1,11 @@
 -- A fixed element splits an idempotent: the roots of its minimal polynomial there, and the parts at the roots.
 use Rattle.std.proofs.Common.{◌≡◌, ◌≢◌, ℕ, suc, ◌<◌, ◌≤◌, ◌⊎◌, inl, inr, List, [], ◌∷◌, ◌++◌, length, take, map, refl, sym, ap, ap₂, ◌∙◌, subst, arith}
 use Rattle.std.proofs.lemmas.List.{length-map, map-append}
-use Rattle.ff_ring.specs.Ring.{CommRing}
-use Rattle.ff_ring.specs.Lists.{scale_list}
-use Rattle.ff_ring.proofs.Ring.{zero_add}
-use Rattle.ff_ring.proofs.RowMaps.{hom_zero}
-use Rattle.ff_ring.proofs.Finite.{In, IsDistinct}
+use Rattle.ring_theory.specs.Ring.{CommRing}
+use Rattle.ring_theory.specs.Lists.{scale_list}
+use Rattle.ring_theory.proofs.Ring.{zero_add}
+use Rattle.ring_theory.proofs.RowMaps.{hom_zero}
+use Rattle.ring_theory.proofs.Finite.{In, IsDistinct}
 use Rattle.ff_fields.specs.Field.{CodeField}
 use Rattle.ff_fields.specs.Code.{Code, code_ring, raw_ring, read_code, read_code_below, same_code}
 use Rattle.ff_fields.specs.Numbers.{read}

@@ -3,10 +3,10 @@ use Rattle.std.proofs.Common.{◌≡◌, ℕ, ◌+◌, ◌<◌, ◌≤◌, inl, 
 use native.Mathlib.Decide.{ℕ_discrete}
 use Rattle.std.proofs.lemmas.List.{map-append}
 use Rattle.std.proofs.lemmas.List.Elements.{All-nil, All-cons, All-head, All-tail, All-map, All-weaker}
-use Rattle.ff_ring.specs.Ring.{CommRing}
-use Rattle.ff_ring.specs.Sums.{sum_over}
-use Rattle.ff_ring.specs.Lists.{add_lists}
-use Rattle.ff_ring.proofs.Finite.{In}
+use Rattle.ring_theory.specs.Ring.{CommRing}
+use Rattle.ring_theory.specs.Sums.{sum_over}
+use Rattle.ring_theory.specs.Lists.{add_lists}
+use Rattle.ring_theory.proofs.Finite.{In}
 use Rattle.ff_fields.specs.Field.{CodeField}
 use Rattle.ff_fields.specs.Code.{Code, raw_ring}
 use Rattle.ff_linalg.specs.Matrix.{MatrixValue, row_of}

@@ -1,6 +1,6 @@
 -- The words of the private contracts on idempotents that are split.
 use Rattle.std.specs.Prelude.{◌≡◌, ◌≢◌, ℕ, ◌<◌, ◌≤◌, ◌-◌, ◌⊎◌, List, [], ◌∷◌, ◌++◌, length, take, All}
-use Rattle.ff_ring.specs.Lists.{scale_list}
+use Rattle.ring_theory.specs.Lists.{scale_list}
 use Rattle.ff_fields.specs.Field.{FieldOps}
 use Rattle.ff_fields.specs.Code.{raw_ring}
 use Rattle.ff_linalg.specs.Matrix.{MatrixValue, row_of}
@@ -22,7 +22,7 @@ pub record IsSimple (k : FieldOps) (lower : List ℕ) (c : ℕ) : Type 0 where
   pub code : c < k.size
   pub weight : weight_of k lower c ≢ 0
 
--- idempotents that are not 0, with product 0 at different places
+-- idempotents that are not 0, with product 0 at different positions
 abbrev pub IsOrthogonal : FieldOps → AlgebraOps → List (List ℕ) → Type 0
 IsOrthogonal k A [] = Unit {0}
 IsOrthogonal k A (e ∷ es) =

@@ -3,7 +3,7 @@
 ghost use Rattle.std.specs.Prelude.{◌≡◌, ◌<◌, ◌≤◌, length, replicate, slice_set, IfOk};
 ghost use Rattle.ff_fields.specs.Code.{raw_ring};
 ghost use Rattle.ff_fields.specs.Over.{IsOver};
-ghost use Rattle.ff_ring.specs.Lists.{add_lists, scale_list};
+ghost use Rattle.ring_theory.specs.Lists.{add_lists, scale_list};
 ghost use Rattle.ff_linalg.specs.Matrix.{IsMatrixOver, HasShape};
 ghost use Rattle.ff_linalg.specs.Space.{product_of};
 ghost use Rattle.ff_linalg.specs.Steps.{unit_row};
@@ -32,7 +32,7 @@ pub(crate) fn zeros(alloc: Global, n: usize) -> Result<Vec<u32>, AllocError>
     vec![in alloc; 0; n]
 }
 
-/// n codes of which the one at place i is 1 and the others are 0.
+/// n codes of which the one at position i is 1 and the others are 0.
 pub(crate) fn unit(alloc: Global, n: usize, i: usize) -> Result<Vec<u32>, AllocError>
     requires { i < n }
     ensures { IfOk result (λ v. v.items ≡ unit_row n i) }

@@ -1,7 +1,7 @@
 //! Known answers over the field of 7 elements.
 
 ghost use Rattle.std.specs.Prelude.{◌≡◌, ◌<◌};
-ghost use Rattle.ff_falg.specs.Samples.{places_algebra, places_laws, root_algebra, root_laws};
+ghost use Rattle.ff_falg.specs.Samples.{positions_algebra, positions_laws, root_algebra, root_laws};
 
 use crate::{FiniteAlgebra, fixed, frobenius, idempotents, is_field, nilpotents};
 use ff_fields::field::SmallField;
@@ -12,14 +12,14 @@ use std::test::Fail;
 
 // n copies of the field.
 #[derive(Drop)]
-struct Places(usize);
+struct Positions(usize);
 
-impl<K: SmallField> FiniteAlgebra<K> for Places {
-    ghost algebra = { λ a. places_algebra a.0 };
+impl<K: SmallField> FiniteAlgebra<K> for Positions {
+    ghost algebra = { λ a. positions_algebra a.0 };
 
     ghost IsOver = { λ a k. Unit {0} };
 
-    ghost laws = { λ a k over. places_laws k a.0 };
+    ghost laws = { λ a k over. positions_laws k a.0 };
 
     fn dim(&self) -> usize {
         self.0
@@ -133,14 +133,14 @@ fn copies_of_the_field(rt: HostRuntime) -> Result<(), Fail> {
     let alloc = rt.alloc();
     let k = PrimeField::new(2)?;
     for n in 0..10 {
-        let a = Places(n);
+        let a = Positions(n);
         assert_eq!(rt; frobenius(alloc, &k, &a)?.rows(), n);
         assert_eq!(rt; nilpotents(alloc, &k, &a)?.rows(), 0);
         assert_eq!(rt; fixed(alloc, &k, &a)?.rows(), n);
         assert_eq!(rt; is_field(alloc, &k, &a)?, n == 1);
         assert_eq!(rt; idempotents(alloc, &k, &a)?.len(), n);
     }
-    let three = idempotents(alloc, &k, &Places(3))?;
+    let three = idempotents(alloc, &k, &Positions(3))?;
     assert!(rt; are(&three, &[[0, 0, 1], [0, 1, 0], [1, 0, 0]]));
     Ok(())
 }

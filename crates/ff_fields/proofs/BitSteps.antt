@@ -6,7 +6,7 @@ use Rattle.std.proofs.Math.Nat.{div-div-eq-div-mul, div-lt_iff_lt-mul, div-one, 
 use Rattle.std.proofs.lemmas.Nat.{xor_lt}
 use Rattle.std.proofs.lemmas.Nat.Bits.{bit_at_lowest, bit_at-suc, bit_at-zero, bit_at_xor, bit_at-lt, bit_at_above}
 use Rattle.std.proofs.lemmas.List.{drop_more, drop_all}
-use Rattle.ff_ring.specs.Lists.{add_lists, neg_list}
+use Rattle.ring_theory.specs.Lists.{add_lists, neg_list}
 use Rattle.ff_fields.specs.Prime.{prime_of}
 use Rattle.ff_fields.specs.Code.{raw_ring}
 use Rattle.ff_fields.specs.Residue.{digits, number, number_digits, length_digits, IsOver_digits, residue_mul}
@@ -14,16 +14,16 @@ use Rattle.ff_fields.specs.Modulus.{IsMonicModulus, IsReduction, stepped}
 use Rattle.ff_fields.proofs.ReduceSteps.{reduced_more, reduced_none}
 use Rattle.ff_fields.proofs.Products.{number_reduced}
 
--- the digits from a place on
-next_place : (c i : ℕ) → c / 2 ^ i / 2 ≡ c / 2 ^ suc i
-next_place c i = div-div-eq-div-mul c (2 ^ i) 2 ∙ ap (λ w. c / w) (sym (pow-suc 2 i))
+-- the digits from a position on
+next_position : (c i : ℕ) → c / 2 ^ i / 2 ≡ c / 2 ^ suc i
+next_position c i = div-div-eq-div-mul c (2 ^ i) 2 ∙ ap (λ w. c / w) (sym (pow-suc 2 i))
 
 xor_from : (m a b i : ℕ) → digits 2 m (bit_xor a b / 2 ^ i) ≡ add_lists (raw_ring (prime_of 2)) (digits 2 m (a / 2 ^ i)) (digits 2 m (b / 2 ^ i))
 xor_from zero a b i = refl
 xor_from (suc m) a b i =
     ap₂ ◌∷◌ (bit_at_xor a b i)
-    (ap (digits 2 m) (next_place (bit_xor a b) i) ∙ xor_from m a b (suc i)
-    ∙ ap₂ (λ x y. add_lists (raw_ring (prime_of 2)) (digits 2 m x) (digits 2 m y)) (sym (next_place a i)) (sym (next_place b i)))
+    (ap (digits 2 m) (next_position (bit_xor a b) i) ∙ xor_from m a b (suc i)
+    ∙ ap₂ (λ x y. add_lists (raw_ring (prime_of 2)) (digits 2 m x) (digits 2 m y)) (sym (next_position a i)) (sym (next_position b i)))
 
 whole : (c : ℕ) → c / 2 ^ 0 ≡ c
 whole c = ap (λ w. c / w) (pow-zero 2) ∙ div-one c
@@ -82,7 +82,7 @@ parity x (suc (suc t)) y w less = absurd (omega arith)
 power_pos : (m : ℕ) → 0 < 2 ^ m
 power_pos m = one-le-pow m 2 (lit< tt)
 
--- no bit from a place on
+-- no bit from a position on
 below_power : (m x : ℕ) → x < 2 ^ suc m → bit_at x m ≡ 0 → x < 2 ^ m
 below_power m x less none =
     let pos : 0 < 2 ^ m = power_pos m in

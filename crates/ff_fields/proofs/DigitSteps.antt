@@ -3,46 +3,46 @@ use Rattle.std.proofs.Common.{◌≡◌, ℕ, suc, ◌+◌, ◌-◌, ◌*◌, �
 use Rattle.std.proofs.lemmas.List.{append-nil, drop_more, length-drop, take_all, take_more_set}
 use Rattle.std.proofs.Math.Nat.{mul-le-mul_right, pow-le-pow_right, le_trans}
 use Rattle.ff_fields.specs.Code.{raw_ring}
-use Rattle.ff_ring.specs.Lists.{add_lists, neg_list}
+use Rattle.ring_theory.specs.Lists.{add_lists, neg_list}
 use Rattle.ff_fields.specs.Prime.{prime_of}
 use Rattle.ff_fields.specs.Over.{IsOver, IsOver_drop}
 use Rattle.ff_fields.specs.Residue.{digits, number, number_below}
 
--- what stands below a place and a digit at it stand below the next place
-pub next_low : (p sum place d : ℕ) → sum < place → d < p → sum + d * place < place * p
-next_low p sum place d low digit =
-    let rows : suc d * place ≤ p * place = mul-le-mul_right place digit in
-    omega (arith, rows, mul_comm place p)
+-- what stands below a position and a digit at it stand below the next position
+pub next_low : (p sum position d : ℕ) → sum < position → d < p → sum + d * position < position * p
+next_low p sum position d low digit =
+    let rows : suc d * position ≤ p * position = mul-le-mul_right position digit in
+    omega (arith, rows, mul_comm position p)
 
--- the next place is no larger than the size
-pub place_fits : (p m i : ℕ) → 0 < p → i < m → p ^ i * p ≤ p ^ m
-place_fits p m i pos less = le_trans (le_of_eq_lem (pow-suc p i)) (pow-le-pow_right pos less)
+-- the next position is no larger than the size
+pub position_fits : (p m i : ℕ) → 0 < p → i < m → p ^ i * p ≤ p ^ m
+position_fits p m i pos less = le_trans (le_of_eq_lem (pow-suc p i)) (pow-le-pow_right pos less)
   where
     le_of_eq_lem : p ^ suc i ≡ p ^ i * p → p ^ i * p ≤ p ^ suc i
     le_of_eq_lem e = omega (arith, e)
 
-regroup : (sum place d p rest : ℕ) → sum + place * (d + p * rest) ≡ sum + d * place + place * p * rest
-regroup sum place d p rest =
-    let out = mul-add place d (p * rest) in
-    let group = mul_assoc place p rest in
-    omega (arith, out, group, mul_comm place d)
+regroup : (sum position d p rest : ℕ) → sum + position * (d + p * rest) ≡ sum + d * position + position * p * rest
+regroup sum position d p rest =
+    let out = mul-add position d (p * rest) in
+    let group = mul_assoc position p rest in
+    omega (arith, out, group, mul_comm position d)
 
-pub next_kept : (p m i sum place x y total : ℕ) → i < m → sum + place * number p (add_lists (raw_ring (prime_of p)) (digits p (m - i) x) (digits p (m - i) y)) ≡ total → sum + (x % p + y % p) % p * place + place * p * number p (add_lists (raw_ring (prime_of p)) (digits p (m - (i + 1)) (x / p)) (digits p (m - (i + 1)) (y / p))) ≡ total
-next_kept p m i sum place x y total less kept =
+pub next_kept : (p m i sum position x y total : ℕ) → i < m → sum + position * number p (add_lists (raw_ring (prime_of p)) (digits p (m - i) x) (digits p (m - i) y)) ≡ total → sum + (x % p + y % p) % p * position + position * p * number p (add_lists (raw_ring (prime_of p)) (digits p (m - (i + 1)) (x / p)) (digits p (m - (i + 1)) (y / p))) ≡ total
+next_kept p m i sum position x y total less kept =
     let f = raw_ring (prime_of p) in
     let next : m - i ≡ suc (m - (i + 1)) = omega arith in
-    sym (regroup sum place ((x % p + y % p) % p) p (number p (add_lists f (digits p (m - (i + 1)) (x / p)) (digits p (m - (i + 1)) (y / p)))))
-    ∙ ap (λ n. sum + place * number p (add_lists f (digits p n x) (digits p n y))) (sym next)
+    sym (regroup sum position ((x % p + y % p) % p) p (number p (add_lists f (digits p (m - (i + 1)) (x / p)) (digits p (m - (i + 1)) (y / p)))))
+    ∙ ap (λ n. sum + position * number p (add_lists f (digits p n x) (digits p n y))) (sym next)
     ∙ kept
 
-pub at_end : (p m i sum place x y total : ℕ) → m ≤ i → sum + place * number p (add_lists (raw_ring (prime_of p)) (digits p (m - i) x) (digits p (m - i) y)) ≡ total → sum ≡ total
-at_end p m i sum place x y total over kept =
+pub at_end : (p m i sum position x y total : ℕ) → m ≤ i → sum + position * number p (add_lists (raw_ring (prime_of p)) (digits p (m - i) x) (digits p (m - i) y)) ≡ total → sum ≡ total
+at_end p m i sum position x y total over kept =
     let f = raw_ring (prime_of p) in
     let none : m - i ≡ 0 = omega arith in
-    nothing sum place ∙ ap (λ n. sum + place * number p (add_lists f (digits p n x) (digits p n y))) (sym none) ∙ kept
+    nothing sum position ∙ ap (λ n. sum + position * number p (add_lists f (digits p n x) (digits p n y))) (sym none) ∙ kept
   where
-    nothing : (sum place : ℕ) → sum ≡ sum + place * 0
-    nothing sum place = omega arith
+    nothing : (sum position : ℕ) → sum ≡ sum + position * 0
+    nothing sum position = omega arith
 
 pub at_start : (p m x y : ℕ) → 0 + 1 * number p (add_lists (raw_ring (prime_of p)) (digits p (m - 0) x) (digits p (m - 0) y)) ≡ number p (add_lists (raw_ring (prime_of p)) (digits p m x) (digits p m y))
 at_start p m x y =
@@ -55,22 +55,22 @@ at_start p m x y =
 
 -- ---- the same of the negative
 
-pub next_kept_neg : (p m i sum place x total : ℕ) → i < m → sum + place * number p (neg_list (raw_ring (prime_of p)) (digits p (m - i) x)) ≡ total → sum + (p - x % p) % p * place + place * p * number p (neg_list (raw_ring (prime_of p)) (digits p (m - (i + 1)) (x / p))) ≡ total
-next_kept_neg p m i sum place x total less kept =
+pub next_kept_neg : (p m i sum position x total : ℕ) → i < m → sum + position * number p (neg_list (raw_ring (prime_of p)) (digits p (m - i) x)) ≡ total → sum + (p - x % p) % p * position + position * p * number p (neg_list (raw_ring (prime_of p)) (digits p (m - (i + 1)) (x / p))) ≡ total
+next_kept_neg p m i sum position x total less kept =
     let f = raw_ring (prime_of p) in
     let next : m - i ≡ suc (m - (i + 1)) = omega arith in
-    sym (regroup sum place ((p - x % p) % p) p (number p (neg_list f (digits p (m - (i + 1)) (x / p)))))
-    ∙ ap (λ n. sum + place * number p (neg_list f (digits p n x))) (sym next)
+    sym (regroup sum position ((p - x % p) % p) p (number p (neg_list f (digits p (m - (i + 1)) (x / p)))))
+    ∙ ap (λ n. sum + position * number p (neg_list f (digits p n x))) (sym next)
     ∙ kept
 
-pub at_end_neg : (p m i sum place x total : ℕ) → m ≤ i → sum + place * number p (neg_list (raw_ring (prime_of p)) (digits p (m - i) x)) ≡ total → sum ≡ total
-at_end_neg p m i sum place x total over kept =
+pub at_end_neg : (p m i sum position x total : ℕ) → m ≤ i → sum + position * number p (neg_list (raw_ring (prime_of p)) (digits p (m - i) x)) ≡ total → sum ≡ total
+at_end_neg p m i sum position x total over kept =
     let f = raw_ring (prime_of p) in
     let none : m - i ≡ 0 = omega arith in
-    nothing sum place ∙ ap (λ n. sum + place * number p (neg_list f (digits p n x))) (sym none) ∙ kept
+    nothing sum position ∙ ap (λ n. sum + position * number p (neg_list f (digits p n x))) (sym none) ∙ kept
   where
-    nothing : (sum place : ℕ) → sum ≡ sum + place * 0
-    nothing sum place = omega arith
+    nothing : (sum position : ℕ) → sum ≡ sum + position * 0
+    nothing sum position = omega arith
 
 -- ---- digits are written, and read from the top
 

@@ -4,10 +4,10 @@ use Rattle.std.proofs.Common.{◌≡◌, ◌≢◌, ℕ, zero, suc, ◌+◌, ◌
 use Rattle.std.proofs.Math.Nat.{mul-le-mul_left, mul-le-mul_right, pow-le-pow_right, pow-zero, add-mul-mod_self_left, add-mul-div_left, div-eq_of_lt, le_trans}
 use Rattle.std.proofs.lemmas.Bool.{cases_lt}
 use Rattle.std.proofs.lemmas.List.{length-map}
-use Rattle.ff_ring.specs.Ring.{TestedRing}
-use Rattle.ff_ring.specs.Lists.{coeff_of, trim_onto, trim}
-use Rattle.ff_ring.proofs.Lists.{coeff_trim}
-use Rattle.ff_ring.proofs.Polynomials.{Pol, pol_ring, pol_ops, same_pol, coeff_top}
+use Rattle.ring_theory.specs.Ring.{TestedRing}
+use Rattle.ring_theory.specs.Lists.{coeff_of, trim_onto, trim}
+use Rattle.ring_theory.proofs.Lists.{coeff_trim}
+use Rattle.ring_theory.proofs.Polynomials.{Pol, pol_ring, pol_ops, same_pol, coeff_top}
 use Rattle.ff_fields.specs.Field.{CodeField}
 use Rattle.ff_fields.specs.Prime.{is_listed, prime_of, prime_field}
 use Rattle.ff_fields.specs.Code.{Code, code_ring, same_code, is_zero_code}
@@ -18,7 +18,7 @@ use Rattle.ff_fields.specs.Modulus.{IsMonicCode, polynomial}
 use Rattle.ff_fields.proofs.ReduceSteps.{read_at}
 
 module _ (p : ℕ) (pos : 0 < p) where
-  -- a number lies between its top digit and the next one, at its place
+  -- a number lies between its top digit and the next one, at its position
   pub number_from_top : (n : ℕ) (ds : List ℕ) → length ds ≡ suc n → get_or ds n 0 * p ^ n ≤ number p ds
   number_from_top n [] same = absurd (omega arith)
   number_from_top zero (d ∷ ds) same = omega (arith, pow-zero p, ap (λ w. d * w) (pow-zero p))

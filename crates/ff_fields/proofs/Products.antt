@@ -3,14 +3,14 @@ use Rattle.std.proofs.Common.{◌≡◌, ◌≢◌, ℕ, suc, ◌+◌, ◌-◌, 
 use Rattle.std.proofs.Math.Nat.{mul-le-mul_right, pow-le-pow_right}
 use Rattle.std.proofs.lemmas.Bool.{cases_lt}
 use Rattle.std.proofs.lemmas.List.{length-replicate}
-use Rattle.ff_ring.specs.Ring.{TestedRing}
-use Rattle.ff_ring.specs.Lists.{coeff_of}
-use Rattle.ff_ring.specs.Congruence.{IsCongruent}
-use Rattle.ff_ring.proofs.Ring.{zero_add, one_mul, mul_zero, domain_cancel}
-use Rattle.ff_ring.proofs.Congruence.{congruent_sym, congruent_trans, congruent_same}
-use Rattle.ff_ring.proofs.Sequences.{convolution_top}
-use Rattle.ff_ring.proofs.Polynomials.{Pol, pol_ring, pol_ops, pol_domain, series_mul, coeff_past, length_product}
-use Rattle.ff_ring.proofs.Division.{IsDivision, one_way}
+use Rattle.ring_theory.specs.Ring.{TestedRing}
+use Rattle.ring_theory.specs.Lists.{coeff_of}
+use Rattle.ring_theory.specs.Congruence.{IsCongruent}
+use Rattle.ring_theory.proofs.Ring.{zero_add, one_mul, mul_zero, domain_cancel}
+use Rattle.ring_theory.proofs.Congruence.{congruent_sym, congruent_trans, congruent_same}
+use Rattle.ring_theory.proofs.Sequences.{convolution_top}
+use Rattle.ring_theory.proofs.Polynomials.{Pol, pol_ring, pol_ops, pol_domain, series_mul, coeff_past, length_product}
+use Rattle.ring_theory.proofs.Division.{IsDivision, one_way}
 use Rattle.ff_fields.specs.Field.{CodeField}
 use Rattle.ff_fields.specs.Prime.{is_listed, prime_of, prime_field}
 use Rattle.ff_fields.specs.Code.{Code, code_ring, code_domain, same_code}
@@ -164,14 +164,14 @@ module _ (p m : ℕ) (modulus : List ℕ) (poly : IsMonicModulus p m modulus) wh
 
     c_top : coeff_of K.ops (of c).0 (m - e) ≡ K.𝟙
     c_top =
-        let places : e + (m - e) ≡ m = omega (arith, half) in
+        let positions : e + (m - e) ≡ m = omega (arith, half) in
         sym (one_mul K.ring _) ∙ ap (λ w. K.◌⊗◌ w (coeff_of K.ops (of c).0 (m - e))) (sym d_top.1)
         ∙ sym (convolution_top K.ring e (m - e) (coeff_of K.ops (of d).0) (coeff_of K.ops (of c).0)
         (λ i less. coeff_past K (of d).0 i (omega (arith, d_top.0, less)))
         (λ i less. coeff_past K (of c).0 i (omega (arith, c_long, less))))
         ∙ sym (series_mul K (of d) (of c) (e + (m - e)))
         ∙ ap (λ w. coeff_of K.ops w.0 (e + (m - e))) whole
-        ∙ ap (coeff_of K.ops F.0) places
+        ∙ ap (coeff_of K.ops F.0) positions
         ∙ F_top
 
     nonzero : (x : ℕ) → ¬ (of x ≡ s.𝟘) → x ≢ 0
@@ -271,10 +271,10 @@ monic_digit p e d listed monic =
 
 -- what the trial division wrote
 pub written_division : (p m : ℕ) (modulus : List ℕ) → IsMonicModulus p m modulus → (e d : ℕ) → 0 < e → e + e ≤ m → IsMonicCode p e d → (zeros one divisor q rest : List ℕ) → length zeros ≡ suc e → divisor ≡ digits p (length zeros) d → one ≡ unit_list (e - 1) → length q ≡ m → IsOver (prime_of p) q → length rest ≡ e → IsOver (prime_of p) rest → IsReduction p (take m modulus) one one q divisor rest → (number p rest ≡ 0 → IsFactor p m modulus d (number p q)) × (number p rest ≢ 0 → (c : ℕ) → c < p ^ m → ¬ IsFactor p m modulus d c)
-written_division p m modulus poly e d e_some half monic zeros one divisor q rest places divisor_is one_is q_long q_in rest_long rest_in done =
+written_division p m modulus poly e d e_some half monic zeros one divisor q rest positions divisor_is one_is q_long q_in rest_long rest_in done =
     let kept : IsReduction p (take m modulus) (unit_list (e - 1)) (unit_list (e - 1)) q (digits p (suc e) d) rest =
     subst (λ w. IsReduction p (take m modulus) w w q (digits p (suc e) d) rest) one_is
-    (subst (λ w. IsReduction p (take m modulus) one one q w rest) (divisor_is ∙ ap (λ n. digits p n d) places) done) in (
+    (subst (λ w. IsReduction p (take m modulus) one one q w rest) (divisor_is ∙ ap (λ n. digits p n d) positions) done) in (
       divides p m modulus poly e d e_some half monic (e - 1) q rest q_long q_in rest_long rest_in kept,
       divides_not p m modulus poly e d e_some half monic (e - 1) q rest q_long q_in rest_long rest_in kept,
     )

@@ -3,11 +3,11 @@ use Rattle.std.proofs.Common.{◌≡◌, ℕ, zero, suc, ◌+◌, ◌-◌, ◌*�
 use Rattle.std.proofs.Math.Nat.{mod-add-mod, add-mod-mod, add-mul-mod_self_left}
 use Rattle.std.proofs.lemmas.Bool.{cases_lt}
 use Rattle.std.proofs.lemmas.List.{get_or_default}
-use Rattle.ff_ring.specs.Ring.{CommRing, TestedRing}
-use Rattle.ff_ring.specs.Lists.{coeff_of, convolution, scale_list, mul_onto}
-use Rattle.ff_ring.proofs.Ring.{zero_add}
-use Rattle.ff_ring.proofs.Lists.{coeff_add, coeff_scale}
-use Rattle.ff_ring.proofs.Sequences.{convolution_null_left}
+use Rattle.ring_theory.specs.Ring.{CommRing, TestedRing}
+use Rattle.ring_theory.specs.Lists.{coeff_of, convolution, scale_list, mul_onto}
+use Rattle.ring_theory.proofs.Ring.{zero_add}
+use Rattle.ring_theory.proofs.Lists.{coeff_add, coeff_scale}
+use Rattle.ring_theory.proofs.Sequences.{convolution_null_left}
 use Rattle.ff_fields.specs.Field.{CodeField}
 use Rattle.ff_fields.specs.Prime.{is_listed, prime_of, prime_field}
 use Rattle.ff_fields.specs.Code.{Code, code_ring, same_code, read_code, read_code_below}
@@ -15,7 +15,7 @@ use Rattle.ff_fields.specs.Over.{IsOver, get_or_below}
 use Rattle.ff_fields.specs.Numbers.{read, numbers_read, numbers_get_or}
 use Rattle.ff_fields.specs.Modulus.{IsReduction, stepped}
 
--- each place of a list over the prime field is below p, also past its end
+-- each position of a list over the prime field is below p, also past its end
 pub digit_below : (p : ℕ) → IsTrue (is_listed p) → (codes : List ℕ) → IsOver (prime_of p) codes → (n : ℕ) → get_or codes n 0 < p
 digit_below p listed codes over n = get_or_below (prime_field p listed) codes n over
 
@@ -56,14 +56,14 @@ given_back p old m r t c less =
 
 -- ring equations of a step
 module _ {A : Type 0} (R : CommRing A) where
-  first_place : (new tm cb z : A) → z ≡ R.𝟘 → R.◌⊕◌ new tm ≡ R.◌⊕◌ cb z → R.◌⊕◌ z cb ≡ R.◌⊕◌ tm new
-  first_place new tm cb z null e = R.add_comm z cb ∙ sym e ∙ R.add_comm new tm
+  first_position : (new tm cb z : A) → z ≡ R.𝟘 → R.◌⊕◌ new tm ≡ R.◌⊕◌ cb z → R.◌⊕◌ z cb ≡ R.◌⊕◌ tm new
+  first_position new tm cb z null e = R.add_comm z cb ∙ sym e ∙ R.add_comm new tm
 
-  next_place : (new tm cb old w : A) → R.◌⊕◌ new tm ≡ R.◌⊕◌ cb old → R.◌⊕◌ (R.◌⊕◌ w old) cb ≡ R.◌⊕◌ (R.◌⊕◌ tm w) new
-  next_place new tm cb old w e =
+  next_position : (new tm cb old w : A) → R.◌⊕◌ new tm ≡ R.◌⊕◌ cb old → R.◌⊕◌ (R.◌⊕◌ w old) cb ≡ R.◌⊕◌ (R.◌⊕◌ tm w) new
+  next_position new tm cb old w e =
       R.add_assoc w old cb ∙ ap (R.◌⊕◌ w) (R.add_comm old cb ∙ sym e ∙ R.add_comm new tm) ∙ sym (R.add_assoc w tm new) ∙ ap (λ x. R.◌⊕◌ x new) (R.add_comm w tm)
 
--- what a step makes, at each place: the new rest and the multiple of the modulus are the old rest one place up and c · row
+-- what a step makes, at each position: the new rest and the multiple of the modulus are the old rest one position up and c · row
 module _ (p : ℕ) (listed : IsTrue (is_listed p)) where
   abbrev k : CodeField
   k = prime_field p listed
@@ -144,7 +144,7 @@ module _ (p : ℕ) (listed : IsTrue (is_listed p)) where
         carried zero = refl
         carried (suc n) = read_at before n before_in
 
-    -- one place more is reduced
+    -- one position more is reduced
     more_at : ((n : ℕ) → n < length before → get_or rest n 0 ≡ stepped p before c row (p - t) modulus n) → (a start quotient : List ℕ) → IsReduction p a row start quotient modulus before → (n : ℕ) → coeff_of K.ops (mul_onto K.ops (read k (c ∷ a)) (read k row) (read k start)) n ≡ K.◌⊕◌ (convolution K.ops (coeff_of K.ops (read k (t ∷ quotient))) (coeff_of K.ops (read k modulus)) n) (coeff_of K.ops (read k rest) n)
     more_at each a start quotient done n =
         coeff_add K (K.𝟘 ∷ mul_onto K.ops (read k a) (read k row) (read k start)) (scale_list K.ops v (read k row)) n
@@ -152,10 +152,10 @@ module _ (p : ℕ) (listed : IsTrue (is_listed p)) where
         ∙ go n
       where
         go : (n : ℕ) → K.◌⊕◌ (coeff_of K.ops (K.𝟘 ∷ mul_onto K.ops (read k a) (read k row) (read k start)) n) (K.◌⊗◌ v (coeff_of K.ops (read k row) n)) ≡ K.◌⊕◌ (convolution K.ops (coeff_of K.ops (read k (t ∷ quotient))) (coeff_of K.ops (read k modulus)) n) (coeff_of K.ops (read k rest) n)
-        go zero = first_place K.ring _ _ _ _ refl (step_at each zero)
+        go zero = first_position K.ring _ _ _ _ refl (step_at each zero)
         go (suc n) =
             ap (λ w. K.◌⊕◌ w (K.◌⊗◌ v (coeff_of K.ops (read k row) (suc n)))) (done.whole listed n)
-            ∙ next_place K.ring _ _ _ _ _ (step_at each (suc n))
+            ∙ next_position K.ring _ _ _ _ _ (step_at each (suc n))
 
 pub reduced_more : (p : ℕ) (before row modulus rest : List ℕ) (c : ℕ) → 0 < length before → c < p → length row ≡ length before → length modulus ≡ length before + 1 → get_or modulus (length before) 0 ≡ 1 → IsOver (prime_of p) before → IsOver (prime_of p) row → IsOver (prime_of p) modulus → length rest ≡ length before → ((n : ℕ) → n < length before → get_or rest n 0 ≡ stepped p before c row (p - get_or before (length before - 1) 0) modulus n) → (a start quotient : List ℕ) → IsReduction p a row start quotient modulus before → IsReduction p (c ∷ a) row start (get_or before (length before - 1) 0 ∷ quotient) modulus rest
 reduced_more p before row modulus rest c some c_in row_long modulus_long monic before_in row_in modulus_in rest_long each a start quotient done = record {

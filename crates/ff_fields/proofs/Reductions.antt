@@ -1,13 +1,13 @@
 -- Reductions as equations of polynomials.
 use Rattle.std.proofs.Common.{◌≡◌, ℕ, zero, suc, ◌^◌, ◌<◌, ◌≤◌, List, [], ◌∷◌, ◌++◌, length, get_or, take, replicate, IsTrue, refl, sym, ap, ap₂, ◌∙◌, arith}
 use mathlib.Core.Path.{fun_ext}
-use Rattle.ff_ring.specs.Ring.{TestedRing}
-use Rattle.ff_ring.specs.Lists.{coeff_of, convolution, mul_onto, scale_list}
-use Rattle.ff_ring.proofs.Ring.{zero_add, mul_zero}
-use Rattle.ff_ring.proofs.Sequences.{convolution_comm}
-use Rattle.ff_ring.proofs.Lists.{coeff_trim, coeff_add, coeff_scale, coeff_mul, coeff_mul_onto}
-use Rattle.ff_ring.proofs.Polynomials.{Pol, pol_ring, same_pol, series_add, series_mul}
-use Rattle.ff_ring.proofs.Division.{length_bound}
+use Rattle.ring_theory.specs.Ring.{TestedRing}
+use Rattle.ring_theory.specs.Lists.{coeff_of, convolution, mul_onto, scale_list}
+use Rattle.ring_theory.proofs.Ring.{zero_add, mul_zero}
+use Rattle.ring_theory.proofs.Sequences.{convolution_comm}
+use Rattle.ring_theory.proofs.Lists.{coeff_trim, coeff_add, coeff_scale, coeff_mul, coeff_mul_onto}
+use Rattle.ring_theory.proofs.Polynomials.{Pol, pol_ring, same_pol, series_add, series_mul}
+use Rattle.ring_theory.proofs.Division.{length_bound}
 use Rattle.ff_fields.specs.Field.{CodeField}
 use Rattle.ff_fields.specs.Prime.{is_listed, prime_of, prime_field}
 use Rattle.ff_fields.specs.Code.{Code, code_ring, same_code, read_code_below}

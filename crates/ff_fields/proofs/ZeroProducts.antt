@@ -3,13 +3,13 @@
 use Rattle.std.proofs.Common.{◌≡◌, ℕ, zero, suc, ◌+◌, ◌-◌, ◌<◌, ◌≤◌, [], ◌∷◌, length, IsTrue, ◌⊎◌, inl, inr, refl, sym, ap, ap₂, ◌∙◌, arith, subst}
 use Rattle.std.proofs.lemmas.Bool.{cases_lt, cases_eq}
 use mathlib.Core.Path.{fun_ext}
-use Rattle.ff_ring.specs.Ring.{CommRing, TestedRing, IsDomain}
-use Rattle.ff_ring.specs.Lists.{coeff_of, convolution, rest_from, quotient_from}
-use Rattle.ff_ring.proofs.Ring.{one_mul, mul_zero, mul_neg, add_mul, mul_left_comm}
-use Rattle.ff_ring.proofs.Sequences.{convolution_comm, convolution_constant_left}
-use Rattle.ff_ring.proofs.Lists.{coeff_trim}
-use Rattle.ff_ring.proofs.Polynomials.{Pol, pol_of, pol_ring, pol_ops, pol_domain, same_pol, series_add, series_mul, coeff_past, length_from_top, length_product}
-use Rattle.ff_ring.proofs.Division.{divided, rest_ends, length_bound, short_multiple}
+use Rattle.ring_theory.specs.Ring.{CommRing, TestedRing, IsDomain}
+use Rattle.ring_theory.specs.Lists.{coeff_of, convolution, rest_from, quotient_from}
+use Rattle.ring_theory.proofs.Ring.{one_mul, mul_zero, mul_neg, add_mul, mul_left_comm}
+use Rattle.ring_theory.proofs.Sequences.{convolution_comm, convolution_constant_left}
+use Rattle.ring_theory.proofs.Lists.{coeff_trim}
+use Rattle.ring_theory.proofs.Polynomials.{Pol, pol_of, pol_ring, pol_ops, pol_domain, same_pol, series_add, series_mul, coeff_past, length_from_top, length_product}
+use Rattle.ring_theory.proofs.Division.{divided, rest_ends, length_bound, short_multiple}
 use Rattle.ff_fields.specs.Field.{CodeField}
 use Rattle.ff_fields.specs.Prime.{is_listed, prime_field}
 use Rattle.ff_fields.specs.Code.{Code, code_ring, code_field, code_domain, same_code}

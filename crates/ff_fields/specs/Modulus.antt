@@ -1,7 +1,7 @@
 -- What a modulus must be, and what stands in the way of a field.
 use Rattle.std.specs.Prelude.{◌≡◌, ◌≢◌, ℕ, suc, ◌+◌, ◌*◌, ◌%◌, ◌^◌, ◌<◌, ◌≤◌, List, ◌∷◌, length, get_or, IsTrue}
-use Rattle.ff_ring.specs.Lists.{coeff_of, convolution, mul_onto}
-use Rattle.ff_ring.proofs.Polynomials.{Pol, pol_of, pol_ring}
+use Rattle.ring_theory.specs.Lists.{coeff_of, convolution, mul_onto}
+use Rattle.ring_theory.proofs.Polynomials.{Pol, pol_of, pol_ring}
 use Rattle.ff_fields.specs.declared.fault.FieldFault.{FieldFault}
 use Rattle.ff_fields.specs.declared.fault.FieldFault.TheVariants.{FieldSize, CodeRange, NotMonic, NotField}
 use Rattle.ff_fields.specs.Field.{CodeField}
@@ -19,11 +19,11 @@ pub record IsFieldSize (p m : ℕ) : Type 0 where
 
 -- c is the first of the coefficients that is p or more
 pub record IsFirstOutside (p : ℕ) (modulus : List ℕ) (c : ℕ) : Type 0 where
-  pub place : ℕ
-  pub within : place < length modulus
-  pub is : get_or modulus place 0 ≡ c
+  pub position : ℕ
+  pub within : position < length modulus
+  pub is : get_or modulus position 0 ≡ c
   pub outside : p ≤ c
-  pub before : (i : ℕ) → i < place → get_or modulus i 0 < p
+  pub before : (i : ℕ) → i < position → get_or modulus i 0 < p
 
 -- a monic polynomial of degree m over the prime field
 pub record IsMonicModulus (p m : ℕ) (modulus : List ℕ) : Type 0 where
@@ -85,7 +85,7 @@ pub record IsMonicCode (p e d : ℕ) : Type 0 where
 abbrev pub NoFactorBelow : ℕ → ℕ → List ℕ → ℕ → Type 0
 NoFactorBelow p m modulus bound = (e d c : ℕ) → 0 < e → e + e ≤ m → IsMonicCode p e d → d < bound → c < p ^ m → ¬ IsFactor p m modulus d c
 
--- a · b and `before`, moved up by as many places as a has, make quotient · modulus and the rest
+-- a · b and `before`, moved up by as many positions as a has, make quotient · modulus and the rest
 pub record IsReduction (p : ℕ) (a b before quotient modulus rest : List ℕ) : Type 0 where
   pub whole : (listed : IsTrue (is_listed p)) →
       let k = prime_field p listed in

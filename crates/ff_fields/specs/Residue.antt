@@ -8,16 +8,16 @@ use Rattle.std.proofs.lemmas.Bool.{cases_lt, cases_eq}
 use mathlib.Core.Path.{fun_ext}
 use native.Mathlib.Nat.{ℕ_set}
 use mathlib.Core.HLevel.{Σ_prop_path}
-use Rattle.ff_ring.specs.Ring.{Operations, CommRing, TestedRing, IsDomain, pow}
-use Rattle.ff_ring.specs.Lists.{coeff_of, convolution, add_lists, neg_list, mul_lists, rest_from, quotient_from}
-use Rattle.ff_ring.specs.Congruence.{IsCongruent, Represents}
-use Rattle.ff_ring.proofs.Ring.{zero_add, neg_add, zero_mul, one_mul, mul_zero, neg_zero, cross}
-use Rattle.ff_ring.proofs.Sequences.{convolution_comm}
-use Rattle.ff_ring.proofs.Lists.{coeff_add, coeff_mul, coeff_neg, coeff_trim, coeff_append_zeros, length_add_lists, length_neg_list}
-use Rattle.ff_ring.proofs.Polynomials.{Pol, pol_of, pol_ops, pol_ring, same_pol, series_add, series_neg, series_mul, coeff_past, length_from_top}
-use Rattle.ff_ring.proofs.Division.{divided, rest_ends, length_bound, length_add, length_neg, length_rest_from, short_multiple}
-use Rattle.ff_ring.proofs.Congruence.{congruent_sym, congruent_same, represented_ring}
-use Rattle.ff_ring.proofs.Finite.{power_all, codes_to, length_codes_to, codes_to_some, codes_to_distinct, codes_to_all}
+use Rattle.ring_theory.specs.Ring.{Operations, CommRing, TestedRing, IsDomain, pow}
+use Rattle.ring_theory.specs.Lists.{coeff_of, convolution, add_lists, neg_list, mul_lists, rest_from, quotient_from}
+use Rattle.ring_theory.specs.Congruence.{IsCongruent, Represents}
+use Rattle.ring_theory.proofs.Ring.{zero_add, neg_add, zero_mul, one_mul, mul_zero, neg_zero, cross}
+use Rattle.ring_theory.proofs.Sequences.{convolution_comm}
+use Rattle.ring_theory.proofs.Lists.{coeff_add, coeff_mul, coeff_neg, coeff_trim, coeff_append_zeros, length_add_lists, length_neg_list}
+use Rattle.ring_theory.proofs.Polynomials.{Pol, pol_of, pol_ops, pol_ring, same_pol, series_add, series_neg, series_mul, coeff_past, length_from_top}
+use Rattle.ring_theory.proofs.Division.{divided, rest_ends, length_bound, length_add, length_neg, length_rest_from, short_multiple}
+use Rattle.ring_theory.proofs.Congruence.{congruent_sym, congruent_same, represented_ring}
+use Rattle.ring_theory.proofs.Finite.{power_all, codes_to, length_codes_to, codes_to_some, codes_to_distinct, codes_to_all}
 use Rattle.ff_fields.specs.Field.{FieldOps, FieldLaws, CodeField, pow_of}
 use Rattle.ff_fields.specs.Prime.{is_listed, prime_of, prime_field}
 use Rattle.ff_fields.specs.Code.{raw_ring, Code, code_ring, code_domain, read_code, same_code}
@@ -204,7 +204,7 @@ module _ (p : ℕ) (listed : IsTrue (is_listed p)) (m : ℕ) (some : 0 < m) (mod
       length-take-le m (product_list a b)
       (omega (arith, length_rest_from K.ops modulus_codes K.𝟙 (mul_lists K.ops (digit_codes a) (digit_codes b)), length_modulus_codes))
 
-  -- nothing is lost where the product is cut at m places
+  -- nothing is lost where the product is cut at m positions
   coeff_part : (a b n : ℕ) → coeff_of K.ops (take m (product_list a b)) n ≡ coeff_of K.ops (product_list a b) n
   unfolding product_list
   coeff_part a b n = go (cases_lt n m)

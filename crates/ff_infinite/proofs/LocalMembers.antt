@@ -1,33 +1,33 @@
 -- Membership over the fractions of degree at most 0 is membership over k[t], once the denominator is a power of t.
 use Rattle.std.proofs.Common.{◌≡◌, ◌↔◌, All, ℕ, zero, suc, ◌-◌, ◌≤◌, Bool, IsTrue, List, [], ◌∷◌, ◌++◌, map, get_or, replicate, refl, sym, ◌∙◌, ap, ap₂, subst}
 use Rattle.std.proofs.lemmas.List.Elements.{All-head, All-tail}
-use Rattle.ff_ring.specs.Ring.{pow}
-use Rattle.ff_ring.specs.Subsets.{Span}
-use Rattle.ff_ring.proofs.Ring.{one_mul, zero_add}
-use Rattle.ff_ring.proofs.Subsets.{span_module}
-use Rattle.ff_ring.proofs.Solver.{ring, reads, from_two}
+use Rattle.ring_theory.specs.Ring.{pow}
+use Rattle.ring_theory.specs.Subsets.{Span}
+use Rattle.ring_theory.proofs.Ring.{one_mul, zero_add}
+use Rattle.ring_theory.proofs.Subsets.{span_module}
+use Rattle.ring_theory.proofs.Solver.{ring, reads, from_two}
 use Rattle.ff_fields.specs.Field.{CodeField}
 use Rattle.ff_fields.specs.Over.{IsOver}
 use Rattle.ff_poly.specs.Words.{IsPoly}
 use Rattle.ff_poly.specs.Value.{value}
 use Rattle.ff_poly.specs.Popov.{IsRow}
 use Rattle.ff_poly.specs.Polynomials.{Polynomial, polynomials, value_cons, value_one, x_poly}
-use Rattle.ff_algebra.specs.declared.elem.Side.TheVariants.{Infinite}
-use Rattle.ff_algebra.specs.Functions.{of_poly, over, row_of, IsPolynomial}
-use Rattle.ff_algebra.specs.Values.{PresValue, ElemValue, IsElem, IsMonicElem, Functions, functions, setting, equation_of, row_of_list, row_over, function_of}
-use Rattle.ff_algebra.specs.Infinity.{variable, function_on, IsInfinitePresentation}
-use Rattle.ff_algebra.specs.InfiniteSpans.{InInfiniteSpan}
-use Rattle.ff_algebra.proofs.OnSide.{den_inverse}
-use Rattle.ff_algebra.proofs.SameValues.{row_over_num, row_over_den, monic_some, elem_den}
-use Rattle.ff_algebra.proofs.ScalarRings.{polynomials_subring}
+use Rattle.function_field.specs.declared.side.Side.TheVariants.{Infinite}
+use Rattle.function_field.specs.Functions.{of_poly, over, row_of, IsPolynomial}
+use Rattle.function_field.specs.Values.{PresValue, ElemValue, IsElem, IsMonicElem, Functions, functions, setting, equation_of, row_of_list, row_over, function_of}
+use Rattle.function_field.specs.Infinity.{variable, function_on, IsInfinitePresentation}
+use Rattle.function_field.specs.InfiniteSpans.{InInfiniteSpan}
+use Rattle.function_field.proofs.OnSide.{den_inverse}
+use Rattle.function_field.proofs.SameValues.{row_over_num, row_over_den, monic_some, elem_den}
+use Rattle.function_field.proofs.ScalarRings.{polynomials_subring}
 use Rattle.places_theory.proofs.YRoot.{poly_hom, at_y, den_times, at_y_plain}
 use Rattle.places_theory.proofs.AtInfinity.{constant_zero, x_power_not_zero, x_power, at_codes, value_at_is}
 use Rattle.places_theory.proofs.PresentationMap.{presentation_map}
 use Rattle.order_theory.specs.Orders.{IsPrimeTo}
-use Rattle.side_theory.specs.Tame.{IsTame, HasPowerDenominator, IsLocallyIn}
-use Rattle.side_theory.specs.InfiniteMaps.{IsInfiniteMap}
-use Rattle.side_theory.proofs.InfiniteTransport.{x_irreducible, infinite_map}
-use Rattle.side_theory.proofs.TameLattices.{local_member}
+use Rattle.infinite_theory.specs.Supported.{IsSupportedAt, HasPowerDenominator, IsLocallyIn}
+use Rattle.infinite_theory.specs.InfiniteMaps.{IsInfiniteMap}
+use Rattle.infinite_theory.proofs.InfiniteTransport.{x_irreducible, infinite_map}
+use Rattle.infinite_theory.proofs.SupportedLattices.{local_member}
 use Rattle.ff_lattice.specs.Lattices.{LatticeValue, IsLattice, Contains, elems_over, row_elems}
 use Rattle.ff_infinite.specs.Steps.{IsFreed}
 use Rattle.ff_infinite.proofs.LowZeros.{over_right}
@@ -132,7 +132,7 @@ module _ (k : CodeField) (p q : PresValue) (c : ℕ) (h : IsInfinitePresentation
         value = m.values (value k u) ∙ sym (at_codes k p (variable k p Infinite) (value k u)) ∙ sym (value_at_is k p (variable k p Infinite) u);
       })
 
-  pub local_members : (l : LatticeValue) → IsLattice k.ops q.n l → IsTame (equation_of k q) (x_poly k) (Contains k q l)
+  pub local_members : (l : LatticeValue) → IsLattice k.ops q.n l → IsSupportedAt (equation_of k q) (x_poly k) (Contains k q l)
       → (z : Functions k p) (w v : ElemValue) → IsElem k.ops q.n w → IsMonicElem w → function_on k p c Infinite w ≡ z → (e : IsFreed k w v)
       → (b : Bool) → IsTrue b ↔ Contains k q l (function_of k q v) → IsTrue b ↔ InInfiniteSpan k p c (row_elems l) z
   local_members l l_in tame z w v w_in w_monic z_is e b decided = (

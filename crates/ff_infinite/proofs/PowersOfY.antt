@@ -3,8 +3,8 @@ use Rattle.std.proofs.Common.{◌≡◌, ◌↔◌, All, ℕ, suc, ◌+◌, ◌-
 use Rattle.std.proofs.lemmas.Bool.{cases_lt}
 use Rattle.std.proofs.lemmas.List.{same_lists, length-append, length-map, get_or-map, get_or_append_left, get_or_at}
 use Rattle.std.proofs.lemmas.List.Elements.{All-nil, All-push}
-use Rattle.ff_ring.specs.Rows.{Row, row_scale}
-use Rattle.ff_ring.specs.Subsets.{Span}
+use Rattle.ring_theory.specs.Rows.{Row, row_scale}
+use Rattle.ring_theory.specs.Subsets.{Span}
 use Rattle.ff_fields.specs.Field.{CodeField}
 use Rattle.ff_fields.specs.Code.{code_field}
 use Rattle.ff_poly.specs.Value.{value}
@@ -12,14 +12,14 @@ use Rattle.ff_poly.specs.Polynomials.{Polynomial, polynomials, polynomials_domai
 use Rattle.popov_theory.proofs.Dimension.{units, units_at, units_length, in_units}
 use Rattle.ff_popov.specs.Reading.{row_space}
 use Rattle.ff_popov.proofs.Measures.{space_width}
-use Rattle.ff_algebra.specs.Functions.{of_poly, over, IsPolynomial}
-use Rattle.ff_algebra.specs.Values.{ElemValue, PresValue, IsElem, Functions, functions, equation_of, function_of}
+use Rattle.function_field.specs.Functions.{of_poly, over, IsPolynomial}
+use Rattle.function_field.specs.Values.{ElemValue, PresValue, IsElem, Functions, functions, equation_of, function_of}
 use Rattle.trace_theory.specs.Traces.{HasPolynomialCoordinates}
 use Rattle.lattice_theory.proofs.Operations.{polynomial_lattice}
 use Rattle.lattice_theory.proofs.Parts.{span_of_rows, rows_of_span}
-use Rattle.side_theory.specs.Tame.{IsTame}
-use Rattle.side_theory.proofs.InfiniteTransport.{x_irreducible}
-use Rattle.side_theory.proofs.TameLattices.{coordinates_ring, coordinates_tame}
+use Rattle.infinite_theory.specs.Supported.{IsSupportedAt}
+use Rattle.infinite_theory.proofs.InfiniteTransport.{x_irreducible}
+use Rattle.infinite_theory.proofs.SupportedLattices.{coordinates_ring, coordinates_supported}
 use Rattle.ff_lattice.specs.Lattices.{LatticeValue, IsLattice, Contains, InSpanOf, IsFull}
 use Rattle.ff_lattice.specs.Orders.{IsOrder}
 use Rattle.ff_lattice.specs.Steps.{unit_row}
@@ -32,7 +32,7 @@ module _ (k : CodeField) (q : PresValue) where
   abbrev over_one : Row (Polynomial k) (suc (q.n - 1)) → Functions k q
   over_one v = over (equation_of k q) v (polynomials k).𝟙 (polynomials_domain k).one_not_zero
 
-  -- the row that is 1 at the place j alone, as a function
+  -- the row that is 1 at the position j alone, as a function
   abbrev unit_function : ℕ → Functions k q
   unit_function j = over_one ((row_space k q.n).unit j)
 
@@ -134,9 +134,9 @@ module _ (k : CodeField) (q : PresValue) where
       product_in = λ u v u_in v_in. (members _).1 ((coordinates_ring (equation_of k q)).product_in u v ((members u).0 u_in) ((members v).0 v_in));
     }
 
-    pub start_tame : IsTame (equation_of k q) (x_poly k) (Contains k q l)
-    start_tame =
-        let t = coordinates_tame (equation_of k q) (x_poly k) (x_irreducible k) in
+    pub start_supported : IsSupportedAt (equation_of k q) (x_poly k) (Contains k q l)
+    start_supported =
+        let t = coordinates_supported (equation_of k q) (x_poly k) (x_irreducible k) in
         record { exponent = t.exponent; has = λ i less. (members _).1 (t.has i less); within = λ z m. t.within z ((members z).0 m) }
 
 -- the lattice that they span, in the words of the presentation q' that the calls are given

@@ -1,7 +1,7 @@
 -- The words of the private contracts.
 use Rattle.std.specs.Prelude.{◌≡◌, ℕ, List, [], ◌∷◌, ◌++◌, get_or, replicate}
 use Rattle.ff_fields.specs.Field.{CodeField}
-use Rattle.ff_algebra.specs.Values.{ElemValue, PresValue, function_of}
+use Rattle.function_field.specs.Values.{ElemValue, PresValue, function_of}
 
 -- v is w over the power of the variable that divides w's denominator, without the rest of it
 pub record IsFreed (k : CodeField) (w v : ElemValue) : Type 0 where

@@ -3,10 +3,10 @@
 ghost use Rattle.std.specs.Prelude.{◌≡◌, ◌≢◌, ℕ, ◌<◌, ◌≤◌, ◌↔◌, length, slice_index, IfOk, IsTrue};
 ghost use Rattle.ff_fields.specs.Field.{CodeField};
 ghost use Rattle.ff_poly.specs.Polynomials.{x_poly};
-ghost use Rattle.ff_algebra.specs.Values.{IsElem, equation_of, function_of};
-ghost use Rattle.ff_algebra.specs.Curves.{IsCurve};
-ghost use Rattle.ff_algebra.specs.InfiniteSpans.{InInfiniteSpan};
-ghost use Rattle.side_theory.specs.Tame.{IsTame};
+ghost use Rattle.function_field.specs.Values.{IsElem, equation_of, function_of};
+ghost use Rattle.function_field.specs.Curves.{IsCurve};
+ghost use Rattle.function_field.specs.InfiniteSpans.{InInfiniteSpan};
+ghost use Rattle.infinite_theory.specs.Supported.{IsSupportedAt};
 ghost use Rattle.ff_lattice.specs.Lattices.{LatticeValue, IsLattice, Contains, row_elems};
 ghost use Rattle.ff_infinite.specs.Steps.{IsFreed};
 
@@ -32,7 +32,7 @@ pub fn local_contains<K: SmallField>(
     requires curve { IsCurve (K.field k.now) c.now }
     requires l_form { IsLattice (K.field k.now).ops c.now.inf.n l.now }
     requires tame { let k = K.field k.now in
-        IsTame (equation_of k c.now.inf) (x_poly k) (Contains k c.now.inf l.now) }
+        IsSupportedAt (equation_of k c.now.inf) (x_poly k) (Contains k c.now.inf l.now) }
     requires z_in { IsElem (K.field k.now).ops c.now.fin.n z.now }
     ensures { let k = K.field k.now in
         IfOk result (λ r.

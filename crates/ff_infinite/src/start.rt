@@ -2,9 +2,9 @@
 
 ghost use Rattle.std.specs.Prelude.{◌≡◌, ◌↔◌, IfOk};
 ghost use Rattle.ff_poly.specs.Polynomials.{x_poly};
-ghost use Rattle.ff_algebra.specs.Values.{PresValue, Functions, equation_of};
+ghost use Rattle.function_field.specs.Values.{PresValue, Functions, equation_of};
 ghost use Rattle.trace_theory.specs.Traces.{HasPolynomialCoordinates};
-ghost use Rattle.side_theory.specs.Tame.{IsTame};
+ghost use Rattle.infinite_theory.specs.Supported.{IsSupportedAt};
 ghost use Rattle.ff_lattice.specs.Lattices.{LatticeValue, Contains};
 ghost use Rattle.ff_lattice.specs.Orders.{IsOrder};
 
@@ -22,7 +22,7 @@ pub fn infinite_start<K: SmallField>(alloc: Global, k: &K, c: &Curve) -> Result<
     ensures members { let k = K.field k.now in
         IfOk result (λ o. (z : Functions k c.now.inf) → Contains k c.now.inf o z ↔ HasPolynomialCoordinates (equation_of k c.now.inf) z) }
     ensures tame { let k = K.field k.now in
-        IfOk result (λ o. IsTame (equation_of k c.now.inf) (x_poly k) (Contains k c.now.inf o)) }
+        IfOk result (λ o. IsSupportedAt (equation_of k c.now.inf) (x_poly k) (Contains k c.now.inf o)) }
 {
     let p = c.inf();
     let mut powers = Vec::new(alloc);

@@ -3,8 +3,8 @@
 
 ghost use Rattle.std.specs.Prelude.{◌≡◌, ◌<◌, ◌≤◌, length, All, IfOk};
 ghost use Rattle.ff_fields.specs.Over.{IsOver};
-ghost use Rattle.ff_algebra.specs.Values.{IsElem};
-ghost use Rattle.ff_algebra.specs.Curves.{IsCurve};
+ghost use Rattle.function_field.specs.Values.{IsElem};
+ghost use Rattle.function_field.specs.Curves.{IsCurve};
 
 use crate::{infinite_start, local_contains};
 use ff_algebra::{Curve, Elem, to_inf};

@@ -3,9 +3,9 @@ use Rattle.std.proofs.Common.{◌≡◌, ℕ, zero, suc, ◌+◌, ◌-◌, ◌*�
 use Rattle.std.proofs.lemmas.Bool.{cases_lt, ltb-true, lt-ltb, le-ltb}
 use Rattle.std.proofs.lemmas.Nat.{div-mul-add, mod-mul-add}
 use Rattle.ff_lattice.specs.Steps.{pivot_sum}
-use Rattle.ff_lattice.specs.PlaceLists.{pivot_length, is_outside, is_kept, code_count}
-use Rattle.ff_lattice.proofs.PlaceCodes.{true_or_false}
-use Rattle.ff_lattice.proofs.PlaceClasses.{count_outside, count_kept, count_ideal}
+use Rattle.ff_lattice.specs.PositionLists.{pivot_length, is_outside, is_kept, code_count}
+use Rattle.ff_lattice.proofs.PositionCodes.{true_or_false}
+use Rattle.ff_lattice.proofs.PositionClasses.{count_outside, count_kept, count_ideal}
 
 -- 1 where a list of this length has a code behind that of x^t
 one_behind : ℕ → ℕ → ℕ
@@ -68,9 +68,9 @@ module _ (n : ℕ) (order ideal : List (List (List ℕ))) (longer : (j : ℕ) �
   abbrev count : ℕ → ℕ
   count e = code_count n order ideal e
 
-  -- one place
-  count_place : (t j : ℕ) → j < n → count (suc (t * n + j)) + one_behind (pivot_length order j) t ≡ count (t * n + j) + one_behind (pivot_length ideal j) t
-  count_place t j less = go (true_or_false (is_outside n order ideal e)) (true_or_false (is_kept n order ideal e))
+  -- one position
+  count_position : (t j : ℕ) → j < n → count (suc (t * n + j)) + one_behind (pivot_length order j) t ≡ count (t * n + j) + one_behind (pivot_length ideal j) t
+  count_position t j less = go (true_or_false (is_outside n order ideal e)) (true_or_false (is_kept n order ideal e))
     where
       e : ℕ
       e = t * n + j
@@ -92,7 +92,7 @@ module _ (n : ℕ) (order ideal : List (List (List ℕ))) (longer : (j : ℕ) �
       go (inr o) (inr q) =
           omega (arith, count_ideal n order ideal e o q, behind_none (pivot_length order j) t (sym outside_is ∙ o), behind_none (pivot_length ideal j) t (sym kept_is ∙ q))
 
-  -- the places of one power of x
+  -- the positions of one power of x
   count_power : (t j : ℕ) → j ≤ n → count (t * n + j) + behind_all order t j ≡ count (t * n) + behind_all ideal t j
   unfolding behind_all
   count_power t zero le =
@@ -100,7 +100,7 @@ module _ (n : ℕ) (order ideal : List (List (List ℕ))) (longer : (j : ℕ) �
       ap (λ e. count e + 0) e
   count_power t (suc j) le =
       let e : t * n + suc j ≡ suc (t * n + j) = omega arith in
-      omega (arith, ap count e, count_place t j (omega (arith, le)), count_power t j (omega (arith, le)))
+      omega (arith, ap count e, count_position t j (omega (arith, le)), count_power t j (omega (arith, le)))
 
   count_powers : (t : ℕ) → count (t * n) + degrees_to order t n ≡ degrees_to ideal t n
   count_powers zero =

@@ -2,11 +2,11 @@
 use Rattle.std.proofs.Common.{◌≡◌, ℕ, zero, suc, ◌+◌, ◌-◌, ◌*◌, ◌/◌, ◌%◌, ◌<◌, ◌≤◌, ◌⊎◌, inl, inr, true, false, List, [], ◌∷◌, length, get_or, drop, refl, sym, ap, ap₂, ◌∙◌, subst, arith}
 use Rattle.std.proofs.lemmas.Bool.{cases_lt, le-ltb}
 use Rattle.std.proofs.lemmas.Nat.{div-add-mod', mod_below, row_fits}
-use Rattle.ff_ring.specs.Ring.{CommRing, TestedRing}
-use Rattle.ff_ring.specs.Lists.{add_lists, scale_list, coeff_of}
-use Rattle.ff_ring.specs.Rows.{Row}
-use Rattle.ff_ring.proofs.Ring.{mul_zero, neg_unique}
-use Rattle.ff_ring.proofs.Polynomials.{Pol, pol_ring, same_pol}
+use Rattle.ring_theory.specs.Ring.{CommRing, TestedRing}
+use Rattle.ring_theory.specs.Lists.{add_lists, scale_list, coeff_of}
+use Rattle.ring_theory.specs.Rows.{Row}
+use Rattle.ring_theory.proofs.Ring.{mul_zero, neg_unique}
+use Rattle.ring_theory.proofs.Polynomials.{Pol, pol_ring, same_pol}
 use Rattle.ff_fields.specs.Field.{CodeField}
 use Rattle.ff_fields.specs.Code.{Code, code_ring, raw_ring, zero_in}
 use Rattle.ff_fields.specs.Numbers.{read, numbers_read}
@@ -22,9 +22,9 @@ use Rattle.popov_theory.proofs.Module.{v_add_zero, v_add_assoc, v_neg_neg, neg_s
 use Rattle.ff_popov.specs.Reading.{read_row, row_space}
 use Rattle.ff_popov.proofs.ReadRows.{space_less}
 use Rattle.ff_popov.proofs.Transformations.{less_row}
-use Rattle.ff_lattice.specs.PlaceLists.{pivot_length, row_less, is_outside, is_kept, lift_power, code_count, sum_of_codes, spread_onto}
-use Rattle.ff_lattice.proofs.PlaceCodes.{cond_true, cond_false, true_or_false, row_less_is}
-use Rattle.ff_lattice.proofs.PlaceClasses.{sum_outside, sum_kept, sum_ideal, count_outside, count_kept, count_ideal, zero_term}
+use Rattle.ff_lattice.specs.PositionLists.{pivot_length, row_less, is_outside, is_kept, lift_power, code_count, sum_of_codes, spread_onto}
+use Rattle.ff_lattice.proofs.PositionCodes.{cond_true, cond_false, true_or_false, row_less_is}
+use Rattle.ff_lattice.proofs.PositionClasses.{sum_outside, sum_kept, sum_ideal, count_outside, count_kept, count_ideal, zero_term}
 
 module _ (k : CodeField) where
   abbrev A : TestedRing (Code k)
@@ -143,7 +143,7 @@ module _ (n : ℕ) (positive : 0 < n) (W J : List (List (List ℕ))) where
             ∙ sym (F.mul_add x (t d s (e % n)) (G e a))
             ∙ ap (F.◌⊗◌ x) (sym (sum_kept n W J F.◌⊕◌ F.𝟘 t e (d ∷ a) o q))
 
-  -- past the pivots of the ideal no place has a code
+  -- past the pivots of the ideal no position has a code
   module _ (depth : ℕ) (deep : (j : ℕ) → j < n → pivot_length J j ≤ depth) where
     not_kept : (e : ℕ) → depth * n ≤ e → is_kept n W J e ≡ false
     not_kept e le = le-ltb (suc (e / n)) (pivot_length J (e % n)) (go (cases_lt (e / n) depth))

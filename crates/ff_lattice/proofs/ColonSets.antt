@@ -4,13 +4,13 @@ use Rattle.std.specs.Prelude.{slice_get}
 use Rattle.std.proofs.lemmas.List.Elements.{All-nil, All-cons, All-head, All-tail, All-set, All-replicate}
 use Rattle.std.proofs.lemmas.List.{length-set, length-replicate}
 use Rattle.std.proofs.lemmas.Option.{get_or_from_slice_get}
-use Rattle.ff_ring.specs.Ring.{CommRing}
-use Rattle.ff_ring.specs.Rows.{row_scale, row_zero}
-use Rattle.ff_ring.specs.Subsets.{IsSubring, IsModule}
-use Rattle.ff_ring.proofs.Ring.{mul_zero, one_mul}
-use Rattle.ff_ring.proofs.Rows.{pair_path, row_scale_zero}
-use Rattle.ff_ring.proofs.Solver.{ring, reads}
-use Rattle.ff_ring.proofs.Subsets.{span_zero, span_sum, span_scale, span_least, span_head, span_tail}
+use Rattle.ring_theory.specs.Ring.{CommRing}
+use Rattle.ring_theory.specs.Rows.{row_scale, row_zero}
+use Rattle.ring_theory.specs.Subsets.{IsSubring, IsModule}
+use Rattle.ring_theory.proofs.Ring.{mul_zero, one_mul}
+use Rattle.ring_theory.proofs.Rows.{pair_path, row_scale_zero}
+use Rattle.ring_theory.proofs.Solver.{ring, reads}
+use Rattle.ring_theory.proofs.Subsets.{span_zero, span_sum, span_scale, span_least, span_head, span_tail}
 use Rattle.ff_fields.specs.Field.{CodeField}
 use Rattle.ff_fields.specs.Over.{IsOver, IsOver_nil}
 use Rattle.ff_poly.specs.Words.{IsPoly, IsMonic}
@@ -22,9 +22,9 @@ use Rattle.popov_theory.proofs.Span.{span_row}
 use Rattle.ff_popov.specs.Reading.{read_row, row_space, read_rows}
 use Rattle.ff_popov.proofs.ReadRows.{read_row_at, read_zeros}
 use Rattle.ff_popov.proofs.Spans.{to_space, from_space}
-use Rattle.ff_algebra.specs.Functions.{Equation, IsPolynomial, of_poly, over, row_of}
-use Rattle.ff_algebra.specs.Values.{ElemValue, PresValue, Functions, functions, function_of, equation_of}
-use Rattle.ff_algebra.proofs.ScalarRings.{polynomials_subring, of_poly_one}
+use Rattle.function_field.specs.Functions.{Equation, IsPolynomial, of_poly, over, row_of}
+use Rattle.function_field.specs.Values.{ElemValue, PresValue, Functions, functions, function_of, equation_of}
+use Rattle.function_field.proofs.ScalarRings.{polynomials_subring, of_poly_one}
 use Rattle.ff_lattice.specs.Lattices.{LatticeValue, IsLattice, Contains, InSpanOf, IsScaled, row_elems}
 use Rattle.ff_lattice.specs.Colons.{IsColon, one_row}
 use Rattle.ff_lattice.specs.Steps.{IsPreimage}

@@ -4,7 +4,7 @@ use Rattle.std.specs.Global.{Vec}
 use Rattle.std.proofs.lemmas.List.{length-map, length-append, length-take-le, get_or-take, get_or_append_left, get_or-append_right}
 use Rattle.std.proofs.lemmas.List.Elements.{All-nil, All-cons, All-head, All-tail}
 use borrow.Author.Count.{below_more}
-use Rattle.ff_ring.proofs.Ring.{zero_mul, mul_zero}
+use Rattle.ring_theory.proofs.Ring.{zero_mul, mul_zero}
 use Rattle.ff_fields.specs.Field.{CodeField}
 use Rattle.ff_fields.specs.Over.{IsOver}
 use Rattle.ff_poly.specs.Words.{IsPoly, IsMonic, IsQuotient, Divides, product_of, sum_of}
@@ -15,9 +15,9 @@ use Rattle.ff_poly.specs.Popov.{rows_of, row_at, IsRow, HasFullRank, multiple_of
 use Rattle.ff_poly.proofs.Parts.{IsPoly_product_of, IsMonic_product}
 use Rattle.ff_popov.proofs.Spans.{multiple_over}
 use Rattle.ff_popov.proofs.Entries.{any_default}
-use Rattle.ff_algebra.specs.Values.{ElemValue, PresValue, IsElem, Functions, functions, function_of, equation_of}
-use Rattle.ff_ring.specs.Subsets.{Span}
-use Rattle.ff_algebra.specs.Functions.{IsPolynomial}
+use Rattle.function_field.specs.Values.{ElemValue, PresValue, IsElem, Functions, functions, function_of, equation_of}
+use Rattle.ring_theory.specs.Subsets.{Span}
+use Rattle.function_field.specs.Functions.{IsPolynomial}
 use Rattle.ff_lattice.specs.Lattices.{LatticeValue, elems_over, InSpanOf, Contains, IsFull, IsSpannedBy}
 use Rattle.ff_lattice.specs.Steps.{IsCommonMultiple, IsExpansion, IsExpanded}
 use Rattle.ff_lattice.proofs.Elements.{DividesPol, divides_value, divides_codes}

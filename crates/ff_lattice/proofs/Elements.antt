@@ -1,7 +1,7 @@
 -- The elements that rows of codes are over a denominator, as functions.
 use Rattle.std.proofs.Common.{◌≡◌, ℕ, zero, suc, ◌-◌, List, [], ◌∷◌, map, refl, sym, ◌∙◌, ap, ap₂, subst, ◌↔◌}
-use Rattle.ff_ring.specs.Subsets.{Span}
-use Rattle.ff_ring.proofs.Rows.{pair_path}
+use Rattle.ring_theory.specs.Subsets.{Span}
+use Rattle.ring_theory.proofs.Rows.{pair_path}
 use Rattle.ff_fields.specs.Field.{CodeField}
 use Rattle.ff_fields.specs.Over.{IsOver}
 use Rattle.ff_poly.specs.Words.{IsPoly, Divides, product_of}
@@ -10,8 +10,8 @@ use Rattle.ff_poly.specs.Value.{value, value_product, same_from_value}
 use Rattle.ff_poly.specs.Polynomials.{Polynomial, polynomials, codes_of, IsOver_codes_of, IsPoly_codes_of, value_codes_of}
 use Rattle.ff_poly.proofs.Parts.{IsPoly_product_of}
 use Rattle.ff_popov.specs.Reading.{read_row, read_rows}
-use Rattle.ff_algebra.specs.Functions.{IsPolynomial, over}
-use Rattle.ff_algebra.specs.Values.{PresValue, Functions, functions, function_of, equation_of, row_of_list}
+use Rattle.function_field.specs.Functions.{IsPolynomial, over}
+use Rattle.function_field.specs.Values.{PresValue, Functions, functions, function_of, equation_of, row_of_list}
 use Rattle.ff_algebra.proofs.ElemParts.{function_parts}
 use Rattle.ff_lattice.specs.Lattices.{elems_over, InSpanOf}
 use Rattle.ff_lattice.proofs.Members.{overs, Member, span_member}

@@ -1,14 +1,14 @@
 -- The functions v/e that rows v stand for over a polynomial e: sums, multiples, products, and when two are equal.
 use Rattle.std.proofs.Common.{◌≡◌, ℕ, zero, suc, refl, sym, ◌∙◌, ap}
-use Rattle.ff_ring.specs.Ring.{CommRing, IsDomain}
-use Rattle.ff_ring.specs.Rows.{Row, row_zero, row_add, row_scale}
-use Rattle.ff_ring.proofs.Ring.{domain_cancel, product_not_zero}
-use Rattle.ff_ring.proofs.Rows.{pair_path, row_mul, row_scale_add, row_scale_zero, row_scale_scale, row_scale_comm, row_mul_comm, row_mul_one, row_one, scale_row_mul}
-use Rattle.ff_ring.proofs.RowFractions.{pair_add, pair_mul, whole_pair}
+use Rattle.ring_theory.specs.Ring.{CommRing, IsDomain}
+use Rattle.ring_theory.specs.Rows.{Row, row_zero, row_add, row_scale}
+use Rattle.ring_theory.proofs.Ring.{domain_cancel, product_not_zero}
+use Rattle.ring_theory.proofs.Rows.{pair_path, row_mul, row_scale_add, row_scale_zero, row_scale_scale, row_scale_comm, row_mul_comm, row_mul_one, row_one, scale_row_mul}
+use Rattle.ring_theory.proofs.RowFractions.{pair_add, pair_mul, whole_pair}
 use Rattle.ff_fields.specs.Field.{CodeField}
 use Rattle.ff_poly.specs.Polynomials.{Polynomial, polynomials, polynomials_domain}
-use Rattle.ff_algebra.specs.Functions.{Equation, RowOver, FunctionOf, ring_of, function_eq, function_same, add_rows, mul_rows, whole_row, row_of, of_poly, over, add_function, mul_function, zero_function}
-use Rattle.ff_algebra.proofs.Horner.{row_of_scale}
+use Rattle.function_field.specs.Functions.{Equation, RowOver, FunctionOf, ring_of, function_eq, function_same, add_rows, mul_rows, whole_row, row_of, of_poly, over, add_function, mul_function, zero_function}
+use Rattle.function_field.proofs.Horner.{row_of_scale}
 
 module _ {P : Type 0} (S : CommRing P) (domain : IsDomain S.ops) where
   -- a factor that isn't 0 cancels

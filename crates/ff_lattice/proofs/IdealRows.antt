@@ -1,11 +1,11 @@
 -- Ideals of an order by their rows.
 use Rattle.std.proofs.Common.{◌≡◌, ◌↔◌, Bool, true, false, IsTrue, map, sym, ◌∙◌, subst, All}
 use Rattle.std.specs.Prelude.{Result, IfOk}
-use Rattle.ff_ring.proofs.Subsets.{span_module, span_least}
+use Rattle.ring_theory.proofs.Subsets.{span_module, span_least}
 use Rattle.ff_fields.specs.Field.{CodeField}
-use Rattle.ff_algebra.specs.Functions.{IsPolynomial}
-use Rattle.ff_algebra.specs.Values.{PresValue, Functions, functions, function_of, equation_of}
-use Rattle.ff_algebra.proofs.ScalarRings.{polynomials_subring}
+use Rattle.function_field.specs.Functions.{IsPolynomial}
+use Rattle.function_field.specs.Values.{PresValue, Functions, functions, function_of, equation_of}
+use Rattle.function_field.proofs.ScalarRings.{polynomials_subring}
 use Rattle.ff_lattice.specs.Lattices.{LatticeValue, IsLattice, Contains, row_elems}
 use Rattle.ff_lattice.specs.Orders.{TakesRowsIn}
 use Rattle.ff_lattice.specs.Quotients.{IsIdeal}

@@ -8,7 +8,7 @@ use Rattle.ff_poly.specs.Value.{value}
 use Rattle.ff_poly.specs.Polynomials.{polynomials}
 use Rattle.ff_poly.specs.Popov.{IsRow, InSpan, combination, multiple_of_row}
 use Rattle.ff_popov.proofs.Spans.{combination_row}
-use Rattle.ff_algebra.specs.Values.{ElemValue, PresValue, IsElem, Functions, functions, function_of}
+use Rattle.function_field.specs.Values.{ElemValue, PresValue, IsElem, Functions, functions, function_of}
 use Rattle.ff_lattice.specs.Lattices.{LatticeValue, IsLattice, Contains, row_elems}
 use Rattle.ff_lattice.specs.Colons.{IsKept}
 use Rattle.ff_lattice.specs.Steps.{IsExpanded, IsPreimage}

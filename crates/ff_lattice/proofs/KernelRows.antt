@@ -3,15 +3,15 @@
 use Rattle.std.proofs.Common.{◌≡◌, ℕ, suc, ◌<◌, ◌≤◌, ◌+◌, ◌*◌, ◌-◌, ◌/◌, ◌⊎◌, inl, inr, List, length, refl, sym, ◌∙◌, ap, ap₂, arith, subst, add-mul}
 use Rattle.std.proofs.lemmas.Bool.{cases_lt}
 use Rattle.std.proofs.lemmas.Nat.{div-mul-add}
-use Rattle.ff_ring.specs.Ring.{TestedRing, IsField, IsDomain}
-use Rattle.ff_ring.proofs.Ring.{field_domain}
-use Rattle.ff_ring.proofs.Rows.{pair_path}
-use Rattle.ff_ring.proofs.Polynomials.{Pol, pol_ring}
+use Rattle.ring_theory.specs.Ring.{TestedRing, IsField, IsDomain}
+use Rattle.ring_theory.proofs.Ring.{field_domain}
+use Rattle.ring_theory.proofs.Rows.{pair_path}
+use Rattle.ring_theory.proofs.Polynomials.{Pol, pol_ring}
 use Rattle.popov_theory.specs.Module.{PolynomialModule, measure, row_degree, column}
 use Rattle.popov_theory.specs.Span.{row_at, InSpan, IsSubmodule}
 use Rattle.popov_theory.specs.Popov.{IsPopov, Leading}
 use Rattle.popov_theory.proofs.Module.{v_sub_sub, v_add_zero, v_zero_add, v_add_add, scale_zero, zero_scale, scale_add, scale_scale, v_add_neg, v_eq_of_sub, v_neg_neg}
-use Rattle.popov_theory.proofs.Places.{column_at}
+use Rattle.popov_theory.proofs.Positions.{column_at}
 use Rattle.popov_theory.proofs.Span.{span_submodule, neg_in, sub_in, span_zero, span_add, span_scale, span_row, span_least}
 use Rattle.popov_theory.proofs.PopovForm.{popov_weak, popov_leading, row_past, popov_measure, tabulate, tabulate_at, tabulate_length}
 use Rattle.popov_theory.proofs.Division.{normal_form, normal_form_reduced, difference_in, in_span_from_normal, reduced_in_span}
@@ -229,7 +229,7 @@ module _ {A V U : Type 0} {k : TestedRing A} (M : PolynomialModule k V) (N : Pol
             (sub_in M Kernel kernel_submodule v (M.◌⊞◌ v (M.⊟◌ ρ)) v_in (kernel_in _ (difference_in M field kernel_rows v)))
 
         zero_at : (e : ℕ) → Leading W₀ rs (suc e) → W₀.coef (ρ, N.𝟎) e ≡ k.𝟘
-        zero_at e l = subst (λ n. W₀.coef (ρ, N.𝟎) n ≡ k.𝟘) place (at (cases_lt l.index M.width))
+        zero_at e l = subst (λ n. W₀.coef (ρ, N.𝟎) n ≡ k.𝟘) position (at (cases_lt l.index M.width))
           where
             d : ℕ
             d = row_degree W₀ (row_at W₀ rs l.index)
@@ -237,8 +237,8 @@ module _ {A V U : Type 0} {k : TestedRing A} (M : PolynomialModule k V) (N : Pol
             index_less : l.index < W₀.width
             index_less = omega (arith, l.below, p.size)
 
-            place : (l.times + d) * W₀.width + l.index ≡ e
-            place = omega (arith, l.is, popov_measure W₀ rs p l.index index_less, add-mul l.times d W₀.width)
+            position : (l.times + d) * W₀.width + l.index ≡ e
+            position = omega (arith, l.is, popov_measure W₀ rs p l.index index_less, add-mul l.times d W₀.width)
 
             at : (l.index < M.width) ⊎ (M.width ≤ l.index) → W₀.coef (ρ, N.𝟎) ((l.times + d) * W₀.width + l.index) ≡ k.𝟘
             at (inr out) = pair_off ρ (l.times + d) l.index index_less out

@@ -23,11 +23,11 @@ pub mod SumsAndProducts
 pub mod OrderRows
 pub mod Ones
 pub mod ClassAlgebras
-pub mod PlaceCodes
-pub mod PlaceClasses
+pub mod PositionCodes
+pub mod PositionClasses
 pub mod CodeSums
 pub mod QuotientLaws
-pub mod PlaceSteps
+pub mod PositionSteps
 pub mod OrderElems
 pub mod QuotientSteps
 pub mod MadeQuotients

@@ -2,10 +2,10 @@
 use Rattle.std.proofs.Common.{◌≡◌, ℕ, ◌*◌, ◌<◌, ◌≤◌, ◌↔◌, max, List, length, sym, subst, arith, All}
 use Rattle.ff_fields.specs.Field.{CodeField}
 use Rattle.ff_poly.specs.Popov.{longest, IsRow, IsPopov}
-use Rattle.ff_algebra.specs.Values.{PresValue, IsPresOver, Functions, functions}
+use Rattle.function_field.specs.Values.{PresValue, IsPresOver, Functions, functions}
 use Rattle.ff_lattice.specs.Lattices.{LatticeValue, Contains, InSpanOf, elems_over}
 use Rattle.ff_lattice.specs.Orders.{IsOrder}
-use Rattle.ff_lattice.specs.PlaceLists.{pivot_length, codes_below}
+use Rattle.ff_lattice.specs.PositionLists.{pivot_length, codes_below}
 use Rattle.ff_lattice.specs.Quotients.{QuotientValue, IsFrame, IsQuotient, IsClassOf, IsIdeal, IsRowOf, AreProducts}
 use Rattle.ff_lattice.proofs.QuotientLaws.{class_of_row}
 

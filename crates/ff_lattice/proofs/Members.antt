@@ -1,15 +1,15 @@
 -- The span over k[x] of rows over a polynomial: the functions v/e with v in the module that the rows span.
 use Rattle.std.proofs.Common.{◌≡◌, ℕ, zero, suc, List, [], ◌∷◌, map, refl, sym, ◌∙◌, ap, ap₂, subst, All, ◌↔◌}
 use Rattle.std.proofs.lemmas.List.Elements.{All-nil, All-cons}
-use Rattle.ff_ring.specs.Ring.{CommRing}
-use Rattle.ff_ring.specs.Rows.{Row}
-use Rattle.ff_ring.specs.Subsets.{IsSubring, IsModule, Span}
-use Rattle.ff_ring.proofs.Subsets.{span_zero, span_sum, span_scale, span_head, span_tail, span_least}
+use Rattle.ring_theory.specs.Ring.{CommRing}
+use Rattle.ring_theory.specs.Rows.{Row}
+use Rattle.ring_theory.specs.Subsets.{IsSubring, IsModule, Span}
+use Rattle.ring_theory.proofs.Subsets.{span_zero, span_sum, span_scale, span_head, span_tail, span_least}
 use Rattle.ff_fields.specs.Field.{CodeField}
 use Rattle.ff_fields.specs.Code.{code_ring}
 use Rattle.ff_poly.specs.Polynomials.{Polynomial, polynomials}
-use Rattle.ff_algebra.specs.Functions.{Equation, FunctionOf, ring_of, of_poly, over, IsPolynomial}
-use Rattle.ff_algebra.proofs.ScalarRings.{polynomials_subring}
+use Rattle.function_field.specs.Functions.{Equation, FunctionOf, ring_of, of_poly, over, IsPolynomial}
+use Rattle.function_field.proofs.ScalarRings.{polynomials_subring}
 use Rattle.popov_theory.specs.Module.{PolynomialModule}
 use Rattle.popov_theory.specs.Span.{row_at, InSpan}
 use Rattle.popov_theory.specs.Span as theory

@@ -3,10 +3,10 @@ use Rattle.std.proofs.Common.{◌≡◌, ℕ, zero, suc, ◌-◌, ◌≤◌, ◌
 use Rattle.std.specs.Prelude.{MatchOption, is_some}
 use Rattle.std.specs.Global.{Vec}
 use Rattle.std.proofs.lemmas.List.Elements.{All-nil, All-cons, All-head, All-tail}
-use Rattle.ff_ring.specs.Ring.{CommRing, TestedRing}
-use Rattle.ff_ring.specs.Lists.{tail_of}
-use Rattle.ff_ring.specs.Rows.{Row}
-use Rattle.ff_ring.proofs.Polynomials.{Pol, pol_ring}
+use Rattle.ring_theory.specs.Ring.{CommRing, TestedRing}
+use Rattle.ring_theory.specs.Lists.{tail_of}
+use Rattle.ring_theory.specs.Rows.{Row}
+use Rattle.ring_theory.proofs.Polynomials.{Pol, pol_ring}
 use Rattle.ff_fields.specs.Field.{CodeField}
 use Rattle.ff_fields.specs.Code.{code_ring}
 use Rattle.ff_fields.specs.Over.{IsOver}
@@ -20,8 +20,8 @@ use Rattle.popov_theory.proofs.Module.{scale_add, scale_scale, scale_zero}
 use Rattle.popov_theory.proofs.PolynomialRows.{row_module_scale}
 use Rattle.ff_popov.specs.Reading.{read_row, row_space, read_rows}
 use Rattle.ff_popov.proofs.Spans.{to_space, from_space, space_multiple, multiple_row}
-use Rattle.ff_algebra.specs.Functions.{Equation, over}
-use Rattle.ff_algebra.specs.Values.{ElemValue, PresValue, IsElem, IsMonicElem, function_of, equation_of}
+use Rattle.function_field.specs.Functions.{Equation, over}
+use Rattle.function_field.specs.Values.{ElemValue, PresValue, IsElem, IsMonicElem, function_of, equation_of}
 use Rattle.ff_lattice.specs.Lattices.{LatticeValue, IsLattice, Contains}
 use Rattle.ff_lattice.proofs.Fracs.{over_eq, over_same}
 use Rattle.ff_lattice.proofs.Elements.{elem_over, in_span_of}

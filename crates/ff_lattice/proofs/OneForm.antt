@@ -3,13 +3,13 @@ use Rattle.std.proofs.Common.{◌≡◌, ◌≢◌, ℕ, zero, suc, ◌-◌, ◌
 use Rattle.std.proofs.lemmas.Bool.{cases_lt}
 use Rattle.std.proofs.lemmas.List.{length-map}
 use Rattle.std.proofs.lemmas.List.Elements.{All-nil, All-cons, All-head, All-tail}
-use Rattle.ff_ring.specs.Ring.{CommRing}
-use Rattle.ff_ring.specs.Lists.{coeff_of, scale_list, add_lists, neg_list}
-use Rattle.ff_ring.specs.Rows.{Row, row_zero, row_add, row_scale}
-use Rattle.ff_ring.proofs.Ring.{mul_zero, one_mul, eq_of_sub, neg_mul, add_mul}
-use Rattle.ff_ring.proofs.Rows.{pair_path, row_scale_add, row_scale_zero, row_scale_comm, row_scale_one}
-use Rattle.ff_ring.proofs.Polynomials.{series_add, series_neg}
-use Rattle.ff_ring.proofs.Division.{length_add, length_neg}
+use Rattle.ring_theory.specs.Ring.{CommRing}
+use Rattle.ring_theory.specs.Lists.{coeff_of, scale_list, add_lists, neg_list}
+use Rattle.ring_theory.specs.Rows.{Row, row_zero, row_add, row_scale}
+use Rattle.ring_theory.proofs.Ring.{mul_zero, one_mul, eq_of_sub, neg_mul, add_mul}
+use Rattle.ring_theory.proofs.Rows.{pair_path, row_scale_add, row_scale_zero, row_scale_comm, row_scale_one}
+use Rattle.ring_theory.proofs.Polynomials.{series_add, series_neg}
+use Rattle.ring_theory.proofs.Division.{length_add, length_neg}
 use Rattle.ff_fields.specs.Field.{CodeField}
 use Rattle.ff_fields.specs.Code.{code_ring, code_domain, same_code, raw_ring, is_zero_code}
 use Rattle.ff_fields.specs.Over.{IsOver, get_or_below}
@@ -31,9 +31,9 @@ use Rattle.ff_popov.proofs.ReadRows.{read_row_at, same_from_read}
 use Rattle.ff_popov.proofs.PopovBasis.{basis_popov}
 use Rattle.ff_popov.proofs.Entries.{any_default}
 use Rattle.ff_popov.proofs.Lengths.{trim_length}
-use Rattle.ff_algebra.specs.Functions.{Equation, of_poly, over}
-use Rattle.ff_algebra.specs.Values.{PresValue, Functions, functions, equation_of}
-use Rattle.ff_algebra.proofs.OnSide.{of_poly_plus, of_poly_times}
+use Rattle.function_field.specs.Functions.{Equation, of_poly, over}
+use Rattle.function_field.specs.Values.{PresValue, Functions, functions, equation_of}
+use Rattle.function_field.proofs.OnSide.{of_poly_plus, of_poly_times}
 use Rattle.ff_lattice.specs.Lattices.{LatticeValue, IsLattice, IsMultiplier, InSpanOf, elems_over, Contains}
 use Rattle.ff_lattice.proofs.Fracs.{over_eq, over_same, over_scale, over_add}
 use Rattle.ff_lattice.proofs.Members.{Member, member_numerator}
@@ -216,10 +216,10 @@ module _ (k : CodeField) where
           top a a_in a_monic a_size =
               let t = top_of_monic a a_monic in
               same_code k (coeff_of (code_ring k).ops (value k a).0 m) (code_ring k).𝟙
-              (coeff_code k a m a_in ∙ ap (λ i. get_or a i 0) (place t.0 t.1) ∙ t.2)
+              (coeff_code k a m a_in ∙ ap (λ i. get_or a i 0) (position t.0 t.1) ∙ t.2)
             where
-              place : (i : ℕ) → length a ≡ suc i → m ≡ i
-              place i is = omega (arith, is, a_size, l_size)
+              position : (i : ℕ) → length a ≡ suc i → m ≡ i
+              position i is = omega (arith, is, a_size, l_size)
 
           r_top : get_or (difference_of k.ops e l.den) m 0 ≡ 0
           r_top =

@@ -1,13 +1,13 @@
 -- The element 1.
 use Rattle.std.proofs.Common.{◌≡◌, ℕ, zero, suc, ◌-◌, ◌≤◌, [], ◌∷◌, sym, ◌∙◌, arith}
-use Rattle.ff_ring.proofs.Rows.{pair_path, row_one}
-use Rattle.ff_ring.proofs.RowFractions.{whole_pair}
+use Rattle.ring_theory.proofs.Rows.{pair_path, row_one}
+use Rattle.ring_theory.proofs.RowFractions.{whole_pair}
 use Rattle.ff_fields.specs.Field.{CodeField}
 use Rattle.ff_poly.specs.Polynomials.{polynomials, value_one}
 use Rattle.ff_popov.specs.Reading.{read_row}
 use Rattle.ff_popov.proofs.ReadRows.{read_zeros}
-use Rattle.ff_algebra.specs.Functions.{one_function, whole_row}
-use Rattle.ff_algebra.specs.Values.{PresValue, functions, function_of, equation_of}
+use Rattle.function_field.specs.Functions.{one_function, whole_row}
+use Rattle.function_field.specs.Values.{PresValue, functions, function_of, equation_of}
 use Rattle.ff_lattice.specs.Steps.{unit_row}
 use Rattle.ff_algebra.proofs.ElemParts.{function_parts}
 use Rattle.ff_lattice.proofs.Elements.{read_is}

@@ -1,8 +1,8 @@
 -- A member of a lattice as a row over the lattice's denominator.
 use Rattle.std.proofs.Common.{◌≡◌, ℕ, suc, ◌-◌, ◌<◌, List, [], length, sym, ◌∙◌, ap, subst, arith, All}
 use Rattle.std.proofs.lemmas.List.{length-map}
-use Rattle.ff_ring.specs.Ring.{CommRing}
-use Rattle.ff_ring.specs.Rows.{row_scale, entry}
+use Rattle.ring_theory.specs.Ring.{CommRing}
+use Rattle.ring_theory.specs.Rows.{row_scale, entry}
 use Rattle.ff_fields.specs.Field.{CodeField}
 use Rattle.ff_fields.specs.Code.{code_ring}
 use Rattle.ff_fields.specs.Over.{IsOver}
@@ -15,8 +15,8 @@ use Rattle.ff_popov.specs.Reading.{read_row, read_rows}
 use Rattle.ff_popov.proofs.Entries.{any_default}
 use Rattle.ff_popov.proofs.ReadRows.{entry_read, read_multiple, over_at}
 use Rattle.ff_popov.proofs.Spans.{multiple_over}
-use Rattle.ff_algebra.specs.Functions.{Equation}
-use Rattle.ff_algebra.specs.Values.{ElemValue, PresValue, IsElem, IsMonicElem, function_of, equation_of}
+use Rattle.function_field.specs.Functions.{Equation}
+use Rattle.function_field.specs.Values.{ElemValue, PresValue, IsElem, IsMonicElem, function_of, equation_of}
 use Rattle.ff_lattice.specs.Lattices.{LatticeValue, IsLattice, Contains}
 use Rattle.ff_lattice.specs.Steps.{IsRowQuotient}
 use Rattle.ff_lattice.specs.Quotients.{IsRowOf}

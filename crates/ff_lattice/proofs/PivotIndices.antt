@@ -3,15 +3,15 @@ use Rattle.std.proofs.Common.{◌≡◌, ℕ, suc, ◌+◌, ◌-◌, ◌*◌, �
 use Rattle.std.proofs.lemmas.Int.{ints}
 use Rattle.std.proofs.lemmas.List.{length-map}
 use Rattle.std.proofs.lemmas.List.Elements.{All-map, All-from_get_or}
-use Rattle.ff_ring.specs.Ring.{CommRing}
-use Rattle.ff_ring.specs.Lists.{tail_of}
-use Rattle.ff_ring.specs.Rows.{Row, row_scale}
-use Rattle.ff_ring.specs.Subsets.{IsSubring}
-use Rattle.ff_ring.proofs.Ring.{neg_unique, add_sub, product_not_zero}
-use Rattle.ff_ring.proofs.Rows.{row_scale_scale}
-use Rattle.ff_ring.proofs.RowMaps.{hom_zero}
-use Rattle.ff_ring.proofs.Subsets.{span_zero, span_sum, span_scale}
-use Rattle.ff_ring.proofs.Evaluate.{constant, constant_hom}
+use Rattle.ring_theory.specs.Ring.{CommRing}
+use Rattle.ring_theory.specs.Lists.{tail_of}
+use Rattle.ring_theory.specs.Rows.{Row, row_scale}
+use Rattle.ring_theory.specs.Subsets.{IsSubring}
+use Rattle.ring_theory.proofs.Ring.{neg_unique, add_sub, product_not_zero}
+use Rattle.ring_theory.proofs.Rows.{row_scale_scale}
+use Rattle.ring_theory.proofs.RowMaps.{hom_zero}
+use Rattle.ring_theory.proofs.Subsets.{span_zero, span_sum, span_scale}
+use Rattle.ring_theory.proofs.Evaluate.{constant, constant_hom}
 use Rattle.linear_theory.specs.Fields.{Field, domain_of}
 use Rattle.linear_theory.specs.Module.{Module, combine, IsHomomorphism}
 use Rattle.linear_theory.specs.Basis.{IsSubspace, IsBasis}
@@ -39,10 +39,10 @@ use Rattle.ff_popov.specs.Reading.{read_row, row_space, read_rows}
 use Rattle.ff_popov.proofs.ReadRows.{over_at}
 use Rattle.ff_popov.proofs.Measures.{measured}
 use Rattle.ff_popov.proofs.PopovBasis.{basis_popov}
-use Rattle.ff_algebra.specs.Functions.{Equation, IsPolynomial, of_poly, over}
-use Rattle.ff_algebra.specs.Values.{PresValue, Functions, functions, function_of, equation_of}
-use Rattle.ff_algebra.proofs.ScalarRings.{polynomials_subring, of_poly_one}
-use Rattle.ff_algebra.proofs.OnSide.{of_poly_plus, of_poly_times, of_poly_zero}
+use Rattle.function_field.specs.Functions.{Equation, IsPolynomial, of_poly, over}
+use Rattle.function_field.specs.Values.{PresValue, Functions, functions, function_of, equation_of}
+use Rattle.function_field.proofs.ScalarRings.{polynomials_subring, of_poly_one}
+use Rattle.function_field.proofs.OnSide.{of_poly_plus, of_poly_times, of_poly_zero}
 use Rattle.ff_lattice.specs.Lattices.{LatticeValue, IsLattice, Contains, row_elems, pivot_degree_of}
 use Rattle.ff_lattice.specs.Indices.{space_ops, HasIndex}
 use Rattle.ff_lattice.proofs.Fracs.{over_zero, over_eq}
@@ -183,11 +183,11 @@ module _ (k : CodeField) (p : PresValue) where
   monic_of d d_in d_poly monic =
       let t = top_of_monic d monic in
       let size : length d ≡ suc (length d - 1) = omega (arith, t.1) in
-      let place : length d - 1 ≡ t.0 = omega (arith, t.1) in
+      let position : length d - 1 ≡ t.0 = omega (arith, t.1) in
       record {
         degree = length d - 1;
         size = value_length k d d_in d_poly ∙ size;
-        top = same_code k _ _ (coeff_code k d (length d - 1) d_in ∙ ap (λ m. get_or d m 0) place ∙ t.2);
+        top = same_code k _ _ (coeff_code k d (length d - 1) d_in ∙ ap (λ m. get_or d m 0) position ∙ t.2);
       }
 
   monic_degree : (d : List ℕ) (d_in : IsOver k.ops d) (d_poly : IsPoly d) (monic : IsMonic d) → (monic_of d d_in d_poly monic).degree ≡ length d - 1

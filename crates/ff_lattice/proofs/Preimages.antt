@@ -6,10 +6,10 @@ use Rattle.std.proofs.Math.Seq.{take-append_seam, drop-append_seam, get_or-appen
 use Rattle.std.proofs.lemmas.List.Elements.{All-nil, All-cons, All-head, All-tail, All-append, All-set, All-replicate}
 use native.Mathlib.Decide.{ℕ_discrete}
 use mathlib.Core.Path.{fun_ext}
-use Rattle.ff_ring.specs.Lists.{coeff_of}
-use Rattle.ff_ring.specs.Rows.{Row, row_zero, row_scale, entry}
-use Rattle.ff_ring.proofs.Ring.{mul_zero}
-use Rattle.ff_ring.proofs.Rows.{pair_path, row_scale_zero}
+use Rattle.ring_theory.specs.Lists.{coeff_of}
+use Rattle.ring_theory.specs.Rows.{Row, row_zero, row_scale, entry}
+use Rattle.ring_theory.proofs.Ring.{mul_zero}
+use Rattle.ring_theory.proofs.Rows.{pair_path, row_scale_zero}
 use Rattle.ff_fields.specs.Field.{CodeField}
 use Rattle.ff_fields.specs.Code.{code_ring, code_field, same_code}
 use Rattle.ff_fields.specs.Over.{IsOver, IsOver_nil, IsOver_cons, IsOver_zeros, IsOver_append, IsOver_trim}
@@ -173,8 +173,8 @@ module _ (k : CodeField) where
         go (inl first) = subst T (sym (first_is i first)) (h' i first)
         go (inr second) =
             let i_less : i - length ls < r = omega (arith, less, second, gs_size) in
-            let place : length ls + (i - length ls) ≡ i = omega (arith, second) in
-            subst T (sym (second_is (i - length ls) i_less) ∙ ap (row_at gs) place) (h (i - length ls) i_less)
+            let position : length ls + (i - length ls) ≡ i = omega (arith, second) in
+            subst T (sym (second_is (i - length ls) i_less) ∙ ap (row_at gs) position) (h (i - length ls) i_less)
 
     row_gs : (i : ℕ) → i < length gs → IsRow k.ops (r + c) (row_at gs i)
     row_gs = each_row (IsRow k.ops (r + c))
@@ -334,8 +334,8 @@ module _ (k : CodeField) where
             subst IsTwisted (sym (moved_first i first)) (twisted_second M N (code_field k) φ linear ls' t cancel (theory.row_at N ls' i) (span_row N ls' i))
         go i (inr second) (inl inside) =
             let i_less : i - length ls < r = omega (arith, inside, second) in
-            let place : length ls + (i - length ls) ≡ i = omega (arith, second) in
-            subst IsTwisted (sym (moved_second (i - length ls) i_less) ∙ ap (theory.row_at W₀ Gs) place)
+            let position : length ls + (i - length ls) ≡ i = omega (arith, second) in
+            subst IsTwisted (sym (moved_second (i - length ls) i_less) ∙ ap (theory.row_at W₀ Gs) position)
             (twisted_first M N (code_field k) φ linear ls' t cancel (M.unit (i - length ls)))
         go i (inr second) (inr past) = subst IsTwisted (sym (row_past W₀ Gs i (omega (arith, past, gs_length)))) 𝓣.zero_in
 

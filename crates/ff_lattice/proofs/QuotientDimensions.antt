@@ -1,7 +1,7 @@
 -- The dimension of a quotient by pivot degrees.
 use Rattle.std.proofs.Common.{◌≡◌, ℕ, suc, List, ◌+◌, ◌-◌, ◌*◌, ◌<◌, ◌≤◌, length, refl, sym, ◌∙◌, ap, arith, pos, ◌-ℤ◌}
 use Rattle.std.proofs.lemmas.Int.{ints}
-use Rattle.ff_ring.specs.Rows.{Row}
+use Rattle.ring_theory.specs.Rows.{Row}
 use Rattle.popov_theory.specs.Module.{PolynomialModule}
 use Rattle.popov_theory.specs.Span.{IsWithin}
 use Rattle.popov_theory.proofs.Monotone.{degree_within}
@@ -13,11 +13,11 @@ use Rattle.ff_poly.specs.Popov.{pivot_degree}
 use Rattle.ff_popov.specs.Reading.{row_space, read_rows}
 use Rattle.ff_popov.proofs.Measures.{space_width}
 use Rattle.ff_popov.proofs.PopovBasis.{basis_measured, basis_popov}
-use Rattle.ff_algebra.specs.Functions.{over}
-use Rattle.ff_algebra.specs.Values.{equation_of}
+use Rattle.function_field.specs.Functions.{over}
+use Rattle.function_field.specs.Values.{equation_of}
 use Rattle.ff_lattice.specs.Lattices.{LatticeValue, pivot_degree_of}
 use Rattle.ff_lattice.specs.Steps.{pivot_sum}
-use Rattle.ff_lattice.specs.PlaceLists.{pivot_length}
+use Rattle.ff_lattice.specs.PositionLists.{pivot_length}
 use Rattle.ff_lattice.specs.Quotients.{QuotientValue, IsFrame, dimension}
 use Rattle.ff_lattice.proofs.Members.{member_numerator}
 use Rattle.ff_lattice.proofs.Elements.{in_span_of}

@@ -5,13 +5,13 @@ use Rattle.std.proofs.lemmas.List.Elements.{All-replicate}
 use Rattle.std.proofs.lemmas.Nat.{mul-le, div-add-mod', mod_below, row_fits}
 use Rattle.std.proofs.lemmas.Bool.{cases_lt}
 use Rattle.std.proofs.Math.Nat.{le-max_left, le-max_right}
-use Rattle.ff_ring.specs.Ring.{CommRing, TestedRing}
-use Rattle.ff_ring.specs.Lists.{add_lists, scale_list}
-use Rattle.ff_ring.specs.Rows.{Row}
-use Rattle.ff_ring.specs.Subsets.{IsSubring}
-use Rattle.ff_ring.proofs.Ring.{add_mul, mul_zero, zero_mul, neg_mul, neg_zero, one_mul, eq_of_sub, neg_unique}
-use Rattle.ff_ring.proofs.Subsets.{span_zero, span_sum, span_scale}
-use Rattle.ff_ring.proofs.Polynomials.{Pol}
+use Rattle.ring_theory.specs.Ring.{CommRing, TestedRing}
+use Rattle.ring_theory.specs.Lists.{add_lists, scale_list}
+use Rattle.ring_theory.specs.Rows.{Row}
+use Rattle.ring_theory.specs.Subsets.{IsSubring}
+use Rattle.ring_theory.proofs.Ring.{add_mul, mul_zero, zero_mul, neg_mul, neg_zero, one_mul, eq_of_sub, neg_unique}
+use Rattle.ring_theory.proofs.Subsets.{span_zero, span_sum, span_scale}
+use Rattle.ring_theory.proofs.Polynomials.{Pol}
 use Rattle.ff_fields.specs.Field.{CodeField}
 use Rattle.ff_fields.specs.Code.{Code, code_ring, raw_ring, zero_in, same_code}
 use Rattle.ff_fields.specs.Over.{IsOver, IsOver_nil, IsOver_head, IsOver_tail, IsOver_scale, IsOver_add, IsOver_zeros}
@@ -29,22 +29,22 @@ use Rattle.ff_popov.specs.Reading.{read_row, row_space, read_rows}
 use Rattle.ff_popov.proofs.ReadRows.{read_zeros}
 use Rattle.ff_popov.proofs.Measures.{coef_short}
 use Rattle.ff_popov.proofs.Entries.{any_default}
-use Rattle.ff_algebra.specs.Functions.{Equation, of_poly, over, IsPolynomial}
-use Rattle.ff_algebra.specs.Values.{PresValue, Functions, functions, function_of, equation_of}
-use Rattle.ff_algebra.proofs.ScalarRings.{polynomials_subring, of_poly_neg, of_poly_one}
-use Rattle.ff_algebra.proofs.OnSide.{of_poly_plus, of_poly_times, of_poly_zero}
+use Rattle.function_field.specs.Functions.{Equation, of_poly, over, IsPolynomial}
+use Rattle.function_field.specs.Values.{PresValue, Functions, functions, function_of, equation_of}
+use Rattle.function_field.proofs.ScalarRings.{polynomials_subring, of_poly_neg, of_poly_one}
+use Rattle.function_field.proofs.OnSide.{of_poly_plus, of_poly_times, of_poly_zero}
 use Rattle.ff_falg.specs.Algebras.{IsAlgebra, IsVector}
-use Rattle.ff_ring.proofs.Lists.{length_add_lists, length_scale_list}
+use Rattle.ring_theory.proofs.Lists.{length_add_lists, length_scale_list}
 use Rattle.ff_lattice.specs.Lattices.{IsLattice, Contains, row_elems}
-use Rattle.ff_lattice.specs.PlaceLists.{code_count, codes_below, sum_of_codes}
+use Rattle.ff_lattice.specs.PositionLists.{code_count, codes_below, sum_of_codes}
 use Rattle.ff_lattice.specs.Quotients.{QuotientValue, dimension, spread, codes_of_row, lifted, product_codes, quotient_ops, IsClassOf, IsFrame, HasClasses}
 use Rattle.ff_lattice.proofs.Fracs.{over_zero, over_add, over_scale}
 use Rattle.ff_lattice.proofs.Members.{member_numerator}
 use Rattle.ff_lattice.proofs.Elements.{elem_over, in_span_of}
 use Rattle.ff_lattice.proofs.Divisors.{monic_value}
 use Rattle.ff_lattice.proofs.ClassAlgebras.{IsIdealOf, IsSameModulo, same_of, same_sym, same_trans, same_sum, same_scaled, same_right, product_commutes, product_associates, product_unit, product_adds, product_scales}
-use Rattle.ff_lattice.proofs.PlaceCodes.{place_is, column_in}
-use Rattle.ff_lattice.proofs.PlaceClasses.{codes_length, codes_over, only_zeros, codes_class, row_of_codes, sum_in_order, zero_term}
+use Rattle.ff_lattice.proofs.PositionCodes.{position_is, column_in}
+use Rattle.ff_lattice.proofs.PositionClasses.{codes_length, codes_over, only_zeros, codes_class, row_of_codes, sum_in_order, zero_term}
 use Rattle.ff_lattice.proofs.CodeSums.{sum_map, sum_adds, sum_scales, count_past, sum_past, spread_is, spread_sum, term_add, term_mul}
 
 -- lists whose difference is zero
@@ -247,7 +247,7 @@ module _ (k : CodeField) (q : QuotientValue) (h : IsFrame k q) where
   ends_below : (v : List (List ℕ)) (d : ℕ) → longest v ≤ d → measure M (R v) ≤ d * n
   ends_below v d le =
       measure_bound M (R v) (d * n) (λ e past.
-      ap (M.coef (R v)) (sym (place_is k n h.positive e))
+      ap (M.coef (R v)) (sym (position_is k n h.positive e))
       ∙ coef_short k n v (e / n) (e % n) (column_in k n h.positive e) (omega (arith, longest_at v (e % n), le, high e past (cases_lt (e / n) d))))
     where
       high : (e : ℕ) → d * n ≤ e → (e / n < d) ⊎ (d ≤ e / n) → d ≤ e / n

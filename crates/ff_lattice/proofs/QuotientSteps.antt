@@ -5,15 +5,15 @@ use Rattle.std.specs.Global.{Vec}
 use Rattle.std.proofs.lemmas.Bool.{cases_lt}
 use Rattle.std.proofs.lemmas.List.{get_or-map, length-map, length-append, get_or_append_left, get_or-append_right, take_more}
 use Rattle.std.proofs.lemmas.Option.{get_or_from_slice_get}
-use Rattle.ff_ring.specs.Subsets.{Span}
+use Rattle.ring_theory.specs.Subsets.{Span}
 use Rattle.ff_fields.specs.Field.{CodeField}
 use Rattle.ff_poly.specs.Words.{IsPoly}
 use Rattle.ff_poly.specs.Value.{value}
 use Rattle.ff_poly.specs.Polynomials.{polynomials}
 use Rattle.ff_poly.specs.Popov.{rows_of, row_at, IsRow, IsPopov, HaveSameSpan, HasFullRank}
 use Rattle.ff_popov.proofs.Entries.{any_default}
-use Rattle.ff_algebra.specs.Functions.{IsPolynomial}
-use Rattle.ff_algebra.specs.Values.{ElemValue, PresValue, Functions, functions, function_of, equation_of}
+use Rattle.function_field.specs.Functions.{IsPolynomial}
+use Rattle.function_field.specs.Values.{ElemValue, PresValue, Functions, functions, function_of, equation_of}
 use Rattle.ff_lattice.specs.Lattices.{LatticeValue, IsLattice, Contains, InSpanOf, IsFull, elems_over, row_elems}
 use Rattle.ff_lattice.specs.Quotients.{IsRowOf, IsRowsOf, AreProducts}
 use Rattle.ff_lattice.proofs.Divisors.{monic_value}

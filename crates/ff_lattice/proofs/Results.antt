@@ -2,7 +2,7 @@
 use Rattle.std.proofs.Common.{◌↔◌, Ok, Err}
 use Rattle.std.specs.Prelude.{Result, IfOk}
 use Rattle.ff_fields.specs.Field.{CodeField}
-use Rattle.ff_algebra.specs.Values.{PresValue, Functions}
+use Rattle.function_field.specs.Values.{PresValue, Functions}
 use Rattle.ff_lattice.specs.Lattices.{LatticeValue, Contains}
 
 -- the members of the answer are those of one set, so those of another that is the same

@@ -3,12 +3,12 @@ use Rattle.std.proofs.Common.{◌≡◌, ℕ, zero, suc, ◌-◌, ◌<◌, List,
 use Rattle.std.proofs.lemmas.List.{length-map}
 use Rattle.std.proofs.lemmas.List.Elements.{All-head, All-tail}
 use mathlib.Core.Path.{fun_ext}
-use Rattle.ff_ring.specs.Ring.{CommRing, TestedRing}
-use Rattle.ff_ring.specs.Lists.{tail_of}
-use Rattle.ff_ring.specs.Rows.{Row, entry}
-use Rattle.ff_ring.proofs.Ring.{mul_zero}
-use Rattle.ff_ring.proofs.Solver.{ring, reads}
-use Rattle.ff_ring.proofs.Polynomials.{Pol, pol_ring}
+use Rattle.ring_theory.specs.Ring.{CommRing, TestedRing}
+use Rattle.ring_theory.specs.Lists.{tail_of}
+use Rattle.ring_theory.specs.Rows.{Row, entry}
+use Rattle.ring_theory.proofs.Ring.{mul_zero}
+use Rattle.ring_theory.proofs.Solver.{ring, reads}
+use Rattle.ring_theory.proofs.Polynomials.{Pol, pol_ring}
 use Rattle.ff_fields.specs.Field.{CodeField}
 use Rattle.ff_fields.specs.Code.{code_ring}
 use Rattle.ff_fields.specs.Over.{IsOver}
@@ -25,8 +25,8 @@ use Rattle.popov_theory.proofs.PolynomialRows.{row_module_zero, row_module_add, 
 use Rattle.ff_popov.specs.Reading.{read_row, row_space, read_rows}
 use Rattle.ff_popov.proofs.ReadRows.{entry_read, same_from_read}
 use Rattle.ff_popov.proofs.Spans.{combination_read, combination_row, combine_same, space_multiple, multiple_row}
-use Rattle.ff_algebra.specs.Functions.{Equation, FunctionOf, ring_of, of_poly, over}
-use Rattle.ff_algebra.specs.Values.{PresValue, Functions, functions, function_of, equation_of}
+use Rattle.function_field.specs.Functions.{Equation, FunctionOf, ring_of, of_poly, over}
+use Rattle.function_field.specs.Values.{PresValue, Functions, functions, function_of, equation_of}
 use Rattle.ff_lattice.specs.Lattices.{elems_over}
 use Rattle.ff_lattice.proofs.Fracs.{over_zero}
 use Rattle.ff_lattice.proofs.Elements.{elem_over, elems_functions}

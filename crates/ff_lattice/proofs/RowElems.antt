@@ -10,7 +10,7 @@ use Rattle.ff_poly.specs.PolyOver.{IsOver_multiple_of}
 use Rattle.ff_poly.specs.Value.{same_from_value}
 use Rattle.ff_poly.specs.Popov.{row_at, IsRow}
 use Rattle.ff_poly.proofs.Parts.{IsPoly_multiple_of, value_multiple_one, top_of_monic}
-use Rattle.ff_algebra.specs.Values.{ElemValue, IsElem}
+use Rattle.function_field.specs.Values.{ElemValue, IsElem}
 use Rattle.ff_lattice.specs.Lattices.{LatticeValue, IsLattice, elems_over, row_elems}
 use Rattle.ff_lattice.proofs.Normal.{popov_poly}
 
@@ -41,8 +41,8 @@ module _ (k : CodeField) where
   top_inverse : (den : List ℕ) → IsMonic den → k.inv (top_of den) ≡ 1
   top_inverse den monic =
       let t = top_of_monic den monic in
-      let place : length den - 1 ≡ t.0 = omega (arith, t.1) in
-      ap k.inv (ap (λ n. get_or den n 0) place ∙ t.2) ∙ inverse_one
+      let position : length den - 1 ≡ t.0 = omega (arith, t.1) in
+      ap k.inv (ap (λ n. get_or den n 0) position ∙ t.2) ∙ inverse_one
 
   -- an element that is made from a row and a monic denominator has these parts
   pub made_elem : (z : ElemValue) (num : List (List ℕ)) (den : List ℕ) → All (IsOver k.ops) num → All IsPoly num → IsOver k.ops den → IsPoly den → IsMonic den

@@ -27,7 +27,7 @@ module _ (k : FieldOps) where
       (length-map (take j row) (product_of k c) ∙ length-take-le j row (omega (arith, less)) ∙ sym (length-take-le j total (omega (arith, less, size))))
       ∙ ap₂ (λ x y. sum_of_rows k (multiple_of_row k c (take j row)) (take j total) ++ sum_of k (product_of k c x) y ∷ []) (sym a_is) (sym b_is)
 
-  -- the combination of the rows from one place on
+  -- the combination of the rows from one position on
   pub combination_step : (n : ℕ) (cs : List (List ℕ)) (rows : List (List (List ℕ))) (i : ℕ) → i < length cs → i < length rows
       → combination k n (drop i cs) (drop i rows) ≡ sum_of_rows k (multiple_of_row k (entry_at cs i) (row_at rows i)) (combination k n (drop (suc i) cs) (drop (suc i) rows))
   combination_step n [] rows i less less' = absurd (omega (arith, less))
@@ -41,14 +41,14 @@ module _ (k : FieldOps) where
       → new ≡ combination k n (drop (len - (i + 1)) cs) (drop (len - (i + 1)) rows)
   total_step n len i cs rows c v total new cs_size rows_size less c_is v_is total_is new_is =
       let j : ℕ = len - 1 - i in
-      let place : len - 1 - i ≡ len - (i + 1) = omega arith in
+      let position : len - 1 - i ≡ len - (i + 1) = omega arith in
       let next : len - i ≡ suc (len - 1 - i) = omega (arith, less) in
       let entry : c ≡ entry_at cs (len - 1 - i) = c_is ∙ any_default cs (len - 1 - i) c [] (omega (arith, less, cs_size)) in
       new_is
       ∙ ap₂ (λ a u. sum_of_rows k (multiple_of_row k a u) total) entry v_is
       ∙ ap (sum_of_rows k (multiple_of_row k (entry_at cs (len - 1 - i)) (row_at rows (len - 1 - i)))) (total_is ∙ ap (λ m. combination k n (drop m cs) (drop m rows)) next)
       ∙ sym (combination_step n cs rows (len - 1 - i) (omega (arith, less, cs_size)) (omega (arith, less, rows_size)))
-      ∙ ap (λ m. combination k n (drop m cs) (drop m rows)) place
+      ∙ ap (λ m. combination k n (drop m cs) (drop m rows)) position
 
 all_drop : {X : Type 0} (P : X → Type 0) (i : ℕ) (xs : List X) → All P xs → All P (drop i xs)
 all_drop P zero xs h = h

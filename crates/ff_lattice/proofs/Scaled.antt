@@ -2,11 +2,11 @@
 use Rattle.std.proofs.Common.{◌≡◌, ℕ, zero, suc, ◌+◌, ◌-◌, ◌<◌, ◌≤◌, ◌⊎◌, inl, inr, List, [], ◌∷◌, length, get_or, map, refl, sym, ◌∙◌, ap, ap₂, subst, arith, All}
 use Rattle.std.proofs.lemmas.List.{length-map}
 use Rattle.std.proofs.lemmas.List.Elements.{All-nil, All-head, All-tail}
-use Rattle.ff_ring.specs.Ring.{TestedRing}
-use Rattle.ff_ring.specs.Lists.{coeff_of}
-use Rattle.ff_ring.proofs.Ring.{one_mul}
-use Rattle.ff_ring.proofs.Sequences.{convolution_top}
-use Rattle.ff_ring.proofs.Polynomials.{length_product, series_mul, coeff_past}
+use Rattle.ring_theory.specs.Ring.{TestedRing}
+use Rattle.ring_theory.specs.Lists.{coeff_of}
+use Rattle.ring_theory.proofs.Ring.{one_mul}
+use Rattle.ring_theory.proofs.Sequences.{convolution_top}
+use Rattle.ring_theory.proofs.Polynomials.{length_product, series_mul, coeff_past}
 use Rattle.ff_fields.specs.Field.{CodeField}
 use Rattle.ff_fields.specs.Code.{Code, code_ring, code_domain, same_code}
 use Rattle.ff_fields.specs.Numbers.{read, numbers_read, numbers_get_or}
@@ -27,7 +27,7 @@ module _ (k : CodeField) where
   pub value_length : (a : List ℕ) → IsOver k.ops a → IsPoly a → length (value k a).0 ≡ length a
   value_length a a_in a_poly = sym (length-map (value k a).0 (λ x. x.0)) ∙ ap length (numbers_value k a a_in a_poly)
 
-  -- the code at a place is the coefficient there
+  -- the code at a position is the coefficient there
   pub coeff_code : (a : List ℕ) (m : ℕ) → IsOver k.ops a → (coeff_of K.ops (value k a).0 m).0 ≡ get_or a m 0
   coeff_code a m a_in = ap (λ x. x.0) (series_read k a m) ∙ numbers_get_or k (read k a) m ∙ ap (λ w. get_or w m 0) (numbers_read k a a_in)
 
@@ -50,7 +50,7 @@ module _ (k : CodeField) where
       let m = length a - 1 in
       let t = top_of_monic (product_of k.ops g a) monic in
       let size : length a ≡ suc (length a - 1) = omega (arith, some) in
-      let place : t.0 ≡ γ + m = omega (arith, t.1, g_size, size, product_length g a g_in g_poly a_in a_poly (omega (arith, g_size)) some) in
+      let position : t.0 ≡ γ + m = omega (arith, t.1, g_size, size, product_length g a g_in g_poly a_in a_poly (omega (arith, g_size)) some) in
       let gs = coeff_of K.ops (value k g).0 in
       let as' = coeff_of K.ops (value k a).0 in
       let g_top : gs γ ≡ K.𝟙 = same_code k (gs γ) K.𝟙 (coeff_code g γ g_in ∙ (top_of_monic g g_monic).2) in
@@ -64,7 +64,7 @@ module _ (k : CodeField) where
       IsMonic_from_top m a size
       (sym (coeff_code a m a_in) ∙ ap (λ x. x.0) (sym product_top)
       ∙ coeff_code (product_of k.ops g a) (γ + m) (IsOver_product_of k g_in a_in)
-      ∙ ap (λ n. get_or (product_of k.ops g a) n 0) (sym place) ∙ t.2)
+      ∙ ap (λ n. get_or (product_of k.ops g a) n 0) (sym position) ∙ t.2)
 
 -- entries of multiples
 pub multiple_at : (k : CodeField) (g : List ℕ) (v : List (List ℕ)) (j : ℕ) → entry_at (multiple_of_row k.ops g v) j ≡ product_of k.ops g (entry_at v j)

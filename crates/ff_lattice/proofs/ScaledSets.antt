@@ -1,12 +1,12 @@
 -- A fraction times a lattice.
 use Rattle.std.proofs.Common.{◌≡◌, ◌≢◌, ℕ, suc, ◌-◌, ◌<◌, ◌↔◌, List, [], ◌∷◌, length, map, refl, sym, ◌∙◌, ap, subst, arith, All}
 use Rattle.std.proofs.lemmas.List.Elements.{All-nil, All-cons}
-use Rattle.ff_ring.specs.Ring.{CommRing, TestedRing, IsDomain}
-use Rattle.ff_ring.specs.Rows.{Row, row_scale}
-use Rattle.ff_ring.proofs.Ring.{product_not_zero, zero_mul}
-use Rattle.ff_ring.proofs.Solver.{ring, reads}
-use Rattle.ff_ring.proofs.Rows.{row_scale_scale}
-use Rattle.ff_ring.proofs.Polynomials.{Pol, pol_ring}
+use Rattle.ring_theory.specs.Ring.{CommRing, TestedRing, IsDomain}
+use Rattle.ring_theory.specs.Rows.{Row, row_scale}
+use Rattle.ring_theory.proofs.Ring.{product_not_zero, zero_mul}
+use Rattle.ring_theory.proofs.Solver.{ring, reads}
+use Rattle.ring_theory.proofs.Rows.{row_scale_scale}
+use Rattle.ring_theory.proofs.Polynomials.{Pol, pol_ring}
 use Rattle.ff_fields.specs.Field.{CodeField}
 use Rattle.ff_fields.specs.Code.{code_ring, code_field}
 use Rattle.ff_fields.specs.Over.{IsOver, get_or_below}
@@ -25,9 +25,9 @@ use Rattle.popov_theory.proofs.PolynomialRows.{row_module_scale}
 use Rattle.ff_popov.specs.Reading.{read_row, row_space, read_rows}
 use Rattle.ff_popov.proofs.PopovBasis.{basis_weak, basis_full}
 use Rattle.ff_popov.proofs.Spans.{from_space, space_multiple, multiple_row}
-use Rattle.ff_algebra.specs.Functions.{Equation, of_poly, over}
-use Rattle.ff_algebra.specs.Values.{PresValue, Functions, functions, equation_of}
-use Rattle.ff_algebra.proofs.Stages.{row_of_function}
+use Rattle.function_field.specs.Functions.{Equation, of_poly, over}
+use Rattle.function_field.specs.Values.{PresValue, Functions, functions, equation_of}
+use Rattle.function_field.proofs.Stages.{row_of_function}
 use Rattle.ff_lattice.specs.Lattices.{LatticeValue, IsLattice, elems_over, InSpanOf, Contains, IsScaled, IsSpannedBy}
 use Rattle.ff_lattice.proofs.Fracs.{over_eq, over_same, over_scale}
 use Rattle.ff_lattice.proofs.Elements.{in_span_of}

@@ -1,11 +1,11 @@
 -- The sets of functions that rows over a polynomial span: common factors, rows with the same lattice, and full rank.
 use Rattle.std.proofs.Common.{◌≡◌, ℕ, suc, ◌-◌, ◌<◌, ◌↔◌, List, [], ◌∷◌, length, map, refl, sym, ◌∙◌, ap, ap₂, subst, All}
 use Rattle.std.proofs.lemmas.List.Elements.{All-nil, All-cons, All-head, All-tail}
-use Rattle.ff_ring.specs.Ring.{CommRing}
-use Rattle.ff_ring.specs.Rows.{Row, row_scale}
-use Rattle.ff_ring.specs.Subsets.{Span}
-use Rattle.ff_ring.proofs.Ring.{product_not_zero}
-use Rattle.ff_ring.proofs.Rows.{row_scale_scale}
+use Rattle.ring_theory.specs.Ring.{CommRing}
+use Rattle.ring_theory.specs.Rows.{Row, row_scale}
+use Rattle.ring_theory.specs.Subsets.{Span}
+use Rattle.ring_theory.proofs.Ring.{product_not_zero}
+use Rattle.ring_theory.proofs.Rows.{row_scale_scale}
 use Rattle.ff_fields.specs.Field.{CodeField}
 use Rattle.ff_fields.specs.Code.{code_ring, code_field}
 use Rattle.ff_fields.specs.Over.{IsOver}
@@ -24,9 +24,9 @@ use Rattle.popov_theory.proofs.PolynomialRows.{row_module_scale}
 use Rattle.ff_popov.specs.Reading.{read_row, row_space, read_rows}
 use Rattle.ff_popov.proofs.ReadRows.{read_multiple}
 use Rattle.ff_popov.proofs.Spans.{from_space, space_multiple, multiple_row}
-use Rattle.ff_algebra.specs.Functions.{Equation, RowOver, of_poly, over, IsPolynomial}
-use Rattle.ff_algebra.specs.Values.{PresValue, Functions, functions, function_of, equation_of}
-use Rattle.ff_algebra.proofs.Stages.{row_of_function}
+use Rattle.function_field.specs.Functions.{Equation, RowOver, of_poly, over, IsPolynomial}
+use Rattle.function_field.specs.Values.{PresValue, Functions, functions, function_of, equation_of}
+use Rattle.function_field.proofs.Stages.{row_of_function}
 use Rattle.ff_lattice.specs.Lattices.{LatticeValue, IsLattice, elems_over, InSpanOf, Contains, HasMultipleIn, IsFull, IsSpannedBy}
 use Rattle.ff_lattice.proofs.Normal.{monic_poly, popov_poly}
 use Rattle.ff_lattice.specs.Steps.{IsReducedTo}

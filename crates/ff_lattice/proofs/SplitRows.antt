@@ -2,11 +2,11 @@
 use Rattle.std.proofs.Common.{◌≡◌, ℕ, zero, suc, ◌+◌, ◌-◌, ◌*◌, ◌<◌, ◌≤◌, ◌/◌, ◌%◌, ◌⊎◌, inl, inr, List, [], take, drop, refl, sym, ◌∙◌, ap, subst, arith, le_of_suc-le-suc}
 use Rattle.std.proofs.lemmas.Bool.{cases_lt}
 use Rattle.std.proofs.lemmas.List.{get_or-take, get_or-drop}
-use Rattle.ff_ring.specs.Ring.{TestedRing}
-use Rattle.ff_ring.specs.Lists.{coeff_of}
-use Rattle.ff_ring.specs.Rows.{Row, entry}
-use Rattle.ff_ring.proofs.Rows.{pair_path}
-use Rattle.ff_ring.proofs.Polynomials.{Pol, pol_ring}
+use Rattle.ring_theory.specs.Ring.{TestedRing}
+use Rattle.ring_theory.specs.Lists.{coeff_of}
+use Rattle.ring_theory.specs.Rows.{Row, entry}
+use Rattle.ring_theory.proofs.Rows.{pair_path}
+use Rattle.ring_theory.proofs.Polynomials.{Pol, pol_ring}
 use Rattle.ff_fields.specs.Field.{CodeField}
 use Rattle.ff_fields.specs.Code.{code_ring}
 use Rattle.ff_poly.specs.Value.{value}
@@ -108,12 +108,12 @@ module _ {A : Type 0} (k : TestedRing A) (r c w : ℕ) (width : suc w ≡ suc r 
   coef_at v s j less (inr right) =
       let i : ℕ = j - suc r in
       let i_less : j - suc r < suc c = omega (arith, less, right, product_width M N, row_width k r, row_width k c) in
-      let place : j ≡ M.width + (j - suc r) = omega (arith, right, row_width k r) in
-      let place' : suc r + (j - suc r) ≡ j = omega (arith, right) in
-      ap (λ n. W.coef (cut v) (s * W.width + n)) place
+      let position : j ≡ M.width + (j - suc r) = omega (arith, right, row_width k r) in
+      let position' : suc r + (j - suc r) ≡ j = omega (arith, right) in
+      ap (λ n. W.coef (cut v) (s * W.width + n)) position
       ∙ product_right M N (cut v) s (j - suc r) (omega (arith, i_less, row_width k c))
       ∙ row_entry k c (cut v).1 s (j - suc r) i_less
-      ∙ ap (λ p. coeff_of k.ops p.0 s) (cut_right v (j - suc r) i_less ∙ ap (λ n. at (suc w) n v) place')
+      ∙ ap (λ p. coeff_of k.ops p.0 s) (cut_right v (j - suc r) i_less ∙ ap (λ n. at (suc w) n v) position')
       ∙ sym (row_entry k w v s j (omega (arith, less, cut_width, row_width k w)))
       ∙ ap (λ n. whole.coef v (s * n + j)) (sym cut_width)
 

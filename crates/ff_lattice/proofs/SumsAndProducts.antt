@@ -4,10 +4,10 @@ use Rattle.std.specs.Prelude.{slice_get}
 use Rattle.std.proofs.lemmas.List.{take_more}
 use Rattle.std.proofs.lemmas.List.Elements.{All-nil, All-cons, All-head, All-tail}
 use Rattle.std.proofs.lemmas.Option.{get_or_from_slice_get}
-use Rattle.ff_ring.specs.Ring.{CommRing}
-use Rattle.ff_ring.specs.Subsets.{IsSubring, Span, Product, products}
-use Rattle.ff_ring.proofs.Solver.{ring, reads}
-use Rattle.ff_ring.proofs.Subsets.{span_sum, span_append_left, span_append_right, product_member, product_of_spans}
+use Rattle.ring_theory.specs.Ring.{CommRing}
+use Rattle.ring_theory.specs.Subsets.{IsSubring, Span, Product, products}
+use Rattle.ring_theory.proofs.Solver.{ring, reads}
+use Rattle.ring_theory.proofs.Subsets.{span_sum, span_append_left, span_append_right, product_member, product_of_spans}
 use Rattle.ff_fields.specs.Field.{CodeField}
 use Rattle.ff_fields.specs.Over.{IsOver}
 use Rattle.ff_poly.specs.Words.{IsPoly, product_of}
@@ -15,10 +15,10 @@ use Rattle.ff_poly.specs.PolyOver.{IsOver_product_of}
 use Rattle.ff_poly.specs.Value.{value, value_product}
 use Rattle.ff_poly.proofs.Parts.{IsPoly_product_of}
 use Rattle.ff_poly.specs.Popov.{IsRow}
-use Rattle.ff_algebra.specs.Functions.{IsPolynomial, of_poly}
-use Rattle.ff_algebra.specs.Values.{ElemValue, PresValue, IsElem, Functions, functions, function_of, equation_of}
-use Rattle.ff_algebra.proofs.ScalarRings.{polynomials_subring}
-use Rattle.ff_algebra.proofs.OnSide.{of_poly_times}
+use Rattle.function_field.specs.Functions.{IsPolynomial, of_poly}
+use Rattle.function_field.specs.Values.{ElemValue, PresValue, IsElem, Functions, functions, function_of, equation_of}
+use Rattle.function_field.proofs.ScalarRings.{polynomials_subring}
+use Rattle.function_field.proofs.OnSide.{of_poly_times}
 use Rattle.ff_lattice.specs.Lattices.{LatticeValue, IsLattice, row_elems, elems_over, InSpanOf, IsFull, IsSumOf}
 use Rattle.ff_lattice.proofs.Scaled.{product_length}
 

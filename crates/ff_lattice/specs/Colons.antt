@@ -4,7 +4,7 @@ use Rattle.std.specs.Prelude.{ℕ, ◌↔◌, List, [], replicate, slice_set, Al
 use Rattle.ff_fields.specs.Field.{CodeField}
 use Rattle.ff_poly.specs.Words.{IsPoly}
 use Rattle.ff_poly.specs.Popov.{IsRow, IsPopov, InSpan, combination}
-use Rattle.ff_algebra.specs.Values.{ElemValue, PresValue, Functions, functions, function_of}
+use Rattle.function_field.specs.Values.{ElemValue, PresValue, Functions, functions, function_of}
 use Rattle.ff_lattice.specs.Lattices.{LatticeValue, Contains}
 
 -- z times each member of b is in a

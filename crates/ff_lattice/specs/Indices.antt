@@ -1,13 +1,13 @@
 -- The index of a set of functions in a larger one: the dimension over k of the one modulo the other (Stichtenoth, Algebraic
 -- Function Fields and Codes, chapter 1).
 use Rattle.std.specs.Prelude.{◌≡◌, ℕ, List, length}
-use Rattle.ff_ring.proofs.Evaluate.{constant}
+use Rattle.ring_theory.proofs.Evaluate.{constant}
 use Rattle.linear_theory.specs.Module.{ModuleOps, restricted_ops}
 use Rattle.linear_theory.specs.Basis.{IsBasis}
 use Rattle.ff_fields.specs.Field.{CodeField}
 use Rattle.ff_fields.specs.Code.{Code, code_ring}
-use Rattle.ff_algebra.specs.Functions.{of_poly}
-use Rattle.ff_algebra.specs.Values.{PresValue, Functions, functions, equation_of}
+use Rattle.function_field.specs.Functions.{of_poly}
+use Rattle.function_field.specs.Values.{PresValue, Functions, functions, equation_of}
 
 module _ (k : CodeField) (p : PresValue) where
   -- the functions as a vector space over k

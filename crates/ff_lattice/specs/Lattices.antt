@@ -1,14 +1,14 @@
 -- Lattices in F = k(x)[y]/(f): what a value of rows over a denominator stands for, and the form that each lattice has
 -- (Hess, Computing Riemann-Roch spaces in algebraic function fields; Kailath, Linear Systems, for Popov forms).
 use Rattle.std.specs.Prelude.{◌≡◌, ℕ, ◌≤◌, ◌*◌, ◌-◌, ◌↔◌, ℤ, pos, ◌-ℤ◌, List, [], length, map, All}
-use Rattle.ff_ring.specs.Subsets.{Span}
+use Rattle.ring_theory.specs.Subsets.{Span}
 use Rattle.ff_fields.specs.Field.{FieldOps, CodeField}
 use Rattle.ff_fields.specs.Over.{IsOver}
 use Rattle.ff_poly.specs.Words.{IsPoly, IsMonic, Divides, product_of}
 use Rattle.ff_poly.specs.Popov.{IsRow, IsPopov, pivot_degree}
 use Rattle.ff_poly.specs.Value.{value}
-use Rattle.ff_algebra.specs.Functions.{IsPolynomial, of_poly}
-use Rattle.ff_algebra.specs.Values.{ElemValue, PresValue, Functions, functions, function_of, equation_of}
+use Rattle.function_field.specs.Functions.{IsPolynomial, of_poly}
+use Rattle.function_field.specs.Values.{ElemValue, PresValue, Functions, functions, function_of, equation_of}
 
 -- rows of numerators over one denominator
 pub record LatticeValue : Type 0 where

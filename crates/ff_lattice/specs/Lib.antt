@@ -1,6 +1,6 @@
 pub mod Lattices
 pub mod Orders
-pub mod PlaceLists
+pub mod PositionLists
 pub mod Quotients
 pub mod Steps
 pub mod Colons

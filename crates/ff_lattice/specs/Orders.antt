@@ -1,7 +1,7 @@
 -- Orders of F: the lattices that are rings (Zassenhaus, Ein Algorithmus zur Berechnung einer Minimalbasis über gegebener Ordnung).
 use Rattle.std.specs.Prelude.{All}
 use Rattle.ff_fields.specs.Field.{CodeField}
-use Rattle.ff_algebra.specs.Values.{PresValue, Functions, functions, function_of}
+use Rattle.function_field.specs.Values.{PresValue, Functions, functions, function_of}
 use Rattle.ff_lattice.specs.Lattices.{LatticeValue, IsLattice, Contains, row_elems}
 
 module _ (k : CodeField) (p : PresValue) where

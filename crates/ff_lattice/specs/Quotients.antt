@@ -1,15 +1,15 @@
 -- The quotient of an order by an ideal: a finite algebra, by lists of codes.
 use Rattle.std.specs.Prelude.{◌≡◌, ℕ, ◌*◌, ◌<◌, ◌≤◌, ◌↔◌, List, [], length, get_or, map, max, replicate, All}
-use Rattle.ff_ring.specs.Lists.{add_lists}
+use Rattle.ring_theory.specs.Lists.{add_lists}
 use Rattle.ff_fields.specs.Field.{FieldOps, CodeField}
 use Rattle.ff_fields.specs.Code.{raw_ring}
 use Rattle.ff_poly.specs.Words.{IsPoly}
 use Rattle.ff_poly.specs.Popov.{row_at, longest, IsRow, IsPopov}
-use Rattle.ff_algebra.specs.Values.{ElemValue, PresValue, IsPresOver, Functions, functions, function_of}
+use Rattle.function_field.specs.Values.{ElemValue, PresValue, IsPresOver, Functions, functions, function_of}
 use Rattle.ff_falg.specs.Algebras.{AlgebraOps, IsAlgebra, IsVector}
 use Rattle.ff_lattice.specs.Lattices.{LatticeValue, IsLattice, Contains, InSpanOf, elems_over}
 use Rattle.ff_lattice.specs.Orders.{IsOrder}
-use Rattle.ff_lattice.specs.PlaceLists.{pivot_length, code_count, codes_below, spread_onto}
+use Rattle.ff_lattice.specs.PositionLists.{pivot_length, code_count, codes_below, spread_onto}
 
 -- a presentation, an order, an ideal, and what the quotient keeps of them
 pub record QuotientValue : Type 0 where

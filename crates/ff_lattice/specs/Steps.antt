@@ -4,7 +4,7 @@ use Rattle.ff_fields.specs.Field.{FieldOps}
 use Rattle.ff_fields.specs.Over.{IsOver}
 use Rattle.ff_poly.specs.Words.{IsPoly, IsMonic, Divides, product_of, shifted}
 use Rattle.ff_poly.specs.Popov.{entry_at, row_at, IsRow, IsPopov, InSpan, combination, multiple_of_row}
-use Rattle.ff_algebra.specs.Values.{ElemValue}
+use Rattle.function_field.specs.Values.{ElemValue}
 use Rattle.ff_lattice.specs.Lattices.{LatticeValue, IsMultiplier}
 
 -- n polynomials of which the one with this number is 1 and the others 0
@@ -26,7 +26,7 @@ pub record IsTwistedRows (power : ℕ) (m ls rows : List (List (List ℕ))) : Ty
   pub first : (j : ℕ) → j < length ls → row_at rows j ≡ replicate (length m) [] ++ lifted power (row_at ls j)
   pub second : (i : ℕ) → i < length m → row_at rows (length ls + i) ≡ unit_row (length m) i ++ lifted power (row_at m i)
 
--- the rows of the first places have zeros from the place on
+-- the rows of the first positions have zeros from the position on
 pub record HasZeroCorner (n : ℕ) (rows : List (List (List ℕ))) : Type 0 where
   pub zero_at : (i j : ℕ) → i < n → n ≤ j → entry_at (row_at rows i) j ≡ []
 

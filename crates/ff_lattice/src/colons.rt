@@ -5,8 +5,8 @@ ghost use Rattle.ff_fields.specs.Over.{IsOver};
 ghost use Rattle.ff_poly.specs.Words.{IsPoly, IsMonic};
 ghost use Rattle.ff_poly.specs.Value.{value};
 ghost use Rattle.ff_poly.specs.Popov.{rows_of, IsRow, IsPopov, sum_of_rows, multiple_of_row, combination};
-ghost use Rattle.ff_algebra.specs.Functions.{of_poly};
-ghost use Rattle.ff_algebra.specs.Values.{PresValue, IsPresOver, IsElem, Functions, functions, function_of, equation_of};
+ghost use Rattle.function_field.specs.Functions.{of_poly};
+ghost use Rattle.function_field.specs.Values.{PresValue, IsPresOver, IsElem, Functions, functions, function_of, equation_of};
 ghost use Rattle.ff_lattice.specs.Lattices.{LatticeValue, IsLattice, Contains, row_elems};
 ghost use Rattle.ff_lattice.specs.Colons.{IsColon, IsKept, one_row};
 

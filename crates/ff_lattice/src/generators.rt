@@ -4,7 +4,7 @@ ghost use Rattle.std.specs.Prelude.{◌≡◌, ◌≢◌, ◌↔◌, ◌≤◌, 
 ghost use Rattle.ff_fields.specs.Over.{IsOver};
 ghost use Rattle.ff_poly.specs.Words.{IsPoly, IsMonic, Divides};
 ghost use Rattle.ff_poly.specs.Popov.{rows_of, IsRow};
-ghost use Rattle.ff_algebra.specs.Values.{ElemValue, PresValue, Functions, IsElem};
+ghost use Rattle.function_field.specs.Values.{ElemValue, PresValue, Functions, IsElem};
 ghost use Rattle.ff_lattice.specs.Lattices.{LatticeValue, IsLattice, Contains, InSpanOf, IsFull, IsSpannedBy};
 ghost use Rattle.ff_lattice.specs.Steps.{IsCommonMultiple, IsExpanded};
 ghost use Rattle.ff_lattice.specs.declared.generators.LatticeFault.{LatticeFault};

@@ -1,7 +1,7 @@
 //! Which lattices are ideals of an order.
 
 ghost use Rattle.std.specs.Prelude.{◌≡◌, ◌↔◌, ◌≤◌, All, IfOk, IsTrue};
-ghost use Rattle.ff_algebra.specs.Values.{PresValue, IsPresOver, Functions, functions, function_of};
+ghost use Rattle.function_field.specs.Values.{PresValue, IsPresOver, Functions, functions, function_of};
 ghost use Rattle.ff_lattice.specs.Lattices.{LatticeValue, IsLattice, Contains, row_elems};
 ghost use Rattle.ff_lattice.specs.Orders.{IsOrder, TakesRowsIn};
 ghost use Rattle.ff_lattice.specs.Quotients.{IsIdeal};

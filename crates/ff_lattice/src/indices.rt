@@ -1,7 +1,7 @@
 //! Indices of lattices and dimensions of quotients, by pivot degrees.
 
 ghost use Rattle.std.specs.Prelude.{◌≡◌, ◌↔◌, ◌≤◌, ℕ, pos, ◌-ℤ◌};
-ghost use Rattle.ff_algebra.specs.Values.{PresValue, Functions};
+ghost use Rattle.function_field.specs.Values.{PresValue, Functions};
 ghost use Rattle.ff_lattice.specs.Lattices.{LatticeValue, IsLattice, Contains, pivot_degree_of};
 ghost use Rattle.ff_lattice.specs.Indices.{HasIndex};
 ghost use Rattle.ff_lattice.specs.Quotients.{QuotientValue, IsQuotient, dimension};

@@ -4,7 +4,7 @@ ghost use Rattle.std.specs.Prelude.{◌≡◌, ◌≢◌, ◌<◌, ◌≤◌, le
 ghost use Rattle.ff_fields.specs.Over.{IsOver};
 ghost use Rattle.ff_poly.specs.Words.{IsPoly, IsMonic};
 ghost use Rattle.ff_poly.specs.Popov.{rows_of, IsRow, IsPopov, HasFullRank};
-ghost use Rattle.ff_algebra.specs.Values.{IsElem, IsMonicElem};
+ghost use Rattle.function_field.specs.Values.{IsElem, IsMonicElem};
 ghost use Rattle.ff_lattice.specs.Lattices.{LatticeValue, IsForm, IsLattice, IsSpannedBy, elems_over, row_elems};
 ghost use Rattle.ff_lattice.specs.Steps.{IsReducedTo};
 

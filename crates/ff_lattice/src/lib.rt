@@ -11,7 +11,7 @@
 //! - `scale`: a Popov basis without a step, and the least denominator. `contains`: one division by n rows. `same_lattice`,
 //!   `pivot_degree`: time in the size of the rows.
 //! - `Order::new` and `is_ideal`: n² products of elements, and n² + 1 and n² + n questions `contains`.
-//! - `Quotient::new`: n² products of elements and a Popov basis of n rows. `reduce`: two subtractions of rows for each place of
+//! - `Quotient::new`: n² products of elements and a Popov basis of n rows. `reduce`: two subtractions of rows for each position of
 //!   the row. `lift`: a subtraction for each code. The product of two classes: n + 1 times the time of `lift`, and that of
 //!   `reduce`.
 //!
@@ -29,7 +29,7 @@ pub mod lattice;
 pub mod multiples;
 pub mod operations;
 pub mod order;
-mod places;
+mod positions;
 mod preimage;
 pub mod quotient;
 mod rows;

@@ -2,7 +2,7 @@
 
 ghost use Rattle.std.specs.Prelude.{◌≡◌, ◌≢◌, ◌↔◌, ◌≤◌, [], length, IfOk};
 ghost use Rattle.ff_fields.specs.Over.{IsOver};
-ghost use Rattle.ff_algebra.specs.Values.{PresValue, Functions};
+ghost use Rattle.function_field.specs.Values.{PresValue, Functions};
 ghost use Rattle.ff_lattice.specs.Lattices.{LatticeValue, IsLattice, Contains, IsScaled};
 
 use crate::lattice::{Lattice, from_rows};

@@ -1,9 +1,9 @@
 //! Sums, products and multiples of lattices.
 
 ghost use Rattle.std.specs.Prelude.{◌≡◌, ◌≢◌, ◌↔◌, ◌≤◌, [], ◌++◌, length, map, All, IfOk, OnOk};
-ghost use Rattle.ff_ring.specs.Subsets.{Product};
+ghost use Rattle.ring_theory.specs.Subsets.{Product};
 ghost use Rattle.ff_fields.specs.Over.{IsOver};
-ghost use Rattle.ff_algebra.specs.Values.{PresValue, IsPresOver, IsElem, Functions, functions, function_of};
+ghost use Rattle.function_field.specs.Values.{PresValue, IsPresOver, IsElem, Functions, functions, function_of};
 ghost use Rattle.ff_lattice.specs.Lattices.{LatticeValue, IsLattice, Contains, InSpanOf, IsFull, IsSumOf, row_elems};
 
 use crate::generators::LatticeFault;

@@ -1,7 +1,7 @@
 //! Orders: the lattices that are rings.
 
 ghost use Rattle.std.specs.Prelude.{◌≡◌, ◌↔◌, ◌≤◌, ◌<◌, [], ◌∷◌, length, All, IfOk, IfSome, IsSome, IsTrue};
-ghost use Rattle.ff_algebra.specs.Values.{PresValue, IsPresOver, IsElem, IsMonicElem, Functions, functions, function_of};
+ghost use Rattle.function_field.specs.Values.{PresValue, IsPresOver, IsElem, IsMonicElem, Functions, functions, function_of};
 ghost use Rattle.ff_lattice.specs.Lattices.{LatticeValue, IsLattice, Contains, row_elems};
 ghost use Rattle.ff_lattice.specs.Orders.{IsOrder, IsOrderByRows, TakesRowsIn};
 ghost use Rattle.ff_lattice.specs.Steps.{unit_row};

@@ -3,7 +3,7 @@
 
 ghost use Rattle.std.specs.Prelude.{◌≡◌, ◌<◌, IfOk};
 ghost use Rattle.ff_fields.specs.Over.{IsOver};
-ghost use Rattle.ff_algebra.specs.Values.{IsElem, IsPresOver};
+ghost use Rattle.function_field.specs.Values.{IsElem, IsPresOver};
 ghost use Rattle.ff_falg.specs.Algebras.{IsVector};
 ghost use Rattle.ff_lattice.specs.Lattices.{IsLattice};
 ghost use Rattle.ff_lattice.specs.Orders.{IsOrder};

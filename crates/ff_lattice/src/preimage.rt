@@ -4,7 +4,7 @@ ghost use Rattle.std.specs.Prelude.{◌≡◌, ◌+◌, ◌<◌, ◌≤◌, ℕ,
 ghost use Rattle.ff_poly.specs.Popov.{rows_of, row_at, entry_at, IsRow, IsPopov};
 ghost use Rattle.ff_lattice.specs.Steps.{lifted, unit_row, IsTwistedRows, IsBesideUnit, HasZeroCorner, corner, IsPreimage};
 
-use crate::places::longest_entry;
+use crate::positions::longest_entry;
 use crate::rows::{copy_row, unit_row, zero_row};
 use ff_fields::field::SmallField;
 use ff_poly::Poly;
@@ -79,11 +79,11 @@ fn twisted_rows(
     Ok(rows)
 }
 
-/// Are the entries from the place on zero?
-fn is_zero_from(row: &[Poly], place: usize) -> bool
-    ensures { IsTrue result → (j : ℕ) → place ≤ j → entry_at row.now j ≡ [] }
+/// Are the entries from the position on zero?
+fn is_zero_from(row: &[Poly], position: usize) -> bool
+    ensures { IsTrue result → (j : ℕ) → position ≤ j → entry_at row.now j ≡ [] }
 {
-    for j in place..row.len() {
+    for j in position..row.len() {
         if !row[j].is_zero() {
             return false;
         }
@@ -91,7 +91,7 @@ fn is_zero_from(row: &[Poly], place: usize) -> bool
     true
 }
 
-/// Have the first n rows zeros from the place n on?
+/// Have the first n rows zeros from the position n on?
 fn has_zero_corner(rows: &[Vec<Poly>], n: usize) -> bool
     requires { n ≤ length rows.now }
     ensures { IsTrue result → HasZeroCorner n (rows_of rows.now) }

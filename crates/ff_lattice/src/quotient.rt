@@ -3,7 +3,7 @@
 ghost use Rattle.std.specs.Prelude.{◌≡◌, ◌↔◌, ◌≤◌, ◌<◌, ◌*◌, [], length, map, replicate, All, IfOk};
 ghost use Rattle.ff_fields.specs.Over.{IsOver};
 ghost use Rattle.ff_poly.specs.Popov.{rows_of, IsRow, IsPopov};
-ghost use Rattle.ff_algebra.specs.Values.{PresValue, IsPresOver, Functions, functions, function_of, IsElem, IsMonicElem};
+ghost use Rattle.function_field.specs.Values.{PresValue, IsPresOver, Functions, functions, function_of, IsElem, IsMonicElem};
 ghost use Rattle.ff_falg.specs.Algebras.{IsVector};
 ghost use Rattle.ff_lattice.specs.Lattices.{LatticeValue, IsLattice, Contains, InSpanOf, elems_over};
 ghost use Rattle.ff_lattice.specs.Orders.{IsOrder};
@@ -13,7 +13,7 @@ use crate::denominators::row_quotient;
 use crate::lattice::Lattice;
 use crate::operations::{push_products, push_rows};
 use crate::order::{Order, one_elem};
-use crate::places::{deepest, read_codes, spread_codes};
+use crate::positions::{deepest, read_codes, spread_codes};
 use crate::rows::multiple_row;
 use ff_algebra::{Elem, Pres};
 use ff_falg::FiniteAlgebra;
@@ -193,7 +193,7 @@ impl Quotient {
     }
 
     /// The codes of the class of a member of the order. It takes the time of one row division, and of two subtractions of
-    /// rows for each place of the row.
+    /// rows for each position of the row.
     pub fn reduce<K: SmallField>(
         &self,
         alloc: Global,

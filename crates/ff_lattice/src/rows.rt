@@ -42,7 +42,7 @@ pub(crate) fn zero_row(alloc: Global, n: usize) -> Result<Vec<Poly>, AllocError>
     Ok(row)
 }
 
-/// n polynomials, 1 at the place i and 0 elsewhere.
+/// n polynomials, 1 at the position i and 0 elsewhere.
 pub(crate) fn unit_row(alloc: Global, n: usize, i: usize) -> Result<Vec<Poly>, AllocError>
     requires { i < n }
     ensures { IfOk result (λ row. row.items ≡ unit_row n i) }

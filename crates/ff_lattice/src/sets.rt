@@ -2,7 +2,7 @@
 
 ghost use Rattle.std.specs.Prelude.{◌≡◌, ◌↔◌, ◌≤◌, length, All, IfOk, IsTrue};
 ghost use Rattle.ff_poly.specs.Popov.{rows_of};
-ghost use Rattle.ff_algebra.specs.Values.{PresValue, Functions, IsElem, function_of};
+ghost use Rattle.function_field.specs.Values.{PresValue, Functions, IsElem, function_of};
 ghost use Rattle.ff_lattice.specs.Lattices.{LatticeValue, IsLattice, Contains};
 
 use crate::lattice::Lattice;

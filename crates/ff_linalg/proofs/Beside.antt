@@ -6,7 +6,7 @@ use Rattle.std.proofs.lemmas.List.Elements.{All-get_or}
 use Rattle.std.specs.Prelude.{All}
 use Rattle.ff_fields.specs.Field.{CodeField}
 use Rattle.ff_fields.specs.Code.{Code, code_ring, code_domain, read_code}
-use Rattle.ff_ring.specs.Ring.{CommRing}
+use Rattle.ring_theory.specs.Ring.{CommRing}
 use Rattle.linear_theory.specs.Fields.{Domain}
 use Rattle.linear_theory.specs.Echelon.{row, SameRowSpace}
 use Rattle.linear_theory.proofs.Augment.{augment, unit, length_augment, row_augment, row_augment_right, unit_here, unit_other}

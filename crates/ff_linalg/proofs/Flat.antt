@@ -61,13 +61,13 @@ module _ (c n i : ℕ) (xs : List ℕ) (shape : length xs ≡ n * c) (within : i
       ap₂ (rows_in c) (sym count) (sym (take-append-drop (i * c) xs) ∙ ap (λ w. take (i * c) xs ++ w) (sym (take-append-drop c (drop (i * c) xs))))
       ∙ rows_in_middle c i (n - suc i) front (take c back) (drop c back) front_length (length-take-le c back back_length)
 
-  at_place : (before bs : List (List ℕ)) (r : List ℕ) → length before ≡ i → get_or (before ++ r ∷ bs) i [] ≡ r
-  at_place before bs r e = ap (λ m. get_or (before ++ r ∷ bs) m []) (sym e) ∙ get_or-append_seam before r bs []
+  at_position : (before bs : List (List ℕ)) (r : List ℕ) → length before ≡ i → get_or (before ++ r ∷ bs) i [] ≡ r
+  at_position before bs r e = ap (λ m. get_or (before ++ r ∷ bs) m []) (sym e) ∙ get_or-append_seam before r bs []
 
   pub rows_in_get : get_or (rows_in c n xs) i [] ≡ take c (drop (i * c) xs)
   rows_in_get =
       ap (λ rows. get_or rows i []) rows_in_split
-      ∙ at_place (rows_in c i (take (i * c) xs)) (rows_in c (n - suc i) (drop c (drop (i * c) xs))) (take c (drop (i * c) xs)) (length_rows_in c i (take (i * c) xs))
+      ∙ at_position (rows_in c i (take (i * c) xs)) (rows_in c (n - suc i) (drop c (drop (i * c) xs))) (take c (drop (i * c) xs)) (length_rows_in c i (take (i * c) xs))
 
   pub rows_in_entry : (j : ℕ) → j < c → get_or (get_or (rows_in c n xs) i []) j 0 ≡ get_or xs (i * c + j) 0
   rows_in_entry j l = ap (λ r. get_or r j 0) rows_in_get ∙ get_or-take c (drop (i * c) xs) j 0 l ∙ get_or-drop (i * c) xs j 0

@@ -2,15 +2,15 @@
 use Rattle.std.proofs.Common.{◌≡◌, ℕ, zero, suc, ◌+◌, ◌<◌, ◌≤◌, List, [], ◌∷◌, ◌++◌, length, get_or, take, drop, set, map, refl, sym, ap, ap₂, ◌∙◌, arith, add-one}
 use Rattle.std.proofs.lemmas.List.{take_all, drop_all, append-nil, length-map}
 use Rattle.ff_fields.specs.Field.{CodeField}
-use Rattle.ff_ring.specs.Ring.{Operations}
+use Rattle.ring_theory.specs.Ring.{Operations}
 use Rattle.ff_fields.specs.Code.{raw_ring, code_ring}
-use Rattle.ff_ring.specs.Lists.{add_lists, scale_list}
-use Rattle.ff_ring.proofs.Ring.{zero_mul, mul_zero}
-use Rattle.ff_ring.proofs.Lists.{add_lists_nil, length_scale_list, get_or_scale_list}
+use Rattle.ring_theory.specs.Lists.{add_lists, scale_list}
+use Rattle.ring_theory.proofs.Ring.{zero_mul, mul_zero}
+use Rattle.ring_theory.proofs.Lists.{add_lists_nil, length_scale_list, get_or_scale_list}
 use Rattle.ff_fields.specs.Over.{IsOver, IsOver_head, IsOver_tail, IsOver_add, IsOver_take}
 
--- a list is added, one place after another
--- one place more is added
+-- a list is added, one position after another
+-- one position more is added
 add_lists_more : {A : Type 0} (r : Operations A) (old ys : List A) (j : ℕ) (d : A) → j < length ys → length ys ≤ length old → set (add_lists r old (take j ys)) j (r.◌⊕◌ (get_or (add_lists r old (take j ys)) j d) (get_or ys j d)) ≡ add_lists r old (take (suc j) ys)
 add_lists_more r old [] j d less le = absurd (omega arith)
 add_lists_more r [] (y ∷ ys) j d less le = absurd (omega arith)
@@ -24,7 +24,7 @@ add_lists_step r old now ys j x y now_is less le y_is x_is =
 pub add_lists_all : (r : Operations ℕ) (old now ys : List ℕ) (j : ℕ) → now ≡ add_lists r old (take j ys) → length ys ≤ j → now ≡ add_lists r old ys
 add_lists_all r old now ys j now_is le = now_is ∙ ap (add_lists r old) (take_all j ys le)
 
--- a place is passed over where 0 would be added
+-- a position is passed over where 0 would be added
 add_code_zero : (k : CodeField) (x y : ℕ) → x < k.size → y ≡ 0 → x ≡ k.add x y
 add_code_zero k x y x_in y_is = sym (ap (k.add x) y_is ∙ ap (λ w. w.0) ((code_ring k).add_zero (x, x_in)))
 
@@ -56,7 +56,7 @@ add_nothing k (o ∷ old) (y ∷ codes) c old_in codes_in le c_is =
     (add_code_zero k o (k.mul c y) (IsOver_head old_in) (ap (λ d. k.mul d y) c_is ∙ ap (λ w. w.0) (zero_mul (code_ring k).ring (y, y_in))))
     (add_nothing k old codes c (IsOver_tail old_in) (IsOver_tail codes_in) (omega arith) c_is)
 
--- each place is multiplied
+-- each position is multiplied
 scaled_read : {A : Type 0} (r : Operations A) (c : A) (old : List A) (j : ℕ) (d : A) → j < length old → get_or (take j (scale_list r c old) ++ drop j old) j d ≡ get_or old j d
 scaled_read r c [] j d less = absurd (omega arith)
 scaled_read r c (o ∷ old) zero d less = refl

@@ -7,7 +7,7 @@ use Rattle.ff_fields.specs.Field.{CodeField}
 use Rattle.ff_fields.specs.Code.{code_ring, same_code, read_code, read_code_below, zero_in}
 use Rattle.ff_fields.specs.Numbers.{read}
 use Rattle.ff_fields.specs.Over.{IsOver, get_or_below}
-use Rattle.ff_ring.proofs.Solver.{look}
+use Rattle.ring_theory.proofs.Solver.{look}
 use Rattle.linear_theory.specs.Echelon.{row}
 use Rattle.ff_linalg.specs.Steps.{entry_at}
 use Rattle.ff_linalg.specs.Forms.{sequences_of}

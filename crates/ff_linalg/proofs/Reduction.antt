@@ -7,10 +7,10 @@ use Rattle.std.proofs.lemmas.List.Elements.{All-get_or, All-from_get_or}
 use Rattle.ff_fields.specs.Field.{FieldOps, CodeField}
 use Rattle.ff_fields.specs.Code.{Code, code_ring, raw_ring, read_code}
 use Rattle.ff_fields.specs.Over.{IsOver}
-use Rattle.ff_ring.specs.Ring.{CommRing}
-use Rattle.ff_ring.specs.Lists.{add_lists, scale_list}
-use Rattle.ff_ring.proofs.Ring.{neg_mul}
-use Rattle.ff_ring.proofs.Lists.{get_or_scale_list, length_scale_list}
+use Rattle.ring_theory.specs.Ring.{CommRing}
+use Rattle.ring_theory.specs.Lists.{add_lists, scale_list}
+use Rattle.ring_theory.proofs.Ring.{neg_mul}
+use Rattle.ring_theory.proofs.Lists.{get_or_scale_list, length_scale_list}
 use Rattle.linear_theory.specs.Echelon.{row, IsReduced}
 use Rattle.linear_theory.proofs.Elimination.{next, normal, normal_is, from, from_here, from_other, length_next, next_reduced, next_rank, next_same, row_pivot, row_other, skip_column, same_refl}
 use Rattle.linear_theory.proofs.SameRows.{HasEntries, same_of_entries, reduced_of_entries}
@@ -101,7 +101,7 @@ add_entry k (x ∷ xs) [] j l e = absurd (omega arith)
 add_entry k (x ∷ xs) (y ∷ ys) zero l e = refl
 add_entry k (x ∷ xs) (y ∷ ys) (suc j) l e = add_entry k xs ys j (omega arith) (omega arith)
 
--- one column's step, with the row i at the place of the rank
+-- one column's step, with the row i at the position of the rank
 module _ (k : CodeField) (width : ℕ) (rows : List (List ℕ)) (wide : All (λ r. length r ≡ width) rows) (over : All (IsOver k.ops) rows)
     (c : ℕ) (c_below : c < width) (r : IsReduced (code_ring k).ops c (sequences_of k rows)) (i : ℕ) (i_late : r.rank ≤ i) (i_in : i < length rows)
     (nonzero : entry_at rows i c ≢ 0) where
@@ -158,24 +158,24 @@ module _ (k : CodeField) (width : ℕ) (rows : List (List ℕ)) (wide : All (λ 
 
   -- where a row comes from
   record Source (l : ℕ) : Type 0 where
-    pub place : ℕ
-    pub place_in : place < length rows
-    pub from_is : from R width F c c_below r i i_late below v inverts l ≡ place
-    pub row_is : get_or (swap rows p i) l [] ≡ get_or rows place []
+    pub position : ℕ
+    pub position_in : position < length rows
+    pub from_is : from R width F c c_below r i i_late below v inverts l ≡ position
+    pub row_is : get_or (swap rows p i) l [] ≡ get_or rows position []
 
   source : (l : ℕ) → l < length rows → ¬ (l ≡ p) → Source l
   source l m ne = go (ℕ_discrete l i)
     where
       go : Dec (l ≡ i) → Source l
       go (yes e) = record {
-        place = p;
-        place_in = p_in;
+        position = p;
+        position_in = p_in;
         from_is = ap (from R width F c c_below r i i_late below v inverts) e ∙ from_here R width F c c_below r i i_late below v inverts;
         row_is = ap (λ n. get_or (swap rows p i) n []) e ∙ swap_there rows p i p_in i_in;
       }
       go (no nf) = record {
-        place = l;
-        place_in = m;
+        position = l;
+        position_in = m;
         from_is = from_other R width F c c_below r i i_late below v inverts l nf;
         row_is = swap_other rows p i p_in i_in l ne nf;
       }
@@ -187,39 +187,39 @@ module _ (k : CodeField) (width : ℕ) (rows : List (List ℕ)) (wide : All (λ 
       (eliminated_other k.ops p c (swap rows p i) (omega (arith, p_in, length_swap rows p i p_in i_in)) l (omega (arith, length_swap rows p i p_in i_in)) ne
       ∙ ap₂ (λ x y. cleared k.ops c (normalized k.ops c x) y) (swap_here rows p i p_in i_in) s.row_is)
       ∙ ap (read_code k) entry
-      ∙ read_add k e _ (entry_below_size s.place j) product_below
+      ∙ read_add k e _ (entry_below_size s.position j) product_below
       ∙ ap (λ x. R.◌⊕◌ (read_code k e) x)
-      (read_mul k _ _ (k.laws.neg_below ec (entry_below_size s.place c)) quotient_below
-      ∙ ap₂ R.◌⊗◌ (read_neg k ec (entry_below_size s.place c)) (read_mul k _ _ inverse_below (entry_below_size i j) ∙ ap (λ x. R.◌⊗◌ v x) (sym (row_entry k rows i j)))
+      (read_mul k _ _ (k.laws.neg_below ec (entry_below_size s.position c)) quotient_below
+      ∙ ap₂ R.◌⊗◌ (read_neg k ec (entry_below_size s.position c)) (read_mul k _ _ inverse_below (entry_below_size i j) ∙ ap (λ x. R.◌⊗◌ v x) (sym (row_entry k rows i j)))
       ∙ neg_mul R (read_code k ec) _)
       ∙ sym (row_other R width F c c_below r i i_late below v inverts l j (omega (arith, length_sequences k rows)) ne
       ∙ ap (λ n. R.◌⊕◌ (row R.ops F n j) (R.⊖◌ (R.◌⊗◌ (row R.ops F n c) (normal R width F c c_below r i i_late below v inverts j)))) s.from_is
-      ∙ ap₂ (λ x y. R.◌⊕◌ x (R.⊖◌ (R.◌⊗◌ y (normal R width F c c_below r i i_late below v inverts j)))) (row_entry k rows s.place j) (row_entry k rows s.place c)
+      ∙ ap₂ (λ x y. R.◌⊕◌ x (R.⊖◌ (R.◌⊗◌ y (normal R width F c c_below r i i_late below v inverts j)))) (row_entry k rows s.position j) (row_entry k rows s.position c)
       ∙ ap (λ x. R.◌⊕◌ (read_code k e) (R.⊖◌ (R.◌⊗◌ (read_code k ec) x))) (normal_is R width F c c_below r i i_late below v inverts j))
     where
       s : Source l
       s = source l l_in ne
 
       e : ℕ
-      e = entry_at rows s.place j
+      e = entry_at rows s.position j
 
       ec : ℕ
-      ec = entry_at rows s.place c
+      ec = entry_at rows s.position c
 
       quotient_below : k.mul (k.inv (entry_at rows i c)) (entry_at rows i j) < k.size
       quotient_below = k.laws.mul_below _ _ inverse_below (entry_below_size i j)
 
       product_below : k.mul (k.neg ec) (k.mul (k.inv (entry_at rows i c)) (entry_at rows i j)) < k.size
-      product_below = k.laws.mul_below _ _ (k.laws.neg_below ec (entry_below_size s.place c)) quotient_below
+      product_below = k.laws.mul_below _ _ (k.laws.neg_below ec (entry_below_size s.position c)) quotient_below
 
       wide_pivot : length (normalized k.ops c (get_or rows i [])) ≡ width
       wide_pivot = length_scale_list (raw_ring k.ops) (k.inv (entry_at rows i c)) (get_or rows i []) ∙ wide_row i i_in
 
-      entry : get_or (cleared k.ops c (normalized k.ops c (get_or rows i [])) (get_or rows s.place [])) j 0
+      entry : get_or (cleared k.ops c (normalized k.ops c (get_or rows i [])) (get_or rows s.position [])) j 0
           ≡ k.add e (k.mul (k.neg ec) (k.mul (k.inv (entry_at rows i c)) (entry_at rows i j)))
       entry =
-          add_entry k.ops (get_or rows s.place []) (scale_list (raw_ring k.ops) (k.neg ec) (normalized k.ops c (get_or rows i []))) j (omega (arith, wide_row s.place s.place_in))
-          (wide_row s.place s.place_in ∙ sym (length_scale_list (raw_ring k.ops) (k.neg ec) (normalized k.ops c (get_or rows i [])) ∙ wide_pivot))
+          add_entry k.ops (get_or rows s.position []) (scale_list (raw_ring k.ops) (k.neg ec) (normalized k.ops c (get_or rows i []))) j (omega (arith, wide_row s.position s.position_in))
+          (wide_row s.position s.position_in ∙ sym (length_scale_list (raw_ring k.ops) (k.neg ec) (normalized k.ops c (get_or rows i [])) ∙ wide_pivot))
           ∙ ap (k.add e)
           (get_or_scale_list (raw_ring k.ops) (k.neg ec) (normalized k.ops c (get_or rows i [])) j 0 (omega (arith, wide_pivot)) ∙ ap (k.mul (k.neg ec)) (pivot_entry j j_in))
 

@@ -29,7 +29,7 @@ with_entry m r c v = record { cols = m.cols; rows = slice_set m.rows r (slice_se
 abbrev pub with_first_row : List ℕ → MatrixValue → MatrixValue
 with_first_row b m = record { cols = m.cols; rows = b ∷ m.rows }
 
--- m without its rows from a place on
+-- m without its rows from a position on
 abbrev pub first_rows_of : MatrixValue → ℕ → MatrixValue
 first_rows_of m r = record { cols = m.cols; rows = take r m.rows }
 

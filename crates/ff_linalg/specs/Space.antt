@@ -3,12 +3,12 @@ use Rattle.std.specs.Prelude.{◌≡◌, ◌<◌, ℕ, List, length, replicate}
 use Rattle.ff_fields.specs.Field.{FieldOps}
 use Rattle.ff_fields.specs.Code.{raw_ring}
 use Rattle.ff_fields.specs.Over.{IsOver}
-use Rattle.ff_ring.specs.Lists.{add_lists, scale_list}
+use Rattle.ring_theory.specs.Lists.{add_lists, scale_list}
 use Rattle.linear_theory.specs.Module.{ModuleOps, combination}
 use Rattle.linear_theory.specs.Echelon.{IsReduced, rows_of}
 use Rattle.ff_linalg.specs.Matrix.{MatrixValue, row_of, first_rows_of}
 
--- rows of so many codes, which are added place by place
+-- rows of so many codes, which are added position by position
 abbrev pub row_ops : FieldOps → ℕ → ModuleOps ℕ (List ℕ)
 row_ops k cols = record { 𝟬 = replicate cols 0; ◌⊞◌ = add_lists (raw_ring k); ◌•◌ = scale_list (raw_ring k) }
 

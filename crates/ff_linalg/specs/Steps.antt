@@ -2,7 +2,7 @@
 use Rattle.std.specs.Prelude.{◌≡◌, ◌≢◌, ◌<◌, ◌≤◌, ℕ, suc, List, [], ◌∷◌, ◌++◌, take, drop, map, length, swap, slice_index, slice_index_or, slice_set, replicate}
 use Rattle.ff_fields.specs.Field.{FieldOps}
 use Rattle.ff_fields.specs.Code.{raw_ring}
-use Rattle.ff_ring.specs.Lists.{add_lists, scale_list}
+use Rattle.ring_theory.specs.Lists.{add_lists, scale_list}
 
 abbrev pub entry_at : List (List ℕ) → ℕ → ℕ → ℕ
 entry_at rows r c = slice_index (slice_index_or rows r []) c
@@ -23,11 +23,11 @@ eliminated k p c rows =
 
 -- a row from the rank on whose entry in column c isn't 0 is exchanged with the one at the rank
 pub record RaisesPivot (old new : List (List ℕ)) (rank c : ℕ) : Type 0 where
-  pub place : ℕ
-  pub late : rank ≤ place
-  pub within : place < length old
-  pub nonzero : entry_at old place c ≢ 0
-  pub is : new ≡ swap old rank place
+  pub position : ℕ
+  pub late : rank ≤ position
+  pub within : position < length old
+  pub nonzero : entry_at old position c ≢ 0
+  pub is : new ≡ swap old rank position
 
 -- column c is 0 from the rank on
 abbrev pub HasNoPivot : List (List ℕ) → ℕ → ℕ → Type 0

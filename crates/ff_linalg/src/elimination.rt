@@ -11,7 +11,7 @@ use crate::matrix::Matrix;
 use crate::rows::{clear_column, find_pivot, swap_rows};
 use ff_fields::field::SmallField;
 
-/// Brings the first row from `rank` on whose entry in column c isn't 0 to the place `rank`, if there is one.
+/// Brings the first row from `rank` on whose entry in column c isn't 0 to the position `rank`, if there is one.
 fn raise_pivot(entries: &mut [u32], rows: usize, cols: usize, rank: usize, c: usize) -> bool
     requires shape { length entries.old ≡ rows * cols }
     requires col_in { c < cols }

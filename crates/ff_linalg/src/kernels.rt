@@ -12,7 +12,7 @@ use crate::matrix::{Matrix, zeros};
 use ff_fields::field::SmallField;
 use std::alloc::{AllocError, Global};
 
-/// Writes the source, and a 1 at the place i behind it.
+/// Writes the source, and a 1 at the position i behind it.
 fn write_row(row: &mut [u32], source: &[u32], i: usize)
     requires { length source.now + i < length row.old }
     ensures { row.new ≡ source.now ++ slice_set (drop (length source.now) row.old) i 1 }

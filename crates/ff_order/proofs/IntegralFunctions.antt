@@ -3,19 +3,19 @@ use Rattle.std.proofs.Common.{◌≡◌, ◌↔◌, ℕ, ◌<◌, List, [], ◌�
 use Rattle.std.specs.List.{Any}
 use Rattle.std.proofs.lemmas.List.Elements.{All-weaker, All-map}
 use Rattle.std.proofs.lemmas.List.{length-map, get_or-map}
-use Rattle.ff_ring.proofs.Ring.{one_mul}
-use Rattle.local_theory.specs.Orders.{MaximalAt}
-use Rattle.local_theory.proofs.Enlarge.{PowersOf}
+use Rattle.ring_theory.proofs.Ring.{one_mul}
+use Rattle.prime_theory.specs.Orders.{MaximalAt}
+use Rattle.prime_theory.proofs.Enlarge.{PowersOf}
 use Rattle.linear_theory.specs.Euclidean.{IsDivisor}
 use Rattle.ff_fields.specs.Field.{CodeField}
 use Rattle.ff_fields.specs.Over.{IsOver}
 use Rattle.ff_poly.specs.Words.{IsIrreducible}
 use Rattle.ff_poly.specs.Value.{value}
 use Rattle.ff_poly.specs.Polynomials.{Polynomial, polynomials, codes_of}
-use Rattle.ff_algebra.specs.declared.elem.Side.TheVariants.{Finite}
-use Rattle.ff_algebra.specs.Places.{IsIntegralAt}
-use Rattle.ff_algebra.specs.Functions.{Equation, FunctionOf, ring_of, of_poly, setting_of}
-use Rattle.ff_algebra.specs.Discriminant.{discriminant}
+use Rattle.function_field.specs.declared.side.Side.TheVariants.{Finite}
+use Rattle.function_field.specs.Places.{IsIntegralAt}
+use Rattle.function_field.specs.Functions.{Equation, FunctionOf, ring_of, of_poly, setting_of}
+use Rattle.function_field.specs.Discriminant.{discriminant}
 use Rattle.trace_theory.specs.Traces.{HasPolynomialCoordinates, polynomial_product}
 use Rattle.trace_theory.proofs.MaximalOrder.{maximal_order}
 use Rattle.order_theory.specs.Orders.{IsOrder}
@@ -23,7 +23,7 @@ use Rattle.order_theory.proofs.LocalOrders.{order_integral}
 use Rattle.order_theory.proofs.Enlargements.{products_maximal}
 use Rattle.ff_lattice.proofs.OrderRows.{all_from_map}
 use Rattle.ff_order.specs.Enlargements.{TakenByProducts}
-use Rattle.ff_order.proofs.Bridge.{irreducible_value}
+use Rattle.value_theory.proofs.Bridge.{irreducible_value}
 
 module _ {k : CodeField} (c : Equation k) where
   abbrev Int : FunctionOf c → Type 0

@@ -1,5 +1,4 @@
 pub mod Results
-pub mod Bridge
 pub mod NilpotentClasses
 pub mod RadicalSets
 pub mod Turns

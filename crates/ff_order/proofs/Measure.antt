@@ -8,11 +8,11 @@ use Rattle.popov_theory.specs.Span as spans
 use Rattle.popov_theory.proofs.Existence.{full_rank_or_not, rank_from_full}
 use Rattle.ff_popov.specs.Reading.{row_space, read_rows}
 use Rattle.ff_popov.proofs.PopovBasis.{basis_weak, basis_full}
-use Rattle.ff_algebra.specs.declared.elem.Side.TheVariants.{Finite}
-use Rattle.ff_algebra.specs.Places.{IsIntegralAt}
-use Rattle.ff_algebra.specs.Functions.{setting_of}
-use Rattle.ff_algebra.specs.Discriminant.{discriminant}
-use Rattle.ff_algebra.specs.Values.{PresValue, Functions, equation_of}
+use Rattle.function_field.specs.declared.side.Side.TheVariants.{Finite}
+use Rattle.function_field.specs.Places.{IsIntegralAt}
+use Rattle.function_field.specs.Functions.{setting_of}
+use Rattle.function_field.specs.Discriminant.{discriminant}
+use Rattle.function_field.specs.Values.{PresValue, Functions, equation_of}
 use Rattle.lattice_theory.specs.Lattices as theory
 use Rattle.lattice_theory.specs.Lattices.{HasIndex}
 use Rattle.lattice_theory.proofs.Operations.{lattice_within}
@@ -25,7 +25,7 @@ use Rattle.ff_lattice.proofs.Divisors.{monic_value}
 use Rattle.ff_lattice.proofs.OneForm.{one_form}
 use Rattle.ff_lattice.proofs.SpannedSets.{full_from_rank}
 use Rattle.ff_order.specs.Steps.{IsTurn}
-use Rattle.ff_order.proofs.Bridge.{full_lattice, lattice_set, order_set}
+use Rattle.value_theory.proofs.Bridge.{full_lattice, lattice_set, order_set}
 
 module _ (k : CodeField) (p : PresValue) where
   abbrev Int : Functions k p → Type 0

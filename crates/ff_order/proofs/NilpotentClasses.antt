@@ -3,12 +3,12 @@
 use Rattle.std.proofs.Common.{◌≡◌, ℕ, zero, suc, ◌+◌, ◌-◌, ◌<◌, List, [], ◌∷◌, ◌++◌, length, get_or, map, take, replicate, refl, sym, ◌∙◌, ap, ap₂, subst, arith, All}
 use Rattle.std.proofs.lemmas.List.{length-replicate, take_more}
 use Rattle.std.proofs.lemmas.List.Elements.{All-nil, All-cons, All-head, All-tail, All-append, All-map}
-use Rattle.ff_ring.specs.Ring.{CommRing, pow}
-use Rattle.ff_ring.specs.Lists.{scale_list}
-use Rattle.ff_ring.specs.Rows.{Row}
-use Rattle.ff_ring.specs.Subsets.{IsSubring, Span}
-use Rattle.ff_ring.proofs.Ring.{zero_add, add_sub}
-use Rattle.ff_ring.proofs.Subsets.{span_zero}
+use Rattle.ring_theory.specs.Ring.{CommRing, pow}
+use Rattle.ring_theory.specs.Lists.{scale_list}
+use Rattle.ring_theory.specs.Rows.{Row}
+use Rattle.ring_theory.specs.Subsets.{IsSubring, Span}
+use Rattle.ring_theory.proofs.Ring.{zero_add, add_sub}
+use Rattle.ring_theory.proofs.Subsets.{span_zero}
 use Rattle.ff_fields.specs.Field.{CodeField}
 use Rattle.ff_fields.specs.Code.{raw_ring}
 use Rattle.ff_fields.specs.Over.{IsOver, IsOver_head, IsOver_tail, IsOver_zeros}
@@ -21,9 +21,9 @@ use Rattle.ff_linalg.specs.Space.{row_ops}
 use Rattle.ff_linalg.proofs.Bridge.{own_row_codes}
 use Rattle.ff_falg.specs.Algebras.{IsVector, IsNilpotent, power}
 use Rattle.ff_falg.specs.Spaces.{IsEchelonBasis}
-use Rattle.ff_algebra.specs.Functions.{of_poly, over, IsPolynomial}
-use Rattle.ff_algebra.specs.Values.{ElemValue, IsElem, Functions, functions, function_of, equation_of}
-use Rattle.ff_algebra.proofs.ScalarRings.{polynomials_subring}
+use Rattle.function_field.specs.Functions.{of_poly, over, IsPolynomial}
+use Rattle.function_field.specs.Values.{ElemValue, IsElem, Functions, functions, function_of, equation_of}
+use Rattle.function_field.proofs.ScalarRings.{polynomials_subring}
 use Rattle.ff_lattice.specs.Lattices.{Contains, IsSumOf}
 use Rattle.ff_lattice.specs.Quotients.{QuotientValue, IsQuotient, IsClassOf, HasClasses, dimension, lifted, codes_of_row, quotient_ops}
 use Rattle.ff_lattice.proofs.Elements.{elem_over, in_span_of}

@@ -4,11 +4,11 @@ use Rattle.std.proofs.lemmas.List.{length-append, get_or_append_left}
 use Rattle.std.proofs.Math.Seq.{get_or-append_seam}
 use Rattle.std.proofs.lemmas.List.Elements.{All-nil, All-cons, All-append}
 use Rattle.std.proofs.lemmas.Bool.{cases_lt}
-use Rattle.ff_ring.specs.Ring.{CommRing}
-use Rattle.ff_ring.specs.Rows.{Row, row_scale}
-use Rattle.ff_ring.proofs.Rows.{row_mul}
-use Rattle.ff_ring.proofs.Ring.{product_not_zero}
-use Rattle.ff_ring.specs.Subsets.{Span}
+use Rattle.ring_theory.specs.Ring.{CommRing}
+use Rattle.ring_theory.specs.Rows.{Row, row_scale}
+use Rattle.ring_theory.proofs.Rows.{row_mul}
+use Rattle.ring_theory.proofs.Ring.{product_not_zero}
+use Rattle.ring_theory.specs.Subsets.{Span}
 use Rattle.ff_fields.specs.Field.{CodeField}
 use Rattle.ff_fields.specs.Code.{code_ring, code_field}
 use Rattle.ff_poly.specs.Value.{value}
@@ -22,9 +22,9 @@ use Rattle.popov_theory.proofs.Dimension.{units, units_at, units_length, in_unit
 use Rattle.ff_popov.specs.Reading.{read_row, row_space, read_rows}
 use Rattle.ff_popov.proofs.ReadRows.{read_row_at}
 use Rattle.ff_popov.proofs.Measures.{space_width}
-use Rattle.ff_algebra.specs.Functions.{Equation, FunctionOf, ring_of, IsPolynomial, over, row_of}
-use Rattle.ff_algebra.specs.Values.{ElemValue, PresValue, IsElem, Functions, functions, function_of, equation_of}
-use Rattle.ff_algebra.proofs.ScalarRings.{of_poly_one}
+use Rattle.function_field.specs.Functions.{Equation, FunctionOf, ring_of, IsPolynomial, over, row_of}
+use Rattle.function_field.specs.Values.{ElemValue, PresValue, IsElem, Functions, functions, function_of, equation_of}
+use Rattle.function_field.proofs.ScalarRings.{of_poly_one}
 use Rattle.trace_theory.specs.Traces.{HasPolynomialCoordinates}
 use Rattle.ff_lattice.specs.Lattices.{LatticeValue, IsLattice, Contains, InSpanOf, IsFull, elems_over}
 use Rattle.ff_lattice.specs.Orders.{IsOrder}

@@ -1,15 +1,15 @@
 -- One polynomial of a list after another: the order after each of them.
 use Rattle.std.proofs.Common.{◌≡◌, ◌↔◌, ℕ, ◌+◌, ◌<◌, List, [], ◌∷◌, ◌++◌, length, get_or, map, take, refl, sym, ◌∙◌, ap, subst}
 use Rattle.std.proofs.lemmas.List.{take_more}
-use Rattle.ff_ring.proofs.Ring.{one_mul}
-use Rattle.local_theory.proofs.Enlarge.{EnlargedAt}
+use Rattle.ring_theory.proofs.Ring.{one_mul}
+use Rattle.prime_theory.proofs.Enlarge.{EnlargedAt}
 use Rattle.ff_fields.specs.Field.{CodeField}
 use Rattle.ff_poly.specs.Value.{value}
 use Rattle.ff_poly.specs.Polynomials.{Polynomial}
-use Rattle.ff_algebra.specs.declared.elem.Side.TheVariants.{Finite}
-use Rattle.ff_algebra.specs.Places.{IsIntegralAt}
-use Rattle.ff_algebra.specs.Functions.{Equation, FunctionOf, ring_of, of_poly, setting_of}
-use Rattle.ff_algebra.specs.Values.{PresValue, Functions, equation_of}
+use Rattle.function_field.specs.declared.side.Side.TheVariants.{Finite}
+use Rattle.function_field.specs.Places.{IsIntegralAt}
+use Rattle.function_field.specs.Functions.{Equation, FunctionOf, ring_of, of_poly, setting_of}
+use Rattle.function_field.specs.Values.{PresValue, Functions, equation_of}
 use Rattle.order_theory.specs.Orders as theory
 use Rattle.order_theory.specs.Orders.{TakenByPowers}
 use Rattle.order_theory.proofs.LocalOrders.{order_integral}
@@ -19,7 +19,7 @@ use Rattle.ff_lattice.specs.Orders.{IsOrder}
 use Rattle.ff_lattice.proofs.SumsAndProducts.{map_join}
 use Rattle.ff_order.specs.Enlargements.{TakenByProducts}
 use Rattle.ff_order.specs.Steps.{IsEnlarged}
-use Rattle.ff_order.proofs.Bridge.{order_set}
+use Rattle.value_theory.proofs.Bridge.{order_set}
 use Rattle.ff_order.proofs.IntegralFunctions.{products_words}
 
 module _ {k : CodeField} (c : Equation k) (O : FunctionOf c → Type 0) (𝓞 : theory.IsOrder c O) where

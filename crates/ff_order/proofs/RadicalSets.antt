@@ -1,21 +1,21 @@
 -- The radical of an order at a polynomial: the multiples of the order by it, and the nilpotent classes modulo them.
 use Rattle.std.proofs.Common.{◌≡◌, ℕ, ◌<◌, ◌↔◌, List, [], ◌∷◌, ◌++◌, length, map, sym, ◌∙◌, ap, subst, All}
 use Rattle.std.proofs.lemmas.List.Elements.{All-map, All-weaker}
-use Rattle.ff_ring.specs.Ring.{CommRing}
-use Rattle.ff_ring.specs.Subsets.{IsSubring, Span}
-use Rattle.ff_ring.proofs.Ring.{one_mul}
-use Rattle.ff_ring.proofs.Subsets.{span_least, span_append_right}
+use Rattle.ring_theory.specs.Ring.{CommRing}
+use Rattle.ring_theory.specs.Subsets.{IsSubring, Span}
+use Rattle.ring_theory.proofs.Ring.{one_mul}
+use Rattle.ring_theory.proofs.Subsets.{span_least, span_append_right}
 use Rattle.ff_fields.specs.Field.{CodeField}
 use Rattle.ff_poly.specs.Value.{value}
 use Rattle.ff_poly.specs.Polynomials.{value_one}
-use Rattle.ff_algebra.specs.Functions.{IsPolynomial, of_poly}
-use Rattle.ff_algebra.specs.Values.{ElemValue, PresValue, Functions, functions, function_of, equation_of}
-use Rattle.ff_algebra.proofs.ScalarRings.{polynomials_subring, of_poly_one}
-use Rattle.local_theory.specs.Ideals.{Multiple}
-use Rattle.local_theory.specs.Ideals as local
-use Rattle.local_theory.specs.Orders.{Radical}
-use Rattle.local_theory.proofs.PohstZassenhaus.{multiples_ideal}
-use Rattle.local_theory.proofs.Radicals.{p_in_radical}
+use Rattle.function_field.specs.Functions.{IsPolynomial, of_poly}
+use Rattle.function_field.specs.Values.{ElemValue, PresValue, Functions, functions, function_of, equation_of}
+use Rattle.function_field.proofs.ScalarRings.{polynomials_subring, of_poly_one}
+use Rattle.prime_theory.specs.Ideals.{Multiple}
+use Rattle.prime_theory.specs.Ideals as local
+use Rattle.prime_theory.specs.Orders.{Radical}
+use Rattle.prime_theory.proofs.PohstZassenhaus.{multiples_ideal}
+use Rattle.prime_theory.proofs.Radicals.{p_in_radical}
 use Rattle.order_theory.specs.Orders as theory
 use Rattle.order_theory.proofs.Enlargements.{order_has, radical_of_order, ideal_module}
 use Rattle.ff_lattice.specs.Lattices.{LatticeValue, IsLattice, Contains, InSpanOf, IsFull, IsScaled, IsSumOf, row_elems}
@@ -24,7 +24,7 @@ use Rattle.ff_lattice.specs.Quotients.{IsIdeal}
 use Rattle.ff_lattice.proofs.SpannedSets.{lattice_full}
 use Rattle.ff_lattice.proofs.SumsAndProducts.{map_join, sum_iff, full_within}
 use Rattle.ff_order.specs.Steps.{IsNilpotentModulo, IsNilpotentBasis}
-use Rattle.ff_order.proofs.Bridge.{order_set}
+use Rattle.value_theory.proofs.Bridge.{order_set}
 
 module _ (k : CodeField) (p : PresValue) where
   abbrev F : CommRing (Functions k p)

@@ -3,9 +3,9 @@ use Rattle.std.proofs.Common.{◌≡◌, sym, subst, ◌∙◌}
 use Rattle.ff_fields.specs.Field.{CodeField}
 use Rattle.ff_poly.specs.Value.{value}
 use Rattle.ff_poly.specs.Polynomials.{polynomials, value_not_zero}
-use Rattle.ff_algebra.specs.Discriminant.{discriminant}
-use Rattle.ff_algebra.specs.Values.{PresValue, equation_of}
-use Rattle.ff_algebra.specs.Curves.{CurveValue, IsCurve}
+use Rattle.function_field.specs.Discriminant.{discriminant}
+use Rattle.function_field.specs.Values.{PresValue, equation_of}
+use Rattle.function_field.specs.Curves.{CurveValue, IsCurve}
 
 module _ (k : CodeField) (c : CurveValue) (curve : IsCurve k c) where
   value_some : ¬ (value k c.disc ≡ (polynomials k).𝟘)

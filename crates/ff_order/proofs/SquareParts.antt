@@ -1,8 +1,8 @@
 -- In a factorisation the square of an irreducible polynomial divides the product where the exponent of that polynomial is 2 or more.
 use Rattle.std.proofs.Common.{◌≡◌, ◌⊎◌, ℕ, zero, suc, ◌<◌, ◌≤◌, List, [], ◌∷◌, length, get_or, inl, inr, refl, sym, ◌∙◌, ap, subst, arith, All}
 use Rattle.std.proofs.lemmas.List.Elements.{All-head, All-tail}
-use Rattle.ff_ring.specs.Ring.{CommRing, pow}
-use Rattle.ff_ring.proofs.Ring.{mul_zero, mul_left_comm}
+use Rattle.ring_theory.specs.Ring.{CommRing, pow}
+use Rattle.ring_theory.proofs.Ring.{mul_zero, mul_left_comm}
 use Rattle.std.proofs.lemmas.List.{length-append}
 use Rattle.ff_poly.proofs.Results.{product_of_nil}
 use Rattle.linear_theory.specs.Euclidean.{IsDivisor}
@@ -17,7 +17,7 @@ use Rattle.trace_theory.proofs.Irreducible.{irreducible}
 use Rattle.ff_lattice.proofs.Elements.{divides_codes}
 use Rattle.ff_lattice.proofs.Normal.{monic_poly}
 use Rattle.ff_lattice.proofs.Scaled.{product_length, monic_factor}
-use Rattle.ff_order.proofs.Bridge.{irreducible_value}
+use Rattle.value_theory.proofs.Bridge.{irreducible_value}
 
 module _ (k : CodeField) where
   abbrev S : CommRing (Polynomial k)

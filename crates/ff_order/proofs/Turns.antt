@@ -4,10 +4,10 @@ use Rattle.ff_fields.specs.Field.{CodeField}
 use Rattle.ff_fields.specs.Over.{IsOver}
 use Rattle.ff_poly.specs.Words.{IsIrreducible}
 use Rattle.ff_poly.specs.Value.{value}
-use Rattle.ff_algebra.specs.Functions.{of_poly}
-use Rattle.ff_algebra.specs.Values.{PresValue, Functions, functions, equation_of}
-use Rattle.local_theory.specs.Ideals as local
-use Rattle.local_theory.specs.Orders.{Radical}
+use Rattle.function_field.specs.Functions.{of_poly}
+use Rattle.function_field.specs.Values.{PresValue, Functions, functions, equation_of}
+use Rattle.prime_theory.specs.Ideals as local
+use Rattle.prime_theory.specs.Orders.{Radical}
 use Rattle.order_theory.specs.Orders as theory
 use Rattle.order_theory.specs.Orders.{TakenByPowers}
 use Rattle.order_theory.proofs.Enlargements.{radical_of_order, radical_has, multipliers_have, multipliers_taken, maximal_of_multipliers, taken_has, taken_again, taken_is}
@@ -16,7 +16,7 @@ use Rattle.ff_lattice.specs.Orders.{IsOrder}
 use Rattle.ff_lattice.specs.Quotients.{IsIdeal}
 use Rattle.ff_lattice.specs.Colons.{IsColon}
 use Rattle.ff_order.specs.Steps.{IsTurn, IsBetween}
-use Rattle.ff_order.proofs.Bridge.{row_functions, lattice_set, order_set, irreducible_value}
+use Rattle.value_theory.proofs.Bridge.{row_functions, lattice_set, order_set, irreducible_value}
 
 module _ (k : CodeField) (p : PresValue) (positive : 0 < p.n) where
   module _ (o : LatticeValue) (order : IsOrder k p o) (pi : List ℕ) where

@@ -2,12 +2,12 @@
 use Rattle.std.specs.Prelude.{◌≡◌, ℕ, ◌↔◌, List, map, All}
 use Rattle.ff_fields.specs.Field.{CodeField}
 use Rattle.ff_poly.specs.Value.{value}
-use Rattle.ff_algebra.specs.declared.elem.Side.TheVariants.{Finite}
-use Rattle.ff_algebra.specs.Places.{IsIntegralAt}
-use Rattle.ff_algebra.specs.Functions.{of_poly, setting_of}
-use Rattle.ff_algebra.specs.Values.{ElemValue, PresValue, IsElem, Functions, functions, function_of, equation_of}
-use Rattle.local_theory.specs.Ideals.{PowerIn}
-use Rattle.local_theory.specs.Orders.{MaximalAt}
+use Rattle.function_field.specs.declared.side.Side.TheVariants.{Finite}
+use Rattle.function_field.specs.Places.{IsIntegralAt}
+use Rattle.function_field.specs.Functions.{of_poly, setting_of}
+use Rattle.function_field.specs.Values.{ElemValue, PresValue, IsElem, Functions, functions, function_of, equation_of}
+use Rattle.prime_theory.specs.Ideals.{PowerIn}
+use Rattle.prime_theory.specs.Orders.{MaximalAt}
 use Rattle.order_theory.specs.Orders.{TakenByPowers}
 use Rattle.ff_lattice.specs.Lattices.{LatticeValue, Contains, InSpanOf, IsSumOf}
 use Rattle.ff_lattice.specs.Orders.{IsOrder}

@@ -4,14 +4,14 @@ ghost use Rattle.std.specs.Prelude.{◌≡◌, ◌≢◌, ◌↔◌, [], All, If
 ghost use Rattle.ff_fields.specs.Over.{IsOver};
 ghost use Rattle.ff_poly.specs.Words.{IsIrreducible};
 ghost use Rattle.ff_poly.specs.Value.{value};
-ghost use Rattle.ff_algebra.specs.Functions.{of_poly};
-ghost use Rattle.ff_algebra.specs.Values.{PresValue, IsPresOver, Functions, functions, equation_of};
+ghost use Rattle.function_field.specs.Functions.{of_poly};
+ghost use Rattle.function_field.specs.Values.{PresValue, IsPresOver, Functions, functions, equation_of};
 ghost use Rattle.ff_falg.specs.Algebras.{IsVector};
 ghost use Rattle.ff_lattice.specs.Lattices.{LatticeValue, IsLattice, Contains};
 ghost use Rattle.ff_lattice.specs.Orders.{IsOrder};
 ghost use Rattle.ff_lattice.specs.Quotients.{QuotientValue, IsQuotient, IsQuotientOver, IsIdeal, dimension};
-ghost use Rattle.local_theory.specs.Ideals.{Multiple};
-ghost use Rattle.local_theory.specs.Orders.{Radical};
+ghost use Rattle.prime_theory.specs.Ideals.{Multiple};
+ghost use Rattle.prime_theory.specs.Orders.{Radical};
 ghost use Rattle.ff_order.specs.Steps.{AreLifts, IsNilpotentBasis};
 
 use ff_algebra::{Elem, Pres};

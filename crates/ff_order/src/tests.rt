@@ -7,7 +7,7 @@
 ghost use Rattle.std.specs.Prelude.{◌≡◌, ◌<◌, [], ◌∷◌, All, IfOk};
 ghost use Rattle.ff_fields.specs.Over.{IsOver};
 ghost use Rattle.ff_poly.specs.Words.{IsIrreducible};
-ghost use Rattle.ff_algebra.specs.Curves.{IsCurve};
+ghost use Rattle.function_field.specs.Curves.{IsCurve};
 
 use crate::{equation_order, maximal, multiplier, p_maximal, radical};
 use ff_algebra::Curve;

@@ -3,15 +3,15 @@ use Rattle.std.proofs.Common.{◌≡◌, ℕ, zero, suc, ◌+◌, ◌-◌, ◌<�
 use Rattle.std.proofs.lemmas.List.{take_all, drop_all, drop_at, take_at, length-replicate, length-drop, drop_more, take_rest, append-nil, replicate-append-replicate}
 use borrow.Rule.Slice.PartMut.{put_mid}
 use Rattle.ff_fields.specs.Field.{CodeField}
-use Rattle.ff_ring.specs.Ring.{Operations}
+use Rattle.ring_theory.specs.Ring.{Operations}
 use Rattle.ff_fields.specs.Code.{raw_ring}
-use Rattle.ff_ring.specs.Lists.{add_lists, scale_list, mul_onto}
-use Rattle.ff_ring.proofs.Lists.{add_lists_nil, length_scale_list}
+use Rattle.ring_theory.specs.Lists.{add_lists, scale_list, mul_onto}
+use Rattle.ring_theory.proofs.Lists.{add_lists_nil, length_scale_list}
 use Rattle.ff_fields.specs.Over.{IsOver, IsOver_add, IsOver_take}
 
--- ---- a list is added, one place after another
+-- ---- a list is added, one position after another
 
--- one place more is added
+-- one position more is added
 add_lists_more : {A : Type 0} (r : Operations A) (old ys : List A) (j : ℕ) (d : A) → j < length ys → length ys ≤ length old → set (add_lists r old (take j ys)) j (r.◌⊕◌ (get_or (add_lists r old (take j ys)) j d) (get_or ys j d)) ≡ add_lists r old (take (suc j) ys)
 add_lists_more r old [] j d less le = absurd (omega arith)
 add_lists_more r [] (y ∷ ys) j d less le = absurd (omega arith)
@@ -25,7 +25,7 @@ add_lists_step r old now ys j x y now_is less le y_is x_is =
 pub add_lists_all : (r : Operations ℕ) (old now ys : List ℕ) (j : ℕ) → now ≡ add_lists r old (take j ys) → length ys ≤ j → now ≡ add_lists r old ys
 add_lists_all r old now ys j now_is le = now_is ∙ ap (add_lists r old) (take_all j ys le)
 
--- ---- each place is multiplied
+-- ---- each position is multiplied
 
 scaled_read : {A : Type 0} (r : Operations A) (c : A) (old : List A) (j : ℕ) (d : A) → j < length old → get_or (take j (scale_list r c old) ++ drop j old) j d ≡ get_or old j d
 scaled_read r c [] j d less = absurd (omega arith)

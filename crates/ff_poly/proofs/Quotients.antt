@@ -5,13 +5,13 @@ use Rattle.std.proofs.lemmas.List.{drop_all, drop_at, take_at, take_more, length
 use mathlib.Core.Path.{fun_ext}
 use borrow.Rule.Slice.PartMut.{put_mid}
 use Rattle.ff_fields.specs.Field.{CodeField}
-use Rattle.ff_ring.specs.Ring.{Operations, TestedRing}
-use Rattle.ff_ring.specs.Lists.{convolution, coeff_of, add_lists, scale_list, trim, IsTrimmed, digit_of, rest_from, quotient_from}
-use Rattle.ff_ring.proofs.Sequences.{convolution_comm}
+use Rattle.ring_theory.specs.Ring.{Operations, TestedRing}
+use Rattle.ring_theory.specs.Lists.{convolution, coeff_of, add_lists, scale_list, trim, IsTrimmed, digit_of, rest_from, quotient_from}
+use Rattle.ring_theory.proofs.Sequences.{convolution_comm}
 use Rattle.ff_fields.specs.Code.{raw_ring, Code, same_code, code_ring, read_code, is_zero_code}
-use Rattle.ff_ring.proofs.Lists.{IsTrimmed_trim, coeff_trim}
-use Rattle.ff_ring.proofs.Polynomials.{Pol, pol_ring, same_pol, series_add, series_mul}
-use Rattle.ff_ring.proofs.Division.{divided, rest_ends, length_bound}
+use Rattle.ring_theory.proofs.Lists.{IsTrimmed_trim, coeff_trim}
+use Rattle.ring_theory.proofs.Polynomials.{Pol, pol_ring, same_pol, series_add, series_mul}
+use Rattle.ring_theory.proofs.Division.{divided, rest_ends, length_bound}
 use Rattle.ff_fields.specs.Over.{IsOver, IsOver_trim, IsOver_quotient_from, IsOver_rest_from, get_or_below}
 use Rattle.ff_poly.specs.Words.{IsPoly, IsQuotient, poly_of, sum_of, product_of}
 use Rattle.ff_poly.specs.PolyOver.{IsOver_sum_of, IsOver_product_of, IsPoly_poly_of}
@@ -27,7 +27,7 @@ module _ (r : Operations ℕ) (null : r.𝟘 ≡ 0) (b : List ℕ) (inverse : �
   later : List ℕ
   later = rest_from r b inverse (drop (n + 1) a)
 
-  -- what the loop has before a step, at the place of the step
+  -- what the loop has before a step, at the position of the step
   unfolded : (rest : List ℕ) → rest ≡ take i a ++ rest_from r b inverse (drop i a) → rest ≡ take n a ++ (get_or a n 0 ∷ later)
   unfolding later
   unfolded rest done =

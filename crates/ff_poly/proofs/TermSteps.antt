@@ -1,4 +1,4 @@
--- A multiple by a term is taken away from a list, from a place on.
+-- A multiple by a term is taken away from a list, from a position on.
 use Rattle.std.proofs.Common.{◌≡◌, ℕ, zero, suc, ◌-◌, ◌<◌, ◌≤◌, List, [], ◌∷◌, ◌++◌, length, take, drop, replicate, refl, sym, ap, ap₂, ◌∙◌, arith}
 use Rattle.std.proofs.lemmas.List.{map-append, drop_all, length-drop, take_rest, append-nil}
 use borrow.Rule.Slice.PartMut.{put_mid}
@@ -6,11 +6,11 @@ use Rattle.ff_fields.specs.Field.{CodeField}
 use Rattle.ff_fields.specs.Code.{raw_ring, Code, code_ring}
 use Rattle.ff_fields.specs.Numbers.{numbers, read, numbers_read, numbers_add, numbers_neg, numbers_mul, numbers_zeros, numbers_scale, numbers_trim}
 use Rattle.ff_fields.specs.Over.{IsOver, IsOver_head, IsOver_tail}
-use Rattle.ff_ring.specs.Ring.{TestedRing}
-use Rattle.ff_ring.specs.Lists.{coeff_of, convolution, add_lists, neg_list, scale_list, mul_lists, trim}
-use Rattle.ff_ring.proofs.Ring.{zero_add, zero_mul, neg_mul, neg_zero}
-use Rattle.ff_ring.proofs.Sequences.{convolution_constant_left}
-use Rattle.ff_ring.proofs.Lists.{coeff_add, coeff_neg, coeff_scale, coeff_mul, coeff_trim, coeff_append_zeros}
+use Rattle.ring_theory.specs.Ring.{TestedRing}
+use Rattle.ring_theory.specs.Lists.{coeff_of, convolution, add_lists, neg_list, scale_list, mul_lists, trim}
+use Rattle.ring_theory.proofs.Ring.{zero_add, zero_mul, neg_mul, neg_zero}
+use Rattle.ring_theory.proofs.Sequences.{convolution_constant_left}
+use Rattle.ring_theory.proofs.Lists.{coeff_add, coeff_neg, coeff_scale, coeff_mul, coeff_trim, coeff_append_zeros}
 use Rattle.ff_poly.specs.Words.{poly_of}
 use Rattle.ff_poly.specs.Value.{same_numbers}
 use Rattle.ff_poly.specs.Terms.{term, less_multiple}
@@ -18,7 +18,7 @@ use Rattle.ff_poly.specs.Terms.{term, less_multiple}
 module _ {A : Type 0} (r : TestedRing A) where
   open r use {𝟘, ◌⊕◌, ◌⊗◌, ⊖◌}
 
-  -- a sequence moved up by j places
+  -- a sequence moved up by j positions
   moved : ℕ → (ℕ → A) → ℕ → A
   moved zero f n = f n
   moved (suc j) f zero = 𝟘
@@ -68,7 +68,7 @@ module _ (k : CodeField) where
       ap (λ x. x ++ c.0 ∷ []) (sym (numbers_zeros k j))
       ∙ sym (map-append (λ x. x.0) (replicate j (code_ring k).𝟘) (c ∷ []))
 
-  -- zeros on top of a, and the term's multiple added from place j on
+  -- zeros on top of a, and the term's multiple added from position j on
   pub less_multiple_written : (a : List ℕ) (c : ℕ) (c_in : c < k.size) (j : ℕ) (b : List ℕ) (m : ℕ) → IsOver k.ops a → IsOver k.ops b
       → poly_of (add_lists (raw_ring k.ops) (a ++ replicate m 0) (replicate j 0 ++ scale_list (raw_ring k.ops) (k.neg c) b)) ≡ less_multiple k.ops a c j b
   less_multiple_written a c c_in j b m a_in b_in =
@@ -110,7 +110,7 @@ module _ (k : CodeField) where
       product : List (Code k)
       product = mul_lists (code_ring k).ops (replicate j (code_ring k).𝟘 ++ (c, c_in) ∷ []) (read k b)
 
-  -- below the place nothing changes
+  -- below the position nothing changes
   added_from : (j : ℕ) (sum t : List ℕ) → IsOver k.ops sum → j ≤ length sum → take j sum ++ add_lists (raw_ring k.ops) (drop j sum) t ≡ add_lists (raw_ring k.ops) sum (replicate j 0 ++ t)
   added_from zero sum t sum_in le = refl
   added_from (suc j) [] t sum_in le = absurd (omega arith)

@@ -10,7 +10,7 @@ use Rattle.ff_poly.specs.Words.{IsPoly, IsMonic, sum_of, product_of}
 abbrev pub rows_of : List (Vec (List ℕ)) → List (List (List ℕ))
 rows_of vectors = map (λ v. v.items) vectors
 
--- the entry in a column, and the row at a place; zero and empty past the end
+-- the entry in a column, and the row at a position; zero and empty past the end
 abbrev pub entry_at : List (List ℕ) → ℕ → List ℕ
 entry_at row j = get_or row j []
 

@@ -7,11 +7,11 @@ use Rattle.std.specs.Global.{Vec}
 use Rattle.ff_fields.specs.Field.{FieldOps, CodeField}
 use Rattle.ff_fields.specs.Code.{code_ring, is_zero_code}
 use Rattle.ff_fields.specs.Over.{IsOver, IsOver_nil, IsOver_cons}
-use Rattle.ff_ring.specs.Ring.{TestedRing}
-use Rattle.ff_ring.specs.Lists.{tail_of}
-use Rattle.ff_ring.specs.Rows.{Row}
-use Rattle.ff_ring.proofs.Ring.{zero_add, mul_neg, neg_neg}
-use Rattle.ff_ring.proofs.Polynomials.{Pol, pol_ring}
+use Rattle.ring_theory.specs.Ring.{TestedRing}
+use Rattle.ring_theory.specs.Lists.{tail_of}
+use Rattle.ring_theory.specs.Rows.{Row}
+use Rattle.ring_theory.proofs.Ring.{zero_add, mul_neg, neg_neg}
+use Rattle.ring_theory.proofs.Polynomials.{Pol, pol_ring}
 use Rattle.ff_poly.specs.Words.{IsPoly, difference_of}
 use Rattle.ff_poly.specs.PolyOver.{IsOver_difference_of}
 use Rattle.ff_poly.specs.Value.{value}
@@ -25,8 +25,8 @@ use Rattle.popov_theory.proofs.Module.{v_add_add, v_add_neg, v_add_zero, v_zero_
 use Rattle.popov_theory.proofs.Measure.{zero_from_measure}
 use Rattle.popov_theory.proofs.Span.{combine_zero, span_row, span_submodule, sub_in, combine_in}
 use Rattle.ff_popov.specs.Reading.{read_row, row_space, read_rows}
-use Rattle.ff_popov.specs.Rows.{IsRowLess, IsCleared, IsClearedBy, place}
-use Rattle.ff_popov.proofs.Places.{cleared_falls}
+use Rattle.ff_popov.specs.Rows.{IsRowLess, IsCleared, IsClearedBy, position}
+use Rattle.ff_popov.proofs.Positions.{cleared_falls}
 use Rattle.ff_popov.proofs.Lengths.{trim_length}
 use Rattle.ff_popov.proofs.Entries.{any_default, read_row_of}
 use Rattle.ff_popov.proofs.ReadRows.{over_at, read_row_at, space_less}
@@ -191,9 +191,9 @@ module _ (k : CodeField) where
         in_cs : column < length cs
         in_cs = omega (arith, pivot_below rest column p, h.row.size, h.size, popov.size)
 
-    pub step_falls : (cs rest row b rest' out : List (List ℕ)) (column c s : ℕ) → IsRest k w basis v cs rest → IsPivot rest column → row ≡ rest → IsClearedBy k.ops row b column c s rest' → rest' ≡ out → place w out < place w rest
+    pub step_falls : (cs rest row b rest' out : List (List ℕ)) (column c s : ℕ) → IsRest k w basis v cs rest → IsPivot rest column → row ≡ rest → IsClearedBy k.ops row b column c s rest' → rest' ≡ out → position w out < position w rest
     step_falls cs rest row b rest' out column c s h p row_is by out_is =
-        subst (λ x. place w x < place w rest) out_is
+        subst (λ x. position w x < position w rest) out_is
         (cleared_falls k.ops w column rest b rest' h.row.size p (subst (λ x. IsCleared k.ops x b column rest') row_is by.cleared))
 
 -- the row that is taken away

@@ -7,8 +7,8 @@ use Rattle.std.proofs.lemmas.List.{nil_from_length, length-replicate}
 use Rattle.ff_fields.specs.Field.{CodeField}
 use Rattle.ff_fields.specs.Code.{code_ring, code_domain}
 use Rattle.ff_fields.specs.Over.{IsOver, IsOver_nil}
-use Rattle.ff_ring.specs.Rows.{Row}
-use Rattle.ff_ring.proofs.Polynomials.{Pol}
+use Rattle.ring_theory.specs.Rows.{Row}
+use Rattle.ring_theory.proofs.Polynomials.{Pol}
 use Rattle.ff_poly.specs.Value.{value}
 use Rattle.ff_poly.specs.Polynomials.{codes_of, IsOver_codes_of, value_codes_of, value_not_zero}
 use Rattle.ff_poly.specs.Popov.{row_at, IsRow, IsPivot, IsZeroRow, IsWeakPopov, HasFullRank, HasMultipleIn, HaveSameSpan, IsPopov, multiple_of_row, combination}
@@ -91,8 +91,8 @@ module _ (k : CodeField) where
             m = full.multiple (codes_row (suc (w - 1)) v) u_row
 
     module _ (weak : IsWeakPopov rows) (j : ℕ) (less : j < w) (missing : IsMissing rows j) where
-      place_below : (m p : ℕ) → IsPivot (row_at rows m) p → m < length rows
-      place_below m p at = go (cases_lt m (length rows))
+      position_below : (m p : ℕ) → IsPivot (row_at rows m) p → m < length rows
+      position_below m p at = go (cases_lt m (length rows))
         where
           go : (m < length rows) ⊎ (length rows ≤ m) → m < length rows
           go (inl below) = below
@@ -102,10 +102,10 @@ module _ (k : CodeField) where
       pivot_read m p at =
           ap (pivot M) (read_row_at k w rows m)
           ∙ (measured k w (row_at rows m) p row.size at (over_at k (row_at rows m) row.over p)
-          (missing.trimmed m (place_below m p at) p [] (pivot_below (row_at rows m) p at))).2
+          (missing.trimmed m (position_below m p at) p [] (pivot_below (row_at rows m) p at))).2
         where
           row : IsRow k.ops w (row_at rows m)
-          row = all m [] (place_below m p at)
+          row = all m [] (position_below m p at)
 
       -- a row that isn't zero has in codes the pivot of what it stands for
       pivot_of : (m : ℕ) → ¬ (measure M (get_or rs m M.𝟎) ≡ 0) → IsPivot (row_at rows m) (pivot M (get_or rs m M.𝟎))
@@ -124,7 +124,7 @@ module _ (k : CodeField) where
       }
 
       not_full : theory.IsFull M rs → ⊥
-      not_full full = missing.none (full.owner j) (place_below (full.owner j) j at) at
+      not_full full = missing.none (full.owner j) (position_below (full.owner j) j at) at
         where
           in_width : j < M.width
           in_width = omega (arith, less, space_width k w)

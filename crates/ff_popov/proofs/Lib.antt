@@ -2,7 +2,7 @@ pub mod Pivots
 pub mod Lengths
 pub mod Entries
 pub mod ReadRows
-pub mod Places
+pub mod Positions
 pub mod Transformations
 pub mod Clearing
 pub mod StepSteps

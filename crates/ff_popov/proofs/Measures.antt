@@ -6,9 +6,9 @@ use Rattle.ff_fields.specs.Field.{CodeField}
 use Rattle.ff_fields.specs.Code.{Code, code_ring, read_code}
 use Rattle.ff_fields.specs.Over.{IsOver}
 use Rattle.ff_fields.specs.Numbers.{read}
-use Rattle.ff_ring.specs.Lists.{coeff_of, IsTrimmed}
-use Rattle.ff_ring.specs.Rows.{Row, entry}
-use Rattle.ff_ring.proofs.Polynomials.{Pol, pol_ring, coeff_past, coeff_top}
+use Rattle.ring_theory.specs.Lists.{coeff_of, IsTrimmed}
+use Rattle.ring_theory.specs.Rows.{Row, entry}
+use Rattle.ring_theory.proofs.Polynomials.{Pol, pol_ring, coeff_past, coeff_top}
 use Rattle.ff_poly.specs.Words.{IsPoly}
 use Rattle.ff_poly.specs.Value.{value, numbers_value}
 use Rattle.ff_poly.specs.Polynomials.{value_nil}

@@ -6,8 +6,8 @@ use Rattle.std.proofs.lemmas.List.{length-map, nil_from_length}
 use native.Mathlib.Decide.{ℕ_discrete}
 use Rattle.ff_fields.specs.Field.{CodeField}
 use Rattle.ff_fields.specs.Code.{code_ring, code_domain, code_field}
-use Rattle.ff_ring.specs.Rows.{Row}
-use Rattle.ff_ring.proofs.Polynomials.{Pol}
+use Rattle.ring_theory.specs.Rows.{Row}
+use Rattle.ring_theory.proofs.Polynomials.{Pol}
 use Rattle.ff_poly.specs.Words.{IsPoly}
 use Rattle.ff_poly.specs.Popov.{entry_at, row_at, IsRow, IsPivot, IsZeroRow, IsWeakPopov, IsPopov}
 use Rattle.popov_theory.specs.Module.{PolynomialModule, measure, pivot, row_degree, column}
@@ -15,7 +15,7 @@ use Rattle.popov_theory.specs.Span.{InSpan, IsWithin, HaveSameSpan}
 use Rattle.ff_poly.specs.Popov as codes
 use Rattle.popov_theory.specs.Popov as theory
 use Rattle.popov_theory.specs.Popov.{Leading}
-use Rattle.popov_theory.proofs.Places.{column_shift}
+use Rattle.popov_theory.proofs.Positions.{column_shift}
 use Rattle.popov_theory.proofs.Measure.{zero_from_measure}
 use Rattle.popov_theory.proofs.PredictableDegree.{leading}
 use Rattle.popov_theory.proofs.Span.{within_rows, span_zero}
@@ -28,7 +28,7 @@ use Rattle.ff_popov.proofs.Spans.{same_lattice}
 use Rattle.ff_popov.proofs.ReadRows.{past_row, over_at, read_row_at}
 use Rattle.ff_popov.proofs.Measures.{measured, space_width, zero_read}
 use Rattle.ff_popov.proofs.Pivots.{pivot_below}
-use Rattle.ff_popov.proofs.Places.{times_le}
+use Rattle.ff_popov.proofs.Positions.{times_le}
 use Rattle.ff_popov.proofs.Transformations.{row_past as codes_past}
 
 -- a row is zero or has a pivot
@@ -75,16 +75,16 @@ module _ (k : CodeField) (w : ℕ) (rows : List (List (List ℕ))) (os : List �
   abbrev O : ℕ → ℕ
   O j = get_or os j 0
 
-  -- the place of a row with a pivot is one of the list
-  place_below : (m p : ℕ) → IsPivot (row_at rows m) p → m < length rows
-  place_below m p at = go (cases_lt m (length rows))
+  -- the position of a row with a pivot is one of the list
+  position_below : (m p : ℕ) → IsPivot (row_at rows m) p → m < length rows
+  position_below m p at = go (cases_lt m (length rows))
     where
       go : (m < length rows) ⊎ (length rows ≤ m) → m < length rows
       go (inl less) = less
       go (inr more) = absurd (omega (arith, pivot_below (row_at rows m) p at, ap length (codes_past rows m more)))
 
   owner_is_row : (j : ℕ) → j < w → IsRow k.ops w (row_at rows (O j))
-  owner_is_row j less = all (O j) [] (place_below (O j) j (owners.owner_at j less).pivot)
+  owner_is_row j less = all (O j) [] (position_below (O j) j (owners.owner_at j less).pivot)
 
   pub owner_measured : (j : ℕ) → j < w
       → (measure M (get_or rs (O j) M.𝟎) ≡ suc ((owner_length rows os j - 1) * M.width + j)) × (row_degree M (get_or rs (O j) M.𝟎) ≡ owner_length rows os j - 1) × (pivot M (get_or rs (O j) M.𝟎) ≡ j)
@@ -108,7 +108,7 @@ module _ (k : CodeField) (w : ℕ) (rows : List (List (List ℕ))) (os : List �
       go (inr (p, at)) = (p, in_w, weak.apart m (O p) p at (owners.owner_at p in_w).pivot)
         where
           in_w : p < w
-          in_w = omega (arith, pivot_below (row_at rows m) p at, (all m [] (place_below m p at)).size)
+          in_w = omega (arith, pivot_below (row_at rows m) p at, (all m [] (position_below m p at)).size)
 
   owned_pivot : (m p : ℕ) → p < w → m ≡ O p → pivot M (get_or rs m M.𝟎) ≡ p
   owned_pivot m p less is = ap (λ i. pivot M (get_or rs i M.𝟎)) is ∙ (owner_measured p less).2

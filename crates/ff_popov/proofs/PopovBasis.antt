@@ -5,22 +5,22 @@ use Rattle.std.proofs.lemmas.Bool.{cases_lt}
 use Rattle.std.proofs.lemmas.List.{length-map, get_or-map, get_or-append_right}
 use Rattle.ff_fields.specs.Field.{CodeField}
 use Rattle.ff_fields.specs.Code.{code_ring, code_domain, read_code, read_code_below, same_code}
-use Rattle.ff_ring.specs.Rows.{Row}
-use Rattle.ff_ring.proofs.Polynomials.{Pol}
+use Rattle.ring_theory.specs.Rows.{Row}
+use Rattle.ring_theory.proofs.Polynomials.{Pol}
 use Rattle.ff_poly.specs.Popov.{entry_at, row_at, IsRow, IsPopov}
 use Rattle.popov_theory.specs.Module.{PolynomialModule, measure, pivot, row_degree, column}
 use Rattle.popov_theory.specs.Span.{InSpan}
 use Rattle.popov_theory.specs.Popov as theory
 use Rattle.popov_theory.specs.Popov.{Leading}
-use Rattle.popov_theory.proofs.Places.{column_shift}
+use Rattle.popov_theory.proofs.Positions.{column_shift}
 use Rattle.popov_theory.proofs.PredictableDegree.{leading}
 use Rattle.popov_theory.proofs.PopovForm.{row_past}
 use Rattle.ff_popov.specs.Reading.{read_row, row_space, read_rows}
 use Rattle.ff_popov.proofs.ReadRows.{over_at, read_row_at}
 use Rattle.ff_popov.proofs.Measures.{measured, space_width, coef_read, coef_short}
-use Rattle.ff_popov.proofs.Places.{times_le}
+use Rattle.ff_popov.proofs.Positions.{times_le}
 use Rattle.std.proofs.Common.{add-mul}
-use Rattle.ff_ring.specs.Lists.{coeff_of}
+use Rattle.ring_theory.specs.Lists.{coeff_of}
 use Rattle.ff_poly.specs.Value.{value}
 use Rattle.ff_poly.specs.Polynomials.{series_read}
 

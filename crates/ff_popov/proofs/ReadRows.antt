@@ -5,11 +5,11 @@ use Rattle.std.proofs.lemmas.Bool.{cases_lt}
 use Rattle.ff_fields.specs.Field.{CodeField}
 use Rattle.ff_fields.specs.Code.{code_ring}
 use Rattle.ff_fields.specs.Over.{IsOver, IsOver_nil}
-use Rattle.ff_ring.specs.Ring.{TestedRing}
-use Rattle.ff_ring.specs.Rows.{Row, row_zero, row_add, row_neg, row_scale, entry}
-use Rattle.ff_ring.proofs.Ring.{mul_zero}
-use Rattle.ff_ring.proofs.Rows.{pair_path}
-use Rattle.ff_ring.proofs.Polynomials.{Pol, pol_ring}
+use Rattle.ring_theory.specs.Ring.{TestedRing}
+use Rattle.ring_theory.specs.Rows.{Row, row_zero, row_add, row_neg, row_scale, entry}
+use Rattle.ring_theory.proofs.Ring.{mul_zero}
+use Rattle.ring_theory.proofs.Rows.{pair_path}
+use Rattle.ring_theory.proofs.Polynomials.{Pol, pol_ring}
 use Rattle.ff_poly.specs.Words.{IsPoly, difference_of}
 use Rattle.ff_poly.specs.Value.{value, value_sum, value_product, same_from_value}
 use Rattle.ff_poly.specs.Polynomials.{value_nil}

@@ -8,11 +8,11 @@ use native.Mathlib.Decide.{ℕ_discrete}
 use Rattle.ff_fields.specs.Field.{CodeField}
 use Rattle.ff_fields.specs.Code.{code_ring, code_field, read_code, read_code_below, same_code, is_zero_code}
 use Rattle.ff_fields.specs.Over.{IsOver, IsOver_nil, get_or_below}
-use Rattle.ff_ring.specs.Ring.{TestedRing}
-use Rattle.ff_ring.specs.Lists.{coeff_of}
-use Rattle.ff_ring.specs.Rows.{Row, row_add, row_neg}
-use Rattle.ff_ring.proofs.Ring.{zero_add, neg_neg, neg_zero}
-use Rattle.ff_ring.proofs.Polynomials.{Pol, pol_ring, coeff_past, series_add}
+use Rattle.ring_theory.specs.Ring.{TestedRing}
+use Rattle.ring_theory.specs.Lists.{coeff_of}
+use Rattle.ring_theory.specs.Rows.{Row, row_add, row_neg}
+use Rattle.ring_theory.proofs.Ring.{zero_add, neg_neg, neg_zero}
+use Rattle.ring_theory.proofs.Polynomials.{Pol, pol_ring, coeff_past, series_add}
 use Rattle.ff_poly.specs.Words.{IsPoly, IsMonic, difference_of}
 use Rattle.ff_poly.specs.Value.{value}
 use Rattle.ff_poly.specs.Polynomials.{value_nil, value_one, series_read}

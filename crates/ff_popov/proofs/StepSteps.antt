@@ -6,9 +6,9 @@ use Rattle.std.proofs.lemmas.List.{length-map}
 use Rattle.std.proofs.lemmas.List.Edits.{Swapped, swapped_from_swap, length-swap}
 use Rattle.ff_fields.specs.Field.{CodeField}
 use Rattle.ff_poly.specs.Popov.{rows_of, row_at, entry_at, IsRow, IsPivot}
-use Rattle.ff_popov.specs.Rows.{IsCleared, IsClash, IsApartBelow, SameOrSwapped, Keeps, total_place}
+use Rattle.ff_popov.specs.Rows.{IsCleared, IsClash, IsApartBelow, SameOrSwapped, Keeps, total_position}
 use Rattle.ff_popov.proofs.Entries.{rows_swap, rows_set, read_row_of}
-use Rattle.ff_popov.proofs.Places.{cleared_falls}
+use Rattle.ff_popov.proofs.Positions.{cleared_falls}
 use Rattle.ff_popov.proofs.Transformations.{row_in, keeps_refl, keeps_trans, keeps_less, keeps_swap, total_set, total_swap, apart_set, apart_swap}
 
 module _ (k : CodeField) (w : ℕ) (old : List (Vec (List ℕ))) (i j column : ℕ) (i_in : i < length old) (rows_in : All (IsRow k.ops w) (rows_of old)) (pair : IsClash (rows_of old) i j column) (below : IsApartBelow i (rows_of old)) where
@@ -17,7 +17,7 @@ module _ (k : CodeField) (w : ℕ) (old : List (Vec (List ℕ))) (i j column : �
     pub keeps : Keeps k w (rows_of old) new
     pub clash : IsClash new i j column
     pub apart : IsApartBelow i new
-    pub total : total_place w new ≡ total_place w (rows_of old)
+    pub total : total_position w new ≡ total_position w (rows_of old)
 
   size : length (rows_of old) ≡ length old
   size = length-map old (λ v. v.items)
@@ -57,7 +57,7 @@ module _ (k : CodeField) (w : ℕ) (old : List (Vec (List ℕ))) (i j column : �
   pub record Stepped (new : List (List (List ℕ))) : Type 0 where
     pub keeps : Keeps k w (rows_of old) new
     pub apart : IsApartBelow i new
-    pub falls : total_place w new < total_place w (rows_of old)
+    pub falls : total_position w new < total_position w (rows_of old)
 
   stepped_rows : (mid : List (List (List ℕ))) (row : List (List ℕ)) → Ordered mid → IsCleared k.ops (row_at mid i) (row_at mid j) column row → Stepped (set mid i row)
   stepped_rows mid row o cleared =

@@ -11,8 +11,8 @@ use native.Mathlib.Decide.{ℕ_discrete}
 use Rattle.ff_fields.specs.Field.{FieldOps, CodeField}
 use Rattle.ff_fields.specs.Code.{code_ring}
 use Rattle.ff_fields.specs.Over.{IsOver}
-use Rattle.ff_ring.specs.Rows.{Row}
-use Rattle.ff_ring.proofs.Polynomials.{Pol}
+use Rattle.ring_theory.specs.Rows.{Row}
+use Rattle.ring_theory.proofs.Polynomials.{Pol}
 use Rattle.ff_poly.specs.Value.{value}
 use Rattle.ff_poly.specs.Terms.{term, IsOver_less_multiple}
 use Rattle.ff_poly.specs.Popov.{rows_of, entry_at, row_at, width_of, IsRow, IsPivot, IsWeakPopov}
@@ -22,12 +22,12 @@ use Rattle.popov_theory.specs.Popov.{put}
 use Rattle.popov_theory.proofs.Span.{span_row, within_rows, same_span_refl, same_span_trans}
 use Rattle.popov_theory.proofs.Reduction.{changed_span}
 use Rattle.ff_popov.specs.Reading.{read_row, row_space, read_rows}
-use Rattle.ff_popov.specs.Rows.{IsRowLess, IsClash, IsApartAt, IsApartBelow, Keeps, place, total_place}
+use Rattle.ff_popov.specs.Rows.{IsRowLess, IsClash, IsApartAt, IsApartBelow, Keeps, position, total_position}
 use Rattle.ff_popov.proofs.Entries.{any_default, rows_swap, read_entry}
 use Rattle.ff_popov.proofs.Pivots.{one_pivot, pivot_below}
 use Rattle.ff_popov.proofs.ReadRows.{over_at, read_row_at, read_set, space_less}
 
--- the row at a place of rows of the width
+-- the row at a position of rows of the width
 pub row_in : (k : FieldOps) (w : ℕ) (rows : List (List (List ℕ))) → All (IsRow k w) rows → (i : ℕ) → i < length rows → IsRow k w (row_at rows i)
 row_in k w rows all i less = all i [] less
 
@@ -61,7 +61,7 @@ module _ (k : CodeField) (w : ℕ) where
     span = same_span_trans M (read_rows k w a) (read_rows k w b) (read_rows k w c) h.span h'.span;
   }
 
-  -- a row less a multiple of another takes its place
+  -- a row less a multiple of another takes its position
   pub keeps_less : (rows : List (List (List ℕ))) (i j c s : ℕ) (row : List (List ℕ)) → All (IsRow k.ops w) rows → i < length rows → j < length rows → i ≢ j → c < k.size
       → IsRowLess k.ops (row_at rows i) c s (row_at rows j) row → Keeps k w rows (set rows i row)
   keeps_less rows i j c s row all i_in j_in differ c_in less = record {
@@ -123,12 +123,12 @@ module _ (k : CodeField) (w : ℕ) where
       row_moved l less (no off) (yes e) = subst (IsRow k.ops w) (sym (ap (row_at (swap old i j)) e ∙ s.1)) (all i [] i_in)
       row_moved l less (no off) (no off') = subst (IsRow k.ops w) (sym (s.2 l off off')) (all l [] (omega (arith, less, length-swap old i j)))
 
--- the sum of the places
-pub total_set : (w : ℕ) (rows : List (List (List ℕ))) (i : ℕ) (row : List (List ℕ)) → i < length rows → place w row < place w (row_at rows i) → total_place w (set rows i row) < total_place w rows
-total_set w rows i row less falls = omega (arith, sum_by-set (place w) rows i row [] less, falls)
+-- the sum of the positions
+pub total_set : (w : ℕ) (rows : List (List (List ℕ))) (i : ℕ) (row : List (List ℕ)) → i < length rows → position w row < position w (row_at rows i) → total_position w (set rows i row) < total_position w rows
+total_set w rows i row less falls = omega (arith, sum_by-set (position w) rows i row [] less, falls)
 
-pub total_swap : (w : ℕ) (rows : List (List (List ℕ))) (i j : ℕ) → i < length rows → j < length rows → total_place w (swap rows i j) ≡ total_place w rows
-total_swap w rows i j i_in j_in = sum_by-IsPermutation (place w) rows (swap rows i j) (IsPermutation-swap rows (swap rows i j) i j i_in j_in refl)
+pub total_swap : (w : ℕ) (rows : List (List (List ℕ))) (i j : ℕ) → i < length rows → j < length rows → total_position w (swap rows i j) ≡ total_position w rows
+total_swap w rows i j i_in j_in = sum_by-IsPermutation (position w) rows (swap rows i j) (IsPermutation-swap rows (swap rows i j) i j i_in j_in refl)
 
 -- the pivots of the rows below i
 pub apart_set : (n i : ℕ) (rows : List (List (List ℕ))) (row : List (List ℕ)) → n ≤ i → IsApartBelow n rows → IsApartBelow n (set rows i row)

@@ -51,17 +51,17 @@ pub record Keeps (k : CodeField) (width : ℕ) (old new : List (List (List ℕ))
   pub rows : All (IsRow k.ops width) new
   pub span : HaveSameSpan (row_space k width) (read_rows k width old) (read_rows k width new)
 
--- the place of the pivot of the columns from i on: degree·width + column + 1, or 0 for the zero row
-abbrev pub place_from : ℕ → ℕ → List (List ℕ) → ℕ
-place_from width i [] = 0
-place_from width i (entry ∷ row) = max (length entry * width + suc i - width) (place_from width (suc i) row)
+-- the position of the pivot of the columns from i on: degree·width + column + 1, or 0 for the zero row
+abbrev pub position_from : ℕ → ℕ → List (List ℕ) → ℕ
+position_from width i [] = 0
+position_from width i (entry ∷ row) = max (length entry * width + suc i - width) (position_from width (suc i) row)
 
-abbrev pub place : ℕ → List (List ℕ) → ℕ
-place width row = place_from width 0 row
+abbrev pub position : ℕ → List (List ℕ) → ℕ
+position width row = position_from width 0 row
 
 -- the sum over the rows, which falls with each simple transformation
-abbrev pub total_place : ℕ → List (List (List ℕ)) → ℕ
-total_place width rows = sum_by (place width) rows
+abbrev pub total_position : ℕ → List (List (List ℕ)) → ℕ
+total_position width rows = sum_by (position width) rows
 
 -- row is a less a multiple of b by a term, and shorter in the column of the pivot of b; no other entry grows past those of the multiple
 pub record IsShortened (k : FieldOps) (a b : List (List ℕ)) (column : ℕ) (row : List (List ℕ)) : Type 0 where
@@ -83,7 +83,7 @@ pub record IsMissing (rows : List (List (List ℕ))) (column : ℕ) : Type 0 whe
   pub none : (m : ℕ) → m < length rows → ¬ IsPivot (row_at rows m) column
   pub trimmed : (m : ℕ) → m < length rows → All IsPoly (row_at rows m)
 
--- for each column the place of a row with its pivot there
+-- for each column the position of a row with its pivot there
 pub record IsOwners (width : ℕ) (rows : List (List (List ℕ))) (owners : List ℕ) : Type 0 where
   pub size : length owners ≡ width
   pub owner_at : (j : ℕ) → j < width → IsOwner rows j (get_or owners j 0)

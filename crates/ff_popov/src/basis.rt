@@ -175,8 +175,8 @@ fn basis_of<K: SmallField>(
 {
     match owners(alloc, rows, width)? {
         None => Ok(None),
-        Some(places) => {
-            let basis = popov_rows(alloc, k, rows, &places)?;
+        Some(positions) => {
+            let basis = popov_rows(alloc, k, rows, &positions)?;
             Ok(Some(basis))
         }
     }

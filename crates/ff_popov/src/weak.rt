@@ -3,7 +3,7 @@
 ghost use Rattle.std.specs.Prelude.{◌≡◌, ◌+◌, ◌<◌, ◌≤◌, length, All, IfOk, OnOk, OnErr, MatchOption};
 ghost use Rattle.ff_fields.specs.Field.{CodeField};
 ghost use Rattle.ff_poly.specs.Popov.{rows_of, row_at, entry_at, width_of, IsRow, IsPivot, IsWeakPopov, HaveSameSpan, degree_bound};
-ghost use Rattle.ff_popov.specs.Rows.{IsCleared, IsClash, IsApartAt, IsApartBelow, Keeps, SameOrSwapped, total_place};
+ghost use Rattle.ff_popov.specs.Rows.{IsCleared, IsClash, IsApartAt, IsApartBelow, Keeps, SameOrSwapped, total_position};
 
 use crate::rows::{copy_row, pivot, quotient_term, subtract};
 use crate::steps::Steps;
@@ -76,8 +76,8 @@ fn step<K: SmallField>(
     requires apart { IsApartBelow i (rows_of rows.old) }
     ensures keeps { Keeps (K.field k.now) (width_of (rows_of rows.old)) (rows_of rows.old) (rows_of rows.new) }
     ensures apart { IsApartBelow i (rows_of rows.new) }
-    ensures falls { OnOk result (total_place (width_of (rows_of rows.old)) (rows_of rows.new) < total_place (width_of (rows_of rows.old)) (rows_of rows.old)) }
-    ensures stays { total_place (width_of (rows_of rows.old)) (rows_of rows.new) ≤ total_place (width_of (rows_of rows.old)) (rows_of rows.old) }
+    ensures falls { OnOk result (total_position (width_of (rows_of rows.old)) (rows_of rows.new) < total_position (width_of (rows_of rows.old)) (rows_of rows.old)) }
+    ensures stays { total_position (width_of (rows_of rows.old)) (rows_of rows.new) ≤ total_position (width_of (rows_of rows.old)) (rows_of rows.old) }
 {
     order(rows, i, j, column);
     let row = cleared(alloc, k, &rows[i], &rows[j], column)?;
@@ -98,7 +98,7 @@ fn settle<K: SmallField, L: Ledger>(
     requires apart { IsApartBelow i (rows_of rows.old) }
     ensures keeps { Keeps (K.field k.now) (width_of (rows_of rows.old)) (rows_of rows.old) (rows_of rows.new) }
     ensures apart { OnOk result (IsApartBelow (i + 1) (rows_of rows.new)) }
-    ensures steps { steps.new + total_place (width_of (rows_of rows.old)) (rows_of rows.new) ≤ steps.old + total_place (width_of (rows_of rows.old)) (rows_of rows.old) }
+    ensures steps { steps.new + total_position (width_of (rows_of rows.old)) (rows_of rows.new) ≤ steps.old + total_position (width_of (rows_of rows.old)) (rows_of rows.old) }
     ensures counted { steps.old ≤ steps.new }
 {
     while let Some((j, column)) = clash(rows, i) {
@@ -118,7 +118,7 @@ fn reduce<K: SmallField, L: Ledger>(
     requires { All (IsRow (K.field k.now).ops (width_of (rows_of rows.old))) (rows_of rows.old) }
     ensures keeps { Keeps (K.field k.now) (width_of (rows_of rows.old)) (rows_of rows.old) (rows_of rows.new) }
     ensures apart { OnOk result (IsApartBelow (length rows.new) (rows_of rows.new)) }
-    ensures steps { steps.new + total_place (width_of (rows_of rows.old)) (rows_of rows.new) ≤ steps.old + total_place (width_of (rows_of rows.old)) (rows_of rows.old) }
+    ensures steps { steps.new + total_position (width_of (rows_of rows.old)) (rows_of rows.new) ≤ steps.old + total_position (width_of (rows_of rows.old)) (rows_of rows.old) }
     ensures counted { steps.old ≤ steps.new }
 {
     for i in 0..rows.len() {

@@ -42,7 +42,7 @@ pub lines_last : (bytes rest : List ℕ) → 0 < length bytes → rest ≡ [] �
 lines_last [] rest some none e = absurd (omega arith)
 lines_last (b ∷ bs) rest some none e = ap without_empty_last e ∙ ap (λ (t : List ℕ). (b ∷ bs) ∷ lines_of t) (sym none)
 
--- ---- by the place of the first line feed
+-- ---- by the position of the first line feed
 
 guarded : (b : Bool) (n i : ℕ) → cond b (Some n) None ≡ Some i → (b ≡ true) × (n ≡ i)
 guarded true n i e = (refl, cc)

@@ -9,8 +9,8 @@ use Rattle.ff_text.specs.Spelling.{Blanks, SpellsNumber, SpellsTerms, SpellsElem
 use Rattle.ff_text.specs.Printing.{terms_text, element_text, IsWritableTerms, IsWritableElement}
 use Rattle.ff_text.specs.declared.terms.Term.{Term}
 use Rattle.ff_text.specs.declared.terms.ElemText.{ElemText}
-use Rattle.ff_algebra.specs.declared.elem.Side.{Side}
-use Rattle.ff_algebra.specs.declared.elem.Side.TheVariants.{Finite, Infinite}
+use Rattle.function_field.specs.declared.side.Side.{Side}
+use Rattle.function_field.specs.declared.side.Side.TheVariants.{Finite, Infinite}
 use Rattle.ff_script.specs.declared.script.Statement.{Statement}
 use Rattle.ff_script.specs.declared.script.Statement.TheVariants.{FieldOf, CurveOf, Mul, Factor, OrderOf}
 use Rattle.ff_script.specs.Grammar.{IsGap, SpellsParts, AreNumbers, numbers_of, SpellsSide, ArePartsOf, SpellsLine}

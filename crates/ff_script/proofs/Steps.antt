@@ -87,7 +87,7 @@ word_rest word bytes r s f g =
 
 -- ---- what the code says
 
--- the bytes behind a place, as a slice up to the end
+-- the bytes behind a position, as a slice up to the end
 pub behind_at : (bytes : List ℕ) (end : ℕ) → take (length bytes - end) (drop end bytes) ≡ drop end bytes
 behind_at bytes end = take_rest bytes end
 

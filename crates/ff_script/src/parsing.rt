@@ -67,7 +67,7 @@ impl Progress {
     }
 }
 
-/// The place of the first line feed.
+/// The position of the first line feed.
 fn line_end(bytes: &[u8]) -> Option<usize>
     ensures { result ≡ position (λ b. b == 10) bytes.now }
 {

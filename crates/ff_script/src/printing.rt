@@ -4,7 +4,7 @@ ghost use Rattle.std.specs.Prelude.{◌≡◌, ◌++◌, codes, IfOk, OnOk};
 ghost use Rattle.ff_script.specs.Printing.{numbers_text, tail_text, side_text, statement_text};
 
 use crate::script::{Modulus, Statement};
-use ff_algebra::elem::Side;
+use function_field::Side;
 use ff_text::number::push_number;
 use ff_text::{push_element, push_terms};
 use std::alloc::{AllocError, Global};

@@ -2,7 +2,7 @@
 
 ghost use Rattle.std.specs.Prelude.{◌≡◌, IfOk};
 
-use ff_algebra::elem::Side;
+use function_field::Side;
 use ff_text::{ElemText, TermList};
 use std::alloc::{AllocError, Global};
 use std::marker::Model;

@@ -6,14 +6,14 @@ use Rattle.std.proofs.lemmas.Bool.{cases_lt}
 use Rattle.std.proofs.lemmas.List.{append-nil}
 use Rattle.std.proofs.lemmas.List.Elements.{All-nil, All-cons, All-append}
 use native.Mathlib.Decide.{ℕ_discrete}
-use Rattle.ff_ring.specs.Lists.{IsTrimmed}
+use Rattle.ring_theory.specs.Lists.{IsTrimmed}
 use Rattle.ff_fields.specs.Field.{FieldOps, CodeField}
 use Rattle.ff_fields.specs.Code.{is_zero_code}
 use Rattle.ff_poly.specs.Words.{IsPoly, poly_of}
 use Rattle.ff_poly.specs.TermWords.{IsBefore, IsTerms, code_at}
 use Rattle.ff_poly.proofs.Quotients.{top_some}
-use Rattle.ff_algebra.specs.Values.{ElemValue}
-use Rattle.ff_algebra.specs.Curves.{IsCoefficient, degree_in_x}
+use Rattle.function_field.specs.Values.{ElemValue}
+use Rattle.ff_algebra.specs.CurveTerms.{IsCoefficient, degree_in_x}
 use Rattle.ff_algebra.proofs.CurveTerms.{IsCoefficient_poly_of}
 use Rattle.ff_text.specs.declared.terms.Factor.{Factor}
 use Rattle.ff_text.specs.declared.terms.Factor.TheVariants.{Code, X, Y}

@@ -1,7 +1,7 @@
 -- The factors of a polynomial that is written, and why it may have none.
 use Rattle.std.proofs.Common.{◌≡◌, ◌≢◌, ℕ, false, ◌-◌, ◌<◌, ◌≤◌, List, [], length, refl, sym, ap, ◌∙◌, subst, arith}
 use Rattle.ff_fields.specs.Field.{CodeField}
-use Rattle.ff_algebra.specs.Curves.{IsCoefficient, degree_in_x}
+use Rattle.ff_algebra.specs.CurveTerms.{IsCoefficient, degree_in_x}
 use Rattle.ff_factor.specs.Factors.{FactorsValue, IsFactorisation}
 use Rattle.ff_text.specs.declared.terms.Term.{Term}
 use Rattle.ff_text.specs.Printing.{IsWritableTerms}

@@ -8,7 +8,3 @@ pub mod FactorDegrees
 pub mod FactorRows
 pub mod Truths
 pub mod OrderAnswers
-pub mod RepeatedFactors
-pub mod FiniteOrders
-pub mod PowerDenominators
-pub mod InfiniteOrders

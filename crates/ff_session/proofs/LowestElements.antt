@@ -7,8 +7,8 @@ use Rattle.ff_poly.specs.Words.{IsPoly, IsMonic, top_of, multiple_of}
 use Rattle.ff_poly.specs.PolyOver.{IsOver_multiple_of}
 use Rattle.ff_poly.specs.Value.{same_from_value}
 use Rattle.ff_poly.proofs.Parts.{IsPoly_multiple_of, value_multiple_one, top_of_monic}
-use Rattle.ff_algebra.specs.Values.{ElemValue, PresValue, IsElem, IsMonicElem, IsSame, function_of}
-use Rattle.ff_algebra.proofs.SameValues.{same_iff}
+use Rattle.function_field.specs.Values.{ElemValue, PresValue, IsElem, IsMonicElem, IsSame, function_of}
+use Rattle.function_field.proofs.SameValues.{same_iff}
 use Rattle.ff_factor.specs.LowestTerms.{IsInLowestTermsOf}
 use Rattle.ff_factor.specs.ListValues.{monic_poly}
 use Rattle.ff_session.specs.LowestTerms.{IsInLowestTerms}
@@ -33,8 +33,8 @@ module _ (k : CodeField) where
   top_inverse : (den : List ℕ) → IsMonic den → k.inv (top_of den) ≡ 1
   top_inverse den monic =
       let t = top_of_monic den monic in
-      let place : length den - 1 ≡ t.0 = omega (arith, t.1) in
-      ap k.inv (ap (λ n. get_or den n 0) place ∙ t.2) ∙ inverse_one
+      let position : length den - 1 ≡ t.0 = omega (arith, t.1) in
+      ap k.inv (ap (λ n. get_or den n 0) position ∙ t.2) ∙ inverse_one
 
   module _ (z : ElemValue) (vs : List (List ℕ)) (d : List ℕ) (low : IsInLowestTermsOf k.ops z.num z.den vs d) where
     lowest : (n : ℕ) → IsInLowestTerms k.ops n (record { num = vs; den = d })

@@ -4,14 +4,15 @@ use Rattle.std.specs.Prelude.{slice_get}
 use Rattle.std.proofs.lemmas.List.{take_more}
 use Rattle.std.proofs.lemmas.Option.{get_or_from_slice_get}
 use Rattle.ff_fields.specs.Field.{CodeField}
-use Rattle.ff_algebra.specs.declared.elem.Side.{Side}
-use Rattle.ff_algebra.specs.Values.{ElemValue, IsElem, function_of}
-use Rattle.ff_algebra.specs.Infinity.{function_on}
-use Rattle.ff_algebra.specs.Curves.{CurveValue}
+use Rattle.function_field.specs.declared.side.Side.{Side}
+use Rattle.function_field.specs.Values.{ElemValue, IsElem, function_of}
+use Rattle.function_field.specs.Infinity.{function_on}
+use Rattle.function_field.specs.Curves.{CurveValue}
 use Rattle.ff_lattice.specs.Lattices.{LatticeValue, row_elems}
 use Rattle.ff_session.specs.LowestTerms.{IsInLowestTerms}
 use Rattle.ff_session.specs.Elements.{IsLowest}
-use Rattle.ff_session.specs.Orders.{IsPrintedRow, ArePrintedRows, SpansIntegral, SpansOverPowersOfT, IsIntegralLattice, IsOrderAnswer}
+use Rattle.value_theory.specs.IntegralLattices.{SpansIntegral, SpansOverPowersOfT, IsIntegralLattice}
+use Rattle.ff_session.specs.Orders.{IsPrintedRow, ArePrintedRows, IsOrderAnswer}
 
 module _ (k : CodeField) (c : CurveValue) (s : Side) where
   rows_push : (rs zs : List ElemValue) (r z : ElemValue) → ArePrintedRows k c s rs zs → IsPrintedRow k c s r z → ArePrintedRows k c s (rs ++ r ∷ []) (zs ++ z ∷ [])

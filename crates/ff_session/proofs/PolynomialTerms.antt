@@ -6,7 +6,7 @@ use Rattle.ff_fields.specs.Field.{FieldOps, CodeField}
 use Rattle.ff_fields.specs.Over.{IsOver, IsOver_trim, IsOver_zeros, get_or_below}
 use Rattle.ff_poly.specs.Words.{poly_of}
 use Rattle.ff_poly.specs.TermWords.{code_at}
-use Rattle.ff_algebra.specs.Curves.{degree_in_x, IsCoefficient}
+use Rattle.ff_algebra.specs.CurveTerms.{degree_in_x, IsCoefficient}
 use Rattle.ff_algebra.proofs.CurveTerms.{x_at_most, read_any, codes_more, codes_same, codes_none, IsCoefficient_poly_of}
 
 -- the codes of the terms from j on

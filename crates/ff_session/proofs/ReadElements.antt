@@ -1,8 +1,8 @@
 -- Elements as they are read: why one may not stand, and products of those that may.
 use Rattle.std.proofs.Common.{◌≡◌, ◌≢◌, ℕ, ◌<◌, ◌≤◌, max, List, [], ◌∷◌, length, refl, sym, ap, ap₂, ◌∙◌, subst, arith, inl, inr}
 use Rattle.ff_fields.specs.Field.{CodeField}
-use Rattle.ff_algebra.specs.Values.{ElemValue, PresValue, IsElem, function_of, functions}
-use Rattle.ff_algebra.specs.Curves.{IsCoefficient, degree_in_x}
+use Rattle.function_field.specs.Values.{ElemValue, PresValue, IsElem, function_of, functions}
+use Rattle.ff_algebra.specs.CurveTerms.{IsCoefficient, degree_in_x}
 use Rattle.ff_text.specs.declared.terms.ElemText.{ElemText}
 use Rattle.ff_text.specs.Printing.{IsWritableElement}
 use Rattle.ff_session.specs.declared.refusal.Refusal.{Refusal}

@@ -6,7 +6,7 @@ use Rattle.std.proofs.lemmas.List.Elements.{All-head, All-tail, All-nil, All-con
 use native.Mathlib.Decide.{ℕ_discrete}
 use Rattle.ff_fields.specs.Field.{FieldOps, CodeField}
 use Rattle.ff_poly.specs.TermWords.{IsBefore, AreAscending, IsTerms, code_at}
-use Rattle.ff_algebra.specs.Curves.{degree_in_x}
+use Rattle.ff_algebra.specs.CurveTerms.{degree_in_x}
 
 -- the term stands at y^i·x^j
 abbrev pub IsAt : ℕ → ℕ → ℕ × ℕ × ℕ → Type 0
@@ -16,7 +16,7 @@ and_false : (b : Bool) → (b && false) ≡ false
 and_false true = refl
 and_false false = refl
 
--- ---- the code at a place
+-- ---- the code at a position
 
 module _ (k : FieldOps) (i j : ℕ) (t : ℕ × ℕ × ℕ) (ts : List (ℕ × ℕ × ℕ)) where
   chosen : Bool → ℕ

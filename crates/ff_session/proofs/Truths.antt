@@ -15,10 +15,11 @@ use Rattle.ff_fields.specs.Field.{CodeField, FieldOps}
 use Rattle.ff_fields.specs.Fields.{field_of}
 use Rattle.ff_fields.specs.Code.{Code, code_domain, same_code}
 use Rattle.ff_fields.specs.Modulus.{IsFieldModulus, IsFaultOf}
-use Rattle.ff_algebra.specs.declared.elem.Side.{Side}
-use Rattle.ff_algebra.specs.Values.{ElemValue}
+use Rattle.function_field.specs.declared.side.Side.{Side}
+use Rattle.function_field.specs.Values.{ElemValue}
 use Rattle.ff_text.specs.Values.{written_codes}
-use Rattle.ff_algebra.specs.Curves.{CurveValue, IsCurveFault}
+use Rattle.function_field.specs.Curves.{CurveValue}
+use Rattle.ff_algebra.specs.CurveTerms.{IsCurveFault}
 use Rattle.ff_algebra.proofs.CurveFaults.{no_fault}
 use Rattle.ff_text.specs.declared.terms.Term.{Term}
 use Rattle.ff_text.specs.declared.terms.ElemText.{ElemText}
@@ -78,7 +79,7 @@ no_field_row p tail k r named h = none tail h.fault named h.holds
     no_fault_of m codes (fields.FieldSize q n) is h = h.2 is.polynomial.size
     no_fault_of m codes (fields.CodeRange c) is h =
         let first = h.1 in
-        let below : get_or codes first.place 0 < p = All-get_or (λ c. c < p) codes first.place 0 first.within is.polynomial.over.each in
+        let below : get_or codes first.position 0 < p = All-get_or (λ c. c < p) codes first.position 0 first.within is.polynomial.over.each in
         let e = first.is in let out = first.outside in
         omega (arith, below, e, out)
     no_fault_of m codes (fields.NotMonic c) is h = h.3 (sym h.2 ∙ is.polynomial.monic)

@@ -5,8 +5,9 @@ use Rattle.ff_fields.specs.Prime.{is_listed, prime_of}
 use Rattle.ff_fields.specs.Residue.{residue_of}
 use Rattle.ff_fields.specs.Modulus.{IsFieldModulus}
 use Rattle.ff_poly.specs.Words.{IsMonic, IsPoly}
-use Rattle.ff_algebra.specs.Values.{ElemValue, PresValue, IsElem, IsMonicElem, IsSame, function_of, functions}
-use Rattle.ff_algebra.specs.Curves.{CurveValue, IsCurveOf}
+use Rattle.function_field.specs.Values.{ElemValue, PresValue, IsElem, IsMonicElem, IsSame, function_of, functions}
+use Rattle.function_field.specs.Curves.{CurveValue}
+use Rattle.ff_algebra.specs.CurveTerms.{IsCurveOf}
 use Rattle.ff_factor.specs.Factors.{FactorsValue, IsFactorisation}
 use Rattle.ff_text.specs.declared.terms.Term.{Term}
 use Rattle.ff_text.specs.declared.terms.ElemText.{ElemText}

@@ -3,7 +3,7 @@ use Rattle.std.specs.Prelude.{◌+◌, take}
 use Rattle.ff_fields.specs.declared.fields.Field.{Field as AnyField}
 use Rattle.ff_fields.specs.declared.fields.Field.TheVariants.{Prime, Residue}
 use Rattle.ff_fields.specs.Fields.{field_of}
-use Rattle.ff_algebra.specs.Curves.{IsCurve}
+use Rattle.function_field.specs.Curves.{IsCurve}
 use Rattle.ff_session.specs.declared.session.Bound.{Bound}
 use Rattle.ff_session.specs.declared.session.Bound.TheVariants.{Nothing, Field, Curve}
 use Rattle.ff_session.specs.Settings.{FieldData, Modulo, ByModulus, Setting, Empty, WithField, WithCurve}

@@ -1,9 +1,9 @@
 -- How elements and polynomials are read: sums of terms, then polynomials, then elements and factors.
 use Rattle.std.specs.Prelude.{◌≡◌, ℕ, ◌≤◌, List, [], ◌∷◌, max, Option, Some, None}
 use Rattle.ff_fields.specs.Field.{FieldOps, CodeField}
-use Rattle.ff_algebra.specs.Values.{ElemValue, PresValue, IsElem, IsMonicElem, function_of}
+use Rattle.function_field.specs.Values.{ElemValue, PresValue, IsElem, IsMonicElem, function_of}
 use Rattle.ff_factor.specs.Factors.{FactorsValue, polys_of}
-use Rattle.ff_algebra.specs.Curves.{IsCoefficient, degree_in_x}
+use Rattle.ff_algebra.specs.CurveTerms.{IsCoefficient, degree_in_x}
 use Rattle.ff_text.specs.declared.terms.Term.{Term}
 use Rattle.ff_text.specs.declared.terms.ElemText.{ElemText}
 use Rattle.ff_session.specs.declared.refusal.Refusal.{Refusal}

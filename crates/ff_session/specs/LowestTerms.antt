@@ -2,7 +2,7 @@
 use Rattle.std.specs.Prelude.{◌≢◌, ℕ, ◌≤◌, [], length}
 use Rattle.ff_fields.specs.Field.{FieldOps}
 use Rattle.ff_poly.specs.Words.{IsMonic, IsPoly}
-use Rattle.ff_algebra.specs.Values.{ElemValue, IsElem, IsSame}
+use Rattle.function_field.specs.Values.{ElemValue, IsElem, IsSame}
 
 module _ (k : FieldOps) where
   -- a monic denominator, and no denominator of the same fractions has a smaller degree

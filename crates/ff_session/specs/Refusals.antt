@@ -6,10 +6,11 @@ use Rattle.ff_fields.specs.Field.{FieldOps, CodeField}
 use Rattle.ff_fields.specs.Prime.{is_listed}
 use Rattle.ff_fields.specs.Modulus.{IsFaultOf}
 use Rattle.ff_poly.specs.Words.{poly_of}
-use Rattle.ff_algebra.specs.Values.{ElemValue}
+use Rattle.function_field.specs.Values.{ElemValue}
 use Rattle.ff_algebra.specs.declared.curve.CurveFault.{CurveFault}
 use Rattle.ff_algebra.specs.declared.curve.CurveFault.TheVariants as curves
-use Rattle.ff_algebra.specs.Curves.{CurveValue, IsCurveFault}
+use Rattle.function_field.specs.Curves.{CurveValue}
+use Rattle.ff_algebra.specs.CurveTerms.{IsCurveFault}
 use Rattle.ff_factor.specs.Factors.{polys_of}
 use Rattle.ff_text.specs.declared.terms.Term.{Term}
 use Rattle.ff_text.specs.declared.terms.ElemText.{ElemText}

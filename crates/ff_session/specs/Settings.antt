@@ -4,7 +4,7 @@ use Rattle.ff_fields.specs.Field.{FieldOps, CodeField}
 use Rattle.ff_fields.specs.Prime.{is_listed, prime_of, prime_field}
 use Rattle.ff_fields.specs.Residue.{residue_of}
 use Rattle.ff_fields.specs.Modulus.{IsFieldModulus, modulus_field}
-use Rattle.ff_algebra.specs.Curves.{CurveValue}
+use Rattle.function_field.specs.Curves.{CurveValue}
 
 -- a field by its data: the numbers modulo p, or the polynomials over them modulo one of degree m
 pub data FieldData : Type 0 where

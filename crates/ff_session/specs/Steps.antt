@@ -2,9 +2,9 @@
 use Rattle.std.specs.Prelude.{◌≡◌, ℕ, ◌<◌, ◌≤◌, List, ◌++◌, Option, Some, None}
 use Rattle.std.specs.Option.{ForSome}
 use Rattle.ff_fields.specs.Field.{FieldOps, CodeField}
-use Rattle.ff_algebra.specs.declared.elem.Side.{Side}
-use Rattle.ff_algebra.specs.Values.{ElemValue, PresValue}
-use Rattle.ff_algebra.specs.Curves.{CurveValue}
+use Rattle.function_field.specs.declared.side.Side.{Side}
+use Rattle.function_field.specs.Values.{ElemValue, PresValue}
+use Rattle.function_field.specs.Curves.{CurveValue}
 use Rattle.ff_factor.specs.Factors.{FactorsValue}
 use Rattle.ff_text.specs.declared.terms.Term.{Term}
 use Rattle.ff_text.specs.declared.terms.ElemText.{ElemText}

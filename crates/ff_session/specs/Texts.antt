@@ -1,6 +1,6 @@
 -- What is printed of a block, and of a refusal.
 use Rattle.std.specs.Prelude.{ℕ, List, ◌++◌, codes, decimal, flat_map}
-use Rattle.ff_algebra.specs.Values.{ElemValue}
+use Rattle.function_field.specs.Values.{ElemValue}
 use Rattle.ff_text.specs.Printed.{poly_text, elem_text}
 use Rattle.ff_script.specs.declared.script.Statement.{Statement}
 use Rattle.ff_script.specs.Printing.{statement_text}

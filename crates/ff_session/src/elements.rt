@@ -3,7 +3,7 @@
 ghost use Rattle.std.specs.Prelude.{◌≡◌, ◌<◌, ◌≤◌, All, IfOk, IfErr, IfSome};
 ghost use Rattle.std.specs.List.{flat_map};
 ghost use Rattle.ff_fields.specs.Over.{IsOver};
-ghost use Rattle.ff_algebra.specs.Curves.{IsCoefficient, degree_in_x};
+ghost use Rattle.ff_algebra.specs.CurveTerms.{IsCoefficient, degree_in_x};
 ghost use Rattle.ff_text.specs.Values.{written_codes, HasSmallExponents};
 ghost use Rattle.ff_text.specs.Printing.{IsWritableElement};
 ghost use Rattle.ff_session.specs.Meaning.{IsSumOf, codes_of_den, codes_of_element};

@@ -1,95 +1,28 @@
 //! The statement `order`.
 
-ghost use Rattle.std.specs.Prelude.{◌≡◌, [], ◌∷◌, ◌++◌, IfOk, IfErr, OnOk};
-ghost use Rattle.ff_algebra.specs.declared.elem.Side.TheVariants.{Finite, Infinite};
-ghost use Rattle.ff_algebra.specs.Values.{IsElem, IsMonicElem, function_of};
-ghost use Rattle.ff_algebra.specs.Infinity.{function_on};
-ghost use Rattle.ff_algebra.specs.Curves.{IsCurve};
+ghost use Rattle.std.specs.Prelude.{◌≡◌, ◌++◌, IfOk, IfErr, OnOk};
+ghost use Rattle.function_field.specs.Values.{IsElem, IsMonicElem, function_of};
+ghost use Rattle.function_field.specs.Infinity.{function_on};
+ghost use Rattle.function_field.specs.Curves.{IsCurve};
 ghost use Rattle.ff_lattice.specs.Lattices.{row_elems};
-ghost use Rattle.ff_order.specs.Enlargements.{repeated};
 ghost use Rattle.ff_session.specs.Refusals.{UnlessMemory};
 ghost use Rattle.ff_session.specs.Meaning.{degree_of_rows};
 ghost use Rattle.ff_session.specs.Texts.{row_lines};
-ghost use Rattle.ff_session.specs.Orders.{IsPrintedRow, ArePrintedRows, IsIntegralLattice};
+ghost use Rattle.value_theory.specs.IntegralLattices.{IsIntegralLattice};
+ghost use Rattle.ff_session.specs.Orders.{IsPrintedRow, ArePrintedRows};
 ghost use Rattle.ff_session.specs.Steps.{AddsRows, HaveGreatDegree};
 
 use crate::answers::push_product;
 use crate::products::{MAX_DEGREE, degree_of, in_lowest_terms};
 use crate::refusal::Refusal;
 use ff_algebra::curve::Curve;
-use ff_algebra::elem::{Elem, Side};
+use ff_algebra::Side;
+use ff_algebra::elem::Elem;
 use ff_algebra::sides::to_fin;
-use ff_factor::factor;
 use ff_fields::field::SmallField;
-use ff_infinite::infinite_start;
 use ff_lattice::Order;
-use ff_order::{equation_order, maximal, p_maximal};
-use ff_poly::Poly;
-use ff_poly::poly::shift;
+use ff_maximal::maximal_order;
 use std::alloc::{AllocError, Global};
-
-/// The polynomials with an exponent of 2 or more.
-fn repeated(alloc: Global, parts: &[(Poly, u32)]) -> Result<Vec<Poly>, AllocError>
-    ensures { IfOk result (λ ps. ps.items ≡ repeated parts.now) }
-{
-    let mut polys = Vec::new(alloc);
-    for part in parts {
-        if part.1 > 1 {
-            polys.push(part.0.copy(alloc)?)?;
-        }
-    }
-    Ok(polys)
-}
-
-/// The integral functions of the finite side: k[x][y], enlarged at the irreducible polynomials whose squares divide the
-/// discriminant. Over a curve whose discriminant has no such square it takes the time of factoring that, and of a Popov basis of
-/// the unit matrix.
-fn finite_order<K: SmallField>(alloc: Global, k: &K, curve: &Curve) -> Result<Order, AllocError>
-    requires { IsCurve (K.field k.now) curve.now }
-    ensures { IfOk result (IsIntegralLattice (K.field k.now) curve.now Finite) }
-{
-    let p = curve.fin();
-    let factors = factor(alloc, k, curve.disc())?;
-    let primes = repeated(alloc, factors.parts())?;
-    let start = equation_order(alloc, k, p)?;
-    maximal(alloc, k, p, &start, &primes)
-}
-
-/// The variable of a presentation.
-fn variable(alloc: Global) -> Result<Poly, AllocError>
-    ensures { IfOk result (λ t. t ≡ 0 ∷ 1 ∷ []) }
-{
-    shift(alloc, &Poly::one(alloc)?, 1)
-}
-
-/// The integral functions of the infinite side that have powers of t = 1/x as denominators: k[t][Y], enlarged at t. Their
-/// combinations over the fractions of degree at most 0 are all integral functions of that side. It takes the time of
-/// `p_maximal` at t over the infinite presentation.
-fn infinite_order<K: SmallField>(alloc: Global, k: &K, curve: &Curve) -> Result<Order, AllocError>
-    requires { IsCurve (K.field k.now) curve.now }
-    ensures { IfOk result (IsIntegralLattice (K.field k.now) curve.now Infinite) }
-{
-    let p = curve.inf();
-    let t = variable(alloc)?;
-    let start = infinite_start(alloc, k, curve)?;
-    p_maximal(alloc, k, p, &start, &t)
-}
-
-/// The integral functions of a side, on the infinite one those with powers of t as denominators.
-fn integral_order<K: SmallField>(
-    alloc: Global,
-    k: &K,
-    curve: &Curve,
-    side: Side,
-) -> Result<Order, AllocError>
-    requires { IsCurve (K.field k.now) curve.now }
-    ensures { IfOk result (IsIntegralLattice (K.field k.now) curve.now side) }
-{
-    match side {
-        Side::Finite => finite_order(alloc, k, curve),
-        Side::Infinite => infinite_order(alloc, k, curve),
-    }
-}
 
 /// The element of the side's presentation, in x and y.
 fn in_x_and_y<K: SmallField>(
@@ -183,7 +116,7 @@ pub(crate) fn answer_order<K: SmallField>(
     ensures rows { OnOk result (AddsRows (K.field k.now) curve.now side text.old.items text.new.items) }
     ensures refused { IfErr result (UnlessMemory (HaveGreatDegree (K.field k.now) curve.now side)) }
 {
-    let o = integral_order(alloc, k, curve, side)?;
+    let o = maximal_order(alloc, k, curve, side)?;
     let rows = order_rows(alloc, k, curve, side, &o)?;
     let degree = greatest_degree(&rows);
     if degree > MAX_DEGREE {

@@ -1,7 +1,7 @@
 //! The statement `mul`.
 
 ghost use Rattle.std.specs.Prelude.{◌≡◌, IfOk, IfErr, OnOk};
-ghost use Rattle.ff_algebra.specs.Values.{IsPresOver, IsElem, IsMonicElem};
+ghost use Rattle.function_field.specs.Values.{IsPresOver, IsElem, IsMonicElem};
 ghost use Rattle.ff_text.specs.Printing.{IsWritableElement};
 ghost use Rattle.ff_session.specs.Meaning.{degree_of_element};
 ghost use Rattle.ff_session.specs.Refusals.{UnlessMemory, IsProductRow};

@@ -2,7 +2,7 @@
 
 ghost use Rattle.std.specs.Prelude.{◌≡◌, ◌<◌, ◌≤◌, ◌++◌, All, None, IfOk, IfErr, OnOk, OnErr};
 ghost use Rattle.ff_fields.specs.Fields.{field_of};
-ghost use Rattle.ff_algebra.specs.Curves.{IsCurve};
+ghost use Rattle.function_field.specs.Curves.{IsCurve};
 ghost use Rattle.ff_text.specs.Values.{HasSmallExponents};
 ghost use Rattle.ff_script.specs.Grammar.{IsWhole};
 ghost use Rattle.ff_script.specs.Printing.{IsWritable};

@@ -9,13 +9,13 @@ use Rattle.ff_text.specs.declared.terms.Term.{Term}
 use Rattle.ff_text.specs.declared.terms.ElemText.{ElemText}
 use Rattle.ff_text.specs.declared.scan.Mark.TheVariants as marks
 use Rattle.ff_text.specs.declared.scan.Kind.TheVariants as kinds
-use Rattle.ff_text.specs.declared.scan.Place.TheVariants as places
+use Rattle.ff_text.specs.declared.scan.Position.TheVariants as positions
 use Rattle.ff_text.specs.declared.scan.Scan.{Scan}
 use Rattle.ff_text.specs.declared.element.Stage.{Stage}
 use Rattle.ff_text.specs.declared.element.Stage.TheVariants.{Outside, Opened, Entry, Closed, Spaced, Slash, OneTerm, Paren, Inner, Done}
 use Rattle.ff_text.specs.declared.element.ElementScan.{ElementScan}
 use Rattle.ff_text.specs.Spelling.{Then, Is, is_blank, Blanks, Around, Within, Each, SpellsTerms, SpellsOneTerm, SpellsDen, SpellsTail, SpellsEntries, SpellsElement}
-use Rattle.ff_text.specs.Scanning.{mark_of, term_of, ended, after_mark, scan_step, begun, is_whole_place, last_terms}
+use Rattle.ff_text.specs.Scanning.{mark_of, term_of, ended, after_mark, scan_step, begun, is_whole_position, last_terms}
 use Rattle.ff_text.specs.ElementScanning.{in_x, inside, entry_ended, stage_step, element_step, outside, is_whole_stage, over, last_element}
 use Rattle.ff_text.proofs.Machines.{Leads, leads_then, leads_one, first_step, IsMachine}
 use Rattle.ff_text.proofs.Marks.{mark-blank}
@@ -69,10 +69,10 @@ lift signs at steps s t (b ∷ h) e =
     element_then (at s) (at w.0) (at t) (b ∷ []) h (leads_one element_step (at s) (at w.0) b (steps s w.0 b w.1)) (lift signs at steps w.0 t h w.2)
 
 -- from a stage before the polynomial
-lift_first : (signs : Bool) (e : ElementScan) (at : Scan → ElementScan) → ((t : Scan) (b : ℕ) → scan_step (in_x signs) begun b ≡ Some t → element_step e b ≡ Some (at t)) → ((s t : Scan) (b : ℕ) → scan_step (in_x signs) s b ≡ Some t → element_step (at s) b ≡ Some (at t)) → (t : Scan) (h : List ℕ) → Reads signs t h → is_whole_place t.place ≡ true → ElementLeads e h (at t)
+lift_first : (signs : Bool) (e : ElementScan) (at : Scan → ElementScan) → ((t : Scan) (b : ℕ) → scan_step (in_x signs) begun b ≡ Some t → element_step e b ≡ Some (at t)) → ((s t : Scan) (b : ℕ) → scan_step (in_x signs) s b ≡ Some t → element_step (at s) b ≡ Some (at t)) → (t : Scan) (h : List ℕ) → Reads signs t h → is_whole_position t.position ≡ true → ElementLeads e h (at t)
 lift_first signs e at first steps t [] r is =
     let same : begun ≡ t = cc in
-    absurd (let not : is_whole_place t.place ≡ false = ap (λ (s : Scan). is_whole_place s.place) (sym same) in cc)
+    absurd (let not : is_whole_position t.position ≡ false = ap (λ (s : Scan). is_whole_position s.position) (sym same) in cc)
 lift_first signs e at first steps t (b ∷ h) r is =
     let w = first_step (scan_step (in_x signs)) begun t b h r in
     element_then e (at w.0) (at t) (b ∷ []) h (leads_one element_step e (at w.0) b (first w.0 b w.1)) (lift signs at steps w.0 t h w.2)
@@ -110,15 +110,15 @@ step-open : element_step outside 91 ≡ Some (element_at Opened [] begun)
 unfolding element_step
 step-open = refl
 
-step-comma : (es : List (List Term)) (s : Scan) (v : List Term) → is_some (ended s.place) ≡ true → last_terms s ≡ Some v → element_step (element_at Entry es s) 44 ≡ Some (element_at Opened (es ++ v ∷ []) begun)
+step-comma : (es : List (List Term)) (s : Scan) (v : List Term) → is_some (ended s.position) ≡ true → last_terms s ≡ Some v → element_step (element_at Entry es s) 44 ≡ Some (element_at Opened (es ++ v ∷ []) begun)
 unfolding element_step
 step-comma es s v is e = rw (is, e) refl
 
-step-close : (es : List (List Term)) (s : Scan) (v : List Term) → is_some (ended s.place) ≡ true → last_terms s ≡ Some v → element_step (element_at Entry es s) 93 ≡ Some (element_at Closed (es ++ v ∷ []) begun)
+step-close : (es : List (List Term)) (s : Scan) (v : List Term) → is_some (ended s.position) ≡ true → last_terms s ≡ Some v → element_step (element_at Entry es s) 93 ≡ Some (element_at Closed (es ++ v ∷ []) begun)
 unfolding element_step
 step-close es s v is e = rw (is, e) refl
 
-step-done : (es : List (List Term)) (s : Scan) → is_some (ended s.place) ≡ true → element_step (element_at Inner es s) 41 ≡ Some (element_at Done es s)
+step-done : (es : List (List Term)) (s : Scan) → is_some (ended s.position) ≡ true → element_step (element_at Inner es s) 41 ≡ Some (element_at Done es s)
 unfolding element_step
 step-done es s is = rw is refl
 
@@ -157,7 +157,7 @@ record IsEntryRead (from : ElementScan) (g : List ℕ) (es : List (List Term)) :
   last : List Term
   scan : Scan
   leads : ElementLeads from g (element_at Entry front scan)
-  is_whole : is_whole_place scan.place ≡ true
+  is_whole : is_whole_position scan.position ≡ true
   value : last_terms scan ≡ Some last
   whole : front ++ last ∷ [] ≡ es
 
@@ -174,7 +174,7 @@ leads_entry es v g spelled =
       whole = refl;
     }
 
-leads_comma : (es : List (List Term)) (s : Scan) (v : List Term) (g : List ℕ) → is_whole_place s.place ≡ true → last_terms s ≡ Some v → Around (codes ",") g → ElementLeads (element_at Entry es s) g (element_at Opened (es ++ v ∷ []) begun)
+leads_comma : (es : List (List Term)) (s : Scan) (v : List Term) (g : List ℕ) → is_whole_position s.position ≡ true → last_terms s ≡ Some v → Around (codes ",") g → ElementLeads (element_at Entry es s) g (element_at Opened (es ++ v ∷ []) begun)
 leads_comma es s v g is e w =
     let gap = scan_gap (in_x true) s w.front is w.first in
     let behind = w.second in
@@ -183,7 +183,7 @@ leads_comma es s v g is e w =
     (element_mark (element_at Entry es gap.0) (element_at Opened (es ++ v ∷ []) begun) 44 behind.front behind.first (step-comma es gap.0 v gap.2 (gap.3 ∙ e)))
     (element_blanks (element_at Opened (es ++ v ∷ []) begun) behind.back (opened_stays (es ++ v ∷ [])) behind.second))
 
-leads_more_entries : (es more : List (List Term)) (s : Scan) (v : List Term) (g : List ℕ) → is_whole_place s.place ≡ true → last_terms s ≡ Some v → Each (λ w. Then (Around (codes ",")) (SpellsTerms false w)) more g → IsEntryRead (element_at Entry es s) g ((es ++ v ∷ []) ++ more)
+leads_more_entries : (es more : List (List Term)) (s : Scan) (v : List Term) (g : List ℕ) → is_whole_position s.position ≡ true → last_terms s ≡ Some v → Each (λ w. Then (Around (codes ",")) (SpellsTerms false w)) more g → IsEntryRead (element_at Entry es s) g ((es ++ v ∷ []) ++ more)
 leads_more_entries es [] s v g is e w = record {
   front = es;
   last = v;
@@ -227,7 +227,7 @@ leads_entries (v ∷ vs) g s =
     }
 
 -- a bracket behind blanks
-leads_close : (es : List (List Term)) (s : Scan) (v : List Term) (g : List ℕ) → is_whole_place s.place ≡ true → last_terms s ≡ Some v → Then Blanks (Is (codes "]")) g → ElementLeads (element_at Entry es s) g (element_at Closed (es ++ v ∷ []) begun)
+leads_close : (es : List (List Term)) (s : Scan) (v : List Term) (g : List ℕ) → is_whole_position s.position ≡ true → last_terms s ≡ Some v → Then Blanks (Is (codes "]")) g → ElementLeads (element_at Entry es s) g (element_at Closed (es ++ v ∷ []) begun)
 leads_close es s v g is e w =
     let gap = scan_gap (in_x true) s w.front is w.first in
     element_parts (element_at Entry es s) (element_at Entry es gap.0) (element_at Closed (es ++ v ∷ []) begun) g w (lift true (element_at Entry es) (entry_inside es) s gap.0 w.front gap.1)
@@ -336,10 +336,10 @@ keeps_stage Opened es s u g b r e =
     (λ o. keeps_inside true Entry (element_at Opened es s) u b o (λ t c w. refl))
 keeps_stage Entry es s u g b r e =
     choose (eqb b 44) (entry_ended Opened (element_at Entry es s)) (cond (eqb b 93) (entry_ended Closed (element_at Entry es s)) (inside true Entry (element_at Entry es s) b)) u (Keeps (element_at Entry es s) u) e
-    (λ o. choose (is_some (ended s.place)) (Some (element_at Opened (es ++ option_to_list (last_terms s)) begun)) None u (Keeps (element_at Entry es s) u) o
+    (λ o. choose (is_some (ended s.position)) (Some (element_at Opened (es ++ option_to_list (last_terms s)) begun)) None u (Keeps (element_at Entry es s) u) o
     (λ q. keeps_some (element_at Entry es s) (element_at Opened (es ++ option_to_list (last_terms s)) begun) u q (λ w. refl)) (λ q. absurd cc))
     (λ o. choose (eqb b 93) (entry_ended Closed (element_at Entry es s)) (inside true Entry (element_at Entry es s) b) u (Keeps (element_at Entry es s) u) o
-    (λ p. choose (is_some (ended s.place)) (Some (element_at Closed (es ++ option_to_list (last_terms s)) begun)) None u (Keeps (element_at Entry es s) u) p
+    (λ p. choose (is_some (ended s.position)) (Some (element_at Closed (es ++ option_to_list (last_terms s)) begun)) None u (Keeps (element_at Entry es s) u) p
     (λ q. keeps_some (element_at Entry es s) (element_at Closed (es ++ option_to_list (last_terms s)) begun) u q (λ w. absurd cc)) (λ q. absurd cc))
     (λ p. keeps_inside true Entry (element_at Entry es s) u b p (λ t c w. refl)))
 keeps_stage Closed es s u g b r e =
@@ -364,8 +364,8 @@ keeps_stage Paren es s u g b r e =
     (λ o. keeps_some (element_at Paren es s) (element_at Paren es s) u o (λ w. refl))
     (λ o. keeps_inside true Inner (element_at Paren es s) u b o (λ t c w. refl))
 keeps_stage Inner es s u g b r e =
-    choose (eqb b 41) (cond (is_some (ended s.place)) (Some (element_at Done es s)) None) (inside true Inner (element_at Inner es s) b) u (Keeps (element_at Inner es s) u) e
-    (λ o. choose (is_some (ended s.place)) (Some (element_at Done es s)) None u (Keeps (element_at Inner es s) u) o
+    choose (eqb b 41) (cond (is_some (ended s.position)) (Some (element_at Done es s)) None) (inside true Inner (element_at Inner es s) b) u (Keeps (element_at Inner es s) u) e
+    (λ o. choose (is_some (ended s.position)) (Some (element_at Done es s)) None u (Keeps (element_at Inner es s) u) o
     (λ q. keeps_some (element_at Inner es s) (element_at Done es s) u q (λ w. absurd cc)) (λ q. absurd cc))
     (λ o. keeps_inside true Inner (element_at Inner es s) u b o (λ t c w. refl))
 keeps_stage Done es s u g b r e = absurd cc
@@ -388,17 +388,17 @@ unfolding element_step scan_step
 can_end Outside es s g r = new_scan Outside es s r.1 (codes "[0]", element_at Closed (es ++ (term_of false (factors.Code 0 ∷ []) ∷ []) ∷ []) begun, refl, refl)
 can_end Opened es s g r = new_scan Opened es s r.0 (codes "0]", element_at Closed (es ++ (term_of false (factors.Code 0 ∷ []) ∷ []) ∷ []) begun, refl, refl)
 can_end Closed es s g r = ([], element_at Closed es s, refl, refl)
-can_end Spaced es s g r = new_scan Spaced es s r.0 (codes "/0", element_at OneTerm es (record { terms = []; minus = false; factors = []; place = places.Digits kinds.Code 1 0 }), refl, refl)
-can_end Slash es s g r = new_scan Slash es s r.0 (codes "0", element_at OneTerm es (record { terms = []; minus = false; factors = []; place = places.Digits kinds.Code 1 0 }), refl, refl)
-can_end Paren es s g r = new_scan Paren es s r.0 (codes "0)", element_at Done es (record { terms = []; minus = false; factors = []; place = places.Digits kinds.Code 1 0 }), refl, refl)
+can_end Spaced es s g r = new_scan Spaced es s r.0 (codes "/0", element_at OneTerm es (record { terms = []; minus = false; factors = []; position = positions.Digits kinds.Code 1 0 }), refl, refl)
+can_end Slash es s g r = new_scan Slash es s r.0 (codes "0", element_at OneTerm es (record { terms = []; minus = false; factors = []; position = positions.Digits kinds.Code 1 0 }), refl, refl)
+can_end Paren es s g r = new_scan Paren es s r.0 (codes "0)", element_at Done es (record { terms = []; minus = false; factors = []; position = positions.Digits kinds.Code 1 0 }), refl, refl)
 can_end Done es s g r = ([], element_at Done es s, refl, refl)
 can_end OneTerm es s g r =
-    let more = live_at (in_x false) s.terms s.minus s.factors s.place in
+    let more = live_at (in_x false) s.terms s.minus s.factors s.position in
     (more.0, element_at OneTerm es more.1, lift false (element_at OneTerm es) (term_inside es) s more.1 more.0 more.2, more.3)
 can_end Entry es s g r =
-    let more = live_at (in_x true) s.terms s.minus s.factors s.place in
-    let f = whole_ended (in_x true) more.1.place more.3 in
-    let last = last_ended (in_x true) more.1 more.1.place f.0 f.1 in
+    let more = live_at (in_x true) s.terms s.minus s.factors s.position in
+    let f = whole_ended (in_x true) more.1.position more.3 in
+    let last = last_ended (in_x true) more.1 more.1.position f.0 f.1 in
     let v : List Term = more.1.terms ++ term_of more.1.minus (more.1.factors ++ f.0 ∷ []) ∷ [] in (
       more.0 ++ codes "]",
       element_at Closed (es ++ v ∷ []) begun,
@@ -407,8 +407,8 @@ can_end Entry es s g r =
       refl,
     )
 can_end Inner es s g r =
-    let more = live_at (in_x true) s.terms s.minus s.factors s.place in
-    let f = whole_ended (in_x true) more.1.place more.3 in (
+    let more = live_at (in_x true) s.terms s.minus s.factors s.position in
+    let f = whole_ended (in_x true) more.1.position more.3 in (
       more.0 ++ codes ")",
       element_at Done es more.1,
       element_then (element_at Inner es s) (element_at Inner es more.1) (element_at Done es more.1) more.0 (codes ")") (lift true (element_at Inner es) (inner_inside es) s more.1 more.0 more.2)

@@ -8,14 +8,14 @@ use Rattle.ff_text.specs.declared.terms.Term.{Term}
 use Rattle.ff_text.specs.declared.terms.ElemText.{ElemText}
 use Rattle.ff_text.specs.declared.scan.Mark.{Mark}
 use Rattle.ff_text.specs.declared.scan.Mark.TheVariants as marks
-use Rattle.ff_text.specs.declared.scan.Place.{Place}
-use Rattle.ff_text.specs.declared.scan.Place.TheVariants as places
+use Rattle.ff_text.specs.declared.scan.Position.{Position}
+use Rattle.ff_text.specs.declared.scan.Position.TheVariants as positions
 use Rattle.ff_text.specs.declared.scan.Scan.{Scan}
 use Rattle.ff_text.specs.declared.element.Stage.{Stage}
 use Rattle.ff_text.specs.declared.element.Stage.TheVariants.{Outside, Opened, Entry, Closed, Spaced, Slash, OneTerm, Paren, Inner, Done}
 use Rattle.ff_text.specs.declared.element.ElementScan.{ElementScan}
 use Rattle.ff_text.specs.Spelling.{Then, Is, is_blank, Blanks, Around, Within, SpellsTerms, SpellsOneTerm, SpellsDen, SpellsEntries, SpellsElement}
-use Rattle.ff_text.specs.Scanning.{mark_of, term_of, ended, moved, after_mark, scan_step, begun, is_whole_place, last_terms, HasRoom}
+use Rattle.ff_text.specs.Scanning.{mark_of, term_of, ended, moved, after_mark, scan_step, begun, is_whole_position, last_terms, HasRoom}
 use Rattle.ff_text.specs.ElementScanning.{in_x, opened, inside, entry_ended, stage_step, element_step, outside, is_whole_stage, over, last_at_stage}
 use Rattle.ff_text.proofs.Machines.{Leads, leads_then, leads_one, along}
 use Rattle.ff_text.proofs.Texts.{then_of, then_more, then_map_first, then_right, then_nothing, blanks_push, around_push, around_of, then_blanks, joined_push}
@@ -61,7 +61,7 @@ IsStageRead es s Slash g = (s ≡ begun) × DenFront es g
 IsStageRead es s OneTerm g = Then (DenFront es) (Reads false s) g
 IsStageRead es s Paren g = (s ≡ begun) × ParenFront es g
 IsStageRead es s Inner g = Then (ParenFront es) (Reads true s) g
-IsStageRead es s Done g = HasRoom s.place × Then (Bracketed es) (Then (Around (codes "/")) (DenRead s)) g
+IsStageRead es s Done g = HasRoom s.position × Then (Bracketed es) (Then (Around (codes "/")) (DenRead s)) g
 
 abbrev pub IsElementRead : ElementScan → List ℕ → Type 0
 IsElementRead e g = IsStageRead e.entries e.scan e.stage g
@@ -82,24 +82,24 @@ inside_some signs stage e u b made = go (scan_step (in_x signs) e.scan b) refl m
     go (Some t) is some = (t, is, cc)
 
 -- a polynomial that may end there
-poly_done : (s : Scan) (h : List ℕ) → Reads true s h → is_some (ended s.place) ≡ true → (v : List Term) × (last_terms s ≡ Some v) × Then (SpellsTerms false v) Blanks h
-poly_done s h r is = go (ended s.place) refl is
+poly_done : (s : Scan) (h : List ℕ) → Reads true s h → is_some (ended s.position) ≡ true → (v : List Term) × (last_terms s ≡ Some v) × Then (SpellsTerms false v) Blanks h
+poly_done s h r is = go (ended s.position) refl is
   where
-    go : (o : Option Factor) → ended s.place ≡ o → is_some o ≡ true → (v : List Term) × (last_terms s ≡ Some v) × Then (SpellsTerms false v) Blanks h
+    go : (o : Option Factor) → ended s.position ≡ o → is_some o ≡ true → (v : List Term) × (last_terms s ≡ Some v) × Then (SpellsTerms false v) Blanks h
     go None e none = absurd cc
     go (Some f) e some = (
       s.terms ++ term_of s.minus (s.factors ++ f ∷ []) ∷ [],
-      last_ended (in_x true) s s.place f e,
-      terms_done (in_x true) s.terms s.minus s.factors s.place h f (scanned (in_x true) h s r) e,
+      last_ended (in_x true) s s.position f e,
+      terms_done (in_x true) s.terms s.minus s.factors s.position h f (scanned (in_x true) h s r) e,
     )
 
 -- ---- room for a digit
 
-begun_room : (s : Scan) → s ≡ begun → HasRoom s.place
-begun_room s new = subst (λ (t : Scan). HasRoom t.place) (sym new) tt
+begun_room : (s : Scan) → s ≡ begun → HasRoom s.position
+begun_room s new = subst (λ (t : Scan). HasRoom t.position) (sym new) tt
 
-reads_room : (signs : Bool) (s : Scan) (h : List ℕ) → Reads signs s h → HasRoom s.place
-reads_room signs s h r = room_at (in_x signs) s.terms s.minus s.factors s.place h (scanned (in_x signs) h s r)
+reads_room : (signs : Bool) (s : Scan) (h : List ℕ) → Reads signs s h → HasRoom s.position
+reads_room signs s h r = room_at (in_x signs) s.terms s.minus s.factors s.position h (scanned (in_x signs) h s r)
 
 -- ---- steps
 
@@ -131,7 +131,7 @@ arrive e u g same h = let eq : e ≡ u = cc in subst (λ (d : ElementScan). IsEl
 -- the end of an entry, at a byte
 entry_step : (es : List (List Term)) (s : Scan) (stage : Stage) (u : ElementScan) (g : List ℕ) (c : ℕ) → Then (EntriesFront es) (Reads true s) g → entry_ended stage (element_at Entry es s) ≡ Some u → ((fs : List (List Term)) → Then (Is (codes "[")) (Then Blanks (Then (SpellsEntries fs) Blanks)) g → IsStageRead fs begun stage (g ++ c ∷ [])) → IsElementRead u (g ++ c ∷ [])
 entry_step es s stage u g c h e behind =
-    choose (is_some (ended s.place)) (Some (element_at stage (es ++ option_to_list (last_terms s)) begun)) None u (IsElementRead u (g ++ c ∷ [])) e
+    choose (is_some (ended s.position)) (Some (element_at stage (es ++ option_to_list (last_terms s)) begun)) None u (IsElementRead u (g ++ c ∷ [])) e
     (λ is made.
     let d = poly_done s h.back h.second is in
     let list : option_to_list (last_terms s) ≡ d.0 ∷ [] = ap option_to_list d.1 in
@@ -155,7 +155,7 @@ inside_step signs stage es old s u g b e steps =
     subst (λ (d : ElementScan). IsElementRead d (g ++ b ∷ [])) w.2 (steps w.0 w.1)
 
 -- a denominator in parentheses
-den_done : (es : List (List Term)) (s : Scan) (d : List Term) (f i : List ℕ) → HasRoom s.place → last_terms s ≡ Some d → ParenFront es f → Then (SpellsTerms false d) Blanks i → IsStageRead es s Done ((f ++ i) ++ codes ")")
+den_done : (es : List (List Term)) (s : Scan) (d : List Term) (f i : List ℕ) → HasRoom s.position → last_terms s ≡ Some d → ParenFront es f → Then (SpellsTerms false d) Blanks i → IsStageRead es s Done ((f ++ i) ++ codes ")")
 den_done es s d f i room e front p = (
   room,
   subst (Then (Bracketed es) (Then (Around (codes "/")) (DenRead s))) (sym (append_assoc f i (codes ")"))) (then_right (f ++ (i ++ codes ")")) (then_more f (i ++ codes ")") front (λ j a.
@@ -198,8 +198,8 @@ stage_read Paren es s u g b h e =
     (λ is made. arrive (element_at Paren es s) u (g ++ b ∷ []) made (h.0, then_more g (b ∷ []) h.1 (λ i t. then_more i (b ∷ []) t (λ j all. blanks_push j b is all))))
     (λ is made. inside_step true Inner es Paren s u g b made (λ t r. then_of g (b ∷ []) h.1 (reads_first true s t b h.0 r)))
 stage_read Inner es s u g b h e =
-    choose (eqb b 41) (cond (is_some (ended s.place)) (Some (element_at Done es s)) None) (inside true Inner (element_at Inner es s) b) u (IsElementRead u (g ++ b ∷ [])) e
-    (λ is other. choose (is_some (ended s.place)) (Some (element_at Done es s)) None u (IsElementRead u (g ++ b ∷ [])) other
+    choose (eqb b 41) (cond (is_some (ended s.position)) (Some (element_at Done es s)) None) (inside true Inner (element_at Inner es s) b) u (IsElementRead u (g ++ b ∷ [])) e
+    (λ is other. choose (is_some (ended s.position)) (Some (element_at Done es s)) None u (IsElementRead u (g ++ b ∷ [])) other
     (λ may made.
     let d = poly_done s h.back h.second may in
     arrive (element_at Done es s) u (g ++ b ∷ []) made
@@ -223,16 +223,16 @@ element_read g e leads = along element_step IsElementRead element_read_step outs
 abbrev IsAlone : Scan → List ℕ → Type 0
 IsAlone s g = (s.terms ≡ []) × (s.minus ≡ false)
 
-alone_moved : (s t : Scan) (g : List ℕ) (o : Option Place) → IsAlone s g → moved s o ≡ Some t → IsAlone t g
+alone_moved : (s t : Scan) (g : List ℕ) (o : Option Position) → IsAlone s g → moved s o ≡ Some t → IsAlone t g
 alone_moved s t g None alone e = absurd cc
 alone_moved s t g (Some q) alone e =
-    let same : record { terms = s.terms; minus = s.minus; factors = s.factors; place = q } ≡ t = cc in
+    let same : record { terms = s.terms; minus = s.minus; factors = s.factors; position = q } ≡ t = cc in
     subst (λ (u : Scan). IsAlone u g) same alone
 
-alone_star : (s t : Scan) (g : List ℕ) (o : Option Factor) → IsAlone s g → option_map (λ f. record { terms = s.terms; minus = s.minus; factors = s.factors ++ f ∷ []; place = places.Starred }) o ≡ Some t → IsAlone t g
+alone_star : (s t : Scan) (g : List ℕ) (o : Option Factor) → IsAlone s g → option_map (λ f. record { terms = s.terms; minus = s.minus; factors = s.factors ++ f ∷ []; position = positions.Starred }) o ≡ Some t → IsAlone t g
 alone_star s t g None alone e = absurd cc
 alone_star s t g (Some f) alone e =
-    let same : record { terms = s.terms; minus = s.minus; factors = s.factors ++ f ∷ []; place = places.Starred } ≡ t = cc in
+    let same : record { terms = s.terms; minus = s.minus; factors = s.factors ++ f ∷ []; position = positions.Starred } ≡ t = cc in
     subst (λ (u : Scan). IsAlone u g) same alone
 
 alone_mark : (m : Mark) (s t : Scan) (g : List ℕ) → IsAlone s g → after_mark (in_x false) s m ≡ Some t → IsAlone t g
@@ -241,7 +241,7 @@ alone_mark (marks.Digit d) s t g alone e = alone_moved s t g _ alone e
 alone_mark marks.X s t g alone e = alone_moved s t g _ alone e
 alone_mark marks.Y s t g alone e = alone_moved s t g None alone e
 alone_mark marks.Raise s t g alone e = alone_moved s t g _ alone e
-alone_mark marks.Star s t g alone e = alone_star s t g (ended s.place) alone e
+alone_mark marks.Star s t g alone e = alone_star s t g (ended s.position) alone e
 alone_mark marks.Plus s t g alone e = absurd cc
 alone_mark marks.Minus s t g alone e = absurd cc
 alone_mark marks.Other s t g alone e = absurd cc
@@ -254,13 +254,13 @@ alone_step s t g b alone e = alone_mark (mark_of b) s t g alone e
 alone : (s : Scan) (h : List ℕ) → Reads false s h → IsAlone s h
 alone s h r = along (scan_step (in_x false)) IsAlone alone_step begun s [] h (refl, refl) r
 
-one_term : (s : Scan) (h : List ℕ) → Reads false s h → is_whole_place s.place ≡ true → (d : List Term) × (last_terms s ≡ Some d) × SpellsOneTerm d h
+one_term : (s : Scan) (h : List ℕ) → Reads false s h → is_whole_position s.position ≡ true → (d : List Term) × (last_terms s ≡ Some d) × SpellsOneTerm d h
 one_term s h r is =
     let a = alone s h r in
-    let at : IsScannedAt (in_x false) [] s.minus s.factors s.place h = subst (λ (ts : List Term). IsScannedAt (in_x false) ts s.minus s.factors s.place h) a.0 (scanned (in_x false) h s r) in
-    let w = whole_factors (in_x false) s.minus s.factors s.place h a.1 at is in (
+    let at : IsScannedAt (in_x false) [] s.minus s.factors s.position h = subst (λ (ts : List Term). IsScannedAt (in_x false) ts s.minus s.factors s.position h) a.0 (scanned (in_x false) h s r) in
+    let w = whole_factors (in_x false) s.minus s.factors s.position h a.1 at is in (
       term_of false (s.factors ++ w.0 ∷ []) ∷ [],
-      last_ended (in_x false) s s.place w.0 w.1 ∙ ap (λ ts. Some (ts ++ term_of s.minus (s.factors ++ w.0 ∷ []) ∷ [])) a.0 ∙ ap (λ m. Some (term_of m (s.factors ++ w.0 ∷ []) ∷ [])) a.1,
+      last_ended (in_x false) s s.position w.0 w.1 ∙ ap (λ ts. Some (ts ++ term_of s.minus (s.factors ++ w.0 ∷ []) ∷ [])) a.0 ∙ ap (λ m. Some (term_of m (s.factors ++ w.0 ∷ []) ∷ [])) a.1,
       (refl, w.2),
     )
 
@@ -287,7 +287,7 @@ whole_stage Done es s g h is =
       record { front = t.front; back = t.back; first = t.first; second = record { front = t.second.front; back = t.second.back; first = t.second.first; second = d.2; whole = t.second.whole }; whole = t.whole },
     )
 
-pub element_room : (stage : Stage) (es : List (List Term)) (s : Scan) (g : List ℕ) → IsStageRead es s stage g → HasRoom s.place
+pub element_room : (stage : Stage) (es : List (List Term)) (s : Scan) (g : List ℕ) → IsStageRead es s stage g → HasRoom s.position
 element_room Outside es s g h = begun_room s h.1
 element_room Opened es s g h = begun_room s h.0
 element_room Entry es s g h = reads_room true s h.back h.second

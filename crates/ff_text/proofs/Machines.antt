@@ -87,8 +87,8 @@ slice_more : (line : List ℕ) (at j : ℕ) → at ≤ j → j < length line →
 slice_more line at j le lt =
     let more : j + 1 - at ≡ suc (j - at) = omega arith in
     let long : j - at < length (drop at line) = omega (arith, length-drop {A = ℕ}) in
-    let place : at + (j - at) ≡ j = omega arith in
-    ap (λ n. take n (drop at line)) more ∙ take-suc (drop at line) (j - at) 0 long ∙ ap (λ x. slice_range line at j ++ x ∷ []) (get_or-drop at line (j - at) 0 ∙ ap (λ i. get_or line i 0) place)
+    let position : at + (j - at) ≡ j = omega arith in
+    ap (λ n. take n (drop at line)) more ∙ take-suc (drop at line) (j - at) 0 long ∙ ap (λ x. slice_range line at j ++ x ∷ []) (get_or-drop at line (j - at) 0 ∙ ap (λ i. get_or line i 0) position)
 
 slice_split : (line : List ℕ) (at i j : ℕ) → at ≤ i → i ≤ j → slice_range line at j ≡ slice_range line at i ++ take (j - i) (drop (i - at) (drop at line))
 slice_split line at i j first second =

@@ -34,7 +34,7 @@ element_ended = read_ended element_step outside is_whole_element last_element Sp
 pub element_stopped : (line : List ℕ) (at reach end : ℕ) (s t u : ElementScan) (b : Bool) → IsReadElement line at reach end s → u ≡ t → Moves (element_step s (get_or line reach 0)) s t b → b ≡ false → IsElementAllRead line at reach end u
 element_stopped = read_stopped element_step outside is_whole_element last_element SpellsElement
 
-pub element_room_at : (line : List ℕ) (at reach end : ℕ) (s : ElementScan) → IsReadElement line at reach end s → HasRoom s.scan.place
+pub element_room_at : (line : List ℕ) (at reach end : ℕ) (s : ElementScan) → IsReadElement line at reach end s → HasRoom s.scan.position
 element_room_at line at reach end s r = element_room s.stage s.entries s.scan (slice_range line at reach) (element_read (slice_range line at reach) s r.state)
 
 pub element_found : (line : List ℕ) (at reach end : ℕ) (s : ElementScan) (v : ElemText) → IsElementAllRead line at reach end s → last_element s ≡ Some v → IsLongestSpelling SpellsElement line at v end

@@ -7,7 +7,7 @@ use Rattle.ff_text.specs.declared.scan.Rules.{Rules}
 use Rattle.ff_text.specs.declared.scan.Scan.{Scan}
 use Rattle.ff_text.specs.Spelling.{SpellsTerms}
 use Rattle.ff_text.specs.Reading.{IsLongestSpelling, IsReadFault}
-use Rattle.ff_text.specs.Scanning.{scan_step, begun, is_whole_place, last_terms, HasRoom, Moves}
+use Rattle.ff_text.specs.Scanning.{scan_step, begun, is_whole_position, last_terms, HasRoom, Moves}
 use Rattle.ff_text.proofs.Machines.{IsMachine, IsRead, IsReadToStop, read_ended, read_stopped, read_start, read_whole, read_on, read_found, read_nothing, one_value}
 use Rattle.ff_text.proofs.ScanSound.{scanned, room_at}
 use Rattle.ff_text.proofs.ScanComplete.{is_whole_scan, scan_machine}
@@ -29,10 +29,10 @@ module _ (y : Bool) where
   machine : IsMachine terms_step begun is_whole_scan last_terms (SpellsTerms y)
   machine = scan_machine (all_of y) refl
 
-  pub terms_whole : (line : List ℕ) (at reach end : ℕ) (s t : Scan) → IsReadTerms line at reach end s → reach < length line → terms_step s (get_or line reach 0) ≡ Some t → is_whole_place t.place ≡ true → IsReadTerms line at (reach + 1) (reach + 1) t
+  pub terms_whole : (line : List ℕ) (at reach end : ℕ) (s t : Scan) → IsReadTerms line at reach end s → reach < length line → terms_step s (get_or line reach 0) ≡ Some t → is_whole_position t.position ≡ true → IsReadTerms line at (reach + 1) (reach + 1) t
   terms_whole = read_whole terms_step begun is_whole_scan last_terms (SpellsTerms y) machine
 
-  pub terms_on : (line : List ℕ) (at reach end : ℕ) (s t : Scan) → IsReadTerms line at reach end s → reach < length line → terms_step s (get_or line reach 0) ≡ Some t → is_whole_place t.place ≡ false → IsReadTerms line at (reach + 1) end t
+  pub terms_on : (line : List ℕ) (at reach end : ℕ) (s t : Scan) → IsReadTerms line at reach end s → reach < length line → terms_step s (get_or line reach 0) ≡ Some t → is_whole_position t.position ≡ false → IsReadTerms line at (reach + 1) end t
   terms_on = read_on terms_step begun is_whole_scan last_terms (SpellsTerms y) machine
 
   pub terms_begin : (line : List ℕ) (at : ℕ) → at ≤ length line → IsReadTerms line at at at begun
@@ -44,8 +44,8 @@ module _ (y : Bool) where
   pub terms_stopped : (line : List ℕ) (at reach end : ℕ) (s t u : Scan) (b : Bool) → IsReadTerms line at reach end s → u ≡ t → Moves (terms_step s (get_or line reach 0)) s t b → b ≡ false → AreTermsRead line at reach end u
   terms_stopped = read_stopped terms_step begun is_whole_scan last_terms (SpellsTerms y)
 
-  pub terms_room : (line : List ℕ) (at reach end : ℕ) (s : Scan) → IsReadTerms line at reach end s → HasRoom s.place
-  terms_room line at reach end s r = room_at (all_of y) s.terms s.minus s.factors s.place (slice_range line at reach) (scanned (all_of y) (slice_range line at reach) s r.state)
+  pub terms_room : (line : List ℕ) (at reach end : ℕ) (s : Scan) → IsReadTerms line at reach end s → HasRoom s.position
+  terms_room line at reach end s r = room_at (all_of y) s.terms s.minus s.factors s.position (slice_range line at reach) (scanned (all_of y) (slice_range line at reach) s r.state)
 
   pub terms_found : (line : List ℕ) (at reach end : ℕ) (s : Scan) (v : List Term) → AreTermsRead line at reach end s → last_terms s ≡ Some v → IsLongestSpelling (SpellsTerms y) line at v end
   terms_found line at reach end s v r e = read_found terms_step begun is_whole_scan last_terms (SpellsTerms y) machine line at reach end s v r.0 r.1 e

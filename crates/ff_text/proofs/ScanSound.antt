@@ -11,22 +11,22 @@ use Rattle.ff_text.specs.declared.scan.Mark.{Mark}
 use Rattle.ff_text.specs.declared.scan.Mark.TheVariants as marks
 use Rattle.ff_text.specs.declared.scan.Kind.{Kind}
 use Rattle.ff_text.specs.declared.scan.Kind.TheVariants as kinds
-use Rattle.ff_text.specs.declared.scan.Place.{Place}
-use Rattle.ff_text.specs.declared.scan.Place.TheVariants.{Begin, Signed, Starred, Letter, Spaced, Raised, Digits, Behind}
+use Rattle.ff_text.specs.declared.scan.Position.{Position}
+use Rattle.ff_text.specs.declared.scan.Position.TheVariants.{Begin, Signed, Starred, Letter, Spaced, Raised, Digits, Behind}
 use Rattle.ff_text.specs.declared.scan.Scan.{Scan}
 use Rattle.ff_text.specs.Spelling.{Then, Is, is_blank, Blanks, Around, Each, SpellsNumber, SpellsFactor, SpellsFactors, FirstSign, NextSign, SpellsNext, SpellsTerms}
-use Rattle.ff_text.specs.Scanning.{mark_of, factor_of, term_of, after_blank, after_digit, after_letter, after_raise, ended, moved, after_star, after_sign, after_minus, after_mark, scan_step, begun, is_whole_place, last_at, HasRoom}
+use Rattle.ff_text.specs.Scanning.{mark_of, factor_of, term_of, after_blank, after_digit, after_letter, after_raise, ended, moved, after_star, after_sign, after_minus, after_mark, scan_step, begun, is_whole_position, last_at, HasRoom}
 use Rattle.ff_text.proofs.Machines.{Leads, along}
 use Rattle.ff_text.proofs.Digits.{IsDigit, number_one, number_more, number_room}
 use Rattle.ff_text.proofs.Texts.{then_of, then_more, then_map, then_map_first, then_left, then_right, then_nothing, nothing_then, from_nothing_then, blanks_push, blanks_one, around_push, around_of, then_blanks, each_push, JoinedFront, joined_push}
 use Rattle.ff_text.proofs.Marks.{IsMarked, marked}
 
--- the place that was reached
-arrive : (P : Place → Type 0) (p q : Place) → Some p ≡ Some q → P p → P q
+-- the position that was reached
+arrive : (P : Position → Type 0) (p q : Position) → Some p ≡ Some q → P p → P q
 arrive P p q e h = let same : p ≡ q = cc in subst P same h
 
-abbrev pub scan_at : List Term → Bool → List Factor → Place → Scan
-scan_at ts m fs p = record { terms = ts; minus = m; factors = fs; place = p }
+abbrev pub scan_at : List Term → Bool → List Factor → Position → Scan
+scan_at ts m fs p = record { terms = ts; minus = m; factors = fs; position = p }
 
 -- ---- what was read, from where it ends
 
@@ -59,7 +59,7 @@ module _ (rules : Rules) where
   abbrev pub AreDigits : ℕ → ℕ → List ℕ → Type 0
   AreDigits count n g = SpellsNumber n g × (length g ≡ count)
 
-  abbrev pub IsScannedAt : List Term → Bool → List Factor → Place → List ℕ → Type 0
+  abbrev pub IsScannedAt : List Term → Bool → List Factor → Position → List ℕ → Type 0
   IsScannedAt ts m fs Begin g = (ts ≡ []) × (m ≡ false) × (fs ≡ []) × (g ≡ [])
   IsScannedAt ts m fs Signed g = (fs ≡ []) × SignFront ts m g
   IsScannedAt ts m fs Starred g = Then (TermsFront ts m) (Then (SpellsFactors rules.y fs) (Around (codes "*"))) g
@@ -70,7 +70,7 @@ module _ (rules : Rules) where
   IsScannedAt ts m fs (Behind k n) g = Then (Before ts m fs) (Then (SpellsFactor rules.y (factor_of k n)) Blanks) g
 
   abbrev pub IsScanned : Scan → List ℕ → Type 0
-  IsScanned s g = IsScannedAt s.terms s.minus s.factors s.place g
+  IsScanned s g = IsScannedAt s.terms s.minus s.factors s.position g
 
   -- ---- factors
 
@@ -90,7 +90,7 @@ module _ (rules : Rules) where
   digits_factor kinds.Y n count g h = (h.first.0, inr (then_right g (then_map g (then_map_first g h (λ a l. l.1)) (λ b d. d.0))))
 
   -- where a factor may end, it is spelled, with blanks behind it
-  ended_factor : (ts : List Term) (m : Bool) (fs : List Factor) (p : Place) (g : List ℕ) (f : Factor) → IsScannedAt ts m fs p g → ended p ≡ Some f → Then (Before ts m fs) (Then (SpellsFactor rules.y f) Blanks) g
+  ended_factor : (ts : List Term) (m : Bool) (fs : List Factor) (p : Position) (g : List ℕ) (f : Factor) → IsScannedAt ts m fs p g → ended p ≡ Some f → Then (Before ts m fs) (Then (SpellsFactor rules.y f) Blanks) g
   ended_factor ts m fs Begin g f h e = absurd cc
   ended_factor ts m fs Signed g f h e = absurd cc
   ended_factor ts m fs Starred g f h e = absurd cc
@@ -124,7 +124,7 @@ module _ (rules : Rules) where
       subst (Each (SpellsNext rules.y) (ts ++ term_of m fs ∷ [])) (sym (ap (λ x. x ++ h) rest.whole ∙ append_assoc rest.front rest.back h))
       (each_push (SpellsNext rules.y) ts (term_of m fs) rest.front (rest.back ++ h) rest.first (then_of rest.back h rest.second spelled)))
 
-  pub terms_done : (ts : List Term) (m : Bool) (fs : List Factor) (p : Place) (g : List ℕ) (f : Factor) → IsScannedAt ts m fs p g → ended p ≡ Some f → Then (SpellsTerms rules.y (ts ++ term_of m (fs ++ f ∷ []) ∷ [])) Blanks g
+  pub terms_done : (ts : List Term) (m : Bool) (fs : List Factor) (p : Position) (g : List ℕ) (f : Factor) → IsScannedAt ts m fs p g → ended p ≡ Some f → Then (SpellsTerms rules.y (ts ++ term_of m (fs ++ f ∷ []) ∷ [])) Blanks g
   terms_done ts m fs p g f h e =
       then_map_first g (then_left g (factors_done ts m fs f g (ended_factor ts m fs p g f h e))) (λ a t.
       subst (SpellsTerms rules.y (ts ++ term_of m (fs ++ f ∷ []) ∷ [])) (sym t.whole) (terms_push ts m (fs ++ f ∷ []) t.front t.back t.first t.second))
@@ -150,7 +150,7 @@ module _ (rules : Rules) where
       subst (SpellsFactors rules.y (fs ++ f ∷ [])) (sym (t.whole ∙ ap (λ x. x ++ t.back) (no_front m t.front none t.first) ∙ u.whole)) (joined_push (codes "*") (SpellsFactor rules.y) fs f u.front u.back u.first u.second)
 
   -- what is whole is spelled
-  pub whole_scan : (s : Scan) (p : Place) (g : List ℕ) → IsScannedAt s.terms s.minus s.factors p g → is_whole_place p ≡ true → (v : List Term) × (last_at s p ≡ Some v) × SpellsTerms rules.y v g
+  pub whole_scan : (s : Scan) (p : Position) (g : List ℕ) → IsScannedAt s.terms s.minus s.factors p g → is_whole_position p ≡ true → (v : List Term) × (last_at s p ≡ Some v) × SpellsTerms rules.y v g
   whole_scan s Begin g h is = absurd cc
   whole_scan s Signed g h is = absurd cc
   whole_scan s Starred g h is = absurd cc
@@ -161,7 +161,7 @@ module _ (rules : Rules) where
   whole_scan s (Behind k n) g h is = absurd cc
 
   -- so is a term alone, where no sign was read
-  pub whole_factors : (m : Bool) (fs : List Factor) (p : Place) (g : List ℕ) → m ≡ false → IsScannedAt [] m fs p g → is_whole_place p ≡ true → (f : Factor) × (ended p ≡ Some f) × SpellsFactors rules.y (fs ++ f ∷ []) g
+  pub whole_factors : (m : Bool) (fs : List Factor) (p : Position) (g : List ℕ) → m ≡ false → IsScannedAt [] m fs p g → is_whole_position p ≡ true → (f : Factor) × (ended p ≡ Some f) × SpellsFactors rules.y (fs ++ f ∷ []) g
   whole_factors m fs Begin g none h is = absurd cc
   whole_factors m fs Signed g none h is = absurd cc
   whole_factors m fs Starred g none h is = absurd cc
@@ -172,7 +172,7 @@ module _ (rules : Rules) where
   whole_factors m fs (Behind k n) g none h is = absurd cc
 
   -- there is room for a digit
-  pub room_at : (ts : List Term) (m : Bool) (fs : List Factor) (p : Place) (g : List ℕ) → IsScannedAt ts m fs p g → HasRoom p
+  pub room_at : (ts : List Term) (m : Bool) (fs : List Factor) (p : Position) (g : List ℕ) → IsScannedAt ts m fs p g → HasRoom p
   room_at ts m fs Begin g h = tt
   room_at ts m fs Signed g h = tt
   room_at ts m fs Starred g h = tt
@@ -192,7 +192,7 @@ module _ (rules : Rules) where
   sign_front ts m g (inr next) = inr next
 
   -- a factor may begin there
-  abbrev IsReady : Place → Type 0
+  abbrev IsReady : Position → Type 0
   IsReady Begin = Unit {0}
   IsReady Signed = Unit {0}
   IsReady Starred = Unit {0}
@@ -202,7 +202,7 @@ module _ (rules : Rules) where
   IsReady (Digits k count n) = ⊥
   IsReady (Behind k n) = ⊥
 
-  ready : (ts : List Term) (m : Bool) (fs : List Factor) (p : Place) (g : List ℕ) → IsReady p → IsScannedAt ts m fs p g → Before ts m fs g
+  ready : (ts : List Term) (m : Bool) (fs : List Factor) (p : Position) (g : List ℕ) → IsReady p → IsScannedAt ts m fs p g → Before ts m fs g
   ready ts m fs Begin g r h =
       record {
         front = [];
@@ -227,7 +227,7 @@ module _ (rules : Rules) where
   sign_front_push ts m g b is (inl first) = inl (first.0, first.1, then_more g (b ∷ []) first.2 (λ h all. blanks_push h b is all))
   sign_front_push ts m g b is (inr next) = inr (then_more g (b ∷ []) next (λ h s. next_sign_push m h b is s))
 
-  blank_step : (ts : List Term) (m : Bool) (fs : List Factor) (p q : Place) (g : List ℕ) (b : ℕ) → is_blank b ≡ true → IsScannedAt ts m fs p g → after_blank p ≡ Some q → IsScannedAt ts m fs q (g ++ b ∷ [])
+  blank_step : (ts : List Term) (m : Bool) (fs : List Factor) (p q : Position) (g : List ℕ) (b : ℕ) → is_blank b ≡ true → IsScannedAt ts m fs p g → after_blank p ≡ Some q → IsScannedAt ts m fs q (g ++ b ∷ [])
   blank_step ts m fs Begin q g b is h e = absurd cc
   blank_step ts m fs Signed q g b is h e = arrive (λ r. IsScannedAt ts m fs r (g ++ b ∷ [])) Signed q e (h.0, sign_front_push ts m g b is h.1)
   blank_step ts m fs Starred q g b is h e = arrive (λ r. IsScannedAt ts m fs r (g ++ b ∷ [])) Starred q e (then_more g (b ∷ []) h (λ c t. then_more c (b ∷ []) t (λ d u. around_push (codes "*") d b is u)))
@@ -237,14 +237,14 @@ module _ (rules : Rules) where
   blank_step ts m fs (Digits k count n) q g b is h e = arrive (λ r. IsScannedAt ts m fs r (g ++ b ∷ [])) (Behind k n) q e (then_more g (b ∷ []) h (λ c t. then_of c (b ∷ []) (digits_factor k n count c t) (blanks_one b is)))
   blank_step ts m fs (Behind k n) q g b is h e = arrive (λ r. IsScannedAt ts m fs r (g ++ b ∷ [])) (Behind k n) q e (then_more g (b ∷ []) h (λ c t. then_more c (b ∷ []) t (λ d u. blanks_push d b is u)))
 
-  first_digit : (ts : List Term) (m : Bool) (fs : List Factor) (p q : Place) (g : List ℕ) (b : ℕ) → IsDigit b → IsReady p → IsScannedAt ts m fs p g → Some (Digits kinds.Code 1 (b - 48)) ≡ Some q → IsScannedAt ts m fs q (g ++ b ∷ [])
+  first_digit : (ts : List Term) (m : Bool) (fs : List Factor) (p q : Position) (g : List ℕ) (b : ℕ) → IsDigit b → IsReady p → IsScannedAt ts m fs p g → Some (Digits kinds.Code 1 (b - 48)) ≡ Some q → IsScannedAt ts m fs q (g ++ b ∷ [])
   first_digit ts m fs p q g b d r h e = arrive (λ r. IsScannedAt ts m fs r (g ++ b ∷ [])) (Digits kinds.Code 1 (b - 48)) q e (then_of g (b ∷ []) (ready ts m fs p g r h) (nothing_then (b ∷ []) (number_one b d, refl)))
 
   test_some : {A : Type 0} (t : Bool) (x y : A) → cond t (Some x) None ≡ Some y → (t ≡ true) × (Some x ≡ Some y)
   test_some true x y e = (refl, e)
   test_some false x y e = absurd cc
 
-  digit_step : (ts : List Term) (m : Bool) (fs : List Factor) (p q : Place) (g : List ℕ) (b : ℕ) → IsDigit b → IsScannedAt ts m fs p g → after_digit (b - 48) p ≡ Some q → IsScannedAt ts m fs q (g ++ b ∷ [])
+  digit_step : (ts : List Term) (m : Bool) (fs : List Factor) (p q : Position) (g : List ℕ) (b : ℕ) → IsDigit b → IsScannedAt ts m fs p g → after_digit (b - 48) p ≡ Some q → IsScannedAt ts m fs q (g ++ b ∷ [])
   digit_step ts m fs Begin q g b d h e = first_digit ts m fs Begin q g b d tt h e
   digit_step ts m fs Signed q g b d h e = first_digit ts m fs Signed q g b d tt h e
   digit_step ts m fs Starred q g b d h e = first_digit ts m fs Starred q g b d tt h e
@@ -260,10 +260,10 @@ module _ (rules : Rules) where
       (number_more n a b u.0 (omega arith) d, omega arith))))
   digit_step ts m fs (Behind k n) q g b d h e = absurd cc
 
-  first_letter : (ts : List Term) (m : Bool) (fs : List Factor) (p q : Place) (k : Kind) (g l : List ℕ) → IsLetter k l → IsReady p → IsScannedAt ts m fs p g → Some (Letter k) ≡ Some q → IsScannedAt ts m fs q (g ++ l)
+  first_letter : (ts : List Term) (m : Bool) (fs : List Factor) (p q : Position) (k : Kind) (g l : List ℕ) → IsLetter k l → IsReady p → IsScannedAt ts m fs p g → Some (Letter k) ≡ Some q → IsScannedAt ts m fs q (g ++ l)
   first_letter ts m fs p q k g l is r h e = arrive (λ r. IsScannedAt ts m fs r (g ++ l)) (Letter k) q e (then_of g l (ready ts m fs p g r h) is)
 
-  letter_step : (ts : List Term) (m : Bool) (fs : List Factor) (p q : Place) (k : Kind) (g l : List ℕ) → IsLetter k l → IsScannedAt ts m fs p g → after_letter k p ≡ Some q → IsScannedAt ts m fs q (g ++ l)
+  letter_step : (ts : List Term) (m : Bool) (fs : List Factor) (p q : Position) (k : Kind) (g l : List ℕ) → IsLetter k l → IsScannedAt ts m fs p g → after_letter k p ≡ Some q → IsScannedAt ts m fs q (g ++ l)
   letter_step ts m fs Begin q k g l is h e = first_letter ts m fs Begin q k g l is tt h e
   letter_step ts m fs Signed q k g l is h e = first_letter ts m fs Signed q k g l is tt h e
   letter_step ts m fs Starred q k g l is h e = first_letter ts m fs Starred q k g l is tt h e
@@ -273,7 +273,7 @@ module _ (rules : Rules) where
   letter_step ts m fs (Digits j count n) q k g l is h e = absurd cc
   letter_step ts m fs (Behind j n) q k g l is h e = absurd cc
 
-  raise_step : (ts : List Term) (m : Bool) (fs : List Factor) (p q : Place) (g : List ℕ) → IsScannedAt ts m fs p g → after_raise p ≡ Some q → IsScannedAt ts m fs q (g ++ codes "^")
+  raise_step : (ts : List Term) (m : Bool) (fs : List Factor) (p q : Position) (g : List ℕ) → IsScannedAt ts m fs p g → after_raise p ≡ Some q → IsScannedAt ts m fs q (g ++ codes "^")
   raise_step ts m fs Begin q g h e = absurd cc
   raise_step ts m fs Signed q g h e = absurd cc
   raise_step ts m fs Starred q g h e = absurd cc
@@ -285,43 +285,43 @@ module _ (rules : Rules) where
 
   -- ---- all steps
 
-  moved_some : (s t : Scan) (o : Option Place) → moved s o ≡ Some t → (q : Place) × (o ≡ Some q) × (scan_at s.terms s.minus s.factors q ≡ t)
+  moved_some : (s t : Scan) (o : Option Position) → moved s o ≡ Some t → (q : Position) × (o ≡ Some q) × (scan_at s.terms s.minus s.factors q ≡ t)
   moved_some s t (Some q) e = (q, refl, cc)
   moved_some s t None e = absurd cc
 
-  moved_step : (s t : Scan) (o : Option Place) (h : List ℕ) → moved s o ≡ Some t → ((q : Place) → o ≡ Some q → IsScannedAt s.terms s.minus s.factors q h) → IsScanned t h
+  moved_step : (s t : Scan) (o : Option Position) (h : List ℕ) → moved s o ≡ Some t → ((q : Position) → o ≡ Some q → IsScannedAt s.terms s.minus s.factors q h) → IsScanned t h
   moved_step s t o h e steps =
       let w = moved_some s t o e in
       subst (λ (u : Scan). IsScanned u h) w.2 (steps w.0 w.1)
 
   star_step : (s t : Scan) (g : List ℕ) → IsScanned s g → after_star s ≡ Some t → IsScanned t (g ++ codes "*")
-  star_step s t g h e = go (ended s.place) refl e
+  star_step s t g h e = go (ended s.position) refl e
     where
-      go : (o : Option Factor) → ended s.place ≡ o → option_map (λ f. record { terms = s.terms; minus = s.minus; factors = s.factors ++ f ∷ []; place = Starred }) o ≡ Some t → IsScanned t (g ++ codes "*")
+      go : (o : Option Factor) → ended s.position ≡ o → option_map (λ f. record { terms = s.terms; minus = s.minus; factors = s.factors ++ f ∷ []; position = Starred }) o ≡ Some t → IsScanned t (g ++ codes "*")
       go None is none = absurd cc
       go (Some f) is some =
           let same : scan_at s.terms s.minus (s.factors ++ f ∷ []) Starred ≡ t = cc in
           subst (λ (u : Scan). IsScanned u (g ++ codes "*")) same
-          (then_more g (codes "*") (factors_done s.terms s.minus s.factors f g (ended_factor s.terms s.minus s.factors s.place g f h is)) (λ c u. then_more c (codes "*") u (λ d all. around_of (codes "*") d all)))
+          (then_more g (codes "*") (factors_done s.terms s.minus s.factors f g (ended_factor s.terms s.minus s.factors s.position g f h is)) (λ c u. then_more c (codes "*") u (λ d all. around_of (codes "*") d all)))
 
   next_sign : (m : Bool) (g : List ℕ) → Blanks g → NextSign m (g ++ (cond m (codes "-") (codes "+")))
   next_sign true g all = around_of (codes "-") g all
   next_sign false g all = around_of (codes "+") g all
 
   sign_step : (m : Bool) (s t : Scan) (g : List ℕ) → IsScanned s g → after_sign m s ≡ Some t → IsScanned t (g ++ (cond m (codes "-") (codes "+")))
-  sign_step m s t g h e = go (ended s.place) refl e
+  sign_step m s t g h e = go (ended s.position) refl e
     where
-      go : (o : Option Factor) → ended s.place ≡ o → option_map (λ f. record { terms = s.terms ++ term_of s.minus (s.factors ++ f ∷ []) ∷ []; minus = m; factors = []; place = Signed }) o ≡ Some t → IsScanned t (g ++ (cond m (codes "-") (codes "+")))
+      go : (o : Option Factor) → ended s.position ≡ o → option_map (λ f. record { terms = s.terms ++ term_of s.minus (s.factors ++ f ∷ []) ∷ []; minus = m; factors = []; position = Signed }) o ≡ Some t → IsScanned t (g ++ (cond m (codes "-") (codes "+")))
       go None is none = absurd cc
       go (Some f) is some =
           let same : scan_at (s.terms ++ term_of s.minus (s.factors ++ f ∷ []) ∷ []) m [] Signed ≡ t = cc in
           subst (λ (u : Scan). IsScanned u (g ++ (cond m (codes "-") (codes "+")))) same
-          (refl, inr (then_more g (cond m (codes "-") (codes "+")) (terms_done s.terms s.minus s.factors s.place g f h is) (λ c all. next_sign m c all)))
+          (refl, inr (then_more g (cond m (codes "-") (codes "+")) (terms_done s.terms s.minus s.factors s.position g f h is) (λ c all. next_sign m c all)))
 
-  minus_step : (s t : Scan) (p : Place) (g : List ℕ) → s.place ≡ p → IsScanned s g → after_minus s p ≡ Some t → IsScanned t (g ++ codes "-")
+  minus_step : (s t : Scan) (p : Position) (g : List ℕ) → s.position ≡ p → IsScanned s g → after_minus s p ≡ Some t → IsScanned t (g ++ codes "-")
   minus_step s t Begin g is h e =
       let same : scan_at s.terms true s.factors Signed ≡ t = cc in
-      let b : IsScannedAt s.terms s.minus s.factors Begin g = subst (λ (p : Place). IsScannedAt s.terms s.minus s.factors p g) is h in
+      let b : IsScannedAt s.terms s.minus s.factors Begin g = subst (λ (p : Position). IsScannedAt s.terms s.minus s.factors p g) is h in
       let nothing : g ++ codes "-" ≡ codes "-" = ap (λ x. x ++ codes "-") b.3 in
       subst (λ (u : Scan). IsScanned u (g ++ codes "-")) same (b.2, inl (b.0, refl, subst (FirstSign true) (sym nothing) (then_blanks (codes "-") refl)))
   minus_step s t Signed g is h e = absurd cc
@@ -340,16 +340,16 @@ module _ (rules : Rules) where
   at_byte s g b c e h = subst (λ (x : ℕ). IsScanned s (g ++ x ∷ [])) (sym e) h
 
   mark_step : (m : Mark) (s t : Scan) (g : List ℕ) (b : ℕ) → IsMarked b m → IsScanned s g → after_mark rules s m ≡ Some t → IsScanned t (g ++ b ∷ [])
-  mark_step marks.Blank s t g b is h e = moved_step s t (after_blank s.place) (g ++ b ∷ []) e (λ q r. blank_step s.terms s.minus s.factors s.place q g b is h r)
-  mark_step (marks.Digit d) s t g b is h e = moved_step s t (after_digit d s.place) (g ++ b ∷ []) e (λ q r. digit_step s.terms s.minus s.factors s.place q g b is.0 h (subst (λ (n : ℕ). after_digit n s.place ≡ Some q) is.1 r))
-  mark_step marks.X s t g b is h e = at_byte t g b 120 is (moved_step s t (after_letter kinds.X s.place) (g ++ codes "x") e (λ q r. letter_step s.terms s.minus s.factors s.place q kinds.X g (codes "x") refl h r))
-  mark_step marks.Y s t g b is h e = at_byte t g b 121 is (moved_step s t (cond rules.y (after_letter kinds.Y s.place) None) (g ++ codes "y") e (λ q r.
-      let w = allowed rules.y (after_letter kinds.Y s.place) q r in
-      letter_step s.terms s.minus s.factors s.place q kinds.Y g (codes "y") (w.0, refl) h w.1))
-  mark_step marks.Raise s t g b is h e = at_byte t g b 94 is (moved_step s t (after_raise s.place) (g ++ codes "^") e (λ q r. raise_step s.terms s.minus s.factors s.place q g h r))
+  mark_step marks.Blank s t g b is h e = moved_step s t (after_blank s.position) (g ++ b ∷ []) e (λ q r. blank_step s.terms s.minus s.factors s.position q g b is h r)
+  mark_step (marks.Digit d) s t g b is h e = moved_step s t (after_digit d s.position) (g ++ b ∷ []) e (λ q r. digit_step s.terms s.minus s.factors s.position q g b is.0 h (subst (λ (n : ℕ). after_digit n s.position ≡ Some q) is.1 r))
+  mark_step marks.X s t g b is h e = at_byte t g b 120 is (moved_step s t (after_letter kinds.X s.position) (g ++ codes "x") e (λ q r. letter_step s.terms s.minus s.factors s.position q kinds.X g (codes "x") refl h r))
+  mark_step marks.Y s t g b is h e = at_byte t g b 121 is (moved_step s t (cond rules.y (after_letter kinds.Y s.position) None) (g ++ codes "y") e (λ q r.
+      let w = allowed rules.y (after_letter kinds.Y s.position) q r in
+      letter_step s.terms s.minus s.factors s.position q kinds.Y g (codes "y") (w.0, refl) h w.1))
+  mark_step marks.Raise s t g b is h e = at_byte t g b 94 is (moved_step s t (after_raise s.position) (g ++ codes "^") e (λ q r. raise_step s.terms s.minus s.factors s.position q g h r))
   mark_step marks.Star s t g b is h e = at_byte t g b 42 is (star_step s t g h e)
   mark_step marks.Plus s t g b is h e = at_byte t g b 43 is (sign_step false s t g h (allowed rules.signs (after_sign false s) t e).1)
-  mark_step marks.Minus s t g b is h e = at_byte t g b 45 is (minus_step s t s.place g refl h (allowed rules.signs (after_minus s s.place) t e).1)
+  mark_step marks.Minus s t g b is h e = at_byte t g b 45 is (minus_step s t s.position g refl h (allowed rules.signs (after_minus s s.position) t e).1)
   mark_step marks.Other s t g b is h e = absurd cc
 
   scanned_step : (s t : Scan) (g : List ℕ) (b : ℕ) → IsScanned s g → scan_step rules s b ≡ Some t → IsScanned t (g ++ b ∷ [])

@@ -9,7 +9,7 @@ use Rattle.ff_text.specs.declared.element.Stage.{Stage}
 use Rattle.ff_text.specs.declared.element.Stage.TheVariants.{Outside, Opened, Entry, Closed, Spaced, Slash, OneTerm, Paren, Inner, Done}
 use Rattle.ff_text.specs.declared.element.ElementScan.{ElementScan}
 use Rattle.ff_text.specs.Spelling.{is_blank}
-use Rattle.ff_text.specs.Scanning.{ended, scan_step, begun, is_whole_place, last_terms}
+use Rattle.ff_text.specs.Scanning.{ended, scan_step, begun, is_whole_position, last_terms}
 
 -- a polynomial in x, or a term if no sign may stand
 abbrev pub in_x : Bool → Rules
@@ -35,7 +35,7 @@ before stage e b = if is_blank b then Some e else inside true stage e b
 
 -- the end of an entry
 abbrev pub entry_ended : Stage → ElementScan → Option ElementScan
-entry_ended stage e = if is_some (ended e.scan.place) then Some (record { stage = stage; entries = e.entries ++ option_to_list (last_terms e.scan); scan = begun }) else None
+entry_ended stage e = if is_some (ended e.scan.position) then Some (record { stage = stage; entries = e.entries ++ option_to_list (last_terms e.scan); scan = begun }) else None
 
 -- a comma or a bracket behind an entry, or a byte of it
 abbrev pub in_entry : ElementScan → ℕ → Option ElementScan
@@ -51,7 +51,7 @@ behind_slash e b = if is_blank b then Some e else (if b == 40 then Some (at_stag
 
 -- the parenthesis behind a denominator, or a byte of it
 abbrev pub in_den : ElementScan → ℕ → Option ElementScan
-in_den e b = if b == 41 then (if is_some (ended e.scan.place) then Some (at_stage Done e) else None) else inside true Inner e b
+in_den e b = if b == 41 then (if is_some (ended e.scan.position) then Some (at_stage Done e) else None) else inside true Inner e b
 
 abbrev pub stage_step : ElementScan → Stage → ℕ → Option ElementScan
 stage_step e Outside b = opened e b
@@ -82,7 +82,7 @@ is_whole_stage s Entry = false
 is_whole_stage s Closed = true
 is_whole_stage s Spaced = false
 is_whole_stage s Slash = false
-is_whole_stage s OneTerm = is_whole_place s.place
+is_whole_stage s OneTerm = is_whole_position s.position
 is_whole_stage s Paren = false
 is_whole_stage s Inner = false
 is_whole_stage s Done = true

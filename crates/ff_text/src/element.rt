@@ -76,7 +76,7 @@ impl ElementScan {
     /// Goes on by a byte, and answers whether it may stand there. If not, nothing changes.
     #[tactic(auto, unfolding(crate::specs::ElementScanning::element_step))]
     pub fn step(&mut self, alloc: Global, b: u8) -> Result<bool, AllocError>
-        requires { HasRoom self.old.scan.place }
+        requires { HasRoom self.old.scan.position }
         ensures { IfOk result (Moves (element_step self.old b) self.old self.new) }
     {
         match self.stage {
@@ -110,7 +110,7 @@ impl ElementScan {
         stage: Stage,
         b: u8,
     ) -> Result<bool, AllocError>
-        requires { HasRoom self.old.scan.place }
+        requires { HasRoom self.old.scan.position }
         ensures { IfOk result (Moves (inside signs stage self.old b) self.old self.new) }
     {
         let goes_on = self.scan.step(alloc, Rules { y: false, signs }, b)?;
@@ -122,7 +122,7 @@ impl ElementScan {
 
     /// A blank before a polynomial, or its first byte.
     fn before(&mut self, alloc: Global, stage: Stage, b: u8) -> Result<bool, AllocError>
-        requires { HasRoom self.old.scan.place }
+        requires { HasRoom self.old.scan.position }
         ensures { IfOk result (Moves (before stage self.old b) self.old self.new) }
     {
         if is_blank_byte(b) {
@@ -147,7 +147,7 @@ impl ElementScan {
     }
 
     fn in_entry(&mut self, alloc: Global, b: u8) -> Result<bool, AllocError>
-        requires { HasRoom self.old.scan.place }
+        requires { HasRoom self.old.scan.position }
         ensures { IfOk result (Moves (in_entry self.old b) self.old self.new) }
     {
         match b {
@@ -172,7 +172,7 @@ impl ElementScan {
     }
 
     fn behind_slash(&mut self, alloc: Global, b: u8) -> Result<bool, AllocError>
-        requires { HasRoom self.old.scan.place }
+        requires { HasRoom self.old.scan.position }
         ensures { IfOk result (Moves (behind_slash self.old b) self.old self.new) }
     {
         if is_blank_byte(b) {
@@ -186,7 +186,7 @@ impl ElementScan {
     }
 
     fn in_den(&mut self, alloc: Global, b: u8) -> Result<bool, AllocError>
-        requires { HasRoom self.old.scan.place }
+        requires { HasRoom self.old.scan.position }
         ensures { IfOk result (Moves (in_den self.old b) self.old self.new) }
     {
         if b != b')' {

@@ -68,7 +68,7 @@ pub fn elem_of_text(alloc: Global, b: &[u8]) -> Result<(Vec<Poly>, Poly), TextFa
     Ok(z)
 }
 
-/// The printable polynomial whose text stands in the line from column `at` on, and the place after it. Behind it stands
+/// The printable polynomial whose text stands in the line from column `at` on, and the position after it. Behind it stands
 /// nothing that could go on a polynomial: no digit, `^` or `*`, and not ` + `. `Syntax(0)` exactly where none stands so.
 /// Time grows with its text and degree.
 pub fn read_poly(alloc: Global, line: &[u8], at: usize) -> Result<(Poly, usize), TextFault>
@@ -83,7 +83,7 @@ pub fn read_poly(alloc: Global, line: &[u8], at: usize) -> Result<(Poly, usize),
     Ok((p, line.len() - rest.len()))
 }
 
-/// The printable element whose text stands in the line from column `at` on, and the place after it. Behind it stands
+/// The printable element whose text stands in the line from column `at` on, and the position after it. Behind it stands
 /// nothing that could go on an element: no digit, `^` or `/`. `Syntax(0)` exactly where none stands so. Time grows with
 /// its text and the sum of its degrees.
 pub fn read_elem(alloc: Global, line: &[u8], at: usize) -> Result<(Written, usize), TextFault>

@@ -1,4 +1,4 @@
-//! Known spellings, and known places of faults.
+//! Known spellings, and known positions of faults.
 
 use crate::{
     TextFault, collect, print_element, print_terms, read_element, read_number, read_terms,
@@ -66,7 +66,7 @@ fn check(
     Ok(())
 }
 
-/// A line, the polynomial that is read at its start, as it is printed, and the place after it. Where nothing is read, the
+/// A line, the polynomial that is read at its start, as it is printed, and the position after it. Where nothing is read, the
 /// text is empty.
 const POLYNOMIALS: [(&[u8], &[u8], usize); 62] = [
     (b"", b"", 0),
@@ -142,7 +142,7 @@ fn polynomials(rt: HostRuntime) -> Result<(), Fail> {
     Ok(())
 }
 
-/// A line, the element that is read at its start, as it is printed, and the place after it.
+/// A line, the element that is read at its start, as it is printed, and the position after it.
 const ELEMENTS: [(&[u8], &[u8], usize); 47] = [
     (b"[x, 1]/x", b"[x, 1]/x", 8),
     (b"", b"", 0),
@@ -215,7 +215,7 @@ fn in_x_and_in_the_middle(rt: HostRuntime) -> Result<(), Fail> {
     Ok(())
 }
 
-/// A line, a column, and the number that is read there with the place after it.
+/// A line, a column, and the number that is read there with the position after it.
 const NUMBERS: [(&[u8], usize, Result<(u32, usize), TextFault>); 8] = [
     (b"12", 0, Ok((12, 2))),
     (b"0012x", 0, Ok((12, 4))),

@@ -1,7 +1,7 @@
 //! Reads a polynomial byte by byte.
 
 ghost use Rattle.std.specs.Prelude.{◌≡◌, ◌<◌, IfOk, is_some};
-ghost use Rattle.ff_text.specs.Scanning.{mark_of, factor_of, after_blank, after_digit, after_letter, after_raise, after_plain, ended, last_factor, moved, after_star, after_sign, after_minus, scan_step, last_terms, is_whole_place, begun, HasRoom, IsSmallMark, Moves};
+ghost use Rattle.ff_text.specs.Scanning.{mark_of, factor_of, after_blank, after_digit, after_letter, after_raise, after_plain, ended, last_factor, moved, after_star, after_sign, after_minus, scan_step, last_terms, is_whole_position, begun, HasRoom, IsSmallMark, Moves};
 
 use crate::terms::{Factor, FactorList, Term, TermList};
 use std::alloc::{AllocError, Global};
@@ -38,7 +38,7 @@ pub(crate) enum Kind {
 
 /// Where the bytes that were read end.
 #[derive(Clone, Copy)]
-pub(crate) enum Place {
+pub(crate) enum Position {
     /// Before the first byte.
     Begin,
     /// Behind a sign.
@@ -64,7 +64,7 @@ pub(crate) struct Scan {
     pub terms: TermList,
     pub minus: bool,
     pub factors: FactorList,
-    pub place: Place,
+    pub position: Position,
 }
 
 fn classify(b: u8) -> Mark
@@ -94,53 +94,53 @@ fn factor(kind: Kind, n: u32) -> Factor
     }
 }
 
-impl Place {
-    fn after_blank(self) -> Option<Place>
+impl Position {
+    fn after_blank(self) -> Option<Position>
         ensures { result ≡ after_blank self }
     {
         match self {
-            Place::Begin => None,
-            Place::Letter(kind) => Some(Place::Spaced(kind)),
-            Place::Digits(kind, _, n) => Some(Place::Behind(kind, n)),
+            Position::Begin => None,
+            Position::Letter(kind) => Some(Position::Spaced(kind)),
+            Position::Digits(kind, _, n) => Some(Position::Behind(kind, n)),
             _ => Some(self),
         }
     }
 
-    fn after_digit(self, d: u32) -> Option<Place>
+    fn after_digit(self, d: u32) -> Option<Position>
         requires room { HasRoom self }
         requires digit { d < 10 }
         ensures { result ≡ after_digit d self }
     {
         match self {
-            Place::Begin | Place::Signed | Place::Starred => Some(Place::Digits(Kind::Code, 1, d)),
-            Place::Raised(kind) => Some(Place::Digits(kind, 1, d)),
-            Place::Digits(kind, count, n) if count < 9 => {
-                Some(Place::Digits(kind, count + 1, 10 * n + d))
+            Position::Begin | Position::Signed | Position::Starred => Some(Position::Digits(Kind::Code, 1, d)),
+            Position::Raised(kind) => Some(Position::Digits(kind, 1, d)),
+            Position::Digits(kind, count, n) if count < 9 => {
+                Some(Position::Digits(kind, count + 1, 10 * n + d))
             }
             _ => None,
         }
     }
 
-    fn after_letter(self, kind: Kind) -> Option<Place>
+    fn after_letter(self, kind: Kind) -> Option<Position>
         ensures { result ≡ after_letter kind self }
     {
         match self {
-            Place::Begin | Place::Signed | Place::Starred => Some(Place::Letter(kind)),
+            Position::Begin | Position::Signed | Position::Starred => Some(Position::Letter(kind)),
             _ => None,
         }
     }
 
-    fn after_raise(self) -> Option<Place>
+    fn after_raise(self) -> Option<Position>
         ensures { result ≡ after_raise self }
     {
         match self {
-            Place::Letter(kind) | Place::Spaced(kind) => Some(Place::Raised(kind)),
+            Position::Letter(kind) | Position::Spaced(kind) => Some(Position::Raised(kind)),
             _ => None,
         }
     }
 
-    /// The place after a byte that ends no factor.
-    fn after(self, rules: Rules, m: Mark) -> Option<Place>
+    /// The position after a byte that ends no factor.
+    fn after(self, rules: Rules, m: Mark) -> Option<Position>
         requires room { HasRoom self }
         requires digit { IsSmallMark m }
         ensures { result ≡ after_plain rules m self }
@@ -160,8 +160,8 @@ impl Place {
         ensures { result ≡ ended self }
     {
         match self {
-            Place::Letter(kind) | Place::Spaced(kind) => Some(factor(kind, 1)),
-            Place::Digits(kind, _, n) | Place::Behind(kind, n) => Some(factor(kind, n)),
+            Position::Letter(kind) | Position::Spaced(kind) => Some(factor(kind, 1)),
+            Position::Digits(kind, _, n) | Position::Behind(kind, n) => Some(factor(kind, n)),
             _ => None,
         }
     }
@@ -171,7 +171,7 @@ impl Place {
         ensures { result ≡ last_factor self }
     {
         match self {
-            Place::Raised(kind) => Some(factor(kind, 1)),
+            Position::Raised(kind) => Some(factor(kind, 1)),
             _ => self.ended(),
         }
     }
@@ -189,44 +189,44 @@ impl Scan {
             factors: FactorList {
                 factors: Vec::new(alloc),
             },
-            place: Place::Begin,
+            position: Position::Begin,
         }
     }
 
     /// The bytes are a spelling.
     pub fn is_whole(&self) -> bool
-        ensures { result ≡ is_whole_place self.now.place }
+        ensures { result ≡ is_whole_position self.now.position }
     {
-        matches!(self.place, Place::Letter(_) | Place::Digits(_, _, _))
+        matches!(self.position, Position::Letter(_) | Position::Digits(_, _, _))
     }
 
     /// The bytes are a spelling and blanks behind it.
     pub fn is_ended(&self) -> bool
-        ensures { result ≡ is_some (ended self.now.place) }
+        ensures { result ≡ is_some (ended self.now.position) }
     {
-        self.place.ended().is_some()
+        self.position.ended().is_some()
     }
 
     /// Goes on by a byte, and answers whether it may stand there. If not, nothing changes.
     #[tactic(auto, unfolding(crate::specs::Scanning::scan_step))]
     pub fn step(&mut self, alloc: Global, rules: Rules, b: u8) -> Result<bool, AllocError>
-        requires { HasRoom self.old.place }
+        requires { HasRoom self.old.position }
         ensures { IfOk result (Moves (scan_step rules self.old b) self.old self.new) }
     {
         match classify(b) {
             Mark::Star => self.star(),
             Mark::Plus if rules.signs => self.sign(alloc, false),
             Mark::Minus if rules.signs => self.minus(alloc),
-            other => Ok(self.go(self.place.after(rules, other))),
+            other => Ok(self.go(self.position.after(rules, other))),
         }
     }
 
-    fn go(&mut self, next: Option<Place>) -> bool
+    fn go(&mut self, next: Option<Position>) -> bool
         ensures { Moves (moved self.old next) self.old self.new result }
     {
         match next {
-            Some(place) => {
-                self.place = place;
+            Some(position) => {
+                self.position = position;
                 true
             }
             None => false,
@@ -237,11 +237,11 @@ impl Scan {
     fn star(&mut self) -> Result<bool, AllocError>
         ensures { IfOk result (Moves (after_star self.old) self.old self.new) }
     {
-        let Some(f) = self.place.ended() else {
+        let Some(f) = self.position.ended() else {
             return Ok(false);
         };
         self.factors.factors.push(f)?;
-        self.place = Place::Starred;
+        self.position = Position::Starred;
         Ok(true)
     }
 
@@ -249,7 +249,7 @@ impl Scan {
     fn sign(&mut self, alloc: Global, minus: bool) -> Result<bool, AllocError>
         ensures { IfOk result (Moves (after_sign minus self.old) self.old self.new) }
     {
-        let Some(f) = self.place.ended() else {
+        let Some(f) = self.position.ended() else {
             return Ok(false);
         };
         self.factors.factors.push(f)?;
@@ -262,19 +262,19 @@ impl Scan {
             factors,
         })?;
         self.minus = minus;
-        self.place = Place::Signed;
+        self.position = Position::Signed;
         Ok(true)
     }
 
     /// A minus that begins the polynomial or ends a term.
     fn minus(&mut self, alloc: Global) -> Result<bool, AllocError>
-        ensures { IfOk result (Moves (after_minus self.old self.old.place) self.old self.new) }
+        ensures { IfOk result (Moves (after_minus self.old self.old.position) self.old self.new) }
     {
-        if !matches!(self.place, Place::Begin) {
+        if !matches!(self.position, Position::Begin) {
             return self.sign(alloc, true);
         }
         self.minus = true;
-        self.place = Place::Signed;
+        self.position = Position::Signed;
         Ok(true)
     }
 
@@ -286,16 +286,16 @@ impl Scan {
             mut terms,
             minus,
             mut factors,
-            place,
+            position,
         } = self;
-        if matches!(place, Place::Begin | Place::Signed) {
+        if matches!(position, Position::Begin | Position::Signed) {
             return Ok(if terms.terms.is_empty() {
                 None
             } else {
                 Some(terms)
             });
         }
-        if let Some(f) = place.last() {
+        if let Some(f) = position.last() {
             factors.factors.push(f)?;
         }
         terms.terms.push(Term { minus, factors })?;

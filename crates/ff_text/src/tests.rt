@@ -236,7 +236,7 @@ fn long_texts(rt: HostRuntime) -> Result<(), Fail> {
 #[test]
 fn inside_a_line(rt: HostRuntime) -> Result<(), Fail> {
     let alloc = rt.alloc();
-    let line = b"place x^2 + 1 2\n";
+    let line = b"position x^2 + 1 2\n";
     let (p, end) = read_poly(alloc, line, 6)?;
     assert_eq!(rt; p.codes(), [1, 0, 1].as_slice());
     assert_eq!(rt; end, 13);

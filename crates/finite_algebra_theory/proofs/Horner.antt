@@ -3,11 +3,11 @@
 use Rattle.std.proofs.lemmas.List.Elements.{All-nil, All-cons, All-head, All-tail, All-weaker, All-map}
 use Rattle.std.proofs.Common.{◌≡◌, ℕ, suc, ◌<◌, ◌^◌, List, [], ◌∷◌, map, length, refl, ◌∙◌, ap, ap₂, subst}
 use Rattle.std.proofs.lemmas.List.{length-map}
-use Rattle.ff_ring.specs.Ring.{CommRing, pow}
-use Rattle.ff_ring.specs.Subsets.{IsSubring, Span}
-use Rattle.ff_ring.proofs.Ring.{zero_add, mul_pow}
-use Rattle.ff_ring.proofs.Solver.{ring, reads, from_one, from_two}
-use Rattle.ff_ring.proofs.Subsets.{span_zero}
+use Rattle.ring_theory.specs.Ring.{CommRing, pow}
+use Rattle.ring_theory.specs.Subsets.{IsSubring, Span}
+use Rattle.ring_theory.proofs.Ring.{zero_add, mul_pow}
+use Rattle.ring_theory.proofs.Solver.{ring, reads, from_one, from_two}
+use Rattle.ring_theory.proofs.Subsets.{span_zero}
 use Rattle.std.proofs.Common.{All}
 use Rattle.finite_algebra_theory.specs.Polynomial.{Leading, Monic}
 use Rattle.finite_algebra_theory.specs.Algebra.{FiniteAlgebra, powers}

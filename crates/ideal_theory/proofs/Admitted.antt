@@ -1,16 +1,16 @@
 -- Products and inverses of admitted lattices are admitted.
 use Rattle.std.proofs.Common.{◌⊎◌, inl, inr, subst}
-use Rattle.ff_ring.specs.Subsets.{Product}
-use Rattle.ff_ring.proofs.Subsets.{product_member}
-use Rattle.ff_ring.proofs.Ring.{mul_mul}
-use Rattle.local_theory.specs.Ideals.{Inverse}
-use Rattle.local_theory.specs.Orders.{MaximalAt}
-use Rattle.local_theory.proofs.Products.{product_universal, own_module, additive_of_module}
+use Rattle.ring_theory.specs.Subsets.{Product}
+use Rattle.ring_theory.proofs.Subsets.{product_member}
+use Rattle.ring_theory.proofs.Ring.{mul_mul}
+use Rattle.prime_theory.specs.Ideals.{Inverse}
+use Rattle.prime_theory.specs.Orders.{MaximalAt}
+use Rattle.prime_theory.proofs.Products.{product_universal, own_module, additive_of_module}
 use Rattle.ff_fields.specs.Field.{CodeField}
 use Rattle.ff_poly.specs.Polynomials.{Polynomial}
-use Rattle.ff_algebra.specs.declared.elem.Side.TheVariants.{Finite}
-use Rattle.ff_algebra.specs.Places.{IsIntegralAt}
-use Rattle.ff_algebra.specs.Functions.{Equation, FunctionOf, ring_of, of_poly, setting_of}
+use Rattle.function_field.specs.declared.side.Side.TheVariants.{Finite}
+use Rattle.function_field.specs.Places.{IsIntegralAt}
+use Rattle.function_field.specs.Functions.{Equation, FunctionOf, ring_of, of_poly, setting_of}
 use Rattle.order_theory.specs.Orders.{IsOrder, IsOrderUpTo}
 use Rattle.order_theory.proofs.LocalOrders.{prime_to}
 use Rattle.ideal_theory.specs.Records.{IsAdmitted}

@@ -1,28 +1,28 @@
 -- Each degree of a finite place is its index in the integral functions.
 use Rattle.std.proofs.Common.{◌≡◌, All, ℕ, zero, suc, ◌<◌, List, [], ◌∷◌, length, refl, sym, ◌∙◌, ap, ap₂, subst, arith}
 use Rattle.std.proofs.lemmas.List.Elements.{All-nil, All-cons, All-head, All-tail}
-use Rattle.ff_ring.specs.Lists.{coeff_of}
-use Rattle.ff_ring.specs.Subsets.{Span}
-use Rattle.ff_ring.proofs.Solver.{ring, reads}
-use Rattle.ff_ring.proofs.Evaluate.{constant, length_trim}
-use Rattle.ff_ring.proofs.Lists.{coeff_trim}
-use Rattle.ff_ring.proofs.Polynomials.{pol_ops}
+use Rattle.ring_theory.specs.Lists.{coeff_of}
+use Rattle.ring_theory.specs.Subsets.{Span}
+use Rattle.ring_theory.proofs.Solver.{ring, reads}
+use Rattle.ring_theory.proofs.Evaluate.{constant, length_trim}
+use Rattle.ring_theory.proofs.Lists.{coeff_trim}
+use Rattle.ring_theory.proofs.Polynomials.{pol_ops}
 use Rattle.linear_theory.specs.Module.{combine}
 use Rattle.ff_fields.specs.Field.{CodeField}
 use Rattle.ff_fields.specs.Code.{Code, code_ring}
 use Rattle.ff_poly.specs.Polynomials.{polynomials, polynomial_discrete}
-use Rattle.ff_algebra.specs.declared.elem.Side.TheVariants.{Finite}
-use Rattle.ff_algebra.specs.Spans.{combination}
-use Rattle.ff_algebra.specs.Places.{Place, IsPlace, IsIn}
-use Rattle.ff_algebra.specs.Divisors.{HasDegree}
-use Rattle.ff_algebra.specs.Functions.{Equation, FunctionOf, ring_of, of_poly, IsCode, setting_of}
-use Rattle.ff_algebra.proofs.ScalarRings.{scalars_subring}
+use Rattle.function_field.specs.declared.side.Side.TheVariants.{Finite}
+use Rattle.function_field.specs.Spans.{combination}
+use Rattle.function_field.specs.Places.{Place, IsPlace, IsIn}
+use Rattle.function_field.specs.Divisors.{HasDegree}
+use Rattle.function_field.specs.Functions.{Equation, FunctionOf, ring_of, of_poly, IsCode, setting_of}
+use Rattle.function_field.proofs.ScalarRings.{scalars_subring}
 use Rattle.lattice_theory.specs.Lattices.{HasIndex, space_ops}
 use Rattle.lattice_theory.proofs.Indices.{code_of}
 use Rattle.lattice_theory.proofs.Operations.{inverse_of}
 use Rattle.order_theory.proofs.Degrees.{constant_of}
 use Rattle.order_theory.proofs.FinitePlaces.{Int, finite, place_prime}
-use Rattle.ff_ring.proofs.Ring.{zero_mul}
+use Rattle.ring_theory.proofs.Ring.{zero_mul}
 use Rattle.ideal_theory.proofs.PowerValues.{on_side}
 
 module _ {k : CodeField} (c : Equation k) where

@@ -7,24 +7,24 @@ use Rattle.std.proofs.lemmas.List.Elements.{All-nil, All-cons, All-head, All-tai
 use Rattle.std.proofs.lemmas.Int.{ints}
 use Rattle.std.proofs.Math.IntN.{ℤ, pos, negsuc, ◌+ℤ◌}
 use lib.Signed.{◌≤ℤ◌}
-use Rattle.ff_ring.specs.Subsets.{IsSubring, IsModule, Product}
-use Rattle.ff_ring.proofs.Subsets.{product_module, product_member, span_members}
-use Rattle.local_theory.specs.Ideals.{Invertible, SameSet}
-use Rattle.local_theory.specs.IntegerValues.{up, down, PrimePower}
-use Rattle.local_theory.specs.Primes.{IsPrime, Pair, Different}
-use Rattle.local_theory.specs.Systems.{IsFamily, IdealPower, Generators}
+use Rattle.ring_theory.specs.Subsets.{IsSubring, IsModule, Product}
+use Rattle.ring_theory.proofs.Subsets.{product_module, product_member, span_members}
+use Rattle.prime_theory.specs.Ideals.{Invertible, SameSet}
+use Rattle.prime_theory.specs.IntegerValues.{up, down, PrimePower}
+use Rattle.prime_theory.specs.Primes.{IsPrime, Pair, Different}
+use Rattle.prime_theory.specs.Systems.{IsFamily, IdealPower, Generators}
 use Rattle.std.proofs.lemmas.List.Kept.{AllPairs-cons}
-use Rattle.local_theory.proofs.Lists.{both, pairs_head, pairs_tail}
-use Rattle.local_theory.proofs.Compare.{compare_primes}
-use Rattle.local_theory.proofs.Primes.{pair_of_invertible}
-use Rattle.local_theory.proofs.Products.{product_into, product_universal, own_module, additive_of_module}
-use Rattle.local_theory.proofs.AtPrime.{ideal_power_module, ideal_power_add, product_exchange}
-use Rattle.local_theory.proofs.DivisorProducts.{powers_one}
-use Rattle.local_theory.proofs.Scalars.{span_wider}
-use Rattle.ff_algebra.specs.declared.elem.Side.{Side}
-use Rattle.ff_algebra.specs.Setting.{Setting}
-use Rattle.ff_algebra.specs.Places.{Place, IsPlace, IsSamePlace, IsIntegralAt, IsIn, HasValuationAtLeast}
-use Rattle.ff_algebra.specs.Divisors.{Entry, Divisor, HasMultiplicity, MeetsOn}
+use Rattle.prime_theory.proofs.Lists.{both, pairs_head, pairs_tail}
+use Rattle.prime_theory.proofs.Compare.{compare_primes}
+use Rattle.prime_theory.proofs.Primes.{pair_of_invertible}
+use Rattle.prime_theory.proofs.Products.{product_into, product_universal, own_module, additive_of_module}
+use Rattle.prime_theory.proofs.AtPrime.{ideal_power_module, ideal_power_add, product_exchange}
+use Rattle.prime_theory.proofs.DivisorProducts.{powers_one}
+use Rattle.prime_theory.proofs.Scalars.{span_wider}
+use Rattle.function_field.specs.declared.side.Side.{Side}
+use Rattle.function_field.specs.Setting.{Setting}
+use Rattle.function_field.specs.Places.{Place, IsPlace, IsSamePlace, IsIntegralAt, IsIn, HasValuationAtLeast}
+use Rattle.function_field.specs.Divisors.{Entry, Divisor, HasMultiplicity, MeetsOn}
 use Rattle.places_theory.proofs.Sides.{side_ring, scalar_integral}
 use Rattle.places_theory.proofs.SamePlaces.{same_place_sym, same_place_trans}
 use Rattle.places_theory.proofs.Multiplicities.{multiplicity_exists, multiplicity_elsewhere}

@@ -2,16 +2,16 @@
 use Rattle.std.proofs.Common.{◌≡◌, ◌⊎◌, inl, inr, List, [], ◌∷◌, ◌++◌, map, pos, refl, sym, ◌∙◌, subst, All}
 use Rattle.std.specs.List.{Any}
 use Rattle.std.proofs.lemmas.List.Elements.{All-head, All-tail}
-use Rattle.ff_ring.proofs.Ring.{product_not_zero}
-use Rattle.local_theory.proofs.Lists.{any_here, any_there, any_cases, any_none}
+use Rattle.ring_theory.proofs.Ring.{product_not_zero}
+use Rattle.prime_theory.proofs.Lists.{any_here, any_there, any_cases, any_none}
 use Rattle.ff_fields.specs.Field.{CodeField}
 use Rattle.ff_poly.specs.Words.{IsIrreducible}
 use Rattle.ff_poly.specs.Polynomials.{Polynomial, polynomials, polynomials_domain, codes_of}
-use Rattle.ff_algebra.specs.declared.elem.Side.TheVariants.{Finite}
-use Rattle.ff_algebra.specs.Places.{Place, IsPlace, IsIn, IsSamePlace, HasValuation}
-use Rattle.ff_algebra.specs.Functions.{Equation, FunctionOf, ring_of, of_poly, setting_of}
-use Rattle.ff_algebra.specs.Discriminant.{discriminant}
-use Rattle.ff_algebra.proofs.ScalarRings.{scalars_subring}
+use Rattle.function_field.specs.declared.side.Side.TheVariants.{Finite}
+use Rattle.function_field.specs.Places.{Place, IsPlace, IsIn, IsSamePlace, HasValuation}
+use Rattle.function_field.specs.Functions.{Equation, FunctionOf, ring_of, of_poly, setting_of}
+use Rattle.function_field.specs.Discriminant.{discriminant}
+use Rattle.function_field.proofs.ScalarRings.{scalars_subring}
 use Rattle.trace_theory.specs.Traces.{polynomial_product}
 use Rattle.lattice_theory.specs.Lattices.{HasMultiple}
 use Rattle.order_theory.proofs.IntegralLattice.{integral_lattice, polynomial_integral}

@@ -1,14 +1,14 @@
 -- The finite side: its places are invertible primes of the maximal order, so the ideal of a divisor is its conditions at the finite places.
 use Rattle.std.proofs.Common.{◌≡◌, ◌↔◌, inl}
-use Rattle.local_theory.specs.Ideals.{Invertible}
+use Rattle.prime_theory.specs.Ideals.{Invertible}
 use Rattle.ff_fields.specs.Field.{CodeField}
 use Rattle.ff_poly.specs.Polynomials.{polynomials}
-use Rattle.ff_algebra.specs.declared.elem.Side.TheVariants.{Finite}
-use Rattle.ff_algebra.specs.Places.{Place, IsPlace, IsIn}
-use Rattle.ff_algebra.specs.Divisors.{Divisor}
-use Rattle.ff_algebra.specs.Functions.{Equation, FunctionOf, ring_of, setting_of}
-use Rattle.ff_algebra.specs.Discriminant.{discriminant}
-use Rattle.ff_algebra.proofs.ScalarRings.{scalars_subring}
+use Rattle.function_field.specs.declared.side.Side.TheVariants.{Finite}
+use Rattle.function_field.specs.Places.{Place, IsPlace, IsIn}
+use Rattle.function_field.specs.Divisors.{Divisor}
+use Rattle.function_field.specs.Functions.{Equation, FunctionOf, ring_of, setting_of}
+use Rattle.function_field.specs.Discriminant.{discriminant}
+use Rattle.function_field.proofs.ScalarRings.{scalars_subring}
 use Rattle.order_theory.specs.Orders.{IsOrder}
 use Rattle.order_theory.proofs.IntegralLattice.{integral_lattice, integral_subring}
 use Rattle.order_theory.proofs.FinitePlaces.{Int}

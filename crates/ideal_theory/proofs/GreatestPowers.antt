@@ -2,22 +2,22 @@
 use Rattle.std.proofs.Common.{◌≡◌, ◌↔◌, ◌⊎◌, List, ℕ, zero, suc, ◌+◌, ◌*◌, ◌≤◌, ◌<◌, pos, subst, arith, le-mul_of_pos_right}
 use Rattle.std.proofs.lemmas.Int.{ints}
 use Rattle.std.proofs.Math.IntN.{◌-ℤ◌}
-use Rattle.ff_ring.specs.Subsets.{Colon, IsModule}
-use Rattle.local_theory.specs.Ideals.{Inverse, SameSet, Power}
-use Rattle.local_theory.specs.Orders.{MaximalAt}
-use Rattle.local_theory.specs.Primes.{IsPrime, Pair, AtLeast}
-use Rattle.local_theory.proofs.Compare.{prime_in_system}
-use Rattle.local_theory.proofs.Factorisation.{power_iff_colon, power_of_value, value_of_power}
-use Rattle.local_theory.proofs.Invertible.{inverse_is_module}
-use Rattle.local_theory.proofs.Primes.{ideal_module, pair_of_invertible}
-use Rattle.local_theory.proofs.PrimeProducts.{power_monotone, power_within, inverse_same, value_same}
+use Rattle.ring_theory.specs.Subsets.{Colon, IsModule}
+use Rattle.prime_theory.specs.Ideals.{Inverse, SameSet, Power}
+use Rattle.prime_theory.specs.Orders.{MaximalAt}
+use Rattle.prime_theory.specs.Primes.{IsPrime, Pair, AtLeast}
+use Rattle.prime_theory.proofs.Compare.{prime_in_system}
+use Rattle.prime_theory.proofs.Factorisation.{power_iff_colon, power_of_value, value_of_power}
+use Rattle.prime_theory.proofs.Invertible.{inverse_is_module}
+use Rattle.prime_theory.proofs.Primes.{ideal_module, pair_of_invertible}
+use Rattle.prime_theory.proofs.PrimeProducts.{power_monotone, power_within, inverse_same, value_same}
 use Rattle.ff_fields.specs.Field.{CodeField}
 use Rattle.ff_poly.specs.Words.{IsIrreducible}
 use Rattle.ff_poly.specs.Polynomials.{Polynomial, codes_of}
-use Rattle.ff_algebra.specs.declared.elem.Side.TheVariants.{Finite}
-use Rattle.ff_algebra.specs.Places.{Place, IsPlace, IsIn, IsIntegralAt, LiesOver, HasValuationAtLeast}
-use Rattle.ff_algebra.specs.Functions.{Equation, FunctionOf, ring_of, of_poly, IsPolynomial, setting_of}
-use Rattle.ff_algebra.proofs.ScalarRings.{polynomials_subring, scalars_subring}
+use Rattle.function_field.specs.declared.side.Side.TheVariants.{Finite}
+use Rattle.function_field.specs.Places.{Place, IsPlace, IsIn, IsIntegralAt, LiesOver, HasValuationAtLeast}
+use Rattle.function_field.specs.Functions.{Equation, FunctionOf, ring_of, of_poly, IsPolynomial, setting_of}
+use Rattle.function_field.proofs.ScalarRings.{polynomials_subring, scalars_subring}
 use Rattle.places_theory.specs.Orders.{IsOrderAt, InPrime}
 use Rattle.places_theory.proofs.PlaceValues.{value_iff, place_prime as prime_at_order}
 use Rattle.lattice_theory.proofs.Lattices.{lattice_module}

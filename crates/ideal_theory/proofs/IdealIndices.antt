@@ -3,16 +3,16 @@
 use Rattle.std.proofs.Common.{◌≡◌, ℕ, zero, suc, ◌+◌, ◌*◌, sym, subst, arith, suc-mul}
 use Rattle.std.proofs.lemmas.Int.{ints}
 use Rattle.std.proofs.Math.IntN.{ℤ, pos, negsuc, ◌+ℤ◌, ◌-ℤ◌, ◌*ℤ◌}
-use Rattle.ff_ring.specs.Subsets.{IsModule, Product}
-use Rattle.ff_ring.proofs.Ring.{one_mul}
-use Rattle.ff_ring.proofs.Subsets.{product_member, product_module}
-use Rattle.local_theory.specs.Ideals.{Inverse, Invertible, SameSet, Power}
-use Rattle.local_theory.specs.IntegerValues.{up, down, PrimePower}
-use Rattle.local_theory.specs.Primes.{IsPrime}
-use Rattle.local_theory.proofs.Products.{product_into, product_monotone, product_swap, product_assoc, product_assoc_back, product_one, own_module, power_module, additive_of_module}
-use Rattle.local_theory.proofs.Invertible.{inverse_is_module, inverse_of_product, invertible_product, trace_ideal}
+use Rattle.ring_theory.specs.Subsets.{IsModule, Product}
+use Rattle.ring_theory.proofs.Ring.{one_mul}
+use Rattle.ring_theory.proofs.Subsets.{product_member, product_module}
+use Rattle.prime_theory.specs.Ideals.{Inverse, Invertible, SameSet, Power}
+use Rattle.prime_theory.specs.IntegerValues.{up, down, PrimePower}
+use Rattle.prime_theory.specs.Primes.{IsPrime}
+use Rattle.prime_theory.proofs.Products.{product_into, product_monotone, product_swap, product_assoc, product_assoc_back, product_one, own_module, power_module, additive_of_module}
+use Rattle.prime_theory.proofs.Invertible.{inverse_is_module, inverse_of_product, invertible_product, trace_ideal}
 use Rattle.ff_fields.specs.Field.{CodeField}
-use Rattle.ff_algebra.specs.Functions.{Equation, FunctionOf, ring_of}
+use Rattle.function_field.specs.Functions.{Equation, FunctionOf, ring_of}
 use Rattle.lattice_theory.specs.Lattices.{IsLattice, HasIndex}
 use Rattle.lattice_theory.proofs.Bases.{index_same}
 use Rattle.lattice_theory.proofs.Indices.{index_none}

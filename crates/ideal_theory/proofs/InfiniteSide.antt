@@ -1,34 +1,34 @@
 -- The infinite side: its places are invertible primes of O_inf, so the product of their powers is its conditions at the infinite places.
 use Rattle.std.proofs.Common.{◌≡◌, ◌↔◌, ◌⊎◌, inl, inr, ℕ, List, [], ◌∷◌, refl, sym, subst}
-use Rattle.ff_ring.specs.Subsets.{IsSubring, IsModule, Product}
-use Rattle.ff_ring.proofs.Ring.{one_mul}
-use Rattle.ff_ring.proofs.RowMaps.{hom_zero}
-use Rattle.ff_ring.proofs.Subsets.{product_member, product_module}
-use Rattle.ff_ring.proofs.Solver.{ring, reads}
-use Rattle.local_theory.specs.Ideals.{Invertible, Inverse, IsAdditive}
-use Rattle.local_theory.specs.Primes.{IsPrime}
-use Rattle.local_theory.proofs.Products.{product_into}
+use Rattle.ring_theory.specs.Subsets.{IsSubring, IsModule, Product}
+use Rattle.ring_theory.proofs.Ring.{one_mul}
+use Rattle.ring_theory.proofs.RowMaps.{hom_zero}
+use Rattle.ring_theory.proofs.Subsets.{product_member, product_module}
+use Rattle.ring_theory.proofs.Solver.{ring, reads}
+use Rattle.prime_theory.specs.Ideals.{Invertible, Inverse, IsAdditive}
+use Rattle.prime_theory.specs.Primes.{IsPrime}
+use Rattle.prime_theory.proofs.Products.{product_into}
 use Rattle.ff_fields.specs.Field.{CodeField}
 use Rattle.ff_poly.specs.Polynomials.{polynomials, x_poly}
-use Rattle.ff_algebra.specs.declared.elem.Side.TheVariants.{Finite, Infinite}
-use Rattle.ff_algebra.specs.Places.{Place, IsPlace, IsIn, IsIntegralAt}
-use Rattle.ff_algebra.specs.Divisors.{Divisor}
-use Rattle.ff_algebra.specs.Functions.{Equation, FunctionOf, ring_of, setting_of}
-use Rattle.ff_algebra.specs.Discriminant.{discriminant}
-use Rattle.ff_algebra.specs.Values.{PresValue, Functions, functions, setting, equation_of}
-use Rattle.ff_algebra.proofs.ScalarRings.{scalars_subring}
+use Rattle.function_field.specs.declared.side.Side.TheVariants.{Finite, Infinite}
+use Rattle.function_field.specs.Places.{Place, IsPlace, IsIn, IsIntegralAt}
+use Rattle.function_field.specs.Divisors.{Divisor}
+use Rattle.function_field.specs.Functions.{Equation, FunctionOf, ring_of, setting_of}
+use Rattle.function_field.specs.Discriminant.{discriminant}
+use Rattle.function_field.specs.Values.{PresValue, Functions, functions, setting, equation_of}
+use Rattle.function_field.proofs.ScalarRings.{scalars_subring}
 use Rattle.places_theory.proofs.PresentationMap.{presentation_map}
 use Rattle.places_theory.proofs.Sides.{side_ring, place_module, place_is_maximal}
 use Rattle.order_theory.proofs.FinitePlaces.{finite}
 use Rattle.order_theory.proofs.InfinitePlaces.{infinite}
 use Rattle.order_theory.proofs.LocalOrders.{prime_to}
-use Rattle.side_theory.specs.InfiniteMaps.{IsInfiniteMap}
-use Rattle.side_theory.proofs.EachEquation.{each_equation}
-use Rattle.side_theory.proofs.InfiniteTransport.{x_irreducible, infinite_map}
-use Rattle.side_theory.proofs.InfiniteDecisions.{infinite_some}
-use Rattle.side_theory.proofs.InfiniteLaws.{spans_decided, regular_integral}
-use Rattle.side_theory.proofs.PushedPlaces.{each}
-use Rattle.side_theory.proofs.PulledPlaces.{rows, pulled_place, pulled_same}
+use Rattle.infinite_theory.specs.InfiniteMaps.{IsInfiniteMap}
+use Rattle.infinite_theory.proofs.EachEquation.{each_equation}
+use Rattle.infinite_theory.proofs.InfiniteTransport.{x_irreducible, infinite_map}
+use Rattle.infinite_theory.proofs.InfiniteDecisions.{infinite_some}
+use Rattle.infinite_theory.proofs.InfiniteLaws.{spans_decided, regular_integral}
+use Rattle.infinite_theory.proofs.PushedPlaces.{each}
+use Rattle.infinite_theory.proofs.PulledPlaces.{rows, pulled_place, pulled_same}
 use Rattle.ideal_theory.specs.Ideals.{IsDivisorOn, DivisorIdeal, HasValuesOf}
 use Rattle.ideal_theory.proofs.PowerValues.{on_side}
 use Rattle.ideal_theory.proofs.DivisorIdeals.{by_values}

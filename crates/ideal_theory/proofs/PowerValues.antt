@@ -2,20 +2,20 @@
 use Rattle.std.proofs.Common.{◌≡◌, ℕ, zero, suc, List, [], ◌∷◌, refl, sym, subst, arith}
 use Rattle.std.proofs.lemmas.Int.{ints}
 use Rattle.std.proofs.Math.IntN.{ℤ, pos, negsuc, ◌+ℤ◌}
-use Rattle.ff_ring.specs.Ring.{pow}
-use Rattle.ff_ring.specs.Subsets.{IsSubring}
-use Rattle.ff_ring.proofs.Ring.{one_mul, mul_zero}
-use Rattle.ff_ring.proofs.Solver.{ring, reads}
-use Rattle.local_theory.specs.Ideals.{IsAdditive, IsIdeal, SameSet, Inverse, Power}
-use Rattle.local_theory.specs.IntegerValues.{up, down, PrimePower}
-use Rattle.local_theory.specs.Primes.{IsPrime}
-use Rattle.local_theory.proofs.Products.{product_into, product_universal, additive_of_module, own_module, power_cancel}
-use Rattle.local_theory.proofs.Primes.{outside_power}
-use Rattle.local_theory.proofs.Invertible.{inverse_is_module}
-use Rattle.local_theory.proofs.PrimeProducts.{power_monotone, power_within}
-use Rattle.ff_algebra.specs.declared.elem.Side.{Side}
-use Rattle.ff_algebra.specs.Setting.{Setting}
-use Rattle.ff_algebra.specs.Places.{Place, IsPlace, IsIntegralAt, IsIn, HasValuationAtLeast, InPower}
+use Rattle.ring_theory.specs.Ring.{pow}
+use Rattle.ring_theory.specs.Subsets.{IsSubring}
+use Rattle.ring_theory.proofs.Ring.{one_mul, mul_zero}
+use Rattle.ring_theory.proofs.Solver.{ring, reads}
+use Rattle.prime_theory.specs.Ideals.{IsAdditive, IsIdeal, SameSet, Inverse, Power}
+use Rattle.prime_theory.specs.IntegerValues.{up, down, PrimePower}
+use Rattle.prime_theory.specs.Primes.{IsPrime}
+use Rattle.prime_theory.proofs.Products.{product_into, product_universal, additive_of_module, own_module, power_cancel}
+use Rattle.prime_theory.proofs.Primes.{outside_power}
+use Rattle.prime_theory.proofs.Invertible.{inverse_is_module}
+use Rattle.prime_theory.proofs.PrimeProducts.{power_monotone, power_within}
+use Rattle.function_field.specs.declared.side.Side.{Side}
+use Rattle.function_field.specs.Setting.{Setting}
+use Rattle.function_field.specs.Places.{Place, IsPlace, IsIntegralAt, IsIn, HasValuationAtLeast, InPower}
 use Rattle.places_theory.proofs.Sides.{side_ring, place_module, in_power_module, in_power_is}
 use Rattle.places_theory.proofs.Valuations.{at_least_of_integral, at_least_sum, at_least_product, at_least_weaker}
 

@@ -7,25 +7,25 @@ use Rattle.std.proofs.lemmas.List.Kept.{AllPairs-cons}
 use Rattle.std.proofs.lemmas.Int.{ints}
 use Rattle.std.proofs.Math.IntN.{ℤ, pos, ◌+ℤ◌}
 use lib.Signed.{◌≤ℤ◌}
-use Rattle.ff_ring.proofs.Ring.{one_mul}
-use Rattle.local_theory.specs.Ideals.{Invertible, Multiple, SameSet}
-use Rattle.local_theory.specs.Primes.{IsPrime}
-use Rattle.local_theory.proofs.Lists.{both, any_here, any_there, any_none, any_cases, any_weaker}
+use Rattle.ring_theory.proofs.Ring.{one_mul}
+use Rattle.prime_theory.specs.Ideals.{Invertible, Multiple, SameSet}
+use Rattle.prime_theory.specs.Primes.{IsPrime}
+use Rattle.prime_theory.proofs.Lists.{both, any_here, any_there, any_none, any_cases, any_weaker}
 use Rattle.ff_fields.specs.Field.{CodeField}
 use Rattle.ff_poly.specs.Polynomials.{polynomials}
-use Rattle.ff_algebra.specs.declared.elem.Side.{Side}
-use Rattle.ff_algebra.specs.Setting.{Setting}
-use Rattle.ff_algebra.specs.Places.{Place, IsPlace, IsIn, IsSamePlace, IsIntegralAt, HasValuationAtLeast, HasValuation}
-use Rattle.ff_algebra.specs.Divisors.{Entry, Divisor, HasMultiplicity}
-use Rattle.ff_algebra.specs.Functions.{Equation, FunctionOf, ring_of, setting_of}
-use Rattle.ff_algebra.specs.Discriminant.{discriminant}
-use Rattle.ff_algebra.proofs.ScalarRings.{scalars_subring}
+use Rattle.function_field.specs.declared.side.Side.{Side}
+use Rattle.function_field.specs.Setting.{Setting}
+use Rattle.function_field.specs.Places.{Place, IsPlace, IsIn, IsSamePlace, IsIntegralAt, HasValuationAtLeast, HasValuation}
+use Rattle.function_field.specs.Divisors.{Entry, Divisor, HasMultiplicity}
+use Rattle.function_field.specs.Functions.{Equation, FunctionOf, ring_of, setting_of}
+use Rattle.function_field.specs.Discriminant.{discriminant}
+use Rattle.function_field.proofs.ScalarRings.{scalars_subring}
 use Rattle.places_theory.proofs.Sides.{side_ring}
 use Rattle.places_theory.proofs.SamePlaces.{same_place_sym, same_place_trans}
 use Rattle.places_theory.proofs.Multiplicities.{multiplicity_exists}
 use Rattle.places_theory.proofs.Valuations.{at_least_of_integral, at_least_product, at_least_weaker, valuation_of_outside, valuation_unique}
-use Rattle.side_theory.proofs.SamePlaceValues.{value_same}
-use Rattle.side_theory.proofs.ValueRules.{product_rule}
+use Rattle.infinite_theory.proofs.SamePlaceValues.{value_same}
+use Rattle.infinite_theory.proofs.ValueRules.{product_rule}
 use Rattle.ideal_theory.specs.Ideals.{IsDivisorOn, IsDivisorOf, DivisorIdeal}
 use Rattle.ideal_theory.proofs.DivisorIdeals.{PlaceOn, same_decided, values_of_ideal, ideal_of_values}
 

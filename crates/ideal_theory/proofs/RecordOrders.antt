@@ -1,18 +1,18 @@
 -- An order with the powers of y that has a record at each irreducible polynomial whose square divides the discriminant is the maximal order.
 use Rattle.std.proofs.Common.{◌≡◌, ℕ, zero, suc, ◌<◌, List, refl, sym, ◌∙◌, subst, arith}
 use Rattle.std.proofs.lemmas.List.Elements.{All-weaker}
-use Rattle.ff_ring.specs.Ring.{pow}
-use Rattle.ff_ring.specs.Rows.{entry}
-use Rattle.ff_ring.specs.Sums.{sum_below}
-use Rattle.ff_ring.specs.Subsets.{IsModule}
-use Rattle.local_theory.specs.Ideals.{SameSet}
-use Rattle.local_theory.specs.Orders.{MaximalAt}
+use Rattle.ring_theory.specs.Ring.{pow}
+use Rattle.ring_theory.specs.Rows.{entry}
+use Rattle.ring_theory.specs.Sums.{sum_below}
+use Rattle.ring_theory.specs.Subsets.{IsModule}
+use Rattle.prime_theory.specs.Ideals.{SameSet}
+use Rattle.prime_theory.specs.Orders.{MaximalAt}
 use Rattle.linear_theory.specs.Euclidean.{IsDivisor}
 use Rattle.ff_fields.specs.Field.{CodeField}
 use Rattle.ff_poly.specs.Words.{IsIrreducible}
 use Rattle.ff_poly.specs.Polynomials.{Polynomial, polynomials, codes_of}
-use Rattle.ff_algebra.specs.Functions.{Equation, FunctionOf, ring_of, of_poly, y_of, degree_of_y, IsPolynomial}
-use Rattle.ff_algebra.specs.Discriminant.{discriminant}
+use Rattle.function_field.specs.Functions.{Equation, FunctionOf, ring_of, of_poly, y_of, degree_of_y, IsPolynomial}
+use Rattle.function_field.specs.Discriminant.{discriminant}
 use Rattle.places_theory.proofs.YRoot.{poly_hom, at_y_plain}
 use Rattle.trace_theory.specs.Traces.{HasPolynomialCoordinates}
 use Rattle.trace_theory.proofs.IntegralLaw.{eval_sum}

@@ -2,23 +2,23 @@
 use Rattle.std.proofs.Common.{◌≡◌, ◌⊎◌, inl, inr, ℕ, zero, suc, ◌+◌, ◌*◌, ◌≤◌, List, [], ◌∷◌, pos, refl, sym, ◌∙◌, subst, arith, All, suc-mul, mul-le-mul_right}
 use Rattle.std.specs.Prelude.{ℤ}
 use Rattle.std.proofs.lemmas.List.Elements.{All-nil, All-cons, All-head, All-tail, All-weaker}
-use Rattle.local_theory.specs.Ideals.{SameSet}
-use Rattle.local_theory.specs.IntegerValues.{ValueIs}
-use Rattle.local_theory.specs.Primes.{Pair, Outside, AtLeast}
-use Rattle.local_theory.specs.Systems.{IsFamily, IsSystem, Distinct}
-use Rattle.local_theory.proofs.Compare.{prime_in_system}
-use Rattle.local_theory.proofs.Factorisation.{values_of_entries}
-use Rattle.local_theory.proofs.IntegerFactors.{entries_integers, ramification_of}
-use Rattle.local_theory.proofs.Lists.{both, everywhere, any_weaker}
-use Rattle.local_theory.proofs.Valuation.{ge_bounded}
+use Rattle.prime_theory.specs.Ideals.{SameSet}
+use Rattle.prime_theory.specs.IntegerValues.{ValueIs}
+use Rattle.prime_theory.specs.Primes.{Pair, Outside, AtLeast}
+use Rattle.prime_theory.specs.Systems.{IsFamily, IsSystem, Distinct}
+use Rattle.prime_theory.proofs.Compare.{prime_in_system}
+use Rattle.prime_theory.proofs.Factorisation.{values_of_entries}
+use Rattle.prime_theory.proofs.IntegerFactors.{entries_integers, ramification_of}
+use Rattle.prime_theory.proofs.Lists.{both, everywhere, any_weaker}
+use Rattle.prime_theory.proofs.Valuation.{ge_bounded}
 use Rattle.ff_fields.specs.Field.{CodeField}
 use Rattle.ff_poly.specs.Words.{IsIrreducible}
 use Rattle.ff_poly.specs.Polynomials.{Polynomial, polynomials, codes_of}
-use Rattle.ff_algebra.specs.Places.{IsPlace, IsIn, IsSamePlace, LiesOver, HasValuation}
-use Rattle.ff_algebra.specs.Divisors.{HasDegree, HasRamification}
-use Rattle.ff_algebra.specs.Functions.{Equation, FunctionOf, ring_of, of_poly, IsPolynomial, setting_of}
-use Rattle.ff_algebra.specs.Discriminant.{discriminant}
-use Rattle.ff_algebra.proofs.ScalarRings.{scalars_subring}
+use Rattle.function_field.specs.Places.{IsPlace, IsIn, IsSamePlace, LiesOver, HasValuation}
+use Rattle.function_field.specs.Divisors.{HasDegree, HasRamification}
+use Rattle.function_field.specs.Functions.{Equation, FunctionOf, ring_of, of_poly, IsPolynomial, setting_of}
+use Rattle.function_field.specs.Discriminant.{discriminant}
+use Rattle.function_field.proofs.ScalarRings.{scalars_subring}
 use Rattle.places_theory.specs.Orders.{InPrime}
 use Rattle.places_theory.proofs.PlaceValues.{valuation_iff}
 use Rattle.places_theory.proofs.Sides.{place_is_maximal}

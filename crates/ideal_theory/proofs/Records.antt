@@ -1,25 +1,25 @@
 -- The ideals of a record of primes are a prime system at p with the product p·O, so the order is maximal at p.
 use Rattle.std.proofs.Common.{◌≡◌, ◌⊎◌, inl, inr, ℕ, suc, ◌+◌, ◌*◌, ◌-◌, List, [], ◌∷◌, map, length, get_or, pos, refl, sym, ap, ap₂, subst, arith}
-use Rattle.ff_ring.specs.Subsets.{IsModule}
-use Rattle.ff_ring.proofs.Subsets.{product_member, product_module}
-use Rattle.local_theory.specs.Ideals.{Inverse, Invertible, SameSet, Multiple, Power}
-use Rattle.local_theory.specs.IntegerValues.{entry}
-use Rattle.local_theory.specs.Orders.{MaximalAt}
-use Rattle.local_theory.specs.Primes.{IsPrime, Different}
-use Rattle.local_theory.specs.Systems.{IdealProduct, IdealPower, IsFamily, IsSystem, Distinct}
-use Rattle.local_theory.proofs.Compare.{family_of_generators}
-use Rattle.local_theory.proofs.Invertible.{inverse_unique}
-use Rattle.local_theory.proofs.Primes.{ideal_module, pair_of_invertible}
-use Rattle.local_theory.proofs.Products.{product_monotone, product_swap, product_one, own_module, power_module}
-use Rattle.local_theory.proofs.Scalars.{integral_wider}
-use Rattle.local_theory.proofs.SystemFromProduct.{positive_entries, system_of_product}
-use Rattle.local_theory.proofs.Systems.{system_closed}
+use Rattle.ring_theory.specs.Subsets.{IsModule}
+use Rattle.ring_theory.proofs.Subsets.{product_member, product_module}
+use Rattle.prime_theory.specs.Ideals.{Inverse, Invertible, SameSet, Multiple, Power}
+use Rattle.prime_theory.specs.IntegerValues.{entry}
+use Rattle.prime_theory.specs.Orders.{MaximalAt}
+use Rattle.prime_theory.specs.Primes.{IsPrime, Different}
+use Rattle.prime_theory.specs.Systems.{IdealProduct, IdealPower, IsFamily, IsSystem, Distinct}
+use Rattle.prime_theory.proofs.Compare.{family_of_generators}
+use Rattle.prime_theory.proofs.Invertible.{inverse_unique}
+use Rattle.prime_theory.proofs.Primes.{ideal_module, pair_of_invertible}
+use Rattle.prime_theory.proofs.Products.{product_monotone, product_swap, product_one, own_module, power_module}
+use Rattle.prime_theory.proofs.Scalars.{integral_wider}
+use Rattle.prime_theory.proofs.SystemFromProduct.{positive_entries, system_of_product}
+use Rattle.prime_theory.proofs.Systems.{system_closed}
 use Rattle.ff_fields.specs.Field.{CodeField}
 use Rattle.ff_poly.specs.Words.{IsIrreducible}
 use Rattle.ff_poly.specs.Polynomials.{Polynomial, codes_of}
-use Rattle.ff_algebra.specs.declared.elem.Side.TheVariants.{Finite}
-use Rattle.ff_algebra.specs.Places.{IsIntegralAt}
-use Rattle.ff_algebra.specs.Functions.{Equation, FunctionOf, ring_of, of_poly, IsPolynomial, degree_of_y, setting_of}
+use Rattle.function_field.specs.declared.side.Side.TheVariants.{Finite}
+use Rattle.function_field.specs.Places.{IsIntegralAt}
+use Rattle.function_field.specs.Functions.{Equation, FunctionOf, ring_of, of_poly, IsPolynomial, degree_of_y, setting_of}
 use Rattle.lattice_theory.specs.Lattices.{HasIndex}
 use Rattle.lattice_theory.proofs.Indices.{index_add, index_of, index_once, index_zero}
 use Rattle.lattice_theory.proofs.Lattices.{lattice_decided, lattice_module}

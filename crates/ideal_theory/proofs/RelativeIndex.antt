@@ -2,12 +2,12 @@
 use Rattle.std.proofs.Common.{◌≡◌, ℕ, ◌+◌, refl, sym, arith}
 use Rattle.std.proofs.lemmas.Int.{ints}
 use Rattle.std.proofs.Math.IntN.{ℤ, pos, ◌+ℤ◌, ◌-ℤ◌}
-use Rattle.ff_ring.specs.Subsets.{Span}
-use Rattle.ff_ring.proofs.Ring.{zero_add}
-use Rattle.local_theory.specs.Ideals.{SameSet}
+use Rattle.ring_theory.specs.Subsets.{Span}
+use Rattle.ring_theory.proofs.Ring.{zero_add}
+use Rattle.prime_theory.specs.Ideals.{SameSet}
 use Rattle.linear_theory.specs.Basis.{IsSum}
 use Rattle.ff_fields.specs.Field.{CodeField}
-use Rattle.ff_algebra.specs.Functions.{Equation, FunctionOf, ring_of, IsPolynomial}
+use Rattle.function_field.specs.Functions.{Equation, FunctionOf, ring_of, IsPolynomial}
 use Rattle.lattice_theory.specs.Lattices.{IsLattice, HasIndex, space_ops}
 use Rattle.lattice_theory.proofs.Bases.{index_same}
 use Rattle.lattice_theory.proofs.Indices.{index_add, index_none, index_of, index_once}

@@ -2,22 +2,22 @@
 use Rattle.std.proofs.Common.{◌≡◌, ◌↔◌, inr, [], ◌∷◌, map, pos, All}
 use Rattle.std.specs.Prelude.{ℤ, ◌+ℤ◌, ◌*ℤ◌}
 use Rattle.std.proofs.lemmas.List.Elements.{All-head, All-tail}
-use Rattle.local_theory.specs.Ideals.{Multiple, SameSet}
-use Rattle.local_theory.proofs.Lists.{both}
+use Rattle.prime_theory.specs.Ideals.{Multiple, SameSet}
+use Rattle.prime_theory.proofs.Lists.{both}
 use Rattle.ff_fields.specs.Field.{CodeField}
 use Rattle.ff_poly.specs.Polynomials.{polynomials}
-use Rattle.ff_algebra.specs.declared.elem.Side.{Side}
-use Rattle.ff_algebra.specs.declared.elem.Side.TheVariants.{Finite, Infinite}
-use Rattle.ff_algebra.specs.Places.{Place, IsPlace, IsIn, IsSamePlace, IsIntegralAt}
-use Rattle.ff_algebra.specs.Divisors.{Entry, Divisor, HasTotalDegree, MeetsOn, none, entry}
-use Rattle.ff_algebra.specs.Functions.{Equation, FunctionOf, ring_of, setting_of}
-use Rattle.ff_algebra.specs.Discriminant.{discriminant}
+use Rattle.function_field.specs.declared.side.Side.{Side}
+use Rattle.function_field.specs.declared.side.Side.TheVariants.{Finite, Infinite}
+use Rattle.function_field.specs.Places.{Place, IsPlace, IsIn, IsSamePlace, IsIntegralAt}
+use Rattle.function_field.specs.Divisors.{Entry, Divisor, HasTotalDegree, MeetsOn, none, entry}
+use Rattle.function_field.specs.Functions.{Equation, FunctionOf, ring_of, setting_of}
+use Rattle.function_field.specs.Discriminant.{discriminant}
 use Rattle.lattice_theory.specs.Lattices.{IsLattice}
 use Rattle.lattice_theory.proofs.Indices.{index_none}
 use Rattle.order_theory.proofs.FinitePlaces.{Int}
 use Rattle.order_theory.proofs.PlaceEntries.{any_map}
 use Rattle.order_theory.proofs.SideOfPlaces.{lattice_of_place, prime_of_place, regular_functions, value_at_place, degree_of_place}
-use Rattle.side_theory.proofs.InfiniteLaws.{regular_integral, value_exists, all_listed}
+use Rattle.infinite_theory.proofs.InfiniteLaws.{regular_integral, value_exists, all_listed}
 use Rattle.ideal_theory.specs.Ideals.{IsDivisorOn, IsDivisorOf, DivisorIdeal, HasValuesOf, opposite_divisor}
 use Rattle.ideal_theory.proofs.DivisorIdeals.{opposite_on, meets_opposite}
 use Rattle.ideal_theory.specs.Indices.{HasRelativeIndex}

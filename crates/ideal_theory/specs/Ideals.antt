@@ -1,11 +1,11 @@
 -- The ideals of divisors: products of powers of places of one side (Stichtenoth, section 3.2; Hess, section 3).
 use Rattle.std.specs.Prelude.{◌≡◌, ℤ, neg_ℤ, [], ◌∷◌, All}
-use Rattle.ff_ring.specs.Subsets.{Product}
-use Rattle.local_theory.specs.IntegerValues.{PrimePower}
-use Rattle.ff_algebra.specs.declared.elem.Side.{Side}
-use Rattle.ff_algebra.specs.Setting.{Setting}
-use Rattle.ff_algebra.specs.Places.{Place, IsPlace, IsIntegralAt, IsIn, HasValuationAtLeast, HasValuation}
-use Rattle.ff_algebra.specs.Divisors.{Divisor, IsDivisor, HasMultiplicity}
+use Rattle.ring_theory.specs.Subsets.{Product}
+use Rattle.prime_theory.specs.IntegerValues.{PrimePower}
+use Rattle.function_field.specs.declared.side.Side.{Side}
+use Rattle.function_field.specs.Setting.{Setting}
+use Rattle.function_field.specs.Places.{Place, IsPlace, IsIntegralAt, IsIn, HasValuationAtLeast, HasValuation}
+use Rattle.function_field.specs.Divisors.{Divisor, IsDivisor, HasMultiplicity}
 
 module _ {E : Type 0} (S : Setting E) (s : Side) where
   open S.functions use {ops}

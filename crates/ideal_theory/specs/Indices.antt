@@ -1,8 +1,8 @@
 -- The index of one lattice relative to another, neither of which need lie in the other (Hess, section 2).
 use Rattle.std.specs.Prelude.{◌≡◌, ℕ, ℤ, pos, ◌-ℤ◌, List}
-use Rattle.ff_ring.specs.Subsets.{Span}
+use Rattle.ring_theory.specs.Subsets.{Span}
 use Rattle.ff_fields.specs.Field.{CodeField}
-use Rattle.ff_algebra.specs.Functions.{Equation, FunctionOf, ring_of, IsPolynomial}
+use Rattle.function_field.specs.Functions.{Equation, FunctionOf, ring_of, IsPolynomial}
 use Rattle.lattice_theory.specs.Lattices.{IsLattice, HasIndex}
 
 module _ {k : CodeField} (c : Equation k) where

@@ -1,17 +1,17 @@
 -- Records of primes: data that show which primes of an order lie over an irreducible polynomial, and that the order is maximal there.
 use Rattle.std.specs.Prelude.{◌≡◌, ℕ, ◌+◌, ◌*◌, ◌-◌, ◌≤◌, List, [], ◌∷◌, length, All, AllPairs, ◌⊎◌}
 use Rattle.std.specs.List.{Any}
-use Rattle.ff_ring.specs.Subsets.{IsModule, Span, Product}
-use Rattle.local_theory.specs.Ideals.{SameSet, Multiple, Power}
-use Rattle.local_theory.specs.Orders.{MaximalAt}
-use Rattle.local_theory.specs.Places.{IsMaximalIdeal}
+use Rattle.ring_theory.specs.Subsets.{IsModule, Span, Product}
+use Rattle.prime_theory.specs.Ideals.{SameSet, Multiple, Power}
+use Rattle.prime_theory.specs.Orders.{MaximalAt}
+use Rattle.prime_theory.specs.Places.{IsMaximalIdeal}
 use Rattle.ff_fields.specs.Field.{CodeField}
 use Rattle.ff_poly.specs.Words.{IsIrreducible}
 use Rattle.ff_poly.specs.Polynomials.{Polynomial, codes_of}
-use Rattle.ff_algebra.specs.declared.elem.Side.TheVariants.{Finite}
-use Rattle.ff_algebra.specs.Places.{Place, IsPlace, IsSamePlace, LiesOver, IsIntegralAt}
-use Rattle.ff_algebra.specs.Divisors.{HasDegree, HasRamification}
-use Rattle.ff_algebra.specs.Functions.{Equation, FunctionOf, ring_of, of_poly, IsPolynomial, degree_of_y, setting_of}
+use Rattle.function_field.specs.declared.side.Side.TheVariants.{Finite}
+use Rattle.function_field.specs.Places.{Place, IsPlace, IsSamePlace, LiesOver, IsIntegralAt}
+use Rattle.function_field.specs.Divisors.{HasDegree, HasRamification}
+use Rattle.function_field.specs.Functions.{Equation, FunctionOf, ring_of, of_poly, IsPolynomial, degree_of_y, setting_of}
 use Rattle.lattice_theory.specs.Lattices.{IsLattice, HasIndex}
 use Rattle.order_theory.specs.Orders.{IsOrderUpTo}
 

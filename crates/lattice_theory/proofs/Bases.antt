@@ -2,12 +2,12 @@
 use Rattle.std.proofs.Common.{◌≡◌, ℕ, suc, ◌-◌, ◌*◌, ◌<◌, List, [], ◌∷◌, length, map, refl, sym, ◌∙◌, ap, ap₂, subst, arith}
 use Rattle.std.proofs.lemmas.List.{length-map}
 use Rattle.std.proofs.lemmas.List.Elements.{All-map, All-from_get_or, All-weaker}
-use Rattle.ff_ring.specs.Lists.{coeff_of, tail_of}
-use Rattle.ff_ring.proofs.Ring.{zero_mul, mul_zero, one_mul}
-use Rattle.ff_ring.proofs.Sequences.{convolution_constant_left}
-use Rattle.ff_ring.proofs.Evaluate.{constant, constant_hom, length_trim}
-use Rattle.ff_ring.proofs.Lists.{coeff_trim}
-use Rattle.ff_ring.proofs.Polynomials.{series_mul, length_product}
+use Rattle.ring_theory.specs.Lists.{coeff_of, tail_of}
+use Rattle.ring_theory.proofs.Ring.{zero_mul, mul_zero, one_mul}
+use Rattle.ring_theory.proofs.Sequences.{convolution_constant_left}
+use Rattle.ring_theory.proofs.Evaluate.{constant, constant_hom, length_trim}
+use Rattle.ring_theory.proofs.Lists.{coeff_trim}
+use Rattle.ring_theory.proofs.Polynomials.{series_mul, length_product}
 use Rattle.popov_theory.specs.Module.{measure}
 use Rattle.popov_theory.specs.Span.{combine, InSpan}
 use Rattle.popov_theory.proofs.Division.{coordinates_unique}
@@ -16,12 +16,12 @@ use Rattle.popov_theory.proofs.PopovForm.{popov_weak}
 use Rattle.popov_theory.proofs.Measure.{measure_zero}
 use Rattle.popov_theory.proofs.Span.{combine_zero, span_row}
 use Rattle.popov_theory.proofs.Scaling.{IsMonic, scaled, popov_scaled, span_scaled, span_unscaled, pivot_degree_scaled}
-use Rattle.local_theory.specs.Ideals.{Multiple, SameSet}
+use Rattle.prime_theory.specs.Ideals.{Multiple, SameSet}
 use Rattle.linear_theory.specs.Module.{combine as combination_of}
 use Rattle.ff_fields.specs.Field.{CodeField}
 use Rattle.ff_fields.specs.Code.{Code, code_ring, code_field, code_domain}
 use Rattle.ff_poly.specs.Polynomials.{Polynomial, polynomials}
-use Rattle.ff_algebra.specs.Functions.{Equation, FunctionOf, ring_of, of_poly, degree_of_y}
+use Rattle.function_field.specs.Functions.{Equation, FunctionOf, ring_of, of_poly, degree_of_y}
 use Rattle.places_theory.proofs.YRoot.{poly_hom}
 use Rattle.trace_theory.proofs.TracePowers.{some_long}
 use Rattle.trace_theory.proofs.Division.{top_not_zero}

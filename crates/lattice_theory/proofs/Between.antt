@@ -2,16 +2,16 @@
 -- lattice modulo the smaller one.
 use Rattle.std.proofs.Common.{◌≡◌, All, ℕ, suc, List, [], ◌∷◌, ◌++◌, inl, inr, refl, sym, ◌∙◌, ap, subst}
 use Rattle.std.proofs.lemmas.List.Elements.{All-cons, All-nil, All-append, All-head, All-tail, All-weaker}
-use Rattle.ff_ring.specs.Subsets.{IsModule, Span}
-use Rattle.ff_ring.proofs.Subsets.{span_head, span_append_left, span_append_right, span_least, span_module}
-use Rattle.ff_ring.proofs.Ring.{zero_add}
-use Rattle.ff_ring.proofs.Solver.{ring, reads}
-use Rattle.ff_ring.proofs.Finite.{In}
+use Rattle.ring_theory.specs.Subsets.{IsModule, Span}
+use Rattle.ring_theory.proofs.Subsets.{span_head, span_append_left, span_append_right, span_least, span_module}
+use Rattle.ring_theory.proofs.Ring.{zero_add}
+use Rattle.ring_theory.proofs.Solver.{ring, reads}
+use Rattle.ring_theory.proofs.Finite.{In}
 use Rattle.linear_theory.specs.Module.{combine}
 use Rattle.ff_fields.specs.Field.{CodeField}
 use Rattle.ff_fields.specs.Code.{Code}
-use Rattle.ff_algebra.specs.Functions.{Equation, FunctionOf, ring_of, IsPolynomial}
-use Rattle.ff_algebra.proofs.ScalarRings.{polynomials_subring}
+use Rattle.function_field.specs.Functions.{Equation, FunctionOf, ring_of, IsPolynomial}
+use Rattle.function_field.proofs.ScalarRings.{polynomials_subring}
 use Rattle.places_theory.proofs.CodeFields.{code_finite}
 use Rattle.lattice_theory.specs.Lattices.{IsLattice, space_ops, HasIndex}
 use Rattle.lattice_theory.proofs.Lattices.{lattice_module, lattice_generators}

@@ -2,11 +2,11 @@
 use Rattle.std.proofs.Common.{◌≡◌, ℕ, zero, suc, ◌+◌, ◌<◌, List, [], ◌∷◌, ◌++◌, length, map, refl, sym, ◌∙◌, ap, ap₂, subst, arith}
 use Rattle.std.proofs.lemmas.List.{length-append, length-map}
 use Rattle.std.proofs.lemmas.List.Elements.{All-map, All-from_get_or, All-nil}
-use Rattle.ff_ring.specs.Lists.{tail_of}
-use Rattle.ff_ring.specs.Subsets.{IsModule}
-use Rattle.ff_ring.proofs.Ring.{neg_unique, add_sub, zero_add}
-use Rattle.ff_ring.proofs.RowMaps.{hom_zero}
-use Rattle.ff_ring.proofs.Evaluate.{constant, constant_hom}
+use Rattle.ring_theory.specs.Lists.{tail_of}
+use Rattle.ring_theory.specs.Subsets.{IsModule}
+use Rattle.ring_theory.proofs.Ring.{neg_unique, add_sub, zero_add}
+use Rattle.ring_theory.proofs.RowMaps.{hom_zero}
+use Rattle.ring_theory.proofs.Evaluate.{constant, constant_hom}
 use Rattle.popov_theory.specs.Span.{InSpan, IsWithin}
 use Rattle.popov_theory.specs.Popov.{pivot_degree}
 use Rattle.popov_theory.specs.Basis.{IsBasisModulo, scalar_combine}
@@ -22,8 +22,8 @@ use Rattle.linear_theory.proofs.Dimension.{basis_tower}
 use Rattle.ff_fields.specs.Field.{CodeField}
 use Rattle.ff_fields.specs.Code.{Code, code_ring, code_field}
 use Rattle.ff_poly.specs.Polynomials.{Polynomial, polynomials}
-use Rattle.ff_algebra.specs.Functions.{Equation, FunctionOf, ring_of, of_poly, IsPolynomial}
-use Rattle.ff_algebra.proofs.OnSide.{of_poly_zero}
+use Rattle.function_field.specs.Functions.{Equation, FunctionOf, ring_of, of_poly, IsPolynomial}
+use Rattle.function_field.proofs.OnSide.{of_poly_zero}
 use Rattle.places_theory.proofs.YRoot.{poly_hom}
 use Rattle.lattice_theory.specs.Lattices.{IsLattice, space_ops, HasIndex}
 use Rattle.lattice_theory.proofs.Parts.{Rows, module_of, part, part_add, part_scale, part_zero}

@@ -1,8 +1,8 @@
 -- Lattices over a denominator as spans of rows: membership is decided, and one denominator serves two lattices.
 use Rattle.std.proofs.Common.{◌≡◌, All, List, [], ◌∷◌, map, inl, inr, ◌⊎◌, refl, sym, subst}
 use Rattle.std.proofs.lemmas.List.Elements.{All-weaker}
-use Rattle.ff_ring.specs.Subsets.{IsModule, Span}
-use Rattle.ff_ring.proofs.Subsets.{span_module, span_members}
+use Rattle.ring_theory.specs.Subsets.{IsModule, Span}
+use Rattle.ring_theory.proofs.Subsets.{span_module, span_members}
 use Rattle.popov_theory.specs.Span.{InSpan, HasFullRank}
 use Rattle.popov_theory.specs.Popov.{IsPopov}
 use Rattle.popov_theory.specs.Laws.{PopovForm}
@@ -12,9 +12,9 @@ use Rattle.popov_theory.proofs.Reduction.{Reduced, reduce, reduced_span}
 use Rattle.ff_fields.specs.Field.{CodeField}
 use Rattle.ff_fields.specs.Code.{code_field}
 use Rattle.ff_poly.specs.Polynomials.{Polynomial, polynomials, polynomials_domain}
-use Rattle.ff_ring.proofs.Ring.{product_not_zero}
-use Rattle.ff_algebra.specs.Functions.{Equation, FunctionOf, ring_of, IsPolynomial}
-use Rattle.ff_algebra.proofs.ScalarRings.{polynomials_subring}
+use Rattle.ring_theory.proofs.Ring.{product_not_zero}
+use Rattle.function_field.specs.Functions.{Equation, FunctionOf, ring_of, IsPolynomial}
+use Rattle.function_field.proofs.ScalarRings.{polynomials_subring}
 use Rattle.lattice_theory.specs.Lattices.{IsLattice}
 use Rattle.lattice_theory.proofs.Parts.{Rows, module_of, part, part_scale, span_of_rows, rows_of_span, rows_of_part, OverOne, more, Common, common}
 

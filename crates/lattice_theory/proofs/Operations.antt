@@ -1,12 +1,12 @@
 -- Lattices out of lattices: k[x][y], multiples, sums, products, intersections, colons.
 use Rattle.std.proofs.Common.{◌≡◌, All, List, [], ◌∷◌, ◌++◌, map, refl, sym, ◌∙◌, ap, ap₂, subst}
 use Rattle.std.proofs.lemmas.List.Elements.{All-nil, All-cons, All-append, All-weaker, All-map}
-use Rattle.ff_ring.specs.Ring.{CommRing}
-use Rattle.ff_ring.specs.Subsets.{IsSubring, IsModule, Span, Product, Colon, products}
-use Rattle.ff_ring.proofs.Ring.{one_mul, zero_add, mul_zero, mul_left_comm, add_add, product_not_zero}
-use Rattle.ff_ring.proofs.Subsets.{span_least, span_module, span_multiples, span_append_left, span_append_right, product_of_spans, product_member, colon_module}
-use Rattle.local_theory.specs.Ideals.{Multiple}
-use Rattle.local_theory.proofs.Products.{product_monotone}
+use Rattle.ring_theory.specs.Ring.{CommRing}
+use Rattle.ring_theory.specs.Subsets.{IsSubring, IsModule, Span, Product, Colon, products}
+use Rattle.ring_theory.proofs.Ring.{one_mul, zero_add, mul_zero, mul_left_comm, add_add, product_not_zero}
+use Rattle.ring_theory.proofs.Subsets.{span_least, span_module, span_multiples, span_append_left, span_append_right, product_of_spans, product_member, colon_module}
+use Rattle.prime_theory.specs.Ideals.{Multiple}
+use Rattle.prime_theory.proofs.Products.{product_monotone}
 use Rattle.linear_theory.specs.Basis.{IsSum}
 use Rattle.places_theory.proofs.SamePlaces.{decide_all}
 use Rattle.places_theory.proofs.YRoot.{poly_hom, over_times_den, den_times, at_y_plain}
@@ -17,8 +17,8 @@ use Rattle.ff_fields.specs.Code.{code_field}
 use Rattle.lattice_theory.proofs.Parts.{module_of, part, span_of_rows, rows_of_span}
 use Rattle.ff_fields.specs.Field.{CodeField}
 use Rattle.ff_poly.specs.Polynomials.{Polynomial, polynomials, polynomials_domain}
-use Rattle.ff_algebra.specs.Functions.{Equation, FunctionOf, ring_of, of_poly, row_of, over, IsPolynomial}
-use Rattle.ff_algebra.proofs.ScalarRings.{polynomials_subring, of_poly_one}
+use Rattle.function_field.specs.Functions.{Equation, FunctionOf, ring_of, of_poly, row_of, over, IsPolynomial}
+use Rattle.function_field.proofs.ScalarRings.{polynomials_subring, of_poly_one}
 use Rattle.lattice_theory.specs.Lattices.{IsLattice, space_ops}
 use Rattle.lattice_theory.proofs.Lattices.{lattice_module, lattice_generators, lattice_decided}
 use Rattle.lattice_theory.proofs.Between.{lattice_between}

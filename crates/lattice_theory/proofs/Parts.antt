@@ -1,10 +1,10 @@
 -- Functions over one denominator d as rows of polynomials: spans of functions are those of their rows.
 use Rattle.std.proofs.Common.{◌≡◌, ℕ, zero, suc, List, [], ◌∷◌, map, refl, sym, ◌∙◌, ap, ap₂, subst}
-use Rattle.ff_ring.specs.Lists.{tail_of}
-use Rattle.ff_ring.specs.Rows.{Row, row_zero, row_scale}
-use Rattle.ff_ring.specs.Subsets.{Span}
-use Rattle.ff_ring.proofs.Ring.{domain_cancel, product_not_zero, zero_mul}
-use Rattle.ff_ring.proofs.Rows.{pair_path, row_scale_add, row_scale_scale, row_zero_scale}
+use Rattle.ring_theory.specs.Lists.{tail_of}
+use Rattle.ring_theory.specs.Rows.{Row, row_zero, row_scale}
+use Rattle.ring_theory.specs.Subsets.{Span}
+use Rattle.ring_theory.proofs.Ring.{domain_cancel, product_not_zero, zero_mul}
+use Rattle.ring_theory.proofs.Rows.{pair_path, row_scale_add, row_scale_scale, row_zero_scale}
 use Rattle.popov_theory.specs.Module.{PolynomialModule}
 use Rattle.popov_theory.specs.Span.{combine, InSpan}
 use Rattle.popov_theory.proofs.PolynomialRows.{row_module, row_module_zero, row_module_add, row_module_scale}
@@ -12,9 +12,9 @@ use Rattle.popov_theory.proofs.Span.{span_zero, span_add, span_scale, span_head,
 use Rattle.ff_fields.specs.Field.{CodeField}
 use Rattle.ff_fields.specs.Code.{code_ring}
 use Rattle.ff_poly.specs.Polynomials.{Polynomial, polynomials, polynomials_domain}
-use Rattle.ff_algebra.specs.Functions.{Equation, FunctionOf, ring_of, row_of, of_poly, over, IsPolynomial}
-use Rattle.ff_algebra.proofs.OnSide.{of_poly_zero}
-use Rattle.ff_algebra.proofs.ScalarRings.{bottoms_not_zero}
+use Rattle.function_field.specs.Functions.{Equation, FunctionOf, ring_of, row_of, of_poly, over, IsPolynomial}
+use Rattle.function_field.proofs.OnSide.{of_poly_zero}
+use Rattle.function_field.proofs.ScalarRings.{bottoms_not_zero}
 use Rattle.trace_theory.proofs.FunctionTraces.{over_sum, over_product, over_eq, over_same, row_of_times, as_row}
 
 -- a factor other than 0 cancels

@@ -1,15 +1,15 @@
 -- Lattices: modules over k[x] that finitely many functions span and that have a multiple of each function; and their indices, as dimensions
 -- over k (Stichtenoth, Algebraic Function Fields and Codes, chapters 1 and 3).
 use Rattle.std.specs.Prelude.{◌≡◌, ℕ, List, length}
-use Rattle.ff_ring.specs.Subsets.{Span}
-use Rattle.ff_ring.proofs.Evaluate.{constant}
-use Rattle.local_theory.specs.Ideals.{SameSet}
+use Rattle.ring_theory.specs.Subsets.{Span}
+use Rattle.ring_theory.proofs.Evaluate.{constant}
+use Rattle.prime_theory.specs.Ideals.{SameSet}
 use Rattle.linear_theory.specs.Module.{ModuleOps, restricted_ops}
 use Rattle.linear_theory.specs.Basis.{IsBasis, IsNull}
 use Rattle.ff_fields.specs.Field.{CodeField}
 use Rattle.ff_fields.specs.Code.{Code, code_ring}
 use Rattle.ff_poly.specs.Polynomials.{Polynomial, polynomials}
-use Rattle.ff_algebra.specs.Functions.{Equation, FunctionOf, ring_of, of_poly, IsPolynomial}
+use Rattle.function_field.specs.Functions.{Equation, FunctionOf, ring_of, of_poly, IsPolynomial}
 
 module _ {k : CodeField} (c : Equation k) where
   -- a multiple of z by a polynomial other than 0 is in L

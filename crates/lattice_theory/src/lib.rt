@@ -4,11 +4,11 @@
 #![tactic(auto)]
 
 ghost use Rattle.std.specs.Prelude.{◌≡◌, ℕ, ◌+◌, ◌-◌, ◌*◌, ◌<◌, ◌↔◌, List, length};
-ghost use Rattle.ff_ring.specs.Subsets.{IsModule, Product, Colon};
+ghost use Rattle.ring_theory.specs.Subsets.{IsModule, Product, Colon};
 ghost use Rattle.ff_fields.specs.Field.{CodeField};
 ghost use Rattle.ff_poly.specs.Polynomials.{Polynomial, polynomials};
-ghost use Rattle.ff_algebra.specs.Functions.{Equation, FunctionOf, ring_of, of_poly, IsPolynomial, degree_of_y};
-ghost use Rattle.local_theory.specs.Ideals.{Multiple};
+ghost use Rattle.function_field.specs.Functions.{Equation, FunctionOf, ring_of, of_poly, IsPolynomial, degree_of_y};
+ghost use Rattle.prime_theory.specs.Ideals.{Multiple};
 ghost use Rattle.linear_theory.specs.Basis.{IsSum};
 ghost use Rattle.trace_theory.specs.Traces.{HasPolynomialCoordinates};
 ghost use Rattle.lattice_theory.specs.Lattices.{IsLattice, HasIndex, IsBasisOf, space_ops};

@@ -1,8 +1,8 @@
 -- Polynomials, as lists of coefficients, at a linear map of a module.
 use Rattle.std.proofs.Common.{◌≡◌, ℕ, zero, suc, List, [], ◌∷◌, length, refl, sym, ◌∙◌, ap, ap₂}
-use Rattle.ff_ring.specs.Ring.{CommRing}
-use Rattle.ff_ring.specs.Lists.{add_lists, scale_list, mul_lists}
-use Rattle.ff_ring.proofs.Solver.{reads, look}
+use Rattle.ring_theory.specs.Ring.{CommRing}
+use Rattle.ring_theory.specs.Lists.{add_lists, scale_list, mul_lists}
+use Rattle.ring_theory.proofs.Solver.{reads, look}
 use Rattle.linear_theory.specs.Module.{Module, combine, IsLinear}
 use Rattle.linear_theory.specs.Basis.{IsSubspace}
 use Rattle.linear_theory.specs.Polynomial.{SamePolynomial, act, powers_at}

@@ -3,9 +3,9 @@
 use Rattle.std.proofs.Common.{◌≡◌, ℕ, zero, suc, ◌<◌, ◌≤◌, ◌+◌, ◌⊎◌, inl, inr, List, [], ◌∷◌, ◌++◌, length, All, refl, sym, ◌∙◌, ap, ap₂, subst, arith}
 use Rattle.std.proofs.lemmas.List.{length-append}
 use Rattle.std.proofs.lemmas.List.Elements.{All-nil, All-cons, All-head, All-tail}
-use Rattle.ff_ring.specs.Ring.{CommRing}
-use Rattle.ff_ring.proofs.Ring.{mul_zero, zero_mul, zero_add, one_mul, eq_of_sub}
-use Rattle.ff_ring.proofs.Solver.{ring, reads}
+use Rattle.ring_theory.specs.Ring.{CommRing}
+use Rattle.ring_theory.proofs.Ring.{mul_zero, zero_mul, zero_add, one_mul, eq_of_sub}
+use Rattle.ring_theory.proofs.Solver.{ring, reads}
 use Rattle.linear_theory.specs.Fields.{Field, domain_of}
 use Rattle.linear_theory.specs.Module.{Module, combine, sequence_ops}
 use Rattle.linear_theory.specs.Basis.{IsSubspace, IsCombination, IsIndependent, IsBasis}
@@ -191,10 +191,10 @@ module _ {A V : Type 0} (K : Field A) (M : Module K.ring V) (U : V → Type 0) (
 
   -- the first member that is a combination of the earlier ones
   pub record FirstDependent (rows : List V) : Type 0 where
-    pub place : ℕ
-    pub place_below : place < length rows
-    pub independent : IsIndependent R.ops M.ops U (front place rows)
-    pub combination : IsCombination M.ops U (front place rows) (entry 𝟬 rows place)
+    pub position : ℕ
+    pub position_below : position < length rows
+    pub independent : IsIndependent R.ops M.ops U (front position rows)
+    pub combination : IsCombination M.ops U (front position rows) (entry 𝟬 rows position)
 
   module _ (W : V → Type 0) (𝓦 : IsSubspace M.ops W) (ws : List V) (b : IsBasis R.ops M.ops U W ws) where
     -- combinations of an independent list are decidable
@@ -246,7 +246,7 @@ module _ {A V : Type 0} (K : Field A) (M : Module K.ring V) (U : V → Type 0) (
       where
         next : (free : IsIndependent R.ops M.ops U (front n rows)) → Dec (IsCombination M.ops U (front n rows) (entry 𝟬 rows n))
             → FirstDependent rows ⊎ IsIndependent R.ops M.ops U (front (suc n) rows)
-        next free (yes k) = inl (record { place = n; place_below = l; independent = free; combination = k })
+        next free (yes k) = inl (record { position = n; position_below = l; independent = free; combination = k })
         next free (no k) =
             inr (subst (IsIndependent R.ops M.ops U) (sym (front_more 𝟬 n rows l)) (independent_more (front n rows) (entry 𝟬 rows n) free k))
 

@@ -2,7 +2,7 @@
 use Rattle.std.proofs.Common.{◌≡◌, ℕ, zero, suc, ◌<◌, ◌≤◌, ◌⊎◌, inl, inr, List, [], ◌∷◌, length, All, refl, sym, ◌∙◌, ap, ap₂, subst, arith}
 use native.Mathlib.Decide.{ℕ_discrete}
 use Rattle.std.proofs.lemmas.List.Elements.{All-nil, All-cons, All-head}
-use Rattle.ff_ring.specs.Monoid.{CommMonoid}
+use Rattle.ring_theory.specs.Monoid.{CommMonoid}
 use Rattle.linear_theory.specs.Distinct.{Distinct, product_over, product_below}
 use Rattle.linear_theory.proofs.Lists.{entry, remove, length_remove, All_remove, All_entry, All_both, remove_entry}
 
@@ -18,10 +18,10 @@ distinct_remove d (x ∷ xs) (suc i) l h =
           (λ e. All_entry (λ y. ¬ (y ≡ x)) d xs i h.0 (omega arith) (sym e)) k.1,
     )
 
--- the place of a number in a list, or it is not there
-place_of : (n : ℕ) (xs : List ℕ) → ((i : ℕ) × (i < length xs) × (entry 0 xs i ≡ n)) ⊎ All (λ y. ¬ (y ≡ n)) xs
-place_of n [] = inr (All-nil (λ y. ¬ (y ≡ n)))
-place_of n (x ∷ xs) = go (ℕ_discrete x n) (place_of n xs)
+-- the position of a number in a list, or it is not there
+position_of : (n : ℕ) (xs : List ℕ) → ((i : ℕ) × (i < length xs) × (entry 0 xs i ≡ n)) ⊎ All (λ y. ¬ (y ≡ n)) xs
+position_of n [] = inr (All-nil (λ y. ¬ (y ≡ n)))
+position_of n (x ∷ xs) = go (ℕ_discrete x n) (position_of n xs)
   where
     go : Dec (x ≡ n) → ((i : ℕ) × (i < length xs) × (entry 0 xs i ≡ n)) ⊎ All (λ y. ¬ (y ≡ n)) xs
         → ((i : ℕ) × (i < suc (length xs)) × (entry 0 (x ∷ xs) i ≡ n)) ⊎ All (λ y. ¬ (y ≡ n)) (x ∷ xs)
@@ -55,7 +55,7 @@ left_below n xs i l e apart h =
 pub distinct_below : (n : ℕ) (xs : List ℕ) → Distinct xs → All (λ y. y < n) xs → length xs ≤ n
 distinct_below zero [] apart h = omega arith
 distinct_below zero (x ∷ xs) apart h = let l : x < 0 = All-head (λ y. y < 0) x xs h in absurd (omega arith)
-distinct_below (suc n) xs apart h = go (place_of n xs) (distinct_below n)
+distinct_below (suc n) xs apart h = go (position_of n xs) (distinct_below n)
   where
     go : ((i : ℕ) × (i < length xs) × (entry 0 xs i ≡ n)) ⊎ All (λ y. ¬ (y ≡ n)) xs
         → ((ys : List ℕ) → Distinct ys → All (λ y. y < n) ys → length ys ≤ n) → length xs ≤ suc n
@@ -69,7 +69,7 @@ distinct_below (suc n) xs apart h = go (place_of n xs) (distinct_below n)
 pub all_below : (n : ℕ) (xs : List ℕ) → Distinct xs → All (λ y. y < n) xs → length xs ≡ n
     → (m : ℕ) → m < n → (i : ℕ) × (i < length xs) × (entry 0 xs i ≡ m)
 all_below zero xs apart h e m l = absurd (omega arith)
-all_below (suc n) xs apart h e m l = go (place_of n xs) (ℕ_discrete m n) (all_below n)
+all_below (suc n) xs apart h e m l = go (position_of n xs) (ℕ_discrete m n) (all_below n)
   where
     go : ((i : ℕ) × (i < length xs) × (entry 0 xs i ≡ n)) ⊎ All (λ y. ¬ (y ≡ n)) xs → Dec (m ≡ n)
         → ((ys : List ℕ) → Distinct ys → All (λ y. y < n) ys → length ys ≡ n
@@ -89,7 +89,7 @@ pub product_of_all : {A : Type 0} (M : CommMonoid A) (g : ℕ → A) (n : ℕ) (
     → All (λ y. y < n) xs → length xs ≡ n → product_over M xs g ≡ product_below M n g
 product_of_all M g zero [] apart h e = refl
 product_of_all M g zero (x ∷ xs) apart h e = absurd (omega arith)
-product_of_all M g (suc n) xs apart h e = go (place_of n xs) (product_of_all M g n)
+product_of_all M g (suc n) xs apart h e = go (position_of n xs) (product_of_all M g n)
   where
     go : ((i : ℕ) × (i < length xs) × (entry 0 xs i ≡ n)) ⊎ All (λ y. ¬ (y ≡ n)) xs
         → ((ys : List ℕ) → Distinct ys → All (λ y. y < n) ys → length ys ≡ n → product_over M ys g ≡ product_below M n g)

@@ -1,10 +1,10 @@
 -- Lists of rows with the same entries have the same forms and row spaces.
 use Rattle.std.proofs.Common.{◌≡◌, ℕ, suc, ◌<◌, ◌≤◌, List, [], ◌∷◌, length, sym, ◌∙◌, ap₂, subst, refl, arith}
-use Rattle.ff_ring.specs.Ring.{Operations, CommRing}
+use Rattle.ring_theory.specs.Ring.{Operations, CommRing}
 use Rattle.linear_theory.specs.Module.{combine, sequence_ops}
 use Rattle.linear_theory.specs.Echelon.{row, InRowSpace, SameRowSpace, IsReduced}
 
--- zeros and ones of a list of rows over one ring at the same places as in one over another
+-- zeros and ones of a list of rows over one ring at the same positions as in one over another
 module _ {A B : Type 0} (R : Operations A) (S : Operations B) (width : ℕ) (rows : List (ℕ → A)) (rows' : List (ℕ → B))
     (count : length rows' ≡ length rows)
     (zero_at : (i j : ℕ) → i < length rows → j < width → row R rows i j ≡ R.𝟘 → row S rows' i j ≡ S.𝟘)

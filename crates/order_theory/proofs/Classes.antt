@@ -1,10 +1,10 @@
 -- A ring O modulo p, on a set of representatives: given which representative a member of O has, the representatives are a ring.
 use Rattle.std.proofs.Common.{◌≡◌, [], ◌∷◌, refl, sym, ◌∙◌, ap, subst}
-use Rattle.ff_ring.specs.Ring.{Operations, CommRing}
-use Rattle.ff_ring.specs.Subsets.{IsSubring}
-use Rattle.ff_ring.proofs.Solver.{ring, reads}
-use Rattle.local_theory.specs.Ideals.{IsIdeal, Multiple}
-use Rattle.local_theory.proofs.PohstZassenhaus.{multiples_ideal}
+use Rattle.ring_theory.specs.Ring.{Operations, CommRing}
+use Rattle.ring_theory.specs.Subsets.{IsSubring}
+use Rattle.ring_theory.proofs.Solver.{ring, reads}
+use Rattle.prime_theory.specs.Ideals.{IsIdeal, Multiple}
+use Rattle.prime_theory.proofs.PohstZassenhaus.{multiples_ideal}
 use Rattle.places_theory.specs.Reductions.{IsReduction}
 
 -- `reduce` gives the representative of a member of O, two members having the same where they differ by a multiple of p

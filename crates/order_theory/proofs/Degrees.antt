@@ -1,20 +1,20 @@
 -- The degree of a finite place is its index in the integral functions.
 use Rattle.std.proofs.Common.{◌≡◌, All, ℕ, zero, suc, ◌<◌, ◌≤◌, List, [], ◌∷◌, length, refl, sym, ◌∙◌, ap, ap₂, subst, arith}
 use Rattle.std.proofs.lemmas.List.Elements.{All-nil, All-cons, All-head, All-tail}
-use Rattle.ff_ring.specs.Lists.{coeff_of}
-use Rattle.ff_ring.specs.Subsets.{Span}
-use Rattle.ff_ring.proofs.Solver.{ring, reads, from_one}
-use Rattle.ff_ring.proofs.Evaluate.{constant, length_trim}
-use Rattle.ff_ring.proofs.Lists.{coeff_trim}
-use Rattle.ff_ring.proofs.Polynomials.{same_pol, coeff_past}
+use Rattle.ring_theory.specs.Lists.{coeff_of}
+use Rattle.ring_theory.specs.Subsets.{Span}
+use Rattle.ring_theory.proofs.Solver.{ring, reads, from_one}
+use Rattle.ring_theory.proofs.Evaluate.{constant, length_trim}
+use Rattle.ring_theory.proofs.Lists.{coeff_trim}
+use Rattle.ring_theory.proofs.Polynomials.{same_pol, coeff_past}
 use Rattle.linear_theory.specs.Module.{combine}
 use Rattle.ff_fields.specs.Field.{CodeField}
 use Rattle.ff_fields.specs.Code.{Code, code_ring}
 use Rattle.ff_poly.specs.Polynomials.{Polynomial}
-use Rattle.ff_algebra.specs.Spans.{combination}
-use Rattle.ff_algebra.specs.Places.{IsIn}
-use Rattle.ff_algebra.specs.Divisors.{HasDegree}
-use Rattle.ff_algebra.specs.Functions.{Equation, FunctionOf, ring_of, of_poly, IsCode, setting_of}
+use Rattle.function_field.specs.Spans.{combination}
+use Rattle.function_field.specs.Places.{IsIn}
+use Rattle.function_field.specs.Divisors.{HasDegree}
+use Rattle.function_field.specs.Functions.{Equation, FunctionOf, ring_of, of_poly, IsCode, setting_of}
 use Rattle.lattice_theory.specs.Lattices.{HasIndex, space_ops}
 use Rattle.lattice_theory.proofs.Indices.{code_of, code_hom}
 use Rattle.order_theory.proofs.FinitePlaces.{Int, finite}

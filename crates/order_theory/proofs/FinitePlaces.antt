@@ -1,21 +1,21 @@
 -- Finite places: each has a polynomial other than 0, so it is a lattice, and a prime of the ring of integral functions.
 use Rattle.std.proofs.Common.{◌≡◌, ◌⊎◌, inl, inr, ℕ, zero, suc, ◌≤◌, List, [], ◌∷◌, length, refl, sym, ◌∙◌, ap, ap₂, subst, arith}
-use Rattle.ff_ring.specs.Subsets.{IsModule}
-use Rattle.ff_ring.proofs.Integral.{Low}
-use Rattle.ff_ring.proofs.Ring.{one_mul, mul_zero, neg_mul, product_not_zero}
-use Rattle.ff_ring.proofs.Solver.{ring, reads, from_one}
-use Rattle.ff_ring.proofs.Polynomials.{pol_ops}
-use Rattle.ff_ring.proofs.Evaluate.{length_trim}
-use Rattle.ff_ring.proofs.Subsets.{span_module}
-use Rattle.local_theory.specs.Primes.{IsPrime}
-use Rattle.local_theory.proofs.IntegralRing.{Unit, unit_trick}
+use Rattle.ring_theory.specs.Subsets.{IsModule}
+use Rattle.ring_theory.proofs.Integral.{Low}
+use Rattle.ring_theory.proofs.Ring.{one_mul, mul_zero, neg_mul, product_not_zero}
+use Rattle.ring_theory.proofs.Solver.{ring, reads, from_one}
+use Rattle.ring_theory.proofs.Polynomials.{pol_ops}
+use Rattle.ring_theory.proofs.Evaluate.{length_trim}
+use Rattle.ring_theory.proofs.Subsets.{span_module}
+use Rattle.prime_theory.specs.Primes.{IsPrime}
+use Rattle.prime_theory.proofs.IntegralRing.{Unit, unit_trick}
 use Rattle.ff_fields.specs.Field.{CodeField}
 use Rattle.ff_fields.specs.Code.{code_ring}
 use Rattle.ff_poly.specs.Polynomials.{Polynomial, polynomials, polynomials_domain, polynomial_discrete, x_poly, x_poly_not_zero}
-use Rattle.ff_algebra.specs.declared.elem.Side.TheVariants.{Finite}
-use Rattle.ff_algebra.specs.Places.{Place, IsPlace, IsIn, IsIntegralAt}
-use Rattle.ff_algebra.specs.Functions.{Equation, FunctionOf, ring_of, of_poly, IsPolynomial, setting_of}
-use Rattle.ff_algebra.proofs.ScalarRings.{polynomials_subring, scalars_subring}
+use Rattle.function_field.specs.declared.side.Side.TheVariants.{Finite}
+use Rattle.function_field.specs.Places.{Place, IsPlace, IsIn, IsIntegralAt}
+use Rattle.function_field.specs.Functions.{Equation, FunctionOf, ring_of, of_poly, IsPolynomial, setting_of}
+use Rattle.function_field.proofs.ScalarRings.{polynomials_subring, scalars_subring}
 use Rattle.places_theory.proofs.Sides.{place_ideal}
 use Rattle.places_theory.proofs.YRoot.{poly_hom, den_times, at_y_plain}
 use Rattle.trace_theory.proofs.Division.{product_longer}

@@ -2,17 +2,17 @@
 use Rattle.std.proofs.Common.{◌≡◌, ◌⊎◌, inl, inr, ℕ, zero, suc, ◌<◌, ◌≤◌, List, [], ◌∷◌, ◌++◌, length, map, pos, refl, sym, ◌∙◌, ap, subst, arith}
 use Rattle.std.specs.List.{Any}
 use Rattle.std.proofs.lemmas.List.{length-map}
-use Rattle.local_theory.proofs.Lists.{any_here, any_there, any_cases, any_none}
-use Rattle.ff_ring.specs.Lists.{coeff_of}
-use Rattle.ff_ring.proofs.Ring.{mul_zero, product_not_zero}
-use Rattle.ff_ring.proofs.Evaluate.{constant, constant_hom}
-use Rattle.ff_ring.proofs.Polynomials.{length_product}
+use Rattle.prime_theory.proofs.Lists.{any_here, any_there, any_cases, any_none}
+use Rattle.ring_theory.specs.Lists.{coeff_of}
+use Rattle.ring_theory.proofs.Ring.{mul_zero, product_not_zero}
+use Rattle.ring_theory.proofs.Evaluate.{constant, constant_hom}
+use Rattle.ring_theory.proofs.Polynomials.{length_product}
 use Rattle.ff_fields.specs.Field.{CodeField}
 use Rattle.ff_fields.specs.Code.{code_ring, code_domain}
 use Rattle.ff_poly.specs.Polynomials.{Polynomial, polynomials, polynomials_domain}
-use Rattle.ff_algebra.specs.Places.{Place, IsPlace, IsIn, IsSamePlace, HasValuation}
-use Rattle.ff_algebra.specs.Functions.{Equation, FunctionOf, ring_of, of_poly, setting_of}
-use Rattle.ff_algebra.specs.Discriminant.{discriminant}
+use Rattle.function_field.specs.Places.{Place, IsPlace, IsIn, IsSamePlace, HasValuation}
+use Rattle.function_field.specs.Functions.{Equation, FunctionOf, ring_of, of_poly, setting_of}
+use Rattle.function_field.specs.Discriminant.{discriminant}
 use Rattle.trace_theory.proofs.TracePowers.{some_long}
 use Rattle.trace_theory.proofs.Irreducible.{irreducible_some}
 use Rattle.lattice_theory.specs.Lattices.{HasMultiple}

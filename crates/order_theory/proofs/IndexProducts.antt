@@ -3,22 +3,22 @@
 use Rattle.std.proofs.Common.{◌≡◌, ℕ, zero, suc, ◌+◌, ◌*◌, ◌<◌, List, [], ◌∷◌, map, pos, refl, sym, ◌∙◌, ap, ap₂, subst, arith, suc-mul}
 use Rattle.std.proofs.lemmas.List.{length-map}
 use Rattle.std.proofs.lemmas.List.Elements.{All-map, All-weaker}
-use Rattle.ff_ring.specs.Subsets.{IsModule, Product}
-use Rattle.ff_ring.proofs.Ring.{mul_zero, mul_left_comm}
-use Rattle.ff_ring.proofs.Solver.{ring, reads}
-use Rattle.ff_ring.proofs.Subsets.{product_member, product_module}
-use Rattle.local_theory.specs.Ideals.{Inverse, Invertible, SameSet, Power}
-use Rattle.local_theory.specs.Primes.{IsPrime}
-use Rattle.local_theory.specs.Systems.{IdealPower, IdealProduct}
-use Rattle.local_theory.specs.IntegerValues.{entry}
-use Rattle.local_theory.proofs.Products.{product_into, product_monotone, product_swap, product_assoc, product_assoc_back, product_one, own_module, power_module, additive_of_module}
-use Rattle.local_theory.proofs.Invertible.{inverse_of_product, invertible_product}
-use Rattle.local_theory.proofs.Residues.{Generator, generator, generated, generator_free}
+use Rattle.ring_theory.specs.Subsets.{IsModule, Product}
+use Rattle.ring_theory.proofs.Ring.{mul_zero, mul_left_comm}
+use Rattle.ring_theory.proofs.Solver.{ring, reads}
+use Rattle.ring_theory.proofs.Subsets.{product_member, product_module}
+use Rattle.prime_theory.specs.Ideals.{Inverse, Invertible, SameSet, Power}
+use Rattle.prime_theory.specs.Primes.{IsPrime}
+use Rattle.prime_theory.specs.Systems.{IdealPower, IdealProduct}
+use Rattle.prime_theory.specs.IntegerValues.{entry}
+use Rattle.prime_theory.proofs.Products.{product_into, product_monotone, product_swap, product_assoc, product_assoc_back, product_one, own_module, power_module, additive_of_module}
+use Rattle.prime_theory.proofs.Invertible.{inverse_of_product, invertible_product}
+use Rattle.prime_theory.proofs.Residues.{Generator, generator, generated, generator_free}
 use Rattle.linear_theory.specs.Module.{combine}
 use Rattle.linear_theory.proofs.Bases.{combine_in}
 use Rattle.ff_fields.specs.Field.{CodeField}
 use Rattle.ff_fields.specs.Code.{Code}
-use Rattle.ff_algebra.specs.Functions.{Equation, FunctionOf, ring_of}
+use Rattle.function_field.specs.Functions.{Equation, FunctionOf, ring_of}
 use Rattle.lattice_theory.specs.Lattices.{IsLattice, HasIndex, space_ops}
 use Rattle.order_theory.specs.Orders.{IsOrder}
 use Rattle.lattice_theory.proofs.Indices.{codes, space, lattice_subspace, index_add, index_none}

@@ -1,20 +1,20 @@
 -- Each infinite place where it is decided whether t = 1/x is a member has t.
 use Rattle.std.proofs.Common.{◌≡◌, ◌⊎◌, inl, inr, ℕ, zero, suc, ◌<◌, ◌≤◌, ◌-◌, List, [], ◌∷◌, length, refl, sym, ◌∙◌, ap, subst, arith}
-use Rattle.ff_ring.specs.Subsets.{IsSubring, IsModule}
-use Rattle.ff_ring.proofs.Integral.{Low}
-use Rattle.ff_ring.proofs.Ring.{one_mul, neg_mul}
-use Rattle.ff_ring.proofs.Solver.{ring, reads, from_two}
-use Rattle.ff_ring.proofs.Subsets.{span_module}
-use Rattle.ff_ring.proofs.Division.{length_add, length_neg}
-use Rattle.local_theory.proofs.IntegralRing.{unit_trick, integral_ring, integral_base}
+use Rattle.ring_theory.specs.Subsets.{IsSubring, IsModule}
+use Rattle.ring_theory.proofs.Integral.{Low}
+use Rattle.ring_theory.proofs.Ring.{one_mul, neg_mul}
+use Rattle.ring_theory.proofs.Solver.{ring, reads, from_two}
+use Rattle.ring_theory.proofs.Subsets.{span_module}
+use Rattle.ring_theory.proofs.Division.{length_add, length_neg}
+use Rattle.prime_theory.proofs.IntegralRing.{unit_trick, integral_ring, integral_base}
 use Rattle.ff_fields.specs.Field.{CodeField}
 use Rattle.ff_fields.specs.Code.{code_ring, code_domain}
-use Rattle.ff_ring.proofs.Polynomials.{length_product}
+use Rattle.ring_theory.proofs.Polynomials.{length_product}
 use Rattle.ff_poly.specs.Polynomials.{Polynomial, polynomials, x_poly, x_poly_not_zero}
-use Rattle.ff_algebra.specs.declared.elem.Side.TheVariants.{Infinite}
-use Rattle.ff_algebra.specs.Places.{Place, IsPlace, IsIn, IsIntegralAt}
-use Rattle.ff_algebra.specs.Functions.{Equation, FunctionOf, ring_of, of_poly, row_of, over, IsFiniteAtInfinity, setting_of}
-use Rattle.ff_algebra.proofs.ScalarRings.{finite_at_infinity_subring, of_poly_one}
+use Rattle.function_field.specs.declared.side.Side.TheVariants.{Infinite}
+use Rattle.function_field.specs.Places.{Place, IsPlace, IsIn, IsIntegralAt}
+use Rattle.function_field.specs.Functions.{Equation, FunctionOf, ring_of, of_poly, row_of, over, IsFiniteAtInfinity, setting_of}
+use Rattle.function_field.proofs.ScalarRings.{finite_at_infinity_subring, of_poly_one}
 use Rattle.places_theory.proofs.YRoot.{poly_hom, over_times_den}
 use Rattle.trace_theory.proofs.TracePowers.{zero_length}
 use Rattle.order_theory.proofs.FinitePlaces.{one_short, x_long}

@@ -2,21 +2,21 @@
 -- by a chain of lattices, and they lie between k[x][y] and its multiple by 1/discriminant.
 use Rattle.std.proofs.Common.{◌≡◌, All, ℕ, zero, suc, ◌<◌, List, ◌++◌, map, refl, sym, ◌∙◌, ap, subst, arith}
 use Rattle.std.proofs.lemmas.List.Elements.{All-append, All-weaker, All-map}
-use Rattle.ff_ring.specs.Subsets.{IsSubring, IsModule, Span}
-use Rattle.ff_ring.specs.Ring.{pow}
-use Rattle.ff_ring.specs.Rows.{Row, entry}
-use Rattle.ff_ring.proofs.Ring.{one_mul}
-use Rattle.ff_ring.proofs.RowMaps.{eval_none, eval_cons}
-use Rattle.ff_ring.proofs.Subsets.{span_least, span_members, span_append_left, span_append_right, span_multiples}
-use Rattle.local_theory.specs.Ideals.{Multiple}
-use Rattle.local_theory.proofs.IntegralRing.{integral_ring, integral_base, integral_of_stable}
+use Rattle.ring_theory.specs.Subsets.{IsSubring, IsModule, Span}
+use Rattle.ring_theory.specs.Ring.{pow}
+use Rattle.ring_theory.specs.Rows.{Row, entry}
+use Rattle.ring_theory.proofs.Ring.{one_mul}
+use Rattle.ring_theory.proofs.RowMaps.{eval_none, eval_cons}
+use Rattle.ring_theory.proofs.Subsets.{span_least, span_members, span_append_left, span_append_right, span_multiples}
+use Rattle.prime_theory.specs.Ideals.{Multiple}
+use Rattle.prime_theory.proofs.IntegralRing.{integral_ring, integral_base, integral_of_stable}
 use Rattle.ff_fields.specs.Field.{CodeField}
 use Rattle.ff_poly.specs.Polynomials.{Polynomial, polynomials}
-use Rattle.ff_algebra.specs.declared.elem.Side.TheVariants.{Finite}
-use Rattle.ff_algebra.specs.Places.{IsIntegralAt}
-use Rattle.ff_algebra.specs.Functions.{Equation, FunctionOf, ring_of, of_poly, row_of, y_of, IsPolynomial, setting_of}
-use Rattle.ff_algebra.specs.Discriminant.{discriminant}
-use Rattle.ff_algebra.proofs.ScalarRings.{polynomials_subring, of_poly_one}
+use Rattle.function_field.specs.declared.side.Side.TheVariants.{Finite}
+use Rattle.function_field.specs.Places.{IsIntegralAt}
+use Rattle.function_field.specs.Functions.{Equation, FunctionOf, ring_of, of_poly, row_of, y_of, IsPolynomial, setting_of}
+use Rattle.function_field.specs.Discriminant.{discriminant}
+use Rattle.function_field.proofs.ScalarRings.{polynomials_subring, of_poly_one}
 use Rattle.places_theory.proofs.SamePlaces.{decide_all}
 use Rattle.places_theory.proofs.YRoot.{poly_hom, at_y, at_y_plain, y_root}
 use Rattle.trace_theory.specs.Traces.{HasPolynomialCoordinates}

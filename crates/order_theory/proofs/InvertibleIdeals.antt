@@ -2,22 +2,22 @@
 use Rattle.std.proofs.Common.{◌≡◌, All, ◌⊎◌, inl, inr, ℕ, zero, suc, ◌<◌, ◌≤◌, List, [], ◌∷◌, length, refl, sym, ◌∙◌, ap, subst, arith}
 use Rattle.std.proofs.lemmas.List.{length-map}
 use Rattle.std.proofs.lemmas.List.Elements.{All-nil, All-cons, All-head, All-tail, All-weaker}
-use Rattle.ff_ring.specs.Ring.{CommRing, pow}
-use Rattle.ff_ring.specs.Sums.{sum_over}
-use Rattle.ff_ring.specs.Subsets.{IsSubring, IsModule, Product}
-use Rattle.ff_ring.proofs.Ring.{mul_pow, mul_zero, zero_add}
-use Rattle.ff_ring.proofs.Local.{power_in}
-use Rattle.ff_ring.proofs.Solver.{ring, reads, from_one}
-use Rattle.ff_ring.proofs.Polynomials.{length_product}
-use Rattle.ff_ring.specs.Lists.{coeff_of}
-use Rattle.ff_ring.proofs.Evaluate.{constant, constant_hom}
+use Rattle.ring_theory.specs.Ring.{CommRing, pow}
+use Rattle.ring_theory.specs.Sums.{sum_over}
+use Rattle.ring_theory.specs.Subsets.{IsSubring, IsModule, Product}
+use Rattle.ring_theory.proofs.Ring.{mul_pow, mul_zero, zero_add}
+use Rattle.ring_theory.proofs.Local.{power_in}
+use Rattle.ring_theory.proofs.Solver.{ring, reads, from_one}
+use Rattle.ring_theory.proofs.Polynomials.{length_product}
+use Rattle.ring_theory.specs.Lists.{coeff_of}
+use Rattle.ring_theory.proofs.Evaluate.{constant, constant_hom}
 use Rattle.order_theory.proofs.Degrees.{constant_of}
-use Rattle.local_theory.specs.Ideals.{IsIdeal, Inverse, Invertible, Multiple}
-use Rattle.local_theory.specs.Orders.{MaximalAt, Radical}
-use Rattle.local_theory.specs.Systems.{IsDecomposition, UnitModulo}
-use Rattle.local_theory.proofs.Primes.{ideal_neg}
-use Rattle.local_theory.proofs.PohstZassenhaus.{multiples_ideal}
-use Rattle.local_theory.proofs.Invertible.{Obstruction, obstruction, unit_at, trace_at, trace_of_local, trace_ideal}
+use Rattle.prime_theory.specs.Ideals.{IsIdeal, Inverse, Invertible, Multiple}
+use Rattle.prime_theory.specs.Orders.{MaximalAt, Radical}
+use Rattle.prime_theory.specs.Systems.{IsDecomposition, UnitModulo}
+use Rattle.prime_theory.proofs.Primes.{ideal_neg}
+use Rattle.prime_theory.proofs.PohstZassenhaus.{multiples_ideal}
+use Rattle.prime_theory.proofs.Invertible.{Obstruction, obstruction, unit_at, trace_at, trace_of_local, trace_ideal}
 use Rattle.linear_theory.specs.Basis.{IsSum}
 use Rattle.linear_theory.specs.Euclidean.{IsDivisor}
 use Rattle.linear_theory.proofs.Euclid.{decide_divisor}
@@ -27,9 +27,9 @@ use Rattle.ff_poly.specs.Words.{IsIrreducible}
 use Rattle.ff_poly.specs.Value.{value, value_product, numbers_value}
 use Rattle.ff_poly.proofs.Parts.{IsMonic_from_top}
 use Rattle.ff_poly.specs.Polynomials.{Polynomial, polynomials, polynomial_discrete, codes_of, value_codes_of}
-use Rattle.ff_algebra.specs.declared.elem.Side.TheVariants.{Finite}
-use Rattle.ff_algebra.specs.Places.{IsIntegralAt}
-use Rattle.ff_algebra.specs.Functions.{Equation, FunctionOf, ring_of, of_poly, IsPolynomial, setting_of}
+use Rattle.function_field.specs.declared.side.Side.TheVariants.{Finite}
+use Rattle.function_field.specs.Places.{IsIntegralAt}
+use Rattle.function_field.specs.Functions.{Equation, FunctionOf, ring_of, of_poly, IsPolynomial, setting_of}
 use Rattle.places_theory.proofs.YRoot.{poly_hom}
 use Rattle.trace_theory.proofs.TracePowers.{some_long, zero_length}
 use Rattle.trace_theory.proofs.Division.{euclidean}

@@ -1,12 +1,12 @@
 -- Each finite place lies over an irreducible polynomial, and over one only.
 use Rattle.std.proofs.Common.{◌+◌, ◌≡◌, ◌⊎◌, inl, inr, ℕ, zero, suc, ◌<◌, ◌≤◌, List, [], ◌∷◌, ◌++◌, length, get_or, refl, sym, ◌∙◌, ap, subst, arith}
 use Rattle.std.proofs.lemmas.List.{length-map}
-use Rattle.ff_ring.specs.Lists.{coeff_of, IsTrimmed}
-use Rattle.ff_ring.specs.Subsets.{IsModule}
-use Rattle.ff_ring.proofs.Ring.{one_mul, zero_mul, mul_zero}
-use Rattle.ff_ring.proofs.Solver.{ring, reads}
-use Rattle.ff_ring.proofs.Evaluate.{constant, constant_hom}
-use Rattle.ff_ring.proofs.Polynomials.{length_product}
+use Rattle.ring_theory.specs.Lists.{coeff_of, IsTrimmed}
+use Rattle.ring_theory.specs.Subsets.{IsModule}
+use Rattle.ring_theory.proofs.Ring.{one_mul, zero_mul, mul_zero}
+use Rattle.ring_theory.proofs.Solver.{ring, reads}
+use Rattle.ring_theory.proofs.Evaluate.{constant, constant_hom}
+use Rattle.ring_theory.proofs.Polynomials.{length_product}
 use Rattle.linear_theory.specs.Euclidean.{IsDivisor}
 use Rattle.linear_theory.proofs.Euclid.{bezout}
 use Rattle.ff_fields.specs.Field.{CodeField}
@@ -16,10 +16,10 @@ use Rattle.ff_poly.specs.Words.{IsIrreducible, IsMonic, IsPoly}
 use Rattle.ff_poly.specs.Value.{value, value_product, numbers_value}
 use Rattle.ff_poly.proofs.Parts.{top_of_monic, IsMonic_from_top}
 use Rattle.ff_poly.specs.Polynomials.{Polynomial, polynomials, polynomial_discrete, codes_of, value_codes_of}
-use Rattle.ff_algebra.specs.declared.elem.Side.TheVariants.{Finite}
-use Rattle.ff_algebra.proofs.ScalarRings.{polynomials_subring}
-use Rattle.ff_algebra.specs.Places.{IsPlace, IsIn, IsIntegralAt}
-use Rattle.ff_algebra.specs.Functions.{Equation, FunctionOf, ring_of, of_poly, IsPolynomial, setting_of}
+use Rattle.function_field.specs.declared.side.Side.TheVariants.{Finite}
+use Rattle.function_field.proofs.ScalarRings.{polynomials_subring}
+use Rattle.function_field.specs.Places.{IsPlace, IsIn, IsIntegralAt}
+use Rattle.function_field.specs.Functions.{Equation, FunctionOf, ring_of, of_poly, IsPolynomial, setting_of}
 use Rattle.places_theory.proofs.YRoot.{poly_hom}
 use Rattle.trace_theory.proofs.TracePowers.{some_long}
 use Rattle.trace_theory.proofs.Division.{euclidean}

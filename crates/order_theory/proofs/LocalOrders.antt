@@ -1,25 +1,25 @@
 -- Lattices and orders at an irreducible polynomial p: what is prime to p, denominators, and the order of all integral functions that powers
 -- of p take into a given one.
 use Rattle.std.proofs.Common.{◌≡◌, ℕ, zero, suc, ◌+◌, inl, inr, refl, sym, ◌∙◌, ap, ap₂, subst, arith, ◌↔◌}
-use Rattle.ff_ring.specs.Ring.{pow}
-use Rattle.ff_ring.specs.Subsets.{IsSubring, IsModule}
-use Rattle.ff_ring.specs.Local.{PrimeTo, Locally}
-use Rattle.ff_ring.proofs.Ring.{pow_add, mul_zero, mul_neg, mul_mul, one_mul}
-use Rattle.ff_ring.proofs.Local.{two_denominators}
-use Rattle.local_theory.specs.Orders.{MaximalAt, Denominator}
-use Rattle.local_theory.proofs.Enlarge.{Enlarged}
-use Rattle.local_theory.proofs.IntegralRing.{integral_of_order, integral_of_stable}
-use Rattle.local_theory.proofs.Maximal.{maximal_iff_locally}
+use Rattle.ring_theory.specs.Ring.{pow}
+use Rattle.ring_theory.specs.Subsets.{IsSubring, IsModule}
+use Rattle.ring_theory.specs.Local.{PrimeTo, Locally}
+use Rattle.ring_theory.proofs.Ring.{pow_add, mul_zero, mul_neg, mul_mul, one_mul}
+use Rattle.ring_theory.proofs.Local.{two_denominators}
+use Rattle.prime_theory.specs.Orders.{MaximalAt, Denominator}
+use Rattle.prime_theory.proofs.Enlarge.{Enlarged}
+use Rattle.prime_theory.proofs.IntegralRing.{integral_of_order, integral_of_stable}
+use Rattle.prime_theory.proofs.Maximal.{maximal_iff_locally}
 use Rattle.linear_theory.specs.Euclidean.{IsDivisor}
 use Rattle.linear_theory.proofs.Euclid.{bezout, order_at}
 use Rattle.ff_fields.specs.Field.{CodeField}
 use Rattle.ff_poly.specs.Words.{IsIrreducible}
 use Rattle.ff_poly.specs.Polynomials.{Polynomial, polynomials, codes_of}
-use Rattle.ff_algebra.specs.declared.elem.Side.TheVariants.{Finite}
-use Rattle.ff_algebra.specs.Places.{IsIntegralAt}
-use Rattle.ff_algebra.specs.Functions.{Equation, FunctionOf, ring_of, of_poly, IsPolynomial, setting_of}
-use Rattle.ff_algebra.specs.Discriminant.{discriminant}
-use Rattle.ff_algebra.proofs.ScalarRings.{polynomials_subring, of_poly_one}
+use Rattle.function_field.specs.declared.side.Side.TheVariants.{Finite}
+use Rattle.function_field.specs.Places.{IsIntegralAt}
+use Rattle.function_field.specs.Functions.{Equation, FunctionOf, ring_of, of_poly, IsPolynomial, setting_of}
+use Rattle.function_field.specs.Discriminant.{discriminant}
+use Rattle.function_field.proofs.ScalarRings.{polynomials_subring, of_poly_one}
 use Rattle.places_theory.proofs.YRoot.{poly_hom}
 use Rattle.trace_theory.proofs.Division.{euclidean}
 use Rattle.trace_theory.proofs.Irreducible.{irreducible, prime}

@@ -4,21 +4,21 @@ use Rattle.std.specs.Prelude.{ℤ}
 use Rattle.std.specs.List.{Any, AllPairs}
 use Rattle.std.proofs.lemmas.List.Kept.{AllPairs-cons}
 use Rattle.std.proofs.lemmas.List.Elements.{All-map, All-weaker}
-use Rattle.ff_ring.proofs.Ring.{one_mul}
-use Rattle.local_theory.specs.Ideals.{SameSet}
-use Rattle.local_theory.specs.Primes.{Different, Pair, Outside}
-use Rattle.local_theory.specs.IntegerValues.{ValueIs}
-use Rattle.local_theory.specs.Orders.{MaximalAt}
-use Rattle.local_theory.proofs.Lists.{pairs_head, pairs_tail, any_here, any_there, any_cases, any_none}
+use Rattle.ring_theory.proofs.Ring.{one_mul}
+use Rattle.prime_theory.specs.Ideals.{SameSet}
+use Rattle.prime_theory.specs.Primes.{Different, Pair, Outside}
+use Rattle.prime_theory.specs.IntegerValues.{ValueIs}
+use Rattle.prime_theory.specs.Orders.{MaximalAt}
+use Rattle.prime_theory.proofs.Lists.{pairs_head, pairs_tail, any_here, any_there, any_cases, any_none}
 use Rattle.ff_fields.specs.Field.{CodeField}
 use Rattle.ff_poly.specs.Words.{IsIrreducible}
 use Rattle.ff_poly.specs.Polynomials.{Polynomial, polynomials, codes_of}
-use Rattle.ff_algebra.specs.declared.elem.Side.{Side}
-use Rattle.ff_algebra.specs.declared.elem.Side.TheVariants.{Finite, Infinite}
-use Rattle.ff_algebra.specs.Places.{IsPlace, IsIn, IsSamePlace, HasValuation}
-use Rattle.ff_algebra.specs.Functions.{Equation, FunctionOf, ring_of, of_poly, IsPolynomial, degree_of_y, setting_of}
-use Rattle.ff_algebra.specs.Discriminant.{discriminant}
-use Rattle.ff_algebra.proofs.ScalarRings.{polynomials_subring, scalars_subring}
+use Rattle.function_field.specs.declared.side.Side.{Side}
+use Rattle.function_field.specs.declared.side.Side.TheVariants.{Finite, Infinite}
+use Rattle.function_field.specs.Places.{IsPlace, IsIn, IsSamePlace, HasValuation}
+use Rattle.function_field.specs.Functions.{Equation, FunctionOf, ring_of, of_poly, IsPolynomial, degree_of_y, setting_of}
+use Rattle.function_field.specs.Discriminant.{discriminant}
+use Rattle.function_field.proofs.ScalarRings.{polynomials_subring, scalars_subring}
 use Rattle.places_theory.specs.Orders.{IsOrderAt, InPrime}
 use Rattle.places_theory.proofs.PlaceValues.{valuation_iff}
 use Rattle.order_theory.specs.Orders.{IsPrimeTo}

@@ -1,16 +1,16 @@
 -- The finite places over an irreducible polynomial: all of them, each once, with the fundamental equality.
 use Rattle.std.proofs.Common.{◌≡◌, List, refl, ap, subst}
 use Rattle.std.specs.List.{Any}
-use Rattle.local_theory.specs.Ideals.{SameSet}
-use Rattle.local_theory.specs.Orders.{MaximalAt}
-use Rattle.local_theory.specs.Primes.{Different}
-use Rattle.local_theory.proofs.Compare.{prime_in_system}
+use Rattle.prime_theory.specs.Ideals.{SameSet}
+use Rattle.prime_theory.specs.Orders.{MaximalAt}
+use Rattle.prime_theory.specs.Primes.{Different}
+use Rattle.prime_theory.proofs.Compare.{prime_in_system}
 use Rattle.ff_fields.specs.Field.{CodeField}
 use Rattle.ff_poly.specs.Words.{IsIrreducible}
 use Rattle.ff_poly.specs.Polynomials.{Polynomial, polynomials, codes_of}
-use Rattle.ff_algebra.specs.Places.{IsPlace, IsIn, IsSamePlace}
-use Rattle.ff_algebra.specs.Functions.{Equation, FunctionOf, ring_of, of_poly, setting_of}
-use Rattle.ff_algebra.specs.Discriminant.{discriminant}
+use Rattle.function_field.specs.Places.{IsPlace, IsIn, IsSamePlace}
+use Rattle.function_field.specs.Functions.{Equation, FunctionOf, ring_of, of_poly, setting_of}
+use Rattle.function_field.specs.Discriminant.{discriminant}
 use Rattle.order_theory.specs.Orders.{IsOrder}
 use Rattle.order_theory.proofs.IntegralLattice.{integral_lattice, integral_subring}
 use Rattle.order_theory.proofs.FinitePlaces.{Int, finite, place_lattice, place_prime}

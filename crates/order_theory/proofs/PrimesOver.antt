@@ -2,17 +2,17 @@
 use Rattle.std.proofs.Common.{◌≡◌, arith, All, ◌⊎◌, inl, inr, ℕ, suc, List, [], ◌∷◌, map, refl, sym, ◌∙◌, ap, subst}
 use Rattle.std.proofs.lemmas.List.Elements.{All-nil, All-cons, All-head, All-tail}
 use Rattle.std.proofs.lemmas.List.Kept.{AllPairs-cons}
-use Rattle.ff_ring.specs.Ring.{CommRing}
-use Rattle.ff_ring.specs.Subsets.{Colon, Span, Product}
-use Rattle.ff_ring.proofs.RowMaps.{IsHom}
-use Rattle.local_theory.specs.Ideals.{Inverse, Invertible, SameSet, IsIdeal}
-use Rattle.local_theory.specs.Primes.{Different, IsPrime}
-use Rattle.local_theory.specs.Orders.{MaximalAt}
-use Rattle.local_theory.specs.Systems.{Distinct, TraceGenerators, IsDecomposition, IsSystem, IsFamily, PrimeAt, Generators}
-use Rattle.local_theory.proofs.Idempotents.{idempotent_prime}
-use Rattle.local_theory.proofs.IdempotentFamily.{idempotent_family, idempotent_invertible}
-use Rattle.local_theory.proofs.Scalars.{span_wider}
-use Rattle.local_theory.proofs.Radicals.{p_in_radical}
+use Rattle.ring_theory.specs.Ring.{CommRing}
+use Rattle.ring_theory.specs.Subsets.{Colon, Span, Product}
+use Rattle.ring_theory.proofs.RowMaps.{IsHom}
+use Rattle.prime_theory.specs.Ideals.{Inverse, Invertible, SameSet, IsIdeal}
+use Rattle.prime_theory.specs.Primes.{Different, IsPrime}
+use Rattle.prime_theory.specs.Orders.{MaximalAt}
+use Rattle.prime_theory.specs.Systems.{Distinct, TraceGenerators, IsDecomposition, IsSystem, IsFamily, PrimeAt, Generators}
+use Rattle.prime_theory.proofs.Idempotents.{idempotent_prime}
+use Rattle.prime_theory.proofs.IdempotentFamily.{idempotent_family, idempotent_invertible}
+use Rattle.prime_theory.proofs.Scalars.{span_wider}
+use Rattle.prime_theory.proofs.Radicals.{p_in_radical}
 use Rattle.trace_theory.proofs.Irreducible.{irreducible_some}
 use Rattle.linear_theory.specs.Module.{combine}
 use Rattle.linear_theory.proofs.Bases.{combine_in}
@@ -23,9 +23,9 @@ use Rattle.ff_fields.specs.Field.{CodeField}
 use Rattle.ff_fields.specs.Code.{Code, code_ring}
 use Rattle.ff_poly.specs.Words.{IsIrreducible}
 use Rattle.ff_poly.specs.Polynomials.{Polynomial, codes_of}
-use Rattle.ff_algebra.specs.declared.elem.Side.TheVariants.{Finite}
-use Rattle.ff_algebra.specs.Places.{IsIntegralAt}
-use Rattle.ff_algebra.specs.Functions.{Equation, FunctionOf, ring_of, of_poly, IsPolynomial, setting_of}
+use Rattle.function_field.specs.declared.side.Side.TheVariants.{Finite}
+use Rattle.function_field.specs.Places.{IsIntegralAt}
+use Rattle.function_field.specs.Functions.{Equation, FunctionOf, ring_of, of_poly, IsPolynomial, setting_of}
 use Rattle.places_theory.proofs.CodeFields.{code_finite}
 use Rattle.places_theory.proofs.Decomposition.{prime_system}
 use Rattle.places_theory.specs.Reductions.{IsReduction, Primitive}

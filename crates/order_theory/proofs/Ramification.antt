@@ -1,16 +1,16 @@
 -- The fundamental equality: the sum of e times the index over the primes over p is n times the degree of p.
 use Rattle.std.proofs.Common.{◌≡◌, ℕ, ◌*◌, ◌-◌, length, map, pos, ◌∙◌}
-use Rattle.local_theory.specs.Ideals.{SameSet, Multiple}
-use Rattle.local_theory.specs.Orders.{MaximalAt}
-use Rattle.local_theory.specs.Systems.{IsFamily, IdealProduct}
-use Rattle.local_theory.specs.IntegerValues.{ValueIs, entry}
-use Rattle.local_theory.proofs.IntegerFactors.{ramification_of}
+use Rattle.prime_theory.specs.Ideals.{SameSet, Multiple}
+use Rattle.prime_theory.specs.Orders.{MaximalAt}
+use Rattle.prime_theory.specs.Systems.{IsFamily, IdealProduct}
+use Rattle.prime_theory.specs.IntegerValues.{ValueIs, entry}
+use Rattle.prime_theory.proofs.IntegerFactors.{ramification_of}
 use Rattle.ff_fields.specs.Field.{CodeField}
 use Rattle.ff_poly.specs.Words.{IsIrreducible}
 use Rattle.ff_poly.specs.Polynomials.{Polynomial, codes_of}
-use Rattle.ff_algebra.specs.declared.elem.Side.TheVariants.{Finite}
-use Rattle.ff_algebra.specs.Places.{IsIntegralAt}
-use Rattle.ff_algebra.specs.Functions.{Equation, FunctionOf, ring_of, of_poly, degree_of_y, setting_of}
+use Rattle.function_field.specs.declared.side.Side.TheVariants.{Finite}
+use Rattle.function_field.specs.Places.{IsIntegralAt}
+use Rattle.function_field.specs.Functions.{Equation, FunctionOf, ring_of, of_poly, degree_of_y, setting_of}
 use Rattle.trace_theory.proofs.Irreducible.{irreducible_some}
 use Rattle.lattice_theory.specs.Lattices.{HasIndex}
 use Rattle.order_theory.specs.Orders.{IsOrder}

@@ -1,14 +1,14 @@
 -- An order modulo an irreducible polynomial p is a finite algebra over k: the coordinates in a basis modulo p stand for the classes.
 use Rattle.std.proofs.Common.{◌≡◌, ℕ, zero, suc, ◌<◌, ◌≤◌, ◌*◌, ◌-◌, List, [], ◌∷◌, length, refl, sym, ◌∙◌, ap, subst, arith}
-use Rattle.ff_ring.specs.Ring.{CommRing}
-use Rattle.ff_ring.specs.Rows.{Row, entry}
-use Rattle.ff_ring.specs.Subsets.{IsModule}
-use Rattle.ff_ring.proofs.Ring.{one_mul, mul_neg}
-use Rattle.ff_ring.proofs.Rows.{row_set, pair_path}
-use Rattle.ff_ring.proofs.Solver.{ring, reads, from_one, from_two}
+use Rattle.ring_theory.specs.Ring.{CommRing}
+use Rattle.ring_theory.specs.Rows.{Row, entry}
+use Rattle.ring_theory.specs.Subsets.{IsModule}
+use Rattle.ring_theory.proofs.Ring.{one_mul, mul_neg}
+use Rattle.ring_theory.proofs.Rows.{row_set, pair_path}
+use Rattle.ring_theory.proofs.Solver.{ring, reads, from_one, from_two}
 use Rattle.std.proofs.lemmas.List.{length-map}
 use Rattle.std.proofs.Math.Nat.{mul-le-mul_left}
-use Rattle.local_theory.specs.Ideals.{Multiple}
+use Rattle.prime_theory.specs.Ideals.{Multiple}
 use Rattle.linear_theory.specs.Module.{combine}
 use Rattle.linear_theory.specs.Basis.{IsSubspace, IsCombination}
 use Rattle.linear_theory.proofs.Bases.{combine_in}
@@ -18,7 +18,7 @@ use Rattle.ff_fields.specs.Field.{CodeField}
 use Rattle.ff_fields.specs.Code.{Code, code_ring}
 use Rattle.ff_poly.specs.Words.{IsIrreducible}
 use Rattle.ff_poly.specs.Polynomials.{Polynomial, polynomials, codes_of}
-use Rattle.ff_algebra.specs.Functions.{Equation, FunctionOf, ring_of, of_poly, degree_of_y, IsPolynomial}
+use Rattle.function_field.specs.Functions.{Equation, FunctionOf, ring_of, of_poly, degree_of_y, IsPolynomial}
 use Rattle.places_theory.proofs.CodeFields.{code_finite}
 use Rattle.trace_theory.proofs.RowMatrix.{row_with, entry_with, row_by_entries}
 use Rattle.trace_theory.proofs.Irreducible.{irreducible_some}

@@ -2,26 +2,26 @@
 -- finite place, it is integral.
 use Rattle.std.proofs.Common.{◌≡◌, ◌⊎◌, inl, inr, ℕ, zero, suc, ◌≤◌, List, length, pos, refl, sym, ◌∙◌, ap, subst, arith}
 use Rattle.std.proofs.lemmas.List.{length-map}
-use Rattle.ff_ring.specs.Ring.{pow}
-use Rattle.ff_ring.specs.Local.{Locally}
-use Rattle.ff_ring.specs.Lists.{coeff_of}
-use Rattle.ff_ring.proofs.Local.{power_in}
-use Rattle.ff_ring.proofs.Ring.{one_mul, mul_zero, zero_mul, add_mul}
-use Rattle.ff_ring.proofs.Evaluate.{constant, constant_hom}
-use Rattle.ff_ring.proofs.Polynomials.{length_product}
-use Rattle.local_theory.specs.Ideals.{IsIdeal}
-use Rattle.local_theory.specs.Orders.{Denominator}
-use Rattle.local_theory.specs.Systems.{Escapes}
-use Rattle.local_theory.proofs.Lists.{everywhere}
-use Rattle.local_theory.proofs.Systems.{covering}
-use Rattle.local_theory.proofs.Localisation.{lift}
+use Rattle.ring_theory.specs.Ring.{pow}
+use Rattle.ring_theory.specs.Local.{Locally}
+use Rattle.ring_theory.specs.Lists.{coeff_of}
+use Rattle.ring_theory.proofs.Local.{power_in}
+use Rattle.ring_theory.proofs.Ring.{one_mul, mul_zero, zero_mul, add_mul}
+use Rattle.ring_theory.proofs.Evaluate.{constant, constant_hom}
+use Rattle.ring_theory.proofs.Polynomials.{length_product}
+use Rattle.prime_theory.specs.Ideals.{IsIdeal}
+use Rattle.prime_theory.specs.Orders.{Denominator}
+use Rattle.prime_theory.specs.Systems.{Escapes}
+use Rattle.prime_theory.proofs.Lists.{everywhere}
+use Rattle.prime_theory.proofs.Systems.{covering}
+use Rattle.prime_theory.proofs.Localisation.{lift}
 use Rattle.ff_fields.specs.Field.{CodeField}
 use Rattle.ff_fields.specs.Code.{code_ring, code_domain}
 use Rattle.ff_poly.specs.Words.{IsIrreducible}
 use Rattle.ff_poly.specs.Polynomials.{Polynomial, polynomials, polynomial_discrete, codes_of}
-use Rattle.ff_algebra.specs.Places.{IsPlace, IsIn, HasValuationAtLeast}
-use Rattle.ff_algebra.specs.Functions.{Equation, FunctionOf, ring_of, of_poly, setting_of}
-use Rattle.ff_algebra.specs.Discriminant.{discriminant}
+use Rattle.function_field.specs.Places.{IsPlace, IsIn, HasValuationAtLeast}
+use Rattle.function_field.specs.Functions.{Equation, FunctionOf, ring_of, of_poly, setting_of}
+use Rattle.function_field.specs.Discriminant.{discriminant}
 use Rattle.places_theory.proofs.YRoot.{poly_hom}
 use Rattle.trace_theory.proofs.TracePowers.{some_long}
 use Rattle.trace_theory.proofs.Irreducible.{irreducible_some}

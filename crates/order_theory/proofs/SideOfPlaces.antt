@@ -1,6 +1,6 @@
 -- The theorems on finite places, for places whose side is given by an equation.
 use Rattle.std.proofs.Common.{◌↔◌, ◌⊎◌, refl, ◌≡◌, ℕ, List}
-use Rattle.local_theory.specs.Primes.{IsPrime}
+use Rattle.prime_theory.specs.Primes.{IsPrime}
 use Rattle.ff_fields.specs.Field.{CodeField}
 use Rattle.ff_poly.specs.Words.{IsIrreducible}
 use Rattle.ff_poly.specs.Polynomials.{Polynomial, polynomials, codes_of}
@@ -11,13 +11,13 @@ use Rattle.std.specs.List.{Any}
 use Rattle.order_theory.proofs.FinitelyMany.{finitely_many}
 use Rattle.order_theory.proofs.RegularFunctions.{regular_is_integral}
 use Rattle.order_theory.proofs.Values.{value_exists, value_zero}
-use Rattle.ff_algebra.specs.declared.elem.Side.{Side}
-use Rattle.ff_algebra.specs.declared.elem.Side.TheVariants.{Finite, Infinite}
-use Rattle.ff_algebra.specs.Places.{Place, IsPlace, IsIn, IsSamePlace, LiesOver, HasValuation, HasValuationAtLeast}
-use Rattle.ff_algebra.specs.Divisors.{HasDegree}
-use Rattle.ff_algebra.specs.Functions.{Equation, FunctionOf, ring_of, of_poly, setting_of}
-use Rattle.ff_algebra.specs.Discriminant.{discriminant}
-use Rattle.ff_algebra.proofs.ScalarRings.{scalars_subring}
+use Rattle.function_field.specs.declared.side.Side.{Side}
+use Rattle.function_field.specs.declared.side.Side.TheVariants.{Finite, Infinite}
+use Rattle.function_field.specs.Places.{Place, IsPlace, IsIn, IsSamePlace, LiesOver, HasValuation, HasValuationAtLeast}
+use Rattle.function_field.specs.Divisors.{HasDegree}
+use Rattle.function_field.specs.Functions.{Equation, FunctionOf, ring_of, of_poly, setting_of}
+use Rattle.function_field.specs.Discriminant.{discriminant}
+use Rattle.function_field.proofs.ScalarRings.{scalars_subring}
 use Rattle.places_theory.proofs.SamePlaces.{same_place_decided}
 use Rattle.lattice_theory.specs.Lattices.{IsLattice, HasIndex}
 use Rattle.lattice_theory.proofs.Lattices.{lattice_decided}

@@ -1,16 +1,16 @@
 -- A function with an inverse has a value at each finite place, and the value 0 where its denominators are no members of the place.
 use Rattle.std.proofs.Common.{◌≡◌, List, [], ◌∷◌, pos, refl, sym, ◌∙◌, subst}
 use Rattle.std.specs.Prelude.{ℤ}
-use Rattle.ff_ring.proofs.Ring.{product_not_zero}
-use Rattle.ff_ring.proofs.Solver.{ring, reads, from_one}
-use Rattle.local_theory.specs.Ideals.{SameSet}
-use Rattle.local_theory.proofs.Primes.{outside_product}
+use Rattle.ring_theory.proofs.Ring.{product_not_zero}
+use Rattle.ring_theory.proofs.Solver.{ring, reads, from_one}
+use Rattle.prime_theory.specs.Ideals.{SameSet}
+use Rattle.prime_theory.proofs.Primes.{outside_product}
 use Rattle.ff_fields.specs.Field.{CodeField}
 use Rattle.ff_poly.specs.Polynomials.{polynomials, polynomials_domain}
-use Rattle.ff_algebra.specs.Places.{IsPlace, IsIn, HasValuation}
-use Rattle.ff_algebra.specs.Functions.{Equation, FunctionOf, ring_of, of_poly, IsPolynomial, setting_of}
-use Rattle.ff_algebra.specs.Discriminant.{discriminant}
-use Rattle.ff_algebra.proofs.ScalarRings.{scalars_subring}
+use Rattle.function_field.specs.Places.{IsPlace, IsIn, HasValuation}
+use Rattle.function_field.specs.Functions.{Equation, FunctionOf, ring_of, of_poly, IsPolynomial, setting_of}
+use Rattle.function_field.specs.Discriminant.{discriminant}
+use Rattle.function_field.proofs.ScalarRings.{scalars_subring}
 use Rattle.places_theory.proofs.PlaceValues.{valuation_exists}
 use Rattle.places_theory.proofs.Sides.{place_ideal, in_power_within}
 use Rattle.places_theory.proofs.YRoot.{poly_hom}

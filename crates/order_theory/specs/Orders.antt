@@ -1,13 +1,13 @@
 -- Orders of F: lattices that are rings; and what is prime to a polynomial.
 use Rattle.std.specs.Prelude.{◌≡◌}
-use Rattle.ff_algebra.specs.declared.elem.Side.TheVariants.{Finite}
-use Rattle.ff_algebra.specs.Places.{IsIntegralAt}
-use Rattle.local_theory.proofs.Enlarge.{Enlarged}
-use Rattle.ff_ring.specs.Subsets.{IsSubring}
+use Rattle.function_field.specs.declared.side.Side.TheVariants.{Finite}
+use Rattle.function_field.specs.Places.{IsIntegralAt}
+use Rattle.prime_theory.proofs.Enlarge.{Enlarged}
+use Rattle.ring_theory.specs.Subsets.{IsSubring}
 use Rattle.linear_theory.specs.Euclidean.{IsDivisor}
 use Rattle.ff_fields.specs.Field.{CodeField}
 use Rattle.ff_poly.specs.Polynomials.{Polynomial, polynomials}
-use Rattle.ff_algebra.specs.Functions.{Equation, FunctionOf, ring_of, of_poly, setting_of}
+use Rattle.function_field.specs.Functions.{Equation, FunctionOf, ring_of, of_poly, setting_of}
 use Rattle.lattice_theory.specs.Lattices.{IsLattice}
 
 module _ {k : CodeField} (c : Equation k) where

@@ -1,9 +1,9 @@
 -- The places over a polynomial, with their ramification and degrees (Stichtenoth, section 3.1).
 use Rattle.std.specs.Prelude.{ℕ, ◌+◌, ◌*◌, List, [], ◌∷◌, AllPairs}
 use Rattle.std.specs.List.{Any}
-use Rattle.ff_algebra.specs.Setting.{Setting}
-use Rattle.ff_algebra.specs.Places.{Place, IsPlace, IsSamePlace, LiesOver}
-use Rattle.ff_algebra.specs.Divisors.{HasDegree, HasRamification}
+use Rattle.function_field.specs.Setting.{Setting}
+use Rattle.function_field.specs.Places.{Place, IsPlace, IsSamePlace, LiesOver}
+use Rattle.function_field.specs.Divisors.{HasDegree, HasRamification}
 
 module _ {E : Type 0} (S : Setting E) (p : E) where
   -- a place over p, with its ramification index and its degree

@@ -1,21 +1,21 @@
 -- Polynomials at t = 1/x: a power of x times the value is the reversed polynomial.
 use Rattle.finite_algebra_theory.proofs.ByMap.{map_pow}
-use Rattle.ff_ring.proofs.Ring.{mul_pow, pow_one_base, product_not_zero}
+use Rattle.ring_theory.proofs.Ring.{mul_pow, pow_one_base, product_not_zero}
 use Rattle.std.proofs.Common.{zero, suc, ◌≡◌, ℕ, List, [], ◌∷◌, length, reverse, refl, sym, ◌∙◌, ap}
-use Rattle.ff_ring.specs.Ring.{pow}
-use Rattle.ff_ring.proofs.RowMaps.{IsHom, hom_zero}
-use Rattle.ff_ring.proofs.Evaluate.{constant, constant_hom, evaluate, evaluate_trim, value_of, value_hom, hom_after}
+use Rattle.ring_theory.specs.Ring.{pow}
+use Rattle.ring_theory.proofs.RowMaps.{IsHom, hom_zero}
+use Rattle.ring_theory.proofs.Evaluate.{constant, constant_hom, evaluate, evaluate_trim, value_of, value_hom, hom_after}
 use Rattle.ff_fields.specs.Field.{CodeField}
 use Rattle.ff_fields.specs.Code.{Code, code_ring, same_code, read_code, read_code_below, zero_in}
 use Rattle.ff_fields.specs.Numbers.{read}
 use Rattle.ff_poly.specs.Value.{value}
 use Rattle.ff_poly.specs.Polynomials.{Polynomial, polynomials, polynomials_domain, codes_of, value_codes_of, value_nil, IsOver_codes_of, IsPoly_codes_of, x_poly, x_poly_not_zero, constant_poly}
-use Rattle.ff_algebra.specs.declared.elem.Side.TheVariants.{Finite, Infinite}
-use Rattle.ff_algebra.specs.Functions.{of_poly}
-use Rattle.ff_algebra.specs.Values.{PresValue, Functions, functions, equation_of}
-use Rattle.ff_algebra.specs.Infinity.{constant as constant_code, value_at, variable}
-use Rattle.ff_algebra.proofs.Reversal.{value as value_by, value_reverse}
-use Rattle.ff_algebra.proofs.OnSide.{value_at_x, den_inverse, reverse_not_zero}
+use Rattle.function_field.specs.declared.side.Side.TheVariants.{Finite, Infinite}
+use Rattle.function_field.specs.Functions.{of_poly}
+use Rattle.function_field.specs.Values.{PresValue, Functions, functions, equation_of}
+use Rattle.function_field.specs.Infinity.{constant as constant_code, value_at, variable}
+use Rattle.function_field.proofs.Reversal.{value as value_by, value_reverse}
+use Rattle.function_field.proofs.OnSide.{value_at_x, den_inverse, reverse_not_zero}
 use Rattle.places_theory.proofs.YRoot.{poly_hom}
 
 module _ (k : CodeField) where

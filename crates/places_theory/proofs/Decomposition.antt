@@ -1,21 +1,21 @@
 -- Where O modulo p is a finite algebra, its primitive idempotents give a prime system at p.
 use Rattle.std.proofs.Common.{◌≡◌, ◌↔◌, ◌⊎◌, inl, inr, ℕ, zero, suc, List, [], ◌∷◌, refl, sym, ◌∙◌, ap, ap₂, subst}
-use Rattle.ff_ring.specs.Ring.{CommRing, pow}
-use Rattle.ff_ring.specs.Sums.{sum_over}
-use Rattle.ff_ring.specs.Subsets.{IsSubring}
-use Rattle.ff_ring.proofs.Ring.{mul_zero, add_cancel_left, sub_of_eq}
-use Rattle.ff_ring.proofs.Local.{power_in}
-use Rattle.ff_ring.proofs.Finite.{In}
-use Rattle.local_theory.specs.Ideals.{Multiple}
-use Rattle.local_theory.specs.Orders.{Radical}
-use Rattle.local_theory.specs.Systems.{IsDecomposition, IsSystem, PrimeAt}
-use Rattle.local_theory.proofs.Idempotents.{idempotent_system}
+use Rattle.ring_theory.specs.Ring.{CommRing, pow}
+use Rattle.ring_theory.specs.Sums.{sum_over}
+use Rattle.ring_theory.specs.Subsets.{IsSubring}
+use Rattle.ring_theory.proofs.Ring.{mul_zero, add_cancel_left, sub_of_eq}
+use Rattle.ring_theory.proofs.Local.{power_in}
+use Rattle.ring_theory.proofs.Finite.{In}
+use Rattle.prime_theory.specs.Ideals.{Multiple}
+use Rattle.prime_theory.specs.Orders.{Radical}
+use Rattle.prime_theory.specs.Systems.{IsDecomposition, IsSystem, PrimeAt}
+use Rattle.prime_theory.proofs.Idempotents.{idempotent_system}
 use Rattle.finite_algebra_theory.specs.Algebra.{FiniteAlgebra, IsPrimitive, IsNilpotent, IsInvertibleAt}
 use Rattle.finite_algebra_theory.specs.Maximal.{NilpotentAt}
 use Rattle.finite_algebra_theory.proofs.Frobenius.{idempotent_power}
 use Rattle.finite_algebra_theory.proofs.Maximal.{nilpotent_or_invertible}
 use Rattle.finite_algebra_theory.proofs.Existence.{primitives}
-use Rattle.ff_ring.proofs.Solver.{ring, reads, from_two}
+use Rattle.ring_theory.proofs.Solver.{ring, reads, from_two}
 use Rattle.places_theory.specs.Reductions.{IsReduction, Primitive}
 
 -- two primitive idempotents are equal or have product 0

@@ -1,12 +1,12 @@
 -- The functions that are integral over k[t] are those that are integral over the polynomials of the infinite presentation.
 use Rattle.std.proofs.Common.{◌↔◌, ℕ, ◌≤◌, sym, ◌∙◌, ap}
-use Rattle.ff_ring.specs.Integral.{IsIntegral}
+use Rattle.ring_theory.specs.Integral.{IsIntegral}
 use Rattle.ff_fields.specs.Field.{CodeField}
-use Rattle.ff_algebra.specs.declared.elem.Side.TheVariants.{Finite, Infinite}
-use Rattle.ff_algebra.specs.Functions.{of_poly, IsPolynomial}
-use Rattle.ff_algebra.specs.Values.{PresValue, Functions, functions, setting, equation_of}
-use Rattle.ff_algebra.specs.Places.{IsIntegralAt}
-use Rattle.ff_algebra.specs.Infinity.{variable, IsInfinitePresentation}
+use Rattle.function_field.specs.declared.side.Side.TheVariants.{Finite, Infinite}
+use Rattle.function_field.specs.Functions.{of_poly, IsPolynomial}
+use Rattle.function_field.specs.Values.{PresValue, Functions, functions, setting, equation_of}
+use Rattle.function_field.specs.Places.{IsIntegralAt}
+use Rattle.function_field.specs.Infinity.{variable, IsInfinitePresentation}
 use Rattle.places_theory.specs.InfiniteSide.{InReverse}
 use Rattle.places_theory.proofs.AtInfinity.{at_codes}
 use Rattle.places_theory.proofs.PresentationMap.{presentation_map, map_poly}

@@ -1,20 +1,20 @@
 -- The infinite side: its scalars are k[t] with the inverses of what t does not divide, so its integral functions and its spans are
 -- those over k[t] up to such factors.
-use Rattle.local_theory.proofs.Scalars.{span_wider, integral_wider}
+use Rattle.prime_theory.proofs.Scalars.{span_wider, integral_wider}
 use Rattle.std.proofs.Common.{◌≡◌, ℕ, zero, suc, ◌+◌, ◌-◌, ◌≤◌, ◌<◌, Bool, true, false, List, [], ◌∷◌, ◌++◌, length, map, get_or, reverse, replicate, refl, sym, ◌∙◌, ap, ap₂, subst, arith, true≢false, eqb-true, eq-eqb}
 use Rattle.std.proofs.lemmas.List.{length-append, length-map, length-replicate, length-reverse, reverse-reverse, map-append}
 use mathlib.Core.List.{reverse-cons}
-use Rattle.ff_ring.specs.Ring.{CommRing, pow}
-use Rattle.ff_ring.specs.Lists.{coeff_of, IsTrimmed}
-use Rattle.ff_ring.specs.Subsets.{IsSubring, Span}
-use Rattle.ff_ring.specs.Local.{Locally}
-use Rattle.ff_ring.specs.Integral.{IsIntegral}
-use Rattle.ff_ring.proofs.Ring.{mul_zero, product_not_zero}
-use Rattle.ff_ring.proofs.Lists.{trim_trimmed, IsTrimmed_push}
-use Rattle.ff_ring.proofs.Polynomials.{pol_ops, series_mul, length_product, length_product_le}
-use Rattle.ff_ring.proofs.RowMaps.{hom_zero, hom_neg}
-use Rattle.ff_ring.proofs.Evaluate.{length_trim}
-use Rattle.ff_ring.proofs.Solver.{ring, reads, from_one, from_two, from_three}
+use Rattle.ring_theory.specs.Ring.{CommRing, pow}
+use Rattle.ring_theory.specs.Lists.{coeff_of, IsTrimmed}
+use Rattle.ring_theory.specs.Subsets.{IsSubring, Span}
+use Rattle.ring_theory.specs.Local.{Locally}
+use Rattle.ring_theory.specs.Integral.{IsIntegral}
+use Rattle.ring_theory.proofs.Ring.{mul_zero, product_not_zero}
+use Rattle.ring_theory.proofs.Lists.{trim_trimmed, IsTrimmed_push}
+use Rattle.ring_theory.proofs.Polynomials.{pol_ops, series_mul, length_product, length_product_le}
+use Rattle.ring_theory.proofs.RowMaps.{hom_zero, hom_neg}
+use Rattle.ring_theory.proofs.Evaluate.{length_trim}
+use Rattle.ring_theory.proofs.Solver.{ring, reads, from_one, from_two, from_three}
 use Rattle.ff_fields.specs.Field.{CodeField}
 use Rattle.ff_fields.specs.Over.{IsOver, IsOver_nil, IsOver_cons, IsOver_head, IsOver_tail, IsOver_append}
 use Rattle.ff_fields.specs.Code.{is_zero_code, Code, code_ring, code_domain, same_code, read_code, read_code_below}
@@ -22,12 +22,12 @@ use Rattle.ff_fields.specs.Numbers.{read}
 use Rattle.ff_poly.specs.Value.{value}
 use Rattle.ff_poly.specs.Words.{IsPoly}
 use Rattle.ff_poly.specs.Polynomials.{Polynomial, polynomials, polynomials_domain, codes_of, value_codes_of, value_nil, value_one, value_cons, series_read, IsOver_codes_of, IsPoly_codes_of, constant_poly, x_poly, x_poly_not_zero}
-use Rattle.ff_algebra.specs.declared.elem.Side.TheVariants.{Finite, Infinite}
-use Rattle.ff_algebra.specs.Functions.{of_poly, over, row_of, IsFiniteAtInfinity}
-use Rattle.ff_algebra.specs.Values.{PresValue, Functions, functions, equation_of}
-use Rattle.ff_algebra.specs.Infinity.{value_at, variable}
-use Rattle.local_theory.specs.Ideals.{IsMultiplicative, SameSet}
-use Rattle.local_theory.proofs.Denominators.{integral_cleared, integral_of_cleared, span_cleared, span_of_cleared}
+use Rattle.function_field.specs.declared.side.Side.TheVariants.{Finite, Infinite}
+use Rattle.function_field.specs.Functions.{of_poly, over, row_of, IsFiniteAtInfinity}
+use Rattle.function_field.specs.Values.{PresValue, Functions, functions, equation_of}
+use Rattle.function_field.specs.Infinity.{value_at, variable}
+use Rattle.prime_theory.specs.Ideals.{IsMultiplicative, SameSet}
+use Rattle.prime_theory.proofs.Denominators.{integral_cleared, integral_of_cleared, span_cleared, span_of_cleared}
 use Rattle.places_theory.specs.InfiniteSide.{InReverse, IsPrimeToT}
 use Rattle.places_theory.proofs.YRoot.{poly_hom, over_times_den, over_unique}
 use Rattle.places_theory.proofs.AtInfinity.{at, at_hom, at_codes, value_at_is, reversed, x_power, powers_cancel, x_power_not_zero, constant_zero}

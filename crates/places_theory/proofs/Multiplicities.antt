@@ -3,10 +3,10 @@ use Rattle.std.proofs.Common.{◌≡◌, inl, inr, ℕ, zero, suc, ◌<◌, [], 
 use Rattle.std.specs.List.{AllPairs, Contains}
 use Rattle.std.proofs.lemmas.List.Elements.{All-head, All-tail}
 use Rattle.std.proofs.Math.IntN.{ℤ, pos}
-use Rattle.local_theory.proofs.Lists.{pairs_head, pairs_tail}
-use Rattle.ff_algebra.specs.Setting.{Setting}
-use Rattle.ff_algebra.specs.Places.{Place, IsSamePlace}
-use Rattle.ff_algebra.specs.Divisors.{Entry, Divisor, IsDivisor, HasMultiplicity}
+use Rattle.prime_theory.proofs.Lists.{pairs_head, pairs_tail}
+use Rattle.function_field.specs.Setting.{Setting}
+use Rattle.function_field.specs.Places.{Place, IsSamePlace}
+use Rattle.function_field.specs.Divisors.{Entry, Divisor, IsDivisor, HasMultiplicity}
 use Rattle.places_theory.proofs.SamePlaces.{same_place_refl, same_place_sym, same_place_trans}
 
 module _ {E : Type 0} (S : Setting E) where

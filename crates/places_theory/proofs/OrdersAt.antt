@@ -1,15 +1,15 @@
 -- An order that is maximal at p has each integral function of the side up to a factor prime to p.
 use Rattle.std.proofs.Common.{sym, subst}
-use Rattle.ff_ring.specs.Subsets.{IsSubring, IsModule}
-use Rattle.ff_ring.specs.Integral.{IsIntegral}
-use Rattle.ff_ring.specs.Local.{PrimeTo, Locally}
-use Rattle.local_theory.specs.Orders.{MaximalAt, Denominator}
-use Rattle.local_theory.proofs.IntegralRing.{integral_product, integral_base}
-use Rattle.local_theory.proofs.Maximal.{maximal_iff_locally}
-use Rattle.local_theory.proofs.Scalars.{integral_wider}
-use Rattle.ff_algebra.specs.declared.elem.Side.{Side}
-use Rattle.ff_algebra.specs.Setting.{Setting}
-use Rattle.ff_algebra.specs.Places.{IsIntegralAt}
+use Rattle.ring_theory.specs.Subsets.{IsSubring, IsModule}
+use Rattle.ring_theory.specs.Integral.{IsIntegral}
+use Rattle.ring_theory.specs.Local.{PrimeTo, Locally}
+use Rattle.prime_theory.specs.Orders.{MaximalAt, Denominator}
+use Rattle.prime_theory.proofs.IntegralRing.{integral_product, integral_base}
+use Rattle.prime_theory.proofs.Maximal.{maximal_iff_locally}
+use Rattle.prime_theory.proofs.Scalars.{integral_wider}
+use Rattle.function_field.specs.declared.side.Side.{Side}
+use Rattle.function_field.specs.Setting.{Setting}
+use Rattle.function_field.specs.Places.{IsIntegralAt}
 use Rattle.places_theory.specs.Orders.{IsOrderAt}
 
 module _ {E : Type 0} (S : Setting E) (s : Side) (Base N : E → Type 0) (p : E) (O : E → Type 0) where

@@ -1,24 +1,24 @@
 -- At a place over p, with an order that is maximal at p: the valuation of the place is that of its prime of the order. So it is
 -- additive on products, and each function with an inverse has one.
-use Rattle.local_theory.proofs.Scalars.{span_wider}
+use Rattle.prime_theory.proofs.Scalars.{span_wider}
 use Rattle.std.proofs.Common.{◌≡◌, ◌↔◌, ◌⊎◌, inl, inr, ℕ, suc, arith}
 use Rattle.std.proofs.lemmas.Int.{ints}
 use Rattle.std.proofs.Math.IntN.{ℤ, pos, negsuc, ◌+ℤ◌, ◌-ℤ◌}
-use Rattle.ff_ring.specs.Ring.{pow}
-use Rattle.ff_ring.specs.Subsets.{IsSubring}
-use Rattle.ff_ring.specs.Local.{Locally}
-use Rattle.ff_ring.proofs.Subsets.{span_members}
-use Rattle.local_theory.specs.Primes.{IsPrime, Pair}
-use Rattle.local_theory.specs.Places.{PlaceAtLeast, PlaceAtLeastMinus, PlaceOf}
-use Rattle.local_theory.specs.IntegerValues.{up, down, ValueAtLeast, ValueIs}
-use Rattle.local_theory.proofs.Places.{prime_of_place, place_from_prime, value_of_place, place_of_value, value_of_place_minus, place_minus_of_value}
-use Rattle.local_theory.proofs.IntegerValues.{value_of_exact, value_bounded, value_next, exact_product, exact_sum}
-use Rattle.local_theory.proofs.IntegerFactors.{parts_of}
-use Rattle.local_theory.proofs.Valuation.{eq_reindex}
-use Rattle.local_theory.proofs.Exact.{exact_of_invertible}
-use Rattle.ff_algebra.specs.declared.elem.Side.{Side}
-use Rattle.ff_algebra.specs.Setting.{Setting}
-use Rattle.ff_algebra.specs.Places.{Place, IsPlace, IsIntegralAt, IsIn, IsInPowerLocally, TakesPowerLocally, HasValuationAtLeast, HasValuation}
+use Rattle.ring_theory.specs.Ring.{pow}
+use Rattle.ring_theory.specs.Subsets.{IsSubring}
+use Rattle.ring_theory.specs.Local.{Locally}
+use Rattle.ring_theory.proofs.Subsets.{span_members}
+use Rattle.prime_theory.specs.Primes.{IsPrime, Pair}
+use Rattle.prime_theory.specs.Places.{PlaceAtLeast, PlaceAtLeastMinus, PlaceOf}
+use Rattle.prime_theory.specs.IntegerValues.{up, down, ValueAtLeast, ValueIs}
+use Rattle.prime_theory.proofs.Places.{prime_of_place, place_from_prime, value_of_place, place_of_value, value_of_place_minus, place_minus_of_value}
+use Rattle.prime_theory.proofs.IntegerValues.{value_of_exact, value_bounded, value_next, exact_product, exact_sum}
+use Rattle.prime_theory.proofs.IntegerFactors.{parts_of}
+use Rattle.prime_theory.proofs.Valuation.{eq_reindex}
+use Rattle.prime_theory.proofs.Exact.{exact_of_invertible}
+use Rattle.function_field.specs.declared.side.Side.{Side}
+use Rattle.function_field.specs.Setting.{Setting}
+use Rattle.function_field.specs.Places.{Place, IsPlace, IsIntegralAt, IsIn, IsInPowerLocally, TakesPowerLocally, HasValuationAtLeast, HasValuation}
 use Rattle.places_theory.specs.Orders.{IsOrderAt, InPrime}
 use Rattle.places_theory.proofs.Sides.{side_ring, scalar_integral, place_is_maximal, place_ideal, in_power_is}
 

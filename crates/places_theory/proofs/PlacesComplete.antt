@@ -2,19 +2,19 @@
 use Rattle.std.specs.List.{Any}
 use Rattle.std.proofs.Common.{◌≡◌, List, [], ◌∷◌, ◌++◌, map, sym, ◌∙◌, subst, All}
 use Rattle.std.proofs.lemmas.List.Elements.{All-nil, All-cons, All-head, All-tail, All-weaker}
-use Rattle.ff_ring.specs.Subsets.{IsSubring, IsModule, Span}
-use Rattle.ff_ring.specs.Local.{Locally}
-use Rattle.ff_ring.proofs.Ring.{mul_left_comm}
-use Rattle.ff_ring.proofs.Subsets.{span_module, span_members}
-use Rattle.local_theory.specs.Ideals.{SameSet}
-use Rattle.local_theory.specs.Systems.{Generators, IsFamily, IsSystem}
-use Rattle.local_theory.proofs.Lists.{any_weaker}
-use Rattle.local_theory.proofs.Scalars.{span_wider}
-use Rattle.local_theory.proofs.PlaceGenerators.{prime_generators}
-use Rattle.local_theory.proofs.Compare.{prime_in_system}
-use Rattle.ff_algebra.specs.declared.elem.Side.{Side}
-use Rattle.ff_algebra.specs.Setting.{Setting}
-use Rattle.ff_algebra.specs.Places.{Place, IsIn, IsSamePlace}
+use Rattle.ring_theory.specs.Subsets.{IsSubring, IsModule, Span}
+use Rattle.ring_theory.specs.Local.{Locally}
+use Rattle.ring_theory.proofs.Ring.{mul_left_comm}
+use Rattle.ring_theory.proofs.Subsets.{span_module, span_members}
+use Rattle.prime_theory.specs.Ideals.{SameSet}
+use Rattle.prime_theory.specs.Systems.{Generators, IsFamily, IsSystem}
+use Rattle.prime_theory.proofs.Lists.{any_weaker}
+use Rattle.prime_theory.proofs.Scalars.{span_wider}
+use Rattle.prime_theory.proofs.PlaceGenerators.{prime_generators}
+use Rattle.prime_theory.proofs.Compare.{prime_in_system}
+use Rattle.function_field.specs.declared.side.Side.{Side}
+use Rattle.function_field.specs.Setting.{Setting}
+use Rattle.function_field.specs.Places.{Place, IsIn, IsSamePlace}
 use Rattle.places_theory.specs.Orders.{IsPlaceOver, InPrime}
 use Rattle.places_theory.proofs.PlaceValues.{place_prime}
 use Rattle.places_theory.proofs.PlacesOver.{same_by_order}

@@ -1,15 +1,15 @@
 -- The places over p and the primes of an order that is maximal at p: each prime with finitely many generators is that of a place, and
 -- a place is known from its prime.
 use Rattle.std.proofs.Common.{◌≡◌, ◌↔◌, List, ◌++◌, map, sym, subst}
-use Rattle.ff_ring.specs.Subsets.{IsSubring, IsModule, Span}
-use Rattle.local_theory.specs.Ideals.{SameSet}
-use Rattle.local_theory.specs.Primes.{IsPrime}
-use Rattle.local_theory.specs.Places.{IsMaximalIdeal, PlaceOf}
-use Rattle.local_theory.proofs.Places.{place_of_prime, place_from_prime, place_within}
-use Rattle.local_theory.proofs.PlaceGenerators.{place_generators}
-use Rattle.ff_algebra.specs.declared.elem.Side.{Side}
-use Rattle.ff_algebra.specs.Setting.{Setting}
-use Rattle.ff_algebra.specs.Places.{Place, IsPlace, IsIntegralAt, IsIn, IsSamePlace}
+use Rattle.ring_theory.specs.Subsets.{IsSubring, IsModule, Span}
+use Rattle.prime_theory.specs.Ideals.{SameSet}
+use Rattle.prime_theory.specs.Primes.{IsPrime}
+use Rattle.prime_theory.specs.Places.{IsMaximalIdeal, PlaceOf}
+use Rattle.prime_theory.proofs.Places.{place_of_prime, place_from_prime, place_within}
+use Rattle.prime_theory.proofs.PlaceGenerators.{place_generators}
+use Rattle.function_field.specs.declared.side.Side.{Side}
+use Rattle.function_field.specs.Setting.{Setting}
+use Rattle.function_field.specs.Places.{Place, IsPlace, IsIntegralAt, IsIn, IsSamePlace}
 use Rattle.places_theory.specs.Orders.{IsOrderAt, IsPlaceOver, InPrime}
 use Rattle.places_theory.proofs.Sides.{side_ring, scalar_integral, place_is_maximal}
 

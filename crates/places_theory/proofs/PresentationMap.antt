@@ -1,24 +1,24 @@
 -- The map from the functions of the infinite presentation to those of the finite one: t goes to 1/x and Y to y/x^c.
 use Rattle.std.proofs.Common.{◌≡◌, ℕ, zero, suc, ◌+◌, ◌-◌, ◌*◌, ◌≤◌, ◌<◌, List, [], ◌∷◌, length, get_or, refl, sym, ◌∙◌, ap, ap₂, subst, arith}
 use Rattle.std.proofs.Math.Nat.{mul-suc}
-use Rattle.ff_ring.specs.Ring.{pow}
-use Rattle.ff_ring.specs.Rows.{Row, row_zero, times_y}
-use Rattle.ff_ring.proofs.Ring.{one_mul, mul_zero, pow_add, pow_mul, mul_pow}
-use Rattle.ff_ring.proofs.Rows.{pair_path, row_one}
-use Rattle.ff_ring.proofs.RowMaps.{IsHom, eval, eval_none, eval_cons, eval_times_y, pair_value, pair_value_is, pair_value_same, pair_add_value, pair_mul_value}
-use Rattle.ff_ring.proofs.Solver.{ring, reads, from_one}
+use Rattle.ring_theory.specs.Ring.{pow}
+use Rattle.ring_theory.specs.Rows.{Row, row_zero, times_y}
+use Rattle.ring_theory.proofs.Ring.{one_mul, mul_zero, pow_add, pow_mul, mul_pow}
+use Rattle.ring_theory.proofs.Rows.{pair_path, row_one}
+use Rattle.ring_theory.proofs.RowMaps.{IsHom, eval, eval_none, eval_cons, eval_times_y, pair_value, pair_value_is, pair_value_same, pair_add_value, pair_mul_value}
+use Rattle.ring_theory.proofs.Solver.{ring, reads, from_one}
 use Rattle.ff_fields.specs.Field.{CodeField}
 use Rattle.ff_poly.specs.Value.{value, numbers_value}
 use Rattle.ff_poly.specs.Words.{IsPoly}
 use Rattle.ff_poly.specs.Polynomials.{Polynomial, polynomials, polynomials_domain, codes_of, value_codes_of, value_nil, value_not_zero, IsOver_codes_of, IsPoly_codes_of}
-use Rattle.ff_algebra.specs.declared.elem.Side.TheVariants.{Finite, Infinite}
-use Rattle.ff_algebra.specs.Functions.{RowOver, AreSame, function, row_of, of_poly, over, y_of, add_rows, mul_rows, add_function, mul_function, from_rows, from_rows_value}
-use Rattle.ff_algebra.specs.Values.{PresValue, ElemValue, IsElem, Functions, functions, equation_of, row_of_list, row_over, function_of}
-use Rattle.ff_algebra.specs.Infinity.{row_value_at, variable, generator, inverse_at, function_on, IsInfinitePresentation}
-use Rattle.ff_algebra.proofs.OnSide.{value_at_x, times_inverse}
-use Rattle.ff_algebra.proofs.ScalarRings.{of_poly_one}
-use Rattle.ff_algebra.proofs.SameValues.{row_over_num, row_over_den}
-use Rattle.ff_algebra.proofs.Stages.{row_of_function}
+use Rattle.function_field.specs.declared.side.Side.TheVariants.{Finite, Infinite}
+use Rattle.function_field.specs.Functions.{RowOver, AreSame, function, row_of, of_poly, over, y_of, add_rows, mul_rows, add_function, mul_function, from_rows, from_rows_value}
+use Rattle.function_field.specs.Values.{PresValue, ElemValue, IsElem, Functions, functions, equation_of, row_of_list, row_over, function_of}
+use Rattle.function_field.specs.Infinity.{row_value_at, variable, generator, inverse_at, function_on, IsInfinitePresentation}
+use Rattle.function_field.proofs.OnSide.{value_at_x, times_inverse}
+use Rattle.function_field.proofs.ScalarRings.{of_poly_one}
+use Rattle.function_field.proofs.SameValues.{row_over_num, row_over_den}
+use Rattle.function_field.proofs.Stages.{row_of_function}
 use Rattle.places_theory.proofs.YRoot.{eval_constant, poly_hom, at_y, y_root}
 use Rattle.places_theory.proofs.AtInfinity.{at, at_hom, at_codes, value_at_is}
 

@@ -1,24 +1,24 @@
 -- The functions of the infinite presentation are those of the finite one: the map between them is an isomorphism.
 use Rattle.std.proofs.Common.{◌≡◌, ℕ, zero, suc, ◌+◌, ◌-◌, ◌≤◌, List, [], ◌∷◌, length, reverse, refl, sym, ◌∙◌, ap, ap₂, subst, arith}
 use mathlib.Core.List.{reverse-reverse}
-use Rattle.ff_ring.specs.Ring.{CommRing, IsDomain, pow}
-use Rattle.ff_ring.specs.Rows.{Row, row_zero, row_scale}
-use Rattle.ff_ring.proofs.Ring.{one_mul, zero_add, mul_zero, pow_add, eq_of_sub, sub_of_eq}
-use Rattle.ff_ring.proofs.Rows.{pair_path, row_scale_one, row_scale_zero}
-use Rattle.ff_ring.proofs.RowFractions.{whole_pair}
-use Rattle.ff_ring.proofs.RowMaps.{hom_zero, hom_neg, eval_none, eval_cons, eval_scale}
-use Rattle.ff_ring.proofs.Evaluate.{constant, evaluate, value_constant}
-use Rattle.ff_ring.proofs.Solver.{ring, reads, from_one, from_two, from_three}
+use Rattle.ring_theory.specs.Ring.{CommRing, IsDomain, pow}
+use Rattle.ring_theory.specs.Rows.{Row, row_zero, row_scale}
+use Rattle.ring_theory.proofs.Ring.{one_mul, zero_add, mul_zero, pow_add, eq_of_sub, sub_of_eq}
+use Rattle.ring_theory.proofs.Rows.{pair_path, row_scale_one, row_scale_zero}
+use Rattle.ring_theory.proofs.RowFractions.{whole_pair}
+use Rattle.ring_theory.proofs.RowMaps.{hom_zero, hom_neg, eval_none, eval_cons, eval_scale}
+use Rattle.ring_theory.proofs.Evaluate.{constant, evaluate, value_constant}
+use Rattle.ring_theory.proofs.Solver.{ring, reads, from_one, from_two, from_three}
 use Rattle.ff_fields.specs.Field.{CodeField}
 use Rattle.ff_fields.specs.Code.{Code, code_ring}
 use Rattle.ff_poly.specs.Value.{value}
 use Rattle.ff_poly.specs.Polynomials.{Polynomial, polynomials, polynomials_domain, codes_of, value_codes_of, value_nil, value_one, IsOver_codes_of, IsPoly_codes_of, x_poly, x_poly_not_zero}
-use Rattle.ff_algebra.specs.Functions.{RowOver, function, function_eq, function_same, of_poly, over, row_of, y_of, whole_row, zero_function}
-use Rattle.ff_algebra.specs.Values.{PresValue, Functions, functions, equation_of}
-use Rattle.ff_algebra.specs.Infinity.{constant as constant_code, IsInfinitePresentation}
-use Rattle.ff_algebra.proofs.Horner.{plain}
-use Rattle.ff_algebra.proofs.OnSide.{reverse_not_zero}
-use Rattle.ff_algebra.proofs.Stages.{row_of_function}
+use Rattle.function_field.specs.Functions.{RowOver, function, function_eq, function_same, of_poly, over, row_of, y_of, whole_row, zero_function}
+use Rattle.function_field.specs.Values.{PresValue, Functions, functions, equation_of}
+use Rattle.function_field.specs.Infinity.{constant as constant_code, IsInfinitePresentation}
+use Rattle.function_field.proofs.Horner.{plain}
+use Rattle.function_field.proofs.OnSide.{reverse_not_zero}
+use Rattle.function_field.proofs.Stages.{row_of_function}
 use Rattle.places_theory.specs.Maps.{IsIsomorphism}
 use Rattle.places_theory.proofs.YRoot.{poly_hom, at_y, at_y_plain, den_times}
 use Rattle.places_theory.proofs.AtInfinity.{of_code, code_hom, at_hom, at_x, value_at_is, x_times_t, reversed, turned, turned_is, turned_zero, x_power, powers_cancel, x_power_not_zero, constant_zero}

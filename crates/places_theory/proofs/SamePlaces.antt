@@ -1,13 +1,13 @@
 -- Sameness of places is an equivalence, and it is decided where membership is.
 use Rattle.std.proofs.Common.{◌≡◌, ◌↔◌, List, [], ◌∷◌, refl, sym, ◌∙◌, ap, subst, All}
 use Rattle.std.proofs.lemmas.List.Elements.{All-nil, All-cons, All-head, All-tail}
-use Rattle.ff_ring.specs.Subsets.{IsSubring, Span}
-use Rattle.ff_ring.proofs.Subsets.{span_within, span_members}
-use Rattle.ff_ring.proofs.Solver.{ring, reads}
-use Rattle.ff_algebra.specs.declared.elem.Side.{Side}
-use Rattle.ff_algebra.specs.declared.elem.Side.TheVariants.{Finite, Infinite}
-use Rattle.ff_algebra.specs.Setting.{Setting}
-use Rattle.ff_algebra.specs.Places.{Place, IsPlace, IsSamePlace, IsIntegralAt, IsIn}
+use Rattle.ring_theory.specs.Subsets.{IsSubring, Span}
+use Rattle.ring_theory.proofs.Subsets.{span_within, span_members}
+use Rattle.ring_theory.proofs.Solver.{ring, reads}
+use Rattle.function_field.specs.declared.side.Side.{Side}
+use Rattle.function_field.specs.declared.side.Side.TheVariants.{Finite, Infinite}
+use Rattle.function_field.specs.Setting.{Setting}
+use Rattle.function_field.specs.Places.{Place, IsPlace, IsSamePlace, IsIntegralAt, IsIn}
 use Rattle.places_theory.proofs.Sides.{place_ideal, scalar_integral}
 
 pub side_discrete : (s t : Side) → Dec (s ≡ t)

@@ -1,14 +1,14 @@
 -- The integral functions of a side are a ring, and the places of the side are its maximal ideals with finitely many generators.
 use Rattle.std.proofs.Common.{◌↔◌, ℕ, zero, suc, ap, subst}
-use Rattle.ff_ring.specs.Subsets.{IsSubring, IsModule}
-use Rattle.ff_ring.proofs.Subsets.{span_module, product_module}
-use Rattle.local_theory.specs.Ideals.{IsIdeal, SameSet, Power}
-use Rattle.local_theory.specs.Places.{IsMaximalIdeal}
-use Rattle.local_theory.proofs.IntegralRing.{integral_ring, integral_base}
-use Rattle.local_theory.proofs.Products.{own_module, power_module, product_monotone, product_swap, product_into, additive_of_module}
-use Rattle.ff_algebra.specs.declared.elem.Side.{Side}
-use Rattle.ff_algebra.specs.Setting.{Setting}
-use Rattle.ff_algebra.specs.Places.{Place, IsPlace, IsIntegralAt, IsIn, InPower}
+use Rattle.ring_theory.specs.Subsets.{IsSubring, IsModule}
+use Rattle.ring_theory.proofs.Subsets.{span_module, product_module}
+use Rattle.prime_theory.specs.Ideals.{IsIdeal, SameSet, Power}
+use Rattle.prime_theory.specs.Places.{IsMaximalIdeal}
+use Rattle.prime_theory.proofs.IntegralRing.{integral_ring, integral_base}
+use Rattle.prime_theory.proofs.Products.{own_module, power_module, product_monotone, product_swap, product_into, additive_of_module}
+use Rattle.function_field.specs.declared.side.Side.{Side}
+use Rattle.function_field.specs.Setting.{Setting}
+use Rattle.function_field.specs.Places.{Place, IsPlace, IsIntegralAt, IsIn, InPower}
 
 module _ {E : Type 0} (S : Setting E) (scalars : (s : Side) → IsSubring S.functions.ops (S.IsScalar s)) where
   infixl 65 ◌⊕◌

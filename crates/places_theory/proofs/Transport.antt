@@ -1,13 +1,13 @@
 -- What an isomorphism of rings carries over: integral elements, spans, products, powers, maximal ideals and their valuations.
 use Rattle.std.proofs.Common.{◌≡◌, ◌↔◌, ℕ, zero, suc, List, [], ◌∷◌, map, refl, sym, ◌∙◌, ap, ap₂, subst}
-use Rattle.ff_ring.specs.Ring.{CommRing, pow}
-use Rattle.ff_ring.specs.Sums.{sum_below, sum_over}
-use Rattle.ff_ring.specs.Subsets.{Span, Product, Factors}
-use Rattle.ff_ring.specs.Integral.{IsIntegral}
-use Rattle.ff_ring.proofs.RowMaps.{IsHom, hom_zero, hom_neg}
+use Rattle.ring_theory.specs.Ring.{CommRing, pow}
+use Rattle.ring_theory.specs.Sums.{sum_below, sum_over}
+use Rattle.ring_theory.specs.Subsets.{Span, Product, Factors}
+use Rattle.ring_theory.specs.Integral.{IsIntegral}
+use Rattle.ring_theory.proofs.RowMaps.{IsHom, hom_zero, hom_neg}
 use Rattle.finite_algebra_theory.proofs.ByMap.{map_pow}
-use Rattle.local_theory.specs.Ideals.{Power}
-use Rattle.local_theory.specs.Places.{IsMaximalIdeal, PlaceAtLeast, PlaceAtLeastMinus}
+use Rattle.prime_theory.specs.Ideals.{Power}
+use Rattle.prime_theory.specs.Places.{IsMaximalIdeal, PlaceAtLeast, PlaceAtLeastMinus}
 use Rattle.places_theory.specs.Maps.{IsIsomorphism}
 
 -- images under a homomorphism

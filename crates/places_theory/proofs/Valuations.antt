@@ -4,16 +4,16 @@ use Rattle.std.proofs.Common.{[], ◌∷◌, ◌≡◌, ◌⊎◌, inl, inr, ℕ
 use Rattle.std.proofs.lemmas.Int.{ints, by_lt_z}
 use Rattle.std.proofs.Math.IntN.{ℤ, pos, negsuc, ◌+ℤ◌, ◌-ℤ◌}
 use lib.Signed.{◌≤ℤ◌}
-use Rattle.ff_ring.specs.Subsets.{IsSubring, IsModule, Product}
-use Rattle.ff_ring.proofs.Subsets.{product_member}
-use Rattle.ff_ring.proofs.Ring.{one_mul}
-use Rattle.ff_ring.proofs.Solver.{ring, reads}
-use Rattle.local_theory.specs.Ideals.{Power}
-use Rattle.local_theory.proofs.Products.{product_monotone, product_universal, additive_of_module, power_add}
-use Rattle.local_theory.proofs.Valuation.{le_or_lt}
-use Rattle.ff_algebra.specs.declared.elem.Side.{Side}
-use Rattle.ff_algebra.specs.Setting.{Setting}
-use Rattle.ff_algebra.specs.Places.{Place, IsPlace, IsIntegralAt, IsIn, InPower, IsInPowerLocally, TakesPowerLocally, HasValuationAtLeast, HasValuation}
+use Rattle.ring_theory.specs.Subsets.{IsSubring, IsModule, Product}
+use Rattle.ring_theory.proofs.Subsets.{product_member}
+use Rattle.ring_theory.proofs.Ring.{one_mul}
+use Rattle.ring_theory.proofs.Solver.{ring, reads}
+use Rattle.prime_theory.specs.Ideals.{Power}
+use Rattle.prime_theory.proofs.Products.{product_monotone, product_universal, additive_of_module, power_add}
+use Rattle.prime_theory.proofs.Valuation.{le_or_lt}
+use Rattle.function_field.specs.declared.side.Side.{Side}
+use Rattle.function_field.specs.Setting.{Setting}
+use Rattle.function_field.specs.Places.{Place, IsPlace, IsIntegralAt, IsIn, InPower, IsInPowerLocally, TakesPowerLocally, HasValuationAtLeast, HasValuation}
 use Rattle.places_theory.proofs.Sides.{side_ring, place_module, integral_module, in_power_module, in_power_integral, in_power_descends, in_power_within, in_power_is}
 
 module _ {E : Type 0} (S : Setting E) (scalars : (s : Side) → IsSubring S.functions.ops (S.IsScalar s)) (P : Place E) (place : IsPlace S P) where

@@ -1,16 +1,16 @@
 -- The generator y is a root of its polynomial, and a row over 1 stands for the sum of v_i·y^i.
 use Rattle.std.proofs.Common.{ap₂, ◌≡◌, ℕ, zero, suc, [], ◌∷◌, refl, sym, ◌∙◌, ap}
-use Rattle.ff_ring.specs.Ring.{CommRing, pow}
-use Rattle.ff_ring.specs.Rows.{row_zero, Row, row_scale, shift, top, times_y}
-use Rattle.ff_ring.proofs.Ring.{mul_zero, one_mul}
-use Rattle.ff_ring.proofs.RowMaps.{IsHom, hom_zero, hom_neg, eval, eval_none, eval_cons, eval_add, eval_scale, eval_shift}
-use Rattle.ff_ring.proofs.Solver.{ring, reads, from_two}
+use Rattle.ring_theory.specs.Ring.{CommRing, pow}
+use Rattle.ring_theory.specs.Rows.{row_zero, Row, row_scale, shift, top, times_y}
+use Rattle.ring_theory.proofs.Ring.{mul_zero, one_mul}
+use Rattle.ring_theory.proofs.RowMaps.{IsHom, hom_zero, hom_neg, eval, eval_none, eval_cons, eval_add, eval_scale, eval_shift}
+use Rattle.ring_theory.proofs.Solver.{ring, reads, from_two}
 use Rattle.ff_fields.specs.Field.{CodeField}
 use Rattle.ff_poly.specs.Polynomials.{Polynomial, polynomials}
-use Rattle.ff_algebra.specs.Functions.{Equation, RowOver, FunctionOf, ring_of, function, of_poly, row_of, over, y_of}
-use Rattle.ff_algebra.proofs.Horner.{plain, horner, den_times_function, y_plain}
-use Rattle.ff_algebra.proofs.OnSide.{of_poly_plus, of_poly_times, den_inverse}
-use Rattle.ff_algebra.proofs.ScalarRings.{of_poly_one}
+use Rattle.function_field.specs.Functions.{Equation, RowOver, FunctionOf, ring_of, function, of_poly, row_of, over, y_of}
+use Rattle.function_field.proofs.Horner.{plain, horner, den_times_function, y_plain}
+use Rattle.function_field.proofs.OnSide.{of_poly_plus, of_poly_times, den_inverse}
+use Rattle.function_field.proofs.ScalarRings.{of_poly_one}
 
 module _ {P E : Type 0} (S : CommRing P) (F : CommRing E) (f : P → E) (hom : IsHom S F f) (z : E) where
   -- the row 0 goes to 0, and a constant to its image

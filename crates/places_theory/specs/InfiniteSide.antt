@@ -2,9 +2,9 @@
 use Rattle.std.specs.Prelude.{◌≡◌, ℕ, List, get_or}
 use Rattle.ff_fields.specs.Field.{CodeField}
 use Rattle.ff_fields.specs.Over.{IsOver}
-use Rattle.ff_algebra.specs.declared.elem.Side.TheVariants.{Infinite}
-use Rattle.ff_algebra.specs.Values.{PresValue, Functions}
-use Rattle.ff_algebra.specs.Infinity.{value_at, variable, IsPolynomialOn}
+use Rattle.function_field.specs.declared.side.Side.TheVariants.{Infinite}
+use Rattle.function_field.specs.Values.{PresValue, Functions}
+use Rattle.function_field.specs.Infinity.{value_at, variable, IsPolynomialOn}
 
 module _ (k : CodeField) (p : PresValue) where
   -- k[t]

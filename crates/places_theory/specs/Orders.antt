@@ -1,10 +1,10 @@
 -- Orders that are maximal at an element.
 use Rattle.std.specs.Prelude.{◌⊎◌}
-use Rattle.ff_ring.specs.Subsets.{IsSubring}
-use Rattle.ff_ring.specs.Local.{PrimeTo, Locally}
-use Rattle.ff_algebra.specs.declared.elem.Side.{Side}
-use Rattle.ff_algebra.specs.Setting.{Setting}
-use Rattle.ff_algebra.specs.Places.{Place, IsPlace, IsIntegralAt, IsIn}
+use Rattle.ring_theory.specs.Subsets.{IsSubring}
+use Rattle.ring_theory.specs.Local.{PrimeTo, Locally}
+use Rattle.function_field.specs.declared.side.Side.{Side}
+use Rattle.function_field.specs.Setting.{Setting}
+use Rattle.function_field.specs.Places.{Place, IsPlace, IsIntegralAt, IsIn}
 
 -- O is a ring of integral functions of the side over the ring Base that has each integral function up to a factor from N, prime to p
 pub record IsOrderAt {E : Type 0} (S : Setting E) (s : Side) (Base N : E → Type 0) (p : E) (O : E → Type 0) : Type 0 where

@@ -1,7 +1,7 @@
 -- A ring modulo an element, as a ring of its own; and the primitive idempotents of a ring as a type.
 use Rattle.std.specs.Prelude.{◌≡◌, ◌↔◌}
-use Rattle.ff_ring.specs.Ring.{Operations}
-use Rattle.local_theory.specs.Ideals.{Multiple}
+use Rattle.ring_theory.specs.Ring.{Operations}
+use Rattle.prime_theory.specs.Ideals.{Multiple}
 use Rattle.finite_algebra_theory.specs.Algebra.{IsPrimitive}
 
 -- Q is O modulo p: `reduce` keeps sums and products of members of O and is 0 exactly on p·O, `lift` takes representatives in O

@@ -5,24 +5,24 @@
 ghost use Rattle.std.specs.Prelude.{◌≡◌, ◌≢◌, ℕ, [], suc, ◌≤◌, ℤ, ◌+ℤ◌, List, map, All, ◌↔◌};
 ghost use Rattle.std.specs.List.{Contains, Any};
 ghost use Rattle.std.proofs.Common.{pos};
-ghost use Rattle.ff_ring.specs.Ring.{CommRing, pow};
-ghost use Rattle.ff_ring.specs.Subsets.{IsSubring, Span};
-ghost use Rattle.ff_ring.specs.Integral.{IsIntegral};
-ghost use Rattle.ff_ring.specs.Local.{PrimeTo, Locally};
+ghost use Rattle.ring_theory.specs.Ring.{CommRing, pow};
+ghost use Rattle.ring_theory.specs.Subsets.{IsSubring, Span};
+ghost use Rattle.ring_theory.specs.Integral.{IsIntegral};
+ghost use Rattle.ring_theory.specs.Local.{PrimeTo, Locally};
 ghost use Rattle.ff_fields.specs.Field.{CodeField};
 ghost use Rattle.ff_fields.specs.Code.{code_ring};
 ghost use Rattle.ff_poly.specs.Words.{IsPoly};
-ghost use Rattle.ff_algebra.specs.declared.elem.Side.{Side};
-ghost use Rattle.ff_algebra.specs.Values.{PresValue, ElemValue, IsElem, Functions, functions, setting, function_of};
-ghost use Rattle.ff_algebra.specs.Places.{Place, IsPlace, IsSamePlace, IsIntegralAt, IsIn, InPower, HasValuationAtLeast, HasValuation};
-ghost use Rattle.ff_algebra.specs.Divisors.{Entry, Divisor, IsDivisor, HasMultiplicity};
-ghost use Rattle.ff_algebra.specs.Infinity.{function_on, IsInfinitePresentation};
-ghost use Rattle.local_theory.specs.Places.{IsMaximalIdeal, PlaceAtLeast, PlaceAtLeastMinus};
-ghost use Rattle.local_theory.specs.Primes.{IsPrime, Pair};
-ghost use Rattle.local_theory.specs.Systems.{IsDecomposition, IsFamily, IsSystem, PrimeAt};
-ghost use Rattle.local_theory.specs.IntegerValues.{ValueIs};
-ghost use Rattle.local_theory.specs.Ideals.{SameSet};
-ghost use Rattle.local_theory.specs.Orders.{Radical, MaximalAt, Denominator};
+ghost use Rattle.function_field.specs.declared.side.Side.{Side};
+ghost use Rattle.function_field.specs.Values.{PresValue, ElemValue, IsElem, Functions, functions, setting, function_of};
+ghost use Rattle.function_field.specs.Places.{Place, IsPlace, IsSamePlace, IsIntegralAt, IsIn, InPower, HasValuationAtLeast, HasValuation};
+ghost use Rattle.function_field.specs.Divisors.{Entry, Divisor, IsDivisor, HasMultiplicity};
+ghost use Rattle.function_field.specs.Infinity.{function_on, IsInfinitePresentation};
+ghost use Rattle.prime_theory.specs.Places.{IsMaximalIdeal, PlaceAtLeast, PlaceAtLeastMinus};
+ghost use Rattle.prime_theory.specs.Primes.{IsPrime, Pair};
+ghost use Rattle.prime_theory.specs.Systems.{IsDecomposition, IsFamily, IsSystem, PrimeAt};
+ghost use Rattle.prime_theory.specs.IntegerValues.{ValueIs};
+ghost use Rattle.prime_theory.specs.Ideals.{SameSet};
+ghost use Rattle.prime_theory.specs.Orders.{Radical, MaximalAt, Denominator};
 ghost use Rattle.finite_algebra_theory.specs.Algebra.{FiniteAlgebra, IsNilpotent};
 ghost use Rattle.finite_algebra_theory.specs.ByMap.{FiniteField};
 ghost use Rattle.finite_algebra_theory.specs.Maximal.{NilpotentAt};
@@ -31,7 +31,7 @@ ghost use Rattle.places_theory.specs.InfiniteSide.{InReverse, IsPrimeToT};
 ghost use Rattle.places_theory.specs.Orders.{IsOrderAt, IsPlaceOver, InPrime};
 ghost use Rattle.places_theory.specs.Reductions.{IsReduction, Primitive};
 
-use ff_ring::sets::Subset;
+use ring_theory::sets::Subset;
 
 /// A function field with a base ring, the members of that ring that are prime to some function, an order over the base ring and a prime of
 /// the order. Only theorems use it, as a type parameter that no value has.

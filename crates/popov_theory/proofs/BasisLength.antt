@@ -1,13 +1,13 @@
 -- Two bases over k of a module modulo a subspace have the same length: dimension is well defined.
 use Rattle.std.proofs.Common.{◌≡◌, ◌≢◌, ℕ, zero, suc, ◌<◌, ◌≤◌, ◌+◌, ◌*◌, ◌⊎◌, inl, inr, List, [], ◌∷◌, length, refl, sym, ◌∙◌, ap, ap₂, arith, subst, le_of_suc-le-suc}
 use Rattle.std.proofs.lemmas.Bool.{cases_lt}
-use Rattle.ff_ring.specs.Ring.{TestedRing, IsField}
-use Rattle.ff_ring.specs.Lists.{coeff_of, tail_of}
-use Rattle.ff_ring.specs.Rows.{Row, entry}
-use Rattle.ff_ring.proofs.Ring.{mul_zero}
-use Rattle.ff_ring.proofs.Lists.{coeff_trim}
-use Rattle.ff_ring.proofs.Sequences.{convolution_comm, convolution_constant_left}
-use Rattle.ff_ring.proofs.Polynomials.{Pol, pol_ring, same_pol, series_mul, coeff_top}
+use Rattle.ring_theory.specs.Ring.{TestedRing, IsField}
+use Rattle.ring_theory.specs.Lists.{coeff_of, tail_of}
+use Rattle.ring_theory.specs.Rows.{Row, entry}
+use Rattle.ring_theory.proofs.Ring.{mul_zero}
+use Rattle.ring_theory.proofs.Lists.{coeff_trim}
+use Rattle.ring_theory.proofs.Sequences.{convolution_comm, convolution_constant_left}
+use Rattle.ring_theory.proofs.Polynomials.{Pol, pol_ring, same_pol, series_mul, coeff_top}
 use Rattle.popov_theory.specs.Module.{PolynomialModule}
 use Rattle.popov_theory.specs.Span.{row_at, combine}
 use Rattle.popov_theory.specs.Basis.{scalar_combine, IsBasisModulo}

@@ -1,15 +1,15 @@
 -- Each list of rows of full rank has one Popov basis, and full rank is decided.
 use Rattle.std.proofs.Common.{◌≡◌, ℕ, zero, suc, ◌<◌, ◌+◌, ◌*◌, ◌⊎◌, inl, inr, List, length, refl, sym, ◌∙◌, ap, arith, subst}
 use native.Mathlib.Decide.{ℕ_discrete}
-use Rattle.ff_ring.specs.Ring.{TestedRing, IsDomain, IsField}
-use Rattle.ff_ring.proofs.Ring.{field_domain}
-use Rattle.ff_ring.proofs.Polynomials.{Pol, pol_ring}
+use Rattle.ring_theory.specs.Ring.{TestedRing, IsDomain, IsField}
+use Rattle.ring_theory.proofs.Ring.{field_domain}
+use Rattle.ring_theory.proofs.Polynomials.{Pol, pol_ring}
 use Rattle.popov_theory.specs.Module.{PolynomialModule, measure, column}
 use Rattle.popov_theory.specs.Span.{row_at, InSpan, HaveSameSpan, HasFullRank}
 use Rattle.popov_theory.specs.Popov.{put, IsWeakPopov, IsFull}
 use Rattle.popov_theory.specs.Laws.{PopovForm}
 use Rattle.popov_theory.proofs.Module.{scale_scale, scale_one}
-use Rattle.popov_theory.proofs.Places.{column_at}
+use Rattle.popov_theory.proofs.Positions.{column_at}
 use Rattle.popov_theory.proofs.Measure.{measure_scale}
 use Rattle.popov_theory.proofs.PredictableDegree.{empty_pol}
 use Rattle.popov_theory.proofs.Span.{span_row, span_scale, within_rows, same_span_sym, same_span_trans}

@@ -3,16 +3,16 @@
 use Rattle.std.proofs.Common.{◌≡◌, ℕ, zero, suc, ◌<◌, ◌≤◌, ◌+◌, ◌*◌, ◌-◌, ◌/◌, ◌%◌, ◌⊎◌, inl, inr, List, length, refl, sym, ◌∙◌, ap, ap₂, arith, subst, add-mul}
 use Rattle.std.proofs.lemmas.Bool.{cases_lt}
 use Rattle.std.proofs.lemmas.Nat.{div-mul-add}
-use Rattle.ff_ring.specs.Ring.{CommRing, TestedRing, IsField, IsDomain}
-use Rattle.ff_ring.specs.Lists.{coeff_of, convolution, tail_of}
-use Rattle.ff_ring.proofs.Ring.{field_domain, zero_mul, zero_add}
-use Rattle.ff_ring.proofs.Rows.{pair_path}
-use Rattle.ff_ring.proofs.Polynomials.{Pol, pol_ring}
+use Rattle.ring_theory.specs.Ring.{CommRing, TestedRing, IsField, IsDomain}
+use Rattle.ring_theory.specs.Lists.{coeff_of, convolution, tail_of}
+use Rattle.ring_theory.proofs.Ring.{field_domain, zero_mul, zero_add}
+use Rattle.ring_theory.proofs.Rows.{pair_path}
+use Rattle.ring_theory.proofs.Polynomials.{Pol, pol_ring}
 use Rattle.popov_theory.specs.Module.{PolynomialModule, measure, row_degree, column}
 use Rattle.popov_theory.specs.Span.{row_at, InSpan, IsSubmodule}
 use Rattle.popov_theory.specs.Popov.{IsPopov, Leading}
 use Rattle.popov_theory.proofs.Module.{v_sub_sub, scale_zero, zero_scale, v_add_neg, v_eq_of_sub, v_neg_neg, split, column_below}
-use Rattle.popov_theory.proofs.Places.{column_at, row_le}
+use Rattle.popov_theory.proofs.Positions.{column_at, row_le}
 use Rattle.popov_theory.proofs.Measure.{measure_scale, measure_past, measure_top, pivot_is, zero_from_measure, measure_zero}
 use Rattle.popov_theory.proofs.Span.{span_submodule, neg_in, sub_in, span_zero, span_add, span_scale, span_row, span_least}
 use Rattle.popov_theory.proofs.Monomials.{monomial, monomial_off, monomial_length}
@@ -251,7 +251,7 @@ module _ {A V U : Type 0} {k : TestedRing A} (M : PolynomialModule k V) (N : Pol
               (sub_in M Kernel kernel_submodule v (M.◌⊞◌ v (M.⊟◌ ρ)) v_in (kernel_in _ (difference_in M field kernel_rows v)))
 
           zero_at : (e : ℕ) → Leading W rs (suc e) → W.coef (ρ, N.𝟎) e ≡ k.𝟘
-          zero_at e l = subst (λ n. W.coef (ρ, N.𝟎) n ≡ k.𝟘) place (at (cases_lt l.index M.width))
+          zero_at e l = subst (λ n. W.coef (ρ, N.𝟎) n ≡ k.𝟘) position (at (cases_lt l.index M.width))
             where
               d : ℕ
               d = row_degree W (row_at W rs l.index)
@@ -259,8 +259,8 @@ module _ {A V U : Type 0} {k : TestedRing A} (M : PolynomialModule k V) (N : Pol
               index_less : l.index < W.width
               index_less = omega (arith, l.below, p.size)
 
-              place : (l.times + d) * W.width + l.index ≡ e
-              place = omega (arith, l.is, popov_measure W rs p l.index index_less, add-mul l.times d W.width)
+              position : (l.times + d) * W.width + l.index ≡ e
+              position = omega (arith, l.is, popov_measure W rs p l.index index_less, add-mul l.times d W.width)
 
               at : (l.index < M.width) ⊎ (M.width ≤ l.index) → W.coef (ρ, N.𝟎) ((l.times + d) * W.width + l.index) ≡ k.𝟘
               at (inr out) = pair_off ρ (l.times + d) l.index index_less out

@@ -2,16 +2,16 @@
 use Rattle.std.proofs.Common.{◌≡◌, ◌≢◌, ℕ, zero, suc, ◌<◌, ◌≤◌, ◌+◌, ◌*◌, ◌-◌, ◌/◌, ◌%◌, ◌⊎◌, inl, inr, Bool, true, false, cond, [], ◌∷◌, length, refl, sym, ◌∙◌, ap, ap₂, arith, subst, true≢false, eq-or-lt_of_le, add-mul}
 use Rattle.std.proofs.lemmas.Nat.{div-mul-add, mul-le}
 use Rattle.std.proofs.lemmas.Bool.{cases_lt}
-use Rattle.ff_ring.specs.Ring.{TestedRing, IsDomain}
-use Rattle.ff_ring.specs.Lists.{coeff_of, convolution}
-use Rattle.ff_ring.proofs.Ring.{neg_zero, product_not_zero}
-use Rattle.ff_ring.proofs.Sequences.{convolution_past, convolution_top, convolution_null_left, convolution_comm}
-use Rattle.ff_ring.proofs.Polynomials.{Pol, coeff_past, coeff_top}
-use Rattle.popov_theory.specs.Module.{PolynomialModule, top_place, measure, pivot, row_degree, column}
+use Rattle.ring_theory.specs.Ring.{TestedRing, IsDomain}
+use Rattle.ring_theory.specs.Lists.{coeff_of, convolution}
+use Rattle.ring_theory.proofs.Ring.{neg_zero, product_not_zero}
+use Rattle.ring_theory.proofs.Sequences.{convolution_past, convolution_top, convolution_null_left, convolution_comm}
+use Rattle.ring_theory.proofs.Polynomials.{Pol, coeff_past, coeff_top}
+use Rattle.popov_theory.specs.Module.{PolynomialModule, top_position, measure, pivot, row_degree, column}
 use Rattle.popov_theory.proofs.Module.{split, column_below}
-use Rattle.popov_theory.proofs.Places.{row_le, degree_less, degree_rises, column_at}
+use Rattle.popov_theory.proofs.Positions.{row_le, degree_less, degree_rises, column_at}
 
--- the last place of a sequence
+-- the last position of a sequence
 module _ {A : Type 0} (k : TestedRing A) where
   is_zero_cases : (a : A) → (a ≡ k.𝟘) ⊎ (a ≢ k.𝟘)
   is_zero_cases a = go (k.is_zero a) refl
@@ -23,20 +23,20 @@ module _ {A : Type 0} (k : TestedRing A) where
   pub zero_or_not : (a : A) → (a ≡ k.𝟘) ⊎ (a ≢ k.𝟘)
   zero_or_not a = is_zero_cases a
 
-  pub top_past : (f : ℕ → A) (n e : ℕ) → top_place k.is_zero f n ≤ e → e < n → f e ≡ k.𝟘
+  pub top_past : (f : ℕ → A) (n e : ℕ) → top_position k.is_zero f n ≤ e → e < n → f e ≡ k.𝟘
   top_past f zero e le less = absurd (omega arith)
   top_past f (suc n) e le less = go (k.is_zero (f n)) refl le (eq-or-lt_of_le (omega arith)) (top_past f n e)
     where
-      go : (b : Bool) → k.is_zero (f n) ≡ b → cond b (top_place k.is_zero f n) (suc n) ≤ e → (e ≡ n) ⊎ (e < n) → (top_place k.is_zero f n ≤ e → e < n → f e ≡ k.𝟘) → f e ≡ k.𝟘
+      go : (b : Bool) → k.is_zero (f n) ≡ b → cond b (top_position k.is_zero f n) (suc n) ≤ e → (e ≡ n) ⊎ (e < n) → (top_position k.is_zero f n ≤ e → e < n → f e ≡ k.𝟘) → f e ≡ k.𝟘
       go true is_null le (inl here) earlier = ap f here ∙ k.zero_from (f n) is_null
       go true is_null le (inr lower) earlier = earlier le lower
       go false some le at earlier = absurd (omega arith)
 
-  pub top_some : (f : ℕ → A) (n e : ℕ) → top_place k.is_zero f n ≡ suc e → f e ≢ k.𝟘
+  pub top_some : (f : ℕ → A) (n e : ℕ) → top_position k.is_zero f n ≡ suc e → f e ≢ k.𝟘
   top_some f zero e is = absurd (omega arith)
   top_some f (suc n) e is = go (k.is_zero (f n)) refl is (top_some f n e)
     where
-      go : (b : Bool) → k.is_zero (f n) ≡ b → cond b (top_place k.is_zero f n) (suc n) ≡ suc e → (top_place k.is_zero f n ≡ suc e → f e ≢ k.𝟘) → f e ≢ k.𝟘
+      go : (b : Bool) → k.is_zero (f n) ≡ b → cond b (top_position k.is_zero f n) (suc n) ≡ suc e → (top_position k.is_zero f n ≡ suc e → f e ≢ k.𝟘) → f e ≢ k.𝟘
       go true is_null is earlier = earlier is
       go false some is earlier = λ z. true≢false (sym k.zero_is_zero ∙ ap k.is_zero (sym z) ∙ ap (λ i. k.is_zero (f i)) (omega arith) ∙ some)
 
@@ -72,7 +72,7 @@ module _ {A V : Type 0} {k : TestedRing A} (M : PolynomialModule k V) where
           at (inl less) = omega (arith, e)
           at (inr past) = absurd (measure_top v m e (ends m past))
 
-  -- and the place of its last coefficient is known
+  -- and the position of its last coefficient is known
   pub measure_above : (v : V) (e : ℕ) → coef v e ≢ 𝟘 → e < measure M v
   measure_above v e some = go (cases_lt e (measure M v))
     where

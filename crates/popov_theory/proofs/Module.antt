@@ -2,12 +2,12 @@
 use Rattle.std.proofs.Common.{◌≡◌, [], ◌∷◌, ℕ, zero, suc, ◌<◌, ◌+◌, ◌*◌, ◌/◌, ◌%◌, refl, sym, ◌∙◌, ap, ap₂, subst}
 use Rattle.std.proofs.lemmas.Nat.{div-add-mod', mod_below}
 use mathlib.Core.Path.{fun_ext}
-use Rattle.ff_ring.specs.Ring.{TestedRing}
-use Rattle.ff_ring.specs.Lists.{coeff_of, convolution}
-use Rattle.ff_ring.proofs.Ring.{neg_neg, neg_sum}
-use Rattle.ff_ring.proofs.Sequences.{convolution_add_left, convolution_add_right, convolution_assoc, convolution_comm, convolution_null_left, convolution_constant_left}
-use Rattle.ff_ring.proofs.Polynomials.{Pol, pol_ops, pol_ring, series_add, series_mul}
-use Rattle.ff_ring.proofs.Lists.{coeff_trim}
+use Rattle.ring_theory.specs.Ring.{TestedRing}
+use Rattle.ring_theory.specs.Lists.{coeff_of, convolution}
+use Rattle.ring_theory.proofs.Ring.{neg_neg, neg_sum}
+use Rattle.ring_theory.proofs.Sequences.{convolution_add_left, convolution_add_right, convolution_assoc, convolution_comm, convolution_null_left, convolution_constant_left}
+use Rattle.ring_theory.proofs.Polynomials.{Pol, pol_ops, pol_ring, series_add, series_mul}
+use Rattle.ring_theory.proofs.Lists.{coeff_trim}
 use Rattle.popov_theory.specs.Module.{PolynomialModule}
 
 module _ {A V : Type 0} {k : TestedRing A} (M : PolynomialModule k V) where
@@ -23,7 +23,7 @@ module _ {A V : Type 0} {k : TestedRing A} (M : PolynomialModule k V) where
   abbrev P : TestedRing (Pol k)
   P = pol_ring k
 
-  -- a place by its degree and its column
+  -- a position by its degree and its column
   pub split : (e : ℕ) → e / width * width + e % width ≡ e
   split e = div-add-mod' e width
 

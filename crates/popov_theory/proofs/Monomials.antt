@@ -1,9 +1,9 @@
--- Monomials a·x^s, and the multiple of a row by one that clears a place.
+-- Monomials a·x^s, and the multiple of a row by one that clears a position.
 use Rattle.std.proofs.Common.{◌≡◌, ◌≢◌, ℕ, zero, suc, ◌<◌, ◌≤◌, ◌+◌, ◌*◌, ◌-◌, [], ◌∷◌, length, refl, sym, ◌∙◌, ap, arith}
-use Rattle.ff_ring.specs.Ring.{TestedRing, IsField}
-use Rattle.ff_ring.specs.Lists.{coeff_of}
-use Rattle.ff_ring.proofs.Lists.{coeff_trim}
-use Rattle.ff_ring.proofs.Polynomials.{Pol, pol_of, length_from_top}
+use Rattle.ring_theory.specs.Ring.{TestedRing, IsField}
+use Rattle.ring_theory.specs.Lists.{coeff_of}
+use Rattle.ring_theory.proofs.Lists.{coeff_trim}
+use Rattle.ring_theory.proofs.Polynomials.{Pol, pol_of, length_from_top}
 use Rattle.popov_theory.specs.Module.{PolynomialModule, measure, spike}
 pub use Rattle.popov_theory.specs.Module.{monomial}
 use Rattle.popov_theory.proofs.Measure.{measure_past, measure_top, measure_bound, scale_top, scale_past}
@@ -42,7 +42,7 @@ module _ {A V : Type 0} {k : TestedRing A} (M : PolynomialModule k V) (field : I
   open M use {width, 𝟎, ◌⊞◌, ⊟◌, ◌·◌, coef}
   open k use {◌⊗◌}
 
-  -- a multiple of v that ends at the place e, with the coefficient of u there
+  -- a multiple of v that ends at the position e, with the coefficient of u there
   pub record Clearing (u v : V) (e : ℕ) : Type 0 where
     pub scalar : A
     pub power : ℕ

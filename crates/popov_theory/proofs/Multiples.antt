@@ -1,13 +1,13 @@
 -- The multiples x^t of the rows of a list, with t below a bound for each row: their measures are different.
 use Rattle.std.proofs.Common.{◌≡◌, ◌≢◌, ℕ, zero, suc, ◌<◌, ◌+◌, ◌*◌, ◌⊎◌, inl, inr, List, [], ◌∷◌, ◌++◌, length, refl, sym, ◌∙◌, ap, arith, subst, le_of_suc-le-suc, length-append}
 use native.Mathlib.Decide.{ℕ_discrete}
-use Rattle.ff_ring.specs.Ring.{TestedRing, IsDomain}
-use Rattle.ff_ring.specs.Lists.{tail_of}
-use Rattle.ff_ring.proofs.Finite.{In, IsDistinct}
+use Rattle.ring_theory.specs.Ring.{TestedRing, IsDomain}
+use Rattle.ring_theory.specs.Lists.{tail_of}
+use Rattle.ring_theory.proofs.Finite.{In, IsDistinct}
 use Rattle.popov_theory.specs.Module.{PolynomialModule, measure, column}
 use Rattle.popov_theory.specs.Span.{row_at}
 use Rattle.popov_theory.specs.Popov.{IsWeakPopov}
-use Rattle.popov_theory.proofs.Places.{column_shift, row_le}
+use Rattle.popov_theory.proofs.Positions.{column_shift, row_le}
 use Rattle.popov_theory.proofs.Measure.{measure_scale}
 use Rattle.popov_theory.proofs.PredictableDegree.{weak_tail, row_not_zero}
 use Rattle.popov_theory.proofs.Monomials.{monomial, monomial_length}

@@ -3,12 +3,12 @@ use Rattle.std.proofs.Common.{◌≡◌, ◌≢◌, ℕ, zero, suc, ◌<◌, ◌
 use Rattle.std.proofs.lemmas.Nat.{div-add-mod', mod_below, mod-mul-add, div-mul-add, le-div}
 use native.Mathlib.Decide.{ℕ_discrete}
 use mathlib.Core.Path.{fun_ext}
-use Rattle.ff_ring.specs.Ring.{TestedRing}
-use Rattle.ff_ring.specs.Lists.{coeff_of, convolution}
-use Rattle.ff_ring.specs.Rows.{Row, row_zero, row_add, row_neg, row_scale, entry}
-use Rattle.ff_ring.proofs.Ring.{neg_zero, mul_zero}
-use Rattle.ff_ring.proofs.Rows.{pair_path}
-use Rattle.ff_ring.proofs.Polynomials.{Pol, pol_ops, pol_ring, same_pol, series_add, series_neg, series_mul, coeff_past}
+use Rattle.ring_theory.specs.Ring.{TestedRing}
+use Rattle.ring_theory.specs.Lists.{coeff_of, convolution}
+use Rattle.ring_theory.specs.Rows.{Row, row_zero, row_add, row_neg, row_scale, entry}
+use Rattle.ring_theory.proofs.Ring.{neg_zero, mul_zero}
+use Rattle.ring_theory.proofs.Rows.{pair_path}
+use Rattle.ring_theory.proofs.Polynomials.{Pol, pol_ops, pol_ring, same_pol, series_add, series_neg, series_mul, coeff_past}
 use Rattle.popov_theory.specs.Module.{PolynomialModule}
 use Rattle.popov_theory.proofs.Monomials.{monomial, monomial_at, monomial_off}
 
@@ -141,7 +141,7 @@ module _ {A : Type 0} (k : TestedRing A) where
     unfolding row_module
     row_width = refl
 
-    -- the coefficient at a place is that of an entry
+    -- the coefficient at a position is that of an entry
     pub row_entry : (v : Row (Pol k) w) (s j : ℕ) → j < w → row_module.coef v (s * row_module.width + j) ≡ coeff_of k.ops (entry P.ops w j v).0 s
     unfolding row_module
     row_entry v s j less = row_coef_at v s j less

@@ -2,16 +2,16 @@
 use Rattle.std.proofs.Common.{◌≡◌, ◌≢◌, ℕ, zero, suc, ◌<◌, ◌≤◌, ◌+◌, ◌*◌, ◌-◌, ◌⊎◌, inl, inr, List, [], ◌∷◌, length, map, refl, sym, ◌∙◌, ap, ap₂, arith, subst, suc-mul}
 use Rattle.std.proofs.lemmas.Bool.{cases_lt}
 use Rattle.std.proofs.lemmas.Nat.{mul-le}
-use Rattle.ff_ring.specs.Ring.{TestedRing, IsDomain}
-use Rattle.ff_ring.specs.Lists.{coeff_of, tail_of}
-use Rattle.ff_ring.proofs.Ring.{one_mul}
-use Rattle.ff_ring.proofs.Sequences.{convolution_past, convolution_top, convolution_null_left, convolution_comm}
-use Rattle.ff_ring.proofs.Polynomials.{Pol, pol_ring, coeff_past}
-use Rattle.popov_theory.specs.Module.{PolynomialModule, measure, pivot, row_degree, column, top_place}
+use Rattle.ring_theory.specs.Ring.{TestedRing, IsDomain}
+use Rattle.ring_theory.specs.Lists.{coeff_of, tail_of}
+use Rattle.ring_theory.proofs.Ring.{one_mul}
+use Rattle.ring_theory.proofs.Sequences.{convolution_past, convolution_top, convolution_null_left, convolution_comm}
+use Rattle.ring_theory.proofs.Polynomials.{Pol, pol_ring, coeff_past}
+use Rattle.popov_theory.specs.Module.{PolynomialModule, measure, pivot, row_degree, column, top_position}
 use Rattle.popov_theory.specs.Span.{row_at, InSpan, combine}
 use Rattle.popov_theory.specs.Popov.{IsPopov, pivot_degree}
 use Rattle.popov_theory.proofs.Module.{scale_add, scale_scale, scale_zero}
-use Rattle.popov_theory.proofs.Places.{column_shift}
+use Rattle.popov_theory.proofs.Positions.{column_shift}
 use Rattle.popov_theory.proofs.Measure.{measure_scale, measure_past, zero_from_measure, measure_zero, scale_top, top_past, top_some}
 use Rattle.popov_theory.proofs.PredictableDegree.{degree_multiple}
 
@@ -74,7 +74,7 @@ module _ {A V : Type 0} {k : TestedRing A} (M : PolynomialModule k V) (domain : 
       ∙ convolution_past k.ring monic.degree d (coeff_of k.ops h.0) (λ t. coef v (t * width + j)) h_ends (λ t after. ends t after) s (omega (arith, le))
 
   entry_ends_back : (v : V) (j : ℕ) → j < width → (d : ℕ) → ((s : ℕ) → monic.degree + d ≤ s → coef (h · v) (s * width + j) ≡ 𝟘) → (s : ℕ) → d ≤ s → coef v (s * width + j) ≡ 𝟘
-  entry_ends_back v j less d ends s le = go (top_place k.is_zero g n) refl
+  entry_ends_back v j less d ends s le = go (top_position k.is_zero g n) refl
     where
       g : ℕ → A
       g t = coef v (t * width + j)
@@ -85,14 +85,14 @@ module _ {A V : Type 0} {k : TestedRing A} (M : PolynomialModule k V) (domain : 
       past : (t : ℕ) → n ≤ t → g t ≡ 𝟘
       past t after = M.coef_past v (t * width + j) (omega (arith, mul-le t 1 t width (omega arith) M.positive, after))
 
-      ends_at : (m : ℕ) → top_place k.is_zero g n ≤ m → (t : ℕ) → m ≤ t → g t ≡ 𝟘
+      ends_at : (m : ℕ) → top_position k.is_zero g n ≤ m → (t : ℕ) → m ≤ t → g t ≡ 𝟘
       ends_at m top_le t m_le = at (cases_lt t n)
         where
           at : (t < n) ⊎ (n ≤ t) → g t ≡ 𝟘
           at (inl t_less) = top_past k g n t (omega (arith, top_le, m_le)) t_less
           at (inr after) = past t after
 
-      go : (m : ℕ) → top_place k.is_zero g n ≡ m → g s ≡ 𝟘
+      go : (m : ℕ) → top_position k.is_zero g n ≡ m → g s ≡ 𝟘
       go zero e = ends_at 0 (omega (arith, e)) s (omega arith)
       go (suc m) e = at (cases_lt m s)
         where

@@ -1,32 +1,32 @@
 -- The combinations of a lattice over k[t] are a lattice at infinity, and so is O_inf where the discriminant isn't 0.
 use Rattle.std.proofs.Common.{◌≡◌, ◌↔◌, ℕ, List, map, refl, ◌∙◌, ap, subst}
-use Rattle.ff_ring.specs.Ring.{pow}
-use Rattle.ff_ring.specs.Subsets.{Span}
-use Rattle.ff_ring.proofs.Ring.{mul_left_comm}
-use Rattle.local_theory.specs.Ideals.{SameSet}
+use Rattle.ring_theory.specs.Ring.{pow}
+use Rattle.ring_theory.specs.Subsets.{Span}
+use Rattle.ring_theory.proofs.Ring.{mul_left_comm}
+use Rattle.prime_theory.specs.Ideals.{SameSet}
 use Rattle.linear_theory.proofs.Euclid.{order_at}
 use Rattle.ff_fields.specs.Field.{CodeField}
 use Rattle.ff_poly.specs.Polynomials.{polynomials, x_poly}
-use Rattle.ff_algebra.specs.declared.elem.Side.TheVariants.{Infinite}
-use Rattle.ff_algebra.specs.Discriminant.{discriminant}
-use Rattle.ff_algebra.specs.Functions.{Equation, FunctionOf, ring_of, of_poly, setting_of, IsPolynomial, IsFiniteAtInfinity}
-use Rattle.ff_algebra.specs.Places.{IsIntegralAt}
-use Rattle.ff_algebra.specs.Values.{PresValue, Functions, functions, setting, equation_of}
+use Rattle.function_field.specs.declared.side.Side.TheVariants.{Infinite}
+use Rattle.function_field.specs.Discriminant.{discriminant}
+use Rattle.function_field.specs.Functions.{Equation, FunctionOf, ring_of, of_poly, setting_of, IsPolynomial, IsFiniteAtInfinity}
+use Rattle.function_field.specs.Places.{IsIntegralAt}
+use Rattle.function_field.specs.Values.{PresValue, Functions, functions, setting, equation_of}
 use Rattle.places_theory.proofs.PresentationMap.{presentation_map}
 use Rattle.places_theory.proofs.YRoot.{poly_hom}
 use Rattle.trace_theory.proofs.Division.{euclidean}
 use Rattle.trace_theory.proofs.Irreducible.{irreducible}
 use Rattle.lattice_theory.specs.Lattices.{IsLattice}
 use Rattle.order_theory.proofs.LocalOrders.{power_value}
-use Rattle.side_theory.specs.Tame.{IsLocallyIn}
-use Rattle.side_theory.specs.InfiniteMaps.{IsInfiniteMap}
-use Rattle.side_theory.proofs.InfiniteTransport.{x_irreducible, infinite_map}
-use Rattle.side_theory.proofs.InfiniteDecisions.{infinite_some}
-use Rattle.side_theory.proofs.InfiniteLaws.{taken_spans}
-use Rattle.side_theory.proofs.InfiniteOrders.{combination_local}
-use Rattle.side_theory.proofs.LocalIntegral.{taken_order}
-use Rattle.side_theory.proofs.PushedPlaces.{each}
-use Rattle.side_theory.proofs.EachEquation.{each_equation}
+use Rattle.infinite_theory.specs.Supported.{IsLocallyIn}
+use Rattle.infinite_theory.specs.InfiniteMaps.{IsInfiniteMap}
+use Rattle.infinite_theory.proofs.InfiniteTransport.{x_irreducible, infinite_map}
+use Rattle.infinite_theory.proofs.InfiniteDecisions.{infinite_some}
+use Rattle.infinite_theory.proofs.InfiniteLaws.{taken_spans}
+use Rattle.infinite_theory.proofs.InfiniteOrders.{combination_local}
+use Rattle.infinite_theory.proofs.LocalIntegral.{taken_order}
+use Rattle.infinite_theory.proofs.PushedPlaces.{each}
+use Rattle.infinite_theory.proofs.EachEquation.{each_equation}
 use Rattle.space_theory.specs.Spaces.{IsLatticeAtInfinity}
 use Rattle.space_theory.proofs.FewGenerators.{power_image}
 

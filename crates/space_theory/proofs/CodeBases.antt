@@ -1,14 +1,14 @@
 -- Bases over k in the words of divisors.
 use Rattle.std.proofs.Common.{◌≡◌, ◌∙◌, List, [], ◌∷◌, refl, sym, ap, subst}
-use Rattle.ff_ring.specs.Subsets.{Span}
-use Rattle.ff_ring.specs.Lists.{coeff_of}
-use Rattle.ff_ring.proofs.Evaluate.{constant, length_trim}
+use Rattle.ring_theory.specs.Subsets.{Span}
+use Rattle.ring_theory.specs.Lists.{coeff_of}
+use Rattle.ring_theory.proofs.Evaluate.{constant, length_trim}
 use Rattle.linear_theory.specs.Module.{combine}
 use Rattle.linear_theory.specs.Basis.{IsNull, IsBasis as IsBasisOver}
 use Rattle.ff_fields.specs.Field.{CodeField}
 use Rattle.ff_fields.specs.Code.{Code, code_ring}
-use Rattle.ff_algebra.specs.Functions.{Equation, FunctionOf, ring_of, of_poly, setting_of, IsCode}
-use Rattle.ff_algebra.specs.Divisors.{IsBasis}
+use Rattle.function_field.specs.Functions.{Equation, FunctionOf, ring_of, of_poly, setting_of, IsCode}
+use Rattle.function_field.specs.Divisors.{IsBasis}
 use Rattle.lattice_theory.specs.Lattices.{space_ops}
 use Rattle.lattice_theory.proofs.Indices.{code_of, code_hom}
 use Rattle.order_theory.proofs.Degrees.{constant_of}

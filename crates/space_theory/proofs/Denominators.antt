@@ -1,21 +1,21 @@
 -- Combinations over the fractions of degree at most 0, by one denominator: coordinates whose degrees are at most its own.
 use Rattle.std.proofs.Common.{◌≡◌, ℕ, zero, suc, ◌≤◌, ◌<◌, List, [], ◌∷◌, length, refl, sym, ◌∙◌, ap, ap₂, subst, arith}
-use Rattle.ff_ring.specs.Subsets.{Span}
-use Rattle.ff_ring.proofs.Ring.{mul_zero}
-use Rattle.ff_ring.proofs.Solver.{ring, reads, from_one}
-use Rattle.ff_ring.proofs.Polynomials.{length_product, length_product_le}
+use Rattle.ring_theory.specs.Subsets.{Span}
+use Rattle.ring_theory.proofs.Ring.{mul_zero}
+use Rattle.ring_theory.proofs.Solver.{ring, reads, from_one}
+use Rattle.ring_theory.proofs.Polynomials.{length_product, length_product_le}
 use Rattle.ff_fields.specs.Field.{CodeField}
 use Rattle.ff_fields.specs.Code.{code_ring, code_domain}
 use Rattle.ff_poly.specs.Polynomials.{Polynomial, polynomials, polynomials_domain}
-use Rattle.ff_algebra.specs.Functions.{Equation, FunctionOf, ring_of, of_poly, row_of, over, IsFiniteAtInfinity}
-use Rattle.ff_algebra.proofs.OnSide.{den_inverse}
-use Rattle.ff_algebra.proofs.ScalarRings.{bottoms_not_zero}
+use Rattle.function_field.specs.Functions.{Equation, FunctionOf, ring_of, of_poly, row_of, over, IsFiniteAtInfinity}
+use Rattle.function_field.proofs.OnSide.{den_inverse}
+use Rattle.function_field.proofs.ScalarRings.{bottoms_not_zero}
 use Rattle.linear_theory.specs.Module.{combine}
 use Rattle.linear_theory.proofs.Lists.{insert}
 use Rattle.linear_theory.proofs.Combination.{combine_scale}
 use Rattle.places_theory.proofs.YRoot.{poly_hom, over_times_den}
 use Rattle.lattice_theory.specs.Lattices.{polynomial_ops}
-use Rattle.reduced_theory.proofs.Degree.{length_zero}
+use Rattle.reduced_basis_theory.proofs.Degree.{length_zero}
 use Rattle.space_theory.proofs.FunctionModule.{functions_module, cancel}
 
 module _ {k : CodeField} (c : Equation k) where

@@ -1,15 +1,15 @@
 -- What finitely many functions span over the fractions of degree at most 0, and powers of 1/x take each function into, n functions span.
 use Rattle.std.proofs.Common.{◌≡◌, ◌↔◌, ℕ, List, [], ◌∷◌, length, map, refl, sym, ◌∙◌, ap, ap₂, subst, arith}
 use Rattle.std.proofs.lemmas.List.{length-map}
-use Rattle.ff_ring.specs.Ring.{pow}
-use Rattle.ff_ring.specs.Subsets.{Span}
-use Rattle.ff_ring.proofs.Ring.{mul_zero}
+use Rattle.ring_theory.specs.Ring.{pow}
+use Rattle.ring_theory.specs.Subsets.{Span}
+use Rattle.ring_theory.proofs.Ring.{mul_zero}
 use Rattle.ff_fields.specs.Field.{CodeField}
 use Rattle.linear_theory.specs.Euclidean.{IsDivisor}
 use Rattle.ff_poly.specs.Polynomials.{Polynomial, polynomials, x_poly, x_poly_not_zero}
-use Rattle.ff_algebra.specs.Functions.{Equation, FunctionOf, ring_of, of_poly, setting_of, degree_of_y, IsPolynomial, IsFiniteAtInfinity}
-use Rattle.ff_algebra.specs.Values.{PresValue, Functions, functions, setting, equation_of}
-use Rattle.ff_algebra.proofs.ScalarRings.{bottoms_not_zero}
+use Rattle.function_field.specs.Functions.{Equation, FunctionOf, ring_of, of_poly, setting_of, degree_of_y, IsPolynomial, IsFiniteAtInfinity}
+use Rattle.function_field.specs.Values.{PresValue, Functions, functions, setting, equation_of}
+use Rattle.function_field.proofs.ScalarRings.{bottoms_not_zero}
 use Rattle.places_theory.proofs.Transport.{back, f_back}
 use Rattle.places_theory.proofs.YRoot.{poly_hom}
 use Rattle.trace_theory.proofs.Determinants.{image_power}
@@ -17,13 +17,13 @@ use Rattle.trace_theory.proofs.FunctionPowers.{power_some}
 use Rattle.lattice_theory.specs.Lattices.{IsLattice}
 use Rattle.order_theory.specs.Orders.{IsPrimeTo}
 use Rattle.order_theory.proofs.LocalOrders.{power_value}
-use Rattle.side_theory.specs.Tame.{IsLocallyIn}
-use Rattle.side_theory.specs.InfiniteMaps.{IsInfiniteMap}
-use Rattle.side_theory.proofs.InfiniteTransport.{infinite_map}
+use Rattle.infinite_theory.specs.Supported.{IsLocallyIn}
+use Rattle.infinite_theory.specs.InfiniteMaps.{IsInfiniteMap}
+use Rattle.infinite_theory.proofs.InfiniteTransport.{infinite_map}
 use Rattle.places_theory.proofs.PresentationMap.{presentation_map}
-use Rattle.side_theory.proofs.InfiniteOrders.{combination_local}
-use Rattle.side_theory.proofs.PushedPlaces.{each}
-use Rattle.side_theory.proofs.EachEquation.{each_equation}
+use Rattle.infinite_theory.proofs.InfiniteOrders.{combination_local}
+use Rattle.infinite_theory.proofs.PushedPlaces.{each}
+use Rattle.infinite_theory.proofs.EachEquation.{each_equation}
 use Rattle.space_theory.proofs.LatticeBases.{lattice_of_span, span_of_lattice, basis_of_lattice}
 
 -- n functions with the same span at infinity

@@ -2,21 +2,21 @@
 use Rattle.std.proofs.Common.{◌≡◌, zero, suc, ◌≤◌, ℤ, pos, negsuc, ◌+ℤ◌, ◌-ℤ◌, [], ◌∷◌, length, refl, sym, ◌∙◌, ap, ap₂, subst, arith}
 use Rattle.std.proofs.Math.IntN.{neg_ℤ}
 use Rattle.std.proofs.lemmas.Int.{ints}
-use Rattle.ff_ring.specs.Ring.{pow}
-use Rattle.ff_ring.proofs.Ring.{mul_left_comm}
-use Rattle.ff_ring.proofs.Solver.{ring, reads, from_one}
+use Rattle.ring_theory.specs.Ring.{pow}
+use Rattle.ring_theory.proofs.Ring.{mul_left_comm}
+use Rattle.ring_theory.proofs.Solver.{ring, reads, from_one}
 use Rattle.ff_fields.specs.Field.{CodeField}
 use Rattle.ff_fields.specs.Code.{code_ring, code_domain}
 use Rattle.ff_poly.specs.Polynomials.{Polynomial, polynomials, x_poly, x_poly_not_zero}
-use Rattle.ff_algebra.specs.Functions.{Equation, FunctionOf, ring_of, of_poly, row_of, setting_of, IsFiniteAtInfinity}
-use Rattle.ff_algebra.specs.Divisors.{x_to}
-use Rattle.ff_algebra.proofs.ScalarRings.{bottoms_not_zero}
+use Rattle.function_field.specs.Functions.{Equation, FunctionOf, ring_of, of_poly, row_of, setting_of, IsFiniteAtInfinity}
+use Rattle.function_field.specs.Divisors.{x_to}
+use Rattle.function_field.proofs.ScalarRings.{bottoms_not_zero}
 use Rattle.places_theory.proofs.YRoot.{poly_hom, over_times_den}
 use Rattle.trace_theory.proofs.FunctionPowers.{power_some}
 use Rattle.order_theory.proofs.LocalOrders.{power_value}
-use Rattle.reduced_theory.specs.Degree.{DegreeAtMost, degree}
-use Rattle.reduced_theory.specs.Dual.{FractionAtMost}
-use Rattle.reduced_theory.proofs.Degree.{degree_own, degree_product, degree_multiply}
+use Rattle.reduced_basis_theory.specs.Degree.{DegreeAtMost, degree}
+use Rattle.reduced_basis_theory.specs.Dual.{FractionAtMost}
+use Rattle.reduced_basis_theory.proofs.Degree.{degree_own, degree_product, degree_multiply}
 use Rattle.trace_theory.proofs.FunctionTraces.{as_row}
 use Rattle.space_theory.proofs.FunctionModule.{cancel}
 use Rattle.space_theory.proofs.InfiniteBases.{x_to_t}

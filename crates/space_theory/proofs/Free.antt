@@ -1,9 +1,9 @@
 -- n elements that span n free elements are free.
 use Rattle.std.proofs.Common.{◌≡◌, ℕ, ◌<◌, List, [], ◌∷◌, length, All, refl, sym, ◌∙◌, ap, ap₂, subst, arith}
 use Rattle.std.proofs.lemmas.List.Elements.{All-weaker}
-use Rattle.ff_ring.specs.Ring.{TestedRing, IsField}
-use Rattle.ff_ring.proofs.Solver.{reads}
-use Rattle.ff_ring.proofs.Polynomials.{Pol, pol_ring}
+use Rattle.ring_theory.specs.Ring.{TestedRing, IsField}
+use Rattle.ring_theory.proofs.Solver.{reads}
+use Rattle.ring_theory.proofs.Polynomials.{Pol, pol_ring}
 use Rattle.linear_theory.specs.Module.{Module, combine}
 use Rattle.linear_theory.specs.Basis.{IsCombination, IsNull}
 use Rattle.linear_theory.proofs.Lists.{entry, omit, remove, length_remove}
@@ -11,9 +11,9 @@ use Rattle.linear_theory.proofs.Module.{linear, parts, scalar}
 use Rattle.linear_theory.proofs.Combination.{combine_omit, combine_linear, combine_scale}
 use Rattle.linear_theory.proofs.Exchange.{exchange_multiples}
 use Rattle.linear_theory.proofs.Domain.{decide_equal}
-use Rattle.reduced_theory.specs.Reduced.{InLattice}
-use Rattle.reduced_theory.proofs.Constants.{polynomial_domain}
-use Rattle.reduced_theory.proofs.Converse.{without}
+use Rattle.reduced_basis_theory.specs.Reduced.{InLattice}
+use Rattle.reduced_basis_theory.proofs.Constants.{polynomial_domain}
+use Rattle.reduced_basis_theory.proofs.Converse.{without}
 
 module _ {C V : Type 0} (k : TestedRing C) (field : IsField k.ops) (M : Module (pol_ring k).ring V) (n : ℕ)
     (p : List V) (p_count : length p ≡ n) (p_free : (c : ℕ → Pol k) → combine M.ops c p ≡ M.𝟬 → (i : ℕ) → i < n → c i ≡ (pol_ring k).𝟘)

@@ -1,19 +1,19 @@
 -- The functions of a curve as a module over the polynomials, with 1/x as division by the variable.
 use Rattle.std.proofs.Common.{◌≡◌, ℕ, zero, suc, ℤ, pos, negsuc, [], ◌∷◌, sym, ◌∙◌, ap, ap₂}
-use Rattle.ff_ring.specs.Ring.{pow}
-use Rattle.ff_ring.proofs.Ring.{one_mul}
-use Rattle.ff_ring.proofs.Polynomials.{pol_of}
+use Rattle.ring_theory.specs.Ring.{pow}
+use Rattle.ring_theory.proofs.Ring.{one_mul}
+use Rattle.ring_theory.proofs.Polynomials.{pol_of}
 use Rattle.ff_fields.specs.Field.{CodeField}
 use Rattle.ff_fields.specs.Code.{code_ring, same_code, zero_in, read_code, read_code_below}
 use Rattle.ff_poly.specs.Polynomials.{polynomials, x_poly, x_poly_not_zero}
-use Rattle.ff_algebra.specs.Functions.{Equation, FunctionOf, ring_of, of_poly, setting_of}
-use Rattle.ff_algebra.proofs.OnSide.{of_poly_zero, den_inverse}
+use Rattle.function_field.specs.Functions.{Equation, FunctionOf, ring_of, of_poly, setting_of}
+use Rattle.function_field.proofs.OnSide.{of_poly_zero, den_inverse}
 use Rattle.linear_theory.specs.Module.{Module, IsHomomorphism}
 use Rattle.linear_theory.proofs.Coefficients.{restricted}
 use Rattle.places_theory.proofs.YRoot.{poly_hom}
 use Rattle.lattice_theory.specs.Lattices.{polynomial_ops}
 use Rattle.order_theory.proofs.LocalOrders.{power_value}
-use Rattle.reduced_theory.specs.Reduced.{variable, divided, PowersOf, HasDivision}
+use Rattle.reduced_basis_theory.specs.Reduced.{variable, divided, PowersOf, HasDivision}
 use Rattle.space_theory.specs.Spaces.{multiples_of}
 
 -- the variable, by its codes

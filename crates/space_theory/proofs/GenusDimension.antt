@@ -3,12 +3,12 @@ use Rattle.std.proofs.Common.{◌≡◌, ℕ, ℤ, pos, List, arith}
 use Rattle.std.proofs.lemmas.Int.{ints}
 use Rattle.ff_fields.specs.Field.{CodeField}
 use Rattle.ff_fields.specs.Code.{code_ring, code_field}
-use Rattle.ff_algebra.specs.Functions.{Equation, FunctionOf, degree_of_y}
+use Rattle.function_field.specs.Functions.{Equation, FunctionOf, degree_of_y}
 use Rattle.linear_theory.specs.Basis.{IsSum}
 use Rattle.lattice_theory.specs.Lattices.{HasIndex, space_ops}
 use Rattle.lattice_theory.proofs.Bases.{index_same}
-use Rattle.reduced_theory.specs.Degree.{genus_sum}
-use Rattle.reduced_theory.proofs.Laws.{genus_dimension}
+use Rattle.reduced_basis_theory.specs.Degree.{genus_sum}
+use Rattle.reduced_basis_theory.proofs.Laws.{genus_dimension}
 use Rattle.space_theory.specs.Spaces.{multiples_of, IsReducedBasis}
 use Rattle.space_theory.proofs.FunctionModule.{functions_module, division}
 use Rattle.space_theory.proofs.InfiniteIndices.{level_zero}

@@ -2,24 +2,24 @@
 use Rattle.std.proofs.Common.{◌≡◌, ◌↔◌, ◌≤◌, ◌<◌, ℕ, ℤ, pos, ◌+ℤ◌, ◌-ℤ◌, List, length, sym, ◌∙◌, ap, ap₂, subst, arith}
 use Rattle.std.proofs.lemmas.Int.{ints}
 use Rattle.std.proofs.lemmas.List.Elements.{All-weaker}
-use Rattle.ff_ring.specs.Ring.{pow}
-use Rattle.ff_ring.specs.Subsets.{Span}
-use Rattle.ff_ring.proofs.Ring.{mul_pow, pow_one_base, mul_left_comm}
+use Rattle.ring_theory.specs.Ring.{pow}
+use Rattle.ring_theory.specs.Subsets.{Span}
+use Rattle.ring_theory.proofs.Ring.{mul_pow, pow_one_base, mul_left_comm}
 use Rattle.ff_fields.specs.Field.{CodeField}
 use Rattle.ff_fields.specs.Code.{code_ring, code_field, code_domain}
 use Rattle.ff_poly.specs.Polynomials.{Polynomial, polynomials, x_poly}
-use Rattle.ff_algebra.specs.Functions.{Equation, FunctionOf, ring_of, of_poly, setting_of, degree_of_y, IsPolynomial, IsFiniteAtInfinity}
+use Rattle.function_field.specs.Functions.{Equation, FunctionOf, ring_of, of_poly, setting_of, degree_of_y, IsPolynomial, IsFiniteAtInfinity}
 use Rattle.linear_theory.specs.Module.{combine}
 use Rattle.linear_theory.proofs.Combination.{combine_scale}
 use Rattle.lattice_theory.specs.Lattices.{IsLattice, polynomial_ops}
 use Rattle.lattice_theory.proofs.Bases.{lattice_basis}
 use Rattle.order_theory.proofs.LocalOrders.{power_value}
-use Rattle.reduced_theory.specs.Degree.{size, DegreeAtMost, degree}
-use Rattle.reduced_theory.specs.Reduced.{InLattice, Coordinates, CoordinatesAtMost, IsReducedAt}
-use Rattle.reduced_theory.proofs.Degree.{size_is, degree_own, degree_product, degree_cancel, length_of_nonzero}
-use Rattle.reduced_theory.proofs.Converse.{same_coefficients}
-use Rattle.reduced_theory.proofs.Family.{family_reduced}
-use Rattle.reduced_theory.proofs.Division.{quotient, undo_power}
+use Rattle.reduced_basis_theory.specs.Degree.{size, DegreeAtMost, degree}
+use Rattle.reduced_basis_theory.specs.Reduced.{InLattice, Coordinates, CoordinatesAtMost, IsReducedAt}
+use Rattle.reduced_basis_theory.proofs.Degree.{size_is, degree_own, degree_product, degree_cancel, length_of_nonzero}
+use Rattle.reduced_basis_theory.proofs.Converse.{same_coefficients}
+use Rattle.reduced_basis_theory.proofs.Family.{family_reduced}
+use Rattle.reduced_basis_theory.proofs.Division.{quotient, undo_power}
 use Rattle.space_theory.specs.Spaces.{IsLatticeAtInfinity, multiples_of}
 use Rattle.space_theory.proofs.Free.{free_of_spanning}
 use Rattle.space_theory.proofs.FunctionModule.{functions_module, division, multiples_are, x_times_t, cancel}

@@ -1,11 +1,11 @@
 -- The index of a lattice at infinity in a larger one: there is one, it is one number, and it is the difference of the sums of degrees.
 use Rattle.std.proofs.Common.{◌≡◌, ℕ, ◌+◌, ℤ, pos, ◌-ℤ◌, List, [], ◌∷◌, ◌++◌, length, refl, sym, ◌∙◌, ap, subst, arith}
 use Rattle.std.proofs.lemmas.List.{length-append}
-use Rattle.ff_ring.specs.Subsets.{IsModule}
-use Rattle.ff_ring.proofs.Ring.{one_mul}
-use Rattle.ff_ring.proofs.Subsets.{span_module}
-use Rattle.ff_ring.proofs.Evaluate.{constant, length_trim}
-use Rattle.local_theory.specs.Ideals.{SameSet}
+use Rattle.ring_theory.specs.Subsets.{IsModule}
+use Rattle.ring_theory.proofs.Ring.{one_mul}
+use Rattle.ring_theory.proofs.Subsets.{span_module}
+use Rattle.ring_theory.proofs.Evaluate.{constant, length_trim}
+use Rattle.prime_theory.specs.Ideals.{SameSet}
 use Rattle.linear_theory.specs.Fields.{domain_of}
 use Rattle.linear_theory.specs.Basis.{IsSubspace}
 use Rattle.linear_theory.proofs.Exchange.{bases_same_length}
@@ -13,17 +13,17 @@ use Rattle.linear_theory.proofs.Dimension.{basis_tower}
 use Rattle.ff_fields.specs.Field.{CodeField}
 use Rattle.ff_fields.specs.Code.{Code, code_ring, code_field}
 use Rattle.ff_poly.specs.Polynomials.{polynomials, polynomials_domain}
-use Rattle.ff_algebra.specs.Functions.{Equation, FunctionOf, ring_of, of_poly, degree_of_y, IsFiniteAtInfinity}
-use Rattle.ff_algebra.proofs.ScalarRings.{finite_at_infinity_subring}
+use Rattle.function_field.specs.Functions.{Equation, FunctionOf, ring_of, of_poly, degree_of_y, IsFiniteAtInfinity}
+use Rattle.function_field.proofs.ScalarRings.{finite_at_infinity_subring}
 use Rattle.trace_theory.specs.Traces.{HasPolynomialCoordinates}
 use Rattle.lattice_theory.specs.Lattices.{HasIndex, space_ops, polynomial_ops}
 use Rattle.lattice_theory.proofs.Bases.{index_same}
 use Rattle.lattice_theory.proofs.Indices.{codes, space}
 use Rattle.lattice_theory.proofs.Operations.{polynomial_lattice}
-use Rattle.reduced_theory.specs.Degree.{degree_sum}
-use Rattle.reduced_theory.specs.Reduced.{HasDimension}
-use Rattle.reduced_theory.proofs.Count.{length_one}
-use Rattle.reduced_theory.proofs.Laws.{family_dimension}
+use Rattle.reduced_basis_theory.specs.Degree.{degree_sum}
+use Rattle.reduced_basis_theory.specs.Reduced.{HasDimension}
+use Rattle.reduced_basis_theory.proofs.Count.{length_one}
+use Rattle.reduced_basis_theory.proofs.Laws.{family_dimension}
 use Rattle.space_theory.specs.Spaces.{IsLatticeAtInfinity, multiples_of, IsReducedBasis}
 use Rattle.space_theory.proofs.FunctionModule.{functions_module, division}
 use Rattle.space_theory.proofs.Pairs.{reduced_basis}

@@ -1,18 +1,18 @@
 -- Lattices over the polynomials, with the words of the theory of reduced bases.
 use Rattle.std.proofs.Common.{ℕ, suc, ◌<◌, List, [], ◌∷◌, refl, sym, ◌∙◌, ap, ap₂, subst}
-use Rattle.ff_ring.specs.Subsets.{Span}
-use Rattle.ff_ring.proofs.Subsets.{span_least}
+use Rattle.ring_theory.specs.Subsets.{Span}
+use Rattle.ring_theory.proofs.Subsets.{span_least}
 use Rattle.ff_fields.specs.Field.{CodeField}
 use Rattle.ff_fields.specs.Code.{code_ring}
 use Rattle.ff_poly.specs.Polynomials.{Polynomial, polynomials}
-use Rattle.ff_algebra.specs.Functions.{Equation, FunctionOf, ring_of, of_poly, degree_of_y, IsPolynomial}
-use Rattle.ff_algebra.proofs.ScalarRings.{polynomials_subring}
+use Rattle.function_field.specs.Functions.{Equation, FunctionOf, ring_of, of_poly, degree_of_y, IsPolynomial}
+use Rattle.function_field.proofs.ScalarRings.{polynomials_subring}
 use Rattle.linear_theory.specs.Module.{combine}
 use Rattle.linear_theory.proofs.Lists.{insert}
 use Rattle.lattice_theory.specs.Lattices.{IsLattice, polynomial_ops}
 use Rattle.lattice_theory.proofs.Bases.{lattice_basis}
 use Rattle.lattice_theory.proofs.Lattices.{lattice_module}
-use Rattle.reduced_theory.specs.Reduced.{InLattice, IsLatticeBasis}
+use Rattle.reduced_basis_theory.specs.Reduced.{InLattice, IsLatticeBasis}
 
 module _ {k : CodeField} (c : Equation k) where
   infixl 65 ◌⊕◌

@@ -4,12 +4,12 @@ use Rattle.std.proofs.lemmas.List.Elements.{All-weaker}
 use Rattle.ff_fields.specs.Field.{CodeField}
 use Rattle.ff_fields.specs.Code.{code_ring, code_field}
 use Rattle.ff_poly.specs.Polynomials.{polynomials}
-use Rattle.ff_algebra.specs.declared.elem.Side.TheVariants.{Finite, Infinite}
-use Rattle.ff_algebra.specs.Discriminant.{discriminant}
-use Rattle.ff_algebra.specs.Functions.{Equation, FunctionOf, setting_of, degree_of_y}
-use Rattle.ff_algebra.specs.Places.{IsIntegralAt}
-use Rattle.ff_algebra.specs.Divisors.{Divisor, MeetsOn, InSpace, IsBasis, IsSimultaneousBasis, IsSumOfSides, SpansOnce, shifted}
-use Rattle.local_theory.specs.Ideals.{SameSet}
+use Rattle.function_field.specs.declared.side.Side.TheVariants.{Finite, Infinite}
+use Rattle.function_field.specs.Discriminant.{discriminant}
+use Rattle.function_field.specs.Functions.{Equation, FunctionOf, setting_of, degree_of_y}
+use Rattle.function_field.specs.Places.{IsIntegralAt}
+use Rattle.function_field.specs.Divisors.{Divisor, MeetsOn, InSpace, IsBasis, IsSimultaneousBasis, IsSumOfSides, SpansOnce, shifted}
+use Rattle.prime_theory.specs.Ideals.{SameSet}
 use Rattle.linear_theory.proofs.Elimination.{tabulate}
 use Rattle.linear_theory.specs.Basis.{IsSum}
 use Rattle.trace_theory.specs.Traces.{HasPolynomialCoordinates}
@@ -17,10 +17,10 @@ use Rattle.lattice_theory.specs.Lattices.{IsLattice, HasIndex, space_ops, polyno
 use Rattle.lattice_theory.proofs.Bases.{index_same}
 use Rattle.lattice_theory.proofs.Operations.{polynomial_lattice}
 use Rattle.order_theory.proofs.IntegralLattice.{integral_lattice}
-use Rattle.side_theory.proofs.InfiniteLaws.{spans_decided}
-use Rattle.reduced_theory.specs.Degree.{size, dimension_sum, genus_sum}
-use Rattle.reduced_theory.specs.Reduced.{layers, Section}
-use Rattle.reduced_theory.proofs.Count.{section_basis, length_section}
+use Rattle.infinite_theory.proofs.InfiniteLaws.{spans_decided}
+use Rattle.reduced_basis_theory.specs.Degree.{size, dimension_sum, genus_sum}
+use Rattle.reduced_basis_theory.specs.Reduced.{layers, Section}
+use Rattle.reduced_basis_theory.proofs.Count.{section_basis, length_section}
 use Rattle.space_theory.specs.Spaces.{IsLatticeAtInfinity, multiples_of, IsReducedBasis, IsBasisOfBoth}
 use Rattle.space_theory.proofs.FunctionModule.{functions_module}
 use Rattle.space_theory.proofs.Pairs.{reduced_basis}

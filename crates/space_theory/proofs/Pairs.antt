@@ -2,9 +2,9 @@
 use Rattle.std.proofs.Common.{ℕ, ℤ, pos, List}
 use Rattle.ff_fields.specs.Field.{CodeField}
 use Rattle.ff_fields.specs.Code.{code_ring, code_field}
-use Rattle.ff_algebra.specs.Functions.{Equation, FunctionOf}
+use Rattle.function_field.specs.Functions.{Equation, FunctionOf}
 use Rattle.lattice_theory.specs.Lattices.{IsLattice}
-use Rattle.reduced_theory.proofs.Existence.{existence}
+use Rattle.reduced_basis_theory.proofs.Existence.{existence}
 use Rattle.space_theory.specs.Spaces.{IsLatticeAtInfinity, multiples_of, IsReducedBasis}
 use Rattle.space_theory.proofs.FunctionModule.{functions_module}
 use Rattle.space_theory.proofs.LatticeBases.{basis_of_lattice}

@@ -1,14 +1,14 @@
 -- Functions that are independent over the polynomials are so over the rational functions.
 use Rattle.std.proofs.Common.{◌≡◌, ℕ, suc, ◌<◌, List, [], ◌∷◌, length, All, refl, sym, ◌∙◌, ap, ap₂, arith}
 use Rattle.std.proofs.lemmas.List.Elements.{All-nil, All-cons, All-head, All-tail}
-use Rattle.ff_ring.proofs.Ring.{mul_zero}
-use Rattle.ff_ring.proofs.Solver.{ring, reads, from_one}
+use Rattle.ring_theory.proofs.Ring.{mul_zero}
+use Rattle.ring_theory.proofs.Solver.{ring, reads, from_one}
 use Rattle.ff_fields.specs.Field.{CodeField}
 use Rattle.ff_poly.specs.Polynomials.{Polynomial, polynomials, polynomials_domain}
-use Rattle.ff_algebra.specs.Functions.{Equation, FunctionOf, ring_of, of_poly, row_of, over}
-use Rattle.ff_algebra.specs.Spans.{combination}
-use Rattle.ff_algebra.proofs.OnSide.{of_poly_zero, den_inverse}
-use Rattle.ff_algebra.proofs.ScalarRings.{bottoms_not_zero}
+use Rattle.function_field.specs.Functions.{Equation, FunctionOf, ring_of, of_poly, row_of, over}
+use Rattle.function_field.specs.Spans.{combination}
+use Rattle.function_field.proofs.OnSide.{of_poly_zero, den_inverse}
+use Rattle.function_field.proofs.ScalarRings.{bottoms_not_zero}
 use Rattle.linear_theory.specs.Module.{combine}
 use Rattle.linear_theory.proofs.Lists.{insert}
 use Rattle.linear_theory.proofs.Combination.{combine_scale}

@@ -1,20 +1,20 @@
 -- The rational functions among the functions of a curve, as a ring of fractions of polynomials.
 use Rattle.std.proofs.Common.{◌≡◌, ℕ, zero, suc, refl, sym, ◌∙◌, ap, ap₂, subst}
-use Rattle.ff_ring.specs.Ring.{CommRing}
-use Rattle.ff_ring.specs.Rows.{Row, row_zero, row_scale}
-use Rattle.ff_ring.specs.Subsets.{IsSubring}
-use Rattle.ff_ring.proofs.Ring.{one_mul}
-use Rattle.ff_ring.proofs.Rows.{pair_path, row_scale_zero}
+use Rattle.ring_theory.specs.Ring.{CommRing}
+use Rattle.ring_theory.specs.Rows.{Row, row_zero, row_scale}
+use Rattle.ring_theory.specs.Subsets.{IsSubring}
+use Rattle.ring_theory.proofs.Ring.{one_mul}
+use Rattle.ring_theory.proofs.Rows.{pair_path, row_scale_zero}
 use Rattle.ff_fields.specs.Field.{CodeField}
 use Rattle.ff_fields.specs.Code.{code_ring}
 use Rattle.ff_poly.specs.Polynomials.{Polynomial, polynomials, polynomials_domain}
-use Rattle.ff_algebra.specs.Functions.{Equation, FunctionOf, ring_of, of_poly, row_of, over}
-use Rattle.ff_algebra.proofs.OnSide.{of_poly_zero, den_inverse}
-use Rattle.ff_algebra.proofs.ScalarRings.{bottoms_not_zero, of_poly_one, over_plus, over_times, over_neg}
+use Rattle.function_field.specs.Functions.{Equation, FunctionOf, ring_of, of_poly, row_of, over}
+use Rattle.function_field.proofs.OnSide.{of_poly_zero, den_inverse}
+use Rattle.function_field.proofs.ScalarRings.{bottoms_not_zero, of_poly_one, over_plus, over_times, over_neg}
 use Rattle.places_theory.proofs.YRoot.{over_times_den}
 use Rattle.trace_theory.specs.Traces.{IsRational}
 use Rattle.trace_theory.proofs.FunctionTraces.{R, as_row, over_same, polynomial_value}
-use Rattle.reduced_theory.specs.Dual.{AreFractions}
+use Rattle.reduced_basis_theory.specs.Dual.{AreFractions}
 use Rattle.space_theory.proofs.FunctionModule.{polynomial_hom, cancel}
 use Rattle.space_theory.proofs.PartRing.{Part, same_part, part_ring}
 

@@ -1,14 +1,14 @@
 -- Combinations with lists of scalars: those of a ring that maps to the scalars, and in how many ways a member of a span is one.
 use Rattle.std.proofs.Common.{◌≡◌, ℕ, zero, suc, ◌<◌, List, [], ◌∷◌, length, All, refl, sym, ◌∙◌, ap, ap₂, subst, arith}
 use Rattle.std.proofs.lemmas.List.Elements.{All-nil, All-cons, All-head, All-tail}
-use Rattle.ff_ring.specs.Ring.{CommRing}
-use Rattle.ff_ring.specs.Subsets.{IsSubring, Span}
-use Rattle.ff_ring.proofs.Ring.{eq_of_sub}
-use Rattle.ff_ring.proofs.Solver.{ring, reads}
+use Rattle.ring_theory.specs.Ring.{CommRing}
+use Rattle.ring_theory.specs.Subsets.{IsSubring, Span}
+use Rattle.ring_theory.proofs.Ring.{eq_of_sub}
+use Rattle.ring_theory.proofs.Solver.{ring, reads}
 use Rattle.linear_theory.specs.Module.{combine, restricted_ops, IsHomomorphism}
 use Rattle.linear_theory.specs.Basis.{IsIndependent as IsFree}
-use Rattle.ff_algebra.specs.Spans.{combination, IsIndependent, InSpanOnce}
-use Rattle.ff_algebra.proofs.Spans.{span_list}
+use Rattle.function_field.specs.Spans.{combination, IsIndependent, InSpanOnce}
+use Rattle.function_field.proofs.Spans.{span_list}
 
 module _ {C A : Type 0} (K : CommRing C) (R : CommRing A) (e : C → A) (hom : IsHomomorphism K.ops R.ops e) (S : A → Type 0) where
   infixl 65 ◌⊕◌

@@ -3,20 +3,20 @@ use Rattle.std.proofs.Common.{◌≡◌, ℕ, zero, suc, ◌<◌, ◌≤◌, ℤ
 use Rattle.std.proofs.Math.IntN.{neg_ℤ}
 use Rattle.std.proofs.lemmas.Int.{ints}
 use Rattle.std.proofs.lemmas.List.Elements.{All-nil, All-cons, All-head, All-tail}
-use Rattle.ff_ring.specs.Ring.{pow}
-use Rattle.ff_ring.specs.Subsets.{Span}
-use Rattle.ff_ring.proofs.Ring.{mul_zero}
-use Rattle.ff_ring.proofs.Solver.{ring, reads, from_one}
-use Rattle.ff_ring.proofs.Subsets.{span_least}
+use Rattle.ring_theory.specs.Ring.{pow}
+use Rattle.ring_theory.specs.Subsets.{Span}
+use Rattle.ring_theory.proofs.Ring.{mul_zero}
+use Rattle.ring_theory.proofs.Solver.{ring, reads, from_one}
+use Rattle.ring_theory.proofs.Subsets.{span_least}
 use Rattle.ff_fields.specs.Field.{CodeField}
 use Rattle.ff_fields.specs.Code.{code_ring, code_field, code_domain}
 use Rattle.ff_poly.specs.Polynomials.{Polynomial, polynomials, polynomials_domain, x_poly, x_poly_not_zero}
-use Rattle.ff_algebra.specs.declared.elem.Side.TheVariants.{Finite, Infinite}
-use Rattle.ff_algebra.specs.Functions.{Equation, FunctionOf, ring_of, of_poly, row_of, over, setting_of, degree_of_y, IsPolynomial, IsFiniteAtInfinity}
-use Rattle.ff_algebra.specs.Spans.{combination, IsIndependent}
-use Rattle.ff_algebra.specs.Divisors.{x_to, shifted, SpansOnce}
-use Rattle.ff_algebra.proofs.OnSide.{den_inverse}
-use Rattle.ff_algebra.proofs.ScalarRings.{polynomials_subring, finite_at_infinity_subring, bottoms_not_zero, over_times, of_poly_one}
+use Rattle.function_field.specs.declared.side.Side.TheVariants.{Finite, Infinite}
+use Rattle.function_field.specs.Functions.{Equation, FunctionOf, ring_of, of_poly, row_of, over, setting_of, degree_of_y, IsPolynomial, IsFiniteAtInfinity}
+use Rattle.function_field.specs.Spans.{combination, IsIndependent}
+use Rattle.function_field.specs.Divisors.{x_to, shifted, SpansOnce}
+use Rattle.function_field.proofs.OnSide.{den_inverse}
+use Rattle.function_field.proofs.ScalarRings.{polynomials_subring, finite_at_infinity_subring, bottoms_not_zero, over_times, of_poly_one}
 use Rattle.linear_theory.specs.Module.{combine}
 use Rattle.linear_theory.proofs.Lists.{entry}
 use Rattle.linear_theory.proofs.Elimination.{tabulate}
@@ -25,11 +25,11 @@ use Rattle.trace_theory.specs.Traces.{IsRational}
 use Rattle.trace_theory.proofs.FunctionPowers.{power_some}
 use Rattle.lattice_theory.specs.Lattices.{polynomial_ops}
 use Rattle.order_theory.proofs.LocalOrders.{power_value}
-use Rattle.reduced_theory.specs.Degree.{size, DegreeAtMost, degree}
-use Rattle.reduced_theory.proofs.Degree.{size_is, degree_own, degree_product, degree_multiply, length_of_nonzero}
-use Rattle.reduced_theory.proofs.Graded.{multiple_in}
-use Rattle.reduced_theory.proofs.DualBasis.{length_tabulate}
-use Rattle.reduced_theory.proofs.Powers.{degree_power}
+use Rattle.reduced_basis_theory.specs.Degree.{size, DegreeAtMost, degree}
+use Rattle.reduced_basis_theory.proofs.Degree.{size_is, degree_own, degree_product, degree_multiply, length_of_nonzero}
+use Rattle.reduced_basis_theory.proofs.Graded.{multiple_in}
+use Rattle.reduced_basis_theory.proofs.DualBasis.{length_tabulate}
+use Rattle.reduced_basis_theory.proofs.Powers.{degree_power}
 use Rattle.space_theory.specs.Spaces.{IsLatticeAtInfinity, multiples_of, IsReducedBasis, IsBasisOfBoth}
 use Rattle.space_theory.proofs.FunctionModule.{functions_module, variable_is, polynomial_hom, cancel}
 use Rattle.space_theory.proofs.Denominators.{share}

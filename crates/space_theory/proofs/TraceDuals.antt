@@ -2,33 +2,33 @@
 use Rattle.std.proofs.Common.{◌≡◌, ◌↔◌, ℕ, ◌+◌, ℤ, pos, negsuc, ◌+ℤ◌, ◌-ℤ◌, List, [], ◌∷◌, refl, sym, ◌∙◌, ap, ap₂, subst, arith}
 use Rattle.std.proofs.Math.IntN.{neg_ℤ}
 use Rattle.std.proofs.lemmas.Int.{ints}
-use Rattle.ff_ring.specs.Ring.{pow}
-use Rattle.ff_ring.specs.Subsets.{Colon}
-use Rattle.ff_ring.proofs.Ring.{one_mul, mul_left_comm}
-use Rattle.ff_ring.proofs.Solver.{ring, reads}
-use Rattle.local_theory.specs.Ideals.{SameSet}
+use Rattle.ring_theory.specs.Ring.{pow}
+use Rattle.ring_theory.specs.Subsets.{Colon}
+use Rattle.ring_theory.proofs.Ring.{one_mul, mul_left_comm}
+use Rattle.ring_theory.proofs.Solver.{ring, reads}
+use Rattle.prime_theory.specs.Ideals.{SameSet}
 use Rattle.ff_fields.specs.Field.{CodeField}
 use Rattle.ff_fields.specs.Code.{code_ring, code_field}
 use Rattle.ff_poly.specs.Polynomials.{polynomials}
-use Rattle.ff_algebra.specs.Discriminant.{discriminant}
-use Rattle.ff_algebra.specs.Functions.{Equation, FunctionOf, ring_of, of_poly, row_of, over, setting_of, trace_of, degree_of_y, IsPolynomial, IsFiniteAtInfinity}
-use Rattle.ff_algebra.specs.Divisors.{x_to, Divisor, MeetsOn, IsCanonical}
-use Rattle.ff_algebra.specs.declared.elem.Side.TheVariants.{Finite, Infinite}
-use Rattle.ff_algebra.specs.Places.{IsIntegralAt}
-use Rattle.ff_algebra.proofs.OnSide.{den_inverse}
+use Rattle.function_field.specs.Discriminant.{discriminant}
+use Rattle.function_field.specs.Functions.{Equation, FunctionOf, ring_of, of_poly, row_of, over, setting_of, trace_of, degree_of_y, IsPolynomial, IsFiniteAtInfinity}
+use Rattle.function_field.specs.Divisors.{x_to, Divisor, MeetsOn, IsCanonical}
+use Rattle.function_field.specs.declared.side.Side.TheVariants.{Finite, Infinite}
+use Rattle.function_field.specs.Places.{IsIntegralAt}
+use Rattle.function_field.proofs.OnSide.{den_inverse}
 use Rattle.linear_theory.specs.Basis.{IsNull}
 use Rattle.trace_theory.proofs.FunctionTraces.{trace_times}
 use Rattle.lattice_theory.specs.Lattices.{HasIndex, space_ops, polynomial_ops}
 use Rattle.lattice_theory.proofs.Bases.{index_same}
-use Rattle.reduced_theory.specs.Degree.{DegreeAtMost, degree, degree_sum, dimension_sum}
-use Rattle.reduced_theory.specs.Reduced.{Section}
-use Rattle.reduced_theory.specs.Dual.{FractionAtMost, DualLattice, DualFamily, IsDualBasis}
-use Rattle.reduced_theory.proofs.Compare.{same_degree_sum}
-use Rattle.reduced_theory.proofs.Dual.{dual_reduced}
-use Rattle.reduced_theory.proofs.DualBasis.{dual_basis}
-use Rattle.reduced_theory.proofs.Graded.{single_other}
-use Rattle.reduced_theory.proofs.Laws.{section_dimension, genus_total, euler}
-use Rattle.reduced_theory.proofs.Transport.{degree_sum_from_two}
+use Rattle.reduced_basis_theory.specs.Degree.{DegreeAtMost, degree, degree_sum, dimension_sum}
+use Rattle.reduced_basis_theory.specs.Reduced.{Section}
+use Rattle.reduced_basis_theory.specs.Dual.{FractionAtMost, DualLattice, DualFamily, IsDualBasis}
+use Rattle.reduced_basis_theory.proofs.Compare.{same_degree_sum}
+use Rattle.reduced_basis_theory.proofs.Dual.{dual_reduced}
+use Rattle.reduced_basis_theory.proofs.DualBasis.{dual_basis}
+use Rattle.reduced_basis_theory.proofs.Graded.{single_other}
+use Rattle.reduced_basis_theory.proofs.Laws.{section_dimension, genus_total, euler}
+use Rattle.reduced_basis_theory.proofs.Transport.{degree_sum_from_two}
 use Rattle.linear_theory.proofs.Lists.{insert_here}
 use Rattle.space_theory.specs.Spaces.{multiples_of, IsReducedBasis}
 use Rattle.space_theory.specs.TraceDuals.{TraceDual, InfiniteTraceDual, CanonicalDual, IsTraceDualBasis}

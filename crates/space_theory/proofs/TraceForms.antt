@@ -1,17 +1,17 @@
 -- The trace of a product as a form with values in the rational functions: it tells functions apart where the discriminant isn't 0.
 use Rattle.std.proofs.Common.{◌≡◌, [], ◌∷◌, refl, sym, ◌∙◌, ap}
-use Rattle.ff_ring.specs.Ring.{pow}
-use Rattle.ff_ring.proofs.Ring.{add_mul, zero_add, add_cancel, eq_of_sub}
-use Rattle.ff_ring.proofs.Solver.{ring, reads}
+use Rattle.ring_theory.specs.Ring.{pow}
+use Rattle.ring_theory.proofs.Ring.{add_mul, zero_add, add_cancel, eq_of_sub}
+use Rattle.ring_theory.proofs.Solver.{ring, reads}
 use Rattle.ff_fields.specs.Field.{CodeField}
 use Rattle.ff_fields.specs.Code.{code_ring}
 use Rattle.ff_poly.specs.Polynomials.{polynomials, polynomials_domain}
-use Rattle.ff_algebra.specs.Discriminant.{discriminant}
-use Rattle.ff_algebra.specs.Functions.{Equation, FunctionOf, ring_of, of_poly, row_of, y_of, trace_of}
+use Rattle.function_field.specs.Discriminant.{discriminant}
+use Rattle.function_field.specs.Functions.{Equation, FunctionOf, ring_of, of_poly, row_of, y_of, trace_of}
 use Rattle.trace_theory.proofs.FunctionTraces.{as_row, trace_plus, trace_times, trace_rational}
 use Rattle.trace_theory.proofs.Degenerate.{zero_by_traces}
 use Rattle.lattice_theory.specs.Lattices.{polynomial_ops}
-use Rattle.reduced_theory.specs.Canonical.{IsTraceForm}
+use Rattle.reduced_basis_theory.specs.Canonical.{IsTraceForm}
 use Rattle.space_theory.proofs.RationalPart.{rational_ring, rational_first, same_rational, polynomial_part, rational_fractions}
 
 module _ {k : CodeField} (c : Equation k) where

@@ -1,16 +1,16 @@
 -- Lattices at infinity, and pairs of a lattice over the polynomials and one at infinity, which stand for divisors
 -- (F. Hess, Computing Riemann-Roch spaces in algebraic function fields and related topics, 2002, sections 2 and 4).
 use Rattle.std.specs.Prelude.{◌≡◌, ℕ, ℤ, neg_ℤ, List, length}
-use Rattle.ff_ring.specs.Ring.{pow}
-use Rattle.ff_ring.specs.Subsets.{Span}
-use Rattle.local_theory.specs.Ideals.{SameSet}
+use Rattle.ring_theory.specs.Ring.{pow}
+use Rattle.ring_theory.specs.Subsets.{Span}
+use Rattle.prime_theory.specs.Ideals.{SameSet}
 use Rattle.ff_fields.specs.Field.{CodeField}
 use Rattle.ff_fields.specs.Code.{code_ring}
-use Rattle.ff_algebra.specs.declared.elem.Side.TheVariants.{Finite, Infinite}
-use Rattle.ff_algebra.specs.Functions.{Equation, FunctionOf, ring_of, setting_of, degree_of_y, IsFiniteAtInfinity}
-use Rattle.ff_algebra.specs.Divisors.{x_to, shifted, SpansOnce}
+use Rattle.function_field.specs.declared.side.Side.TheVariants.{Finite, Infinite}
+use Rattle.function_field.specs.Functions.{Equation, FunctionOf, ring_of, setting_of, degree_of_y, IsFiniteAtInfinity}
+use Rattle.function_field.specs.Divisors.{x_to, shifted, SpansOnce}
 use Rattle.lattice_theory.specs.Lattices.{polynomial_ops}
-use Rattle.reduced_theory.specs.Reduced.{IsReduced}
+use Rattle.reduced_basis_theory.specs.Reduced.{IsReduced}
 
 module _ {k : CodeField} (c : Equation k) where
   -- finitely many functions span N over the fractions of degree at most 0, and a power of 1/x takes each function into N

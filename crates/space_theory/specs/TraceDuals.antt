@@ -1,8 +1,8 @@
 -- The duals of lattices under the trace of a product, and with them the pairs of canonical divisors (Stichtenoth, section 3.4).
 use Rattle.std.specs.Prelude.{◌≡◌, ℕ, ◌<◌, List, length}
-use Rattle.ff_ring.specs.Ring.{pow}
+use Rattle.ring_theory.specs.Ring.{pow}
 use Rattle.ff_fields.specs.Field.{CodeField}
-use Rattle.ff_algebra.specs.Functions.{Equation, FunctionOf, ring_of, trace_of, setting_of, degree_of_y, IsPolynomial, IsFiniteAtInfinity}
+use Rattle.function_field.specs.Functions.{Equation, FunctionOf, ring_of, trace_of, setting_of, degree_of_y, IsPolynomial, IsFiniteAtInfinity}
 use Rattle.linear_theory.proofs.Lists.{entry}
 
 module _ {k : CodeField} (c : Equation k) where

@@ -6,27 +6,27 @@
 
 ghost use Rattle.std.specs.Prelude.{◌≡◌, ℕ, ◌+◌, ◌<◌, ℤ, ◌+ℤ◌, ◌-ℤ◌, ◌↔◌, List, length, map};
 ghost use Rattle.std.proofs.Common.{pos};
-ghost use Rattle.ff_ring.specs.Subsets.{Span, Colon};
+ghost use Rattle.ring_theory.specs.Subsets.{Span, Colon};
 ghost use Rattle.ff_fields.specs.Field.{CodeField};
 ghost use Rattle.ff_fields.specs.Code.{code_ring};
 ghost use Rattle.linear_theory.specs.Basis.{IsSum, IsNull};
 ghost use Rattle.ff_poly.specs.Polynomials.{polynomials};
-ghost use Rattle.ff_algebra.specs.declared.elem.Side.TheVariants.{Finite, Infinite};
-ghost use Rattle.ff_algebra.specs.Functions.{Equation, FunctionOf, ring_of, setting_of, degree_of_y, IsPolynomial};
-ghost use Rattle.ff_algebra.specs.Values.{PresValue, Functions, functions, setting, equation_of};
-ghost use Rattle.ff_algebra.specs.Places.{IsIntegralAt};
-ghost use Rattle.ff_algebra.specs.Divisors.{Divisor, MeetsOn, InSpace, IsBasis, IsSimultaneousBasis, IsSumOfSides, SpansOnce, IsCanonical};
-ghost use Rattle.ff_algebra.specs.Discriminant.{discriminant};
-ghost use Rattle.local_theory.specs.Ideals.{SameSet};
+ghost use Rattle.function_field.specs.declared.side.Side.TheVariants.{Finite, Infinite};
+ghost use Rattle.function_field.specs.Functions.{Equation, FunctionOf, ring_of, setting_of, degree_of_y, IsPolynomial};
+ghost use Rattle.function_field.specs.Values.{PresValue, Functions, functions, setting, equation_of};
+ghost use Rattle.function_field.specs.Places.{IsIntegralAt};
+ghost use Rattle.function_field.specs.Divisors.{Divisor, MeetsOn, InSpace, IsBasis, IsSimultaneousBasis, IsSumOfSides, SpansOnce, IsCanonical};
+ghost use Rattle.function_field.specs.Discriminant.{discriminant};
+ghost use Rattle.prime_theory.specs.Ideals.{SameSet};
 ghost use Rattle.lattice_theory.specs.Lattices.{IsLattice, HasIndex, space_ops, polynomial_ops};
-ghost use Rattle.reduced_theory.specs.Degree.{size, degree_sum, dimension_sum, genus_sum};
-ghost use Rattle.reduced_theory.specs.Reduced.{IsReducedAt, layers};
-ghost use Rattle.side_theory.specs.InfiniteMaps.{IsInfiniteMap};
+ghost use Rattle.reduced_basis_theory.specs.Degree.{size, degree_sum, dimension_sum, genus_sum};
+ghost use Rattle.reduced_basis_theory.specs.Reduced.{IsReducedAt, layers};
+ghost use Rattle.infinite_theory.specs.InfiniteMaps.{IsInfiniteMap};
 ghost use Rattle.space_theory.specs.Spaces.{IsLatticeAtInfinity, multiples_of, IsReducedBasis, IsBasisOfBoth};
 ghost use Rattle.space_theory.specs.TraceDuals.{TraceDual, InfiniteTraceDual, CanonicalDual, IsTraceDualBasis};
 
 use lattice_theory::FunctionSets;
-use side_theory::InfiniteSets;
+use infinite_theory::InfiniteSets;
 
 /// Lattices at infinity: membership is decided, and such a lattice N has a basis of n functions over the fractions of degree at most 0. A sum of r_i·b_i is
 /// in x^m·N exactly where each r_i has degree at most m. Where the discriminant isn't 0, O_inf is one.

@@ -1,15 +1,15 @@
 -- The discriminant of another basis.
 use Rattle.std.proofs.Common.{◌≡◌, ℕ, suc, ◌<◌, ◌+◌, [], ◌∷◌, refl, sym, ◌∙◌, ap, ap₂}
-use Rattle.ff_ring.specs.Ring.{CommRing, pow}
-use Rattle.ff_ring.specs.Sums.{sum_below, matrix_product}
-use Rattle.ff_ring.specs.Determinant.{determinant}
-use Rattle.ff_ring.proofs.Ring.{pow_add}
-use Rattle.ff_ring.proofs.Sums.{below_cong, below_scale_right}
-use Rattle.ff_ring.proofs.Determinant.{determinant_product}
-use Rattle.ff_ring.proofs.Solver.{ring, reads}
+use Rattle.ring_theory.specs.Ring.{CommRing, pow}
+use Rattle.ring_theory.specs.Sums.{sum_below, matrix_product}
+use Rattle.ring_theory.specs.Determinant.{determinant}
+use Rattle.ring_theory.proofs.Ring.{pow_add}
+use Rattle.ring_theory.proofs.Sums.{below_cong, below_scale_right}
+use Rattle.ring_theory.proofs.Determinant.{determinant_product}
+use Rattle.ring_theory.proofs.Solver.{ring, reads}
 use Rattle.ff_fields.specs.Field.{CodeField}
-use Rattle.ff_algebra.specs.Functions.{Equation, FunctionOf, ring_of, of_poly, y_of, trace_of, degree_of_y}
-use Rattle.ff_algebra.specs.Discriminant.{discriminant}
+use Rattle.function_field.specs.Functions.{Equation, FunctionOf, ring_of, of_poly, y_of, trace_of, degree_of_y}
+use Rattle.function_field.specs.Discriminant.{discriminant}
 use Rattle.places_theory.proofs.YRoot.{poly_hom}
 use Rattle.trace_theory.specs.Traces.{IsRational}
 use Rattle.trace_theory.proofs.Determinants.{determinant_cong, transposed, image_determinant}

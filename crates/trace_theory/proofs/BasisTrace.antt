@@ -1,17 +1,17 @@
 -- The trace in any basis: coordinates of functions, and the matrices of multiplication by a function in two bases.
 use native.Mathlib.Decide.{ℕ_discrete}
 use Rattle.std.proofs.Common.{◌≡◌, ℕ, zero, suc, ◌<◌, sym, ◌∙◌, ap, ap₂, arith}
-use Rattle.ff_ring.specs.Ring.{CommRing, pow}
-use Rattle.ff_ring.specs.Rows.{Row, row_scale, entry}
-use Rattle.ff_ring.specs.Sums.{sum_below, trace}
-use Rattle.ff_ring.proofs.Ring.{mul_zero, one_mul, add_cancel_left, mul_left_comm}
-use Rattle.ff_ring.proofs.Rows.{pair_path, row_scale_zero}
-use Rattle.ff_ring.proofs.Sums.{below_cong, below_scale, below_scale_right, below_single}
+use Rattle.ring_theory.specs.Ring.{CommRing, pow}
+use Rattle.ring_theory.specs.Rows.{Row, row_scale, entry}
+use Rattle.ring_theory.specs.Sums.{sum_below, trace}
+use Rattle.ring_theory.proofs.Ring.{mul_zero, one_mul, add_cancel_left, mul_left_comm}
+use Rattle.ring_theory.proofs.Rows.{pair_path, row_scale_zero}
+use Rattle.ring_theory.proofs.Sums.{below_cong, below_scale, below_scale_right, below_single}
 use Rattle.ff_fields.specs.Field.{CodeField}
 use Rattle.ff_poly.specs.Polynomials.{Polynomial, polynomials}
-use Rattle.ff_algebra.specs.Functions.{Equation, RowOver, AreSame, FunctionOf, ring_of, function, function_eq, from_rows, from_rows_value, row_of, of_poly, over, y_of, trace_of, degree_of_y}
-use Rattle.ff_algebra.proofs.OnSide.{of_poly_zero}
-use Rattle.ff_algebra.proofs.ScalarRings.{over_plus, over_times, bottoms_not_zero, of_poly_one}
+use Rattle.function_field.specs.Functions.{Equation, RowOver, AreSame, FunctionOf, ring_of, function, function_eq, from_rows, from_rows_value, row_of, of_poly, over, y_of, trace_of, degree_of_y}
+use Rattle.function_field.proofs.OnSide.{of_poly_zero}
+use Rattle.function_field.proofs.ScalarRings.{over_plus, over_times, bottoms_not_zero, of_poly_one}
 use Rattle.trace_theory.specs.Traces.{IsRational}
 use Rattle.trace_theory.proofs.Determinants.{diagonal, diagonal_here, diagonal_other, image_sum}
 use Rattle.trace_theory.proofs.RowMatrix.{entry_add, at_scale, entry_here, entry_other, unit_row, y_unit, trace_is, matrix}

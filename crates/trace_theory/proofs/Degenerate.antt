@@ -1,18 +1,18 @@
 -- The trace form is degenerate exactly where the discriminant is 0.
 use Rattle.std.proofs.Common.{◌≡◌, ℕ, suc, ◌<◌, ◌↔◌, refl, sym, ◌∙◌, ap}
-use Rattle.ff_ring.specs.Ring.{pow}
-use Rattle.ff_ring.specs.Rows.{row_zero, entry}
-use Rattle.ff_ring.proofs.Ring.{mul_zero}
-use Rattle.ff_ring.proofs.Rows.{row_scale_one, row_scale_zero}
-use Rattle.ff_ring.proofs.RowFractions.{whole_pair}
-use Rattle.ff_ring.proofs.Sums.{below_cong}
+use Rattle.ring_theory.specs.Ring.{pow}
+use Rattle.ring_theory.specs.Rows.{row_zero, entry}
+use Rattle.ring_theory.proofs.Ring.{mul_zero}
+use Rattle.ring_theory.proofs.Rows.{row_scale_one, row_scale_zero}
+use Rattle.ring_theory.proofs.RowFractions.{whole_pair}
+use Rattle.ring_theory.proofs.Sums.{below_cong}
 use Rattle.linear_theory.specs.Fields.{Domain}
 use Rattle.ff_fields.specs.Field.{CodeField}
 use Rattle.ff_poly.specs.Polynomials.{Polynomial, polynomials, polynomials_domain, polynomial_discrete}
-use Rattle.ff_algebra.specs.Functions.{Equation, FunctionOf, ring_of, function_eq, over, y_of, trace_of, degree_of_y, zero_function, whole_row}
-use Rattle.ff_algebra.specs.Discriminant.{discriminant}
-use Rattle.ff_algebra.proofs.Horner.{plain}
-use Rattle.ff_algebra.proofs.OnSide.{of_poly_zero}
+use Rattle.function_field.specs.Functions.{Equation, FunctionOf, ring_of, function_eq, over, y_of, trace_of, degree_of_y, zero_function, whole_row}
+use Rattle.function_field.specs.Discriminant.{discriminant}
+use Rattle.function_field.proofs.Horner.{plain}
+use Rattle.function_field.proofs.OnSide.{of_poly_zero}
 use Rattle.trace_theory.specs.Traces.{HasDegenerateTraceForm}
 use Rattle.trace_theory.proofs.RowMatrix.{at, row_with, entry_with, entry_zero, row_by_entries, trace_form as row_trace_form}
 use Rattle.trace_theory.proofs.Determinants.{zero_row}

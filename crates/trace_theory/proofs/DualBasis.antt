@@ -1,16 +1,16 @@
 -- The basis that is dual to the powers of y under the trace form.
 use Rattle.std.proofs.Common.{◌≡◌, ℕ, suc, ◌<◌, [], ◌∷◌, refl, sym, ◌∙◌, ap}
-use Rattle.ff_ring.specs.Ring.{CommRing, pow}
-use Rattle.ff_ring.specs.Sums.{sum_below}
-use Rattle.ff_ring.proofs.Ring.{mul_zero, zero_add, add_cancel, eq_of_sub}
-use Rattle.ff_ring.proofs.Sums.{below_cong, below_single, below_scale_right}
-use Rattle.ff_ring.proofs.Solver.{ring, reads}
+use Rattle.ring_theory.specs.Ring.{CommRing, pow}
+use Rattle.ring_theory.specs.Sums.{sum_below}
+use Rattle.ring_theory.proofs.Ring.{mul_zero, zero_add, add_cancel, eq_of_sub}
+use Rattle.ring_theory.proofs.Sums.{below_cong, below_single, below_scale_right}
+use Rattle.ring_theory.proofs.Solver.{ring, reads}
 use Rattle.ff_fields.specs.Field.{CodeField}
 use Rattle.ff_poly.specs.Polynomials.{polynomials}
-use Rattle.ff_algebra.specs.Functions.{Equation, FunctionOf, ring_of, of_poly, over, y_of, trace_of, degree_of_y}
-use Rattle.ff_algebra.specs.Discriminant.{discriminant}
-use Rattle.ff_algebra.proofs.OnSide.{of_poly_zero}
-use Rattle.ff_algebra.proofs.ScalarRings.{of_poly_one}
+use Rattle.function_field.specs.Functions.{Equation, FunctionOf, ring_of, of_poly, over, y_of, trace_of, degree_of_y}
+use Rattle.function_field.specs.Discriminant.{discriminant}
+use Rattle.function_field.proofs.OnSide.{of_poly_zero}
+use Rattle.function_field.proofs.ScalarRings.{of_poly_one}
 use Rattle.trace_theory.specs.Traces.{IsRational, IsDualToPowers}
 use Rattle.trace_theory.proofs.Determinants.{diagonal, diagonal_here, diagonal_other}
 use Rattle.trace_theory.proofs.RowMatrix.{row_with, entry_with, trace_form as row_trace_form}

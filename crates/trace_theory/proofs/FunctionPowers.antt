@@ -1,15 +1,15 @@
 -- Powers of functions, and exponents m, as large as wanted, for which the m-th power keeps sums and traces.
 use Rattle.std.proofs.Common.{◌≡◌, ℕ, zero, suc, ◌≤◌, ◌*◌, ◌+◌, refl, sym, ◌∙◌, ap, ap₂, arith, mul-suc}
-use Rattle.ff_ring.specs.Ring.{CommRing, pow}
-use Rattle.ff_ring.specs.Rows.{Row, row_zero, row_scale}
-use Rattle.ff_ring.proofs.Ring.{pow_one, pow_mul, product_not_zero}
-use Rattle.ff_ring.proofs.Rows.{row_scale_one, row_scale_zero}
-use Rattle.ff_ring.proofs.RowMaps.{IsHom}
-use Rattle.ff_ring.proofs.Evaluate.{constant, constant_hom, hom_after}
+use Rattle.ring_theory.specs.Ring.{CommRing, pow}
+use Rattle.ring_theory.specs.Rows.{Row, row_zero, row_scale}
+use Rattle.ring_theory.proofs.Ring.{pow_one, pow_mul, product_not_zero}
+use Rattle.ring_theory.proofs.Rows.{row_scale_one, row_scale_zero}
+use Rattle.ring_theory.proofs.RowMaps.{IsHom}
+use Rattle.ring_theory.proofs.Evaluate.{constant, constant_hom, hom_after}
 use Rattle.ff_fields.specs.Field.{CodeField}
 use Rattle.ff_fields.specs.Code.{code_ring}
 use Rattle.ff_poly.specs.Polynomials.{Polynomial, polynomials_domain, polynomial_discrete}
-use Rattle.ff_algebra.specs.Functions.{Equation, FunctionOf, ring_of, row_of, of_poly, over, trace_of}
+use Rattle.function_field.specs.Functions.{Equation, FunctionOf, ring_of, row_of, of_poly, over, trace_of}
 use Rattle.places_theory.proofs.YRoot.{poly_hom}
 use Rattle.trace_theory.specs.Traces.{IsRational}
 use Rattle.trace_theory.proofs.RowMatrix.{y_zero}

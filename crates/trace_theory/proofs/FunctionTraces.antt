@@ -1,18 +1,18 @@
 -- Products and traces of rows over polynomials.
 use Rattle.std.proofs.Common.{◌≡◌, ℕ, zero, suc, refl, sym, ◌∙◌, ap, ap₂}
-use Rattle.ff_ring.specs.Ring.{CommRing, pow, nat}
-use Rattle.ff_ring.specs.Sums.{sum_below}
-use Rattle.ff_ring.specs.Rows.{Row, row_scale, y_to}
-use Rattle.ff_ring.proofs.Ring.{one_mul}
-use Rattle.ff_ring.proofs.Rows.{pair_path, row_one, row_scale_zero, scale_row_mul}
-use Rattle.ff_ring.proofs.RowFractions.{pair_add, pair_mul, whole_pair}
+use Rattle.ring_theory.specs.Ring.{CommRing, pow, nat}
+use Rattle.ring_theory.specs.Sums.{sum_below}
+use Rattle.ring_theory.specs.Rows.{Row, row_scale, y_to}
+use Rattle.ring_theory.proofs.Ring.{one_mul}
+use Rattle.ring_theory.proofs.Rows.{pair_path, row_one, row_scale_zero, scale_row_mul}
+use Rattle.ring_theory.proofs.RowFractions.{pair_add, pair_mul, whole_pair}
 use Rattle.ff_fields.specs.Field.{CodeField}
 use Rattle.ff_poly.specs.Polynomials.{Polynomial, polynomials, polynomials_domain}
-use Rattle.ff_algebra.specs.Functions.{Equation, FunctionOf, ring_of, function_eq, function_same, row_of, of_poly, over, y_of, add_rows, mul_rows, add_function, mul_function, one_function, whole_row, trace_of, trace_function, degree_of_y}
-use Rattle.ff_algebra.proofs.Horner.{plain, y_plain, row_of_scale}
-use Rattle.ff_algebra.proofs.OnSide.{of_poly_plus, of_poly_zero}
-use Rattle.ff_algebra.proofs.ScalarRings.{of_poly_one, over_plus, over_times, bottoms_not_zero}
-use Rattle.ff_algebra.proofs.Stages.{row_of_function}
+use Rattle.function_field.specs.Functions.{Equation, FunctionOf, ring_of, function_eq, function_same, row_of, of_poly, over, y_of, add_rows, mul_rows, add_function, mul_function, one_function, whole_row, trace_of, trace_function, degree_of_y}
+use Rattle.function_field.proofs.Horner.{plain, y_plain, row_of_scale}
+use Rattle.function_field.proofs.OnSide.{of_poly_plus, of_poly_zero}
+use Rattle.function_field.proofs.ScalarRings.{of_poly_one, over_plus, over_times, bottoms_not_zero}
+use Rattle.function_field.proofs.Stages.{row_of_function}
 use Rattle.trace_theory.specs.Traces.{IsRational}
 use Rattle.trace_theory.proofs.RowMatrix.{rows, y, tr, trace_add, trace_scale, y_zero, trace_unit}
 

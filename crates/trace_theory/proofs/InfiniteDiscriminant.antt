@@ -1,26 +1,26 @@
 -- The infinite presentation: its traces of powers of Y, and its discriminant, read at t = 1/x, are those of the finite one times powers of t.
 use Rattle.std.proofs.Common.{◌≡◌, ℕ, zero, suc, ◌<◌, ◌≤◌, ◌+◌, ◌-◌, ◌*◌, List, [], ◌∷◌, length, get_or, reverse, refl, sym, ◌∙◌, ap, ap₂, subst, arith}
 use Rattle.std.proofs.lemmas.List.{length-map, length-reverse}
-use Rattle.ff_ring.specs.Ring.{CommRing, pow}
-use Rattle.ff_ring.specs.Rows.{entry}
-use Rattle.ff_ring.proofs.Ring.{pow_mul, mul_pow, pow_one_base, eq_of_sub, sub_of_eq, mul_zero, pow_add}
-use Rattle.ff_ring.proofs.Evaluate.{length_trim}
+use Rattle.ring_theory.specs.Ring.{CommRing, pow}
+use Rattle.ring_theory.specs.Rows.{entry}
+use Rattle.ring_theory.proofs.Ring.{pow_mul, mul_pow, pow_one_base, eq_of_sub, sub_of_eq, mul_zero, pow_add}
+use Rattle.ring_theory.proofs.Evaluate.{length_trim}
 use mathlib.Core.List.{reverse-reverse}
-use Rattle.ff_ring.proofs.RowMaps.{hom_neg}
+use Rattle.ring_theory.proofs.RowMaps.{hom_neg}
 use Rattle.trace_theory.proofs.Determinants.{image_power}
-use Rattle.ff_ring.proofs.Solver.{ring, reads, from_three, from_one}
-use Rattle.ff_ring.proofs.Polynomials.{length_product, length_product_le}
+use Rattle.ring_theory.proofs.Solver.{ring, reads, from_three, from_one}
+use Rattle.ring_theory.proofs.Polynomials.{length_product, length_product_le}
 use Rattle.ff_fields.specs.Field.{CodeField}
 use Rattle.ff_fields.specs.Code.{code_ring, code_domain, read_code}
 use Rattle.ff_fields.specs.Numbers.{read}
 use Rattle.ff_poly.specs.Value.{value}
 use Rattle.ff_poly.specs.Polynomials.{Polynomial, polynomials, polynomials_domain, polynomial_discrete, codes_of, value_nil, x_poly, value_one, value_codes_of}
-use Rattle.ff_algebra.specs.declared.elem.Side.TheVariants.{Finite, Infinite}
-use Rattle.ff_algebra.specs.Functions.{of_poly}
-use Rattle.ff_algebra.specs.Values.{PresValue, Functions, functions, equation_of, row_of_list}
-use Rattle.ff_algebra.specs.Infinity.{variable, value_at, IsInfinitePresentation}
-use Rattle.ff_algebra.specs.Discriminant.{discriminant}
-use Rattle.ff_algebra.proofs.OnSide.{value_at_x, of_poly_zero}
+use Rattle.function_field.specs.declared.side.Side.TheVariants.{Finite, Infinite}
+use Rattle.function_field.specs.Functions.{of_poly}
+use Rattle.function_field.specs.Values.{PresValue, Functions, functions, equation_of, row_of_list}
+use Rattle.function_field.specs.Infinity.{variable, value_at, IsInfinitePresentation}
+use Rattle.function_field.specs.Discriminant.{discriminant}
+use Rattle.function_field.proofs.OnSide.{value_at_x, of_poly_zero}
 use Rattle.places_theory.proofs.YRoot.{poly_hom}
 use Rattle.places_theory.proofs.AtInfinity.{at, at_hom, at_codes, value_at_is, x_times_t, x_power, powers_cancel, x_power_not_zero, turned, turned_is, turned_zero, constant_zero, reversed}
 use Rattle.trace_theory.proofs.RowMatrix.{tr, y}

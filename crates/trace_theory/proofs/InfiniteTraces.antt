@@ -1,17 +1,17 @@
 -- The trace of a function is the same in both presentations.
 use Rattle.std.proofs.Common.{◌≡◌, ℕ, suc, ◌≤◌, ◌-◌, ◌*◌, length, sym, ◌∙◌, ap, ap₂}
-use Rattle.ff_ring.specs.Ring.{CommRing, pow}
-use Rattle.ff_ring.specs.Rows.{Row, entry}
-use Rattle.ff_ring.specs.Sums.{sum_below}
-use Rattle.ff_ring.proofs.Ring.{mul_pow, pow_mul}
-use Rattle.ff_ring.proofs.Sums.{below_cong}
-use Rattle.ff_ring.proofs.RowMaps.{eval}
+use Rattle.ring_theory.specs.Ring.{CommRing, pow}
+use Rattle.ring_theory.specs.Rows.{Row, entry}
+use Rattle.ring_theory.specs.Sums.{sum_below}
+use Rattle.ring_theory.proofs.Ring.{mul_pow, pow_mul}
+use Rattle.ring_theory.proofs.Sums.{below_cong}
+use Rattle.ring_theory.proofs.RowMaps.{eval}
 use Rattle.ff_fields.specs.Field.{CodeField}
 use Rattle.ff_poly.specs.Polynomials.{Polynomial, polynomials, codes_of, x_poly, x_poly_not_zero}
-use Rattle.ff_algebra.specs.declared.elem.Side.TheVariants.{Finite, Infinite}
-use Rattle.ff_algebra.specs.Functions.{row_of, y_of, trace_of}
-use Rattle.ff_algebra.specs.Values.{PresValue, Functions, functions, equation_of}
-use Rattle.ff_algebra.specs.Infinity.{variable, IsInfinitePresentation}
+use Rattle.function_field.specs.declared.side.Side.TheVariants.{Finite, Infinite}
+use Rattle.function_field.specs.Functions.{row_of, y_of, trace_of}
+use Rattle.function_field.specs.Values.{PresValue, Functions, functions, equation_of}
+use Rattle.function_field.specs.Infinity.{variable, IsInfinitePresentation}
 use Rattle.places_theory.proofs.YRoot.{over_unique, eval_constant}
 use Rattle.places_theory.proofs.AtInfinity.{at, at_hom, x_power, x_power_not_zero, turned, turned_is, turned_zero}
 use Rattle.places_theory.proofs.PresentationMap.{presentation_map, map_row, unit as unit_of, unit_law, η}

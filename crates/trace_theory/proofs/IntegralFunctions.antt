@@ -1,18 +1,18 @@
 -- The traces of integral functions of both sides.
 use Rattle.std.proofs.Common.{◌≡◌, ℕ, zero, suc, ◌<◌, ◌≤◌, ◌+◌, length, refl, sym, ◌∙◌, ap, subst, arith, le_refl}
-use Rattle.ff_ring.specs.Ring.{CommRing, pow}
-use Rattle.ff_ring.specs.Rows.{row_scale}
-use Rattle.ff_ring.proofs.Ring.{one_mul, product_not_zero}
-use Rattle.ff_ring.proofs.Rows.{pair_path, row_scale_zero}
-use Rattle.ff_ring.proofs.Polynomials.{length_product}
+use Rattle.ring_theory.specs.Ring.{CommRing, pow}
+use Rattle.ring_theory.specs.Rows.{row_scale}
+use Rattle.ring_theory.proofs.Ring.{one_mul, product_not_zero}
+use Rattle.ring_theory.proofs.Rows.{pair_path, row_scale_zero}
+use Rattle.ring_theory.proofs.Polynomials.{length_product}
 use Rattle.ff_fields.specs.Field.{CodeField}
 use Rattle.ff_fields.specs.Code.{code_ring, code_domain}
 use Rattle.ff_poly.specs.Polynomials.{Polynomial, polynomials, polynomials_domain, x_poly}
-use Rattle.ff_algebra.specs.declared.elem.Side.{Side}
-use Rattle.ff_algebra.specs.declared.elem.Side.TheVariants.{Finite, Infinite}
-use Rattle.ff_algebra.specs.Functions.{Equation, FunctionOf, ring_of, row_of, of_poly, over, trace_of, IsScalar}
-use Rattle.ff_algebra.proofs.OnSide.{den_inverse}
-use Rattle.ff_algebra.proofs.ScalarRings.{over_times, bottoms_not_zero, scalars_subring}
+use Rattle.function_field.specs.declared.side.Side.{Side}
+use Rattle.function_field.specs.declared.side.Side.TheVariants.{Finite, Infinite}
+use Rattle.function_field.specs.Functions.{Equation, FunctionOf, ring_of, row_of, of_poly, over, trace_of, IsScalar}
+use Rattle.function_field.proofs.OnSide.{den_inverse}
+use Rattle.function_field.proofs.ScalarRings.{over_times, bottoms_not_zero, scalars_subring}
 use Rattle.places_theory.proofs.AtInfinity.{x_power_not_zero}
 use Rattle.trace_theory.specs.Traces.{IsRational}
 use Rattle.trace_theory.proofs.FunctionTraces.{K, R, one_some, over_same, over_eq, trace_plus, trace_times}

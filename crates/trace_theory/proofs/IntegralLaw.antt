@@ -1,28 +1,28 @@
 -- A rational function t with a multiple d·t^m in the polynomials, or in the fractions of degree at most 0, for one d and for exponents
 -- m as large as wanted, is such a function itself; so traces of integral functions are.
 use Rattle.std.proofs.Common.{◌≡◌, ℕ, zero, suc, ◌<◌, ◌≤◌, ◌⊎◌, inl, inr, [], ◌∷◌, length, refl, sym, ◌∙◌, ap, ap₂, subst, arith}
-use Rattle.ff_ring.specs.Ring.{CommRing, pow}
-use Rattle.ff_ring.specs.Rows.{Row, row_zero, entry}
-use Rattle.ff_ring.specs.Sums.{sum_below}
-use Rattle.ff_ring.specs.Subsets.{IsSubring}
-use Rattle.ff_ring.specs.Integral.{IsIntegral}
-use Rattle.ff_ring.proofs.Ring.{one_mul, zero_mul, mul_zero, mul_left_comm, product_not_zero}
-use Rattle.ff_ring.proofs.Sums.{below_scale, below_cong, below_first}
-use Rattle.ff_ring.proofs.RowMaps.{IsHom, eval, eval_none, eval_cons}
-use Rattle.ff_ring.proofs.Local.{power_in}
-use Rattle.ff_ring.proofs.Solver.{ring, reads, from_one}
-use Rattle.ff_ring.proofs.Polynomials.{length_product}
-use Rattle.local_theory.proofs.IntegralRing.{integral_ring}
+use Rattle.ring_theory.specs.Ring.{CommRing, pow}
+use Rattle.ring_theory.specs.Rows.{Row, row_zero, entry}
+use Rattle.ring_theory.specs.Sums.{sum_below}
+use Rattle.ring_theory.specs.Subsets.{IsSubring}
+use Rattle.ring_theory.specs.Integral.{IsIntegral}
+use Rattle.ring_theory.proofs.Ring.{one_mul, zero_mul, mul_zero, mul_left_comm, product_not_zero}
+use Rattle.ring_theory.proofs.Sums.{below_scale, below_cong, below_first}
+use Rattle.ring_theory.proofs.RowMaps.{IsHom, eval, eval_none, eval_cons}
+use Rattle.ring_theory.proofs.Local.{power_in}
+use Rattle.ring_theory.proofs.Solver.{ring, reads, from_one}
+use Rattle.ring_theory.proofs.Polynomials.{length_product}
+use Rattle.prime_theory.proofs.IntegralRing.{integral_ring}
 use Rattle.ff_fields.specs.Field.{CodeField}
 use Rattle.ff_fields.specs.Code.{code_ring, code_domain}
 use Rattle.ff_poly.specs.Polynomials.{Polynomial, polynomials, polynomials_domain, polynomial_discrete}
-use Rattle.ff_algebra.specs.declared.elem.Side.{Side}
-use Rattle.ff_algebra.specs.declared.elem.Side.TheVariants.{Finite, Infinite}
-use Rattle.ff_algebra.specs.Places.{IsIntegralAt}
-use Rattle.ff_algebra.specs.Functions.{Equation, FunctionOf, ring_of, row_of, of_poly, over, y_of, trace_of, degree_of_y, IsPolynomial, IsFiniteAtInfinity, IsScalar, setting_of}
-use Rattle.ff_algebra.specs.Discriminant.{discriminant}
-use Rattle.ff_algebra.proofs.OnSide.{of_poly_zero}
-use Rattle.ff_algebra.proofs.ScalarRings.{over_plus, over_times, bottoms_not_zero, scalars_subring, polynomials_subring}
+use Rattle.function_field.specs.declared.side.Side.{Side}
+use Rattle.function_field.specs.declared.side.Side.TheVariants.{Finite, Infinite}
+use Rattle.function_field.specs.Places.{IsIntegralAt}
+use Rattle.function_field.specs.Functions.{Equation, FunctionOf, ring_of, row_of, of_poly, over, y_of, trace_of, degree_of_y, IsPolynomial, IsFiniteAtInfinity, IsScalar, setting_of}
+use Rattle.function_field.specs.Discriminant.{discriminant}
+use Rattle.function_field.proofs.OnSide.{of_poly_zero}
+use Rattle.function_field.proofs.ScalarRings.{over_plus, over_times, bottoms_not_zero, scalars_subring, polynomials_subring}
 use Rattle.places_theory.proofs.YRoot.{poly_hom, y_root}
 use Rattle.trace_theory.specs.Traces.{IsRational, HasPolynomialCoordinates}
 use Rattle.trace_theory.proofs.FunctionTraces.{K, one_some, trace_plus, trace_times, trace_rational, polynomial_value}

@@ -2,13 +2,13 @@
 -- The traces of all powers of such a function have a common denominator, and that of an m-th power is the m-th power of the trace for
 -- exponents m as large as wanted.
 use Rattle.std.proofs.Common.{eq-or-lt_of_le, le_of_suc-le-suc, ◌≡◌, ℕ, zero, suc, ◌<◌, ◌⊎◌, inl, inr, [], ◌∷◌, refl, sym, ◌∙◌, ap, subst, arith}
-use Rattle.ff_ring.specs.Ring.{CommRing, pow}
-use Rattle.ff_ring.specs.Subsets.{IsSubring}
-use Rattle.ff_ring.specs.Integral.{IsIntegral}
-use Rattle.ff_ring.proofs.Ring.{one_mul, mul_zero, add_cancel_left}
-use Rattle.ff_ring.proofs.Integral.{Low}
-use Rattle.ff_ring.proofs.Solver.{ring, reads, from_two}
-use Rattle.local_theory.proofs.Adjoined.{power_low, low_by_root, low_has}
+use Rattle.ring_theory.specs.Ring.{CommRing, pow}
+use Rattle.ring_theory.specs.Subsets.{IsSubring}
+use Rattle.ring_theory.specs.Integral.{IsIntegral}
+use Rattle.ring_theory.proofs.Ring.{one_mul, mul_zero, add_cancel_left}
+use Rattle.ring_theory.proofs.Integral.{Low}
+use Rattle.ring_theory.proofs.Solver.{ring, reads, from_two}
+use Rattle.prime_theory.proofs.Adjoined.{power_low, low_by_root, low_has}
 
 -- in a ring with a subring S and a map that is additive and linear over S
 module _ {A : Type 0} (R : CommRing A) (S : A → Type 0) (𝓢 : IsSubring R.ops S) (tr : A → A)

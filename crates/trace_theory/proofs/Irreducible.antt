@@ -2,12 +2,12 @@
 -- it divides a factor.
 use Rattle.std.proofs.Common.{◌≡◌, ℕ, suc, ◌<◌, ◌≤◌, ◌+◌, ◌-◌, ◌⊎◌, inl, inr, List, [], ◌∷◌, ◌++◌, length, refl, sym, ◌∙◌, ap, subst, arith}
 use Rattle.std.proofs.lemmas.List.{length-map, map-append}
-use Rattle.ff_ring.specs.Lists.{coeff_of}
-use Rattle.ff_ring.proofs.Ring.{mul_zero, zero_mul, mul_mul}
-use Rattle.ff_ring.proofs.Sequences.{convolution_constant_left}
-use Rattle.ff_ring.proofs.Evaluate.{constant, constant_hom}
-use Rattle.ff_ring.proofs.Lists.{coeff_trim}
-use Rattle.ff_ring.proofs.Polynomials.{series_mul, length_product}
+use Rattle.ring_theory.specs.Lists.{coeff_of}
+use Rattle.ring_theory.proofs.Ring.{mul_zero, zero_mul, mul_mul}
+use Rattle.ring_theory.proofs.Sequences.{convolution_constant_left}
+use Rattle.ring_theory.proofs.Evaluate.{constant, constant_hom}
+use Rattle.ring_theory.proofs.Lists.{coeff_trim}
+use Rattle.ring_theory.proofs.Polynomials.{series_mul, length_product}
 use Rattle.linear_theory.specs.Euclidean.{IsDivisor, IsUnit, IsIrreducible as IsIrreducibleIn}
 use Rattle.linear_theory.proofs.Euclid.{euclid, decide_divisor}
 use Rattle.ff_fields.specs.Field.{CodeField}

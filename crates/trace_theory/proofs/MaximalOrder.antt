@@ -1,21 +1,21 @@
 -- A ring over k[x][y] that is maximal at the irreducible polynomials whose squares divide the discriminant has all integral functions.
 use Rattle.std.proofs.Common.{◌≡◌, List, [], ◌∷◌, All, refl, sym, ◌∙◌, ap, ap₂, subst}
 use Rattle.std.proofs.lemmas.List.Elements.{All-head, All-tail}
-use Rattle.ff_ring.specs.Subsets.{IsSubring}
-use Rattle.ff_ring.proofs.Ring.{one_mul, product_not_zero}
-use Rattle.ff_ring.proofs.Solver.{ring, reads, from_one}
-use Rattle.local_theory.specs.Orders.{MaximalAt}
-use Rattle.local_theory.proofs.IntegralRing.{integral_base}
+use Rattle.ring_theory.specs.Subsets.{IsSubring}
+use Rattle.ring_theory.proofs.Ring.{one_mul, product_not_zero}
+use Rattle.ring_theory.proofs.Solver.{ring, reads, from_one}
+use Rattle.prime_theory.specs.Orders.{MaximalAt}
+use Rattle.prime_theory.proofs.IntegralRing.{integral_base}
 use Rattle.linear_theory.specs.Euclidean.{IsDivisor, Bezout}
 use Rattle.linear_theory.proofs.Euclid.{bezout, decide_divisor}
 use Rattle.ff_fields.specs.Field.{CodeField}
 use Rattle.ff_poly.specs.Words.{IsIrreducible}
 use Rattle.ff_poly.specs.Polynomials.{Polynomial, polynomials, polynomials_domain, codes_of}
-use Rattle.ff_algebra.specs.declared.elem.Side.TheVariants.{Finite}
-use Rattle.ff_algebra.specs.Places.{IsIntegralAt}
-use Rattle.ff_algebra.specs.Functions.{Equation, FunctionOf, ring_of, row_of, of_poly, IsPolynomial, setting_of}
-use Rattle.ff_algebra.specs.Discriminant.{discriminant}
-use Rattle.ff_algebra.proofs.ScalarRings.{of_poly_one, polynomials_subring}
+use Rattle.function_field.specs.declared.side.Side.TheVariants.{Finite}
+use Rattle.function_field.specs.Places.{IsIntegralAt}
+use Rattle.function_field.specs.Functions.{Equation, FunctionOf, ring_of, row_of, of_poly, IsPolynomial, setting_of}
+use Rattle.function_field.specs.Discriminant.{discriminant}
+use Rattle.function_field.proofs.ScalarRings.{of_poly_one, polynomials_subring}
 use Rattle.places_theory.proofs.YRoot.{poly_hom}
 use Rattle.trace_theory.specs.Traces.{HasPolynomialCoordinates, polynomial_product}
 use Rattle.trace_theory.proofs.IntegralLaw.{integral_times, discriminant_clears}
@@ -86,20 +86,20 @@ module _ {k : CodeField} (c : Equation k) (O : FunctionOf c → Type 0) (𝓞 : 
         go (yes d) = maximal d w 1 w_int (subst (λ x. O ((ring_of c).◌⊗◌ x w)) (sym ((ring_of c).mul_one (of_poly c p))) p_in)
         go (no n) = free_step n w w_int p_in
 
-  abbrev Tame : Polynomial k → Type 0
-  Tame p = IsDivisor (polynomials k).ops ((polynomials k).◌⊗◌ p p) (discriminant c) → MaximalAt (ring_of c).ops (of_poly c p) Int O
+  abbrev SupportedAt : Polynomial k → Type 0
+  SupportedAt p = IsDivisor (polynomials k).ops ((polynomials k).◌⊗◌ p p) (discriminant c) → MaximalAt (ring_of c).ops (of_poly c p) Int O
 
-  cleared : (ps : List (Polynomial k)) → All (λ p. IsIrreducible k.ops (codes_of k p)) ps → All Tame ps
+  cleared : (ps : List (Polynomial k)) → All (λ p. IsIrreducible k.ops (codes_of k p)) ps → All SupportedAt ps
       → (z : FunctionOf c) → Int z → O (of_poly c (polynomial_product k ps) ⊗ z) → O z
   cleared [] h m z z_int z_in = subst O (ap (λ x. x ⊗ z) (sym (of_poly_one c)) ∙ one_mul (ring_of c) z) z_in
   cleared (p ∷ ps) h m z z_int z_in =
-      cleared ps (All-tail (λ p. IsIrreducible k.ops (codes_of k p)) p ps h) (All-tail Tame p ps m) z z_int
-      (step p (All-head (λ p. IsIrreducible k.ops (codes_of k p)) p ps h) (All-head Tame p ps m) (of_poly c (polynomial_product k ps) ⊗ z)
+      cleared ps (All-tail (λ p. IsIrreducible k.ops (codes_of k p)) p ps h) (All-tail SupportedAt p ps m) z z_int
+      (step p (All-head (λ p. IsIrreducible k.ops (codes_of k p)) p ps h) (All-head SupportedAt p ps m) (of_poly c (polynomial_product k ps) ⊗ z)
       (integral_times c (of_poly c (polynomial_product k ps)) z (polynomial_integral (polynomial_product k ps)) z_int)
       (subst O (ap (λ x. x ⊗ z) ((poly_hom c).mul p (polynomial_product k ps)) ∙ (ring_of c).mul_assoc _ _ _) z_in))
 
   pub maximal_order : (ps : List (Polynomial k)) → IsDivisor (polynomials k).ops (discriminant c) (polynomial_product k ps)
-      → All (λ p. IsIrreducible k.ops (codes_of k p)) ps → All Tame ps → (z : FunctionOf c) → Int z → O z
+      → All (λ p. IsIrreducible k.ops (codes_of k p)) ps → All SupportedAt ps → (z : FunctionOf c) → Int z → O z
   maximal_order ps (u, is) h m z z_int =
       cleared ps h m z z_int
       (subst O

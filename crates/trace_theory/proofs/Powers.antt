@@ -1,20 +1,20 @@
 -- The q-th power of a sum of rows of polynomials is the sum of the q-th powers, q being the number of codes of the field.
 use Rattle.std.proofs.Common.{◌≡◌, ℕ, suc, ◌-◌, ◌≤◌, inl, inr, List, [], ◌∷◌, length, All, refl, sym, ◌∙◌, ap, arith}
 use Rattle.std.proofs.lemmas.List.Elements.{All-nil, All-cons}
-use Rattle.ff_ring.specs.Ring.{CommRing, pow}
-use Rattle.ff_ring.specs.Rows.{Row, row_zero, row_add}
-use Rattle.ff_ring.proofs.Finite.{In, IsDistinct}
-use Rattle.ff_ring.proofs.Rows.{pair_path, row_one, row_add_zero}
-use Rattle.ff_ring.proofs.RowMaps.{IsHom, hom_zero}
-use Rattle.ff_ring.proofs.Evaluate.{constant, constant_hom, hom_after}
+use Rattle.ring_theory.specs.Ring.{CommRing, pow}
+use Rattle.ring_theory.specs.Rows.{Row, row_zero, row_add}
+use Rattle.ring_theory.proofs.Finite.{In, IsDistinct}
+use Rattle.ring_theory.proofs.Rows.{pair_path, row_one, row_add_zero}
+use Rattle.ring_theory.proofs.RowMaps.{IsHom, hom_zero}
+use Rattle.ring_theory.proofs.Evaluate.{constant, constant_hom, hom_after}
 use Rattle.linear_theory.specs.Fields.{Domain}
 use Rattle.linear_theory.specs.Distinct.{Distinct}
 use Rattle.linear_theory.proofs.Frobenius.{frobenius}
 use Rattle.ff_fields.specs.Field.{CodeField}
 use Rattle.ff_fields.specs.Code.{Code, code_ring, code_domain}
 use Rattle.ff_poly.specs.Polynomials.{Polynomial, polynomials}
-use Rattle.ff_algebra.specs.Functions.{Equation, row_of}
-use Rattle.ff_algebra.proofs.OnSide.{row_product}
+use Rattle.function_field.specs.Functions.{Equation, row_of}
+use Rattle.function_field.proofs.OnSide.{row_product}
 use Rattle.places_theory.proofs.CodeFields.{code_finite}
 use Rattle.trace_theory.proofs.FunctionTraces.{K, R}
 

@@ -1,23 +1,23 @@
 -- Where the discriminant isn't 0, no function but 0 is nilpotent, and F is a field where 0 and 1 are its only idempotents.
 use Rattle.std.proofs.Common.{◌≡◌, ℕ, zero, suc, ◌<◌, ◌≤◌, ◌+◌, ◌-◌, ◌⊎◌, inl, inr, List, [], ◌∷◌, refl, sym, ◌∙◌, ap, ap₂, subst, arith, ◌↔◌}
-use Rattle.ff_ring.specs.Ring.{CommRing, IsField, pow}
-use Rattle.ff_ring.specs.Rows.{Row, row_zero, row_scale, entry}
-use Rattle.ff_ring.specs.Sums.{sum_below}
-use Rattle.ff_ring.proofs.Ring.{one_mul, zero_mul, mul_zero, zero_add, mul_left_comm, mul_pow, pow_add, add_cancel_left}
-use Rattle.ff_ring.proofs.Sums.{below_first, below_cong, below_scale}
-use Rattle.ff_ring.proofs.Solver.{ring, reads, from_two}
-use Rattle.ff_ring.proofs.Rows.{row_scale_one}
+use Rattle.ring_theory.specs.Ring.{CommRing, IsField, pow}
+use Rattle.ring_theory.specs.Rows.{Row, row_zero, row_scale, entry}
+use Rattle.ring_theory.specs.Sums.{sum_below}
+use Rattle.ring_theory.proofs.Ring.{one_mul, zero_mul, mul_zero, zero_add, mul_left_comm, mul_pow, pow_add, add_cancel_left}
+use Rattle.ring_theory.proofs.Sums.{below_first, below_cong, below_scale}
+use Rattle.ring_theory.proofs.Solver.{ring, reads, from_two}
+use Rattle.ring_theory.proofs.Rows.{row_scale_one}
 use Rattle.linear_theory.specs.Basis.{Relation}
 use Rattle.linear_theory.proofs.Relation.{relation}
 use Rattle.linear_theory.proofs.Elimination.{tabulate}
 use Rattle.linear_theory.proofs.Domain.{first_nonzero}
 use Rattle.ff_fields.specs.Field.{CodeField}
 use Rattle.ff_poly.specs.Polynomials.{Polynomial, polynomials}
-use Rattle.ff_algebra.specs.Functions.{Equation, FunctionOf, ring_of, row_of, of_poly, over, y_of, trace_of, functions_discrete}
-use Rattle.ff_algebra.specs.Discriminant.{discriminant}
-use Rattle.ff_algebra.proofs.Horner.{add_plain, mul_plain}
-use Rattle.ff_algebra.proofs.OnSide.{den_inverse, of_poly_zero}
-use Rattle.ff_algebra.proofs.ScalarRings.{of_poly_one}
+use Rattle.function_field.specs.Functions.{Equation, FunctionOf, ring_of, row_of, of_poly, over, y_of, trace_of, functions_discrete}
+use Rattle.function_field.specs.Discriminant.{discriminant}
+use Rattle.function_field.proofs.Horner.{add_plain, mul_plain}
+use Rattle.function_field.proofs.OnSide.{den_inverse, of_poly_zero}
+use Rattle.function_field.proofs.ScalarRings.{of_poly_one}
 use Rattle.trace_theory.proofs.RowMatrix.{entry_add, at_scale, entry_zero, row_by_entries}
 use Rattle.trace_theory.proofs.FunctionTraces.{K, R, one_some, over_eq, as_row, trace_plus, trace_rational, row_of_times, over_product, polynomial_value}
 use Rattle.trace_theory.proofs.FunctionPowers.{exponent_of, rational_reduced, power_over}

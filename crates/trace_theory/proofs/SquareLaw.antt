@@ -1,25 +1,25 @@
 -- Where an irreducible p takes a function to polynomial coordinates that the function doesn't have, while its traces are polynomials, the
 -- square of p divides the discriminant.
 use Rattle.std.proofs.Common.{◌≡◌, ℕ, suc, ◌<◌, ◌⊎◌, inl, inr, [], ◌∷◌, refl, sym, ◌∙◌, ap, ap₂, subst, zero}
-use Rattle.ff_ring.specs.Ring.{pow}
-use Rattle.ff_ring.specs.Rows.{Row}
-use Rattle.ff_ring.proofs.Ring.{mul_left_comm, domain_cancel, product_not_zero, one_mul}
-use Rattle.ff_ring.proofs.Rows.{row_scale_one}
-use Rattle.ff_ring.proofs.Solver.{ring, reads, from_two}
+use Rattle.ring_theory.specs.Ring.{pow}
+use Rattle.ring_theory.specs.Rows.{Row}
+use Rattle.ring_theory.proofs.Ring.{mul_left_comm, domain_cancel, product_not_zero, one_mul}
+use Rattle.ring_theory.proofs.Rows.{row_scale_one}
+use Rattle.ring_theory.proofs.Solver.{ring, reads, from_two}
 use Rattle.linear_theory.specs.Euclidean.{IsDivisor}
 use Rattle.linear_theory.proofs.Domain.{least}
 use Rattle.ff_fields.specs.Field.{CodeField}
 use Rattle.ff_poly.specs.Words.{IsIrreducible}
 use Rattle.ff_poly.specs.Polynomials.{Polynomial, polynomials, polynomials_domain, codes_of}
-use Rattle.ff_algebra.specs.Functions.{Equation, FunctionOf, ring_of, row_of, of_poly, over, y_of, trace_of, degree_of_y, IsPolynomial, setting_of}
-use Rattle.ff_algebra.specs.declared.elem.Side.TheVariants.{Finite}
-use Rattle.ff_algebra.specs.Places.{IsIntegralAt}
-use Rattle.ff_algebra.specs.Discriminant.{discriminant}
-use Rattle.ff_algebra.proofs.OnSide.{den_inverse}
-use Rattle.ff_algebra.proofs.ScalarRings.{polynomials_subring}
-use Rattle.local_theory.specs.Orders.{MaximalAt}
-use Rattle.local_theory.proofs.IntegralRing.{integral_base}
-use Rattle.ff_ring.proofs.Local.{power_in}
+use Rattle.function_field.specs.Functions.{Equation, FunctionOf, ring_of, row_of, of_poly, over, y_of, trace_of, degree_of_y, IsPolynomial, setting_of}
+use Rattle.function_field.specs.declared.side.Side.TheVariants.{Finite}
+use Rattle.function_field.specs.Places.{IsIntegralAt}
+use Rattle.function_field.specs.Discriminant.{discriminant}
+use Rattle.function_field.proofs.OnSide.{den_inverse}
+use Rattle.function_field.proofs.ScalarRings.{polynomials_subring}
+use Rattle.prime_theory.specs.Orders.{MaximalAt}
+use Rattle.prime_theory.proofs.IntegralRing.{integral_base}
+use Rattle.ring_theory.proofs.Local.{power_in}
 use Rattle.trace_theory.specs.Traces.{HasPolynomialCoordinates}
 use Rattle.trace_theory.proofs.RowMatrix.{at, at_scale, row_with, entry_with, row_by_entries}
 use Rattle.trace_theory.proofs.RowForm.{entry_square}

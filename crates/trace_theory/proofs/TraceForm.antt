@@ -1,13 +1,13 @@
 -- The discriminant takes a function whose products with the powers of y have polynomials as traces to polynomial coordinates.
 use Rattle.std.proofs.Common.{◌≡◌, ℕ, zero, suc, ◌<◌, sym, ◌∙◌, ap, arith}
-use Rattle.ff_ring.specs.Ring.{pow}
-use Rattle.ff_ring.specs.Rows.{Row, row_scale}
-use Rattle.ff_ring.proofs.Ring.{one_mul}
-use Rattle.ff_ring.proofs.Rows.{row_scale_one}
+use Rattle.ring_theory.specs.Ring.{pow}
+use Rattle.ring_theory.specs.Rows.{Row, row_scale}
+use Rattle.ring_theory.proofs.Ring.{one_mul}
+use Rattle.ring_theory.proofs.Rows.{row_scale_one}
 use Rattle.ff_fields.specs.Field.{CodeField}
 use Rattle.ff_poly.specs.Polynomials.{Polynomial, polynomials}
-use Rattle.ff_algebra.specs.Functions.{Equation, FunctionOf, ring_of, row_of, of_poly, over, y_of, trace_of, degree_of_y, IsPolynomial}
-use Rattle.ff_algebra.specs.Discriminant.{discriminant}
+use Rattle.function_field.specs.Functions.{Equation, FunctionOf, ring_of, row_of, of_poly, over, y_of, trace_of, degree_of_y, IsPolynomial}
+use Rattle.function_field.specs.Discriminant.{discriminant}
 use Rattle.trace_theory.specs.Traces.{HasPolynomialCoordinates}
 use Rattle.trace_theory.proofs.RowMatrix.{row_with}
 use Rattle.trace_theory.proofs.RowForm.{replaced, row_form}

@@ -1,14 +1,14 @@
 -- The trace of a q-th power is the q-th power of the trace.
 use Rattle.std.proofs.Common.{◌≡◌, ℕ, zero, suc, ◌<◌, ◌≤◌, ◌⊎◌, inl, inr, [], ◌∷◌, length, refl, sym, ◌∙◌, ap, ap₂, arith}
-use Rattle.ff_ring.specs.Ring.{CommRing, pow}
-use Rattle.ff_ring.specs.Rows.{Row, row_scale}
-use Rattle.ff_ring.proofs.Ring.{mul_pow, pow_one_base, eq_of_sub, domain_cancel, product_not_zero, mul_zero}
-use Rattle.ff_ring.proofs.Solver.{ring, reads, from_one}
-use Rattle.ff_ring.proofs.Polynomials.{pol_ops, coeff_past, length_product}
+use Rattle.ring_theory.specs.Ring.{CommRing, pow}
+use Rattle.ring_theory.specs.Rows.{Row, row_scale}
+use Rattle.ring_theory.proofs.Ring.{mul_pow, pow_one_base, eq_of_sub, domain_cancel, product_not_zero, mul_zero}
+use Rattle.ring_theory.proofs.Solver.{ring, reads, from_one}
+use Rattle.ring_theory.proofs.Polynomials.{pol_ops, coeff_past, length_product}
 use Rattle.ff_fields.specs.Field.{CodeField}
 use Rattle.ff_fields.specs.Code.{code_ring, code_domain, read_code, read_code_below}
 use Rattle.ff_poly.specs.Polynomials.{Polynomial, polynomials, polynomials_domain, polynomial_discrete, x_poly, x_poly_not_zero, series_read}
-use Rattle.ff_algebra.specs.Functions.{Equation, row_of}
+use Rattle.function_field.specs.Functions.{Equation, row_of}
 use Rattle.places_theory.proofs.AtInfinity.{x_power_not_zero}
 use Rattle.trace_theory.proofs.Determinants.{Near, image_power}
 use Rattle.trace_theory.proofs.Norms.{norm, norm_power, norm_near}

@@ -1,11 +1,11 @@
 -- Rational functions, polynomials in x and y, and the trace form (Stichtenoth, Algebraic Function Fields and Codes, chapter 3).
 use Rattle.std.specs.Prelude.{◌≡◌, ℕ, suc, ◌<◌, List, [], ◌∷◌}
-use Rattle.ff_ring.specs.Ring.{pow}
-use Rattle.ff_ring.specs.Sums.{sum_below}
-use Rattle.ff_ring.specs.Rows.{Row}
+use Rattle.ring_theory.specs.Ring.{pow}
+use Rattle.ring_theory.specs.Sums.{sum_below}
+use Rattle.ring_theory.specs.Rows.{Row}
 use Rattle.ff_fields.specs.Field.{CodeField}
 use Rattle.ff_poly.specs.Polynomials.{Polynomial, polynomials, polynomials_domain}
-use Rattle.ff_algebra.specs.Functions.{Equation, FunctionOf, ring_of, row_of, over, y_of, trace_of, degree_of_y}
+use Rattle.function_field.specs.Functions.{Equation, FunctionOf, ring_of, row_of, over, y_of, trace_of, degree_of_y}
 
 -- the product of the members of a list
 abbrev pub polynomial_product : (k : CodeField) → List (Polynomial k) → Polynomial k

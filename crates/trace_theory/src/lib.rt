@@ -4,23 +4,23 @@
 #![tactic(auto)]
 
 ghost use Rattle.std.specs.Prelude.{◌≡◌, ◌≢◌, ℕ, ◌+◌, ◌-◌, ◌*◌, ◌≤◌, ◌<◌, ◌↔◌, ◌⊎◌, [], length, reverse, List, All};
-ghost use Rattle.ff_ring.specs.Ring.{IsField, pow, nat};
-ghost use Rattle.ff_ring.specs.Subsets.{IsSubring};
-ghost use Rattle.ff_ring.specs.Sums.{sum_below, trace};
-ghost use Rattle.ff_ring.specs.Determinant.{determinant};
+ghost use Rattle.ring_theory.specs.Ring.{IsField, pow, nat};
+ghost use Rattle.ring_theory.specs.Subsets.{IsSubring};
+ghost use Rattle.ring_theory.specs.Sums.{sum_below, trace};
+ghost use Rattle.ring_theory.specs.Determinant.{determinant};
 ghost use Rattle.ff_fields.specs.Field.{CodeField};
 ghost use Rattle.linear_theory.specs.Euclidean.{IsDivisor};
 ghost use Rattle.ff_poly.specs.Words.{IsIrreducible, IsPoly};
 ghost use Rattle.ff_poly.specs.Polynomials.{Polynomial, polynomials, codes_of, x_poly};
 ghost use Rattle.ff_poly.specs.Value.{value};
-ghost use Rattle.ff_algebra.specs.Functions.{Equation, FunctionOf, ring_of, of_poly, y_of, trace_of, degree_of_y, setting_of, IsPolynomial, IsScalar};
-ghost use Rattle.ff_algebra.specs.declared.elem.Side.{Side};
-ghost use Rattle.ff_algebra.specs.declared.elem.Side.TheVariants.{Finite, Infinite};
-ghost use Rattle.ff_algebra.specs.Places.{IsIntegralAt};
-ghost use Rattle.ff_algebra.specs.Discriminant.{discriminant};
-ghost use Rattle.ff_algebra.specs.Values.{PresValue, ElemValue, IsElem, Functions, functions, setting, equation_of, function_of};
-ghost use Rattle.ff_algebra.specs.Infinity.{value_at, variable, function_on, IsInfinitePresentation};
-ghost use Rattle.local_theory.specs.Orders.{MaximalAt};
+ghost use Rattle.function_field.specs.Functions.{Equation, FunctionOf, ring_of, of_poly, y_of, trace_of, degree_of_y, setting_of, IsPolynomial, IsScalar};
+ghost use Rattle.function_field.specs.declared.side.Side.{Side};
+ghost use Rattle.function_field.specs.declared.side.Side.TheVariants.{Finite, Infinite};
+ghost use Rattle.function_field.specs.Places.{IsIntegralAt};
+ghost use Rattle.function_field.specs.Discriminant.{discriminant};
+ghost use Rattle.function_field.specs.Values.{PresValue, ElemValue, IsElem, Functions, functions, setting, equation_of, function_of};
+ghost use Rattle.function_field.specs.Infinity.{value_at, variable, function_on, IsInfinitePresentation};
+ghost use Rattle.prime_theory.specs.Orders.{MaximalAt};
 ghost use Rattle.places_theory.specs.Maps.{IsIsomorphism};
 ghost use Rattle.trace_theory.specs.Traces.{IsRational, HasPolynomialCoordinates, HasDegenerateTraceForm, IsDualToPowers, polynomial_product};
 

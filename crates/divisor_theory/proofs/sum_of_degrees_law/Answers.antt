@@ -1,6 +1,6 @@
 -- The theorems of `SumsOfDegrees`.
 use Rattle.std.proofs.Common.{◌-◌, suc, ap}
-use Rattle.ff_algebra.specs.Values.{equation_of}
+use Rattle.function_field.specs.Values.{equation_of}
 use Rattle.ideal_theory.specs.Records.{RowSpan}
 use Rattle.divisor_theory.proofs.SumsOfDegrees.{sum_of_degrees, standard_sum}
 use Rattle.divisor_theory.proofs.sum_of_degrees_law.Goals as goal

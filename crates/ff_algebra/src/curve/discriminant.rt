@@ -1,14 +1,15 @@
 //! The discriminant of a presentation: the determinant of the traces of y^(i+j).
 
 ghost use Rattle.std.specs.Prelude.{◌≡◌, ℕ, ◌+◌, ◌-◌, ◌*◌, ◌<◌, ◌≤◌, [], length, get_or, All, IfOk};
-ghost use Rattle.ff_ring.specs.Determinant.{determinant};
+ghost use Rattle.ring_theory.specs.Determinant.{determinant};
 ghost use Rattle.ff_fields.specs.Over.{IsOver};
 ghost use Rattle.ff_poly.specs.Words.{IsPoly};
 ghost use Rattle.ff_poly.specs.Value.{value};
 ghost use Rattle.ff_poly.specs.Polynomials.{polynomials};
-ghost use Rattle.ff_algebra.specs.Values.{IsPresOver, equation_of};
-ghost use Rattle.ff_algebra.specs.Discriminant.{power_trace};
-ghost use Rattle.ff_algebra.specs.Curves.{IsDiscriminant, matrix_of};
+ghost use Rattle.function_field.specs.Values.{IsPresOver, equation_of};
+ghost use Rattle.function_field.specs.Discriminant.{power_trace};
+ghost use Rattle.function_field.specs.Curves.{IsDiscriminant};
+ghost use Rattle.ff_algebra.specs.CurveTerms.{matrix_of};
 
 use crate::elem::Pres;
 use crate::rows::{multiply_by_y, row_trace, zeros};
@@ -35,7 +36,7 @@ fn power_traces<K: SmallField>(alloc: Global, k: &K, p: &Pres) -> Result<Vec<Pol
     Ok(traces)
 }
 
-/// The determinant of the square matrix whose row i has the entries of the list from place rows\[i\] + column on, by
+/// The determinant of the square matrix whose row i has the entries of the list from position rows\[i\] + column on, by
 /// expansion along the first column. It takes less than 3·m! products of polynomials, for m rows.
 fn determinant<K: SmallField>(
     alloc: Global,

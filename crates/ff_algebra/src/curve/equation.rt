@@ -2,8 +2,8 @@
 
 ghost use Rattle.std.specs.Prelude.{◌≡◌, ℕ, ◌<◌, ◌≤◌, [], length, get_or, All, IfOk, IfErr};
 ghost use Rattle.ff_fields.specs.Over.{IsOver};
-ghost use Rattle.ff_algebra.specs.Values.{IsPresOver};
-ghost use Rattle.ff_algebra.specs.Curves.{degree_in_y, degree_in_x, IsCoefficient, IsSmallEquation, IsCurveFault};
+ghost use Rattle.function_field.specs.Values.{IsPresOver};
+ghost use Rattle.ff_algebra.specs.CurveTerms.{degree_in_y, degree_in_x, IsCoefficient, IsSmallEquation, IsCurveFault};
 
 use crate::curve::CurveFault;
 use crate::elem::Pres;

@@ -2,8 +2,8 @@
 
 ghost use Rattle.std.specs.Prelude.{◌≡◌, ℕ, ◌+◌, ◌-◌, ◌*◌, ◌^◌, ◌<◌, ◌≤◌, [], length, get_or, All, IfOk};
 ghost use Rattle.ff_poly.specs.Words.{IsPoly};
-ghost use Rattle.ff_algebra.specs.Infinity.{IsInfinityNumber, IsEnoughAtInfinity};
-ghost use Rattle.ff_algebra.specs.Curves.{reversed_of};
+ghost use Rattle.function_field.specs.Infinity.{IsInfinityNumber, IsEnoughAtInfinity};
+ghost use Rattle.function_field.specs.Curves.{reversed_of};
 
 use crate::elem::Pres;
 use ff_poly::Poly;

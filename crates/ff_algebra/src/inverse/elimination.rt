@@ -5,7 +5,7 @@
 ghost use Rattle.std.specs.Prelude.{◌≡◌, ◌≢◌, ◌+◌, ◌*◌, ◌<◌, ◌≤◌, ℕ, [], ◌∷◌, length, take, replicate, slice_set, slice_index_or, All, IfOk, MatchOption};
 ghost use Rattle.ff_fields.specs.Over.{IsOver};
 ghost use Rattle.ff_poly.specs.Popov.{rows_of};
-ghost use Rattle.ff_algebra.specs.Values.{IsPresOver, PresValue};
+ghost use Rattle.function_field.specs.Values.{IsPresOver, PresValue};
 ghost use Rattle.ff_algebra.specs.RowProducts.{IsRow};
 ghost use Rattle.ff_algebra.specs.Inverses.{ClearsColumn, IsEliminated, IsLine, IsRelation, eliminated, entry_of};
 
@@ -15,7 +15,7 @@ use ff_fields::field::SmallField;
 use ff_poly::{Poly, poly};
 use std::alloc::{AllocError, Global};
 
-/// n polynomials, all 0 but a 1 at place i.
+/// n polynomials, all 0 but a 1 at position i.
 fn unit_row(alloc: Global, n: usize, i: usize) -> Result<Vec<Poly>, AllocError>
     requires { i < n }
     ensures { IfOk result (λ row. row.items ≡ slice_set (replicate n []) i (1 ∷ [])) }
@@ -68,7 +68,7 @@ fn starting_lines<K: SmallField>(
     Ok(lines)
 }
 
-/// The place of a line that isn't 0 in the column, of least degree there; None where each line is 0 there.
+/// The position of a line that isn't 0 in the column, of least degree there; None where each line is 0 there.
 fn shortest_at(lines: &[Vec<Poly>], column: usize) -> Option<usize>
     requires { All (λ line. column < length line) (rows_of lines.now) }
     ensures { MatchOption result ((i : ℕ) → entry_of (rows_of lines.now) i column ≡ []) (λ i. (i < length lines.now) × (entry_of (rows_of lines.now) i column ≢ [])) }

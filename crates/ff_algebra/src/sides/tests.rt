@@ -4,8 +4,8 @@
 
 ghost use Rattle.std.specs.Prelude.{◌≡◌, ◌<◌, All, IfOk};
 ghost use Rattle.ff_fields.specs.Over.{IsOver};
-ghost use Rattle.ff_algebra.specs.Values.{IsElem};
-ghost use Rattle.ff_algebra.specs.Curves.{IsCurve};
+ghost use Rattle.function_field.specs.Values.{IsElem};
+ghost use Rattle.function_field.specs.Curves.{IsCurve};
 
 use crate::curve::Curve;
 use crate::elem::{Elem, same};

@@ -3,7 +3,7 @@
 ghost use Rattle.std.specs.Prelude.{◌≡◌, ◌≢◌, ◌+◌, ◌^◌, ◌<◌, ◌≤◌, [], ◌++◌, length, replicate, OnOk, OnErr};
 ghost use Rattle.ff_fields.specs.Code.{raw_ring};
 ghost use Rattle.ff_fields.specs.Over.{IsOver};
-ghost use Rattle.ff_ring.specs.Lists.{add_lists, scale_list};
+ghost use Rattle.ring_theory.specs.Lists.{add_lists, scale_list};
 ghost use Rattle.ff_poly.specs.Words.{IsPoly, poly_of};
 ghost use Rattle.ff_poly.specs.Terms.{less_multiple};
 
@@ -12,7 +12,7 @@ use crate::slices::add_multiple;
 use ff_fields::field::SmallField;
 use std::alloc::AllocError;
 
-/// Takes c times the codes away from the sum, from place j on.
+/// Takes c times the codes away from the sum, from position j on.
 fn subtract_at<K: SmallField>(k: &K, sum: &mut [u32], c: u32, j: usize, codes: &[u32])
     requires fits { j + length codes.now ≤ length sum.old }
     requires sum_in { IsOver (K.field k.now).ops sum.old }

@@ -1,6 +1,6 @@
 -- The theorems of `Sides`.
-use Rattle.ff_algebra.specs.Values.{setting, equation_of}
-use Rattle.ff_algebra.proofs.ScalarRings.{scalars_subring}
+use Rattle.function_field.specs.Values.{setting, equation_of}
+use Rattle.function_field.proofs.ScalarRings.{scalars_subring}
 use Rattle.places_theory.proofs.Sides.{side_ring, scalar_integral}
 use Rattle.places_theory.proofs.integral_functions_law.Goals as goal
 

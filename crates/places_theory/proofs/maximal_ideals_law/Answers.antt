@@ -1,6 +1,6 @@
 -- The theorem of `Sides`.
-use Rattle.ff_algebra.specs.Values.{setting, equation_of}
-use Rattle.ff_algebra.proofs.ScalarRings.{scalars_subring}
+use Rattle.function_field.specs.Values.{setting, equation_of}
+use Rattle.function_field.proofs.ScalarRings.{scalars_subring}
 use Rattle.places_theory.proofs.Sides.{place_is_maximal}
 use Rattle.places_theory.proofs.maximal_ideals_law.Goals as goal
 

@@ -1,5 +1,5 @@
 -- The theorems of `Multiplicities`.
-use Rattle.ff_algebra.specs.Values.{setting}
+use Rattle.function_field.specs.Values.{setting}
 use Rattle.places_theory.proofs.Multiplicities.{multiplicity_unique, multiplicity_exists, multiplicity_not_missing, multiplicity_of_entry, multiplicity_elsewhere}
 use Rattle.places_theory.proofs.multiplicity_law.Goals as goal
 

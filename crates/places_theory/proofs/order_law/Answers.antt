@@ -1,5 +1,5 @@
 -- The theorem of `OrdersAt`.
-use Rattle.ff_algebra.specs.Values.{setting}
+use Rattle.function_field.specs.Values.{setting}
 use Rattle.places_theory.proofs.OrdersAt.{order_of_maximal}
 use Rattle.places_theory.proofs.order_law.Goals as goal
 

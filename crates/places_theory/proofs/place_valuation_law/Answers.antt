@@ -1,6 +1,6 @@
 -- The theorems of `PlaceValues`.
-use Rattle.ff_algebra.specs.Values.{setting, equation_of}
-use Rattle.ff_algebra.proofs.ScalarRings.{scalars_subring}
+use Rattle.function_field.specs.Values.{setting, equation_of}
+use Rattle.function_field.proofs.ScalarRings.{scalars_subring}
 use Rattle.places_theory.proofs.PlaceValues.{place_prime, valuation_iff, valuation_product, valuation_sum, valuation_exists}
 use Rattle.places_theory.proofs.place_valuation_law.Goals as goal
 

@@ -1,7 +1,7 @@
 -- The theorems of `PlacesOver`.
 use Rattle.std.proofs.Common.{refl}
-use Rattle.ff_algebra.specs.Values.{setting, equation_of}
-use Rattle.ff_algebra.proofs.ScalarRings.{scalars_subring}
+use Rattle.function_field.specs.Values.{setting, equation_of}
+use Rattle.function_field.proofs.ScalarRings.{scalars_subring}
 use Rattle.places_theory.proofs.PlacesOver.{place_of, place_of_is_place, place_of_members, same_by_order}
 use Rattle.places_theory.proofs.PlacesComplete.{place_in_system}
 use Rattle.places_theory.proofs.places_over_law.Goals as goal

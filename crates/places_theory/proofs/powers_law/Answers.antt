@@ -1,6 +1,6 @@
 -- The theorem of `Sides`.
-use Rattle.ff_algebra.specs.Values.{setting, equation_of}
-use Rattle.ff_algebra.proofs.ScalarRings.{scalars_subring}
+use Rattle.function_field.specs.Values.{setting, equation_of}
+use Rattle.function_field.proofs.ScalarRings.{scalars_subring}
 use Rattle.places_theory.proofs.Sides.{in_power_descends}
 use Rattle.places_theory.proofs.powers_law.Goals as goal
 

@@ -1,6 +1,6 @@
 -- The theorems of `Valuations`.
-use Rattle.ff_algebra.specs.Values.{setting, equation_of}
-use Rattle.ff_algebra.proofs.ScalarRings.{scalars_subring}
+use Rattle.function_field.specs.Values.{setting, equation_of}
+use Rattle.function_field.proofs.ScalarRings.{scalars_subring}
 use Rattle.places_theory.proofs.Valuations.{at_least_next, valuation_unique, at_least_sum, at_least_product, valuation_of_outside}
 use Rattle.places_theory.proofs.valuation_law.Goals as goal
 

@@ -2,7 +2,7 @@ use Rattle.std.proofs.Common.{◌≡◌, length, ap, ap₂, ◌∙◌, subst}
 use Rattle.std.proofs.lemmas.List.Elements.{All-same}
 use Rattle.ff_fields.specs.Over.{IsOver}
 use Rattle.ff_poly.specs.Words.{product_of}
-use Rattle.ff_algebra.specs.Values.{ElemValue, IsMonicElem}
+use Rattle.function_field.specs.Values.{ElemValue, IsMonicElem}
 use Rattle.ff_algebra.specs.RowProducts.{cross_sums}
 use Rattle.ff_algebra.proofs.ElemParts.{sum_function, monic_product, sum_polys, range_sum}
 use Rattle.ff_algebra.proofs.elem.add.Goals as goal

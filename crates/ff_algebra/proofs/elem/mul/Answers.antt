@@ -1,10 +1,10 @@
 use Rattle.std.proofs.Common.{◌≡◌, ◌-◌, ap, ap₂, ◌∙◌, subst}
 use Rattle.std.proofs.lemmas.List.Elements.{All-same}
-use Rattle.ff_ring.proofs.Rows.{row_mul}
+use Rattle.ring_theory.proofs.Rows.{row_mul}
 use Rattle.ff_fields.specs.Over.{IsOver}
 use Rattle.ff_poly.specs.Words.{product_of}
 use Rattle.ff_poly.specs.Polynomials.{polynomials}
-use Rattle.ff_algebra.specs.Values.{ElemValue, IsMonicElem, equation_of}
+use Rattle.function_field.specs.Values.{ElemValue, IsMonicElem, equation_of}
 use Rattle.ff_algebra.specs.RowProducts.{row_at}
 use Rattle.ff_algebra.proofs.ElemParts.{product_function, monic_product}
 use Rattle.ff_algebra.proofs.elem.mul.Goals as goal

@@ -3,8 +3,8 @@ use Rattle.std.proofs.lemmas.List.{take_all, length-map}
 use Rattle.std.proofs.lemmas.List.Elements.{All-get_or}
 use Rattle.ff_fields.specs.Over.{IsOver}
 use Rattle.ff_poly.specs.Words.{product_of}
-use Rattle.ff_algebra.specs.Values.{ElemValue, IsMonicElem}
-use Rattle.ff_algebra.proofs.SameValues.{cross_more, cross_at, same_functions}
+use Rattle.function_field.specs.Values.{ElemValue, IsMonicElem}
+use Rattle.function_field.proofs.SameValues.{cross_more, cross_at, same_functions}
 use Rattle.ff_algebra.proofs.elem.same.Goals as goal
 
 pub mul-requires-clause-b_in : goal.mul-requires-clause-b_in

@@ -1,8 +1,8 @@
 use Rattle.std.proofs.Common.{◌-◌, ap, sym, subst, ◌∙◌}
-use Rattle.ff_ring.specs.Rows.{row_trace}
+use Rattle.ring_theory.specs.Rows.{row_trace}
 use Rattle.ff_poly.specs.Words.{IsMonic}
 use Rattle.ff_poly.specs.Polynomials.{polynomials}
-use Rattle.ff_algebra.specs.Values.{ElemValue, IsMonicElem, equation_of}
+use Rattle.function_field.specs.Values.{ElemValue, IsMonicElem, equation_of}
 use Rattle.ff_algebra.specs.RowProducts.{IsRow, row_at}
 use Rattle.ff_algebra.proofs.Traces.{trace_parts}
 use Rattle.ff_algebra.proofs.elem.trace.Goals as goal

@@ -1,7 +1,7 @@
 use Rattle.std.proofs.Common.{◌≡◌, [], length, take, drop, ◌++◌, replicate, ap, ◌∙◌, arith}
 use Rattle.std.proofs.lemmas.List.Elements.{All-same}
 use Rattle.ff_fields.specs.Over.{IsOver}
-use Rattle.ff_algebra.specs.Values.{row_of_list}
+use Rattle.function_field.specs.Values.{row_of_list}
 use Rattle.ff_algebra.specs.RowProducts.{add_products}
 use Rattle.ff_algebra.proofs.RowProducts.{written_row, IsRow_zeros, over_add_products}
 use Rattle.ff_algebra.proofs.LinesMade.{row_of_multiples_by}

@@ -1,10 +1,10 @@
 use Rattle.std.proofs.Common.{◌≡◌, ◌≢◌, suc, ◌-◌, true, false, [], ap, ap₂, ◌∙◌, subst}
 use Rattle.std.proofs.lemmas.List.Elements.{All-same}
-use Rattle.ff_ring.specs.Rows.{row_scale}
+use Rattle.ring_theory.specs.Rows.{row_scale}
 use Rattle.ff_fields.specs.Over.{IsOver}
 use Rattle.ff_poly.specs.Value.{value}
 use Rattle.ff_poly.specs.Polynomials.{polynomials}
-use Rattle.ff_algebra.specs.Values.{ElemValue, function_of, functions}
+use Rattle.function_field.specs.Values.{ElemValue, function_of, functions}
 use Rattle.ff_algebra.specs.RowProducts.{row_at}
 use Rattle.ff_algebra.specs.Inverses.{IsRelation}
 use Rattle.ff_algebra.proofs.Inverting.{inverse_function, kills_function, killer_not_zero, killed_has_none}

@@ -1,7 +1,7 @@
 use Rattle.std.proofs.Common.{◌≡◌, sym, ap, ◌∙◌, arith}
 use Rattle.std.proofs.lemmas.Result.{IfOk-weaker}
-use Rattle.ff_algebra.specs.declared.elem.Side.TheVariants.{Infinite}
-use Rattle.ff_algebra.specs.Infinity.{function_on}
+use Rattle.function_field.specs.declared.side.Side.TheVariants.{Infinite}
+use Rattle.function_field.specs.Infinity.{function_on}
 use Rattle.ff_algebra.proofs.sides.to_inf.Goals as goal
 
 pub returns-clause-same_function : goal.returns-clause-same_function

@@ -2,9 +2,9 @@ use Rattle.std.proofs.Common.{◌≡◌, ◌<◌, [], length, get_or, ap, ◌∙
 use Rattle.std.proofs.lemmas.List.Elements.{All-get_or, All-from_get_or}
 use Rattle.ff_fields.specs.Over.{IsOver, get_or_below}
 use Rattle.ff_poly.specs.Words.{top_of}
-use Rattle.ff_algebra.specs.Values.{ElemValue}
-use Rattle.ff_algebra.specs.Curves.{reversed_of}
-use Rattle.ff_algebra.proofs.InfinitePresentations.{over_reversed}
+use Rattle.function_field.specs.Values.{ElemValue}
+use Rattle.function_field.specs.Curves.{reversed_of}
+use Rattle.function_field.proofs.InfinitePresentations.{over_reversed}
 use Rattle.ff_algebra.proofs.OtherSide.{AreTurned, are_turned, over_turned, reversed_not_zero, turned_to_infinite, turned_to_finite}
 use Rattle.ff_algebra.proofs.sides.turned.Goals as goal
 

@@ -1,5 +1,5 @@
 use Rattle.std.proofs.Common.{◌≡◌, ℕ, ◌-◌, ◌*◌, ◌<◌, [], length, get_or}
-use Rattle.ff_algebra.specs.Curves.{reversed_of}
+use Rattle.function_field.specs.Curves.{reversed_of}
 use Rattle.ff_algebra.proofs.sides.turned.Given as goal
 
 -- the numerators below Y^i are made

@@ -1,36 +1,36 @@
 use Rattle.std.proofs.Common.{◌-◌, ◌*◌, ◌%◌, ◌^◌, ◌<◌, arith, sym, ap, ◌∙◌, add-one, mod-lt, pow-suc}
 use Rattle.ff_fields.specs.Prime.{prime_laws}
-use Rattle.ff_fields.proofs.DigitSteps.{next_low, next_kept_neg, place_fits}
+use Rattle.ff_fields.proofs.DigitSteps.{next_low, next_kept_neg, position_fits}
 use Rattle.ff_fields.proofs.digits.neg_digits.Goals as goal
 
-pub overflow_mul-place : goal.overflow_mul-place
-overflow_mul-place c =
+pub overflow_mul-position : goal.overflow_mul-position
+overflow_mul-position c =
     let pos : 0 < c.args.p = omega (arith, (prime_laws c.args.p c.requires.base).one_below) in
-    let fits = place_fits c.args.p c.args.m c.loop-i.i pos c.loop-i-test.true in
-    let next = ap (λ w. w * c.args.p) c.loop-i.invariant.place_is in
+    let fits = position_fits c.args.p c.args.m c.loop-i.i pos c.loop-i-test.true in
+    let next = ap (λ w. w * c.args.p) c.loop-i.invariant.position_is in
     omega (arith, fits, next, c.requires.size)
 
 pub overflow_mul-sum : goal.overflow_mul-sum
 overflow_mul-sum c =
     let pos : 0 < c.args.p = omega (arith, (prime_laws c.args.p c.requires.base).one_below) in
-    let fits = place_fits c.args.p c.args.m c.loop-i.i pos c.loop-i-test.true in
-    let next = ap (λ w. w * c.args.p) c.loop-i.invariant.place_is in
-    let low = next_low c.args.p c.loop-i.sum c.loop-i.place _ c.loop-i.invariant.low (mod-lt (c.args.p - c.loop-i.x % c.args.p) pos) in
+    let fits = position_fits c.args.p c.args.m c.loop-i.i pos c.loop-i-test.true in
+    let next = ap (λ w. w * c.args.p) c.loop-i.invariant.position_is in
+    let low = next_low c.args.p c.loop-i.sum c.loop-i.position _ c.loop-i.invariant.low (mod-lt (c.args.p - c.loop-i.x % c.args.p) pos) in
     omega (arith, fits, next, low, c.requires.size)
 
 pub overflow_add-sum : goal.overflow_add-sum
 overflow_add-sum c =
     let pos : 0 < c.args.p = omega (arith, (prime_laws c.args.p c.requires.base).one_below) in
-    let fits = place_fits c.args.p c.args.m c.loop-i.i pos c.loop-i-test.true in
-    let next = ap (λ w. w * c.args.p) c.loop-i.invariant.place_is in
-    let low = next_low c.args.p c.loop-i.sum c.loop-i.place _ c.loop-i.invariant.low (mod-lt (c.args.p - c.loop-i.x % c.args.p) pos) in
+    let fits = position_fits c.args.p c.args.m c.loop-i.i pos c.loop-i-test.true in
+    let next = ap (λ w. w * c.args.p) c.loop-i.invariant.position_is in
+    let low = next_low c.args.p c.loop-i.sum c.loop-i.position _ c.loop-i.invariant.low (mod-lt (c.args.p - c.loop-i.x % c.args.p) pos) in
     omega (arith, fits, next, low, c.requires.size)
 
 pub loop-i-preserved : goal.loop-i-preserved
 loop-i-preserved c =
     let pos : 0 < c.args.p = omega (arith, (prime_laws c.args.p c.requires.base).one_below) in
     record {
-      place_is = ap (λ w. w * c.args.p) c.loop-i.invariant.place_is ∙ sym (pow-suc c.args.p c.loop-i.i) ∙ ap (λ e. c.args.p ^ e) (sym (add-one c.loop-i.i));
-      low = next_low c.args.p c.loop-i.sum c.loop-i.place _ c.loop-i.invariant.low (mod-lt (c.args.p - c.loop-i.x % c.args.p) pos);
-      kept = next_kept_neg c.args.p c.args.m c.loop-i.i c.loop-i.sum c.loop-i.place c.loop-i.x _ c.loop-i-test.true c.loop-i.invariant.kept;
+      position_is = ap (λ w. w * c.args.p) c.loop-i.invariant.position_is ∙ sym (pow-suc c.args.p c.loop-i.i) ∙ ap (λ e. c.args.p ^ e) (sym (add-one c.loop-i.i));
+      low = next_low c.args.p c.loop-i.sum c.loop-i.position _ c.loop-i.invariant.low (mod-lt (c.args.p - c.loop-i.x % c.args.p) pos);
+      kept = next_kept_neg c.args.p c.args.m c.loop-i.i c.loop-i.sum c.loop-i.position c.loop-i.x _ c.loop-i-test.true c.loop-i.invariant.kept;
     }

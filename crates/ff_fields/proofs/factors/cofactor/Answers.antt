@@ -6,7 +6,7 @@ use Rattle.ff_fields.specs.Residue.{digits, number_below, IsOver_digits}
 use Rattle.ff_fields.specs.Modulus.{IsMonicModulus, IsFactor}
 use Rattle.ff_fields.proofs.PolyCodes.{base_pos}
 use Rattle.ff_fields.proofs.Products.{monic_digit, written_division}
-use Rattle.ff_fields.proofs.Sizes.{size_short, length_zeros, length_unit, length_places, first_unit, power_small}
+use Rattle.ff_fields.proofs.Sizes.{size_short, length_zeros, length_unit, length_positions, first_unit, power_small}
 use Rattle.ff_fields.proofs.factors.cofactor.Goals as goal
 
 short : (p m e : ℕ) (modulus : List ℕ) → IsMonicModulus p m modulus → e + e ≤ m → (m ≤ 16) × (e ≤ 16) × (e + 1 ≤ 17)
@@ -16,7 +16,7 @@ pub slice_bounds-divisor-end : goal.slice_bounds-divisor-end
 slice_bounds-divisor-end c = (short c.args.p c.args.m c.args.degree c.args.modulus.now c.requires.modulus c.requires.half).2
 
 pub slice_bounds-divisor-end-2 : goal.slice_bounds-divisor-end-2
-slice_bounds-divisor-end-2 c = sym (length_places (c.args.degree + 1) (short c.args.p c.args.m c.args.degree c.args.modulus.now c.requires.modulus c.requires.half).2)
+slice_bounds-divisor-end-2 c = sym (length_positions (c.args.degree + 1) (short c.args.p c.args.m c.args.degree c.args.modulus.now c.requires.modulus c.requires.half).2)
 
 pub slice_bounds-one-end : goal.slice_bounds-one-end
 slice_bounds-one-end c = (short c.args.p c.args.m c.args.degree c.args.modulus.now c.requires.modulus c.requires.half).1
@@ -45,7 +45,7 @@ pub reduce_product-requires-clause-monic : goal.reduce_product-requires-clause-m
 reduce_product-requires-clause-monic c =
     let le = short c.args.p c.args.m c.args.degree c.args.modulus.now c.requires.modulus c.requires.half in
     ap (λ i. get_or c.write_digits.new.out i 0) (length_unit c.args.degree c.requires.some le.1)
-    ∙ ap (λ w. get_or w c.args.degree 0) (c.write_digits.ensures ∙ ap (λ n. digits c.args.p n c.args.d) (length_places (c.args.degree + 1) le.2 ∙ add-one c.args.degree))
+    ∙ ap (λ w. get_or w c.args.degree 0) (c.write_digits.ensures ∙ ap (λ n. digits c.args.p n c.args.d) (length_positions (c.args.degree + 1) le.2 ∙ add-one c.args.degree))
     ∙ monic_digit c.args.p c.args.degree c.args.d c.requires.modulus.size.listed c.requires.monic
 
 pub reduce_product-requires-clause-modulus_in : goal.reduce_product-requires-clause-modulus_in
@@ -69,7 +69,7 @@ returns-then-code_of-eq0-clause-some c =
     let le = short p c.args.m c.args.degree c.args.modulus.now c.requires.modulus c.requires.half in
     let q_long = c.reduce_product.auto.quotient ∙ length_zeros c.args.m le.0 in
     let trial = written_division p c.args.m c.args.modulus.now c.requires.modulus c.args.degree c.args.d c.requires.some c.requires.half c.requires.monic _ _ c.write_digits.new.out c.reduce_product.new.quotient c.reduce_product.new.rest
-    (length_places (c.args.degree + 1) le.2 ∙ add-one c.args.degree) c.write_digits.ensures (first_unit c.args.degree c.requires.some le.1)
+    (length_positions (c.args.degree + 1) le.2 ∙ add-one c.args.degree) c.write_digits.ensures (first_unit c.args.degree c.requires.some le.1)
     q_long c.reduce_product.ensures.quotient_in
     (c.reduce_product.auto.rest ∙ length_unit c.args.degree c.requires.some le.1) c.reduce_product.ensures.rest_in c.reduce_product.ensures.whole in
     subst (λ w. (w < p ^ c.args.m) × IsFactor p c.args.m c.args.modulus.now c.args.d w) (sym c.code_of-then-code_of-eq0.ensures)
@@ -83,7 +83,7 @@ returns-else-code_of-eq0-clause-none c =
     let p = c.args.p in
     let le = short p c.args.m c.args.degree c.args.modulus.now c.requires.modulus c.requires.half in
     let trial = written_division p c.args.m c.args.modulus.now c.requires.modulus c.args.degree c.args.d c.requires.some c.requires.half c.requires.monic _ _ c.write_digits.new.out c.reduce_product.new.quotient c.reduce_product.new.rest
-    (length_places (c.args.degree + 1) le.2 ∙ add-one c.args.degree) c.write_digits.ensures (first_unit c.args.degree c.requires.some le.1)
+    (length_positions (c.args.degree + 1) le.2 ∙ add-one c.args.degree) c.write_digits.ensures (first_unit c.args.degree c.requires.some le.1)
     (c.reduce_product.auto.quotient ∙ length_zeros c.args.m le.0) c.reduce_product.ensures.quotient_in
     (c.reduce_product.auto.rest ∙ length_unit c.args.degree c.requires.some le.1) c.reduce_product.ensures.rest_in c.reduce_product.ensures.whole in
     trial.1 (λ e. c.if-code_of-eq0.false (c.code_of.ensures ∙ e))

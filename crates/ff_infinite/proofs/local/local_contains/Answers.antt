@@ -1,6 +1,6 @@
 use Rattle.std.proofs.Common.{◌≡◌, ◌≤◌, sym, subst, ◌∙◌, arith}
 use Rattle.std.proofs.lemmas.Result.{IfOk-weaker}
-use Rattle.ff_algebra.specs.Values.{IsElem, function_of}
+use Rattle.function_field.specs.Values.{IsElem, function_of}
 use Rattle.ff_lattice.specs.Lattices.{IsLattice}
 use Rattle.ff_infinite.proofs.LocalMembers.{local_members}
 use Rattle.ff_infinite.proofs.local.local_contains.Goals as goal

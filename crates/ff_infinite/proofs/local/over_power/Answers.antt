@@ -1,7 +1,7 @@
 use Rattle.std.proofs.Common.{◌≡◌, ◌≢◌, ℕ, ◌<◌, [], ◌∷◌, ◌++◌, length, get_or, drop, replicate, subst, ap, ap₂, ◌∙◌, arith}
 use Rattle.std.proofs.lemmas.List.{take_all}
 use Rattle.ff_poly.specs.Words.{shifted}
-use Rattle.ff_algebra.specs.Values.{ElemValue, function_of}
+use Rattle.function_field.specs.Values.{ElemValue, function_of}
 use Rattle.ff_infinite.proofs.LowZeros.{split, power_codes, power_over, power_some}
 use Rattle.ff_infinite.proofs.local.over_power.Goals as goal
 

@@ -1,12 +1,12 @@
 use Rattle.std.proofs.Common.{◌≡◌, ◌↔◌, ◌<◌, [], ◌∷◌, sym, subst, ap, ◌∙◌, arith}
 use Rattle.ff_poly.specs.Polynomials.{x_poly}
-use Rattle.ff_algebra.specs.Values.{IsElem, Functions, equation_of, function_of}
+use Rattle.function_field.specs.Values.{IsElem, Functions, equation_of, function_of}
 use Rattle.trace_theory.specs.Traces.{HasPolynomialCoordinates}
-use Rattle.side_theory.specs.Tame.{IsTame}
+use Rattle.infinite_theory.specs.Supported.{IsSupportedAt}
 use Rattle.ff_lattice.specs.Lattices.{Contains, InSpanOf, IsFull}
 use Rattle.ff_lattice.specs.Orders.{IsOrder}
 use Rattle.ff_lattice.specs.Steps.{unit_row}
-use Rattle.ff_infinite.proofs.PowersOfY.{ArePowers, powers_more, powers_full, started, start_order, start_tame}
+use Rattle.ff_infinite.proofs.PowersOfY.{ArePowers, powers_more, powers_full, started, start_order, start_supported}
 use Rattle.ff_infinite.proofs.start.infinite_start.Goals as goal
 
 pub loop-i-preserved : goal.loop-i-preserved
@@ -78,4 +78,4 @@ returns-clause-tame g c =
     let s =
     started k q c.inf-p.result.now c.loop-i.i c.loop-i.powers.items c.deref.result.now c.in_ok-l.l c.inf-p.ensures c.deref.ensures.value c.loop-i.invariant all positive
     c.in_ok-l.ensures.form c.in_ok-l.ensures.members in
-    subst (λ o. IsTame (equation_of k q) (x_poly k) (Contains k q o)) (sym c.of.ensures) (start_tame k q c.in_ok-l.l s.1)
+    subst (λ o. IsSupportedAt (equation_of k q) (x_poly k) (Contains k q o)) (sym c.of.ensures) (start_supported k q c.in_ok-l.l s.1)

@@ -1,7 +1,7 @@
 use Rattle.std.proofs.Common.{sym, subst}
 use Rattle.ff_poly.specs.Polynomials.{x_poly}
-use Rattle.ff_algebra.specs.Values.{equation_of}
-use Rattle.side_theory.specs.Tame.{IsTame}
+use Rattle.function_field.specs.Values.{equation_of}
+use Rattle.infinite_theory.specs.Supported.{IsSupportedAt}
 use Rattle.ff_lattice.specs.Lattices.{Contains}
 use Rattle.ff_infinite.proofs.tests.memberships.Goals as goal
 
@@ -9,4 +9,4 @@ pub local_contains-requires-clause-tame : goal.local_contains-requires-clause-ta
 local_contains-requires-clause-tame g c =
     let k = g.K.SmallField.field c.args.k.now in
     let q = c.args.c.now.inf in
-    subst (λ l. IsTame (equation_of k q) (x_poly k) (Contains k q l)) (sym c.lattice-l.ensures) c.in_ok-start.ensures.tame
+    subst (λ l. IsSupportedAt (equation_of k q) (x_poly k) (Contains k q l)) (sym c.lattice-l.ensures) c.in_ok-start.ensures.tame

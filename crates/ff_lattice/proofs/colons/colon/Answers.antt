@@ -1,5 +1,5 @@
 use Rattle.std.proofs.Common.{◌≤◌, ◌↔◌, [], ◌∷◌, sym, subst}
-use Rattle.ff_algebra.specs.Values.{Functions}
+use Rattle.function_field.specs.Values.{Functions}
 use Rattle.ff_lattice.specs.Lattices.{Contains, IsScaled}
 use Rattle.ff_lattice.proofs.Results.{members_through}
 use Rattle.ff_lattice.proofs.ColonSets.{colon_is}

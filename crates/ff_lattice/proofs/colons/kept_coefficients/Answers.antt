@@ -1,7 +1,7 @@
 use Rattle.std.proofs.Common.{◌≡◌, ◌<◌, ◌∙◌, sym, ap, ap₂, subst, length, map, ◌++◌, All}
 use Rattle.std.proofs.lemmas.List.{length-map}
 use Rattle.ff_poly.specs.Popov.{rows_of, IsRow, multiple_of_row}
-use Rattle.ff_algebra.specs.Values.{IsElem, functions, function_of}
+use Rattle.function_field.specs.Values.{IsElem, functions, function_of}
 use Rattle.ff_lattice.specs.Lattices.{row_elems}
 use Rattle.ff_lattice.specs.Steps.{IsExpanded, IsPreimage}
 use Rattle.ff_lattice.proofs.Kept.{kept_is, rows_size}

@@ -3,7 +3,7 @@ use Rattle.std.specs.Prelude.{MatchOption, IfSome}
 use Rattle.std.proofs.lemmas.List.{length-map}
 use Rattle.ff_poly.specs.Words.{IsPoly}
 use Rattle.ff_poly.specs.Popov.{rows_of, IsRow, combination, HasFullRank}
-use Rattle.ff_algebra.specs.Values.{functions, function_of}
+use Rattle.function_field.specs.Values.{functions, function_of}
 use Rattle.ff_lattice.specs.Lattices.{LatticeValue, IsLattice, IsSpannedBy, Contains, InSpanOf, elems_over}
 use Rattle.ff_lattice.proofs.Restrictions.{kept_iff, made_rows, made_poly, made_rank}
 use Rattle.ff_lattice.proofs.colons.restricted.Goals as goal

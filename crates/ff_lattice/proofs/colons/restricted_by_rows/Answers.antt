@@ -1,6 +1,6 @@
 use Rattle.std.proofs.Common.{◌<◌, ◌≤◌, length, subst, arith, All, ◌↔◌}
 use Rattle.std.proofs.lemmas.List.{take_all}
-use Rattle.ff_algebra.specs.Values.{Functions, functions, function_of}
+use Rattle.function_field.specs.Values.{Functions, functions, function_of}
 use Rattle.ff_lattice.specs.Lattices.{row_elems, Contains}
 use Rattle.ff_lattice.proofs.RowElems.{elems_length}
 use Rattle.ff_lattice.proofs.ColonSets.{colon_more}

@@ -1,5 +1,5 @@
 use Rattle.std.proofs.Common.{◌↔◌, take, All}
-use Rattle.ff_algebra.specs.Values.{Functions, functions, function_of}
+use Rattle.function_field.specs.Values.{Functions, functions, function_of}
 use Rattle.ff_lattice.specs.Lattices.{IsLattice, Contains, row_elems}
 use Rattle.ff_lattice.proofs.colons.restricted_by_rows.Given as goal
 

@@ -2,7 +2,7 @@ use Rattle.std.proofs.Common.{subst, sym, ap, All, ◌∙◌}
 use Rattle.ff_fields.specs.Over.{IsOver}
 use Rattle.ff_poly.specs.Words.{product_of}
 use Rattle.ff_poly.specs.Popov.{multiple_of_row}
-use Rattle.ff_algebra.specs.Values.{IsElem}
+use Rattle.function_field.specs.Values.{IsElem}
 use Rattle.ff_popov.proofs.Entries.{read_default}
 use Rattle.ff_lattice.proofs.Normal.{monic_poly}
 use Rattle.ff_lattice.proofs.CommonDenominators.{rows_more}

@@ -1,6 +1,6 @@
 use Rattle.std.proofs.Common.{◌≡◌, ℕ, ◌<◌, length, get_or}
 use Rattle.ff_poly.specs.Popov.{rows_of, row_at}
-use Rattle.ff_algebra.specs.Values.{ElemValue}
+use Rattle.function_field.specs.Values.{ElemValue}
 use Rattle.ff_lattice.specs.Steps.{IsExpansion}
 use Rattle.ff_lattice.proofs.generators.numerators.Given as goal
 

@@ -1,5 +1,5 @@
 use Rattle.std.proofs.Common.{ℕ, ◌<◌, get_or}
-use Rattle.ff_algebra.specs.Values.{ElemValue, function_of}
+use Rattle.function_field.specs.Values.{ElemValue, function_of}
 use Rattle.ff_lattice.specs.Lattices.{Contains, row_elems}
 use Rattle.ff_lattice.proofs.ideals.has_rows.Given as goal
 

@@ -1,7 +1,7 @@
 use Rattle.std.proofs.Common.{◌≡◌, ◌<◌, ◌≤◌, length, map, ap, ◌∙◌, arith}
 use Rattle.std.proofs.lemmas.List.{take_all}
-use Rattle.ff_ring.specs.Subsets.{products}
-use Rattle.ff_algebra.specs.Values.{functions, function_of}
+use Rattle.ring_theory.specs.Subsets.{products}
+use Rattle.function_field.specs.Values.{functions, function_of}
 use Rattle.ff_lattice.proofs.RowElems.{elems_length}
 use Rattle.ff_lattice.specs.Lattices.{row_elems}
 use Rattle.ff_lattice.proofs.Results.{members_through}

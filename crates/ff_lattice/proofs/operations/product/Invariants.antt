@@ -1,6 +1,6 @@
 use Rattle.std.proofs.Common.{◌≡◌, map, take, All}
-use Rattle.ff_ring.specs.Subsets.{products}
-use Rattle.ff_algebra.specs.Values.{IsElem, functions, function_of}
+use Rattle.ring_theory.specs.Subsets.{products}
+use Rattle.function_field.specs.Values.{IsElem, functions, function_of}
 use Rattle.ff_lattice.specs.Lattices.{row_elems}
 use Rattle.ff_lattice.proofs.operations.product.Given as goal
 

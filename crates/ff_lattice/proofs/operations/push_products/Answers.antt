@@ -1,5 +1,5 @@
 use Rattle.std.proofs.Common.{◌<◌, length, subst, sym, All, arith}
-use Rattle.ff_algebra.specs.Values.{IsElem}
+use Rattle.function_field.specs.Values.{IsElem}
 use Rattle.ff_lattice.proofs.RowElems.{elems_length}
 use Rattle.ff_lattice.specs.Lattices.{row_elems}
 use Rattle.ff_lattice.proofs.Quotients.{all_push}

@@ -1,5 +1,5 @@
 use Rattle.std.proofs.Common.{◌≡◌, ◌++◌, map, take, All}
-use Rattle.ff_algebra.specs.Values.{IsElem, functions, function_of}
+use Rattle.function_field.specs.Values.{IsElem, functions, function_of}
 use Rattle.ff_lattice.specs.Lattices.{row_elems}
 use Rattle.ff_lattice.proofs.operations.push_products.Given as goal
 

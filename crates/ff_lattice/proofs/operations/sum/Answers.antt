@@ -1,7 +1,7 @@
 use Rattle.std.proofs.Common.{◌≡◌, ◌↔◌, ◌++◌, subst, sym, ap, All, ◌∙◌}
 use Rattle.std.specs.Prelude.{IfOk}
 use Rattle.std.proofs.lemmas.List.Elements.{All-append}
-use Rattle.ff_algebra.specs.Values.{IsElem, Functions}
+use Rattle.function_field.specs.Values.{IsElem, Functions}
 use Rattle.ff_lattice.specs.Lattices.{row_elems, IsFull, InSpanOf, Contains}
 use Rattle.ff_lattice.proofs.Results.{members_through}
 use Rattle.ff_lattice.proofs.SpannedSets.{lattice_full}

@@ -1,6 +1,6 @@
 use Rattle.std.proofs.Common.{rules, ◌≡◌, ◌<◌, ◌≤◌, length, subst, sym, ◌∙◌, arith, refl, false, true}
 use Rattle.std.proofs.lemmas.Option.{get_or_from_slice_get}
-use Rattle.ff_algebra.specs.Values.{function_of}
+use Rattle.function_field.specs.Values.{function_of}
 use Rattle.ff_lattice.specs.Lattices.{row_elems}
 use Rattle.ff_lattice.specs.Orders.{TakesRowsIn}
 use Rattle.ff_lattice.proofs.RowElems.{elems_length}

@@ -1,5 +1,5 @@
 use Rattle.std.proofs.Common.{◌≡◌, [], ◌∷◌, ap, ap₂, ◌∙◌}
-use Rattle.ff_algebra.specs.Values.{ElemValue, function_of}
+use Rattle.function_field.specs.Values.{ElemValue, function_of}
 use Rattle.ff_lattice.specs.Steps.{unit_row}
 use Rattle.ff_lattice.proofs.order.power_of_y.Goals as goal
 

@@ -1,5 +1,5 @@
 use Rattle.std.proofs.Common.{ℕ, ◌<◌, get_or}
-use Rattle.ff_algebra.specs.Values.{ElemValue, functions, function_of}
+use Rattle.function_field.specs.Values.{ElemValue, functions, function_of}
 use Rattle.ff_lattice.specs.Lattices.{Contains, row_elems}
 use Rattle.ff_lattice.proofs.order.takes_rows_in.Given as goal
 

@@ -1,5 +1,5 @@
 use Rattle.std.proofs.Common.{rules, ◌≡◌, length, sym, ◌∙◌, ap, subst, true}
-use Rattle.ff_algebra.specs.Values.{IsElem, function_of}
+use Rattle.function_field.specs.Values.{IsElem, function_of}
 use Rattle.ff_lattice.specs.Lattices.{LatticeValue, IsLattice, Contains}
 use Rattle.ff_lattice.proofs.order_tests.class.Goals as goal
 

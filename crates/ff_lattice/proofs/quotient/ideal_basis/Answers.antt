@@ -1,7 +1,7 @@
 use Rattle.std.proofs.Common.{◌≡◌, ◌++◌, get_or, sym, ap, ◌∙◌, subst, All}
 use Rattle.std.specs.Prelude.{MatchOption}
 use Rattle.ff_poly.specs.Popov.{rows_of, IsRow, IsPopov, HaveSameSpan, HasFullRank}
-use Rattle.ff_algebra.specs.Values.{IsElem, function_of}
+use Rattle.function_field.specs.Values.{IsElem, function_of}
 use Rattle.ff_lattice.specs.Lattices.{Contains, row_elems}
 use Rattle.ff_lattice.specs.Quotients.{IsRowsOf}
 use Rattle.ff_lattice.proofs.OrderRows.{rows_members}

@@ -1,7 +1,7 @@
 use Rattle.std.proofs.Common.{◌≡◌, ◌<◌, ◌+◌, List, [], ◌∷◌, ◌++◌, length, get_or, map, sym, ap, ◌∙◌, subst, arith, All}
 use Rattle.std.proofs.lemmas.Option.{get_or_from_slice_get}
 use Rattle.ff_poly.specs.Popov.{rows_of}
-use Rattle.ff_algebra.specs.Values.{ElemValue, functions, function_of}
+use Rattle.function_field.specs.Values.{ElemValue, functions, function_of}
 use Rattle.ff_lattice.specs.Lattices.{Contains, row_elems}
 use Rattle.ff_lattice.specs.Quotients.{AreProducts}
 use Rattle.ff_lattice.proofs.RowElems.{elems_length}

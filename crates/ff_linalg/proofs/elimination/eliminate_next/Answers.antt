@@ -27,7 +27,7 @@ pub clear_column-requires-clause-nonzero : goal.clear_column-requires-clause-non
 clear_column-requires-clause-nonzero g c =
     let h = c.if-not-raise_pivot.ensures in
     let old = rows_in c.args.cols c.args.rows c.args.entries.now in
-    λ e. h.nonzero (ap (λ r. get_or r c.args.c 0) (sym (ap (λ rows. get_or rows c.args.rank []) h.is ∙ swap_here old c.args.rank h.place (omega (arith, h.late, h.within)) h.within)) ∙ e)
+    λ e. h.nonzero (ap (λ r. get_or r c.args.c 0) (sym (ap (λ rows. get_or rows c.args.rank []) h.is ∙ swap_here old c.args.rank h.position (omega (arith, h.late, h.within)) h.within)) ∙ e)
 
 pub clear_column-requires-clause-entries_in : goal.clear_column-requires-clause-entries_in
 clear_column-requires-clause-entries_in g c =
@@ -37,7 +37,7 @@ clear_column-requires-clause-entries_in g c =
     let long : length c.raise_pivot.new.entries ≡ c.args.rows * c.args.cols = omega (arith, c.requires.shape) in
     over_from_rows k.ops c.args.cols c.args.rows c.raise_pivot.new.entries long
     (subst (All (IsOver k.ops)) (sym h.is)
-    (all_swap (IsOver k.ops) old c.args.rank h.place (omega (arith, h.late, h.within)) h.within (rows_in_over k.ops c.args.cols c.args.rows c.args.entries.now c.requires.entries_in)))
+    (all_swap (IsOver k.ops) old c.args.rank h.position (omega (arith, h.late, h.within)) h.within (rows_in_over k.ops c.args.cols c.args.rows c.args.entries.now c.requires.entries_in)))
 
 pub overflow_add-result : goal.overflow_add-result
 overflow_add-result g c =
@@ -53,4 +53,4 @@ returns-clause-step g c =
     (subst (λ rows. IsStep k c.args.cols c.args.c old rows (suc c.args.rank)) (sym new_is)
     (pivot_step k c.args.cols old (rows_in_wide c.args.cols c.args.rows c.args.entries.now c.requires.shape)
     (rows_in_over k.ops c.args.cols c.args.rows c.args.entries.now c.requires.entries_in) c.args.c c.requires.col_in c.args.rank c.requires.reduced
-    h.place h.late h.within h.nonzero))
+    h.position h.late h.within h.nonzero))

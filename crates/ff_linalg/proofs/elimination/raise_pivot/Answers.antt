@@ -11,7 +11,7 @@ returns-else-rank-i c =
     let late = c.in-Some.ensures.0 in
     let here : c.in-Some.i ≡ c.args.rank = omega (arith, c.in-Some.ensures.0) in
     record {
-      place = c.args.rank;
+      position = c.args.rank;
       late = omega arith;
       within = omega (arith, c.in-Some.ensures.1, length_rows_in c.args.cols c.args.rows c.args.entries.now);
       nonzero = λ e. c.in-Some.ensures.2 (ap (λ n. entry_at rows n c.args.c) here ∙ e);

@@ -2,7 +2,7 @@ use Rattle.std.proofs.Common.{◌<◌, ◌≤◌, ◌↔◌, length, map, take, 
 use Rattle.std.proofs.lemmas.List.{take_all}
 use Rattle.ff_fields.specs.Over.{IsOver}
 use Rattle.ff_poly.specs.Value.{value}
-use Rattle.ff_algebra.specs.Values.{Functions, equation_of}
+use Rattle.function_field.specs.Values.{Functions, equation_of}
 use Rattle.ff_lattice.specs.Lattices.{Contains}
 use Rattle.ff_order.specs.Enlargements.{TakenByProducts}
 use Rattle.ff_order.specs.Steps.{IsEnlarged}

@@ -1,6 +1,6 @@
 use Rattle.std.proofs.Common.{sym, subst}
 use Rattle.ff_lattice.specs.Orders.{IsOrder}
-use Rattle.ff_order.proofs.Bridge.{colon_order}
+use Rattle.value_theory.proofs.Bridge.{colon_order}
 use Rattle.ff_order.proofs.enlarge.multiplier.Goals as goal
 
 pub of-requires : goal.of-requires

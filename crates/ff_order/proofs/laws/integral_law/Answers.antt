@@ -1,8 +1,8 @@
 use Rattle.std.proofs.Common.{map}
 use Rattle.ff_poly.specs.Value.{value}
-use Rattle.ff_algebra.specs.Values.{equation_of}
+use Rattle.function_field.specs.Values.{equation_of}
 use Rattle.ff_lattice.specs.Lattices.{Contains}
-use Rattle.ff_order.proofs.Bridge.{order_set}
+use Rattle.value_theory.proofs.Bridge.{order_set}
 use Rattle.ff_order.proofs.IntegralFunctions.{all_integral, listed_values, irreducible_values}
 use Rattle.ff_order.proofs.laws.integral_law.Goals as goal
 

@@ -1,12 +1,12 @@
 use Rattle.std.proofs.Common.{◌≡◌, ◌↔◌, ◌++◌, sym, ◌∙◌, subst, All}
 use Rattle.std.proofs.lemmas.List.Elements.{All-append}
 use Rattle.std.specs.Prelude.{IfOk}
-use Rattle.ff_algebra.specs.Values.{IsElem, Functions}
+use Rattle.function_field.specs.Values.{IsElem, Functions}
 use Rattle.ff_lattice.specs.Lattices.{Contains, InSpanOf, IsFull, row_elems}
 use Rattle.ff_lattice.proofs.Results.{members_through}
 use Rattle.ff_lattice.proofs.SumsAndProducts.{rows_elems}
 use Rattle.ff_order.specs.Steps.{IsNilpotentBasis}
-use Rattle.ff_order.proofs.Bridge.{irreducible_some}
+use Rattle.value_theory.proofs.Bridge.{irreducible_some}
 use Rattle.ff_order.proofs.Results.{ok_from_both}
 use Rattle.ff_order.proofs.RadicalSets.{lifts_full, radical_spanned}
 use Rattle.ff_order.proofs.Turns.{radical_is_ideal}

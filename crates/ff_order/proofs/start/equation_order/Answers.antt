@@ -1,5 +1,5 @@
 use Rattle.std.proofs.Common.{◌≡◌, ◌↔◌, [], ◌∷◌, sym, subst, arith, add-one}
-use Rattle.ff_algebra.specs.Values.{IsElem, Functions, equation_of, function_of}
+use Rattle.function_field.specs.Values.{IsElem, Functions, equation_of, function_of}
 use Rattle.trace_theory.specs.Traces.{HasPolynomialCoordinates}
 use Rattle.ff_lattice.specs.Lattices.{IsFull, InSpanOf, Contains}
 use Rattle.ff_lattice.specs.Orders.{IsOrder}

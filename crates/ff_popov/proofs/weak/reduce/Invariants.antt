@@ -1,6 +1,6 @@
 use Rattle.std.proofs.Common.{◌+◌, ◌≤◌}
 use Rattle.ff_poly.specs.Popov.{rows_of, width_of}
-use Rattle.ff_popov.specs.Rows.{IsApartBelow, Keeps, total_place}
+use Rattle.ff_popov.specs.Rows.{IsApartBelow, Keeps, total_position}
 use Rattle.ff_popov.proofs.weak.reduce.Given as goal
 
 abbrev pub invariant-loop-i : goal.invariant-loop-i
@@ -9,6 +9,6 @@ invariant-loop-i g l =
     record {
       keeps : Keeps (g.K.SmallField.field l.k) w (rows_of l.fn.rows) (rows_of l.rows);
       apart : IsApartBelow l.i (rows_of l.rows);
-      steps : l.steps + total_place w (rows_of l.rows) ≤ l.fn.steps + total_place w (rows_of l.fn.rows);
+      steps : l.steps + total_position w (rows_of l.rows) ≤ l.fn.steps + total_position w (rows_of l.fn.rows);
       counted : l.fn.steps ≤ l.steps;
     }

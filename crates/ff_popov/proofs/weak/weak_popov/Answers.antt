@@ -1,10 +1,10 @@
 use Rattle.std.proofs.Common.{◌+◌, ◌≤◌, sym, subst, arith}
 use Rattle.std.proofs.lemmas.List.{take_at}
 use Rattle.ff_poly.specs.Popov.{rows_of, width_of, HaveSameSpan}
-use Rattle.ff_popov.specs.Rows.{Keeps, total_place}
+use Rattle.ff_popov.specs.Rows.{Keeps, total_position}
 use Rattle.ff_popov.proofs.weak.weak_popov.Goals as goal
 use Rattle.ff_popov.proofs.Spans.{same_lattice}
-use Rattle.ff_popov.proofs.Places.{total_bound}
+use Rattle.ff_popov.proofs.Positions.{total_bound}
 
 pub returns-clause-span : goal.returns-clause-span
 returns-clause-span g c =
@@ -23,6 +23,6 @@ returns-clause-steps g c =
     let k = g.K.SmallField.field c.args.k.now in
     let w = width_of (rows_of c.args.rows.now.items) in
     let steps =
-    subst (λ rows. c.reduce.new.steps + total_place (width_of (rows_of rows)) (rows_of c.reduce.new.rows) ≤ c.args.steps.now + total_place (width_of (rows_of rows)) (rows_of rows))
+    subst (λ rows. c.reduce.new.steps + total_position (width_of (rows_of rows)) (rows_of c.reduce.new.rows) ≤ c.args.steps.now + total_position (width_of (rows_of rows)) (rows_of rows))
     c.as_mut_slice.ensures.value c.reduce.ensures.steps in
     omega (arith, steps, total_bound k.ops w (rows_of c.args.rows.now.items) c.requires)

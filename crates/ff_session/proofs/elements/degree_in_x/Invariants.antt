@@ -1,5 +1,5 @@
 use Rattle.std.proofs.Common.{◌≡◌, max, drop}
-use Rattle.ff_algebra.specs.Curves.{degree_in_x}
+use Rattle.ff_algebra.specs.CurveTerms.{degree_in_x}
 use Rattle.ff_session.proofs.elements.degree_in_x.Given as goal
 
 -- the greatest so far and those to come

@@ -1,5 +1,5 @@
 use Rattle.std.proofs.Common.{◌≡◌, ◌<◌, ◌≤◌, ℕ, List, max, refl, sym, ap, ap₂, ◌∙◌, subst, arith, All}
-use Rattle.ff_algebra.specs.Curves.{IsCoefficient, degree_in_x}
+use Rattle.ff_algebra.specs.CurveTerms.{IsCoefficient, degree_in_x}
 use Rattle.ff_session.specs.Elements.{greatest_in_x, AreCoefficients}
 use Rattle.ff_session.proofs.EntrySums.{sums_in}
 use Rattle.ff_session.proofs.ElementValues.{den_in}

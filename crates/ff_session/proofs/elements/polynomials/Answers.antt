@@ -1,7 +1,7 @@
 use Rattle.std.proofs.Common.{ap, arith}
 use Rattle.std.proofs.lemmas.List.Elements.{All-push}
 use Rattle.ff_fields.specs.Over.{IsOver}
-use Rattle.ff_algebra.specs.Curves.{degree_in_x}
+use Rattle.ff_algebra.specs.CurveTerms.{degree_in_x}
 use Rattle.ff_session.proofs.EntrySums.{low_each, coefficients_more}
 use Rattle.ff_session.proofs.elements.polynomials.Goals as goal
 

@@ -1,5 +1,5 @@
 use Rattle.std.proofs.Common.{◌≡◌, ◌≢◌, ◌≤◌, ◌<◌, [], List, ℕ, ap, ◌∙◌, subst, arith}
-use Rattle.ff_algebra.specs.Curves.{IsCoefficient, degree_in_x}
+use Rattle.ff_algebra.specs.CurveTerms.{IsCoefficient, degree_in_x}
 use Rattle.ff_session.proofs.FactorRows.{too_great, factors_read}
 use Rattle.ff_session.proofs.factors.factors_of.Goals as goal
 

@@ -1,4 +1,4 @@
-use Rattle.ff_session.proofs.FiniteOrders.{copied}
+use Rattle.ff_maximal.proofs.FiniteOrders.{copied}
 use Rattle.ff_session.proofs.orders.in_x_and_y.Goals as goal
 
 pub returns-in-Finite-clause-same : goal.returns-in-Finite-clause-same

@@ -1,7 +1,7 @@
 use Rattle.std.proofs.Common.{None, subst}
 use Rattle.std.specs.Prelude.{OnOk, IfErr}
 use Rattle.ff_fields.specs.Fields.{field_of}
-use Rattle.ff_algebra.specs.Values.{PresValue}
+use Rattle.function_field.specs.Values.{PresValue}
 use Rattle.ff_session.specs.Settings.{WithCurve}
 use Rattle.ff_session.specs.Bound.{data_of}
 use Rattle.ff_session.specs.Refusals.{UnlessMemory, IsFactorRow}

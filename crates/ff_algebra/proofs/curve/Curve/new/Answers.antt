@@ -3,8 +3,8 @@ use Rattle.std.proofs.lemmas.List.Elements.{All-from_get_or}
 use Rattle.ff_poly.specs.Words.{IsPoly}
 use Rattle.ff_poly.specs.Value.{value}
 use Rattle.ff_poly.specs.Polynomials.{value_nil}
-use Rattle.ff_algebra.proofs.InfinityNumbers.{length_from_degree, length_from_no_degree}
-use Rattle.ff_algebra.proofs.InfinitePresentations.{number_small, small_product, infinite_is, infinite_over}
+use Rattle.function_field.proofs.InfinityNumbers.{length_from_degree, length_from_no_degree}
+use Rattle.function_field.proofs.InfinitePresentations.{number_small, small_product, infinite_is, infinite_over}
 use Rattle.ff_algebra.proofs.curve.Curve.new.Goals as goal
 
 no_codes : (a : List ℕ) → length a ≡ 0 → a ≡ []

@@ -4,11 +4,11 @@ use Rattle.std.proofs.lemmas.List.{get_or_read}
 use Rattle.std.proofs.lemmas.List.Elements.{All-get_or}
 use Rattle.std.proofs.lemmas.Result.{IfOk-weaker}
 use Rattle.std.proofs.lemmas.Bool.Decides.{nat_tests}
-use Rattle.ff_ring.specs.Determinant.{determinant}
+use Rattle.ring_theory.specs.Determinant.{determinant}
 use Rattle.ff_fields.specs.Over.{IsOver}
 use Rattle.ff_poly.specs.Value.{value}
 use Rattle.ff_poly.specs.Polynomials.{polynomials}
-use Rattle.ff_algebra.specs.Curves.{matrix_of}
+use Rattle.ff_algebra.specs.CurveTerms.{matrix_of}
 use Rattle.ff_algebra.proofs.Minors.{expanded_none, expanded_more, expanded_all, expanded_empty}
 use Rattle.ff_algebra.proofs.curve.discriminant.+determinant.Goals as goal
 

@@ -1,10 +1,11 @@
 use Rattle.std.proofs.Common.{◌≡◌, length, take, ◌∙◌}
-use Rattle.ff_ring.specs.Determinant.{determinant}
+use Rattle.ring_theory.specs.Determinant.{determinant}
 use Rattle.ff_fields.specs.Over.{IsOver}
 use Rattle.ff_poly.specs.Words.{IsPoly}
 use Rattle.ff_poly.specs.Value.{value}
 use Rattle.ff_poly.specs.Polynomials.{polynomials}
-use Rattle.ff_algebra.specs.Curves.{IsDiscriminant, matrix_of}
+use Rattle.function_field.specs.Curves.{IsDiscriminant}
+use Rattle.ff_algebra.specs.CurveTerms.{matrix_of}
 use Rattle.ff_algebra.proofs.PowerTraces.{four_rows, IfOk_three, discriminant_is}
 use Rattle.ff_algebra.proofs.curve.discriminant.discriminant.Goals as goal
 

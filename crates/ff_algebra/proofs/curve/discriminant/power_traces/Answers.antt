@@ -1,7 +1,7 @@
 use Rattle.std.proofs.Common.{◌≡◌, [], ◌∷◌, ◌-◌, replicate, ap, ap₂, ◌∙◌}
-use Rattle.ff_ring.specs.Rows.{row_trace}
+use Rattle.ring_theory.specs.Rows.{row_trace}
 use Rattle.ff_poly.specs.Polynomials.{polynomials}
-use Rattle.ff_algebra.specs.Values.{equation_of}
+use Rattle.function_field.specs.Values.{equation_of}
 use Rattle.ff_algebra.specs.RowProducts.{row_at}
 use Rattle.ff_algebra.proofs.PowerTraces.{traces_none, traces_more}
 use Rattle.ff_algebra.proofs.curve.discriminant.power_traces.Goals as goal

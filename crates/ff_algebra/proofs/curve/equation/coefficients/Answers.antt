@@ -1,7 +1,7 @@
 use Rattle.std.proofs.Common.{[], length, ◌≤◌, arith}
 use Rattle.std.proofs.lemmas.List.Elements.{All-push}
 use Rattle.ff_fields.specs.Over.{IsOver}
-use Rattle.ff_algebra.specs.Curves.{IsCoefficient}
+use Rattle.ff_algebra.specs.CurveTerms.{IsCoefficient}
 use Rattle.ff_algebra.proofs.CurveTerms.{pushed_each}
 use Rattle.ff_algebra.proofs.curve.equation.coefficients.Goals as goal
 

@@ -1,6 +1,6 @@
 use Rattle.std.proofs.Common.{◌≡◌, ℕ, ◌<◌, ◌≤◌, [], length, get_or, All}
 use Rattle.ff_fields.specs.Over.{IsOver}
-use Rattle.ff_algebra.specs.Curves.{IsCoefficient}
+use Rattle.ff_algebra.specs.CurveTerms.{IsCoefficient}
 use Rattle.ff_algebra.proofs.curve.equation.coefficients.Given as goal
 
 -- the coefficients below y^i are made

@@ -1,6 +1,6 @@
 use Rattle.std.proofs.Common.{◌≡◌, ℕ, ◌+◌, ◌-◌, ◌*◌, ◌<◌, [], length, get_or, All}
 use Rattle.ff_poly.specs.Words.{IsPoly}
-use Rattle.ff_algebra.specs.Curves.{reversed_of}
+use Rattle.function_field.specs.Curves.{reversed_of}
 use Rattle.ff_algebra.proofs.curve.infinity.infinite_presentation.Given as goal
 
 -- the coefficients below Y^i are made

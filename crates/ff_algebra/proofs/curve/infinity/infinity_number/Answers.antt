@@ -1,6 +1,6 @@
 use Rattle.std.proofs.Common.{◌≡◌, [], ◌-◌, ◌+◌, suc, length, get_or, max, rules, sym, ap, ◌∙◌, arith}
 use Rattle.std.proofs.lemmas.Option.{get_or_from_slice_get}
-use Rattle.ff_algebra.proofs.InfinityNumbers.{IsNumberBelow, number_of_all, number_of_more, number_of_same, length_from_no_degree, length_from_degree}
+use Rattle.function_field.proofs.InfinityNumbers.{IsNumberBelow, number_of_all, number_of_more, number_of_same, length_from_no_degree, length_from_degree}
 use Rattle.ff_algebra.proofs.curve.infinity.infinity_number.Goals as goal
 use Rattle.ff_algebra.proofs.curve.infinity.infinity_number.Goals.{in-Some, in_default, Joined-degree}
 

@@ -1,4 +1,4 @@
-use Rattle.ff_algebra.proofs.InfinityNumbers.{IsNumberBelow}
+use Rattle.function_field.proofs.InfinityNumbers.{IsNumberBelow}
 use Rattle.ff_algebra.proofs.curve.infinity.infinity_number.Given as goal
 
 abbrev pub invariant-loop-i : goal.invariant-loop-i

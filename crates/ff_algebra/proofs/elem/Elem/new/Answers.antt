@@ -1,8 +1,8 @@
 use Rattle.std.proofs.Common.{◌≡◌, ◌-◌, ◌<◌, length, map, ap, ap₂, ◌∙◌, arith}
 use Rattle.ff_fields.specs.Over.{get_or_below}
 use Rattle.ff_poly.specs.Words.{top_of, multiple_of}
-use Rattle.ff_algebra.specs.Values.{ElemValue}
-use Rattle.ff_algebra.proofs.SameValues.{elem_den}
+use Rattle.function_field.specs.Values.{ElemValue}
+use Rattle.function_field.proofs.SameValues.{elem_den}
 use Rattle.ff_algebra.proofs.RowProducts.{written_row}
 use Rattle.ff_algebra.proofs.ElemParts.{multiple_function, monic_multiple, range_multiple}
 use Rattle.ff_algebra.proofs.elem.Elem.new.Goals as goal

@@ -1,11 +1,11 @@
 use Rattle.std.proofs.Common.{◌≡◌, ◌-◌, ◌<◌, [], ◌∷◌, ◌++◌, length, get_or, take, set, sym, ap, ap₂, ◌∙◌, arith, subst}
 use Rattle.std.proofs.lemmas.List.{get_or_default, get_or_read}
 use Rattle.std.proofs.lemmas.List.Elements.{All-get_or}
-use Rattle.ff_ring.proofs.Rows.{row_mul}
+use Rattle.ring_theory.proofs.Rows.{row_mul}
 use Rattle.ff_fields.specs.Over.{IsOver}
 use Rattle.ff_poly.specs.Words.{sum_of, multiple_of, product_of}
 use Rattle.ff_poly.specs.Polynomials.{polynomials}
-use Rattle.ff_algebra.specs.Values.{equation_of}
+use Rattle.function_field.specs.Values.{equation_of}
 use Rattle.ff_algebra.specs.RowProducts.{row_at}
 use Rattle.ff_algebra.specs.Inverses.{IsLine}
 use Rattle.ff_algebra.proofs.LinesMade.{line_made}

@@ -1,5 +1,5 @@
 use Rattle.std.proofs.Common.{sym, subst}
-use Rattle.ff_algebra.specs.Values.{IsPresOver}
+use Rattle.function_field.specs.Values.{IsPresOver}
 use Rattle.ff_algebra.proofs.inverse.tests.presentation.Goals as goal
 
 pub returns-clause-over : goal.returns-clause-over

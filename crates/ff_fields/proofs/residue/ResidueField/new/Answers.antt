@@ -4,7 +4,7 @@ use Rattle.ff_fields.specs.Over.{IsOver}
 use Rattle.ff_fields.specs.Prime.{prime_of}
 use Rattle.ff_fields.specs.Residue.{digits, digits_number, number_below}
 use Rattle.ff_fields.proofs.PolyCodes.{base_pos}
-use Rattle.ff_fields.proofs.Sizes.{size_short, length_places}
+use Rattle.ff_fields.proofs.Sizes.{size_short, length_positions}
 use Rattle.ff_fields.proofs.residue.ResidueField.new.Goals as goal
 
 pub slice_bounds-padded-end : goal.slice_bounds-padded-end
@@ -12,11 +12,11 @@ slice_bounds-padded-end c = let le = size_short c.args.p c.args.m c.in-Some.ensu
 
 pub slice_bounds-copy_from_slice-end : goal.slice_bounds-copy_from_slice-end
 slice_bounds-copy_from_slice-end c =
-    let le = size_short c.args.p c.args.m c.in-Some.ensures.0 in sym (length_places (length c.args.modulus.now) (omega (arith, le, c.requires)))
+    let le = size_short c.args.p c.args.m c.in-Some.ensures.0 in sym (length_positions (length c.args.modulus.now) (omega (arith, le, c.requires)))
 
 pub copy_from_slice-requires : goal.copy_from_slice-requires
 copy_from_slice-requires c =
-    let le = size_short c.args.p c.args.m c.in-Some.ensures.0 in length_places (length c.args.modulus.now) (omega (arith, le, c.requires))
+    let le = size_short c.args.p c.args.m c.in-Some.ensures.0 in length_positions (length c.args.modulus.now) (omega (arith, le, c.requires))
 
 pub invariant_of-result-clause-code_is : goal.invariant_of-result-clause-code_is
 invariant_of-result-clause-code_is c =

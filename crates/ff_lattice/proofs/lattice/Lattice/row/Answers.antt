@@ -3,7 +3,7 @@ use Rattle.std.proofs.lemmas.List.{length-map}
 use Rattle.ff_fields.specs.Over.{IsOver}
 use Rattle.ff_poly.specs.Words.{IsPoly, IsMonic}
 use Rattle.ff_poly.specs.Popov.{row_at}
-use Rattle.ff_algebra.specs.Values.{ElemValue, IsElem}
+use Rattle.function_field.specs.Values.{ElemValue, IsElem}
 use Rattle.ff_lattice.specs.Lattices.{LatticeValue}
 use Rattle.ff_lattice.proofs.Pushes.{read_row}
 use Rattle.ff_lattice.proofs.RowElems.{elem_at, made_elem, row_over, row_poly, row_elem}

@@ -1,6 +1,6 @@
 use Rattle.std.proofs.Common.{length, sym, ap, ap₂, ◌∙◌, subst, All}
 use Rattle.ff_fields.specs.Over.{IsOver}
-use Rattle.ff_algebra.specs.Values.{IsElem, function_of}
+use Rattle.function_field.specs.Values.{IsElem, function_of}
 use Rattle.ff_lattice.specs.Lattices.{LatticeValue, Contains}
 use Rattle.ff_lattice.specs.Quotients.{QuotientValue, spread}
 use Rattle.ff_lattice.proofs.QuotientLaws.{lifted_row, lift_member}

@@ -2,9 +2,9 @@ use Rattle.std.proofs.Common.{◌≡◌, ℕ, ◌<◌, ◌≤◌, ◌↔◌, Lis
 use Rattle.std.specs.Global.{Vec}
 use Rattle.std.proofs.lemmas.List.{length-map}
 use Rattle.ff_poly.specs.Popov.{rows_of}
-use Rattle.ff_algebra.specs.Values.{Functions, function_of}
+use Rattle.function_field.specs.Values.{Functions, function_of}
 use Rattle.ff_lattice.specs.Lattices.{LatticeValue, Contains, InSpanOf, elems_over}
-use Rattle.ff_lattice.specs.PlaceLists.{pivot_length}
+use Rattle.ff_lattice.specs.PositionLists.{pivot_length}
 use Rattle.ff_lattice.specs.Quotients.{IsQuotient, IsRowOf, AreProducts}
 use Rattle.ff_lattice.proofs.QuotientLaws.{codes_read, quotient_algebra}
 use Rattle.ff_lattice.proofs.QuotientSteps.{matrices_of}

@@ -1,5 +1,5 @@
 use Rattle.std.proofs.Common.{◌≡◌, length, sym, ap, ◌∙◌, subst}
-use Rattle.ff_algebra.specs.Values.{function_of}
+use Rattle.function_field.specs.Values.{function_of}
 use Rattle.ff_poly.specs.Popov.{rows_of}
 use Rattle.ff_lattice.specs.Lattices.{LatticeValue, Contains}
 use Rattle.ff_lattice.specs.Quotients.{QuotientValue, IsClassOf, IsRowOf, codes_of_row}

@@ -1,0 +1,4 @@
+pub mod RepeatedFactors
+pub mod FiniteOrders
+pub mod PowerDenominators
+pub mod InfiniteOrders

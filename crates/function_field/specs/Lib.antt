@@ -1,0 +1,11 @@
+pub mod Setting
+pub mod Spans
+pub mod Places
+pub mod Divisors
+pub mod Functions
+pub mod Values
+pub mod Infinity
+pub mod InfiniteSpans
+pub mod Rationals
+pub mod Discriminant
+pub mod Curves

@@ -1,0 +1,3 @@
+pub mod Supported
+pub mod InfiniteMaps
+pub mod InfinitePlaces

@@ -1,6 +1,0 @@
--- The theorem of `InfiniteLists`, for each equation.
-use Rattle.side_theory.proofs.InfiniteLaws.{all_listed}
-use Rattle.side_theory.proofs.infinite_places_law.Goals as goal
-
-pub returns : goal.returns
-returns c = all_listed

@@ -1,6 +1,0 @@
--- The theorem of `PulledPlaces` on values, for each equation.
-use Rattle.side_theory.proofs.InfiniteLaws.{value_exists}
-use Rattle.side_theory.proofs.infinite_value_law.Goals as goal
-
-pub returns : goal.returns
-returns c = λ k e P d h s. value_exists k e d P h s
