@@ -4,7 +4,8 @@ use Rattle.std.proofs.lemmas.List.{length-map}
 use Rattle.ring_theory.specs.Local.{PrimeTo}
 use Rattle.ring_theory.specs.Ring.{pow}
 use Rattle.ring_theory.specs.Subsets.{IsModule, Span}
-use Rattle.ring_theory.proofs.Evaluate.{constant, length_trim}
+use Rattle.ring_theory.specs.Polynomials.{constant}
+use Rattle.ring_theory.proofs.Evaluate.{length_trim}
 use Rattle.ring_theory.proofs.Local.{comaximal_power}
 use Rattle.ring_theory.proofs.Ring.{one_mul, mul_zero}
 use Rattle.ring_theory.proofs.RowMaps.{hom_zero}

@@ -2,9 +2,8 @@
 use Rattle.std.proofs.Common.{◌≡◌, ℕ, List, [], ◌∷◌, refl, sym, ◌∙◌, ap}
 use Rattle.ring_theory.specs.Lists.{coeff_of}
 use Rattle.ring_theory.proofs.Solver.{ring, reads}
-use Rattle.ring_theory.proofs.Evaluate.{constant}
+use Rattle.ring_theory.specs.Polynomials.{constant, pol_ops}
 use Rattle.ring_theory.proofs.Lists.{coeff_trim}
-use Rattle.ring_theory.proofs.Polynomials.{pol_ops}
 use Rattle.ff_fields.specs.Field.{CodeField}
 use Rattle.ff_fields.specs.Code.{Code, code_ring}
 use Rattle.ff_poly.specs.Polynomials.{polynomials}

@@ -5,7 +5,8 @@ use Rattle.std.proofs.lemmas.List.{length-map, map-append}
 use Rattle.ring_theory.specs.Lists.{coeff_of}
 use Rattle.ring_theory.proofs.Ring.{mul_zero, zero_mul, mul_mul}
 use Rattle.ring_theory.proofs.Sequences.{convolution_constant_left}
-use Rattle.ring_theory.proofs.Evaluate.{constant, constant_hom}
+use Rattle.ring_theory.specs.Polynomials.{constant}
+use Rattle.ring_theory.proofs.Evaluate.{constant_hom}
 use Rattle.ring_theory.proofs.Lists.{coeff_trim}
 use Rattle.ring_theory.proofs.Polynomials.{series_mul, length_product}
 use Rattle.linear_theory.specs.Euclidean.{IsDivisor, IsUnit, IsIrreducible as IsIrreducibleIn}

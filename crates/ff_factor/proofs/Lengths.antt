@@ -1,6 +1,7 @@
 -- The lengths of polynomials that are not 0.
 use Rattle.std.proofs.Common.{◌≡◌, ◌<◌, length, refl, arith}
-use Rattle.ring_theory.proofs.Polynomials.{pol_ops, length_product}
+use Rattle.ring_theory.specs.Polynomials.{pol_ops}
+use Rattle.ring_theory.proofs.Polynomials.{length_product}
 use Rattle.ff_fields.specs.Field.{CodeField}
 use Rattle.ff_fields.specs.Code.{code_ring, code_domain}
 use Rattle.ff_poly.specs.Polynomials.{Polynomial, polynomials}

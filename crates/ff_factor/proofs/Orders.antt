@@ -4,7 +4,7 @@ use Rattle.std.proofs.lemmas.List.Elements.{All-nil, All-cons, All-head, All-tai
 use Rattle.std.specs.List.{insert}
 use Rattle.std.proofs.lemmas.Bool.{ltb-true, lt-ltb}
 use native.Mathlib.Decide.{ℕ_discrete}
-use Rattle.ring_theory.proofs.Finite.{In}
+use Rattle.ring_theory.specs.Members.{In}
 use Rattle.ff_factor.specs.Factors.{IsBelow, IsBefore, AreAscending}
 use Rattle.ff_factor.specs.Pulls.{IsWith}
 

@@ -6,7 +6,7 @@ use Rattle.ring_theory.specs.Lists.{coeff_of, add_lists}
 use Rattle.ring_theory.specs.Congruence.{IsCongruent}
 use Rattle.ring_theory.proofs.Congruence.{congruent_same, congruent_sym, congruent_trans, congruent_mul, congruent_refl}
 use Rattle.ring_theory.proofs.RowMaps.{hom_neg}
-use Rattle.ring_theory.proofs.Finite.{In}
+use Rattle.ring_theory.specs.Members.{In}
 use Rattle.ring_theory.proofs.Ring.{zero_mul, mul_zero, eq_of_sub, zero_add}
 use Rattle.ring_theory.proofs.Solver.{ring, reads, from_one, from_two}
 use Rattle.ring_theory.proofs.Polynomials.{length_product, series_add, series_neg, coeff_past}

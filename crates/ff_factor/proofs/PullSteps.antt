@@ -3,7 +3,8 @@ use Rattle.std.proofs.Common.{◌≡◌, ◌≢◌, ℕ, suc, ◌+◌, ◌<◌, 
 use Rattle.ring_theory.specs.Ring.{CommRing, pow}
 use Rattle.ring_theory.proofs.Ring.{mul_zero, one_mul}
 use Rattle.ring_theory.proofs.Polynomials.{length_product}
-use Rattle.ring_theory.proofs.Division.{IsDivision, one_way}
+use Rattle.ring_theory.specs.Division.{IsDivision}
+use Rattle.ring_theory.proofs.Division.{one_way}
 use Rattle.ff_fields.specs.Field.{CodeField}
 use Rattle.ff_fields.specs.Code.{code_ring, code_domain}
 use Rattle.ff_fields.specs.Over.{IsOver}

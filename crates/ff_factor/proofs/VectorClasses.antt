@@ -4,7 +4,8 @@ use Rattle.ring_theory.specs.Ring.{CommRing, pow}
 use Rattle.ring_theory.specs.Congruence.{IsCongruent}
 use Rattle.ring_theory.proofs.Ring.{mul_zero, mul_pow}
 use Rattle.ring_theory.proofs.Congruence.{congruent_same, congruent_sym, congruent_trans, congruent_add, congruent_mul, congruent_refl}
-use Rattle.ring_theory.proofs.RowMaps.{IsHom, hom_zero}
+use Rattle.ring_theory.specs.Maps.{IsHom}
+use Rattle.ring_theory.proofs.RowMaps.{hom_zero}
 use Rattle.ring_theory.proofs.Evaluate.{evaluate}
 use Rattle.ff_fields.specs.Field.{CodeField}
 use Rattle.ff_fields.specs.Code.{Code, code_ring, same_code, read_code, read_code_below}

@@ -5,7 +5,8 @@ use Rattle.ring_theory.specs.Lists.{coeff_of, add_lists, scale_list, IsTrimmed}
 use Rattle.ring_theory.proofs.Ring.{mul_zero}
 use Rattle.ring_theory.proofs.Sequences.{convolution_constant_left}
 use Rattle.ring_theory.proofs.Lists.{coeff_add, coeff_scale, IsTrimmed_push}
-use Rattle.ring_theory.proofs.Polynomials.{pol_ops, same_pol, series_add, series_mul}
+use Rattle.ring_theory.specs.Polynomials.{pol_ops}
+use Rattle.ring_theory.proofs.Polynomials.{same_pol, series_add, series_mul}
 use Rattle.ring_theory.proofs.Evaluate.{length_trim}
 use Rattle.ff_fields.specs.Field.{CodeField}
 use Rattle.ff_fields.specs.Code.{raw_ring, code_ring, same_code, read_code, read_code_below, zero_in, is_zero_code}

@@ -5,7 +5,7 @@ use Rattle.std.proofs.lemmas.List.Elements.{All-nil, All-cons, All-head, All-tai
 use Rattle.ring_theory.specs.Ring.{CommRing}
 use Rattle.ring_theory.specs.Subsets.{Span}
 use Rattle.ring_theory.specs.Lists.{add_lists, scale_list}
-use Rattle.ring_theory.proofs.Finite.{In}
+use Rattle.ring_theory.specs.Members.{In}
 use Rattle.ring_theory.proofs.Solver.{look}
 use Rattle.ring_theory.proofs.Subsets.{span_head, span_tail, span_zero}
 use Rattle.ff_fields.specs.Field.{CodeField}

@@ -1,6 +1,6 @@
 -- Different elements of a list are at most as many as it has.
 use Rattle.std.proofs.Common.{◌≡◌, ◌≤◌, inl, inr, List, [], ◌∷◌, ◌++◌, length, refl, sym, ap, subst, arith, length-append}
-use Rattle.ring_theory.proofs.Finite.{In, IsDistinct}
+use Rattle.ring_theory.specs.Members.{In, IsDistinct}
 
 module _ {X : Type 0} where
   -- a list around a member

@@ -3,7 +3,7 @@ use Rattle.std.proofs.Common.{◌≡◌, ℕ, suc, ◌-◌, ◌<◌, List, [], �
 use Rattle.std.proofs.lemmas.List.{length-map, take_at}
 use Rattle.ring_theory.specs.Ring.{CommRing}
 use Rattle.ring_theory.proofs.RowMaps.{hom_neg, hom_zero}
-use Rattle.ring_theory.proofs.Finite.{In, IsDistinct}
+use Rattle.ring_theory.specs.Members.{In, IsDistinct}
 use Rattle.ring_theory.proofs.Solver.{ring, reads, from_one}
 use Rattle.ring_theory.specs.Lists.{neg_list}
 use Rattle.ff_fields.specs.Field.{CodeField}

@@ -4,7 +4,7 @@ use Rattle.std.proofs.lemmas.List.{length-map, nil_from_length}
 use Rattle.ring_theory.specs.Ring.{CommRing, pow}
 use Rattle.ring_theory.specs.Sums.{sum_over}
 use Rattle.ring_theory.proofs.Ring.{zero_mul, one_mul, add_mul, mul_zero, zero_add}
-use Rattle.ring_theory.proofs.Finite.{In, IsDistinct}
+use Rattle.ring_theory.specs.Members.{In, IsDistinct}
 use Rattle.ring_theory.proofs.Solver.{ring, reads, from_two}
 use Rattle.ff_fields.specs.Field.{CodeField}
 use Rattle.ff_linalg.specs.Matrix.{MatrixValue}

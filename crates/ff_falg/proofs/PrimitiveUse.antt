@@ -2,7 +2,7 @@
 use Rattle.std.proofs.Common.{◌≡◌, ℕ, suc, ◌<◌, ◌⊎◌, inl, inr, List, [], ◌∷◌, length, get_or, All, refl, sym, ap, ◌∙◌, subst, arith}
 use Rattle.std.proofs.lemmas.List.Elements.{All-head}
 use Rattle.ring_theory.specs.Ring.{CommRing}
-use Rattle.ring_theory.proofs.Finite.{In, IsDistinct}
+use Rattle.ring_theory.specs.Members.{In, IsDistinct}
 use Rattle.ff_fields.specs.Field.{CodeField}
 use Rattle.finite_algebra_theory.specs.Algebra.{FiniteAlgebra, IsFixed}
 use Rattle.finite_algebra_theory.specs.Algebra.{IsPrimitive as IsPrimitiveVector}

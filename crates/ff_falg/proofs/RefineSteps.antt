@@ -5,7 +5,7 @@ use Rattle.std.proofs.lemmas.List.{get_or-map, length-map, map_more}
 use Rattle.ff_falg.specs.Idempotents.{elements_of}
 use Rattle.std.proofs.lemmas.List.Elements.{All-tail}
 use Rattle.ring_theory.specs.Ring.{CommRing, pow}
-use Rattle.ring_theory.proofs.Finite.{In}
+use Rattle.ring_theory.specs.Members.{In}
 use Rattle.ff_fields.specs.Field.{CodeField}
 use Rattle.ff_linalg.specs.Matrix.{MatrixValue, row_of}
 use Rattle.finite_algebra_theory.specs.ByMap.{Image}

@@ -9,7 +9,7 @@ use Rattle.std.proofs.lemmas.List.Sorted.{IsPermutation-keeps}
 use Rattle.std.specs.Prelude.{swap}
 use Rattle.std.specs.Ordering.{is_lt, nat_cmp, ordering_then}
 use Rattle.std.specs.Cmp.Lexicographic.{slice_cmp}
-use Rattle.ring_theory.proofs.Finite.{In, IsDistinct}
+use Rattle.ring_theory.specs.Members.{In, IsDistinct}
 use Rattle.ff_linalg.proofs.Reduction.{swap_here, swap_there, swap_other, length_swap}
 use Rattle.ff_falg.specs.Idempotents.{IsBefore, IsAscending, elements_of}
 

@@ -5,7 +5,7 @@ use Rattle.ring_theory.specs.Ring.{CommRing}
 use Rattle.ring_theory.specs.Lists.{scale_list}
 use Rattle.ring_theory.proofs.Ring.{zero_add}
 use Rattle.ring_theory.proofs.RowMaps.{hom_zero}
-use Rattle.ring_theory.proofs.Finite.{In, IsDistinct}
+use Rattle.ring_theory.specs.Members.{In, IsDistinct}
 use Rattle.ff_fields.specs.Field.{CodeField}
 use Rattle.ff_fields.specs.Code.{Code, code_ring, raw_ring, read_code, read_code_below, same_code}
 use Rattle.ff_fields.specs.Numbers.{read}

@@ -6,7 +6,7 @@ use Rattle.std.proofs.lemmas.List.Elements.{All-nil, All-cons, All-head, All-tai
 use Rattle.ring_theory.specs.Ring.{CommRing}
 use Rattle.ring_theory.specs.Sums.{sum_over}
 use Rattle.ring_theory.specs.Lists.{add_lists}
-use Rattle.ring_theory.proofs.Finite.{In}
+use Rattle.ring_theory.specs.Members.{In}
 use Rattle.ff_fields.specs.Field.{CodeField}
 use Rattle.ff_fields.specs.Code.{Code, raw_ring}
 use Rattle.ff_linalg.specs.Matrix.{MatrixValue, row_of}

@@ -6,7 +6,7 @@ use Rattle.ring_theory.specs.Ring.{CommRing}
 use Rattle.ring_theory.specs.Subsets.{Span}
 use Rattle.ring_theory.specs.Lists.{add_lists, scale_list}
 use Rattle.ring_theory.proofs.Ring.{mul_zero}
-use Rattle.ring_theory.proofs.RowMaps.{IsHom}
+use Rattle.ring_theory.specs.Maps.{IsHom}
 use Rattle.ff_fields.specs.Field.{CodeField}
 use Rattle.ff_fields.specs.Code.{Code, code_ring, raw_ring}
 use Rattle.ff_fields.specs.Over.{IsOver}

@@ -7,7 +7,8 @@ use Rattle.std.proofs.lemmas.List.{length-map}
 use Rattle.ring_theory.specs.Ring.{TestedRing}
 use Rattle.ring_theory.specs.Lists.{coeff_of, trim_onto, trim}
 use Rattle.ring_theory.proofs.Lists.{coeff_trim}
-use Rattle.ring_theory.proofs.Polynomials.{Pol, pol_ring, pol_ops, same_pol, coeff_top}
+use Rattle.ring_theory.specs.Polynomials.{Pol, pol_ops}
+use Rattle.ring_theory.proofs.Polynomials.{pol_ring, same_pol, coeff_top}
 use Rattle.ff_fields.specs.Field.{CodeField}
 use Rattle.ff_fields.specs.Prime.{is_listed, prime_of, prime_field}
 use Rattle.ff_fields.specs.Code.{Code, code_ring, same_code, is_zero_code}

@@ -9,8 +9,10 @@ use Rattle.ring_theory.specs.Congruence.{IsCongruent}
 use Rattle.ring_theory.proofs.Ring.{zero_add, one_mul, mul_zero, domain_cancel}
 use Rattle.ring_theory.proofs.Congruence.{congruent_sym, congruent_trans, congruent_same}
 use Rattle.ring_theory.proofs.Sequences.{convolution_top}
-use Rattle.ring_theory.proofs.Polynomials.{Pol, pol_ring, pol_ops, pol_domain, series_mul, coeff_past, length_product}
-use Rattle.ring_theory.proofs.Division.{IsDivision, one_way}
+use Rattle.ring_theory.specs.Polynomials.{Pol, pol_ops}
+use Rattle.ring_theory.proofs.Polynomials.{pol_ring, pol_domain, series_mul, coeff_past, length_product}
+use Rattle.ring_theory.specs.Division.{IsDivision}
+use Rattle.ring_theory.proofs.Division.{one_way}
 use Rattle.ff_fields.specs.Field.{CodeField}
 use Rattle.ff_fields.specs.Prime.{is_listed, prime_of, prime_field}
 use Rattle.ff_fields.specs.Code.{Code, code_ring, code_domain, same_code}

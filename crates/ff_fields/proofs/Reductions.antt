@@ -6,7 +6,8 @@ use Rattle.ring_theory.specs.Lists.{coeff_of, convolution, mul_onto, scale_list}
 use Rattle.ring_theory.proofs.Ring.{zero_add, mul_zero}
 use Rattle.ring_theory.proofs.Sequences.{convolution_comm}
 use Rattle.ring_theory.proofs.Lists.{coeff_trim, coeff_add, coeff_scale, coeff_mul, coeff_mul_onto}
-use Rattle.ring_theory.proofs.Polynomials.{Pol, pol_ring, same_pol, series_add, series_mul}
+use Rattle.ring_theory.specs.Polynomials.{Pol}
+use Rattle.ring_theory.proofs.Polynomials.{pol_ring, same_pol, series_add, series_mul}
 use Rattle.ring_theory.proofs.Division.{length_bound}
 use Rattle.ff_fields.specs.Field.{CodeField}
 use Rattle.ff_fields.specs.Prime.{is_listed, prime_of, prime_field}

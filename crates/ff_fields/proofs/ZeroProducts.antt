@@ -8,7 +8,8 @@ use Rattle.ring_theory.specs.Lists.{coeff_of, convolution, rest_from, quotient_f
 use Rattle.ring_theory.proofs.Ring.{one_mul, mul_zero, mul_neg, add_mul, mul_left_comm}
 use Rattle.ring_theory.proofs.Sequences.{convolution_comm, convolution_constant_left}
 use Rattle.ring_theory.proofs.Lists.{coeff_trim}
-use Rattle.ring_theory.proofs.Polynomials.{Pol, pol_of, pol_ring, pol_ops, pol_domain, same_pol, series_add, series_mul, coeff_past, length_from_top, length_product}
+use Rattle.ring_theory.specs.Polynomials.{Pol, pol_of, pol_ops}
+use Rattle.ring_theory.proofs.Polynomials.{pol_ring, pol_domain, same_pol, series_add, series_mul, coeff_past, length_from_top, length_product}
 use Rattle.ring_theory.proofs.Division.{divided, rest_ends, length_bound, short_multiple}
 use Rattle.ff_fields.specs.Field.{CodeField}
 use Rattle.ff_fields.specs.Prime.{is_listed, prime_field}

@@ -14,7 +14,8 @@ use Rattle.ring_theory.specs.Congruence.{IsCongruent, Represents}
 use Rattle.ring_theory.proofs.Ring.{zero_add, neg_add, zero_mul, one_mul, mul_zero, neg_zero, cross}
 use Rattle.ring_theory.proofs.Sequences.{convolution_comm}
 use Rattle.ring_theory.proofs.Lists.{coeff_add, coeff_mul, coeff_neg, coeff_trim, coeff_append_zeros, length_add_lists, length_neg_list}
-use Rattle.ring_theory.proofs.Polynomials.{Pol, pol_of, pol_ops, pol_ring, same_pol, series_add, series_neg, series_mul, coeff_past, length_from_top}
+use Rattle.ring_theory.specs.Polynomials.{Pol, pol_of, pol_ops}
+use Rattle.ring_theory.proofs.Polynomials.{pol_ring, same_pol, series_add, series_neg, series_mul, coeff_past, length_from_top}
 use Rattle.ring_theory.proofs.Division.{divided, rest_ends, length_bound, length_add, length_neg, length_rest_from, short_multiple}
 use Rattle.ring_theory.proofs.Congruence.{congruent_sym, congruent_same, represented_ring}
 use Rattle.ring_theory.proofs.Finite.{power_all, codes_to, length_codes_to, codes_to_some, codes_to_distinct, codes_to_all}

@@ -6,7 +6,8 @@ use Rattle.ring_theory.specs.Ring.{CommRing, TestedRing}
 use Rattle.ring_theory.specs.Lists.{add_lists, scale_list, coeff_of}
 use Rattle.ring_theory.specs.Rows.{Row}
 use Rattle.ring_theory.proofs.Ring.{mul_zero, neg_unique}
-use Rattle.ring_theory.proofs.Polynomials.{Pol, pol_ring, same_pol}
+use Rattle.ring_theory.specs.Polynomials.{Pol}
+use Rattle.ring_theory.proofs.Polynomials.{pol_ring, same_pol}
 use Rattle.ff_fields.specs.Field.{CodeField}
 use Rattle.ff_fields.specs.Code.{Code, code_ring, raw_ring, zero_in}
 use Rattle.ff_fields.specs.Numbers.{read, numbers_read}

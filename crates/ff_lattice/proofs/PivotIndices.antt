@@ -11,7 +11,8 @@ use Rattle.ring_theory.proofs.Ring.{neg_unique, add_sub, product_not_zero}
 use Rattle.ring_theory.proofs.Rows.{row_scale_scale}
 use Rattle.ring_theory.proofs.RowMaps.{hom_zero}
 use Rattle.ring_theory.proofs.Subsets.{span_zero, span_sum, span_scale}
-use Rattle.ring_theory.proofs.Evaluate.{constant, constant_hom}
+use Rattle.ring_theory.specs.Polynomials.{constant}
+use Rattle.ring_theory.proofs.Evaluate.{constant_hom}
 use Rattle.linear_theory.specs.Fields.{Field, domain_of}
 use Rattle.linear_theory.specs.Module.{Module, combine, IsHomomorphism}
 use Rattle.linear_theory.specs.Basis.{IsSubspace, IsBasis}

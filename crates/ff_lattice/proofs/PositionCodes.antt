@@ -7,7 +7,8 @@ use Rattle.std.proofs.lemmas.List.{get_or-map, length-append, length-replicate, 
 use Rattle.ring_theory.specs.Ring.{TestedRing}
 use Rattle.ring_theory.specs.Lists.{coeff_of}
 use Rattle.ring_theory.specs.Rows.{Row}
-use Rattle.ring_theory.proofs.Polynomials.{Pol, coeff_past}
+use Rattle.ring_theory.specs.Polynomials.{Pol}
+use Rattle.ring_theory.proofs.Polynomials.{coeff_past}
 use Rattle.ff_fields.specs.Field.{FieldOps, CodeField}
 use Rattle.ff_fields.specs.Code.{Code, code_ring, read_code, read_code_below, same_code, zero_in}
 use Rattle.ff_fields.specs.Over.{IsOver}

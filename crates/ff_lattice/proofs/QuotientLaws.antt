@@ -11,7 +11,7 @@ use Rattle.ring_theory.specs.Rows.{Row}
 use Rattle.ring_theory.specs.Subsets.{IsSubring}
 use Rattle.ring_theory.proofs.Ring.{add_mul, mul_zero, zero_mul, neg_mul, neg_zero, one_mul, eq_of_sub, neg_unique}
 use Rattle.ring_theory.proofs.Subsets.{span_zero, span_sum, span_scale}
-use Rattle.ring_theory.proofs.Polynomials.{Pol}
+use Rattle.ring_theory.specs.Polynomials.{Pol}
 use Rattle.ff_fields.specs.Field.{CodeField}
 use Rattle.ff_fields.specs.Code.{Code, code_ring, raw_ring, zero_in, same_code}
 use Rattle.ff_fields.specs.Over.{IsOver, IsOver_nil, IsOver_head, IsOver_tail, IsOver_scale, IsOver_add, IsOver_zeros}

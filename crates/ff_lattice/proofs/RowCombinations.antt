@@ -8,7 +8,8 @@ use Rattle.ring_theory.specs.Lists.{tail_of}
 use Rattle.ring_theory.specs.Rows.{Row, entry}
 use Rattle.ring_theory.proofs.Ring.{mul_zero}
 use Rattle.ring_theory.proofs.Solver.{ring, reads}
-use Rattle.ring_theory.proofs.Polynomials.{Pol, pol_ring}
+use Rattle.ring_theory.specs.Polynomials.{Pol}
+use Rattle.ring_theory.proofs.Polynomials.{pol_ring}
 use Rattle.ff_fields.specs.Field.{CodeField}
 use Rattle.ff_fields.specs.Code.{code_ring}
 use Rattle.ff_fields.specs.Over.{IsOver}

@@ -6,7 +6,8 @@ use Rattle.ring_theory.specs.Rows.{Row, row_scale}
 use Rattle.ring_theory.proofs.Ring.{product_not_zero, zero_mul}
 use Rattle.ring_theory.proofs.Solver.{ring, reads}
 use Rattle.ring_theory.proofs.Rows.{row_scale_scale}
-use Rattle.ring_theory.proofs.Polynomials.{Pol, pol_ring}
+use Rattle.ring_theory.specs.Polynomials.{Pol}
+use Rattle.ring_theory.proofs.Polynomials.{pol_ring}
 use Rattle.ff_fields.specs.Field.{CodeField}
 use Rattle.ff_fields.specs.Code.{code_ring, code_field}
 use Rattle.ff_fields.specs.Over.{IsOver, get_or_below}

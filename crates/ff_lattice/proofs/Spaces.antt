@@ -8,7 +8,8 @@ use Rattle.ring_theory.specs.Lists.{tail_of}
 use Rattle.ring_theory.specs.Rows.{Row}
 use Rattle.ring_theory.proofs.Ring.{one_mul, zero_add}
 use Rattle.ring_theory.proofs.Rows.{pair_path}
-use Rattle.ring_theory.proofs.Polynomials.{Pol, pol_ring, same_pol}
+use Rattle.ring_theory.specs.Polynomials.{Pol}
+use Rattle.ring_theory.proofs.Polynomials.{pol_ring, same_pol}
 use Rattle.ff_fields.specs.Field.{CodeField}
 use Rattle.ff_fields.specs.Code.{code_ring}
 use Rattle.ff_fields.specs.Numbers.{numbers_read, read}

@@ -8,8 +8,10 @@ use Rattle.ring_theory.specs.Ring.{TestedRing}
 use Rattle.ring_theory.specs.Lists.{convolution, coeff_of, add_lists, mul_lists, trim}
 use Rattle.ff_fields.specs.Code.{raw_ring, is_zero_code, Code, code_ring, code_domain}
 use Rattle.ring_theory.proofs.Lists.{trim_trimmed, coeff_add, coeff_mul, coeff_trim, same_trims}
-use Rattle.ring_theory.proofs.Polynomials.{Pol, pol_of, pol_ring, same_pol, series_add, series_mul}
-use Rattle.ring_theory.proofs.Division.{IsDivision, one_way}
+use Rattle.ring_theory.specs.Polynomials.{Pol, pol_of}
+use Rattle.ring_theory.proofs.Polynomials.{pol_ring, same_pol, series_add, series_mul}
+use Rattle.ring_theory.specs.Division.{IsDivision}
+use Rattle.ring_theory.proofs.Division.{one_way}
 use Rattle.ff_fields.specs.Over.{IsOver}
 use Rattle.ff_fields.specs.Numbers.{numbers, read, numbers_read, read_numbers, numbers_add, numbers_mul, numbers_trim}
 use Rattle.ff_poly.specs.PolyOver.{IsOver_sum_of, IsOver_product_of, IsPoly_poly_of}

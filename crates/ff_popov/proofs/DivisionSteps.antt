@@ -11,7 +11,8 @@ use Rattle.ring_theory.specs.Ring.{TestedRing}
 use Rattle.ring_theory.specs.Lists.{tail_of}
 use Rattle.ring_theory.specs.Rows.{Row}
 use Rattle.ring_theory.proofs.Ring.{zero_add, mul_neg, neg_neg}
-use Rattle.ring_theory.proofs.Polynomials.{Pol, pol_ring}
+use Rattle.ring_theory.specs.Polynomials.{Pol}
+use Rattle.ring_theory.proofs.Polynomials.{pol_ring}
 use Rattle.ff_poly.specs.Words.{IsPoly, difference_of}
 use Rattle.ff_poly.specs.PolyOver.{IsOver_difference_of}
 use Rattle.ff_poly.specs.Value.{value}

@@ -8,7 +8,8 @@ use Rattle.ff_fields.specs.Over.{IsOver}
 use Rattle.ff_fields.specs.Numbers.{read}
 use Rattle.ring_theory.specs.Lists.{coeff_of, IsTrimmed}
 use Rattle.ring_theory.specs.Rows.{Row, entry}
-use Rattle.ring_theory.proofs.Polynomials.{Pol, pol_ring, coeff_past, coeff_top}
+use Rattle.ring_theory.specs.Polynomials.{Pol}
+use Rattle.ring_theory.proofs.Polynomials.{pol_ring, coeff_past, coeff_top}
 use Rattle.ff_poly.specs.Words.{IsPoly}
 use Rattle.ff_poly.specs.Value.{value, numbers_value}
 use Rattle.ff_poly.specs.Polynomials.{value_nil}

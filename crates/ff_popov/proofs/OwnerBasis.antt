@@ -7,7 +7,7 @@ use native.Mathlib.Decide.{ℕ_discrete}
 use Rattle.ff_fields.specs.Field.{CodeField}
 use Rattle.ff_fields.specs.Code.{code_ring, code_domain, code_field}
 use Rattle.ring_theory.specs.Rows.{Row}
-use Rattle.ring_theory.proofs.Polynomials.{Pol}
+use Rattle.ring_theory.specs.Polynomials.{Pol}
 use Rattle.ff_poly.specs.Words.{IsPoly}
 use Rattle.ff_poly.specs.Popov.{entry_at, row_at, IsRow, IsPivot, IsZeroRow, IsWeakPopov, IsPopov}
 use Rattle.popov_theory.specs.Module.{PolynomialModule, measure, pivot, row_degree, column}

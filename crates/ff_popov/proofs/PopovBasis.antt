@@ -6,7 +6,7 @@ use Rattle.std.proofs.lemmas.List.{length-map, get_or-map, get_or-append_right}
 use Rattle.ff_fields.specs.Field.{CodeField}
 use Rattle.ff_fields.specs.Code.{code_ring, code_domain, read_code, read_code_below, same_code}
 use Rattle.ring_theory.specs.Rows.{Row}
-use Rattle.ring_theory.proofs.Polynomials.{Pol}
+use Rattle.ring_theory.specs.Polynomials.{Pol}
 use Rattle.ff_poly.specs.Popov.{entry_at, row_at, IsRow, IsPopov}
 use Rattle.popov_theory.specs.Module.{PolynomialModule, measure, pivot, row_degree, column}
 use Rattle.popov_theory.specs.Span.{InSpan}

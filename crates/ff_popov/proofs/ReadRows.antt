@@ -9,7 +9,8 @@ use Rattle.ring_theory.specs.Ring.{TestedRing}
 use Rattle.ring_theory.specs.Rows.{Row, row_zero, row_add, row_neg, row_scale, entry}
 use Rattle.ring_theory.proofs.Ring.{mul_zero}
 use Rattle.ring_theory.proofs.Rows.{pair_path}
-use Rattle.ring_theory.proofs.Polynomials.{Pol, pol_ring}
+use Rattle.ring_theory.specs.Polynomials.{Pol}
+use Rattle.ring_theory.proofs.Polynomials.{pol_ring}
 use Rattle.ff_poly.specs.Words.{IsPoly, difference_of}
 use Rattle.ff_poly.specs.Value.{value, value_sum, value_product, same_from_value}
 use Rattle.ff_poly.specs.Polynomials.{value_nil}

@@ -12,7 +12,8 @@ use Rattle.ring_theory.specs.Ring.{TestedRing}
 use Rattle.ring_theory.specs.Lists.{coeff_of}
 use Rattle.ring_theory.specs.Rows.{Row, row_add, row_neg}
 use Rattle.ring_theory.proofs.Ring.{zero_add, neg_neg, neg_zero}
-use Rattle.ring_theory.proofs.Polynomials.{Pol, pol_ring, coeff_past, series_add}
+use Rattle.ring_theory.specs.Polynomials.{Pol}
+use Rattle.ring_theory.proofs.Polynomials.{pol_ring, coeff_past, series_add}
 use Rattle.ff_poly.specs.Words.{IsPoly, IsMonic, difference_of}
 use Rattle.ff_poly.specs.Value.{value}
 use Rattle.ff_poly.specs.Polynomials.{value_nil, value_one, series_read}

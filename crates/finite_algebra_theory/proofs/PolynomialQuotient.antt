@@ -6,11 +6,12 @@ use Rattle.ring_theory.specs.Lists.{coeff_of}
 use Rattle.ring_theory.specs.Subsets.{Span}
 use Rattle.ring_theory.specs.Congruence.{IsCongruent}
 use Rattle.ring_theory.proofs.Ring.{field_domain, zero_mul}
-use Rattle.ring_theory.proofs.Polynomials.{Pol, pol_ops, pol_ring, pol_domain, IsTrimmed_prop}
+use Rattle.ring_theory.specs.Polynomials.{Pol, pol_ops, constant}
+use Rattle.ring_theory.proofs.Polynomials.{pol_ring, pol_domain, IsTrimmed_prop}
 use Rattle.ring_theory.proofs.Congruence.{congruent_sym, congruent_trans, congruent_add, congruent_mul, congruent_same}
 use Rattle.ring_theory.proofs.Classes.{Class, class_of, classes, class_same, short_same, length_rest, rest_congruent, rest}
-use Rattle.ring_theory.proofs.RowMaps.{IsHom}
-use Rattle.ring_theory.proofs.Evaluate.{length_trim, constant, constant_hom, x_pol, pol_self, pol_value, evaluate, evaluate_hom, hom_after}
+use Rattle.ring_theory.specs.Maps.{IsHom}
+use Rattle.ring_theory.proofs.Evaluate.{length_trim, constant_hom, x_pol, pol_self, pol_value, evaluate, evaluate_hom, hom_after}
 use Rattle.ring_theory.proofs.Solver.{ring, reads}
 use Rattle.ring_theory.proofs.Subsets.{span_zero}
 use Rattle.finite_algebra_theory.specs.Algebra.{FiniteAlgebra, powers}

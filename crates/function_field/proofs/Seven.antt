@@ -3,11 +3,11 @@ use Rattle.std.proofs.Common.{◌≡◌, ℕ, zero, suc, [], ◌∷◌, refl, sy
 use Rattle.ring_theory.specs.Ring.{CommRing, pow}
 use Rattle.ring_theory.specs.Sums.{sum_below}
 use Rattle.ring_theory.specs.Integral.{IsIntegral}
-use Rattle.ring_theory.specs.Rows.{row_zero, row_add, row_neg, row_scale, shift, top, times_y, row_times, row_trace, diagonal_sum, entry, y_to}
+use Rattle.ring_theory.specs.Rows.{row_zero, row_add, row_neg, row_scale, shift, top, times_y, row_times, row_trace, diagonal_sum, entry, y_to, row_one, row_mul}
 use Rattle.ring_theory.proofs.RowFractions.{pair_add, pair_mul, whole_pair}
 use Rattle.ring_theory.proofs.Ring.{zero_add, zero_mul}
-use Rattle.ring_theory.proofs.Rows.{pair_path, row_one, row_mul}
-use Rattle.ring_theory.proofs.Polynomials.{pol_ops}
+use Rattle.ring_theory.proofs.Rows.{pair_path}
+use Rattle.ring_theory.specs.Polynomials.{pol_ops}
 use Rattle.ff_fields.specs.Field.{CodeField}
 use Rattle.ff_fields.specs.Prime.{prime_field}
 use Rattle.ff_poly.specs.Value.{value}

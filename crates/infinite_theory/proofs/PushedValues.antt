@@ -4,7 +4,8 @@ use Rattle.std.specs.Prelude.{ℤ, pos, negsuc}
 use Rattle.std.proofs.lemmas.List.Elements.{All-weaker}
 use Rattle.ring_theory.specs.Subsets.{IsSubring, IsModule}
 use Rattle.ring_theory.specs.Local.{PrimeTo}
-use Rattle.ring_theory.proofs.RowMaps.{IsHom, hom_zero}
+use Rattle.ring_theory.specs.Maps.{IsHom}
+use Rattle.ring_theory.proofs.RowMaps.{hom_zero}
 use Rattle.ring_theory.proofs.Solver.{ring, reads}
 use Rattle.ring_theory.proofs.Subsets.{span_least}
 use Rattle.ring_theory.proofs.Local.{locally_module, locally_product}

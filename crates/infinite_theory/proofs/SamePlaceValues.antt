@@ -1,7 +1,7 @@
 -- Places with the same members have the same valuation and the same degree.
 use Rattle.std.proofs.Common.{◌↔◌, ℕ, zero, suc, List, refl}
 use Rattle.std.specs.Prelude.{ℤ, pos, negsuc}
-use Rattle.ring_theory.proofs.RowMaps.{IsHom}
+use Rattle.ring_theory.specs.Maps.{IsHom}
 use Rattle.function_field.specs.declared.side.Side.{Side}
 use Rattle.function_field.specs.Setting.{Setting}
 use Rattle.function_field.specs.Places.{Place, IsIn, InPower, HasValuationAtLeast, HasValuation}

@@ -6,7 +6,8 @@ use Rattle.ring_theory.specs.Lists.{tail_of}
 use Rattle.ring_theory.specs.Subsets.{IsModule}
 use Rattle.ring_theory.proofs.Ring.{neg_unique, add_sub, zero_add}
 use Rattle.ring_theory.proofs.RowMaps.{hom_zero}
-use Rattle.ring_theory.proofs.Evaluate.{constant, constant_hom}
+use Rattle.ring_theory.specs.Polynomials.{constant}
+use Rattle.ring_theory.proofs.Evaluate.{constant_hom}
 use Rattle.popov_theory.specs.Span.{InSpan, IsWithin}
 use Rattle.popov_theory.specs.Popov.{pivot_degree}
 use Rattle.popov_theory.specs.Basis.{IsBasisModulo, scalar_combine}

@@ -5,7 +5,8 @@ use Rattle.std.proofs.lemmas.List.{length-map}
 use Rattle.prime_theory.proofs.Lists.{any_here, any_there, any_cases, any_none}
 use Rattle.ring_theory.specs.Lists.{coeff_of}
 use Rattle.ring_theory.proofs.Ring.{mul_zero, product_not_zero}
-use Rattle.ring_theory.proofs.Evaluate.{constant, constant_hom}
+use Rattle.ring_theory.specs.Polynomials.{constant}
+use Rattle.ring_theory.proofs.Evaluate.{constant_hom}
 use Rattle.ring_theory.proofs.Polynomials.{length_product}
 use Rattle.ff_fields.specs.Field.{CodeField}
 use Rattle.ff_fields.specs.Code.{code_ring, code_domain}

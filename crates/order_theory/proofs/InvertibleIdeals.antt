@@ -10,7 +10,8 @@ use Rattle.ring_theory.proofs.Local.{power_in}
 use Rattle.ring_theory.proofs.Solver.{ring, reads, from_one}
 use Rattle.ring_theory.proofs.Polynomials.{length_product}
 use Rattle.ring_theory.specs.Lists.{coeff_of}
-use Rattle.ring_theory.proofs.Evaluate.{constant, constant_hom}
+use Rattle.ring_theory.specs.Polynomials.{constant}
+use Rattle.ring_theory.proofs.Evaluate.{constant_hom}
 use Rattle.order_theory.proofs.Degrees.{constant_of}
 use Rattle.prime_theory.specs.Ideals.{IsIdeal, Inverse, Invertible, Multiple}
 use Rattle.prime_theory.specs.Orders.{MaximalAt, Radical}

@@ -5,7 +5,8 @@ use Rattle.ring_theory.specs.Lists.{coeff_of, IsTrimmed}
 use Rattle.ring_theory.specs.Subsets.{IsModule}
 use Rattle.ring_theory.proofs.Ring.{one_mul, zero_mul, mul_zero}
 use Rattle.ring_theory.proofs.Solver.{ring, reads}
-use Rattle.ring_theory.proofs.Evaluate.{constant, constant_hom}
+use Rattle.ring_theory.specs.Polynomials.{constant}
+use Rattle.ring_theory.proofs.Evaluate.{constant_hom}
 use Rattle.ring_theory.proofs.Polynomials.{length_product}
 use Rattle.linear_theory.specs.Euclidean.{IsDivisor}
 use Rattle.linear_theory.proofs.Euclid.{bezout}

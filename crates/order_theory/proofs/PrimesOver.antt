@@ -4,7 +4,7 @@ use Rattle.std.proofs.lemmas.List.Elements.{All-nil, All-cons, All-head, All-tai
 use Rattle.std.proofs.lemmas.List.Kept.{AllPairs-cons}
 use Rattle.ring_theory.specs.Ring.{CommRing}
 use Rattle.ring_theory.specs.Subsets.{Colon, Span, Product}
-use Rattle.ring_theory.proofs.RowMaps.{IsHom}
+use Rattle.ring_theory.specs.Maps.{IsHom}
 use Rattle.prime_theory.specs.Ideals.{Inverse, Invertible, SameSet, IsIdeal}
 use Rattle.prime_theory.specs.Primes.{Different, IsPrime}
 use Rattle.prime_theory.specs.Orders.{MaximalAt}

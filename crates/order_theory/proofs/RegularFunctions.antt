@@ -7,7 +7,8 @@ use Rattle.ring_theory.specs.Local.{Locally}
 use Rattle.ring_theory.specs.Lists.{coeff_of}
 use Rattle.ring_theory.proofs.Local.{power_in}
 use Rattle.ring_theory.proofs.Ring.{one_mul, mul_zero, zero_mul, add_mul}
-use Rattle.ring_theory.proofs.Evaluate.{constant, constant_hom}
+use Rattle.ring_theory.specs.Polynomials.{constant}
+use Rattle.ring_theory.proofs.Evaluate.{constant_hom}
 use Rattle.ring_theory.proofs.Polynomials.{length_product}
 use Rattle.prime_theory.specs.Ideals.{IsIdeal}
 use Rattle.prime_theory.specs.Orders.{Denominator}

@@ -5,7 +5,7 @@ use Rattle.ring_theory.specs.Sums.{sum_over}
 use Rattle.ring_theory.specs.Subsets.{IsSubring}
 use Rattle.ring_theory.proofs.Ring.{mul_zero, add_cancel_left, sub_of_eq}
 use Rattle.ring_theory.proofs.Local.{power_in}
-use Rattle.ring_theory.proofs.Finite.{In}
+use Rattle.ring_theory.specs.Members.{In}
 use Rattle.prime_theory.specs.Ideals.{Multiple}
 use Rattle.prime_theory.specs.Orders.{Radical}
 use Rattle.prime_theory.specs.Systems.{IsDecomposition, IsSystem, PrimeAt}

@@ -11,7 +11,8 @@ use Rattle.ring_theory.specs.Local.{Locally}
 use Rattle.ring_theory.specs.Integral.{IsIntegral}
 use Rattle.ring_theory.proofs.Ring.{mul_zero, product_not_zero}
 use Rattle.ring_theory.proofs.Lists.{trim_trimmed, IsTrimmed_push}
-use Rattle.ring_theory.proofs.Polynomials.{pol_ops, series_mul, length_product, length_product_le}
+use Rattle.ring_theory.specs.Polynomials.{pol_ops}
+use Rattle.ring_theory.proofs.Polynomials.{series_mul, length_product, length_product_le}
 use Rattle.ring_theory.proofs.RowMaps.{hom_zero, hom_neg}
 use Rattle.ring_theory.proofs.Evaluate.{length_trim}
 use Rattle.ring_theory.proofs.Solver.{ring, reads, from_one, from_two, from_three}

@@ -2,10 +2,11 @@
 use Rattle.std.proofs.Common.{◌≡◌, ℕ, zero, suc, ◌+◌, ◌-◌, ◌*◌, ◌≤◌, ◌<◌, List, [], ◌∷◌, length, get_or, refl, sym, ◌∙◌, ap, ap₂, subst, arith}
 use Rattle.std.proofs.Math.Nat.{mul-suc}
 use Rattle.ring_theory.specs.Ring.{pow}
-use Rattle.ring_theory.specs.Rows.{Row, row_zero, times_y}
+use Rattle.ring_theory.specs.Rows.{Row, row_zero, times_y, row_one}
 use Rattle.ring_theory.proofs.Ring.{one_mul, mul_zero, pow_add, pow_mul, mul_pow}
-use Rattle.ring_theory.proofs.Rows.{pair_path, row_one}
-use Rattle.ring_theory.proofs.RowMaps.{IsHom, eval, eval_none, eval_cons, eval_times_y, pair_value, pair_value_is, pair_value_same, pair_add_value, pair_mul_value}
+use Rattle.ring_theory.proofs.Rows.{pair_path}
+use Rattle.ring_theory.specs.Maps.{IsHom}
+use Rattle.ring_theory.proofs.RowMaps.{eval, eval_none, eval_cons, eval_times_y, pair_value, pair_value_is, pair_value_same, pair_add_value, pair_mul_value}
 use Rattle.ring_theory.proofs.Solver.{ring, reads, from_one}
 use Rattle.ff_fields.specs.Field.{CodeField}
 use Rattle.ff_poly.specs.Value.{value, numbers_value}

@@ -7,7 +7,8 @@ use Rattle.ring_theory.proofs.Ring.{one_mul, zero_add, mul_zero, pow_add, eq_of_
 use Rattle.ring_theory.proofs.Rows.{pair_path, row_scale_one, row_scale_zero}
 use Rattle.ring_theory.proofs.RowFractions.{whole_pair}
 use Rattle.ring_theory.proofs.RowMaps.{hom_zero, hom_neg, eval_none, eval_cons, eval_scale}
-use Rattle.ring_theory.proofs.Evaluate.{constant, evaluate, value_constant}
+use Rattle.ring_theory.specs.Polynomials.{constant}
+use Rattle.ring_theory.proofs.Evaluate.{evaluate, value_constant}
 use Rattle.ring_theory.proofs.Solver.{ring, reads, from_one, from_two, from_three}
 use Rattle.ff_fields.specs.Field.{CodeField}
 use Rattle.ff_fields.specs.Code.{Code, code_ring}

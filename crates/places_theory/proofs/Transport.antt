@@ -4,7 +4,8 @@ use Rattle.ring_theory.specs.Ring.{CommRing, pow}
 use Rattle.ring_theory.specs.Sums.{sum_below, sum_over}
 use Rattle.ring_theory.specs.Subsets.{Span, Product, Factors}
 use Rattle.ring_theory.specs.Integral.{IsIntegral}
-use Rattle.ring_theory.proofs.RowMaps.{IsHom, hom_zero, hom_neg}
+use Rattle.ring_theory.specs.Maps.{IsHom}
+use Rattle.ring_theory.proofs.RowMaps.{hom_zero, hom_neg}
 use Rattle.finite_algebra_theory.proofs.ByMap.{map_pow}
 use Rattle.prime_theory.specs.Ideals.{Power}
 use Rattle.prime_theory.specs.Places.{IsMaximalIdeal, PlaceAtLeast, PlaceAtLeastMinus}

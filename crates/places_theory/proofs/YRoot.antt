@@ -3,7 +3,8 @@ use Rattle.std.proofs.Common.{ap₂, ◌≡◌, ℕ, zero, suc, [], ◌∷◌, r
 use Rattle.ring_theory.specs.Ring.{CommRing, pow}
 use Rattle.ring_theory.specs.Rows.{row_zero, Row, row_scale, shift, top, times_y}
 use Rattle.ring_theory.proofs.Ring.{mul_zero, one_mul}
-use Rattle.ring_theory.proofs.RowMaps.{IsHom, hom_zero, hom_neg, eval, eval_none, eval_cons, eval_add, eval_scale, eval_shift}
+use Rattle.ring_theory.specs.Maps.{IsHom}
+use Rattle.ring_theory.proofs.RowMaps.{hom_zero, hom_neg, eval, eval_none, eval_cons, eval_add, eval_scale, eval_shift}
 use Rattle.ring_theory.proofs.Solver.{ring, reads, from_two}
 use Rattle.ff_fields.specs.Field.{CodeField}
 use Rattle.ff_poly.specs.Polynomials.{Polynomial, polynomials}

@@ -7,7 +7,8 @@ use Rattle.ring_theory.specs.Rows.{Row, entry}
 use Rattle.ring_theory.proofs.Ring.{mul_zero}
 use Rattle.ring_theory.proofs.Lists.{coeff_trim}
 use Rattle.ring_theory.proofs.Sequences.{convolution_comm, convolution_constant_left}
-use Rattle.ring_theory.proofs.Polynomials.{Pol, pol_ring, same_pol, series_mul, coeff_top}
+use Rattle.ring_theory.specs.Polynomials.{Pol}
+use Rattle.ring_theory.proofs.Polynomials.{pol_ring, same_pol, series_mul, coeff_top}
 use Rattle.popov_theory.specs.Module.{PolynomialModule}
 use Rattle.popov_theory.specs.Span.{row_at, combine}
 use Rattle.popov_theory.specs.Basis.{scalar_combine, IsBasisModulo}

@@ -3,7 +3,8 @@ use Rattle.std.proofs.Common.{◌≡◌, ℕ, zero, suc, ◌<◌, ◌+◌, ◌*�
 use native.Mathlib.Decide.{ℕ_discrete}
 use Rattle.ring_theory.specs.Ring.{TestedRing, IsDomain, IsField}
 use Rattle.ring_theory.proofs.Ring.{field_domain}
-use Rattle.ring_theory.proofs.Polynomials.{Pol, pol_ring}
+use Rattle.ring_theory.specs.Polynomials.{Pol}
+use Rattle.ring_theory.proofs.Polynomials.{pol_ring}
 use Rattle.popov_theory.specs.Module.{PolynomialModule, measure, column}
 use Rattle.popov_theory.specs.Span.{row_at, InSpan, HaveSameSpan, HasFullRank}
 use Rattle.popov_theory.specs.Popov.{put, IsWeakPopov, IsFull}

@@ -7,7 +7,8 @@ use Rattle.ring_theory.specs.Ring.{CommRing, TestedRing, IsField, IsDomain}
 use Rattle.ring_theory.specs.Lists.{coeff_of, convolution, tail_of}
 use Rattle.ring_theory.proofs.Ring.{field_domain, zero_mul, zero_add}
 use Rattle.ring_theory.proofs.Rows.{pair_path}
-use Rattle.ring_theory.proofs.Polynomials.{Pol, pol_ring}
+use Rattle.ring_theory.specs.Polynomials.{Pol}
+use Rattle.ring_theory.proofs.Polynomials.{pol_ring}
 use Rattle.popov_theory.specs.Module.{PolynomialModule, measure, row_degree, column}
 use Rattle.popov_theory.specs.Span.{row_at, InSpan, IsSubmodule}
 use Rattle.popov_theory.specs.Popov.{IsPopov, Leading}

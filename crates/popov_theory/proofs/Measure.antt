@@ -6,7 +6,8 @@ use Rattle.ring_theory.specs.Ring.{TestedRing, IsDomain}
 use Rattle.ring_theory.specs.Lists.{coeff_of, convolution}
 use Rattle.ring_theory.proofs.Ring.{neg_zero, product_not_zero}
 use Rattle.ring_theory.proofs.Sequences.{convolution_past, convolution_top, convolution_null_left, convolution_comm}
-use Rattle.ring_theory.proofs.Polynomials.{Pol, coeff_past, coeff_top}
+use Rattle.ring_theory.specs.Polynomials.{Pol}
+use Rattle.ring_theory.proofs.Polynomials.{coeff_past, coeff_top}
 use Rattle.popov_theory.specs.Module.{PolynomialModule, top_position, measure, pivot, row_degree, column}
 use Rattle.popov_theory.proofs.Module.{split, column_below}
 use Rattle.popov_theory.proofs.Positions.{row_le, degree_less, degree_rises, column_at}

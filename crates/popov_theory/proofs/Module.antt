@@ -6,7 +6,8 @@ use Rattle.ring_theory.specs.Ring.{TestedRing}
 use Rattle.ring_theory.specs.Lists.{coeff_of, convolution}
 use Rattle.ring_theory.proofs.Ring.{neg_neg, neg_sum}
 use Rattle.ring_theory.proofs.Sequences.{convolution_add_left, convolution_add_right, convolution_assoc, convolution_comm, convolution_null_left, convolution_constant_left}
-use Rattle.ring_theory.proofs.Polynomials.{Pol, pol_ops, pol_ring, series_add, series_mul}
+use Rattle.ring_theory.specs.Polynomials.{Pol, pol_ops}
+use Rattle.ring_theory.proofs.Polynomials.{pol_ring, series_add, series_mul}
 use Rattle.ring_theory.proofs.Lists.{coeff_trim}
 use Rattle.popov_theory.specs.Module.{PolynomialModule}
 

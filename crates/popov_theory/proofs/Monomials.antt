@@ -3,7 +3,8 @@ use Rattle.std.proofs.Common.{◌≡◌, ◌≢◌, ℕ, zero, suc, ◌<◌, ◌
 use Rattle.ring_theory.specs.Ring.{TestedRing, IsField}
 use Rattle.ring_theory.specs.Lists.{coeff_of}
 use Rattle.ring_theory.proofs.Lists.{coeff_trim}
-use Rattle.ring_theory.proofs.Polynomials.{Pol, pol_of, length_from_top}
+use Rattle.ring_theory.specs.Polynomials.{Pol, pol_of}
+use Rattle.ring_theory.proofs.Polynomials.{length_from_top}
 use Rattle.popov_theory.specs.Module.{PolynomialModule, measure, spike}
 pub use Rattle.popov_theory.specs.Module.{monomial}
 use Rattle.popov_theory.proofs.Measure.{measure_past, measure_top, measure_bound, scale_top, scale_past}

@@ -3,7 +3,7 @@ use Rattle.std.proofs.Common.{◌≡◌, ◌≢◌, ℕ, zero, suc, ◌<◌, ◌
 use native.Mathlib.Decide.{ℕ_discrete}
 use Rattle.ring_theory.specs.Ring.{TestedRing, IsDomain}
 use Rattle.ring_theory.specs.Lists.{tail_of}
-use Rattle.ring_theory.proofs.Finite.{In, IsDistinct}
+use Rattle.ring_theory.specs.Members.{In, IsDistinct}
 use Rattle.popov_theory.specs.Module.{PolynomialModule, measure, column}
 use Rattle.popov_theory.specs.Span.{row_at}
 use Rattle.popov_theory.specs.Popov.{IsWeakPopov}

@@ -8,7 +8,8 @@ use Rattle.ring_theory.specs.Lists.{coeff_of, convolution}
 use Rattle.ring_theory.specs.Rows.{Row, row_zero, row_add, row_neg, row_scale, entry}
 use Rattle.ring_theory.proofs.Ring.{neg_zero, mul_zero}
 use Rattle.ring_theory.proofs.Rows.{pair_path}
-use Rattle.ring_theory.proofs.Polynomials.{Pol, pol_ops, pol_ring, same_pol, series_add, series_neg, series_mul, coeff_past}
+use Rattle.ring_theory.specs.Polynomials.{Pol, pol_ops}
+use Rattle.ring_theory.proofs.Polynomials.{pol_ring, same_pol, series_add, series_neg, series_mul, coeff_past}
 use Rattle.popov_theory.specs.Module.{PolynomialModule}
 use Rattle.popov_theory.proofs.Monomials.{monomial, monomial_at, monomial_off}
 

@@ -6,7 +6,8 @@ use Rattle.ring_theory.specs.Ring.{TestedRing, IsDomain}
 use Rattle.ring_theory.specs.Lists.{coeff_of, tail_of}
 use Rattle.ring_theory.proofs.Ring.{one_mul}
 use Rattle.ring_theory.proofs.Sequences.{convolution_past, convolution_top, convolution_null_left, convolution_comm}
-use Rattle.ring_theory.proofs.Polynomials.{Pol, pol_ring, coeff_past}
+use Rattle.ring_theory.specs.Polynomials.{Pol}
+use Rattle.ring_theory.proofs.Polynomials.{pol_ring, coeff_past}
 use Rattle.popov_theory.specs.Module.{PolynomialModule, measure, pivot, row_degree, column, top_position}
 use Rattle.popov_theory.specs.Span.{row_at, InSpan, combine}
 use Rattle.popov_theory.specs.Popov.{IsPopov, pivot_degree}

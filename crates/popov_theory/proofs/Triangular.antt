@@ -4,7 +4,8 @@ use Rattle.ring_theory.specs.Ring.{TestedRing, IsField, IsDomain}
 use Rattle.ring_theory.specs.Lists.{coeff_of, tail_of}
 use Rattle.ring_theory.proofs.Ring.{field_domain}
 use Rattle.ring_theory.proofs.Lists.{coeff_trim}
-use Rattle.ring_theory.proofs.Polynomials.{Pol, pol_of, pol_ops, pol_ring, same_pol, series_add}
+use Rattle.ring_theory.specs.Polynomials.{Pol, pol_of, pol_ops}
+use Rattle.ring_theory.proofs.Polynomials.{pol_ring, same_pol, series_add}
 use Rattle.popov_theory.specs.Module.{PolynomialModule, measure}
 use Rattle.popov_theory.specs.Span.{row_at, InSpan, IsSubmodule}
 use Rattle.popov_theory.specs.Popov.{IsWeakPopov, Leading}

@@ -5,7 +5,8 @@ use Rattle.ring_theory.specs.Lists.{coeff_of}
 use Rattle.ring_theory.proofs.Ring.{zero_add, zero_mul, one_mul, field_domain}
 use Rattle.ring_theory.proofs.Sequences.{convolution_constant_left}
 use Rattle.ring_theory.proofs.Lists.{coeff_trim}
-use Rattle.ring_theory.proofs.Polynomials.{Pol, pol_ops, pol_ring, pol_domain, same_pol, series_add, series_mul, coeff_past}
+use Rattle.ring_theory.specs.Polynomials.{Pol, pol_ops}
+use Rattle.ring_theory.proofs.Polynomials.{pol_ring, pol_domain, same_pol, series_add, series_mul, coeff_past}
 use Rattle.ring_theory.proofs.Division.{length_bound}
 use Rattle.linear_theory.specs.Fields.{Domain, Field}
 use Rattle.reduced_basis_theory.specs.Reduced.{variable, constant}

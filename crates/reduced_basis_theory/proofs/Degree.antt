@@ -3,7 +3,8 @@ use Rattle.std.proofs.Common.{◌≡◌, ℕ, suc, ◌+◌, ◌<◌, ◌≤◌, 
 use Rattle.std.proofs.lemmas.Int.{ints}
 use Rattle.std.proofs.Common.{◌<ℤ◌, ◌≤ℤ◌}
 use Rattle.ring_theory.specs.Ring.{TestedRing, IsDomain}
-use Rattle.ring_theory.proofs.Polynomials.{Pol, pol_ops, pol_ring, same_pol, length_mul}
+use Rattle.ring_theory.specs.Polynomials.{Pol, pol_ops}
+use Rattle.ring_theory.proofs.Polynomials.{pol_ring, same_pol, length_mul}
 use Rattle.ring_theory.proofs.Division.{length_add}
 use Rattle.reduced_basis_theory.specs.Degree.{size, DegreeAtMost, degree}
 

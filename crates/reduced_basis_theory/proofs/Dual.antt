@@ -4,7 +4,8 @@ use Rattle.std.proofs.lemmas.List.Elements.{All-head, All-tail}
 use Rattle.std.proofs.lemmas.Int.{ints}
 use Rattle.ring_theory.specs.Ring.{TestedRing, CommRing, IsField}
 use Rattle.ring_theory.proofs.Ring.{field_domain, product_not_zero, mul_left_comm}
-use Rattle.ring_theory.proofs.Polynomials.{Pol, pol_ring}
+use Rattle.ring_theory.specs.Polynomials.{Pol}
+use Rattle.ring_theory.proofs.Polynomials.{pol_ring}
 use Rattle.linear_theory.specs.Module.{Module, combine}
 use Rattle.linear_theory.proofs.Lists.{entry, insert}
 use Rattle.reduced_basis_theory.specs.Degree.{DegreeAtMost, degree}

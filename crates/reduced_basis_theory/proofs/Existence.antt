@@ -4,7 +4,8 @@ use Rattle.std.proofs.lemmas.Int.{ints}
 use Rattle.ring_theory.specs.Ring.{TestedRing, IsField}
 use Rattle.ring_theory.specs.Rows.{Row, entry}
 use Rattle.ring_theory.proofs.Ring.{field_domain, product_not_zero, domain_cancel, mul_left_comm, pow_add}
-use Rattle.ring_theory.proofs.Polynomials.{Pol, pol_ring}
+use Rattle.ring_theory.specs.Polynomials.{Pol}
+use Rattle.ring_theory.proofs.Polynomials.{pol_ring}
 use Rattle.linear_theory.specs.Module.{Module, combine}
 use Rattle.linear_theory.proofs.Module.{scale_zero}
 use Rattle.linear_theory.proofs.Combination.{combine_zero, combine_linear, combine_scale, combine_cong}

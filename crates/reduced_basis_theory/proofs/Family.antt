@@ -3,7 +3,8 @@ use Rattle.std.proofs.Common.{◌≡◌, ℕ, suc, ◌<◌, ◌↔◌, ℤ, pos,
 use Rattle.std.proofs.lemmas.Int.{ints}
 use Rattle.ring_theory.specs.Ring.{TestedRing, IsField}
 use Rattle.ring_theory.proofs.Ring.{field_domain, product_not_zero}
-use Rattle.ring_theory.proofs.Polynomials.{Pol, pol_ring}
+use Rattle.ring_theory.specs.Polynomials.{Pol}
+use Rattle.ring_theory.proofs.Polynomials.{pol_ring}
 use Rattle.linear_theory.specs.Module.{Module, combine}
 use Rattle.linear_theory.proofs.Combination.{combine_scale}
 use Rattle.reduced_basis_theory.specs.Degree.{DegreeAtMost, degree}

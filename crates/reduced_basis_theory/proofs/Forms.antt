@@ -2,7 +2,8 @@
 use Rattle.std.proofs.Common.{◌≡◌, ℕ, zero, suc, ◌<◌, ℤ, List, [], ◌∷◌, length, refl, sym, ◌∙◌, ap, ap₂, arith}
 use Rattle.ring_theory.specs.Ring.{TestedRing, CommRing, IsField}
 use Rattle.ring_theory.proofs.Ring.{field_domain, zero_mul, mul_zero, zero_add, product_not_zero}
-use Rattle.ring_theory.proofs.Polynomials.{Pol, pol_ring}
+use Rattle.ring_theory.specs.Polynomials.{Pol}
+use Rattle.ring_theory.proofs.Polynomials.{pol_ring}
 use Rattle.linear_theory.specs.Module.{Module, combine}
 use Rattle.linear_theory.proofs.Lists.{entry, insert}
 use Rattle.reduced_basis_theory.specs.Degree.{DegreeAtMost}

@@ -4,7 +4,8 @@ use Rattle.std.proofs.lemmas.Int.{ints}
 use Rattle.ring_theory.specs.Ring.{TestedRing, CommRing, IsField}
 use Rattle.ring_theory.proofs.Ring.{field_domain, product_not_zero}
 use Rattle.ring_theory.proofs.Solver.{reads}
-use Rattle.ring_theory.proofs.Polynomials.{Pol, pol_ring}
+use Rattle.ring_theory.specs.Polynomials.{Pol}
+use Rattle.ring_theory.proofs.Polynomials.{pol_ring}
 use Rattle.linear_theory.specs.Module.{Module, combine}
 use Rattle.linear_theory.proofs.Lists.{entry, insert, remove}
 use Rattle.linear_theory.proofs.Module.{linear, parts, vector, scalar, scale_zero}

@@ -7,7 +7,8 @@ use Rattle.ring_theory.proofs.Ring.{field_domain}
 use Rattle.ring_theory.proofs.Sequences.{convolution_comm}
 use Rattle.ring_theory.proofs.Solver.{reads}
 use Rattle.ring_theory.proofs.Lists.{coeff_trim}
-use Rattle.ring_theory.proofs.Polynomials.{Pol, pol_of, pol_ring, same_pol, series_add, series_mul, coeff_top}
+use Rattle.ring_theory.specs.Polynomials.{Pol, pol_of}
+use Rattle.ring_theory.proofs.Polynomials.{pol_ring, same_pol, series_add, series_mul, coeff_top}
 use Rattle.ring_theory.proofs.Division.{divided, rest_ends, length_bound, length_neg}
 use Rattle.linear_theory.specs.Module.{Module, combine}
 use Rattle.linear_theory.specs.Basis.{IsBasis, IsNull, IsSum}

@@ -3,7 +3,8 @@ use Rattle.std.proofs.Common.{◌≡◌, ℕ, zero, suc, ◌+◌, ◌<◌, ◌�
 use Rattle.std.proofs.lemmas.List.{length-append}
 use Rattle.std.proofs.lemmas.List.Elements.{All-nil, All-cons}
 use Rattle.ring_theory.specs.Ring.{TestedRing, CommRing}
-use Rattle.ring_theory.proofs.Polynomials.{Pol, pol_ring}
+use Rattle.ring_theory.specs.Polynomials.{Pol}
+use Rattle.ring_theory.proofs.Polynomials.{pol_ring}
 use Rattle.linear_theory.specs.Module.{Module, combine}
 use Rattle.linear_theory.proofs.Lists.{insert, join}
 use Rattle.linear_theory.proofs.Module.{zero_plus}

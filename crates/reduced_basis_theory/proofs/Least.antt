@@ -3,7 +3,8 @@ use Rattle.std.proofs.Common.{◌≡◌, ℕ, zero, suc, ◌<◌, ◌⊎◌, inl
 use Rattle.std.proofs.lemmas.Int.{ints, by_lt_z}
 use Rattle.ring_theory.specs.Ring.{TestedRing, IsField}
 use Rattle.ring_theory.proofs.Ring.{field_domain}
-use Rattle.ring_theory.proofs.Polynomials.{Pol, pol_ring}
+use Rattle.ring_theory.specs.Polynomials.{Pol}
+use Rattle.ring_theory.proofs.Polynomials.{pol_ring}
 use Rattle.linear_theory.specs.Module.{Module}
 use Rattle.linear_theory.proofs.Combination.{combine_none}
 use Rattle.reduced_basis_theory.specs.Degree.{DegreeAtMost, degree}

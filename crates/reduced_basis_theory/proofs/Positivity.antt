@@ -4,7 +4,8 @@ use Rattle.std.proofs.Common.{◌≡◌, ℕ, ◌+◌, ◌<◌, ℤ, pos, negsuc
 use Rattle.std.proofs.lemmas.Int.{ints, by_lt_z}
 use Rattle.ring_theory.specs.Ring.{TestedRing, CommRing, IsField}
 use Rattle.ring_theory.proofs.Ring.{one_mul}
-use Rattle.ring_theory.proofs.Polynomials.{Pol, pol_ring}
+use Rattle.ring_theory.specs.Polynomials.{Pol}
+use Rattle.ring_theory.proofs.Polynomials.{pol_ring}
 use Rattle.linear_theory.specs.Module.{Module, IsLinear}
 use Rattle.linear_theory.proofs.Lists.{entry}
 use Rattle.reduced_basis_theory.specs.Degree.{degree_sum}

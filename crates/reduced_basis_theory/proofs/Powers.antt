@@ -4,7 +4,8 @@ use Rattle.std.proofs.lemmas.Int.{ints}
 use Rattle.ring_theory.specs.Ring.{TestedRing, IsField, pow}
 use Rattle.ring_theory.proofs.Ring.{field_domain}
 use Rattle.ring_theory.proofs.Lists.{coeff_trim}
-use Rattle.ring_theory.proofs.Polynomials.{Pol, pol_ring, length_from_top}
+use Rattle.ring_theory.specs.Polynomials.{Pol}
+use Rattle.ring_theory.proofs.Polynomials.{pol_ring, length_from_top}
 use Rattle.reduced_basis_theory.specs.Degree.{degree}
 use Rattle.reduced_basis_theory.specs.Reduced.{variable}
 use Rattle.reduced_basis_theory.proofs.Degree.{length_product, length_zero}

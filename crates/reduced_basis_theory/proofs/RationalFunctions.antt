@@ -5,7 +5,8 @@ use Rattle.ring_theory.specs.Ring.{TestedRing, CommRing, IsField}
 use Rattle.ring_theory.specs.Fractions.{Denominators, Fraction}
 use Rattle.ring_theory.proofs.Ring.{one_mul, product_not_zero}
 use Rattle.ring_theory.proofs.Solver.{ring, reads}
-use Rattle.ring_theory.proofs.Polynomials.{Pol, pol_ring}
+use Rattle.ring_theory.specs.Polynomials.{Pol}
+use Rattle.ring_theory.proofs.Polynomials.{pol_ring}
 use Rattle.ring_theory.proofs.Fractions.{Fractions, fraction_ring, embed, embed_injective, embed_inverse, embed_product, embed_sum}
 use Rattle.reduced_basis_theory.specs.Dual.{AreFractions}
 use Rattle.reduced_basis_theory.proofs.Constants.{polynomials}

@@ -4,7 +4,8 @@ use Rattle.std.proofs.Common.{◌≡◌, ℕ, zero, suc, ◌↔◌, ◌⊎◌, i
 use Rattle.std.proofs.lemmas.Int.{ints}
 use Rattle.ring_theory.specs.Ring.{TestedRing, CommRing, IsField}
 use Rattle.ring_theory.specs.Subsets.{Colon}
-use Rattle.ring_theory.proofs.Polynomials.{Pol, pol_ring}
+use Rattle.ring_theory.specs.Polynomials.{Pol}
+use Rattle.ring_theory.proofs.Polynomials.{pol_ring}
 use Rattle.linear_theory.specs.Fields.{domain_of}
 use Rattle.linear_theory.specs.Module.{Module}
 use Rattle.linear_theory.specs.Basis.{IsBasis, IsNull}

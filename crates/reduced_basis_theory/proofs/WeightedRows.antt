@@ -7,7 +7,8 @@ use Rattle.ring_theory.specs.Ring.{TestedRing, IsField}
 use Rattle.ring_theory.specs.Lists.{coeff_of}
 use Rattle.ring_theory.specs.Rows.{Row, row_add, row_scale, entry}
 use Rattle.ring_theory.proofs.Ring.{field_domain, domain_cancel, mul_left_comm, mul_zero}
-use Rattle.ring_theory.proofs.Polynomials.{Pol, pol_ring, coeff_past, coeff_top}
+use Rattle.ring_theory.specs.Polynomials.{Pol}
+use Rattle.ring_theory.proofs.Polynomials.{pol_ring, coeff_past, coeff_top}
 use Rattle.popov_theory.specs.Module.{PolynomialModule, measure, pivot, row_degree}
 use Rattle.popov_theory.specs.Span.{combine, row_at}
 use Rattle.popov_theory.specs.Popov.{IsWeakPopov}

@@ -3,7 +3,7 @@
 use Rattle.std.specs.Prelude.{◌≡◌, ◌↔◌, ℤ, pos, ◌+ℤ◌, ◌-ℤ◌}
 use Rattle.ring_theory.specs.Ring.{Operations, TestedRing}
 use Rattle.ring_theory.specs.Subsets.{Colon}
-use Rattle.ring_theory.proofs.Polynomials.{Pol}
+use Rattle.ring_theory.specs.Polynomials.{Pol}
 use Rattle.linear_theory.specs.Module.{ModuleOps, IsLinear}
 use Rattle.reduced_basis_theory.specs.Dual.{AreFractions, IsForm, DualLattice, DualFamily}
 

@@ -9,7 +9,8 @@
 
 ghost use Rattle.std.specs.Prelude.{◌≡◌, ℕ, suc, ◌+◌, ◌*◌, ◌<◌, ℤ, pos, ◌+ℤ◌, ◌-ℤ◌, ◌≤ℤ◌, ◌<ℤ◌, List, length, ◌↔◌};
 ghost use Rattle.ring_theory.specs.Ring.{CommRing, TestedRing, IsField};
-ghost use Rattle.ring_theory.proofs.Polynomials.{Pol, pol_ring};
+ghost use Rattle.ring_theory.specs.Polynomials.{Pol};
+ghost use Rattle.ring_theory.proofs.Polynomials.{pol_ring};
 ghost use Rattle.linear_theory.specs.Fields.{Field};
 ghost use Rattle.linear_theory.specs.Module.{Module, combine};
 ghost use Rattle.linear_theory.specs.Basis.{IsBasis, IsNull, IsSubspace, IsSum};

@@ -2,17 +2,14 @@
 use Rattle.std.proofs.Common.{◌≡◌, ℕ, zero, suc, ◌-◌, ◌<◌, ◌≤◌, List, [], ◌∷◌, length, ◌⊎◌, refl, sym, ap, ap₂, ◌∙◌, arith, subst, inl, inr, eq-or-lt_of_le}
 use Rattle.std.proofs.lemmas.Bool.{cases_lt}
 use Rattle.std.proofs.lemmas.List.{length-replicate}
+use Rattle.ring_theory.specs.Division.{IsDivision}
 use Rattle.ring_theory.specs.Ring.{Operations, TestedRing, IsDomain}
 use Rattle.ring_theory.specs.Lists.{coeff_of, convolution, IsTrimmed, scale_list, digit_of, rest_from, quotient_from}
 use Rattle.ring_theory.proofs.Ring.{zero_add, mul_zero, neg_mul, mul_neg, neg_zero, add_sub, cross, eq_of_sub}
 use Rattle.ring_theory.proofs.Sequences.{convolution_null_left}
 use Rattle.ring_theory.proofs.Lists.{coeff_add, coeff_scale, coeff_append_zeros, length_add_lists, length_scale_list}
-use Rattle.ring_theory.proofs.Polynomials.{Pol, pol_ops, pol_ring, same_pol, series_add, series_neg, length_mul, coeff_past, coeff_top}
-
--- a is b times q and the rest, which is shorter than b
-pub record IsDivision {A : Type 0} (r : TestedRing A) (a b q rest : Pol r) : Type 0 where
-  pub whole : a ≡ (pol_ring r).◌⊕◌ ((pol_ring r).◌⊗◌ b q) rest
-  pub shorter : length rest.0 < length b.0
+use Rattle.ring_theory.specs.Polynomials.{Pol, pol_ops}
+use Rattle.ring_theory.proofs.Polynomials.{pol_ring, same_pol, series_add, series_neg, length_mul, coeff_past, coeff_top}
 
 module _ {A : Type 0} (r : TestedRing A) where
   abbrev s : TestedRing (Pol r)

@@ -5,8 +5,10 @@ use Rattle.ring_theory.specs.Lists.{coeff_of, tail_of, add_lists, scale_list, mu
 use Rattle.ring_theory.proofs.Ring.{zero_add, one_mul, mul_zero, zero_mul}
 use Rattle.ring_theory.proofs.Sequences.{convolution_constant_left}
 use Rattle.ring_theory.proofs.Lists.{coeff_trim}
-use Rattle.ring_theory.proofs.Polynomials.{Pol, pol_of, pol_ops, pol_ring, same_pol, series_add, series_mul}
-use Rattle.ring_theory.proofs.RowMaps.{IsHom, hom_zero}
+use Rattle.ring_theory.specs.Polynomials.{Pol, pol_of, pol_ops, constant}
+use Rattle.ring_theory.proofs.Polynomials.{pol_ring, same_pol, series_add, series_mul}
+use Rattle.ring_theory.specs.Maps.{IsHom}
+use Rattle.ring_theory.proofs.RowMaps.{hom_zero}
 use Rattle.ring_theory.proofs.Solver.{ring, reads}
 
 pub length_trim : {A : Type 0} (z : A → Bool) (xs : List A) → length (trim z xs) ≤ length xs
@@ -31,36 +33,33 @@ hom_after R S T f g h k = record {
 }
 
 module _ {A : Type 0} (r : TestedRing A) where
-  abbrev pub constant : A → Pol r
-  constant a = pol_of r (a ∷ [])
-
-  constant_first : (a : A) → coeff_of r.ops (constant a).0 zero ≡ a
+  constant_first : (a : A) → coeff_of r.ops (constant r a).0 zero ≡ a
   constant_first a = coeff_trim r (a ∷ []) zero
 
-  constant_rest : (a : A) (n : ℕ) → coeff_of r.ops (constant a).0 (suc n) ≡ r.𝟘
+  constant_rest : (a : A) (n : ℕ) → coeff_of r.ops (constant r a).0 (suc n) ≡ r.𝟘
   constant_rest a n = coeff_trim r (a ∷ []) (suc n)
 
-  pub constant_hom : IsHom r.ring (pol_ring r).ring constant
+  pub constant_hom : IsHom r.ring (pol_ring r).ring (constant r)
   unfolding pol_ops
   constant_hom = record {
-    add = λ a b. sym (same_pol r _ _ (λ n. series_add r (constant a) (constant b) n ∙ sums a b n));
+    add = λ a b. sym (same_pol r _ _ (λ n. series_add r (constant r a) (constant r b) n ∙ sums a b n));
     mul = λ a b. sym (same_pol r _ _ (λ n.
-        series_mul r (constant a) (constant b) n
-        ∙ convolution_constant_left r.ring (coeff_of r.ops (constant a).0) (coeff_of r.ops (constant b).0) (constant_rest a) n
+        series_mul r (constant r a) (constant r b) n
+        ∙ convolution_constant_left r.ring (coeff_of r.ops (constant r a).0) (coeff_of r.ops (constant r b).0) (constant_rest a) n
         ∙ products a b n));
     𝟙 = refl;
   }
     where
       sums : (a b : A) (n : ℕ)
-          → r.◌⊕◌ (coeff_of r.ops (constant a).0 n) (coeff_of r.ops (constant b).0 n) ≡ coeff_of r.ops (constant (r.◌⊕◌ a b)).0 n
+          → r.◌⊕◌ (coeff_of r.ops (constant r a).0 n) (coeff_of r.ops (constant r b).0 n) ≡ coeff_of r.ops (constant r (r.◌⊕◌ a b)).0 n
       sums a b zero = ap₂ r.◌⊕◌ (constant_first a) (constant_first b) ∙ sym (constant_first (r.◌⊕◌ a b))
       sums a b (suc n) = ap₂ r.◌⊕◌ (constant_rest a n) (constant_rest b n) ∙ r.add_zero r.𝟘 ∙ sym (constant_rest (r.◌⊕◌ a b) n)
 
       products : (a b : A) (n : ℕ)
-          → r.◌⊗◌ (coeff_of r.ops (constant a).0 zero) (coeff_of r.ops (constant b).0 n) ≡ coeff_of r.ops (constant (r.◌⊗◌ a b)).0 n
+          → r.◌⊗◌ (coeff_of r.ops (constant r a).0 zero) (coeff_of r.ops (constant r b).0 n) ≡ coeff_of r.ops (constant r (r.◌⊗◌ a b)).0 n
       products a b zero = ap₂ r.◌⊗◌ (constant_first a) (constant_first b) ∙ sym (constant_first (r.◌⊗◌ a b))
       products a b (suc n) =
-          ap (r.◌⊗◌ (coeff_of r.ops (constant a).0 zero)) (constant_rest b n) ∙ mul_zero r.ring _ ∙ sym (constant_rest (r.◌⊗◌ a b) n)
+          ap (r.◌⊗◌ (coeff_of r.ops (constant r a).0 zero)) (constant_rest b n) ∙ mul_zero r.ring _ ∙ sym (constant_rest (r.◌⊗◌ a b) n)
 
   -- the polynomial x, and a list as its first coefficient plus x times the rest
   abbrev pub x_pol : Pol r
@@ -75,11 +74,11 @@ module _ {A : Type 0} (r : TestedRing A) where
   x_rest : (n : ℕ) → coeff_of r.ops x_pol.0 (suc (suc n)) ≡ r.𝟘
   x_rest n = coeff_trim r (r.𝟘 ∷ r.𝟙 ∷ []) (suc (suc n))
 
-  pub pol_cons : (c : A) (w : List A) → pol_of r (c ∷ w) ≡ (pol_ring r).◌⊕◌ (constant c) ((pol_ring r).◌⊗◌ x_pol (pol_of r w))
+  pub pol_cons : (c : A) (w : List A) → pol_of r (c ∷ w) ≡ (pol_ring r).◌⊕◌ (constant r c) ((pol_ring r).◌⊗◌ x_pol (pol_of r w))
   pol_cons c w =
-      same_pol r _ _ (λ n. coeff_trim r (c ∷ w) n ∙ sym (series_add r (constant c) ((pol_ring r).◌⊗◌ x_pol (pol_of r w)) n ∙ go n))
+      same_pol r _ _ (λ n. coeff_trim r (c ∷ w) n ∙ sym (series_add r (constant r c) ((pol_ring r).◌⊗◌ x_pol (pol_of r w)) n ∙ go n))
     where
-      go : (n : ℕ) → r.◌⊕◌ (coeff_of r.ops (constant c).0 n) (coeff_of r.ops ((pol_ring r).◌⊗◌ x_pol (pol_of r w)).0 n) ≡ coeff_of r.ops (c ∷ w) n
+      go : (n : ℕ) → r.◌⊕◌ (coeff_of r.ops (constant r c).0 n) (coeff_of r.ops ((pol_ring r).◌⊗◌ x_pol (pol_of r w)).0 n) ≡ coeff_of r.ops (c ∷ w) n
       go zero =
           ap₂ r.◌⊕◌ (constant_first c)
           (series_mul r x_pol (pol_of r w) zero ∙ ap (λ a. r.◌⊗◌ a (coeff_of r.ops (pol_of r w).0 zero)) x_first ∙ zero_mul r.ring _)

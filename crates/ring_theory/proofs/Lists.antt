@@ -1,21 +1,9 @@
 -- The coefficients of what the operations on lists make; lists without a zero on top.
 use Rattle.std.proofs.Common.{◌≡◌, ℕ, zero, suc, ◌<◌, ◌≤◌, Bool, true, false, cond, List, [], ◌∷◌, ◌++◌, length, get_or, replicate, refl, sym, ap, ap₂, ◌∙◌, arith}
 use Rattle.ring_theory.specs.Ring.{Operations, TestedRing}
-use Rattle.ring_theory.specs.Lists.{coeff_of, convolution, add_lists, scale_list, neg_list, mul_lists, mul_onto, trim_onto, trim, IsTrimmed}
+use Rattle.ring_theory.specs.Lists.{IsTrimmed_trim, coeff_of, convolution, add_lists, scale_list, neg_list, mul_lists, mul_onto, trim_onto, trim, IsTrimmed}
 use Rattle.ring_theory.proofs.Ring.{zero_add, mul_zero, neg_zero}
 use Rattle.ring_theory.proofs.Sequences.{convolution_null_left}
-
-pub IsTrimmed_trim_onto : {A : Type 0} (z : A → Bool) (x : A) (xs : List A) → IsTrimmed z xs → IsTrimmed z (trim_onto z x xs)
-IsTrimmed_trim_onto z x [] t = go (z x) refl
-  where
-    go : (b : Bool) → z x ≡ b → IsTrimmed z (cond b [] (x ∷ []))
-    go true e = tt
-    go false e = e
-IsTrimmed_trim_onto z x (y ∷ ys) t = t
-
-pub IsTrimmed_trim : {A : Type 0} (z : A → Bool) (xs : List A) → IsTrimmed z (trim z xs)
-IsTrimmed_trim z [] = tt
-IsTrimmed_trim z (x ∷ xs) = IsTrimmed_trim_onto z x (trim z xs) (IsTrimmed_trim z xs)
 
 pub IsTrimmed_tail : {A : Type 0} (z : A → Bool) (x : A) (xs : List A) → IsTrimmed z (x ∷ xs) → IsTrimmed z xs
 IsTrimmed_tail z x [] t = tt

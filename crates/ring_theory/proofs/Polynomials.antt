@@ -5,35 +5,16 @@ use mathlib.Core.List.{is_set as list_set}
 use mathlib.Core.Bool.{Bool-set}
 use mathlib.Core.Path.{fun_ext}
 use Rattle.ring_theory.specs.Ring.{Operations, TestedRing, IsDomain}
-use Rattle.ring_theory.specs.Lists.{coeff_of, convolution, add_lists, neg_list, mul_lists, trim, IsTrimmed}
+use Rattle.ring_theory.specs.Polynomials.{Pol, pol_of, is_empty, pol_ops}
+use Rattle.ring_theory.specs.Lists.{coeff_of, convolution, add_lists, neg_list, mul_lists, trim, IsTrimmed, IsTrimmed_trim}
 use Rattle.ring_theory.proofs.Ring.{one_mul, mul_zero, product_not_zero}
 use Rattle.ring_theory.proofs.Sequences.{convolution_comm, convolution_assoc, convolution_constant_left, convolution_past, convolution_top, convolution_add_right}
-use Rattle.ring_theory.proofs.Lists.{IsTrimmed_trim, IsTrimmed_tail, coeff_add, coeff_neg, coeff_mul, coeff_trim, all_zero_empty, same_from_coeffs}
+use Rattle.ring_theory.proofs.Lists.{IsTrimmed_tail, coeff_add, coeff_neg, coeff_mul, coeff_trim, all_zero_empty, same_from_coeffs}
 
 pub IsTrimmed_prop : {A : Type 0} (z : A → Bool) (xs : List A) → IsProp (IsTrimmed z xs)
 IsTrimmed_prop z [] = Unit-prop
 IsTrimmed_prop z (x ∷ []) = Bool-set (z x) false
 IsTrimmed_prop z (x ∷ y ∷ ys) = IsTrimmed_prop z (y ∷ ys)
-
--- a polynomial
-abbrev pub Pol : {A : Type 0} → TestedRing A → Type 0
-Pol {A = A} r = (xs : List A) × IsTrimmed r.is_zero xs
-
-abbrev pub pol_of : {A : Type 0} (r : TestedRing A) → List A → Pol r
-pol_of r xs = (trim r.is_zero xs, IsTrimmed_trim r.is_zero xs)
-
-abbrev pub is_empty : {A : Type 0} → List A → Bool
-is_empty [] = true
-is_empty (x ∷ xs) = false
-
-unfoldable pub pol_ops : {A : Type 0} (r : TestedRing A) → Operations (Pol r)
-pol_ops r = record {
-  𝟘 = ([], tt);
-  𝟙 = pol_of r (r.𝟙 ∷ []);
-  ◌⊕◌ = λ a b. pol_of r (add_lists r.ops a.0 b.0);
-  ⊖◌ = λ a. pol_of r (neg_list r.ops a.0);
-  ◌⊗◌ = λ a b. pol_of r (mul_lists r.ops a.0 b.0);
-}
 
 module _ {A : Type 0} (r : TestedRing A) where
   -- the coefficients of a polynomial

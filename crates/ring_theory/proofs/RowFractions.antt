@@ -5,42 +5,13 @@ use mathlib.Core.Quot.{sound, ind}
 use mathlib.Core.HLevel.{Π_prop}
 use mathlib.Core.Logic.{Dec-prop}
 use Rattle.ring_theory.specs.Ring.{CommRing, IsDomain}
-use Rattle.ring_theory.specs.Rows.{Row, row_add, row_neg, row_scale}
+use Rattle.ring_theory.specs.Rows.{Row, row_add, row_neg, row_scale, row_one, row_mul}
+use Rattle.ring_theory.specs.RowFractions.{RowPair, SamePair, den_row, IsDenominator, to_fraction, pair_of}
 use Rattle.ring_theory.specs.Fractions.{Denominators, Fraction, Same}
 use Rattle.ring_theory.proofs.Ring.{domain_cancel, product_not_zero}
-use Rattle.ring_theory.proofs.Rows.{pair_path, row_one, row_mul, row_ring, row_mul_comm, row_mul_one, row_scale_one, row_scale_zero, row_scale_scale, row_scale_comm, scale_row_mul}
+use Rattle.ring_theory.proofs.Rows.{pair_path, row_ring, row_mul_comm, row_mul_one, row_scale_one, row_scale_zero, row_scale_scale, row_scale_comm, scale_row_mul}
 use Rattle.ring_theory.proofs.Quotient.{class_eq}
 use Rattle.ring_theory.proofs.Fractions.{fractions, Fractions, fraction_ring, embed}
-
-module _ {P : Type 0} (S : CommRing P) (n : ℕ) where
-  -- a row over a denominator
-  pub record RowPair : Type 0 where
-    pub num : Row P (suc n)
-    pub den : P
-    pub den_not_zero : ¬ (den ≡ S.𝟘)
-
-  -- (v, d) and (v', d') are the same where d'·v is d·v'
-  abbrev pub SamePair : RowPair → RowPair → Type 0
-  SamePair z w = row_scale S.ops (suc n) w.den z.num ≡ row_scale S.ops (suc n) z.den w.num
-
-  -- a denominator as a row
-  abbrev pub den_row : P → Row P (suc n)
-  den_row d = row_scale S.ops (suc n) d (row_one S n)
-
-  pub record IsDenominator (v : Row P (suc n)) : Type 0 where
-    pub den : P
-    pub not_zero : ¬ (den ≡ S.𝟘)
-    pub is : v ≡ den_row den
-
-  abbrev pub to_fraction : RowPair → Fraction IsDenominator
-  to_fraction z = record {
-    num = z.num;
-    den = den_row z.den;
-    den_in = record { den = z.den; not_zero = z.den_not_zero; is = refl };
-  }
-
-  abbrev pub pair_of : Fraction IsDenominator → RowPair
-  pair_of p = record { num = p.num; den = p.den_in.den; den_not_zero = p.den_in.not_zero }
 
 module _ {P : Type 0} (S : CommRing P) (domain : IsDomain S.ops) where
   row_cancel : (n : ℕ) (d : P) (v w : Row P n) → ¬ (d ≡ S.𝟘) → row_scale S.ops n d v ≡ row_scale S.ops n d w → v ≡ w

@@ -1,16 +1,12 @@
 -- A map of the polynomials and a root of f, with denominators that go to units, give a map of all rows over denominators.
 use Rattle.std.proofs.Common.{◌≡◌, ℕ, zero, suc, refl, sym, ◌∙◌, ap, ap₂}
 use mathlib.Core.HLevel.{Π_prop}
+use Rattle.ring_theory.specs.Maps.{IsHom}
 use Rattle.ring_theory.specs.Ring.{CommRing, IsDomain, pow}
-use Rattle.ring_theory.specs.Rows.{Row, row_zero, row_add, row_scale, shift, top, times_y, row_times}
+use Rattle.ring_theory.specs.Rows.{Row, row_zero, row_add, row_scale, shift, top, times_y, row_times, row_mul}
 use Rattle.ring_theory.proofs.Ring.{zero_add, mul_zero, mul_neg, neg_neg, add_cancel_left, product_not_zero, ring_rules, mul_rules}
-use Rattle.ring_theory.proofs.Rows.{row_mul}
-use Rattle.ring_theory.proofs.RowFractions.{RowPair, SamePair, Function, function_ring, pair_function, from_pairs, each_pair, add_pairs, mul_pairs, pair_add, pair_mul}
-
-pub record IsHom {P E : Type 0} (S : CommRing P) (F : CommRing E) (map : P → E) : Type 0 where
-  pub add : (a b : P) → map (S.◌⊕◌ a b) ≡ F.◌⊕◌ (map a) (map b)
-  pub mul : (a b : P) → map (S.◌⊗◌ a b) ≡ F.◌⊗◌ (map a) (map b)
-  pub 𝟙 : map S.𝟙 ≡ F.𝟙
+use Rattle.ring_theory.specs.RowFractions.{RowPair, SamePair}
+use Rattle.ring_theory.proofs.RowFractions.{Function, function_ring, pair_function, from_pairs, each_pair, add_pairs, mul_pairs, pair_add, pair_mul}
 
 module _ {E : Type 0} (F : CommRing E) where
   open F use {𝟘, 𝟙, ◌⊕◌, ◌⊗◌, ⊖◌}

@@ -1,7 +1,7 @@
 -- The rows modulo f are a commutative ring.
 use Rattle.std.proofs.Common.{◌≡◌, ℕ, zero, suc, ◌≤◌, refl, sym, ◌∙◌, ap, ap₂, le_of_suc-le-suc, le_refl, arith}
 use Rattle.ring_theory.specs.Ring.{CommRing}
-use Rattle.ring_theory.specs.Rows.{Row, row_zero, row_add, row_neg, row_scale, shift, top, times_y, row_times, entry, diagonal_sum, row_trace, y_to}
+use Rattle.ring_theory.specs.Rows.{row_one, row_mul, Row, row_zero, row_add, row_neg, row_scale, shift, top, times_y, row_times, entry, diagonal_sum, row_trace, y_to}
 use Rattle.ring_theory.proofs.Ring.{neg_sum, neg_zero, mul_zero, mul_neg, add_mul}
 
 pub pair_path : {A B : Type 0} {a a' : A} {b b' : B} → a ≡ a' → b ≡ b' → ◌≡◌ {A = A × B} (a, b) (a', b')
@@ -195,9 +195,6 @@ module _ {P : Type 0} (S : CommRing P) where
   top_pad zero (suc m) c (a, v) h = absurd (omega arith)
   top_pad (suc n) (suc m) c (a, v) h = top_pad n m a v (le_of_suc-le-suc h)
 
-  unfoldable pub row_one : (n : ℕ) → Row P (suc n)
-  row_one n = (S.𝟙, row_zero S.ops n)
-
 module _ {P : Type 0} (S : CommRing P) (n : ℕ) (f : Row P (suc n)) where
   times_y_pad : (m : ℕ) (v : Row P m) → m ≤ n → times_y S.ops (suc n) f (pad S (suc n) m v) ≡ (S.𝟘, pad S n m v)
   unfolding times_y
@@ -221,28 +218,25 @@ module _ {P : Type 0} (S : CommRing P) (n : ℕ) (f : Row P (suc n)) where
       ∙ ap (row_add S.ops (suc n) (row_scale S.ops (suc n) a (row_one S n))) (times_y_pad m v (le_of_suc-le-suc h))
       ∙ scale_one_add a (pad S n m v)
 
-  unfoldable pub row_mul : Row P (suc n) → Row P (suc n) → Row P (suc n)
-  row_mul v w = row_times S.ops (suc n) (suc n) f v w
-
-  pub row_mul_one : (v : Row P (suc n)) → row_mul v (row_one S n) ≡ v
+  pub row_mul_one : (v : Row P (suc n)) → row_mul S n f v (row_one S n) ≡ v
   unfolding row_mul
   row_mul_one v = times_one_pad (suc n) v (le_refl (suc n)) ∙ pad_self S (suc n) v
 
-  pub row_mul_swap : (v u w : Row P (suc n)) → row_mul v (row_mul u w) ≡ row_mul u (row_mul v w)
+  pub row_mul_swap : (v u w : Row P (suc n)) → row_mul S n f v (row_mul S n f u w) ≡ row_mul S n f u (row_mul S n f v w)
   unfolding row_mul
   row_mul_swap v u w = times_swap S (suc n) f (suc n) (suc n) v u w
 
-  pub row_mul_comm : (v w : Row P (suc n)) → row_mul v w ≡ row_mul w v
-  row_mul_comm v w = ap (row_mul v) (sym (row_mul_one w)) ∙ row_mul_swap v w (row_one S n) ∙ ap (row_mul w) (row_mul_one v)
+  pub row_mul_comm : (v w : Row P (suc n)) → row_mul S n f v w ≡ row_mul S n f w v
+  row_mul_comm v w = ap (row_mul S n f v) (sym (row_mul_one w)) ∙ row_mul_swap v w (row_one S n) ∙ ap (row_mul S n f w) (row_mul_one v)
 
-  pub row_mul_assoc : (v w u : Row P (suc n)) → row_mul (row_mul v w) u ≡ row_mul v (row_mul w u)
-  row_mul_assoc v w u = row_mul_comm (row_mul v w) u ∙ row_mul_swap u v w ∙ ap (row_mul v) (row_mul_comm u w)
+  pub row_mul_assoc : (v w u : Row P (suc n)) → row_mul S n f (row_mul S n f v w) u ≡ row_mul S n f v (row_mul S n f w u)
+  row_mul_assoc v w u = row_mul_comm (row_mul S n f v w) u ∙ row_mul_swap u v w ∙ ap (row_mul S n f v) (row_mul_comm u w)
 
-  pub row_mul_add : (v w u : Row P (suc n)) → row_mul v (row_add S.ops (suc n) w u) ≡ row_add S.ops (suc n) (row_mul v w) (row_mul v u)
+  pub row_mul_add : (v w u : Row P (suc n)) → row_mul S n f v (row_add S.ops (suc n) w u) ≡ row_add S.ops (suc n) (row_mul S n f v w) (row_mul S n f v u)
   unfolding row_mul
   row_mul_add v w u = times_add S (suc n) f (suc n) v w u
 
-  pub scale_row_mul : (d : P) (v w : Row P (suc n)) → row_scale S.ops (suc n) d (row_mul v w) ≡ row_mul (row_scale S.ops (suc n) d v) w
+  pub scale_row_mul : (d : P) (v w : Row P (suc n)) → row_scale S.ops (suc n) d (row_mul S n f v w) ≡ row_mul S n f (row_scale S.ops (suc n) d v) w
   unfolding row_mul
   scale_row_mul d v w = sym (scale_times S (suc n) f (suc n) d v w)
 
@@ -254,7 +248,7 @@ module _ {P : Type 0} (S : CommRing P) (n : ℕ) (f : Row P (suc n)) where
       𝟙 = row_one S n;
       ◌⊕◌ = row_add S.ops (suc n);
       ⊖◌ = row_neg S.ops (suc n);
-      ◌⊗◌ = row_mul;
+      ◌⊗◌ = row_mul S n f;
     };
     is_set = row_set S (suc n);
     add_assoc = row_add_assoc S (suc n);

@@ -1,5 +1,5 @@
 -- Lists of coefficients over a ring, lowest first, and their operations; sequences, multiplied as power series.
-use Rattle.std.specs.Prelude.{◌≡◌, ℕ, zero, suc, ◌-◌, Bool, false, cond, List, [], ◌∷◌, length, get_or, replicate}
+use Rattle.std.specs.Prelude.{◌≡◌, ℕ, zero, suc, ◌-◌, Bool, true, false, cond, refl, List, [], ◌∷◌, length, get_or, replicate}
 use Rattle.ring_theory.specs.Ring.{Operations}
 
 abbrev pub tail_of : {A : Type 0} → (ℕ → A) → ℕ → A
@@ -51,6 +51,19 @@ abbrev pub IsTrimmed : {A : Type 0} → (A → Bool) → List A → Type 0
 IsTrimmed z [] = Unit {0}
 IsTrimmed z (x ∷ []) = z x ≡ false
 IsTrimmed z (x ∷ y ∷ ys) = IsTrimmed z (y ∷ ys)
+
+-- trimmed, a list has none
+IsTrimmed_trim_onto : {A : Type 0} (z : A → Bool) (x : A) (xs : List A) → IsTrimmed z xs → IsTrimmed z (trim_onto z x xs)
+IsTrimmed_trim_onto z x [] t = go (z x) refl
+  where
+    go : (b : Bool) → z x ≡ b → IsTrimmed z (cond b [] (x ∷ []))
+    go true e = tt
+    go false e = e
+IsTrimmed_trim_onto z x (y ∷ ys) t = t
+
+pub IsTrimmed_trim : {A : Type 0} (z : A → Bool) (xs : List A) → IsTrimmed z (trim z xs)
+IsTrimmed_trim z [] = tt
+IsTrimmed_trim z (x ∷ xs) = IsTrimmed_trim_onto z x (trim z xs) (IsTrimmed_trim z xs)
 
 -- how the loop divides: from the top, a multiple of b is taken away at each position
 

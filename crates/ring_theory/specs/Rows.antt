@@ -1,6 +1,6 @@
 -- Rows of n elements: the coefficients of 1, y, up to y^(n-1), with the product of polynomials in y modulo f.
 use Rattle.std.specs.Prelude.{ℕ, zero, suc}
-use Rattle.ring_theory.specs.Ring.{Operations}
+use Rattle.ring_theory.specs.Ring.{Operations, CommRing}
 
 abbrev pub Row : Type 0 → ℕ → Type 0
 Row P zero = Unit {0}
@@ -61,3 +61,13 @@ module _ {P : Type 0} (S : Operations P) where
   -- the trace of multiplication by v on 1, y, up to y^n
   unfoldable pub row_trace : (n : ℕ) → Row P (suc n) → Row P (suc n) → P
   row_trace n f v = diagonal_sum n (suc n) f v
+
+module _ {P : Type 0} (S : CommRing P) where
+  -- 1
+  unfoldable pub row_one : (n : ℕ) → Row P (suc n)
+  row_one n = (S.𝟙, row_zero S.ops n)
+
+module _ {P : Type 0} (S : CommRing P) (n : ℕ) (f : Row P (suc n)) where
+  -- the product modulo y^(n+1) plus the row f
+  unfoldable pub row_mul : Row P (suc n) → Row P (suc n) → Row P (suc n)
+  row_mul v w = row_times S.ops (suc n) (suc n) f v w

@@ -2,7 +2,8 @@
 use Rattle.std.proofs.Common.{◌≡◌, ◌∙◌, List, [], ◌∷◌, refl, sym, ap, subst}
 use Rattle.ring_theory.specs.Subsets.{Span}
 use Rattle.ring_theory.specs.Lists.{coeff_of}
-use Rattle.ring_theory.proofs.Evaluate.{constant, length_trim}
+use Rattle.ring_theory.specs.Polynomials.{constant}
+use Rattle.ring_theory.proofs.Evaluate.{length_trim}
 use Rattle.linear_theory.specs.Module.{combine}
 use Rattle.linear_theory.specs.Basis.{IsNull, IsBasis as IsBasisOver}
 use Rattle.ff_fields.specs.Field.{CodeField}

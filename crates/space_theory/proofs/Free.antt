@@ -3,7 +3,8 @@ use Rattle.std.proofs.Common.{◌≡◌, ℕ, ◌<◌, List, [], ◌∷◌, leng
 use Rattle.std.proofs.lemmas.List.Elements.{All-weaker}
 use Rattle.ring_theory.specs.Ring.{TestedRing, IsField}
 use Rattle.ring_theory.proofs.Solver.{reads}
-use Rattle.ring_theory.proofs.Polynomials.{Pol, pol_ring}
+use Rattle.ring_theory.specs.Polynomials.{Pol}
+use Rattle.ring_theory.proofs.Polynomials.{pol_ring}
 use Rattle.linear_theory.specs.Module.{Module, combine}
 use Rattle.linear_theory.specs.Basis.{IsCombination, IsNull}
 use Rattle.linear_theory.proofs.Lists.{entry, omit, remove, length_remove}

@@ -2,7 +2,7 @@
 use Rattle.std.proofs.Common.{◌≡◌, ℕ, zero, suc, ℤ, pos, negsuc, [], ◌∷◌, sym, ◌∙◌, ap, ap₂}
 use Rattle.ring_theory.specs.Ring.{pow}
 use Rattle.ring_theory.proofs.Ring.{one_mul}
-use Rattle.ring_theory.proofs.Polynomials.{pol_of}
+use Rattle.ring_theory.specs.Polynomials.{pol_of}
 use Rattle.ff_fields.specs.Field.{CodeField}
 use Rattle.ff_fields.specs.Code.{code_ring, same_code, zero_in, read_code, read_code_below}
 use Rattle.ff_poly.specs.Polynomials.{polynomials, x_poly, x_poly_not_zero}

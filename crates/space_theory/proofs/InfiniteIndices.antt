@@ -4,7 +4,8 @@ use Rattle.std.proofs.lemmas.List.{length-append}
 use Rattle.ring_theory.specs.Subsets.{IsModule}
 use Rattle.ring_theory.proofs.Ring.{one_mul}
 use Rattle.ring_theory.proofs.Subsets.{span_module}
-use Rattle.ring_theory.proofs.Evaluate.{constant, length_trim}
+use Rattle.ring_theory.specs.Polynomials.{constant}
+use Rattle.ring_theory.proofs.Evaluate.{length_trim}
 use Rattle.prime_theory.specs.Ideals.{SameSet}
 use Rattle.linear_theory.specs.Fields.{domain_of}
 use Rattle.linear_theory.specs.Basis.{IsSubspace}

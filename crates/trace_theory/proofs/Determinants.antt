@@ -7,7 +7,8 @@ use Rattle.ring_theory.specs.Determinant.{determinant, minor, with_row}
 use Rattle.ring_theory.proofs.Ring.{zero_add, one_mul, mul_zero, zero_mul, add_cancel_left}
 use Rattle.ring_theory.proofs.Sums.{below_cong, below_first, below_zero, below_single, below_scale, below_swap}
 use Rattle.ring_theory.proofs.Solver.{ring, reads}
-use Rattle.ring_theory.proofs.RowMaps.{IsHom, hom_zero, hom_neg}
+use Rattle.ring_theory.specs.Maps.{IsHom}
+use Rattle.ring_theory.proofs.RowMaps.{hom_zero, hom_neg}
 use Rattle.ring_theory.proofs.Determinant.{determinant_product}
 use Rattle.ring_theory.proofs.Cramer.{determinant_linear}
 

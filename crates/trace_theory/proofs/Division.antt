@@ -4,7 +4,8 @@ use Rattle.std.proofs.Common.{◌≡◌, ◌<◌, ◌≤◌, ◌-◌, inr, [], �
 use Rattle.ring_theory.specs.Lists.{coeff_of, convolution, rest_from, quotient_from}
 use Rattle.ring_theory.proofs.Sequences.{convolution_comm}
 use Rattle.ring_theory.proofs.Lists.{coeff_trim}
-use Rattle.ring_theory.proofs.Polynomials.{pol_of, same_pol, series_add, series_mul, coeff_top, length_product}
+use Rattle.ring_theory.specs.Polynomials.{pol_of}
+use Rattle.ring_theory.proofs.Polynomials.{same_pol, series_add, series_mul, coeff_top, length_product}
 use Rattle.ring_theory.proofs.Division.{divided, rest_ends, length_bound}
 use Rattle.linear_theory.specs.Euclidean.{Euclidean}
 use Rattle.ff_fields.specs.Field.{CodeField}

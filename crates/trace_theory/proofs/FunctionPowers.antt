@@ -4,8 +4,9 @@ use Rattle.ring_theory.specs.Ring.{CommRing, pow}
 use Rattle.ring_theory.specs.Rows.{Row, row_zero, row_scale}
 use Rattle.ring_theory.proofs.Ring.{pow_one, pow_mul, product_not_zero}
 use Rattle.ring_theory.proofs.Rows.{row_scale_one, row_scale_zero}
-use Rattle.ring_theory.proofs.RowMaps.{IsHom}
-use Rattle.ring_theory.proofs.Evaluate.{constant, constant_hom, hom_after}
+use Rattle.ring_theory.specs.Maps.{IsHom}
+use Rattle.ring_theory.specs.Polynomials.{constant}
+use Rattle.ring_theory.proofs.Evaluate.{constant_hom, hom_after}
 use Rattle.ff_fields.specs.Field.{CodeField}
 use Rattle.ff_fields.specs.Code.{code_ring}
 use Rattle.ff_poly.specs.Polynomials.{Polynomial, polynomials_domain, polynomial_discrete}

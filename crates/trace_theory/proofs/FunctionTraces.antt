@@ -2,9 +2,9 @@
 use Rattle.std.proofs.Common.{◌≡◌, ℕ, zero, suc, refl, sym, ◌∙◌, ap, ap₂}
 use Rattle.ring_theory.specs.Ring.{CommRing, pow, nat}
 use Rattle.ring_theory.specs.Sums.{sum_below}
-use Rattle.ring_theory.specs.Rows.{Row, row_scale, y_to}
+use Rattle.ring_theory.specs.Rows.{Row, row_scale, y_to, row_one}
 use Rattle.ring_theory.proofs.Ring.{one_mul}
-use Rattle.ring_theory.proofs.Rows.{pair_path, row_one, row_scale_zero, scale_row_mul}
+use Rattle.ring_theory.proofs.Rows.{pair_path, row_scale_zero, scale_row_mul}
 use Rattle.ring_theory.proofs.RowFractions.{pair_add, pair_mul, whole_pair}
 use Rattle.ff_fields.specs.Field.{CodeField}
 use Rattle.ff_poly.specs.Polynomials.{Polynomial, polynomials, polynomials_domain}

@@ -8,7 +8,8 @@ use Rattle.ring_theory.specs.Subsets.{IsSubring}
 use Rattle.ring_theory.specs.Integral.{IsIntegral}
 use Rattle.ring_theory.proofs.Ring.{one_mul, zero_mul, mul_zero, mul_left_comm, product_not_zero}
 use Rattle.ring_theory.proofs.Sums.{below_scale, below_cong, below_first}
-use Rattle.ring_theory.proofs.RowMaps.{IsHom, eval, eval_none, eval_cons}
+use Rattle.ring_theory.specs.Maps.{IsHom}
+use Rattle.ring_theory.proofs.RowMaps.{eval, eval_none, eval_cons}
 use Rattle.ring_theory.proofs.Local.{power_in}
 use Rattle.ring_theory.proofs.Solver.{ring, reads, from_one}
 use Rattle.ring_theory.proofs.Polynomials.{length_product}

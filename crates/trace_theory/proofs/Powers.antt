@@ -2,11 +2,13 @@
 use Rattle.std.proofs.Common.{◌≡◌, ℕ, suc, ◌-◌, ◌≤◌, inl, inr, List, [], ◌∷◌, length, All, refl, sym, ◌∙◌, ap, arith}
 use Rattle.std.proofs.lemmas.List.Elements.{All-nil, All-cons}
 use Rattle.ring_theory.specs.Ring.{CommRing, pow}
-use Rattle.ring_theory.specs.Rows.{Row, row_zero, row_add}
-use Rattle.ring_theory.proofs.Finite.{In, IsDistinct}
-use Rattle.ring_theory.proofs.Rows.{pair_path, row_one, row_add_zero}
-use Rattle.ring_theory.proofs.RowMaps.{IsHom, hom_zero}
-use Rattle.ring_theory.proofs.Evaluate.{constant, constant_hom, hom_after}
+use Rattle.ring_theory.specs.Rows.{Row, row_zero, row_add, row_one}
+use Rattle.ring_theory.specs.Members.{In, IsDistinct}
+use Rattle.ring_theory.proofs.Rows.{pair_path, row_add_zero}
+use Rattle.ring_theory.specs.Maps.{IsHom}
+use Rattle.ring_theory.proofs.RowMaps.{hom_zero}
+use Rattle.ring_theory.specs.Polynomials.{constant}
+use Rattle.ring_theory.proofs.Evaluate.{constant_hom, hom_after}
 use Rattle.linear_theory.specs.Fields.{Domain}
 use Rattle.linear_theory.specs.Distinct.{Distinct}
 use Rattle.linear_theory.proofs.Frobenius.{frobenius}

@@ -8,7 +8,8 @@ use Rattle.ring_theory.specs.Determinant.{determinant}
 use Rattle.ring_theory.proofs.Ring.{one_mul, zero_mul, zero_add, add_mul, mul_left_comm, pow_add, mul_mul, mul_pow, pow_one_base}
 use Rattle.ring_theory.proofs.Sums.{below_cong, below_scale_right}
 use Rattle.ring_theory.proofs.Solver.{ring, reads, from_two}
-use Rattle.ring_theory.proofs.RowMaps.{IsHom, hom_zero, hom_neg}
+use Rattle.ring_theory.specs.Maps.{IsHom}
+use Rattle.ring_theory.proofs.RowMaps.{hom_zero, hom_neg}
 use Rattle.trace_theory.proofs.RowMatrix.{y, tr, at, at_scale, entry_add, unit_row, entry_here, entry_other, y_unit, y_product, trace_is, matrix}
 use Rattle.trace_theory.proofs.Determinants.{product_below, determinant_cong, determinant_weights, image_determinant, image_sum}
 use Rattle.trace_theory.proofs.RowForm.{gram, disc}

@@ -9,7 +9,8 @@ use Rattle.ring_theory.specs.Congruence.{IsCongruent, Represents}
 use Rattle.ring_theory.proofs.Ring.{cross, mul_zero, neg_zero}
 use Rattle.ring_theory.proofs.Sequences.{convolution_comm}
 use Rattle.ring_theory.proofs.Lists.{coeff_trim}
-use Rattle.ring_theory.proofs.Polynomials.{Pol, pol_of, pol_ops, pol_ring, pol_set, pol_domain, same_pol, series_add, series_mul}
+use Rattle.ring_theory.specs.Polynomials.{Pol, pol_of, pol_ops}
+use Rattle.ring_theory.proofs.Polynomials.{pol_ring, pol_set, pol_domain, same_pol, series_add, series_mul}
 use Rattle.ring_theory.proofs.Division.{divided, rest_ends, length_bound, length_add, length_neg, short_multiple}
 use Rattle.ring_theory.proofs.Congruence.{congruent_sym, represented_ring}
 
