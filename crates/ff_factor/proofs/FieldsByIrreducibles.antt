@@ -22,6 +22,7 @@ use Rattle.ff_factor.specs.QuotientLaws.{modulus_length, short_eq, same_by, prod
 use Rattle.polynomial_theory.proofs.Lengths.{zero_length}
 use Rattle.polynomial_theory.proofs.Division.{euclidean}
 use Rattle.polynomial_theory.proofs.Irreducible.{irreducible}
+use Rattle.polynomial_theory.proofs.Divisors.{some_value, divisor_of_divides}
 
 -- an answer to one question answers an equivalent one
 pub answer_as : {E : Type 0} {P Q : Type 0} (r : Result Bool E) → IfOk r (λ t. IsTrue t ↔ P) → (P ↔ Q) → IfOk r (λ t. IsTrue t ↔ Q)
@@ -46,7 +47,7 @@ module _ (k : CodeField) where
     modulus_null a = record { times = a; differs = sym (zero_add S (G ⊗ a)) }
 
     modulus_some : ¬ (G ≡ 𝟘)
-    modulus_some = some_value g h.over (monic_poly k g h.monic) (let l = h.not_constant in omega arith)
+    modulus_some = some_value k g h.over (monic_poly k g h.monic) (let l = h.not_constant in omega arith)
 
     no_divisor : IsFieldAlgebra k.ops (quotient_algebra g) → (b : List ℕ) → IsOver k.ops b → IsMonic b → 2 ≤ length b → length b < length g → ¬ Divides k.ops b g
     no_divisor F b b_in b_monic b_long b_short d = none
@@ -58,10 +59,10 @@ module _ (k : CodeField) where
         Q = value k d.quotient
 
         whole : G ≡ B ⊗ Q
-        whole = divisor_of_divides b g b_in d
+        whole = divisor_of_divides k b g b_in d
 
         b_some : ¬ (B ≡ 𝟘)
-        b_some = some_value b b_in (monic_poly k b b_monic) (omega arith)
+        b_some = some_value k b b_in (monic_poly k b b_monic) (omega arith)
 
         q_some : ¬ (Q ≡ 𝟘)
         q_some z = modulus_some (whole ∙ ap (λ w. B ⊗ w) z ∙ mul_zero S B)

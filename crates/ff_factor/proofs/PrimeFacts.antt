@@ -31,9 +31,9 @@ use Rattle.ff_factor.specs.Primes.{IsPrimeAt}
 use Rattle.ff_factor.specs.QuotientLaws.{quotient_laws, value_product_modulo, value_quotient_unit}
 use Rattle.polynomial_theory.proofs.ListValues.{length_value, monic_poly, monic_top}
 use Rattle.polynomial_theory.proofs.Lengths.{product_longer}
-use Rattle.polynomial_theory.proofs.Divisors.{divisor_of_divides, some_value, divides_of_divisor}
 use Rattle.ff_factor.proofs.PrimeIdeals.{At, at_maximal, at_nilpotent}
 use Rattle.ff_factor.proofs.VectorClasses.{V, ring_of_vectors, primitive_vector, vector_of, vector_of_is, vector_hom, onto, same_classes}
+use Rattle.polynomial_theory.proofs.Divisors.{some_value, divisor_of_divides, divides_of_divisor, divisor_refl, divisor_length}
 
 idempotent_less : {A : Type 0} (R : CommRing A) (x : A) → R.◌⊗◌ x x ≡ x → R.◌⊗◌ (R.◌⊕◌ x (R.⊖◌ R.𝟙)) x ≡ R.𝟘
 idempotent_less R x i = from_one R R.𝟙 i (ring R (x ∷ []) λ q y. simp (reads, q, y 0) (q.equal _ _ refl))

@@ -36,10 +36,11 @@ use Rattle.ff_factor.specs.Quotients.{IsModulus, product_modulo, quotient_algebr
 use Rattle.ff_factor.specs.Primes.{IsPrimeAt, IsHighPower}
 use Rattle.ff_factor.specs.QuotientLaws.{quotient_laws}
 use Rattle.polynomial_theory.proofs.ListValues.{length_value, monic_poly}
-use Rattle.polynomial_theory.proofs.Division.{Divided, divide}
-use Rattle.polynomial_theory.proofs.Divisors.{divisor_of_divides, some_value}
+use Rattle.polynomial_theory.specs.Division.{Divided}
+use Rattle.polynomial_theory.proofs.Division.{divide}
 use Rattle.polynomial_theory.proofs.Irreducible.{made_monic}
 use Rattle.ff_factor.proofs.VectorClasses.{primitive_vector, nilpotent_vector, evaluate_monic, evaluate_power, V, ring_of_vectors, same_classes, vector_of, vector_of_is, vector_hom, onto, product_vector, vector_power, vector_value}
+use Rattle.polynomial_theory.proofs.Divisors.{some_value, divisor_of_divides, divides_of_divisor}
 
 idempotent_power : {A : Type 0} (R : CommRing A) (e : A) → R.◌⊗◌ e e ≡ e → (n : ℕ) → 0 < n → pow R.ops e n ≡ e
 idempotent_power R e idem zero some = absurd (omega arith)

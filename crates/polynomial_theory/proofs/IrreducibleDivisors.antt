@@ -1,5 +1,5 @@
 -- Each polynomial that isn't constant has an irreducible divisor, and irreducible polynomials that divide each other are the same.
-use Rattle.std.proofs.Common.{◌≡◌, ℕ, zero, suc, ◌+◌, ◌<◌, ◌≤◌, ◌⊎◌, inl, inr, List, [], ◌∷◌, ◌++◌, length, refl, sym, ap, ◌∙◌, subst, arith}
+use Rattle.std.proofs.Common.{◌≡◌, ℕ, zero, suc, ◌-◌, ◌<◌, ◌≤◌, ◌⊎◌, inl, inr, List, [], ◌∷◌, ◌++◌, length, refl, sym, ap, ◌∙◌, subst, arith}
 use Rattle.std.proofs.lemmas.List.{length-map, length_push}
 use Rattle.ring_theory.proofs.Finite.{In}
 use Rattle.ring_theory.specs.Ring.{CommRing}
@@ -16,14 +16,14 @@ use Rattle.ff_poly.specs.Value.{value}
 use Rattle.ff_poly.specs.Polynomials.{Polynomial, polynomials}
 use Rattle.polynomial_theory.proofs.ListValues.{length_value, monic_poly}
 use Rattle.polynomial_theory.proofs.Division.{euclidean}
-use Rattle.polynomial_theory.proofs.Irreducible.{made_monic, irreducible_list}
+use Rattle.polynomial_theory.proofs.Irreducible.{MadeMonic, made_monic, irreducible_list}
 use Rattle.polynomial_theory.proofs.Divisors.{some_value, divisor_of_divides, monic_unique}
 use Rattle.polynomial_theory.proofs.CodeFields.{code_finite}
 
 -- whether some member of a list has a property
 some_in : {A : Type 0} (P : A → Type 0) → ((a : A) → Dec (P a)) → (xs : List A) → Dec ((a : A) × In a xs × P a)
-some_in P decide [] = no (λ s. s.1)
-some_in P decide (x ∷ xs) = go (decide x) (some_in P decide xs)
+some_in {A = A} P decide [] = no (λ s. s.1)
+some_in {A = A} P decide (x ∷ xs) = go (decide x) (some_in P decide xs)
   where
     go : Dec (P x) → Dec ((a : A) × In a xs × P a) → Dec ((a : A) × In a (x ∷ xs) × P a)
     go (yes h) rest = yes (x, inl refl, h)
@@ -112,7 +112,7 @@ module _ (k : CodeField) where
               none (
                 read k low,
                 let a = length-map (read k low) (λ x. x.0) in let b = ap length (numbers_read k low low_in) in let c = ap length m.monic.1 in
-                let e = length_push low 1 in let f = m.size in omega arith,
+                    let e = length_push low 1 in let f = m.size in omega arith,
                 subst (λ b. IsDivisor R.ops (value k b) d) (sym same) m.divides,
               )
             where
@@ -185,6 +185,7 @@ module _ (k : CodeField) where
         divides = divides;
       }
         where
+          m : MadeMonic k d
           m = made_monic k d some
 
           divides : IsDivisor R.ops (value k m.codes) d
