@@ -12,7 +12,7 @@ use Rattle.ff_fields.specs.Field.{CodeField}
 use Rattle.ff_poly.specs.Words.{IsIrreducible}
 use Rattle.ff_poly.specs.Polynomials.{Polynomial, codes_of}
 use Rattle.function_field.specs.Functions.{Equation, FunctionOf, ring_of, of_poly}
-use Rattle.trace_theory.proofs.Irreducible.{irreducible_some}
+use Rattle.polynomial_theory.proofs.Irreducible.{irreducible_some}
 use Rattle.lattice_theory.specs.Lattices.{HasIndex}
 use Rattle.lattice_theory.proofs.Bases.{index_same}
 use Rattle.lattice_theory.proofs.Indices.{index_once, index_zero}

@@ -22,7 +22,7 @@ use Rattle.function_field.specs.Functions.{Equation, FunctionOf, ring_of, of_pol
 use Rattle.function_field.specs.Values.{PresValue, Functions, functions, setting, equation_of}
 use Rattle.function_field.proofs.OnSide.{of_poly_times}
 use Rattle.function_field.proofs.ScalarRings.{polynomials_subring}
-use Rattle.places_theory.proofs.AtInfinity.{x_power_not_zero}
+use Rattle.polynomial_theory.proofs.Lengths.{x_power_not_zero}
 use Rattle.places_theory.proofs.YRoot.{poly_hom, at_y_plain}
 use Rattle.trace_theory.specs.Traces.{HasPolynomialCoordinates}
 use Rattle.trace_theory.proofs.IntegralLaw.{eval_sum}

@@ -19,13 +19,13 @@ use Rattle.ff_poly.proofs.PowerRests.{IsOver_one, IsOver_power_of, value_power}
 use Rattle.ff_falg.specs.Algebras.{IsPrimitive}
 use Rattle.ff_falg.specs.Idempotents.{IsPrimitiveList}
 use Rattle.ff_factor.specs.Factors.{IsFactorisation, AreAscending, polys_of, product_of_parts}
-use Rattle.ff_factor.specs.ListValues.{length_value, value_scale_list}
+use Rattle.polynomial_theory.proofs.ListValues.{length_value, value_scale_list}
 use Rattle.ff_factor.specs.Primes.{IsPrimeAt}
 use Rattle.ff_factor.specs.Pulls.{ArePrimesOf, IsPrimeList, IsSplitOff, value_of_parts}
 use Rattle.ff_factor.specs.Quotients.{IsModulus, quotient_algebra}
-use Rattle.ff_factor.proofs.FieldsByIrreducibles.{some_value}
-use Rattle.ff_factor.proofs.Irreducible.{unit_length}
-use Rattle.ff_factor.proofs.PrimeFacts.{generates, prime_irreducible, prime_divides_modulus, primes_different, monic_unique, divisor_refl, rest_unit}
+use Rattle.polynomial_theory.proofs.Divisors.{some_value, monic_unique, divisor_refl}
+use Rattle.polynomial_theory.proofs.Irreducible.{unit_length}
+use Rattle.ff_factor.proofs.PrimeFacts.{generates, prime_irreducible, prime_divides_modulus, primes_different, rest_unit}
 use Rattle.ff_factor.proofs.PullSteps.{positive}
 use Rattle.ff_factor.proofs.SplitSteps.{all_of_in}
 

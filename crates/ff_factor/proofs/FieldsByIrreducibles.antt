@@ -17,27 +17,17 @@ use Rattle.ff_poly.specs.Value.{value, numbers_value, value_product}
 use Rattle.ff_poly.specs.Polynomials.{Polynomial, polynomials, value_not_zero, codes_of}
 use Rattle.ff_falg.specs.Algebras.{IsVector, IsFieldAlgebra}
 use Rattle.ff_factor.specs.Quotients.{IsModulus, product_modulo, quotient_algebra}
-use Rattle.ff_factor.specs.ListValues.{length_value, monic_poly}
+use Rattle.polynomial_theory.proofs.ListValues.{length_value, monic_poly}
 use Rattle.ff_factor.specs.QuotientLaws.{modulus_length, short_eq, same_by, product_in, value_product_modulo, value_quotient_unit, quotient_laws, zero_class, stands_for}
-use Rattle.ff_factor.proofs.Lengths.{zero_length}
-use Rattle.ff_factor.proofs.Division.{euclidean}
-use Rattle.ff_factor.proofs.Irreducible.{irreducible}
+use Rattle.polynomial_theory.proofs.Lengths.{zero_length}
+use Rattle.polynomial_theory.proofs.Division.{euclidean}
+use Rattle.polynomial_theory.proofs.Irreducible.{irreducible}
+use Rattle.polynomial_theory.proofs.Divisors.{some_value, divisor_of_divides}
 
 -- an answer to one question answers an equivalent one
 pub answer_as : {E : Type 0} {P Q : Type 0} (r : Result Bool E) → IfOk r (λ t. IsTrue t ↔ P) → (P ↔ Q) → IfOk r (λ t. IsTrue t ↔ Q)
 answer_as (Ok t) h e = (λ x. e.0 (h.0 x), λ q. h.1 (e.1 q))
 answer_as (Err e) h pq = tt
-
--- a list that ends in 1 is monic
-pub monic_of_top : (g : List ℕ) → 0 < length g → top_of g ≡ 1 → IsMonic g
-monic_of_top g some e =
-    let n = length g - 1 in
-    (take n g, sym (take_all (n + 1) g (omega arith)) ∙ take_more g n 0 (omega arith) ∙ ap (λ a. take n g ++ a ∷ []) e)
-
-pub top_of_monic : (g : List ℕ) → IsMonic g → top_of g ≡ 1
-top_of_monic g m =
-    ap₂ (λ xs n. get_or xs n 0) m.1 (ap (λ n. n - 1) (ap length m.1 ∙ length_push m.0 1) ∙ let e : length m.0 + 1 - 1 ≡ length m.0 = omega arith in e)
-    ∙ get_or_push m.0 1 0 (length m.0) refl
 
 module _ (k : CodeField) where
   infixl 65 ◌⊕◌
@@ -48,13 +38,6 @@ module _ (k : CodeField) where
   abbrev S : CommRing (Polynomial k)
   S = (polynomials k).ring
 
-  pub some_value : (d : List ℕ) → IsOver k.ops d → IsPoly d → 0 < length d → ¬ (value k d ≡ 𝟘)
-  some_value d d_in d_poly some = value_not_zero k d d_in d_poly (λ e. let l = ap length e in absurd (omega arith))
-
-  -- what divides as a list divides in k[x]
-  pub divisor_of_divides : (b a : List ℕ) → IsOver k.ops b → (d : Divides k.ops b a) → value k a ≡ value k b ⊗ value k d.quotient
-  divisor_of_divides b a b_in d = ap (value k) d.product ∙ value_product k b d.quotient b_in d.quotient_in
-
   module _ (g : List ℕ) (h : IsModulus k.ops g) where
     abbrev G : Polynomial k
     G = value k g
@@ -64,7 +47,7 @@ module _ (k : CodeField) where
     modulus_null a = record { times = a; differs = sym (zero_add S (G ⊗ a)) }
 
     modulus_some : ¬ (G ≡ 𝟘)
-    modulus_some = some_value g h.over (monic_poly k g h.monic) (let l = h.not_constant in omega arith)
+    modulus_some = some_value k g h.over (monic_poly k g h.monic) (let l = h.not_constant in omega arith)
 
     no_divisor : IsFieldAlgebra k.ops (quotient_algebra g) → (b : List ℕ) → IsOver k.ops b → IsMonic b → 2 ≤ length b → length b < length g → ¬ Divides k.ops b g
     no_divisor F b b_in b_monic b_long b_short d = none
@@ -76,10 +59,10 @@ module _ (k : CodeField) where
         Q = value k d.quotient
 
         whole : G ≡ B ⊗ Q
-        whole = divisor_of_divides b g b_in d
+        whole = divisor_of_divides k b g b_in d
 
         b_some : ¬ (B ≡ 𝟘)
-        b_some = some_value b b_in (monic_poly k b b_monic) (omega arith)
+        b_some = some_value k b b_in (monic_poly k b b_monic) (omega arith)
 
         q_some : ¬ (Q ≡ 𝟘)
         q_some z = modulus_some (whole ∙ ap (λ w. B ⊗ w) z ∙ mul_zero S B)

@@ -12,7 +12,7 @@ use Rattle.ff_poly.specs.PowerWords.{IsRest, power_of}
 use Rattle.ff_poly.specs.Value.{value}
 use Rattle.ff_poly.specs.Polynomials.{Polynomial, polynomials, x_poly}
 use Rattle.ff_poly.proofs.PowerRests.{value_power, rest_congruent}
-use Rattle.ff_factor.specs.ListValues.{value_padded}
+use Rattle.polynomial_theory.proofs.ListValues.{value_padded}
 use Rattle.ff_factor.specs.Primes.{IsHighPower}
 
 congruent_pow : {A : Type 0} (s : CommRing A) (m x y : A) (n : ℕ) → IsCongruent s.ops m x y → IsCongruent s.ops m (pow s.ops x n) (pow s.ops y n)

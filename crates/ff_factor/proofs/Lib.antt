@@ -1,7 +1,4 @@
 pub mod QuotientSteps
-pub mod Lengths
-pub mod Division
-pub mod Irreducible
 pub mod FieldsByIrreducibles
 pub mod VectorClasses
 pub mod PowerBounds

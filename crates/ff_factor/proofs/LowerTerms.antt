@@ -17,14 +17,14 @@ use Rattle.ff_poly.specs.Polynomials.{Polynomial, polynomials, constant_poly, va
 use Rattle.ff_poly.proofs.Parts.{IsPoly_multiple_of, IsMonic_multiple, value_multiple}
 use Rattle.ff_factor.specs.Factors.{FactorsValue, IsFactorisation, polys_of, product_of_parts}
 use Rattle.ff_factor.specs.LowestTerms.{IsInLowestTermsOf}
-use Rattle.ff_factor.specs.ListValues.{length_value}
+use Rattle.polynomial_theory.proofs.ListValues.{length_value}
 use Rattle.ff_factor.specs.Pulls.{value_of_parts}
 use Rattle.ff_factor.specs.Reductions.{values, DividesAll, AreQuotients, IsFree, AreReduced, AreLowerAt, ArePrimes}
 use Rattle.ff_factor.proofs.CommonFactors.{times, times_one, times_times, times_swap, divides_members, divides_times}
 use Rattle.ff_factor.proofs.ValueLists.{same_values, same_products, values_multiples, over_multiples, poly_multiples}
 use Rattle.ff_factor.proofs.Factorisations.{parts_over, parts_value, code_inverts}
 use Rattle.ff_factor.proofs.LowestTerms.{IsPrime, least_denominator}
-use Rattle.ff_factor.proofs.PrimeFacts.{divisor_length}
+use Rattle.polynomial_theory.proofs.Divisors.{divisor_length}
 use Rattle.ff_factor.proofs.PullSteps.{positive, list_some, exact, not_divisor}
 use Rattle.ff_factor.proofs.SplitSteps.{in_of_all, of_push, polys_push}
 

@@ -15,10 +15,10 @@ use Rattle.ff_poly.specs.Words.{IsIrreducible}
 use Rattle.ff_poly.specs.Value.{value, numbers_value}
 use Rattle.ff_poly.specs.Polynomials.{Polynomial, polynomials, polynomials_domain, codes_of}
 use Rattle.ff_factor.specs.Factors.{polys_of}
-use Rattle.ff_factor.specs.ListValues.{monic_poly, length_value}
+use Rattle.polynomial_theory.proofs.ListValues.{monic_poly, length_value}
 use Rattle.ff_factor.specs.Pulls.{value_of_parts}
-use Rattle.ff_factor.proofs.Division.{euclidean}
-use Rattle.ff_factor.proofs.Irreducible.{irreducible, prime, decide_divides}
+use Rattle.polynomial_theory.proofs.Division.{euclidean}
+use Rattle.polynomial_theory.proofs.Irreducible.{irreducible, prime, decide_divides}
 
 module _ (k : CodeField) where
   infixl 65 ◌⊕◌

@@ -14,16 +14,15 @@ use Rattle.ff_poly.specs.Words.{IsIrreducible}
 use Rattle.ff_poly.specs.Value.{value}
 use Rattle.ff_poly.specs.Polynomials.{Polynomial, polynomials, constant_poly}
 use Rattle.ff_factor.specs.Factors.{FactorsValue, IsFactorisation, IsBefore, AreAscending, polys_of}
-use Rattle.ff_factor.specs.ListValues.{length_value, monic_poly, same_lists}
+use Rattle.polynomial_theory.proofs.ListValues.{length_value, monic_poly, same_lists}
 use Rattle.ff_factor.specs.Pulls.{value_of_parts}
-use Rattle.ff_factor.proofs.Division.{euclidean}
+use Rattle.polynomial_theory.proofs.Division.{euclidean}
 use Rattle.ff_factor.proofs.Factorisations.{code_inverts}
-use Rattle.ff_factor.proofs.FieldsByIrreducibles.{some_value}
-use Rattle.ff_factor.proofs.Irreducible.{irreducible, prime}
+use Rattle.polynomial_theory.proofs.Divisors.{some_value, monic_unique}
+use Rattle.polynomial_theory.proofs.Irreducible.{irreducible, prime}
 use Rattle.ff_factor.proofs.LowestTerms.{IsPrime, of_codes, prime_or_unit}
 use Rattle.ff_factor.proofs.LowerTerms.{den_parts}
 use Rattle.ff_factor.proofs.Orders.{before_trans, before_irreflexive}
-use Rattle.ff_factor.proofs.PrimeFacts.{monic_unique}
 use Rattle.ff_factor.proofs.SplitSteps.{in_of_all, of_parts}
 
 -- ascending lists with the same members are equal

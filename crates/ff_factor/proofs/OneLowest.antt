@@ -9,12 +9,12 @@ use Rattle.ff_poly.specs.Words.{IsPoly, IsMonic}
 use Rattle.ff_poly.specs.Value.{value, same_from_value}
 use Rattle.ff_poly.specs.Polynomials.{Polynomial, polynomials, numbers_discrete, codes_of, value_nil, value_codes_of, IsOver_codes_of, IsPoly_codes_of}
 use Rattle.ff_factor.specs.LowestTerms.{IsInLowestTermsOf}
-use Rattle.ff_factor.specs.ListValues.{monic_poly}
+use Rattle.polynomial_theory.proofs.ListValues.{monic_poly}
 use Rattle.ff_factor.specs.Reductions.{values}
 use Rattle.ff_factor.proofs.CommonFactors.{times, times_cancel, cross_same, gaps, gaps_same}
 use Rattle.ff_factor.proofs.ValueLists.{same_values, same_products, values_same, values_codes, over_codes}
 use Rattle.ff_factor.proofs.LowestTerms.{cancel}
-use Rattle.ff_factor.proofs.PrimeFacts.{monic_gap}
+use Rattle.polynomial_theory.proofs.Divisors.{monic_gap}
 use Rattle.ff_factor.proofs.PullSteps.{list_some}
 
 monic_long : (d : List ℕ) → IsMonic d → 0 < length d

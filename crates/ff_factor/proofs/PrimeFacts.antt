@@ -29,11 +29,11 @@ use Rattle.ff_falg.proofs.VectorAlgebra.{scalar, vector_algebra}
 use Rattle.ff_factor.specs.Quotients.{IsModulus, product_modulo, quotient_algebra}
 use Rattle.ff_factor.specs.Primes.{IsPrimeAt}
 use Rattle.ff_factor.specs.QuotientLaws.{quotient_laws, value_product_modulo, value_quotient_unit}
-use Rattle.ff_factor.specs.ListValues.{length_value, monic_poly, monic_top}
-use Rattle.ff_factor.proofs.Division.{product_longer}
-use Rattle.ff_factor.proofs.FieldsByIrreducibles.{divisor_of_divides, some_value}
-use Rattle.ff_factor.proofs.PrimeIdeals.{At, at_maximal, at_nilpotent, divides_of_divisor}
+use Rattle.polynomial_theory.proofs.ListValues.{length_value, monic_poly, monic_top}
+use Rattle.polynomial_theory.proofs.Lengths.{product_longer}
+use Rattle.ff_factor.proofs.PrimeIdeals.{At, at_maximal, at_nilpotent}
 use Rattle.ff_factor.proofs.VectorClasses.{V, ring_of_vectors, primitive_vector, vector_of, vector_of_is, vector_hom, onto, same_classes}
+use Rattle.polynomial_theory.proofs.Divisors.{some_value, divisor_of_divides, divides_of_divisor, divisor_refl, divisor_length}
 
 idempotent_less : {A : Type 0} (R : CommRing A) (x : A) → R.◌⊗◌ x x ≡ x → R.◌⊗◌ (R.◌⊕◌ x (R.⊖◌ R.𝟙)) x ≡ R.𝟘
 idempotent_less R x i = from_one R R.𝟙 i (ring R (x ∷ []) λ q y. simp (reads, q, y 0) (q.equal _ _ refl))
@@ -46,95 +46,6 @@ module _ (k : CodeField) where
 
   abbrev P : CommRing (Polynomial k)
   P = (polynomials k).ring
-
-  pub divisor_refl : (a : Polynomial k) → IsDivisor P.ops a a
-  divisor_refl a = (𝟙, sym (P.mul_one a))
-
-  pub divisor_length : (a b : Polynomial k) → ¬ (b ≡ 𝟘) → IsDivisor P.ops a b → length a.0 ≤ length b.0
-  divisor_length a b b_some d =
-      let a_some : ¬ (a ≡ 𝟘) = λ z. b_some (d.1 ∙ ap (λ x. x ⊗ d.0) z ∙ zero_mul P d.0) in
-      let c_some : ¬ (d.0 ≡ 𝟘) = λ z. b_some (d.1 ∙ ap (λ x. a ⊗ x) z ∙ mul_zero P a) in
-      subst (λ w. length a.0 ≤ length w.0) (sym d.1) (product_longer k a d.0 a_some c_some)
-
-  -- the difference of two monic lists of one length is shorter
-  pub monic_gap : (p q : List ℕ) → IsOver k.ops p → IsOver k.ops q → IsMonic p → IsMonic q → length q ≡ length p
-      → length (value k q ⊕ ⊖ value k p).0 ≤ length p - 1
-  monic_gap p q p_in q_in p_monic q_monic same =
-      length_bound (code_ring k) gap.0 (length p - 1) gap.1 (λ i le.
-      series_add (code_ring k) (value k q) (⊖ value k p) i
-      ∙ ap (λ w. (code_ring k).◌⊕◌ (coeff_of (code_ring k).ops (value k q).0 i) w) (series_neg (code_ring k) (value k p) i)
-      ∙ go i (split i le))
-    where
-      gap : Polynomial k
-      gap = value k q ⊕ ⊖ value k p
-
-      p_long : 0 < length p
-      p_long = let l = ap length p_monic.1 in let m = length_push p_monic.0 1 in omega arith
-
-      p_size : length (value k p).0 ≡ length p
-      p_size = length_value k p p_in (monic_poly k p p_monic)
-
-      q_size : length (value k q).0 ≡ length q
-      q_size = length_value k q q_in (monic_poly k q q_monic)
-
-      split : (i : ℕ) → length p - 1 ≤ i → (i ≡ length p - 1) ⊎ (length p ≤ i)
-      split i le = let l = p_long in grind arith
-
-      go : (i : ℕ) → (i ≡ length p - 1) ⊎ (length p ≤ i)
-          → (code_ring k).◌⊕◌ (coeff_of (code_ring k).ops (value k q).0 i) ((code_ring k).⊖◌ (coeff_of (code_ring k).ops (value k p).0 i)) ≡ (code_ring k).𝟘
-      go i (inl e) =
-          ap₂ (λ x y. (code_ring k).◌⊕◌ x ((code_ring k).⊖◌ y))
-          (ap (coeff_of (code_ring k).ops (value k q).0) (let s = same in let t = q_size in let f : i ≡ length (value k q).0 - 1 = omega arith in f) ∙ monic_top k q q_in q_monic)
-          (ap (coeff_of (code_ring k).ops (value k p).0) (let t = p_size in let f : i ≡ length (value k p).0 - 1 = omega arith in f) ∙ monic_top k p p_in p_monic)
-          ∙ (code_ring k).add_neg (code_ring k).𝟙
-      go i (inr l) =
-          ap₂ (λ x y. (code_ring k).◌⊕◌ x ((code_ring k).⊖◌ y))
-          (coeff_past (code_ring k) (value k q).0 i (let s = same in let t = q_size in omega arith)) (coeff_past (code_ring k) (value k p).0 i (let t = p_size in omega arith))
-          ∙ (code_ring k).add_neg (code_ring k).𝟘
-
-  -- monic lists that divide each other are the same
-  pub monic_unique : (p q : List ℕ) → IsOver k.ops p → IsOver k.ops q → IsMonic p → IsMonic q → IsDivisor P.ops (value k p) (value k q)
-      → IsDivisor P.ops (value k q) (value k p) → p ≡ q
-  monic_unique p q p_in q_in p_monic q_monic d e =
-      same_from_value k p q p_in q_in (monic_poly k p p_monic) (monic_poly k q q_monic) (sym (eq_of_sub P (value k q) (value k p) none))
-    where
-      p_long : 0 < length p
-      p_long = let l = ap length p_monic.1 in let m = length_push p_monic.0 1 in omega arith
-
-      q_long : 0 < length q
-      q_long = let l = ap length q_monic.1 in let m = length_push q_monic.0 1 in omega arith
-
-      p_size : length (value k p).0 ≡ length p
-      p_size = length_value k p p_in (monic_poly k p p_monic)
-
-      q_size : length (value k q).0 ≡ length q
-      q_size = length_value k q q_in (monic_poly k q q_monic)
-
-      same : length q ≡ length p
-      same =
-          let a = divisor_length (value k p) (value k q) (some_value k q q_in (monic_poly k q q_monic) q_long) d in
-          let b = divisor_length (value k q) (value k p) (some_value k p p_in (monic_poly k p p_monic) p_long) e in
-          omega (arith, p_size, q_size)
-
-      gap : Polynomial k
-      gap = value k q ⊕ ⊖ value k p
-
-      multiple : gap ≡ value k p ⊗ (d.0 ⊕ ⊖ 𝟙)
-      multiple = from_one P 𝟙 d.1 (step (value k q) (value k p) d.0)
-        where
-          step : (q p c : Polynomial k) → q ⊕ ⊖ p ⊕ ⊖ (p ⊗ (c ⊕ ⊖ 𝟙)) ≡ 𝟙 ⊗ (q ⊕ ⊖ (p ⊗ c))
-          step q p c = ring P (q ∷ p ∷ c ∷ []) λ x y. simp (reads, x, y 0, y 1, y 2) (x.equal _ _ refl)
-
-      short : length gap.0 ≤ length p - 1
-      short = monic_gap p q p_in q_in p_monic q_monic same
-
-      none : gap ≡ 𝟘
-      none =
-          multiple
-          ∙ ap (λ w. value k p ⊗ w)
-          (short_multiple (code_ring k) (code_domain k) (value k p) (d.0 ⊕ ⊖ 𝟙)
-          (subst (λ w. length w.0 < length (value k p).0) multiple (let s = short in let t = p_size in let l = p_long in omega arith)))
-          ∙ mul_zero P (value k p)
 
   module _ (g : List ℕ) (h : IsModulus k.ops g) where
     abbrev law : IsAlgebra k (quotient_algebra g)

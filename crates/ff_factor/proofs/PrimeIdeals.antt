@@ -35,29 +35,17 @@ use Rattle.ff_falg.proofs.VectorAlgebra.{scalar, scalar_map, scalars_in, vector_
 use Rattle.ff_factor.specs.Quotients.{IsModulus, product_modulo, quotient_algebra}
 use Rattle.ff_factor.specs.Primes.{IsPrimeAt, IsHighPower}
 use Rattle.ff_factor.specs.QuotientLaws.{quotient_laws}
-use Rattle.ff_factor.specs.ListValues.{length_value, monic_poly}
-use Rattle.ff_factor.proofs.Division.{Divided, divide}
-use Rattle.ff_factor.proofs.FieldsByIrreducibles.{divisor_of_divides, some_value}
-use Rattle.ff_factor.proofs.Irreducible.{made_monic}
+use Rattle.polynomial_theory.proofs.ListValues.{length_value, monic_poly}
+use Rattle.polynomial_theory.specs.Division.{Divided}
+use Rattle.polynomial_theory.proofs.Division.{divide}
+use Rattle.polynomial_theory.proofs.Irreducible.{made_monic}
 use Rattle.ff_factor.proofs.VectorClasses.{primitive_vector, nilpotent_vector, evaluate_monic, evaluate_power, V, ring_of_vectors, same_classes, vector_of, vector_of_is, vector_hom, onto, product_vector, vector_power, vector_value}
+use Rattle.polynomial_theory.proofs.Divisors.{some_value, divisor_of_divides, divides_of_divisor}
 
 idempotent_power : {A : Type 0} (R : CommRing A) (e : A) → R.◌⊗◌ e e ≡ e → (n : ℕ) → 0 < n → pow R.ops e n ≡ e
 idempotent_power R e idem zero some = absurd (omega arith)
 idempotent_power R e idem (suc zero) some = R.mul_one e
 idempotent_power R e idem (suc (suc n)) some = ap (R.◌⊗◌ e) (idempotent_power R e idem (suc n) (omega arith)) ∙ idem
-
-module _ (k : CodeField) where
-  -- what divides in k[x] divides as a list
-  pub divides_of_divisor : (b a : List ℕ) → IsOver k.ops b → IsOver k.ops a → IsPoly a → IsDivisor (polynomials k).ops (value k b) (value k a) → Divides k.ops b a
-  divides_of_divisor b a b_in a_in a_poly d = record {
-    quotient = codes_of k d.0;
-    quotient_in = IsOver_codes_of k d.0;
-    quotient_poly = IsPoly_codes_of k d.0;
-    product =
-        same_from_value k a (product_of k.ops b (codes_of k d.0)) a_in (IsOver_product_of k b_in (IsOver_codes_of k d.0)) a_poly
-        (IsPoly_poly_of (mul_lists (raw_ring k.ops) b (codes_of k d.0)))
-        (d.1 ∙ sym (value_product k b (codes_of k d.0) b_in (IsOver_codes_of k d.0) ∙ ap ((polynomials k).◌⊗◌ (value k b)) (value_codes_of k d.0)));
-  }
 
 module _ (k : CodeField) (g : List ℕ) (h : IsModulus k.ops g) (e : List ℕ) (primitive : IsPrimitive k.ops (quotient_algebra g) e) where
   infixl 65 ◌⊕◌

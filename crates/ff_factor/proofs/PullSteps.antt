@@ -13,10 +13,10 @@ use Rattle.ff_poly.specs.Words.{IsPoly, IsQuotient, product_of}
 use Rattle.ff_poly.specs.PolyOver.{IsOver_product_of}
 use Rattle.ff_poly.specs.Value.{value, value_sum, value_product}
 use Rattle.ff_poly.specs.Polynomials.{Polynomial, polynomials, value_nil}
-use Rattle.ff_factor.specs.ListValues.{length_value}
+use Rattle.polynomial_theory.proofs.ListValues.{length_value}
 use Rattle.ff_factor.specs.Pulls.{IsPulledOut}
-use Rattle.ff_factor.proofs.Lengths.{zero_length}
-use Rattle.ff_factor.proofs.FieldsByIrreducibles.{some_value}
+use Rattle.polynomial_theory.proofs.Lengths.{zero_length}
+use Rattle.polynomial_theory.proofs.Divisors.{some_value}
 
 -- what stands at each turn: g is p to the power count times the rest, which isn't 0
 pub record IsPulling (k : CodeField) (g p : List ℕ) (count : ℕ) (rest : List ℕ) : Type 0 where

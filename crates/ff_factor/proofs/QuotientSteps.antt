@@ -11,7 +11,7 @@ use Rattle.ff_poly.specs.Value.{value}
 use Rattle.ff_poly.specs.Polynomials.{polynomials}
 use Rattle.ff_falg.specs.Algebras.{IsVector}
 use Rattle.ff_factor.specs.Quotients.{IsModulus, times_x, product_modulo}
-use Rattle.ff_factor.specs.ListValues.{value_zeros}
+use Rattle.polynomial_theory.proofs.ListValues.{value_zeros}
 use Rattle.ff_factor.specs.QuotientLaws.{product_in, value_product_modulo, zero_class}
 
 -- a list that is turned by one position, whose first code is then made 0

@@ -12,10 +12,10 @@ use Rattle.ff_poly.specs.Words.{IsPoly, IsIrreducible}
 use Rattle.ff_poly.specs.Value.{value, numbers_value}
 use Rattle.ff_poly.specs.Polynomials.{Polynomial, polynomials, numbers_discrete, value_nil, codes_of}
 use Rattle.ff_factor.specs.Factors.{AreAscending, IsBefore, polys_of}
-use Rattle.ff_factor.specs.ListValues.{monic_poly}
+use Rattle.polynomial_theory.proofs.ListValues.{monic_poly}
 use Rattle.ff_factor.specs.Primes.{IsPrimeAt}
 use Rattle.ff_factor.specs.Pulls.{IsPulledOut, IsWith, ArePrimesOf, IsPrimeList, IsSplitOff, value_of_parts}
-use Rattle.ff_factor.proofs.Irreducible.{irreducible, prime}
+use Rattle.polynomial_theory.proofs.Irreducible.{irreducible, prime}
 use Rattle.ff_factor.proofs.Orders.{before_irreflexive}
 use Rattle.ff_factor.proofs.PullSteps.{list_some}
 

@@ -21,7 +21,7 @@ use Rattle.ff_falg.specs.Algebras.{AlgebraOps, IsAlgebra, IsPrimitive, IsNilpote
 use Rattle.ff_falg.proofs.Vectors.{Vector, vector_ring, same_vector, power_value}
 use Rattle.ff_falg.proofs.VectorAlgebra.{scalar, scalar_map, vector_algebra}
 use Rattle.ff_factor.specs.Quotients.{IsModulus, product_modulo, quotient_algebra}
-use Rattle.ff_factor.specs.ListValues.{value_add_lists, value_scale_list}
+use Rattle.polynomial_theory.proofs.ListValues.{value_add_lists, value_scale_list}
 use Rattle.ff_factor.specs.QuotientLaws.{quotient_laws, stands_for, same_class, product_in, value_product_modulo, value_quotient_unit}
 
 -- ---- lists and vectors of any algebra

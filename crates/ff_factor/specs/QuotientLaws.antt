@@ -18,7 +18,7 @@ use Rattle.ff_falg.specs.Algebras.{IsAlgebra, IsVector}
 use Rattle.ff_falg.proofs.Lists.{code_add_neg}
 use Rattle.ff_falg.proofs.Vectors.{zeros_in, sum_in, multiple_in}
 use Rattle.ff_factor.specs.Quotients.{IsModulus, times_x, product_modulo, quotient_algebra}
-use Rattle.ff_factor.specs.ListValues.{value_add_lists, value_scale_list, value_zeros, value_unit, value_up, value_padded, same_lists, value_short, length_value, monic_poly, monic_top}
+use Rattle.polynomial_theory.proofs.ListValues.{value_add_lists, value_scale_list, value_zeros, value_unit, value_up, value_padded, same_lists, value_short, length_value, monic_poly, monic_top}
 
 -- sums and multiples of lists to which a code is appended
 add_push : (k : CodeField) (u w : List ℕ) (a b : ℕ) → length u ≡ length w

@@ -1,6 +1,5 @@
 pub mod Lists
 pub mod Vectors
-pub mod CodeFields
 pub mod UnitRows
 pub mod VectorAlgebra
 pub mod RowSteps

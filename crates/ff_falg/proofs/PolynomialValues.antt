@@ -16,7 +16,7 @@ use Rattle.finite_algebra_theory.proofs.ByMap.{map_value, map_injective}
 use Rattle.ff_falg.specs.Algebras.{AlgebraOps, IsAlgebra}
 use Rattle.ff_falg.specs.Roots.{monic_value, quotient_of}
 use Rattle.ff_falg.specs.Splits.{weight_of}
-use Rattle.ff_falg.proofs.CodeFields.{code_finite}
+use Rattle.polynomial_theory.proofs.CodeFields.{code_finite}
 use Rattle.ff_falg.proofs.Vectors.{Vector, vector_ring, vector_discrete}
 use Rattle.ff_falg.proofs.VectorAlgebra.{scalar, scalar_map, one_not_zero, basis, basis_spans}
 

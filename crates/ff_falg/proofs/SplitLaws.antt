@@ -28,7 +28,7 @@ use Rattle.ff_falg.specs.Algebras.{AlgebraOps, IsAlgebra}
 use Rattle.ff_falg.specs.Relations.{IsPowers}
 use Rattle.ff_falg.specs.Roots.{quotient_of, IsRoots}
 use Rattle.ff_falg.specs.Splits.{weight_of, part_of}
-use Rattle.ff_falg.proofs.CodeFields.{code_finite}
+use Rattle.polynomial_theory.proofs.CodeFields.{code_finite}
 use Rattle.ff_falg.proofs.Pigeonhole.{at_most}
 use Rattle.ff_falg.proofs.PolynomialValues.{value_combination, suffix_read, weight_read, read_in, of_read, read_distinct, over_of_in, scalar_injective, value_scalar, suffix_scalar, root_scalar, scalar_root}
 use Rattle.ff_falg.proofs.PowerSpans.{powers_rows}

@@ -20,7 +20,7 @@ use Rattle.finite_algebra_theory.proofs.ByMap.{algebra, image_subring}
 use Rattle.finite_algebra_theory.proofs.Horner.{span_of_combination}
 use Rattle.ff_falg.specs.Algebras.{AlgebraOps, IsAlgebra, IsVector}
 use Rattle.ff_falg.proofs.Lists.{scale_one, scale_sum, scale_product}
-use Rattle.ff_falg.proofs.CodeFields.{code_finite, length_codes}
+use Rattle.polynomial_theory.proofs.CodeFields.{code_finite, length_codes}
 use Rattle.ff_falg.proofs.UnitRows.{unit_rows, unit_rows_in, length_unit_rows, combination_units}
 use Rattle.ff_falg.proofs.Vectors.{Vector, vector_ring, vector_discrete, same_vector, some_vector, multiple_in}
 

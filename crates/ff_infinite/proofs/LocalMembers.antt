@@ -21,7 +21,8 @@ use Rattle.function_field.proofs.OnSide.{den_inverse}
 use Rattle.function_field.proofs.SameValues.{row_over_num, row_over_den, monic_some, elem_den}
 use Rattle.function_field.proofs.ScalarRings.{polynomials_subring}
 use Rattle.places_theory.proofs.YRoot.{poly_hom, at_y, den_times, at_y_plain}
-use Rattle.places_theory.proofs.AtInfinity.{constant_zero, x_power_not_zero, x_power, at_codes, value_at_is}
+use Rattle.polynomial_theory.proofs.Lengths.{x_power_not_zero}
+use Rattle.places_theory.proofs.AtInfinity.{constant_zero, x_power, at_codes, value_at_is}
 use Rattle.places_theory.proofs.PresentationMap.{presentation_map}
 use Rattle.order_theory.specs.Orders.{IsPrimeTo}
 use Rattle.infinite_theory.specs.Supported.{IsSupportedAt, HasPowerDenominator, IsLocallyIn}

@@ -15,7 +15,8 @@ use Rattle.function_field.specs.Values.{PresValue, ElemValue, IsElem, Functions,
 use Rattle.function_field.proofs.OnSide.{den_inverse}
 use Rattle.function_field.proofs.SameValues.{row_over_num, row_over_den}
 use Rattle.places_theory.proofs.YRoot.{at_y, den_times, at_y_plain}
-use Rattle.places_theory.proofs.AtInfinity.{constant_zero, x_power_not_zero, x_power}
+use Rattle.polynomial_theory.proofs.Lengths.{x_power_not_zero}
+use Rattle.places_theory.proofs.AtInfinity.{constant_zero, x_power}
 use Rattle.infinite_theory.specs.Supported.{HasPowerDenominator}
 use Rattle.ff_infinite.proofs.LowZeros.{power_over}
 

@@ -12,8 +12,8 @@ use Rattle.ff_fields.specs.Over.{IsOver}
 use Rattle.ff_poly.specs.Words.{IsPoly, IsMonic, IsIrreducible, Divides, product_of}
 use Rattle.ff_poly.specs.Value.{value, value_product, same_from_value}
 use Rattle.ff_poly.specs.Polynomials.{Polynomial, polynomials, codes_of, numbers_discrete, value_one}
-use Rattle.trace_theory.proofs.Division.{euclidean}
-use Rattle.trace_theory.proofs.Irreducible.{irreducible}
+use Rattle.polynomial_theory.proofs.Division.{euclidean}
+use Rattle.polynomial_theory.proofs.Irreducible.{irreducible}
 use Rattle.ff_lattice.proofs.Elements.{divides_codes}
 use Rattle.ff_lattice.proofs.Normal.{monic_poly}
 use Rattle.ff_lattice.proofs.Scaled.{product_length, monic_factor}

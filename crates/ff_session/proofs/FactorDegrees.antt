@@ -12,9 +12,9 @@ use Rattle.ff_poly.specs.Polynomials.{Polynomial, polynomials, polynomials_domai
 use Rattle.ff_poly.proofs.Parts.{value_multiple, IsPoly_multiple_of}
 use Rattle.ff_poly.proofs.PowerRests.{IsOver_one, IsOver_power_of}
 use Rattle.ff_factor.specs.Factors.{FactorsValue, IsFactorisation, polys_of, product_of_parts}
-use Rattle.ff_factor.specs.ListValues.{length_value, monic_poly}
-use Rattle.ff_factor.proofs.Division.{product_longer}
-use Rattle.ff_factor.proofs.FieldsByIrreducibles.{some_value}
+use Rattle.polynomial_theory.proofs.ListValues.{length_value, monic_poly}
+use Rattle.polynomial_theory.proofs.Lengths.{product_longer}
+use Rattle.polynomial_theory.proofs.Divisors.{some_value}
 use Rattle.ff_session.specs.Meaning.{greatest_degree}
 
 module _ (k : CodeField) where

@@ -10,7 +10,7 @@ use Rattle.ff_poly.proofs.Parts.{IsPoly_multiple_of, value_multiple_one, top_of_
 use Rattle.function_field.specs.Values.{ElemValue, PresValue, IsElem, IsMonicElem, IsSame, function_of}
 use Rattle.function_field.proofs.SameValues.{same_iff}
 use Rattle.ff_factor.specs.LowestTerms.{IsInLowestTermsOf}
-use Rattle.ff_factor.specs.ListValues.{monic_poly}
+use Rattle.polynomial_theory.proofs.ListValues.{monic_poly}
 use Rattle.ff_session.specs.LowestTerms.{IsInLowestTerms}
 use Rattle.ff_session.specs.Elements.{IsLowest}
 

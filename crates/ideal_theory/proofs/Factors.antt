@@ -14,8 +14,8 @@ use Rattle.ff_poly.specs.Words.{IsIrreducible}
 use Rattle.ff_poly.specs.Polynomials.{Polynomial, polynomials, codes_of}
 use Rattle.function_field.specs.Functions.{Equation}
 use Rattle.trace_theory.specs.Traces.{polynomial_product}
-use Rattle.trace_theory.proofs.TracePowers.{some_long}
-use Rattle.trace_theory.proofs.Irreducible.{irreducible_some}
+use Rattle.polynomial_theory.proofs.Lengths.{some_long}
+use Rattle.polynomial_theory.proofs.Irreducible.{irreducible_some}
 use Rattle.lattice_theory.proofs.Bases.{monic_multiple}
 use Rattle.order_theory.proofs.Degrees.{constant_of}
 use Rattle.order_theory.proofs.InvertibleIdeals.{divisor_of, divides_it, divisor_irreducible}

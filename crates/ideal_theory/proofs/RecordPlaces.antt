@@ -22,7 +22,7 @@ use Rattle.function_field.proofs.ScalarRings.{scalars_subring}
 use Rattle.places_theory.specs.Orders.{InPrime}
 use Rattle.places_theory.proofs.PlaceValues.{valuation_iff}
 use Rattle.places_theory.proofs.Sides.{place_is_maximal}
-use Rattle.trace_theory.proofs.Irreducible.{irreducible_some}
+use Rattle.polynomial_theory.proofs.Irreducible.{irreducible_some}
 use Rattle.lattice_theory.specs.Lattices.{HasIndex}
 use Rattle.lattice_theory.proofs.Bases.{index_same}
 use Rattle.lattice_theory.proofs.Indices.{index_once, index_zero}

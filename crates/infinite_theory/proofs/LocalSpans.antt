@@ -10,7 +10,7 @@ use Rattle.ff_poly.specs.Polynomials.{Polynomial, polynomials, codes_of}
 use Rattle.function_field.specs.Functions.{Equation, FunctionOf, ring_of, of_poly, IsPolynomial}
 use Rattle.function_field.proofs.ScalarRings.{polynomials_subring}
 use Rattle.places_theory.proofs.YRoot.{poly_hom}
-use Rattle.trace_theory.proofs.Irreducible.{irreducible}
+use Rattle.polynomial_theory.proofs.Irreducible.{irreducible}
 use Rattle.lattice_theory.specs.Lattices.{IsLattice}
 use Rattle.lattice_theory.proofs.Lattices.{span_decided}
 use Rattle.order_theory.specs.Orders.{IsPrimeTo}

@@ -24,8 +24,8 @@ use Rattle.ff_fields.specs.Code.{Code, code_ring, code_field, code_domain}
 use Rattle.ff_poly.specs.Polynomials.{Polynomial, polynomials}
 use Rattle.function_field.specs.Functions.{Equation, FunctionOf, ring_of, of_poly, degree_of_y}
 use Rattle.places_theory.proofs.YRoot.{poly_hom}
-use Rattle.trace_theory.proofs.TracePowers.{some_long}
-use Rattle.trace_theory.proofs.Division.{top_not_zero}
+use Rattle.polynomial_theory.proofs.Lengths.{some_long}
+use Rattle.polynomial_theory.proofs.Division.{top_not_zero}
 use Rattle.lattice_theory.specs.Lattices.{IsLattice, HasIndex, IsBasisOf, polynomial_ops}
 use Rattle.lattice_theory.proofs.Parts.{Rows, module_of, part, part_add, part_scale, part_zero, part_same, Common, common}
 use Rattle.lattice_theory.proofs.Lattices.{AtDen, lattice_at, lattice_module}

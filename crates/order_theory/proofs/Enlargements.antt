@@ -18,7 +18,7 @@ use Rattle.function_field.specs.declared.side.Side.TheVariants.{Finite}
 use Rattle.function_field.specs.Places.{IsIntegralAt}
 use Rattle.function_field.specs.Functions.{Equation, FunctionOf, ring_of, of_poly, IsPolynomial, setting_of}
 use Rattle.function_field.proofs.ScalarRings.{polynomials_subring}
-use Rattle.trace_theory.proofs.Irreducible.{irreducible}
+use Rattle.polynomial_theory.proofs.Irreducible.{irreducible}
 use Rattle.lattice_theory.specs.Lattices.{IsLattice}
 use Rattle.lattice_theory.proofs.Lattices.{lattice_module}
 use Rattle.lattice_theory.proofs.Operations.{inverse_of}

@@ -18,8 +18,7 @@ use Rattle.function_field.specs.Functions.{Equation, FunctionOf, ring_of, of_pol
 use Rattle.function_field.proofs.ScalarRings.{polynomials_subring, scalars_subring}
 use Rattle.places_theory.proofs.Sides.{place_ideal}
 use Rattle.places_theory.proofs.YRoot.{poly_hom, den_times, at_y_plain}
-use Rattle.trace_theory.proofs.Division.{product_longer}
-use Rattle.trace_theory.proofs.TracePowers.{x_power_long}
+use Rattle.polynomial_theory.proofs.Lengths.{product_longer, x_power_long}
 use Rattle.trace_theory.proofs.FunctionTraces.{as_row}
 use Rattle.lattice_theory.specs.Lattices.{IsLattice, HasMultiple}
 use Rattle.lattice_theory.proofs.Lattices.{span_decided}

@@ -16,7 +16,7 @@ use Rattle.function_field.specs.Places.{Place, IsPlace, IsIn, IsIntegralAt}
 use Rattle.function_field.specs.Functions.{Equation, FunctionOf, ring_of, of_poly, row_of, over, IsFiniteAtInfinity, setting_of}
 use Rattle.function_field.proofs.ScalarRings.{finite_at_infinity_subring, of_poly_one}
 use Rattle.places_theory.proofs.YRoot.{poly_hom, over_times_den}
-use Rattle.trace_theory.proofs.TracePowers.{zero_length}
+use Rattle.polynomial_theory.proofs.Lengths.{zero_length}
 use Rattle.order_theory.proofs.FinitePlaces.{one_short, x_long}
 
 -- what is added is shorter: the sum isn't

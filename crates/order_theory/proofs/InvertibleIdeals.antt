@@ -32,9 +32,9 @@ use Rattle.function_field.specs.declared.side.Side.TheVariants.{Finite}
 use Rattle.function_field.specs.Places.{IsIntegralAt}
 use Rattle.function_field.specs.Functions.{Equation, FunctionOf, ring_of, of_poly, IsPolynomial, setting_of}
 use Rattle.places_theory.proofs.YRoot.{poly_hom}
-use Rattle.trace_theory.proofs.TracePowers.{some_long, zero_length}
-use Rattle.trace_theory.proofs.Division.{euclidean}
-use Rattle.trace_theory.proofs.Irreducible.{irreducible_some}
+use Rattle.polynomial_theory.proofs.Lengths.{some_long, zero_length}
+use Rattle.polynomial_theory.proofs.Division.{euclidean}
+use Rattle.polynomial_theory.proofs.Irreducible.{irreducible_some}
 use Rattle.lattice_theory.specs.Lattices.{IsLattice, space_ops}
 use Rattle.order_theory.specs.Orders.{IsOrder, IsOrderUpTo}
 use Rattle.lattice_theory.proofs.Lattices.{lattice_module, lattice_decided}

@@ -22,9 +22,9 @@ use Rattle.function_field.proofs.ScalarRings.{polynomials_subring}
 use Rattle.function_field.specs.Places.{IsPlace, IsIn, IsIntegralAt}
 use Rattle.function_field.specs.Functions.{Equation, FunctionOf, ring_of, of_poly, IsPolynomial, setting_of}
 use Rattle.places_theory.proofs.YRoot.{poly_hom}
-use Rattle.trace_theory.proofs.TracePowers.{some_long}
-use Rattle.trace_theory.proofs.Division.{euclidean}
-use Rattle.trace_theory.proofs.Irreducible.{irreducible_some, irreducible, decide_divides}
+use Rattle.polynomial_theory.proofs.Lengths.{some_long}
+use Rattle.polynomial_theory.proofs.Division.{euclidean}
+use Rattle.polynomial_theory.proofs.Irreducible.{irreducible_some, irreducible, decide_divides}
 use Rattle.order_theory.proofs.LeastPolynomials.{Least, least_polynomial}
 use Rattle.lattice_theory.proofs.Bases.{MonicMultiple, monic_multiple, constant_times}
 use Rattle.lattice_theory.proofs.Lattices.{lattice_module}

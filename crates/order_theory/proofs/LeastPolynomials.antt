@@ -6,7 +6,7 @@ use Rattle.ring_theory.specs.Polynomials.{pol_of}
 use Rattle.ff_fields.specs.Field.{CodeField}
 use Rattle.ff_fields.specs.Code.{Code, code_ring}
 use Rattle.ff_poly.specs.Polynomials.{Polynomial}
-use Rattle.places_theory.proofs.CodeFields.{code_finite}
+use Rattle.polynomial_theory.proofs.CodeFields.{code_finite}
 
 -- whether a member of a list has a property
 some_in : {X : Type 0} (T : X → Type 0) → ((x : X) → Dec (T x)) → (xs : List X) → Dec ((x : X) × In x xs × T x)

@@ -21,8 +21,8 @@ use Rattle.function_field.specs.Functions.{Equation, FunctionOf, ring_of, of_pol
 use Rattle.function_field.specs.Discriminant.{discriminant}
 use Rattle.function_field.proofs.ScalarRings.{polynomials_subring, of_poly_one}
 use Rattle.places_theory.proofs.YRoot.{poly_hom}
-use Rattle.trace_theory.proofs.Division.{euclidean}
-use Rattle.trace_theory.proofs.Irreducible.{irreducible, prime}
+use Rattle.polynomial_theory.proofs.Division.{euclidean}
+use Rattle.polynomial_theory.proofs.Irreducible.{irreducible, prime}
 use Rattle.lattice_theory.specs.Lattices.{IsLattice}
 use Rattle.order_theory.specs.Orders.{IsOrder, IsPrimeTo}
 use Rattle.lattice_theory.proofs.Lattices.{lattice_module, lattice_decided}

@@ -13,7 +13,7 @@ use Rattle.prime_theory.proofs.Idempotents.{idempotent_prime}
 use Rattle.prime_theory.proofs.IdempotentFamily.{idempotent_family, idempotent_invertible}
 use Rattle.prime_theory.proofs.Scalars.{span_wider}
 use Rattle.prime_theory.proofs.Radicals.{p_in_radical}
-use Rattle.trace_theory.proofs.Irreducible.{irreducible_some}
+use Rattle.polynomial_theory.proofs.Irreducible.{irreducible_some}
 use Rattle.linear_theory.specs.Module.{combine}
 use Rattle.linear_theory.proofs.Bases.{combine_in}
 use Rattle.finite_algebra_theory.specs.Algebra.{FiniteAlgebra}
@@ -26,7 +26,7 @@ use Rattle.ff_poly.specs.Polynomials.{Polynomial, codes_of}
 use Rattle.function_field.specs.declared.side.Side.TheVariants.{Finite}
 use Rattle.function_field.specs.Places.{IsIntegralAt}
 use Rattle.function_field.specs.Functions.{Equation, FunctionOf, ring_of, of_poly, IsPolynomial, setting_of}
-use Rattle.places_theory.proofs.CodeFields.{code_finite}
+use Rattle.polynomial_theory.proofs.CodeFields.{code_finite}
 use Rattle.places_theory.proofs.Decomposition.{prime_system}
 use Rattle.places_theory.specs.Reductions.{IsReduction, Primitive}
 use Rattle.lattice_theory.specs.Lattices.{IsLattice, space_ops}

@@ -19,9 +19,9 @@ use Rattle.ff_fields.specs.Code.{Code, code_ring}
 use Rattle.ff_poly.specs.Words.{IsIrreducible}
 use Rattle.ff_poly.specs.Polynomials.{Polynomial, polynomials, codes_of}
 use Rattle.function_field.specs.Functions.{Equation, FunctionOf, ring_of, of_poly, degree_of_y, IsPolynomial}
-use Rattle.places_theory.proofs.CodeFields.{code_finite}
+use Rattle.polynomial_theory.proofs.CodeFields.{code_finite}
 use Rattle.trace_theory.proofs.RowMatrix.{row_with, entry_with, row_by_entries}
-use Rattle.trace_theory.proofs.Irreducible.{irreducible_some}
+use Rattle.polynomial_theory.proofs.Irreducible.{irreducible_some}
 use Rattle.lattice_theory.specs.Lattices.{IsLattice, HasIndex, space_ops}
 use Rattle.order_theory.specs.Orders.{IsOrder}
 use Rattle.lattice_theory.proofs.Lattices.{lattice_module, lattice_decided}

@@ -26,10 +26,6 @@ module _ (k : CodeField) where
       ap (constant (code_ring k)) (same_code k (read_code k 0) (code_ring k).𝟘 (read_code_below k 0 (zero_in k)))
       ∙ hom_zero (code_ring k).ring (polynomials k).ring (constant (code_ring k)) (constant_hom (code_ring k))
 
-  pub x_power_not_zero : (n : ℕ) → ¬ (pow (polynomials k).ops (x_poly k) n ≡ (polynomials k).𝟘)
-  x_power_not_zero zero = (polynomials_domain k).one_not_zero
-  x_power_not_zero (suc n) = product_not_zero (polynomials_domain k) (x_poly k) _ (x_poly_not_zero k) (x_power_not_zero n)
-
 module _ (k : CodeField) (p : PresValue) where
   -- a code as a function
   abbrev pub of_code : Code k → Functions k p

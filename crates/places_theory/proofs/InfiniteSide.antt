@@ -31,7 +31,8 @@ use Rattle.prime_theory.specs.Ideals.{IsMultiplicative, SameSet}
 use Rattle.prime_theory.proofs.Denominators.{integral_cleared, integral_of_cleared, span_cleared, span_of_cleared}
 use Rattle.places_theory.specs.InfiniteSide.{InReverse, IsPrimeToT}
 use Rattle.places_theory.proofs.YRoot.{poly_hom, over_times_den, over_unique}
-use Rattle.places_theory.proofs.AtInfinity.{at, at_hom, at_codes, value_at_is, reversed, x_power, powers_cancel, x_power_not_zero, constant_zero}
+use Rattle.polynomial_theory.proofs.Lengths.{x_power_not_zero}
+use Rattle.places_theory.proofs.AtInfinity.{at, at_hom, at_codes, value_at_is, reversed, x_power, powers_cancel, constant_zero}
 
 module _ (k : CodeField) where
   value_zeros : (m : ℕ) → value k (replicate m 0) ≡ (polynomials k).𝟘

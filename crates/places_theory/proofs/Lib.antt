@@ -12,6 +12,5 @@ pub mod InfiniteSide
 pub mod OrdersAt
 pub mod PlacesOver
 pub mod PlacesComplete
-pub mod CodeFields
 pub mod Transport
 pub mod InfinitePresentation

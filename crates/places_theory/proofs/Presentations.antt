@@ -22,7 +22,8 @@ use Rattle.function_field.proofs.OnSide.{reverse_not_zero}
 use Rattle.function_field.proofs.Stages.{row_of_function}
 use Rattle.places_theory.specs.Maps.{IsIsomorphism}
 use Rattle.places_theory.proofs.YRoot.{poly_hom, at_y, at_y_plain, den_times}
-use Rattle.places_theory.proofs.AtInfinity.{of_code, code_hom, at_hom, at_x, value_at_is, x_times_t, reversed, turned, turned_is, turned_zero, x_power, powers_cancel, x_power_not_zero, constant_zero}
+use Rattle.polynomial_theory.proofs.Lengths.{x_power_not_zero}
+use Rattle.places_theory.proofs.AtInfinity.{of_code, code_hom, at_hom, at_x, value_at_is, x_times_t, reversed, turned, turned_is, turned_zero, x_power, powers_cancel, constant_zero}
 use Rattle.places_theory.proofs.PresentationMap.{x, t, y, η, φ, at_Y, unit, unit_law, presentation_map, map_row, map_poly, map_unit, map_y, presentation_hom}
 
 -- in a domain what is 0 after scaling by an element other than 0 is 0

@@ -24,7 +24,6 @@ ghost use Rattle.prime_theory.specs.IntegerValues.{ValueIs};
 ghost use Rattle.prime_theory.specs.Ideals.{SameSet};
 ghost use Rattle.prime_theory.specs.Orders.{Radical, MaximalAt, Denominator};
 ghost use Rattle.finite_algebra_theory.specs.Algebra.{FiniteAlgebra, IsNilpotent};
-ghost use Rattle.finite_algebra_theory.specs.ByMap.{FiniteField};
 ghost use Rattle.finite_algebra_theory.specs.Maximal.{NilpotentAt};
 ghost use Rattle.places_theory.specs.Maps.{IsIsomorphism};
 ghost use Rattle.places_theory.specs.InfiniteSide.{InReverse, IsPrimeToT};
@@ -48,11 +47,6 @@ pub trait LocalOrder {
 
     ghost prime: { Functions field presentation → Type 0 };
 }
-
-/// The codes of a field are a finite field: equality is decided, all are listed, each once, and each is its own q-th power.
-pub fn finite_field_law()
-    ensures { (k : CodeField) → FiniteField (code_ring k).ops }
-{}
 
 /// The integral functions of a side are a ring over the scalars of the side.
 pub fn integral_functions_law()

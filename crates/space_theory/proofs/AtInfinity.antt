@@ -14,8 +14,8 @@ use Rattle.function_field.specs.Places.{IsIntegralAt}
 use Rattle.function_field.specs.Values.{PresValue, Functions, functions, setting, equation_of}
 use Rattle.places_theory.proofs.PresentationMap.{presentation_map}
 use Rattle.places_theory.proofs.YRoot.{poly_hom}
-use Rattle.trace_theory.proofs.Division.{euclidean}
-use Rattle.trace_theory.proofs.Irreducible.{irreducible}
+use Rattle.polynomial_theory.proofs.Division.{euclidean}
+use Rattle.polynomial_theory.proofs.Irreducible.{irreducible}
 use Rattle.lattice_theory.specs.Lattices.{IsLattice}
 use Rattle.order_theory.proofs.LocalOrders.{power_value}
 use Rattle.infinite_theory.specs.Supported.{IsLocallyIn}

@@ -22,10 +22,10 @@ use Rattle.function_field.specs.Infinity.{variable, value_at, IsInfinitePresenta
 use Rattle.function_field.specs.Discriminant.{discriminant}
 use Rattle.function_field.proofs.OnSide.{value_at_x, of_poly_zero}
 use Rattle.places_theory.proofs.YRoot.{poly_hom}
-use Rattle.places_theory.proofs.AtInfinity.{at, at_hom, at_codes, value_at_is, x_times_t, x_power, powers_cancel, x_power_not_zero, turned, turned_is, turned_zero, constant_zero, reversed}
+use Rattle.polynomial_theory.proofs.Lengths.{x_power_not_zero, zero_length, x_power_long}
+use Rattle.places_theory.proofs.AtInfinity.{at, at_hom, at_codes, value_at_is, x_times_t, x_power, powers_cancel, turned, turned_is, turned_zero, constant_zero, reversed}
 use Rattle.trace_theory.proofs.RowMatrix.{tr, y}
 use Rattle.trace_theory.proofs.RowForm.{disc}
-use Rattle.trace_theory.proofs.TracePowers.{zero_length, x_power_long}
 use Rattle.trace_theory.proofs.FunctionTraces.{polynomial_value}
 use Rattle.trace_theory.proofs.Weights.{trace_weights, discriminant_weights}
 

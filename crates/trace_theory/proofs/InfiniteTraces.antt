@@ -13,7 +13,8 @@ use Rattle.function_field.specs.Functions.{row_of, y_of, trace_of}
 use Rattle.function_field.specs.Values.{PresValue, Functions, functions, equation_of}
 use Rattle.function_field.specs.Infinity.{variable, IsInfinitePresentation}
 use Rattle.places_theory.proofs.YRoot.{over_unique, eval_constant}
-use Rattle.places_theory.proofs.AtInfinity.{at, at_hom, x_power, x_power_not_zero, turned, turned_is, turned_zero}
+use Rattle.polynomial_theory.proofs.Lengths.{x_power_not_zero}
+use Rattle.places_theory.proofs.AtInfinity.{at, at_hom, x_power, turned, turned_is, turned_zero}
 use Rattle.places_theory.proofs.PresentationMap.{presentation_map, map_row, unit as unit_of, unit_law, η}
 use Rattle.trace_theory.specs.Traces.{IsRational}
 use Rattle.trace_theory.proofs.RowMatrix.{tr, y, trace_expand}

@@ -13,12 +13,11 @@ use Rattle.function_field.specs.declared.side.Side.TheVariants.{Finite, Infinite
 use Rattle.function_field.specs.Functions.{Equation, FunctionOf, ring_of, row_of, of_poly, over, trace_of, IsScalar}
 use Rattle.function_field.proofs.OnSide.{den_inverse}
 use Rattle.function_field.proofs.ScalarRings.{over_times, bottoms_not_zero, scalars_subring}
-use Rattle.places_theory.proofs.AtInfinity.{x_power_not_zero}
+use Rattle.polynomial_theory.proofs.Lengths.{x_power_not_zero, some_long, x_power_long}
 use Rattle.trace_theory.specs.Traces.{IsRational}
 use Rattle.trace_theory.proofs.FunctionTraces.{K, R, one_some, over_same, over_eq, trace_plus, trace_times}
 use Rattle.trace_theory.proofs.Determinants.{image_power}
 use Rattle.trace_theory.proofs.Powers.{row_hom}
-use Rattle.trace_theory.proofs.TracePowers.{some_long, x_power_long}
 use Rattle.trace_theory.proofs.FunctionPowers.{power_some, power_over}
 use Rattle.trace_theory.proofs.Reduced.{den_clears}
 use Rattle.trace_theory.proofs.IntegralTraces.{Cleared}

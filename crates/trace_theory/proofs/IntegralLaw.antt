@@ -27,12 +27,12 @@ use Rattle.function_field.proofs.ScalarRings.{over_plus, over_times, bottoms_not
 use Rattle.places_theory.proofs.YRoot.{poly_hom, y_root}
 use Rattle.trace_theory.specs.Traces.{IsRational, HasPolynomialCoordinates}
 use Rattle.trace_theory.proofs.FunctionTraces.{K, one_some, trace_plus, trace_times, trace_rational, polynomial_value}
-use Rattle.trace_theory.proofs.TracePowers.{some_long, zero_length}
+use Rattle.polynomial_theory.proofs.Lengths.{some_long, zero_length}
 use Rattle.trace_theory.proofs.FunctionPowers.{power_some, Exponent, exponent_of}
 use Rattle.trace_theory.proofs.Degenerate.{zero_over}
 use Rattle.trace_theory.proofs.TraceForm.{trace_form}
 use Rattle.trace_theory.proofs.Reduced.{one_not_zero}
-use Rattle.trace_theory.proofs.Division.{divide}
+use Rattle.polynomial_theory.proofs.Division.{divide}
 use Rattle.trace_theory.proofs.IntegralTraces.{PowersCleared, powers_cleared}
 use Rattle.trace_theory.proofs.IntegralFunctions.{power_gap, fraction_eq, fraction_same, fraction_power, scalar_rational, rational_cleared}
 

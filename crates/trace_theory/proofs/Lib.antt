@@ -10,11 +10,9 @@ pub mod Norms
 pub mod TracePowers
 pub mod FunctionPowers
 pub mod Reduced
-pub mod Division
 pub mod IntegralTraces
 pub mod IntegralFunctions
 pub mod IntegralLaw
-pub mod Irreducible
 pub mod SquareLaw
 pub mod Weights
 pub mod InfiniteDiscriminant

@@ -19,8 +19,8 @@ use Rattle.function_field.proofs.ScalarRings.{of_poly_one, polynomials_subring}
 use Rattle.places_theory.proofs.YRoot.{poly_hom}
 use Rattle.trace_theory.specs.Traces.{HasPolynomialCoordinates, polynomial_product}
 use Rattle.trace_theory.proofs.IntegralLaw.{integral_times, discriminant_clears}
-use Rattle.trace_theory.proofs.Irreducible.{irreducible, irreducible_some}
-use Rattle.trace_theory.proofs.Division.{euclidean}
+use Rattle.polynomial_theory.proofs.Irreducible.{irreducible, irreducible_some}
+use Rattle.polynomial_theory.proofs.Division.{euclidean}
 use Rattle.trace_theory.proofs.SquareLaw.{whole_at}
 
 module _ {k : CodeField} (c : Equation k) (O : FunctionOf c → Type 0) (𝓞 : IsSubring (ring_of c).ops O)

@@ -17,7 +17,7 @@ use Rattle.ff_fields.specs.Code.{Code, code_ring, code_domain}
 use Rattle.ff_poly.specs.Polynomials.{Polynomial, polynomials}
 use Rattle.function_field.specs.Functions.{Equation, row_of}
 use Rattle.function_field.proofs.OnSide.{row_product}
-use Rattle.places_theory.proofs.CodeFields.{code_finite}
+use Rattle.polynomial_theory.proofs.CodeFields.{code_finite}
 use Rattle.trace_theory.proofs.FunctionTraces.{K, R}
 
 -- the two forms of "no member stands twice"

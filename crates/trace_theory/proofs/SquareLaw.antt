@@ -27,7 +27,7 @@ use Rattle.trace_theory.proofs.TraceForm.{Choice, choose}
 use Rattle.trace_theory.proofs.FunctionTraces.{K, R, Y, Tr, one_some, over_product, over_eq, trace_over, trace_power, polynomial_value}
 use Rattle.trace_theory.proofs.Reduced.{den_clears}
 use Rattle.trace_theory.proofs.IntegralLaw.{integral_trace, integral_traces, integral_times}
-use Rattle.trace_theory.proofs.Irreducible.{decide_divides, prime, irreducible_some}
+use Rattle.polynomial_theory.proofs.Irreducible.{decide_divides, prime, irreducible_some}
 
 module _ {k : CodeField} (c : Equation k) (p : Polynomial k) (h : IsIrreducible k.ops (codes_of k p)) where
   infixl 70 ◌⊗◌

@@ -1,7 +1,8 @@
 use Rattle.std.proofs.Common.{◌≡◌, ◌≤◌, length, ap, IfOk, IsTrue, ◌↔◌, ◌∙◌, subst, arith, sym}
 use Rattle.ff_falg.specs.Algebras.{IsFieldAlgebra}
 use Rattle.ff_factor.specs.Quotients.{IsModulus, quotient_algebra}
-use Rattle.ff_factor.proofs.FieldsByIrreducibles.{monic_of_top, field_irreducible, answer_as}
+use Rattle.polynomial_theory.proofs.ListValues.{monic_of_top}
+use Rattle.ff_factor.proofs.FieldsByIrreducibles.{field_irreducible, answer_as}
 use Rattle.ff_factor.proofs.decisions.is_irreducible.Goals as goal
 
 pub returns : goal.returns

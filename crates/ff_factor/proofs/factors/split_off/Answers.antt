@@ -2,7 +2,7 @@ use Rattle.std.proofs.Common.{◌≡◌, ◌<◌, ◌≤◌, [], length, get_or,
 use Rattle.std.proofs.lemmas.List.{get_or_default}
 use Rattle.ff_fields.specs.Over.{IsOver}
 use Rattle.ff_poly.specs.Words.{IsPoly}
-use Rattle.ff_factor.specs.ListValues.{monic_poly}
+use Rattle.polynomial_theory.proofs.ListValues.{monic_poly}
 use Rattle.ff_factor.proofs.SplitSteps.{split_start, split_more, in_get}
 use Rattle.ff_factor.proofs.factors.split_off.Goals as goal
 

@@ -1,7 +1,7 @@
 use Rattle.std.proofs.Common.{◌<◌, length, subst, arith}
 use Rattle.std.proofs.lemmas.List.{take_all}
 use Rattle.ff_factor.specs.Factors.{polys_of}
-use Rattle.ff_factor.specs.ListValues.{monic_poly}
+use Rattle.polynomial_theory.proofs.ListValues.{monic_poly}
 use Rattle.ff_factor.specs.Reductions.{AreLowerAt}
 use Rattle.ff_factor.proofs.LowerTerms.{lower_start, lower_next, prime_at}
 use Rattle.ff_factor.proofs.lowest.cancel_all.Goals as goal

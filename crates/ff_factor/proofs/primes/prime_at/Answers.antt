@@ -8,7 +8,7 @@ use Rattle.ff_factor.proofs.QuotientSteps.{written}
 use Rattle.ff_factor.specs.Primes.{IsPrimeAt}
 use Rattle.ff_factor.specs.Quotients.{quotient_algebra}
 use Rattle.ff_factor.specs.QuotientLaws.{quotient_laws}
-use Rattle.ff_factor.specs.ListValues.{monic_poly}
+use Rattle.polynomial_theory.proofs.ListValues.{monic_poly}
 use Rattle.ff_factor.proofs.PowerBounds.{powers_bounded_by_size}
 use Rattle.ff_factor.proofs.PrimeIdeals.{prime_of_relation}
 use Rattle.ff_factor.proofs.primes.prime_at.Goals as goal

@@ -9,15 +9,18 @@ use Rattle.ring_theory.specs.Polynomials.{constant}
 use Rattle.ring_theory.proofs.Evaluate.{constant_hom}
 use Rattle.ring_theory.proofs.Lists.{coeff_trim}
 use Rattle.ring_theory.proofs.Polynomials.{series_mul, length_product}
-use Rattle.linear_theory.specs.Euclidean.{IsDivisor, IsUnit, IsIrreducible as IsIrreducibleIn}
-use Rattle.linear_theory.proofs.Euclid.{euclid, decide_divisor}
+use Rattle.linear_theory.specs.Euclidean.{IsDivisor, IsUnit, Bezout, IsIrreducible as IsIrreducibleIn}
+use Rattle.linear_theory.proofs.Euclid.{euclid, decide_divisor, bezout}
 use Rattle.ff_fields.specs.Field.{CodeField}
 use Rattle.ff_fields.specs.Code.{Code, code_ring, code_field, code_domain}
 use Rattle.ff_fields.specs.Numbers.{numbers}
 use Rattle.ff_poly.specs.Words.{IsIrreducible, IsMonic}
-use Rattle.ff_poly.specs.Polynomials.{Polynomial, polynomials, polynomials_domain, polynomial_discrete, codes_of, IsOver_codes_of, IsPoly_codes_of, codes_of_product}
-use Rattle.trace_theory.proofs.TracePowers.{some_long, zero_length}
-use Rattle.trace_theory.proofs.Division.{top_not_zero, euclidean, divide}
+use Rattle.ff_fields.specs.Over.{IsOver}
+use Rattle.ff_poly.specs.Value.{value, numbers_value}
+use Rattle.ff_poly.specs.Polynomials.{Polynomial, polynomials, polynomials_domain, polynomial_discrete, codes_of, IsOver_codes_of, IsPoly_codes_of, codes_of_product, value_codes_of}
+use Rattle.polynomial_theory.proofs.Lengths.{some_long, some_of_long}
+use Rattle.polynomial_theory.proofs.ListValues.{monic_poly}
+use Rattle.polynomial_theory.proofs.Division.{top_not_zero, euclidean, divide}
 
 -- a list is its last member and what is before it
 last_of : {A : Type 0} (f : List A → ℕ → A) → ((x : A) (xs : List A) → f (x ∷ xs) 0 ≡ x) → ((x : A) (xs : List A) (n : ℕ) → f (x ∷ xs) (suc n) ≡ f xs n)
@@ -35,7 +38,7 @@ module _ (k : CodeField) where
   infixl 70 ◌⊗◌
   open polynomials k use {𝟘, 𝟙, ◌⊗◌}
 
-  length_codes : (a : Polynomial k) → length (codes_of k a) ≡ length a.0
+  pub length_codes : (a : Polynomial k) → length (codes_of k a) ≡ length a.0
   length_codes a = length-map a.0 (λ x. x.0)
 
   -- the coefficient on top
@@ -46,9 +49,6 @@ module _ (k : CodeField) where
   monic_codes a l e =
       let r = last_of (coeff_of (code_ring k).ops) (λ x xs. refl) (λ x xs n. refl) a.0 l in
       (numbers k r.0, ap (numbers k) (r.1 ∙ ap (λ x. r.0 ++ x ∷ []) e) ∙ map-append (λ x. x.0) r.0 ((code_ring k).𝟙 ∷ []))
-
-  some_of_long : (a : Polynomial k) → 0 < length a.0 → ¬ (a ≡ 𝟘)
-  some_of_long a l e = let q : length a.0 ≡ 0 = ap (λ p. length p.0) e ∙ zero_length k in absurd (omega arith)
 
   -- a multiple by a code
   constant_times : (u : Code k) (a : Polynomial k) (n : ℕ)
@@ -62,7 +62,7 @@ module _ (k : CodeField) where
   unit_some u v e = sym ((constant_hom (code_ring k)).mul u v) ∙ ap (constant (code_ring k)) e ∙ (constant_hom (code_ring k)).𝟙
 
   -- units have one coefficient
-  unit_length : (a b : Polynomial k) → a ⊗ b ≡ 𝟙 → length a.0 ≡ 1
+  pub unit_length : (a b : Polynomial k) → a ⊗ b ≡ 𝟙 → length a.0 ≡ 1
   unit_length a b e = go (length_product (code_ring k) (code_domain k) 𝟙 𝟙 (polynomials_domain k).one_not_zero (polynomials_domain k).one_not_zero)
     where
       a_some : ¬ (a ≡ 𝟘)
@@ -79,7 +79,7 @@ module _ (k : CodeField) where
 
   short_unit : (d : Polynomial k) → length d.0 ≡ 1 → IsUnit (polynomials k).ops d
   short_unit d l =
-      let r = divide k 𝟙 d (some_of_long d (omega arith)) in
+      let r = divide k 𝟙 d (some_of_long k d (omega arith)) in
       let s = r.shorter in
       let null : r.rest ≡ 𝟘 = empty (polynomial_discrete k r.rest 𝟘) (omega arith) in
       (r.quotient, sym (r.is ∙ ap ((polynomials k).◌⊕◌ (d ⊗ r.quotient)) null ∙ (polynomials k).add_zero _))
@@ -88,12 +88,49 @@ module _ (k : CodeField) where
       empty (yes e) l = e
       empty {a} (no n) l = absurd (omega (arith, some_long k a n))
 
+  -- what makes a polynomial monic
+  pub record MadeMonic (d : Polynomial k) : Type 0 where
+    pub codes : List ℕ
+    pub over : IsOver k.ops codes
+    pub monic : IsMonic codes
+    pub length_is : length codes ≡ length d.0
+    pub factor : Polynomial k
+    pub is : value k codes ≡ factor ⊗ d
+    pub inverse : Polynomial k
+    pub inverts : inverse ⊗ factor ≡ 𝟙
+
+  pub made_monic : (d : Polynomial k) → ¬ (d ≡ 𝟘) → MadeMonic d
+  made_monic d d_some =
+      let u = inverse.0 in
+      let U = constant (code_ring k) u in
+      let T = constant (code_ring k) (top_of d) in
+      let one : T ⊗ U ≡ 𝟙 = unit_some (top_of d) u inverse.1 in
+      let U_long = unit_length U T ((polynomials k).mul_comm U T ∙ one) in
+      let m = U ⊗ d in
+      let m_long : length m.0 ≡ length d.0
+      = omega (arith, U_long, length_product (code_ring k) (code_domain k) U d (some_of_long k U (omega arith)) d_some) in
+      let top_one : top_of m ≡ (code_ring k).𝟙
+      = ap (λ n. coeff_of (code_ring k).ops m.0 (n - 1)) m_long ∙ constant_times u d (length d.0 - 1) ∙ (code_ring k).mul_comm _ _ ∙ inverse.1 in
+      record {
+        codes = codes_of k m;
+        over = IsOver_codes_of k m;
+        monic = monic_codes m (omega (arith, m_long, some_long k d d_some)) top_one;
+        length_is = length_codes m ∙ m_long;
+        factor = U;
+        is = value_codes_of k m;
+        inverse = T;
+        inverts = one;
+      }
+    where
+      inverse : (u : Code k) × ((code_ring k).◌⊗◌ (top_of d) u ≡ (code_ring k).𝟙)
+      inverse = (code_field k).inverse (top_of d) (top_not_zero k d (some_long k d d_some))
+
   module _ (p : Polynomial k) (h : IsIrreducible k.ops (codes_of k p)) where
     p_long : 2 ≤ length p.0
     p_long = subst (λ n. 2 ≤ n) (length_codes p) h.not_constant
 
     p_some : ¬ (p ≡ 𝟘)
-    p_some = let l = p_long in some_of_long p (omega arith)
+    p_some = let l = p_long in some_of_long k p (omega arith)
 
     -- a divisor of smaller degree has degree 0
     smaller_divisor : (d : Polynomial k) → IsDivisor (polynomials k).ops d p → length d.0 < length p.0 → IsUnit (polynomials k).ops d
@@ -121,7 +158,7 @@ module _ (k : CodeField) where
             let U_long = unit_length U T one in
             let m = U ⊗ d in
             let m_long : length m.0 ≡ length d.0
-            = omega (arith, U_long, length_product (code_ring k) (code_domain k) U d (some_of_long U (omega arith)) d_some) in
+            = omega (arith, U_long, length_product (code_ring k) (code_domain k) U d (some_of_long k U (omega arith)) d_some) in
             let top_one : top_of m ≡ (code_ring k).𝟙
             = ap (λ n. coeff_of (code_ring k).ops m.0 (n - 1)) m_long ∙ constant_times u d (length d.0 - 1) ∙ (code_ring k).mul_comm _ _ ∙ inverse.1 in
             let whole : p ≡ m ⊗ (T ⊗ e)
@@ -153,3 +190,19 @@ module _ (k : CodeField) where
 
     pub irreducible_some : ¬ (p ≡ 𝟘)
     irreducible_some = p_some
+
+  -- the same for a list of codes
+  module _ (p : List ℕ) (p_in : IsOver k.ops p) (h : IsIrreducible k.ops p) where
+    codes : IsIrreducible k.ops (codes_of k (value k p))
+    codes = subst (IsIrreducible k.ops) (sym (numbers_value k p p_in (monic_poly k p h.monic))) h
+
+    pub irreducible_list : IsIrreducibleIn (euclidean k) (value k p)
+    irreducible_list = irreducible (value k p) codes
+
+    pub prime_list : (a b : Polynomial k) → IsDivisor (polynomials k).ops (value k p) (a ⊗ b)
+        → IsDivisor (polynomials k).ops (value k p) a ⊎ IsDivisor (polynomials k).ops (value k p) b
+    prime_list = prime (value k p) codes
+
+    -- what it doesn't divide has an inverse modulo it
+    pub inverse_modulo : (a : Polynomial k) → ¬ IsDivisor (polynomials k).ops (value k p) a → Bezout (polynomials k).ops a (value k p)
+    inverse_modulo a n = bezout (euclidean k) (value k p) irreducible_list a n

@@ -1,6 +1,6 @@
 -- What sums, multiples, zeros and shifted lists of codes stand for, where zeros may be on top.
-use Rattle.std.proofs.Common.{◌≡◌, ℕ, zero, suc, ◌+◌, ◌-◌, ◌<◌, ◌≤◌, List, [], ◌∷◌, ◌++◌, length, get_or, replicate, refl, sym, ap, ap₂, ◌∙◌, subst, arith}
-use Rattle.std.proofs.lemmas.List.{length-map, get_or_push, length_push}
+use Rattle.std.proofs.Common.{◌≡◌, ℕ, zero, suc, ◌+◌, ◌-◌, ◌<◌, ◌≤◌, List, [], ◌∷◌, ◌++◌, length, get_or, take, replicate, refl, sym, ap, ap₂, ◌∙◌, subst, arith}
+use Rattle.std.proofs.lemmas.List.{length-map, get_or_push, length_push, take_more, take_all}
 use Rattle.ring_theory.specs.Lists.{coeff_of, add_lists, scale_list, IsTrimmed}
 use Rattle.ring_theory.proofs.Ring.{mul_zero}
 use Rattle.ring_theory.proofs.Sequences.{convolution_constant_left}
@@ -12,9 +12,20 @@ use Rattle.ff_fields.specs.Field.{CodeField}
 use Rattle.ff_fields.specs.Code.{raw_ring, code_ring, same_code, read_code, read_code_below, zero_in, is_zero_code}
 use Rattle.ff_fields.specs.Numbers.{numbers, read, read_numbers, numbers_read, numbers_add, numbers_scale, numbers_get_or}
 use Rattle.ff_fields.specs.Over.{IsOver, IsOver_head, IsOver_tail}
-use Rattle.ff_poly.specs.Words.{IsPoly, IsMonic}
+use Rattle.ff_poly.specs.Words.{IsPoly, IsMonic, top_of}
 use Rattle.ff_poly.specs.Value.{value, numbers_value}
 use Rattle.ff_poly.specs.Polynomials.{polynomials, constant_poly, x_poly, series_read, value_cons, value_one}
+
+-- a list that ends in 1 is monic
+pub monic_of_top : (g : List ℕ) → 0 < length g → top_of g ≡ 1 → IsMonic g
+monic_of_top g some e =
+    let n = length g - 1 in
+    (take n g, sym (take_all (n + 1) g (omega arith)) ∙ take_more g n 0 (omega arith) ∙ ap (λ a. take n g ++ a ∷ []) e)
+
+pub top_of_monic : (g : List ℕ) → IsMonic g → top_of g ≡ 1
+top_of_monic g m =
+    ap₂ (λ xs n. get_or xs n 0) m.1 (ap (λ n. n - 1) (ap length m.1 ∙ length_push m.0 1) ∙ let e : length m.0 + 1 - 1 ≡ length m.0 = omega arith in e)
+    ∙ get_or_push m.0 1 0 (length m.0) refl
 
 module _ (k : CodeField) where
   pub value_add_lists : (a b : List ℕ) → IsOver k.ops a → IsOver k.ops b

@@ -5,29 +5,23 @@ use Rattle.ring_theory.specs.Lists.{coeff_of, convolution, rest_from, quotient_f
 use Rattle.ring_theory.proofs.Sequences.{convolution_comm}
 use Rattle.ring_theory.proofs.Lists.{coeff_trim}
 use Rattle.ring_theory.specs.Polynomials.{pol_of}
-use Rattle.ring_theory.proofs.Polynomials.{same_pol, series_add, series_mul, coeff_top, length_product}
+use Rattle.ring_theory.proofs.Polynomials.{same_pol, series_add, series_mul, coeff_top}
 use Rattle.ring_theory.proofs.Division.{divided, rest_ends, length_bound}
 use Rattle.linear_theory.specs.Euclidean.{Euclidean}
 use Rattle.ff_fields.specs.Field.{CodeField}
-use Rattle.ff_fields.specs.Code.{Code, code_ring, code_field, code_domain}
+use Rattle.ff_fields.specs.Code.{Code, code_ring, code_field}
 use Rattle.ff_poly.specs.Polynomials.{Polynomial, polynomials, polynomials_domain, polynomial_discrete}
-use Rattle.trace_theory.proofs.TracePowers.{some_long}
+use Rattle.polynomial_theory.specs.Division.{Divided}
+use Rattle.polynomial_theory.proofs.Lengths.{some_long, product_longer}
 
 module _ (k : CodeField) where
-  -- a is b times a quotient and a rest that is shorter than b
-  pub record Divided (a b : Polynomial k) : Type 0 where
-    pub quotient : Polynomial k
-    pub rest : Polynomial k
-    pub is : a ≡ (polynomials k).◌⊕◌ ((polynomials k).◌⊗◌ b quotient) rest
-    pub shorter : length rest.0 < length b.0
-
   pub top_not_zero : (b : Polynomial k) → 0 < length b.0 → ¬ (coeff_of (code_ring k).ops b.0 (length b.0 - 1) ≡ (code_ring k).𝟘)
   top_not_zero ([], t) l e = absurd (omega arith)
   top_not_zero ((x ∷ xs), t) l e =
       coeff_top (code_ring k) x xs t
       (ap (coeff_of (code_ring k).ops (x ∷ xs)) (let q : length xs ≡ length (x ∷ xs) - 1 = omega arith in q) ∙ e)
 
-  pub divide : (a b : Polynomial k) → ¬ (b ≡ (polynomials k).𝟘) → Divided a b
+  pub divide : (a b : Polynomial k) → ¬ (b ≡ (polynomials k).𝟘) → Divided k a b
   divide a b n = record { quotient = by_quotient; rest = by_rest; is = by_whole; shorter = by_shorter }
     where
       unit : (u : Code k) × ((code_ring k).◌⊗◌ (coeff_of (code_ring k).ops b.0 (length b.0 - 1)) u ≡ (code_ring k).𝟙)
@@ -88,9 +82,6 @@ module _ (k : CodeField) where
       go (yes e) = absurd (n e)
       go (no m) = (divide a b m).shorter
 
-  pub product_longer : (a b : Polynomial k) → ¬ (a ≡ (polynomials k).𝟘) → ¬ (b ≡ (polynomials k).𝟘) → length a.0 ≤ length ((polynomials k).◌⊗◌ a b).0
-  product_longer a b n m = omega (arith, some_long k b m, length_product (code_ring k) (code_domain k) a b n m)
-
   -- k[x] is Euclidean, by the number of coefficients
   abbrev pub euclidean : Euclidean (Polynomial k)
   euclidean = record {
@@ -100,5 +91,5 @@ module _ (k : CodeField) where
     rest = rest_of;
     division = whole_of;
     rest_smaller = λ a b n. inr (rest_shorter a b n);
-    size_product = product_longer;
+    size_product = product_longer k;
   }
