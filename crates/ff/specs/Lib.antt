@@ -1,4 +1,0 @@
-pub mod Commands
-pub mod Output
-pub mod Printing
-pub mod Ready

@@ -1,0 +1,5 @@
+pub mod Commands
+pub mod Numbers
+pub mod Output
+pub mod Printing
+pub mod Ready
