@@ -9,8 +9,8 @@ use ff_fields::field::SmallField;
 use ff_poly::Poly;
 use std::alloc::{AllocError, Global};
 
-/// A line that cannot be read counts as no memory.
-const BAD: AllocError = AllocError;
+/// What cannot be read counts as no memory.
+pub const BAD: AllocError = AllocError;
 
 /// The numbers of the text, between blanks.
 pub fn numbers(alloc: Global, text: &str) -> Result<Vec<u32>, AllocError> {
