@@ -1,5 +1,5 @@
 -- A finite field as its operations on codes, which are numbers below the size, and the laws of a field.
-use Rattle.std.specs.Prelude.{◌≡◌, ◌≢◌, ℕ, zero, suc, ◌<◌}
+use Rattle.std.specs.Prelude.{◌≡◌, ◌≢◌, ℕ, zero, suc, ◌%◌, ◌<◌, ◌≤◌}
 
 -- what a field answers on codes; 0 and 1 are the codes of zero and one
 pub record FieldOps : Type 0 where
@@ -19,9 +19,23 @@ abbrev pub pow_of : FieldOps → ℕ → ℕ → ℕ
 pow_of k a zero = 1
 pow_of k a (suc e) = k.mul a (pow_of k a e)
 
--- the laws of a field, and that each a is its own q-th power; they speak of codes below the size
+-- the sum of n codes a
+abbrev pub times_of : FieldOps → ℕ → ℕ → ℕ
+times_of k zero a = 0
+times_of k (suc n) a = k.add a (times_of k n a)
+
+-- no number between 1 and p divides p
+pub record IsPrime (p : ℕ) : Type 0 where
+  pub above : 1 < p
+  pub no_divisor : (d : ℕ) → 1 < d → d < p → p % d ≢ 0
+
+-- the laws of a field of at most 65,536 elements, whose characteristic is a prime p with p ones making 0, and that each a is
+-- its own q-th power; they speak of codes below the size
 pub record FieldLaws (k : FieldOps) : Type 0 where
   pub one_below : 1 < k.size
+  pub size_within : k.size ≤ 65536
+  pub is_prime : IsPrime k.characteristic
+  pub times_one : times_of k k.characteristic 1 ≡ 0
   pub add_below : (a b : ℕ) → a < k.size → b < k.size → k.add a b < k.size
   pub neg_below : (a : ℕ) → a < k.size → k.neg a < k.size
   pub mul_below : (a b : ℕ) → a < k.size → b < k.size → k.mul a b < k.size

@@ -60,7 +60,7 @@ pub record IsFieldModulus (p m : ℕ) (modulus : List ℕ) : Type 0 where
 abbrev pub modulus_field : (p m : ℕ) (modulus : List ℕ) → IsFieldModulus p m modulus → CodeField
 modulus_field p m modulus g =
     let f = g.polynomial in
-    residue_field p f.size.listed m f.size.some modulus f.long f.over f.monic g.no_divisors
+    residue_field p f.size.listed m f.size.some modulus f.long f.over f.monic f.size.small g.no_divisors
 
 -- what keeps the codes from being a field; each fault comes only where none above it holds
 abbrev pub IsFaultOf : ℕ → ℕ → List ℕ → FieldFault → Type 0

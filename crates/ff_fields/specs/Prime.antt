@@ -1,10 +1,10 @@
 -- The fields whose size is one of the six primes, and their laws.
-use Rattle.std.specs.Prelude.{◌≡◌, ◌≢◌, ℕ, zero, suc, ◌+◌, ◌-◌, ◌*◌, ◌%◌, ◌^◌, ◌<◌, ◌≤◌, Bool, true, ◌||◌, ◌&&◌, ◌⊎◌, nat_eq, IsTrue, refl}
+use Rattle.std.specs.Prelude.{◌≡◌, ◌≢◌, ℕ, zero, suc, ◌+◌, ◌-◌, ◌*◌, ◌%◌, ◌^◌, ◌<◌, ◌≤◌, Bool, true, ◌||◌, ◌&&◌, not, ◌⊎◌, nat_eq, IsTrue, refl}
 use Rattle.std.proofs.Common.{inl, inr, sym, ap, ◌∙◌, arith, add_comm, add_assoc, mul_comm, mul_assoc, mul-add, one-mul, zero-add, mod-lt, mod-eq_of_lt, eq-or-lt_of_le, eqb-true}
 use Rattle.std.proofs.Math.Nat.{mod-add-mod, add-mod-mod, add-mod, mod_self}
 use Rattle.std.proofs.lemmas.Nat.{mul-mod_first, mul-mod_second}
 use Rattle.std.proofs.lemmas.Bool.{and_parts, or_cases}
-use Rattle.ff_fields.specs.Field.{FieldOps, FieldLaws, CodeField, pow_of}
+use Rattle.ff_fields.specs.Field.{FieldOps, FieldLaws, IsPrime, CodeField, pow_of, times_of}
 
 -- p is one of the characteristics that the engine knows
 abbrev pub is_listed : ℕ → Bool
@@ -39,15 +39,21 @@ all_below_at (suc n) t all a below =
     go (inl same) here below' = ap t same ∙ here
     go (inr less) here below' = below' less
 
--- the two laws of a prime that are computed over its codes
+-- the laws of a prime that are computed over its codes
 abbrev inverse_holds : ℕ → ℕ → Bool
 inverse_holds p a = nat_eq a 0 || nat_eq (a ^ (p - 2) % p * a % p) 1
 
 abbrev power_holds : ℕ → ℕ → Bool
 power_holds p a = nat_eq (pow_of (prime_of p) a p) a
 
+-- d is at most 1 or leaves a rest
+abbrev leaves_rest : ℕ → ℕ → Bool
+leaves_rest p d = nat_eq d 0 || nat_eq d 1 || not (nat_eq (p % d) 0)
+
 abbrev computes : ℕ → Bool
-computes p = all_below p (inverse_holds p) && all_below p (power_holds p)
+computes p =
+    (all_below p (inverse_holds p) && all_below p (power_holds p))
+    && (all_below p (leaves_rest p) && nat_eq (times_of (prime_of p) p 1) 0)
 
 at_two : (t : ℕ → Bool) (q p : ℕ) → t q ≡ true → nat_eq p q ≡ true → t p ≡ true
 at_two t q p holds same = ap t (eqb-true p q same) ∙ holds
@@ -95,12 +101,31 @@ module _ (p : ℕ) (above : 1 < p) where
   negated : (a : ℕ) → a < p → ((p - a) % p + a) % p ≡ 0
   negated a in_p = let whole : p - a + a ≡ p = omega arith in mod-add-mod (p - a) p a ∙ ap (λ n. n % p) whole ∙ mod_self p
 
+pub listed_above : (p : ℕ) → IsTrue (is_listed p) → 1 < p
+listed_above p listed = grind arith
+
+listed_small : (p : ℕ) → IsTrue (is_listed p) → p ≤ 65536
+listed_small p listed = grind arith
+
+pub listed_prime : (p : ℕ) → IsTrue (is_listed p) → IsPrime p
+listed_prime p listed =
+    let halves = and_parts (all_below p (inverse_holds p) && all_below p (power_holds p)) _ (listed_computes p listed) in
+    let parts = and_parts (all_below p (leaves_rest p)) _ halves.1 in
+    record { above = listed_above p listed; no_divisor = λ d above less. rest p d above (all_below_at p (leaves_rest p) parts.0 d less) }
+  where
+    rest : (p d : ℕ) → 1 < d → leaves_rest p d ≡ true → p % d ≢ 0
+    rest p d above holds null = grind arith
+
 pub prime_laws : (p : ℕ) → IsTrue (is_listed p) → FieldLaws (prime_of p)
 prime_laws p listed =
-    let parts = and_parts (all_below p (inverse_holds p)) (all_below p (power_holds p)) (listed_computes p listed) in
+    let halves = and_parts (all_below p (inverse_holds p) && all_below p (power_holds p)) _ (listed_computes p listed) in
+    let parts = and_parts (all_below p (inverse_holds p)) (all_below p (power_holds p)) halves.0 in
     let above : 1 < p = listed_above p listed in
     record {
       one_below = above;
+      size_within = listed_small p listed;
+      is_prime = listed_prime p listed;
+      times_one = eqb-true _ 0 (and_parts (all_below p (leaves_rest p)) _ halves.1).1;
       add_below = λ a b _ _. below p above (a + b);
       neg_below = λ a _. below p above (p - a);
       mul_below = λ a b _ _. below p above (a * b);
@@ -117,9 +142,6 @@ prime_laws p listed =
       pow_size = λ a in_p. eqb-true _ a (all_below_at p (power_holds p) parts.1 a in_p);
     }
   where
-    listed_above : (p : ℕ) → IsTrue (is_listed p) → 1 < p
-    listed_above p listed = grind arith
-
     inverse : (p a : ℕ) → a ≢ 0 → inverse_holds p a ≡ true → a ^ (p - 2) % p * a % p ≡ 1
     inverse p a not_zero holds = go (or_cases _ _ holds)
       where

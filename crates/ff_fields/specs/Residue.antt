@@ -1,7 +1,7 @@
 -- Codes as polynomials over a prime field modulo a monic one: the digits of a code are the coefficients.
 use Rattle.std.specs.Prelude.{◌≡◌, ◌≢◌, ℕ, zero, suc, ◌+◌, ◌-◌, ◌*◌, ◌/◌, ◌%◌, ◌^◌, ◌<◌, ◌≤◌, List, [], ◌∷◌, length, take, get_or, replicate, ◌⊎◌, IsTrue, refl}
 use Rattle.std.proofs.Common.{sym, ap, ap₂, ◌∙◌, arith, mod-lt, mod-eq_of_lt, subst, pow-suc, mul_comm, inl, inr, pos_of_ne-zero}
-use Rattle.std.proofs.Math.Nat.{add-mul-mod_self_left, add-mul-div_left, div-eq_of_lt, mod-add-div, div-lt_iff_lt-mul, mul-le-mul_left, mul-le-mul_right, one-le-pow, pow-zero}
+use Rattle.std.proofs.Math.Nat.{add-mul-mod_self_left, add-mod-mod, mod_self, add-mul-div_left, div-eq_of_lt, mod-add-div, div-lt_iff_lt-mul, mul-le-mul_left, mul-le-mul_right, one-le-pow, pow-zero}
 use Rattle.std.proofs.Math.Bridge.{le_prop}
 use Rattle.std.proofs.lemmas.List.{length-map, length-replicate, length-take-le, take-map, get_or-take, ext_get_or}
 use Rattle.std.proofs.lemmas.Bool.{cases_lt, cases_eq}
@@ -19,8 +19,8 @@ use Rattle.ring_theory.proofs.Polynomials.{pol_ring, same_pol, series_add, serie
 use Rattle.ring_theory.proofs.Division.{divided, rest_ends, length_bound, length_add, length_neg, length_rest_from, short_multiple}
 use Rattle.ring_theory.proofs.Congruence.{congruent_sym, congruent_same, represented_ring}
 use Rattle.ring_theory.proofs.Finite.{power_all, codes_to, length_codes_to, codes_to_some, codes_to_distinct, codes_to_all}
-use Rattle.ff_fields.specs.Field.{FieldOps, FieldLaws, CodeField, pow_of}
-use Rattle.ff_fields.specs.Prime.{is_listed, prime_of, prime_field}
+use Rattle.ff_fields.specs.Field.{FieldOps, FieldLaws, CodeField, pow_of, times_of}
+use Rattle.ff_fields.specs.Prime.{is_listed, prime_of, prime_field, listed_above, listed_prime}
 use Rattle.ff_fields.specs.Code.{raw_ring, Code, code_ring, code_domain, read_code, same_code}
 use Rattle.ff_fields.specs.Over.{IsOver, IsOver_nil, IsOver_cons, IsOver_head, IsOver_tail}
 use Rattle.ff_fields.specs.Numbers.{numbers, read, numbers_read, read_numbers, numbers_add, numbers_neg, numbers_mul, numbers_rest_from, numbers_get_or, IsOver_numbers}
@@ -57,6 +57,46 @@ residue_of p m modulus =
       mul = residue_mul p m modulus;
       inv = λ a. power_by (residue_mul p m modulus) a (p ^ m - 2);
     }
+
+-- the sum by digits of two codes below p is that modulo p
+null_sum : (p m : ℕ) → 0 < p → number p (add_lists (raw_ring (prime_of p)) (digits p m 0) (digits p m 0)) ≡ 0
+null_sum p zero pos = refl
+null_sum p (suc m) pos =
+    let rest : ℕ → ℕ = λ c. number p (add_lists (raw_ring (prime_of p)) (digits p m c) (digits p m c)) in
+    let first : 0 % p ≡ 0 = mod-eq_of_lt pos in
+    ap (λ d. (d + d) % p + p * rest (0 / p)) first
+    ∙ ap (λ d. d + p * rest (0 / p)) first
+    ∙ ap (λ c. 0 + p * rest c) (div-eq_of_lt pos)
+    ∙ ap (λ r. 0 + p * r) (null_sum p m pos)
+    ∙ none p
+  where
+    none : (p : ℕ) → 0 + p * 0 ≡ 0
+    none p = omega arith
+
+small_sum : (p m a b : ℕ) → 0 < p → 0 < m → a < p → b < p → number p (add_lists (raw_ring (prime_of p)) (digits p m a) (digits p m b)) ≡ (a + b) % p
+small_sum p zero a b pos some a_in b_in = absurd (omega arith)
+small_sum p (suc m) a b pos some a_in b_in =
+    let rest : ℕ → ℕ → ℕ = λ c d. number p (add_lists (raw_ring (prime_of p)) (digits p m c) (digits p m d)) in
+    ap₂ (λ c d. (c + d) % p + p * rest (a / p) (b / p)) (mod-eq_of_lt a_in) (mod-eq_of_lt b_in)
+    ∙ ap₂ (λ c d. (a + b) % p + p * rest c d) (div-eq_of_lt a_in) (div-eq_of_lt b_in)
+    ∙ ap (λ r. (a + b) % p + p * r) (null_sum p m pos)
+    ∙ none p ((a + b) % p)
+  where
+    none : (p r : ℕ) → r + p * 0 ≡ r
+    none p r = omega arith
+
+-- the sum of n ones
+sum_of_ones : (p m : ℕ) (modulus : List ℕ) → 1 < p → 0 < m → (n : ℕ) → times_of (residue_of p m modulus) n 1 ≡ n % p
+sum_of_ones p m modulus above some zero = let pos : 0 < p = omega arith in sym (mod-eq_of_lt pos)
+sum_of_ones p m modulus above some (suc n) =
+    let pos : 0 < p = omega arith in
+    ap ((residue_of p m modulus).add 1) (sum_of_ones p m modulus above some n)
+    ∙ small_sum p m 1 (n % p) pos some above (mod-lt n pos)
+    ∙ add-mod-mod 1 n p
+    ∙ ap (λ w. w % p) (one_more n)
+  where
+    one_more : (n : ℕ) → 1 + n ≡ suc n
+    one_more n = omega arith
 
 pub length_digits : (p m c : ℕ) → length (digits p m c) ≡ m
 length_digits p zero c = refl
@@ -396,7 +436,7 @@ module _ (p : ℕ) (listed : IsTrue (is_listed p)) (m : ℕ) (some : 0 < m) (mod
 
   -- where no product of two nonzero codes is 0, the codes are a field
 
-  module _ (no_divisors : (a b : ℕ) → a < p ^ m → b < p ^ m → a ≢ 0 → b ≢ 0 → ops.mul a b ≢ 0) where
+  module _ (small : p ^ m ≤ 65536) (no_divisors : (a b : ℕ) → a < p ^ m → b < p ^ m → a ≢ 0 → b ≢ 0 → ops.mul a b ≢ 0) where
     same_codes : (x y : C) → x.0 ≡ y.0 → x ≡ y
     same_codes x y e = Σ_prop_path (λ c. le_prop) e
 
@@ -443,6 +483,9 @@ module _ (p : ℕ) (listed : IsTrue (is_listed p)) (m : ℕ) (some : 0 < m) (mod
     pub residue_laws : FieldLaws ops
     residue_laws = record {
       one_below = two_le;
+      size_within = small;
+      is_prime = listed_prime p listed;
+      times_one = sum_of_ones p m modulus (listed_above p listed) some p ∙ mod_self p;
       add_below = λ a b _ _. sum_below a b;
       neg_below = λ a _. negative_below a;
       mul_below = λ a b _ _. product_below a b;
