@@ -1,6 +1,6 @@
 -- The words of the private contracts on factors that are cancelled.
 use Rattle.std.specs.Prelude.{◌≡◌, ◌≢◌, ℕ, List, [], map, All}
-use Rattle.ring_theory.proofs.Finite.{In}
+use Rattle.ring_theory.specs.Members.{In}
 use Rattle.linear_theory.specs.Euclidean.{IsDivisor}
 use Rattle.ff_fields.specs.Field.{CodeField}
 use Rattle.ff_fields.specs.Over.{IsOver}

@@ -2,7 +2,7 @@
 use Rattle.std.specs.Prelude.{◌≡◌, ◌≢◌, ℕ, suc, ◌<◌, ◌⊎◌, ◌↔◌, List, [], ◌∷◌, length, get_or, map}
 use Rattle.std.specs.Global.{Vec}
 use Rattle.ring_theory.specs.Lists.{add_lists}
-use Rattle.ring_theory.proofs.Finite.{In}
+use Rattle.ring_theory.specs.Members.{In}
 use Rattle.ff_fields.specs.Field.{FieldOps}
 use Rattle.ff_fields.specs.Code.{raw_ring}
 use Rattle.ff_falg.specs.Algebras.{AlgebraOps, IsIdempotent, IsPrimitive, zero_of}

@@ -1,7 +1,7 @@
 -- Isomorphisms of rings.
 use Rattle.std.specs.Prelude.{◌≡◌}
 use Rattle.ring_theory.specs.Ring.{CommRing}
-use Rattle.ring_theory.proofs.RowMaps.{IsHom}
+use Rattle.ring_theory.specs.Maps.{IsHom}
 
 -- a homomorphism that takes different elements to different ones and has each element as a value
 pub record IsIsomorphism {A B : Type 0} (R : CommRing A) (S : CommRing B) (f : A → B) : Type 0 where

@@ -6,16 +6,7 @@ use Rattle.std.proofs.lemmas.List.{length-map}
 use Rattle.std.proofs.Math.Nat.{le_of_suc-le}
 use Rattle.ring_theory.specs.Ring.{CommRing, IsDomain, pow}
 use Rattle.ring_theory.proofs.Ring.{one_mul, mul_left_comm, product_not_zero, domain_cancel}
-
--- x stands in the list
-abbrev pub In : {A : Type 0} → A → List A → Type 0
-In x [] = ⊥
-In x (y ∷ ys) = (x ≡ y) ⊎ In x ys
-
--- no element stands twice
-abbrev pub IsDistinct : {A : Type 0} → List A → Type 0
-IsDistinct [] = Unit {0}
-IsDistinct (y ∷ ys) = (In y ys → ⊥) × IsDistinct ys
+pub use Rattle.ring_theory.specs.Members.{In, IsDistinct}
 
 split : {A : Type 0} (x : A) (xs : List A) → In x xs → (l : List A) × ((r : List A) × (xs ≡ l ++ x ∷ r))
 split x [] h = absurd h

@@ -9,15 +9,12 @@ use Rattle.ring_theory.specs.Lists.{coeff_of, convolution, add_lists, neg_list, 
 use Rattle.ring_theory.proofs.Ring.{one_mul, mul_zero, product_not_zero}
 use Rattle.ring_theory.proofs.Sequences.{convolution_comm, convolution_assoc, convolution_constant_left, convolution_past, convolution_top, convolution_add_right}
 use Rattle.ring_theory.proofs.Lists.{IsTrimmed_trim, IsTrimmed_tail, coeff_add, coeff_neg, coeff_mul, coeff_trim, all_zero_empty, same_from_coeffs}
+pub use Rattle.ring_theory.specs.Polynomials.{Pol}
 
 pub IsTrimmed_prop : {A : Type 0} (z : A → Bool) (xs : List A) → IsProp (IsTrimmed z xs)
 IsTrimmed_prop z [] = Unit-prop
 IsTrimmed_prop z (x ∷ []) = Bool-set (z x) false
 IsTrimmed_prop z (x ∷ y ∷ ys) = IsTrimmed_prop z (y ∷ ys)
-
--- a polynomial
-abbrev pub Pol : {A : Type 0} → TestedRing A → Type 0
-Pol {A = A} r = (xs : List A) × IsTrimmed r.is_zero xs
 
 abbrev pub pol_of : {A : Type 0} (r : TestedRing A) → List A → Pol r
 pol_of r xs = (trim r.is_zero xs, IsTrimmed_trim r.is_zero xs)

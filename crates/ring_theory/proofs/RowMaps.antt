@@ -6,11 +6,7 @@ use Rattle.ring_theory.specs.Rows.{Row, row_zero, row_add, row_scale, shift, top
 use Rattle.ring_theory.proofs.Ring.{zero_add, mul_zero, mul_neg, neg_neg, add_cancel_left, product_not_zero, ring_rules, mul_rules}
 use Rattle.ring_theory.proofs.Rows.{row_mul}
 use Rattle.ring_theory.proofs.RowFractions.{RowPair, SamePair, Function, function_ring, pair_function, from_pairs, each_pair, add_pairs, mul_pairs, pair_add, pair_mul}
-
-pub record IsHom {P E : Type 0} (S : CommRing P) (F : CommRing E) (map : P → E) : Type 0 where
-  pub add : (a b : P) → map (S.◌⊕◌ a b) ≡ F.◌⊕◌ (map a) (map b)
-  pub mul : (a b : P) → map (S.◌⊗◌ a b) ≡ F.◌⊗◌ (map a) (map b)
-  pub 𝟙 : map S.𝟙 ≡ F.𝟙
+pub use Rattle.ring_theory.specs.Maps.{IsHom}
 
 module _ {E : Type 0} (F : CommRing E) where
   open F use {𝟘, 𝟙, ◌⊕◌, ◌⊗◌, ⊖◌}
