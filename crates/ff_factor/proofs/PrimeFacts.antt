@@ -137,9 +137,9 @@ module _ (k : CodeField) where
 
             go : At k g h e primitive B ⊎ At k g h e primitive Q → ⊥
             go (inl a) =
-                let l = divisor_length (value k p) B b_some ((generates e p primitive is B).0 a) in omega (arith, b_size, p_size)
+                let l = divisor_length k (value k p) B b_some ((generates e p primitive is B).0 a) in omega (arith, b_size, p_size)
             go (inr a) =
-                let l = divisor_length (value k p) Q q_some ((generates e p primitive is Q).0 a) in
+                let l = divisor_length k (value k p) Q q_some ((generates e p primitive is Q).0 a) in
                 let w : length (value k p).0 ≡ length (B ⊗ Q).0 = ap (λ x. length x.0) whole in
                 omega (arith, b_size, p_size, length_product (code_ring k) (code_domain k) B Q b_some q_some)
 

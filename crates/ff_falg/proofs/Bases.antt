@@ -4,7 +4,7 @@ use Rattle.std.proofs.lemmas.List.{length-map}
 use Rattle.std.proofs.lemmas.List.Elements.{All-nil, All-cons, All-head, All-tail}
 use Rattle.ring_theory.specs.Ring.{CommRing}
 use Rattle.ring_theory.specs.Subsets.{Span}
-use Rattle.ring_theory.specs.Lists.{add_lists, scale_list}
+use Rattle.ring_theory.specs.Lists.{coeff_of, add_lists, scale_list}
 use Rattle.ring_theory.specs.Members.{In}
 use Rattle.ring_theory.proofs.Solver.{look}
 use Rattle.ring_theory.proofs.Subsets.{span_head, span_tail, span_zero}
@@ -40,14 +40,14 @@ module _ (k : CodeField) where
   get_scale c (x ∷ xs) zero c_in = refl
   get_scale c (x ∷ xs) (suc j) c_in = get_scale c xs j c_in
 
-  look_raw : (xs : List ℕ) (j : ℕ) → look (raw_ring k.ops) xs j ≡ get_or xs j 0
-  look_raw [] j = refl
-  look_raw (x ∷ xs) zero = refl
-  look_raw (x ∷ xs) (suc j) = look_raw xs j
+  coeff_raw : (xs : List ℕ) (j : ℕ) → coeff_of (raw_ring k.ops) xs j ≡ get_or xs j 0
+  coeff_raw [] j = refl
+  coeff_raw (x ∷ xs) zero = refl
+  coeff_raw (x ∷ xs) (suc j) = coeff_raw xs j
 
   row_raw : (rows : List (List ℕ)) (i j : ℕ) → row (raw_ring k.ops) (rows_of (raw_ring k.ops) rows) i j ≡ get_or (get_or rows i []) j 0
   row_raw [] i j = refl
-  row_raw (r ∷ rows) zero j = look_raw r j
+  row_raw (r ∷ rows) zero j = coeff_raw r j
   row_raw (r ∷ rows) (suc i) j = row_raw rows i j
 
 module _ (k : CodeField) (A : AlgebraOps) (law : IsAlgebra k A) where
@@ -123,7 +123,7 @@ module _ (k : CodeField) (A : AlgebraOps) (law : IsAlgebra k A) where
         (λ i less. sym (row_raw k m.rows i (form.pivot i)) ∙ form.pivot_one i (omega arith))
         (λ i l less less'.
         sym (row_raw k m.rows l (form.pivot i))
-        ∙ form.column_zero i l (omega arith) (let e = length-map m.rows (look (raw_ring k.ops)) in omega arith) (λ e. omega arith))
+        ∙ form.column_zero i l (omega arith) (let e = length-map m.rows (coeff_of (raw_ring k.ops)) in omega arith) (λ e. omega arith))
 
     pub span_space : (x : Vector k A.size) → Span R.ops S basis_vectors x → space x.0
     span_space x s =

@@ -8,15 +8,13 @@ use Rattle.ff_fields.specs.Code.{Code, code_ring, raw_ring, read_code, read_code
 use Rattle.ff_fields.specs.Numbers.{read, numbers, numbers_read, read_numbers, numbers_add, numbers_scale, IsOver_numbers}
 use Rattle.ff_fields.specs.Over.{IsOver, IsOver_head, IsOver_tail, IsOver_zeros, IsOver_add, IsOver_scale}
 use Rattle.ring_theory.specs.Ring.{CommRing}
-use Rattle.ring_theory.specs.Lists.{add_lists, scale_list}
-use Rattle.ring_theory.proofs.Lists.{coeff_scale, length_add_lists, length_scale_list}
-use Rattle.ring_theory.proofs.Solver.{look}
+use Rattle.ring_theory.specs.Lists.{coeff_of, add_lists, scale_list}
+use Rattle.ring_theory.proofs.Lists.{coeff_add, coeff_scale, length_add_lists, length_scale_list}
 use Rattle.linear_theory.specs.Module.{combine, combination, sequence_ops}
 use Rattle.linear_theory.specs.Echelon.{row, rows_of, InRowSpace}
 use Rattle.linear_theory.proofs.Combination.{sequences, combine_cong, combine_none}
-use Rattle.linear_theory.proofs.Division.{look_add, look_is_coeff}
 use Rattle.linear_theory.proofs.Echelon.{list_ext}
-use Rattle.linear_theory.proofs.EchelonBasis.{cut, look_cut, length_cut}
+use Rattle.linear_theory.proofs.EchelonBasis.{cut, coeff_cut, length_cut}
 use Rattle.linear_theory.proofs.Augment.{same_row_space, own_row}
 use Rattle.linear_theory.proofs.SameRows.{reduced_across}
 use Rattle.ff_linalg.specs.Matrix.{MatrixValue, IsMatrixOver}
@@ -26,14 +24,14 @@ use Rattle.ff_linalg.specs.Space.{row_ops, product_of, IsInRowSpace, IsReducedFo
 use Rattle.ff_linalg.proofs.Reading.{read_zero, read_one, read_same, row_entry, length_sequences, entry_in}
 
 -- the entries of rows of numbers
-look_raw : (k : FieldOps) (xs : List ℕ) (j : ℕ) → look (raw_ring k) xs j ≡ get_or xs j 0
-look_raw k [] j = refl
-look_raw k (x ∷ xs) zero = refl
-look_raw k (x ∷ xs) (suc j) = look_raw k xs j
+coeff_raw : (k : FieldOps) (xs : List ℕ) (j : ℕ) → coeff_of (raw_ring k) xs j ≡ get_or xs j 0
+coeff_raw k [] j = refl
+coeff_raw k (x ∷ xs) zero = refl
+coeff_raw k (x ∷ xs) (suc j) = coeff_raw k xs j
 
 pub raw_entry : (k : FieldOps) (rows : List (List ℕ)) (i j : ℕ) → row (raw_ring k) (rows_of (raw_ring k) rows) i j ≡ entry_at rows i j
 raw_entry k [] i j = refl
-raw_entry k (r ∷ rows) zero j = look_raw k r j
+raw_entry k (r ∷ rows) zero j = coeff_raw k r j
 raw_entry k (r ∷ rows) (suc i) j = raw_entry k rows i j
 
 module _ (k : CodeField) where
@@ -41,7 +39,7 @@ module _ (k : CodeField) where
   R = (code_ring k).ring
 
   length_raw : (rows : List (List ℕ)) → length (rows_of (raw_ring k.ops) rows) ≡ length rows
-  length_raw rows = length-map rows (look (raw_ring k.ops))
+  length_raw rows = length-map rows (coeff_of (raw_ring k.ops))
 
   -- reduced forms
   pub form_of_codes : (m : MatrixValue) (rank : ℕ) → All (IsOver k.ops) m.rows → IsReducedBelow k m.cols m.rows rank → IsReducedForm k.ops m rank
@@ -76,13 +74,10 @@ module _ (k : CodeField) where
       ap (read k) (ap₂ (scale_list (raw_ring k.ops)) (sym (read_code_below k c c_in)) (sym (numbers_read k ys ys_in)) ∙ sym (numbers_scale k (read_code k c) (read k ys)))
       ∙ read_numbers k (scale_list R.ops (read_code k c) (read k ys))
 
-  look_scale : (a : Code k) (xs : List (Code k)) (j : ℕ) → look R.ops (scale_list R.ops a xs) j ≡ R.◌⊗◌ a (look R.ops xs j)
-  look_scale a xs j = look_is_coeff R.ops (scale_list R.ops a xs) j ∙ coeff_scale (code_ring k) a xs j ∙ ap (R.◌⊗◌ a) (sym (look_is_coeff R.ops xs j))
-
-  pub look_zeros : (n j : ℕ) → look R.ops (read k (replicate n 0)) j ≡ R.𝟘
-  look_zeros zero j = refl
-  look_zeros (suc n) zero = read_zero k
-  look_zeros (suc n) (suc j) = look_zeros n j
+  pub coeff_zeros : (n j : ℕ) → coeff_of R.ops (read k (replicate n 0)) j ≡ R.𝟘
+  coeff_zeros zero j = refl
+  coeff_zeros (suc n) zero = read_zero k
+  coeff_zeros (suc n) (suc j) = coeff_zeros n j
 
   -- combinations
   pub combination_over : (cols : ℕ) (cs : List ℕ) (rows : List (List ℕ)) → IsOver k.ops cs → All (IsOver k.ops) rows → IsOver k.ops (combination (row_ops k.ops cols) cs rows)
@@ -102,24 +97,24 @@ module _ (k : CodeField) where
       length_add_lists (raw_ring k.ops) (scale_list (raw_ring k.ops) c r) (combination (row_ops k.ops cols) cs rows) (omega (arith, a, b, s)) ∙ s ∙ a
 
   pub combination_is : (cols : ℕ) (cs : List ℕ) (rows : List (List ℕ)) → IsOver k.ops cs → All (IsOver k.ops) rows → (j : ℕ)
-      → look R.ops (read k (combination (row_ops k.ops cols) cs rows)) j ≡ combine (sequence_ops R.ops) (look R.ops (read k cs)) (sequences_of k rows) j
+      → coeff_of R.ops (read k (combination (row_ops k.ops cols) cs rows)) j ≡ combine (sequence_ops R.ops) (coeff_of R.ops (read k cs)) (sequences_of k rows) j
   combination_is cols [] rows cs_in over j =
-      look_zeros cols j ∙ sym (ap (λ s. s j) (combine_none (sequences R) (look R.ops (read k [])) (sequences_of k rows) (λ i l. refl)))
-  combination_is cols (c ∷ cs) [] cs_in over j = look_zeros cols j
+      coeff_zeros cols j ∙ sym (ap (λ s. s j) (combine_none (sequences R) (coeff_of R.ops (read k [])) (sequences_of k rows) (λ i l. refl)))
+  combination_is cols (c ∷ cs) [] cs_in over j = coeff_zeros cols j
   combination_is cols (c ∷ cs) (r ∷ rows) cs_in over j =
       let c_in = IsOver_head cs_in in
       let r_in = All-head (IsOver k.ops) r rows over in
       let rest_in = All-tail (IsOver k.ops) r rows over in
       let rest = combination (row_ops k.ops cols) cs rows in
-      ap (λ xs. look R.ops xs j)
+      ap (λ xs. coeff_of R.ops xs j)
       (read_add_lists (scale_list (raw_ring k.ops) c r) rest (IsOver_scale k c r c_in r_in) (combination_over cols cs rows (IsOver_tail cs_in) rest_in)
       ∙ ap (λ xs. add_lists R.ops xs (read k rest)) (read_scale_list c r c_in r_in))
-      ∙ look_add (code_ring k) (scale_list R.ops (read_code k c) (read k r)) (read k rest) j
-      ∙ ap₂ R.◌⊕◌ (look_scale (read_code k c) (read k r) j) (combination_is cols cs rows (IsOver_tail cs_in) rest_in j)
+      ∙ coeff_add (code_ring k) (scale_list R.ops (read_code k c) (read k r)) (read k rest) j
+      ∙ ap₂ R.◌⊕◌ (coeff_scale (code_ring k) (read_code k c) (read k r) j) (combination_is cols cs rows (IsOver_tail cs_in) rest_in j)
 
   -- lists of codes with the same entries over the field
   pub codes_ext : (xs ys : List ℕ) → IsOver k.ops xs → IsOver k.ops ys → length xs ≡ length ys
-      → ((j : ℕ) → j < length xs → look R.ops (read k xs) j ≡ look R.ops (read k ys) j) → xs ≡ ys
+      → ((j : ℕ) → j < length xs → coeff_of R.ops (read k xs) j ≡ coeff_of R.ops (read k ys) j) → xs ≡ ys
   codes_ext xs ys xs_in ys_in e h =
       sym (numbers_read k xs xs_in)
       ∙ ap (numbers k) (list_ext R (read k xs) (read k ys) (length-map xs (read_code k) ∙ e ∙ sym (length-map ys (read_code k)))
@@ -133,27 +128,27 @@ module _ (k : CodeField) where
   pub length_codes_of : (n : ℕ) (u : ℕ → Code k) → length (codes_of n u) ≡ n
   length_codes_of n u = length-map (cut n u) (λ x. x.0) ∙ length_cut n u
 
-  pub look_codes_of : (n : ℕ) (u : ℕ → Code k) (i : ℕ) → i < n → look R.ops (read k (codes_of n u)) i ≡ u i
-  look_codes_of n u i l = ap (λ xs. look R.ops xs i) (read_numbers k (cut n u)) ∙ look_cut R.ops n u i l
+  pub coeff_codes_of : (n : ℕ) (u : ℕ → Code k) (i : ℕ) → i < n → coeff_of R.ops (read k (codes_of n u)) i ≡ u i
+  coeff_codes_of n u i l = ap (λ xs. coeff_of R.ops xs i) (read_numbers k (cut n u)) ∙ coeff_cut R.ops n u i l
 
   -- row spaces
   pub space_of_codes : (m : MatrixValue) (w : List ℕ) → All (IsOver k.ops) m.rows → IsInRowSpace k.ops m w
-      → InRowSpace R.ops m.cols (sequences_of k m.rows) (look R.ops (read k w))
+      → InRowSpace R.ops m.cols (sequences_of k m.rows) (coeff_of R.ops (read k w))
   space_of_codes m w over h = record {
-    coefficient = look R.ops (read k h.coefficients);
-    is = λ j l. ap (λ xs. look R.ops (read k xs) j) h.is ∙ combination_is m.cols h.coefficients m.rows h.over over j;
+    coefficient = coeff_of R.ops (read k h.coefficients);
+    is = λ j l. ap (λ xs. coeff_of R.ops (read k xs) j) h.is ∙ combination_is m.cols h.coefficients m.rows h.over over j;
   }
 
   pub codes_of_space : (m : MatrixValue) (w : List ℕ) → All (IsOver k.ops) m.rows → All (λ r. length r ≡ m.cols) m.rows → IsOver k.ops w → length w ≡ m.cols
-      → InRowSpace R.ops m.cols (sequences_of k m.rows) (look R.ops (read k w)) → IsInRowSpace k.ops m w
+      → InRowSpace R.ops m.cols (sequences_of k m.rows) (coeff_of R.ops (read k w)) → IsInRowSpace k.ops m w
   codes_of_space m w over wide w_in w_long h = record {
     coefficients = cs;
     one_each = length_codes_of (length m.rows) h.coefficient;
     over = cs_in;
     is = codes_ext w (product_of k.ops cs m) w_in (combination_over m.cols cs m.rows cs_in over) (w_long ∙ sym (length_combination m.cols cs m.rows wide)) (λ j l.
         h.is j (subst (λ n. j < n) w_long l)
-        ∙ ap (λ s. s j) (combine_cong (sequences R) h.coefficient (look R.ops (read k cs)) (sequences_of k m.rows) (λ i a.
-        sym (look_codes_of (length m.rows) h.coefficient i (subst (λ n. i < n) (length_sequences k m.rows) a))))
+        ∙ ap (λ s. s j) (combine_cong (sequences R) h.coefficient (coeff_of R.ops (read k cs)) (sequences_of k m.rows) (λ i a.
+        sym (coeff_codes_of (length m.rows) h.coefficient i (subst (λ n. i < n) (length_sequences k m.rows) a))))
         ∙ sym (combination_is m.cols cs m.rows cs_in over j));
   }
     where
@@ -163,7 +158,7 @@ module _ (k : CodeField) where
       cs_in : IsOver k.ops cs
       cs_in = IsOver_numbers k (cut (length m.rows) h.coefficient)
 
-  pub row_look : (rows : List (List ℕ)) (i j : ℕ) → row R.ops (sequences_of k rows) i j ≡ look R.ops (read k (get_or rows i [])) j
+  pub row_look : (rows : List (List ℕ)) (i j : ℕ) → row R.ops (sequences_of k rows) i j ≡ coeff_of R.ops (read k (get_or rows i [])) j
   row_look [] i j = refl
   row_look (r ∷ rows) zero j = refl
   row_look (r ∷ rows) (suc i) j = row_look rows i j
@@ -184,5 +179,5 @@ module _ (k : CodeField) where
   same_space_within m m' e over over' wide wide' same w h =
       codes_of_space m' w over'.each wide' (rw h.is (combination_over m.cols h.coefficients m.rows h.over over.each))
       (ap length h.is ∙ length_combination m.cols h.coefficients m.rows wide ∙ e)
-      (subst (λ n. InRowSpace R.ops n (sequences_of k m'.rows) (look R.ops (read k w))) e
-      (same_row_space R m.cols (sequences_of k m.rows) (sequences_of k m'.rows) same (look R.ops (read k w)) (space_of_codes m w over.each h)))
+      (subst (λ n. InRowSpace R.ops n (sequences_of k m'.rows) (coeff_of R.ops (read k w))) e
+      (same_row_space R m.cols (sequences_of k m.rows) (sequences_of k m'.rows) same (coeff_of R.ops (read k w)) (space_of_codes m w over.each h)))

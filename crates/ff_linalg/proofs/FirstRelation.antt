@@ -6,15 +6,15 @@ use Rattle.ff_fields.specs.Field.{CodeField}
 use Rattle.ff_fields.specs.Code.{Code, code_ring, read_code}
 use Rattle.ff_fields.specs.Numbers.{read}
 use Rattle.ff_fields.specs.Over.{IsOver}
+use Rattle.ring_theory.specs.Lists.{coeff_of}
 use Rattle.ring_theory.specs.Ring.{CommRing}
-use Rattle.ring_theory.proofs.Solver.{look}
 use Rattle.ring_theory.proofs.Sums.{below_cong}
 use Rattle.linear_theory.specs.Echelon.{row}
 use Rattle.ff_linalg.specs.Matrix.{MatrixValue, IsMatrixOver, HasShape, first_rows_of, row_of, entry_of}
 use Rattle.ff_linalg.specs.Forms.{sequences_of, IsReducedBelow}
 use Rattle.ff_linalg.specs.Space.{product_of, IsInRowSpace, IsReducedForm, IsSolution, HasIndependentStart, IsFirstRelation}
 use Rattle.ff_linalg.specs.Relations.{IsTransposed, IsDiagonalStart, IsColumnStart}
-use Rattle.ff_linalg.proofs.Reading.{read_one, read_same, look_read, row_entry, length_sequences, entry_in}
+use Rattle.ff_linalg.proofs.Reading.{read_one, read_same, coeff_read, row_entry, length_sequences, entry_in}
 use Rattle.ff_linalg.proofs.Bridge.{codes_of_form, combination_over, length_combination, combination_is, codes_ext, row_look}
 use Rattle.ff_linalg.proofs.Beside.{domain_of_codes}
 use Rattle.ff_linalg.proofs.Unique.{rows_within}
@@ -34,7 +34,7 @@ module _ (k : CodeField) (a t : MatrixValue) (shape : HasShape a (length a.rows)
       row_entry k (take r a.rows) i j ∙ ap (λ x. read_code k (get_or x j 0)) (get_or-take r a.rows i [] l) ∙ sym (row_entry k a.rows i j)
 
   start_column : (r : ℕ) → r ≤ length a.rows → (v : List ℕ) → IsOver k.ops v → (j : ℕ) → j < a.cols
-      → look R.ops (read k (product_of k.ops v (first_rows_of a r))) j ≡ dot R r (look R.ops (read k v)) (row R.ops (sequences_of k t.rows) j)
+      → coeff_of R.ops (read k (product_of k.ops v (first_rows_of a r))) j ≡ dot R r (coeff_of R.ops (read k v)) (row R.ops (sequences_of k t.rows) j)
   start_column r within v v_in j m =
       combination_is k a.cols v (take r a.rows) v_in (All-take (IsOver k.ops) r a.rows a_in.each) j
       ∙ combine_column R c (sequences_of k (take r a.rows)) j
@@ -43,19 +43,19 @@ module _ (k : CodeField) (a t : MatrixValue) (shape : HasShape a (length a.rows)
       (λ i l. ap (R.◌⊗◌ (c i)) (start_entry r i j l ∙ column_entry i j (omega arith) m))
     where
       c : ℕ → Code k
-      c = look R.ops (read k v)
+      c = coeff_of R.ops (read k v)
 
-  here : (r j : ℕ) → r < length a.rows → j < a.cols → look R.ops (read k (row_of a r)) j ≡ row R.ops (sequences_of k t.rows) j r
+  here : (r j : ℕ) → r < length a.rows → j < a.cols → coeff_of R.ops (read k (row_of a r)) j ≡ row R.ops (sequences_of k t.rows) j r
   here r j l m = sym (row_look k a.rows r j) ∙ column_entry r j l m
 
   columns_of_solution : (r : ℕ) → r < length a.rows → (v : List ℕ) → IsSolution k.ops (first_rows_of a r) (row_of a r) v
-      → (j : ℕ) → j < length (sequences_of k t.rows) → IsCombinedAt R r (look R.ops (read k v)) (row R.ops (sequences_of k t.rows) j)
+      → (j : ℕ) → j < length (sequences_of k t.rows) → IsCombinedAt R r (coeff_of R.ops (read k v)) (row R.ops (sequences_of k t.rows) j)
   columns_of_solution r within v h j l =
       let m : j < a.cols = omega (arith, l, length_sequences k t.rows, T.shape.row_count) in
-      sym (here r j within m) ∙ ap (λ xs. look R.ops (read k xs) j) (sym h.product) ∙ start_column r (omega arith) v h.over j m
+      sym (here r j within m) ∙ ap (λ xs. coeff_of R.ops (read k xs) j) (sym h.product) ∙ start_column r (omega arith) v h.over j m
 
   solution_of_columns : (r : ℕ) → r < length a.rows → (v : List ℕ) → length v ≡ r → IsOver k.ops v
-      → ((j : ℕ) → j < length (sequences_of k t.rows) → IsCombinedAt R r (look R.ops (read k v)) (row R.ops (sequences_of k t.rows) j))
+      → ((j : ℕ) → j < length (sequences_of k t.rows) → IsCombinedAt R r (coeff_of R.ops (read k v)) (row R.ops (sequences_of k t.rows) j))
       → IsSolution k.ops (first_rows_of a r) (row_of a r) v
   solution_of_columns r within v long v_in h = record {
     one_each = long ∙ sym (length-take-le r a.rows (omega arith));
@@ -109,8 +109,8 @@ module _ (k : CodeField) (a t : MatrixValue) (shape : HasShape a (length a.rows)
 
     pub independent_start : HasIndependentStart k.ops a count
     independent_start i l v h =
-        independent_columns (domain_of_codes k) m.cols F r.form count within_rows d.within_cols ones i (look R.ops (read k v)) l
-        (to_form i (look R.ops (read k v)) within (columns_of_solution i within v h))
+        independent_columns (domain_of_codes k) m.cols F r.form count within_rows d.within_cols ones i (coeff_of R.ops (read k v)) l
+        (to_form i (coeff_of R.ops (read k v)) within (columns_of_solution i within v h))
       where
         within : i < length a.rows
         within = let b = d.within_cols in omega (arith, l, width)
@@ -121,9 +121,9 @@ module _ (k : CodeField) (a t : MatrixValue) (shape : HasShape a (length a.rows)
           within = omega (arith, within, s.size);
           relation = subst (λ n. IsSolution k.ops (first_rows_of a n) (row_of a n) v) (sym s.size)
               (solution_of_columns count within v s.size v_in
-              (of_form count (look R.ops (read k v)) within
+              (of_form count (coeff_of R.ops (read k v)) within
               (dependent_column (domain_of_codes k) m.cols F r.form count within_rows d.within_cols ones (omega (arith, within, width)) (ends within)
-              (look R.ops (read k v)) (λ i l. look_read k v i ∙ ap (read_code k) (s.entries i l) ∙ sym (row_entry k m.rows i count)))));
+              (coeff_of R.ops (read k v)) (λ i l. coeff_read k v i ∙ ap (read_code k) (s.entries i l) ∙ sym (row_entry k m.rows i count)))));
           earlier = subst (HasIndependentStart k.ops a) (sym s.size) independent_start;
         }
       where

@@ -7,8 +7,8 @@ use Rattle.ff_fields.specs.Field.{CodeField}
 use Rattle.ff_fields.specs.Code.{Code, code_ring, read_code}
 use Rattle.ff_fields.specs.Numbers.{read}
 use Rattle.ff_fields.specs.Over.{IsOver, IsOver_drop, IsOver_zeros}
+use Rattle.ring_theory.specs.Lists.{coeff_of}
 use Rattle.ring_theory.specs.Ring.{CommRing}
-use Rattle.ring_theory.proofs.Solver.{look}
 use Rattle.linear_theory.specs.Echelon.{row, InRowSpace}
 use Rattle.linear_theory.proofs.Kernel.{Eliminated, kernel_rows, kernel_entry, length_kernel_rows, kernel_reduced, kernel_rank, kernel_spanned, kernel_members, full_rank}
 use Rattle.linear_theory.proofs.SameRows.{HasEntries, entries_back, reduced_of_entries, space_of_entries}
@@ -20,7 +20,7 @@ use Rattle.ff_linalg.proofs.Flat.{length_rows_in, rows_in_wide, rows_in_over}
 use Rattle.ff_linalg.proofs.Views.{view_of}
 use Rattle.ff_linalg.proofs.Reduced.{view_over}
 use Rattle.ff_linalg.proofs.Reading.{row_entry, length_sequences}
-use Rattle.ff_linalg.proofs.Bridge.{look_zeros, combination_over, length_combination, combination_is, codes_ext, space_of_codes, codes_of_space, form_of_codes}
+use Rattle.ff_linalg.proofs.Bridge.{coeff_zeros, combination_over, length_combination, combination_is, codes_ext, space_of_codes, codes_of_space, form_of_codes}
 use Rattle.ff_linalg.proofs.Beside.{domain_of_codes}
 
 all_map : {X Y : Type 0} (P : X → Type 0) (Q : Y → Type 0) (f : X → Y) → ((x : X) → P x → Q (f x)) → (xs : List X) → All P xs → All Q (map f xs)
@@ -91,26 +91,26 @@ module _ (k : CodeField) (a : MatrixValue) (over : All (IsOver k.ops) a.rows) (w
     product = codes_ext k (product_of k.ops w a) (replicate a.cols 0) (combination_over k a.cols w a.rows w_in over) (IsOver_zeros k a.cols)
         (length_combination k a.cols w a.rows wide ∙ sym (length-replicate a.cols 0)) (λ j l.
         combination_is k a.cols w a.rows w_in over j
-        ∙ kernel_members R a.cols F E (look R.ops (read k w)) in_space j (subst (λ n. j < n) (length_combination k a.cols w a.rows wide) l)
-        ∙ sym (look_zeros k a.cols j));
+        ∙ kernel_members R a.cols F E (coeff_of R.ops (read k w)) in_space j (subst (λ n. j < n) (length_combination k a.cols w a.rows wide) l)
+        ∙ sym (coeff_zeros k a.cols j));
   }
     where
       w_in : IsOver k.ops w
       w_in = rw h.is (combination_over k (length a.rows) h.coefficients basis.rows h.over basis_over)
 
-      in_space : InRowSpace R.ops (length F) (kernel_rows R a.cols F E) (look R.ops (read k w))
+      in_space : InRowSpace R.ops (length F) (kernel_rows R a.cols F E) (coeff_of R.ops (read k w))
       in_space =
           space_of_entries R (length F) (sequences_of k basis.rows) (kernel_rows R a.cols F E)
-          (entries_back R (length F) (kernel_rows R a.cols F E) (sequences_of k basis.rows) has_entries) (look R.ops (read k w))
-          (subst (λ n. InRowSpace R.ops n (sequences_of k basis.rows) (look R.ops (read k w))) (sym (length_sequences k a.rows)) (space_of_codes k basis w basis_over h))
+          (entries_back R (length F) (kernel_rows R a.cols F E) (sequences_of k basis.rows) has_entries) (coeff_of R.ops (read k w))
+          (subst (λ n. InRowSpace R.ops n (sequences_of k basis.rows) (coeff_of R.ops (read k w))) (sym (length_sequences k a.rows)) (space_of_codes k basis w basis_over h))
 
   back : (w : List ℕ) → IsInKernel k.ops a w → IsInRowSpace k.ops basis w
   back w h =
       codes_of_space k basis w basis_over basis_wide h.over h.one_each
-      (subst (λ n. InRowSpace R.ops n (sequences_of k basis.rows) (look R.ops (read k w))) (length_sequences k a.rows)
-      (space_of_entries R (length F) (kernel_rows R a.cols F E) (sequences_of k basis.rows) has_entries (look R.ops (read k w))
-      (kernel_spanned R a.cols F E (look R.ops (read k w)) (λ j l.
-      sym (combination_is k a.cols w a.rows h.over over j) ∙ ap (λ xs. look R.ops (read k xs) j) h.product ∙ look_zeros k a.cols j))))
+      (subst (λ n. InRowSpace R.ops n (sequences_of k basis.rows) (coeff_of R.ops (read k w))) (length_sequences k a.rows)
+      (space_of_entries R (length F) (kernel_rows R a.cols F E) (sequences_of k basis.rows) has_entries (coeff_of R.ops (read k w))
+      (kernel_spanned R a.cols F E (coeff_of R.ops (read k w)) (λ j l.
+      sym (combination_is k a.cols w a.rows h.over over j) ∙ ap (λ xs. coeff_of R.ops (read k xs) j) h.product ∙ coeff_zeros k a.cols j))))
 
   pub kernel_basis_is : IsKernelBasis k.ops a basis
   kernel_basis_is = record {

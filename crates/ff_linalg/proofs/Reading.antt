@@ -1,5 +1,6 @@
 -- Codes read as members of the field, and rows of codes as rows over it.
 use Rattle.std.proofs.Common.{◌≡◌, ℕ, zero, suc, ◌<◌, List, [], ◌∷◌, length, get_or, map, refl, sym, ◌∙◌, ap, ap₂}
+use Rattle.ring_theory.specs.Lists.{coeff_of}
 use Rattle.std.proofs.lemmas.List.{length-map}
 use Rattle.std.proofs.lemmas.List.Elements.{All-head, All-tail}
 use Rattle.std.specs.Prelude.{All}
@@ -7,7 +8,6 @@ use Rattle.ff_fields.specs.Field.{CodeField}
 use Rattle.ff_fields.specs.Code.{code_ring, same_code, read_code, read_code_below, zero_in}
 use Rattle.ff_fields.specs.Numbers.{read}
 use Rattle.ff_fields.specs.Over.{IsOver, get_or_below}
-use Rattle.ring_theory.proofs.Solver.{look}
 use Rattle.linear_theory.specs.Echelon.{row}
 use Rattle.ff_linalg.specs.Steps.{entry_at}
 use Rattle.ff_linalg.specs.Forms.{sequences_of}
@@ -34,19 +34,19 @@ module _ (k : CodeField) where
   pub read_same : (a b : ℕ) → a < k.size → b < k.size → read_code k a ≡ read_code k b → a ≡ b
   read_same a b a_in b_in e = sym (read_code_below k a a_in) ∙ ap (λ x. x.0) e ∙ read_code_below k b b_in
 
-  pub look_read : (xs : List ℕ) (j : ℕ) → look (code_ring k).ops (read k xs) j ≡ read_code k (get_or xs j 0)
-  look_read [] j = sym read_zero
-  look_read (x ∷ xs) zero = refl
-  look_read (x ∷ xs) (suc j) = look_read xs j
+  pub coeff_read : (xs : List ℕ) (j : ℕ) → coeff_of (code_ring k).ops (read k xs) j ≡ read_code k (get_or xs j 0)
+  coeff_read [] j = sym read_zero
+  coeff_read (x ∷ xs) zero = refl
+  coeff_read (x ∷ xs) (suc j) = coeff_read xs j
 
   -- the entries of the rows as sequences
   pub row_entry : (rows : List (List ℕ)) (i j : ℕ) → row (code_ring k).ops (sequences_of k rows) i j ≡ read_code k (entry_at rows i j)
   row_entry [] i j = sym read_zero
-  row_entry (r ∷ rows) zero j = look_read r j
+  row_entry (r ∷ rows) zero j = coeff_read r j
   row_entry (r ∷ rows) (suc i) j = row_entry rows i j
 
   pub length_sequences : (rows : List (List ℕ)) → length (sequences_of k rows) ≡ length rows
-  length_sequences rows = length-map (map (read k) rows) (look (code_ring k).ops) ∙ length-map rows (read k)
+  length_sequences rows = length-map (map (read k) rows) (coeff_of (code_ring k).ops) ∙ length-map rows (read k)
 
   pub entry_in : (rows : List (List ℕ)) (i j : ℕ) → All (IsOver k.ops) rows → entry_at rows i j < k.size
   entry_in [] i j over = zero_in k

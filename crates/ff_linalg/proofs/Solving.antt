@@ -8,14 +8,12 @@ use Rattle.ff_fields.specs.Code.{Code, code_ring, raw_ring}
 use Rattle.ff_fields.specs.Numbers.{read, numbers_read, read_numbers, numbers_neg}
 use Rattle.ff_fields.specs.Over.{IsOver, IsOver_cons, IsOver_tail, IsOver_neg, IsOver_zeros}
 use Rattle.ring_theory.specs.Ring.{CommRing}
-use Rattle.ring_theory.specs.Lists.{neg_list}
+use Rattle.ring_theory.specs.Lists.{coeff_of, neg_list}
 use Rattle.ring_theory.proofs.Ring.{neg_unique, neg_neg, neg_mul, one_mul}
 use Rattle.ring_theory.proofs.Lists.{length_neg_list, coeff_neg}
-use Rattle.ring_theory.proofs.Solver.{look}
 use Rattle.linear_theory.specs.Module.{combine, sequence_ops}
 use Rattle.linear_theory.specs.Echelon.{row, InRowSpace}
 use Rattle.linear_theory.proofs.Combination.{sequences, combine_cong, combine_scale}
-use Rattle.linear_theory.proofs.Division.{look_is_coeff}
 use Rattle.linear_theory.proofs.Echelon.{Leading, leading_is_pivot}
 use Rattle.ff_linalg.specs.Matrix.{MatrixValue, IsMatrixOver, HasShape, with_first_row}
 use Rattle.ff_linalg.specs.Steps.{entry_at}
@@ -23,18 +21,18 @@ use Rattle.ff_linalg.specs.Forms.{sequences_of, IsReducedBelow}
 use Rattle.ff_linalg.specs.Space.{product_of, IsSolution, HasNoSolution}
 use Rattle.ff_linalg.specs.Kernel.{IsInKernel, IsKernelBasis}
 use Rattle.ff_linalg.proofs.Reading.{read_one, read_same, row_entry, entry_in}
-use Rattle.ff_linalg.proofs.Bridge.{look_zeros, combination_over, length_combination, combination_is, codes_ext, space_of_codes, codes_of_form, own_row_codes}
+use Rattle.ff_linalg.proofs.Bridge.{coeff_zeros, combination_over, length_combination, combination_is, codes_ext, space_of_codes, codes_of_form, own_row_codes}
 use Rattle.ff_linalg.proofs.Beside.{domain_of_codes}
 
 module _ (k : CodeField) where
   abbrev R : CommRing (Code k)
   R = (code_ring k).ring
 
-  look_neg : (xs : List ℕ) (i : ℕ) → IsOver k.ops xs → look R.ops (read k (neg_list (raw_ring k.ops) xs)) i ≡ R.⊖◌ (look R.ops (read k xs) i)
-  look_neg xs i over =
-      ap (λ ys. look R.ops ys i)
+  coeff_read_neg : (xs : List ℕ) (i : ℕ) → IsOver k.ops xs → coeff_of R.ops (read k (neg_list (raw_ring k.ops) xs)) i ≡ R.⊖◌ (coeff_of R.ops (read k xs) i)
+  coeff_read_neg xs i over =
+      ap (λ ys. coeff_of R.ops ys i)
       (ap (λ ns. read k (neg_list (raw_ring k.ops) ns)) (sym (numbers_read k xs over)) ∙ ap (read k) (sym (numbers_neg k (read k xs))) ∙ read_numbers k (neg_list R.ops (read k xs)))
-      ∙ look_is_coeff R.ops (neg_list R.ops (read k xs)) i ∙ coeff_neg (code_ring k) (read k xs) i ∙ ap R.⊖◌ (sym (look_is_coeff R.ops (read k xs) i))
+      ∙ coeff_neg (code_ring k) (read k xs) i
 
   -- a combination with the negative coefficients
   negated : (c : ℕ → Code k) (F : List (ℕ → Code k)) (j : ℕ) → combine (sequence_ops R.ops) (λ i. R.⊖◌ (c i)) F j ≡ R.⊖◌ (combine (sequence_ops R.ops) c F j)
@@ -46,11 +44,11 @@ module _ (k : CodeField) where
       minus x = neg_mul R R.𝟙 x ∙ ap R.⊖◌ (one_mul R x)
 
   pub combination_neg : (cols : ℕ) (v : List ℕ) (rows : List (List ℕ)) → IsOver k.ops v → All (IsOver k.ops) rows → (j : ℕ)
-      → combine (sequence_ops R.ops) (look R.ops (read k (neg_list (raw_ring k.ops) v))) (sequences_of k rows) j
-      ≡ R.⊖◌ (combine (sequence_ops R.ops) (look R.ops (read k v)) (sequences_of k rows) j)
+      → combine (sequence_ops R.ops) (coeff_of R.ops (read k (neg_list (raw_ring k.ops) v))) (sequences_of k rows) j
+      ≡ R.⊖◌ (combine (sequence_ops R.ops) (coeff_of R.ops (read k v)) (sequences_of k rows) j)
   combination_neg cols v rows v_in over j =
-      ap (λ s. s j) (combine_cong (sequences R) (look R.ops (read k (neg_list (raw_ring k.ops) v))) (λ i. R.⊖◌ (look R.ops (read k v) i)) (sequences_of k rows) (λ i l. look_neg v i v_in))
-      ∙ negated (look R.ops (read k v)) (sequences_of k rows) j
+      ap (λ s. s j) (combine_cong (sequences R) (coeff_of R.ops (read k (neg_list (raw_ring k.ops) v))) (λ i. R.⊖◌ (coeff_of R.ops (read k v) i)) (sequences_of k rows) (λ i l. coeff_read_neg v i v_in))
+      ∙ negated (coeff_of R.ops (read k v)) (sequences_of k rows) j
 
   module _ (a : MatrixValue) (b : List ℕ) (over : All (IsOver k.ops) a.rows) (wide : All (λ r. length r ≡ a.cols) a.rows) (b_in : IsOver k.ops b) (b_long : length b ≡ a.cols) where
     abbrev S : MatrixValue
@@ -64,13 +62,13 @@ module _ (k : CodeField) where
 
     -- the coefficients with 1 in front
     abbrev total : List ℕ → ℕ → Code k
-    total v j = combine (sequence_ops R.ops) (look R.ops (read k v)) (sequences_of k a.rows) j
+    total v j = combine (sequence_ops R.ops) (coeff_of R.ops (read k v)) (sequences_of k a.rows) j
 
-    first_one : (v : List ℕ) → IsOver k.ops v → (j : ℕ) → look R.ops (read k (product_of k.ops (1 ∷ v) S)) j ≡ R.◌⊕◌ (look R.ops (read k b) j) (total v j)
+    first_one : (v : List ℕ) → IsOver k.ops v → (j : ℕ) → coeff_of R.ops (read k (product_of k.ops (1 ∷ v) S)) j ≡ R.◌⊕◌ (coeff_of R.ops (read k b) j) (total v j)
     first_one v v_in j =
         combination_is k a.cols (1 ∷ v) S.rows (IsOver_cons k.laws.one_below v_in) s_over j
-        ∙ ap (λ x. R.◌⊕◌ (R.◌⊗◌ x (look R.ops (read k b) j)) (total v j)) (read_one k)
-        ∙ ap (λ x. R.◌⊕◌ x (total v j)) (one_mul R (look R.ops (read k b) j))
+        ∙ ap (λ x. R.◌⊕◌ (R.◌⊗◌ x (coeff_of R.ops (read k b) j)) (total v j)) (read_one k)
+        ∙ ap (λ x. R.◌⊕◌ x (total v j)) (one_mul R (coeff_of R.ops (read k b) j))
 
     -- a relation whose first coefficient is 1 is a solution
     pub solution_of_relation : (w : List ℕ) → IsInKernel k.ops S (1 ∷ w) → IsSolution k.ops a b (neg_list (raw_ring k.ops) w)
@@ -80,9 +78,9 @@ module _ (k : CodeField) where
       product = codes_ext k (product_of k.ops (neg_list (raw_ring k.ops) w) a) b (combination_over k a.cols (neg_list (raw_ring k.ops) w) a.rows (IsOver_neg k w w_in) over) b_in
           (length_combination k a.cols (neg_list (raw_ring k.ops) w) a.rows wide ∙ sym b_long) (λ j l.
           combination_is k a.cols (neg_list (raw_ring k.ops) w) a.rows (IsOver_neg k w w_in) over j ∙ combination_neg a.cols w a.rows w_in over j
-          ∙ ap R.⊖◌ (neg_unique R (look R.ops (read k b) j) (total w j)
-          (sym (first_one w w_in j) ∙ ap (λ xs. look R.ops (read k xs) j) h.product ∙ look_zeros k a.cols j))
-          ∙ neg_neg R (look R.ops (read k b) j));
+          ∙ ap R.⊖◌ (neg_unique R (coeff_of R.ops (read k b) j) (total w j)
+          (sym (first_one w w_in j) ∙ ap (λ xs. coeff_of R.ops (read k xs) j) h.product ∙ coeff_zeros k a.cols j))
+          ∙ neg_neg R (coeff_of R.ops (read k b) j));
     }
       where
         w_in : IsOver k.ops w
@@ -96,9 +94,9 @@ module _ (k : CodeField) where
       product = codes_ext k (product_of k.ops (1 ∷ w) S) (replicate a.cols 0) (combination_over k a.cols (1 ∷ w) S.rows w_in s_over) (IsOver_zeros k a.cols)
           (length_combination k a.cols (1 ∷ w) S.rows s_wide ∙ sym (length-replicate a.cols 0)) (λ j l.
           first_one w (IsOver_neg k v h.over) j
-          ∙ ap (λ x. R.◌⊕◌ (look R.ops (read k b) j) x) (combination_neg a.cols v a.rows h.over over j
-          ∙ ap R.⊖◌ (sym (combination_is k a.cols v a.rows h.over over j) ∙ ap (λ xs. look R.ops (read k xs) j) h.product))
-          ∙ R.add_neg (look R.ops (read k b) j) ∙ sym (look_zeros k a.cols j));
+          ∙ ap (λ x. R.◌⊕◌ (coeff_of R.ops (read k b) j) x) (combination_neg a.cols v a.rows h.over over j
+          ∙ ap R.⊖◌ (sym (combination_is k a.cols v a.rows h.over over j) ∙ ap (λ xs. coeff_of R.ops (read k xs) j) h.product))
+          ∙ R.add_neg (coeff_of R.ops (read k b) j) ∙ sym (coeff_zeros k a.cols j));
     }
       where
         w : List ℕ
@@ -114,7 +112,7 @@ module _ (k : CodeField) where
         pub one : entry_at m.rows 0 0 ≡ 1
 
       pub first_of_solution : (v : List ℕ) → IsSolution k.ops a b v → BeginsWithOne
-      first_of_solution v h = go (leading_is_pivot (domain_of_codes k) m.cols (sequences_of k m.rows) r.form (look R.ops (read k w)) member 0 leads)
+      first_of_solution v h = go (leading_is_pivot (domain_of_codes k) m.cols (sequences_of k m.rows) r.form (coeff_of R.ops (read k w)) member 0 leads)
         where
           w : List ℕ
           w = 1 ∷ neg_list (raw_ring k.ops) v
@@ -122,10 +120,10 @@ module _ (k : CodeField) where
           r : IsReducedBelow k m.cols m.rows (length m.rows)
           r = codes_of_form k m (length m.rows) basis.reduced
 
-          member : InRowSpace R.ops m.cols (sequences_of k m.rows) (look R.ops (read k w))
+          member : InRowSpace R.ops m.cols (sequences_of k m.rows) (coeff_of R.ops (read k w))
           member = space_of_codes k m w basis.over.each ((basis.row_space w).1 (relation_of_solution v h))
 
-          leads : Leading (domain_of_codes k) m.cols (look R.ops (read k w)) 0
+          leads : Leading (domain_of_codes k) m.cols (coeff_of R.ops (read k w)) 0
           leads = record {
             below = let e = basis.shape.col_count in omega (arith, e);
             nonzero = λ e. (domain_of_codes k).one_not_zero (sym (read_one k) ∙ e);

@@ -1,8 +1,8 @@
 -- Polynomials, as lists of coefficients, at a linear map of a module.
 use Rattle.std.proofs.Common.{◌≡◌, ℕ, zero, suc, List, [], ◌∷◌, length, refl, sym, ◌∙◌, ap, ap₂}
 use Rattle.ring_theory.specs.Ring.{CommRing}
-use Rattle.ring_theory.specs.Lists.{add_lists, scale_list, mul_lists}
-use Rattle.ring_theory.proofs.Solver.{reads, look}
+use Rattle.ring_theory.specs.Lists.{coeff_of, add_lists, scale_list, mul_lists}
+use Rattle.ring_theory.proofs.Solver.{reads}
 use Rattle.linear_theory.specs.Module.{Module, combine, IsLinear}
 use Rattle.linear_theory.specs.Basis.{IsSubspace}
 use Rattle.linear_theory.specs.Polynomial.{SamePolynomial, act, powers_at}
@@ -28,7 +28,7 @@ module _ {A V : Type 0} {R : CommRing A} (M : Module R V) (X : V → V) (X_linea
   X_scale : (a : A) (v : V) → X (a • v) ≡ a • X v
   X_scale a v = ap X (sym (M.add_zero _)) ∙ X_linear a v 𝟬 ∙ ap (λ x. a • X v ⊞ x) X_zero ∙ M.add_zero _
 
-  pub act_zero : (p : List A) (v : V) → ((i : ℕ) → look R.ops p i ≡ 𝟘) → act M.ops X p v ≡ 𝟬
+  pub act_zero : (p : List A) (v : V) → ((i : ℕ) → coeff_of R.ops p i ≡ 𝟘) → act M.ops X p v ≡ 𝟬
   act_zero [] v h = refl
   act_zero (a ∷ p) v h =
       ap₂ (λ x y. x • v ⊞ X y) (h 0) (act_zero p v (λ i. h (suc i))) ∙ ap₂ ◌⊞◌ (M.zero_scale v) X_zero ∙ M.add_zero 𝟬
@@ -66,9 +66,9 @@ module _ {A V : Type 0} {R : CommRing A} (M : Module R V) (X : V → V) (X_linea
   power_shift c zero v = X_zero
   power_shift c (suc n) v = X_linear (c 0) v _ ∙ ap (λ x. c 0 • X v ⊞ x) (power_shift (λ i. c (suc i)) n (X v))
 
-  pub act_combine : (p : List A) (v : V) → act M.ops X p v ≡ combine M.ops (look R.ops p) (powers_at X (length p) v)
+  pub act_combine : (p : List A) (v : V) → act M.ops X p v ≡ combine M.ops (coeff_of R.ops p) (powers_at X (length p) v)
   act_combine [] v = refl
-  act_combine (a ∷ p) v = ap (λ x. a • v ⊞ x) (ap X (act_combine p v) ∙ power_shift (look R.ops p) (length p) v)
+  act_combine (a ∷ p) v = ap (λ x. a • v ⊞ x) (ap X (act_combine p v) ∙ power_shift (coeff_of R.ops p) (length p) v)
 
   -- values of members of a stable subspace
   pub act_in : (U : V → Type 0) → IsSubspace M.ops U → ((v : V) → U v → U (X v)) → (p : List A) (v : V) → U v → U (act M.ops X p v)

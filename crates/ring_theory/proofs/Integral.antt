@@ -3,12 +3,13 @@
 use Rattle.std.proofs.Common.{◌≡◌, ℕ, zero, suc, ◌<◌, ◌≤◌, ◌+◌, eqb, cond, ◌⊎◌, inl, inr, eq-or-lt_of_le, le_of_suc-le-suc, List, [], ◌∷◌, length, refl, sym, ◌∙◌, ap, ap₂, subst, All, add_comm, suc-add, zero-add, arith}
 use Rattle.std.proofs.lemmas.Bool.{eq-eqb, ne_eqb}
 use Rattle.std.proofs.lemmas.List.Elements.{All-head, All-tail}
+use Rattle.ring_theory.specs.Lists.{coeff_of}
 use Rattle.ring_theory.specs.Ring.{Operations, CommRing, pow}
 use Rattle.ring_theory.specs.Sums.{sum_below}
 use Rattle.ring_theory.specs.Subsets.{IsSubring, Span}
 use Rattle.ring_theory.specs.Integral.{IsIntegral}
 use Rattle.ring_theory.proofs.Ring.{zero_add, one_mul, mul_zero, zero_mul, add_mul, mul_left_comm, pow_add}
-use Rattle.ring_theory.proofs.Solver.{ring, reads, look, from_two, var, ◌⊞◌, ◌⊠◌, ⊟◌}
+use Rattle.ring_theory.proofs.Solver.{ring, reads, from_two, var, ◌⊞◌, ◌⊠◌, ⊟◌}
 use Rattle.ring_theory.proofs.Subsets.{span_module}
 use Rattle.ring_theory.proofs.Sums.{below_cong, below_add, below_scale, below_neg, below_zero, below_first}
 
@@ -236,7 +237,7 @@ module _ {A : Type 0} (R : CommRing A) (S : A → Type 0) (𝓢 : IsSubring R.op
   record Row (bs : List A) (a : A) : Type 0 where
     coefficient : ℕ → A
     coefficient_in : (i : ℕ) → S (coefficient i)
-    is : a ≡ sum_below R.ops (length bs) (λ i. coefficient i ⊗ look R.ops bs i)
+    is : a ≡ sum_below R.ops (length bs) (λ i. coefficient i ⊗ coeff_of R.ops bs i)
 
   row : (bs : List A) (a : A) → Span R.ops S bs a → Row bs a
   unfolding cons
@@ -248,7 +249,7 @@ module _ {A : Type 0} (R : CommRing A) (S : A → Type 0) (𝓢 : IsSubring R.op
         coefficient_in = elim [ zero ↦ h.scalar_in | suc i ↦ r.coefficient_in i ];
         is =
             h.is ∙ ap (λ x. h.scalar ⊗ b ⊕ x) r.is
-            ∙ sym (below_first R (length bs) (λ i. cons h.scalar r.coefficient i ⊗ look R.ops (b ∷ bs) i));
+            ∙ sym (below_first R (length bs) (λ i. cons h.scalar r.coefficient i ⊗ coeff_of R.ops (b ∷ bs) i));
       }
 
   diagonal_same : (i : ℕ) → diagonal_at R.ops z i i ≡ z
@@ -279,7 +280,7 @@ module _ {A : Type 0} (R : CommRing A) (S : A → Type 0) (𝓢 : IsSubring R.op
           ap₂ ◌⊕◌ (ih k) (ap (λ x. x ⊗ b n) (diagonal_other i n (λ e. omega arith)) ∙ zero_mul R (b n))
           ∙ R.add_zero _
 
-  start : (bs : List A) → ((i : ℕ) → Span R.ops S bs (z ⊗ look R.ops bs i)) → System (length bs) 1 (look R.ops bs)
+  start : (bs : List A) → ((i : ℕ) → Span R.ops S bs (z ⊗ coeff_of R.ops bs i)) → System (length bs) 1 (coeff_of R.ops bs)
   start bs h = record {
     entry = λ i j. diagonal_at R.ops z i j ⊕ ⊖ c i j;
     diagonal = λ i l. record {
@@ -293,22 +294,23 @@ module _ {A : Type 0} (R : CommRing A) (S : A → Type 0) (𝓢 : IsSubring R.op
         (low_constant (⊖ c i j) (c_in i j));
     equation = λ i l.
         below_cong R (length bs) _ _ (λ j k.
-        ring R (diagonal_at R.ops z i j ∷ c i j ∷ look R.ops bs j ∷ []) λ q x.
-        simp (reads, q, x 0, x 1, x 2)
-        (q.equal ((var 0 ⊞ ⊟ var 1) ⊠ var 2) (var 0 ⊠ var 2 ⊞ ⊟ (var 1 ⊠ var 2)) refl))
+        times_gap (diagonal_at R.ops z i j) (c i j) (coeff_of R.ops bs j))
         ∙ below_add R (length bs) _ _
-        ∙ ap₂ ◌⊕◌ (diagonal_sum (length bs) (look R.ops bs) i l) (below_neg R (length bs) _)
-        ∙ ap (λ x. z ⊗ look R.ops bs i ⊕ ⊖ x) (sym (row bs _ (h i)).is)
+        ∙ ap₂ ◌⊕◌ (diagonal_sum (length bs) (coeff_of R.ops bs) i l) (below_neg R (length bs) _)
+        ∙ ap (λ x. z ⊗ coeff_of R.ops bs i ⊕ ⊖ x) (sym (row bs _ (h i)).is)
         ∙ R.add_neg _;
   }
     where
+      times_gap : (u v w : A) → (u ⊕ ⊖ v) ⊗ w ≡ u ⊗ w ⊕ ⊖ (v ⊗ w)
+      times_gap u v w = ring R (u ∷ v ∷ w ∷ []) λ q x. simp (reads, q, x 0, x 1, x 2) (q.equal ((var 0 ⊞ ⊟ var 1) ⊠ var 2) (var 0 ⊠ var 2 ⊞ ⊟ (var 1 ⊠ var 2)) refl)
+
       c : ℕ → ℕ → A
-      c i = (row bs (z ⊗ look R.ops bs i) (h i)).coefficient
+      c i = (row bs (z ⊗ coeff_of R.ops bs i) (h i)).coefficient
 
       c_in : (i j : ℕ) → S (⊖ c i j)
-      c_in i j = 𝓢.neg_in _ ((row bs (z ⊗ look R.ops bs i) (h i)).coefficient_in j)
+      c_in i j = 𝓢.neg_in _ ((row bs (z ⊗ coeff_of R.ops bs i) (h i)).coefficient_in j)
 
-  spans_at : (cs bs : List A) → All (λ b. Span R.ops S cs (z ⊗ b)) bs → (i : ℕ) → Span R.ops S cs (z ⊗ look R.ops bs i)
+  spans_at : (cs bs : List A) → All (λ b. Span R.ops S cs (z ⊗ b)) bs → (i : ℕ) → Span R.ops S cs (z ⊗ coeff_of R.ops bs i)
   spans_at cs [] h i = subst (Span R.ops S cs) (sym (mul_zero R z)) (span_module R S 𝓢 cs).zero_in
   spans_at cs (b ∷ bs) h zero = All-head (λ b. Span R.ops S cs (z ⊗ b)) b bs h
   spans_at cs (b ∷ bs) h (suc i) = spans_at cs bs (All-tail (λ b. Span R.ops S cs (z ⊗ b)) b bs h) i
@@ -339,7 +341,7 @@ module _ {A : Type 0} (R : CommRing A) (S : A → Type 0) (𝓢 : IsSubring R.op
 
   pub integral : (bs : List A) → All (λ b. Span R.ops S (𝟙 ∷ bs) (z ⊗ b)) (𝟙 ∷ bs) → IsIntegral R.ops S z
   integral bs h =
-      let l = last (length bs) 1 (look R.ops (𝟙 ∷ bs)) (omega arith) (start (𝟙 ∷ bs) (spans_at (𝟙 ∷ bs) (𝟙 ∷ bs) h)) in
+      let l = last (length bs) 1 (coeff_of R.ops (𝟙 ∷ bs)) (omega arith) (start (𝟙 ∷ bs) (spans_at (𝟙 ∷ bs) (𝟙 ∷ bs) h)) in
       let p = polynomial l.degree l.left_monic.rest l.left_monic.rest_in in
       record {
         degree = l.degree;

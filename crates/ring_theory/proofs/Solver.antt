@@ -4,6 +4,7 @@ use Prim.Native.Nat.{compare, Ordering}
 use lib.Dec.{is_le, compare_is_eq}
 use Rattle.std.proofs.Common.{leb-true, leb-false, ◌≡◌, ℕ, zero, suc, ◌+◌, ◌*◌, ◌-◌, ◌≤◌, true, false, leb, List, [], ◌∷◌, refl, sym, ◌∙◌, ap, ap₂, eqb-true, le_of_lt, arith}
 use Rattle.ring_theory.specs.Ring.{Operations, CommRing, pow, nat}
+use Rattle.ring_theory.specs.Lists.{coeff_of}
 use Rattle.ring_theory.proofs.Ring.{zero_add, one_mul, add_mul, add_left_comm, mul_left_comm, add_add, mul_mul, mul_zero, zero_mul, mul_neg, neg_mul, neg_neg, neg_zero, neg_sum, nat_add, nat_mul, eq_of_sub, sub_of_eq}
 
 infixl 65 ◌⊞◌
@@ -87,15 +88,10 @@ norm (a ⊠ b) = times (norm a) (norm b)
 norm (⊟ a) = opposite (norm a)
 norm (a ⇑ n) = power (norm a) n
 
-abbrev pub look : {A : Type 0} → Operations A → List A → ℕ → A
-look R [] i = R.𝟘
-look R (x ∷ xs) zero = x
-look R (x ∷ xs) (suc i) = look R xs i
-
 abbrev pub eval : {A : Type 0} → Operations A → List A → Expr → A
 eval R ρ 𝟎 = R.𝟘
 eval R ρ 𝟏 = R.𝟙
-eval R ρ (var i) = look R ρ i
+eval R ρ (var i) = coeff_of R ρ i
 eval R ρ (num n) = nat R n
 eval R ρ (a ⊞ b) = R.◌⊕◌ (eval R ρ a) (eval R ρ b)
 eval R ρ (a ⊠ b) = R.◌⊗◌ (eval R ρ a) (eval R ρ b)
@@ -184,7 +180,7 @@ module _ {A : Type 0} (R : CommRing A) where
   -- the value of a monomial and of a sum
   mono_value : List A → List ℕ → A
   mono_value ρ [] = 𝟙
-  mono_value ρ (i ∷ m) = look R.ops ρ i ⊗ mono_value ρ m
+  mono_value ρ (i ∷ m) = coeff_of R.ops ρ i ⊗ mono_value ρ m
 
   value : List A → Poly → A
   value ρ done = 𝟘
@@ -192,14 +188,14 @@ module _ {A : Type 0} (R : CommRing A) where
 
   put_var_value : (ρ : List A) (x : ℕ) (k : List ℕ → List ℕ) (a : A)
       → ((ys : List ℕ) → mono_value ρ (k ys) ≡ a ⊗ mono_value ρ ys)
-      → (ys : List ℕ) → mono_value ρ (put_var x k ys) ≡ (look R.ops ρ x ⊗ a) ⊗ mono_value ρ ys
+      → (ys : List ℕ) → mono_value ρ (put_var x k ys) ≡ (coeff_of R.ops ρ x ⊗ a) ⊗ mono_value ρ ys
   unfolding mono_value
-  put_var_value ρ x k a h [] = ap (λ z. look R.ops ρ x ⊗ z) (h []) ∙ sym (R.mul_assoc _ _ _)
+  put_var_value ρ x k a h [] = ap (λ z. coeff_of R.ops ρ x ⊗ z) (h []) ∙ sym (R.mul_assoc _ _ _)
   put_var_value ρ x k a h (y ∷ ys) =
       elim (leb x y) as (λ b. mono_value ρ (elim b [ true ↦ x ∷ k (y ∷ ys) | false ↦ y ∷ put_var x k ys ])
-      ≡ (look R.ops ρ x ⊗ a) ⊗ (look R.ops ρ y ⊗ mono_value ρ ys)) [
-        | true ↦ ap (λ z. look R.ops ρ x ⊗ z) (h (y ∷ ys)) ∙ sym (R.mul_assoc _ _ _)
-        | false ↦ ap (λ z. look R.ops ρ y ⊗ z) (put_var_value ρ x k a h ys) ∙ mul_left_comm R _ _ _
+      ≡ (coeff_of R.ops ρ x ⊗ a) ⊗ (coeff_of R.ops ρ y ⊗ mono_value ρ ys)) [
+        | true ↦ ap (λ z. coeff_of R.ops ρ x ⊗ z) (h (y ∷ ys)) ∙ sym (R.mul_assoc _ _ _)
+        | false ↦ ap (λ z. coeff_of R.ops ρ y ⊗ z) (put_var_value ρ x k a h ys) ∙ mul_left_comm R _ _ _
       ]
 
   times_mono_value : (ρ : List A) (xs ys : List ℕ)
@@ -338,7 +334,7 @@ module _ {A : Type 0} (R : CommRing A) where
 
   -- the atoms of the goal are the members of the list
   pub ring : (ρ : List A) {l r : A}
-      → ((q : Reading R.ops) → ((i : ℕ) → look R.ops ρ i ≡ q.of (var i)) → l ≡ r) → l ≡ r
+      → ((q : Reading R.ops) → ((i : ℕ) → coeff_of R.ops ρ i ≡ q.of (var i)) → l ≡ r) → l ≡ r
   unfolding reading
   ring ρ f = f (reading ρ) (λ i. refl)
 
