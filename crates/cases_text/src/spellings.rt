@@ -62,12 +62,7 @@ fn terms_text(alloc: Global, t: &TermList) -> Result<Vec<u8>, AllocError> {
     same(original.as_slice(), print_terms(alloc, &copy)?)
 }
 
-fn read(
-    alloc: Global,
-    y: bool,
-    line: &[u8],
-    at: usize,
-) -> Result<(TermList, usize), TextFault>
+fn read(alloc: Global, y: bool, line: &[u8], at: usize) -> Result<(TermList, usize), TextFault>
     requires { at ≤ length line.now }
 {
     if y {
