@@ -1,7 +1,7 @@
 //! The answer to a case.
 
 use crate::run::run;
-use crate::{header, turns};
+use crate::{header, step, turns};
 use std::alloc::{AllocError, Global};
 
 /// The header, as the first line of an answer.
@@ -53,14 +53,22 @@ fn steps(alloc: Global, header: &str) -> Result<Vec<u64>, AllocError> {
     Ok(steps)
 }
 
+/// What stands behind the header in an answer.
+fn lines(alloc: Global, header: &str, script: &[u8]) -> Result<Vec<u8>, AllocError> {
+    if let Some(p) = header::number(header, "first step of field ") {
+        return step::first_step(alloc, header, p as u32);
+    }
+    let steps = steps(alloc, header)?;
+    if header::asks(header, "each ") {
+        turns::by_steps(alloc, header, script, steps.as_slice())
+    } else {
+        by_steps(alloc, header, script, steps.as_slice())
+    }
+}
+
 /// The answer to a case.
 pub fn answer(alloc: Global, header: &str, script: &[u8]) -> Result<Vec<u8>, AllocError> {
-    let steps = steps(alloc, header)?;
-    let rest = if header::asks(header, "each ") {
-        turns::by_steps(alloc, header, script, steps.as_slice())?
-    } else {
-        by_steps(alloc, header, script, steps.as_slice())?
-    };
+    let rest = lines(alloc, header, script)?;
     let mut text = head(alloc, header)?;
     text.extend_from_slice(rest.as_slice())?;
     Ok(text)

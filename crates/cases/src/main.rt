@@ -8,6 +8,7 @@
 mod answer;
 mod header;
 mod run;
+mod step;
 mod turns;
 
 use answer::answer;

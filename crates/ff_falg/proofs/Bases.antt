@@ -6,7 +6,6 @@ use Rattle.ring_theory.specs.Ring.{CommRing}
 use Rattle.ring_theory.specs.Subsets.{Span}
 use Rattle.ring_theory.specs.Lists.{coeff_of, add_lists, scale_list}
 use Rattle.ring_theory.specs.Members.{In}
-use Rattle.ring_theory.proofs.Solver.{look}
 use Rattle.ring_theory.proofs.Subsets.{span_head, span_tail, span_zero}
 use Rattle.ff_fields.specs.Field.{CodeField}
 use Rattle.ff_fields.specs.Code.{code_ring, raw_ring, zero_in}

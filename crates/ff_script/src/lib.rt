@@ -7,8 +7,6 @@ pub mod parsing;
 pub mod printing;
 pub mod reading;
 pub mod script;
-#[cfg(test)]
-mod tests;
 
 pub use fault::ScriptFault;
 pub use parsing::parse;

@@ -4,9 +4,9 @@ ghost use Rattle.std.specs.Prelude.{◌≡◌, ◌++◌, codes, IfOk, OnOk};
 ghost use Rattle.ff_script.specs.Printing.{numbers_text, tail_text, side_text, statement_text};
 
 use crate::script::{Modulus, Statement};
-use function_field::Side;
 use ff_text::number::push_number;
 use ff_text::{push_element, push_terms};
+use function_field::Side;
 use std::alloc::{AllocError, Global};
 
 /// The text of a statement, without a line feed: one space between tokens, and none within polynomials and elements

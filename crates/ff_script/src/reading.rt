@@ -8,10 +8,10 @@ ghost use Rattle.ff_script.specs.Grammar.{begins_with_word, ends_with_word, Spel
 ghost use Rattle.ff_script.specs.Reading.{IsReading, behind_blanks, IsFront, AreNumbersAt, IsModulusAt, AreTermsAt, IsSideAt, is_behind_element, IsElementFront, IsBehind};
 
 use crate::script::{CodeList, Modulus, Statement};
-use function_field::Side;
 use ff_text::{
     ElemText, TermList, TextFault, read_element, read_number, read_terms, read_terms_in_x,
 };
+use function_field::Side;
 use std::alloc::{AllocError, Global};
 
 /// A space, a tab or a carriage return.

@@ -2,8 +2,8 @@
 
 ghost use Rattle.std.specs.Prelude.{◌≡◌, IfOk};
 
-use function_field::Side;
 use ff_text::{ElemText, TermList};
+use function_field::Side;
 use std::alloc::{AllocError, Global};
 use std::marker::Model;
 

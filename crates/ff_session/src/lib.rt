@@ -12,6 +12,3 @@ pub mod session;
 pub use answers::push_echo;
 pub use refusal::{Refusal, push_refusal, refusal_text};
 pub use session::Session;
-
-#[cfg(test)]
-mod tests;

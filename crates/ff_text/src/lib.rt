@@ -22,8 +22,3 @@ pub use printed::Written;
 pub use read::{read_element, read_number, read_terms, read_terms_in_x};
 pub use terms::{ElemText, EntryList, Factor, FactorList, Term, TermList};
 pub use values::collect;
-
-#[cfg(test)]
-mod reading_tests;
-#[cfg(test)]
-mod tests;

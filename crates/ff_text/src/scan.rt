@@ -112,7 +112,11 @@ impl Position {
         ensures { result ≡ after_digit d self }
     {
         match self {
-            Position::Begin | Position::Signed | Position::Starred => Some(Position::Digits(Kind::Code, 1, d)),
+            Position::Begin | Position::Signed | Position::Starred => Some(Position::Digits(
+                Kind::Code,
+                1,
+                d,
+            )),
             Position::Raised(kind) => Some(Position::Digits(kind, 1, d)),
             Position::Digits(kind, count, n) if count < 9 => {
                 Some(Position::Digits(kind, count + 1, 10 * n + d))
@@ -197,7 +201,10 @@ impl Scan {
     pub fn is_whole(&self) -> bool
         ensures { result ≡ is_whole_position self.now.position }
     {
-        matches!(self.position, Position::Letter(_) | Position::Digits(_, _, _))
+        matches!(
+            self.position,
+            Position::Letter(_) | Position::Digits(_, _, _)
+        )
     }
 
     /// The bytes are a spelling and blanks behind it.
