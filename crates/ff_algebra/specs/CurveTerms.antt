@@ -52,7 +52,7 @@ module _ (k : CodeField) where
   -- the curve of the terms f
   pub record IsCurveOf (f : List (ℕ × ℕ × ℕ)) (c : CurveValue) : Type 0 where
     pub equation : IsSmallEquation k.ops f c.fin
-    pub curve : IsCurve c
+    pub curve : IsCurve k c
 
   -- the discriminant is 0
   pub record IsInseparable (f : List (ℕ × ℕ × ℕ)) : Type 0 where
@@ -65,7 +65,7 @@ module _ (k : CodeField) where
     pub pres : PresValue
     pub equation : IsSmallEquation k.ops f pres
     pub disc : List ℕ
-    pub is_disc : IsDiscriminant pres disc
+    pub is_disc : IsDiscriminant k pres disc
     pub degree : length disc ≡ d + 1
     pub above : 64 < d
 
@@ -74,7 +74,7 @@ module _ (k : CodeField) where
     pub pres : PresValue
     pub equation : IsSmallEquation k.ops f pres
     pub disc : List ℕ
-    pub is_disc : IsDiscriminant pres disc
+    pub is_disc : IsDiscriminant k pres disc
     pub separable : disc ≢ []
     pub disc_degree : length disc ≤ 65
     pub c : ℕ

@@ -60,12 +60,12 @@ module _ {k : CodeField} (c : Equation k) where
         member = over c v (K c).𝟙 (one_some c);
         not_null = λ e.
             r.nonzero
-            (sym (entry_with (K c) N r.place r.coefficient r.place_below)
-            ∙ ap (entry (K c).ops N r.place)
+            (sym (entry_with (K c) N r.position r.coefficient r.position_below)
+            ∙ ap (entry (K c).ops N r.position)
             (sym (row_scale_one (K c) N v)
             ∙ over_same c v (row_zero (K c).ops N) (K c).𝟙 (K c).𝟙 (one_some c) (one_some c) (e ∙ zero_over (K c).𝟙 (one_some c))
             ∙ row_scale_one (K c) N (row_zero (K c).ops N))
-            ∙ entry_zero (K c) N r.place);
+            ∙ entry_zero (K c) N r.position);
         traces = λ j l.
             trace_power c v (K c).𝟙 (one_some c) j
             ∙ value_polynomial c (Tr c ((R c).◌⊗◌ v (Y c j))) (K c).𝟘 (K c).𝟙 (one_some c)

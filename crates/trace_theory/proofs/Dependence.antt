@@ -45,16 +45,16 @@ module _ {A : Type 0} (D : Domain A) where
   -- coefficients, not all 0, whose combination of the rows is 0
   pub record RowRelation (n : ℕ) (m : ℕ → ℕ → A) : Type 0 where
     pub coefficient : ℕ → A
-    pub place : ℕ
-    pub place_below : place < n
-    pub nonzero : ¬ (coefficient place ≡ 𝟘)
+    pub position : ℕ
+    pub position_below : position < n
+    pub nonzero : ¬ (coefficient position ≡ 𝟘)
     pub is : (j : ℕ) → j < n → sum_below R.ops n (λ i. coefficient i ⊗ m i j) ≡ 𝟘
 
   of_relation : (n : ℕ) (m : ℕ → ℕ → A) → Relation R.ops n (tabulate n m) → RowRelation n m
   of_relation n m r = record {
     coefficient = r.coefficient;
-    place = r.place;
-    place_below = subst (λ l. r.place < l) (length_listed n m) r.place_below;
+    position = r.position;
+    position_below = subst (λ l. r.position < l) (length_listed n m) r.position_below;
     nonzero = r.nonzero;
     is = λ j l. sym (combine_listed R n r.coefficient m j) ∙ r.is j l;
   }
@@ -74,7 +74,7 @@ module _ {A : Type 0} (D : Domain A) where
         w,
         record {
           factor = r.coefficient 0;
-          factor_nonzero = λ e. r.nonzero (all_zero r.coefficient (λ l b. r.is l b) e r.place (let b = r.place_below in let q = length_listed n m in omega arith));
+          factor_nonzero = λ e. r.nonzero (all_zero r.coefficient (λ l b. r.is l b) e r.position (let b = r.position_below in let q = length_listed n m in omega arith));
           is = λ l b. turned r.coefficient l (r.is l b);
         },
       )
@@ -125,14 +125,14 @@ module _ {A : Type 0} (D : Domain A) where
       scaled r i j (no ne) =
           ap (λ x. r i ⊗ x) (diagonal_other R (λ i. 𝟙) i j ne) ∙ mul_zero R _ ∙ sym (diagonal_other R r i j ne)
 
-  -- rows with a relation have determinant 0: in place of the row with a nonzero coefficient their combination is 0
+  -- rows with a relation have determinant 0: in position of the row with a nonzero coefficient their combination is 0
   relation_determinant : (n : ℕ) (m : ℕ → ℕ → A) → RowRelation n m → determinant R.ops n m ≡ 𝟘
   relation_determinant n m r =
-      D.is_domain.cancel_zero (r.coefficient r.place) (determinant R.ops n m) r.nonzero
-      (sym (cramer R n r.place r.place_below r.coefficient m)
-      ∙ determinant_cong R n _ (with_row r.place (λ j. 𝟘) m)
-      (λ i j k l. with_row_cong n r.place (λ j. sum_below R.ops n (λ i. r.coefficient i ⊗ m i j)) (λ j. 𝟘) m r.is i j l)
-      ∙ zero_row R n r.place r.place_below m)
+      D.is_domain.cancel_zero (r.coefficient r.position) (determinant R.ops n m) r.nonzero
+      (sym (cramer R n r.position r.position_below r.coefficient m)
+      ∙ determinant_cong R n _ (with_row r.position (λ j. 𝟘) m)
+      (λ i j k l. with_row_cong n r.position (λ j. sum_below R.ops n (λ i. r.coefficient i ⊗ m i j)) (λ j. 𝟘) m r.is i j l)
+      ∙ zero_row R n r.position r.position_below m)
 
   pub row_relation : (n : ℕ) (m : ℕ → ℕ → A) → determinant R.ops n m ≡ 𝟘 → RowRelation n m
   row_relation n m e = go (independent_or_relation D n (tabulate n m))

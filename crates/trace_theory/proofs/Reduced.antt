@@ -198,7 +198,7 @@ module _ {k : CodeField} (c : Equation k) where
           at_first : ((i : ℕ) × (i < suc (suc c.lower_degree)) × (¬ (r.coefficient i ≡ (K c).𝟘)) × ((j : ℕ) → j < i → r.coefficient j ≡ (K c).𝟘))
               ⊎ ((i : ℕ) → i < suc (suc c.lower_degree) → r.coefficient i ≡ (K c).𝟘) → PowerRepeats (over c v (K c).𝟙 (one_some c))
           at_first (inr none) =
-              absurd (r.nonzero (none r.place (subst (λ n. r.place < n) (length_listed (suc (suc c.lower_degree)) (λ j l. entry (K c).ops (suc c.lower_degree) l (pow (R c).ops v j))) r.place_below)))
+              absurd (r.nonzero (none r.position (subst (λ n. r.position < n) (length_listed (suc (suc c.lower_degree)) (λ j l. entry (K c).ops (suc c.lower_degree) l (pow (R c).ops v j))) r.position_below)))
           at_first (inl (i, l, some, before)) =
               let V = over c v (K c).𝟙 (one_some c) in
               let low = lowest (ring_of c) (suc (suc c.lower_degree)) i l (λ j. of_poly c (r.coefficient j)) V
