@@ -37,6 +37,7 @@ use Rattle.infinite_theory.proofs.InfiniteTransport.{x_irreducible}
 use Rattle.infinite_theory.proofs.PushedPlaces.{each}
 use Rattle.space_theory.proofs.AtInfinity.{taken_at, combinations_lattice}
 use Rattle.space_theory.proofs.InfiniteIndices.{infinite_space}
+use Rattle.infinite_theory.proofs.PushedDegrees.{constant_image}
 
 module _ (k : CodeField) (p q : PresValue) (c : ℕ) (f : Functions k q → Functions k p) (g : IsInfiniteMap k p q c f) where
   infixl 65 ◌⊕◌
@@ -53,16 +54,8 @@ module _ (k : CodeField) (p q : PresValue) (c : ℕ) (f : Functions k q → Func
   X = of_poly (equation_of k q) (x_poly k)
 
   -- a constant goes to itself
-  short_value : (w : List ℕ) → length w ≤ 1 → value_at k p (variable k p Infinite) w ≡ of_poly R (value k w)
-  short_value [] l = of_poly_zero R ∙ ap (of_poly R) (sym (value_nil k))
-  short_value (a ∷ []) l = ap ((functions k p).◌⊕◌ (of_poly R (value k (a ∷ [])))) (mul_zero (functions k p) (variable k p Infinite)) ∙ (functions k p).add_zero _
-  short_value (a ∷ b ∷ w) l = absurd (omega arith)
-
   code_image : (a : Code k) → f (code_of Q a) ≡ code_of R a
-  code_image a =
-      let b = constant (code_ring k) a in
-      let l : length b.0 ≤ 1 = length_trim (code_ring k).is_zero (a ∷ []) in
-      g.values b ∙ short_value (codes_of k b) (let e : length (codes_of k b) ≡ length b.0 = length-map b.0 (λ x. x.0) in omega arith) ∙ ap (of_poly R) (value_codes_of k b)
+  code_image a = constant_image k p q c f g (constant (code_ring k) a) (length_trim (code_ring k).is_zero (a ∷ []))
 
   scaled : (a : Code k) (z : Functions k q) → f (code_of Q a ⊗ z) ≡ (functions k p).◌⊗◌ (code_of R a) (f z)
   scaled a z = g.isomorphism.hom.mul (code_of Q a) z ∙ ap (λ w. (functions k p).◌⊗◌ w (f z)) (code_image a)

@@ -22,9 +22,9 @@ use Rattle.order_theory.proofs.IntegralLattice.{integral_lattice}
 use Rattle.lattice_theory.proofs.Lattices.{lattice_decided}
 use Rattle.infinite_theory.proofs.InfiniteLaws.{integral_decided}
 use Rattle.reduced_basis_theory.specs.Reduced.{IsExtension}
-use Rattle.space_theory.proofs.CodeBases.{code_is}
 use Rattle.space_theory.proofs.PartRing.{part_ring, same_part}
 use Rattle.divisor_theory.proofs.Constants.{OnBothSides, both_subring, code_on_both, constants_are, constant_inverse}
+use Rattle.order_theory.proofs.Degrees.{code_is}
 
 pub decided : {X : Type 0} → Dec X → Bool
 decided (yes x) = true

@@ -31,11 +31,12 @@ use Rattle.reduced_basis_theory.specs.Reduced.{layers, Section}
 use Rattle.reduced_basis_theory.proofs.Count.{section_basis, length_section}
 use Rattle.space_theory.specs.Spaces.{IsReducedBasis, multiples_of}
 use Rattle.space_theory.proofs.AtInfinity.{integral_at_infinity}
-use Rattle.space_theory.proofs.CodeBases.{code_is, code_at}
 use Rattle.space_theory.proofs.FunctionModule.{functions_module, cancel}
 use Rattle.space_theory.proofs.InfiniteIndices.{code_finite, level_zero}
 use Rattle.space_theory.proofs.Laws.{space_basis}
-use Rattle.space_theory.proofs.Pairs.{reduced_basis}
+use Rattle.space_theory.proofs.Pairs.{reduced_basis, sides_basis}
+use Rattle.order_theory.proofs.IndexProducts.{combine_times}
+use Rattle.order_theory.proofs.Degrees.{code_is, code_at}
 
 module _ {k : CodeField} (c : Equation k) where
   infixl 65 ◌⊕◌
@@ -108,10 +109,6 @@ module _ {k : CodeField} (c : Equation k) where
     integral_wider (ring_of c) (IsCode c) (IsScalar c Infinite) (code_scalar Infinite) z h,
   )
 
-  combine_times : (a : FunctionOf c) (e : ℕ → Code k) (vs : List (FunctionOf c)) → combine (space_ops c) e (map (◌⊗◌ a) vs) ≡ a ⊗ combine (space_ops c) e vs
-  combine_times a e [] = sym (mul_zero (ring_of c) a)
-  combine_times a e (v ∷ vs) = ap₂ ◌⊕◌ (mul_left_comm (ring_of c) _ a v) (combine_times a (λ i. e (suc i)) vs) ∙ sym ((ring_of c).mul_add a _ _)
-
   module _ (bs : List (FunctionOf c)) (d : ℕ → ℤ)
       (reduced : IsReducedBasis c (IsIntegralAt (setting_of c) Finite) (IsIntegralAt (setting_of c) Infinite) bs d) where
     -- what is integral on both sides is a root of a monic polynomial over k, since it takes a space of finite dimension over k with 1 into itself
@@ -147,7 +144,7 @@ module _ {k : CodeField} (c : Equation k) where
     inverse_on_both z y h e =
         let s = full.spanning 𝟙 both_subring.one_in in
         let w = combine (space_ops c) s.coefficient ws in
-        let one : 𝟙 ≡ z ⊗ w = s.is ∙ ap₂ ◌⊕◌ (combine_times z s.coefficient ws) s.rest_in ∙ (ring_of c).add_zero (z ⊗ w) in
+        let one : 𝟙 ≡ z ⊗ w = s.is ∙ ap₂ ◌⊕◌ (combine_times c z s.coefficient ws) s.rest_in ∙ (ring_of c).add_zero (z ⊗ w) in
         subst OnBothSides
         (sym (cancel c y z w back) ∙ ap (λ v. y ⊗ v) (sym one) ∙ (ring_of c).mul_one y)
         (combine_in (codes k) (space c) OnBothSides both_space s.coefficient ws both_index.is.members_in)
@@ -164,17 +161,14 @@ module _ {k : CodeField} (c : Equation k) where
             (All-map OnBothSides (◌⊗◌ z) ws (All-weaker OnBothSides (λ w. OnBothSides (z ⊗ w)) (λ w m. both_subring.product_in z w h m) ws both_index.is.members_in))
             (λ f m i l.
             both_index.is.independent f
-            (sym (cancel c y z _ back) ∙ ap (λ v. y ⊗ v) (sym (combine_times z f ws) ∙ m) ∙ mul_zero (ring_of c) y) i
+            (sym (cancel c y z _ back) ∙ ap (λ v. y ⊗ v) (sym (combine_times c z f ws) ∙ m) ∙ mul_zero (ring_of c) y) i
             (subst (λ n. i < n) (length-map ws (◌⊗◌ z)) l))
             (length-map ws (◌⊗◌ z))
 
   module _ (some : ¬ (discriminant c ≡ (polynomials k).𝟘)) where
-    sides_basis : (b : List (FunctionOf c)) × (d : ℕ → ℤ) × IsReducedBasis c (IsIntegralAt (setting_of c) Finite) (IsIntegralAt (setting_of c) Infinite) b d
-    sides_basis = reduced_basis c Fin Inf (integral_lattice c some) (integral_at_infinity c some)
-
     pub constants_are : (z : FunctionOf c) → IsConstant (setting_of c) z ↔ OnBothSides z
-    constants_are z = (constant_on_both z, both_constant sides_basis.0 sides_basis.1 sides_basis.2 z)
+    constants_are z = let β = sides_basis c some in (constant_on_both z, both_constant β.0 β.1 β.2 z)
 
     pub constant_inverse : (z y : FunctionOf c) → IsConstant (setting_of c) z → z ⊗ y ≡ 𝟙 → IsConstant (setting_of c) y
     constant_inverse z y h e =
-        both_constant sides_basis.0 sides_basis.1 sides_basis.2 y (inverse_on_both sides_basis.0 sides_basis.1 sides_basis.2 z y (constant_on_both z h) e)
+        let β = sides_basis c some in both_constant β.0 β.1 β.2 y (inverse_on_both β.0 β.1 β.2 z y (constant_on_both z h) e)

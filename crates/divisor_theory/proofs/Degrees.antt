@@ -23,9 +23,9 @@ use Rattle.reduced_basis_theory.proofs.Count.{section_basis, length_section}
 use Rattle.space_theory.specs.Spaces.{IsReducedBasis, multiples_of}
 use Rattle.space_theory.proofs.FunctionModule.{functions_module}
 use Rattle.space_theory.proofs.InfiniteIndices.{level_zero}
-use Rattle.space_theory.proofs.Pairs.{reduced_basis}
+use Rattle.space_theory.proofs.Pairs.{reduced_basis, sides_basis}
 use Rattle.divisor_theory.proofs.Pairs.{allowed_lattice, allowed_at_infinity, pair_degrees}
-use Rattle.divisor_theory.proofs.RiemannRoch.{sides_basis, space_is}
+use Rattle.divisor_theory.proofs.RiemannRoch.{space_is}
 
 module _ {k : CodeField} (c : Equation k) (some : ¬ (discriminant c ≡ (polynomials k).𝟘)) where
   -- each place has a degree

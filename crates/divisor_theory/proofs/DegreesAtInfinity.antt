@@ -38,6 +38,7 @@ use Rattle.space_theory.proofs.InfiniteIndices.{infinite_space, infinite_index_d
 use Rattle.space_theory.proofs.Pairs.{reduced_basis}
 use Rattle.divisor_theory.proofs.PlacesAtInfinity.{infinite_degree_index}
 use Rattle.divisor_theory.proofs.InvertibleAtInfinity.{infinite_ring, IsInvertibleAtInfinity, invertible_lattice, invertible_same, times_invertible, ring_invertible, place_at_infinity, inverse_at_infinity}
+use Rattle.order_theory.proofs.IndexProducts.{times_index_over}
 
 module _ {k : CodeField} (c : Equation k) (some : ¬ (discriminant c ≡ (polynomials k).𝟘)) where
   infixl 65 ◌⊕◌
@@ -46,10 +47,6 @@ module _ {k : CodeField} (c : Equation k) (some : ¬ (discriminant c ≡ (polyno
 
   abbrev O : FunctionOf c → Type 0
   O = IsIntegralAt (setting_of c) Infinite
-
-  combine_times : (a : FunctionOf c) (e : ℕ → Code k) (vs : List (FunctionOf c)) → combine (space_ops c) e (map (◌⊗◌ a) vs) ≡ a ⊗ combine (space_ops c) e vs
-  combine_times a e [] = sym (mul_zero (ring_of c) a)
-  combine_times a e (v ∷ vs) = ap₂ ◌⊕◌ (mul_left_comm (ring_of c) _ a v) (combine_times a (λ i. e (suc i)) vs) ∙ sym ((ring_of c).mul_add a _ _)
 
   -- no dimension between equal sets
   pub index_of_same : (X Y : FunctionOf c → Type 0) → ((z : FunctionOf c) → Y z → X z) → HasIndex c X Y 0
@@ -66,42 +63,7 @@ module _ {k : CodeField} (c : Equation k) (some : ¬ (discriminant c ≡ (polyno
   -- the index of X·P in X is that of P in O_inf
   times_index : (P : FunctionOf c → Type 0) → IsPrime (ring_of c).ops O P → (f : ℕ) → HasIndex c P O f → (X : FunctionOf c → Type 0)
       → IsModule (ring_of c).ops O X → Invertible (ring_of c).ops O X → HasIndex c (Product (ring_of c).ops X P) X f
-  times_index P 𝓟 f index X 𝓧 inverse = record {
-    basis = map (◌⊗◌ a.element) index.basis;
-    is = record {
-      members_in =
-          All-map X (◌⊗◌ a.element) index.basis
-          (All-weaker O (λ w. X (a.element ⊗ w)) (λ w m. subst X ((ring_of c).mul_comm w a.element) (𝓧.scale_in w a.element m a.element_in)) index.basis
-          index.is.members_in);
-      spanning = λ z z_in.
-          let r = generated (ring_of c) O (infinite_ring c) P 𝓟 X 𝓧 a z z_in in
-          let t = index.is.spanning r.scalar r.scalar_in in
-          let XP = Product (ring_of c).ops X P in
-          record {
-            coefficient = t.coefficient;
-            rest = a.element ⊗ t.rest ⊕ r.rest;
-            rest_in =
-                (product_module (ring_of c) O (infinite_ring c) X P 𝓧).sum_in _ _
-                (product_member (ring_of c) O (infinite_ring c) X P a.element t.rest a.element_in t.rest_in) r.rest_in;
-            is =
-                r.is ∙ ap (λ x. a.element ⊗ x ⊕ r.rest) t.is ∙ moved a.element (combine (space_ops c) t.coefficient index.basis) t.rest r.rest
-                ∙ ap (λ x. x ⊕ (a.element ⊗ t.rest ⊕ r.rest)) (sym (combine_times a.element t.coefficient index.basis));
-          };
-      independent = λ e m i l.
-          index.is.independent e
-          (generator_free (ring_of c) O (infinite_ring c) P 𝓟 X 𝓧 a (combine (space_ops c) e index.basis)
-          (combine_in (codes k) (space c) O (infinite_space c O (integral_at_infinity c some)) e index.basis index.is.members_in)
-          (subst (Product (ring_of c).ops X P) (combine_times a.element e index.basis) m)) i
-          (subst (λ n. i < n) (length-map index.basis (◌⊗◌ a.element)) l);
-    };
-    count = length-map index.basis (◌⊗◌ a.element) ∙ index.count;
-  }
-    where
-      a : Generator (ring_of c) O P X
-      a = generator (ring_of c) O (infinite_ring c) P 𝓟 X 𝓧 inverse
-
-      moved : (a v r s : FunctionOf c) → a ⊗ (v ⊕ r) ⊕ s ≡ a ⊗ v ⊕ (a ⊗ r ⊕ s)
-      moved a v r s = ring (ring_of c) (a ∷ v ∷ r ∷ s ∷ []) λ q h. simp (reads, q, h 0, h 1, h 2, h 3) (q.equal _ _ refl)
+  times_index = times_index_over c O (infinite_ring c) (infinite_space c O (integral_at_infinity c some))
 
   abbrev OnInfinite : Entry (FunctionOf c) → Type 0
   OnInfinite e = IsPlace (setting_of c) e.place × (e.place.side ≡ Infinite)

@@ -5,7 +5,7 @@ use Rattle.std.proofs.lemmas.List.Elements.{All-nil, All-cons, All-head, All-tai
 use Rattle.std.proofs.lemmas.List.Kept.{AllPairs-cons}
 use Rattle.std.proofs.lemmas.Int.{ints}
 use Rattle.std.proofs.Math.IntN.{ℤ, pos, ◌-ℤ◌}
-use Rattle.prime_theory.proofs.Lists.{any_here, any_there, any_none, any_cases, any_weaker}
+use Rattle.prime_theory.proofs.Lists.{any_here, any_there, any_none, any_cases, any_weaker, any_left, any_right}
 use Rattle.ff_fields.specs.Field.{CodeField}
 use Rattle.function_field.specs.Places.{Place, IsPlace, IsSamePlace}
 use Rattle.function_field.specs.Divisors.{Entry, Divisor, IsDivisor, HasMultiplicity}
@@ -14,16 +14,6 @@ use Rattle.places_theory.proofs.Multiplicities.{multiplicity_unique, multiplicit
 use Rattle.places_theory.proofs.SamePlaces.{same_place_refl, same_place_sym, same_place_trans}
 use Rattle.divisor_theory.specs.Parts.{IsDifference}
 use Rattle.divisor_theory.proofs.Differences.{places_same_decided, multiplicity_at}
-
-module _ {X : Type 0} (P : X → Type 0) where
-  pub any_left : (xs ys : List X) → Any P xs → Any P (xs ++ ys)
-  any_left [] ys h = absurd (any_none P h)
-  any_left (x ∷ xs) ys h =
-      elim (any_cases P x xs h) [ inl p ↦ any_here P x (xs ++ ys) p | inr a ↦ any_there P x (xs ++ ys) (any_left xs ys a) ]
-
-  pub any_right : (xs ys : List X) → Any P ys → Any P (xs ++ ys)
-  any_right [] ys h = h
-  any_right (x ∷ xs) ys h = any_there P x (xs ++ ys) (any_right xs ys h)
 
 module _ {k : CodeField} (c : Equation k) where
   -- a place, as an index

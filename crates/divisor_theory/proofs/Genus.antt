@@ -27,7 +27,7 @@ use Rattle.space_theory.specs.Spaces.{IsReducedBasis, multiples_of}
 use Rattle.space_theory.proofs.AtInfinity.{integral_at_infinity}
 use Rattle.space_theory.proofs.FunctionModule.{functions_module, division}
 use Rattle.space_theory.proofs.InfiniteIndices.{level_zero}
-use Rattle.space_theory.proofs.Pairs.{reduced_basis}
+use Rattle.space_theory.proofs.Pairs.{reduced_basis, sides_basis}
 use Rattle.space_theory.proofs.ScalarLists.{combine_spanned, independent_lists}
 use Rattle.divisor_theory.proofs.Sequences.{sequence_of, independent_sequences}
 use Rattle.divisor_theory.proofs.Constants.{both_subring, constants_are, constants_index}
@@ -176,12 +176,9 @@ module _ {k : CodeField} (c : Equation k) (some : ¬ (discriminant c ≡ (polyno
         (constants_extension c some) t.0 t.1 Fin (multiples_of c Inf) bs d reduced (division c) sums_closed in
         (length r.0, genus_of_basis r.0 r.1)
 
-  sides_basis : (b : List (FunctionOf c)) × (d : ℕ → ℤ) × IsReducedBasis c (IsIntegralAt (setting_of c) Finite) (IsIntegralAt (setting_of c) Infinite) b d
-  sides_basis = reduced_basis c Fin Inf (integral_lattice c some) (integral_at_infinity c some)
-
   -- there is a genus
   pub genus_exists : (g : ℕ) × HasGenus (setting_of c) g
-  genus_exists = genus_from sides_basis.0 sides_basis.1 sides_basis.2
+  genus_exists = let β = sides_basis c some in genus_from β.0 β.1 β.2
 
   -- the constants have a dimension other than 0, since 1 is one
   pub constants_some : (n : ℕ) → HasIndex c (IsNull (space_ops c)) (IsConstant (setting_of c)) n → ¬ (n ≡ 0)
@@ -196,6 +193,7 @@ module _ {k : CodeField} (c : Equation k) (some : ¬ (discriminant c ≡ (polyno
   -- and it is one number
   pub genus_once : (g h : ℕ) → HasGenus (setting_of c) g → HasGenus (setting_of c) h → g ≡ h
   genus_once g h i j =
-      let index = constants_index c sides_basis.0 sides_basis.1 sides_basis.2 in
+      let β = sides_basis c some in
+      let index = constants_index c β.0 β.1 β.2 in
       cancel_number _ g h (constants_some _ index)
-      (genus_degrees sides_basis.0 sides_basis.1 sides_basis.2 _ index g i ∙ sym (genus_degrees sides_basis.0 sides_basis.1 sides_basis.2 _ index h j))
+      (genus_degrees β.0 β.1 β.2 _ index g i ∙ sym (genus_degrees β.0 β.1 β.2 _ index h j))

@@ -26,7 +26,7 @@ use Rattle.infinite_theory.proofs.PulledPrimes.{every_prime}
 use Rattle.ideal_theory.specs.Records.{RowSpan, RecordedPrime, IsRecordAt}
 use Rattle.ideal_theory.proofs.Records.{recorded_prime, recorded_family, record_system, record_distinct, record_maximal}
 use Rattle.divisor_theory.specs.InfiniteRecords.{place_of_prime, AreInfinitePlaces}
-use Rattle.divisor_theory.proofs.RecordValues.{record_values}
+use Rattle.ideal_theory.proofs.RecordValues.{record_values}
 
 module _ (k : CodeField) (p q : PresValue) (c : ℕ) (f : Functions k q → Functions k p) (g : IsInfiniteMap k p q c f)
     (some : ¬ (discriminant (equation_of k q) ≡ (polynomials k).𝟘)) (O : Functions k q → Type 0) (𝓞 : IsOrder (equation_of k q) O)

@@ -24,12 +24,12 @@ use Rattle.space_theory.specs.Spaces.{IsReducedBasis, multiples_of}
 use Rattle.space_theory.specs.TraceDuals.{TraceDual, CanonicalDual}
 use Rattle.space_theory.proofs.FunctionModule.{functions_module}
 use Rattle.space_theory.proofs.InfiniteIndices.{level_zero}
-use Rattle.space_theory.proofs.Pairs.{reduced_basis}
+use Rattle.space_theory.proofs.Pairs.{reduced_basis, sides_basis}
 use Rattle.space_theory.proofs.TraceDuals.{duality, riemann_roch, canonical_degrees}
 use Rattle.divisor_theory.proofs.DegreesAtInfinity.{index_of_same}
 use Rattle.divisor_theory.proofs.Pairs.{allowed_lattice, allowed_at_infinity, pair_degrees}
 use Rattle.divisor_theory.proofs.ClosedPairs.{closed_pair, times_linear}
-use Rattle.divisor_theory.proofs.RiemannRoch.{sides_basis, allowed_closed, space_is, genus_by_degrees}
+use Rattle.divisor_theory.proofs.RiemannRoch.{allowed_closed, space_is, genus_by_degrees}
 
 module _ {k : CodeField} (c : Equation k) where
   infixl 65 ◌⊕◌

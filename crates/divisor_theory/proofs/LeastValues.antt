@@ -36,7 +36,8 @@ use Rattle.ideal_theory.proofs.PrincipalIdeals.{value_along}
 use Rattle.ideal_theory.proofs.SideIdeals.{side_divisor}
 use Rattle.divisor_theory.proofs.Differences.{side_prime}
 use Rattle.divisor_theory.proofs.PrincipalDivisors.{value_at}
-use Rattle.divisor_theory.proofs.DivisorsByValues.{Placed, places_of, places_cover, divisor_by_values, any_left, any_right}
+use Rattle.divisor_theory.proofs.DivisorsByValues.{Placed, places_of, places_cover, divisor_by_values}
+use Rattle.prime_theory.proofs.Lists.{any_left, any_right}
 
 module _ {k : CodeField} (c : Equation k) (some : ¬ (discriminant c ≡ (polynomials k).𝟘)) where
   infixl 65 ◌⊕◌

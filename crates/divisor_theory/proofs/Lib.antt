@@ -12,7 +12,6 @@ pub mod Differences
 pub mod RiemannRoch
 pub mod PowersOfX
 pub mod LargeDegrees
-pub mod RecordValues
 pub mod InfiniteRecords
 pub mod DivisorsByValues
 pub mod Degrees

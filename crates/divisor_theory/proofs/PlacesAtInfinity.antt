@@ -17,9 +17,9 @@ use Rattle.lattice_theory.specs.Lattices.{HasIndex}
 use Rattle.lattice_theory.proofs.Indices.{code_of}
 use Rattle.order_theory.proofs.InfinitePlaces.{infinite}
 use Rattle.ideal_theory.proofs.PowerValues.{on_side}
-use Rattle.space_theory.proofs.CodeBases.{code_is, code_at}
 use Rattle.space_theory.proofs.RationalPart.{polynomial_same}
 use Rattle.divisor_theory.proofs.Sequences.{sequence_of, independent_sequences}
+use Rattle.order_theory.proofs.Degrees.{code_is, code_at}
 
 module _ {k : CodeField} (c : Equation k) where
   infixl 65 ◌⊕◌

@@ -29,15 +29,16 @@ use Rattle.ideal_theory.proofs.SideIdeals.{side_divisor, side_principal, divisor
 use Rattle.space_theory.specs.Spaces.{multiples_of}
 use Rattle.space_theory.proofs.FunctionModule.{functions_module}
 use Rattle.space_theory.proofs.InfiniteIndices.{level_zero}
-use Rattle.space_theory.proofs.Pairs.{reduced_basis}
+use Rattle.space_theory.proofs.Pairs.{reduced_basis, sides_basis}
 use Rattle.divisor_theory.specs.Parts.{part, IsPrincipal}
 use Rattle.divisor_theory.proofs.Parts.{part_on, part_multiplicity, part_degrees}
 use Rattle.divisor_theory.proofs.Pairs.{pair_same, lattice_degrees, pair_degrees}
 use Rattle.divisor_theory.proofs.IndexAtInfinity.{divisor_lattice_at_infinity, ideal_degrees}
 use Rattle.divisor_theory.proofs.ClosedPairs.{closed_pair, times_linear, multiples_basis}
-use Rattle.divisor_theory.proofs.RiemannRoch.{sides_basis, allowed_closed}
+use Rattle.divisor_theory.proofs.RiemannRoch.{allowed_closed}
 use Rattle.divisor_theory.proofs.Degrees.{pair_basis}
-use Rattle.divisor_theory.proofs.DivisorsByValues.{Placed, places_of, places_cover, divisor_by_values, any_left, any_right}
+use Rattle.divisor_theory.proofs.DivisorsByValues.{Placed, places_of, places_cover, divisor_by_values}
+use Rattle.prime_theory.proofs.Lists.{any_left, any_right}
 
 module _ {k : CodeField} (c : Equation k) (some : ¬ (discriminant c ≡ (polynomials k).𝟘)) where
   infixl 70 ◌⊗◌

@@ -30,7 +30,7 @@ use Rattle.reduced_basis_theory.proofs.Laws.{euler}
 use Rattle.space_theory.specs.Spaces.{IsReducedBasis}
 use Rattle.space_theory.specs.TraceDuals.{TraceDual, CanonicalDual}
 use Rattle.space_theory.proofs.AtInfinity.{integral_at_infinity}
-use Rattle.space_theory.proofs.Pairs.{reduced_basis}
+use Rattle.space_theory.proofs.Pairs.{reduced_basis, sides_basis}
 use Rattle.space_theory.proofs.TraceDuals.{riemann_roch, canonical_degrees, dual_colon, canonical_colon, canonical_sides}
 use Rattle.divisor_theory.specs.Parts.{IsDifference}
 use Rattle.divisor_theory.proofs.Constants.{constants_index}
@@ -47,9 +47,6 @@ module _ {k : CodeField} (c : Equation k) (some : ¬ (discriminant c ≡ (polyno
 
   abbrev Inf : FunctionOf c → Type 0
   Inf = IsIntegralAt (setting_of c) Infinite
-
-  pub sides_basis : (b : List (FunctionOf c)) × (d : ℕ → ℤ) × IsReducedBasis c (IsIntegralAt (setting_of c) Finite) (IsIntegralAt (setting_of c) Infinite) b d
-  sides_basis = reduced_basis c Fin Inf (integral_lattice c some) (integral_at_infinity c some)
 
   -- what a divisor allows on a side is a module over the integral functions of the side
   pub allowed_closed : (D : Divisor (FunctionOf c)) → (s : Side) (v u : FunctionOf c) → IsIntegralAt (setting_of c) s v → MeetsOn (setting_of c) D s u
@@ -114,7 +111,7 @@ module _ {k : CodeField} (c : Equation k) (some : ¬ (discriminant c ≡ (polyno
       riemann_roch_divisors d total l l' first second =
           let I = MeetsOn (setting_of c) D Finite in
           let N = MeetsOn (setting_of c) D Infinite in
-          let β = sides_basis in
+          let β = sides_basis c some in
           let r = reduced_basis c I N (allowed_lattice c some D is_D) (allowed_at_infinity c some D is_D) in
           let null : SameSet (IsNull (space_ops c)) (IsNull (space_ops c)) = λ z. (λ e. e, λ e. e) in
           let a = riemann_roch c some I N r.0 r.1 r.2 l l'
@@ -133,7 +130,7 @@ module _ {k : CodeField} (c : Equation k) (some : ¬ (discriminant c ≡ (polyno
     canonical_degree W canonical w total =
         let I = MeetsOn (setting_of c) W Finite in
         let N = MeetsOn (setting_of c) W Infinite in
-        let β = sides_basis in
+        let β = sides_basis c some in
         let r = reduced_basis c I N (allowed_lattice c some W canonical.divisor) (allowed_at_infinity c some W canonical.divisor) in
         let s = canonical_sides c W canonical in
         let a = canonical_degrees c some Fin Inf β.0 β.1 β.2 r.0 r.1 (pair_same c I (TraceDual c Fin) N (CanonicalDual c Inf) s.0 s.1 r.0 r.1 r.2) in

@@ -44,7 +44,7 @@ use Rattle.space_theory.proofs.InfiniteBases.{x_to_t}
 use Rattle.space_theory.proofs.LatticeBases.{lattice_of_span, span_of_lattice}
 use Rattle.space_theory.proofs.TraceDuals.{duality}
 use Rattle.divisor_theory.proofs.LargeDegrees.{finite_closed}
-use Rattle.divisor_theory.proofs.RiemannRoch.{sides_basis}
+use Rattle.space_theory.proofs.Pairs.{sides_basis}
 
 module _ {k : CodeField} (c : Equation k) where
   infixl 65 ◌⊕◌

@@ -37,10 +37,10 @@ use Rattle.ff_lattice.specs.Lattices.{LatticeValue, IsLattice, Contains, elems_o
 use Rattle.ff_lattice.specs.Orders.{IsOrder}
 use Rattle.ff_lattice.proofs.Normal.{monic_poly}
 use Rattle.value_theory.proofs.Bridge.{order_set}
+use Rattle.value_theory.proofs.InfiniteLattices.{image_of, some, some_inf, infinite_disc, rows_are, power_to, power_from}
 use Rattle.ff_infinite.proofs.LowZeros.{power_over, power_some}
 use Rattle.value_theory.specs.IntegralLattices.{IsOverPowerOfT, SpansIntegral, SpansOverPowersOfT, IsIntegralLattice}
 use Rattle.ff_maximal.proofs.FiniteOrders.{some_disc}
-use Rattle.ff_maximal.proofs.PowerDenominators.{over_power, element, element_in, element_is}
 
 -- the list of the variable's codes is an irreducible polynomial
 pub variable_irreducible : (k : CodeField) (t : List ℕ) → t ≡ 0 ∷ 1 ∷ [] → IsIrreducible k.ops t
@@ -55,62 +55,15 @@ variable_irreducible k t is =
 pub variable_over : (k : CodeField) (t : List ℕ) → t ≡ 0 ∷ 1 ∷ [] → IsOver k.ops t
 variable_over k t is = subst (IsOver k.ops) (sym is) (power_over k 1)
 
-power_poly : (e : ℕ) → IsPoly (replicate e 0 ++ 1 ∷ [])
-power_poly e = monic_poly (replicate e 0 ++ 1 ∷ []) (replicate e 0, refl)
-
 module _ (k : CodeField) (c : CurveValue) (curve : IsCurve k c) where
-  some : 1 ≤ c.fin.n
-  some = let two = curve.at_least_two in omega (arith, two)
-
-  some_inf : 1 ≤ c.inf.n
-  some_inf = let two = curve.at_least_two in let same : c.inf.n ≡ c.fin.n = curve.infinite.degree in omega (arith, two, same)
-
-  -- what the elements of the infinite presentation stand for
   abbrev f : Functions k c.inf → Functions k c.fin
-  f = presentation_map k c.fin c.inf c.c curve.infinite some
+  f = image_of k c curve
 
-  g : IsInfiniteMap k c.fin c.inf c.c (presentation_map k c.fin c.inf c.c curve.infinite some)
-  g = infinite_map k c.fin c.inf c.c curve.infinite some
+  g : IsInfiniteMap k c.fin c.inf c.c (image_of k c curve)
+  g = infinite_map k c.fin c.inf c.c curve.infinite (some k c curve)
 
   disc_at_infinity : ¬ (discriminant (equation_of k c.inf) ≡ (polynomials k).𝟘)
-  disc_at_infinity = infinite_some k c.fin c.inf c.c curve.infinite some (some_disc k c curve c.fin refl)
-
-  -- the rows go to the functions that they stand for
-  images : (rows : List (List (List ℕ))) (den : List ℕ) → All (IsRow k.ops c.inf.n) rows → IsOver k.ops den → IsPoly den → ¬ (den ≡ [])
-      → map f (map (function_of k c.inf) (elems_over rows den)) ≡ map (function_on k c.fin c.c Infinite) (elems_over rows den)
-  images [] den rows_in den_in den_poly n = refl
-  images (v ∷ rows) den rows_in den_in den_poly n =
-      let r = All-head (IsRow k.ops c.inf.n) v rows rows_in in
-      ap₂ ◌∷◌ (g.elements (record { num = v; den = den }) (record { one_each = r.size; num_over = r.over; den_over = den_in }) den_poly n)
-      (images rows den (All-tail (IsRow k.ops c.inf.n) v rows rows_in) den_in den_poly n)
-
-  rows_are : (l : LatticeValue) → IsLattice k.ops c.inf.n l → map f (map (function_of k c.inf) (row_elems l)) ≡ map (function_on k c.fin c.c Infinite) (row_elems l)
-  rows_are l form = images l.rows l.den form.rows_in form.den_in form.den_poly (monic_some l.den form.monic)
-
-  -- powers of t as denominators, in the words of either presentation
-  power_to : (z : Functions k c.inf) → HasPowerDenominator (equation_of k c.inf) (x_poly k) z → IsOverPowerOfT k c (f z)
-  power_to z h =
-      let w = element k c.inf z h in
-      let w_in = element_in k c.inf z h some_inf in
-      record {
-        element = w;
-        in_range = w_in;
-        exponent = h.exponent;
-        power = refl;
-        stands =
-            subst (StandsFor k c.fin c.c Infinite w) (sym (g.elements w w_in (power_poly h.exponent) (power_some h.exponent)) ∙ ap f (element_is k c.inf z h))
-            (function_on_stands k c.fin c.c Infinite w w_in.den_over (power_poly h.exponent) (power_some h.exponent));
-      }
-
-  power_from : (z : Functions k c.inf) → IsOverPowerOfT k c (f z) → HasPowerDenominator (equation_of k c.inf) (x_poly k) z
-  power_from z h =
-      let w = h.element in
-      let poly = subst IsPoly (sym h.power) (power_poly h.exponent) in
-      let not_null : ¬ (w.den ≡ []) = λ e. power_some h.exponent (sym h.power ∙ e) in
-      subst (HasPowerDenominator (equation_of k c.inf) (x_poly k))
-      (sym (g.isomorphism.injective z (function_of k c.inf w)
-      (stands_once k c.fin c.c Infinite w (f z) h.in_range.den_over poly not_null h.stands ∙ sym (g.elements w h.in_range poly not_null))))
-      (over_power k c.inf w h.exponent h.power)
+  disc_at_infinity = infinite_disc k c curve
 
   module _ (m : LatticeValue) (m_order : IsOrder k c.inf m)
       (members : (z : Functions k c.inf) → Contains k c.inf m z ↔ TakenByPowers (equation_of k c.inf) (x_poly k) (HasPolynomialCoordinates (equation_of k c.inf)) z) where
@@ -123,7 +76,7 @@ module _ (k : CodeField) (c : CurveValue) (curve : IsCurve k c) where
         record { exponent = t.exponent; has = λ i less. (members _).1 (t.has i less); within = λ z h. t.within z ((members z).0 h) }
 
     order : theory.IsOrder (equation_of k c.inf) (Contains k c.inf m)
-    order = order_set k c.inf some_inf m m_order
+    order = order_set k c.inf (some_inf k c curve) m m_order
 
     itself : SameSet (Contains k c.inf m) (Span (functions k c.inf).ops (IsPolynomial (equation_of k c.inf)) (map (function_of k c.inf) (row_elems m)))
     itself z = (λ h. h, λ h. h)
@@ -133,7 +86,7 @@ module _ (k : CodeField) (c : CurveValue) (curve : IsCurve k c) where
         let w = g.isomorphism.onto z in
         let i = infinite_integral k c.fin c.inf c.c f g (Contains k c.inf m) order maximal (map (function_of k c.inf) (row_elems m)) itself w.0 in
         subst (λ y. Span (functions k c.fin).ops ((setting k c.fin).IsScalar Infinite) (map (function_on k c.fin c.c Infinite) (row_elems m)) y ↔ IsIntegralAt (setting k c.fin) Infinite y) w.1
-        (subst (λ hs. Span (functions k c.fin).ops ((setting k c.fin).IsScalar Infinite) hs (f w.0) ↔ IsIntegralAt (setting k c.fin) Infinite (f w.0)) (rows_are m m_order.lattice) (i.1, i.0))
+        (subst (λ hs. Span (functions k c.fin).ops ((setting k c.fin).IsScalar Infinite) hs (f w.0) ↔ IsIntegralAt (setting k c.fin) Infinite (f w.0)) (rows_are k c curve m m_order.lattice) (i.1, i.0))
 
     whole : SpansOverPowersOfT k c Infinite (map (function_on k c.fin c.c Infinite) (row_elems m))
     whole z =
@@ -141,9 +94,9 @@ module _ (k : CodeField) (c : CurveValue) (curve : IsCurve k c) where
         let s = span_iff (functions k c.inf) (functions k c.fin) f g.isomorphism (IsPolynomial (equation_of k c.inf)) (InReverse k c.fin) g.polynomials (map (function_of k c.inf) (row_elems m)) w.0 in
         let b = infinite_members k c.fin c.inf c.c f g (Contains k c.inf m) order maximal tame w.0 in
         subst (λ y. Span (functions k c.fin).ops (IsPolynomialOn k c.fin Infinite) (map (function_on k c.fin c.c Infinite) (row_elems m)) y ↔ (IsIntegralAt (setting k c.fin) Infinite y × IsOverPowerOfT k c y)) w.1
-        (subst (λ hs. Span (functions k c.fin).ops (IsPolynomialOn k c.fin Infinite) hs (f w.0) ↔ (IsIntegralAt (setting k c.fin) Infinite (f w.0) × IsOverPowerOfT k c (f w.0))) (rows_are m m_order.lattice) (
-          λ h. let n = b.0 (s.1 h) in (n.1, power_to w.0 n.0),
-          λ h. s.0 (b.1 (power_from w.0 h.1, h.0)),
+        (subst (λ hs. Span (functions k c.fin).ops (IsPolynomialOn k c.fin Infinite) hs (f w.0) ↔ (IsIntegralAt (setting k c.fin) Infinite (f w.0) × IsOverPowerOfT k c (f w.0))) (rows_are k c curve m m_order.lattice) (
+          λ h. let n = b.0 (s.1 h) in (n.1, power_to k c curve w.0 n.0),
+          λ h. s.0 (b.1 (power_from k c curve w.0 h.1, h.0)),
         ))
 
     pub infinite_lattice : IsIntegralLattice k c Infinite m

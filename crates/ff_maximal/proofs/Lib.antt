@@ -1,4 +1,3 @@
 pub mod RepeatedFactors
 pub mod FiniteOrders
-pub mod PowerDenominators
 pub mod InfiniteOrders

@@ -16,7 +16,8 @@ use Rattle.ff_lattice.specs.Orders.{IsOrder}
 use Rattle.ff_lattice.specs.Quotients.{IsIdeal}
 use Rattle.ff_lattice.specs.Colons.{IsColon}
 use Rattle.ff_order.specs.Steps.{IsTurn, IsBetween}
-use Rattle.value_theory.proofs.Bridge.{row_functions, lattice_set, order_set, irreducible_value}
+use Rattle.value_theory.specs.Laws.{row_functions}
+use Rattle.value_theory.proofs.Bridge.{lattice_set, order_set, irreducible_value}
 
 module _ (k : CodeField) (p : PresValue) (positive : 0 < p.n) where
   module _ (o : LatticeValue) (order : IsOrder k p o) (pi : List ℕ) where

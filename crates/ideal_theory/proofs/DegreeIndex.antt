@@ -20,7 +20,7 @@ use Rattle.function_field.proofs.ScalarRings.{scalars_subring}
 use Rattle.lattice_theory.specs.Lattices.{HasIndex, space_ops}
 use Rattle.lattice_theory.proofs.Indices.{code_of}
 use Rattle.lattice_theory.proofs.Operations.{inverse_of}
-use Rattle.order_theory.proofs.Degrees.{constant_of}
+use Rattle.order_theory.proofs.Degrees.{constant_of, code_is}
 use Rattle.order_theory.proofs.FinitePlaces.{Int, finite, place_prime}
 use Rattle.ring_theory.proofs.Ring.{zero_mul}
 use Rattle.ideal_theory.proofs.PowerValues.{on_side}
@@ -30,9 +30,6 @@ module _ {k : CodeField} (c : Equation k) where
   infixl 70 ◌⊗◌
   infixr 80 ⊖◌
   open ring_of c use {𝟘, 𝟙, ◌⊕◌, ◌⊗◌, ⊖◌}
-
-  code_is : (a : Code k) → IsCode c (code_of c a)
-  code_is a = record { code = constant (code_ring k) a; no_degree = length_trim (code_ring k).is_zero (a ∷ []); value = refl }
 
   abbrev prepended : Code k → (ℕ → Code k) → ℕ → Code k
   prepended a e zero = a
@@ -59,7 +56,7 @@ module _ {k : CodeField} (c : Equation k) where
   listed_codes : (e : ℕ → Code k) (ws : List (FunctionOf c)) → All (IsCode c) (listed e ws)
   unfolding listed
   listed_codes e [] = All-nil (IsCode c)
-  listed_codes e (w ∷ ws) = All-cons (IsCode c) (code_of c (e 0)) (listed (λ i. e (suc i)) ws) (code_is (e 0)) (listed_codes (λ i. e (suc i)) ws)
+  listed_codes e (w ∷ ws) = All-cons (IsCode c) (code_of c (e 0)) (listed (λ i. e (suc i)) ws) (code_is c (e 0)) (listed_codes (λ i. e (suc i)) ws)
 
   listed_is : (e : ℕ → Code k) (ws : List (FunctionOf c)) → combination (ring_of c).ops (listed e ws) ws ≡ combine (space_ops c) e ws
   unfolding listed

@@ -3,7 +3,7 @@ use Rattle.std.proofs.Common.{◌≡◌, ◌⊎◌, inl, inr, List, [], ◌∷�
 use Rattle.std.specs.List.{Any}
 use Rattle.std.proofs.lemmas.List.Elements.{All-head, All-tail}
 use Rattle.ring_theory.proofs.Ring.{product_not_zero}
-use Rattle.prime_theory.proofs.Lists.{any_here, any_there, any_cases, any_none}
+use Rattle.prime_theory.proofs.Lists.{any_left, any_right}
 use Rattle.ff_fields.specs.Field.{CodeField}
 use Rattle.ff_poly.specs.Words.{IsIrreducible}
 use Rattle.ff_poly.specs.Polynomials.{Polynomial, polynomials, polynomials_domain, codes_of}
@@ -21,16 +21,6 @@ use Rattle.order_theory.proofs.PlaceEntries.{any_map, places_over_p, all_places_
 use Rattle.order_theory.proofs.Values.{value_zero}
 use Rattle.ideal_theory.proofs.Factors.{factors}
 use Rattle.ideal_theory.proofs.PowerValues.{on_side}
-
-module _ {X : Type 0} (P : X → Type 0) where
-  any_left : (xs ys : List X) → Any P xs → Any P (xs ++ ys)
-  any_left [] ys h = absurd (any_none P h)
-  any_left (x ∷ xs) ys h =
-      elim (any_cases P x xs h) [ inl p ↦ any_here P x (xs ++ ys) p | inr a ↦ any_there P x (xs ++ ys) (any_left xs ys a) ]
-
-  any_right : (xs ys : List X) → Any P ys → Any P (xs ++ ys)
-  any_right [] ys h = h
-  any_right (x ∷ xs) ys h = any_there P x (xs ++ ys) (any_right xs ys h)
 
 module _ {k : CodeField} (c : Equation k) (some : ¬ (discriminant c ≡ (polynomials k).𝟘)) where
   infixl 70 ◌⊗◌

@@ -26,7 +26,7 @@ use Rattle.lattice_theory.proofs.Indices.{index_add, index_none, index_of, index
 use Rattle.lattice_theory.proofs.Operations.{lattice_within}
 use Rattle.order_theory.specs.Orders.{IsOrder, IsPrimeTo}
 use Rattle.order_theory.proofs.FinitePlaces.{finite, place_prime}
-use Rattle.order_theory.proofs.LocalOrders.{prime_to, order_integral, maximal_iff}
+use Rattle.order_theory.proofs.LocalOrders.{prime_to, order_integral, maximal_iff, maximal_order_at}
 use Rattle.order_theory.proofs.PrimesOver.{Index, PrimeOf, prime_is, prime_lattice, prime_invertible, prime_over, ideal_lattice, order_generators, family_of, primes_at}
 use Rattle.order_theory.proofs.ReductionAt.{p_in}
 use Rattle.ideal_theory.proofs.IdealIndices.{IsInvertibleLattice, invertible_same, power_of_prime}
@@ -152,18 +152,8 @@ module _ {k : CodeField} (c : Equation k) (p : Polynomial k) (h : IsIrreducible 
     (maximal : MaximalAt (ring_of c).ops (of_poly c p) (IsIntegralAt (setting_of c) Finite) O) where
   open ring_of c use {ops, 𝟙, ◌⊗◌}
 
-  polynomial_in : (s : FunctionOf c) → IsPolynomial c s → O s
-  polynomial_in s m = subst O ((ring_of c).mul_one s) ((lattice_module c O 𝓞.lattice).scale_in s 𝟙 m 𝓞.ring.one_in)
-
   order_at : IsOrderAt (setting_of c) Finite (IsPolynomial c) (IsPrimeTo c p) (of_poly c p) O
-  order_at = record {
-    base_ring = polynomials_subring c;
-    prime_to = prime_to c p h;
-    ring = 𝓞.ring;
-    base = polynomial_in;
-    integral = order_integral c O 𝓞;
-    locally = (maximal_iff c p h O 𝓞.lattice).0 maximal;
-  }
+  order_at = maximal_order_at c p h O 𝓞 maximal
 
   pub power_at_place : (M : Place (FunctionOf c)) → IsPlace (setting_of c) M → LiesOver (setting_of c) M (of_poly c p) → (z : FunctionOf c) → O z → (m : ℕ)
       → HasValuationAtLeast (setting_of c) M z (pos m) ↔ Power (ring_of c).ops O (InPrime (setting_of c) M O) m z

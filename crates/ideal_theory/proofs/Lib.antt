@@ -11,6 +11,8 @@ pub mod FinitePlaceLists
 pub mod SideIdeals
 pub mod Admitted
 pub mod Records
+pub mod RecordValues
+pub mod OrderPlaces
 pub mod RecordPlaces
 pub mod RecordOrders
 pub mod GreatestPowers

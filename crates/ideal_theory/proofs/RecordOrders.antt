@@ -24,13 +24,9 @@ use Rattle.order_theory.proofs.LocalOrders.{order_integral}
 use Rattle.ideal_theory.specs.Records.{RecordedPrime, IsRecordAt}
 use Rattle.ideal_theory.proofs.Factors.{factors}
 use Rattle.ideal_theory.proofs.Records.{record_maximal}
+use Rattle.infinite_theory.proofs.SupportedLattices.{sum_in}
 
 module _ {k : CodeField} (c : Equation k) where
-  sum_in : (L : FunctionOf c → Type 0) → IsModule (ring_of c).ops (IsPolynomial c) L → (n : ℕ) (g : ℕ → FunctionOf c) → ((i : ℕ) → i < n → L (g i))
-      → L (sum_below (ring_of c).ops n g)
-  sum_in L 𝓛 zero g h = 𝓛.zero_in
-  sum_in L 𝓛 (suc n) g h = 𝓛.sum_in _ _ (sum_in L 𝓛 n g (λ i l. h i (omega arith))) (h n (omega arith))
-
   -- a module over the polynomials with 1, y, up to y^(n-1) has k[x][y]
   pub coordinates_in : (L : FunctionOf c → Type 0) → IsModule (ring_of c).ops (IsPolynomial c) L
       → ((i : ℕ) → i < degree_of_y c → L (pow (ring_of c).ops (y_of c) i)) → (z : FunctionOf c) → HasPolynomialCoordinates c z → L z
@@ -38,7 +34,7 @@ module _ {k : CodeField} (c : Equation k) where
       subst L
       (sym (m.value ∙ sym (at_y_plain c m.coordinates)
       ∙ eval_sum (polynomials k).ring (ring_of c) (of_poly c) (poly_hom c) (y_of c) (degree_of_y c) m.coordinates))
-      (sum_in L 𝓛 (degree_of_y c) _
+      (sum_in c L 𝓛 (degree_of_y c) _
       (λ i l. 𝓛.scale_in (of_poly c (entry (polynomials k).ops (degree_of_y c) i m.coordinates)) _
       (record { polynomial = entry (polynomials k).ops (degree_of_y c) i m.coordinates; value = refl }) (has i l)))
 

@@ -1,5 +1,5 @@
 -- Records of primes: data that show which primes of an order lie over an irreducible polynomial, and that the order is maximal there.
-use Rattle.std.specs.Prelude.{◌≡◌, ℕ, ◌+◌, ◌*◌, ◌-◌, ◌≤◌, List, [], ◌∷◌, length, All, AllPairs, ◌⊎◌}
+use Rattle.std.specs.Prelude.{◌≡◌, ◌↔◌, ℕ, ◌+◌, ◌*◌, ◌-◌, ◌≤◌, List, [], ◌∷◌, length, All, AllPairs, ◌⊎◌}
 use Rattle.std.specs.List.{Any}
 use Rattle.ring_theory.specs.Subsets.{IsModule, Span, Product}
 use Rattle.prime_theory.specs.Ideals.{SameSet, Multiple, Power}
@@ -9,7 +9,7 @@ use Rattle.ff_fields.specs.Field.{CodeField}
 use Rattle.ff_poly.specs.Words.{IsIrreducible}
 use Rattle.ff_poly.specs.Polynomials.{Polynomial, codes_of}
 use Rattle.function_field.specs.declared.side.Side.TheVariants.{Finite}
-use Rattle.function_field.specs.Places.{Place, IsPlace, IsSamePlace, LiesOver, IsIntegralAt}
+use Rattle.function_field.specs.Places.{Place, IsPlace, IsIn, IsSamePlace, LiesOver, IsIntegralAt}
 use Rattle.function_field.specs.Divisors.{HasDegree, HasRamification}
 use Rattle.function_field.specs.Functions.{Equation, FunctionOf, ring_of, of_poly, IsPolynomial, degree_of_y, setting_of}
 use Rattle.lattice_theory.specs.Lattices.{IsLattice, HasIndex}
@@ -68,3 +68,25 @@ pub record AreAllPlaces {k : CodeField} (c : Equation k) (p : Polynomial k) (ps 
   pub different : AllPairs (λ P Q. ¬ IsSamePlace (setting_of c) (place_of_rows P.rows) (place_of_rows Q.rows)) ps
   pub complete : (Q : Place (FunctionOf c)) → IsPlace (setting_of c) Q → LiesOver (setting_of c) Q (of_poly c p)
       → Any (λ P. IsSamePlace (setting_of c) (place_of_rows P.rows) Q) ps
+
+-- the places of the primes of a record, for any order
+module _ {k : CodeField} (c : Equation k) (O : FunctionOf c → Type 0) (p : Polynomial k) where
+  -- a place over p that has, of the members of the order, the combinations of the rows
+  pub record IsPlaceOfPrime (P : RecordedPrime c O) (M : Place (FunctionOf c)) : Type 0 where
+    pub place : IsPlace (setting_of c) M
+    pub over : LiesOver (setting_of c) M (of_poly c p)
+    pub members : (z : FunctionOf c) → O z → IsIn (setting_of c) M z ↔ RowSpan c P.rows z
+
+  -- each prime of the list is that of one place over p, with its exponent as the ramification index and its number as the degree, and
+  -- each place over p is that of a prime of the list, different primes being those of different places
+  pub record ArePrimesOfPlaces (ps : List (RecordedPrime c O)) : Type 0 where
+    pub places : All (λ P. (M : Place (FunctionOf c)) × IsPlaceOfPrime P M) ps
+    pub once : (P : RecordedPrime c O) (M N : Place (FunctionOf c)) → IsPlaceOfPrime P M → IsPlaceOfPrime P N → IsSamePlace (setting_of c) M N
+    pub ramified : All (λ P. (M : Place (FunctionOf c)) → IsPlaceOfPrime P M → HasRamification (setting_of c) M (of_poly c p) P.exponent) ps
+    pub degrees : All (λ P. (M : Place (FunctionOf c)) → IsPlaceOfPrime P M → HasDegree (setting_of c) M P.degree) ps
+    pub different :
+        AllPairs
+        (λ P Q. (M N : Place (FunctionOf c)) → IsPlaceOfPrime P M → IsPlaceOfPrime Q N → ¬ IsSamePlace (setting_of c) M N) ps
+    pub complete :
+        (M : Place (FunctionOf c)) → IsPlace (setting_of c) M → LiesOver (setting_of c) M (of_poly c p)
+        → Any (λ P. IsPlaceOfPrime P M) ps

@@ -26,7 +26,7 @@ ghost use Rattle.order_theory.specs.Orders.{IsOrder};
 ghost use Rattle.lattice_theory.specs.Lattices.{IsLattice};
 ghost use Rattle.ideal_theory.specs.Ideals.{IsDivisorOn, IsDivisorOf, DivisorIdeal, HasValuesOf, opposite_divisor};
 ghost use Rattle.ideal_theory.specs.Indices.{HasRelativeIndex};
-ghost use Rattle.ideal_theory.specs.Records.{IsAdmitted, RowSpan, RecordedPrime, ProductOfPowers, IsRecordAt, AreAllPlaces};
+ghost use Rattle.ideal_theory.specs.Records.{IsAdmitted, RowSpan, RecordedPrime, ProductOfPowers, IsRecordAt, AreAllPlaces, ArePrimesOfPlaces};
 
 use lattice_theory::FunctionSets;
 
@@ -122,6 +122,14 @@ pub fn record_law<S: FunctionSets>()
     ensures maximal { (p : Polynomial S.field) (ps : List (RecordedPrime S.equation S.first)) → IsIrreducible S.field.ops (codes_of S.field p)
         → IsOrder S.equation S.first → IsRecordAt S.equation S.first p ps
         → MaximalAt (ring_of S.equation).ops (of_poly S.equation p) (IsIntegralAt (setting_of S.equation) Finite) S.first }
+{}
+
+/// A record of primes over p of any order lists the places over p: each prime is what one place has of the order, its exponent is the ramification index of
+/// the place and its number the degree, different primes are those of different places, and each place over p is that of a prime of the list.
+pub fn order_places_law<S: FunctionSets>()
+    ensures { (p : Polynomial S.field) (ps : List (RecordedPrime S.equation S.first)) → ¬ (discriminant S.equation ≡ (polynomials S.field).𝟘)
+        → IsIrreducible S.field.ops (codes_of S.field p) → IsOrder S.equation S.first → IsRecordAt S.equation S.first p ps
+        → ArePrimesOfPlaces S.equation S.first p ps }
 {}
 
 /// Of the maximal order, a record of primes over p lists the places over p: the rows of its ideals span them, each once, its exponents are their ramification

@@ -20,6 +20,7 @@ use Rattle.infinite_theory.proofs.InfiniteTransport.{x_irreducible}
 use Rattle.infinite_theory.proofs.SupportedLattices.{local_member, local_members}
 use Rattle.infinite_theory.proofs.PushedPlaces.{pushed, prime_place, prime_members}
 use Rattle.infinite_theory.proofs.LocalIntegral.{maximal_local, maximal_members}
+use Rattle.order_theory.proofs.LocalOrders.{order_polynomials}
 
 module _ (k : CodeField) (p q : PresValue) (c : ℕ) (f : Functions k q → Functions k p) (g : IsInfiniteMap k p q c f) where
   abbrev Combinations : List (Functions k q) → Functions k q → Type 0
@@ -88,5 +89,4 @@ module _ (k : CodeField) (p q : PresValue) (c : ℕ) (f : Functions k q → Func
         )
       where
         polynomial_in : (s : Functions k q) → IsPolynomial (equation_of k q) s → O s
-        polynomial_in s m =
-            subst O ((functions k q).mul_one s) ((lattice_module (equation_of k q) O 𝓞.lattice).scale_in s (functions k q).𝟙 m 𝓞.ring.one_in)
+        polynomial_in = order_polynomials (equation_of k q) O 𝓞

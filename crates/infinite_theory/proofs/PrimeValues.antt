@@ -21,7 +21,7 @@ use Rattle.lattice_theory.specs.Lattices.{HasIndex}
 use Rattle.lattice_theory.proofs.Lattices.{lattice_module}
 use Rattle.order_theory.specs.Orders.{IsOrder, IsPrimeTo}
 use Rattle.order_theory.proofs.Degrees.{classes_of_index}
-use Rattle.order_theory.proofs.LocalOrders.{prime_to, order_integral, maximal_iff}
+use Rattle.order_theory.proofs.LocalOrders.{prime_to, order_integral, maximal_iff, order_polynomials, maximal_order_at}
 use Rattle.order_theory.proofs.FinitePlaces.{finite}
 use Rattle.order_theory.proofs.PlaceEntries.{outside_same}
 use Rattle.infinite_theory.specs.InfiniteMaps.{IsInfiniteMap}
@@ -37,7 +37,7 @@ module _ (k : CodeField) (p q : PresValue) (c : ℕ) (f : Functions k q → Func
     (P : Functions k q → Type 0) (𝓟 : IsPrime (functions k q).ops O P) (over : P (of_poly (equation_of k q) (x_poly k)))
     (gs : List (Functions k q)) (spanned : SameSet P (Span (functions k q).ops (IsPolynomial (equation_of k q)) gs)) where
   base : (s : Functions k q) → IsPolynomial (equation_of k q) s → O s
-  base s m = subst O ((functions k q).mul_one s) ((lattice_module (equation_of k q) O 𝓞.lattice).scale_in s (functions k q).𝟙 m 𝓞.ring.one_in)
+  base = order_polynomials (equation_of k q) O 𝓞
 
   -- its index in the order is the degree of the place
   pub degree_at_infinity : (d : ℕ) → HasIndex (equation_of k q) P O d → HasDegree (setting k p) (pushed k p q c f g gs) d
@@ -63,14 +63,7 @@ module _ (k : CodeField) (p q : PresValue) (c : ℕ) (f : Functions k q → Func
     )
 
     order_at : IsOrderAt (setting k q) Finite (IsPolynomial (equation_of k q)) (IsPrimeTo (equation_of k q) (x_poly k)) (of_poly (equation_of k q) (x_poly k)) O
-    order_at = record {
-      base_ring = polynomials_subring (equation_of k q);
-      prime_to = prime_to (equation_of k q) (x_poly k) (x_irreducible k);
-      ring = 𝓞.ring;
-      base = base;
-      integral = order_integral (equation_of k q) O 𝓞;
-      locally = (maximal_iff (equation_of k q) (x_poly k) (x_irreducible k) O 𝓞.lattice).0 maximal;
-    }
+    order_at = maximal_order_at (equation_of k q) (x_poly k) (x_irreducible k) O 𝓞 maximal
 
     decide : (u : Functions k q) → O u → IsIn (setting k q) (finite (equation_of k q) hs) u ⊎ (¬ (IsIn (setting k q) (finite (equation_of k q) hs) u))
     decide u u_in = elim (𝓟.decide u u_in) [ inl m ↦ inl ((in_prime u).0 m).1 | inr n ↦ inr (λ m. n ((in_prime u).1 (u_in, m))) ]

@@ -21,7 +21,7 @@ use Rattle.lattice_theory.specs.Lattices.{IsLattice}
 use Rattle.lattice_theory.proofs.Lattices.{lattice_module}
 use Rattle.order_theory.specs.Orders.{IsOrder, IsPrimeTo}
 use Rattle.order_theory.proofs.InfinitePlaces.{infinite}
-use Rattle.order_theory.proofs.LocalOrders.{prime_to, order_integral}
+use Rattle.order_theory.proofs.LocalOrders.{prime_to, order_integral, order_polynomials}
 use Rattle.order_theory.proofs.PrimesOver.{ideal_lattice}
 use Rattle.infinite_theory.specs.Supported.{IsLocallyIn}
 use Rattle.infinite_theory.specs.InfiniteMaps.{IsInfiniteMap, IsMemberBelow}
@@ -76,7 +76,7 @@ module _ (k : CodeField) (p q : PresValue) (c : ℕ) (f : Functions k q → Func
     image z m = integral_of k p q c f g z (order_integral (equation_of k q) O 𝓞 z m)
 
     base : (s : Functions k q) → IsPolynomial (equation_of k q) s → O s
-    base s m = subst O ((functions k q).mul_one s) ((lattice_module (equation_of k q) O 𝓞.lattice).scale_in s 𝟙 m 𝓞.ring.one_in)
+    base = order_polynomials (equation_of k q) O 𝓞
 
     -- the members of the order that go into the place
     abbrev pub Below : Functions k q → Type 0

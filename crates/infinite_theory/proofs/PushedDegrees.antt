@@ -47,7 +47,7 @@ module _ (k : CodeField) (p q : PresValue) (c : ℕ) (f : Functions k q → Func
       ap ((functions k p).◌⊕◌ (of_poly (equation_of k p) (value k (a ∷ [])))) (mul_zero (functions k p) (variable k p Infinite)) ∙ (functions k p).add_zero _
   short_value (a ∷ b ∷ w) l = absurd (omega arith)
 
-  constant_image : (a : Polynomial k) → length a.0 ≤ 1 → f (of_poly (equation_of k q) a) ≡ of_poly (equation_of k p) a
+  pub constant_image : (a : Polynomial k) → length a.0 ≤ 1 → f (of_poly (equation_of k q) a) ≡ of_poly (equation_of k p) a
   constant_image a l =
       g.values a ∙ short_value (codes_of k a) (let e : length (codes_of k a) ≡ length a.0 = length-map a.0 (λ x. x.0) in omega arith)
       ∙ ap (of_poly (equation_of k p)) (value_codes_of k a)

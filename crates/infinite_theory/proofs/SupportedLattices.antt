@@ -71,7 +71,7 @@ module _ {k : CodeField} (c : Equation k) where
   y_coordinates = record { coordinates = _; value = refl }
 
   -- sums of members
-  sum_in : (L : FunctionOf c → Type 0) → IsModule (ring_of c).ops (IsPolynomial c) L → (n : ℕ) (g : ℕ → FunctionOf c) → ((i : ℕ) → i < n → L (g i))
+  pub sum_in : (L : FunctionOf c → Type 0) → IsModule (ring_of c).ops (IsPolynomial c) L → (n : ℕ) (g : ℕ → FunctionOf c) → ((i : ℕ) → i < n → L (g i))
       → L (sum_below (ring_of c).ops n g)
   sum_in L 𝓛 zero g h = 𝓛.zero_in
   sum_in L 𝓛 (suc n) g h = 𝓛.sum_in _ _ (sum_in L 𝓛 n g (λ i l. h i (omega arith))) (h n (omega arith))

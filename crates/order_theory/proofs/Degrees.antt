@@ -26,7 +26,7 @@ module _ {k : CodeField} (c : Equation k) where
   infixr 80 ⊖◌
   open ring_of c use {𝟘, 𝟙, ◌⊕◌, ◌⊗◌, ⊖◌}
 
-  code_is : (a : Code k) → IsCode c (code_of c a)
+  pub code_is : (a : Code k) → IsCode c (code_of c a)
   code_is a = record { code = constant (code_ring k) a; no_degree = length_trim (code_ring k).is_zero (a ∷ []); value = refl }
 
   -- a polynomial with one coefficient is a constant
@@ -39,7 +39,7 @@ module _ {k : CodeField} (c : Equation k) where
           coeff_past (code_ring k) q.0 (suc n) (omega arith)
           ∙ sym (coeff_trim (code_ring k) (coeff_of (code_ring k).ops q.0 0 ∷ []) (suc n))
 
-  code_at : (z : FunctionOf c) → IsCode c z → (a : Code k) × (z ≡ code_of c a)
+  pub code_at : (z : FunctionOf c) → IsCode c z → (a : Code k) × (z ≡ code_of c a)
   code_at z h = (coeff_of (code_ring k).ops h.code.0 0, h.value ∙ ap (of_poly c) (constant_of h.code h.no_degree))
 
   span_codes : (e : ℕ → Code k) (ws : List (FunctionOf c)) → Span (ring_of c).ops (IsCode c) ws (combine (space_ops c) e ws)

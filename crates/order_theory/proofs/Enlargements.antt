@@ -8,8 +8,8 @@ use Rattle.ring_theory.specs.Integral.{IsIntegral}
 use Rattle.ring_theory.proofs.Ring.{one_mul, pow_add, mul_left_comm}
 use Rattle.ring_theory.proofs.Subsets.{span_least, span_module, span_members}
 use Rattle.prime_theory.specs.Ideals.{IsIdeal, Multiple, SameSet}
-use Rattle.prime_theory.specs.Orders.{MaximalAt, Radical}
-use Rattle.prime_theory.proofs.Enlarge.{Enlarged, EnlargedAt, PowersOf, enlarged_iff}
+use Rattle.prime_theory.specs.Orders.{MaximalAt, Radical, Enlarged}
+use Rattle.prime_theory.proofs.Enlarge.{EnlargedAt, PowersOf, enlarged_iff}
 use Rattle.prime_theory.proofs.Radicals.{radical_ideal, p_in_radical, criterion_iff}
 use Rattle.ff_fields.specs.Field.{CodeField}
 use Rattle.ff_poly.specs.Words.{IsIrreducible}

@@ -2,7 +2,7 @@
 use Rattle.std.proofs.Common.{◌≡◌, ◌⊎◌, inl, inr, ℕ, zero, suc, ◌<◌, ◌≤◌, List, [], ◌∷◌, ◌++◌, length, map, pos, refl, sym, ◌∙◌, ap, subst, arith}
 use Rattle.std.specs.List.{Any}
 use Rattle.std.proofs.lemmas.List.{length-map}
-use Rattle.prime_theory.proofs.Lists.{any_here, any_there, any_cases, any_none}
+use Rattle.prime_theory.proofs.Lists.{any_left, any_right}
 use Rattle.ring_theory.specs.Lists.{coeff_of}
 use Rattle.ring_theory.proofs.Ring.{mul_zero, product_not_zero}
 use Rattle.ring_theory.specs.Polynomials.{constant}
@@ -25,19 +25,6 @@ use Rattle.order_theory.proofs.InvertibleIdeals.{divisor_of, divides_it, divisor
 use Rattle.order_theory.proofs.IrreducibleIn.{factor_in, one_out, times}
 use Rattle.order_theory.proofs.PlaceEntries.{any_map, places_over_p, all_places_over}
 use Rattle.order_theory.proofs.Values.{value_zero}
-
-module _ {X : Type 0} (P : X → Type 0) where
-  any_left : (xs ys : List X) → Any P xs → Any P (xs ++ ys)
-  any_left [] ys h = absurd (any_none P h)
-  any_left (x ∷ xs) ys h = go (any_left xs ys) (any_cases P x xs h)
-    where
-      go : (Any P xs → Any P (xs ++ ys)) → P x ⊎ Any P xs → Any P (x ∷ (xs ++ ys))
-      go again (inl p) = any_here P x (xs ++ ys) p
-      go again (inr a) = any_there P x (xs ++ ys) (again a)
-
-  any_right : (xs ys : List X) → Any P ys → Any P (xs ++ ys)
-  any_right [] ys h = h
-  any_right (x ∷ xs) ys h = any_there P x (xs ++ ys) (any_right xs ys h)
 
 module _ {k : CodeField} (c : Equation k) (some : ¬ (discriminant c ≡ (polynomials k).𝟘)) where
   infixl 70 ◌⊗◌

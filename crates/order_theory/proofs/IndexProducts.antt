@@ -3,7 +3,7 @@
 use Rattle.std.proofs.Common.{◌≡◌, ℕ, zero, suc, ◌+◌, ◌*◌, ◌<◌, List, [], ◌∷◌, map, pos, refl, sym, ◌∙◌, ap, ap₂, subst, arith, suc-mul}
 use Rattle.std.proofs.lemmas.List.{length-map}
 use Rattle.std.proofs.lemmas.List.Elements.{All-map, All-weaker}
-use Rattle.ring_theory.specs.Subsets.{IsModule, Product}
+use Rattle.ring_theory.specs.Subsets.{IsSubring, IsModule, Product}
 use Rattle.ring_theory.proofs.Ring.{mul_zero, mul_left_comm}
 use Rattle.ring_theory.proofs.Solver.{ring, reads}
 use Rattle.ring_theory.proofs.Subsets.{product_member, product_module}
@@ -15,6 +15,7 @@ use Rattle.prime_theory.proofs.Products.{product_into, product_monotone, product
 use Rattle.prime_theory.proofs.Invertible.{inverse_of_product, invertible_product}
 use Rattle.prime_theory.proofs.Residues.{Generator, generator, generated, generator_free}
 use Rattle.linear_theory.specs.Module.{combine}
+use Rattle.linear_theory.specs.Basis.{IsSubspace}
 use Rattle.linear_theory.proofs.Bases.{combine_in}
 use Rattle.ff_fields.specs.Field.{CodeField}
 use Rattle.ff_fields.specs.Code.{Code}
@@ -29,6 +30,59 @@ use Rattle.lattice_theory.proofs.Operations.{product_lattice}
 abbrev pub total : {I : Type 0} → (I → ℕ) → (I → ℕ) → List I → ℕ
 total e f [] = 0
 total e f (i ∷ is) = e i * f i + total e f is
+
+module _ {k : CodeField} (c : Equation k) where
+  infixl 65 ◌⊕◌
+  infixl 70 ◌⊗◌
+  open ring_of c use {𝟘, 𝟙, ◌⊕◌, ◌⊗◌}
+
+  -- a factor of all members of a list is one of their combinations
+  pub combine_times : (a : FunctionOf c) (e : ℕ → Code k) (vs : List (FunctionOf c))
+      → combine (space_ops c) e (map (◌⊗◌ a) vs) ≡ a ⊗ combine (space_ops c) e vs
+  combine_times a e [] = sym (mul_zero (ring_of c) a)
+  combine_times a e (v ∷ vs) = ap₂ ◌⊕◌ (mul_left_comm (ring_of c) _ a v) (combine_times a (λ i. e (suc i)) vs) ∙ sym ((ring_of c).mul_add a _ _)
+
+  module _ (O : FunctionOf c → Type 0) (𝓞 : IsSubring (ring_of c).ops O) (space_in : IsSubspace (space_ops c) O)
+      (P : FunctionOf c → Type 0) (𝓟 : IsPrime (ring_of c).ops O P) (f : ℕ) (index : HasIndex c P O f) where
+    -- the index of X·P in X is that of P in a ring over the field
+    pub times_index_over : (X : FunctionOf c → Type 0) → IsModule (ring_of c).ops O X → Invertible (ring_of c).ops O X
+        → HasIndex c (Product (ring_of c).ops X P) X f
+    times_index_over X 𝓧 inverse = record {
+      basis = map (◌⊗◌ a.element) index.basis;
+      is = record {
+        members_in =
+            All-map X (◌⊗◌ a.element) index.basis
+            (All-weaker O (λ w. X (a.element ⊗ w)) (λ w m. subst X ((ring_of c).mul_comm w a.element) (𝓧.scale_in w a.element m a.element_in)) index.basis
+            index.is.members_in);
+        spanning = λ z z_in.
+            let r = generated (ring_of c) O 𝓞 P 𝓟 X 𝓧 a z z_in in
+            let t = index.is.spanning r.scalar r.scalar_in in
+            let XP = Product (ring_of c).ops X P in
+            record {
+              coefficient = t.coefficient;
+              rest = a.element ⊗ t.rest ⊕ r.rest;
+              rest_in =
+                  (product_module (ring_of c) O 𝓞 X P 𝓧).sum_in _ _
+                  (product_member (ring_of c) O 𝓞 X P a.element t.rest a.element_in t.rest_in) r.rest_in;
+              is =
+                  r.is ∙ ap (λ x. a.element ⊗ x ⊕ r.rest) t.is ∙ moved a.element (combine (space_ops c) t.coefficient index.basis) t.rest r.rest
+                  ∙ ap (λ x. x ⊕ (a.element ⊗ t.rest ⊕ r.rest)) (sym (combine_times a.element t.coefficient index.basis));
+            };
+        independent = λ e m i l.
+            index.is.independent e
+            (generator_free (ring_of c) O 𝓞 P 𝓟 X 𝓧 a (combine (space_ops c) e index.basis)
+            (combine_in (codes k) (space c) O (space_in) e index.basis index.is.members_in)
+            (subst (Product (ring_of c).ops X P) (combine_times a.element e index.basis) m)) i
+            (subst (λ n. i < n) (length-map index.basis (◌⊗◌ a.element)) l);
+      };
+      count = length-map index.basis (◌⊗◌ a.element) ∙ index.count;
+    }
+      where
+        a : Generator (ring_of c) O P X
+        a = generator (ring_of c) O 𝓞 P 𝓟 X 𝓧 inverse
+
+        moved : (a v r s : FunctionOf c) → a ⊗ (v ⊕ r) ⊕ s ≡ a ⊗ v ⊕ (a ⊗ r ⊕ s)
+        moved a v r s = ring (ring_of c) (a ∷ v ∷ r ∷ s ∷ []) λ q h. simp (reads, q, h 0, h 1, h 2, h 3) (q.equal _ _ refl)
 
 module _ {k : CodeField} (c : Equation k) (O : FunctionOf c → Type 0) (𝓞 : IsOrder c O) where
   infixl 65 ◌⊕◌
@@ -77,49 +131,11 @@ module _ {k : CodeField} (c : Equation k) (O : FunctionOf c → Type 0) (𝓞 : 
     within = λ z m. m;
   }
 
-  combine_times : (a : FunctionOf c) (e : ℕ → Code k) (vs : List (FunctionOf c)) → combine (space_ops c) e (map (◌⊗◌ a) vs) ≡ a ⊗ combine (space_ops c) e vs
-  combine_times a e [] = sym (mul_zero (ring_of c) a)
-  combine_times a e (v ∷ vs) = ap₂ ◌⊕◌ (mul_left_comm (ring_of c) _ a v) (combine_times a (λ i. e (suc i)) vs) ∙ sym ((ring_of c).mul_add a _ _)
-
   module _ (P : FunctionOf c → Type 0) (𝓟 : IsPrime (ring_of c).ops O P) (f : ℕ) (index : HasIndex c P O f) where
     -- the index of X·P in X is that of P in the order
-    pub times_index : (X : FunctionOf c → Type 0) → IsModule (ring_of c).ops O X → Invertible (ring_of c).ops O X → HasIndex c (Product (ring_of c).ops X P) X f
-    times_index X 𝓧 inverse = record {
-      basis = map (◌⊗◌ a.element) index.basis;
-      is = record {
-        members_in =
-            All-map X (◌⊗◌ a.element) index.basis
-            (All-weaker O (λ w. X (a.element ⊗ w)) (λ w m. subst X ((ring_of c).mul_comm w a.element) (𝓧.scale_in w a.element m a.element_in)) index.basis
-            index.is.members_in);
-        spanning = λ z z_in.
-            let r = generated (ring_of c) O 𝓞.ring P 𝓟 X 𝓧 a z z_in in
-            let t = index.is.spanning r.scalar r.scalar_in in
-            let XP = Product (ring_of c).ops X P in
-            record {
-              coefficient = t.coefficient;
-              rest = a.element ⊗ t.rest ⊕ r.rest;
-              rest_in =
-                  (product_module (ring_of c) O 𝓞.ring X P 𝓧).sum_in _ _
-                  (product_member (ring_of c) O 𝓞.ring X P a.element t.rest a.element_in t.rest_in) r.rest_in;
-              is =
-                  r.is ∙ ap (λ x. a.element ⊗ x ⊕ r.rest) t.is ∙ moved a.element (combine (space_ops c) t.coefficient index.basis) t.rest r.rest
-                  ∙ ap (λ x. x ⊕ (a.element ⊗ t.rest ⊕ r.rest)) (sym (combine_times a.element t.coefficient index.basis));
-            };
-        independent = λ e m i l.
-            index.is.independent e
-            (generator_free (ring_of c) O 𝓞.ring P 𝓟 X 𝓧 a (combine (space_ops c) e index.basis)
-            (combine_in (codes k) (space c) O (lattice_subspace c O 𝓞.lattice) e index.basis index.is.members_in)
-            (subst (Product (ring_of c).ops X P) (combine_times a.element e index.basis) m)) i
-            (subst (λ n. i < n) (length-map index.basis (◌⊗◌ a.element)) l);
-      };
-      count = length-map index.basis (◌⊗◌ a.element) ∙ index.count;
-    }
-      where
-        a : Generator (ring_of c) O P X
-        a = generator (ring_of c) O 𝓞.ring P 𝓟 X 𝓧 inverse
-
-        moved : (a v r s : FunctionOf c) → a ⊗ (v ⊕ r) ⊕ s ≡ a ⊗ v ⊕ (a ⊗ r ⊕ s)
-        moved a v r s = ring (ring_of c) (a ∷ v ∷ r ∷ s ∷ []) λ q h. simp (reads, q, h 0, h 1, h 2, h 3) (q.equal _ _ refl)
+    pub times_index : (X : FunctionOf c → Type 0) → IsModule (ring_of c).ops O X → Invertible (ring_of c).ops O X
+        → HasIndex c (Product (ring_of c).ops X P) X f
+    times_index = times_index_over c O 𝓞.ring (lattice_subspace c O 𝓞.lattice) P 𝓟 f index
 
   module _ (P : FunctionOf c → Type 0) (𝓟 : IsPrime (ring_of c).ops O P) (factor : IsFactor P) (f : ℕ) (index : HasIndex c P O f) where
     times_within : (X : FunctionOf c → Type 0) → IsFactor X → (z : FunctionOf c) → Product (ring_of c).ops X P z → X z

@@ -6,8 +6,7 @@ use Rattle.ring_theory.specs.Subsets.{IsSubring, IsModule}
 use Rattle.ring_theory.specs.Local.{PrimeTo, Locally}
 use Rattle.ring_theory.proofs.Ring.{pow_add, mul_zero, mul_neg, mul_mul, one_mul}
 use Rattle.ring_theory.proofs.Local.{two_denominators}
-use Rattle.prime_theory.specs.Orders.{MaximalAt, Denominator}
-use Rattle.prime_theory.proofs.Enlarge.{Enlarged}
+use Rattle.prime_theory.specs.Orders.{MaximalAt, Denominator, Enlarged}
 use Rattle.prime_theory.proofs.IntegralRing.{integral_of_order, integral_of_stable}
 use Rattle.prime_theory.proofs.Maximal.{maximal_iff_locally}
 use Rattle.linear_theory.specs.Euclidean.{IsDivisor}
@@ -20,6 +19,7 @@ use Rattle.function_field.specs.Places.{IsIntegralAt}
 use Rattle.function_field.specs.Functions.{Equation, FunctionOf, ring_of, of_poly, IsPolynomial, setting_of}
 use Rattle.function_field.specs.Discriminant.{discriminant}
 use Rattle.function_field.proofs.ScalarRings.{polynomials_subring, of_poly_one}
+use Rattle.places_theory.specs.Orders.{IsOrderAt}
 use Rattle.places_theory.proofs.YRoot.{poly_hom}
 use Rattle.polynomial_theory.proofs.Division.{euclidean}
 use Rattle.polynomial_theory.proofs.Irreducible.{irreducible, prime}
@@ -50,6 +50,10 @@ module _ {k : CodeField} (c : Equation k) where
   pub order_integral : (O : FunctionOf c → Type 0) → IsOrder c O → (z : FunctionOf c) → O z → Int z
   order_integral O 𝓞 z h =
       integral_of_order (ring_of c) (IsPolynomial c) 𝓢 O 𝓞.ring 𝓞.lattice.generators (λ z. (𝓞.lattice.spanned z).0) (λ z. (𝓞.lattice.spanned z).1) z h
+
+  -- and an order has the polynomials
+  pub order_polynomials : (O : FunctionOf c → Type 0) → IsOrder c O → (s : FunctionOf c) → IsPolynomial c s → O s
+  order_polynomials O 𝓞 s m = subst O ((ring_of c).mul_one s) ((lattice_module c O 𝓞.lattice).scale_in s 𝟙 m 𝓞.ring.one_in)
 
   pub stable_integral : (L : FunctionOf c → Type 0) → IsLattice c L → (z : FunctionOf c) → ((y : FunctionOf c) → L y → L (z ⊗ y)) → Int z
   stable_integral L 𝓛 z f =
@@ -113,6 +117,18 @@ module _ {k : CodeField} (c : Equation k) where
     maximal_iff O 𝓞 =
         maximal_iff_locally (ring_of c) (IsPolynomial c) 𝓢 (IsPrimeTo c p) (of_poly c p) prime_to Int O (lattice_module c O 𝓞)
         (λ w z m n. (integral_module c).scale_in w z (prime_to.within w m) n) (λ z m. denominator O 𝓞 z)
+
+    -- an order that is maximal at p has each integral function up to a factor prime to p
+    pub maximal_order_at : (O : FunctionOf c → Type 0) → IsOrder c O → MaximalAt (ring_of c).ops (of_poly c p) Int O
+        → IsOrderAt (setting_of c) Finite (IsPolynomial c) (IsPrimeTo c p) (of_poly c p) O
+    maximal_order_at O 𝓞 maximal = record {
+      base_ring = polynomials_subring c;
+      prime_to = prime_to;
+      ring = 𝓞.ring;
+      base = order_polynomials O 𝓞;
+      integral = order_integral O 𝓞;
+      locally = (maximal_iff O 𝓞.lattice).0 maximal;
+    }
 
     -- they are maximal at p
     pub larger_maximal : (O : FunctionOf c → Type 0) → MaximalAt (ring_of c).ops (of_poly c p) Int (Enlarged (ring_of c) Int (of_poly c p) O)

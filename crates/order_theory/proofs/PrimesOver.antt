@@ -35,7 +35,7 @@ use Rattle.lattice_theory.proofs.Lattices.{lattice_module, lattice_decided, latt
 use Rattle.lattice_theory.proofs.Indices.{codes, space, code_of, code_hom, lattice_subspace}
 use Rattle.lattice_theory.proofs.Between.{lattice_between}
 use Rattle.lattice_theory.proofs.Operations.{inverse_of, product_lattice, colon_lattice}
-use Rattle.order_theory.proofs.LocalOrders.{stable_integral}
+use Rattle.order_theory.proofs.LocalOrders.{stable_integral, order_polynomials}
 use Rattle.order_theory.proofs.Classes.{class_reduction}
 use Rattle.order_theory.proofs.ReductionAt.{pO, p_in, p_not_unit, multiple_is_lattice, index_of_p, Classes, lift, reduce, code_rows, representatives, residue_ring}
 
@@ -95,7 +95,7 @@ module _ {k : CodeField} (c : Equation k) (p : Polynomial k) (h : IsIrreducible 
   red = class_reduction (ring_of c) O 𝓞.ring (of_poly c p) (p_in c p h O 𝓞) (reduce c p h O 𝓞) (lift c p h O 𝓞) (representatives c p h O 𝓞)
 
   polynomial_in : (s : FunctionOf c) → IsPolynomial c s → O s
-  polynomial_in s m = subst O ((ring_of c).mul_one s) ((lattice_module c O 𝓞.lattice).scale_in s 𝟙 m 𝓞.ring.one_in)
+  polynomial_in = order_polynomials c O 𝓞
 
   code_in : (a : Code k) → O (code_of c a)
   code_in a = polynomial_in _ (record { polynomial = _; value = refl })

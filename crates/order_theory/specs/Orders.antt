@@ -2,13 +2,13 @@
 use Rattle.std.specs.Prelude.{◌≡◌}
 use Rattle.function_field.specs.declared.side.Side.TheVariants.{Finite}
 use Rattle.function_field.specs.Places.{IsIntegralAt}
-use Rattle.prime_theory.proofs.Enlarge.{Enlarged}
 use Rattle.ring_theory.specs.Subsets.{IsSubring}
 use Rattle.linear_theory.specs.Euclidean.{IsDivisor}
 use Rattle.ff_fields.specs.Field.{CodeField}
 use Rattle.ff_poly.specs.Polynomials.{Polynomial, polynomials}
 use Rattle.function_field.specs.Functions.{Equation, FunctionOf, ring_of, of_poly, setting_of}
 use Rattle.lattice_theory.specs.Lattices.{IsLattice}
+use Rattle.prime_theory.specs.Orders.{Enlarged}
 
 module _ {k : CodeField} (c : Equation k) where
   -- a lattice with 1 that is closed under products

@@ -5,12 +5,7 @@ use Rattle.ring_theory.specs.Ring.{CommRing, pow}
 use Rattle.ring_theory.specs.Subsets.{IsSubring}
 use Rattle.ring_theory.proofs.Ring.{one_mul}
 use Rattle.ring_theory.proofs.Local.{power_in}
-
--- the elements of Int that a power of p takes into O
-pub record Enlarged {A : Type 0} (R : CommRing A) (Int : A → Type 0) (p : A) (O : A → Type 0) (z : A) : Type 0 where
-  pub in_Int : Int z
-  pub exponent : ℕ
-  pub inside : O (R.ops.◌⊗◌ (pow R.ops p exponent) z)
+use Rattle.prime_theory.specs.Orders.{Enlarged}
 
 -- one enlargement for each member of a list
 abbrev pub EnlargedAt : {A : Type 0} → CommRing A → (A → Type 0) → List A → (A → Type 0) → A → Type 0

@@ -1,5 +1,5 @@
 -- Lists: a property of some member, of each member and of each pair.
-use Rattle.std.proofs.Common.{◌≡◌, ℕ, zero, suc, ◌<◌, ◌⊎◌, inl, inr, List, [], ◌∷◌, length, map, get_or, refl, sym, subst, arith, All}
+use Rattle.std.proofs.Common.{◌≡◌, ℕ, zero, suc, ◌<◌, ◌⊎◌, inl, inr, List, [], ◌∷◌, ◌++◌, length, map, get_or, refl, sym, subst, arith, All}
 use Rattle.std.specs.List.{Any, AllPairs}
 use Rattle.std.proofs.lemmas.List.Elements.{All-head, All-tail}
 
@@ -25,6 +25,18 @@ module _ {X : Type 0} (P : X → Type 0) where
 
   pub any_weaker : (Q : X → Type 0) → ((x : X) → P x → Q x) → (xs : List X) → Any P xs → Any Q xs
   any_weaker Q f xs h = (h.0, h.1, h.2, h.3, f h.1 h.4)
+
+  pub any_left : (xs ys : List X) → Any P xs → Any P (xs ++ ys)
+  any_left [] ys h = absurd (any_none h)
+  any_left (x ∷ xs) ys h = go (any_left xs ys) (any_cases x xs h)
+    where
+      go : (Any P xs → Any P (xs ++ ys)) → P x ⊎ Any P xs → Any P (x ∷ (xs ++ ys))
+      go again (inl p) = any_here x (xs ++ ys) p
+      go again (inr a) = any_there x (xs ++ ys) (again a)
+
+  pub any_right : (xs ys : List X) → Any P ys → Any P (xs ++ ys)
+  any_right [] ys h = h
+  any_right (x ∷ xs) ys h = any_there x (xs ++ ys) (any_right xs ys h)
 
   -- what holds of all holds of the members of each list
   pub everywhere : ((x : X) → P x) → (xs : List X) → All P xs

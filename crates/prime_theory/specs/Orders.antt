@@ -1,6 +1,6 @@
 -- Subrings that are maximal at an element p, radicals modulo p, and iterated colons.
 use Rattle.std.specs.Prelude.{ℕ, zero, suc}
-use Rattle.ring_theory.specs.Ring.{Operations, pow}
+use Rattle.ring_theory.specs.Ring.{Operations, CommRing, pow}
 use Rattle.prime_theory.specs.Ideals.{Multiple, PowerIn}
 
 -- O has each z of Int that a power of p takes into O; Int stands for the integral elements
@@ -11,6 +11,12 @@ MaximalAt {A} R p Int O = (z : A) (n : ℕ) → Int z → O (R.◌⊗◌ (pow R 
 pub record Radical {A : Type 0} (R : Operations A) (O : A → Type 0) (p z : A) : Type 0 where
   pub within : O z
   pub nilpotent : PowerIn R (Multiple R p O) z
+
+-- the elements of Int that a power of p takes into O
+pub record Enlarged {A : Type 0} (R : CommRing A) (Int : A → Type 0) (p : A) (O : A → Type 0) (z : A) : Type 0 where
+  pub in_Int : Int z
+  pub exponent : ℕ
+  pub inside : O (R.ops.◌⊗◌ (pow R.ops p exponent) z)
 
 -- the elements that each product of k members of M takes into C
 abbrev pub Iterated : {A : Type 0} → Operations A → (A → Type 0) → (A → Type 0) → ℕ → A → Type 0

@@ -12,26 +12,20 @@ use Rattle.function_field.specs.Functions.{Equation, FunctionOf, ring_of, of_pol
 use Rattle.function_field.specs.Divisors.{IsBasis}
 use Rattle.lattice_theory.specs.Lattices.{space_ops}
 use Rattle.lattice_theory.proofs.Indices.{code_of, code_hom}
-use Rattle.order_theory.proofs.Degrees.{constant_of}
+use Rattle.order_theory.proofs.Degrees.{code_is, code_at}
 use Rattle.space_theory.proofs.ScalarLists.{combine_spanned, independent_lists}
 
 module _ {k : CodeField} (c : Equation k) where
   infixl 65 ◌⊕◌
   open ring_of c use {𝟘, ◌⊕◌}
 
-  pub code_is : (a : Code k) → IsCode c (of_poly c (constant (code_ring k) a))
-  code_is a = record { code = constant (code_ring k) a; no_degree = length_trim (code_ring k).is_zero (a ∷ []); value = refl }
-
-  pub code_at : (z : FunctionOf c) → IsCode c z → (a : Code k) × (z ≡ of_poly c (constant (code_ring k) a))
-  code_at z h = (coeff_of (code_ring k).ops h.code.0 0, h.value ∙ ap (of_poly c) (constant_of c h.code h.no_degree))
-
   pub basis_by_codes : (W : FunctionOf c → Type 0) (ws : List (FunctionOf c)) → IsBasisOver (code_ring k).ops (space_ops c) (IsNull (space_ops c)) W ws
       → IsBasis (setting_of c) W ws
   basis_by_codes W ws b = record {
     members = b.members_in;
-    independent = λ cs l h e. independent_lists (code_ring k).ring (ring_of c) (code_of c) (code_hom c) (IsCode c) code_at (λ v. v ≡ 𝟘) ws b.independent cs l h e;
+    independent = λ cs l h e. independent_lists (code_ring k).ring (ring_of c) (code_of c) (code_hom c) (IsCode c) (code_at c) (λ v. v ≡ 𝟘) ws b.independent cs l h e;
     spanning = λ z z_in.
         let s = b.spanning z z_in in
         subst (Span (ring_of c).ops (IsCode c) ws) (sym (s.is ∙ ap (λ w. combine (space_ops c) s.coefficient ws ⊕ w) s.rest_in ∙ (ring_of c).add_zero _))
-        (combine_spanned (code_ring k).ring (ring_of c) (code_of c) (code_hom c) (IsCode c) code_is s.coefficient ws);
+        (combine_spanned (code_ring k).ring (ring_of c) (code_of c) (code_hom c) (IsCode c) (code_is c) s.coefficient ws);
   }

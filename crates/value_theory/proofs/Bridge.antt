@@ -14,18 +14,15 @@ use Rattle.order_theory.specs.Orders as theory_orders
 use Rattle.ff_lattice.specs.Lattices.{LatticeValue, IsLattice, Contains, IsFull, row_elems}
 use Rattle.ff_lattice.specs.Orders.{IsOrder}
 use Rattle.ff_lattice.specs.Colons.{IsColon}
+use Rattle.value_theory.specs.Laws.{row_functions}
 use Rattle.ff_lattice.proofs.Normal.{monic_poly}
 use Rattle.ff_lattice.proofs.SpannedSets.{lattice_full}
 
 module _ (k : CodeField) (p : PresValue) where
-  -- the rows of a lattice, as functions
-  abbrev pub row_functions : LatticeValue → List (Functions k p)
-  row_functions l = map (function_of k p) (row_elems l)
-
   -- a lattice of full rank is one of the theory
   pub full_lattice : (l : LatticeValue) → IsFull k p (Contains k p l) → theory.IsLattice (equation_of k p) (Contains k p l)
   full_lattice l full = record {
-    generators = row_functions l;
+    generators = row_functions k p l;
     spanned = λ z. (λ h. h, λ h. h);
     full = λ z. let m = full.multiple z in record {
       factor = value k m.factor;

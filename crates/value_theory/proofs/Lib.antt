@@ -1,1 +1,9 @@
 pub mod Bridge
+pub mod UnitRows
+pub mod Indices
+pub mod Ideals
+pub mod Primes
+pub mod AllPrimes
+pub mod PowerDenominators
+pub mod InfiniteLattices
+pub mod Laws

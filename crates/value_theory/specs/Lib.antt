@@ -1,1 +1,3 @@
 pub mod IntegralLattices
+pub mod Primes
+pub mod Laws

@@ -1,15 +1,12 @@
 -- The functions that powers of t take into k[t][Y] are the elements of the infinite presentation over powers of t.
-use Rattle.std.proofs.Common.{◌≡◌, ℕ, zero, suc, ◌-◌, ◌≤◌, List, [], ◌∷◌, ◌++◌, length, replicate, refl, sym, ap, ap₂, ◌∙◌, arith, All}
-use Rattle.std.proofs.lemmas.List.Elements.{All-nil, All-cons}
+use Rattle.std.proofs.Common.{◌≡◌, ℕ, zero, suc, ◌-◌, ◌≤◌, List, [], ◌∷◌, ◌++◌, length, replicate, refl, sym, ap, ap₂, ◌∙◌, arith}
 use Rattle.ring_theory.specs.Ring.{pow}
-use Rattle.ring_theory.specs.Rows.{Row}
 use Rattle.ring_theory.proofs.Ring.{zero_add}
-use Rattle.ring_theory.proofs.Rows.{pair_path}
 use Rattle.ring_theory.proofs.Solver.{ring, reads, from_two}
 use Rattle.ff_fields.specs.Field.{CodeField}
-use Rattle.ff_fields.specs.Over.{IsOver}
+use Rattle.ff_fields.specs.Over.{IsOver, IsOver_nil, IsOver_cons, IsOver_append, IsOver_zeros}
 use Rattle.ff_poly.specs.Value.{value}
-use Rattle.ff_poly.specs.Polynomials.{Polynomial, polynomials, codes_of, value_codes_of, IsOver_codes_of, value_cons, value_one, x_poly}
+use Rattle.ff_poly.specs.Polynomials.{Polynomial, polynomials, value_cons, value_one, x_poly}
 use Rattle.function_field.specs.Functions.{of_poly, over, row_of}
 use Rattle.function_field.specs.Values.{PresValue, ElemValue, IsElem, Functions, functions, equation_of, row_of_list, row_over, function_of}
 use Rattle.function_field.proofs.OnSide.{den_inverse}
@@ -18,28 +15,16 @@ use Rattle.places_theory.proofs.YRoot.{at_y, den_times, at_y_plain}
 use Rattle.polynomial_theory.proofs.Lengths.{x_power_not_zero}
 use Rattle.places_theory.proofs.AtInfinity.{constant_zero, x_power}
 use Rattle.infinite_theory.specs.Supported.{HasPowerDenominator}
-use Rattle.ff_infinite.proofs.LowZeros.{power_over}
+use Rattle.ff_lattice.proofs.Elements.{read_is}
+use Rattle.ff_lattice.proofs.Spaces.{codes_row, codes_row_length, codes_row_over, read_codes_row}
 
 module _ (k : CodeField) where
-  -- a row as lists of codes
-  pub codes_row : (n : ℕ) → Row (Polynomial k) n → List (List ℕ)
-  codes_row zero v = []
-  codes_row (suc n) (a, v) = codes_of k a ∷ codes_row n v
+  -- the powers of t as lists of codes
+  abbrev pub power_codes : ℕ → List ℕ
+  power_codes e = replicate e 0 ++ 1 ∷ []
 
-  codes_length : (n : ℕ) (v : Row (Polynomial k) n) → length (codes_row n v) ≡ n
-  unfolding codes_row
-  codes_length zero v = refl
-  codes_length (suc n) (a, v) = ap suc (codes_length n v)
-
-  codes_over : (n : ℕ) (v : Row (Polynomial k) n) → All (IsOver k.ops) (codes_row n v)
-  unfolding codes_row
-  codes_over zero v = All-nil (IsOver k.ops)
-  codes_over (suc n) (a, v) = All-cons (IsOver k.ops) (codes_of k a) (codes_row n v) (IsOver_codes_of k a) (codes_over n v)
-
-  codes_read : (n : ℕ) (v : Row (Polynomial k) n) → row_of_list k n (codes_row n v) ≡ v
-  unfolding codes_row
-  codes_read zero v = refl
-  codes_read (suc n) (a, v) = pair_path (value_codes_of k a) (codes_read n v)
+  pub power_over : (e : ℕ) → IsOver k.ops (power_codes e)
+  power_over e = IsOver_append (IsOver_zeros k e) (IsOver_cons k.laws.one_below IsOver_nil)
 
   power_value : (e : ℕ) → value k (replicate e 0 ++ 1 ∷ []) ≡ pow (polynomials k).ops (x_poly k) e
   power_value zero = value_one k
@@ -87,8 +72,8 @@ module _ (k : CodeField) (q : PresValue) where
 
     pub element_in : 1 ≤ q.n → IsElem k.ops q.n element
     element_in some = record {
-      one_each = codes_length k (suc (q.n - 1)) h.cleared.coordinates ∙ (let e : suc (q.n - 1) ≡ q.n = omega (arith, some) in e);
-      num_over = codes_over k (suc (q.n - 1)) h.cleared.coordinates;
+      one_each = codes_row_length k (suc (q.n - 1)) h.cleared.coordinates ∙ (let e : suc (q.n - 1) ≡ q.n = omega (arith, some) in e);
+      num_over = codes_row_over k (suc (q.n - 1)) h.cleared.coordinates;
       den_over = power_over k h.exponent;
     }
 
@@ -96,7 +81,8 @@ module _ (k : CodeField) (q : PresValue) where
     element_is =
         cancel (of (power h.exponent)) (over (equation_of k q) (row_of (equation_of k q) (polynomials k).𝟙) (power h.exponent) (x_power_not_zero k h.exponent))
         (function_of k q element) z (den_inverse (equation_of k q) (power h.exponent) (x_power_not_zero k h.exponent))
-        (power_times element h.exponent refl ∙ ap (at_y (equation_of k q) (suc (q.n - 1))) (codes_read k (suc (q.n - 1)) h.cleared.coordinates)
+        (power_times element h.exponent refl ∙ ap (at_y (equation_of k q) (suc (q.n - 1)))
+        (sym (read_is k (suc (q.n - 1)) (codes_row k (suc (q.n - 1)) h.cleared.coordinates)) ∙ read_codes_row k (suc (q.n - 1)) h.cleared.coordinates)
         ∙ at_y_plain (equation_of k q) h.cleared.coordinates ∙ sym h.cleared.value ∙ ap (λ d. d ⊗ z) (sym (x_power k q h.exponent)))
       where
         cancel : (d i z w : Functions k q) → d ⊗ i ≡ 𝟙 → d ⊗ z ≡ d ⊗ w → z ≡ w
