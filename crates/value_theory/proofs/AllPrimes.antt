@@ -1,5 +1,5 @@
 -- All primes of an order of codes over a polynomial, as a record of primes of the theory.
-use Rattle.std.proofs.Common.{◌≡◌, ◌≢◌, ℕ, suc, ◌+◌, ◌*◌, ◌-◌, ◌<◌, List, [], ◌∷◌, length, refl, ◌∙◌, sym, ap, ap₂, subst, arith, All}
+use Rattle.std.proofs.Common.{◌≡◌, ◌≢◌, ℕ, suc, ◌+◌, ◌*◌, ◌-◌, ◌<◌, List, [], ◌∷◌, refl, ◌∙◌, sym, ap, ap₂, subst, arith, All}
 use Rattle.std.specs.List.{AllPairs}
 use Rattle.std.proofs.lemmas.List.Elements.{All-nil, All-cons, All-head, All-tail}
 use Rattle.std.proofs.lemmas.List.Kept.{AllPairs-cons}
@@ -30,7 +30,7 @@ module _ (k : CodeField) (q : PresValue) (positive : 0 < q.n) (o : LatticeValue)
   I = RecordedPrime (equation_of k q) (Contains k q o)
 
   -- the records of the primes
-  records : (Ps : List PrimeValue) → All (IsPrimeOf k q o) Ps → List (RecordedPrime (equation_of k q) (Contains k q o))
+  pub records : (Ps : List PrimeValue) → All (IsPrimeOf k q o) Ps → List (RecordedPrime (equation_of k q) (Contains k q o))
   records [] h = []
   records (P ∷ Ps) h = recorded k q positive o order P (All-head T P Ps h) ∷ records Ps (All-tail T P Ps h)
 

@@ -1,17 +1,17 @@
 -- Lattices and orders of codes as sets of functions: what contracts say of them, in the words of the theory.
-use Rattle.std.proofs.Common.{◌≡◌, ℕ, ◌<◌, ◌↔◌, List, [], length, map, sym, ◌∙◌, ap, subst, arith}
+use Rattle.std.proofs.Common.{◌≡◌, ℕ, ◌<◌, ◌↔◌, List, [], length, sym, ◌∙◌, ap, subst, arith}
 use Rattle.ring_theory.proofs.Ring.{neg_mul, one_mul}
 use Rattle.ff_fields.specs.Field.{CodeField}
 use Rattle.ff_fields.specs.Over.{IsOver}
 use Rattle.ff_poly.specs.Words.{IsPoly, IsIrreducible}
 use Rattle.ff_poly.specs.Value.{value, numbers_value}
 use Rattle.ff_poly.specs.Polynomials.{polynomials, codes_of, value_not_zero}
-use Rattle.function_field.specs.Values.{PresValue, Functions, functions, function_of, equation_of}
+use Rattle.function_field.specs.Values.{PresValue, Functions, functions, equation_of}
 use Rattle.function_field.proofs.ScalarRings.{polynomials_subring}
 use Rattle.lattice_theory.specs.Lattices as theory
 use Rattle.lattice_theory.proofs.Lattices.{lattice_module}
 use Rattle.order_theory.specs.Orders as theory_orders
-use Rattle.ff_lattice.specs.Lattices.{LatticeValue, IsLattice, Contains, IsFull, row_elems}
+use Rattle.ff_lattice.specs.Lattices.{LatticeValue, IsLattice, Contains, IsFull}
 use Rattle.ff_lattice.specs.Orders.{IsOrder}
 use Rattle.ff_lattice.specs.Colons.{IsColon}
 use Rattle.value_theory.specs.Laws.{row_functions}

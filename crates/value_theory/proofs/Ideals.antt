@@ -1,12 +1,14 @@
 -- Ideals of orders of codes in the words of the theory; and those that are maximal: exactly those modulo which the order is a field.
-use Rattle.std.proofs.Common.{◌≡◌, ℕ, suc, ◌-◌, ◌↔◌, List, length, replicate, refl, sym, ◌∙◌, ap, subst, arith}
+use Rattle.std.proofs.Common.{◌≡◌, ℕ, suc, ◌-◌, ◌↔◌, List, replicate, sym, ◌∙◌, ap, subst, arith}
 use Rattle.ring_theory.specs.Ring.{CommRing}
+use Rattle.ring_theory.specs.Rows.{Row}
 use Rattle.ring_theory.specs.Subsets.{IsModule}
 use Rattle.ring_theory.proofs.Subsets.{span_module}
 use Rattle.prime_theory.specs.Ideals as theory
 use Rattle.prime_theory.specs.Places.{IsMaximalIdeal}
 use Rattle.ff_fields.specs.Field.{CodeField}
 use Rattle.ff_poly.specs.Value.{value}
+use Rattle.ff_poly.specs.Polynomials.{Polynomial}
 use Rattle.ff_poly.specs.Popov.{IsRow}
 use Rattle.ff_falg.specs.Algebras.{IsVector, IsFieldAlgebra}
 use Rattle.function_field.specs.Functions.{IsPolynomial, over}
@@ -14,13 +16,11 @@ use Rattle.function_field.specs.Values.{PresValue, Functions, functions, functio
 use Rattle.function_field.proofs.ScalarRings.{polynomials_subring}
 use Rattle.ff_lattice.specs.Lattices.{LatticeValue, Contains}
 use Rattle.ff_lattice.specs.Quotients.{QuotientValue, IsQuotient, IsIdeal, IsClassOf, HasClasses, dimension, lifted, codes_of_row, product_codes, quotient_ops}
-use Rattle.ff_lattice.proofs.ClassAlgebras.{IsSameModulo, same_sym, same_trans}
-use Rattle.ff_popov.specs.Reading.{read_rows}
+use Rattle.ff_lattice.proofs.ClassAlgebras.{same_sym, same_trans}
 use Rattle.ff_lattice.proofs.Elements.{elem_over, in_span_of}
-use Rattle.ff_lattice.proofs.Members.{Member}
 use Rattle.ff_lattice.proofs.Spaces.{codes_row, codes_row_length, codes_row_over, read_codes_row}
 use Rattle.ff_lattice.proofs.QuotientLaws.{den_some, class_of_row, lift_member, ideal_of, has_classes}
-use Rattle.value_theory.proofs.Bridge.{row_functions}
+use Rattle.value_theory.specs.Laws.{row_functions}
 
 module _ (k : CodeField) (p : PresValue) where
   -- the members of a lattice are closed under sums and multiples by polynomials
@@ -53,32 +53,31 @@ module _ (k : CodeField) (q : QuotientValue) (h : IsQuotient k q) where
   pub classes : HasClasses k q
   classes = has_classes k q h.frame h.one_is
 
+  -- the codes of a row of polynomials
+  abbrev row : Row (Polynomial k) (suc (q.p.n - 1)) → List (List ℕ)
+  row v = codes_row k (suc (q.p.n - 1)) v
+
+  row_in : (v : Row (Polynomial k) (suc (q.p.n - 1))) → IsRow k.ops q.p.n (row v)
+  row_in v =
+      let positive = h.frame.positive in
+      let size : suc (q.p.n - 1) ≡ q.p.n = omega arith in
+      record { size = codes_row_length k (suc (q.p.n - 1)) v ∙ size; over = codes_row_over k (suc (q.p.n - 1)) v }
+
+  row_function : (v : Row (Polynomial k) (suc (q.p.n - 1)))
+      → function_of k q.p (record { num = row v; den = q.order.den }) ≡ over (equation_of k q.p) v (value k q.order.den) (den_some k q h.frame)
+  row_function v =
+      elem_over k q.p q.order.den (den_some k q h.frame) (row v)
+      ∙ ap (λ u. over (equation_of k q.p) u (value k q.order.den) (den_some k q h.frame)) (read_codes_row k (suc (q.p.n - 1)) v)
+
   -- each member of the order has a class
   pub class_of_member : (z : Functions k q.p) → Contains k q.p q.order z → (a : List ℕ) × IsClassOf k q z a
-  class_of_member z z_in = (
-    codes_of_row k.ops q row,
-    subst (λ x. IsClassOf k q x (codes_of_row k.ops q row)) is (class_of_row k q h.frame row row_in (subst O (sym is) z_in)),
-  )
-    where
-      m : Member (equation_of k q.p) (value k q.order.den) (den_some k q h.frame) (read_rows k q.p.n q.order.rows) z
-      m = (in_span_of k q.p q.order.den (den_some k q h.frame) q.order.rows z).0 z_in
-
-      row : List (List ℕ)
-      row = codes_row k (suc (q.p.n - 1)) m.numerator
-
-      row_in : IsRow k.ops q.p.n row
-      unfolding row
-      row_in =
-          let positive = h.frame.positive in
-          let size : suc (q.p.n - 1) ≡ q.p.n = omega arith in
-          record { size = codes_row_length k (suc (q.p.n - 1)) m.numerator ∙ size; over = codes_row_over k (suc (q.p.n - 1)) m.numerator }
-
-      is : function_of k q.p (record { num = row; den = q.order.den }) ≡ z
-      unfolding row
-      is =
-          elem_over k q.p q.order.den (den_some k q h.frame) (codes_row k (suc (q.p.n - 1)) m.numerator)
-          ∙ ap (λ u. over (equation_of k q.p) u (value k q.order.den) (den_some k q h.frame)) (read_codes_row k (suc (q.p.n - 1)) m.numerator)
-          ∙ sym m.is
+  class_of_member z z_in =
+      let m = (in_span_of k q.p q.order.den (den_some k q h.frame) q.order.rows z).0 z_in in
+      let is : function_of k q.p (record { num = row m.numerator; den = q.order.den }) ≡ z = row_function m.numerator ∙ sym m.is in (
+        codes_of_row k.ops q (row m.numerator),
+        subst (λ x. IsClassOf k q x (codes_of_row k.ops q (row m.numerator))) is
+            (class_of_row k q h.frame (row m.numerator) (row_in m.numerator) (subst O (sym is) z_in)),
+      )
 
   -- members with one class differ by one of the ideal, and what so differs has one class
   pub same_class : (z w : Functions k q.p) (a : List ℕ) → IsClassOf k q z a → IsClassOf k q w a → Contains k q.p q.ideal ((functions k q.p).◌⊕◌ z ((functions k q.p).⊖◌ w))

@@ -1,19 +1,18 @@
 -- Indices: those of the code and those of the theory are the same, and the relative index of two lattices of codes is the difference of
 -- their pivot degrees.
-use Rattle.std.proofs.Common.{◌≡◌, ℕ, suc, ◌+◌, ◌-◌, ◌*◌, ◌<◌, ◌↔◌, List, [], ◌∷◌, length, refl, sym, ◌∙◌, ap, subst, arith}
+use Rattle.std.proofs.Common.{◌≡◌, ℕ, suc, ◌-◌, ◌<◌, ◌↔◌, List, [], ◌∷◌, refl, sym, ◌∙◌, ap, subst, arith}
 use Rattle.std.proofs.lemmas.Int.{ints}
 use Rattle.std.proofs.Math.IntN.{ℤ, pos, ◌-ℤ◌}
 use Rattle.ring_theory.specs.Ring.{CommRing}
-use Rattle.ring_theory.specs.Rows.{Row, row_scale}
+use Rattle.ring_theory.specs.Rows.{row_scale}
 use Rattle.ring_theory.proofs.Rows.{row_scale_scale}
 use Rattle.ff_fields.specs.Field.{CodeField}
-use Rattle.ff_fields.specs.Over.{IsOver, IsOver_nil, IsOver_cons}
-use Rattle.ff_poly.specs.Words.{IsMonic, product_of}
+use Rattle.ff_fields.specs.Over.{IsOver_nil, IsOver_cons}
+use Rattle.ff_poly.specs.Words.{product_of}
 use Rattle.ff_poly.specs.PolyOver.{IsOver_product_of}
 use Rattle.ff_poly.specs.Value.{value, value_product}
 use Rattle.ff_poly.specs.Polynomials.{Polynomial, polynomials}
 use Rattle.ff_poly.proofs.Parts.{IsMonic_product}
-use Rattle.function_field.specs.Functions.{over}
 use Rattle.function_field.specs.Values.{PresValue, Functions, equation_of}
 use Rattle.trace_theory.specs.Traces.{HasPolynomialCoordinates}
 use Rattle.lattice_theory.specs.Lattices as theory
@@ -89,29 +88,29 @@ module _ (k : CodeField) (p : PresValue) where
           (pivot_degree_of a -ℤ pivot_degree_of b)
           ((same_index (Contains k p a) (Contains k p U) g).0 (index_number_is k p positive a U over_a common first))
           ((same_index (Contains k p b) (Contains k p U) h).0 (index_number_is k p positive b U over_b common second))
-          (difference _ _ _ _ _ (number_is k p positive a U over_a common first) (number_is k p positive b U over_b common second))
+          (difference (pivot_degree_of a) (pivot_degree_of b) (pivot_degree_of U) g h (number_is k p positive a U over_a common first) (number_is k p positive b U over_b common second))
         where
           difference : (x y u : ℤ) (g h : ℕ) → pos g ≡ x -ℤ u → pos h ≡ y -ℤ u → x -ℤ y ≡ pos g -ℤ pos h
           difference x y u g h i j = omega (arith, ints)
+
+    -- k[x][y] as a lattice of codes
+    abbrev U : LatticeValue
+    U = unit_lattice p.n (1 ∷ [])
+
+    over_u : IsOverMonic k p U
+    over_u = unit_over_monic k p (1 ∷ []) (IsOver_cons k.laws.one_below IsOver_nil) ([], refl)
+
+    unit_pivot_degree : pivot_degree_of U ≡ pos 0
+    unit_pivot_degree = omega (arith, ints, unit_degree p.n, unit_rows_length p.n p.n)
+
+    less_none : (x y : ℤ) → y ≡ pos 0 → x -ℤ y ≡ x
+    less_none x y e = omega (arith, ints)
 
     -- relative to k[x][y] the index is the pivot degree
     pub coordinate_degree : (a : LatticeValue) → IsOverMonic k p a
         → HasRelativeIndex (equation_of k p) (Contains k p a) (HasPolynomialCoordinates (equation_of k p)) (pivot_degree_of a)
     coordinate_degree a over_a =
-        relative_same (equation_of k p) (Contains k p a) (Contains k p a) (Contains k p U) (HasPolynomialCoordinates (equation_of k p)) (λ z. (λ x. x, λ x. x))
-        (coordinate_members k p positive) (pivot_degree_of a)
-        (subst (HasRelativeIndex (equation_of k p) (Contains k p a) (Contains k p U)) (less_none (pivot_degree_of a) (pivot_degree_of U) none) (relative_degrees a U over_a over_u))
-      where
-        U : LatticeValue
-        U = unit_lattice p.n (1 ∷ [])
-
-        over_u : IsOverMonic k p U
-        unfolding U
-        over_u = unit_over_monic k p (1 ∷ []) (IsOver_cons k.laws.one_below IsOver_nil) ([], refl)
-
-        none : pivot_degree_of U ≡ pos 0
-        unfolding U
-        none = omega (arith, ints, unit_degree p.n, unit_rows_length p.n p.n)
-
-        less_none : (x y : ℤ) → y ≡ pos 0 → x -ℤ y ≡ x
-        less_none x y e = omega (arith, ints)
+        relative_same (equation_of k p) (Contains k p a) (Contains k p a) (Contains k p U) (HasPolynomialCoordinates (equation_of k p))
+        (λ z. (λ x. x, λ x. x)) (coordinate_members k p positive) (pivot_degree_of a)
+        (subst (HasRelativeIndex (equation_of k p) (Contains k p a) (Contains k p U))
+        (less_none (pivot_degree_of a) (pivot_degree_of U) unit_pivot_degree) (relative_degrees a U over_a over_u))

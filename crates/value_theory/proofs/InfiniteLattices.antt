@@ -1,6 +1,6 @@
 -- The infinite presentation of a curve, and the lattice of the integral functions of the infinite side: it has what O_inf has with
 -- powers of t as denominators, and differs from k[t][Y] at t alone.
-use Rattle.std.proofs.Common.{◌≡◌, ℕ, ◌≤◌, ◌↔◌, List, [], ◌∷◌, ◌++◌, map, replicate, refl, sym, ap, ap₂, ◌∙◌, subst, arith, All}
+use Rattle.std.proofs.Common.{◌≡◌, ℕ, ◌≤◌, ◌↔◌, List, [], ◌∷◌, map, replicate, refl, sym, ap, ap₂, ◌∙◌, subst, arith, All}
 use Rattle.std.proofs.lemmas.List.Elements.{All-head, All-tail}
 use Rattle.ring_theory.specs.Subsets.{Span}
 use Rattle.ff_fields.specs.Field.{CodeField}
@@ -12,7 +12,7 @@ use Rattle.function_field.specs.declared.side.Side.TheVariants.{Infinite}
 use Rattle.function_field.specs.Functions.{IsPolynomial}
 use Rattle.function_field.specs.Places.{IsIntegralAt}
 use Rattle.function_field.specs.Discriminant.{discriminant}
-use Rattle.function_field.specs.Values.{PresValue, Functions, functions, function_of, equation_of, setting}
+use Rattle.function_field.specs.Values.{Functions, functions, function_of, equation_of, setting}
 use Rattle.function_field.specs.Infinity.{function_on, StandsFor, IsPolynomialOn}
 use Rattle.function_field.specs.Curves.{CurveValue, IsCurve}
 use Rattle.function_field.proofs.OnSide.{function_on_stands, stands_once}
@@ -29,13 +29,13 @@ use Rattle.infinite_theory.proofs.LocalIntegral.{taken_is_supported}
 use Rattle.ff_lattice.specs.Lattices.{LatticeValue, IsLattice, Contains, elems_over, row_elems}
 use Rattle.ff_lattice.proofs.Normal.{monic_poly}
 use Rattle.value_theory.specs.IntegralLattices.{IsOverPowerOfT, IsIntegralLattice}
-use Rattle.value_theory.proofs.PowerDenominators.{over_power, element, element_in, element_is}
+use Rattle.value_theory.proofs.PowerDenominators.{power_codes, over_power, element, element_in, element_is}
 
-power_poly : (e : ℕ) → IsPoly (replicate e 0 ++ 1 ∷ [])
-power_poly e = monic_poly (replicate e 0 ++ 1 ∷ []) (replicate e 0, refl)
+power_poly : (e : ℕ) → IsPoly (power_codes e)
+power_poly e = monic_poly (power_codes e) (replicate e 0, refl)
 
-power_some : (e : ℕ) → ¬ (replicate e 0 ++ 1 ∷ [] ≡ [])
-power_some e = monic_some (replicate e 0 ++ 1 ∷ []) (replicate e 0, refl)
+power_some : (e : ℕ) → ¬ (power_codes e ≡ [])
+power_some e = monic_some (power_codes e) (replicate e 0, refl)
 
 module _ (k : CodeField) (c : CurveValue) (curve : IsCurve k c) where
   pub some : 1 ≤ c.fin.n

@@ -1,5 +1,5 @@
 -- The functions that powers of t take into k[t][Y] are the elements of the infinite presentation over powers of t.
-use Rattle.std.proofs.Common.{◌≡◌, ℕ, zero, suc, ◌-◌, ◌≤◌, List, [], ◌∷◌, ◌++◌, length, replicate, refl, sym, ap, ap₂, ◌∙◌, arith}
+use Rattle.std.proofs.Common.{◌≡◌, ℕ, zero, suc, ◌-◌, ◌≤◌, List, [], ◌∷◌, ◌++◌, replicate, refl, sym, ap, ap₂, ◌∙◌, arith}
 use Rattle.ring_theory.specs.Ring.{pow}
 use Rattle.ring_theory.proofs.Ring.{zero_add}
 use Rattle.ring_theory.proofs.Solver.{ring, reads, from_two}
@@ -18,11 +18,11 @@ use Rattle.infinite_theory.specs.Supported.{HasPowerDenominator}
 use Rattle.ff_lattice.proofs.Elements.{read_is}
 use Rattle.ff_lattice.proofs.Spaces.{codes_row, codes_row_length, codes_row_over, read_codes_row}
 
-module _ (k : CodeField) where
-  -- the powers of t as lists of codes
-  abbrev pub power_codes : ℕ → List ℕ
-  power_codes e = replicate e 0 ++ 1 ∷ []
+-- the powers of t as lists of codes
+abbrev pub power_codes : ℕ → List ℕ
+power_codes e = replicate e 0 ++ 1 ∷ []
 
+module _ (k : CodeField) where
   pub power_over : (e : ℕ) → IsOver k.ops (power_codes e)
   power_over e = IsOver_append (IsOver_zeros k e) (IsOver_cons k.laws.one_below IsOver_nil)
 

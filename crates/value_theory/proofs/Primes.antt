@@ -1,7 +1,5 @@
 -- A prime of an order of codes, as a recorded prime of the theory.
-use Rattle.std.proofs.Common.{◌≡◌, ℕ, zero, suc, ◌<◌, ◌≤◌, refl, sym, subst, arith}
-use Rattle.ring_theory.specs.Subsets.{IsModule}
-use Rattle.ring_theory.proofs.Ring.{one_mul}
+use Rattle.std.proofs.Common.{ℕ, zero, suc, ◌<◌, ◌≤◌, refl, sym, subst, arith}
 use Rattle.ring_theory.proofs.Subsets.{product_member}
 use Rattle.prime_theory.specs.Ideals.{Power}
 use Rattle.ff_fields.specs.Field.{CodeField}
@@ -26,13 +24,13 @@ module _ (k : CodeField) (q : PresValue) (positive : 0 < q.n) (o : LatticeValue)
   O = Contains k q o
 
   -- the inverse is closed under the order
-  inverse_closed : (s a : Functions k q) → Contains k q o s → Contains k q P.inverse a → Contains k q P.inverse ((functions k q).◌⊗◌ s a)
+  pub inverse_closed : (s a : Functions k q) → Contains k q o s → Contains k q P.inverse a → Contains k q P.inverse ((functions k q).◌⊗◌ s a)
   inverse_closed s a s_in a_in =
       (prime.inverse (s ⊗ a)).1
       (λ w w_in. subst O (sym ((functions k q).mul_assoc s a w)) (order.product_in s (a ⊗ w) s_in ((prime.inverse a).0 a_in w w_in)))
 
   -- the first power has the polynomial, so that the greatest that has it isn't the one before
-  some_power : (e : ℕ) → ¬ Power (functions k q).ops (Contains k q o) (Contains k q P.rows) (suc e) (of_poly (equation_of k q) (value k P.p)) → 1 ≤ e
+  pub some_power : (e : ℕ) → ¬ Power (functions k q).ops (Contains k q o) (Contains k q P.rows) (suc e) (of_poly (equation_of k q) (value k P.p)) → 1 ≤ e
   some_power zero n =
       let p = of_poly (equation_of k q) (value k P.p) in
       let 𝓞 = order_set k q positive o order in
@@ -40,7 +38,7 @@ module _ (k : CodeField) (q : PresValue) (positive : 0 < q.n) (o : LatticeValue)
       (product_member (functions k q) O 𝓞.ring (Contains k q P.rows) O p 𝟙 prime.over order.one_in)))
   some_power (suc e) n = omega arith
 
-  pub recorded : RecordedPrime (equation_of k q) (Contains k q o)
+  unfoldable pub recorded : RecordedPrime (equation_of k q) (Contains k q o)
   recorded = record {
     rows = row_functions k q P.rows;
     inverse_rows = row_functions k q P.inverse;

@@ -1,5 +1,5 @@
 -- The functions with polynomials as coordinates, over a denominator: the lattice of the unit rows, with its pivot degree.
-use Rattle.std.proofs.Common.{◌≡◌, ◌≢◌, ℕ, zero, suc, ◌+◌, ◌-◌, ◌*◌, ◌<◌, ◌≤◌, ◌⊎◌, inl, inr, ◌↔◌, List, [], ◌∷◌, ◌++◌, length, get_or, replicate, refl, sym, ◌∙◌, ap, subst, arith, All}
+use Rattle.std.proofs.Common.{◌≡◌, ◌≢◌, ℕ, zero, suc, ◌+◌, ◌-◌, ◌<◌, ◌≤◌, ◌⊎◌, inl, inr, ◌↔◌, List, [], ◌∷◌, ◌++◌, length, get_or, replicate, refl, sym, ◌∙◌, ap, subst, arith, All}
 use Rattle.std.proofs.lemmas.List.{length-append, get_or_append_left, length-replicate, get_or-set_same, get_or-set_other}
 use Rattle.std.proofs.Math.Seq.{get_or-append_seam}
 use Rattle.std.proofs.lemmas.Bool.{cases_lt}
@@ -18,14 +18,13 @@ use Rattle.popov_theory.proofs.Span as spans
 use Rattle.popov_theory.proofs.PopovForm.{row_past}
 use Rattle.popov_theory.proofs.Dimension.{units, units_at, units_length, in_units}
 use Rattle.ff_popov.specs.Reading.{read_row, row_space, read_rows}
-use Rattle.ff_popov.proofs.ReadRows.{read_row_at, past_row}
+use Rattle.ff_popov.proofs.ReadRows.{read_row_at}
 use Rattle.ff_popov.proofs.Measures.{space_width}
 use Rattle.function_field.specs.Functions.{over}
 use Rattle.function_field.specs.Values.{PresValue, Functions, equation_of}
 use Rattle.trace_theory.specs.Traces.{HasPolynomialCoordinates}
-use Rattle.ff_lattice.specs.Lattices.{LatticeValue, Contains, IsFull, pivot_degree_of}
+use Rattle.ff_lattice.specs.Lattices.{LatticeValue, Contains, IsFull}
 use Rattle.ff_lattice.specs.Steps.{unit_row}
-use Rattle.ff_lattice.proofs.Divisors.{monic_value}
 use Rattle.ff_lattice.proofs.Elements.{in_span_of}
 use Rattle.ff_lattice.proofs.Fracs.{over_eq}
 use Rattle.ff_lattice.proofs.Normal.{monic_poly}

@@ -15,7 +15,7 @@ use Rattle.ideal_theory.specs.Indices.{HasRelativeIndex}
 use Rattle.ideal_theory.specs.Records.{RecordedPrime, IsRecordAt, ArePrimesOfPlaces}
 use Rattle.ff_lattice.specs.Lattices.{LatticeValue, IsLattice, Contains, row_elems, pivot_degree_of}
 use Rattle.ff_lattice.specs.Indices.{HasIndex}
-use Rattle.ff_lattice.specs.Quotients.{QuotientValue, IsQuotient, IsIdeal, quotient_ops}
+use Rattle.ff_lattice.specs.Quotients.{QuotientValue, IsIdeal, quotient_ops}
 use Rattle.value_theory.specs.Primes.{PrimeValue}
 
 -- the rows of a lattice, as functions
@@ -25,7 +25,9 @@ row_functions k p l = map (function_of k p) (row_elems l)
 module _ (k : CodeField) (p : PresValue) where
   -- one index, and the index of a lattice relative to another and to k[x][y] by pivot degrees
   pub record IndicesByDegrees : Type 0 where
-    pub same : (A B : Functions k p → Type 0) (g : ℕ) → HasIndex k p A B g ↔ theory.HasIndex (equation_of k p) A B g
+    pub same :
+        (a b : LatticeValue) (g : ℕ) → HasIndex k p (Contains k p a) (Contains k p b) g
+        ↔ theory.HasIndex (equation_of k p) (Contains k p a) (Contains k p b) g
     pub relative :
         (a b : LatticeValue) → IsLattice k.ops p.n a → IsLattice k.ops p.n b
         → HasRelativeIndex (equation_of k p) (Contains k p a) (Contains k p b) (pivot_degree_of a -ℤ pivot_degree_of b)
