@@ -30,8 +30,10 @@ module _ {k : CodeField} (c : Equation k) (some : ¬ (discriminant c ≡ (polyno
   infixl 70 ◌⊗◌
   open ring_of c use {𝟙, ◌⊗◌}
 
-  -- where E allows what D allows, its multiplicities are at least those of D: else 1 would be a sum of products with values above 0
-  pub allowed_order : (D E : Divisor (FunctionOf c)) → IsDivisor (setting_of c) D → (P : Place (FunctionOf c)) → IsPlace (setting_of c) P
+  -- where E allows what D allows, its multiplicities are at least those of D: else 1 would be a sum of products with
+  -- values above 0
+  pub allowed_order : (D E : Divisor (FunctionOf c)) → IsDivisor (setting_of c) D → (P : Place (FunctionOf c))
+      → IsPlace (setting_of c) P
       → ((z : FunctionOf c) → MeetsOn (setting_of c) D P.side z → MeetsOn (setting_of c) E P.side z)
       → (m n : ℤ) → HasMultiplicity (setting_of c) D P m → HasMultiplicity (setting_of c) E P n → m ≤ℤ n
   allowed_order D E is P place within m n h i = by_lt_z n m (λ l. absurd (none l)) (λ l. l)
@@ -43,29 +45,36 @@ module _ {k : CodeField} (c : Equation k) (some : ¬ (discriminant c ≡ (polyno
       none l =
           let s = P.side in
           let on = part_on (setting_of c) s D is in
-          let one = one_in_opposite (setting_of c) (scalars_subring c) s (side_prime c some s) (side_invertible c some s) (part s D)
+          let one = one_in_opposite (setting_of c) (scalars_subring c) s (side_prime c some s)
+          (side_invertible c some s) (part s D)
           (both (λ e. IsPlace (setting_of c) e.place) (λ e. e.place.side ≡ s) (part s D) on.divisor.places on.sides) in
-          let v = valuation_of_outside (setting_of c) (scalars_subring c) P place 𝟙 (side_ring (setting_of c) (scalars_subring c) s).one_in place.proper in
+          let v = valuation_of_outside (setting_of c) (scalars_subring c) P place 𝟙
+          (side_ring (setting_of c) (scalars_subring c) s).one_in place.proper in
           v.not_more
           (at_least_weaker (setting_of c) (scalars_subring c) P place 𝟙 (pos 1) (pos 0 +ℤ pos 1) (omega (arith, ints))
-          (product_into (ring_of c) (DivisorIdeal (setting_of c) s (part s D)) (DivisorIdeal (setting_of c) s (opposite_divisor (part s D)))
-          (λ w. HasValuationAtLeast (setting_of c) P w (pos 1)) (values_additive (setting_of c) (scalars_subring c) s P.generators place (pos 1))
+          (product_into (ring_of c) (DivisorIdeal (setting_of c) s (part s D))
+          (DivisorIdeal (setting_of c) s (opposite_divisor (part s D)))
+          (λ w. HasValuationAtLeast (setting_of c) P w (pos 1))
+          (values_additive (setting_of c) (scalars_subring c) s P.generators place (pos 1))
           (λ a b x y.
           at_least_weaker (setting_of c) (scalars_subring c) P place (a ⊗ b) (m +ℤ neg_ℤ n) (pos 1) (total l)
           (at_least_product (setting_of c) (scalars_subring c) P place a b m (neg_ℤ n)
-          (values_of_ideal (setting_of c) (scalars_subring c) s (side_prime c some s) (side_invertible c some s) (part s D) on a x P place refl m
+          (values_of_ideal (setting_of c) (scalars_subring c) s (side_prime c some s) (side_invertible c some s)
+          (part s D) on a x P place refl m
           ((part_multiplicity (setting_of c) s P refl D m).0 h))
           (within b ((conditions c some D is s b).0 y) P place refl n i))) 𝟙 one))
 
   -- two canonical divisors have the same multiplicities
   pub canonical_once : (W V : Divisor (FunctionOf c)) → IsCanonical (setting_of c) W → IsCanonical (setting_of c) V
-      → (P : Place (FunctionOf c)) → IsPlace (setting_of c) P → (m n : ℤ) → HasMultiplicity (setting_of c) W P m → HasMultiplicity (setting_of c) V P n → m ≡ n
+      → (P : Place (FunctionOf c)) → IsPlace (setting_of c) P → (m n : ℤ) → HasMultiplicity (setting_of c) W P m
+      → HasMultiplicity (setting_of c) V P n → m ≡ n
   canonical_once W V w v P place m n h i =
       let a = allowed_order W V w.divisor P place (within P.side W V w v) m n h i in
       let b = allowed_order V W v.divisor P place (within P.side V W v w) n m i h in
       omega (arith, ints)
     where
-      within : (s : Side) (W V : Divisor (FunctionOf c)) → IsCanonical (setting_of c) W → IsCanonical (setting_of c) V → (z : FunctionOf c)
+      within : (s : Side) (W V : Divisor (FunctionOf c)) → IsCanonical (setting_of c) W
+          → IsCanonical (setting_of c) V → (z : FunctionOf c)
           → MeetsOn (setting_of c) W s z → MeetsOn (setting_of c) V s z
       within Finite W V w v z h = ((canonical_sides c V v).0 z).1 (((canonical_sides c W w).0 z).0 h)
       within Infinite W V w v z h = ((canonical_sides c V v).1 z).1 (((canonical_sides c W w).1 z).0 h)

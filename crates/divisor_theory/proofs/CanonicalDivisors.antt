@@ -16,7 +16,8 @@ use Rattle.space_theory.specs.TraceDuals.{TraceDual, CanonicalDual}
 use Rattle.divisor_theory.proofs.LeastValues.{module_divisor}
 use Rattle.divisor_theory.proofs.TraceModules.{finite_dual_module, finite_dual_invertible, canonical_module, canonical_invertible}
 
-module _ {k : CodeField} (c : Equation k) (some : ¬ (discriminant c ≡ (polynomials k).𝟘)) (field : IsField (ring_of c).ops) where
+module _ {k : CodeField} (c : Equation k) (some : ¬ (discriminant c ≡ (polynomials k).𝟘))
+    (field : IsField (ring_of c).ops) where
   infixl 70 ◌⊗◌
   open ring_of c use {𝟙, ◌⊗◌}
 
@@ -40,8 +41,10 @@ module _ {k : CodeField} (c : Equation k) (some : ¬ (discriminant c ≡ (polyno
         record {
           divisor = r.1;
           finite = λ z. (
-            λ m u u_in. subst (IsPolynomial c) (ap (λ w. trace_of c (w ⊗ u)) (sym (one_mul (ring_of c) z))) ((r.2 Finite z).1 m u u_in),
-            λ h. (r.2 Finite z).0 (λ u u_in. subst (IsPolynomial c) (ap (λ w. trace_of c (w ⊗ u)) (one_mul (ring_of c) z)) (h u u_in)),
+            λ m u u_in. subst (IsPolynomial c) (ap (λ w. trace_of c (w ⊗ u)) (sym (one_mul (ring_of c) z)))
+                ((r.2 Finite z).1 m u u_in),
+            λ h. (r.2 Finite z).0 (λ u u_in. subst (IsPolynomial c)
+                (ap (λ w. trace_of c (w ⊗ u)) (one_mul (ring_of c) z)) (h u u_in)),
           );
           infinite = λ z. ((r.2 Infinite z).1, (r.2 Infinite z).0);
         },

@@ -1,4 +1,5 @@
--- Pairs that are closed under O_fin and O_inf, in the words of families of multiples; and products with one function as a linear map.
+-- Pairs that are closed under O_fin and O_inf, in the words of families of multiples; and products with one function
+-- as a linear map.
 use Rattle.std.proofs.Common.{◌≡◌, List, [], ◌∷◌, map, refl, sym, ◌∙◌, ap, subst, arith}
 use Rattle.std.specs.Prelude.{ℕ, neg_ℤ}
 use Rattle.std.proofs.lemmas.Int.{ints}
@@ -26,9 +27,11 @@ module _ {k : CodeField} (c : Equation k) where
   open ring_of c use {ops, 𝟙, ◌⊕◌, ◌⊗◌}
 
   -- x^l·N takes products with x^l'·O_inf into x^(l + l')·N
-  pub closed_pair : (I N : FunctionOf c → Type 0) → ((v u : FunctionOf c) → IsIntegralAt (setting_of c) Finite v → I u → I (v ⊗ u))
+  pub closed_pair : (I N : FunctionOf c → Type 0)
+      → ((v u : FunctionOf c) → IsIntegralAt (setting_of c) Finite v → I u → I (v ⊗ u))
       → ((v u : FunctionOf c) → IsIntegralAt (setting_of c) Infinite v → N u → N (v ⊗ u))
-      → IsModulePair (ring_of c).ops (IsIntegralAt (setting_of c) Finite) (multiples_of c (IsIntegralAt (setting_of c) Infinite)) I (multiples_of c N)
+      → IsModulePair (ring_of c).ops (IsIntegralAt (setting_of c) Finite)
+      (multiples_of c (IsIntegralAt (setting_of c) Infinite)) I (multiples_of c N)
   closed_pair I N closed closed' = record {
     scale = closed;
     scale_family = λ l l' v u v_in u_in.
@@ -63,12 +66,16 @@ module _ {k : CodeField} (c : Equation k) where
     pub multiples_basis : (I N : FunctionOf c → Type 0) (b : List (FunctionOf c)) (d : ℕ → ℤ) → IsReducedBasis c I N b d
         → IsReducedBasis c (Multiple (ring_of c).ops z I) (Multiple (ring_of c).ops z N) (map (◌⊗◌ z) b) d
     multiples_basis I N b d reduced =
-        reduced_same (code_ring k) (functions_module c) (degree_of_y c) (λ w. I (y ⊗ w)) (Multiple ops z I) (λ m w. multiples_of c N m (y ⊗ w))
+        reduced_same (code_ring k) (functions_module c) (degree_of_y c) (λ w. I (y ⊗ w)) (Multiple ops z I)
+        (λ m w. multiples_of c N m (y ⊗ w))
         (multiples_of c (Multiple ops z N)) (map (◌⊗◌ z) b) d d (of_inverse I)
         (λ m w.
         let t = x_to (setting_of c) (neg_ℤ m) in
-        let e = of_inverse N (t ⊗ w) in
-        (λ h. e.0 (subst N (mul_left_comm (ring_of c) t y w) h), λ h. subst N (mul_left_comm (ring_of c) y t w) (e.1 h)))
+        let e = of_inverse N (t ⊗ w) in (
+          λ h. e.0 (subst N (mul_left_comm (ring_of c) t y w) h),
+          λ h. subst N (mul_left_comm (ring_of c) y t w) (e.1 h),
+        ))
         (λ i. refl)
-        (reduced_image (code_ring k) (functions_module c) (degree_of_y c) (◌⊗◌ z) (◌⊗◌ y) (times_linear z) (λ w. cancel c z y w inverse) (λ w. cancel c y z w back) I
+        (reduced_image (code_ring k) (functions_module c) (degree_of_y c) (◌⊗◌ z) (◌⊗◌ y) (times_linear z)
+        (λ w. cancel c z y w inverse) (λ w. cancel c y z w back) I
         (multiples_of c N) b d reduced)

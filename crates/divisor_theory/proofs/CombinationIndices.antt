@@ -1,4 +1,5 @@
--- The index of a lattice over k[t] in a larger one, where both differ from k[t][Y] at t alone, is that of their combinations over the fractions of degree at most 0.
+-- The index of a lattice over k[t] in a larger one, where both differ from k[t][Y] at t alone, is that of their
+-- combinations over the fractions of degree at most 0.
 use Rattle.std.proofs.Common.{◌≡◌, ℕ, zero, suc, ◌≤◌, List, [], ◌∷◌, map, length, refl, sym, ◌∙◌, ap, ap₂, subst, arith}
 use Rattle.std.proofs.lemmas.List.{length-map}
 use Rattle.ring_theory.specs.Local.{PrimeTo}
@@ -39,7 +40,8 @@ use Rattle.space_theory.proofs.AtInfinity.{taken_at, combinations_lattice}
 use Rattle.space_theory.proofs.InfiniteIndices.{infinite_space}
 use Rattle.infinite_theory.proofs.PushedDegrees.{constant_image}
 
-module _ (k : CodeField) (p q : PresValue) (c : ℕ) (f : Functions k q → Functions k p) (g : IsInfiniteMap k p q c f) where
+module _ (k : CodeField) (p q : PresValue) (c : ℕ) (f : Functions k q → Functions k p)
+    (g : IsInfiniteMap k p q c f) where
   infixl 65 ◌⊕◌
   infixl 70 ◌⊗◌
   open functions k q use {𝟘, 𝟙, ◌⊕◌, ◌⊗◌}
@@ -72,8 +74,20 @@ module _ (k : CodeField) (p q : PresValue) (c : ℕ) (f : Functions k q → Func
       let s = lattice_subspace Q L 𝓛 in
       record {
         zero_in = (𝟘, s.zero_in, sym (hom_zero (functions k q) (functions k p) f g.isomorphism.hom));
-        sum_in = λ u v h i. (h.0 ⊕ i.0, s.sum_in _ _ h.1 i.1, ap₂ (functions k p).◌⊕◌ h.2 i.2 ∙ sym (g.isomorphism.hom.add h.0 i.0));
-        scale_in = λ a v h. (code_of Q a ⊗ h.0, s.scale_in a h.0 h.1, ap (λ w. (functions k p).◌⊗◌ (code_of R a) w) h.2 ∙ sym (scaled a h.0));
+        sum_in =
+            λ u v h i. (
+              h.0 ⊕ i.0,
+              s.sum_in _ _ h.1 i.1,
+              ap₂ (functions k p).◌⊕◌ h.2 i.2
+                  ∙ sym (g.isomorphism.hom.add h.0 i.0),
+            );
+        scale_in =
+            λ a v h. (
+              code_of Q a ⊗ h.0,
+              s.scale_in a h.0 h.1,
+              ap (λ w. (functions k p).◌⊗◌ (code_of R a) w) h.2
+                  ∙ sym (scaled a h.0),
+            );
       }
 
   -- the combinations of the images
@@ -81,10 +95,13 @@ module _ (k : CodeField) (p q : PresValue) (c : ℕ) (f : Functions k q → Func
   Combinations gs = Span (functions k p).ops (IsFiniteAtInfinity (equation_of k p)) (map f gs)
 
   module _ (A B : Functions k q → Type 0) (𝓐 : IsLattice (equation_of k q) A) (𝓑 : IsLattice (equation_of k q) B)
-      (a : IsSupportedAt (equation_of k q) (x_poly k) A) (b : IsSupportedAt (equation_of k q) (x_poly k) B) (within : (z : Functions k q) → A z → B z)
-      (gs hs : List (Functions k q)) (spanned : SameSet A (Span (functions k q).ops (IsPolynomial (equation_of k q)) gs))
+      (a : IsSupportedAt (equation_of k q) (x_poly k) A) (b : IsSupportedAt (equation_of k q) (x_poly k) B)
+      (within : (z : Functions k q) → A z → B z)
+      (gs hs : List (Functions k q))
+      (spanned : SameSet A (Span (functions k q).ops (IsPolynomial (equation_of k q)) gs))
       (spanned' : SameSet B (Span (functions k q).ops (IsPolynomial (equation_of k q)) hs)) where
-    𝓝 : PrimeTo (functions k q).ops (IsPolynomial (equation_of k q)) (IsPrimeTo (equation_of k q) (x_poly k)) (of_poly (equation_of k q) (x_poly k))
+    𝓝 : PrimeTo (functions k q).ops (IsPolynomial (equation_of k q)) (IsPrimeTo (equation_of k q) (x_poly k))
+        (of_poly (equation_of k q) (x_poly k))
     𝓝 = prime_to Q (x_poly k) (x_irreducible k)
 
     𝓜 : IsModule (functions k p).ops (IsFiniteAtInfinity (equation_of k p)) (Combinations gs)
@@ -103,22 +120,29 @@ module _ (k : CodeField) (p q : PresValue) (c : ℕ) (f : Functions k q → Func
 
     power_image : (j : ℕ) → f (pow (functions k q).ops X j) ≡ pow (functions k p).ops (setting k p).one_over_x j
     power_image zero = g.isomorphism.hom.𝟙
-    power_image (suc j) = g.isomorphism.hom.mul X (pow (functions k q).ops X j) ∙ ap₂ (functions k p).◌⊗◌ g.variable (power_image j)
+    power_image (suc j) = g.isomorphism.hom.mul X (pow (functions k q).ops X j)
+        ∙ ap₂ (functions k p).◌⊗◌ g.variable (power_image j)
 
     -- a combination of the larger lattice is a member of it and a combination of the smaller one
     sums_at : (z : Functions k q) → Combinations hs (f z) → IsSum (space_ops R) (Image B) (Combinations gs) (f z)
     sums_at z m =
         let l = (combination_local k p q c f g B 𝓑 hs spanned' z).0 m in
         let t = taken_at k p q c f g A 𝓐 gs spanned (f z) in
-        let u = comaximal_power (functions k q) (IsPolynomial Q) (polynomials_subring Q) l.factor X (𝓝.within l.factor l.factor_in) 𝓝.p_in
+        let u = comaximal_power (functions k q) (IsPolynomial Q) (polynomials_subring Q) l.factor X
+        (𝓝.within l.factor l.factor_in) 𝓝.p_in
         (𝓝.comaximal l.factor l.factor_in) t.0 in
         let right_scalar : IsFiniteAtInfinity R (f u.right)
         = (g.scalars u.right).0
-        (record { factor = 𝟙; factor_in = 𝓝.one_in; multiple_in = subst (IsPolynomial Q) (sym (one_mul (functions k q) u.right)) u.right_in }) in
+        (record {
+          factor = 𝟙;
+          factor_in = 𝓝.one_in;
+          multiple_in = subst (IsPolynomial Q) (sym (one_mul (functions k q) u.right)) u.right_in;
+        }) in
         record {
           left = f (u.left ⊗ (l.factor ⊗ z));
           left_in = (u.left ⊗ (l.factor ⊗ z), (lattice_module Q B 𝓑).scale_in u.left _ u.left_in l.multiple_in, refl);
-          right = (functions k p).◌⊗◌ (f u.right) ((functions k p).◌⊗◌ (pow (functions k p).ops (setting k p).one_over_x t.0) (f z));
+          right = (functions k p).◌⊗◌ (f u.right)
+              ((functions k p).◌⊗◌ (pow (functions k p).ops (setting k p).one_over_x t.0) (f z));
           right_in = 𝓜.scale_in (f u.right) _ right_scalar t.1;
           is =
               ap f (split u.left l.factor u.right (pow (functions k q).ops X t.0) u.is)
@@ -126,23 +150,29 @@ module _ (k : CodeField) (p q : PresValue) (c : ℕ) (f : Functions k q → Func
               ∙ ap ((functions k p).◌⊕◌ (f (u.left ⊗ (l.factor ⊗ z))))
               (g.isomorphism.hom.mul u.right _
               ∙ ap ((functions k p).◌⊗◌ (f u.right))
-              (g.isomorphism.hom.mul (pow (functions k q).ops X t.0) z ∙ ap (λ w. (functions k p).◌⊗◌ w (f z)) (power_image t.0)));
+              (g.isomorphism.hom.mul (pow (functions k q).ops X t.0) z
+              ∙ ap (λ w. (functions k p).◌⊗◌ w (f z)) (power_image t.0)));
         }
       where
         split : (l u r x : Functions k q) → l ⊗ u ⊕ r ⊗ x ≡ 𝟙 → z ≡ l ⊗ (u ⊗ z) ⊕ r ⊗ (x ⊗ z)
         split l u r x e =
-            sym (from_one (functions k q) z e (ring (functions k q) (l ∷ u ∷ r ∷ x ∷ z ∷ []) λ o i. simp (reads, o, i 0, i 1, i 2, i 3, i 4) (o.equal _ _ refl)))
+            sym (from_one (functions k q) z e
+            (ring (functions k q) (l ∷ u ∷ r ∷ x ∷ z ∷ []) λ o i. simp (reads, o, i 0, i 1, i 2, i 3, i 4)
+            (o.equal _ _ refl)))
 
     sums : (w : Functions k p) → Combinations hs w → IsSum (space_ops R) (Image B) (Combinations gs) w
     sums = each k p q c f g (λ w. Combinations hs w → IsSum (space_ops R) (Image B) (Combinations gs) w) sums_at
 
-    pub combination_index : (n : ℕ) → HasIndex (equation_of k q) A B n → HasIndex (equation_of k p) (Combinations gs) (Combinations hs) n
+    pub combination_index : (n : ℕ) → HasIndex (equation_of k q) A B n
+        → HasIndex (equation_of k p) (Combinations gs) (Combinations hs) n
     combination_index n i = record {
       basis = map f i.basis;
       is =
           basis_transport (codes k) (space R) (Image A) (Image B) (Combinations gs) (Combinations hs) (image_space B 𝓑)
-          (infinite_space R (Combinations gs) (combinations_lattice k p q c f g A 𝓐 gs spanned)) inner outer common sums (map f i.basis)
-          (basis_image (codes k) (space Q) (space R) f map_linear A B (Image A) (Image B) (lattice_subspace Q B 𝓑) (λ v m. (v, m, refl)) (λ w h. (h.0, h.1, h.2))
+          (infinite_space R (Combinations gs) (combinations_lattice k p q c f g A 𝓐 gs spanned)) inner outer common
+          sums (map f i.basis)
+          (basis_image (codes k) (space Q) (space R) f map_linear A B (Image A) (Image B) (lattice_subspace Q B 𝓑)
+          (λ v m. (v, m, refl)) (λ w h. (h.0, h.1, h.2))
           (λ v m. (λ h. (v, h, refl), λ h. subst A (sym (g.isomorphism.injective v h.0 h.2)) h.1)) within i.basis i.is);
       count = length-map i.basis f ∙ i.count;
     }

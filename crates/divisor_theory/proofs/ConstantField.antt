@@ -80,7 +80,8 @@ module _ {k : CodeField} (c : Equation k) (some : ¬ (discriminant c ≡ (polyno
         one_in = to_true (decide 𝟙) 𝓑.one_in;
         sum_in = λ a b h i. to_true (decide (a ⊕ b)) (𝓑.sum_in a b (of_true (decide a) h) (of_true (decide b) i));
         neg_in = λ a h. to_true (decide ((ring_of c).⊖◌ a)) (𝓑.neg_in a (of_true (decide a) h));
-        product_in = λ a b h i. to_true (decide (a ⊗ b)) (𝓑.product_in a b (of_true (decide a) h) (of_true (decide b) i));
+        product_in =
+            λ a b h i. to_true (decide (a ⊗ b)) (𝓑.product_in a b (of_true (decide a) h) (of_true (decide b) i));
       }
 
   -- the ring of constants
@@ -112,7 +113,11 @@ module _ {k : CodeField} (c : Equation k) (some : ¬ (discriminant c ≡ (polyno
 
   -- a code as a constant
   abbrev pub code_constant : Code k → Constant
-  code_constant a = (code_of c a, tested (code_of c a) ((constants_are c some (code_of c a)).1 (code_on_both c (code_of c a) (code_is c a))))
+  code_constant a = (
+    code_of c a,
+    tested (code_of c a)
+        ((constants_are c some (code_of c a)).1 (code_on_both c (code_of c a) (code_is c a))),
+  )
 
   pub code_constant_hom : IsHomomorphism (code_ring k).ops constant_ring.ops code_constant
   code_constant_hom = record {
@@ -133,16 +138,21 @@ module _ {k : CodeField} (c : Equation k) (some : ¬ (discriminant c ≡ (polyno
   abbrev pub over_constants : Module constant_ring (FunctionOf c)
   over_constants = restricted constant_ring (ring_of c) (λ a. a.0) function_hom
 
-  pub constants_extension : IsExtension (code_ring k) (polynomial_ops c) constant_ring.ops constant_space.ops over_constants.ops
-  constants_extension = record { null = refl; zero = refl; sum = λ u v. refl; scale = λ w a u v. spread (code_of c a) u.0 v.0 w }
+  pub constants_extension : IsExtension (code_ring k) (polynomial_ops c) constant_ring.ops constant_space.ops
+      over_constants.ops
+  constants_extension =
+      record { null = refl; zero = refl; sum = λ u v. refl; scale = λ w a u v. spread (code_of c a) u.0 v.0 w }
     where
       spread : (a u v w : FunctionOf c) → (a ⊗ u ⊕ v) ⊗ w ≡ a ⊗ (u ⊗ w) ⊕ v ⊗ w
-      spread a u v w = ring (ring_of c) (a ∷ u ∷ v ∷ w ∷ []) λ q i. simp (reads, q, i 0, i 1, i 2, i 3) (q.equal _ _ refl)
+      spread a u v w =
+          ring (ring_of c) (a ∷ u ∷ v ∷ w ∷ []) λ q i. simp (reads, q, i 0, i 1, i 2, i 3) (q.equal _ _ refl)
 
   -- a basis of the constants over k, among the constants
   listed : (ws : List (FunctionOf c)) → All (IsConstant (setting_of c)) ws → List Constant
   listed [] h = []
-  listed (w ∷ ws) h = (w, tested w (All-head (IsConstant (setting_of c)) w ws h)) ∷ listed ws (All-tail (IsConstant (setting_of c)) w ws h)
+  listed (w ∷ ws) h =
+      (w, tested w (All-head (IsConstant (setting_of c)) w ws h)) ∷ listed ws
+      (All-tail (IsConstant (setting_of c)) w ws h)
 
   listed_length : (ws : List (FunctionOf c)) (h : All (IsConstant (setting_of c)) ws) → length (listed ws h) ≡ length ws
   unfolding listed
@@ -153,10 +163,13 @@ module _ {k : CodeField} (c : Equation k) (some : ¬ (discriminant c ≡ (polyno
       → (combine constant_space.ops e (listed ws h)).0 ≡ combine (space_ops c) e ws
   unfolding listed
   listed_combine e [] h = refl
-  listed_combine e (w ∷ ws) h = ap (λ x. code_of c (e 0) ⊗ w ⊕ x) (listed_combine (λ i. e (suc i)) ws (All-tail (IsConstant (setting_of c)) w ws h))
+  listed_combine e (w ∷ ws) h =
+      ap (λ x. code_of c (e 0) ⊗ w ⊕ x)
+      (listed_combine (λ i. e (suc i)) ws (All-tail (IsConstant (setting_of c)) w ws h))
 
   pub constants_basis : (g : ℕ) → HasIndex c (IsNull (space_ops c)) (IsConstant (setting_of c)) g
-      → (θ : List Constant) × IsBasis (code_ring k).ops constant_space.ops (IsNull constant_space.ops) (λ t. Unit {0}) θ × (length θ ≡ g)
+      → (θ : List Constant) × IsBasis (code_ring k).ops constant_space.ops (IsNull constant_space.ops)
+      (λ t. Unit {0}) θ × (length θ ≡ g)
   constants_basis g index = (
     θ,
     record {
@@ -167,7 +180,8 @@ module _ {k : CodeField} (c : Equation k) (some : ¬ (discriminant c ≡ (polyno
             coefficient = s.coefficient;
             rest = constant_ring.𝟘;
             rest_in = refl;
-            is = same_constant _ _ (s.is ∙ ap₂ ◌⊕◌ (sym (listed_combine s.coefficient index.basis index.is.members_in)) s.rest_in);
+            is = same_constant _ _ (s.is
+                ∙ ap₂ ◌⊕◌ (sym (listed_combine s.coefficient index.basis index.is.members_in)) s.rest_in);
           };
       independent = λ e m i l.
           index.is.independent e (sym (listed_combine e index.basis index.is.members_in) ∙ ap (λ a. a.0) m) i

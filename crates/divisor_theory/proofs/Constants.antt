@@ -1,4 +1,5 @@
--- The constants are the functions that are integral on both sides. They have a finite dimension over k, and where F is a field they are a field.
+-- The constants are the functions that are integral on both sides. They have a finite dimension over k, and where F is
+-- a field they are a field.
 use Rattle.std.proofs.Common.{◌≡◌, ◌↔◌, ℕ, suc, ℤ, pos, ◌-ℤ◌, ◌<◌, List, [], ◌∷◌, map, sym, ◌∙◌, ap, ap₂, subst}
 use Rattle.std.proofs.lemmas.List.{length-map}
 use Rattle.std.proofs.lemmas.List.Elements.{All-cons, All-map, All-weaker}
@@ -61,17 +62,20 @@ module _ {k : CodeField} (c : Equation k) where
     sum_in = λ a b h i.
         let p = code_at c a h in
         let q = code_at c b i in
-        subst (IsCode c) ((code_hom c).sum_is p.0 q.0 ∙ ap₂ ◌⊕◌ (sym p.1) (sym q.1)) (code_is c ((code_ring k).◌⊕◌ p.0 q.0));
+        subst (IsCode c) ((code_hom c).sum_is p.0 q.0 ∙ ap₂ ◌⊕◌ (sym p.1) (sym q.1))
+        (code_is c ((code_ring k).◌⊕◌ p.0 q.0));
     neg_in = λ a h.
         let p = code_at c a h in
         subst (IsCode c)
         (neg_unique (ring_of c) (code_of c p.0) (code_of c ((code_ring k).⊖◌ p.0))
-        (sym ((code_hom c).sum_is p.0 ((code_ring k).⊖◌ p.0)) ∙ ap (code_of c) ((code_ring k).ring.add_neg p.0) ∙ (code_hom c).zero_is)
+        (sym ((code_hom c).sum_is p.0 ((code_ring k).⊖◌ p.0)) ∙ ap (code_of c) ((code_ring k).ring.add_neg p.0)
+        ∙ (code_hom c).zero_is)
         ∙ ap ⊖◌ (sym p.1)) (code_is c ((code_ring k).⊖◌ p.0));
     product_in = λ a b h i.
         let p = code_at c a h in
         let q = code_at c b i in
-        subst (IsCode c) ((code_hom c).product_is p.0 q.0 ∙ ap₂ ◌⊗◌ (sym p.1) (sym q.1)) (code_is c ((code_ring k).◌⊗◌ p.0 q.0));
+        subst (IsCode c) ((code_hom c).product_is p.0 q.0 ∙ ap₂ ◌⊗◌ (sym p.1) (sym q.1))
+        (code_is c ((code_ring k).◌⊗◌ p.0 q.0));
   }
 
   code_scalar : (s : Side) (z : FunctionOf c) → IsCode c z → IsScalar c s z
@@ -110,14 +114,17 @@ module _ {k : CodeField} (c : Equation k) where
   )
 
   module _ (bs : List (FunctionOf c)) (d : ℕ → ℤ)
-      (reduced : IsReducedBasis c (IsIntegralAt (setting_of c) Finite) (IsIntegralAt (setting_of c) Infinite) bs d) where
-    -- what is integral on both sides is a root of a monic polynomial over k, since it takes a space of finite dimension over k with 1 into itself
+      (reduced : IsReducedBasis c (IsIntegralAt (setting_of c) Finite) (IsIntegralAt (setting_of c) Infinite) bs
+      d) where
+    -- what is integral on both sides is a root of a monic polynomial over k, since it takes a space of finite
+    -- dimension over k with 1 into itself
     pub both_constant : (z : FunctionOf c) → OnBothSides z → IsConstant (setting_of c) z
     both_constant z h =
         let b = space_basis c Fin Inf bs d reduced in
         integral (ring_of c) (IsCode c) code_subring z ws
         (All-weaker OnBothSides (λ w. Span ops (IsCode c) (𝟙 ∷ ws) (z ⊗ w))
-        (λ w m. span_tail (ring_of c) (IsCode c) code_subring 𝟙 ws (z ⊗ w) (b.spanning (z ⊗ w) (both_subring.product_in z w h m))) (𝟙 ∷ ws)
+        (λ w m. span_tail (ring_of c) (IsCode c) code_subring 𝟙 ws (z ⊗ w)
+        (b.spanning (z ⊗ w) (both_subring.product_in z w h m))) (𝟙 ∷ ws)
         (All-cons OnBothSides 𝟙 ws both_subring.one_in b.members))
       where
         ws : List (FunctionOf c)
@@ -125,26 +132,33 @@ module _ {k : CodeField} (c : Equation k) where
 
     pub both_index : HasIndex c (IsNull (space_ops c)) OnBothSides (dimension_sum (degree_of_y c) d (pos 0))
     both_index =
-        index_same c (IsNull (space_ops c)) (IsNull (space_ops c)) (Section Fin (multiples_of c Inf) (pos 0)) OnBothSides (λ z. (λ e. e, λ e. e))
+        index_same c (IsNull (space_ops c)) (IsNull (space_ops c)) (Section Fin (multiples_of c Inf) (pos 0))
+        OnBothSides (λ z. (λ e. e, λ e. e))
         (λ z. (λ m. (m.0, (level_zero c Inf z).0 m.1), λ m. (m.0, (level_zero c Inf z).1 m.1))) _
         (record {
           basis = layers (code_ring k) (polynomial_ops c) bs (λ i. size (pos 0 -ℤ d i));
-          is = section_basis (code_ring k) (code_field k) (functions_module c) (degree_of_y c) Fin (multiples_of c Inf) bs d reduced (pos 0);
-          count = length_section (code_ring k) (code_field k) (functions_module c) (degree_of_y c) Fin (multiples_of c Inf) bs d reduced (pos 0);
+          is = section_basis (code_ring k) (code_field k) (functions_module c) (degree_of_y c) Fin
+              (multiples_of c Inf) bs d reduced (pos 0);
+          count = length_section (code_ring k) (code_field k) (functions_module c) (degree_of_y c) Fin
+              (multiples_of c Inf) bs d reduced (pos 0);
         })
 
     -- the constants have the dimension of I ∩ N
-    pub constants_index : HasIndex c (IsNull (space_ops c)) (IsConstant (setting_of c)) (dimension_sum (degree_of_y c) d (pos 0))
+    pub constants_index : HasIndex c (IsNull (space_ops c)) (IsConstant (setting_of c))
+        (dimension_sum (degree_of_y c) d (pos 0))
     constants_index =
-        index_same c (IsNull (space_ops c)) (IsNull (space_ops c)) OnBothSides (IsConstant (setting_of c)) (λ z. (λ e. e, λ e. e))
+        index_same c (IsNull (space_ops c)) (IsNull (space_ops c)) OnBothSides (IsConstant (setting_of c))
+        (λ z. (λ e. e, λ e. e))
         (λ z. (both_constant z, constant_on_both z)) _ both_index
 
-    -- where z has an inverse, the inverse of a constant is one: z takes a basis of the constants to a basis, so 1 is z times a constant
+    -- where z has an inverse, the inverse of a constant is one: z takes a basis of the constants to a basis, so 1 is z
+    -- times a constant
     pub inverse_on_both : (z y : FunctionOf c) → OnBothSides z → z ⊗ y ≡ 𝟙 → OnBothSides y
     inverse_on_both z y h e =
         let s = full.spanning 𝟙 both_subring.one_in in
         let w = combine (space_ops c) s.coefficient ws in
-        let one : 𝟙 ≡ z ⊗ w = s.is ∙ ap₂ ◌⊕◌ (combine_times c z s.coefficient ws) s.rest_in ∙ (ring_of c).add_zero (z ⊗ w) in
+        let one : 𝟙 ≡ z ⊗ w = s.is ∙ ap₂ ◌⊕◌ (combine_times c z s.coefficient ws) s.rest_in
+        ∙ (ring_of c).add_zero (z ⊗ w) in
         subst OnBothSides
         (sym (cancel c y z w back) ∙ ap (λ v. y ⊗ v) (sym one) ∙ (ring_of c).mul_one y)
         (combine_in (codes k) (space c) OnBothSides both_space s.coefficient ws both_index.is.members_in)
@@ -155,10 +169,14 @@ module _ {k : CodeField} (c : Equation k) where
         ws : List (FunctionOf c)
         ws = both_index.basis
 
-        full : IsBasisOver (code_ring k).ops (space_ops c) (IsNull (space_ops c)) OnBothSides (map (◌⊗◌ z) both_index.basis)
+        full : IsBasisOver (code_ring k).ops (space_ops c) (IsNull (space_ops c)) OnBothSides
+            (map (◌⊗◌ z) both_index.basis)
         full =
-            basis_of_full_length (codes k) (space c) (IsNull (space_ops c)) OnBothSides (null_subspace (codes k) (space c)) both_space (map (◌⊗◌ z) ws) ws both_index.is
-            (All-map OnBothSides (◌⊗◌ z) ws (All-weaker OnBothSides (λ w. OnBothSides (z ⊗ w)) (λ w m. both_subring.product_in z w h m) ws both_index.is.members_in))
+            basis_of_full_length (codes k) (space c) (IsNull (space_ops c)) OnBothSides
+            (null_subspace (codes k) (space c)) both_space (map (◌⊗◌ z) ws) ws both_index.is
+            (All-map OnBothSides (◌⊗◌ z) ws
+            (All-weaker OnBothSides (λ w. OnBothSides (z ⊗ w)) (λ w m. both_subring.product_in z w h m) ws
+            both_index.is.members_in))
             (λ f m i l.
             both_index.is.independent f
             (sym (cancel c y z _ back) ∙ ap (λ v. y ⊗ v) (sym (combine_times c z f ws) ∙ m) ∙ mul_zero (ring_of c) y) i
@@ -171,4 +189,5 @@ module _ {k : CodeField} (c : Equation k) where
 
     pub constant_inverse : (z y : FunctionOf c) → IsConstant (setting_of c) z → z ⊗ y ≡ 𝟙 → IsConstant (setting_of c) y
     constant_inverse z y h e =
-        let β = sides_basis c some in both_constant β.0 β.1 β.2 y (inverse_on_both β.0 β.1 β.2 z y (constant_on_both z h) e)
+        let β = sides_basis c some in
+        both_constant β.0 β.1 β.2 y (inverse_on_both β.0 β.1 β.2 z y (constant_on_both z h) e)

@@ -1,4 +1,5 @@
--- The degree of a divisor, and the dimension of its space: there is one number each. The degree of W - D for a canonical W.
+-- The degree of a divisor, and the dimension of its space: there is one number each. The degree of W - D for a
+-- canonical W.
 use Rattle.std.proofs.Common.{◌≡◌, ℕ, List, [], ◌∷◌, All, refl, arith}
 use Rattle.std.proofs.lemmas.Int.{ints}
 use Rattle.std.proofs.lemmas.List.Elements.{All-head, All-tail}
@@ -36,7 +37,8 @@ module _ {k : CodeField} (c : Equation k) (some : ¬ (discriminant c ≡ (polyno
       go Finite e = degree_of_place c some P place e
       go Infinite e = degree_exists k c some P place e
 
-  degrees : (D : Divisor (FunctionOf c)) → All (λ e. IsPlace (setting_of c) e.place) D → (d : ℤ) × HasTotalDegree (setting_of c) D d
+  degrees : (D : Divisor (FunctionOf c)) → All (λ e. IsPlace (setting_of c) e.place) D → (d : ℤ)
+      × HasTotalDegree (setting_of c) D d
   degrees [] h = (pos 0, none)
   degrees (e ∷ D) h =
       let r = degrees D (All-tail (λ e. IsPlace (setting_of c) e.place) e D h) in
@@ -48,9 +50,11 @@ module _ {k : CodeField} (c : Equation k) (some : ¬ (discriminant c ≡ (polyno
     total_degree = degrees D is.places
 
     -- a reduced basis of the pair
-    pub pair_basis : (b : List (FunctionOf c)) × (d : ℕ → ℤ) × IsReducedBasis c (MeetsOn (setting_of c) D Finite) (MeetsOn (setting_of c) D Infinite) b d
+    pub pair_basis : (b : List (FunctionOf c)) × (d : ℕ → ℤ)
+        × IsReducedBasis c (MeetsOn (setting_of c) D Finite) (MeetsOn (setting_of c) D Infinite) b d
     pair_basis =
-        reduced_basis c (MeetsOn (setting_of c) D Finite) (MeetsOn (setting_of c) D Infinite) (allowed_lattice c some D is) (allowed_at_infinity c some D is)
+        reduced_basis c (MeetsOn (setting_of c) D Finite) (MeetsOn (setting_of c) D Infinite)
+        (allowed_lattice c some D is) (allowed_at_infinity c some D is)
 
     pub total_degree_once : (d e : ℤ) → HasTotalDegree (setting_of c) D d → HasTotalDegree (setting_of c) D e → d ≡ e
     total_degree_once d e h i =
@@ -61,20 +65,25 @@ module _ {k : CodeField} (c : Equation k) (some : ¬ (discriminant c ≡ (polyno
         omega (arith, ints)
 
     -- the dimension of the space, by any reduced basis of the pair
-    pub space_dimension : (b : List (FunctionOf c)) (d : ℕ → ℤ) → IsReducedBasis c (MeetsOn (setting_of c) D Finite) (MeetsOn (setting_of c) D Infinite) b d
+    pub space_dimension : (b : List (FunctionOf c)) (d : ℕ → ℤ)
+        → IsReducedBasis c (MeetsOn (setting_of c) D Finite) (MeetsOn (setting_of c) D Infinite) b d
         → HasIndex c (IsNull (space_ops c)) (InSpace (setting_of c) D) (dimension_sum (degree_of_y c) d (pos 0))
     space_dimension b d reduced =
         let I = MeetsOn (setting_of c) D Finite in
         let N = MeetsOn (setting_of c) D Infinite in
-        index_same c (IsNull (space_ops c)) (IsNull (space_ops c)) (Section I (multiples_of c N) (pos 0)) (InSpace (setting_of c) D) (λ z. (λ e. e, λ e. e))
+        index_same c (IsNull (space_ops c)) (IsNull (space_ops c)) (Section I (multiples_of c N) (pos 0))
+        (InSpace (setting_of c) D) (λ z. (λ e. e, λ e. e))
         (λ z.
         let s = space_is c some D z in
         (λ m. s.1 (m.0, (level_zero c N z).0 m.1), λ m. let t = s.0 m in (t.0, (level_zero c N z).1 t.1))) _
         (record {
           basis = _;
-          is = section_basis (code_ring k) (code_field k) (functions_module c) (degree_of_y c) I (multiples_of c N) b d reduced (pos 0);
-          count = length_section (code_ring k) (code_field k) (functions_module c) (degree_of_y c) I (multiples_of c N) b d reduced (pos 0);
+          is = section_basis (code_ring k) (code_field k) (functions_module c) (degree_of_y c) I (multiples_of c N) b
+              d reduced (pos 0);
+          count = length_section (code_ring k) (code_field k) (functions_module c) (degree_of_y c) I
+              (multiples_of c N) b d reduced (pos 0);
         })
 
     pub space_dimension_exists : (l : ℕ) × HasIndex c (IsNull (space_ops c)) (InSpace (setting_of c) D) l
-    space_dimension_exists = let r = pair_basis in (dimension_sum (degree_of_y c) r.1 (pos 0), space_dimension r.0 r.1 r.2)
+    space_dimension_exists = let r = pair_basis in
+        (dimension_sum (degree_of_y c) r.1 (pos 0), space_dimension r.0 r.1 r.2)

@@ -1,4 +1,5 @@
--- The genus: where F is a field, it times the dimension of the constants is the sum of the max(0, d_i - 1), for the degrees of a reduced basis of (O_fin, O_inf).
+-- The genus: where F is a field, it times the dimension of the constants is the sum of the max(0, d_i - 1), for the
+-- degrees of a reduced basis of (O_fin, O_inf).
 use Rattle.std.proofs.Common.{◌≡◌, ℕ, suc, ◌+◌, ◌*◌, ◌≤◌, ◌⊎◌, inl, inr, ℤ, pos, List, [], ◌∷◌, length, refl, sym, ◌∙◌, ap, ap₂, subst, arith, suc-mul, mul-le-mul_right, mul_comm}
 use Rattle.ring_theory.specs.Ring.{IsField}
 use Rattle.ring_theory.specs.Subsets.{IsSubring}
@@ -53,7 +54,8 @@ cancel_number n g h some e = go (order g h) (order h g)
     go (inr l) (inl m) = absurd (less h g m (sym e))
     go (inr l) (inr m) = omega arith
 
-module _ {k : CodeField} (c : Equation k) (some : ¬ (discriminant c ≡ (polynomials k).𝟘)) (field : IsField (ring_of c).ops) where
+module _ {k : CodeField} (c : Equation k) (some : ¬ (discriminant c ≡ (polynomials k).𝟘))
+    (field : IsField (ring_of c).ops) where
   infixl 65 ◌⊕◌
   infixl 70 ◌⊗◌
   infixr 80 ⊖◌
@@ -70,10 +72,24 @@ module _ {k : CodeField} (c : Equation k) (some : ¬ (discriminant c ≡ (polyno
   Sums = IsSum (constants_ops (code_ring k) (polynomial_ops c)) Fin (multiples_of c Inf (pos 0))
 
   to_sum : (z : FunctionOf c) → IsSumOfSides (setting_of c) z → Sums z
-  to_sum z h = record { left = h.finite_part; left_in = h.finite; right = h.infinite_part; right_in = (level_zero c Inf h.infinite_part).1 h.infinite; is = h.value }
+  to_sum z h =
+      record {
+        left = h.finite_part;
+        left_in = h.finite;
+        right = h.infinite_part;
+        right_in = (level_zero c Inf h.infinite_part).1 h.infinite;
+        is = h.value;
+      }
 
   from_sum : (z : FunctionOf c) → Sums z → IsSumOfSides (setting_of c) z
-  from_sum z h = record { finite_part = h.left; infinite_part = h.right; finite = h.left_in; infinite = (level_zero c Inf h.right).0 h.right_in; value = h.is }
+  from_sum z h =
+      record {
+        finite_part = h.left;
+        infinite_part = h.right;
+        finite = h.left_in;
+        infinite = (level_zero c Inf h.right).0 h.right_in;
+        value = h.is;
+      }
 
   at : (z : FunctionOf c) → IsConstant (setting_of c) z → (a : Constant c some) × (z ≡ a.0)
   at z h = ((z, tested c some z h), refl)
@@ -85,12 +101,14 @@ module _ {k : CodeField} (c : Equation k) (some : ¬ (discriminant c ≡ (polyno
   split v t = ring (ring_of c) (v ∷ t ∷ []) λ r x. simp (reads, r, x 0, x 1) (r.equal _ _ refl)
 
   -- the functions of the definition are a basis of F over O_fin + O_inf and the constants
-  basis_of_genus : (g : ℕ) (h : HasGenus (setting_of c) g) → IsBasis (constant_ring c some).ops (over_constants c some).ops Sums (λ z. Unit {0}) h.functions
+  basis_of_genus : (g : ℕ) (h : HasGenus (setting_of c) g)
+      → IsBasis (constant_ring c some).ops (over_constants c some).ops Sums (λ z. Unit {0}) h.functions
   basis_of_genus g h = record {
     members_in = everywhere (λ z. Unit {0}) (λ z. tt) h.functions;
     spanning = λ v v_in.
         let s = h.spanning v in
-        let q = sequence_of (constant_ring c some) (ring_of c) (λ a. a.0) (IsConstant (setting_of c)) at h.functions s.0 s.1 in
+        let q = sequence_of (constant_ring c some) (ring_of c) (λ a. a.0) (IsConstant (setting_of c)) at h.functions
+        s.0 s.1 in
         record {
           coefficient = q.0;
           rest = v ⊕ ⊖ s.0;
@@ -98,12 +116,14 @@ module _ {k : CodeField} (c : Equation k) (some : ¬ (discriminant c ≡ (polyno
           is = split v s.0 ∙ ap (λ x. x ⊕ (v ⊕ ⊖ s.0)) q.1;
         };
     independent =
-        independent_sequences (constant_ring c some) (ring_of c) (λ a. a.0) (IsConstant (setting_of c)) (λ a. constant_of c some a.0 a.1)
+        independent_sequences (constant_ring c some) (ring_of c) (λ a. a.0) (IsConstant (setting_of c))
+        (λ a. constant_of c some a.0 a.1)
         (λ a e. same_constant c some a (constant_ring c some).𝟘 e) Sums h.functions
         (λ us l us_in m. h.independent us (l ∙ h.count) us_in (from_sum _ m));
   }
 
-  genus_of_basis : (ws : List (FunctionOf c)) → IsBasis (constant_ring c some).ops (over_constants c some).ops Sums (λ z. Unit {0}) ws
+  genus_of_basis : (ws : List (FunctionOf c))
+      → IsBasis (constant_ring c some).ops (over_constants c some).ops Sums (λ z. Unit {0}) ws
       → HasGenus (setting_of c) (length ws)
   genus_of_basis ws b = record {
     functions = ws;
@@ -112,11 +132,13 @@ module _ {k : CodeField} (c : Equation k) (some : ¬ (discriminant c ≡ (polyno
         let s = b.spanning z tt in
         let v = combine (over_constants c some).ops s.coefficient ws in (
           v,
-          combine_spanned (constant_ring c some) (ring_of c) (λ a. a.0) (function_hom c some) (IsConstant (setting_of c)) (λ a. constant_of c some a.0 a.1) s.coefficient ws,
+          combine_spanned (constant_ring c some) (ring_of c) (λ a. a.0) (function_hom c some)
+              (IsConstant (setting_of c)) (λ a. constant_of c some a.0 a.1) s.coefficient ws,
           subst (IsSumOfSides (setting_of c)) (rest z v s.rest s.is) (from_sum s.rest s.rest_in),
         );
     independent = λ us l us_in m.
-        independent_lists (constant_ring c some) (ring_of c) (λ a. a.0) (function_hom c some) (IsConstant (setting_of c)) at Sums ws b.independent us l us_in (to_sum _ m);
+        independent_lists (constant_ring c some) (ring_of c) (λ a. a.0) (function_hom c some)
+        (IsConstant (setting_of c)) at Sums ws b.independent us l us_in (to_sum _ m);
   }
     where
       rest : (z v r : FunctionOf c) → z ≡ v ⊕ r → r ≡ z ⊕ ⊖ v
@@ -130,7 +152,14 @@ module _ {k : CodeField} (c : Equation k) (some : ¬ (discriminant c ≡ (polyno
   sums_closed =
       let 𝓑 = both_subring c in
       record {
-        zero_in = to_sum 𝟘 (record { finite_part = 𝟘; infinite_part = 𝟘; finite = 𝓑.zero_in.0; infinite = 𝓑.zero_in.1; value = sym ((ring_of c).add_zero 𝟘) });
+        zero_in =
+            to_sum 𝟘 (record {
+              finite_part = 𝟘;
+              infinite_part = 𝟘;
+              finite = 𝓑.zero_in.0;
+              infinite = 𝓑.zero_in.1;
+              value = sym ((ring_of c).add_zero 𝟘);
+            });
         sum_in = λ u v h i.
             let a = from_sum u h in
             let b = from_sum v i in
@@ -160,19 +189,24 @@ module _ {k : CodeField} (c : Equation k) (some : ¬ (discriminant c ≡ (polyno
       𝓘 = side_ring (setting_of c) (scalars_subring c) Infinite
 
   module _ (bs : List (FunctionOf c)) (d : ℕ → ℤ)
-      (reduced : IsReducedBasis c (IsIntegralAt (setting_of c) Finite) (IsIntegralAt (setting_of c) Infinite) bs d) where
-    pub genus_degrees : (n : ℕ) → HasIndex c (IsNull (space_ops c)) (IsConstant (setting_of c)) n → (g : ℕ) → HasGenus (setting_of c) g
+      (reduced : IsReducedBasis c (IsIntegralAt (setting_of c) Finite) (IsIntegralAt (setting_of c) Infinite) bs
+      d) where
+    pub genus_degrees : (n : ℕ) → HasIndex c (IsNull (space_ops c)) (IsConstant (setting_of c)) n → (g : ℕ)
+        → HasGenus (setting_of c) g
         → n * g ≡ genus_sum (degree_of_y c) d
     genus_degrees n index g h =
         let t = constants_basis c some n index in
-        let e = constants_genus (code_ring k) (code_field k) (functions_module c) (degree_of_y c) K0 (constant_space c some) (over_constants c some)
-        (constants_extension c some) t.0 t.1 Fin (multiples_of c Inf) bs d reduced (division c) h.functions (basis_of_genus g h) in
+        let e = constants_genus (code_ring k) (code_field k) (functions_module c) (degree_of_y c) K0
+        (constant_space c some) (over_constants c some)
+        (constants_extension c some) t.0 t.1 Fin (multiples_of c Inf) bs d reduced (division c) h.functions
+        (basis_of_genus g h) in
         mul_comm n g ∙ ap₂ ◌*◌ (sym h.count) (sym t.2) ∙ e
 
     genus_from : (g : ℕ) × HasGenus (setting_of c) g
     genus_from =
         let t = constants_basis c some _ (constants_index c bs d reduced) in
-        let r = basis_over_constants (code_ring k) (code_field k) (functions_module c) (degree_of_y c) K0 (constant_space c some) (over_constants c some)
+        let r = basis_over_constants (code_ring k) (code_field k) (functions_module c) (degree_of_y c) K0
+        (constant_space c some) (over_constants c some)
         (constants_extension c some) t.0 t.1 Fin (multiples_of c Inf) bs d reduced (division c) sums_closed in
         (length r.0, genus_of_basis r.0 r.1)
 
@@ -184,7 +218,9 @@ module _ {k : CodeField} (c : Equation k) (some : ¬ (discriminant c ≡ (polyno
   pub constants_some : (n : ℕ) → HasIndex c (IsNull (space_ops c)) (IsConstant (setting_of c)) n → ¬ (n ≡ 0)
   constants_some n index e = go index.basis index.is (index.count ∙ e)
     where
-      go : (ws : List (FunctionOf c)) → IsBasis (code_ring k).ops (space_ops c) (IsNull (space_ops c)) (IsConstant (setting_of c)) ws → length ws ≡ 0 → ⊥
+      go : (ws : List (FunctionOf c))
+          → IsBasis (code_ring k).ops (space_ops c) (IsNull (space_ops c)) (IsConstant (setting_of c)) ws → length ws
+          ≡ 0 → ⊥
       go [] b l =
           let s = b.spanning 𝟙 ((constants_are c some 𝟙).1 (both_subring c).one_in) in
           field.one_not_zero (s.is ∙ zero_add (ring_of c) s.rest ∙ s.rest_in)

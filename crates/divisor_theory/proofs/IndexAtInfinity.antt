@@ -1,4 +1,5 @@
--- The index of a product of powers of infinite places, relative to O_inf, is its degree; and such indices are one number.
+-- The index of a product of powers of infinite places, relative to O_inf, is its degree; and such indices are one
+-- number.
 use Rattle.std.proofs.Common.{◌≡◌, ℕ, List, ◌++◌, All, arith}
 use Rattle.std.proofs.lemmas.Int.{ints}
 use Rattle.std.proofs.Math.IntN.{ℤ, pos, ◌+ℤ◌, ◌-ℤ◌}
@@ -34,18 +35,23 @@ module _ {k : CodeField} (c : Equation k) where
   Spanned = Span (ring_of c).ops (IsFiniteAtInfinity c)
 
   -- an index relative to another is the difference of the sums of degrees
-  pub relative_degrees : (A B : FunctionOf c → Type 0) → IsLatticeAtInfinity c A → IsLatticeAtInfinity c B → (m : ℤ) → HasIndexAtInfinity c A B m
-      → (I : FunctionOf c → Type 0) → IsLattice c I → (a b : List (FunctionOf c)) (d e : ℕ → ℤ) → IsReducedBasis c I A a d → IsReducedBasis c I B b e
+  pub relative_degrees : (A B : FunctionOf c → Type 0) → IsLatticeAtInfinity c A → IsLatticeAtInfinity c B → (m : ℤ)
+      → HasIndexAtInfinity c A B m
+      → (I : FunctionOf c → Type 0) → IsLattice c I → (a b : List (FunctionOf c)) (d e : ℕ → ℤ)
+      → IsReducedBasis c I A a d → IsReducedBasis c I B b e
       → m ≡ degree_sum (degree_of_y c) d -ℤ degree_sum (degree_of_y c) e
   relative_degrees A B 𝓐 𝓑 m h I 𝓘 a b d e reduced reduced' =
       let r = reduced_basis c I (Spanned h.larger) 𝓘 h.lattice in
-      let f = infinite_index_degrees c A (Spanned h.larger) 𝓐 h.lattice h.has_first I a r.0 d r.1 reduced r.2 h.first h.first_index in
-      let g = infinite_index_degrees c B (Spanned h.larger) 𝓑 h.lattice h.has_second I b r.0 e r.1 reduced' r.2 h.second h.second_index in
+      let f = infinite_index_degrees c A (Spanned h.larger) 𝓐 h.lattice h.has_first I a r.0 d r.1 reduced r.2 h.first
+      h.first_index in
+      let g = infinite_index_degrees c B (Spanned h.larger) 𝓑 h.lattice h.has_second I b r.0 e r.1 reduced' r.2
+      h.second h.second_index in
       let i : m ≡ pos h.first -ℤ pos h.second = h.is in
       omega (arith, ints)
 
   -- so it is one number
-  pub relative_once : (A B : FunctionOf c → Type 0) → IsLatticeAtInfinity c A → IsLatticeAtInfinity c B → (m n : ℤ) → HasIndexAtInfinity c A B m
+  pub relative_once : (A B : FunctionOf c → Type 0) → IsLatticeAtInfinity c A → IsLatticeAtInfinity c B → (m n : ℤ)
+      → HasIndexAtInfinity c A B m
       → HasIndexAtInfinity c A B n → m ≡ n
   relative_once A B 𝓐 𝓑 m n h i =
       let P = HasPolynomialCoordinates c in
@@ -58,7 +64,8 @@ module _ {k : CodeField} (c : Equation k) where
 
   -- each pair of lattices at infinity has one, by the sums of degrees with any lattice
   pub relative_by_degrees : (A B : FunctionOf c → Type 0) → IsLatticeAtInfinity c A → IsLatticeAtInfinity c B
-      → (I : FunctionOf c → Type 0) → IsLattice c I → (a b : List (FunctionOf c)) (d e : ℕ → ℤ) → IsReducedBasis c I A a d → IsReducedBasis c I B b e
+      → (I : FunctionOf c → Type 0) → IsLattice c I → (a b : List (FunctionOf c)) (d e : ℕ → ℤ)
+      → IsReducedBasis c I A a d → IsReducedBasis c I B b e
       → (m : ℤ) → m ≡ degree_sum (degree_of_y c) d -ℤ degree_sum (degree_of_y c) e → HasIndexAtInfinity c A B m
   relative_by_degrees A B 𝓐 𝓑 I 𝓘 a b d e reduced reduced' m is =
       let r = reduced_basis c I (Spanned gs) 𝓘 𝓛 in
@@ -82,15 +89,25 @@ module _ {k : CodeField} (c : Equation k) where
       gs = 𝓐.generators ++ 𝓑.generators
 
       in_first : (z : FunctionOf c) → A z → Spanned gs z
-      in_first z m = span_append_left (ring_of c) (IsFiniteAtInfinity c) (finite_at_infinity_subring c) 𝓐.generators 𝓑.generators z ((𝓐.spanned z).0 m)
+      in_first z m =
+          span_append_left (ring_of c) (IsFiniteAtInfinity c) (finite_at_infinity_subring c) 𝓐.generators
+          𝓑.generators z ((𝓐.spanned z).0 m)
 
       in_second : (z : FunctionOf c) → B z → Spanned gs z
-      in_second z m = span_append_right (ring_of c) (IsFiniteAtInfinity c) (finite_at_infinity_subring c) 𝓐.generators 𝓑.generators z ((𝓑.spanned z).0 m)
+      in_second z m =
+          span_append_right (ring_of c) (IsFiniteAtInfinity c) (finite_at_infinity_subring c) 𝓐.generators
+          𝓑.generators z ((𝓑.spanned z).0 m)
 
       𝓛 : IsLatticeAtInfinity c (Spanned gs)
-      𝓛 = record { generators = gs; spanned = λ z. (λ m. m, λ m. m); exponent = 𝓐.exponent; taken = λ z. in_first _ (𝓐.taken z) }
+      𝓛 = record {
+        generators = gs;
+        spanned = λ z. (λ m. m, λ m. m);
+        exponent = 𝓐.exponent;
+        taken = λ z. in_first _ (𝓐.taken z);
+      }
 
-  module _ (some : ¬ (discriminant c ≡ (polynomials k).𝟘)) (D : Divisor (FunctionOf c)) (on : IsDivisorOn (setting_of c) Infinite D) where
+  module _ (some : ¬ (discriminant c ≡ (polynomials k).𝟘)) (D : Divisor (FunctionOf c))
+      (on : IsDivisorOn (setting_of c) Infinite D) where
     pub all_on : All (λ e. IsPlace (setting_of c) e.place × (e.place.side ≡ Infinite)) D
     all_on = both (λ e. IsPlace (setting_of c) e.place) (λ e. e.place.side ≡ Infinite) D on.divisor.places on.sides
 
@@ -101,8 +118,10 @@ module _ {k : CodeField} (c : Equation k) where
         invertible_lattice c (DivisorIdeal (setting_of c) Infinite D) t.0 some
 
     -- the sum of degrees with any lattice
-    pub ideal_degrees : (d : ℤ) → HasTotalDegree (setting_of c) D d → (I : FunctionOf c → Type 0) → IsLattice c I → (a b : List (FunctionOf c)) (f g : ℕ → ℤ)
-        → IsReducedBasis c I (DivisorIdeal (setting_of c) Infinite D) a f → IsReducedBasis c I (IsIntegralAt (setting_of c) Infinite) b g
+    pub ideal_degrees : (d : ℤ) → HasTotalDegree (setting_of c) D d → (I : FunctionOf c → Type 0) → IsLattice c I
+        → (a b : List (FunctionOf c)) (f g : ℕ → ℤ)
+        → IsReducedBasis c I (DivisorIdeal (setting_of c) Infinite D) a f
+        → IsReducedBasis c I (IsIntegralAt (setting_of c) Infinite) b g
         → degree_sum (degree_of_y c) f ≡ degree_sum (degree_of_y c) g +ℤ d
     unfolding degree_over
     ideal_degrees d total I 𝓘 a b f g reduced reduced' =
@@ -112,8 +131,10 @@ module _ {k : CodeField} (c : Equation k) where
         let r = reduced_basis c I A 𝓘 (invertible_lattice c A t.0 some) in
         let s = reduced_basis c I B 𝓘 (invertible_lattice c B (ring_invertible c some) some) in
         let e : degree_sum (degree_of_y c) r.1 ≡ degree_sum (degree_of_y c) s.1 +ℤ d = t.1 in
-        let h = same_degree_sum (code_ring k) (code_field k) (functions_module c) (degree_of_y c) I (multiples_of c A) a r.0 f r.1 reduced r.2 in
-        let i = same_degree_sum (code_ring k) (code_field k) (functions_module c) (degree_of_y c) I (multiples_of c B) b s.0 g s.1 reduced' s.2 in
+        let h = same_degree_sum (code_ring k) (code_field k) (functions_module c) (degree_of_y c) I
+        (multiples_of c A) a r.0 f r.1 reduced r.2 in
+        let i = same_degree_sum (code_ring k) (code_field k) (functions_module c) (degree_of_y c) I
+        (multiples_of c B) b s.0 g s.1 reduced' s.2 in
         omega (arith, ints)
 
     pub ideal_index_at_infinity : (d : ℤ) → HasTotalDegree (setting_of c) D d

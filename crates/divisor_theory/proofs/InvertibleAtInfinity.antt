@@ -1,5 +1,5 @@
--- Modules over O_inf that are invertible, and have a multiple of each function by a power of 1/x: they are lattices at infinity, and so are their products and
--- the inverses of infinite places.
+-- Modules over O_inf that are invertible, and have a multiple of each function by a power of 1/x: they are lattices at
+-- infinity, and so are their products and the inverses of infinite places.
 use Rattle.std.proofs.Common.{◌≡◌, ℕ, suc, ◌+◌, List, [], ◌∷◌, map, All, refl, sym, ◌∙◌, ap, subst}
 use Rattle.std.proofs.lemmas.List.Elements.{All-map}
 use Rattle.ring_theory.specs.Ring.{pow}
@@ -58,28 +58,35 @@ module _ {k : CodeField} (c : Equation k) where
 
     -- the first factors of the sum of products that is 1 span the module
     by_lefts : (z : FunctionOf c) → X z → (ps : List (Factors X Q))
-        → Product (ring_of c).ops Inf (Span (ring_of c).ops R (map (λ f. f.left) ps)) (z ⊗ sum_over (ring_of c).ops ps (λ f. f.left ⊗ f.right))
+        → Product (ring_of c).ops Inf (Span (ring_of c).ops R (map (λ f. f.left) ps))
+        (z ⊗ sum_over (ring_of c).ops ps (λ f. f.left ⊗ f.right))
     by_lefts z z_in [] =
         subst (Product (ring_of c).ops Inf (Span (ring_of c).ops R [])) (sym (mul_zero (ring_of c) z))
-        (product_module (ring_of c) Inf infinite_ring Inf (Span (ring_of c).ops R []) (own_module (ring_of c) Inf infinite_ring)).zero_in
+        (product_module (ring_of c) Inf infinite_ring Inf (Span (ring_of c).ops R [])
+        (own_module (ring_of c) Inf infinite_ring)).zero_in
     by_lefts z z_in (f ∷ ps) =
         let gs = map (λ f. f.left) ps in
         let 𝓞 = own_module (ring_of c) Inf infinite_ring in
-        subst (Product (ring_of c).ops Inf (Span (ring_of c).ops R (f.left ∷ gs))) (turn z f.left f.right (sum_over (ring_of c).ops ps (λ f. f.left ⊗ f.right)))
+        subst (Product (ring_of c).ops Inf (Span (ring_of c).ops R (f.left ∷ gs)))
+        (turn z f.left f.right (sum_over (ring_of c).ops ps (λ f. f.left ⊗ f.right)))
         ((product_module (ring_of c) Inf infinite_ring Inf (Span (ring_of c).ops R (f.left ∷ gs)) 𝓞).sum_in _ _
-        (product_member (ring_of c) Inf infinite_ring Inf (Span (ring_of c).ops R (f.left ∷ gs)) (f.right ⊗ z) f.left (f.right_in z z_in)
+        (product_member (ring_of c) Inf infinite_ring Inf (Span (ring_of c).ops R (f.left ∷ gs)) (f.right ⊗ z) f.left
+        (f.right_in z z_in)
         (span_head (ring_of c) R (finite_at_infinity_subring c) f.left gs))
-        (product_monotone (ring_of c) Inf infinite_ring Inf (Span (ring_of c).ops R gs) Inf (Span (ring_of c).ops R (f.left ∷ gs)) 𝓞 (λ a m. m)
+        (product_monotone (ring_of c) Inf infinite_ring Inf (Span (ring_of c).ops R gs) Inf
+        (Span (ring_of c).ops R (f.left ∷ gs)) 𝓞 (λ a m. m)
         (λ a m. span_tail (ring_of c) R (finite_at_infinity_subring c) f.left gs a m) _ (by_lefts z z_in ps)))
       where
         turn : (z l r s : FunctionOf c) → r ⊗ z ⊗ l ⊕ z ⊗ s ≡ z ⊗ (l ⊗ r ⊕ s)
-        turn z l r s = ring (ring_of c) (z ∷ l ∷ r ∷ s ∷ []) λ q i. simp (reads, q, i 0, i 1, i 2, i 3) (q.equal _ _ refl)
+        turn z l r s =
+            ring (ring_of c) (z ∷ l ∷ r ∷ s ∷ []) λ q i. simp (reads, q, i 0, i 1, i 2, i 3) (q.equal _ _ refl)
 
     over_scalars : IsModule (ring_of c).ops R X
     over_scalars = record {
       zero_in = h.module_is.zero_in;
       sum_in = h.module_is.sum_in;
-      scale_in = λ s a s_in m. h.module_is.scale_in s a (scalar_integral (setting_of c) (scalars_subring c) Infinite s s_in) m;
+      scale_in =
+          λ s a s_in m. h.module_is.scale_in s a (scalar_integral (setting_of c) (scalars_subring c) Infinite s s_in) m;
     }
 
     left_members : (ps : List (Factors X Q)) → All X (map (λ f. f.left) ps)
@@ -103,20 +110,26 @@ module _ {k : CodeField} (c : Equation k) where
         to : (z : FunctionOf c) → X z → Span (ring_of c).ops R (products (ring_of c).ops 𝓘.generators gs) z
         to z m =
             (product_of_spans (ring_of c) R (finite_at_infinity_subring c) 𝓘.generators gs z).0
-            (product_monotone (ring_of c) R (finite_at_infinity_subring c) Inf (Span (ring_of c).ops R gs) (Span (ring_of c).ops R 𝓘.generators) (Span (ring_of c).ops R gs)
-            (span_module (ring_of c) R (finite_at_infinity_subring c) 𝓘.generators) (λ a i. (𝓘.spanned a).0 i) (λ a i. i) z
-            (subst (Product (ring_of c).ops Inf (Span (ring_of c).ops R gs)) (ap (λ w. z ⊗ w) (sym h.invertible.1) ∙ (ring_of c).mul_one z)
+            (product_monotone (ring_of c) R (finite_at_infinity_subring c) Inf (Span (ring_of c).ops R gs)
+            (Span (ring_of c).ops R 𝓘.generators) (Span (ring_of c).ops R gs)
+            (span_module (ring_of c) R (finite_at_infinity_subring c) 𝓘.generators) (λ a i. (𝓘.spanned a).0 i)
+            (λ a i. i) z
+            (subst (Product (ring_of c).ops Inf (Span (ring_of c).ops R gs))
+            (ap (λ w. z ⊗ w) (sym h.invertible.1) ∙ (ring_of c).mul_one z)
             (by_lefts z m h.invertible.0)))
 
         from : (z : FunctionOf c) → Span (ring_of c).ops R (products (ring_of c).ops 𝓘.generators gs) z → X z
         from z m =
-            product_into (ring_of c) (Span (ring_of c).ops R 𝓘.generators) (Span (ring_of c).ops R gs) X (additive_of_module (ring_of c) Inf X h.module_is)
+            product_into (ring_of c) (Span (ring_of c).ops R 𝓘.generators) (Span (ring_of c).ops R gs) X
+            (additive_of_module (ring_of c) Inf X h.module_is)
             (λ a b i j.
             h.module_is.scale_in a b ((𝓘.spanned a).1 i)
-            (span_least (ring_of c) R (finite_at_infinity_subring c) X over_scalars gs (left_members h.invertible.0) b j)) z
+            (span_least (ring_of c) R (finite_at_infinity_subring c) X over_scalars gs (left_members h.invertible.0)
+            b j)) z
             ((product_of_spans (ring_of c) R (finite_at_infinity_subring c) 𝓘.generators gs z).1 m)
 
-  pub invertible_same : (X Y : FunctionOf c → Type 0) → SameSet X Y → IsInvertibleAtInfinity X → IsInvertibleAtInfinity Y
+  pub invertible_same : (X Y : FunctionOf c → Type 0) → SameSet X Y → IsInvertibleAtInfinity X
+      → IsInvertibleAtInfinity Y
   invertible_same X Y s h = record {
     module_is = 𝓨;
     invertible =
@@ -133,18 +146,22 @@ module _ {k : CodeField} (c : Equation k) where
         scale_in = λ r a r_in m. (s _).0 (h.module_is.scale_in r a r_in ((s a).1 m));
       }
 
-  pub times_invertible : (X Y : FunctionOf c → Type 0) → IsInvertibleAtInfinity X → IsInvertibleAtInfinity Y → IsInvertibleAtInfinity (Product (ring_of c).ops X Y)
+  pub times_invertible : (X Y : FunctionOf c → Type 0) → IsInvertibleAtInfinity X → IsInvertibleAtInfinity Y
+      → IsInvertibleAtInfinity (Product (ring_of c).ops X Y)
   times_invertible X Y h i = record {
     module_is = product_module (ring_of c) Inf infinite_ring X Y h.module_is;
     invertible =
-        product_monotone (ring_of c) Inf infinite_ring (Product ops X Y) (Product ops (Inverse ops Inf X) (Inverse ops Inf Y)) (Product ops X Y) (Inverse ops Inf (Product ops X Y))
+        product_monotone (ring_of c) Inf infinite_ring (Product ops X Y)
+        (Product ops (Inverse ops Inf X) (Inverse ops Inf Y)) (Product ops X Y) (Inverse ops Inf (Product ops X Y))
         (product_module (ring_of c) Inf infinite_ring X Y h.module_is) (λ z m. m)
-        (λ z. (inverse_of_product (ring_of c) Inf infinite_ring X Y h.module_is i.module_is h.invertible i.invertible z).0) 𝟙
+        (λ z. (inverse_of_product (ring_of c) Inf infinite_ring X Y h.module_is i.module_is h.invertible i.invertible
+        z).0) 𝟙
         (invertible_product (ring_of c) Inf infinite_ring X Y h.module_is i.module_is h.invertible i.invertible);
     exponent = λ z. h.exponent z + i.exponent 𝟙;
     taken = λ z.
         subst (Product ops X Y)
-        (turn (pow ops t (h.exponent z)) (pow ops t (i.exponent 𝟙)) z ∙ ap (λ w. w ⊗ z) (sym (pow_add (ring_of c) t (h.exponent z) (i.exponent 𝟙))))
+        (turn (pow ops t (h.exponent z)) (pow ops t (i.exponent 𝟙)) z
+        ∙ ap (λ w. w ⊗ z) (sym (pow_add (ring_of c) t (h.exponent z) (i.exponent 𝟙))))
         (product_member (ring_of c) Inf infinite_ring X Y _ _ (h.taken z) (i.taken 𝟙));
   }
     where
@@ -182,13 +199,17 @@ module _ {k : CodeField} (c : Equation k) where
           turn t w z = ring (ring_of c) (t ∷ w ∷ z ∷ []) λ q i. simp (reads, q, i 0, i 1, i 2) (q.equal _ _ refl)
 
       -- its inverse has O_inf
-      pub inverse_at_infinity : IsInvertibleAtInfinity (Inverse (ring_of c).ops (IsIntegralAt (setting_of c) Infinite) (IsIn (setting_of c) P))
+      pub inverse_at_infinity : IsInvertibleAtInfinity
+          (Inverse (ring_of c).ops (IsIntegralAt (setting_of c) Infinite) (IsIn (setting_of c) P))
       inverse_at_infinity = record {
         module_is = inverse_is_module (ring_of c) Inf infinite_ring (IsIn (setting_of c) P);
         invertible =
-            product_monotone (ring_of c) Inf infinite_ring (Inverse ops Inf M) M (Inverse ops Inf M) (Inverse ops Inf (Inverse ops Inf M))
-            (inverse_is_module (ring_of c) Inf infinite_ring M) (λ z m. m) (λ z m y n. subst Inf ((ring_of c).mul_comm y z) (n z m)) 𝟙
-            (product_swap (ring_of c) Inf infinite_ring M (Inverse ops Inf M) (inverse_is_module (ring_of c) Inf infinite_ring M) 𝟙
+            product_monotone (ring_of c) Inf infinite_ring (Inverse ops Inf M) M (Inverse ops Inf M)
+            (Inverse ops Inf (Inverse ops Inf M))
+            (inverse_is_module (ring_of c) Inf infinite_ring M) (λ z m. m)
+            (λ z m y n. subst Inf ((ring_of c).mul_comm y z) (n z m)) 𝟙
+            (product_swap (ring_of c) Inf infinite_ring M (Inverse ops Inf M)
+            (inverse_is_module (ring_of c) Inf infinite_ring M) 𝟙
             (infinite_invertible c some P place e));
         exponent = (integral_at_infinity c some).exponent;
         taken = λ z y m. infinite_ring.product_in _ _ ((integral_at_infinity c some).taken z) (𝓟.ideal.within y m);

@@ -1,5 +1,5 @@
--- Where F is a field, an invertible module over the integral functions of a side is what its least values at the places of the side allow. So two such modules, one
--- a side, are what a divisor allows.
+-- Where F is a field, an invertible module over the integral functions of a side is what its least values at the
+-- places of the side allow. So two such modules, one a side, are what a divisor allows.
 use Rattle.std.proofs.Common.{◌≡◌, ◌⊎◌, inl, inr, List, [], ◌∷◌, ◌++◌, All, refl, sym, ◌∙◌, ap, subst, arith}
 use Rattle.std.specs.List.{Any}
 use Rattle.std.specs.Prelude.{neg_ℤ}
@@ -51,7 +51,8 @@ module _ {k : CodeField} (c : Equation k) (some : ¬ (discriminant c ≡ (polyno
   abbrev Ge : Place (FunctionOf c) → FunctionOf c → ℤ → Type 0
   Ge = HasValuationAtLeast (setting_of c)
 
-  side_regular : (s : Side) (z : FunctionOf c) → ((P : Place (FunctionOf c)) → IsPlace (setting_of c) P → P.side ≡ s → Ge P z (pos 0)) → O s z
+  side_regular : (s : Side) (z : FunctionOf c)
+      → ((P : Place (FunctionOf c)) → IsPlace (setting_of c) P → P.side ≡ s → Ge P z (pos 0)) → O s z
   side_regular Finite z h = (regular_functions c z some).0 h
   side_regular Infinite z h = (regular_integral k c some z).0 h
 
@@ -60,11 +61,13 @@ module _ {k : CodeField} (c : Equation k) (some : ¬ (discriminant c ≡ (polyno
     value_bound : (z : FunctionOf c) (m n : ℤ) → HasValuation (setting_of c) P z m → Ge P z n → n ≤ℤ m
     value_bound z m n v h =
         by_lt_z m n
-        (λ l. absurd (v.not_more (at_least_weaker (setting_of c) (scalars_subring c) P place z n (m +ℤ pos 1) (omega (arith, ints)) h)))
+        (λ l. absurd (v.not_more (at_least_weaker (setting_of c) (scalars_subring c) P place z n (m +ℤ pos 1)
+        (omega (arith, ints)) h)))
         (λ l. l)
 
     -- a factor outside the place doesn't change the value
-    at_least_of_multiple : (u z : FunctionOf c) → O P.side u → ¬ IsIn (setting_of c) P u → (m : ℤ) → Ge P (u ⊗ z) m → Ge P z m
+    at_least_of_multiple : (u z : FunctionOf c) → O P.side u → ¬ IsIn (setting_of c) P u → (m : ℤ) → Ge P (u ⊗ z) m
+        → Ge P z m
     at_least_of_multiple u z u_in u_out (pos n) h = record {
       factor = h.factor ⊗ u;
       integral = (side_ring (setting_of c) (scalars_subring c) P.side).product_in _ _ h.integral u_in;
@@ -82,26 +85,32 @@ module _ {k : CodeField} (c : Equation k) (some : ¬ (discriminant c ≡ (polyno
     inverse_value : (z y : FunctionOf c) → z ⊗ y ≡ 𝟙 → (m : ℤ) → HasValuation (setting_of c) P z m → Ge P y (neg_ℤ m)
     inverse_value z y inverse m v =
         let n = value_at c some P place y z ((ring_of c).mul_comm y z ∙ inverse) in
-        let one = subst (λ x. HasValuation (setting_of c) P x (m +ℤ n.0)) inverse (product_rule k c P some place z y m n.0 v n.1) in
-        let zero = valuation_of_outside (setting_of c) (scalars_subring c) P place 𝟙 (side_ring (setting_of c) (scalars_subring c) P.side).one_in place.proper in
+        let one = subst (λ x. HasValuation (setting_of c) P x (m +ℤ n.0)) inverse
+        (product_rule k c P some place z y m n.0 v n.1) in
+        let zero = valuation_of_outside (setting_of c) (scalars_subring c) P place 𝟙
+        (side_ring (setting_of c) (scalars_subring c) P.side).one_in place.proper in
         at_least_weaker (setting_of c) (scalars_subring c) P place y n.0 (neg_ℤ m)
-        (opposite m n.0 (valuation_unique (setting_of c) (scalars_subring c) P place 𝟙 (m +ℤ n.0) (pos 0) one zero)) n.1.reached
+        (opposite m n.0 (valuation_unique (setting_of c) (scalars_subring c) P place 𝟙 (m +ℤ n.0) (pos 0) one zero))
+        n.1.reached
       where
         opposite : (m n : ℤ) → m +ℤ n ≡ pos 0 → neg_ℤ m ≤ℤ n
         opposite m n e = omega (arith, ints)
 
     -- a sum of products that a function takes to values of at least 0
-    listed_sum : (X Y : FunctionOf c → Type 0) (h : FunctionOf c) (fs : List (Factors X Y)) → All (λ f. Ge P (h ⊗ (f.left ⊗ f.right)) (pos 0)) fs
+    listed_sum : (X Y : FunctionOf c → Type 0) (h : FunctionOf c) (fs : List (Factors X Y))
+        → All (λ f. Ge P (h ⊗ (f.left ⊗ f.right)) (pos 0)) fs
         → Ge P (h ⊗ sum_over (ring_of c).ops fs (λ f. f.left ⊗ f.right)) (pos 0)
     listed_sum X Y h [] all =
-        subst (λ z. Ge P z (pos 0)) (sym (mul_zero (ring_of c) h)) (values_additive (setting_of c) (scalars_subring c) P.side P.generators place (pos 0)).zero_in
+        subst (λ z. Ge P z (pos 0)) (sym (mul_zero (ring_of c) h))
+        (values_additive (setting_of c) (scalars_subring c) P.side P.generators place (pos 0)).zero_in
     listed_sum X Y h (f ∷ fs) all =
         subst (λ z. Ge P z (pos 0)) (sym ((ring_of c).mul_add h _ _))
         ((values_additive (setting_of c) (scalars_subring c) P.side P.generators place (pos 0)).sum_in _ _
         (All-head (λ f. Ge P (h ⊗ (f.left ⊗ f.right)) (pos 0)) f fs all)
         (listed_sum X Y h fs (All-tail (λ f. Ge P (h ⊗ (f.left ⊗ f.right)) (pos 0)) f fs all)))
 
-  module _ (field : IsField (ring_of c).ops) (X : Side → FunctionOf c → Type 0) (modules : (s : Side) → IsModule (ring_of c).ops (IsIntegralAt (setting_of c) s) (X s))
+  module _ (field : IsField (ring_of c).ops) (X : Side → FunctionOf c → Type 0)
+      (modules : (s : Side) → IsModule (ring_of c).ops (IsIntegralAt (setting_of c) s) (X s))
       (invertible : (s : Side) → Invertible (ring_of c).ops (IsIntegralAt (setting_of c) s) (X s)) where
     abbrev Q : Side → FunctionOf c → Type 0
     Q s = Inverse (ring_of c).ops (IsIntegralAt (setting_of c) s) (X s)
@@ -125,8 +134,10 @@ module _ {k : CodeField} (c : Equation k) (some : ¬ (discriminant c ≡ (polyno
         below = λ z z_in.
             at_least_of_multiple P place u z a.outside.within a.outside.out v.0
             (subst (λ w. Ge P w v.0) (sym ((ring_of c).mul_assoc a.element a.partner z))
-            (at_least_weaker (setting_of c) (scalars_subring c) P place (a.element ⊗ (a.partner ⊗ z)) (v.0 +ℤ pos 0) v.0 (same v.0)
-            (at_least_product (setting_of c) (scalars_subring c) P place a.element (a.partner ⊗ z) v.0 (pos 0) v.1.reached
+            (at_least_weaker (setting_of c) (scalars_subring c) P place (a.element ⊗ (a.partner ⊗ z)) (v.0 +ℤ pos 0)
+            v.0 (same v.0)
+            (at_least_product (setting_of c) (scalars_subring c) P place a.element (a.partner ⊗ z) v.0 (pos 0)
+            v.1.reached
             (at_least_of_integral (setting_of c) (scalars_subring c) P place (a.partner ⊗ z) (a.partner_in z z_in)))));
         member = a.element;
         member_in = a.element_in;
@@ -144,7 +155,8 @@ module _ {k : CodeField} (c : Equation k) (some : ¬ (discriminant c ≡ (polyno
 
         a : Generator (ring_of c) (O P.side) (IsIn (setting_of c) P) (X P.side)
         a =
-            generator (ring_of c) (O P.side) (side_ring (setting_of c) (scalars_subring c) P.side) (IsIn (setting_of c) P) (side_prime c some P.side P place refl)
+            generator (ring_of c) (O P.side) (side_ring (setting_of c) (scalars_subring c) P.side)
+            (IsIn (setting_of c) P) (side_prime c some P.side P place refl)
             (X P.side) (modules P.side) (invertible P.side)
 
         u : FunctionOf c
@@ -153,7 +165,8 @@ module _ {k : CodeField} (c : Equation k) (some : ¬ (discriminant c ≡ (polyno
         nonzero : ¬ (a.element ≡ 𝟘)
         nonzero e =
             a.outside.out
-            (subst (IsIn (setting_of c) P) (sym (ap (λ x. x ⊗ a.partner) e ∙ zero_mul (ring_of c) a.partner)) (side_prime c some P.side P place refl).ideal.zero_in)
+            (subst (IsIn (setting_of c) P) (sym (ap (λ x. x ⊗ a.partner) e ∙ zero_mul (ring_of c) a.partner))
+            (side_prime c some P.side P place refl).ideal.zero_in)
 
         y : (b : FunctionOf c) × (a.element ⊗ b ≡ 𝟙)
         y = field.inverse a.element nonzero
@@ -168,15 +181,19 @@ module _ {k : CodeField} (c : Equation k) (some : ¬ (discriminant c ≡ (polyno
     unfolding value
     value_least P place = (least P place).1
 
-    value_at_most : (P R : Place (FunctionOf c)) → IsPlace (setting_of c) R → IsSamePlace (setting_of c) P R → (m n : ℤ) → IsLeast P m → IsLeast R n → n ≤ℤ m
+    value_at_most : (P R : Place (FunctionOf c)) → IsPlace (setting_of c) R → IsSamePlace (setting_of c) P R
+        → (m n : ℤ) → IsLeast P m → IsLeast R n → n ≤ℤ m
     value_at_most P R place s m n h i =
-        value_bound R place h.member m n (value_along (setting_of c) R P (same_place_sym (setting_of c) P R s) h.member m h.reached)
+        value_bound R place h.member m n
+        (value_along (setting_of c) R P (same_place_sym (setting_of c) P R s) h.member m h.reached)
         (i.below h.member (subst (λ t. X t h.member) s.side h.member_in))
 
-    value_same : (P R : Place (FunctionOf c)) (h : IsPlace (setting_of c) P) (i : IsPlace (setting_of c) R) → IsSamePlace (setting_of c) P R → value P h ≡ value R i
+    value_same : (P R : Place (FunctionOf c)) (h : IsPlace (setting_of c) P) (i : IsPlace (setting_of c) R)
+        → IsSamePlace (setting_of c) P R → value P h ≡ value R i
     value_same P R h i s =
         let a = value_at_most P R i s (value P h) (value R i) (value_least P h) (value_least R i) in
-        let b = value_at_most R P h (same_place_sym (setting_of c) P R s) (value R i) (value P h) (value_least R i) (value_least P h) in
+        let b = value_at_most R P h (same_place_sym (setting_of c) P R s) (value R i) (value P h) (value_least R i)
+        (value_least P h) in
         omega (arith, ints)
 
     -- a function with at least these values is a member
@@ -185,7 +202,8 @@ module _ {k : CodeField} (c : Equation k) (some : ¬ (discriminant c ≡ (polyno
     member_of_values s z h =
         subst (X s) ((ring_of c).mul_one z)
         (product_universal (ring_of c) (X s) (Q s) (X s) (additive_of_module (ring_of c) (O s) (X s) (modules s)) z
-        (λ a b i j. subst (X s) (turn a b) ((modules s).scale_in (z ⊗ b) a (side_regular s (z ⊗ b) (at b j)) i)) 𝟙 (invertible s))
+        (λ a b i j. subst (X s) (turn a b) ((modules s).scale_in (z ⊗ b) a (side_regular s (z ⊗ b) (at b j)) i)) 𝟙
+        (invertible s))
       where
         turn : (a b : FunctionOf c) → z ⊗ b ⊗ a ≡ z ⊗ (a ⊗ b)
         turn a b = ring (ring_of c) (z ∷ a ∷ b ∷ []) λ q i. simp (reads, q, i 0, i 1, i 2) (q.equal _ _ refl)
@@ -193,11 +211,13 @@ module _ {k : CodeField} (c : Equation k) (some : ¬ (discriminant c ≡ (polyno
         total : (m : ℤ) → pos 0 ≤ℤ (m +ℤ (pos 0 +ℤ neg_ℤ m))
         total m = omega (arith, ints)
 
-        at : (b : FunctionOf c) → Q s b → (P : Place (FunctionOf c)) → IsPlace (setting_of c) P → P.side ≡ s → Ge P (z ⊗ b) (pos 0)
+        at : (b : FunctionOf c) → Q s b → (P : Place (FunctionOf c)) → IsPlace (setting_of c) P → P.side ≡ s
+            → Ge P (z ⊗ b) (pos 0)
         at b j P place e =
             let l = value_least P place in
             let m = value P place in
-            at_least_weaker (setting_of c) (scalars_subring c) P place (z ⊗ b) (m +ℤ (pos 0 +ℤ neg_ℤ m)) (pos 0) (total m)
+            at_least_weaker (setting_of c) (scalars_subring c) P place (z ⊗ b) (m +ℤ (pos 0 +ℤ neg_ℤ m)) (pos 0)
+            (total m)
             (at_least_product (setting_of c) (scalars_subring c) P place z b m (pos 0 +ℤ neg_ℤ m) (h P place e)
             (subst (λ w. Ge P w (pos 0 +ℤ neg_ℤ m))
             ((ring_of c).mul_assoc b l.member l.inverse ∙ ap (λ w. b ⊗ w) l.is_inverse ∙ (ring_of c).mul_one b)
@@ -209,7 +229,8 @@ module _ {k : CodeField} (c : Equation k) (some : ¬ (discriminant c ≡ (polyno
     -- the places of a side at which a function has a value below 0 are listed
     record Covered (s : Side) (z : FunctionOf c) : Type 0 where
       places : List (Placed c)
-      covers : (P : Place (FunctionOf c)) → IsPlace (setting_of c) P → P.side ≡ s → Ge P z (pos 0) ⊎ Any (λ R. IsSamePlace (setting_of c) R.0 P) places
+      covers : (P : Place (FunctionOf c)) → IsPlace (setting_of c) P → P.side ≡ s → Ge P z (pos 0)
+          ⊎ Any (λ R. IsSamePlace (setting_of c) R.0 P) places
 
     covered : (s : Side) (z : FunctionOf c) → Covered s z
     covered s z = go (functions_discrete c z 𝟘)
@@ -218,7 +239,8 @@ module _ {k : CodeField} (c : Equation k) (some : ¬ (discriminant c ≡ (polyno
         go (yes e) = record {
           places = [];
           covers = λ P place h.
-              inl (subst (λ w. Ge P w (pos 0)) (sym e) (values_additive (setting_of c) (scalars_subring c) P.side P.generators place (pos 0)).zero_in);
+              inl (subst (λ w. Ge P w (pos 0)) (sym e)
+              (values_additive (setting_of c) (scalars_subring c) P.side P.generators place (pos 0)).zero_in);
         }
         go (no n) =
             let y = field.inverse z n in
@@ -226,7 +248,8 @@ module _ {k : CodeField} (c : Equation k) (some : ¬ (discriminant c ≡ (polyno
             record {
               places = places_of c D.0 D.1.on.divisor.places;
               covers = λ P place h.
-                  elim (places_cover c D.0 D.1.on.divisor.places P place) [ inl m ↦ inl (D.1.values P place h (pos 0) m).reached | inr a ↦ inr a ];
+                  elim (places_cover c D.0 D.1.on.divisor.places P place)
+                  [ inl m ↦ inl (D.1.values P place h (pos 0) m).reached | inr a ↦ inr a ];
             }
 
     abbrev Factor : Side → Type 0
@@ -238,28 +261,37 @@ module _ {k : CodeField} (c : Equation k) (some : ¬ (discriminant c ≡ (polyno
 
     record AllCovered (s : Side) (fs : List (Factors (X s) (Q s))) : Type 0 where
       places : List (Placed c)
-      covers : (P : Place (FunctionOf c)) → IsPlace (setting_of c) P → P.side ≡ s → BothAt s P fs ⊎ Any (λ R. IsSamePlace (setting_of c) R.0 P) places
+      covers : (P : Place (FunctionOf c)) → IsPlace (setting_of c) P → P.side ≡ s → BothAt s P fs
+          ⊎ Any (λ R. IsSamePlace (setting_of c) R.0 P) places
 
     all_covered : (s : Side) (fs : List (Factors (X s) (Q s))) → AllCovered s fs
-    all_covered s [] = record { places = []; covers = λ P place e. inl (All-nil (λ f. Ge P f.left (pos 0) × Ge P f.right (pos 0))) }
+    all_covered s [] =
+        record { places = []; covers = λ P place e. inl (All-nil (λ f. Ge P f.left (pos 0) × Ge P f.right (pos 0))) }
     all_covered s (f ∷ fs) =
         let a = covered s f.left in
         let b = covered s f.right in
         let r = all_covered s fs in
         record {
           places = a.places ++ (b.places ++ r.places);
-          covers = λ P place e. go P a.places b.places r.places (a.covers P place e) (b.covers P place e) (r.covers P place e);
+          covers =
+              λ P place e. go P a.places b.places r.places (a.covers P place e) (b.covers P place e)
+              (r.covers P place e);
         }
       where
-        go : (P : Place (FunctionOf c)) (ls bs rs : List (Placed c)) → Ge P f.left (pos 0) ⊎ Any (λ R. IsSamePlace (setting_of c) R.0 P) ls
-            → Ge P f.right (pos 0) ⊎ Any (λ R. IsSamePlace (setting_of c) R.0 P) bs → BothAt s P fs ⊎ Any (λ R. IsSamePlace (setting_of c) R.0 P) rs
+        go : (P : Place (FunctionOf c)) (ls bs rs : List (Placed c)) → Ge P f.left (pos 0)
+            ⊎ Any (λ R. IsSamePlace (setting_of c) R.0 P) ls
+            → Ge P f.right (pos 0) ⊎ Any (λ R. IsSamePlace (setting_of c) R.0 P) bs → BothAt s P fs
+            ⊎ Any (λ R. IsSamePlace (setting_of c) R.0 P) rs
             → BothAt s P (f ∷ fs) ⊎ Any (λ R. IsSamePlace (setting_of c) R.0 P) (ls ++ (bs ++ rs))
         go P ls bs rs (inr a) b r = inr (any_left (λ R. IsSamePlace (setting_of c) R.0 P) ls (bs ++ rs) a)
         go P ls bs rs (inl a) (inr b) r =
-            inr (any_right (λ R. IsSamePlace (setting_of c) R.0 P) ls (bs ++ rs) (any_left (λ R. IsSamePlace (setting_of c) R.0 P) bs rs b))
+            inr (any_right (λ R. IsSamePlace (setting_of c) R.0 P) ls (bs ++ rs)
+            (any_left (λ R. IsSamePlace (setting_of c) R.0 P) bs rs b))
         go P ls bs rs (inl a) (inl b) (inr r) =
-            inr (any_right (λ R. IsSamePlace (setting_of c) R.0 P) ls (bs ++ rs) (any_right (λ R. IsSamePlace (setting_of c) R.0 P) bs rs r))
-        go P ls bs rs (inl a) (inl b) (inl r) = inl (All-cons (λ f. Ge P f.left (pos 0) × Ge P f.right (pos 0)) f fs (a, b) r)
+            inr (any_right (λ R. IsSamePlace (setting_of c) R.0 P) ls (bs ++ rs)
+            (any_right (λ R. IsSamePlace (setting_of c) R.0 P) bs rs r))
+        go P ls bs rs (inl a) (inl b) (inl r) =
+            inl (All-cons (λ f. Ge P f.left (pos 0) × Ge P f.right (pos 0)) f fs (a, b) r)
 
     -- at all other places the least value is 0
     module _ (P : Place (FunctionOf c)) (place : IsPlace (setting_of c) P) (fs : List (Factors (X P.side) (Q P.side)))
@@ -276,7 +308,8 @@ module _ {k : CodeField} (c : Equation k) (some : ¬ (discriminant c ≡ (polyno
           subst (λ w. Ge P w (pos 0)) (turn f.left f.right)
           (subst (Ge P (f.right ⊗ a ⊗ f.left)) sum
           (at_least_product (setting_of c) (scalars_subring c) P place (f.right ⊗ a) f.left (pos 0) (pos 0)
-          (at_least_of_integral (setting_of c) (scalars_subring c) P place (f.right ⊗ a) (f.right_in a a_in)) h.0))) fs both))
+          (at_least_of_integral (setting_of c) (scalars_subring c) P place (f.right ⊗ a) (f.right_in a a_in)) h.0)))
+          fs both))
         where
           turn : (l r : FunctionOf c) → r ⊗ a ⊗ l ≡ a ⊗ (l ⊗ r)
           turn l r = ring (ring_of c) (a ∷ l ∷ r ∷ []) λ q i. simp (reads, q, i 0, i 1, i 2) (q.equal _ _ refl)
@@ -290,26 +323,32 @@ module _ {k : CodeField} (c : Equation k) (some : ¬ (discriminant c ≡ (polyno
           subst (λ w. Ge P w (pos 0)) ((ring_of c).mul_assoc b f.left f.right)
           (subst (Ge P (b ⊗ f.left ⊗ f.right)) sum
           (at_least_product (setting_of c) (scalars_subring c) P place (b ⊗ f.left) f.right (pos 0) (pos 0)
-          (at_least_of_integral (setting_of c) (scalars_subring c) P place (b ⊗ f.left) (b_in f.left f.left_in)) h.1))) fs both))
+          (at_least_of_integral (setting_of c) (scalars_subring c) P place (b ⊗ f.left) (b_in f.left f.left_in))
+          h.1))) fs both))
 
       least_none : (m : ℤ) → IsLeast P m → m ≡ pos 0
       least_none m l =
           let a = value_bound P place l.member m (pos 0) l.reached (member_positive l.member l.member_in) in
           let b = value_bound P place (l.member ⊗ l.partner) (pos 0) (m +ℤ pos 0) l.unit
-          (at_least_product (setting_of c) (scalars_subring c) P place l.member l.partner m (pos 0) l.reached.reached (partner_positive l.partner l.partner_in)) in
+          (at_least_product (setting_of c) (scalars_subring c) P place l.member l.partner m (pos 0) l.reached.reached
+          (partner_positive l.partner l.partner_in)) in
           omega (arith, ints)
 
     -- a divisor that allows the members of the modules
-    pub module_divisor : (D : Divisor (FunctionOf c)) × IsDivisor (setting_of c) D × ((s : Side) → SameSet (X s) (MeetsOn (setting_of c) D s))
+    pub module_divisor : (D : Divisor (FunctionOf c)) × IsDivisor (setting_of c) D
+        × ((s : Side) → SameSet (X s) (MeetsOn (setting_of c) D s))
     module_divisor =
         let r = divisor_by_values c opposite opposite_same (places Finite ++ places Infinite) elsewhere in (
           r.0,
           r.1,
           λ s z. (
             λ z_in P place e m h.
-                let n : opposite P place ≡ m = multiplicity_unique (setting_of c) r.0 P (opposite P place) m (r.2 P place) h in
-                subst (Ge P z) (twice P place ∙ ap neg_ℤ n) ((value_least P place).below z (subst (λ t. X t z) (sym e) z_in)),
-            λ h. member_of_values s z (λ P place e. subst (Ge P z) (sym (twice P place)) (h P place e (opposite P place) (r.2 P place))),
+                let n : opposite P place ≡ m = multiplicity_unique (setting_of c) r.0 P (opposite P place) m
+                (r.2 P place) h in
+                subst (Ge P z) (twice P place ∙ ap neg_ℤ n)
+                ((value_least P place).below z (subst (λ t. X t z) (sym e) z_in)),
+            λ h. member_of_values s z
+                (λ P place e. subst (Ge P z) (sym (twice P place)) (h P place e (opposite P place) (r.2 P place))),
           ),
         )
       where
@@ -322,7 +361,8 @@ module _ {k : CodeField} (c : Equation k) (some : ¬ (discriminant c ≡ (polyno
         twice : (P : Place (FunctionOf c)) (place : IsPlace (setting_of c) P) → value P place ≡ neg_ℤ (opposite P place)
         twice P place = negated_twice (value P place)
 
-        opposite_same : (P R : Place (FunctionOf c)) (h : IsPlace (setting_of c) P) (i : IsPlace (setting_of c) R) → IsSamePlace (setting_of c) P R
+        opposite_same : (P R : Place (FunctionOf c)) (h : IsPlace (setting_of c) P) (i : IsPlace (setting_of c) R)
+            → IsSamePlace (setting_of c) P R
             → opposite P h ≡ opposite R i
         opposite_same P R h i s = ap neg_ℤ (value_same P R h i s)
 
@@ -335,7 +375,9 @@ module _ {k : CodeField} (c : Equation k) (some : ¬ (discriminant c ≡ (polyno
           where
             go : BothAt P.side P (invertible P.side).0 ⊎ Any (λ R. IsSamePlace (setting_of c) R.0 P) (places P.side)
                 → (opposite P h ≡ pos 0) ⊎ Any (λ R. IsSamePlace (setting_of c) R.0 P) (places P.side)
-            go (inl b) = inl (ap neg_ℤ (least_none P h (invertible P.side).0 (invertible P.side).1 b (value P h) (value_least P h)))
+            go (inl b) =
+                inl (ap neg_ℤ (least_none P h (invertible P.side).0 (invertible P.side).1 b (value P h)
+                (value_least P h)))
             go (inr a) = inr a
 
         elsewhere : (P : Place (FunctionOf c)) (h : IsPlace (setting_of c) P)
@@ -343,7 +385,10 @@ module _ {k : CodeField} (c : Equation k) (some : ¬ (discriminant c ≡ (polyno
         elsewhere P h = go P.side (one_side P h)
           where
             go : (s : Side) → (opposite P h ≡ pos 0) ⊎ Any (λ R. IsSamePlace (setting_of c) R.0 P) (places s)
-                → (opposite P h ≡ pos 0) ⊎ Any (λ R. IsSamePlace (setting_of c) R.0 P) (places Finite ++ places Infinite)
+                → (opposite P h ≡ pos 0) ⊎ Any (λ R. IsSamePlace (setting_of c) R.0 P)
+                (places Finite ++ places Infinite)
             go s (inl e) = inl e
-            go Finite (inr a) = inr (any_left (λ R. IsSamePlace (setting_of c) R.0 P) (places Finite) (places Infinite) a)
-            go Infinite (inr a) = inr (any_right (λ R. IsSamePlace (setting_of c) R.0 P) (places Finite) (places Infinite) a)
+            go Finite (inr a) =
+                inr (any_left (λ R. IsSamePlace (setting_of c) R.0 P) (places Finite) (places Infinite) a)
+            go Infinite (inr a) =
+                inr (any_right (λ R. IsSamePlace (setting_of c) R.0 P) (places Finite) (places Infinite) a)

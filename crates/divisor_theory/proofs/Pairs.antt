@@ -1,5 +1,5 @@
--- The pair of a divisor: what it allows at the finite places is a lattice, what it allows at the infinite ones a lattice at infinity, and the sum of degrees of the
--- pair is that of (O_fin, O_inf) less the degree of the divisor.
+-- The pair of a divisor: what it allows at the finite places is a lattice, what it allows at the infinite ones a
+-- lattice at infinity, and the sum of degrees of the pair is that of (O_fin, O_inf) less the degree of the divisor.
 use Rattle.std.proofs.Common.{◌≡◌, ℕ, List, refl, sym, ◌∙◌, ap, arith}
 use Rattle.std.specs.Prelude.{neg_ℤ}
 use Rattle.std.proofs.lemmas.Int.{ints}
@@ -42,20 +42,25 @@ module _ {k : CodeField} (c : Equation k) where
     taken = λ z. (s _).0 (𝓧.taken z);
   }
 
-  pub pair_same : (I I' N N' : FunctionOf c → Type 0) → SameSet I I' → SameSet N N' → (b : List (FunctionOf c)) (d : ℕ → ℤ) → IsReducedBasis c I N b d
+  pub pair_same : (I I' N N' : FunctionOf c → Type 0) → SameSet I I' → SameSet N N'
+      → (b : List (FunctionOf c)) (d : ℕ → ℤ) → IsReducedBasis c I N b d
       → IsReducedBasis c I' N' b d
   pair_same I I' N N' s t b d reduced =
-      reduced_same (code_ring k) (functions_module c) (degree_of_y c) I I' (multiples_of c N) (multiples_of c N') b d d s (λ m z. t _) (λ i. refl) reduced
+      reduced_same (code_ring k) (functions_module c) (degree_of_y c) I I' (multiples_of c N) (multiples_of c N') b d
+      d s (λ m z. t _) (λ i. refl) reduced
 
   -- the index of a lattice in a larger one, by the sums of degrees with any lattice at infinity
-  index_degrees : (A B : FunctionOf c → Type 0) → ((z : FunctionOf c) → A z → B z) → (g : ℕ) → HasIndex c A B g → (N : FunctionOf c → Type 0)
+  index_degrees : (A B : FunctionOf c → Type 0) → ((z : FunctionOf c) → A z → B z) → (g : ℕ) → HasIndex c A B g
+      → (N : FunctionOf c → Type 0)
       → (a b : List (FunctionOf c)) (d e : ℕ → ℤ) → IsReducedBasis c A N a d → IsReducedBasis c B N b e
       → pos g ≡ degree_sum (degree_of_y c) d -ℤ degree_sum (degree_of_y c) e
   index_degrees A B within g i N a b d e reduced reduced' =
-      let h = lattice_dimension (code_ring k) (code_field k) (functions_module c) (degree_of_y c) B A (multiples_of c N) b a e d reduced' reduced within in
+      let h = lattice_dimension (code_ring k) (code_field k) (functions_module c) (degree_of_y c) B A
+      (multiples_of c N) b a e d reduced' reduced within in
       ap pos (sym i.count) ∙ h.only_size i.basis i.is
 
-  pub lattice_degrees : (A B : FunctionOf c → Type 0) (m : ℤ) → HasRelativeIndex c A B m → (N : FunctionOf c → Type 0) → IsLatticeAtInfinity c N
+  pub lattice_degrees : (A B : FunctionOf c → Type 0) (m : ℤ) → HasRelativeIndex c A B m
+      → (N : FunctionOf c → Type 0) → IsLatticeAtInfinity c N
       → (a b : List (FunctionOf c)) (d e : ℕ → ℤ) → IsReducedBasis c A N a d → IsReducedBasis c B N b e
       → m ≡ degree_sum (degree_of_y c) d -ℤ degree_sum (degree_of_y c) e
   lattice_degrees A B m h N 𝓝 a b d e reduced reduced' =
@@ -66,7 +71,8 @@ module _ {k : CodeField} (c : Equation k) where
       let i : m ≡ pos h.first -ℤ pos h.second = h.is in
       omega (arith, ints)
 
-  module _ (some : ¬ (discriminant c ≡ (polynomials k).𝟘)) (D : Divisor (FunctionOf c)) (is : IsDivisor (setting_of c) D) where
+  module _ (some : ¬ (discriminant c ≡ (polynomials k).𝟘)) (D : Divisor (FunctionOf c))
+      (is : IsDivisor (setting_of c) D) where
     abbrev Opposite : Side → Divisor (FunctionOf c)
     Opposite s = opposite_divisor (part s D)
 
@@ -74,7 +80,8 @@ module _ {k : CodeField} (c : Equation k) where
     on s = opposite_on (setting_of c) s (part s D) (part_on (setting_of c) s D is)
 
     -- what D allows on a side is the ideal of the opposite of its part there
-    pub conditions : (s : Side) → SameSet (DivisorIdeal (setting_of c) s (opposite_divisor (part s D))) (MeetsOn (setting_of c) D s)
+    pub conditions : (s : Side)
+        → SameSet (DivisorIdeal (setting_of c) s (opposite_divisor (part s D))) (MeetsOn (setting_of c) D s)
     conditions s z =
         let a = space_conditions c some s (part s D) (part_on (setting_of c) s D is) z in
         let b = meets_part (setting_of c) s D z in
@@ -82,12 +89,14 @@ module _ {k : CodeField} (c : Equation k) where
 
     pub allowed_lattice : IsLattice c (MeetsOn (setting_of c) D Finite)
     allowed_lattice =
-        lattice_same c (IsIntegralAt (setting_of c) Finite) (maximal_order c some) _ (MeetsOn (setting_of c) D Finite) (conditions Finite)
+        lattice_same c (IsIntegralAt (setting_of c) Finite) (maximal_order c some) _
+        (MeetsOn (setting_of c) D Finite) (conditions Finite)
         (divisor_lattice c some (Opposite Finite) (on Finite))
 
     pub allowed_at_infinity : IsLatticeAtInfinity c (MeetsOn (setting_of c) D Infinite)
     allowed_at_infinity =
-        at_infinity_same _ (MeetsOn (setting_of c) D Infinite) (conditions Infinite) (divisor_lattice_at_infinity c some (Opposite Infinite) (on Infinite))
+        at_infinity_same _ (MeetsOn (setting_of c) D Infinite) (conditions Infinite)
+        (divisor_lattice_at_infinity c some (Opposite Infinite) (on Infinite))
 
     -- the sum of degrees of the pair
     pub pair_degrees : (d : ℤ) → HasTotalDegree (setting_of c) D d → (a b : List (FunctionOf c)) (f g : ℕ → ℤ)
@@ -104,11 +113,14 @@ module _ {k : CodeField} (c : Equation k) where
         let own : SameSet Fin Fin = λ z. (λ m. m, λ m. m) in
         let p = part_degrees (setting_of c) D d total in
         let r = reduced_basis c Fin B 𝓕 (divisor_lattice_at_infinity c some (Opposite Infinite) (on Infinite)) in
-        let u = ideal_degrees c some (Opposite Infinite) (on Infinite) (neg_ℤ p.infinite) (opposite_degree (setting_of c) (part Infinite D) p.infinite p.infinite_degree)
+        let u = ideal_degrees c some (Opposite Infinite) (on Infinite) (neg_ℤ p.infinite)
+        (opposite_degree (setting_of c) (part Infinite D) p.infinite p.infinite_degree)
         Fin 𝓕 r.0 b r.1 g r.2 reduced' in
         let v = lattice_degrees A Fin (neg_ℤ p.finite)
-        (divisor_index c some (Opposite Finite) (neg_ℤ p.finite) (on Finite) (opposite_degree (setting_of c) (part Finite D) p.finite p.finite_degree)) N allowed_at_infinity
-        a r.0 f r.1 (pair_same I A N N (λ z. ((conditions Finite z).1, (conditions Finite z).0)) (λ z. (λ m. m, λ m. m)) a f reduced)
+        (divisor_index c some (Opposite Finite) (neg_ℤ p.finite) (on Finite)
+        (opposite_degree (setting_of c) (part Finite D) p.finite p.finite_degree)) N allowed_at_infinity
+        a r.0 f r.1 (pair_same I A N N (λ z. ((conditions Finite z).1, (conditions Finite z).0))
+        (λ z. (λ m. m, λ m. m)) a f reduced)
         (pair_same Fin Fin B N own (conditions Infinite) r.0 r.1 r.2) in
         let e : d ≡ p.finite +ℤ p.infinite = p.is in
         omega (arith, ints)

@@ -22,17 +22,21 @@ neg_times (pos (suc n)) f = omega (arith, ints)
 neg_times (negsuc n) f = omega (arith, ints)
 
 module _ {E : Type 0} (S : Setting E) where
-  apart : (e : Entry E) (P : Place E) (s t : Side) → P.side ≡ s → e.place.side ≡ t → ¬ (s ≡ t) → ¬ IsSamePlace S P e.place
+  apart : (e : Entry E) (P : Place E) (s t : Side) → P.side ≡ s → e.place.side ≡ t → ¬ (s ≡ t)
+      → ¬ IsSamePlace S P e.place
   apart e P s t h i n same = n (sym h ∙ same.side ∙ i)
 
-  pub part_multiplicity : (s : Side) (P : Place E) → P.side ≡ s → (D : Divisor E) (m : ℤ) → HasMultiplicity S D P m ↔ HasMultiplicity S (part s D) P m
+  pub part_multiplicity : (s : Side) (P : Place E) → P.side ≡ s → (D : Divisor E) (m : ℤ) → HasMultiplicity S D P m
+      ↔ HasMultiplicity S (part s D) P m
   part_multiplicity s P h [] m = (λ e. e, λ e. e)
   part_multiplicity s P h (e ∷ D) m = go s e.place.side h refl (part_multiplicity s P h D m)
     where
       go : (s t : Side) → P.side ≡ s → e.place.side ≡ t → HasMultiplicity S D P m ↔ HasMultiplicity S (part s D) P m
           → HasMultiplicity S (e ∷ D) P m ↔ HasMultiplicity S (kept s t e (part s D)) P m
-      go Finite Finite h i r = (elim [ inl a ↦ inl a | inr a ↦ inr (a.0, r.0 a.1) ], elim [ inl a ↦ inl a | inr a ↦ inr (a.0, r.1 a.1) ])
-      go Infinite Infinite h i r = (elim [ inl a ↦ inl a | inr a ↦ inr (a.0, r.0 a.1) ], elim [ inl a ↦ inl a | inr a ↦ inr (a.0, r.1 a.1) ])
+      go Finite Finite h i r =
+          (elim [ inl a ↦ inl a | inr a ↦ inr (a.0, r.0 a.1) ], elim [ inl a ↦ inl a | inr a ↦ inr (a.0, r.1 a.1) ])
+      go Infinite Infinite h i r =
+          (elim [ inl a ↦ inl a | inr a ↦ inr (a.0, r.0 a.1) ], elim [ inl a ↦ inl a | inr a ↦ inr (a.0, r.1 a.1) ])
       go Finite Infinite h i r =
           let n = apart e P Finite Infinite h i (λ e. cc) in
           (elim [ inl a ↦ absurd (n a.0) | inr a ↦ r.0 a.1 ], λ a. inr (n, r.1 a))
@@ -55,7 +59,8 @@ module _ {E : Type 0} (S : Setting E) where
   part_sides s [] = All-nil (λ e. e.place.side ≡ s)
   part_sides s (e ∷ D) = go s e.place.side refl (part_sides s D)
     where
-      go : (s t : Side) → e.place.side ≡ t → All (λ e. e.place.side ≡ s) (part s D) → All (λ e. e.place.side ≡ s) (kept s t e (part s D))
+      go : (s t : Side) → e.place.side ≡ t → All (λ e. e.place.side ≡ s) (part s D)
+          → All (λ e. e.place.side ≡ s) (kept s t e (part s D))
       go Finite Finite i r = All-cons (λ e. e.place.side ≡ Finite) e (part Finite D) i r
       go Infinite Infinite i r = All-cons (λ e. e.place.side ≡ Infinite) e (part Infinite D) i r
       go Finite Infinite i r = r
@@ -67,7 +72,8 @@ module _ {E : Type 0} (S : Setting E) where
   part_apart : (s : Side) (D : Divisor E) → AllPairs (λ e e'. ¬ IsSamePlace S e.place e'.place) D
       → AllPairs (λ e e'. ¬ IsSamePlace S e.place e'.place) (part s D)
   part_apart s [] h = h
-  part_apart s (e ∷ D) h = go s e.place.side (part_all (Other e) s D (pairs_head Other e D h)) (part_apart s D (pairs_tail Other e D h))
+  part_apart s (e ∷ D) h =
+      go s e.place.side (part_all (Other e) s D (pairs_head Other e D h)) (part_apart s D (pairs_tail Other e D h))
     where
       go : (s t : Side) → All (Other e) (part s D) → AllPairs Other (part s D) → AllPairs Other (kept s t e (part s D))
       go Finite Finite a r = AllPairs-cons Other e (part Finite D) a r
@@ -77,7 +83,8 @@ module _ {E : Type 0} (S : Setting E) where
 
   pub part_on : (s : Side) (D : Divisor E) → IsDivisor S D → IsDivisorOn S s (part s D)
   part_on s D h = record {
-    divisor = record { places = part_all (λ e. IsPlace S e.place) s D h.places; different = part_apart s D h.different };
+    divisor =
+        record { places = part_all (λ e. IsPlace S e.place) s D h.places; different = part_apart s D h.different };
     sides = part_sides s D;
   }
 
@@ -120,13 +127,22 @@ module _ {E : Type 0} (S : Setting E) where
       second m a b d e = omega (arith, ints)
 
   pub part_degrees : (D : Divisor E) (d : ℤ) → HasTotalDegree S D d → PartDegrees (part Finite D) (part Infinite D) d
-  part_degrees [] d none = record { finite = pos 0; finite_degree = none; infinite = pos 0; infinite_degree = none; is = omega (arith, ints) }
-  part_degrees (e ∷ D) m (entry {d} g degree rest) = one_more e e.place.side (part Finite D) (part Infinite D) g degree d (part_degrees D d rest)
+  part_degrees [] d none =
+      record {
+        finite = pos 0;
+        finite_degree = none;
+        infinite = pos 0;
+        infinite_degree = none;
+        is = omega (arith, ints);
+      }
+  part_degrees (e ∷ D) m (entry {d} g degree rest) =
+      one_more e e.place.side (part Finite D) (part Infinite D) g degree d (part_degrees D d rest)
 
   pub opposite_degree : (D : Divisor E) (d : ℤ) → HasTotalDegree S D d → HasTotalDegree S (opposite_divisor D) (neg_ℤ d)
   opposite_degree [] d none = none
   opposite_degree (e ∷ D) m (entry {d} g degree rest) =
-      subst (HasTotalDegree S (opposite_divisor (e ∷ D))) (sum (e.times *ℤ pos g) d (neg_ℤ e.times *ℤ pos g) (neg_times e.times g))
+      subst (HasTotalDegree S (opposite_divisor (e ∷ D)))
+      (sum (e.times *ℤ pos g) d (neg_ℤ e.times *ℤ pos g) (neg_times e.times g))
       (entry g degree (opposite_degree D d rest))
     where
       sum : (a b c : ℤ) → c ≡ neg_ℤ a → c +ℤ neg_ℤ b ≡ neg_ℤ (a +ℤ b)

@@ -31,8 +31,10 @@ module _ {k : CodeField} (c : Equation k) where
   pub code_zero : (a : Code k) → code_of c a ≡ 𝟘 → a ≡ (code_ring k).𝟘
   unfolding pol_ops
   code_zero a e =
-      let z : constant (code_ring k) a ≡ (polynomials k).𝟘 = polynomial_same c (constant (code_ring k) a) (polynomials k).𝟘 (e ∙ of_poly_zero c) in
-      sym (coeff_trim (code_ring k) (a ∷ []) 0) ∙ ap (λ q. coeff_of (code_ring k).ops q.0 0) z ∙ coeff_trim (code_ring k) [] 0
+      let z : constant (code_ring k) a
+      ≡ (polynomials k).𝟘 = polynomial_same c (constant (code_ring k) a) (polynomials k).𝟘 (e ∙ of_poly_zero c) in
+      sym (coeff_trim (code_ring k) (a ∷ []) 0) ∙ ap (λ q. coeff_of (code_ring k).ops q.0 0) z
+      ∙ coeff_trim (code_ring k) [] 0
 
   index_at : (gs : List (FunctionOf c)) (g : ℕ) → HasDegree (setting_of c) (infinite c gs) g
       → HasIndex c (IsIn (setting_of c) (infinite c gs)) (IsIntegralAt (setting_of c) Infinite) g
@@ -50,7 +52,8 @@ module _ {k : CodeField} (c : Equation k) where
             is = split v t.0 ∙ ap (λ x. x ⊕ (v ⊕ ⊖ t.0)) s.1;
           };
       independent =
-          independent_sequences (code_ring k).ring (ring_of c) (code_of c) (IsCode c) (code_is c) code_zero (IsIn (setting_of c) (infinite c gs)) d.classes
+          independent_sequences (code_ring k).ring (ring_of c) (code_of c) (IsCode c) (code_is c) code_zero
+          (IsIn (setting_of c) (infinite c gs)) d.classes
           (λ us l us_in m. d.independent us (l ∙ d.count) us_in m);
     };
     count = d.count;
@@ -63,4 +66,5 @@ module _ {k : CodeField} (c : Equation k) where
       → HasIndex c (IsIn (setting_of c) P) (IsIntegralAt (setting_of c) Infinite) g
   infinite_degree_index =
       on_side (setting_of c) (scalars_subring c) Infinite
-      (λ P. (g : ℕ) → HasDegree (setting_of c) P g → HasIndex c (IsIn (setting_of c) P) (IsIntegralAt (setting_of c) Infinite) g) index_at
+      (λ P. (g : ℕ) → HasDegree (setting_of c) P g
+      → HasIndex c (IsIn (setting_of c) P) (IsIntegralAt (setting_of c) Infinite) g) index_at

@@ -32,8 +32,10 @@ module _ {k : CodeField} (c : Equation k) where
   -- x^i·t^j, raised
   raised : (i j l : ℕ) → X i ⊗ T j ≡ X (i + l) ⊗ T (j + l)
   raised i j l =
-      sym ((ring_of c).mul_one (X i ⊗ T j)) ∙ ap (λ w. X i ⊗ T j ⊗ w) (sym (x_to_t c l)) ∙ mul_mul (ring_of c) (X i) (T j) (X l) (T l)
-      ∙ ap₂ ◌⊗◌ (sym (pow_add (ring_of c) (setting_of c).x i l)) (sym (pow_add (ring_of c) (setting_of c).one_over_x j l))
+      sym ((ring_of c).mul_one (X i ⊗ T j)) ∙ ap (λ w. X i ⊗ T j ⊗ w) (sym (x_to_t c l))
+      ∙ mul_mul (ring_of c) (X i) (T j) (X l) (T l)
+      ∙ ap₂ ◌⊗◌ (sym (pow_add (ring_of c) (setting_of c).x i l))
+      (sym (pow_add (ring_of c) (setting_of c).one_over_x j l))
 
   same_power : (i j i' j' : ℕ) → i + j' ≡ i' + j → X i ⊗ T j ≡ X i' ⊗ T j'
   same_power i j i' j' e =
@@ -46,5 +48,7 @@ module _ {k : CodeField} (c : Equation k) where
       let e = parts_of (m +ℤ l) in
       let w : up (m +ℤ l) + (down m + down l) ≡ (up m + up l) + down (m +ℤ l) = omega (arith, ints) in
       by_parts (m +ℤ l) ∙ same_power (up (m +ℤ l)) (down (m +ℤ l)) (up m + up l) (down m + down l) w
-      ∙ ap₂ ◌⊗◌ (pow_add (ring_of c) (setting_of c).x (up m) (up l)) (pow_add (ring_of c) (setting_of c).one_over_x (down m) (down l))
-      ∙ mul_mul (ring_of c) (X (up m)) (X (up l)) (T (down m)) (T (down l)) ∙ ap₂ ◌⊗◌ (sym (by_parts m)) (sym (by_parts l))
+      ∙ ap₂ ◌⊗◌ (pow_add (ring_of c) (setting_of c).x (up m) (up l))
+      (pow_add (ring_of c) (setting_of c).one_over_x (down m) (down l))
+      ∙ mul_mul (ring_of c) (X (up m)) (X (up l)) (T (down m)) (T (down l))
+      ∙ ap₂ ◌⊗◌ (sym (by_parts m)) (sym (by_parts l))

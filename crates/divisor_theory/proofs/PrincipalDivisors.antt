@@ -1,4 +1,5 @@
--- The divisor of a function with an inverse has the degree 0; and a divisor with a degree below 0 allows no function but 0, where F is a field.
+-- The divisor of a function with an inverse has the degree 0; and a divisor with a degree below 0 allows no function
+-- but 0, where F is a field.
 use Rattle.std.proofs.Common.{◌≡◌, ◌⊎◌, inl, inr, List, ◌++◌, map, refl, subst, arith}
 use Rattle.std.specs.List.{Any}
 use Rattle.std.proofs.lemmas.Int.{ints}
@@ -51,7 +52,8 @@ module _ {k : CodeField} (c : Equation k) (some : ¬ (discriminant c ≡ (polyno
   Inf = IsIntegralAt (setting_of c) Infinite
 
   -- a function with an inverse has a value at each place
-  pub value_at : (P : Place (FunctionOf c)) → IsPlace (setting_of c) P → (z y : FunctionOf c) → z ⊗ y ≡ 𝟙 → (m : ℤ) × HasValuation (setting_of c) P z m
+  pub value_at : (P : Place (FunctionOf c)) → IsPlace (setting_of c) P → (z y : FunctionOf c) → z ⊗ y ≡ 𝟙 → (m : ℤ)
+      × HasValuation (setting_of c) P z m
   value_at P place z y inverse = go P.side refl
     where
       go : (s : Side) → P.side ≡ s → (m : ℤ) × HasValuation (setting_of c) P z m
@@ -64,9 +66,15 @@ module _ {k : CodeField} (c : Equation k) (some : ¬ (discriminant c ≡ (polyno
       on s = part_on (setting_of c) s D is.divisor
 
       of_side : (s : Side) → IsDivisorOf (setting_of c) s (part s D) z
-      of_side s = record { on = on s; values = λ P place e m h. is.values P place m ((part_multiplicity (setting_of c) s P e D m).1 h) }
+      of_side s =
+          record {
+            on = on s;
+            values = λ P place e m h. is.values P place m
+                ((part_multiplicity (setting_of c) s P e D m).1 h);
+          }
 
-      ideal : (s : Side) → SameSet (Multiple (ring_of c).ops z (IsIntegralAt (setting_of c) s)) (DivisorIdeal (setting_of c) s (part s D))
+      ideal : (s : Side) → SameSet (Multiple (ring_of c).ops z (IsIntegralAt (setting_of c) s))
+          (DivisorIdeal (setting_of c) s (part s D))
       ideal s w = let t = side_principal c some s z y inverse (part s D) (of_side s) w in (t.1, t.0)
 
       pub principal_degree : (d : ℤ) → HasTotalDegree (setting_of c) D d → d ≡ pos 0
@@ -78,9 +86,13 @@ module _ {k : CodeField} (c : Equation k) (some : ¬ (discriminant c ≡ (polyno
           let 𝓑 = divisor_lattice_at_infinity c some (part Infinite D) (on Infinite) in
           let 𝓕 = integral_lattice c some in
           let r = reduced_basis c Fin B 𝓕 𝓑 in
-          let u = ideal_degrees c some (part Infinite D) (on Infinite) p.infinite p.infinite_degree Fin 𝓕 r.0 β.0 r.1 β.1 r.2 β.2 in
-          let v = lattice_degrees c A Fin p.finite (divisor_index c some (part Finite D) p.finite (on Finite) p.finite_degree) B 𝓑 (map (◌⊗◌ z) β.0) r.0 β.1 r.1
-          (pair_same c (Multiple ops z Fin) A (Multiple ops z Inf) B (ideal Finite) (ideal Infinite) (map (◌⊗◌ z) β.0) β.1
+          let u = ideal_degrees c some (part Infinite D) (on Infinite) p.infinite p.infinite_degree Fin 𝓕 r.0 β.0 r.1
+          β.1 r.2 β.2 in
+          let v = lattice_degrees c A Fin p.finite
+          (divisor_index c some (part Finite D) p.finite (on Finite) p.finite_degree) B 𝓑 (map (◌⊗◌ z) β.0) r.0
+          β.1 r.1
+          (pair_same c (Multiple ops z Fin) A (Multiple ops z Inf) B (ideal Finite) (ideal Infinite)
+          (map (◌⊗◌ z) β.0) β.1
           (multiples_basis c z y inverse Fin Inf β.0 β.1 β.2)) r.2 in
           let e : d ≡ p.finite +ℤ p.infinite = p.is in
           omega (arith, ints)
@@ -88,14 +100,17 @@ module _ {k : CodeField} (c : Equation k) (some : ¬ (discriminant c ≡ (polyno
     value : (P : Place (FunctionOf c)) → IsPlace (setting_of c) P → ℤ
     value P place = (value_at P place z y inverse).0
 
-    value_is : (P : Place (FunctionOf c)) (place : IsPlace (setting_of c) P) → HasValuation (setting_of c) P z (value P place)
+    value_is : (P : Place (FunctionOf c)) (place : IsPlace (setting_of c) P)
+        → HasValuation (setting_of c) P z (value P place)
     unfolding value
     value_is P place = (value_at P place z y inverse).1
 
-    value_same : (P Q : Place (FunctionOf c)) (h : IsPlace (setting_of c) P) (i : IsPlace (setting_of c) Q) → IsSamePlace (setting_of c) P Q → value P h ≡ value Q i
+    value_same : (P Q : Place (FunctionOf c)) (h : IsPlace (setting_of c) P) (i : IsPlace (setting_of c) Q)
+        → IsSamePlace (setting_of c) P Q → value P h ≡ value Q i
     value_same P Q h i s =
         valuation_unique (setting_of c) (scalars_subring c) Q i z (value P h) (value Q i)
-        (value_along (setting_of c) Q P (same_place_sym (setting_of c) P Q s) z (value P h) (value_is P h)) (value_is Q i)
+        (value_along (setting_of c) Q P (same_place_sym (setting_of c) P Q s) z (value P h) (value_is P h))
+        (value_is Q i)
 
     -- its divisor
     pub principal_exists : (D : Divisor (FunctionOf c)) × IsPrincipal (setting_of c) D z
@@ -105,7 +120,8 @@ module _ {k : CodeField} (c : Equation k) (some : ¬ (discriminant c ≡ (polyno
           record {
             divisor = r.1;
             values = λ P place m h.
-                subst (HasValuation (setting_of c) P z) (multiplicity_unique (setting_of c) r.0 P (value P place) m (r.2 P place) h) (value_is P place);
+                subst (HasValuation (setting_of c) P z)
+                (multiplicity_unique (setting_of c) r.0 P (value P place) m (r.2 P place) h) (value_is P place);
           },
         )
       where
@@ -119,23 +135,36 @@ module _ {k : CodeField} (c : Equation k) (some : ¬ (discriminant c ≡ (polyno
             → (value P h ≡ pos 0) ⊎ Any (λ Q. IsSamePlace (setting_of c) Q.0 P) (places s)
         by s P h e = go (places_cover c (of s).0 (of s).1.on.divisor.places P h)
           where
-            go : HasMultiplicity (setting_of c) (of s).0 P (pos 0) ⊎ Any (λ Q. IsSamePlace (setting_of c) Q.0 P) (places s)
+            go : HasMultiplicity (setting_of c) (of s).0 P (pos 0)
+                ⊎ Any (λ Q. IsSamePlace (setting_of c) Q.0 P) (places s)
                 → (value P h ≡ pos 0) ⊎ Any (λ Q. IsSamePlace (setting_of c) Q.0 P) (places s)
             go (inl m) =
-                inl (valuation_unique (setting_of c) (scalars_subring c) P h z (value P h) (pos 0) (value_is P h) ((of s).1.values P h e (pos 0) m))
+                inl (valuation_unique (setting_of c) (scalars_subring c) P h z (value P h) (pos 0) (value_is P h)
+                ((of s).1.values P h e (pos 0) m))
             go (inr a) = inr a
 
         elsewhere : (P : Place (FunctionOf c)) (h : IsPlace (setting_of c) P)
             → (value P h ≡ pos 0) ⊎ Any (λ Q. IsSamePlace (setting_of c) Q.0 P) (places Finite ++ places Infinite)
         elsewhere P h = go P.side refl
           where
-            go : (s : Side) → P.side ≡ s → (value P h ≡ pos 0) ⊎ Any (λ Q. IsSamePlace (setting_of c) Q.0 P) (places Finite ++ places Infinite)
-            go Finite e = elim (by Finite P h e) [ inl v ↦ inl v | inr a ↦ inr (any_left (λ Q. IsSamePlace (setting_of c) Q.0 P) (places Finite) (places Infinite) a) ]
+            go : (s : Side) → P.side ≡ s → (value P h ≡ pos 0)
+                ⊎ Any (λ Q. IsSamePlace (setting_of c) Q.0 P) (places Finite ++ places Infinite)
+            go Finite e =
+                elim (by Finite P h e) [
+                  | inl v ↦ inl v
+                  | inr a ↦ inr
+                      (any_left (λ Q. IsSamePlace (setting_of c) Q.0 P) (places Finite) (places Infinite) a)
+                ]
             go Infinite e =
-                elim (by Infinite P h e) [ inl v ↦ inl v | inr a ↦ inr (any_right (λ Q. IsSamePlace (setting_of c) Q.0 P) (places Finite) (places Infinite) a) ]
+                elim (by Infinite P h e) [
+                  | inl v ↦ inl v
+                  | inr a ↦ inr
+                      (any_right (λ Q. IsSamePlace (setting_of c) Q.0 P) (places Finite) (places Infinite) a)
+                ]
 
   -- a function of L(D) that isn't 0 shows that the degree of D is at least 0
-  pub negative_degree : IsField (ring_of c).ops → (D : Divisor (FunctionOf c)) → IsDivisor (setting_of c) D → (d : ℤ) → HasTotalDegree (setting_of c) D d
+  pub negative_degree : IsField (ring_of c).ops → (D : Divisor (FunctionOf c)) → IsDivisor (setting_of c) D → (d : ℤ)
+      → HasTotalDegree (setting_of c) D d
       → d <ℤ pos 0 → (z : FunctionOf c) → InSpace (setting_of c) D z → z ≡ 𝟘
   negative_degree field D is d total negative z z_in = go (functions_discrete c z 𝟘)
     where
@@ -147,8 +176,10 @@ module _ {k : CodeField} (c : Equation k) (some : ¬ (discriminant c ≡ (polyno
           let y = field.inverse z n in
           let β = sides_basis c some in
           let r = pair_basis c some D is in
-          let a = positivity (code_ring k) (code_field k) (functions_module c) (degree_of_y c) (ring_of c) (times_linear c) Fin (multiples_of c Inf) β.0 β.1 β.2 I
-          (multiples_of c N) (closed_pair c I N (allowed_closed c some D Finite) (allowed_closed c some D Infinite)) r.0 r.1 r.2 z y.0 y.1 (z_in Finite)
+          let a = positivity (code_ring k) (code_field k) (functions_module c) (degree_of_y c) (ring_of c)
+          (times_linear c) Fin (multiples_of c Inf) β.0 β.1 β.2 I
+          (multiples_of c N) (closed_pair c I N (allowed_closed c some D Finite) (allowed_closed c some D Infinite))
+          r.0 r.1 r.2 z y.0 y.1 (z_in Finite)
           ((level_zero c N z).1 (z_in Infinite)) in
           let b = pair_degrees c some D is d total r.0 β.0 r.1 β.1 r.2 β.2 in
           absurd (omega (arith, ints))

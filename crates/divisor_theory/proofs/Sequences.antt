@@ -1,4 +1,5 @@
--- Combinations with listed scalars, as combinations with a sequence of elements of a ring that maps onto the scalars, and back.
+-- Combinations with listed scalars, as combinations with a sequence of elements of a ring that maps onto the scalars,
+-- and back.
 use Rattle.std.proofs.Common.{◌≡◌, ℕ, zero, suc, ◌<◌, List, [], ◌∷◌, length, All, refl, sym, ◌∙◌, ap, ap₂, subst, arith}
 use Rattle.std.proofs.lemmas.List.Elements.{All-nil, All-cons, All-head, All-tail}
 use Rattle.ring_theory.specs.Ring.{CommRing}
@@ -37,7 +38,8 @@ module _ {C A : Type 0} (K : CommRing C) (R : CommRing A) (e : C → A) (S : A �
   listed_in : ((a : C) → S (e a)) → (f : ℕ → C) (ws : List A) → All S (listed f ws)
   unfolding listed
   listed_in image f [] = All-nil S
-  listed_in image f (w ∷ ws) = All-cons S (e (f 0)) (listed (λ i. f (suc i)) ws) (image (f 0)) (listed_in image (λ i. f (suc i)) ws)
+  listed_in image f (w ∷ ws) =
+      All-cons S (e (f 0)) (listed (λ i. f (suc i)) ws) (image (f 0)) (listed_in image (λ i. f (suc i)) ws)
 
   listed_is : (f : ℕ → C) (ws : List A) → combination R.ops (listed f ws) ws ≡ combine (restricted_ops R.ops e) f ws
   unfolding listed
@@ -57,4 +59,5 @@ module _ {C A : Type 0} (K : CommRing C) (R : CommRing A) (e : C → A) (S : A �
       → IsIndependent K.ops (restricted_ops R.ops e) U ws
   independent_sequences image only U ws free f m i l =
       only (f i)
-      (listed_zero f ws (free (listed f ws) (listed_length f ws) (listed_in image f ws) (subst U (sym (listed_is f ws)) m)) i l)
+      (listed_zero f ws (free (listed f ws) (listed_length f ws) (listed_in image f ws)
+      (subst U (sym (listed_is f ws)) m)) i l)

@@ -1,5 +1,6 @@
--- The sum of degrees of a lattice over k[x] with the combinations of one over k[t] that differs from k[t][Y] at t alone: the index of the one relative to k[x][y], that
--- of the other relative to k[t][Y], and 0 + c + 2c + .. + (n-1)c.
+-- The sum of degrees of a lattice over k[x] with the combinations of one over k[t] that differs from k[t][Y] at t
+-- alone: the index of the one relative to k[x][y], that of the other relative to k[t][Y], and 0 + c + 2c + .. +
+-- (n-1)c.
 use Rattle.std.proofs.Common.{◌≡◌, ℕ, zero, suc, ◌+◌, ◌-◌, ◌*◌, List, refl, sym, ◌∙◌, ap, ap₂, arith, mul-suc, suc-mul, mul-add, mul-zero, zero-mul, one-mul}
 use Rattle.std.proofs.lemmas.Int.{ints}
 use Rattle.std.proofs.Math.IntN.{ℤ, pos, ◌+ℤ◌}
@@ -46,17 +47,22 @@ module _ (k : CodeField) (p q : PresValue) (c : ℕ) (f : Functions k q → Func
   n = degree_of_y (equation_of k p)
 
   -- larger lattices have more combinations
-  more_combinations : (A B : Functions k q → Type 0) → IsLattice Q A → IsLattice Q B → ((z : Functions k q) → A z → B z) → (gs hs : List (Functions k q))
-      → SameSet A (Span (functions k q).ops (IsPolynomial Q) gs) → SameSet B (Span (functions k q).ops (IsPolynomial Q) hs)
+  more_combinations : (A B : Functions k q → Type 0) → IsLattice Q A → IsLattice Q B
+      → ((z : Functions k q) → A z → B z) → (gs hs : List (Functions k q))
+      → SameSet A (Span (functions k q).ops (IsPolynomial Q) gs)
+      → SameSet B (Span (functions k q).ops (IsPolynomial Q) hs)
       → (w : Functions k p) → Combinations k p q c f g gs w → Combinations k p q c f g hs w
   more_combinations A B 𝓐 𝓑 within gs hs s t =
       each k p q c f g (λ w. Combinations k p q c f g gs w → Combinations k p q c f g hs w)
       (λ z m.
       let l = (combination_local k p q c f g A 𝓐 gs s z).0 m in
-      (combination_local k p q c f g B 𝓑 hs t z).1 (record { factor = l.factor; factor_in = l.factor_in; multiple_in = within _ l.multiple_in }))
+      (combination_local k p q c f g B 𝓑 hs t z).1
+      (record { factor = l.factor; factor_in = l.factor_in; multiple_in = within _ l.multiple_in }))
 
-  module _ (I : Functions k p → Type 0) (𝓘 : IsLattice (equation_of k p) I) (J : Functions k q → Type 0) (𝓙 : IsLattice (equation_of k q) J)
-      (tame : IsSupportedAt (equation_of k q) (x_poly k) J) (gs : List (Functions k q)) (spanned : SameSet J (Span (functions k q).ops (IsPolynomial (equation_of k q)) gs))
+  module _ (I : Functions k p → Type 0) (𝓘 : IsLattice (equation_of k p) I) (J : Functions k q → Type 0)
+      (𝓙 : IsLattice (equation_of k q) J)
+      (tame : IsSupportedAt (equation_of k q) (x_poly k) J) (gs : List (Functions k q))
+      (spanned : SameSet J (Span (functions k q).ops (IsPolynomial (equation_of k q)) gs))
       (a b : ℤ) (first : HasRelativeIndex (equation_of k p) I (HasPolynomialCoordinates (equation_of k p)) a)
       (second : HasRelativeIndex (equation_of k q) J (HasPolynomialCoordinates (equation_of k q)) b) where
     abbrev P : Functions k p → Type 0
@@ -75,16 +81,33 @@ module _ (k : CodeField) (p q : PresValue) (c : ℕ) (f : Functions k q → Func
     U = IsSum (space_ops Q) J K
 
     in_left : (z : Functions k q) → J z → U z
-    in_left z m = record { left = z; left_in = m; right = (functions k q).𝟘; right_in = (lattice_module Q K 𝓚).zero_in; is = sym ((functions k q).add_zero z) }
+    in_left z m =
+        record {
+          left = z;
+          left_in = m;
+          right = (functions k q).𝟘;
+          right_in = (lattice_module Q K 𝓚).zero_in;
+          is = sym ((functions k q).add_zero z);
+        }
 
     in_right : (z : Functions k q) → K z → U z
-    in_right z m = record { left = (functions k q).𝟘; left_in = (lattice_module Q J 𝓙).zero_in; right = z; right_in = m; is = sym (zero_add (functions k q) z) }
+    in_right z m =
+        record {
+          left = (functions k q).𝟘;
+          left_in = (lattice_module Q J 𝓙).zero_in;
+          right = z;
+          right_in = m;
+          is = sym (zero_add (functions k q) z);
+        }
 
-    pub sum_of_degrees : (bs : List (Functions k p)) (d : ℕ → ℤ) → IsReducedBasis (equation_of k p) I (Combinations k p q c f g gs) bs d
-        → degree_sum (degree_of_y (equation_of k p)) d ≡ (a +ℤ b) +ℤ degree_sum (degree_of_y (equation_of k p)) (λ i. pos (c * i))
+    pub sum_of_degrees : (bs : List (Functions k p)) (d : ℕ → ℤ)
+        → IsReducedBasis (equation_of k p) I (Combinations k p q c f g gs) bs d
+        → degree_sum (degree_of_y (equation_of k p)) d
+        ≡ (a +ℤ b) +ℤ degree_sum (degree_of_y (equation_of k p)) (λ i. pos (c * i))
     sum_of_degrees bs d reduced =
         let 𝓤 = sum_lattice Q J K 𝓙 𝓚 in
-        let u = sum_supported Q (x_poly k) (x_irreducible k) J K 𝓙 𝓚 tame (coordinates_supported Q (x_poly k) (x_irreducible k)) in
+        let u = sum_supported Q (x_poly k) (x_irreducible k) J K 𝓙 𝓚 tame
+        (coordinates_supported Q (x_poly k) (x_irreducible k)) in
         let ys = powers Q 0 (degree_of_y Q) in
         let C = Combinations k p q c f g in
         let 𝓝 = combinations_lattice k p q c f g J 𝓙 gs spanned in
@@ -96,11 +119,14 @@ module _ (k : CodeField) (p q : PresValue) (c : ℕ) (f : Functions k q → Func
         let s = reduced_basis R P (C 𝓤.generators) 𝓟 𝓛 in
         let e = lattice_degrees R I P a first (C gs) 𝓝 bs r.0 d r.1 reduced r.2 in
         let h = relative_at Q J K 𝓙 𝓚 b second U 𝓤 in_left in_right i.0 j.0 i.1 j.1 in
-        let v = infinite_index_degrees R (C gs) (C 𝓤.generators) 𝓝 𝓛 (more_combinations J U 𝓙 𝓤 in_left gs 𝓤.generators spanned 𝓤.spanned) P r.0 s.0 r.1 s.1 r.2 s.2 i.0
+        let v = infinite_index_degrees R (C gs) (C 𝓤.generators) 𝓝 𝓛
+        (more_combinations J U 𝓙 𝓤 in_left gs 𝓤.generators spanned 𝓤.spanned) P r.0 s.0 r.1 s.1 r.2 s.2 i.0
         (combination_index k p q c f g J U 𝓙 𝓤 tame u in_left gs 𝓤.generators spanned 𝓤.spanned i.0 i.1) in
-        let w = infinite_index_degrees R (C ys) (C 𝓤.generators) 𝓨 𝓛 (more_combinations K U 𝓚 𝓤 in_right ys 𝓤.generators (powers_spanned Q) 𝓤.spanned) P
+        let w = infinite_index_degrees R (C ys) (C 𝓤.generators) 𝓨 𝓛
+        (more_combinations K U 𝓚 𝓤 in_right ys 𝓤.generators (powers_spanned Q) 𝓤.spanned) P
         (powers R 0 n) s.0 (λ i. pos (c * i)) s.1 (standard_pair k p q c f g same) s.2 j.0
-        (combination_index k p q c f g K U 𝓚 𝓤 (coordinates_supported Q (x_poly k) (x_irreducible k)) u in_right ys 𝓤.generators (powers_spanned Q) 𝓤.spanned j.0 j.1) in
+        (combination_index k p q c f g K U 𝓚 𝓤 (coordinates_supported Q (x_poly k) (x_irreducible k)) u in_right ys
+        𝓤.generators (powers_spanned Q) 𝓤.spanned j.0 j.1) in
         omega (arith, ints)
 
 -- 0 + c + 2c + .. + (n-1)c, taken twice
@@ -118,13 +144,15 @@ degree_sum_constant c (suc n) =
 one_more : (c n : ℕ) → degree_sum (suc n) (λ i. pos (c * i)) ≡ degree_sum n (λ i. pos (c * i)) +ℤ pos (c * n)
 one_more c n =
     let a : degree_sum n (λ i. pos (c * suc i)) ≡ degree_sum n (λ i. pos (c * i) +ℤ pos c)
-    = degree_sum_cong n (λ i. pos (c * suc i)) (λ i. pos (c * i) +ℤ pos c) (λ i. let e : c * suc i ≡ c * i + c = mul-suc c i in omega (arith, ints)) in
+    = degree_sum_cong n (λ i. pos (c * suc i)) (λ i. pos (c * i) +ℤ pos c)
+    (λ i. let e : c * suc i ≡ c * i + c = mul-suc c i in omega (arith, ints)) in
     let b = degree_sum_plus n (λ i. pos (c * i)) (pos c) in
     let d = degree_sum_constant c n in
     let z : c * 0 ≡ 0 = mul-zero c in
     omega (arith, ints)
 
-pub standard_sum : (c n : ℕ) → degree_sum n (λ i. pos (c * i)) +ℤ degree_sum n (λ i. pos (c * i)) ≡ pos (c * (n * (n - 1)))
+pub standard_sum : (c n : ℕ) → degree_sum n (λ i. pos (c * i)) +ℤ degree_sum n (λ i. pos (c * i))
+    ≡ pos (c * (n * (n - 1)))
 standard_sum c zero =
     let a : 0 * (0 - 1) ≡ 0 = zero-mul (0 - 1) in
     let b : c * (0 * (0 - 1)) ≡ 0 = ap (λ m. c * m) a ∙ mul-zero c in
@@ -143,7 +171,8 @@ standard_sum c (suc (suc m)) =
     let u : suc m * (suc m - 1) ≡ A = ap (λ l. suc m * l) (let w : suc m - 1 ≡ m = omega arith in w) in
     let v : suc (suc m) * (suc (suc m) - 1) ≡ A + (B + B)
     = ap (λ l. suc (suc m) * l) (let w : suc (suc m) - 1 ≡ suc m = omega arith in w)
-    ∙ (let s : suc (suc m) * suc m ≡ suc m * suc m + suc m = suc-mul (suc m) (suc m) in let t : suc m * suc m ≡ suc m * m + suc m = mul-suc (suc m) m in omega (arith, s, t)) in
+    ∙ (let s : suc (suc m) * suc m ≡ suc m * suc m + suc m = suc-mul (suc m) (suc m) in let t : suc m * suc m
+    ≡ suc m * m + suc m = mul-suc (suc m) m in omega (arith, s, t)) in
     let x : c * (suc m * (suc m - 1)) ≡ c * A = ap (λ l. c * l) u in
     let y : c * (suc (suc m) * (suc (suc m) - 1)) ≡ c * A + (c * B + c * B)
     = ap (λ l. c * l) v ∙ mul-add c A (B + B) ∙ ap (λ l. c * A + l) (mul-add c B B) in

@@ -1,4 +1,5 @@
--- The part of a divisor at the places of one side, differences of divisors, and principal ones (Stichtenoth, section 1.4).
+-- The part of a divisor at the places of one side, differences of divisors, and principal ones (Stichtenoth, section
+-- 1.4).
 use Rattle.std.specs.Prelude.{ℤ, ◌-ℤ◌, [], ◌∷◌}
 use Rattle.function_field.specs.declared.side.Side.{Side}
 use Rattle.function_field.specs.declared.side.Side.TheVariants.{Finite, Infinite}
@@ -21,7 +22,8 @@ part s (e ∷ D) = kept s e.place.side e (part s D)
 -- E(P) is W(P) - D(P) at each place P
 pub record IsDifference {F : Type 0} (S : Setting F) (W D E : Divisor F) : Type 0 where
   pub divisor : IsDivisor S E
-  pub values : (P : Place F) → IsPlace S P → (m n : ℤ) → HasMultiplicity S W P m → HasMultiplicity S D P n → HasMultiplicity S E P (m -ℤ n)
+  pub values : (P : Place F) → IsPlace S P → (m n : ℤ) → HasMultiplicity S W P m → HasMultiplicity S D P n
+      → HasMultiplicity S E P (m -ℤ n)
 
 -- D(P) is v_P(z) at each place P
 pub record IsPrincipal {F : Type 0} (S : Setting F) (D : Divisor F) (z : F) : Type 0 where

@@ -1,13 +1,11 @@
 -- The order k[t][Y], enlarged at t, has the functions of O_inf that have powers of t as denominators, and spans O_inf.
-use Rattle.std.proofs.Common.{◌≡◌, ℕ, ◌≤◌, ◌↔◌, List, [], ◌∷◌, ◌++◌, length, map, replicate, refl, sym, ap, ap₂, ◌∙◌, subst, arith, All}
+use Rattle.std.proofs.Common.{◌≡◌, ℕ, ◌↔◌, List, [], ◌∷◌, length, map, sym, ap, subst, arith}
 use Rattle.std.specs.Prelude.{Result, Ok, Err, IfOk}
 use Rattle.std.specs.declared.alloc.AllocError.{AllocError}
-use Rattle.std.proofs.lemmas.List.Elements.{All-head, All-tail}
 use Rattle.ring_theory.specs.Subsets.{Span}
 use Rattle.ff_fields.specs.Field.{CodeField}
 use Rattle.ff_fields.specs.Over.{IsOver}
-use Rattle.ff_poly.specs.Words.{IsPoly, IsIrreducible}
-use Rattle.ff_poly.specs.Popov.{IsRow}
+use Rattle.ff_poly.specs.Words.{IsIrreducible}
 use Rattle.ff_poly.specs.Value.{value}
 use Rattle.ff_poly.specs.Polynomials.{polynomials, x_poly}
 use Rattle.function_field.specs.declared.side.Side.TheVariants.{Finite, Infinite}
@@ -15,32 +13,26 @@ use Rattle.function_field.specs.Functions.{of_poly, IsPolynomial}
 use Rattle.function_field.specs.Places.{IsIntegralAt}
 use Rattle.function_field.specs.Discriminant.{discriminant}
 use Rattle.function_field.specs.Values.{PresValue, Functions, functions, function_of, equation_of, setting}
-use Rattle.function_field.specs.Infinity.{function_on, StandsFor, IsPolynomialOn}
+use Rattle.function_field.specs.Infinity.{function_on, IsPolynomialOn}
 use Rattle.function_field.specs.Curves.{CurveValue, IsCurve}
-use Rattle.function_field.proofs.OnSide.{function_on_stands, stands_once}
-use Rattle.function_field.proofs.SameValues.{monic_some}
 use Rattle.prime_theory.specs.Orders.{MaximalAt}
 use Rattle.prime_theory.specs.Ideals.{SameSet}
 use Rattle.places_theory.specs.InfiniteSide.{InReverse}
-use Rattle.places_theory.proofs.PresentationMap.{presentation_map}
 use Rattle.places_theory.proofs.Transport.{span_iff}
 use Rattle.trace_theory.specs.Traces.{HasPolynomialCoordinates}
 use Rattle.order_theory.specs.Orders as theory
 use Rattle.order_theory.specs.Orders.{TakenByPowers}
-use Rattle.infinite_theory.specs.Supported.{IsSupportedAt, HasPowerDenominator}
+use Rattle.infinite_theory.specs.Supported.{IsSupportedAt}
 use Rattle.infinite_theory.specs.InfiniteMaps.{IsInfiniteMap}
 use Rattle.infinite_theory.proofs.InfiniteTransport.{x_irreducible, infinite_map}
-use Rattle.infinite_theory.proofs.InfiniteDecisions.{infinite_some}
 use Rattle.infinite_theory.proofs.LocalIntegral.{taken_is_supported, taken_maximal}
 use Rattle.infinite_theory.proofs.InfiniteOrders.{infinite_integral, infinite_members}
-use Rattle.ff_lattice.specs.Lattices.{LatticeValue, IsLattice, Contains, elems_over, row_elems}
+use Rattle.ff_lattice.specs.Lattices.{LatticeValue, Contains, row_elems}
 use Rattle.ff_lattice.specs.Orders.{IsOrder}
-use Rattle.ff_lattice.proofs.Normal.{monic_poly}
 use Rattle.value_theory.proofs.Bridge.{order_set}
 use Rattle.value_theory.proofs.InfiniteLattices.{image_of, some, some_inf, infinite_disc, rows_are, power_to, power_from}
-use Rattle.ff_infinite.proofs.LowZeros.{power_over, power_some}
+use Rattle.ff_infinite.proofs.LowZeros.{power_over}
 use Rattle.value_theory.specs.IntegralLattices.{IsOverPowerOfT, SpansIntegral, SpansOverPowersOfT, IsIntegralLattice}
-use Rattle.ff_maximal.proofs.FiniteOrders.{some_disc}
 
 -- the list of the variable's codes is an irreducible polynomial
 pub variable_irreducible : (k : CodeField) (t : List ℕ) → t ≡ 0 ∷ 1 ∷ [] → IsIrreducible k.ops t

@@ -22,18 +22,22 @@ module _ {k : CodeField} (c : Equation k) (O : FunctionOf c → Type 0) (𝓞 : 
   abbrev Maximal : Polynomial k → Type 0
   Maximal p = MaximalAt (ring_of c).ops (of_poly c p) (IsIntegralAt (setting_of c) Finite) O
 
-  pub product_admitted : (M N : FunctionOf c → Type 0) → IsAdmitted c O M → IsAdmitted c O N → IsAdmitted c O (Product (ring_of c).ops M N)
+  pub product_admitted : (M N : FunctionOf c → Type 0) → IsAdmitted c O M → IsAdmitted c O N
+      → IsAdmitted c O (Product (ring_of c).ops M N)
   product_admitted M N f g p h = go (f p h) (g p h)
     where
-      go : Maximal p ⊎ IsOrderUpTo c p O M → Maximal p ⊎ IsOrderUpTo c p O N → Maximal p ⊎ IsOrderUpTo c p O (Product (ring_of c).ops M N)
+      go : Maximal p ⊎ IsOrderUpTo c p O M → Maximal p ⊎ IsOrderUpTo c p O N → Maximal p
+          ⊎ IsOrderUpTo c p O (Product (ring_of c).ops M N)
       go (inl m) r = inl m
       go (inr a) (inl m) = inl m
       go (inr a) (inr b) = inr (record {
         factor = a.factor ⊗ b.factor;
         factor_in = (prime_to c p h).product_in a.factor b.factor a.factor_in b.factor_in;
         takes =
-            product_universal (ring_of c) M N O (additive_of_module (ring_of c) O O (own_module (ring_of c) O 𝓞.ring)) (a.factor ⊗ b.factor)
-            (λ x y m n. subst O (mul_mul (ring_of c) a.factor x b.factor y) (𝓞.ring.product_in _ _ (a.takes x m) (b.takes y n)));
+            product_universal (ring_of c) M N O
+            (additive_of_module (ring_of c) O O (own_module (ring_of c) O 𝓞.ring)) (a.factor ⊗ b.factor)
+            (λ x y m n. subst O (mul_mul (ring_of c) a.factor x b.factor y)
+            (𝓞.ring.product_in _ _ (a.takes x m) (b.takes y n)));
         member = a.member ⊗ b.member;
         member_in = (prime_to c p h).product_in a.member b.member a.member_in b.member_in;
         has = product_member (ring_of c) O 𝓞.ring M N a.member b.member a.has b.has;

@@ -36,13 +36,17 @@ module _ {k : CodeField} (c : Equation k) where
   prepended a e (suc i) = e i
 
   -- a combination with listed codes, as one with a sequence of codes
-  of_span : (ws : List (FunctionOf c)) (z : FunctionOf c) → Span (ring_of c).ops (IsCode c) ws z → (e : ℕ → Code k) × (z ≡ combine (space_ops c) e ws)
+  of_span : (ws : List (FunctionOf c)) (z : FunctionOf c) → Span (ring_of c).ops (IsCode c) ws z → (e : ℕ → Code k)
+      × (z ≡ combine (space_ops c) e ws)
   of_span [] z h = (λ i. (code_ring k).𝟘, h)
   of_span (w ∷ ws) z h =
       let r = of_span ws h.rest h.rest_in in
       let q = h.scalar_in.code in
-      let a = coeff_of (code_ring k).ops q.0 0 in
-      (prepended a r.0, h.is ∙ ap₂ (λ x y. x ⊗ w ⊕ y) (h.scalar_in.value ∙ ap (of_poly c) (constant_of c q h.scalar_in.no_degree)) r.1)
+      let a = coeff_of (code_ring k).ops q.0 0 in (
+        prepended a r.0,
+        h.is ∙ ap₂ (λ x y. x ⊗ w ⊕ y)
+            (h.scalar_in.value ∙ ap (of_poly c) (constant_of c q h.scalar_in.no_degree)) r.1,
+      )
 
   listed : (e : ℕ → Code k) → List (FunctionOf c) → List (FunctionOf c)
   listed e [] = []
@@ -56,19 +60,24 @@ module _ {k : CodeField} (c : Equation k) where
   listed_codes : (e : ℕ → Code k) (ws : List (FunctionOf c)) → All (IsCode c) (listed e ws)
   unfolding listed
   listed_codes e [] = All-nil (IsCode c)
-  listed_codes e (w ∷ ws) = All-cons (IsCode c) (code_of c (e 0)) (listed (λ i. e (suc i)) ws) (code_is c (e 0)) (listed_codes (λ i. e (suc i)) ws)
+  listed_codes e (w ∷ ws) =
+      All-cons (IsCode c) (code_of c (e 0)) (listed (λ i. e (suc i)) ws) (code_is c (e 0))
+      (listed_codes (λ i. e (suc i)) ws)
 
-  listed_is : (e : ℕ → Code k) (ws : List (FunctionOf c)) → combination (ring_of c).ops (listed e ws) ws ≡ combine (space_ops c) e ws
+  listed_is : (e : ℕ → Code k) (ws : List (FunctionOf c)) → combination (ring_of c).ops (listed e ws) ws
+      ≡ combine (space_ops c) e ws
   unfolding listed
   listed_is e [] = refl
   listed_is e (w ∷ ws) = ap (λ x. code_of c (e 0) ⊗ w ⊕ x) (listed_is (λ i. e (suc i)) ws)
 
-  listed_zero : (e : ℕ → Code k) (ws : List (FunctionOf c)) → All (λ z. z ≡ 𝟘) (listed e ws) → (i : ℕ) → i < length ws → code_of c (e i) ≡ 𝟘
+  listed_zero : (e : ℕ → Code k) (ws : List (FunctionOf c)) → All (λ z. z ≡ 𝟘) (listed e ws) → (i : ℕ)
+      → i < length ws → code_of c (e i) ≡ 𝟘
   unfolding listed
   listed_zero e [] h i l = absurd (omega arith)
   listed_zero e (w ∷ ws) h zero l = All-head (λ z. z ≡ 𝟘) (code_of c (e 0)) (listed (λ i. e (suc i)) ws) h
   listed_zero e (w ∷ ws) h (suc i) l =
-      listed_zero (λ i. e (suc i)) ws (All-tail (λ z. z ≡ 𝟘) (code_of c (e 0)) (listed (λ i. e (suc i)) ws) h) i (omega arith)
+      listed_zero (λ i. e (suc i)) ws (All-tail (λ z. z ≡ 𝟘) (code_of c (e 0)) (listed (λ i. e (suc i)) ws) h) i
+      (omega arith)
 
   module _ (gs : List (FunctionOf c)) (place : IsPlace (setting_of c) (finite c gs)) where
     abbrev M : FunctionOf c → Type 0
@@ -85,9 +94,11 @@ module _ {k : CodeField} (c : Equation k) where
             ∙ coeff_trim (code_ring k) [] 0
         go (no n) =
             let u = inverse_of c (constant (code_ring k) a) n in
-            absurd (place.proper (subst M (sym (zero_mul (ring_of c) u.0) ∙ ap (λ x. x ⊗ u.0) (sym e) ∙ u.1) (place_prime c gs place).ideal.zero_in))
+            absurd (place.proper (subst M (sym (zero_mul (ring_of c) u.0) ∙ ap (λ x. x ⊗ u.0) (sym e) ∙ u.1)
+            (place_prime c gs place).ideal.zero_in))
 
-    index_at : (g : ℕ) → HasDegree (setting_of c) (finite c gs) g → HasIndex c (IsIn (setting_of c) (finite c gs)) (Int c) g
+    index_at : (g : ℕ) → HasDegree (setting_of c) (finite c gs) g
+        → HasIndex c (IsIn (setting_of c) (finite c gs)) (Int c) g
     index_at g d = record {
       basis = d.classes;
       is = record {
@@ -104,7 +115,8 @@ module _ {k : CodeField} (c : Equation k) where
         independent = λ e m i l.
             code_zero (e i)
             (listed_zero e d.classes
-            (d.independent (listed e d.classes) (listed_length e d.classes ∙ d.count) (listed_codes e d.classes) (subst M (sym (listed_is e d.classes)) m)) i l);
+            (d.independent (listed e d.classes) (listed_length e d.classes ∙ d.count) (listed_codes e d.classes)
+            (subst M (sym (listed_is e d.classes)) m)) i l);
       };
       count = d.count;
     }
@@ -112,9 +124,11 @@ module _ {k : CodeField} (c : Equation k) where
         split : (v t : FunctionOf c) → v ≡ t ⊕ (v ⊕ ⊖ t)
         split v t = ring (ring_of c) (v ∷ t ∷ []) λ r x. simp (reads, r, x 0, x 1) (r.equal _ _ refl)
 
-  pub index_of_degree : (P : Place (FunctionOf c)) → IsPlace (setting_of c) P → P.side ≡ Finite → (g : ℕ) → HasDegree (setting_of c) P g
+  pub index_of_degree : (P : Place (FunctionOf c)) → IsPlace (setting_of c) P → P.side ≡ Finite → (g : ℕ)
+      → HasDegree (setting_of c) P g
       → HasIndex c (IsIn (setting_of c) P) (Int c) g
   index_of_degree P place e =
       on_side (setting_of c) (scalars_subring c) Finite
-      (λ P. IsPlace (setting_of c) P → (g : ℕ) → HasDegree (setting_of c) P g → HasIndex c (IsIn (setting_of c) P) (Int c) g)
+      (λ P. IsPlace (setting_of c) P → (g : ℕ) → HasDegree (setting_of c) P g
+      → HasIndex c (IsIn (setting_of c) P) (Int c) g)
       (λ gs place. index_at gs place) P e place

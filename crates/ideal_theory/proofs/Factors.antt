@@ -34,7 +34,8 @@ module _ {k : CodeField} (c : Equation k) where
       order : (m : ℕ) → (2 ≤ m) ⊎ (m ≤ 1)
       order m = grind arith
 
-      go : (2 ≤ length g.0) ⊎ (length g.0 ≤ 1) → ((u : Polynomial k) → ¬ (u ≡ (polynomials k).𝟘) → length u.0 < n → Factors u) → Factors g
+      go : (2 ≤ length g.0) ⊎ (length g.0 ≤ 1)
+          → ((u : Polynomial k) → ¬ (u ≡ (polynomials k).𝟘) → length u.0 < n → Factors u) → Factors g
       go (inr short) again =
           let m = monic_multiple k g some in
           let s = m.monic.size in
@@ -54,7 +55,8 @@ module _ {k : CodeField} (c : Equation k) where
           let p = divisor_of k g some long in
           let irr = divisor_irreducible k g some long in
           let d = divides_it k g some long in
-          let u_some : ¬ (d.0 ≡ (polynomials k).𝟘) = λ z. some (d.1 ∙ ap ((polynomials k).◌⊗◌ p) z ∙ mul_zero (polynomials k).ring p) in
+          let u_some : ¬ (d.0 ≡ (polynomials k).𝟘) = λ z. some
+          (d.1 ∙ ap ((polynomials k).◌⊗◌ p) z ∙ mul_zero (polynomials k).ring p) in
           let e = length_product (code_ring k) (code_domain k) p d.0 (irreducible_some k p irr) u_some in
           let f : length g.0 ≡ length ((polynomials k).◌⊗◌ p d.0).0 = ap (λ q. length q.0) d.1 in
           let p_long : 2 ≤ length p.0 = subst (λ n. 2 ≤ n) (length-map p.0 (λ x. x.0)) irr.not_constant in

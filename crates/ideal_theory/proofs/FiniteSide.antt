@@ -1,4 +1,5 @@
--- The finite side: its places are invertible primes of the maximal order, so the ideal of a divisor is its conditions at the finite places.
+-- The finite side: its places are invertible primes of the maximal order, so the ideal of a divisor is its conditions
+-- at the finite places.
 use Rattle.std.proofs.Common.{◌≡◌, ◌↔◌, inl}
 use Rattle.prime_theory.specs.Ideals.{Invertible}
 use Rattle.ff_fields.specs.Field.{CodeField}
@@ -21,7 +22,8 @@ module _ {k : CodeField} (c : Equation k) (some : ¬ (discriminant c ≡ (polyno
   pub maximal_order : IsOrder c (Int c)
   maximal_order = record { lattice = integral_lattice c some; ring = integral_subring c }
 
-  pub finite_invertible : (P : Place (FunctionOf c)) → IsPlace (setting_of c) P → P.side ≡ Finite → Invertible (ring_of c).ops (Int c) (IsIn (setting_of c) P)
+  pub finite_invertible : (P : Place (FunctionOf c)) → IsPlace (setting_of c) P → P.side ≡ Finite
+      → Invertible (ring_of c).ops (Int c) (IsIn (setting_of c) P)
   finite_invertible P place e =
       let 𝓟 = (prime_of_place c P place e).ideal in
       lattice_invertible c (Int c) maximal_order (IsIn (setting_of c) P) (lattice_of_place c P place e)
@@ -30,5 +32,6 @@ module _ {k : CodeField} (c : Equation k) (some : ¬ (discriminant c ≡ (polyno
   pub finite_by_values : (D : Divisor (FunctionOf c)) → IsDivisorOn (setting_of c) Finite D → (z : FunctionOf c)
       → DivisorIdeal (setting_of c) Finite D z ↔ HasValuesOf (setting_of c) Finite D z
   finite_by_values D on z =
-      by_values (setting_of c) (scalars_subring c) Finite (λ P place e. prime_of_place c P place e) finite_invertible D on
+      by_values (setting_of c) (scalars_subring c) Finite (λ P place e. prime_of_place c P place e) finite_invertible
+      D on
       (λ z h. (regular_functions c z some).0 h) z

@@ -1,4 +1,5 @@
--- The infinite side: its places are invertible primes of O_inf, so the product of their powers is its conditions at the infinite places.
+-- The infinite side: its places are invertible primes of O_inf, so the product of their powers is its conditions at
+-- the infinite places.
 use Rattle.std.proofs.Common.{◌≡◌, ◌↔◌, ◌⊎◌, inl, inr, ℕ, List, [], ◌∷◌, refl, sym, subst}
 use Rattle.ring_theory.specs.Subsets.{IsSubring, IsModule, Product}
 use Rattle.ring_theory.proofs.Ring.{one_mul}
@@ -35,7 +36,8 @@ use Rattle.ideal_theory.proofs.DivisorIdeals.{by_values}
 use Rattle.ideal_theory.proofs.FiniteSide.{finite_invertible}
 
 module _ (k : CodeField) (p q : PresValue) (c : ℕ) (f : Functions k q → Functions k p) (g : IsInfiniteMap k p q c f)
-    (some : ¬ (discriminant (equation_of k q) ≡ (polynomials k).𝟘)) (ws : List (Functions k p)) (place : IsPlace (setting k p) (infinite (equation_of k p) ws)) where
+    (some : ¬ (discriminant (equation_of k q) ≡ (polynomials k).𝟘)) (ws : List (Functions k p))
+    (place : IsPlace (setting k p) (infinite (equation_of k p) ws)) where
   infixl 65 ◌⊕◌
   infixl 70 ◌⊗◌
   open functions k q use {𝟘, 𝟙, ◌⊕◌, ◌⊗◌}
@@ -56,7 +58,8 @@ module _ (k : CodeField) (p q : PresValue) (c : ℕ) (f : Functions k q → Func
   𝓘 : IsSubring (functions k p).ops (IsIntegralAt (setting k p) Infinite)
   𝓘 = side_ring (setting k p) (scalars_subring (equation_of k p)) Infinite
 
-  𝓜 : IsModule (functions k p).ops (IsIntegralAt (setting k p) Infinite) (IsIn (setting k p) (infinite (equation_of k p) ws))
+  𝓜 : IsModule (functions k p).ops (IsIntegralAt (setting k p) Infinite)
+      (IsIn (setting k p) (infinite (equation_of k p) ws))
   𝓜 = place_module (setting k p) (scalars_subring (equation_of k p)) (infinite (equation_of k p) ws) place
 
   push : (z : Functions k q) → Below z → In (f z)
@@ -70,11 +73,13 @@ module _ (k : CodeField) (p q : PresValue) (c : ℕ) (f : Functions k q → Func
 
   -- what takes the finite place into the integral functions takes the infinite one into O_inf
   push_inverse : (b : Functions k q) → Inverse (functions k q).ops (IsIntegralAt (setting k q) Finite) Below b
-      → Inverse (functions k p).ops (IsIntegralAt (setting k p) Infinite) (IsIn (setting k p) (infinite (equation_of k p) ws)) (f b)
+      → Inverse (functions k p).ops (IsIntegralAt (setting k p) Infinite)
+      (IsIn (setting k p) (infinite (equation_of k p) ws)) (f b)
   push_inverse b n =
       each k p q c f g (λ w. In w → Inf ((functions k p).◌⊗◌ (f b) w))
       (λ z m.
-      let l = (g.spans (rows k p q c f g ws place some) z).1 (((pulled_same k p q c f g ws place some).members (f z)).1 m) in
+      let l = (g.spans (rows k p q c f g ws place some) z).1
+      (((pulled_same k p q c f g ws place some).members (f z)).1 m) in
       subst Inf (g.isomorphism.hom.mul b z)
       ((g.integral (b ⊗ z)).0 (record {
         factor = l.factor;
@@ -85,18 +90,22 @@ module _ (k : CodeField) (p q : PresValue) (c : ℕ) (f : Functions k q → Func
       turn : (b u z : Functions k q) → b ⊗ (u ⊗ z) ≡ u ⊗ (b ⊗ z)
       turn b u z = ring (functions k q) (b ∷ u ∷ z ∷ []) λ r x. simp (reads, r, x 0, x 1, x 2) (r.equal _ _ refl)
 
-  pub infinite_place_invertible : Invertible (functions k p).ops (IsIntegralAt (setting k p) Infinite) (IsIn (setting k p) (infinite (equation_of k p) ws))
+  pub infinite_place_invertible : Invertible (functions k p).ops (IsIntegralAt (setting k p) Infinite)
+      (IsIn (setting k p) (infinite (equation_of k p) ws))
   infinite_place_invertible =
       subst T g.isomorphism.hom.𝟙
       (product_into (functions k q) Below (Inverse (functions k q).ops Int Below) (λ z. T (f z)) additive
       (λ a b m n.
       subst T (sym (g.isomorphism.hom.mul a b))
-      (product_member (functions k p) Inf 𝓘 In (Inverse (functions k p).ops Inf In) (f a) (f b) (push a m) (push_inverse b n))) 𝟙
-      (finite_invertible (equation_of k q) some (finite (equation_of k q) (rows k p q c f g ws place some)) (pulled_place k p q c f g ws place some) refl))
+      (product_member (functions k p) Inf 𝓘 In (Inverse (functions k p).ops Inf In) (f a) (f b) (push a m)
+      (push_inverse b n))) 𝟙
+      (finite_invertible (equation_of k q) some (finite (equation_of k q) (rows k p q c f g ws place some))
+      (pulled_place k p q c f g ws place some) refl))
     where
       T : Functions k p → Type 0
       T = Product (functions k p).ops (IsIn (setting k p) (infinite (equation_of k p) ws))
-          (Inverse (functions k p).ops (IsIntegralAt (setting k p) Infinite) (IsIn (setting k p) (infinite (equation_of k p) ws)))
+          (Inverse (functions k p).ops (IsIntegralAt (setting k p) Infinite)
+          (IsIn (setting k p) (infinite (equation_of k p) ws)))
 
       𝓣 : IsModule (functions k p).ops Inf T
       𝓣 = product_module (functions k p) Inf 𝓘 In (Inverse (functions k p).ops Inf In) 𝓜
@@ -112,27 +121,38 @@ module _ {k : CodeField} (c : Equation k) where
       → IsPrime (ring_of c).ops (IsIntegralAt (setting_of c) Infinite) (IsIn (setting_of c) P)
   infinite_prime P place e =
       on_side (setting_of c) (scalars_subring c) Infinite
-      (λ P. IsPlace (setting_of c) P → IsPrime (ring_of c).ops (IsIntegralAt (setting_of c) Infinite) (IsIn (setting_of c) P))
+      (λ P. IsPlace (setting_of c) P
+      → IsPrime (ring_of c).ops (IsIntegralAt (setting_of c) Infinite) (IsIn (setting_of c) P))
       (λ gs place.
       let m = (place_is_maximal (setting_of c) (scalars_subring c) (infinite c gs)).0 place in
-      record { ideal = m.ideal; proper = m.proper; invert = m.invert; decide = λ u u_in. decided (spans_decided k c gs u) }) P e place
+      record {
+        ideal = m.ideal;
+        proper = m.proper;
+        invert = m.invert;
+        decide = λ u u_in. decided (spans_decided k c gs u);
+      }) P e place
     where
       decided : {X : Type 0} → Dec X → X ⊎ (¬ X)
       decided (yes x) = inl x
       decided (no n) = inr n
 
-  pub infinite_invertible : ¬ (discriminant c ≡ (polynomials k).𝟘) → (P : Place (FunctionOf c)) → IsPlace (setting_of c) P → P.side ≡ Infinite
+  pub infinite_invertible : ¬ (discriminant c ≡ (polynomials k).𝟘) → (P : Place (FunctionOf c))
+      → IsPlace (setting_of c) P → P.side ≡ Infinite
       → Invertible (ring_of c).ops (IsIntegralAt (setting_of c) Infinite) (IsIn (setting_of c) P)
   infinite_invertible some P place e =
       on_side (setting_of c) (scalars_subring c) Infinite
-      (λ P. IsPlace (setting_of c) P → Invertible (ring_of c).ops (IsIntegralAt (setting_of c) Infinite) (IsIn (setting_of c) P))
+      (λ P. IsPlace (setting_of c) P
+      → Invertible (ring_of c).ops (IsIntegralAt (setting_of c) Infinite) (IsIn (setting_of c) P))
       (each_equation k
       (λ c. ¬ (discriminant c ≡ (polynomials k).𝟘) → (ws : List (FunctionOf c)) → IsPlace (setting_of c) (infinite c ws)
       → Invertible (ring_of c).ops (IsIntegralAt (setting_of c) Infinite) (IsIn (setting_of c) (infinite c ws)))
       (λ p q n s h d ws place.
-      infinite_place_invertible k p q n (presentation_map k p q n h s) (infinite_map k p q n h s) (infinite_some k p q n h s d) ws place) c some) P e place
+      infinite_place_invertible k p q n (presentation_map k p q n h s) (infinite_map k p q n h s)
+      (infinite_some k p q n h s d) ws place) c some) P e place
 
-  pub infinite_by_values : ¬ (discriminant c ≡ (polynomials k).𝟘) → (D : Divisor (FunctionOf c)) → IsDivisorOn (setting_of c) Infinite D → (z : FunctionOf c)
+  pub infinite_by_values : ¬ (discriminant c ≡ (polynomials k).𝟘) → (D : Divisor (FunctionOf c))
+      → IsDivisorOn (setting_of c) Infinite D → (z : FunctionOf c)
       → DivisorIdeal (setting_of c) Infinite D z ↔ HasValuesOf (setting_of c) Infinite D z
   infinite_by_values some D on z =
-      by_values (setting_of c) (scalars_subring c) Infinite infinite_prime (infinite_invertible some) D on (λ z h. (regular_integral k c some z).0 h) z
+      by_values (setting_of c) (scalars_subring c) Infinite infinite_prime (infinite_invertible some) D on
+      (λ z h. (regular_integral k c some z).0 h) z

@@ -9,7 +9,7 @@ use Rattle.prime_theory.specs.Ideals.{SameSet}
 use Rattle.prime_theory.specs.IntegerValues.{ValueIs}
 use Rattle.prime_theory.specs.Orders.{MaximalAt}
 use Rattle.prime_theory.specs.Primes.{IsPrime, Pair}
-use Rattle.prime_theory.specs.Systems.{IsSystem, Distinct}
+use Rattle.prime_theory.specs.Systems.{IsSystem, AreDistinctPrimes}
 use Rattle.prime_theory.proofs.Compare.{prime_in_system}
 use Rattle.prime_theory.proofs.IntegralRing.{integral_ring}
 use Rattle.prime_theory.proofs.Lists.{any_weaker}
@@ -53,7 +53,8 @@ module _ {k : CodeField} (c : Equation k) where
   combination_in O 𝓞 base (d ∷ ds) [] h j = 𝓞.ring.zero_in
   combination_in O 𝓞 base (d ∷ ds) (w ∷ ws) h j =
       let e = All-head (IsCode c) d ds h in
-      𝓞.ring.sum_in _ _ (𝓞.ring.product_in d w (base d (record { polynomial = e.code; value = e.value })) (All-head O w ws j))
+      𝓞.ring.sum_in _ _ (𝓞.ring.product_in d w (base d (record { polynomial = e.code; value = e.value }))
+      (All-head O w ws j))
       (combination_in O 𝓞 base ds ws (All-tail (IsCode c) d ds h) (All-tail O w ws j))
 
   module _ (some : ¬ (discriminant c ≡ (polynomials k).𝟘)) (p : Polynomial k) (h : IsIrreducible k.ops (codes_of k p))
@@ -77,7 +78,7 @@ module _ {k : CodeField} (c : Equation k) where
     sys : IsSystem (ring_of c).ops O (of_poly c p) (RecordedPrime c O) P ps
     sys = record_system c p h O 𝓞 ps valid
 
-    apart : Distinct P ps
+    apart : AreDistinctPrimes P ps
     apart = record_distinct c p h O 𝓞 ps valid
 
     prime : (i : RecordedPrime c O) → IsPrime (ring_of c).ops O (P i)
@@ -89,10 +90,12 @@ module _ {k : CodeField} (c : Equation k) where
     -- the place of a prime over p
     place_is : (i : RecordedPrime c O) → P i (of_poly c p) → (M : Place (FunctionOf c)) × IsPlaceOfPrime c O p i M
     place_is i over = (
-      place_of (setting_of c) (scalars_subring c) Finite (IsPolynomial c) (IsPrimeTo c p) p' O order (P i) (prime i) over (λ a m. m) i.rows 𝓘.generators own 𝓘.spanned,
+      place_of (setting_of c) (scalars_subring c) Finite (IsPolynomial c) (IsPrimeTo c p) p' O order (P i) (prime i)
+          over (λ a m. m) i.rows 𝓘.generators own 𝓘.spanned,
       record {
         place =
-            place_of_is_place (setting_of c) (scalars_subring c) Finite (IsPolynomial c) (IsPrimeTo c p) p' O order (P i) (prime i) over (λ a m. m)
+            place_of_is_place (setting_of c) (scalars_subring c) Finite (IsPolynomial c) (IsPrimeTo c p) p' O order
+            (P i) (prime i) over (λ a m. m)
             i.rows 𝓘.generators own 𝓘.spanned;
         over = record { side = refl; member = (members p' p_order).1 over };
         members = members;
@@ -106,27 +109,38 @@ module _ {k : CodeField} (c : Equation k) where
         own z = (λ m. m, λ m. m)
 
         members : (z : FunctionOf c) → O z
-            → IsIn (setting_of c) (place_of (setting_of c) (scalars_subring c) Finite (IsPolynomial c) (IsPrimeTo c p) p' O order (P i) (prime i) over (λ a m. m) i.rows 𝓘.generators own 𝓘.spanned) z
+            → IsIn (setting_of c) (place_of (setting_of c) (scalars_subring c) Finite (IsPolynomial c)
+            (IsPrimeTo c p) p' O order (P i) (prime i) over (λ a m. m) i.rows 𝓘.generators own 𝓘.spanned) z
             ↔ P i z
         members =
-            place_of_members (setting_of c) (scalars_subring c) Finite (IsPolynomial c) (IsPrimeTo c p) p' O order (P i) (prime i) over (λ a m. m)
+            place_of_members (setting_of c) (scalars_subring c) Finite (IsPolynomial c) (IsPrimeTo c p) p' O order
+            (P i) (prime i) over (λ a m. m)
             i.rows 𝓘.generators own 𝓘.spanned
 
     decided : (i : RecordedPrime c O) (M : Place (FunctionOf c)) → IsPlaceOfPrime c O p i M → (u : FunctionOf c) → O u
         → IsIn (setting_of c) M u ⊎ (¬ (IsIn (setting_of c) M u))
-    decided i M m u u_in = elim ((prime i).decide u u_in) [ inl a ↦ inl ((m.members u u_in).1 a) | inr n ↦ inr (λ a. n ((m.members u u_in).0 a)) ]
+    decided i M m u u_in =
+        elim ((prime i).decide u u_in)
+        [ inl a ↦ inl ((m.members u u_in).1 a) | inr n ↦ inr (λ a. n ((m.members u u_in).0 a)) ]
 
     -- a place is known from its prime
-    once : (i : RecordedPrime c O) (M N : Place (FunctionOf c)) → IsPlaceOfPrime c O p i M → IsPlaceOfPrime c O p i N → IsSamePlace (setting_of c) M N
+    once : (i : RecordedPrime c O) (M N : Place (FunctionOf c)) → IsPlaceOfPrime c O p i M → IsPlaceOfPrime c O p i N
+        → IsSamePlace (setting_of c) M N
     once i M N m n =
-        same_by_order (setting_of c) (scalars_subring c) M N (IsPolynomial c) (IsPrimeTo c p) p' O (over_order M m) (over_order N n)
+        same_by_order (setting_of c) (scalars_subring c) M N (IsPolynomial c) (IsPrimeTo c p) p' O (over_order M m)
+        (over_order N n)
         (m.over.side ∙ sym n.over.side)
-        (λ z z_in. (λ a. (n.members z z_in).1 ((m.members z z_in).0 a), λ a. (m.members z z_in).1 ((n.members z z_in).0 a)))
+        (λ z z_in. (
+          λ a. (n.members z z_in).1 ((m.members z z_in).0 a),
+          λ a. (m.members z z_in).1 ((n.members z z_in).0 a),
+        ))
       where
-        over_order : (M : Place (FunctionOf c)) → IsPlaceOfPrime c O p i M → IsPlaceOver (setting_of c) M (IsPolynomial c) (IsPrimeTo c p) (of_poly c p) O
+        over_order : (M : Place (FunctionOf c)) → IsPlaceOfPrime c O p i M
+            → IsPlaceOver (setting_of c) M (IsPolynomial c) (IsPrimeTo c p) (of_poly c p) O
         over_order M m = record {
           place = m.place;
-          order = subst (λ s. IsOrderAt (setting_of c) s (IsPolynomial c) (IsPrimeTo c p) (of_poly c p) O) (sym m.over.side) order;
+          order = subst (λ s. IsOrderAt (setting_of c) s (IsPolynomial c) (IsPrimeTo c p) (of_poly c p) O)
+              (sym m.over.side) order;
           over = m.over.member;
           decide = decided i M m;
         }
@@ -155,7 +169,8 @@ module _ {k : CodeField} (c : Equation k) where
           → HasRamification (setting_of c) (finite c gs) (of_poly c p) i.exponent
       unfolding pair
       ramified_at v =
-          (valuation_iff (setting_of c) (scalars_subring c) (finite c gs) m.place (IsPolynomial c) (IsPrimeTo c p) O p' order m.over.member
+          (valuation_iff (setting_of c) (scalars_subring c) (finite c gs) m.place (IsPolynomial c) (IsPrimeTo c p) O
+          p' order m.over.member
           (decided i (finite c gs) m) pair p' (pos i.exponent)).1
           (record {
             unit = v.unit;
@@ -174,7 +189,8 @@ module _ {k : CodeField} (c : Equation k) where
 
       sum : (l u r x z v : FunctionOf c) → l ⊗ u ⊕ r ⊗ x ≡ 𝟙 → l ⊗ (u ⊗ z) ⊕ ⊖ v ⊕ (r ⊗ z) ⊗ x ≡ z ⊕ ⊖ v
       sum l u r x z v e =
-          from_one (ring_of c) z e (ring (ring_of c) (l ∷ u ∷ r ∷ x ∷ z ∷ v ∷ []) λ o g. simp (reads, o, g 0, g 1, g 2, g 3, g 4, g 5) (o.equal _ _ refl))
+          from_one (ring_of c) z e (ring (ring_of c) (l ∷ u ∷ r ∷ x ∷ z ∷ v ∷ []) λ o g. simp
+          (reads, o, g 0, g 1, g 2, g 3, g 4, g 5) (o.equal _ _ refl))
 
       -- classes of the order modulo the prime are classes of the integral functions modulo the place
       degree_at : HasDegree (setting_of c) (finite c gs) i.degree
@@ -193,27 +209,35 @@ module _ {k : CodeField} (c : Equation k) where
                   s.1,
                   subst M (sum b.left a.factor b.right p' z s.0 b.is)
                       (𝓜.sum_in _ _ ((m.members _ ((prime i).ideal.within _ s.2)).1 s.2)
-                      (m.place.ideal (b.right ⊗ z) p' (integral_product b.right z (order.integral b.right (order.base b.right b.right_in)) z_in) m.over.member)),
+                      (m.place.ideal (b.right ⊗ z) p'
+                      (integral_product b.right z (order.integral b.right (order.base b.right b.right_in)) z_in)
+                      m.over.member)),
                 );
             independent = λ cs size all a.
                 deg.independent cs size all
                 ((m.members _ (combination_in O 𝓞 order.base cs deg.classes all deg.members)).0 a);
           }
 
-    ramified_is : (i : RecordedPrime c O) → ValueIs (ring_of c).ops O (P i) ((recorded_family c p h O 𝓞).pair i) (of_poly c p) (pos i.exponent)
-        → (M : Place (FunctionOf c)) → IsPlaceOfPrime c O p i M → HasRamification (setting_of c) M (of_poly c p) i.exponent
+    ramified_is : (i : RecordedPrime c O)
+        → ValueIs (ring_of c).ops O (P i) ((recorded_family c p h O 𝓞).pair i) (of_poly c p) (pos i.exponent)
+        → (M : Place (FunctionOf c)) → IsPlaceOfPrime c O p i M
+        → HasRamification (setting_of c) M (of_poly c p) i.exponent
     ramified_is i v M m =
-        on_side (setting_of c) (scalars_subring c) Finite (λ M. IsPlaceOfPrime c O p i M → HasRamification (setting_of c) M (of_poly c p) i.exponent)
+        on_side (setting_of c) (scalars_subring c) Finite
+        (λ M. IsPlaceOfPrime c O p i M → HasRamification (setting_of c) M (of_poly c p) i.exponent)
         (λ gs n. ramified_at i gs n v) M m.over.side m
 
-    degree_is : (i : RecordedPrime c O) (M : Place (FunctionOf c)) → IsPlaceOfPrime c O p i M → HasDegree (setting_of c) M i.degree
+    degree_is : (i : RecordedPrime c O) (M : Place (FunctionOf c)) → IsPlaceOfPrime c O p i M
+        → HasDegree (setting_of c) M i.degree
     degree_is i M m =
-        on_side (setting_of c) (scalars_subring c) Finite (λ M. IsPlaceOfPrime c O p i M → HasDegree (setting_of c) M i.degree)
+        on_side (setting_of c) (scalars_subring c) Finite
+        (λ M. IsPlaceOfPrime c O p i M → HasDegree (setting_of c) M i.degree)
         (λ gs n. degree_at i gs n) M m.over.side m
 
     -- ---- every place over p
 
-    every : (gs : List (FunctionOf c)) → IsPlace (setting_of c) (finite c gs) → IsIn (setting_of c) (finite c gs) (of_poly c p)
+    every : (gs : List (FunctionOf c)) → IsPlace (setting_of c) (finite c gs)
+        → IsIn (setting_of c) (finite c gs) (of_poly c p)
         → Any (λ i. IsPlaceOfPrime c O p i (finite c gs)) ps
     every gs place m_in =
         any_weaker (λ i. SameSet (P i) Q) (λ i. IsPlaceOfPrime c O p i (finite c gs))
@@ -223,31 +247,38 @@ module _ {k : CodeField} (c : Equation k) where
           members = λ z z_in. (λ a. (s z).1 (z_in, a), λ a. ((s z).0 a).1);
         }) ps
         (prime_in_system (ring_of c) O 𝓞.ring p' p_order I P (recorded_family c p h O 𝓞) Q 𝓠
-        (order_generators c p h O 𝓞 Q (ideal_lattice c p h O 𝓞 Q 𝓠.ideal (p_order, m_in) 𝓠.decide)) ps sys (p_order, m_in))
+        (order_generators c p h O 𝓞 Q (ideal_lattice c p h O 𝓞 Q 𝓠.ideal (p_order, m_in) 𝓠.decide)) ps sys
+        (p_order, m_in))
       where
         Q : FunctionOf c → Type 0
         Q = InPrime (setting_of c) (finite c gs) O
 
         𝓠 : IsPrime (ring_of c).ops O (InPrime (setting_of c) (finite c gs) O)
         𝓠 =
-            prime_at_order (setting_of c) (scalars_subring c) (finite c gs) place (IsPolynomial c) (IsPrimeTo c p) O p' order m_in
+            prime_at_order (setting_of c) (scalars_subring c) (finite c gs) place (IsPolynomial c) (IsPrimeTo c p) O
+            p' order m_in
             (λ u u_in. (place_prime c gs place).decide u (order.integral u u_in))
 
     pub order_places : ArePrimesOfPlaces c O p ps
     order_places = record {
-      places = All-weaker (λ i. P i p') (λ i. (M : Place (FunctionOf c)) × IsPlaceOfPrime c O p i M) place_is ps sys.over;
+      places =
+          All-weaker (λ i. P i p') (λ i. (M : Place (FunctionOf c)) × IsPlaceOfPrime c O p i M) place_is ps sys.over;
       once = once;
       ramified =
-          All-weaker (λ i. ValueIs (ring_of c).ops O (P i) ((recorded_family c p h O 𝓞).pair i) (of_poly c p) (pos i.exponent))
-          (λ i. (M : Place (FunctionOf c)) → IsPlaceOfPrime c O p i M → HasRamification (setting_of c) M (of_poly c p) i.exponent) ramified_is ps
+          All-weaker (λ i. ValueIs (ring_of c).ops O (P i) ((recorded_family c p h O 𝓞).pair i) (of_poly c p)
+          (pos i.exponent))
+          (λ i. (M : Place (FunctionOf c)) → IsPlaceOfPrime c O p i M
+          → HasRamification (setting_of c) M (of_poly c p) i.exponent) ramified_is ps
           (record_values c p h O 𝓞 ps valid);
       degrees =
-          All-weaker (λ i. P i p') (λ i. (M : Place (FunctionOf c)) → IsPlaceOfPrime c O p i M → HasDegree (setting_of c) M i.degree)
+          All-weaker (λ i. P i p') (λ i. (M : Place (FunctionOf c)) → IsPlaceOfPrime c O p i M
+          → HasDegree (setting_of c) M i.degree)
           (λ i over. degree_is i) ps sys.over;
       different = λ i j d l m M N a b s.
           let t = apart i j d l m in
           let first_in = (get_or ps i d).field.ideal.within t.first t.first_in in
-          t.first_out ((b.members t.first first_in).0 ((s.members t.first).0 ((a.members t.first first_in).1 t.first_in)));
+          t.first_out ((b.members t.first first_in).0
+          ((s.members t.first).0 ((a.members t.first first_in).1 t.first_in)));
       complete = λ M place over.
           on_side (setting_of c) (scalars_subring c) Finite
           (λ M. IsPlace (setting_of c) M → IsIn (setting_of c) M (of_poly c p) → Any (λ i. IsPlaceOfPrime c O p i M) ps)

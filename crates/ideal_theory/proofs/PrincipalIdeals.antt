@@ -37,7 +37,8 @@ module _ {E : Type 0} (S : Setting E) where
   pub value_along : (P Q : Place E) → IsSamePlace S P Q → (z : E) (m : ℤ) → HasValuation S Q z m → HasValuation S P z m
   value_along P Q e z m v = go Q.side e.side (λ x. ((e.members x).1, (e.members x).0)) v
     where
-      go : (s : Side) → P.side ≡ s → ((x : E) → IsIn S (record { side = Q.side; generators = Q.generators }) x ↔ IsIn S P x)
+      go : (s : Side) → P.side ≡ s
+          → ((x : E) → IsIn S (record { side = Q.side; generators = Q.generators }) x ↔ IsIn S P x)
           → HasValuation S (record { side = Q.side; generators = Q.generators }) z m → HasValuation S P z m
       go s f same =
           subst (λ r. ((x : E) → IsIn S (record { side = r; generators = Q.generators }) x ↔ IsIn S P x)
@@ -45,7 +46,8 @@ module _ {E : Type 0} (S : Setting E) where
           (λ same v. value_same S P.side Q.generators P.generators same z m v) same
 
   -- D(P) is the number of an entry at P, or there is none and it is 0
-  pub locate : (T : Place E → ℤ → Type 0) → (D : Divisor E) (P : Place E) (m : ℤ) → All (λ e. T e.place e.times) D → HasMultiplicity S D P m
+  pub locate : (T : Place E → ℤ → Type 0) → (D : Divisor E) (P : Place E) (m : ℤ) → All (λ e. T e.place e.times) D
+      → HasMultiplicity S D P m
       → ((Q : Place E) × IsSamePlace S P Q × T Q m) ⊎ ((m ≡ pos 0) × All (λ e. ¬ IsSamePlace S P e.place) D)
   locate T [] P m h t = inr (t, All-nil (λ e. ¬ IsSamePlace S P e.place))
   locate T (e ∷ D) P m h (inl t) = inl (e.place, t.0, subst (T e.place) t.1 (All-head (λ e. T e.place e.times) e D h))
@@ -57,7 +59,8 @@ module _ {E : Type 0} (S : Setting E) where
       go (inr r) = inr (r.0, All-cons (λ e. ¬ IsSamePlace S P e.place) e D t.0 r.1)
 
   -- a place can't be in a list and differ from all in it
-  pub not_both : (D : Divisor E) (P : Place E) → Any (λ e. IsSamePlace S e.place P) D → All (λ e. ¬ IsSamePlace S P e.place) D → ⊥
+  pub not_both : (D : Divisor E) (P : Place E) → Any (λ e. IsSamePlace S e.place P) D
+      → All (λ e. ¬ IsSamePlace S P e.place) D → ⊥
   not_both [] P a h = any_none (λ e. IsSamePlace S e.place P) a
   not_both (e ∷ D) P a h =
       elim (any_cases (λ e. IsSamePlace S e.place P) e D a) [
@@ -66,11 +69,16 @@ module _ {E : Type 0} (S : Setting E) where
       ]
 
 module _ {k : CodeField} (c : Equation k) (some : ¬ (discriminant c ≡ (polynomials k).𝟘)) (s : Side)
-    (prime : (P : Place (FunctionOf c)) → IsPlace (setting_of c) P → P.side ≡ s → IsPrime (ring_of c).ops (IsIntegralAt (setting_of c) s) (IsIn (setting_of c) P))
-    (invertible : (P : Place (FunctionOf c)) → IsPlace (setting_of c) P → P.side ≡ s → Invertible (ring_of c).ops (IsIntegralAt (setting_of c) s) (IsIn (setting_of c) P))
-    (regular : (z : FunctionOf c) → ((P : Place (FunctionOf c)) → IsPlace (setting_of c) P → P.side ≡ s → HasValuationAtLeast (setting_of c) P z (pos 0))
+    (prime : (P : Place (FunctionOf c)) → IsPlace (setting_of c) P → P.side ≡ s
+    → IsPrime (ring_of c).ops (IsIntegralAt (setting_of c) s) (IsIn (setting_of c) P))
+    (invertible : (P : Place (FunctionOf c)) → IsPlace (setting_of c) P → P.side ≡ s
+    → Invertible (ring_of c).ops (IsIntegralAt (setting_of c) s) (IsIn (setting_of c) P))
+    (regular : (z : FunctionOf c)
+    → ((P : Place (FunctionOf c)) → IsPlace (setting_of c) P → P.side ≡ s
+    → HasValuationAtLeast (setting_of c) P z (pos 0))
     → IsIntegralAt (setting_of c) s z)
-    (value : (P : Place (FunctionOf c)) → IsPlace (setting_of c) P → P.side ≡ s → (z y : FunctionOf c) → (ring_of c).◌⊗◌ z y ≡ (ring_of c).𝟙
+    (value : (P : Place (FunctionOf c)) → IsPlace (setting_of c) P → P.side ≡ s → (z y : FunctionOf c)
+    → (ring_of c).◌⊗◌ z y ≡ (ring_of c).𝟙
     → (m : ℤ) × HasValuation (setting_of c) P z m) where
   infixl 70 ◌⊗◌
   open ring_of c use {𝟙, ◌⊗◌}
@@ -84,41 +92,50 @@ module _ {k : CodeField} (c : Equation k) (some : ¬ (discriminant c ≡ (polyno
   abbrev On : Type 0
   On = PlaceOn (setting_of c) (scalars_subring c) s prime invertible
 
-  decided : (P Q : PlaceOn (setting_of c) (scalars_subring c) s prime invertible) → Dec (IsSamePlace (setting_of c) P.0 Q.0)
+  decided : (P Q : PlaceOn (setting_of c) (scalars_subring c) s prime invertible)
+      → Dec (IsSamePlace (setting_of c) P.0 Q.0)
   decided = same_decided (setting_of c) (scalars_subring c) s prime invertible
 
   -- the inverse of a function has the opposite value
-  opposite_value : (P : Place (FunctionOf c)) → IsPlace (setting_of c) P → P.side ≡ s → (z y : FunctionOf c) → z ⊗ y ≡ 𝟙 → (m : ℤ) → HasValuation (setting_of c) P z m
+  opposite_value : (P : Place (FunctionOf c)) → IsPlace (setting_of c) P → P.side ≡ s → (z y : FunctionOf c) → z ⊗ y
+      ≡ 𝟙 → (m : ℤ) → HasValuation (setting_of c) P z m
       → HasValuationAtLeast (setting_of c) P y (neg_ℤ m)
   opposite_value P place e z y inverse m v =
       let n = value P place e y z ((ring_of c).mul_comm y z ∙ inverse) in
       let one = subst (λ x. HasValuation S P x (m +ℤ n.0)) inverse (product_rule k c P some place z y m n.0 v n.1) in
-      let zero = valuation_of_outside S (scalars_subring c) P place 𝟙 (side_ring S (scalars_subring c) P.side).one_in place.proper in
+      let zero = valuation_of_outside S (scalars_subring c) P place 𝟙 (side_ring S (scalars_subring c) P.side).one_in
+      place.proper in
       at_least_weaker S (scalars_subring c) P place y n.0 (neg_ℤ m)
       (opposite_of m n.0 (valuation_unique S (scalars_subring c) P place 𝟙 (m +ℤ n.0) (pos 0) one zero)) n.1.reached
 
-  module _ (z y : FunctionOf c) (inverse : z ⊗ y ≡ 𝟙) (D : Divisor (FunctionOf c)) (d : IsDivisorOf (setting_of c) s D z) where
-    to_ideal : (w : FunctionOf c) → Multiple (ring_of c).ops z (IsIntegralAt (setting_of c) s) w → DivisorIdeal (setting_of c) s D w
+  module _ (z y : FunctionOf c) (inverse : z ⊗ y ≡ 𝟙) (D : Divisor (FunctionOf c))
+      (d : IsDivisorOf (setting_of c) s D z) where
+    to_ideal : (w : FunctionOf c) → Multiple (ring_of c).ops z (IsIntegralAt (setting_of c) s) w
+        → DivisorIdeal (setting_of c) s D w
     to_ideal w h =
         ideal_of_values S (scalars_subring c) s prime invertible D d.on regular w
         (λ P place e m t.
         subst (λ x. HasValuationAtLeast S P x m) (sym h.is)
         (at_least_weaker S (scalars_subring c) P place (z ⊗ h.quotient) (m +ℤ pos 0) m (omega (arith, ints))
         (at_least_product S (scalars_subring c) P place z h.quotient m (pos 0) (d.values P place e m t).reached
-        (at_least_of_integral S (scalars_subring c) P place h.quotient (subst (λ r. IsIntegralAt S r h.quotient) (sym e) h.quotient_in)))))
+        (at_least_of_integral S (scalars_subring c) P place h.quotient
+        (subst (λ r. IsIntegralAt S r h.quotient) (sym e) h.quotient_in)))))
 
-    of_ideal : (w : FunctionOf c) → DivisorIdeal (setting_of c) s D w → Multiple (ring_of c).ops z (IsIntegralAt (setting_of c) s) w
+    of_ideal : (w : FunctionOf c) → DivisorIdeal (setting_of c) s D w
+        → Multiple (ring_of c).ops z (IsIntegralAt (setting_of c) s) w
     of_ideal w i = record {
       quotient = y ⊗ w;
       quotient_in =
           regular (y ⊗ w)
           (λ P place e.
           let t = multiplicity_exists S D P
-          (All-weaker (λ e. IsPlace S e.place × (e.place.side ≡ s)) (λ e. Dec (IsSamePlace S P e.place)) (λ f p. decided (P, place, e) (f.place, p.0, p.1)) D
+          (All-weaker (λ e. IsPlace S e.place × (e.place.side ≡ s)) (λ e. Dec (IsSamePlace S P e.place))
+          (λ f p. decided (P, place, e) (f.place, p.0, p.1)) D
           (both (λ e. IsPlace S e.place) (λ e. e.place.side ≡ s) D d.on.divisor.places d.on.sides)) in
           let v = d.values P place e t.0 t.1 in
           at_least_weaker S (scalars_subring c) P place (y ⊗ w) (neg_ℤ t.0 +ℤ t.0) (pos 0) (cancels t.0)
-          (at_least_product S (scalars_subring c) P place y w (neg_ℤ t.0) t.0 (opposite_value P place e z y inverse t.0 v)
+          (at_least_product S (scalars_subring c) P place y w (neg_ℤ t.0) t.0
+          (opposite_value P place e z y inverse t.0 v)
           (values_of_ideal S (scalars_subring c) s prime invertible D d.on w i P place e t.0 t.1)));
       is = sym (one_mul (ring_of c) w) ∙ ap (λ x. x ⊗ w) (sym inverse) ∙ (ring_of c).mul_assoc z y w;
     }
@@ -126,7 +143,8 @@ module _ {k : CodeField} (c : Equation k) (some : ¬ (discriminant c ≡ (polyno
         cancels : (m : ℤ) → pos 0 ≤ℤ (neg_ℤ m +ℤ m)
         cancels m = omega (arith, ints)
 
-    pub principal : SameSet (DivisorIdeal (setting_of c) s D) (Multiple (ring_of c).ops z (IsIntegralAt (setting_of c) s))
+    pub principal : SameSet (DivisorIdeal (setting_of c) s D)
+        (Multiple (ring_of c).ops z (IsIntegralAt (setting_of c) s))
     principal w = (of_ideal w, to_ideal w)
 
   -- the divisor, from a list of places that has each place with another value than 0
@@ -136,17 +154,21 @@ module _ {k : CodeField} (c : Equation k) (some : ¬ (discriminant c ≡ (polyno
       on : All (λ e. IsPlace (setting_of c) e.place × (e.place.side ≡ s)) divisor
       apart : AllPairs (λ e e'. ¬ IsSamePlace (setting_of c) e.place e'.place) divisor
       values : All (λ e. HasValuation (setting_of c) e.place z e.times) divisor
-      covers : (P : Place (FunctionOf c)) → Any (λ Q. IsSamePlace (setting_of c) Q.0 P) ps → Any (λ e. IsSamePlace (setting_of c) e.place P) divisor
+      covers : (P : Place (FunctionOf c)) → Any (λ Q. IsSamePlace (setting_of c) Q.0 P) ps
+          → Any (λ e. IsSamePlace (setting_of c) e.place P) divisor
 
     abbrev Fits : Entry (FunctionOf c) → Type 0
     Fits e = IsPlace (setting_of c) e.place × (e.place.side ≡ s)
 
-    find : (Q : PlaceOn (setting_of c) (scalars_subring c) s prime invertible) (D : Divisor (FunctionOf c)) → All (λ e. IsPlace (setting_of c) e.place × (e.place.side ≡ s)) D
+    find : (Q : PlaceOn (setting_of c) (scalars_subring c) s prime invertible) (D : Divisor (FunctionOf c))
+        → All (λ e. IsPlace (setting_of c) e.place × (e.place.side ≡ s)) D
         → Any (λ e. IsSamePlace (setting_of c) e.place Q.0) D ⊎ All (λ e. ¬ IsSamePlace (setting_of c) Q.0 e.place) D
     find Q [] h = inr (All-nil (λ e. ¬ IsSamePlace S Q.0 e.place))
-    find Q (e ∷ D) h = let p = All-head Fits e D h in go (decided Q (e.place, p.0, p.1)) (find Q D (All-tail Fits e D h))
+    find Q (e ∷ D) h = let p = All-head Fits e D h in
+        go (decided Q (e.place, p.0, p.1)) (find Q D (All-tail Fits e D h))
       where
-        go : Dec (IsSamePlace S Q.0 e.place) → Any (λ e. IsSamePlace S e.place Q.0) D ⊎ All (λ e. ¬ IsSamePlace S Q.0 e.place) D
+        go : Dec (IsSamePlace S Q.0 e.place) → Any (λ e. IsSamePlace S e.place Q.0) D
+            ⊎ All (λ e. ¬ IsSamePlace S Q.0 e.place) D
             → Any (λ e. IsSamePlace S e.place Q.0) (e ∷ D) ⊎ All (λ e. ¬ IsSamePlace S Q.0 e.place) (e ∷ D)
         go (yes t) r = inl (any_here (λ e. IsSamePlace S e.place Q.0) e D (same_place_sym S Q.0 e.place t))
         go (no n) (inl r) = inl (any_there (λ e. IsSamePlace S e.place Q.0) e D r)
@@ -162,7 +184,8 @@ module _ {k : CodeField} (c : Equation k) (some : ¬ (discriminant c ≡ (polyno
     }
     thin (Q ∷ ps) = by (thin ps)
       where
-        go : (t : Thinned ps) → Any (λ e. IsSamePlace S e.place Q.0) t.divisor ⊎ All (λ e. ¬ IsSamePlace S Q.0 e.place) t.divisor → Thinned (Q ∷ ps)
+        go : (t : Thinned ps) → Any (λ e. IsSamePlace S e.place Q.0) t.divisor
+            ⊎ All (λ e. ¬ IsSamePlace S Q.0 e.place) t.divisor → Thinned (Q ∷ ps)
         go t (inl a) = record {
           divisor = t.divisor;
           on = t.on;
@@ -170,7 +193,8 @@ module _ {k : CodeField} (c : Equation k) (some : ¬ (discriminant c ≡ (polyno
           values = t.values;
           covers = λ P h.
               elim (any_cases (λ Q. IsSamePlace S Q.0 P) Q ps h) [
-                | inl r ↦ any_weaker (λ e. IsSamePlace S e.place Q.0) (λ e. IsSamePlace S e.place P) (λ e u. same_place_trans S e.place Q.0 P u r) t.divisor a
+                | inl r ↦ any_weaker (λ e. IsSamePlace S e.place Q.0) (λ e. IsSamePlace S e.place P)
+                    (λ e u. same_place_trans S e.place Q.0 P u r) t.divisor a
                 | inr r ↦ t.covers P r
               ];
         }
@@ -196,19 +220,30 @@ module _ {k : CodeField} (c : Equation k) (some : ¬ (discriminant c ≡ (polyno
         → ((P : Place (FunctionOf c)) → IsPlace (setting_of c) P → P.side ≡ s
         → HasValuation (setting_of c) P z (pos 0) ⊎ Any (λ Q. IsSamePlace (setting_of c) Q.0 P) ps)
         → (D : Divisor (FunctionOf c)) × IsDivisorOf (setting_of c) s D z
-    divisor_of_function ps listed = (t.divisor, record { on = on; values = λ P place e m h. at P place e m (locate S (λ P m. HasValuation S P z m) t.divisor P m t.values h) })
+    divisor_of_function ps listed = (
+      t.divisor,
+      record {
+        on = on;
+        values = λ P place e m h. at P place e m (locate S (λ P m. HasValuation S P z m) t.divisor P m t.values h);
+      },
+    )
       where
         t : Thinned ps
         t = thin ps
 
         on : IsDivisorOn S s t.divisor
         on = record {
-          divisor = record { places = All-weaker Fits (λ e. IsPlace S e.place) (λ e p. p.0) t.divisor t.on; different = t.apart };
+          divisor =
+              record {
+                places = All-weaker Fits (λ e. IsPlace S e.place) (λ e p. p.0) t.divisor t.on;
+                different = t.apart;
+              };
           sides = All-weaker Fits (λ e. e.place.side ≡ s) (λ e p. p.1) t.divisor t.on;
         }
 
         at : (P : Place (FunctionOf c)) → IsPlace S P → P.side ≡ s → (m : ℤ)
-            → ((Q : Place (FunctionOf c)) × IsSamePlace S P Q × HasValuation S Q z m) ⊎ ((m ≡ pos 0) × All (λ e. ¬ IsSamePlace S P e.place) t.divisor)
+            → ((Q : Place (FunctionOf c)) × IsSamePlace S P Q × HasValuation S Q z m)
+            ⊎ ((m ≡ pos 0) × All (λ e. ¬ IsSamePlace S P e.place) t.divisor)
             → HasValuation S P z m
         at P place e m (inl r) = value_along S P r.0 r.1 z m r.2
         at P place e m (inr r) =

@@ -1,4 +1,5 @@
--- An order with the powers of y that has a record at each irreducible polynomial whose square divides the discriminant is the maximal order.
+-- An order with the powers of y that has a record at each irreducible polynomial whose square divides the discriminant
+-- is the maximal order.
 use Rattle.std.proofs.Common.{◌≡◌, ℕ, zero, suc, ◌<◌, List, refl, sym, ◌∙◌, subst, arith}
 use Rattle.std.proofs.lemmas.List.Elements.{All-weaker}
 use Rattle.ring_theory.specs.Ring.{pow}
@@ -29,7 +30,8 @@ use Rattle.infinite_theory.proofs.SupportedLattices.{sum_in}
 module _ {k : CodeField} (c : Equation k) where
   -- a module over the polynomials with 1, y, up to y^(n-1) has k[x][y]
   pub coordinates_in : (L : FunctionOf c → Type 0) → IsModule (ring_of c).ops (IsPolynomial c) L
-      → ((i : ℕ) → i < degree_of_y c → L (pow (ring_of c).ops (y_of c) i)) → (z : FunctionOf c) → HasPolynomialCoordinates c z → L z
+      → ((i : ℕ) → i < degree_of_y c → L (pow (ring_of c).ops (y_of c) i)) → (z : FunctionOf c)
+      → HasPolynomialCoordinates c z → L z
   coordinates_in L 𝓛 has z m =
       subst L
       (sym (m.value ∙ sym (at_y_plain c m.coordinates)
@@ -38,20 +40,26 @@ module _ {k : CodeField} (c : Equation k) where
       (λ i l. 𝓛.scale_in (of_poly c (entry (polynomials k).ops (degree_of_y c) i m.coordinates)) _
       (record { polynomial = entry (polynomials k).ops (degree_of_y c) i m.coordinates; value = refl }) (has i l)))
 
-  module _ (O : FunctionOf c → Type 0) (𝓞 : IsOrder c O) (has : (i : ℕ) → i < degree_of_y c → O (pow (ring_of c).ops (y_of c) i))
+  module _ (O : FunctionOf c → Type 0) (𝓞 : IsOrder c O)
+      (has : (i : ℕ) → i < degree_of_y c → O (pow (ring_of c).ops (y_of c) i))
       (some : ¬ (discriminant c ≡ (polynomials k).𝟘)) where
     -- maximal at those polynomials, it is the maximal order
-    pub maximal_everywhere : ((p : Polynomial k) → IsIrreducible k.ops (codes_of k p) → IsDivisor (polynomials k).ops ((polynomials k).◌⊗◌ p p) (discriminant c)
+    pub maximal_everywhere : ((p : Polynomial k) → IsIrreducible k.ops (codes_of k p)
+        → IsDivisor (polynomials k).ops ((polynomials k).◌⊗◌ p p) (discriminant c)
         → MaximalAt (ring_of c).ops (of_poly c p) (Int c) O) → SameSet O (Int c)
     maximal_everywhere at z = (
       order_integral c O 𝓞 z,
       let f = factors c (discriminant c) some in
           maximal_order c O 𝓞.ring (coordinates_in O (lattice_module c O 𝓞.lattice) has) f.list f.divides f.irreducible
           (All-weaker (λ p. IsIrreducible k.ops (codes_of k p))
-          (λ p. IsDivisor (polynomials k).ops ((polynomials k).◌⊗◌ p p) (discriminant c) → MaximalAt (ring_of c).ops (of_poly c p) (Int c) O)
+          (λ p. IsDivisor (polynomials k).ops ((polynomials k).◌⊗◌ p p) (discriminant c)
+          → MaximalAt (ring_of c).ops (of_poly c p) (Int c) O)
           (λ p h d. at p h d) f.list f.irreducible) z,
     )
 
-    pub recorded_everywhere : ((p : Polynomial k) → IsIrreducible k.ops (codes_of k p) → IsDivisor (polynomials k).ops ((polynomials k).◌⊗◌ p p) (discriminant c)
+    pub recorded_everywhere :
+        ((p : Polynomial k) → IsIrreducible k.ops (codes_of k p)
+        → IsDivisor (polynomials k).ops ((polynomials k).◌⊗◌ p p) (discriminant c)
         → (ps : List (RecordedPrime c O)) × IsRecordAt c O p ps) → SameSet O (Int c)
-    recorded_everywhere records = maximal_everywhere (λ p h d. let r = records p h d in record_maximal c p h O 𝓞 r.0 r.1)
+    recorded_everywhere records =
+        maximal_everywhere (λ p h d. let r = records p h d in record_maximal c p h O 𝓞 r.0 r.1)

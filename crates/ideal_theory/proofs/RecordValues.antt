@@ -4,7 +4,7 @@ use Rattle.std.proofs.lemmas.List.Elements.{All-nil, All-cons, All-head, All-tai
 use Rattle.prime_theory.specs.Ideals.{SameSet}
 use Rattle.prime_theory.specs.IntegerValues.{ValueIs}
 use Rattle.prime_theory.specs.Primes.{AtLeast}
-use Rattle.prime_theory.specs.Systems.{IsFamily, IsSystem, Distinct}
+use Rattle.prime_theory.specs.Systems.{IsFamily, IsSystem, AreDistinctPrimes}
 use Rattle.prime_theory.proofs.Factorisation.{values_of_entries}
 use Rattle.prime_theory.proofs.IntegerFactors.{entries_integers, ramification_of}
 use Rattle.prime_theory.proofs.Valuation.{ge_bounded}
@@ -39,8 +39,11 @@ module _ {I : Type 0} (e f d : I → ℕ) (some : (i : I) → 1 ≤ d i) where
       let rest = All-tail (λ i. f i ≤ e i) i is h in
       let a : f i * d i ≤ e i * d i = mul-le-mul_right (d i) l in
       let b = total_le is rest in
-      All-cons (λ i. f i ≡ e i) i is (equal l (order (f i) (e i)) (let s : e i * d i + total e d is ≡ f i * d i + total f d is = t in omega (arith, a, b, s)))
-      (equal_exponents is rest (let s : e i * d i + total e d is ≡ f i * d i + total f d is = t in omega (arith, a, b, s)))
+      All-cons (λ i. f i ≡ e i) i is
+      (equal l (order (f i) (e i))
+      (let s : e i * d i + total e d is ≡ f i * d i + total f d is = t in omega (arith, a, b, s)))
+      (equal_exponents is rest (let s : e i * d i + total e d is ≡ f i * d i + total f d is = t in
+      omega (arith, a, b, s)))
     where
       order : (m n : ℕ) → (suc m ≤ n) ⊎ (n ≤ m)
       order m n = grind arith
@@ -53,7 +56,8 @@ module _ {I : Type 0} (e f d : I → ℕ) (some : (i : I) → 1 ≤ d i) where
           let c = some i in
           absurd (omega (arith, a, b, c, p))
 
-module _ {k : CodeField} (c : Equation k) (p : Polynomial k) (h : IsIrreducible k.ops (codes_of k p)) (O : FunctionOf c → Type 0) (𝓞 : IsOrder c O)
+module _ {k : CodeField} (c : Equation k) (p : Polynomial k) (h : IsIrreducible k.ops (codes_of k p))
+    (O : FunctionOf c → Type 0) (𝓞 : IsOrder c O)
     (ps : List (RecordedPrime c O)) (valid : IsRecordAt c O p ps) where
   open ring_of c use {ops, 𝟙, ◌⊗◌}
 
@@ -69,7 +73,7 @@ module _ {k : CodeField} (c : Equation k) (p : Polynomial k) (h : IsIrreducible 
   sys : IsSystem (ring_of c).ops O (of_poly c p) (RecordedPrime c O) (IdealOf c p h O 𝓞) ps
   sys = record_system c p h O 𝓞 ps valid
 
-  apart : Distinct (IdealOf c p h O 𝓞) ps
+  apart : AreDistinctPrimes (IdealOf c p h O 𝓞) ps
   apart = record_distinct c p h O 𝓞 ps valid
 
   abbrev p_int : O (of_poly c p)
@@ -86,12 +90,16 @@ module _ {k : CodeField} (c : Equation k) (p : Polynomial k) (h : IsIrreducible 
   -- they are at least the exponents of the record
   bounded : All (λ i. i.exponent ≤ r.0 i) ps
   bounded =
-      All-weaker (λ i. AtLeast ops O (P i) (fam.pair i).tau (fam.pair i).gamma (of_poly c p) i.exponent 0) (λ i. i.exponent ≤ r.0 i)
+      All-weaker (λ i. AtLeast ops O (P i) (fam.pair i).tau (fam.pair i).gamma (of_poly c p) i.exponent 0)
+      (λ i. i.exponent ≤ r.0 i)
       (λ i v.
-      let l = ge_bounded (ring_of c) O 𝓞.ring (P i) (fam.prime i) (fam.pair i) (of_poly c p) (r.0 i) 0 i.exponent 0 (r.1 i) v in
+      let l = ge_bounded (ring_of c) O 𝓞.ring (P i) (fam.prime i) (fam.pair i) (of_poly c p) (r.0 i) 0 i.exponent 0
+      (r.1 i) v in
       omega (arith, l)) ps
-      (values_of_entries (ring_of c) O 𝓞.ring (of_poly c p) p_int I P fam (λ i. i.exponent) (λ i. 0) ps apart (of_poly c p)
-      ((entries_integers (ring_of c) O 𝓞.ring (of_poly c p) p_int I P fam (λ i. i.exponent) (λ i. 0) (λ i. pos i.exponent) (λ i. refl) ps (of_poly c p)).1
+      (values_of_entries (ring_of c) O 𝓞.ring (of_poly c p) p_int I P fam (λ i. i.exponent) (λ i. 0) ps apart
+      (of_poly c p)
+      ((entries_integers (ring_of c) O 𝓞.ring (of_poly c p) p_int I P fam (λ i. i.exponent) (λ i. 0)
+      (λ i. pos i.exponent) (λ i. refl) ps (of_poly c p)).1
       ((record_powers c p h O 𝓞 ps valid (of_poly c p)).0
       (record { quotient = 𝟙; quotient_in = 𝓞.ring.one_in; is = sym ((ring_of c).mul_one (of_poly c p)) }))))
 
@@ -114,7 +122,10 @@ module _ {k : CodeField} (c : Equation k) (p : Polynomial k) (h : IsIrreducible 
       equal_exponents r.0 (λ i. i.exponent) (λ i. i.degree) positive_degree ps bounded
       (index_once c X O a.0.lattice _ _ a.1 (index_same c Y X O O same (λ z. (λ m. m, λ m. m)) _ b.1))
 
-  pub record_values : All (λ i. ValueIs (ring_of c).ops O (RowSpan c i.rows) ((recorded_family c p h O 𝓞).pair i) (of_poly c p) (pos i.exponent)) ps
+  pub record_values : All (λ i. ValueIs (ring_of c).ops O (RowSpan c i.rows) ((recorded_family c p h O 𝓞).pair i)
+      (of_poly c p) (pos i.exponent)) ps
   record_values =
-      All-weaker (λ i. i.exponent ≡ r.0 i) (λ i. ValueIs (ring_of c).ops O (P i) (fam.pair i) (of_poly c p) (pos i.exponent))
-      (λ i e. subst (λ n. ValueIs (ring_of c).ops O (P i) (fam.pair i) (of_poly c p) (pos n)) (sym e) (r.1 i)) ps exponents
+      All-weaker (λ i. i.exponent ≡ r.0 i)
+      (λ i. ValueIs (ring_of c).ops O (P i) (fam.pair i) (of_poly c p) (pos i.exponent))
+      (λ i e. subst (λ n. ValueIs (ring_of c).ops O (P i) (fam.pair i) (of_poly c p) (pos n)) (sym e) (r.1 i)) ps
+      exponents

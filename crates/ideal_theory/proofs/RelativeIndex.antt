@@ -22,20 +22,36 @@ module _ {k : CodeField} (c : Equation k) where
   Sum A B = IsSum (space_ops c) A B
 
   in_left : (A B : FunctionOf c → Type 0) → IsLattice c B → (z : FunctionOf c) → A z → IsSum (space_ops c) A B z
-  in_left A B 𝓑 z h = record { left = z; left_in = h; right = 𝟘; right_in = (lattice_module c B 𝓑).zero_in; is = sym ((ring_of c).add_zero z) }
+  in_left A B 𝓑 z h =
+      record {
+        left = z;
+        left_in = h;
+        right = 𝟘;
+        right_in = (lattice_module c B 𝓑).zero_in;
+        is = sym ((ring_of c).add_zero z);
+      }
 
   in_right : (A B : FunctionOf c → Type 0) → IsLattice c A → (z : FunctionOf c) → B z → IsSum (space_ops c) A B z
-  in_right A B 𝓐 z h = record { left = 𝟘; left_in = (lattice_module c A 𝓐).zero_in; right = z; right_in = h; is = sym (zero_add (ring_of c) z) }
+  in_right A B 𝓐 z h =
+      record {
+        left = 𝟘;
+        left_in = (lattice_module c A 𝓐).zero_in;
+        right = z;
+        right_in = h;
+        is = sym (zero_add (ring_of c) z);
+      }
 
   -- read off any larger lattice
-  pub relative_in : (A B C : FunctionOf c → Type 0) → IsLattice c C → ((z : FunctionOf c) → A z → C z) → ((z : FunctionOf c) → B z → C z) → (g h : ℕ) (m : ℤ)
+  pub relative_in : (A B C : FunctionOf c → Type 0) → IsLattice c C → ((z : FunctionOf c) → A z → C z)
+      → ((z : FunctionOf c) → B z → C z) → (g h : ℕ) (m : ℤ)
       → HasIndex c A C g → HasIndex c B C h → m ≡ pos g -ℤ pos h → HasRelativeIndex c A B m
   relative_in A B C 𝓒 f f' g h m i j e = record {
     larger = 𝓒.generators;
     lattice = record {
       generators = 𝓒.generators;
       spanned = λ z. (λ x. x, λ x. x);
-      full = λ z. let t = 𝓒.full z in record { factor = t.factor; some = t.some; multiple_in = (𝓒.spanned _).0 t.multiple_in };
+      full = λ z. let t = 𝓒.full z in
+          record { factor = t.factor; some = t.some; multiple_in = (𝓒.spanned _).0 t.multiple_in };
     };
     has_first = λ z x. (𝓒.spanned z).0 (f z x);
     has_second = λ z x. (𝓒.spanned z).0 (f' z x);
@@ -57,7 +73,8 @@ module _ {k : CodeField} (c : Equation k) where
         )
 
     -- it is that in each larger lattice
-    pub relative_at : (m : ℤ) → HasRelativeIndex c A B m → (C : FunctionOf c → Type 0) → IsLattice c C → ((z : FunctionOf c) → A z → C z)
+    pub relative_at : (m : ℤ) → HasRelativeIndex c A B m → (C : FunctionOf c → Type 0) → IsLattice c C
+        → ((z : FunctionOf c) → A z → C z)
         → ((z : FunctionOf c) → B z → C z) → (g h : ℕ) → HasIndex c A C g → HasIndex c B C h → m ≡ pos g -ℤ pos h
     relative_at m r C 𝓒 f f' g h i j =
         let L : FunctionOf c → Type 0 = Span (ring_of c).ops (IsPolynomial c) r.larger in
@@ -77,10 +94,12 @@ module _ {k : CodeField} (c : Equation k) where
     pub relative_once : (m n : ℤ) → HasRelativeIndex c A B m → HasRelativeIndex c A B n → m ≡ n
     relative_once m n r s =
         let e : n ≡ pos s.first -ℤ pos s.second = s.is in
-        let d = relative_at m r (Span (ring_of c).ops (IsPolynomial c) s.larger) s.lattice s.has_first s.has_second s.first s.second s.first_index s.second_index in
+        let d = relative_at m r (Span (ring_of c).ops (IsPolynomial c) s.larger) s.lattice s.has_first s.has_second
+        s.first s.second s.first_index s.second_index in
         omega (arith, ints)
 
-    pub relative_add : (C : FunctionOf c → Type 0) → IsLattice c C → (m n : ℤ) → HasRelativeIndex c A B m → HasRelativeIndex c B C n → HasRelativeIndex c A C (m +ℤ n)
+    pub relative_add : (C : FunctionOf c → Type 0) → IsLattice c C → (m n : ℤ) → HasRelativeIndex c A B m
+        → HasRelativeIndex c B C n → HasRelativeIndex c A C (m +ℤ n)
     relative_add C 𝓒 m n r s =
         let L : FunctionOf c → Type 0 = Span (ring_of c).ops (IsPolynomial c) r.larger in
         let M : FunctionOf c → Type 0 = Span (ring_of c).ops (IsPolynomial c) s.larger in
@@ -95,21 +114,27 @@ module _ {k : CodeField} (c : Equation k) where
         (index_add c B M U 𝓑 s.lattice 𝓤 s.has_first right _ _ s.first_index v.1) in
         let d : m ≡ pos r.first -ℤ pos r.second = r.is in
         let e : n ≡ pos s.first -ℤ pos s.second = s.is in
-        relative_in A C U 𝓤 (λ z x. left z (r.has_first z x)) (λ z x. right z (s.has_second z x)) (r.first + u.0) (s.second + v.0) (m +ℤ n)
+        relative_in A C U 𝓤 (λ z x. left z (r.has_first z x)) (λ z x. right z (s.has_second z x)) (r.first + u.0)
+        (s.second + v.0) (m +ℤ n)
         (index_add c A L U 𝓐 r.lattice 𝓤 r.has_first left _ _ r.first_index u.1)
         (index_add c C M U 𝓒 s.lattice 𝓤 s.has_second right _ _ s.second_index v.1) (omega (arith, ints))
 
-  pub relative_same : (A A' B B' : FunctionOf c → Type 0) → SameSet A A' → SameSet B B' → (m : ℤ) → HasRelativeIndex c A B m → HasRelativeIndex c A' B' m
+  pub relative_same : (A A' B B' : FunctionOf c → Type 0) → SameSet A A' → SameSet B B' → (m : ℤ)
+      → HasRelativeIndex c A B m → HasRelativeIndex c A' B' m
   relative_same A A' B B' f f' m r =
       let L : FunctionOf c → Type 0 = Span (ring_of c).ops (IsPolynomial c) r.larger in
       let own : SameSet L L = λ z. (λ x. x, λ x. x) in
-      relative_in A' B' L r.lattice (λ z x. r.has_first z ((f z).1 x)) (λ z x. r.has_second z ((f' z).1 x)) r.first r.second m
+      relative_in A' B' L r.lattice (λ z x. r.has_first z ((f z).1 x)) (λ z x. r.has_second z ((f' z).1 x)) r.first
+      r.second m
       (index_same c A A' L L f own r.first r.first_index) (index_same c B B' L L f' own r.second r.second_index) r.is
 
   -- of a lattice within another it is the index
-  pub relative_of_index : (A B : FunctionOf c → Type 0) → IsLattice c B → ((z : FunctionOf c) → A z → B z) → (g : ℕ) → HasIndex c A B g → HasRelativeIndex c A B (pos g)
-  relative_of_index A B 𝓑 f g i = relative_in A B B 𝓑 f (λ z x. x) g 0 (pos g) i (index_none c B B 𝓑 (λ z x. x)) (omega (arith, ints))
+  pub relative_of_index : (A B : FunctionOf c → Type 0) → IsLattice c B → ((z : FunctionOf c) → A z → B z) → (g : ℕ)
+      → HasIndex c A B g → HasRelativeIndex c A B (pos g)
+  relative_of_index A B 𝓑 f g i =
+      relative_in A B B 𝓑 f (λ z x. x) g 0 (pos g) i (index_none c B B 𝓑 (λ z x. x)) (omega (arith, ints))
 
-  pub relative_back : (A B : FunctionOf c → Type 0) → IsLattice c A → ((z : FunctionOf c) → B z → A z) → (g : ℕ) → HasIndex c B A g
+  pub relative_back : (A B : FunctionOf c → Type 0) → IsLattice c A → ((z : FunctionOf c) → B z → A z) → (g : ℕ)
+      → HasIndex c B A g
       → HasRelativeIndex c A B (pos 0 -ℤ pos g)
   relative_back A B 𝓐 f g i = relative_in A B A 𝓐 (λ z x. x) f 0 g _ (index_none c A A 𝓐 (λ z x. x)) i refl

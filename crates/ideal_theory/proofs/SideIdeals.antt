@@ -33,26 +33,34 @@ module _ {k : CodeField} (c : Equation k) (some : ¬ (discriminant c ≡ (polyno
   infixl 70 ◌⊗◌
   open ring_of c use {ops, 𝟙, ◌⊗◌}
 
-  pub side_divisor : (s : Side) (z y : FunctionOf c) → z ⊗ y ≡ 𝟙 → (D : Divisor (FunctionOf c)) × IsDivisorOf (setting_of c) s D z
+  pub side_divisor : (s : Side) (z y : FunctionOf c) → z ⊗ y ≡ 𝟙 → (D : Divisor (FunctionOf c))
+      × IsDivisorOf (setting_of c) s D z
   side_divisor Finite z y inverse =
       let l = listed_places c some z y inverse in
-      divisor_of_function c some Finite (λ P place e. prime_of_place c P place e) (finite_invertible c some) (λ z h. (regular_functions c z some).0 h)
+      divisor_of_function c some Finite (λ P place e. prime_of_place c P place e) (finite_invertible c some)
+      (λ z h. (regular_functions c z some).0 h)
       (λ P place e z y i. value_at_place c some P place e z y i) z y inverse l.0 l.1
   side_divisor Infinite z y inverse =
       let l = all_listed k c some in
-      divisor_of_function c some Infinite (infinite_prime c) (infinite_invertible c some) (λ z h. (regular_integral k c some z).0 h)
-      (λ P place e z y i. value_exists k c some P place e z y i) z y inverse (map (λ T. (T.place, T.is, T.infinite)) l.0)
+      divisor_of_function c some Infinite (infinite_prime c) (infinite_invertible c some)
+      (λ z h. (regular_integral k c some z).0 h)
+      (λ P place e z y i. value_exists k c some P place e z y i) z y inverse
+      (map (λ T. (T.place, T.is, T.infinite)) l.0)
       (λ P place e.
-      inr (any_map (λ T. IsSamePlace (setting_of c) T.place P) (λ Q. IsSamePlace (setting_of c) Q.0 P) (λ T. (T.place, T.is, T.infinite)) (λ T s. s) l.0
+      inr (any_map (λ T. IsSamePlace (setting_of c) T.place P) (λ Q. IsSamePlace (setting_of c) Q.0 P)
+      (λ T. (T.place, T.is, T.infinite)) (λ T s. s) l.0
       (l.1.complete P place e)))
 
-  pub side_principal : (s : Side) (z y : FunctionOf c) → z ⊗ y ≡ 𝟙 → (D : Divisor (FunctionOf c)) → IsDivisorOf (setting_of c) s D z
+  pub side_principal : (s : Side) (z y : FunctionOf c) → z ⊗ y ≡ 𝟙 → (D : Divisor (FunctionOf c))
+      → IsDivisorOf (setting_of c) s D z
       → SameSet (DivisorIdeal (setting_of c) s D) (Multiple (ring_of c).ops z (IsIntegralAt (setting_of c) s))
   side_principal Finite z y inverse D d =
-      principal c some Finite (λ P place e. prime_of_place c P place e) (finite_invertible c some) (λ z h. (regular_functions c z some).0 h)
+      principal c some Finite (λ P place e. prime_of_place c P place e) (finite_invertible c some)
+      (λ z h. (regular_functions c z some).0 h)
       (λ P place e z y i. value_at_place c some P place e z y i) z y inverse D d
   side_principal Infinite z y inverse D d =
-      principal c some Infinite (infinite_prime c) (infinite_invertible c some) (λ z h. (regular_integral k c some z).0 h)
+      principal c some Infinite (infinite_prime c) (infinite_invertible c some)
+      (λ z h. (regular_integral k c some z).0 h)
       (λ P place e z y i. value_exists k c some P place e z y i) z y inverse D d
 
   -- the conditions of L(D) on a side are those of the ideal of -D
@@ -82,7 +90,8 @@ module _ {k : CodeField} (c : Equation k) (some : ¬ (discriminant c ≡ (polyno
       }
 
   -- each divisor of the finite side has a degree
-  total_degree : (D : Divisor (FunctionOf c)) → All (λ e. IsPlace (setting_of c) e.place × (e.place.side ≡ Finite)) D → (d : ℤ) × HasTotalDegree (setting_of c) D d
+  total_degree : (D : Divisor (FunctionOf c)) → All (λ e. IsPlace (setting_of c) e.place × (e.place.side ≡ Finite)) D
+      → (d : ℤ) × HasTotalDegree (setting_of c) D d
   total_degree [] h = (pos 0, none)
   total_degree (e ∷ D) h =
       let p = All-head OnFinite e D h in
@@ -91,7 +100,8 @@ module _ {k : CodeField} (c : Equation k) (some : ¬ (discriminant c ≡ (polyno
       (e.times *ℤ pos g.0 +ℤ r.0, entry g.0 g.1 r.1)
 
   -- the index of the ideal of a divisor is its degree
-  pub ideal_index : (D : Divisor (FunctionOf c)) (d : ℤ) → All (λ e. IsPlace (setting_of c) e.place × (e.place.side ≡ Finite)) D → HasTotalDegree (setting_of c) D d
+  pub ideal_index : (D : Divisor (FunctionOf c)) (d : ℤ)
+      → All (λ e. IsPlace (setting_of c) e.place × (e.place.side ≡ Finite)) D → HasTotalDegree (setting_of c) D d
       → IsInvertibleLattice c (Int c) (maximal_order c some) (DivisorIdeal (setting_of c) Finite D)
       × HasRelativeIndex c (DivisorIdeal (setting_of c) Finite D) (Int c) d
   ideal_index [] d h none =
@@ -102,29 +112,40 @@ module _ {k : CodeField} (c : Equation k) (some : ¬ (discriminant c ≡ (polyno
   ideal_index (e ∷ D) m h (entry {d} g degree rest) =
       let p = All-head OnFinite e D h in
       let r = ideal_index D d (All-tail OnFinite e D h) rest in
-      let t = prime_power_index c (Int c) (maximal_order c some) (IsIn (setting_of c) e.place) (prime_of_place c e.place p.0 p.1)
-      (place_invertible e.place p.0 p.1) g (index_of_degree c e.place p.0 p.1 g degree) e.times (DivisorIdeal (setting_of c) Finite D) r.0 in (
+      let t = prime_power_index c (Int c) (maximal_order c some) (IsIn (setting_of c) e.place)
+      (prime_of_place c e.place p.0 p.1)
+      (place_invertible e.place p.0 p.1) g (index_of_degree c e.place p.0 p.1 g degree) e.times
+      (DivisorIdeal (setting_of c) Finite D) r.0 in (
         t.0,
-        relative_add c (DivisorIdeal (setting_of c) Finite (e ∷ D)) (DivisorIdeal (setting_of c) Finite D) t.0.lattice r.0.lattice (Int c) (maximal_order c some).lattice
+        relative_add c (DivisorIdeal (setting_of c) Finite (e ∷ D)) (DivisorIdeal (setting_of c) Finite D)
+            t.0.lattice r.0.lattice (Int c) (maximal_order c some).lattice
             _ d t.1 r.1,
       )
 
   -- it is an invertible lattice, whatever the degrees
-  pub ideal_invertible : (D : Divisor (FunctionOf c)) → All (λ e. IsPlace (setting_of c) e.place × (e.place.side ≡ Finite)) D
+  pub ideal_invertible : (D : Divisor (FunctionOf c))
+      → All (λ e. IsPlace (setting_of c) e.place × (e.place.side ≡ Finite)) D
       → IsInvertibleLattice c (Int c) (maximal_order c some) (DivisorIdeal (setting_of c) Finite D)
   ideal_invertible D h = let d = total_degree D h in (ideal_index D d.0 h d.1).0
 
-  pub divisor_lattice : (D : Divisor (FunctionOf c)) → IsDivisorOn (setting_of c) Finite D → IsLattice c (DivisorIdeal (setting_of c) Finite D)
-  divisor_lattice D on = (ideal_invertible D (both (λ e. IsPlace (setting_of c) e.place) (λ e. e.place.side ≡ Finite) D on.divisor.places on.sides)).lattice
+  pub divisor_lattice : (D : Divisor (FunctionOf c)) → IsDivisorOn (setting_of c) Finite D
+      → IsLattice c (DivisorIdeal (setting_of c) Finite D)
+  divisor_lattice D on =
+      (ideal_invertible D (both (λ e. IsPlace (setting_of c) e.place) (λ e. e.place.side ≡ Finite) D
+      on.divisor.places on.sides)).lattice
 
-  pub divisor_index : (D : Divisor (FunctionOf c)) (d : ℤ) → IsDivisorOn (setting_of c) Finite D → HasTotalDegree (setting_of c) D d
+  pub divisor_index : (D : Divisor (FunctionOf c)) (d : ℤ) → IsDivisorOn (setting_of c) Finite D
+      → HasTotalDegree (setting_of c) D d
       → HasRelativeIndex c (DivisorIdeal (setting_of c) Finite D) (Int c) d
   divisor_index D d on total =
-      (ideal_index D d (both (λ e. IsPlace (setting_of c) e.place) (λ e. e.place.side ≡ Finite) D on.divisor.places on.sides) total).1
+      (ideal_index D d (both (λ e. IsPlace (setting_of c) e.place) (λ e. e.place.side ≡ Finite) D on.divisor.places
+      on.sides) total).1
 
   -- so the index of the multiples of a function is the degree of its divisor
-  pub principal_index : (z y : FunctionOf c) → z ⊗ y ≡ 𝟙 → (D : Divisor (FunctionOf c)) → IsDivisorOf (setting_of c) Finite D z → (d : ℤ)
+  pub principal_index : (z y : FunctionOf c) → z ⊗ y ≡ 𝟙 → (D : Divisor (FunctionOf c))
+      → IsDivisorOf (setting_of c) Finite D z → (d : ℤ)
       → HasTotalDegree (setting_of c) D d → HasRelativeIndex c (Multiple (ring_of c).ops z (Int c)) (Int c) d
   principal_index z y inverse D is d total =
-      relative_same c (DivisorIdeal (setting_of c) Finite D) (Multiple ops z (Int c)) (Int c) (Int c) (side_principal Finite z y inverse D is)
+      relative_same c (DivisorIdeal (setting_of c) Finite D) (Multiple ops z (Int c)) (Int c) (Int c)
+      (side_principal Finite z y inverse D is)
       (λ w. (λ m. m, λ m. m)) d (divisor_index D d is.on total)

@@ -22,7 +22,8 @@ module _ {E : Type 0} (S : Setting E) (s : Side) where
 
   -- v_P(z) ≥ D(P) at each place of the side
   abbrev pub HasValuesOf : Divisor E → E → Type 0
-  HasValuesOf D z = (P : Place E) → IsPlace S P → P.side ≡ s → (m : ℤ) → HasMultiplicity S D P m → HasValuationAtLeast S P z m
+  HasValuesOf D z = (P : Place E) → IsPlace S P → P.side ≡ s → (m : ℤ) → HasMultiplicity S D P m
+      → HasValuationAtLeast S P z m
 
   -- D(P) is v_P(z) at each place P of the side
   pub record IsDivisorOf (D : Divisor E) (z : E) : Type 0 where

@@ -1,4 +1,5 @@
--- Records of primes: data that show which primes of an order lie over an irreducible polynomial, and that the order is maximal there.
+-- Records of primes: data that show which primes of an order lie over an irreducible polynomial, and that the order is
+-- maximal there.
 use Rattle.std.specs.Prelude.{◌≡◌, ◌↔◌, ℕ, ◌+◌, ◌*◌, ◌-◌, ◌≤◌, List, [], ◌∷◌, length, All, AllPairs, ◌⊎◌}
 use Rattle.std.specs.List.{Any}
 use Rattle.ring_theory.specs.Subsets.{IsModule, Span, Product}
@@ -26,7 +27,8 @@ module _ {k : CodeField} (c : Equation k) (O : FunctionOf c → Type 0) where
       (p : Polynomial k) → IsIrreducible k.ops (codes_of k p)
       → MaximalAt (ring_of c).ops (of_poly c p) (IsIntegralAt (setting_of c) Finite) O ⊎ IsOrderUpTo c p O M
 
-  -- the rows of an ideal modulo which the order is a field, and those of its inverse, with an exponent and the index of the ideal
+  -- the rows of an ideal modulo which the order is a field, and those of its inverse, with an exponent and the index
+  -- of the ideal
   pub record RecordedPrime : Type 0 where
     pub rows : List (FunctionOf c)
     pub inverse_rows : List (FunctionOf c)
@@ -42,7 +44,8 @@ module _ {k : CodeField} (c : Equation k) (O : FunctionOf c → Type 0) where
   -- the product of the ideals with their exponents
   abbrev pub ProductOfPowers : List RecordedPrime → FunctionOf c → Type 0
   ProductOfPowers [] = O
-  ProductOfPowers (P ∷ ps) = Product (ring_of c).ops (Power (ring_of c).ops O (RowSpan c P.rows) P.exponent) (ProductOfPowers ps)
+  ProductOfPowers (P ∷ ps) =
+      Product (ring_of c).ops (Power (ring_of c).ops O (RowSpan c P.rows) P.exponent) (ProductOfPowers ps)
 
   -- the sum of the exponents times the indices
   abbrev pub sum_of_record : List RecordedPrime → ℕ
@@ -59,8 +62,10 @@ module _ {k : CodeField} (c : Equation k) (O : FunctionOf c → Type 0) where
 abbrev pub place_of_rows : {E : Type 0} → List E → Place E
 place_of_rows gs = record { side = Finite; generators = gs }
 
--- the rows of a record span the places over p, each once, with its exponents as their ramification indices, and its numbers as their degrees
-pub record AreAllPlaces {k : CodeField} (c : Equation k) (p : Polynomial k) (ps : List (RecordedPrime c (IsIntegralAt (setting_of c) Finite))) : Type 0 where
+-- the rows of a record span the places over p, each once, with its exponents as their ramification indices, and its
+-- numbers as their degrees
+pub record AreAllPlaces {k : CodeField} (c : Equation k) (p : Polynomial k)
+    (ps : List (RecordedPrime c (IsIntegralAt (setting_of c) Finite))) : Type 0 where
   pub places : All (λ P. IsPlace (setting_of c) (place_of_rows P.rows)) ps
   pub over : All (λ P. LiesOver (setting_of c) (place_of_rows P.rows) (of_poly c p)) ps
   pub ramified : All (λ P. HasRamification (setting_of c) (place_of_rows P.rows) (of_poly c p) P.exponent) ps
@@ -77,16 +82,19 @@ module _ {k : CodeField} (c : Equation k) (O : FunctionOf c → Type 0) (p : Pol
     pub over : LiesOver (setting_of c) M (of_poly c p)
     pub members : (z : FunctionOf c) → O z → IsIn (setting_of c) M z ↔ RowSpan c P.rows z
 
-  -- each prime of the list is that of one place over p, with its exponent as the ramification index and its number as the degree, and
-  -- each place over p is that of a prime of the list, different primes being those of different places
+  -- each prime of the list is that of one place over p, with its exponent as the ramification index and its number as
+  -- the degree, and each place over p is that of a prime of the list, different primes being those of different places
   pub record ArePrimesOfPlaces (ps : List (RecordedPrime c O)) : Type 0 where
     pub places : All (λ P. (M : Place (FunctionOf c)) × IsPlaceOfPrime P M) ps
-    pub once : (P : RecordedPrime c O) (M N : Place (FunctionOf c)) → IsPlaceOfPrime P M → IsPlaceOfPrime P N → IsSamePlace (setting_of c) M N
-    pub ramified : All (λ P. (M : Place (FunctionOf c)) → IsPlaceOfPrime P M → HasRamification (setting_of c) M (of_poly c p) P.exponent) ps
+    pub once : (P : RecordedPrime c O) (M N : Place (FunctionOf c)) → IsPlaceOfPrime P M → IsPlaceOfPrime P N
+        → IsSamePlace (setting_of c) M N
+    pub ramified : All (λ P. (M : Place (FunctionOf c)) → IsPlaceOfPrime P M
+        → HasRamification (setting_of c) M (of_poly c p) P.exponent) ps
     pub degrees : All (λ P. (M : Place (FunctionOf c)) → IsPlaceOfPrime P M → HasDegree (setting_of c) M P.degree) ps
     pub different :
         AllPairs
-        (λ P Q. (M N : Place (FunctionOf c)) → IsPlaceOfPrime P M → IsPlaceOfPrime Q N → ¬ IsSamePlace (setting_of c) M N) ps
+        (λ P Q. (M N : Place (FunctionOf c)) → IsPlaceOfPrime P M → IsPlaceOfPrime Q N
+        → ¬ IsSamePlace (setting_of c) M N) ps
     pub complete :
         (M : Place (FunctionOf c)) → IsPlace (setting_of c) M → LiesOver (setting_of c) M (of_poly c p)
         → Any (λ P. IsPlaceOfPrime P M) ps

@@ -18,8 +18,13 @@ number_below : (p : PresValue) (m : ℕ) → (c : ℕ) × IsNumberBelow p (m + 1
 number_below p zero = (0, record { enough = λ i l low. absurd (omega arith); least = λ d l. absurd (omega arith) })
 number_below p (suc m) = go (number_below p m) (length_at p (suc m)) refl
   where
-    go : (c : ℕ) × IsNumberBelow p (m + 1) c → (n : ℕ) → length_at p (suc m) ≡ n → (c : ℕ) × IsNumberBelow p (suc m + 1) c
-    go r zero e = (r.0, number_of_same p (suc m) r.0 (subst (λ b. IsNumberBelow p b r.0) (let s : m + 1 ≡ suc m = omega arith in s) r.1) e)
+    go : (c : ℕ) × IsNumberBelow p (m + 1) c → (n : ℕ) → length_at p (suc m) ≡ n → (c : ℕ)
+        × IsNumberBelow p (suc m + 1) c
+    go r zero e = (
+      r.0,
+      number_of_same p (suc m) r.0
+          (subst (λ b. IsNumberBelow p b r.0) (let s : m + 1 ≡ suc m = omega arith in s) r.1) e,
+    )
     go r (suc d) e = (
       max r.0 (div_ceil d (suc m)),
       number_of_more p (suc m) r.0 d (max r.0 (div_ceil d (suc m))) (omega arith)
@@ -39,12 +44,14 @@ unfolding reversed_from
 reversed_length n c i [] = refl
 reversed_length n c i (a ∷ vs) = ap suc (reversed_length n c (suc i) vs)
 
-reversed_at : (n c i : ℕ) (vs : List (List ℕ)) (j : ℕ) → j < length vs → get_or (reversed_from n c i vs) j [] ≡ reversed_of (get_or vs j []) (c * (n - (i + j)) + 1)
+reversed_at : (n c i : ℕ) (vs : List (List ℕ)) (j : ℕ) → j < length vs → get_or (reversed_from n c i vs) j []
+    ≡ reversed_of (get_or vs j []) (c * (n - (i + j)) + 1)
 unfolding reversed_from
 reversed_at n c i [] j l = absurd (omega arith)
 reversed_at n c i (a ∷ vs) zero l = ap (λ m. reversed_of a (c * (n - m) + 1)) (let e : i ≡ i + 0 = omega arith in e)
 reversed_at n c i (a ∷ vs) (suc j) l =
-    reversed_at n c (suc i) vs j (omega arith) ∙ ap (λ m. reversed_of (get_or vs j []) (c * (n - m) + 1)) (let e : suc i + j ≡ i + suc j = omega arith in e)
+    reversed_at n c (suc i) vs j (omega arith)
+    ∙ ap (λ m. reversed_of (get_or vs j []) (c * (n - m) + 1)) (let e : suc i + j ≡ i + suc j = omega arith in e)
 
 module _ (k : CodeField) where
   infinite_exists : (p : PresValue) → length p.coeffs ≡ p.n → (c : ℕ) × (q : PresValue) × IsInfinitePresentation k p c q
@@ -54,7 +61,8 @@ module _ (k : CodeField) where
         c.0,
         q,
         infinite_is k p c.0 q c.1 refl (reversed_length p.n c.0 0 p.coeffs ∙ one_each)
-            (λ i l. reversed_at p.n c.0 0 p.coeffs i (omega (arith, l, one_each)) ∙ ap (λ m. reversed_of (get_or p.coeffs i []) (c.0 * (p.n - m) + 1)) (let e : 0 + i ≡ i = omega arith in e))
+            (λ i l. reversed_at p.n c.0 0 p.coeffs i (omega (arith, l, one_each))
+            ∙ ap (λ m. reversed_of (get_or p.coeffs i []) (c.0 * (p.n - m) + 1)) (let e : 0 + i ≡ i = omega arith in e))
             one_each,
       )
 
@@ -79,12 +87,18 @@ module _ (k : CodeField) where
   equation_back : (e : Equation k) → equation_of k (listed e) ≡ e
   unfolding listed
   equation_back e =
-      ap (λ m. record { lower_degree = m; coefficients = row_of_list k (suc m) (codes_of_row (suc e.lower_degree) e.coefficients) })
+      ap (λ m. record {
+        lower_degree = m;
+        coefficients = row_of_list k (suc m) (codes_of_row (suc e.lower_degree) e.coefficients);
+      })
       (let s : suc e.lower_degree - 1 ≡ e.lower_degree = omega arith in s)
-      ∙ ap (λ v. record { lower_degree = e.lower_degree; coefficients = v }) (row_back (suc e.lower_degree) e.coefficients)
+      ∙ ap (λ v. record { lower_degree = e.lower_degree; coefficients = v })
+      (row_back (suc e.lower_degree) e.coefficients)
 
   -- what holds of each curve with an infinite presentation holds of each equation
-  pub each_equation : (T : Equation k → Type 0) → ((p q : PresValue) (c : ℕ) → 1 ≤ p.n → IsInfinitePresentation k p c q → T (equation_of k p)) → (e : Equation k) → T e
+  pub each_equation : (T : Equation k → Type 0)
+      → ((p q : PresValue) (c : ℕ) → 1 ≤ p.n → IsInfinitePresentation k p c q → T (equation_of k p))
+      → (e : Equation k) → T e
   unfolding listed
   each_equation T t e =
       let r = infinite_exists (listed e) (row_length (suc e.lower_degree) e.coefficients) in

@@ -26,28 +26,38 @@ use Rattle.infinite_theory.proofs.LocalSpans.{locally_spanned_decided, locally_i
 
 module _ (k : CodeField) (p q : PresValue) (c : ℕ) (h : IsInfinitePresentation k p c q) (some : 1 ≤ p.n) where
   -- the discriminant of the infinite presentation is 0 only where that of the curve is
-  pub infinite_some : ¬ (discriminant (equation_of k p) ≡ (polynomials k).𝟘) → ¬ (discriminant (equation_of k q) ≡ (polynomials k).𝟘)
+  pub infinite_some : ¬ (discriminant (equation_of k p) ≡ (polynomials k).𝟘)
+      → ¬ (discriminant (equation_of k q) ≡ (polynomials k).𝟘)
   infinite_some d e =
       d
-      (polynomial_value (equation_of k p) (discriminant (equation_of k p)) (polynomials k).𝟘 (polynomials k).𝟙 (polynomials_domain k).one_not_zero
-      (cancelled (of_poly (equation_of k p) (discriminant (equation_of k p))) (pow (functions k p).ops (variable k p Infinite) m) (pow (functions k p).ops (variable k p Finite) m)
+      (polynomial_value (equation_of k p) (discriminant (equation_of k p)) (polynomials k).𝟘 (polynomials k).𝟙
+      (polynomials_domain k).one_not_zero
+      (cancelled (of_poly (equation_of k p) (discriminant (equation_of k p)))
+      (pow (functions k p).ops (variable k p Infinite) m) (pow (functions k p).ops (variable k p Finite) m)
       (powers_cancel k p m) null ∙ of_poly_zero (equation_of k p))
       ∙ mul_zero (polynomials k).ring (polynomials k).𝟙)
     where
       m : ℕ
       m = c * (p.n * (p.n - 1))
 
-      cancelled : (a t x : Functions k p) → (functions k p).◌⊗◌ x t ≡ (functions k p).𝟙 → (functions k p).◌⊗◌ a t ≡ (functions k p).𝟘 → a ≡ (functions k p).𝟘
+      cancelled : (a t x : Functions k p) → (functions k p).◌⊗◌ x t ≡ (functions k p).𝟙 → (functions k p).◌⊗◌ a t
+          ≡ (functions k p).𝟘 → a ≡ (functions k p).𝟘
       cancelled a t x i z =
-          sym ((functions k p).mul_one a) ∙ ap ((functions k p).◌⊗◌ a) (sym i) ∙ mul_left_comm (functions k p) a x t ∙ ap ((functions k p).◌⊗◌ x) z
+          sym ((functions k p).mul_one a) ∙ ap ((functions k p).◌⊗◌ a) (sym i) ∙ mul_left_comm (functions k p) a x t
+          ∙ ap ((functions k p).◌⊗◌ x) z
           ∙ mul_zero (functions k p) x
 
-      null : (functions k p).◌⊗◌ (of_poly (equation_of k p) (discriminant (equation_of k p))) (pow (functions k p).ops (variable k p Infinite) m) ≡ (functions k p).𝟘
+      null : (functions k p).◌⊗◌ (of_poly (equation_of k p) (discriminant (equation_of k p)))
+          (pow (functions k p).ops (variable k p Infinite) m) ≡ (functions k p).𝟘
       null =
-          sym (infinite_discriminant k p q c h some) ∙ sym (at_codes k p (variable k p Infinite) (discriminant (equation_of k q)))
-          ∙ ap (at k p (variable k p Infinite)) e ∙ hom_zero (polynomials k).ring (functions k p) (at k p (variable k p Infinite)) (at_hom k p (variable k p Infinite))
+          sym (infinite_discriminant k p q c h some)
+          ∙ sym (at_codes k p (variable k p Infinite) (discriminant (equation_of k q)))
+          ∙ ap (at k p (variable k p Infinite)) e
+          ∙ hom_zero (polynomials k).ring (functions k p) (at k p (variable k p Infinite))
+          (at_hom k p (variable k p Infinite))
 
-module _ (k : CodeField) (p q : PresValue) (c : ℕ) (f : Functions k q → Functions k p) (g : IsInfiniteMap k p q c f) where
+module _ (k : CodeField) (p q : PresValue) (c : ℕ) (f : Functions k q → Functions k p)
+    (g : IsInfiniteMap k p q c f) where
   abbrev lift : Functions k p → Functions k q
   lift w = back (functions k q) (functions k p) f g.isomorphism w
 
@@ -59,14 +69,17 @@ module _ (k : CodeField) (p q : PresValue) (c : ℕ) (f : Functions k q → Func
   map_lift (w ∷ ws) = ap₂ (λ x xs. x ∷ xs) (f_lift w) (map_lift ws)
 
   -- membership in a span over the fractions of degree at most 0 is decided
-  pub infinite_span_decided : (ws : List (Functions k p)) (w : Functions k p) → Dec (Span (functions k p).ops (IsFiniteAtInfinity (equation_of k p)) ws w)
-  infinite_span_decided ws w = go (locally_spanned_decided (equation_of k q) (x_poly k) (x_irreducible k) (map lift ws) (lift w))
+  pub infinite_span_decided : (ws : List (Functions k p)) (w : Functions k p)
+      → Dec (Span (functions k p).ops (IsFiniteAtInfinity (equation_of k p)) ws w)
+  infinite_span_decided ws w =
+      go (locally_spanned_decided (equation_of k q) (x_poly k) (x_irreducible k) (map lift ws) (lift w))
     where
       same : Span (functions k p).ops (IsFiniteAtInfinity (equation_of k p)) (map f (map lift ws)) (f (lift w))
           ≡ Span (functions k p).ops (IsFiniteAtInfinity (equation_of k p)) ws w
       same = ap₂ (Span (functions k p).ops (IsFiniteAtInfinity (equation_of k p))) (map_lift ws) (f_lift w)
 
-      go : Dec (IsLocallyIn (equation_of k q) (x_poly k) (Span (functions k q).ops (IsPolynomial (equation_of k q)) (map lift ws)) (lift w))
+      go : Dec (IsLocallyIn (equation_of k q) (x_poly k)
+          (Span (functions k q).ops (IsPolynomial (equation_of k q)) (map lift ws)) (lift w))
           → Dec (Span (functions k p).ops (IsFiniteAtInfinity (equation_of k p)) ws w)
       go (yes m) = yes (subst (λ T. T) same ((g.spans (map lift ws) (lift w)).0 m))
       go (no n) = no (λ m. n ((g.spans (map lift ws) (lift w)).1 (subst (λ T. T) (sym same) m)))
@@ -74,13 +87,17 @@ module _ (k : CodeField) (p q : PresValue) (c : ℕ) (f : Functions k q → Func
   -- so each infinite place has t
   pub infinite_has_t : (ws : List (Functions k p)) → IsPlace (setting k p) (infinite (equation_of k p) ws)
       → IsIn (setting k p) (infinite (equation_of k p) ws) (setting k p).one_over_x
-  infinite_has_t ws place = infinite_over_t (equation_of k p) ws place (infinite_span_decided ws (setting k p).one_over_x)
+  infinite_has_t ws place =
+      infinite_over_t (equation_of k p) ws place (infinite_span_decided ws (setting k p).one_over_x)
 
   -- membership in O_inf is decided
-  pub infinite_integral_decided : ¬ (discriminant (equation_of k q) ≡ (polynomials k).𝟘) → (w : Functions k p) → Dec (IsIntegralAt (setting k p) Infinite w)
+  pub infinite_integral_decided : ¬ (discriminant (equation_of k q) ≡ (polynomials k).𝟘) → (w : Functions k p)
+      → Dec (IsIntegralAt (setting k p) Infinite w)
   infinite_integral_decided some w =
-      go (locally_in_decided (equation_of k q) (x_poly k) (x_irreducible k) (IsIntegralAt (setting k q) Finite) (integral_lattice (equation_of k q) some) (lift w))
+      go (locally_in_decided (equation_of k q) (x_poly k) (x_irreducible k) (IsIntegralAt (setting k q) Finite)
+      (integral_lattice (equation_of k q) some) (lift w))
     where
-      go : Dec (IsLocallyIn (equation_of k q) (x_poly k) (IsIntegralAt (setting k q) Finite) (lift w)) → Dec (IsIntegralAt (setting k p) Infinite w)
+      go : Dec (IsLocallyIn (equation_of k q) (x_poly k) (IsIntegralAt (setting k q) Finite) (lift w))
+          → Dec (IsIntegralAt (setting k p) Infinite w)
       go (yes m) = yes (subst (IsIntegralAt (setting k p) Infinite) (f_lift w) ((g.integral (lift w)).0 m))
       go (no n) = no (λ m. n ((g.integral (lift w)).1 (subst (IsIntegralAt (setting k p) Infinite) (sym (f_lift w)) m)))

@@ -1,4 +1,5 @@
--- The infinite places are finitely many, and listed with their ramification and degrees: the fundamental equality over 1/x.
+-- The infinite places are finitely many, and listed with their ramification and degrees: the fundamental equality over
+-- 1/x.
 use Rattle.std.proofs.Common.{◌≡◌, ◌↔◌, ◌+◌, ◌*◌, ◌-◌, ℕ, List, [], ◌∷◌, map, pos, refl, sym, ◌∙◌, ap, subst, arith}
 use Rattle.std.specs.List.{Any}
 use Rattle.ff_fields.specs.Field.{CodeField}
@@ -35,11 +36,16 @@ module _ (k : CodeField) (p q : PresValue) (c : ℕ) (f : Functions k q → Func
   finite_is : (T : Over) → IsPlace (setting k q) (finite (equation_of k q) T.place.generators)
   finite_is T = subst (IsPlace (setting k q)) (as_finite T) T.is
 
-  finite_over : (T : Over) → IsIn (setting k q) (finite (equation_of k q) T.place.generators) (of_poly (equation_of k q) (x_poly k))
+  finite_over : (T : Over) → IsIn (setting k q) (finite (equation_of k q) T.place.generators)
+      (of_poly (equation_of k q) (x_poly k))
   finite_over T = subst (λ P. IsIn (setting k q) P (of_poly (equation_of k q) (x_poly k))) (as_finite T) T.over.member
 
-  finite_ramified : (T : Over) → HasValuation (setting k q) (finite (equation_of k q) T.place.generators) (of_poly (equation_of k q) (x_poly k)) (pos T.ramification)
-  finite_ramified T = subst (λ P. HasRamification (setting k q) P (of_poly (equation_of k q) (x_poly k)) T.ramification) (as_finite T) T.ramified
+  finite_ramified : (T : Over)
+      → HasValuation (setting k q) (finite (equation_of k q) T.place.generators)
+      (of_poly (equation_of k q) (x_poly k)) (pos T.ramification)
+  finite_ramified T =
+      subst (λ P. HasRamification (setting k q) P (of_poly (equation_of k q) (x_poly k)) T.ramification)
+      (as_finite T) T.ramified
 
   -- and gives an infinite place, with the same numbers
   entry : Over → InfinitePlace (setting k p)
@@ -49,8 +55,10 @@ module _ (k : CodeField) (p q : PresValue) (c : ℕ) (f : Functions k q → Func
     infinite = refl;
     ramification = T.ramification;
     ramified =
-        subst (λ w. HasValuation (setting k p) (pushed k p q c f g T.place.generators) w (pos T.ramification)) g.variable
-        (pushed_value k p q c f g T.place.generators (finite_is T) (finite_over T) some _ (pos T.ramification) (finite_ramified T));
+        subst (λ w. HasValuation (setting k p) (pushed k p q c f g T.place.generators) w (pos T.ramification))
+        g.variable
+        (pushed_value k p q c f g T.place.generators (finite_is T) (finite_over T) some _ (pos T.ramification)
+        (finite_ramified T));
     degree = T.degree;
     has_degree =
         pushed_degree k p q c f g T.place.generators (finite_is T) (finite_over T) T.degree
@@ -68,17 +76,21 @@ module _ (k : CodeField) (p q : PresValue) (c : ℕ) (f : Functions k q → Func
   unfolding infinite_places entry places
   all_infinite_places = record {
     different =
-        pairs_map (λ T T'. ¬ IsSamePlace (setting k q) T.place T'.place) (λ P P'. ¬ IsSamePlace (setting k p) P.place P'.place) entry different
-        (places_over_p (equation_of k q) some (x_poly k) (x_irreducible k)) (all_places_over (equation_of k q) some (x_poly k) (x_irreducible k)).different;
+        pairs_map (λ T T'. ¬ IsSamePlace (setting k q) T.place T'.place)
+        (λ P P'. ¬ IsSamePlace (setting k p) P.place P'.place) entry different
+        (places_over_p (equation_of k q) some (x_poly k) (x_irreducible k))
+        (all_places_over (equation_of k q) some (x_poly k) (x_irreducible k)).different;
     complete = λ P place e. at P.side e P.generators place;
   }
     where
-      different : (T T' : Over) → ¬ IsSamePlace (setting k q) T.place T'.place → ¬ IsSamePlace (setting k p) (entry T).place (entry T').place
+      different : (T T' : Over) → ¬ IsSamePlace (setting k q) T.place T'.place
+          → ¬ IsSamePlace (setting k p) (entry T).place (entry T').place
       different T T' n s =
           n
           (subst (λ P. IsSamePlace (setting k q) P T'.place) (sym (as_finite T))
           (subst (IsSamePlace (setting k q) (finite (equation_of k q) T.place.generators)) (sym (as_finite T'))
-          (pushed_same k p q c f g T.place.generators T'.place.generators (finite_is T) (finite_is T') (finite_over T) (finite_over T') s)))
+          (pushed_same k p q c f g T.place.generators T'.place.generators (finite_is T) (finite_is T')
+          (finite_over T) (finite_over T') s)))
 
       -- what is the same as a finite place gives the same infinite place
       same : (hs : List (Functions k q)) (T : Over) → IsSamePlace (setting k q) T.place (finite (equation_of k q) hs)
@@ -86,7 +98,8 @@ module _ (k : CodeField) (p q : PresValue) (c : ℕ) (f : Functions k q → Func
       same hs T s = record {
         side = refl;
         members = each k p q c f g
-            (λ w. IsIn (setting k p) (pushed k p q c f g T.place.generators) w ↔ IsIn (setting k p) (pushed k p q c f g hs) w)
+            (λ w. IsIn (setting k p) (pushed k p q c f g T.place.generators) w
+            ↔ IsIn (setting k p) (pushed k p q c f g hs) w)
             (λ z. (
               λ m. let l = (g.spans T.place.generators z).1 m in
                   (g.spans hs z).0
@@ -97,17 +110,21 @@ module _ (k : CodeField) (p q : PresValue) (c : ℕ) (f : Functions k q → Func
             ));
       }
         where
-          members : (z : Functions k q) → IsIn (setting k q) (finite (equation_of k q) T.place.generators) z ↔ IsIn (setting k q) (finite (equation_of k q) hs) z
+          members : (z : Functions k q) → IsIn (setting k q) (finite (equation_of k q) T.place.generators) z
+              ↔ IsIn (setting k q) (finite (equation_of k q) hs) z
           members = (subst (λ P. IsSamePlace (setting k q) P (finite (equation_of k q) hs)) (as_finite T) s).members
 
-      at : (s : Side) → s ≡ Infinite → (ws : List (Functions k p)) → IsPlace (setting k p) (record { side = s; generators = ws })
-          → Any (λ Q. IsSamePlace (setting k p) Q.place (record { side = s; generators = ws })) (map entry (places_over_p (equation_of k q) some (x_poly k) (x_irreducible k)))
+      at : (s : Side) → s ≡ Infinite → (ws : List (Functions k p))
+          → IsPlace (setting k p) (record { side = s; generators = ws })
+          → Any (λ Q. IsSamePlace (setting k p) Q.place (record { side = s; generators = ws }))
+          (map entry (places_over_p (equation_of k q) some (x_poly k) (x_irreducible k)))
       at Finite e ws place = absurd (cc)
       at Infinite e ws place =
           any_map (λ T. IsSamePlace (setting k q) T.place (finite (equation_of k q) (rows k p q c f g ws place some)))
           (λ Q. IsSamePlace (setting k p) Q.place (infinite (equation_of k p) ws)) entry
           (λ T s.
-          same_place_trans (setting k p) (entry T).place (pushed k p q c f g (rows k p q c f g ws place some)) (infinite (equation_of k p) ws)
+          same_place_trans (setting k p) (entry T).place (pushed k p q c f g (rows k p q c f g ws place some))
+          (infinite (equation_of k p) ws)
           (same (rows k p q c f g ws place some) T s) (pulled_same k p q c f g ws place some))
           (places_over_p (equation_of k q) some (x_poly k) (x_irreducible k))
           ((all_places_over (equation_of k q) some (x_poly k) (x_irreducible k)).complete
@@ -118,10 +135,12 @@ module _ (k : CodeField) (p q : PresValue) (c : ℕ) (f : Functions k q → Func
   pub sum_of_infinite_places : sum_of_infinite_degrees (setting k p) infinite_places ≡ degree_of_y (equation_of k q)
   unfolding infinite_places places entry
   sum_of_infinite_places =
-      go (places_over_p (equation_of k q) some (x_poly k) (x_irreducible k)) ∙ sum_of_places (equation_of k q) some (x_poly k) (x_irreducible k)
+      go (places_over_p (equation_of k q) some (x_poly k) (x_irreducible k))
+      ∙ sum_of_places (equation_of k q) some (x_poly k) (x_irreducible k)
       ∙ ap (λ l. degree_of_y (equation_of k q) * (l - 1)) (x_length k) ∙ (omega arith)
     where
       go : (ts : List (PlaceOver (setting k q) (of_poly (equation_of k q) (x_poly k))))
-          → sum_of_infinite_degrees (setting k p) (map entry ts) ≡ sum_of_degrees (setting k q) (of_poly (equation_of k q) (x_poly k)) ts
+          → sum_of_infinite_degrees (setting k p) (map entry ts)
+          ≡ sum_of_degrees (setting k q) (of_poly (equation_of k q) (x_poly k)) ts
       go [] = refl
       go (T ∷ ts) = ap (λ n. T.ramification * T.degree + n) (go ts)

@@ -1,5 +1,6 @@
--- The isomorphism between the functions of the infinite presentation and those of the curve carries the variable to t = 1/x, fractions with
--- denominators that the variable doesn't divide to those of degree at most 0, and what is integral, or spanned, over the ones to what is so over the others.
+-- The isomorphism between the functions of the infinite presentation and those of the curve carries the variable to t
+-- = 1/x, fractions with denominators that the variable doesn't divide to those of degree at most 0, and what is
+-- integral, or spanned, over the ones to what is so over the others.
 use Rattle.std.proofs.Common.{◌≡◌, ◌↔◌, ℕ, ◌≤◌, List, [], ◌∷◌, length, map, get_or, refl, sym, ◌∙◌, ap, ap₂, subst, arith}
 use Rattle.std.proofs.lemmas.List.{length-map}
 use Rattle.ring_theory.specs.Ring.{CommRing}
@@ -40,7 +41,9 @@ use Rattle.infinite_theory.specs.InfiniteMaps.{IsInfiniteMap}
 
 module _ (k : CodeField) where
   x_codes : codes_of k (x_poly k) ≡ 0 ∷ 1 ∷ []
-  x_codes = numbers_value k (0 ∷ 1 ∷ []) (IsOver_cons (zero_in k) (IsOver_cons k.laws.one_below IsOver_nil)) (record { trimmed = refl })
+  x_codes =
+      numbers_value k (0 ∷ 1 ∷ []) (IsOver_cons (zero_in k) (IsOver_cons k.laws.one_below IsOver_nil))
+      (record { trimmed = refl })
 
   pub x_length : length (x_poly k).0 ≡ 2
   x_length = sym (length-map (x_poly k).0 (λ x. x.0)) ∙ ap length x_codes
@@ -49,11 +52,13 @@ module _ (k : CodeField) where
   x_irreducible = record {
     monic = (0 ∷ [], x_codes);
     not_constant = let e : length (codes_of k (x_poly k)) ≡ 2 = ap length x_codes in omega arith;
-    no_divisor = λ b b_in b_monic long short. let e : length (codes_of k (x_poly k)) ≡ 2 = ap length x_codes in absurd (omega arith);
+    no_divisor = λ b b_in b_monic long short. let e : length (codes_of k (x_poly k)) ≡ 2 = ap length x_codes in
+        absurd (omega arith);
   }
 
   -- the variable divides what it has a factor of, and then the first code is 0
-  first_of_multiple : (a : Polynomial k) → IsDivisor (polynomials k).ops (x_poly k) a → coeff_of (code_ring k).ops a.0 0 ≡ (code_ring k).𝟘
+  first_of_multiple : (a : Polynomial k) → IsDivisor (polynomials k).ops (x_poly k) a
+      → coeff_of (code_ring k).ops a.0 0 ≡ (code_ring k).𝟘
   first_of_multiple a d =
       ap (λ b. coeff_of (code_ring k).ops b.0 0) d.1 ∙ series_mul (code_ring k) (x_poly k) d.0 0
       ∙ ap (λ s. (code_ring k).◌⊗◌ s (coeff_of (code_ring k).ops d.0.0 0)) low ∙ zero_mul (code_ring k).ring _
@@ -66,8 +71,10 @@ module _ (k : CodeField) where
   first_read (c ∷ w) h = read_code_below k c (IsOver_head h)
 
   -- a list that does not begin with 0 stands for no multiple of the variable
-  pub first_not_zero : (w : List ℕ) → IsOver k.ops w → ¬ (get_or w 0 0 ≡ 0) → ¬ (IsDivisor (polynomials k).ops (x_poly k) (value k w))
-  first_not_zero w w_in n d = n (sym (first_read w w_in) ∙ ap (λ x. x.0) (sym (series_read k w 0) ∙ first_of_multiple (value k w) d))
+  pub first_not_zero : (w : List ℕ) → IsOver k.ops w → ¬ (get_or w 0 0 ≡ 0)
+      → ¬ (IsDivisor (polynomials k).ops (x_poly k) (value k w))
+  first_not_zero w w_in n d =
+      n (sym (first_read w w_in) ∙ ap (λ x. x.0) (sym (series_read k w 0) ∙ first_of_multiple (value k w) d))
 
   -- a list that begins with 0 stands for a multiple
   pub first_zero : (w : List ℕ) → get_or w 0 0 ≡ 0 → IsDivisor (polynomials k).ops (x_poly k) (value k w)
@@ -76,12 +83,15 @@ module _ (k : CodeField) where
       let z : c ≡ 0 = e in (
         value k w,
         ap (λ a. value k (a ∷ w)) z ∙ value_cons k 0 w
-            ∙ ap (λ a. (polynomials k).◌⊕◌ a ((polynomials k).◌⊗◌ (x_poly k) (value k w))) (constant_zero k) ∙ zero_add (polynomials k).ring _,
+            ∙ ap (λ a. (polynomials k).◌⊕◌ a ((polynomials k).◌⊗◌ (x_poly k) (value k w))) (constant_zero k)
+            ∙ zero_add (polynomials k).ring _,
       )
 
 -- locally on the one side is locally on the other
-locally_map : {A B : Type 0} (R : CommRing A) (R' : CommRing B) (f : A → B) → IsIsomorphism R R' f → (N L : A → Type 0) (N' L' : B → Type 0)
-    → ((w : A) → N w ↔ N' (f w)) → ((z : A) → L z ↔ L' (f z)) → (z : A) → Locally R.ops N L z ↔ Locally R'.ops N' L' (f z)
+locally_map : {A B : Type 0} (R : CommRing A) (R' : CommRing B) (f : A → B) → IsIsomorphism R R' f
+    → (N L : A → Type 0) (N' L' : B → Type 0)
+    → ((w : A) → N w ↔ N' (f w)) → ((z : A) → L z ↔ L' (f z)) → (z : A) → Locally R.ops N L z
+    ↔ Locally R'.ops N' L' (f z)
 locally_map R R' f iso N L N' L' n l z = (
   λ m. record {
     factor = f m.factor;
@@ -108,12 +118,15 @@ module _ (k : CodeField) (p q : PresValue) (c : ℕ) (h : IsInfinitePresentation
   T = variable k p Infinite
 
   -- what the variable doesn't divide goes to what t doesn't divide
-  prime_map : (w : Functions k q) → IsPrimeTo (equation_of k q) (x_poly k) w ↔ IsPrimeToT k p (presentation_map k p q c h some w)
+  prime_map : (w : Functions k q) → IsPrimeTo (equation_of k q) (x_poly k) w
+      ↔ IsPrimeToT k p (presentation_map k p q c h some w)
   prime_map w = (
     λ m. record {
       codes = codes_of k m.polynomial;
       codes_over = IsOver_codes_of k m.polynomial;
-      first = λ e. m.not_divided (subst (IsDivisor (polynomials k).ops (x_poly k)) (value_codes_of k m.polynomial) (first_zero k (codes_of k m.polynomial) e));
+      first = λ e. m.not_divided
+          (subst (IsDivisor (polynomials k).ops (x_poly k)) (value_codes_of k m.polynomial)
+          (first_zero k (codes_of k m.polynomial) e));
       value = ap f m.value ∙ map_poly k p q c h some m.polynomial ∙ at_codes k p T m.polynomial;
     },
     λ m. record {
@@ -126,25 +139,31 @@ module _ (k : CodeField) (p q : PresValue) (c : ℕ) (h : IsInfinitePresentation
   )
 
   scalar_map : (z : Functions k q)
-      → IsLocallyIn (equation_of k q) (x_poly k) (IsPolynomial (equation_of k q)) z ↔ IsFiniteAtInfinity (equation_of k p) (presentation_map k p q c h some z)
+      → IsLocallyIn (equation_of k q) (x_poly k) (IsPolynomial (equation_of k q)) z
+      ↔ IsFiniteAtInfinity (equation_of k p) (presentation_map k p q c h some z)
   scalar_map z =
-      let e = locally_map (functions k q) (functions k p) f iso _ (IsPolynomial (equation_of k q)) _ (InReverse k p) prime_map (polynomial_iff k p q c h some) z in
+      let e = locally_map (functions k q) (functions k p) f iso _ (IsPolynomial (equation_of k q)) _ (InReverse k p)
+      prime_map (polynomial_iff k p q c h some) z in
       (λ m. (scalars_local k p (f z)).1 (e.0 m), λ m. e.1 ((scalars_local k p (f z)).0 m))
 
   integral_map : (z : Functions k q) → IsLocallyIn (equation_of k q) (x_poly k) (IsIntegralAt (setting k q) Finite) z
       ↔ IsIntegralAt (setting k p) Infinite (presentation_map k p q c h some z)
   integral_map z =
-      let e = locally_map (functions k q) (functions k p) f iso _ (IsIntegralAt (setting k q) Finite) _ (IsIntegral (functions k p).ops (InReverse k p)) prime_map (integral_reverse k p q c h some) z in
+      let e = locally_map (functions k q) (functions k p) f iso _ (IsIntegralAt (setting k q) Finite) _
+      (IsIntegral (functions k p).ops (InReverse k p)) prime_map (integral_reverse k p q c h some) z in
       (λ m. (integral_local k p (f z)).1 (e.0 m), λ m. e.1 ((integral_local k p (f z)).0 m))
 
   span_map : (gs : List (Functions k q)) (z : Functions k q)
       → IsLocallyIn (equation_of k q) (x_poly k) (Span (functions k q).ops (IsPolynomial (equation_of k q)) gs) z
-      ↔ Span (functions k p).ops (IsFiniteAtInfinity (equation_of k p)) (map (presentation_map k p q c h some) gs) (presentation_map k p q c h some z)
+      ↔ Span (functions k p).ops (IsFiniteAtInfinity (equation_of k p)) (map (presentation_map k p q c h some) gs)
+      (presentation_map k p q c h some z)
   span_map gs z =
       let e =
-      locally_map (functions k q) (functions k p) f iso _ (Span (functions k q).ops (IsPolynomial (equation_of k q)) gs) _
+      locally_map (functions k q) (functions k p) f iso _
+      (Span (functions k q).ops (IsPolynomial (equation_of k q)) gs) _
       (Span (functions k p).ops (InReverse k p) (map (presentation_map k p q c h some) gs)) prime_map
-      (span_iff (functions k q) (functions k p) f iso (IsPolynomial (equation_of k q)) (InReverse k p) (polynomial_iff k p q c h some) gs) z in
+      (span_iff (functions k q) (functions k p) f iso (IsPolynomial (equation_of k q)) (InReverse k p)
+      (polynomial_iff k p q c h some) gs) z in
       (λ m. (span_local k p (map f gs) (f z)).1 (e.0 m), λ m. e.1 ((span_local k p (map f gs) (f z)).0 m))
 
   -- the variable goes to t
@@ -152,18 +171,21 @@ module _ (k : CodeField) (p q : PresValue) (c : ℕ) (h : IsInfinitePresentation
   variable_map = map_poly k p q c h some (x_poly k) ∙ sym (value_at_is k p T (0 ∷ 1 ∷ [])) ∙ at_t
     where
       plain : (t : Functions k p)
-          → (functions k p).◌⊕◌ (functions k p).𝟘 ((functions k p).◌⊗◌ t ((functions k p).◌⊕◌ (functions k p).𝟙 ((functions k p).◌⊗◌ t (functions k p).𝟘))) ≡ t
+          → (functions k p).◌⊕◌ (functions k p).𝟘
+          ((functions k p).◌⊗◌ t ((functions k p).◌⊕◌ (functions k p).𝟙 ((functions k p).◌⊗◌ t (functions k p).𝟘))) ≡ t
       plain t = ring (functions k p) (t ∷ []) λ q i. simp (reads, q, i 0) (q.equal _ _ refl)
 
       zero_code : of_poly (equation_of k p) (constant_poly k 0) ≡ (functions k p).𝟘
-      zero_code = ap (of_poly (equation_of k p)) (constant_zero k) ∙ hom_zero (polynomials k).ring (functions k p) (of_poly (equation_of k p)) (poly_hom (equation_of k p))
+      zero_code = ap (of_poly (equation_of k p)) (constant_zero k)
+          ∙ hom_zero (polynomials k).ring (functions k p) (of_poly (equation_of k p)) (poly_hom (equation_of k p))
 
       one_code : of_poly (equation_of k p) (constant_poly k 1) ≡ (functions k p).𝟙
       one_code = ap (of_poly (equation_of k p)) (value_one k) ∙ (poly_hom (equation_of k p)).𝟙
 
       at_t : value_at k p (variable k p Infinite) (0 ∷ 1 ∷ []) ≡ variable k p Infinite
       at_t =
-          ap₂ (λ a b. (functions k p).◌⊕◌ a ((functions k p).◌⊗◌ T ((functions k p).◌⊕◌ b ((functions k p).◌⊗◌ T (functions k p).𝟘)))) zero_code one_code
+          ap₂ (λ a b. (functions k p).◌⊕◌ a
+          ((functions k p).◌⊗◌ T ((functions k p).◌⊕◌ b ((functions k p).◌⊗◌ T (functions k p).𝟘)))) zero_code one_code
           ∙ plain (variable k p Infinite)
 
   pub infinite_map : IsInfiniteMap k p q c (presentation_map k p q c h some)

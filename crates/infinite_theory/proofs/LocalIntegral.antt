@@ -1,4 +1,5 @@
--- Orders that are k[x][y] up to powers of p and maximal at p: they are the integral functions, locally at p, that have powers of p as denominators.
+-- Orders that are k[x][y] up to powers of p and maximal at p: they are the integral functions, locally at p, that have
+-- powers of p as denominators.
 use Rattle.std.proofs.Common.{◌≡◌, ◌↔◌, sym, subst}
 use Rattle.ring_theory.proofs.Ring.{one_mul}
 use Rattle.prime_theory.specs.Ideals.{SameSet}
@@ -28,7 +29,8 @@ module _ {k : CodeField} (c : Equation k) (p : Polynomial k) (h : IsIrreducible 
   Int = IsIntegralAt (setting_of c) Finite
 
   -- an order that is maximal at p has, up to factors prime to p, what is integral up to such factors
-  pub maximal_local : (O : FunctionOf c → Type 0) → IsOrder c O → MaximalAt (ring_of c).ops (of_poly c p) (IsIntegralAt (setting_of c) Finite) O
+  pub maximal_local : (O : FunctionOf c → Type 0) → IsOrder c O
+      → MaximalAt (ring_of c).ops (of_poly c p) (IsIntegralAt (setting_of c) Finite) O
       → (z : FunctionOf c) → IsLocallyIn c p O z ↔ IsLocallyIn c p (IsIntegralAt (setting_of c) Finite) z
   maximal_local O 𝓞 maximal z = (
     λ m. record { factor = m.factor; factor_in = m.factor_in; multiple_in = order_integral c O 𝓞 _ m.multiple_in },
@@ -41,7 +43,7 @@ module _ {k : CodeField} (c : Equation k) (p : Polynomial k) (h : IsIrreducible 
         },
   )
 
-  -- so, where it is tame, its members are those of them that have powers of p as denominators
+  -- so, where it is supported at p, its members are those of them that have powers of p as denominators
   pub maximal_members : (O : FunctionOf c → Type 0) → IsOrder c O → IsSupportedAt c p O
       → MaximalAt (ring_of c).ops (of_poly c p) (IsIntegralAt (setting_of c) Finite) O
       → (z : FunctionOf c) → O z ↔ (HasPowerDenominator c p z × IsLocallyIn c p (IsIntegralAt (setting_of c) Finite) z)
@@ -53,8 +55,10 @@ module _ {k : CodeField} (c : Equation k) (p : Polynomial k) (h : IsIrreducible 
       )
 
   -- there is one such order
-  pub maximal_once : (O O' : FunctionOf c → Type 0) → IsOrder c O → IsSupportedAt c p O → MaximalAt (ring_of c).ops (of_poly c p) (IsIntegralAt (setting_of c) Finite) O
-      → IsOrder c O' → IsSupportedAt c p O' → MaximalAt (ring_of c).ops (of_poly c p) (IsIntegralAt (setting_of c) Finite) O' → SameSet O O'
+  pub maximal_once : (O O' : FunctionOf c → Type 0) → IsOrder c O → IsSupportedAt c p O
+      → MaximalAt (ring_of c).ops (of_poly c p) (IsIntegralAt (setting_of c) Finite) O
+      → IsOrder c O' → IsSupportedAt c p O'
+      → MaximalAt (ring_of c).ops (of_poly c p) (IsIntegralAt (setting_of c) Finite) O' → SameSet O O'
   maximal_once O O' 𝓞 t m 𝓞' t' m' z = (
     λ n. (maximal_members O' 𝓞' t' m' z).1 ((maximal_members O 𝓞 t m z).0 n),
     λ n. (maximal_members O 𝓞 t m z).1 ((maximal_members O' 𝓞' t' m' z).0 n),
@@ -68,14 +72,20 @@ module _ {k : CodeField} (c : Equation k) (p : Polynomial k) (h : IsIrreducible 
   taken_order some = larger_order c p h some (HasPolynomialCoordinates c) (coordinates_order c)
 
   pub taken_is_supported : ¬ (discriminant c ≡ (polynomials k).𝟘) → IsSupportedAt c p Taken
-  taken_is_supported some = taken_supported c p h (HasPolynomialCoordinates c) (coordinates_order c) (coordinates_supported c p h) some
+  taken_is_supported some =
+      taken_supported c p h (HasPolynomialCoordinates c) (coordinates_order c) (coordinates_supported c p h) some
 
   pub taken_maximal : MaximalAt (ring_of c).ops (of_poly c p) (IsIntegralAt (setting_of c) Finite) Taken
   taken_maximal = larger_maximal c p h (HasPolynomialCoordinates c)
 
   -- where the square of p doesn't divide the discriminant they are k[x][y]
-  pub taken_whole : ¬ IsDivisor (polynomials k).ops ((polynomials k).◌⊗◌ p p) (discriminant c) → SameSet Taken (HasPolynomialCoordinates c)
+  pub taken_whole : ¬ IsDivisor (polynomials k).ops ((polynomials k).◌⊗◌ p p) (discriminant c)
+      → SameSet Taken (HasPolynomialCoordinates c)
   taken_whole free z = (
     λ m. maximal_at c p h free z m.exponent m.in_Int m.inside,
-    λ m. record { in_Int = coordinates_integral c z m; exponent = 0; inside = subst (HasPolynomialCoordinates c) (sym (one_mul (ring_of c) z)) m },
+    λ m. record {
+      in_Int = coordinates_integral c z m;
+      exponent = 0;
+      inside = subst (HasPolynomialCoordinates c) (sym (one_mul (ring_of c) z)) m;
+    },
   )

@@ -1,4 +1,5 @@
--- A prime over t of an order over k[t] that is maximal at t has the degree and the valuation of the infinite place that it gives.
+-- A prime over t of an order over k[t] that is maximal at t has the degree and the valuation of the infinite place
+-- that it gives.
 use Rattle.std.proofs.Common.{◌≡◌, ◌↔◌, ◌⊎◌, inl, inr, ℕ, List, map, subst}
 use Rattle.std.specs.Prelude.{ℤ}
 use Rattle.ring_theory.specs.Subsets.{Span}
@@ -33,23 +34,30 @@ use Rattle.infinite_theory.proofs.PulledPlaces.{rows, to_rows, of_rows, pulled_o
 
 module _ (k : CodeField) (p q : PresValue) (c : ℕ) (f : Functions k q → Functions k p) (g : IsInfiniteMap k p q c f)
     (O : Functions k q → Type 0) (𝓞 : IsOrder (equation_of k q) O)
-    (maximal : MaximalAt (functions k q).ops (of_poly (equation_of k q) (x_poly k)) (IsIntegralAt (setting k q) Finite) O)
+    (maximal : MaximalAt (functions k q).ops (of_poly (equation_of k q) (x_poly k))
+    (IsIntegralAt (setting k q) Finite) O)
     (P : Functions k q → Type 0) (𝓟 : IsPrime (functions k q).ops O P) (over : P (of_poly (equation_of k q) (x_poly k)))
-    (gs : List (Functions k q)) (spanned : SameSet P (Span (functions k q).ops (IsPolynomial (equation_of k q)) gs)) where
+    (gs : List (Functions k q))
+    (spanned : SameSet P (Span (functions k q).ops (IsPolynomial (equation_of k q)) gs)) where
   base : (s : Functions k q) → IsPolynomial (equation_of k q) s → O s
   base = order_polynomials (equation_of k q) O 𝓞
 
   -- its index in the order is the degree of the place
-  pub degree_at_infinity : (d : ℕ) → HasIndex (equation_of k q) P O d → HasDegree (setting k p) (pushed k p q c f g gs) d
+  pub degree_at_infinity : (d : ℕ) → HasIndex (equation_of k q) P O d
+      → HasDegree (setting k p) (pushed k p q c f g gs) d
   degree_at_infinity d i =
-      prime_degree k p q c f g O P 𝓞.ring base (maximal_local (equation_of k q) (x_poly k) (x_irreducible k) O 𝓞 maximal) 𝓟 over gs spanned d
+      prime_degree k p q c f g O P 𝓞.ring base
+      (maximal_local (equation_of k q) (x_poly k) (x_irreducible k) O 𝓞 maximal) 𝓟 over gs spanned d
       (classes_of_index (equation_of k q) O P d i)
 
   place : IsPlace (setting k p) (pushed k p q c f g gs)
-  place = prime_place k p q c f g O P 𝓞.ring base (maximal_local (equation_of k q) (x_poly k) (x_irreducible k) O 𝓞 maximal) 𝓟 over gs spanned
+  place = prime_place k p q c f g O P 𝓞.ring base
+      (maximal_local (equation_of k q) (x_poly k) (x_irreducible k) O 𝓞 maximal) 𝓟 over gs spanned
 
   members : (z : Functions k q) → O z → IsIn (setting k p) (pushed k p q c f g gs) (f z) ↔ P z
-  members = prime_members k p q c f g O P 𝓞.ring base (maximal_local (equation_of k q) (x_poly k) (x_irreducible k) O 𝓞 maximal) 𝓟 over gs spanned
+  members =
+      prime_members k p q c f g O P 𝓞.ring base
+      (maximal_local (equation_of k q) (x_poly k) (x_irreducible k) O 𝓞 maximal) 𝓟 over gs spanned
 
   module _ (some : ¬ (discriminant (equation_of k q) ≡ (polynomials k).𝟘)) where
     -- the finite place that gives the same infinite place has the members of the prime in the order
@@ -58,15 +66,22 @@ module _ (k : CodeField) (p q : PresValue) (c : ℕ) (f : Functions k q → Func
 
     in_prime : SameSet P (InPrime (setting k q) (finite (equation_of k q) hs) O)
     in_prime z = (
-      λ m. let z_in = 𝓟.ideal.within z m in (z_in, to_rows k p q c f g (map f gs) place some z (order_integral (equation_of k q) O 𝓞 z z_in, (members z z_in).1 m)),
+      λ m. let z_in = 𝓟.ideal.within z m in (
+        z_in,
+        to_rows k p q c f g (map f gs) place some z
+            (order_integral (equation_of k q) O 𝓞 z z_in, (members z z_in).1 m),
+      ),
       λ m. (members z m.0).0 (of_rows k p q c f g (map f gs) place some z m.1).1,
     )
 
-    order_at : IsOrderAt (setting k q) Finite (IsPolynomial (equation_of k q)) (IsPrimeTo (equation_of k q) (x_poly k)) (of_poly (equation_of k q) (x_poly k)) O
+    order_at : IsOrderAt (setting k q) Finite (IsPolynomial (equation_of k q))
+        (IsPrimeTo (equation_of k q) (x_poly k)) (of_poly (equation_of k q) (x_poly k)) O
     order_at = maximal_order_at (equation_of k q) (x_poly k) (x_irreducible k) O 𝓞 maximal
 
-    decide : (u : Functions k q) → O u → IsIn (setting k q) (finite (equation_of k q) hs) u ⊎ (¬ (IsIn (setting k q) (finite (equation_of k q) hs) u))
-    decide u u_in = elim (𝓟.decide u u_in) [ inl m ↦ inl ((in_prime u).0 m).1 | inr n ↦ inr (λ m. n ((in_prime u).1 (u_in, m))) ]
+    decide : (u : Functions k q) → O u → IsIn (setting k q) (finite (equation_of k q) hs) u
+        ⊎ (¬ (IsIn (setting k q) (finite (equation_of k q) hs) u))
+    decide u u_in =
+        elim (𝓟.decide u u_in) [ inl m ↦ inl ((in_prime u).0 m).1 | inr n ↦ inr (λ m. n ((in_prime u).1 (u_in, m))) ]
 
     back : SameSet (InPrime (setting k q) (finite (equation_of k q) hs) O) P
     back z = ((in_prime z).1, (in_prime z).0)
@@ -82,12 +97,15 @@ module _ (k : CodeField) (p q : PresValue) (c : ℕ) (f : Functions k q → Func
       }
 
       -- the valuation of the place is that of the prime
-      pub value_at_infinity : (z : Functions k q) (m : ℤ) → HasValuation (setting k p) (pushed k p q c f g gs) (f z) m ↔ ValueIs (functions k q).ops O P t z m
+      pub value_at_infinity : (z : Functions k q) (m : ℤ)
+          → HasValuation (setting k p) (pushed k p q c f g gs) (f z) m ↔ ValueIs (functions k q).ops O P t z m
       unfolding pair
       value_at_infinity z m =
           let i =
-          valuation_iff (setting k q) (scalars_subring (equation_of k q)) (finite (equation_of k q) hs) (pulled_place k p q c f g (map f gs) place some)
-          (IsPolynomial (equation_of k q)) (IsPrimeTo (equation_of k q) (x_poly k)) O (of_poly (equation_of k q) (x_poly k)) order_at
+          valuation_iff (setting k q) (scalars_subring (equation_of k q)) (finite (equation_of k q) hs)
+          (pulled_place k p q c f g (map f gs) place some)
+          (IsPolynomial (equation_of k q)) (IsPrimeTo (equation_of k q) (x_poly k)) O
+          (of_poly (equation_of k q) (x_poly k)) order_at
           (pulled_over k p q c f g (map f gs) place some) decide pair z m in (
             λ v. let w = i.0 (value_down k p q c f g (map f gs) place some z m v) in record {
               unit = w.unit;
@@ -98,7 +116,8 @@ module _ (k : CodeField) (p q : PresValue) (c : ℕ) (f : Functions k q → Func
                 value_up k p q c f g (map f gs) place some z m
                 (i.1 (record {
                   unit = w.unit;
-                  unit_out = outside_same O P (InPrime (setting k q) (finite (equation_of k q) hs) O) in_prime _ w.unit_out;
+                  unit_out =
+                      outside_same O P (InPrime (setting k q) (finite (equation_of k q) hs) O) in_prime _ w.unit_out;
                   inside = outside_same O P (InPrime (setting k q) (finite (equation_of k q) hs) O) in_prime _ w.inside;
                 })),
           )

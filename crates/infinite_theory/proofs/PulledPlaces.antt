@@ -1,4 +1,5 @@
--- Each infinite place is given by a finite place of the infinite presentation over its variable: the integral functions that go into it.
+-- Each infinite place is given by a finite place of the infinite presentation over its variable: the integral
+-- functions that go into it.
 use Rattle.std.proofs.Common.{◌≡◌, List, refl, sym, ◌∙◌, ap, subst}
 use Rattle.std.specs.Prelude.{ℤ, ℕ}
 use Rattle.prime_theory.specs.Orders.{MaximalAt}
@@ -43,14 +44,16 @@ module _ (k : CodeField) (p q : PresValue) (c : ℕ) (f : Functions k q → Func
   abbrev 𝓞 : IsOrder (equation_of k q) (IsIntegralAt (setting k q) Finite)
   𝓞 = integral_order (equation_of k q) some (x_poly k) (x_irreducible k)
 
-  abbrev maximal : MaximalAt (functions k q).ops (of_poly (equation_of k q) (x_poly k)) (IsIntegralAt (setting k q) Finite) (IsIntegralAt (setting k q) Finite)
+  abbrev maximal : MaximalAt (functions k q).ops (of_poly (equation_of k q) (x_poly k))
+      (IsIntegralAt (setting k q) Finite) (IsIntegralAt (setting k q) Finite)
   maximal = integral_maximal (equation_of k q) some (x_poly k) (x_irreducible k)
 
   -- the integral functions that go into the place
   abbrev Under : Functions k q → Type 0
   Under z = IsIntegralAt (setting k q) Finite z × IsIn (setting k p) (infinite (equation_of k p) ws) (f z)
 
-  𝓛 : IsLattice (equation_of k q) (λ z. IsIntegralAt (setting k q) Finite z × IsIn (setting k p) (infinite (equation_of k p) ws) (f z))
+  𝓛 : IsLattice (equation_of k q)
+      (λ z. IsIntegralAt (setting k q) Finite z × IsIn (setting k p) (infinite (equation_of k p) ws) (f z))
   𝓛 = below_lattice k p q c f g ws place Int 𝓞 maximal
 
   𝓟 : IsPrime (functions k q).ops (IsIntegralAt (setting k q) Finite)
@@ -77,8 +80,11 @@ module _ (k : CodeField) (p q : PresValue) (c : ℕ) (f : Functions k q → Func
     ideal = λ z w z_in m. to_rows _ (𝓟.ideal.scale_in z w z_in (of_rows w m));
     proper = λ m. 𝓟.proper (of_rows 𝟙 m);
     inverse = λ z z_in n.
-        let i = 𝓟.invert z z_in (λ m. n (to_rows z m)) in
-        (i.inverse, i.inverse_in, to_rows _ (subst Under (ap (λ x. x ⊕ ⊖ 𝟙) ((functions k q).mul_comm i.inverse z)) i.is));
+        let i = 𝓟.invert z z_in (λ m. n (to_rows z m)) in (
+          i.inverse,
+          i.inverse_in,
+          to_rows _ (subst Under (ap (λ x. x ⊕ ⊖ 𝟙) ((functions k q).mul_comm i.inverse z)) i.is),
+        );
   }
 
   -- it gives the place
@@ -94,21 +100,28 @@ module _ (k : CodeField) (p q : PresValue) (c : ℕ) (f : Functions k q → Func
 
   pub value_up : (z : Functions k q) (m : ℤ) → HasValuation (setting k q) (finite (equation_of k q) rows) z m
       → HasValuation (setting k p) (infinite (equation_of k p) ws) (f z) m
-  value_up z m v = value_same (setting k p) Infinite _ ws pulled_same.members (f z) m (pushed_value k p q c f g rows pulled_place pulled_over some z m v)
+  value_up z m v =
+      value_same (setting k p) Infinite _ ws pulled_same.members (f z) m
+      (pushed_value k p q c f g rows pulled_place pulled_over some z m v)
 
-  pub at_least_down : (z : Functions k q) (m : ℤ) → HasValuationAtLeast (setting k p) (infinite (equation_of k p) ws) (f z) m
+  pub at_least_down : (z : Functions k q) (m : ℤ)
+      → HasValuationAtLeast (setting k p) (infinite (equation_of k p) ws) (f z) m
       → HasValuationAtLeast (setting k q) (finite (equation_of k q) rows) z m
   at_least_down z m v =
       at_least_back k p q c f g rows pulled_place pulled_over some z m
       (at_least_same (setting k p) Infinite ws _ (turn (setting k p) Infinite _ ws pulled_same.members) (f z) m v)
 
   -- so a function with an inverse has a value at it
-  pub infinite_value_exists : (z y : Functions k p) → (functions k p).◌⊗◌ z y ≡ (functions k p).𝟙 → (m : ℤ) × HasValuation (setting k p) (infinite (equation_of k p) ws) z m
+  pub infinite_value_exists : (z y : Functions k p) → (functions k p).◌⊗◌ z y ≡ (functions k p).𝟙 → (m : ℤ)
+      × HasValuation (setting k p) (infinite (equation_of k p) ws) z m
   infinite_value_exists = each k p q c f g
-      (λ z. (y : Functions k p) → (functions k p).◌⊗◌ z y ≡ (functions k p).𝟙 → (m : ℤ) × HasValuation (setting k p) (infinite (equation_of k p) ws) z m)
-      (λ z. each k p q c f g (λ y. (functions k p).◌⊗◌ (f z) y ≡ (functions k p).𝟙 → (m : ℤ) × HasValuation (setting k p) (infinite (equation_of k p) ws) (f z) m)
+      (λ z. (y : Functions k p) → (functions k p).◌⊗◌ z y ≡ (functions k p).𝟙 → (m : ℤ)
+      × HasValuation (setting k p) (infinite (equation_of k p) ws) z m)
+      (λ z. each k p q c f g (λ y. (functions k p).◌⊗◌ (f z) y ≡ (functions k p).𝟙 → (m : ℤ)
+      × HasValuation (setting k p) (infinite (equation_of k p) ws) (f z) m)
       (λ y e.
-      let v = value_exists (equation_of k q) some rows pulled_place z y (g.isomorphism.injective _ _ (g.isomorphism.hom.mul z y ∙ e ∙ sym g.isomorphism.hom.𝟙)) in (
+      let v = value_exists (equation_of k q) some rows pulled_place z y
+      (g.isomorphism.injective _ _ (g.isomorphism.hom.mul z y ∙ e ∙ sym g.isomorphism.hom.𝟙)) in (
         v.0,
         value_up z v.0 v.1,
       )))
@@ -118,5 +131,6 @@ module _ (k : CodeField) (p q : PresValue) (c : ℕ) (f : Functions k q → Func
   infinite_degree_exists =
       let d = degree_of_place (equation_of k q) some (finite (equation_of k q) rows) pulled_place refl in (
         d.0,
-        degree_same (setting k p) Infinite _ ws pulled_same.members d.0 (pushed_degree k p q c f g rows pulled_place pulled_over d.0 d.1),
+        degree_same (setting k p) Infinite _ ws pulled_same.members d.0
+            (pushed_degree k p q c f g rows pulled_place pulled_over d.0 d.1),
       )

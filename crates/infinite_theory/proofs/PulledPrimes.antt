@@ -1,4 +1,5 @@
--- An infinite place has a prime over t in each order over k[t] that is maximal at t: the members of the order that go into it. It is spanned by the images of functions that span the prime.
+-- An infinite place has a prime over t in each order over k[t] that is maximal at t: the members of the order that go
+-- into it. It is spanned by the images of functions that span the prime.
 use Rattle.std.proofs.Common.{◌≡◌, ◌↔◌, ◌⊎◌, inl, inr, ℕ, List, [], ◌∷◌, map, refl, sym, ◌∙◌, ap, ap₂, subst}
 use Rattle.ring_theory.specs.Subsets.{IsModule, Span}
 use Rattle.ring_theory.specs.Local.{PrimeTo}
@@ -46,11 +47,14 @@ module _ (k : CodeField) (p q : PresValue) (c : ℕ) (f : Functions k q → Func
   abbrev In : Functions k p → Type 0
   In = IsIn (setting k p) (infinite (equation_of k p) ws)
 
-  𝓝 : PrimeTo (functions k q).ops (IsPolynomial (equation_of k q)) (IsPrimeTo (equation_of k q) (x_poly k)) (of_poly (equation_of k q) (x_poly k))
+  𝓝 : PrimeTo (functions k q).ops (IsPolynomial (equation_of k q)) (IsPrimeTo (equation_of k q) (x_poly k))
+      (of_poly (equation_of k q) (x_poly k))
   𝓝 = prime_to (equation_of k q) (x_poly k) (x_irreducible k)
 
-  𝓜 : IsModule (functions k p).ops (IsFiniteAtInfinity (equation_of k p)) (IsIn (setting k p) (infinite (equation_of k p) ws))
-  𝓜 = span_module (functions k p) (IsFiniteAtInfinity (equation_of k p)) (finite_at_infinity_subring (equation_of k p)) ws
+  𝓜 : IsModule (functions k p).ops (IsFiniteAtInfinity (equation_of k p))
+      (IsIn (setting k p) (infinite (equation_of k p) ws))
+  𝓜 = span_module (functions k p) (IsFiniteAtInfinity (equation_of k p))
+      (finite_at_infinity_subring (equation_of k p)) ws
 
   -- what goes into the place is closed under sums, and under products with what goes to O_inf
   into_sum : (a b : Functions k q) → In (f a) → In (f b) → In (f (a ⊕ b))
@@ -65,10 +69,12 @@ module _ (k : CodeField) (p q : PresValue) (c : ℕ) (f : Functions k q → Func
   infinite_product : (a b : Functions k q) → Inf (f a) → Inf (f b) → Inf (f (a ⊗ b))
   infinite_product a b i j =
       subst Inf (sym (g.isomorphism.hom.mul a b))
-      ((integral_ring (functions k p) (IsFiniteAtInfinity (equation_of k p)) (finite_at_infinity_subring (equation_of k p))).product_in _ _ i j)
+      ((integral_ring (functions k p) (IsFiniteAtInfinity (equation_of k p))
+      (finite_at_infinity_subring (equation_of k p))).product_in _ _ i j)
 
   module _ (O : Functions k q → Type 0) (𝓞 : IsOrder (equation_of k q) O)
-      (maximal : MaximalAt (functions k q).ops (of_poly (equation_of k q) (x_poly k)) (IsIntegralAt (setting k q) Finite) O) where
+      (maximal : MaximalAt (functions k q).ops (of_poly (equation_of k q) (x_poly k))
+      (IsIntegralAt (setting k q) Finite) O) where
     near : (z : Functions k q) → Inf (f z) → IsLocallyIn (equation_of k q) (x_poly k) O z
     near z m = (maximal_local (equation_of k q) (x_poly k) (x_irreducible k) O 𝓞 maximal z).1 ((g.integral z).1 m)
 
@@ -85,7 +91,8 @@ module _ (k : CodeField) (p q : PresValue) (c : ℕ) (f : Functions k q → Func
     below_ideal : IsIdeal (functions k q).ops O (λ z. O z × IsIn (setting k p) (infinite (equation_of k p) ws) (f z))
     below_ideal = record {
       within = λ a m. m.0;
-      zero_in = (𝓞.ring.zero_in, subst In (sym (hom_zero (functions k q) (functions k p) f g.isomorphism.hom)) 𝓜.zero_in);
+      zero_in =
+          (𝓞.ring.zero_in, subst In (sym (hom_zero (functions k q) (functions k p) f g.isomorphism.hom)) 𝓜.zero_in);
       sum_in = λ a b m n. (𝓞.ring.sum_in a b m.0 n.0, into_sum a b m.1 n.1);
       scale_in = λ s a s_in m. (𝓞.ring.product_in s a s_in m.0, into_scale s a (image s s_in) m.1);
     }
@@ -101,10 +108,13 @@ module _ (k : CodeField) (p q : PresValue) (c : ℕ) (f : Functions k q → Func
         by (no n) = inr (λ m. n m.1)
 
     -- they are a lattice, and a prime
-    pub below_lattice : IsLattice (equation_of k q) (λ z. O z × IsIn (setting k p) (infinite (equation_of k p) ws) (f z))
-    below_lattice = ideal_lattice (equation_of k q) (x_poly k) (x_irreducible k) O 𝓞 Below below_ideal below_variable decide
+    pub below_lattice : IsLattice (equation_of k q)
+        (λ z. O z × IsIn (setting k p) (infinite (equation_of k p) ws) (f z))
+    below_lattice =
+        ideal_lattice (equation_of k q) (x_poly k) (x_irreducible k) O 𝓞 Below below_ideal below_variable decide
 
-    pub below_prime : IsPrime (functions k q).ops O (λ z. O z × IsIn (setting k p) (infinite (equation_of k p) ws) (f z))
+    pub below_prime : IsPrime (functions k q).ops O
+        (λ z. O z × IsIn (setting k p) (infinite (equation_of k p) ws) (f z))
     below_prime = record {
       ideal = below_ideal;
       proper = λ m. place.proper (subst In g.isomorphism.hom.𝟙 m.1);
@@ -112,14 +122,19 @@ module _ (k : CodeField) (p q : PresValue) (c : ℕ) (f : Functions k q → Func
       decide = decide;
     }
       where
-        moved : (l u r x z w : Functions k q) → l ⊗ u ⊕ r ⊗ x ≡ 𝟙 → l ⊗ u ⊗ (z ⊗ w ⊕ ⊖ 𝟙) ⊕ (⊖ r) ⊗ x ≡ l ⊗ (u ⊗ w) ⊗ z ⊕ ⊖ 𝟙
+        moved : (l u r x z w : Functions k q) → l ⊗ u ⊕ r ⊗ x ≡ 𝟙 → l ⊗ u ⊗ (z ⊗ w ⊕ ⊖ 𝟙) ⊕ (⊖ r) ⊗ x
+            ≡ l ⊗ (u ⊗ w) ⊗ z ⊕ ⊖ 𝟙
         moved l u r x z w e =
-            from_one (functions k q) (⊖ 𝟙) e (ring (functions k q) (l ∷ u ∷ r ∷ x ∷ z ∷ w ∷ []) λ o i. simp (reads, o, i 0, i 1, i 2, i 3, i 4, i 5) (o.equal _ _ refl))
+            from_one (functions k q) (⊖ 𝟙) e
+            (ring (functions k q) (l ∷ u ∷ r ∷ x ∷ z ∷ w ∷ []) λ o i. simp (reads, o, i 0, i 1, i 2, i 3, i 4, i 5)
+            (o.equal _ _ refl))
 
-        inverse : (z : Functions k q) → O z → (w : Functions k p) → Inf w → In ((functions k p).◌⊕◌ ((functions k p).◌⊗◌ (f z) w) ((functions k p).⊖◌ (functions k p).𝟙))
+        inverse : (z : Functions k q) → O z → (w : Functions k p) → Inf w
+            → In ((functions k p).◌⊕◌ ((functions k p).◌⊗◌ (f z) w) ((functions k p).⊖◌ (functions k p).𝟙))
             → InverseModulo (functions k q).ops O Below z
         inverse z z_in = each k p q c f g
-            (λ w. Inf w → In ((functions k p).◌⊕◌ ((functions k p).◌⊗◌ (f z) w) ((functions k p).⊖◌ (functions k p).𝟙)) → InverseModulo (functions k q).ops O Below z)
+            (λ w. Inf w → In ((functions k p).◌⊕◌ ((functions k p).◌⊗◌ (f z) w)
+            ((functions k p).⊖◌ (functions k p).𝟙)) → InverseModulo (functions k q).ops O Below z)
             (λ w w_in m.
             let a = near w w_in in
             let b = 𝓝.comaximal a.factor a.factor_in in
@@ -132,25 +147,32 @@ module _ (k : CodeField) (p q : PresValue) (c : ℕ) (f : Functions k q → Func
                 subst (λ v. In (f v)) (moved b.left a.factor b.right X z w b.is)
                     (into_sum _ _
                     (into_scale (b.left ⊗ a.factor) (z ⊗ w ⊕ ⊖ 𝟙)
-                    (image _ (𝓞.ring.product_in _ _ (base b.left b.left_in) (base a.factor (𝓝.within a.factor a.factor_in))))
+                    (image _ (𝓞.ring.product_in _ _ (base b.left b.left_in)
+                    (base a.factor (𝓝.within a.factor a.factor_in))))
                     (subst In
                     (sym (g.isomorphism.hom.add (z ⊗ w) (⊖ 𝟙)
                     ∙ ap₂ (functions k p).◌⊕◌ (g.isomorphism.hom.mul z w)
-                    (hom_neg (functions k q) (functions k p) f g.isomorphism.hom 𝟙 ∙ ap (functions k p).⊖◌ g.isomorphism.hom.𝟙))) m))
+                    (hom_neg (functions k q) (functions k p) f g.isomorphism.hom 𝟙
+                    ∙ ap (functions k p).⊖◌ g.isomorphism.hom.𝟙))) m))
                     (into_scale (⊖ b.right) X (image _ (𝓞.ring.neg_in _ (base b.right b.right_in))) into_variable)),
               );
             })
 
     -- the images of functions that span them span the place
-    pub below_same : (gs : List (Functions k q)) → SameSet (λ z. O z × IsIn (setting k p) (infinite (equation_of k p) ws) (f z))
-        (Span (functions k q).ops (IsPolynomial (equation_of k q)) gs) → IsSamePlace (setting k p) (pushed k p q c f g gs) (infinite (equation_of k p) ws)
+    pub below_same : (gs : List (Functions k q))
+        → SameSet (λ z. O z × IsIn (setting k p) (infinite (equation_of k p) ws) (f z))
+        (Span (functions k q).ops (IsPolynomial (equation_of k q)) gs)
+        → IsSamePlace (setting k p) (pushed k p q c f g gs) (infinite (equation_of k p) ws)
     below_same gs spanned = record {
       side = refl;
       members = each k p q c f g (λ w. IsIn (setting k p) (pushed k p q c f g gs) w ↔ In w) (λ z. (to z, from z));
     }
       where
         sum : (l u r x z : Functions k q) → l ⊗ u ⊕ r ⊗ x ≡ 𝟙 → l ⊗ (u ⊗ z) ⊕ (r ⊗ z) ⊗ x ≡ z
-        sum l u r x z e = from_one (functions k q) z e (ring (functions k q) (l ∷ u ∷ r ∷ x ∷ z ∷ []) λ o i. simp (reads, o, i 0, i 1, i 2, i 3, i 4) (o.equal _ _ refl))
+        sum l u r x z e =
+            from_one (functions k q) z e
+            (ring (functions k q) (l ∷ u ∷ r ∷ x ∷ z ∷ []) λ o i. simp (reads, o, i 0, i 1, i 2, i 3, i 4)
+            (o.equal _ _ refl))
 
         to : (z : Functions k q) → IsIn (setting k p) (pushed k p q c f g gs) (f z) → In (f z)
         to z m =
@@ -158,10 +180,12 @@ module _ (k : CodeField) (p q : PresValue) (c : ℕ) (f : Functions k q → Func
             let b = 𝓝.comaximal l.factor l.factor_in in
             let i = (spanned (l.factor ⊗ z)).1 l.multiple_in in
             let z_in : Inf (f z)
-            = (g.integral z).0 (record { factor = l.factor; factor_in = l.factor_in; multiple_in = order_integral (equation_of k q) O 𝓞 _ i.0 }) in
+            = (g.integral z).0 (record
+            { factor = l.factor; factor_in = l.factor_in; multiple_in = order_integral (equation_of k q) O 𝓞 _ i.0 }) in
             subst (λ v. In (f v)) (sum b.left l.factor b.right X z b.is)
             (into_sum _ _ (into_scale b.left _ (image b.left (base b.left b.left_in)) i.1)
-            (into_scale (b.right ⊗ z) X (infinite_product b.right z (image b.right (base b.right b.right_in)) z_in) into_variable))
+            (into_scale (b.right ⊗ z) X (infinite_product b.right z (image b.right (base b.right b.right_in)) z_in)
+            into_variable))
 
         from : (z : Functions k q) → In (f z) → IsIn (setting k p) (pushed k p q c f g gs) (f z)
         from z m =
@@ -170,28 +194,39 @@ module _ (k : CodeField) (p q : PresValue) (c : ℕ) (f : Functions k q → Func
             (record {
               factor = a.factor;
               factor_in = a.factor_in;
-              multiple_in = (spanned (a.factor ⊗ z)).0
-                  (a.multiple_in, into_scale a.factor z (image a.factor (base a.factor (𝓝.within a.factor a.factor_in))) m);
+              multiple_in = (spanned (a.factor ⊗ z)).0 (
+                a.multiple_in,
+                into_scale a.factor z
+                    (image a.factor (base a.factor (𝓝.within a.factor a.factor_in))) m,
+              );
             })
 
 -- for places whose side is given by an equation
 module _ (k : CodeField) (p q : PresValue) (c : ℕ) (f : Functions k q → Functions k p) (g : IsInfiniteMap k p q c f)
     (O : Functions k q → Type 0) (𝓞 : IsOrder (equation_of k q) O)
-    (maximal : MaximalAt (functions k q).ops (of_poly (equation_of k q) (x_poly k)) (IsIntegralAt (setting k q) Finite) O) where
+    (maximal : MaximalAt (functions k q).ops (of_poly (equation_of k q) (x_poly k))
+    (IsIntegralAt (setting k q) Finite) O) where
   abbrev Under : Place (Functions k p) → Functions k q → Type 0
   Under = IsMemberBelow k p q f O
 
   pub every_prime : (P : Place (Functions k p)) → IsPlace (setting k p) P → P.side ≡ Infinite
-      → IsPrime (functions k q).ops O (IsMemberBelow k p q f O P) × IsLattice (equation_of k q) (IsMemberBelow k p q f O P) × IsMemberBelow k p q f O P (setting k q).x
-      × ((gs : List (Functions k q)) → SameSet (IsMemberBelow k p q f O P) (Span (functions k q).ops (IsPolynomial (equation_of k q)) gs)
+      → IsPrime (functions k q).ops O (IsMemberBelow k p q f O P)
+      × IsLattice (equation_of k q) (IsMemberBelow k p q f O P) × IsMemberBelow k p q f O P (setting k q).x
+      × ((gs : List (Functions k q))
+      → SameSet (IsMemberBelow k p q f O P) (Span (functions k q).ops (IsPolynomial (equation_of k q)) gs)
       → IsSamePlace (setting k p) (record { side = Infinite; generators = map f gs }) P)
   every_prime P place e = go P.side P.generators e place
     where
-      go : (s : Side) (ws : List (Functions k p)) → s ≡ Infinite → IsPlace (setting k p) (record { side = s; generators = ws })
-          → IsPrime (functions k q).ops O (Under (record { side = s; generators = ws })) × IsLattice (equation_of k q) (Under (record { side = s; generators = ws }))
+      go : (s : Side) (ws : List (Functions k p)) → s ≡ Infinite
+          → IsPlace (setting k p) (record { side = s; generators = ws })
+          → IsPrime (functions k q).ops O (Under (record { side = s; generators = ws }))
+          × IsLattice (equation_of k q) (Under (record { side = s; generators = ws }))
           × Under (record { side = s; generators = ws }) (setting k q).x
-          × ((gs : List (Functions k q)) → SameSet (Under (record { side = s; generators = ws })) (Span (functions k q).ops (IsPolynomial (equation_of k q)) gs)
-          → IsSamePlace (setting k p) (record { side = Infinite; generators = map f gs }) (record { side = s; generators = ws }))
+          × ((gs : List (Functions k q))
+          → SameSet (Under (record { side = s; generators = ws }))
+          (Span (functions k q).ops (IsPolynomial (equation_of k q)) gs)
+          → IsSamePlace (setting k p) (record { side = Infinite; generators = map f gs })
+          (record { side = s; generators = ws }))
       go Finite ws e place = absurd (cc)
       go Infinite ws e place = (
         below_prime k p q c f g ws place O 𝓞 maximal,

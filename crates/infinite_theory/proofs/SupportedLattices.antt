@@ -1,4 +1,5 @@
--- Lattices that are k[x][y] up to powers of an irreducible polynomial p: sums, products, colons, multiples, radicals, and what lies between two.
+-- Lattices that are k[x][y] up to powers of an irreducible polynomial p: sums, products, colons, multiples, radicals,
+-- and what lies between two.
 use Rattle.std.proofs.Common.{◌≡◌, ◌↔◌, All, ℕ, zero, suc, ◌+◌, ◌<◌, List, [], ◌∷◌, refl, sym, ◌∙◌, ap, ap₂, subst, arith}
 use Rattle.std.proofs.lemmas.List.Elements.{All-nil, All-cons, All-head, All-tail, All-weaker}
 use Rattle.ring_theory.specs.Ring.{pow}
@@ -54,7 +55,9 @@ module _ {k : CodeField} (c : Equation k) where
     zero_in = 𝓦.zero_in;
     one_in = record { coordinates = row_of c (polynomials k).𝟙; value = of_poly_one c };
     sum_in = 𝓦.sum_in;
-    neg_in = λ a h. subst W (neg_mul (ring_of c) 𝟙 a ∙ ap ⊖◌ (one_mul (ring_of c) a)) (𝓦.scale_in (⊖ 𝟙) a (𝓢.neg_in 𝟙 𝓢.one_in) h);
+    neg_in =
+        λ a h. subst W (neg_mul (ring_of c) 𝟙 a ∙ ap ⊖◌ (one_mul (ring_of c) a))
+        (𝓦.scale_in (⊖ 𝟙) a (𝓢.neg_in 𝟙 𝓢.one_in) h);
     product_in = λ a b h g. record {
       coordinates = row_mul (ring_of_x c) c.lower_degree c.coefficients h.coordinates g.coordinates;
       value = ap₂ ◌⊗◌ h.value g.value ∙ mul_plain c h.coordinates g.coordinates;
@@ -71,7 +74,8 @@ module _ {k : CodeField} (c : Equation k) where
   y_coordinates = record { coordinates = _; value = refl }
 
   -- sums of members
-  pub sum_in : (L : FunctionOf c → Type 0) → IsModule (ring_of c).ops (IsPolynomial c) L → (n : ℕ) (g : ℕ → FunctionOf c) → ((i : ℕ) → i < n → L (g i))
+  pub sum_in : (L : FunctionOf c → Type 0) → IsModule (ring_of c).ops (IsPolynomial c) L
+      → (n : ℕ) (g : ℕ → FunctionOf c) → ((i : ℕ) → i < n → L (g i))
       → L (sum_below (ring_of c).ops n g)
   sum_in L 𝓛 zero g h = 𝓛.zero_in
   sum_in L 𝓛 (suc n) g h = 𝓛.sum_in _ _ (sum_in L 𝓛 n g (λ i l. h i (omega arith))) (h n (omega arith))
@@ -93,14 +97,18 @@ module _ {k : CodeField} (c : Equation k) where
     twice a b z = ap (λ x. x ⊗ z) (pow_add (ring_of c) P a b) ∙ (ring_of c).mul_assoc _ _ z
 
     -- more powers do no harm
-    raised : (L : FunctionOf c → Type 0) → IsModule (ring_of c).ops (IsPolynomial c) L → (a b : ℕ) (z : FunctionOf c) → L (power b ⊗ z) → L (power (a + b) ⊗ z)
+    raised : (L : FunctionOf c → Type 0) → IsModule (ring_of c).ops (IsPolynomial c) L → (a b : ℕ) (z : FunctionOf c)
+        → L (power b ⊗ z) → L (power (a + b) ⊗ z)
     raised L 𝓛 a b z m = subst L (sym (twice a b z)) (𝓛.scale_in _ _ (power_poly a) m)
 
-    raised_left : (L : FunctionOf c → Type 0) → IsModule (ring_of c).ops (IsPolynomial c) L → (a b : ℕ) (z : FunctionOf c) → L (power a ⊗ z) → L (power (a + b) ⊗ z)
-    raised_left L 𝓛 a b z m = subst (λ n. L (power n ⊗ z)) (let e : b + a ≡ a + b = omega arith in e) (raised L 𝓛 b a z m)
+    raised_left : (L : FunctionOf c → Type 0) → IsModule (ring_of c).ops (IsPolynomial c) L
+        → (a b : ℕ) (z : FunctionOf c) → L (power a ⊗ z) → L (power (a + b) ⊗ z)
+    raised_left L 𝓛 a b z m =
+        subst (λ n. L (power n ⊗ z)) (let e : b + a ≡ a + b = omega arith in e) (raised L 𝓛 b a z m)
 
     -- a power of p takes k[x][y] into a module supported at p
-    all_of : (L : FunctionOf c → Type 0) → IsModule (ring_of c).ops (IsPolynomial c) L → (t : IsSupportedAt c p L) → (z : FunctionOf c)
+    all_of : (L : FunctionOf c → Type 0) → IsModule (ring_of c).ops (IsPolynomial c) L → (t : IsSupportedAt c p L)
+        → (z : FunctionOf c)
         → HasPolynomialCoordinates c z → L (power t.exponent ⊗ z)
     all_of L 𝓛 t z m =
         subst L
@@ -113,57 +121,69 @@ module _ {k : CodeField} (c : Equation k) where
         (𝓛.scale_in (of_poly c (entry (polynomials k).ops (degree_of_y c) i m.coordinates)) _
         (record { polynomial = entry (polynomials k).ops (degree_of_y c) i m.coordinates; value = refl }) (t.has i l))))
 
-    to_supported : (L : FunctionOf c → Type 0) → IsModule (ring_of c).ops (IsPolynomial c) L → IsSupportedAt c p L → SupportedAt (ring_of c) (HasPolynomialCoordinates c) (of_poly c p) L
+    to_supported : (L : FunctionOf c → Type 0) → IsModule (ring_of c).ops (IsPolynomial c) L → IsSupportedAt c p L
+        → SupportedAt (ring_of c) (HasPolynomialCoordinates c) (of_poly c p) L
     to_supported L 𝓛 t = record { exponent = t.exponent; has = all_of L 𝓛 t; within = t.within }
 
-    of_supported : (L : FunctionOf c → Type 0) → SupportedAt (ring_of c) (HasPolynomialCoordinates c) (of_poly c p) L → IsSupportedAt c p L
+    of_supported : (L : FunctionOf c → Type 0) → SupportedAt (ring_of c) (HasPolynomialCoordinates c) (of_poly c p) L
+        → IsSupportedAt c p L
     of_supported L t = record {
       exponent = t.exponent;
-      has = λ i l. t.has _ (power_in (ring_of c) (HasPolynomialCoordinates c) coordinates_ring (y_of c) y_coordinates i);
+      has = λ i l. t.has _ (power_in (ring_of c) (HasPolynomialCoordinates c) coordinates_ring (y_of c) y_coordinates
+          i);
       within = t.within;
     }
 
     pub coordinates_supported : IsSupportedAt c p (HasPolynomialCoordinates c)
     coordinates_supported = record {
       exponent = 0;
-      has = λ i l. subst W (sym (one_mul (ring_of c) _)) (power_in (ring_of c) (HasPolynomialCoordinates c) coordinates_ring (y_of c) y_coordinates i);
+      has = λ i l. subst W (sym (one_mul (ring_of c) _))
+          (power_in (ring_of c) (HasPolynomialCoordinates c) coordinates_ring (y_of c) y_coordinates i);
       within = λ z m. subst W (sym (one_mul (ring_of c) z)) m;
     }
 
     -- with what a power of p takes k[x][y] into, and generators with powers of p as denominators
-    pub supported_of_generators : (L : FunctionOf c → Type 0) (𝓛 : IsLattice c L) (a : ℕ) → ((z : FunctionOf c) → HasPolynomialCoordinates c z → L (power a ⊗ z))
+    pub supported_of_generators : (L : FunctionOf c → Type 0) (𝓛 : IsLattice c L) (a : ℕ)
+        → ((z : FunctionOf c) → HasPolynomialCoordinates c z → L (power a ⊗ z))
         → All (HasPowerDenominator c p) 𝓛.generators → IsSupportedAt c p L
     supported_of_generators L 𝓛 a has poles = of_supported L (record {
       exponent = a + b.0;
       has = λ z m. raised_left L (lattice_module c L 𝓛) a b.0 z (has z m);
       within = λ z m.
           raised W 𝓦 a b.0 z
-          (span_least (ring_of c) (IsPolynomial c) 𝓢 (λ y. W (power b.0 ⊗ y)) (quotient_module (ring_of c) (IsPolynomial c) W 𝓦 (power b.0)) 𝓛.generators b.1 z
+          (span_least (ring_of c) (IsPolynomial c) 𝓢 (λ y. W (power b.0 ⊗ y))
+          (quotient_module (ring_of c) (IsPolynomial c) W 𝓦 (power b.0)) 𝓛.generators b.1 z
           ((𝓛.spanned z).0 m));
     })
       where
-        bound : (gs : List (FunctionOf c)) → All (HasPowerDenominator c p) gs → (b : ℕ) × All (λ z. HasPolynomialCoordinates c (power b ⊗ z)) gs
+        bound : (gs : List (FunctionOf c)) → All (HasPowerDenominator c p) gs → (b : ℕ)
+            × All (λ z. HasPolynomialCoordinates c (power b ⊗ z)) gs
         bound [] m = (0, All-nil _)
         bound (g ∷ gs) m =
             let d = All-head (HasPowerDenominator c p) g gs m in
             let r = bound gs (All-tail (HasPowerDenominator c p) g gs m) in (
               d.exponent + r.0,
               All-cons (λ z. W (power (d.exponent + r.0) ⊗ z)) g gs (raised_left W 𝓦 d.exponent r.0 g d.cleared)
-                  (All-weaker (λ z. W (power r.0 ⊗ z)) (λ z. W (power (d.exponent + r.0) ⊗ z)) (λ z n. raised W 𝓦 d.exponent r.0 z n) gs r.1),
+                  (All-weaker (λ z. W (power r.0 ⊗ z)) (λ z. W (power (d.exponent + r.0) ⊗ z))
+                  (λ z n. raised W 𝓦 d.exponent r.0 z n) gs r.1),
             )
 
         b : (b : ℕ) × All (λ z. HasPolynomialCoordinates c (power b ⊗ z)) 𝓛.generators
         b = bound 𝓛.generators poles
 
     -- between two modules supported at p
-    pub between_supported : (L M K : FunctionOf c → Type 0) → IsModule (ring_of c).ops (IsPolynomial c) L → IsModule (ring_of c).ops (IsPolynomial c) M
-        → IsModule (ring_of c).ops (IsPolynomial c) K → IsSupportedAt c p L → IsSupportedAt c p K → ((z : FunctionOf c) → L z → M z) → ((z : FunctionOf c) → M z → K z) → IsSupportedAt c p M
+    pub between_supported : (L M K : FunctionOf c → Type 0) → IsModule (ring_of c).ops (IsPolynomial c) L
+        → IsModule (ring_of c).ops (IsPolynomial c) M
+        → IsModule (ring_of c).ops (IsPolynomial c) K → IsSupportedAt c p L → IsSupportedAt c p K
+        → ((z : FunctionOf c) → L z → M z) → ((z : FunctionOf c) → M z → K z) → IsSupportedAt c p M
     between_supported L M K 𝓛 𝓜 𝓚 l n f g =
         of_supported M
-        (supported_between (ring_of c) (IsPolynomial c) 𝓢 (IsPrimeTo c p) P 𝓝 W coordinates_ring polynomial_coordinates L M K 𝓜 (to_supported L 𝓛 l) (to_supported K 𝓚 n) f g)
+        (supported_between (ring_of c) (IsPolynomial c) 𝓢 (IsPrimeTo c p) P 𝓝 W coordinates_ring
+        polynomial_coordinates L M K 𝓜 (to_supported L 𝓛 l) (to_supported K 𝓚 n) f g)
 
     -- the multiples by u, where powers of p take u and its inverse v to polynomials
-    pub multiple_supported : (L : FunctionOf c → Type 0) → IsModule (ring_of c).ops (IsPolynomial c) L → IsSupportedAt c p L → (n : ℕ) (u v : FunctionOf c) → u ⊗ v ≡ 𝟙
+    pub multiple_supported : (L : FunctionOf c → Type 0) → IsModule (ring_of c).ops (IsPolynomial c) L
+        → IsSupportedAt c p L → (n : ℕ) (u v : FunctionOf c) → u ⊗ v ≡ 𝟙
         → IsPolynomial c (power n ⊗ u) → IsPolynomial c (power n ⊗ v) → IsSupportedAt c p (Multiple (ring_of c).ops u L)
     multiple_supported L 𝓛 t n u v inverse u_in v_in = of_supported (Multiple (ring_of c).ops u L) (record {
       exponent = n + t.exponent;
@@ -173,24 +193,30 @@ module _ {k : CodeField} (c : Equation k) where
         is = ap (λ x. x ⊗ z) (pow_add (ring_of c) P n t.exponent) ∙ moved (power n) (power t.exponent) u v z inverse;
       };
       within = λ z m.
-          subst W (sym (ap₂ (λ x y. x ⊗ y) (pow_add (ring_of c) P n t.exponent) m.is ∙ turned (power n) (power t.exponent) u m.quotient))
+          subst W (sym (ap₂ (λ x y. x ⊗ y) (pow_add (ring_of c) P n t.exponent) m.is
+          ∙ turned (power n) (power t.exponent) u m.quotient))
           (𝓦.scale_in _ _ u_in (t.within m.quotient m.quotient_in));
     })
       where
         moved : (a b u v z : FunctionOf c) → u ⊗ v ≡ 𝟙 → a ⊗ b ⊗ z ≡ u ⊗ ((a ⊗ v) ⊗ (b ⊗ z))
         moved a b u v z e =
-            sym (from_one (ring_of c) (a ⊗ b ⊗ z) e (ring (ring_of c) (a ∷ b ∷ u ∷ v ∷ z ∷ []) λ q i. simp (reads, q, i 0, i 1, i 2, i 3, i 4) (q.equal _ _ refl)))
+            sym (from_one (ring_of c) (a ⊗ b ⊗ z) e
+            (ring (ring_of c) (a ∷ b ∷ u ∷ v ∷ z ∷ []) λ q i. simp (reads, q, i 0, i 1, i 2, i 3, i 4)
+            (q.equal _ _ refl)))
 
         turned : (a b u z : FunctionOf c) → a ⊗ b ⊗ (u ⊗ z) ≡ (a ⊗ u) ⊗ (b ⊗ z)
-        turned a b u z = ring (ring_of c) (a ∷ b ∷ u ∷ z ∷ []) λ q i. simp (reads, q, i 0, i 1, i 2, i 3) (q.equal _ _ refl)
+        turned a b u z =
+            ring (ring_of c) (a ∷ b ∷ u ∷ z ∷ []) λ q i. simp (reads, q, i 0, i 1, i 2, i 3) (q.equal _ _ refl)
 
-    module _ (A B : FunctionOf c → Type 0) (𝓐 : IsLattice c A) (𝓑 : IsLattice c B) (a : IsSupportedAt c p A) (b : IsSupportedAt c p B) where
+    module _ (A B : FunctionOf c → Type 0) (𝓐 : IsLattice c A) (𝓑 : IsLattice c B) (a : IsSupportedAt c p A)
+        (b : IsSupportedAt c p B) where
       pub sum_supported : IsSupportedAt c p (IsSum (space_ops c) A B)
       sum_supported = of_supported (IsSum (space_ops c) A B) (record {
         exponent = a.exponent + b.exponent;
         has = λ z m. record {
           left = power (a.exponent + b.exponent) ⊗ z;
-          left_in = raised_left A (lattice_module c A 𝓐) a.exponent b.exponent z (all_of A (lattice_module c A 𝓐) a z m);
+          left_in =
+              raised_left A (lattice_module c A 𝓐) a.exponent b.exponent z (all_of A (lattice_module c A 𝓐) a z m);
           right = 𝟘;
           right_in = (lattice_module c B 𝓑).zero_in;
           is = sym ((ring_of c).add_zero _);
@@ -204,27 +230,35 @@ module _ {k : CodeField} (c : Equation k) where
       pub product_supported : IsSupportedAt c p (Product (ring_of c).ops A B)
       product_supported =
           of_supported (Product (ring_of c).ops A B)
-          (supported_product (ring_of c) (IsPolynomial c) 𝓢 (IsPrimeTo c p) P 𝓝 W coordinates_ring polynomial_coordinates A B (lattice_module c A 𝓐)
+          (supported_product (ring_of c) (IsPolynomial c) 𝓢 (IsPrimeTo c p) P 𝓝 W coordinates_ring
+          polynomial_coordinates A B (lattice_module c A 𝓐)
           (to_supported A (lattice_module c A 𝓐) a) (to_supported B (lattice_module c B 𝓑) b))
 
       pub colon_supported : IsSupportedAt c p (Colon (ring_of c).ops A B)
       colon_supported =
           of_supported (Colon (ring_of c).ops A B)
-          (supported_colon (ring_of c) (IsPolynomial c) 𝓢 (IsPrimeTo c p) P 𝓝 W coordinates_ring polynomial_coordinates A B
+          (supported_colon (ring_of c) (IsPolynomial c) 𝓢 (IsPrimeTo c p) P 𝓝 W coordinates_ring
+          polynomial_coordinates A B
           (to_supported A (lattice_module c A 𝓐) a) (to_supported B (lattice_module c B 𝓑) b))
 
     -- a module supported at p is what it is locally, among what has powers of p as denominators
-    module _ (L : FunctionOf c → Type 0) (𝓛 : IsModule (ring_of c).ops (IsPolynomial c) L) (t : IsSupportedAt c p L) where
+    module _ (L : FunctionOf c → Type 0) (𝓛 : IsModule (ring_of c).ops (IsPolynomial c) L)
+        (t : IsSupportedAt c p L) where
       pub local_members : (z : FunctionOf c) → L z ↔ (HasPowerDenominator c p z × IsLocallyIn c p L z)
       local_members z = (
-        λ m. (record { exponent = t.exponent; cleared = t.within z m }, record { factor = 𝟙; factor_in = 𝓝.one_in; multiple_in = subst L (sym (one_mul (ring_of c) z)) m }),
+        λ m. (
+          record { exponent = t.exponent; cleared = t.within z m },
+          record { factor = 𝟙; factor_in = 𝓝.one_in; multiple_in = subst L (sym (one_mul (ring_of c) z)) m },
+        ),
         λ m.
-            two_denominators (ring_of c) (IsPolynomial c) 𝓢 (IsPrimeTo c p) P 𝓝 L 𝓛 m.1.factor z (t.exponent + m.0.exponent) m.1.factor_in m.1.multiple_in
+            two_denominators (ring_of c) (IsPolynomial c) 𝓢 (IsPrimeTo c p) P 𝓝 L 𝓛 m.1.factor z
+            (t.exponent + m.0.exponent) m.1.factor_in m.1.multiple_in
             (subst L (sym (twice t.exponent m.0.exponent z)) (all_of L 𝓛 t _ m.0.cleared)),
       )
 
       -- membership up to factors prime to p is membership of one multiple
-      pub local_member : (z u : FunctionOf c) → IsPrimeTo c p u → HasPowerDenominator c p (u ⊗ z) → IsLocallyIn c p L z ↔ L (u ⊗ z)
+      pub local_member : (z u : FunctionOf c) → IsPrimeTo c p u → HasPowerDenominator c p (u ⊗ z)
+          → IsLocallyIn c p L z ↔ L (u ⊗ z)
       local_member z u u_in d = (
         λ m.
             (local_members (u ⊗ z)).1 (
@@ -232,7 +266,8 @@ module _ {k : CodeField} (c : Equation k) where
               record {
                 factor = m.factor;
                 factor_in = m.factor_in;
-                multiple_in = subst L (mul_left_comm (ring_of c) u m.factor z) (𝓛.scale_in u _ (𝓝.within u u_in) m.multiple_in);
+                multiple_in =
+                    subst L (mul_left_comm (ring_of c) u m.factor z) (𝓛.scale_in u _ (𝓝.within u u_in) m.multiple_in);
               },
             ),
         λ m. record { factor = u; factor_in = u_in; multiple_in = m },
@@ -254,17 +289,30 @@ module _ {k : CodeField} (c : Equation k) where
         exponent = suc t.exponent;
         has = λ z m.
             p_in_radical (ring_of c) O 𝓞.ring P p_member _
-            (record { quotient = power t.exponent ⊗ z; quotient_in = all_of O 𝓜 t z m; is = (ring_of c).mul_assoc _ _ z });
-        within = λ z m. subst W (sym ((ring_of c).mul_assoc P _ z)) (𝓦.scale_in P _ (record { polynomial = p; value = refl }) (t.within z m.within));
+            (record {
+              quotient = power t.exponent ⊗ z;
+              quotient_in = all_of O 𝓜 t z m;
+              is = (ring_of c).mul_assoc _ _ z;
+            });
+        within =
+            λ z m. subst W (sym ((ring_of c).mul_assoc P _ z))
+            (𝓦.scale_in P _ (record { polynomial = p; value = refl }) (t.within z m.within));
       })
 
       -- the integral functions that powers of p take into O
       pub taken_supported : ¬ (discriminant c ≡ (polynomials k).𝟘) → IsSupportedAt c p (TakenByPowers c p O)
       taken_supported some =
           supported_of_generators (TakenByPowers c p O) 𝓣 t.exponent
-          (λ z m. record { in_Int = order_integral c O 𝓞 _ (all_of O 𝓜 t z m); exponent = 0; inside = subst O (sym (one_mul (ring_of c) _)) (all_of O 𝓜 t z m) })
+          (λ z m. record {
+            in_Int = order_integral c O 𝓞 _ (all_of O 𝓜 t z m);
+            exponent = 0;
+            inside = subst O (sym (one_mul (ring_of c) _)) (all_of O 𝓜 t z m);
+          })
           (All-weaker (TakenByPowers c p O) (HasPowerDenominator c p)
-          (λ z m. record { exponent = t.exponent + m.exponent; cleared = subst W (sym (twice t.exponent m.exponent z)) (t.within _ m.inside) })
+          (λ z m. record {
+            exponent = t.exponent + m.exponent;
+            cleared = subst W (sym (twice t.exponent m.exponent z)) (t.within _ m.inside);
+          })
           𝓣.generators (lattice_generators c (TakenByPowers c p O) 𝓣))
         where
           𝓣 : IsLattice c (TakenByPowers c p O)

@@ -15,7 +15,8 @@ module _ {k : CodeField} (c : Equation k) (p : Polynomial k) where
     pub has :
         (i : ℕ) → i < degree_of_y c
         → L ((ring_of c).◌⊗◌ (pow (ring_of c).ops (of_poly c p) exponent) (pow (ring_of c).ops (y_of c) i))
-    pub within : (z : FunctionOf c) → L z → HasPolynomialCoordinates c ((ring_of c).◌⊗◌ (pow (ring_of c).ops (of_poly c p) exponent) z)
+    pub within : (z : FunctionOf c) → L z
+        → HasPolynomialCoordinates c ((ring_of c).◌⊗◌ (pow (ring_of c).ops (of_poly c p) exponent) z)
 
   -- k[x, 1/p][y]: a power of p takes z into k[x][y]
   pub record HasPowerDenominator (z : FunctionOf c) : Type 0 where

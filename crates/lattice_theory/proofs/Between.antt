@@ -1,5 +1,5 @@
--- A module between two lattices whose membership is decided is a lattice: k is finite, so finitely many functions represent the larger
--- lattice modulo the smaller one.
+-- A module between two lattices whose membership is decided is a lattice: k is finite, so finitely many functions
+-- represent the larger lattice modulo the smaller one.
 use Rattle.std.proofs.Common.{◌≡◌, All, ℕ, suc, List, [], ◌∷◌, ◌++◌, inl, inr, refl, sym, ◌∙◌, ap, subst}
 use Rattle.std.proofs.lemmas.List.Elements.{All-cons, All-nil, All-append, All-head, All-tail, All-weaker}
 use Rattle.ring_theory.specs.Subsets.{IsModule, Span}
@@ -40,7 +40,8 @@ module _ {k : CodeField} (c : Equation k) where
       pub spans : (a : Code k) → In a bs → (e : ℕ → Code k) → N ((u ⊕ code_of c a ⊗ w) ⊕ combine (space_ops c) e ws)
           → Spanned list ((u ⊕ code_of c a ⊗ w) ⊕ combine (space_ops c) e ws)
 
-    from_codes : (u w : FunctionOf c) (ws : List (FunctionOf c)) → ((a : Code k) → Members (u ⊕ code_of c a ⊗ w) ws) → (bs : List (Code k)) → Members_from u w ws bs
+    from_codes : (u w : FunctionOf c) (ws : List (FunctionOf c)) → ((a : Code k) → Members (u ⊕ code_of c a ⊗ w) ws)
+        → (bs : List (Code k)) → Members_from u w ws bs
     from_codes u w ws each [] = record { list = []; members = All-nil N; spans = λ a i. absurd i }
     from_codes u w ws each (a ∷ bs) =
         let h = each a in
@@ -51,9 +52,12 @@ module _ {k : CodeField} (c : Equation k) where
           spans = λ b i e m. at h r b i e m;
         }
       where
-        at : (h : Members (u ⊕ code_of c a ⊗ w) ws) (r : Members_from u w ws bs) (b : Code k) → In b (a ∷ bs) → (e : ℕ → Code k)
-            → N ((u ⊕ code_of c b ⊗ w) ⊕ combine (space_ops c) e ws) → Spanned (h.list ++ r.list) ((u ⊕ code_of c b ⊗ w) ⊕ combine (space_ops c) e ws)
-        at h r b (inr i) e m = span_append_right (ring_of c) (IsPolynomial c) (polynomials_subring c) h.list r.list _ (r.spans b i e m)
+        at : (h : Members (u ⊕ code_of c a ⊗ w) ws) (r : Members_from u w ws bs) (b : Code k) → In b (a ∷ bs)
+            → (e : ℕ → Code k)
+            → N ((u ⊕ code_of c b ⊗ w) ⊕ combine (space_ops c) e ws)
+            → Spanned (h.list ++ r.list) ((u ⊕ code_of c b ⊗ w) ⊕ combine (space_ops c) e ws)
+        at h r b (inr i) e m =
+            span_append_right (ring_of c) (IsPolynomial c) (polynomials_subring c) h.list r.list _ (r.spans b i e m)
         at h r b (inl i) e m =
             subst (λ x. Spanned (h.list ++ r.list) ((u ⊕ code_of c x ⊗ w) ⊕ combine (space_ops c) e ws)) (sym i)
             (span_append_left (ring_of c) (IsPolynomial c) (polynomials_subring c) h.list r.list _
@@ -67,21 +71,25 @@ module _ {k : CodeField} (c : Equation k) where
           list = u ∷ [];
           members = All-cons N u [] m (All-nil N);
           spans = λ e m'.
-              subst (Spanned (u ∷ [])) (sym ((ring_of c).add_zero u)) (span_head (ring_of c) (IsPolynomial c) (polynomials_subring c) u []);
+              subst (Spanned (u ∷ [])) (sym ((ring_of c).add_zero u))
+              (span_head (ring_of c) (IsPolynomial c) (polynomials_subring c) u []);
         }
-        go (no n) = record { list = []; members = All-nil N; spans = λ e m. absurd (n (subst N ((ring_of c).add_zero u) m)) }
+        go (no n) =
+            record { list = []; members = All-nil N; spans = λ e m. absurd (n (subst N ((ring_of c).add_zero u) m)) }
     members (w ∷ ws) h u u_in =
         let 𝓢 = lattice_subspace c B 𝓑 in
         let r =
         from_codes u w ws
-        (λ a. members ws (All-tail B w ws h) (u ⊕ code_of c a ⊗ w) (𝓢.sum_in _ _ u_in (𝓢.scale_in a w (All-head B w ws h))))
+        (λ a. members ws (All-tail B w ws h) (u ⊕ code_of c a ⊗ w)
+        (𝓢.sum_in _ _ u_in (𝓢.scale_in a w (All-head B w ws h))))
         (code_finite k).codes in
         record {
           list = r.list;
           members = r.members;
           spans = λ e m.
               subst (Spanned r.list) ((ring_of c).add_assoc u _ _)
-              (r.spans (e 0) ((code_finite k).codes_all (e 0)) (λ i. e (suc i)) (subst N (sym ((ring_of c).add_assoc u _ _)) m));
+              (r.spans (e 0) ((code_finite k).codes_all (e 0)) (λ i. e (suc i))
+              (subst N (sym ((ring_of c).add_assoc u _ _)) m));
         }
 
     -- the module is a lattice
@@ -89,7 +97,12 @@ module _ {k : CodeField} (c : Equation k) where
         → ((z : FunctionOf c) → A z → N z) → ((z : FunctionOf c) → N z → B z) → IsLattice c N
     lattice_between A 𝓐 𝓝 inner outer = record {
       generators = r.list ++ 𝓐.generators;
-      spanned = λ z. (to z, span_least (ring_of c) (IsPolynomial c) (polynomials_subring c) N 𝓝 (r.list ++ 𝓐.generators) all_in z);
+      spanned =
+          λ z. (
+            to z,
+            span_least (ring_of c) (IsPolynomial c) (polynomials_subring c) N 𝓝 (r.list ++ 𝓐.generators)
+                all_in z,
+          );
       full = λ z. let f = 𝓐.full z in record { factor = f.factor; some = f.some; multiple_in = inner _ f.multiple_in };
     }
       where
@@ -113,8 +126,11 @@ module _ {k : CodeField} (c : Equation k) where
             let 𝓢 = span_module (ring_of c) (IsPolynomial c) (polynomials_subring c) (r.list ++ 𝓐.generators) in
             let v_in : N (𝟘 ⊕ v)
             = subst N (ap (λ x. x ⊕ (⊖ 𝟙) ⊗ t.rest) t.is ∙ difference v t.rest)
-            (𝓝.sum_in _ _ z_in (𝓝.scale_in (⊖ 𝟙) t.rest ((polynomials_subring c).neg_in 𝟙 (polynomials_subring c).one_in) (inner t.rest t.rest_in))) in
+            (𝓝.sum_in _ _ z_in (𝓝.scale_in (⊖ 𝟙) t.rest
+            ((polynomials_subring c).neg_in 𝟙 (polynomials_subring c).one_in) (inner t.rest t.rest_in))) in
             subst (Spanned (r.list ++ 𝓐.generators)) (sym (t.is ∙ ap (λ x. x ⊕ t.rest) (sym (zero_add (ring_of c) v))))
             (𝓢.sum_in _ _
-            (span_append_left (ring_of c) (IsPolynomial c) (polynomials_subring c) r.list 𝓐.generators _ (r.spans t.coefficient v_in))
-            (span_append_right (ring_of c) (IsPolynomial c) (polynomials_subring c) r.list 𝓐.generators _ ((𝓐.spanned t.rest).0 t.rest_in)))
+            (span_append_left (ring_of c) (IsPolynomial c) (polynomials_subring c) r.list 𝓐.generators _
+            (r.spans t.coefficient v_in))
+            (span_append_right (ring_of c) (IsPolynomial c) (polynomials_subring c) r.list 𝓐.generators _
+            ((𝓐.spanned t.rest).0 t.rest_in)))

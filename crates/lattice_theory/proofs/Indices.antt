@@ -59,7 +59,8 @@ module _ {k : CodeField} (c : Equation k) where
   abbrev pub space : Module (code_ring k).ring (FunctionOf c)
   space = restricted (code_ring k).ring (ring_of c) code_of code_hom
 
-  pub module_subspace : (L : FunctionOf c → Type 0) → IsModule (ring_of c).ops (IsPolynomial c) L → IsSubspace (space_ops c) L
+  pub module_subspace : (L : FunctionOf c → Type 0) → IsModule (ring_of c).ops (IsPolynomial c) L
+      → IsSubspace (space_ops c) L
   module_subspace L 𝓛 = record {
     zero_in = 𝓛.zero_in;
     sum_in = 𝓛.sum_in;
@@ -70,19 +71,27 @@ module _ {k : CodeField} (c : Equation k) where
   lattice_subspace L 𝓛 = module_subspace L (lattice_module c L 𝓛)
 
   module _ (d : Polynomial k) (n : ¬ (d ≡ (polynomials k).𝟘)) where
-    part_combine : (e : ℕ → Code k) (rs : List (Rows c)) → part c d n (scalar_combine (module_of c) e rs) ≡ combine (space_ops c) e (map (part c d n) rs)
+    part_combine : (e : ℕ → Code k) (rs : List (Rows c)) → part c d n (scalar_combine (module_of c) e rs)
+        ≡ combine (space_ops c) e (map (part c d n) rs)
     part_combine e [] = part_zero c d n
-    part_combine e (r ∷ rs) = part_add c d n _ _ ∙ ap₂ ◌⊕◌ (part_scale c d n (constant (code_ring k) (e 0)) r) (part_combine (tail_of e) rs)
+    part_combine e (r ∷ rs) = part_add c d n _ _
+        ∙ ap₂ ◌⊕◌ (part_scale c d n (constant (code_ring k) (e 0)) r) (part_combine (tail_of e) rs)
 
     part_neg : (v : Rows c) → part c d n ((module_of c).⊟◌ v) ≡ ⊖ part c d n v
-    part_neg v = neg_unique (ring_of c) _ _ (sym (part_add c d n v _) ∙ ap (part c d n) (v_add_neg (module_of c) v) ∙ part_zero c d n)
+    part_neg v =
+        neg_unique (ring_of c) _ _
+        (sym (part_add c d n v _) ∙ ap (part c d n) (v_add_neg (module_of c) v) ∙ part_zero c d n)
 
-  module _ (A B : FunctionOf c → Type 0) (d : Polynomial k) (n : ¬ (d ≡ (polynomials k).𝟘)) (a : AtDen c A d n) (b : AtDen c B d n) (within : (z : FunctionOf c) → A z → B z) where
+  module _ (A B : FunctionOf c → Type 0) (d : Polynomial k) (n : ¬ (d ≡ (polynomials k).𝟘)) (a : AtDen c A d n)
+      (b : AtDen c B d n) (within : (z : FunctionOf c) → A z → B z) where
     -- a basis of the rows is one of the functions
-    row_basis : (g : List (Rows c)) → IsBasisModulo (module_of c) (InSpan (module_of c) b.rows) (InSpan (module_of c) a.rows) g
+    row_basis : (g : List (Rows c))
+        → IsBasisModulo (module_of c) (InSpan (module_of c) b.rows) (InSpan (module_of c) a.rows) g
         → IsBasis (code_ring k).ops (space_ops c) A B (map (part c d n) g)
     row_basis g h = record {
-      members_in = All-map B (part c d n) g (All-from_get_or (λ v. B (part c d n v)) g (module_of c).𝟎 (λ i l. b.from_rows _ (h.members i)));
+      members_in =
+          All-map B (part c d n) g (All-from_get_or (λ v. B (part c d n v)) g (module_of c).𝟎
+          (λ i l. b.from_rows _ (h.members i)));
       spanning = λ z z_in.
           let t = b.each z z_in in
           let v_in : InSpan (module_of c) b.rows t.0 = b.to_rows t.0 (subst B t.1 z_in) in
@@ -107,14 +116,20 @@ module _ {k : CodeField} (c : Equation k) where
     dimension = dimension_of (module_of c) (code_field k) a.rows b.rows a.popov b.popov rows_within
 
     pub index_at : HasIndex c A B (length dimension.basis)
-    index_at = record { basis = map (part c d n) dimension.basis; is = row_basis dimension.basis dimension.is; count = length-map dimension.basis (part c d n) }
+    index_at =
+        record {
+          basis = map (part c d n) dimension.basis;
+          is = row_basis dimension.basis dimension.is;
+          count = length-map dimension.basis (part c d n);
+        }
 
     pub index_size : length dimension.basis + pivot_degree (module_of c) b.rows ≡ pivot_degree (module_of c) a.rows
     index_size = dimension.size
 
   module _ (A B : FunctionOf c → Type 0) (𝓐 : IsLattice c A) where
     pub index_once : (g h : ℕ) → HasIndex c A B g → HasIndex c A B h → g ≡ h
-    index_once g h i j = sym i.count ∙ bases_same_length (domain_of (codes k)) space A (lattice_subspace A 𝓐) B i.basis j.basis i.is j.is ∙ j.count
+    index_once g h i j = sym i.count
+        ∙ bases_same_length (domain_of (codes k)) space A (lattice_subspace A 𝓐) B i.basis j.basis i.is j.is ∙ j.count
 
     -- where it is 0, the lattices are equal
     pub index_zero : HasIndex c A B 0 → (z : FunctionOf c) → B z → A z
@@ -129,7 +144,13 @@ module _ {k : CodeField} (c : Equation k) where
       basis = [];
       is = record {
         members_in = All-nil B;
-        spanning = λ v h. record { coefficient = λ i. (code_ring k).𝟘; rest = v; rest_in = within v h; is = sym (zero_add (ring_of c) v) };
+        spanning =
+            λ v h. record {
+              coefficient = λ i. (code_ring k).𝟘;
+              rest = v;
+              rest_in = within v h;
+              is = sym (zero_add (ring_of c) v);
+            };
         independent = λ e m i l. absurd (omega arith);
       };
       count = refl;
@@ -143,11 +164,13 @@ module _ {k : CodeField} (c : Equation k) where
 
   -- indices add
   pub index_add : (A B C : FunctionOf c → Type 0) → IsLattice c A → IsLattice c B → IsLattice c C
-      → ((z : FunctionOf c) → A z → B z) → ((z : FunctionOf c) → B z → C z) → (g h : ℕ) → HasIndex c A B g → HasIndex c B C h → HasIndex c A C (g + h)
+      → ((z : FunctionOf c) → A z → B z) → ((z : FunctionOf c) → B z → C z) → (g h : ℕ) → HasIndex c A B g
+      → HasIndex c B C h → HasIndex c A C (g + h)
   index_add A B C 𝓐 𝓑 𝓒 inner outer g h i j = record {
     basis = j.basis ++ i.basis;
     is =
-        basis_tower (codes k) space A B C (lattice_subspace A 𝓐) (lattice_subspace B 𝓑) (lattice_subspace C 𝓒) inner outer
+        basis_tower (codes k) space A B C (lattice_subspace A 𝓐) (lattice_subspace B 𝓑) (lattice_subspace C 𝓒) inner
+        outer
         i.basis j.basis i.is j.is;
     count = let e = i.count in let f = j.count in omega (arith, length-append j.basis i.basis);
   }
@@ -161,4 +184,5 @@ module _ {k : CodeField} (c : Equation k) where
       go : (n : ℕ) × HasIndex c A A' n → h < g
       go (zero, t) = absurd (differ (index_zero A A' 𝓐 t))
       go (suc n, t) =
-          let e : suc n + h ≡ g = index_once A B 𝓐 (suc n + h) g (index_add A A' B 𝓐 𝓐' 𝓑 inner outer (suc n) h t j) i in omega arith
+          let e : suc n + h ≡ g = index_once A B 𝓐 (suc n + h) g (index_add A A' B 𝓐 𝓐' 𝓑 inner outer (suc n) h t j)
+          i in omega arith

@@ -30,22 +30,27 @@ module _ {k : CodeField} (c : Equation k) where
   pub span_decided : (gs : List (FunctionOf c)) (z : FunctionOf c) → Dec (Spanned gs z)
   span_decided gs z = go (common c (z ∷ gs))
     where
-      decide : (d : Polynomial k) (n : ¬ (d ≡ (polynomials k).𝟘)) (v : Rows c) (rs : List (Rows c)) → Dec (Spanned (map (part c d n) rs) (part c d n v))
+      decide : (d : Polynomial k) (n : ¬ (d ≡ (polynomials k).𝟘)) (v : Rows c) (rs : List (Rows c))
+          → Dec (Spanned (map (part c d n) rs) (part c d n v))
       decide d n v rs = by (in_span_or_not (module_of c) (code_field k) r.rows r.weak v)
         where
           r : Reduced (module_of c) (code_field k) rs
           r = reduce (module_of c) (code_field k) rs
 
-          by : InSpan (module_of c) r.rows v ⊎ (InSpan (module_of c) r.rows v → ⊥) → Dec (Spanned (map (part c d n) rs) (part c d n v))
+          by : InSpan (module_of c) r.rows v ⊎ (InSpan (module_of c) r.rows v → ⊥)
+              → Dec (Spanned (map (part c d n) rs) (part c d n v))
           by (inl h) = yes (span_of_rows c d n rs v ((reduced_span (module_of c) (code_field k) rs r).right.within v h))
-          by (inr h) = no (λ s. h ((reduced_span (module_of c) (code_field k) rs r).left.within v (rows_of_part c d n rs v s)))
+          by (inr h) =
+              no (λ s. h ((reduced_span (module_of c) (code_field k) rs r).left.within v (rows_of_part c d n rs v s)))
 
-      cases : (d : Polynomial k) (n : ¬ (d ≡ (polynomials k).𝟘)) (rs : List (Rows c)) → z ∷ gs ≡ map (part c d n) rs → Dec (Spanned gs z)
+      cases : (d : Polynomial k) (n : ¬ (d ≡ (polynomials k).𝟘)) (rs : List (Rows c)) → z ∷ gs ≡ map (part c d n) rs
+          → Dec (Spanned gs z)
       cases d n [] e = let f : ◌≡◌ {A = List (FunctionOf c)} (z ∷ gs) [] = e in absurd (cc)
       cases d n (v ∷ rs) e =
           let f : z ≡ part c d n v = cc in
           let g : gs ≡ map (part c d n) rs = cc in
-          subst (λ w. Dec (Spanned gs w)) (sym f) (subst (λ hs. Dec (Spanned hs (part c d n v))) (sym g) (decide d n v rs))
+          subst (λ w. Dec (Spanned gs w)) (sym f)
+          (subst (λ hs. Dec (Spanned hs (part c d n v))) (sym g) (decide d n v rs))
 
       go : Common c (z ∷ gs) → Dec (Spanned gs z)
       go t = cases t.den t.not_zero t.over_one.rows t.over_one.is
@@ -80,12 +85,14 @@ module _ {k : CodeField} (c : Equation k) where
     pub each : (z : FunctionOf c) → L z → (v : Rows c) × (z ≡ part c d n v)
     pub popov : IsPopov (module_of c) rows
 
-  pub lattice_at : (L : FunctionOf c → Type 0) (𝓛 : IsLattice c L) (d : Polynomial k) (n : ¬ (d ≡ (polynomials k).𝟘)) → OverOne c d n 𝓛.generators → AtDen L d n
+  pub lattice_at : (L : FunctionOf c → Type 0) (𝓛 : IsLattice c L) (d : Polynomial k) (n : ¬ (d ≡ (polynomials k).𝟘))
+      → OverOne c d n 𝓛.generators → AtDen L d n
   lattice_at L 𝓛 d n h = record {
     rows = form.rows;
     to_rows = λ v m. form.same_span.left.within v (to v m);
     from_rows = λ v m. from v (form.same_span.right.within v m);
-    each = λ z m. let t = rows_of_span c d n h.rows z (subst (λ gs. Spanned gs z) h.is ((𝓛.spanned z).0 m)) in (t.0, t.2);
+    each = λ z m. let t = rows_of_span c d n h.rows z (subst (λ gs. Spanned gs z) h.is ((𝓛.spanned z).0 m)) in
+        (t.0, t.2);
     popov = form.is;
   }
     where
@@ -122,6 +129,7 @@ module _ {k : CodeField} (c : Equation k) where
       record {
         den = (polynomials k).◌⊗◌ a.den b.den;
         not_zero = both;
-        left = lattice_at A 𝓐 _ both (more c b.den a.den _ a.not_zero both ((polynomials k).mul_comm a.den b.den) 𝓐.generators a.over_one);
+        left = lattice_at A 𝓐 _ both
+            (more c b.den a.den _ a.not_zero both ((polynomials k).mul_comm a.den b.den) 𝓐.generators a.over_one);
         right = lattice_at B 𝓑 _ both (more c a.den b.den _ b.not_zero both refl 𝓑.generators b.over_one);
       }

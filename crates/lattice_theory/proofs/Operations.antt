@@ -66,7 +66,8 @@ module _ {k : CodeField} (c : Equation k) where
 
   -- a polynomial other than 0 has an inverse in F
   pub inverse_of : (a : Polynomial k) → ¬ (a ≡ (polynomials k).𝟘) → (u : FunctionOf c) × (of_poly c a ⊗ u ≡ 𝟙)
-  inverse_of a n = (over c (row_of c (polynomials k).𝟙) a n, over_times_den c (polynomials k).𝟙 a n ∙ sym (of_poly_one c))
+  inverse_of a n =
+      (over c (row_of c (polynomials k).𝟙) a n, over_times_den c (polynomials k).𝟙 a n ∙ sym (of_poly_one c))
 
   polynomial_in : (a : Polynomial k) → IsPolynomial c (of_poly c a)
   polynomial_in a = record { polynomial = a; value = refl }
@@ -80,16 +81,28 @@ module _ {k : CodeField} (c : Equation k) where
     pub multiple_lattice : (u v : FunctionOf c) → u ⊗ v ≡ 𝟙 → IsLattice c (Multiple (ring_of c).ops u L)
     multiple_lattice u v e = record {
       generators = map (◌⊗◌ u) 𝓛.generators;
-      spanned = λ z. (to z, span_least (ring_of c) (IsPolynomial c) 𝓢 (Multiple (ring_of c).ops u L) module_is (map (◌⊗◌ u) 𝓛.generators) all_in z);
+      spanned =
+          λ z. (
+            to z,
+            span_least (ring_of c) (IsPolynomial c) 𝓢 (Multiple (ring_of c).ops u L) module_is
+                (map (◌⊗◌ u) 𝓛.generators) all_in z,
+          );
       full = λ z. let f = 𝓛.full (v ⊗ z) in record {
         factor = f.factor;
         some = f.some;
-        multiple_in = record { quotient = of_poly c f.factor ⊗ (v ⊗ z); quotient_in = f.multiple_in; is = moved (of_poly c f.factor) z };
+        multiple_in =
+            record {
+              quotient = of_poly c f.factor ⊗ (v ⊗ z);
+              quotient_in = f.multiple_in;
+              is = moved (of_poly c f.factor) z;
+            };
       };
     }
       where
         moved : (a z : FunctionOf c) → a ⊗ z ≡ u ⊗ (a ⊗ (v ⊗ z))
-        moved a z = ap (λ x. a ⊗ x) (sym (one_mul (ring_of c) z) ∙ ap (λ x. x ⊗ z) (sym e) ∙ (ring_of c).mul_assoc u v z) ∙ mul_left_comm (ring_of c) a u (v ⊗ z)
+        moved a z =
+            ap (λ x. a ⊗ x) (sym (one_mul (ring_of c) z) ∙ ap (λ x. x ⊗ z) (sym e) ∙ (ring_of c).mul_assoc u v z)
+            ∙ mul_left_comm (ring_of c) a u (v ⊗ z)
 
         module_is : IsModule (ring_of c).ops (IsPolynomial c) (Multiple (ring_of c).ops u L)
         module_is = multiple_module (ring_of c) (IsPolynomial c) L (lattice_module c L 𝓛) u
@@ -97,23 +110,31 @@ module _ {k : CodeField} (c : Equation k) where
         to : (z : FunctionOf c) → Multiple (ring_of c).ops u L z → Spanned (map (◌⊗◌ u) 𝓛.generators) z
         to z h =
             subst (Spanned (map (◌⊗◌ u) 𝓛.generators)) (sym h.is)
-            (span_multiples (ring_of c) (IsPolynomial c) 𝓢 u 𝓛.generators h.quotient ((𝓛.spanned h.quotient).0 h.quotient_in))
+            (span_multiples (ring_of c) (IsPolynomial c) 𝓢 u 𝓛.generators h.quotient
+            ((𝓛.spanned h.quotient).0 h.quotient_in))
 
         all_in : All (Multiple (ring_of c).ops u L) (map (◌⊗◌ u) 𝓛.generators)
         all_in =
             All-map (Multiple (ring_of c).ops u L) (◌⊗◌ u) 𝓛.generators
-            (All-weaker L (λ z. Multiple (ring_of c).ops u L (u ⊗ z)) (λ z h. record { quotient = z; quotient_in = h; is = refl }) 𝓛.generators
+            (All-weaker L (λ z. Multiple (ring_of c).ops u L (u ⊗ z))
+            (λ z h. record { quotient = z; quotient_in = h; is = refl }) 𝓛.generators
             (lattice_generators c L 𝓛))
 
     -- one polynomial takes another lattice into it
     pub common_factor : (A : FunctionOf c → Type 0) → IsLattice c A
         → (a : Polynomial k) × (¬ (a ≡ (polynomials k).𝟘)) × ((z : FunctionOf c) → A z → L (of_poly c a ⊗ z))
-    common_factor A 𝓐 = let t = for_list 𝓐.generators in (t.0, t.1, λ z h. span_least (ring_of c) (IsPolynomial c) 𝓢 _ (taken t.0) 𝓐.generators t.2 z ((𝓐.spanned z).0 h))
+    common_factor A 𝓐 = let t = for_list 𝓐.generators in (
+      t.0,
+      t.1,
+      λ z h. span_least (ring_of c) (IsPolynomial c) 𝓢 _ (taken t.0) 𝓐.generators t.2 z
+          ((𝓐.spanned z).0 h),
+    )
       where
         taken : (a : Polynomial k) → IsModule (ring_of c).ops (IsPolynomial c) (λ z. L (of_poly c a ⊗ z))
         taken a = quotient_module (ring_of c) (IsPolynomial c) L (lattice_module c L 𝓛) (of_poly c a)
 
-        for_list : (gs : List (FunctionOf c)) → (a : Polynomial k) × (¬ (a ≡ (polynomials k).𝟘)) × All (λ z. L (of_poly c a ⊗ z)) gs
+        for_list : (gs : List (FunctionOf c)) → (a : Polynomial k) × (¬ (a ≡ (polynomials k).𝟘))
+            × All (λ z. L (of_poly c a ⊗ z)) gs
         for_list [] = ((polynomials k).𝟙, (polynomials_domain k).one_not_zero, All-nil _)
         for_list (g ∷ gs) =
             let t = for_list gs in
@@ -121,15 +142,19 @@ module _ {k : CodeField} (c : Equation k) where
               (polynomials k).◌⊗◌ f.factor t.0,
               product_not_zero (polynomials_domain k) f.factor t.0 f.some t.1,
               All-cons (λ z. L (of_poly c ((polynomials k).◌⊗◌ f.factor t.0) ⊗ z)) g gs
-                  (subst L (swapped f.factor t.0 g) ((lattice_module c L 𝓛).scale_in _ _ (polynomial_in t.0) f.multiple_in))
+                  (subst L (swapped f.factor t.0 g)
+                  ((lattice_module c L 𝓛).scale_in _ _ (polynomial_in t.0) f.multiple_in))
                   (All-weaker (λ z. L (of_poly c t.0 ⊗ z)) (λ z. L (of_poly c ((polynomials k).◌⊗◌ f.factor t.0) ⊗ z))
-                  (λ z h. subst L (joined f.factor t.0 z) ((lattice_module c L 𝓛).scale_in _ _ (polynomial_in f.factor) h)) gs t.2),
+                  (λ z h. subst L (joined f.factor t.0 z)
+                  ((lattice_module c L 𝓛).scale_in _ _ (polynomial_in f.factor) h)) gs t.2),
             )
           where
-            joined : (a b : Polynomial k) (z : FunctionOf c) → of_poly c a ⊗ (of_poly c b ⊗ z) ≡ of_poly c ((polynomials k).◌⊗◌ a b) ⊗ z
+            joined : (a b : Polynomial k) (z : FunctionOf c) → of_poly c a ⊗ (of_poly c b ⊗ z)
+                ≡ of_poly c ((polynomials k).◌⊗◌ a b) ⊗ z
             joined a b z = sym ((ring_of c).mul_assoc _ _ z) ∙ ap (λ x. x ⊗ z) (sym ((poly_hom c).mul a b))
 
-            swapped : (a b : Polynomial k) (z : FunctionOf c) → of_poly c b ⊗ (of_poly c a ⊗ z) ≡ of_poly c ((polynomials k).◌⊗◌ a b) ⊗ z
+            swapped : (a b : Polynomial k) (z : FunctionOf c) → of_poly c b ⊗ (of_poly c a ⊗ z)
+                ≡ of_poly c ((polynomials k).◌⊗◌ a b) ⊗ z
             swapped a b z = mul_left_comm (ring_of c) _ _ z ∙ joined a b z
 
   -- k[x][y]
@@ -138,13 +163,19 @@ module _ {k : CodeField} (c : Equation k) where
     generators = map (part c one some) (units (module_of c));
     spanned = λ z. (
       λ h. subst (Spanned (map (part c one some) (units (module_of c)))) (sym h.value)
-          (span_of_rows c one some (units (module_of c)) h.coordinates (in_units (module_of c) (code_field k) h.coordinates)),
+          (span_of_rows c one some (units (module_of c)) h.coordinates
+          (in_units (module_of c) (code_field k) h.coordinates)),
       λ h. let t = rows_of_span c one some (units (module_of c)) z h in record { coordinates = t.0; value = t.2 },
     );
     full = λ z. let r = as_row c z in record {
       factor = r.den;
       some = r.not_zero;
-      multiple_in = record { coordinates = r.num; value = ap (λ x. of_poly c r.den ⊗ x) r.is ∙ den_times c (record { num = r.num; den = r.den; den_not_zero = r.not_zero }) ∙ at_y_plain c r.num };
+      multiple_in =
+          record {
+            coordinates = r.num;
+            value = ap (λ x. of_poly c r.den ⊗ x) r.is
+                ∙ den_times c (record { num = r.num; den = r.den; den_not_zero = r.not_zero }) ∙ at_y_plain c r.num;
+          };
     };
   }
     where
@@ -163,21 +194,38 @@ module _ {k : CodeField} (c : Equation k) where
         λ h.
             subst (Spanned (𝓐.generators ++ 𝓑.generators)) (sym h.is)
             ((span_module (ring_of c) (IsPolynomial c) 𝓢 (𝓐.generators ++ 𝓑.generators)).sum_in _ _
-            (span_append_left (ring_of c) (IsPolynomial c) 𝓢 𝓐.generators 𝓑.generators h.left ((𝓐.spanned h.left).0 h.left_in))
-            (span_append_right (ring_of c) (IsPolynomial c) 𝓢 𝓐.generators 𝓑.generators h.right ((𝓑.spanned h.right).0 h.right_in))),
+            (span_append_left (ring_of c) (IsPolynomial c) 𝓢 𝓐.generators 𝓑.generators h.left
+            ((𝓐.spanned h.left).0 h.left_in))
+            (span_append_right (ring_of c) (IsPolynomial c) 𝓢 𝓐.generators 𝓑.generators h.right
+            ((𝓑.spanned h.right).0 h.right_in))),
         span_least (ring_of c) (IsPolynomial c) 𝓢 (IsSum (space_ops c) A B) sum_module (𝓐.generators ++ 𝓑.generators)
             (All-append (IsSum (space_ops c) A B) 𝓐.generators 𝓑.generators
             (All-weaker A (IsSum (space_ops c) A B) in_left 𝓐.generators (lattice_generators c A 𝓐))
             (All-weaker B (IsSum (space_ops c) A B) in_right 𝓑.generators (lattice_generators c B 𝓑))) z,
       );
-      full = λ z. let f = 𝓐.full z in record { factor = f.factor; some = f.some; multiple_in = in_left _ f.multiple_in };
+      full = λ z. let f = 𝓐.full z in
+          record { factor = f.factor; some = f.some; multiple_in = in_left _ f.multiple_in };
     }
       where
         in_left : (z : FunctionOf c) → A z → IsSum (space_ops c) A B z
-        in_left z h = record { left = z; left_in = h; right = 𝟘; right_in = (lattice_module c B 𝓑).zero_in; is = sym ((ring_of c).add_zero z) }
+        in_left z h =
+            record {
+              left = z;
+              left_in = h;
+              right = 𝟘;
+              right_in = (lattice_module c B 𝓑).zero_in;
+              is = sym ((ring_of c).add_zero z);
+            }
 
         in_right : (z : FunctionOf c) → B z → IsSum (space_ops c) A B z
-        in_right z h = record { left = 𝟘; left_in = (lattice_module c A 𝓐).zero_in; right = z; right_in = h; is = sym (zero_add (ring_of c) z) }
+        in_right z h =
+            record {
+              left = 𝟘;
+              left_in = (lattice_module c A 𝓐).zero_in;
+              right = z;
+              right_in = h;
+              is = sym (zero_add (ring_of c) z);
+            }
 
         sum_module : IsModule (ring_of c).ops (IsPolynomial c) (IsSum (space_ops c) A B)
         sum_module = record {
@@ -205,10 +253,12 @@ module _ {k : CodeField} (c : Equation k) where
       spanned = λ z. (
         λ h.
             (product_of_spans (ring_of c) (IsPolynomial c) 𝓢 𝓐.generators 𝓑.generators z).0
-            (product_monotone (ring_of c) (IsPolynomial c) 𝓢 A B (Spanned 𝓐.generators) (Spanned 𝓑.generators) (span_module (ring_of c) (IsPolynomial c) 𝓢 𝓐.generators)
+            (product_monotone (ring_of c) (IsPolynomial c) 𝓢 A B (Spanned 𝓐.generators) (Spanned 𝓑.generators)
+            (span_module (ring_of c) (IsPolynomial c) 𝓢 𝓐.generators)
             (λ a. (𝓐.spanned a).0) (λ a. (𝓑.spanned a).0) z h),
         λ h.
-            product_monotone (ring_of c) (IsPolynomial c) 𝓢 (Spanned 𝓐.generators) (Spanned 𝓑.generators) A B (lattice_module c A 𝓐)
+            product_monotone (ring_of c) (IsPolynomial c) 𝓢 (Spanned 𝓐.generators) (Spanned 𝓑.generators) A B
+            (lattice_module c A 𝓐)
             (λ a. (𝓐.spanned a).1) (λ a. (𝓑.spanned a).1) z
             ((product_of_spans (ring_of c) (IsPolynomial c) 𝓢 𝓐.generators 𝓑.generators z).1 h),
       );
@@ -216,24 +266,32 @@ module _ {k : CodeField} (c : Equation k) where
         factor = (polynomials k).◌⊗◌ f.factor d.0;
         some = product_not_zero (polynomials_domain k) f.factor d.0 f.some d.1;
         multiple_in =
-            subst (Product (ring_of c).ops A B) (moved f.factor d.0 z) (product_member (ring_of c) (IsPolynomial c) 𝓢 A B _ _ f.multiple_in d.2);
+            subst (Product (ring_of c).ops A B) (moved f.factor d.0 z)
+            (product_member (ring_of c) (IsPolynomial c) 𝓢 A B _ _ f.multiple_in d.2);
       };
     }
       where
-        moved : (a b : Polynomial k) (z : FunctionOf c) → (of_poly c a ⊗ z) ⊗ of_poly c b ≡ of_poly c ((polynomials k).◌⊗◌ a b) ⊗ z
+        moved : (a b : Polynomial k) (z : FunctionOf c) → (of_poly c a ⊗ z) ⊗ of_poly c b
+            ≡ of_poly c ((polynomials k).◌⊗◌ a b) ⊗ z
         moved a b z =
-            (ring_of c).mul_assoc _ z _ ∙ ap (λ x. of_poly c a ⊗ x) ((ring_of c).mul_comm z _) ∙ sym ((ring_of c).mul_assoc _ _ z)
+            (ring_of c).mul_assoc _ z _ ∙ ap (λ x. of_poly c a ⊗ x) ((ring_of c).mul_comm z _)
+            ∙ sym ((ring_of c).mul_assoc _ _ z)
             ∙ ap (λ x. x ⊗ z) (sym ((poly_hom c).mul a b))
 
     -- the intersection
     pub intersection_lattice : IsLattice c (λ z. A z × B z)
     intersection_lattice =
-        lattice_between c (λ z. A z × B z) A 𝓐 (λ z h. by z h (lattice_decided c B 𝓑 z)) (Multiple (ring_of c).ops (of_poly c d.0) A)
+        lattice_between c (λ z. A z × B z) A 𝓐 (λ z h. by z h (lattice_decided c B 𝓑 z))
+        (Multiple (ring_of c).ops (of_poly c d.0) A)
         (multiple_lattice A 𝓐 (of_poly c d.0) (inverse_of d.0 d.1).0 (inverse_of d.0 d.1).1)
         (record {
           zero_in = ((lattice_module c A 𝓐).zero_in, (lattice_module c B 𝓑).zero_in);
           sum_in = λ u v h h'. ((lattice_module c A 𝓐).sum_in u v h.0 h'.0, (lattice_module c B 𝓑).sum_in u v h.1 h'.1);
-          scale_in = λ s u s_in h. ((lattice_module c A 𝓐).scale_in s u s_in h.0, (lattice_module c B 𝓑).scale_in s u s_in h.1);
+          scale_in =
+              λ s u s_in h. (
+                (lattice_module c A 𝓐).scale_in s u s_in h.0,
+                (lattice_module c B 𝓑).scale_in s u s_in h.1,
+              );
         })
         (λ z h. (
           subst A (sym h.is) ((lattice_module c A 𝓐).scale_in _ _ (polynomial_in d.0) h.quotient_in),
@@ -263,7 +321,8 @@ module _ {k : CodeField} (c : Equation k) where
         (λ z h. record {
           quotient = z ⊗ of_poly c e.0;
           quotient_in = h (of_poly c e.0) e.2;
-          is = sym (mul_left_comm (ring_of c) inverse.0 z (of_poly c e.0) ∙ ap (λ x. z ⊗ x) ((ring_of c).mul_comm _ _ ∙ inverse.1) ∙ (ring_of c).mul_one z);
+          is = sym (mul_left_comm (ring_of c) inverse.0 z (of_poly c e.0)
+              ∙ ap (λ x. z ⊗ x) ((ring_of c).mul_comm _ _ ∙ inverse.1) ∙ (ring_of c).mul_one z);
         })
       where
         e : (a : Polynomial k) × (¬ (a ≡ (polynomials k).𝟘)) × B (of_poly c a)
@@ -272,13 +331,15 @@ module _ {k : CodeField} (c : Equation k) where
         inverse : (u : FunctionOf c) × (of_poly c e.0 ⊗ u ≡ 𝟙)
         inverse = inverse_of e.0 e.1
 
-        d : (a : Polynomial k) × (¬ (a ≡ (polynomials k).𝟘)) × ((z : FunctionOf c) → Product (ring_of c).ops A B z → A (of_poly c a ⊗ z))
+        d : (a : Polynomial k) × (¬ (a ≡ (polynomials k).𝟘))
+            × ((z : FunctionOf c) → Product (ring_of c).ops A B z → A (of_poly c a ⊗ z))
         d = common_factor A 𝓐 (Product (ring_of c).ops A B) product_lattice
 
         by : (z : FunctionOf c) → Dec (All (λ b. A (z ⊗ b)) 𝓑.generators) → Dec (Colon (ring_of c).ops A B z)
         by z (yes h) =
             yes (λ y y_in.
-            span_least (ring_of c) (IsPolynomial c) 𝓢 (λ y. A (z ⊗ y)) (quotient_module (ring_of c) (IsPolynomial c) A (lattice_module c A 𝓐) z) 𝓑.generators h y
+            span_least (ring_of c) (IsPolynomial c) 𝓢 (λ y. A (z ⊗ y))
+            (quotient_module (ring_of c) (IsPolynomial c) A (lattice_module c A 𝓐) z) 𝓑.generators h y
             ((𝓑.spanned y).0 y_in))
         by z (no n) = no (λ h. n (All-weaker B (λ b. A (z ⊗ b)) h 𝓑.generators (lattice_generators c B 𝓑)))
 
@@ -287,5 +348,7 @@ module _ {k : CodeField} (c : Equation k) where
     lattice_within = go (decide_all B (lattice_decided c B 𝓑) 𝓐.generators)
       where
         go : Dec (All B 𝓐.generators) → Dec ((z : FunctionOf c) → A z → B z)
-        go (yes h) = yes (λ z m. span_least (ring_of c) (IsPolynomial c) 𝓢 B (lattice_module c B 𝓑) 𝓐.generators h z ((𝓐.spanned z).0 m))
+        go (yes h) =
+            yes (λ z m. span_least (ring_of c) (IsPolynomial c) 𝓢 B (lattice_module c B 𝓑) 𝓐.generators h z
+            ((𝓐.spanned z).0 m))
         go (no n) = no (λ f. n (All-weaker A B f 𝓐.generators (lattice_generators c A 𝓐)))

@@ -23,7 +23,8 @@ row_cancel : (k : CodeField) (n : ℕ) (d : Polynomial k) (v w : Row (Polynomial
 unfolding row_scale
 row_cancel k zero d v w some h = refl
 row_cancel k (suc m) d (a, v) (b, w) some h =
-    pair_path (domain_cancel (polynomials k).ring (polynomials_domain k) d a b some (ap (λ t. t.0) h)) (row_cancel k m d v w some (ap (λ t. t.1) h))
+    pair_path (domain_cancel (polynomials k).ring (polynomials_domain k) d a b some (ap (λ t. t.0) h))
+    (row_cancel k m d v w some (ap (λ t. t.1) h))
 
 module _ {k : CodeField} (c : Equation k) where
   infixl 65 ◌⊕◌
@@ -47,7 +48,8 @@ module _ {k : CodeField} (c : Equation k) where
         ap part (row_module_add (code_ring k) c.lower_degree u v)
         ∙ sym (over_sum c u v d d n n
         ∙ over_eq c _ _ _ d (bottoms_not_zero c d d n n) n
-        (ap (row_scale (polynomials k).ops (suc c.lower_degree) d) (sym (row_scale_add (polynomials k).ring (suc c.lower_degree) d u v))
+        (ap (row_scale (polynomials k).ops (suc c.lower_degree) d)
+        (sym (row_scale_add (polynomials k).ring (suc c.lower_degree) d u v))
         ∙ sym (row_scale_scale (polynomials k).ring (suc c.lower_degree) d d _)))
 
     pub part_scale : (a : Polynomial k) (v : Rows) → part (module_of.◌·◌ a v) ≡ of_poly c a ⊗ part v
@@ -56,12 +58,16 @@ module _ {k : CodeField} (c : Equation k) where
         ∙ sym (over_product c (row_of c a) v (polynomials k).𝟙 d (polynomials_domain k).one_not_zero n
         ∙ over_eq c _ _ _ d _ n
         (ap (row_scale (polynomials k).ops (suc c.lower_degree) d) (row_of_times c a v)
-        ∙ ap (λ e. row_scale (polynomials k).ops (suc c.lower_degree) e (row_scale (polynomials k).ops (suc c.lower_degree) a v))
+        ∙ ap (λ e. row_scale (polynomials k).ops (suc c.lower_degree) e
+        (row_scale (polynomials k).ops (suc c.lower_degree) a v))
         (sym ((polynomials k).mul_comm (polynomials k).𝟙 d ∙ (polynomials k).mul_one d))))
 
     pub part_zero : part module_of.𝟎 ≡ 𝟘
     part_zero =
-        ap part (row_module_zero (code_ring k) c.lower_degree ∙ sym (row_zero_scale (polynomials k).ring (suc c.lower_degree) (row_zero (polynomials k).ops (suc c.lower_degree))) ∙ sym (row_module_scale (code_ring k) c.lower_degree (polynomials k).𝟘 _))
+        ap part (row_module_zero (code_ring k) c.lower_degree
+        ∙ sym (row_zero_scale (polynomials k).ring (suc c.lower_degree)
+        (row_zero (polynomials k).ops (suc c.lower_degree)))
+        ∙ sym (row_module_scale (code_ring k) c.lower_degree (polynomials k).𝟘 _))
         ∙ part_scale (polynomials k).𝟘 (row_zero (polynomials k).ops (suc c.lower_degree))
         ∙ ap (λ x. x ⊗ part (row_zero (polynomials k).ops (suc c.lower_degree))) (sym (of_poly_zero c))
         ∙ zero_mul (ring_of c) (part (row_zero (polynomials k).ops (suc c.lower_degree)))
@@ -69,7 +75,8 @@ module _ {k : CodeField} (c : Equation k) where
     pub part_same : (u v : Rows) → part u ≡ part v → u ≡ v
     part_same u v e = row_cancel k (suc c.lower_degree) d u v n (over_same c u v d d n n e)
 
-    span_combine : (rs : List Rows) (e : ℕ → Polynomial k) → Span (ring_of c).ops (IsPolynomial c) (map part rs) (part (combine module_of e rs))
+    span_combine : (rs : List Rows) (e : ℕ → Polynomial k)
+        → Span (ring_of c).ops (IsPolynomial c) (map part rs) (part (combine module_of e rs))
     span_combine [] e = part_zero
     span_combine (r ∷ rs) e = record {
       scalar = of_poly c (e 0);
@@ -79,8 +86,11 @@ module _ {k : CodeField} (c : Equation k) where
       is = part_add _ _ ∙ ap (λ x. x ⊕ part (combine module_of (tail_of e) rs)) (part_scale (e 0) r);
     }
 
-    pub span_of_rows : (rs : List Rows) (v : Rows) → InSpan module_of rs v → Span (ring_of c).ops (IsPolynomial c) (map part rs) (part v)
-    span_of_rows rs v h = subst (Span (ring_of c).ops (IsPolynomial c) (map part rs)) (ap part (sym h.is)) (span_combine rs h.coefficients)
+    pub span_of_rows : (rs : List Rows) (v : Rows) → InSpan module_of rs v
+        → Span (ring_of c).ops (IsPolynomial c) (map part rs) (part v)
+    span_of_rows rs v h =
+        subst (Span (ring_of c).ops (IsPolynomial c) (map part rs)) (ap part (sym h.is))
+        (span_combine rs h.coefficients)
 
     pub rows_of_span : (rs : List Rows) (z : FunctionOf c) → Span (ring_of c).ops (IsPolynomial c) (map part rs) z
         → (v : Rows) × InSpan module_of rs v × (z ≡ part v)
@@ -89,12 +99,15 @@ module _ {k : CodeField} (c : Equation k) where
         let s = h.scalar_in in
         let t = rows_of_span rs h.rest h.rest_in in (
           module_of.◌⊞◌ (module_of.◌·◌ s.polynomial r) t.0,
-          span_add module_of (r ∷ rs) _ _ (span_scale module_of (r ∷ rs) s.polynomial r (span_head module_of r rs)) (span_later module_of r rs t.0 t.1),
+          span_add module_of (r ∷ rs) _ _ (span_scale module_of (r ∷ rs) s.polynomial r (span_head module_of r rs))
+              (span_later module_of r rs t.0 t.1),
           h.is ∙ ap₂ ◌⊕◌ (ap (λ x. x ⊗ part r) s.value ∙ sym (part_scale s.polynomial r)) t.2 ∙ sym (part_add _ _),
         )
 
-    pub rows_of_part : (rs : List Rows) (v : Rows) → Span (ring_of c).ops (IsPolynomial c) (map part rs) (part v) → InSpan module_of rs v
-    rows_of_part rs v h = let t = rows_of_span rs (part v) h in subst (InSpan module_of rs) (sym (part_same v t.0 t.2)) t.1
+    pub rows_of_part : (rs : List Rows) (v : Rows) → Span (ring_of c).ops (IsPolynomial c) (map part rs) (part v)
+        → InSpan module_of rs v
+    rows_of_part rs v h = let t = rows_of_span rs (part v) h in
+        subst (InSpan module_of rs) (sym (part_same v t.0 t.2)) t.1
 
   -- the list is that of rows over d
   pub record OverOne (d : Polynomial k) (n : ¬ (d ≡ (polynomials k).𝟘)) (gs : List (FunctionOf c)) : Type 0 where
@@ -102,11 +115,14 @@ module _ {k : CodeField} (c : Equation k) where
     pub is : gs ≡ map (part d n) rows
 
   -- so it is that of rows over a multiple of d
-  pub more : (e d d' : Polynomial k) (n : ¬ (d ≡ (polynomials k).𝟘)) (m : ¬ (d' ≡ (polynomials k).𝟘)) → d' ≡ (polynomials k).◌⊗◌ e d
+  pub more : (e d d' : Polynomial k) (n : ¬ (d ≡ (polynomials k).𝟘)) (m : ¬ (d' ≡ (polynomials k).𝟘)) → d'
+      ≡ (polynomials k).◌⊗◌ e d
       → (gs : List (FunctionOf c)) → OverOne d n gs → OverOne d' m gs
-  more e d d' n m product gs h = record { rows = map (row_scale (polynomials k).ops (suc c.lower_degree) e) h.rows; is = h.is ∙ go h.rows }
+  more e d d' n m product gs h =
+      record { rows = map (row_scale (polynomials k).ops (suc c.lower_degree) e) h.rows; is = h.is ∙ go h.rows }
     where
-      go : (rs : List Rows) → map (part d n) rs ≡ map (part d' m) (map (row_scale (polynomials k).ops (suc c.lower_degree) e) rs)
+      go : (rs : List Rows) → map (part d n) rs
+          ≡ map (part d' m) (map (row_scale (polynomials k).ops (suc c.lower_degree) e) rs)
       go [] = refl
       go (r ∷ rs) =
           ap₂ ◌∷◌
@@ -121,7 +137,12 @@ module _ {k : CodeField} (c : Equation k) where
     pub over_one : OverOne den not_zero gs
 
   pub common : (gs : List (FunctionOf c)) → Common gs
-  common [] = record { den = (polynomials k).𝟙; not_zero = (polynomials_domain k).one_not_zero; over_one = record { rows = []; is = refl } }
+  common [] =
+      record {
+        den = (polynomials k).𝟙;
+        not_zero = (polynomials_domain k).one_not_zero;
+        over_one = record { rows = []; is = refl };
+      }
   common (g ∷ gs) =
       let r = as_row c g in
       let t = common gs in
@@ -134,6 +155,7 @@ module _ {k : CodeField} (c : Equation k) where
           rows = row_scale (polynomials k).ops (suc c.lower_degree) t.den r.num ∷ u.rows;
           is =
               ap₂ ◌∷◌ (r.is
-              ∙ over_eq c r.num _ r.den _ r.not_zero both (row_scale_scale (polynomials k).ring (suc c.lower_degree) r.den t.den r.num)) u.is;
+              ∙ over_eq c r.num _ r.den _ r.not_zero both
+              (row_scale_scale (polynomials k).ring (suc c.lower_degree) r.den t.den r.num)) u.is;
         };
       }

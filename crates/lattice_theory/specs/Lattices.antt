@@ -1,5 +1,5 @@
--- Lattices: modules over k[x] that finitely many functions span and that have a multiple of each function; and their indices, as dimensions
--- over k (Stichtenoth, Algebraic Function Fields and Codes, chapters 1 and 3).
+-- Lattices: modules over k[x] that finitely many functions span and that have a multiple of each function; and their
+-- indices, as dimensions over k (Stichtenoth, Algebraic Function Fields and Codes, chapters 1 and 3).
 use Rattle.std.specs.Prelude.{◌≡◌, ℕ, List, length}
 use Rattle.ring_theory.specs.Subsets.{Span}
 use Rattle.ring_theory.specs.Polynomials.{constant}

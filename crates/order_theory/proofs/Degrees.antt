@@ -27,13 +27,15 @@ module _ {k : CodeField} (c : Equation k) where
   open ring_of c use {𝟘, 𝟙, ◌⊕◌, ◌⊗◌, ⊖◌}
 
   pub code_is : (a : Code k) → IsCode c (code_of c a)
-  code_is a = record { code = constant (code_ring k) a; no_degree = length_trim (code_ring k).is_zero (a ∷ []); value = refl }
+  code_is a =
+      record { code = constant (code_ring k) a; no_degree = length_trim (code_ring k).is_zero (a ∷ []); value = refl }
 
   -- a polynomial with one coefficient is a constant
   pub constant_of : (q : Polynomial k) → length q.0 ≤ 1 → q ≡ constant (code_ring k) (coeff_of (code_ring k).ops q.0 0)
   constant_of q short = same_pol (code_ring k) q _ at
     where
-      at : (n : ℕ) → coeff_of (code_ring k).ops q.0 n ≡ coeff_of (code_ring k).ops (constant (code_ring k) (coeff_of (code_ring k).ops q.0 0)).0 n
+      at : (n : ℕ) → coeff_of (code_ring k).ops q.0 n
+          ≡ coeff_of (code_ring k).ops (constant (code_ring k) (coeff_of (code_ring k).ops q.0 0)).0 n
       at zero = sym (coeff_trim (code_ring k) (coeff_of (code_ring k).ops q.0 0 ∷ []) 0)
       at (suc n) =
           coeff_past (code_ring k) q.0 (suc n) (omega arith)
@@ -42,7 +44,8 @@ module _ {k : CodeField} (c : Equation k) where
   pub code_at : (z : FunctionOf c) → IsCode c z → (a : Code k) × (z ≡ code_of c a)
   code_at z h = (coeff_of (code_ring k).ops h.code.0 0, h.value ∙ ap (of_poly c) (constant_of h.code h.no_degree))
 
-  span_codes : (e : ℕ → Code k) (ws : List (FunctionOf c)) → Span (ring_of c).ops (IsCode c) ws (combine (space_ops c) e ws)
+  span_codes : (e : ℕ → Code k) (ws : List (FunctionOf c))
+      → Span (ring_of c).ops (IsCode c) ws (combine (space_ops c) e ws)
   span_codes e [] = refl
   span_codes e (w ∷ ws) = record {
     scalar = code_of c (e 0);
@@ -65,9 +68,11 @@ module _ {k : CodeField} (c : Equation k) where
   sequence_is [] (w ∷ ws) h e = absurd (omega arith)
   sequence_is (z ∷ cs) [] h e = absurd (omega arith)
   sequence_is (z ∷ cs) (w ∷ ws) h e =
-      ap₂ ◌⊕◌ (ap (λ x. x ⊗ w) (code_at z (All-head (IsCode c) z cs h)).1) (sequence_is cs ws (All-tail (IsCode c) z cs h) (omega arith))
+      ap₂ ◌⊕◌ (ap (λ x. x ⊗ w) (code_at z (All-head (IsCode c) z cs h)).1)
+      (sequence_is cs ws (All-tail (IsCode c) z cs h) (omega arith))
 
-  sequence_zero : (cs : List (FunctionOf c)) (h : All (IsCode c) cs) → ((i : ℕ) → i < length cs → sequence cs h i ≡ (code_ring k).𝟘) → All (λ z. z ≡ 𝟘) cs
+  sequence_zero : (cs : List (FunctionOf c)) (h : All (IsCode c) cs)
+      → ((i : ℕ) → i < length cs → sequence cs h i ≡ (code_ring k).𝟘) → All (λ z. z ≡ 𝟘) cs
   unfolding sequence
   sequence_zero [] h f = All-nil (λ z. z ≡ 𝟘)
   sequence_zero (z ∷ cs) h f =
@@ -80,8 +85,10 @@ module _ {k : CodeField} (c : Equation k) where
     pub classes : List (FunctionOf c)
     pub count : length classes ≡ g
     pub members : All O classes
-    pub spanning : (z : FunctionOf c) → O z → (v : FunctionOf c) × Span (ring_of c).ops (IsCode c) classes v × P (z ⊕ ⊖ v)
-    pub independent : (cs : List (FunctionOf c)) → length cs ≡ g → All (IsCode c) cs → P (combination (ring_of c).ops cs classes) → All (λ z. z ≡ 𝟘) cs
+    pub spanning : (z : FunctionOf c) → O z → (v : FunctionOf c) × Span (ring_of c).ops (IsCode c) classes v
+        × P (z ⊕ ⊖ v)
+    pub independent : (cs : List (FunctionOf c)) → length cs ≡ g → All (IsCode c) cs
+        → P (combination (ring_of c).ops cs classes) → All (λ z. z ≡ 𝟘) cs
 
   pub classes_of_index : (O P : FunctionOf c → Type 0) (g : ℕ) → HasIndex c P O g → HasClasses O P g
   classes_of_index O P g i = record {
@@ -101,9 +108,18 @@ module _ {k : CodeField} (c : Equation k) where
   }
     where
       less : (z r v : FunctionOf c) → z ≡ v ⊕ r → z ⊕ ⊖ v ≡ r
-      less z r v e = from_one (ring_of c) 𝟙 e (ring (ring_of c) (z ∷ r ∷ v ∷ []) λ q h. simp (reads, q, h 0, h 1, h 2) (q.equal _ _ refl))
+      less z r v e =
+          from_one (ring_of c) 𝟙 e (ring (ring_of c) (z ∷ r ∷ v ∷ []) λ q h. simp (reads, q, h 0, h 1, h 2)
+          (q.equal _ _ refl))
 
-  pub degree_of_index : (gs : List (FunctionOf c)) (g : ℕ) → HasIndex c (IsIn (setting_of c) (finite c gs)) (Int c) g → HasDegree (setting_of c) (finite c gs) g
+  pub degree_of_index : (gs : List (FunctionOf c)) (g : ℕ) → HasIndex c (IsIn (setting_of c) (finite c gs)) (Int c) g
+      → HasDegree (setting_of c) (finite c gs) g
   degree_of_index gs g i =
       let h = classes_of_index (Int c) (IsIn (setting_of c) (finite c gs)) g i in
-      record { classes = h.classes; count = h.count; members = h.members; spanning = h.spanning; independent = h.independent }
+      record {
+        classes = h.classes;
+        count = h.count;
+        members = h.members;
+        spanning = h.spanning;
+        independent = h.independent;
+      }

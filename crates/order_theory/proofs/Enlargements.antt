@@ -1,5 +1,6 @@
--- Enlarging an order at an irreducible polynomial p by the multipliers of its radical (Pohst and Zassenhaus, Algorithmic Algebraic Number Theory,
--- chapter 5): they lie among the integral functions that powers of p take into the order, and where they add nothing, the order is maximal at p.
+-- Enlarging an order at an irreducible polynomial p by the multipliers of its radical (Pohst and Zassenhaus,
+-- Algorithmic Algebraic Number Theory, chapter 5): they lie among the integral functions that powers of p take into
+-- the order, and where they add nothing, the order is maximal at p.
 use Rattle.std.proofs.Common.{◌≡◌, ◌↔◌, ℕ, ◌+◌, List, [], ◌∷◌, ◌++◌, map, All, refl, sym, ◌∙◌, ap, subst}
 use Rattle.std.proofs.lemmas.List.Elements.{All-nil, All-cons, All-weaker}
 use Rattle.ring_theory.specs.Ring.{CommRing, pow}
@@ -58,7 +59,8 @@ module _ {k : CodeField} (c : Equation k) where
     }
 
     -- an ideal of the order is a module over the polynomials
-    pub ideal_module : (I : FunctionOf c → Type 0) → IsIdeal (ring_of c).ops O I → IsModule (ring_of c).ops (IsPolynomial c) I
+    pub ideal_module : (I : FunctionOf c → Type 0) → IsIdeal (ring_of c).ops O I
+        → IsModule (ring_of c).ops (IsPolynomial c) I
     ideal_module I 𝓘 = record {
       zero_in = 𝓘.zero_in;
       sum_in = 𝓘.sum_in;
@@ -72,11 +74,13 @@ module _ {k : CodeField} (c : Equation k) where
       radical_of_order = radical_ideal (ring_of c) O 𝓞.ring (of_poly c p) (order_has p)
 
       -- what spans the radical over the polynomials spans it over the order
-      spans_over : (ys : List (FunctionOf c)) → SameSet (Radical (ring_of c).ops O (of_poly c p)) (Span (ring_of c).ops (IsPolynomial c) ys)
+      spans_over : (ys : List (FunctionOf c))
+          → SameSet (Radical (ring_of c).ops O (of_poly c p)) (Span (ring_of c).ops (IsPolynomial c) ys)
           → SameSet (Radical (ring_of c).ops O (of_poly c p)) (Span (ring_of c).ops O ys)
       spans_over ys same z = (
         λ h.
-            span_least (ring_of c) (IsPolynomial c) 𝓢 (Span (ring_of c).ops O ys) 𝓜 ys (span_members (ring_of c) O 𝓞.ring ys) z
+            span_least (ring_of c) (IsPolynomial c) 𝓢 (Span (ring_of c).ops O ys) 𝓜 ys
+            (span_members (ring_of c) O 𝓞.ring ys) z
             ((same z).0 h),
         span_least (ring_of c) O 𝓞.ring (Radical (ring_of c).ops O (of_poly c p)) 𝓡 ys all_in z,
       )
@@ -84,22 +88,33 @@ module _ {k : CodeField} (c : Equation k) where
           𝓜 : IsModule (ring_of c).ops (IsPolynomial c) (Span (ring_of c).ops O ys)
           𝓜 =
               let m = span_module (ring_of c) O 𝓞.ring ys in
-              record { zero_in = m.zero_in; sum_in = m.sum_in; scale_in = λ s a s_in a_in. m.scale_in s a (order_polynomial s s_in) a_in }
+              record {
+                zero_in = m.zero_in;
+                sum_in = m.sum_in;
+                scale_in = λ s a s_in a_in. m.scale_in s a (order_polynomial s s_in) a_in;
+              }
 
           𝓡 : IsModule (ring_of c).ops O (Radical (ring_of c).ops O (of_poly c p))
-          𝓡 = record { zero_in = radical_of_order.zero_in; sum_in = radical_of_order.sum_in; scale_in = radical_of_order.scale_in }
+          𝓡 = record {
+            zero_in = radical_of_order.zero_in;
+            sum_in = radical_of_order.sum_in;
+            scale_in = radical_of_order.scale_in;
+          }
 
           all_in : All (Radical (ring_of c).ops O (of_poly c p)) ys
           all_in =
-              All-weaker (Span (ring_of c).ops (IsPolynomial c) ys) (Radical (ring_of c).ops O (of_poly c p)) (λ y h. (same y).1 h) ys
+              All-weaker (Span (ring_of c).ops (IsPolynomial c) ys) (Radical (ring_of c).ops O (of_poly c p))
+              (λ y h. (same y).1 h) ys
               (span_members (ring_of c) (IsPolynomial c) 𝓢 ys)
 
       -- the members of the order take an ideal into itself
-      pub multipliers_have : (I : FunctionOf c → Type 0) → IsIdeal (ring_of c).ops O I → (z : FunctionOf c) → O z → Colon (ring_of c).ops I I z
+      pub multipliers_have : (I : FunctionOf c → Type 0) → IsIdeal (ring_of c).ops O I → (z : FunctionOf c) → O z
+          → Colon (ring_of c).ops I I z
       multipliers_have I 𝓘 z h y y_in = 𝓘.scale_in z y h y_in
 
       -- what takes a lattice into itself that lies in the order and has p is integral, and p takes it into the order
-      pub multipliers_taken : (I : FunctionOf c → Type 0) → IsLattice c I → ((z : FunctionOf c) → I z → O z) → I (of_poly c p)
+      pub multipliers_taken : (I : FunctionOf c → Type 0) → IsLattice c I → ((z : FunctionOf c) → I z → O z)
+          → I (of_poly c p)
           → (z : FunctionOf c) → Colon (ring_of c).ops I I z → TakenByPowers c p O z
       multipliers_taken I 𝓛 within p_in z h = record {
         in_Int = stable_integral c I 𝓛 z h;
@@ -117,21 +132,25 @@ module _ {k : CodeField} (c : Equation k) where
       -- where the multipliers of the radical add nothing, the order is maximal at p
       pub maximal_of_multipliers : IsIrreducible k.ops (codes_of k p) → (ys : List (FunctionOf c))
           → SameSet (Radical (ring_of c).ops O (of_poly c p)) (Span (ring_of c).ops (IsPolynomial c) ys)
-          → ((z : FunctionOf c) → Colon (ring_of c).ops (Radical (ring_of c).ops O (of_poly c p)) (Radical (ring_of c).ops O (of_poly c p)) z → O z)
+          → ((z : FunctionOf c) → Colon (ring_of c).ops (Radical (ring_of c).ops O (of_poly c p))
+          (Radical (ring_of c).ops O (of_poly c p)) z → O z)
           → MaximalAt (ring_of c).ops (of_poly c p) Int O
       maximal_of_multipliers irr ys same h z n z_int m =
           let u = inverse_of c p (irreducible k p irr).nonzero in
-          (criterion_iff (ring_of c) O 𝓞.ring (of_poly c p) (order_has p) u.0 ((ring_of c).mul_comm _ _ ∙ u.1) ys (spans_over ys same)).0 h z n
+          (criterion_iff (ring_of c) O 𝓞.ring (of_poly c p) (order_has p) u.0 ((ring_of c).mul_comm _ _ ∙ u.1) ys
+          (spans_over ys same)).0 h z n
           (integral_over z z_int) m
 
       -- ---- chains of enlargements
 
       -- the order is among the integral functions that powers of p take into it
       pub taken_has : (z : FunctionOf c) → O z → TakenByPowers c p O z
-      taken_has z h = record { in_Int = order_integral c O 𝓞 z h; exponent = 0; inside = subst O (sym (one_mul (ring_of c) z)) h }
+      taken_has z h =
+          record { in_Int = order_integral c O 𝓞 z h; exponent = 0; inside = subst O (sym (one_mul (ring_of c) z)) h }
 
       -- what powers of p take into an order, whose members they take into O, they take into O
-      pub taken_again : (M : FunctionOf c → Type 0) → ((z : FunctionOf c) → M z → TakenByPowers c p O z) → (z : FunctionOf c)
+      pub taken_again : (M : FunctionOf c → Type 0) → ((z : FunctionOf c) → M z → TakenByPowers c p O z)
+          → (z : FunctionOf c)
           → TakenByPowers c p M z → TakenByPowers c p O z
       taken_again M taken z h =
           let t = taken (pow (ring_of c).ops (of_poly c p) h.exponent ⊗ z) h.inside in
@@ -139,18 +158,21 @@ module _ {k : CodeField} (c : Equation k) where
             in_Int = h.in_Int;
             exponent = t.exponent + h.exponent;
             inside =
-                subst O (sym ((ring_of c).mul_assoc _ _ z) ∙ ap (λ x. x ⊗ z) (sym (pow_add (ring_of c) (of_poly c p) t.exponent h.exponent))) t.inside;
+                subst O (sym ((ring_of c).mul_assoc _ _ z)
+                ∙ ap (λ x. x ⊗ z) (sym (pow_add (ring_of c) (of_poly c p) t.exponent h.exponent))) t.inside;
           }
 
       -- an order between O and these functions that is maximal at p has all of them
-      pub taken_is : (M : FunctionOf c → Type 0) → ((z : FunctionOf c) → O z → M z) → ((z : FunctionOf c) → M z → TakenByPowers c p O z)
+      pub taken_is : (M : FunctionOf c → Type 0) → ((z : FunctionOf c) → O z → M z)
+          → ((z : FunctionOf c) → M z → TakenByPowers c p O z)
           → MaximalAt (ring_of c).ops (of_poly c p) Int M → (z : FunctionOf c) → M z ↔ TakenByPowers c p O z
       taken_is M has taken maximal z = (taken z, λ t. maximal z t.exponent t.in_Int (has _ t.inside))
 
   -- ---- one polynomial after another
 
   -- the same sets give the same enlargements
-  pub enlarged_same : (a : FunctionOf c) (O M : FunctionOf c → Type 0) → SameSet O M → SameSet (Enlarged (ring_of c) Int a O) (Enlarged (ring_of c) Int a M)
+  pub enlarged_same : (a : FunctionOf c) (O M : FunctionOf c → Type 0) → SameSet O M
+      → SameSet (Enlarged (ring_of c) Int a O) (Enlarged (ring_of c) Int a M)
   enlarged_same a O M same z = (
     λ h. record { in_Int = h.in_Int; exponent = h.exponent; inside = (same _).0 h.inside },
     λ h. record { in_Int = h.in_Int; exponent = h.exponent; inside = (same _).1 h.inside },
@@ -158,7 +180,8 @@ module _ {k : CodeField} (c : Equation k) where
 
   -- one polynomial more
   pub enlarged_more : (es : List (FunctionOf c)) (a : FunctionOf c) (O : FunctionOf c → Type 0)
-      → SameSet (Enlarged (ring_of c) Int a (EnlargedAt (ring_of c) Int es O)) (EnlargedAt (ring_of c) Int (es ++ a ∷ []) O)
+      → SameSet (Enlarged (ring_of c) Int a (EnlargedAt (ring_of c) Int es O))
+      (EnlargedAt (ring_of c) Int (es ++ a ∷ []) O)
   enlarged_more [] a O z = (λ h. h, λ h. h)
   enlarged_more (b ∷ es) a O z = enlarged_more es a (Enlarged (ring_of c) Int b O) z
 
@@ -167,25 +190,33 @@ module _ {k : CodeField} (c : Equation k) where
       → EnlargedAt (ring_of c) Int (map (of_poly c) ps) O z
       ↔ (Int z × ((d : FunctionOf c) × PowersOf (ring_of c) (map (of_poly c) ps) d × O (d ⊗ z)))
   products_iff ps O 𝓞 z =
-      enlarged_iff (ring_of c) (IsPolynomial c) 𝓢 Int (integral_module c).scale_in (map (of_poly c) ps) (all_polynomials ps) O (order_integral c O 𝓞) z
+      enlarged_iff (ring_of c) (IsPolynomial c) 𝓢 Int (integral_module c).scale_in (map (of_poly c) ps)
+      (all_polynomials ps) O (order_integral c O 𝓞) z
     where
       all_polynomials : (ps : List (Polynomial k)) → All (IsPolynomial c) (map (of_poly c) ps)
       all_polynomials [] = All-nil (IsPolynomial c)
-      all_polynomials (p ∷ ps) = All-cons (IsPolynomial c) (of_poly c p) (map (of_poly c) ps) (record { polynomial = p; value = refl }) (all_polynomials ps)
+      all_polynomials (p ∷ ps) =
+          All-cons (IsPolynomial c) (of_poly c p) (map (of_poly c) ps) (record { polynomial = p; value = refl })
+          (all_polynomials ps)
 
   -- powers of the listed elements, times a product of such powers
   powers_raised : (es : List (FunctionOf c))
-      → All (λ a. (n : ℕ) (d : FunctionOf c) → PowersOf (ring_of c) es d → PowersOf (ring_of c) es (pow (ring_of c).ops a n ⊗ d)) es
-  powers_raised [] = All-nil (λ a. (n : ℕ) (d : FunctionOf c) → PowersOf (ring_of c) [] d → PowersOf (ring_of c) [] (pow (ring_of c).ops a n ⊗ d))
+      → All (λ a. (n : ℕ) (d : FunctionOf c) → PowersOf (ring_of c) es d
+      → PowersOf (ring_of c) es (pow (ring_of c).ops a n ⊗ d)) es
+  powers_raised [] =
+      All-nil (λ a. (n : ℕ) (d : FunctionOf c) → PowersOf (ring_of c) [] d
+      → PowersOf (ring_of c) [] (pow (ring_of c).ops a n ⊗ d))
   powers_raised (b ∷ es) =
       All-cons Raised b es
       (λ n d h. (
         n + h.0,
         h.1,
         h.2,
-        ap (λ x. pow (ring_of c).ops b n ⊗ x) h.3 ∙ sym ((ring_of c).mul_assoc _ _ h.1) ∙ ap (λ x. x ⊗ h.1) (sym (pow_add (ring_of c) b n h.0)),
+        ap (λ x. pow (ring_of c).ops b n ⊗ x) h.3 ∙ sym ((ring_of c).mul_assoc _ _ h.1)
+            ∙ ap (λ x. x ⊗ h.1) (sym (pow_add (ring_of c) b n h.0)),
       ))
-      (All-weaker (λ a. (n : ℕ) (d : FunctionOf c) → PowersOf (ring_of c) es d → PowersOf (ring_of c) es (pow (ring_of c).ops a n ⊗ d)) Raised
+      (All-weaker (λ a. (n : ℕ) (d : FunctionOf c) → PowersOf (ring_of c) es d
+      → PowersOf (ring_of c) es (pow (ring_of c).ops a n ⊗ d)) Raised
       (λ a raise n d h. (
         h.0,
         pow (ring_of c).ops a n ⊗ h.1,
@@ -195,13 +226,16 @@ module _ {k : CodeField} (c : Equation k) where
       es (powers_raised es))
     where
       Raised : FunctionOf c → Type 0
-      Raised a = (n : ℕ) (d : FunctionOf c) → PowersOf (ring_of c) (b ∷ es) d → PowersOf (ring_of c) (b ∷ es) (pow (ring_of c).ops a n ⊗ d)
+      Raised a = (n : ℕ) (d : FunctionOf c) → PowersOf (ring_of c) (b ∷ es) d
+          → PowersOf (ring_of c) (b ∷ es) (pow (ring_of c).ops a n ⊗ d)
 
   -- they are maximal at each of the polynomials
   pub products_maximal : (es : List (FunctionOf c)) (O M : FunctionOf c → Type 0)
-      → ((z : FunctionOf c) → M z ↔ (Int z × ((d : FunctionOf c) × PowersOf (ring_of c) es d × O (d ⊗ z)))) → All (λ a. MaximalAt (ring_of c).ops a Int M) es
+      → ((z : FunctionOf c) → M z ↔ (Int z × ((d : FunctionOf c) × PowersOf (ring_of c) es d × O (d ⊗ z))))
+      → All (λ a. MaximalAt (ring_of c).ops a Int M) es
   products_maximal es O M is =
-      All-weaker (λ a. (n : ℕ) (d : FunctionOf c) → PowersOf (ring_of c) es d → PowersOf (ring_of c) es (pow (ring_of c).ops a n ⊗ d))
+      All-weaker (λ a. (n : ℕ) (d : FunctionOf c) → PowersOf (ring_of c) es d
+      → PowersOf (ring_of c) es (pow (ring_of c).ops a n ⊗ d))
       (λ a. MaximalAt (ring_of c).ops a Int M)
       (λ a raise z n z_int m.
       let t = ((is (pow (ring_of c).ops a n ⊗ z)).0 m).1 in

@@ -54,7 +54,8 @@ module _ {k : CodeField} (c : Equation k) where
     pub in_place_decided : (z : FunctionOf c) → Dec (M z)
     in_place_decided z = span_decided c gs z
 
-    low_integral : (s : FunctionOf c) → Int s → (n : ℕ) (a : FunctionOf c) → Low (ring_of c).ops (IsPolynomial c) s n a → Int a
+    low_integral : (s : FunctionOf c) → Int s → (n : ℕ) (a : FunctionOf c)
+        → Low (ring_of c).ops (IsPolynomial c) s n a → Int a
     low_integral s s_int zero a h = subst Int (sym h) (integral_subring c).zero_in
     low_integral s s_int (suc n) a h =
         subst Int (sym h.is)
@@ -67,13 +68,15 @@ module _ {k : CodeField} (c : Equation k) where
         (𝓜.scale_in (⊖ 𝟙) z ((polynomials_subring c).neg_in 𝟙 (polynomials_subring c).one_in) h)
 
     -- 1 + x·b isn't 0
-    one_more : (b : Polynomial k) → ¬ ((polynomials k).◌⊕◌ (polynomials k).𝟙 ((polynomials k).◌⊗◌ (x_poly k) b) ≡ (polynomials k).𝟘)
+    one_more : (b : Polynomial k)
+        → ¬ ((polynomials k).◌⊕◌ (polynomials k).𝟙 ((polynomials k).◌⊗◌ (x_poly k) b) ≡ (polynomials k).𝟘)
     one_more b e = go (polynomial_discrete k d (polynomials k).𝟘)
       where
         d : Polynomial k
         d = (polynomials k).⊖◌ b
 
-        inverse : (u v : Polynomial k) → (polynomials k).◌⊕◌ (polynomials k).𝟙 ((polynomials k).◌⊗◌ u v) ≡ (polynomials k).𝟘
+        inverse : (u v : Polynomial k) → (polynomials k).◌⊕◌ (polynomials k).𝟙 ((polynomials k).◌⊗◌ u v)
+            ≡ (polynomials k).𝟘
             → (polynomials k).◌⊗◌ u ((polynomials k).⊖◌ v) ≡ (polynomials k).𝟙
         inverse u v f =
             from_one (polynomials k).ring ((polynomials k).⊖◌ (polynomials k).𝟙) f
@@ -88,7 +91,8 @@ module _ {k : CodeField} (c : Equation k) where
             (sym is ∙ ap ((polynomials k).◌⊗◌ (x_poly k)) z ∙ mul_zero (polynomials k).ring (x_poly k))
         go (no n) =
             let l = product_longer k (x_poly k) ((polynomials k).⊖◌ b) (x_poly_not_zero k) n in
-            let m : length ((polynomials k).◌⊗◌ (x_poly k) ((polynomials k).⊖◌ b)).0 ≡ length (polynomials k).𝟙.0 = ap (λ p. length p.0) is in
+            let m : length ((polynomials k).◌⊗◌ (x_poly k) ((polynomials k).⊖◌ b)).0
+            ≡ length (polynomials k).𝟙.0 = ap (λ p. length p.0) is in
             let o = one_short k in
             let x = x_long k in absurd (omega arith)
 
@@ -103,9 +107,11 @@ module _ {k : CodeField} (c : Equation k) where
           (polynomials k).◌⊕◌ (polynomials k).𝟙 ((polynomials k).◌⊗◌ (x_poly k) b.polynomial),
           one_more b.polynomial,
           subst M
-              (ap (λ x. x ⊗ u.cofactor) (turned (of_poly c (x_poly k) ⊗ w)) ∙ u.is ∙ ap (λ x. 𝟙 ⊕ of_poly c (x_poly k) ⊗ x) b.value
+              (ap (λ x. x ⊗ u.cofactor) (turned (of_poly c (x_poly k) ⊗ w)) ∙ u.is
+              ∙ ap (λ x. 𝟙 ⊕ of_poly c (x_poly k) ⊗ x) b.value
               ∙ sym ((poly_hom c).add _ _ ∙ ap₂ ◌⊕◌ (poly_hom c).𝟙 ((poly_hom c).mul _ _)))
-              (subst M ((ring_of c).mul_comm _ _) (place.ideal u.cofactor _ (low_integral w w_int w_int.degree u.cofactor u.cofactor_in) (minus_in _ m))),
+              (subst M ((ring_of c).mul_comm _ _)
+              (place.ideal u.cofactor _ (low_integral w w_int w_int.degree u.cofactor u.cofactor_in) (minus_in _ m))),
         )
           where
             turned : (x : FunctionOf c) → ⊖ (x ⊕ ⊖ 𝟙) ≡ 𝟙 ⊕ ⊖ x
@@ -114,9 +120,11 @@ module _ {k : CodeField} (c : Equation k) where
         go : Dec (M (of_poly c (x_poly k))) → (a : Polynomial k) × (¬ (a ≡ (polynomials k).𝟘)) × M (of_poly c a)
         go (yes m) = (x_poly k, x_poly_not_zero k, m)
         go (no n) =
-            let i = place.inverse (of_poly c (x_poly k)) (polynomial_integral c _ (record { polynomial = x_poly k; value = refl })) n in
+            let i = place.inverse (of_poly c (x_poly k))
+            (polynomial_integral c _ (record { polynomial = x_poly k; value = refl })) n in
             at i.0 i.1 i.2
-            (unit_trick (ring_of c) (IsPolynomial c) (polynomials_subring c) (of_poly c (x_poly k)) i.0 (record { polynomial = x_poly k; value = refl }) i.1)
+            (unit_trick (ring_of c) (IsPolynomial c) (polynomials_subring c) (of_poly c (x_poly k)) i.0
+            (record { polynomial = x_poly k; value = refl }) i.1)
 
     -- a finite place is a lattice
     pub place_lattice : IsLattice c M
@@ -132,9 +140,11 @@ module _ {k : CodeField} (c : Equation k) where
           multiple_in =
               subst M
               (ap (λ x. x ⊗ of_poly c a.0)
-              (sym (ap (λ x. of_poly c r.den ⊗ x) r.is ∙ den_times c (record { num = r.num; den = r.den; den_not_zero = r.not_zero }) ∙ at_y_plain c r.num))
+              (sym (ap (λ x. of_poly c r.den ⊗ x) r.is
+              ∙ den_times c (record { num = r.num; den = r.den; den_not_zero = r.not_zero }) ∙ at_y_plain c r.num))
               ∙ moved (of_poly c r.den) z (of_poly c a.0) ∙ ap (λ x. x ⊗ z) (sym ((poly_hom c).mul r.den a.0)))
-              (place.ideal _ (of_poly c a.0) (coordinates_integral c _ (record { coordinates = r.num; value = refl })) a.2);
+              (place.ideal _ (of_poly c a.0)
+              (coordinates_integral c _ (record { coordinates = r.num; value = refl })) a.2);
         }
           where
             moved : (d z a : FunctionOf c) → (d ⊗ z) ⊗ a ≡ (d ⊗ a) ⊗ z
@@ -145,7 +155,8 @@ module _ {k : CodeField} (c : Equation k) where
     place_prime = record {
       ideal = place_ideal (setting_of c) (scalars_subring c) (finite gs) place;
       proper = place.proper;
-      invert = λ u u_in n. let i = place.inverse u u_in n in record { inverse = i.0; inverse_in = i.1; is = subst M (ap (λ x. x ⊕ ⊖ 𝟙) ((ring_of c).mul_comm u i.0)) i.2 };
+      invert = λ u u_in n. let i = place.inverse u u_in n in
+          record { inverse = i.0; inverse_in = i.1; is = subst M (ap (λ x. x ⊕ ⊖ 𝟙) ((ring_of c).mul_comm u i.0)) i.2 };
       decide = λ u u_in. by u (in_place_decided u);
     }
       where

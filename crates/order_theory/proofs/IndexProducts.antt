@@ -1,5 +1,5 @@
--- The index of a product with an invertible prime is the sum of the indices; so the index of a product of powers of primes is the sum of
--- the exponents times the indices of the primes.
+-- The index of a product with an invertible prime is the sum of the indices; so the index of a product of powers of
+-- primes is the sum of the exponents times the indices of the primes.
 use Rattle.std.proofs.Common.{◌≡◌, ℕ, zero, suc, ◌+◌, ◌*◌, ◌<◌, List, [], ◌∷◌, map, pos, refl, sym, ◌∙◌, ap, ap₂, subst, arith, suc-mul}
 use Rattle.std.proofs.lemmas.List.{length-map}
 use Rattle.std.proofs.lemmas.List.Elements.{All-map, All-weaker}
@@ -40,7 +40,8 @@ module _ {k : CodeField} (c : Equation k) where
   pub combine_times : (a : FunctionOf c) (e : ℕ → Code k) (vs : List (FunctionOf c))
       → combine (space_ops c) e (map (◌⊗◌ a) vs) ≡ a ⊗ combine (space_ops c) e vs
   combine_times a e [] = sym (mul_zero (ring_of c) a)
-  combine_times a e (v ∷ vs) = ap₂ ◌⊕◌ (mul_left_comm (ring_of c) _ a v) (combine_times a (λ i. e (suc i)) vs) ∙ sym ((ring_of c).mul_add a _ _)
+  combine_times a e (v ∷ vs) = ap₂ ◌⊕◌ (mul_left_comm (ring_of c) _ a v) (combine_times a (λ i. e (suc i)) vs)
+      ∙ sym ((ring_of c).mul_add a _ _)
 
   module _ (O : FunctionOf c → Type 0) (𝓞 : IsSubring (ring_of c).ops O) (space_in : IsSubspace (space_ops c) O)
       (P : FunctionOf c → Type 0) (𝓟 : IsPrime (ring_of c).ops O P) (f : ℕ) (index : HasIndex c P O f) where
@@ -52,7 +53,8 @@ module _ {k : CodeField} (c : Equation k) where
       is = record {
         members_in =
             All-map X (◌⊗◌ a.element) index.basis
-            (All-weaker O (λ w. X (a.element ⊗ w)) (λ w m. subst X ((ring_of c).mul_comm w a.element) (𝓧.scale_in w a.element m a.element_in)) index.basis
+            (All-weaker O (λ w. X (a.element ⊗ w))
+            (λ w m. subst X ((ring_of c).mul_comm w a.element) (𝓧.scale_in w a.element m a.element_in)) index.basis
             index.is.members_in);
         spanning = λ z z_in.
             let r = generated (ring_of c) O 𝓞 P 𝓟 X 𝓧 a z z_in in
@@ -65,8 +67,10 @@ module _ {k : CodeField} (c : Equation k) where
                   (product_module (ring_of c) O 𝓞 X P 𝓧).sum_in _ _
                   (product_member (ring_of c) O 𝓞 X P a.element t.rest a.element_in t.rest_in) r.rest_in;
               is =
-                  r.is ∙ ap (λ x. a.element ⊗ x ⊕ r.rest) t.is ∙ moved a.element (combine (space_ops c) t.coefficient index.basis) t.rest r.rest
-                  ∙ ap (λ x. x ⊕ (a.element ⊗ t.rest ⊕ r.rest)) (sym (combine_times a.element t.coefficient index.basis));
+                  r.is ∙ ap (λ x. a.element ⊗ x ⊕ r.rest) t.is
+                  ∙ moved a.element (combine (space_ops c) t.coefficient index.basis) t.rest r.rest
+                  ∙ ap (λ x. x ⊕ (a.element ⊗ t.rest ⊕ r.rest))
+                  (sym (combine_times a.element t.coefficient index.basis));
             };
         independent = λ e m i l.
             index.is.independent e
@@ -82,7 +86,8 @@ module _ {k : CodeField} (c : Equation k) where
         a = generator (ring_of c) O 𝓞 P 𝓟 X 𝓧 inverse
 
         moved : (a v r s : FunctionOf c) → a ⊗ (v ⊕ r) ⊕ s ≡ a ⊗ v ⊕ (a ⊗ r ⊕ s)
-        moved a v r s = ring (ring_of c) (a ∷ v ∷ r ∷ s ∷ []) λ q h. simp (reads, q, h 0, h 1, h 2, h 3) (q.equal _ _ refl)
+        moved a v r s =
+            ring (ring_of c) (a ∷ v ∷ r ∷ s ∷ []) λ q h. simp (reads, q, h 0, h 1, h 2, h 3) (q.equal _ _ refl)
 
 module _ {k : CodeField} (c : Equation k) (O : FunctionOf c → Type 0) (𝓞 : IsOrder c O) where
   infixl 65 ◌⊕◌
@@ -109,7 +114,8 @@ module _ {k : CodeField} (c : Equation k) (O : FunctionOf c → Type 0) (𝓞 : 
     lattice = lattice_same X Y s h.lattice;
     module_is = 𝓨;
     invertible =
-        product_monotone (ring_of c) O 𝓞.ring X (Inverse (ring_of c).ops O X) Y (Inverse (ring_of c).ops O Y) 𝓨 (λ z. (s z).0)
+        product_monotone (ring_of c) O 𝓞.ring X (Inverse (ring_of c).ops O X) Y (Inverse (ring_of c).ops O Y) 𝓨
+        (λ z. (s z).0)
         (λ z m y n. m y ((s y).1 n)) 𝟙 h.invertible;
     within = λ z m. h.within z ((s z).1 m);
   }
@@ -127,7 +133,8 @@ module _ {k : CodeField} (c : Equation k) (O : FunctionOf c → Type 0) (𝓞 : 
     module_is = own_module (ring_of c) O 𝓞.ring;
     invertible =
         subst (Product (ring_of c).ops O (Inverse (ring_of c).ops O O)) ((ring_of c).mul_one 𝟙)
-        (product_member (ring_of c) O 𝓞.ring O (Inverse (ring_of c).ops O O) 𝟙 𝟙 𝓞.ring.one_in (λ y m. 𝓞.ring.product_in _ _ 𝓞.ring.one_in m));
+        (product_member (ring_of c) O 𝓞.ring O (Inverse (ring_of c).ops O O) 𝟙 𝟙 𝓞.ring.one_in
+        (λ y m. 𝓞.ring.product_in _ _ 𝓞.ring.one_in m));
     within = λ z m. m;
   }
 
@@ -137,7 +144,8 @@ module _ {k : CodeField} (c : Equation k) (O : FunctionOf c → Type 0) (𝓞 : 
         → HasIndex c (Product (ring_of c).ops X P) X f
     times_index = times_index_over c O 𝓞.ring (lattice_subspace c O 𝓞.lattice) P 𝓟 f index
 
-  module _ (P : FunctionOf c → Type 0) (𝓟 : IsPrime (ring_of c).ops O P) (factor : IsFactor P) (f : ℕ) (index : HasIndex c P O f) where
+  module _ (P : FunctionOf c → Type 0) (𝓟 : IsPrime (ring_of c).ops O P) (factor : IsFactor P) (f : ℕ)
+      (index : HasIndex c P O f) where
     times_within : (X : FunctionOf c → Type 0) → IsFactor X → (z : FunctionOf c) → Product (ring_of c).ops X P z → X z
     times_within X h =
         product_into (ring_of c) X P X (additive_of_module (ring_of c) O X h.module_is)
@@ -148,9 +156,12 @@ module _ {k : CodeField} (c : Equation k) (O : FunctionOf c → Type 0) (𝓞 : 
       lattice = product_lattice c X P h.lattice factor.lattice;
       module_is = product_module (ring_of c) O 𝓞.ring X P h.module_is;
       invertible =
-          product_monotone (ring_of c) O 𝓞.ring (Product (ring_of c).ops X P) (Product (ring_of c).ops (Inverse (ring_of c).ops O X) (Inverse (ring_of c).ops O P))
-          (Product (ring_of c).ops X P) (Inverse (ring_of c).ops O (Product (ring_of c).ops X P)) (product_module (ring_of c) O 𝓞.ring X P h.module_is)
-          (λ z m. m) (λ z. (inverse_of_product (ring_of c) O 𝓞.ring X P h.module_is factor.module_is h.invertible factor.invertible z).0) 𝟙
+          product_monotone (ring_of c) O 𝓞.ring (Product (ring_of c).ops X P)
+          (Product (ring_of c).ops (Inverse (ring_of c).ops O X) (Inverse (ring_of c).ops O P))
+          (Product (ring_of c).ops X P) (Inverse (ring_of c).ops O (Product (ring_of c).ops X P))
+          (product_module (ring_of c) O 𝓞.ring X P h.module_is)
+          (λ z m. m) (λ z. (inverse_of_product (ring_of c) O 𝓞.ring X P h.module_is factor.module_is h.invertible
+          factor.invertible z).0) 𝟙
           (invertible_product (ring_of c) O 𝓞.ring X P h.module_is factor.module_is h.invertible factor.invertible);
       within = λ z m. h.within z (times_within X h z m);
     }
@@ -166,13 +177,16 @@ module _ {k : CodeField} (c : Equation k) (O : FunctionOf c → Type 0) (𝓞 : 
         → SameSet (Product (ring_of c).ops (Powered n X) P) (Powered (suc n) X)
     powered_next n X 𝓧 z = (
       λ m.
-          product_monotone (ring_of c) O 𝓞.ring (Product (ring_of c).ops P WO) X (IdealPower (ring_of c).ops O P (suc n) 0) X 𝓗
+          product_monotone (ring_of c) O 𝓞.ring (Product (ring_of c).ops P WO) X
+          (IdealPower (ring_of c).ops O P (suc n) 0) X 𝓗
           (product_assoc_back (ring_of c) O 𝓞.ring P (Power (ring_of c).ops O P n) O factor.module_is) (λ a h. h) z
-          (product_assoc_back (ring_of c) O 𝓞.ring P WO X factor.module_is z (product_swap (ring_of c) O 𝓞.ring (Powered n X) P factor.module_is z m)),
+          (product_assoc_back (ring_of c) O 𝓞.ring P WO X factor.module_is z
+          (product_swap (ring_of c) O 𝓞.ring (Powered n X) P factor.module_is z m)),
       λ m.
           product_swap (ring_of c) O 𝓞.ring P (Powered n X) 𝓣 z
           (product_assoc (ring_of c) O 𝓞.ring P WO X factor.module_is z
-          (product_monotone (ring_of c) O 𝓞.ring (IdealPower (ring_of c).ops O P (suc n) 0) X (Product (ring_of c).ops P WO) X
+          (product_monotone (ring_of c) O 𝓞.ring (IdealPower (ring_of c).ops O P (suc n) 0) X
+          (Product (ring_of c).ops P WO) X
           (product_module (ring_of c) O 𝓞.ring P WO factor.module_is)
           (product_assoc (ring_of c) O 𝓞.ring P (Power (ring_of c).ops O P n) O factor.module_is) (λ a h. h) z m)),
     )
@@ -184,17 +198,21 @@ module _ {k : CodeField} (c : Equation k) (O : FunctionOf c → Type 0) (𝓞 : 
         𝓗 = product_module (ring_of c) O 𝓞.ring (Power (ring_of c).ops O P (suc n)) O (W (suc n))
 
         𝓣 : IsModule (ring_of c).ops O (Powered n X)
-        𝓣 = product_module (ring_of c) O 𝓞.ring WO X (product_module (ring_of c) O 𝓞.ring (Power (ring_of c).ops O P n) O (W n))
+        𝓣 = product_module (ring_of c) O 𝓞.ring WO X
+            (product_module (ring_of c) O 𝓞.ring (Power (ring_of c).ops O P n) O (W n))
 
     -- the zeroth power changes nothing
     powered_none : (X : FunctionOf c → Type 0) → IsModule (ring_of c).ops O X → SameSet X (Powered 0 X)
     powered_none X 𝓧 z = (
       λ m.
-          product_monotone (ring_of c) O 𝓞.ring O X (Product (ring_of c).ops O O) X (product_module (ring_of c) O 𝓞.ring O O 𝓞𝓞)
-          (λ a. (product_one (ring_of c) O 𝓞.ring O 𝓞𝓞 a).1) (λ a h. h) z ((product_one (ring_of c) O 𝓞.ring X 𝓧 z).1 m),
+          product_monotone (ring_of c) O 𝓞.ring O X (Product (ring_of c).ops O O) X
+          (product_module (ring_of c) O 𝓞.ring O O 𝓞𝓞)
+          (λ a. (product_one (ring_of c) O 𝓞.ring O 𝓞𝓞 a).1) (λ a h. h) z
+          ((product_one (ring_of c) O 𝓞.ring X 𝓧 z).1 m),
       λ m.
           (product_one (ring_of c) O 𝓞.ring X 𝓧 z).0
-          (product_monotone (ring_of c) O 𝓞.ring (Product (ring_of c).ops O O) X O X 𝓞𝓞 (λ a. (product_one (ring_of c) O 𝓞.ring O 𝓞𝓞 a).0) (λ a h. h) z m),
+          (product_monotone (ring_of c) O 𝓞.ring (Product (ring_of c).ops O O) X O X 𝓞𝓞
+          (λ a. (product_one (ring_of c) O 𝓞.ring O 𝓞𝓞 a).0) (λ a h. h) z m),
     )
       where
         𝓞𝓞 : IsModule (ring_of c).ops O O
@@ -203,21 +221,26 @@ module _ {k : CodeField} (c : Equation k) (O : FunctionOf c → Type 0) (𝓞 : 
     power_of : (n : ℕ) (z : FunctionOf c) → Power (ring_of c).ops O P n z → O z
     power_of zero z m = m
     power_of (suc n) z m =
-        product_into (ring_of c) P (Power (ring_of c).ops O P n) O (additive_of_module (ring_of c) O O (own_module (ring_of c) O 𝓞.ring))
+        product_into (ring_of c) P (Power (ring_of c).ops O P n) O
+        (additive_of_module (ring_of c) O O (own_module (ring_of c) O 𝓞.ring))
         (λ a b i j. 𝓞.ring.product_in a b (factor.within a i) (power_of n b j)) z m
 
     powered_within : (n : ℕ) (X : FunctionOf c → Type 0) → IsFactor X → (z : FunctionOf c) → Powered n X z → X z
     powered_within n X h =
-        product_into (ring_of c) (IdealPower (ring_of c).ops O P n 0) X X (additive_of_module (ring_of c) O X h.module_is)
+        product_into (ring_of c) (IdealPower (ring_of c).ops O P n 0) X X
+        (additive_of_module (ring_of c) O X h.module_is)
         (λ a b m l. h.module_is.scale_in a b
-        (product_into (ring_of c) (Power (ring_of c).ops O P n) O O (additive_of_module (ring_of c) O O (own_module (ring_of c) O 𝓞.ring))
+        (product_into (ring_of c) (Power (ring_of c).ops O P n) O O
+        (additive_of_module (ring_of c) O O (own_module (ring_of c) O 𝓞.ring))
         (λ a b i j. 𝓞.ring.product_in a b (power_of n a i) j) a m) l)
 
-    pub powered : (n : ℕ) (X : FunctionOf c → Type 0) → IsFactor X → IsFactor (Powered n X) × HasIndex c (Powered n X) X (n * f)
+    pub powered : (n : ℕ) (X : FunctionOf c → Type 0) → IsFactor X → IsFactor (Powered n X)
+        × HasIndex c (Powered n X) X (n * f)
     powered zero X h = (
       same_factor X (Powered 0 X) (powered_none X h.module_is) h,
       subst (HasIndex c (Powered 0 X) X) (let q : 0 ≡ 0 * f = omega arith in q)
-          (index_none c (Powered 0 X) X (same_factor X (Powered 0 X) (powered_none X h.module_is) h).lattice (λ z. (powered_none X h.module_is z).0)),
+          (index_none c (Powered 0 X) X (same_factor X (Powered 0 X) (powered_none X h.module_is) h).lattice
+          (λ z. (powered_none X h.module_is z).0)),
     )
     powered (suc n) X h =
         let r = powered n X h in
@@ -225,13 +248,17 @@ module _ {k : CodeField} (c : Equation k) (O : FunctionOf c → Type 0) (𝓞 : 
         let t = times_factor (Powered n X) r.0 in (
           same_factor (Product (ring_of c).ops (Powered n X) P) (Powered (suc n) X) s t,
           index_same c (Product (ring_of c).ops (Powered n X) P) (Powered (suc n) X) X X s (λ z. (λ m. m, λ m. m)) _
-              (subst (HasIndex c (Product (ring_of c).ops (Powered n X) P) X) (let q : f + n * f ≡ suc n * f = omega (arith, suc-mul n f) in q)
-              (index_add c (Product (ring_of c).ops (Powered n X) P) (Powered n X) X t.lattice r.0.lattice h.lattice (times_within (Powered n X) r.0)
-              (powered_within n X h) f (n * f) (times_index P 𝓟 f index (Powered n X) r.0.module_is r.0.invertible) r.1)),
+              (subst (HasIndex c (Product (ring_of c).ops (Powered n X) P) X)
+              (let q : f + n * f ≡ suc n * f = omega (arith, suc-mul n f) in q)
+              (index_add c (Product (ring_of c).ops (Powered n X) P) (Powered n X) X t.lattice r.0.lattice h.lattice
+              (times_within (Powered n X) r.0)
+              (powered_within n X h) f (n * f) (times_index P 𝓟 f index (Powered n X) r.0.module_is r.0.invertible)
+              r.1)),
         )
 
   -- the product of powers of several primes
-  module _ (I : Type 0) (P : I → FunctionOf c → Type 0) (prime : (i : I) → IsPrime (ring_of c).ops O (P i)) (factor : (i : I) → IsFactor (P i)) (f : I → ℕ)
+  module _ (I : Type 0) (P : I → FunctionOf c → Type 0) (prime : (i : I) → IsPrime (ring_of c).ops O (P i))
+      (factor : (i : I) → IsFactor (P i)) (f : I → ℕ)
       (index : (i : I) → HasIndex c (P i) O (f i)) where
     abbrev pub Powers : (I → ℕ) → List I → FunctionOf c → Type 0
     Powers e is = IdealProduct (ring_of c).ops O P (map (λ i. entry i (pos (e i))) is)
@@ -243,5 +270,6 @@ module _ {k : CodeField} (c : Equation k) (O : FunctionOf c → Type 0) (𝓞 : 
         let t = powered (P i) (prime i) (factor i) (f i) (index i) (e i) (Powers e is) r.0 in (
           t.0,
           index_add c (Powers e (i ∷ is)) (Powers e is) O t.0.lattice r.0.lattice 𝓞.lattice
-              (powered_within (P i) (prime i) (factor i) (f i) (index i) (e i) (Powers e is) r.0) r.0.within (e i * f i) (total e f is) t.1 r.1,
+              (powered_within (P i) (prime i) (factor i) (f i) (index i) (e i) (Powers e is) r.0) r.0.within
+              (e i * f i) (total e f is) t.1 r.1,
         )

@@ -20,7 +20,8 @@ use Rattle.polynomial_theory.proofs.Lengths.{zero_length}
 use Rattle.order_theory.proofs.FinitePlaces.{one_short, x_long}
 
 -- what is added is shorter: the sum isn't
-sum_long : (k : CodeField) (a b : Polynomial k) → length a.0 < length b.0 → length b.0 ≤ length ((polynomials k).◌⊕◌ b a).0
+sum_long : (k : CodeField) (a b : Polynomial k) → length a.0 < length b.0
+    → length b.0 ≤ length ((polynomials k).◌⊕◌ b a).0
 sum_long k a b short = go (order (length ((polynomials k).◌⊕◌ b a).0) (length b.0))
   where
     order : (m n : ℕ) → (m < n) ⊎ (n ≤ m)
@@ -29,12 +30,14 @@ sum_long k a b short = go (order (length ((polynomials k).◌⊕◌ b a).0) (len
     back : (a b : Polynomial k) → (polynomials k).◌⊕◌ ((polynomials k).◌⊕◌ b a) ((polynomials k).⊖◌ a) ≡ b
     back a b = ring (polynomials k).ring (a ∷ b ∷ []) λ q h. simp (reads, q, h 0, h 1) (q.equal _ _ refl)
 
-    go : (length ((polynomials k).◌⊕◌ b a).0 < length b.0) ⊎ (length b.0 ≤ length ((polynomials k).◌⊕◌ b a).0) → length b.0 ≤ length ((polynomials k).◌⊕◌ b a).0
+    go : (length ((polynomials k).◌⊕◌ b a).0 < length b.0) ⊎ (length b.0 ≤ length ((polynomials k).◌⊕◌ b a).0)
+        → length b.0 ≤ length ((polynomials k).◌⊕◌ b a).0
     go (inr le) = le
     go (inl less) =
         let l = length_add (code_ring k) ((polynomials k).◌⊕◌ b a) ((polynomials k).⊖◌ a) (length b.0 - 1) (omega arith)
         (length_neg (code_ring k) a (length b.0 - 1) (omega arith)) in
-        let e : length ((polynomials k).◌⊕◌ ((polynomials k).◌⊕◌ b a) ((polynomials k).⊖◌ a)).0 ≡ length b.0 = ap (λ p. length p.0) (back a b) in
+        let e : length ((polynomials k).◌⊕◌ ((polynomials k).◌⊕◌ b a) ((polynomials k).⊖◌ a)).0
+        ≡ length b.0 = ap (λ p. length p.0) (back a b) in
         absurd (omega (arith, l, e, short))
 
 module _ {k : CodeField} (c : Equation k) where
@@ -67,7 +70,11 @@ module _ {k : CodeField} (c : Equation k) where
 
   -- 1 + t·s is invertible among the scalars
   unit_of : (s : FunctionOf c) → S s → (v : FunctionOf c) × S v × (v ⊗ (𝟙 ⊕ t ⊗ s) ≡ 𝟙)
-  unit_of s s_in = (over c (row_of c xb) n n_some, record { top = xb; bottom = n; not_null = n_some; degrees = long; value = refl }, inverse)
+  unit_of s s_in = (
+    over c (row_of c xb) n n_some,
+    record { top = xb; bottom = n; not_null = n_some; degrees = long; value = refl },
+    inverse,
+  )
     where
       xb : Polynomial k
       xb = (polynomials k).◌⊗◌ (x_poly k) s_in.bottom
@@ -77,25 +84,32 @@ module _ {k : CodeField} (c : Equation k) where
 
       bigger : length s_in.bottom.0 < length ((polynomials k).◌⊗◌ (x_poly k) s_in.bottom).0
       bigger =
-          let l = length_product (code_ring k) (code_domain k) (x_poly k) s_in.bottom (x_poly_not_zero k) s_in.not_null in
+          let l = length_product (code_ring k) (code_domain k) (x_poly k) s_in.bottom (x_poly_not_zero k)
+          s_in.not_null in
           let b = x_long k in omega arith
 
-      long : length ((polynomials k).◌⊗◌ (x_poly k) s_in.bottom).0 ≤ length ((polynomials k).◌⊕◌ ((polynomials k).◌⊗◌ (x_poly k) s_in.bottom) s_in.top).0
-      long = sum_long k s_in.top ((polynomials k).◌⊗◌ (x_poly k) s_in.bottom) (let d = s_in.degrees in let b = bigger in omega arith)
+      long : length ((polynomials k).◌⊗◌ (x_poly k) s_in.bottom).0 ≤ length
+          ((polynomials k).◌⊕◌ ((polynomials k).◌⊗◌ (x_poly k) s_in.bottom) s_in.top).0
+      long = sum_long k s_in.top ((polynomials k).◌⊗◌ (x_poly k) s_in.bottom)
+          (let d = s_in.degrees in let b = bigger in omega arith)
 
       n_some : ¬ ((polynomials k).◌⊕◌ ((polynomials k).◌⊗◌ (x_poly k) s_in.bottom) s_in.top ≡ (polynomials k).𝟘)
       n_some e =
-          let z : length ((polynomials k).◌⊕◌ ((polynomials k).◌⊗◌ (x_poly k) s_in.bottom) s_in.top).0 ≡ 0 = ap (λ p. length p.0) e ∙ zero_length k in
+          let z : length ((polynomials k).◌⊕◌ ((polynomials k).◌⊗◌ (x_poly k) s_in.bottom) s_in.top).0
+          ≡ 0 = ap (λ p. length p.0) e ∙ zero_length k in
           let l = long in let b = bigger in absurd (omega (arith, z, l, b))
 
       scaled : (X B u r A : FunctionOf c) → X ⊗ u ≡ 𝟙 → B ⊗ r ≡ A → (X ⊗ B) ⊗ (𝟙 ⊕ u ⊗ r) ≡ X ⊗ B ⊕ A
       scaled X B u r A e f =
-          from_two (ring_of c) (B ⊗ r) 𝟙 e f (ring (ring_of c) (X ∷ B ∷ u ∷ r ∷ A ∷ []) λ q h. simp (reads, q, h 0, h 1, h 2, h 3, h 4) (q.equal _ _ refl))
+          from_two (ring_of c) (B ⊗ r) 𝟙 e f
+          (ring (ring_of c) (X ∷ B ∷ u ∷ r ∷ A ∷ []) λ q h. simp (reads, q, h 0, h 1, h 2, h 3, h 4) (q.equal _ _ refl))
 
       bottom_times : of_poly c s_in.bottom ⊗ s ≡ of_poly c s_in.top
-      bottom_times = ap (λ z. of_poly c s_in.bottom ⊗ z) s_in.value ∙ over_times_den c s_in.top s_in.bottom s_in.not_null
+      bottom_times = ap (λ z. of_poly c s_in.bottom ⊗ z) s_in.value
+          ∙ over_times_den c s_in.top s_in.bottom s_in.not_null
 
-      whole : of_poly c ((polynomials k).◌⊗◌ (x_poly k) s_in.bottom) ⊗ (𝟙 ⊕ t ⊗ s) ≡ of_poly c ((polynomials k).◌⊕◌ ((polynomials k).◌⊗◌ (x_poly k) s_in.bottom) s_in.top)
+      whole : of_poly c ((polynomials k).◌⊗◌ (x_poly k) s_in.bottom) ⊗ (𝟙 ⊕ t ⊗ s)
+          ≡ of_poly c ((polynomials k).◌⊕◌ ((polynomials k).◌⊗◌ (x_poly k) s_in.bottom) s_in.top)
       whole =
           ap (λ z. z ⊗ (𝟙 ⊕ t ⊗ s)) ((poly_hom c).mul _ _)
           ∙ scaled (of_poly c (x_poly k)) (of_poly c s_in.bottom) t s (of_poly c s_in.top) x_times_t bottom_times
@@ -103,12 +117,15 @@ module _ {k : CodeField} (c : Equation k) where
 
       cancel : (N j v w X : FunctionOf c) → N ⊗ j ≡ 𝟙 → N ⊗ v ≡ X → X ⊗ w ≡ N → v ⊗ w ≡ 𝟙
       cancel N j v w X e f g =
-          sym (one_mul (ring_of c) _) ∙ ap (λ z. z ⊗ (v ⊗ w)) (sym e) ∙ moved N j v w ∙ ap (λ z. j ⊗ (z ⊗ w)) f ∙ ap (λ z. j ⊗ z) g ∙ (ring_of c).mul_comm j N ∙ e
+          sym (one_mul (ring_of c) _) ∙ ap (λ z. z ⊗ (v ⊗ w)) (sym e) ∙ moved N j v w ∙ ap (λ z. j ⊗ (z ⊗ w)) f
+          ∙ ap (λ z. j ⊗ z) g ∙ (ring_of c).mul_comm j N ∙ e
         where
           moved : (N j v w : FunctionOf c) → (N ⊗ j) ⊗ (v ⊗ w) ≡ j ⊗ ((N ⊗ v) ⊗ w)
-          moved N j v w = ring (ring_of c) (N ∷ j ∷ v ∷ w ∷ []) λ q h. simp (reads, q, h 0, h 1, h 2, h 3) (q.equal _ _ refl)
+          moved N j v w =
+              ring (ring_of c) (N ∷ j ∷ v ∷ w ∷ []) λ q h. simp (reads, q, h 0, h 1, h 2, h 3) (q.equal _ _ refl)
 
-      inverse : over c (row_of c ((polynomials k).◌⊗◌ (x_poly k) s_in.bottom)) ((polynomials k).◌⊕◌ ((polynomials k).◌⊗◌ (x_poly k) s_in.bottom) s_in.top) n_some ⊗ (𝟙 ⊕ t ⊗ s) ≡ 𝟙
+      inverse : over c (row_of c ((polynomials k).◌⊗◌ (x_poly k) s_in.bottom))
+          ((polynomials k).◌⊕◌ ((polynomials k).◌⊗◌ (x_poly k) s_in.bottom) s_in.top) n_some ⊗ (𝟙 ⊕ t ⊗ s) ≡ 𝟙
       inverse =
           cancel (of_poly c n) (over c (row_of c (polynomials k).𝟙) n n_some) _ (𝟙 ⊕ t ⊗ s) (of_poly c xb)
           (over_times_den c (polynomials k).𝟙 n n_some ∙ sym (of_poly_one c)) (over_times_den c xb n n_some) whole
@@ -132,13 +149,16 @@ module _ {k : CodeField} (c : Equation k) where
     scalar_integral : (s : FunctionOf c) → S s → Int s
     scalar_integral s h = integral_base (ring_of c) (IsFiniteAtInfinity c) 𝓢 s h
 
-    low_integral : (s : FunctionOf c) → Int s → (n : ℕ) (a : FunctionOf c) → Low (ring_of c).ops (IsFiniteAtInfinity c) s n a → Int a
+    low_integral : (s : FunctionOf c) → Int s → (n : ℕ) (a : FunctionOf c)
+        → Low (ring_of c).ops (IsFiniteAtInfinity c) s n a → Int a
     low_integral s s_int zero a h = subst Int (sym h) 𝓘.zero_in
     low_integral s s_int (suc n) a h =
-        subst Int (sym h.is) (𝓘.sum_in _ _ (scalar_integral _ h.constant_in) (𝓘.product_in _ _ s_int (low_integral s s_int n h.rest h.rest_in)))
+        subst Int (sym h.is) (𝓘.sum_in _ _ (scalar_integral _ h.constant_in)
+        (𝓘.product_in _ _ s_int (low_integral s s_int n h.rest h.rest_in)))
 
     minus_in : (z : FunctionOf c) → M z → M (⊖ z)
-    minus_in z h = subst M (neg_mul (ring_of c) 𝟙 z ∙ ap ⊖◌ (one_mul (ring_of c) z)) (𝓜.scale_in (⊖ 𝟙) z (𝓢.neg_in 𝟙 𝓢.one_in) h)
+    minus_in z h =
+        subst M (neg_mul (ring_of c) 𝟙 z ∙ ap ⊖◌ (one_mul (ring_of c) z)) (𝓜.scale_in (⊖ 𝟙) z (𝓢.neg_in 𝟙 𝓢.one_in) h)
 
     pub infinite_over_t : Dec (M t) → M t
     infinite_over_t (yes m) = m
@@ -148,7 +168,8 @@ module _ {k : CodeField} (c : Equation k) where
         let v = unit_of u.base u.base_in in
         let m : M (𝟙 ⊕ t ⊗ u.base)
         = subst M (ap (λ z. z ⊗ u.cofactor) (turned (t ⊗ i.0)) ∙ u.is)
-        (subst M ((ring_of c).mul_comm _ _) (place.ideal u.cofactor _ (low_integral i.0 i.1 i.1.degree u.cofactor u.cofactor_in) (minus_in _ i.2))) in
+        (subst M ((ring_of c).mul_comm _ _)
+        (place.ideal u.cofactor _ (low_integral i.0 i.1 i.1.degree u.cofactor u.cofactor_in) (minus_in _ i.2))) in
         absurd (place.proper (subst M v.2 (𝓜.scale_in v.0 _ v.1 m)))
       where
         turned : (z : FunctionOf c) → ⊖ (z ⊕ ⊖ 𝟙) ≡ 𝟙 ⊕ ⊖ z

@@ -76,10 +76,12 @@ module _ {A : Type 0} (R : CommRing A) (O : A → Type 0) (𝓞 : IsSubring R.op
         n,
         subst (Multiple R.ops p O) (f (pow R.ops c n) (pow R.ops (e i) n) (e i))
             (𝓟.sum_in _ _ (subst (Multiple R.ops p O) (mul_pow R c (e i) n) h.nilpotent.power_in)
-            (ideal_neg R O 𝓞 (Multiple R.ops p O) 𝓟 _ (𝓟.scale_in _ _ (power_in R O 𝓞 c c_in n) (idempotent_power i h.nilpotent.exponent)))),
+            (ideal_neg R O 𝓞 (Multiple R.ops p O) 𝓟 _
+            (𝓟.scale_in _ _ (power_in R O 𝓞 c c_in n) (idempotent_power i h.nilpotent.exponent)))),
       )
 
-  module _ (C : A → Type 0) (𝓒 : IsIdeal R.ops O C) (p_in_C : (a : A) → Multiple R.ops p O a → C a) (decide : (a : A) → Dec (C a)) where
+  module _ (C : A → Type 0) (𝓒 : IsIdeal R.ops O C) (p_in_C : (a : A) → Multiple R.ops p O a → C a)
+      (decide : (a : A) → Dec (C a)) where
     -- an ideal with p and without 1 lacks an idempotent
     lacks : ¬ (C 𝟙) → (i : I) × (¬ (C (e i)))
     lacks one = go (look is)
@@ -88,7 +90,8 @@ module _ {A : Type 0} (R : CommRing A) (O : A → Type 0) (𝓞 : IsSubring R.op
         look [] = inr 𝓒.zero_in
         look (j ∷ js) = by (decide (e j)) (look js)
           where
-            by : Dec (C (e j)) → ((i : I) × (¬ (C (e i)))) ⊎ C (sum_over R.ops js e) → ((i : I) × (¬ (C (e i)))) ⊎ C (sum_over R.ops (j ∷ js) e)
+            by : Dec (C (e j)) → ((i : I) × (¬ (C (e i)))) ⊎ C (sum_over R.ops js e) → ((i : I) × (¬ (C (e i))))
+                ⊎ C (sum_over R.ops (j ∷ js) e)
             by (no n) r = inl (j, n)
             by (yes m) (inl r) = inl r
             by (yes m) (inr r) = inr (𝓒.sum_in _ _ m r)
@@ -101,10 +104,12 @@ module _ {A : Type 0} (R : CommRing A) (O : A → Type 0) (𝓞 : IsSubring R.op
         go (inr r) = absurd (one (subst C (back (sum_over R.ops is e)) (𝓒.sum_in _ _ (p_in_C _ dec.sum_one) r)))
 
     -- whose product with each member is nilpotent
-    all_killed : (i : I) → ¬ (C (e i)) → (cs : List A) → All C cs → All (λ c. O c × ((n : ℕ) × Multiple R.ops p O (e i ⊗ pow R.ops c n))) cs
+    all_killed : (i : I) → ¬ (C (e i)) → (cs : List A) → All C cs
+        → All (λ c. O c × ((n : ℕ) × Multiple R.ops p O (e i ⊗ pow R.ops c n))) cs
     all_killed i out [] h = All-nil (λ c. O c × ((n : ℕ) × Multiple R.ops p O (e i ⊗ pow R.ops c n)))
     all_killed i out (c ∷ cs) h =
-        All-cons (λ c. O c × ((n : ℕ) × Multiple R.ops p O (e i ⊗ pow R.ops c n))) c cs (c_in, killed i c c_in (by (dec.locality i c c_in)))
+        All-cons (λ c. O c × ((n : ℕ) × Multiple R.ops p O (e i ⊗ pow R.ops c n))) c cs
+        (c_in, killed i c c_in (by (dec.locality i c c_in)))
         (all_killed i out cs (All-tail C c cs h))
       where
         c_in : O c
@@ -113,11 +118,13 @@ module _ {A : Type 0} (R : CommRing A) (O : A → Type 0) (𝓞 : IsSubring R.op
         back : (y z : A) → y ⊕ ⊖ (y ⊕ ⊖ z) ≡ z
         back y z = ring R (y ∷ z ∷ []) λ q j. simp (reads, q, j 0, j 1) (q.equal _ _ refl)
 
-        by : Radical R.ops O p (c ⊗ e i) ⊎ ((y : A) × O y × Multiple R.ops p O (y ⊗ (c ⊗ e i) ⊕ ⊖ (e i))) → Radical R.ops O p (c ⊗ e i)
+        by : Radical R.ops O p (c ⊗ e i) ⊎ ((y : A) × O y × Multiple R.ops p O (y ⊗ (c ⊗ e i) ⊕ ⊖ (e i)))
+            → Radical R.ops O p (c ⊗ e i)
         by (inl r) = r
         by (inr (y, y_in, m)) =
             absurd (out (subst C (back (y ⊗ (c ⊗ e i)) (e i))
-            (𝓒.sum_in _ _ (𝓒.scale_in y _ y_in (subst C (R.mul_comm (e i) c) (𝓒.scale_in (e i) c (dec.within i) (All-head C c cs h))))
+            (𝓒.sum_in _ _ (𝓒.scale_in y _ y_in
+            (subst C (R.mul_comm (e i) c) (𝓒.scale_in (e i) c (dec.within i) (All-head C c cs h))))
             (ideal_neg R O 𝓞 C 𝓒 _ (p_in_C _ m)))))
 
 -- an irreducible divisor of a polynomial that isn't constant
@@ -163,23 +170,33 @@ module _ (k : CodeField) (g : Polynomial k) (some : ¬ (g ≡ (polynomials k).�
   pub divides_it : IsDivisor (polynomials k).ops divisor_of g
   unfolding divisor_of
   divides_it =
-      let d = least.has.1 in
-      (monic.inverse ⊗ d.0, d.1 ∙ ap (λ x. x ⊗ d.0) (monic.back ∙ (polynomials k).mul_comm _ _) ∙ (polynomials k).mul_assoc _ _ _)
+      let d = least.has.1 in (
+        monic.inverse ⊗ d.0,
+        d.1 ∙ ap (λ x. x ⊗ d.0) (monic.back ∙ (polynomials k).mul_comm _ _)
+            ∙ (polynomials k).mul_assoc _ _ _,
+      )
 
   pub divisor_irreducible : IsIrreducible k.ops (codes_of k divisor_of)
   unfolding divisor_of
   divisor_irreducible = record {
     monic =
-        IsMonic_from_top monic.monic.degree (codes_of k monic.product) (length-map monic.product.0 (λ x. x.0) ∙ monic.monic.size)
-        (numbers_get k monic.product.0 monic.monic.degree (let s = monic.monic.size in omega arith) ∙ ap (λ x. x.0) monic.monic.top);
+        IsMonic_from_top monic.monic.degree (codes_of k monic.product)
+        (length-map monic.product.0 (λ x. x.0) ∙ monic.monic.size)
+        (numbers_get k monic.product.0 monic.monic.degree (let s = monic.monic.size in omega arith)
+        ∙ ap (λ x. x.0) monic.monic.top);
     not_constant = subst (λ n. 2 ≤ n) (sym (length-map monic.product.0 (λ x. x.0) ∙ length_is)) least.has.0;
     no_divisor = λ b b_in b_monic b_long short d.
         let B = value k b in
         let Q = value k d.quotient in
-        let whole : monic.product ≡ B ⊗ Q = sym (value_codes_of k monic.product) ∙ ap (value k) d.product ∙ value_product k b d.quotient b_in d.quotient_in in
-        let size : length B.0 ≡ length b = sym (length-map B.0 (λ x. x.0)) ∙ ap length (numbers_value k b b_in (monic_poly b b_monic)) in
+        let whole : monic.product ≡ B ⊗ Q = sym (value_codes_of k monic.product) ∙ ap (value k) d.product
+        ∙ value_product k b d.quotient b_in d.quotient_in in
+        let size : length B.0 ≡ length b = sym (length-map B.0 (λ x. x.0))
+        ∙ ap length (numbers_value k b b_in (monic_poly b b_monic)) in
         let u = divides_it in
-        let le = least.least B (subst (λ n. 2 ≤ n) (sym size) b_long, (Q ⊗ u.0, u.1 ∙ ap (λ x. x ⊗ u.0) whole ∙ (polynomials k).mul_assoc B Q u.0)) in
+        let le = least.least B (
+          subst (λ n. 2 ≤ n) (sym size) b_long,
+          (Q ⊗ u.0, u.1 ∙ ap (λ x. x ⊗ u.0) whole ∙ (polynomials k).mul_assoc B Q u.0),
+        ) in
         let e = length-map monic.product.0 (λ x. x.0) in
         let f = length_is in
         absurd (omega (arith, le, size, short, e, f));
@@ -211,12 +228,15 @@ module _ {k : CodeField} (c : Equation k) (O : FunctionOf c → Type 0) (𝓞 : 
     𝓠 : IsIdeal (ring_of c).ops O (pO c p h O 𝓞)
     𝓠 = multiples_ideal (ring_of c) O 𝓞.ring (of_poly c p) (p_in c p h O 𝓞) (of_poly c p) (p_in c p h O 𝓞)
 
-    C_lattice : IsLattice c (IsSum (space_ops c) (Product (ring_of c).ops M (Inverse (ring_of c).ops O M)) (pO c p h O 𝓞))
+    C_lattice : IsLattice c (IsSum (space_ops c) (Product (ring_of c).ops M (Inverse (ring_of c).ops O M))
+        (pO c p h O 𝓞))
     C_lattice = sum_lattice c T (pO c p h O 𝓞) T_lattice (multiple_is_lattice c p h O 𝓞)
 
-    C_ideal : IsIdeal (ring_of c).ops O (IsSum (space_ops c) (Product (ring_of c).ops M (Inverse (ring_of c).ops O M)) (pO c p h O 𝓞))
+    C_ideal : IsIdeal (ring_of c).ops O
+        (IsSum (space_ops c) (Product (ring_of c).ops M (Inverse (ring_of c).ops O M)) (pO c p h O 𝓞))
     C_ideal = record {
-      within = λ a m. subst O (sym m.is) (𝓞.ring.sum_in _ _ (T_ideal.within m.left m.left_in) (𝓠.within m.right m.right_in));
+      within =
+          λ a m. subst O (sym m.is) (𝓞.ring.sum_in _ _ (T_ideal.within m.left m.left_in) (𝓠.within m.right m.right_in));
       zero_in = (lattice_module c C C_lattice).zero_in;
       sum_in = (lattice_module c C C_lattice).sum_in;
       scale_in = λ s a s_in m. record {
@@ -228,17 +248,23 @@ module _ {k : CodeField} (c : Equation k) (O : FunctionOf c → Type 0) (𝓞 : 
       };
     }
 
-    in_C : (a : FunctionOf c) → pO c p h O 𝓞 a → IsSum (space_ops c) (Product (ring_of c).ops M (Inverse (ring_of c).ops O M)) (pO c p h O 𝓞) a
-    in_C a m = record { left = 𝟘; left_in = T_ideal.zero_in; right = a; right_in = m; is = sym (zero_add (ring_of c) a) }
+    in_C : (a : FunctionOf c) → pO c p h O 𝓞 a
+        → IsSum (space_ops c) (Product (ring_of c).ops M (Inverse (ring_of c).ops O M)) (pO c p h O 𝓞) a
+    in_C a m =
+        record { left = 𝟘; left_in = T_ideal.zero_in; right = a; right_in = m; is = sym (zero_add (ring_of c) a) }
 
-    from_T : (a : FunctionOf c) → T a → IsSum (space_ops c) (Product (ring_of c).ops M (Inverse (ring_of c).ops O M)) (pO c p h O 𝓞) a
+    from_T : (a : FunctionOf c) → T a
+        → IsSum (space_ops c) (Product (ring_of c).ops M (Inverse (ring_of c).ops O M)) (pO c p h O 𝓞) a
     from_T a m = record { left = a; left_in = m; right = 𝟘; right_in = 𝓠.zero_in; is = sym ((ring_of c).add_zero a) }
 
-    decided : UnitModulo (ring_of c).ops O (of_poly c p) (Product (ring_of c).ops M (Inverse (ring_of c).ops O M)) ⊎ Obstruction (ring_of c) O 𝓞.ring (of_poly c p) M
+    decided : UnitModulo (ring_of c).ops O (of_poly c p) (Product (ring_of c).ops M (Inverse (ring_of c).ops O M))
+        ⊎ Obstruction (ring_of c) O 𝓞.ring (of_poly c p) M
     decided = go (lattice_decided c C C_lattice 𝟙)
       where
         less : (l r : FunctionOf c) → 𝟙 ≡ l ⊕ r → r ≡ 𝟙 ⊕ ⊖ l
-        less l r e = from_one (ring_of c) (⊖ 𝟙) e (ring (ring_of c) (l ∷ r ∷ []) λ q h. simp (reads, q, h 0, h 1) (q.equal _ _ refl))
+        less l r e =
+            from_one (ring_of c) (⊖ 𝟙) e
+            (ring (ring_of c) (l ∷ r ∷ []) λ q h. simp (reads, q, h 0, h 1) (q.equal _ _ refl))
 
         by : {X : Type 0} → Dec X → X ⊎ (¬ X)
         by (yes x) = inl x
@@ -246,15 +272,23 @@ module _ {k : CodeField} (c : Equation k) (O : FunctionOf c → Type 0) (𝓞 : 
 
         go : Dec (C 𝟙) → UnitModulo (ring_of c).ops O (of_poly c p) T ⊎ Obstruction (ring_of c) O 𝓞.ring (of_poly c p) M
         go (yes m) =
-            inl (record { member = m.left; member_in = m.left_in; one_modulo = subst (pO c p h O 𝓞) (less m.left m.right m.is) m.right_in })
+            inl (record {
+              member = m.left;
+              member_in = m.left_in;
+              one_modulo = subst (pO c p h O 𝓞) (less m.left m.right m.is) m.right_in;
+            })
         go (no n) =
-            let i = lacks (ring_of c) O 𝓞.ring (of_poly c p) (p_in c p h O 𝓞) (Index c p h O 𝓞) (λ i. lift c p h O 𝓞 i.0) (listed c p h O 𝓞).0 (listed c p h O 𝓞).1
+            let i = lacks (ring_of c) O 𝓞.ring (of_poly c p) (p_in c p h O 𝓞) (Index c p h O 𝓞)
+            (λ i. lift c p h O 𝓞 i.0) (listed c p h O 𝓞).0 (listed c p h O 𝓞).1
             C C_ideal in_C (lattice_decided c C C_lattice) n in
             let gens = order_generators c p h O 𝓞 T T_lattice in
-            inr (obstruction (ring_of c) O 𝓞.ring (of_poly c p) (p_in c p h O 𝓞) (λ x x_in. by (lattice_decided c (pO c p h O 𝓞) (multiple_is_lattice c p h O 𝓞) x)) 𝓠 M
+            inr (obstruction (ring_of c) O 𝓞.ring (of_poly c p) (p_in c p h O 𝓞)
+            (λ x x_in. by (lattice_decided c (pO c p h O 𝓞) (multiple_is_lattice c p h O 𝓞) x)) 𝓠 M
             gens.list gens.spanned (lift c p h O 𝓞 i.0.0) ((listed c p h O 𝓞).1.within i.0) (λ m. i.1 (in_C _ m))
-            (all_killed (ring_of c) O 𝓞.ring (of_poly c p) (p_in c p h O 𝓞) (Index c p h O 𝓞) (λ i. lift c p h O 𝓞 i.0) (listed c p h O 𝓞).0 (listed c p h O 𝓞).1
-            C C_ideal in_C (lattice_decided c C C_lattice) i.0 i.1 gens.list (All-weaker T C from_T gens.list gens.members)))
+            (all_killed (ring_of c) O 𝓞.ring (of_poly c p) (p_in c p h O 𝓞) (Index c p h O 𝓞)
+            (λ i. lift c p h O 𝓞 i.0) (listed c p h O 𝓞).0 (listed c p h O 𝓞).1
+            C C_ideal in_C (lattice_decided c C C_lattice) i.0 i.1 gens.list
+            (All-weaker T C from_T gens.list gens.members)))
 
     -- what p takes into T is in T
     pub cancelled : (w : FunctionOf c) → O w → T (of_poly c p ⊗ w) → T w
@@ -266,7 +300,8 @@ module _ {k : CodeField} (c : Equation k) (O : FunctionOf c → Type 0) (𝓞 : 
             trace_at (ring_of c) O 𝓞.ring (of_poly c p) (p_in c p h O 𝓞) M 𝓜
             (unit_at (ring_of c) O 𝓞.ring (of_poly c p) u.0 ((ring_of c).mul_comm _ _ ∙ u.1) M 𝓜
             (λ z f n.
-            maximal z 1 (stable_integral c (Inverse (ring_of c).ops O M) (colon_lattice c O M 𝓞.lattice lattice) z (λ y y_in. f y y_in))
+            maximal z 1 (stable_integral c (Inverse (ring_of c).ops O M) (colon_lattice c O M 𝓞.lattice lattice) z
+            (λ y y_in. f y y_in))
             (subst (λ x. O (x ⊗ z)) (sym ((ring_of c).mul_one _)) n))
             decided)
             1 w w_in (subst (λ x. T (x ⊗ w)) (sym ((ring_of c).mul_one _)) m)
@@ -281,10 +316,12 @@ module _ {k : CodeField} (c : Equation k) (O : FunctionOf c → Type 0) (𝓞 : 
           where
             split : (x a y q : FunctionOf c) → x ⊗ a ⊕ y ⊗ q ≡ 𝟙 → (x ⊗ w) ⊗ a ⊕ y ⊗ (q ⊗ w) ≡ w
             split x a y q e =
-                from_one (ring_of c) w e (ring (ring_of c) (x ∷ a ∷ y ∷ q ∷ w ∷ []) λ q h. simp (reads, q, h 0, h 1, h 2, h 3, h 4) (q.equal _ _ refl))
+                from_one (ring_of c) w e (ring (ring_of c) (x ∷ a ∷ y ∷ q ∷ w ∷ []) λ q h. simp
+                (reads, q, h 0, h 1, h 2, h 3, h 4) (q.equal _ _ refl))
 
             scalar_in : (s : FunctionOf c) → IsPolynomial c s → O s
-            scalar_in s s_in = subst O ((ring_of c).mul_one s) ((lattice_module c O 𝓞.lattice).scale_in s 𝟙 s_in 𝓞.ring.one_in)
+            scalar_in s s_in =
+                subst O ((ring_of c).mul_one s) ((lattice_module c O 𝓞.lattice).scale_in s 𝟙 s_in 𝓞.ring.one_in)
 
   abbrev Some : Polynomial k → Type 0
   Some a = (¬ (a ≡ (polynomials k).𝟘)) × Product (ring_of c).ops M (Inverse (ring_of c).ops O M) (of_poly c a)
@@ -299,7 +336,9 @@ module _ {k : CodeField} (c : Equation k) (O : FunctionOf c → Type 0) (𝓞 : 
 
   polynomial_in : (a : Polynomial k) → O (of_poly c a)
   polynomial_in a =
-      subst O ((ring_of c).mul_one _) ((lattice_module c O 𝓞.lattice).scale_in (of_poly c a) 𝟙 (record { polynomial = a; value = refl }) 𝓞.ring.one_in)
+      subst O ((ring_of c).mul_one _)
+      ((lattice_module c O 𝓞.lattice).scale_in (of_poly c a) 𝟙 (record { polynomial = a; value = refl })
+      𝓞.ring.one_in)
 
   smallest : Least k Some
   smallest = let a = polynomial_of c T T_lattice in least_polynomial k Some decide_some a.0 (a.1, a.2)
@@ -322,15 +361,18 @@ module _ {k : CodeField} (c : Equation k) (O : FunctionOf c → Type 0) (𝓞 : 
           = subst (λ n. coeff_of (code_ring k).ops m.product.0 n ≡ (code_ring k).𝟙) zero m.monic.top in
           let one : m.product ≡ (polynomials k).𝟙
           = constant_of c m.product (omega arith) ∙ ap (constant (code_ring k)) top ∙ (constant_hom (code_ring k)).𝟙 in
-          subst T (sym ((poly_hom c).mul _ _) ∙ ap (of_poly c) (sym m.is ∙ one) ∙ (poly_hom c).𝟙) (T_ideal.scale_in _ _ (polynomial_in m.unit) smallest.has.1)
+          subst T (sym ((poly_hom c).mul _ _) ∙ ap (of_poly c) (sym m.is ∙ one) ∙ (poly_hom c).𝟙)
+          (T_ideal.scale_in _ _ (polynomial_in m.unit) smallest.has.1)
       go (inl long) =
           let g = smallest.member in
           let p = divisor_of k g smallest.has.0 long in
           let irr = divisor_irreducible k g smallest.has.0 long in
           let d = divides_it k g smallest.has.0 long in
           let u = d.0 in
-          let u_some : ¬ (u ≡ (polynomials k).𝟘) = λ z. smallest.has.0 (d.1 ∙ ap ((polynomials k).◌⊗◌ p) z ∙ mul_zero (polynomials k).ring p) in
-          let u_in = cancelled p irr (of_poly c u) (polynomial_in u) (subst T (ap (of_poly c) d.1 ∙ (poly_hom c).mul p u) smallest.has.1) in
+          let u_some : ¬ (u ≡ (polynomials k).𝟘) = λ z. smallest.has.0
+          (d.1 ∙ ap ((polynomials k).◌⊗◌ p) z ∙ mul_zero (polynomials k).ring p) in
+          let u_in = cancelled p irr (of_poly c u) (polynomial_in u)
+          (subst T (ap (of_poly c) d.1 ∙ (poly_hom c).mul p u) smallest.has.1) in
           let le = smallest.least u (u_some, u_in) in
           let l = length_product (code_ring k) (code_domain k) p u (irreducible_some k p irr) u_some in
           let f : length g.0 ≡ length ((polynomials k).◌⊗◌ p u).0 = ap (λ q. length q.0) d.1 in

@@ -41,12 +41,14 @@ trimmed_end (x ∷ y ∷ lower) = trimmed_end (y ∷ lower)
 pub monic_poly : (b : List ℕ) → IsMonic b → IsPoly b
 monic_poly b m = record { trimmed = subst (IsTrimmed is_zero_code) (sym m.1) (trimmed_end m.0) }
 
-pub numbers_get : (k : CodeField) (xs : List (Code k)) (n : ℕ) → n < length xs → get_or (numbers k xs) n 0 ≡ (coeff_of (code_ring k).ops xs n).0
+pub numbers_get : (k : CodeField) (xs : List (Code k)) (n : ℕ) → n < length xs → get_or (numbers k xs) n 0
+    ≡ (coeff_of (code_ring k).ops xs n).0
 numbers_get k [] n l = absurd (omega arith)
 numbers_get k (x ∷ xs) zero l = refl
 numbers_get k (x ∷ xs) (suc n) l = numbers_get k xs n (omega arith)
 
-module _ {k : CodeField} (c : Equation k) (gs : List (FunctionOf c)) (place : IsPlace (setting_of c) (finite c gs)) where
+module _ {k : CodeField} (c : Equation k) (gs : List (FunctionOf c))
+    (place : IsPlace (setting_of c) (finite c gs)) where
   infixl 65 ◌⊕◌
   infixl 70 ◌⊗◌
   infixr 80 ⊖◌
@@ -71,7 +73,9 @@ module _ {k : CodeField} (c : Equation k) (gs : List (FunctionOf c)) (place : Is
       go (no n) (no m) = no (λ h. m h.1)
 
   pub times : (a b : Polynomial k) → In b → In ((polynomials k).◌⊗◌ a b)
-  times a b h = subst (IsIn (setting_of c) (finite c gs)) (sym ((poly_hom c).mul a b)) (𝓜.scale_in _ _ (record { polynomial = a; value = refl }) h)
+  times a b h =
+      subst (IsIn (setting_of c) (finite c gs)) (sym ((poly_hom c).mul a b))
+      (𝓜.scale_in _ _ (record { polynomial = a; value = refl }) h)
 
   sum : (a b : Polynomial k) → In a → In b → In ((polynomials k).◌⊕◌ a b)
   sum a b h h' = subst (IsIn (setting_of c) (finite c gs)) (sym ((poly_hom c).add a b)) (𝓜.sum_in _ _ h h')
@@ -92,8 +96,10 @@ module _ {k : CodeField} (c : Equation k) (gs : List (FunctionOf c)) (place : Is
       minus_b : IsPolynomial c (⊖ of_poly c b)
       minus_b = (polynomials_subring c).neg_in _ (record { polynomial = b; value = refl })
 
-      𝓘 : (i : (w : FunctionOf c) × IsIntegralAt (setting_of c) Finite w × IsIn (setting_of c) (finite c gs) (of_poly c a ⊗ w ⊕ ⊖ 𝟙))
-          → IsIn (setting_of c) (finite c gs) (i.0 ⊗ (of_poly c a ⊗ of_poly c b) ⊕ (⊖ of_poly c b) ⊗ (of_poly c a ⊗ i.0 ⊕ ⊖ 𝟙))
+      𝓘 : (i : (w : FunctionOf c) × IsIntegralAt (setting_of c) Finite w
+          × IsIn (setting_of c) (finite c gs) (of_poly c a ⊗ w ⊕ ⊖ 𝟙))
+          → IsIn (setting_of c) (finite c gs)
+          (i.0 ⊗ (of_poly c a ⊗ of_poly c b) ⊕ (⊖ of_poly c b) ⊗ (of_poly c a ⊗ i.0 ⊕ ⊖ 𝟙))
       𝓘 i =
           𝓜.sum_in _ _ (place.ideal i.0 _ i.1 (subst (IsIn (setting_of c) (finite c gs)) ((poly_hom c).mul a b) h))
           (𝓜.scale_in _ _ minus_b i.2)
@@ -142,7 +148,8 @@ module _ {k : CodeField} (c : Equation k) (gs : List (FunctionOf c)) (place : Is
           let top : coeff_of (code_ring k).ops monic.product.0 0 ≡ (code_ring k).𝟙
           = subst (λ n. coeff_of (code_ring k).ops monic.product.0 n ≡ (code_ring k).𝟙) zero monic.monic.top in
           let one : monic.product ≡ (polynomials k).𝟙
-          = constant_of c monic.product (omega arith) ∙ ap (constant (code_ring k)) top ∙ (constant_hom (code_ring k)).𝟙 in
+          = constant_of c monic.product (omega arith) ∙ ap (constant (code_ring k)) top
+          ∙ (constant_hom (code_ring k)).𝟙 in
           absurd (one_out (subst In one generator_in))
 
   pub generator_irreducible : IsIrreducible k.ops (codes_of k generator_of)
@@ -150,27 +157,34 @@ module _ {k : CodeField} (c : Equation k) (gs : List (FunctionOf c)) (place : Is
   generator_irreducible = record {
     monic =
         IsMonic_from_top monic.monic.degree (codes_of k monic.product) (codes_length monic.product ∙ monic.monic.size)
-        (numbers_get k monic.product.0 monic.monic.degree (let s = monic.monic.size in omega arith) ∙ ap (λ x. x.0) monic.monic.top);
+        (numbers_get k monic.product.0 monic.monic.degree (let s = monic.monic.size in omega arith)
+        ∙ ap (λ x. x.0) monic.monic.top);
     not_constant = subst (λ n. 2 ≤ n) (sym (codes_length monic.product)) generator_long;
     no_divisor = λ b b_in b_monic long short d.
         let B = value k b in
         let Q = value k d.quotient in
         let whole : monic.product ≡ (polynomials k).◌⊗◌ B Q
-        = sym (value_codes_of k monic.product) ∙ ap (value k) d.product ∙ value_product k b d.quotient b_in d.quotient_in in
-        let size : length B.0 ≡ length b = sym (codes_length B) ∙ ap length (numbers_value k b b_in (monic_poly b b_monic)) in
+        = sym (value_codes_of k monic.product) ∙ ap (value k) d.product
+        ∙ value_product k b d.quotient b_in d.quotient_in in
+        let size : length B.0 ≡ length b = sym (codes_length B)
+        ∙ ap length (numbers_value k b b_in (monic_poly b b_monic)) in
         divided B Q whole (omega (arith, size, long)) (omega (arith, size, short, codes_length monic.product));
   }
     where
-      divided : (B Q : Polynomial k) → monic.product ≡ (polynomials k).◌⊗◌ B Q → 2 ≤ length B.0 → length B.0 < length monic.product.0 → ⊥
+      divided : (B Q : Polynomial k) → monic.product ≡ (polynomials k).◌⊗◌ B Q → 2 ≤ length B.0
+          → length B.0 < length monic.product.0 → ⊥
       divided B Q e long short =
-          let B_some : ¬ (B ≡ (polynomials k).𝟘) = λ z. generator_some (e ∙ ap (λ x. (polynomials k).◌⊗◌ x Q) z ∙ zero_mul (polynomials k).ring Q) in
-          let Q_some : ¬ (Q ≡ (polynomials k).𝟘) = λ z. generator_some (e ∙ ap ((polynomials k).◌⊗◌ B) z ∙ mul_zero (polynomials k).ring B) in
+          let B_some : ¬ (B ≡ (polynomials k).𝟘) = λ z. generator_some
+          (e ∙ ap (λ x. (polynomials k).◌⊗◌ x Q) z ∙ zero_mul (polynomials k).ring Q) in
+          let Q_some : ¬ (Q ≡ (polynomials k).𝟘) = λ z. generator_some
+          (e ∙ ap ((polynomials k).◌⊗◌ B) z ∙ mul_zero (polynomials k).ring B) in
           let l = length_product (code_ring k) (code_domain k) B Q B_some Q_some in
           let f : length monic.product.0 ≡ length ((polynomials k).◌⊗◌ B Q).0 = ap (λ p. length p.0) e in
           shorter_out Q Q_some (omega arith) (factor_in B Q (subst In e generator_in) (shorter_out B B_some short))
 
   -- two irreducible polynomials in the place divide each other
-  pub divides_other : (p q : Polynomial k) → IsIrreducible k.ops (codes_of k p) → IsIrreducible k.ops (codes_of k q) → In p → In q
+  pub divides_other : (p q : Polynomial k) → IsIrreducible k.ops (codes_of k p) → IsIrreducible k.ops (codes_of k q)
+      → In p → In q
       → IsDivisor (polynomials k).ops p q
   divides_other p q h h' p_in q_in = go (decide_divides k p h q)
     where
@@ -181,10 +195,12 @@ module _ {k : CodeField} (c : Equation k) (gs : List (FunctionOf c)) (place : Is
           absurd (one_out (subst In b.is (sum _ _ (times b.left q q_in) (times b.right p p_in))))
 
   -- so they are the same
-  pub same_irreducible : (p q : Polynomial k) → IsIrreducible k.ops (codes_of k p) → IsIrreducible k.ops (codes_of k q) → In p → In q → p ≡ q
+  pub same_irreducible : (p q : Polynomial k) → IsIrreducible k.ops (codes_of k p)
+      → IsIrreducible k.ops (codes_of k q) → In p → In q → p ≡ q
   same_irreducible p q h h' p_in q_in = go (divides_other p q h h' p_in q_in) (divides_other q p h' h q_in p_in)
     where
-      top : (a : Polynomial k) → IsMonic (codes_of k a) → (n : ℕ) × (length a.0 ≡ suc n) × (coeff_of (code_ring k).ops a.0 n ≡ (code_ring k).𝟙)
+      top : (a : Polynomial k) → IsMonic (codes_of k a) → (n : ℕ) × (length a.0 ≡ suc n)
+          × (coeff_of (code_ring k).ops a.0 n ≡ (code_ring k).𝟙)
       top a m =
           let t = top_of_monic (codes_of k a) m in
           let size : length a.0 ≡ suc t.0 = sym (codes_length a) ∙ t.1 in (
@@ -193,10 +209,12 @@ module _ {k : CodeField} (c : Equation k) (gs : List (FunctionOf c)) (place : Is
             same_code k _ (code_ring k).𝟙 (sym (numbers_get k a.0 t.0 (omega arith)) ∙ t.2),
           )
 
-      factor : (a b u : Polynomial k) → ¬ (a ≡ (polynomials k).𝟘) → b ≡ (polynomials k).◌⊗◌ a u → ¬ (b ≡ (polynomials k).𝟘) → ¬ (u ≡ (polynomials k).𝟘)
+      factor : (a b u : Polynomial k) → ¬ (a ≡ (polynomials k).𝟘) → b ≡ (polynomials k).◌⊗◌ a u
+          → ¬ (b ≡ (polynomials k).𝟘) → ¬ (u ≡ (polynomials k).𝟘)
       factor a b u n e m z = m (e ∙ ap ((polynomials k).◌⊗◌ a) z ∙ mul_zero (polynomials k).ring a)
 
-      length_le : (a b u : Polynomial k) → ¬ (a ≡ (polynomials k).𝟘) → ¬ (b ≡ (polynomials k).𝟘) → b ≡ (polynomials k).◌⊗◌ a u → suc (length b.0) ≡ length a.0 + length u.0
+      length_le : (a b u : Polynomial k) → ¬ (a ≡ (polynomials k).𝟘) → ¬ (b ≡ (polynomials k).𝟘) → b
+          ≡ (polynomials k).◌⊗◌ a u → suc (length b.0) ≡ length a.0 + length u.0
       length_le a b u n m e =
           let f : length b.0 ≡ length ((polynomials k).◌⊗◌ a u).0 = ap (λ p. length p.0) e in
           omega (arith, f, length_product (code_ring k) (code_domain k) a u n (factor a b u n e m))
@@ -215,9 +233,12 @@ module _ {k : CodeField} (c : Equation k) (gs : List (FunctionOf c)) (place : Is
           let same : t.0 ≡ s.0 = let a = s.1 in let b = t.1 in omega arith in
           let x = coeff_of (code_ring k).ops u.0 0 in
           let u_is : u ≡ constant (code_ring k) x = constant_of c u short in
-          let q_is : q ≡ (polynomials k).◌⊗◌ (constant (code_ring k) x) p = e ∙ (polynomials k).mul_comm p u ∙ ap (λ w. (polynomials k).◌⊗◌ w p) u_is in
+          let q_is : q ≡ (polynomials k).◌⊗◌ (constant (code_ring k) x) p = e ∙ (polynomials k).mul_comm p u
+          ∙ ap (λ w. (polynomials k).◌⊗◌ w p) u_is in
           let one : x ≡ (code_ring k).𝟙
           = sym ((code_ring k).mul_one x) ∙ ap ((code_ring k).◌⊗◌ x) (sym s.2) ∙ sym (constant_times k x p s.0)
-          ∙ ap (λ w. coeff_of (code_ring k).ops w.0 s.0) (sym q_is) ∙ ap (coeff_of (code_ring k).ops q.0) (sym same) ∙ t.2 in
-          sym (q_is ∙ ap (λ w. (polynomials k).◌⊗◌ (constant (code_ring k) w) p) one ∙ ap (λ w. (polynomials k).◌⊗◌ w p) (constant_hom (code_ring k)).𝟙
+          ∙ ap (λ w. coeff_of (code_ring k).ops w.0 s.0) (sym q_is) ∙ ap (coeff_of (code_ring k).ops q.0) (sym same)
+          ∙ t.2 in
+          sym (q_is ∙ ap (λ w. (polynomials k).◌⊗◌ (constant (code_ring k) w) p) one
+          ∙ ap (λ w. (polynomials k).◌⊗◌ w p) (constant_hom (code_ring k)).𝟙
           ∙ one_mul (polynomials k).ring p)

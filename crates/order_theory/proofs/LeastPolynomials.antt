@@ -24,7 +24,8 @@ some_in T d (x ∷ xs) = go (d x) (some_in T d xs)
 
 module _ (k : CodeField) where
   -- whether a list of at most m codes has a property
-  some_short : (m : ℕ) (T : List (Code k) → Type 0) → ((l : List (Code k)) → Dec (T l)) → Dec ((l : List (Code k)) × (length l ≤ m) × T l)
+  some_short : (m : ℕ) (T : List (Code k) → Type 0) → ((l : List (Code k)) → Dec (T l))
+      → Dec ((l : List (Code k)) × (length l ≤ m) × T l)
   some_short zero T d = go (d [])
     where
       go : Dec (T []) → Dec ((l : List (Code k)) × (length l ≤ 0) × T l)
@@ -35,9 +36,11 @@ module _ (k : CodeField) where
           by [] l t = n t
           by (x ∷ xs) l t = absurd (omega arith)
   some_short (suc m) T d =
-      go (d []) (some_in (λ a. (l : List (Code k)) × (length l ≤ m) × T (a ∷ l)) (λ a. some_short m (λ l. T (a ∷ l)) (λ l. d (a ∷ l))) (code_finite k).codes)
+      go (d []) (some_in (λ a. (l : List (Code k)) × (length l ≤ m) × T (a ∷ l))
+      (λ a. some_short m (λ l. T (a ∷ l)) (λ l. d (a ∷ l))) (code_finite k).codes)
     where
-      go : Dec (T []) → Dec ((a : Code k) × In a (code_finite k).codes × ((l : List (Code k)) × (length l ≤ m) × T (a ∷ l)))
+      go : Dec (T []) → Dec ((a : Code k) × In a (code_finite k).codes
+          × ((l : List (Code k)) × (length l ≤ m) × T (a ∷ l)))
           → Dec ((l : List (Code k)) × (length l ≤ suc m) × T l)
       go (yes t) r = yes ([], omega arith, t)
       go (no n) (yes r) = let s = r.2 in let le = s.1 in yes (r.0 ∷ s.0, omega (arith, le), s.2)
@@ -52,11 +55,13 @@ module _ (k : CodeField) where
     pub has : T member
     pub least : (b : Polynomial k) → T b → length member.0 ≤ length b.0
 
-  least_from : (T : Polynomial k → Type 0) → ((b : Polynomial k) → Dec (T b)) → (n : ℕ) (a : Polynomial k) → T a → length a.0 < n → Least T
+  least_from : (T : Polynomial k → Type 0) → ((b : Polynomial k) → Dec (T b)) → (n : ℕ) (a : Polynomial k) → T a
+      → length a.0 < n → Least T
   least_from T d zero a t l = absurd (omega arith)
   least_from T d (suc n) a t l =
       go (some_short (length a.0) (λ l. T (pol_of (code_ring k) l) × (length (pol_of (code_ring k) l).0 < length a.0))
-      (λ l. both (d (pol_of (code_ring k) l)) (smaller (length (pol_of (code_ring k) l).0) (length a.0)))) (λ b t l. least_from T d n b t l)
+      (λ l. both (d (pol_of (code_ring k) l)) (smaller (length (pol_of (code_ring k) l).0) (length a.0))))
+      (λ b t l. least_from T d n b t l)
     where
       both : {X Y : Type 0} → Dec X → Dec Y → Dec (X × Y)
       both (yes x) (yes y) = yes (x, y)
@@ -69,7 +74,8 @@ module _ (k : CodeField) where
       smaller : (m n : ℕ) → Dec (m < n)
       smaller m n = elim (order m n) [ inl l ↦ yes l | inr l ↦ no (λ h. absurd (omega arith)) ]
 
-      go : Dec ((l : List (Code k)) × (length l ≤ length a.0) × (T (pol_of (code_ring k) l) × (length (pol_of (code_ring k) l).0 < length a.0)))
+      go : Dec ((l : List (Code k)) × (length l ≤ length a.0)
+          × (T (pol_of (code_ring k) l) × (length (pol_of (code_ring k) l).0 < length a.0)))
           → ((b : Polynomial k) → T b → length b.0 < n → Least T) → Least T
       go (yes r) again = let s = r.2 in let less = s.1 in again (pol_of (code_ring k) r.0) s.0 (omega (arith, less, l))
       go (no m) again = record {
@@ -78,14 +84,19 @@ module _ (k : CodeField) where
         least = λ b s. by b s (order (length b.0) (length a.0));
       }
         where
-          by : (b : Polynomial k) → T b → (length b.0 < length a.0) ⊎ (length a.0 ≤ length b.0) → length a.0 ≤ length b.0
+          by : (b : Polynomial k) → T b → (length b.0 < length a.0) ⊎ (length a.0 ≤ length b.0)
+              → length a.0 ≤ length b.0
           by b s (inr le) = le
           by b s (inl less) =
               absurd (m (
                 b.0,
                 omega arith,
-                (subst T (sym (pol_self (code_ring k) b)) s, subst (λ p. length p.0 < length a.0) (sym (pol_self (code_ring k) b)) less),
+                (
+                  subst T (sym (pol_self (code_ring k) b)) s,
+                  subst (λ p. length p.0 < length a.0) (sym (pol_self (code_ring k) b)) less,
+                ),
               ))
 
-  pub least_polynomial : (T : Polynomial k → Type 0) → ((b : Polynomial k) → Dec (T b)) → (a : Polynomial k) → T a → Least T
+  pub least_polynomial : (T : Polynomial k → Type 0) → ((b : Polynomial k) → Dec (T b)) → (a : Polynomial k) → T a
+      → Least T
   least_polynomial T d a t = least_from T d (suc (length a.0)) a t (omega arith)

@@ -1,5 +1,5 @@
--- Lattices and orders at an irreducible polynomial p: what is prime to p, denominators, and the order of all integral functions that powers
--- of p take into a given one.
+-- Lattices and orders at an irreducible polynomial p: what is prime to p, denominators, and the order of all integral
+-- functions that powers of p take into a given one.
 use Rattle.std.proofs.Common.{◌≡◌, ℕ, zero, suc, ◌+◌, inl, inr, refl, sym, ◌∙◌, ap, ap₂, subst, arith, ◌↔◌}
 use Rattle.ring_theory.specs.Ring.{pow}
 use Rattle.ring_theory.specs.Subsets.{IsSubring, IsModule}
@@ -42,24 +42,29 @@ module _ {k : CodeField} (c : Equation k) where
   abbrev pub Int : FunctionOf c → Type 0
   Int = IsIntegralAt (setting_of c) Finite
 
-  pub power_value : (a : Polynomial k) (n : ℕ) → of_poly c (pow (polynomials k).ops a n) ≡ pow (ring_of c).ops (of_poly c a) n
+  pub power_value : (a : Polynomial k) (n : ℕ) → of_poly c (pow (polynomials k).ops a n)
+      ≡ pow (ring_of c).ops (of_poly c a) n
   power_value a zero = (poly_hom c).𝟙
   power_value a (suc n) = (poly_hom c).mul a _ ∙ ap (λ x. of_poly c a ⊗ x) (power_value a n)
 
   -- the members of an order, and what takes a lattice into itself, are integral
   pub order_integral : (O : FunctionOf c → Type 0) → IsOrder c O → (z : FunctionOf c) → O z → Int z
   order_integral O 𝓞 z h =
-      integral_of_order (ring_of c) (IsPolynomial c) 𝓢 O 𝓞.ring 𝓞.lattice.generators (λ z. (𝓞.lattice.spanned z).0) (λ z. (𝓞.lattice.spanned z).1) z h
+      integral_of_order (ring_of c) (IsPolynomial c) 𝓢 O 𝓞.ring 𝓞.lattice.generators (λ z. (𝓞.lattice.spanned z).0)
+      (λ z. (𝓞.lattice.spanned z).1) z h
 
   -- and an order has the polynomials
   pub order_polynomials : (O : FunctionOf c → Type 0) → IsOrder c O → (s : FunctionOf c) → IsPolynomial c s → O s
-  order_polynomials O 𝓞 s m = subst O ((ring_of c).mul_one s) ((lattice_module c O 𝓞.lattice).scale_in s 𝟙 m 𝓞.ring.one_in)
+  order_polynomials O 𝓞 s m =
+      subst O ((ring_of c).mul_one s) ((lattice_module c O 𝓞.lattice).scale_in s 𝟙 m 𝓞.ring.one_in)
 
-  pub stable_integral : (L : FunctionOf c → Type 0) → IsLattice c L → (z : FunctionOf c) → ((y : FunctionOf c) → L y → L (z ⊗ y)) → Int z
+  pub stable_integral : (L : FunctionOf c → Type 0) → IsLattice c L → (z : FunctionOf c)
+      → ((y : FunctionOf c) → L y → L (z ⊗ y)) → Int z
   stable_integral L 𝓛 z f =
       let d = polynomial_of c L 𝓛 in
       let u = inverse_of c d.0 d.1 in
-      integral_of_stable (ring_of c) (IsPolynomial c) 𝓢 𝓛.generators (of_poly c d.0) u.0 z ((ring_of c).mul_comm _ _ ∙ u.1) ((𝓛.spanned _).0 d.2)
+      integral_of_stable (ring_of c) (IsPolynomial c) 𝓢 𝓛.generators (of_poly c d.0) u.0 z
+      ((ring_of c).mul_comm _ _ ∙ u.1) ((𝓛.spanned _).0 d.2)
       (λ y h. (𝓛.spanned _).0 (f y ((𝓛.spanned y).1 h)))
 
   module _ (p : Polynomial k) (h : IsIrreducible k.ops (codes_of k p)) where
@@ -73,7 +78,8 @@ module _ {k : CodeField} (c : Equation k) where
       one_in = record { polynomial = (polynomials k).𝟙; not_divided = not_one; value = of_poly_one c };
       product_in = λ a b m n. record {
         polynomial = (polynomials k).◌⊗◌ m.polynomial n.polynomial;
-        not_divided = λ d. elim (prime k p h m.polynomial n.polynomial d) [ inl e ↦ m.not_divided e | inr e ↦ n.not_divided e ];
+        not_divided =
+            λ d. elim (prime k p h m.polynomial n.polynomial d) [ inl e ↦ m.not_divided e | inr e ↦ n.not_divided e ];
         value = ap₂ ◌⊗◌ m.value n.value ∙ sym ((poly_hom c).mul _ _);
       };
       comaximal = λ w m. let b = bezout (euclidean k) p (irreducible k p h) m.polynomial m.not_divided in record {
@@ -105,17 +111,25 @@ module _ {k : CodeField} (c : Equation k) where
         }
 
     -- each function has a denominator at p in a lattice
-    pub denominator : (L : FunctionOf c → Type 0) → IsLattice c L → (z : FunctionOf c) → Denominator (ring_of c).ops (IsPrimeTo c p) L (of_poly c p) z
+    pub denominator : (L : FunctionOf c → Type 0) → IsLattice c L → (z : FunctionOf c)
+        → Denominator (ring_of c).ops (IsPrimeTo c p) L (of_poly c p) z
     denominator L 𝓛 z =
         let f = 𝓛.full z in
         let s = split_at f.factor f.some in
-        record { exponent = s.exponent; cofactor = s.cofactor; cofactor_in = s.cofactor_in; multiple_in = subst (λ x. L (x ⊗ z)) s.is f.multiple_in }
+        record {
+          exponent = s.exponent;
+          cofactor = s.cofactor;
+          cofactor_in = s.cofactor_in;
+          multiple_in = subst (λ x. L (x ⊗ z)) s.is f.multiple_in;
+        }
 
     -- an order is maximal at p exactly where it has each integral function up to a factor prime to p
     pub maximal_iff : (O : FunctionOf c → Type 0) → IsLattice c O
-        → MaximalAt (ring_of c).ops (of_poly c p) Int O ↔ ((z : FunctionOf c) → Int z → Locally (ring_of c).ops (IsPrimeTo c p) O z)
+        → MaximalAt (ring_of c).ops (of_poly c p) Int O
+        ↔ ((z : FunctionOf c) → Int z → Locally (ring_of c).ops (IsPrimeTo c p) O z)
     maximal_iff O 𝓞 =
-        maximal_iff_locally (ring_of c) (IsPolynomial c) 𝓢 (IsPrimeTo c p) (of_poly c p) prime_to Int O (lattice_module c O 𝓞)
+        maximal_iff_locally (ring_of c) (IsPolynomial c) 𝓢 (IsPrimeTo c p) (of_poly c p) prime_to Int O
+        (lattice_module c O 𝓞)
         (λ w z m n. (integral_module c).scale_in w z (prime_to.within w m) n) (λ z m. denominator O 𝓞 z)
 
     -- an order that is maximal at p has each integral function up to a factor prime to p
@@ -131,11 +145,14 @@ module _ {k : CodeField} (c : Equation k) where
     }
 
     -- they are maximal at p
-    pub larger_maximal : (O : FunctionOf c → Type 0) → MaximalAt (ring_of c).ops (of_poly c p) Int (Enlarged (ring_of c) Int (of_poly c p) O)
+    pub larger_maximal : (O : FunctionOf c → Type 0)
+        → MaximalAt (ring_of c).ops (of_poly c p) Int (Enlarged (ring_of c) Int (of_poly c p) O)
     larger_maximal O z n z_int m = record {
       in_Int = z_int;
       exponent = m.exponent + n;
-      inside = subst O (sym ((ring_of c).mul_assoc _ _ z) ∙ ap (λ x. x ⊗ z) (sym (pow_add (ring_of c) (of_poly c p) m.exponent n))) m.inside;
+      inside =
+          subst O (sym ((ring_of c).mul_assoc _ _ z)
+          ∙ ap (λ x. x ⊗ z) (sym (pow_add (ring_of c) (of_poly c p) m.exponent n))) m.inside;
     }
 
     -- the integral functions that powers of p take into an order
@@ -150,24 +167,39 @@ module _ {k : CodeField} (c : Equation k) where
       power_poly n = record { polynomial = pow (polynomials k).ops p n; value = sym (power_value p n) }
 
       -- a higher power does as well
-      raised : (m n : ℕ) (z : FunctionOf c) → O (pow (ring_of c).ops (of_poly c p) n ⊗ z) → O (pow (ring_of c).ops (of_poly c p) (m + n) ⊗ z)
+      raised : (m n : ℕ) (z : FunctionOf c) → O (pow (ring_of c).ops (of_poly c p) n ⊗ z)
+          → O (pow (ring_of c).ops (of_poly c p) (m + n) ⊗ z)
       raised m n z h' =
-          subst O (sym ((ring_of c).mul_assoc _ _ z) ∙ ap (λ x. x ⊗ z) (sym (pow_add (ring_of c) (of_poly c p) m n))) (𝓜.scale_in _ _ (power_poly m) h')
+          subst O (sym ((ring_of c).mul_assoc _ _ z) ∙ ap (λ x. x ⊗ z) (sym (pow_add (ring_of c) (of_poly c p) m n)))
+          (𝓜.scale_in _ _ (power_poly m) h')
 
-      raised_right : (m n : ℕ) (z : FunctionOf c) → O (pow (ring_of c).ops (of_poly c p) m ⊗ z) → O (pow (ring_of c).ops (of_poly c p) (m + n) ⊗ z)
+      raised_right : (m n : ℕ) (z : FunctionOf c) → O (pow (ring_of c).ops (of_poly c p) m ⊗ z)
+          → O (pow (ring_of c).ops (of_poly c p) (m + n) ⊗ z)
       raised_right m n z h' =
-          subst (λ l. O (pow (ring_of c).ops (of_poly c p) l ⊗ z)) (let q : n + m ≡ m + n = omega arith in q) (raised n m z h')
+          subst (λ l. O (pow (ring_of c).ops (of_poly c p) l ⊗ z)) (let q : n + m ≡ m + n = omega arith in q)
+          (raised n m z h')
 
       larger_ring : IsSubring (ring_of c).ops Larger
       larger_ring = record {
-        zero_in = record { in_Int = (integral_subring c).zero_in; exponent = 0; inside = subst O (sym (mul_zero (ring_of c) _)) 𝓞.ring.zero_in };
-        one_in = record { in_Int = (integral_subring c).one_in; exponent = 0; inside = subst O (sym ((ring_of c).mul_one _)) 𝓞.ring.one_in };
+        zero_in =
+            record {
+              in_Int = (integral_subring c).zero_in;
+              exponent = 0;
+              inside = subst O (sym (mul_zero (ring_of c) _)) 𝓞.ring.zero_in;
+            };
+        one_in =
+            record {
+              in_Int = (integral_subring c).one_in;
+              exponent = 0;
+              inside = subst O (sym ((ring_of c).mul_one _)) 𝓞.ring.one_in;
+            };
         sum_in = λ a b m n. record {
           in_Int = (integral_subring c).sum_in a b m.in_Int n.in_Int;
           exponent = m.exponent + n.exponent;
           inside =
               subst O (sym ((ring_of c).mul_add _ a b))
-              (𝓞.ring.sum_in _ _ (raised_right m.exponent n.exponent a m.inside) (raised m.exponent n.exponent b n.inside));
+              (𝓞.ring.sum_in _ _ (raised_right m.exponent n.exponent a m.inside)
+              (raised m.exponent n.exponent b n.inside));
         };
         neg_in = λ a m. record {
           in_Int = (integral_subring c).neg_in a m.in_Int;
@@ -178,7 +210,8 @@ module _ {k : CodeField} (c : Equation k) where
           in_Int = (integral_subring c).product_in a b m.in_Int n.in_Int;
           exponent = m.exponent + n.exponent;
           inside =
-              subst O (mul_mul (ring_of c) _ a _ b ∙ ap (λ x. x ⊗ (a ⊗ b)) (sym (pow_add (ring_of c) (of_poly c p) m.exponent n.exponent)))
+              subst O (mul_mul (ring_of c) _ a _ b
+              ∙ ap (λ x. x ⊗ (a ⊗ b)) (sym (pow_add (ring_of c) (of_poly c p) m.exponent n.exponent)))
               (𝓞.ring.product_in _ _ m.inside n.inside);
         };
       }
@@ -195,7 +228,8 @@ module _ {k : CodeField} (c : Equation k) where
           two_denominators (ring_of c) (IsPolynomial c) 𝓢 (IsPrimeTo c p) (of_poly c p) prime_to O 𝓜 s.cofactor
           (pow (ring_of c).ops (of_poly c p) s.exponent ⊗ z) m.exponent s.cofactor_in
           (subst O (ap (λ x. x ⊗ z) (s.is ∙ (ring_of c).mul_comm _ _) ∙ (ring_of c).mul_assoc _ _ z) (d.2 z m.in_Int))
-          (subst O (ap (λ x. x ⊗ z) (pow_add (ring_of c) (of_poly c p) m.exponent s.exponent) ∙ (ring_of c).mul_assoc _ _ z)
+          (subst O (ap (λ x. x ⊗ z) (pow_add (ring_of c) (of_poly c p) m.exponent s.exponent)
+          ∙ (ring_of c).mul_assoc _ _ z)
           (raised_right m.exponent s.exponent z m.inside))
 
       larger_decided : (z : FunctionOf c) → Int z → Dec (Larger z)
@@ -212,11 +246,14 @@ module _ {k : CodeField} (c : Equation k) where
             (record {
               zero_in = larger_ring.zero_in;
               sum_in = larger_ring.sum_in;
-              scale_in = λ s a s_in m. larger_ring.product_in s a (from_order s (subst O ((ring_of c).mul_one s) (𝓜.scale_in s 𝟙 s_in 𝓞.ring.one_in))) m;
+              scale_in =
+                  λ s a s_in m. larger_ring.product_in s a
+                  (from_order s (subst O ((ring_of c).mul_one s) (𝓜.scale_in s 𝟙 s_in 𝓞.ring.one_in))) m;
             })
             from_order (λ z m. m.in_Int);
         ring = larger_ring;
       }
         where
           from_order : (z : FunctionOf c) → O z → Larger z
-          from_order z m = record { in_Int = order_integral O 𝓞 z m; exponent = 0; inside = subst O (sym (one_mul (ring_of c) z)) m }
+          from_order z m =
+              record { in_Int = order_integral O 𝓞 z m; exponent = 0; inside = subst O (sym (one_mul (ring_of c) z)) m }

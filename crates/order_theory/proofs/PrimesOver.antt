@@ -8,7 +8,7 @@ use Rattle.ring_theory.specs.Maps.{IsHom}
 use Rattle.prime_theory.specs.Ideals.{Inverse, Invertible, SameSet, IsIdeal}
 use Rattle.prime_theory.specs.Primes.{Different, IsPrime}
 use Rattle.prime_theory.specs.Orders.{MaximalAt}
-use Rattle.prime_theory.specs.Systems.{Distinct, TraceGenerators, IsDecomposition, IsSystem, IsFamily, PrimeAt, Generators}
+use Rattle.prime_theory.specs.Systems.{AreDistinctPrimes, TraceGenerators, IsDecomposition, IsSystem, IsFamily, PrimeAt, Generators}
 use Rattle.prime_theory.proofs.Idempotents.{idempotent_prime}
 use Rattle.prime_theory.proofs.IdempotentFamily.{idempotent_family, idempotent_invertible}
 use Rattle.prime_theory.proofs.Scalars.{span_wider}
@@ -42,17 +42,19 @@ use Rattle.order_theory.proofs.ReductionAt.{pO, p_in, p_not_unit, multiple_is_la
 -- the members of a list of primes, each once
 record Thinned {A I : Type 0} (P : I → A → Type 0) (T : I → Type 0) (is : List I) : Type 0 where
   pub list : List I
-  pub distinct : Distinct P list
+  pub distinct : AreDistinctPrimes P list
   pub kept : All T is → All T list
   pub all : (z : A) → All (λ i. P i z) list → All (λ i. P i z) is
 
-module _ {A : Type 0} (R : CommRing A) (O : A → Type 0) (I : Type 0) (P : I → A → Type 0) (fam : IsFamily R.ops O I P) where
+module _ {A : Type 0} (R : CommRing A) (O : A → Type 0) (I : Type 0) (P : I → A → Type 0)
+    (fam : IsFamily R.ops O I P) where
   -- i is in the list up to sameness, or different from all of it
   find : (i : I) (js : List I) → ((z : A) → All (λ j. P j z) js → P i z) ⊎ All (λ j. Different (P i) (P j)) js
   find i [] = inr (All-nil (λ j. Different (P i) (P j)))
   find i (j ∷ js) = go (fam.compare i j) (find i js)
     where
-      go : SameSet (P i) (P j) ⊎ Different (P i) (P j) → ((z : A) → All (λ j. P j z) js → P i z) ⊎ All (λ j. Different (P i) (P j)) js
+      go : SameSet (P i) (P j) ⊎ Different (P i) (P j) → ((z : A) → All (λ j. P j z) js → P i z)
+          ⊎ All (λ j. Different (P i) (P j)) js
           → ((z : A) → All (λ j. P j z) (j ∷ js) → P i z) ⊎ All (λ j. Different (P i) (P j)) (j ∷ js)
       go (inl s) r = inl (λ z m. (s z).1 (All-head (λ j. P j z) j js m))
       go (inr d) (inl f) = inl (λ z m. f z (All-tail (λ j. P j z) j js m))
@@ -62,7 +64,8 @@ module _ {A : Type 0} (R : CommRing A) (O : A → Type 0) (I : Type 0) (P : I �
   thin T [] = record { list = []; distinct = λ i j d l m. absurd (omega arith); kept = λ m. m; all = λ z m. m }
   thin T (i ∷ is) = go (thin T is)
     where
-      by : (t : Thinned P T is) → ((z : A) → All (λ j. P j z) t.list → P i z) ⊎ All (λ j. Different (P i) (P j)) t.list → Thinned P T (i ∷ is)
+      by : (t : Thinned P T is) → ((z : A) → All (λ j. P j z) t.list → P i z)
+          ⊎ All (λ j. Different (P i) (P j)) t.list → Thinned P T (i ∷ is)
       by t (inl f) = record {
         list = t.list;
         distinct = t.distinct;
@@ -73,13 +76,15 @@ module _ {A : Type 0} (R : CommRing A) (O : A → Type 0) (I : Type 0) (P : I �
         list = i ∷ t.list;
         distinct = AllPairs-cons (λ i j. Different (P i) (P j)) i t.list e t.distinct;
         kept = λ m. All-cons T i t.list (All-head T i is m) (t.kept (All-tail T i is m));
-        all = λ z m. All-cons (λ j. P j z) i is (All-head (λ j. P j z) i t.list m) (t.all z (All-tail (λ j. P j z) i t.list m));
+        all = λ z m. All-cons (λ j. P j z) i is (All-head (λ j. P j z) i t.list m)
+            (t.all z (All-tail (λ j. P j z) i t.list m));
       }
 
       go : Thinned P T is → Thinned P T (i ∷ is)
       go t = by t (find i t.list)
 
-module _ {k : CodeField} (c : Equation k) (p : Polynomial k) (h : IsIrreducible k.ops (codes_of k p)) (O : FunctionOf c → Type 0) (𝓞 : IsOrder c O) where
+module _ {k : CodeField} (c : Equation k) (p : Polynomial k) (h : IsIrreducible k.ops (codes_of k p))
+    (O : FunctionOf c → Type 0) (𝓞 : IsOrder c O) where
   infixl 65 ◌⊕◌
   infixl 70 ◌⊗◌
   infixr 80 ⊖◌
@@ -92,7 +97,8 @@ module _ {k : CodeField} (c : Equation k) (p : Polynomial k) (h : IsIrreducible 
   down = reduce c p h O 𝓞
 
   red : IsReduction (ring_of c).ops O (of_poly c p) (residue_ring c p h O 𝓞).ops (reduce c p h O 𝓞) (lift c p h O 𝓞)
-  red = class_reduction (ring_of c) O 𝓞.ring (of_poly c p) (p_in c p h O 𝓞) (reduce c p h O 𝓞) (lift c p h O 𝓞) (representatives c p h O 𝓞)
+  red = class_reduction (ring_of c) O 𝓞.ring (of_poly c p) (p_in c p h O 𝓞) (reduce c p h O 𝓞) (lift c p h O 𝓞)
+      (representatives c p h O 𝓞)
 
   polynomial_in : (s : FunctionOf c) → IsPolynomial c s → O s
   polynomial_in = order_polynomials c O 𝓞
@@ -108,7 +114,8 @@ module _ {k : CodeField} (c : Equation k) (p : Polynomial k) (h : IsIrreducible 
   }
 
   spans : (vs : List (FunctionOf c)) → All O vs → (e : ℕ → Code k)
-      → Span (residue_ring c p h O 𝓞).ops (Image (λ a. reduce c p h O 𝓞 (code_of c a))) (map (reduce c p h O 𝓞) vs) (reduce c p h O 𝓞 (combine (space_ops c) e vs))
+      → Span (residue_ring c p h O 𝓞).ops (Image (λ a. reduce c p h O 𝓞 (code_of c a))) (map (reduce c p h O 𝓞) vs)
+      (reduce c p h O 𝓞 (combine (space_ops c) e vs))
   spans [] all e = refl
   spans (v ∷ vs) all e = record {
     scalar = down (code_of c (e 0));
@@ -118,19 +125,23 @@ module _ {k : CodeField} (c : Equation k) (p : Polynomial k) (h : IsIrreducible 
     is =
         red.add _ _ (𝓞.ring.product_in _ _ (code_in (e 0)) (All-head O v vs all))
         (combine_in (codes k) (space c) O (lattice_subspace c O 𝓞.lattice) (λ i. e (suc i)) vs (All-tail O v vs all))
-        ∙ ap (λ x. Q.◌⊕◌ x (down (combine (space_ops c) (λ i. e (suc i)) vs))) (red.mul _ _ (code_in (e 0)) (All-head O v vs all));
+        ∙ ap (λ x. Q.◌⊕◌ x (down (combine (space_ops c) (λ i. e (suc i)) vs)))
+        (red.mul _ _ (code_in (e 0)) (All-head O v vs all));
   }
 
   all_spanned : (x : Classes c p h O 𝓞)
-      → Span (residue_ring c p h O 𝓞).ops (Image (λ a. reduce c p h O 𝓞 (code_of c a))) (map (reduce c p h O 𝓞) (index_of_p c p h O 𝓞).basis) x
+      → Span (residue_ring c p h O 𝓞).ops (Image (λ a. reduce c p h O 𝓞 (code_of c a)))
+      (map (reduce c p h O 𝓞) (index_of_p c p h O 𝓞).basis) x
   unfolding lift
   all_spanned x =
-      subst (Span Q.ops (Image (λ a. down (code_of c a))) (map (reduce c p h O 𝓞) (index_of_p c p h O 𝓞).basis)) (red.reduce_lift x)
+      subst (Span Q.ops (Image (λ a. down (code_of c a))) (map (reduce c p h O 𝓞) (index_of_p c p h O 𝓞).basis))
+      (red.reduce_lift x)
       (spans (index_of_p c p h O 𝓞).basis (index_of_p c p h O 𝓞).is.members_in _)
 
   pub residue_algebra : FiniteAlgebra (residue_ring c p h O 𝓞).ops (Image (λ a. reduce c p h O 𝓞 (code_of c a)))
   residue_algebra =
-      algebra (code_ring k).ring (residue_ring c p h O 𝓞) (λ a. reduce c p h O 𝓞 (code_of c a)) residue_hom (code_finite k)
+      algebra (code_ring k).ring (residue_ring c p h O 𝓞) (λ a. reduce c p h O 𝓞 (code_of c a)) residue_hom
+      (code_finite k)
       (code_rows k _)
       (λ e. p_not_unit c p h O 𝓞 ((red.kernel 𝟙 𝓞.ring.one_in).0 (red.one ∙ e)))
       (map (reduce c p h O 𝓞) (index_of_p c p h O 𝓞).basis) all_spanned
@@ -145,16 +156,24 @@ module _ {k : CodeField} (c : Equation k) (p : Polynomial k) (h : IsIrreducible 
   pub listed : (is : List Index) × IsDecomposition (ring_of c).ops O (of_poly c p) Index (λ i. lift c p h O 𝓞 i.0) is
       × IsSystem (ring_of c).ops O (of_poly c p) Index PrimeOf is
   listed =
-      prime_system (ring_of c) O 𝓞.ring (of_poly c p) (residue_ring c p h O 𝓞) (reduce c p h O 𝓞) (lift c p h O 𝓞) red (p_in c p h O 𝓞) _ residue_algebra
+      prime_system (ring_of c) O 𝓞.ring (of_poly c p) (residue_ring c p h O 𝓞) (reduce c p h O 𝓞) (lift c p h O 𝓞)
+      red (p_in c p h O 𝓞) _ residue_algebra
 
   pub prime_is : (i : Index) → IsPrime (ring_of c).ops O (PrimeOf i)
-  prime_is = idempotent_prime (ring_of c) O 𝓞.ring (of_poly c p) (p_in c p h O 𝓞) Index (λ i. lift c p h O 𝓞 i.0) listed.0 listed.1
+  prime_is =
+      idempotent_prime (ring_of c) O 𝓞.ring (of_poly c p) (p_in c p h O 𝓞) Index (λ i. lift c p h O 𝓞 i.0) listed.0
+      listed.1
 
   -- an ideal of the order with p, with decided membership, is a lattice
-  pub ideal_lattice : (P : FunctionOf c → Type 0) → IsIdeal (ring_of c).ops O P → P (of_poly c p) → ((u : FunctionOf c) → O u → P u ⊎ (¬ (P u))) → IsLattice c P
+  pub ideal_lattice : (P : FunctionOf c → Type 0) → IsIdeal (ring_of c).ops O P → P (of_poly c p)
+      → ((u : FunctionOf c) → O u → P u ⊎ (¬ (P u))) → IsLattice c P
   ideal_lattice P 𝓟 over decide =
       lattice_between c P O 𝓞.lattice (λ z m. by z (decide z m)) (pO c p h O 𝓞) (multiple_is_lattice c p h O 𝓞)
-      (record { zero_in = 𝓟.zero_in; sum_in = 𝓟.sum_in; scale_in = λ s a s_in m. 𝓟.scale_in s a (polynomial_in s s_in) m })
+      (record {
+        zero_in = 𝓟.zero_in;
+        sum_in = 𝓟.sum_in;
+        scale_in = λ s a s_in m. 𝓟.scale_in s a (polynomial_in s s_in) m;
+      })
       (λ z m. subst P ((ring_of c).mul_comm _ _ ∙ sym m.is) (𝓟.scale_in _ _ m.quotient_in over))
       𝓟.within
     where
@@ -190,35 +209,40 @@ module _ {k : CodeField} (c : Equation k) (p : Polynomial k) (h : IsIrreducible 
         by (no n) = inr n
 
     multipliers : (i : Index) (z : FunctionOf c)
-        → Colon (ring_of c).ops (Inverse (ring_of c).ops O (PrimeOf i)) (Inverse (ring_of c).ops O (PrimeOf i)) z → O (of_poly c p ⊗ z) → O z
+        → Colon (ring_of c).ops (Inverse (ring_of c).ops O (PrimeOf i)) (Inverse (ring_of c).ops O (PrimeOf i)) z
+        → O (of_poly c p ⊗ z) → O z
     multipliers i z m n =
         maximal z 1
-        (stable_integral c (Inverse (ring_of c).ops O (PrimeOf i)) (colon_lattice c O (PrimeOf i) 𝓞.lattice (prime_lattice i)) z (λ y y_in. m y y_in))
+        (stable_integral c (Inverse (ring_of c).ops O (PrimeOf i))
+        (colon_lattice c O (PrimeOf i) 𝓞.lattice (prime_lattice i)) z (λ y y_in. m y y_in))
         (subst (λ x. O (x ⊗ z)) (sym ((ring_of c).mul_one _)) n)
 
     trace_generators : (i : Index) → TraceGenerators (ring_of c).ops O (PrimeOf i)
     trace_generators i =
         order_generators (Product (ring_of c).ops (PrimeOf i) (Inverse (ring_of c).ops O (PrimeOf i)))
-        (product_lattice c (PrimeOf i) (Inverse (ring_of c).ops O (PrimeOf i)) (prime_lattice i) (colon_lattice c O (PrimeOf i) 𝓞.lattice (prime_lattice i)))
+        (product_lattice c (PrimeOf i) (Inverse (ring_of c).ops O (PrimeOf i)) (prime_lattice i)
+        (colon_lattice c O (PrimeOf i) 𝓞.lattice (prime_lattice i)))
 
     inverse : (u : FunctionOf c) × (u ⊗ of_poly c p ≡ 𝟙)
     inverse = let u = inverse_of c p (irreducible_some k p h) in (u.0, (ring_of c).mul_comm _ _ ∙ u.1)
 
     pub prime_invertible : (i : Index) → Invertible (ring_of c).ops O (PrimeOf i)
     prime_invertible =
-        idempotent_invertible (ring_of c) O 𝓞.ring (of_poly c p) (p_in c p h O 𝓞) Index (λ i. lift c p h O 𝓞 i.0) listed.0 listed.1
+        idempotent_invertible (ring_of c) O 𝓞.ring (of_poly c p) (p_in c p h O 𝓞) Index (λ i. lift c p h O 𝓞 i.0)
+        listed.0 listed.1
         inverse.0 inverse.1 p_decided multipliers trace_generators
 
     pub family_of : IsFamily (ring_of c).ops O Index PrimeOf
     family_of =
-        idempotent_family (ring_of c) O 𝓞.ring (of_poly c p) (p_in c p h O 𝓞) Index (λ i. lift c p h O 𝓞 i.0) listed.0 listed.1
+        idempotent_family (ring_of c) O 𝓞.ring (of_poly c p) (p_in c p h O 𝓞) Index (λ i. lift c p h O 𝓞 i.0)
+        listed.0 listed.1
         inverse.0 inverse.1 p_decided multipliers trace_generators
 
     -- the primes over p, each once
     pub record PrimesAt : Type 0 where
       pub list : List Index
       pub system : IsSystem (ring_of c).ops O (of_poly c p) Index PrimeOf list
-      pub distinct : Distinct PrimeOf list
+      pub distinct : AreDistinctPrimes PrimeOf list
 
     pub primes_at : PrimesAt
     primes_at =

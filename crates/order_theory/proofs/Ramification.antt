@@ -21,7 +21,8 @@ use Rattle.order_theory.proofs.ReductionAt.{pO, p_in, multiple_is_lattice, index
 use Rattle.order_theory.proofs.PrimesOver.{Index, PrimeOf, prime_is, prime_lattice, prime_invertible, family_of, PrimesAt, primes_at}
 use Rattle.order_theory.proofs.IndexProducts.{total, IsFactor, product_index}
 
-module _ {k : CodeField} (c : Equation k) (p : Polynomial k) (h : IsIrreducible k.ops (codes_of k p)) (O : FunctionOf c → Type 0) (𝓞 : IsOrder c O)
+module _ {k : CodeField} (c : Equation k) (p : Polynomial k) (h : IsIrreducible k.ops (codes_of k p))
+    (O : FunctionOf c → Type 0) (𝓞 : IsOrder c O)
     (maximal : MaximalAt (ring_of c).ops (of_poly c p) (IsIntegralAt (setting_of c) Finite) O) where
   open ring_of c use {𝟙, ◌⊗◌}
 
@@ -42,24 +43,31 @@ module _ {k : CodeField} (c : Equation k) (p : Polynomial k) (h : IsIrreducible 
 
   -- the index of a prime
   pub prime_index : (i : Index c p h O 𝓞) → (f : ℕ) × HasIndex c (PrimeOf c p h O 𝓞 i) O f
-  prime_index i = index_of c (PrimeOf c p h O 𝓞 i) O (prime_lattice c p h O 𝓞 i) 𝓞.lattice (prime_is c p h O 𝓞 i).ideal.within
+  prime_index i =
+      index_of c (PrimeOf c p h O 𝓞 i) O (prime_lattice c p h O 𝓞 i) 𝓞.lattice (prime_is c p h O 𝓞 i).ideal.within
 
   inverse : (u : FunctionOf c) × (u ⊗ of_poly c p ≡ 𝟙)
   inverse = let u = inverse_of c p (irreducible_some k p h) in (u.0, (ring_of c).mul_comm _ _ ∙ u.1)
 
   -- the values of p and p·O as a product
   pub ramified : (e : Index c p h O 𝓞 → ℕ)
-      × ((i : Index c p h O 𝓞) → ValueIs (ring_of c).ops O (PrimeOf c p h O 𝓞 i) ((family_of c p h O 𝓞 maximal).pair i) (of_poly c p) (pos (e i)))
+      × ((i : Index c p h O 𝓞) → ValueIs (ring_of c).ops O (PrimeOf c p h O 𝓞 i)
+      ((family_of c p h O 𝓞 maximal).pair i) (of_poly c p) (pos (e i)))
       × SameSet (Multiple (ring_of c).ops (of_poly c p) O)
-      (IdealProduct (ring_of c).ops O (PrimeOf c p h O 𝓞) (map (λ i. entry i (pos (e i))) (primes_at c p h O 𝓞 maximal).list))
+      (IdealProduct (ring_of c).ops O (PrimeOf c p h O 𝓞)
+      (map (λ i. entry i (pos (e i))) (primes_at c p h O 𝓞 maximal).list))
   ramified =
-      ramification_of (ring_of c) O 𝓞.ring (of_poly c p) (p_in c p h O 𝓞) (Index c p h O 𝓞) (PrimeOf c p h O 𝓞) fam primes.list primes.system primes.distinct
+      ramification_of (ring_of c) O 𝓞.ring (of_poly c p) (p_in c p h O 𝓞) (Index c p h O 𝓞) (PrimeOf c p h O 𝓞) fam
+      primes.list primes.system primes.distinct
       inverse.0 inverse.1
 
   -- the sum of e·f
-  pub fundamental_equality : total ramified.0 (λ i. (prime_index i).0) (primes_at c p h O 𝓞 maximal).list ≡ degree_of_y c * (length p.0 - 1)
+  pub fundamental_equality : total ramified.0 (λ i. (prime_index i).0) (primes_at c p h O 𝓞 maximal).list
+      ≡ degree_of_y c * (length p.0 - 1)
   fundamental_equality =
-      let r = product_index c O 𝓞 (Index c p h O 𝓞) (PrimeOf c p h O 𝓞) (prime_is c p h O 𝓞) prime_factor (λ i. (prime_index i).0) (λ i. (prime_index i).1)
+      let r = product_index c O 𝓞 (Index c p h O 𝓞) (PrimeOf c p h O 𝓞) (prime_is c p h O 𝓞) prime_factor
+      (λ i. (prime_index i).0) (λ i. (prime_index i).1)
       ramified.0 primes.list in
       index_once c (pO c p h O 𝓞) O (multiple_is_lattice c p h O 𝓞) _ _
-      (index_same c _ (pO c p h O 𝓞) O O (λ z. ((ramified.2 z).1, (ramified.2 z).0)) (λ z. (λ m. m, λ m. m)) _ r.1) (index_of_p c p h O 𝓞)
+      (index_same c _ (pO c p h O 𝓞) O O (λ z. ((ramified.2 z).1, (ramified.2 z).0)) (λ z. (λ m. m, λ m. m)) _ r.1)
+      (index_of_p c p h O 𝓞)

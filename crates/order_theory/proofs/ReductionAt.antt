@@ -1,4 +1,5 @@
--- An order modulo an irreducible polynomial p is a finite algebra over k: the coordinates in a basis modulo p stand for the classes.
+-- An order modulo an irreducible polynomial p is a finite algebra over k: the coordinates in a basis modulo p stand
+-- for the classes.
 use Rattle.std.proofs.Common.{◌≡◌, ℕ, zero, suc, ◌<◌, ◌≤◌, ◌*◌, ◌-◌, List, [], ◌∷◌, length, refl, sym, ◌∙◌, ap, subst, arith}
 use Rattle.ring_theory.specs.Ring.{CommRing}
 use Rattle.ring_theory.specs.Rows.{Row, entry}
@@ -40,7 +41,8 @@ code_rows k (suc n) (a, v) (b, w) = go ((code_finite k).decide a b) (code_rows k
     go (yes e) (no m) = no (λ h. m (ap (λ t. t.1) h))
     go (no m) d = no (λ h. m (ap (λ t. t.0) h))
 
-module _ {k : CodeField} (c : Equation k) (p : Polynomial k) (h : IsIrreducible k.ops (codes_of k p)) (O : FunctionOf c → Type 0) (𝓞 : IsOrder c O) where
+module _ {k : CodeField} (c : Equation k) (p : Polynomial k) (h : IsIrreducible k.ops (codes_of k p))
+    (O : FunctionOf c → Type 0) (𝓞 : IsOrder c O) where
   infixl 65 ◌⊕◌
   infixl 70 ◌⊗◌
   infixr 80 ⊖◌
@@ -62,13 +64,15 @@ module _ {k : CodeField} (c : Equation k) (p : Polynomial k) (h : IsIrreducible 
   𝓜 = lattice_module c O 𝓞.lattice
 
   pub p_in : O (of_poly c p)
-  p_in = subst O ((ring_of c).mul_one _) (𝓜.scale_in (of_poly c p) 𝟙 (record { polynomial = p; value = refl }) 𝓞.ring.one_in)
+  p_in = subst O ((ring_of c).mul_one _)
+      (𝓜.scale_in (of_poly c p) 𝟙 (record { polynomial = p; value = refl }) 𝓞.ring.one_in)
 
   pub p_within : (z : FunctionOf c) → pO z → O z
   p_within z m = subst O (sym m.is) (𝓞.ring.product_in _ _ p_in m.quotient_in)
 
   pub p_not_unit : ¬ (pO 𝟙)
-  p_not_unit m = positive (index_once c pO O multiple_is_lattice _ 0 index_of_p (index_none c pO O multiple_is_lattice all_in))
+  p_not_unit m =
+      positive (index_once c pO O multiple_is_lattice _ 0 index_of_p (index_none c pO O multiple_is_lattice all_in))
     where
       all_in : (z : FunctionOf c) → O z → pO z
       all_in z z_in = record {
@@ -81,7 +85,9 @@ module _ {k : CodeField} (c : Equation k) (p : Polynomial k) (h : IsIrreducible 
       long = subst (λ n. 2 ≤ n) (length-map p.0 (λ x. x.0)) h.not_constant
 
       positive : degree_of_y c * (length p.0 - 1) ≡ 0 → ⊥
-      positive e = let l = long in let q = mul-le-mul_left (degree_of_y c) (let r : 1 ≤ length p.0 - 1 = omega arith in r) in absurd (omega (arith, e, q))
+      positive e = let l = long in
+          let q = mul-le-mul_left (degree_of_y c) (let r : 1 ≤ length p.0 - 1 = omega arith in r) in
+          absurd (omega (arith, e, q))
 
   abbrev ws : List (FunctionOf c)
   ws = index_of_p.basis
@@ -110,20 +116,24 @@ module _ {k : CodeField} (c : Equation k) (p : Polynomial k) (h : IsIrreducible 
   reduce z = row_with (code_ring k).ring (length index_of_p.basis) (coordinates z (lattice_decided c O 𝓞.lattice z))
 
   -- a member is the combination of its coordinates up to a multiple of p
-  as_combination : (z : FunctionOf c) → O z → (d : Dec (O z)) → (t : IsCombination (space_ops c) pO index_of_p.basis z) × (t.coefficient ≡ coordinates z d)
+  as_combination : (z : FunctionOf c) → O z → (d : Dec (O z))
+      → (t : IsCombination (space_ops c) pO index_of_p.basis z) × (t.coefficient ≡ coordinates z d)
   unfolding coordinates
   as_combination z z_in (yes z_in') = (index_of_p.is.spanning z z_in', refl)
   as_combination z z_in (no n) = absurd (n z_in)
 
-  unique : (z : FunctionOf c) (s t : IsCombination (space_ops c) pO index_of_p.basis z) (i : ℕ) → i < length index_of_p.basis → s.coefficient i ≡ t.coefficient i
+  unique : (z : FunctionOf c) (s t : IsCombination (space_ops c) pO index_of_p.basis z) (i : ℕ)
+      → i < length index_of_p.basis → s.coefficient i ≡ t.coefficient i
   unique z s t i l = coefficients_unique (space c) pO 𝓤 index_of_p.basis index_of_p.is.independent z s t i l
 
-  lifted : (e : ℕ → Code k) (f : Classes) → ((i : ℕ) → i < length index_of_p.basis → entry (code_ring k).ops (length index_of_p.basis) i f ≡ e i)
+  lifted : (e : ℕ → Code k) (f : Classes)
+      → ((i : ℕ) → i < length index_of_p.basis → entry (code_ring k).ops (length index_of_p.basis) i f ≡ e i)
       → lift f ≡ combine (space_ops c) e index_of_p.basis
   unfolding lift
   lifted e f g = combine_cong (space c) _ e index_of_p.basis g
 
-  same_class : (a b : FunctionOf c) (s : IsCombination (space_ops c) pO index_of_p.basis a) (t : IsCombination (space_ops c) pO index_of_p.basis b)
+  same_class : (a b : FunctionOf c) (s : IsCombination (space_ops c) pO index_of_p.basis a)
+      (t : IsCombination (space_ops c) pO index_of_p.basis b)
       → pO (a ⊕ ⊖ b) → (i : ℕ) → i < length index_of_p.basis → s.coefficient i ≡ t.coefficient i
   same_class a b s t d =
       unique a s (record {
@@ -134,9 +144,12 @@ module _ {k : CodeField} (c : Equation k) (p : Polynomial k) (h : IsIrreducible 
       })
     where
       moved : (a b r v : FunctionOf c) → b ≡ v ⊕ r → a ≡ v ⊕ (r ⊕ (a ⊕ ⊖ b))
-      moved a b r v e = from_one (ring_of c) 𝟙 e (ring (ring_of c) (a ∷ b ∷ r ∷ v ∷ []) λ q h. simp (reads, q, h 0, h 1, h 2, h 3) (q.equal _ _ refl))
+      moved a b r v e =
+          from_one (ring_of c) 𝟙 e (ring (ring_of c) (a ∷ b ∷ r ∷ v ∷ []) λ q h. simp (reads, q, h 0, h 1, h 2, h 3)
+          (q.equal _ _ refl))
 
-  different_class : (a b : FunctionOf c) (s : IsCombination (space_ops c) pO index_of_p.basis a) (t : IsCombination (space_ops c) pO index_of_p.basis b)
+  different_class : (a b : FunctionOf c) (s : IsCombination (space_ops c) pO index_of_p.basis a)
+      (t : IsCombination (space_ops c) pO index_of_p.basis b)
       → ((i : ℕ) → i < length index_of_p.basis → s.coefficient i ≡ t.coefficient i) → pO (a ⊕ ⊖ b)
   different_class a b s t e =
       subst pO (sym (gap a b s.rest t.rest (combine (space_ops c) t.coefficient index_of_p.basis)
@@ -144,10 +157,18 @@ module _ {k : CodeField} (c : Equation k) (p : Polynomial k) (h : IsIrreducible 
       (𝓤.sum_in _ _ s.rest_in (minus t.rest t.rest_in))
     where
       gap : (a b r r' v : FunctionOf c) → a ≡ v ⊕ r → b ≡ v ⊕ r' → a ⊕ ⊖ b ≡ r ⊕ ⊖ r'
-      gap a b r r' v e f = from_two (ring_of c) 𝟙 (⊖ 𝟙) e f (ring (ring_of c) (a ∷ b ∷ r ∷ r' ∷ v ∷ []) λ q h. simp (reads, q, h 0, h 1, h 2, h 3, h 4) (q.equal _ _ refl))
+      gap a b r r' v e f =
+          from_two (ring_of c) 𝟙 (⊖ 𝟙) e f
+          (ring (ring_of c) (a ∷ b ∷ r ∷ r' ∷ v ∷ []) λ q h. simp (reads, q, h 0, h 1, h 2, h 3, h 4)
+          (q.equal _ _ refl))
 
       minus : (z : FunctionOf c) → pO z → pO (⊖ z)
-      minus z n = record { quotient = ⊖ n.quotient; quotient_in = 𝓞.ring.neg_in _ n.quotient_in; is = ap ⊖◌ n.is ∙ sym (mul_neg (ring_of c) _ _) }
+      minus z n =
+          record {
+            quotient = ⊖ n.quotient;
+            quotient_in = 𝓞.ring.neg_in _ n.quotient_in;
+            is = ap ⊖◌ n.is ∙ sym (mul_neg (ring_of c) _ _);
+          }
 
   pub representatives : HasRepresentatives (ring_of c).ops O (of_poly c p) reduce lift
   unfolding reduce lift
@@ -168,7 +189,8 @@ module _ {k : CodeField} (c : Equation k) (p : Polynomial k) (h : IsIrreducible 
         let s = as_combination a a_in (lattice_decided c O 𝓞.lattice a) in
         let t = as_combination b b_in (lattice_decided c O 𝓞.lattice b) in
         row_by_entries (code_ring k).ring (length index_of_p.basis) _ _ (λ i l.
-        entry_with (code_ring k).ring (length index_of_p.basis) i _ l ∙ ap (λ f. f i) (sym s.1) ∙ same_class a b s.0 t.0 d i l ∙ ap (λ f. f i) t.1
+        entry_with (code_ring k).ring (length index_of_p.basis) i _ l ∙ ap (λ f. f i) (sym s.1)
+        ∙ same_class a b s.0 t.0 d i l ∙ ap (λ f. f i) t.1
         ∙ sym (entry_with (code_ring k).ring (length index_of_p.basis) i _ l));
     differ = λ a b a_in b_in e.
         let s = as_combination a a_in (lattice_decided c O 𝓞.lattice a) in
@@ -179,9 +201,13 @@ module _ {k : CodeField} (c : Equation k) (p : Polynomial k) (h : IsIrreducible 
         ∙ entry_with (code_ring k).ring (length index_of_p.basis) i _ l ∙ ap (λ f. f i) (sym t.1));
   }
     where
-      lift_in : (x : Classes) → O (combine (space_ops c) (λ i. entry (code_ring k).ops (length index_of_p.basis) i x) index_of_p.basis)
-      lift_in x = combine_in (codes k) (space c) O (lattice_subspace c O 𝓞.lattice) _ index_of_p.basis index_of_p.is.members_in
+      lift_in : (x : Classes) → O
+          (combine (space_ops c) (λ i. entry (code_ring k).ops (length index_of_p.basis) i x) index_of_p.basis)
+      lift_in x =
+          combine_in (codes k) (space c) O (lattice_subspace c O 𝓞.lattice) _ index_of_p.basis index_of_p.is.members_in
 
   -- the order modulo p
   abbrev pub residue_ring : CommRing Classes
-  residue_ring = class_ring (ring_of c) O 𝓞.ring (of_poly c p) p_in reduce lift representatives (row_set (code_ring k).ring (length index_of_p.basis))
+  residue_ring =
+      class_ring (ring_of c) O 𝓞.ring (of_poly c p) p_in reduce lift representatives
+      (row_set (code_ring k).ring (length index_of_p.basis))

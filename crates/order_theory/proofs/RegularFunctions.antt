@@ -1,5 +1,5 @@
--- A function whose value is at least 0 at each place over p is integral over the polynomials up to a factor prime to p; so where it is at least 0 at each
--- finite place, it is integral.
+-- A function whose value is at least 0 at each place over p is integral over the polynomials up to a factor prime to
+-- p; so where it is at least 0 at each finite place, it is integral.
 use Rattle.std.proofs.Common.{◌≡◌, ◌⊎◌, inl, inr, ℕ, zero, suc, ◌≤◌, List, length, pos, refl, sym, ◌∙◌, ap, subst, arith}
 use Rattle.std.proofs.lemmas.List.{length-map}
 use Rattle.ring_theory.specs.Ring.{pow}
@@ -67,7 +67,8 @@ module _ {k : CodeField} (c : Equation k) (z : FunctionOf c) where
 
 module _ {k : CodeField} (c : Equation k) (some : ¬ (discriminant c ≡ (polynomials k).𝟘)) (z : FunctionOf c)
     (p : Polynomial k) (h : IsIrreducible k.ops (codes_of k p))
-    (regular : (gs : List (FunctionOf c)) → IsPlace (setting_of c) (finite c gs) → IsIn (setting_of c) (finite c gs) (of_poly c p)
+    (regular : (gs : List (FunctionOf c)) → IsPlace (setting_of c) (finite c gs)
+    → IsIn (setting_of c) (finite c gs) (of_poly c p)
     → HasValuationAtLeast (setting_of c) (finite c gs) z (pos 0)) where
   infixl 65 ◌⊕◌
   infixl 70 ◌⊗◌
@@ -78,23 +79,32 @@ module _ {k : CodeField} (c : Equation k) (some : ¬ (discriminant c ≡ (polyno
   cancelled w w_in m =
       let primes = primes_at c p h (Int c) (integral_order c some p h) (integral_maximal c some p h) in
       let P = PrimeOf c p h (Int c) (integral_order c some p h) in
-      let u = covering (ring_of c) (Int c) (integral_subring c) (of_poly c p) (p_in c p h (Int c) (integral_order c some p h)) (Index c p h (Int c) (integral_order c some p h)) P
-      (family_of c p h (Int c) (integral_order c some p h) (integral_maximal c some p h)) primes.list primes.system (λ u. Int c u × Int c (u ⊗ z)) (𝓙 c z)
+      let u = covering (ring_of c) (Int c) (integral_subring c) (of_poly c p)
+      (p_in c p h (Int c) (integral_order c some p h)) (Index c p h (Int c) (integral_order c some p h)) P
+      (family_of c p h (Int c) (integral_order c some p h) (integral_maximal c some p h)) primes.list primes.system
+      (λ u. Int c u × Int c (u ⊗ z)) (𝓙 c z)
       (everywhere (λ i. Escapes (λ u. Int c u × Int c (u ⊗ z)) (P i))
       (λ i. let v =
-      regular (rows c some p h i) (prime_place c some p h i) ((members c some p h i _).0 (prime_over c p h (Int c) (integral_order c some p h) i)) in
+      regular (rows c some p h i) (prime_place c some p h i)
+      ((members c some p h i _).0 (prime_over c p h (Int c) (integral_order c some p h) i)) in
       record {
         member = v.factor;
         member_in = (v.integral, v.product);
         out = λ n. v.outside ((members c some p h i v.factor).0 n);
       }) primes.list) in
-      lift (ring_of c) (Int c) (integral_subring c) (of_poly c p) (p_in c p h (Int c) (integral_order c some p h)) (λ u. Int c u × Int c (u ⊗ z)) (𝓙 c z)
+      lift (ring_of c) (Int c) (integral_subring c) (of_poly c p) (p_in c p h (Int c) (integral_order c some p h))
+      (λ u. Int c u × Int c (u ⊗ z)) (𝓙 c z)
       u.member u.member_in u.one_modulo 1 w w_in (subst (λ x. J c z (x ⊗ w)) (sym ((ring_of c).mul_one _)) m)
 
   -- a factor prime to p takes z to an integral function
   pub regular_locally : Locally (ring_of c).ops (IsPrimeTo c p) (Int c) z
   regular_locally =
-      record { factor = d.cofactor; factor_in = d.cofactor_in; multiple_in = (go d.exponent (power_in (ring_of c) (Int c) (integral_subring c) _ p_int d.exponent, d.multiple_in)).1 }
+      record {
+        factor = d.cofactor;
+        factor_in = d.cofactor_in;
+        multiple_in =
+            (go d.exponent (power_in (ring_of c) (Int c) (integral_subring c) _ p_int d.exponent, d.multiple_in)).1;
+      }
     where
       d : Denominator (ring_of c).ops (IsPrimeTo c p) (Int c) (of_poly c p) z
       d = denominator c p h (Int c) (integral_lattice c some) z
@@ -105,19 +115,23 @@ module _ {k : CodeField} (c : Equation k) (some : ¬ (discriminant c ≡ (polyno
       w_int : Int c d.cofactor
       w_int = polynomial_integral c d.cofactor ((prime_to c p h).within d.cofactor d.cofactor_in)
 
-      go : (n : ℕ) → Int c (pow (ring_of c).ops (of_poly c p) n) × Int c (pow (ring_of c).ops (of_poly c p) n ⊗ d.cofactor ⊗ z) → J c z d.cofactor
+      go : (n : ℕ) → Int c (pow (ring_of c).ops (of_poly c p) n)
+          × Int c (pow (ring_of c).ops (of_poly c p) n ⊗ d.cofactor ⊗ z) → J c z d.cofactor
       go zero m = (w_int, subst (λ x. Int c (x ⊗ z)) (one_mul (ring_of c) d.cofactor) m.1)
       go (suc n) m =
           let q = power_in (ring_of c) (Int c) (integral_subring c) (of_poly c p) p_int n in
           let q_w = (integral_subring c).product_in _ _ q w_int in
           go n (
             q,
-            (cancelled (pow (ring_of c).ops (of_poly c p) n ⊗ d.cofactor) q_w
-                ((integral_subring c).product_in _ _ p_int q_w, subst (λ x. Int c (x ⊗ z)) ((ring_of c).mul_assoc _ _ d.cofactor) m.1)).1,
+            (cancelled (pow (ring_of c).ops (of_poly c p) n ⊗ d.cofactor) q_w (
+              (integral_subring c).product_in _ _ p_int q_w,
+              subst (λ x. Int c (x ⊗ z)) ((ring_of c).mul_assoc _ _ d.cofactor) m.1,
+            )).1,
           )
 
 module _ {k : CodeField} (c : Equation k) (some : ¬ (discriminant c ≡ (polynomials k).𝟘)) (z : FunctionOf c)
-    (regular : (gs : List (FunctionOf c)) → IsPlace (setting_of c) (finite c gs) → HasValuationAtLeast (setting_of c) (finite c gs) z (pos 0)) where
+    (regular : (gs : List (FunctionOf c)) → IsPlace (setting_of c) (finite c gs)
+    → HasValuationAtLeast (setting_of c) (finite c gs) z (pos 0)) where
   infixl 65 ◌⊕◌
   infixl 70 ◌⊗◌
   open ring_of c use {𝟘, 𝟙, ◌⊕◌, ◌⊗◌}
@@ -126,7 +140,9 @@ module _ {k : CodeField} (c : Equation k) (some : ¬ (discriminant c ≡ (polyno
   Clears a = (¬ (a ≡ (polynomials k).𝟘)) × Int c (of_poly c a ⊗ z)
 
   decide : (a : Polynomial k) → Dec (Clears a)
-  decide a = go (polynomial_discrete k a (polynomials k).𝟘) (lattice_decided c (Int c) (integral_lattice c some) (of_poly c a ⊗ z))
+  decide a =
+      go (polynomial_discrete k a (polynomials k).𝟘)
+      (lattice_decided c (Int c) (integral_lattice c some) (of_poly c a ⊗ z))
     where
       go : Dec (a ≡ (polynomials k).𝟘) → Dec (Int c (of_poly c a ⊗ z)) → Dec (Clears a)
       go (yes e) d = no (λ h. h.0 e)
@@ -134,7 +150,8 @@ module _ {k : CodeField} (c : Equation k) (some : ¬ (discriminant c ≡ (polyno
       go (no n) (no m) = no (λ h. m h.1)
 
   smallest : Least k Clears
-  smallest = let f = (integral_lattice c some).full z in least_polynomial k Clears decide f.factor (f.some, f.multiple_in)
+  smallest = let f = (integral_lattice c some).full z in
+      least_polynomial k Clears decide f.factor (f.some, f.multiple_in)
 
   pub regular_is_integral : Int c z
   regular_is_integral = subst (Int c) (one_mul (ring_of c) z) (go (order (length smallest.member.0)))
@@ -154,14 +171,16 @@ module _ {k : CodeField} (c : Equation k) (some : ¬ (discriminant c ≡ (polyno
           let one : m.product ≡ (polynomials k).𝟙
           = constant_of c m.product (omega arith) ∙ ap (constant (code_ring k)) top ∙ (constant_hom (code_ring k)).𝟙 in
           subst (λ u. Int c (u ⊗ z)) (sym ((poly_hom c).mul _ _) ∙ ap (of_poly c) (sym m.is ∙ one) ∙ (poly_hom c).𝟙)
-          ((𝓙 c z).scale_in (of_poly c m.unit) (of_poly c smallest.member) (polynomial_in c z m.unit) (polynomial_in c z smallest.member, smallest.has.1)).1
+          ((𝓙 c z).scale_in (of_poly c m.unit) (of_poly c smallest.member) (polynomial_in c z m.unit)
+          (polynomial_in c z smallest.member, smallest.has.1)).1
       go (inl long) =
           let g = smallest.member in
           let p = divisor_of k g smallest.has.0 long in
           let irr = divisor_irreducible k g smallest.has.0 long in
           let d = divides_it k g smallest.has.0 long in
           let u = d.0 in
-          let u_some : ¬ (u ≡ (polynomials k).𝟘) = λ e. smallest.has.0 (d.1 ∙ ap ((polynomials k).◌⊗◌ p) e ∙ mul_zero (polynomials k).ring p) in
+          let u_some : ¬ (u ≡ (polynomials k).𝟘) = λ e. smallest.has.0
+          (d.1 ∙ ap ((polynomials k).◌⊗◌ p) e ∙ mul_zero (polynomials k).ring p) in
           let u_in = cancelled c some z p irr (λ gs place over. regular gs place) (of_poly c u) (polynomial_in c z u)
           (subst (J c z) (ap (of_poly c) d.1 ∙ (poly_hom c).mul p u) (polynomial_in c z g, smallest.has.1)) in
           let le = smallest.least u (u_some, u_in.1) in

@@ -1,4 +1,5 @@
--- The ring O[z] of an element z that is integral over O, as the values at z of the polynomials of degree below that of its equation.
+-- The ring O[z] of an element z that is integral over O, as the values at z of the polynomials of degree below that of
+-- its equation.
 use Rattle.std.proofs.Common.{◌≡◌, ℕ, zero, suc, ◌+◌, [], ◌∷◌, refl, sym, ◌∙◌, ap, subst, arith, zero-add, suc-add}
 use Rattle.ring_theory.specs.Ring.{CommRing, pow}
 use Rattle.ring_theory.specs.Sums.{sum_below}
@@ -42,16 +43,25 @@ module _ {A : Type 0} (R : CommRing A) (O : A → Type 0) (𝓞 : IsSubring R.op
       top_in = h.constant_in;
       is =
           let f : (c r : A) → r ≡ 𝟘 → c ⊕ z ⊗ r ≡ 𝟘 ⊕ c ⊗ 𝟙
-          = λ c r e. from_one R z e (ring R (c ∷ r ∷ z ∷ []) λ q i. simp (reads, q, i 0, i 1, i 2) (q.equal _ _ refl)) in
+          = λ c r e. from_one R z e
+          (ring R (c ∷ r ∷ z ∷ []) λ q i. simp (reads, q, i 0, i 1, i 2) (q.equal _ _ refl)) in
           h.is ∙ f h.constant h.rest h.rest_in;
     }
     top_of (suc n) a h =
         let r = top_of n h.rest h.rest_in in
         let f : (c x t w : A) → c ⊕ z ⊗ (x ⊕ t ⊗ w) ≡ (c ⊕ z ⊗ x) ⊕ t ⊗ (z ⊗ w)
-        = λ c x t w. ring R (c ∷ x ∷ t ∷ w ∷ z ∷ []) λ q i. simp (reads, q, i 0, i 1, i 2, i 3, i 4) (q.equal _ _ refl) in
+        = λ c x t w. ring R (c ∷ x ∷ t ∷ w ∷ z ∷ []) λ q i. simp (reads, q, i 0, i 1, i 2, i 3, i 4)
+        (q.equal _ _ refl) in
         record {
           rest = h.constant ⊕ z ⊗ r.rest;
-          rest_in = record { constant = h.constant; constant_in = h.constant_in; rest = r.rest; rest_in = r.rest_in; is = refl };
+          rest_in =
+              record {
+                constant = h.constant;
+                constant_in = h.constant_in;
+                rest = r.rest;
+                rest_in = r.rest_in;
+                is = refl;
+              };
           top = r.top;
           top_in = r.top_in;
           is = h.is ∙ ap (λ x. h.constant ⊕ z ⊗ x) r.is ∙ f h.constant r.rest r.top (pow R.ops z n);

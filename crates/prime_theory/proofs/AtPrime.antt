@@ -1,4 +1,5 @@
--- Modules localised at a prime, and valuations by ideals: the value of z at P is at least a - b where z is in P^(a - b) at P.
+-- Modules localised at a prime, and valuations by ideals: the value of z at P is at least a - b where z is in P^(a -
+-- b) at P.
 use Rattle.std.proofs.Common.{◌≡◌, ℕ, ◌+◌, [], ◌∷◌, refl, sym, subst}
 use Rattle.ring_theory.specs.Ring.{CommRing, pow}
 use Rattle.ring_theory.specs.Subsets.{IsSubring, IsModule, Product}
@@ -20,7 +21,8 @@ module _ {A : Type 0} (R : CommRing A) (O : A → Type 0) (𝓞 : IsSubring R.op
 
   -- (K·L)·(M·N) is in (K·M)·(L·N)
   pub product_exchange : (K L M N : A → Type 0) → IsModule R.ops O K → IsModule R.ops O L → IsModule R.ops O M
-      → (z : A) → Product R.ops (Product R.ops K L) (Product R.ops M N) z → Product R.ops (Product R.ops K M) (Product R.ops L N) z
+      → (z : A) → Product R.ops (Product R.ops K L) (Product R.ops M N) z
+      → Product R.ops (Product R.ops K M) (Product R.ops L N) z
   product_exchange K L M N 𝓚 𝓛 𝓜 =
       let all = Product R.ops (Product R.ops K M) (Product R.ops L N) in
       let 𝓐 = product_additive R O 𝓞 (Product R.ops K M) (Product R.ops L N) (product_module R O 𝓞 K M 𝓚) in
@@ -69,7 +71,8 @@ module _ {A : Type 0} (R : CommRing A) (O : A → Type 0) (𝓞 : IsSubring R.op
     pub at_additive : (M : A → Type 0) → IsModule R.ops O M → IsAdditive R.ops (At R.ops O P M)
     at_additive M 𝓜 = additive_of_module R O _ (at_module M 𝓜)
 
-    pub at_product : (M N : A → Type 0) (a b : A) → At R.ops O P M a → At R.ops O P N b → At R.ops O P (Product R.ops M N) (a ⊗ b)
+    pub at_product : (M N : A → Type 0) (a b : A) → At R.ops O P M a → At R.ops O P N b
+        → At R.ops O P (Product R.ops M N) (a ⊗ b)
     at_product M N a b h k = record {
       factor = h.factor ⊗ k.factor;
       factor_in = outside_product R O 𝓞 P 𝓟 _ _ h.factor_in k.factor_in;
@@ -110,13 +113,15 @@ module _ {A : Type 0} (R : CommRing A) (O : A → Type 0) (𝓞 : IsSubring R.op
       -- P·Q is O
       pub inverse_product : SameSet (Product R.ops P Q) O
       inverse_product z = (
-        product_into R P Q O (additive_of_module R O O (own_module R O 𝓞)) (λ a b m n. subst O (R.mul_comm b a) (n a m)) z,
+        product_into R P Q O (additive_of_module R O O (own_module R O 𝓞))
+            (λ a b m n. subst O (R.mul_comm b a) (n a m)) z,
         λ m. subst (Product R.ops P Q) (R.mul_one z)
             ((product_module R O 𝓞 P Q 𝓟m).scale_in z 𝟙 m (invertible_of_pair R O 𝓞 P 𝓟 pair)),
       )
 
       pub ideal_power_add : (a b c d : ℕ)
-          → SameSet (Product R.ops (IdealPower R.ops O P a b) (IdealPower R.ops O P c d)) (IdealPower R.ops O P (a + c) (b + d))
+          → SameSet (Product R.ops (IdealPower R.ops O P a b) (IdealPower R.ops O P c d))
+          (IdealPower R.ops O P (a + c) (b + d))
       ideal_power_add a b c d z =
           let pw : (n : ℕ) → A → Type 0 = Power R.ops O P in
           let qw : (n : ℕ) → A → Type 0 = Power R.ops O Q in
@@ -125,12 +130,14 @@ module _ {A : Type 0} (R : CommRing A) (O : A → Type 0) (𝓞 : IsSubring R.op
           let up = power_add R O 𝓞 P 𝓟m a c in
           let down = power_add R O 𝓞 Q 𝓠m b d in (
             λ h.
-                product_monotone R O 𝓞 (Product R.ops (pw a) (pw c)) (Product R.ops (qw b) (qw d)) (pw (a + c)) (qw (b + d)) (𝓪 (a + c))
+                product_monotone R O 𝓞 (Product R.ops (pw a) (pw c)) (Product R.ops (qw b) (qw d)) (pw (a + c))
+                (qw (b + d)) (𝓪 (a + c))
                 (λ x. (up x).0) (λ x. (down x).0) z
                 (product_exchange (pw a) (qw b) (pw c) (qw d) (𝓪 a) (𝓫 b) (𝓪 c) z h),
             λ h.
                 product_exchange (pw a) (pw c) (qw b) (qw d) (𝓪 a) (𝓪 c) (𝓫 b) z
-                (product_monotone R O 𝓞 (pw (a + c)) (qw (b + d)) (Product R.ops (pw a) (pw c)) (Product R.ops (qw b) (qw d))
+                (product_monotone R O 𝓞 (pw (a + c)) (qw (b + d)) (Product R.ops (pw a) (pw c))
+                (Product R.ops (qw b) (qw d))
                 (product_module R O 𝓞 (pw a) (pw c) (𝓪 a))
                 (λ x. (up x).1) (λ x. (down x).1) z h),
           )
@@ -139,7 +146,8 @@ module _ {A : Type 0} (R : CommRing A) (O : A → Type 0) (𝓞 : IsSubring R.op
       pub ideal_power_theta : (a b : ℕ) (z : A) → IdealPower R.ops O P a b z → O (theta R.ops t g a b ⊗ z)
       unfolding theta
       ideal_power_theta a b =
-          product_universal R (Power R.ops O P a) (Power R.ops O Q b) O (additive_of_module R O O (own_module R O 𝓞)) (theta R.ops t g a b)
+          product_universal R (Power R.ops O P a) (Power R.ops O Q b) O (additive_of_module R O O (own_module R O 𝓞))
+          (theta R.ops t g a b)
           (λ x y m n.
           subst O (mul_mul R _ _ _ _)
           (𝓞.product_in _ _

@@ -25,14 +25,17 @@ module _ {A : Type 0} (R : CommRing A) (O : A → Type 0) (𝓞 : IsSubring R.op
       go (inl m) (inl r) = inl (All-cons P x xs m r)
       go (inl m) (inr r) = inr r
 
-  spans_within : (P P' : A → Type 0) → IsPrime R.ops O P → (g : Generators R.ops O P') → All P g.list → (a : A) → P' a → P a
+  spans_within : (P P' : A → Type 0) → IsPrime R.ops O P → (g : Generators R.ops O P') → All P g.list → (a : A)
+      → P' a → P a
   spans_within P P' 𝓟 g h a m = span_least R O 𝓞 P (ideal_module R O 𝓞 P 𝓟.ideal) g.list h a (g.spanned a m)
 
-  pub compare_primes : (P P' : A → Type 0) → IsPrime R.ops O P → IsPrime R.ops O P' → Generators R.ops O P → Generators R.ops O P'
+  pub compare_primes : (P P' : A → Type 0) → IsPrime R.ops O P → IsPrime R.ops O P' → Generators R.ops O P
+      → Generators R.ops O P'
       → SameSet P P' ⊎ Different P P'
   compare_primes P P' 𝓟 𝓟' g g' = go (decide_all P' P 𝓟' 𝓟 g.list g.members) (decide_all P P' 𝓟 𝓟' g'.list g'.members)
     where
-      go : All P' g.list ⊎ ((x : A) × P x × (¬ (P' x))) → All P g'.list ⊎ ((x : A) × P' x × (¬ (P x))) → SameSet P P' ⊎ Different P P'
+      go : All P' g.list ⊎ ((x : A) × P x × (¬ (P' x))) → All P g'.list ⊎ ((x : A) × P' x × (¬ (P x))) → SameSet P P'
+          ⊎ Different P P'
       go (inl h) r = inl (prime_within R O 𝓞 P' 𝓟' P 𝓟 (spans_within P' P 𝓟' g h))
       go (inr x) (inl h) =
           let s = prime_within R O 𝓞 P 𝓟 P' 𝓟' (spans_within P P' 𝓟 g' h) in
@@ -53,7 +56,8 @@ module _ {A : Type 0} (R : CommRing A) (O : A → Type 0) (𝓞 : IsSubring R.op
     finds [] = inr (All-nil (λ i. Escapes P' (P i)))
     finds (i ∷ is) = go (decide_all (P i) P' (fam.prime i) 𝓟' g.list g.members) (finds is)
       where
-        go : All (P i) g.list ⊎ ((x : A) × P' x × (¬ (P i x))) → Any (λ i. SameSet (P i) P') is ⊎ All (λ i. Escapes P' (P i)) is
+        go : All (P i) g.list ⊎ ((x : A) × P' x × (¬ (P i x))) → Any (λ i. SameSet (P i) P') is
+            ⊎ All (λ i. Escapes P' (P i)) is
             → Any (λ i. SameSet (P i) P') (i ∷ is) ⊎ All (λ i. Escapes P' (P i)) (i ∷ is)
         go (inl h) r =
             let s = prime_within R O 𝓞 (P i) (fam.prime i) P' 𝓟' (spans_within (P i) P' (fam.prime i) g h) in
@@ -70,7 +74,8 @@ module _ {A : Type 0} (R : CommRing A) (O : A → Type 0) (𝓞 : IsSubring R.op
         go (inr h) = absurd (none_escaped R O 𝓞 p p_in I P fam is sys P' 𝓟' m h)
 
   -- a family of finitely generated primes with pairs
-  pub family_of_generators : (I : Type 0) (P : I → A → Type 0) → ((i : I) → IsPrime R.ops O (P i)) → ((i : I) → Pair R.ops O (P i))
+  pub family_of_generators : (I : Type 0) (P : I → A → Type 0) → ((i : I) → IsPrime R.ops O (P i))
+      → ((i : I) → Pair R.ops O (P i))
       → ((i : I) → Generators R.ops O (P i)) → IsFamily R.ops O I P
   family_of_generators I P prime pair gens = record {
     prime = prime;

@@ -36,13 +36,15 @@ module _ {A : Type 0} (R : CommRing A) (S : A → Type 0) (𝓢 : IsSubring R.op
     pub multiple_in : IdealProduct R.ops O P l (pow R.ops p exponent ⊗ cofactor ⊗ z)
 
   -- conditions at the primes over each factor of a common denominator
-  pub by_conditions : (N : A → A → Type 0) (l : List (PrimeExponent I)) (ps : List A) (c c' z : A) → S c → S c' → c' ⊗ c ≡ 𝟙
+  pub by_conditions : (N : A → A → Type 0) (l : List (PrimeExponent I)) (ps : List A) (c c' z : A) → S c → S c'
+      → c' ⊗ c ≡ 𝟙
       → All S ps → All (ConditionsAt N l z) ps → IdealProduct R.ops O P l (c ⊗ product R ps ⊗ z) → S (c ⊗ product R ps)
       → IdealProduct R.ops O P l z
   by_conditions N l ps c c' z c_in c'_in e ps_in h d d_in =
       let M = IdealProduct R.ops O P l in
       let 𝓜 = ideal_product_module R O 𝓞 I P fam l in
-      local_global R S 𝓢 M (record { zero_in = 𝓜.zero_in; sum_in = 𝓜.sum_in; scale_in = λ s a m n. 𝓜.scale_in s a (base s m) n })
+      local_global R S 𝓢 M (record
+      { zero_in = 𝓜.zero_in; sum_in = 𝓜.sum_in; scale_in = λ s a m n. 𝓜.scale_in s a (base s m) n })
       ps c c' z c_in c'_in e ps_in
       (All-weaker (ConditionsAt N l z) (Meets R S (λ w. M (w ⊗ z)))
       (λ p k.
@@ -63,7 +65,8 @@ module _ {A : Type 0} (R : CommRing A) (S : A → Type 0) (𝓢 : IsSubring R.op
   same_or_escapes j [] = inr (All-nil (λ i. Escapes (P j) (P i)))
   same_or_escapes j (i ∷ is) = go (fam.compare i j) (same_or_escapes j is)
     where
-      go : SameSet (P i) (P j) ⊎ Different (P i) (P j) → Any (λ i. SameSet (P i) (P j)) is ⊎ All (λ i. Escapes (P j) (P i)) is
+      go : SameSet (P i) (P j) ⊎ Different (P i) (P j) → Any (λ i. SameSet (P i) (P j)) is
+          ⊎ All (λ i. Escapes (P j) (P i)) is
           → Any (λ i. SameSet (P i) (P j)) (i ∷ is) ⊎ All (λ i. Escapes (P j) (P i)) (i ∷ is)
       go (inl s) r = inl (any_here (λ i. SameSet (P i) (P j)) i is s)
       go (inr d) (inl r) = inl (any_there (λ i. SameSet (P i) (P j)) i is r)
@@ -71,7 +74,8 @@ module _ {A : Type 0} (R : CommRing A) (S : A → Type 0) (𝓢 : IsSubring R.op
           inr (All-cons (λ i. Escapes (P j) (P i)) i is
           (record { member = d.second; member_in = d.second_in; out = d.second_out }) r)
 
-  pub system_complete : (p : A) → O p → (is : List I) → IsSystem R.ops O p I P is → (j : I) → P j p → Any (λ i. SameSet (P i) (P j)) is
+  pub system_complete : (p : A) → O p → (is : List I) → IsSystem R.ops O p I P is → (j : I) → P j p
+      → Any (λ i. SameSet (P i) (P j)) is
   system_complete p p_in is sys j m = go (same_or_escapes j is)
     where
       go : Any (λ i. SameSet (P i) (P j)) is ⊎ All (λ i. Escapes (P j) (P i)) is → Any (λ i. SameSet (P i) (P j)) is

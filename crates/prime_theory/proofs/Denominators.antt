@@ -1,4 +1,5 @@
--- Elements that are integral, or spanned, over a ring with denominators from U: up to a factor of U they are so over the base ring.
+-- Elements that are integral, or spanned, over a ring with denominators from U: up to a factor of U they are so over
+-- the base ring.
 use Rattle.prime_theory.proofs.Scalars.{span_wider, integral_wider}
 use Rattle.ring_theory.proofs.Local.{power_in}
 use Rattle.std.proofs.Common.{◌≡◌, ℕ, zero, suc, ◌<◌, List, [], ◌∷◌, refl, sym, ◌∙◌, ap, subst, arith}
@@ -56,7 +57,8 @@ module _ {A : Type 0} (R : CommRing A) (S : A → Type 0) (𝓢 : IsSubring R.op
         factor = h.factor;
         factor_in = h.factor_in;
         multiple_in =
-            subst S (ring R (a ∷ h.factor ∷ []) λ q x. simp (reads, q, x 0, x 1) (q.equal _ _ refl)) (𝓢.neg_in _ h.multiple_in);
+            subst S (ring R (a ∷ h.factor ∷ []) λ q x. simp (reads, q, x 0, x 1) (q.equal _ _ refl))
+            (𝓢.neg_in _ h.multiple_in);
       };
       product_in = λ a b h k. record {
         factor = h.factor ⊗ k.factor;
@@ -94,11 +96,14 @@ module _ {A : Type 0} (R : CommRing A) (S : A → Type 0) (𝓢 : IsSubring R.op
               let low : Low R.ops S (x ⊗ z) n (pow R.ops x n ⊗ h.rest)
               = subst (λ y. Low R.ops S (y ⊗ z) n (pow R.ops y n ⊗ h.rest)) same
               (r.clears (v ⊗ c.factor) (𝓢.product_in _ _ m (𝓤.within _ c.factor_in))) in
-              let x_in : S x = 𝓢.product_in _ _ m (𝓢.product_in _ _ (𝓤.within _ c.factor_in) (𝓤.within _ r.factor_in)) in
+              let x_in : S x = 𝓢.product_in _ _ m
+              (𝓢.product_in _ _ (𝓤.within _ c.factor_in) (𝓤.within _ r.factor_in)) in
               let f : (v a b y t : A) → y ⊗ (v ⊗ b) ⊗ (a ⊗ t) ≡ v ⊗ (a ⊗ b) ⊗ y ⊗ t
-              = λ v a b y t. ring R (v ∷ a ∷ b ∷ y ∷ t ∷ []) λ q i. simp (reads, q, i 0, i 1, i 2, i 3, i 4) (q.equal _ _ refl) in
+              = λ v a b y t. ring R (v ∷ a ∷ b ∷ y ∷ t ∷ []) λ q i. simp (reads, q, i 0, i 1, i 2, i 3, i 4)
+              (q.equal _ _ refl) in
               let g : (x y t r : A) → x ⊗ y ⊗ (t ⊕ z ⊗ r) ≡ x ⊗ y ⊗ t ⊕ x ⊗ z ⊗ (y ⊗ r)
-              = λ x y t r. ring R (x ∷ y ∷ t ∷ r ∷ z ∷ []) λ q i. simp (reads, q, i 0, i 1, i 2, i 3, i 4) (q.equal _ _ refl) in
+              = λ x y t r. ring R (x ∷ y ∷ t ∷ r ∷ z ∷ []) λ q i. simp (reads, q, i 0, i 1, i 2, i 3, i 4)
+              (q.equal _ _ refl) in
               record {
                 constant = x ⊗ pow R.ops x n ⊗ h.constant;
                 constant_in =
@@ -136,7 +141,8 @@ module _ {A : Type 0} (R : CommRing A) (S : A → Type 0) (𝓢 : IsSubring R.op
         } in
         subst (IsIntegral R.ops (Locally R.ops U S)) (sym (R.mul_assoc _ _ _) ∙ ap (λ x. x ⊗ z) i.1 ∙ one_mul R z)
         (integral_product R (Locally R.ops U S) denominator_ring i.0 (h.factor ⊗ z)
-        (integral_base R (Locally R.ops U S) denominator_ring i.0 u_in) (integral_wider R S (Locally R.ops U S) su_of (h.factor ⊗ z) h.multiple_in))
+        (integral_base R (Locally R.ops U S) denominator_ring i.0 u_in)
+        (integral_wider R S (Locally R.ops U S) su_of (h.factor ⊗ z) h.multiple_in))
 
     -- spans with denominators
     pub span_cleared : (bs : List A) (z : A) → Span R.ops (Locally R.ops U S) bs z → Locally R.ops U (Span R.ops S bs) z
@@ -145,7 +151,8 @@ module _ {A : Type 0} (R : CommRing A) (S : A → Type 0) (𝓢 : IsSubring R.op
         let c = h.scalar_in in
         let r = span_cleared bs h.rest h.rest_in in
         let f : (c r s b y : A) → c ⊗ r ⊗ (s ⊗ b ⊕ y) ≡ r ⊗ (c ⊗ s) ⊗ b ⊕ c ⊗ (r ⊗ y)
-        = λ c r s b y. ring R (c ∷ r ∷ s ∷ b ∷ y ∷ []) λ q i. simp (reads, q, i 0, i 1, i 2, i 3, i 4) (q.equal _ _ refl) in
+        = λ c r s b y. ring R (c ∷ r ∷ s ∷ b ∷ y ∷ []) λ q i. simp (reads, q, i 0, i 1, i 2, i 3, i 4)
+        (q.equal _ _ refl) in
         record {
           factor = c.factor ⊗ r.factor;
           factor_in = 𝓤.product_in _ _ c.factor_in r.factor_in;
@@ -158,7 +165,8 @@ module _ {A : Type 0} (R : CommRing A) (S : A → Type 0) (𝓢 : IsSubring R.op
           };
         }
 
-    pub span_of_cleared : ((w : A) → U w → (u : A) × (u ⊗ w ≡ 𝟙)) → (bs : List A) (z : A) → Locally R.ops U (Span R.ops S bs) z
+    pub span_of_cleared : ((w : A) → U w → (u : A) × (u ⊗ w ≡ 𝟙)) → (bs : List A) (z : A)
+        → Locally R.ops U (Span R.ops S bs) z
         → Span R.ops (Locally R.ops U S) bs z
     span_of_cleared inverse bs z h =
         let i = inverse h.factor h.factor_in in
@@ -168,4 +176,5 @@ module _ {A : Type 0} (R : CommRing A) (S : A → Type 0) (𝓢 : IsSubring R.op
           multiple_in = subst S (sym (R.mul_comm _ _ ∙ i.1)) 𝓢.one_in;
         } in
         subst (Span R.ops (Locally R.ops U S) bs) (sym (R.mul_assoc _ _ _) ∙ ap (λ x. x ⊗ z) i.1 ∙ one_mul R z)
-        ((span_module R (Locally R.ops U S) denominator_ring bs).scale_in i.0 _ u_in (span_wider R S (Locally R.ops U S) su_of bs (h.factor ⊗ z) h.multiple_in))
+        ((span_module R (Locally R.ops U S) denominator_ring bs).scale_in i.0 _ u_in
+        (span_wider R S (Locally R.ops U S) su_of bs (h.factor ⊗ z) h.multiple_in))

@@ -31,7 +31,8 @@ module _ {A : Type 0} (R : CommRing A) (S : A → Type 0) (𝓢 : IsSubring R.op
       (λ i. 𝓢.product_in _ _ (power_in R S 𝓢 (⊖ 𝟙) (𝓢.neg_in 𝟙 𝓢.one_in) i)
       (𝓢.product_in _ _ (h i zero) (determinant_in n (minor i m) (minor_in i m h))))
 
-  with_row_in : (i : ℕ) (v : ℕ → A) (m : ℕ → ℕ → A) → ((c : ℕ) → S (v c)) → ((r c : ℕ) → S (m r c)) → (r c : ℕ) → S (with_row i v m r c)
+  with_row_in : (i : ℕ) (v : ℕ → A) (m : ℕ → ℕ → A) → ((c : ℕ) → S (v c)) → ((r c : ℕ) → S (m r c)) → (r c : ℕ)
+      → S (with_row i v m r c)
   with_row_in zero v m g h zero c = g c
   with_row_in zero v m g h (suc r) c = h (suc r) c
   with_row_in (suc i) v m g h zero c = h zero c

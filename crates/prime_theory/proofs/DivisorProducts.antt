@@ -30,7 +30,8 @@ module _ {A : Type 0} (R : CommRing A) (O : A → Type 0) (𝓞 : IsSubring R.op
   𝓛 : (l : List (PrimeExponent I)) → IsModule R.ops O (Prod l)
   𝓛 = ideal_product_module R O 𝓞 I P fam
 
-  pub same_head : (e : PrimeExponent I) (l l' : List (PrimeExponent I)) → SameSet (Prod l) (Prod l') → SameSet (Prod (e ∷ l)) (Prod (e ∷ l'))
+  pub same_head : (e : PrimeExponent I) (l l' : List (PrimeExponent I)) → SameSet (Prod l) (Prod l')
+      → SameSet (Prod (e ∷ l)) (Prod (e ∷ l'))
   same_head e l l' s z = (
     product_monotone R O 𝓞 (K e) (Prod l) (K e) (Prod l') (𝓚 e) (λ a m. m) (λ a. (s a).0) z,
     product_monotone R O 𝓞 (K e) (Prod l') (K e) (Prod l) (𝓚 e) (λ a m. m) (λ a. (s a).1) z,
@@ -42,9 +43,11 @@ module _ {A : Type 0} (R : CommRing A) (O : A → Type 0) (𝓞 : IsSubring R.op
       let ih = product_append l l' in (
         λ h.
             product_assoc_back R O 𝓞 (K e) (Prod l) (Prod l') (𝓚 e) z
-            (product_monotone R O 𝓞 (K e) (Prod (l ++ l')) (K e) (Product R.ops (Prod l) (Prod l')) (𝓚 e) (λ a m. m) (λ a. (ih a).0) z h),
+            (product_monotone R O 𝓞 (K e) (Prod (l ++ l')) (K e) (Product R.ops (Prod l) (Prod l')) (𝓚 e) (λ a m. m)
+            (λ a. (ih a).0) z h),
         λ h.
-            product_monotone R O 𝓞 (K e) (Product R.ops (Prod l) (Prod l')) (K e) (Prod (l ++ l')) (𝓚 e) (λ a m. m) (λ a. (ih a).1) z
+            product_monotone R O 𝓞 (K e) (Product R.ops (Prod l) (Prod l')) (K e) (Prod (l ++ l')) (𝓚 e) (λ a m. m)
+            (λ a. (ih a).1) z
             (product_assoc R O 𝓞 (K e) (Prod l) (Prod l') (𝓚 e) z h),
       )
 
@@ -56,7 +59,8 @@ module _ {A : Type 0} (R : CommRing A) (O : A → Type 0) (𝓞 : IsSubring R.op
       (product_swap R O 𝓞 (K e) (K e') (𝓚 e')) (λ a m. m) z
       (product_assoc_back R O 𝓞 (K e) (K e') (Prod l) (𝓚 e) z h))
 
-  pub product_exchange_two : (e e' : PrimeExponent I) (l : List (PrimeExponent I)) → SameSet (Prod (e ∷ e' ∷ l)) (Prod (e' ∷ e ∷ l))
+  pub product_exchange_two : (e e' : PrimeExponent I) (l : List (PrimeExponent I))
+      → SameSet (Prod (e ∷ e' ∷ l)) (Prod (e' ∷ e ∷ l))
   product_exchange_two e e' l z = (swap_into e e' l z, swap_into e' e l z)
 
   pub product_merge : (i : I) (a b c d : ℕ) (l : List (PrimeExponent I))
@@ -67,7 +71,8 @@ module _ {A : Type 0} (R : CommRing A) (O : A → Type 0) (𝓞 : IsSubring R.op
       let 𝓜 : (m n : ℕ) → IsModule R.ops O (M m n) = ideal_power_module R O 𝓞 (P i) (fam.prime i) (fam.pair i) in
       let s = ideal_power_add R O 𝓞 (P i) (fam.prime i) (fam.pair i) a b c d in (
         λ h.
-            product_monotone R O 𝓞 (Product R.ops (M a b) (M c d)) (Prod l) (M (a + c) (b + d)) (Prod l) (𝓜 (a + c) (b + d))
+            product_monotone R O 𝓞 (Product R.ops (M a b) (M c d)) (Prod l) (M (a + c) (b + d)) (Prod l)
+            (𝓜 (a + c) (b + d))
             (λ x. (s x).0) (λ x m. m) z
             (product_assoc_back R O 𝓞 (M a b) (M c d) (Prod l) (𝓜 a b) z h),
         λ h.
@@ -97,13 +102,15 @@ module _ {A : Type 0} (R : CommRing A) (O : A → Type 0) (𝓞 : IsSubring R.op
         ((ideal_power_module R O 𝓞 (P i) (fam.prime i) (fam.pair i) n n).scale_in z 𝟙 m (one_in_powers i n)),
   )
 
-  pub product_cancel : (i : I) (n : ℕ) (l : List (PrimeExponent I)) → SameSet (Prod (record { index = i; up = n; down = n } ∷ l)) (Prod l)
+  pub product_cancel : (i : I) (n : ℕ) (l : List (PrimeExponent I))
+      → SameSet (Prod (record { index = i; up = n; down = n } ∷ l)) (Prod l)
   product_cancel i n l z =
       let s = powers_one i n in
       let one = product_one R O 𝓞 (Prod l) (𝓛 l) in (
         λ h.
             (one z).0
-            (product_monotone R O 𝓞 (IdealPower R.ops O (P i) n n) (Prod l) O (Prod l) (own_module R O 𝓞) (λ x. (s x).0) (λ x m. m) z h),
+            (product_monotone R O 𝓞 (IdealPower R.ops O (P i) n n) (Prod l) O (Prod l) (own_module R O 𝓞)
+            (λ x. (s x).0) (λ x m. m) z h),
         λ h.
             product_monotone R O 𝓞 O (Prod l) (IdealPower R.ops O (P i) n n) (Prod l)
             (ideal_power_module R O 𝓞 (P i) (fam.prime i) (fam.pair i) n n) (λ x. (s x).1) (λ x m. m) z ((one z).1 h),
@@ -126,7 +133,8 @@ module _ {A : Type 0} (R : CommRing A) (O : A → Type 0) (𝓞 : IsSubring R.op
       let own = product_one R O 𝓞 O (own_module R O 𝓞) in (
         λ h.
             (own z).0
-            (product_monotone R O 𝓞 (Product R.ops (K e) (K e')) (Product R.ops (Prod l) (Prod (opposite l))) O O (own_module R O 𝓞)
+            (product_monotone R O 𝓞 (Product R.ops (K e) (K e')) (Product R.ops (Prod l) (Prod (opposite l))) O O
+            (own_module R O 𝓞)
             (λ x. (both x).0) (λ x. (ih x).0) z
             (product_exchange R O 𝓞 (K e) (Prod l) (K e') (Prod (opposite l)) (𝓚 e) (𝓛 l) (𝓚 e') z h)),
         λ h.

@@ -40,8 +40,14 @@ module _ {A : Type 0} (R : CommRing A) (S : A → Type 0) (𝓢 : IsSubring R.op
       let ih = enlarged_iff ps (All-tail S p ps h) (Enlarged R Int p O) (λ y m. m.in_Int) z in (
         λ m.
             let r = ih.0 m in
-            let e = r.1.2 in
-            (r.0, (pow R.ops p e.exponent ⊗ r.1.0, (e.exponent, r.1.0, r.1.1, refl), subst O (sym (R.mul_assoc _ _ _)) e.inside)),
+            let e = r.1.2 in (
+              r.0,
+              (
+                pow R.ops p e.exponent ⊗ r.1.0,
+                (e.exponent, r.1.0, r.1.1, refl),
+                subst O (sym (R.mul_assoc _ _ _)) e.inside,
+              ),
+            ),
         λ m.
             let k = m.1.1 in
             ih.1 (

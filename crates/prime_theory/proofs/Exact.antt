@@ -53,9 +53,11 @@ module _ {A : Type 0} (R : CommRing A) (O : A → Type 0) (𝓞 : IsSubring R.op
       (eq_product R O 𝓞 P 𝓟 t (pow R.ops p n) w (n * e) (n * 0) 0 0 (eq_power R O 𝓞 P 𝓟 t p e 0 h n)
       (eq_of_outside R O 𝓞 P 𝓟 t w w_out)) in
       let v' : Eq c (n * e) 0
-      = Rattle.prime_theory.proofs.Valuation.eq_reindex R O 𝓞 P 𝓟 t c (n * e + 0) (n * 0 + 0) (n * e) 0 (omega arith) v in
+      = Rattle.prime_theory.proofs.Valuation.eq_reindex R O 𝓞 P 𝓟 t c (n * e + 0) (n * 0 + 0) (n * e) 0 (omega arith)
+      v in
       let f : (d ⊗ z) ⊗ (d' ⊗ y) ≡ c
-      = from_one R (d ⊗ d') u (ring R (d ∷ z ∷ d' ∷ y ∷ []) λ q i. simp (reads, q, i 0, i 1, i 2, i 3) (q.equal _ _ refl)) in
+      = from_one R (d ⊗ d') u (ring R (d ∷ z ∷ d' ∷ y ∷ []) λ q i. simp (reads, q, i 0, i 1, i 2, i 3)
+      (q.equal _ _ refl)) in
       let first = exact_of_divisor (d ⊗ z) (d' ⊗ y) c (n * e) dz_in d'y_in f v' in
       let second = exact_of_divisor d d' c (n * e) d_in d'_in refl v' in
       (first.0 + 0, 0 + second.0, eq_quotient R O 𝓞 P 𝓟 t d z first.0 0 second.0 0 second.1 first.1)
@@ -78,10 +80,12 @@ module _ {A : Type 0} (R : CommRing A) (O : A → Type 0) (𝓞 : IsSubring R.op
   opposite_down i [] = refl
   opposite_down i (e ∷ l) = ap (λ n. counted e.up (fam.compare e.index i) + n) (opposite_down i l)
 
-  -- an element with exactly the exponents of a list at a prime system divides some 1 + p·b, b in a base ring over which O is integral
+  -- an element with exactly the exponents of a list at a prime system divides some 1 + p·b, b in a base ring over
+  -- which O is integral
   pub exact_divides : (S : A → Type 0) → IsSubring R.ops S → S p → ((s : A) → O s → IsIntegral R.ops S s)
       → (is : List I) → IsSystem R.ops O p I P is → (l : List (PrimeExponent I)) → (z : A) → IdealProduct R.ops O P l z
-      → All (λ i. Exactly R.ops O (P i) (fam.pair i).tau (fam.pair i).gamma z (up_at R O 𝓞 I P fam i l) (down_at R O 𝓞 I P fam i l)) is
+      → All (λ i. Exactly R.ops O (P i) (fam.pair i).tau (fam.pair i).gamma z (up_at R O 𝓞 I P fam i l)
+      (down_at R O 𝓞 I P fam i l)) is
       → (y : A) × (b : A) × S b × (z ⊗ y ≡ 𝟙 ⊕ p ⊗ b)
   exact_divides S 𝓢 p_base integral is sys l z z_in exact =
       let c = cofactor_of_exact R O 𝓞 p p_in I P fam is sys l (Opp l) (λ i. opposite_up i l) (λ i. opposite_down i l)

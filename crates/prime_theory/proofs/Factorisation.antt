@@ -9,7 +9,7 @@ use Rattle.ring_theory.proofs.Subsets.{product_member}
 use Rattle.ring_theory.proofs.Solver.{ring, reads, from_one}
 use Rattle.prime_theory.specs.Ideals.{SameSet, Inverse, Power, Multiple}
 use Rattle.prime_theory.specs.Primes.{Different, AtLeast, Exactly}
-use Rattle.prime_theory.specs.Systems.{IdealPower, IdealProduct, PrimeExponent, IsFamily, IsSystem, Distinct, counted}
+use Rattle.prime_theory.specs.Systems.{IdealPower, IdealProduct, PrimeExponent, IsFamily, IsSystem, AreDistinctPrimes, counted}
 use Rattle.prime_theory.proofs.Products.{product_into, own_module, additive_of_module, power_member, power_module}
 use Rattle.prime_theory.proofs.Primes.{ideal_module, one_outside, one_in_inverse, inverse_module}
 use Rattle.prime_theory.proofs.Valuation.{theta_left, ge_of_member, ge_quotient, ge_reindex, ge_of_eq}
@@ -55,7 +55,8 @@ module _ {A : Type 0} (R : CommRing A) (O : A → Type 0) (𝓞 : IsSubring R.op
   𝓠m i = inverse_module R O 𝓞 (P i) (fam.prime i)
 
   times_one : (M : A → Type 0) → IsModule R.ops O M → (z : A) → Product R.ops M O z → M z
-  times_one M 𝓜 = product_into R M O M (additive_of_module R O M 𝓜) (λ a b m n. subst M (R.mul_comm b a) (𝓜.scale_in b a n m))
+  times_one M 𝓜 =
+      product_into R M O M (additive_of_module R O M 𝓜) (λ a b m n. subst M (R.mul_comm b a) (𝓜.scale_in b a n m))
 
   -- the n-th powers of P and of its inverse have their product in O
   pub powers_cancel : (i : I) (n : ℕ) (z : A) → Product R.ops (Power R.ops O (P i) n) (Power R.ops O (Q i) n) z → O z
@@ -63,7 +64,8 @@ module _ {A : Type 0} (R : CommRing A) (O : A → Type 0) (𝓞 : IsSubring R.op
   powers_cancel i (suc n) z h =
       product_into R (Product R.ops (P i) (Q i)) (Product R.ops (Power R.ops O (P i) n) (Power R.ops O (Q i) n)) O
       (additive_of_module R O O (own_module R O 𝓞))
-      (λ a b j k. 𝓞.product_in _ _ ((inverse_product R O 𝓞 (P i) (fam.prime i) (fam.pair i) a).0 j) (powers_cancel i n b k))
+      (λ a b j k. 𝓞.product_in _ _ ((inverse_product R O 𝓞 (P i) (fam.prime i) (fam.pair i) a).0 j)
+      (powers_cancel i n b k))
       z
       (product_exchange R O 𝓞 (P i) (Power R.ops O (P i) n) (Q i) (Power R.ops O (Q i) n)
       (𝓟m i) (power_module R O 𝓞 (P i) (𝓟m i) n) (𝓠m i) z h)
@@ -88,11 +90,13 @@ module _ {A : Type 0} (R : CommRing A) (O : A → Type 0) (𝓞 : IsSubring R.op
     counted_self i n (inl s) = refl
     counted_self i n (inr d) = absurd (d.first_out d.first_in)
 
-    counted_other : (i j : I) (n : ℕ) → Different (P i) (P j) → (c : SameSet (P i) (P j) ⊎ Different (P i) (P j)) → counted n c ≡ 0
+    counted_other : (i j : I) (n : ℕ) → Different (P i) (P j) → (c : SameSet (P i) (P j) ⊎ Different (P i) (P j))
+        → counted n c ≡ 0
     counted_other i j n d (inl s) = absurd (d.first_out ((s d.first).0 d.first_in))
     counted_other i j n d (inr e) = refl
 
-    absent : (i : I) (js : List I) → All (λ j. Different (P j) (P i)) js → (Up i (entries js) ≡ 0) × (Down i (entries js) ≡ 0)
+    absent : (i : I) (js : List I) → All (λ j. Different (P j) (P i)) js → (Up i (entries js) ≡ 0)
+        × (Down i (entries js) ≡ 0)
     unfolding entries
     absent i [] h = (refl, refl)
     absent i (j ∷ js) h =
@@ -105,12 +109,14 @@ module _ {A : Type 0} (R : CommRing A) (O : A → Type 0) (𝓞 : IsSubring R.op
     abbrev Apart : I → I → Type 0
     Apart i j = Different (P i) (P j)
 
-    totals : (is : List I) → Distinct P is → All (λ i. (Up i (entries is) ≡ f i) × (Down i (entries is) ≡ g i)) is
+    totals : (is : List I) → AreDistinctPrimes P is
+        → All (λ i. (Up i (entries is) ≡ f i) × (Down i (entries is) ≡ g i)) is
     unfolding entries
     totals [] h = All-nil (λ i. (Up i (entries []) ≡ f i) × (Down i (entries []) ≡ g i))
     totals (i ∷ is) h =
         let T : I → Type 0 = λ j. (Up j (entries (i ∷ is)) ≡ f j) × (Down j (entries (i ∷ is)) ≡ g j) in
-        let rest = absent i is (All-weaker (λ j. Different (P i) (P j)) (λ j. Different (P j) (P i)) (different_symmetric i) is (pairs_head Apart i is h)) in
+        let rest = absent i is (All-weaker (λ j. Different (P i) (P j)) (λ j. Different (P j) (P i))
+        (different_symmetric i) is (pairs_head Apart i is h)) in
         All-cons T i is (
           ap₂ ◌+◌ (counted_self i (f i) (fam.compare i i)) rest.0 ∙ add-zero (f i),
           ap₂ ◌+◌ (counted_self i (g i) (fam.compare i i)) rest.1 ∙ add-zero (g i),
@@ -120,7 +126,8 @@ module _ {A : Type 0} (R : CommRing A) (O : A → Type 0) (𝓞 : IsSubring R.op
           ap₂ ◌+◌ (counted_other i j (f i) k.0 (fam.compare i j)) k.1.0 ∙ zero-add (f j),
           ap₂ ◌+◌ (counted_other i j (g i) k.0 (fam.compare i j)) k.1.1 ∙ zero-add (g j),
         ))
-        is (both (λ j. Different (P i) (P j)) (λ j. (Up j (entries is) ≡ f j) × (Down j (entries is) ≡ g j)) is (pairs_head Apart i is h) (totals is (pairs_tail Apart i is h))))
+        is (both (λ j. Different (P i) (P j)) (λ j. (Up j (entries is) ≡ f j) × (Down j (entries is) ≡ g j)) is
+        (pairs_head Apart i is h) (totals is (pairs_tail Apart i is h))))
 
     -- a power of p is in the product, and takes the product into O
     pub power_in_product : (is : List I) → All (λ i. P i p) is → (n : ℕ) × Prod (entries is) (pow R.ops p n)
@@ -131,11 +138,13 @@ module _ {A : Type 0} (R : CommRing A) (O : A → Type 0) (𝓞 : IsSubring R.op
         let a = power_member R O 𝓞 (P i) (𝓟m i) p (All-head (λ i. P i p) i is h) (f i) in
         let b = power_member R O 𝓞 (Q i) (𝓠m i) 𝟙 (one_in_inverse R O 𝓞 (P i) (fam.prime i)) (g i) in
         let c : IdealPower R.ops O (P i) (f i) (g i) (pow R.ops p (f i))
-        = subst (IdealPower R.ops O (P i) (f i) (g i)) (ap (λ x. pow R.ops p (f i) ⊗ x) (pow_one_base R (g i)) ∙ R.mul_one _)
+        = subst (IdealPower R.ops O (P i) (f i) (g i))
+        (ap (λ x. pow R.ops p (f i) ⊗ x) (pow_one_base R (g i)) ∙ R.mul_one _)
         (product_member R O 𝓞 _ _ _ _ a b) in
         (f i + r.0, subst (Prod (entries (i ∷ is))) (sym (pow_add R p (f i) r.0)) (product_member R O 𝓞 _ _ _ _ c r.1))
 
-    pub product_bounded : (is : List I) → All (λ i. P i p) is → (n : ℕ) × ((z : A) → Prod (entries is) z → O (pow R.ops p n ⊗ z))
+    pub product_bounded : (is : List I) → All (λ i. P i p) is → (n : ℕ)
+        × ((z : A) → Prod (entries is) z → O (pow R.ops p n ⊗ z))
     unfolding entries
     product_bounded [] h = (0, λ z m. subst O (sym (one_mul R z)) m)
     product_bounded (i ∷ is) h =
@@ -147,7 +156,8 @@ module _ {A : Type 0} (R : CommRing A) (O : A → Type 0) (𝓞 : IsSubring R.op
           λ z.
               product_into_multiple (g i + r.0) (IdealPower R.ops O (P i) (f i) (g i)) (Prod (entries is))
               (λ x y m n.
-              subst O (split x y (pow R.ops p (g i)) (pow R.ops p r.0) ∙ ap (λ c. c ⊗ (x ⊗ y)) (sym (pow_add R p (g i) r.0)))
+              subst O (split x y (pow R.ops p (g i)) (pow R.ops p r.0)
+              ∙ ap (λ c. c ⊗ (x ⊗ y)) (sym (pow_add R p (g i) r.0)))
               (𝓞.product_in _ _ (head i h' (f i) (g i) x m) (r.1 y n)))
               z,
         )
@@ -155,25 +165,29 @@ module _ {A : Type 0} (R : CommRing A) (O : A → Type 0) (𝓞 : IsSubring R.op
         product_into_multiple : (n : ℕ) (M N : A → Type 0) → ((x y : A) → M x → N y → O (pow R.ops p n ⊗ (x ⊗ y)))
             → (z : A) → Product R.ops M N z → O (pow R.ops p n ⊗ z)
         product_into_multiple n M N k z m =
-            Rattle.prime_theory.proofs.Products.product_universal R M N O (additive_of_module R O O (own_module R O 𝓞)) (pow R.ops p n) k z m
+            Rattle.prime_theory.proofs.Products.product_universal R M N O
+            (additive_of_module R O O (own_module R O 𝓞)) (pow R.ops p n) k z m
 
         head : (i : I) → P i p → (a b : ℕ) (x : A) → IdealPower R.ops O (P i) a b x → O (pow R.ops p b ⊗ x)
         head i h' a b x m =
             product_into_multiple b (Power R.ops O (P i) a) (Power R.ops O (Q i) b)
             (λ u v j k.
             subst O (mul_left_comm R _ _ _)
-            (𝓞.product_in _ _ (Rattle.prime_theory.proofs.PrimeProducts.power_within R O 𝓞 (P i) (fam.prime i).ideal a u j)
-            (Rattle.prime_theory.proofs.Products.power_cancel R O 𝓞 (Q i) p (λ c n. subst O (R.mul_comm _ _) (n p h')) b v k)))
+            (𝓞.product_in _ _ (Rattle.prime_theory.proofs.PrimeProducts.power_within R O 𝓞 (P i) (fam.prime i).ideal
+            a u j)
+            (Rattle.prime_theory.proofs.Products.power_cancel R O 𝓞 (Q i) p
+            (λ c n. subst O (R.mul_comm _ _) (n p h')) b v k)))
             x m
 
-    pub values_of_entries : (is : List I) → Distinct P is → (z : A) → Prod (entries is) z → All (λ i. Ge i z (f i) (g i)) is
+    pub values_of_entries : (is : List I) → AreDistinctPrimes P is → (z : A) → Prod (entries is) z
+        → All (λ i. Ge i z (f i) (g i)) is
     values_of_entries is d z m =
         All-weaker (λ i. (Up i (entries is) ≡ f i) × (Down i (entries is) ≡ g i)) (λ i. Ge i z (f i) (g i))
         (λ i k. subst (λ n. Ge i z n (g i)) k.0 (subst (λ n. Ge i z (Up i (entries is)) n) k.1
         (value_of_ideal_product R O 𝓞 I P fam i (entries is) z m)))
         is (totals is d)
 
-    pub conditions_entries : (is : List I) → IsSystem R.ops O p I P is → Distinct P is → (z : A) (n : ℕ)
+    pub conditions_entries : (is : List I) → IsSystem R.ops O p I P is → AreDistinctPrimes P is → (z : A) (n : ℕ)
         → All (λ i. Ge i z (f i) (g i)) is → Prod (entries is) (pow R.ops p n ⊗ z) → Prod (entries is) z
     conditions_entries is sys d z n h m =
         subst (Prod (entries is)) (one_mul R z)
@@ -181,7 +195,8 @@ module _ {A : Type 0} (R : CommRing A) (O : A → Type 0) (𝓞 : IsSubring R.op
         (All-weaker (λ i. Ge i z (f i) (g i) × ((Up i (entries is) ≡ f i) × (Down i (entries is) ≡ g i)))
         (λ i. Ge i z (Up i (entries is)) (Down i (entries is)))
         (λ i k. subst (λ n. Ge i z n (Down i (entries is))) (sym k.1.0) (subst (λ n. Ge i z (f i) n) (sym k.1.1) k.0))
-        is (both (λ i. Ge i z (f i) (g i)) (λ i. (Up i (entries is) ≡ f i) × (Down i (entries is) ≡ g i)) is h (totals is d)))
+        is (both (λ i. Ge i z (f i) (g i)) (λ i. (Up i (entries is) ≡ f i) × (Down i (entries is) ≡ g i)) is h
+        (totals is d)))
         𝓞.one_in
         (subst (Prod (entries is)) (ap (λ x. x ⊗ z) (sym (R.mul_one _))) m))
 
@@ -212,10 +227,12 @@ module _ {A : Type 0} (R : CommRing A) (O : A → Type 0) (𝓞 : IsSubring R.op
     value_of_power i m z h =
         value_of_at R O 𝓞 (P i) (fam.prime i) (fam.pair i) z m 0
         (at_of R O 𝓞 (P i) (fam.prime i) (IdealPower R.ops O (P i) m 0) z
-        (subst (IdealPower R.ops O (P i) m 0) (R.mul_one z) (product_member R O 𝓞 (Power R.ops O (P i) m) O z 𝟙 h 𝓞.one_in)))
+        (subst (IdealPower R.ops O (P i) m 0) (R.mul_one z)
+        (product_member R O 𝓞 (Power R.ops O (P i) m) O z 𝟙 h 𝓞.one_in)))
 
     -- the m-th power of P by the m-th power of its inverse
-    pub power_iff_colon : (i : I) → P i p → (m : ℕ) (z : A) → Power R.ops O (P i) m z ↔ Colon R.ops O (Power R.ops O (Q i) m) z
+    pub power_iff_colon : (i : I) → P i p → (m : ℕ) (z : A) → Power R.ops O (P i) m z
+        ↔ Colon R.ops O (Power R.ops O (Q i) m) z
     power_iff_colon i h m z = (
       λ k y n. powers_cancel i m _ (product_member R O 𝓞 (Power R.ops O (P i) m) (Power R.ops O (Q i) m) z y k n),
       λ k.
@@ -241,7 +258,7 @@ module _ {A : Type 0} (R : CommRing A) (O : A → Type 0) (𝓞 : IsSubring R.op
     value_of_p_at i = (exponent_of_p R O 𝓞 p p_in I P fam is sys i).1
 
     -- p·O is the product of the powers of the primes with the values of p, where p has an inverse
-    pub factor_p : (q : A) → q ⊗ p ≡ 𝟙 → Distinct P is → (z : A)
+    pub factor_p : (q : A) → q ⊗ p ≡ 𝟙 → AreDistinctPrimes P is → (z : A)
         → Multiple R.ops p O z ↔ Prod (entries ramification (λ i. 0) is) z
     factor_p q e d z =
         let E = ramification in
@@ -269,7 +286,8 @@ module _ {A : Type 0} (R : CommRing A) (O : A → Type 0) (𝓞 : IsSubring R.op
               let n = bounded.0 in
               let inside : O (pow R.ops p (suc n) ⊗ 𝟙 ⊗ (q ⊗ z))
               = subst O
-              (sym (ap (λ x. x ⊗ (q ⊗ z)) (R.mul_one _ ∙ R.mul_comm _ _) ∙ R.mul_assoc _ _ _ ∙ ap (λ x. pow R.ops p n ⊗ x) (pq z)))
+              (sym (ap (λ x. x ⊗ (q ⊗ z)) (R.mul_one _ ∙ R.mul_comm _ _) ∙ R.mul_assoc _ _ _
+              ∙ ap (λ x. pow R.ops p n ⊗ x) (pq z)))
               (bounded.1 z h) in
               record {
                 quotient = q ⊗ z;

@@ -1,4 +1,5 @@
--- At a prime system at p: an ideal between powers of p is the product of its values, and has elements with all of its values.
+-- At a prime system at p: an ideal between powers of p is the product of its values, and has elements with all of its
+-- values.
 use Rattle.prime_theory.proofs.Lists.{pick, everywhere, both, pairs_head, pairs_tail}
 use Rattle.ring_theory.proofs.Local.{power_in}
 use Rattle.std.proofs.Common.{◌≡◌, ◌⊎◌, inl, inr, ℕ, suc, ◌+◌, ◌*◌, ◌≤◌, List, [], ◌∷◌, map, refl, sym, ◌∙◌, ap, ap₂, subst, arith, All}
@@ -10,7 +11,7 @@ use Rattle.ring_theory.proofs.Subsets.{span_least, span_multiples, span_members}
 use Rattle.ring_theory.proofs.Solver.{ring, reads}
 use Rattle.prime_theory.specs.Ideals.{IsIdeal, SameSet, Multiple}
 use Rattle.prime_theory.specs.Primes.{Outside, Different, AtLeast, Exactly, theta}
-use Rattle.prime_theory.specs.Systems.{IdealProduct, PrimeExponent, IsFamily, IsSystem, Escapes, UnitModulo, Distinct}
+use Rattle.prime_theory.specs.Systems.{IdealProduct, PrimeExponent, IsFamily, IsSystem, Escapes, UnitModulo, AreDistinctPrimes}
 use Rattle.prime_theory.proofs.Localisation.{lift}
 use Rattle.prime_theory.proofs.Primes.{outside_product, one_outside}
 use Rattle.prime_theory.proofs.Valuation.{eq_theta, eq_product, eq_power, eq_quotient, eq_reindex, eq_sum, eq_of_outside, ge_of_prime, ge_product, ge_quotient, ge_reindex, ge_sum, ge_module, ge_of_eq, ge_bounded}
@@ -23,7 +24,8 @@ use Rattle.prime_theory.proofs.Factorisation.{entries, power_in_product, product
 exchange : {X Y : Type 0} (Z : X → Y → Type 0) (ys : List Y) → ((x : X) → All (Z x) ys) → All (λ y. (x : X) → Z x y) ys
 exchange Z [] f = All-nil (λ y. (x : _) → Z x y)
 exchange Z (y ∷ ys) f =
-    All-cons (λ y. (x : _) → Z x y) y ys (λ x. All-head (Z x) y ys (f x)) (exchange Z ys (λ x. All-tail (Z x) y ys (f x)))
+    All-cons (λ y. (x : _) → Z x y) y ys (λ x. All-head (Z x) y ys (f x))
+    (exchange Z ys (λ x. All-tail (Z x) y ys (f x)))
 
 module _ {A : Type 0} (R : CommRing A) (O : A → Type 0) (𝓞 : IsSubring R.ops O) (p : A) (p_in : O p)
     (I : Type 0) (P : I → A → Type 0) (fam : IsFamily R.ops O I P) where
@@ -105,7 +107,8 @@ module _ {A : Type 0} (R : CommRing A) (O : A → Type 0) (𝓞 : IsSubring R.op
     g i = (ideal_value i).down
 
     -- the ideal is the product of the powers of the primes with its values
-    pub ideal_factors : Distinct P is → SameSet M (IdealProduct R.ops O P (entries R O 𝓞 p p_in I P fam f g is))
+    pub ideal_factors : AreDistinctPrimes P is
+        → SameSet M (IdealProduct R.ops O P (entries R O 𝓞 p p_in I P fam f g is))
     ideal_factors d z = (into, out)
       where
         into : M z → IdealProduct R.ops O P (entries R O 𝓞 p p_in I P fam f g is) z
@@ -138,7 +141,8 @@ module _ {A : Type 0} (R : CommRing A) (O : A → Type 0) (𝓞 : IsSubring R.op
             let u = k.unit in
             let u' = v.exact.unit in
             let e : (x : A) → u ⊗ z ⊗ x ⊗ u' ⊗ v.member ≡ u ⊗ (u' ⊗ v.member ⊗ x) ⊗ z
-            = λ x. ring R (u ∷ u' ∷ v.member ∷ x ∷ z ∷ []) λ q h. simp (reads, q, h 0, h 1, h 2, h 3, h 4) (q.equal _ _ refl) in
+            = λ x. ring R (u ∷ u' ∷ v.member ∷ x ∷ z ∷ []) λ q h. simp (reads, q, h 0, h 1, h 2, h 3, h 4)
+            (q.equal _ _ refl) in
             record {
               member = u ⊗ (u' ⊗ v.member ⊗ th);
               member_in = (
@@ -187,7 +191,9 @@ module _ {A : Type 0} (R : CommRing A) (O : A → Type 0) (𝓞 : IsSubring R.op
           let c = d.first ⊗ r.factor in
           record {
             factor = c;
-            factor_out = outside_product R O 𝓞 (P i) (fam.prime i) _ _ (record { within = first_in; out = d.first_out }) r.factor_out;
+            factor_out =
+                outside_product R O 𝓞 (P i) (fam.prime i) _ _ (record { within = first_in; out = d.first_out })
+                r.factor_out;
             good =
                 All-cons (λ j. SameSet (P j) (P i) ⊎ P j c) j js
                 (inr (subst (P j) (R.mul_comm _ _) ((fam.prime j).ideal.scale_in _ _ r.factor_out.within d.first_in)))
@@ -241,20 +247,24 @@ module _ {A : Type 0} (R : CommRing A) (O : A → Type 0) (𝓞 : IsSubring R.op
     abbrev Apart : I → I → Type 0
     Apart i j = Different (P i) (P j)
 
-    exact_sum : (js : List I) → Distinct P js → All (λ j. ((i : I) → Good i j) → Eq j (sum_of js) (f j) (g j)) js
+    exact_sum : (js : List I) → AreDistinctPrimes P js
+        → All (λ j. ((i : I) → Good i j) → Eq j (sum_of js) (f j) (g j)) js
     unfolding sum_of
     exact_sum [] h = All-nil (λ j. ((i : I) → Good i j) → Eq j (sum_of []) (f j) (g j))
     exact_sum (i ∷ js) h =
         All-cons (λ j. ((k : I) → Good k j) → Eq j (sum_of (i ∷ js)) (f j) (g j)) i js
         (λ good.
         eq_sum R O 𝓞 (P i) (fam.prime i) (fam.pair i) (term i) (sum_of js) (f i) (g i) (own i)
-        (others i good js (All-weaker (λ j. Different (P i) (P j)) (λ j. Different (P j) (P i)) (turn i) js (pairs_head Apart i js h))))
+        (others i good js (All-weaker (λ j. Different (P i) (P j)) (λ j. Different (P j) (P i)) (turn i) js
+        (pairs_head Apart i js h))))
         (All-weaker (λ j. Different (P i) (P j) × (((k : I) → Good k j) → Eq j (sum_of js) (f j) (g j)))
         (λ j. ((k : I) → Good k j) → Eq j (sum_of (i ∷ js)) (f j) (g j))
         (λ j k good.
         subst (λ x. Eq j x (f j) (g j)) (R.add_comm _ _)
-        (eq_sum R O 𝓞 (P j) (fam.prime j) (fam.pair j) (sum_of js) (term i) (f j) (g j) (k.1 good) (other i j k.0 (good i))))
-        js (both (λ j. Different (P i) (P j)) (λ j. ((k : I) → Good k j) → Eq j (sum_of js) (f j) (g j)) js (pairs_head Apart i js h) (exact_sum js (pairs_tail Apart i js h))))
+        (eq_sum R O 𝓞 (P j) (fam.prime j) (fam.pair j) (sum_of js) (term i) (f j) (g j) (k.1 good)
+        (other i j k.0 (good i))))
+        js (both (λ j. Different (P i) (P j)) (λ j. ((k : I) → Good k j) → Eq j (sum_of js) (f j) (g j)) js
+        (pairs_head Apart i js h) (exact_sum js (pairs_tail Apart i js h))))
       where
         turn : (i j : I) → Different (P i) (P j) → Different (P j) (P i)
         turn i j d = record {
@@ -267,19 +277,21 @@ module _ {A : Type 0} (R : CommRing A) (O : A → Type 0) (𝓞 : IsSubring R.op
         }
 
     -- one element with the least value at each prime of the list
-    pub approximate : Distinct P is → (z : A) × M z × All (λ j. Eq j z (f j) (g j)) is
+    pub approximate : AreDistinctPrimes P is → (z : A) × M z × All (λ j. Eq j z (f j) (g j)) is
     approximate d =
         let good = exchange Good is (λ i. (separator is i).good) in (
           sum_of is,
           sum_in is,
           All-weaker (λ j. ((i : I) → Good i j) × (((i : I) → Good i j) → Eq j (sum_of is) (f j) (g j)))
               (λ j. Eq j (sum_of is) (f j) (g j)) (λ j k. k.1 k.0) is
-              (both (λ j. (i : I) → Good i j) (λ j. ((i : I) → Good i j) → Eq j (sum_of is) (f j) (g j)) is good (exact_sum is d)),
+              (both (λ j. (i : I) → Good i j) (λ j. ((i : I) → Good i j) → Eq j (sum_of is) (f j) (g j)) is good
+              (exact_sum is d)),
         )
 
   -- the product of a list has an element with exactly the exponents of the list
-  pub approximate_product : (is : List I) → Distinct P is → (l : List (PrimeExponent I))
-      → (z : A) × IdealProduct R.ops O P l z × All (λ i. Eq i z (up_at R O 𝓞 I P fam i l) (down_at R O 𝓞 I P fam i l)) is
+  pub approximate_product : (is : List I) → AreDistinctPrimes P is → (l : List (PrimeExponent I))
+      → (z : A) × IdealProduct R.ops O P l z
+      × All (λ i. Eq i z (up_at R O 𝓞 I P fam i l) (down_at R O 𝓞 I P fam i l)) is
   approximate_product is d l =
       approximate is (IdealProduct R.ops O P l) (ideal_product_module R O 𝓞 I P fam l) up down best
       (λ i z m. value_of_ideal_product R O 𝓞 I P fam i l z m) d
@@ -290,7 +302,8 @@ module _ {A : Type 0} (R : CommRing A) (O : A → Type 0) (𝓞 : IsSubring R.op
       down : I → ℕ
       down i = down_at R O 𝓞 I P fam i l
 
-      best : (i : I) → (x : A) × IdealProduct R.ops O P l x × Eq i x (up_at R O 𝓞 I P fam i l) (down_at R O 𝓞 I P fam i l)
+      best : (i : I) → (x : A) × IdealProduct R.ops O P l x
+          × Eq i x (up_at R O 𝓞 I P fam i l) (down_at R O 𝓞 I P fam i l)
       best i =
           let 𝓟 = fam.prime i in
           let t = fam.pair i in
@@ -302,11 +315,12 @@ module _ {A : Type 0} (R : CommRing A) (O : A → Type 0) (𝓞 : IsSubring R.op
             r.factor ⊗ th,
             r.multiple_in,
             eq_reindex R O 𝓞 (P i) 𝓟 t (r.factor ⊗ th) (0 + m) (0 + n) m n (omega arith)
-                (eq_product R O 𝓞 (P i) 𝓟 t r.factor th 0 0 m n (eq_of_outside R O 𝓞 (P i) 𝓟 t r.factor r.factor_in) exact),
+                (eq_product R O 𝓞 (P i) 𝓟 t r.factor th 0 0 m n (eq_of_outside R O 𝓞 (P i) 𝓟 t r.factor r.factor_in)
+                exact),
           )
 
-  -- an element with the exponents of a list at all primes of a system, in the product: the product with the opposite list is an
-  -- ideal that has an element 1 - p·s, so that a multiple of z is 1 - p·s
+  -- an element with the exponents of a list at all primes of a system, in the product: the product with the opposite
+  -- list is an ideal that has an element 1 - p·s, so that a multiple of z is 1 - p·s
   pub cofactor_of_exact : (is : List I) → IsSystem R.ops O p I P is → (l l' : List (PrimeExponent I))
       → ((i : I) → Up' i l' ≡ Down' i l) → ((i : I) → Down' i l' ≡ Up' i l)
       → ((a b : A) → IdealProduct R.ops O P l a → IdealProduct R.ops O P l' b → O (a ⊗ b))
@@ -333,7 +347,8 @@ module _ {A : Type 0} (R : CommRing A) (O : A → Type 0) (𝓞 : IsSubring R.op
 
       escapes : All (λ i. Escapes (λ u. (y : A) × IdealProduct R.ops O P l' y × (u ≡ z ⊗ y)) (P i)) is
       escapes =
-          All-weaker (λ i. Eq i z (Up' i l) (Down' i l)) (λ i. Escapes (λ u. (y : A) × IdealProduct R.ops O P l' y × (u ≡ z ⊗ y)) (P i))
+          All-weaker (λ i. Eq i z (Up' i l) (Down' i l))
+          (λ i. Escapes (λ u. (y : A) × IdealProduct R.ops O P l' y × (u ≡ z ⊗ y)) (P i))
           (λ i k.
           let 𝓟 = fam.prime i in
           let t = fam.pair i in
@@ -348,7 +363,8 @@ module _ {A : Type 0} (R : CommRing A) (O : A → Type 0) (𝓞 : IsSubring R.op
           = λ a b x. ring R (a ∷ b ∷ z ∷ x ∷ []) λ q h. simp (reads, q, h 0, h 1, h 2, h 3) (q.equal _ _ refl) in
           record {
             member = r.factor ⊗ (k.unit ⊗ z ⊗ th);
-            member_in = (k.unit ⊗ (r.factor ⊗ th), 𝓙.scale_in _ _ k.unit_out.within r.multiple_in, e r.factor k.unit th);
+            member_in =
+                (k.unit ⊗ (r.factor ⊗ th), 𝓙.scale_in _ _ k.unit_out.within r.multiple_in, e r.factor k.unit th);
             out = s.out;
           })
           is exact

@@ -1,4 +1,5 @@
--- The primes of local orthogonal idempotents modulo p are invertible where O has the multipliers of their inverses: they are a family.
+-- The primes of local orthogonal idempotents modulo p are invertible where O has the multipliers of their inverses:
+-- they are a family.
 use Rattle.ring_theory.proofs.Local.{power_in}
 use Rattle.std.proofs.Common.{◌≡◌, ◌⊎◌, inl, inr, ℕ, zero, suc, List, [], ◌∷◌, refl, subst, All}
 use Rattle.std.proofs.lemmas.List.Elements.{All-nil, All-cons, All-head, All-tail}
@@ -18,8 +19,10 @@ use Rattle.prime_theory.proofs.Idempotents.{idempotent_prime, idempotent_compare
 
 module _ {A : Type 0} (R : CommRing A) (O : A → Type 0) (𝓞 : IsSubring R.ops O) (p : A) (p_in : O p)
     (I : Type 0) (e : I → A) (is : List I) (dec : IsDecomposition R.ops O p I e is)
-    (r : A) (inverse_of_p : R.ops.◌⊗◌ r p ≡ R.𝟙) (decide : (x : A) → O x → Multiple R.ops p O x ⊎ (¬ (Multiple R.ops p O x)))
-    (multipliers : (i : I) (z : A) → Colon R.ops (Inverse R.ops O (PrimeAt R.ops O p (e i))) (Inverse R.ops O (PrimeAt R.ops O p (e i))) z
+    (r : A) (inverse_of_p : R.ops.◌⊗◌ r p ≡ R.𝟙)
+    (decide : (x : A) → O x → Multiple R.ops p O x ⊎ (¬ (Multiple R.ops p O x)))
+    (multipliers : (i : I) (z : A)
+    → Colon R.ops (Inverse R.ops O (PrimeAt R.ops O p (e i))) (Inverse R.ops O (PrimeAt R.ops O p (e i))) z
     → O (R.ops.◌⊗◌ p z) → O z)
     (gens : (i : I) → TraceGenerators R.ops O (PrimeAt R.ops O p (e i))) where
   infixl 65 ◌⊕◌
@@ -71,8 +74,10 @@ module _ {A : Type 0} (R : CommRing A) (O : A → Type 0) (𝓞 : IsSubring R.op
       )
 
   -- all members of a list are killed, or one is outside the prime
-  scan : (i : I) (cs : List A) → All (Product R.ops (PrimeAt R.ops O p (e i)) (Inverse R.ops O (PrimeAt R.ops O p (e i)))) cs
-      → All (λ c. O c × ((n : ℕ) × Multiple R.ops p O (e i ⊗ pow R.ops c n))) cs ⊎ ((c : A) × T i c × (¬ (PrimeAt R.ops O p (e i) c)))
+  scan : (i : I) (cs : List A)
+      → All (Product R.ops (PrimeAt R.ops O p (e i)) (Inverse R.ops O (PrimeAt R.ops O p (e i)))) cs
+      → All (λ c. O c × ((n : ℕ) × Multiple R.ops p O (e i ⊗ pow R.ops c n))) cs
+      ⊎ ((c : A) × T i c × (¬ (PrimeAt R.ops O p (e i) c)))
   scan i [] h = inl (All-nil (λ c. O c × ((n : ℕ) × Multiple R.ops p O (e i ⊗ pow R.ops c n))))
   scan i (c ∷ cs) h = go ((prime i).decide c c_in) (scan i cs (All-tail (T i) c cs h))
     where
@@ -80,16 +85,20 @@ module _ {A : Type 0} (R : CommRing A) (O : A → Type 0) (𝓞 : IsSubring R.op
       c_in = (𝓣 i).within c (All-head (T i) c cs h)
 
       go : PrimeAt R.ops O p (e i) c ⊎ (¬ (PrimeAt R.ops O p (e i) c))
-          → All (λ c. O c × ((n : ℕ) × Multiple R.ops p O (e i ⊗ pow R.ops c n))) cs ⊎ ((c : A) × T i c × (¬ (PrimeAt R.ops O p (e i) c)))
-          → All (λ c. O c × ((n : ℕ) × Multiple R.ops p O (e i ⊗ pow R.ops c n))) (c ∷ cs) ⊎ ((c : A) × T i c × (¬ (PrimeAt R.ops O p (e i) c)))
+          → All (λ c. O c × ((n : ℕ) × Multiple R.ops p O (e i ⊗ pow R.ops c n))) cs
+          ⊎ ((c : A) × T i c × (¬ (PrimeAt R.ops O p (e i) c)))
+          → All (λ c. O c × ((n : ℕ) × Multiple R.ops p O (e i ⊗ pow R.ops c n))) (c ∷ cs)
+          ⊎ ((c : A) × T i c × (¬ (PrimeAt R.ops O p (e i) c)))
       go (inr n) s = inr (c, All-head (T i) c cs h, n)
-      go (inl m) (inl s) = inl (All-cons (λ c. O c × ((n : ℕ) × Multiple R.ops p O (e i ⊗ pow R.ops c n))) c cs (c_in, killed i c m) s)
+      go (inl m) (inl s) =
+          inl (All-cons (λ c. O c × ((n : ℕ) × Multiple R.ops p O (e i ⊗ pow R.ops c n))) c cs (c_in, killed i c m) s)
       go (inl m) (inr s) = inr s
 
   pub idempotent_invertible : (i : I) → Invertible R.ops O (PrimeAt R.ops O p (e i))
   idempotent_invertible i = go (scan i (gens i).list (gens i).members)
     where
-      go : All (λ c. O c × ((n : ℕ) × Multiple R.ops p O (e i ⊗ pow R.ops c n))) (gens i).list ⊎ ((c : A) × T i c × (¬ (PrimeAt R.ops O p (e i) c)))
+      go : All (λ c. O c × ((n : ℕ) × Multiple R.ops p O (e i ⊗ pow R.ops c n))) (gens i).list
+          ⊎ ((c : A) × T i c × (¬ (PrimeAt R.ops O p (e i) c)))
           → Invertible R.ops O (PrimeAt R.ops O p (e i))
       go (inl h) =
           absurd

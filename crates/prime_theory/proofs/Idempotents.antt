@@ -68,7 +68,8 @@ module _ {A : Type 0} (R : CommRing A) (O : A → Type 0) (𝓞 : IsSubring R.op
       Local u = Rad (u ⊗ e i) ⊎ ((c : A) × O c × pO (c ⊗ (u ⊗ e i) ⊕ ⊖ (e i)))
 
       unit : (u : A) → O u → ¬ (PrimeAt R.ops O p (e i) u)
-          → Rad (u ⊗ e i) ⊎ ((c : A) × O c × pO (c ⊗ (u ⊗ e i) ⊕ ⊖ (e i))) → InverseModulo R.ops O (PrimeAt R.ops O p (e i)) u
+          → Rad (u ⊗ e i) ⊎ ((c : A) × O c × pO (c ⊗ (u ⊗ e i) ⊕ ⊖ (e i)))
+          → InverseModulo R.ops O (PrimeAt R.ops O p (e i)) u
       unit u u_in n (inl h) = absurd (n (record { within = u_in; nilpotent = h }))
       unit u u_in n (inr h) =
           let f : (c x : A) → c ⊗ (u ⊗ x) ⊕ ⊖ x ≡ (c ⊗ u ⊕ ⊖ 𝟙) ⊗ x
@@ -123,7 +124,11 @@ module _ {A : Type 0} (R : CommRing A) (O : A → Type 0) (𝓞 : IsSubring R.op
   over [] = All-nil (λ i. PrimeAt R.ops O p (e i) p)
   over (j ∷ js) =
       All-cons (λ i. PrimeAt R.ops O p (e i) p) j js
-      (record { within = p_in; nilpotent = rad_of _ (record { quotient = e j; quotient_in = dec.within j; is = refl }) })
+      (record {
+        within = p_in;
+        nilpotent = rad_of _
+            (record { quotient = e j; quotient_in = dec.within j; is = refl });
+      })
       (over js)
 
   pub idempotent_system : IsSystem R.ops O p I (λ i. PrimeAt R.ops O p (e i)) is

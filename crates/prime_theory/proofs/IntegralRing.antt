@@ -19,17 +19,20 @@ module _ {A : Type 0} (R : CommRing A) (S : A → Type 0) (𝓢 : IsSubring R.op
   open R use {𝟘, 𝟙, ◌⊕◌, ◌⊗◌, ⊖◌}
 
   -- a multiplier of a span that has 1
-  pub integral_of_multiplier : (bs : List A) (z : A) → Span R.ops S bs 𝟙 → ((y : A) → Span R.ops S bs y → Span R.ops S bs (z ⊗ y))
+  pub integral_of_multiplier : (bs : List A) (z : A) → Span R.ops S bs 𝟙
+      → ((y : A) → Span R.ops S bs y → Span R.ops S bs (z ⊗ y))
       → IsIntegral R.ops S z
   integral_of_multiplier bs z one f =
       let up : (y : A) → Span R.ops S bs y → Span R.ops S (𝟙 ∷ bs) y = span_tail R S 𝓢 𝟙 bs in
       integral R S 𝓢 z bs
       (All-cons (λ b. Span R.ops S (𝟙 ∷ bs) (z ⊗ b)) 𝟙 bs (up _ (f 𝟙 one))
-      (All-weaker (Span R.ops S bs) (λ b. Span R.ops S (𝟙 ∷ bs) (z ⊗ b)) (λ b m. up _ (f b m)) bs (span_members R S 𝓢 bs)))
+      (All-weaker (Span R.ops S bs) (λ b. Span R.ops S (𝟙 ∷ bs) (z ⊗ b)) (λ b m. up _ (f b m)) bs
+      (span_members R S 𝓢 bs)))
 
   -- a multiplier of a span that has an element with an inverse
   -- the members of a ring that finitely many elements span are integral
-  pub integral_of_order : (O : A → Type 0) → IsSubring R.ops O → (bs : List A) → ((z : A) → O z → Span R.ops S bs z) → ((z : A) → Span R.ops S bs z → O z)
+  pub integral_of_order : (O : A → Type 0) → IsSubring R.ops O → (bs : List A) → ((z : A) → O z → Span R.ops S bs z)
+      → ((z : A) → Span R.ops S bs z → O z)
       → (z : A) → O z → IsIntegral R.ops S z
   integral_of_order O 𝓞 bs to from z h =
       integral_of_multiplier bs z (to 𝟙 𝓞.one_in) (λ y m. to (z ⊗ y) (𝓞.product_in z y h (from y m)))
@@ -75,7 +78,8 @@ module _ {A : Type 0} (R : CommRing A) (S : A → Type 0) (𝓢 : IsSubring R.op
   span_low z (suc n) =
       All-cons (Low R.ops S z (suc n)) 𝟙 (map (R.ops.◌⊗◌ z) (powers z n)) (low_has R S 𝓢 z n 𝟙 𝓢.one_in)
       (All-map (Low R.ops S z (suc n)) (R.ops.◌⊗◌ z) (powers z n)
-      (All-weaker (Low R.ops S z n) (λ b. Low R.ops S z (suc n) (z ⊗ b)) (low_shift R S 𝓢 z n) (powers z n) (span_low z n)))
+      (All-weaker (Low R.ops S z n) (λ b. Low R.ops S z (suc n) (z ⊗ b)) (low_shift R S 𝓢 z n) (powers z n)
+      (span_low z n)))
 
   -- the ring S[z, w], z and w integral, and its multipliers
 
@@ -106,7 +110,8 @@ module _ {A : Type 0} (R : CommRing A) (S : A → Type 0) (𝓢 : IsSubring R.op
         let back : (y : A) → Span R.ops S (products R.ops bs cs) y → Both y
         = λ y b. spans_into_product y ((product_of_spans R S 𝓢 bs cs y).1 b) in
         integral_of_multiplier (products R.ops bs cs) v
-        (into 𝟙 (subst Both (R.mul_one 𝟙) (product_member R S 𝓢 _ _ 𝟙 𝟙 (low_one z m h.positive) (low_one w n k.positive))))
+        (into 𝟙 (subst Both (R.mul_one 𝟙)
+        (product_member R S 𝓢 _ _ 𝟙 𝟙 (low_one z m h.positive) (low_one w n k.positive))))
         (λ y b. into _ (f y (back y b)))
       where
         product_into_spans : (y : A) → Both y → Product R.ops (Span R.ops S (powers z m)) (Span R.ops S (powers w n)) y
@@ -117,7 +122,8 @@ module _ {A : Type 0} (R : CommRing A) (S : A → Type 0) (𝓢 : IsSubring R.op
 
         spans_into_product : (y : A) → Product R.ops (Span R.ops S (powers z m)) (Span R.ops S (powers w n)) y → Both y
         spans_into_product =
-            Rattle.prime_theory.proofs.Products.product_into R (Span R.ops S (powers z m)) (Span R.ops S (powers w n)) Both
+            Rattle.prime_theory.proofs.Products.product_into R (Span R.ops S (powers z m))
+            (Span R.ops S (powers w n)) Both
             (additive_of_module R S Both both_module)
             (λ a b i j.
             product_member R S 𝓢 (Low R.ops S z m) (Low R.ops S w n) a b
@@ -128,17 +134,20 @@ module _ {A : Type 0} (R : CommRing A) (S : A → Type 0) (𝓢 : IsSubring R.op
     both_first =
         product_universal R (Low R.ops S z m) (Low R.ops S w n) Both (additive_of_module R S Both both_module) z
         (λ a b i j. subst Both (R.mul_assoc z a b)
-        (product_member R S 𝓢 (Low R.ops S z m) (Low R.ops S w n) (z ⊗ a) b (low_by_root R S 𝓢 z m (power_low R S 𝓢 z h) a i) j))
+        (product_member R S 𝓢 (Low R.ops S z m) (Low R.ops S w n) (z ⊗ a) b
+        (low_by_root R S 𝓢 z m (power_low R S 𝓢 z h) a i) j))
 
     both_second : (y : A) → Both y → Both (w ⊗ y)
     both_second =
         product_universal R (Low R.ops S z m) (Low R.ops S w n) Both (additive_of_module R S Both both_module) w
         (λ a b i j. subst Both (mul_left_comm R a w b)
-        (product_member R S 𝓢 (Low R.ops S z m) (Low R.ops S w n) a (w ⊗ b) i (low_by_root R S 𝓢 w n (power_low R S 𝓢 w k) b j)))
+        (product_member R S 𝓢 (Low R.ops S z m) (Low R.ops S w n) a (w ⊗ b) i
+        (low_by_root R S 𝓢 w n (power_low R S 𝓢 w k) b j)))
 
     pub integral_sum : IsIntegral R.ops S (z ⊕ w)
     integral_sum =
-        multiplier (z ⊕ w) (λ y b. subst Both (sym (add_mul R _ _ _)) (both_module.sum_in _ _ (both_first y b) (both_second y b)))
+        multiplier (z ⊕ w) (λ y b. subst Both (sym (add_mul R _ _ _))
+        (both_module.sum_in _ _ (both_first y b) (both_second y b)))
 
     pub integral_product : IsIntegral R.ops S (z ⊗ w)
     integral_product = multiplier (z ⊗ w) (λ y b. subst Both (sym (R.mul_assoc _ _ _)) (both_first _ (both_second y b)))
@@ -204,7 +213,8 @@ module _ {A : Type 0} (R : CommRing A) (S : A → Type 0) (𝓢 : IsSubring R.op
     v_in =
         low_sum R S 𝓢 s h.degree _ _ (L_has 𝟙 𝓢.one_in)
         (low_neg R S 𝓢 s h.degree _
-        (low_scale R S 𝓢 s h.degree _ _ c_in (subst L (R.mul_one s) (low_by_root R S 𝓢 s h.degree (power_low R S 𝓢 s h) 𝟙 (L_has 𝟙 𝓢.one_in)))))
+        (low_scale R S 𝓢 s h.degree _ _ c_in
+        (subst L (R.mul_one s) (low_by_root R S 𝓢 s h.degree (power_low R S 𝓢 s h) 𝟙 (L_has 𝟙 𝓢.one_in)))))
 
     -- c·b + v·x with b in S and x in S[s]
     record Reduced (a : A) : Type 0 where
@@ -239,9 +249,11 @@ module _ {A : Type 0} (R : CommRing A) (S : A → Type 0) (𝓢 : IsSubring R.op
           cofactor_in =
               low_sum R S 𝓢 s h.degree _ _ r.cofactor_in
               (low_neg R S 𝓢 s h.degree _
-              (low_sum R S 𝓢 s h.degree _ _ (L_has _ (𝓢.product_in _ _ c_in r.base_in)) (L_times _ _ v_in r.cofactor_in)));
+              (low_sum R S 𝓢 s h.degree _ _ (L_has _ (𝓢.product_in _ _ c_in r.base_in))
+              (L_times _ _ v_in r.cofactor_in)));
           is =
-              ap (λ x. c ⊗ pow R.ops c n ⊗ x) k.is ∙ reduce_step c s v (pow R.ops c n) k.constant k.rest r.base r.cofactor refl r.is;
+              ap (λ x. c ⊗ pow R.ops c n ⊗ x) k.is
+              ∙ reduce_step c s v (pow R.ops c n) k.constant k.rest r.base r.cofactor refl r.is;
         }
 
     -- (c·s)^n is 1 up to a multiple of v

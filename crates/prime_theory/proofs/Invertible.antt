@@ -78,7 +78,8 @@ module _ {A : Type 0} (R : CommRing A) (O : A → Type 0) (𝓞 : IsSubring R.op
       pub out : ¬ (C (multiplier ⊗ b))
       pub kills : All (λ c. C (multiplier ⊗ b ⊗ c)) cs
 
-    pub annihilator : (b : A) → O b → ¬ (C b) → (cs : List A) → All (λ c. O c × ((n : ℕ) × C (b ⊗ pow R.ops c n))) cs → Annihilator b cs
+    pub annihilator : (b : A) → O b → ¬ (C b) → (cs : List A) → All (λ c. O c × ((n : ℕ) × C (b ⊗ pow R.ops c n))) cs
+        → Annihilator b cs
     annihilator b b_in h [] k = record {
       multiplier = 𝟙;
       multiplier_in = 𝓞.one_in;
@@ -102,7 +103,8 @@ module _ {A : Type 0} (R : CommRing A) (O : A → Type 0) (𝓞 : IsSubring R.op
               (All-weaker (λ x. C (r.multiplier ⊗ b ⊗ x)) (λ x. C (m ⊗ b ⊗ x))
               (λ x j.
               let e : s.multiplier ⊗ (r.multiplier ⊗ b ⊗ x) ≡ m ⊗ b ⊗ x
-              = ring R (s.multiplier ∷ r.multiplier ∷ b ∷ x ∷ []) λ q i. simp (reads, q, i 0, i 1, i 2, i 3) (q.equal _ _ refl) in
+              = ring R (s.multiplier ∷ r.multiplier ∷ b ∷ x ∷ []) λ q i. simp (reads, q, i 0, i 1, i 2, i 3)
+              (q.equal _ _ refl) in
               subst C e (𝓒.scale_in _ _ s.multiplier_in j))
               cs r.kills);
         }
@@ -120,7 +122,8 @@ module _ {A : Type 0} (R : CommRing A) (O : A → Type 0) (𝓞 : IsSubring R.op
   no_obstruction p r e M 𝓜 maximal b =
       let z = r ⊗ b.element in
       let pz : p ⊗ z ≡ b.element
-      = from_one R b.element e (ring R (p ∷ r ∷ b.element ∷ []) λ q i. simp (reads, q, i 0, i 1, i 2) (q.equal _ _ refl)) in
+      = from_one R b.element e (ring R (p ∷ r ∷ b.element ∷ []) λ q i. simp (reads, q, i 0, i 1, i 2)
+      (q.equal _ _ refl)) in
       let z_in : O z
       = maximal z
       (λ y m x n.
@@ -132,7 +135,8 @@ module _ {A : Type 0} (R : CommRing A) (O : A → Type 0) (𝓞 : IsSubring R.op
       back : (x y w : A) → b.element ⊗ (x ⊗ y) ≡ p ⊗ w → w ≡ r ⊗ b.element ⊗ y ⊗ x
       back x y w f =
           Rattle.ring_theory.proofs.Solver.from_two R (⊖ w) (⊖ r) e f
-          (ring R (p ∷ r ∷ b.element ∷ x ∷ y ∷ w ∷ []) λ q i. simp (reads, q, i 0, i 1, i 2, i 3, i 4, i 5) (q.equal _ _ refl))
+          (ring R (p ∷ r ∷ b.element ∷ x ∷ y ∷ w ∷ []) λ q i. simp (reads, q, i 0, i 1, i 2, i 3, i 4, i 5)
+          (q.equal _ _ refl))
 
   -- so, with the decision, the trace ideal has a member that is 1 modulo p
   pub unit_at : (p r : A) → r ⊗ p ≡ 𝟙 → (M : A → Type 0) → IsModule R.ops O M
@@ -149,11 +153,13 @@ module _ {A : Type 0} (R : CommRing A) (O : A → Type 0) (𝓞 : IsSubring R.op
   trace_at p p_in M 𝓜 u n w = lift R O 𝓞 p p_in _ (trace_ideal M 𝓜) u.member u.member_in u.one_modulo n w
 
   -- where M is O up to factors w, w', the trace ideal has w·w'
-  pub trace_of_local : (M : A → Type 0) (w w' : A) → ((x : A) → M x → O (w ⊗ x)) → M w' → Product R.ops M (Inverse R.ops O M) (w' ⊗ w)
+  pub trace_of_local : (M : A → Type 0) (w w' : A) → ((x : A) → M x → O (w ⊗ x)) → M w'
+      → Product R.ops M (Inverse R.ops O M) (w' ⊗ w)
   trace_of_local M w w' f m = product_member R O 𝓞 M (Inverse R.ops O M) w' w m f
 
   -- a module is invertible where its trace ideal meets each factor of one of its members
-  pub invertible_from_factors : (S : A → Type 0) (𝓢 : IsSubring R.ops S) → ((s : A) → S s → O s) → (M : A → Type 0) → IsModule R.ops O M
+  pub invertible_from_factors : (S : A → Type 0) (𝓢 : IsSubring R.ops S) → ((s : A) → S s → O s) → (M : A → Type 0)
+      → IsModule R.ops O M
       → (ps : List A) (c c' : A) → S c → S c' → c' ⊗ c ≡ 𝟙 → All S ps
       → All (Meets R S (Product R.ops M (Inverse R.ops O M))) ps
       → S (c ⊗ product R ps) → Product R.ops M (Inverse R.ops O M) (c ⊗ product R ps) → Invertible R.ops O M
@@ -182,7 +188,8 @@ module _ {A : Type 0} (R : CommRing A) (O : A → Type 0) (𝓞 : IsSubring R.op
   pub obstruction : (p : A) → O p → ((x : A) → O x → Multiple R.ops p O x ⊎ (¬ (Multiple R.ops p O x)))
       → IsIdeal R.ops O (Multiple R.ops p O) → (M : A → Type 0) (cs : List A)
       → ((y : A) → Product R.ops M (Inverse R.ops O M) y → Span R.ops O cs y)
-      → (b : A) → O b → ¬ (Multiple R.ops p O b) → All (λ c. O c × ((n : ℕ) × Multiple R.ops p O (b ⊗ pow R.ops c n))) cs
+      → (b : A) → O b → ¬ (Multiple R.ops p O b)
+      → All (λ c. O c × ((n : ℕ) × Multiple R.ops p O (b ⊗ pow R.ops c n))) cs
       → Obstruction p M
   obstruction p p_in decide 𝓒 M cs spanned b b_in out h =
       let a = annihilator (Multiple R.ops p O) 𝓒 decide b b_in out cs h in
@@ -231,7 +238,8 @@ module _ {A : Type 0} (R : CommRing A) (O : A → Type 0) (𝓞 : IsSubring R.op
       → S (c ⊗ product R ps) → Product R.ops M (Inverse R.ops O M) (c ⊗ product R ps) → Invertible R.ops O M
   admitted_invertible S 𝓢 sub N M 𝓜 ps c c' c_in c'_in e ps_in h d_in d =
       invertible_from_factors S 𝓢 sub M 𝓜 ps c c' c_in c'_in e ps_in
-      (All-weaker (λ p. PrimeTo R.ops S (N p) p × AdmittedAt S (N p) M p) (Meets R S (Product R.ops M (Inverse R.ops O M)))
+      (All-weaker (λ p. PrimeTo R.ops S (N p) p × AdmittedAt S (N p) M p)
+      (Meets R S (Product R.ops M (Inverse R.ops O M)))
       (λ p k. meets_of_admitted S (N p) p sub k.0 M 𝓜 k.1) ps h)
       d_in d
 
@@ -247,7 +255,8 @@ module _ {A : Type 0} (R : CommRing A) (O : A → Type 0) (𝓞 : IsSubring R.op
   )
 
   -- products of invertible modules
-  pub invertible_product : (M N : A → Type 0) → IsModule R.ops O M → IsModule R.ops O N → Invertible R.ops O M → Invertible R.ops O N
+  pub invertible_product : (M N : A → Type 0) → IsModule R.ops O M → IsModule R.ops O N → Invertible R.ops O M
+      → Invertible R.ops O N
       → Product R.ops (Product R.ops M N) (Product R.ops (Inverse R.ops O M) (Inverse R.ops O N)) 𝟙
   invertible_product M N 𝓜 𝓝 h k =
       let M' = Inverse R.ops O M in
@@ -256,7 +265,8 @@ module _ {A : Type 0} (R : CommRing A) (O : A → Type 0) (𝓞 : IsSubring R.op
       (subst (Product R.ops (Product R.ops M M') (Product R.ops N N')) (R.mul_one 𝟙)
       (product_member R O 𝓞 (Product R.ops M M') (Product R.ops N N') 𝟙 𝟙 h k))
 
-  pub inverse_of_product : (M N : A → Type 0) → IsModule R.ops O M → IsModule R.ops O N → Invertible R.ops O M → Invertible R.ops O N
+  pub inverse_of_product : (M N : A → Type 0) → IsModule R.ops O M → IsModule R.ops O N → Invertible R.ops O M
+      → Invertible R.ops O N
       → SameSet (Product R.ops (Inverse R.ops O M) (Inverse R.ops O N)) (Inverse R.ops O (Product R.ops M N))
   inverse_of_product M N 𝓜 𝓝 h k =
       let M' = Inverse R.ops O M in

@@ -9,7 +9,8 @@ use Rattle.prime_theory.proofs.Products.{product_into, own_module, additive_of_m
 use Rattle.prime_theory.proofs.AtPrime.{product_exchange}
 use Rattle.prime_theory.proofs.Invertible.{inverse_is_module, trace_ideal, inverse_unique}
 
-module _ {A : Type 0} (R : CommRing A) (O : A → Type 0) (𝓞 : IsSubring R.ops O) (M : A → Type 0) (𝓜 : IsModule R.ops O M)
+module _ {A : Type 0} (R : CommRing A) (O : A → Type 0) (𝓞 : IsSubring R.ops O) (M : A → Type 0)
+    (𝓜 : IsModule R.ops O M)
     (invertible : Invertible R.ops O M) where
   infixl 65 ◌⊕◌
   infixl 70 ◌⊗◌
@@ -42,17 +43,20 @@ module _ {A : Type 0} (R : CommRing A) (O : A → Type 0) (𝓞 : IsSubring R.op
   )
 
   pub integer_power_add : (a b c d : ℕ)
-      → SameSet (Product R.ops (IdealPower R.ops O M a b) (IdealPower R.ops O M c d)) (IdealPower R.ops O M (a + c) (b + d))
+      → SameSet (Product R.ops (IdealPower R.ops O M a b) (IdealPower R.ops O M c d))
+      (IdealPower R.ops O M (a + c) (b + d))
   integer_power_add a b c d z =
       let up = power_add R O 𝓞 M 𝓜 a c in
       let down = power_add R O 𝓞 M' 𝓜' b d in (
         λ h.
-            product_monotone R O 𝓞 (Product R.ops (Pw a) (Pw c)) (Product R.ops (Pw' b) (Pw' d)) (Pw (a + c)) (Pw' (b + d)) (𝓟 (a + c))
+            product_monotone R O 𝓞 (Product R.ops (Pw a) (Pw c)) (Product R.ops (Pw' b) (Pw' d)) (Pw (a + c))
+            (Pw' (b + d)) (𝓟 (a + c))
             (λ x. (up x).0) (λ x. (down x).0) z
             (product_exchange R O 𝓞 (Pw a) (Pw' b) (Pw c) (Pw' d) (𝓟 a) (𝓟' b) (𝓟 c) z h),
         λ h.
             product_exchange R O 𝓞 (Pw a) (Pw c) (Pw' b) (Pw' d) (𝓟 a) (𝓟 c) (𝓟' b) z
-            (product_monotone R O 𝓞 (Pw (a + c)) (Pw' (b + d)) (Product R.ops (Pw a) (Pw c)) (Product R.ops (Pw' b) (Pw' d))
+            (product_monotone R O 𝓞 (Pw (a + c)) (Pw' (b + d)) (Product R.ops (Pw a) (Pw c))
+            (Product R.ops (Pw' b) (Pw' d))
             (product_module R O 𝓞 (Pw a) (Pw c) (𝓟 a)) (λ x. (up x).1) (λ x. (down x).1) z h),
       )
 

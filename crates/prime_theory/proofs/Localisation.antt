@@ -29,7 +29,8 @@ module _ {A : Type 0} (R : CommRing A) (S : A → Type 0) (𝓢 : IsSubring R.op
     locally_wider L M f z h = record { factor = h.factor; factor_in = h.factor_in; multiple_in = f _ h.multiple_in }
 
     -- a subring is one locally
-    pub locally_subring : (L : A → Type 0) → IsModule R.ops S L → IsSubring R.ops L → IsSubring R.ops (Locally R.ops N L)
+    pub locally_subring : (L : A → Type 0) → IsModule R.ops S L → IsSubring R.ops L
+        → IsSubring R.ops (Locally R.ops N L)
     locally_subring L 𝓛 𝓞 =
         let 𝓜 = locally_module R S 𝓢 N p 𝓝 L 𝓛 in
         record {
@@ -130,7 +131,8 @@ module _ {A : Type 0} (R : CommRing A) (S : A → Type 0) (𝓢 : IsSubring R.op
         zero_in = (𝓢.zero_in, subst L (ring R (z ∷ []) λ q x. simp (reads, q, x 0) (q.equal _ _ refl)) 𝓛.zero_in);
         sum_in = λ a b m n. (
           𝓢.sum_in _ _ m.0 n.0,
-          subst L (ring R (a ∷ b ∷ z ∷ []) λ q x. simp (reads, q, x 0, x 1, x 2) (q.equal _ _ refl)) (𝓛.sum_in _ _ m.1 n.1),
+          subst L (ring R (a ∷ b ∷ z ∷ []) λ q x. simp (reads, q, x 0, x 1, x 2) (q.equal _ _ refl))
+              (𝓛.sum_in _ _ m.1 n.1),
         );
         scale_in = λ s a m n. (𝓢.product_in _ _ m n.0, subst L (sym (R.mul_assoc _ _ _)) (𝓛.scale_in _ _ m n.1));
       } in

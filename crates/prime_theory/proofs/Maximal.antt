@@ -16,11 +16,13 @@ module _ {A : Type 0} (R : CommRing A) (S : A → Type 0) (𝓢 : IsSubring R.op
   open R use {𝟘, 𝟙, ◌⊕◌, ◌⊗◌, ⊖◌}
 
   module _ (N : A → Type 0) (p : A) (𝓝 : PrimeTo R.ops S N p) (Int : A → Type 0) where
-    pub maximal_of_locally : (O : A → Type 0) → IsModule R.ops S O → ((z : A) → Int z → Locally R.ops N O z) → MaximalAt R.ops p Int O
+    pub maximal_of_locally : (O : A → Type 0) → IsModule R.ops S O → ((z : A) → Int z → Locally R.ops N O z)
+        → MaximalAt R.ops p Int O
     maximal_of_locally O 𝓞 f z n h m =
         let l = f z h in two_denominators R S 𝓢 N p 𝓝 O 𝓞 l.factor z n l.factor_in l.multiple_in m
 
-    -- where integral elements are closed under multiples by N and have denominators, maximal at p means integral elements locally
+    -- where integral elements are closed under multiples by N and have denominators, maximal at p means integral
+    -- elements locally
     pub maximal_iff_locally : (O : A → Type 0) → IsModule R.ops S O → ((w z : A) → N w → Int z → Int (w ⊗ z))
         → ((z : A) → Int z → Denominator R.ops N O p z)
         → MaximalAt R.ops p Int O ↔ ((z : A) → Int z → Locally R.ops N O z)
@@ -31,7 +33,8 @@ module _ {A : Type 0} (R : CommRing A) (S : A → Type 0) (𝓢 : IsSubring R.op
             factor = d.cofactor;
             factor_in = d.cofactor_in;
             multiple_in =
-                h (d.cofactor ⊗ z) d.exponent (scale d.cofactor z d.cofactor_in m) (subst O (R.mul_assoc _ _ _) d.multiple_in);
+                h (d.cofactor ⊗ z) d.exponent (scale d.cofactor z d.cofactor_in m)
+                (subst O (R.mul_assoc _ _ _) d.multiple_in);
           },
       maximal_of_locally O 𝓞,
     )
@@ -61,7 +64,8 @@ module _ {A : Type 0} (R : CommRing A) (S : A → Type 0) (𝓢 : IsSubring R.op
       ps h)
       m k
 
-  -- an order above O that is maximal at p and that a power of p takes into O is all integral elements that powers of p take into O
+  -- an order above O that is maximal at p and that a power of p takes into O is all integral elements that powers of p
+  -- take into O
   pub maximal_overring : (p : A) (Int O O' : A → Type 0) → ((z : A) → O z → O' z) → ((z : A) → O' z → Int z)
       → (n : ℕ) → ((z : A) → O' z → O (pow R.ops p n ⊗ z)) → MaximalAt R.ops p Int O'
       → (z : A) → O' z ↔ (Int z × ((a : ℕ) × O (pow R.ops p a ⊗ z)))

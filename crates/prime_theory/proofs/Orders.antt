@@ -75,7 +75,8 @@ module _ {A : Type 0} (R : CommRing A) (O : A → Type 0) (𝓞 : IsSubring R.op
   loop : (xs : List A) (bound : ℕ) → ((m : ℕ) → All (λ x. Ge x m 0) xs → m ≤ bound)
       → (fuel m : ℕ) → m + fuel ≡ suc bound → All (λ x. O (x ⊗ th m 0)) xs → LeastValue xs
   loop xs bound f zero m e h =
-      absurd (let l : m ≤ bound = f m (All-weaker (λ x. O (x ⊗ th m 0)) (λ x. Ge x m 0) (ge_here m) xs h) in omega arith)
+      absurd (let l : m ≤ bound = f m (All-weaker (λ x. O (x ⊗ th m 0)) (λ x. Ge x m 0) (ge_here m) xs h) in
+      omega arith)
   loop xs bound f (suc fuel) m e h = go (scan m xs h) (loop xs bound f fuel (suc m) (omega arith))
     where
       go : All (λ x. P (x ⊗ th m 0)) xs ⊎ Any (λ x. Outside O P (x ⊗ th m 0)) xs
@@ -91,10 +92,12 @@ module _ {A : Type 0} (R : CommRing A) (O : A → Type 0) (𝓞 : IsSubring R.op
         some = any_weaker (λ x. Outside O P (x ⊗ th m 0)) (λ x. Eq x m 0) (eq_here m) xs r;
       }
 
-  pub least_value : (xs : List A) (bound : ℕ) → All O xs → ((m : ℕ) → All (λ x. Ge x m 0) xs → m ≤ bound) → LeastValue xs
+  pub least_value : (xs : List A) (bound : ℕ) → All O xs → ((m : ℕ) → All (λ x. Ge x m 0) xs → m ≤ bound)
+      → LeastValue xs
   least_value xs bound h f =
       loop xs bound f (suc bound) 0 (zero-add (suc bound))
-      (All-weaker O (λ x. O (x ⊗ th 0 0)) (λ x k. subst O (sym (ap (λ y. x ⊗ y) (theta_zero R t g) ∙ R.mul_one x)) k) xs h)
+      (All-weaker O (λ x. O (x ⊗ th 0 0)) (λ x k. subst O (sym (ap (λ y. x ⊗ y) (theta_zero R t g) ∙ R.mul_one x)) k)
+      xs h)
 
   -- the bound comes from one element of the span
   pub least_value_of_span : (xs : List A) (a : A) (bound : ℕ) → All O xs → Span R.ops O xs a
@@ -140,7 +143,8 @@ module _ {A : Type 0} (R : CommRing A) (O : A → Type 0) (𝓞 : IsSubring R.op
       tau_power (suc m) = 𝓟.ideal.scale_in t _ (𝓟.ideal.within t pair.tau_in) (tau_power m)
 
   -- a quotient of a member of O by a power of p, whose value is e, has value at least 0 or an exact negative one
-  pub quotient_value : (p z : A) (e n : ℕ) → Eq p e 0 → Ge (pow R.ops p n ⊗ z) 0 0 → Ge z 0 0 ⊎ ((j : ℕ) × Eq z 0 (suc j))
+  pub quotient_value : (p z : A) (e n : ℕ) → Eq p e 0 → Ge (pow R.ops p n ⊗ z) 0 0 → Ge z 0 0
+      ⊎ ((j : ℕ) × Eq z 0 (suc j))
   quotient_value p z e n h k = go (climb R O 𝓞 P 𝓟 pair (n * e) z 0 (n * e) start)
     where
       start : Ge z 0 (n * e)
@@ -148,7 +152,8 @@ module _ {A : Type 0} (R : CommRing A) (O : A → Type 0) (𝓞 : IsSubring R.op
           ge_reindex R O 𝓞 P 𝓟 pair z (0 + n * 0) (0 + n * e) 0 (n * e) (omega arith)
           (ge_quotient R O 𝓞 P 𝓟 pair (pow R.ops p n) z 0 0 (n * e) (n * 0) (eq_power R O 𝓞 P 𝓟 pair p e 0 h n) k)
 
-      go : Ge z (n * e + 0) (n * e) ⊎ ((j : ℕ) × (j < n * e) × Eq z (j + 0) (n * e)) → Ge z 0 0 ⊎ ((j : ℕ) × Eq z 0 (suc j))
+      go : Ge z (n * e + 0) (n * e) ⊎ ((j : ℕ) × (j < n * e) × Eq z (j + 0) (n * e)) → Ge z 0 0
+          ⊎ ((j : ℕ) × Eq z 0 (suc j))
       go (inl m) = inl (ge_reindex R O 𝓞 P 𝓟 pair z (n * e + 0) (n * e) 0 0 (omega arith) m)
       go (inr m) =
           let j = m.0 in

@@ -11,7 +11,8 @@ use Rattle.ring_theory.proofs.Solver.{ring, reads, from_one}
 use Rattle.prime_theory.specs.Ideals.{IsIdeal, SameSet}
 use Rattle.prime_theory.specs.Places.{PlaceOf}
 
-module _ {A : Type 0} (R : CommRing A) (S : A → Type 0) (𝓢 : IsSubring R.ops S) (N : A → Type 0) (p : A) (𝓝 : PrimeTo R.ops S N p)
+module _ {A : Type 0} (R : CommRing A) (S : A → Type 0) (𝓢 : IsSubring R.ops S) (N : A → Type 0) (p : A)
+    (𝓝 : PrimeTo R.ops S N p)
     (O : A → Type 0) (𝓞 : IsSubring R.ops O) (base : (s : A) → S s → O s) where
   infixl 65 ◌⊕◌
   infixl 70 ◌⊗◌
@@ -20,11 +21,13 @@ module _ {A : Type 0} (R : CommRing A) (S : A → Type 0) (𝓢 : IsSubring R.op
 
   split : (a w b z : A) → a ⊗ w ⊕ b ⊗ p ≡ 𝟙 → a ⊗ (w ⊗ z) ⊕ p ⊗ (b ⊗ z) ≡ z
   split a w b z e =
-      from_one R z e (ring R (a ∷ w ∷ b ∷ z ∷ p ∷ []) λ q i. simp (reads, q, i 0, i 1, i 2, i 3, i 4) (q.equal _ _ refl))
+      from_one R z e (ring R (a ∷ w ∷ b ∷ z ∷ p ∷ []) λ q i. simp (reads, q, i 0, i 1, i 2, i 3, i 4)
+      (q.equal _ _ refl))
 
   -- the place of P over T, between S and B: the rows of P and the multiples by p of generators of B
   pub place_generators : (T : A → Type 0) (𝓣 : IsSubring R.ops T) → ((s : A) → S s → T s)
-      → (B : A → Type 0) → IsSubring R.ops B → ((t : A) → T t → B t) → ((a : A) → O a → B a) → ((z : A) → B z → Locally R.ops N O z)
+      → (B : A → Type 0) → IsSubring R.ops B → ((t : A) → T t → B t) → ((a : A) → O a → B a)
+      → ((z : A) → B z → Locally R.ops N O z)
       → (P : A → Type 0) → IsIdeal R.ops O P → P p
       → IsModule R.ops T (PlaceOf R.ops B N P)
       → (rows gens : List A) → SameSet P (Span R.ops S rows) → SameSet B (Span R.ops T gens)
@@ -40,7 +43,8 @@ module _ {A : Type 0} (R : CommRing A) (S : A → Type 0) (𝓢 : IsSubring R.op
         let second : Span R.ops T all (p ⊗ (c.right ⊗ z))
         = span_append_right R T 𝓣 rows (map (R.ops.◌⊗◌ p) gens) _
         (span_multiples R T 𝓣 p gens _ ((spanned_B _).0 (𝓑.product_in _ _ (within _ (up _ c.right_in)) h.0))) in
-        subst (Span R.ops T all) (split c.left k.factor c.right z c.is) ((span_module R T 𝓣 all).sum_in _ _ first second),
+        subst (Span R.ops T all) (split c.left k.factor c.right z c.is)
+        ((span_module R T 𝓣 all).sum_in _ _ first second),
     span_least R T 𝓣 (PlaceOf R.ops B N P) 𝓜 (rows ++ map (R.ops.◌⊗◌ p) gens)
         (All-append (PlaceOf R.ops B N P) rows (map (R.ops.◌⊗◌ p) gens)
         (All-weaker (Span R.ops S rows) (PlaceOf R.ops B N P)
@@ -68,7 +72,8 @@ module _ {A : Type 0} (R : CommRing A) (S : A → Type 0) (𝓢 : IsSubring R.op
       one : (b : A) → P b → P (𝟙 ⊗ b)
       one b m = 𝓟.scale_in 𝟙 b 𝓞.one_in m
 
-  -- the prime of a place M, the span of gens up to factors of U: w·gens, w one factor that takes them into O, and p times the rows of O
+  -- the prime of a place M, the span of gens up to factors of U: w·gens, w one factor that takes them into O, and p
+  -- times the rows of O
   pub prime_generators : (M : A → Type 0) → IsModule R.ops S M → M p → ((a b : A) → O a → M b → M (a ⊗ b))
       → (rows gens : List A) → SameSet O (Span R.ops S rows) → ((z : A) → M z → Locally R.ops N (Span R.ops S gens) z)
       → (w : A) → N w → All (λ g. M g × O (w ⊗ g)) gens
@@ -83,7 +88,8 @@ module _ {A : Type 0} (R : CommRing A) (S : A → Type 0) (𝓢 : IsSubring R.op
         let first : Span R.ops S all (c.left ⊗ (k.factor ⊗ w ⊗ z))
         = 𝓐.scale_in _ _ c.left_in
         (span_append_left R S 𝓢 (map (R.ops.◌⊗◌ w) gens) (map (R.ops.◌⊗◌ p) rows) _
-        (subst (Span R.ops S (map (R.ops.◌⊗◌ w) gens)) (turn k.factor w z) (span_multiples R S 𝓢 w gens _ k.multiple_in))) in
+        (subst (Span R.ops S (map (R.ops.◌⊗◌ w) gens)) (turn k.factor w z)
+        (span_multiples R S 𝓢 w gens _ k.multiple_in))) in
         let second : Span R.ops S all (p ⊗ (c.right ⊗ z))
         = span_append_right R S 𝓢 (map (R.ops.◌⊗◌ w) gens) (map (R.ops.◌⊗◌ p) rows) _
         (span_multiples R S 𝓢 p rows _ ((spanned_O _).0 (𝓞.product_in _ _ (base _ c.right_in) h.0))) in

@@ -16,9 +16,11 @@ use Rattle.prime_theory.proofs.Products.{product_universal, power_module, power_
 use Rattle.prime_theory.proofs.Primes.{outside_product, outside_power, comaximal_outside}
 use Rattle.prime_theory.proofs.Valuation.{theta_left, theta_right}
 
-module _ {A : Type 0} (R : CommRing A) (S : A → Type 0) (𝓢 : IsSubring R.ops S) (N : A → Type 0) (p : A) (𝓝 : PrimeTo R.ops S N p)
+module _ {A : Type 0} (R : CommRing A) (S : A → Type 0) (𝓢 : IsSubring R.ops S) (N : A → Type 0) (p : A)
+    (𝓝 : PrimeTo R.ops S N p)
     (O : A → Type 0) (𝓞 : IsSubring R.ops O) (base : (s : A) → S s → O s)
-    (B : A → Type 0) (𝓑 : IsSubring R.ops B) (whole : (a : A) → O a → B a) (locally : (z : A) → B z → Locally R.ops N O z) where
+    (B : A → Type 0) (𝓑 : IsSubring R.ops B) (whole : (a : A) → O a → B a)
+    (locally : (z : A) → B z → Locally R.ops N O z) where
   infixl 65 ◌⊕◌
   infixl 70 ◌⊗◌
   infixr 80 ⊖◌
@@ -34,16 +36,19 @@ module _ {A : Type 0} (R : CommRing A) (S : A → Type 0) (𝓢 : IsSubring R.op
   over T M f 𝓜 = record { zero_in = 𝓜.zero_in; sum_in = 𝓜.sum_in; scale_in = λ s a m n. 𝓜.scale_in s a (f s m) n }
 
   -- z is in an ideal with p that has a multiple w·z, w in N
-  divide : (T M : A → Type 0) → ((s : A) → S s → T s) → IsIdeal R.ops T M → M p → (w z : A) → N w → T z → M (w ⊗ z) → M z
+  divide : (T M : A → Type 0) → ((s : A) → S s → T s) → IsIdeal R.ops T M → M p → (w z : A) → N w → T z → M (w ⊗ z)
+      → M z
   divide T M f 𝓜 p_in w z w_in z_in h =
-      by_comaximal R S 𝓢 M (over T M f 𝓜) w p z (𝓝.comaximal w w_in) h (subst M (R.mul_comm z p) (𝓜.scale_in z p z_in p_in))
+      by_comaximal R S 𝓢 M (over T M f 𝓜) w p z (𝓝.comaximal w w_in) h
+      (subst M (R.mul_comm z p) (𝓜.scale_in z p z_in p_in))
 
   -- an inverse modulo a place, taken into O
   inverse_step : (v w u : A) (c : Comaximal R.ops S v p)
       → (w ⊗ u ⊕ ⊖ 𝟙) ⊕ ⊖ (c.right ⊗ w ⊗ u) ⊗ p ≡ c.left ⊗ (v ⊗ w) ⊗ u ⊕ ⊖ 𝟙
   inverse_step v w u c =
       from_one R (⊖ (w ⊗ u)) c.is
-      (ring R (v ∷ w ∷ u ∷ p ∷ c.left ∷ c.right ∷ []) λ q x. simp (reads, q, x 0, x 1, x 2, x 3, x 4, x 5) (q.equal _ _ refl))
+      (ring R (v ∷ w ∷ u ∷ p ∷ c.left ∷ c.right ∷ []) λ q x. simp (reads, q, x 0, x 1, x 2, x 3, x 4, x 5)
+      (q.equal _ _ refl))
 
   -- the members in O of a place with p are a prime of O, where they are decided
   module _ (M : A → Type 0) (𝓜 : IsMaximalIdeal R.ops B M) (p_in : M p) where
@@ -69,7 +74,8 @@ module _ {A : Type 0} (R : CommRing A) (S : A → Type 0) (𝓢 : IsSubring R.op
               subst M (inverse_step l.factor i.inverse u c)
                   (𝓜.ideal.sum_in _ _ i.is
                   (𝓜.ideal.scale_in _ p
-                  (𝓑.neg_in _ (𝓑.product_in _ _ (𝓑.product_in _ _ (whole _ (base _ c.right_in)) i.inverse_in) (whole u u_in)))
+                  (𝓑.neg_in _ (𝓑.product_in _ _ (𝓑.product_in _ _ (whole _ (base _ c.right_in)) i.inverse_in)
+                  (whole u u_in)))
                   p_in)),
             );
           };
@@ -143,7 +149,8 @@ module _ {A : Type 0} (R : CommRing A) (S : A → Type 0) (𝓢 : IsSubring R.op
 
   -- the valuation of a place and of its prime
   module _ (P : A → Type 0) (𝓟 : IsPrime R.ops O P) (p_in : P p) (t : Pair R.ops O P)
-      (M : A → Type 0) (𝓜 : IsIdeal R.ops B M) (to_prime : (z : A) → M z → Locally R.ops N P z) (from_prime : (z : A) → P z → M z) where
+      (M : A → Type 0) (𝓜 : IsIdeal R.ops B M) (to_prime : (z : A) → M z → Locally R.ops N P z)
+      (from_prime : (z : A) → P z → M z) where
     abbrev tau : A
     tau = t.tau
 
@@ -207,12 +214,14 @@ module _ {A : Type 0} (R : CommRing A) (S : A → Type 0) (𝓢 : IsSubring R.op
         = subst O (ap (λ x. x ⊗ h.unit) (R.mul_comm _ _))
         (subst O (sym (R.mul_assoc _ _ _)) (𝓞.product_in _ _ (N_O _ a.factor_in) l.multiple_in)) in
         let f : (x y u g : A) → x ⊗ (y ⊗ (g ⊗ (u ⊗ z))) ≡ x ⊗ y ⊗ u ⊗ z ⊗ g
-        = λ x y u g. ring R (x ∷ y ∷ u ∷ g ∷ z ∷ []) λ q i. simp (reads, q, i 0, i 1, i 2, i 3, i 4) (q.equal _ _ refl) in
+        = λ x y u g. ring R (x ∷ y ∷ u ∷ g ∷ z ∷ []) λ q i. simp (reads, q, i 0, i 1, i 2, i 3, i 4)
+        (q.equal _ _ refl) in
         record {
           unit = w ⊗ h.unit;
           unit_out = outside_down h.unit w h.unit_in h.unit_out w_in u_O;
           inside =
-              subst O (f l.factor a.factor h.unit (pow R.ops gamma m) ∙ ap (λ x. w ⊗ h.unit ⊗ z ⊗ x) (sym (theta_left R tau gamma m)))
+              subst O (f l.factor a.factor h.unit (pow R.ops gamma m)
+              ∙ ap (λ x. w ⊗ h.unit ⊗ z ⊗ x) (sym (theta_left R tau gamma m)))
               (𝓞.product_in _ _ (N_O _ l.factor_in) a.multiple_in);
         }
 
@@ -244,12 +253,14 @@ module _ {A : Type 0} (R : CommRing A) (S : A → Type 0) (𝓢 : IsSubring R.op
         = subst O (ap (λ x. x ⊗ h.unit) (R.mul_comm _ _))
         (subst O (sym (R.mul_assoc _ _ _)) (𝓞.product_in _ _ (N_O _ a.factor_in) l.multiple_in)) in
         let f : (x y u g : A) → x ⊗ (y ⊗ (u ⊗ z ⊗ g)) ≡ x ⊗ y ⊗ u ⊗ z ⊗ g
-        = λ x y u g. ring R (x ∷ y ∷ u ∷ g ∷ z ∷ []) λ q i. simp (reads, q, i 0, i 1, i 2, i 3, i 4) (q.equal _ _ refl) in
+        = λ x y u g. ring R (x ∷ y ∷ u ∷ g ∷ z ∷ []) λ q i. simp (reads, q, i 0, i 1, i 2, i 3, i 4)
+        (q.equal _ _ refl) in
         record {
           unit = w ⊗ h.unit;
           unit_out = outside_down h.unit w h.unit_in h.unit_out w_in u_O;
           inside =
-              subst O (f l.factor a.factor h.unit (pow R.ops tau m) ∙ ap (λ x. w ⊗ h.unit ⊗ z ⊗ x) (sym (theta_right R tau gamma m)))
+              subst O (f l.factor a.factor h.unit (pow R.ops tau m)
+              ∙ ap (λ x. w ⊗ h.unit ⊗ z ⊗ x) (sym (theta_right R tau gamma m)))
               (𝓞.product_in _ _ (N_O _ l.factor_in) a.multiple_in);
         }
 
@@ -262,7 +273,8 @@ module _ {A : Type 0} (R : CommRing A) (S : A → Type 0) (𝓢 : IsSubring R.op
 
       factor_of : Factor
       factor_of =
-          let c = common R S 𝓢 N p 𝓝 P (over O P base 𝓟.ideal) gens (All-weaker M (Locally R.ops N P) to_prime gens gens_in) in
+          let c = common R S 𝓢 N p 𝓝 P (over O P base 𝓟.ideal) gens
+          (All-weaker M (Locally R.ops N P) to_prime gens gens_in) in
           let W = c.factor in
           let 𝓓 : IsModule R.ops B (λ b. B (W ⊗ gamma ⊗ b)) = record {
             zero_in = subst B (sym (mul_zero R _)) 𝓑.zero_in;
@@ -276,7 +288,8 @@ module _ {A : Type 0} (R : CommRing A) (S : A → Type 0) (𝓢 : IsSubring R.op
             factor_in = c.factor_in;
             takes = λ b m.
                 span_least R B 𝓑 (λ b. B (W ⊗ gamma ⊗ b)) 𝓓 gens
-                (All-weaker (λ z. P (W ⊗ z)) (λ b. B (W ⊗ gamma ⊗ b)) (λ b k. subst B (f b) (whole _ (t.gamma_in _ k))) gens c.multiples_in)
+                (All-weaker (λ z. P (W ⊗ z)) (λ b. B (W ⊗ gamma ⊗ b))
+                (λ b k. subst B (f b) (whole _ (t.gamma_in _ k))) gens c.multiples_in)
                 b (spanned b m);
           }
 
@@ -291,7 +304,8 @@ module _ {A : Type 0} (R : CommRing A) (S : A → Type 0) (𝓢 : IsSubring R.op
           (outside_power R O 𝓞 P 𝓟 _ (N_outside W factor_of.factor_in) m)
           (outside_power R O 𝓞 P 𝓟 _ t.outside m)) in
           let f : (v x y w a : A) → v ⊗ z ⊗ x ⊗ (w ⊗ y ⊗ a) ≡ v ⊗ (w ⊗ (x ⊗ y)) ⊗ z ⊗ a
-          = λ v x y w a. ring R (v ∷ x ∷ y ∷ w ∷ a ∷ z ∷ []) λ q i. simp (reads, q, i 0, i 1, i 2, i 3, i 4, i 5) (q.equal _ _ refl) in
+          = λ v x y w a. ring R (v ∷ x ∷ y ∷ w ∷ a ∷ z ∷ []) λ q i. simp (reads, q, i 0, i 1, i 2, i 3, i 4, i 5)
+          (q.equal _ _ refl) in
           record {
             unit = u;
             unit_in = whole _ u_out.within;

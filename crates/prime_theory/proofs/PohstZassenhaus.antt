@@ -21,7 +21,8 @@ module _ {A : Type 0} (R : CommRing A) (O : A → Type 0) (𝓞 : IsSubring R.op
   -- iterated colons into an ideal
 
   module _ (C : A → Type 0) (𝓒 : IsIdeal R.ops O C) where
-    iterated_sum : (M : A → Type 0) (k : ℕ) (x y : A) → Iterated R.ops M C k x → Iterated R.ops M C k y → Iterated R.ops M C k (x ⊕ y)
+    iterated_sum : (M : A → Type 0) (k : ℕ) (x y : A) → Iterated R.ops M C k x → Iterated R.ops M C k y
+        → Iterated R.ops M C k (x ⊕ y)
     iterated_sum M zero x y h i = 𝓒.sum_in _ _ h i
     iterated_sum M (suc k) x y h i = λ v m.
         subst (Iterated R.ops M C k) (sym (add_mul R _ _ _)) (iterated_sum M k (x ⊗ v) (y ⊗ v) (h v m) (i v m))
@@ -43,7 +44,8 @@ module _ {A : Type 0} (R : CommRing A) (O : A → Type 0) (𝓞 : IsSubring R.op
       more_within : (v : A) → More v → O v
       more_within v m = subst O (sym m.is) (𝓞.sum_in _ _ (𝓞.product_in _ _ m.scalar_in y_in) (within _ m.rest_in))
 
-      more_nilpotent : (i j : ℕ) (x : A) → C (x ⊗ pow R.ops y i) → Iterated R.ops M C j x → Iterated R.ops More C (i + j) x
+      more_nilpotent : (i j : ℕ) (x : A) → C (x ⊗ pow R.ops y i) → Iterated R.ops M C j x
+          → Iterated R.ops More C (i + j) x
       more_nilpotent zero j x h k = iterated_of More more_within (0 + j) x (subst C (R.mul_one x) h)
       more_nilpotent (suc i) zero x h k = iterated_of More more_within (suc i + 0) x k
       more_nilpotent (suc i) (suc j) x h k =
@@ -75,7 +77,8 @@ module _ {A : Type 0} (R : CommRing A) (O : A → Type 0) (𝓞 : IsSubring R.op
     -- an ideal of O that is spanned by elements with powers in C has a power in C
     pub span_nilpotent : (ys : List A) → All (λ y. O y × ((n : ℕ) × C (pow R.ops y n))) ys
         → (k : ℕ) × ((v : A) → Span R.ops O ys v → O v) × Iterated R.ops (Span R.ops O ys) C k 𝟙
-    span_nilpotent [] h = (1, λ v m. subst O (sym m) 𝓞.zero_in, λ v m. subst C (sym (ap (λ x. 𝟙 ⊗ x) m ∙ mul_zero R 𝟙)) 𝓒.zero_in)
+    span_nilpotent [] h =
+        (1, λ v m. subst O (sym m) 𝓞.zero_in, λ v m. subst C (sym (ap (λ x. 𝟙 ⊗ x) m ∙ mul_zero R 𝟙)) 𝓒.zero_in)
     span_nilpotent (y ∷ ys) h =
         let Y : A → Type 0 = λ y. O y × ((n : ℕ) × C (pow R.ops y n)) in
         let first = All-head Y y ys h in
@@ -85,11 +88,13 @@ module _ {A : Type 0} (R : CommRing A) (O : A → Type 0) (𝓞 : IsSubring R.op
           more_nilpotent (Span R.ops O ys) r.1 y first.0 first.1.0 r.0 𝟙 (subst C (sym (one_mul R _)) first.1.1) r.2,
         )
 
-  iterated_narrower : (M M' C : A → Type 0) → ((v : A) → M v → M' v) → (k : ℕ) (x : A) → Iterated R.ops M' C k x → Iterated R.ops M C k x
+  iterated_narrower : (M M' C : A → Type 0) → ((v : A) → M v → M' v) → (k : ℕ) (x : A) → Iterated R.ops M' C k x
+      → Iterated R.ops M C k x
   iterated_narrower M M' C f zero x h = h
   iterated_narrower M M' C f (suc k) x h = λ v m. iterated_narrower M M' C f k (x ⊗ v) (h v (f v m))
 
-  iterated_multiple : (M C D : A → Type 0) (w : A) → ((v : A) → C v → D (w ⊗ v)) → (k : ℕ) (x : A) → Iterated R.ops M C k x
+  iterated_multiple : (M C D : A → Type 0) (w : A) → ((v : A) → C v → D (w ⊗ v)) → (k : ℕ) (x : A)
+      → Iterated R.ops M C k x
       → Iterated R.ops M D k (w ⊗ x)
   iterated_multiple M C D w f zero x h = f x h
   iterated_multiple M C D w f (suc k) x h = λ v m.
@@ -124,7 +129,8 @@ module _ {A : Type 0} (R : CommRing A) (O : A → Type 0) (𝓞 : IsSubring R.op
       record {
         quotient = pow R.ops h.nilpotent.power_in.quotient d;
         quotient_in = power_in R O 𝓞 _ h.nilpotent.power_in.quotient_in d;
-        is = pow_mul R y (suc h.nilpotent.exponent) d ∙ ap (λ x. pow R.ops x d) h.nilpotent.power_in.is ∙ mul_pow R p _ d;
+        is = pow_mul R y (suc h.nilpotent.exponent) d ∙ ap (λ x. pow R.ops x d) h.nilpotent.power_in.is
+            ∙ mul_pow R p _ d;
       },
     )
 
@@ -143,7 +149,8 @@ module _ {A : Type 0} (R : CommRing A) (O : A → Type 0) (𝓞 : IsSubring R.op
             let r = m.nilpotent.power_in in
             let n = s * suc d in
             let e : (a b c x : A) → x ⊗ ((p ⊗ a) ⊗ (b ⊗ c)) ≡ p ⊗ (b ⊗ c ⊗ (a ⊗ x))
-            = λ a b c x. ring R (a ∷ b ∷ c ∷ x ∷ p ∷ []) λ q i. simp (reads, q, i 0, i 1, i 2, i 3, i 4) (q.equal _ _ refl) in
+            = λ a b c x. ring R (a ∷ b ∷ c ∷ x ∷ p ∷ []) λ q i. simp (reads, q, i 0, i 1, i 2, i 3, i 4)
+            (q.equal _ _ refl) in
             let y_power : pow R.ops y n ≡ (p ⊗ pow R.ops p d) ⊗ (r.quotient ⊗ pow R.ops r.quotient d)
             = pow_mul R y s (suc d) ∙ ap (λ x. pow R.ops x (suc d)) r.is ∙ mul_pow R p r.quotient (suc d) in
             let k : n ≡ suc (m.nilpotent.exponent * suc d + d) = count m.nilpotent.exponent d in
@@ -176,7 +183,8 @@ module _ {A : Type 0} (R : CommRing A) (O : A → Type 0) (𝓞 : IsSubring R.op
             let C = Multiple R.ops pd O in
             let 𝓒 = multiples_ideal pd (power_in R O 𝓞 p p_in d) in
             let r = span_nilpotent C 𝓒 ys
-            (All-weaker I (λ y. O y × ((n : ℕ) × C (pow R.ops y n))) (λ y m. (m.within, radical_power d y m)) ys ys_in) in
+            (All-weaker I (λ y. O y × ((n : ℕ) × C (pow R.ops y n))) (λ y m. (m.within, radical_power d y m)) ys
+            ys_in) in
             let one : Iterated R.ops I C r.0 𝟙 = iterated_narrower I (Span R.ops O ys) C spanned r.0 𝟙 r.2 in
             let f : (v : A) → C v → O (w ⊗ v)
             = λ v m.
@@ -191,11 +199,13 @@ module _ {A : Type 0} (R : CommRing A) (O : A → Type 0) (𝓞 : IsSubring R.op
             turn d w v c e = R.mul_comm _ _ ∙ ap (λ x. w ⊗ x) (sym e)
 
       -- the multiples of a ring O[z] by a power of p are in O
-      denominator : (z : A) (a : ℕ) → O (pow R.ops p a ⊗ z) → (m : ℕ) (w : A) → Low R.ops O z m w → O (pow R.ops (pow R.ops p a) m ⊗ w)
+      denominator : (z : A) (a : ℕ) → O (pow R.ops p a ⊗ z) → (m : ℕ) (w : A) → Low R.ops O z m w
+          → O (pow R.ops (pow R.ops p a) m ⊗ w)
       denominator z a h zero w k = subst O (sym (one_mul R w)) (subst O (sym k) 𝓞.zero_in)
       denominator z a h (suc m) w k =
           let f : (x y c r : A) → x ⊗ y ⊗ c ⊕ (x ⊗ z) ⊗ (y ⊗ r) ≡ x ⊗ y ⊗ (c ⊕ z ⊗ r)
-          = λ x y c r. ring R (x ∷ y ∷ c ∷ r ∷ z ∷ []) λ q i. simp (reads, q, i 0, i 1, i 2, i 3, i 4) (q.equal _ _ refl) in
+          = λ x y c r. ring R (x ∷ y ∷ c ∷ r ∷ z ∷ []) λ q i. simp (reads, q, i 0, i 1, i 2, i 3, i 4)
+          (q.equal _ _ refl) in
           let pa = pow R.ops p a in
           subst O (f pa (pow R.ops pa m) k.constant k.rest ∙ ap (λ x. pa ⊗ pow R.ops pa m ⊗ x) (sym k.is))
           (𝓞.sum_in _ _

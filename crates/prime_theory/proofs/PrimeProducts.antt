@@ -53,15 +53,18 @@ module _ {A : Type 0} (R : CommRing A) (O : A → Type 0) (𝓞 : IsSubring R.op
   }
 
   -- a value does not depend on the pair, and is the same at the same prime
-  pub value_same : (P P' : A → Type 0) (𝓟 : IsPrime R.ops O P) (𝓟' : IsPrime R.ops O P') (t : Pair R.ops O P) (t' : Pair R.ops O P')
-      → SameSet P P' → (z : A) (a b : ℕ) → AtLeast R.ops O P t.tau t.gamma z a b → AtLeast R.ops O P' t'.tau t'.gamma z a b
+  pub value_same : (P P' : A → Type 0) (𝓟 : IsPrime R.ops O P) (𝓟' : IsPrime R.ops O P') (t : Pair R.ops O P)
+      (t' : Pair R.ops O P')
+      → SameSet P P' → (z : A) (a b : ℕ) → AtLeast R.ops O P t.tau t.gamma z a b
+      → AtLeast R.ops O P' t'.tau t'.gamma z a b
   value_same P P' 𝓟 𝓟' t t' s z a b h =
       value_of_at R O 𝓞 P' 𝓟' t' z a b
       (at_same P P' _ s z
       (at_wider R O 𝓞 P 𝓟 _ _ (ideal_power_same P P' 𝓟 𝓟' s a b) z (at_of_value R O 𝓞 P 𝓟 t z a b h)))
 
   -- a power of a different prime is O locally
-  module _ (P : A → Type 0) (𝓟 : IsPrime R.ops O P) (P' : A → Type 0) (𝓟' : IsPrime R.ops O P') (d : Different P' P) where
+  module _ (P : A → Type 0) (𝓟 : IsPrime R.ops O P) (P' : A → Type 0) (𝓟' : IsPrime R.ops O P')
+      (d : Different P' P) where
     u_outside : Outside O P d.first
     u_outside = record { within = 𝓟'.ideal.within _ d.first_in; out = d.first_out }
 
@@ -75,7 +78,8 @@ module _ {A : Type 0} (R : CommRing A) (O : A → Type 0) (𝓞 : IsSubring R.op
           (λ x y m n.
           subst O (mul_left_comm R _ _ _)
           (𝓞.product_in _ _ (power_within P' 𝓟'.ideal a x m)
-          (power_cancel R O 𝓞 (Inverse R.ops O P') d.first (λ c k. subst O (R.mul_comm _ _) (k d.first d.first_in)) b y n)))
+          (power_cancel R O 𝓞 (Inverse R.ops O P') d.first (λ c k. subst O (R.mul_comm _ _) (k d.first d.first_in)) b
+          y n)))
           z h;
     }
 
@@ -137,11 +141,13 @@ module _ {A : Type 0} (R : CommRing A) (O : A → Type 0) (𝓞 : IsSubring R.op
           λ h.
               at_at R O 𝓞 (P i) 𝓟 all z
               (at_wider R O 𝓞 (P i) 𝓟 (Product R.ops (K e) (Prod l)) (At R.ops O (P i) all)
-              (product_into R (K e) (Prod l) (At R.ops O (P i) all) (at_additive R O 𝓞 (P i) 𝓟 all (𝓜 (e.up + a) (e.down + b)))
+              (product_into R (K e) (Prod l) (At R.ops O (P i) all)
+              (at_additive R O 𝓞 (P i) 𝓟 all (𝓜 (e.up + a) (e.down + b)))
               (λ x y m n.
               at_wider R O 𝓞 (P i) 𝓟 (Product R.ops (Target e.up e.down) (Target a b)) all (λ w. (add w).0) (x ⊗ y)
               (at_product R O 𝓞 (P i) 𝓟 (Target e.up e.down) (Target a b) x y
-              (at_of R O 𝓞 (P i) 𝓟 (Target e.up e.down) x (ideal_power_same (P e.index) (P i) (fam.prime e.index) 𝓟 s e.up e.down x m))
+              (at_of R O 𝓞 (P i) 𝓟 (Target e.up e.down) x
+              (ideal_power_same (P e.index) (P i) (fam.prime e.index) 𝓟 s e.up e.down x m))
               ((ih y).0 (at_of R O 𝓞 (P i) 𝓟 (Prod l) y n)))))
               z h),
           λ h.
@@ -152,7 +158,8 @@ module _ {A : Type 0} (R : CommRing A) (O : A → Type 0) (𝓞 : IsSubring R.op
               (at_additive R O 𝓞 (P i) 𝓟 both (ideal_product_module (e ∷ l)))
               (λ x y m n.
               at_product R O 𝓞 (P i) 𝓟 (K e) (Prod l) x y
-              (at_of R O 𝓞 (P i) 𝓟 (K e) x (ideal_power_same (P i) (P e.index) 𝓟 (fam.prime e.index) (λ v. ((s v).1, (s v).0)) e.up e.down x m))
+              (at_of R O 𝓞 (P i) 𝓟 (K e) x
+              (ideal_power_same (P i) (P e.index) 𝓟 (fam.prime e.index) (λ v. ((s v).1, (s v).0)) e.up e.down x m))
               ((ih y).1 (at_of R O 𝓞 (P i) 𝓟 (Target a b) y n)))
               w ((add w).1 k))
               z h),
@@ -161,7 +168,8 @@ module _ {A : Type 0} (R : CommRing A) (O : A → Type 0) (𝓞 : IsSubring R.op
           λ h.
               at_at R O 𝓞 (P i) 𝓟 (Target a b) z
               (at_wider R O 𝓞 (P i) 𝓟 both (At R.ops O (P i) (Target a b))
-              (product_into R (K e) (Prod l) (At R.ops O (P i) (Target a b)) (at_additive R O 𝓞 (P i) 𝓟 (Target a b) (𝓜 a b))
+              (product_into R (K e) (Prod l) (At R.ops O (P i) (Target a b))
+              (at_additive R O 𝓞 (P i) 𝓟 (Target a b) (𝓜 a b))
               (λ x y m n.
               at_wider R O 𝓞 (P i) 𝓟 (Product R.ops O (Target a b)) (Target a b)
               (λ w. (product_one R O 𝓞 (Target a b) (𝓜 a b) w).0) (x ⊗ y)
@@ -178,7 +186,8 @@ module _ {A : Type 0} (R : CommRing A) (O : A → Type 0) (𝓞 : IsSubring R.op
 
       -- the product of a list and the power of P i with the total exponent are the same at P i
       pub at_ideal_product : (l : List (PrimeExponent I)) (z : A)
-          → At R.ops O (P i) (IdealProduct R.ops O P l) z ↔ At R.ops O (P i) (IdealPower R.ops O (P i) (up_at i l) (down_at i l)) z
+          → At R.ops O (P i) (IdealProduct R.ops O P l) z
+          ↔ At R.ops O (P i) (IdealPower R.ops O (P i) (up_at i l) (down_at i l)) z
       at_ideal_product [] z =
           let same = product_one R O 𝓞 O (own_module R O 𝓞) in (
             at_wider R O 𝓞 (P i) (fam.prime i) O (Product R.ops O O) (λ w. (same w).1) z,
@@ -190,11 +199,13 @@ module _ {A : Type 0} (R : CommRing A) (O : A → Type 0) (𝓞 : IsSubring R.op
       abbrev Ge : A → ℕ → ℕ → Type 0
       Ge z a b = AtLeast R.ops O (P i) (fam.pair i).tau (fam.pair i).gamma z a b
 
-      pub value_of_ideal_product : (l : List (PrimeExponent I)) (z : A) → IdealProduct R.ops O P l z → Ge z (up_at i l) (down_at i l)
+      pub value_of_ideal_product : (l : List (PrimeExponent I)) (z : A) → IdealProduct R.ops O P l z
+          → Ge z (up_at i l) (down_at i l)
       value_of_ideal_product l z h =
           value_of_at R O 𝓞 (P i) (fam.prime i) (fam.pair i) z _ _
           ((at_ideal_product l z).0 (at_of R O 𝓞 (P i) (fam.prime i) (Prod l) z h))
 
       pub ideal_product_of_value : (l : List (PrimeExponent I)) (z : A) → Ge z (up_at i l) (down_at i l)
           → At R.ops O (P i) (IdealProduct R.ops O P l) z
-      ideal_product_of_value l z h = (at_ideal_product l z).1 (at_of_value R O 𝓞 (P i) (fam.prime i) (fam.pair i) z _ _ h)
+      ideal_product_of_value l z h =
+          (at_ideal_product l z).1 (at_of_value R O 𝓞 (P i) (fam.prime i) (fam.pair i) z _ _ h)

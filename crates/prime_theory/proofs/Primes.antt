@@ -176,7 +176,8 @@ module _ {A : Type 0} (R : CommRing A) (O : A → Type 0) (𝓞 : IsSubring R.op
             })
             step (inl m) (inl r) = inl r
             step (inl m) (inr r) =
-                inr (subst O (regroup t.right t.left (sum_over R.ops ts (λ f. f.left ⊗ f.right))) (𝓞.sum_in _ _ (t.right_in _ m) r))
+                inr (subst O (regroup t.right t.left (sum_over R.ops ts (λ f. f.left ⊗ f.right)))
+                (𝓞.sum_in _ _ (t.right_in _ m) r))
 
         go : Pair R.ops O P ⊎ Rest h.0 → Pair R.ops O P
         go (inl r) = r

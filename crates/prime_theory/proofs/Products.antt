@@ -15,7 +15,8 @@ module _ {A : Type 0} (R : CommRing A) where
   open R use {𝟘, 𝟙, ◌⊕◌, ◌⊗◌, ⊖◌}
 
   -- an additive set that has all h·(a·b) has h times the product
-  pub product_universal : (M N C : A → Type 0) → IsAdditive R.ops C → (h : A) → ((a b : A) → M a → N b → C (h ⊗ (a ⊗ b)))
+  pub product_universal : (M N C : A → Type 0) → IsAdditive R.ops C → (h : A)
+      → ((a b : A) → M a → N b → C (h ⊗ (a ⊗ b)))
       → (z : A) → Product R.ops M N z → C (h ⊗ z)
   product_universal M N C 𝓒 h f z m = subst (λ x. C (h ⊗ x)) (sym m.1) (go m.0)
     where
@@ -44,7 +45,8 @@ module _ {A : Type 0} (R : CommRing A) where
     pub product_additive : (M N : A → Type 0) → IsModule R.ops O M → IsAdditive R.ops (Product R.ops M N)
     product_additive M N 𝓜 = additive_of_module O _ (product_module R O 𝓞 M N 𝓜)
 
-    pub product_monotone : (M N M' N' : A → Type 0) → IsModule R.ops O M' → ((a : A) → M a → M' a) → ((a : A) → N a → N' a)
+    pub product_monotone : (M N M' N' : A → Type 0) → IsModule R.ops O M' → ((a : A) → M a → M' a)
+        → ((a : A) → N a → N' a)
         → (z : A) → Product R.ops M N z → Product R.ops M' N' z
     product_monotone M N M' N' 𝓜 f g =
         product_into M N (Product R.ops M' N') (product_additive M' N' 𝓜)
@@ -65,7 +67,8 @@ module _ {A : Type 0} (R : CommRing A) where
         subst all (R.mul_comm c x)
         (product_universal L M all 𝓐 c
         (λ a b i j.
-        let e : a ⊗ (b ⊗ c) ≡ c ⊗ (a ⊗ b) = ring R (a ∷ b ∷ c ∷ []) λ q x. simp (reads, q, x 0, x 1, x 2) (q.equal _ _ refl) in
+        let e : a ⊗ (b ⊗ c) ≡ c ⊗ (a ⊗ b) = ring R (a ∷ b ∷ c ∷ []) λ q x. simp (reads, q, x 0, x 1, x 2)
+        (q.equal _ _ refl) in
         subst all e
         (product_member R O 𝓞 L (Product R.ops M N) a (b ⊗ c) i (product_member R O 𝓞 M N b c j n)))
         x m))
@@ -99,7 +102,8 @@ module _ {A : Type 0} (R : CommRing A) where
     power_module P 𝓟 zero = own_module
     power_module P 𝓟 (suc n) = product_module R O 𝓞 P (Power R.ops O P n) 𝓟
 
-    pub power_member : (P : A → Type 0) → IsModule R.ops O P → (a : A) → P a → (n : ℕ) → Power R.ops O P n (pow R.ops a n)
+    pub power_member : (P : A → Type 0) → IsModule R.ops O P → (a : A) → P a → (n : ℕ)
+        → Power R.ops O P n (pow R.ops a n)
     power_member P 𝓟 a m zero = 𝓞.one_in
     power_member P 𝓟 a m (suc n) = product_member R O 𝓞 P (Power R.ops O P n) a _ m (power_member P 𝓟 a m n)
 
@@ -116,7 +120,8 @@ module _ {A : Type 0} (R : CommRing A) where
               (product_assoc P Pm Pn 𝓟 z h),
           λ h.
               product_assoc_back P Pm Pn 𝓟 z
-              (product_monotone P (Power R.ops O P (m + n)) P (Product R.ops Pm Pn) 𝓟 (λ a x. x) (λ a x. (ih a).1 x) z h),
+              (product_monotone P (Power R.ops O P (m + n)) P (Product R.ops Pm Pn) 𝓟 (λ a x. x) (λ a x. (ih a).1 x)
+              z h),
         )
 
     -- where a takes P into O, a^n takes the n-th power into O

@@ -70,19 +70,25 @@ module _ {A : Type 0} (R : CommRing A) (O : A → Type 0) (𝓞 : IsSubring R.op
     nilpotent = record { exponent = 0; power_in = subst pO (sym (R.mul_one a)) m };
   }
 
-  -- the converse of the criterion: an order that is maximal at p has the integral multipliers of a set within O that has p
+  -- the converse of the criterion: an order that is maximal at p has the integral multipliers of a set within O that
+  -- has p
   pub multiplier_within : (Int I : A → Type 0) → ((a : A) → I a → O a) → I p → MaximalAt R.ops p Int O
       → (w : A) → Int w → Colon R.ops I I w → O w
-  multiplier_within Int I f m h w i k = h w 1 i (subst O (R.mul_comm _ _ ∙ ap (λ x. x ⊗ w) (sym (R.mul_one p))) (f _ (k p m)))
+  multiplier_within Int I f m h w i k =
+      h w 1 i (subst O (R.mul_comm _ _ ∙ ap (λ x. x ⊗ w) (sym (R.mul_one p))) (f _ (k p m)))
 
   -- the criterion both ways, where p has an inverse
   pub criterion_iff : (r : A) → r ⊗ p ≡ 𝟙 → (ys : List A) → SameSet (Radical R.ops O p) (Span R.ops O ys)
-      → ((w : A) → Colon R.ops (Radical R.ops O p) (Radical R.ops O p) w → O w) ↔ MaximalAt R.ops p (IsIntegral R.ops O) O
+      → ((w : A) → Colon R.ops (Radical R.ops O p) (Radical R.ops O p) w → O w)
+      ↔ MaximalAt R.ops p (IsIntegral R.ops O) O
   criterion_iff r inverse ys spanned = (
-    λ h. pohst_zassenhaus R O 𝓞 p p_in ys (All-weaker (Span R.ops O ys) (Radical R.ops O p) (λ y. (spanned y).1) ys (span_members R O 𝓞 ys)) (λ y. (spanned y).0) h,
+    λ h. pohst_zassenhaus R O 𝓞 p p_in ys
+        (All-weaker (Span R.ops O ys) (Radical R.ops O p) (λ y. (spanned y).1) ys (span_members R O 𝓞 ys))
+        (λ y. (spanned y).0) h,
     λ h w m.
         multiplier_within (IsIntegral R.ops O) (Radical R.ops O p) (λ a k. k.within) p_rad h w
-        (integral_of_stable R O 𝓞 ys p r w inverse ((spanned p).0 p_rad) (λ y k. (spanned _).0 (m y ((spanned y).1 k)))) m,
+        (integral_of_stable R O 𝓞 ys p r w inverse ((spanned p).0 p_rad)
+        (λ y k. (spanned _).0 (m y ((spanned y).1 k)))) m,
   )
     where
       p_rad : Radical R.ops O p p

@@ -39,14 +39,16 @@ module _ {A : Type 0} (R : CommRing A) (O : A → Type 0) (𝓞 : IsSubring R.op
       Total : List (Factors M (Inverse R.ops O M)) → A
       Total ts = sum_over R.ops ts (λ f. f.left ⊗ f.right)
 
-      look : (ts : List (Factors M (Inverse R.ops O M))) → Generator R O P M ⊎ P (sum_over R.ops ts (λ f. f.left ⊗ f.right))
+      look : (ts : List (Factors M (Inverse R.ops O M))) → Generator R O P M
+          ⊎ P (sum_over R.ops ts (λ f. f.left ⊗ f.right))
       look [] = inr 𝓟.ideal.zero_in
       look (t ∷ ts) = go (𝓟.decide (t.left ⊗ t.right) in_O) (look ts)
         where
           in_O : O (t.left ⊗ t.right)
           in_O = subst O (R.mul_comm _ _) (t.right_in t.left t.left_in)
 
-          go : P (t.left ⊗ t.right) ⊎ (¬ (P (t.left ⊗ t.right))) → Generator R O P M ⊎ P (sum_over R.ops ts (λ f. f.left ⊗ f.right))
+          go : P (t.left ⊗ t.right) ⊎ (¬ (P (t.left ⊗ t.right))) → Generator R O P M
+              ⊎ P (sum_over R.ops ts (λ f. f.left ⊗ f.right))
               → Generator R O P M ⊎ P (sum_over R.ops (t ∷ ts) (λ f. f.left ⊗ f.right))
           go (inr n) r = inl (record {
             element = t.left;
@@ -69,7 +71,8 @@ module _ {A : Type 0} (R : CommRing A) (O : A → Type 0) (𝓞 : IsSubring R.op
       let i = 𝓟.invert u a.outside.within a.outside.out in
       let f : (x y j u : A) → u ≡ x ⊗ y → z ≡ x ⊗ (j ⊗ (y ⊗ z)) ⊕ z ⊗ ⊖ (j ⊗ u ⊕ ⊖ 𝟙)
       = λ x y j u e.
-      from_one R (z ⊗ j) e (ring R (x ∷ y ∷ j ∷ u ∷ z ∷ []) λ q h. simp (reads, q, h 0, h 1, h 2, h 3, h 4) (q.equal _ _ refl)) in
+      from_one R (z ⊗ j) e (ring R (x ∷ y ∷ j ∷ u ∷ z ∷ []) λ q h. simp (reads, q, h 0, h 1, h 2, h 3, h 4)
+      (q.equal _ _ refl)) in
       record {
         scalar = i.inverse ⊗ (a.partner ⊗ z);
         scalar_in = 𝓞.product_in _ _ i.inverse_in (a.partner_in z m);

@@ -1,5 +1,5 @@
--- Modules between multiples of W by powers of p: they are their localisation at p, as far as W with the inverse of p goes.
--- And the part at p of a module that lies anyhow.
+-- Modules between multiples of W by powers of p: they are their localisation at p, as far as W with the inverse of p
+-- goes. And the part at p of a module that lies anyhow.
 use Rattle.std.proofs.Common.{◌≡◌, ◌↔◌, ℕ, ◌+◌, [], ◌∷◌, refl, sym, ◌∙◌, ap, subst}
 use Rattle.ring_theory.specs.Ring.{CommRing, pow}
 use Rattle.ring_theory.specs.Subsets.{IsSubring, IsModule, Product, Colon}
@@ -29,7 +29,8 @@ pub record Part {A : Type 0} (R : CommRing A) (O M : A → Type 0) (p w : A) (n 
   pub rest_in : O rest
   pub is : z ≡ R.ops.◌⊕◌ (R.ops.◌⊗◌ w member) (R.ops.◌⊗◌ (pow R.ops p n) rest)
 
-module _ {A : Type 0} (R : CommRing A) (S : A → Type 0) (𝓢 : IsSubring R.ops S) (N : A → Type 0) (p : A) (𝓝 : PrimeTo R.ops S N p) where
+module _ {A : Type 0} (R : CommRing A) (S : A → Type 0) (𝓢 : IsSubring R.ops S) (N : A → Type 0) (p : A)
+    (𝓝 : PrimeTo R.ops S N p) where
   infixl 65 ◌⊕◌
   infixl 70 ◌⊗◌
   infixr 80 ⊖◌
@@ -46,7 +47,8 @@ module _ {A : Type 0} (R : CommRing A) (S : A → Type 0) (𝓢 : IsSubring R.op
     W_additive = record { zero_in = 𝓦.zero_in; sum_in = 𝓦.sum_in }
 
     -- a module supported at p is what it is locally, among the elements with poles at p alone
-    pub supported_local : (L : A → Type 0) → IsModule R.ops S L → SupportedAt R W p L → (z : A) → L z ↔ (Poles R W p z × Locally R.ops N L z)
+    pub supported_local : (L : A → Type 0) → IsModule R.ops S L → SupportedAt R W p L → (z : A) → L z
+        ↔ (Poles R W p z × Locally R.ops N L z)
     supported_local L 𝓛 t z = (
       λ h. (record { exponent = t.exponent; cleared = t.within z h }, locally_of R S 𝓢 N p 𝓝 L z h),
       λ h.
@@ -62,7 +64,8 @@ module _ {A : Type 0} (R : CommRing A) (S : A → Type 0) (𝓢 : IsSubring R.op
     }
 
     -- between two modules supported at p
-    pub supported_between : (L M K : A → Type 0) → IsModule R.ops S M → SupportedAt R W p L → SupportedAt R W p K → ((z : A) → L z → M z) → ((z : A) → M z → K z)
+    pub supported_between : (L M K : A → Type 0) → IsModule R.ops S M → SupportedAt R W p L → SupportedAt R W p K
+        → ((z : A) → L z → M z) → ((z : A) → M z → K z)
         → SupportedAt R W p M
     supported_between L M K 𝓜 l k f g = record {
       exponent = k.exponent + l.exponent;
@@ -72,7 +75,8 @@ module _ {A : Type 0} (R : CommRing A) (S : A → Type 0) (𝓢 : IsSubring R.op
           (𝓦.product_in _ _ (base _ (pw_in l.exponent)) (k.within z (g z h)));
     }
 
-    pub supported_product : (L M : A → Type 0) → IsModule R.ops S L → SupportedAt R W p L → SupportedAt R W p M → SupportedAt R W p (Product R.ops L M)
+    pub supported_product : (L M : A → Type 0) → IsModule R.ops S L → SupportedAt R W p L → SupportedAt R W p M
+        → SupportedAt R W p (Product R.ops L M)
     supported_product L M 𝓛 l m = record {
       exponent = l.exponent + m.exponent;
       has = λ z h.
@@ -87,9 +91,11 @@ module _ {A : Type 0} (R : CommRing A) (S : A → Type 0) (𝓢 : IsSubring R.op
       where
         turn : (z : A) → pow R.ops p l.exponent ⊗ z ⊗ pow R.ops p m.exponent ≡ pow R.ops p (l.exponent + m.exponent) ⊗ z
         turn z =
-            R.mul_assoc _ _ _ ∙ ap (λ x. pow R.ops p l.exponent ⊗ x) (R.mul_comm _ _) ∙ sym (two l.exponent m.exponent z)
+            R.mul_assoc _ _ _ ∙ ap (λ x. pow R.ops p l.exponent ⊗ x) (R.mul_comm _ _)
+            ∙ sym (two l.exponent m.exponent z)
 
-    pub supported_colon : (L M : A → Type 0) → SupportedAt R W p L → SupportedAt R W p M → SupportedAt R W p (Colon R.ops L M)
+    pub supported_colon : (L M : A → Type 0) → SupportedAt R W p L → SupportedAt R W p M
+        → SupportedAt R W p (Colon R.ops L M)
     supported_colon L M l m = record {
       exponent = l.exponent + m.exponent;
       has = λ z h y k.
@@ -104,7 +110,8 @@ module _ {A : Type 0} (R : CommRing A) (S : A → Type 0) (𝓢 : IsSubring R.op
     }
 
   -- the part at p of a module M over O: w·M + p^n·O, where w·M and p^n·v·O are in M up to w and v
-  module _ (O : A → Type 0) (𝓞 : IsSubring R.ops O) (sub : (s : A) → S s → O s) (M : A → Type 0) (𝓜 : IsModule R.ops O M)
+  module _ (O : A → Type 0) (𝓞 : IsSubring R.ops O) (sub : (s : A) → S s → O s) (M : A → Type 0)
+      (𝓜 : IsModule R.ops O M)
       (w v : A) (w_in : N w) (v_in : N v) (n : ℕ) (has : M (pow R.ops p n ⊗ v)) where
     pub part_local : (z : A) → Locally R.ops N (Part R O M p w n) z ↔ Locally R.ops N M z
     part_local z = (
@@ -138,7 +145,8 @@ module _ {A : Type 0} (R : CommRing A) (S : A → Type 0) (𝓢 : IsSubring R.op
         in_O x m = sub x (𝓝.within x m)
 
         plain : (w m q r : A) → v ⊗ (w ⊗ m ⊕ q ⊗ r) ≡ v ⊗ w ⊗ m ⊕ r ⊗ (q ⊗ v)
-        plain w m x r = ring R (w ∷ m ∷ x ∷ r ∷ v ∷ []) λ q i. simp (reads, q, i 0, i 1, i 2, i 3, i 4) (q.equal _ _ refl)
+        plain w m x r =
+            ring R (w ∷ m ∷ x ∷ r ∷ v ∷ []) λ q i. simp (reads, q, i 0, i 1, i 2, i 3, i 4) (q.equal _ _ refl)
 
         nothing : (x y : A) → x ≡ x ⊕ y ⊗ 𝟘
         nothing x y = ring R (x ∷ y ∷ []) λ q i. simp (reads, q, i 0, i 1) (q.equal _ _ refl)

@@ -53,8 +53,10 @@ module _ {A : Type 0} (R : CommRing A) (O : A → Type 0) (𝓞 : IsSubring R.op
       (λ a b m n. 𝓞.product_in _ _ ((fam.prime i).ideal.within a (head_within i a m)) (product_within is b n)) z h
 
   -- a product that is within O, of a set within P j and a set within O, is in P j
-  times : (M N : A → Type 0) (j : I) → ((a : A) → M a → O a) → ((b : A) → N b → P j b) → (z : A) → Product R.ops M N z → P j z
-  times M N j f g = product_into R M N (P j) (P_additive j) (λ a b m n. (fam.prime j).ideal.scale_in a b (f a m) (g b n))
+  times : (M N : A → Type 0) (j : I) → ((a : A) → M a → O a) → ((b : A) → N b → P j b) → (z : A)
+      → Product R.ops M N z → P j z
+  times M N j f g =
+      product_into R M N (P j) (P_additive j) (λ a b m n. (fam.prime j).ideal.scale_in a b (f a m) (g b n))
 
   -- where all members of N are in the primes of a list, so are the members of M·N
   times_all : (M N : A → Type 0) → ((a : A) → M a → O a) → (js : List I) → ((b : A) → N b → All (λ j. P j b) js)
@@ -70,25 +72,30 @@ module _ {A : Type 0} (R : CommRing A) (O : A → Type 0) (𝓞 : IsSubring R.op
   product_in_primes (i ∷ is) z h =
       All-cons (λ j. P j z) i is
       (product_into R (IdealPower R.ops O (P i) (suc (f i)) 0) (Prod is) (P i) (P_additive i)
-      (λ a b m n. subst (P i) (R.mul_comm b a) ((fam.prime i).ideal.scale_in b a (product_within is b n) (head_within i a m))) z h)
+      (λ a b m n. subst (P i) (R.mul_comm b a)
+      ((fam.prime i).ideal.scale_in b a (product_within is b n) (head_within i a m))) z h)
       (times_all (IdealPower R.ops O (P i) (suc (f i)) 0) (Prod is)
       (λ a m. (fam.prime i).ideal.within a (head_within i a m)) is (product_in_primes is) z h)
 
   -- an element of all of the primes has a power in the product
-  pub power_of_common : (is : List I) (z : A) → All (λ i. P i z) is → (n : ℕ) × IdealProduct R.ops O P (positive_entries is) (pow R.ops z n)
+  pub power_of_common : (is : List I) (z : A) → All (λ i. P i z) is → (n : ℕ)
+      × IdealProduct R.ops O P (positive_entries is) (pow R.ops z n)
   power_of_common [] z h = (0, 𝓞.one_in)
   power_of_common (i ∷ is) z h =
       let r = power_of_common is z (All-tail (λ i. P i z) i is h) in
       let m = suc (f i) in
-      let a = power_member R O 𝓞 (P i) (ideal_module R O 𝓞 (P i) (fam.prime i).ideal) z (All-head (λ i. P i z) i is h) m in
+      let a = power_member R O 𝓞 (P i) (ideal_module R O 𝓞 (P i) (fam.prime i).ideal) z
+      (All-head (λ i. P i z) i is h) m in
       let b : IdealPower R.ops O (P i) m 0 (pow R.ops z m)
-      = subst (IdealPower R.ops O (P i) m 0) (R.mul_one _) (product_member R O 𝓞 (Power R.ops O (P i) m) O _ 𝟙 a 𝓞.one_in) in (
+      = subst (IdealPower R.ops O (P i) m 0) (R.mul_one _)
+      (product_member R O 𝓞 (Power R.ops O (P i) m) O _ 𝟙 a 𝓞.one_in) in (
         m + r.0,
         subst (Prod (i ∷ is)) (sym (pow_add R z m r.0))
             (product_member R O 𝓞 (IdealPower R.ops O (P i) m 0) (Prod is) _ _ b r.1),
       )
 
-  pub system_of_product : (is : List I) → ((z : A) → IdealProduct R.ops O P (positive_entries is) z → Multiple R.ops p O z)
+  pub system_of_product : (is : List I)
+      → ((z : A) → IdealProduct R.ops O P (positive_entries is) z → Multiple R.ops p O z)
       → IdealProduct R.ops O P (positive_entries is) p → IsSystem R.ops O p I P is
   system_of_product is within p_member = record {
     over = product_in_primes is p p_member;

@@ -114,7 +114,8 @@ module _ {A : Type 0} (R : CommRing A) (O : A → Type 0) (𝓞 : IsSubring R.op
           record {
             factor = d.first ⊗ r.factor;
             factor_out =
-                outside_product R O 𝓞 (P i) (fam.prime i) _ _ (record { within = first_in; out = d.first_out }) r.factor_out;
+                outside_product R O 𝓞 (P i) (fam.prime i) _ _ (record { within = first_in; out = d.first_out })
+                r.factor_out;
             in_all =
                 All-cons (λ j. P j (d.first ⊗ r.factor ⊗ tau i)) j is
                 (subst (P j) (f d.first r.factor (tau i))
@@ -192,7 +193,8 @@ module _ {A : Type 0} (R : CommRing A) (O : A → Type 0) (𝓞 : IsSubring R.op
       -- the value of p at a prime that has it is at least 1
       pub value_of_p : (e : ℕ) × Eq i p (suc e) 0
       value_of_p =
-          let r = least_value R O 𝓞 (P i) 𝓟 pr (p ∷ []) (suc power_of_p.exponent) (All-cons O p [] p_in (All-nil O)) bound in
+          let r = least_value R O 𝓞 (P i) 𝓟 pr (p ∷ []) (suc power_of_p.exponent) (All-cons O p [] p_in (All-nil O))
+          bound in
           let k = any_one (λ x. Eq i x r.value 0) p r.some in
           positive r.value (ge_bounded R O 𝓞 (P i) 𝓟 pr p r.value 0 1 0 k (ge_of_prime R O 𝓞 (P i) 𝓟 pr p m)) k
 

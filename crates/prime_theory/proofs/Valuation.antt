@@ -86,9 +86,11 @@ module _ {A : Type 0} (R : CommRing A) (O : A → Type 0) (𝓞 : IsSubring R.op
       unit_out = h.unit_out;
       inside =
           let f : (x : A) → (t ⊗ g) ⊗ (h.unit ⊗ z ⊗ x) ≡ h.unit ⊗ z ⊗ (g ⊗ (t ⊗ x))
-          = λ x. ring R (t ∷ g ∷ h.unit ∷ z ∷ x ∷ []) λ q i. simp (reads, q, i 0, i 1, i 2, i 3, i 4) (q.equal _ _ refl) in
+          = λ x. ring R (t ∷ g ∷ h.unit ∷ z ∷ x ∷ []) λ q i. simp (reads, q, i 0, i 1, i 2, i 3, i 4)
+          (q.equal _ _ refl) in
           subst X
-          (f (th a b) ∙ ap (λ x. h.unit ⊗ z ⊗ x) (ap (λ x. g ⊗ x) (sym (theta_down R t g a b)) ∙ sym (theta_up R t g a (suc b))))
+          (f (th a b) ∙ ap (λ x. h.unit ⊗ z ⊗ x)
+          (ap (λ x. g ⊗ x) (sym (theta_down R t g a b)) ∙ sym (theta_up R t g a (suc b))))
           (mul _ _ (units _ pair.outside) h.inside);
     }
 
@@ -98,7 +100,8 @@ module _ {A : Type 0} (R : CommRing A) (O : A → Type 0) (𝓞 : IsSubring R.op
       unit_out = outside_product R O 𝓞 P 𝓟 _ _ h.unit_out pair.outside;
       inside =
           let f : (x : A) → h.unit ⊗ z ⊗ (g ⊗ (t ⊗ x)) ≡ h.unit ⊗ (t ⊗ g) ⊗ z ⊗ x
-          = λ x. ring R (t ∷ g ∷ h.unit ∷ z ∷ x ∷ []) λ q i. simp (reads, q, i 0, i 1, i 2, i 3, i 4) (q.equal _ _ refl) in
+          = λ x. ring R (t ∷ g ∷ h.unit ∷ z ∷ x ∷ []) λ q i. simp (reads, q, i 0, i 1, i 2, i 3, i 4)
+          (q.equal _ _ refl) in
           subst X
           (ap (λ x. h.unit ⊗ z ⊗ x) (theta_up R t g a (suc b) ∙ ap (λ x. g ⊗ x) (theta_down R t g a b)) ∙ f (th a b))
           h.inside;
@@ -112,7 +115,8 @@ module _ {A : Type 0} (R : CommRing A) (O : A → Type 0) (𝓞 : IsSubring R.op
     valued_down_by zero z a b h = subst (λ n. V z n b) (zero-add a) (subst (λ n. V z (0 + a) n) (zero-add b) h)
     valued_down_by (suc k) z a b h =
         valued_down_by k z a b
-        (valued_down z (k + a) (k + b) (subst (λ n. V z n (suc (k + b))) (suc-add k a) (subst (λ n. V z (suc k + a) n) (suc-add k b) h)))
+        (valued_down z (k + a) (k + b)
+        (subst (λ n. V z n (suc (k + b))) (suc-add k a) (subst (λ n. V z (suc k + a) n) (suc-add k b) h)))
 
     -- only the difference a - b counts
     pub reindex : (z : A) (a b c d : ℕ) → a + d ≡ c + b → V z a b → V z c d
@@ -156,7 +160,8 @@ module _ {A : Type 0} (R : CommRing A) (O : A → Type 0) (𝓞 : IsSubring R.op
       unit = h.unit ⊗ (k.unit ⊗ d ⊗ th a' b');
       unit_out = outside_product R O 𝓞 P 𝓟 _ _ h.unit_out k.inside;
       inside =
-          let f : (x y y' r : A) → y ⊗ y' ≡ r → k.unit ⊗ r ⊗ (h.unit ⊗ (d ⊗ z) ⊗ x) ≡ h.unit ⊗ (k.unit ⊗ d ⊗ y) ⊗ z ⊗ (x ⊗ y')
+          let f : (x y y' r : A) → y ⊗ y' ≡ r → k.unit ⊗ r ⊗ (h.unit ⊗ (d ⊗ z) ⊗ x)
+          ≡ h.unit ⊗ (k.unit ⊗ d ⊗ y) ⊗ z ⊗ (x ⊗ y')
           = λ x y y' r e.
           from_one R (⊖ (k.unit ⊗ h.unit ⊗ d ⊗ z ⊗ x)) e
           (ring R (h.unit ∷ k.unit ∷ d ∷ z ∷ x ∷ y ∷ y' ∷ r ∷ []) λ q i.
@@ -221,7 +226,8 @@ module _ {A : Type 0} (R : CommRing A) (O : A → Type 0) (𝓞 : IsSubring R.op
   eq_not_more z a b h k =
       let s = h.unit ⊗ z ⊗ th a b in
       let f : (x : A) → h.unit ⊗ (k.unit ⊗ z ⊗ (g ⊗ x)) ≡ k.unit ⊗ (h.unit ⊗ z ⊗ x) ⊗ g
-      = λ x. ring R (h.unit ∷ k.unit ∷ z ∷ g ∷ x ∷ []) λ q i. simp (reads, q, i 0, i 1, i 2, i 3, i 4) (q.equal _ _ refl) in
+      = λ x. ring R (h.unit ∷ k.unit ∷ z ∷ g ∷ x ∷ []) λ q i. simp (reads, q, i 0, i 1, i 2, i 3, i 4)
+      (q.equal _ _ refl) in
       let out = eq_mul k.unit s k.unit_out h.inside in
       out.out
       (in_prime R O 𝓞 P 𝓟 pair (k.unit ⊗ s) out.within
@@ -265,7 +271,8 @@ module _ {A : Type 0} (R : CommRing A) (O : A → Type 0) (𝓞 : IsSubring R.op
       next (inl m) = inl (rw suc-add m)
       next (inr m) = inr (k, omega arith, m)
 
-      go : Ge z (k + a) b ⊎ ((j : ℕ) × (j < k) × Eq z (j + a) b) → Ge z (suc k + a) b ⊎ ((j : ℕ) × (j < suc k) × Eq z (j + a) b)
+      go : Ge z (k + a) b ⊎ ((j : ℕ) × (j < k) × Eq z (j + a) b) → Ge z (suc k + a) b
+          ⊎ ((j : ℕ) × (j < suc k) × Eq z (j + a) b)
       go (inl m) = next (more_or_exact z (k + a) b m)
       go (inr m) = inr (m.0, omega arith, m.2)
 
@@ -276,7 +283,8 @@ module _ {A : Type 0} (R : CommRing A) (O : A → Type 0) (𝓞 : IsSubring R.op
     unit_out = eq_mul _ _ h.unit_out k.unit_out;
     inside =
         let f : (x : A) → k.unit ⊗ (h.unit ⊗ z ⊗ x) ⊕ h.unit ⊗ (k.unit ⊗ w ⊗ x) ≡ h.unit ⊗ k.unit ⊗ (z ⊕ w) ⊗ x
-        = λ x. ring R (h.unit ∷ k.unit ∷ z ∷ w ∷ x ∷ []) λ q i. simp (reads, q, i 0, i 1, i 2, i 3, i 4) (q.equal _ _ refl) in
+        = λ x. ring R (h.unit ∷ k.unit ∷ z ∷ w ∷ x ∷ []) λ q i. simp (reads, q, i 0, i 1, i 2, i 3, i 4)
+        (q.equal _ _ refl) in
         subst O (f (th a b))
         (𝓞.sum_in _ _ (𝓞.product_in _ _ k.unit_out.within h.inside) (𝓞.product_in _ _ h.unit_out.within k.inside));
   }
@@ -317,7 +325,8 @@ module _ {A : Type 0} (R : CommRing A) (O : A → Type 0) (𝓞 : IsSubring R.op
   ge_of_prime z m = record {
     unit = 𝟙;
     unit_out = one_outside R O 𝓞 P 𝓟;
-    inside = subst O (sym (ap₂ ◌⊗◌ (one_mul R z) (theta_left R t g 1 ∙ R.mul_one g) ∙ R.mul_comm z g)) (pair.gamma_in z m);
+    inside =
+        subst O (sym (ap₂ ◌⊗◌ (one_mul R z) (theta_left R t g 1 ∙ R.mul_one g) ∙ R.mul_comm z g)) (pair.gamma_in z m);
   }
 
   pub eq_theta : (a b : ℕ) → Eq (th a b) b a

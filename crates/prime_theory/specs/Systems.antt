@@ -35,7 +35,8 @@ opposite [] = []
 opposite (e ∷ l) = record { index = e.index; up = e.down; down = e.up } ∷ opposite l
 
 -- the product of the powers that a list names
-abbrev pub IdealProduct : {A I : Type 0} → Operations A → (A → Type 0) → (I → A → Type 0) → List (PrimeExponent I) → A → Type 0
+abbrev pub IdealProduct : {A I : Type 0} → Operations A → (A → Type 0) → (I → A → Type 0) → List (PrimeExponent I)
+    → A → Type 0
 IdealProduct R O P [] = O
 IdealProduct R O P (e ∷ l) = Product R (IdealPower R O (P e.index) e.up e.down) (IdealProduct R O P l)
 
@@ -60,7 +61,8 @@ total_down c [] = 0
 total_down c (e ∷ l) = counted e.down (c e.index) + total_down c l
 
 -- primes over p such that what lies in all of them is nilpotent modulo p
-pub record IsSystem {A : Type 0} (R : Operations A) (O : A → Type 0) (p : A) (I : Type 0) (P : I → A → Type 0) (is : List I) : Type 0 where
+pub record IsSystem {A : Type 0} (R : Operations A) (O : A → Type 0) (p : A) (I : Type 0) (P : I → A → Type 0)
+    (is : List I) : Type 0 where
   pub over : All (λ i. P i p) is
   pub nilpotent : (z : A) → O z → All (λ i. P i z) is → PowerIn R (Multiple R p O) z
 
@@ -77,11 +79,12 @@ pub record UnitModulo {A : Type 0} (R : Operations A) (O : A → Type 0) (p : A)
   pub one_modulo : OneModulo R p O member
 
 -- the primes of a list are pairwise different
-abbrev pub Distinct : {A I : Type 0} → (I → A → Type 0) → List I → Type 0
-Distinct P is = AllPairs (λ i j. Different (P i) (P j)) is
+abbrev pub AreDistinctPrimes : {A I : Type 0} → (I → A → Type 0) → List I → Type 0
+AreDistinctPrimes P is = AllPairs (λ i j. Different (P i) (P j)) is
 
 -- orthogonal idempotents modulo p with sum 1, each local: an element times it is nilpotent or a unit of it
-pub record IsDecomposition {A : Type 0} (R : Operations A) (O : A → Type 0) (p : A) (I : Type 0) (e : I → A) (is : List I) : Type 0 where
+pub record IsDecomposition {A : Type 0} (R : Operations A) (O : A → Type 0) (p : A) (I : Type 0) (e : I → A)
+    (is : List I) : Type 0 where
   pub within : (i : I) → O (e i)
   pub idempotent : (i : I) → Multiple R p O (R.◌⊕◌ (R.◌⊗◌ (e i) (e i)) (R.⊖◌ (e i)))
   pub orthogonal : (i j : I) → (e i ≡ e j) ⊎ Multiple R p O (R.◌⊗◌ (e i) (e j))

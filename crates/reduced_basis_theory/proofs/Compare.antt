@@ -9,8 +9,8 @@ use Rattle.linear_theory.specs.Module.{Module}
 use Rattle.linear_theory.specs.Basis.{IsSubspace, IsCombination, IsNull}
 use Rattle.linear_theory.proofs.Exchange.{exchange}
 use Rattle.linear_theory.proofs.Bases.{null_subspace}
-use Rattle.reduced_basis_theory.specs.Degree.{total, degree_sum, count_up_to, IsAscending}
-use Rattle.reduced_basis_theory.specs.Reduced.{IsReduced, constants_ops, layers, Section}
+use Rattle.reduced_basis_theory.specs.Degree.{total, degree_sum, count_up_to, HasAscendingDegrees}
+use Rattle.reduced_basis_theory.specs.Reduced.{IsReducedBasisOfPair, constants_ops, layers, Section}
 use Rattle.reduced_basis_theory.proofs.Constants.{coefficients}
 use Rattle.reduced_basis_theory.proofs.Layers.{over_constants}
 use Rattle.reduced_basis_theory.proofs.Count.{sizes, section_basis, length_section}
@@ -25,9 +25,10 @@ module _ {C V : Type 0} (k : TestedRing C) (field : IsField k.ops) (M : Module (
   null_in = null_subspace (coefficients k field) (over_constants k M)
 
   module _ (I I' : V → Type 0) (N N' : ℤ → V → Type 0) (b b' : List V) (d d' : ℕ → ℤ)
-      (reduced : IsReduced k M.ops n I N b d) (reduced' : IsReduced k M.ops n I' N' b' d') where
+      (reduced : IsReducedBasisOfPair k M.ops n I N b d) (reduced' : IsReducedBasisOfPair k M.ops n I' N' b' d') where
     -- a smaller intersection has the smaller dimension
-    pub section_le : (m m' : ℤ) → ((z : V) → Section I N m z → Section I' N' m' z) → total n (sizes d m) ≤ total n (sizes d' m')
+    pub section_le : (m m' : ℤ) → ((z : V) → Section I N m z → Section I' N' m' z)
+        → total n (sizes d m) ≤ total n (sizes d' m')
     section_le m m' inner =
         let c = section_basis k field M n I N b d reduced m in
         let c' = section_basis k field M n I' N' b' d' reduced' m' in
@@ -46,7 +47,7 @@ module _ {C V : Type 0} (k : TestedRing C) (field : IsField k.ops) (M : Module (
         go (m, l, l') = degree_sum_le n d d' m l l' (section_le m m (λ z h. (f z h.0, g m z h.1)))
 
   module _ (I : V → Type 0) (N : ℤ → V → Type 0) (b b' : List V) (d d' : ℕ → ℤ)
-      (reduced : IsReduced k M.ops n I N b d) (reduced' : IsReduced k M.ops n I N b' d') where
+      (reduced : IsReducedBasisOfPair k M.ops n I N b d) (reduced' : IsReducedBasisOfPair k M.ops n I N b' d') where
     pub same_sizes : (m : ℤ) → total n (sizes d m) ≡ total n (sizes d' m)
     same_sizes m =
         let a = section_le I I N N b b' d d' reduced reduced' m m (λ z h. h) in
@@ -57,7 +58,7 @@ module _ {C V : Type 0} (k : TestedRing C) (field : IsField k.ops) (M : Module (
     pub degrees_determined : (m : ℤ) → count_up_to n d m ≡ count_up_to n d' m
     degrees_determined m = same_count n d d' m (same_sizes m) (same_sizes (m -ℤ pos 1))
 
-    pub ascending_degrees : IsAscending n d → IsAscending n d' → (i : ℕ) → i < n → d i ≡ d' i
+    pub ascending_degrees : HasAscendingDegrees n d → HasAscendingDegrees n d' → (i : ℕ) → i < n → d i ≡ d' i
     ascending_degrees up up' = ascending_same n d d' up up' degrees_determined
 
     pub same_degree_sum : degree_sum n d ≡ degree_sum n d'

@@ -39,13 +39,15 @@ module _ {C : Type 0} (k : TestedRing C) where
   -- the variable times a polynomial, by coefficients
   pub series_shifted_zero : (q : Pol k) → series k (s.◌⊗◌ (variable k) q) 0 ≡ k.𝟘
   series_shifted_zero q =
-      series_mul k (variable k) q 0 ∙ ap (λ c. k.◌⊗◌ c (series k q 0)) (coeff_trim k (k.𝟘 ∷ k.𝟙 ∷ []) 0) ∙ zero_mul k.ring _
+      series_mul k (variable k) q 0 ∙ ap (λ c. k.◌⊗◌ c (series k q 0)) (coeff_trim k (k.𝟘 ∷ k.𝟙 ∷ []) 0)
+      ∙ zero_mul k.ring _
 
   pub series_shifted_suc : (q : Pol k) (n : ℕ) → series k (s.◌⊗◌ (variable k) q) (suc n) ≡ series k q n
   series_shifted_suc q n =
       series_mul k (variable k) q (suc n)
       ∙ ap₂ k.◌⊕◌ (ap (λ c. k.◌⊗◌ c (series k q (suc n))) (coeff_trim k (k.𝟘 ∷ k.𝟙 ∷ []) 0) ∙ zero_mul k.ring _)
-      (convolution_constant_left k.ring (λ i. series k (variable k) (suc i)) (series k q) (λ i. coeff_trim k (k.𝟘 ∷ k.𝟙 ∷ []) (suc (suc i))) n
+      (convolution_constant_left k.ring (λ i. series k (variable k) (suc i)) (series k q)
+      (λ i. coeff_trim k (k.𝟘 ∷ k.𝟙 ∷ []) (suc (suc i))) n
       ∙ ap (λ c. k.◌⊗◌ c (series k q n)) (coeff_trim k (k.𝟘 ∷ k.𝟙 ∷ []) 1) ∙ one_mul k.ring _)
       ∙ zero_add k.ring _
 
@@ -65,19 +67,23 @@ module _ {C : Type 0} (k : TestedRing C) where
     where
       same : (n : ℕ) → series k (constant k (k.◌⊕◌ a b)) n ≡ series k (s.◌⊕◌ (constant k a) (constant k b)) n
       same zero =
-          series_constant_zero _ ∙ sym (series_add k (constant k a) (constant k b) 0 ∙ ap₂ k.◌⊕◌ (series_constant_zero a) (series_constant_zero b))
+          series_constant_zero _ ∙ sym
+          (series_add k (constant k a) (constant k b) 0 ∙ ap₂ k.◌⊕◌ (series_constant_zero a) (series_constant_zero b))
       same (suc n) =
           series_constant_suc _ n
-          ∙ sym (series_add k (constant k a) (constant k b) (suc n) ∙ ap₂ k.◌⊕◌ (series_constant_suc a n) (series_constant_suc b n) ∙ zero_add k.ring k.𝟘)
+          ∙ sym (series_add k (constant k a) (constant k b) (suc n)
+          ∙ ap₂ k.◌⊕◌ (series_constant_suc a n) (series_constant_suc b n) ∙ zero_add k.ring k.𝟘)
 
   pub constant_product : (a b : C) → constant k (k.◌⊗◌ a b) ≡ s.◌⊗◌ (constant k a) (constant k b)
   constant_product a b = same_pol k _ _ same
     where
       same : (n : ℕ) → series k (constant k (k.◌⊗◌ a b)) n ≡ series k (s.◌⊗◌ (constant k a) (constant k b)) n
-      same zero = series_constant_zero _ ∙ sym (series_scaled a (constant k b) 0 ∙ ap (k.◌⊗◌ a) (series_constant_zero b))
+      same zero = series_constant_zero _
+          ∙ sym (series_scaled a (constant k b) 0 ∙ ap (k.◌⊗◌ a) (series_constant_zero b))
       same (suc n) =
           series_constant_suc _ n
-          ∙ sym (series_scaled a (constant k b) (suc n) ∙ ap (k.◌⊗◌ a) (series_constant_suc b n) ∙ k.mul_comm a k.𝟘 ∙ zero_mul k.ring a)
+          ∙ sym (series_scaled a (constant k b) (suc n) ∙ ap (k.◌⊗◌ a) (series_constant_suc b n) ∙ k.mul_comm a k.𝟘
+          ∙ zero_mul k.ring a)
 
   pub length_constant : (a : C) → length (constant k a).0 ≤ 1
   length_constant a = length_bound k (constant k a).0 1 (constant k a).1 past
@@ -97,7 +103,8 @@ module _ {C : Type 0} (k : TestedRing C) where
   polynomial_below (suc l) c zero h =
       series_add k _ _ 0 ∙ ap₂ k.◌⊕◌ (series_constant_zero (c 0)) (series_shifted_zero _) ∙ k.add_zero (c 0)
   polynomial_below (suc l) c (suc n) h =
-      series_add k _ _ (suc n) ∙ ap₂ k.◌⊕◌ (series_constant_suc (c 0) n) (series_shifted_suc _ n ∙ polynomial_below l (λ i. c (suc i)) n (omega arith))
+      series_add k _ _ (suc n) ∙ ap₂ k.◌⊕◌ (series_constant_suc (c 0) n)
+      (series_shifted_suc _ n ∙ polynomial_below l (λ i. c (suc i)) n (omega arith))
       ∙ zero_add k.ring _
 
   pub polynomial_past : (l : ℕ) (c : ℕ → C) (n : ℕ) → l ≤ n → series k (polynomial l c) n ≡ k.𝟘
@@ -105,7 +112,8 @@ module _ {C : Type 0} (k : TestedRing C) where
   polynomial_past zero c n h = series_zero n
   polynomial_past (suc l) c zero h = absurd (omega arith)
   polynomial_past (suc l) c (suc n) h =
-      series_add k _ _ (suc n) ∙ ap₂ k.◌⊕◌ (series_constant_suc (c 0) n) (series_shifted_suc _ n ∙ polynomial_past l (λ i. c (suc i)) n (omega arith))
+      series_add k _ _ (suc n) ∙ ap₂ k.◌⊕◌ (series_constant_suc (c 0) n)
+      (series_shifted_suc _ n ∙ polynomial_past l (λ i. c (suc i)) n (omega arith))
       ∙ zero_add k.ring _
 
   pub length_polynomial : (l : ℕ) (c : ℕ → C) → length (polynomial l c).0 ≤ l

@@ -17,7 +17,7 @@ use Rattle.linear_theory.proofs.Exchange.{exchange, exchange_multiples}
 use Rattle.linear_theory.proofs.Bases.{null_subspace}
 use Rattle.linear_theory.proofs.Dimension.{basis_of_full_length}
 use Rattle.reduced_basis_theory.specs.Degree.{DegreeAtMost, degree, total, degree_sum}
-use Rattle.reduced_basis_theory.specs.Reduced.{InLattice, Coordinates, CoordinatesAtMost, IsReduced, Section, constants_ops, layers}
+use Rattle.reduced_basis_theory.specs.Reduced.{InLattice, Coordinates, CoordinatesAtMost, IsReducedBasisOfPair, Section, constants_ops, layers}
 use Rattle.reduced_basis_theory.proofs.Degree.{degree_own, degree_cancel}
 use Rattle.linear_theory.proofs.Domain.{decide_equal}
 use Rattle.reduced_basis_theory.proofs.Constants.{coefficients, polynomial, polynomial_domain, length_polynomial, polynomial_zero}
@@ -39,7 +39,8 @@ without {R = R} M r c b x y e =
         ap (M.◌•◌ (R.⊖◌ c)) e
         ∙ linear M (scalar M c ∷ []) λ q h. simp (parts, reads, q, h 0) (q.equal _ _ refl)
 
-    regroup : M.◌⊞◌ (M.◌•◌ r (M.◌⊞◌ (M.◌•◌ c b) x)) (M.◌•◌ (R.⊖◌ c) (M.◌⊞◌ (M.◌•◌ r b) y)) ≡ M.◌⊞◌ (M.◌•◌ (R.⊖◌ c) y) (M.◌•◌ r x)
+    regroup : M.◌⊞◌ (M.◌•◌ r (M.◌⊞◌ (M.◌•◌ c b) x)) (M.◌•◌ (R.⊖◌ c) (M.◌⊞◌ (M.◌•◌ r b) y))
+        ≡ M.◌⊞◌ (M.◌•◌ (R.⊖◌ c) y) (M.◌•◌ r x)
     regroup =
         linear M (vector M b ∷ vector M x ∷ vector M y ∷ scalar M r ∷ scalar M c ∷ []) λ q h.
         simp (parts, reads, q, h 0, h 1, h 2, h 3, h 4) (q.equal _ _ refl)
@@ -52,10 +53,11 @@ same_coefficients {R = R} M b n free r q same i l =
     eq_of_sub R (r i) (q i)
     (R.add_comm _ _ ∙ ap (λ w. R.◌⊕◌ w (r i)) (sym (neg_mul R R.𝟙 (q i) ∙ ap R.⊖◌ (one_mul R (q i))))
     ∙ free (λ i. R.◌⊕◌ (R.◌⊗◌ (R.⊖◌ R.𝟙) (q i)) (r i))
-    (combine_linear M (R.⊖◌ R.𝟙) q r b ∙ ap (M.◌⊞◌ (M.◌•◌ (R.⊖◌ R.𝟙) (combine M.ops q b))) same ∙ M.add_comm _ _ ∙ plus_negative M _) i l)
+    (combine_linear M (R.⊖◌ R.𝟙) q r b ∙ ap (M.◌⊞◌ (M.◌•◌ (R.⊖◌ R.𝟙) (combine M.ops q b))) same ∙ M.add_comm _ _
+    ∙ plus_negative M _) i l)
 
 module _ {C V : Type 0} (k : TestedRing C) (field : IsField k.ops) (M : Module (pol_ring k).ring V) (n : ℕ)
-    (I : V → Type 0) (N : ℤ → V → Type 0) (p : List V) (e : ℕ → ℤ) (reduced : IsReduced k M.ops n I N p e)
+    (I : V → Type 0) (N : ℤ → V → Type 0) (p : List V) (e : ℕ → ℤ) (reduced : IsReducedBasisOfPair k M.ops n I N p e)
     (b : List V) (count : length b ≡ n) (lattice : (z : V) → I z ↔ InLattice k M.ops b z) where
   infixl 65 ◌⊞◌
   infixr 75 ◌•◌
@@ -85,21 +87,25 @@ module _ {C V : Type 0} (k : TestedRing C) (field : IsField k.ops) (M : Module (
             rest_in = refl;
             is =
                 ap (λ w. r i • w) (c.is ∙ combine_omit M i c.coefficient b below)
-                ∙ without M (r i) (c.coefficient i) (entry 𝟬 b i) (combine M.ops (omit i c.coefficient) others) (combine M.ops (omit i r) others)
+                ∙ without M (r i) (c.coefficient i) (entry 𝟬 b i) (combine M.ops (omit i c.coefficient) others)
+                (combine M.ops (omit i r) others)
                 (sym (combine_omit M i r b below) ∙ null)
-                ∙ ap (λ w. ⊖ (c.coefficient i) • combine M.ops (omit i r) others ⊞ w) (sym (combine_scale M (r i) (omit i c.coefficient) others))
+                ∙ ap (λ w. ⊖ (c.coefficient i) • combine M.ops (omit i r) others ⊞ w)
+                (sym (combine_scale M (r i) (omit i c.coefficient) others))
                 ∙ sym (combine_linear M (⊖ (c.coefficient i)) (omit i r) (λ j. r i ⊗ omit i c.coefficient j) others)
                 ∙ sym (M.add_zero _);
           }
 
       clash : ¬ (r i ≡ 𝟘) → ⊥
       clash some =
-          let members : All I p = All_of_combine M I p (λ c. (reduced.lattice _).1 (record { coefficient = c; is = refl })) in
+          let members : All I p = All_of_combine M I p
+          (λ c. (reduced.lattice _).1 (record { coefficient = c; is = refl })) in
           let h = exchange_multiples (polynomial_domain k field) M (IsNull M.ops)
           (record {
             zero_in = refl;
             sum_in = λ u v a c. ap₂ ◌⊞◌ a c ∙ M.add_zero 𝟬;
-            scale_in = λ a v c. ap (λ w. a • w) c ∙ linear M (scalar M a ∷ []) λ q h. simp (parts, reads, q, h 0) (q.equal _ _ refl);
+            scale_in = λ a v c. ap (λ w. a • w) c
+                ∙ linear M (scalar M a ∷ []) λ q h. simp (parts, reads, q, h 0) (q.equal _ _ refl);
           })
           (r i) some p others
           (λ c z j l'. reduced.at.free c z j (subst (λ n. j < n) reduced.at.count l'))
@@ -112,12 +118,14 @@ module _ {C V : Type 0} (k : TestedRing C) (field : IsField k.ops) (M : Module (
   pub spanning_coordinates : (z : V) → Coordinates k M.ops b z
   spanning_coordinates z =
       let c = reduced.at.coordinates z in
-      let a = (lattice _).0 ((reduced.lattice (c.denominator • z)).1 (record { coefficient = c.coefficient; is = c.is })) in
+      let a = (lattice _).0 ((reduced.lattice (c.denominator • z)).1
+      (record { coefficient = c.coefficient; is = c.is })) in
       record { denominator = c.denominator; nonzero = c.nonzero; coefficient = a.coefficient; is = a.is }
 
   module _ (d : ℕ → ℤ) (inside : (i : ℕ) → i < n → N (d i) (entry 𝟬 b i)) where
     -- combinations of b with coordinates of bounded degree are in the family
-    pub bounded_in : (m : ℤ) (r : ℕ → Pol k) → ((i : ℕ) → i < n → DegreeAtMost k (r i) (m -ℤ d i)) → N m (combine M.ops r b)
+    pub bounded_in : (m : ℤ) (r : ℕ → Pol k) → ((i : ℕ) → i < n → DegreeAtMost k (r i) (m -ℤ d i))
+        → N m (combine M.ops r b)
     bounded_in m r h =
         combine_members k field M n N p e reduced.at m r b (λ i l.
         let l' : i < n = subst (λ n. i < n) count l in
@@ -153,7 +161,8 @@ module _ {C V : Type 0} (k : TestedRing C) (field : IsField k.ops) (M : Module (
             let c = section_basis k field M n I N p e reduced m in
             let h = exchange (domain_of (coefficients k field)) (over_constants k M) (IsNull (constants_ops k M.ops))
             (null_subspace (coefficients k field) (over_constants k M)) _ _ (independent m)
-            (All-weaker (Section I N m) (IsCombination (constants_ops k M.ops) (IsNull (constants_ops k M.ops)) (layers k M.ops p (sizes e m)))
+            (All-weaker (Section I N m)
+            (IsCombination (constants_ops k M.ops) (IsNull (constants_ops k M.ops)) (layers k M.ops p (sizes e m)))
             c.spanning _ (members m)) in
             let f = length_b m in
             let f' = length_section k field M n I N p e reduced m in
@@ -161,9 +170,11 @@ module _ {C V : Type 0} (k : TestedRing C) (field : IsField k.ops) (M : Module (
 
     module _ (sum : degree_sum n d ≡ degree_sum n e) where
       layers_basis : (m : ℤ) → IsLarge n d m → IsLarge n e m
-          → IsBasis k.ops (constants_ops k M.ops) (IsNull (constants_ops k M.ops)) (Section I N m) (layers k M.ops b (sizes d m))
+          → IsBasis k.ops (constants_ops k M.ops) (IsNull (constants_ops k M.ops)) (Section I N m)
+          (layers k M.ops b (sizes d m))
       layers_basis m l l' =
-          basis_of_full_length (coefficients k field) (over_constants k M) (IsNull (constants_ops k M.ops)) (Section I N m)
+          basis_of_full_length (coefficients k field) (over_constants k M) (IsNull (constants_ops k M.ops))
+          (Section I N m)
           (null_subspace (coefficients k field) (over_constants k M))
           (intersection_space k M I (N m) (lattice_space k M I b lattice) (family_space k M field n N p e reduced.at m))
           _ _ (section_basis k field M n I N p e reduced m) (members m) (independent m)
@@ -173,27 +184,33 @@ module _ {C V : Type 0} (k : TestedRing C) (field : IsField k.ops) (M : Module (
       bounded_at : (m : ℤ) → IsLarge n d m → IsLarge n e m → (r : ℕ → Pol k) → N m (combine M.ops r b)
           → (i : ℕ) → i < n → DegreeAtMost k (r i) (m -ℤ d i)
       bounded_at m l l' r h i i_below =
-          let c = (layers_basis m l l').spanning (combine M.ops r b) ((lattice _).1 (record { coefficient = r; is = refl }), h) in
+          let c = (layers_basis m l l').spanning (combine M.ops r b)
+          ((lattice _).1 (record { coefficient = r; is = refl }), h) in
           let q : ℕ → Pol k = λ i. polynomial k (sizes d m i) (block (sizes d m) c.coefficient i) in
           let same : combine M.ops r b ≡ combine M.ops q b
           = c.is ∙ ap₂ ◌⊞◌ (combine_layers k M b (sizes d m) c.coefficient) c.rest_in ∙ M.add_zero _ in
           let gap : r i ≡ q i = same_coefficients M b n spanning_free r q same i i_below in
-          subst (λ w. DegreeAtMost k w (m -ℤ d i)) (sym gap) (length_polynomial k (sizes d m i) (block (sizes d m) c.coefficient i))
+          subst (λ w. DegreeAtMost k w (m -ℤ d i)) (sym gap)
+          (length_polynomial k (sizes d m i) (block (sizes d m) c.coefficient i))
 
       converse_degrees : (m : ℤ) (z : V) (f : Pol k) (r : ℕ → Pol k) → ¬ (f ≡ 𝟘) → f • z ≡ combine M.ops r b
           → N m z → CoordinatesAtMost k n d f r m
       converse_degrees m z f r some is z_in i i_below = go (large n d) (large n e) (own (pos 0 -ℤ (m +ℤ degree k f)))
         where
-          go : ((a : ℕ) × IsLarge n d (pos a)) → ((a : ℕ) × IsLarge n e (pos a)) → ((y : ℕ) × ((pos 0 -ℤ (m +ℤ degree k f)) ≤ℤ pos y))
+          go : ((a : ℕ) × IsLarge n d (pos a)) → ((a : ℕ) × IsLarge n e (pos a))
+              → ((y : ℕ) × ((pos 0 -ℤ (m +ℤ degree k f)) ≤ℤ pos y))
               → DegreeAtMost k (r i) (degree k f +ℤ (m -ℤ d i))
           go (a, l) (a', l') (y, h) =
               let u = power k field (a + a' + y) in
               let u_degree = degree_power k field (a + a' + y) in
               let m' : ℤ = (m +ℤ degree k f) +ℤ degree k u in
               let domain = field_domain k.ring field in
-              let scaled : N (m +ℤ degree k f) (f • z) = scale_in k field M n N p e reduced.at m (degree k f) f z (degree_own k domain f) z_in in
-              let again : N m' (u • (f • z)) = scale_in k field M n N p e reduced.at (m +ℤ degree k f) (degree k u) u (f • z) (degree_own k domain u) scaled in
-              let is' : u • (f • z) ≡ combine M.ops (λ i. u ⊗ r i) b = ap (λ v. u • v) is ∙ sym (combine_scale M u r b) in
+              let scaled : N (m +ℤ degree k f) (f • z) = scale_in k field M n N p e reduced.at m (degree k f) f z
+              (degree_own k domain f) z_in in
+              let again : N m' (u • (f • z)) = scale_in k field M n N p e reduced.at (m +ℤ degree k f) (degree k u) u
+              (f • z) (degree_own k domain u) scaled in
+              let is' : u • (f • z) ≡ combine M.ops (λ i. u ⊗ r i) b = ap (λ v. u • v) is
+              ∙ sym (combine_scale M u r b) in
               let large_d : IsLarge n d m' = large_weaker n d (pos a) m' (omega (arith, ints)) l in
               let large_e : IsLarge n e m' = large_weaker n e (pos a') m' (omega (arith, ints)) l' in
               let bound = bounded_at m' large_d large_e (λ i. u ⊗ r i) (subst (N m') is' again) i i_below in
@@ -211,7 +228,7 @@ module _ {C V : Type 0} (k : TestedRing C) (field : IsField k.ops) (M : Module (
           subst (DegreeAtMost k (r i)) w (h i l))))
 
       -- the converse
-      pub converse : IsReduced k M.ops n I N b d
+      pub converse : IsReducedBasisOfPair k M.ops n I N b d
       converse = record {
         at = record {
           count = count;

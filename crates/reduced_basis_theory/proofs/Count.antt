@@ -8,7 +8,7 @@ use Rattle.ring_theory.proofs.Polynomials.{pol_ring}
 use Rattle.linear_theory.specs.Module.{Module, combine}
 use Rattle.linear_theory.specs.Basis.{IsNull, IsBasis}
 use Rattle.reduced_basis_theory.specs.Degree.{size, degree, total}
-use Rattle.reduced_basis_theory.specs.Reduced.{IsReduced, constants_ops, layers, Section}
+use Rattle.reduced_basis_theory.specs.Reduced.{IsReducedBasisOfPair, constants_ops, layers, Section}
 use Rattle.reduced_basis_theory.proofs.Degree.{length_of_nonzero}
 use Rattle.reduced_basis_theory.proofs.Constants.{polynomials, constant_one, length_constant, polynomial_zero, length_polynomial}
 use Rattle.reduced_basis_theory.proofs.Layers.{over_constants, All_of_combine, combine_layers, gather, blocks_zero, block, length_layers}
@@ -38,8 +38,10 @@ module _ {C V : Type 0} (k : TestedRing C) (field : IsField k.ops) (M : Module (
   abbrev s : TestedRing (Pol k)
   s = pol_ring k
 
-  module _ (n : ℕ) (I : V → Type 0) (N : ℤ → V → Type 0) (b : List V) (d : ℕ → ℤ) (reduced : IsReduced k M.ops n I N b d) where
-    pub in_section : (m : ℤ) (p : ℕ → Pol k) → ((i : ℕ) → i < n → length (p i).0 ≤ sizes d m i) → Section I N m (combine M.ops p b)
+  module _ (n : ℕ) (I : V → Type 0) (N : ℤ → V → Type 0) (b : List V) (d : ℕ → ℤ)
+      (reduced : IsReducedBasisOfPair k M.ops n I N b d) where
+    pub in_section : (m : ℤ) (p : ℕ → Pol k) → ((i : ℕ) → i < n → length (p i).0 ≤ sizes d m i)
+        → Section I N m (combine M.ops p b)
     in_section m p h = (
       (reduced.lattice _).1 (record { coefficient = p; is = refl }),
       (reduced.at.degrees m _ s.𝟙 p (polynomials k field).one_not_zero (M.one_scale _)).1
@@ -59,11 +61,14 @@ module _ {C V : Type 0} (k : TestedRing C) (field : IsField k.ops) (M : Module (
           is = a.is;
           bounded = λ i l.
               subst (λ w. length (a.coefficient i).0 ≤ size w) (over_one k field (m -ℤ d i))
-              ((reduced.at.degrees m z s.𝟙 a.coefficient (polynomials k field).one_not_zero (M.one_scale z ∙ a.is)).0 h.1 i l);
+              ((reduced.at.degrees m z s.𝟙 a.coefficient (polynomials k field).one_not_zero (M.one_scale z ∙ a.is)).0
+              h.1 i l);
         }
 
     -- the basis of the intersection
-    pub section_basis : (m : ℤ) → IsBasis k.ops (constants_ops k M.ops) (IsNull (constants_ops k M.ops)) (Section I N m) (layers k M.ops b (sizes d m))
+    pub section_basis : (m : ℤ)
+        → IsBasis k.ops (constants_ops k M.ops) (IsNull (constants_ops k M.ops)) (Section I N m)
+        (layers k M.ops b (sizes d m))
     section_basis m = record {
       members_in = All_of_combine (over_constants k M) (Section I N m) _ (λ c.
           subst (Section I N m) (sym (combine_layers k M b (sizes d m) c))
@@ -75,7 +80,8 @@ module _ {C V : Type 0} (k : TestedRing C) (field : IsField k.ops) (M : Module (
       independent = λ c e i l.
           blocks_zero (λ a. a ≡ k.𝟘) (length b) (sizes d m) c
           (λ i l j h. polynomial_zero k (sizes d m i) _
-          (reduced.at.free _ (sym (combine_layers k M b (sizes d m) c) ∙ e) i (subst (λ n. i < n) reduced.at.count l)) j h)
+          (reduced.at.free _ (sym (combine_layers k M b (sizes d m) c) ∙ e) i
+          (subst (λ n. i < n) reduced.at.count l)) j h)
           i (subst (λ n. i < n) (length_layers k M b (sizes d m)) l);
     }
 

@@ -69,7 +69,8 @@ module _ {C : Type 0} (k : TestedRing C) (domain : IsDomain k.ops) where
   decide_zero ([], t) = inl (zero_of_length ([], t) refl)
   decide_zero ((x ∷ xs), t) = inr (omega arith)
 
-  pub length_product : (p q : Pol k) → 0 < length p.0 → 0 < length q.0 → suc (length (p ⊗ q).0) ≡ length p.0 + length q.0
+  pub length_product : (p q : Pol k) → 0 < length p.0 → 0 < length q.0 → suc (length (p ⊗ q).0)
+      ≡ length p.0 + length q.0
   unfolding pol_ops
   length_product ([], s') (ys, t) l h = absurd (omega arith)
   length_product ((x ∷ xs), s') ([], t) l h = absurd (omega arith)
@@ -95,7 +96,8 @@ module _ {C : Type 0} (k : TestedRing C) (domain : IsDomain k.ops) where
   degree_weaker p m l h b = omega (arith, size_monotone m l h)
 
   -- bounds are added in products
-  pub degree_product : (p q : Pol k) (m l : ℤ) → DegreeAtMost k p m → DegreeAtMost k q l → DegreeAtMost k (p ⊗ q) (m +ℤ l)
+  pub degree_product : (p q : Pol k) (m l : ℤ) → DegreeAtMost k p m → DegreeAtMost k q l
+      → DegreeAtMost k (p ⊗ q) (m +ℤ l)
   degree_product p q m l h h' = go (decide_zero p) (decide_zero q)
     where
       go : (p ≡ 𝟘) ⊎ (0 < length p.0) → (q ≡ 𝟘) ⊎ (0 < length q.0) → DegreeAtMost k (p ⊗ q) (m +ℤ l)

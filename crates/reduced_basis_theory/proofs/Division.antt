@@ -6,7 +6,8 @@ use Rattle.linear_theory.specs.Module.{Module}
 use Rattle.reduced_basis_theory.specs.Reduced.{variable, divided, HasDivision}
 use Rattle.reduced_basis_theory.proofs.Powers.{power}
 
-module _ {C V : Type 0} (k : TestedRing C) (field : IsField k.ops) (M : Module (pol_ring k).ring V) (x : HasDivision k M.ops) where
+module _ {C V : Type 0} (k : TestedRing C) (field : IsField k.ops) (M : Module (pol_ring k).ring V)
+    (x : HasDivision k M.ops) where
   infixr 75 ◌•◌
   open M use {◌•◌}
 

@@ -6,28 +6,33 @@ use Rattle.ring_theory.specs.Polynomials.{Pol}
 use Rattle.ring_theory.proofs.Polynomials.{pol_ring}
 use Rattle.linear_theory.specs.Module.{Module}
 use Rattle.reduced_basis_theory.specs.Degree.{DegreeAtMost, degree, degree_sum}
-use Rattle.reduced_basis_theory.specs.Reduced.{IsReduced}
-use Rattle.reduced_basis_theory.specs.Dual.{AreFractions, IsForm, DualLattice, DualFamily, IsDualBasis, negated}
+use Rattle.reduced_basis_theory.specs.Reduced.{IsReducedBasisOfPair}
+use Rattle.reduced_basis_theory.specs.Dual.{AreFractions, IsSymmetricForm, DualLattice, DualFamily, IsDualBasis, negated}
 use Rattle.reduced_basis_theory.proofs.Dual.{dual_symmetric, dual_reduced}
 use Rattle.reduced_basis_theory.proofs.Transport.{degree_sum_negated}
 use Rattle.reduced_basis_theory.proofs.Rescale.{shift_law}
 
 module _ {C V Q : Type 0} (k : TestedRing C) (field : IsField k.ops) (M : Module (pol_ring k).ring V) (R : CommRing Q)
-    (ι : Pol k → Q) (fractions : AreFractions k R.ops ι) (T : V → V → Q) (form : IsForm k M.ops R.ops ι T)
+    (ι : Pol k → Q) (fractions : AreFractions k R.ops ι) (T : V → V → Q) (form : IsSymmetricForm k M.ops R.ops ι T)
     (n : ℕ) (I : V → Type 0) (N : ℤ → V → Type 0) (b c : List V) (d : ℕ → ℤ)
-    (reduced : IsReduced k M.ops n I N b d) (dual : IsDualBasis k M.ops ι T n b c) where
+    (reduced : IsReducedBasisOfPair k M.ops n I N b d) (dual : IsDualBasis k M.ops ι T n b c) where
   infixr 75 ◌•◌
   open M use {◌•◌}
 
   -- b is reduced for the dual of the dual pair
-  double_dual : IsReduced k M.ops n (DualLattice k ι T (DualLattice k ι T I)) (DualFamily k R.ops ι T (DualFamily k R.ops ι T N)) b (negated (negated d))
+  double_dual : IsReducedBasisOfPair k M.ops n (DualLattice k ι T (DualLattice k ι T I))
+      (DualFamily k R.ops ι T (DualFamily k R.ops ι T N)) b (negated (negated d))
   double_dual =
-      dual_reduced k field M R ι fractions T form n c b (dual_symmetric k field M R ι fractions T form n b c reduced.at.count dual)
-      (DualLattice k ι T I) (DualFamily k R.ops ι T N) (negated d) (dual_reduced k field M R ι fractions T form n b c dual I N d reduced)
+      dual_reduced k field M R ι fractions T form n c b
+      (dual_symmetric k field M R ι fractions T form n b c reduced.at.count dual)
+      (DualLattice k ι T I) (DualFamily k R.ops ι T N) (negated d)
+      (dual_reduced k field M R ι fractions T form n b c dual I N d reduced)
 
   pub double_dual_lattice : (z : V) → DualLattice k ι T (DualLattice k ι T I) z ↔ I z
-  double_dual_lattice z =
-      (λ h. (reduced.lattice z).1 ((double_dual.lattice z).0 h), λ h. (double_dual.lattice z).1 ((reduced.lattice z).0 h))
+  double_dual_lattice z = (
+    λ h. (reduced.lattice z).1 ((double_dual.lattice z).0 h),
+    λ h. (double_dual.lattice z).1 ((reduced.lattice z).0 h),
+  )
 
   pub double_dual_family : (m : ℤ) (z : V) → DualFamily k R.ops ι T (DualFamily k R.ops ι T N) m z ↔ N m z
   double_dual_family m z =
@@ -42,8 +47,8 @@ module _ {C V Q : Type 0} (k : TestedRing C) (field : IsField k.ops) (M : Module
 
   -- the sums of the degrees of a lattice and of its dual in the same family: what they differ by, a lattice I₀ tells
   pub dual_sum : (I₀ : V → Type 0) (y a₀ y₀ : List V) (g f₀ g₀ : ℕ → ℤ)
-      → IsReduced k M.ops n (DualLattice k ι T I) N y g
-      → IsReduced k M.ops n I₀ (DualFamily k R.ops ι T N) a₀ f₀ → IsReduced k M.ops n I₀ N y₀ g₀
+      → IsReducedBasisOfPair k M.ops n (DualLattice k ι T I) N y g
+      → IsReducedBasisOfPair k M.ops n I₀ (DualFamily k R.ops ι T N) a₀ f₀ → IsReducedBasisOfPair k M.ops n I₀ N y₀ g₀
       → (e : Pol k) → ¬ (e ≡ (pol_ring k).𝟘) → ((z : V) → I₀ z → DualLattice k ι T I (e • z))
       → ((degree_sum n g +ℤ degree_sum n d) +ℤ (degree_sum n f₀ -ℤ degree_sum n g₀)) ≡ pos 0
   dual_sum I₀ y a₀ y₀ g f₀ g₀ other standard standard' e some inner =

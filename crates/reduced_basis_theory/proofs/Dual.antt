@@ -9,8 +9,8 @@ use Rattle.ring_theory.proofs.Polynomials.{pol_ring}
 use Rattle.linear_theory.specs.Module.{Module, combine}
 use Rattle.linear_theory.proofs.Lists.{entry, insert}
 use Rattle.reduced_basis_theory.specs.Degree.{DegreeAtMost, degree}
-use Rattle.reduced_basis_theory.specs.Reduced.{InLattice, Coordinates, CoordinatesAtMost, IsReduced, IsReducedAt}
-use Rattle.reduced_basis_theory.specs.Dual.{AreFractions, IsForm, DualLattice, DualFamily, IsDualBasis, dot, negated}
+use Rattle.reduced_basis_theory.specs.Reduced.{InLattice, Coordinates, CoordinatesAtMost, IsReducedBasisOfPair, IsReducedAt}
+use Rattle.reduced_basis_theory.specs.Dual.{AreFractions, IsSymmetricForm, DualLattice, DualFamily, IsDualBasis, dot, negated}
 use Rattle.reduced_basis_theory.proofs.Degree.{degree_product, degree_cancel, degree_own, degree_multiply, size_least}
 use Rattle.reduced_basis_theory.proofs.Constants.{polynomials}
 use Rattle.reduced_basis_theory.proofs.Layers.{All_of_combine}
@@ -32,7 +32,7 @@ unit_symmetric x z (suc i) zero = refl
 unit_symmetric x z (suc i) (suc j) = unit_symmetric x z i j
 
 module _ {C V Q : Type 0} (k : TestedRing C) (field : IsField k.ops) (M : Module (pol_ring k).ring V) (R : CommRing Q)
-    (ι : Pol k → Q) (fractions : AreFractions k R.ops ι) (T : V → V → Q) (form : IsForm k M.ops R.ops ι T)
+    (ι : Pol k → Q) (fractions : AreFractions k R.ops ι) (T : V → V → Q) (form : IsSymmetricForm k M.ops R.ops ι T)
     (n : ℕ) where
   infixl 65 ◌⊞◌
   infixr 75 ◌•◌
@@ -57,7 +57,8 @@ module _ {C V Q : Type 0} (k : TestedRing C) (field : IsField k.ops) (M : Module
         (λ i l'. dual.forms i j (subst (λ n. i < n) dual.count l') l)
         ∙ ap ι (dot_single k (length c) p j (subst (λ n. j < n) (sym dual.count) l))
 
-    pub dual_form : (count : length b ≡ n) (p q : ℕ → Pol k) → T (combine M.ops q b) (combine M.ops p c) ≡ ι (dot k (length b) q p)
+    pub dual_form : (count : length b ≡ n) (p q : ℕ → Pol k) → T (combine M.ops q b) (combine M.ops p c)
+        ≡ ι (dot k (length b) q p)
     dual_form count p q =
         form_combine k M R ι fractions T form b q p (combine M.ops p c)
         (λ i l. form.symmetric _ _ ∙ dual_coordinate p i (subst (λ n. i < n) count l))
@@ -65,12 +66,14 @@ module _ {C V Q : Type 0} (k : TestedRing C) (field : IsField k.ops) (M : Module
     module _ (N : ℤ → V → Type 0) (d : ℕ → ℤ) (reduced : IsReducedAt k M.ops n N b d) where
       same : (y z : V) → ((i : ℕ) → i < n → T y (entry 𝟬 b i) ≡ T z (entry 𝟬 b i)) → y ≡ z
       same y z h =
-          same_by_forms k M R ι fractions T form b reduced.coordinates y z (λ i l. h i (subst (λ n. i < n) reduced.count l))
+          same_by_forms k M R ι fractions T form b reduced.coordinates y z
+          (λ i l. h i (subst (λ n. i < n) reduced.count l))
 
       dual_free : (p : ℕ → Pol k) → combine M.ops p c ≡ 𝟬 → (i : ℕ) → i < n → p i ≡ s.𝟘
       dual_free p e i l =
           fractions.injective (p i) s.𝟘
-          (sym (dual_coordinate p i l) ∙ ap (λ v. T v (entry 𝟬 b i)) e ∙ form_zero k M R ι fractions T form _ ∙ sym fractions.zero_is)
+          (sym (dual_coordinate p i l) ∙ ap (λ v. T v (entry 𝟬 b i)) e ∙ form_zero k M R ι fractions T form _
+          ∙ sym fractions.zero_is)
 
       dual_coordinates : (z : V) → Coordinates k M.ops c z
       dual_coordinates z =
@@ -79,7 +82,8 @@ module _ {C V Q : Type 0} (k : TestedRing C) (field : IsField k.ops) (M : Module
             denominator = f.denominator;
             nonzero = f.nonzero;
             coefficient = f.numerator;
-            is = same _ _ (λ i l. form.scale f.denominator z (entry 𝟬 b i) ∙ f.is i l ∙ sym (dual_coordinate f.numerator i l));
+            is = same _ _ (λ i l. form.scale f.denominator z (entry 𝟬 b i) ∙ f.is i l
+                ∙ sym (dual_coordinate f.numerator i l));
           }
 
       own_member : (i : ℕ) → i < n → N (d i) (entry 𝟬 b i)
@@ -94,18 +98,22 @@ module _ {C V Q : Type 0} (k : TestedRing C) (field : IsField k.ops) (M : Module
       bounded m z e p some is z_in i l =
           let f = z_in (d i) (entry 𝟬 b i) (own_member i l) in
           let t = T z (entry 𝟬 b i) in
-          let a : R.◌⊗◌ (ι e) t ≡ ι (p i) = sym (form.scale e z _) ∙ ap (λ v. T v (entry 𝟬 b i)) is ∙ dual_coordinate p i l in
+          let a : R.◌⊗◌ (ι e) t ≡ ι (p i) = sym (form.scale e z _) ∙ ap (λ v. T v (entry 𝟬 b i)) is
+          ∙ dual_coordinate p i l in
           let crossed : s.◌⊗◌ f.fraction.denominator (p i) ≡ s.◌⊗◌ e f.fraction.numerator
           = fractions.injective _ _
           (fractions.product_is _ _ ∙ ap (R.◌⊗◌ (ι f.fraction.denominator)) (sym a) ∙ mul_left_comm R _ _ _
           ∙ ap (R.◌⊗◌ (ι e)) f.fraction.is ∙ sym (fractions.product_is _ _)) in
           let domain = field_domain k.ring field in
-          let w : degree k e +ℤ (degree k f.fraction.denominator +ℤ (m +ℤ d i)) ≡ degree k f.fraction.denominator +ℤ (degree k e +ℤ (m -ℤ negated d i))
+          let w : degree k e +ℤ (degree k f.fraction.denominator +ℤ (m +ℤ d i))
+          ≡ degree k f.fraction.denominator +ℤ (degree k e +ℤ (m -ℤ negated d i))
           = omega (arith, ints) in
           degree_cancel k domain f.fraction.denominator (p i) (degree k e +ℤ (m -ℤ negated d i)) f.fraction.nonzero
-          (subst (λ q. DegreeAtMost k q (degree k f.fraction.denominator +ℤ (degree k e +ℤ (m -ℤ negated d i)))) (sym crossed)
+          (subst (λ q. DegreeAtMost k q (degree k f.fraction.denominator +ℤ (degree k e +ℤ (m -ℤ negated d i))))
+          (sym crossed)
           (subst (DegreeAtMost k (s.◌⊗◌ e f.fraction.numerator)) w
-          (degree_product k domain e f.fraction.numerator (degree k e) (degree k f.fraction.denominator +ℤ (m +ℤ d i)) (degree_own k domain e) f.bound)))
+          (degree_product k domain e f.fraction.numerator (degree k e)
+          (degree k f.fraction.denominator +ℤ (m +ℤ d i)) (degree_own k domain e) f.bound)))
 
       member : (m : ℤ) (z : V) (e : Pol k) (p : ℕ → Pol k) → ¬ (e ≡ s.𝟘) → e • z ≡ combine M.ops p c
           → CoordinatesAtMost k n (negated d) e p m → DualFamily k R.ops ι T N m z
@@ -128,7 +136,8 @@ module _ {C V Q : Type 0} (k : TestedRing C) (field : IsField k.ops) (M : Module
                 dot_degree k field (length b) f.coefficient p (degree k (s.◌⊗◌ e f.denominator) +ℤ (m +ℤ l))
                 (λ i i_below.
                 let i_in : i < n = subst (λ n. i < n) reduced.count i_below in
-                let x : (degree k f.denominator +ℤ (l -ℤ d i)) +ℤ (degree k e +ℤ (m -ℤ negated d i)) ≡ degree k (s.◌⊗◌ e f.denominator) +ℤ (m +ℤ l)
+                let x : (degree k f.denominator +ℤ (l -ℤ d i)) +ℤ (degree k e +ℤ (m -ℤ negated d i))
+                ≡ degree k (s.◌⊗◌ e f.denominator) +ℤ (m +ℤ l)
                 = omega (arith, ints) in
                 subst (DegreeAtMost k (s.◌⊗◌ (f.coefficient i) (p i))) x
                 (degree_product k domain (f.coefficient i) (p i) _ _ (g i i_in) (h i i_in)));
@@ -143,7 +152,7 @@ module _ {C V Q : Type 0} (k : TestedRing C) (field : IsField k.ops) (M : Module
         degrees = λ m z e p some is. (bounded m z e p some is, member m z e p some is);
       }
 
-    module _ (I : V → Type 0) (N : ℤ → V → Type 0) (d : ℕ → ℤ) (reduced : IsReduced k M.ops n I N b d) where
+    module _ (I : V → Type 0) (N : ℤ → V → Type 0) (d : ℕ → ℤ) (reduced : IsReducedBasisOfPair k M.ops n I N b d) where
       all_in : (i : ℕ) → I (entry 𝟬 b i)
       all_in =
           entry_in I 𝟬 b (lattice_zero k M I b reduced.lattice)
@@ -165,5 +174,5 @@ module _ {C V Q : Type 0} (k : TestedRing C) (field : IsField k.ops) (M : Module
           )
 
       -- duality
-      pub dual_reduced : IsReduced k M.ops n (DualLattice k ι T I) (DualFamily k R.ops ι T N) c (negated d)
+      pub dual_reduced : IsReducedBasisOfPair k M.ops n (DualLattice k ι T I) (DualFamily k R.ops ι T N) c (negated d)
       dual_reduced = record { at = dual_reduced_at N d reduced.at; lattice = λ z. (to_dual z, from_dual z) }

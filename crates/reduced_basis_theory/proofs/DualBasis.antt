@@ -11,7 +11,7 @@ use Rattle.linear_theory.proofs.Lists.{entry, insert}
 use Rattle.linear_theory.proofs.Elimination.{tabulate}
 use Rattle.linear_theory.proofs.Relation.{relation}
 use Rattle.reduced_basis_theory.specs.Reduced.{Coordinates}
-use Rattle.reduced_basis_theory.specs.Dual.{AreFractions, IsForm, IsDualBasis}
+use Rattle.reduced_basis_theory.specs.Dual.{AreFractions, IsSymmetricForm, IsDualBasis}
 use Rattle.linear_theory.proofs.Domain.{decide_equal}
 use Rattle.reduced_basis_theory.proofs.Constants.{polynomials, polynomial_domain}
 use Rattle.reduced_basis_theory.proofs.Forms.{form_zero, same_by_forms, Common, common}
@@ -27,7 +27,7 @@ entry_tabulate z (suc n) f zero l = refl
 entry_tabulate z (suc n) f (suc i) l = entry_tabulate z n (λ i. f (suc i)) i (omega arith)
 
 module _ {C V Q : Type 0} (k : TestedRing C) (field : IsField k.ops) (M : Module (pol_ring k).ring V) (R : CommRing Q)
-    (ι : Pol k → Q) (fractions : AreFractions k R.ops ι) (T : V → V → Q) (form : IsForm k M.ops R.ops ι T)
+    (ι : Pol k → Q) (fractions : AreFractions k R.ops ι) (T : V → V → Q) (form : IsSymmetricForm k M.ops R.ops ι T)
     (n : ℕ) (b : List V) (count : length b ≡ n)
     (free : (p : ℕ → Pol k) → combine M.ops p b ≡ M.𝟬 → (i : ℕ) → i < n → p i ≡ (pol_ring k).𝟘)
     (coordinates : (z : V) → Coordinates k M.ops b z)
@@ -52,7 +52,8 @@ module _ {C V Q : Type 0} (k : TestedRing C) (field : IsField k.ops) (M : Module
 
   -- the forms of a combination with the basis, by the rows
   forms_combine : (vs : List V) (c : ℕ → Pol k) (j : ℕ) → j < n
-      → T (combine M.ops (scaled vs c) vs) (entry 𝟬 b j) ≡ ι (combine (sequence_ops (pol_ring k).ops) c (map forms_row vs) j)
+      → T (combine M.ops (scaled vs c) vs) (entry 𝟬 b j)
+      ≡ ι (combine (sequence_ops (pol_ring k).ops) c (map forms_row vs) j)
   forms_combine [] c j l = form_zero k M R ι fractions T form _ ∙ sym fractions.zero_is
   forms_combine (v ∷ vs) c j l =
       form.sum _ _ _
@@ -72,7 +73,8 @@ module _ {C V Q : Type 0} (k : TestedRing C) (field : IsField k.ops) (M : Module
 
   dual_element : (i : ℕ) → DualElement i
   dual_element i =
-      go (relation (polynomial_domain k field) n (unit ∷ map forms_row b) (let e = length-map b forms_row in let f = count in omega arith))
+      go (relation (polynomial_domain k field) n (unit ∷ map forms_row b)
+      (let e = length-map b forms_row in let f = count in omega arith))
     where
       unit : ℕ → Pol k
       unit = insert i 𝟙 (λ l. 𝟘)
@@ -92,10 +94,13 @@ module _ {C V Q : Type 0} (k : TestedRing C) (field : IsField k.ops) (M : Module
               let null : z ≡ 𝟬
               = same_by_forms k M R ι fractions T form b coordinates z 𝟬 (λ j h.
               forms_combine b later j (subst (λ n. j < n) count h)
-              ∙ ap ι (sym (zero_add (pol_ring k).ring _) ∙ ap (λ x. x ⊕ combine (sequence_ops (pol_ring k).ops) later (map forms_row b) j) (sym (ap (λ x. x ⊗ unit j) e ∙ zero_mul (pol_ring k).ring (unit j)))
+              ∙ ap ι (sym (zero_add (pol_ring k).ring _)
+              ∙ ap (λ x. x ⊕ combine (sequence_ops (pol_ring k).ops) later (map forms_row b) j)
+              (sym (ap (λ x. x ⊗ unit j) e ∙ zero_mul (pol_ring k).ring (unit j)))
               ∙ s.is j (subst (λ n. j < n) count h))
               ∙ fractions.zero_is ∙ sym (form_zero k M R ι fractions T form _)) in
-              (polynomials k field).cancel_zero (forms_of (entry 𝟬 b l)).denominator (later l) (forms_of (entry 𝟬 b l)).nonzero
+              (polynomials k field).cancel_zero (forms_of (entry 𝟬 b l)).denominator (later l)
+              (forms_of (entry 𝟬 b l)).nonzero
               ((pol_ring k).mul_comm _ _ ∙ free (scaled b later) null l (omega arith))
 
           by_first : Dec (s.coefficient 0 ≡ 𝟘) → DualElement i
@@ -112,7 +117,8 @@ module _ {C V Q : Type 0} (k : TestedRing C) (field : IsField k.ops) (M : Module
                 forms = λ j l.
                     fractions.cancel (⊖ (s.coefficient 0)) _ _ a
                     (sym (form.scale _ w.0 _) ∙ ap (λ v. T v (entry 𝟬 b j)) w.1 ∙ forms_combine b later j l
-                    ∙ ap ι (neg_unique (pol_ring k).ring (s.coefficient 0 ⊗ unit j) _ (s.is j l) ∙ sym (neg_mul (pol_ring k).ring (s.coefficient 0) (unit j)))
+                    ∙ ap ι (neg_unique (pol_ring k).ring (s.coefficient 0 ⊗ unit j) _ (s.is j l)
+                    ∙ sym (neg_mul (pol_ring k).ring (s.coefficient 0) (unit j)))
                     ∙ fractions.product_is _ _);
               }
 

@@ -1,4 +1,5 @@
--- Each pair of a lattice and a family has a reduced basis: by the Popov form of the coordinates of the one in a reduced basis for the other.
+-- Each pair of a lattice and a family has a reduced basis: by the Popov form of the coordinates of the one in a
+-- reduced basis for the other.
 use Rattle.std.proofs.Common.{◌≡◌, ℕ, zero, suc, ◌<◌, ◌≤◌, ◌+◌, ◌-◌, ◌↔◌, ℤ, pos, ◌+ℤ◌, ◌-ℤ◌, List, [], ◌∷◌, length, refl, sym, ◌∙◌, ap, ap₂, subst, arith}
 use Rattle.std.proofs.lemmas.Int.{ints}
 use Rattle.ring_theory.specs.Ring.{TestedRing, IsField}
@@ -19,7 +20,7 @@ use Rattle.popov_theory.proofs.Measure.{zero_row}
 use Rattle.popov_theory.proofs.Existence.{popov_basis}
 use Rattle.popov_theory.proofs.PolynomialRows.{row_width, row_module_zero, row_module_scale, entry_zero, entry_scale, same_entries}
 use Rattle.reduced_basis_theory.specs.Degree.{DegreeAtMost, degree, size, total}
-use Rattle.reduced_basis_theory.specs.Reduced.{InLattice, Coordinates, CoordinatesAtMost, IsReducedAt, IsReduced, IsLatticeBasis}
+use Rattle.reduced_basis_theory.specs.Reduced.{InLattice, Coordinates, CoordinatesAtMost, IsReducedAt, IsReducedBasisOfPair, IsLatticeBasis}
 use Rattle.reduced_basis_theory.specs.Rows.{from_rows, row_times, IsPredictable}
 use Rattle.reduced_basis_theory.proofs.Degree.{size_is, degree_multiply}
 use Rattle.reduced_basis_theory.proofs.Constants.{polynomials}
@@ -88,7 +89,8 @@ module _ {C V : Type 0} (k : TestedRing C) (field : IsField k.ops) (M : Module (
   combine_common h (v ∷ g) f A is c =
       M.scale_add f _ _
       ∙ ap₂ ◌⊞◌
-      (sym (M.mul_scale f (c 0) v) ∙ ap (λ p. p • v) ((pol_ring k).mul_comm f (c 0)) ∙ M.mul_scale (c 0) f v ∙ ap (λ x. c 0 • x) (is 0 (omega arith)))
+      (sym (M.mul_scale f (c 0) v) ∙ ap (λ p. p • v) ((pol_ring k).mul_comm f (c 0)) ∙ M.mul_scale (c 0) f v
+      ∙ ap (λ x. c 0 • x) (is 0 (omega arith)))
       (combine_common h g f (λ i. A (suc i)) (λ i l. is (suc i) (omega (arith, l))) (λ i. c (suc i)))
       ∙ sym (combine_linear M (c 0) (A 0) (row_times k (length g) (λ i. c (suc i)) (λ i. A (suc i))) h)
 
@@ -106,7 +108,7 @@ module _ {C V : Type 0} (k : TestedRing C) (field : IsField k.ops) (M : Module (
   pub record HasReducedBasis : Type 0 where
     pub basis : List V
     pub degrees : ℕ → ℤ
-    pub is : IsReduced k M.ops (suc n) I N basis degrees
+    pub is : IsReducedBasisOfPair k M.ops (suc n) I N basis degrees
 
   module _ (T : ℕ) (high : IsLarge (suc n) (λ i. pos 0 -ℤ t i) (pos T)) where
     abbrev a : ℕ → ℕ
@@ -139,7 +141,8 @@ module _ {C V : Type 0} (k : TestedRing C) (field : IsField k.ops) (M : Module (
     fills j l =
         let b = total_member (suc n) a j l in
         let e : a j + (E - a j) ≡ E = omega (arith, b) in
-        sym (pow_add (pol_ring k).ring (Rattle.reduced_basis_theory.specs.Reduced.variable k) (a j) (E - a j)) ∙ ap (power k field) e
+        sym (pow_add (pol_ring k).ring (Rattle.reduced_basis_theory.specs.Reduced.variable k) (a j) (E - a j))
+        ∙ ap (power k field) e
 
     abbrev common : CommonRows k field M h g
     common = common_rows k field M h g reduced.coordinates
@@ -157,13 +160,17 @@ module _ {C V : Type 0} (k : TestedRing C) (field : IsField k.ops) (M : Module (
     rs_length = tabulate_length (Rows k field n) (suc n) (λ i. weighted k field n u some (A i))
 
     rs_at : (i : ℕ) → i < length rs → row_at (Rows k field n) rs i ≡ weighted k field n u some (A i)
-    rs_at i l = tabulate_at (Rows k field n) (suc n) (λ i. weighted k field n u some (A i)) i (subst (λ x. i < x) rs_length l)
+    rs_at i l =
+        tabulate_at (Rows k field n) (suc n) (λ i. weighted k field n u some (A i)) i (subst (λ x. i < x) rs_length l)
 
-    combine_rs : (c : ℕ → Pol k) → Rattle.popov_theory.specs.Span.combine (Rows k field n) c rs ≡ weighted k field n u some (row_times k (suc n) c A)
-    combine_rs c = weighted_combine k field n u some rs A rs_at c ∙ ap (λ x. weighted k field n u some (row_times k x c A)) rs_length
+    combine_rs : (c : ℕ → Pol k) → Rattle.popov_theory.specs.Span.combine (Rows k field n) c rs
+        ≡ weighted k field n u some (row_times k (suc n) c A)
+    combine_rs c = weighted_combine k field n u some rs A rs_at c
+        ∙ ap (λ x. weighted k field n u some (row_times k x c A)) rs_length
 
     combine_g : (c : ℕ → Pol k) → f • combine M.ops c g ≡ combine M.ops (row_times k (suc n) c A) h
-    combine_g c = combine_common k field M h g f A common.is c ∙ ap (λ x. combine M.ops (row_times k x c A) h) lattice.count
+    combine_g c = combine_common k field M h g f A common.is c
+        ∙ ap (λ x. combine M.ops (row_times k x c A) h) lattice.count
 
     -- coordinates whose weighted row is a power of x times v
     abbrev q : Row (Pol k) (suc n) → ℕ → Pol k
@@ -173,17 +180,20 @@ module _ {C V : Type 0} (k : TestedRing C) (field : IsField k.ops) (M : Module (
     full : HasFullRank (Rows k field n) rs
     full = record { multiple = λ v. go v (lattice.coordinates (combine M.ops (q v) h)) }
       where
-        go : (v : Row (Pol k) (suc n)) → Coordinates k M.ops g (combine M.ops (q v) h) → Rattle.popov_theory.specs.Span.HasMultipleIn (Rows k field n) rs v
+        go : (v : Row (Pol k) (suc n)) → Coordinates k M.ops g (combine M.ops (q v) h)
+            → Rattle.popov_theory.specs.Span.HasMultipleIn (Rows k field n) rs v
         go v c =
             let x = f ⊗ c.denominator in
             let e : combine M.ops (row_times k (suc n) c.coefficient A) h ≡ combine M.ops (λ j. x ⊗ q v j) h
-            = sym (combine_g c.coefficient) ∙ ap (λ y. f • y) (sym c.is) ∙ sym (M.mul_scale f c.denominator _) ∙ sym (combine_scale M x (q v) h) in
+            = sym (combine_g c.coefficient) ∙ ap (λ y. f • y) (sym c.is) ∙ sym (M.mul_scale f c.denominator _)
+            ∙ sym (combine_scale M x (q v) h) in
             let same = same_coefficients M h (suc n) reduced.free _ _ e in
             record {
               factor = x ⊗ power k field E;
               some =
                   product_not_zero (polynomials k field) x (power k field E)
-                  (product_not_zero (polynomials k field) f c.denominator common.nonzero c.nonzero) (power_nonzero k field E);
+                  (product_not_zero (polynomials k field) f c.denominator common.nonzero c.nonzero)
+                  (power_nonzero k field E);
               in_span =
                   record {
                     coefficients = c.coefficient;
@@ -229,10 +239,12 @@ module _ {C V : Type 0} (k : TestedRing C) (field : IsField k.ops) (M : Module (
     combine_b : (c : ℕ → Pol k) → f • combine M.ops c b ≡ combine M.ops (row_times k (suc n) c B) h
     combine_b c =
         combine_common k field M h b f B
-        (λ i l. ap (λ v. f • v) (entry_tabulate 𝟬 (suc n) (λ i. combine M.ops (U i) g) i (subst (λ x. i < x) b_length l)) ∙ combine_g (U i)) c
+        (λ i l. ap (λ v. f • v) (entry_tabulate 𝟬 (suc n) (λ i. combine M.ops (U i) g) i
+        (subst (λ x. i < x) b_length l)) ∙ combine_g (U i)) c
         ∙ ap (λ x. combine M.ops (row_times k x c B) h) b_length
 
-    combine_form : (c : ℕ → Pol k) → Rattle.popov_theory.specs.Span.combine (Rows k field n) c form.rows ≡ weighted k field n u some (row_times k (suc n) c B)
+    combine_form : (c : ℕ → Pol k) → Rattle.popov_theory.specs.Span.combine (Rows k field n) c form.rows
+        ≡ weighted k field n u some (row_times k (suc n) c B)
     combine_form c =
         weighted_combine k field n u some form.rows B (λ i l. form_at i) c
         ∙ ap (λ x. weighted k field n u some (row_times k x c B)) form_length
@@ -245,7 +257,8 @@ module _ {C V : Type 0} (k : TestedRing C) (field : IsField k.ops) (M : Module (
 
     predictable : IsPredictable k (suc n) B t d₀
     predictable =
-        weighted_predictable k field n u some form.rows form_length (popov_weak (Rows k field n) form.rows form.is) rows_some B (λ i l. form_at i) t S weights
+        weighted_predictable k field n u some form.rows form_length (popov_weak (Rows k field n) form.rows form.is)
+        rows_some B (λ i l. form_at i) t S weights
 
     abbrev d : ℕ → ℤ
     d i = d₀ i -ℤ degree k f
@@ -254,7 +267,8 @@ module _ {C V : Type 0} (k : TestedRing C) (field : IsField k.ops) (M : Module (
         → N m z ↔ CoordinatesAtMost k (suc n) d e c m
     degrees_from m z e c e_some is =
         let x = f ⊗ e in
-        let r = reduced.degrees m z x (row_times k (suc n) c B) (product_not_zero (polynomials k field) f e common.nonzero e_some)
+        let r = reduced.degrees m z x (row_times k (suc n) c B)
+        (product_not_zero (polynomials k field) f e common.nonzero e_some)
         (M.mul_scale f e z ∙ ap (λ v. f • v) is ∙ combine_b c) in
         let p = predictable c (degree k x +ℤ m) in
         let q = degree_multiply k (field_domain k.ring field) f e common.nonzero e_some in
@@ -272,10 +286,12 @@ module _ {C V : Type 0} (k : TestedRing C) (field : IsField k.ops) (M : Module (
     free_b : (c : ℕ → Pol k) → combine M.ops c b ≡ 𝟬 → (i : ℕ) → i < suc n → c i ≡ 𝟘
     free_b c null i l =
         let zero = reduced.free (row_times k (suc n) c B) (sym (combine_b c) ∙ ap (λ v. f • v) null ∙ scale_zero M f) in
-        coefficients_zero (Rows k field n) (field_domain k.ring field) form.rows (popov_weak (Rows k field n) form.rows form.is) c
+        coefficients_zero (Rows k field n) (field_domain k.ring field) form.rows
+        (popov_weak (Rows k field n) form.rows form.is) c
         (combine_form c
         ∙ same_entries k (suc n) _ _ (λ j l'.
-        entry_weighted k field n u some (row_times k (suc n) c B) j l' ∙ ap (λ y. u j ⊗ y) (zero j l') ∙ Rattle.ring_theory.proofs.Ring.mul_zero (pol_ring k).ring (u j)
+        entry_weighted k field n u some (row_times k (suc n) c B) j l' ∙ ap (λ y. u j ⊗ y) (zero j l')
+        ∙ Rattle.ring_theory.proofs.Ring.mul_zero (pol_ring k).ring (u j)
         ∙ sym (entry_zero k (suc n) j))
         ∙ sym (row_module_zero k n))
         i (subst (λ x. i < x) (sym form_length) l)
@@ -288,7 +304,8 @@ module _ {C V : Type 0} (k : TestedRing C) (field : IsField k.ops) (M : Module (
         let same : (j : ℕ) → j < suc n → row_times k (suc n) c A j ≡ row_times k (suc n) c' B j
         = weighted_injective k field n u some _ _ (sym (combine_rs c) ∙ y.is ∙ combine_form c') in
         let multiple : f • combine M.ops c g ≡ f • combine M.ops c' b
-        = combine_g c ∙ combine_cong M _ _ h (λ j l. same j (subst (λ x. j < x) reduced.count l)) ∙ sym (combine_b c') in
+        = combine_g c ∙ combine_cong M _ _ h (λ j l. same j (subst (λ x. j < x) reduced.count l))
+        ∙ sym (combine_b c') in
         let p = row_times k (suc n) c' U in
         let rows : combine M.ops c' b ≡ combine M.ops p g = combine_rows k M (suc n) g c' U in
         let scaled : combine M.ops (λ i. f ⊗ c i) g ≡ combine M.ops (λ i. f ⊗ p i) g
@@ -313,14 +330,23 @@ module _ {C V : Type 0} (k : TestedRing C) (field : IsField k.ops) (M : Module (
           coordinates = λ z.
               let c = lattice.coordinates z in
               let y = to_b c.coefficient in
-              record { denominator = c.denominator; nonzero = c.nonzero; coefficient = y.coefficient; is = c.is ∙ y.is };
+              record {
+                denominator = c.denominator;
+                nonzero = c.nonzero;
+                coefficient = y.coefficient;
+                is = c.is ∙ y.is;
+              };
           degrees = degrees_from;
         };
         lattice = λ z. (
-          λ z_in. let c = (lattice.lattice z).0 z_in in let y = to_b c.coefficient in record { coefficient = y.coefficient; is = c.is ∙ y.is },
+          λ z_in. let c = (lattice.lattice z).0 z_in in let y = to_b c.coefficient in
+              record { coefficient = y.coefficient; is = c.is ∙ y.is },
           λ z_in.
               (lattice.lattice z).1
-              (record { coefficient = row_times k (suc n) z_in.coefficient U; is = z_in.is ∙ combine_rows k M (suc n) g z_in.coefficient U }),
+              (record {
+                coefficient = row_times k (suc n) z_in.coefficient U;
+                is = z_in.is ∙ combine_rows k M (suc n) g z_in.coefficient U;
+              }),
         );
       };
     }

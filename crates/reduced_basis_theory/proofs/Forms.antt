@@ -8,7 +8,7 @@ use Rattle.linear_theory.specs.Module.{Module, combine}
 use Rattle.linear_theory.proofs.Lists.{entry, insert}
 use Rattle.reduced_basis_theory.specs.Degree.{DegreeAtMost}
 use Rattle.reduced_basis_theory.specs.Reduced.{Coordinates}
-use Rattle.reduced_basis_theory.specs.Dual.{Fraction, AreFractions, IsForm, dot}
+use Rattle.reduced_basis_theory.specs.Dual.{PolynomialFraction, AreFractions, IsSymmetricForm, dot}
 use Rattle.reduced_basis_theory.proofs.Degree.{degree_zero, degree_sum_in}
 use Rattle.reduced_basis_theory.proofs.Constants.{polynomials}
 
@@ -55,7 +55,7 @@ module _ {C Q : Type 0} (k : TestedRing C) (R : CommRing Q) (ι : Pol k → Q) (
   }
   common field (suc n) r = go (fractions.fraction (r 0)) (common field n (λ i. r (suc i)))
     where
-      go : Fraction k R.ops ι (r 0) → Common n (λ i. r (suc i)) → Common (suc n) r
+      go : PolynomialFraction k R.ops ι (r 0) → Common n (λ i. r (suc i)) → Common (suc n) r
       go f c = record {
         denominator = (pol_ring k).◌⊗◌ f.denominator c.denominator;
         nonzero = product_not_zero (polynomials k field) _ _ f.nonzero c.nonzero;
@@ -65,18 +65,22 @@ module _ {C Q : Type 0} (k : TestedRing C) (R : CommRing Q) (ι : Pol k → Q) (
         where
           numerators : ℕ → Pol k
           numerators =
-              insert 0 ((pol_ring k).◌⊗◌ c.denominator f.numerator) (λ i. (pol_ring k).◌⊗◌ f.denominator (c.numerator i))
+              insert 0 ((pol_ring k).◌⊗◌ c.denominator f.numerator)
+              (λ i. (pol_ring k).◌⊗◌ f.denominator (c.numerator i))
 
           all : (i : ℕ) → i < suc n → ι ((pol_ring k).◌⊗◌ f.denominator c.denominator) ⊗ r i ≡ ι (numerators i)
           all zero l =
-              ap (λ a. a ⊗ r 0) (fractions.product_is _ _ ∙ R.mul_comm _ _) ∙ R.mul_assoc _ _ _ ∙ ap (λ a. ι c.denominator ⊗ a) f.is
+              ap (λ a. a ⊗ r 0) (fractions.product_is _ _ ∙ R.mul_comm _ _) ∙ R.mul_assoc _ _ _
+              ∙ ap (λ a. ι c.denominator ⊗ a) f.is
               ∙ sym (fractions.product_is _ _)
           all (suc i) l =
-              ap (λ a. a ⊗ r (suc i)) (fractions.product_is _ _) ∙ R.mul_assoc _ _ _ ∙ ap (λ a. ι f.denominator ⊗ a) (c.is i (omega arith))
+              ap (λ a. a ⊗ r (suc i)) (fractions.product_is _ _) ∙ R.mul_assoc _ _ _
+              ∙ ap (λ a. ι f.denominator ⊗ a) (c.is i (omega arith))
               ∙ sym (fractions.product_is _ _)
 
 module _ {C V Q : Type 0} (k : TestedRing C) (M : Module (pol_ring k).ring V) (R : CommRing Q)
-    (ι : Pol k → Q) (fractions : AreFractions k R.ops ι) (T : V → V → Q) (form : IsForm k M.ops R.ops ι T) where
+    (ι : Pol k → Q) (fractions : AreFractions k R.ops ι) (T : V → V → Q)
+    (form : IsSymmetricForm k M.ops R.ops ι T) where
   infixl 65 ◌⊞◌
   infixr 75 ◌•◌
   open M use {𝟬, ◌⊞◌, ◌•◌}
@@ -87,7 +91,8 @@ module _ {C V Q : Type 0} (k : TestedRing C) (M : Module (pol_ring k).ring V) (R
 
   pub form_zero : (w : V) → T 𝟬 w ≡ R.𝟘
   form_zero w =
-      ap (λ v. T v w) (sym (M.zero_scale 𝟬)) ∙ form.scale (pol_ring k).𝟘 𝟬 w ∙ ap (λ a. a ⊗ T 𝟬 w) fractions.zero_is ∙ zero_mul R _
+      ap (λ v. T v w) (sym (M.zero_scale 𝟬)) ∙ form.scale (pol_ring k).𝟘 𝟬 w ∙ ap (λ a. a ⊗ T 𝟬 w) fractions.zero_is
+      ∙ zero_mul R _
 
   -- the form of a combination with an element that has polynomial forms with the list
   pub form_combine : (vs : List V) (p q : ℕ → Pol k) (w : V) → ((i : ℕ) → i < length vs → T (entry 𝟬 vs i) w ≡ ι (q i))
@@ -99,7 +104,8 @@ module _ {C V Q : Type 0} (k : TestedRing C) (M : Module (pol_ring k).ring V) (R
       (form_combine vs (λ i. p (suc i)) (λ i. q (suc i)) w (λ i l. h (suc i) (omega arith)))
       ∙ sym (fractions.sum_is _ _)
 
-  form_equal : (vs : List V) (p : ℕ → Pol k) (y z : V) → ((i : ℕ) → i < length vs → T (entry 𝟬 vs i) y ≡ T (entry 𝟬 vs i) z)
+  form_equal : (vs : List V) (p : ℕ → Pol k) (y z : V)
+      → ((i : ℕ) → i < length vs → T (entry 𝟬 vs i) y ≡ T (entry 𝟬 vs i) z)
       → T (combine M.ops p vs) y ≡ T (combine M.ops p vs) z
   form_equal [] p y z h = form_zero y ∙ sym (form_zero z)
   form_equal (v ∷ vs) p y z h =

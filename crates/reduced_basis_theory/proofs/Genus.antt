@@ -9,7 +9,7 @@ use Rattle.linear_theory.specs.Basis.{IsBasis, IsNull, IsSubspace, IsSum}
 use Rattle.linear_theory.proofs.Module.{linear, parts, vector, zero_plus}
 use Rattle.linear_theory.proofs.Dimension.{Relative, relative_basis, basis_transport}
 use Rattle.reduced_basis_theory.specs.Degree.{total, degree_sum}
-use Rattle.reduced_basis_theory.specs.Reduced.{IsReduced, Section, constants_ops, layers}
+use Rattle.reduced_basis_theory.specs.Reduced.{IsReducedBasisOfPair, Section, constants_ops, layers}
 use Rattle.reduced_basis_theory.proofs.Constants.{coefficients}
 use Rattle.reduced_basis_theory.proofs.Layers.{over_constants}
 use Rattle.reduced_basis_theory.proofs.Count.{sizes, section_basis, length_section}
@@ -64,7 +64,8 @@ constant_sum_plus (suc n) j = let e = constant_sum_plus n j in omega (arith, int
 module _ {C V : Type 0} (k : TestedRing C) (field : IsField k.ops) (M : Module (pol_ring k).ring V) (n : ℕ)
     (divide : ℕ → V → V) (undo : (j : ℕ) (z : V) → M.◌•◌ (power k field j) (divide j z) ≡ z)
     (redo : (j : ℕ) (z : V) → divide j (M.◌•◌ (power k field j) z) ≡ z)
-    (I : V → Type 0) (N : ℤ → V → Type 0) (b : List V) (d : ℕ → ℤ) (reduced : IsReduced k M.ops n I N b d) where
+    (I : V → Type 0) (N : ℤ → V → Type 0) (b : List V) (d : ℕ → ℤ)
+    (reduced : IsReducedBasisOfPair k M.ops n I N b d) where
   open M use {𝟬, ◌⊞◌, ◌•◌}
 
   infixl 65 ◌⊞◌
@@ -110,14 +111,18 @@ module _ {C V : Type 0} (k : TestedRing C) (field : IsField k.ops) (M : Module (
           steps : HasIndex k field M n (N (pos 0)) (N m) (degree_sum n (λ i. d i +ℤ back)) (degree_sum n d)
           steps =
               family_index_zero k field M n divide undo redo I (λ l. N (l -ℤ back)) N b b (λ i. d i +ℤ back) d
-              (reduced_shift k M n I N b d back reduced) reduced (λ l z. rising k field M n N b d reduced.at l (l -ℤ back) z (omega (arith, ints)))
+              (reduced_shift k M n I N b d back reduced) reduced
+              (λ l z. rising k field M n N b d reduced.at l (l -ℤ back) z (omega (arith, ints)))
 
           sections : Relative (coefficients k field) (over_constants k M) (Section I N (pos 0)) (Section I N m)
               (layers k M.ops b (sizes d (pos 0))) (layers k M.ops b (sizes d m))
           sections =
-              relative_basis (coefficients k field) (over_constants k M) (IsNull (constants_ops k M.ops)) (Section I N (pos 0)) (Section I N m)
-              (null_in k field M n) (intersection_space k M I (N (pos 0)) 𝓘 (𝓝 (pos 0))) (intersection_space k M I (N m) 𝓘 (𝓝 m))
-              (λ v e. (subst I (sym e) 𝓘.zero_in, subst (N (pos 0)) (sym e) (𝓝 (pos 0)).zero_in)) (λ v h. (h.0, up v h.1)) _ _
+              relative_basis (coefficients k field) (over_constants k M) (IsNull (constants_ops k M.ops))
+              (Section I N (pos 0)) (Section I N m)
+              (null_in k field M n) (intersection_space k M I (N (pos 0)) 𝓘 (𝓝 (pos 0)))
+              (intersection_space k M I (N m) 𝓘 (𝓝 m))
+              (λ v e. (subst I (sym e) 𝓘.zero_in, subst (N (pos 0)) (sym e) (𝓝 (pos 0)).zero_in))
+              (λ v h. (h.0, up v h.1)) _ _
               (section_basis k field M n I N b d reduced (pos 0)) (section_basis k field M n I N b d reduced m)
 
           Middle : V → Type 0
@@ -125,9 +130,19 @@ module _ {C V : Type 0} (k : TestedRing C) (field : IsField k.ops) (M : Module (
 
           middle : IsBasis k.ops (constants_ops k M.ops) (N (pos 0)) Middle sections.members
           middle =
-              basis_transport (coefficients k field) (over_constants k M) (Section I N (pos 0)) (Section I N m) (N (pos 0)) Middle
+              basis_transport (coefficients k field) (over_constants k M) (Section I N (pos 0)) (Section I N m)
+              (N (pos 0)) Middle
               (intersection_space k M I (N m) 𝓘 (𝓝 m)) (𝓝 (pos 0)) (λ v h. h.1)
-              (λ v h. (record { left = v; left_in = h.0; right = 𝟬; right_in = (𝓝 (pos 0)).zero_in; is = sym (M.add_zero v) }, h.1))
+              (λ v h. (
+                record {
+                  left = v;
+                  left_in = h.0;
+                  right = 𝟬;
+                  right_in = (𝓝 (pos 0)).zero_in;
+                  is = sym (M.add_zero v);
+                },
+                h.1,
+              ))
               (λ v h h'. (h.0, h'))
               (λ v h.
               let s = h.0 in
@@ -135,7 +150,8 @@ module _ {C V : Type 0} (k : TestedRing C) (field : IsField k.ops) (M : Module (
                 left = s.left;
                 left_in = (
                   s.left_in,
-                  subst (N m) (ap (λ x. (over_constants k M).◌⊞◌ ((over_constants k M).◌•◌ (k.⊖◌ k.𝟙) s.right) x) s.is ∙ take_away (over_constants k M) s.left s.right)
+                  subst (N m) (ap (λ x. (over_constants k M).◌⊞◌ ((over_constants k M).◌•◌ (k.⊖◌ k.𝟙) s.right) x)
+                      s.is ∙ take_away (over_constants k M) s.left s.right)
                       ((𝓝 m).sum_in _ _ ((𝓝 m).scale_in (k.⊖◌ k.𝟙) _ (up _ s.right_in)) h.1),
                 );
                 right = s.right;
@@ -147,8 +163,12 @@ module _ {C V : Type 0} (k : TestedRing C) (field : IsField k.ops) (M : Module (
           last : Relative (coefficients k field) (over_constants k M) Middle (N m) sections.members steps.members
           last =
               relative_basis (coefficients k field) (over_constants k M) (N (pos 0)) Middle (N m) (𝓝 (pos 0))
-              (intersection_space k M Both (N m) (sum_space (over_constants k M) I (N (pos 0)) 𝓘 (𝓝 (pos 0))) (𝓝 m)) (𝓝 m)
-              (λ v h. (record { left = 𝟬; left_in = 𝓘.zero_in; right = v; right_in = h; is = sym (zero_plus M v) }, up v h))
+              (intersection_space k M Both (N m) (sum_space (over_constants k M) I (N (pos 0)) 𝓘 (𝓝 (pos 0))) (𝓝 m))
+              (𝓝 m)
+              (λ v h. (
+                record { left = 𝟬; left_in = 𝓘.zero_in; right = v; right_in = h; is = sym (zero_plus M v) },
+                up v h,
+              ))
               (λ v h. h.1) _ _ middle steps.basis
 
           whole : IsBasis k.ops (constants_ops k M.ops) Both Whole last.members

@@ -1,4 +1,5 @@
--- What a reduced basis says of the family N: the N m are closed under sums, and polynomials and denominators shift them.
+-- What a reduced basis says of the family N: the N m are closed under sums, and polynomials and denominators shift
+-- them.
 use Rattle.std.proofs.Common.{◌≡◌, ℕ, zero, suc, ◌<◌, ℤ, ◌+ℤ◌, ◌-ℤ◌, ◌≤ℤ◌, List, [], ◌∷◌, length, refl, sym, ◌∙◌, ap, ap₂, subst, arith}
 use Rattle.std.proofs.lemmas.Int.{ints}
 use Rattle.ring_theory.specs.Ring.{TestedRing, CommRing, IsField}
@@ -26,7 +27,8 @@ single_other z zero x (suc j) h = refl
 single_other z (suc i) x zero h = refl
 single_other z (suc i) x (suc j) h = single_other z i x j (λ e. h (ap suc e))
 
-pub single_all : {A : Type 0} (P : ℕ → A → Type 0) (z : A) (i : ℕ) (x : A) → P i x → ((j : ℕ) → P j z) → (j : ℕ) → P j (single z i x j)
+pub single_all : {A : Type 0} (P : ℕ → A → Type 0) (z : A) (i : ℕ) (x : A) → P i x → ((j : ℕ) → P j z) → (j : ℕ)
+    → P j (single z i x j)
 single_all P z zero x h f zero = h
 single_all P z zero x h f (suc j) = f (suc j)
 single_all P z (suc i) x h f zero = f 0
@@ -53,7 +55,8 @@ module _ {C V : Type 0} (k : TestedRing C) (field : IsField k.ops) (M : Module (
   open s use {𝟘, 𝟙, ◌⊕◌, ◌⊗◌}
 
   pub combine_single : (i : ℕ) (p : Pol k) → i < length b → combine M.ops (single 𝟘 i p) b ≡ p • entry 𝟬 b i
-  combine_single i p l = combine_insert M i p (λ j. 𝟘) b l ∙ ap (λ x. p • entry 𝟬 b i ⊞ x) (combine_zero M (remove i b)) ∙ M.add_zero _
+  combine_single i p l = combine_insert M i p (λ j. 𝟘) b l
+      ∙ ap (λ x. p • entry 𝟬 b i ⊞ x) (combine_zero M (remove i b)) ∙ M.add_zero _
 
   pub zero_in : (m : ℤ) → N m 𝟬
   zero_in m =
@@ -80,8 +83,10 @@ module _ {C V : Type 0} (k : TestedRing C) (field : IsField k.ops) (M : Module (
       (reduced.degrees (m +ℤ l) (p • z) c.denominator (λ i. p ⊗ c.coefficient i) c.nonzero
       (scaled_one c.denominator p z ∙ ap (λ v. p • v) c.is ∙ sym (combine_scale M p c.coefficient b))).1
       (λ i l'.
-      let e : l +ℤ (degree k c.denominator +ℤ (m -ℤ d i)) ≡ degree k c.denominator +ℤ ((m +ℤ l) -ℤ d i) = omega (arith, ints) in
-      subst (DegreeAtMost k (p ⊗ c.coefficient i)) e (degree_product k (field_domain k.ring field) p (c.coefficient i) l _ h (f i l')))
+      let e : l +ℤ (degree k c.denominator +ℤ (m -ℤ d i))
+      ≡ degree k c.denominator +ℤ ((m +ℤ l) -ℤ d i) = omega (arith, ints) in
+      subst (DegreeAtMost k (p ⊗ c.coefficient i)) e
+      (degree_product k (field_domain k.ring field) p (c.coefficient i) l _ h (f i l')))
 
   -- and a denominator takes it back
   pub divide_in : (m : ℤ) (e : Pol k) (z : V) → ¬ (e ≡ 𝟘) → N (m +ℤ degree k e) (e • z) → N m z
@@ -91,8 +96,10 @@ module _ {C V : Type 0} (k : TestedRing C) (field : IsField k.ops) (M : Module (
       (scaled_one c.denominator e z ∙ ap (λ v. e • v) c.is ∙ sym (combine_scale M e c.coefficient b))).0 h in
       (reduced.degrees m z c.denominator c.coefficient c.nonzero c.is).1
       (λ i l.
-      let w : degree k c.denominator +ℤ ((m +ℤ degree k e) -ℤ d i) ≡ degree k e +ℤ (degree k c.denominator +ℤ (m -ℤ d i)) = omega (arith, ints) in
-      degree_cancel k (field_domain k.ring field) e (c.coefficient i) _ some (subst (DegreeAtMost k (e ⊗ c.coefficient i)) w (f i l)))
+      let w : degree k c.denominator +ℤ ((m +ℤ degree k e) -ℤ d i)
+      ≡ degree k e +ℤ (degree k c.denominator +ℤ (m -ℤ d i)) = omega (arith, ints) in
+      degree_cancel k (field_domain k.ring field) e (c.coefficient i) _ some
+      (subst (DegreeAtMost k (e ⊗ c.coefficient i)) w (f i l)))
 
   pub sum_in : (m : ℤ) (y z : V) → N m y → N m z → N m (y ⊞ z)
   sum_in m y z y_in z_in =
@@ -105,18 +112,24 @@ module _ {C V : Type 0} (k : TestedRing C) (field : IsField k.ops) (M : Module (
       (λ i. c.denominator ⊗ a.coefficient i ⊕ a.denominator ⊗ c.coefficient i)
       (product_not_zero (polynomials k field) _ _ a.nonzero c.nonzero)
       (scale_both M a.denominator c.denominator y z ∙ ap₂ (λ u v. c.denominator • u ⊞ a.denominator • v) a.is c.is
-      ∙ ap (λ v. c.denominator • combine M.ops a.coefficient b ⊞ v) (sym (combine_scale M a.denominator c.coefficient b))
+      ∙ ap (λ v. c.denominator • combine M.ops a.coefficient b ⊞ v)
+      (sym (combine_scale M a.denominator c.coefficient b))
       ∙ sym (combine_linear M c.denominator a.coefficient (λ i. a.denominator ⊗ c.coefficient i) b))).1
       (λ i l.
       let w = degree_multiply k domain a.denominator c.denominator a.nonzero c.nonzero in
-      let e : degree k c.denominator +ℤ (degree k a.denominator +ℤ (m -ℤ d i)) ≡ degree k (a.denominator ⊗ c.denominator) +ℤ (m -ℤ d i) = omega (arith, ints) in
-      let e' : degree k a.denominator +ℤ (degree k c.denominator +ℤ (m -ℤ d i)) ≡ degree k (a.denominator ⊗ c.denominator) +ℤ (m -ℤ d i) = omega (arith, ints) in
+      let e : degree k c.denominator +ℤ (degree k a.denominator +ℤ (m -ℤ d i))
+      ≡ degree k (a.denominator ⊗ c.denominator) +ℤ (m -ℤ d i) = omega (arith, ints) in
+      let e' : degree k a.denominator +ℤ (degree k c.denominator +ℤ (m -ℤ d i))
+      ≡ degree k (a.denominator ⊗ c.denominator) +ℤ (m -ℤ d i) = omega (arith, ints) in
       degree_sum_in k domain _ _ (degree k (a.denominator ⊗ c.denominator) +ℤ (m -ℤ d i))
-      (subst (DegreeAtMost k (c.denominator ⊗ a.coefficient i)) e (degree_product k domain _ _ _ _ (degree_own k domain c.denominator) (f i l)))
-      (subst (DegreeAtMost k (a.denominator ⊗ c.coefficient i)) e' (degree_product k domain _ _ _ _ (degree_own k domain a.denominator) (g i l))))
+      (subst (DegreeAtMost k (c.denominator ⊗ a.coefficient i)) e
+      (degree_product k domain _ _ _ _ (degree_own k domain c.denominator) (f i l)))
+      (subst (DegreeAtMost k (a.denominator ⊗ c.coefficient i)) e'
+      (degree_product k domain _ _ _ _ (degree_own k domain a.denominator) (g i l))))
 
   -- combinations of members
-  pub combine_members : (m : ℤ) (p : ℕ → Pol k) (vs : List V) → ((i : ℕ) → i < length vs → N m (p i • entry 𝟬 vs i)) → N m (combine M.ops p vs)
+  pub combine_members : (m : ℤ) (p : ℕ → Pol k) (vs : List V) → ((i : ℕ) → i < length vs → N m (p i • entry 𝟬 vs i))
+      → N m (combine M.ops p vs)
   combine_members m p [] h = zero_in m
   combine_members m p (v ∷ vs) h =
       sum_in m _ _ (h 0 (omega arith)) (combine_members m (λ i. p (suc i)) vs (λ i l. h (suc i) (omega arith)))
@@ -127,4 +140,5 @@ module _ {C V : Type 0} (k : TestedRing C) (field : IsField k.ops) (M : Module (
       let c = reduced.coordinates z in
       let f = (reduced.degrees m z c.denominator c.coefficient c.nonzero c.is).0 z_in in
       (reduced.degrees l z c.denominator c.coefficient c.nonzero c.is).1
-      (λ i b. degree_weaker k (field_domain k.ring field) (c.coefficient i) _ _ (let u = h in omega (arith, ints)) (f i b))
+      (λ i b. degree_weaker k (field_domain k.ring field) (c.coefficient i) _ _ (let u = h in omega (arith, ints))
+      (f i b))

@@ -16,7 +16,7 @@ use Rattle.linear_theory.proofs.Module.{linear, parts, vector, scalar}
 use Rattle.linear_theory.proofs.Combination.{combine_linear}
 use Rattle.linear_theory.proofs.Dimension.{relative_basis, basis_transport}
 use Rattle.reduced_basis_theory.specs.Degree.{DegreeAtMost, degree, degree_sum}
-use Rattle.reduced_basis_theory.specs.Reduced.{IsReduced, IsReducedAt, Section, constants_ops}
+use Rattle.reduced_basis_theory.specs.Reduced.{IsReducedBasisOfPair, IsReducedAt, Section, constants_ops}
 use Rattle.reduced_basis_theory.proofs.Degree.{length_of_nonzero, size_least}
 use Rattle.reduced_basis_theory.proofs.Constants.{coefficients, series}
 use Rattle.reduced_basis_theory.proofs.Layers.{over_constants}
@@ -51,17 +51,22 @@ module _ {C : Type 0} (k : TestedRing C) (field : IsField k.ops) where
             quotient = q;
             rest = r;
             is = same_pol k _ _ (λ n. whole i.0 n);
-            shorter = length_bound k r.0 (length e.0 - 1) r.1 (λ n h. coeff_trim k (rest_from k.ops e.0 i.0 a.0) n ∙ rest_ends k e.0 i.0 (k.mul_comm _ _ ∙ i.1) a.0 n h);
+            shorter =
+                length_bound k r.0 (length e.0 - 1) r.1
+                (λ n h. coeff_trim k (rest_from k.ops e.0 i.0 a.0) n
+                ∙ rest_ends k e.0 i.0 (k.mul_comm _ _ ∙ i.1) a.0 n h);
           }
         where
           whole : (v : C) (n : ℕ) → series k a n
-              ≡ series k ((pol_ring k).◌⊕◌ ((pol_ring k).◌⊗◌ e (pol_of k (quotient_from k.ops e.0 v a.0))) (pol_of k (rest_from k.ops e.0 v a.0))) n
+              ≡ series k ((pol_ring k).◌⊕◌ ((pol_ring k).◌⊗◌ e (pol_of k (quotient_from k.ops e.0 v a.0)))
+              (pol_of k (rest_from k.ops e.0 v a.0))) n
           whole v n =
               divided k e.0 v a.0 n
               ∙ sym (series_add k _ _ n
               ∙ ap₂ k.◌⊕◌
               (series_mul k e _ n ∙ convolution_comm k.ring _ _ n
-              ∙ ap (λ f. Rattle.ring_theory.specs.Lists.convolution k.ops f (series k e) n) (mathlib.Core.Path.fun_ext (coeff_trim k (quotient_from k.ops e.0 v a.0))))
+              ∙ ap (λ f. Rattle.ring_theory.specs.Lists.convolution k.ops f (series k e) n)
+              (mathlib.Core.Path.fun_ext (coeff_trim k (quotient_from k.ops e.0 v a.0))))
               (coeff_trim k (rest_from k.ops e.0 v a.0) n))
 
 -- a member less a combination, times the denominator
@@ -113,7 +118,8 @@ module _ {C V : Type 0} (k : TestedRing C) (field : IsField k.ops) (M : Module (
       let rests : ℕ → Pol k = λ i. (divide k field (c.coefficient i) c.denominator c.nonzero).rest in
       let y = combine M.ops quotients b in
       let parts_of : combine M.ops c.coefficient b ≡ c.denominator • y ⊞ combine M.ops rests b
-      = ap (λ p. combine M.ops p b) (mathlib.Core.Path.fun_ext (λ i. (divide k field (c.coefficient i) c.denominator c.nonzero).is))
+      = ap (λ p. combine M.ops p b)
+      (mathlib.Core.Path.fun_ext (λ i. (divide k field (c.coefficient i) c.denominator c.nonzero).is))
       ∙ combine_linear M c.denominator quotients rests b in
       let is : c.denominator • (⊖ 𝟙 • y ⊞ z) ≡ combine M.ops rests b
       = less M c.denominator z y ∙ ap (λ w. ⊖ 𝟙 • (c.denominator • y) ⊞ w) (c.is ∙ parts_of) ∙ only_rest M _ _ in
@@ -137,17 +143,22 @@ module _ {C V : Type 0} (k : TestedRing C) (field : IsField k.ops) (M : Module (
     pub basis : IsBasis k.ops (constants_ops k M.ops) Y Y' members
     pub index : (pos (length members) +ℤ s) ≡ s'
 
-  section_space : (I : V → Type 0) (N : ℤ → V → Type 0) (b : List V) (d : ℕ → ℤ) → IsReduced k M.ops n I N b d → (m : ℤ)
+  section_space : (I : V → Type 0) (N : ℤ → V → Type 0) (b : List V) (d : ℕ → ℤ)
+      → IsReducedBasisOfPair k M.ops n I N b d → (m : ℤ)
       → Rattle.linear_theory.specs.Basis.IsSubspace (constants_ops k M.ops) (Section I N m)
   section_space I N b d reduced m =
-      intersection_space k M I (N m) (lattice_space k M I b reduced.lattice) (family_space k M field n N b d reduced.at m)
+      intersection_space k M I (N m) (lattice_space k M I b reduced.lattice)
+      (family_space k M field n N b d reduced.at m)
 
   -- what the two index lemmas have in common: the relative basis of the intersections at a large m
   relative : (I I' : V → Type 0) (N N' : ℤ → V → Type 0) (b b' : List V) (d d' : ℕ → ℤ)
-      → IsReduced k M.ops n I N b d → IsReduced k M.ops n I' N' b' d' → (m : ℤ) → IsLarge n d m → IsLarge n d' m
-      → ((z : V) → Section I' N' m z → Section I N m z) → HasIndex (Section I' N' m) (Section I N m) (degree_sum n d) (degree_sum n d')
+      → IsReducedBasisOfPair k M.ops n I N b d → IsReducedBasisOfPair k M.ops n I' N' b' d' → (m : ℤ) → IsLarge n d m
+      → IsLarge n d' m
+      → ((z : V) → Section I' N' m z → Section I N m z)
+      → HasIndex (Section I' N' m) (Section I N m) (degree_sum n d) (degree_sum n d')
   relative I I' N N' b b' d d' reduced reduced' m l l' inner =
-      let r = relative_basis (coefficients k field) (over_constants k M) (IsNull (constants_ops k M.ops)) (Section I' N' m) (Section I N m)
+      let r = relative_basis (coefficients k field) (over_constants k M) (IsNull (constants_ops k M.ops))
+      (Section I' N' m) (Section I N m)
       (null_in k field M n) (section_space I' N' b' d' reduced' m) (section_space I N b d reduced m)
       (λ v e. subst (Section I' N' m) (sym e) (section_space I' N' b' d' reduced' m).zero_in) inner _ _
       (section_basis k field M n I' N' b' d' reduced' m) (section_basis k field M n I N b d reduced m) in
@@ -160,7 +171,7 @@ module _ {C V : Type 0} (k : TestedRing C) (field : IsField k.ops) (M : Module (
 
   -- the index of a smaller lattice
   pub lattice_index : (I I' : V → Type 0) (N : ℤ → V → Type 0) (b b' : List V) (d d' : ℕ → ℤ)
-      → IsReduced k M.ops n I N b d → IsReduced k M.ops n I' N b' d' → ((z : V) → I' z → I z)
+      → IsReducedBasisOfPair k M.ops n I N b d → IsReducedBasisOfPair k M.ops n I' N b' d' → ((z : V) → I' z → I z)
       → HasIndex I' I (degree_sum n d) (degree_sum n d')
   lattice_index I I' N b b' d d' reduced reduced' inner = go (large_for_two n d d')
     where
@@ -176,12 +187,14 @@ module _ {C V : Type 0} (k : TestedRing C) (field : IsField k.ops) (M : Module (
                 (λ v h. h.0) (λ v h. h.0) (λ v h h'. (h', h.1))
                 (λ v v_in.
                 let s = split N b' d' reduced'.at m l' v in
-                let own : I' (combine M.ops s.coefficient b') = (reduced'.lattice _).1 (record { coefficient = s.coefficient; is = refl }) in
+                let own : I' (combine M.ops s.coefficient b') = (reduced'.lattice _).1
+                (record { coefficient = s.coefficient; is = refl }) in
                 record {
                   left = s.rest;
                   left_in = (
                     subst I (sym s.rest_is)
-                        (lattice_sum k M I b reduced.lattice _ _ (lattice_scale k M I b reduced.lattice (⊖ 𝟙) _ (inner _ own)) v_in),
+                        (lattice_sum k M I b reduced.lattice _ _
+                        (lattice_scale k M I b reduced.lattice (⊖ 𝟙) _ (inner _ own)) v_in),
                     s.rest_in,
                   );
                   right = combine M.ops s.coefficient b';
@@ -193,7 +206,8 @@ module _ {C V : Type 0} (k : TestedRing C) (field : IsField k.ops) (M : Module (
 
   -- the index of a smaller family, at a large m
   pub family_index : (I : V → Type 0) (N N' : ℤ → V → Type 0) (b b' : List V) (d d' : ℕ → ℤ)
-      → IsReduced k M.ops n I N b d → IsReduced k M.ops n I N' b' d' → ((m : ℤ) (z : V) → N' m z → N m z)
+      → IsReducedBasisOfPair k M.ops n I N b d → IsReducedBasisOfPair k M.ops n I N' b' d'
+      → ((m : ℤ) (z : V) → N' m z → N m z)
       → (m : ℤ) → IsLarge n d m → IsLarge n d' m → HasIndex (N' m) (N m) (degree_sum n d) (degree_sum n d')
   family_index I N N' b b' d d' reduced reduced' inner m l l' =
       let r = relative I I N N' b b' d d' reduced reduced' m l l' (λ z h. (h.0, inner m z h.1)) in
@@ -213,7 +227,9 @@ module _ {C V : Type 0} (k : TestedRing C) (field : IsField k.ops) (M : Module (
                 (reduced'.lattice _).1 (record { coefficient = s.coefficient; is = refl }),
                 let w : m +ℤ pos 0 ≡ m = omega (arith, ints) in
                     subst (N m) (ap (λ x. ⊖ 𝟙 • x ⊞ v) s.rest_is ∙ sym (twice M v _))
-                    (𝓝.sum_in _ _ (subst (λ m. N m (⊖ 𝟙 • s.rest)) w (scale_in k field M n N b d reduced.at m (pos 0) (⊖ 𝟙) s.rest minus_one (inner m s.rest s.rest_in))) v_in),
+                    (𝓝.sum_in _ _ (subst (λ m. N m (⊖ 𝟙 • s.rest)) w
+                    (scale_in k field M n N b d reduced.at m (pos 0) (⊖ 𝟙) s.rest minus_one
+                    (inner m s.rest s.rest_in))) v_in),
               );
               right = s.rest;
               right_in = s.rest_in;

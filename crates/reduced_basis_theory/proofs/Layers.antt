@@ -1,4 +1,5 @@
--- Combinations, with constants, of the elements x^j·b_i are the combinations of the b_i with polynomials of bounded degree.
+-- Combinations, with constants, of the elements x^j·b_i are the combinations of the b_i with polynomials of bounded
+-- degree.
 use Rattle.std.proofs.Common.{◌≡◌, ℕ, zero, suc, ◌+◌, ◌<◌, ◌≤◌, ◌-◌, ◌⊎◌, inl, inr, List, [], ◌∷◌, length, All, refl, sym, ◌∙◌, ap, ap₂, subst, arith}
 use Rattle.std.proofs.lemmas.List.{length-append}
 use Rattle.std.proofs.lemmas.List.Elements.{All-nil, All-cons}
@@ -25,7 +26,8 @@ All_of_combine M W [] h = All-nil W
 All_of_combine {R = R} M W (v ∷ vs) h =
     All-cons W v vs
     (subst W (ap₂ M.◌⊞◌ (M.one_scale v) (combine_zero M vs) ∙ M.add_zero v) (h (insert 0 R.𝟙 (λ i. R.𝟘))))
-    (All_of_combine M W vs (λ c. subst W (ap (λ x. M.◌⊞◌ x (combine M.ops c vs)) (M.zero_scale v) ∙ zero_plus M _) (h (insert 0 R.𝟘 c))))
+    (All_of_combine M W vs (λ c. subst W (ap (λ x. M.◌⊞◌ x (combine M.ops c vs)) (M.zero_scale v) ∙ zero_plus M _)
+    (h (insert 0 R.𝟘 c))))
 
 pub total_cong : (n : ℕ) (l l' : ℕ → ℕ) → ((i : ℕ) → i < n → l i ≡ l' i) → total n l ≡ total n l'
 total_cong zero l l' h = refl
@@ -61,7 +63,8 @@ module _ {C V : Type 0} (k : TestedRing C) (M : Module (pol_ring k).ring V) wher
   pub length_layers : (bs : List V) (l : ℕ → ℕ) → length (layers k M.ops bs l) ≡ total (length bs) l
   length_layers [] l = refl
   length_layers (b ∷ bs) l =
-      length-append (multiples k M.ops (l 0) b) _ ∙ ap₂ ◌+◌ (length_multiples (l 0) b) (length_layers bs (λ i. l (suc i)))
+      length-append (multiples k M.ops (l 0) b) _
+      ∙ ap₂ ◌+◌ (length_multiples (l 0) b) (length_layers bs (λ i. l (suc i)))
 
   pub combine_multiples : (l : ℕ) (c : ℕ → C) (v : V)
       → combine (constants_ops k M.ops) c (multiples k M.ops l v) ≡ polynomial k l c • v
@@ -69,17 +72,20 @@ module _ {C V : Type 0} (k : TestedRing C) (M : Module (pol_ring k).ring V) wher
   combine_multiples zero c v = sym (M.zero_scale v)
   combine_multiples (suc l) c v =
       ap (λ x. constant k (c 0) • v ⊞ x)
-      (combine_multiples l (λ i. c (suc i)) (variable k • v) ∙ sym (M.mul_scale _ _ v) ∙ ap (λ a. a • v) (s.mul_comm _ _))
+      (combine_multiples l (λ i. c (suc i)) (variable k • v) ∙ sym (M.mul_scale _ _ v)
+      ∙ ap (λ a. a • v) (s.mul_comm _ _))
       ∙ sym (M.add_scale _ _ v)
 
   -- a combination of the layers, by polynomials
   pub combine_layers : (bs : List V) (l : ℕ → ℕ) (c : ℕ → C)
-      → combine (constants_ops k M.ops) c (layers k M.ops bs l) ≡ combine M.ops (λ i. polynomial k (l i) (block l c i)) bs
+      → combine (constants_ops k M.ops) c (layers k M.ops bs l)
+      ≡ combine M.ops (λ i. polynomial k (l i) (block l c i)) bs
   combine_layers [] l c = refl
   combine_layers (b ∷ bs) l c =
       combine_append over_constants c (multiples k M.ops (l 0) b) _
       ∙ ap₂ ◌⊞◌ (combine_multiples (l 0) c b)
-      (combine_cong over_constants (λ i. c (length (multiples k M.ops (l 0) b) + i)) (λ i. c (l 0 + i)) _ (λ i h. ap (λ n. c (n + i)) (length_multiples (l 0) b))
+      (combine_cong over_constants (λ i. c (length (multiples k M.ops (l 0) b) + i)) (λ i. c (l 0 + i)) _
+      (λ i h. ap (λ n. c (n + i)) (length_multiples (l 0) b))
       ∙ combine_layers bs (λ i. l (suc i)) (λ j. c (l 0 + j)))
 
   -- and each combination of the b_i with polynomials of at most l i coefficients is one of these
@@ -90,7 +96,8 @@ module _ {C V : Type 0} (k : TestedRing C) (M : Module (pol_ring k).ring V) wher
       let r = gather bs (λ i. l (suc i)) (λ i. p (suc i)) (λ i h'. h (suc i) (omega arith)) in (
         join (length (multiples k M.ops (l 0) b)) (series k (p 0)) r.0,
         combine_join over_constants (series k (p 0)) r.0 (multiples k M.ops (l 0) b) _
-            ∙ ap₂ ◌⊞◌ (combine_multiples (l 0) (series k (p 0)) b ∙ ap (λ a. a • b) (polynomial_series k (l 0) (p 0) (h 0 (omega arith)))) r.1,
+            ∙ ap₂ ◌⊞◌ (combine_multiples (l 0) (series k (p 0)) b
+            ∙ ap (λ a. a • b) (polynomial_series k (l 0) (p 0) (h 0 (omega arith)))) r.1,
       )
 
 -- a sequence whose blocks are zero is zero
@@ -105,4 +112,5 @@ blocks_zero P (suc n) l c h j b =
 
     go : ((i : ℕ) → i < total n (λ i. l (suc i)) → P (c (l 0 + i))) → (j < l 0) ⊎ (l 0 ≤ j) → P (c j)
     go later (inl b') = h 0 (omega arith) j b'
-    go later (inr b') = let e : l 0 + (j - l 0) ≡ j = omega arith in subst (λ i. P (c i)) e (later (j - l 0) (omega arith))
+    go later (inr b') = let e : l 0 + (j - l 0) ≡ j = omega arith in
+        subst (λ i. P (c i)) e (later (j - l 0) (omega arith))

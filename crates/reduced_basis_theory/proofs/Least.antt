@@ -30,20 +30,25 @@ module _ {C : Type 0} (k : TestedRing C) (field : IsField k.ops) (e : Pol k) whe
 
   pub least_bound : (n : ℕ) (d : ℕ → ℤ) (p : ℕ → Pol k) → ((i : ℕ) → i < n → p i ≡ (pol_ring k).𝟘) ⊎ LeastBound n d p
   least_bound zero d p = inl (λ i l. absurd (omega arith))
-  least_bound (suc n) d p = go (decide_zero k (field_domain k.ring field) (p 0)) (least_bound n (λ i. d (suc i)) (λ i. p (suc i)))
+  least_bound (suc n) d p =
+      go (decide_zero k (field_domain k.ring field) (p 0)) (least_bound n (λ i. d (suc i)) (λ i. p (suc i)))
     where
-      both : (m : ℤ) → DegreeAtMost k (p 0) (degree k e +ℤ (m -ℤ d 0)) → CoordinatesAtMost k n (λ i. d (suc i)) e (λ i. p (suc i)) m
+      both : (m : ℤ) → DegreeAtMost k (p 0) (degree k e +ℤ (m -ℤ d 0))
+          → CoordinatesAtMost k n (λ i. d (suc i)) e (λ i. p (suc i)) m
           → CoordinatesAtMost k (suc n) d e p m
       both m h f zero l = h
       both m h f (suc i) l = f i (omega arith)
 
-      later : (m : ℤ) → CoordinatesAtMost k (suc n) d e p m → CoordinatesAtMost k n (λ i. d (suc i)) e (λ i. p (suc i)) m
+      later : (m : ℤ) → CoordinatesAtMost k (suc n) d e p m
+          → CoordinatesAtMost k n (λ i. d (suc i)) e (λ i. p (suc i)) m
       later m h i l = h (suc i) (omega arith)
 
-      nothing : (m : ℤ) → ((i : ℕ) → i < n → p (suc i) ≡ (pol_ring k).𝟘) → CoordinatesAtMost k n (λ i. d (suc i)) e (λ i. p (suc i)) m
+      nothing : (m : ℤ) → ((i : ℕ) → i < n → p (suc i) ≡ (pol_ring k).𝟘)
+          → CoordinatesAtMost k n (λ i. d (suc i)) e (λ i. p (suc i)) m
       nothing m z i l = degree_of_zero k (field_domain k.ring field) (p (suc i)) _ (z i l)
 
-      all : p 0 ≡ (pol_ring k).𝟘 → ((i : ℕ) → i < n → p (suc i) ≡ (pol_ring k).𝟘) → (i : ℕ) → i < suc n → p i ≡ (pol_ring k).𝟘
+      all : p 0 ≡ (pol_ring k).𝟘 → ((i : ℕ) → i < n → p (suc i) ≡ (pol_ring k).𝟘) → (i : ℕ) → i < suc n → p i
+          ≡ (pol_ring k).𝟘
       all a f zero l = a
       all a f (suc i) l = f i (omega arith)
 
@@ -80,9 +85,11 @@ module _ {C : Type 0} (k : TestedRing C) (field : IsField k.ops) (e : Pol k) whe
             least = λ m h. r.least m (later m h);
           }))
         where
-          asked_up : (i : ℕ) (m : ℤ) → r.level ≤ℤ m → i < n → DegreeAtMost k (p (suc i)) (degree k e +ℤ (m -ℤ d (suc i)))
+          asked_up : (i : ℕ) (m : ℤ) → r.level ≤ℤ m → i < n
+              → DegreeAtMost k (p (suc i)) (degree k e +ℤ (m -ℤ d (suc i)))
           asked_up i m h l =
-              Rattle.reduced_basis_theory.proofs.Degree.degree_weaker k (field_domain k.ring field) (p (suc i)) (degree k e +ℤ (r.level -ℤ d (suc i))) _
+              Rattle.reduced_basis_theory.proofs.Degree.degree_weaker k (field_domain k.ring field) (p (suc i))
+              (degree k e +ℤ (r.level -ℤ d (suc i))) _
               (omega (arith, ints)) (r.reached i l)
 
 -- an element that is not zero has a least m with z in x^m·N
@@ -93,7 +100,8 @@ pub least_level : {C V : Type 0} (k : TestedRing C) (field : IsField k.ops) (M :
 least_level k field M n N b d reduced torsion_free z some =
     let c = reduced.coordinates z in go c (least_bound k field c.denominator n d c.coefficient)
   where
-    go : (c : Coordinates k M.ops b z) → ((i : ℕ) → i < n → c.coefficient i ≡ (pol_ring k).𝟘) ⊎ LeastBound k field c.denominator n d c.coefficient
+    go : (c : Coordinates k M.ops b z) → ((i : ℕ) → i < n → c.coefficient i ≡ (pol_ring k).𝟘)
+        ⊎ LeastBound k field c.denominator n d c.coefficient
         → (m : ℤ) × N m z × ((l : ℤ) → N l z → m ≤ℤ l)
     go c (inl h) =
         absurd (some (torsion_free c.denominator z c.nonzero

@@ -12,7 +12,7 @@ use Rattle.linear_theory.proofs.Lists.{entry, insert, insert_here}
 use Rattle.linear_theory.proofs.Module.{scale_zero}
 use Rattle.linear_theory.proofs.Combination.{linear_zero}
 use Rattle.linear_theory.proofs.Exchange.{exchange}
-use Rattle.reduced_basis_theory.specs.Reduced.{IsReduced, Section, constants_ops, multiples, variable, layers}
+use Rattle.reduced_basis_theory.specs.Reduced.{IsReducedBasisOfPair, Section, constants_ops, multiples, variable, layers}
 use Rattle.reduced_basis_theory.proofs.Degree.{size_least}
 use Rattle.reduced_basis_theory.proofs.Constants.{coefficients, polynomials, polynomial_zero}
 use Rattle.reduced_basis_theory.proofs.Layers.{over_constants, combine_multiples, length_multiples, All_of_combine}
@@ -26,10 +26,11 @@ use Rattle.reduced_basis_theory.proofs.Dual.{entry_in}
 module _ {C V : Type 0} (k : TestedRing C) (field : IsField k.ops) (M : Module (pol_ring k).ring V) (n : ℕ)
     (F : CommRing V) (multiples_linear : (z : V) → IsLinear M.ops M.ops (F.◌⊗◌ z))
     (embedded : (p : Pol k) → M.◌•◌ p F.𝟙 ≡ M.𝟬 → p ≡ (pol_ring k).𝟘)
-    (I : V → Type 0) (N : ℤ → V → Type 0) (b : List V) (d : ℕ → ℤ) (reduced : IsReduced k M.ops n I N b d)
+    (I : V → Type 0) (N : ℤ → V → Type 0) (b : List V) (d : ℕ → ℤ) (reduced : IsReducedBasisOfPair k M.ops n I N b d)
     (one : Section I N (pos 0) F.𝟙)
     (product : (u v : V) → Section I N (pos 0) u → Section I N (pos 0) v → Section I N (pos 0) (F.◌⊗◌ u v))
-    (inverse : (u : V) → Section I N (pos 0) u → ¬ (u ≡ M.𝟬) → (v : V) × Section I N (pos 0) v × (F.◌⊗◌ u v ≡ F.𝟙)) where
+    (inverse : (u : V) → Section I N (pos 0) u → ¬ (u ≡ M.𝟬) → (v : V) × Section I N (pos 0) v
+    × (F.◌⊗◌ u v ≡ F.𝟙)) where
   infixl 65 ◌⊞◌
   infixr 75 ◌•◌
   open M use {𝟬, ◌⊞◌, ◌•◌}
@@ -48,14 +49,16 @@ module _ {C V : Type 0} (k : TestedRing C) (field : IsField k.ops) (M : Module (
   -- where x·z is a constant for a constant z with an inverse, all x^j are constants
   variable_in : (u v : V) → u ⊗ v ≡ 𝟙 → Constant v → Constant (variable k • u) → Constant (variable k • 𝟙)
   variable_in u v e v_in h =
-      subst Constant (scaled (variable k) v u ∙ ap (λ w. variable k • w) (F.mul_comm v u ∙ e)) (product v (variable k • u) v_in h)
+      subst Constant (scaled (variable k) v u ∙ ap (λ w. variable k • w) (F.mul_comm v u ∙ e))
+      (product v (variable k • u) v_in h)
 
   powers_in : Constant (variable k • 𝟙) → (l : ℕ) (u : V) → Constant u → All Constant (multiples k M.ops l u)
   powers_in x_in zero u u_in = All-nil Constant
   powers_in x_in (suc l) u u_in =
       All-cons Constant u _ u_in
       (powers_in x_in l (variable k • u)
-      (subst Constant (scaled (variable k) u 𝟙 ∙ ap (λ w. variable k • w) (F.mul_one u)) (product u (variable k • 𝟙) u_in x_in)))
+      (subst Constant (scaled (variable k) u 𝟙 ∙ ap (λ w. variable k • w) (F.mul_one u))
+      (product u (variable k • 𝟙) u_in x_in)))
 
   -- but then there are more independent constants than the dimension
   variable_not_in : ¬ Constant (variable k • 𝟙)
@@ -63,11 +66,14 @@ module _ {C V : Type 0} (k : TestedRing C) (field : IsField k.ops) (M : Module (
       let c = section_basis k field M n I N b d reduced (pos 0) in
       let ws = layers k M.ops b (sizes d (pos 0)) in
       let l = suc (length ws) in
-      let h = exchange (domain_of (coefficients k field)) (over_constants k M) (IsNull (constants_ops k M.ops)) (null_in k field M n)
+      let h = exchange (domain_of (coefficients k field)) (over_constants k M) (IsNull (constants_ops k M.ops))
+      (null_in k field M n)
       (multiples k M.ops l 𝟙) ws
       (λ a e i i_below.
-      polynomial_zero k l a (embedded _ (sym (combine_multiples k M l a 𝟙) ∙ e)) i (subst (λ n. i < n) (length_multiples k M l 𝟙) i_below))
-      (All-weaker Constant (IsCombination (constants_ops k M.ops) (IsNull (constants_ops k M.ops)) ws) c.spanning (multiples k M.ops l 𝟙) (powers_in x_in l 𝟙 one)) in
+      polynomial_zero k l a (embedded _ (sym (combine_multiples k M l a 𝟙) ∙ e)) i
+      (subst (λ n. i < n) (length_multiples k M l 𝟙) i_below))
+      (All-weaker Constant (IsCombination (constants_ops k M.ops) (IsNull (constants_ops k M.ops)) ws) c.spanning
+      (multiples k M.ops l 𝟙) (powers_in x_in l 𝟙 one)) in
       let e = length_multiples k M l 𝟙 in
       omega arith
 

@@ -15,27 +15,34 @@ use Rattle.reduced_basis_theory.proofs.Powers.{power, degree_power, power_nonzer
 use Rattle.reduced_basis_theory.proofs.Rational.{fraction_bound, rational_degrees}
 
 module _ {C V Q : Type 0} (k : TestedRing C) (field : IsField k.ops) (M : Module (pol_ring k).ring V) (R : CommRing Q)
-    (ι : Pol k → Q) (fractions : AreFractions k R.ops ι) (K : Module R V) (restriction : IsRestriction k M.ops ι K.ops) where
+    (ι : Pol k → Q) (fractions : AreFractions k R.ops ι) (K : Module R V)
+    (restriction : IsRestriction k M.ops ι K.ops) where
   infixl 70 ◌⊗◌
   open (pol_ring k) use {𝟘, ◌⊗◌}
 
-  abbrev bound : (e p : Pol k) (r : Q) (m : ℤ) → ¬ (e ≡ 𝟘) → R.◌⊗◌ (ι e) r ≡ ι p → FractionAtMost k R.ops ι r m ↔ DegreeAtMost k p (degree k e +ℤ m)
+  abbrev bound : (e p : Pol k) (r : Q) (m : ℤ) → ¬ (e ≡ 𝟘) → R.◌⊗◌ (ι e) r ≡ ι p → FractionAtMost k R.ops ι r m
+      ↔ DegreeAtMost k p (degree k e +ℤ m)
   bound = fraction_bound k field M R ι fractions K restriction.sum restriction.zero restriction.scale
 
   -- a product with a power of x has its degree more
-  pub power_bound : (e : ℤ) (u s : Q) (m : ℤ) → IsPowerOfX k R.ops ι e u → FractionAtMost k R.ops ι (R.◌⊗◌ s u) (m +ℤ e) ↔ FractionAtMost k R.ops ι s m
+  pub power_bound : (e : ℤ) (u s : Q) (m : ℤ) → IsPowerOfX k R.ops ι e u
+      → FractionAtMost k R.ops ι (R.◌⊗◌ s u) (m +ℤ e) ↔ FractionAtMost k R.ops ι s m
   power_bound (pos j) u s m is =
       let f = fractions.fraction s in
       let x = power k field j in
       let domain = field_domain k.ring field in
       let own = bound f.denominator f.numerator s m f.nonzero f.is in
       let whole : R.◌⊗◌ (ι f.denominator) (R.◌⊗◌ s u) ≡ ι (x ⊗ f.numerator)
-      = sym (R.mul_assoc _ _ _) ∙ ap (λ y. R.◌⊗◌ y u) f.is ∙ R.mul_comm _ _ ∙ ap (λ y. R.◌⊗◌ y (ι f.numerator)) is ∙ sym (fractions.product_is x f.numerator) in
+      = sym (R.mul_assoc _ _ _) ∙ ap (λ y. R.◌⊗◌ y u) f.is ∙ R.mul_comm _ _ ∙ ap (λ y. R.◌⊗◌ y (ι f.numerator)) is
+      ∙ sym (fractions.product_is x f.numerator) in
       let other = bound f.denominator (x ⊗ f.numerator) (R.◌⊗◌ s u) (m +ℤ pos j) f.nonzero whole in
       let d = degree_power k field j in
-      let w : degree k x +ℤ (degree k f.denominator +ℤ m) ≡ degree k f.denominator +ℤ (m +ℤ pos j) = omega (arith, ints) in (
-        λ h. own.1 (degree_cancel k domain x f.numerator _ (power_nonzero k field j) (subst (DegreeAtMost k (x ⊗ f.numerator)) (sym w) (other.0 h))),
-        λ h. other.1 (subst (DegreeAtMost k (x ⊗ f.numerator)) w (degree_product k domain x f.numerator _ _ (degree_own k domain x) (own.0 h))),
+      let w : degree k x +ℤ (degree k f.denominator +ℤ m)
+      ≡ degree k f.denominator +ℤ (m +ℤ pos j) = omega (arith, ints) in (
+        λ h. own.1 (degree_cancel k domain x f.numerator _ (power_nonzero k field j)
+            (subst (DegreeAtMost k (x ⊗ f.numerator)) (sym w) (other.0 h))),
+        λ h. other.1 (subst (DegreeAtMost k (x ⊗ f.numerator)) w
+            (degree_product k domain x f.numerator _ _ (degree_own k domain x) (own.0 h))),
       )
   power_bound (negsuc j) u s m is =
       let f = fractions.fraction s in
@@ -58,7 +65,8 @@ module _ {C V Q : Type 0} (k : TestedRing C) (field : IsField k.ops) (M : Module
       → (u : ℕ → Q) → ((i : ℕ) → i < n → IsPowerOfX k R.ops ι (pos 0 -ℤ d i) (u i)) → (s : ℕ → Q) (m : ℤ)
       → N m (combine K.ops (λ i. R.◌⊗◌ (s i) (u i)) b) ↔ ((i : ℕ) → i < n → FractionAtMost k R.ops ι (s i) m)
   normal n N b d reduced u powers s m =
-      let h = rational_degrees k field M R ι fractions K restriction.sum restriction.zero restriction.scale n N b d reduced m (λ i. R.◌⊗◌ (s i) (u i)) in
+      let h = rational_degrees k field M R ι fractions K restriction.sum restriction.zero restriction.scale n N b d
+      reduced m (λ i. R.◌⊗◌ (s i) (u i)) in
       let w : (i : ℕ) → m -ℤ d i ≡ m +ℤ (pos 0 -ℤ d i) = λ i. omega (arith, ints) in (
         λ z_in i l.
             (power_bound (pos 0 -ℤ d i) (u i) (s i) m (powers i l)).0

@@ -24,8 +24,10 @@ module _ {C V : Type 0} (k : TestedRing C) (M : Module (pol_ring k).ring V) wher
 
   pub predictable_reduced : (n : ℕ) (N : ℤ → V → Type 0) (h : List V) (t : ℕ → ℤ) → IsReducedAt k M.ops n N h t
       → (P : ℕ → ℕ → Pol k) (d : ℕ → ℤ) → IsPredictable k n P t d
-      → ((c : ℕ → Pol k) → ((j : ℕ) → j < n → row_times k n c P j ≡ (pol_ring k).𝟘) → (i : ℕ) → i < n → c i ≡ (pol_ring k).𝟘)
-      → ((z : V) → Coordinates k M.ops (from_rows k M.ops n h P) z) → IsReducedAt k M.ops n N (from_rows k M.ops n h P) d
+      → ((c : ℕ → Pol k) → ((j : ℕ) → j < n → row_times k n c P j ≡ (pol_ring k).𝟘) → (i : ℕ) → i < n → c i
+      ≡ (pol_ring k).𝟘)
+      → ((z : V) → Coordinates k M.ops (from_rows k M.ops n h P) z)
+      → IsReducedAt k M.ops n N (from_rows k M.ops n h P) d
   predictable_reduced n N h t reduced P d predictable regular coordinates = record {
     count = length_tabulate n (λ i. combine M.ops (P i) h);
     free = λ c null. regular c (reduced.free (row_times k n c P) (sym (combine_rows n h c P) ∙ null));
@@ -34,7 +36,8 @@ module _ {C V : Type 0} (k : TestedRing C) (M : Module (pol_ring k).ring V) wher
         let a = reduced.degrees m z e (row_times k n c P) some (is ∙ combine_rows n h c P) in
         let f = predictable c (degree k e +ℤ m) in
         let w : (x : ℤ) → degree k e +ℤ (m -ℤ x) ≡ (degree k e +ℤ m) -ℤ x = λ x. omega (arith, ints) in (
-          λ z_in i l. subst (DegreeAtMost k (c i)) (sym (w (d i))) (f.0 (λ j l. subst (DegreeAtMost k (row_times k n c P j)) (w (t j)) (a.0 z_in j l)) i l),
+          λ z_in i l. subst (DegreeAtMost k (c i)) (sym (w (d i)))
+              (f.0 (λ j l. subst (DegreeAtMost k (row_times k n c P j)) (w (t j)) (a.0 z_in j l)) i l),
           λ bound.
               a.1 (λ j l.
               subst (DegreeAtMost k (row_times k n c P j)) (sym (w (t j)))

@@ -47,14 +47,18 @@ module _ {C V Q : Type 0} (k : TestedRing C) (field : IsField k.ops) (M : Module
 
   module _ (n : ℕ) (N : ℤ → V → Type 0) (b : List V) (d : ℕ → ℤ) (reduced : IsReducedAt k M.ops n N b d) where
     -- the sum of the r i · b i is in x^m·N where each r i has degree at most m - d i, and only there
-    pub rational_degrees : (m : ℤ) (r : ℕ → Q) → N m (combine K.ops r b) ↔ ((i : ℕ) → i < n → FractionAtMost k R.ops ι (r i) (m -ℤ d i))
+    pub rational_degrees : (m : ℤ) (r : ℕ → Q) → N m (combine K.ops r b)
+        ↔ ((i : ℕ) → i < n → FractionAtMost k R.ops ι (r i) (m -ℤ d i))
     rational_degrees m r =
         let c = common k R ι fractions field n r in
         let is : M.◌•◌ c.denominator (combine K.ops r b) ≡ combine M.ops c.numerator b
         = scales c.denominator _ ∙ sym (combine_scale K (ι c.denominator) r b)
-        ∙ combine_cong K (λ i. R.◌⊗◌ (ι c.denominator) (r i)) (λ i. ι (c.numerator i)) b (λ i l. c.is i (subst (λ n. i < n) reduced.count l))
+        ∙ combine_cong K (λ i. R.◌⊗◌ (ι c.denominator) (r i)) (λ i. ι (c.numerator i)) b
+        (λ i l. c.is i (subst (λ n. i < n) reduced.count l))
         ∙ sym (combine_images c.numerator b) in
         let h = reduced.degrees m (combine K.ops r b) c.denominator c.numerator c.nonzero is in (
-          λ z_in i l. (fraction_bound c.denominator (c.numerator i) (r i) (m -ℤ d i) c.nonzero (c.is i l)).1 (h.0 z_in i l),
-          λ bounds. h.1 (λ i l. (fraction_bound c.denominator (c.numerator i) (r i) (m -ℤ d i) c.nonzero (c.is i l)).0 (bounds i l)),
+          λ z_in i l. (fraction_bound c.denominator (c.numerator i) (r i) (m -ℤ d i) c.nonzero (c.is i l)).1
+              (h.0 z_in i l),
+          λ bounds. h.1 (λ i l. (fraction_bound c.denominator (c.numerator i) (r i) (m -ℤ d i) c.nonzero
+              (c.is i l)).0 (bounds i l)),
         )

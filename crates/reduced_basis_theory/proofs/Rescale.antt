@@ -1,4 +1,5 @@
--- The lattice e·I of a polynomial e, and the law that the difference of two sums of degrees does not depend on the lattice.
+-- The lattice e·I of a polynomial e, and the law that the difference of two sums of degrees does not depend on the
+-- lattice.
 use Rattle.std.proofs.Common.{◌≡◌, ℕ, zero, suc, ℤ, ◌+ℤ◌, ◌-ℤ◌, List, [], ◌∷◌, map, refl, sym, ◌∙◌, ap, subst, arith}
 use Rattle.std.proofs.lemmas.List.{length-map}
 use Rattle.std.proofs.lemmas.Int.{ints}
@@ -13,7 +14,7 @@ use Rattle.linear_theory.proofs.Module.{linear, parts, vector, scalar}
 use Rattle.linear_theory.proofs.Combination.{combine_map, combine_scale}
 use Rattle.linear_theory.proofs.Exchange.{bases_same_length}
 use Rattle.reduced_basis_theory.specs.Degree.{DegreeAtMost, degree, degree_sum}
-use Rattle.reduced_basis_theory.specs.Reduced.{IsReduced}
+use Rattle.reduced_basis_theory.specs.Reduced.{IsReducedBasisOfPair}
 use Rattle.reduced_basis_theory.proofs.Degree.{degree_cancel, degree_product, degree_own}
 use Rattle.reduced_basis_theory.proofs.Constants.{coefficients, polynomials}
 use Rattle.reduced_basis_theory.proofs.Layers.{over_constants}
@@ -25,7 +26,8 @@ scaling_linear M e a u v =
     linear M (vector M u ∷ vector M v ∷ scalar M e ∷ scalar M a ∷ []) λ q h.
     simp (parts, reads, q, h 0, h 1, h 2, h 3) (q.equal _ _ refl)
 
-pub degree_sum_plus : (n : ℕ) (d : ℕ → ℤ) (j : ℤ) → degree_sum n (λ i. d i +ℤ j) ≡ degree_sum n d +ℤ degree_sum n (λ i. j)
+pub degree_sum_plus : (n : ℕ) (d : ℕ → ℤ) (j : ℤ) → degree_sum n (λ i. d i +ℤ j)
+    ≡ degree_sum n d +ℤ degree_sum n (λ i. j)
 degree_sum_plus zero d j = omega (arith, ints)
 degree_sum_plus (suc n) d j = let e = degree_sum_plus n (λ i. d (suc i)) j in omega (arith, ints)
 
@@ -43,37 +45,46 @@ module _ {C V : Type 0} (k : TestedRing C) (field : IsField k.ops) (M : Module (
     pub member_in : I member
     pub is : y ≡ e • member
 
-  combine_multiples : (e : Pol k) (p : ℕ → Pol k) (b : List V) → combine M.ops p (map (M.◌•◌ e) b) ≡ combine M.ops (λ i. e ⊗ p i) b
+  combine_multiples : (e : Pol k) (p : ℕ → Pol k) (b : List V) → combine M.ops p (map (M.◌•◌ e) b)
+      ≡ combine M.ops (λ i. e ⊗ p i) b
   combine_multiples e p b = sym (combine_map M M (M.◌•◌ e) (scaling_linear M e) p b) ∙ sym (combine_scale M e p b)
 
   pub reduced_multiples : (I : V → Type 0) (N : ℤ → V → Type 0) (b : List V) (d : ℕ → ℤ) (e : Pol k) → ¬ (e ≡ 𝟘)
-      → IsReduced k M.ops n I N b d → IsReduced k M.ops n (Multiples e I) N (map (M.◌•◌ e) b) (λ i. d i +ℤ degree k e)
+      → IsReducedBasisOfPair k M.ops n I N b d
+      → IsReducedBasisOfPair k M.ops n (Multiples e I) N (map (M.◌•◌ e) b) (λ i. d i +ℤ degree k e)
   reduced_multiples I N b d e some reduced = record {
     at = record {
       count = length-map b (M.◌•◌ e) ∙ reduced.at.count;
       free = λ p null i l.
-          (polynomials k field).cancel_zero e (p i) some (reduced.at.free (λ i. e ⊗ p i) (sym (combine_multiples e p b) ∙ null) i l);
+          (polynomials k field).cancel_zero e (p i) some
+          (reduced.at.free (λ i. e ⊗ p i) (sym (combine_multiples e p b) ∙ null) i l);
       coordinates = λ z.
           let c = reduced.at.coordinates z in
           record {
             denominator = e ⊗ c.denominator;
             nonzero = product_not_zero (polynomials k field) e c.denominator some c.nonzero;
             coefficient = c.coefficient;
-            is = M.mul_scale e c.denominator z ∙ ap (M.◌•◌ e) c.is ∙ combine_map M M (M.◌•◌ e) (scaling_linear M e) c.coefficient b;
+            is = M.mul_scale e c.denominator z ∙ ap (M.◌•◌ e) c.is
+                ∙ combine_map M M (M.◌•◌ e) (scaling_linear M e) c.coefficient b;
           };
       degrees = λ m z f p nonzero is.
           let h = reduced.at.degrees m z f (λ i. e ⊗ p i) nonzero (is ∙ combine_multiples e p b) in
           let domain = field_domain k.ring field in
-          let w : (i : ℕ) → degree k f +ℤ (m -ℤ d i) ≡ degree k e +ℤ (degree k f +ℤ (m -ℤ (d i +ℤ degree k e))) = λ i. omega (arith, ints) in (
+          let w : (i : ℕ) → degree k f +ℤ (m -ℤ d i)
+          ≡ degree k e +ℤ (degree k f +ℤ (m -ℤ (d i +ℤ degree k e))) = λ i. omega (arith, ints) in (
             λ z_in i l. degree_cancel k domain e (p i) _ some (subst (DegreeAtMost k (e ⊗ p i)) (w i) (h.0 z_in i l)),
             λ bounds.
-                h.1 (λ i l. subst (DegreeAtMost k (e ⊗ p i)) (sym (w i)) (degree_product k domain e (p i) _ _ (degree_own k domain e) (bounds i l))),
+                h.1 (λ i l. subst (DegreeAtMost k (e ⊗ p i)) (sym (w i))
+                (degree_product k domain e (p i) _ _ (degree_own k domain e) (bounds i l))),
           );
     };
     lattice = λ y. (
       λ h.
           let a = (reduced.lattice h.member).0 h.member_in in
-          record { coefficient = a.coefficient; is = h.is ∙ ap (M.◌•◌ e) a.is ∙ combine_map M M (M.◌•◌ e) (scaling_linear M e) a.coefficient b },
+          record {
+            coefficient = a.coefficient;
+            is = h.is ∙ ap (M.◌•◌ e) a.is ∙ combine_map M M (M.◌•◌ e) (scaling_linear M e) a.coefficient b;
+          },
       λ h.
           record {
             member = combine M.ops h.coefficient b;
@@ -85,13 +96,14 @@ module _ {C V : Type 0} (k : TestedRing C) (field : IsField k.ops) (M : Module (
 
   -- the difference of the sums of two families is the same at a smaller lattice
   pub same_difference : (I I' : V → Type 0) (N X : ℤ → V → Type 0) (b c b' c' : List V) (d f d' f' : ℕ → ℤ)
-      → IsReduced k M.ops n I N b d → IsReduced k M.ops n I X c f
-      → IsReduced k M.ops n I' N b' d' → IsReduced k M.ops n I' X c' f' → ((z : V) → I' z → I z)
+      → IsReducedBasisOfPair k M.ops n I N b d → IsReducedBasisOfPair k M.ops n I X c f
+      → IsReducedBasisOfPair k M.ops n I' N b' d' → IsReducedBasisOfPair k M.ops n I' X c' f' → ((z : V) → I' z → I z)
       → (degree_sum n d -ℤ degree_sum n f) ≡ (degree_sum n d' -ℤ degree_sum n f')
   same_difference I I' N X b c b' c' d f d' f' one two three four inner =
       let x = lattice_index k field M n I I' N b b' d d' one three inner in
       let y = lattice_index k field M n I I' X c c' f f' two four inner in
-      let e = bases_same_length (domain_of (coefficients k field)) (over_constants k M) I' (lattice_space k M I' b' three.lattice) I
+      let e = bases_same_length (domain_of (coefficients k field)) (over_constants k M) I'
+      (lattice_space k M I' b' three.lattice) I
       x.members y.members x.basis y.basis in
       let u = x.index in
       let v = y.index in
@@ -99,11 +111,13 @@ module _ {C V : Type 0} (k : TestedRing C) (field : IsField k.ops) (M : Module (
 
   -- and at each lattice of which a multiple is smaller
   pub shift_law : (I I' : V → Type 0) (N X : ℤ → V → Type 0) (b c b' c' : List V) (d f d' f' : ℕ → ℤ)
-      → IsReduced k M.ops n I N b d → IsReduced k M.ops n I X c f
-      → IsReduced k M.ops n I' N b' d' → IsReduced k M.ops n I' X c' f' → (e : Pol k) → ¬ (e ≡ 𝟘) → ((z : V) → I' z → I (e • z))
+      → IsReducedBasisOfPair k M.ops n I N b d → IsReducedBasisOfPair k M.ops n I X c f
+      → IsReducedBasisOfPair k M.ops n I' N b' d' → IsReducedBasisOfPair k M.ops n I' X c' f' → (e : Pol k)
+      → ¬ (e ≡ 𝟘) → ((z : V) → I' z → I (e • z))
       → (degree_sum n d -ℤ degree_sum n f) ≡ (degree_sum n d' -ℤ degree_sum n f')
   shift_law I I' N X b c b' c' d f d' f' one two three four e some inner =
-      let a = same_difference I (Multiples e I') N X b c _ _ d f (λ i. d' i +ℤ degree k e) (λ i. f' i +ℤ degree k e) one two
+      let a = same_difference I (Multiples e I') N X b c _ _ d f (λ i. d' i +ℤ degree k e) (λ i. f' i +ℤ degree k e)
+      one two
       (reduced_multiples I' N b' d' e some three) (reduced_multiples I' X c' f' e some four)
       (λ y h. subst I (sym h.is) (inner h.member h.member_in)) in
       let x = degree_sum_plus n d' (degree k e) in

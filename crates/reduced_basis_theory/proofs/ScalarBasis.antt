@@ -1,4 +1,5 @@
--- Over a subspace that a larger field of scalars leaves in itself, a space with a basis over the smaller field has one over the larger.
+-- Over a subspace that a larger field of scalars leaves in itself, a space with a basis over the smaller field has one
+-- over the larger.
 use Rattle.std.proofs.Common.{◌≡◌, List, [], ◌∷◌, ◌++◌, length, All, sym, ◌∙◌, ap, subst, arith}
 use Rattle.std.proofs.lemmas.List.Elements.{All-nil, All-cons, All-weaker}
 use Rattle.linear_theory.specs.Fields.{Field}
@@ -47,7 +48,8 @@ module _ {A B V : Type 0} (K : Field A) (L : Field B) (S : Module K.ring B) (M :
 
   products_free : (ws : List V) → IsIndependent L.ring.ops X.ops U ws → IsIndependent K.ring.ops M.ops U (times ws)
   products_free ws free =
-      (tower_basis K L S M X sums zeros scale_linear θ θ_basis null U (IsCombination X.ops U ws) (combinations X U large ws) ws
+      (tower_basis K L S M X sums zeros scale_linear θ θ_basis null U (IsCombination X.ops U ws)
+      (combinations X U large ws) ws
       (record { members_in = own ws; spanning = λ v h. h; independent = free })).independent
 
   -- an independent list over the larger field, of which the members of a list are combinations
@@ -57,16 +59,24 @@ module _ {A B V : Type 0} (K : Field A) (L : Field B) (S : Module K.ring B) (M :
     spans : All (IsCombination X.ops U members) us
 
   choose : (us : List V) → Chosen us
-  choose [] = record { members = []; independent = λ c m i l. absurd (omega arith); spans = All-nil (IsCombination X.ops U []) }
+  choose [] =
+      record { members = []; independent = λ c m i l. absurd (omega arith); spans = All-nil (IsCombination X.ops U []) }
   choose (v ∷ us) = go (choose us)
     where
       go : Chosen us → Chosen (v ∷ us)
       go r =
-          decide (decide_combination K M U small (λ z. Unit {0}) (record { zero_in = tt; sum_in = λ u v a c. tt; scale_in = λ a v c. tt }) vs vs_basis
-          (times r.members) (All_of_combine M (λ z. Unit {0}) (times r.members) (λ c. tt)) (products_free r.members r.independent) v tt)
+          decide (decide_combination K M U small (λ z. Unit {0})
+          (record { zero_in = tt; sum_in = λ u v a c. tt; scale_in = λ a v c. tt }) vs vs_basis
+          (times r.members) (All_of_combine M (λ z. Unit {0}) (times r.members) (λ c. tt))
+          (products_free r.members r.independent) v tt)
         where
           decide : Dec (IsCombination M.ops U (times r.members) v) → Chosen (v ∷ us)
-          decide (yes h) = record { members = r.members; independent = r.independent; spans = All-cons (IsCombination X.ops U r.members) v us (lift r.members v h) r.spans }
+          decide (yes h) =
+              record {
+                members = r.members;
+                independent = r.independent;
+                spans = All-cons (IsCombination X.ops U r.members) v us (lift r.members v h) r.spans;
+              }
           decide (no none) = record {
             members = r.members ++ v ∷ [];
             independent = independent_more L X U large r.members v r.independent (λ h. none (lower r.members v h));
@@ -92,7 +102,8 @@ module _ {A B V : Type 0} (K : Field A) (L : Field B) (S : Module K.ring B) (M :
               (subst (IsCombination M.ops U (times r.members)) (sym s.is)
               (spaces.sum_in _ _
               (combine_in K M (IsCombination M.ops U (times r.members)) spaces s.coefficient vs
-              (All-weaker (IsCombination X.ops U r.members) (IsCombination M.ops U (times r.members)) (lower r.members) vs r.spans))
+              (All-weaker (IsCombination X.ops U r.members) (IsCombination M.ops U (times r.members))
+              (lower r.members) vs r.spans))
               (rest_combination M U small (times r.members) s.rest s.rest_in)));
           independent = r.independent;
         },

@@ -16,7 +16,8 @@ abbrev pub products : {B V : Type 0} → (B → V → V) → List B → List V �
 products scale θ [] = []
 products scale θ (w ∷ ws) = map (λ t. scale t w) θ ++ products scale θ ws
 
-pub length_products : {B V : Type 0} (scale : B → V → V) (θ : List B) (ws : List V) → length (products scale θ ws) ≡ total (length ws) (λ i. length θ)
+pub length_products : {B V : Type 0} (scale : B → V → V) (θ : List B) (ws : List V) → length (products scale θ ws)
+    ≡ total (length ws) (λ i. length θ)
 length_products scale θ [] = refl
 length_products scale θ (w ∷ ws) =
     length-append (map (λ t. scale t w) θ) _ ∙ ap₂ ◌+◌ (length-map θ (λ t. scale t w)) (length_products scale θ ws)
@@ -36,24 +37,29 @@ module _ {A B V : Type 0} (K : Field A) (L : Field B) (S : Module K.ring B) (M :
   combine_products (w ∷ ws) c =
       combine_append M c (map (λ t. X.◌•◌ t w) θ) _ ∙ sums _ _
       ∙ ap₂ X.◌⊞◌ (sym (combine_map S M (λ t. X.◌•◌ t w) (scale_linear w) c θ))
-      (combine_cong M (λ i. c (length (map (λ t. X.◌•◌ t w) θ) + i)) (λ i. c (length θ + i)) _ (λ i h. ap (λ n. c (n + i)) (length-map θ (λ t. X.◌•◌ t w)))
+      (combine_cong M (λ i. c (length (map (λ t. X.◌•◌ t w) θ) + i)) (λ i. c (length θ + i)) _
+      (λ i h. ap (λ n. c (n + i)) (length-map θ (λ t. X.◌•◌ t w)))
       ∙ combine_products ws (λ j. c (length θ + j)))
 
-  pub gather_products : (ws : List V) (p : ℕ → B) → (c : ℕ → A) × (combine M.ops c (products X.◌•◌ θ ws) ≡ combine X.ops p ws)
+  pub gather_products : (ws : List V) (p : ℕ → B) → (c : ℕ → A)
+      × (combine M.ops c (products X.◌•◌ θ ws) ≡ combine X.ops p ws)
   gather_products [] p = ((λ i. K.ring.𝟘), zeros)
   gather_products (w ∷ ws) p =
       let r = gather_products ws (λ i. p (suc i)) in
       let s = θ_basis.spanning (p 0) tt in
-      let e : combine S.ops s.coefficient θ ≡ p 0 = sym (s.is ∙ ap (S.◌⊞◌ (combine S.ops s.coefficient θ)) s.rest_in ∙ S.add_zero _) in (
+      let e : combine S.ops s.coefficient θ
+      ≡ p 0 = sym (s.is ∙ ap (S.◌⊞◌ (combine S.ops s.coefficient θ)) s.rest_in ∙ S.add_zero _) in (
         join (length (map (λ t. X.◌•◌ t w) θ)) s.coefficient r.0,
         combine_join M s.coefficient r.0 (map (λ t. X.◌•◌ t w) θ) _ ∙ sums _ _
-            ∙ ap₂ X.◌⊞◌ (sym (combine_map S M (λ t. X.◌•◌ t w) (scale_linear w) s.coefficient θ) ∙ ap (λ t. X.◌•◌ t w) e) r.1,
+            ∙ ap₂ X.◌⊞◌ (sym (combine_map S M (λ t. X.◌•◌ t w) (scale_linear w) s.coefficient θ)
+            ∙ ap (λ t. X.◌•◌ t w) e) r.1,
       )
 
   module _ (U W : V → Type 0) (𝓦 : IsSubspace X.ops W) (ws : List V) (basis : IsBasis L.ring.ops X.ops U W ws) where
     pub tower_basis : IsBasis K.ring.ops M.ops U W (products X.◌•◌ θ ws)
     tower_basis = record {
-      members_in = All_of_combine M W _ (λ c. subst W (sym (combine_products ws c)) (combine_in L X W 𝓦 _ ws basis.members_in));
+      members_in =
+          All_of_combine M W _ (λ c. subst W (sym (combine_products ws c)) (combine_in L X W 𝓦 _ ws basis.members_in));
       spanning = λ v v_in.
           let s = basis.spanning v v_in in
           let g = gather_products ws s.coefficient in
@@ -66,12 +72,14 @@ module _ {A B V : Type 0} (K : Field A) (L : Field B) (S : Module K.ring B) (M :
       independent = λ c m i l.
           blocks_zero (λ a. a ≡ K.ring.𝟘) (length ws) (λ i. length θ) c
           (λ i i_below. θ_basis.independent (block (λ i. length θ) c i)
-          (basis.independent (λ i. combine S.ops (block (λ i. length θ) c i) θ) (subst U (combine_products ws c) m) i i_below ∙ sym null))
+          (basis.independent (λ i. combine S.ops (block (λ i. length θ) c i) θ) (subst U (combine_products ws c) m) i
+          i_below ∙ sym null))
           i (subst (λ n. i < n) (length_products X.◌•◌ θ ws) l);
     }
 
     -- the dimension over the smaller field is the product of the two
-    pub tower_dimension : IsSubspace M.ops U → (vs : List V) → IsBasis K.ring.ops M.ops U W vs → length vs ≡ length ws * length θ
+    pub tower_dimension : IsSubspace M.ops U → (vs : List V) → IsBasis K.ring.ops M.ops U W vs → length vs
+        ≡ length ws * length θ
     tower_dimension 𝓤 vs vs_basis =
         bases_same_length (domain_of K) M U 𝓤 W vs (products X.◌•◌ θ ws) vs_basis tower_basis
         ∙ length_products X.◌•◌ θ ws ∙ total_constant (length ws) (length θ)

@@ -50,7 +50,8 @@ module _ {C V : Type 0} (k : TestedRing C) (M : Module (pol_ring k).ring V) wher
       scale_in = λ a v h. lattice_scale (constant k a) v h;
     }
 
-  module _ (field : IsField k.ops) (n : ℕ) (N : ℤ → V → Type 0) (b : List V) (d : ℕ → ℤ) (reduced : IsReducedAt k M.ops n N b d) where
+  module _ (field : IsField k.ops) (n : ℕ) (N : ℤ → V → Type 0) (b : List V) (d : ℕ → ℤ)
+      (reduced : IsReducedAt k M.ops n N b d) where
     constant_degree : (a : C) → DegreeAtMost k (constant k a) (pos 0)
     constant_degree a =
         let e = length_constant k a in
@@ -62,10 +63,12 @@ module _ {C V : Type 0} (k : TestedRing C) (M : Module (pol_ring k).ring V) wher
       sum_in = sum_in k field M n N b d reduced m;
       scale_in = λ a v h.
           let e : m +ℤ pos 0 ≡ m = omega (arith, ints) in
-          subst (λ l. N l (constant k a • v)) e (scale_in k field M n N b d reduced m (pos 0) (constant k a) v (constant_degree a) h);
+          subst (λ l. N l (constant k a • v)) e
+          (scale_in k field M n N b d reduced m (pos 0) (constant k a) v (constant_degree a) h);
     }
 
-  pub intersection_space : (X Y : V → Type 0) → IsSubspace (constants_ops k M.ops) X → IsSubspace (constants_ops k M.ops) Y
+  pub intersection_space : (X Y : V → Type 0) → IsSubspace (constants_ops k M.ops) X
+      → IsSubspace (constants_ops k M.ops) Y
       → IsSubspace (constants_ops k M.ops) (λ z. X z × Y z)
   intersection_space X Y 𝓧 𝓨 = record {
     zero_in = (𝓧.zero_in, 𝓨.zero_in);

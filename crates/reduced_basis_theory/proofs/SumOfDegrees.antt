@@ -12,7 +12,7 @@ use Rattle.linear_theory.specs.Basis.{IsBasis, IsSubspace}
 use Rattle.linear_theory.proofs.Dimension.{basis_image, basis_transport}
 use Rattle.linear_theory.proofs.Exchange.{bases_same_length}
 use Rattle.reduced_basis_theory.specs.Degree.{degree, degree_sum}
-use Rattle.reduced_basis_theory.specs.Reduced.{IsReduced, IsReducedAt, IsLocalPair, constant, constants_ops}
+use Rattle.reduced_basis_theory.specs.Reduced.{IsReducedBasisOfPair, IsReducedAt, IsLocalPair, constant, constants_ops}
 use Rattle.reduced_basis_theory.proofs.Degree.{degree_own}
 use Rattle.reduced_basis_theory.proofs.Constants.{coefficients}
 use Rattle.reduced_basis_theory.proofs.Layers.{over_constants}
@@ -51,12 +51,14 @@ module _ {C V : Type 0} (k : TestedRing C) (field : IsField k.ops) (M : Module (
         λ h.
             subst (N (pos j)) (undo j v)
             (subst (λ m. N m (u • divide j v)) w
-            (scale_in k field M n N b d reduced (pos 0) (degree k u) u (divide j v) (degree_own k (field_domain k.ring field) u) h)),
+            (scale_in k field M n N b d reduced (pos 0) (degree k u) u (divide j v)
+            (degree_own k (field_domain k.ring field) u) h)),
       )
 
   -- the index of a smaller family in a family, at the level 0
   pub family_index_zero : (I : V → Type 0) (N N' : ℤ → V → Type 0) (b b' : List V) (d d' : ℕ → ℤ)
-      → IsReduced k M.ops n I N b d → IsReduced k M.ops n I N' b' d' → ((m : ℤ) (z : V) → N' m z → N m z)
+      → IsReducedBasisOfPair k M.ops n I N b d → IsReducedBasisOfPair k M.ops n I N' b' d'
+      → ((m : ℤ) (z : V) → N' m z → N m z)
       → HasIndex k field M n (N' (pos 0)) (N (pos 0)) (degree_sum n d) (degree_sum n d')
   family_index_zero I N N' b b' d d' reduced reduced' inner = go (large n d) (large n d')
     where
@@ -65,16 +67,22 @@ module _ {C V : Type 0} (k : TestedRing C) (field : IsField k.ops) (M : Module (
       go (x, l) (y, l') =
           let j = x + y in
           let r = family_index k field M n I N N' b b' d d' reduced reduced' inner (pos j)
-          (large_weaker n d (pos x) (pos j) (omega (arith, ints)) l) (large_weaker n d' (pos y) (pos j) (omega (arith, ints)) l') in
+          (large_weaker n d (pos x) (pos j) (omega (arith, ints)) l)
+          (large_weaker n d' (pos y) (pos j) (omega (arith, ints)) l') in
           let e = r.index in
           let f = length-map r.members (divide j) in
           record {
             members = map (divide j) r.members;
             basis =
-                basis_image (coefficients k field) (over_constants k M) (over_constants k M) (divide j) (divide_linear j)
+                basis_image (coefficients k field) (over_constants k M) (over_constants k M) (divide j)
+                (divide_linear j)
                 (N' (pos j)) (N (pos j)) (N' (pos 0)) (N (pos 0)) (family_space k M field n N b d reduced.at (pos j))
                 (λ v h. (level N b d reduced.at j v).0 h)
-                (λ w h. (power k field j • w, (level N b d reduced.at j _).1 (subst (N (pos 0)) (sym (redo j w)) h), sym (redo j w)))
+                (λ w h. (
+                  power k field j • w,
+                  (level N b d reduced.at j _).1 (subst (N (pos 0)) (sym (redo j w)) h),
+                  sym (redo j w),
+                ))
                 (λ v h. level N' b' d' reduced'.at j v)
                 (λ v h. inner (pos j) v h)
                 r.members r.basis;
@@ -85,24 +93,29 @@ module _ {C V : Type 0} (k : TestedRing C) (field : IsField k.ops) (M : Module (
       (space : IsSubspace (constants_ops k M.ops) J₀)
       (us : List V) (us_basis : IsBasis k.ops (constants_ops k M.ops) J J₀ us)
       (I : V → Type 0) (b c : List V) (d f : ℕ → ℤ)
-      (reduced : IsReduced k M.ops n I N b d) (reduced₀ : IsReduced k M.ops n I N₀ c f) where
+      (reduced : IsReducedBasisOfPair k M.ops n I N b d) (reduced₀ : IsReducedBasisOfPair k M.ops n I N₀ c f) where
     -- the index of a local lattice in the standard one is the difference of the sums of the degrees
     pub local_index : (pos (length us) +ℤ degree_sum n f) ≡ degree_sum n d
     local_index =
         let moved = basis_transport (coefficients k field) (over_constants k M) J J₀ (N (pos 0)) (N₀ (pos 0)) space
-        (family_space k M field n N b d reduced.at (pos 0)) local.spans local.spans₀ local.common local.sums us us_basis in
+        (family_space k M field n N b d reduced.at (pos 0)) local.spans local.spans₀ local.common local.sums us
+        us_basis in
         let r = family_index_zero I N₀ N c b f d reduced₀ reduced local.family_smaller in
-        let e = bases_same_length (domain_of (coefficients k field)) (over_constants k M) (N (pos 0)) (family_space k M field n N b d reduced.at (pos 0))
+        let e = bases_same_length (domain_of (coefficients k field)) (over_constants k M) (N (pos 0))
+        (family_space k M field n N b d reduced.at (pos 0))
         (N₀ (pos 0)) us r.members moved r.basis in
         let g = r.index in
         omega (arith, ints)
 
-    -- the sum of the degrees: the index of J, the sum of I in a further family Y, and the two sums of a standard lattice I₀
+    -- the sum of the degrees: the index of J, the sum of I in a further family Y, and the two sums of a standard
+    -- lattice I₀
     pub sum_of_degrees : (I₀ : V → Type 0) (Y : ℤ → V → Type 0) (y b₀ y₀ : List V) (g d₀ g₀ : ℕ → ℤ)
-        → IsReduced k M.ops n I Y y g → IsReduced k M.ops n I₀ N₀ b₀ d₀ → IsReduced k M.ops n I₀ Y y₀ g₀
+        → IsReducedBasisOfPair k M.ops n I Y y g → IsReducedBasisOfPair k M.ops n I₀ N₀ b₀ d₀
+        → IsReducedBasisOfPair k M.ops n I₀ Y y₀ g₀
         → (e : Pol k) → ¬ (e ≡ 𝟘) → ((z : V) → I₀ z → I (e • z))
         → degree_sum n d ≡ ((pos (length us) +ℤ degree_sum n g) +ℤ (degree_sum n d₀ -ℤ degree_sum n g₀))
     sum_of_degrees I₀ Y y b₀ y₀ g d₀ g₀ reduced_y standard standard_y e some inner =
         let a = local_index in
-        let h = shift_law k field M n I I₀ N₀ Y c y b₀ y₀ f g d₀ g₀ reduced₀ reduced_y standard standard_y e some inner in
+        let h = shift_law k field M n I I₀ N₀ Y c y b₀ y₀ f g d₀ g₀ reduced₀ reduced_y standard standard_y e some
+        inner in
         omega (arith, ints)

@@ -1,7 +1,7 @@
 -- Sums of sizes and of degrees, and ascending sequences of degrees that are told by their sizes.
 use Rattle.std.proofs.Common.{◌≡◌, ℕ, zero, suc, ◌+◌, ◌<◌, ◌≤◌, ◌⊎◌, inl, inr, ℤ, pos, negsuc, ◌+ℤ◌, ◌-ℤ◌, ◌≤ℤ◌, ◌<ℤ◌, refl, sym, ap, subst, arith}
 use Rattle.std.proofs.lemmas.Int.{ints, by_lt_z}
-use Rattle.reduced_basis_theory.specs.Degree.{size, total, degree_sum, up_to, count_up_to, IsAscending}
+use Rattle.reduced_basis_theory.specs.Degree.{size, total, degree_sum, up_to, count_up_to, HasAscendingDegrees}
 use Rattle.reduced_basis_theory.proofs.Degree.{size_is, size_cases}
 use Rattle.reduced_basis_theory.proofs.Count.{sizes}
 
@@ -21,7 +21,8 @@ pub large : (n : ℕ) (d : ℕ → ℤ) → (m : ℕ) × IsLarge n d (pos m)
 large zero d = (0, λ i l. absurd (omega arith))
 large (suc n) d = go (own (d 0)) (large n (λ i. d (suc i)))
   where
-    go : ((y : ℕ) × (d 0 ≤ℤ pos y)) → ((m : ℕ) × IsLarge n (λ i. d (suc i)) (pos m)) → (m : ℕ) × IsLarge (suc n) d (pos m)
+    go : ((y : ℕ) × (d 0 ≤ℤ pos y)) → ((m : ℕ) × IsLarge n (λ i. d (suc i)) (pos m)) → (m : ℕ)
+        × IsLarge (suc n) d (pos m)
     go (y, h) (m, f) = (y + m, all)
       where
         all : IsLarge (suc n) d (pos (y + m))
@@ -32,8 +33,11 @@ pub large_for_two : (n : ℕ) (d d' : ℕ → ℤ) → (m : ℤ) × IsLarge n d 
 large_for_two n d d' = go (large n d) (large n d')
   where
     go : ((m : ℕ) × IsLarge n d (pos m)) → ((m : ℕ) × IsLarge n d' (pos m)) → (m : ℤ) × IsLarge n d m × IsLarge n d' m
-    go (a, f) (b, g) =
-        (pos (a + b), large_weaker n d (pos a) (pos (a + b)) (omega (arith, ints)) f, large_weaker n d' (pos b) (pos (a + b)) (omega (arith, ints)) g)
+    go (a, f) (b, g) = (
+      pos (a + b),
+      large_weaker n d (pos a) (pos (a + b)) (omega (arith, ints)) f,
+      large_weaker n d' (pos b) (pos (a + b)) (omega (arith, ints)) g,
+    )
 
 -- at a large m the sum of the sizes is n·(m + 1) less the sum of the degrees
 pub total_sizes : (n : ℕ) (d : ℕ → ℤ) (m : ℤ) → IsLarge n d m
@@ -70,7 +74,8 @@ size_step m = go (up_to_cases m) (size_cases m) (size_cases (m -ℤ pos 1))
   where
     go : ((up_to m ≡ 1) × (pos 0 ≤ℤ m)) ⊎ ((up_to m ≡ 0) × (m <ℤ pos 0))
         → ((pos (size m) ≡ m +ℤ pos 1) × (pos 0 ≤ℤ m)) ⊎ ((size m ≡ 0) × (m <ℤ pos 0))
-        → ((pos (size (m -ℤ pos 1)) ≡ (m -ℤ pos 1) +ℤ pos 1) × (pos 0 ≤ℤ (m -ℤ pos 1))) ⊎ ((size (m -ℤ pos 1) ≡ 0) × ((m -ℤ pos 1) <ℤ pos 0))
+        → ((pos (size (m -ℤ pos 1)) ≡ (m -ℤ pos 1) +ℤ pos 1) × (pos 0 ≤ℤ (m -ℤ pos 1)))
+        ⊎ ((size (m -ℤ pos 1) ≡ 0) × ((m -ℤ pos 1) <ℤ pos 0))
         → size m ≡ up_to m + size (m -ℤ pos 1)
     go (inl (a, b)) (inl (c, d)) (inl (e, f)) = omega (arith, ints)
     go (inl (a, b)) (inl (c, d)) (inr (e, f)) = omega (arith, ints)
@@ -90,7 +95,8 @@ count_is (suc n) d m =
 
 count_none : (n : ℕ) (d : ℕ → ℤ) (m : ℤ) → ((i : ℕ) → i < n → m <ℤ d i) → count_up_to n d m ≡ 0
 count_none zero d m h = refl
-count_none (suc n) d m h = go (up_to_cases (m -ℤ d 0)) (h 0 (omega arith)) (count_none n (λ i. d (suc i)) m (λ i l. h (suc i) (omega arith)))
+count_none (suc n) d m h =
+    go (up_to_cases (m -ℤ d 0)) (h 0 (omega arith)) (count_none n (λ i. d (suc i)) m (λ i l. h (suc i) (omega arith)))
   where
     go : ((up_to (m -ℤ d 0) ≡ 1) × (pos 0 ≤ℤ (m -ℤ d 0))) ⊎ ((up_to (m -ℤ d 0) ≡ 0) × ((m -ℤ d 0) <ℤ pos 0)) → m <ℤ d 0
         → count_up_to n (λ i. d (suc i)) m ≡ 0 → count_up_to (suc n) d m ≡ 0
@@ -100,11 +106,13 @@ count_none (suc n) d m h = go (up_to_cases (m -ℤ d 0)) (h 0 (omega arith)) (co
 count_some : (n : ℕ) (d : ℕ → ℤ) → 0 < count_up_to (suc n) d (d 0)
 count_some n d = go (up_to_cases (d 0 -ℤ d 0))
   where
-    go : ((up_to (d 0 -ℤ d 0) ≡ 1) × (pos 0 ≤ℤ (d 0 -ℤ d 0))) ⊎ ((up_to (d 0 -ℤ d 0) ≡ 0) × ((d 0 -ℤ d 0) <ℤ pos 0)) → 0 < count_up_to (suc n) d (d 0)
+    go : ((up_to (d 0 -ℤ d 0) ≡ 1) × (pos 0 ≤ℤ (d 0 -ℤ d 0))) ⊎ ((up_to (d 0 -ℤ d 0) ≡ 0) × ((d 0 -ℤ d 0) <ℤ pos 0))
+        → 0 < count_up_to (suc n) d (d 0)
     go (inl (a, b)) = omega arith
     go (inr (a, b)) = absurd (omega (arith, ints))
 
-first_le : (n : ℕ) (d d' : ℕ → ℤ) → IsAscending (suc n) d' → ((m : ℤ) → count_up_to (suc n) d m ≡ count_up_to (suc n) d' m) → d' 0 ≤ℤ d 0
+first_le : (n : ℕ) (d d' : ℕ → ℤ) → HasAscendingDegrees (suc n) d'
+    → ((m : ℤ) → count_up_to (suc n) d m ≡ count_up_to (suc n) d' m) → d' 0 ≤ℤ d 0
 first_le n d d' up same = by_lt_z (d 0) (d' 0) (λ l. absurd (no l)) (λ h. h)
   where
     no : d 0 <ℤ d' 0 → ⊥
@@ -119,11 +127,12 @@ cancel : (x y a b : ℕ) → x + a ≡ y + b → x ≡ y → a ≡ b
 cancel x y a b e f = omega arith
 
 -- two ascending sequences with the same counting function are the same
-pub ascending_same : (n : ℕ) (d d' : ℕ → ℤ) → IsAscending n d → IsAscending n d'
+pub ascending_same : (n : ℕ) (d d' : ℕ → ℤ) → HasAscendingDegrees n d → HasAscendingDegrees n d'
     → ((m : ℤ) → count_up_to n d m ≡ count_up_to n d' m) → (i : ℕ) → i < n → d i ≡ d' i
 ascending_same zero d d' up up' same i l = absurd (omega arith)
 ascending_same (suc n) d d' up up' same i l =
-    go i l (ascending_same n (λ i. d (suc i)) (λ i. d' (suc i)) (λ i j h b. up (suc i) (suc j) (omega arith) (omega arith))
+    go i l (ascending_same n (λ i. d (suc i)) (λ i. d' (suc i))
+    (λ i j h b. up (suc i) (suc j) (omega arith) (omega arith))
     (λ i j h b. up' (suc i) (suc j) (omega arith) (omega arith))
     (λ m. cancel _ _ _ _ (same m) (ap (λ w. up_to (m -ℤ w)) head)))
   where

@@ -8,7 +8,7 @@ use Rattle.ring_theory.proofs.Polynomials.{pol_ring}
 use Rattle.linear_theory.specs.Module.{Module, combine, IsLinear}
 use Rattle.linear_theory.proofs.Combination.{combine_map, linear_zero}
 use Rattle.reduced_basis_theory.specs.Degree.{DegreeAtMost, degree, degree_sum}
-use Rattle.reduced_basis_theory.specs.Reduced.{IsReduced}
+use Rattle.reduced_basis_theory.specs.Reduced.{IsReducedBasisOfPair}
 use Rattle.reduced_basis_theory.specs.Dual.{negated}
 
 module _ {C V : Type 0} (k : TestedRing C) (M : Module (pol_ring k).ring V) (n : ℕ) where
@@ -19,7 +19,7 @@ module _ {C V : Type 0} (k : TestedRing C) (M : Module (pol_ring k).ring V) (n :
   -- pairs with the same members, and degrees that are the same
   pub reduced_same : (I I' : V → Type 0) (N N' : ℤ → V → Type 0) (b : List V) (d d' : ℕ → ℤ)
       → ((z : V) → I z ↔ I' z) → ((m : ℤ) (z : V) → N m z ↔ N' m z) → ((i : ℕ) → d i ≡ d' i)
-      → IsReduced k M.ops n I N b d → IsReduced k M.ops n I' N' b d'
+      → IsReducedBasisOfPair k M.ops n I N b d → IsReducedBasisOfPair k M.ops n I' N' b d'
   reduced_same I I' N N' b d d' f g same reduced = record {
     at = record {
       count = reduced.at.count;
@@ -27,7 +27,8 @@ module _ {C V : Type 0} (k : TestedRing C) (M : Module (pol_ring k).ring V) (n :
       coordinates = reduced.at.coordinates;
       degrees = λ m z e p some is. (
         λ h i l.
-            subst (λ w. DegreeAtMost k (p i) (degree k e +ℤ (m -ℤ w))) (same i) ((reduced.at.degrees m z e p some is).0 ((g m z).1 h) i l),
+            subst (λ w. DegreeAtMost k (p i) (degree k e +ℤ (m -ℤ w))) (same i)
+            ((reduced.at.degrees m z e p some is).0 ((g m z).1 h) i l),
         λ h.
             (g m z).0 ((reduced.at.degrees m z e p some is).1
             (λ i l. subst (λ w. DegreeAtMost k (p i) (degree k e +ℤ (m -ℤ w))) (sym (same i)) (h i l))),
@@ -38,7 +39,7 @@ module _ {C V : Type 0} (k : TestedRing C) (M : Module (pol_ring k).ring V) (n :
 
   -- the family of x^(-j)·N has the degrees d i + j
   pub reduced_shift : (I : V → Type 0) (N : ℤ → V → Type 0) (b : List V) (d : ℕ → ℤ) (j : ℤ)
-      → IsReduced k M.ops n I N b d → IsReduced k M.ops n I (λ m. N (m -ℤ j)) b (λ i. d i +ℤ j)
+      → IsReducedBasisOfPair k M.ops n I N b d → IsReducedBasisOfPair k M.ops n I (λ m. N (m -ℤ j)) b (λ i. d i +ℤ j)
   reduced_shift I N b d j reduced = record {
     at = record {
       count = reduced.at.count;
@@ -58,18 +59,22 @@ module _ {C V : Type 0} (k : TestedRing C) (M : Module (pol_ring k).ring V) (n :
     lattice = reduced.lattice;
   }
 
-  module _ (f g : V → V) (f_linear : IsLinear M.ops M.ops f) (fg : (y : V) → f (g y) ≡ y) (gf : (y : V) → g (f y) ≡ y) where
+  module _ (f g : V → V) (f_linear : IsLinear M.ops M.ops f) (fg : (y : V) → f (g y) ≡ y)
+      (gf : (y : V) → g (f y) ≡ y) where
     image_scale : (e : Pol k) (v : V) → f (e • v) ≡ e • f v
     image_scale e v =
         ap f (sym (M.add_zero _)) ∙ f_linear e v 𝟬 ∙ ap (λ w. e • f v ⊞ w) (linear_zero M M f f_linear) ∙ M.add_zero _
 
-    back : (e : Pol k) (y : V) (p : ℕ → Pol k) (b : List V) → e • y ≡ combine M.ops p (map f b) → e • g y ≡ combine M.ops p b
+    back : (e : Pol k) (y : V) (p : ℕ → Pol k) (b : List V) → e • y ≡ combine M.ops p (map f b) → e • g y
+        ≡ combine M.ops p b
     back e y p b is =
-        sym (gf _) ∙ ap g (image_scale e (g y) ∙ ap (λ w. e • w) (fg y) ∙ is ∙ sym (combine_map M M f f_linear p b)) ∙ gf _
+        sym (gf _) ∙ ap g (image_scale e (g y) ∙ ap (λ w. e • w) (fg y) ∙ is ∙ sym (combine_map M M f f_linear p b))
+        ∙ gf _
 
     -- the images of a reduced basis under a linear bijection
     pub reduced_image : (I : V → Type 0) (N : ℤ → V → Type 0) (b : List V) (d : ℕ → ℤ)
-        → IsReduced k M.ops n I N b d → IsReduced k M.ops n (λ y. I (g y)) (λ m y. N m (g y)) (map f b) d
+        → IsReducedBasisOfPair k M.ops n I N b d
+        → IsReducedBasisOfPair k M.ops n (λ y. I (g y)) (λ m y. N m (g y)) (map f b) d
     reduced_image I N b d reduced = record {
       at = record {
         count = length-map b f ∙ reduced.at.count;
@@ -91,7 +96,10 @@ module _ {C V : Type 0} (k : TestedRing C) (M : Module (pol_ring k).ring V) (n :
       lattice = λ y. (
         λ h.
             let a = (reduced.lattice (g y)).0 h in
-            record { coefficient = a.coefficient; is = sym (fg y) ∙ ap f a.is ∙ combine_map M M f f_linear a.coefficient b },
+            record {
+              coefficient = a.coefficient;
+              is = sym (fg y) ∙ ap f a.is ∙ combine_map M M f f_linear a.coefficient b;
+            },
         λ h.
             (reduced.lattice (g y)).1
             (record {

@@ -1,4 +1,5 @@
--- Rows of polynomials whose columns are multiplied by weights: a list of them in weak Popov form has predictable degrees.
+-- Rows of polynomials whose columns are multiplied by weights: a list of them in weak Popov form has predictable
+-- degrees.
 use Rattle.std.proofs.Common.{◌≡◌, ℕ, zero, suc, ◌<◌, ◌≤◌, ◌+◌, ◌-◌, ◌*◌, ◌/◌, ◌%◌, ◌⊎◌, inl, inr, ◌↔◌, ℤ, pos, ◌+ℤ◌, ◌-ℤ◌, List, [], ◌∷◌, length, refl, sym, ◌∙◌, ap, ap₂, subst, arith, add-mul, suc-mul, le_of_suc-le-suc}
 use Rattle.std.proofs.lemmas.Nat.{div-add-mod', mod_below, le-div}
 use Rattle.std.proofs.lemmas.Bool.{cases_lt}
@@ -45,10 +46,12 @@ module _ {C V : Type 0} {k : TestedRing C} (M : PolynomialModule k V) (field : I
       → (measure M (c · r) ≤ size m * width) ↔ DegreeAtMost k c (m -ℤ pos (row_degree M r))
   measure_multiple c r m some = go (decide_zero k (field_domain k.ring field) c)
     where
-      go : (c ≡ (pol_ring k).𝟘) ⊎ (0 < length c.0) → (measure M (c · r) ≤ size m * width) ↔ DegreeAtMost k c (m -ℤ pos (row_degree M r))
+      go : (c ≡ (pol_ring k).𝟘) ⊎ (0 < length c.0) → (measure M (c · r) ≤ size m * width)
+          ↔ DegreeAtMost k c (m -ℤ pos (row_degree M r))
       go (inl e) = (
         λ h. degree_of_zero k (field_domain k.ring field) c _ e,
-        λ h. let a : measure M (c · r) ≡ 0 = zero_row M (c · r) (ap (λ d. d · r) e ∙ zero_scale M r) in omega (arith, a),
+        λ h. let a : measure M (c · r) ≡ 0 = zero_row M (c · r) (ap (λ d. d · r) e ∙ zero_scale M r) in
+            omega (arith, a),
       )
       go (inr l) =
           let size_is : length c.0 ≡ suc (length c.0 - 1) = omega (arith, l) in
@@ -56,7 +59,8 @@ module _ {C V : Type 0} {k : TestedRing C} (M : PolynomialModule k V) (field : I
           (measure_scale M (field_domain k.ring field) c r (length c.0 - 1) size_is some) (measure_parts M r some)
           (mod_below (measure M r - 1) width M.positive)
         where
-          reaches : (d x K : ℕ) → measure M (c · r) ≡ d * width + measure M r → measure M r ≡ suc (x * width + pivot M r)
+          reaches : (d x K : ℕ) → measure M (c · r) ≡ d * width + measure M r → measure M r
+              ≡ suc (x * width + pivot M r)
               → measure M (c · r) ≤ K * width → (d + x < K) ⊎ (K ≤ d + x) → d + x < K
           reaches d x K is parts h (inl less) = less
           reaches d x K is parts h (inr le) =
@@ -65,7 +69,8 @@ module _ {C V : Type 0} {k : TestedRing C} (M : PolynomialModule k V) (field : I
               let rise = row_le width M.positive K (suc (d + x)) (omega (arith, le)) in
               absurd (omega (arith, is, parts, h, add, step, rise))
 
-          at : (d x : ℕ) → length c.0 ≡ suc d → measure M (c · r) ≡ d * width + measure M r → measure M r ≡ suc (x * width + pivot M r)
+          at : (d x : ℕ) → length c.0 ≡ suc d → measure M (c · r) ≡ d * width + measure M r → measure M r
+              ≡ suc (x * width + pivot M r)
               → pivot M r < width → (measure M (c · r) ≤ size m * width) ↔ DegreeAtMost k c (m -ℤ pos x)
           at d x long is parts below = (
             λ h.
@@ -119,7 +124,8 @@ module _ {C : Type 0} (k : TestedRing C) (field : IsField k.ops) (n : ℕ) where
           let e : length xs ≡ length (x ∷ xs) - 1 = omega arith in
           subst (λ i. ¬ (coeff_of k.ops (x ∷ xs) i ≡ k.𝟘)) e (coeff_top k x xs t)
 
-      down : measure Rows v ≤ K * Rows.width → (j : ℕ) → j < w → (K < length (entry (pol_ring k).ops w j v).0) ⊎ (length (entry (pol_ring k).ops w j v).0 ≤ K)
+      down : measure Rows v ≤ K * Rows.width → (j : ℕ) → j < w → (K < length (entry (pol_ring k).ops w j v).0)
+          ⊎ (length (entry (pol_ring k).ops w j v).0 ≤ K)
           → length (entry (pol_ring k).ops w j v).0 ≤ K
       down h j l (inr le) = le
       down h j l (inl more) =
@@ -152,18 +158,22 @@ module _ {C : Type 0} (k : TestedRing C) (field : IsField k.ops) (n : ℕ) where
         (sym (entry_weighted p j l) ∙ ap (entry (pol_ring k).ops w j) e ∙ entry_weighted q j l)
 
     -- a combination of weighted rows
-    pub weighted_combine : (rows : List (Row (Pol k) w)) (B : ℕ → ℕ → Pol k) → ((i : ℕ) → i < length rows → row_at Rows rows i ≡ weighted (B i))
+    pub weighted_combine : (rows : List (Row (Pol k) w)) (B : ℕ → ℕ → Pol k)
+        → ((i : ℕ) → i < length rows → row_at Rows rows i ≡ weighted (B i))
         → (c : ℕ → Pol k) → combine Rows c rows ≡ weighted (row_times k (length rows) c B)
     weighted_combine [] B is c =
         row_module_zero k n
-        ∙ same_entries k w _ _ (λ j l. entry_zero k w j ∙ sym (entry_weighted (λ j. 𝟘) j l ∙ mul_zero (pol_ring k).ring (u j)))
+        ∙ same_entries k w _ _ (λ j l. entry_zero k w j
+        ∙ sym (entry_weighted (λ j. 𝟘) j l ∙ mul_zero (pol_ring k).ring (u j)))
     weighted_combine (r ∷ rows) B is c =
         row_module_add k n _ _
-        ∙ ap₂ (row_add (pol_ring k).ops w) (row_module_scale k n (c 0) r ∙ ap (row_scale (pol_ring k).ops w (c 0)) (is 0 (omega arith)))
+        ∙ ap₂ (row_add (pol_ring k).ops w)
+        (row_module_scale k n (c 0) r ∙ ap (row_scale (pol_ring k).ops w (c 0)) (is 0 (omega arith)))
         (weighted_combine rows (λ i. B (suc i)) (λ i l. is (suc i) (omega (arith, l))) (λ i. c (suc i)))
         ∙ same_entries k w _ _ (λ j l.
         entry_add k w j _ _
-        ∙ ap₂ ◌⊕◌ (entry_scale k w j (c 0) (weighted (B 0)) ∙ ap (λ x. c 0 ⊗ x) (entry_weighted (B 0) j l) ∙ mul_left_comm (pol_ring k).ring (c 0) (u j) (B 0 j))
+        ∙ ap₂ ◌⊕◌ (entry_scale k w j (c 0) (weighted (B 0)) ∙ ap (λ x. c 0 ⊗ x) (entry_weighted (B 0) j l)
+        ∙ mul_left_comm (pol_ring k).ring (c 0) (u j) (B 0 j))
         (entry_weighted (row_times k (length rows) (λ i. c (suc i)) (λ i. B (suc i))) j l)
         ∙ sym ((pol_ring k).mul_add (u j) (c 0 ⊗ B 0 j) (row_times k (length rows) (λ i. c (suc i)) (λ i. B (suc i)) j))
         ∙ sym (entry_weighted (row_times k (suc (length rows)) c B) j l))
@@ -176,13 +186,16 @@ module _ {C : Type 0} (k : TestedRing C) (field : IsField k.ops) (n : ℕ) where
         → IsPredictable k w B t (λ i. pos (row_degree Rows (row_at Rows rows i)) -ℤ S)
     weighted_predictable rows count weak full B is t S weights c m =
         let whole : combine Rows c rows ≡ weighted (row_times k w c B)
-        = weighted_combine rows B (λ i l. is i (subst (λ x. i < x) count l)) c ∙ ap (λ x. weighted (row_times k x c B)) count in
+        = weighted_combine rows B (λ i l. is i (subst (λ x. i < x) count l)) c
+        ∙ ap (λ x. weighted (row_times k x c B)) count in
         let sum = measure_combination Rows field rows weak c (size (m +ℤ S) * Rows.width) in
         let entries = measure_lengths (weighted (row_times k w c B)) (size (m +ℤ S)) in
         let domain = field_domain k.ring field in
-        let x : (i : ℕ) → (m +ℤ S) -ℤ pos (row_degree Rows (row_at Rows rows i)) ≡ m -ℤ (pos (row_degree Rows (row_at Rows rows i)) -ℤ S)
+        let x : (i : ℕ) → (m +ℤ S) -ℤ pos (row_degree Rows (row_at Rows rows i))
+        ≡ m -ℤ (pos (row_degree Rows (row_at Rows rows i)) -ℤ S)
         = λ i. omega (arith, ints) in
-        let y : (j : ℕ) → j < w → degree k (u j) +ℤ (m -ℤ t j) ≡ m +ℤ S = λ j l. let e = weights j l in omega (arith, ints) in (
+        let y : (j : ℕ) → j < w → degree k (u j) +ℤ (m -ℤ t j) ≡ m +ℤ S = λ j l. let e = weights j l in
+        omega (arith, ints) in (
           λ h i l.
               subst (DegreeAtMost k (c i)) (x i)
               ((measure_multiple Rows field (c i) (row_at Rows rows i) (m +ℤ S) (full i l)).0
@@ -190,7 +203,8 @@ module _ {C : Type 0} (k : TestedRing C) (field : IsField k.ops) (n : ℕ) where
               (entries.1 (λ j l'.
               subst (λ p. DegreeAtMost k p (m +ℤ S)) (sym (entry_weighted (row_times k w c B) j l'))
               (subst (DegreeAtMost k (u j ⊗ row_times k w c B j)) (y j l')
-              (degree_product k domain (u j) (row_times k w c B j) (degree k (u j)) (m -ℤ t j) (degree_own k domain (u j)) (h j l'))))))
+              (degree_product k domain (u j) (row_times k w c B j) (degree k (u j)) (m -ℤ t j)
+              (degree_own k domain (u j)) (h j l'))))))
               i (subst (λ x. i < x) (sym count) l))),
           λ h j l.
               degree_cancel k domain (u j) (row_times k w c B j) (m -ℤ t j) (some j)

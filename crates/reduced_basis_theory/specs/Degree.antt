@@ -43,5 +43,5 @@ abbrev pub count_up_to : ℕ → (ℕ → ℤ) → ℤ → ℕ
 count_up_to n d m = total n (λ i. up_to (m -ℤ d i))
 
 -- not descending
-abbrev pub IsAscending : ℕ → (ℕ → ℤ) → Type 0
-IsAscending n d = (i j : ℕ) → i ≤ j → j < n → d i ≤ℤ d j
+abbrev pub HasAscendingDegrees : ℕ → (ℕ → ℤ) → Type 0
+HasAscendingDegrees n d = (i j : ℕ) → i ≤ j → j < n → d i ≤ℤ d j

@@ -26,7 +26,8 @@ CoordinatesAtMost k n d e p m = (i : ℕ) → i < n → DegreeAtMost k (p i) (de
 
 -- n elements b that are a basis of V up to denominators, and integers d, such that N m holds those elements whose
 -- coordinates at b i have degree at most m - d i
-pub record IsReducedAt {C V : Type 0} (k : TestedRing C) (M : ModuleOps (Pol k) V) (n : ℕ) (N : ℤ → V → Type 0) (b : List V) (d : ℕ → ℤ) : Type 0 where
+pub record IsReducedAt {C V : Type 0} (k : TestedRing C) (M : ModuleOps (Pol k) V) (n : ℕ) (N : ℤ → V → Type 0)
+    (b : List V) (d : ℕ → ℤ) : Type 0 where
   pub count : length b ≡ n
   pub free : (p : ℕ → Pol k) → combine M p b ≡ M.𝟬 → (i : ℕ) → i < n → p i ≡ (pol_ring k).𝟘
   pub coordinates : (z : V) → Coordinates k M b z
@@ -34,7 +35,8 @@ pub record IsReducedAt {C V : Type 0} (k : TestedRing C) (M : ModuleOps (Pol k) 
       → N m z ↔ CoordinatesAtMost k n d e p m
 
 -- moreover b spans the lattice I
-pub record IsReduced {C V : Type 0} (k : TestedRing C) (M : ModuleOps (Pol k) V) (n : ℕ) (I : V → Type 0) (N : ℤ → V → Type 0) (b : List V) (d : ℕ → ℤ) : Type 0 where
+pub record IsReducedBasisOfPair {C V : Type 0} (k : TestedRing C) (M : ModuleOps (Pol k) V) (n : ℕ) (I : V → Type 0)
+    (N : ℤ → V → Type 0) (b : List V) (d : ℕ → ℤ) : Type 0 where
   pub at : IsReducedAt k M n N b d
   pub lattice : (z : V) → I z ↔ InLattice k M b z
 
@@ -65,7 +67,8 @@ abbrev pub Section : {V : Type 0} → (V → Type 0) → (ℤ → V → Type 0) 
 Section I N m z = I z × N m z
 
 -- [W : U] = d over the constants: a basis of W over U has d members
-pub record HasDimension {C V : Type 0} (k : TestedRing C) (M : ModuleOps (Pol k) V) (U W : V → Type 0) (d : ℤ) : Type 0 where
+pub record HasDimension {C V : Type 0} (k : TestedRing C) (M : ModuleOps (Pol k) V) (U W : V → Type 0) (d : ℤ) : Type
+    0 where
   pub basis : List V
   pub is : IsBasis k.ops (constants_ops k M) U W basis
   pub size : pos (length basis) ≡ d
@@ -83,13 +86,15 @@ divided divide zero z = z
 divided divide (suc j) z = divided divide j (divide z)
 
 -- the multiples x^m·N of a set, where z divided by x^j is divide j z
-abbrev pub PowersOf : {C V : Type 0} (k : TestedRing C) → ModuleOps (Pol k) V → (ℕ → V → V) → (V → Type 0) → ℤ → V → Type 0
+abbrev pub PowersOf : {C V : Type 0} (k : TestedRing C) → ModuleOps (Pol k) V → (ℕ → V → V) → (V → Type 0) → ℤ → V
+    → Type 0
 PowersOf k M divide N (pos j) z = N (divide j z)
 PowersOf k M divide N (negsuc j) z = N (M.◌•◌ (pow (pol_ring k).ops (variable k) (suc j)) z)
 
--- J and J₀ over the polynomials in 1/x span N and N₀ over the fractions of degree at most 0: the smaller J is what N meets of J₀,
--- and N₀ is J₀ + N
-pub record IsLocalPair {C V : Type 0} (k : TestedRing C) (M : ModuleOps (Pol k) V) (J J₀ : V → Type 0) (N N₀ : ℤ → V → Type 0) : Type 0 where
+-- J and J₀ over the polynomials in 1/x span N and N₀ over the fractions of degree at most 0: the smaller J is what N
+-- meets of J₀, and N₀ is J₀ + N
+pub record IsLocalPair {C V : Type 0} (k : TestedRing C) (M : ModuleOps (Pol k) V) (J J₀ : V → Type 0)
+    (N N₀ : ℤ → V → Type 0) : Type 0 where
   pub smaller : (z : V) → J z → J₀ z
   pub family_smaller : (m : ℤ) (z : V) → N m z → N₀ m z
   pub spans : (z : V) → J z → N (pos 0) z
@@ -98,14 +103,16 @@ pub record IsLocalPair {C V : Type 0} (k : TestedRing C) (M : ModuleOps (Pol k) 
   pub sums : (z : V) → N₀ (pos 0) z → IsSum (constants_ops k M) J₀ (N (pos 0)) z
 
 -- the field L is a space over k, V one over L, and k acts on V as a part of L
-pub record IsExtension {C B V : Type 0} (k : TestedRing C) (M : ModuleOps (Pol k) V) (L : Operations B) (S : ModuleOps C B) (X : ModuleOps B V) : Type 0 where
+pub record IsExtension {C B V : Type 0} (k : TestedRing C) (M : ModuleOps (Pol k) V) (L : Operations B)
+    (S : ModuleOps C B) (X : ModuleOps B V) : Type 0 where
   pub null : S.𝟬 ≡ L.𝟘
   pub zero : M.𝟬 ≡ X.𝟬
   pub sum : (u v : V) → M.◌⊞◌ u v ≡ X.◌⊞◌ u v
   pub scale : (w : V) → IsLinear S (constants_ops k M) (λ t. X.◌•◌ t w)
 
 -- n elements that are a basis of V up to denominators, and span I
-pub record IsLatticeBasis {C V : Type 0} (k : TestedRing C) (M : ModuleOps (Pol k) V) (n : ℕ) (I : V → Type 0) (b : List V) : Type 0 where
+pub record IsLatticeBasis {C V : Type 0} (k : TestedRing C) (M : ModuleOps (Pol k) V) (n : ℕ) (I : V → Type 0)
+    (b : List V) : Type 0 where
   pub count : length b ≡ n
   pub free : (p : ℕ → Pol k) → combine M p b ≡ M.𝟬 → (i : ℕ) → i < n → p i ≡ (pol_ring k).𝟘
   pub coordinates : (z : V) → Coordinates k M b z

@@ -18,4 +18,5 @@ row_times k n c P j = dot k n c (λ i. P i j)
 -- c·P has degrees at most m - t j exactly where c has degrees at most m - d i
 abbrev pub IsPredictable : {C : Type 0} (k : TestedRing C) → ℕ → (ℕ → ℕ → Pol k) → (ℕ → ℤ) → (ℕ → ℤ) → Type 0
 IsPredictable k n P t d = (c : ℕ → Pol k) (m : ℤ)
-    → ((j : ℕ) → j < n → DegreeAtMost k (row_times k n c P j) (m -ℤ t j)) ↔ ((i : ℕ) → i < n → DegreeAtMost k (c i) (m -ℤ d i))
+    → ((j : ℕ) → j < n → DegreeAtMost k (row_times k n c P j) (m -ℤ t j))
+    ↔ ((i : ℕ) → i < n → DegreeAtMost k (c i) (m -ℤ d i))

@@ -30,10 +30,12 @@ use Rattle.infinite_theory.proofs.EachEquation.{each_equation}
 use Rattle.space_theory.specs.Spaces.{IsLatticeAtInfinity}
 use Rattle.space_theory.proofs.FewGenerators.{power_image}
 
-module _ (k : CodeField) (p q : PresValue) (c : ℕ) (f : Functions k q → Functions k p) (g : IsInfiniteMap k p q c f) where
+module _ (k : CodeField) (p q : PresValue) (c : ℕ) (f : Functions k q → Functions k p)
+    (g : IsInfiniteMap k p q c f) where
   -- a power of the variable takes each function into a lattice, locally
   locally_taken : (L : Functions k q → Type 0) → IsLattice (equation_of k q) L → (z : Functions k q)
-      → (j : ℕ) × IsLocallyIn (equation_of k q) (x_poly k) L ((functions k q).◌⊗◌ (pow (functions k q).ops (setting k q).x j) z)
+      → (j : ℕ) × IsLocallyIn (equation_of k q) (x_poly k) L
+      ((functions k q).◌⊗◌ (pow (functions k q).ops (setting k q).x j) z)
   locally_taken L 𝓛 z =
       let a = 𝓛.full z in
       let o = order_at (euclidean k) (x_poly k) (irreducible k (x_poly k) (x_irreducible k)) a.factor a.some in (
@@ -45,7 +47,8 @@ module _ (k : CodeField) (p q : PresValue) (c : ℕ) (f : Functions k q → Func
               subst L
               (ap (λ w. (functions k q).◌⊗◌ w z)
               (ap (of_poly (equation_of k q)) o.is ∙ (poly_hom (equation_of k q)).mul _ o.cofactor
-              ∙ ap (λ w. (functions k q).◌⊗◌ w (of_poly (equation_of k q) o.cofactor)) (power_value (equation_of k q) (x_poly k) o.order))
+              ∙ ap (λ w. (functions k q).◌⊗◌ w (of_poly (equation_of k q) o.cofactor))
+              (power_value (equation_of k q) (x_poly k) o.order))
               ∙ (functions k q).mul_assoc _ _ z ∙ mul_left_comm (functions k q) _ _ z) a.multiple_in;
         },
       )
@@ -53,22 +56,26 @@ module _ (k : CodeField) (p q : PresValue) (c : ℕ) (f : Functions k q → Func
   pub taken_at : (L : Functions k q → Type 0) → IsLattice (equation_of k q) L → (gs : List (Functions k q))
       → SameSet L (Span (functions k q).ops (IsPolynomial (equation_of k q)) gs) → (w : Functions k p)
       → (j : ℕ)
-      × Span (functions k p).ops (IsFiniteAtInfinity (equation_of k p)) (map f gs) ((functions k p).◌⊗◌ (pow (functions k p).ops (setting k p).one_over_x j) w)
+      × Span (functions k p).ops (IsFiniteAtInfinity (equation_of k p)) (map f gs)
+      ((functions k p).◌⊗◌ (pow (functions k p).ops (setting k p).one_over_x j) w)
   taken_at L 𝓛 gs spanned =
       each k p q c f g
       (λ w. (j : ℕ)
-      × Span (functions k p).ops (IsFiniteAtInfinity (equation_of k p)) (map f gs) ((functions k p).◌⊗◌ (pow (functions k p).ops (setting k p).one_over_x j) w))
+      × Span (functions k p).ops (IsFiniteAtInfinity (equation_of k p)) (map f gs)
+      ((functions k p).◌⊗◌ (pow (functions k p).ops (setting k p).one_over_x j) w))
       (λ z.
       let t = locally_taken L 𝓛 z in (
         t.0,
-        subst (Span (functions k p).ops (IsFiniteAtInfinity (equation_of k p)) (map f gs)) (power_image k p q c f g t.0 z)
+        subst (Span (functions k p).ops (IsFiniteAtInfinity (equation_of k p)) (map f gs))
+            (power_image k p q c f g t.0 z)
             ((combination_local k p q c f g L 𝓛 gs spanned _).1 t.1),
       ))
 
   -- the combinations of a lattice over k[t]
   pub combinations_lattice : (L : Functions k q → Type 0) → IsLattice (equation_of k q) L → (gs : List (Functions k q))
       → SameSet L (Span (functions k q).ops (IsPolynomial (equation_of k q)) gs)
-      → IsLatticeAtInfinity (equation_of k p) (Span (functions k p).ops (IsFiniteAtInfinity (equation_of k p)) (map f gs))
+      → IsLatticeAtInfinity (equation_of k p)
+      (Span (functions k p).ops (IsFiniteAtInfinity (equation_of k p)) (map f gs))
   combinations_lattice L 𝓛 gs spanned = record {
     generators = map f gs;
     spanned = λ z. (λ h. h, λ h. h);
@@ -80,7 +87,9 @@ module _ (k : CodeField) (p q : PresValue) (c : ℕ) (f : Functions k q → Func
 abbrev IntegralSpan : {k : CodeField} → Equation k → Type 0
 IntegralSpan c = (gs : List (FunctionOf c))
     × SameSet (IsIntegralAt (setting_of c) Infinite) (Span (ring_of c).ops (IsFiniteAtInfinity c) gs)
-    × ((z : FunctionOf c) → (j : ℕ) × Span (ring_of c).ops (IsFiniteAtInfinity c) gs ((ring_of c).◌⊗◌ (pow (ring_of c).ops (setting_of c).one_over_x j) z))
+    × ((z : FunctionOf c) → (j : ℕ)
+    × Span (ring_of c).ops (IsFiniteAtInfinity c) gs
+    ((ring_of c).◌⊗◌ (pow (ring_of c).ops (setting_of c).one_over_x j) z))
 
 integral_span : {k : CodeField} (c : Equation k) → ¬ (discriminant c ≡ (polynomials k).𝟘) → IntegralSpan c
 integral_span {k} c =
@@ -92,13 +101,15 @@ integral_span {k} c =
     let o = (taken_order (equation_of k q) (x_poly k) (x_irreducible k) r).lattice in (
       map f o.generators,
       each k p q n f g
-          (λ w. IsIntegralAt (setting k p) Infinite w ↔ Span (functions k p).ops (IsFiniteAtInfinity (equation_of k p)) (map f o.generators) w)
+          (λ w. IsIntegralAt (setting k p) Infinite w
+          ↔ Span (functions k p).ops (IsFiniteAtInfinity (equation_of k p)) (map f o.generators) w)
           (taken_spans k p q n f g r o.generators o.spanned),
       taken_at k p q n f g _ o o.generators o.spanned,
     )) c
 
 -- O_inf is a lattice at infinity
-pub integral_at_infinity : {k : CodeField} (c : Equation k) → ¬ (discriminant c ≡ (polynomials k).𝟘) → IsLatticeAtInfinity c (IsIntegralAt (setting_of c) Infinite)
+pub integral_at_infinity : {k : CodeField} (c : Equation k) → ¬ (discriminant c ≡ (polynomials k).𝟘)
+    → IsLatticeAtInfinity c (IsIntegralAt (setting_of c) Infinite)
 integral_at_infinity c some =
     let s = integral_span c some in
     record {

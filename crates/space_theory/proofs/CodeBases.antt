@@ -19,13 +19,18 @@ module _ {k : CodeField} (c : Equation k) where
   infixl 65 ◌⊕◌
   open ring_of c use {𝟘, ◌⊕◌}
 
-  pub basis_by_codes : (W : FunctionOf c → Type 0) (ws : List (FunctionOf c)) → IsBasisOver (code_ring k).ops (space_ops c) (IsNull (space_ops c)) W ws
+  pub basis_by_codes : (W : FunctionOf c → Type 0) (ws : List (FunctionOf c))
+      → IsBasisOver (code_ring k).ops (space_ops c) (IsNull (space_ops c)) W ws
       → IsBasis (setting_of c) W ws
   basis_by_codes W ws b = record {
     members = b.members_in;
-    independent = λ cs l h e. independent_lists (code_ring k).ring (ring_of c) (code_of c) (code_hom c) (IsCode c) (code_at c) (λ v. v ≡ 𝟘) ws b.independent cs l h e;
+    independent =
+        λ cs l h e. independent_lists (code_ring k).ring (ring_of c) (code_of c) (code_hom c) (IsCode c) (code_at c)
+        (λ v. v ≡ 𝟘) ws b.independent cs l h e;
     spanning = λ z z_in.
         let s = b.spanning z z_in in
-        subst (Span (ring_of c).ops (IsCode c) ws) (sym (s.is ∙ ap (λ w. combine (space_ops c) s.coefficient ws ⊕ w) s.rest_in ∙ (ring_of c).add_zero _))
-        (combine_spanned (code_ring k).ring (ring_of c) (code_of c) (code_hom c) (IsCode c) (code_is c) s.coefficient ws);
+        subst (Span (ring_of c).ops (IsCode c) ws)
+        (sym (s.is ∙ ap (λ w. combine (space_ops c) s.coefficient ws ⊕ w) s.rest_in ∙ (ring_of c).add_zero _))
+        (combine_spanned (code_ring k).ring (ring_of c) (code_of c) (code_hom c) (IsCode c) (code_is c) s.coefficient
+        ws);
   }

@@ -17,7 +17,8 @@ use Rattle.reduced_basis_theory.proofs.Constants.{polynomial_domain}
 use Rattle.reduced_basis_theory.proofs.Converse.{without}
 
 module _ {C V : Type 0} (k : TestedRing C) (field : IsField k.ops) (M : Module (pol_ring k).ring V) (n : ℕ)
-    (p : List V) (p_count : length p ≡ n) (p_free : (c : ℕ → Pol k) → combine M.ops c p ≡ M.𝟬 → (i : ℕ) → i < n → c i ≡ (pol_ring k).𝟘)
+    (p : List V) (p_count : length p ≡ n)
+    (p_free : (c : ℕ → Pol k) → combine M.ops c p ≡ M.𝟬 → (i : ℕ) → i < n → c i ≡ (pol_ring k).𝟘)
     (b : List V) (count : length b ≡ n) (spans : All (InLattice k M.ops b) p) where
   infixl 65 ◌⊞◌
   infixr 75 ◌•◌
@@ -44,9 +45,11 @@ module _ {C V : Type 0} (k : TestedRing C) (field : IsField k.ops) (M : Module (
         rest_in = refl;
         is =
             ap (λ w. r i • w) (c.is ∙ combine_omit M i c.coefficient b below)
-            ∙ without M (r i) (c.coefficient i) (entry 𝟬 b i) (combine M.ops (omit i c.coefficient) others) (combine M.ops (omit i r) others)
+            ∙ without M (r i) (c.coefficient i) (entry 𝟬 b i) (combine M.ops (omit i c.coefficient) others)
+            (combine M.ops (omit i r) others)
             (sym (combine_omit M i r b below) ∙ null)
-            ∙ ap (λ w. ⊖ (c.coefficient i) • combine M.ops (omit i r) others ⊞ w) (sym (combine_scale M (r i) (omit i c.coefficient) others))
+            ∙ ap (λ w. ⊖ (c.coefficient i) • combine M.ops (omit i r) others ⊞ w)
+            (sym (combine_scale M (r i) (omit i c.coefficient) others))
             ∙ sym (combine_linear M (⊖ (c.coefficient i)) (omit i r) (λ j. r i ⊗ omit i c.coefficient j) others)
             ∙ sym (M.add_zero _);
       }
@@ -57,11 +60,13 @@ module _ {C V : Type 0} (k : TestedRing C) (field : IsField k.ops) (M : Module (
           (record {
             zero_in = refl;
             sum_in = λ u v a c. ap₂ ◌⊞◌ a c ∙ M.add_zero 𝟬;
-            scale_in = λ a v c. ap (λ w. a • w) c ∙ linear M (scalar M a ∷ []) λ q h. simp (parts, reads, q, h 0) (q.equal _ _ refl);
+            scale_in = λ a v c. ap (λ w. a • w) c
+                ∙ linear M (scalar M a ∷ []) λ q h. simp (parts, reads, q, h 0) (q.equal _ _ refl);
           })
           (r i) some p others
           (λ c z j l'. p_free c z j (subst (λ n. j < n) p_count l'))
-          (All-weaker (InLattice k M.ops b) (λ v. IsCombination M.ops (IsNull M.ops) others (r i • v)) inside p spans) in
+          (All-weaker (InLattice k M.ops b) (λ v. IsCombination M.ops (IsNull M.ops) others (r i • v)) inside p
+          spans) in
           let a = length_remove i b below in
           let c = p_count in
           let f = count in

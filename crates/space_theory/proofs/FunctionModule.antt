@@ -29,7 +29,13 @@ module _ {k : CodeField} (c : Equation k) where
   open ring_of c use {𝟘, 𝟙, ◌⊕◌, ◌⊗◌}
 
   pub polynomial_hom : IsHomomorphism (polynomials k).ops (ring_of c).ops (of_poly c)
-  polynomial_hom = record { zero_is = sym (of_poly_zero c); one_is = (poly_hom c).𝟙; sum_is = (poly_hom c).add; product_is = (poly_hom c).mul }
+  polynomial_hom =
+      record {
+        zero_is = sym (of_poly_zero c);
+        one_is = (poly_hom c).𝟙;
+        sum_is = (poly_hom c).add;
+        product_is = (poly_hom c).mul;
+      }
 
   -- F over k[x]
   abbrev pub functions_module : Module (polynomials k).ring (FunctionOf c)
@@ -71,4 +77,5 @@ module _ {k : CodeField} (c : Equation k) where
   multiples_are N (pos zero) z = ap N (sym (one_mul (ring_of c) z))
   multiples_are N (pos (suc j)) z = ap N (divided_is (suc j) z)
   multiples_are N (negsuc j) z =
-      ap (λ w. N (w ⊗ z)) (power_value c (variable (code_ring k)) (suc j) ∙ ap (λ w. pow (ring_of c).ops w (suc j)) variable_x)
+      ap (λ w. N (w ⊗ z)) (power_value c (variable (code_ring k)) (suc j)
+      ∙ ap (λ w. pow (ring_of c).ops w (suc j)) variable_x)

@@ -20,10 +20,24 @@ module _ {k : CodeField} (c : Equation k) where
   pub genus_index : (I N : FunctionOf c → Type 0) (bs : List (FunctionOf c)) (d : ℕ → ℤ) → IsReducedBasis c I N bs d
       → HasIndex c (IsSum (space_ops c) I N) (λ z. Unit {0}) (genus_sum (degree_of_y c) d)
   genus_index I N bs d reduced =
-      let h = genus_dimension (code_ring k) (code_field k) (functions_module c) (degree_of_y c) I (multiples_of c N) bs d reduced (division c) in
-      index_same c (IsSum (space_ops c) I (multiples_of c N (pos 0))) (IsSum (space_ops c) I N) (λ z. Unit {0}) (λ z. Unit {0})
+      let h = genus_dimension (code_ring k) (code_field k) (functions_module c) (degree_of_y c) I (multiples_of c N)
+      bs d reduced (division c) in
+      index_same c (IsSum (space_ops c) I (multiples_of c N (pos 0))) (IsSum (space_ops c) I N) (λ z. Unit {0})
+      (λ z. Unit {0})
       (λ z. (
-        λ m. record { left = m.left; left_in = m.left_in; right = m.right; right_in = (level_zero c N m.right).0 m.right_in; is = m.is },
-        λ m. record { left = m.left; left_in = m.left_in; right = m.right; right_in = (level_zero c N m.right).1 m.right_in; is = m.is },
+        λ m. record {
+          left = m.left;
+          left_in = m.left_in;
+          right = m.right;
+          right_in = (level_zero c N m.right).0 m.right_in;
+          is = m.is;
+        },
+        λ m. record {
+          left = m.left;
+          left_in = m.left_in;
+          right = m.right;
+          right_in = (level_zero c N m.right).1 m.right_in;
+          is = m.is;
+        },
       ))
       (λ z. (λ m. m, λ m. m)) _ (record { basis = h.basis; is = h.is; count = same_natural _ _ h.size })

@@ -1,4 +1,5 @@
--- The index of a lattice at infinity in a larger one: there is one, it is one number, and it is the difference of the sums of degrees.
+-- The index of a lattice at infinity in a larger one: there is one, it is one number, and it is the difference of the
+-- sums of degrees.
 use Rattle.std.proofs.Common.{◌≡◌, ℕ, ◌+◌, ℤ, pos, ◌-ℤ◌, List, [], ◌∷◌, ◌++◌, length, refl, sym, ◌∙◌, ap, subst, arith}
 use Rattle.std.proofs.lemmas.List.{length-append}
 use Rattle.ring_theory.specs.Subsets.{IsModule}
@@ -38,11 +39,13 @@ module _ {k : CodeField} (c : Equation k) where
     top = constant (code_ring k) a;
     bottom = (polynomials k).𝟙;
     not_null = (polynomials_domain k).one_not_zero;
-    degrees = let l = length_one (code_ring k) (code_field k) in let m = length_trim (code_ring k).is_zero (a ∷ []) in omega (arith, l, m);
+    degrees = let l = length_one (code_ring k) (code_field k) in
+        let m = length_trim (code_ring k).is_zero (a ∷ []) in omega (arith, l, m);
     value = refl;
   }
 
-  pub infinite_module : (N : FunctionOf c → Type 0) → IsLatticeAtInfinity c N → IsModule (ring_of c).ops (IsFiniteAtInfinity c) N
+  pub infinite_module : (N : FunctionOf c → Type 0) → IsLatticeAtInfinity c N
+      → IsModule (ring_of c).ops (IsFiniteAtInfinity c) N
   infinite_module N 𝓝 =
       let s = span_module (ring_of c) (IsFiniteAtInfinity c) (finite_at_infinity_subring c) 𝓝.generators in
       record {
@@ -63,19 +66,25 @@ module _ {k : CodeField} (c : Equation k) where
   module _ (A B : FunctionOf c → Type 0) (𝓐 : IsLatticeAtInfinity c A) where
     pub infinite_index_once : (g h : ℕ) → HasIndex c A B g → HasIndex c A B h → g ≡ h
     infinite_index_once g h i j =
-        sym i.count ∙ bases_same_length (domain_of (codes k)) (space c) A (infinite_space A 𝓐) B i.basis j.basis i.is j.is ∙ j.count
+        sym i.count ∙ bases_same_length (domain_of (codes k)) (space c) A (infinite_space A 𝓐) B i.basis j.basis i.is
+        j.is ∙ j.count
 
     module _ (𝓑 : IsLatticeAtInfinity c B) (within : (z : FunctionOf c) → A z → B z) where
       -- the difference of the sums of degrees, for any reduced bases with one lattice
-      by_degrees : (I : FunctionOf c → Type 0) (a b : List (FunctionOf c)) (d e : ℕ → ℤ) → IsReducedBasis c I A a d → IsReducedBasis c I B b e
-          → HasDimension (code_ring k) (polynomial_ops c) (multiples_of c A (pos 0)) (multiples_of c B (pos 0)) (degree_sum (degree_of_y c) d -ℤ degree_sum (degree_of_y c) e)
+      by_degrees : (I : FunctionOf c → Type 0) (a b : List (FunctionOf c)) (d e : ℕ → ℤ) → IsReducedBasis c I A a d
+          → IsReducedBasis c I B b e
+          → HasDimension (code_ring k) (polynomial_ops c) (multiples_of c A (pos 0)) (multiples_of c B (pos 0))
+          (degree_sum (degree_of_y c) d -ℤ degree_sum (degree_of_y c) e)
       by_degrees I a b d e reduced reduced' =
-          family_dimension (code_ring k) (code_field k) (functions_module c) (degree_of_y c) (division c) I (multiples_of c B) (multiples_of c A) b a e d reduced' reduced
+          family_dimension (code_ring k) (code_field k) (functions_module c) (degree_of_y c) (division c) I
+          (multiples_of c B) (multiples_of c A) b a e d reduced' reduced
           (λ m z h. within _ h)
 
-      of_dimension : (l : ℤ) (h : HasDimension (code_ring k) (polynomial_ops c) (multiples_of c A (pos 0)) (multiples_of c B (pos 0)) l) → HasIndex c A B (length h.basis)
+      of_dimension : (l : ℤ) (h : HasDimension (code_ring k) (polynomial_ops c) (multiples_of c A (pos 0))
+          (multiples_of c B (pos 0)) l) → HasIndex c A B (length h.basis)
       of_dimension l h =
-          index_same c (multiples_of c A (pos 0)) A (multiples_of c B (pos 0)) B (level_zero A) (level_zero B) (length h.basis)
+          index_same c (multiples_of c A (pos 0)) A (multiples_of c B (pos 0)) B (level_zero A) (level_zero B)
+          (length h.basis)
           (record { basis = h.basis; is = h.is; count = refl })
 
       pub infinite_index : (g : ℕ) × HasIndex c A B g
@@ -85,14 +94,17 @@ module _ {k : CodeField} (c : Equation k) where
           let h = by_degrees (HasPolynomialCoordinates c) r.0 s.0 r.1 s.1 r.2 s.2 in
           (length h.basis, of_dimension _ h)
 
-      pub infinite_index_degrees : (I : FunctionOf c → Type 0) (a b : List (FunctionOf c)) (d e : ℕ → ℤ) → IsReducedBasis c I A a d → IsReducedBasis c I B b e
+      pub infinite_index_degrees : (I : FunctionOf c → Type 0) (a b : List (FunctionOf c)) (d e : ℕ → ℤ)
+          → IsReducedBasis c I A a d → IsReducedBasis c I B b e
           → (g : ℕ) → HasIndex c A B g → pos g ≡ degree_sum (degree_of_y c) d -ℤ degree_sum (degree_of_y c) e
       infinite_index_degrees I a b d e reduced reduced' g i =
           let h = by_degrees I a b d e reduced reduced' in
           ap pos (infinite_index_once g (length h.basis) i (of_dimension _ h)) ∙ h.size
 
-  pub infinite_index_add : (A B C : FunctionOf c → Type 0) → IsLatticeAtInfinity c A → IsLatticeAtInfinity c B → IsLatticeAtInfinity c C
-      → ((z : FunctionOf c) → A z → B z) → ((z : FunctionOf c) → B z → C z) → (g h : ℕ) → HasIndex c A B g → HasIndex c B C h → HasIndex c A C (g + h)
+  pub infinite_index_add : (A B C : FunctionOf c → Type 0) → IsLatticeAtInfinity c A → IsLatticeAtInfinity c B
+      → IsLatticeAtInfinity c C
+      → ((z : FunctionOf c) → A z → B z) → ((z : FunctionOf c) → B z → C z) → (g h : ℕ) → HasIndex c A B g
+      → HasIndex c B C h → HasIndex c A C (g + h)
   infinite_index_add A B C 𝓐 𝓑 𝓒 inner outer g h i j = record {
     basis = j.basis ++ i.basis;
     is =

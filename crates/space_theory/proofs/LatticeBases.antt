@@ -20,7 +20,8 @@ module _ {k : CodeField} (c : Equation k) where
   open ring_of c use {𝟘, 𝟙, ◌⊕◌, ◌⊗◌}
 
   -- a span is what the combinations of the list are
-  pub lattice_of_span : (bs : List (FunctionOf c)) (z : FunctionOf c) → Span (ring_of c).ops (IsPolynomial c) bs z → InLattice (code_ring k) (polynomial_ops c) bs z
+  pub lattice_of_span : (bs : List (FunctionOf c)) (z : FunctionOf c) → Span (ring_of c).ops (IsPolynomial c) bs z
+      → InLattice (code_ring k) (polynomial_ops c) bs z
   lattice_of_span [] z m = record { coefficient = λ i. (polynomials k).𝟘; is = m }
   lattice_of_span (b ∷ bs) z m =
       let r = lattice_of_span bs m.rest m.rest_in in
@@ -29,7 +30,8 @@ module _ {k : CodeField} (c : Equation k) where
         is = m.is ∙ ap₂ (λ s w. s ⊗ b ⊕ w) m.scalar_in.value r.is;
       }
 
-  combination_in : (bs : List (FunctionOf c)) (e : ℕ → Polynomial k) → Span (ring_of c).ops (IsPolynomial c) bs (combine (polynomial_ops c) e bs)
+  combination_in : (bs : List (FunctionOf c)) (e : ℕ → Polynomial k)
+      → Span (ring_of c).ops (IsPolynomial c) bs (combine (polynomial_ops c) e bs)
   combination_in [] e = refl
   combination_in (b ∷ bs) e = record {
     scalar = of_poly c (e 0);
@@ -39,7 +41,8 @@ module _ {k : CodeField} (c : Equation k) where
     is = refl;
   }
 
-  pub span_of_lattice : (bs : List (FunctionOf c)) (z : FunctionOf c) → InLattice (code_ring k) (polynomial_ops c) bs z → Span (ring_of c).ops (IsPolynomial c) bs z
+  pub span_of_lattice : (bs : List (FunctionOf c)) (z : FunctionOf c)
+      → InLattice (code_ring k) (polynomial_ops c) bs z → Span (ring_of c).ops (IsPolynomial c) bs z
   span_of_lattice bs z m = subst (Span (ring_of c).ops (IsPolynomial c) bs) (sym m.is) (combination_in bs m.coefficient)
 
   -- a lattice has a basis in this sense
@@ -58,16 +61,19 @@ module _ {k : CodeField} (c : Equation k) where
                 denominator = f.factor;
                 nonzero = f.some;
                 coefficient = s.coefficient;
-                is = s.is ∙ ap (λ w. combine (polynomial_ops c) s.coefficient b.0 ⊕ w) s.rest_in ∙ (ring_of c).add_zero _;
+                is = s.is ∙ ap (λ w. combine (polynomial_ops c) s.coefficient b.0 ⊕ w) s.rest_in
+                    ∙ (ring_of c).add_zero _;
               };
           lattice = λ z. (
             λ m.
                 let s = b.2.spanning z m in
                 record {
                   coefficient = s.coefficient;
-                  is = s.is ∙ ap (λ w. combine (polynomial_ops c) s.coefficient b.0 ⊕ w) s.rest_in ∙ (ring_of c).add_zero _;
+                  is = s.is ∙ ap (λ w. combine (polynomial_ops c) s.coefficient b.0 ⊕ w) s.rest_in
+                      ∙ (ring_of c).add_zero _;
                 },
-            λ m. span_least (ring_of c) (IsPolynomial c) (polynomials_subring c) L (lattice_module c L 𝓛) b.0 b.2.members_in z (span_of_lattice b.0 z m),
+            λ m. span_least (ring_of c) (IsPolynomial c) (polynomials_subring c) L (lattice_module c L 𝓛) b.0
+                b.2.members_in z (span_of_lattice b.0 z m),
           );
         },
       )

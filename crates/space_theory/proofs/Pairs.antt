@@ -16,12 +16,14 @@ use Rattle.space_theory.proofs.AtInfinity.{integral_at_infinity}
 use Rattle.space_theory.proofs.LatticeBases.{basis_of_lattice}
 use Rattle.space_theory.proofs.InfiniteBases.{infinite_basis}
 
-module _ {k : CodeField} (c : Equation k) (I N : FunctionOf c → Type 0) (𝓘 : IsLattice c I) (𝓝 : IsLatticeAtInfinity c N) where
+module _ {k : CodeField} (c : Equation k) (I N : FunctionOf c → Type 0) (𝓘 : IsLattice c I)
+    (𝓝 : IsLatticeAtInfinity c N) where
   pub reduced_basis : (b : List (FunctionOf c)) × (d : ℕ → ℤ) × IsReducedBasis c I N b d
   reduced_basis =
       let h = infinite_basis c N 𝓝 in
       let g = basis_of_lattice c I 𝓘 in
-      let r = existence (code_ring k) (code_field k) (functions_module c) c.lower_degree (multiples_of c N) h.functions (λ i. pos 0) h.is I g.0 g.1 in
+      let r = existence (code_ring k) (code_field k) (functions_module c) c.lower_degree (multiples_of c N)
+      h.functions (λ i. pos 0) h.is I g.0 g.1 in
       (r.basis, r.degrees, r.is)
 
 -- one of O_fin and O_inf
@@ -29,4 +31,5 @@ module _ {k : CodeField} (c : Equation k) (some : ¬ (discriminant c ≡ (polyno
   pub sides_basis : (b : List (FunctionOf c)) × (d : ℕ → ℤ)
       × IsReducedBasis c (IsIntegralAt (setting_of c) Finite) (IsIntegralAt (setting_of c) Infinite) b d
   sides_basis =
-      reduced_basis c (IsIntegralAt (setting_of c) Finite) (IsIntegralAt (setting_of c) Infinite) (integral_lattice c some) (integral_at_infinity c some)
+      reduced_basis c (IsIntegralAt (setting_of c) Finite) (IsIntegralAt (setting_of c) Infinite)
+      (integral_lattice c some) (integral_at_infinity c some)

@@ -26,10 +26,12 @@ module _ {k : CodeField} (c : Equation k) where
   -- what a polynomial other than 0 takes to 0 is 0
   pub torsion_free : (e : Polynomial k) (z : FunctionOf c) → ¬ (e ≡ (polynomials k).𝟘) → of_poly c e ⊗ z ≡ 𝟘 → z ≡ 𝟘
   torsion_free e z some h =
-      sym (cancel c (over c (row_of c (polynomials k).𝟙) e some) (of_poly c e) z ((ring_of c).mul_comm _ _ ∙ den_inverse c e some))
+      sym (cancel c (over c (row_of c (polynomials k).𝟙) e some) (of_poly c e) z
+      ((ring_of c).mul_comm _ _ ∙ den_inverse c e some))
       ∙ ap (λ w. over c (row_of c (polynomials k).𝟙) e some ⊗ w) h ∙ mul_zero (ring_of c) _
 
-  -- one denominator takes the combination to one over the polynomials, whose coefficients are 0 only where those of the list are
+  -- one denominator takes the combination to one over the polynomials, whose coefficients are 0 only where those of
+  -- the list are
   record Cleared (rs bs : List (FunctionOf c)) : Type 0 where
     denominator : Polynomial k
     nonzero : ¬ (denominator ≡ (polynomials k).𝟘)
@@ -38,9 +40,13 @@ module _ {k : CodeField} (c : Equation k) where
     zeros : ((i : ℕ) → i < length bs → coefficient i ≡ (polynomials k).𝟘) → All (λ r. r ≡ 𝟘) rs
 
   more : (D E A r b s : FunctionOf c) → D ⊗ r ≡ A → D ⊗ E ⊗ (r ⊗ b ⊕ s) ≡ A ⊗ E ⊗ b ⊕ D ⊗ (E ⊗ s)
-  more D E A r b s e = from_one (ring_of c) (E ⊗ b) e (ring (ring_of c) (D ∷ E ∷ A ∷ r ∷ b ∷ s ∷ []) λ q i. simp (reads, q, i 0, i 1, i 2, i 3, i 4, i 5) (q.equal _ _ refl))
+  more D E A r b s e =
+      from_one (ring_of c) (E ⊗ b) e
+      (ring (ring_of c) (D ∷ E ∷ A ∷ r ∷ b ∷ s ∷ []) λ q i. simp (reads, q, i 0, i 1, i 2, i 3, i 4, i 5)
+      (q.equal _ _ refl))
 
-  null_factor : (e p : Polynomial k) → ¬ (e ≡ (polynomials k).𝟘) → (polynomials k).◌⊗◌ e p ≡ (polynomials k).𝟘 → p ≡ (polynomials k).𝟘
+  null_factor : (e p : Polynomial k) → ¬ (e ≡ (polynomials k).𝟘) → (polynomials k).◌⊗◌ e p ≡ (polynomials k).𝟘 → p
+      ≡ (polynomials k).𝟘
   null_factor e p some h = (polynomials_domain k).cancel_zero e p some h
 
   cleared : (rs bs : List (FunctionOf c)) → length rs ≡ length bs → All (IsRational c) rs → Cleared rs bs
@@ -59,24 +65,29 @@ module _ {k : CodeField} (c : Equation k) where
       record {
         denominator = (polynomials k).◌⊗◌ a.bottom s.denominator;
         nonzero = bottoms_not_zero c a.bottom s.denominator a.not_null s.nonzero;
-        coefficient = insert 0 ((polynomials k).◌⊗◌ a.top s.denominator) (λ i. (polynomials k).◌⊗◌ a.bottom (s.coefficient i));
+        coefficient =
+            insert 0 ((polynomials k).◌⊗◌ a.top s.denominator) (λ i. (polynomials k).◌⊗◌ a.bottom (s.coefficient i));
         is =
             ap (λ w. w ⊗ (r ⊗ b ⊕ combination (ring_of c).ops rs bs)) ((poly_hom c).mul a.bottom s.denominator)
             ∙ more (of_poly c a.bottom) (of_poly c s.denominator) (of_poly c a.top) r b _
             (ap (λ w. of_poly c a.bottom ⊗ w) a.value ∙ over_times_den c a.top a.bottom a.not_null)
             ∙ ap₂ ◌⊕◌ (ap (λ w. w ⊗ b) (sym ((poly_hom c).mul a.top s.denominator)))
-            (ap (λ w. of_poly c a.bottom ⊗ w) s.is ∙ sym (combine_scale (functions_module c) a.bottom s.coefficient bs));
+            (ap (λ w. of_poly c a.bottom ⊗ w) s.is
+            ∙ sym (combine_scale (functions_module c) a.bottom s.coefficient bs));
         zeros = λ f.
             All-cons (λ r. r ≡ 𝟘) r rs
             (torsion_free a.bottom r a.not_null
             (ap (λ w. of_poly c a.bottom ⊗ w) a.value ∙ over_times_den c a.top a.bottom a.not_null
-            ∙ ap (of_poly c) (null_factor s.denominator a.top s.nonzero ((polynomials k).mul_comm _ _ ∙ f 0 (omega arith))) ∙ sym (of_poly_zero c)))
+            ∙ ap (of_poly c) (null_factor s.denominator a.top s.nonzero
+            ((polynomials k).mul_comm _ _ ∙ f 0 (omega arith))) ∙ sym (of_poly_zero c)))
             (s.zeros (λ i m. null_factor a.bottom (s.coefficient i) a.not_null (f (suc i) (omega (arith, m)))));
       }
 
   pub rational_independent : (bs : List (FunctionOf c))
-      → ((p : ℕ → Polynomial k) → combine (polynomial_ops c) p bs ≡ 𝟘 → (i : ℕ) → i < length bs → p i ≡ (polynomials k).𝟘)
-      → (rs : List (FunctionOf c)) → length rs ≡ length bs → All (IsRational c) rs → combination (ring_of c).ops rs bs ≡ 𝟘 → All (λ r. r ≡ 𝟘) rs
+      → ((p : ℕ → Polynomial k) → combine (polynomial_ops c) p bs ≡ 𝟘 → (i : ℕ) → i < length bs → p i
+      ≡ (polynomials k).𝟘)
+      → (rs : List (FunctionOf c)) → length rs ≡ length bs → All (IsRational c) rs
+      → combination (ring_of c).ops rs bs ≡ 𝟘 → All (λ r. r ≡ 𝟘) rs
   rational_independent bs free rs l h e =
       let s = cleared rs bs l h in
       s.zeros (free s.coefficient (sym s.is ∙ ap (λ w. of_poly c s.denominator ⊗ w) e ∙ mul_zero (ring_of c) _))

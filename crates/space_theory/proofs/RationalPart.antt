@@ -40,21 +40,29 @@ module _ {k : CodeField} (c : Equation k) where
   pub first_rational : (z : FunctionOf c) → IsFirst z → IsRational c z
   first_rational z h =
       let r = as_row c z in
-      record { top = r.num.0; bottom = r.den; not_null = r.not_zero; value = r.is ∙ ap (λ v. over c v r.den r.not_zero) h }
+      record {
+        top = r.num.0;
+        bottom = r.den;
+        not_null = r.not_zero;
+        value = r.is ∙ ap (λ v. over c v r.den r.not_zero) h;
+      }
 
   pub rational_first : (z : FunctionOf c) → IsRational c z → IsFirst z
   unfolding row_scale
   rational_first z h = first_of (as_row c z).num (as_row c z).den (as_row c z).not_zero (sym (as_row c z).is ∙ h.value)
     where
-      first_of : (v : Row (Polynomial k) (suc c.lower_degree)) (d : Polynomial k) (n : ¬ (d ≡ (polynomials k).𝟘)) → over c v d n ≡ over c (row_of c h.top) h.bottom h.not_null
+      first_of : (v : Row (Polynomial k) (suc c.lower_degree)) (d : Polynomial k) (n : ¬ (d ≡ (polynomials k).𝟘))
+          → over c v d n ≡ over c (row_of c h.top) h.bottom h.not_null
           → v ≡ row_of c v.0
       first_of (a, v) d n e =
           pair_path refl
           (row_null k c.lower_degree h.bottom v h.not_null
-          (ap (λ t. t.1) (over_same c (a, v) (row_of c h.top) d h.bottom n h.not_null e) ∙ row_scale_zero (polynomials k).ring c.lower_degree d))
+          (ap (λ t. t.1) (over_same c (a, v) (row_of c h.top) d h.bottom n h.not_null e)
+          ∙ row_scale_zero (polynomials k).ring c.lower_degree d))
 
   polynomial_rational : (a : Polynomial k) → IsRational c (of_poly c a)
-  polynomial_rational a = record { top = a; bottom = (polynomials k).𝟙; not_null = (polynomials_domain k).one_not_zero; value = refl }
+  polynomial_rational a =
+      record { top = a; bottom = (polynomials k).𝟙; not_null = (polynomials_domain k).one_not_zero; value = refl }
 
   pub first_subring : IsSubring (ring_of c).ops IsFirst
   first_subring = record {
@@ -102,10 +110,15 @@ module _ {k : CodeField} (c : Equation k) where
   same_rational = same_part (ring_of c) IsFirst first_subring first_prop
 
   abbrev pub polynomial_part : Polynomial k → (z : FunctionOf c) × ((as_row c z).num ≡ row_of c (as_row c z).num.0)
-  polynomial_part p = (of_poly c p, rational_first (of_poly c p) (record { top = p; bottom = (polynomials k).𝟙; not_null = (polynomials_domain k).one_not_zero; value = refl }))
+  polynomial_part p = (
+    of_poly c p,
+    rational_first (of_poly c p)
+        (record { top = p; bottom = (polynomials k).𝟙; not_null = (polynomials_domain k).one_not_zero; value = refl }),
+  )
 
   pub polynomial_same : (p q : Polynomial k) → of_poly c p ≡ of_poly c q → p ≡ q
-  polynomial_same p q e = polynomial_value c p q (polynomials k).𝟙 (polynomials_domain k).one_not_zero e ∙ one_mul (polynomials k).ring q
+  polynomial_same p q e = polynomial_value c p q (polynomials k).𝟙 (polynomials_domain k).one_not_zero e
+      ∙ one_mul (polynomials k).ring q
 
   pub rational_fractions : AreFractions (code_ring k) rational_ring.ops polynomial_part
   rational_fractions = record {
@@ -122,11 +135,13 @@ module _ {k : CodeField} (c : Equation k) where
           denominator = h.bottom;
           nonzero = h.not_null;
           numerator = h.top;
-          is = same_rational _ _ (ap (λ w. of_poly c h.bottom ⊗ w) h.value ∙ over_times_den c h.top h.bottom h.not_null);
+          is = same_rational _ _ (ap (λ w. of_poly c h.bottom ⊗ w) h.value
+              ∙ over_times_den c h.top h.bottom h.not_null);
         };
     cancel = λ e r s some same.
         let i = over c (row_of c (polynomials k).𝟙) e some in
         let inverse : i ⊗ of_poly c e ≡ 𝟙 = (ring_of c).mul_comm _ _ ∙ den_inverse c e some in
         same_rational _ _
-        (sym (cancel c i (of_poly c e) r.0 inverse) ∙ ap (λ w. i ⊗ w) (ap (λ a. a.0) same) ∙ cancel c i (of_poly c e) s.0 inverse);
+        (sym (cancel c i (of_poly c e) r.0 inverse) ∙ ap (λ w. i ⊗ w) (ap (λ a. a.0) same)
+        ∙ cancel c i (of_poly c e) s.0 inverse);
   }

@@ -1,4 +1,5 @@
--- Combinations with lists of scalars: those of a ring that maps to the scalars, and in how many ways a member of a span is one.
+-- Combinations with lists of scalars: those of a ring that maps to the scalars, and in how many ways a member of a
+-- span is one.
 use Rattle.std.proofs.Common.{◌≡◌, ℕ, zero, suc, ◌<◌, List, [], ◌∷◌, length, All, refl, sym, ◌∙◌, ap, ap₂, subst, arith}
 use Rattle.std.proofs.lemmas.List.Elements.{All-nil, All-cons, All-head, All-tail}
 use Rattle.ring_theory.specs.Ring.{CommRing}
@@ -10,13 +11,15 @@ use Rattle.linear_theory.specs.Basis.{IsIndependent as IsFree}
 use Rattle.function_field.specs.Spans.{combination, IsIndependent, InSpanOnce}
 use Rattle.function_field.proofs.Spans.{span_list}
 
-module _ {C A : Type 0} (K : CommRing C) (R : CommRing A) (e : C → A) (hom : IsHomomorphism K.ops R.ops e) (S : A → Type 0) where
+module _ {C A : Type 0} (K : CommRing C) (R : CommRing A) (e : C → A) (hom : IsHomomorphism K.ops R.ops e)
+    (S : A → Type 0) where
   infixl 65 ◌⊕◌
   infixl 70 ◌⊗◌
   open R use {𝟘, 𝟙, ◌⊕◌, ◌⊗◌}
 
   -- combinations by a sequence are in the span, where the images are scalars
-  pub combine_spanned : ((a : C) → S (e a)) → (f : ℕ → C) (ws : List A) → Span R.ops S ws (combine (restricted_ops R.ops e) f ws)
+  pub combine_spanned : ((a : C) → S (e a)) → (f : ℕ → C) (ws : List A)
+      → Span R.ops S ws (combine (restricted_ops R.ops e) f ws)
   combine_spanned image f [] = refl
   combine_spanned image f (w ∷ ws) = record {
     scalar = e (f 0);
@@ -33,14 +36,17 @@ module _ {C A : Type 0} (K : CommRing C) (R : CommRing A) (e : C → A) (hom : I
     sequence (z ∷ cs) h zero = (at z (All-head S z cs h)).0
     sequence (z ∷ cs) h (suc i) = sequence cs (All-tail S z cs h) i
 
-    sequence_is : (cs ws : List A) (h : All S cs) → length cs ≡ length ws → combination R.ops cs ws ≡ combine (restricted_ops R.ops e) (sequence cs h) ws
+    sequence_is : (cs ws : List A) (h : All S cs) → length cs ≡ length ws → combination R.ops cs ws
+        ≡ combine (restricted_ops R.ops e) (sequence cs h) ws
     unfolding sequence
     sequence_is [] [] h l = refl
     sequence_is [] (w ∷ ws) h l = absurd (omega arith)
     sequence_is (z ∷ cs) [] h l = absurd (omega arith)
-    sequence_is (z ∷ cs) (w ∷ ws) h l = ap₂ ◌⊕◌ (ap (λ x. x ⊗ w) (at z (All-head S z cs h)).1) (sequence_is cs ws (All-tail S z cs h) (omega arith))
+    sequence_is (z ∷ cs) (w ∷ ws) h l =
+        ap₂ ◌⊕◌ (ap (λ x. x ⊗ w) (at z (All-head S z cs h)).1) (sequence_is cs ws (All-tail S z cs h) (omega arith))
 
-    sequence_zero : (cs : List A) (h : All S cs) → ((i : ℕ) → i < length cs → sequence cs h i ≡ K.𝟘) → All (λ z. z ≡ 𝟘) cs
+    sequence_zero : (cs : List A) (h : All S cs) → ((i : ℕ) → i < length cs → sequence cs h i ≡ K.𝟘)
+        → All (λ z. z ≡ 𝟘) cs
     unfolding sequence
     sequence_zero [] h f = All-nil (λ z. z ≡ 𝟘)
     sequence_zero (z ∷ cs) h f =
@@ -48,7 +54,8 @@ module _ {C A : Type 0} (K : CommRing C) (R : CommRing A) (e : C → A) (hom : I
         (sequence_zero cs (All-tail S z cs h) (λ i l. f (suc i) (omega (arith, l))))
 
     -- independence by sequences is independence by lists
-    pub independent_lists : (U : A → Type 0) (ws : List A) → IsFree K.ops (restricted_ops R.ops e) U ws → (cs : List A) → length cs ≡ length ws → All S cs
+    pub independent_lists : (U : A → Type 0) (ws : List A) → IsFree K.ops (restricted_ops R.ops e) U ws
+        → (cs : List A) → length cs ≡ length ws → All S cs
         → U (combination R.ops cs ws) → All (λ z. z ≡ 𝟘) cs
     independent_lists U ws free cs l h m =
         sequence_zero cs h (λ i b. free (sequence cs h) (subst U (sequence_is cs ws h l) m) i (subst (λ n. i < n) l b))
@@ -75,7 +82,8 @@ module _ {A : Type 0} (R : CommRing A) (S : A → Type 0) (𝓢 : IsSubring R.op
   differences_in [] ss h h' = All-nil S
   differences_in (r ∷ rs) [] h h' = All-nil S
   differences_in (r ∷ rs) (s ∷ ss) h h' =
-      All-cons S _ _ (𝓢.sum_in _ _ (All-head S r rs h) (𝓢.neg_in _ (All-head S s ss h'))) (differences_in rs ss (All-tail S r rs h) (All-tail S s ss h'))
+      All-cons S _ _ (𝓢.sum_in _ _ (All-head S r rs h) (𝓢.neg_in _ (All-head S s ss h')))
+      (differences_in rs ss (All-tail S r rs h) (All-tail S s ss h'))
 
   step : (r s g a b : A) → (r ⊕ ⊖ s) ⊗ g ⊕ (a ⊕ ⊖ b) ≡ (r ⊗ g ⊕ a) ⊕ ⊖ (s ⊗ g ⊕ b)
   step r s g a b = ring R (r ∷ s ∷ g ∷ a ∷ b ∷ []) λ q h. simp (reads, q, h 0, h 1, h 2, h 3, h 4) (q.equal _ _ refl)
@@ -100,7 +108,8 @@ module _ {A : Type 0} (R : CommRing A) (S : A → Type 0) (𝓢 : IsSubring R.op
   differences_zero [] (s ∷ ss) l h = absurd (omega arith)
   differences_zero (r ∷ rs) [] l h = absurd (omega arith)
   differences_zero (r ∷ rs) (s ∷ ss) l h =
-      ap₂ (λ x xs. x ∷ xs) (eq_of_sub R r s (All-head (λ z. z ≡ 𝟘) _ _ h)) (differences_zero rs ss (omega arith) (All-tail (λ z. z ≡ 𝟘) _ _ h))
+      ap₂ (λ x xs. x ∷ xs) (eq_of_sub R r s (All-head (λ z. z ≡ 𝟘) _ _ h))
+      (differences_zero rs ss (omega arith) (All-tail (λ z. z ≡ 𝟘) _ _ h))
 
   -- members of the span of independent elements are combinations in one way only
   pub span_once : (gs : List A) → IsIndependent R.ops S gs → (z : A) → Span R.ops S gs z → InSpanOnce R.ops S gs z
@@ -111,7 +120,8 @@ module _ {A : Type 0} (R : CommRing A) (S : A → Type 0) (𝓢 : IsSubring R.op
         one_way = λ o.
             let l : length o.coefficients ≡ length s.coefficients = o.one_each ∙ sym s.one_each in
             differences_zero o.coefficients s.coefficients l
-            (free (differences o.coefficients s.coefficients) (differences_length o.coefficients s.coefficients l ∙ o.one_each)
+            (free (differences o.coefficients s.coefficients)
+            (differences_length o.coefficients s.coefficients l ∙ o.one_each)
             (differences_in o.coefficients s.coefficients o.in_ring s.in_ring)
             (differences_combination o.coefficients s.coefficients gs o.one_each s.one_each
             ∙ ap₂ (λ a b. a ⊕ ⊖ b) (sym o.value) (sym s.value) ∙ R.add_neg z));

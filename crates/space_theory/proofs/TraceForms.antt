@@ -1,4 +1,5 @@
--- The trace of a product as a form with values in the rational functions: it tells functions apart where the discriminant isn't 0.
+-- The trace of a product as a form with values in the rational functions: it tells functions apart where the
+-- discriminant isn't 0.
 use Rattle.std.proofs.Common.{◌≡◌, [], ◌∷◌, refl, sym, ◌∙◌, ap}
 use Rattle.ring_theory.specs.Ring.{pow}
 use Rattle.ring_theory.proofs.Ring.{add_mul, zero_add, add_cancel, eq_of_sub}
@@ -21,7 +22,10 @@ module _ {k : CodeField} (c : Equation k) where
   open ring_of c use {𝟘, 𝟙, ◌⊕◌, ◌⊗◌, ⊖◌}
 
   abbrev pub form : FunctionOf c → FunctionOf c → (z : FunctionOf c) × ((as_row c z).num ≡ row_of c (as_row c z).num.0)
-  form u v = (trace_of c ((ring_of c).◌⊗◌ u v), rational_first c (trace_of c ((ring_of c).◌⊗◌ u v)) (trace_rational c ((ring_of c).◌⊗◌ u v)))
+  form u v = (
+    trace_of c ((ring_of c).◌⊗◌ u v),
+    rational_first c (trace_of c ((ring_of c).◌⊗◌ u v)) (trace_rational c ((ring_of c).◌⊗◌ u v)),
+  )
 
   trace_minus : (z w : FunctionOf c) → trace_of c z ≡ trace_of c w → trace_of c (z ⊕ ⊖ w) ≡ 𝟘
   trace_minus z w e =
@@ -43,7 +47,13 @@ module _ {k : CodeField} (c : Equation k) where
       scale = λ p u w.
           same_rational c _ _
           (ap (trace_of c) ((ring_of c).mul_assoc (of_poly c p) u w)
-          ∙ trace_times c (of_poly c p) (u ⊗ w) (record { top = p; bottom = (polynomials k).𝟙; not_null = (polynomials_domain k).one_not_zero; value = refl }));
+          ∙ trace_times c (of_poly c p) (u ⊗ w)
+          (record {
+            top = p;
+            bottom = (polynomials k).𝟙;
+            not_null = (polynomials_domain k).one_not_zero;
+            value = refl;
+          }));
       symmetric = λ u v. same_rational c _ _ (ap (trace_of c) ((ring_of c).mul_comm u v));
       separates = λ y z h.
           eq_of_sub (ring_of c) y z

@@ -10,10 +10,11 @@ use Rattle.function_field.specs.declared.side.Side.TheVariants.{Finite, Infinite
 use Rattle.function_field.specs.Functions.{Equation, FunctionOf, ring_of, setting_of, degree_of_y, IsFiniteAtInfinity}
 use Rattle.function_field.specs.Divisors.{x_to, shifted, SpansOnce}
 use Rattle.lattice_theory.specs.Lattices.{polynomial_ops}
-use Rattle.reduced_basis_theory.specs.Reduced.{IsReduced}
+use Rattle.reduced_basis_theory.specs.Reduced.{IsReducedBasisOfPair}
 
 module _ {k : CodeField} (c : Equation k) where
-  -- finitely many functions span N over the fractions of degree at most 0, and a power of 1/x takes each function into N
+  -- finitely many functions span N over the fractions of degree at most 0, and a power of 1/x takes each function into
+  -- N
   pub record IsLatticeAtInfinity (N : FunctionOf c → Type 0) : Type 0 where
     pub generators : List (FunctionOf c)
     pub spanned : SameSet N (Span (ring_of c).ops (IsFiniteAtInfinity c) generators)
@@ -24,9 +25,10 @@ module _ {k : CodeField} (c : Equation k) where
   abbrev pub multiples_of : (FunctionOf c → Type 0) → ℤ → FunctionOf c → Type 0
   multiples_of N m z = N ((ring_of c).◌⊗◌ (x_to (setting_of c) (neg_ℤ m)) z)
 
-  -- b is a basis of I over the polynomials, and the sum of the r_i·b_i is in x^m·N exactly where each r_i has degree at most m - d_i
+  -- b is a basis of I over the polynomials, and the sum of the r_i·b_i is in x^m·N exactly where each r_i has degree
+  -- at most m - d_i
   abbrev pub IsReducedBasis : (FunctionOf c → Type 0) → (FunctionOf c → Type 0) → List (FunctionOf c) → (ℕ → ℤ) → Type 0
-  IsReducedBasis I N b d = IsReduced (code_ring k) (polynomial_ops c) (degree_of_y c) I (multiples_of N) b d
+  IsReducedBasis I N b d = IsReducedBasisOfPair (code_ring k) (polynomial_ops c) (degree_of_y c) I (multiples_of N) b d
 
   -- b is a basis of I over the polynomials, and the x^(-d_i)·b_i are one of N over the fractions of degree at most 0
   pub record IsBasisOfBoth (I N : FunctionOf c → Type 0) (bs : List (FunctionOf c)) (ds : List ℤ) : Type 0 where

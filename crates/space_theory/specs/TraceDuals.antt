@@ -1,4 +1,5 @@
--- The duals of lattices under the trace of a product, and with them the pairs of canonical divisors (Stichtenoth, section 3.4).
+-- The duals of lattices under the trace of a product, and with them the pairs of canonical divisors (Stichtenoth,
+-- section 3.4).
 use Rattle.std.specs.Prelude.{◌≡◌, ℕ, ◌<◌, List, length}
 use Rattle.ring_theory.specs.Ring.{pow}
 use Rattle.ff_fields.specs.Field.{CodeField}

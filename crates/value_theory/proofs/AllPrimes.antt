@@ -30,7 +30,8 @@ module _ (k : CodeField) (q : PresValue) (positive : 0 < q.n) (o : LatticeValue)
   I = RecordedPrime (equation_of k q) (Contains k q o)
 
   -- the records of the primes
-  pub records : (Ps : List PrimeValue) → All (IsPrimeOf k q o) Ps → List (RecordedPrime (equation_of k q) (Contains k q o))
+  pub records : (Ps : List PrimeValue) → All (IsPrimeOf k q o) Ps
+      → List (RecordedPrime (equation_of k q) (Contains k q o))
   records [] h = []
   records (P ∷ Ps) h = recorded k q positive o order P (All-head T P Ps h) ∷ records Ps (All-tail T P Ps h)
 
@@ -48,13 +49,15 @@ module _ (k : CodeField) (q : PresValue) (positive : 0 < q.n) (o : LatticeValue)
   unfolding records recorded
   apart P prime [] h d = All-nil (Apart (recorded k q positive o order P prime))
   apart P prime (Q ∷ Ps) h d =
-      All-cons (Apart (recorded k q positive o order P prime)) (recorded k q positive o order Q (All-head T Q Ps h)) (records Ps (All-tail T Q Ps h))
+      All-cons (Apart (recorded k q positive o order P prime)) (recorded k q positive o order Q (All-head T Q Ps h))
+      (records Ps (All-tail T Q Ps h))
       (λ s.
       All-head (λ Q. P.rows ≢ Q.rows) Q Ps d
       (one_form k q P.rows Q.rows prime.ideal.lattice (All-head T Q Ps h).ideal.lattice s positive))
       (apart P prime Ps (All-tail T Q Ps h) (All-tail (λ Q. P.rows ≢ Q.rows) Q Ps d))
 
-  pairs : (Ps : List PrimeValue) (h : All (IsPrimeOf k q o) Ps) → AllPairs (λ P Q. P.rows ≢ Q.rows) Ps → AllPairs Apart (records Ps h)
+  pairs : (Ps : List PrimeValue) (h : All (IsPrimeOf k q o) Ps) → AllPairs (λ P Q. P.rows ≢ Q.rows) Ps
+      → AllPairs Apart (records Ps h)
   unfolding records
   pairs [] h d = λ i j e l m. absurd (omega (arith, m))
   pairs (P ∷ Ps) h d =
@@ -69,13 +72,16 @@ module _ (k : CodeField) (q : PresValue) (positive : 0 < q.n) (o : LatticeValue)
   sums (P ∷ Ps) h = ap (λ n. P.e * P.degree + n) (sums Ps (All-tail T P Ps h))
 
   products : (Ps : List PrimeValue) (h : All (IsPrimeOf k q o) Ps)
-      → ◌≡◌ {A = Functions k q → Type 0} (ProductOfPowers (equation_of k q) (Contains k q o) (records Ps h)) (ProductOfPrimes k q o Ps)
+      → ◌≡◌ {A = Functions k q → Type 0} (ProductOfPowers (equation_of k q) (Contains k q o) (records Ps h))
+      (ProductOfPrimes k q o Ps)
   unfolding records recorded
   products [] h = refl
   products (P ∷ Ps) h =
-      ap (Product (functions k q).ops (Power (functions k q).ops (Contains k q o) (Contains k q P.rows) P.e)) (products Ps (All-tail T P Ps h))
+      ap (Product (functions k q).ops (Power (functions k q).ops (Contains k q o) (Contains k q P.rows) P.e))
+      (products Ps (All-tail T P Ps h))
 
-  module _ (pi : List ℕ) (pi_in : IsOver k.ops pi) (irreducible : IsIrreducible k.ops pi) (Ps : List PrimeValue) (h : AreAllPrimes k q o pi Ps) where
+  module _ (pi : List ℕ) (pi_in : IsOver k.ops pi) (irreducible : IsIrreducible k.ops pi) (Ps : List PrimeValue)
+      (h : AreAllPrimes k q o pi Ps) where
     pub record_is : IsRecordAt (equation_of k q) (Contains k q o) (value k pi) (records Ps h.primes)
     record_is = record {
       different = pairs Ps h.primes h.different;

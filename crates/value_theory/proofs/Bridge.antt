@@ -20,7 +20,8 @@ use Rattle.ff_lattice.proofs.SpannedSets.{lattice_full}
 
 module _ (k : CodeField) (p : PresValue) where
   -- a lattice of full rank is one of the theory
-  pub full_lattice : (l : LatticeValue) → IsFull k p (Contains k p l) → theory.IsLattice (equation_of k p) (Contains k p l)
+  pub full_lattice : (l : LatticeValue) → IsFull k p (Contains k p l)
+      → theory.IsLattice (equation_of k p) (Contains k p l)
   full_lattice l full = record {
     generators = row_functions k p l;
     spanned = λ z. (λ h. h, λ h. h);
@@ -46,20 +47,23 @@ module _ (k : CodeField) (p : PresValue) where
             one_in = order.one_in;
             sum_in = 𝓜.sum_in;
             neg_in = λ a a_in.
-                subst (Contains k p l) (neg_mul (functions k p) (functions k p).𝟙 a ∙ ap (functions k p).⊖◌ (one_mul (functions k p) a))
+                subst (Contains k p l) (neg_mul (functions k p) (functions k p).𝟙 a
+                ∙ ap (functions k p).⊖◌ (one_mul (functions k p) a))
                 (𝓜.scale_in _ a (𝓢.neg_in (functions k p).𝟙 𝓢.one_in) a_in);
             product_in = order.product_in;
           };
         }
 
   -- the functions that take a lattice into itself are an order
-  pub colon_order : (i l : LatticeValue) → IsLattice k.ops p.n l → ((z : Functions k p) → Contains k p l z ↔ IsColon k p i i z) → IsOrder k p l
+  pub colon_order : (i l : LatticeValue) → IsLattice k.ops p.n l
+      → ((z : Functions k p) → Contains k p l z ↔ IsColon k p i i z) → IsOrder k p l
   colon_order i l form members = record {
     lattice = form;
     one_in = (members (functions k p).𝟙).1 (λ w w_in. subst (Contains k p i) (sym (one_mul (functions k p) w)) w_in);
     product_in = λ u v u_in v_in.
         (members ((functions k p).◌⊗◌ u v)).1
-        (λ w w_in. subst (Contains k p i) (sym ((functions k p).mul_assoc u v w)) ((members u).0 u_in _ ((members v).0 v_in w w_in)));
+        (λ w w_in. subst (Contains k p i) (sym ((functions k p).mul_assoc u v w))
+        ((members u).0 u_in _ ((members v).0 v_in w w_in)));
   }
 
 -- an irreducible list of codes is an irreducible polynomial

@@ -1,4 +1,5 @@
--- Indices: those of the code and those of the theory are the same, and the relative index of two lattices of codes is the difference of
+-- Indices: those of the code and those of the theory are the same, and the relative index of two lattices of codes is
+-- the difference of
 -- their pivot degrees.
 use Rattle.std.proofs.Common.{◌≡◌, ℕ, suc, ◌-◌, ◌<◌, ◌↔◌, List, [], ◌∷◌, refl, sym, ◌∙◌, ap, subst, arith}
 use Rattle.std.proofs.lemmas.Int.{ints}
@@ -41,13 +42,17 @@ module _ (k : CodeField) (p : PresValue) where
 
   module _ (positive : 0 < p.n) where
     -- a lattice lies in that of the unit rows over a multiple of its denominator
-    in_units : (a : LatticeValue) → IsOverMonic k p a → (den : List ℕ) (some : ¬ (value k den ≡ (polynomials k).𝟘)) (e : Polynomial k)
-        → value k den ≡ (polynomials k).◌⊗◌ (value k a.den) e → (z : Functions k p) → Contains k p a z → Contains k p (unit_lattice p.n den) z
+    in_units : (a : LatticeValue) → IsOverMonic k p a
+        → (den : List ℕ) (some : ¬ (value k den ≡ (polynomials k).𝟘)) (e : Polynomial k)
+        → value k den ≡ (polynomials k).◌⊗◌ (value k a.den) e → (z : Functions k p) → Contains k p a z
+        → Contains k p (unit_lattice p.n den) z
     in_units a over_a den some e den_is z h =
         subst (Contains k p (unit_lattice p.n den))
         (sym (m.is
-        ∙ over_eq (equation_of k p) m.numerator (row_scale S.ops (suc (p.n - 1)) e m.numerator) (value k a.den) (value k den) a_some some
-        (ap (λ d. row_scale S.ops (suc (p.n - 1)) d m.numerator) den_is ∙ row_scale_scale S (suc (p.n - 1)) (value k a.den) e m.numerator)))
+        ∙ over_eq (equation_of k p) m.numerator (row_scale S.ops (suc (p.n - 1)) e m.numerator) (value k a.den)
+        (value k den) a_some some
+        (ap (λ d. row_scale S.ops (suc (p.n - 1)) d m.numerator) den_is
+        ∙ row_scale_scale S (suc (p.n - 1)) (value k a.den) e m.numerator)))
         (unit_members k p positive den some (row_scale S.ops (suc (p.n - 1)) e m.numerator))
       where
         a_some : ¬ (value k a.den ≡ (polynomials k).𝟘)
@@ -79,16 +84,19 @@ module _ (k : CodeField) (p : PresValue) where
       second : (z : Functions k p) → Contains k p b z → Contains k p (unit_lattice p.n den) z
       second = in_units b over_b den some (value k a.den) (den_is ∙ S.mul_comm (value k a.den) (value k b.den))
 
-      pub relative_degrees : HasRelativeIndex (equation_of k p) (Contains k p a) (Contains k p b) (pivot_degree_of a -ℤ pivot_degree_of b)
+      pub relative_degrees : HasRelativeIndex (equation_of k p) (Contains k p a) (Contains k p b)
+          (pivot_degree_of a -ℤ pivot_degree_of b)
       relative_degrees =
           let U = unit_lattice p.n den in
           let g = number k p positive a U over_a common first in
           let h = number k p positive b U over_b common second in
-          relative_in (equation_of k p) (Contains k p a) (Contains k p b) (Contains k p U) (full_lattice k p U (unit_full k p positive den some)) first second g h
+          relative_in (equation_of k p) (Contains k p a) (Contains k p b) (Contains k p U)
+          (full_lattice k p U (unit_full k p positive den some)) first second g h
           (pivot_degree_of a -ℤ pivot_degree_of b)
           ((same_index (Contains k p a) (Contains k p U) g).0 (index_number_is k p positive a U over_a common first))
           ((same_index (Contains k p b) (Contains k p U) h).0 (index_number_is k p positive b U over_b common second))
-          (difference (pivot_degree_of a) (pivot_degree_of b) (pivot_degree_of U) g h (number_is k p positive a U over_a common first) (number_is k p positive b U over_b common second))
+          (difference (pivot_degree_of a) (pivot_degree_of b) (pivot_degree_of U) g h
+          (number_is k p positive a U over_a common first) (number_is k p positive b U over_b common second))
         where
           difference : (x y u : ℤ) (g h : ℕ) → pos g ≡ x -ℤ u → pos h ≡ y -ℤ u → x -ℤ y ≡ pos g -ℤ pos h
           difference x y u g h i j = omega (arith, ints)
@@ -108,9 +116,11 @@ module _ (k : CodeField) (p : PresValue) where
 
     -- relative to k[x][y] the index is the pivot degree
     pub coordinate_degree : (a : LatticeValue) → IsOverMonic k p a
-        → HasRelativeIndex (equation_of k p) (Contains k p a) (HasPolynomialCoordinates (equation_of k p)) (pivot_degree_of a)
+        → HasRelativeIndex (equation_of k p) (Contains k p a) (HasPolynomialCoordinates (equation_of k p))
+        (pivot_degree_of a)
     coordinate_degree a over_a =
-        relative_same (equation_of k p) (Contains k p a) (Contains k p a) (Contains k p U) (HasPolynomialCoordinates (equation_of k p))
+        relative_same (equation_of k p) (Contains k p a) (Contains k p a) (Contains k p U)
+        (HasPolynomialCoordinates (equation_of k p))
         (λ z. (λ x. x, λ x. x)) (coordinate_members k p positive) (pivot_degree_of a)
         (subst (HasRelativeIndex (equation_of k p) (Contains k p a) (Contains k p U))
         (less_none (pivot_degree_of a) (pivot_degree_of U) unit_pivot_degree) (relative_degrees a U over_a over_u))

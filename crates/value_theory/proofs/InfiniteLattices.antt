@@ -1,4 +1,5 @@
--- The infinite presentation of a curve, and the lattice of the integral functions of the infinite side: it has what O_inf has with
+-- The infinite presentation of a curve, and the lattice of the integral functions of the infinite side: it has what
+-- O_inf has with
 -- powers of t as denominators, and differs from k[t][Y] at t alone.
 use Rattle.std.proofs.Common.{◌≡◌, ℕ, ◌≤◌, ◌↔◌, List, [], ◌∷◌, map, replicate, refl, sym, ap, ap₂, ◌∙◌, subst, arith, All}
 use Rattle.std.proofs.lemmas.List.Elements.{All-head, All-tail}
@@ -42,7 +43,8 @@ module _ (k : CodeField) (c : CurveValue) (curve : IsCurve k c) where
   some = let two = curve.at_least_two in omega (arith, two)
 
   pub some_inf : 1 ≤ c.inf.n
-  some_inf = let two = curve.at_least_two in let same : c.inf.n ≡ c.fin.n = curve.infinite.degree in omega (arith, two, same)
+  some_inf = let two = curve.at_least_two in let same : c.inf.n ≡ c.fin.n = curve.infinite.degree in
+      omega (arith, two, same)
 
   -- what the elements of the infinite presentation stand for
   abbrev pub image_of : Functions k c.inf → Functions k c.fin
@@ -64,12 +66,14 @@ module _ (k : CodeField) (c : CurveValue) (curve : IsCurve k c) where
   -- the rows go to the functions that they stand for
   images : (rows : List (List (List ℕ))) (den : List ℕ) → All (IsRow k.ops c.inf.n) rows → IsOver k.ops den → IsPoly den
       → ¬ (den ≡ [])
-      → map f (map (function_of k c.inf) (elems_over rows den)) ≡ map (function_on k c.fin c.c Infinite) (elems_over rows den)
+      → map f (map (function_of k c.inf) (elems_over rows den)) ≡ map (function_on k c.fin c.c Infinite)
+      (elems_over rows den)
   images [] den rows_in den_in den_poly n = refl
   images (v ∷ rows) den rows_in den_in den_poly n =
       let r = All-head (IsRow k.ops c.inf.n) v rows rows_in in
       ap₂ ◌∷◌
-      (g.elements (record { num = v; den = den }) (record { one_each = r.size; num_over = r.over; den_over = den_in }) den_poly n)
+      (g.elements (record { num = v; den = den }) (record { one_each = r.size; num_over = r.over; den_over = den_in })
+      den_poly n)
       (images rows den (All-tail (IsRow k.ops c.inf.n) v rows rows_in) den_in den_poly n)
 
   pub rows_are : (l : LatticeValue) → IsLattice k.ops c.inf.n l
@@ -77,7 +81,8 @@ module _ (k : CodeField) (c : CurveValue) (curve : IsCurve k c) where
   rows_are l form = images l.rows l.den form.rows_in form.den_in form.den_poly (monic_some l.den form.monic)
 
   -- powers of t as denominators, in the words of either presentation
-  pub power_to : (z : Functions k c.inf) → HasPowerDenominator (equation_of k c.inf) (x_poly k) z → IsOverPowerOfT k c (f z)
+  pub power_to : (z : Functions k c.inf) → HasPowerDenominator (equation_of k c.inf) (x_poly k) z
+      → IsOverPowerOfT k c (f z)
   power_to z h =
       let w = element k c.inf z h in
       let w_in = element_in k c.inf z h some_inf in
@@ -92,7 +97,8 @@ module _ (k : CodeField) (c : CurveValue) (curve : IsCurve k c) where
             (function_on_stands k c.fin c.c Infinite w w_in.den_over (power_poly h.exponent) (power_some h.exponent));
       }
 
-  pub power_from : (z : Functions k c.inf) → IsOverPowerOfT k c (f z) → HasPowerDenominator (equation_of k c.inf) (x_poly k) z
+  pub power_from : (z : Functions k c.inf) → IsOverPowerOfT k c (f z)
+      → HasPowerDenominator (equation_of k c.inf) (x_poly k) z
   power_from z h =
       let w = h.element in
       let poly = subst IsPoly (sym h.power) (power_poly h.exponent) in
@@ -111,7 +117,8 @@ module _ (k : CodeField) (c : CurveValue) (curve : IsCurve k c) where
     integral_members z =
         let rows = map (function_of k c.inf) (row_elems l) in
         let s =
-        span_iff (functions k c.inf) (functions k c.fin) f g.isomorphism (IsPolynomial (equation_of k c.inf)) (InReverse k c.fin)
+        span_iff (functions k c.inf) (functions k c.fin) f g.isomorphism (IsPolynomial (equation_of k c.inf))
+        (InReverse k c.fin)
         g.polynomials rows z in
         let w =
         subst

@@ -12,7 +12,8 @@ module _ (k : CodeField) (p : PresValue) where
   pub indices_by_degrees : 0 < p.n → IndicesByDegrees k p
   indices_by_degrees positive = record {
     same = λ a b. same_index k p (Contains k p a) (Contains k p b);
-    relative = λ a b a_form b_form. relative_degrees k p positive a b (lattice_over k p a a_form) (lattice_over k p b b_form);
+    relative =
+        λ a b a_form b_form. relative_degrees k p positive a b (lattice_over k p a a_form) (lattice_over k p b b_form);
     coordinates = λ a a_form. coordinate_degree k p positive a (lattice_over k p a a_form);
   }
 

@@ -54,7 +54,8 @@ module _ (k : CodeField) (q : PresValue) where
       ∙ den_times (equation_of k q) (row_over k q w)
       ∙ ap (at_y (equation_of k q) (suc (q.n - 1))) (row_over_num k q w)
 
-  pub over_power : (w : ElemValue) (e : ℕ) → w.den ≡ replicate e 0 ++ 1 ∷ [] → HasPowerDenominator (equation_of k q) (x_poly k) (function_of k q w)
+  pub over_power : (w : ElemValue) (e : ℕ) → w.den ≡ replicate e 0 ++ 1 ∷ []
+      → HasPowerDenominator (equation_of k q) (x_poly k) (function_of k q w)
   over_power w e den = record {
     exponent = e;
     cleared = record {
@@ -72,18 +73,23 @@ module _ (k : CodeField) (q : PresValue) where
 
     pub element_in : 1 ≤ q.n → IsElem k.ops q.n element
     element_in some = record {
-      one_each = codes_row_length k (suc (q.n - 1)) h.cleared.coordinates ∙ (let e : suc (q.n - 1) ≡ q.n = omega (arith, some) in e);
+      one_each = codes_row_length k (suc (q.n - 1)) h.cleared.coordinates
+          ∙ (let e : suc (q.n - 1) ≡ q.n = omega (arith, some) in e);
       num_over = codes_row_over k (suc (q.n - 1)) h.cleared.coordinates;
       den_over = power_over k h.exponent;
     }
 
     pub element_is : function_of k q element ≡ z
     element_is =
-        cancel (of (power h.exponent)) (over (equation_of k q) (row_of (equation_of k q) (polynomials k).𝟙) (power h.exponent) (x_power_not_zero k h.exponent))
+        cancel (of (power h.exponent))
+        (over (equation_of k q) (row_of (equation_of k q) (polynomials k).𝟙) (power h.exponent)
+        (x_power_not_zero k h.exponent))
         (function_of k q element) z (den_inverse (equation_of k q) (power h.exponent) (x_power_not_zero k h.exponent))
         (power_times element h.exponent refl ∙ ap (at_y (equation_of k q) (suc (q.n - 1)))
-        (sym (read_is k (suc (q.n - 1)) (codes_row k (suc (q.n - 1)) h.cleared.coordinates)) ∙ read_codes_row k (suc (q.n - 1)) h.cleared.coordinates)
-        ∙ at_y_plain (equation_of k q) h.cleared.coordinates ∙ sym h.cleared.value ∙ ap (λ d. d ⊗ z) (sym (x_power k q h.exponent)))
+        (sym (read_is k (suc (q.n - 1)) (codes_row k (suc (q.n - 1)) h.cleared.coordinates))
+        ∙ read_codes_row k (suc (q.n - 1)) h.cleared.coordinates)
+        ∙ at_y_plain (equation_of k q) h.cleared.coordinates ∙ sym h.cleared.value
+        ∙ ap (λ d. d ⊗ z) (sym (x_power k q h.exponent)))
       where
         cancel : (d i z w : Functions k q) → d ⊗ i ≡ 𝟙 → d ⊗ z ≡ d ⊗ w → z ≡ w
         cancel d i z w f g =

@@ -16,7 +16,8 @@ use Rattle.value_theory.proofs.Bridge.{lattice_set, order_set}
 use Rattle.value_theory.proofs.Ideals.{members_module}
 use Rattle.value_theory.proofs.Indices.{same_index}
 
-module _ (k : CodeField) (q : PresValue) (positive : 0 < q.n) (o : LatticeValue) (order : IsOrder k q o) (P : PrimeValue) (prime : IsPrimeOf k q o P) where
+module _ (k : CodeField) (q : PresValue) (positive : 0 < q.n) (o : LatticeValue) (order : IsOrder k q o)
+    (P : PrimeValue) (prime : IsPrimeOf k q o P) where
   infixl 70 ◌⊗◌
   open functions k q use {𝟙, ◌⊗◌}
 
@@ -24,13 +25,16 @@ module _ (k : CodeField) (q : PresValue) (positive : 0 < q.n) (o : LatticeValue)
   O = Contains k q o
 
   -- the inverse is closed under the order
-  pub inverse_closed : (s a : Functions k q) → Contains k q o s → Contains k q P.inverse a → Contains k q P.inverse ((functions k q).◌⊗◌ s a)
+  pub inverse_closed : (s a : Functions k q) → Contains k q o s → Contains k q P.inverse a
+      → Contains k q P.inverse ((functions k q).◌⊗◌ s a)
   inverse_closed s a s_in a_in =
       (prime.inverse (s ⊗ a)).1
-      (λ w w_in. subst O (sym ((functions k q).mul_assoc s a w)) (order.product_in s (a ⊗ w) s_in ((prime.inverse a).0 a_in w w_in)))
+      (λ w w_in. subst O (sym ((functions k q).mul_assoc s a w))
+      (order.product_in s (a ⊗ w) s_in ((prime.inverse a).0 a_in w w_in)))
 
   -- the first power has the polynomial, so that the greatest that has it isn't the one before
-  pub some_power : (e : ℕ) → ¬ Power (functions k q).ops (Contains k q o) (Contains k q P.rows) (suc e) (of_poly (equation_of k q) (value k P.p)) → 1 ≤ e
+  pub some_power : (e : ℕ) → ¬ Power (functions k q).ops (Contains k q o) (Contains k q P.rows) (suc e)
+      (of_poly (equation_of k q) (value k P.p)) → 1 ≤ e
   some_power zero n =
       let p = of_poly (equation_of k q) (value k P.p) in
       let 𝓞 = order_set k q positive o order in
@@ -46,12 +50,14 @@ module _ (k : CodeField) (q : PresValue) (positive : 0 < q.n) (o : LatticeValue)
     degree = P.degree;
     lattice = lattice_set k q positive P.rows prime.ideal.lattice;
     field = prime.maximal;
-    closed = let 𝓜 = members_module k q P.inverse in record { zero_in = 𝓜.zero_in; sum_in = 𝓜.sum_in; scale_in = inverse_closed };
+    closed = let 𝓜 = members_module k q P.inverse in
+        record { zero_in = 𝓜.zero_in; sum_in = 𝓜.sum_in; scale_in = inverse_closed };
     product = prime.product;
     positive = some_power P.e prime.not_more;
     index =
         (same_index k q (Contains k q P.rows) O P.degree).0
-        ((index_is k q positive P.rows o (lattice_over k q P.rows prime.ideal.lattice) (lattice_over k q o order.lattice) prime.ideal.within P.degree).1 prime.degree);
+        ((index_is k q positive P.rows o (lattice_over k q P.rows prime.ideal.lattice)
+        (lattice_over k q o order.lattice) prime.ideal.within P.degree).1 prime.degree);
   }
 
   pub recorded_is : IsRecordOf k q o P recorded

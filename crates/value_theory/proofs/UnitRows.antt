@@ -1,4 +1,5 @@
--- The functions with polynomials as coordinates, over a denominator: the lattice of the unit rows, with its pivot degree.
+-- The functions with polynomials as coordinates, over a denominator: the lattice of the unit rows, with its pivot
+-- degree.
 use Rattle.std.proofs.Common.{◌≡◌, ◌≢◌, ℕ, zero, suc, ◌+◌, ◌-◌, ◌<◌, ◌≤◌, ◌⊎◌, inl, inr, ◌↔◌, List, [], ◌∷◌, ◌++◌, length, get_or, replicate, refl, sym, ◌∙◌, ap, subst, arith, All}
 use Rattle.std.proofs.lemmas.List.{length-append, get_or_append_left, length-replicate, get_or-set_same, get_or-set_other}
 use Rattle.std.proofs.Math.Seq.{get_or-append_seam}
@@ -40,7 +41,8 @@ unit_rows n (suc i) = unit_rows n i ++ unit_row n i ∷ []
 pub unit_rows_length : (n i : ℕ) → length (unit_rows n i) ≡ i
 unfolding unit_rows
 unit_rows_length n zero = refl
-unit_rows_length n (suc i) = let e = unit_rows_length n i in length-append (unit_rows n i) (unit_row n i ∷ []) ∙ omega arith
+unit_rows_length n (suc i) = let e = unit_rows_length n i in length-append (unit_rows n i) (unit_row n i ∷ [])
+    ∙ omega arith
 
 pub unit_rows_at : (n i j : ℕ) → j < i → row_at (unit_rows n i) j ≡ unit_row n j
 unfolding unit_rows
@@ -50,12 +52,14 @@ unit_rows_at n (suc i) j less = go (cases_lt j i) (unit_rows_at n i j)
     size : length (unit_rows n i) ≡ i
     size = unit_rows_length n i
 
-    go : (j < i) ⊎ (i ≤ j) → (j < i → row_at (unit_rows n i) j ≡ unit_row n j) → row_at (unit_rows n i ++ unit_row n i ∷ []) j ≡ unit_row n j
+    go : (j < i) ⊎ (i ≤ j) → (j < i → row_at (unit_rows n i) j ≡ unit_row n j)
+        → row_at (unit_rows n i ++ unit_row n i ∷ []) j ≡ unit_row n j
     go (inl l) before = get_or_append_left (unit_rows n i) (unit_row n i ∷ []) [] j (omega (arith, size)) ∙ before l
     go (inr m) before =
         let e : j ≡ length (unit_rows n i) = omega (arith, size) in
         let f : i ≡ j = omega arith in
-        ap (row_at (unit_rows n i ++ unit_row n i ∷ [])) e ∙ get_or-append_seam (unit_rows n i) (unit_row n i) [] [] ∙ ap (unit_row n) f
+        ap (row_at (unit_rows n i ++ unit_row n i ∷ [])) e ∙ get_or-append_seam (unit_rows n i) (unit_row n i) [] []
+        ∙ ap (unit_row n) f
 
 unit_here : (n i : ℕ) → i < n → entry_at (unit_row n i) i ≡ 1 ∷ []
 unit_here n i less =
@@ -81,16 +85,20 @@ unit_pivot n i less =
     record {
       some = omega (arith, one);
       greatest = λ j. omega (arith, one, short n i j less (ℕ_discrete j i));
-      rightmost = λ j behind. omega (arith, one, ap length (unit_elsewhere n i j (λ e. absurd (omega (arith, e, behind)))));
+      rightmost =
+          λ j behind. omega (arith, one, ap length (unit_elsewhere n i j (λ e. absurd (omega (arith, e, behind)))));
     }
 
 trimmed_at : (n i j : ℕ) → (i < n) ⊎ (n ≤ i) → Dec (j ≡ i) → IsPoly (entry_at (row_at (unit_rows n n) i) j)
 trimmed_at n i j (inl less) (yes e) =
-    subst IsPoly (sym (ap (λ r. entry_at r j) (unit_rows_at n n i less) ∙ ap (entry_at (unit_row n i)) e ∙ unit_here n i less)) (record { trimmed = refl })
+    subst IsPoly (sym (ap (λ r. entry_at r j) (unit_rows_at n n i less) ∙ ap (entry_at (unit_row n i)) e
+    ∙ unit_here n i less)) (record { trimmed = refl })
 trimmed_at n i j (inl less) (no differ) =
-    subst IsPoly (sym (ap (λ r. entry_at r j) (unit_rows_at n n i less) ∙ unit_elsewhere n i j differ)) (record { trimmed = tt })
+    subst IsPoly (sym (ap (λ r. entry_at r j) (unit_rows_at n n i less) ∙ unit_elsewhere n i j differ))
+    (record { trimmed = tt })
 trimmed_at n i j (inr more) d =
-    subst IsPoly (sym (ap (λ r. entry_at r j) (rows_past (unit_rows n n) i (omega (arith, more, unit_rows_length n n))))) (record { trimmed = tt })
+    subst IsPoly (sym (ap (λ r. entry_at r j)
+    (rows_past (unit_rows n n) i (omega (arith, more, unit_rows_length n n))))) (record { trimmed = tt })
   where
     rows_past : (rows : List (List (List ℕ))) (i : ℕ) → length rows ≤ i → row_at rows i ≡ []
     rows_past [] i le = refl
@@ -113,18 +121,24 @@ unit_popov n = record {
   trimmed = λ i j. trimmed_at n i j (cases_lt i n) (ℕ_discrete j i);
 }
 
-no_degrees : (rows : List (List (List ℕ))) (i : ℕ) → ((j m : ℕ) → j < length rows → m ≡ i + j → length (entry_at (row_at rows j) m) ≡ 1) → pivot_degree_from i rows ≡ 0
+no_degrees : (rows : List (List (List ℕ))) (i : ℕ)
+    → ((j m : ℕ) → j < length rows → m ≡ i + j → length (entry_at (row_at rows j) m) ≡ 1) → pivot_degree_from i rows ≡ 0
 no_degrees [] i h = refl
 no_degrees (r ∷ rows) i h =
-    omega (arith, h 0 i (omega arith) (omega arith), no_degrees rows (suc i) (λ j m less e. h (suc j) m (omega (arith, less)) (omega (arith, e))))
+    omega (
+      arith,
+      h 0 i (omega arith) (omega arith),
+      no_degrees rows (suc i) (λ j m less e. h (suc j) m (omega (arith, less)) (omega (arith, e))),
+    )
 
 pub unit_degree : (n : ℕ) → pivot_degree (unit_rows n n) ≡ 0
 unit_degree n =
     no_degrees (unit_rows n n) 0
     (λ j m less e.
-        let below : j < n = omega (arith, less, unit_rows_length n n) in
-        let same : m ≡ j = omega (arith, e) in
-        ap (λ r. length (entry_at r m)) (unit_rows_at n n j below) ∙ ap (λ i. length (entry_at (unit_row n j) i)) same ∙ ap length (unit_here n j below))
+    let below : j < n = omega (arith, less, unit_rows_length n n) in
+    let same : m ≡ j = omega (arith, e) in
+    ap (λ r. length (entry_at r m)) (unit_rows_at n n j below) ∙ ap (λ i. length (entry_at (unit_row n j) i)) same
+    ∙ ap length (unit_here n j below))
 
 -- the unit rows over a denominator
 abbrev pub unit_lattice : ℕ → List ℕ → LatticeValue
@@ -143,18 +157,28 @@ module _ (k : CodeField) (p : PresValue) where
       subst (IsRow k.ops p.n) (sym (unit_rows_at p.n p.n i below) ∙ any_row (unit_rows p.n p.n) i d less)
       (record { size = unit_length p.n i; over = unit_over k p.n i })
     where
-      any_row : (rows : List (List (List ℕ))) (i : ℕ) (d : List (List ℕ)) → i < length rows → row_at rows i ≡ get_or rows i d
+      any_row : (rows : List (List (List ℕ))) (i : ℕ) (d : List (List ℕ)) → i < length rows
+          → row_at rows i ≡ get_or rows i d
       any_row [] i d less = absurd (omega (arith, less))
       any_row (r ∷ rows) zero d less = refl
       any_row (r ∷ rows) (suc i) d less = any_row rows i d (omega (arith, less))
 
   pub unit_over_monic : (den : List ℕ) → IsOver k.ops den → IsMonic den → IsOverMonic k p (unit_lattice p.n den)
-  unit_over_monic den den_in monic = record { rows_in = rows_in; popov = unit_popov p.n; den_in = den_in; den_poly = monic_poly den monic; monic = monic }
+  unit_over_monic den den_in monic =
+      record {
+        rows_in = rows_in;
+        popov = unit_popov p.n;
+        den_in = den_in;
+        den_poly = monic_poly den monic;
+        monic = monic;
+      }
 
   module _ (positive : 0 < p.n) where
     -- each row of polynomials is a combination of the unit rows
     pub all_in_units : (v : Row (Polynomial k) (suc (p.n - 1))) → theory.InSpan M (read_rows k p.n rows) v
-    all_in_units v = spans.span_least M (theory.InSpan M (read_rows k p.n rows)) 𝓢 (units M) (λ i. at i (cases_lt i p.n)) v (in_units M (code_field k) v)
+    all_in_units v =
+        spans.span_least M (theory.InSpan M (read_rows k p.n rows)) 𝓢 (units M) (λ i. at i (cases_lt i p.n)) v
+        (in_units M (code_field k) v)
       where
         𝓢 : theory.IsSubmodule M (theory.InSpan M (read_rows k p.n rows))
         𝓢 = record {
@@ -169,16 +193,21 @@ module _ (k : CodeField) (p : PresValue) where
         at : (i : ℕ) → (i < p.n) ⊎ (p.n ≤ i) → theory.InSpan M (read_rows k p.n rows) (theory.row_at M (units M) i)
         at i (inl less) =
             subst (theory.InSpan M (read_rows k p.n rows))
-            (read_row_at k p.n rows i ∙ ap (read_row k (suc (p.n - 1))) (unit_rows_at p.n p.n i less) ∙ read_unit k p.n i positive less
+            (read_row_at k p.n rows i ∙ ap (read_row k (suc (p.n - 1))) (unit_rows_at p.n p.n i less)
+            ∙ read_unit k p.n i positive less
             ∙ sym (units_at M i (omega (arith, wide))))
             (spans.span_row M (read_rows k p.n rows) i)
         at i (inr more) =
-            subst (theory.InSpan M (read_rows k p.n rows)) (sym (row_past M (units M) i (omega (arith, wide, units_length M)))) (spans.span_zero M (read_rows k p.n rows))
+            subst (theory.InSpan M (read_rows k p.n rows))
+            (sym (row_past M (units M) i (omega (arith, wide, units_length M))))
+            (spans.span_zero M (read_rows k p.n rows))
 
     module _ (den : List ℕ) (some : ¬ (value k den ≡ (polynomials k).𝟘)) where
       -- each row over the denominator is a member, and there are no others
-      pub unit_members : (v : Row (Polynomial k) (suc (p.n - 1))) → Contains k p (unit_lattice p.n den) (over (equation_of k p) v (value k den) some)
-      unit_members v = (in_span_of k p den some rows _).1 (record { numerator = v; in_rows = all_in_units v; is = refl })
+      pub unit_members : (v : Row (Polynomial k) (suc (p.n - 1)))
+          → Contains k p (unit_lattice p.n den) (over (equation_of k p) v (value k den) some)
+      unit_members v =
+          (in_span_of k p den some rows _).1 (record { numerator = v; in_rows = all_in_units v; is = refl })
 
       pub unit_numerator : (z : Functions k p) → Contains k p (unit_lattice p.n den) z
           → (v : Row (Polynomial k) (suc (p.n - 1))) × (z ≡ over (equation_of k p) v (value k den) some)
@@ -187,20 +216,31 @@ module _ (k : CodeField) (p : PresValue) where
       pub unit_full : IsFull k p (Contains k p (unit_lattice p.n den))
       unit_full =
           full_from_rank k p den some rows
-          (record { multiple = λ v. record { factor = (polynomials k).𝟙; some = (polynomials_domain k).one_not_zero; in_span = all_in_units (M.◌·◌ (polynomials k).𝟙 v) } })
+          (record {
+            multiple = λ v.
+                record {
+                  factor = (polynomials k).𝟙;
+                  some = (polynomials_domain k).one_not_zero;
+                  in_span = all_in_units (M.◌·◌ (polynomials k).𝟙 v);
+                };
+          })
 
     one_some : ¬ (value k (1 ∷ []) ≡ (polynomials k).𝟘)
     one_some e = (polynomials_domain k).one_not_zero (sym (value_one k) ∙ e)
 
     -- over 1 they are the functions with polynomials as coordinates
-    pub coordinate_members : (z : Functions k p) → Contains k p (unit_lattice p.n (1 ∷ [])) z ↔ HasPolynomialCoordinates (equation_of k p) z
+    pub coordinate_members : (z : Functions k p) → Contains k p (unit_lattice p.n (1 ∷ [])) z
+        ↔ HasPolynomialCoordinates (equation_of k p) z
     coordinate_members z = (
       λ h. let t = unit_numerator (1 ∷ []) one_some z h in record { coordinates = t.0; value = t.1 ∙ same_over t.0 },
-      λ h. subst (Contains k p (unit_lattice p.n (1 ∷ []))) (sym (h.value ∙ sym (same_over h.coordinates))) (unit_members (1 ∷ []) one_some h.coordinates),
+      λ h. subst (Contains k p (unit_lattice p.n (1 ∷ []))) (sym (h.value ∙ sym (same_over h.coordinates)))
+          (unit_members (1 ∷ []) one_some h.coordinates),
     )
       where
         same_over : (v : Row (Polynomial k) (suc (p.n - 1)))
-            → over (equation_of k p) v (value k (1 ∷ [])) one_some ≡ over (equation_of k p) v (polynomials k).𝟙 (polynomials_domain k).one_not_zero
+            → over (equation_of k p) v (value k (1 ∷ [])) one_some ≡ over (equation_of k p) v (polynomials k).𝟙
+            (polynomials_domain k).one_not_zero
         same_over v =
-            over_eq (equation_of k p) v v (value k (1 ∷ [])) (polynomials k).𝟙 one_some (polynomials_domain k).one_not_zero
+            over_eq (equation_of k p) v v (value k (1 ∷ [])) (polynomials k).𝟙 one_some
+            (polynomials_domain k).one_not_zero
             (ap (λ d. row_scale (polynomials k).ops (suc (p.n - 1)) d v) (sym (value_one k)))

@@ -18,7 +18,8 @@ presentation c Infinite = c.inf
 module _ (k : CodeField) (c : CurveValue) where
   -- the combinations of gs over R_s are O_s, the functions that are integral over R_s
   abbrev pub SpansIntegral : Side → List (Functions k c.fin) → Type 0
-  SpansIntegral s gs = (z : Functions k c.fin) → Span (functions k c.fin).ops ((setting k c.fin).IsScalar s) gs z ↔ IsIntegralAt (setting k c.fin) s z
+  SpansIntegral s gs = (z : Functions k c.fin) → Span (functions k c.fin).ops ((setting k c.fin).IsScalar s) gs z
+      ↔ IsIntegralAt (setting k c.fin) s z
 
   -- k[t, 1/t][Y]: z is an element of the infinite presentation over t^exponent
   pub record IsOverPowerOfT (z : Functions k c.fin) : Type 0 where
@@ -28,13 +29,15 @@ module _ (k : CodeField) (c : CurveValue) where
     pub power : element.den ≡ replicate exponent 0 ++ 1 ∷ []
     pub stands : StandsFor k c.fin c.c Infinite element z
 
-  -- On the infinite side the combinations of gs over k[t] are the members of O_inf in k[t, 1/t][Y]. On the finite side R_s
+  -- On the infinite side the combinations of gs over k[t] are the members of O_inf in k[t, 1/t][Y]. On the finite side
+  -- R_s
   -- is the ring of the lattice's coefficients already, and nothing more is asked.
   abbrev pub SpansOverPowersOfT : Side → List (Functions k c.fin) → Type 0
   SpansOverPowersOfT Finite gs = Unit {0}
   SpansOverPowersOfT Infinite gs =
       (z : Functions k c.fin)
-      → Span (functions k c.fin).ops (IsPolynomialOn k c.fin Infinite) gs z ↔ (IsIntegralAt (setting k c.fin) Infinite z × IsOverPowerOfT z)
+      → Span (functions k c.fin).ops (IsPolynomialOn k c.fin Infinite) gs z
+      ↔ (IsIntegralAt (setting k c.fin) Infinite z × IsOverPowerOfT z)
 
   -- the lattice of a side's integral functions
   pub record IsIntegralLattice (s : Side) (l : LatticeValue) : Type 0 where

@@ -33,22 +33,27 @@ module _ (k : CodeField) (p : PresValue) where
         → HasRelativeIndex (equation_of k p) (Contains k p a) (Contains k p b) (pivot_degree_of a -ℤ pivot_degree_of b)
     pub coordinates :
         (a : LatticeValue) → IsLattice k.ops p.n a
-        → HasRelativeIndex (equation_of k p) (Contains k p a) (HasPolynomialCoordinates (equation_of k p)) (pivot_degree_of a)
+        → HasRelativeIndex (equation_of k p) (Contains k p a) (HasPolynomialCoordinates (equation_of k p))
+        (pivot_degree_of a)
 
   -- an ideal of an order of codes is one of the theory, and a module over the order
   pub record IdealsAsSets : Type 0 where
-    pub ideal : (o i : LatticeValue) → IsIdeal k p o i → theory_ideals.IsIdeal (functions k p).ops (Contains k p o) (Contains k p i)
-    pub module_is : (o i : LatticeValue) → IsIdeal k p o i → IsModule (functions k p).ops (Contains k p o) (Contains k p i)
+    pub ideal : (o i : LatticeValue) → IsIdeal k p o i
+        → theory_ideals.IsIdeal (functions k p).ops (Contains k p o) (Contains k p i)
+    pub module_is : (o i : LatticeValue) → IsIdeal k p o i
+        → IsModule (functions k p).ops (Contains k p o) (Contains k p i)
 
   -- the record of a prime: its rows and those of its inverse, with its ramification index and its degree
-  pub record IsRecordOf (o : LatticeValue) (P : PrimeValue) (R : RecordedPrime (equation_of k p) (Contains k p o)) : Type 0 where
+  pub record IsRecordOf (o : LatticeValue) (P : PrimeValue) (R : RecordedPrime (equation_of k p) (Contains k p o)) :
+      Type 0 where
     pub rows : R.rows ≡ row_functions k p P.rows
     pub inverse_rows : R.inverse_rows ≡ row_functions k p P.inverse
     pub exponent : R.exponent ≡ P.e
     pub degree : R.degree ≡ P.degree
 
   -- the records of the primes of a list, each in its position
-  abbrev pub AreRecordsOf : (o : LatticeValue) → List PrimeValue → List (RecordedPrime (equation_of k p) (Contains k p o)) → Type 0
+  abbrev pub AreRecordsOf : (o : LatticeValue) → List PrimeValue
+      → List (RecordedPrime (equation_of k p) (Contains k p o)) → Type 0
   AreRecordsOf o [] [] = Unit {0}
   AreRecordsOf o [] (R ∷ Rs) = ⊥
   AreRecordsOf o (P ∷ Ps) [] = ⊥
@@ -66,4 +71,5 @@ module _ (k : CodeField) (p : PresValue) where
 -- the order modulo an ideal is a field exactly where the ideal is maximal
 abbrev pub FieldsAndMaximalIdeals : (k : CodeField) → QuotientValue → Type 0
 FieldsAndMaximalIdeals k q =
-    IsFieldAlgebra k.ops (quotient_ops q) ↔ IsMaximalIdeal (functions k q.p).ops (Contains k q.p q.order) (Contains k q.p q.ideal)
+    IsFieldAlgebra k.ops (quotient_ops q)
+    ↔ IsMaximalIdeal (functions k q.p).ops (Contains k q.p q.order) (Contains k q.p q.ideal)

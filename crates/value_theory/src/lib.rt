@@ -1,6 +1,6 @@
-//! The bridge from lattices of codes to sets of functions: what contracts say of lattices, orders and ideals, in the words of the
-//! theory, the primes of orders as values, and the lattices of the integral functions of a side. There is no code: each theorem is the
-//! contract of a function with an empty body.
+//! The bridge from lattices of codes to sets of functions: what contracts say of lattices, orders and ideals, in the
+//! words of the theory, the primes of orders as values, and the lattices of the integral functions of a side. There is
+//! no code: each theorem is the contract of a function with an empty body.
 #![tactic(auto)]
 
 ghost use Rattle.std.specs.Prelude.{◌<◌, ℕ, List};
@@ -20,8 +20,8 @@ ghost use Rattle.value_theory.specs.IntegralLattices.{IsIntegralLattice};
 ghost use Rattle.value_theory.specs.Primes.{PrimeValue, IsPrimeOf, AreAllPrimes};
 ghost use Rattle.value_theory.specs.Laws.{IndicesByDegrees, IdealsAsSets, FieldsAndMaximalIdeals, IsRecordOf, IsRecordOfPrimes};
 
-/// The index of one lattice in another is that of the theory; relative to another lattice it is the difference of the pivot degrees, and
-/// relative to k[x][y] the pivot degree.
+/// The index of one lattice in another is that of the theory; relative to another lattice it is the difference of the
+/// pivot degrees, and relative to k[x][y] the pivot degree.
 pub fn index_law()
     ensures { (k : CodeField) (p : PresValue) → 0 < p.n → IndicesByDegrees k p }
 {}
@@ -38,14 +38,17 @@ pub fn field_law()
 
 /// A prime of an order gives a recorded prime: its rows, those of its inverse, its ramification index and its degree.
 pub fn prime_law()
-    ensures { (k : CodeField) (p : PresValue) (o : LatticeValue) (P : PrimeValue) → 0 < p.n → IsOrder k p o → IsPrimeOf k p o P
+    ensures { (k : CodeField) (p : PresValue) (o : LatticeValue) (P : PrimeValue) → 0 < p.n → IsOrder k p o
+        → IsPrimeOf k p o P
         → (R : RecordedPrime (equation_of k p) (Contains k p o)) × IsRecordOf k p o P R }
 {}
 
-/// All primes of an order over an irreducible polynomial are a record of primes, so that where the discriminant isn't 0 they are those of the
-/// places over it: each is what one place has of the order, with its ramification index and its degree.
+/// All primes of an order over an irreducible polynomial are a record of primes, so that where the discriminant isn't
+/// 0 they are those of the places over it: each is what one place has of the order, with its ramification index and
+/// its degree.
 pub fn primes_law()
-    ensures { (k : CodeField) (p : PresValue) (o : LatticeValue) (pi : List ℕ) (Ps : List PrimeValue) → 0 < p.n → IsOrder k p o
+    ensures { (k : CodeField) (p : PresValue) (o : LatticeValue) (pi : List ℕ) (Ps : List PrimeValue) → 0 < p.n
+        → IsOrder k p o
         → IsOver k.ops pi → IsIrreducible k.ops pi → AreAllPrimes k p o pi Ps
         → (Rs : List (RecordedPrime (equation_of k p) (Contains k p o))) × IsRecordOfPrimes k p o pi Ps Rs }
 {}

@@ -10,7 +10,9 @@ pub returns-clause-infinite : goal.returns-clause-infinite
 returns-clause-infinite c = λ k e D some is. allowed_at_infinity e some D is
 
 pub returns-clause-degrees : goal.returns-clause-degrees
-returns-clause-degrees c = λ k e D some is d total a b f g reduced reduced'. pair_degrees e some D is d total a b f g reduced reduced'
+returns-clause-degrees c =
+    λ k e D some is d total a b f g reduced reduced'. pair_degrees e some D is d total a b f g reduced reduced'
 
 pub returns-clause-difference : goal.returns-clause-difference
-returns-clause-difference c = λ k e W D E some is_W is_D difference s. difference_is_colon e some W D E is_W is_D difference s
+returns-clause-difference c =
+    λ k e W D E some is_W is_D difference s. difference_is_colon e some W D E is_W is_D difference s

@@ -3,7 +3,8 @@ use Rattle.divisor_theory.proofs.Genus.{genus_degrees, genus_exists, genus_once}
 use Rattle.divisor_theory.proofs.genus_over_constants_law.Goals as goal
 
 pub returns-clause-degrees : goal.returns-clause-degrees
-returns-clause-degrees c = λ k e some field b d reduced n constants g genus. genus_degrees e some field b d reduced n constants g genus
+returns-clause-degrees c =
+    λ k e some field b d reduced n constants g genus. genus_degrees e some field b d reduced n constants g genus
 
 pub returns-clause-exists : goal.returns-clause-exists
 returns-clause-exists c = λ k e some field. genus_exists e some field

@@ -7,4 +7,5 @@ returns-clause-once g c = relative_once g.S.FunctionSets.equation g.S.FunctionSe
 
 pub returns-clause-degrees : goal.returns-clause-degrees
 returns-clause-degrees g c = λ 𝓐 𝓑 m h 𝓘.
-    relative_degrees g.S.FunctionSets.equation g.S.FunctionSets.first g.S.FunctionSets.second 𝓐 𝓑 m h g.S.FunctionSets.third 𝓘
+    relative_degrees g.S.FunctionSets.equation g.S.FunctionSets.first g.S.FunctionSets.second 𝓐 𝓑 m h
+    g.S.FunctionSets.third 𝓘

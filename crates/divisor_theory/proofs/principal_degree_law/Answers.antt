@@ -9,4 +9,5 @@ pub returns-clause-degree : goal.returns-clause-degree
 returns-clause-degree c = λ k e z y D d some inverse is total. principal_degree e some z y inverse D is d total
 
 pub returns-clause-negative : goal.returns-clause-negative
-returns-clause-negative c = λ k e D d some field is total negative z z_in. negative_degree e some field D is d total negative z z_in
+returns-clause-negative c =
+    λ k e D d some field is total negative z z_in. negative_degree e some field D is d total negative z z_in

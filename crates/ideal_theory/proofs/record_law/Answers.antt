@@ -13,7 +13,9 @@ returns-clause-system g c = λ p ps h 𝓞 valid. (
 )
 
 pub returns-clause-product : goal.returns-clause-product
-returns-clause-product g c = λ p ps h 𝓞 valid. record_product g.S.FunctionSets.equation p h g.S.FunctionSets.first 𝓞 ps valid
+returns-clause-product g c =
+    λ p ps h 𝓞 valid. record_product g.S.FunctionSets.equation p h g.S.FunctionSets.first 𝓞 ps valid
 
 pub returns-clause-maximal : goal.returns-clause-maximal
-returns-clause-maximal g c = λ p ps h 𝓞 valid. record_maximal g.S.FunctionSets.equation p h g.S.FunctionSets.first 𝓞 ps valid
+returns-clause-maximal g c =
+    λ p ps h 𝓞 valid. record_maximal g.S.FunctionSets.equation p h g.S.FunctionSets.first 𝓞 ps valid

@@ -3,10 +3,14 @@ use Rattle.ideal_theory.proofs.RelativeIndex.{relative_exists, relative_once, re
 use Rattle.ideal_theory.proofs.relative_index_law.Goals as goal
 
 pub returns-clause-exists : goal.returns-clause-exists
-returns-clause-exists g c = λ 𝓐 𝓑. relative_exists g.S.FunctionSets.equation g.S.FunctionSets.first g.S.FunctionSets.second 𝓐 𝓑
+returns-clause-exists g c =
+    λ 𝓐 𝓑. relative_exists g.S.FunctionSets.equation g.S.FunctionSets.first g.S.FunctionSets.second 𝓐 𝓑
 
 pub returns-clause-once : goal.returns-clause-once
-returns-clause-once g c = λ 𝓐 𝓑. relative_once g.S.FunctionSets.equation g.S.FunctionSets.first g.S.FunctionSets.second 𝓐 𝓑
+returns-clause-once g c =
+    λ 𝓐 𝓑. relative_once g.S.FunctionSets.equation g.S.FunctionSets.first g.S.FunctionSets.second 𝓐 𝓑
 
 pub returns-clause-add : goal.returns-clause-add
-returns-clause-add g c = λ 𝓐 𝓑 𝓒. relative_add g.S.FunctionSets.equation g.S.FunctionSets.first g.S.FunctionSets.second 𝓐 𝓑 g.S.FunctionSets.third 𝓒
+returns-clause-add g c =
+    λ 𝓐 𝓑 𝓒. relative_add g.S.FunctionSets.equation g.S.FunctionSets.first g.S.FunctionSets.second 𝓐 𝓑
+    g.S.FunctionSets.third 𝓒

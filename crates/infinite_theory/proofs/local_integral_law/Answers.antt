@@ -9,4 +9,5 @@ pub returns-clause-members : goal.returns-clause-members
 returns-clause-members g c = λ p h. maximal_members g.S.FunctionSets.equation p h g.S.FunctionSets.first
 
 pub returns-clause-once : goal.returns-clause-once
-returns-clause-once g c = λ p h. maximal_once g.S.FunctionSets.equation p h g.S.FunctionSets.first g.S.FunctionSets.second
+returns-clause-once g c =
+    λ p h. maximal_once g.S.FunctionSets.equation p h g.S.FunctionSets.first g.S.FunctionSets.second

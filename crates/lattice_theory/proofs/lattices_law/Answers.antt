@@ -12,10 +12,13 @@ pub returns-clause-sum : goal.returns-clause-sum
 returns-clause-sum g c = λ 𝓐 𝓑. sum_lattice g.S.FunctionSets.equation g.S.FunctionSets.first g.S.FunctionSets.second 𝓐 𝓑
 
 pub returns-clause-product : goal.returns-clause-product
-returns-clause-product g c = λ 𝓐 𝓑. product_lattice g.S.FunctionSets.equation g.S.FunctionSets.first g.S.FunctionSets.second 𝓐 𝓑
+returns-clause-product g c =
+    λ 𝓐 𝓑. product_lattice g.S.FunctionSets.equation g.S.FunctionSets.first g.S.FunctionSets.second 𝓐 𝓑
 
 pub returns-clause-intersection : goal.returns-clause-intersection
-returns-clause-intersection g c = λ 𝓐 𝓑. intersection_lattice g.S.FunctionSets.equation g.S.FunctionSets.first g.S.FunctionSets.second 𝓐 𝓑
+returns-clause-intersection g c =
+    λ 𝓐 𝓑. intersection_lattice g.S.FunctionSets.equation g.S.FunctionSets.first g.S.FunctionSets.second 𝓐 𝓑
 
 pub returns-clause-colon : goal.returns-clause-colon
-returns-clause-colon g c = λ 𝓐 𝓑. colon_lattice g.S.FunctionSets.equation g.S.FunctionSets.first g.S.FunctionSets.second 𝓐 𝓑
+returns-clause-colon g c =
+    λ 𝓐 𝓑. colon_lattice g.S.FunctionSets.equation g.S.FunctionSets.first g.S.FunctionSets.second 𝓐 𝓑

@@ -5,7 +5,8 @@ use Rattle.prime_theory.proofs.Compare.{prime_in_system}
 use Rattle.prime_theory.proofs.system_law.Goals as goal
 
 pub returns-clause-maximal : goal.returns-clause-maximal
-returns-clause-maximal g c = λ R p is 𝓞 p_in fam sys z n h k. system_closed R g.O.Subset.members 𝓞 p p_in _ g.P.Family.members fam is sys z n h k
+returns-clause-maximal g c =
+    λ R p is 𝓞 p_in fam sys z n h k. system_closed R g.O.Subset.members 𝓞 p p_in _ g.P.Family.members fam is sys z n h k
 
 pub returns-clause-complete : goal.returns-clause-complete
 returns-clause-complete g c = λ R p is 𝓞 p_in fam sys j m.

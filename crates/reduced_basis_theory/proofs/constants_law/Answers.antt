@@ -9,7 +9,8 @@ returns-clause-nonnegative g c = λ k field M n b d F algebra embedded reduced o
 
 pub returns-clause-genus : goal.returns-clause-genus
 returns-clause-genus g c = λ k field M n b d x reduced L S X extension θ θ_basis ws basis.
-    constants_genus k field M n L S X extension θ θ_basis g.I.Subset.members g.N.Filtration.members b d reduced x ws basis
+    constants_genus k field M n L S X extension θ θ_basis g.I.Subset.members g.N.Filtration.members b d reduced x ws
+    basis
 
 pub returns-clause-exists : goal.returns-clause-exists
 returns-clause-exists g c = λ k field M n b d x reduced L S X extension θ θ_basis closed.

@@ -4,7 +4,8 @@ use Rattle.space_theory.proofs.duality_law.Goals as goal
 
 pub returns-clause-dual : goal.returns-clause-dual
 returns-clause-dual g c = λ some b d reduced.
-    let r = duality g.S.FunctionSets.equation some g.S.FunctionSets.first g.S.FunctionSets.second b d reduced in (r.basis, r.traces, r.dual, r.canonical)
+    let r = duality g.S.FunctionSets.equation some g.S.FunctionSets.first g.S.FunctionSets.second b d reduced in
+    (r.basis, r.traces, r.dual, r.canonical)
 
 pub returns-clause-finite : goal.returns-clause-finite
 returns-clause-finite g c = dual_colon g.S.FunctionSets.equation g.S.FunctionSets.first g.S.FunctionSets.second

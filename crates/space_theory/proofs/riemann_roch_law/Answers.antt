@@ -8,4 +8,5 @@ returns-clause-dimensions g c = λ some b d reduced i j.
 
 pub returns-clause-canonical : goal.returns-clause-canonical
 returns-clause-canonical g c = λ some b b' d d' reduced dual.
-    canonical_degrees g.S.FunctionSets.equation some g.S.FunctionSets.first g.S.FunctionSets.second b d reduced b' d' dual
+    canonical_degrees g.S.FunctionSets.equation some g.S.FunctionSets.first g.S.FunctionSets.second b d reduced b' d'
+    dual
