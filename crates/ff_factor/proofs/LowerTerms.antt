@@ -1,7 +1,8 @@
 -- Primes are cancelled from fractions until they are in lowest terms.
 use Rattle.std.proofs.Common.{◌≡◌, ◌≢◌, ℕ, zero, suc, ◌+◌, ◌-◌, ◌<◌, ◌≤◌, ◌⊎◌, inl, inr, List, [], ◌∷◌, ◌++◌, length, get_or, take, drop, map, All, refl, sym, ap, ap₂, ◌∙◌, subst, arith}
+use Rattle.std.specs.Prelude.{Result, Ok, Err, OnOk}
 use Rattle.std.proofs.lemmas.List.{length-map, map-append, get_or-map, take_more}
-use Rattle.std.proofs.lemmas.List.Elements.{All-nil, All-cons, All-append}
+use Rattle.std.proofs.lemmas.List.Elements.{All-nil, All-cons, All-append, All-map}
 use Rattle.ring_theory.specs.Ring.{CommRing}
 use Rattle.ring_theory.specs.Members.{In}
 use Rattle.ring_theory.proofs.Ring.{mul_zero, one_mul, mul_left_comm}
@@ -9,29 +10,34 @@ use Rattle.ring_theory.proofs.Polynomials.{length_product}
 use Rattle.ff_fields.specs.Field.{CodeField}
 use Rattle.ff_fields.specs.Code.{code_ring, code_domain}
 use Rattle.ff_fields.specs.Over.{IsOver, get_or_below}
-use Rattle.linear_theory.specs.Euclidean.{IsDivisor, IsUnit}
-use Rattle.ff_poly.specs.Words.{IsPoly, IsMonic, IsIrreducible, IsQuotient, top_of, multiple_of}
+use Rattle.linear_theory.specs.Euclidean.{IsDivisor}
+use Rattle.linear_theory.proofs.Euclid.{divisor_trans}
+use Rattle.ff_poly.specs.Words.{IsPoly, IsMonic, IsIrreducible, Divides, IsQuotient, top_of, multiple_of}
 use Rattle.ff_poly.specs.PolyOver.{IsOver_multiple_of}
 use Rattle.ff_poly.specs.Value.{value}
 use Rattle.ff_poly.specs.Polynomials.{Polynomial, polynomials, constant_poly, value_nil}
 use Rattle.ff_poly.proofs.Parts.{IsPoly_multiple_of, IsMonic_multiple, value_multiple}
 use Rattle.ff_factor.specs.Factors.{FactorsValue, IsFactorisation, polys_of, product_of_parts}
-use Rattle.ff_factor.specs.LowestTerms.{IsInLowestTermsOf}
+use Rattle.ff_factor.specs.LowestTerms.{AreSameFractions, AreIrreducible, HasFactorsOf, AreCancelled, IsInLowestTermsOf}
 use Rattle.polynomial_theory.proofs.ListValues.{length_value}
 use Rattle.ff_factor.specs.Pulls.{value_of_parts}
-use Rattle.ff_factor.specs.Reductions.{values, DividesAll, AreQuotients, IsFree, AreReduced, AreLowerAt, ArePrimes}
+use Rattle.ff_factor.specs.Reductions.{values, DividesAll, AreQuotients, IsFree, AreReduced, AreLowerAt}
 use Rattle.ff_factor.proofs.CommonFactors.{times, times_one, times_times, times_swap, divides_members, divides_times}
 use Rattle.ff_factor.proofs.ValueLists.{same_values, same_products, values_multiples, over_multiples, poly_multiples}
 use Rattle.ff_factor.proofs.Factorisations.{parts_over, parts_value, code_inverts}
 use Rattle.ff_factor.proofs.LowestTerms.{IsPrime, least_denominator}
-use Rattle.polynomial_theory.proofs.Divisors.{divisor_length}
+use Rattle.polynomial_theory.proofs.Divisors.{divisor_length, divisor_of_divides, divides_of_divisor}
 use Rattle.ff_factor.proofs.PullSteps.{positive, list_some, exact, not_divisor}
-use Rattle.ff_factor.proofs.SplitSteps.{in_of_all, of_push, polys_push}
+use Rattle.ff_factor.proofs.SplitSteps.{in_of_all, of_push}
 
-in_parts : (fs : List (List ℕ × ℕ)) (i : ℕ) (f : List ℕ × ℕ) → i < length fs → In (get_or fs i f).0 (polys_of fs)
-in_parts [] i f less = absurd (omega arith)
-in_parts (x ∷ fs) zero f less = inl refl
-in_parts (x ∷ fs) (suc i) f less = inr (in_parts fs i f (omega arith))
+pub on_ok_as : {A E P Q : Type 0} (r : Result A E) → OnOk r P → (P → Q) → OnOk r Q
+on_ok_as (Ok x) h f = f h
+on_ok_as (Err e) h f = tt
+
+in_list : (ps : List (List ℕ)) (i : ℕ) (p : List ℕ) → i < length ps → In (get_or ps i p) ps
+in_list [] i p less = absurd (omega arith)
+in_list (x ∷ ps) zero p less = inl refl
+in_list (x ∷ ps) (suc i) p less = inr (in_list ps i p (omega arith))
 
 -- what is still to be done is as it was
 pub multiples_read : {A : Type 0} (f : A → A) (old now : List A) (i : ℕ) (d : A) → i < length old → now ≡ map f (take i old) ++ drop i old → get_or now i d ≡ get_or old i d
@@ -159,20 +165,19 @@ module _ (k : CodeField) where
           go (inl j) = more.free q j
           go (inr e) = next.free q (inl e)
 
-  pub lower_next : (fs : List (List ℕ × ℕ)) (i : ℕ) (f : List ℕ × ℕ) (num : List (List ℕ)) (den : List ℕ) (n : List (List ℕ)) (d : List ℕ) (n' : List (List ℕ)) (d' : List ℕ)
-      → i < length fs → f ≡ get_or fs i f → AreLowerAt k (polys_of (take i fs)) num den n d → AreLowerAt k (f.0 ∷ []) n d n' d' → AreLowerAt k (polys_of (take (i + 1) fs)) num den n' d'
-  lower_next fs i f num den n d n' d' less f_is low next =
-      subst (λ ps. AreLowerAt k ps num den n' d')
-      (sym (ap polys_of (take_more fs i f less ∙ ap (λ x. take i fs ++ x ∷ []) (sym f_is)) ∙ polys_push (take i fs) f))
-      (lower_join f.0 (polys_of (take i fs)) num den n d n' d' low next)
+  pub lower_next : (ps : List (List ℕ)) (i : ℕ) (p : List ℕ) (num : List (List ℕ)) (den : List ℕ) (n : List (List ℕ)) (d : List ℕ) (n' : List (List ℕ)) (d' : List ℕ)
+      → i < length ps → p ≡ get_or ps i p → AreLowerAt k (take i ps) num den n d → AreLowerAt k (p ∷ []) n d n' d' → AreLowerAt k (take (i + 1) ps) num den n' d'
+  lower_next ps i p num den n d n' d' less p_is low next =
+      subst (λ qs. AreLowerAt k qs num den n' d') (sym (take_more ps i p less ∙ ap (λ x. take i ps ++ x ∷ []) (sym p_is)))
+      (lower_join p (take i ps) num den n d n' d' low next)
 
-  -- ---- the parts of a list of primes
+  -- ---- the members of a list of factors
 
-  pub prime_at : (fs : List (List ℕ × ℕ)) (i : ℕ) (f : List ℕ × ℕ) → i < length fs → f ≡ get_or fs i f → ArePrimes k (polys_of fs) → IsPrime k f.0
-  prime_at fs i f less f_is h = subst (λ x. IsPrime k x.0) (sym f_is) (record {
-    over = in_of_all (IsOver k.ops) (polys_of fs) h.over (get_or fs i f).0 (in_parts fs i f less);
-    irreducible = in_of_all (IsIrreducible k.ops) (polys_of fs) h.irreducible (get_or fs i f).0 (in_parts fs i f less);
-  })
+  pub factor_at : (ps : List (List ℕ)) (i : ℕ) (p : List ℕ) → i < length ps → p ≡ get_or ps i p → AreIrreducible k.ops ps → IsPrime k p
+  factor_at ps i p less p_is h = subst (IsPrime k) (sym p_is) (factor_in ps (get_or ps i p) (in_list ps i p less) h)
+    where
+      factor_in : (ps : List (List ℕ)) (p : List ℕ) → In p ps → AreIrreducible k.ops ps → IsPrime k p
+      factor_in ps p i h = record { over = in_of_all (IsOver k.ops) ps h.over p i; irreducible = in_of_all (IsIrreducible k.ops) ps h.irreducible p i }
 
   -- ---- lowest terms
 
@@ -219,70 +224,93 @@ module _ (k : CodeField) where
       ap (value k) (sym h.product) ∙ value_multiple k (product_of_parts k.ops f.parts) f.unit (parts_over k f.parts over) h.unit_in
       ∙ ap (λ x. constant_poly k f.unit ⊗ x) (parts_value k f.parts over) ∙ P.mul_comm (constant_poly k f.unit) (value_of_parts k f.parts)
 
-  pub factored_poly : (den : List ℕ) (f : FactorsValue) → IsFactorisation k.ops den f → IsPoly den
-  factored_poly den f h = subst IsPoly h.product (IsPoly_multiple_of k.ops (product_of_parts k.ops f.parts) f.unit)
-
-  pub factored_primes : (den : List ℕ) (f : FactorsValue) → IsFactorisation k.ops den f → ArePrimes k (polys_of f.parts)
-  factored_primes den f h = record { over = h.over; irreducible = h.irreducible }
-
-  module _ (num : List (List ℕ)) (den : List ℕ) (f : FactorsValue) (num_in : All (IsOver k.ops) num) (den_in : IsOver k.ops den) (h : IsFactorisation k.ops den f)
-      (n : List (List ℕ)) (d : List ℕ) (low : AreLowerAt k (polys_of f.parts) num den n d) (d_monic : IsMonic d) where
-    N : List (Polynomial k)
-    N = values k n
-
-    D : Polynomial k
-    D = value k d
-
-    unit : IsUnit P.ops (constant_poly k f.unit)
-    unit = (constant_poly k (k.inv f.unit), P.mul_comm (constant_poly k f.unit) (constant_poly k (k.inv f.unit)) ∙ code_inverts k f.unit h.unit_in h.unit_some)
-
-    within : IsDivisor P.ops (value k d) (value_of_parts k f.parts ⊗ constant_poly k f.unit)
-    within = (low.factor, sym (den_parts den f h) ∙ low.reduced.den_is ∙ P.mul_comm low.factor (value k d))
-
-    primes : (p : List ℕ) → In p (polys_of f.parts) → IsPrime k p
-    primes p i = record { over = in_of_all (IsOver k.ops) (polys_of f.parts) h.over p i; irreducible = in_of_all (IsIrreducible k.ops) (polys_of f.parts) h.irreducible p i }
-
-    least : (ws : List (List ℕ)) (e : List ℕ) → All (IsOver k.ops) ws → IsOver k.ops e → IsPoly e → e ≢ []
-        → times P (value k e) (values k n) ≡ times P (value k d) (values k ws) → length d ≤ length e
-    least ws e ws_in e_in e_poly some same =
-        let divides : IsDivisor P.ops (value k d) (value k e)
-        = least_denominator k f.parts primes (constant_poly k f.unit) unit (length (value k d).0 + 1) (value k d) (omega arith)
-        (list_some k d low.reduced.den_over low.reduced.den_poly low.reduced.den_some) within (values k n) (λ p i. low.free p i)
-        (value k e) (divides_members P (value k d) (value k e) (values k n) (values k ws) same) in
-        omega (
-          arith,
-          divisor_length k (value k d) (value k e) (list_some k e e_in e_poly some) divides,
-          length_value k d low.reduced.den_over low.reduced.den_poly,
-          length_value k e e_in e_poly,
-        )
-
-    same_as : times P (value k den) (values k n) ≡ times P (value k d) (values k num)
-    same_as =
-        ap (λ x. times P x (values k n)) low.reduced.den_is ∙ sym (times_times P low.factor (value k d) (values k n))
-        ∙ times_swap P low.factor (value k d) (values k n) ∙ ap (times P (value k d)) (sym low.reduced.num_is)
-
-    lowest_of : All IsPoly n → IsInLowestTermsOf k.ops num den n d
-    lowest_of n_poly = record {
-      one_each =
-          sym (length-map n (value k)) ∙ sym (length-map (values k n) (λ v. low.factor ⊗ v)) ∙ ap length (sym low.reduced.num_is) ∙ length-map num (value k);
-      same = same_products k den d n num den_in low.reduced.den_over low.reduced.num_over num_in same_as;
-      num_over = low.reduced.num_over;
-      den_over = low.reduced.den_over;
-      num_poly = n_poly;
-      monic = d_monic;
-      least = λ ws e ws_in e_in e_poly some same.
-          least ws e ws_in e_in e_poly some (same_values k e d n ws e_in low.reduced.den_over low.reduced.num_over ws_in same);
-    }
+  pub factored : (den : List ℕ) (f : FactorsValue) → IsFactorisation k.ops den f → AreIrreducible k.ops (polys_of f.parts)
+  factored den f h = record { over = h.over; irreducible = h.irreducible }
 
   -- the fractions that are left, made monic
-  pub lowest : (num : List (List ℕ)) (den : List ℕ) (f : FactorsValue) (n : List (List ℕ)) (d : List ℕ) (n' : List (List ℕ)) (d' : List ℕ) → All (IsOver k.ops) num → IsOver k.ops den
-      → IsFactorisation k.ops den f → AreLowerAt k (polys_of f.parts) num den n d → top_of d ≢ 0
-      → n' ≡ map (λ v. multiple_of k.ops v (k.inv (top_of d))) n → d' ≡ multiple_of k.ops d (k.inv (top_of d)) → IsInLowestTermsOf k.ops num den n' d'
-  lowest num den f n d n' d' num_in den_in h low top n_is d_is =
+  pub record AreMadeMonic (ps : List (List ℕ)) (num : List (List ℕ)) (den : List ℕ) (n : List (List ℕ)) (d : List ℕ) : Type 0 where
+    pub low : AreLowerAt k ps num den n d
+    pub poly : All IsPoly n
+    pub monic : IsMonic d
+
+  pub made_monic : (ps : List (List ℕ)) (num : List (List ℕ)) (den : List ℕ) (n : List (List ℕ)) (d : List ℕ) (n' : List (List ℕ)) (d' : List ℕ)
+      → AreLowerAt k ps num den n d → top_of d ≢ 0 → n' ≡ map (λ v. multiple_of k.ops v (k.inv (top_of d))) n → d' ≡ multiple_of k.ops d (k.inv (top_of d))
+      → AreMadeMonic ps num den n' d'
+  made_monic ps num den n d n' d' low top n_is d_is =
       let r = low.reduced in
       let N = map (λ v. multiple_of k.ops v (k.inv (top_of d))) n in
       let D = multiple_of k.ops d (k.inv (top_of d)) in
-      subst (λ x. IsInLowestTermsOf k.ops num den x d') (sym n_is) (subst (IsInLowestTermsOf k.ops num den N) (sym d_is)
-      (lowest_of num den f num_in den_in h N D
-      (lower_more (constant_poly k (top_of d)) (polys_of f.parts) num den n d N D low (monic_reduced n d r.num_over r.den_over r.den_poly r.den_some top))
-      (IsMonic_multiple k d r.den_over top (positive k d r.den_some)) (poly_multiples k (k.inv (top_of d)) n)))
+      subst (λ x. AreMadeMonic ps num den x d') (sym n_is) (subst (AreMadeMonic ps num den N) (sym d_is) (record {
+        low = lower_more (constant_poly k (top_of d)) ps num den n d N D low (monic_reduced n d r.num_over r.den_over r.den_poly r.den_some top);
+        poly = poly_multiples k (k.inv (top_of d)) n;
+        monic = IsMonic_multiple k d r.den_over top (positive k d r.den_some);
+      }))
+
+  module _ (ps : List (List ℕ)) (num : List (List ℕ)) (den : List ℕ) (num_in : All (IsOver k.ops) num) (den_in : IsOver k.ops den)
+      (n : List (List ℕ)) (d : List ℕ) (h : AreMadeMonic ps num den n d) where
+    abbrev c : Polynomial k
+    c = h.low.factor
+
+    one_each : length n ≡ length num
+    one_each =
+        sym (length-map n (value k)) ∙ sym (length-map (values k n) (λ v. c ⊗ v)) ∙ ap length (sym h.low.reduced.num_is) ∙ length-map num (value k)
+
+    same : AreSameFractions k.ops n d num den
+    same =
+        same_products k den d n num den_in h.low.reduced.den_over h.low.reduced.num_over num_in
+        (ap (λ x. times P x (values k n)) h.low.reduced.den_is ∙ sym (times_times P c (value k d) (values k n))
+        ∙ times_swap P c (value k d) (values k n) ∙ ap (times P (value k d)) (sym h.low.reduced.num_is))
+
+    pub cancelled : AreIrreducible k.ops ps → AreCancelled k.ops ps num den n d
+    cancelled factors = record {
+      one_each = one_each;
+      same = same;
+      num_over = h.low.reduced.num_over;
+      den_over = h.low.reduced.den_over;
+      num_poly = h.poly;
+      monic = h.monic;
+      free = free;
+    }
+      where
+        free : (p : List ℕ) → In p ps → Divides k.ops p d → ¬ All (Divides k.ops p) n
+        free p i divides all =
+            h.low.free p i (value k divides.quotient, divisor_of_divides k p d p_in divides)
+            (All-map (IsDivisor P.ops (value k p)) (value k) n (λ j v less. (value k (all j v less).quotient, divisor_of_divides k p (get_or n j v) p_in (all j v less))))
+          where
+            p_in : IsOver k.ops p
+            p_in = in_of_all (IsOver k.ops) ps factors.over p i
+
+    -- where all irreducible divisors of the denominator are listed, none divides all parts
+    pub lowest : IsPoly den → HasFactorsOf k.ops ps den → IsInLowestTermsOf k.ops num den n d
+    lowest den_poly all = record {
+      one_each = one_each;
+      same = same;
+      num_over = h.low.reduced.num_over;
+      den_over = h.low.reduced.den_over;
+      num_poly = h.poly;
+      monic = h.monic;
+      least = λ ws e ws_in e_in e_poly some same.
+          least ws e ws_in e_in e_poly some (same_values k e d n ws e_in h.low.reduced.den_over h.low.reduced.num_over ws_in same);
+    }
+      where
+        free : (p : List ℕ) → IsPrime k p → IsDivisor P.ops (value k p) (value k d) → ¬ All (IsDivisor P.ops (value k p)) (values k n)
+        free p g divides =
+            h.low.free p
+            (all p g.over g.irreducible
+            (divides_of_divisor k p den g.over den_in den_poly
+            (divisor_trans P (value k p) (value k d) (value k den) divides (c, h.low.reduced.den_is ∙ P.mul_comm c (value k d)))))
+            divides
+
+        least : (ws : List (List ℕ)) (e : List ℕ) → All (IsOver k.ops) ws → IsOver k.ops e → IsPoly e → e ≢ []
+            → times P (value k e) (values k n) ≡ times P (value k d) (values k ws) → length d ≤ length e
+        least ws e ws_in e_in e_poly some same =
+            let divides : IsDivisor P.ops (value k d) (value k e)
+            = least_denominator k (length (value k d).0 + 1) (value k d) (omega arith)
+            (list_some k d h.low.reduced.den_over h.low.reduced.den_poly h.low.reduced.den_some) (values k n) free
+            (value k e) (divides_members P (value k d) (value k e) (values k n) (values k ws) same) in
+            omega (
+              arith,
+              divisor_length k (value k d) (value k e) (list_some k e e_in e_poly some) divides,
+              length_value k d h.low.reduced.den_over h.low.reduced.den_poly,
+              length_value k e e_in e_poly,
+            )

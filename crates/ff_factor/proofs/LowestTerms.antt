@@ -1,5 +1,5 @@
 -- Fractions over one denominator, none of whose primes divides all numerators: the denominator divides every other one.
-use Rattle.std.proofs.Common.{◌≡◌, ℕ, zero, suc, ◌<◌, ◌⊎◌, inl, inr, List, [], ◌∷◌, length, All, refl, sym, ap, ap₂, ◌∙◌, subst, arith}
+use Rattle.std.proofs.Common.{◌≡◌, ℕ, zero, suc, ◌+◌, ◌<◌, ◌≤◌, ◌⊎◌, inl, inr, List, [], ◌∷◌, length, All, refl, sym, ap, ap₂, ◌∙◌, subst, arith}
 use Rattle.std.proofs.lemmas.List.Elements.{All-nil, All-cons}
 use Rattle.ring_theory.specs.Ring.{CommRing, pow}
 use Rattle.ring_theory.specs.Members.{In}
@@ -18,7 +18,9 @@ use Rattle.ff_factor.specs.Factors.{polys_of}
 use Rattle.polynomial_theory.proofs.ListValues.{monic_poly, length_value}
 use Rattle.ff_factor.specs.Pulls.{value_of_parts}
 use Rattle.polynomial_theory.proofs.Division.{euclidean}
-use Rattle.polynomial_theory.proofs.Irreducible.{irreducible, prime, decide_divides}
+use Rattle.polynomial_theory.proofs.Irreducible.{irreducible, prime, decide_divides, short_unit}
+use Rattle.polynomial_theory.proofs.IrreducibleDivisors.{IrreducibleDivisor, irreducible_divisor}
+use Rattle.polynomial_theory.proofs.Lengths.{some_long}
 
 module _ (k : CodeField) where
   infixl 65 ◌⊕◌
@@ -93,42 +95,48 @@ module _ (k : CodeField) where
       go (yes d) f =
           let r = f (λ all. no_all (All-cons (IsDivisor P.ops (value k p)) v vs d all)) in (r.0, inr r.1, r.2)
 
-  -- a denominator none of whose primes divides all numerators divides each e for which e times the fractions are polynomials
-  pub least_denominator : (fs : List (List ℕ × ℕ)) → ((p : List ℕ) → In p (polys_of fs) → IsPrime p) → (c : Polynomial k) → IsUnit P.ops c
-      → (n : ℕ) (d : Polynomial k) → length d.0 < n → ¬ (d ≡ 𝟘) → IsDivisor P.ops d (value_of_parts k fs ⊗ c) → (vs : List (Polynomial k))
-      → ((p : List ℕ) → In p (polys_of fs) → IsDivisor P.ops (value k p) d → ¬ All (IsDivisor P.ops (value k p)) vs)
+  -- a denominator none of whose irreducible divisors divides all numerators divides each e for which e times the fractions are polynomials
+  pub least_denominator : (n : ℕ) (d : Polynomial k) → length d.0 < n → ¬ (d ≡ 𝟘) → (vs : List (Polynomial k))
+      → ((p : List ℕ) → IsPrime p → IsDivisor P.ops (value k p) d → ¬ All (IsDivisor P.ops (value k p)) vs)
       → (e : Polynomial k) → ((v : Polynomial k) → In v vs → IsDivisor P.ops d (e ⊗ v)) → IsDivisor P.ops d e
-  least_denominator fs primes c unit zero d short d_some within vs free e whole = absurd (omega arith)
-  least_denominator fs primes c unit (suc n) d short d_some within vs free e whole =
-      go (prime_or_unit fs primes c unit d within) (least_denominator fs primes c unit n)
+  least_denominator zero d short d_some vs free e whole = absurd (omega arith)
+  least_denominator (suc n) d short d_some vs free e whole = go (one_or_more (length d.0) (some_long k d d_some)) (least_denominator n)
     where
-      go : ((p : List ℕ) × In p (polys_of fs) × IsDivisor P.ops (value k p) d) ⊎ IsUnit P.ops d
-          → ((d : Polynomial k) → length d.0 < n → ¬ (d ≡ 𝟘) → IsDivisor P.ops d (value_of_parts k fs ⊗ c) → (vs : List (Polynomial k))
-          → ((p : List ℕ) → In p (polys_of fs) → IsDivisor P.ops (value k p) d → ¬ All (IsDivisor P.ops (value k p)) vs)
+      one_or_more : (n : ℕ) → 0 < n → (n ≡ 1) ⊎ (2 ≤ n)
+      one_or_more n l = grind arith
+
+      go : (length d.0 ≡ 1) ⊎ (2 ≤ length d.0)
+          → ((d : Polynomial k) → length d.0 < n → ¬ (d ≡ 𝟘) → (vs : List (Polynomial k))
+          → ((p : List ℕ) → IsPrime p → IsDivisor P.ops (value k p) d → ¬ All (IsDivisor P.ops (value k p)) vs)
           → (e : Polynomial k) → ((v : Polynomial k) → In v vs → IsDivisor P.ops d (e ⊗ v)) → IsDivisor P.ops d e)
           → IsDivisor P.ops d e
-      go (inr u) ih = (u.0 ⊗ e, sym (sym (P.mul_assoc d u.0 e) ∙ ap (λ x. x ⊗ e) u.1 ∙ P.mul_comm 𝟙 e ∙ P.mul_one e))
-      go (inl r) ih =
-          let a = ih d' d'_short d'_some within' vs free' e' whole' in
+      go (inl l) ih =
+          let u = short_unit k d l in
+          (u.0 ⊗ e, sym (sym (P.mul_assoc d u.0 e) ∙ ap (λ x. x ⊗ e) u.1 ∙ P.mul_comm 𝟙 e ∙ P.mul_one e))
+      go (inr l) ih =
+          let a = ih d' d'_short d'_some vs free' e' whole' in
           (a.0, e_is ∙ ap (λ x. p ⊗ x) a.1 ∙ sym (P.mul_assoc p d' a.0) ∙ ap (λ x. x ⊗ a.0) (sym d_is))
         where
-          h : IsPrime r.0
-          h = primes r.0 r.1
+          r : IrreducibleDivisor k d
+          r = irreducible_divisor k (length d.0 + 1) d l (omega arith) d_some
+
+          h : IsPrime r.codes
+          h = record { over = r.over; irreducible = r.irreducible }
 
           p : Polynomial k
-          p = value k r.0
+          p = value k r.codes
 
           d' : Polynomial k
-          d' = r.2.0
+          d' = r.divides.0
 
           d_is : d ≡ p ⊗ d'
-          d_is = r.2.1
+          d_is = r.divides.1
 
           miss : (v : Polynomial k) × In v vs × (¬ IsDivisor P.ops p v)
-          miss = missed r.0 h vs (free r.0 r.1 r.2)
+          miss = missed r.codes h vs (free r.codes h r.divides)
 
           p_divides : IsDivisor P.ops p e
-          p_divides = pick (prime k p (of_codes r.0 h) e miss.0 (divisor_trans P p d (e ⊗ miss.0) r.2 (whole miss.0 miss.1)))
+          p_divides = pick (prime k p (of_codes r.codes h) e miss.0 (divisor_trans P p d (e ⊗ miss.0) r.divides (whole miss.0 miss.1)))
             where
               pick : IsDivisor P.ops p e ⊎ IsDivisor P.ops p miss.0 → IsDivisor P.ops p e
               pick (inl x) = x
@@ -150,16 +158,13 @@ module _ (k : CodeField) where
           d'_short =
               let s : length d.0 ≡ length (p ⊗ d').0 = ap (λ x. length x.0) d_is in
               let l = h.irreducible.not_constant in
-              omega (arith, length_product (code_ring k) (code_domain k) p d' p_some d'_some, length_value k r.0 h.over (monic_poly k r.0 h.irreducible.monic))
+              omega (arith, length_product (code_ring k) (code_domain k) p d' p_some d'_some, length_value k r.codes h.over (monic_poly k r.codes h.irreducible.monic))
 
           divides' : IsDivisor P.ops d' d
           divides' = (p, d_is ∙ P.mul_comm p d')
 
-          within' : IsDivisor P.ops d' (value_of_parts k fs ⊗ c)
-          within' = divisor_trans P d' d (value_of_parts k fs ⊗ c) divides' within
-
-          free' : (q : List ℕ) → In q (polys_of fs) → IsDivisor P.ops (value k q) d' → ¬ All (IsDivisor P.ops (value k q)) vs
-          free' q i x = free q i (divisor_trans P (value k q) d' d x divides')
+          free' : (q : List ℕ) → IsPrime q → IsDivisor P.ops (value k q) d' → ¬ All (IsDivisor P.ops (value k q)) vs
+          free' q g x = free q g (divisor_trans P (value k q) d' d x divides')
 
           whole' : (v : Polynomial k) → In v vs → IsDivisor P.ops d' (e' ⊗ v)
           whole' v i =

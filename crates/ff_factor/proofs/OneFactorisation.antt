@@ -13,12 +13,14 @@ use Rattle.linear_theory.proofs.Euclid.{divisor_product, order_unique}
 use Rattle.ff_poly.specs.Words.{IsIrreducible}
 use Rattle.ff_poly.specs.Value.{value}
 use Rattle.ff_poly.specs.Polynomials.{Polynomial, polynomials, constant_poly}
+use Rattle.ff_factor.specs.LowestTerms.{HasFactorsOf}
 use Rattle.ff_factor.specs.Factors.{FactorsValue, IsFactorisation, IsBefore, AreAscending, polys_of}
 use Rattle.polynomial_theory.proofs.ListValues.{length_value, monic_poly, same_lists}
 use Rattle.ff_factor.specs.Pulls.{value_of_parts}
 use Rattle.polynomial_theory.proofs.Division.{euclidean}
 use Rattle.ff_factor.proofs.Factorisations.{code_inverts}
-use Rattle.polynomial_theory.proofs.Divisors.{some_value, monic_unique}
+use Rattle.polynomial_theory.proofs.IrreducibleDivisors.{irreducible_unique}
+use Rattle.polynomial_theory.proofs.Divisors.{divisor_of_divides}
 use Rattle.polynomial_theory.proofs.Irreducible.{irreducible, prime}
 use Rattle.ff_factor.proofs.LowestTerms.{IsPrime, of_codes, prime_or_unit}
 use Rattle.ff_factor.proofs.LowerTerms.{den_parts}
@@ -60,28 +62,6 @@ module _ (k : CodeField) where
   nonunit : (p : List ℕ) → IsPrime k p → ¬ IsUnit P.ops (value k p)
   nonunit p h = (irreducible k (value k p) (of_codes k p h)).nonunit
 
-  -- a prime that divides a prime is that prime
-  prime_divides_prime : (p q : List ℕ) → IsPrime k p → IsPrime k q → IsDivisor P.ops (value k p) (value k q) → p ≡ q
-  prime_divides_prime p q h g d =
-      monic_unique k p q h.over g.over h.irreducible.monic g.irreducible.monic d
-      (cofactor.0, sym (P.mul_one (value k p)) ∙ ap (λ x. value k p ⊗ x) (sym cofactor.1) ∙ sym (P.mul_assoc (value k p) d.0 cofactor.0) ∙ ap (λ x. x ⊗ cofactor.0) (sym d.1))
-    where
-      p_some : ¬ (value k p ≡ 𝟘)
-      p_some = some_value k p h.over (monic_poly k p h.irreducible.monic) (let l = h.irreducible.not_constant in omega arith)
-
-      q_some : ¬ (value k q ≡ 𝟘)
-      q_some = some_value k q g.over (monic_poly k q g.irreducible.monic) (let l = g.irreducible.not_constant in omega arith)
-
-      d_some : ¬ (d.0 ≡ 𝟘)
-      d_some z = q_some (d.1 ∙ ap (λ x. value k p ⊗ x) z ∙ mul_zero P (value k p))
-
-      cofactor : IsUnit P.ops d.0
-      cofactor =
-          (irreducible k (value k q) (of_codes k q g)).smaller_divisors d.0 (value k p, d.1 ∙ P.mul_comm (value k p) d.0)
-          (let l = h.irreducible.not_constant in
-          let m : length (value k q).0 ≡ length (value k p ⊗ d.0).0 = ap (λ x. length x.0) d.1 in
-          omega (arith, length_product (code_ring k) (code_domain k) (value k p) d.0 p_some d_some, length_value k p h.over (monic_poly k p h.irreducible.monic)))
-
   -- a polynomial of the parts divides their product
   member_divides : (fs : List (List ℕ × ℕ)) → All (λ f. 1 ≤ f.1) fs → (p : List ℕ) → In p (polys_of fs) → IsDivisor P.ops (value k p) (value_of_parts k fs)
   member_divides [] exponents p i = absurd i
@@ -97,24 +77,31 @@ module _ (k : CodeField) where
       subst (IsDivisor P.ops (value k p)) (P.mul_comm (value_of_parts k fs) (pow P.ops (value k f.0) f.1))
       (divisor_product P (value k p) (value_of_parts k fs) (pow P.ops (value k f.0) f.1) d)
 
-  -- the primes of one factorisation are those of the other
-  same_primes : (g : List ℕ) (a b : FactorsValue) → IsFactorisation k.ops g a → IsFactorisation k.ops g b → (x : List ℕ) → In x (polys_of a.parts) → In x (polys_of b.parts)
-  same_primes g a b h j x i =
+  -- each irreducible divisor is a part
+  listed : (g : List ℕ) (b : FactorsValue) → IsFactorisation k.ops g b → (x : List ℕ) → IsPrime k x → IsDivisor P.ops (value k x) (value k g) → In x (polys_of b.parts)
+  listed g b j x h d =
       go (prime_or_unit k b.parts others (constant_poly k b.unit)
       (constant_poly k (k.inv b.unit), P.mul_comm (constant_poly k b.unit) (constant_poly k (k.inv b.unit)) ∙ code_inverts k b.unit j.unit_in j.unit_some)
-      (value k x)
-      (subst (IsDivisor P.ops (value k x)) (sym (den_parts k g a h) ∙ den_parts k g b j)
-      (divisor_product P (value k x) (value_of_parts k a.parts) (constant_poly k a.unit) (member_divides a.parts h.exponents x i))))
+      (value k x) (subst (IsDivisor P.ops (value k x)) (den_parts k g b j) d))
     where
-      x_prime : IsPrime k x
-      x_prime = record { over = in_of_all (IsOver k.ops) (polys_of a.parts) h.over x i; irreducible = in_of_all (IsIrreducible k.ops) (polys_of a.parts) h.irreducible x i }
-
       others : (p : List ℕ) → In p (polys_of b.parts) → IsPrime k p
       others p l = record { over = in_of_all (IsOver k.ops) (polys_of b.parts) j.over p l; irreducible = in_of_all (IsIrreducible k.ops) (polys_of b.parts) j.irreducible p l }
 
       go : ((p : List ℕ) × In p (polys_of b.parts) × IsDivisor P.ops (value k p) (value k x)) ⊎ IsUnit P.ops (value k x) → In x (polys_of b.parts)
-      go (inl r) = subst (λ y. In y (polys_of b.parts)) (prime_divides_prime r.0 x (others r.0 r.1) x_prime r.2) r.1
-      go (inr u) = absurd (nonunit x x_prime u)
+      go (inl r) = subst (λ y. In y (polys_of b.parts)) (irreducible_unique k r.0 x (others r.0 r.1).over (others r.0 r.1).irreducible h.over h.irreducible r.2) r.1
+      go (inr u) = absurd (nonunit x h u)
+
+  pub has_factors : (g : List ℕ) (b : FactorsValue) → IsFactorisation k.ops g b → HasFactorsOf k.ops (polys_of b.parts) g
+  has_factors g b j p p_in p_irreducible d =
+      listed g b j p (record { over = p_in; irreducible = p_irreducible }) (value k d.quotient, divisor_of_divides k p g p_in d)
+
+  -- the primes of one factorisation are those of the other
+  same_primes : (g : List ℕ) (a b : FactorsValue) → IsFactorisation k.ops g a → IsFactorisation k.ops g b → (x : List ℕ) → In x (polys_of a.parts) → In x (polys_of b.parts)
+  same_primes g a b h j x i =
+      listed g b j x
+      (record { over = in_of_all (IsOver k.ops) (polys_of a.parts) h.over x i; irreducible = in_of_all (IsIrreducible k.ops) (polys_of a.parts) h.irreducible x i })
+      (subst (IsDivisor P.ops (value k x)) (sym (den_parts k g a h))
+      (divisor_product P (value k x) (value_of_parts k a.parts) (constant_poly k a.unit) (member_divides a.parts h.exponents x i)))
 
   -- a prime that isn't among the parts divides no product of their powers and a unit
   free_of : (p : List ℕ) → IsPrime k p → (fs : List (List ℕ × ℕ)) → ((q : List ℕ) → In q (polys_of fs) → IsPrime k q) → All (IsBefore p) (polys_of fs)
@@ -124,7 +111,7 @@ module _ (k : CodeField) where
       different : (q : List ℕ) → In q (polys_of fs) → ¬ IsDivisor P.ops (value k p) (value k q)
       different q i e =
           before_irreflexive p
-          (subst (IsBefore p) (sym (prime_divides_prime p q h (primes q i) e)) (in_of_all (IsBefore p) (polys_of fs) after q i))
+          (subst (IsBefore p) (sym (irreducible_unique k p q h.over h.irreducible (primes q i).over (primes q i).irreducible e)) (in_of_all (IsBefore p) (polys_of fs) after q i))
 
       go : IsDivisor P.ops (value k p) (value_of_parts k fs) ⊎ IsDivisor P.ops (value k p) u → ⊥
       go (inl e) = of_parts k p h.over h.irreducible fs different e

@@ -115,7 +115,7 @@ module _ (k : CodeField) where
         none : (b : List ℕ) → IsOver k.ops b → IsMonic b → 2 ≤ length b → length b < length p → ¬ Divides k.ops b p
         none b b_in b_monic b_long b_short d =
             go (maximal_prime P (At k g h e primitive) (at_maximal k g h e primitive) B Q
-            ((generates e p primitive is (B ⊗ Q)).1 (subst (IsDivisor P.ops (value k p)) whole (divisor_refl (value k p)))))
+            ((generates e p primitive is (B ⊗ Q)).1 (subst (IsDivisor P.ops (value k p)) whole (divisor_refl k (value k p)))))
           where
             B : Polynomial k
             B = value k b

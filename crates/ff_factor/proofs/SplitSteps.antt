@@ -1,5 +1,5 @@
 -- The primes are divided out of a polynomial one after another.
-use Rattle.std.proofs.Common.{◌≡◌, ◌≢◌, ℕ, zero, suc, ◌+◌, ◌<◌, ◌≤◌, ◌⊎◌, inl, inr, List, [], ◌∷◌, ◌++◌, length, get_or, take, All, refl, sym, ap, ◌∙◌, subst, arith}
+use Rattle.std.proofs.Common.{◌≡◌, ◌≢◌, ℕ, zero, suc, ◌+◌, ◌<◌, ◌≤◌, ◌⊎◌, inl, inr, List, [], ◌∷◌, ◌++◌, length, get_or, take, All, refl, sym, ap, ap₂, ◌∙◌, subst, arith}
 use Rattle.std.proofs.lemmas.List.{take_more}
 use Rattle.std.proofs.lemmas.List.Elements.{All-nil, All-cons, All-append}
 use Rattle.ring_theory.specs.Ring.{CommRing, pow}
@@ -82,6 +82,19 @@ primes_none k g ps none = subst (ArePrimesOf k g []) (sym none) (record { each =
 pub polys_push : (fs : List (List ℕ × ℕ)) (f : List ℕ × ℕ) → polys_of (fs ++ f ∷ []) ≡ polys_of fs ++ f.0 ∷ []
 polys_push [] f = refl
 polys_push (x ∷ fs) f = ap (λ w. x.0 ∷ w) (polys_push fs f)
+
+-- the polynomials of one part more, and a copy of it
+pub polys_more : (fs : List (List ℕ × ℕ)) (i : ℕ) (f : List ℕ × ℕ) (ps new : List (List ℕ)) (p : List ℕ) → i < length fs → f ≡ get_or fs i f
+    → ps ≡ polys_of (take i fs) → p ≡ f.0 → new ≡ ps ++ p ∷ [] → new ≡ polys_of (take (i + 1) fs)
+polys_more fs i f ps new p less f_is ps_is p_is new_is =
+    new_is ∙ ap₂ (λ xs x. xs ++ x ∷ []) ps_is p_is ∙ sym (polys_push (take i fs) f)
+    ∙ ap polys_of (sym (take_more fs i f less ∙ ap (λ x. take i fs ++ x ∷ []) (sym f_is)))
+
+pub parts_more : (fs : List (List ℕ × ℕ)) (i : ℕ) (f : List ℕ × ℕ) (old new : List (List ℕ × ℕ)) (p : List ℕ) → i < length fs → f ≡ get_or fs i f
+    → old ≡ take i fs → p ≡ f.0 → new ≡ old ++ (p, f.1) ∷ [] → new ≡ take (i + 1) fs
+parts_more fs i f old new p less f_is old_is p_is new_is =
+    new_is ∙ ap₂ (λ xs x. xs ++ (x, f.1) ∷ []) old_is p_is
+    ∙ sym (take_more fs i f less ∙ ap (λ x. take i fs ++ x ∷ []) (sym f_is))
 
 module _ (k : CodeField) where
   infixl 65 ◌⊕◌

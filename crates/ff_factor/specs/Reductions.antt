@@ -43,8 +43,3 @@ module _ (k : CodeField) where
     pub factor : Polynomial k
     pub reduced : AreReduced factor num den num' den'
     pub free : (p : List ℕ) → In p ps → IsFree p num' den'
-
-  -- irreducible polynomials over the field
-  pub record ArePrimes (ps : List (List ℕ)) : Type 0 where
-    pub over : All (IsOver k.ops) ps
-    pub irreducible : All (IsIrreducible k.ops) ps

@@ -19,5 +19,5 @@ pub fn is_irreducible<K: SmallField>(alloc: Global, k: &K, g: &Poly) -> Result<b
     if g.codes().len() < 2 || g.top() != 1 {
         return Ok(false);
     }
-    is_field(alloc, k, &PolyQuotient::new(g.copy(alloc)?))
+    is_field(alloc, k, &PolyQuotient::new(alloc, g)?)
 }

@@ -3,7 +3,7 @@
 ghost use Rattle.std.specs.Prelude.{◌≡◌, ◌≢◌, ◌≤◌, ℕ, List, [], length, All, IfOk};
 ghost use Rattle.ff_fields.specs.Over.{IsOver};
 ghost use Rattle.ff_poly.specs.Words.{IsPoly};
-ghost use Rattle.ff_factor.specs.Factors.{FactorsValue, IsFactorisation};
+ghost use Rattle.ff_factor.specs.Factors.{FactorsValue, IsFactorisation, polys_of};
 ghost use Rattle.ff_factor.specs.Pulls.{IsPrimeList, IsPulledOut, IsSplitOff};
 
 use crate::primes::primes_of;
@@ -44,9 +44,35 @@ impl Factors {
     {
         self.parts.as_slice()
     }
+
+    /// Copies of the polynomials without their exponents.
+    pub fn polys(&self, alloc: Global) -> Result<Vec<Poly>, AllocError>
+        ensures { IfOk result (λ v. v.items ≡ polys_of self.now.parts) }
+    {
+        let mut polys = Vec::new(alloc);
+        for part in &self.parts {
+            polys.push(part.0.copy(alloc)?)?;
+        }
+        Ok(polys)
+    }
+
+    /// Equal factors, in memory of their own.
+    pub fn copy(&self, alloc: Global) -> Result<Factors, AllocError>
+        ensures { IfOk result (λ c. c ≡ self.now) }
+    {
+        let mut parts = Vec::new(alloc);
+        for part in &self.parts {
+            parts.push((part.0.copy(alloc)?, part.1))?;
+        }
+        Ok(Factors {
+            unit: self.unit,
+            parts,
+        })
+    }
 }
 
-/// Divides g by p as often as it goes: how often, and what is left.
+/// Divides g by p as often as it goes: how often, and what is left. A multiplicity of 2^32 or more, which only a polynomial of more
+/// than 2^32 codes has, is want of memory.
 fn pull_out<K: SmallField>(
     alloc: Global,
     k: &K,
@@ -99,7 +125,8 @@ fn split_off<K: SmallField>(
     Ok((parts, rest))
 }
 
-/// The factors of g, which isn't 0: their unit times the product of the powers of their polynomials is g.
+/// The factors of g, which isn't 0: their unit times the product of the powers of their polynomials is g. A multiplicity of 2^32 or
+/// more, which only a polynomial of more than 2^32 codes has, is want of memory.
 /// Cost: that of `idempotents` for the polynomials modulo g, for each irreducible factor p the first relation among at most
 /// 2·deg p products, and as many divisions as there are factors.
 pub fn factor<K: SmallField>(alloc: Global, k: &K, g: &Poly) -> Result<Factors, AllocError>
@@ -113,7 +140,8 @@ pub fn factor<K: SmallField>(alloc: Global, k: &K, g: &Poly) -> Result<Factors, 
             parts: Vec::new(alloc),
         });
     }
-    let a = PolyQuotient::new(scale(alloc, k, g, k.inv(g.top()))?);
+    let monic = scale(alloc, k, g, k.inv(g.top()))?;
+    let a = PolyQuotient::new(alloc, &monic)?;
     let found = idempotents(alloc, k, &a)?;
     let primes = primes_of(alloc, k, &a, found.as_slice())?;
     let (parts, rest) = split_off(alloc, k, g, primes.as_slice())?;

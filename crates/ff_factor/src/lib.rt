@@ -11,7 +11,7 @@ mod steps;
 
 pub use decisions::is_irreducible;
 pub use factors::{Factors, factor, one_factorisation};
-pub use lowest::{lowest_terms, one_lowest};
+pub use lowest::{cancel, lowest_terms, one_lowest};
 pub use quotient::PolyQuotient;
 
 #[cfg(test)]

@@ -4,9 +4,8 @@ ghost use Rattle.std.specs.Prelude.{◌≡◌, ◌≢◌, ◌<◌, ◌≤◌, �
 ghost use Rattle.ff_fields.specs.Over.{IsOver};
 ghost use Rattle.ff_poly.specs.Words.{IsPoly, multiple_of, top_of};
 ghost use Rattle.ff_poly.specs.Value.{value};
-ghost use Rattle.ff_factor.specs.Factors.{polys_of};
-ghost use Rattle.ff_factor.specs.LowestTerms.{IsInLowestTermsOf};
-ghost use Rattle.ff_factor.specs.Reductions.{AreLowerAt, ArePrimes, AreQuotients, AreReduced, DividesAll, IsFree};
+ghost use Rattle.ff_factor.specs.LowestTerms.{AreCancelled, AreIrreducible, HasFactorsOf, IsInLowestTermsOf};
+ghost use Rattle.ff_factor.specs.Reductions.{AreLowerAt, AreQuotients, AreReduced, DividesAll, IsFree};
 
 use crate::factors::factor;
 use ff_fields::field::SmallField;
@@ -79,7 +78,7 @@ fn cancel_once<K: SmallField>(
 }
 
 /// The fractions with p cancelled as often as it divides all parts.
-fn cancel<K: SmallField>(
+fn cancel_one<K: SmallField>(
     alloc: Global,
     k: &K,
     mut num: Vec<Poly>,
@@ -102,23 +101,23 @@ fn cancel<K: SmallField>(
     Ok((num, den))
 }
 
-/// The fractions with each prime cancelled as often as it divides all parts.
-fn cancel_all<K: SmallField>(
+/// The fractions with each of the factors cancelled as often as it divides all parts.
+fn cancel_each<K: SmallField>(
     alloc: Global,
     k: &K,
     mut num: Vec<Poly>,
     mut den: Poly,
-    primes: &[(Poly, u32)],
+    factors: &[Poly],
 ) -> Result<(Vec<Poly>, Poly), AllocError>
     requires num_in { All (IsOver (K.field k.now).ops) num.items }
     requires den_in { IsOver (K.field k.now).ops den }
     requires den_poly { IsPoly den }
     requires den_some { den ≢ [] }
-    requires primes { ArePrimes (K.field k.now) (polys_of primes.now) }
-    ensures { IfOk result (λ r. AreLowerAt (K.field k.now) (polys_of primes.now) num.items den r.0.items r.1) }
+    requires factors { AreIrreducible (K.field k.now).ops factors.now }
+    ensures { IfOk result (λ r. AreLowerAt (K.field k.now) factors.now num.items den r.0.items r.1) }
 {
-    for part in primes {
-        let (less, lower) = cancel(alloc, k, num, den, &part.0)?;
+    for p in factors {
+        let (less, lower) = cancel_one(alloc, k, num, den, p)?;
         num = less;
         den = lower;
     }
@@ -151,10 +150,38 @@ fn make_monic<K: SmallField>(k: &K, num: &mut Vec<Poly>, den: &mut Poly)
     den.multiply_by(k, inverse);
 }
 
+/// Cancels each of the irreducible monic factors from the fractions num over den as often as it divides the denominator and all
+/// numerators, and makes the denominator monic: the same fractions. They are in lowest terms if each irreducible monic divisor of the
+/// denominator is listed; so many fractions over one denominator need its factors once, and those over a product the factors of each
+/// part. The denominator isn't 0. After want of memory both are as before.
+/// Cost: for each factor one division of each part a turn, with a turn for each time that it is cancelled and one more.
+pub fn cancel<K: SmallField>(
+    alloc: Global,
+    k: &K,
+    num: &mut Vec<Poly>,
+    den: &mut Poly,
+    factors: &[Poly],
+) -> Result<(), AllocError>
+    requires over { let ops = (K.field k.now).ops in All (IsOver ops) num.old.items × IsOver ops den.old }
+    requires not_zero { den.old ≢ [] }
+    requires factors { AreIrreducible (K.field k.now).ops factors.now }
+    ensures cancelled { OnOk result (AreCancelled (K.field k.now).ops factors.now num.old.items den.old num.new.items den.new) }
+    ensures lowest { let ops = (K.field k.now).ops in
+        OnOk result (HasFactorsOf ops factors.now den.old → IsInLowestTermsOf ops num.old.items den.old num.new.items den.new) }
+    ensures unchanged { OnErr result ((num.new.items ≡ num.old.items) × (den.new ≡ den.old)) }
+{
+    let copies = copy_all(alloc, num.as_slice())?;
+    let copy = den.copy(alloc)?;
+    let (mut less, mut lower) = cancel_each(alloc, k, copies, copy, factors)?;
+    make_monic(k, &mut less, &mut lower);
+    *num = less;
+    *den = lower;
+    Ok(())
+}
+
 /// Brings the fractions num over den into lowest terms: the same fractions, with a monic denominator of least degree. The
 /// denominator isn't 0. After want of memory both are as before.
-/// Cost: that of `factor` for the denominator, and for each of its irreducible factors one division of each part a turn, with
-/// a turn for each time that it is cancelled and one more.
+/// Cost: that of `factor` for the denominator, and that of `cancel` with its irreducible factors.
 pub fn lowest_terms<K: SmallField>(
     alloc: Global,
     k: &K,
@@ -166,14 +193,8 @@ pub fn lowest_terms<K: SmallField>(
     ensures lowest { OnOk result (IsInLowestTermsOf (K.field k.now).ops num.old.items den.old num.new.items den.new) }
     ensures unchanged { OnErr result ((num.new.items ≡ num.old.items) × (den.new ≡ den.old)) }
 {
-    let factors = factor(alloc, k, den)?;
-    let copies = copy_all(alloc, num.as_slice())?;
-    let copy = den.copy(alloc)?;
-    let (mut less, mut lower) = cancel_all(alloc, k, copies, copy, factors.parts())?;
-    make_monic(k, &mut less, &mut lower);
-    *num = less;
-    *den = lower;
-    Ok(())
+    let polys = factor(alloc, k, den)?.polys(alloc)?;
+    cancel(alloc, k, num, den, polys.as_slice())
 }
 
 /// A law: fractions have one form in lowest terms.

@@ -1,6 +1,6 @@
 //! Polynomials modulo a monic one, as a finite algebra.
 
-ghost use Rattle.std.specs.Prelude.{◌≡◌, ◌≤◌, length};
+ghost use Rattle.std.specs.Prelude.{◌≡◌, ◌≤◌, length, IfOk};
 ghost use Rattle.ff_poly.specs.Words.{IsMonic};
 ghost use Rattle.ff_factor.specs.Quotients.{IsModulus, quotient_algebra};
 ghost use Rattle.ff_factor.specs.QuotientLaws.{quotient_laws};
@@ -31,13 +31,21 @@ impl Model for PolyQuotient {
 }
 
 impl PolyQuotient {
-    /// The polynomials modulo g. No memory is taken.
-    pub fn new(g: Poly) -> PolyQuotient
-        requires monic { IsMonic g }
-        requires not_constant { 2 ≤ length g }
-        ensures { result ≡ g }
+    /// The polynomials modulo g, of which a copy is kept.
+    pub fn new(alloc: Global, g: &Poly) -> Result<PolyQuotient, AllocError>
+        requires monic { IsMonic g.now }
+        requires not_constant { 2 ≤ length g.now }
+        ensures { IfOk result (λ q. q ≡ g.now) }
     {
-        PolyQuotient { g }
+        let g = g.copy(alloc)?;
+        Ok(PolyQuotient { g })
+    }
+
+    /// An equal algebra, in memory of its own.
+    pub fn copy(&self, alloc: Global) -> Result<PolyQuotient, AllocError>
+        ensures { IfOk result (λ c. c ≡ self.now) }
+    {
+        PolyQuotient::new(alloc, &self.g)
     }
 
     /// The polynomial g. No memory is taken.

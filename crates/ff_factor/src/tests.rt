@@ -164,7 +164,7 @@ fn modulo<K: SmallField>(alloc: Global, k: &K, codes: &[u32]) -> Result<PolyQuot
     if g.codes().len() < 2 || g.top() != 1 {
         return Err(AllocError);
     }
-    Ok(PolyQuotient::new(g))
+    PolyQuotient::new(alloc, &g)
 }
 
 // Whether the rows of the matrix are these.

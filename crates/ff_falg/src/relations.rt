@@ -78,7 +78,8 @@ fn more_powers<K: SmallField, A: FiniteAlgebra<K>>(
 }
 
 /// The first relation among e, x·e, x·x·e, .., of which at most `bound` are independent. The number of rows is doubled until
-/// there is one; from half of the bound on all are taken at once.
+/// there is one; from half of the bound on all are taken at once. More than `usize::MAX` rows, which only a bound of `usize::MAX` asks
+/// for, are want of memory.
 /// Cost: one elimination for each number of rows, 1, 2, 4, .. and bound + 1.
 pub fn first_relation<K: SmallField, A: FiniteAlgebra<K>>(
     alloc: Global,

@@ -12,7 +12,7 @@ use crate::matrix::Matrix;
 use ff_fields::field::SmallField;
 use std::alloc::{AllocError, Global};
 
-/// The row b above the rows of a.
+/// The row b above the rows of a. More than `usize::MAX` rows are want of memory.
 fn stacked(alloc: Global, b: &[u32], a: &Matrix) -> Result<Matrix, AllocError>
     requires { length b.now ≡ a.now.cols }
     ensures made { IfOk result (λ m. m ≡ with_first_row b.now a.now) }
@@ -44,7 +44,8 @@ pub(crate) fn negatives<K: SmallField>(
     Ok(out)
 }
 
-/// A v with v·a = b; None exactly where there is none.
+/// A v with v·a = b; None exactly where there is none. A matrix of `usize::MAX` rows, whose kernel with one row more fits in no
+/// memory, is want of memory.
 /// Cost: that of a kernel with one row more.
 pub fn solve<K: SmallField>(
     alloc: Global,

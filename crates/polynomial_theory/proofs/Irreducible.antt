@@ -77,7 +77,7 @@ module _ (k : CodeField) where
           let h : length (a ⊗ b).0 ≡ length 𝟙.0 = ap (λ p. length p.0) e in
           omega (arith, some_long k a a_some, some_long k b b_some, length_product (code_ring k) (code_domain k) a b a_some b_some)
 
-  short_unit : (d : Polynomial k) → length d.0 ≡ 1 → IsUnit (polynomials k).ops d
+  pub short_unit : (d : Polynomial k) → length d.0 ≡ 1 → IsUnit (polynomials k).ops d
   short_unit d l =
       let r = divide k 𝟙 d (some_of_long k d (omega arith)) in
       let s = r.shorter in

@@ -1,38 +1,31 @@
-use Rattle.std.proofs.Common.{[], All, sym, subst}
-use Rattle.ff_fields.specs.Over.{IsOver}
-use Rattle.ff_poly.specs.Value.{value}
-use Rattle.ff_factor.specs.Reductions.{AreReduced, IsFree}
-use Rattle.ff_factor.proofs.LowerTerms.{lower_start, lower_more, lower_done, reduced_shorter}
+use Rattle.std.proofs.Common.{◌∙◌, sym, subst}
+use Rattle.ff_poly.specs.Words.{IsPoly}
+use Rattle.ff_factor.specs.Reductions.{AreLowerAt}
+use Rattle.ff_factor.proofs.LowerTerms.{made_monic, cancelled, lowest}
 use Rattle.ff_factor.proofs.lowest.cancel.Goals as goal
 
-pub loop-den-init : goal.loop-den-init
-loop-den-init g c =
+pub returns-clause-cancelled : goal.returns-clause-cancelled
+returns-clause-cancelled g c =
     let k = g.K.SmallField.field c.args.k.now in
-    lower_start k c.args.num.items c.args.den c.requires.num_in c.requires.den_in c.requires.den_poly c.requires.den_some
+    let n = c.in_ok-less.less.items in
+    let d = c.in_ok-less.lower in
+    let low =
+    subst (λ v. AreLowerAt k c.args.factors.now v c.args.den.now n d) (c.in_ok-copies.ensures ∙ c.as_slice.ensures.value)
+    (subst (λ e. AreLowerAt k c.args.factors.now c.in_ok-copies.copies.items e n d) c.in_ok-copy.ensures c.in_ok-less.ensures) in
+    let made = made_monic k c.args.factors.now c.args.num.now.items c.args.den.now n d c.make_monic.new.num.items c.make_monic.new.den low
+    c.make_monic.ensures.top c.make_monic.ensures.num c.make_monic.ensures.den in
+    cancelled k c.args.factors.now c.args.num.now.items c.args.den.now c.requires.over.0 c.requires.over.1 c.make_monic.new.num.items c.make_monic.new.den made c.requires.factors
 
-pub cancel_once-requires-clause-num_in : goal.cancel_once-requires-clause-num_in
-cancel_once-requires-clause-num_in g c =
+pub returns-clause-lowest : goal.returns-clause-lowest
+returns-clause-lowest g c =
     let k = g.K.SmallField.field c.args.k.now in
-    subst (All (IsOver k.ops)) (sym c.as_slice.ensures.value) c.loop-den.invariant.reduced.num_over
-
-pub loop-den-smaller : goal.loop-den-smaller
-loop-den-smaller g c =
-    let k = g.K.SmallField.field c.args.k.now in
-    let r = c.loop-den.invariant.reduced in
-    let once : AreReduced k (value k c.args.p.now) c.as_slice.result.now c.loop-den.den c.in-Some.quotients.items c.in-Some.quotient = rw c.in-Some.is at c.in_ok-quotients.ensures in
-    reduced_shorter k c.args.p.now c.as_slice.result.now c.loop-den.den c.in-Some.quotients.items c.in-Some.quotient c.requires.p_in c.requires.p_poly c.requires.not_constant
-    r.den_over r.den_poly once
-
-pub loop-den-preserved : goal.loop-den-preserved
-loop-den-preserved g c =
-    let k = g.K.SmallField.field c.args.k.now in
-    let once : AreReduced k (value k c.args.p.now) c.as_slice.result.now c.loop-den.den c.in-Some.quotients.items c.in-Some.quotient = rw c.in-Some.is at c.in_ok-quotients.ensures in
-    lower_more k (value k c.args.p.now) [] c.args.num.items c.args.den c.loop-den.num.items c.loop-den.den c.in-Some.quotients.items c.in-Some.quotient c.loop-den.invariant
-    (subst (λ n. AreReduced k (value k c.args.p.now) n c.loop-den.den c.in-Some.quotients.items c.in-Some.quotient) c.as_slice.ensures.value once)
-
-pub returns : goal.returns
-returns g c =
-    let k = g.K.SmallField.field c.args.k.now in
-    let free : IsFree k c.args.p.now c.as_slice.result.now c.loop-den.den = rw c.in_default.is at c.in_ok-quotients.ensures in
-    lower_done k c.args.p.now c.args.num.items c.args.den c.loop-den.num.items c.loop-den.den c.loop-den.invariant
-    (subst (λ n. IsFree k c.args.p.now n c.loop-den.den) c.as_slice.ensures.value free)
+    let n = c.in_ok-less.less.items in
+    let d = c.in_ok-less.lower in
+    let low =
+    subst (λ v. AreLowerAt k c.args.factors.now v c.args.den.now n d) (c.in_ok-copies.ensures ∙ c.as_slice.ensures.value)
+    (subst (λ e. AreLowerAt k c.args.factors.now c.in_ok-copies.copies.items e n d) c.in_ok-copy.ensures c.in_ok-less.ensures) in
+    let made = made_monic k c.args.factors.now c.args.num.now.items c.args.den.now n d c.make_monic.new.num.items c.make_monic.new.den low
+    c.make_monic.ensures.top c.make_monic.ensures.num c.make_monic.ensures.den in
+    let poly : IsPoly c.args.den.now = subst IsPoly c.drop.view_is c.drop.invariant in
+    λ all.
+    lowest k c.args.factors.now c.args.num.now.items c.args.den.now c.requires.over.0 c.requires.over.1 c.make_monic.new.num.items c.make_monic.new.den made poly all

@@ -1,0 +1,18 @@
+use Rattle.std.proofs.Common.{◌<◌, length, ap, ◌∙◌, arith}
+use Rattle.std.proofs.lemmas.List.{take_all}
+use Rattle.ff_factor.specs.Factors.{polys_of}
+use Rattle.ff_factor.proofs.SplitSteps.{polys_more}
+use Rattle.ff_factor.proofs.factors.Factors.polys.Goals as goal
+
+pub loop-part-preserved : goal.loop-part-preserved
+loop-part-preserved c =
+    let fs = c.deref-part-items.result.now in
+    let less : c.loop-part.part-index < length fs = omega arith in
+    polys_more fs c.loop-part.part-index c.part-item.result c.loop-part.polys.items c.push.new.self.items c.in_ok-copy.field-0 less c.part-item.is
+    c.loop-part.invariant c.in_ok-copy.ensures c.in_ok-push.ensures.items
+
+pub returns : goal.returns
+returns c =
+    c.loop-part.invariant
+    ∙ ap polys_of
+    (take_all c.loop-part.part-index c.deref-part-items.result.now (omega arith) ∙ c.deref-part-items.ensures.value ∙ ap (λ v. v.parts) c.self.view_is)
