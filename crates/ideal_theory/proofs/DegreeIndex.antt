@@ -4,7 +4,7 @@ use Rattle.std.proofs.lemmas.List.Elements.{All-nil, All-cons, All-head, All-tai
 use Rattle.ring_theory.specs.Lists.{coeff_of}
 use Rattle.ring_theory.specs.Subsets.{Span}
 use Rattle.ring_theory.proofs.Solver.{ring, reads}
-use Rattle.ring_theory.proofs.Evaluate.{constant, length_trim}
+use Rattle.ring_theory.proofs.Evaluate.{constant}
 use Rattle.ring_theory.proofs.Lists.{coeff_trim}
 use Rattle.ring_theory.proofs.Polynomials.{pol_ops}
 use Rattle.linear_theory.specs.Module.{combine}
