@@ -6,6 +6,5 @@ pub mod Functions
 pub mod Values
 pub mod Infinity
 pub mod InfiniteSpans
-pub mod Rationals
 pub mod Discriminant
 pub mod Curves
