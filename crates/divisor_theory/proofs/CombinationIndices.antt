@@ -1,6 +1,6 @@
 -- The index of a lattice over k[t] in a larger one, where both differ from k[t][Y] at t alone, is that of their
 -- combinations over the fractions of degree at most 0.
-use Rattle.std.proofs.Common.{◌≡◌, ℕ, zero, suc, ◌≤◌, List, [], ◌∷◌, map, length, refl, sym, ◌∙◌, ap, ap₂, subst, arith}
+use Rattle.std.proofs.Common.{◌≡◌, ℕ, zero, suc, List, [], ◌∷◌, map, refl, sym, ◌∙◌, ap, ap₂, subst}
 use Rattle.std.proofs.lemmas.List.{length-map}
 use Rattle.ring_theory.specs.Local.{PrimeTo}
 use Rattle.ring_theory.specs.Ring.{pow}
@@ -8,7 +8,7 @@ use Rattle.ring_theory.specs.Subsets.{IsModule, Span}
 use Rattle.ring_theory.specs.Polynomials.{constant}
 use Rattle.ring_theory.proofs.Evaluate.{length_trim}
 use Rattle.ring_theory.proofs.Local.{comaximal_power}
-use Rattle.ring_theory.proofs.Ring.{one_mul, mul_zero}
+use Rattle.ring_theory.proofs.Ring.{one_mul}
 use Rattle.ring_theory.proofs.RowMaps.{hom_zero}
 use Rattle.ring_theory.proofs.Solver.{ring, reads, from_one}
 use Rattle.ring_theory.proofs.Subsets.{span_module}
@@ -18,13 +18,10 @@ use Rattle.linear_theory.specs.Module.{IsLinear}
 use Rattle.linear_theory.proofs.Dimension.{basis_image, basis_transport}
 use Rattle.ff_fields.specs.Field.{CodeField}
 use Rattle.ff_fields.specs.Code.{Code, code_ring}
-use Rattle.ff_poly.specs.Value.{value}
-use Rattle.ff_poly.specs.Polynomials.{x_poly, codes_of, value_nil, value_codes_of}
-use Rattle.function_field.specs.declared.side.Side.TheVariants.{Infinite}
+use Rattle.ff_poly.specs.Polynomials.{x_poly}
 use Rattle.function_field.specs.Functions.{Equation, of_poly, IsPolynomial, IsFiniteAtInfinity}
-use Rattle.function_field.specs.Infinity.{value_at, variable}
+use Rattle.function_field.specs.Infinity.{variable}
 use Rattle.function_field.specs.Values.{PresValue, Functions, functions, setting, equation_of}
-use Rattle.function_field.proofs.OnSide.{of_poly_zero}
 use Rattle.function_field.proofs.ScalarRings.{polynomials_subring, finite_at_infinity_subring}
 use Rattle.lattice_theory.specs.Lattices.{IsLattice, HasIndex, space_ops}
 use Rattle.lattice_theory.proofs.Indices.{codes, space, code_of, lattice_subspace}

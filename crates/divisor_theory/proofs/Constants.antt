@@ -1,11 +1,11 @@
 -- The constants are the functions that are integral on both sides. They have a finite dimension over k, and where F is
 -- a field they are a field.
-use Rattle.std.proofs.Common.{◌≡◌, ◌↔◌, ℕ, suc, ℤ, pos, ◌-ℤ◌, ◌<◌, List, [], ◌∷◌, map, sym, ◌∙◌, ap, ap₂, subst}
+use Rattle.std.proofs.Common.{◌≡◌, ◌↔◌, ℕ, ℤ, pos, ◌-ℤ◌, ◌<◌, List, ◌∷◌, map, sym, ◌∙◌, ap, ap₂, subst}
 use Rattle.std.proofs.lemmas.List.{length-map}
 use Rattle.std.proofs.lemmas.List.Elements.{All-cons, All-map, All-weaker}
 use Rattle.ring_theory.specs.Subsets.{IsSubring, Span}
 use Rattle.ring_theory.proofs.Integral.{integral}
-use Rattle.ring_theory.proofs.Ring.{mul_zero, mul_left_comm, neg_unique}
+use Rattle.ring_theory.proofs.Ring.{mul_zero, neg_unique}
 use Rattle.ring_theory.proofs.Subsets.{span_tail}
 use Rattle.prime_theory.proofs.Scalars.{integral_wider}
 use Rattle.linear_theory.specs.Module.{combine}
@@ -13,7 +13,7 @@ use Rattle.linear_theory.specs.Basis.{IsBasis as IsBasisOver, IsNull, IsSubspace
 use Rattle.linear_theory.proofs.Bases.{combine_in, null_subspace}
 use Rattle.linear_theory.proofs.Dimension.{basis_of_full_length}
 use Rattle.ff_fields.specs.Field.{CodeField}
-use Rattle.ff_fields.specs.Code.{Code, code_ring, code_field}
+use Rattle.ff_fields.specs.Code.{code_ring, code_field}
 use Rattle.ff_poly.specs.Polynomials.{polynomials}
 use Rattle.function_field.specs.declared.side.Side.{Side}
 use Rattle.function_field.specs.declared.side.Side.TheVariants.{Finite, Infinite}
@@ -26,16 +26,14 @@ use Rattle.places_theory.proofs.Sides.{side_ring, scalar_integral}
 use Rattle.lattice_theory.specs.Lattices.{HasIndex, space_ops, polynomial_ops}
 use Rattle.lattice_theory.proofs.Bases.{index_same}
 use Rattle.lattice_theory.proofs.Indices.{codes, space, code_of, code_hom}
-use Rattle.order_theory.proofs.IntegralLattice.{integral_lattice}
 use Rattle.reduced_basis_theory.specs.Degree.{size, dimension_sum}
 use Rattle.reduced_basis_theory.specs.Reduced.{layers, Section}
 use Rattle.reduced_basis_theory.proofs.Count.{section_basis, length_section}
 use Rattle.space_theory.specs.Spaces.{IsReducedBasis, multiples_of}
-use Rattle.space_theory.proofs.AtInfinity.{integral_at_infinity}
 use Rattle.space_theory.proofs.FunctionModule.{functions_module, cancel}
 use Rattle.space_theory.proofs.InfiniteIndices.{code_finite, level_zero}
 use Rattle.space_theory.proofs.Laws.{space_basis}
-use Rattle.space_theory.proofs.Pairs.{reduced_basis, sides_basis}
+use Rattle.space_theory.proofs.Pairs.{sides_basis}
 use Rattle.order_theory.proofs.IndexProducts.{combine_times}
 use Rattle.order_theory.proofs.Degrees.{code_is, code_at}
 

@@ -1,34 +1,28 @@
 -- The sums of degrees of pairs whose lattice at infinity is an invertible module over O_inf: a factor P changes them
 -- by the degree of the place P. So the index of a product of powers of infinite places, relative to O_inf, is its
 -- degree.
-use Rattle.std.proofs.Common.{◌≡◌, ℕ, zero, suc, ◌+◌, ◌*◌, ◌<◌, List, [], ◌∷◌, map, All, refl, sym, ◌∙◌, ap, ap₂, subst, arith, suc-mul}
+use Rattle.std.proofs.Common.{◌≡◌, ℕ, zero, suc, ◌+◌, ◌*◌, [], ◌∷◌, All, refl, sym, subst, arith, suc-mul}
 use Rattle.std.proofs.lemmas.Int.{ints}
-use Rattle.std.proofs.lemmas.List.{length-map}
-use Rattle.std.proofs.lemmas.List.Elements.{All-nil, All-head, All-tail, All-map, All-weaker}
+use Rattle.std.proofs.lemmas.List.Elements.{All-nil, All-head, All-tail}
 use Rattle.std.proofs.Math.IntN.{ℤ, pos, ◌+ℤ◌, ◌-ℤ◌, ◌*ℤ◌}
 use Rattle.ring_theory.specs.Subsets.{IsModule, Product}
-use Rattle.ring_theory.proofs.Ring.{one_mul, mul_zero, mul_left_comm, zero_add}
-use Rattle.ring_theory.proofs.Solver.{ring, reads}
-use Rattle.ring_theory.proofs.Subsets.{product_member, product_module}
+use Rattle.ring_theory.proofs.Ring.{one_mul, zero_add}
+use Rattle.ring_theory.proofs.Subsets.{product_member}
 use Rattle.prime_theory.specs.Ideals.{Inverse, Invertible, SameSet, Power}
 use Rattle.prime_theory.specs.IntegerValues.{up, down, PrimePower}
 use Rattle.prime_theory.specs.Primes.{IsPrime}
 use Rattle.prime_theory.proofs.Invertible.{trace_ideal}
 use Rattle.prime_theory.proofs.Products.{product_into, product_monotone, product_swap, product_assoc, product_assoc_back, product_one, own_module, power_module, additive_of_module}
-use Rattle.prime_theory.proofs.Residues.{Generator, generator, generated, generator_free}
-use Rattle.linear_theory.specs.Module.{combine}
-use Rattle.linear_theory.proofs.Bases.{combine_in}
 use Rattle.ff_fields.specs.Field.{CodeField}
-use Rattle.ff_fields.specs.Code.{Code, code_ring}
+use Rattle.ff_fields.specs.Code.{code_ring}
 use Rattle.ff_poly.specs.Polynomials.{polynomials}
 use Rattle.function_field.specs.declared.side.Side.TheVariants.{Infinite}
 use Rattle.function_field.specs.Places.{Place, IsPlace, IsIn, IsIntegralAt}
 use Rattle.function_field.specs.Divisors.{Entry, Divisor, HasTotalDegree, none, entry}
 use Rattle.function_field.specs.Functions.{Equation, FunctionOf, ring_of, setting_of, degree_of_y}
 use Rattle.function_field.specs.Discriminant.{discriminant}
-use Rattle.lattice_theory.specs.Lattices.{IsLattice, HasIndex, space_ops}
+use Rattle.lattice_theory.specs.Lattices.{IsLattice, HasIndex}
 use Rattle.lattice_theory.proofs.Bases.{index_same}
-use Rattle.lattice_theory.proofs.Indices.{codes, space}
 use Rattle.reduced_basis_theory.specs.Degree.{degree_sum}
 use Rattle.infinite_theory.proofs.InfiniteLaws.{degree_exists}
 use Rattle.ideal_theory.specs.Ideals.{DivisorIdeal}

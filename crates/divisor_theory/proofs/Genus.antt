@@ -20,15 +20,13 @@ use Rattle.function_field.specs.Functions.{Equation, FunctionOf, ring_of, settin
 use Rattle.function_field.proofs.ScalarRings.{scalars_subring}
 use Rattle.places_theory.proofs.Sides.{side_ring}
 use Rattle.lattice_theory.specs.Lattices.{HasIndex, space_ops, polynomial_ops}
-use Rattle.order_theory.proofs.IntegralLattice.{integral_lattice}
 use Rattle.reduced_basis_theory.specs.Degree.{genus_sum}
 use Rattle.reduced_basis_theory.specs.Reduced.{constants_ops}
 use Rattle.reduced_basis_theory.proofs.Laws.{constants_genus, constants_basis as basis_over_constants}
 use Rattle.space_theory.specs.Spaces.{IsReducedBasis, multiples_of}
-use Rattle.space_theory.proofs.AtInfinity.{integral_at_infinity}
 use Rattle.space_theory.proofs.FunctionModule.{functions_module, division}
 use Rattle.space_theory.proofs.InfiniteIndices.{level_zero}
-use Rattle.space_theory.proofs.Pairs.{reduced_basis, sides_basis}
+use Rattle.space_theory.proofs.Pairs.{sides_basis}
 use Rattle.space_theory.proofs.ScalarLists.{combine_spanned, independent_lists}
 use Rattle.divisor_theory.proofs.Sequences.{sequence_of, independent_sequences}
 use Rattle.divisor_theory.proofs.Constants.{both_subring, constants_are, constants_index}

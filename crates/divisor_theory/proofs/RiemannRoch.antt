@@ -24,12 +24,10 @@ use Rattle.lattice_theory.proofs.Indices.{codes, space}
 use Rattle.linear_theory.specs.Fields.{domain_of}
 use Rattle.linear_theory.proofs.Bases.{null_subspace}
 use Rattle.linear_theory.proofs.Exchange.{bases_same_length}
-use Rattle.order_theory.proofs.IntegralLattice.{integral_lattice}
 use Rattle.reduced_basis_theory.specs.Degree.{degree_sum, dimension_sum, genus_sum}
 use Rattle.reduced_basis_theory.proofs.Laws.{euler}
 use Rattle.space_theory.specs.Spaces.{IsReducedBasis}
 use Rattle.space_theory.specs.TraceDuals.{TraceDual, CanonicalDual}
-use Rattle.space_theory.proofs.AtInfinity.{integral_at_infinity}
 use Rattle.space_theory.proofs.Pairs.{reduced_basis, sides_basis}
 use Rattle.space_theory.proofs.TraceDuals.{riemann_roch, canonical_degrees, dual_colon, canonical_colon, canonical_sides}
 use Rattle.divisor_theory.specs.Parts.{IsDifference}

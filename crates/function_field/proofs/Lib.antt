@@ -1,12 +1,10 @@
 pub mod Horner
 pub mod Constants
 pub mod Scalars
-pub mod Places
 pub mod Reversal
 pub mod Stages
 pub mod SameValues
 pub mod OnSide
-pub mod Seven
 pub mod Spans
 pub mod ScalarRings
 pub mod InfinityNumbers

@@ -1,5 +1,5 @@
 -- The greatest power of a prime over p that has a given lattice, in an order that is maximal at p.
-use Rattle.std.proofs.Common.{◌≡◌, ◌↔◌, ◌⊎◌, List, ℕ, zero, suc, ◌+◌, ◌*◌, ◌≤◌, ◌<◌, pos, subst, arith, le-mul_of_pos_right}
+use Rattle.std.proofs.Common.{◌≡◌, ◌↔◌, ◌⊎◌, List, ℕ, zero, suc, ◌+◌, ◌*◌, ◌≤◌, ◌<◌, pos, arith, le-mul_of_pos_right}
 use Rattle.std.proofs.lemmas.Int.{ints}
 use Rattle.std.proofs.Math.IntN.{◌-ℤ◌}
 use Rattle.ring_theory.specs.Subsets.{Colon, IsModule}
@@ -17,16 +17,15 @@ use Rattle.ff_poly.specs.Polynomials.{Polynomial, codes_of}
 use Rattle.function_field.specs.declared.side.Side.TheVariants.{Finite}
 use Rattle.function_field.specs.Places.{Place, IsPlace, IsIn, IsIntegralAt, LiesOver, HasValuationAtLeast}
 use Rattle.function_field.specs.Functions.{Equation, FunctionOf, ring_of, of_poly, IsPolynomial, setting_of}
-use Rattle.function_field.proofs.ScalarRings.{polynomials_subring, scalars_subring}
+use Rattle.function_field.proofs.ScalarRings.{scalars_subring}
 use Rattle.places_theory.specs.Orders.{IsOrderAt, InPrime}
 use Rattle.places_theory.proofs.PlaceValues.{value_iff, place_prime as prime_at_order}
-use Rattle.lattice_theory.proofs.Lattices.{lattice_module}
 use Rattle.lattice_theory.specs.Lattices.{IsLattice, HasIndex}
 use Rattle.lattice_theory.proofs.Indices.{index_add, index_none, index_of, index_once, index_zero}
 use Rattle.lattice_theory.proofs.Operations.{lattice_within}
 use Rattle.order_theory.specs.Orders.{IsOrder, IsPrimeTo}
 use Rattle.order_theory.proofs.FinitePlaces.{finite, place_prime}
-use Rattle.order_theory.proofs.LocalOrders.{prime_to, order_integral, maximal_iff, maximal_order_at}
+use Rattle.order_theory.proofs.LocalOrders.{order_integral, maximal_order_at}
 use Rattle.order_theory.proofs.PrimesOver.{Index, PrimeOf, prime_is, prime_lattice, prime_invertible, prime_over, ideal_lattice, order_generators, family_of, primes_at}
 use Rattle.order_theory.proofs.ReductionAt.{p_in}
 use Rattle.ideal_theory.proofs.IdealIndices.{IsInvertibleLattice, invertible_same, power_of_prime}

@@ -1,5 +1,5 @@
 -- A record of primes over p of any order lists the places over p: each prime is the part of one place in the order.
-use Rattle.std.proofs.Common.{◌≡◌, ◌↔◌, ◌⊎◌, inl, inr, ℕ, List, [], ◌∷◌, get_or, pos, refl, sym, ◌∙◌, subst, arith, All}
+use Rattle.std.proofs.Common.{◌≡◌, ◌↔◌, ◌⊎◌, inl, inr, List, [], ◌∷◌, get_or, pos, refl, sym, ◌∙◌, subst, All}
 use Rattle.std.specs.List.{Any}
 use Rattle.std.proofs.lemmas.List.Elements.{All-head, All-tail, All-weaker}
 use Rattle.ring_theory.specs.Subsets.{IsModule}
@@ -28,7 +28,7 @@ use Rattle.places_theory.proofs.PlaceValues.{valuation_iff, place_prime as prime
 use Rattle.places_theory.proofs.PlacesOver.{place_of, place_of_is_place, place_of_members, same_by_order}
 use Rattle.lattice_theory.specs.Lattices.{IsLattice}
 use Rattle.order_theory.specs.Orders.{IsOrder, IsPrimeTo}
-use Rattle.order_theory.proofs.Degrees.{HasClasses, classes_of_index}
+use Rattle.order_theory.proofs.Degrees.{classes_of_index}
 use Rattle.order_theory.proofs.FinitePlaces.{Int, finite, place_prime}
 use Rattle.order_theory.proofs.IntegralLattice.{integral_lattice}
 use Rattle.order_theory.proofs.LocalOrders.{maximal_order_at}

@@ -1,10 +1,9 @@
 -- An order with the powers of y that has a record at each irreducible polynomial whose square divides the discriminant
 -- is the maximal order.
-use Rattle.std.proofs.Common.{◌≡◌, ℕ, zero, suc, ◌<◌, List, refl, sym, ◌∙◌, subst, arith}
+use Rattle.std.proofs.Common.{◌≡◌, ℕ, ◌<◌, List, refl, sym, ◌∙◌, subst}
 use Rattle.std.proofs.lemmas.List.Elements.{All-weaker}
 use Rattle.ring_theory.specs.Ring.{pow}
 use Rattle.ring_theory.specs.Rows.{entry}
-use Rattle.ring_theory.specs.Sums.{sum_below}
 use Rattle.ring_theory.specs.Subsets.{IsModule}
 use Rattle.prime_theory.specs.Ideals.{SameSet}
 use Rattle.prime_theory.specs.Orders.{MaximalAt}

@@ -1,6 +1,6 @@
 -- Orders over k[t] that are k[t][Y] up to powers of t and maximal at t: their combinations over the fractions of
 -- degree at most 0 are O_inf, and they are what O_inf has with powers of t as denominators.
-use Rattle.std.proofs.Common.{◌↔◌, ℕ, List, subst}
+use Rattle.std.proofs.Common.{◌↔◌, ℕ, List}
 use Rattle.ring_theory.specs.Subsets.{Span}
 use Rattle.prime_theory.specs.Ideals.{SameSet}
 use Rattle.prime_theory.specs.Orders.{MaximalAt}

@@ -1,6 +1,6 @@
 -- A prime over t of an order over k[t] that is maximal at t has the degree and the valuation of the infinite place
 -- that it gives.
-use Rattle.std.proofs.Common.{◌≡◌, ◌↔◌, ◌⊎◌, inl, inr, ℕ, List, map, subst}
+use Rattle.std.proofs.Common.{◌≡◌, ◌↔◌, ◌⊎◌, inl, inr, ℕ, List, map}
 use Rattle.std.specs.Prelude.{ℤ}
 use Rattle.ring_theory.specs.Subsets.{Span}
 use Rattle.prime_theory.specs.Ideals.{SameSet}
@@ -15,14 +15,13 @@ use Rattle.function_field.specs.Discriminant.{discriminant}
 use Rattle.function_field.specs.Values.{PresValue, Functions, functions, setting, equation_of}
 use Rattle.function_field.specs.Places.{IsPlace, IsIn, IsIntegralAt, HasValuation}
 use Rattle.function_field.specs.Divisors.{HasDegree}
-use Rattle.function_field.proofs.ScalarRings.{polynomials_subring, scalars_subring}
+use Rattle.function_field.proofs.ScalarRings.{scalars_subring}
 use Rattle.places_theory.specs.Orders.{IsOrderAt, InPrime}
 use Rattle.places_theory.proofs.PlaceValues.{valuation_iff}
 use Rattle.lattice_theory.specs.Lattices.{HasIndex}
-use Rattle.lattice_theory.proofs.Lattices.{lattice_module}
 use Rattle.order_theory.specs.Orders.{IsOrder, IsPrimeTo}
 use Rattle.order_theory.proofs.Degrees.{classes_of_index}
-use Rattle.order_theory.proofs.LocalOrders.{prime_to, order_integral, maximal_iff, order_polynomials, maximal_order_at}
+use Rattle.order_theory.proofs.LocalOrders.{order_integral, order_polynomials, maximal_order_at}
 use Rattle.order_theory.proofs.FinitePlaces.{finite}
 use Rattle.order_theory.proofs.PlaceEntries.{outside_same}
 use Rattle.infinite_theory.specs.InfiniteMaps.{IsInfiniteMap}

@@ -19,7 +19,6 @@ use Rattle.function_field.specs.Values.{PresValue, Functions, functions, setting
 use Rattle.function_field.specs.Places.{Place, IsPlace, IsIn, IsSamePlace, IsIntegralAt}
 use Rattle.function_field.proofs.ScalarRings.{finite_at_infinity_subring}
 use Rattle.lattice_theory.specs.Lattices.{IsLattice}
-use Rattle.lattice_theory.proofs.Lattices.{lattice_module}
 use Rattle.order_theory.specs.Orders.{IsOrder, IsPrimeTo}
 use Rattle.order_theory.proofs.InfinitePlaces.{infinite}
 use Rattle.order_theory.proofs.LocalOrders.{prime_to, order_integral, order_polynomials}

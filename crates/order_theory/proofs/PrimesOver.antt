@@ -31,7 +31,7 @@ use Rattle.places_theory.proofs.Decomposition.{prime_system}
 use Rattle.places_theory.specs.Reductions.{IsReduction, Primitive}
 use Rattle.lattice_theory.specs.Lattices.{IsLattice, space_ops}
 use Rattle.order_theory.specs.Orders.{IsOrder}
-use Rattle.lattice_theory.proofs.Lattices.{lattice_module, lattice_decided, lattice_generators}
+use Rattle.lattice_theory.proofs.Lattices.{lattice_decided, lattice_generators}
 use Rattle.lattice_theory.proofs.Indices.{codes, space, code_of, code_hom, lattice_subspace}
 use Rattle.lattice_theory.proofs.Between.{lattice_between}
 use Rattle.lattice_theory.proofs.Operations.{inverse_of, product_lattice, colon_lattice}

@@ -1,14 +1,11 @@
 -- Bases over k in the words of divisors.
-use Rattle.std.proofs.Common.{◌≡◌, ◌∙◌, List, [], ◌∷◌, refl, sym, ap, subst}
+use Rattle.std.proofs.Common.{◌≡◌, ◌∙◌, List, sym, ap, subst}
 use Rattle.ring_theory.specs.Subsets.{Span}
-use Rattle.ring_theory.specs.Lists.{coeff_of}
-use Rattle.ring_theory.specs.Polynomials.{constant}
-use Rattle.ring_theory.proofs.Evaluate.{length_trim}
 use Rattle.linear_theory.specs.Module.{combine}
 use Rattle.linear_theory.specs.Basis.{IsNull, IsBasis as IsBasisOver}
 use Rattle.ff_fields.specs.Field.{CodeField}
-use Rattle.ff_fields.specs.Code.{Code, code_ring}
-use Rattle.function_field.specs.Functions.{Equation, FunctionOf, ring_of, of_poly, setting_of, IsCode}
+use Rattle.ff_fields.specs.Code.{code_ring}
+use Rattle.function_field.specs.Functions.{Equation, FunctionOf, ring_of, setting_of, IsCode}
 use Rattle.function_field.specs.Divisors.{IsBasis}
 use Rattle.lattice_theory.specs.Lattices.{space_ops}
 use Rattle.lattice_theory.proofs.Indices.{code_of, code_hom}
