@@ -56,7 +56,7 @@ fn steps(alloc: Global, header: &str) -> Result<Vec<u64>, AllocError> {
 /// What stands behind the header in an answer.
 fn lines(alloc: Global, header: &str, script: &[u8]) -> Result<Vec<u8>, AllocError> {
     if let Some(p) = header::number(header, "first step of field ") {
-        return step::first_step(alloc, header, p as u32);
+        return step::first_step(alloc, header, u32::try_from(p).unwrap_or(0));
     }
     let steps = steps(alloc, header)?;
     if header::asks(header, "each ") {

@@ -25,7 +25,7 @@ pub fn answer(alloc: Global, word: &str, bytes: &[u8]) -> Result<Vec<u8>, AllocE
         "terms" => spellings::terms(alloc, true, bytes, n),
         "terms in x" => spellings::terms(alloc, false, bytes, n),
         "element" => spellings::element(alloc, bytes, n),
-        "sum" => spellings::sum(alloc, n as u32, bytes),
+        "sum" => spellings::sum(alloc, u32::try_from(n).unwrap_or(0), bytes),
         "poly" => forms::poly(alloc, bytes, n, kind == word),
         "elem" => forms::elem(alloc, bytes, n, kind == word),
         "long elem" => forms::long_elem(alloc, bytes),
