@@ -1,6 +1,6 @@
 //! Fields by tables of powers and logarithms.
 
-ghost use Rattle.std.specs.Prelude.{◌≡◌, ◌≢◌, ℕ, ◌+◌, ◌-◌, ◌%◌, ◌<◌, ◌≤◌, length, slice_index, get_or, IfOk, IfNone, IfSome};
+ghost use Rattle.std.specs.Prelude.{◌≡◌, ◌≢◌, ℕ, ◌+◌, ◌-◌, ◌%◌, ◌<◌, ◌≤◌, length, replicate, slice_index, IfOk, IfNone, IfSome};
 ghost use Rattle.ff_fields.specs.Field.{pow_of};
 ghost use Rattle.ff_fields.specs.Over.{IsOver};
 ghost use Rattle.ff_fields.specs.Standards.{standard_of};
@@ -114,6 +114,13 @@ fn with_sums<K: SmallField>(alloc: Global, k: &K, codes: &[u16], logs: &[u16]) -
     Ok(powers)
 }
 
+// n marks.
+fn marks(alloc: Global, n: usize) -> Result<Vec<u16>, AllocError>
+    ensures { IfOk result (λ v. v.items ≡ replicate n 65535) }
+{
+    vec![in alloc; MARK; n]
+}
+
 impl TableField {
     // The tables of a field that takes no memory.
     fn make(alloc: Global, base: Standard) -> Result<Option<TableField>, AllocError>
@@ -125,7 +132,7 @@ impl TableField {
     {
         let size = base.size() as usize;
         let mut codes = vec![in alloc; 0; size - 1]?;
-        let mut logs = vec![in alloc; MARK; size]?;
+        let mut logs = marks(alloc, size)?;
         let Some(generator) = generator(&base, &mut codes, &mut logs) else {
             return Ok(None);
         };

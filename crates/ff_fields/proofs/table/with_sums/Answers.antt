@@ -1,0 +1,14 @@
+use Rattle.std.proofs.Common.{◌≡◌, ◌+◌, ◌++◌, length, arith, refl, sym, ap, ◌∙◌, length-append, get_or, subst}
+use Rattle.ff_fields.proofs.TableSteps.{push_step}
+use Rattle.ff_fields.proofs.table.with_sums.Goals as goal
+
+pub loop-code-preserved : goal.loop-code-preserved
+loop-code-preserved g c =
+    let k = g.K.SmallField.field c.args.k.now in
+    let items = c.in_ok-push.ensures.items in
+    let before = c.loop-code.invariant in
+    record {
+      long = ap length items ∙ length-append c.loop-code.powers.items _ ∙ ap (λ w. w + 1) before.long;
+      each = push_step k.ops c.args.codes.now c.args.logs.now c.loop-code.powers.items c.push.new.self.items _ c.loop-code.code-index items
+          before.long before.each refl (ap (λ w. get_or c.args.logs.now w 0) c.add-sum.ensures);
+    }
