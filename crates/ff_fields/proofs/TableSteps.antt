@@ -244,14 +244,14 @@ module _ (k : CodeField) (g minus_one : ℕ) (powers : List Power) (logs : List 
         let power_b = pow_of k.ops g (get_or logs b 0) in
         let power_b_in = pow_of_below k g (get_or logs b 0) T.g_in in
         sym (
-          ap (λ w. k.mul w rest) (sym power_a)
-          ∙ ap (λ w. k.mul (pow_of k.ops g log) w) (ap (pow_of k.ops g) gap_is ∙ power_mod _)
-          ∙ sym (pow_of_add k g log _ T.g_in)
-          ∙ ap (pow_of k.ops g) whole
-          ∙ pow_of_add k g (length powers) (get_or logs b 0) T.g_in
-          ∙ ap (λ w. k.mul w power_b) turn
-          ∙ k.laws.one_mul power_b power_b_in
-          ∙ log_is b b_in b_some
+        ap (λ w. k.mul w rest) (sym power_a)
+        ∙ ap (λ w. k.mul (pow_of k.ops g log) w) (ap (pow_of k.ops g) gap_is ∙ power_mod _)
+        ∙ sym (pow_of_add k g log _ T.g_in)
+        ∙ ap (pow_of k.ops g) whole
+        ∙ pow_of_add k g (length powers) (get_or logs b 0) T.g_in
+        ∙ ap (λ w. k.mul w power_b) turn
+        ∙ k.laws.one_mul power_b power_b_in
+        ∙ log_is b b_in b_some
         )
 
     sum_in : k.add 1 rest < k.size
@@ -293,11 +293,11 @@ module _ (k : CodeField) (g minus_one : ℕ) (powers : List Power) (logs : List 
       let product_in = k.laws.mul_below (k.neg 1) a one_neg a_in in
       let neg_in = k.laws.neg_below a a_in in
       let cancels : k.add a product ≡ 0 =
-          ap (λ w. k.add w product) (sym (mul_one k a a_in))
-          ∙ ap (λ w. k.add (k.mul a 1) w) (k.laws.mul_comm (k.neg 1) a one_neg a_in)
-          ∙ sym (k.laws.mul_add a 1 (k.neg 1) a_in k.laws.one_below one_neg)
-          ∙ ap (k.mul a) (k.laws.add_comm 1 (k.neg 1) k.laws.one_below one_neg ∙ k.laws.neg_add 1 k.laws.one_below)
-          ∙ null_mul k a a_in in
+      ap (λ w. k.add w product) (sym (mul_one k a a_in))
+      ∙ ap (λ w. k.add (k.mul a 1) w) (k.laws.mul_comm (k.neg 1) a one_neg a_in)
+      ∙ sym (k.laws.mul_add a 1 (k.neg 1) a_in k.laws.one_below one_neg)
+      ∙ ap (k.mul a) (k.laws.add_comm 1 (k.neg 1) k.laws.one_below one_neg ∙ k.laws.neg_add 1 k.laws.one_below)
+      ∙ null_mul k a a_in in
       ap (λ w. k.mul w a) T.minus_one_is
       ∙ sym (k.laws.zero_add product product_in)
       ∙ ap (λ w. k.add w product) (sym (k.laws.neg_add a a_in))

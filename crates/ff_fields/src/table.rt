@@ -6,11 +6,10 @@ ghost use Rattle.ff_fields.specs.Over.{IsOver};
 ghost use Rattle.ff_fields.specs.Standards.{standard_of};
 ghost use Rattle.ff_fields.specs.Tables.{HasPowers, IsPowerOf, IsWritten};
 
-use std::alloc::{AllocError, Global};
-use std::marker::Model;
-
 use crate::field::SmallField;
 use crate::standard::{IsStandard, Standard};
+use std::alloc::{AllocError, Global};
+use std::marker::Model;
 
 // What stands for the logarithm of 0.
 const MARK: u16 = 65_535;
@@ -97,7 +96,12 @@ fn generator<K: SmallField>(k: &K, codes: &mut [u16], logs: &mut [u16]) -> Optio
 }
 
 // Each code c, with the logarithm of 1 + c beside it.
-fn with_sums<K: SmallField>(alloc: Global, k: &K, codes: &[u16], logs: &[u16]) -> Result<Vec<Power>, AllocError>
+fn with_sums<K: SmallField>(
+    alloc: Global,
+    k: &K,
+    codes: &[u16],
+    logs: &[u16],
+) -> Result<Vec<Power>, AllocError>
     requires codes_in { IsOver (K.field k.now).ops codes.now }
     requires logs_long { length logs.now ≡ (K.field k.now).size }
     ensures long { IfOk result (λ v. length v.items ≡ length codes.now) }

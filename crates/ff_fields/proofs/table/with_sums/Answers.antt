@@ -8,7 +8,7 @@ loop-code-preserved g c =
     let items = c.in_ok-push.ensures.items in
     let before = c.loop-code.invariant in
     record {
-      long = ap length items ∙ length-append c.loop-code.powers.items _ ∙ ap (λ w. w + 1) before.long;
+      long = omega (arith, c.in_ok-push.ensures.len, c.push.new.self.ok.0, c.loop-code.powers.ok.0, before.long);
       each = push_step k.ops c.args.codes.now c.args.logs.now c.loop-code.powers.items c.push.new.self.items _ c.loop-code.code-index items
           before.long before.each refl (ap (λ w. get_or c.args.logs.now w 0) c.add-sum.ensures);
     }
