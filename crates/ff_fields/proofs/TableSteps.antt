@@ -15,7 +15,7 @@ use Rattle.ff_fields.specs.Code.{zero_in}
 use Rattle.ff_fields.specs.Over.{IsOver}
 use Rattle.ff_fields.specs.Tables.{HasPowers, IsLog, IsPowerTable, IsLogTable, IsTables, IsWritten, IsPowerOf}
 use Rattle.ff_fields.proofs.Power.{pow_of_below, mul_one}
-use Rattle.ff_fields.proofs.PowerLaws.{pow_of_add, pow_of_mul, null_mul, cancel, inverse_is, pow_of_some, pow_of_order, pow_of_mod, pow_of_gap}
+use Rattle.ff_fields.proofs.PowerLaws.{pow_of_add, pow_of_mul, null_mul, inverse_is, pow_of_some, pow_of_order, pow_of_mod, pow_of_gap}
 use Rattle.ff_fields.proofs.Onto.{onto}
 
 module _ (k : CodeField) (g : ℕ) (g_in : g < k.size) (g_some : g ≢ 0) where

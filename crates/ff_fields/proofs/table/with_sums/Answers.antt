@@ -1,4 +1,4 @@
-use Rattle.std.proofs.Common.{◌≡◌, ◌+◌, ◌++◌, length, arith, refl, sym, ap, ◌∙◌, length-append, get_or, subst}
+use Rattle.std.proofs.Common.{arith, refl, ap, get_or}
 use Rattle.ff_fields.proofs.TableSteps.{push_step}
 use Rattle.ff_fields.proofs.table.with_sums.Goals as goal
 

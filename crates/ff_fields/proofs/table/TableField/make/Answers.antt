@@ -1,5 +1,5 @@
-use Rattle.std.proofs.Common.{◌≡◌, ℕ, ◌-◌, ◌<◌, ◌≤◌, length, replicate, get_or, arith, sym, ap, subst, ◌∙◌, subst}
-use Rattle.std.proofs.lemmas.List.{get_or-replicate, length-replicate}
+use Rattle.std.proofs.Common.{◌≡◌, ℕ, ◌<◌, length, get_or, arith, sym, ap, subst, ◌∙◌, subst}
+use Rattle.std.proofs.lemmas.List.{get_or-replicate}
 use Rattle.ff_fields.specs.Standards.{standard_of}
 use Rattle.ff_fields.specs.Over.{IsOver}
 use Rattle.ff_fields.specs.Tables.{IsLogTable, IsPowerOf}

@@ -1,4 +1,4 @@
-use Rattle.std.proofs.Common.{◌≡◌, ◌+◌, ◌-◌, ◌<◌, ◌≤◌, ◌∙◌, sym, ap, arith}
+use Rattle.std.proofs.Common.{◌∙◌, sym, ap, arith}
 use Rattle.ff_fields.specs.Code.{zero_in}
 use Rattle.ff_fields.specs.Standards.{standard_of}
 use Rattle.ff_fields.proofs.TableSteps.{tables_at, log_below, sum_null_at, next_at, sum_at}

@@ -1,4 +1,4 @@
-use Rattle.std.proofs.Common.{◌≡◌, ◌∙◌}
+use Rattle.std.proofs.Common.{◌∙◌}
 use Rattle.ff_fields.specs.Standards.{standard_of}
 use Rattle.ff_fields.proofs.TableSteps.{tables_at, inverse_at}
 use Rattle.ff_fields.proofs.table.TableFieldSmallField.inv.Goals as goal

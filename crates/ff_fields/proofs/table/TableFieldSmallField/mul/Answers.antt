@@ -1,4 +1,4 @@
-use Rattle.std.proofs.Common.{◌≡◌, ◌+◌, ◌<◌, ◌∙◌, arith}
+use Rattle.std.proofs.Common.{◌∙◌, arith}
 use Rattle.ff_fields.specs.Standards.{standard_of}
 use Rattle.ff_fields.proofs.TableSteps.{tables_at, log_below, product_at, zero_product}
 use Rattle.ff_fields.proofs.table.TableFieldSmallField.mul.Goals as goal

@@ -1,4 +1,4 @@
-use Rattle.std.proofs.Common.{◌≡◌, ◌<◌, ◌∙◌}
+use Rattle.std.proofs.Common.{◌∙◌}
 use Rattle.ff_fields.specs.Standards.{standard_of}
 use Rattle.ff_fields.proofs.TableSteps.{tables_at, minus_one_in, negative_is}
 use Rattle.ff_fields.proofs.table.TableFieldSmallField.neg.Goals as goal

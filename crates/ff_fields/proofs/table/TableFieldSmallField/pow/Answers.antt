@@ -1,7 +1,7 @@
-use Rattle.std.proofs.Common.{◌≡◌, ℕ, ◌-◌, ◌*◌, ◌%◌, ◌<◌, ◌≤◌, ◌∙◌, length, arith, refl, mod-lt}
+use Rattle.std.proofs.Common.{◌%◌, ◌<◌, ◌≤◌, ◌∙◌, arith, refl, mod-lt}
 use Rattle.std.proofs.Math.Nat.{mul-le-mul_left}
 use Rattle.ff_fields.specs.Standards.{standard_of}
-use Rattle.ff_fields.proofs.TableSteps.{tables_at, log_below, n_pos, power_at, zero_power}
+use Rattle.ff_fields.proofs.TableSteps.{tables_at, log_below, power_at, zero_power}
 use Rattle.ff_fields.proofs.table.TableFieldSmallField.pow.Goals as goal
 
 pub returns-else-e-eq0 : goal.returns-else-e-eq0
