@@ -105,7 +105,8 @@ fn with_sums<K: SmallField>(
     requires codes_in { IsOver (K.field k.now).ops codes.now }
     requires logs_long { length logs.now ≡ (K.field k.now).size }
     ensures long { IfOk result (λ v. length v.items ≡ length codes.now) }
-    ensures each { IfOk result (λ v. (i : ℕ) → i < length codes.now → IsPowerOf (K.field k.now).ops codes.now logs.now v.items i) }
+    ensures each { IfOk result (λ v. (i : ℕ) → i < length codes.now
+        → IsPowerOf (K.field k.now).ops codes.now logs.now v.items i) }
 {
     let mut powers = Vec::with_capacity(alloc, codes.len())?;
     for code in codes {
@@ -153,8 +154,8 @@ impl TableField {
 
     /// The same field by tables, with sums in odd characteristic by tables too.
     ///
-    /// `None` exactly where no code has q - 1 different powers, q being the size. At most 40 codes are tried for the fields
-    /// of at most 65,536 elements, each by the products up to its first power that is 1. Takes 6 bytes for each element.
+    /// `None` exactly where no code has q - 1 different powers, q being the size. The codes are tried from 1 on, each by as
+    /// many products as it has different powers. The tables take 6 bytes for each element, and 2 more while they are made.
     pub fn new<B: IsStandard>(alloc: Global, base: &B) -> Result<Option<TableField>, AllocError>
         ensures made { IfOk result (λ o. IfSome o (λ t. standard_of t ≡ B.field base.now)) }
         ensures some { IfOk result (λ o. IfSome o (λ _. (g : ℕ) × ((g < (B.field base.now).size)
