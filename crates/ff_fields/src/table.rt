@@ -191,6 +191,12 @@ fn reduced(log: usize, n: usize) -> usize
     if log < n { log } else { log - n }
 }
 
+impl IsStandard for TableField {
+    fn standard(&self) -> Standard {
+        self.base
+    }
+}
+
 impl SmallField for TableField {
     ghost use Rattle.ff_fields.specs.Standards.{standard_of};
 
