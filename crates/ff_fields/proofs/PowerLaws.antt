@@ -68,10 +68,10 @@ module _ (k : CodeField) where
       let rest = pow_of k.ops a (e % n) in
       let rest_in = pow_of_below k a (e % n) a_in in
       sym (
-        ap (pow_of k.ops a) (parts n e)
-        ∙ pow_of_add a (n * (e / n)) (e % n) a_in
-        ∙ ap (λ w. k.mul w rest) (sym (pow_of_mul a n (e / n) a_in) ∙ ap (λ w. pow_of k.ops w (e / n)) (pow_of_order a a_in some) ∙ pow_of_one (e / n))
-        ∙ k.laws.one_mul rest rest_in
+      ap (pow_of k.ops a) (parts n e)
+      ∙ pow_of_add a (n * (e / n)) (e % n) a_in
+      ∙ ap (λ w. k.mul w rest) (sym (pow_of_mul a n (e / n) a_in) ∙ ap (λ w. pow_of k.ops w (e / n)) (pow_of_order a a_in some) ∙ pow_of_one (e / n))
+      ∙ k.laws.one_mul rest rest_in
       )
     where
       parts : (n e : ℕ) → e ≡ n * (e / n) + e % n

@@ -1,17 +1,21 @@
 -- The tables of powers and logarithms, and what they answer.
-use Rattle.std.specs.Prelude.{◌≢◌, ◌-◌, ◌*◌, ◌%◌, ◌≤◌, ◌⊎◌, List, length, get_or}
-use Rattle.std.proofs.Common.{◌≡◌, ℕ, zero, suc, ◌+◌, ◌<◌, refl, sym, ap, subst, inl, inr, ◌∙◌, arith, mod-lt, eq-or-lt_of_le}
-use Rattle.std.proofs.Math.ListN.{set}
+use Rattle.std.specs.Prelude.{◌≢◌, ◌-◌, ◌*◌, ◌%◌, ◌≤◌, ◌⊎◌, List, [], ◌∷◌, ◌++◌, length, get_or, take, drop}
+use Rattle.std.proofs.Common.{◌≡◌, ℕ, zero, suc, ◌+◌, ◌<◌, refl, sym, ap, ap₂, subst, inl, inr, ◌∙◌, arith, mod-lt, eq-or-lt_of_le}
+use Rattle.std.proofs.Math.ListN.{set, get_or-append}
+use Rattle.std.proofs.Math.Seq.{get_or-append_seam, take-append_seam}
 use Rattle.std.proofs.lemmas.Nat.{mul-mod_second}
-use Rattle.std.proofs.lemmas.Grind.{get_or-set_at}
+use Rattle.std.proofs.lemmas.Grind.{get_or-set_at, get_or_default_zero}
 use Rattle.std.proofs.lemmas.List.{get_or-set_other}
 use Rattle.std.proofs.lemmas.Bool.{cases_eq, cases_lt}
 use Rattle.ff_fields.specs.declared.table.Power.{Power}
-use Rattle.ff_fields.specs.Field.{CodeField, pow_of}
+use Rattle.ff_fields.specs.declared.standard.Standard.{Standard}
+use Rattle.ff_fields.specs.Field.{FieldOps, CodeField, pow_of}
+use Rattle.ff_fields.specs.Standards.{standard_of}
 use Rattle.ff_fields.specs.Code.{zero_in}
+use Rattle.ff_fields.specs.Over.{IsOver}
 use Rattle.ff_fields.specs.Tables.{HasPowers, IsLog, IsPowerTable, IsLogTable, IsTables, IsWritten, IsPowerOf}
 use Rattle.ff_fields.proofs.Power.{pow_of_below, mul_one}
-use Rattle.ff_fields.proofs.PowerLaws.{pow_of_add, pow_of_mul, null_mul, cancel, inverse_is, pow_of_some, pow_of_order, pow_of_mod, pow_of_gap}
+use Rattle.ff_fields.proofs.PowerLaws.{pow_of_add, pow_of_mul, null_mul, inverse_is, pow_of_some, pow_of_order, pow_of_mod, pow_of_gap}
 use Rattle.ff_fields.proofs.Onto.{onto}
 
 module _ (k : CodeField) (g : ℕ) (g_in : g < k.size) (g_some : g ≢ 0) where
@@ -107,6 +111,13 @@ module _ (k : CodeField) (g : ℕ) (g_in : g < k.size) (g_some : g ≢ 0) where
           let found = log_of c c_in some in
           let is : get_or logs c 0 ≡ found.0 = ap (λ w. get_or logs w 0) (sym found.1.1) ∙ written.log_is found.0 found.1.0 in
           (subst (λ w. w < k.size - 1) (sym is) found.1.0, ap (pow_of k.ops g) is ∙ found.1.1);
+    }
+
+    pub codes_over : length codes ≡ k.size - 1 → IsOver k.ops codes
+    codes_over long = record {
+      each = λ i d less.
+          let within = subst (λ w. i < w) long less in
+          subst (λ w. w < k.size) (sym (get_or_default_zero codes i d less ∙ written.code_is i within)) (pow_of_below k g i g_in);
     }
 
     pub log_table : IsLogTable k.ops g logs
@@ -233,14 +244,14 @@ module _ (k : CodeField) (g minus_one : ℕ) (powers : List Power) (logs : List 
         let power_b = pow_of k.ops g (get_or logs b 0) in
         let power_b_in = pow_of_below k g (get_or logs b 0) T.g_in in
         sym (
-          ap (λ w. k.mul w rest) (sym power_a)
-          ∙ ap (λ w. k.mul (pow_of k.ops g log) w) (ap (pow_of k.ops g) gap_is ∙ power_mod _)
-          ∙ sym (pow_of_add k g log _ T.g_in)
-          ∙ ap (pow_of k.ops g) whole
-          ∙ pow_of_add k g (length powers) (get_or logs b 0) T.g_in
-          ∙ ap (λ w. k.mul w power_b) turn
-          ∙ k.laws.one_mul power_b power_b_in
-          ∙ log_is b b_in b_some
+        ap (λ w. k.mul w rest) (sym power_a)
+        ∙ ap (λ w. k.mul (pow_of k.ops g log) w) (ap (pow_of k.ops g) gap_is ∙ power_mod _)
+        ∙ sym (pow_of_add k g log _ T.g_in)
+        ∙ ap (pow_of k.ops g) whole
+        ∙ pow_of_add k g (length powers) (get_or logs b 0) T.g_in
+        ∙ ap (λ w. k.mul w power_b) turn
+        ∙ k.laws.one_mul power_b power_b_in
+        ∙ log_is b b_in b_some
         )
 
     sum_in : k.add 1 rest < k.size
@@ -282,11 +293,11 @@ module _ (k : CodeField) (g minus_one : ℕ) (powers : List Power) (logs : List 
       let product_in = k.laws.mul_below (k.neg 1) a one_neg a_in in
       let neg_in = k.laws.neg_below a a_in in
       let cancels : k.add a product ≡ 0 =
-          ap (λ w. k.add w product) (sym (mul_one k a a_in))
-          ∙ ap (λ w. k.add (k.mul a 1) w) (k.laws.mul_comm (k.neg 1) a one_neg a_in)
-          ∙ sym (k.laws.mul_add a 1 (k.neg 1) a_in k.laws.one_below one_neg)
-          ∙ ap (k.mul a) (k.laws.add_comm 1 (k.neg 1) k.laws.one_below one_neg ∙ k.laws.neg_add 1 k.laws.one_below)
-          ∙ null_mul k a a_in in
+      ap (λ w. k.add w product) (sym (mul_one k a a_in))
+      ∙ ap (λ w. k.add (k.mul a 1) w) (k.laws.mul_comm (k.neg 1) a one_neg a_in)
+      ∙ sym (k.laws.mul_add a 1 (k.neg 1) a_in k.laws.one_below one_neg)
+      ∙ ap (k.mul a) (k.laws.add_comm 1 (k.neg 1) k.laws.one_below one_neg ∙ k.laws.neg_add 1 k.laws.one_below)
+      ∙ null_mul k a a_in in
       ap (λ w. k.mul w a) T.minus_one_is
       ∙ sym (k.laws.zero_add product product_in)
       ∙ ap (λ w. k.add w product) (sym (k.laws.neg_add a a_in))
@@ -297,3 +308,100 @@ module _ (k : CodeField) (g minus_one : ℕ) (powers : List Power) (logs : List 
 
   pub minus_one_in : minus_one < k.size
   minus_one_in = subst (λ w. w < k.size) (sym T.minus_one_is) (k.laws.neg_below 1 k.laws.one_below)
+
+  -- the same, of what was read from the tables
+
+  log_read : (a la : ℕ) → a < k.size → la ≡ get_or logs a la → la ≡ get_or logs a 0
+  log_read a la a_in is = is ∙ get_or_default_zero logs a la (subst (λ w. a < w) (sym T.logs_are.long) a_in)
+
+  pub log_below : (a la m : ℕ) → a < k.size → a ≢ 0 → la ≡ get_or logs a la → m ≡ length powers → la < m
+  log_below a la m a_in some is m_is =
+      let small = log_in a a_in some in
+      let same = log_read a la a_in is in
+      omega (arith, small, same, m_is)
+
+  pub product_at : (a b la lb m i : ℕ) (entry : Power) → a < k.size → b < k.size → a ≢ 0 → b ≢ 0 → la ≡ get_or logs a la → lb ≡ get_or logs b lb → m ≡ length powers → i ≡ (la + lb) % m → entry ≡ get_or powers i entry → entry.code ≡ k.mul a b
+  product_at a b la lb m i entry a_in b_in a_some b_some la_is lb_is m_is i_is read =
+      ap (λ (e : Power). e.code) read
+      ∙ product_entry a b i entry a_in b_in a_some b_some
+      (i_is ∙ ap₂ (λ x y. (x + y) % m) (log_read a la a_in la_is) (log_read b lb b_in lb_is) ∙ ap (λ w. (get_or logs a 0 + get_or logs b 0) % w) m_is)
+
+  pub inverse_at : (a la m i : ℕ) (entry : Power) → a < k.size → a ≢ 0 → la ≡ get_or logs a la → m ≡ length powers → i ≡ (m - la) % m → entry ≡ get_or powers i entry → entry.code ≡ k.inv a
+  inverse_at a la m i entry a_in some la_is m_is i_is read =
+      ap (λ (e : Power). e.code) read
+      ∙ inverse_entry a i entry a_in some
+      (i_is ∙ ap (λ x. (m - x) % m) (log_read a la a_in la_is) ∙ ap (λ w. (w - get_or logs a 0) % w) m_is)
+
+  pub power_at : (a e la m i : ℕ) (entry : Power) → a < k.size → a ≢ 0 → la ≡ get_or logs a la → m ≡ length powers → i ≡ la * (e % m) % m → entry ≡ get_or powers i entry → entry.code ≡ pow_of k.ops a e
+  power_at a e la m i entry a_in some la_is m_is i_is read =
+      ap (λ (e : Power). e.code) read
+      ∙ power_entry a e i entry a_in some
+      (i_is ∙ ap (λ x. x * (e % m) % m) (log_read a la a_in la_is) ∙ ap (λ w. get_or logs a 0 * (e % w) % w) m_is)
+
+  module _ (a b la lb m gap : ℕ) (at_gap : Power) (a_in : a < k.size) (b_in : b < k.size) (a_some : a ≢ 0) (b_some : b ≢ 0) (la_is : la ≡ get_or logs a la) (lb_is : lb ≡ get_or logs b lb) (m_is : m ≡ length powers) (gap_is : gap ≡ (lb + (m - la)) % m) (read : at_gap ≡ get_or powers gap at_gap) where
+    gap_same : gap ≡ (get_or logs b 0 + (length powers - get_or logs a 0)) % length powers
+    gap_same =
+        gap_is
+        ∙ ap₂ (λ x y. (x + (m - y)) % m) (log_read b lb b_in lb_is) (log_read a la a_in la_is)
+        ∙ ap (λ w. (get_or logs b 0 + (w - get_or logs a 0)) % w) m_is
+
+    next_same : at_gap.next ≡ (get_or powers gap at_gap).next
+    next_same = ap (λ (e : Power). e.next) read
+
+    other_at : at_gap.next ≢ 65535 → (get_or powers gap at_gap).next ≢ 65535
+    other_at other e = other (next_same ∙ e)
+
+    pub sum_null_at : at_gap.next ≡ 65535 → 0 ≡ k.add a b
+    sum_null_at marked = sum_null a b gap at_gap a_in b_in a_some b_some gap_same (sym next_same ∙ marked)
+
+    pub next_at : at_gap.next ≢ 65535 → at_gap.next < m
+    next_at other =
+        let small = next_in a b gap at_gap a_in b_in a_some b_some gap_same (other_at other) in
+        omega (arith, small, next_same, m_is)
+
+    pub sum_at : (i : ℕ) (entry : Power) → at_gap.next ≢ 65535 → i ≡ (la + at_gap.next) % m → entry ≡ get_or powers i entry → entry.code ≡ k.add a b
+    sum_at i entry other i_is found =
+        ap (λ (e : Power). e.code) found
+        ∙ sum_entry a b gap at_gap a_in b_in a_some b_some gap_same i entry (other_at other)
+        (i_is ∙ ap₂ (λ x y. (x + y) % m) (log_read a la a_in la_is) next_same ∙ ap (λ w. (get_or logs a 0 + (get_or powers gap at_gap).next) % w) m_is)
+
+-- a product with 0, and a positive power of 0
+pub zero_product : (k : CodeField) (a b : ℕ) → a < k.size → b < k.size → (a ≡ 0) ⊎ ((a ≡ 0 → ⊥) × (b ≡ 0)) → 0 ≡ k.mul a b
+zero_product k a b a_in b_in (inl e) = sym (ap (λ w. k.mul w b) e ∙ k.laws.mul_comm 0 b (zero_in k) b_in ∙ null_mul k b b_in)
+zero_product k a b a_in b_in (inr p) = sym (ap (k.mul a) p.1 ∙ null_mul k a a_in)
+
+pub zero_power : (k : CodeField) (a e : ℕ) → a ≡ 0 → e ≢ 0 → 0 ≡ pow_of k.ops a e
+zero_power k a zero a_is some = absurd (some refl)
+zero_power k a (suc e) a_is some =
+    let rest = pow_of k.ops 0 e in
+    let rest_in = pow_of_below k 0 e (zero_in k) in
+    sym (ap (λ w. pow_of k.ops w (suc e)) a_is ∙ k.laws.mul_comm 0 rest (zero_in k) rest_in ∙ null_mul k rest rest_in)
+
+-- one more entry of the table of powers
+pub push_step : (k : FieldOps) (codes logs : List ℕ) (before after : List Power) (p : Power) (m : ℕ) → after ≡ before ++ p ∷ [] → length before ≡ m → ((i : ℕ) → i < m → IsPowerOf k codes logs before i) → p.code ≡ get_or codes m 0 → p.next ≡ get_or logs (k.add 1 (get_or codes m 0)) 0 → (i : ℕ) → i < m + 1 → IsPowerOf k codes logs after i
+push_step k codes logs before after p m after_is long each code_is next_is i less =
+    let le : i ≤ m = omega arith in
+    subst (λ w. IsPowerOf k codes logs w i) (sym after_is) (go (eq-or-lt_of_le le))
+  where
+    last : (d : Power) → i ≡ m → get_or (before ++ p ∷ []) i d ≡ p
+    last d e = ap (λ w. get_or (before ++ p ∷ []) w d) (e ∙ sym long) ∙ get_or-append_seam before p [] d
+
+    go : (i ≡ m) ⊎ (i < m) → IsPowerOf k codes logs (before ++ p ∷ []) i
+    go (inl e) = record {
+      code_is = λ d. ap (λ (w : Power). w.code) (last d e) ∙ code_is ∙ ap (λ w. get_or codes w 0) (sym e);
+      next_is = λ d. ap (λ (w : Power). w.next) (last d e) ∙ next_is ∙ ap (λ w. get_or logs (k.add 1 (get_or codes w 0)) 0) (sym e);
+    }
+    go (inr smaller) =
+        let inside : i < length before = subst (λ w. i < w) (sym long) smaller in
+        record {
+          code_is = λ d. ap (λ (w : Power). w.code) (get_or-append before (p ∷ []) d i inside) ∙ (each i smaller).code_is d;
+          next_is = λ d. ap (λ (w : Power). w.next) (get_or-append before (p ∷ []) d i inside) ∙ (each i smaller).next_is d;
+        }
+
+-- the tables of a field that is seen as another value
+pub tables_at : (base now : Standard) (g minus_one : ℕ) (powers : List Power) (logs : List ℕ) → base ≡ now → IsTables (standard_of base).ops g minus_one powers logs → IsTables (standard_of now).ops g minus_one powers logs
+tables_at base now g minus_one powers logs same T = subst (λ v. IsTables (standard_of v).ops g minus_one powers logs) same T
+
+-- a list that was written through a slice of the whole
+pub written_back : (xs ys : List ℕ) (m : ℕ) → m ≡ length xs → take m (xs ++ drop (length xs) ys) ≡ xs
+written_back xs ys m is = ap (λ w. take w (xs ++ drop (length xs) ys)) is ∙ take-append_seam xs (drop (length xs) ys)

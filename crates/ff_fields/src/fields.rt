@@ -1,16 +1,40 @@
-//! A small field of either kind.
+//! A small field of any kind.
+
+ghost use Rattle.std.specs.Prelude.{◌≡◌, IfOk};
+ghost use Rattle.ff_fields.specs.Fields.{field_of};
 
 use crate::field::SmallField;
 use crate::prime::PrimeField;
 use crate::residue::ResidueField;
+use crate::standard::{IsStandard, Standard};
+use crate::table::TableField;
+use std::alloc::{AllocError, Global};
 
-/// A field of either kind. Each call is that of the field it holds, at the same cost.
-#[derive(Clone, Copy)]
+/// A field of any kind. Each call is that of the field it holds, at the same cost.
+#[derive(Drop)]
 pub enum Field {
     /// The numbers modulo a prime.
     Prime(PrimeField),
     /// Polynomials modulo a monic one.
     Residue(ResidueField),
+    /// A field of either kind by tables, which it owns.
+    Table(TableField),
+}
+
+impl Field {
+    /// The same field, in memory of its own.
+    pub fn copy(&self, alloc: Global) -> Result<Field, AllocError>
+        ensures { IfOk result (λ k. k ≡ self.now) }
+    {
+        match self {
+            Field::Prime(k) => Ok(Field::Prime(*k)),
+            Field::Residue(k) => Ok(Field::Residue(*k)),
+            Field::Table(k) => {
+                let table = k.copy(alloc)?;
+                Ok(Field::Table(table))
+            }
+        }
+    }
 }
 
 impl SmallField for Field {
@@ -22,6 +46,7 @@ impl SmallField for Field {
         match self {
             Field::Prime(k) => k.size(),
             Field::Residue(k) => k.size(),
+            Field::Table(k) => k.size(),
         }
     }
 
@@ -29,6 +54,7 @@ impl SmallField for Field {
         match self {
             Field::Prime(k) => k.characteristic(),
             Field::Residue(k) => k.characteristic(),
+            Field::Table(k) => k.characteristic(),
         }
     }
 
@@ -36,6 +62,7 @@ impl SmallField for Field {
         match self {
             Field::Prime(k) => k.add(a, b),
             Field::Residue(k) => k.add(a, b),
+            Field::Table(k) => k.add(a, b),
         }
     }
 
@@ -43,6 +70,7 @@ impl SmallField for Field {
         match self {
             Field::Prime(k) => k.sub(a, b),
             Field::Residue(k) => k.sub(a, b),
+            Field::Table(k) => k.sub(a, b),
         }
     }
 
@@ -50,6 +78,7 @@ impl SmallField for Field {
         match self {
             Field::Prime(k) => k.neg(a),
             Field::Residue(k) => k.neg(a),
+            Field::Table(k) => k.neg(a),
         }
     }
 
@@ -57,6 +86,7 @@ impl SmallField for Field {
         match self {
             Field::Prime(k) => k.mul(a, b),
             Field::Residue(k) => k.mul(a, b),
+            Field::Table(k) => k.mul(a, b),
         }
     }
 
@@ -64,6 +94,25 @@ impl SmallField for Field {
         match self {
             Field::Prime(k) => k.inv(a),
             Field::Residue(k) => k.inv(a),
+            Field::Table(k) => k.inv(a),
+        }
+    }
+
+    fn pow(&self, a: u32, e: u64) -> u32 {
+        match self {
+            Field::Prime(k) => k.pow(a, e),
+            Field::Residue(k) => k.pow(a, e),
+            Field::Table(k) => k.pow(a, e),
+        }
+    }
+}
+
+impl IsStandard for Field {
+    fn standard(&self) -> Standard {
+        match self {
+            Field::Prime(k) => k.standard(),
+            Field::Residue(k) => k.standard(),
+            Field::Table(k) => k.standard(),
         }
     }
 }

@@ -7,7 +7,8 @@ use crate::field::SmallField;
 use crate::prime::PrimeField;
 use crate::residue::ResidueField;
 
-/// A field by its definition, of either kind. It takes no memory. Each call is that of the field it holds, at the same cost.
+/// A field by its definition, of either kind. It takes no memory. Each call is that of the field it holds, at the same
+/// cost.
 #[derive(Clone, Copy)]
 pub enum Standard {
     /// The numbers modulo a prime.

@@ -1,16 +1,15 @@
 //! Fields by tables of powers and logarithms.
 
-ghost use Rattle.std.specs.Prelude.{◌≡◌, ◌≢◌, ℕ, ◌+◌, ◌-◌, ◌%◌, ◌<◌, ◌≤◌, length, slice_index, get_or, IfOk, IfNone, IfSome};
+ghost use Rattle.std.specs.Prelude.{◌≡◌, ◌≢◌, ℕ, ◌+◌, ◌-◌, ◌%◌, ◌<◌, ◌≤◌, length, replicate, slice_index, IfOk, IfNone, IfSome};
 ghost use Rattle.ff_fields.specs.Field.{pow_of};
 ghost use Rattle.ff_fields.specs.Over.{IsOver};
 ghost use Rattle.ff_fields.specs.Standards.{standard_of};
 ghost use Rattle.ff_fields.specs.Tables.{HasPowers, IsPowerOf, IsWritten};
 
-use std::alloc::{AllocError, Global};
-use std::marker::Model;
-
 use crate::field::SmallField;
 use crate::standard::{IsStandard, Standard};
+use std::alloc::{AllocError, Global};
+use std::marker::Model;
 
 // What stands for the logarithm of 0.
 const MARK: u16 = 65_535;
@@ -97,11 +96,17 @@ fn generator<K: SmallField>(k: &K, codes: &mut [u16], logs: &mut [u16]) -> Optio
 }
 
 // Each code c, with the logarithm of 1 + c beside it.
-fn with_sums<K: SmallField>(alloc: Global, k: &K, codes: &[u16], logs: &[u16]) -> Result<Vec<Power>, AllocError>
+fn with_sums<K: SmallField>(
+    alloc: Global,
+    k: &K,
+    codes: &[u16],
+    logs: &[u16],
+) -> Result<Vec<Power>, AllocError>
     requires codes_in { IsOver (K.field k.now).ops codes.now }
     requires logs_long { length logs.now ≡ (K.field k.now).size }
     ensures long { IfOk result (λ v. length v.items ≡ length codes.now) }
-    ensures each { IfOk result (λ v. (i : ℕ) → i < length codes.now → IsPowerOf (K.field k.now).ops codes.now logs.now v.items i) }
+    ensures each { IfOk result (λ v. (i : ℕ) → i < length codes.now
+        → IsPowerOf (K.field k.now).ops codes.now logs.now v.items i) }
 {
     let mut powers = Vec::with_capacity(alloc, codes.len())?;
     for code in codes {
@@ -112,6 +117,13 @@ fn with_sums<K: SmallField>(alloc: Global, k: &K, codes: &[u16], logs: &[u16]) -
         })?;
     }
     Ok(powers)
+}
+
+// n marks.
+fn marks(alloc: Global, n: usize) -> Result<Vec<u16>, AllocError>
+    ensures { IfOk result (λ v. v.items ≡ replicate n 65535) }
+{
+    vec![in alloc; MARK; n]
 }
 
 impl TableField {
@@ -125,7 +137,7 @@ impl TableField {
     {
         let size = base.size() as usize;
         let mut codes = vec![in alloc; 0; size - 1]?;
-        let mut logs = vec![in alloc; MARK; size]?;
+        let mut logs = marks(alloc, size)?;
         let Some(generator) = generator(&base, &mut codes, &mut logs) else {
             return Ok(None);
         };
@@ -142,8 +154,8 @@ impl TableField {
 
     /// The same field by tables, with sums in odd characteristic by tables too.
     ///
-    /// `None` exactly where no code has q - 1 different powers, q being the size. At most 40 codes are tried for the fields
-    /// of at most 65,536 elements, each by the products up to its first power that is 1. Takes 6 bytes for each element.
+    /// `None` exactly where no code has q - 1 different powers, q being the size. The codes are tried from 1 on, each by as
+    /// many products as it has different powers. The tables take 6 bytes for each element, and 2 more while they are made.
     pub fn new<B: IsStandard>(alloc: Global, base: &B) -> Result<Option<TableField>, AllocError>
         ensures made { IfOk result (λ o. IfSome o (λ t. standard_of t ≡ B.field base.now)) }
         ensures some { IfOk result (λ o. IfSome o (λ _. (g : ℕ) × ((g < (B.field base.now).size)
@@ -177,6 +189,12 @@ fn reduced(log: usize, n: usize) -> usize
     ensures { result ≡ log % n }
 {
     if log < n { log } else { log - n }
+}
+
+impl IsStandard for TableField {
+    fn standard(&self) -> Standard {
+        self.base
+    }
 }
 
 impl SmallField for TableField {
