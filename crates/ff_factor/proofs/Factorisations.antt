@@ -18,7 +18,7 @@ use Rattle.ff_poly.proofs.Parts.{value_multiple, IsPoly_multiple_of, IsMonic_mul
 use Rattle.ff_poly.proofs.PowerRests.{IsOver_one, IsOver_power_of, value_power}
 use Rattle.ff_falg.specs.Algebras.{IsPrimitive}
 use Rattle.ff_falg.specs.Idempotents.{IsPrimitiveList}
-use Rattle.ff_factor.specs.Factors.{IsFactorisation, AreAscending, polys_of, product_of_parts}
+use Rattle.ff_factor.specs.Factors.{IsFactorisation, AreAscendingPolys, polys_of, product_of_parts}
 use Rattle.polynomial_theory.proofs.ListValues.{length_value, value_scale_list}
 use Rattle.ff_factor.specs.Primes.{IsPrimeAt}
 use Rattle.ff_factor.specs.Pulls.{ArePrimesOf, IsPrimeList, IsSplitOff, value_of_parts}
@@ -178,7 +178,7 @@ module _ (k : CodeField) where
         over = all_of_in (IsOver k.ops) (polys_of parts) over;
         irreducible = all_of_in (IsIrreducible k.ops) (polys_of parts) (λ p i. made_primes.irreducible p (subst (In p) s.polys i));
         exponents = s.exponents;
-        ascending = subst AreAscending (sym s.polys) primes.ascending;
+        ascending = subst AreAscendingPolys (sym s.polys) primes.ascending;
         product = ap (multiple_of k.ops (product_of_parts k.ops parts)) unit_is ∙ product_is g parts rest g_in g_poly s.over size over s.product;
       }
         where

@@ -14,7 +14,7 @@ use Rattle.ff_poly.specs.Words.{IsIrreducible}
 use Rattle.ff_poly.specs.Value.{value}
 use Rattle.ff_poly.specs.Polynomials.{Polynomial, polynomials, constant_poly}
 use Rattle.ff_factor.specs.LowestTerms.{HasFactorsOf}
-use Rattle.ff_factor.specs.Factors.{FactorsValue, IsFactorisation, IsBefore, AreAscending, polys_of}
+use Rattle.ff_factor.specs.Factors.{FactorsValue, IsFactorisation, IsBeforePoly, AreAscendingPolys, polys_of}
 use Rattle.polynomial_theory.proofs.ListValues.{length_value, monic_poly, same_lists}
 use Rattle.ff_factor.specs.Pulls.{value_of_parts}
 use Rattle.polynomial_theory.proofs.Division.{euclidean}
@@ -28,7 +28,7 @@ use Rattle.ff_factor.proofs.Orders.{before_trans, before_irreflexive}
 use Rattle.ff_factor.proofs.SplitSteps.{in_of_all, of_parts}
 
 -- ascending lists with the same members are equal
-one_order : (ps qs : List (List ℕ)) → AreAscending ps → AreAscending qs → ((x : List ℕ) → In x ps → In x qs) → ((x : List ℕ) → In x qs → In x ps) → ps ≡ qs
+one_order : (ps qs : List (List ℕ)) → AreAscendingPolys ps → AreAscendingPolys qs → ((x : List ℕ) → In x ps → In x qs) → ((x : List ℕ) → In x qs → In x ps) → ps ≡ qs
 one_order [] [] p_up q_up to back = refl
 one_order [] (q ∷ qs) p_up q_up to back = absurd (back q (inl refl))
 one_order (p ∷ ps) [] p_up q_up to back = absurd (to p (inl refl))
@@ -39,16 +39,16 @@ one_order (p ∷ ps) (q ∷ qs) p_up q_up to back =
     heads (inl e) other = e
     heads (inr i) (inl e) = sym e
     heads (inr i) (inr j) =
-        absurd (before_irreflexive p (before_trans p q p (in_of_all (IsBefore p) ps p_up.0 q j) (in_of_all (IsBefore q) qs q_up.0 p i)))
+        absurd (before_irreflexive p (before_trans p q p (in_of_all (IsBeforePoly p) ps p_up.0 q j) (in_of_all (IsBeforePoly q) qs q_up.0 p i)))
 
     first : p ≡ q
     first = heads (to p (inl refl)) (back q (inl refl))
 
-    inner : (p q : List ℕ) (ps qs : List (List ℕ)) → p ≡ q → All (IsBefore p) ps → ((x : List ℕ) → In x (p ∷ ps) → In x (q ∷ qs)) → (x : List ℕ) → In x ps → In x qs
+    inner : (p q : List ℕ) (ps qs : List (List ℕ)) → p ≡ q → All (IsBeforePoly p) ps → ((x : List ℕ) → In x (p ∷ ps) → In x (q ∷ qs)) → (x : List ℕ) → In x ps → In x qs
     inner p q ps qs same up to x i = go (to x (inr i))
       where
         go : (x ≡ q) ⊎ In x qs → In x qs
-        go (inl e) = absurd (before_irreflexive p (subst (IsBefore p) (e ∙ sym same) (in_of_all (IsBefore p) ps up x i)))
+        go (inl e) = absurd (before_irreflexive p (subst (IsBeforePoly p) (e ∙ sym same) (in_of_all (IsBeforePoly p) ps up x i)))
         go (inr j) = j
 
 module _ (k : CodeField) where
@@ -104,21 +104,21 @@ module _ (k : CodeField) where
       (divisor_product P (value k x) (value_of_parts k a.parts) (constant_poly k a.unit) (member_divides a.parts h.exponents x i)))
 
   -- a prime that isn't among the parts divides no product of their powers and a unit
-  free_of : (p : List ℕ) → IsPrime k p → (fs : List (List ℕ × ℕ)) → ((q : List ℕ) → In q (polys_of fs) → IsPrime k q) → All (IsBefore p) (polys_of fs)
+  free_of : (p : List ℕ) → IsPrime k p → (fs : List (List ℕ × ℕ)) → ((q : List ℕ) → In q (polys_of fs) → IsPrime k q) → All (IsBeforePoly p) (polys_of fs)
       → (u : Polynomial k) → IsUnit P.ops u → ¬ IsDivisor P.ops (value k p) (value_of_parts k fs ⊗ u)
   free_of p h fs primes after u unit d = go (prime k (value k p) (of_codes k p h) (value_of_parts k fs) u d)
     where
       different : (q : List ℕ) → In q (polys_of fs) → ¬ IsDivisor P.ops (value k p) (value k q)
       different q i e =
           before_irreflexive p
-          (subst (IsBefore p) (sym (irreducible_unique k p q h.over h.irreducible (primes q i).over (primes q i).irreducible e)) (in_of_all (IsBefore p) (polys_of fs) after q i))
+          (subst (IsBeforePoly p) (sym (irreducible_unique k p q h.over h.irreducible (primes q i).over (primes q i).irreducible e)) (in_of_all (IsBeforePoly p) (polys_of fs) after q i))
 
       go : IsDivisor P.ops (value k p) (value_of_parts k fs) ⊎ IsDivisor P.ops (value k p) u → ⊥
       go (inl e) = of_parts k p h.over h.irreducible fs different e
       go (inr e) = nonunit p h (e.0 ⊗ unit.0, sym (P.mul_assoc (value k p) e.0 unit.0) ∙ ap (λ x. x ⊗ unit.0) (sym e.1) ∙ unit.1)
 
   -- the exponents and the units are the same
-  same_exponents : (fs gs : List (List ℕ × ℕ)) (u v : Polynomial k) → polys_of fs ≡ polys_of gs → ((q : List ℕ) → In q (polys_of fs) → IsPrime k q) → AreAscending (polys_of fs)
+  same_exponents : (fs gs : List (List ℕ × ℕ)) (u v : Polynomial k) → polys_of fs ≡ polys_of gs → ((q : List ℕ) → In q (polys_of fs) → IsPrime k q) → AreAscendingPolys (polys_of fs)
       → IsUnit P.ops u → IsUnit P.ops v → value_of_parts k fs ⊗ u ≡ value_of_parts k gs ⊗ v → (fs ≡ gs) × (u ≡ v)
   same_exponents [] [] u v polys primes up u_unit v_unit e = (refl, sym (one_mul P u) ∙ e ∙ one_mul P v)
   same_exponents [] (g ∷ gs) u v polys primes up u_unit v_unit e = let none : [] ≡ g.0 ∷ polys_of gs = polys in absurd (cc)
@@ -130,7 +130,7 @@ module _ (k : CodeField) where
       let p_prime = primes f.0 (inl refl) in
       let r = order_unique (euclidean k) (value k f.0) (irreducible k (value k f.0) (of_codes k f.0 p_prime)) f.1 g.1 (value_of_parts k fs ⊗ u) (value_of_parts k gs ⊗ v)
       (free_of f.0 p_prime fs (λ q i. primes q (inr i)) up.0 u u_unit)
-      (free_of f.0 p_prime gs (λ q i. primes q (inr (subst (In q) (sym rest) i))) (subst (All (IsBefore f.0)) rest up.0) v v_unit)
+      (free_of f.0 p_prime gs (λ q i. primes q (inr (subst (In q) (sym rest) i))) (subst (All (IsBeforePoly f.0)) rest up.0) v v_unit)
       (sym (P.mul_assoc (pow P.ops (value k f.0) f.1) (value_of_parts k fs) u) ∙ e
       ∙ ap (λ x. pow P.ops (value k x) g.1 ⊗ value_of_parts k gs ⊗ v) (sym first)
       ∙ P.mul_assoc (pow P.ops (value k f.0) g.1) (value_of_parts k gs) v) in

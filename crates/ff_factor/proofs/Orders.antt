@@ -5,7 +5,7 @@ use Rattle.std.specs.List.{insert}
 use Rattle.std.proofs.lemmas.Bool.{ltb-true, lt-ltb}
 use native.Mathlib.Decide.{ℕ_discrete}
 use Rattle.ring_theory.specs.Members.{In}
-use Rattle.ff_factor.specs.Factors.{IsBelow, IsBefore, AreAscending}
+use Rattle.ff_factor.specs.Factors.{IsBelow, IsBeforePoly, AreAscendingPolys}
 use Rattle.ff_factor.specs.Pulls.{IsWith}
 
 -- the first position from the top at which two lists of one length differ decides
@@ -52,7 +52,7 @@ below_trans (x ∷ a) (y ∷ b) (z ∷ c) (inl h) (inr k) = inl (subst (IsBelow 
 below_trans (x ∷ a) (y ∷ b) (z ∷ c) (inr h) (inl k) = inl (subst (λ w. IsBelow w c) (sym h.0) k)
 below_trans (x ∷ a) (y ∷ b) (z ∷ c) (inr h) (inr k) = inr (h.0 ∙ k.0, let l = h.1 in let m = k.1 in omega arith)
 
-pub before_trans : (a b c : List ℕ) → IsBefore a b → IsBefore b c → IsBefore a c
+pub before_trans : (a b c : List ℕ) → IsBeforePoly a b → IsBeforePoly b c → IsBeforePoly a c
 before_trans a b c (inl h) (inl k) = inl (omega arith)
 before_trans a b c (inl h) (inr k) = inl (let e = k.0 in omega arith)
 before_trans a b c (inr h) (inl k) = inl (let e = h.0 in omega arith)
@@ -80,45 +80,45 @@ below_total (x ∷ a) (y ∷ b) size ne not = go (lists_same a b) (λ n. below_t
     go (yes e) f = inr (sym e, let f : ¬ (x ≡ y) = λ s. ne (ap₂ ◌∷◌ s e) in let g : ¬ (x < y) = λ l. not (inr (e, l)) in omega arith)
     go (no n) f = inl (f n)
 
-pub before_total : (a b : List ℕ) → ¬ (a ≡ b) → ¬ IsBefore a b → IsBefore b a
+pub before_total : (a b : List ℕ) → ¬ (a ≡ b) → ¬ IsBeforePoly a b → IsBeforePoly b a
 before_total a b ne not = go (compare (length a) (length b))
   where
     compare : (m n : ℕ) → (m < n) ⊎ ((m ≡ n) ⊎ (n < m))
     compare m n = grind arith
 
-    go : (length a < length b) ⊎ ((length a ≡ length b) ⊎ (length b < length a)) → IsBefore b a
+    go : (length a < length b) ⊎ ((length a ≡ length b) ⊎ (length b < length a)) → IsBeforePoly b a
     go (inl l) = absurd (not (inl l))
     go (inr (inl e)) = inr (sym e, below_total a b e ne (λ h. not (inr (e, h))))
     go (inr (inr l)) = inl l
 
 -- ---- ascending lists
 
-after_head : (p q : List ℕ) (qs : List (List ℕ)) → IsBefore p q → All (IsBefore q) qs → All (IsBefore p) qs
-after_head p q [] b all = All-nil (IsBefore p)
+after_head : (p q : List ℕ) (qs : List (List ℕ)) → IsBeforePoly p q → All (IsBeforePoly q) qs → All (IsBeforePoly p) qs
+after_head p q [] b all = All-nil (IsBeforePoly p)
 after_head p q (r ∷ qs) b all =
-    All-cons (IsBefore p) r qs (before_trans p q r b (All-head (IsBefore q) r qs all)) (after_head p q qs b (All-tail (IsBefore q) r qs all))
+    All-cons (IsBeforePoly p) r qs (before_trans p q r b (All-head (IsBeforePoly q) r qs all)) (after_head p q qs b (All-tail (IsBeforePoly q) r qs all))
 
 all_insert : (N : List ℕ → Type 0) (ps : List (List ℕ)) (i : ℕ) (p : List ℕ) → All N ps → N p → All N (insert ps i p)
 all_insert N ps zero p all here = All-cons N p ps here all
 all_insert N [] (suc i) p all here = All-cons N p [] here all
 all_insert N (q ∷ ps) (suc i) p all here = All-cons N q (insert ps i p) (All-head N q ps all) (all_insert N ps i p (All-tail N q ps all) here)
 
-ascending_insert : (ps : List (List ℕ)) (i : ℕ) (p : List ℕ) → AreAscending ps → ((j : ℕ) → j < i → IsBefore (get_or ps j []) p)
-    → IsBefore p (get_or ps i []) → i < length ps → AreAscending (insert ps i p)
+ascending_insert : (ps : List (List ℕ)) (i : ℕ) (p : List ℕ) → AreAscendingPolys ps → ((j : ℕ) → j < i → IsBeforePoly (get_or ps j []) p)
+    → IsBeforePoly p (get_or ps i []) → i < length ps → AreAscendingPolys (insert ps i p)
 ascending_insert [] i p up before here less = absurd (omega arith)
-ascending_insert (q ∷ ps) zero p up before here less = (All-cons (IsBefore p) q ps here (after_head p q ps here up.0), up)
+ascending_insert (q ∷ ps) zero p up before here less = (All-cons (IsBeforePoly p) q ps here (after_head p q ps here up.0), up)
 ascending_insert (q ∷ ps) (suc i) p up before here less = (
-  all_insert (IsBefore q) ps i p up.0 (before 0 (omega arith)),
+  all_insert (IsBeforePoly q) ps i p up.0 (before 0 (omega arith)),
   ascending_insert ps i p up.1 (λ j l. before (suc j) (omega arith)) here (omega arith),
 )
 
-ascending_push : (ps : List (List ℕ)) (p : List ℕ) → AreAscending ps → ((j : ℕ) → j < length ps → IsBefore (get_or ps j []) p) → AreAscending (ps ++ p ∷ [])
-ascending_push [] p up before = (All-nil (IsBefore p), tt)
+ascending_push : (ps : List (List ℕ)) (p : List ℕ) → AreAscendingPolys ps → ((j : ℕ) → j < length ps → IsBeforePoly (get_or ps j []) p) → AreAscendingPolys (ps ++ p ∷ [])
+ascending_push [] p up before = (All-nil (IsBeforePoly p), tt)
 ascending_push (q ∷ ps) p up before = (pushed ps up.0, ascending_push ps p up.1 (λ j l. before (suc j) (omega arith)))
   where
-    pushed : (ps : List (List ℕ)) → All (IsBefore q) ps → All (IsBefore q) (ps ++ p ∷ [])
-    pushed [] all = All-cons (IsBefore q) p [] (before 0 (omega arith)) (All-nil (IsBefore q))
-    pushed (r ∷ ps) all = All-cons (IsBefore q) r (ps ++ p ∷ []) (All-head (IsBefore q) r ps all) (pushed ps (All-tail (IsBefore q) r ps all))
+    pushed : (ps : List (List ℕ)) → All (IsBeforePoly q) ps → All (IsBeforePoly q) (ps ++ p ∷ [])
+    pushed [] all = All-cons (IsBeforePoly q) p [] (before 0 (omega arith)) (All-nil (IsBeforePoly q))
+    pushed (r ∷ ps) all = All-cons (IsBeforePoly q) r (ps ++ p ∷ []) (All-head (IsBeforePoly q) r ps all) (pushed ps (All-tail (IsBeforePoly q) r ps all))
 
 in_insert : (ps : List (List ℕ)) (i : ℕ) (p q : List ℕ) → In q ps → In q (insert ps i p)
 in_insert ps zero p q h = inr h
@@ -144,8 +144,8 @@ in_get [] i less = absurd (omega arith)
 in_get (p ∷ ps) zero less = inl refl
 in_get (p ∷ ps) (suc i) less = inr (in_get ps i (omega arith))
 
-pub with_insert : (ps new : List (List ℕ)) (i : ℕ) (p : List ℕ) → AreAscending ps → ((j : ℕ) → j < i → IsBefore (get_or ps j []) p)
-    → IsBefore p (get_or ps i []) → i < length ps → new ≡ insert ps i p → IsWith ps p new
+pub with_insert : (ps new : List (List ℕ)) (i : ℕ) (p : List ℕ) → AreAscendingPolys ps → ((j : ℕ) → j < i → IsBeforePoly (get_or ps j []) p)
+    → IsBeforePoly p (get_or ps i []) → i < length ps → new ≡ insert ps i p → IsWith ps p new
 with_insert ps new i p up before here less is = subst (IsWith ps p) (sym is) (record {
   ascending = ascending_insert ps i p up before here less;
   old_in = in_insert ps i p;
@@ -153,7 +153,7 @@ with_insert ps new i p up before here less is = subst (IsWith ps p) (sym is) (re
   each = of_insert ps i p;
 })
 
-pub with_same : (ps : List (List ℕ)) (i : ℕ) (p : List ℕ) → AreAscending ps → p ≡ get_or ps i [] → i < length ps → IsWith ps p ps
+pub with_same : (ps : List (List ℕ)) (i : ℕ) (p : List ℕ) → AreAscendingPolys ps → p ≡ get_or ps i [] → i < length ps → IsWith ps p ps
 with_same ps i p up same less = record {
   ascending = up;
   old_in = λ q h. h;
@@ -161,7 +161,7 @@ with_same ps i p up same less = record {
   each = λ q ne h. h;
 }
 
-pub with_push : (ps new : List (List ℕ)) (p : List ℕ) → AreAscending ps → ((j : ℕ) → j < length ps → IsBefore (get_or ps j []) p)
+pub with_push : (ps new : List (List ℕ)) (p : List ℕ) → AreAscendingPolys ps → ((j : ℕ) → j < length ps → IsBeforePoly (get_or ps j []) p)
     → new ≡ ps ++ p ∷ [] → IsWith ps p new
 with_push ps new p up before is = subst (IsWith ps p) (sym is) (record {
   ascending = ascending_push ps p up before;
@@ -188,26 +188,26 @@ with_push ps new p up before is = subst (IsWith ps p) (sym is) (record {
 -- ---- the answers of the comparison
 
 pub answer_at : (a b a' b' : List ℕ) (i : ℕ) → a ≡ a' → b ≡ b' → length a ≡ length b → 0 < i → i ≤ length a → drop i a ≡ drop i b
-    → get_or a (i - 1) 0 ≢ get_or b (i - 1) 0 → IsTrue (nat_lt (get_or a (i - 1) 0) (get_or b (i - 1) 0)) ↔ IsBefore a' b'
+    → get_or a (i - 1) 0 ≢ get_or b (i - 1) 0 → IsTrue (nat_lt (get_or a (i - 1) 0) (get_or b (i - 1) 0)) ↔ IsBeforePoly a' b'
 answer_at a b a' b' i a_is b_is size some within above differ =
-    subst (λ w. IsTrue (nat_lt (get_or a (i - 1) 0) (get_or b (i - 1) 0)) ↔ IsBefore w b') a_is
-    (subst (λ w. IsTrue (nat_lt (get_or a (i - 1) 0) (get_or b (i - 1) 0)) ↔ IsBefore a w) b_is
+    subst (λ w. IsTrue (nat_lt (get_or a (i - 1) 0) (get_or b (i - 1) 0)) ↔ IsBeforePoly w b') a_is
+    (subst (λ w. IsTrue (nat_lt (get_or a (i - 1) 0) (get_or b (i - 1) 0)) ↔ IsBeforePoly a w) b_is
     (λ t. inr (size, r.1 (ltb-true _ _ t)), λ h. lt-ltb _ _ (r.0 (from h))))
   where
     r : IsBelow a b ↔ (get_or a (i - 1) 0 < get_or b (i - 1) 0)
     r = below_at a b (i - 1) size (omega arith) (let e : i ≡ i - 1 + 1 = omega arith in subst (λ n. drop n a ≡ drop n b) e above) differ
 
-    from : IsBefore a b → IsBelow a b
+    from : IsBeforePoly a b → IsBelow a b
     from (inl l) = absurd (omega arith)
     from (inr h) = h.1
 
-pub answer_same : (a b a' b' : List ℕ) → a ≡ a' → b ≡ b' → a ≡ b → IsTrue false ↔ IsBefore a' b'
+pub answer_same : (a b a' b' : List ℕ) → a ≡ a' → b ≡ b' → a ≡ b → IsTrue false ↔ IsBeforePoly a' b'
 answer_same a b a' b' a_is b_is same = (λ t. absurd (cc), λ h. absurd (none h))
   where
     e : a' ≡ b'
     e = sym a_is ∙ same ∙ b_is
 
-    none : IsBefore a' b' → ⊥
+    none : IsBeforePoly a' b' → ⊥
     none (inl l) = let s = ap length e in omega arith
     none (inr h) = below_same a' b' e h.1
 
@@ -217,6 +217,6 @@ at_start i a b e same = subst (λ n. drop n a ≡ drop n b) e same
 pub not_so : IsTrue false → ⊥
 not_so t = cc
 
-pub before_irreflexive : (p : List ℕ) → IsBefore p p → ⊥
+pub before_irreflexive : (p : List ℕ) → IsBeforePoly p p → ⊥
 before_irreflexive p (inl l) = omega arith
 before_irreflexive p (inr h) = below_same p p refl h.1

@@ -11,7 +11,7 @@ use Rattle.linear_theory.specs.Euclidean.{IsDivisor}
 use Rattle.ff_poly.specs.Words.{IsPoly, IsIrreducible}
 use Rattle.ff_poly.specs.Value.{value, numbers_value}
 use Rattle.ff_poly.specs.Polynomials.{Polynomial, polynomials, numbers_discrete, value_nil, codes_of}
-use Rattle.ff_factor.specs.Factors.{AreAscending, IsBefore, polys_of}
+use Rattle.ff_factor.specs.Factors.{AreAscendingPolys, IsBeforePoly, polys_of}
 use Rattle.polynomial_theory.proofs.ListValues.{monic_poly}
 use Rattle.ff_factor.specs.Primes.{IsPrimeAt}
 use Rattle.ff_factor.specs.Pulls.{IsPulledOut, IsWith, ArePrimesOf, IsPrimeList, IsSplitOff, value_of_parts}
@@ -172,10 +172,10 @@ module _ (k : CodeField) where
         positive (suc c) e = omega arith
 
   -- a list of primes, one after another
-  ascending_different : (ps : List (List ℕ)) (i : ℕ) (q : List ℕ) → AreAscending ps → i < length ps → In q (take i ps) → IsBefore q (get_or ps i [])
+  ascending_different : (ps : List (List ℕ)) (i : ℕ) (q : List ℕ) → AreAscendingPolys ps → i < length ps → In q (take i ps) → IsBeforePoly q (get_or ps i [])
   ascending_different [] i q up less j = absurd (omega arith)
   ascending_different (p ∷ ps) zero q up less j = absurd j
-  ascending_different (p ∷ ps) (suc i) q up less (inl e) = subst (λ x. IsBefore x (get_or ps i [])) (sym e) (up.0 i [] (omega arith))
+  ascending_different (p ∷ ps) (suc i) q up less (inl e) = subst (λ x. IsBeforePoly x (get_or ps i [])) (sym e) (up.0 i [] (omega arith))
   ascending_different (p ∷ ps) (suc i) q up less (inr j) = ascending_different ps i q up.1 (omega arith) j
 
   in_take : (ps : List (List ℕ)) (i : ℕ) (q : List ℕ) → In q (take i ps) → In q ps
@@ -198,7 +198,7 @@ module _ (k : CodeField) where
       (subst (λ xs. IsSplitOff k g xs (parts ++ (p, count) ∷ []) left) (sym (take_more ps i [] less ∙ ap (λ x. take i ps ++ x ∷ []) (sym p_is)))
       (split_step p (primes.over p here) (primes.irreducible p here) g (take i ps) parts rest left count s (primes.divides p here)
       (λ q j. primes.different p q here (in_take ps i q j)
-      (λ e. before_irreflexive p (subst (λ x. IsBefore x p) (sym e) (subst (IsBefore q) (sym p_is) (ascending_different ps i q primes.ascending less j)))))
+      (λ e. before_irreflexive p (subst (λ x. IsBeforePoly x p) (sym e) (subst (IsBeforePoly q) (sym p_is) (ascending_different ps i q primes.ascending less j)))))
       out))
 
   pub split_start : (g rest : List ℕ) (parts : List (List ℕ × ℕ)) → IsOver k.ops g → IsPoly g → g ≢ [] → rest ≡ g → parts ≡ [] → IsSplitOff k g [] parts rest

@@ -18,13 +18,13 @@ IsBelow (x ∷ xs) [] = ⊥
 IsBelow (x ∷ xs) (y ∷ ys) = IsBelow xs ys ⊎ ((xs ≡ ys) × (x < y))
 
 -- the order of polynomials: by the degree, then by the codes from the top down
-abbrev pub IsBefore : List ℕ → List ℕ → Type 0
-IsBefore a b = (length a < length b) ⊎ ((length a ≡ length b) × IsBelow a b)
+abbrev pub IsBeforePoly : List ℕ → List ℕ → Type 0
+IsBeforePoly a b = (length a < length b) ⊎ ((length a ≡ length b) × IsBelow a b)
 
 -- strictly ascending
-abbrev pub AreAscending : List (List ℕ) → Type 0
-AreAscending [] = Unit {0}
-AreAscending (p ∷ ps) = All (IsBefore p) ps × AreAscending ps
+abbrev pub AreAscendingPolys : List (List ℕ) → Type 0
+AreAscendingPolys [] = Unit {0}
+AreAscendingPolys (p ∷ ps) = All (IsBeforePoly p) ps × AreAscendingPolys ps
 
 -- the polynomials of the parts
 abbrev pub polys_of : List (List ℕ × ℕ) → List (List ℕ)
@@ -43,5 +43,5 @@ pub record IsFactorisation (k : FieldOps) (g : List ℕ) (f : FactorsValue) : Ty
   pub over : All (IsOver k) (polys_of f.parts)
   pub irreducible : All (IsIrreducible k) (polys_of f.parts)
   pub exponents : All (λ p. 1 ≤ p.1) f.parts
-  pub ascending : AreAscending (polys_of f.parts)
+  pub ascending : AreAscendingPolys (polys_of f.parts)
   pub product : multiple_of k (product_of_parts k f.parts) f.unit ≡ g

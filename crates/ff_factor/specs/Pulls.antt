@@ -8,7 +8,7 @@ use Rattle.ff_fields.specs.Over.{IsOver}
 use Rattle.ff_poly.specs.Words.{IsPoly, IsIrreducible}
 use Rattle.ff_poly.specs.Value.{value}
 use Rattle.ff_poly.specs.Polynomials.{Polynomial, polynomials}
-use Rattle.ff_factor.specs.Factors.{AreAscending, polys_of}
+use Rattle.ff_factor.specs.Factors.{AreAscendingPolys, polys_of}
 use Rattle.ff_factor.specs.Primes.{IsPrimeAt}
 
 -- g is p to the power count, times the rest, which p doesn't divide
@@ -20,7 +20,7 @@ pub record IsPulledOut (k : CodeField) (g p : List ℕ) (count : ℕ) (rest : Li
 
 -- the new list has the members of the old one and p, in ascending order
 pub record IsWith (old : List (List ℕ)) (p : List ℕ) (new : List (List ℕ)) : Type 0 where
-  pub ascending : AreAscending new
+  pub ascending : AreAscendingPolys new
   pub old_in : (q : List ℕ) → In q old → In q new
   pub here : In p new
   pub each : (q : List ℕ) → ¬ (q ≡ p) → In q new → In q old
@@ -29,7 +29,7 @@ pub record IsWith (old : List (List ℕ)) (p : List ℕ) (new : List (List ℕ))
 pub record ArePrimesOf (k : FieldOps) (g : List ℕ) (es ps : List (List ℕ)) : Type 0 where
   pub each : (p : List ℕ) → In p ps → (e : List ℕ) × In e es × IsPrimeAt k g e p
   pub all : (e : List ℕ) → In e es → (p : List ℕ) × In p ps × IsPrimeAt k g e p
-  pub ascending : AreAscending ps
+  pub ascending : AreAscendingPolys ps
 
 -- the product of the powers, in k[x]
 abbrev pub value_of_parts : (k : CodeField) → List (List ℕ × ℕ) → Polynomial k
@@ -52,4 +52,4 @@ pub record IsPrimeList (k : CodeField) (g : List ℕ) (ps : List (List ℕ)) : T
   pub irreducible : (p : List ℕ) → In p ps → IsIrreducible k.ops p
   pub divides : (p : List ℕ) → In p ps → IsDivisor (polynomials k).ops (value k p) (value k g)
   pub different : (p q : List ℕ) → In p ps → In q ps → ¬ (p ≡ q) → ¬ IsDivisor (polynomials k).ops (value k p) (value k q)
-  pub ascending : AreAscending ps
+  pub ascending : AreAscendingPolys ps

@@ -1,7 +1,7 @@
 //! The order of polynomials.
 
 ghost use Rattle.std.specs.Prelude.{◌≡◌, ◌↔◌, IsTrue, OnOk, OnErr};
-ghost use Rattle.ff_factor.specs.Factors.{IsBefore, AreAscending};
+ghost use Rattle.ff_factor.specs.Factors.{IsBeforePoly, AreAscendingPolys};
 ghost use Rattle.ff_factor.specs.Pulls.{IsWith};
 
 use ff_poly::Poly;
@@ -9,7 +9,7 @@ use std::alloc::AllocError;
 
 /// Whether a comes before b: by the degree, then by the codes from the top down.
 fn is_before(a: &Poly, b: &Poly) -> bool
-    ensures { IsTrue result ↔ IsBefore a.now b.now }
+    ensures { IsTrue result ↔ IsBeforePoly a.now b.now }
 {
     let a = a.codes();
     let b = b.codes();
@@ -26,7 +26,7 @@ fn is_before(a: &Poly, b: &Poly) -> bool
 
 /// Puts p at its position among ascending polynomials, unless it is there.
 pub(crate) fn insert(polys: &mut Vec<Poly>, p: Poly) -> Result<(), AllocError>
-    requires { AreAscending polys.old.items }
+    requires { AreAscendingPolys polys.old.items }
     ensures { OnOk result (IsWith polys.old.items p polys.new.items) }
 {
     for i in 0..polys.len() {

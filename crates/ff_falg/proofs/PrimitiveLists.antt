@@ -17,7 +17,7 @@ use Rattle.finite_algebra_theory.proofs.Lists.{all_of_in, in_map, of_map, distin
 use Rattle.finite_algebra_theory.proofs.Maximal.{orthogonal_pair}
 use Rattle.finite_algebra_theory.proofs.Primitive.{IsComplete, complete_by_number, complete_by_use, primitive_idempotents}
 use Rattle.ff_falg.specs.Algebras.{AlgebraOps, IsAlgebra, IsVector, IsIdempotent, IsPrimitive, IsFixed, zero_of}
-use Rattle.ff_falg.specs.Idempotents.{IsAscending, IsPart, IsPrimitiveList, sum_of}
+use Rattle.ff_falg.specs.Idempotents.{AreAscendingVectors, IsPart, IsPrimitiveList, sum_of}
 use Rattle.ff_falg.specs.Spaces.{IsEchelonBasis}
 use Rattle.ff_falg.specs.Splits.{IsFullSplitting}
 use Rattle.ff_falg.proofs.Bases.{basis_vectors, length_basis_vectors, no_rows}
@@ -226,7 +226,7 @@ module _ (k : CodeField) (A : AlgebraOps) (law : IsAlgebra k A) where
           )
 
       -- the reordered list is that of the primitive idempotents
-      pub primitive_list : IsAscending ts → IsPrimitiveList k.ops A ts
+      pub primitive_list : AreAscendingVectors ts → IsPrimitiveList k.ops A ts
       primitive_list ascending = record {
         members = λ e. (
           (λ i.

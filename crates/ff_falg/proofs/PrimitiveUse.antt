@@ -14,18 +14,18 @@ use Rattle.finite_algebra_theory.proofs.Lists.{all_of_in, in_map}
 use Rattle.finite_algebra_theory.proofs.Minimal.{minimal_exists}
 use Rattle.finite_algebra_theory.proofs.Primitive.{IsComplete}
 use Rattle.ff_falg.specs.Algebras.{AlgebraOps, IsAlgebra, IsVector}
-use Rattle.ff_falg.specs.Idempotents.{IsAscending, IsBefore, IsPrimitiveList, sum_of}
+use Rattle.ff_falg.specs.Idempotents.{AreAscendingVectors, IsBeforeVector, IsPrimitiveList, sum_of}
 use Rattle.ff_falg.proofs.PrimitiveLists.{orthogonal_of, value_primitive}
 use Rattle.ff_falg.proofs.Splittings.{lists, sum_value}
 use Rattle.ff_falg.proofs.Vectors.{Vector, vector_ring, vector_discrete, same_vector}
 use Rattle.ff_falg.proofs.VectorAlgebra.{vectors, rows_of_vectors, scalar, vector_algebra}
 
-before_itself : (xs : List ℕ) → IsBefore xs xs → ⊥
+before_itself : (xs : List ℕ) → IsBeforeVector xs xs → ⊥
 before_itself [] b = b
 before_itself (x ∷ xs) (inl l) = absurd (omega arith)
 before_itself (x ∷ xs) (inr b) = before_itself xs b.1
 
-before_before : (xs ys zs : List ℕ) → IsBefore xs ys → IsBefore ys zs → IsBefore xs zs
+before_before : (xs ys zs : List ℕ) → IsBeforeVector xs ys → IsBeforeVector ys zs → IsBeforeVector xs zs
 before_before [] [] zs b c = absurd b
 before_before [] (y ∷ ys) [] b c = absurd c
 before_before [] (y ∷ ys) (z ∷ zs) b c = tt
@@ -37,7 +37,7 @@ before_before (x ∷ xs) (y ∷ ys) (z ∷ zs) (inr b) (inl m) = inl (let e = b.
 before_before (x ∷ xs) (y ∷ ys) (z ∷ zs) (inr b) (inr c) = inr (b.0 ∙ c.0, before_before xs ys zs b.1 c.1)
 
 -- ascending lists are distinct
-pub ascending_distinct : (es : List (List ℕ)) → IsAscending es → IsDistinct es
+pub ascending_distinct : (es : List (List ℕ)) → AreAscendingVectors es → IsDistinct es
 ascending_distinct [] a = tt
 ascending_distinct (e ∷ es) a = (
   (λ i. before_itself e (above e es (λ j less. a.next j less) e i)),
@@ -45,10 +45,10 @@ ascending_distinct (e ∷ es) a = (
 )
   where
     above : (e : List ℕ) (es : List (List ℕ))
-        → ((i : ℕ) → suc i < length (e ∷ es) → IsBefore (get_or (e ∷ es) i []) (get_or (e ∷ es) (suc i) []))
-        → (x : List ℕ) → In x es → IsBefore e x
+        → ((i : ℕ) → suc i < length (e ∷ es) → IsBeforeVector (get_or (e ∷ es) i []) (get_or (e ∷ es) (suc i) []))
+        → (x : List ℕ) → In x es → IsBeforeVector e x
     above e [] h x i = absurd i
-    above e (y ∷ es) h x (inl s) = subst (IsBefore e) (sym s) (h 0 (omega arith))
+    above e (y ∷ es) h x (inl s) = subst (IsBeforeVector e) (sym s) (h 0 (omega arith))
     above e (y ∷ es) h x (inr i) = before_before e y x (h 0 (omega arith)) (above y es (λ j less. h (suc j) (omega arith)) x i)
 
 module _ (k : CodeField) (A : AlgebraOps) (law : IsAlgebra k A) (some : 0 < A.size) where

@@ -11,7 +11,7 @@ use Rattle.std.specs.Ordering.{is_lt, nat_cmp, ordering_then}
 use Rattle.std.specs.Cmp.Lexicographic.{slice_cmp}
 use Rattle.ring_theory.specs.Members.{In, IsDistinct}
 use Rattle.ff_linalg.proofs.Reduction.{swap_here, swap_there, swap_other, length_swap}
-use Rattle.ff_falg.specs.Idempotents.{IsBefore, IsAscending, elements_of}
+use Rattle.ff_falg.specs.Idempotents.{IsBeforeVector, AreAscendingVectors, elements_of}
 
 -- by positions
 
@@ -126,13 +126,13 @@ cmp_same y x e = grind (arith, nat_tests)
 cmp_less : (y x : ℕ) → y < x → nat_cmp y x ≡ Less
 cmp_less y x l = grind (arith, nat_tests)
 
-before_of_cmp : (xs ys : List ℕ) → is_lt (slice_cmp nat_cmp ys xs) ≡ false → xs ≢ ys → IsBefore xs ys
+before_of_cmp : (xs ys : List ℕ) → is_lt (slice_cmp nat_cmp ys xs) ≡ false → xs ≢ ys → IsBeforeVector xs ys
 before_of_cmp [] [] e ne = ne refl
 before_of_cmp [] (y ∷ ys) e ne = tt
 before_of_cmp (x ∷ xs) [] e ne = (cc)
 before_of_cmp (x ∷ xs) (y ∷ ys) e ne = go (ℕ_discrete x y) (dec_le (suc x) y) (before_of_cmp xs ys)
   where
-    go : Dec (x ≡ y) → Dec (x < y) → (is_lt (slice_cmp nat_cmp ys xs) ≡ false → xs ≢ ys → IsBefore xs ys) → (x < y) ⊎ ((x ≡ y) × IsBefore xs ys)
+    go : Dec (x ≡ y) → Dec (x < y) → (is_lt (slice_cmp nat_cmp ys xs) ≡ false → xs ≢ ys → IsBeforeVector xs ys) → (x < y) ⊎ ((x ≡ y) × IsBeforeVector xs ys)
     go (yes s) d rest =
         inr (s, rest (sym (ap (λ o. is_lt (ordering_then o (slice_cmp nat_cmp ys xs))) (cmp_same y x (sym s))) ∙ e) (λ f. ne (ap₂ ◌∷◌ s f)))
     go (no n) (yes l) rest = inl l
@@ -142,11 +142,11 @@ before_of_cmp (x ∷ xs) (y ∷ ys) e ne = go (ℕ_discrete x y) (dec_le (suc x)
         absurd ((cc))
 
 -- sorted vectors of different codes stand in ascending order
-pub ascending : (ts : List (Vec ℕ)) → IsSorted (λ x y. slice_cmp nat_cmp x.items y.items) ts → IsDistinct (elements_of ts) → IsAscending (elements_of ts)
+pub ascending : (ts : List (Vec ℕ)) → IsSorted (λ x y. slice_cmp nat_cmp x.items y.items) ts → IsDistinct (elements_of ts) → AreAscendingVectors (elements_of ts)
 ascending ts sorted distinct = record { next = λ i less. go ts sorted distinct i less }
   where
     go : (ts : List (Vec ℕ)) → IsSorted (λ x y. slice_cmp nat_cmp x.items y.items) ts → IsDistinct (elements_of ts)
-        → (i : ℕ) → suc i < length (elements_of ts) → IsBefore (get_or (elements_of ts) i []) (get_or (elements_of ts) (suc i) [])
+        → (i : ℕ) → suc i < length (elements_of ts) → IsBeforeVector (get_or (elements_of ts) i []) (get_or (elements_of ts) (suc i) [])
     go [] sorted distinct i less = absurd (omega arith)
     go (t ∷ ts) sorted distinct i less =
         let size = length-map (t ∷ ts) (λ v. v.items) in

@@ -12,15 +12,15 @@ abbrev pub elements_of : List (Vec ℕ) → List (List ℕ)
 elements_of vectors = map (λ v. v.items) vectors
 
 -- lists of codes in their order: compared from the first entry
-abbrev pub IsBefore : List ℕ → List ℕ → Type 0
-IsBefore [] [] = ⊥
-IsBefore [] (y ∷ ys) = Unit {0}
-IsBefore (x ∷ xs) [] = ⊥
-IsBefore (x ∷ xs) (y ∷ ys) = (x < y) ⊎ ((x ≡ y) × IsBefore xs ys)
+abbrev pub IsBeforeVector : List ℕ → List ℕ → Type 0
+IsBeforeVector [] [] = ⊥
+IsBeforeVector [] (y ∷ ys) = Unit {0}
+IsBeforeVector (x ∷ xs) [] = ⊥
+IsBeforeVector (x ∷ xs) (y ∷ ys) = (x < y) ⊎ ((x ≡ y) × IsBeforeVector xs ys)
 
 -- each member stands before the next in that order
-pub record IsAscending (es : List (List ℕ)) : Type 0 where
-  pub next : (i : ℕ) → suc i < length es → IsBefore (get_or es i []) (get_or es (suc i) [])
+pub record AreAscendingVectors (es : List (List ℕ)) : Type 0 where
+  pub next : (i : ℕ) → suc i < length es → IsBeforeVector (get_or es i []) (get_or es (suc i) [])
 
 -- some of the members of a list, in their order there
 abbrev pub IsPart : List (List ℕ) → List (List ℕ) → Type 0
@@ -35,7 +35,7 @@ sum_of k A (e ∷ es) = add_lists (raw_ring k) e (sum_of k A es)
 -- all primitive idempotents, in ascending order: products of two are 0, their sum is 1, and each idempotent is the sum of some
 pub record IsPrimitiveList (k : FieldOps) (A : AlgebraOps) (es : List (List ℕ)) : Type 0 where
   pub members : (e : List ℕ) → In e es ↔ IsPrimitive k A e
-  pub ascending : IsAscending es
+  pub ascending : AreAscendingVectors es
   pub product : (e f : List ℕ) → In e es → In f es → e ≢ f → A.product k e f ≡ zero_of A
   pub sum : sum_of k A es ≡ A.unit
   pub idempotents : (f : List ℕ) → IsIdempotent k A f → (fs : List (List ℕ)) × IsPart fs es × (f ≡ sum_of k A fs)

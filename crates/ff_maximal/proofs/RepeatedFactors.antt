@@ -16,7 +16,7 @@ use Rattle.ff_poly.specs.Value.{value, value_product}
 use Rattle.ff_poly.specs.Polynomials.{Polynomial, polynomials, codes_of, constant_poly, value_one}
 use Rattle.ff_poly.proofs.Parts.{value_multiple}
 use Rattle.ff_poly.proofs.PowerRests.{value_power}
-use Rattle.ff_factor.specs.Factors.{FactorsValue, IsFactorisation, polys_of, product_of_parts, IsBelow, IsBefore, AreAscending}
+use Rattle.ff_factor.specs.Factors.{FactorsValue, IsFactorisation, polys_of, product_of_parts, IsBelow, IsBeforePoly, AreAscendingPolys}
 use Rattle.trace_theory.specs.Traces.{polynomial_product}
 use Rattle.ff_order.specs.Enlargements.{repeated}
 use Rattle.value_theory.proofs.Bridge.{irreducible_value}
@@ -29,7 +29,7 @@ below_self [] h = h
 below_self (x ∷ a) (inl h) = below_self a h
 below_self (x ∷ a) (inr h) = absurd (let l = h.1 in omega arith)
 
-before_differs : (a b : List ℕ) → IsBefore a b → ¬ (a ≡ b)
+before_differs : (a b : List ℕ) → IsBeforePoly a b → ¬ (a ≡ b)
 before_differs a b (inl l) e = absurd (omega (arith, l, ap length e))
 before_differs a b (inr h) e = below_self b (subst (λ c. IsBelow c b) e h.1)
 
@@ -103,7 +103,7 @@ module _ (k : CodeField) where
       value_product k (power_of k.ops f.0 f.1) (product_of_parts k.ops fs) (power_over f.0 f.1 f_in) (parts_over fs rest_in)
       ∙ ap₂ (polynomials k).◌⊗◌ (value_power k f.0 f.1 f_in) (parts_value fs rest_in)
 
-  different : (fs : List (List ℕ × ℕ)) → All (IsOver k.ops) (polys_of fs) → All (IsIrreducible k.ops) (polys_of fs) → AreAscending (polys_of fs) → AreDifferent k fs
+  different : (fs : List (List ℕ × ℕ)) → All (IsOver k.ops) (polys_of fs) → All (IsIrreducible k.ops) (polys_of fs) → AreAscendingPolys (polys_of fs) → AreDifferent k fs
   different [] over irreducible ascending = tt
   different (f ∷ fs) over irreducible ascending = (
     record { over = All-head (IsOver k.ops) f.0 (polys_of fs) over; irreducible = All-head (IsIrreducible k.ops) f.0 (polys_of fs) irreducible },
@@ -114,15 +114,15 @@ module _ (k : CodeField) where
       Other : List ℕ × ℕ → Type 0
       Other g = IsPrime k g.0 × ¬ (f.0 ≡ g.0)
 
-      others : (gs : List (List ℕ × ℕ)) → All (IsOver k.ops) (polys_of gs) → All (IsIrreducible k.ops) (polys_of gs) → All (IsBefore f.0) (polys_of gs)
+      others : (gs : List (List ℕ × ℕ)) → All (IsOver k.ops) (polys_of gs) → All (IsIrreducible k.ops) (polys_of gs) → All (IsBeforePoly f.0) (polys_of gs)
           → All (λ (g : List ℕ × ℕ). IsPrime k g.0 × ¬ (f.0 ≡ g.0)) gs
       others [] a b c = All-nil (λ (g : List ℕ × ℕ). IsPrime k g.0 × ¬ (f.0 ≡ g.0))
       others (g ∷ gs) a b c =
           All-cons (λ (g : List ℕ × ℕ). IsPrime k g.0 × ¬ (f.0 ≡ g.0)) g gs (
             record { over = All-head (IsOver k.ops) g.0 (polys_of gs) a; irreducible = All-head (IsIrreducible k.ops) g.0 (polys_of gs) b },
-            before_differs f.0 g.0 (All-head (IsBefore f.0) g.0 (polys_of gs) c),
+            before_differs f.0 g.0 (All-head (IsBeforePoly f.0) g.0 (polys_of gs) c),
           )
-          (others gs (All-tail (IsOver k.ops) g.0 (polys_of gs) a) (All-tail (IsIrreducible k.ops) g.0 (polys_of gs) b) (All-tail (IsBefore f.0) g.0 (polys_of gs) c))
+          (others gs (All-tail (IsOver k.ops) g.0 (polys_of gs) a) (All-tail (IsIrreducible k.ops) g.0 (polys_of gs) b) (All-tail (IsBeforePoly f.0) g.0 (polys_of gs) c))
 
   module _ (d : List ℕ) (f : FactorsValue) (h : IsFactorisation k.ops d f) where
     abbrev u : Polynomial k
