@@ -12,6 +12,16 @@ use std::alloc::{AllocError, Global};
 /// What cannot be read counts as no memory.
 pub const BAD: AllocError = AllocError;
 
+/// What stands before the first colon, and what stands after it.
+pub fn parted(text: &str) -> Result<(&str, &str), AllocError> {
+    text.split_once(':').ok_or(BAD)
+}
+
+/// The number of the text.
+pub fn number(text: &str) -> Result<u32, AllocError> {
+    text.trim().parse::<u32>().or(Err(BAD))
+}
+
 /// The numbers of the text, between blanks.
 pub fn numbers(alloc: Global, text: &str) -> Result<Vec<u32>, AllocError> {
     let mut found = Vec::new(alloc);
@@ -24,7 +34,8 @@ pub fn numbers(alloc: Global, text: &str) -> Result<Vec<u32>, AllocError> {
     Ok(found)
 }
 
-fn tested<K: SmallField>(alloc: Global, k: &K, codes: &[u32]) -> Result<Poly, AllocError>
+/// The polynomial with these codes, lowest first, which are tested first.
+pub fn tested<K: SmallField>(alloc: Global, k: &K, codes: &[u32]) -> Result<Poly, AllocError>
     ensures { IfOk result (IsOver (K.field k.now).ops) }
 {
     let size = k.size();
@@ -34,7 +45,7 @@ fn tested<K: SmallField>(alloc: Global, k: &K, codes: &[u32]) -> Result<Poly, Al
     Ok(Poly::from_codes(codes.to_vec(alloc)?))
 }
 
-/// The polynomial with these codes, lowest first, which are tested first.
+/// The polynomial with the codes of the text, lowest first, which are tested first.
 pub fn polynomial<K: SmallField>(alloc: Global, k: &K, text: &str) -> Result<Poly, AllocError>
     ensures { IfOk result (IsOver (K.field k.now).ops) }
 {

@@ -13,6 +13,3 @@ pub use decisions::is_irreducible;
 pub use factors::{Factors, factor, one_factorisation};
 pub use lowest::{cancel, lowest_terms, one_lowest};
 pub use quotient::PolyQuotient;
-
-#[cfg(test)]
-mod tests;

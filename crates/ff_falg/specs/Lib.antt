@@ -5,4 +5,3 @@ pub mod Relations
 pub mod Roots
 pub mod Idempotents
 pub mod Splits
-pub mod Samples

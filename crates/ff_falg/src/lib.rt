@@ -15,6 +15,3 @@ pub use decisions::is_field;
 pub use parts::idempotents;
 pub use powers::frobenius;
 pub use spaces::{fixed, nilpotents};
-
-#[cfg(test)]
-mod tests;

@@ -15,6 +15,3 @@ pub use matrix::Matrix;
 pub use relations::min_relation;
 pub use slices::add_multiple;
 pub use solutions::solve;
-
-#[cfg(test)]
-mod tests;

@@ -11,6 +11,3 @@ pub use basis::popov;
 pub use members::coordinates;
 pub use steps::Steps;
 pub use weak::weak_popov;
-
-#[cfg(test)]
-mod tests;

@@ -1,4 +1,0 @@
-use Rattle.ff_popov.proofs.tests.one_transformation.Given as goal
-
-abbrev pub ghosts-steps_taken : goal.ghosts-steps_taken
-ghosts-steps_taken g a = record { name = a.blank.name; parts = a.blank.parts }
