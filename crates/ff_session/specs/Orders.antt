@@ -31,5 +31,5 @@ module _ (k : CodeField) (c : CurveValue) where
     pub lattice : LatticeValue
     pub form : IsLattice k.ops (presentation c s).n lattice
     pub rows : ArePrintedRows s (row_elems lattice) zs
-    pub span : SpansIntegral s (map (function_of k c.fin) zs)
-    pub whole : SpansOverPowersOfT s (map (function_of k c.fin) zs)
+    pub span : SpansIntegral k c s (map (function_of k c.fin) zs)
+    pub whole : SpansOverPowersOfT k c s (map (function_of k c.fin) zs)
