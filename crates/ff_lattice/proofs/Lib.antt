@@ -4,6 +4,7 @@ pub mod Elements
 pub mod Scaled
 pub mod Transport
 pub mod KernelRows
+pub mod Corners
 pub mod SplitRows
 pub mod Spaces
 pub mod PivotSums
