@@ -41,5 +41,6 @@ pub mod ColonSets
 pub mod Kept
 pub mod IdealRows
 pub mod PivotIndices
+pub mod ShortMultiples
 pub mod CodeCounts
 pub mod QuotientDimensions

@@ -41,6 +41,7 @@ use Rattle.ff_lattice.proofs.Fracs.{row_cancel}
 use Rattle.ff_lattice.proofs.Scaled.{coeff_code, value_length}
 use Rattle.ff_lattice.proofs.Spaces.{combine_one, value_shifted, power_of_x, same_space, combination_poly}
 use Rattle.ff_lattice.proofs.Transport.{moved, moved_at, moved_scale, moved_popov, span_moved, span_back}
+use Rattle.ff_lattice.proofs.SpannedSets.{multiple_poly}
 use Rattle.ff_lattice.proofs.SplitRows.{cut, join, cut_join, cut_width, cut_coef, cut_read}
 use Rattle.ff_lattice.proofs.Corners.{twisted_multiple, right_null}
 use Rattle.ff_lattice.proofs.KernelRows.{Twisted, twisted_submodule, twisted_first, twisted_second, twisted_in, kernel_rows, kernel_at, kernel_length, kernel_in, kernel_all}
@@ -52,10 +53,10 @@ none_at zero j = refl
 none_at (suc n) zero = refl
 none_at (suc n) (suc j) = none_at n j
 
-zero_at : (n i : ℕ) → get_or (replicate n 0) i 0 ≡ 0
-zero_at zero i = refl
-zero_at (suc n) zero = refl
-zero_at (suc n) (suc i) = zero_at n i
+zeros_at : (n i : ℕ) → ◌≡◌ {A = ℕ} (get_or (replicate n 0) i 0) 0
+zeros_at zero i = refl
+zeros_at (suc n) zero = refl
+zeros_at (suc n) (suc i) = zeros_at n i
 
 pub unit_length : (n i : ℕ) → length (unit_row n i) ≡ n
 unit_length n i = length-set (replicate n []) i (1 ∷ []) ∙ length-replicate n []
@@ -290,7 +291,7 @@ module _ (k : CodeField) where
     t_low i less =
         same_code k _ _
         (coeff_code k (replicate power 0 ++ 1 ∷ []) i (IsOver_append (IsOver_zeros k power) (IsOver_cons k.laws.one_below IsOver_nil))
-        ∙ get_or-append (replicate power 0) (1 ∷ []) 0 i (omega (arith, less, length-replicate power 0)) ∙ zero_at power i)
+        ∙ get_or-append (replicate power 0) (1 ∷ []) 0 i (omega (arith, less, length-replicate {A = ℕ} power 0)) ∙ zeros_at power i)
 
     cancel : (u : Row (Polynomial k) (suc (c - 1))) → N.◌·◌ t u ≡ N.𝟎 → u ≡ N.𝟎
     cancel u e =
@@ -385,7 +386,7 @@ module _ (k : CodeField) where
           factor_in = f_in;
           factor_poly = IsPoly_codes_of k d;
           factor_some = λ e.
-              product_not_zero (polynomials k).ring (polynomials_domain k) t h t_some some
+              product_not_zero (polynomials_domain k) t h t_some some
               (sym (value_codes_of k d) ∙ ap (value k) e ∙ value_nil k);
           in_span =
               from_space k (r + c) gs gs_in (multiple_of_row k.ops (codes_of k d) v) (multiple_row k (r + c) (codes_of k d) v f_in v_row) (multiple_poly k (codes_of k d) v)
@@ -450,7 +451,7 @@ module _ (k : CodeField) where
 
       entry_null : (i j : ℕ) → i < r → j < c → (theory.row_at W₀ Ps i).1 ≡ N.𝟎 → entry_at (row_at rows i) (r + j) ≡ []
       entry_null i j less j_less null =
-          no_value k (entry_at (row_at rows i) (r + j)) (over_at k (row_at rows i) (rows_in i [] (omega (arith, less, popov.size))).over (r + j)) (popov.trimmed i (r + j))
+          no_value (entry_at (row_at rows i) (r + j)) (over_at k (row_at rows i) (rows_in i [] (omega (arith, less, popov.size))).over (r + j)) (popov.trimmed i (r + j))
           (ap (value k) (sym (get_or-drop r (row_at rows i) j []))
           ∙ sym (entry_read k (suc (c - 1)) j (drop r (row_at rows i)) (omega (arith, j_less)))
           ∙ ap (entry (polynomials k).ops (suc (c - 1)) j) (sym (ap (λ q. q.1) (p_at i)) ∙ null ∙ row_module_zero (code_ring k) (c - 1))
