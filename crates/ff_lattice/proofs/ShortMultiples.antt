@@ -1,13 +1,11 @@
 -- Each row has a multiple in the lattice of a Popov basis by a polynomial whose degree is at most the pivot degree.
-use Rattle.std.proofs.Common.{◌≡◌, ℕ, zero, suc, ◌+◌, ◌-◌, ◌<◌, ◌≤◌, List, [], ◌∷◌, length, refl, sym, ◌∙◌, ap, subst, arith, All}
+use Rattle.std.proofs.Common.{◌≡◌, ℕ, suc, ◌+◌, ◌-◌, ◌<◌, List, [], ◌∷◌, length, refl, sym, ◌∙◌, ap, subst, arith, All}
 use Rattle.ring_theory.specs.Rows.{Row}
 use Rattle.ff_fields.specs.Field.{CodeField}
 use Rattle.ff_fields.specs.Code.{code_ring, code_field}
-use Rattle.ff_fields.specs.Over.{IsOver, IsOver_nil}
-use Rattle.ff_poly.specs.Words.{IsPoly}
 use Rattle.ff_poly.specs.Value.{value}
 use Rattle.ff_poly.specs.Polynomials.{Polynomial, codes_of, IsOver_codes_of, IsPoly_codes_of, value_codes_of, value_nil}
-use Rattle.ff_poly.specs.Popov.{row_at, entry_at, IsRow, IsPopov, HasMultipleIn, multiple_of_row, pivot_degree, pivot_degree_from}
+use Rattle.ff_poly.specs.Popov.{row_at, entry_at, IsRow, IsPopov, multiple_of_row, pivot_degree, pivot_degree_from}
 use Rattle.popov_theory.specs.Module.{PolynomialModule, row_degree}
 use Rattle.popov_theory.specs.Popov as theory
 use Rattle.popov_theory.specs.Span as spans

@@ -119,7 +119,8 @@ fn corner(alloc: Global, rows: &[Vec<Poly>], n: usize) -> Result<Vec<Vec<Poly>>,
 }
 
 /// The Popov basis of the rows z with z·m in the lattice of ls, where the power of x is high enough; or None, which comes only
-/// below each length that multiples in the lattice have at most.
+/// below each length that multiples in the lattice have at most. A number of columns beyond the end of its type, which no memory
+/// holds, is a want of memory.
 fn preimage_at<K: SmallField>(
     alloc: Global,
     k: &K,

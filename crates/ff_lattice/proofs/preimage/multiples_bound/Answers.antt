@@ -1,7 +1,6 @@
-use Rattle.std.proofs.Common.{◌≡◌, ◌+◌, ◌-◌, ◌<◌, length, ap, sym, subst, ◌∙◌, arith}
+use Rattle.std.proofs.Common.{length, ap, sym, subst, ◌∙◌, arith}
 use Rattle.std.proofs.lemmas.List.{length-map}
 use Rattle.ff_poly.specs.Popov.{rows_of, IsPopov}
-use Rattle.ff_lattice.specs.Steps.{pivot_sum}
 use Rattle.ff_lattice.proofs.PivotSums.{next_sum, entry_inside, pivot_is}
 use Rattle.ff_lattice.proofs.preimage.multiples_bound.Goals as goal
 

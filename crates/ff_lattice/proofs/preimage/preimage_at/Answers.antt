@@ -60,8 +60,8 @@ returns-then-not-has_zero_corner g c =
     λ bound h.
     let no : bound ≤ c.args.power → ⊥
     = λ le.
-        let zeros = zero_corner k r w c.requires.some c.requires.positive (rows_of c.args.m.now) (rows_of c.args.ls.now) (length-map c.args.m.now (λ v. v.items)) c.requires.m_in c.requires.ls_in
-        c.args.power gs c.in_ok-rows.ensures whole sized.1 sized.0 sized.2 bound h le in
-        let bad : false ≡ true = sym c.if-not-has_zero_corner.true ∙ c.has_zero_corner.ensures.1 (subst (λ vs. HasZeroCorner r (rows_of vs)) (sym c.deref.ensures.value) zeros) in
-        (cc) in
+    let zeros = zero_corner k r w c.requires.some c.requires.positive (rows_of c.args.m.now) (rows_of c.args.ls.now) (length-map c.args.m.now (λ v. v.items)) c.requires.m_in c.requires.ls_in
+    c.args.power gs c.in_ok-rows.ensures whole sized.1 sized.0 sized.2 bound h le in
+    let bad : false ≡ true = sym c.if-not-has_zero_corner.true ∙ c.has_zero_corner.ensures.1 (subst (λ vs. HasZeroCorner r (rows_of vs)) (sym c.deref.ensures.value) zeros) in
+    (cc) in
     omega (arith, no)
