@@ -11,10 +11,10 @@ use Rattle.ff_poly.specs.Words.{IsPoly, IsMonic, IsQuotient, Divides, product_of
 use Rattle.ff_poly.specs.PolyOver.{IsOver_product_of}
 use Rattle.ff_poly.specs.Value.{value, value_product, value_sum}
 use Rattle.ff_poly.specs.Polynomials.{Polynomial, polynomials, codes_of, IsOver_codes_of, IsPoly_codes_of, value_codes_of, value_one}
-use Rattle.ff_poly.specs.Popov.{rows_of, row_at, entry_at, IsRow, InSpan, combination}
+use Rattle.ff_poly.specs.Popov.{rows_of, row_at, entry_at, IsRow, InSpan, combination, multiple_of_row}
 use Rattle.std.specs.Global.{Vec}
 use Rattle.ff_poly.proofs.Parts.{IsPoly_product_of, IsMonic_product}
-use Rattle.ff_lattice.specs.Steps.{IsPreimage, IsAnnihilator, IsNext, IsRowMultiplier, IsLeastMultiplier}
+use Rattle.ff_lattice.specs.Steps.{HasShortMultiples, IsPreimage, IsAnnihilator, IsNext, IsRowMultiplier, IsLeastMultiplier}
 use Rattle.ff_lattice.proofs.Elements.{DividesPol, divides_value, divides_codes}
 use Rattle.ff_lattice.proofs.Divisors.{pol_rest, pol_times, pol_scale, divides_product, divides_self, product_comm, sum_nil}
 
@@ -74,6 +74,34 @@ module _ (k : CodeField) where
               ∙ sym (single_combination h.quotient e h.quotient_in e_in);
         };
       }
+
+  -- e times each entry is in the lattice of e
+  single_short : (e : List ℕ) → IsOver k.ops e → IsPoly e → ¬ (e ≡ []) → HasShortMultiples k.ops 1 ((e ∷ []) ∷ []) (length e)
+  single_short e e_in e_poly e_some = record {
+    multiple = λ v row. record {
+      factor = e;
+      factor_in = e_in;
+      factor_poly = e_poly;
+      factor_some = e_some;
+      in_span = go v row.size row.over;
+    };
+    short = λ v row. omega arith;
+  }
+    where
+      go : (v : List (List ℕ)) → length v ≡ 1 → All (IsOver k.ops) v → InSpan k.ops 1 ((e ∷ []) ∷ []) (multiple_of_row k.ops e v)
+      go [] size over = absurd (omega (arith, size))
+      go (a ∷ b ∷ v) size over = absurd (omega (arith, size))
+      go (a ∷ []) size over =
+          let a_in = All-head (IsOver k.ops) a [] over in
+          let product_in = IsOver_product_of k e_in a_in in
+          let product_poly = IsPoly_product_of k.ops e a in
+          (single_span e (product_of k.ops e a) e_in product_in product_poly).1
+          (divides_codes k e (product_of k.ops e a) e_in product_in product_poly (record { quotient = value k a; is = value_product k e a e_in a_in }))
+
+  pub short_in : (e : List ℕ) → IsOver k.ops e → IsPoly e → ¬ (e ≡ []) → (ls : List (Vec (List ℕ))) → rows_of ls ≡ (e ∷ []) ∷ [] → (bound : ℕ) → bound ≡ length e
+      → HasShortMultiples k.ops 1 (rows_of ls) bound
+  short_in e e_in e_poly e_some ls ls_is bound is =
+      subst (HasShortMultiples k.ops 1 (rows_of ls)) (sym is) (subst (λ rows. HasShortMultiples k.ops 1 rows (length e)) (sym ls_is) (single_short e e_in e_poly e_some))
 
   -- a list of one row of one entry
   one_row : (basis : List (List (List ℕ))) → length basis ≡ 1 → length (row_at basis 0) ≡ 1 → basis ≡ (entry_at (row_at basis 0) 0 ∷ []) ∷ []

@@ -45,7 +45,7 @@ module _ {A V U : Type 0} {k : TestedRing A} (M : PolynomialModule k V) (N : Pol
   swapped c u = sym (scale_scale N c t u) ∙ ap (λ p. N.◌·◌ p u) ((pol_ring k).mul_comm c t) ∙ scale_scale N t c u
 
   -- (v, 0) is twisted just where φ takes v into the span
-  twisted_zero : (v : V) → InSpan N ls (φ v) → Twisted (v, N.𝟎)
+  pub twisted_zero : (v : V) → InSpan N ls (φ v) → Twisted (v, N.𝟎)
   twisted_zero v v_in = record {
     offset = N.⊟◌ (φ v);
     offset_in = neg_in N (InSpan N ls) (span_submodule N ls) (φ v) v_in;

@@ -4,6 +4,7 @@ pub mod Elements
 pub mod Scaled
 pub mod Transport
 pub mod KernelRows
+pub mod Corners
 pub mod SplitRows
 pub mod Spaces
 pub mod PivotSums
@@ -40,5 +41,6 @@ pub mod ColonSets
 pub mod Kept
 pub mod IdealRows
 pub mod PivotIndices
+pub mod ShortMultiples
 pub mod CodeCounts
 pub mod QuotientDimensions

@@ -2,13 +2,14 @@
 use Rattle.std.proofs.Common.{◌≡◌, ◌≢◌, ℕ, zero, suc, ◌+◌, ◌-◌, ◌*◌, ◌<◌, ◌≤◌, ◌⊎◌, inl, inr, List, [], ◌∷◌, ◌++◌, length, get_or, map, replicate, take, drop, refl, sym, ◌∙◌, ap, ap₂, subst, arith, All, length-append, suc-mul}
 use Rattle.std.proofs.lemmas.Bool.{cases_lt}
 use Rattle.std.proofs.lemmas.List.{length-map, length-set, length-replicate, length-take-le, get_or-take, get_or-drop, get_or-set_same, get_or-set_other}
+use Rattle.std.proofs.Math.ListN.{get_or-append}
 use Rattle.std.proofs.Math.Seq.{take-append_seam, drop-append_seam, get_or-append_seam}
 use Rattle.std.proofs.lemmas.List.Elements.{All-nil, All-cons, All-head, All-tail, All-append, All-set, All-replicate}
 use native.Mathlib.Decide.{ℕ_discrete}
 use mathlib.Core.Path.{fun_ext}
 use Rattle.ring_theory.specs.Lists.{coeff_of}
 use Rattle.ring_theory.specs.Rows.{Row, row_zero, row_scale, entry}
-use Rattle.ring_theory.proofs.Ring.{mul_zero}
+use Rattle.ring_theory.proofs.Ring.{mul_zero, product_not_zero}
 use Rattle.ring_theory.proofs.Rows.{pair_path, row_scale_zero}
 use Rattle.ff_fields.specs.Field.{CodeField}
 use Rattle.ff_fields.specs.Code.{code_ring, code_field, same_code}
@@ -16,30 +17,33 @@ use Rattle.ff_fields.specs.Over.{IsOver, IsOver_nil, IsOver_cons, IsOver_zeros, 
 use Rattle.ff_poly.specs.Words.{IsPoly, IsMonic, shifted}
 use Rattle.ff_poly.specs.PolyOver.{IsPoly_poly_of}
 use Rattle.ff_poly.specs.Value.{value}
-use Rattle.ff_poly.specs.Polynomials.{Polynomial, polynomials, polynomials_domain, value_nil, value_one}
-use Rattle.ff_poly.specs.Popov.{row_at, entry_at, IsRow, IsPivot, IsPopov, HaveSameSpan, combination}
+use Rattle.ff_poly.specs.Polynomials.{Polynomial, polynomials, polynomials_domain, codes_of, IsOver_codes_of, IsPoly_codes_of, value_codes_of, value_nil, value_one, value_not_zero}
+use Rattle.ff_poly.specs.Popov.{row_at, entry_at, IsRow, IsPivot, IsPopov, HaveSameSpan, HasMultipleIn, HasFullRank, combination, multiple_of_row}
 use Rattle.popov_theory.specs.Module.{PolynomialModule}
 use Rattle.popov_theory.specs.Span as theory
 use Rattle.popov_theory.specs.Popov as forms
 use Rattle.popov_theory.specs.Span.{combine}
 use Rattle.popov_theory.proofs.Module.{same_columns, scale_zero}
-use Rattle.popov_theory.proofs.Product.{product_zero}
+use Rattle.popov_theory.proofs.Product.{product_zero, product_scale}
 use Rattle.popov_theory.proofs.Span.{span_row, span_zero, span_least, combine_add, combine_scale, within_rows}
 use Rattle.popov_theory.proofs.PopovForm.{row_past}
 use Rattle.popov_theory.proofs.PolynomialRows.{row_module_zero, row_module_add, row_module_scale, entry_add, entry_scale, entry_zero, same_entries}
 use Rattle.popov_theory.proofs.Kernel.{W, IsLinear}
 use Rattle.ff_popov.specs.Reading.{read_row, row_space, read_rows}
-use Rattle.ff_popov.proofs.ReadRows.{entry_read, read_row_at, past_row, read_zeros}
-use Rattle.ff_popov.proofs.Spans.{to_space, from_space, combination_read, combination_row, combine_same}
+use Rattle.ff_popov.proofs.ReadRows.{entry_read, read_row_at, past_row, read_zeros, over_at}
+use Rattle.ff_popov.proofs.Spans.{to_space, from_space, space_multiple, multiple_row, combination_read, combination_row, combine_same}
 use Rattle.ff_popov.proofs.Measures.{space_width, coef_read, coef_short}
 use Rattle.ff_popov.proofs.PopovBasis.{basis_popov}
 use Rattle.ff_popov.proofs.Entries.{any_default}
-use Rattle.ff_lattice.specs.Steps.{unit_row, lifted, IsTwistedRows, HasZeroCorner, corner, IsPreimage}
+use Rattle.ff_popov.proofs.FullRank.{space_full_rank}
+use Rattle.ff_lattice.specs.Steps.{unit_row, lifted, IsTwistedRows, HasZeroCorner, HasShortMultiples, corner, IsPreimage}
 use Rattle.ff_lattice.proofs.Fracs.{row_cancel}
-use Rattle.ff_lattice.proofs.Scaled.{coeff_code}
+use Rattle.ff_lattice.proofs.Scaled.{coeff_code, value_length}
 use Rattle.ff_lattice.proofs.Spaces.{combine_one, value_shifted, power_of_x, same_space, combination_poly}
-use Rattle.ff_lattice.proofs.Transport.{moved, moved_at, moved_popov, span_moved, span_back}
+use Rattle.ff_lattice.proofs.Transport.{moved, moved_at, moved_scale, moved_popov, span_moved, span_back}
+use Rattle.ff_lattice.proofs.SpannedSets.{multiple_poly}
 use Rattle.ff_lattice.proofs.SplitRows.{cut, join, cut_join, cut_width, cut_coef, cut_read}
+use Rattle.ff_lattice.proofs.Corners.{twisted_multiple, right_null}
 use Rattle.ff_lattice.proofs.KernelRows.{Twisted, twisted_submodule, twisted_first, twisted_second, twisted_in, kernel_rows, kernel_at, kernel_length, kernel_in, kernel_all}
 
 -- ---- the rows of codes
@@ -48,6 +52,11 @@ none_at : (n j : ℕ) → entry_at (replicate n []) j ≡ []
 none_at zero j = refl
 none_at (suc n) zero = refl
 none_at (suc n) (suc j) = none_at n j
+
+zeros_at : (n i : ℕ) → ◌≡◌ {A = ℕ} (get_or (replicate n 0) i 0) 0
+zeros_at zero i = refl
+zeros_at (suc n) zero = refl
+zeros_at (suc n) (suc i) = zeros_at n i
 
 pub unit_length : (n i : ℕ) → length (unit_row n i) ≡ n
 unit_length n i = length-set (replicate n []) i (1 ∷ []) ∙ length-replicate n []
@@ -67,6 +76,11 @@ rows_past (r ∷ rows) zero le = absurd (omega (arith, le))
 rows_past (r ∷ rows) (suc i) le = rows_past rows i (omega (arith, le))
 
 module _ (k : CodeField) where
+  -- codes of the polynomial 0
+  no_value : (a : List ℕ) → IsOver k.ops a → IsPoly a → value k a ≡ (polynomials k).𝟘 → a ≡ []
+  no_value [] a_in a_poly e = refl
+  no_value (x ∷ xs) a_in a_poly e = absurd (value_not_zero k (x ∷ xs) a_in a_poly (λ z. absurd (omega (arith, ap length z))) e)
+
   pub unit_over : (n i : ℕ) → All (IsOver k.ops) (unit_row n i)
   unit_over n i = All-set (IsOver k.ops) (replicate n []) i (1 ∷ []) (IsOver_cons k.laws.one_below IsOver_nil) (All-replicate (IsOver k.ops) n [] IsOver_nil)
 
@@ -273,6 +287,12 @@ module _ (k : CodeField) where
     t_some : ¬ (t ≡ (polynomials k).𝟘)
     t_some = power_some power
 
+    t_low : (i : ℕ) → i < power → coeff_of (code_ring k).ops t.0 i ≡ (code_ring k).𝟘
+    t_low i less =
+        same_code k _ _
+        (coeff_code k (replicate power 0 ++ 1 ∷ []) i (IsOver_append (IsOver_zeros k power) (IsOver_cons k.laws.one_below IsOver_nil))
+        ∙ get_or-append (replicate power 0) (1 ∷ []) 0 i (omega (arith, less, length-replicate {A = ℕ} power 0)) ∙ zeros_at power i)
+
     cancel : (u : Row (Polynomial k) (suc (c - 1))) → N.◌·◌ t u ≡ N.𝟎 → u ≡ N.𝟎
     cancel u e =
         row_cancel (polynomials k).ring (polynomials_domain k) (suc (c - 1)) t u (row_zero (polynomials k).ops (suc (c - 1))) t_some
@@ -354,7 +374,38 @@ module _ (k : CodeField) where
             (product_zero M N ∙ pair_path refl (sym (ap (N.◌·◌ t) (row_past N ls' j (omega (arith, past, ls_length))) ∙ scale_zero N t)))
             (span_zero W₀ Gs)
 
-    module _ (rows : List (List (List ℕ))) (rows_in : All (IsRow k.ops (r + c)) rows) (popov : IsPopov (r + c) rows) (span : HaveSameSpan k.ops (r + c) gs rows) (zeros : HasZeroCorner r rows) where
+    -- the rows have full rank where those of ls have
+    codes_multiple : (v : List (List ℕ)) → IsRow k.ops (r + c) v → (h : Polynomial k) → ¬ (h ≡ (polynomials k).𝟘)
+        → theory.InSpan N ls' (N.◌·◌ h (N.◌⊞◌ (ι (read_row k (suc (r + c - 1)) v)).1 (N.⊟◌ (φ (M.◌·◌ t (ι (read_row k (suc (r + c - 1)) v)).0))))) → HasMultipleIn k.ops (r + c) gs v
+    codes_multiple v v_row h some h_in =
+        let V = read_row k (suc (r + c - 1)) v in
+        let d = (polynomials k).◌⊗◌ t h in
+        let f_in = IsOver_codes_of k d in
+        record {
+          factor = codes_of k d;
+          factor_in = f_in;
+          factor_poly = IsPoly_codes_of k d;
+          factor_some = λ e.
+              product_not_zero (polynomials_domain k) t h t_some some
+              (sym (value_codes_of k d) ∙ ap (value k) e ∙ value_nil k);
+          in_span =
+              from_space k (r + c) gs gs_in (multiple_of_row k.ops (codes_of k d) v) (multiple_row k (r + c) (codes_of k d) v f_in v_row) (multiple_poly k (codes_of k d) v)
+              (span_back whole W₀ ι same_width coef (read_rows k (r + c) gs) (read_row k (suc (r + c - 1)) (multiple_of_row k.ops (codes_of k d) v))
+              (subst (theory.InSpan W₀ Gs)
+              (sym (product_scale M N d (ι V)) ∙ sym (moved_scale whole W₀ ι same_width coef d V)
+              ∙ ap ι (ap (λ q. whole.◌·◌ q V) (sym (value_codes_of k d)) ∙ sym (space_multiple k (r + c) (codes_of k d) v f_in v_row.over)))
+              (twisted_gs _ (twisted_multiple M N (code_field k) φ linear ls' t cancel (ι V).0 (ι V).1 h h_in))));
+        }
+
+    pub gs_full : HasFullRank k.ops c ls → HasFullRank k.ops (r + c) gs
+    gs_full full = record {
+      multiple = λ v v_row.
+          let V = read_row k (suc (r + c - 1)) v in
+          let f = (space_full_rank k c c_pos ls ls_in full).multiple (N.◌⊞◌ (ι V).1 (N.⊟◌ (φ (M.◌·◌ t (ι V).0)))) in
+          codes_multiple v v_row f.factor f.some f.in_span;
+    }
+
+    module _ (rows : List (List (List ℕ))) (rows_in : All (IsRow k.ops (r + c)) rows) (popov : IsPopov (r + c) rows) (span : HaveSameSpan k.ops (r + c) gs rows) where
       abbrev Ps : List (Row (Polynomial k) (suc (r - 1)) × Row (Polynomial k) (suc (c - 1)))
       Ps = move (read_rows k (r + c) rows)
 
@@ -387,130 +438,157 @@ module _ (k : CodeField) where
           ∙ cut_read k (r - 1) (c - 1) (r + c - 1) width (row_at rows i)
           ∙ ap (λ n. (read_row k (suc (r - 1)) (take n (row_at rows i)), read_row k (suc (c - 1)) (drop n (row_at rows i)))) r_is
 
-      right_zero : (i : ℕ) → i < M.width → (theory.row_at W₀ Ps i).1 ≡ N.𝟎
-      right_zero i less =
-          ap (λ q. q.1) (p_at i)
-          ∙ same_entries (code_ring k) (suc (c - 1)) (read_row k (suc (c - 1)) (drop r (row_at rows i))) (row_zero (polynomials k).ops (suc (c - 1))) (λ j j_less.
-          entry_read k (suc (c - 1)) j (drop r (row_at rows i)) j_less
-          ∙ ap (value k) (get_or-drop r (row_at rows i) j [] ∙ zeros.zero_at i (r + j) (omega (arith, less, space_width k r, r_is)) (omega arith)) ∙ value_nil k
-          ∙ sym (entry_zero (code_ring k) (suc (c - 1)) j))
-          ∙ sym (row_module_zero (code_ring k) (c - 1))
+      -- where the power of x is high enough the right parts are zero
+      short_row : (bound : ℕ) → HasShortMultiples k.ops c ls bound → bound ≤ power → (i : ℕ) → i < r → (theory.row_at W₀ Ps i).1 ≡ N.𝟎
+      short_row bound h le i less =
+          let f = h.multiple (row_at m i) (row_m i less) in
+          right_null M N (code_field k) φ linear ls' t cancel power t_low Ps p_popov left right i (omega (arith, less, space_width k r, r_is)) (value k f.factor)
+          (value_not_zero k f.factor f.factor_in f.factor_poly f.factor_some)
+          (omega (arith, value_length k f.factor f.factor_in f.factor_poly, h.short (row_at m i) (row_m i less), le))
+          (subst (theory.InSpan N ls')
+          (space_multiple k c f.factor (row_at m i) f.factor_in (row_m i less).over ∙ ap (N.◌·◌ (value k f.factor)) (sym (φ_unit i less)))
+          (to_space k c ls ls_in (multiple_of_row k.ops f.factor (row_at m i)) f.in_span))
 
-      -- the left parts
-      abbrev basis : List (List (List ℕ))
-      basis = corner r rows
+      entry_null : (i j : ℕ) → i < r → j < c → (theory.row_at W₀ Ps i).1 ≡ N.𝟎 → entry_at (row_at rows i) (r + j) ≡ []
+      entry_null i j less j_less null =
+          no_value (entry_at (row_at rows i) (r + j)) (over_at k (row_at rows i) (rows_in i [] (omega (arith, less, popov.size))).over (r + j)) (popov.trimmed i (r + j))
+          (ap (value k) (sym (get_or-drop r (row_at rows i) j []))
+          ∙ sym (entry_read k (suc (c - 1)) j (drop r (row_at rows i)) (omega (arith, j_less)))
+          ∙ ap (entry (polynomials k).ops (suc (c - 1)) j) (sym (ap (λ q. q.1) (p_at i)) ∙ null ∙ row_module_zero (code_ring k) (c - 1))
+          ∙ entry_zero (code_ring k) (suc (c - 1)) j)
 
-      corner_at : (xs : List (List (List ℕ))) (i : ℕ) → i < length xs → row_at (map (take r) xs) i ≡ take r (row_at xs i)
-      corner_at [] i less = absurd (omega (arith, less))
-      corner_at (x ∷ xs) zero less = refl
-      corner_at (x ∷ xs) (suc i) less = corner_at xs i (omega (arith, less))
-
-      first_length : length (take r rows) ≡ r
-      first_length = length-take-le r rows (omega (arith, popov.size))
-
-      basis_length : length basis ≡ r
-      basis_length = length-map (take r rows) (take r) ∙ first_length
-
-      basis_at : (i : ℕ) → i < r → row_at basis i ≡ take r (row_at rows i)
-      basis_at i less = corner_at (take r rows) i (omega (arith, less, first_length)) ∙ ap (take r) (get_or-take r rows i [] less)
-
-      row_rows : (i : ℕ) → i < r → IsRow k.ops (r + c) (row_at rows i)
-      row_rows i less = rows_in i [] (omega (arith, less, popov.size))
-
-      entry_basis : (i j : ℕ) → i < r → j < r → entry_at (row_at basis i) j ≡ entry_at (row_at rows i) j
-      entry_basis i j i_less j_less = ap (λ x. entry_at x j) (basis_at i i_less) ∙ get_or-take r (row_at rows i) j [] j_less
-
-      take_row : (v : List (List ℕ)) → IsRow k.ops (r + c) v → IsRow k.ops r (take r v)
-      take_row v row = record {
-        size = length-take-le r v (omega (arith, row.size));
-        over = λ j d less.
-            let size : length (take r v) ≡ r = length-take-le r v (omega (arith, row.size)) in
-            subst (IsOver k.ops) (sym (get_or-take r v j d (omega (arith, less, size)))) (row.over j d (omega (arith, less, size, row.size)));
-      }
-
-      basis_row : (i : ℕ) → i < r → IsRow k.ops r (row_at basis i)
-      basis_row i less = subst (IsRow k.ops r) (sym (basis_at i less)) (take_row (row_at rows i) (row_rows i less))
-
-      pub basis_in : All (IsRow k.ops r) basis
-      basis_in i d less = subst (IsRow k.ops r) (any_default basis i [] d less) (basis_row i (omega (arith, less, basis_length)))
-
-      entry_past : (i j : ℕ) → i < r → r ≤ j → entry_at (row_at basis i) j ≡ []
-      entry_past i j less past = past_row (row_at basis i) j (omega (arith, past, (basis_row i less).size))
-
-      entry_short : (i j : ℕ) → i < r → length (entry_at (row_at basis i) j) ≤ length (entry_at (row_at rows i) j)
-      entry_short i j less = go (cases_lt j r)
+      pub zero_corner : (bound : ℕ) → HasShortMultiples k.ops c ls bound → bound ≤ power → HasZeroCorner r rows
+      zero_corner bound h le = record { zero_at = λ i j less more. go i (j - r) less (cases_lt (j - r) c) j (omega (arith, more)) }
         where
-          go : (j < r) ⊎ (r ≤ j) → length (entry_at (row_at basis i) j) ≤ length (entry_at (row_at rows i) j)
-          go (inl in_r) = omega (arith, ap length (entry_basis i j less in_r))
-          go (inr past) = omega (arith, ap length (entry_past i j less past))
+          go : (i j : ℕ) → i < r → (j < c) ⊎ (c ≤ j) → (n : ℕ) → n ≡ r + j → entry_at (row_at rows i) n ≡ []
+          go i j less (inl j_less) n e = ap (entry_at (row_at rows i)) e ∙ entry_null i j less j_less (short_row bound h le i less)
+          go i j less (inr past) n e = past_row (row_at rows i) n (omega (arith, e, past, (rows_in i [] (omega (arith, less, popov.size))).size))
 
-      basis_pivot : (i : ℕ) → i < r → IsPivot (row_at basis i) i
-      basis_pivot i less =
-          let p = popov.pivot_at i (omega (arith, less)) in
-          let same = ap length (entry_basis i i less less) in
-          record {
-            some = omega (arith, p.some, same);
-            greatest = λ j. omega (arith, p.greatest j, same, entry_short i j less);
-            rightmost = λ j after. omega (arith, p.rightmost j after, same, entry_short i j less);
-          }
+      module _ (zeros : HasZeroCorner r rows) where
+        right_zero : (i : ℕ) → i < M.width → (theory.row_at W₀ Ps i).1 ≡ N.𝟎
+        right_zero i less =
+            ap (λ q. q.1) (p_at i)
+            ∙ same_entries (code_ring k) (suc (c - 1)) (read_row k (suc (c - 1)) (drop r (row_at rows i))) (row_zero (polynomials k).ops (suc (c - 1))) (λ j j_less.
+            entry_read k (suc (c - 1)) j (drop r (row_at rows i)) j_less
+            ∙ ap (value k) (get_or-drop r (row_at rows i) j [] ∙ zeros.zero_at i (r + j) (omega (arith, less, space_width k r, r_is)) (omega arith)) ∙ value_nil k
+            ∙ sym (entry_zero (code_ring k) (suc (c - 1)) j))
+            ∙ sym (row_module_zero (code_ring k) (c - 1))
 
-      basis_trimmed : (i j : ℕ) → (i < r) ⊎ (r ≤ i) → (j < r) ⊎ (r ≤ j) → IsPoly (entry_at (row_at basis i) j)
-      basis_trimmed i j (inl less) (inl j_less) = subst IsPoly (sym (entry_basis i j less j_less)) (popov.trimmed i j)
-      basis_trimmed i j (inl less) (inr past) = subst IsPoly (sym (entry_past i j less past)) (record { trimmed = tt })
-      basis_trimmed i j (inr past) side = subst (λ row. IsPoly (entry_at row j)) (sym (rows_past basis i (omega (arith, past, basis_length)))) (record { trimmed = tt })
+        -- the left parts
+        abbrev basis : List (List (List ℕ))
+        basis = corner r rows
 
-      pub basis_is : IsPopov r basis
-      basis_is = record {
-        size = basis_length;
-        pivot_at = basis_pivot;
-        monic = λ i less. subst IsMonic (sym (entry_basis i i less less)) (popov.monic i (omega (arith, less)));
-        smaller = λ i j i_less j_less differ.
-            omega (
-              arith,
-              ap length (entry_basis i j i_less j_less),
-              ap length (entry_basis j j j_less j_less),
-              popov.smaller i j (omega (arith, i_less)) (omega (arith, j_less)) differ,
-            );
-        trimmed = λ i j. basis_trimmed i j (cases_lt i r) (cases_lt j r);
-      }
+        corner_at : (xs : List (List (List ℕ))) (i : ℕ) → i < length xs → row_at (map (take r) xs) i ≡ take r (row_at xs i)
+        corner_at [] i less = absurd (omega (arith, less))
+        corner_at (x ∷ xs) zero less = refl
+        corner_at (x ∷ xs) (suc i) less = corner_at xs i (omega (arith, less))
 
-      -- they are the rows of the kernel
-      abbrev kernel : List (Row (Polynomial k) (suc (r - 1)))
-      kernel = kernel_rows M N (code_field k) φ linear ls' t cancel Ps p_popov left right right_zero
+        first_length : length (take r rows) ≡ r
+        first_length = length-take-le r rows (omega (arith, popov.size))
 
-      same_kernel : (i : ℕ) → theory.row_at M (read_rows k r basis) i ≡ theory.row_at M kernel i
-      same_kernel i = go (cases_lt i r)
-        where
-          go : (i < r) ⊎ (r ≤ i) → theory.row_at M (read_rows k r basis) i ≡ theory.row_at M kernel i
-          go (inl less) =
-              read_row_at k r basis i ∙ ap (read_row k (suc (r - 1))) (basis_at i less)
-              ∙ sym (kernel_at M N (code_field k) φ linear ls' t cancel Ps p_popov left right right_zero i (omega (arith, less, space_width k r, r_is)) ∙ ap (λ q. q.0) (p_at i))
-          go (inr past) =
-              row_past M (read_rows k r basis) i (omega (arith, past, basis_length, length-map basis (read_row k (suc (r - 1)))))
-              ∙ sym (row_past M kernel i (omega (arith, past, kernel_length M N (code_field k) φ linear ls' t cancel Ps p_popov left right right_zero, space_width k r, r_is)))
+        basis_length : length basis ≡ r
+        basis_length = length-map (take r rows) (take r) ∙ first_length
 
-      to_kernel : (v : Row (Polynomial k) (suc (r - 1))) → theory.InSpan M (read_rows k r basis) v → theory.InSpan M kernel v
-      to_kernel = (within_rows M (read_rows k r basis) kernel (λ i. subst (theory.InSpan M kernel) (sym (same_kernel i)) (span_row M kernel i))).within
+        basis_at : (i : ℕ) → i < r → row_at basis i ≡ take r (row_at rows i)
+        basis_at i less = corner_at (take r rows) i (omega (arith, less, first_length)) ∙ ap (take r) (get_or-take r rows i [] less)
 
-      from_kernel : (v : Row (Polynomial k) (suc (r - 1))) → theory.InSpan M kernel v → theory.InSpan M (read_rows k r basis) v
-      from_kernel = (within_rows M kernel (read_rows k r basis) (λ i. subst (theory.InSpan M (read_rows k r basis)) (same_kernel i) (span_row M (read_rows k r basis) i))).within
+        row_rows : (i : ℕ) → i < r → IsRow k.ops (r + c) (row_at rows i)
+        row_rows i less = rows_in i [] (omega (arith, less, popov.size))
 
-      -- the left parts of the first rows are the Popov basis of the rows that m takes into the lattice
-      pub preimage_is : IsPreimage k.ops r c m ls basis
-      preimage_is = record {
-        rows_in = basis_in;
-        popov = basis_is;
-        members = λ z z_row z_poly.
-            let size = z_row.size ∙ sym m_size in (
-              λ z_in.
-                  from_space k c ls ls_in (combination k.ops c z m) (combination_row k c z m z_row.over m_in) (combination_poly k c z m size z_row.over)
-                  (subst (theory.InSpan N ls') (φ_read z z_row)
-                  (kernel_in M N (code_field k) φ linear ls' t cancel Ps p_popov left right right_zero (read_row k (suc (r - 1)) z)
-                  (to_kernel (read_row k (suc (r - 1)) z) (to_space k r basis basis_in z z_in)))),
-              λ zm_in.
-                  from_space k r basis basis_in z z_row z_poly
-                  (from_kernel (read_row k (suc (r - 1)) z)
-                  (kernel_all M N (code_field k) φ linear ls' t cancel Ps p_popov left right right_zero (read_row k (suc (r - 1)) z)
-                  (subst (theory.InSpan N ls') (sym (φ_read z z_row)) (to_space k c ls ls_in (combination k.ops c z m) zm_in)))),
-            );
-      }
+        entry_basis : (i j : ℕ) → i < r → j < r → entry_at (row_at basis i) j ≡ entry_at (row_at rows i) j
+        entry_basis i j i_less j_less = ap (λ x. entry_at x j) (basis_at i i_less) ∙ get_or-take r (row_at rows i) j [] j_less
+
+        take_row : (v : List (List ℕ)) → IsRow k.ops (r + c) v → IsRow k.ops r (take r v)
+        take_row v row = record {
+          size = length-take-le r v (omega (arith, row.size));
+          over = λ j d less.
+              let size : length (take r v) ≡ r = length-take-le r v (omega (arith, row.size)) in
+              subst (IsOver k.ops) (sym (get_or-take r v j d (omega (arith, less, size)))) (row.over j d (omega (arith, less, size, row.size)));
+        }
+
+        basis_row : (i : ℕ) → i < r → IsRow k.ops r (row_at basis i)
+        basis_row i less = subst (IsRow k.ops r) (sym (basis_at i less)) (take_row (row_at rows i) (row_rows i less))
+
+        pub basis_in : All (IsRow k.ops r) basis
+        basis_in i d less = subst (IsRow k.ops r) (any_default basis i [] d less) (basis_row i (omega (arith, less, basis_length)))
+
+        entry_past : (i j : ℕ) → i < r → r ≤ j → entry_at (row_at basis i) j ≡ []
+        entry_past i j less past = past_row (row_at basis i) j (omega (arith, past, (basis_row i less).size))
+
+        entry_short : (i j : ℕ) → i < r → length (entry_at (row_at basis i) j) ≤ length (entry_at (row_at rows i) j)
+        entry_short i j less = go (cases_lt j r)
+          where
+            go : (j < r) ⊎ (r ≤ j) → length (entry_at (row_at basis i) j) ≤ length (entry_at (row_at rows i) j)
+            go (inl in_r) = omega (arith, ap length (entry_basis i j less in_r))
+            go (inr past) = omega (arith, ap length (entry_past i j less past))
+
+        basis_pivot : (i : ℕ) → i < r → IsPivot (row_at basis i) i
+        basis_pivot i less =
+            let p = popov.pivot_at i (omega (arith, less)) in
+            let same = ap length (entry_basis i i less less) in
+            record {
+              some = omega (arith, p.some, same);
+              greatest = λ j. omega (arith, p.greatest j, same, entry_short i j less);
+              rightmost = λ j after. omega (arith, p.rightmost j after, same, entry_short i j less);
+            }
+
+        basis_trimmed : (i j : ℕ) → (i < r) ⊎ (r ≤ i) → (j < r) ⊎ (r ≤ j) → IsPoly (entry_at (row_at basis i) j)
+        basis_trimmed i j (inl less) (inl j_less) = subst IsPoly (sym (entry_basis i j less j_less)) (popov.trimmed i j)
+        basis_trimmed i j (inl less) (inr past) = subst IsPoly (sym (entry_past i j less past)) (record { trimmed = tt })
+        basis_trimmed i j (inr past) side = subst (λ row. IsPoly (entry_at row j)) (sym (rows_past basis i (omega (arith, past, basis_length)))) (record { trimmed = tt })
+
+        pub basis_is : IsPopov r basis
+        basis_is = record {
+          size = basis_length;
+          pivot_at = basis_pivot;
+          monic = λ i less. subst IsMonic (sym (entry_basis i i less less)) (popov.monic i (omega (arith, less)));
+          smaller = λ i j i_less j_less differ.
+              omega (
+                arith,
+                ap length (entry_basis i j i_less j_less),
+                ap length (entry_basis j j j_less j_less),
+                popov.smaller i j (omega (arith, i_less)) (omega (arith, j_less)) differ,
+              );
+          trimmed = λ i j. basis_trimmed i j (cases_lt i r) (cases_lt j r);
+        }
+
+        -- they are the rows of the kernel
+        abbrev kernel : List (Row (Polynomial k) (suc (r - 1)))
+        kernel = kernel_rows M N (code_field k) φ linear ls' t cancel Ps p_popov left right right_zero
+
+        same_kernel : (i : ℕ) → theory.row_at M (read_rows k r basis) i ≡ theory.row_at M kernel i
+        same_kernel i = go (cases_lt i r)
+          where
+            go : (i < r) ⊎ (r ≤ i) → theory.row_at M (read_rows k r basis) i ≡ theory.row_at M kernel i
+            go (inl less) =
+                read_row_at k r basis i ∙ ap (read_row k (suc (r - 1))) (basis_at i less)
+                ∙ sym (kernel_at M N (code_field k) φ linear ls' t cancel Ps p_popov left right right_zero i (omega (arith, less, space_width k r, r_is)) ∙ ap (λ q. q.0) (p_at i))
+            go (inr past) =
+                row_past M (read_rows k r basis) i (omega (arith, past, basis_length, length-map basis (read_row k (suc (r - 1)))))
+                ∙ sym (row_past M kernel i (omega (arith, past, kernel_length M N (code_field k) φ linear ls' t cancel Ps p_popov left right right_zero, space_width k r, r_is)))
+
+        to_kernel : (v : Row (Polynomial k) (suc (r - 1))) → theory.InSpan M (read_rows k r basis) v → theory.InSpan M kernel v
+        to_kernel = (within_rows M (read_rows k r basis) kernel (λ i. subst (theory.InSpan M kernel) (sym (same_kernel i)) (span_row M kernel i))).within
+
+        from_kernel : (v : Row (Polynomial k) (suc (r - 1))) → theory.InSpan M kernel v → theory.InSpan M (read_rows k r basis) v
+        from_kernel = (within_rows M kernel (read_rows k r basis) (λ i. subst (theory.InSpan M (read_rows k r basis)) (same_kernel i) (span_row M (read_rows k r basis) i))).within
+
+        -- the left parts of the first rows are the Popov basis of the rows that m takes into the lattice
+        pub preimage_is : IsPreimage k.ops r c m ls basis
+        preimage_is = record {
+          rows_in = basis_in;
+          popov = basis_is;
+          members = λ z z_row z_poly.
+              let size = z_row.size ∙ sym m_size in (
+                λ z_in.
+                    from_space k c ls ls_in (combination k.ops c z m) (combination_row k c z m z_row.over m_in) (combination_poly k c z m size z_row.over)
+                    (subst (theory.InSpan N ls') (φ_read z z_row)
+                    (kernel_in M N (code_field k) φ linear ls' t cancel Ps p_popov left right right_zero (read_row k (suc (r - 1)) z)
+                    (to_kernel (read_row k (suc (r - 1)) z) (to_space k r basis basis_in z z_in)))),
+                λ zm_in.
+                    from_space k r basis basis_in z z_row z_poly
+                    (from_kernel (read_row k (suc (r - 1)) z)
+                    (kernel_all M N (code_field k) φ linear ls' t cancel Ps p_popov left right right_zero (read_row k (suc (r - 1)) z)
+                    (subst (theory.InSpan N ls') (sym (φ_read z z_row)) (to_space k c ls ls_in (combination k.ops c z m) zm_in)))),
+              );
+        }

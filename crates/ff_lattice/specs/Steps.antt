@@ -3,7 +3,7 @@ use Rattle.std.specs.Prelude.{◌≡◌, ℕ, zero, suc, ◌+◌, ◌-◌, ◌<�
 use Rattle.ff_fields.specs.Field.{FieldOps}
 use Rattle.ff_fields.specs.Over.{IsOver}
 use Rattle.ff_poly.specs.Words.{IsPoly, IsMonic, Divides, product_of, shifted}
-use Rattle.ff_poly.specs.Popov.{entry_at, row_at, IsRow, IsPopov, InSpan, combination, multiple_of_row}
+use Rattle.ff_poly.specs.Popov.{entry_at, row_at, IsRow, IsPopov, InSpan, HasMultipleIn, combination, multiple_of_row}
 use Rattle.function_field.specs.Values.{ElemValue}
 use Rattle.ff_lattice.specs.Lattices.{LatticeValue, IsMultiplier}
 
@@ -39,6 +39,11 @@ pub record IsPreimage (k : FieldOps) (n width : ℕ) (m ls basis : List (List (L
   pub rows_in : All (IsRow k n) basis
   pub popov : IsPopov n basis
   pub members : (z : List (List ℕ)) → IsRow k n z → All IsPoly z → InSpan k n basis z ↔ InSpan k width ls (combination k width z m)
+
+-- each row of the width has a multiple in the lattice of the rows by a polynomial other than 0 of at most this length
+pub record HasShortMultiples (k : FieldOps) (width : ℕ) (rows : List (List (List ℕ))) (bound : ℕ) : Type 0 where
+  pub multiple : (v : List (List ℕ)) → IsRow k width v → HasMultipleIn k width rows v
+  pub short : (v : List (List ℕ)) (row : IsRow k width v) → length (multiple v row).factor ≤ bound
 
 -- the monic polynomial whose multiples are the polynomials u for which e divides u·v
 pub record IsAnnihilator (k : FieldOps) (e v h : List ℕ) : Type 0 where

@@ -6,7 +6,7 @@ ghost use Rattle.ff_poly.specs.Words.{IsPoly, IsMonic, Divides, product_of};
 ghost use Rattle.ff_poly.specs.Popov.{rows_of, IsRow};
 ghost use Rattle.ff_lattice.specs.Steps.{IsAnnihilator, IsNext, IsRowMultiplier, IsLeastMultiplier, IsRowQuotient, IsQuotientOfRows};
 
-use crate::preimage::preimage;
+use crate::preimage::preimage_within;
 use ff_fields::field::SmallField;
 use ff_poly::{Poly, poly};
 use std::alloc::{AllocError, Global};
@@ -32,7 +32,7 @@ fn annihilator<K: SmallField>(alloc: Global, k: &K, e: &Poly, v: &Poly) -> Resul
     let (_, rest) = poly::divide(alloc, k, v, e)?;
     let m = single(alloc, rest)?;
     let ls = single(alloc, e.copy(alloc)?)?;
-    let basis = preimage(alloc, k, &m, &ls, 1)?;
+    let basis = preimage_within(alloc, k, &m, &ls, 1, e.len())?;
     let h = basis[0][0].copy(alloc)?;
     Ok(h)
 }

@@ -1,8 +1,8 @@
 //! The rows of polynomials that a matrix takes into a lattice.
 
-ghost use Rattle.std.specs.Prelude.{◌≡◌, ◌+◌, ◌<◌, ◌≤◌, ℕ, [], ◌++◌, length, map, replicate, All, IfOk, IfSome, OnOk, IsTrue};
+ghost use Rattle.std.specs.Prelude.{◌≡◌, ◌+◌, ◌<◌, ◌≤◌, ◌↔◌, ℕ, [], ◌++◌, length, map, replicate, All, IfOk, MatchOption, OnOk, IsTrue};
 ghost use Rattle.ff_poly.specs.Popov.{rows_of, row_at, entry_at, IsRow, IsPopov};
-ghost use Rattle.ff_lattice.specs.Steps.{lifted, unit_row, IsTwistedRows, IsBesideUnit, HasZeroCorner, corner, IsPreimage};
+ghost use Rattle.ff_lattice.specs.Steps.{lifted, unit_row, IsTwistedRows, IsBesideUnit, HasZeroCorner, HasShortMultiples, corner, IsPreimage, pivot_sum};
 
 use crate::positions::longest_entry;
 use crate::rows::{copy_row, unit_row, zero_row};
@@ -81,7 +81,7 @@ fn twisted_rows(
 
 /// Are the entries from the position on zero?
 fn is_zero_from(row: &[Poly], position: usize) -> bool
-    ensures { IsTrue result → (j : ℕ) → position ≤ j → entry_at row.now j ≡ [] }
+    ensures { IsTrue result ↔ ((j : ℕ) → position ≤ j → entry_at row.now j ≡ []) }
 {
     for j in position..row.len() {
         if !row[j].is_zero() {
@@ -94,7 +94,7 @@ fn is_zero_from(row: &[Poly], position: usize) -> bool
 /// Have the first n rows zeros from the position n on?
 fn has_zero_corner(rows: &[Vec<Poly>], n: usize) -> bool
     requires { n ≤ length rows.now }
-    ensures { IsTrue result → HasZeroCorner n (rows_of rows.now) }
+    ensures { IsTrue result ↔ HasZeroCorner n (rows_of rows.now) }
 {
     for i in 0..n {
         if !is_zero_from(&rows[i], n) {
@@ -118,7 +118,9 @@ fn corner(alloc: Global, rows: &[Vec<Poly>], n: usize) -> Result<Vec<Vec<Poly>>,
     Ok(out)
 }
 
-/// The Popov basis of the rows z with z·m in the lattice of ls, where the power of x is high enough; or None.
+/// The Popov basis of the rows z with z·m in the lattice of ls, where the power of x is high enough; or None, which comes only
+/// below each length that multiples in the lattice have at most. A number of columns beyond the end of its type, which no memory
+/// holds, is a want of memory.
 fn preimage_at<K: SmallField>(
     alloc: Global,
     k: &K,
@@ -131,8 +133,10 @@ fn preimage_at<K: SmallField>(
     requires positive { 0 < width }
     requires m_in { All (IsRow (K.field k.now).ops width) (rows_of m.now) }
     requires ls_in { All (IsRow (K.field k.now).ops width) (rows_of ls.now) }
-    ensures { IfOk result (λ found. IfSome found (λ basis.
-        IsPreimage (K.field k.now).ops (length m.now) width (rows_of m.now) (rows_of ls.now) (rows_of basis.items))) }
+    ensures { let k = (K.field k.now).ops in
+        IfOk result (λ found. MatchOption found
+        ((bound : ℕ) → HasShortMultiples k width (rows_of ls.now) bound → power < bound)
+        (λ basis. IsPreimage k (length m.now) width (rows_of m.now) (rows_of ls.now) (rows_of basis.items))) }
 {
     let total = m.len().checked_add(width).ok_or(AllocError)?;
     let rows = twisted_rows(alloc, m, ls, power)?;
@@ -150,6 +154,7 @@ fn preimage_at<K: SmallField>(
 /// the lengths that rows of the answer can have together, if that is more. No memory.
 fn first_power(rows: &[Vec<Poly>], count: usize) -> usize
     requires { 0 < count }
+    ensures { 0 < result }
 {
     let mut most = 1;
     let mut total: usize = 0;
@@ -161,10 +166,75 @@ fn first_power(rows: &[Vec<Poly>], count: usize) -> usize
     most.max(total / count)
 }
 
-/// The Popov basis of the rows z with z·m in the lattice of the rows ls, which has full rank. It is read off the Popov basis
-/// of the rows of ls behind zeros and those of m behind the unit matrix, all times a power of x that is doubled until it is
-/// above the degree of the answer; `first_power` mostly serves. It takes the time of that Popov basis, of as many rows as m and
-/// ls have.
+/// The pivot degree of the rows and 1: each row of their width has a multiple in their lattice by a polynomial of at most so many
+/// codes. Where the number is beyond the end of its type the pivots have more codes than memory holds, and that is a want of
+/// memory.
+fn multiples_bound(rows: &[Vec<Poly>]) -> Result<usize, AllocError>
+    requires { IsPopov (length rows.now) (rows_of rows.now) }
+    ensures { IfOk result (λ bound. bound ≡ pivot_sum (rows_of rows.now) (length rows.now) + 1) }
+{
+    let mut bound: usize = 1;
+    for i in 0..rows.len() {
+        bound = bound.checked_add(rows[i][i].len() - 1).ok_or(AllocError)?;
+    }
+    Ok(bound)
+}
+
+/// The basis at the last power of x, which is the bound of the lengths of multiples and always serves.
+fn last_preimage<K: SmallField>(
+    alloc: Global,
+    k: &K,
+    m: &[Vec<Poly>],
+    ls: &[Vec<Poly>],
+    width: usize,
+    bound: usize,
+) -> Result<Vec<Vec<Poly>>, AllocError>
+    requires some { 0 < length m.now }
+    requires positive { 0 < width }
+    requires m_in { All (IsRow (K.field k.now).ops width) (rows_of m.now) }
+    requires ls_in { All (IsRow (K.field k.now).ops width) (rows_of ls.now) }
+    requires short { HasShortMultiples (K.field k.now).ops width (rows_of ls.now) bound }
+    ensures { IfOk result (λ basis.
+        IsPreimage (K.field k.now).ops (length m.now) width (rows_of m.now) (rows_of ls.now) (rows_of basis.items)) }
+{
+    match preimage_at(alloc, k, m, ls, width, bound)? {
+        Some(basis) => Ok(basis),
+        None => unreachable!(),
+    }
+}
+
+/// The Popov basis of the rows z with z·m in the lattice of the rows ls, in which each row of the width has a multiple by a
+/// polynomial of at most so many codes. It is read off the Popov basis of the rows of ls behind zeros and those of m behind the
+/// unit matrix, all times a power of x that is doubled until it is above the degree of the answer, and is the bound at the
+/// last; `first_power` mostly serves. It takes the time of that Popov basis, of as many rows as m and ls have.
+pub(crate) fn preimage_within<K: SmallField>(
+    alloc: Global,
+    k: &K,
+    m: &[Vec<Poly>],
+    ls: &[Vec<Poly>],
+    width: usize,
+    bound: usize,
+) -> Result<Vec<Vec<Poly>>, AllocError>
+    requires some { 0 < length m.now }
+    requires positive { 0 < width }
+    requires m_in { All (IsRow (K.field k.now).ops width) (rows_of m.now) }
+    requires ls_in { All (IsRow (K.field k.now).ops width) (rows_of ls.now) }
+    requires short { HasShortMultiples (K.field k.now).ops width (rows_of ls.now) bound }
+    ensures { IfOk result (λ basis.
+        IsPreimage (K.field k.now).ops (length m.now) width (rows_of m.now) (rows_of ls.now) (rows_of basis.items)) }
+{
+    let mut power = first_power(ls, m.len());
+    while power < bound {
+        if let Some(basis) = preimage_at(alloc, k, m, ls, width, power)? {
+            return Ok(basis);
+        }
+        power = power.saturating_mul(2);
+    }
+    last_preimage(alloc, k, m, ls, width, bound)
+}
+
+/// The Popov basis of the rows z with z·m in the lattice of the Popov basis ls, as `preimage_within` finds it for the pivot degree
+/// of ls. A bound beyond the end of its type is a want of memory, as `multiples_bound` says.
 pub(crate) fn preimage<K: SmallField>(
     alloc: Global,
     k: &K,
@@ -176,15 +246,10 @@ pub(crate) fn preimage<K: SmallField>(
     requires positive { 0 < width }
     requires m_in { All (IsRow (K.field k.now).ops width) (rows_of m.now) }
     requires ls_in { All (IsRow (K.field k.now).ops width) (rows_of ls.now) }
+    requires popov { IsPopov width (rows_of ls.now) }
     ensures { IfOk result (λ basis.
         IsPreimage (K.field k.now).ops (length m.now) width (rows_of m.now) (rows_of ls.now) (rows_of basis.items)) }
 {
-    let mut power = first_power(ls, m.len());
-    for _ in 0..64u32 {
-        if let Some(basis) = preimage_at(alloc, k, m, ls, width, power)? {
-            return Ok(basis);
-        }
-        power = power.checked_mul(2).ok_or(AllocError)?;
-    }
-    Err(AllocError)
+    let bound = multiples_bound(ls)?;
+    preimage_within(alloc, k, m, ls, width, bound)
 }

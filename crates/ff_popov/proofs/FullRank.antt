@@ -68,7 +68,7 @@ module _ (k : CodeField) where
     abbrev rs : List (Row (Pol (code_ring k)) (suc (w - 1)))
     rs = read_rows k w rows
 
-    space_full_rank : HasFullRank k.ops w rows → spans.HasFullRank M rs
+    pub space_full_rank : HasFullRank k.ops w rows → spans.HasFullRank M rs
     space_full_rank full = record { multiple = multiple }
       where
         multiple : (v : Row (Pol (code_ring k)) (suc (w - 1))) → spans.HasMultipleIn M rs v

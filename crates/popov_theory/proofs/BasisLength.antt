@@ -145,7 +145,7 @@ module _ {A V : Type 0} {k : TestedRing A} (M : PolynomialModule k V) where
       ap₂ ◌⊞◌ (ap (λ p. p · r) (constant_mul k a (c zero)) ∙ scale_scale M (constant k a) (constant k (c zero)) r) (scalar_scale g a (tail_of c))
       ∙ sym (scale_add M (constant k a) _ _)
 
-  scalar_none : (g : List V) (c : ℕ → A) → ((i : ℕ) → i < length g → c i ≡ 𝟘) → scalar_combine M c g ≡ 𝟎
+  pub scalar_none : (g : List V) (c : ℕ → A) → ((i : ℕ) → i < length g → c i ≡ 𝟘) → scalar_combine M c g ≡ 𝟎
   scalar_none [] c h = refl
   scalar_none (r ∷ g) c h =
       ap₂ ◌⊞◌ (ap (λ a. constant k a · r) (h 0 (omega arith)) ∙ ap (λ p. p · r) (constant_zero k) ∙ zero_scale M r)
@@ -158,7 +158,7 @@ module _ {A V : Type 0} {k : TestedRing A} (M : PolynomialModule k V) where
         (𝓛.sub_in u (𝟎 ⊞ ⊟ v) u_in (𝓛.sub_in 𝟎 v zero_in v_in))
 
     -- a combination of elements that are written by g is written by g
-    gather : (g xs : List V) (v : ℕ → A) (a : ℕ → ℕ → A) → ((i : ℕ) → i < length xs → L (row_at M xs i ⊞ ⊟ scalar_combine M (a i) g))
+    pub gather : (g xs : List V) (v : ℕ → A) (a : ℕ → ℕ → A) → ((i : ℕ) → i < length xs → L (row_at M xs i ⊞ ⊟ scalar_combine M (a i) g))
         → L (scalar_combine M v xs ⊞ ⊟ scalar_combine M (λ j. first_sum k (λ i. v i ⊗ a i j) (length xs)) g)
     gather g [] v a h = subst L (sym (ap (λ x. 𝟎 ⊞ ⊟ x) (scalar_zero M g) ∙ v_add_neg M 𝟎)) zero_in
     gather g (x ∷ xs) v a h =

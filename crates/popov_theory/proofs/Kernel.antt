@@ -23,7 +23,7 @@ use Rattle.popov_theory.proofs.FullRank.{measure_unit}
 use Rattle.popov_theory.proofs.Product.{product_zero, product_module, product_width, product_left, product_right}
 
 -- where the first factor is zero up to s, so is the product at s
-convolution_null_below : {A : Type 0} (r : CommRing A) (s : ℕ) (f g : ℕ → A) → ((i : ℕ) → i ≤ s → f i ≡ r.𝟘) → convolution r.ops f g s ≡ r.𝟘
+pub convolution_null_below : {A : Type 0} (r : CommRing A) (s : ℕ) (f g : ℕ → A) → ((i : ℕ) → i ≤ s → f i ≡ r.𝟘) → convolution r.ops f g s ≡ r.𝟘
 convolution_null_below r zero f g h = ap (λ x. r.◌⊗◌ x (g zero)) (h zero (omega arith)) ∙ zero_mul r (g zero)
 convolution_null_below r (suc s) f g h =
     ap₂ r.◌⊕◌ (ap (λ x. r.◌⊗◌ x (g (suc s))) (h zero (omega arith)) ∙ zero_mul r (g (suc s)))

@@ -1,13 +1,15 @@
 use Rattle.std.proofs.Common.{◌≡◌, ◌<◌, ◌∙◌, sym, ap, ap₂, subst, length, map, ◌++◌, All}
 use Rattle.std.proofs.lemmas.List.{length-map}
-use Rattle.ff_poly.specs.Popov.{rows_of, IsRow, multiple_of_row}
+use Rattle.ff_poly.specs.Popov.{rows_of, IsRow, IsPopov, multiple_of_row}
 use Rattle.function_field.specs.Values.{IsElem, functions, function_of}
 use Rattle.ff_lattice.specs.Lattices.{row_elems}
 use Rattle.ff_lattice.specs.Steps.{IsExpanded, IsPreimage}
 use Rattle.ff_lattice.proofs.Kept.{kept_is, rows_size}
 use Rattle.ff_lattice.proofs.CommonDenominators.{expanded_rows}
 use Rattle.ff_lattice.proofs.Membership.{multiples_in}
+use Rattle.ff_lattice.proofs.Normal.{monic_poly}
 use Rattle.ff_lattice.proofs.Results.{ok_through}
+use Rattle.ff_lattice.proofs.Scaled.{popov_multiples}
 use Rattle.ff_lattice.proofs.colons.kept_coefficients.Goals as goal
 
 pub multiple_rows-requires-clause-rows_in : goal.multiple_rows-requires-clause-rows_in
@@ -71,6 +73,19 @@ preimage-requires-clause-ls_in g c =
     = ap rows_of c.deref-5.ensures.value ∙ c.in_ok-ls.ensures ∙ ap (map (multiple_of_row k.ops e)) c.rows.ensures.rows in
     subst (λ n. All (IsRow k.ops n) (rows_of c.deref-5.result.now)) (sym c.n-6.ensures.n)
     (subst (All (IsRow k.ops p.n)) (sym ls_is) (multiples_in k p.n e a.rows c.in_ok-e.ensures.over c.requires.a_form.rows_in))
+
+pub preimage-requires-clause-popov : goal.preimage-requires-clause-popov
+preimage-requires-clause-popov g c =
+    let k = g.K.SmallField.field c.args.k.now in
+    let p = c.args.p.now in
+    let a = c.args.a.now in
+    let e = c.in_ok-e.e in
+    let ls_is : rows_of c.deref-5.result.now ≡ map (multiple_of_row k.ops e) a.rows
+    = ap rows_of c.deref-5.ensures.value ∙ c.in_ok-ls.ensures ∙ ap (map (multiple_of_row k.ops e)) c.rows.ensures.rows in
+    subst (λ n. IsPopov n (rows_of c.deref-5.result.now)) (sym c.n-6.ensures.n)
+    (subst (IsPopov p.n) (sym ls_is)
+    (popov_multiples k e c.in_ok-e.ensures.over (monic_poly e c.in_ok-e.ensures.monic) c.in_ok-e.ensures.monic p.n a.rows c.requires.a_form.rows_in
+    c.requires.a_form.popov.trimmed c.requires.a_form.popov))
 
 pub returns : goal.returns
 returns g c =

@@ -1,7 +1,7 @@
 use Rattle.std.proofs.Common.{◌≡◌, ◌<◌, ◌∙◌, ◌++◌, sym, ap, subst, length, get_or, [], ◌∷◌, All, arith}
 use Rattle.std.proofs.lemmas.List.{length-map}
 use Rattle.std.proofs.lemmas.List.Elements.{All-nil, All-cons}
-use Rattle.ff_poly.specs.Popov.{rows_of, row_at, IsRow}
+use Rattle.ff_poly.specs.Popov.{rows_of, row_at, IsRow, IsPopov}
 use Rattle.ff_popov.proofs.Entries.{any_default}
 use Rattle.ff_lattice.specs.Lattices.{IsLattice}
 use Rattle.ff_lattice.specs.Colons.{one_row}
@@ -19,6 +19,9 @@ preimage-requires-clause-m_in g c =
     = ap rows_of (c.deref.ensures.value ∙ c.in_ok-push.ensures.items ∙ ap (λ xs. xs ++ c.in_ok-row.row ∷ []) c.new-m.ensures.items)
     ∙ ap (λ r. r ∷ []) (c.in_ok-row.ensures ∙ ap (one_row n) c.den.ensures.den) in
     subst (All (IsRow k.ops n)) (sym m_is) (All-cons (IsRow k.ops n) (one_row n b.den) [] (one_row_in k n b.den c.requires.b_form.den_in) (All-nil (IsRow k.ops n)))
+
+pub preimage-requires-clause-popov : goal.preimage-requires-clause-popov
+preimage-requires-clause-popov g c = subst (IsPopov c.args.n) (sym c.rows.ensures.rows) c.requires.b_form.popov
 
 pub index-requires-2 : goal.index-requires-2
 index-requires-2 g c =

@@ -3,8 +3,14 @@ use Rattle.std.proofs.lemmas.List.{length-map}
 use Rattle.ff_poly.specs.Popov.{rows_of, row_at}
 use Rattle.ff_popov.proofs.Entries.{any_default}
 use Rattle.ff_lattice.proofs.Pushes.{read_row}
-use Rattle.ff_lattice.proofs.Annihilators.{single_preimage, annihilator_is}
+use Rattle.ff_lattice.proofs.Annihilators.{short_in, single_preimage, annihilator_is}
 use Rattle.ff_lattice.proofs.denominators.annihilator.Goals as goal
+
+pub preimage_within-requires-clause-short : goal.preimage_within-requires-clause-short
+preimage_within-requires-clause-short g c =
+    let k = g.K.SmallField.field c.args.k.now in
+    short_in k c.args.e.now c.requires.e_in c.len.ensures.trimmed c.requires.e_some c.deref-2.result.now
+    (ap rows_of c.deref-2.ensures.value ∙ c.in_ok-ls.ensures ∙ ap (λ e. (e ∷ []) ∷ []) c.in_ok-copy.ensures) c.len.result c.len.ensures.length
 
 pub index-requires-2 : goal.index-requires-2
 index-requires-2 g c =
