@@ -5,7 +5,8 @@ use Rattle.std.proofs.lemmas.Bool.{cases_lt}
 use Rattle.ring_theory.specs.Ring.{TestedRing, IsField, IsDomain}
 use Rattle.ring_theory.specs.Lists.{coeff_of}
 use Rattle.ring_theory.proofs.Ring.{field_domain}
-use Rattle.ring_theory.proofs.Polynomials.{Pol, pol_ring}
+use Rattle.ring_theory.specs.Polynomials.{Pol}
+use Rattle.ring_theory.proofs.Polynomials.{pol_ring}
 use Rattle.popov_theory.specs.Module.{PolynomialModule, measure, row_degree, column}
 use Rattle.popov_theory.specs.Span.{row_at, InSpan}
 use Rattle.popov_theory.specs.Popov.{IsPopov}

@@ -3,8 +3,9 @@ use Rattle.std.proofs.Common.{◌≡◌, ℕ, zero, suc, ◌<◌, ◌≤◌, Lis
 use Rattle.ring_theory.specs.Ring.{TestedRing, IsField}
 use Rattle.ring_theory.specs.Lists.{coeff_of, tail_of}
 use Rattle.ring_theory.proofs.Lists.{coeff_trim}
-use Rattle.ring_theory.proofs.Polynomials.{Pol, pol_of, pol_ops, pol_ring, same_pol}
-use Rattle.ring_theory.proofs.Evaluate.{constant, x_pol, pol_cons, length_trim}
+use Rattle.ring_theory.specs.Polynomials.{Pol, pol_of, pol_ops, constant}
+use Rattle.ring_theory.proofs.Polynomials.{pol_ring, same_pol}
+use Rattle.ring_theory.proofs.Evaluate.{x_pol, pol_cons, length_trim}
 use Rattle.popov_theory.specs.Module.{PolynomialModule}
 use Rattle.popov_theory.specs.Span.{row_at, InSpan}
 use Rattle.popov_theory.specs.Popov.{IsPopov, pivot_degree}
