@@ -1,6 +1,6 @@
 -- The element that is written: its polynomials, their degrees, and that there is one.
-use Rattle.std.proofs.Common.{◌≡◌, ◌≢◌, ℕ, zero, suc, ◌+◌, ◌-◌, ◌<◌, ◌≤◌, ◌⊎◌, inl, inr, max, true≢false, eq-eqb, Bool, true, false, List, [], ◌∷◌, ◌++◌, length, get_or, map, refl, sym, ap, ap₂, ◌∙◌, subst, arith, add-zero, All, Option, Some, None}
-use Rattle.std.specs.Prelude.{find, nat_le, flat_map, IfSome, IsTrue, sum_by, fold}
+use Rattle.std.proofs.Common.{◌≡◌, ◌≢◌, ℕ, zero, suc, ◌+◌, ◌-◌, ◌<◌, ◌≤◌, ◌⊎◌, inl, inr, max, true≢false, eq-eqb, false, List, [], ◌∷◌, length, get_or, refl, sym, ap, ap₂, ◌∙◌, subst, arith, add-zero, All, Option, Some, None}
+use Rattle.std.specs.Prelude.{find, nat_le, flat_map, IfSome, sum_by, fold}
 use Rattle.std.specs.List.{AllByRecursion, slice_index_or}
 use Rattle.std.proofs.lemmas.Bool.{cases_lt}
 use Rattle.std.proofs.lemmas.List.{append-nil}
@@ -9,7 +9,7 @@ use native.Mathlib.Decide.{ℕ_discrete}
 use Rattle.ring_theory.specs.Lists.{IsTrimmed}
 use Rattle.ff_fields.specs.Field.{FieldOps, CodeField}
 use Rattle.ff_fields.specs.Code.{is_zero_code}
-use Rattle.ff_poly.specs.Words.{IsPoly, poly_of}
+use Rattle.ff_poly.specs.Words.{poly_of}
 use Rattle.ff_poly.specs.TermWords.{IsBefore, IsTerms, code_at}
 use Rattle.ff_poly.proofs.Quotients.{top_some}
 use Rattle.function_field.specs.Values.{ElemValue}
@@ -26,7 +26,7 @@ use Rattle.ff_meaning.specs.declared.refusal.Refusal.{Refusal}
 use Rattle.ff_meaning.specs.Meaning.{codes_of_den, codes_of_element, AreCodesBelow, IsSumOf, IsPolyOf, ArePolysOf, IsDenOf, IsElementOf, greatest_degree, degree_of_element}
 use Rattle.ff_meaning.specs.Refusals.{IsWithin, IsElementRow, range, size, degree, zero_den}
 use Rattle.ff_meaning.specs.Elements.{greatest_in_x, AreSumsOf, IsDenSumOf, AreElementSums, AreCoefficients}
-use Rattle.ff_meaning.proofs.TermCodes.{IsAt, code_none, code_other, code_of_each, code_above, code_on_top, same_terms}
+use Rattle.ff_meaning.proofs.TermCodes.{code_none, code_other, code_of_each, code_above, code_on_top, same_terms}
 use Rattle.ff_meaning.proofs.EntrySums.{codes_below}
 
 abbrev pub Terms : Type 0

@@ -1,11 +1,10 @@
 -- Elements as they are read, and why one may not stand.
-use Rattle.std.proofs.Common.{◌≡◌, ◌≢◌, ℕ, ◌<◌, ◌≤◌, max, List, [], ◌∷◌, length, refl, sym, ap, ap₂, ◌∙◌, subst, arith}
+use Rattle.std.proofs.Common.{◌≡◌, ◌≢◌, ℕ, ◌<◌, ◌≤◌, max, List, [], length, refl, sym, ap, ◌∙◌, subst, arith}
 use Rattle.ff_fields.specs.Field.{CodeField}
 use Rattle.function_field.specs.Values.{ElemValue, PresValue, IsElem, function_of}
 use Rattle.ff_algebra.specs.CurveTerms.{IsCoefficient, degree_in_x}
 use Rattle.ff_text.specs.declared.terms.ElemText.{ElemText}
 use Rattle.ff_text.specs.Printing.{IsWritableElement}
-use Rattle.ff_meaning.specs.declared.refusal.Refusal.{Refusal}
 use Rattle.ff_meaning.specs.declared.refusal.Refusal.TheVariants.{Length, LimitX, Zero}
 use Rattle.ff_meaning.specs.Refusals.{IsWithin, IsElementRow, size, degree, zero_den}
 use Rattle.ff_meaning.specs.Elements.{greatest_in_x, AreElementSums, AreCoefficients, IsElementRead}

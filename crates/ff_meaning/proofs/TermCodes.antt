@@ -1,11 +1,11 @@
 -- Terms by their codes: the sum of a list of terms is one list, and its degree is that of its polynomial.
-use Rattle.std.proofs.Common.{◌≡◌, ◌≢◌, ℕ, zero, suc, ◌+◌, ◌-◌, ◌<◌, ◌≤◌, max, Bool, true, false, cond, ◌&&◌, nat_eq, eq-eqb, ne_eqb, List, [], ◌∷◌, length, get_or, refl, sym, ap, ap₂, ◌∙◌, arith, All, ◌⊎◌, inl, inr}
+use Rattle.std.proofs.Common.{◌≡◌, ◌≢◌, ℕ, zero, suc, ◌<◌, ◌≤◌, Bool, true, false, cond, ◌&&◌, nat_eq, eq-eqb, ne_eqb, List, [], ◌∷◌, length, get_or, refl, sym, ap, ap₂, ◌∙◌, arith, All, ◌⊎◌, inl, inr}
 use Rattle.std.specs.List.{slice_index_or}
 use Rattle.std.proofs.lemmas.Bool.{cases_lt}
 use Rattle.std.proofs.lemmas.List.Elements.{All-head, All-tail, All-nil, All-cons}
 use native.Mathlib.Decide.{ℕ_discrete}
 use Rattle.ff_fields.specs.Field.{FieldOps, CodeField}
-use Rattle.ff_poly.specs.TermWords.{IsBefore, AreAscending, IsTerms, code_at}
+use Rattle.ff_poly.specs.TermWords.{IsBefore, IsTerms, code_at}
 use Rattle.ff_algebra.specs.CurveTerms.{degree_in_x}
 
 -- the term stands at y^i·x^j

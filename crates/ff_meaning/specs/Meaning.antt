@@ -4,7 +4,6 @@ use Rattle.ff_fields.specs.Field.{FieldOps}
 use Rattle.ff_poly.specs.Words.{IsPoly}
 use Rattle.ff_poly.specs.TermWords.{IsTerms, code_at}
 use Rattle.function_field.specs.Values.{ElemValue}
-use Rattle.ff_algebra.specs.CurveTerms.{degree_in_x}
 use Rattle.ff_text.specs.declared.terms.Term.{Term}
 use Rattle.ff_text.specs.declared.terms.ElemText.{ElemText}
 use Rattle.ff_text.specs.Values.{triples_of, written_codes}

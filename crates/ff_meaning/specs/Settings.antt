@@ -1,5 +1,5 @@
 -- What the statements of a script have bound: a field, and a curve over it.
-use Rattle.std.specs.Prelude.{◌≡◌, ℕ, List, All, IfSome, Option, Some, None}
+use Rattle.std.specs.Prelude.{◌≡◌, All, IfSome, Option, Some, None}
 use Rattle.ff_fields.specs.FieldData.{FieldData}
 use Rattle.function_field.specs.Curves.{CurveValue}
 use Rattle.ff_text.specs.declared.terms.ElemText.{ElemText}

@@ -1,4 +1,4 @@
-use Rattle.std.proofs.Common.{◌≡◌, ◌<◌, ◌≤◌, ℕ, List, max, refl, sym, ap, ap₂, ◌∙◌, subst, arith, All}
+use Rattle.std.proofs.Common.{◌≡◌, ◌<◌, ℕ, List, max, sym, ap, ap₂, ◌∙◌, subst, arith, All}
 use Rattle.ff_algebra.specs.CurveTerms.{IsCoefficient, degree_in_x}
 use Rattle.ff_meaning.specs.Elements.{greatest_in_x, AreCoefficients}
 use Rattle.ff_meaning.proofs.EntrySums.{sums_in}
