@@ -20,7 +20,7 @@ fn modulo<K: SmallField>(alloc: Global, k: &K, text: &str) -> Result<PolyQuotien
     if g.codes().len() < 2 || g.top() != 1 {
         return Err(BAD);
     }
-    Ok(PolyQuotient::new(g))
+    PolyQuotient::new(alloc, &g)
 }
 
 // What the word says of the algebra.

@@ -1,0 +1,40 @@
+-- When the answer to a statement is true, and what its lines are: a line for each statement.
+use Rattle.std.specs.Prelude.{◌≡◌, ℕ, List, None}
+use Rattle.ff_fields.specs.FieldData.{IsField, ops_of, with_laws}
+use Rattle.ff_script.specs.declared.script.Statement.{Statement}
+use Rattle.ff_script.specs.declared.script.Statement.TheVariants.{FieldOf, CurveOf, Mul, Factor, OrderOf}
+use Rattle.ff_meaning.specs.Settings.{Setting, ForField, ForCurve}
+use Rattle.ff_cert.specs.declared.answer.Answer.{Answer}
+use Rattle.ff_cert.specs.declared.answer.Answer.TheVariants as answers
+use Rattle.ff_cert.specs.RowField as field_row
+use Rattle.ff_cert.specs.RowCurve as curve_row
+use Rattle.ff_cert.specs.RowMul as mul_row
+use Rattle.ff_cert.specs.RowFactor as factor_row
+use Rattle.ff_cert.specs.RowOrder as order_row
+
+-- in the setting the answer to the statement is true, and the next setting has taken it in
+abbrev pub Answers : Setting → Statement → Answer → Setting → Type 0
+Answers old (FieldOf p tail) (answers.FieldOf q) next = (old.field ≡ None) × field_row.IsTrue p tail q next
+Answers old (CurveOf f) (answers.CurveOf n c) next = ForField old (λ d. (old.bound ≡ None) × curve_row.IsTrue d f n c next)
+Answers old (Mul a b) (answers.Mul z) next =
+    ForCurve old (λ d c. (is : IsField d) × mul_row.IsTrue (with_laws d is) c.fin a b z × (next ≡ old))
+Answers old (Factor g) (answers.Factor unit parts) next = ForCurve old (λ d c. factor_row.IsTrue (ops_of d) g unit parts × (next ≡ old))
+Answers old (OrderOf s) (answers.OrderOf zs) next =
+    ForCurve old (λ d c. (is : IsField d) × order_row.IsTrue (with_laws d is) c s zs × (next ≡ old))
+Answers _ _ _ _ = ⊥
+
+-- its answer lines
+abbrev pub answer_lines : Answer → List ℕ
+answer_lines (answers.FieldOf q) = field_row.lines q
+answer_lines (answers.CurveOf n c) = curve_row.lines n c
+answer_lines (answers.Mul z) = mul_row.lines z
+answer_lines (answers.Factor unit parts) = factor_row.lines unit parts
+answer_lines (answers.OrderOf zs) = order_row.lines zs
+
+-- the greatest degree of a polynomial in the answer lines
+abbrev pub degree_of_answer : Answer → ℕ
+degree_of_answer (answers.FieldOf q) = field_row.degree
+degree_of_answer (answers.CurveOf n c) = curve_row.degree
+degree_of_answer (answers.Mul z) = mul_row.degree z
+degree_of_answer (answers.Factor unit parts) = factor_row.degree parts
+degree_of_answer (answers.OrderOf zs) = order_row.degree zs

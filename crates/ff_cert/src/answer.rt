@@ -1,0 +1,61 @@
+//! Answers to statements, as values.
+
+use ff_poly::Poly;
+use ff_text::Written;
+use std::marker::Model;
+
+/// A power of a polynomial, which has a line of its own in a factorisation.
+#[derive(Drop)]
+pub struct PowerLine {
+    /// The exponent.
+    pub exponent: u32,
+    /// The polynomial.
+    pub poly: Poly,
+}
+
+/// The powers of a factorisation.
+#[derive(Drop)]
+pub struct PowerList {
+    /// The powers in the order in which they are printed.
+    pub powers: Vec<PowerLine>,
+}
+
+impl Model for PowerList {
+    ghost use Rattle.std.specs.Prelude.{List};
+    ghost use Rattle.ff_cert.specs.declared.answer.PowerLine.{PowerLine};
+
+    ghost Value = { List PowerLine };
+
+    ghost view = { λ l. l.powers.items };
+}
+
+/// The rows of a lattice, which are functions.
+#[derive(Drop)]
+pub struct RowList {
+    /// The rows in the order in which they are printed.
+    pub rows: Vec<Written>,
+}
+
+impl Model for RowList {
+    ghost use Rattle.std.specs.Prelude.{List};
+    ghost use Rattle.ff_text.specs.Printed.{WrittenValue};
+
+    ghost Value = { List WrittenValue };
+
+    ghost view = { λ l. l.rows.items };
+}
+
+/// What the answer lines of a statement say: one variant a statement.
+#[derive(Drop)]
+pub enum Answer {
+    /// The size of the field that a `field` line names.
+    FieldOf { q: u64 },
+    /// The degree in y of a curve, and its infinity number.
+    CurveOf { n: u64, c: u64 },
+    /// A product.
+    Mul { element: Written },
+    /// A code, and the powers of irreducible polynomials.
+    Factor { unit: u32, parts: PowerList },
+    /// Rows that span the functions that are integral on a side.
+    OrderOf { rows: RowList },
+}

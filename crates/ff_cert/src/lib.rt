@@ -1,0 +1,8 @@
+//! What the blocks of a transcript say, and when that is true. Nothing here computes an answer.
+#![tactic(auto)]
+
+pub mod answer;
+pub mod text;
+
+pub use answer::{Answer, PowerLine, PowerList, RowList};
+pub use text::{answer_text, degree, push_answer, push_echo};

@@ -1,0 +1,6 @@
+pub mod TermCodes
+pub mod PolynomialTerms
+pub mod EntrySums
+pub mod ElementValues
+pub mod ReadElements
+pub mod LowestElements

@@ -1,0 +1,8 @@
+pub mod Limits
+pub mod Settings
+pub mod FieldLines
+pub mod Meaning
+pub mod LowestTerms
+pub mod Refusals
+pub mod Texts
+pub mod Elements

@@ -1,0 +1,112 @@
+-- When a statement is refused, and how. The rows of a statement exclude each other: each says that those before it don't hold.
+use Rattle.std.specs.Prelude.{◌≡◌, ◌≢◌, ℕ, ◌<◌, ◌≤◌, ◌-◌, ◌⊎◌, List, [], ◌∷◌, length, Option, Some, None, IsTrue}
+use Rattle.ff_fields.specs.declared.fault.FieldFault.{FieldFault}
+use Rattle.ff_fields.specs.declared.fault.FieldFault.TheVariants as fields
+use Rattle.ff_fields.specs.Field.{FieldOps, CodeField}
+use Rattle.ff_fields.specs.Prime.{is_listed}
+use Rattle.ff_fields.specs.Modulus.{IsFaultOf}
+use Rattle.ff_poly.specs.Words.{poly_of}
+use Rattle.function_field.specs.Values.{ElemValue}
+use Rattle.ff_algebra.specs.declared.curve.CurveFault.{CurveFault}
+use Rattle.ff_algebra.specs.declared.curve.CurveFault.TheVariants as curves
+use Rattle.ff_algebra.specs.CurveTerms.{IsCurveFault}
+use Rattle.ff_text.specs.declared.terms.Term.{Term}
+use Rattle.ff_text.specs.declared.terms.ElemText.{ElemText}
+use Rattle.ff_text.specs.Values.{written_codes}
+use Rattle.ff_script.specs.declared.script.Modulus.{Modulus}
+use Rattle.ff_script.specs.declared.script.Statement.{Statement}
+use Rattle.ff_script.specs.declared.script.Statement.TheVariants.{FieldOf, CurveOf, Mul, Factor, OrderOf}
+use Rattle.ff_meaning.specs.declared.refusal.Refusal.{Refusal}
+use Rattle.ff_meaning.specs.declared.refusal.Refusal.TheVariants.{FieldSize, NotField, LimitY, LimitX, NotMonic, NotSeparable, LimitDisc, LimitInf, CodeRange, Length, Zero, Memory}
+use Rattle.ff_fields.specs.FieldData.{FieldData, IsField, ops_of, with_laws}
+use Rattle.ff_meaning.specs.Limits.{max_degree}
+use Rattle.ff_meaning.specs.Settings.{Setting, ForField, ForCurve}
+use Rattle.ff_meaning.specs.Meaning.{AreCodesBelow, IsFirstCodeFrom, codes_of_element, IsSumOf, IsPolyOf, IsElementOf, degree_of_element}
+
+-- the row holds, unless the refusal is want of memory, which is no row
+abbrev pub UnlessMemory : (Refusal → Type 0) → Refusal → Type 0
+UnlessMemory Row r = r ≢ Memory → Row r
+
+-- the refusal tells the first written code that is q or more
+abbrev pub IsCodeRow : ℕ → List ℕ → Refusal → Type 0
+IsCodeRow q codes r = (c : ℕ) × IsFirstCodeFrom q codes c × (r ≡ CodeRange c)
+
+-- ---- the rows of a field line
+
+-- why the numbers of the line give no field
+abbrev pub IsFieldLineFault : ℕ → Option Modulus → FieldFault → Type 0
+IsFieldLineFault p None fault = ¬ IsTrue (is_listed p) × (fault ≡ fields.FieldSize p 1)
+IsFieldLineFault p (Some tail) fault = IsFaultOf p tail.m tail.codes fault
+
+abbrev pub refusal_of_field : FieldFault → Refusal
+refusal_of_field (fields.FieldSize p m) = FieldSize p m
+refusal_of_field (fields.CodeRange c) = CodeRange c
+refusal_of_field (fields.NotMonic c) = NotMonic (poly_of (c ∷ []))
+refusal_of_field (fields.NotField a b) = NotField a b
+
+pub record IsFieldRow (p : ℕ) (tail : Option Modulus) (r : Refusal) : Type 0 where
+  pub fault : FieldFault
+  pub holds : IsFieldLineFault p tail fault
+  pub is : r ≡ refusal_of_field fault
+
+-- ---- the rows of a curve
+
+abbrev pub refusal_of_curve : CurveFault → Refusal
+refusal_of_curve (curves.LimitY n) = LimitY n
+refusal_of_curve (curves.LimitX d) = LimitX d
+refusal_of_curve (curves.NotMonic p) = NotMonic p
+refusal_of_curve curves.NotSeparable = NotSeparable
+refusal_of_curve (curves.LimitDisc d) = LimitDisc d
+refusal_of_curve (curves.LimitInf d) = LimitInf d
+refusal_of_curve curves.Memory = Memory
+
+-- a code is too great, or the sum of the terms gives no curve
+pub data IsNoCurve (k : CodeField) (f : List Term) (r : Refusal) : Type 0 where
+  range : IsCodeRow k.size (written_codes f) r → IsNoCurve k f r
+  fault : (sum : List (ℕ × ℕ × ℕ)) → IsSumOf k.ops f sum → (e : CurveFault) → e ≢ curves.Memory → IsCurveFault k sum e → r ≡ refusal_of_curve e → IsNoCurve k f r
+
+abbrev pub IsCurveRow : FieldData → List Term → Refusal → Type 0
+IsCurveRow d f r = (is : IsField d) × IsNoCurve (with_laws d is) f r
+
+-- ---- the rows of a product
+
+module _ (k : FieldOps) (n bound : ℕ) where
+  -- an element of n entries, of degrees up to the bound, over a denominator that isn't 0
+  pub record IsWithin (e : ElemText) : Type 0 where
+    pub written : AreCodesBelow k.size (codes_of_element e)
+    pub size : length e.entries ≡ n
+    pub value : ElemValue
+    pub is : IsElementOf k e value
+    pub small : degree_of_element value ≤ bound
+    pub over : value.den ≢ []
+
+  pub data IsElementRow (e : ElemText) (r : Refusal) : Type 0 where
+    range : IsCodeRow k.size (codes_of_element e) r → IsElementRow e r
+    size : AreCodesBelow k.size (codes_of_element e) → length e.entries ≢ n → r ≡ Length (length e.entries) → IsElementRow e r
+    degree : length e.entries ≡ n → (z : ElemValue) → IsElementOf k e z → bound < degree_of_element z → r ≡ LimitX (degree_of_element z) → IsElementRow e r
+    zero_den : length e.entries ≡ n → (z : ElemValue) → IsElementOf k e z → degree_of_element z ≤ bound → z.den ≡ [] → r ≡ Zero → IsElementRow e r
+
+  -- the first element's rows come before the second's
+  abbrev pub IsProductRow : ElemText → ElemText → Refusal → Type 0
+  IsProductRow a b r = IsElementRow a r ⊎ (IsWithin a × IsElementRow b r)
+
+-- ---- the rows of a factorisation
+
+-- a code is too great, or the degree of the polynomial is above the bound, or it is 0
+pub data IsFactorRow (k : FieldOps) (bound : ℕ) (g : List Term) (r : Refusal) : Type 0 where
+  range : IsCodeRow k.size (written_codes g) r → IsFactorRow k bound g r
+  degree : (p : List ℕ) → IsPolyOf k g p → bound < length p - 1 → r ≡ LimitX (length p - 1) → IsFactorRow k bound g r
+  zero_sum : IsPolyOf k g [] → r ≡ Zero → IsFactorRow k bound g r
+
+-- ---- all rows
+
+abbrev pub IsRow : Setting → Statement → Refusal → Type 0
+IsRow old (FieldOf p tail) r = (old.field ≡ None) × IsFieldRow p tail r
+IsRow old (CurveOf f) r = ForField old (λ d. IsCurveRow d f r)
+IsRow old (Mul a b) r = ForCurve old (λ d c. IsProductRow (ops_of d) c.fin.n max_degree a b r)
+IsRow old (Factor g) r = ForCurve old (λ d c. IsFactorRow (ops_of d) max_degree g r)
+IsRow old (OrderOf s) r = ⊥
+
+-- none of the rows of the statement holds
+abbrev pub HasNoRow : Setting → Statement → Type 0
+HasNoRow old s = (r : Refusal) → ¬ IsRow old s r

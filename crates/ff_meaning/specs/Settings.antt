@@ -1,0 +1,63 @@
+-- What the statements of a script have bound: a field, and a curve over it.
+use Rattle.std.specs.Prelude.{◌≡◌, All, IfSome, Option, Some, None}
+use Rattle.ff_fields.specs.FieldData.{FieldData}
+use Rattle.function_field.specs.Curves.{CurveValue}
+use Rattle.ff_text.specs.declared.terms.ElemText.{ElemText}
+use Rattle.ff_text.specs.Values.{HasSmallExponents}
+use Rattle.ff_script.specs.declared.script.Statement.{Statement}
+use Rattle.ff_script.specs.declared.script.Statement.TheVariants.{FieldOf, CurveOf, Mul, Factor, OrderOf}
+
+-- what a curve statement binds, and those behind it
+pub record Bound : Type 0 where
+  pub curve : CurveValue
+
+-- what the statements so far have bound: a field, and what stands over it
+pub record Setting : Type 0 where
+  pub field : Option FieldData
+  pub bound : Option Bound
+
+-- nothing is bound
+abbrev pub nothing : Setting
+nothing = record { field = None; bound = None }
+
+-- a field is bound, and nothing over it
+abbrev pub with_field : FieldData → Setting
+with_field d = record { field = Some d; bound = None }
+
+-- a field and a curve over it are bound
+abbrev pub with_curve : FieldData → CurveValue → Setting
+with_curve d c = record { field = Some d; bound = Some (record { curve = c }) }
+
+-- there is a value, and it has the property
+abbrev pub IsSomeWith : {A : Type 0} → Option A → (A → Type 0) → Type 0
+IsSomeWith None P = ⊥
+IsSomeWith (Some a) P = P a
+
+-- P holds of the field that is bound
+abbrev pub ForField : Setting → (FieldData → Type 0) → Type 0
+ForField s P = IsSomeWith s.field P
+
+-- P holds of the field and the curve that are bound
+abbrev pub ForCurve : Setting → (FieldData → CurveValue → Type 0) → Type 0
+ForCurve s P = IsSomeWith s.field (λ d. IsSomeWith s.bound (λ b. P d b.curve))
+
+-- `field` stands first, `curve` second, and neither again
+abbrev pub IsInPlace : Setting → Statement → Type 0
+IsInPlace old (FieldOf p tail) = (old.field ≡ None) × (old.bound ≡ None)
+IsInPlace old (CurveOf f) = ForField old (λ d. old.bound ≡ None)
+IsInPlace old (Mul a b) = ForCurve old (λ d c. Unit {0})
+IsInPlace old (Factor g) = ForCurve old (λ d c. Unit {0})
+IsInPlace old (OrderOf s) = ForCurve old (λ d c. Unit {0})
+
+-- the exponents of each variable add up to less than 2^64 in each term of the entries and of the denominator
+pub record HasSmallElement (e : ElemText) : Type 0 where
+  pub entries : All (All HasSmallExponents) e.entries
+  pub den : IfSome e.den (All HasSmallExponents)
+
+-- they do in each term of the statement, which is what `collect` asks for
+abbrev pub HasSmallPowers : Statement → Type 0
+HasSmallPowers (FieldOf p tail) = Unit {0}
+HasSmallPowers (CurveOf f) = All HasSmallExponents f
+HasSmallPowers (Mul a b) = HasSmallElement a × HasSmallElement b
+HasSmallPowers (Factor g) = All HasSmallExponents g
+HasSmallPowers (OrderOf s) = Unit {0}

@@ -1,0 +1,14 @@
+//! What the lines of a script mean over what is bound, and when they are refused: fields, polynomials and elements as they
+//! are written, and the one way in which a function is written.
+#![tactic(auto)]
+
+pub mod elements;
+pub mod fields;
+pub mod polynomials;
+pub mod refusal;
+pub mod written;
+
+pub use elements::element;
+pub use fields::{field, field_refusal};
+pub use polynomials::{degree_in_x, polynomial, sum};
+pub use refusal::{Refusal, push_refusal, refusal_text};
