@@ -8,8 +8,6 @@ ghost use Rattle.ff_algebra.specs.declared.curve.CurveFault.{CurveFault};
 mod discriminant;
 mod equation;
 pub(crate) mod infinity;
-#[cfg(test)]
-mod tests;
 
 use crate::elem::Pres;
 use discriminant::discriminant;

@@ -93,6 +93,3 @@ pub fn try_inverse<K: SmallField>(
     let num = multiples(alloc, k, den, w.as_slice())?;
     Ok(Elem::new(k, num, d))
 }
-
-#[cfg(test)]
-mod tests;

@@ -6,9 +6,6 @@ ghost use Rattle.function_field.specs.Values.{PresValue, IsElem, IsMonicElem, fu
 ghost use Rattle.function_field.specs.Infinity.{function_on};
 ghost use Rattle.function_field.specs.Curves.{IsCurve};
 
-#[cfg(test)]
-mod tests;
-
 use crate::curve::Curve;
 use crate::curve::infinity::reversed;
 use crate::elem::Elem;

@@ -7,6 +7,3 @@ pub mod start;
 
 pub use local::local_contains;
 pub use start::infinite_start;
-
-#[cfg(test)]
-mod tests;

@@ -39,8 +39,3 @@ pub use generators::LatticeFault;
 pub use lattice::Lattice;
 pub use order::Order;
 pub use quotient::Quotient;
-
-#[cfg(test)]
-mod order_tests;
-#[cfg(test)]
-mod tests;

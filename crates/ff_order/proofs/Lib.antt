@@ -8,4 +8,3 @@ pub mod IntegralFunctions
 pub mod Products
 pub mod SquareParts
 pub mod Separable
-pub mod LowDegrees

@@ -10,6 +10,3 @@ pub mod start;
 pub use enlarge::{maximal, multiplier, p_maximal};
 pub use radicals::radical;
 pub use start::equation_order;
-
-#[cfg(test)]
-mod tests;
