@@ -1,10 +1,3 @@
-pub mod TermCodes
-pub mod PolynomialTerms
-pub mod EntrySums
-pub mod ElementValues
-pub mod ReadElements
-pub mod LowestElements
-pub mod FactorDegrees
 pub mod FactorRows
-pub mod Truths
 pub mod OrderAnswers
+pub mod Truths

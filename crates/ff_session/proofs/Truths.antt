@@ -1,48 +1,44 @@
 -- Answers that are true, and what is refused.
-use Rattle.std.proofs.Common.{◌≡◌, ◌≢◌, ℕ, ◌+◌, ◌<◌, ◌≤◌, ◌⊎◌, inl, inr, List, ◌++◌, length, Option, Some, None, refl, sym, ap, ◌∙◌, subst, arith, All, get_or}
-use Rattle.std.specs.Prelude.{IsTrue, find, nat_le, Result, Ok, Err, OnOk, IfErr}
-use Rattle.std.specs.Option.{ForSome}
+use Rattle.std.proofs.Common.{◌≡◌, ℕ, ◌<◌, ◌⊎◌, inl, inr, List, Option, Some, None, refl, sym, ap, ◌∙◌, subst, arith, All, get_or}
+use Rattle.std.specs.Prelude.{IsTrue}
 use Rattle.std.proofs.lemmas.List.Elements.{All-get_or}
 use native.Mathlib.Decide.{ℕ_discrete}
-use native.Mathlib.Nat.{ℕ_set}
-use Rattle.std.proofs.Math.Bool.{Bool-set}
-use Rattle.std.proofs.Math.Bridge.{le_prop}
 use Rattle.ff_fields.specs.declared.fields.Field.{Field as AnyField}
-use Rattle.ff_fields.specs.declared.fields.Field.TheVariants.{Prime, Residue}
 use Rattle.ff_fields.specs.declared.fault.FieldFault.{FieldFault}
 use Rattle.ff_fields.specs.declared.fault.FieldFault.TheVariants as fields
 use Rattle.ff_fields.specs.Field.{CodeField, FieldOps}
 use Rattle.ff_fields.specs.Fields.{field_of}
+use Rattle.ff_fields.specs.FieldData.{data_of}
+use Rattle.ff_fields.proofs.FieldData.{same_ops, data_is, same_field, laws_are}
 use Rattle.ff_fields.specs.Code.{Code, code_domain, same_code}
 use Rattle.ff_fields.specs.Modulus.{IsFieldModulus, IsFaultOf}
 use Rattle.function_field.specs.declared.side.Side.{Side}
-use Rattle.function_field.specs.Values.{ElemValue}
-use Rattle.ff_text.specs.Values.{written_codes}
 use Rattle.function_field.specs.Curves.{CurveValue}
 use Rattle.ff_algebra.specs.CurveTerms.{IsCurveFault}
 use Rattle.ff_algebra.proofs.CurveFaults.{no_fault}
+use Rattle.ff_text.specs.Values.{written_codes}
+use Rattle.ff_text.specs.Printed.{WrittenValue}
 use Rattle.ff_text.specs.declared.terms.Term.{Term}
 use Rattle.ff_text.specs.declared.terms.ElemText.{ElemText}
 use Rattle.ff_script.specs.declared.script.Modulus.{Modulus}
 use Rattle.ff_script.specs.declared.script.Statement.{Statement}
 use Rattle.ff_script.specs.declared.script.Statement.TheVariants.{FieldOf, CurveOf, Mul, Factor, OrderOf}
-use Rattle.ff_session.specs.declared.refusal.Refusal.{Refusal}
-use Rattle.ff_session.specs.declared.refusal.Refusal.TheVariants.{LimitDegree, LimitOutput}
-use Rattle.ff_session.specs.declared.session.Bound.{Bound}
-use Rattle.ff_session.specs.declared.session.Bound.TheVariants.{Nothing, Field, Curve}
-use Rattle.ff_session.specs.Bound.{data_of, IsSound}
-use Rattle.ff_session.specs.Settings.{FieldData, Modulo, ByModulus, IsField, ops_of, with_laws, Setting, Empty, WithField, WithCurve, SessionValue}
-use Rattle.ff_session.specs.Meaning.{IsSumOf, degree_of_element}
-use Rattle.ff_session.specs.Answers.{Answer, Size, Numbers, Element, Factored, Rows, Answers, Names, IsFieldOf, BindsField, IsCurveOfTerms, IsProductOf, IsFactorisationOf}
-use Rattle.ff_session.specs.Refusals.{UnlessMemory, IsFieldLineFault, IsFieldRow, IsNoCurve, range, fault, IsProductRow, IsFactorRow, IsRow, HasNoRow, Refuses, row, text, degree, output, output_after, IsTextRow}
-use Rattle.ff_session.specs.Orders.{IsOrderAnswer}
-use Rattle.ff_session.specs.Elements.{IsProductRead}
-use Rattle.ff_session.specs.Steps.{setting_after, AddsAnswer, AddsCurve, AddsProduct, AddsFactors, AddsRows, HaveGreatDegree, IsNoProduct, IsUnanswered}
-use Rattle.ff_session.specs.Steps as steps
-use Rattle.ff_session.specs.Sessions.{IsRefusedAs, IsStep}
-use Rattle.ff_session.specs.Texts.{answer_lines, block_text, echo_line}
-use Rattle.ff_session.proofs.TermCodes.{same_terms}
-use Rattle.ff_session.proofs.ElementValues.{none_found}
+use Rattle.ff_meaning.specs.declared.refusal.Refusal.{Refusal}
+use Rattle.ff_meaning.specs.FieldLines.{Names}
+use Rattle.ff_meaning.specs.Limits.{max_degree}
+use Rattle.ff_meaning.specs.Refusals.{UnlessMemory, IsFieldLineFault, IsFieldRow, IsNoCurve, range, fault, IsProductRow, IsFactorRow, IsRow}
+use Rattle.ff_meaning.specs.Settings.{Setting, nothing, with_field, with_curve}
+use Rattle.ff_meaning.proofs.TermCodes.{same_terms}
+use Rattle.ff_meaning.proofs.ElementValues.{none_found}
+use Rattle.ff_cert.specs.declared.answer.Answer.{Answer}
+use Rattle.ff_cert.specs.declared.answer.Answer.TheVariants as answers
+use Rattle.ff_cert.specs.declared.answer.PowerLine.{PowerLine}
+use Rattle.ff_cert.specs.RowField.{IsFieldOf}
+use Rattle.ff_cert.specs.RowCurve.{IsCurveOfTerms}
+use Rattle.ff_cert.specs.RowMul as mul_row
+use Rattle.ff_cert.specs.RowFactor as factor_row
+use Rattle.ff_cert.specs.RowOrder as order_row
+use Rattle.ff_session.specs.Steps.{HasAnswer, IsFieldAnswer, IsCurveAnswer, IsProductRead, AreFactorsRead}
 
 -- a field has no zero divisors
 no_divisors : (k : CodeField) (a b : ℕ) → a < k.ops.size → b < k.ops.size → k.ops.mul a b ≡ 0 → (a ≡ 0) ⊎ (b ≡ 0)
@@ -54,21 +50,6 @@ no_divisors k a b a_in b_in e = go (ℕ_discrete a 0)
         let x : Code k = (a, a_in) in
         let y : Code k = (b, b_in) in
         inr (ap (λ w. w.0) ((code_domain k).cancel_zero x y (λ z. n (ap (λ w. w.0) z)) (same_code k _ _ e)))
-
--- ---- the data of a field that is held
-
-same_ops : (k : AnyField) → ops_of (data_of k) ≡ (field_of k).ops
-same_ops (Prime k) = refl
-same_ops (Residue k) = refl
-
-data_is : (k : AnyField) → IsField (data_of k)
-data_is (Prime k) = k.listed
-data_is (Residue k) = k.is_field
-
-same_field : (k : AnyField) → with_laws (data_of k) (data_is k) ≡ field_of k
-unfolding data_is
-same_field (Prime k) = refl
-same_field (Residue k) = refl
 
 -- ---- rows that can't hold
 
@@ -96,153 +77,81 @@ no_curve_row k f c r h (fault sum is e some holds told) =
     let same : sum ≡ h.sum = same_terms k sum h.sum is.terms h.is_sum.terms is.codes_in h.is_sum.codes_in (λ i j. is.codes i j ∙ sym (h.is_sum.codes i j)) in
     no_fault k h.sum e c some (subst (λ s. IsCurveFault k s e) same holds) h.is_curve
 
--- ---- with the laws of any proof that there is such a field
+-- ---- fields and curves
 
-FieldData-prop : (d : FieldData) → IsProp (IsField d)
-FieldData-prop (Modulo p) = hlevel (ℕ_set, le_prop, Bool-set)
-FieldData-prop (ByModulus p m modulus) = hlevel (ℕ_set, le_prop, Bool-set)
-
-laws_are : (k : AnyField) (is : IsField (data_of k)) → with_laws (data_of k) is ≡ field_of k
-laws_are k is = ap (with_laws (data_of k)) (FieldData-prop (data_of k) is (data_is k)) ∙ same_field k
-
-some_bound : (b c : Bound) → Some b ≡ Some c → b ≡ c
-some_bound b c e = cc
-
--- ---- answers
-
-pub adds_field : (old : Setting) (s : Statement) (p : ℕ) (tail : Option Modulus) (k : AnyField) (before now : List ℕ) → Empty ≡ old → s ≡ FieldOf p tail → Names p tail (field_of k).ops
-    → now ≡ before ++ answer_lines (Size (field_of k).ops.size) → AddsAnswer old s before now (Some (Field k))
-adds_field old s p tail k before now is s_is named added =
-    subst (λ o. AddsAnswer o s before now (Some (Field k))) is
-    (subst (λ t. AddsAnswer Empty t before now (Some (Field k))) (sym s_is) (record {
-      answer = Size (field_of k).ops.size;
-      is_true = record {
+pub field_answer : (old : Setting) (s : Statement) (p : ℕ) (tail : Option Modulus) (a : Answer) (k : AnyField) → nothing ≡ old → s ≡ FieldOf p tail → IsFieldAnswer p tail a k
+    → HasAnswer old s a (with_field (data_of k))
+field_answer old s p tail a k is s_is h =
+    subst (λ o. HasAnswer o s a (with_field (data_of k))) is
+    (subst (λ t. HasAnswer nothing t a (with_field (data_of k))) (sym s_is)
+    (subst (λ b. HasAnswer nothing (FieldOf p tail) b (with_field (data_of k))) (sym h.is) (record {
+      is_true = (refl, record {
         field = data_of k;
         is_field = data_is k;
-        named = subst (Names p tail) (sym (same_ops k)) named;
+        named = subst (Names p tail) (sym (same_ops k)) h.named;
         size = subst (λ (o : FieldOps). IsFieldOf o (field_of k).ops.size) (sym (same_ops k)) (record { size = refl; no_divisors = no_divisors (field_of k) });
         bound = refl;
-      };
-      not_refused = λ r. no_field_row p tail (field_of k).ops r named;
-      small = omega arith;
-      added = added;
-      sound = λ b e. subst IsSound (some_bound (Field k) b e) tt;
-    }))
+      });
+      not_refused = λ r found. no_field_row p tail (field_of k).ops r h.named found.1;
+    })))
 
-pub adds_curve : (old : Setting) (s : Statement) (f : List Term) (k : AnyField) (c : CurveValue) (before now : List ℕ) → WithField (data_of k) ≡ old → s ≡ CurveOf f → AddsCurve (field_of k) f before now c
-    → AddsAnswer old s before now (Some (Curve k c))
-adds_curve old s f k c before now is s_is h =
-    subst (λ o. AddsAnswer o s before now (Some (Curve k c))) is
-    (subst (λ t. AddsAnswer (WithField (data_of k)) t before now (Some (Curve k c))) (sym s_is) (record {
-      answer = Numbers c.fin.n c.c;
-      is_true = record {
+pub field_refused : (old : Setting) (s : Statement) (p : ℕ) (tail : Option Modulus) (r : Refusal) → nothing ≡ old → s ≡ FieldOf p tail → UnlessMemory (IsFieldRow p tail) r → UnlessMemory (IsRow old s) r
+field_refused old s p tail r is s_is h some = subst (λ o. IsRow o s r) is (subst (λ t. IsRow nothing t r) (sym s_is) (refl, h some))
+
+pub curve_answer : (old : Setting) (s : Statement) (f : List Term) (a : Answer) (k : AnyField) (c : CurveValue) → with_field (data_of k) ≡ old → s ≡ CurveOf f → IsCurveAnswer (field_of k) f a c
+    → HasAnswer old s a (with_curve (data_of k) c)
+curve_answer old s f a k c is s_is h =
+    subst (λ o. HasAnswer o s a (with_curve (data_of k) c)) is
+    (subst (λ t. HasAnswer (with_field (data_of k)) t a (with_curve (data_of k) c)) (sym s_is)
+    (subst (λ b. HasAnswer (with_field (data_of k)) (CurveOf f) b (with_curve (data_of k) c)) (sym h.is) (record {
+      is_true = (refl, record {
         is_field = data_is k;
         curve = c;
-        is_curve = subst (λ (l : CodeField). IsCurveOfTerms l f c) (sym (same_field k)) h.is_curve;
+        is_curve = subst (λ (l : CodeField). IsCurveOfTerms l f c) (sym (same_field k)) h.curve;
         degree = refl;
         number = refl;
         bound = refl;
-      };
-      not_refused = λ r found. no_curve_row (field_of k) f c r h.is_curve (subst (λ (l : CodeField). IsNoCurve l f r) (laws_are k found.0) found.1);
-      small = omega arith;
-      added = h.added;
-      sound = λ b e. subst IsSound (some_bound (Curve k c) b e) h.is_curve.is_curve.curve;
-    }))
+      });
+      not_refused = λ r found. no_curve_row (field_of k) f c r h.curve (subst (λ (l : CodeField). IsNoCurve l f r) (laws_are k found.0) found.1);
+    })))
 
-product_true : (k : AnyField) (c : CurveValue) (a b : ElemText) (z : ElemValue) → IsProductRead (field_of k) c.fin a b z → Answers (WithCurve (data_of k) c) (Mul a b) (Element z) (WithCurve (data_of k) c)
-product_true k c a b z h = (data_is k, subst (λ (l : CodeField). IsProductOf l c.fin a b z) (sym (same_field k)) h.is, refl)
+pub curve_refused : (old : Setting) (s : Statement) (f : List Term) (k : AnyField) (r : Refusal) → with_field (data_of k) ≡ old → s ≡ CurveOf f → UnlessMemory (IsNoCurve (field_of k) f) r
+    → UnlessMemory (IsRow old s) r
+curve_refused old s f k r is s_is h some =
+    subst (λ o. IsRow o s r) is (subst (λ t. IsRow (with_field (data_of k)) t r) (sym s_is)
+    (data_is k, subst (λ (l : CodeField). IsNoCurve l f r) (sym (same_field k)) (h some)))
 
-product_row : (k : AnyField) (c : CurveValue) (a b : ElemText) (r : Refusal) → IsProductRow (field_of k).ops c.fin.n a b r → IsRow (WithCurve (data_of k) c) (Mul a b) r
-product_row k c a b r h = subst (λ (o : FieldOps). IsProductRow o c.fin.n a b r) (sym (same_ops k)) h
+-- ---- statements over a curve
 
-product_admitted : (k : AnyField) (c : CurveValue) (a b : ElemText) (z : ElemValue) → IsProductRead (field_of k) c.fin a b z → HasNoRow (WithCurve (data_of k) c) (Mul a b)
-product_admitted k c a b z h r found = h.no_row r (subst (λ (o : FieldOps). IsProductRow o c.fin.n a b r) (same_ops k) found)
+module _ (k : AnyField) (c : CurveValue) (s : Statement) where
+  abbrev here : Setting
+  here = with_curve (data_of k) c
 
-pub adds_product : (s : Statement) (a b : ElemText) (k : AnyField) (c : CurveValue) (before now : List ℕ) → s ≡ Mul a b → AddsProduct (field_of k) c.fin a b before now
-    → AddsAnswer (WithCurve (data_of k) c) s before now None
-adds_product s a b k c before now s_is h =
-    subst (λ t. AddsAnswer (WithCurve (data_of k) c) t before now None) (sym s_is) (record {
-      answer = Element h.product;
-      is_true = product_true k c a b h.product h.is_product;
-      not_refused = product_admitted k c a b h.product h.is_product;
-      small = h.small;
-      added = h.added;
-      sound = λ b e. absurd cc;
-    })
+  pub mul_answer : (a b : ElemText) (z : WrittenValue) → s ≡ Mul a b → IsProductRead (field_of k) c.fin a b z → HasAnswer here s (answers.Mul z) here
+  mul_answer a b z s_is h =
+      subst (λ t. HasAnswer here t (answers.Mul z) here) (sym s_is) (record {
+        is_true = (data_is k, subst (λ (l : CodeField). mul_row.IsTrue l c.fin a b z) (sym (same_field k)) h.is, refl);
+        not_refused = λ r found. h.no_row r (subst (λ (o : FieldOps). IsProductRow o c.fin.n max_degree a b r) (same_ops k) found);
+      })
 
-pub adds_factors : (s : Statement) (g : List Term) (k : AnyField) (c : CurveValue) (before now : List ℕ) → s ≡ Factor g → AddsFactors (field_of k).ops g before now
-    → AddsAnswer (WithCurve (data_of k) c) s before now None
-adds_factors s g k c before now s_is h =
-    subst (λ t. AddsAnswer (WithCurve (data_of k) c) t before now None) (sym s_is) (record {
-      answer = Factored h.factors;
-      is_true = (subst (λ (o : FieldOps). IsFactorisationOf o g h.factors) (sym (same_ops k)) h.are_factors.is, refl);
-      not_refused = λ r found. h.are_factors.no_row r (subst (λ (o : FieldOps). IsFactorRow o g r) (same_ops k) found);
-      small = let le = h.are_factors.small in omega (arith, le);
-      added = h.added;
-      sound = λ b e. absurd cc;
-    })
+  pub mul_refused : (a b : ElemText) (r : Refusal) → s ≡ Mul a b → UnlessMemory (IsProductRow (field_of k).ops c.fin.n max_degree a b) r → UnlessMemory (IsRow here s) r
+  mul_refused a b r s_is h some =
+      subst (λ t. IsRow here t r) (sym s_is) (subst (λ (o : FieldOps). IsProductRow o c.fin.n max_degree a b r) (sym (same_ops k)) (h some))
 
-rows_true : (k : AnyField) (c : CurveValue) (side : Side) (zs : List ElemValue) → IsOrderAnswer (field_of k) c side zs → Answers (WithCurve (data_of k) c) (OrderOf side) (Rows zs) (WithCurve (data_of k) c)
-rows_true k c side zs h = (data_is k, subst (λ (l : CodeField). IsOrderAnswer l c side zs) (sym (same_field k)) h, refl)
+  pub factor_answer : (g : List Term) (unit : ℕ) (parts : List PowerLine) → s ≡ Factor g → AreFactorsRead (field_of k).ops g unit parts → HasAnswer here s (answers.Factor unit parts) here
+  factor_answer g unit parts s_is h =
+      subst (λ t. HasAnswer here t (answers.Factor unit parts) here) (sym s_is) (record {
+        is_true = (subst (λ (o : FieldOps). factor_row.IsTrue o g unit parts) (sym (same_ops k)) h.is, refl);
+        not_refused = λ r found. h.no_row r (subst (λ (o : FieldOps). IsFactorRow o max_degree g r) (same_ops k) found);
+      })
 
-pub adds_rows : (s : Statement) (side : Side) (k : AnyField) (c : CurveValue) (before now : List ℕ) → s ≡ OrderOf side → AddsRows (field_of k) c side before now
-    → AddsAnswer (WithCurve (data_of k) c) s before now None
-adds_rows s side k c before now s_is h =
-    subst (λ t. AddsAnswer (WithCurve (data_of k) c) t before now None) (sym s_is) (record {
-      answer = Rows h.rows;
-      is_true = rows_true k c side h.rows h.are_rows;
-      not_refused = λ r found. found;
-      small = h.small;
-      added = h.added;
-      sound = λ b e. absurd cc;
-    })
+  pub factor_refused : (g : List Term) (r : Refusal) → s ≡ Factor g → UnlessMemory (IsFactorRow (field_of k).ops max_degree g) r → UnlessMemory (IsRow here s) r
+  factor_refused g r s_is h some =
+      subst (λ t. IsRow here t r) (sym s_is) (subst (λ (o : FieldOps). IsFactorRow o max_degree g r) (sym (same_ops k)) (h some))
 
--- ---- a result that is handed on
-
-pub on_ok_as : {A : Type 0} (r : Result A Refusal) (P Q : Type 0) → (P → Q) → OnOk r P → OnOk r Q
-on_ok_as (Ok a) P Q f h = f h
-on_ok_as (Err e) P Q f h = h
-
-pub if_err_as : {A : Type 0} (r : Result A Refusal) (P Q : Refusal → Type 0) → ((e : Refusal) → P e → Q e) → IfErr r P → IfErr r Q
-if_err_as (Ok a) P Q f h = h
-if_err_as (Err e) P Q f h = f e h
-
--- ---- refusals
-
-pub refuses_curve : (old : SessionValue) (s : Statement) (f : List Term) (k : AnyField) (r : Refusal) → WithField (data_of k) ≡ old.setting → s ≡ CurveOf f → UnlessMemory (IsNoCurve (field_of k) f) r → IsRefusedAs old s r
-refuses_curve old s f k r is s_is h some =
-    row (subst (λ o. IsRow o s r) is (subst (λ t. IsRow (WithField (data_of k)) t r) (sym s_is)
-    (data_is k, subst (λ (l : CodeField). IsNoCurve l f r) (sym (same_field k)) (h some))))
-
-pub unanswered_product : (s : Statement) (a b : ElemText) (k : AnyField) (c : CurveValue) (r : Refusal) → s ≡ Mul a b → UnlessMemory (IsNoProduct (field_of k) c.fin a b) r → UnlessMemory (IsUnanswered (WithCurve (data_of k) c) s) r
-unanswered_product s a b k c r s_is h some = subst (λ t. IsUnanswered (WithCurve (data_of k) c) t r) (sym s_is) (go (h some))
-  where
-    go : IsNoProduct (field_of k) c.fin a b r → IsUnanswered (WithCurve (data_of k) c) (Mul a b) r
-    go (steps.row found) = steps.row (product_row k c a b r found)
-    go (steps.degree z read great told) = steps.degree (Element z) (WithCurve (data_of k) c) (product_true k c a b z read) (product_admitted k c a b z read) great told
-
-pub unanswered_factors : (s : Statement) (g : List Term) (k : AnyField) (c : CurveValue) (r : Refusal) → s ≡ Factor g → UnlessMemory (IsFactorRow (field_of k).ops g) r → UnlessMemory (IsUnanswered (WithCurve (data_of k) c) s) r
-unanswered_factors s g k c r s_is h some =
-    subst (λ t. IsUnanswered (WithCurve (data_of k) c) t r) (sym s_is)
-    (steps.row (subst (λ (o : FieldOps). IsFactorRow o g r) (sym (same_ops k)) (h some)))
-
-pub unanswered_rows : (s : Statement) (side : Side) (k : AnyField) (c : CurveValue) (r : Refusal) → s ≡ OrderOf side → UnlessMemory (HaveGreatDegree (field_of k) c side) r → UnlessMemory (IsUnanswered (WithCurve (data_of k) c) s) r
-unanswered_rows s side k c r s_is h some =
-    let great = h some in
-    subst (λ t. IsUnanswered (WithCurve (data_of k) c) t r) (sym s_is)
-    (steps.degree (Rows great.rows) (WithCurve (data_of k) c) (rows_true k c side great.rows great.are_rows) (λ r found. found) great.great great.told)
-
-pub refuses_unanswered : (old : SessionValue) (s : Statement) (r : Refusal) → UnlessMemory (IsUnanswered old.setting s) r → IsRefusedAs old s r
-refuses_unanswered old s r h some = go (h some)
-  where
-    go : IsUnanswered old.setting s r → Refuses old s r
-    go (steps.row found) = row found
-    go (steps.degree a next is admitted great told) = subst (Refuses old s) (sym told) (text a next is admitted (degree great))
-
--- the block's text has no room
-pub refuses_output : (old : SessionValue) (s : Statement) (before now : List ℕ) (next : Option Bound) (b : ℕ) → AddsAnswer old.setting s before now next → before ≡ echo_line s → b ≡ output_after old.printed now → 268435456 < b → Refuses old s (LimitOutput b)
-refuses_output old s before now next b h echo b_is great =
-    let printed : now ≡ block_text s h.answer = h.added ∙ ap (λ t. t ++ answer_lines h.answer) echo in
-    let told : b ≡ output_after old.printed (block_text s h.answer) = b_is ∙ ap (output_after old.printed) printed in
-    subst (λ b. Refuses old s (LimitOutput b)) (sym told)
-    (text h.answer (setting_after old.setting next) h.is_true h.not_refused (output h.small (omega (arith, told))))
+  pub order_true : (side : Side) (zs : List WrittenValue) → s ≡ OrderOf side → order_row.IsTrue (field_of k) c side zs → HasAnswer here s (answers.OrderOf zs) here
+  order_true side zs s_is h =
+      subst (λ t. HasAnswer here t (answers.OrderOf zs) here) (sym s_is) (record {
+        is_true = (data_is k, subst (λ (l : CodeField). order_row.IsTrue l c side zs) (sym (same_field k)) h, refl);
+        not_refused = λ r found. found;
+      })

@@ -1,11 +1,3 @@
-pub mod Settings
-pub mod Meaning
-pub mod LowestTerms
-pub mod Orders
-pub mod Answers
-pub mod Texts
-pub mod Refusals
-pub mod Sessions
 pub mod Bound
-pub mod Elements
+pub mod Sessions
 pub mod Steps

@@ -1,14 +1,9 @@
 //! Sessions: what the statements of a script bind and answer, block by block, and when a statement is refused.
 #![tactic(auto)]
 
-mod answers;
-mod elements;
-mod factors;
-mod orders;
-mod products;
-pub mod refusal;
 pub mod session;
+mod statements;
 
-pub use answers::push_echo;
-pub use refusal::{Refusal, push_refusal, refusal_text};
+pub use ff_cert::push_echo;
+pub use ff_meaning::{Refusal, push_refusal, refusal_text};
 pub use session::Session;

@@ -1,36 +1,33 @@
 //! What the statements so far have bound, and the block of the next one.
 
-ghost use Rattle.std.specs.Prelude.{◌≡◌, ◌<◌, ◌≤◌, ◌++◌, All, None, IfOk, IfErr, OnOk, OnErr};
+ghost use Rattle.std.specs.Prelude.{◌≡◌, ◌≤◌, IfOk, IfErr, OnErr};
+ghost use Rattle.std.specs.Option.{ForSome};
 ghost use Rattle.ff_fields.specs.Fields.{field_of};
+ghost use Rattle.ff_fields.specs.FieldData.{data_of};
 ghost use Rattle.function_field.specs.Curves.{IsCurve};
-ghost use Rattle.ff_text.specs.Values.{HasSmallExponents};
-ghost use Rattle.ff_script.specs.Grammar.{IsWhole};
 ghost use Rattle.ff_script.specs.Printing.{IsWritable};
-ghost use Rattle.ff_session.specs.Settings.{Empty, WithCurve, SessionValue};
-ghost use Rattle.ff_session.specs.Bound.{data_of};
-ghost use Rattle.ff_session.specs.Answers.{Names, Size};
-ghost use Rattle.ff_session.specs.Texts.{answer_lines};
-ghost use Rattle.ff_session.specs.Refusals.{UnlessMemory, IsFieldLineFault, IsFieldRow, IsNoCurve, refusal_of_field};
-ghost use Rattle.ff_session.specs.Steps.{AddsAnswer, AddsCurve, IsUnanswered};
-ghost use Rattle.ff_session.specs.Sessions.{IsInPlace, HasSmallPowers, IsStep, IsRefusedAs};
+ghost use Rattle.ff_meaning.specs.Settings.{nothing, with_curve, IsInPlace, HasSmallPowers};
+ghost use Rattle.ff_meaning.specs.Refusals.{UnlessMemory, IsRow};
+ghost use Rattle.ff_cert.specs.Blocks.{IsTextRow};
+ghost use Rattle.ff_session.specs.Bound.{IsSound};
+ghost use Rattle.ff_session.specs.Sessions.{IsStep, IsRefusedAs};
+ghost use Rattle.ff_session.specs.Steps.{setting_after, HasAnswer, IsBlock};
 
-use crate::answers::{push_echo, push_numbers, push_size};
-use crate::elements::sum;
-use crate::factors::answer_factors;
-use crate::orders::answer_order;
-use crate::products::answer_product;
-use crate::refusal::Refusal;
+use crate::statements::curve::answer_curve;
+use crate::statements::factor::factors_of;
+use crate::statements::field::answer_field;
+use crate::statements::mul::product;
+use crate::statements::order::integral_rows;
 use ff_algebra::curve::Curve;
-use ff_fields::fault::FieldFault;
-use ff_fields::field::SmallField;
+use ff_cert::{Answer, degree, push_answer, push_echo};
 use ff_fields::fields::Field;
-use ff_fields::prime::PrimeField;
-use ff_fields::residue::ResidueField;
-use ff_poly::Poly;
-use ff_script::{Modulus, Statement};
-use ff_text::TermList;
-use std::alloc::{AllocError, Global};
+use ff_meaning::Refusal;
+use ff_script::Statement;
+use std::alloc::Global;
 use std::marker::Model;
+
+/// The greatest degree of a polynomial in an answer.
+const MAX_ANSWER_DEGREE: usize = 1024;
 
 /// The most bytes that a run may write.
 const MAX_OUTPUT: u64 = 268_435_456;
@@ -57,7 +54,7 @@ pub struct Session {
 
 impl Model for Session {
     ghost use Rattle.std.specs.Prelude.{◌≤◌};
-    ghost use Rattle.ff_session.specs.Settings.{SessionValue};
+    ghost use Rattle.ff_cert.specs.Blocks.{SessionValue};
     ghost use Rattle.ff_session.specs.Bound.{setting_of, IsSound};
 
     ghost Value = { SessionValue };
@@ -71,7 +68,7 @@ impl Session {
     /// Nothing is bound, and so many bytes were printed. No memory is taken.
     pub fn new(alloc: Global, bare: bool, printed: u64) -> Session
         requires { printed ≤ 268435456 }
-        ensures { result ≡ record { setting = Empty; bare = bare; printed = printed } }
+        ensures { result ≡ record { setting = nothing; bare = bare; printed = printed } }
     {
         Session {
             bound: Bound::Nothing,
@@ -83,7 +80,7 @@ impl Session {
 
     /// The text of the statement's block, or why there is none. The statement has a spelling and stands in its place. After
     /// a refusal the session is as before. A product takes the square of the degrees, and the factors of its denominator; a
-    /// curve, some hundred products; factors, what `factor` takes.
+    /// curve, some hundred products; factors, what `factor` takes; an order, what `maximal_order` takes.
     pub fn step(&mut self, s: &Statement) -> Result<Vec<u8>, Refusal>
         requires in_place { IsInPlace self.old.setting s.now }
         requires spelled { IsWritable s.now }
@@ -92,13 +89,8 @@ impl Session {
         ensures refused { IfErr result (IsRefusedAs self.old s.now) }
         ensures unchanged { OnErr result (self.new ≡ self.old) }
     {
-        let mut text = Vec::new(self.alloc);
-        push_echo(&mut text, s)?;
-        let next = self.answer(s, &mut text)?;
-        let output = self.printed + text.len() as u64 + END;
-        if output > MAX_OUTPUT {
-            return Err(Refusal::LimitOutput(output));
-        }
+        let (answer, next) = self.answer(s)?;
+        let text = self.block(s, &answer)?;
         self.printed += text.len() as u64;
         if let Some(bound) = next {
             self.bound = bound;
@@ -106,125 +98,85 @@ impl Session {
         Ok(text)
     }
 
-    /// Writes the answer lines, and tells what is bound next where that changes.
-    fn answer(&self, s: &Statement, text: &mut Vec<u8>) -> Result<Option<Bound>, Refusal>
+    /// The text of the statement's block with the answer, or why it may not be printed.
+    fn block(&self, s: &Statement, answer: &Answer) -> Result<Vec<u8>, Refusal>
+        ensures block { IfOk result (λ text. IsBlock self.now s.now answer.now text.items) }
+        ensures refused { IfErr result (UnlessMemory (IsTextRow self.now s.now answer.now)) }
+    {
+        let degree = degree(answer);
+        if degree > MAX_ANSWER_DEGREE {
+            return Err(Refusal::LimitDegree(degree));
+        }
+        let mut text = Vec::new(self.alloc);
+        push_echo(&mut text, s)?;
+        push_answer(&mut text, answer)?;
+        let output = self.printed + text.len() as u64 + END;
+        if output > MAX_OUTPUT {
+            return Err(Refusal::LimitOutput(output));
+        }
+        Ok(text)
+    }
+
+    /// The true answer, and what is bound next where that changes, or the row that refuses the statement.
+    fn answer(&self, s: &Statement) -> Result<(Answer, Option<Bound>), Refusal>
         requires in_place { IsInPlace self.now.setting s.now }
         requires spelled { IsWritable s.now }
         requires powers { HasSmallPowers s.now }
-        ensures answer { IfOk result (AddsAnswer self.now.setting s.now text.old.items text.new.items) }
-        ensures refused { IfErr result (IsRefusedAs self.now s.now) }
+        ensures answer { IfOk result (λ r. HasAnswer self.now.setting s.now r.0 (setting_after self.now.setting r.1)) }
+        ensures sound { IfOk result (λ r. ForSome r.1 IsSound) }
+        ensures refused { IfErr result (UnlessMemory (IsRow self.now.setting s.now)) }
     {
         match &self.bound {
             Bound::Nothing => {
                 let Statement::FieldOf { p, tail } = s else {
                     unreachable!()
                 };
-                let k = answer_field(self.alloc, text, *p, tail)?;
-                Ok(Some(Bound::Field { k }))
+                let (answer, k) = answer_field(self.alloc, *p, tail)?;
+                Ok((answer, Some(Bound::Field { k })))
             }
             Bound::Field { k } => {
                 let Statement::CurveOf { f } = s else {
                     unreachable!()
                 };
-                let curve = answer_curve(self.alloc, text, k, f)?;
-                Ok(Some(Bound::Curve { k: *k, curve }))
+                let (answer, curve) = answer_curve(self.alloc, k, f)?;
+                let k = k.copy(self.alloc)?;
+                Ok((answer, Some(Bound::Curve { k, curve })))
             }
             Bound::Curve { k, curve } => {
-                answer_on_curve(self.alloc, text, k, curve, s)?;
-                Ok(None)
+                let answer = answer_on_curve(self.alloc, k, curve, s)?;
+                Ok((answer, None))
             }
         }
     }
 }
 
-/// The field that the line names.
-fn field(p: u32, tail: &Option<Modulus>) -> Result<Field, FieldFault>
-    requires { IsWhole tail.now }
-    ensures made { IfOk result (λ k. Names p tail.now (field_of k).ops) }
-    ensures fault { IfErr result (IsFieldLineFault p tail.now) }
-{
-    match tail {
-        None => Ok(Field::Prime(PrimeField::new(p)?)),
-        Some(modulus) => {
-            let k = ResidueField::new(p, modulus.m, modulus.codes.codes.as_slice())?;
-            Ok(Field::Residue(k))
-        }
-    }
-}
-
-/// The refusal that tells the fault.
-fn field_refusal(alloc: Global, fault: FieldFault) -> Result<Refusal, AllocError>
-    ensures { IfOk result (λ r. r ≡ refusal_of_field fault) }
-{
-    match fault {
-        FieldFault::FieldSize(p, m) => Ok(Refusal::FieldSize(p, m)),
-        FieldFault::CodeRange(c) => Ok(Refusal::CodeRange(c)),
-        FieldFault::NotMonic(c) => {
-            let mut codes = Vec::new(alloc);
-            codes.push(c)?;
-            Ok(Refusal::NotMonic(Poly::from_codes(codes)))
-        }
-        FieldFault::NotField(a, b) => Ok(Refusal::NotField(a, b)),
-    }
-}
-
-/// The field that the line names, with its answer line.
-fn answer_field(
-    alloc: Global,
-    text: &mut Vec<u8>,
-    p: u32,
-    tail: &Option<Modulus>,
-) -> Result<Field, Refusal>
-    requires { IsWhole tail.now }
-    ensures made { IfOk result (λ k. Names p tail.now (field_of k).ops) }
-    ensures added { IfOk result (λ k. text.new.items ≡ text.old.items ++ answer_lines (Size (field_of k).size)) }
-    ensures refused { IfErr result (UnlessMemory (IsFieldRow p tail.now)) }
-{
-    match field(p, tail) {
-        Ok(k) => {
-            push_size(text, &k)?;
-            Ok(k)
-        }
-        Err(fault) => Err(field_refusal(alloc, fault)?),
-    }
-}
-
-/// The curve of the terms, with its answer line.
-fn answer_curve<K: SmallField>(
-    alloc: Global,
-    text: &mut Vec<u8>,
-    k: &K,
-    f: &TermList,
-) -> Result<Curve, Refusal>
-    requires { All HasSmallExponents f.now }
-    ensures curve { IfOk result (AddsCurve (K.field k.now) f.now text.old.items text.new.items) }
-    ensures refused { IfErr result (UnlessMemory (IsNoCurve (K.field k.now) f.now)) }
-{
-    let sum = sum(alloc, k, f)?;
-    let curve = Curve::new(alloc, k, &sum)?;
-    push_numbers(text, curve.fin().n(), curve.c())?;
-    Ok(curve)
-}
-
-/// The answer lines of a statement over the curve.
+/// The true answer to a statement over the curve, or the row that refuses it.
 fn answer_on_curve(
     alloc: Global,
-    text: &mut Vec<u8>,
     k: &Field,
     curve: &Curve,
     s: &Statement,
-) -> Result<(), Refusal>
+) -> Result<Answer, Refusal>
     requires sound { IsCurve (field_of k.now) curve.now }
-    requires in_place { IsInPlace (WithCurve (data_of k.now) curve.now) s.now }
+    requires in_place { IsInPlace (with_curve (data_of k.now) curve.now) s.now }
     requires spelled { IsWritable s.now }
     requires powers { HasSmallPowers s.now }
-    ensures answer { OnOk result (AddsAnswer (WithCurve (data_of k.now) curve.now) s.now text.old.items text.new.items None) }
-    ensures refused { IfErr result (UnlessMemory (IsUnanswered (WithCurve (data_of k.now) curve.now) s.now)) }
+    ensures answer { let old = with_curve (data_of k.now) curve.now in IfOk result (λ a. HasAnswer old s.now a old) }
+    ensures refused { IfErr result (UnlessMemory (IsRow (with_curve (data_of k.now) curve.now) s.now)) }
 {
     match s {
-        Statement::Mul { a, b } => answer_product(alloc, text, k, curve.fin(), a, b),
-        Statement::Factor { g } => answer_factors(alloc, text, k, g),
-        Statement::OrderOf { side } => answer_order(alloc, text, k, curve, *side),
+        Statement::Mul { a, b } => {
+            let element = product(alloc, k, curve.fin(), a, b)?;
+            Ok(Answer::Mul { element })
+        }
+        Statement::Factor { g } => {
+            let (unit, parts) = factors_of(alloc, k, g)?;
+            Ok(Answer::Factor { unit, parts })
+        }
+        Statement::OrderOf { side } => {
+            let rows = integral_rows(alloc, k, curve, *side)?;
+            Ok(Answer::OrderOf { rows })
+        }
         _ => unreachable!(),
     }
 }

@@ -1,6 +1,0 @@
-use Rattle.ff_session.proofs.PolynomialTerms.{AreCodesFrom}
-use Rattle.ff_session.proofs.elements.polynomial.Given as goal
-
--- the terms from j on are added
-abbrev pub invariant-loop-j : goal.invariant-loop-j
-invariant-loop-j g l = AreCodesFrom (g.K.SmallField.field l.k).ops l.terms l.j l.codes

@@ -1,6 +1,0 @@
-use Rattle.std.proofs.Common.{◌≡◌, take}
-use Rattle.ff_session.proofs.products.copies.Given as goal
-
--- the polynomials so far are copied
-abbrev pub invariant-loop-p : goal.invariant-loop-p
-invariant-loop-p l = l.copies.items ≡ take l.p-index l.polys

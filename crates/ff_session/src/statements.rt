@@ -1,0 +1,7 @@
+//! The answers, a file a statement.
+
+pub mod curve;
+pub mod factor;
+pub mod field;
+pub mod mul;
+pub mod order;
