@@ -3,11 +3,10 @@ use Rattle.std.proofs.Common.{◌≡◌, ℕ, ◌+◌, ◌<◌, List, [], ◌∷
 use Rattle.std.specs.Result.{is_err}
 use Rattle.std.proofs.lemmas.List.{drop_more, length-append, length-map}
 use Rattle.ff_script.specs.declared.script.Statement.{Statement}
-use Rattle.ff_session.specs.declared.refusal.Refusal.{Refusal}
-use Rattle.ff_session.specs.Settings.{SessionValue}
-use Rattle.ff_session.specs.Refusals.{Refuses}
+use Rattle.ff_meaning.specs.declared.refusal.Refusal.{Refusal}
+use Rattle.ff_cert.specs.Lines.{echo_line}
+use Rattle.ff_cert.specs.Blocks.{SessionValue, Refuses}
 use Rattle.ff_session.specs.Sessions.{IsStep}
-use Rattle.ff_session.specs.Texts.{echo_line}
 use Rattle.ff_program.specs.declared.status.Status.{Status}
 use Rattle.ff_program.specs.declared.status.Status.TheVariants.{Done, Refused}
 use Rattle.ff_program.specs.Output.{Block, blocks_text, refusal_line, end_line, IsAnswered, IsOut, IsPart, Blocks, Whole}

@@ -4,7 +4,7 @@ use Rattle.std.specs.Option.{ForSome}
 use Rattle.ff_io.specs.Streams.{Rose, Fills}
 use Rattle.ff_script.specs.declared.script.Statement.{Statement}
 use Rattle.ff_script.specs.Scripts.{IsScript}
-use Rattle.ff_session.specs.Settings.{SessionValue}
+use Rattle.ff_cert.specs.Blocks.{SessionValue}
 use Rattle.ff_program.specs.declared.status.Status.{Status}
 use Rattle.ff_program.specs.declared.status.Status.TheVariants.{Done, Refused, ReadFault, WriteFault, WantOfMemory}
 use Rattle.ff_program.specs.Output.{Block, IsAnswered, IsOutput, IsBegun, blocks_text, end_line}

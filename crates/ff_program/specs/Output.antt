@@ -2,12 +2,12 @@
 use Rattle.std.specs.Prelude.{◌≡◌, ℕ, ◌<◌, ◌≤◌, List, [], ◌∷◌, ◌++◌, length, map, codes, Bool, true, false, flat_map, decimal}
 use Rattle.ff_script.specs.declared.script.Statement.{Statement}
 use Rattle.ff_script.specs.Scripts.{IsScript, IsSyntaxFault, IsMisplaced}
-use Rattle.ff_session.specs.declared.refusal.Refusal.{Refusal}
-use Rattle.ff_session.specs.Settings.{Empty, SessionValue}
-use Rattle.ff_session.specs.Answers.{Answer}
-use Rattle.ff_session.specs.Texts.{block_text, echo_line, refusal_text}
-use Rattle.ff_session.specs.Refusals.{Refuses}
-use Rattle.ff_session.specs.Sessions.{Takes}
+use Rattle.ff_meaning.specs.declared.refusal.Refusal.{Refusal}
+use Rattle.ff_meaning.specs.Settings.{nothing}
+use Rattle.ff_meaning.specs.Texts.{refusal_text}
+use Rattle.ff_cert.specs.declared.answer.Answer.{Answer}
+use Rattle.ff_cert.specs.Lines.{echo_line}
+use Rattle.ff_cert.specs.Blocks.{SessionValue, Refuses, Takes, block_text}
 
 -- a statement with its answer
 pub record Block : Type 0 where
@@ -35,7 +35,7 @@ too_long_line = codes "refused TooLong 65536\n"
 
 -- nothing is bound, and nothing was printed
 abbrev pub at_start : SessionValue
-at_start = record { setting = Empty; bare = true; printed = 0 }
+at_start = record { setting = nothing; bare = true; printed = 0 }
 
 -- each answer is true, and its statement isn't refused, in what the blocks before it leave
 abbrev pub AreTrue : SessionValue → List Block → SessionValue → Type 0

@@ -2,15 +2,16 @@
 use Rattle.std.specs.Prelude.{◌≡◌, ℕ, ◌≤◌}
 use Rattle.ff_script.specs.declared.script.Statement.{Statement}
 use Rattle.ff_script.specs.Printing.{IsWritable}
-use Rattle.ff_session.specs.Settings.{Setting, Empty, WithField, WithCurve}
-use Rattle.ff_session.specs.Sessions.{HasSmallPowers}
+use Rattle.ff_fields.specs.FieldData.{FieldData}
+use Rattle.function_field.specs.Curves.{CurveValue}
+use Rattle.ff_meaning.specs.Settings.{Setting, nothing, with_field, with_curve, HasSmallPowers}
 
 -- it has a spelling, and its exponents are small
 abbrev pub IsReady : Statement → Type 0
 IsReady s = IsWritable s × HasSmallPowers s
 
 -- so many statements in order lead to the setting
-abbrev pub IsAfter : ℕ → Setting → Type 0
-IsAfter k Empty = k ≡ 0
-IsAfter k (WithField d) = k ≡ 1
-IsAfter k (WithCurve d c) = 2 ≤ k
+pub data IsAfter (k : ℕ) (s : Setting) : Type 0 where
+  AtStart : k ≡ 0 → s ≡ nothing → IsAfter k s
+  AfterField : k ≡ 1 → (d : FieldData) → s ≡ with_field d → IsAfter k s
+  AfterCurve : 2 ≤ k → (d : FieldData) (c : CurveValue) → s ≡ with_curve d c → IsAfter k s

@@ -2,8 +2,8 @@
 
 ghost use Rattle.std.specs.Prelude.{◌≡◌, ◌≢◌, ◌≤◌, ◌++◌, length, All, IfOk, OnOk, OnErr};
 ghost use Rattle.ff_script.specs.Scripts.{IsInOrder};
-ghost use Rattle.ff_session.specs.declared.refusal.Refusal.{Refusal};
-ghost use Rattle.ff_session.specs.Texts.{echo_line};
+ghost use Rattle.ff_meaning.specs.declared.refusal.Refusal.{Refusal};
+ghost use Rattle.ff_cert.specs.Lines.{echo_line};
 ghost use Rattle.ff_program.specs.Commands.{Runs};
 ghost use Rattle.ff_program.specs.Output.{IsOut, IsPart, IsOutput, IsBegun, syntax_line, misplaced_line, refusal_line, end_line};
 ghost use Rattle.ff_program.specs.Printing.{Prints, BreaksOff, EndsAs, EndsWith};
