@@ -13,7 +13,7 @@ use Rattle.ff_poly.specs.Words.{IsPoly}
 use Rattle.ff_poly.specs.Value.{value}
 use Rattle.ff_poly.specs.Polynomials.{polynomials, value_nil}
 use Rattle.function_field.specs.Values.{PresValue, row_of_list, equation_of}
-use Rattle.ff_algebra.specs.RowProducts.{IsRow, row_at}
+use Rattle.ff_algebra.specs.RowProducts.{IsPolyRow, row_at}
 use Rattle.ff_algebra.specs.Inverses.{entry_of, HasOwnEntry, eliminated, IsEliminatedBy, ClearsColumn, IsLine, IsEliminated}
 use Rattle.ff_algebra.proofs.Elimination.{skip, skip_other, skip_apart, skip_below, get_or_skip, cleared_here, cleared_kept, own_kept, line_eliminated}
 
@@ -150,7 +150,7 @@ module _ (k : CodeField) (p : PresValue) (v : List (List ℕ)) where
 
   -- w, then a polynomial d, not all 0, with w·v equal to d
   pub record HasFactors (factors : List (List ℕ)) : Type 0 where
-    pub row : IsRow k.ops (p.n + 1) factors
+    pub row : IsPolyRow k.ops (p.n + 1) factors
     pub product :
         row_scale (polynomials k).ops (suc (p.n - 1)) (value k (get_or factors p.n [])) (row_one (polynomials k).ring (p.n - 1))
         ≡ row_mul (polynomials k).ring (p.n - 1) (equation_of k p).coefficients (row_at k p factors) (row_at k p v)
@@ -189,6 +189,6 @@ module _ (k : CodeField) (p : PresValue) (v : List (List ℕ)) where
         some = λ e. mine.some (sym (at mine.column mine.within) ∙ e);
       })
 
-  pub rows_in : (width column : ℕ) (lines : List (List (List ℕ))) → width ≡ 2 * p.n + 1 → IsEliminated k p v column lines → All (IsRow k.ops width) lines
+  pub rows_in : (width column : ℕ) (lines : List (List (List ℕ))) → width ≡ 2 * p.n + 1 → IsEliminated k p v column lines → All (IsPolyRow k.ops width) lines
   rows_in width column lines width_is is i d less =
-      subst (IsRow k.ops width) (get_or_default lines i [] d less) (subst (λ w. IsRow k.ops w (get_or lines i [])) (sym width_is) (is.each i less).row)
+      subst (IsPolyRow k.ops width) (get_or_default lines i [] d less) (subst (λ w. IsPolyRow k.ops w (get_or lines i [])) (sym width_is) (is.each i less).row)

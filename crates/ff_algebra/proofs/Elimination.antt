@@ -16,7 +16,7 @@ use Rattle.ff_poly.specs.Value.{value, value_product, same_from_value}
 use Rattle.ff_poly.specs.Polynomials.{Polynomial, polynomials, polynomials_domain, value_nil, value_one, value_not_zero}
 use Rattle.ff_poly.proofs.Parts.{value_sum_with_product, value_multiple_minus}
 use Rattle.function_field.specs.Values.{PresValue, equation_of}
-use Rattle.ff_algebra.specs.RowProducts.{IsRow, cross_sums, row_at}
+use Rattle.ff_algebra.specs.RowProducts.{IsPolyRow, cross_sums, row_at}
 use Rattle.ff_algebra.specs.Inverses.{eliminated, IsLine}
 use Rattle.ff_algebra.proofs.RowProducts.{over_cross_sums, poly_cross_sums, length_cross_sums, row_of_cross_sums}
 
@@ -81,11 +81,11 @@ module _ (k : CodeField) where
   empty_of_zero a a_in a_poly none = same_from_value k a [] a_in IsOver_nil a_poly (record { trimmed = tt }) (none ∙ sym (value_nil k))
 
   -- the entries of a row, and past its end, are polynomials over the field
-  pub over_at : (n : ℕ) (vs : List (List ℕ)) → IsRow k.ops n vs → (j : ℕ) → IsOver k.ops (get_or vs j [])
+  pub over_at : (n : ℕ) (vs : List (List ℕ)) → IsPolyRow k.ops n vs → (j : ℕ) → IsOver k.ops (get_or vs j [])
   over_at n vs row j =
       elim (cases_lt j (length vs)) [ inl less ↦ row.over j [] less | inr past ↦ subst (IsOver k.ops) (sym (get_or_past vs j [] past)) IsOver_nil ]
 
-  pub poly_at : (n : ℕ) (vs : List (List ℕ)) → IsRow k.ops n vs → (j : ℕ) → IsPoly (get_or vs j [])
+  pub poly_at : (n : ℕ) (vs : List (List ℕ)) → IsPolyRow k.ops n vs → (j : ℕ) → IsPoly (get_or vs j [])
   poly_at n vs row j =
       elim (cases_lt j (length vs)) [ inl less ↦ row.poly j [] less | inr past ↦ subst IsPoly (sym (get_or_past vs j [] past)) (record { trimmed = tt }) ]
 
@@ -107,7 +107,7 @@ module _ (k : CodeField) where
 
   -- ---- a line less its part at a pivot
 
-  module _ (width column : ℕ) (pivot line : List (List ℕ)) (pivot_in : IsRow k.ops width pivot) (line_in : IsRow k.ops width line) where
+  module _ (width column : ℕ) (pivot line : List (List ℕ)) (pivot_in : IsPolyRow k.ops width pivot) (line_in : IsPolyRow k.ops width line) where
     abbrev new_line : List (List ℕ)
     new_line = eliminated k.ops column pivot line
 
@@ -120,7 +120,7 @@ module _ (k : CodeField) where
     same_length : length line ≡ length pivot
     same_length = line_in.one_each ∙ sym pivot_in.one_each
 
-    pub IsRow_eliminated : IsRow k.ops width new_line
+    pub IsRow_eliminated : IsPolyRow k.ops width new_line
     IsRow_eliminated = record {
       one_each = length_cross_sums k.ops minus (get_or pivot column []) line pivot same_length ∙ line_in.one_each;
       over = over_cross_sums k minus (get_or pivot column []) line pivot minus_in (over_at width pivot pivot_in column) line_in.over pivot_in.over;

@@ -16,7 +16,7 @@ use Rattle.ff_poly.specs.Value.{value}
 use Rattle.ff_poly.specs.Polynomials.{polynomials, value_one}
 use Rattle.ff_poly.proofs.Parts.{IsPoly_sum_of, value_sum_with_product, minus_one}
 use Rattle.function_field.specs.Values.{PresValue, row_of_list, equation_of}
-use Rattle.ff_algebra.specs.RowProducts.{IsRow, add_products, row_at}
+use Rattle.ff_algebra.specs.RowProducts.{IsPolyRow, add_products, row_at}
 use Rattle.ff_algebra.specs.Inverses.{IsLine}
 use Rattle.ff_algebra.proofs.RowProducts.{IsRow_zeros, row_of_zeros, row_of_add_products}
 use Rattle.ff_algebra.proofs.Elimination.{over_at}
@@ -53,7 +53,7 @@ module _ (k : CodeField) where
   first_less m (q ∷ qs) first d some product_in d_in first_is =
       first_back (polynomials k).ring m (value k q) (value k first) (value k d) (row_of_list k m qs) (value_less q first d (product_in 0 [] (omega arith)) d_in first_is)
 
-  pub line_made : (p : PresValue) (v factors product : List (List ℕ)) (first : List ℕ) → 1 ≤ p.n → IsRow k.ops (p.n + 1) factors → IsRow k.ops p.n product
+  pub line_made : (p : PresValue) (v factors product : List (List ℕ)) (first : List ℕ) → 1 ≤ p.n → IsPolyRow k.ops (p.n + 1) factors → IsPolyRow k.ops p.n product
       → row_at k p product ≡ row_mul (polynomials k).ring (p.n - 1) (equation_of k p).coefficients (row_at k p (take p.n factors)) (row_at k p v)
       → first ≡ sum_of k.ops (get_or product 0 []) (multiple_of k.ops (product_of k.ops (1 ∷ []) (get_or factors p.n [])) (k.neg 1))
       → IsLine k p v (factors ++ set product 0 first)

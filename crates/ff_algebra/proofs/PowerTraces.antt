@@ -13,7 +13,7 @@ use Rattle.ff_poly.specs.Words.{IsPoly}
 use Rattle.ff_poly.specs.Value.{value}
 use Rattle.ff_poly.specs.Polynomials.{polynomials, value_one}
 use Rattle.function_field.specs.Values.{PresValue, equation_of}
-use Rattle.ff_algebra.specs.RowProducts.{IsRow, row_at, y_times}
+use Rattle.ff_algebra.specs.RowProducts.{IsPolyRow, row_at, y_times}
 use Rattle.function_field.specs.Discriminant.{power_trace, discriminant}
 use Rattle.ff_algebra.specs.CurveTerms.{matrix_of}
 use Rattle.ff_algebra.proofs.RowProducts.{row_of_zeros}
@@ -41,7 +41,7 @@ IfOk_three (Err e) P Q R S f p q r = tt
 module _ (k : CodeField) (p : PresValue) where
   -- y^m, and the traces of the powers below it
   pub record AreTraces (m : ℕ) (power traces : List (List ℕ)) : Type 0 where
-    pub row : IsRow k.ops p.n power
+    pub row : IsPolyRow k.ops p.n power
     pub power_is : row_at k p power ≡ y_to (polynomials k).ops (p.n - 1) (equation_of k p).coefficients m
     pub size : length traces ≡ m
     pub each : (i : ℕ) → i < m → value k (get_or traces i []) ≡ power_trace (equation_of k p) i
@@ -72,7 +72,7 @@ module _ (k : CodeField) (p : PresValue) where
 
   pub traces_more : (m : ℕ) (power next traces more : List (List ℕ)) (t : List ℕ) → AreTraces m power traces
       → value k t ≡ row_trace (polynomials k).ops (p.n - 1) (equation_of k p).coefficients (row_at k p power) → IsOver k.ops t → more ≡ traces ++ t ∷ []
-      → row_at k p next ≡ y_times k p (row_at k p power) → IsRow k.ops p.n next → AreTraces (m + 1) next more
+      → row_at k p next ≡ y_times k p (row_at k p power) → IsPolyRow k.ops p.n next → AreTraces (m + 1) next more
   traces_more m power next traces more t h t_is t_in more_is next_is next_in = record {
     row = next_in;
     power_is = power_more m power next h.power_is next_is;

@@ -14,7 +14,7 @@ use Rattle.ff_poly.specs.Value.{value, value_product}
 use Rattle.ff_poly.specs.Polynomials.{Polynomial, polynomials, constant_poly, value_nil, value_one}
 use Rattle.ff_poly.proofs.Parts.{IsPoly_sum_of, value_multiple, value_sum_with_product, minus_one}
 use Rattle.function_field.specs.Values.{PresValue, row_of_list, equation_of}
-use Rattle.ff_algebra.specs.RowProducts.{IsRow, add_products, cross_sums, row_at, y_times, list_times}
+use Rattle.ff_algebra.specs.RowProducts.{IsPolyRow, add_products, cross_sums, row_at, y_times, list_times}
 
 -- ---- one entry after another
 
@@ -201,14 +201,14 @@ module _ (k : CodeField) (p : PresValue) where
   list_times_is vs w same = list_times_row (suc (p.n - 1)) vs w same
 
 module _ (k : CodeField) where
-  pub IsRow_add_products : (n c : ℕ) (a : List ℕ) (vs ws : List (List ℕ)) → c < k.size → IsOver k.ops a → IsRow k.ops n vs → All (IsOver k.ops) ws → IsRow k.ops n (add_products k.ops c a vs ws)
+  pub IsRow_add_products : (n c : ℕ) (a : List ℕ) (vs ws : List (List ℕ)) → c < k.size → IsOver k.ops a → IsPolyRow k.ops n vs → All (IsOver k.ops) ws → IsPolyRow k.ops n (add_products k.ops c a vs ws)
   IsRow_add_products n c a vs ws c_in a_in row ws_in = record {
     one_each = length_add_products k.ops c a vs ws ∙ row.one_each;
     over = over_add_products k c a vs ws c_in a_in row.over ws_in;
     poly = poly_add_products k.ops c a vs ws row.poly;
   }
 
-  pub IsRow_zeros : (n : ℕ) → IsRow k.ops n (replicate n [])
+  pub IsRow_zeros : (n : ℕ) → IsPolyRow k.ops n (replicate n [])
   IsRow_zeros n = record {
     one_each = length-replicate n [];
     over = All-replicate (IsOver k.ops) n [] IsOver_nil;
@@ -222,7 +222,7 @@ module _ (k : CodeField) where
   row_of_zeros (suc m) (suc n) = pair_path (value_nil k) (row_of_zeros m n)
 
   -- what a row is once the polynomial on top went and one below came
-  pub IsRow_shifted : (n : ℕ) (t : List ℕ) (old vs : List (List ℕ)) → old ≡ vs ++ t ∷ [] → IsRow k.ops n old → IsRow k.ops n ([] ∷ vs) × IsOver k.ops t
+  pub IsRow_shifted : (n : ℕ) (t : List ℕ) (old vs : List (List ℕ)) → old ≡ vs ++ t ∷ [] → IsPolyRow k.ops n old → IsPolyRow k.ops n ([] ∷ vs) × IsOver k.ops t
   IsRow_shifted n t old vs old_is row =
       let overs = All-pop (IsOver k.ops) old vs (Some t) old_is row.over in
       let polys = All-pop IsPoly old vs (Some t) old_is row.poly in (
@@ -239,7 +239,7 @@ module _ (k : CodeField) (p : PresValue) where
   product_start n v w = row_of_zeros k (suc (p.n - 1)) n ∙ ap (λ u. list_times k p u w) (sym (drop_all (length v) v (omega arith)))
 
   pub product_step : (v w : List (List ℕ)) (i n : ℕ) (old mid new : List (List ℕ)) (a : List ℕ) → i ≡ suc n → i ≤ length v → length w ≡ p.n → All (IsOver k.ops) w → IsOver k.ops a
-      → IsRow k.ops p.n mid → row_at k p old ≡ list_times k p (drop i v) (row_at k p w) → row_at k p mid ≡ y_times k p (row_at k p old) → a ≡ get_or v n a → new ≡ add_products k.ops 1 a mid w
+      → IsPolyRow k.ops p.n mid → row_at k p old ≡ list_times k p (drop i v) (row_at k p w) → row_at k p mid ≡ y_times k p (row_at k p old) → a ≡ get_or v n a → new ≡ add_products k.ops 1 a mid w
       → row_at k p new ≡ list_times k p (drop n v) (row_at k p w)
   product_step v w i n old mid new a whole within w_len w_in a_in row done mid_is a_is new_is =
       ap (row_at k p) new_is

@@ -9,7 +9,7 @@ use Rattle.ff_poly.specs.Polynomials.{polynomials}
 use Rattle.ff_algebra.specs.declared.inverse.ZeroDivisor.{ZeroDivisor}
 use Rattle.ff_algebra.specs.declared.inverse.ZeroDivisor.TheVariants.{Kills, Memory}
 use Rattle.function_field.specs.Values.{ElemValue, PresValue, equation_of}
-use Rattle.ff_algebra.specs.RowProducts.{IsRow, cross_sums, row_at}
+use Rattle.ff_algebra.specs.RowProducts.{IsPolyRow, cross_sums, row_at}
 
 -- P of the element that a zero divisor is killed by, where there is one
 abbrev pub IfKills : ZeroDivisor → (ElemValue → Type 0) → Type 0
@@ -47,7 +47,7 @@ module _ (k : FieldOps) where
 module _ (k : CodeField) (p : PresValue) (v : List (List ℕ)) where
   -- w, then a polynomial d, then the entries of w·v - d
   pub record IsLine (line : List (List ℕ)) : Type 0 where
-    pub row : IsRow k.ops (2 * p.n + 1) line
+    pub row : IsPolyRow k.ops (2 * p.n + 1) line
     pub product :
         row_add (polynomials k).ops (suc (p.n - 1)) (row_at k p (drop (p.n + 1) line))
         (row_scale (polynomials k).ops (suc (p.n - 1)) (value k (get_or line p.n [])) (row_one (polynomials k).ring (p.n - 1)))
@@ -61,7 +61,7 @@ module _ (k : CodeField) (p : PresValue) (v : List (List ℕ)) where
 
   -- w·v is d, and w isn't 0 where d is 0
   pub record IsRelation (w : List (List ℕ)) (d : List ℕ) : Type 0 where
-    pub row : IsRow k.ops p.n w
+    pub row : IsPolyRow k.ops p.n w
     pub over : IsOver k.ops d
     pub poly : IsPoly d
     pub product :

@@ -10,7 +10,7 @@ use Rattle.function_field.specs.Values.{PresValue, row_of_list, equation_of}
 
 module _ (k : FieldOps) where
   -- n polynomials over the field
-  pub record IsRow (n : ℕ) (vs : List (List ℕ)) : Type 0 where
+  pub record IsPolyRow (n : ℕ) (vs : List (List ℕ)) : Type 0 where
     pub one_each : length vs ≡ n
     pub over : All (IsOver k) vs
     pub poly : All IsPoly vs

@@ -7,7 +7,7 @@ ghost use Rattle.ff_poly.specs.Words.{multiple_of};
 ghost use Rattle.ff_poly.specs.Value.{value};
 ghost use Rattle.ff_poly.specs.Polynomials.{polynomials};
 ghost use Rattle.function_field.specs.Values.{IsPresOver, equation_of};
-ghost use Rattle.ff_algebra.specs.RowProducts.{IsRow, add_products, cross_sums, row_at, y_times};
+ghost use Rattle.ff_algebra.specs.RowProducts.{IsPolyRow, add_products, cross_sums, row_at, y_times};
 
 use crate::elem::Pres;
 use ff_fields::field::SmallField;
@@ -101,10 +101,10 @@ pub(crate) fn multiply_by_y<K: SmallField>(
     row: &mut Vec<Poly>,
 ) -> Result<(), AllocError>
     requires p_in { IsPresOver (K.field k.now).ops p.now }
-    requires row_in { IsRow (K.field k.now).ops p.now.n row.old.items }
+    requires row_in { IsPolyRow (K.field k.now).ops p.now.n row.old.items }
     ensures product { let k = K.field k.now in
         OnOk result (row_at k p.now row.new.items ≡ y_times k p.now (row_at k p.now row.old.items)) }
-    ensures in_range { OnOk result (IsRow (K.field k.now).ops p.now.n row.new.items) }
+    ensures in_range { OnOk result (IsPolyRow (K.field k.now).ops p.now.n row.new.items) }
 {
     let f = p.coeffs();
     let Some(top) = row.pop() else {
@@ -131,7 +131,7 @@ pub(crate) fn row_product<K: SmallField>(
     ensures product { let k = K.field k.now in
         let f = (equation_of k p.now).coefficients in
         IfOk result (λ row. row_at k p.now row.items ≡ row_mul (polynomials k).ring (p.now.n - 1) f (row_at k p.now v.now) (row_at k p.now w.now)) }
-    ensures in_range { IfOk result (λ row. IsRow (K.field k.now).ops p.now.n row.items) }
+    ensures in_range { IfOk result (λ row. IsPolyRow (K.field k.now).ops p.now.n row.items) }
 {
     let mut product = zeros(alloc, p.n())?;
     let mut i = v.len();
@@ -151,7 +151,7 @@ pub(crate) fn row_trace<K: SmallField>(
     v: &[Poly],
 ) -> Result<Poly, AllocError>
     requires p_in { IsPresOver (K.field k.now).ops p.now }
-    requires v_in { IsRow (K.field k.now).ops p.now.n v.now }
+    requires v_in { IsPolyRow (K.field k.now).ops p.now.n v.now }
     ensures trace { let k = K.field k.now in
         let f = (equation_of k p.now).coefficients in
         IfOk result (λ t. value k t ≡ row_trace (polynomials k).ops (p.now.n - 1) f (row_at k p.now v.now)) }

@@ -3,7 +3,7 @@ use Rattle.std.specs.Prelude.{◌≡◌, ℕ, List, None}
 use Rattle.ff_fields.specs.FieldData.{IsField, ops_of, with_laws}
 use Rattle.ff_script.specs.declared.script.Statement.{Statement}
 use Rattle.ff_script.specs.declared.script.Statement.TheVariants.{FieldOf, CurveOf, Mul, Factor, OrderOf}
-use Rattle.ff_meaning.specs.Settings.{Setting, ForField, ForCurve}
+use Rattle.ff_meaning.specs.Bindings.{Bindings, ForField, ForCurve}
 use Rattle.ff_cert.specs.declared.answer.Answer.{Answer}
 use Rattle.ff_cert.specs.declared.answer.Answer.TheVariants as answers
 use Rattle.ff_cert.specs.RowField as field_row
@@ -12,8 +12,8 @@ use Rattle.ff_cert.specs.RowMul as mul_row
 use Rattle.ff_cert.specs.RowFactor as factor_row
 use Rattle.ff_cert.specs.RowOrder as order_row
 
--- in the setting the answer to the statement is true, and the next setting has taken it in
-abbrev pub Answers : Setting → Statement → Answer → Setting → Type 0
+-- with these bindings the answer to the statement is true, and the next bindings have taken it in
+abbrev pub Answers : Bindings → Statement → Answer → Bindings → Type 0
 Answers old (FieldOf p tail) (answers.FieldOf q) next = (old.field ≡ None) × field_row.IsTrue p tail q next
 Answers old (CurveOf f) (answers.CurveOf n c) next = ForField old (λ d. (old.bound ≡ None) × curve_row.IsTrue d f n c next)
 Answers old (Mul a b) (answers.Mul z) next =

@@ -4,8 +4,8 @@ use Rattle.ff_script.specs.declared.script.Statement.{Statement}
 use Rattle.ff_meaning.specs.declared.refusal.Refusal.{Refusal}
 use Rattle.ff_meaning.specs.declared.refusal.Refusal.TheVariants.{LimitDegree, LimitOutput}
 use Rattle.ff_meaning.specs.Limits.{max_answer_degree, max_output, room_behind}
-use Rattle.ff_meaning.specs.Refusals.{IsRow, HasNoRow}
-use Rattle.ff_meaning.specs.Settings.{Setting}
+use Rattle.ff_meaning.specs.Refusals.{IsRefusalRow, HasNoRow}
+use Rattle.ff_meaning.specs.Bindings.{Bindings}
 use Rattle.ff_cert.specs.declared.answer.Answer.{Answer}
 use Rattle.ff_cert.specs.Answers.{Answers, answer_lines, degree_of_answer}
 use Rattle.ff_cert.specs.Lines.{echo_line}
@@ -14,9 +14,9 @@ use Rattle.ff_cert.specs.Lines.{echo_line}
 abbrev pub block_text : Statement → Answer → List ℕ
 block_text s a = echo_line s ++ answer_lines a
 
--- what a session is seen as: its setting, whether its texts are bare, and how many bytes were printed so far
+-- what a session is seen as: its bindings, whether its texts are bare, and how many bytes were printed so far
 pub record SessionValue : Type 0 where
-  pub setting : Setting
+  pub bindings : Bindings
   pub bare : Bool
   pub printed : ℕ
 
@@ -31,14 +31,14 @@ pub data IsTextRow (old : SessionValue) (s : Statement) (a : Answer) : Refusal �
 
 -- one of the statement's rows holds, or it has a true answer whose text may not be printed
 pub data Refuses (old : SessionValue) (s : Statement) (r : Refusal) : Type 0 where
-  row : IsRow old.setting s r → Refuses old s r
-  text : (a : Answer) (next : Setting) → Answers old.setting s a next → HasNoRow old.setting s → IsTextRow old s a r → Refuses old s r
+  row : IsRefusalRow old.bindings s r → Refuses old s r
+  text : (a : Answer) (next : Bindings) → Answers old.bindings s a next → HasNoRow old.bindings s → IsTextRow old s a r → Refuses old s r
 
 -- The answer to the statement is true, none of its rows of refusals holds, its text may be printed, and the session has taken
 -- the block in.
 pub record Takes (old : SessionValue) (s : Statement) (answer : Answer) (new : SessionValue) : Type 0 where
-  pub is_true : Answers old.setting s answer new.setting
-  pub not_refused : HasNoRow old.setting s
+  pub is_true : Answers old.bindings s answer new.bindings
+  pub not_refused : HasNoRow old.bindings s
   pub small : degree_of_answer answer ≤ max_answer_degree
   pub room : output_after old.printed (block_text s answer) ≤ max_output
   pub count : new.printed ≡ old.printed + length (block_text s answer)

@@ -6,7 +6,7 @@ use Rattle.function_field.specs.Curves.{CurveValue}
 use Rattle.ff_algebra.specs.CurveTerms.{IsCurveOf}
 use Rattle.ff_text.specs.declared.terms.Term.{Term}
 use Rattle.ff_meaning.specs.Meaning.{IsSumOf}
-use Rattle.ff_meaning.specs.Settings.{Setting, with_curve}
+use Rattle.ff_meaning.specs.Bindings.{Bindings, with_curve}
 use Rattle.ff_cert.specs.Lines.{answer_line}
 
 -- the curve of the terms
@@ -16,7 +16,7 @@ pub record IsCurveOfTerms (k : CodeField) (f : List Term) (c : CurveValue) : Typ
   pub is_curve : IsCurveOf k sum c
 
 -- the curve of the terms is bound; n is its degree in y, and c is its number at infinity
-pub record IsTrue (d : FieldData) (f : List Term) (n c : ℕ) (next : Setting) : Type 0 where
+pub record IsTrue (d : FieldData) (f : List Term) (n c : ℕ) (next : Bindings) : Type 0 where
   pub is_field : IsField d
   pub curve : CurveValue
   pub is_curve : IsCurveOfTerms (with_laws d is_field) f curve

@@ -4,7 +4,7 @@ use Rattle.ff_fields.specs.Field.{FieldOps}
 use Rattle.ff_fields.specs.FieldData.{FieldData, IsField, ops_of}
 use Rattle.ff_script.specs.declared.script.Modulus.{Modulus}
 use Rattle.ff_meaning.specs.FieldLines.{Names}
-use Rattle.ff_meaning.specs.Settings.{Setting, with_field}
+use Rattle.ff_meaning.specs.Bindings.{Bindings, with_field}
 use Rattle.ff_cert.specs.Lines.{answer_line}
 
 module _ (k : FieldOps) where
@@ -14,7 +14,7 @@ module _ (k : FieldOps) where
     pub no_divisors : (a b : ℕ) → a < q → b < q → k.mul a b ≡ 0 → (a ≡ 0) ⊎ (b ≡ 0)
 
 -- the field that the line names is bound, and q is its size
-pub record IsTrue (p : ℕ) (tail : Option Modulus) (q : ℕ) (next : Setting) : Type 0 where
+pub record IsTrue (p : ℕ) (tail : Option Modulus) (q : ℕ) (next : Bindings) : Type 0 where
   pub field : FieldData
   pub is_field : IsField field
   pub named : Names p tail (ops_of field)

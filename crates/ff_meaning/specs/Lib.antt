@@ -1,5 +1,5 @@
 pub mod Limits
-pub mod Settings
+pub mod Bindings
 pub mod FieldLines
 pub mod Meaning
 pub mod LowestTerms

@@ -20,7 +20,7 @@ use Rattle.ff_meaning.specs.declared.refusal.Refusal.{Refusal}
 use Rattle.ff_meaning.specs.declared.refusal.Refusal.TheVariants.{FieldSize, NotField, LimitY, LimitX, NotMonic, NotSeparable, LimitDisc, LimitInf, CodeRange, Length, Zero, Memory}
 use Rattle.ff_fields.specs.FieldData.{FieldData, IsField, ops_of, with_laws}
 use Rattle.ff_meaning.specs.Limits.{max_degree}
-use Rattle.ff_meaning.specs.Settings.{Setting, ForField, ForCurve}
+use Rattle.ff_meaning.specs.Bindings.{Bindings, ForField, ForCurve}
 use Rattle.ff_meaning.specs.Meaning.{AreCodesBelow, IsFirstCodeFrom, codes_of_element, IsSumOf, IsPolyOf, IsElementOf, degree_of_element}
 
 -- the row holds, unless the refusal is want of memory, which is no row
@@ -100,13 +100,13 @@ pub data IsFactorRow (k : FieldOps) (bound : ℕ) (g : List Term) (r : Refusal) 
 
 -- ---- all rows
 
-abbrev pub IsRow : Setting → Statement → Refusal → Type 0
-IsRow old (FieldOf p tail) r = (old.field ≡ None) × IsFieldRow p tail r
-IsRow old (CurveOf f) r = ForField old (λ d. IsCurveRow d f r)
-IsRow old (Mul a b) r = ForCurve old (λ d c. IsProductRow (ops_of d) c.fin.n max_degree a b r)
-IsRow old (Factor g) r = ForCurve old (λ d c. IsFactorRow (ops_of d) max_degree g r)
-IsRow old (OrderOf s) r = ⊥
+abbrev pub IsRefusalRow : Bindings → Statement → Refusal → Type 0
+IsRefusalRow old (FieldOf p tail) r = (old.field ≡ None) × IsFieldRow p tail r
+IsRefusalRow old (CurveOf f) r = ForField old (λ d. IsCurveRow d f r)
+IsRefusalRow old (Mul a b) r = ForCurve old (λ d c. IsProductRow (ops_of d) c.fin.n max_degree a b r)
+IsRefusalRow old (Factor g) r = ForCurve old (λ d c. IsFactorRow (ops_of d) max_degree g r)
+IsRefusalRow old (OrderOf s) r = ⊥
 
 -- none of the rows of the statement holds
-abbrev pub HasNoRow : Setting → Statement → Type 0
-HasNoRow old s = (r : Refusal) → ¬ IsRow old s r
+abbrev pub HasNoRow : Bindings → Statement → Type 0
+HasNoRow old s = (r : Refusal) → ¬ IsRefusalRow old s r

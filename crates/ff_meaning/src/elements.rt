@@ -8,7 +8,7 @@ ghost use Rattle.ff_text.specs.Values.{written_codes, HasSmallExponents};
 ghost use Rattle.ff_text.specs.Printing.{IsWritableElement};
 ghost use Rattle.ff_meaning.specs.Meaning.{IsSumOf, codes_of_den, codes_of_element};
 ghost use Rattle.ff_meaning.specs.Refusals.{UnlessMemory, IsCodeRow, IsElementRow};
-ghost use Rattle.ff_meaning.specs.Settings.{HasSmallElement};
+ghost use Rattle.ff_meaning.specs.Bindings.{HasSmallElement};
 ghost use Rattle.ff_meaning.specs.Elements.{greatest_in_x, AreSumsOf, IsDenSumOf, AreElementSums, AreCoefficients, IsElementRead};
 
 use crate::polynomials::{degree_in_x, polynomial, sum};

@@ -7,7 +7,7 @@ use Rattle.ff_script.specs.declared.script.Statement.TheVariants.{FieldOf, Curve
 use Rattle.ff_script.specs.Scripts.{MayFollow}
 use Rattle.ff_fields.specs.FieldData.{FieldData}
 use Rattle.function_field.specs.Curves.{CurveValue}
-use Rattle.ff_meaning.specs.Settings.{Setting, nothing, with_field, with_curve, IsInPlace}
+use Rattle.ff_meaning.specs.Bindings.{Bindings, nothing, with_field, with_curve, IsInPlace}
 use Rattle.ff_cert.specs.declared.answer.Answer.{Answer}
 use Rattle.ff_cert.specs.declared.answer.Answer.TheVariants as answers
 use Rattle.ff_cert.specs.Answers.{Answers}
@@ -60,13 +60,13 @@ place_curve k d c (Mul x y) h m = tt
 place_curve k d c (Factor g) h m = tt
 place_curve k d c (OrderOf side) h m = tt
 
-pub in_place : (k : ℕ) (old : Setting) (s : Statement) → IsAfter k old → MayFollow k s → IsInPlace old s
+pub in_place : (k : ℕ) (old : Bindings) (s : Statement) → IsAfter k old → MayFollow k s → IsInPlace old s
 in_place k old s (AtStart h is) m = subst (λ o. IsInPlace o s) (sym is) (place_nothing k s h m)
 in_place k old s (AfterField h d is) m = subst (λ o. IsInPlace o s) (sym is) (place_field k d s h m)
 in_place k old s (AfterCurve h d c is) m = subst (λ o. IsInPlace o s) (sym is) (place_curve k d c s h m)
 
--- a statement that is answered leads to the next setting
-after_nothing : (k : ℕ) (s : Statement) (a : Answer) (new : Setting) → k ≡ 0 → Answers nothing s a new → IsAfter (k + 1) new
+-- a statement that is answered leads to the next bindings
+after_nothing : (k : ℕ) (s : Statement) (a : Answer) (new : Bindings) → k ≡ 0 → Answers nothing s a new → IsAfter (k + 1) new
 after_nothing k (FieldOf p tail) (answers.FieldOf q) new h a = AfterField (omega (arith, h)) a.1.field a.1.bound
 after_nothing k (FieldOf p tail) (answers.CurveOf n m) new h a = elim a [ ]
 after_nothing k (FieldOf p tail) (answers.Mul z) new h a = elim a [ ]
@@ -93,7 +93,7 @@ after_nothing k (OrderOf side) (answers.Mul z) new h a = elim a [ ]
 after_nothing k (OrderOf side) (answers.Factor unit parts) new h a = elim a [ ]
 after_nothing k (OrderOf side) (answers.OrderOf zs) new h a = elim a [ ]
 
-after_field : (k : ℕ) (d : FieldData) (s : Statement) (a : Answer) (new : Setting) → k ≡ 1 → Answers (with_field d) s a new → IsAfter (k + 1) new
+after_field : (k : ℕ) (d : FieldData) (s : Statement) (a : Answer) (new : Bindings) → k ≡ 1 → Answers (with_field d) s a new → IsAfter (k + 1) new
 after_field k d (FieldOf p tail) (answers.FieldOf q) new h a = absurd (let none = a.0 in cc)
 after_field k d (FieldOf p tail) (answers.CurveOf n m) new h a = elim a [ ]
 after_field k d (FieldOf p tail) (answers.Mul z) new h a = elim a [ ]
@@ -120,7 +120,7 @@ after_field k d (OrderOf side) (answers.Mul z) new h a = elim a [ ]
 after_field k d (OrderOf side) (answers.Factor unit parts) new h a = elim a [ ]
 after_field k d (OrderOf side) (answers.OrderOf zs) new h a = elim a [ ]
 
-after_curve : (k : ℕ) (d : FieldData) (c : CurveValue) (s : Statement) (a : Answer) (new : Setting) → 2 ≤ k → Answers (with_curve d c) s a new → IsAfter (k + 1) new
+after_curve : (k : ℕ) (d : FieldData) (c : CurveValue) (s : Statement) (a : Answer) (new : Bindings) → 2 ≤ k → Answers (with_curve d c) s a new → IsAfter (k + 1) new
 after_curve k d c (FieldOf p tail) (answers.FieldOf q) new h a = absurd (let none = a.0 in cc)
 after_curve k d c (FieldOf p tail) (answers.CurveOf n m) new h a = elim a [ ]
 after_curve k d c (FieldOf p tail) (answers.Mul z) new h a = elim a [ ]
@@ -147,7 +147,7 @@ after_curve k d c (OrderOf side) (answers.Mul z) new h a = elim a [ ]
 after_curve k d c (OrderOf side) (answers.Factor unit parts) new h a = elim a [ ]
 after_curve k d c (OrderOf side) (answers.OrderOf zs) new h a = AfterCurve (omega (arith, h)) d c a.2
 
-pub after_answer : (k : ℕ) (old : Setting) (s : Statement) (a : Answer) (new : Setting) → IsAfter k old → Answers old s a new → IsAfter (k + 1) new
+pub after_answer : (k : ℕ) (old : Bindings) (s : Statement) (a : Answer) (new : Bindings) → IsAfter k old → Answers old s a new → IsAfter (k + 1) new
 after_answer k old s a new (AtStart h is) t = after_nothing k s a new h (subst (λ o. Answers o s a new) is t)
 after_answer k old s a new (AfterField h d is) t = after_field k d s a new h (subst (λ o. Answers o s a new) is t)
 after_answer k old s a new (AfterCurve h d c is) t = after_curve k d c s a new h (subst (λ o. Answers o s a new) is t)

@@ -15,7 +15,7 @@ use Rattle.ff_script.specs.Grammar.{IsGap, SpellsParts, ArePartsOf, SpellsLine}
 use Rattle.ff_script.specs.Scripts.{without_empty_last, lines_of, IsReadAs, IsScript, MayFollow, AreInOrderFrom}
 use Rattle.ff_script.specs.Printing.{IsWritable}
 use Rattle.ff_script.proofs.Writable.{line_writable}
-use Rattle.ff_meaning.specs.Settings.{HasSmallElement, HasSmallPowers}
+use Rattle.ff_meaning.specs.Bindings.{HasSmallElement, HasSmallPowers}
 use Rattle.ff_program.specs.Ready.{IsReady}
 
 length_then : {A B : List ℕ → Type 0} (g : List ℕ) (t : Then A B g) → length g ≡ length t.front + length t.back

@@ -3,7 +3,7 @@ use Rattle.std.specs.Prelude.{◌≡◌, ℕ, ◌<◌, ◌≤◌, List, [], ◌�
 use Rattle.ff_script.specs.declared.script.Statement.{Statement}
 use Rattle.ff_script.specs.Scripts.{IsScript, IsSyntaxFault, IsMisplaced}
 use Rattle.ff_meaning.specs.declared.refusal.Refusal.{Refusal}
-use Rattle.ff_meaning.specs.Settings.{nothing}
+use Rattle.ff_meaning.specs.Bindings.{nothing}
 use Rattle.ff_meaning.specs.Texts.{refusal_text}
 use Rattle.ff_cert.specs.declared.answer.Answer.{Answer}
 use Rattle.ff_cert.specs.Lines.{echo_line}
@@ -35,7 +35,7 @@ too_long_line = codes "refused TooLong 65536\n"
 
 -- nothing is bound, and nothing was printed
 abbrev pub at_start : SessionValue
-at_start = record { setting = nothing; bare = true; printed = 0 }
+at_start = record { bindings = nothing; bare = true; printed = 0 }
 
 -- each answer is true, and its statement isn't refused, in what the blocks before it leave
 abbrev pub AreTrue : SessionValue → List Block → SessionValue → Type 0

@@ -26,8 +26,8 @@ use Rattle.ff_script.specs.declared.script.Statement.TheVariants.{FieldOf, Curve
 use Rattle.ff_meaning.specs.declared.refusal.Refusal.{Refusal}
 use Rattle.ff_meaning.specs.FieldLines.{Names}
 use Rattle.ff_meaning.specs.Limits.{max_degree}
-use Rattle.ff_meaning.specs.Refusals.{UnlessMemory, IsFieldLineFault, IsFieldRow, IsNoCurve, range, fault, IsProductRow, IsFactorRow, IsRow}
-use Rattle.ff_meaning.specs.Settings.{Setting, nothing, with_field, with_curve}
+use Rattle.ff_meaning.specs.Refusals.{UnlessMemory, IsFieldLineFault, IsFieldRow, IsNoCurve, range, fault, IsProductRow, IsFactorRow, IsRefusalRow}
+use Rattle.ff_meaning.specs.Bindings.{Bindings, nothing, with_field, with_curve}
 use Rattle.ff_meaning.proofs.TermCodes.{same_terms}
 use Rattle.ff_meaning.proofs.ElementValues.{none_found}
 use Rattle.ff_cert.specs.declared.answer.Answer.{Answer}
@@ -79,52 +79,58 @@ no_curve_row k f c r h (fault sum is e some holds told) =
 
 -- ---- fields and curves
 
-pub field_answer : (old : Setting) (s : Statement) (p : ℕ) (tail : Option Modulus) (a : Answer) (k : AnyField) → nothing ≡ old → s ≡ FieldOf p tail → IsFieldAnswer p tail a k
+pub field_answer : (old : Bindings) (s : Statement) (p : ℕ) (tail : Option Modulus) (a : Answer) (k : AnyField) → nothing ≡ old → s ≡ FieldOf p tail → IsFieldAnswer p tail a k
     → HasAnswer old s a (with_field (data_of k))
 field_answer old s p tail a k is s_is h =
     subst (λ o. HasAnswer o s a (with_field (data_of k))) is
     (subst (λ t. HasAnswer nothing t a (with_field (data_of k))) (sym s_is)
     (subst (λ b. HasAnswer nothing (FieldOf p tail) b (with_field (data_of k))) (sym h.is) (record {
-      is_true = (refl, record {
-        field = data_of k;
-        is_field = data_is k;
-        named = subst (Names p tail) (sym (same_ops k)) h.named;
-        size = subst (λ (o : FieldOps). IsFieldOf o (field_of k).ops.size) (sym (same_ops k)) (record { size = refl; no_divisors = no_divisors (field_of k) });
-        bound = refl;
-      });
+      is_true = (
+        refl,
+        record {
+          field = data_of k;
+          is_field = data_is k;
+          named = subst (Names p tail) (sym (same_ops k)) h.named;
+          size = subst (λ (o : FieldOps). IsFieldOf o (field_of k).ops.size) (sym (same_ops k)) (record { size = refl; no_divisors = no_divisors (field_of k) });
+          bound = refl;
+        },
+      );
       not_refused = λ r found. no_field_row p tail (field_of k).ops r h.named found.1;
     })))
 
-pub field_refused : (old : Setting) (s : Statement) (p : ℕ) (tail : Option Modulus) (r : Refusal) → nothing ≡ old → s ≡ FieldOf p tail → UnlessMemory (IsFieldRow p tail) r → UnlessMemory (IsRow old s) r
-field_refused old s p tail r is s_is h some = subst (λ o. IsRow o s r) is (subst (λ t. IsRow nothing t r) (sym s_is) (refl, h some))
+pub field_refused : (old : Bindings) (s : Statement) (p : ℕ) (tail : Option Modulus) (r : Refusal) → nothing ≡ old → s ≡ FieldOf p tail → UnlessMemory (IsFieldRow p tail) r → UnlessMemory (IsRefusalRow old s) r
+field_refused old s p tail r is s_is h some = subst (λ o. IsRefusalRow o s r) is (subst (λ t. IsRefusalRow nothing t r) (sym s_is) (refl, h some))
 
-pub curve_answer : (old : Setting) (s : Statement) (f : List Term) (a : Answer) (k : AnyField) (c : CurveValue) → with_field (data_of k) ≡ old → s ≡ CurveOf f → IsCurveAnswer (field_of k) f a c
+pub curve_answer : (old : Bindings) (s : Statement) (f : List Term) (a : Answer) (k : AnyField) (c : CurveValue) → with_field (data_of k) ≡ old → s ≡ CurveOf f → IsCurveAnswer (field_of k) f a c
     → HasAnswer old s a (with_curve (data_of k) c)
 curve_answer old s f a k c is s_is h =
     subst (λ o. HasAnswer o s a (with_curve (data_of k) c)) is
     (subst (λ t. HasAnswer (with_field (data_of k)) t a (with_curve (data_of k) c)) (sym s_is)
     (subst (λ b. HasAnswer (with_field (data_of k)) (CurveOf f) b (with_curve (data_of k) c)) (sym h.is) (record {
-      is_true = (refl, record {
-        is_field = data_is k;
-        curve = c;
-        is_curve = subst (λ (l : CodeField). IsCurveOfTerms l f c) (sym (same_field k)) h.curve;
-        degree = refl;
-        number = refl;
-        bound = refl;
-      });
+      is_true = (
+        refl,
+        record {
+          is_field = data_is k;
+          curve = c;
+          is_curve = subst (λ (l : CodeField). IsCurveOfTerms l f c) (sym (same_field k)) h.curve;
+          degree = refl;
+          number = refl;
+          bound = refl;
+        },
+      );
       not_refused = λ r found. no_curve_row (field_of k) f c r h.curve (subst (λ (l : CodeField). IsNoCurve l f r) (laws_are k found.0) found.1);
     })))
 
-pub curve_refused : (old : Setting) (s : Statement) (f : List Term) (k : AnyField) (r : Refusal) → with_field (data_of k) ≡ old → s ≡ CurveOf f → UnlessMemory (IsNoCurve (field_of k) f) r
-    → UnlessMemory (IsRow old s) r
+pub curve_refused : (old : Bindings) (s : Statement) (f : List Term) (k : AnyField) (r : Refusal) → with_field (data_of k) ≡ old → s ≡ CurveOf f → UnlessMemory (IsNoCurve (field_of k) f) r
+    → UnlessMemory (IsRefusalRow old s) r
 curve_refused old s f k r is s_is h some =
-    subst (λ o. IsRow o s r) is (subst (λ t. IsRow (with_field (data_of k)) t r) (sym s_is)
+    subst (λ o. IsRefusalRow o s r) is (subst (λ t. IsRefusalRow (with_field (data_of k)) t r) (sym s_is)
     (data_is k, subst (λ (l : CodeField). IsNoCurve l f r) (sym (same_field k)) (h some)))
 
 -- ---- statements over a curve
 
 module _ (k : AnyField) (c : CurveValue) (s : Statement) where
-  abbrev here : Setting
+  abbrev here : Bindings
   here = with_curve (data_of k) c
 
   pub mul_answer : (a b : ElemText) (z : WrittenValue) → s ≡ Mul a b → IsProductRead (field_of k) c.fin a b z → HasAnswer here s (answers.Mul z) here
@@ -134,9 +140,9 @@ module _ (k : AnyField) (c : CurveValue) (s : Statement) where
         not_refused = λ r found. h.no_row r (subst (λ (o : FieldOps). IsProductRow o c.fin.n max_degree a b r) (same_ops k) found);
       })
 
-  pub mul_refused : (a b : ElemText) (r : Refusal) → s ≡ Mul a b → UnlessMemory (IsProductRow (field_of k).ops c.fin.n max_degree a b) r → UnlessMemory (IsRow here s) r
+  pub mul_refused : (a b : ElemText) (r : Refusal) → s ≡ Mul a b → UnlessMemory (IsProductRow (field_of k).ops c.fin.n max_degree a b) r → UnlessMemory (IsRefusalRow here s) r
   mul_refused a b r s_is h some =
-      subst (λ t. IsRow here t r) (sym s_is) (subst (λ (o : FieldOps). IsProductRow o c.fin.n max_degree a b r) (sym (same_ops k)) (h some))
+      subst (λ t. IsRefusalRow here t r) (sym s_is) (subst (λ (o : FieldOps). IsProductRow o c.fin.n max_degree a b r) (sym (same_ops k)) (h some))
 
   pub factor_answer : (g : List Term) (unit : ℕ) (parts : List PowerLine) → s ≡ Factor g → AreFactorsRead (field_of k).ops g unit parts → HasAnswer here s (answers.Factor unit parts) here
   factor_answer g unit parts s_is h =
@@ -145,9 +151,9 @@ module _ (k : AnyField) (c : CurveValue) (s : Statement) where
         not_refused = λ r found. h.no_row r (subst (λ (o : FieldOps). IsFactorRow o max_degree g r) (same_ops k) found);
       })
 
-  pub factor_refused : (g : List Term) (r : Refusal) → s ≡ Factor g → UnlessMemory (IsFactorRow (field_of k).ops max_degree g) r → UnlessMemory (IsRow here s) r
+  pub factor_refused : (g : List Term) (r : Refusal) → s ≡ Factor g → UnlessMemory (IsFactorRow (field_of k).ops max_degree g) r → UnlessMemory (IsRefusalRow here s) r
   factor_refused g r s_is h some =
-      subst (λ t. IsRow here t r) (sym s_is) (subst (λ (o : FieldOps). IsFactorRow o max_degree g r) (sym (same_ops k)) (h some))
+      subst (λ t. IsRefusalRow here t r) (sym s_is) (subst (λ (o : FieldOps). IsFactorRow o max_degree g r) (sym (same_ops k)) (h some))
 
   pub order_true : (side : Side) (zs : List WrittenValue) → s ≡ OrderOf side → order_row.IsTrue (field_of k) c side zs → HasAnswer here s (answers.OrderOf zs) here
   order_true side zs s_is h =

@@ -14,7 +14,7 @@ use Rattle.ff_meaning.specs.declared.refusal.Refusal.{Refusal}
 use Rattle.ff_meaning.specs.FieldLines.{Names}
 use Rattle.ff_meaning.specs.Limits.{max_degree, max_answer_degree, max_output}
 use Rattle.ff_meaning.specs.Refusals.{HasNoRow, IsProductRow, IsFactorRow}
-use Rattle.ff_meaning.specs.Settings.{Setting}
+use Rattle.ff_meaning.specs.Bindings.{Bindings}
 use Rattle.ff_cert.specs.declared.answer.Answer.{Answer}
 use Rattle.ff_cert.specs.declared.answer.Answer.TheVariants.{FieldOf, CurveOf}
 use Rattle.ff_cert.specs.declared.answer.PowerLine.{PowerLine}
@@ -24,15 +24,15 @@ use Rattle.ff_cert.specs.RowCurve.{IsCurveOfTerms}
 use Rattle.ff_cert.specs.RowMul as mul_row
 use Rattle.ff_cert.specs.RowFactor as factor_row
 use Rattle.ff_session.specs.declared.session.Bound.{Bound}
-use Rattle.ff_session.specs.Bound.{setting_of}
+use Rattle.ff_session.specs.Bound.{bindings_of}
 
--- the setting behind a statement that binds this, or nothing new
-abbrev pub setting_after : Setting → Option Bound → Setting
-setting_after old None = old
-setting_after old (Some b) = setting_of b
+-- the bindings behind a statement that binds this, or nothing new
+abbrev pub bindings_after : Bindings → Option Bound → Bindings
+bindings_after old None = old
+bindings_after old (Some b) = bindings_of b
 
 -- the answer to the statement is true, and none of its rows holds
-pub record HasAnswer (old : Setting) (s : Statement) (answer : Answer) (next : Setting) : Type 0 where
+pub record HasAnswer (old : Bindings) (s : Statement) (answer : Answer) (next : Bindings) : Type 0 where
   pub is_true : Answers old s answer next
   pub not_refused : HasNoRow old s
 

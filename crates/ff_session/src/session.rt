@@ -6,12 +6,12 @@ ghost use Rattle.ff_fields.specs.Fields.{field_of};
 ghost use Rattle.ff_fields.specs.FieldData.{data_of};
 ghost use Rattle.function_field.specs.Curves.{IsCurve};
 ghost use Rattle.ff_script.specs.Printing.{IsWritable};
-ghost use Rattle.ff_meaning.specs.Settings.{nothing, with_curve, IsInPlace, HasSmallPowers};
-ghost use Rattle.ff_meaning.specs.Refusals.{UnlessMemory, IsRow};
+ghost use Rattle.ff_meaning.specs.Bindings.{nothing, with_curve, IsInPlace, HasSmallPowers};
+ghost use Rattle.ff_meaning.specs.Refusals.{UnlessMemory, IsRefusalRow};
 ghost use Rattle.ff_cert.specs.Blocks.{IsTextRow};
 ghost use Rattle.ff_session.specs.Bound.{IsSound};
 ghost use Rattle.ff_session.specs.Sessions.{IsStep, IsRefusedAs};
-ghost use Rattle.ff_session.specs.Steps.{setting_after, HasAnswer, IsBlock};
+ghost use Rattle.ff_session.specs.Steps.{bindings_after, HasAnswer, IsBlock};
 
 use crate::statements::curve::answer_curve;
 use crate::statements::factor::factors_of;
@@ -55,11 +55,11 @@ pub struct Session {
 impl Model for Session {
     ghost use Rattle.std.specs.Prelude.{◌≤◌};
     ghost use Rattle.ff_cert.specs.Blocks.{SessionValue};
-    ghost use Rattle.ff_session.specs.Bound.{setting_of, IsSound};
+    ghost use Rattle.ff_session.specs.Bound.{bindings_of, IsSound};
 
     ghost Value = { SessionValue };
 
-    ghost view = { λ s. record { setting = setting_of s.bound; bare = s.bare; printed = s.printed } };
+    ghost view = { λ s. record { bindings = bindings_of s.bound; bare = s.bare; printed = s.printed } };
 
     ghost invariant = { λ s. IsSound s.bound × (s.printed ≤ 268435456) };
 }
@@ -68,7 +68,7 @@ impl Session {
     /// Nothing is bound, and so many bytes were printed. No memory is taken.
     pub fn new(alloc: Global, bare: bool, printed: u64) -> Session
         requires { printed ≤ 268435456 }
-        ensures { result ≡ record { setting = nothing; bare = bare; printed = printed } }
+        ensures { result ≡ record { bindings = nothing; bare = bare; printed = printed } }
     {
         Session {
             bound: Bound::Nothing,
@@ -82,7 +82,7 @@ impl Session {
     /// a refusal the session is as before. A product takes the square of the degrees, and the factors of its denominator; a
     /// curve, some hundred products; factors, what `factor` takes; an order, what `maximal_order` takes.
     pub fn step(&mut self, s: &Statement) -> Result<Vec<u8>, Refusal>
-        requires in_place { IsInPlace self.old.setting s.now }
+        requires in_place { IsInPlace self.old.bindings s.now }
         requires spelled { IsWritable s.now }
         requires powers { HasSmallPowers s.now }
         ensures block { IfOk result (λ text. IsStep self.old s.now text.items self.new) }
@@ -119,12 +119,12 @@ impl Session {
 
     /// The true answer, and what is bound next where that changes, or the row that refuses the statement.
     fn answer(&self, s: &Statement) -> Result<(Answer, Option<Bound>), Refusal>
-        requires in_place { IsInPlace self.now.setting s.now }
+        requires in_place { IsInPlace self.now.bindings s.now }
         requires spelled { IsWritable s.now }
         requires powers { HasSmallPowers s.now }
-        ensures answer { IfOk result (λ r. HasAnswer self.now.setting s.now r.0 (setting_after self.now.setting r.1)) }
+        ensures answer { IfOk result (λ r. HasAnswer self.now.bindings s.now r.0 (bindings_after self.now.bindings r.1)) }
         ensures sound { IfOk result (λ r. ForSome r.1 IsSound) }
-        ensures refused { IfErr result (UnlessMemory (IsRow self.now.setting s.now)) }
+        ensures refused { IfErr result (UnlessMemory (IsRefusalRow self.now.bindings s.now)) }
     {
         match &self.bound {
             Bound::Nothing => {
@@ -162,7 +162,7 @@ fn answer_on_curve(
     requires spelled { IsWritable s.now }
     requires powers { HasSmallPowers s.now }
     ensures answer { let old = with_curve (data_of k.now) curve.now in IfOk result (λ a. HasAnswer old s.now a old) }
-    ensures refused { IfErr result (UnlessMemory (IsRow (with_curve (data_of k.now) curve.now) s.now)) }
+    ensures refused { IfErr result (UnlessMemory (IsRefusalRow (with_curve (data_of k.now) curve.now) s.now)) }
 {
     match s {
         Statement::Mul { a, b } => {

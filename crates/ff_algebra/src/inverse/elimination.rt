@@ -6,7 +6,7 @@ ghost use Rattle.std.specs.Prelude.{◌≡◌, ◌≢◌, ◌+◌, ◌*◌, ◌<
 ghost use Rattle.ff_fields.specs.Over.{IsOver};
 ghost use Rattle.ff_poly.specs.Popov.{rows_of};
 ghost use Rattle.function_field.specs.Values.{IsPresOver, PresValue};
-ghost use Rattle.ff_algebra.specs.RowProducts.{IsRow};
+ghost use Rattle.ff_algebra.specs.RowProducts.{IsPolyRow};
 ghost use Rattle.ff_algebra.specs.Inverses.{ClearsColumn, IsEliminated, IsLine, IsRelation, eliminated, entry_of};
 
 use crate::elem::Pres;
@@ -34,8 +34,8 @@ fn line_of<K: SmallField>(
     mut factors: Vec<Poly>,
 ) -> Result<Vec<Poly>, AllocError>
     requires p_in { IsPresOver (K.field k.now).ops p.now }
-    requires v_in { IsRow (K.field k.now).ops p.now.n v.now }
-    requires factors_in { IsRow (K.field k.now).ops (p.now.n + 1) factors.items }
+    requires v_in { IsPolyRow (K.field k.now).ops p.now.n v.now }
+    requires factors_in { IsPolyRow (K.field k.now).ops (p.now.n + 1) factors.items }
     ensures line { IfOk result (λ line. IsLine (K.field k.now) p.now v.now line.items) }
     ensures factors { IfOk result (λ line. take (p.now.n + 1) line.items ≡ factors.items) }
 {
@@ -55,7 +55,7 @@ fn starting_lines<K: SmallField>(
     v: &[Poly],
 ) -> Result<Vec<Vec<Poly>>, AllocError>
     requires p_in { IsPresOver (K.field k.now).ops p.now }
-    requires v_in { IsRow (K.field k.now).ops p.now.n v.now }
+    requires v_in { IsPolyRow (K.field k.now).ops p.now.n v.now }
     ensures lines { IfOk result (λ lines. IsEliminated (K.field k.now) p.now v.now (p.now.n + 1) (rows_of lines.items)) }
     ensures count { IfOk result (λ lines. length lines.items ≡ p.now.n + 1) }
 {
@@ -115,7 +115,7 @@ fn clear_column<K: SmallField>(
     width: usize,
 ) -> Result<Vec<Vec<Poly>>, AllocError>
     requires within { column < width }
-    requires lines_in { All (IsRow (K.field k.now).ops width) (rows_of lines.items) }
+    requires lines_in { All (IsPolyRow (K.field k.now).ops width) (rows_of lines.items) }
     ensures { IfOk result (λ rest. ClearsColumn (K.field k.now).ops column (rows_of lines.items) (rows_of rest.items)) }
 {
     let Some(i) = shortest_at(lines.as_slice(), column) else {
@@ -138,7 +138,7 @@ pub(super) fn relation<K: SmallField>(
     v: &[Poly],
 ) -> Result<(Vec<Poly>, Poly), AllocError>
     requires p_in { IsPresOver (K.field k.now).ops p.now }
-    requires v_in { IsRow (K.field k.now).ops p.now.n v.now }
+    requires v_in { IsPolyRow (K.field k.now).ops p.now.n v.now }
     ensures { IfOk result (λ r. IsRelation (K.field k.now) p.now v.now r.0.items r.1) }
 {
     let first = p.n() + 1;

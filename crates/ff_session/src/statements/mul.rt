@@ -5,7 +5,7 @@ ghost use Rattle.function_field.specs.Values.{IsPresOver};
 ghost use Rattle.ff_text.specs.Printing.{IsWritableElement};
 ghost use Rattle.ff_meaning.specs.Refusals.{UnlessMemory, IsProductRow};
 ghost use Rattle.ff_meaning.specs.Limits.{max_degree};
-ghost use Rattle.ff_meaning.specs.Settings.{HasSmallElement};
+ghost use Rattle.ff_meaning.specs.Bindings.{HasSmallElement};
 ghost use Rattle.ff_session.specs.Steps.{IsProductRead};
 
 use crate::statements::factor::MAX_DEGREE;

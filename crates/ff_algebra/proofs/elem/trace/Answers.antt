@@ -3,7 +3,7 @@ use Rattle.ring_theory.specs.Rows.{row_trace}
 use Rattle.ff_poly.specs.Words.{IsMonic}
 use Rattle.ff_poly.specs.Polynomials.{polynomials}
 use Rattle.function_field.specs.Values.{ElemValue, IsMonicElem, equation_of}
-use Rattle.ff_algebra.specs.RowProducts.{IsRow, row_at}
+use Rattle.ff_algebra.specs.RowProducts.{IsPolyRow, row_at}
 use Rattle.ff_algebra.proofs.Traces.{trace_parts}
 use Rattle.ff_algebra.proofs.elem.trace.Goals as goal
 
@@ -11,7 +11,7 @@ pub row_trace-requires-clause-v_in : goal.row_trace-requires-clause-v_in
 row_trace-requires-clause-v_in g c =
     let k = g.K.SmallField.field c.args.k.now in
     let a_monic = subst IsMonicElem c.a.view_is c.a.invariant in
-    let row : IsRow k.ops c.args.p.now.n c.args.a.now.num = record { one_each = c.requires.a_in.one_each; over = c.requires.a_in.num_over; poly = a_monic.num_poly } in
+    let row : IsPolyRow k.ops c.args.p.now.n c.args.a.now.num = record { one_each = c.requires.a_in.one_each; over = c.requires.a_in.num_over; poly = a_monic.num_poly } in
     rw (c.as_slice.ensures.value ∙ ap (λ (z : ElemValue). z.num) c.a.view_is) row
 
 pub returns-clause-trace : goal.returns-clause-trace

@@ -47,7 +47,7 @@ loop-s-preserved g c =
     let more : suc c.loop-s.s-index ≡ c.loop-s.s-index + 1 = omega arith in
     record {
       order = subst (λ k. AreInOrderFrom k (drop (c.loop-s.s-index + 1) c.args.script.now)) more (subst (AreInOrderFrom c.loop-s.s-index) rest c.loop-s.invariant.order).1;
-      stage = after_answer c.loop-s.s-index c.loop-s.session.setting c.s-item.result c.in-Ok.ensures.block.answer c.step.new.self.setting c.loop-s.invariant.stage c.in-Ok.ensures.block.takes.is_true;
+      stage = after_answer c.loop-s.s-index c.loop-s.session.bindings c.s-item.result c.in-Ok.ensures.block.answer c.step.new.self.bindings c.loop-s.invariant.stage c.in-Ok.ensures.block.takes.is_true;
       printed = printed_on g.T.Sink.taken g.T.Sink.faults g.T.Sink.free c.args.script.now c.args.out.now inv.0 c.loop-s.session c.s-item.result
           (drop (c.loop-s.s-index + 1) c.args.script.now) c.loop-s.out c.print.new.out
           (subst (IsAnswered c.args.script.now inv.0 c.loop-s.session) rest inv.1) inv.2 c.step.new.self c.in-Ok.text.items c.in-Ok.ensures.block

@@ -9,7 +9,7 @@ use Rattle.ff_program.proofs.run.run_script.Given as goal
 abbrev pub invariant-loop-s : goal.invariant-loop-s
 invariant-loop-s g l = record {
   order : AreInOrderFrom l.s-index (drop l.s-index l.script);
-  stage : IsAfter l.s-index l.session.setting;
+  stage : IsAfter l.s-index l.session.bindings;
   printed : (blocks : List Block) × IsAnswered l.script blocks l.session (drop l.s-index l.script)
       × Prints g.T.Sink.taken g.T.Sink.faults g.T.Sink.free l.fn.out l.out (blocks_text blocks);
 }

@@ -4,7 +4,7 @@ use Rattle.std.proofs.lemmas.List.{length-map}
 use Rattle.std.proofs.lemmas.List.Elements.{All-same}
 use Rattle.ff_fields.specs.Over.{IsOver}
 use Rattle.ff_poly.specs.Popov.{rows_of}
-use Rattle.ff_algebra.specs.RowProducts.{IsRow}
+use Rattle.ff_algebra.specs.RowProducts.{IsPolyRow}
 use Rattle.ff_algebra.specs.Inverses.{eliminated}
 use Rattle.ff_algebra.proofs.LineReads.{found_in, line_read, all_read, removed_in, mapped_more, mapped_all}
 use Rattle.ff_algebra.proofs.inverse.elimination.clear_column.Goals as goal
@@ -14,16 +14,16 @@ use Rattle.ff_algebra.proofs.inverse.elimination.clear_column.Given.{Over}
 others_are : (g : Over) (c : goal.After-as_slice-in-loop-line-2 g) → c.deref-line-items.result.now ≡ remove c.args.lines.items c.in-Some.i
 others_are g c = c.deref-line-items.ensures.value ∙ c.remove-pivot.ensures.items
 
-pivot_in : (g : Over) (c : goal.After-as_slice-in-loop-line-2 g) → IsRow (g.K.SmallField.field c.args.k.now).ops c.args.width c.remove-pivot.result.items
+pivot_in : (g : Over) (c : goal.After-as_slice-in-loop-line-2 g) → IsPolyRow (g.K.SmallField.field c.args.k.now).ops c.args.width c.remove-pivot.result.items
 pivot_in g c =
     let k = g.K.SmallField.field c.args.k.now in
-    all_read (IsRow k.ops c.args.width) c.args.lines.items c.in-Some.i c.remove-pivot.result c.requires.lines_in (found_in c.args.lines.items c.as_slice.result.now c.in-Some.i c.args.column c.as_slice.ensures.value c.in-Some.ensures).0 c.remove-pivot.ensures.value
+    all_read (IsPolyRow k.ops c.args.width) c.args.lines.items c.in-Some.i c.remove-pivot.result c.requires.lines_in (found_in c.args.lines.items c.as_slice.result.now c.in-Some.i c.args.column c.as_slice.ensures.value c.in-Some.ensures).0 c.remove-pivot.ensures.value
 
-line_in : (g : Over) (c : goal.After-as_slice-in-loop-line-2 g) → IsRow (g.K.SmallField.field c.args.k.now).ops c.args.width c.line-item.result.items
+line_in : (g : Over) (c : goal.After-as_slice-in-loop-line-2 g) → IsPolyRow (g.K.SmallField.field c.args.k.now).ops c.args.width c.line-item.result.items
 line_in g c =
     let k = g.K.SmallField.field c.args.k.now in
-    all_read (IsRow k.ops c.args.width) c.deref-line-items.result.now c.loop-line.line-index c.line-item.result
-    (removed_in (IsRow k.ops c.args.width) c.args.lines.items c.deref-line-items.result.now c.in-Some.i (others_are g c) c.requires.lines_in)
+    all_read (IsPolyRow k.ops c.args.width) c.deref-line-items.result.now c.loop-line.line-index c.line-item.result
+    (removed_in (IsPolyRow k.ops c.args.width) c.args.lines.items c.deref-line-items.result.now c.in-Some.i (others_are g c) c.requires.lines_in)
     c.loop-line-test.true c.line-item.is
 
 pub eliminate-requires-clause-within : goal.eliminate-requires-clause-within

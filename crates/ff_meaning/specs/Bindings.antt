@@ -12,20 +12,20 @@ pub record Bound : Type 0 where
   pub curve : CurveValue
 
 -- what the statements so far have bound: a field, and what stands over it
-pub record Setting : Type 0 where
+pub record Bindings : Type 0 where
   pub field : Option FieldData
   pub bound : Option Bound
 
 -- nothing is bound
-abbrev pub nothing : Setting
+abbrev pub nothing : Bindings
 nothing = record { field = None; bound = None }
 
 -- a field is bound, and nothing over it
-abbrev pub with_field : FieldData → Setting
+abbrev pub with_field : FieldData → Bindings
 with_field d = record { field = Some d; bound = None }
 
 -- a field and a curve over it are bound
-abbrev pub with_curve : FieldData → CurveValue → Setting
+abbrev pub with_curve : FieldData → CurveValue → Bindings
 with_curve d c = record { field = Some d; bound = Some (record { curve = c }) }
 
 -- there is a value, and it has the property
@@ -34,15 +34,15 @@ IsSomeWith None P = ⊥
 IsSomeWith (Some a) P = P a
 
 -- P holds of the field that is bound
-abbrev pub ForField : Setting → (FieldData → Type 0) → Type 0
+abbrev pub ForField : Bindings → (FieldData → Type 0) → Type 0
 ForField s P = IsSomeWith s.field P
 
 -- P holds of the field and the curve that are bound
-abbrev pub ForCurve : Setting → (FieldData → CurveValue → Type 0) → Type 0
+abbrev pub ForCurve : Bindings → (FieldData → CurveValue → Type 0) → Type 0
 ForCurve s P = IsSomeWith s.field (λ d. IsSomeWith s.bound (λ b. P d b.curve))
 
 -- `field` stands first, `curve` second, and neither again
-abbrev pub IsInPlace : Setting → Statement → Type 0
+abbrev pub IsInPlace : Bindings → Statement → Type 0
 IsInPlace old (FieldOf p tail) = (old.field ≡ None) × (old.bound ≡ None)
 IsInPlace old (CurveOf f) = ForField old (λ d. old.bound ≡ None)
 IsInPlace old (Mul a b) = ForCurve old (λ d c. Unit {0})
