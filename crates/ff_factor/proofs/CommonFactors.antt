@@ -5,7 +5,7 @@ use Rattle.ring_theory.specs.Ring.{CommRing}
 use Rattle.ring_theory.specs.Members.{In}
 use Rattle.ring_theory.proofs.Ring.{one_mul, mul_left_comm}
 use Rattle.ring_theory.proofs.Solver.{ring, reads, from_one}
-use Rattle.linear_theory.specs.Euclidean.{IsDivisorOf}
+use Rattle.linear_theory.specs.Euclidean.{IsDivisorIn}
 
 module _ {A : Type 0} (R : CommRing A) where
   infixl 65 ◌⊕◌
@@ -39,7 +39,7 @@ module _ {A : Type 0} (R : CommRing A) where
       ap₂ ◌∷◌ (cancel x y first) (times_cancel c cancel xs ys rest)
 
   -- where e times each v is d times something, d divides each of them
-  pub divides_members : (d e : A) (vs ws : List A) → times e vs ≡ times d ws → (v : A) → In v vs → IsDivisorOf R.ops d (e ⊗ v)
+  pub divides_members : (d e : A) (vs ws : List A) → times e vs ≡ times d ws → (v : A) → In v vs → IsDivisorIn R.ops d (e ⊗ v)
   divides_members d e [] ws same v i = absurd i
   divides_members d e (x ∷ vs) [] same v i = let none : e ⊗ x ∷ times e vs ≡ [] = same in absurd (cc)
   divides_members d e (x ∷ vs) (w ∷ ws) same v i =
@@ -48,17 +48,17 @@ module _ {A : Type 0} (R : CommRing A) where
       let rest : times e vs ≡ times d ws = cc in
       go first i (divides_members d e vs ws rest v)
     where
-      go : e ⊗ x ≡ d ⊗ w → (v ≡ x) ⊎ In v vs → (In v vs → IsDivisorOf R.ops d (e ⊗ v)) → IsDivisorOf R.ops d (e ⊗ v)
+      go : e ⊗ x ≡ d ⊗ w → (v ≡ x) ⊎ In v vs → (In v vs → IsDivisorIn R.ops d (e ⊗ v)) → IsDivisorIn R.ops d (e ⊗ v)
       go first (inl is) f = (w, ap (λ y. e ⊗ y) is ∙ first)
       go first (inr j) f = f j
 
   -- what divides all members divides their multiples
-  pub divides_times : (p c : A) (vs : List A) → All (IsDivisorOf R.ops p) vs → All (IsDivisorOf R.ops p) (times c vs)
-  divides_times p c [] all = All-nil (IsDivisorOf R.ops p)
+  pub divides_times : (p c : A) (vs : List A) → All (IsDivisorIn R.ops p) vs → All (IsDivisorIn R.ops p) (times c vs)
+  divides_times p c [] all = All-nil (IsDivisorIn R.ops p)
   divides_times p c (v ∷ vs) all =
-      let d = All-head (IsDivisorOf R.ops p) v vs all in
-      All-cons (IsDivisorOf R.ops p) (c ⊗ v) (times c vs) (c ⊗ d.0, ap (λ x. c ⊗ x) d.1 ∙ mul_left_comm R c p d.0)
-      (divides_times p c vs (All-tail (IsDivisorOf R.ops p) v vs all))
+      let d = All-head (IsDivisorIn R.ops p) v vs all in
+      All-cons (IsDivisorIn R.ops p) (c ⊗ v) (times c vs) (c ⊗ d.0, ap (λ x. c ⊗ x) d.1 ∙ mul_left_comm R c p d.0)
+      (divides_times p c vs (All-tail (IsDivisorIn R.ops p) v vs all))
 
   -- where vs over d and ws over e are both ns over c, they are the same
   pub cross_same : (c d e : A) → ((x y : A) → c ⊗ x ≡ c ⊗ y → x ≡ y) → (ns vs ws : List A) → times c vs ≡ times d ns → times c ws ≡ times e ns

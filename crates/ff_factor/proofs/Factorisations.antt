@@ -8,7 +8,7 @@ use Rattle.ring_theory.proofs.Polynomials.{length_product}
 use Rattle.ff_fields.specs.Field.{CodeField}
 use Rattle.ff_fields.specs.Code.{code_ring, code_domain}
 use Rattle.ff_fields.specs.Over.{IsOver, IsOver_nil, IsOver_cons, get_or_below}
-use Rattle.linear_theory.specs.Euclidean.{IsDivisorOf}
+use Rattle.linear_theory.specs.Euclidean.{IsDivisorIn}
 use Rattle.ff_poly.specs.Words.{IsPoly, IsIrreducible, top_of, multiple_of}
 use Rattle.ff_poly.specs.PowerWords.{power_of}
 use Rattle.ff_poly.specs.PolyOver.{IsOver_multiple_of, IsOver_product_of}
@@ -148,7 +148,7 @@ module _ (k : CodeField) where
         ascending = primes.ascending;
       }
         where
-          different : (p q : List ℕ) → In p ps → In q ps → ¬ (p ≡ q) → ¬ IsDivisorOf P.ops (value k p) (value k q)
+          different : (p q : List ℕ) → In p ps → In q ps → ¬ (p ≡ q) → ¬ IsDivisorIn P.ops (value k p) (value k q)
           different p q i j ne d = go (numbers_discrete r.0 s.0)
             where
               r : (e : List ℕ) × In e es × IsPrimeAt k.ops m e p
@@ -185,7 +185,7 @@ module _ (k : CodeField) where
           over : (p : List ℕ) → In p (polys_of parts) → IsOver k.ops p
           over p i = made_primes.over p (subst (In p) s.polys i)
 
-          divides : IsDivisorOf P.ops (value k rest) (value k m)
+          divides : IsDivisorIn P.ops (value k rest) (value k m)
           divides = (
             value_of_parts k parts ⊗ constant_poly k (k.inv (top_of g)),
             m_is ∙ P.mul_comm (constant_poly k (k.inv (top_of g))) (value k g)

@@ -7,7 +7,7 @@ use Rattle.ring_theory.proofs.Ring.{mul_zero, zero_add}
 use Rattle.ring_theory.proofs.Solver.{ring, reads, from_one}
 use Rattle.ring_theory.proofs.Polynomials.{length_product}
 use Rattle.ring_theory.proofs.Congruence.{congruent_same, congruent_sym, congruent_trans, congruent_mul_left}
-use Rattle.linear_theory.specs.Euclidean.{IsDivisorOf}
+use Rattle.linear_theory.specs.Euclidean.{IsDivisorIn}
 use Rattle.linear_theory.proofs.Euclid.{bezout}
 use Rattle.ff_fields.specs.Field.{CodeField}
 use Rattle.ff_fields.specs.Code.{code_ring, code_domain}
@@ -124,7 +124,7 @@ module _ (k : CodeField) where
         inverse : (a : List ℕ) → IsVector k.ops (length g - 1) a → a ≢ replicate (length g - 1) 0
             → (b : List ℕ) × IsVector k.ops (length g - 1) b × (product_modulo k.ops g a b ≡ (quotient_algebra g).unit)
         inverse a a_in ne =
-            let no_divide : ¬ IsDivisorOf (polynomials k).ops G (value k a) = not_divisor a a_in ne in
+            let no_divide : ¬ IsDivisorIn (polynomials k).ops G (value k a) = not_divisor a a_in ne in
             let z = bezout (euclidean k) G (irreducible k G i') (value k a) no_divide in
             let s = stands_for k g h z.left in (
               s.vector,
@@ -139,7 +139,7 @@ module _ (k : CodeField) where
             step : (l a r p : Polynomial k) → a ⊗ l ⊕ ⊖ (𝟙 ⊕ p ⊗ ⊖ r) ≡ 𝟙 ⊗ (l ⊗ a ⊕ r ⊗ p ⊕ ⊖ 𝟙)
             step l a r p = ring S (l ∷ a ∷ r ∷ p ∷ []) λ x y. simp (reads, x, y 0, y 1, y 2, y 3) (x.equal _ _ refl)
 
-            not_divisor : (a : List ℕ) → IsVector k.ops (length g - 1) a → a ≢ replicate (length g - 1) 0 → ¬ IsDivisorOf (polynomials k).ops G (value k a)
+            not_divisor : (a : List ℕ) → IsVector k.ops (length g - 1) a → a ≢ replicate (length g - 1) 0 → ¬ IsDivisorIn (polynomials k).ops G (value k a)
             not_divisor a a_in ne d =
                 ne ((zero_class k g h a a_in).1 (congruent_trans S G _ (G ⊗ d.0) 𝟘 (congruent_same S G _ _ d.1) (modulus_null d.0)))
 

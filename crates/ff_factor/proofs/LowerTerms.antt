@@ -10,7 +10,7 @@ use Rattle.ring_theory.proofs.Polynomials.{length_product}
 use Rattle.ff_fields.specs.Field.{CodeField}
 use Rattle.ff_fields.specs.Code.{code_ring, code_domain}
 use Rattle.ff_fields.specs.Over.{IsOver, get_or_below}
-use Rattle.linear_theory.specs.Euclidean.{IsDivisorOf}
+use Rattle.linear_theory.specs.Euclidean.{IsDivisorIn}
 use Rattle.linear_theory.proofs.Euclid.{divisor_trans}
 use Rattle.ff_poly.specs.Words.{IsPoly, IsMonic, IsIrreducible, Divides, IsQuotient, top_of, multiple_of}
 use Rattle.ff_poly.specs.PolyOver.{IsOver_multiple_of}
@@ -76,7 +76,7 @@ module _ (k : CodeField) where
       → IsQuotient k.ops v p q left → ¬ (left ≡ []) → ¬ DividesAll k p vs
   not_all p vs v q left i less v_is p_in p_poly long d some all =
       not_divisor k p v q left p_in p_poly long d some
-      (subst (IsDivisorOf P.ops (value k p)) (get_or-map (value k) vs i [] (value k []) less ∙ ap (value k) (sym v_is)) (all i (value k []) (omega (arith, length-map vs (value k)))))
+      (subst (IsDivisorIn P.ops (value k p)) (get_or-map (value k) vs i [] (value k []) less ∙ ap (value k) (sym v_is)) (all i (value k []) (omega (arith, length-map vs (value k)))))
 
   -- ---- a prime is cancelled
 
@@ -113,7 +113,7 @@ module _ (k : CodeField) where
       → IsFree k p num den → IsFree k p num' den'
   free_kept c p num den num' den' h free d all =
       free (c ⊗ d.0, h.den_is ∙ ap (λ x. c ⊗ x) d.1 ∙ mul_left_comm P c (value k p) d.0)
-      (subst (All (IsDivisorOf P.ops (value k p))) (sym h.num_is) (divides_times P (value k p) c (values k num') all))
+      (subst (All (IsDivisorIn P.ops (value k p))) (sym h.num_is) (divides_times P (value k p) c (values k num') all))
 
   pub lower_start : (num : List (List ℕ)) (den : List ℕ) → All (IsOver k.ops) num → IsOver k.ops den → IsPoly den → den ≢ [] → AreLowerAt k [] num den num den
   lower_start num den num_in den_in den_poly some = record {
@@ -275,7 +275,7 @@ module _ (k : CodeField) where
         free : (p : List ℕ) → In p ps → Divides k.ops p d → ¬ All (Divides k.ops p) n
         free p i divides all =
             h.low.free p i (value k divides.quotient, divisor_of_divides k p d p_in divides)
-            (All-map (IsDivisorOf P.ops (value k p)) (value k) n (λ j v less. (value k (all j v less).quotient, divisor_of_divides k p (get_or n j v) p_in (all j v less))))
+            (All-map (IsDivisorIn P.ops (value k p)) (value k) n (λ j v less. (value k (all j v less).quotient, divisor_of_divides k p (get_or n j v) p_in (all j v less))))
           where
             p_in : IsOver k.ops p
             p_in = in_of_all (IsOver k.ops) ps factors.over p i
@@ -293,7 +293,7 @@ module _ (k : CodeField) where
           least ws e ws_in e_in e_poly some (same_values k e d n ws e_in h.low.reduced.den_over h.low.reduced.num_over ws_in same);
     }
       where
-        free : (p : List ℕ) → IsPrime k p → IsDivisorOf P.ops (value k p) (value k d) → ¬ All (IsDivisorOf P.ops (value k p)) (values k n)
+        free : (p : List ℕ) → IsPrime k p → IsDivisorIn P.ops (value k p) (value k d) → ¬ All (IsDivisorIn P.ops (value k p)) (values k n)
         free p g divides =
             h.low.free p
             (all p g.over g.irreducible
@@ -304,7 +304,7 @@ module _ (k : CodeField) where
         least : (ws : List (List ℕ)) (e : List ℕ) → All (IsOver k.ops) ws → IsOver k.ops e → IsPoly e → e ≢ []
             → times P (value k e) (values k n) ≡ times P (value k d) (values k ws) → length d ≤ length e
         least ws e ws_in e_in e_poly some same =
-            let divides : IsDivisorOf P.ops (value k d) (value k e)
+            let divides : IsDivisorIn P.ops (value k d) (value k e)
             = least_denominator k (length (value k d).0 + 1) (value k d) (omega arith)
             (list_some k d h.low.reduced.den_over h.low.reduced.den_poly h.low.reduced.den_some) (values k n) free
             (value k e) (divides_members P (value k d) (value k e) (values k n) (values k ws) same) in

@@ -8,7 +8,7 @@ use Rattle.ring_theory.proofs.Polynomials.{length_product}
 use Rattle.ff_fields.specs.Field.{CodeField}
 use Rattle.ff_fields.specs.Code.{code_ring, code_domain}
 use Rattle.ff_fields.specs.Over.{IsOver, IsOver_nil, IsOver_cons}
-use Rattle.linear_theory.specs.Euclidean.{IsDivisorOf, IsUnit}
+use Rattle.linear_theory.specs.Euclidean.{IsDivisorIn, IsUnit}
 use Rattle.linear_theory.proofs.Euclid.{divisor_product, order_unique}
 use Rattle.ff_poly.specs.Words.{IsIrreducible}
 use Rattle.ff_poly.specs.Value.{value}
@@ -63,31 +63,31 @@ module _ (k : CodeField) where
   nonunit p h = (irreducible k (value k p) (of_codes k p h)).nonunit
 
   -- a polynomial of the parts divides their product
-  member_divides : (fs : List (List ℕ × ℕ)) → All (λ f. 1 ≤ f.1) fs → (p : List ℕ) → In p (polys_of fs) → IsDivisorOf P.ops (value k p) (value_of_parts k fs)
+  member_divides : (fs : List (List ℕ × ℕ)) → All (λ f. 1 ≤ f.1) fs → (p : List ℕ) → In p (polys_of fs) → IsDivisorIn P.ops (value k p) (value_of_parts k fs)
   member_divides [] exponents p i = absurd i
   member_divides (f ∷ fs) exponents p (inl e) =
-      subst (λ x. IsDivisorOf P.ops (value k x) (value_of_parts k (f ∷ fs))) (sym e)
+      subst (λ x. IsDivisorIn P.ops (value k x) (value_of_parts k (f ∷ fs))) (sym e)
       (divisor_product P (value k f.0) (pow P.ops (value k f.0) f.1) (value_of_parts k fs) (power f.1 (All-head (λ f. 1 ≤ f.1) f fs exponents)))
     where
-      power : (n : ℕ) → 1 ≤ n → IsDivisorOf P.ops (value k f.0) (pow P.ops (value k f.0) n)
+      power : (n : ℕ) → 1 ≤ n → IsDivisorIn P.ops (value k f.0) (pow P.ops (value k f.0) n)
       power zero l = absurd (omega arith)
       power (suc n) l = (pow P.ops (value k f.0) n, refl)
   member_divides (f ∷ fs) exponents p (inr i) =
       let d = member_divides fs (All-tail (λ f. 1 ≤ f.1) f fs exponents) p i in
-      subst (IsDivisorOf P.ops (value k p)) (P.mul_comm (value_of_parts k fs) (pow P.ops (value k f.0) f.1))
+      subst (IsDivisorIn P.ops (value k p)) (P.mul_comm (value_of_parts k fs) (pow P.ops (value k f.0) f.1))
       (divisor_product P (value k p) (value_of_parts k fs) (pow P.ops (value k f.0) f.1) d)
 
   -- each irreducible divisor is a part
-  listed : (g : List ℕ) (b : FactorsValue) → IsFactorisation k.ops g b → (x : List ℕ) → IsPrime k x → IsDivisorOf P.ops (value k x) (value k g) → In x (polys_of b.parts)
+  listed : (g : List ℕ) (b : FactorsValue) → IsFactorisation k.ops g b → (x : List ℕ) → IsPrime k x → IsDivisorIn P.ops (value k x) (value k g) → In x (polys_of b.parts)
   listed g b j x h d =
       go (prime_or_unit k b.parts others (constant_poly k b.unit)
       (constant_poly k (k.inv b.unit), P.mul_comm (constant_poly k b.unit) (constant_poly k (k.inv b.unit)) ∙ code_inverts k b.unit j.unit_in j.unit_some)
-      (value k x) (subst (IsDivisorOf P.ops (value k x)) (den_parts k g b j) d))
+      (value k x) (subst (IsDivisorIn P.ops (value k x)) (den_parts k g b j) d))
     where
       others : (p : List ℕ) → In p (polys_of b.parts) → IsPrime k p
       others p l = record { over = in_of_all (IsOver k.ops) (polys_of b.parts) j.over p l; irreducible = in_of_all (IsIrreducible k.ops) (polys_of b.parts) j.irreducible p l }
 
-      go : ((p : List ℕ) × In p (polys_of b.parts) × IsDivisorOf P.ops (value k p) (value k x)) ⊎ IsUnit P.ops (value k x) → In x (polys_of b.parts)
+      go : ((p : List ℕ) × In p (polys_of b.parts) × IsDivisorIn P.ops (value k p) (value k x)) ⊎ IsUnit P.ops (value k x) → In x (polys_of b.parts)
       go (inl r) = subst (λ y. In y (polys_of b.parts)) (irreducible_unique k r.0 x (others r.0 r.1).over (others r.0 r.1).irreducible h.over h.irreducible r.2) r.1
       go (inr u) = absurd (nonunit x h u)
 
@@ -100,20 +100,20 @@ module _ (k : CodeField) where
   same_primes g a b h j x i =
       listed g b j x
       (record { over = in_of_all (IsOver k.ops) (polys_of a.parts) h.over x i; irreducible = in_of_all (IsIrreducible k.ops) (polys_of a.parts) h.irreducible x i })
-      (subst (IsDivisorOf P.ops (value k x)) (sym (den_parts k g a h))
+      (subst (IsDivisorIn P.ops (value k x)) (sym (den_parts k g a h))
       (divisor_product P (value k x) (value_of_parts k a.parts) (constant_poly k a.unit) (member_divides a.parts h.exponents x i)))
 
   -- a prime that isn't among the parts divides no product of their powers and a unit
   free_of : (p : List ℕ) → IsPrime k p → (fs : List (List ℕ × ℕ)) → ((q : List ℕ) → In q (polys_of fs) → IsPrime k q) → All (IsBeforePoly p) (polys_of fs)
-      → (u : Polynomial k) → IsUnit P.ops u → ¬ IsDivisorOf P.ops (value k p) (value_of_parts k fs ⊗ u)
+      → (u : Polynomial k) → IsUnit P.ops u → ¬ IsDivisorIn P.ops (value k p) (value_of_parts k fs ⊗ u)
   free_of p h fs primes after u unit d = go (prime k (value k p) (of_codes k p h) (value_of_parts k fs) u d)
     where
-      different : (q : List ℕ) → In q (polys_of fs) → ¬ IsDivisorOf P.ops (value k p) (value k q)
+      different : (q : List ℕ) → In q (polys_of fs) → ¬ IsDivisorIn P.ops (value k p) (value k q)
       different q i e =
           before_irreflexive p
           (subst (IsBeforePoly p) (sym (irreducible_unique k p q h.over h.irreducible (primes q i).over (primes q i).irreducible e)) (in_of_all (IsBeforePoly p) (polys_of fs) after q i))
 
-      go : IsDivisorOf P.ops (value k p) (value_of_parts k fs) ⊎ IsDivisorOf P.ops (value k p) u → ⊥
+      go : IsDivisorIn P.ops (value k p) (value_of_parts k fs) ⊎ IsDivisorIn P.ops (value k p) u → ⊥
       go (inl e) = of_parts k p h.over h.irreducible fs different e
       go (inr e) = nonunit p h (e.0 ⊗ unit.0, sym (P.mul_assoc (value k p) e.0 unit.0) ∙ ap (λ x. x ⊗ unit.0) (sym e.1) ∙ unit.1)
 

@@ -14,7 +14,7 @@ use Rattle.ring_theory.proofs.Division.{length_bound, short_multiple}
 use Rattle.ff_fields.specs.Field.{CodeField}
 use Rattle.ff_fields.specs.Code.{code_ring, code_domain, raw_ring}
 use Rattle.ff_fields.specs.Over.{IsOver}
-use Rattle.linear_theory.specs.Euclidean.{IsDivisorOf}
+use Rattle.linear_theory.specs.Euclidean.{IsDivisorIn}
 use Rattle.ff_poly.specs.Words.{IsPoly, IsMonic, IsIrreducible, Divides}
 use Rattle.ff_poly.specs.Value.{value, same_from_value}
 use Rattle.ff_poly.specs.Polynomials.{value_one, Polynomial, polynomials, codes_of, IsOver_codes_of, IsPoly_codes_of, value_codes_of}
@@ -62,9 +62,9 @@ module _ (k : CodeField) where
 
     -- the multiples of the prime of e are the polynomials that are nilpotent there
     pub generates : (e p : List ℕ) (primitive : IsPrimitive k.ops (quotient_algebra g) e) → IsPrimeAt k.ops g e p
-        → (u : Polynomial k) → At k g h e primitive u ↔ IsDivisorOf P.ops (value k p) u
+        → (u : Polynomial k) → At k g h e primitive u ↔ IsDivisorIn P.ops (value k p) u
     generates e p primitive is u =
-        subst (λ w. At k g h e primitive w ↔ IsDivisorOf P.ops (value k p) w) (value_codes_of k u) (
+        subst (λ w. At k g h e primitive w ↔ IsDivisorIn P.ops (value k p) w) (value_codes_of k u) (
           λ a. let d = (is.multiples c c_in c_poly).1 ((at_nilpotent k g h e primitive c c_in).0 a) in (value k d.quotient, divisor_of_divides k p c is.over d),
           λ d. (at_nilpotent k g h e primitive c c_in).1 ((is.multiples c c_in c_poly).0 (divides_of_divisor k p c is.over c_in c_poly d)),
         )
@@ -109,13 +109,13 @@ module _ (k : CodeField) where
             go (inl l) m =
                 absurd ((at_maximal k g h e primitive).proper ((generates e p primitive is 𝟙).1 (unit_divides (single m.0 m.1 l))))
               where
-                unit_divides : p ≡ 1 ∷ [] → IsDivisorOf P.ops (value k p) 𝟙
+                unit_divides : p ≡ 1 ∷ [] → IsDivisorIn P.ops (value k p) 𝟙
                 unit_divides f = (𝟙, sym (P.mul_one (value k p) ∙ ap (value k) f ∙ value_one k))
 
         none : (b : List ℕ) → IsOver k.ops b → IsMonic b → 2 ≤ length b → length b < length p → ¬ Divides k.ops b p
         none b b_in b_monic b_long b_short d =
             go (maximal_prime P (At k g h e primitive) (at_maximal k g h e primitive) B Q
-            ((generates e p primitive is (B ⊗ Q)).1 (subst (IsDivisorOf P.ops (value k p)) whole (divisor_refl k (value k p)))))
+            ((generates e p primitive is (B ⊗ Q)).1 (subst (IsDivisorIn P.ops (value k p)) whole (divisor_refl k (value k p)))))
           where
             B : Polynomial k
             B = value k b
@@ -145,7 +145,7 @@ module _ (k : CodeField) where
 
     -- a prime divides g
     pub prime_divides_modulus : (e p : List ℕ) (primitive : IsPrimitive k.ops (quotient_algebra g) e) → IsPrimeAt k.ops g e p
-        → IsDivisorOf P.ops (value k p) (value k g)
+        → IsDivisorIn P.ops (value k p) (value k g)
     prime_divides_modulus e p primitive is =
         (generates e p primitive is (value k g)).0
         (subst (At k g h e primitive) (zero_add P (value k g)) null)
@@ -162,7 +162,7 @@ module _ (k : CodeField) where
 
     -- of different idempotents with product 0, the prime of one doesn't divide that of the other
     pub primes_different : (e f p q : List ℕ) (pe : IsPrimitive k.ops (quotient_algebra g) e) (pf : IsPrimitive k.ops (quotient_algebra g) f)
-        → IsPrimeAt k.ops g e p → IsPrimeAt k.ops g f q → product_modulo k.ops g e f ≡ zero_of (quotient_algebra g) → ¬ IsDivisorOf P.ops (value k p) (value k q)
+        → IsPrimeAt k.ops g e p → IsPrimeAt k.ops g f q → product_modulo k.ops g e f ≡ zero_of (quotient_algebra g) → ¬ IsDivisorIn P.ops (value k p) (value k q)
     primes_different e f p q pe pf is_p is_q null d =
         (at_maximal k g h e pe).proper
         (subst (At k g h e pe) (back u) ((at_maximal k g h e pe).ideal.sum_in u (⊖ 𝟙 ⊗ w) at_e ((at_maximal k g h e pe).ideal.scale_in (⊖ 𝟙) w tt w_at_e)))
@@ -226,7 +226,7 @@ module _ (k : CodeField) where
 
     -- a divisor of g that lies in none of the ideals is a unit
     pub rest_unit : (r : Polynomial k) (es : List (List ℕ)) (primitive : (e : List ℕ) → In e es → IsPrimitive k.ops (quotient_algebra g) e)
-        → sum_of k.ops (quotient_algebra g) es ≡ (quotient_algebra g).unit → IsDivisorOf P.ops r (value k g)
+        → sum_of k.ops (quotient_algebra g) es ≡ (quotient_algebra g).unit → IsDivisorIn P.ops r (value k g)
         → ((e : List ℕ) (i : In e es) → ¬ At k g h e (primitive e i) r) → (v : Polynomial k) × (r ⊗ v ≡ 𝟙)
     rest_unit r es primitive sum d out =
         let b = over_sum r es primitive out in

@@ -12,7 +12,7 @@ use Rattle.ff_fields.specs.Field.{CodeField}
 use Rattle.ff_fields.specs.Code.{Code, raw_ring, code_ring, read_code}
 use Rattle.ff_fields.specs.Numbers.{read}
 use Rattle.ff_fields.specs.Over.{IsOver, IsOver_nil, IsOver_cons, IsOver_append, IsOver_neg, IsOver_take}
-use Rattle.linear_theory.specs.Euclidean.{IsDivisorOf}
+use Rattle.linear_theory.specs.Euclidean.{IsDivisorIn}
 use Rattle.ff_poly.specs.Words.{IsPoly, IsMonic, Divides, product_of}
 use Rattle.ff_poly.specs.PolyOver.{IsOver_product_of, IsPoly_poly_of}
 use Rattle.ff_poly.specs.Value.{value, value_product, same_from_value}
@@ -207,7 +207,7 @@ module _ (k : CodeField) (g : List ℕ) (h : IsModulus k.ops g) (e : List ℕ) (
       prime_some = some_value k prime prime_in (monic_poly k prime prime_monic) (let l = prime_length in omega arith)
 
       -- and all that are nilpotent at e are multiples
-      pub prime_divides : (u : Polynomial k) → At u → IsDivisorOf (polynomials k).ops (value k prime) u
+      pub prime_divides : (u : Polynomial k) → At u → IsDivisorIn (polynomials k).ops (value k prime) u
       prime_divides u a = go (polynomial_discrete k d.rest 𝟘)
         where
           d : Divided k u (value k prime)
@@ -222,7 +222,7 @@ module _ (k : CodeField) (g : List ℕ) (h : IsModulus k.ops g) (e : List ℕ) (
           rest_at : At d.rest
           rest_at = subst At left (at_maximal.ideal.sum_in _ _ a (at_maximal.ideal.scale_in (⊖ d.quotient) (value k prime) tt prime_at_e))
 
-          go : Dec (d.rest ≡ 𝟘) → IsDivisorOf (polynomials k).ops (value k prime) u
+          go : Dec (d.rest ≡ 𝟘) → IsDivisorIn (polynomials k).ops (value k prime) u
           go (yes z) = (d.quotient, d.is ∙ ap (λ r. value k prime ⊗ d.quotient ⊕ r) z ∙ P.add_zero _)
           go (no ne) =
               let w = made_monic k d.rest ne in

@@ -8,7 +8,7 @@ use Rattle.ring_theory.proofs.Division.{one_way}
 use Rattle.ff_fields.specs.Field.{CodeField}
 use Rattle.ff_fields.specs.Code.{code_ring, code_domain}
 use Rattle.ff_fields.specs.Over.{IsOver}
-use Rattle.linear_theory.specs.Euclidean.{IsDivisorOf}
+use Rattle.linear_theory.specs.Euclidean.{IsDivisorIn}
 use Rattle.ff_poly.specs.Words.{IsPoly, IsQuotient, product_of}
 use Rattle.ff_poly.specs.PolyOver.{IsOver_product_of}
 use Rattle.ff_poly.specs.Value.{value, value_sum, value_product}
@@ -86,7 +86,7 @@ module _ (k : CodeField) where
       )
 
   -- with another rest it is no divisor
-  pub not_divisor : (p a q left : List ℕ) → IsOver k.ops p → IsPoly p → 2 ≤ length p → IsQuotient k.ops a p q left → ¬ (left ≡ []) → ¬ IsDivisorOf P.ops (value k p) (value k a)
+  pub not_divisor : (p a q left : List ℕ) → IsOver k.ops p → IsPoly p → 2 ≤ length p → IsQuotient k.ops a p q left → ¬ (left ≡ []) → ¬ IsDivisorIn P.ops (value k p) (value k a)
   not_divisor p a q left p_in p_poly long d ne c =
       list_some left d.rest_in d.rest_poly ne
       (one_way (code_ring k) (code_domain k) (value k a) (value k p) (value k q) c.0 (value k left) 𝟘 by_division

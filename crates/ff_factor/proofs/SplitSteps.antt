@@ -7,7 +7,7 @@ use Rattle.ring_theory.specs.Members.{In}
 use Rattle.ring_theory.proofs.Ring.{mul_zero, one_mul}
 use Rattle.ff_fields.specs.Field.{FieldOps, CodeField}
 use Rattle.ff_fields.specs.Over.{IsOver}
-use Rattle.linear_theory.specs.Euclidean.{IsDivisorOf}
+use Rattle.linear_theory.specs.Euclidean.{IsDivisorIn}
 use Rattle.ff_poly.specs.Words.{IsPoly, IsIrreducible}
 use Rattle.ff_poly.specs.Value.{value, numbers_value}
 use Rattle.ff_poly.specs.Polynomials.{Polynomial, polynomials, numbers_discrete, value_nil, codes_of}
@@ -110,34 +110,34 @@ module _ (k : CodeField) where
       ap (λ w. pow P.ops (value k x.0) x.1 ⊗ w) (parts_push fs f)
       ∙ sym (P.mul_assoc (pow P.ops (value k x.0) x.1) (value_of_parts k fs) (pow P.ops (value k f.0) f.1))
 
-  multiple : (p a b : Polynomial k) → IsDivisorOf P.ops p a → IsDivisorOf P.ops p (b ⊗ a)
+  multiple : (p a b : Polynomial k) → IsDivisorIn P.ops p a → IsDivisorIn P.ops p (b ⊗ a)
   multiple p a b d = (d.0 ⊗ b, P.mul_comm b a ∙ ap (λ x. x ⊗ b) d.1 ∙ P.mul_assoc p d.0 b)
 
   module _ (p : List ℕ) (p_in : IsOver k.ops p) (p_irreducible : IsIrreducible k.ops p) where
     h : IsIrreducible k.ops (codes_of k (value k p))
     h = subst (IsIrreducible k.ops) (sym (numbers_value k p p_in (monic_poly k p p_irreducible.monic))) p_irreducible
 
-    of_power : (q : Polynomial k) (e : ℕ) → IsDivisorOf P.ops (value k p) (pow P.ops q e) → IsDivisorOf P.ops (value k p) q
+    of_power : (q : Polynomial k) (e : ℕ) → IsDivisorIn P.ops (value k p) (pow P.ops q e) → IsDivisorIn P.ops (value k p) q
     of_power q zero d = absurd ((irreducible k (value k p) h).nonunit (d.0, sym d.1))
     of_power q (suc e) d = go (prime k (value k p) h q (pow P.ops q e) d) (of_power q e)
       where
-        go : IsDivisorOf P.ops (value k p) q ⊎ IsDivisorOf P.ops (value k p) (pow P.ops q e)
-            → (IsDivisorOf P.ops (value k p) (pow P.ops q e) → IsDivisorOf P.ops (value k p) q) → IsDivisorOf P.ops (value k p) q
+        go : IsDivisorIn P.ops (value k p) q ⊎ IsDivisorIn P.ops (value k p) (pow P.ops q e)
+            → (IsDivisorIn P.ops (value k p) (pow P.ops q e) → IsDivisorIn P.ops (value k p) q) → IsDivisorIn P.ops (value k p) q
         go (inl d) f = d
         go (inr d) f = f d
 
     -- a prime that divides none of the polynomials divides no product of their powers
-    pub of_parts : (fs : List (List ℕ × ℕ)) → ((q : List ℕ) → In q (polys_of fs) → ¬ IsDivisorOf P.ops (value k p) (value k q)) → ¬ IsDivisorOf P.ops (value k p) (value_of_parts k fs)
+    pub of_parts : (fs : List (List ℕ × ℕ)) → ((q : List ℕ) → In q (polys_of fs) → ¬ IsDivisorIn P.ops (value k p) (value k q)) → ¬ IsDivisorIn P.ops (value k p) (value_of_parts k fs)
     of_parts [] none d = (irreducible k (value k p) h).nonunit (d.0, sym d.1)
     of_parts (f ∷ fs) none d = go (prime k (value k p) h (pow P.ops (value k f.0) f.1) (value_of_parts k fs) d) (of_parts fs (λ q i. none q (inr i)))
       where
-        go : IsDivisorOf P.ops (value k p) (pow P.ops (value k f.0) f.1) ⊎ IsDivisorOf P.ops (value k p) (value_of_parts k fs)
-            → ¬ IsDivisorOf P.ops (value k p) (value_of_parts k fs) → ⊥
+        go : IsDivisorIn P.ops (value k p) (pow P.ops (value k f.0) f.1) ⊎ IsDivisorIn P.ops (value k p) (value_of_parts k fs)
+            → ¬ IsDivisorIn P.ops (value k p) (value_of_parts k fs) → ⊥
         go (inl d) not = none f.0 (inl refl) (of_power (value k f.0) f.1 d)
         go (inr d) not = not d
 
     split_step : (g : List ℕ) (ps : List (List ℕ)) (parts : List (List ℕ × ℕ)) (rest left : List ℕ) (count : ℕ) → IsSplitOff k g ps parts rest
-        → IsDivisorOf P.ops (value k p) (value k g) → ((q : List ℕ) → In q ps → ¬ IsDivisorOf P.ops (value k p) (value k q)) → IsPulledOut k rest p count left
+        → IsDivisorIn P.ops (value k p) (value k g) → ((q : List ℕ) → In q ps → ¬ IsDivisorIn P.ops (value k p) (value k q)) → IsPulledOut k rest p count left
         → IsSplitOff k g (ps ++ p ∷ []) (parts ++ (p, count) ∷ []) left
     split_step g ps parts rest left count s divides different out = record {
       polys = polys_push parts (p, count) ∙ ap (λ w. w ++ p ∷ []) s.polys;
@@ -153,22 +153,22 @@ module _ (k : CodeField) where
       exponents = All-append (λ f. 1 ≤ f.1) parts ((p, count) ∷ []) s.exponents (All-cons (λ f. 1 ≤ f.1) (p, count) [] (positive count out.product) (All-nil (λ f. 1 ≤ f.1)));
     }
       where
-        free : (q : List ℕ) → In q (ps ++ p ∷ []) → ¬ IsDivisorOf P.ops (value k q) (value k left)
+        free : (q : List ℕ) → In q (ps ++ p ∷ []) → ¬ IsDivisorIn P.ops (value k q) (value k left)
         free q i d = go (of_push q p ps i)
           where
             go : In q ps ⊎ (q ≡ p) → ⊥
-            go (inl j) = s.free q j (subst (IsDivisorOf P.ops (value k q)) (sym out.product) (multiple (value k q) (value k left) (pow P.ops (value k p) count) d))
-            go (inr e) = out.free (subst (λ x. IsDivisorOf P.ops (value k x) (value k left)) e d)
+            go (inl j) = s.free q j (subst (IsDivisorIn P.ops (value k q)) (sym out.product) (multiple (value k q) (value k left) (pow P.ops (value k p) count) d))
+            go (inr e) = out.free (subst (λ x. IsDivisorIn P.ops (value k x) (value k left)) e d)
 
-        here : IsDivisorOf P.ops (value k p) (value k rest)
-        here = go (prime k (value k p) h (value_of_parts k parts) (value k rest) (subst (IsDivisorOf P.ops (value k p)) s.product divides))
+        here : IsDivisorIn P.ops (value k p) (value k rest)
+        here = go (prime k (value k p) h (value_of_parts k parts) (value k rest) (subst (IsDivisorIn P.ops (value k p)) s.product divides))
           where
-            go : IsDivisorOf P.ops (value k p) (value_of_parts k parts) ⊎ IsDivisorOf P.ops (value k p) (value k rest) → IsDivisorOf P.ops (value k p) (value k rest)
+            go : IsDivisorIn P.ops (value k p) (value_of_parts k parts) ⊎ IsDivisorIn P.ops (value k p) (value k rest) → IsDivisorIn P.ops (value k p) (value k rest)
             go (inl d) = absurd (of_parts parts (λ q i. different q (subst (In q) s.polys i)) d)
             go (inr d) = d
 
         positive : (count : ℕ) → value k rest ≡ pow P.ops (value k p) count ⊗ value k left → 1 ≤ count
-        positive zero e = absurd (out.free (subst (IsDivisorOf P.ops (value k p)) (e ∙ one_mul P (value k left)) here))
+        positive zero e = absurd (out.free (subst (IsDivisorIn P.ops (value k p)) (e ∙ one_mul P (value k left)) here))
         positive (suc c) e = omega arith
 
   -- a list of primes, one after another

@@ -2,7 +2,7 @@
 use Rattle.std.specs.Prelude.{◌≡◌, ◌≢◌, ℕ, ◌≤◌, List, [], ◌∷◌, All}
 use Rattle.ring_theory.specs.Ring.{pow}
 use Rattle.ring_theory.specs.Members.{In}
-use Rattle.linear_theory.specs.Euclidean.{IsDivisorOf}
+use Rattle.linear_theory.specs.Euclidean.{IsDivisorIn}
 use Rattle.ff_fields.specs.Field.{FieldOps, CodeField}
 use Rattle.ff_fields.specs.Over.{IsOver}
 use Rattle.ff_poly.specs.Words.{IsPoly, IsIrreducible}
@@ -16,7 +16,7 @@ pub record IsPulledOut (k : CodeField) (g p : List ℕ) (count : ℕ) (rest : Li
   pub over : IsOver k.ops rest
   pub poly : IsPoly rest
   pub product : value k g ≡ (polynomials k).◌⊗◌ (pow (polynomials k).ops (value k p) count) (value k rest)
-  pub free : ¬ IsDivisorOf (polynomials k).ops (value k p) (value k rest)
+  pub free : ¬ IsDivisorIn (polynomials k).ops (value k p) (value k rest)
 
 -- the new list has the members of the old one and p, in ascending order
 pub record IsWith (old : List (List ℕ)) (p : List ℕ) (new : List (List ℕ)) : Type 0 where
@@ -43,13 +43,13 @@ pub record IsSplitOff (k : CodeField) (g : List ℕ) (ps : List (List ℕ)) (par
   pub poly : IsPoly rest
   pub some : rest ≢ []
   pub product : value k g ≡ (polynomials k).◌⊗◌ (value_of_parts k parts) (value k rest)
-  pub free : (p : List ℕ) → In p ps → ¬ IsDivisorOf (polynomials k).ops (value k p) (value k rest)
+  pub free : (p : List ℕ) → In p ps → ¬ IsDivisorIn (polynomials k).ops (value k p) (value k rest)
   pub exponents : All (λ f. 1 ≤ f.1) parts
 
 -- irreducible divisors of g in ascending order, of which none divides another
 pub record IsPrimeList (k : CodeField) (g : List ℕ) (ps : List (List ℕ)) : Type 0 where
   pub over : (p : List ℕ) → In p ps → IsOver k.ops p
   pub irreducible : (p : List ℕ) → In p ps → IsIrreducible k.ops p
-  pub divides : (p : List ℕ) → In p ps → IsDivisorOf (polynomials k).ops (value k p) (value k g)
-  pub different : (p q : List ℕ) → In p ps → In q ps → ¬ (p ≡ q) → ¬ IsDivisorOf (polynomials k).ops (value k p) (value k q)
+  pub divides : (p : List ℕ) → In p ps → IsDivisorIn (polynomials k).ops (value k p) (value k g)
+  pub different : (p q : List ℕ) → In p ps → In q ps → ¬ (p ≡ q) → ¬ IsDivisorIn (polynomials k).ops (value k p) (value k q)
   pub ascending : AreAscendingPolys ps

@@ -1,7 +1,7 @@
 -- The words of the private contracts on factors that are cancelled.
 use Rattle.std.specs.Prelude.{◌≡◌, ◌≢◌, ℕ, List, [], map, All}
 use Rattle.ring_theory.specs.Members.{In}
-use Rattle.linear_theory.specs.Euclidean.{IsDivisorOf}
+use Rattle.linear_theory.specs.Euclidean.{IsDivisorIn}
 use Rattle.ff_fields.specs.Field.{CodeField}
 use Rattle.ff_fields.specs.Over.{IsOver}
 use Rattle.ff_poly.specs.Words.{IsPoly, IsIrreducible}
@@ -18,7 +18,7 @@ module _ (k : CodeField) where
 
   -- p divides each of the polynomials
   abbrev pub DividesAll : List ℕ → List (List ℕ) → Type 0
-  DividesAll p vs = All (IsDivisorOf (polynomials k).ops (value k p)) (values vs)
+  DividesAll p vs = All (IsDivisorIn (polynomials k).ops (value k p)) (values vs)
 
   -- each polynomial is p times its quotient
   pub record AreQuotients (p : List ℕ) (vs qs : List (List ℕ)) : Type 0 where
@@ -27,7 +27,7 @@ module _ (k : CodeField) where
 
   -- p doesn't divide all parts of the fractions
   abbrev pub IsFree : List ℕ → List (List ℕ) → List ℕ → Type 0
-  IsFree p num den = IsDivisorOf (polynomials k).ops (value k p) (value k den) → ¬ DividesAll p num
+  IsFree p num den = IsDivisorIn (polynomials k).ops (value k p) (value k den) → ¬ DividesAll p num
 
   -- each part of the fractions is the factor times the new one
   pub record AreReduced (factor : Polynomial k) (num : List (List ℕ)) (den : List ℕ) (num' : List (List ℕ)) (den' : List ℕ) : Type 0 where

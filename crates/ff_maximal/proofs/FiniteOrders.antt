@@ -4,7 +4,7 @@ use Rattle.std.specs.Prelude.{Result, Ok, Err, IfOk}
 use Rattle.std.specs.declared.alloc.AllocError.{AllocError}
 use Rattle.std.specs.List.{Any}
 use Rattle.std.proofs.lemmas.List.Elements.{All-nil, All-cons, All-head, All-tail}
-use Rattle.linear_theory.specs.Euclidean.{IsDivisorOf}
+use Rattle.linear_theory.specs.Euclidean.{IsDivisorIn}
 use Rattle.ff_fields.specs.Field.{CodeField}
 use Rattle.ff_fields.specs.Over.{IsOver}
 use Rattle.ff_poly.specs.Words.{IsPoly, IsMonic}
@@ -76,9 +76,9 @@ module _ (k : CodeField) (c : CurveValue) (curve : IsCurve k c) where
     all_members =
         all_integral (equation_of k c.fin) (Contains k c.fin o) (Contains k c.fin m) (order_set k c.fin positive o o_order) (order_set k c.fin positive m m_order)
         (map (value k) (repeated f.parts)) members (λ z. (start z).1) (map (value k) (expanded f.parts))
-        (subst (λ d. IsDivisorOf (polynomials k).ops d (polynomial_product k (map (value k) (expanded f.parts)))) curve.disc.value (divides_expanded k c.disc f h))
+        (subst (λ d. IsDivisorIn (polynomials k).ops d (polynomial_product k (map (value k) (expanded f.parts)))) curve.disc.value (divides_expanded k c.disc f h))
         (expanded_irreducible k c.disc f h)
-        (subst (λ d. All (λ q. IsDivisorOf (polynomials k).ops ((polynomials k).◌⊗◌ q q) d → Any (λ r. r ≡ q) (map (value k) (repeated f.parts))) (map (value k) (expanded f.parts)))
+        (subst (λ d. All (λ q. IsDivisorIn (polynomials k).ops ((polynomials k).◌⊗◌ q q) d → Any (λ r. r ≡ q) (map (value k) (repeated f.parts))) (map (value k) (expanded f.parts)))
         curve.disc.value (listed k c.disc f h value_some))
 
     pub finite_lattice : IsIntegralLattice k c Finite m

@@ -6,7 +6,7 @@ use Rattle.std.proofs.lemmas.Bool.{cases_lt}
 use Rattle.std.proofs.lemmas.Bool.Decides.{nat_tests}
 use Rattle.ring_theory.specs.Ring.{CommRing, pow}
 use Rattle.ring_theory.proofs.Ring.{one_mul}
-use Rattle.linear_theory.specs.Euclidean.{IsDivisorOf}
+use Rattle.linear_theory.specs.Euclidean.{IsDivisorIn}
 use Rattle.ff_fields.specs.Field.{CodeField}
 use Rattle.ff_fields.specs.Over.{IsOver, IsOver_nil, IsOver_cons}
 use Rattle.ff_poly.specs.Words.{IsIrreducible, poly_of}
@@ -146,7 +146,7 @@ module _ (k : CodeField) where
         ∙ ap ((polynomials k).◌⊗◌ u) (parts_value f.parts h.over)
 
     -- the polynomial divides the product of its factors
-    pub divides_expanded : IsDivisorOf (polynomials k).ops (value k d) (polynomial_product k (map (value k) (expanded f.parts)))
+    pub divides_expanded : IsDivisorIn (polynomials k).ops (value k d) (polynomial_product k (map (value k) (expanded f.parts)))
     divides_expanded = (
       v,
       expanded_product f.parts
@@ -169,11 +169,11 @@ module _ (k : CodeField) where
 
     -- those whose squares divide it are the repeated ones
     pub listed : ¬ (value k d ≡ (polynomials k).𝟘)
-        → All (λ Q. IsDivisorOf (polynomials k).ops ((polynomials k).◌⊗◌ Q Q) (value k d) → Any (λ r. r ≡ Q) (map (value k) (repeated f.parts))) (map (value k) (expanded f.parts))
+        → All (λ Q. IsDivisorIn (polynomials k).ops ((polynomials k).◌⊗◌ Q Q) (value k d) → Any (λ r. r ≡ Q) (map (value k) (repeated f.parts))) (map (value k) (expanded f.parts))
     listed some =
-        All-map (λ Q. IsDivisorOf (polynomials k).ops ((polynomials k).◌⊗◌ Q Q) (value k d) → Any (λ r. r ≡ Q) (map (value k) (repeated f.parts))) (value k) (expanded f.parts)
+        All-map (λ Q. IsDivisorIn (polynomials k).ops ((polynomials k).◌⊗◌ Q Q) (value k d) → Any (λ r. r ≡ Q) (map (value k) (repeated f.parts))) (value k) (expanded f.parts)
         (All-weaker (IsPrime k)
-        (λ q. IsDivisorOf (polynomials k).ops ((polynomials k).◌⊗◌ (value k q) (value k q)) (value k d) → Any (λ r. r ≡ value k q) (map (value k) (repeated f.parts)))
+        (λ q. IsDivisorIn (polynomials k).ops ((polynomials k).◌⊗◌ (value k q) (value k q)) (value k d) → Any (λ r. r ≡ value k q) (map (value k) (repeated f.parts)))
         (λ q prime square.
         let s = square_part k q prime u v (value k d) f.parts (different f.parts h.over h.irreducible h.ascending) unit whole some square in
         any_value k (repeated f.parts) q (subst (λ r. Any (λ x. x ≡ r) (repeated f.parts)) s.2 (repeated_has f.parts s.0 s.1 s.3)))

@@ -6,7 +6,7 @@ use Rattle.std.proofs.lemmas.List.{length-map, get_or-map}
 use Rattle.ring_theory.proofs.Ring.{one_mul}
 use Rattle.prime_theory.specs.Orders.{MaximalAt}
 use Rattle.prime_theory.proofs.Enlarge.{PowersOf}
-use Rattle.linear_theory.specs.Euclidean.{IsDivisorOf}
+use Rattle.linear_theory.specs.Euclidean.{IsDivisorIn}
 use Rattle.ff_fields.specs.Field.{CodeField}
 use Rattle.ff_fields.specs.Over.{IsOver}
 use Rattle.ff_poly.specs.Words.{IsIrreducible}
@@ -59,14 +59,14 @@ module _ {k : CodeField} (c : Equation k) where
 
     -- where the polynomials are all whose squares divide the discriminant, these are all integral functions
     pub all_integral : ((z : FunctionOf c) → HasPolynomialCoordinates c z → O z) → (qs : List (Polynomial k))
-        → IsDivisorOf (polynomials k).ops (discriminant c) (polynomial_product k qs) → All (λ q. IsIrreducible k.ops (codes_of k q)) qs
-        → All (λ q. IsDivisorOf (polynomials k).ops ((polynomials k).◌⊗◌ q q) (discriminant c) → Any (λ r. r ≡ q) ps) qs
+        → IsDivisorIn (polynomials k).ops (discriminant c) (polynomial_product k qs) → All (λ q. IsIrreducible k.ops (codes_of k q)) qs
+        → All (λ q. IsDivisorIn (polynomials k).ops ((polynomials k).◌⊗◌ q q) (discriminant c) → Any (λ r. r ≡ q) ps) qs
         → (z : FunctionOf c) → M z ↔ IsIntegralAt (setting_of c) Finite z
     all_integral start qs divides irreducible listed z = (
       λ m. ((is z).0 m).integral,
       maximal_order c M 𝓜.ring contains qs divides irreducible
-          (All-weaker (λ q. IsDivisorOf (polynomials k).ops ((polynomials k).◌⊗◌ q q) (discriminant c) → Any (λ r. r ≡ q) ps)
-          (λ q. IsDivisorOf (polynomials k).ops ((polynomials k).◌⊗◌ q q) (discriminant c)
+          (All-weaker (λ q. IsDivisorIn (polynomials k).ops ((polynomials k).◌⊗◌ q q) (discriminant c) → Any (λ r. r ≡ q) ps)
+          (λ q. IsDivisorIn (polynomials k).ops ((polynomials k).◌⊗◌ q q) (discriminant c)
           → MaximalAt (ring_of c).ops (of_poly c q) (IsIntegralAt (setting_of c) Finite) M)
           (λ q listed d. maximal_at q (listed d)) qs listed) z,
     )
@@ -93,10 +93,10 @@ module _ (k : CodeField) where
       (λ j d less. irreducible_value k (get_or qs j d) (over j d less) (irreducible j d less))
 
   pub listed_values : (c : Equation k) (primes qs : List (List ℕ))
-      → All (λ q. IsDivisorOf (polynomials k).ops ((polynomials k).◌⊗◌ (value k q) (value k q)) (discriminant c) → Any (λ r. r ≡ q) primes) qs
-      → All (λ q. IsDivisorOf (polynomials k).ops ((polynomials k).◌⊗◌ q q) (discriminant c) → Any (λ r. r ≡ q) (map (value k) primes)) (map (value k) qs)
+      → All (λ q. IsDivisorIn (polynomials k).ops ((polynomials k).◌⊗◌ (value k q) (value k q)) (discriminant c) → Any (λ r. r ≡ q) primes) qs
+      → All (λ q. IsDivisorIn (polynomials k).ops ((polynomials k).◌⊗◌ q q) (discriminant c) → Any (λ r. r ≡ q) (map (value k) primes)) (map (value k) qs)
   listed_values c primes qs listed =
-      All-map (λ q. IsDivisorOf (polynomials k).ops ((polynomials k).◌⊗◌ q q) (discriminant c) → Any (λ r. r ≡ q) (map (value k) primes)) (value k) qs
-      (All-weaker (λ q. IsDivisorOf (polynomials k).ops ((polynomials k).◌⊗◌ (value k q) (value k q)) (discriminant c) → Any (λ r. r ≡ q) primes)
-      (λ q. IsDivisorOf (polynomials k).ops ((polynomials k).◌⊗◌ (value k q) (value k q)) (discriminant c) → Any (λ r. r ≡ value k q) (map (value k) primes))
+      All-map (λ q. IsDivisorIn (polynomials k).ops ((polynomials k).◌⊗◌ q q) (discriminant c) → Any (λ r. r ≡ q) (map (value k) primes)) (value k) qs
+      (All-weaker (λ q. IsDivisorIn (polynomials k).ops ((polynomials k).◌⊗◌ (value k q) (value k q)) (discriminant c) → Any (λ r. r ≡ q) primes)
+      (λ q. IsDivisorIn (polynomials k).ops ((polynomials k).◌⊗◌ (value k q) (value k q)) (discriminant c) → Any (λ r. r ≡ value k q) (map (value k) primes))
       (λ q find d. any_value primes q (find d)) qs listed)

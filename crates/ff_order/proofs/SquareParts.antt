@@ -5,7 +5,7 @@ use Rattle.ring_theory.specs.Ring.{CommRing, pow}
 use Rattle.ring_theory.proofs.Ring.{mul_zero, mul_left_comm}
 use Rattle.std.proofs.lemmas.List.{length-append}
 use Rattle.ff_poly.proofs.Results.{product_of_nil}
-use Rattle.linear_theory.specs.Euclidean.{IsDivisorOf}
+use Rattle.linear_theory.specs.Euclidean.{IsDivisorIn}
 use Rattle.linear_theory.proofs.Euclid.{OrderAt, order_at, order_unique, euclid}
 use Rattle.ff_fields.specs.Field.{CodeField}
 use Rattle.ff_fields.specs.Over.{IsOver}
@@ -29,7 +29,7 @@ module _ (k : CodeField) where
     pub irreducible : IsIrreducible k.ops q
 
   -- two of which one divides the other are the same
-  divides_same : (p q : List ℕ) → IsPrime p → IsPrime q → IsDivisorOf (polynomials k).ops (value k p) (value k q) → p ≡ q
+  divides_same : (p q : List ℕ) → IsPrime p → IsPrime q → IsDivisorIn (polynomials k).ops (value k p) (value k q) → p ≡ q
   divides_same p q p_prime q_prime d = by (cofactor_one m.quotient (monic_factor k p m.quotient p_prime.over p_poly p_prime.irreducible.monic m.quotient_in m.quotient_poly some (subst IsMonic m.product q_prime.irreducible.monic)) short)
     where
       p_poly : IsPoly p
@@ -97,7 +97,7 @@ module _ (k : CodeField) where
     Q_irreducible = irreducible_value k q q_prime.over q_prime.irreducible
 
     abbrev Divisor : Polynomial k → Type 0
-    Divisor a = IsDivisorOf (polynomials k).ops (value k q) a
+    Divisor a = IsDivisorIn (polynomials k).ops (value k q) a
 
     prime : (a b : Polynomial k) → Divisor ((polynomials k).◌⊗◌ a b) → Divisor a ⊎ Divisor b
     prime a b d = euclid (euclidean k) Q (irreducible k Q Q_irreducible) a b d
@@ -135,7 +135,7 @@ module _ (k : CodeField) where
       pub order : ℕ
       pub cofactor : Polynomial k
       pub is : product_of_powers fs ≡ (polynomials k).◌⊗◌ (pow (polynomials k).ops (value k q) order) cofactor
-      pub free : ¬ IsDivisorOf (polynomials k).ops (value k q) cofactor
+      pub free : ¬ IsDivisorIn (polynomials k).ops (value k q) cofactor
       pub part : (order ≡ 0) ⊎ ((i : ℕ) × (i < length fs) × (get_or fs i ([], 0) ≡ (q, order)))
 
     orders : (fs : List (List ℕ × ℕ)) → AreDifferent fs → HasOrder fs
@@ -170,7 +170,7 @@ module _ (k : CodeField) where
 
     -- where its square divides the product, it is a part with an exponent of 2 or more
     pub square_part : (u v d : Polynomial k) (fs : List (List ℕ × ℕ)) → AreDifferent fs → (polynomials k).◌⊗◌ u v ≡ (polynomials k).𝟙
-        → d ≡ (polynomials k).◌⊗◌ u (product_of_powers fs) → ¬ (d ≡ (polynomials k).𝟘) → IsDivisorOf (polynomials k).ops ((polynomials k).◌⊗◌ (value k q) (value k q)) d
+        → d ≡ (polynomials k).◌⊗◌ u (product_of_powers fs) → ¬ (d ≡ (polynomials k).𝟘) → IsDivisorIn (polynomials k).ops ((polynomials k).◌⊗◌ (value k q) (value k q)) d
         → (i : ℕ) × (i < length fs) × ((get_or fs i ([], 0)).0 ≡ q) × (2 ≤ (get_or fs i ([], 0)).1)
     square_part u v d fs different unit d_is some (w, e) = go r.part
       where

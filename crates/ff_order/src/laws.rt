@@ -2,7 +2,7 @@
 
 ghost use Rattle.std.specs.Prelude.{◌≡◌, ◌↔◌, ◌≤◌, map, All};
 ghost use Rattle.std.specs.List.{Any};
-ghost use Rattle.linear_theory.specs.Euclidean.{IsDivisorOf};
+ghost use Rattle.linear_theory.specs.Euclidean.{IsDivisorIn};
 ghost use Rattle.ff_fields.specs.Over.{IsOver};
 ghost use Rattle.ff_poly.specs.Words.{IsIrreducible};
 ghost use Rattle.ff_poly.specs.Value.{value};
@@ -42,9 +42,9 @@ pub fn integral_law<K: SmallField>(
     requires factors_in { All (IsOver (K.field k.now).ops) factors.now }
     requires irreducible { All (IsIrreducible (K.field k.now).ops) factors.now }
     requires product { let k = K.field k.now in
-        IsDivisorOf (polynomials k).ops (discriminant (equation_of k p.now)) (polynomial_product k (map (value k) factors.now)) }
+        IsDivisorIn (polynomials k).ops (discriminant (equation_of k p.now)) (polynomial_product k (map (value k) factors.now)) }
     requires listed { let k = K.field k.now in
-        All (λ q. IsDivisorOf (polynomials k).ops ((polynomials k).◌⊗◌ (value k q) (value k q)) (discriminant (equation_of k p.now)) → Any (λ r. r ≡ q) primes.now) factors.now }
+        All (λ q. IsDivisorIn (polynomials k).ops ((polynomials k).◌⊗◌ (value k q) (value k q)) (discriminant (equation_of k p.now)) → Any (λ r. r ≡ q) primes.now) factors.now }
     ensures { let k = K.field k.now in
         (z : Functions k p.now) → Contains k p.now m.now z ↔ IsIntegralAt (setting k p.now) Finite z }
 {}

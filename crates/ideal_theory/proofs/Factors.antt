@@ -7,7 +7,7 @@ use Rattle.ring_theory.proofs.Ring.{mul_zero}
 use Rattle.ring_theory.specs.Polynomials.{constant}
 use Rattle.ring_theory.proofs.Evaluate.{constant_hom}
 use Rattle.ring_theory.proofs.Polynomials.{length_product}
-use Rattle.linear_theory.specs.Euclidean.{IsDivisorOf}
+use Rattle.linear_theory.specs.Euclidean.{IsDivisorIn}
 use Rattle.ff_fields.specs.Field.{CodeField}
 use Rattle.ff_fields.specs.Code.{code_ring, code_domain}
 use Rattle.ff_poly.specs.Words.{IsIrreducible}
@@ -25,7 +25,7 @@ module _ {k : CodeField} (c : Equation k) where
   pub record Factors (g : Polynomial k) : Type 0 where
     pub list : List (Polynomial k)
     pub irreducible : All (λ p. IsIrreducible k.ops (codes_of k p)) list
-    pub divides : IsDivisorOf (polynomials k).ops g (polynomial_product k list)
+    pub divides : IsDivisorIn (polynomials k).ops g (polynomial_product k list)
 
   factors_below : (n : ℕ) (g : Polynomial k) → ¬ (g ≡ (polynomials k).𝟘) → length g.0 < n → Factors g
   factors_below zero g some l = absurd (omega arith)

@@ -7,7 +7,7 @@ use Rattle.ring_theory.specs.Rows.{entry}
 use Rattle.ring_theory.specs.Subsets.{IsModule}
 use Rattle.prime_theory.specs.Ideals.{SameSet}
 use Rattle.prime_theory.specs.Orders.{MaximalAt}
-use Rattle.linear_theory.specs.Euclidean.{IsDivisorOf}
+use Rattle.linear_theory.specs.Euclidean.{IsDivisorIn}
 use Rattle.ff_fields.specs.Field.{CodeField}
 use Rattle.ff_poly.specs.Words.{IsIrreducible}
 use Rattle.ff_poly.specs.Polynomials.{Polynomial, polynomials, codes_of}
@@ -44,21 +44,21 @@ module _ {k : CodeField} (c : Equation k) where
       (some : ¬ (discriminant c ≡ (polynomials k).𝟘)) where
     -- maximal at those polynomials, it is the maximal order
     pub maximal_everywhere : ((p : Polynomial k) → IsIrreducible k.ops (codes_of k p)
-        → IsDivisorOf (polynomials k).ops ((polynomials k).◌⊗◌ p p) (discriminant c)
+        → IsDivisorIn (polynomials k).ops ((polynomials k).◌⊗◌ p p) (discriminant c)
         → MaximalAt (ring_of c).ops (of_poly c p) (Int c) O) → SameSet O (Int c)
     maximal_everywhere at z = (
       order_integral c O 𝓞 z,
       let f = factors c (discriminant c) some in
           maximal_order c O 𝓞.ring (coordinates_in O (lattice_module c O 𝓞.lattice) has) f.list f.divides f.irreducible
           (All-weaker (λ p. IsIrreducible k.ops (codes_of k p))
-          (λ p. IsDivisorOf (polynomials k).ops ((polynomials k).◌⊗◌ p p) (discriminant c)
+          (λ p. IsDivisorIn (polynomials k).ops ((polynomials k).◌⊗◌ p p) (discriminant c)
           → MaximalAt (ring_of c).ops (of_poly c p) (Int c) O)
           (λ p h d. at p h d) f.list f.irreducible) z,
     )
 
     pub recorded_everywhere :
         ((p : Polynomial k) → IsIrreducible k.ops (codes_of k p)
-        → IsDivisorOf (polynomials k).ops ((polynomials k).◌⊗◌ p p) (discriminant c)
+        → IsDivisorIn (polynomials k).ops ((polynomials k).◌⊗◌ p p) (discriminant c)
         → (ps : List (RecordedPrime c O)) × IsRecordAt c O p ps) → SameSet O (Int c)
     recorded_everywhere records =
         maximal_everywhere (λ p h d. let r = records p h d in record_maximal c p h O 𝓞 r.0 r.1)

@@ -20,7 +20,7 @@ ghost use Rattle.prime_theory.specs.Ideals.{SameSet, Multiple, Inverse, Invertib
 ghost use Rattle.prime_theory.specs.Orders.{MaximalAt};
 ghost use Rattle.prime_theory.specs.Primes.{IsPrime};
 ghost use Rattle.prime_theory.specs.Systems.{IsFamily, IsSystem, AreDistinctPrimes};
-ghost use Rattle.linear_theory.specs.Euclidean.{IsDivisorOf};
+ghost use Rattle.linear_theory.specs.Euclidean.{IsDivisorIn};
 ghost use Rattle.ring_theory.specs.Ring.{pow};
 ghost use Rattle.ring_theory.specs.Subsets.{IsModule, Product, Colon};
 ghost use Rattle.order_theory.specs.Orders.{IsOrder};
@@ -194,7 +194,7 @@ pub fn recorded_order_law<S: FunctionSets>()
         → ((i : ℕ) → i < degree_of_y S.equation → S.first (pow (ring_of S.equation).ops (y_of S.equation) i))
         → ¬ (discriminant S.equation ≡ (polynomials S.field).𝟘)
         → ((p : Polynomial S.field) → IsIrreducible S.field.ops (codes_of S.field p)
-        → IsDivisorOf (polynomials S.field).ops ((polynomials S.field).◌⊗◌ p p) (discriminant S.equation)
+        → IsDivisorIn (polynomials S.field).ops ((polynomials S.field).◌⊗◌ p p) (discriminant S.equation)
         → MaximalAt (ring_of S.equation).ops (of_poly S.equation p) (IsIntegralAt (setting_of S.equation) Finite)
         S.first)
         → SameSet S.first (IsIntegralAt (setting_of S.equation) Finite) }
@@ -202,7 +202,7 @@ pub fn recorded_order_law<S: FunctionSets>()
         → ((i : ℕ) → i < degree_of_y S.equation → S.first (pow (ring_of S.equation).ops (y_of S.equation) i))
         → ¬ (discriminant S.equation ≡ (polynomials S.field).𝟘)
         → ((p : Polynomial S.field) → IsIrreducible S.field.ops (codes_of S.field p)
-        → IsDivisorOf (polynomials S.field).ops ((polynomials S.field).◌⊗◌ p p) (discriminant S.equation)
+        → IsDivisorIn (polynomials S.field).ops ((polynomials S.field).◌⊗◌ p p) (discriminant S.equation)
         → (ps : List (RecordedPrime S.equation S.first)) × IsRecordAt S.equation S.first p ps)
         → SameSet S.first (IsIntegralAt (setting_of S.equation) Finite) }
 {}

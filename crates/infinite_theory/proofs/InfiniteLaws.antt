@@ -4,7 +4,7 @@ use Rattle.std.specs.Prelude.{ℤ, pos}
 use Rattle.ring_theory.specs.Subsets.{Span}
 use Rattle.ring_theory.proofs.Ring.{one_mul}
 use Rattle.prime_theory.specs.Ideals.{SameSet}
-use Rattle.linear_theory.specs.Euclidean.{IsDivisorOf}
+use Rattle.linear_theory.specs.Euclidean.{IsDivisorIn}
 use Rattle.ff_fields.specs.Field.{CodeField}
 use Rattle.ff_poly.specs.Polynomials.{polynomials, x_poly}
 use Rattle.function_field.specs.declared.side.Side.{Side}
@@ -76,7 +76,7 @@ module _ (k : CodeField) (p q : PresValue) (c : ℕ) (f : Functions k q → Func
       (taken_maximal (equation_of k q) (x_poly k) (x_irreducible k))
 
   -- where the square of t doesn't divide the discriminant they are k[t][Y]
-  pub whole_members : ¬ IsDivisorOf (polynomials k).ops ((polynomials k).◌⊗◌ (x_poly k) (x_poly k))
+  pub whole_members : ¬ IsDivisorIn (polynomials k).ops ((polynomials k).◌⊗◌ (x_poly k) (x_poly k))
       (discriminant (equation_of k q)) → (z : Functions k q)
       → HasPolynomialCoordinates (equation_of k q) z
       ↔ (HasPowerDenominator (equation_of k q) (x_poly k) z × IsIntegralAt (setting k p) Infinite (f z))

@@ -16,7 +16,7 @@ use Rattle.ff_fields.specs.Field.{CodeField}
 use Rattle.ff_fields.specs.Over.{IsOver, IsOver_nil, IsOver_cons, IsOver_head}
 use Rattle.ff_fields.specs.Code.{code_ring, same_code, zero_in, read_code, read_code_below}
 use Rattle.ff_fields.specs.Numbers.{read}
-use Rattle.linear_theory.specs.Euclidean.{IsDivisorOf}
+use Rattle.linear_theory.specs.Euclidean.{IsDivisorIn}
 use Rattle.ff_poly.specs.Value.{value, numbers_value}
 use Rattle.ff_poly.specs.Words.{IsIrreducible}
 use Rattle.ff_poly.specs.Polynomials.{Polynomial, polynomials, codes_of, value_codes_of, value_nil, value_one, value_cons, series_read, IsOver_codes_of, x_poly, constant_poly}
@@ -57,7 +57,7 @@ module _ (k : CodeField) where
   }
 
   -- the variable divides what it has a factor of, and then the first code is 0
-  first_of_multiple : (a : Polynomial k) → IsDivisorOf (polynomials k).ops (x_poly k) a
+  first_of_multiple : (a : Polynomial k) → IsDivisorIn (polynomials k).ops (x_poly k) a
       → coeff_of (code_ring k).ops a.0 0 ≡ (code_ring k).𝟘
   first_of_multiple a d =
       ap (λ b. coeff_of (code_ring k).ops b.0 0) d.1 ∙ series_mul (code_ring k) (x_poly k) d.0 0
@@ -72,12 +72,12 @@ module _ (k : CodeField) where
 
   -- a list that does not begin with 0 stands for no multiple of the variable
   pub first_not_zero : (w : List ℕ) → IsOver k.ops w → ¬ (get_or w 0 0 ≡ 0)
-      → ¬ (IsDivisorOf (polynomials k).ops (x_poly k) (value k w))
+      → ¬ (IsDivisorIn (polynomials k).ops (x_poly k) (value k w))
   first_not_zero w w_in n d =
       n (sym (first_read w w_in) ∙ ap (λ x. x.0) (sym (series_read k w 0) ∙ first_of_multiple (value k w) d))
 
   -- a list that begins with 0 stands for a multiple
-  pub first_zero : (w : List ℕ) → get_or w 0 0 ≡ 0 → IsDivisorOf (polynomials k).ops (x_poly k) (value k w)
+  pub first_zero : (w : List ℕ) → get_or w 0 0 ≡ 0 → IsDivisorIn (polynomials k).ops (x_poly k) (value k w)
   first_zero [] e = ((polynomials k).𝟘, value_nil k ∙ sym (mul_zero (polynomials k).ring (x_poly k)))
   first_zero (c ∷ w) e =
       let z : c ≡ 0 = e in (
@@ -125,7 +125,7 @@ module _ (k : CodeField) (p q : PresValue) (c : ℕ) (h : IsInfinitePresentation
       codes = codes_of k m.polynomial;
       codes_over = IsOver_codes_of k m.polynomial;
       first = λ e. m.not_divided
-          (subst (IsDivisorOf (polynomials k).ops (x_poly k)) (value_codes_of k m.polynomial)
+          (subst (IsDivisorIn (polynomials k).ops (x_poly k)) (value_codes_of k m.polynomial)
           (first_zero k (codes_of k m.polynomial) e));
       value = ap f m.value ∙ map_poly k p q c h some m.polynomial ∙ at_codes k p T m.polynomial;
     },

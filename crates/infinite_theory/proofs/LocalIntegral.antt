@@ -4,7 +4,7 @@ use Rattle.std.proofs.Common.{◌≡◌, ◌↔◌, sym, subst}
 use Rattle.ring_theory.proofs.Ring.{one_mul}
 use Rattle.prime_theory.specs.Ideals.{SameSet}
 use Rattle.prime_theory.specs.Orders.{MaximalAt}
-use Rattle.linear_theory.specs.Euclidean.{IsDivisorOf}
+use Rattle.linear_theory.specs.Euclidean.{IsDivisorIn}
 use Rattle.ff_fields.specs.Field.{CodeField}
 use Rattle.ff_poly.specs.Words.{IsIrreducible}
 use Rattle.ff_poly.specs.Polynomials.{Polynomial, polynomials, codes_of}
@@ -79,7 +79,7 @@ module _ {k : CodeField} (c : Equation k) (p : Polynomial k) (h : IsIrreducible 
   taken_maximal = larger_maximal c p h (HasPolynomialCoordinates c)
 
   -- where the square of p doesn't divide the discriminant they are k[x][y]
-  pub taken_whole : ¬ IsDivisorOf (polynomials k).ops ((polynomials k).◌⊗◌ p p) (discriminant c)
+  pub taken_whole : ¬ IsDivisorIn (polynomials k).ops ((polynomials k).◌⊗◌ p p) (discriminant c)
       → SameSet Taken (HasPolynomialCoordinates c)
   taken_whole free z = (
     λ m. maximal_at c p h free z m.exponent m.in_Int m.inside,

@@ -11,7 +11,7 @@ ghost use Rattle.ring_theory.specs.Ring.{pow};
 ghost use Rattle.ring_theory.specs.Subsets.{IsModule, Span, Product, Colon};
 ghost use Rattle.ff_fields.specs.Field.{CodeField};
 ghost use Rattle.linear_theory.specs.Basis.{IsSum};
-ghost use Rattle.linear_theory.specs.Euclidean.{IsDivisorOf};
+ghost use Rattle.linear_theory.specs.Euclidean.{IsDivisorIn};
 ghost use Rattle.ff_poly.specs.Words.{IsIrreducible};
 ghost use Rattle.ff_poly.specs.Polynomials.{Polynomial, polynomials, codes_of, x_poly};
 ghost use Rattle.function_field.specs.declared.side.Side.TheVariants.{Finite, Infinite};
@@ -138,7 +138,7 @@ pub fn supported_order_law()
         × MaximalAt (ring_of c).ops (of_poly c p) (IsIntegralAt (setting_of c) Finite)
         (TakenByPowers c p (HasPolynomialCoordinates c)) }
     ensures whole { (k : CodeField) (c : Equation k) (p : Polynomial k) → IsIrreducible k.ops (codes_of k p)
-        → ¬ IsDivisorOf (polynomials k).ops ((polynomials k).◌⊗◌ p p) (discriminant c)
+        → ¬ IsDivisorIn (polynomials k).ops ((polynomials k).◌⊗◌ p p) (discriminant c)
         → SameSet (TakenByPowers c p (HasPolynomialCoordinates c)) (HasPolynomialCoordinates c) }
 {}
 
@@ -208,7 +208,7 @@ pub fn infinite_maximal_law()
     ensures whole { (k : CodeField) (p q : PresValue) (c : ℕ) (f : Functions k q → Functions k p)
         → IsInfiniteMap k p q c f
         → ¬ (discriminant (equation_of k q) ≡ (polynomials k).𝟘)
-        → ¬ IsDivisorOf (polynomials k).ops ((polynomials k).◌⊗◌ (x_poly k) (x_poly k))
+        → ¬ IsDivisorIn (polynomials k).ops ((polynomials k).◌⊗◌ (x_poly k) (x_poly k))
         (discriminant (equation_of k q)) → (z : Functions k q)
         → HasPolynomialCoordinates (equation_of k q) z
         ↔ (HasPowerDenominator (equation_of k q) (x_poly k) z × IsIntegralAt (setting k p) Infinite (f z)) }

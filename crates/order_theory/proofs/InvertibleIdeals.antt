@@ -20,7 +20,7 @@ use Rattle.prime_theory.proofs.Primes.{ideal_neg}
 use Rattle.prime_theory.proofs.PohstZassenhaus.{multiples_ideal}
 use Rattle.prime_theory.proofs.Invertible.{Obstruction, obstruction, unit_at, trace_at, trace_of_local, trace_ideal}
 use Rattle.linear_theory.specs.Basis.{IsSum}
-use Rattle.linear_theory.specs.Euclidean.{IsDivisorOf}
+use Rattle.linear_theory.specs.Euclidean.{IsDivisorIn}
 use Rattle.linear_theory.proofs.Euclid.{decide_divisor}
 use Rattle.ff_fields.specs.Field.{CodeField}
 use Rattle.ff_fields.specs.Code.{code_ring, code_domain}
@@ -133,7 +133,7 @@ module _ (k : CodeField) (g : Polynomial k) (some : ¬ (g ≡ (polynomials k).�
   open polynomials k use {𝟘, 𝟙, ◌⊗◌}
 
   abbrev Divisor : Polynomial k → Type 0
-  Divisor b = (2 ≤ length b.0) × IsDivisorOf (polynomials k).ops b g
+  Divisor b = (2 ≤ length b.0) × IsDivisorIn (polynomials k).ops b g
 
   long_some : (b : Polynomial k) → 2 ≤ length b.0 → ¬ (b ≡ 𝟘)
   long_some b l e = let z : length b.0 ≡ 0 = ap (λ p. length p.0) e ∙ zero_length k in absurd (omega arith)
@@ -148,7 +148,7 @@ module _ (k : CodeField) (g : Polynomial k) (some : ¬ (g ≡ (polynomials k).�
       go (inr l) = no (λ h. let m = h.0 in absurd (omega arith))
       go (inl l) = by (decide_divisor (euclidean k) b g (long_some b l))
         where
-          by : Dec (IsDivisorOf (polynomials k).ops b g) → Dec (Divisor b)
+          by : Dec (IsDivisorIn (polynomials k).ops b g) → Dec (Divisor b)
           by (yes d) = yes (l, d)
           by (no n) = no (λ h. n h.1)
 
@@ -167,7 +167,7 @@ module _ (k : CodeField) (g : Polynomial k) (some : ¬ (g ≡ (polynomials k).�
   pub divisor_of : Polynomial k
   divisor_of = monic.product
 
-  pub divides_it : IsDivisorOf (polynomials k).ops divisor_of g
+  pub divides_it : IsDivisorIn (polynomials k).ops divisor_of g
   unfolding divisor_of
   divides_it =
       let d = least.has.1 in (

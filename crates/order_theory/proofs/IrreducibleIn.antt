@@ -8,7 +8,7 @@ use Rattle.ring_theory.proofs.Solver.{ring, reads}
 use Rattle.ring_theory.specs.Polynomials.{constant}
 use Rattle.ring_theory.proofs.Evaluate.{constant_hom}
 use Rattle.ring_theory.proofs.Polynomials.{length_product}
-use Rattle.linear_theory.specs.Euclidean.{IsDivisorOf}
+use Rattle.linear_theory.specs.Euclidean.{IsDivisorIn}
 use Rattle.linear_theory.proofs.Euclid.{bezout}
 use Rattle.ff_fields.specs.Field.{CodeField}
 use Rattle.ff_fields.specs.Code.{same_code, Code, code_ring, code_domain, is_zero_code}
@@ -185,10 +185,10 @@ module _ {k : CodeField} (c : Equation k) (gs : List (FunctionOf c))
   -- two irreducible polynomials in the place divide each other
   pub divides_other : (p q : Polynomial k) → IsIrreducible k.ops (codes_of k p) → IsIrreducible k.ops (codes_of k q)
       → In p → In q
-      → IsDivisorOf (polynomials k).ops p q
+      → IsDivisorIn (polynomials k).ops p q
   divides_other p q h h' p_in q_in = go (decide_divides k p h q)
     where
-      go : Dec (IsDivisorOf (polynomials k).ops p q) → IsDivisorOf (polynomials k).ops p q
+      go : Dec (IsDivisorIn (polynomials k).ops p q) → IsDivisorIn (polynomials k).ops p q
       go (yes d) = d
       go (no n) =
           let b = bezout (euclidean k) p (irreducible k p h) q n in
@@ -219,7 +219,7 @@ module _ {k : CodeField} (c : Equation k) (gs : List (FunctionOf c))
           let f : length b.0 ≡ length ((polynomials k).◌⊗◌ a u).0 = ap (λ p. length p.0) e in
           omega (arith, f, length_product (code_ring k) (code_domain k) a u n (factor a b u n e m))
 
-      go : IsDivisorOf (polynomials k).ops p q → IsDivisorOf (polynomials k).ops q p → p ≡ q
+      go : IsDivisorIn (polynomials k).ops p q → IsDivisorIn (polynomials k).ops q p → p ≡ q
       go (u, e) (v, f) =
           let n = irreducible_some k p h in
           let m = irreducible_some k q h' in

@@ -9,7 +9,7 @@ use Rattle.ring_theory.proofs.Local.{two_denominators}
 use Rattle.prime_theory.specs.Orders.{MaximalAt, Denominator, Enlarged}
 use Rattle.prime_theory.proofs.IntegralRing.{integral_of_order, integral_of_stable}
 use Rattle.prime_theory.proofs.Maximal.{maximal_iff_locally}
-use Rattle.linear_theory.specs.Euclidean.{IsDivisorOf}
+use Rattle.linear_theory.specs.Euclidean.{IsDivisorIn}
 use Rattle.linear_theory.proofs.Euclid.{bezout, order_at}
 use Rattle.ff_fields.specs.Field.{CodeField}
 use Rattle.ff_poly.specs.Words.{IsIrreducible}
@@ -68,7 +68,7 @@ module _ {k : CodeField} (c : Equation k) where
       (λ y h. (𝓛.spanned _).0 (f y ((𝓛.spanned y).1 h)))
 
   module _ (p : Polynomial k) (h : IsIrreducible k.ops (codes_of k p)) where
-    not_one : ¬ IsDivisorOf (polynomials k).ops p (polynomials k).𝟙
+    not_one : ¬ IsDivisorIn (polynomials k).ops p (polynomials k).𝟙
     not_one d = (irreducible k p h).nonunit (d.0, sym d.1)
 
     pub prime_to : PrimeTo (ring_of c).ops (IsPolynomial c) (IsPrimeTo c p) (of_poly c p)

@@ -3,7 +3,7 @@ use Rattle.std.specs.Prelude.{◌≡◌}
 use Rattle.function_field.specs.declared.side.Side.TheVariants.{Finite}
 use Rattle.function_field.specs.Places.{IsIntegralAt}
 use Rattle.ring_theory.specs.Subsets.{IsSubring}
-use Rattle.linear_theory.specs.Euclidean.{IsDivisorOf}
+use Rattle.linear_theory.specs.Euclidean.{IsDivisorIn}
 use Rattle.ff_fields.specs.Field.{CodeField}
 use Rattle.ff_poly.specs.Polynomials.{Polynomial, polynomials}
 use Rattle.function_field.specs.Functions.{Equation, FunctionOf, ring_of, of_poly, setting_of}
@@ -19,7 +19,7 @@ module _ {k : CodeField} (c : Equation k) where
   -- a polynomial that p doesn't divide
   pub record IsPrimeTo (p : Polynomial k) (z : FunctionOf c) : Type 0 where
     pub polynomial : Polynomial k
-    pub not_divided : ¬ IsDivisorOf (polynomials k).ops p polynomial
+    pub not_divided : ¬ IsDivisorIn (polynomials k).ops p polynomial
     pub value : z ≡ of_poly c polynomial
 
   -- the integral functions that a power of p takes into O

@@ -8,7 +8,7 @@ use Rattle.ring_theory.proofs.Ring.{zero_mul, mul_zero, eq_of_sub}
 use Rattle.ring_theory.proofs.Solver.{ring, reads, from_one}
 use Rattle.ring_theory.proofs.Polynomials.{series_add, series_neg, coeff_past}
 use Rattle.ring_theory.proofs.Division.{length_bound, short_multiple}
-use Rattle.linear_theory.specs.Euclidean.{IsDivisorOf}
+use Rattle.linear_theory.specs.Euclidean.{IsDivisorIn}
 use Rattle.ff_fields.specs.Field.{CodeField}
 use Rattle.ff_fields.specs.Code.{code_ring, code_domain, raw_ring}
 use Rattle.ff_fields.specs.Over.{IsOver}
@@ -36,7 +36,7 @@ module _ (k : CodeField) where
   divisor_of_divides b a b_in d = ap (value k) d.product ∙ value_product k b d.quotient b_in d.quotient_in
 
   -- what divides in k[x] divides as a list
-  pub divides_of_divisor : (b a : List ℕ) → IsOver k.ops b → IsOver k.ops a → IsPoly a → IsDivisorOf (polynomials k).ops (value k b) (value k a) → Divides k.ops b a
+  pub divides_of_divisor : (b a : List ℕ) → IsOver k.ops b → IsOver k.ops a → IsPoly a → IsDivisorIn (polynomials k).ops (value k b) (value k a) → Divides k.ops b a
   divides_of_divisor b a b_in a_in a_poly d = record {
     quotient = codes_of k d.0;
     quotient_in = IsOver_codes_of k d.0;
@@ -47,10 +47,10 @@ module _ (k : CodeField) where
         (d.1 ∙ sym (value_product k b (codes_of k d.0) b_in (IsOver_codes_of k d.0) ∙ ap ((polynomials k).◌⊗◌ (value k b)) (value_codes_of k d.0)));
   }
 
-  pub divisor_refl : (a : Polynomial k) → IsDivisorOf P.ops a a
+  pub divisor_refl : (a : Polynomial k) → IsDivisorIn P.ops a a
   divisor_refl a = (𝟙, sym (P.mul_one a))
 
-  pub divisor_length : (a b : Polynomial k) → ¬ (b ≡ 𝟘) → IsDivisorOf P.ops a b → length a.0 ≤ length b.0
+  pub divisor_length : (a b : Polynomial k) → ¬ (b ≡ 𝟘) → IsDivisorIn P.ops a b → length a.0 ≤ length b.0
   divisor_length a b b_some d =
       let a_some : ¬ (a ≡ 𝟘) = λ z. b_some (d.1 ∙ ap (λ x. x ⊗ d.0) z ∙ zero_mul P d.0) in
       let c_some : ¬ (d.0 ≡ 𝟘) = λ z. b_some (d.1 ∙ ap (λ x. a ⊗ x) z ∙ mul_zero P a) in
@@ -93,8 +93,8 @@ module _ (k : CodeField) where
           ∙ (code_ring k).add_neg (code_ring k).𝟘
 
   -- monic lists that divide each other are the same
-  pub monic_unique : (p q : List ℕ) → IsOver k.ops p → IsOver k.ops q → IsMonic p → IsMonic q → IsDivisorOf P.ops (value k p) (value k q)
-      → IsDivisorOf P.ops (value k q) (value k p) → p ≡ q
+  pub monic_unique : (p q : List ℕ) → IsOver k.ops p → IsOver k.ops q → IsMonic p → IsMonic q → IsDivisorIn P.ops (value k p) (value k q)
+      → IsDivisorIn P.ops (value k q) (value k p) → p ≡ q
   monic_unique p q p_in q_in p_monic q_monic d e =
       same_from_value k p q p_in q_in (monic_poly k p p_monic) (monic_poly k q q_monic) (sym (eq_of_sub P (value k q) (value k p) none))
     where

@@ -9,7 +9,7 @@ use Rattle.ring_theory.specs.Polynomials.{constant}
 use Rattle.ring_theory.proofs.Evaluate.{constant_hom}
 use Rattle.ring_theory.proofs.Lists.{coeff_trim}
 use Rattle.ring_theory.proofs.Polynomials.{series_mul, length_product}
-use Rattle.linear_theory.specs.Euclidean.{IsDivisorOf, IsUnit, Bezout, IsIrreducible as IsIrreducibleIn}
+use Rattle.linear_theory.specs.Euclidean.{IsDivisorIn, IsUnit, Bezout, IsIrreducible as IsIrreducibleIn}
 use Rattle.linear_theory.proofs.Euclid.{euclid, decide_divisor, bezout}
 use Rattle.ff_fields.specs.Field.{CodeField}
 use Rattle.ff_fields.specs.Code.{Code, code_ring, code_field, code_domain}
@@ -133,7 +133,7 @@ module _ (k : CodeField) where
     p_some = let l = p_long in some_of_long k p (omega arith)
 
     -- a divisor of smaller degree has degree 0
-    smaller_divisor : (d : Polynomial k) → IsDivisorOf (polynomials k).ops d p → length d.0 < length p.0 → IsUnit (polynomials k).ops d
+    smaller_divisor : (d : Polynomial k) → IsDivisorIn (polynomials k).ops d p → length d.0 < length p.0 → IsUnit (polynomials k).ops d
     smaller_divisor d (e, is) short = go (one_or_more (length d.0) (some_long k d d_some))
       where
         d_some : ¬ (d ≡ 𝟘)
@@ -181,11 +181,11 @@ module _ (k : CodeField) where
       smaller_divisors = smaller_divisor;
     }
 
-    pub decide_divides : (a : Polynomial k) → Dec (IsDivisorOf (polynomials k).ops p a)
+    pub decide_divides : (a : Polynomial k) → Dec (IsDivisorIn (polynomials k).ops p a)
     decide_divides a = decide_divisor (euclidean k) p a p_some
 
     -- it divides a factor of a product that it divides
-    pub prime : (a b : Polynomial k) → IsDivisorOf (polynomials k).ops p (a ⊗ b) → IsDivisorOf (polynomials k).ops p a ⊎ IsDivisorOf (polynomials k).ops p b
+    pub prime : (a b : Polynomial k) → IsDivisorIn (polynomials k).ops p (a ⊗ b) → IsDivisorIn (polynomials k).ops p a ⊎ IsDivisorIn (polynomials k).ops p b
     prime a b d = euclid (euclidean k) p irreducible a b d
 
     pub irreducible_some : ¬ (p ≡ 𝟘)
@@ -199,10 +199,10 @@ module _ (k : CodeField) where
     pub irreducible_list : IsIrreducibleIn (euclidean k) (value k p)
     irreducible_list = irreducible (value k p) codes
 
-    pub prime_list : (a b : Polynomial k) → IsDivisorOf (polynomials k).ops (value k p) (a ⊗ b)
-        → IsDivisorOf (polynomials k).ops (value k p) a ⊎ IsDivisorOf (polynomials k).ops (value k p) b
+    pub prime_list : (a b : Polynomial k) → IsDivisorIn (polynomials k).ops (value k p) (a ⊗ b)
+        → IsDivisorIn (polynomials k).ops (value k p) a ⊎ IsDivisorIn (polynomials k).ops (value k p) b
     prime_list = prime (value k p) codes
 
     -- what it doesn't divide has an inverse modulo it
-    pub inverse_modulo : (a : Polynomial k) → ¬ IsDivisorOf (polynomials k).ops (value k p) a → Bezout (polynomials k).ops a (value k p)
+    pub inverse_modulo : (a : Polynomial k) → ¬ IsDivisorIn (polynomials k).ops (value k p) a → Bezout (polynomials k).ops a (value k p)
     inverse_modulo a n = bezout (euclidean k) (value k p) irreducible_list a n

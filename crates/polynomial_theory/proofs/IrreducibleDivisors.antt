@@ -9,7 +9,7 @@ use Rattle.ff_fields.specs.Field.{CodeField}
 use Rattle.ff_fields.specs.Code.{Code, code_ring, code_domain}
 use Rattle.ff_fields.specs.Numbers.{numbers, read, numbers_read, IsOver_numbers}
 use Rattle.ff_fields.specs.Over.{IsOver, IsOver_nil, IsOver_cons, IsOver_head, IsOver_tail, IsOver_append}
-use Rattle.linear_theory.specs.Euclidean.{IsDivisorOf, IsUnit}
+use Rattle.linear_theory.specs.Euclidean.{IsDivisorIn, IsUnit}
 use Rattle.linear_theory.proofs.Euclid.{divisor_trans, decide_divisor}
 use Rattle.ff_poly.specs.Words.{IsMonic, IsIrreducible, Divides}
 use Rattle.ff_poly.specs.Value.{value}
@@ -75,7 +75,7 @@ module _ (k : CodeField) where
     pub over : IsOver k.ops codes
     pub monic : IsMonic codes
     pub size : length codes ≡ suc n
-    pub divides : IsDivisorOf R.ops (value k codes) d
+    pub divides : IsDivisorIn R.ops (value k codes) d
 
   monic_some : (b : List ℕ) → IsOver k.ops b → IsMonic b → ¬ (value k b ≡ 𝟘)
   monic_some b b_in m = some_value k b b_in (monic_poly k b m) (let l = ap length m.1 in let e = length_push m.0 1 in omega arith)
@@ -89,12 +89,12 @@ module _ (k : CodeField) where
 
   decide_monic : (n : ℕ) (d : Polynomial k) → Dec (MonicDivisor n d)
   unfolding monic_of
-  decide_monic n d = go (some_list n (λ xs. IsDivisorOf R.ops (value k (monic_of xs)) d) decide)
+  decide_monic n d = go (some_list n (λ xs. IsDivisorIn R.ops (value k (monic_of xs)) d) decide)
     where
-      decide : (xs : List (Code k)) → Dec (IsDivisorOf R.ops (value k (monic_of xs)) d)
+      decide : (xs : List (Code k)) → Dec (IsDivisorIn R.ops (value k (monic_of xs)) d)
       decide xs = decide_divisor (euclidean k) (value k (monic_of xs)) d (monic_some (monic_of xs) (over_of xs) (numbers k xs, refl))
 
-      go : Dec ((xs : List (Code k)) × (length xs ≡ n) × IsDivisorOf R.ops (value k (monic_of xs)) d) → Dec (MonicDivisor n d)
+      go : Dec ((xs : List (Code k)) × (length xs ≡ n) × IsDivisorIn R.ops (value k (monic_of xs)) d) → Dec (MonicDivisor n d)
       go (yes s) = yes (record {
         codes = monic_of s.0;
         over = over_of s.0;
@@ -113,7 +113,7 @@ module _ (k : CodeField) where
                 read k low,
                 let a = length-map (read k low) (λ x. x.0) in let b = ap length (numbers_read k low low_in) in let c = ap length m.monic.1 in
                     let e = length_push low 1 in let f = m.size in omega arith,
-                subst (λ b. IsDivisorOf R.ops (value k b) d) (sym same) m.divides,
+                subst (λ b. IsDivisorIn R.ops (value k b) d) (sym same) m.divides,
               )
             where
               lower_over : (low : List ℕ) → IsOver k.ops (low ++ 1 ∷ []) → IsOver k.ops low
@@ -158,7 +158,7 @@ module _ (k : CodeField) where
     pub codes : List ℕ
     pub over : IsOver k.ops codes
     pub irreducible : IsIrreducible k.ops codes
-    pub divides : IsDivisorOf R.ops (value k codes) d
+    pub divides : IsDivisorIn R.ops (value k codes) d
 
   pub irreducible_divisor : (n : ℕ) (d : Polynomial k) → 2 ≤ length d.0 → length d.0 < n → ¬ (d ≡ 𝟘) → IrreducibleDivisor d
   unfolding SmallDivisor
@@ -188,7 +188,7 @@ module _ (k : CodeField) where
           m : MadeMonic k d
           m = made_monic k d some
 
-          divides : IsDivisorOf R.ops (value k m.codes) d
+          divides : IsDivisorIn R.ops (value k m.codes) d
           divides = (m.inverse, sym (R.mul_one d) ∙ R.mul_comm d 𝟙 ∙ ap (λ w. w ⊗ d) (sym m.inverts) ∙ R.mul_assoc m.inverse m.factor d ∙ ap (λ w. m.inverse ⊗ w) (sym m.is) ∙ R.mul_comm m.inverse (value k m.codes))
 
           no_divisor : (b : List ℕ) → IsOver k.ops b → IsMonic b → 2 ≤ length b → length b < length m.codes → ¬ Divides k.ops b m.codes
@@ -207,7 +207,7 @@ module _ (k : CodeField) where
               )
 
   -- an irreducible polynomial that divides another one is that one
-  pub irreducible_unique : (p q : List ℕ) → IsOver k.ops p → IsIrreducible k.ops p → IsOver k.ops q → IsIrreducible k.ops q → IsDivisorOf R.ops (value k p) (value k q) → p ≡ q
+  pub irreducible_unique : (p q : List ℕ) → IsOver k.ops p → IsIrreducible k.ops p → IsOver k.ops q → IsIrreducible k.ops q → IsDivisorIn R.ops (value k p) (value k q) → p ≡ q
   irreducible_unique p q p_in p_irreducible q_in q_irreducible d =
       monic_unique k p q p_in q_in p_irreducible.monic q_irreducible.monic d
       (cofactor.0, sym (R.mul_one (value k p)) ∙ ap (λ x. value k p ⊗ x) (sym cofactor.1) ∙ sym (R.mul_assoc (value k p) d.0 cofactor.0) ∙ ap (λ x. x ⊗ cofactor.0) (sym d.1))

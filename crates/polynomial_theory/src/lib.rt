@@ -9,7 +9,7 @@ ghost use Rattle.ff_fields.specs.Over.{IsOver};
 ghost use Rattle.ff_poly.specs.Words.{IsMonic, IsIrreducible};
 ghost use Rattle.ff_poly.specs.Value.{value};
 ghost use Rattle.ff_poly.specs.Polynomials.{Polynomial, polynomials};
-ghost use Rattle.linear_theory.specs.Euclidean.{IsDivisorOf, Bezout};
+ghost use Rattle.linear_theory.specs.Euclidean.{IsDivisorIn, Bezout};
 ghost use Rattle.finite_algebra_theory.specs.ByMap.{FiniteField};
 ghost use Rattle.polynomial_theory.specs.Division.{Divided};
 
@@ -21,26 +21,26 @@ pub fn division_law()
 /// An irreducible polynomial that divides a product divides a factor.
 pub fn prime_law()
     ensures { (k : CodeField) (p : List ℕ) → IsOver k.ops p → IsIrreducible k.ops p → (a b : Polynomial k)
-        → IsDivisorOf (polynomials k).ops (value k p) ((polynomials k).◌⊗◌ a b)
-        → IsDivisorOf (polynomials k).ops (value k p) a ⊎ IsDivisorOf (polynomials k).ops (value k p) b }
+        → IsDivisorIn (polynomials k).ops (value k p) ((polynomials k).◌⊗◌ a b)
+        → IsDivisorIn (polynomials k).ops (value k p) a ⊎ IsDivisorIn (polynomials k).ops (value k p) b }
 {}
 
 /// What an irreducible polynomial doesn't divide has an inverse modulo it: a combination of the two is 1.
 pub fn inverse_law()
     ensures { (k : CodeField) (p : List ℕ) → IsOver k.ops p → IsIrreducible k.ops p → (a : Polynomial k)
-        → ¬ IsDivisorOf (polynomials k).ops (value k p) a → Bezout (polynomials k).ops a (value k p) }
+        → ¬ IsDivisorIn (polynomials k).ops (value k p) a → Bezout (polynomials k).ops a (value k p) }
 {}
 
 /// Each polynomial of degree 1 or more has an irreducible divisor.
 pub fn irreducible_divisor_law()
     ensures { (k : CodeField) (a : Polynomial k) → 2 ≤ length a.0
-        → (p : List ℕ) × IsOver k.ops p × IsIrreducible k.ops p × IsDivisorOf (polynomials k).ops (value k p) a }
+        → (p : List ℕ) × IsOver k.ops p × IsIrreducible k.ops p × IsDivisorIn (polynomials k).ops (value k p) a }
 {}
 
 /// Monic polynomials that divide each other are the same.
 pub fn monic_law()
     ensures { (k : CodeField) (p q : List ℕ) → IsOver k.ops p → IsOver k.ops q → IsMonic p → IsMonic q
-        → IsDivisorOf (polynomials k).ops (value k p) (value k q) → IsDivisorOf (polynomials k).ops (value k q) (value k p) → p ≡ q }
+        → IsDivisorIn (polynomials k).ops (value k p) (value k q) → IsDivisorIn (polynomials k).ops (value k q) (value k p) → p ≡ q }
 {}
 
 /// The codes of a field are a finite field: equality is decided, all are listed, each once, and each is its own q-th power.

@@ -6,7 +6,7 @@ use Rattle.ring_theory.specs.Ring.{pow}
 use Rattle.ring_theory.specs.Subsets.{Span}
 use Rattle.ring_theory.proofs.Ring.{mul_zero}
 use Rattle.ff_fields.specs.Field.{CodeField}
-use Rattle.linear_theory.specs.Euclidean.{IsDivisorOf}
+use Rattle.linear_theory.specs.Euclidean.{IsDivisorIn}
 use Rattle.ff_poly.specs.Polynomials.{Polynomial, polynomials, x_poly, x_poly_not_zero}
 use Rattle.function_field.specs.Functions.{Equation, FunctionOf, ring_of, of_poly, setting_of, degree_of_y, IsPolynomial, IsFiniteAtInfinity}
 use Rattle.function_field.specs.Values.{PresValue, Functions, functions, setting, equation_of}
@@ -73,7 +73,7 @@ module _ (k : CodeField) (p q : PresValue) (c : ℕ) (f : Functions k q → Func
 
   prime_some : (u : Functions k q) (h : IsPrimeTo (equation_of k q) (x_poly k) u) → ¬ (h.polynomial ≡ (polynomials k).𝟘)
   prime_some u h e =
-      h.not_divided (subst (IsDivisorOf (polynomials k).ops (x_poly k)) (sym e)
+      h.not_divided (subst (IsDivisorIn (polynomials k).ops (x_poly k)) (sym e)
       ((polynomials k).𝟘, sym (mul_zero (polynomials k).ring (x_poly k))))
 
   lattice : IsLattice (equation_of k q) L

@@ -6,7 +6,7 @@ use Rattle.ring_theory.proofs.Ring.{one_mul, product_not_zero}
 use Rattle.ring_theory.proofs.Solver.{ring, reads, from_one}
 use Rattle.prime_theory.specs.Orders.{MaximalAt}
 use Rattle.prime_theory.proofs.IntegralRing.{integral_base}
-use Rattle.linear_theory.specs.Euclidean.{IsDivisorOf, Bezout}
+use Rattle.linear_theory.specs.Euclidean.{IsDivisorIn, Bezout}
 use Rattle.linear_theory.proofs.Euclid.{bezout, decide_divisor}
 use Rattle.ff_fields.specs.Field.{CodeField}
 use Rattle.ff_poly.specs.Words.{IsIrreducible}
@@ -55,11 +55,11 @@ module _ {k : CodeField} (c : Equation k) (O : FunctionOf c → Type 0) (𝓞 : 
           from_one (ring_of c) w e (ring (ring_of c) (l ∷ a ∷ r ∷ b ∷ w ∷ []) λ q h. simp (reads, q, h 0, h 1, h 2, h 3, h 4) (q.equal _ _ refl))
 
   module _ (p : Polynomial k) (h : IsIrreducible k.ops (codes_of k p)) where
-    decide : (a b : Polynomial k) → ¬ (b ≡ (polynomials k).𝟘) → Dec (IsDivisorOf (polynomials k).ops b a)
+    decide : (a b : Polynomial k) → ¬ (b ≡ (polynomials k).𝟘) → Dec (IsDivisorIn (polynomials k).ops b a)
     decide a b n = decide_divisor (euclidean k) b a n
 
     -- where the square of p doesn't divide the discriminant, O has what p takes into it
-    free_step : ¬ IsDivisorOf (polynomials k).ops ((polynomials k).◌⊗◌ p p) (discriminant c) → (w : FunctionOf c) → Int w → O (of_poly c p ⊗ w) → O w
+    free_step : ¬ IsDivisorIn (polynomials k).ops ((polynomials k).◌⊗◌ p p) (discriminant c) → (w : FunctionOf c) → Int w → O (of_poly c p ⊗ w) → O w
     free_step free w w_int p_in = go (decide (discriminant c) p (irreducible_some k p h))
       where
         at_cofactor : (u : Polynomial k) → discriminant c ≡ (polynomials k).◌⊗◌ p u → O w
@@ -72,22 +72,22 @@ module _ {k : CodeField} (c : Equation k) (O : FunctionOf c → Type 0) (𝓞 : 
             (ap (λ d. (ring_of c).◌⊗◌ d w) (ap (of_poly c) is ∙ (poly_hom c).mul p u) ∙ (ring_of c).mul_assoc _ _ _)
             (discriminant_clears c w w_int)))) p_in
 
-        go : Dec (IsDivisorOf (polynomials k).ops p (discriminant c)) → O w
+        go : Dec (IsDivisorIn (polynomials k).ops p (discriminant c)) → O w
         go (yes (u, is)) = at_cofactor u is
         go (no n) =
             by_bezout (discriminant c) p (bezout (euclidean k) p (irreducible k p h) (discriminant c) n) w
             (contains ((ring_of c).◌⊗◌ (of_poly c (discriminant c)) w) (discriminant_clears c w w_int)) p_in
 
-    step : (IsDivisorOf (polynomials k).ops ((polynomials k).◌⊗◌ p p) (discriminant c) → MaximalAt (ring_of c).ops (of_poly c p) Int O)
+    step : (IsDivisorIn (polynomials k).ops ((polynomials k).◌⊗◌ p p) (discriminant c) → MaximalAt (ring_of c).ops (of_poly c p) Int O)
         → (w : FunctionOf c) → Int w → O (of_poly c p ⊗ w) → O w
     step maximal w w_int p_in = go (decide (discriminant c) ((polynomials k).◌⊗◌ p p) (product_not_zero (polynomials_domain k) p p (irreducible_some k p h) (irreducible_some k p h)))
       where
-        go : Dec (IsDivisorOf (polynomials k).ops ((polynomials k).◌⊗◌ p p) (discriminant c)) → O w
+        go : Dec (IsDivisorIn (polynomials k).ops ((polynomials k).◌⊗◌ p p) (discriminant c)) → O w
         go (yes d) = maximal d w 1 w_int (subst (λ x. O ((ring_of c).◌⊗◌ x w)) (sym ((ring_of c).mul_one (of_poly c p))) p_in)
         go (no n) = free_step n w w_int p_in
 
   abbrev SupportedAt : Polynomial k → Type 0
-  SupportedAt p = IsDivisorOf (polynomials k).ops ((polynomials k).◌⊗◌ p p) (discriminant c) → MaximalAt (ring_of c).ops (of_poly c p) Int O
+  SupportedAt p = IsDivisorIn (polynomials k).ops ((polynomials k).◌⊗◌ p p) (discriminant c) → MaximalAt (ring_of c).ops (of_poly c p) Int O
 
   cleared : (ps : List (Polynomial k)) → All (λ p. IsIrreducible k.ops (codes_of k p)) ps → All SupportedAt ps
       → (z : FunctionOf c) → Int z → O (of_poly c (polynomial_product k ps) ⊗ z) → O z
@@ -98,7 +98,7 @@ module _ {k : CodeField} (c : Equation k) (O : FunctionOf c → Type 0) (𝓞 : 
       (integral_times c (of_poly c (polynomial_product k ps)) z (polynomial_integral (polynomial_product k ps)) z_int)
       (subst O (ap (λ x. x ⊗ z) ((poly_hom c).mul p (polynomial_product k ps)) ∙ (ring_of c).mul_assoc _ _ _) z_in))
 
-  pub maximal_order : (ps : List (Polynomial k)) → IsDivisorOf (polynomials k).ops (discriminant c) (polynomial_product k ps)
+  pub maximal_order : (ps : List (Polynomial k)) → IsDivisorIn (polynomials k).ops (discriminant c) (polynomial_product k ps)
       → All (λ p. IsIrreducible k.ops (codes_of k p)) ps → All SupportedAt ps → (z : FunctionOf c) → Int z → O z
   maximal_order ps (u, is) h m z z_int =
       cleared ps h m z z_int

@@ -6,7 +6,7 @@ use Rattle.ring_theory.specs.Rows.{Row}
 use Rattle.ring_theory.proofs.Ring.{mul_left_comm, domain_cancel, product_not_zero, one_mul}
 use Rattle.ring_theory.proofs.Rows.{row_scale_one}
 use Rattle.ring_theory.proofs.Solver.{ring, reads, from_two}
-use Rattle.linear_theory.specs.Euclidean.{IsDivisorOf}
+use Rattle.linear_theory.specs.Euclidean.{IsDivisorIn}
 use Rattle.linear_theory.proofs.Domain.{least}
 use Rattle.ff_fields.specs.Field.{CodeField}
 use Rattle.ff_poly.specs.Words.{IsIrreducible}
@@ -34,14 +34,14 @@ module _ {k : CodeField} (c : Equation k) (p : Polynomial k) (h : IsIrreducible 
   open ring_of c use {◌⊗◌}
 
   abbrev Divides : Polynomial k → Type 0
-  Divides a = IsDivisorOf (polynomials k).ops p a
+  Divides a = IsDivisorIn (polynomials k).ops p a
 
   p_some : ¬ (p ≡ (K c).𝟘)
   p_some = irreducible_some k p h
 
   -- p doesn't divide a, and p² divides a²·b: p² divides b
   square_divides : (a b g : Polynomial k) → ¬ Divides a → (K c).◌⊗◌ a ((K c).◌⊗◌ a b) ≡ (K c).◌⊗◌ p ((K c).◌⊗◌ p g)
-      → IsDivisorOf (polynomials k).ops ((K c).◌⊗◌ p p) b
+      → IsDivisorIn (polynomials k).ops ((K c).◌⊗◌ p p) b
   square_divides a b g free e = at_first (twice b ((K c).◌⊗◌ p g) e)
     where
       other : (x : Polynomial k) → Divides ((polynomials k).◌⊗◌ a x) → Divides x
@@ -50,7 +50,7 @@ module _ {k : CodeField} (c : Equation k) (p : Polynomial k) (h : IsIrreducible 
       twice : (x y : Polynomial k) → (polynomials k).◌⊗◌ a ((polynomials k).◌⊗◌ a x) ≡ (polynomials k).◌⊗◌ p y → Divides x
       twice x y f = other x (other ((polynomials k).◌⊗◌ a x) (y, f))
 
-      at_first : Divides b → IsDivisorOf (polynomials k).ops ((polynomials k).◌⊗◌ p p) b
+      at_first : Divides b → IsDivisorIn (polynomials k).ops ((polynomials k).◌⊗◌ p p) b
       at_first (f, is) =
           let q = twice f g
           (domain_cancel (K c) (polynomials_domain k) p _ _ p_some
@@ -94,7 +94,7 @@ module _ {k : CodeField} (c : Equation k) (p : Polynomial k) (h : IsIrreducible 
   -- the square divides the discriminant, or the function has polynomial coordinates
   square_or_whole : (z : FunctionOf c) → HasPolynomialCoordinates c (of_poly c p ⊗ z)
       → ((i : ℕ) → i < degree_of_y c → IsPolynomial c (trace_of c (z ⊗ pow (ring_of c).ops (y_of c) i))) → IsPolynomial c (trace_of c (z ⊗ z))
-      → IsDivisorOf (polynomials k).ops ((K c).◌⊗◌ p p) (discriminant c) ⊎ HasPolynomialCoordinates c z
+      → IsDivisorIn (polynomials k).ops ((K c).◌⊗◌ p p) (discriminant c) ⊎ HasPolynomialCoordinates c z
   square_or_whole z times traces square = go (least (λ i. ¬ Divides (at (K c) c.lower_degree c.coefficients i times.coordinates)) (λ i. decide_not _) (suc c.lower_degree))
     where
       t : Choice (λ j a. Tr c ((R c).◌⊗◌ times.coordinates (Y c j)) ≡ (K c).◌⊗◌ p a) (suc c.lower_degree)
@@ -116,7 +116,7 @@ module _ {k : CodeField} (c : Equation k) (p : Polynomial k) (h : IsIrreducible 
       go : ((i : ℕ) × (i < suc c.lower_degree) × (¬ Divides (at (K c) c.lower_degree c.coefficients i times.coordinates))
           × ((j : ℕ) → j < i → ¬ ¬ Divides (at (K c) c.lower_degree c.coefficients j times.coordinates)))
           ⊎ ((i : ℕ) → i < suc c.lower_degree → ¬ ¬ Divides (at (K c) c.lower_degree c.coefficients i times.coordinates))
-          → IsDivisorOf (polynomials k).ops ((K c).◌⊗◌ p p) (discriminant c) ⊎ HasPolynomialCoordinates c z
+          → IsDivisorIn (polynomials k).ops ((K c).◌⊗◌ p p) (discriminant c) ⊎ HasPolynomialCoordinates c z
       go (inl (i, l, free, before)) =
           let g = entry_square (K c) c.lower_degree c.coefficients times.coordinates p t.chosen t.holds (polynomials_domain k) p_some square.polynomial squared i l in
           inl (square_divides (at (K c) c.lower_degree c.coefficients i times.coordinates) (discriminant c) g.0 free g.1)
@@ -126,18 +126,18 @@ module _ {k : CodeField} (c : Equation k) (p : Polynomial k) (h : IsIrreducible 
 
   pub square_law : (z : FunctionOf c) → HasPolynomialCoordinates c (of_poly c p ⊗ z) → ¬ HasPolynomialCoordinates c z
       → ((i : ℕ) → i < degree_of_y c → IsPolynomial c (trace_of c (z ⊗ pow (ring_of c).ops (y_of c) i))) → IsPolynomial c (trace_of c (z ⊗ z))
-      → IsDivisorOf (polynomials k).ops ((K c).◌⊗◌ p p) (discriminant c)
+      → IsDivisorIn (polynomials k).ops ((K c).◌⊗◌ p p) (discriminant c)
   square_law z times not_z traces square = elim (square_or_whole z times traces square) [ inl d ↦ d | inr w ↦ absurd (not_z w) ]
 
   -- where the square of p doesn't divide the discriminant, k[x][y] has each integral function that p takes into it
-  pub whole_at : ¬ IsDivisorOf (polynomials k).ops ((K c).◌⊗◌ p p) (discriminant c) → (z : FunctionOf c) → IsIntegralAt (setting_of c) Finite z
+  pub whole_at : ¬ IsDivisorIn (polynomials k).ops ((K c).◌⊗◌ p p) (discriminant c) → (z : FunctionOf c) → IsIntegralAt (setting_of c) Finite z
       → HasPolynomialCoordinates c (of_poly c p ⊗ z) → HasPolynomialCoordinates c z
   whole_at free z integral times =
       elim (square_or_whole z times (integral_traces c z integral) (integral_trace c Finite (z ⊗ z) (integral_times c z z integral integral)))
       [ inl d ↦ absurd (free d) | inr w ↦ w ]
 
   -- so it is maximal at p
-  pub maximal_at : ¬ IsDivisorOf (polynomials k).ops ((K c).◌⊗◌ p p) (discriminant c)
+  pub maximal_at : ¬ IsDivisorIn (polynomials k).ops ((K c).◌⊗◌ p p) (discriminant c)
       → MaximalAt (ring_of c).ops (of_poly c p) (IsIntegralAt (setting_of c) Finite) (HasPolynomialCoordinates c)
   maximal_at free z zero h g = subst (HasPolynomialCoordinates c) (one_mul (ring_of c) z) g
   maximal_at free z (suc n) h g =
