@@ -4,7 +4,7 @@ use Rattle.std.proofs.lemmas.List.Elements.{All-nil, All-cons, All-head, All-tai
 use Rattle.ring_theory.specs.Lists.{coeff_of}
 use Rattle.ring_theory.specs.Subsets.{Span}
 use Rattle.ring_theory.proofs.Solver.{ring, reads}
-use Rattle.ring_theory.specs.Polynomials.{constant}
+use Rattle.ring_theory.specs.Polynomials.{constant, pol_ops}
 use Rattle.ring_theory.proofs.Lists.{coeff_trim}
 use Rattle.linear_theory.specs.Module.{combine}
 use Rattle.ff_fields.specs.Field.{CodeField}
