@@ -1,3 +1,4 @@
 pub mod FactorRows
 pub mod OrderAnswers
+pub mod Products
 pub mod Truths
