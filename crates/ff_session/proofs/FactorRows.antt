@@ -2,7 +2,7 @@
 use Rattle.std.proofs.Common.{◌≡◌, ◌≢◌, ℕ, false, ◌-◌, ◌<◌, ◌≤◌, List, [], length, map, refl, sym, ap, ◌∙◌, subst, arith}
 use Rattle.ff_fields.specs.Field.{CodeField}
 use Rattle.ff_algebra.specs.CurveTerms.{IsCoefficient, degree_in_x}
-use Rattle.ff_factor.specs.Factors.{FactorsValue, IsFactorisation}
+use Rattle.ff_factor.specs.Factors.{IsFactorisation}
 use Rattle.ff_text.specs.declared.terms.Term.{Term}
 use Rattle.ff_text.specs.Printing.{IsWritableTerms}
 use Rattle.ff_text.specs.Values.{written_codes}

@@ -1,6 +1,5 @@
 -- Answers that are true, and what is refused.
-use Rattle.std.proofs.Common.{◌≡◌, ℕ, ◌<◌, ◌⊎◌, inl, inr, List, Option, Some, None, refl, sym, ap, ◌∙◌, subst, arith, All, get_or}
-use Rattle.std.specs.Prelude.{IsTrue}
+use Rattle.std.proofs.Common.{◌≡◌, ℕ, ◌+◌, ◌<◌, ◌⊎◌, inl, inr, List, length, Option, Some, None, refl, sym, ap, ◌∙◌, subst, arith, get_or}
 use Rattle.std.proofs.lemmas.List.Elements.{All-get_or}
 use native.Mathlib.Decide.{ℕ_discrete}
 use Rattle.ff_fields.specs.declared.fields.Field.{Field as AnyField}
@@ -33,12 +32,16 @@ use Rattle.ff_meaning.proofs.ElementValues.{none_found}
 use Rattle.ff_cert.specs.declared.answer.Answer.{Answer}
 use Rattle.ff_cert.specs.declared.answer.Answer.TheVariants as answers
 use Rattle.ff_cert.specs.declared.answer.PowerLine.{PowerLine}
+use Rattle.ff_cert.specs.Answers.{Answers}
+use Rattle.ff_cert.specs.Blocks.{SessionValue}
 use Rattle.ff_cert.specs.RowField.{IsFieldOf}
 use Rattle.ff_cert.specs.RowCurve.{IsCurveOfTerms}
 use Rattle.ff_cert.specs.RowMul as mul_row
 use Rattle.ff_cert.specs.RowFactor as factor_row
 use Rattle.ff_cert.specs.RowOrder as order_row
-use Rattle.ff_session.specs.Steps.{HasAnswer, IsFieldAnswer, IsCurveAnswer, IsProductRead, AreFactorsRead}
+use Rattle.ff_session.specs.declared.session.Bound.{Bound}
+use Rattle.ff_session.specs.Sessions.{IsStep}
+use Rattle.ff_session.specs.Steps.{bindings_after, HasAnswer, IsBlock, IsFieldAnswer, IsCurveAnswer, IsProductRead, AreFactorsRead}
 
 -- a field has no zero divisors
 no_divisors : (k : CodeField) (a b : ℕ) → a < k.ops.size → b < k.ops.size → k.ops.mul a b ≡ 0 → (a ≡ 0) ⊎ (b ≡ 0)
@@ -161,3 +164,21 @@ module _ (k : AnyField) (c : CurveValue) (s : Statement) where
         is_true = (data_is k, subst (λ (l : CodeField). order_row.IsTrue l c side zs) (sym (same_field k)) h, refl);
         not_refused = λ r found. found;
       })
+
+-- ---- a step
+
+-- the session has taken in the block of a true answer
+pub stepped : (old new : SessionValue) (s : Statement) (a : Answer) (next : Option Bound) (text : List ℕ) → HasAnswer old.bindings s a (bindings_after old.bindings next) → IsBlock old s a text
+    → new.bindings ≡ bindings_after old.bindings next → new.printed ≡ old.printed + length text → new.bare ≡ old.bare → IsStep old s text new
+stepped old new s a next text h b bound printed bare = record {
+  answer = a;
+  takes = record {
+    is_true = subst (Answers old.bindings s a) (sym bound) h.is_true;
+    not_refused = h.not_refused;
+    small = b.small;
+    room = b.room;
+    count = printed ∙ ap (λ t. old.printed + length t) b.is;
+    mode = bare;
+  };
+  printed = b.is;
+}
