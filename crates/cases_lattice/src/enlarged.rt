@@ -52,9 +52,10 @@ fn radical_at<K: SmallField>(
 ) -> Result<Lattice, AllocError>
     requires { IsCurve (K.field k.now) c.now }
 {
+    let p = c.fin();
     let pi = prime(alloc, k, text)?;
-    let start = equation_order(alloc, k, c.fin())?;
-    radical(alloc, k, c.fin(), &start, &pi)
+    let start = equation_order(alloc, k, p)?;
+    radical(alloc, k, p, &start, &pi)
 }
 
 // The multipliers of that radical.

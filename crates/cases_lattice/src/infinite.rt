@@ -16,7 +16,8 @@ fn is_plain<K: SmallField>(alloc: Global, k: &K, c: &Curve, z: &Elem) -> Result<
     requires z_in { IsElem (K.field k.now).ops c.now.fin.n z.now }
 {
     let start = infinite_start(alloc, k, c)?;
-    contains(alloc, k, start.lattice(), &to_inf(alloc, k, c, z)?)
+    let l = start.lattice();
+    contains(alloc, k, l, &to_inf(alloc, k, c, z)?)
 }
 
 // Is z a combination of the powers of Y over the fractions of degree at most 0?

@@ -1,6 +1,6 @@
 //! Orders and their ideals.
 
-ghost use Rattle.std.specs.Prelude.{IfOk, IfSome};
+ghost use Rattle.std.specs.Prelude.{IfOk};
 ghost use Rattle.function_field.specs.Values.{IsPresOver};
 ghost use Rattle.ff_lattice.specs.Orders.{IsOrder};
 
@@ -13,25 +13,15 @@ use ff_lattice::Order;
 use ff_lattice::ideals::is_ideal;
 use std::alloc::{AllocError, Global};
 
-// The order of the generators, where they have one.
-fn found<K: SmallField>(
-    alloc: Global,
-    k: &K,
-    p: &Pres,
-    text: &str,
-) -> Result<Option<Order>, AllocError>
-    requires { IsPresOver (K.field k.now).ops p.now }
-    ensures { IfOk result (λ o. IfSome o (IsOrder (K.field k.now) p.now)) }
-{
-    Order::new(alloc, k, p, lattice(alloc, k, p, text)?)
-}
-
 /// The order of the generators.
 pub fn order<K: SmallField>(alloc: Global, k: &K, p: &Pres, text: &str) -> Result<Order, AllocError>
     requires { IsPresOver (K.field k.now).ops p.now }
     ensures { IfOk result (IsOrder (K.field k.now) p.now) }
 {
-    found(alloc, k, p, text)?.ok_or(BAD)
+    match Order::new(alloc, k, p, lattice(alloc, k, p, text)?)? {
+        Some(o) => Ok(o),
+        None => Err(BAD),
+    }
 }
 
 // A copy of the order.
@@ -43,7 +33,7 @@ fn order_text<K: SmallField>(
 ) -> Result<String, AllocError>
     requires { IsPresOver (K.field k.now).ops p.now }
 {
-    match found(alloc, k, p, text)? {
+    match Order::new(alloc, k, p, lattice(alloc, k, p, text)?)? {
         Some(o) => lattice_text(alloc, o.copy(alloc)?.lattice()),
         None => "no order".to_string(alloc),
     }

@@ -1,7 +1,7 @@
 //! Orders modulo ideals.
 
 ghost use Rattle.std.specs.Prelude.{◌≡◌, IfOk};
-ghost use Rattle.function_field.specs.Values.{IsPresOver};
+ghost use Rattle.function_field.specs.Values.{IsElem, IsPresOver};
 ghost use Rattle.ff_falg.specs.Algebras.{IsVector};
 ghost use Rattle.ff_lattice.specs.Quotients.{IsQuotientOver, dimension};
 
@@ -10,7 +10,7 @@ use crate::orders::order;
 use case_values::matrices::codes;
 use case_values::print::codes_text;
 use case_values::read::{BAD, element, parted, presentation};
-use ff_algebra::Pres;
+use ff_algebra::{Elem, Pres};
 use ff_falg::FiniteAlgebra;
 use ff_fields::field::SmallField;
 use ff_lattice::Quotient;
@@ -37,8 +37,25 @@ fn modulo<K: SmallField>(
     Quotient::new(alloc, k, p, &o, &i)
 }
 
-// The codes of the class of the element, which has to be in the order.
+// The codes of the class of z, which has to be in the order.
 fn class<K: SmallField>(
+    alloc: Global,
+    k: &K,
+    q: &Quotient,
+    z: &Elem,
+) -> Result<Vec<u32>, AllocError>
+    requires over { IsQuotientOver (K.field k.now) q.now }
+    requires z_in { IsElem (K.field k.now).ops q.now.p.n z.now }
+    ensures { IfOk result (λ a. IsVector (K.field k.now).ops (dimension q.now) a.items) }
+{
+    if !contains(alloc, k, q.order().lattice(), z)? {
+        return Err(BAD);
+    }
+    q.reduce(alloc, k, z)
+}
+
+// The codes of the class of the element of the text.
+fn class_of<K: SmallField>(
     alloc: Global,
     k: &K,
     q: &Quotient,
@@ -48,10 +65,7 @@ fn class<K: SmallField>(
     ensures { IfOk result (λ a. IsVector (K.field k.now).ops (dimension q.now) a.items) }
 {
     let z = element(alloc, k, q.p().n(), text)?;
-    if !contains(alloc, k, q.order().lattice(), &z)? {
-        return Err(BAD);
-    }
-    q.reduce(alloc, k, &z)
+    class(alloc, k, q, &z)
 }
 
 // The codes of the class of what the codes are lifted to; as many as the dimension are wanted.
@@ -81,8 +95,8 @@ fn product<K: SmallField>(
     requires { IsQuotientOver (K.field k.now) q.now }
 {
     let (a, b) = parted(text)?;
-    let a = class(alloc, k, q, a)?;
-    let b = class(alloc, k, q, b)?;
+    let a = class_of(alloc, k, q, a)?;
+    let b = class_of(alloc, k, q, b)?;
     q.mul(alloc, k, a.as_slice(), b.as_slice())
 }
 
@@ -98,7 +112,7 @@ fn codes_of<K: SmallField>(
 {
     match word {
         "one" => <Quotient as FiniteAlgebra<K>>::one(q, alloc),
-        "class" => class(alloc, k, q, text),
+        "class" => class_of(alloc, k, q, text),
         "lifted" => class_of_lifted(alloc, k, q, text),
         _ => product(alloc, k, q, text),
     }
