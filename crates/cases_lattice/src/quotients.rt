@@ -51,7 +51,8 @@ fn class<K: SmallField>(
     if !contains(alloc, k, q.order().lattice(), z)? {
         return Err(BAD);
     }
-    q.reduce(alloc, k, z)
+    let codes = q.reduce(alloc, k, z)?;
+    Ok(codes)
 }
 
 // The codes of the class of the element of the text.

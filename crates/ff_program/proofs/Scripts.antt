@@ -1,19 +1,18 @@
 -- The statements of a short script can be taken by a session.
-use Rattle.std.proofs.Common.{◌≡◌, ℕ, suc, ◌+◌, ◌^◌, ◌<◌, ◌≤◌, ◌⊎◌, inl, inr, Bool, true, false, cond, List, [], ◌∷◌, ◌++◌, length, All, codes, refl, sym, ap, ◌∙◌, subst, arith}
+use Rattle.std.proofs.Common.{◌≡◌, ℕ, suc, ◌+◌, ◌^◌, ◌<◌, ◌≤◌, inl, inr, Bool, true, false, cond, List, [], ◌∷◌, length, All, codes, refl, sym, ap, ◌∙◌, subst, arith}
 use Rattle.std.specs.Prelude.{◌==◌, IfSome, Option, Some, None}
 use Rattle.std.specs.List.{slice_split, onto_first, AllByRecursion}
 use Rattle.std.proofs.lemmas.List.{length-append, append-nil}
 use Rattle.std.proofs.lemmas.List.Elements.{All-nil, All-cons}
 use Rattle.ff_text.specs.declared.terms.Term.{Term}
 use Rattle.ff_text.specs.declared.terms.ElemText.{ElemText}
-use Rattle.ff_text.specs.Spelling.{Then, Is, Blanks, Around, Each, FirstSign, SpellsFirst, SpellsOneTerm, SpellsTerms, SpellsDen, SpellsTail, SpellsEntries, SpellsElement}
+use Rattle.ff_text.specs.Spelling.{Then, Around, Each, FirstSign, SpellsFirst, SpellsOneTerm, SpellsTerms, SpellsDen, SpellsTail, SpellsEntries, SpellsElement}
 use Rattle.ff_text.specs.Values.{HasSmallExponents}
 use Rattle.ff_text.proofs.Exponents.{terms_small}
 use Rattle.ff_script.specs.declared.script.Statement.{Statement}
 use Rattle.ff_script.specs.declared.script.Statement.TheVariants.{FieldOf, CurveOf, Mul, Factor, OrderOf}
-use Rattle.ff_script.specs.Grammar.{IsGap, SpellsParts, ArePartsOf, SpellsLine}
-use Rattle.ff_script.specs.Scripts.{without_empty_last, lines_of, IsReadAs, IsScript, MayFollow, AreInOrderFrom}
-use Rattle.ff_script.specs.Printing.{IsWritable}
+use Rattle.ff_script.specs.Grammar.{SpellsParts, ArePartsOf, SpellsLine}
+use Rattle.ff_script.specs.Scripts.{without_empty_last, lines_of, IsReadAs, IsScript}
 use Rattle.ff_script.proofs.Writable.{line_writable}
 use Rattle.ff_meaning.specs.Bindings.{HasSmallElement, HasSmallPowers}
 use Rattle.ff_program.specs.Ready.{IsReady}
