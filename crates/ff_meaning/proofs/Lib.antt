@@ -4,3 +4,4 @@ pub mod EntrySums
 pub mod ElementValues
 pub mod ReadElements
 pub mod LowestElements
+pub mod ProductDivisors

@@ -11,6 +11,7 @@ use ff_fields::fault::FieldFault;
 use ff_fields::fields::Field;
 use ff_fields::prime::PrimeField;
 use ff_fields::residue::ResidueField;
+use ff_fields::table::TableField;
 use ff_poly::Poly;
 use ff_script::Modulus;
 use std::alloc::{AllocError, Global};
@@ -28,6 +29,17 @@ pub fn field(p: u32, tail: &Option<Modulus>) -> Result<Field, FieldFault>
             let k = ResidueField::new(p, modulus.m, modulus.codes.codes.as_slice())?;
             Ok(Field::Residue(k))
         }
+    }
+}
+
+/// The same field by tables of powers and logarithms, or as it is where no code has all the powers. Products and inverses take two
+/// look-ups then; the tables take 6 bytes for each element.
+pub fn by_tables(alloc: Global, k: Field) -> Result<Field, AllocError>
+    ensures { IfOk result (λ t. field_of t ≡ field_of k) }
+{
+    match TableField::new(alloc, &k)? {
+        Some(table) => Ok(Field::Table(table)),
+        None => Ok(k),
     }
 }
 

@@ -9,6 +9,6 @@ pub mod refusal;
 pub mod written;
 
 pub use elements::element;
-pub use fields::{field, field_refusal};
+pub use fields::{by_tables, field, field_refusal};
 pub use polynomials::{degree_in_x, polynomial, sum};
 pub use refusal::{Refusal, push_refusal, refusal_text};

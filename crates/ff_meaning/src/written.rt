@@ -1,16 +1,19 @@
 //! Functions as they are written: lowest terms, in x and y. All that is printed of a function passes here.
 
-ghost use Rattle.std.specs.Prelude.{◌≡◌, ◌≤◌, IfOk};
+ghost use Rattle.std.specs.Prelude.{◌≡◌, ◌≢◌, [], ◌≤◌, IfOk};
+ghost use Rattle.ff_fields.specs.Over.{IsOver};
+ghost use Rattle.ff_poly.specs.Words.{product_of};
 ghost use Rattle.function_field.specs.Values.{IsElem, IsMonicElem, function_of};
 ghost use Rattle.function_field.specs.Infinity.{function_on};
 ghost use Rattle.function_field.specs.Curves.{IsCurve};
+ghost use Rattle.ff_factor.specs.LowestTerms.{AreIrreducible, HasFactorsOf};
 ghost use Rattle.ff_meaning.specs.LowestTerms.{IsWritten};
 
 use ff_algebra::Side;
 use ff_algebra::curve::Curve;
 use ff_algebra::elem::{Elem, Pres};
 use ff_algebra::sides::to_fin;
-use ff_factor::lowest_terms;
+use ff_factor::{cancel, factor};
 use ff_fields::field::SmallField;
 use ff_poly::Poly;
 use ff_text::Written;
@@ -27,6 +30,27 @@ fn copies(alloc: Global, polys: &[Poly]) -> Result<Vec<Poly>, AllocError>
     Ok(copies)
 }
 
+/// The function of the element, written in lowest terms, where each irreducible monic divisor of the denominator is listed. It takes
+/// one division of each part a turn, with a turn for each time that a divisor is cancelled and one more for each divisor.
+pub fn in_lowest_terms_by<K: SmallField>(
+    alloc: Global,
+    k: &K,
+    f: &Pres,
+    z: &Elem,
+    divisors: &[Poly],
+) -> Result<Written, AllocError>
+    requires positive { 1 ≤ f.now.n }
+    requires element { IsElem (K.field k.now).ops f.now.n z.now }
+    requires irreducible { AreIrreducible (K.field k.now).ops divisors.now }
+    requires each { HasFactorsOf (K.field k.now).ops divisors.now z.now.den }
+    ensures { let k = K.field k.now in IfOk result (IsWritten k f.now (function_of k f.now z.now)) }
+{
+    let mut num = copies(alloc, z.num())?;
+    let mut den = z.den().copy(alloc)?;
+    cancel(alloc, k, &mut num, &mut den, divisors)?;
+    Ok(Written::new(num, den))
+}
+
 /// The function of the element, written in lowest terms. It takes the factors of the denominator.
 pub fn in_lowest_terms<K: SmallField>(
     alloc: Global,
@@ -38,10 +62,8 @@ pub fn in_lowest_terms<K: SmallField>(
     requires element { IsElem (K.field k.now).ops f.now.n z.now }
     ensures { let k = K.field k.now in IfOk result (IsWritten k f.now (function_of k f.now z.now)) }
 {
-    let mut num = copies(alloc, z.num())?;
-    let mut den = z.den().copy(alloc)?;
-    lowest_terms(alloc, k, &mut num, &mut den)?;
-    Ok(Written::new(num, den))
+    let divisors = factor(alloc, k, z.den())?.polys(alloc)?;
+    in_lowest_terms_by(alloc, k, f, z, divisors.as_slice())
 }
 
 /// The element of the side's presentation, in x and y.
@@ -82,4 +104,24 @@ pub fn written<K: SmallField>(
 {
     let z = in_x_and_y(alloc, k, curve, side, r)?;
     in_lowest_terms(alloc, k, curve.fin(), &z)
+}
+
+/// The irreducible monic divisors of the product of a and b, which aren't 0: those of a, then those of b. One that divides both
+/// stands twice.
+/// Cost: that of `factor` for a and for b, which is less than for their product.
+pub fn divisors_of_product<K: SmallField>(
+    alloc: Global,
+    k: &K,
+    a: &Poly,
+    b: &Poly,
+) -> Result<Vec<Poly>, AllocError>
+    requires over { let ops = (K.field k.now).ops in IsOver ops a.now × IsOver ops b.now }
+    requires not_zero { (a.now ≢ []) × (b.now ≢ []) }
+    ensures irreducible { IfOk result (λ ps. AreIrreducible (K.field k.now).ops ps.items) }
+    ensures each { let ops = (K.field k.now).ops in IfOk result (λ ps. HasFactorsOf ops ps.items (product_of ops a.now b.now)) }
+{
+    let mut divisors = factor(alloc, k, a)?.polys(alloc)?;
+    let mut others = factor(alloc, k, b)?.polys(alloc)?;
+    divisors.append(&mut others)?;
+    Ok(divisors)
 }

@@ -8,11 +8,11 @@ ghost use Rattle.ff_session.specs.Steps.{IsFieldAnswer};
 use ff_cert::Answer;
 use ff_fields::field::SmallField;
 use ff_fields::fields::Field;
-use ff_meaning::{Refusal, field, field_refusal};
+use ff_meaning::{Refusal, by_tables, field, field_refusal};
 use ff_script::Modulus;
 use std::alloc::Global;
 
-/// The size of the field that the line names, and the field.
+/// The size of the field that the line names, and the field, by tables where it has them: at most 400,000 bytes.
 pub fn answer_field(
     alloc: Global,
     p: u32,
@@ -24,6 +24,7 @@ pub fn answer_field(
 {
     match field(p, tail) {
         Ok(k) => {
+            let k = by_tables(alloc, k)?;
             let q = u64::from(k.size());
             Ok((Answer::FieldOf { q }, k))
         }

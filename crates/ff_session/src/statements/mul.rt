@@ -10,13 +10,14 @@ ghost use Rattle.ff_session.specs.Steps.{IsProductRead};
 
 use crate::statements::factor::MAX_DEGREE;
 use ff_algebra::elem::{Pres, mul};
+
 use ff_fields::field::SmallField;
-use ff_meaning::written::in_lowest_terms;
+use ff_meaning::written::{divisors_of_product, in_lowest_terms_by};
 use ff_meaning::{Refusal, element};
 use ff_text::{ElemText, Written};
 use std::alloc::Global;
 
-/// The product of the elements, in lowest terms. It takes the square of the degrees, and the factors of the denominator.
+/// The product of the elements, in lowest terms. It takes the square of the degrees, and the factors of both denominators.
 pub fn product<K: SmallField>(
     alloc: Global,
     k: &K,
@@ -35,5 +36,6 @@ pub fn product<K: SmallField>(
     let left = element(alloc, k, f.n(), MAX_DEGREE, a)?;
     let right = element(alloc, k, f.n(), MAX_DEGREE, b)?;
     let z = mul(alloc, k, f, &left, &right)?;
-    Ok(in_lowest_terms(alloc, k, f, &z)?)
+    let divisors = divisors_of_product(alloc, k, left.den(), right.den())?;
+    Ok(in_lowest_terms_by(alloc, k, f, &z, divisors.as_slice())?)
 }

@@ -22,7 +22,7 @@ returns-in_err-right-clause-refused g c =
 pub returns-clause-product : goal.returns-clause-product
 returns-clause-product g c =
     let k = g.K.SmallField.field c.args.k.now in
-    product_read k c.args.f.now c.args.a.now c.args.b.now c.in_ok-left.left c.in_ok-right.right c.in_ok-z.z c.in_ok-in_lowest_terms.field-0
+    product_read k c.args.f.now c.args.a.now c.args.b.now c.in_ok-left.left c.in_ok-right.right c.in_ok-z.z c.in_ok-in_lowest_terms_by.field-0
     (subst (λ n. IsElementRead k n max_degree c.args.a.now c.in_ok-left.left) c.n.ensures.n c.in_ok-left.ensures.read)
     (subst (λ n. IsElementRead k n max_degree c.args.b.now c.in_ok-right.right) c.n-2.ensures.n c.in_ok-right.ensures.read)
-    c.in_ok-z.ensures.product c.in_ok-in_lowest_terms.ensures
+    c.in_ok-z.ensures.product c.in_ok-in_lowest_terms_by.ensures
