@@ -1,5 +1,5 @@
 -- The rows of a statement tell one refusal at most.
-use Rattle.std.proofs.Common.{◌≡◌, ℕ, ◌-◌, ◌<◌, ◌≤◌, ◌⊎◌, inl, inr, List, [], ◌∷◌, length, get_or, refl, sym, ap, ap₂, ◌∙◌, subst, arith, All, Option, Some, None}
+use Rattle.std.proofs.Common.{◌≡◌, ℕ, ◌-◌, ◌<◌, ◌≤◌, ◌⊎◌, inl, inr, List, [], ◌∷◌, length, get_or, refl, sym, ap, ap₂, ◌∙◌, subst, arith, Option, Some, None}
 use Rattle.std.specs.Prelude.{flat_map}
 use Rattle.std.proofs.lemmas.Bool.{cases_lt}
 use Rattle.std.proofs.lemmas.List.Elements.{All-nil, All-append, All-get_or}
@@ -9,7 +9,7 @@ use Rattle.ff_fields.specs.Field.{FieldOps, CodeField}
 use Rattle.ff_fields.specs.Prime.{prime_of}
 use Rattle.ff_fields.specs.Over.{IsOver}
 use Rattle.ff_fields.specs.Modulus.{IsFirstOutside, IsZeroProduct, IsLeastZeroProduct, IsFaultOf}
-use Rattle.ff_fields.specs.FieldData.{FieldData, IsField, ops_of, with_laws}
+use Rattle.ff_fields.specs.FieldData.{FieldData, ops_of, with_laws}
 use Rattle.function_field.specs.Values.{ElemValue}
 use Rattle.function_field.specs.Curves.{CurveValue}
 use Rattle.ff_algebra.specs.CurveTerms.{IsCurveFault}
@@ -24,8 +24,8 @@ use Rattle.ff_meaning.specs.declared.refusal.Refusal.{Refusal}
 use Rattle.ff_meaning.specs.declared.refusal.Refusal.TheVariants.{LimitX, CodeRange}
 use Rattle.ff_meaning.specs.Limits.{max_degree}
 use Rattle.ff_meaning.specs.Bindings.{Bindings, Bound, with_field, with_curve, IsSomeWith}
-use Rattle.ff_meaning.specs.SameBindings.{AreSameFields, AreSameCurves, AreSame, NothingBound, OneField, OneCurve}
-use Rattle.ff_meaning.specs.Meaning.{AreCodesBelow, codes_of_den, codes_of_element, IsSumOf, IsPolyOf, ArePolysOf, IsDenOf, IsElementOf, degree_of_element}
+use Rattle.ff_meaning.specs.SameBindings.{AreSameFields, AreSame, NothingBound, OneField, OneCurve}
+use Rattle.ff_meaning.specs.Meaning.{AreCodesBelow, codes_of_den, codes_of_element, IsSumOf, ArePolysOf, IsDenOf, IsElementOf, degree_of_element}
 use Rattle.ff_meaning.specs.Refusals.{IsCodeRow, IsFieldLineFault, refusal_of_field, IsFieldRow, refusal_of_curve, IsNoCurve, IsWithin, IsElementRow, IsProductRow, IsFactorRow, IsRefusalRow}
 use Rattle.ff_meaning.specs.Refusals as rows
 use Rattle.ff_meaning.proofs.TermCodes.{same_terms}

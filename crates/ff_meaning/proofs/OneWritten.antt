@@ -1,9 +1,9 @@
 -- A function is written in one way.
-use Rattle.std.proofs.Common.{◌≡◌, ℕ, suc, ◌-◌, ◌≤◌, List, length, refl, sym, ap, ◌∙◌, subst, arith}
+use Rattle.std.proofs.Common.{◌≡◌, suc, ◌-◌, ◌≤◌, length, sym, ap, ◌∙◌, subst, arith}
 use Rattle.std.proofs.lemmas.List.{length-map}
 use Rattle.ff_fields.specs.Field.{CodeField}
 use Rattle.ff_poly.specs.Words.{product_of}
-use Rattle.function_field.specs.Values.{ElemValue, PresValue, IsElem, Functions}
+use Rattle.function_field.specs.Values.{PresValue, IsElem, Functions}
 use Rattle.function_field.proofs.SameValues.{same_iff, monic_some}
 use Rattle.ff_text.specs.Printed.{WrittenValue}
 use Rattle.ff_factor.specs.LowestTerms.{IsInLowestTermsOf}
