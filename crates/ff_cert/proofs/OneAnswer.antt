@@ -79,23 +79,29 @@ one_product k p some a b z w h g =
     let right = same_element k.ops b h.right g.right h.is_right g.is_right in
     one_written k p some (product g.left g.right) z w (subst (λ f. IsWritten k p f z) (ap₂ product left right) h.product) g.product
 
-same_powers : (ls ms : List PowerLine) → map (λ (l : PowerLine). (l.poly, l.exponent)) ls ≡ map (λ (l : PowerLine). (l.poly, l.exponent)) ms → ls ≡ ms
+-- the powers as a factorisation has them
+abbrev pair : PowerLine → List ℕ × ℕ
+pair l = (l.poly, l.exponent)
+
+abbrev pairs : List PowerLine → List (List ℕ × ℕ)
+pairs ls = map pair ls
+
+same_powers : (ls ms : List PowerLine) → pairs ls ≡ pairs ms → ls ≡ ms
 same_powers [] [] e = refl
 same_powers [] (m ∷ ms) e = absurd cc
 same_powers (l ∷ ls) [] e = absurd cc
 same_powers (l ∷ ls) (m ∷ ms) e =
-    let polys : l.poly ≡ m.poly = cc in
-    let exponents : l.exponent ≡ m.exponent = cc in
-    let first : l ≡ m = λ i. record { exponent = exponents i; poly = polys i } in
-    ap₂ (λ x xs. x ∷ xs) first (same_powers ls ms cc)
+    let first : pair l ≡ pair m = cc in
+    let others : pairs ls ≡ pairs ms = cc in
+    ap₂ (λ x xs. x ∷ xs) (λ i. record { exponent = (first i).1; poly = (first i).0 }) (same_powers ls ms others)
 
 one_factors : (k : CodeField) (g : List Term) (u v : ℕ) (ls ms : List PowerLine) → factor_row.IsTrue k.ops g u ls → factor_row.IsTrue k.ops g v ms → (u ≡ v) × (ls ≡ ms)
 one_factors k g u v ls ms h j =
     let same = same_poly k.ops g h.sum j.sum h.is_sum j.is_sum in
     let one =
-    one_factorisation k j.sum (record { unit = u; parts = map (λ (l : PowerLine). (l.poly, l.exponent)) ls })
-    (record { unit = v; parts = map (λ (l : PowerLine). (l.poly, l.exponent)) ms })
-    (subst (λ s. IsFactorisation k.ops s (record { unit = u; parts = map (λ (l : PowerLine). (l.poly, l.exponent)) ls })) same h.factors) j.factors in
+    one_factorisation k j.sum (record { unit = u; parts = pairs ls })
+    (record { unit = v; parts = pairs ms })
+    (subst (λ s. IsFactorisation k.ops s (record { unit = u; parts = pairs ls })) same h.factors) j.factors in
     (ap (λ f. f.unit) one, same_powers ls ms (ap (λ f. f.parts) one))
 
 -- ---- the answer is of the statement's kind

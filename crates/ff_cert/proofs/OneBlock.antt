@@ -18,7 +18,7 @@ use Rattle.ff_cert.proofs.OneAnswer.{IsOne, one_answer}
 
 -- ---- the other way round
 
-fields_turned : (d e : FieldData) → AreSameFields d e → AreSameFields e d
+abbrev fields_turned : (d e : FieldData) → AreSameFields d e → AreSameFields e d
 fields_turned d e h = record { left = h.right; right = h.left; ops = sym h.ops }
 
 curves_turned : (d e : FieldData) (c : CurveValue) → AreSameCurves d e c → AreSameCurves e d c

@@ -1,16 +1,14 @@
 -- The integral functions of a side are printed in one way: their lattice has one form, and a function is written in one way.
 use Rattle.std.proofs.Common.{◌≡◌, ℕ, ◌≤◌, ◌↔◌, List, [], ◌∷◌, map, refl, sym, ap₂, ◌∙◌, subst, arith, All}
 use Rattle.std.proofs.lemmas.List.Elements.{All-head, All-tail}
-use Rattle.ring_theory.specs.Subsets.{Span}
 use Rattle.ff_fields.specs.Field.{CodeField}
 use Rattle.ff_fields.specs.Over.{IsOver}
 use Rattle.ff_poly.specs.Words.{IsPoly, IsMonic}
 use Rattle.ff_poly.specs.Popov.{IsRow}
 use Rattle.function_field.specs.declared.side.Side.{Side}
 use Rattle.function_field.specs.declared.side.Side.TheVariants.{Finite, Infinite}
-use Rattle.function_field.specs.Functions.{IsPolynomial}
 use Rattle.function_field.specs.Places.{IsIntegralAt}
-use Rattle.function_field.specs.Values.{ElemValue, Functions, functions, function_of, setting, equation_of}
+use Rattle.function_field.specs.Values.{ElemValue, Functions, function_of, setting}
 use Rattle.function_field.specs.Infinity.{function_on}
 use Rattle.function_field.specs.Curves.{CurveValue, IsCurve}
 use Rattle.ff_algebra.proofs.OtherSide.{on_finite_side}
@@ -56,8 +54,8 @@ module _ (k : CodeField) (c : CurveValue) (curve : IsCurve k c) where
 
   finite_members : (l : LatticeValue) → IsIntegralLattice k c Finite l → (z : Functions k c.fin) → Contains k c.fin l z ↔ IsIntegralAt (setting k c.fin) Finite z
   finite_members l h z =
-      subst (λ gs. Span (functions k c.fin).ops (IsPolynomial (equation_of k c.fin)) gs z ↔ IsIntegralAt (setting k c.fin) Finite z)
-      (finite_elems l.rows l.den h.form.rows_in (popov_poly c.fin.n l.rows h.form.popov) h.form.den_in h.form.den_poly h.form.monic) (h.span z)
+      subst (SpansIntegral k c Finite)
+      (finite_elems l.rows l.den h.form.rows_in (popov_poly c.fin.n l.rows h.form.popov) h.form.den_in h.form.den_poly h.form.monic) h.span z
 
   same_set : {A B C : Type 0} → A ↔ C → B ↔ C → A ↔ B
   same_set f g = (λ a. g.1 (f.0 a), λ b. f.1 (g.0 b))
