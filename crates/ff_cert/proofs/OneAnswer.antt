@@ -16,7 +16,7 @@ use Rattle.ff_script.specs.declared.script.Modulus.{Modulus}
 use Rattle.ff_script.specs.declared.script.Statement.{Statement}
 use Rattle.ff_script.specs.declared.script.Statement.TheVariants.{FieldOf, CurveOf, Mul, Factor, OrderOf}
 use Rattle.ff_meaning.specs.FieldLines.{Names}
-use Rattle.ff_meaning.specs.Bindings.{Bindings, nothing, with_field, with_curve, ForField, ForCurve}
+use Rattle.ff_meaning.specs.Bindings.{Bindings, with_curve, ForField, ForCurve}
 use Rattle.ff_meaning.specs.SameBindings.{AreSameFields, AreSameCurves, AreSame, NothingBound, OneField, OneCurve}
 use Rattle.ff_meaning.specs.LowestTerms.{IsWritten}
 use Rattle.ff_meaning.proofs.ElementValues.{same_poly}

@@ -14,7 +14,7 @@ use Rattle.ff_cert.specs.declared.answer.Answer.{Answer}
 use Rattle.ff_cert.specs.Answers.{Answers, degree_of_answer}
 use Rattle.ff_cert.specs.Blocks.{SessionValue, output_after, block_text, IsTextRow, degree, output, Refuses, row, text, Takes}
 use Rattle.ff_cert.specs.SameSessions.{AreSameSessions}
-use Rattle.ff_cert.proofs.OneAnswer.{IsOne, one_answer}
+use Rattle.ff_cert.proofs.OneAnswer.{one_answer}
 
 -- ---- the other way round
 

@@ -18,7 +18,6 @@ use Rattle.ff_lattice.proofs.OneForm.{one_form}
 use Rattle.value_theory.specs.IntegralLattices.{SpansIntegral, SpansOverPowersOfT, IsIntegralLattice}
 use Rattle.value_theory.proofs.InfiniteLattices.{integral_members}
 use Rattle.ff_text.specs.Printed.{WrittenValue}
-use Rattle.ff_meaning.specs.LowestTerms.{IsWritten}
 use Rattle.ff_meaning.proofs.OneWritten.{one_written}
 use Rattle.ff_cert.specs.RowOrder as order_row
 use Rattle.ff_cert.proofs.WrittenRows.{written_functions}

@@ -1,4 +1,4 @@
-use Rattle.ff_cert.proofs.OneAnswer.{IsOne, one_answer}
+use Rattle.ff_cert.proofs.OneAnswer.{one_answer}
 use Rattle.ff_cert.proofs.laws.one_answer.Goals as goal
 
 pub returns-clause-answer : goal.returns-clause-answer
