@@ -1,5 +1,5 @@
 -- The rows of a statement tell one refusal at most.
-use Rattle.std.proofs.Common.{◌≡◌, ℕ, ◌-◌, ◌<◌, ◌≤◌, ◌⊎◌, inl, inr, List, [], ◌∷◌, length, get_or, refl, sym, ap, ap₂, ◌∙◌, subst, arith, Option, Some, None}
+use Rattle.std.proofs.Common.{◌≡◌, ◌≢◌, ℕ, ◌-◌, ◌<◌, ◌≤◌, ◌⊎◌, inl, inr, List, [], ◌∷◌, length, get_or, refl, sym, ap, ap₂, ◌∙◌, subst, arith, Option, Some, None}
 use Rattle.std.specs.Prelude.{flat_map}
 use Rattle.std.proofs.lemmas.Bool.{cases_lt}
 use Rattle.std.proofs.lemmas.List.Elements.{All-nil, All-append, All-get_or}
@@ -12,6 +12,8 @@ use Rattle.ff_fields.specs.Modulus.{IsFirstOutside, IsZeroProduct, IsLeastZeroPr
 use Rattle.ff_fields.specs.FieldData.{FieldData, ops_of, with_laws}
 use Rattle.function_field.specs.Values.{ElemValue}
 use Rattle.function_field.specs.Curves.{CurveValue}
+use Rattle.ff_algebra.specs.declared.curve.CurveFault.{CurveFault}
+use Rattle.ff_algebra.specs.declared.curve.CurveFault.TheVariants as curves
 use Rattle.ff_algebra.specs.CurveTerms.{IsCurveFault}
 use Rattle.ff_algebra.proofs.CurveFaults.{one_fault}
 use Rattle.ff_text.specs.declared.terms.Term.{Term}
@@ -21,7 +23,7 @@ use Rattle.ff_script.specs.declared.script.Modulus.{Modulus}
 use Rattle.ff_script.specs.declared.script.Statement.{Statement}
 use Rattle.ff_script.specs.declared.script.Statement.TheVariants.{FieldOf, CurveOf, Mul, Factor, OrderOf}
 use Rattle.ff_meaning.specs.declared.refusal.Refusal.{Refusal}
-use Rattle.ff_meaning.specs.declared.refusal.Refusal.TheVariants.{LimitX, CodeRange}
+use Rattle.ff_meaning.specs.declared.refusal.Refusal.TheVariants.{LimitX, CodeRange, Memory}
 use Rattle.ff_meaning.specs.Limits.{max_degree}
 use Rattle.ff_meaning.specs.Bindings.{Bindings, Bound, with_field, with_curve, IsSomeWith}
 use Rattle.ff_meaning.specs.SameBindings.{AreSameFields, AreSame, NothingBound, OneField, OneCurve}
@@ -216,6 +218,57 @@ one_row old (Factor p) r t h g =
     for_curve (λ d c. IsFactorRow (ops_of d) max_degree p r) (λ d c. IsFactorRow (ops_of d) max_degree p t) (r ≡ t)
     (λ d c x y. one_factor_row (ops_of d) max_degree p r t x y) old.field old.bound h g
 one_row old (OrderOf side) r t h g = absurd h
+
+-- ---- want of memory is no row
+
+code_some : (q : ℕ) (codes : List ℕ) (r : Refusal) → IsCodeRow q codes r → r ≢ Memory
+code_some q codes r h m = let is = h.2 in absurd cc
+
+field_some : (e : FieldFault) → refusal_of_field e ≢ Memory
+field_some (fields.FieldSize p m) is = absurd cc
+field_some (fields.CodeRange c) is = absurd cc
+field_some (fields.NotMonic c) is = absurd cc
+field_some (fields.NotField a b) is = absurd cc
+
+curve_some : (e : CurveFault) → e ≢ curves.Memory → refusal_of_curve e ≢ Memory
+curve_some (curves.LimitY n) some is = absurd cc
+curve_some (curves.LimitX d) some is = absurd cc
+curve_some (curves.NotMonic p) some is = absurd cc
+curve_some curves.NotSeparable some is = absurd cc
+curve_some (curves.LimitDisc d) some is = absurd cc
+curve_some (curves.LimitInf d) some is = absurd cc
+curve_some curves.Memory some is = some refl
+
+no_curve_some : (k : CodeField) (f : List Term) (r : Refusal) → IsNoCurve k f r → r ≢ Memory
+no_curve_some k f r (rows.range h) = code_some k.size (written_codes f) r h
+no_curve_some k f r (rows.fault sum is e some holds told) = λ m. curve_some e some (sym told ∙ m)
+
+element_some : (k : FieldOps) (n bound : ℕ) (e : ElemText) (r : Refusal) → IsElementRow k n bound e r → r ≢ Memory
+element_some k n bound e r (rows.range h) m = code_some k.size (codes_of_element e) r h m
+element_some k n bound e r (rows.size below other is) m = absurd cc
+element_some k n bound e r (rows.degree long z z_is great is) m = absurd cc
+element_some k n bound e r (rows.zero_den long z z_is small none is) m = absurd cc
+
+product_some : (k : FieldOps) (n bound : ℕ) (a b : ElemText) (r : Refusal) → IsProductRow k n bound a b r → r ≢ Memory
+product_some k n bound a b r (inl h) = element_some k n bound a r h
+product_some k n bound a b r (inr h) = element_some k n bound b r h.1
+
+factor_some : (k : FieldOps) (bound : ℕ) (g : List Term) (r : Refusal) → IsFactorRow k bound g r → r ≢ Memory
+factor_some k bound g r (rows.range h) m = code_some k.size (written_codes g) r h m
+factor_some k bound g r (rows.degree p p_is great is) m = absurd cc
+factor_some k bound g r (rows.zero_sum none is) m = absurd cc
+
+pub row_some : (old : Bindings) (s : Statement) (r : Refusal) → IsRefusalRow old s r → r ≢ Memory
+row_some old (FieldOf p tail) r h m = field_some h.1.fault (sym h.1.is ∙ m)
+row_some old (CurveOf f) r h m =
+    for_field (λ d. rows.IsCurveRow d f r) (λ d. rows.IsCurveRow d f r) ⊥ (λ d a b. no_curve_some (with_laws d a.0) f r a.1 m) old.field h h
+row_some old (Mul a b) r h m =
+    for_curve (λ d c. IsProductRow (ops_of d) c.fin.n max_degree a b r) (λ d c. IsProductRow (ops_of d) c.fin.n max_degree a b r) ⊥
+    (λ d c x y. product_some (ops_of d) c.fin.n max_degree a b r x m) old.field old.bound h h
+row_some old (Factor p) r h m =
+    for_curve (λ d c. IsFactorRow (ops_of d) max_degree p r) (λ d c. IsFactorRow (ops_of d) max_degree p r) ⊥
+    (λ d c x y. factor_some (ops_of d) max_degree p r x m) old.field old.bound h h
+row_some old (OrderOf side) r h m = absurd h
 
 -- ---- the same bindings have the same rows
 

@@ -15,6 +15,7 @@ use Rattle.ff_cert.specs.Lines.{echo_line}
 use Rattle.ff_cert.specs.Blocks.{SessionValue, Refuses, Takes, block_text}
 use Rattle.ff_cert.specs.SameSessions.{AreSameSessions}
 use Rattle.ff_cert.proofs.OneBlock.{sessions_turned, one_taken, one_refused, not_both}
+use Rattle.ff_program.specs.Commands.{IsAnsweredWhole}
 use Rattle.ff_program.specs.Output.{Block, blocks_text, refusal_line, syntax_line, misplaced_line, at_start, AreTrue, IsAnswered, IsClosing, IsOut, IsOutput, TooLong, Syntax, Misplaced, Script, IsPart, Blocks, Whole, IsBegun, Nothing, Line, Part}
 
 abbrev Statements : List Block → List Statement
@@ -130,8 +131,8 @@ one_out ss text text' finished over h g =
     (h.is ∙ ap₂ (λ bs t. blocks_text bs ++ t) one.blocks closing.0 ∙ sym g.is, closing.1)
 
 out_begins : (ss : List Statement) (text whole : List ℕ) (finished : Bool) → IsPart ss text → IsOut ss whole finished → IsPrefix text whole
-out_begins ss text whole finished (Whole text over h) g =
-    record { rest = []; joined = append-nil text ∙ (one_out ss text whole over finished h g).0 }
+out_begins ss text whole finished (Whole part over h) g =
+    record { rest = []; joined = append-nil part ∙ (one_out ss part whole over finished h g).0 }
 out_begins ss text whole finished (Blocks blocks last rest h) g =
     let more =
     blocks_begin blocks g.blocks at_start at_start last g.last rest g.rest (alike ss blocks g.blocks last g.last rest g.rest h g.answered)
@@ -177,9 +178,9 @@ module _ (bytes : List ℕ) where
   -- what is begun begins the output
   pub begins_output : (text whole : List ℕ) (finished : Bool) → IsBegun bytes text → IsOutput bytes whole finished → IsPrefix text whole
   begins_output text whole finished Nothing h = record { rest = whole; joined = refl }
-  begins_output text whole finished (Line text over g) h =
-      record { rest = []; joined = append-nil text ∙ (one_output text whole over finished g h).0 }
-  begins_output text whole finished (Part ss text le script part) h = part_begins ss text whole finished le script part h
+  begins_output text whole finished (Line line over g) h =
+      record { rest = []; joined = append-nil line ∙ (one_output line whole over finished g h).0 }
+  begins_output text whole finished (Part ss part le script is_part) h = part_begins ss part whole finished le script is_part h
 
   pub not_longer : (text whole : List ℕ) (finished : Bool) → IsBegun bytes text → IsOutput bytes whole finished → length text ≤ length whole
   not_longer text whole finished g h =
@@ -187,3 +188,10 @@ module _ (bytes : List ℕ) where
       let size = length-append text begins.rest in
       let same = ap length begins.joined in
       omega (arith, size, same)
+
+  -- where each statement has its block, the output is finished
+  pub answered_finished : (text : List ℕ) (finished : Bool) → length bytes ≤ 65536 → IsOutput bytes text finished → IsAnsweredWhole bytes text → finished ≡ true
+  answered_finished text finished within h all =
+      let out : IsOut all.statements text true
+      = record { blocks = all.blocks; last = all.last; rest = []; closing = end_line (length all.blocks); answered = all.answered; closes = (refl, refl); is = all.is } in
+      (one_output text text finished true h (Script all.statements text true within all.script out)).1
