@@ -1,22 +1,21 @@
 -- A script has one output, and what a run has printed between two pieces begins it.
-use Rattle.std.proofs.Common.{◌≡◌, ℕ, ◌<◌, ◌≤◌, List, [], ◌∷◌, ◌++◌, length, map, true, false, Bool, refl, sym, ap, ap₂, ◌∙◌, subst, arith, append_assoc}
+use Rattle.std.proofs.Common.{◌≡◌, ℕ, ◌<◌, ◌≤◌, List, [], ◌∷◌, ◌++◌, length, map, true, Bool, refl, sym, ap, ap₂, ◌∙◌, subst, arith, append_assoc}
 use Rattle.std.proofs.lemmas.Grind.{flat_map-append}
 use Rattle.std.proofs.lemmas.List.{append-nil, length-append}
 use Rattle.ff_io.specs.Streams.{IsPrefix}
 use Rattle.ff_script.specs.declared.script.Statement.{Statement}
-use Rattle.ff_script.specs.Scripts.{IsScript, IsSyntaxFault, IsMisplaced}
+use Rattle.ff_script.specs.Scripts.{IsScript}
 use Rattle.ff_script.proofs.OneScript.{same_script, same_syntax, same_misplaced, misplaced_no_syntax, script_no_syntax, script_no_misplaced}
 use Rattle.ff_script.proofs.TextLaws.{one_line}
 use Rattle.ff_meaning.specs.declared.refusal.Refusal.{Refusal}
-use Rattle.ff_meaning.specs.Bindings.{nothing}
-use Rattle.ff_meaning.specs.SameBindings.{AreSame, NothingBound}
+use Rattle.ff_meaning.specs.SameBindings.{NothingBound}
 use Rattle.ff_cert.specs.declared.answer.Answer.{Answer}
 use Rattle.ff_cert.specs.Lines.{echo_line}
 use Rattle.ff_cert.specs.Blocks.{SessionValue, Refuses, Takes, block_text}
 use Rattle.ff_cert.specs.SameSessions.{AreSameSessions}
 use Rattle.ff_cert.proofs.OneBlock.{sessions_turned, one_taken, one_refused, not_both}
 use Rattle.ff_program.specs.Commands.{IsAnsweredWhole}
-use Rattle.ff_program.specs.Output.{Block, blocks_text, refusal_line, syntax_line, misplaced_line, at_start, AreTrue, IsAnswered, IsClosing, IsOut, IsOutput, TooLong, Syntax, Misplaced, Script, IsPart, Blocks, Whole, IsBegun, Nothing, Line, Part}
+use Rattle.ff_program.specs.Output.{Block, blocks_text, refusal_line, end_line, syntax_line, misplaced_line, at_start, AreTrue, IsAnswered, IsClosing, IsOut, IsOutput, TooLong, Syntax, Misplaced, Script, IsPart, Blocks, Whole, IsBegun, Nothing, Line, Part}
 
 abbrev Statements : List Block → List Statement
 Statements bs = map (λ (b : Block). b.statement) bs
