@@ -1,5 +1,5 @@
--- Bindings that say the same, as a script can lead to them: one field, and one curve over it. Data of a field aren't told
--- apart by its operations, since a modulus of degree 1 may be any.
+-- Bindings that say the same, as a script can lead to them: one field, and one curve over it. Data of a field aren't
+-- told apart by its operations, since a modulus of degree 1 may be any.
 use Rattle.std.specs.Prelude.{◌≡◌}
 use Rattle.ff_fields.specs.FieldData.{FieldData, IsField, ops_of, with_laws}
 use Rattle.function_field.specs.Curves.{CurveValue, IsCurve}
@@ -20,4 +20,5 @@ pub record AreSameCurves (d e : FieldData) (c : CurveValue) : Type 0 where
 pub data AreSame (a b : Bindings) : Type 0 where
   NothingBound : a ≡ nothing → b ≡ nothing → AreSame a b
   OneField : (d e : FieldData) → AreSameFields d e → a ≡ with_field d → b ≡ with_field e → AreSame a b
-  OneCurve : (d e : FieldData) (c : CurveValue) → AreSameCurves d e c → a ≡ with_curve d c → b ≡ with_curve e c → AreSame a b
+  OneCurve : (d e : FieldData) (c : CurveValue) → AreSameCurves d e c → a ≡ with_curve d c → b ≡ with_curve e c
+      → AreSame a b

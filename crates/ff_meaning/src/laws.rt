@@ -12,10 +12,11 @@ ghost use Rattle.ff_meaning.specs.SameBindings.{AreSame};
 ghost use Rattle.ff_meaning.specs.LowestTerms.{IsWritten};
 ghost use Rattle.ff_meaning.specs.Refusals.{IsRefusalRow};
 
-/// A law: the rows of a statement tell one refusal at most, which isn't want of memory, and they are the same over the same
-/// field and curve.
+/// A law: the rows of a statement tell one refusal at most, which isn't want of memory, and they are the same over the
+/// same field and curve.
 pub fn one_refusal()
-    ensures same { (old : Bindings) (s : Statement) (r t : Refusal) → IsRefusalRow old s r → IsRefusalRow old s t → r ≡ t }
+    ensures same { (old : Bindings) (s : Statement) (r t : Refusal)
+        → IsRefusalRow old s r → IsRefusalRow old s t → r ≡ t }
     ensures not_memory { (old : Bindings) (s : Statement) (r : Refusal) → IsRefusalRow old s r → r ≢ Memory }
     ensures moved { (old other : Bindings) (s : Statement) (r : Refusal)
         → AreSame old other → IsRefusalRow old s r → IsRefusalRow other s r }

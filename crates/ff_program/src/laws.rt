@@ -9,9 +9,9 @@ ghost use Rattle.ff_program.specs.Printing.{Prints, EndsAs};
 
 use ff_io::sink::Sink;
 
-/// A law: bytes have one output at most, which is finished exactly where each statement of their script has its true block,
-/// and what a run over them has printed between two pieces begins it. So where there is room for the output, there is room
-/// for all that a run can print.
+/// A law: bytes have one output at most, which is finished exactly where each statement of their script has its true
+/// block, and what a run over them has printed between two pieces begins it. So where there is room for the output,
+/// there is room for all that a run can print.
 pub fn one_output()
     ensures one { (bytes text other : List ℕ) (finished over : Bool)
         → IsOutput bytes text finished → IsOutput bytes other over → (text ≡ other) × (finished ≡ over) }
@@ -24,8 +24,8 @@ pub fn one_output()
         → (text : List ℕ) → IsBegun bytes text → length text ≤ room }
 {}
 
-/// A law: a run that ends with `Done` or `Refused` printed the one output; with `Done` it is finished, with `Refused` it
-/// isn't. So `Done` comes exactly where each statement is answered, up to `end N`.
+/// A law: a run that ends with `Done` or `Refused` printed the one output; with `Done` it is finished, with
+/// `Refused` it isn't. So `Done` comes exactly where each statement is answered, up to `end N`.
 pub fn one_end<T: Sink>(old: &T, new: &T)
     ensures done { (bytes text : List ℕ) (finished : Bool) → IsOutput bytes text finished
         → EndsAs T.taken T.faults T.free (IsOutput bytes) (IsBegun bytes) old.now new.now Done
