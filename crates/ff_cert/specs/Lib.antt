@@ -6,3 +6,4 @@ pub mod RowFactor
 pub mod RowOrder
 pub mod Answers
 pub mod Blocks
+pub mod SameSessions

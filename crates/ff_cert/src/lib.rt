@@ -2,6 +2,7 @@
 #![tactic(auto)]
 
 pub mod answer;
+pub mod laws;
 pub mod text;
 
 pub use answer::{Answer, PowerLine, PowerList, RowList};

@@ -170,13 +170,13 @@ module _ (k : FieldOps) where
   pub same_poly : (ts : List Term) (p q : List ℕ) → IsPolyOf k ts p → IsPolyOf k ts q → p ≡ q
   same_poly ts p q h g = same_codes p q h.poly.trimmed g.poly.trimmed (λ j. h.codes j ∙ sym (g.codes j))
 
-  same_polys : (es : List (List Term)) (ps qs : List (List ℕ)) → ArePolysOf k es ps → ArePolysOf k es qs → ps ≡ qs
+  pub same_polys : (es : List (List Term)) (ps qs : List (List ℕ)) → ArePolysOf k es ps → ArePolysOf k es qs → ps ≡ qs
   same_polys [] ps qs h g = h ∙ sym g
   same_polys (e ∷ es) [] qs h g = absurd h
   same_polys (e ∷ es) (p ∷ ps) [] h g = absurd g
   same_polys (e ∷ es) (p ∷ ps) (q ∷ qs) h g = ap₂ (λ x xs. x ∷ xs) (same_poly e p q h.0 g.0) (same_polys es ps qs h.1 g.1)
 
-  same_den : (o : Option (List Term)) (d c : List ℕ) → IsDenOf k o d → IsDenOf k o c → d ≡ c
+  pub same_den : (o : Option (List Term)) (d c : List ℕ) → IsDenOf k o d → IsDenOf k o c → d ≡ c
   same_den None d c h g = h ∙ sym g
   same_den (Some ts) d c h g = same_poly ts d c h g
 

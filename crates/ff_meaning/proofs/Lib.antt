@@ -5,3 +5,6 @@ pub mod ElementValues
 pub mod ReadElements
 pub mod LowestElements
 pub mod ProductDivisors
+pub mod OneField
+pub mod OneRefusal
+pub mod OneWritten

@@ -1,5 +1,6 @@
 pub mod Limits
 pub mod Bindings
+pub mod SameBindings
 pub mod FieldLines
 pub mod Meaning
 pub mod LowestTerms

@@ -4,6 +4,7 @@
 
 pub mod elements;
 pub mod fields;
+pub mod laws;
 pub mod polynomials;
 pub mod refusal;
 pub mod written;

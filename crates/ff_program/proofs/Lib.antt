@@ -2,5 +2,6 @@ mod Outcomes
 mod Printing
 mod Runs
 mod Steps
+mod OneOutput
 mod WordLists
 mod Scripts

@@ -2,6 +2,7 @@
 //! how it ended.
 #![tactic(auto)]
 
+pub mod laws;
 pub mod program;
 pub mod run;
 pub mod status;

@@ -10,7 +10,6 @@ ghost use Rattle.ff_session.specs.Steps.{IsProductRead};
 
 use crate::statements::factor::MAX_DEGREE;
 use ff_algebra::elem::{Pres, mul};
-
 use ff_fields::field::SmallField;
 use ff_meaning::written::{divisors_of_product, in_lowest_terms_by};
 use ff_meaning::{Refusal, element};

@@ -1,0 +1,4 @@
+pub mod WrittenRows
+pub mod OneOrder
+pub mod OneAnswer
+pub mod OneBlock

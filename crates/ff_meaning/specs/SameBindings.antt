@@ -1,0 +1,24 @@
+-- Bindings that say the same, as a script can lead to them: one field, and one curve over it. Data of a field aren't
+-- told apart by its operations, since a modulus of degree 1 may be any.
+use Rattle.std.specs.Prelude.{◌≡◌}
+use Rattle.ff_fields.specs.FieldData.{FieldData, IsField, ops_of, with_laws}
+use Rattle.function_field.specs.Curves.{CurveValue, IsCurve}
+use Rattle.ff_meaning.specs.Bindings.{Bindings, nothing, with_field, with_curve}
+
+-- two fields with the same operations
+pub record AreSameFields (d e : FieldData) : Type 0 where
+  pub left : IsField d
+  pub right : IsField e
+  pub ops : ops_of d ≡ ops_of e
+
+-- and a curve over them
+pub record AreSameCurves (d e : FieldData) (c : CurveValue) : Type 0 where
+  pub fields : AreSameFields d e
+  pub curve : IsCurve (with_laws d fields.left) c
+
+-- both have bound nothing, or the same field, or the same curve over the same field
+pub data AreSame (a b : Bindings) : Type 0 where
+  NothingBound : a ≡ nothing → b ≡ nothing → AreSame a b
+  OneField : (d e : FieldData) → AreSameFields d e → a ≡ with_field d → b ≡ with_field e → AreSame a b
+  OneCurve : (d e : FieldData) (c : CurveValue) → AreSameCurves d e c → a ≡ with_curve d c → b ≡ with_curve e c
+      → AreSame a b
