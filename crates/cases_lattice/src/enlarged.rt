@@ -2,7 +2,7 @@
 
 ghost use Rattle.std.specs.Prelude.{All, IfOk};
 ghost use Rattle.ff_fields.specs.Over.{IsOver};
-ghost use Rattle.ff_poly.specs.Words.{IsIrreducible};
+ghost use Rattle.ff_poly.specs.Words.{IsIrreducibleList};
 ghost use Rattle.function_field.specs.Curves.{IsCurve};
 
 use crate::lattices::lattice_text;
@@ -18,7 +18,7 @@ use std::alloc::{AllocError, Global};
 // The irreducible polynomial of the text.
 fn prime<K: SmallField>(alloc: Global, k: &K, text: &str) -> Result<Poly, AllocError>
     ensures over { IfOk result (IsOver (K.field k.now).ops) }
-    ensures irreducible { IfOk result (IsIrreducible (K.field k.now).ops) }
+    ensures irreducible { IfOk result (IsIrreducibleList (K.field k.now).ops) }
 {
     let g = polynomial(alloc, k, text)?;
     if !is_irreducible(alloc, k, &g)? {
@@ -30,7 +30,7 @@ fn prime<K: SmallField>(alloc: Global, k: &K, text: &str) -> Result<Poly, AllocE
 // The irreducible polynomials between semicolons; none where the text is blank.
 fn primes<K: SmallField>(alloc: Global, k: &K, text: &str) -> Result<Vec<Poly>, AllocError>
     ensures over { IfOk result (λ v. All (IsOver (K.field k.now).ops) v.items) }
-    ensures irreducible { IfOk result (λ v. All (IsIrreducible (K.field k.now).ops) v.items) }
+    ensures irreducible { IfOk result (λ v. All (IsIrreducibleList (K.field k.now).ops) v.items) }
 {
     let mut found = Vec::new(alloc);
     if text.trim().is_empty() {

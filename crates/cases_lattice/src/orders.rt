@@ -2,7 +2,7 @@
 
 ghost use Rattle.std.specs.Prelude.{IfOk};
 ghost use Rattle.function_field.specs.Values.{IsPresOver};
-ghost use Rattle.ff_lattice.specs.Orders.{IsOrder};
+ghost use Rattle.ff_lattice.specs.Orders.{IsOrderLattice};
 
 use crate::lattices::{lattice, lattice_text};
 use case_values::print::decided;
@@ -16,7 +16,7 @@ use std::alloc::{AllocError, Global};
 /// The order of the generators.
 pub fn order<K: SmallField>(alloc: Global, k: &K, p: &Pres, text: &str) -> Result<Order, AllocError>
     requires { IsPresOver (K.field k.now).ops p.now }
-    ensures { IfOk result (IsOrder (K.field k.now) p.now) }
+    ensures { IfOk result (IsOrderLattice (K.field k.now) p.now) }
 {
     match Order::new(alloc, k, p, lattice(alloc, k, p, text)?)? {
         Some(o) => Ok(o),

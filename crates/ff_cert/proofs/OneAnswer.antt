@@ -1,7 +1,7 @@
 -- A statement has one true answer at most, and leads to one field and one curve.
 use Rattle.std.proofs.Common.{◌≡◌, ℕ, ◌≤◌, List, [], ◌∷◌, map, refl, sym, ap, ap₂, ◌∙◌, subst, arith, Option, Some, None}
 use Rattle.ff_fields.specs.Field.{FieldOps, CodeField}
-use Rattle.ff_fields.specs.FieldData.{FieldData, IsField, ops_of, with_laws}
+use Rattle.ff_fields.specs.FieldData.{FieldData, IsFieldData, ops_of, with_laws}
 use Rattle.function_field.specs.declared.side.Side.{Side}
 use Rattle.function_field.specs.Values.{ElemValue, PresValue, functions, function_of}
 use Rattle.function_field.specs.Curves.{CurveValue, IsCurve}
@@ -125,7 +125,7 @@ module _ (old next : Bindings) where
   curve_is f (answers.OrderOf zs) h = absurd h
 
   abbrev Product : ElemText → ElemText → WrittenValue → FieldData → CurveValue → Type 0
-  Product x y z d c = (is : IsField d) × mul_row.IsTrue (with_laws d is) c.fin x y z × (next ≡ old)
+  Product x y z d c = (is : IsFieldData d) × mul_row.IsTrue (with_laws d is) c.fin x y z × (next ≡ old)
 
   mul_is : (x y : ElemText) (a : Answer) → Answers old (Mul x y) a next → (z : WrittenValue) × (a ≡ answers.Mul z) × ForCurve old (Product x y z)
   mul_is x y (answers.FieldOf q) h = absurd h
@@ -145,7 +145,7 @@ module _ (old next : Bindings) where
   factor_is g (answers.OrderOf zs) h = absurd h
 
   abbrev Order : Side → List WrittenValue → FieldData → CurveValue → Type 0
-  Order s zs d c = (is : IsField d) × order_row.IsTrue (with_laws d is) c s zs × (next ≡ old)
+  Order s zs d c = (is : IsFieldData d) × order_row.IsTrue (with_laws d is) c s zs × (next ≡ old)
 
   order_is : (s : Side) (a : Answer) → Answers old (OrderOf s) a next → (zs : List WrittenValue) × (a ≡ answers.OrderOf zs) × ForCurve old (Order s zs)
   order_is s (answers.FieldOf q) h = absurd h
@@ -172,10 +172,10 @@ same_next old other next after same h g = rw (h, g) same
 
 module _ (d e : FieldData) (c : CurveValue) (same : AreSameCurves d e c) where
   -- the curve is one over either field
-  curve_over : (is : IsField e) → IsCurve (with_laws e is) c
+  curve_over : (is : IsFieldData e) → IsCurve (with_laws e is) c
   curve_over is = subst (λ k. IsCurve k c) (fields_same d e same.fields same.fields.left is) same.curve
 
-  products_same : (x y : ElemText) (z w : WrittenValue) (is : IsField d) (is' : IsField e) → mul_row.IsTrue (with_laws d is) c.fin x y z → mul_row.IsTrue (with_laws e is') c.fin x y w → z ≡ w
+  products_same : (x y : ElemText) (z w : WrittenValue) (is : IsFieldData d) (is' : IsFieldData e) → mul_row.IsTrue (with_laws d is) c.fin x y z → mul_row.IsTrue (with_laws e is') c.fin x y w → z ≡ w
   products_same x y z w is is' h g =
       let two = (curve_over is').at_least_two in
       let some : 1 ≤ c.fin.n = omega (arith, two) in
@@ -186,7 +186,7 @@ module _ (d e : FieldData) (c : CurveValue) (same : AreSameCurves d e c) where
       let here = ops_with_laws e same.fields.right in
       one_factors (with_laws e same.fields.right) g u v ls ms (subst (λ o. factor_row.IsTrue o g u ls) (same.fields.ops ∙ here) h) (subst (λ o. factor_row.IsTrue o g v ms) here j)
 
-  orders_same : (s : Side) (zs ws : List WrittenValue) (is : IsField d) (is' : IsField e) → order_row.IsTrue (with_laws d is) c s zs → order_row.IsTrue (with_laws e is') c s ws → zs ≡ ws
+  orders_same : (s : Side) (zs ws : List WrittenValue) (is : IsFieldData d) (is' : IsFieldData e) → order_row.IsTrue (with_laws d is) c s zs → order_row.IsTrue (with_laws e is') c s ws → zs ≡ ws
   orders_same s zs ws is is' h g =
       one_order (with_laws e is') c (curve_over is') s zs ws (subst (λ k. order_row.IsTrue k c s zs) (fields_same d e same.fields is is') h) g
 

@@ -1,6 +1,6 @@
 -- When the answer to a statement is true, and what its lines are: a line for each statement.
 use Rattle.std.specs.Prelude.{◌≡◌, ℕ, List, None}
-use Rattle.ff_fields.specs.FieldData.{IsField, ops_of, with_laws}
+use Rattle.ff_fields.specs.FieldData.{IsFieldData, ops_of, with_laws}
 use Rattle.ff_script.specs.declared.script.Statement.{Statement}
 use Rattle.ff_script.specs.declared.script.Statement.TheVariants.{FieldOf, CurveOf, Mul, Factor, OrderOf}
 use Rattle.ff_meaning.specs.Bindings.{Bindings, ForField, ForCurve}
@@ -17,10 +17,10 @@ abbrev pub Answers : Bindings → Statement → Answer → Bindings → Type 0
 Answers old (FieldOf p tail) (answers.FieldOf q) next = (old.field ≡ None) × field_row.IsTrue p tail q next
 Answers old (CurveOf f) (answers.CurveOf n c) next = ForField old (λ d. (old.bound ≡ None) × curve_row.IsTrue d f n c next)
 Answers old (Mul a b) (answers.Mul z) next =
-    ForCurve old (λ d c. (is : IsField d) × mul_row.IsTrue (with_laws d is) c.fin a b z × (next ≡ old))
+    ForCurve old (λ d c. (is : IsFieldData d) × mul_row.IsTrue (with_laws d is) c.fin a b z × (next ≡ old))
 Answers old (Factor g) (answers.Factor unit parts) next = ForCurve old (λ d c. factor_row.IsTrue (ops_of d) g unit parts × (next ≡ old))
 Answers old (OrderOf s) (answers.OrderOf zs) next =
-    ForCurve old (λ d c. (is : IsField d) × order_row.IsTrue (with_laws d is) c s zs × (next ≡ old))
+    ForCurve old (λ d c. (is : IsFieldData d) × order_row.IsTrue (with_laws d is) c s zs × (next ≡ old))
 Answers _ _ _ _ = ⊥
 
 -- its answer lines

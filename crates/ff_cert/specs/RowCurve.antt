@@ -1,7 +1,7 @@
 -- The answers of `curve`.
 use Rattle.std.specs.Prelude.{◌≡◌, ℕ, List, ◌++◌, codes, decimal}
 use Rattle.ff_fields.specs.Field.{CodeField}
-use Rattle.ff_fields.specs.FieldData.{FieldData, IsField, with_laws}
+use Rattle.ff_fields.specs.FieldData.{FieldData, IsFieldData, with_laws}
 use Rattle.function_field.specs.Curves.{CurveValue}
 use Rattle.ff_algebra.specs.CurveTerms.{IsCurveOf}
 use Rattle.ff_text.specs.declared.terms.Term.{Term}
@@ -17,7 +17,7 @@ pub record IsCurveOfTerms (k : CodeField) (f : List Term) (c : CurveValue) : Typ
 
 -- the curve of the terms is bound; n is its degree in y, and c is its number at infinity
 pub record IsTrue (d : FieldData) (f : List Term) (n c : ℕ) (next : Bindings) : Type 0 where
-  pub is_field : IsField d
+  pub is_field : IsFieldData d
   pub curve : CurveValue
   pub is_curve : IsCurveOfTerms (with_laws d is_field) f curve
   pub degree : n ≡ curve.fin.n

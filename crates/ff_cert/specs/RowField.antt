@@ -1,7 +1,7 @@
 -- The answers of `field`.
 use Rattle.std.specs.Prelude.{◌≡◌, ℕ, ◌<◌, List, ◌++◌, Option, codes, decimal, ◌⊎◌}
 use Rattle.ff_fields.specs.Field.{FieldOps}
-use Rattle.ff_fields.specs.FieldData.{FieldData, IsField, ops_of}
+use Rattle.ff_fields.specs.FieldData.{FieldData, IsFieldData, ops_of}
 use Rattle.ff_script.specs.declared.script.Modulus.{Modulus}
 use Rattle.ff_meaning.specs.FieldLines.{Names}
 use Rattle.ff_meaning.specs.Bindings.{Bindings, with_field}
@@ -16,7 +16,7 @@ module _ (k : FieldOps) where
 -- the field that the line names is bound, and q is its size
 pub record IsTrue (p : ℕ) (tail : Option Modulus) (q : ℕ) (next : Bindings) : Type 0 where
   pub field : FieldData
-  pub is_field : IsField field
+  pub is_field : IsFieldData field
   pub named : Names p tail (ops_of field)
   pub size : IsFieldOf (ops_of field) q
   pub bound : next ≡ with_field field

@@ -9,14 +9,14 @@ use Rattle.ff_fields.specs.Field.{CodeField}
 use Rattle.ff_fields.specs.Code.{code_ring, code_domain}
 use Rattle.ff_fields.specs.Over.{IsOver, IsOver_nil, IsOver_cons, get_or_below}
 use Rattle.linear_theory.specs.Euclidean.{IsDivisorIn}
-use Rattle.ff_poly.specs.Words.{IsPoly, IsIrreducible, top_of, multiple_of}
+use Rattle.ff_poly.specs.Words.{IsPoly, IsIrreducibleList, top_of, multiple_of}
 use Rattle.ff_poly.specs.PowerWords.{power_of}
 use Rattle.ff_poly.specs.PolyOver.{IsOver_multiple_of, IsOver_product_of}
 use Rattle.ff_poly.specs.Value.{value, value_product, same_from_value}
 use Rattle.ff_poly.specs.Polynomials.{Polynomial, polynomials, polynomials_domain, constant_poly, numbers_discrete, value_one}
 use Rattle.ff_poly.proofs.Parts.{value_multiple, IsPoly_multiple_of, IsMonic_multiple}
 use Rattle.ff_poly.proofs.PowerRests.{IsOver_one, IsOver_power_of, value_power}
-use Rattle.ff_falg.specs.Algebras.{IsPrimitive}
+use Rattle.ff_falg.specs.Algebras.{IsPrimitiveVector}
 use Rattle.ff_falg.specs.Idempotents.{IsPrimitiveList}
 use Rattle.ff_factor.specs.Factors.{IsFactorisation, AreAscendingPolys, polys_of, product_of_parts}
 use Rattle.polynomial_theory.proofs.ListValues.{length_value, value_scale_list}
@@ -76,7 +76,7 @@ module _ (k : CodeField) where
         unit_in = subst (λ u. u < k.size) (sym unit_is) (get_or_below k g (length g - 1) g_in);
         unit_some = some;
         over = All-nil (IsOver k.ops);
-        irreducible = All-nil (IsIrreducible k.ops);
+        irreducible = All-nil (IsIrreducibleList k.ops);
         exponents = All-nil (λ p. 1 ≤ p.1);
         ascending = tt;
         product = ap (multiple_of k.ops (1 ∷ [])) unit_is ∙ product_is g [] g g_in g_poly g_in size (λ p i. absurd i) (sym (one_mul P (value k g)));
@@ -133,7 +133,7 @@ module _ (k : CodeField) where
     }
 
     module _ (es ps : List (List ℕ)) (list : IsPrimitiveList k.ops (quotient_algebra m) es) (primes : ArePrimesOf k.ops m es ps) where
-      primitive : (e : List ℕ) → In e es → IsPrimitive k.ops (quotient_algebra m) e
+      primitive : (e : List ℕ) → In e es → IsPrimitiveVector k.ops (quotient_algebra m) e
       primitive e i = (list.members e).0 i
 
       pub made_primes : IsPrimeList k g ps
@@ -176,7 +176,7 @@ module _ (k : CodeField) where
         unit_in = subst (λ u. u < k.size) (sym unit_is) (get_or_below k rest (length rest - 1) s.over);
         unit_some = some;
         over = all_of_in (IsOver k.ops) (polys_of parts) over;
-        irreducible = all_of_in (IsIrreducible k.ops) (polys_of parts) (λ p i. made_primes.irreducible p (subst (In p) s.polys i));
+        irreducible = all_of_in (IsIrreducibleList k.ops) (polys_of parts) (λ p i. made_primes.irreducible p (subst (In p) s.polys i));
         exponents = s.exponents;
         ascending = subst AreAscendingPolys (sym s.polys) primes.ascending;
         product = ap (multiple_of k.ops (product_of_parts k.ops parts)) unit_is ∙ product_is g parts rest g_in g_poly s.over size over s.product;

@@ -12,7 +12,7 @@ use Rattle.linear_theory.proofs.Euclid.{bezout}
 use Rattle.ff_fields.specs.Field.{CodeField}
 use Rattle.ff_fields.specs.Code.{code_ring, code_domain}
 use Rattle.ff_fields.specs.Over.{IsOver}
-use Rattle.ff_poly.specs.Words.{IsPoly, IsMonic, IsIrreducible, Divides, top_of}
+use Rattle.ff_poly.specs.Words.{IsPoly, IsMonic, IsIrreducibleList, DividesList, top_of}
 use Rattle.ff_poly.specs.Value.{value, numbers_value, value_product}
 use Rattle.ff_poly.specs.Polynomials.{Polynomial, polynomials, value_not_zero, codes_of}
 use Rattle.ff_falg.specs.Algebras.{IsVector, IsFieldAlgebra}
@@ -49,7 +49,7 @@ module _ (k : CodeField) where
     modulus_some : ¬ (G ≡ 𝟘)
     modulus_some = some_value k g h.over (monic_poly k g h.monic) (let l = h.not_constant in omega arith)
 
-    no_divisor : IsFieldAlgebra k.ops (quotient_algebra g) → (b : List ℕ) → IsOver k.ops b → IsMonic b → 2 ≤ length b → length b < length g → ¬ Divides k.ops b g
+    no_divisor : IsFieldAlgebra k.ops (quotient_algebra g) → (b : List ℕ) → IsOver k.ops b → IsMonic b → 2 ≤ length b → length b < length g → ¬ DividesList k.ops b g
     no_divisor F b b_in b_monic b_long b_short d = none
       where
         B : Polynomial k
@@ -102,7 +102,7 @@ module _ (k : CodeField) where
             moved : (q b c : Polynomial k) → q ⊗ (b ⊗ c) ≡ b ⊗ q ⊗ c
             moved q b c = ring S (q ∷ b ∷ c ∷ []) λ x y. simp (reads, x, y 0, y 1, y 2) (x.equal _ _ refl)
 
-    pub irreducible_of_field : IsFieldAlgebra k.ops (quotient_algebra g) → IsIrreducible k.ops g
+    pub irreducible_of_field : IsFieldAlgebra k.ops (quotient_algebra g) → IsIrreducibleList k.ops g
     irreducible_of_field F = record { monic = h.monic; not_constant = h.not_constant; no_divisor = no_divisor F }
 
     one_zero : (m : ℕ) → 0 < m → ◌≡◌ {A = List ℕ} (1 ∷ replicate (m - 1) 0) (replicate m 0) → ⊥
@@ -112,14 +112,14 @@ module _ (k : CodeField) where
         differ : (x y : ℕ) → x ≡ 1 → y ≡ 0 → x ≡ y → ⊥
         differ x y a b c = omega arith
 
-    pub field_of_irreducible : IsIrreducible k.ops g → IsFieldAlgebra k.ops (quotient_algebra g)
+    pub field_of_irreducible : IsIrreducibleList k.ops g → IsFieldAlgebra k.ops (quotient_algebra g)
     field_of_irreducible i = record {
       one_not_zero = one_zero (length g - 1) (let l = h.not_constant in omega arith);
       inverse = inverse;
     }
       where
-        i' : IsIrreducible k.ops (codes_of k G)
-        i' = subst (IsIrreducible k.ops) (sym (numbers_value k g h.over (monic_poly k g h.monic))) i
+        i' : IsIrreducibleList k.ops (codes_of k G)
+        i' = subst (IsIrreducibleList k.ops) (sym (numbers_value k g h.over (monic_poly k g h.monic))) i
 
         inverse : (a : List ℕ) → IsVector k.ops (length g - 1) a → a ≢ replicate (length g - 1) 0
             → (b : List ℕ) × IsVector k.ops (length g - 1) b × (product_modulo k.ops g a b ≡ (quotient_algebra g).unit)
@@ -143,5 +143,5 @@ module _ (k : CodeField) where
             not_divisor a a_in ne d =
                 ne ((zero_class k g h a a_in).1 (congruent_trans S G _ (G ⊗ d.0) 𝟘 (congruent_same S G _ _ d.1) (modulus_null d.0)))
 
-    pub field_irreducible : IsFieldAlgebra k.ops (quotient_algebra g) ↔ IsIrreducible k.ops g
+    pub field_irreducible : IsFieldAlgebra k.ops (quotient_algebra g) ↔ IsIrreducibleList k.ops g
     field_irreducible = (irreducible_of_field, field_of_irreducible)

@@ -12,7 +12,7 @@ use Rattle.ff_fields.specs.Code.{code_ring, code_domain}
 use Rattle.ff_fields.specs.Over.{IsOver, get_or_below}
 use Rattle.linear_theory.specs.Euclidean.{IsDivisorIn}
 use Rattle.linear_theory.proofs.Euclid.{divisor_trans}
-use Rattle.ff_poly.specs.Words.{IsPoly, IsMonic, IsIrreducible, Divides, IsQuotient, top_of, multiple_of}
+use Rattle.ff_poly.specs.Words.{IsPoly, IsMonic, IsIrreducibleList, DividesList, IsQuotientWithRest, top_of, multiple_of}
 use Rattle.ff_poly.specs.PolyOver.{IsOver_multiple_of}
 use Rattle.ff_poly.specs.Value.{value}
 use Rattle.ff_poly.specs.Polynomials.{Polynomial, polynomials, constant_poly, value_nil}
@@ -62,7 +62,7 @@ module _ (k : CodeField) where
   quotients_none p qs none = subst (AreQuotients k p []) (sym none) (record { over = All-nil (IsOver k.ops); products = refl })
 
   pub quotients_more : (p : List ℕ) (vs qs new : List (List ℕ)) (v q left : List ℕ) (i : ℕ) → i < length vs → v ≡ get_or vs i [] → IsOver k.ops p
-      → AreQuotients k p (take i vs) qs → IsQuotient k.ops v p q left → left ≡ [] → new ≡ qs ++ q ∷ [] → AreQuotients k p (take (i + 1) vs) new
+      → AreQuotients k p (take i vs) qs → IsQuotientWithRest k.ops v p q left → left ≡ [] → new ≡ qs ++ q ∷ [] → AreQuotients k p (take (i + 1) vs) new
   quotients_more p vs qs new v q left i less v_is p_in h d none new_is = subst (AreQuotients k p (take (i + 1) vs)) (sym new_is) (record {
     over = All-append (IsOver k.ops) qs (q ∷ []) h.over (All-cons (IsOver k.ops) q [] d.quotient_in (All-nil (IsOver k.ops)));
     products =
@@ -73,7 +73,7 @@ module _ (k : CodeField) where
   })
 
   pub not_all : (p : List ℕ) (vs : List (List ℕ)) (v q left : List ℕ) (i : ℕ) → i < length vs → v ≡ get_or vs i [] → IsOver k.ops p → IsPoly p → 2 ≤ length p
-      → IsQuotient k.ops v p q left → ¬ (left ≡ []) → ¬ DividesAll k p vs
+      → IsQuotientWithRest k.ops v p q left → ¬ (left ≡ []) → ¬ DividesAll k p vs
   not_all p vs v q left i less v_is p_in p_poly long d some all =
       not_divisor k p v q left p_in p_poly long d some
       (subst (IsDivisorIn P.ops (value k p)) (get_or-map (value k) vs i [] (value k []) less ∙ ap (value k) (sym v_is)) (all i (value k []) (omega (arith, length-map vs (value k)))))
@@ -81,7 +81,7 @@ module _ (k : CodeField) where
   -- ---- a prime is cancelled
 
   pub reduced_once : (p : List ℕ) (num : List (List ℕ)) (den : List ℕ) (qs : List (List ℕ)) (q left : List ℕ) → IsOver k.ops p → IsOver k.ops den → IsPoly den → den ≢ []
-      → AreQuotients k p num qs → IsQuotient k.ops den p q left → left ≡ [] → AreReduced k (value k p) num den qs q
+      → AreQuotients k p num qs → IsQuotientWithRest k.ops den p q left → left ≡ [] → AreReduced k (value k p) num den qs q
   reduced_once p num den qs q left p_in den_in den_poly some h d none = record {
     num_over = h.over;
     den_over = d.quotient_in;
@@ -177,7 +177,7 @@ module _ (k : CodeField) where
   factor_at ps i p less p_is h = subst (IsPrime k) (sym p_is) (factor_in ps (get_or ps i p) (in_list ps i p less) h)
     where
       factor_in : (ps : List (List ℕ)) (p : List ℕ) → In p ps → AreIrreducible k.ops ps → IsPrime k p
-      factor_in ps p i h = record { over = in_of_all (IsOver k.ops) ps h.over p i; irreducible = in_of_all (IsIrreducible k.ops) ps h.irreducible p i }
+      factor_in ps p i h = record { over = in_of_all (IsOver k.ops) ps h.over p i; irreducible = in_of_all (IsIrreducibleList k.ops) ps h.irreducible p i }
 
   -- ---- lowest terms
 
@@ -272,7 +272,7 @@ module _ (k : CodeField) where
       free = free;
     }
       where
-        free : (p : List ℕ) → In p ps → Divides k.ops p d → ¬ All (Divides k.ops p) n
+        free : (p : List ℕ) → In p ps → DividesList k.ops p d → ¬ All (DividesList k.ops p) n
         free p i divides all =
             h.low.free p i (value k divides.quotient, divisor_of_divides k p d p_in divides)
             (All-map (IsDivisorIn P.ops (value k p)) (value k) n (λ j v less. (value k (all j v less).quotient, divisor_of_divides k p (get_or n j v) p_in (all j v less))))

@@ -11,7 +11,7 @@ use Rattle.ff_fields.specs.Code.{code_ring, code_domain}
 use Rattle.ff_fields.specs.Over.{IsOver}
 use Rattle.linear_theory.specs.Euclidean.{IsDivisorIn, IsUnit, Bezout}
 use Rattle.linear_theory.proofs.Euclid.{bezout, bezout_power, bezout_product, bezout_swap, divisor_of_coprime, divisor_trans}
-use Rattle.ff_poly.specs.Words.{IsIrreducible}
+use Rattle.ff_poly.specs.Words.{IsIrreducibleList}
 use Rattle.ff_poly.specs.Value.{value, numbers_value}
 use Rattle.ff_poly.specs.Polynomials.{Polynomial, polynomials, polynomials_domain, codes_of}
 use Rattle.ff_factor.specs.Factors.{polys_of}
@@ -40,10 +40,10 @@ module _ (k : CodeField) where
   -- an irreducible polynomial, said of its list
   pub record IsPrime (p : List ℕ) : Type 0 where
     pub over : IsOver k.ops p
-    pub irreducible : IsIrreducible k.ops p
+    pub irreducible : IsIrreducibleList k.ops p
 
-  pub of_codes : (p : List ℕ) → IsPrime p → IsIrreducible k.ops (codes_of k (value k p))
-  of_codes p h = subst (IsIrreducible k.ops) (sym (numbers_value k p h.over (monic_poly k p h.irreducible.monic))) h.irreducible
+  pub of_codes : (p : List ℕ) → IsPrime p → IsIrreducibleList k.ops (codes_of k (value k p))
+  of_codes p h = subst (IsIrreducibleList k.ops) (sym (numbers_value k p h.over (monic_poly k p h.irreducible.monic))) h.irreducible
 
   -- what none of the primes divides is coprime to the product of their powers
   coprime_parts : (r : Polynomial k) (fs : List (List ℕ × ℕ)) → ((p : List ℕ) → In p (polys_of fs) → IsPrime p)

@@ -10,7 +10,7 @@ use Rattle.ff_fields.specs.Code.{code_ring, code_domain}
 use Rattle.ff_fields.specs.Over.{IsOver, IsOver_nil, IsOver_cons}
 use Rattle.linear_theory.specs.Euclidean.{IsDivisorIn, IsUnit}
 use Rattle.linear_theory.proofs.Euclid.{divisor_product, order_unique}
-use Rattle.ff_poly.specs.Words.{IsIrreducible}
+use Rattle.ff_poly.specs.Words.{IsIrreducibleList}
 use Rattle.ff_poly.specs.Value.{value}
 use Rattle.ff_poly.specs.Polynomials.{Polynomial, polynomials, constant_poly}
 use Rattle.ff_factor.specs.LowestTerms.{HasFactorsOf}
@@ -85,7 +85,7 @@ module _ (k : CodeField) where
       (value k x) (subst (IsDivisorIn P.ops (value k x)) (den_parts k g b j) d))
     where
       others : (p : List ℕ) → In p (polys_of b.parts) → IsPrime k p
-      others p l = record { over = in_of_all (IsOver k.ops) (polys_of b.parts) j.over p l; irreducible = in_of_all (IsIrreducible k.ops) (polys_of b.parts) j.irreducible p l }
+      others p l = record { over = in_of_all (IsOver k.ops) (polys_of b.parts) j.over p l; irreducible = in_of_all (IsIrreducibleList k.ops) (polys_of b.parts) j.irreducible p l }
 
       go : ((p : List ℕ) × In p (polys_of b.parts) × IsDivisorIn P.ops (value k p) (value k x)) ⊎ IsUnit P.ops (value k x) → In x (polys_of b.parts)
       go (inl r) = subst (λ y. In y (polys_of b.parts)) (irreducible_unique k r.0 x (others r.0 r.1).over (others r.0 r.1).irreducible h.over h.irreducible r.2) r.1
@@ -99,7 +99,7 @@ module _ (k : CodeField) where
   same_primes : (g : List ℕ) (a b : FactorsValue) → IsFactorisation k.ops g a → IsFactorisation k.ops g b → (x : List ℕ) → In x (polys_of a.parts) → In x (polys_of b.parts)
   same_primes g a b h j x i =
       listed g b j x
-      (record { over = in_of_all (IsOver k.ops) (polys_of a.parts) h.over x i; irreducible = in_of_all (IsIrreducible k.ops) (polys_of a.parts) h.irreducible x i })
+      (record { over = in_of_all (IsOver k.ops) (polys_of a.parts) h.over x i; irreducible = in_of_all (IsIrreducibleList k.ops) (polys_of a.parts) h.irreducible x i })
       (subst (IsDivisorIn P.ops (value k x)) (sym (den_parts k g a h))
       (divisor_product P (value k x) (value_of_parts k a.parts) (constant_poly k a.unit) (member_divides a.parts h.exponents x i)))
 
@@ -144,7 +144,7 @@ module _ (k : CodeField) where
       both =
           same_exponents a.parts b.parts (constant_poly k a.unit) (constant_poly k b.unit)
           (one_order (polys_of a.parts) (polys_of b.parts) h.ascending j.ascending (same_primes g a b h j) (same_primes g b a j h))
-          (λ q i. record { over = in_of_all (IsOver k.ops) (polys_of a.parts) h.over q i; irreducible = in_of_all (IsIrreducible k.ops) (polys_of a.parts) h.irreducible q i })
+          (λ q i. record { over = in_of_all (IsOver k.ops) (polys_of a.parts) h.over q i; irreducible = in_of_all (IsIrreducibleList k.ops) (polys_of a.parts) h.irreducible q i })
           h.ascending
           (constant_poly k (k.inv a.unit), P.mul_comm (constant_poly k a.unit) (constant_poly k (k.inv a.unit)) ∙ code_inverts k a.unit h.unit_in h.unit_some)
           (constant_poly k (k.inv b.unit), P.mul_comm (constant_poly k b.unit) (constant_poly k (k.inv b.unit)) ∙ code_inverts k b.unit j.unit_in j.unit_some)

@@ -15,14 +15,14 @@ use Rattle.ff_fields.specs.Field.{CodeField}
 use Rattle.ff_fields.specs.Code.{code_ring, code_domain, raw_ring}
 use Rattle.ff_fields.specs.Over.{IsOver}
 use Rattle.linear_theory.specs.Euclidean.{IsDivisorIn}
-use Rattle.ff_poly.specs.Words.{IsPoly, IsMonic, IsIrreducible, Divides}
+use Rattle.ff_poly.specs.Words.{IsPoly, IsMonic, IsIrreducibleList, DividesList}
 use Rattle.ff_poly.specs.Value.{value, same_from_value}
 use Rattle.ff_poly.specs.Polynomials.{value_one, Polynomial, polynomials, codes_of, IsOver_codes_of, IsPoly_codes_of, value_codes_of}
 use Rattle.finite_algebra_theory.specs.ByMap.{Image}
 use Rattle.finite_algebra_theory.specs.Maximal.{NilpotentAt}
 use Rattle.finite_algebra_theory.proofs.Above.{maximal_prime}
 use Rattle.finite_algebra_theory.proofs.Maximal.{nilpotent_or_invertible}
-use Rattle.ff_falg.specs.Algebras.{IsAlgebra, IsPrimitive, zero_of}
+use Rattle.ff_falg.specs.Algebras.{IsAlgebra, IsPrimitiveVector, zero_of}
 use Rattle.ff_falg.specs.Idempotents.{sum_of}
 use Rattle.ff_falg.proofs.Vectors.{same_vector}
 use Rattle.ff_falg.proofs.VectorAlgebra.{scalar, vector_algebra}
@@ -61,7 +61,7 @@ module _ (k : CodeField) where
     of = vector_of k g h
 
     -- the multiples of the prime of e are the polynomials that are nilpotent there
-    pub generates : (e p : List ℕ) (primitive : IsPrimitive k.ops (quotient_algebra g) e) → IsPrimeAt k.ops g e p
+    pub generates : (e p : List ℕ) (primitive : IsPrimitiveVector k.ops (quotient_algebra g) e) → IsPrimeAt k.ops g e p
         → (u : Polynomial k) → At k g h e primitive u ↔ IsDivisorIn P.ops (value k p) u
     generates e p primitive is u =
         subst (λ w. At k g h e primitive w ↔ IsDivisorIn P.ops (value k p) w) (value_codes_of k u) (
@@ -78,7 +78,7 @@ module _ (k : CodeField) where
         c_poly : IsPoly c
         c_poly = IsPoly_codes_of k u
 
-    pub prime_irreducible : (e p : List ℕ) (primitive : IsPrimitive k.ops (quotient_algebra g) e) → IsPrimeAt k.ops g e p → IsIrreducible k.ops p
+    pub prime_irreducible : (e p : List ℕ) (primitive : IsPrimitiveVector k.ops (quotient_algebra g) e) → IsPrimeAt k.ops g e p → IsIrreducibleList k.ops p
     prime_irreducible e p primitive is = record {
       monic = is.monic;
       not_constant = long;
@@ -112,7 +112,7 @@ module _ (k : CodeField) where
                 unit_divides : p ≡ 1 ∷ [] → IsDivisorIn P.ops (value k p) 𝟙
                 unit_divides f = (𝟙, sym (P.mul_one (value k p) ∙ ap (value k) f ∙ value_one k))
 
-        none : (b : List ℕ) → IsOver k.ops b → IsMonic b → 2 ≤ length b → length b < length p → ¬ Divides k.ops b p
+        none : (b : List ℕ) → IsOver k.ops b → IsMonic b → 2 ≤ length b → length b < length p → ¬ DividesList k.ops b p
         none b b_in b_monic b_long b_short d =
             go (maximal_prime P (At k g h e primitive) (at_maximal k g h e primitive) B Q
             ((generates e p primitive is (B ⊗ Q)).1 (subst (IsDivisorIn P.ops (value k p)) whole (divisor_refl k (value k p)))))
@@ -144,7 +144,7 @@ module _ (k : CodeField) where
                 omega (arith, b_size, p_size, length_product (code_ring k) (code_domain k) B Q b_some q_some)
 
     -- a prime divides g
-    pub prime_divides_modulus : (e p : List ℕ) (primitive : IsPrimitive k.ops (quotient_algebra g) e) → IsPrimeAt k.ops g e p
+    pub prime_divides_modulus : (e p : List ℕ) (primitive : IsPrimitiveVector k.ops (quotient_algebra g) e) → IsPrimeAt k.ops g e p
         → IsDivisorIn P.ops (value k p) (value k g)
     prime_divides_modulus e p primitive is =
         (generates e p primitive is (value k g)).0
@@ -161,7 +161,7 @@ module _ (k : CodeField) where
             (at_maximal k g h e primitive).ideal.zero_in
 
     -- of different idempotents with product 0, the prime of one doesn't divide that of the other
-    pub primes_different : (e f p q : List ℕ) (pe : IsPrimitive k.ops (quotient_algebra g) e) (pf : IsPrimitive k.ops (quotient_algebra g) f)
+    pub primes_different : (e f p q : List ℕ) (pe : IsPrimitiveVector k.ops (quotient_algebra g) e) (pf : IsPrimitiveVector k.ops (quotient_algebra g) f)
         → IsPrimeAt k.ops g e p → IsPrimeAt k.ops g f q → product_modulo k.ops g e f ≡ zero_of (quotient_algebra g) → ¬ IsDivisorIn P.ops (value k p) (value k q)
     primes_different e f p q pe pf is_p is_q null d =
         (at_maximal k g h e pe).proper
@@ -207,7 +207,7 @@ module _ (k : CodeField) where
             (generates e p pe is_p w).1 (d.0 ⊗ a.0, a.1 ∙ ap (λ x. x ⊗ a.0) d.1 ∙ P.mul_assoc (value k p) d.0 a.0)
 
     -- what lies in none of the ideals is invertible on the sum of the idempotents
-    over_sum : (r : Polynomial k) (es : List (List ℕ)) (primitive : (e : List ℕ) → In e es → IsPrimitive k.ops (quotient_algebra g) e)
+    over_sum : (r : Polynomial k) (es : List (List ℕ)) (primitive : (e : List ℕ) → In e es → IsPrimitiveVector k.ops (quotient_algebra g) e)
         → ((e : List ℕ) (i : In e es) → ¬ At k g h e (primitive e i) r) → (b : V k g h) × ((R.◌⊗◌ (of r) b).0 ≡ sum_of k.ops (quotient_algebra g) es)
     over_sum r [] primitive out = (R.𝟘, ap (λ y. y.0) (mul_zero R (of r)))
     over_sum r (e ∷ es) primitive out =
@@ -225,7 +225,7 @@ module _ (k : CodeField) where
         pick (inr m) not = m
 
     -- a divisor of g that lies in none of the ideals is a unit
-    pub rest_unit : (r : Polynomial k) (es : List (List ℕ)) (primitive : (e : List ℕ) → In e es → IsPrimitive k.ops (quotient_algebra g) e)
+    pub rest_unit : (r : Polynomial k) (es : List (List ℕ)) (primitive : (e : List ℕ) → In e es → IsPrimitiveVector k.ops (quotient_algebra g) e)
         → sum_of k.ops (quotient_algebra g) es ≡ (quotient_algebra g).unit → IsDivisorIn P.ops r (value k g)
         → ((e : List ℕ) (i : In e es) → ¬ At k g h e (primitive e i) r) → (v : Polynomial k) × (r ⊗ v ≡ 𝟙)
     rest_unit r es primitive sum d out =

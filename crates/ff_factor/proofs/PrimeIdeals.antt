@@ -13,13 +13,13 @@ use Rattle.ff_fields.specs.Code.{Code, raw_ring, code_ring, read_code}
 use Rattle.ff_fields.specs.Numbers.{read}
 use Rattle.ff_fields.specs.Over.{IsOver, IsOver_nil, IsOver_cons, IsOver_append, IsOver_neg, IsOver_take}
 use Rattle.linear_theory.specs.Euclidean.{IsDivisorIn}
-use Rattle.ff_poly.specs.Words.{IsPoly, IsMonic, Divides, product_of}
+use Rattle.ff_poly.specs.Words.{IsPoly, IsMonic, DividesList, product_of}
 use Rattle.ff_poly.specs.PolyOver.{IsOver_product_of, IsPoly_poly_of}
 use Rattle.ff_poly.specs.Value.{value, value_product, same_from_value}
 use Rattle.ff_poly.specs.Polynomials.{Polynomial, polynomials, polynomial_discrete, x_poly, codes_of, IsOver_codes_of, IsPoly_codes_of, value_codes_of}
 use Rattle.ring_theory.specs.Lists.{mul_lists}
 use Rattle.ff_linalg.specs.Matrix.{MatrixValue}
-use Rattle.finite_algebra_theory.specs.Algebra.{FiniteAlgebra, IsPrimitive as IsPrimitiveIn}
+use Rattle.finite_algebra_theory.specs.Algebra.{FiniteAlgebra, IsPrimitive}
 use Rattle.finite_algebra_theory.specs.ByMap.{Image}
 use Rattle.finite_algebra_theory.specs.Horner.{value as horner}
 use Rattle.finite_algebra_theory.specs.Maximal.{NilpotentAt, IsMaximal}
@@ -27,7 +27,7 @@ use Rattle.finite_algebra_theory.specs.Minimal.{Minimal}
 use Rattle.finite_algebra_theory.proofs.Above.{above_maximal}
 use Rattle.finite_algebra_theory.proofs.Horner.{leading_list}
 use Rattle.finite_algebra_theory.proofs.Nilpotent.{nilpotent_kernel}
-use Rattle.ff_falg.specs.Algebras.{IsAlgebra, IsVector, IsPrimitive, IsNilpotent}
+use Rattle.ff_falg.specs.Algebras.{IsAlgebra, IsVector, IsPrimitiveVector, IsNilpotentVector}
 use Rattle.ff_falg.specs.Relations.{IsRelation}
 use Rattle.ff_falg.proofs.PolynomialValues.{negatives_scalar}
 use Rattle.ff_falg.proofs.PowerSpans.{minimal_of_first}
@@ -47,7 +47,7 @@ idempotent_power R e idem zero some = absurd (omega arith)
 idempotent_power R e idem (suc zero) some = R.mul_one e
 idempotent_power R e idem (suc (suc n)) some = ap (R.◌⊗◌ e) (idempotent_power R e idem (suc n) (omega arith)) ∙ idem
 
-module _ (k : CodeField) (g : List ℕ) (h : IsModulus k.ops g) (e : List ℕ) (primitive : IsPrimitive k.ops (quotient_algebra g) e) where
+module _ (k : CodeField) (g : List ℕ) (h : IsModulus k.ops g) (e : List ℕ) (primitive : IsPrimitiveVector k.ops (quotient_algebra g) e) where
   infixl 65 ◌⊕◌
   infixl 70 ◌⊗◌
   infixr 80 ⊖◌
@@ -83,7 +83,7 @@ module _ (k : CodeField) (g : List ℕ) (h : IsModulus k.ops g) (e : List ℕ) (
   abbrev of : Polynomial k → V k g h
   of = vector_of k g h
 
-  primitive_E : IsPrimitiveIn R.ops E
+  primitive_E : IsPrimitive R.ops E
   primitive_E = primitive_vector k (quotient_algebra g) law e primitive
 
   -- the polynomials that are nilpotent at e
@@ -94,12 +94,12 @@ module _ (k : CodeField) (g : List ℕ) (h : IsModulus k.ops g) (e : List ℕ) (
   at_maximal = above_maximal P R S 𝓐 of (vector_hom k g h) (onto k g h) E primitive_E
 
   -- said of lists
-  pub at_nilpotent : (u : List ℕ) → IsOver k.ops u → At (value k u) ↔ IsNilpotent k.ops (quotient_algebra g) (product_modulo k.ops g u e)
+  pub at_nilpotent : (u : List ℕ) → IsOver k.ops u → At (value k u) ↔ IsNilpotentVector k.ops (quotient_algebra g) (product_modulo k.ops g u e)
   at_nilpotent u u_in =
       let s = nilpotent_vector k (quotient_algebra g) law (R.◌⊗◌ (of (value k u)) E) in
       let same = product_vector k g h u E u_in in (
-        λ a. subst (IsNilpotent k.ops (quotient_algebra g)) (sym same) (s.0 a),
-        λ a. s.1 (subst (IsNilpotent k.ops (quotient_algebra g)) same a),
+        λ a. subst (IsNilpotentVector k.ops (quotient_algebra g)) (sym same) (s.0 a),
+        λ a. s.1 (subst (IsNilpotentVector k.ops (quotient_algebra g)) same a),
       )
 
   module _ (z : List ℕ) (z_in : IsVector k.ops n z) (high : IsHighPower k g n z) where

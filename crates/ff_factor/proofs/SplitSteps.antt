@@ -8,7 +8,7 @@ use Rattle.ring_theory.proofs.Ring.{mul_zero, one_mul}
 use Rattle.ff_fields.specs.Field.{FieldOps, CodeField}
 use Rattle.ff_fields.specs.Over.{IsOver}
 use Rattle.linear_theory.specs.Euclidean.{IsDivisorIn}
-use Rattle.ff_poly.specs.Words.{IsPoly, IsIrreducible}
+use Rattle.ff_poly.specs.Words.{IsPoly, IsIrreducibleList}
 use Rattle.ff_poly.specs.Value.{value, numbers_value}
 use Rattle.ff_poly.specs.Polynomials.{Polynomial, polynomials, numbers_discrete, value_nil, codes_of}
 use Rattle.ff_factor.specs.Factors.{AreAscendingPolys, IsBeforePoly, polys_of}
@@ -113,9 +113,9 @@ module _ (k : CodeField) where
   multiple : (p a b : Polynomial k) → IsDivisorIn P.ops p a → IsDivisorIn P.ops p (b ⊗ a)
   multiple p a b d = (d.0 ⊗ b, P.mul_comm b a ∙ ap (λ x. x ⊗ b) d.1 ∙ P.mul_assoc p d.0 b)
 
-  module _ (p : List ℕ) (p_in : IsOver k.ops p) (p_irreducible : IsIrreducible k.ops p) where
-    h : IsIrreducible k.ops (codes_of k (value k p))
-    h = subst (IsIrreducible k.ops) (sym (numbers_value k p p_in (monic_poly k p p_irreducible.monic))) p_irreducible
+  module _ (p : List ℕ) (p_in : IsOver k.ops p) (p_irreducible : IsIrreducibleList k.ops p) where
+    h : IsIrreducibleList k.ops (codes_of k (value k p))
+    h = subst (IsIrreducibleList k.ops) (sym (numbers_value k p p_in (monic_poly k p p_irreducible.monic))) p_irreducible
 
     of_power : (q : Polynomial k) (e : ℕ) → IsDivisorIn P.ops (value k p) (pow P.ops q e) → IsDivisorIn P.ops (value k p) q
     of_power q zero d = absurd ((irreducible k (value k p) h).nonunit (d.0, sym d.1))

@@ -13,11 +13,11 @@ use Rattle.ff_fields.specs.Numbers.{read}
 use Rattle.ff_fields.specs.Over.{IsOver, IsOver_head, IsOver_tail}
 use Rattle.ff_poly.specs.Value.{value}
 use Rattle.ff_poly.specs.Polynomials.{Polynomial, polynomials, constant_poly, x_poly, value_cons, value_nil}
-use Rattle.finite_algebra_theory.specs.Algebra.{IsPrimitive as IsPrimitiveIn, IsNilpotent as IsNilpotentIn}
+use Rattle.finite_algebra_theory.specs.Algebra.{IsPrimitive, IsNilpotent}
 use Rattle.finite_algebra_theory.specs.ByMap.{Image}
 use Rattle.finite_algebra_theory.specs.Horner.{value as horner}
 use Rattle.finite_algebra_theory.proofs.Frobenius.{iterate_add, iterate_scalar}
-use Rattle.ff_falg.specs.Algebras.{AlgebraOps, IsAlgebra, IsPrimitive, IsNilpotent}
+use Rattle.ff_falg.specs.Algebras.{AlgebraOps, IsAlgebra, IsPrimitiveVector, IsNilpotentVector}
 use Rattle.ff_falg.proofs.Vectors.{Vector, vector_ring, same_vector, power_value}
 use Rattle.ff_falg.proofs.VectorAlgebra.{scalar, scalar_map, vector_algebra}
 use Rattle.ff_factor.specs.Quotients.{IsModulus, product_modulo, quotient_algebra}
@@ -30,7 +30,7 @@ module _ (k : CodeField) (A : AlgebraOps) (law : IsAlgebra k A) where
   abbrev R : CommRing (Vector k A.size)
   R = vector_ring k A law
 
-  pub primitive_vector : (e : List ℕ) → (p : IsPrimitive k.ops A e) → IsPrimitiveIn R.ops (e, p.idempotent.vector)
+  pub primitive_vector : (e : List ℕ) → (p : IsPrimitiveVector k.ops A e) → IsPrimitive R.ops (e, p.idempotent.vector)
   primitive_vector e p = record {
     nonzero = λ z. p.nonzero (ap (λ y. y.0) z);
     idempotent = same_vector k A.size _ _ p.idempotent.square;
@@ -41,7 +41,7 @@ module _ (k : CodeField) (A : AlgebraOps) (law : IsAlgebra k A) where
       pick f (inl z) = inl (same_vector k A.size _ _ z)
       pick f (inr s) = inr (same_vector k A.size _ _ s)
 
-  pub nilpotent_vector : (a : Vector k A.size) → IsNilpotentIn R.ops a ↔ IsNilpotent k.ops A a.0
+  pub nilpotent_vector : (a : Vector k A.size) → IsNilpotent R.ops a ↔ IsNilpotentVector k.ops A a.0
   nilpotent_vector a = (
     λ n. record { exponent = n.0; is = sym (power_value k A law a n.0) ∙ ap (λ y. y.0) n.1 },
     λ n. (n.exponent, same_vector k A.size _ _ (power_value k A law a n.exponent ∙ n.is)),

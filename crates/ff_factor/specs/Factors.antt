@@ -2,7 +2,7 @@
 use Rattle.std.specs.Prelude.{◌≡◌, ◌≢◌, ℕ, ◌<◌, ◌≤◌, ◌⊎◌, List, [], ◌∷◌, length, All}
 use Rattle.ff_fields.specs.Field.{FieldOps}
 use Rattle.ff_fields.specs.Over.{IsOver}
-use Rattle.ff_poly.specs.Words.{IsIrreducible, multiple_of, product_of}
+use Rattle.ff_poly.specs.Words.{IsIrreducibleList, multiple_of, product_of}
 use Rattle.ff_poly.specs.PowerWords.{power_of}
 
 -- a code, and polynomials with their exponents
@@ -41,7 +41,7 @@ pub record IsFactorisation (k : FieldOps) (g : List ℕ) (f : FactorsValue) : Ty
   pub unit_in : f.unit < k.size
   pub unit_some : f.unit ≢ 0
   pub over : All (IsOver k) (polys_of f.parts)
-  pub irreducible : All (IsIrreducible k) (polys_of f.parts)
+  pub irreducible : All (IsIrreducibleList k) (polys_of f.parts)
   pub exponents : All (λ p. 1 ≤ p.1) f.parts
   pub ascending : AreAscendingPolys (polys_of f.parts)
   pub product : multiple_of k (product_of_parts k f.parts) f.unit ≡ g

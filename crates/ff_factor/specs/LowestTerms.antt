@@ -3,7 +3,7 @@ use Rattle.std.specs.Prelude.{◌≡◌, ◌≢◌, ℕ, ◌≤◌, List, [], le
 use Rattle.ring_theory.specs.Members.{In}
 use Rattle.ff_fields.specs.Field.{FieldOps}
 use Rattle.ff_fields.specs.Over.{IsOver}
-use Rattle.ff_poly.specs.Words.{IsPoly, IsMonic, IsIrreducible, Divides, product_of}
+use Rattle.ff_poly.specs.Words.{IsPoly, IsMonic, IsIrreducibleList, DividesList, product_of}
 
 module _ (k : FieldOps) where
   -- the fractions of num over den are those of num' over den': den' times each numerator is den times the other one
@@ -13,11 +13,11 @@ module _ (k : FieldOps) where
   -- irreducible monic polynomials over the field
   pub record AreIrreducible (ps : List (List ℕ)) : Type 0 where
     pub over : All (IsOver k) ps
-    pub irreducible : All (IsIrreducible k) ps
+    pub irreducible : All (IsIrreducibleList k) ps
 
   -- each irreducible monic divisor of the denominator is listed
   abbrev pub HasFactorsOf : List (List ℕ) → List ℕ → Type 0
-  HasFactorsOf factors den = (p : List ℕ) → IsOver k p → IsIrreducible k p → Divides k p den → In p factors
+  HasFactorsOf factors den = (p : List ℕ) → IsOver k p → IsIrreducibleList k p → DividesList k p den → In p factors
 
   -- num' over den' are the fractions of num over den, den' is monic, and none of the factors divides den' and each of num'
   pub record AreCancelled (factors : List (List ℕ)) (num : List (List ℕ)) (den : List ℕ) (num' : List (List ℕ)) (den' : List ℕ) : Type 0 where
@@ -27,7 +27,7 @@ module _ (k : FieldOps) where
     pub den_over : IsOver k den'
     pub num_poly : All IsPoly num'
     pub monic : IsMonic den'
-    pub free : (p : List ℕ) → In p factors → Divides k p den' → ¬ All (Divides k p) num'
+    pub free : (p : List ℕ) → In p factors → DividesList k p den' → ¬ All (DividesList k p) num'
 
   -- num' over den' are the fractions of num over den, den' is monic, and no denominator of the same fractions has a smaller degree
   pub record IsInLowestTermsOf (num : List (List ℕ)) (den : List ℕ) (num' : List (List ℕ)) (den' : List ℕ) : Type 0 where

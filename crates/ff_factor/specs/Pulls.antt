@@ -5,7 +5,7 @@ use Rattle.ring_theory.specs.Members.{In}
 use Rattle.linear_theory.specs.Euclidean.{IsDivisorIn}
 use Rattle.ff_fields.specs.Field.{FieldOps, CodeField}
 use Rattle.ff_fields.specs.Over.{IsOver}
-use Rattle.ff_poly.specs.Words.{IsPoly, IsIrreducible}
+use Rattle.ff_poly.specs.Words.{IsPoly, IsIrreducibleList}
 use Rattle.ff_poly.specs.Value.{value}
 use Rattle.ff_poly.specs.Polynomials.{Polynomial, polynomials}
 use Rattle.ff_factor.specs.Factors.{AreAscendingPolys, polys_of}
@@ -49,7 +49,7 @@ pub record IsSplitOff (k : CodeField) (g : List ℕ) (ps : List (List ℕ)) (par
 -- irreducible divisors of g in ascending order, of which none divides another
 pub record IsPrimeList (k : CodeField) (g : List ℕ) (ps : List (List ℕ)) : Type 0 where
   pub over : (p : List ℕ) → In p ps → IsOver k.ops p
-  pub irreducible : (p : List ℕ) → In p ps → IsIrreducible k.ops p
+  pub irreducible : (p : List ℕ) → In p ps → IsIrreducibleList k.ops p
   pub divides : (p : List ℕ) → In p ps → IsDivisorIn (polynomials k).ops (value k p) (value k g)
   pub different : (p q : List ℕ) → In p ps → In q ps → ¬ (p ≡ q) → ¬ IsDivisorIn (polynomials k).ops (value k p) (value k q)
   pub ascending : AreAscendingPolys ps

@@ -2,7 +2,7 @@
 
 ghost use Rattle.std.specs.Prelude.{◌↔◌, IfOk, IsTrue};
 ghost use Rattle.ff_fields.specs.Over.{IsOver};
-ghost use Rattle.ff_poly.specs.Words.{IsIrreducible};
+ghost use Rattle.ff_poly.specs.Words.{IsIrreducibleList};
 
 use crate::quotient::PolyQuotient;
 use ff_falg::is_field;
@@ -14,7 +14,7 @@ use std::alloc::{AllocError, Global};
 /// Cost: that of `is_field` for the polynomials modulo g.
 pub fn is_irreducible<K: SmallField>(alloc: Global, k: &K, g: &Poly) -> Result<bool, AllocError>
     requires { IsOver (K.field k.now).ops g.now }
-    ensures { IfOk result (λ t. IsTrue t ↔ IsIrreducible (K.field k.now).ops g.now) }
+    ensures { IfOk result (λ t. IsTrue t ↔ IsIrreducibleList (K.field k.now).ops g.now) }
 {
     if g.codes().len() < 2 || g.top() != 1 {
         return Ok(false);

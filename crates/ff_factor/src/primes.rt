@@ -4,7 +4,7 @@ ghost use Rattle.std.specs.Prelude.{◌≡◌, ◌-◌, ◌≤◌, length, All, 
 ghost use Rattle.ff_fields.specs.Code.{raw_ring};
 ghost use Rattle.ff_fields.specs.Over.{IsOver};
 ghost use Rattle.ring_theory.specs.Lists.{neg_list};
-ghost use Rattle.ff_falg.specs.Algebras.{IsPrimitive, IsVector};
+ghost use Rattle.ff_falg.specs.Algebras.{IsPrimitiveVector, IsVector};
 ghost use Rattle.ff_falg.specs.Idempotents.{elements_of};
 ghost use Rattle.ff_factor.specs.Primes.{IsHighPower, IsPrimeAt};
 ghost use Rattle.ff_factor.specs.Pulls.{ArePrimesOf};
@@ -58,7 +58,7 @@ fn prime_at<K: SmallField>(
     requires modulus { IsModulus (K.field k.now).ops a.now }
     requires vector { IsVector (K.field k.now).ops (length a.now - 1) z.now }
     requires high { IsHighPower (K.field k.now) a.now (length a.now - 1) z.now }
-    requires primitive { IsPrimitive (K.field k.now).ops (quotient_algebra a.now) e.now }
+    requires primitive { IsPrimitiveVector (K.field k.now).ops (quotient_algebra a.now) e.now }
     ensures { IfOk result (IsPrimeAt (K.field k.now).ops a.now e.now) }
 {
     let bound = a.modulus().codes().len() - 1;
@@ -77,7 +77,7 @@ pub(crate) fn primes_of<K: SmallField>(
     idempotents: &[Vec<u32>],
 ) -> Result<Vec<Poly>, AllocError>
     requires modulus { IsModulus (K.field k.now).ops a.now }
-    requires primitive { All (IsPrimitive (K.field k.now).ops (quotient_algebra a.now)) (elements_of idempotents.now) }
+    requires primitive { All (IsPrimitiveVector (K.field k.now).ops (quotient_algebra a.now)) (elements_of idempotents.now) }
     ensures { IfOk result (λ v. ArePrimesOf (K.field k.now).ops a.now (elements_of idempotents.now) v.items) }
 {
     let z = high_power(alloc, k, a.modulus())?;

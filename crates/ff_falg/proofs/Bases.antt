@@ -19,7 +19,7 @@ use Rattle.finite_algebra_theory.specs.Algebra.{Dependent}
 use Rattle.finite_algebra_theory.specs.ByMap.{Image}
 use Rattle.finite_algebra_theory.proofs.ByMap.{image_subring}
 use Rattle.ff_falg.specs.Algebras.{AlgebraOps, IsAlgebra, IsVector}
-use Rattle.ff_falg.specs.Spaces.{IsEchelonBasis}
+use Rattle.ff_falg.specs.Spaces.{IsEchelonBasisMatrix}
 use Rattle.ff_falg.proofs.Lists.{code_add_zero, code_mul_zero}
 use Rattle.ff_falg.proofs.RowSteps.{rows_in}
 use Rattle.ff_falg.proofs.Vectors.{Vector, vector_ring, multiple_in}
@@ -106,7 +106,7 @@ module _ (k : CodeField) (A : AlgebraOps) (law : IsAlgebra k A) where
   in_span (c ∷ bs) b (inr i) =
       span_tail R S (image_subring (code_ring k).ring R (scalar k A law) (scalar_map k A law)) c bs b (in_span bs b i)
 
-  module _ (space : List ℕ → Type 0) (m : MatrixValue) (h : IsEchelonBasis k.ops A.size space m) where
+  module _ (space : List ℕ → Type 0) (m : MatrixValue) (h : IsEchelonBasisMatrix k.ops A.size space m) where
     -- the rows as vectors
     abbrev pub basis_vectors : List (Vector k A.size)
     basis_vectors = vectors k A.size m.rows (rows_in k m (length m.rows) A.size h.shape h.over)

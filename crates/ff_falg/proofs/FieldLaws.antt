@@ -9,8 +9,8 @@ use Rattle.ff_linalg.specs.Kernel.{IsKernelBasis}
 use Rattle.finite_algebra_theory.specs.ByMap.{Image}
 use Rattle.finite_algebra_theory.specs.Idempotents.{FixedSpan}
 use Rattle.finite_algebra_theory.proofs.FieldTest.{field_by_number, test_of_field}
-use Rattle.ff_falg.specs.Algebras.{AlgebraOps, IsAlgebra, IsFixed, IsFieldAlgebra, power, zero_of}
-use Rattle.ff_falg.specs.Spaces.{IsEchelonBasis, IsFrobenius}
+use Rattle.ff_falg.specs.Algebras.{AlgebraOps, IsAlgebra, IsFixedVector, IsFieldAlgebra, power, zero_of}
+use Rattle.ff_falg.specs.Spaces.{IsEchelonBasisMatrix, IsFrobenius}
 use Rattle.ff_falg.proofs.Vectors.{Vector, vector_ring, same_vector, power_value}
 use Rattle.ff_falg.proofs.VectorAlgebra.{scalar, vector_algebra, length_scalars}
 use Rattle.ff_falg.proofs.Bases.{basis_vectors, length_basis_vectors, basis_independent, member_space, space_span, no_rows, rows_none}
@@ -42,32 +42,32 @@ module _ (k : CodeField) (A : AlgebraOps) (law : IsAlgebra k A) where
   abbrev pub IsKilled : List ℕ → Type 0
   IsKilled v = power k.ops A v k.size ≡ zero_of A
 
-  pub killed_space : (f m : MatrixValue) → IsFrobenius k.ops A f → IsKernelBasis k.ops f m → IsEchelonBasis k.ops A.size IsKilled m
+  pub killed_space : (f m : MatrixValue) → IsFrobenius k.ops A f → IsKernelBasis k.ops f m → IsEchelonBasisMatrix k.ops A.size IsKilled m
   killed_space f m h kernel =
       kernel_space k A.size f m IsKilled h.shape kernel
       (λ v v_in e. sym (h.values v v_in) ∙ e) (λ v v_in e. h.values v v_in ∙ e)
 
   module _ (some : 0 < A.size) where
-    pub fixed_span : (m : MatrixValue) (h : IsEchelonBasis k.ops A.size (IsFixed k.ops A) m)
-        → FixedSpan R.ops (Image (scalar k A law)) (vector_algebra k A law some).codes (basis_vectors k A law (IsFixed k.ops A) m h)
+    pub fixed_span : (m : MatrixValue) (h : IsEchelonBasisMatrix k.ops A.size (IsFixedVector k.ops A) m)
+        → FixedSpan R.ops (Image (scalar k A law)) (vector_algebra k A law some).codes (basis_vectors k A law (IsFixedVector k.ops A) m h)
     fixed_span m h = record {
       fixed = λ b i.
           ap (pow R.ops b) (length_scalars k A law some)
-          ∙ same_vector k A.size _ _ (power_value k A law b k.size ∙ (member_space k A law (IsFixed k.ops A) m h b i).is);
+          ∙ same_vector k A.size _ _ (power_value k A law b k.size ∙ (member_space k A law (IsFixedVector k.ops A) m h b i).is);
       spans = λ b e.
-          space_span k A law (IsFixed k.ops A) m h b (record {
+          space_span k A law (IsFixedVector k.ops A) m h b (record {
             is =
                 sym (power_value k A law b k.size)
                 ∙ ap (λ y. y.0) (ap (pow R.ops b) (sym (length_scalars k A law some)) ∙ e);
           });
     }
 
-    above : (killed fixed : MatrixValue) → IsEchelonBasis k.ops A.size IsKilled killed → IsEchelonBasis k.ops A.size (IsFixed k.ops A) fixed
+    above : (killed fixed : MatrixValue) → IsEchelonBasisMatrix k.ops A.size IsKilled killed → IsEchelonBasisMatrix k.ops A.size (IsFixedVector k.ops A) fixed
         → ((length killed.rows ≡ 0) × (length fixed.rows ≡ 1)) ↔ IsFieldAlgebra k.ops A
     above killed fixed h f =
         let test = field_by_number R (Image (scalar k A law)) (vector_algebra k A law some)
-        (basis_vectors k A law (IsFixed k.ops A) fixed f) (fixed_span fixed f) (basis_independent k A law (IsFixed k.ops A) fixed f) in
-        let number = length_basis_vectors k A law (IsFixed k.ops A) fixed f in (
+        (basis_vectors k A law (IsFixedVector k.ops A) fixed f) (fixed_span fixed f) (basis_independent k A law (IsFixedVector k.ops A) fixed f) in
+        let number = length_basis_vectors k A law (IsFixedVector k.ops A) fixed f in (
           (λ t. field_value (test.1 (
             (λ a e. no_rows k A law IsKilled killed h t.0 a
                 (sym (power_value k A law a k.size) ∙ ap (λ y. y.0) (ap (pow R.ops a) (sym (length_scalars k A law some)) ∙ e))),
@@ -83,7 +83,7 @@ module _ (k : CodeField) (A : AlgebraOps) (law : IsAlgebra k A) where
         )
 
   -- in a field no element but 0 has the q-th power 0
-  pub field_kernel : (killed : MatrixValue) → IsEchelonBasis k.ops A.size IsKilled killed → IsFieldAlgebra k.ops A → length killed.rows ≡ 0
+  pub field_kernel : (killed : MatrixValue) → IsEchelonBasisMatrix k.ops A.size IsKilled killed → IsFieldAlgebra k.ops A → length killed.rows ≡ 0
   field_kernel killed h F =
       let some = field_some F in
       let t = test_of_field R (Image (scalar k A law)) (vector_algebra k A law some) (value_field F) in
@@ -91,7 +91,7 @@ module _ (k : CodeField) (A : AlgebraOps) (law : IsAlgebra k A) where
       t.0 x (ap (pow R.ops x) (length_scalars k A law some) ∙ same_vector k A.size _ _ (power_value k A law x k.size ∙ e)))
 
   -- the algebra is a field exactly where no element but 0 has the q-th power 0, and the fixed ones have dimension 1
-  pub field_test : (killed fixed : MatrixValue) → IsEchelonBasis k.ops A.size IsKilled killed → IsEchelonBasis k.ops A.size (IsFixed k.ops A) fixed
+  pub field_test : (killed fixed : MatrixValue) → IsEchelonBasisMatrix k.ops A.size IsKilled killed → IsEchelonBasisMatrix k.ops A.size (IsFixedVector k.ops A) fixed
       → ((length killed.rows ≡ 0) × (length fixed.rows ≡ 1)) ↔ IsFieldAlgebra k.ops A
   field_test killed fixed h f =
       empty_or A.size (((length killed.rows ≡ 0) × (length fixed.rows ≡ 1)) ↔ IsFieldAlgebra k.ops A)
@@ -100,6 +100,6 @@ module _ (k : CodeField) (A : AlgebraOps) (law : IsAlgebra k A) where
     where
       none : A.size ≡ 0 → length fixed.rows ≡ 1 → ⊥
       none e l =
-          let z = rows_none k A law (IsFixed k.ops A) fixed f
+          let z = rows_none k A law (IsFixedVector k.ops A) fixed f
           (λ x s. same_vector k A.size _ _ (nil_from_length x.0 (x.1.size ∙ e) ∙ sym (ap (λ n. replicate n 0) e))) in
           omega arith

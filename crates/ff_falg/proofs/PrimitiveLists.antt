@@ -9,16 +9,16 @@ use Rattle.ring_theory.proofs.Solver.{ring, reads, from_two}
 use Rattle.ff_fields.specs.Field.{CodeField}
 use Rattle.ff_linalg.specs.Matrix.{MatrixValue}
 use Rattle.finite_algebra_theory.specs.Algebra.{FiniteAlgebra}
-use Rattle.finite_algebra_theory.specs.Algebra.{IsPrimitive as IsPrimitiveVector}
+use Rattle.finite_algebra_theory.specs.Algebra.{IsPrimitive}
 use Rattle.finite_algebra_theory.specs.ByMap.{Image}
 use Rattle.finite_algebra_theory.specs.Idempotents.{Orthogonal, Splitting}
 use Rattle.finite_algebra_theory.proofs.Idempotents.{member_sum, orthogonal_member, orthogonal_distinct}
 use Rattle.finite_algebra_theory.proofs.Lists.{all_of_in, in_map, of_map, distinct_map}
 use Rattle.finite_algebra_theory.proofs.Maximal.{orthogonal_pair}
 use Rattle.finite_algebra_theory.proofs.Primitive.{IsComplete, complete_by_number, complete_by_use, primitive_idempotents}
-use Rattle.ff_falg.specs.Algebras.{AlgebraOps, IsAlgebra, IsVector, IsIdempotent, IsPrimitive, IsFixed, zero_of}
-use Rattle.ff_falg.specs.Idempotents.{AreAscendingVectors, IsPart, IsPrimitiveList, sum_of}
-use Rattle.ff_falg.specs.Spaces.{IsEchelonBasis}
+use Rattle.ff_falg.specs.Algebras.{AlgebraOps, IsAlgebra, IsVector, IsIdempotentVector, IsPrimitiveVector, IsFixedVector, zero_of}
+use Rattle.ff_falg.specs.Idempotents.{AreAscendingVectors, IsSublist, IsPrimitiveList, sum_of}
+use Rattle.ff_falg.specs.Spaces.{IsEchelonBasisMatrix}
 use Rattle.ff_falg.specs.Splits.{IsFullSplitting}
 use Rattle.ff_falg.proofs.Bases.{basis_vectors, length_basis_vectors, no_rows}
 use Rattle.ff_falg.proofs.FieldLaws.{fixed_span}
@@ -63,13 +63,13 @@ module _ {E : Type 0} (R : CommRing E) where
     kept [] = []
     kept (e ∷ xs) = pick (decide (f ⊗ e) 𝟘) e (kept xs)
 
-    kept_sum : (xs : List E) → ((e : E) → In e xs → IsPrimitiveVector R.ops e)
+    kept_sum : (xs : List E) → ((e : E) → In e xs → IsPrimitive R.ops e)
         → sum_over R.ops (kept xs) (λ e. e) ≡ f ⊗ sum_over R.ops xs (λ e. e)
     unfolding pick kept
     kept_sum [] w = sym (mul_zero R f)
     kept_sum (x ∷ xs) w = go (kept_sum xs (λ y i. w y (inr i))) (decide (f ⊗ x) 𝟘)
       where
-        p : IsPrimitiveVector R.ops x
+        p : IsPrimitive R.ops x
         p = w x (inl refl)
 
         both : x ⊗ x ≡ x → f ⊗ x ⊗ (f ⊗ x) ≡ f ⊗ x
@@ -85,12 +85,12 @@ module _ {E : Type 0} (R : CommRing E) where
             ]
 
     -- seen as lists they are a part
-    kept_part : (value : E → List ℕ) (xs : List E) → IsPart (map value (kept xs)) (map value xs)
+    kept_part : (value : E → List ℕ) (xs : List E) → IsSublist (map value (kept xs)) (map value xs)
     unfolding pick kept
     kept_part value [] = refl
     kept_part value (x ∷ xs) = go (kept_part value xs) (decide (f ⊗ x) 𝟘)
       where
-        go : IsPart (map value (kept xs)) (map value xs) → (t : Dec (f ⊗ x ≡ 𝟘)) → IsPart (map value (pick t x (kept xs))) (map value (x ∷ xs))
+        go : IsSublist (map value (kept xs)) (map value xs) → (t : Dec (f ⊗ x ≡ 𝟘)) → IsSublist (map value (pick t x (kept xs))) (map value (x ∷ xs))
         go ih (yes z) = inl ih
         go ih (no n) = inr (map value (kept xs), refl, ih)
 
@@ -104,7 +104,7 @@ module _ (k : CodeField) (A : AlgebraOps) (law : IsAlgebra k A) where
   abbrev S : V → Type 0
   S = Image (scalar k A law)
 
-  pub primitive_value : (e : V) → IsPrimitiveVector R.ops e → IsPrimitive k.ops A e.0
+  pub primitive_value : (e : V) → IsPrimitive R.ops e → IsPrimitiveVector k.ops A e.0
   primitive_value e p = record {
     idempotent = record { vector = e.1; square = ap (λ y. y.0) p.idempotent };
     nonzero = λ z. p.nonzero (same_vector k A.size _ _ z);
@@ -114,7 +114,7 @@ module _ (k : CodeField) (A : AlgebraOps) (law : IsAlgebra k A) where
     ];
   }
 
-  pub value_primitive : (e : List ℕ) (p : IsPrimitive k.ops A e) → IsPrimitiveVector R.ops (e, p.idempotent.vector)
+  pub value_primitive : (e : List ℕ) (p : IsPrimitiveVector k.ops A e) → IsPrimitive R.ops (e, p.idempotent.vector)
   value_primitive e p = record {
     nonzero = λ z. p.nonzero (ap (λ y. y.0) z);
     idempotent = same_vector k A.size _ _ p.idempotent.square;
@@ -127,7 +127,7 @@ module _ (k : CodeField) (A : AlgebraOps) (law : IsAlgebra k A) where
   pub in_lists : (x : V) (xs : List V) → In x.0 (lists k A law xs) → In x xs
   in_lists x xs i = let r = of_map (λ y. y.0) xs x.0 i in subst (λ y. In y xs) (sym (same_vector k A.size x r.0 r.2)) r.1
 
-  module _ (basis : MatrixValue) (h : IsEchelonBasis k.ops A.size (IsFixed k.ops A) basis) (some : 0 < A.size)
+  module _ (basis : MatrixValue) (h : IsEchelonBasisMatrix k.ops A.size (IsFixedVector k.ops A) basis) (some : 0 < A.size)
       (es : List (List ℕ)) (s : IsFullSplitting k.ops A basis es) where
     abbrev 𝓐 : FiniteAlgebra R.ops S
     𝓐 = vector_algebra k A law some
@@ -136,7 +136,7 @@ module _ (k : CodeField) (A : AlgebraOps) (law : IsAlgebra k A) where
     vs = vectors_of k A law es s.splitting.orthogonal
 
     abbrev bs : List V
-    bs = basis_vectors k A law (IsFixed k.ops A) basis h
+    bs = basis_vectors k A law (IsFixedVector k.ops A) basis h
 
     used_none : Splitting R.ops S [] vs
     used_none = value_splitting k A law basis s.used es s.splitting [] (λ a i. absurd i)
@@ -148,7 +148,7 @@ module _ (k : CodeField) (A : AlgebraOps) (law : IsAlgebra k A) where
         go (inl e) =
             complete_by_number R S 𝓐 [] vs used_none bs (fixed_span k A law some basis h)
             (sym (length-map vs (λ y. y.0)) ∙ ap length (lists_vectors k A law es s.splitting.orthogonal) ∙ e
-            ∙ sym (length_basis_vectors k A law (IsFixed k.ops A) basis h))
+            ∙ sym (length_basis_vectors k A law (IsFixedVector k.ops A) basis h))
         go (inr le) =
             complete_by_use R S 𝓐 bs vs
             (value_splitting k A law basis s.used es s.splitting bs (λ a i.
@@ -211,16 +211,16 @@ module _ (k : CodeField) (A : AlgebraOps) (law : IsAlgebra k A) where
       complete_us : IsComplete R S 𝓐 us
       complete_us = λ b fixed e i. complete b fixed e (us_vs e i)
 
-      primitive : (f : V) → IsPrimitiveVector R.ops f ↔ In f us
+      primitive : (f : V) → IsPrimitive R.ops f ↔ In f us
       primitive = primitive_idempotents R S 𝓐 [] us splitting complete_us
 
-      idempotents : (f : List ℕ) → IsIdempotent k.ops A f → (fs : List (List ℕ)) × IsPart fs ts × (f ≡ sum_of k.ops A fs)
+      idempotents : (f : List ℕ) → IsIdempotentVector k.ops A f → (fs : List (List ℕ)) × IsSublist fs ts × (f ≡ sum_of k.ops A fs)
       idempotents f i =
           let v : V = (f, i.vector) in
           let square : R.◌⊗◌ v v ≡ v = same_vector k A.size _ _ i.square in
           let ks = kept R 𝓐.decide v square us in (
             lists k A law ks,
-            subst (IsPart (lists k A law ks)) lists_us (kept_part R 𝓐.decide v square (λ y. y.0) us),
+            subst (IsSublist (lists k A law ks)) lists_us (kept_part R 𝓐.decide v square (λ y. y.0) us),
             sym (sym (sum_value k A law ks)
                 ∙ ap (λ y. y.0) (kept_sum R 𝓐.decide v square us (λ e j. (primitive e).1 j) ∙ ap (R.◌⊗◌ v) sum ∙ R.mul_one v)),
           )
@@ -231,7 +231,7 @@ module _ (k : CodeField) (A : AlgebraOps) (law : IsAlgebra k A) where
         members = λ e. (
           (λ i.
               let v = in_vs e i in
-              subst (IsPrimitive k.ops A) (sym v.2) (primitive_value v.0 ((primitive v.0).1 (vs_us v.0 v.1)))),
+              subst (IsPrimitiveVector k.ops A) (sym v.2) (primitive_value v.0 ((primitive v.0).1 (vs_us v.0 v.1)))),
           (λ p. subst (In e) lists_us (in_map (λ y. y.0) us (e, p.idempotent.vector) ((primitive (e, p.idempotent.vector)).0 (value_primitive e p)))),
         );
         ascending = ascending;
@@ -248,7 +248,7 @@ module _ (k : CodeField) (A : AlgebraOps) (law : IsAlgebra k A) where
       }
 
   -- in dimension 0 there is none
-  pub none_list : (basis : MatrixValue) → IsEchelonBasis k.ops A.size (IsFixed k.ops A) basis → length basis.rows ≡ 0 → IsPrimitiveList k.ops A []
+  pub none_list : (basis : MatrixValue) → IsEchelonBasisMatrix k.ops A.size (IsFixedVector k.ops A) basis → length basis.rows ≡ 0 → IsPrimitiveList k.ops A []
   none_list basis h none = record {
     members = λ e. ((λ i. absurd i), (λ p. p.nonzero (empty e p.idempotent.vector)));
     ascending = record { next = λ i less. absurd (omega arith) };
@@ -260,7 +260,7 @@ module _ (k : CodeField) (A : AlgebraOps) (law : IsAlgebra k A) where
       size : A.size ≡ 0
       size =
           empty_or A.size (A.size ≡ 0) (λ e. e)
-          (λ some. absurd (one_not_zero k A law some (no_rows k A law (IsFixed k.ops A) basis h none R.𝟙
+          (λ some. absurd (one_not_zero k A law some (no_rows k A law (IsFixedVector k.ops A) basis h none R.𝟙
           (record {
             is =
                 sym (power_value k A law R.𝟙 k.size)

@@ -10,9 +10,9 @@ use Rattle.ff_fields.specs.Field.{CodeField}
 use Rattle.ff_linalg.specs.Matrix.{MatrixValue, row_of}
 use Rattle.finite_algebra_theory.specs.ByMap.{Image}
 use Rattle.finite_algebra_theory.proofs.Idempotents.{splitting_start}
-use Rattle.ff_falg.specs.Algebras.{AlgebraOps, IsAlgebra, IsVector, IsIdempotent, IsFixed, zero_of}
+use Rattle.ff_falg.specs.Algebras.{AlgebraOps, IsAlgebra, IsVector, IsIdempotentVector, IsFixedVector, zero_of}
 use Rattle.ff_falg.specs.Relations.{IsBounded}
-use Rattle.ff_falg.specs.Spaces.{IsEchelonBasis}
+use Rattle.ff_falg.specs.Spaces.{IsEchelonBasisMatrix}
 use Rattle.ff_falg.specs.Splits.{IsOrthogonal, IsSplitting}
 use Rattle.ff_falg.proofs.Bases.{basis_vectors, length_basis_vectors, member_space, rows_none}
 use Rattle.ff_falg.proofs.FieldLaws.{fixed_span}
@@ -44,15 +44,15 @@ module _ (k : CodeField) (A : AlgebraOps) (law : IsAlgebra k A) where
   R = vector_ring k A law
 
   pub orthogonal_at : (es : List (List ℕ)) (i : ℕ) → i < length es → IsOrthogonal k.ops A es
-      → IsIdempotent k.ops A (get_or es i []) × (get_or es i [] ≢ zero_of A)
+      → IsIdempotentVector k.ops A (get_or es i []) × (get_or es i [] ≢ zero_of A)
   orthogonal_at [] i less o = absurd (omega arith)
   orthogonal_at (e ∷ es) zero less o = (o.0, o.1)
   orthogonal_at (e ∷ es) (suc i) less o = orthogonal_at es i (omega arith) o.3
 
   pub member_at : (parts : List (Vec ℕ)) (i : ℕ) (e : Vec ℕ) → e ≡ get_or parts i e → i < length parts → IsOrthogonal k.ops A (elements_of parts)
-      → IsIdempotent k.ops A e.items × (e.items ≢ zero_of A)
+      → IsIdempotentVector k.ops A e.items × (e.items ≢ zero_of A)
   member_at parts i e e_is less o =
-      subst (λ y. IsIdempotent k.ops A y × (y ≢ zero_of A))
+      subst (λ y. IsIdempotentVector k.ops A y × (y ≢ zero_of A))
       (get_or-map (λ v. v.items) parts i e [] less ∙ ap (λ v. v.items) (sym e_is))
       (orthogonal_at (elements_of parts) i (let l = length-map parts (λ v. v.items) in omega arith) o)
 
@@ -61,33 +61,33 @@ module _ (k : CodeField) (A : AlgebraOps) (law : IsAlgebra k A) where
   elements_more parts i e e_is less =
       map_more (λ v. v.items) parts i e less ∙ ap (λ y. elements_of (take i parts) ++ y.items ∷ []) (sym e_is)
 
-  module _ (basis : MatrixValue) (h : IsEchelonBasis k.ops A.size (IsFixed k.ops A) basis) where
+  module _ (basis : MatrixValue) (h : IsEchelonBasisMatrix k.ops A.size (IsFixedVector k.ops A) basis) where
     pub basis_row : (l : ℕ) → l < length basis.rows → IsVector k.ops A.size (row_of basis l)
     basis_row l less = row_in k basis (length basis.rows) A.size l h.shape h.over less
 
-    pub basis_fixed : (l : ℕ) → l < length basis.rows → IsFixed k.ops A (row_of basis l)
+    pub basis_fixed : (l : ℕ) → l < length basis.rows → IsFixedVector k.ops A (row_of basis l)
     basis_fixed l less =
-        member_space k A law (IsFixed k.ops A) basis h (row_of basis l, basis_row l less)
+        member_space k A law (IsFixedVector k.ops A) basis h (row_of basis l, basis_row l less)
         (in_vectors k A.size basis.rows (rows_in k basis (length basis.rows) A.size h.shape h.over) l (basis_row l less) less)
 
     pub basis_some : 0 < length basis.rows → 0 < A.size
     basis_some some =
         empty_or A.size (0 < A.size)
-        (λ z. absurd (let r = rows_none k A law (IsFixed k.ops A) basis h (λ x s. same_vector k A.size _ _
+        (λ z. absurd (let r = rows_none k A law (IsFixedVector k.ops A) basis h (λ x s. same_vector k A.size _ _
         (by_dimension k A law x.0 (zero_of A) x.1 (zeros_in k A.size) (λ l. absurd (omega arith)))) in
         omega arith))
         (λ l. l)
 
     -- what the first relation of powers asks for
-    pub relation_bound : (l : ℕ) (e : List ℕ) → l < length basis.rows → IsIdempotent k.ops A e → e ≢ zero_of A
+    pub relation_bound : (l : ℕ) (e : List ℕ) → l < length basis.rows → IsIdempotentVector k.ops A e → e ≢ zero_of A
         → IsBounded k.ops A (row_of basis l) e (length basis.rows)
     relation_bound l e less idem ne =
         let some = size_some k A law e idem.vector ne in
         let x_in = basis_row l less in
         record {
           bounded = λ m p independent.
-              subst (λ n. length m.rows ≤ n) (length_basis_vectors k A law (IsFixed k.ops A) basis h)
-              (powers_bounded k A law (row_of basis l) e x_in idem.vector m p some (basis_vectors k A law (IsFixed k.ops A) basis h)
+              subst (λ n. length m.rows ≤ n) (length_basis_vectors k A law (IsFixedVector k.ops A) basis h)
+              (powers_bounded k A law (row_of basis l) e x_in idem.vector m p some (basis_vectors k A law (IsFixedVector k.ops A) basis h)
               (fixed_span k A law some basis h)
               (ap (pow R.ops (row_of basis l, x_in)) (length_scalars k A law some)
               ∙ same_vector k A.size _ _ (power_value k A law (row_of basis l, x_in) k.size ∙ (basis_fixed l less).is))

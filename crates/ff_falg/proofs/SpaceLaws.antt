@@ -16,8 +16,8 @@ use Rattle.ff_linalg.specs.Space.{product_of}
 use Rattle.ff_linalg.specs.Kernel.{IsKernelBasis}
 use Rattle.finite_algebra_theory.specs.ByMap.{Image}
 use Rattle.finite_algebra_theory.proofs.Nilpotent.{nilpotent_kernel}
-use Rattle.ff_falg.specs.Algebras.{AlgebraOps, IsAlgebra, IsVector, IsNilpotent, IsFixed, power, zero_of}
-use Rattle.ff_falg.specs.Spaces.{IsEchelonBasis, IsFrobenius}
+use Rattle.ff_falg.specs.Algebras.{AlgebraOps, IsAlgebra, IsVector, IsNilpotentVector, IsFixedVector, power, zero_of}
+use Rattle.ff_falg.specs.Spaces.{IsEchelonBasisMatrix, IsFrobenius}
 use Rattle.ff_falg.specs.Steps.{IsIterate, IsProductBelow, IsLessUnit}
 use Rattle.ff_falg.proofs.Lists.{code_add_zero, lists_zero}
 use Rattle.ff_falg.proofs.UnitRows.{unit_in}
@@ -85,7 +85,7 @@ module _ (k : CodeField) where
   pub kernel_space : (n : ℕ) (a m : MatrixValue) (space : List ℕ → Type 0) → HasShape a n n → IsKernelBasis k.ops a m
       → ((v : List ℕ) → IsVector k.ops n v → product_of k.ops v a ≡ replicate n 0 → space v)
       → ((v : List ℕ) → IsVector k.ops n v → space v → product_of k.ops v a ≡ replicate n 0)
-      → IsEchelonBasis k.ops n space m
+      → IsEchelonBasisMatrix k.ops n space m
   kernel_space n a m space shape kernel to from = record {
     shape = subst (HasShape m (length m.rows)) shape.row_count kernel.shape;
     over = kernel.over;
@@ -134,15 +134,15 @@ module _ (k : CodeField) (A : AlgebraOps) (law : IsAlgebra k A) where
 
   -- the nilpotent elements are the kernel of a high iterate
   pub nilpotent_space : (a m : MatrixValue) → IsIterate k.ops A A.size a → IsKernelBasis k.ops a m
-      → IsEchelonBasis k.ops A.size (IsNilpotent k.ops A) m
+      → IsEchelonBasisMatrix k.ops A.size (IsNilpotentVector k.ops A) m
   nilpotent_space a m h kernel =
-      kernel_space k A.size a m (IsNilpotent k.ops A) h.shape kernel
+      kernel_space k A.size a m (IsNilpotentVector k.ops A) h.shape kernel
       (λ v v_in e. record { exponent = k.size ^ h.times; is = sym (iterate_values k A law h.times a h.shape h.rows v v_in) ∙ e })
       (λ v v_in n.
       iterate_values k A law h.times a h.shape h.rows v v_in
       ∙ by_dimension k A law _ _ (power_in k A law v (k.size ^ h.times) v_in) (zeros_in k A.size) (λ some. killed some v v_in n))
     where
-      killed : 0 < A.size → (v : List ℕ) (v_in : IsVector k.ops A.size v) → IsNilpotent k.ops A v → power k.ops A v (k.size ^ h.times) ≡ zero_of A
+      killed : 0 < A.size → (v : List ℕ) (v_in : IsVector k.ops A.size v) → IsNilpotentVector k.ops A v → power k.ops A v (k.size ^ h.times) ≡ zero_of A
       killed some v v_in n =
           sym (power_value k A law (v, v_in) (k.size ^ h.times))
           ∙ ap (λ y. y.0) (ap (λ e. pow (vector_ring k A law).ops (v, v_in) (e ^ h.times)) (sym (length_scalars k A law some))
@@ -153,9 +153,9 @@ module _ (k : CodeField) (A : AlgebraOps) (law : IsAlgebra k A) where
 
   -- the elements that are their own q-th powers are the kernel of the map a to a^q - a
   pub fixed_space : (f a m : MatrixValue) → IsFrobenius k.ops A f → IsLessUnit k.ops f f.cols a → IsKernelBasis k.ops a m
-      → IsEchelonBasis k.ops A.size (IsFixed k.ops A) m
+      → IsEchelonBasisMatrix k.ops A.size (IsFixedVector k.ops A) m
   fixed_space f a m h less kernel =
-      kernel_space k A.size a m (IsFixed k.ops A) shape kernel
+      kernel_space k A.size a m (IsFixedVector k.ops A) shape kernel
       (λ v v_in e. record {
         is =
             ap (λ y. y.0) (eq_of_sub (vector_ring k A law) (power k.ops A v k.size, power_in k A law v k.size v_in) (v, v_in)

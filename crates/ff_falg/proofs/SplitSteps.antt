@@ -17,7 +17,7 @@ use Rattle.finite_algebra_theory.specs.Horner.{value, combination}
 use Rattle.finite_algebra_theory.specs.Minimal.{Minimal}
 use Rattle.finite_algebra_theory.proofs.Idempotents.{split_one}
 use Rattle.finite_algebra_theory.proofs.Lists.{all_of_in}
-use Rattle.ff_falg.specs.Algebras.{AlgebraOps, IsAlgebra, IsVector, IsIdempotent, IsFixed, zero_of}
+use Rattle.ff_falg.specs.Algebras.{AlgebraOps, IsAlgebra, IsVector, IsIdempotentVector, IsFixedVector, zero_of}
 use Rattle.ff_falg.specs.Relations.{IsRelation}
 use Rattle.ff_falg.specs.Roots.{IsRoots}
 use Rattle.ff_falg.specs.Splits.{IsSimple, IsSplit, part_of}
@@ -43,7 +43,7 @@ module _ (k : CodeField) (A : AlgebraOps) (law : IsAlgebra k A) where
       empty_or A.size (0 < A.size)
       (λ z. absurd (ne (nil_from_length e (e_in.size ∙ z) ∙ sym (ap (λ n. replicate n 0) z)))) (λ l. l)
 
-  module _ (x e : List ℕ) (x_in : IsVector k.ops A.size x) (fixed : IsFixed k.ops A x) (idem : IsIdempotent k.ops A e) (ne : e ≢ zero_of A)
+  module _ (x e : List ℕ) (x_in : IsVector k.ops A.size x) (fixed : IsFixedVector k.ops A x) (idem : IsIdempotentVector k.ops A e) (ne : e ≢ zero_of A)
       (m : MatrixValue) (v : List ℕ) (r : IsRelation k.ops A x e m v) where
     abbrev a : Vector k A.size
     a = (x, x_in)

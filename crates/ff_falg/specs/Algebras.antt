@@ -40,24 +40,24 @@ power k A a zero = A.unit
 power k A a (suc e) = A.product k a (power k A a e)
 
 -- some power of a is 0
-pub record IsNilpotent (k : FieldOps) (A : AlgebraOps) (a : List ℕ) : Type 0 where
+pub record IsNilpotentVector (k : FieldOps) (A : AlgebraOps) (a : List ℕ) : Type 0 where
   pub exponent : ℕ
   pub is : power k A a exponent ≡ zero_of A
 
 -- a is its own q-th power, where q is the size of the field
-pub record IsFixed (k : FieldOps) (A : AlgebraOps) (a : List ℕ) : Type 0 where
+pub record IsFixedVector (k : FieldOps) (A : AlgebraOps) (a : List ℕ) : Type 0 where
   pub is : power k A a k.size ≡ a
 
 -- an element that is its own square
-pub record IsIdempotent (k : FieldOps) (A : AlgebraOps) (e : List ℕ) : Type 0 where
+pub record IsIdempotentVector (k : FieldOps) (A : AlgebraOps) (e : List ℕ) : Type 0 where
   pub vector : IsVector k A.size e
   pub square : A.product k e e ≡ e
 
 -- an idempotent that isn't 0, of which each idempotent multiple is 0 or itself
-pub record IsPrimitive (k : FieldOps) (A : AlgebraOps) (e : List ℕ) : Type 0 where
-  pub idempotent : IsIdempotent k A e
+pub record IsPrimitiveVector (k : FieldOps) (A : AlgebraOps) (e : List ℕ) : Type 0 where
+  pub idempotent : IsIdempotentVector k A e
   pub nonzero : e ≢ zero_of A
-  pub least : (f : List ℕ) → IsIdempotent k A f → A.product k f e ≡ f → (f ≡ zero_of A) ⊎ (f ≡ e)
+  pub least : (f : List ℕ) → IsIdempotentVector k A f → A.product k f e ≡ f → (f ≡ zero_of A) ⊎ (f ≡ e)
 
 -- the algebra is a field: 1 isn't 0, and each element that isn't 0 has an inverse
 pub record IsFieldAlgebra (k : FieldOps) (A : AlgebraOps) : Type 0 where

@@ -5,7 +5,7 @@ use Rattle.ring_theory.specs.Lists.{add_lists}
 use Rattle.ring_theory.specs.Members.{In}
 use Rattle.ff_fields.specs.Field.{FieldOps}
 use Rattle.ff_fields.specs.Code.{raw_ring}
-use Rattle.ff_falg.specs.Algebras.{AlgebraOps, IsIdempotent, IsPrimitive, zero_of}
+use Rattle.ff_falg.specs.Algebras.{AlgebraOps, IsIdempotentVector, IsPrimitiveVector, zero_of}
 
 -- the elements that vectors of codes hold
 abbrev pub elements_of : List (Vec ℕ) → List (List ℕ)
@@ -23,9 +23,9 @@ pub record AreAscendingVectors (es : List (List ℕ)) : Type 0 where
   pub next : (i : ℕ) → suc i < length es → IsBeforeVector (get_or es i []) (get_or es (suc i) [])
 
 -- some of the members of a list, in their order there
-abbrev pub IsPart : List (List ℕ) → List (List ℕ) → Type 0
-IsPart fs [] = fs ≡ []
-IsPart fs (e ∷ es) = IsPart fs es ⊎ ((gs : List (List ℕ)) × (fs ≡ e ∷ gs) × IsPart gs es)
+abbrev pub IsSublist : List (List ℕ) → List (List ℕ) → Type 0
+IsSublist fs [] = fs ≡ []
+IsSublist fs (e ∷ es) = IsSublist fs es ⊎ ((gs : List (List ℕ)) × (fs ≡ e ∷ gs) × IsSublist gs es)
 
 -- the sum of the members of a list
 abbrev pub sum_of : FieldOps → AlgebraOps → List (List ℕ) → List ℕ
@@ -34,8 +34,8 @@ sum_of k A (e ∷ es) = add_lists (raw_ring k) e (sum_of k A es)
 
 -- all primitive idempotents, in ascending order: products of two are 0, their sum is 1, and each idempotent is the sum of some
 pub record IsPrimitiveList (k : FieldOps) (A : AlgebraOps) (es : List (List ℕ)) : Type 0 where
-  pub members : (e : List ℕ) → In e es ↔ IsPrimitive k A e
+  pub members : (e : List ℕ) → In e es ↔ IsPrimitiveVector k A e
   pub ascending : AreAscendingVectors es
   pub product : (e f : List ℕ) → In e es → In f es → e ≢ f → A.product k e f ≡ zero_of A
   pub sum : sum_of k A es ≡ A.unit
-  pub idempotents : (f : List ℕ) → IsIdempotent k A f → (fs : List (List ℕ)) × IsPart fs es × (f ≡ sum_of k A fs)
+  pub idempotents : (f : List ℕ) → IsIdempotentVector k A f → (fs : List (List ℕ)) × IsSublist fs es × (f ≡ sum_of k A fs)

@@ -16,7 +16,7 @@ pub record IsFrobenius (k : FieldOps) (A : AlgebraOps) (m : MatrixValue) : Type 
 
 -- the reduced echelon basis of a space of elements: a matrix in reduced row echelon form without rows that are 0, whose row
 -- space is that space
-pub record IsEchelonBasis (k : FieldOps) (n : ℕ) (space : List ℕ → Type 0) (m : MatrixValue) : Type 0 where
+pub record IsEchelonBasisMatrix (k : FieldOps) (n : ℕ) (space : List ℕ → Type 0) (m : MatrixValue) : Type 0 where
   pub shape : HasShape m (length m.rows) n
   pub over : IsMatrixOver k m
   pub reduced : IsReducedForm k m (length m.rows)

@@ -5,7 +5,7 @@ use Rattle.ff_fields.specs.Field.{FieldOps}
 use Rattle.ff_fields.specs.Code.{raw_ring}
 use Rattle.ff_linalg.specs.Matrix.{MatrixValue, row_of}
 use Rattle.ff_linalg.specs.Space.{product_of}
-use Rattle.ff_falg.specs.Algebras.{AlgebraOps, IsIdempotent, zero_of}
+use Rattle.ff_falg.specs.Algebras.{AlgebraOps, IsIdempotentVector, zero_of}
 use Rattle.ff_falg.specs.Idempotents.{sum_of}
 use Rattle.ff_falg.specs.Roots.{monic_value, quotient_of}
 
@@ -26,7 +26,7 @@ pub record IsSimple (k : FieldOps) (lower : List ℕ) (c : ℕ) : Type 0 where
 abbrev pub IsOrthogonal : FieldOps → AlgebraOps → List (List ℕ) → Type 0
 IsOrthogonal k A [] = Unit {0}
 IsOrthogonal k A (e ∷ es) =
-    IsIdempotent k A e × (e ≢ zero_of A) × All (λ f. A.product k e f ≡ zero_of A) es × IsOrthogonal k A es
+    IsIdempotentVector k A e × (e ≢ zero_of A) × All (λ f. A.product k e f ≡ zero_of A) es × IsOrthogonal k A es
 
 -- x·e is a multiple of e by a code
 pub record IsScalarAt (k : FieldOps) (A : AlgebraOps) (x e : List ℕ) : Type 0 where

@@ -3,10 +3,10 @@
 ghost use Rattle.std.specs.Prelude.{◌≡◌, ◌≢◌, ◌<◌, ◌≤◌, ◌++◌, ◌+◌, length, map, All, IfOk, OnOk};
 ghost use Rattle.ff_fields.specs.Over.{IsOver};
 ghost use Rattle.ff_linalg.specs.Matrix.{IsMatrixOver, HasShape};
-ghost use Rattle.ff_falg.specs.Algebras.{IsVector, IsFixed, IsIdempotent, zero_of};
+ghost use Rattle.ff_falg.specs.Algebras.{IsVector, IsFixedVector, IsIdempotentVector, zero_of};
 ghost use Rattle.ff_falg.specs.Idempotents.{elements_of, IsPrimitiveList};
 ghost use Rattle.ff_falg.specs.Relations.{IsBounded};
-ghost use Rattle.ff_falg.specs.Spaces.{IsEchelonBasis};
+ghost use Rattle.ff_falg.specs.Spaces.{IsEchelonBasisMatrix};
 ghost use Rattle.ff_falg.specs.Splits.{part_of, IsSimple, IsSplitOnto, IsSplitting, IsFullSplitting};
 
 use crate::algebra::FiniteAlgebra;
@@ -76,8 +76,8 @@ fn split<K: SmallField, A: FiniteAlgebra<K>>(
 ) -> Result<(), AllocError>
     requires over { A.IsOver a.now (K.field k.now) }
     requires x_in { IsVector (K.field k.now).ops (A.algebra a.now).size x.now }
-    requires fixed { IsFixed (K.field k.now).ops (A.algebra a.now) x.now }
-    requires idempotent { IsIdempotent (K.field k.now).ops (A.algebra a.now) e.now }
+    requires fixed { IsFixedVector (K.field k.now).ops (A.algebra a.now) x.now }
+    requires idempotent { IsIdempotentVector (K.field k.now).ops (A.algebra a.now) e.now }
     requires nonzero { e.now ≢ zero_of (A.algebra a.now) }
     requires some { 0 < bound }
     requires bounded { IsBounded (K.field k.now).ops (A.algebra a.now) x.now e.now bound }
@@ -111,7 +111,7 @@ fn refine<K: SmallField, A: FiniteAlgebra<K>>(
     parts: &[Vec<u32>],
 ) -> Result<Vec<Vec<u32>>, AllocError>
     requires over { A.IsOver a.now (K.field k.now) }
-    requires basis { IsEchelonBasis (K.field k.now).ops (A.algebra a.now).size (IsFixed (K.field k.now).ops (A.algebra a.now)) basis.now }
+    requires basis { IsEchelonBasisMatrix (K.field k.now).ops (A.algebra a.now).size (IsFixedVector (K.field k.now).ops (A.algebra a.now)) basis.now }
     requires within { i < length basis.now.rows }
     requires splitting { IsSplitting (K.field k.now).ops (A.algebra a.now) basis.now i (elements_of parts.now) }
     ensures { IfOk result (λ v. IsSplitting (K.field k.now).ops (A.algebra a.now) basis.now (i + 1) (elements_of v.items)) }
@@ -139,7 +139,7 @@ fn split_one<K: SmallField, A: FiniteAlgebra<K>>(
     basis: &Matrix,
 ) -> Result<Vec<Vec<u32>>, AllocError>
     requires over { A.IsOver a.now (K.field k.now) }
-    requires basis { IsEchelonBasis (K.field k.now).ops (A.algebra a.now).size (IsFixed (K.field k.now).ops (A.algebra a.now)) basis.now }
+    requires basis { IsEchelonBasisMatrix (K.field k.now).ops (A.algebra a.now).size (IsFixedVector (K.field k.now).ops (A.algebra a.now)) basis.now }
     requires some { 0 < length basis.now.rows }
     ensures { IfOk result (λ v. IsFullSplitting (K.field k.now).ops (A.algebra a.now) basis.now (elements_of v.items)) }
 {

@@ -2,8 +2,8 @@
 
 ghost use Rattle.std.specs.Prelude.{◌≡◌, ◌<◌, ◌≤◌, length, IfOk};
 ghost use Rattle.ff_linalg.specs.Matrix.{IsMatrixOver, HasShape};
-ghost use Rattle.ff_falg.specs.Algebras.{IsNilpotent, IsFixed};
-ghost use Rattle.ff_falg.specs.Spaces.{IsEchelonBasis};
+ghost use Rattle.ff_falg.specs.Algebras.{IsNilpotentVector, IsFixedVector};
+ghost use Rattle.ff_falg.specs.Spaces.{IsEchelonBasisMatrix};
 ghost use Rattle.ff_falg.specs.Steps.{IsIterate, IsLessUnit};
 
 use crate::algebra::FiniteAlgebra;
@@ -54,7 +54,7 @@ pub fn nilpotents<K: SmallField, A: FiniteAlgebra<K>>(
 ) -> Result<Matrix, AllocError>
     requires { A.IsOver a.now (K.field k.now) }
     ensures { let n = (A.algebra a.now).size in
-        IfOk result (IsEchelonBasis (K.field k.now).ops n (IsNilpotent (K.field k.now).ops (A.algebra a.now))) }
+        IfOk result (IsEchelonBasisMatrix (K.field k.now).ops n (IsNilpotentVector (K.field k.now).ops (A.algebra a.now))) }
 {
     let iterate = high_iterate(alloc, k, a)?;
     kernel(alloc, k, &iterate)
@@ -69,7 +69,7 @@ pub fn fixed<K: SmallField, A: FiniteAlgebra<K>>(
 ) -> Result<Matrix, AllocError>
     requires { A.IsOver a.now (K.field k.now) }
     ensures { let n = (A.algebra a.now).size in
-        IfOk result (IsEchelonBasis (K.field k.now).ops n (IsFixed (K.field k.now).ops (A.algebra a.now))) }
+        IfOk result (IsEchelonBasisMatrix (K.field k.now).ops n (IsFixedVector (K.field k.now).ops (A.algebra a.now))) }
 {
     let mut map = frobenius(alloc, k, a)?;
     take_unit(k, &mut map);

@@ -10,7 +10,7 @@ use Rattle.ring_theory.specs.Lists.{add_lists, neg_list}
 use Rattle.ff_fields.specs.Prime.{prime_of}
 use Rattle.ff_fields.specs.Code.{raw_ring}
 use Rattle.ff_fields.specs.Residue.{digits, number, number_digits, length_digits, IsOver_digits, residue_mul}
-use Rattle.ff_fields.specs.Modulus.{IsMonicModulus, IsReduction, stepped}
+use Rattle.ff_fields.specs.Modulus.{IsMonicModulus, IsReducedProduct, stepped}
 use Rattle.ff_fields.proofs.ReduceSteps.{reduced_more, reduced_none}
 use Rattle.ff_fields.proofs.Products.{number_reduced}
 
@@ -154,21 +154,21 @@ digits_zero (suc m) = ap (λ w. 0 ∷ w) (digits_zero m)
 pub record IsPartProduct (m modulus a b i product : ℕ) : Type 0 where
   pub below : product < 2 ^ m
   pub quotient : List ℕ
-  pub reduced : IsReduction 2 (drop i (digits 2 m a)) (digits 2 m b) (replicate m 0) quotient (digits 2 (m + 1) modulus) (digits 2 m product)
+  pub reduced : IsReducedProduct 2 (drop i (digits 2 m a)) (digits 2 m b) (replicate m 0) quotient (digits 2 (m + 1) modulus) (digits 2 m product)
 
 pub part_none : (m modulus a b : ℕ) → IsPartProduct m modulus a b m 0
 part_none m modulus a b = record {
   below = power_pos m;
   quotient = [];
-  reduced = subst (λ w. IsReduction 2 w (digits 2 m b) (replicate m 0) [] (digits 2 (m + 1) modulus) (digits 2 m 0)) (sym (drop_all m (digits 2 m a) (omega (arith, length_digits 2 m a))))
-      (subst (λ w. IsReduction 2 [] (digits 2 m b) w [] (digits 2 (m + 1) modulus) (digits 2 m 0)) (digits_zero m) (reduced_none 2 (digits 2 m b) (digits 2 (m + 1) modulus) (digits 2 m 0)));
+  reduced = subst (λ w. IsReducedProduct 2 w (digits 2 m b) (replicate m 0) [] (digits 2 (m + 1) modulus) (digits 2 m 0)) (sym (drop_all m (digits 2 m a) (omega (arith, length_digits 2 m a))))
+      (subst (λ w. IsReducedProduct 2 [] (digits 2 m b) w [] (digits 2 (m + 1) modulus) (digits 2 m 0)) (digits_zero m) (reduced_none 2 (digits 2 m b) (digits 2 (m + 1) modulus) (digits 2 m 0)));
 }
 
 pub part_more : (m modulus a b i n product next : ℕ) → IsMonicModulus 2 m (digits 2 (m + 1) modulus) → modulus < 2 ^ (m + 1) → b < 2 ^ m → i ≡ suc n → i ≤ m → next ≡ bit_xor (bit_xor (2 * product) (modulus * bit_at product (m - 1))) (b * bit_at a n) → IsPartProduct m modulus a b i product → IsPartProduct m modulus a b n next
 part_more m modulus a b i n product next poly modulus_in b_in i_is within next_is part = record {
   below = next_below m modulus b c product next poly.size.some wide monic b_in c_in part.below next_is;
   quotient = get_or (digits 2 m product) (length (digits 2 m product) - 1) 0 ∷ part.quotient;
-  reduced = subst (λ w. IsReduction 2 w (digits 2 m b) (replicate m 0) (get_or (digits 2 m product) (length (digits 2 m product) - 1) 0 ∷ part.quotient) (digits 2 (m + 1) modulus) (digits 2 m next)) (sym a_more)
+  reduced = subst (λ w. IsReducedProduct 2 w (digits 2 m b) (replicate m 0) (get_or (digits 2 m product) (length (digits 2 m product) - 1) 0 ∷ part.quotient) (digits 2 (m + 1) modulus) (digits 2 m next)) (sym a_more)
       (reduced_more 2 (digits 2 m product) (digits 2 m b) (digits 2 (m + 1) modulus) (digits 2 m next) c (omega (arith, poly.size.some, length_digits 2 m product)) c_in
       (length_digits 2 m b ∙ sym (length_digits 2 m product)) (length_digits 2 (m + 1) modulus ∙ ap (λ w. w + 1) (sym (length_digits 2 m product)))
       (ap (λ j. get_or (digits 2 (m + 1) modulus) j 0) (length_digits 2 m product) ∙ poly.monic)
@@ -204,4 +204,4 @@ part_whole m modulus a b i product poly over part =
     let none : i ≡ 0 = omega (arith, over) in
     sym (number_digits 2 (lit< tt) m product part.below)
     ∙ number_reduced 2 m (digits 2 (m + 1) modulus) poly a b part.quotient (digits 2 m product) (length_digits 2 m product) (IsOver_digits 2 (lit< tt) m product)
-    (subst (λ w. IsReduction 2 (drop w (digits 2 m a)) (digits 2 m b) (replicate m 0) part.quotient (digits 2 (m + 1) modulus) (digits 2 m product)) none part.reduced)
+    (subst (λ w. IsReducedProduct 2 (drop w (digits 2 m a)) (digits 2 m b) (replicate m 0) part.quotient (digits 2 (m + 1) modulus) (digits 2 m product)) none part.reduced)

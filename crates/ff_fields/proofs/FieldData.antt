@@ -9,7 +9,7 @@ use Rattle.ff_fields.specs.declared.standard.Standard.{Standard}
 use Rattle.ff_fields.specs.declared.standard.Standard.TheVariants as standard
 use Rattle.ff_fields.specs.Fields.{field_of}
 use Rattle.ff_fields.specs.Standards.{standard_of}
-use Rattle.ff_fields.specs.FieldData.{FieldData, Modulo, ByModulus, IsField, ops_of, with_laws, data_of, data_of_standard}
+use Rattle.ff_fields.specs.FieldData.{FieldData, Modulo, ByModulus, IsFieldData, ops_of, with_laws, data_of, data_of_standard}
 
 standard_ops : (k : Standard) → ops_of (data_of_standard k) ≡ (standard_of k).ops
 standard_ops (standard.Prime k) = refl
@@ -20,11 +20,11 @@ same_ops (Prime k) = refl
 same_ops (Residue k) = refl
 same_ops (Table k) = standard_ops k
 
-standard_is : (k : Standard) → IsField (data_of_standard k)
+standard_is : (k : Standard) → IsFieldData (data_of_standard k)
 standard_is (standard.Prime k) = k.listed
 standard_is (standard.Residue k) = k.is_field
 
-pub data_is : (k : AnyField) → IsField (data_of k)
+pub data_is : (k : AnyField) → IsFieldData (data_of k)
 data_is (Prime k) = k.listed
 data_is (Residue k) = k.is_field
 data_is (Table k) = standard_is k
@@ -40,10 +40,10 @@ same_field (Prime k) = refl
 same_field (Residue k) = refl
 same_field (Table k) = same_standard k
 
-IsField_prop : (d : FieldData) → IsProp (IsField d)
+IsField_prop : (d : FieldData) → IsProp (IsFieldData d)
 IsField_prop (Modulo p) = hlevel (ℕ_set, le_prop, Bool-set)
 IsField_prop (ByModulus p m modulus) = hlevel (ℕ_set, le_prop, Bool-set)
 
 -- with the laws of any proof that there is such a field
-pub laws_are : (k : AnyField) (is : IsField (data_of k)) → with_laws (data_of k) is ≡ field_of k
+pub laws_are : (k : AnyField) (is : IsFieldData (data_of k)) → with_laws (data_of k) is ≡ field_of k
 laws_are k is = ap (with_laws (data_of k)) (IsField_prop (data_of k) is (data_is k)) ∙ same_field k

@@ -18,7 +18,7 @@ use Rattle.ff_fields.specs.Prime.{is_listed, prime_of, prime_field}
 use Rattle.ff_fields.specs.Code.{Code, code_ring, code_domain, same_code}
 use Rattle.ff_fields.specs.Over.{IsOver}
 use Rattle.ff_fields.specs.Residue.{digits, number, residue_mul, M, modulus_codes, quotient, of_product, of_null, same_class, number_below, product_below, zero_below, length_of, length_M}
-use Rattle.ff_fields.specs.Modulus.{IsMonicModulus, IsMonicCode, IsFactor, IsReduction, IsZeroProduct, IsLeastZeroProduct, NoZeroProduct, NoFactorBelow, polynomial}
+use Rattle.ff_fields.specs.Modulus.{IsMonicModulus, IsMonicCode, IsFactor, IsReducedProduct, IsZeroProduct, IsLeastZeroProduct, NoZeroProduct, NoFactorBelow, polynomial}
 use Rattle.ff_fields.proofs.PolyCodes.{code, of_code, of_code_code, code_of_code, digit_of_code, monic_code, code_monic, code_below, code_null, base_pos}
 use Rattle.ff_fields.proofs.ZeroProducts.{NoDivisor, no_null, least_multiple, long_some}
 use mathlib.Core.Bool.{Bool-set}
@@ -81,7 +81,7 @@ module _ (p m : ℕ) (modulus : List ℕ) (poly : IsMonicModulus p m modulus) wh
       congruent_sym s.ring F _ _ (record { times = quotient p listed m poly.size.some modulus poly.long poly.over poly.monic a b; differs = whole_product a b })
 
   -- what is left of a product that was reduced is the product of the residues
-  pub number_reduced : (a b : ℕ) (q rest : List ℕ) → length rest ≡ m → IsOver (prime_of p) rest → IsReduction p (digits p m a) (digits p m b) (replicate m 0) q modulus rest → number p rest ≡ residue_mul p m modulus a b
+  pub number_reduced : (a b : ℕ) (q rest : List ℕ) → length rest ≡ m → IsOver (prime_of p) rest → IsReducedProduct p (digits p m a) (digits p m b) (replicate m 0) q modulus rest → number p rest ≡ residue_mul p m modulus a b
   number_reduced a b q rest long over done =
       one_class (number p rest) (residue_mul p m modulus a b) (number_below p (base_pos p listed) m rest long over) (below a b)
       (congruent_trans s.ring F _ _ _ (congruent_same s.ring F _ _ (of_number p listed m rest (omega (arith, long)) over))
@@ -210,7 +210,7 @@ module _ (p m : ℕ) (modulus : List ℕ) (poly : IsMonicModulus p m modulus) wh
             omega (arith, least, code_of c c_in, ap (code p listed) y_is, code_of y z.b_in)
 
   -- what a trial division says
-  module _ (e d : ℕ) (e_some : 0 < e) (half : e + e ≤ m) (monic : IsMonicCode p e d) (j : ℕ) (q rest : List ℕ) (q_long : length q ≡ m) (q_in : IsOver (prime_of p) q) (rest_long : length rest ≡ e) (rest_in : IsOver (prime_of p) rest) (done : IsReduction p (take m modulus) (unit_list j) (unit_list j) q (digits p (suc e) d) rest) where
+  module _ (e d : ℕ) (e_some : 0 < e) (half : e + e ≤ m) (monic : IsMonicCode p e d) (j : ℕ) (q rest : List ℕ) (q_long : length q ≡ m) (q_in : IsOver (prime_of p) q) (rest_long : length rest ≡ e) (rest_in : IsOver (prime_of p) rest) (done : IsReducedProduct p (take m modulus) (unit_list j) (unit_list j) q (digits p (suc e) d) rest) where
     under : d < p ^ suc e
     under =
         let below = monic.below in
@@ -252,13 +252,13 @@ module _ (p m : ℕ) (modulus : List ℕ) (poly : IsMonicModulus p m modulus) wh
             omega (arith, small, up)
 
 -- the same from what the loops wrote
-pub written_product : (p m : ℕ) (modulus : List ℕ) → IsMonicModulus p m modulus → (a b : ℕ) (zeros x y q rest : List ℕ) → zeros ≡ replicate m 0 → x ≡ digits p (length zeros) a → y ≡ digits p (length zeros) b → length rest ≡ length zeros → IsOver (prime_of p) rest → IsReduction p x y zeros q modulus rest → number p rest ≡ residue_mul p m modulus a b
+pub written_product : (p m : ℕ) (modulus : List ℕ) → IsMonicModulus p m modulus → (a b : ℕ) (zeros x y q rest : List ℕ) → zeros ≡ replicate m 0 → x ≡ digits p (length zeros) a → y ≡ digits p (length zeros) b → length rest ≡ length zeros → IsOver (prime_of p) rest → IsReducedProduct p x y zeros q modulus rest → number p rest ≡ residue_mul p m modulus a b
 written_product p m modulus poly a b zeros x y q rest zeros_are x_is y_is long over done =
     let room : length zeros ≡ m = ap length zeros_are ∙ length-replicate m 0 in
     number_reduced p m modulus poly a b q rest (long ∙ room) over
-    (subst (λ w. IsReduction p (digits p m a) (digits p m b) w q modulus rest) zeros_are
-    (subst (λ w. IsReduction p w (digits p m b) zeros q modulus rest) (x_is ∙ ap (λ n. digits p n a) room)
-    (subst (λ w. IsReduction p x w zeros q modulus rest) (y_is ∙ ap (λ n. digits p n b) room) done)))
+    (subst (λ w. IsReducedProduct p (digits p m a) (digits p m b) w q modulus rest) zeros_are
+    (subst (λ w. IsReducedProduct p w (digits p m b) zeros q modulus rest) (x_is ∙ ap (λ n. digits p n a) room)
+    (subst (λ w. IsReducedProduct p x w zeros q modulus rest) (y_is ∙ ap (λ n. digits p n b) room) done)))
 
 -- the top digit of a monic code
 pub monic_digit : (p e d : ℕ) → IsTrue (is_listed p) → IsMonicCode p e d → get_or (digits p (suc e) d) e 0 ≡ 1
@@ -272,11 +272,11 @@ monic_digit p e d listed monic =
     sym (digit_of_code p listed (suc e) d e) ∙ ap (λ x. x.0) top.1
 
 -- what the trial division wrote
-pub written_division : (p m : ℕ) (modulus : List ℕ) → IsMonicModulus p m modulus → (e d : ℕ) → 0 < e → e + e ≤ m → IsMonicCode p e d → (zeros one divisor q rest : List ℕ) → length zeros ≡ suc e → divisor ≡ digits p (length zeros) d → one ≡ unit_list (e - 1) → length q ≡ m → IsOver (prime_of p) q → length rest ≡ e → IsOver (prime_of p) rest → IsReduction p (take m modulus) one one q divisor rest → (number p rest ≡ 0 → IsFactor p m modulus d (number p q)) × (number p rest ≢ 0 → (c : ℕ) → c < p ^ m → ¬ IsFactor p m modulus d c)
+pub written_division : (p m : ℕ) (modulus : List ℕ) → IsMonicModulus p m modulus → (e d : ℕ) → 0 < e → e + e ≤ m → IsMonicCode p e d → (zeros one divisor q rest : List ℕ) → length zeros ≡ suc e → divisor ≡ digits p (length zeros) d → one ≡ unit_list (e - 1) → length q ≡ m → IsOver (prime_of p) q → length rest ≡ e → IsOver (prime_of p) rest → IsReducedProduct p (take m modulus) one one q divisor rest → (number p rest ≡ 0 → IsFactor p m modulus d (number p q)) × (number p rest ≢ 0 → (c : ℕ) → c < p ^ m → ¬ IsFactor p m modulus d c)
 written_division p m modulus poly e d e_some half monic zeros one divisor q rest positions divisor_is one_is q_long q_in rest_long rest_in done =
-    let kept : IsReduction p (take m modulus) (unit_list (e - 1)) (unit_list (e - 1)) q (digits p (suc e) d) rest =
-    subst (λ w. IsReduction p (take m modulus) w w q (digits p (suc e) d) rest) one_is
-    (subst (λ w. IsReduction p (take m modulus) one one q w rest) (divisor_is ∙ ap (λ n. digits p n d) positions) done) in (
+    let kept : IsReducedProduct p (take m modulus) (unit_list (e - 1)) (unit_list (e - 1)) q (digits p (suc e) d) rest =
+    subst (λ w. IsReducedProduct p (take m modulus) w w q (digits p (suc e) d) rest) one_is
+    (subst (λ w. IsReducedProduct p (take m modulus) one one q w rest) (divisor_is ∙ ap (λ n. digits p n d) positions) done) in (
       divides p m modulus poly e d e_some half monic (e - 1) q rest q_long q_in rest_long rest_in kept,
       divides_not p m modulus poly e d e_some half monic (e - 1) q rest q_long q_in rest_long rest_in kept,
     )

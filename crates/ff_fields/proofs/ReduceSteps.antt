@@ -13,7 +13,7 @@ use Rattle.ff_fields.specs.Prime.{is_listed, prime_of, prime_field}
 use Rattle.ff_fields.specs.Code.{Code, code_ring, same_code, read_code, read_code_below}
 use Rattle.ff_fields.specs.Over.{IsOver, get_or_below}
 use Rattle.ff_fields.specs.Numbers.{read, numbers_read, numbers_get_or}
-use Rattle.ff_fields.specs.Modulus.{IsReduction, stepped}
+use Rattle.ff_fields.specs.Modulus.{IsReducedProduct, stepped}
 
 -- each position of a list over the prime field is below p, also past its end
 pub digit_below : (p : ℕ) → IsTrue (is_listed p) → (codes : List ℕ) → IsOver (prime_of p) codes → (n : ℕ) → get_or codes n 0 < p
@@ -145,7 +145,7 @@ module _ (p : ℕ) (listed : IsTrue (is_listed p)) where
         carried (suc n) = read_at before n before_in
 
     -- one position more is reduced
-    more_at : ((n : ℕ) → n < length before → get_or rest n 0 ≡ stepped p before c row (p - t) modulus n) → (a start quotient : List ℕ) → IsReduction p a row start quotient modulus before → (n : ℕ) → coeff_of K.ops (mul_onto K.ops (read k (c ∷ a)) (read k row) (read k start)) n ≡ K.◌⊕◌ (convolution K.ops (coeff_of K.ops (read k (t ∷ quotient))) (coeff_of K.ops (read k modulus)) n) (coeff_of K.ops (read k rest) n)
+    more_at : ((n : ℕ) → n < length before → get_or rest n 0 ≡ stepped p before c row (p - t) modulus n) → (a start quotient : List ℕ) → IsReducedProduct p a row start quotient modulus before → (n : ℕ) → coeff_of K.ops (mul_onto K.ops (read k (c ∷ a)) (read k row) (read k start)) n ≡ K.◌⊕◌ (convolution K.ops (coeff_of K.ops (read k (t ∷ quotient))) (coeff_of K.ops (read k modulus)) n) (coeff_of K.ops (read k rest) n)
     more_at each a start quotient done n =
         coeff_add K (K.𝟘 ∷ mul_onto K.ops (read k a) (read k row) (read k start)) (scale_list K.ops v (read k row)) n
         ∙ ap (K.◌⊕◌ (coeff_of K.ops (K.𝟘 ∷ mul_onto K.ops (read k a) (read k row) (read k start)) n)) (coeff_scale K v (read k row) n)
@@ -157,13 +157,13 @@ module _ (p : ℕ) (listed : IsTrue (is_listed p)) where
             ap (λ w. K.◌⊕◌ w (K.◌⊗◌ v (coeff_of K.ops (read k row) (suc n)))) (done.whole listed n)
             ∙ next_position K.ring _ _ _ _ _ (step_at each (suc n))
 
-pub reduced_more : (p : ℕ) (before row modulus rest : List ℕ) (c : ℕ) → 0 < length before → c < p → length row ≡ length before → length modulus ≡ length before + 1 → get_or modulus (length before) 0 ≡ 1 → IsOver (prime_of p) before → IsOver (prime_of p) row → IsOver (prime_of p) modulus → length rest ≡ length before → ((n : ℕ) → n < length before → get_or rest n 0 ≡ stepped p before c row (p - get_or before (length before - 1) 0) modulus n) → (a start quotient : List ℕ) → IsReduction p a row start quotient modulus before → IsReduction p (c ∷ a) row start (get_or before (length before - 1) 0 ∷ quotient) modulus rest
+pub reduced_more : (p : ℕ) (before row modulus rest : List ℕ) (c : ℕ) → 0 < length before → c < p → length row ≡ length before → length modulus ≡ length before + 1 → get_or modulus (length before) 0 ≡ 1 → IsOver (prime_of p) before → IsOver (prime_of p) row → IsOver (prime_of p) modulus → length rest ≡ length before → ((n : ℕ) → n < length before → get_or rest n 0 ≡ stepped p before c row (p - get_or before (length before - 1) 0) modulus n) → (a start quotient : List ℕ) → IsReducedProduct p a row start quotient modulus before → IsReducedProduct p (c ∷ a) row start (get_or before (length before - 1) 0 ∷ quotient) modulus rest
 reduced_more p before row modulus rest c some c_in row_long modulus_long monic before_in row_in modulus_in rest_long each a start quotient done = record {
   whole = λ listed. more_at p listed before row modulus rest c some c_in row_long modulus_long monic before_in row_in modulus_in rest_long each a start quotient done;
 }
 
 -- nothing is reduced yet
-pub reduced_none : (p : ℕ) (row modulus before : List ℕ) → IsReduction p [] row before [] modulus before
+pub reduced_none : (p : ℕ) (row modulus before : List ℕ) → IsReducedProduct p [] row before [] modulus before
 reduced_none p row modulus before = record {
   whole = λ listed n.
       let r = code_ring (prime_field p listed) in

@@ -15,7 +15,7 @@ use Rattle.ff_fields.specs.Code.{Code, code_ring, same_code, read_code_below}
 use Rattle.ff_fields.specs.Over.{IsOver, IsOver_tail}
 use Rattle.ff_fields.specs.Numbers.{read}
 use Rattle.ff_fields.specs.Residue.{digits, number, length_digits, IsOver_digits}
-use Rattle.ff_fields.specs.Modulus.{IsReduction, polynomial}
+use Rattle.ff_fields.specs.Modulus.{IsReducedProduct, polynomial}
 use Rattle.ff_fields.proofs.ReduceSteps.{read_at, past_end}
 use Rattle.ff_fields.proofs.PolyCodes.{of_code, of_code_code, code_of_code, digit_of_code, digit_of_number, base_pos}
 
@@ -74,7 +74,7 @@ module _ (p : ℕ) (listed : IsTrue (is_listed p)) where
   zeros_at (suc m) (suc n) = zeros_at m n
 
   -- a product that was reduced
-  pub reduced_product : (a b q f rest : List ℕ) (m : ℕ) → IsReduction p a b (replicate m 0) q f rest → s.◌⊗◌ (polynomial p listed a) (polynomial p listed b) ≡ s.◌⊕◌ (s.◌⊗◌ (polynomial p listed f) (polynomial p listed q)) (polynomial p listed rest)
+  pub reduced_product : (a b q f rest : List ℕ) (m : ℕ) → IsReducedProduct p a b (replicate m 0) q f rest → s.◌⊗◌ (polynomial p listed a) (polynomial p listed b) ≡ s.◌⊕◌ (s.◌⊗◌ (polynomial p listed f) (polynomial p listed q)) (polynomial p listed rest)
   reduced_product a b q f rest m done =
       same_pol K _ _ (λ n.
       series_mul K (polynomial p listed a) (polynomial p listed b) n
@@ -108,7 +108,7 @@ module _ (p : ℕ) (listed : IsTrue (is_listed p)) where
   monic_split (c ∷ f) (suc m) j (suc n) long over monic = monic_split f m j n (omega arith) (IsOver_tail over) monic
 
   -- a division of a monic polynomial
-  pub reduced_quotient : (f q d rest : List ℕ) (m j : ℕ) → length f ≡ suc m → IsOver (prime_of p) f → get_or f m 0 ≡ 1 → IsReduction p (take m f) (unit_list j) (unit_list j) q d rest → polynomial p listed f ≡ s.◌⊕◌ (s.◌⊗◌ (polynomial p listed d) (polynomial p listed q)) (polynomial p listed rest)
+  pub reduced_quotient : (f q d rest : List ℕ) (m j : ℕ) → length f ≡ suc m → IsOver (prime_of p) f → get_or f m 0 ≡ 1 → IsReducedProduct p (take m f) (unit_list j) (unit_list j) q d rest → polynomial p listed f ≡ s.◌⊕◌ (s.◌⊗◌ (polynomial p listed d) (polynomial p listed q)) (polynomial p listed rest)
   reduced_quotient f q d rest m j long over monic done =
       same_pol K _ _ (λ n.
       coeff_trim K (read k f) n

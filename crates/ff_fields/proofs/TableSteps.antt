@@ -13,7 +13,7 @@ use Rattle.ff_fields.specs.Field.{FieldOps, CodeField, pow_of}
 use Rattle.ff_fields.specs.Standards.{standard_of}
 use Rattle.ff_fields.specs.Code.{zero_in}
 use Rattle.ff_fields.specs.Over.{IsOver}
-use Rattle.ff_fields.specs.Tables.{HasPowers, IsLog, IsPowerTable, IsLogTable, IsTables, IsWritten, IsPowerOf}
+use Rattle.ff_fields.specs.Tables.{HasPowers, IsLog, IsPowerTable, IsLogTable, IsTables, AreWrittenTables, IsPowerOf}
 use Rattle.ff_fields.proofs.Power.{pow_of_below, mul_one}
 use Rattle.ff_fields.proofs.PowerLaws.{pow_of_add, pow_of_mul, null_mul, inverse_is, pow_of_some, pow_of_order, pow_of_mod, pow_of_gap}
 use Rattle.ff_fields.proofs.Onto.{onto}
@@ -39,7 +39,7 @@ module _ (k : CodeField) (g : ℕ) (g_in : g < k.size) (g_some : g ≢ 0) where
       go (inl same) one = last (ap (pow_of k.ops g) (sym same) ∙ one)
       go (inr less) one = before e pos (omega arith) one
 
-  write_power : (m : ℕ) (codes logs : List ℕ) → m < length codes → length logs ≡ k.size → IsWritten k.ops g m codes logs → ((e : ℕ) → 0 < e → e ≤ m → pow_of k.ops g e ≢ 1) → IsWritten k.ops g (m + 1) (set codes m (pow_of k.ops g m)) (set logs (pow_of k.ops g m) m)
+  write_power : (m : ℕ) (codes logs : List ℕ) → m < length codes → length logs ≡ k.size → AreWrittenTables k.ops g m codes logs → ((e : ℕ) → 0 < e → e ≤ m → pow_of k.ops g e ≢ 1) → AreWrittenTables k.ops g (m + 1) (set codes m (pow_of k.ops g m)) (set logs (pow_of k.ops g m) m)
   write_power m codes logs m_in long before not_one = record {
     not_one = λ i pos less. not_one i pos (omega arith);
     code_is = λ i less. let le : i ≤ m = omega arith in code i (eq-or-lt_of_le le);
@@ -59,9 +59,9 @@ module _ (k : CodeField) (g : ℕ) (g_in : g < k.size) (g_some : g ≢ 0) where
           get_or-set_other logs (pow_of k.ops g m) (pow_of k.ops g i) m 0 (powers_apart m i m not_one less (omega arith))
           ∙ before.log_is i less
 
-  pub write_step : (m v : ℕ) (codes logs : List ℕ) → v ≡ pow_of k.ops g m → m < length codes → length logs ≡ k.size → IsWritten k.ops g m codes logs → ((e : ℕ) → 0 < e → e ≤ m → pow_of k.ops g e ≢ 1) → IsWritten k.ops g (m + 1) (set codes m v) (set logs v m)
+  pub write_step : (m v : ℕ) (codes logs : List ℕ) → v ≡ pow_of k.ops g m → m < length codes → length logs ≡ k.size → AreWrittenTables k.ops g m codes logs → ((e : ℕ) → 0 < e → e ≤ m → pow_of k.ops g e ≢ 1) → AreWrittenTables k.ops g (m + 1) (set codes m v) (set logs v m)
   write_step m v codes logs is m_in long before not_one =
-      subst (λ w. IsWritten k.ops g (m + 1) (set codes m w) (set logs w m)) (sym is) (write_power m codes logs m_in long before not_one)
+      subst (λ w. AreWrittenTables k.ops g (m + 1) (set codes m w) (set logs w m)) (sym is) (write_power m codes logs m_in long before not_one)
 
   pub mark_stays : (m v : ℕ) (logs : List ℕ) → v ≡ pow_of k.ops g m → get_or logs 0 0 ≡ 65535 → get_or (set logs v m) 0 0 ≡ 65535
   mark_stays m v logs is mark =
@@ -72,7 +72,7 @@ module _ (k : CodeField) (g : ℕ) (g_in : g < k.size) (g_some : g ≢ 0) where
   comes_early m pos less one = λ all. all 0 m pos less (sym one)
 
   -- all powers of g as they stand in the tables
-  module _ (codes logs : List ℕ) (logs_long : length logs ≡ k.size) (mark : get_or logs 0 0 ≡ 65535) (written : IsWritten k.ops g (k.size - 1) codes logs) where
+  module _ (codes logs : List ℕ) (logs_long : length logs ≡ k.size) (mark : get_or logs 0 0 ≡ 65535) (written : AreWrittenTables k.ops g (k.size - 1) codes logs) where
     differ : (i j : ℕ) → i < j → j < k.size - 1 → pow_of k.ops g i ≢ pow_of k.ops g j
     differ i j less within = powers_apart (k.size - 1 - 1) i j (λ e pos le. written.not_one e pos (omega arith)) less (omega arith)
 

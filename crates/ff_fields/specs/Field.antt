@@ -25,7 +25,7 @@ times_of k zero a = 0
 times_of k (suc n) a = k.add a (times_of k n a)
 
 -- no number between 1 and p divides p
-pub record IsPrime (p : ℕ) : Type 0 where
+pub record IsPrimeNumber (p : ℕ) : Type 0 where
   pub above : 1 < p
   pub no_divisor : (d : ℕ) → 1 < d → d < p → p % d ≢ 0
 
@@ -34,7 +34,7 @@ pub record IsPrime (p : ℕ) : Type 0 where
 pub record FieldLaws (k : FieldOps) : Type 0 where
   pub one_below : 1 < k.size
   pub size_within : k.size ≤ 65536
-  pub is_prime : IsPrime k.characteristic
+  pub is_prime : IsPrimeNumber k.characteristic
   pub times_one : times_of k k.characteristic 1 ≡ 0
   pub add_below : (a b : ℕ) → a < k.size → b < k.size → k.add a b < k.size
   pub neg_below : (a : ℕ) → a < k.size → k.neg a < k.size

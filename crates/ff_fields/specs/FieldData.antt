@@ -20,12 +20,12 @@ ops_of (Modulo p) = prime_of p
 ops_of (ByModulus p m modulus) = residue_of p m modulus
 
 -- there is such a field here
-abbrev pub IsField : FieldData → Type 0
-IsField (Modulo p) = IsTrue (is_listed p)
-IsField (ByModulus p m modulus) = IsFieldModulus p m modulus
+abbrev pub IsFieldData : FieldData → Type 0
+IsFieldData (Modulo p) = IsTrue (is_listed p)
+IsFieldData (ByModulus p m modulus) = IsFieldModulus p m modulus
 
 -- its operations with their laws
-abbrev pub with_laws : (d : FieldData) → IsField d → CodeField
+abbrev pub with_laws : (d : FieldData) → IsFieldData d → CodeField
 with_laws (Modulo p) is = prime_field p is
 with_laws (ByModulus p m modulus) is = modulus_field p m modulus is
 

@@ -87,7 +87,7 @@ abbrev pub NoFactorBelow : ℕ → ℕ → List ℕ → ℕ → Type 0
 NoFactorBelow p m modulus bound = (e d c : ℕ) → 0 < e → e + e ≤ m → IsMonicCode p e d → d < bound → c < p ^ m → ¬ IsFactor p m modulus d c
 
 -- a · b and `before`, moved up by as many positions as a has, make quotient · modulus and the rest
-pub record IsReduction (p : ℕ) (a b before quotient modulus rest : List ℕ) : Type 0 where
+pub record IsReducedProduct (p : ℕ) (a b before quotient modulus rest : List ℕ) : Type 0 where
   pub whole : (listed : IsTrue (is_listed p)) →
       let k = prime_field p listed in
       let r = code_ring k in

@@ -4,7 +4,7 @@ use Rattle.std.proofs.Common.{inl, inr, sym, ap, ◌∙◌, arith, add_comm, add
 use Rattle.std.proofs.Math.Nat.{mod-add-mod, add-mod-mod, add-mod, mod_self}
 use Rattle.std.proofs.lemmas.Nat.{mul-mod_first, mul-mod_second}
 use Rattle.std.proofs.lemmas.Bool.{and_parts, or_cases}
-use Rattle.ff_fields.specs.Field.{FieldOps, FieldLaws, IsPrime, CodeField, pow_of, times_of}
+use Rattle.ff_fields.specs.Field.{FieldOps, FieldLaws, IsPrimeNumber, CodeField, pow_of, times_of}
 
 -- p is one of the characteristics that the engine knows
 abbrev pub is_listed : ℕ → Bool
@@ -107,7 +107,7 @@ listed_above p listed = grind arith
 listed_small : (p : ℕ) → IsTrue (is_listed p) → p ≤ 65536
 listed_small p listed = grind arith
 
-pub listed_prime : (p : ℕ) → IsTrue (is_listed p) → IsPrime p
+pub listed_prime : (p : ℕ) → IsTrue (is_listed p) → IsPrimeNumber p
 listed_prime p listed =
     let halves = and_parts (all_below p (inverse_holds p) && all_below p (power_holds p)) _ (listed_computes p listed) in
     let parts = and_parts (all_below p (leaves_rest p)) _ halves.1 in

@@ -32,7 +32,7 @@ pub record IsTables (k : FieldOps) (g minus_one : ℕ) (powers : List Power) (lo
   pub logs_are : IsLogTable k g logs
 
 -- the powers of g with the exponents below m differ from 1 but for the first, and stand in the tables
-pub record IsWritten (k : FieldOps) (g m : ℕ) (codes logs : List ℕ) : Type 0 where
+pub record AreWrittenTables (k : FieldOps) (g m : ℕ) (codes logs : List ℕ) : Type 0 where
   pub not_one : (i : ℕ) → 0 < i → i < m → pow_of k g i ≢ 1
   pub code_is : (i : ℕ) → i < m → get_or codes i 0 ≡ pow_of k g i
   pub log_is : (i : ℕ) → i < m → get_or logs (pow_of k g i) 0 ≡ i

@@ -1,7 +1,7 @@
 //! Products of polynomials over a prime field, reduced by a monic one as they are made.
 
 ghost use Rattle.std.specs.Prelude.{◌≡◌, ℕ, ◌+◌, ◌-◌, ◌<◌, ◌≤◌, length, slice_index, IsTrue};
-ghost use Rattle.ff_fields.specs.Modulus.{IsMonicModulus, IsReduction, stepped};
+ghost use Rattle.ff_fields.specs.Modulus.{IsMonicModulus, IsReducedProduct, stepped};
 ghost use Rattle.ff_fields.specs.Over.{IsOver};
 ghost use Rattle.ff_fields.specs.Prime.{is_listed, prime_of};
 ghost use Rattle.ff_fields.specs.Residue.{residue_mul};
@@ -52,7 +52,7 @@ pub(crate) fn reduce_product(
     requires b_in { IsOver (prime_of p) b.now }
     requires rest_in { IsOver (prime_of p) rest.old }
     requires modulus_in { IsOver (prime_of p) modulus.now }
-    ensures whole { IsReduction p a.now b.now rest.old quotient.new modulus.now rest.new }
+    ensures whole { IsReducedProduct p a.now b.now rest.old quotient.new modulus.now rest.new }
     ensures rest_in { IsOver (prime_of p) rest.new }
     ensures quotient_in { IsOver (prime_of p) quotient.new }
 {

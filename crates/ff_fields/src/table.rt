@@ -4,7 +4,7 @@ ghost use Rattle.std.specs.Prelude.{◌≡◌, ◌≢◌, ℕ, ◌+◌, ◌-◌,
 ghost use Rattle.ff_fields.specs.Field.{pow_of};
 ghost use Rattle.ff_fields.specs.Over.{IsOver};
 ghost use Rattle.ff_fields.specs.Standards.{standard_of};
-ghost use Rattle.ff_fields.specs.Tables.{HasPowers, IsPowerOf, IsWritten};
+ghost use Rattle.ff_fields.specs.Tables.{HasPowers, IsPowerOf, AreWrittenTables};
 
 use crate::field::SmallField;
 use crate::standard::{IsStandard, Standard};
@@ -55,7 +55,7 @@ fn write_powers<K: SmallField>(k: &K, g: u32, codes: &mut [u16], logs: &mut [u16
     ensures codes_long { length codes.new ≡ (K.field k.now).size - 1 }
     ensures logs_long { length logs.new ≡ (K.field k.now).size }
     ensures mark { slice_index logs.new 0 ≡ 65535 }
-    ensures written { IsWritten (K.field k.now).ops g result codes.new logs.new }
+    ensures written { AreWrittenTables (K.field k.now).ops g result codes.new logs.new }
     ensures comes_again { pow_of (K.field k.now).ops g result ≡ 1 }
     ensures some { 0 < result }
     ensures within { result ≤ (K.field k.now).size - 1 }
@@ -85,7 +85,7 @@ fn generator<K: SmallField>(k: &K, codes: &mut [u16], logs: &mut [u16]) -> Optio
     ensures none { IfNone result ((g : ℕ) → g < (K.field k.now).size
         → ¬ HasPowers (K.field k.now).ops g ((K.field k.now).size - 1)) }
     ensures some { IfSome result (λ g. (g < (K.field k.now).size) × ((g ≢ 0)
-        × IsWritten (K.field k.now).ops g ((K.field k.now).size - 1) codes.new logs.new)) }
+        × AreWrittenTables (K.field k.now).ops g ((K.field k.now).size - 1) codes.new logs.new)) }
 {
     for g in 1..k.size() {
         if write_powers(k, g, codes, logs) == codes.len() {

@@ -21,7 +21,7 @@ use Rattle.infinite_theory.specs.Supported.{IsSupportedAt}
 use Rattle.infinite_theory.proofs.InfiniteTransport.{x_irreducible}
 use Rattle.infinite_theory.proofs.SupportedLattices.{coordinates_ring, coordinates_supported}
 use Rattle.ff_lattice.specs.Lattices.{LatticeValue, IsLattice, Contains, InSpanOf, IsFull}
-use Rattle.ff_lattice.specs.Orders.{IsOrder}
+use Rattle.ff_lattice.specs.Orders.{IsOrderLattice}
 use Rattle.ff_lattice.specs.Steps.{unit_row}
 use Rattle.ff_lattice.proofs.Elements.{elem_over}
 use Rattle.ff_lattice.proofs.Fracs.{over_eq}
@@ -127,7 +127,7 @@ module _ (k : CodeField) (q : PresValue) where
 
   -- a lattice of the functions that have polynomials as coordinates
   module _ (l : LatticeValue) (members : (z : Functions k q) → Contains k q l z ↔ HasPolynomialCoordinates (equation_of k q) z) where
-    pub start_order : IsLattice k.ops q.n l → IsOrder k q l
+    pub start_order : IsLattice k.ops q.n l → IsOrderLattice k q l
     start_order form = record {
       lattice = form;
       one_in = (members (functions k q).𝟙).1 (coordinates_ring (equation_of k q)).one_in;

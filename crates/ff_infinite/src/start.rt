@@ -6,7 +6,7 @@ ghost use Rattle.function_field.specs.Values.{PresValue, Functions, equation_of}
 ghost use Rattle.trace_theory.specs.Traces.{HasPolynomialCoordinates};
 ghost use Rattle.infinite_theory.specs.Supported.{IsSupportedAt};
 ghost use Rattle.ff_lattice.specs.Lattices.{LatticeValue, Contains};
-ghost use Rattle.ff_lattice.specs.Orders.{IsOrder};
+ghost use Rattle.ff_lattice.specs.Orders.{IsOrderLattice};
 
 use ff_algebra::Curve;
 use ff_fields::field::SmallField;
@@ -18,7 +18,7 @@ use std::alloc::{AllocError, Global};
 /// The order k[t][Y] of the infinite presentation: the functions that have polynomials in t as coordinates. Its rows are 1, Y,
 /// up to Y^(n-1). It takes the time of a Popov basis of the unit matrix.
 pub fn infinite_start<K: SmallField>(alloc: Global, k: &K, c: &Curve) -> Result<Order, AllocError>
-    ensures order { IfOk result (IsOrder (K.field k.now) c.now.inf) }
+    ensures order { IfOk result (IsOrderLattice (K.field k.now) c.now.inf) }
     ensures members { let k = K.field k.now in
         IfOk result (λ o. (z : Functions k c.now.inf) → Contains k c.now.inf o z ↔ HasPolynomialCoordinates (equation_of k c.now.inf) z) }
     ensures tame { let k = K.field k.now in

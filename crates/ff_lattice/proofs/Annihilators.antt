@@ -7,7 +7,7 @@ use Rattle.ring_theory.proofs.Ring.{one_mul}
 use Rattle.ring_theory.proofs.Solver.{ring, reads}
 use Rattle.ff_fields.specs.Field.{CodeField}
 use Rattle.ff_fields.specs.Over.{IsOver, IsOver_nil, IsOver_cons}
-use Rattle.ff_poly.specs.Words.{IsPoly, IsMonic, IsQuotient, Divides, product_of}
+use Rattle.ff_poly.specs.Words.{IsPoly, IsMonic, IsQuotientWithRest, DividesList, product_of}
 use Rattle.ff_poly.specs.PolyOver.{IsOver_product_of}
 use Rattle.ff_poly.specs.Value.{value, value_product, value_sum}
 use Rattle.ff_poly.specs.Polynomials.{Polynomial, polynomials, codes_of, IsOver_codes_of, IsPoly_codes_of, value_codes_of, value_one}
@@ -47,13 +47,13 @@ module _ (k : CodeField) where
   single_combination u w u_in w_in =
       ap (λ a. a ∷ []) (sum_nil k (product_of k.ops u w) (IsOver_product_of k u_in w_in) (IsPoly_product_of k.ops u w))
 
-  single_span : (e a : List ℕ) → IsOver k.ops e → IsOver k.ops a → IsPoly a → InSpan k.ops 1 ((e ∷ []) ∷ []) (a ∷ []) ↔ Divides k.ops e a
+  single_span : (e a : List ℕ) → IsOver k.ops e → IsOver k.ops a → IsPoly a → InSpan k.ops 1 ((e ∷ []) ∷ []) (a ∷ []) ↔ DividesList k.ops e a
   single_span e a e_in a_in a_poly = (to, from)
     where
-      to : InSpan k.ops 1 ((e ∷ []) ∷ []) (a ∷ []) → Divides k.ops e a
+      to : InSpan k.ops 1 ((e ∷ []) ∷ []) (a ∷ []) → DividesList k.ops e a
       to h = go h.coefficients h.is.size h.is.over h.is.is
         where
-          go : (cs : List (List ℕ)) → length cs ≡ 1 → All (IsOver k.ops) cs → a ∷ [] ≡ combination k.ops 1 cs ((e ∷ []) ∷ []) → Divides k.ops e a
+          go : (cs : List (List ℕ)) → length cs ≡ 1 → All (IsOver k.ops) cs → a ∷ [] ≡ combination k.ops 1 cs ((e ∷ []) ∷ []) → DividesList k.ops e a
           go [] size over is = absurd (omega (arith, size))
           go (c ∷ c' ∷ cs) size over is = absurd (omega (arith, size))
           go (c ∷ []) size over is =
@@ -63,7 +63,7 @@ module _ (k : CodeField) where
               divides_codes k e a e_in a_in a_poly
               (record { quotient = value k c; is = ap (value k) (a_is ∙ product_comm k c e c_in e_in) ∙ value_product k e c e_in c_in })
 
-      from : Divides k.ops e a → InSpan k.ops 1 ((e ∷ []) ∷ []) (a ∷ [])
+      from : DividesList k.ops e a → InSpan k.ops 1 ((e ∷ []) ∷ []) (a ∷ [])
       from h = record {
         coefficients = h.quotient ∷ [];
         is = record {
@@ -115,7 +115,7 @@ module _ (k : CodeField) where
       one_entry (a ∷ b ∷ r) size = absurd (omega (arith, size))
 
   -- e divides u·v exactly where it divides u·w, for the rest w of v
-  rest_divides : (e v q w u : List ℕ) → IsOver k.ops e → IsOver k.ops v → IsOver k.ops u → IsQuotient k.ops v e q w → Divides k.ops e (product_of k.ops u v) ↔ Divides k.ops e (product_of k.ops u w)
+  rest_divides : (e v q w u : List ℕ) → IsOver k.ops e → IsOver k.ops v → IsOver k.ops u → IsQuotientWithRest k.ops v e q w → DividesList k.ops e (product_of k.ops u v) ↔ DividesList k.ops e (product_of k.ops u w)
   rest_divides e v q w u e_in v_in u_in d =
       let v_is = ap (value k) d.whole
       ∙ value_sum k (product_of k.ops e q) w (IsOver_product_of k e_in d.quotient_in) d.rest_in
@@ -127,7 +127,7 @@ module _ (k : CodeField) where
         λ h. whole.1 (both.1 (rest.0 h)),
       )
 
-  pub annihilator_is : (e v q w : List ℕ) (basis : List (List (List ℕ))) (h : List ℕ) → IsOver k.ops e → IsOver k.ops v → IsQuotient k.ops v e q w → IsPreimage k.ops 1 1 ((w ∷ []) ∷ []) ((e ∷ []) ∷ []) basis
+  pub annihilator_is : (e v q w : List ℕ) (basis : List (List (List ℕ))) (h : List ℕ) → IsOver k.ops e → IsOver k.ops v → IsQuotientWithRest k.ops v e q w → IsPreimage k.ops 1 1 ((w ∷ []) ∷ []) ((e ∷ []) ∷ []) basis
       → h ≡ entry_at (row_at basis 0) 0 → IsAnnihilator k.ops e v h
   annihilator_is e v q w basis h e_in v_in d p h_is = record {
     over = over;
@@ -164,7 +164,7 @@ module _ (k : CodeField) where
 
   -- h times the annihilator of h·v
   pub next_is : (e h v hv a : List ℕ) → IsOver k.ops e → IsOver k.ops h → IsPoly h → IsMonic h → IsOver k.ops v → hv ≡ product_of k.ops h v → IsAnnihilator k.ops e hv a
-      → IsNext k.ops h (λ u. Divides k.ops e (product_of k.ops u v)) (product_of k.ops h a)
+      → IsNext k.ops h (λ u. DividesList k.ops e (product_of k.ops u v)) (product_of k.ops h a)
   next_is e h v hv a e_in h_in h_poly h_monic v_in hv_is ann = record {
     over = IsOver_product_of k h_in ann.over;
     poly = IsPoly_product_of k.ops h a;
@@ -211,7 +211,7 @@ module _ (k : CodeField) where
       hv_value : value k hv ≡ (polynomials k).◌⊗◌ (value k h) (value k v)
       hv_value = ap (value k) hv_is ∙ value_product k h v h_in v_in
 
-      divides_self_of : (d : List ℕ) → IsOver k.ops d → IsPoly d → Divides k.ops d d
+      divides_self_of : (d : List ℕ) → IsOver k.ops d → IsPoly d → DividesList k.ops d d
       divides_self_of d d_in d_poly = divides_self k d d_in d_poly
 
       swap_left : (a t h v : Polynomial k) → (polynomials k).◌⊗◌ ((polynomials k).◌⊗◌ a ((polynomials k).◌⊗◌ h v)) t ≡ (polynomials k).◌⊗◌ ((polynomials k).◌⊗◌ ((polynomials k).◌⊗◌ h a) t) v
@@ -262,7 +262,7 @@ module _ (k : CodeField) where
         );
   }
     where
-      one_divides : (u : List ℕ) → IsOver k.ops u → IsPoly u → Divides k.ops (1 ∷ []) u
+      one_divides : (u : List ℕ) → IsOver k.ops u → IsPoly u → DividesList k.ops (1 ∷ []) u
       one_divides u u_in u_poly =
           divides_codes k (1 ∷ []) u (IsOver_cons k.laws.one_below IsOver_nil) u_in u_poly
           (record {

@@ -7,7 +7,7 @@ use borrow.Author.Count.{below_more}
 use Rattle.ring_theory.proofs.Ring.{zero_mul, mul_zero}
 use Rattle.ff_fields.specs.Field.{CodeField}
 use Rattle.ff_fields.specs.Over.{IsOver}
-use Rattle.ff_poly.specs.Words.{IsPoly, IsMonic, IsQuotient, Divides, product_of, sum_of}
+use Rattle.ff_poly.specs.Words.{IsPoly, IsMonic, IsQuotientWithRest, DividesList, product_of, sum_of}
 use Rattle.ff_poly.specs.PolyOver.{IsOver_product_of}
 use Rattle.ff_poly.specs.Value.{value, value_product}
 use Rattle.ff_poly.specs.Polynomials.{polynomials}
@@ -29,7 +29,7 @@ use Rattle.ff_lattice.proofs.Pushes.{rows_push}
 
 module _ (k : CodeField) where
   -- no rest
-  pub divides_from_rest : (e d q rest : List ℕ) → IsOver k.ops d → IsQuotient k.ops e d q rest → rest ≡ [] → Divides k.ops d e
+  pub divides_from_rest : (e d q rest : List ℕ) → IsOver k.ops d → IsQuotientWithRest k.ops e d q rest → rest ≡ [] → DividesList k.ops d e
   divides_from_rest e d q rest d_in division none = record {
     quotient = q;
     quotient_in = division.quotient_in;
@@ -39,13 +39,13 @@ module _ (k : CodeField) where
         ∙ sum_nil k (product_of k.ops d q) (IsOver_product_of k d_in division.quotient_in) (IsPoly_product_of k.ops d q);
   }
 
-  pub divides_trans : (c d e : List ℕ) → IsOver k.ops c → IsOver k.ops d → IsOver k.ops e → IsPoly e → Divides k.ops c d → Divides k.ops d e → Divides k.ops c e
+  pub divides_trans : (c d e : List ℕ) → IsOver k.ops c → IsOver k.ops d → IsOver k.ops e → IsPoly e → DividesList k.ops c d → DividesList k.ops d e → DividesList k.ops c e
   divides_trans c d e c_in d_in e_in e_poly h h' =
       let v = divides_value k d e d_in h' in
       divides_codes k c e c_in e_in e_poly
       (subst (DividesPol k (value k c)) (sym v.is) (pol_times k (value k c) (value k d) v.quotient (divides_value k c d c_in h)))
 
-  pub common_first : (e d : List ℕ) → IsOver k.ops e → IsMonic e → Divides k.ops d e → IsCommonMultiple k.ops e d e
+  pub common_first : (e d : List ℕ) → IsOver k.ops e → IsMonic e → DividesList k.ops d e → IsCommonMultiple k.ops e d e
   common_first e d e_in e_monic h = record { over = e_in; monic = e_monic; of_first = divides_self k e e_in (monic_poly e e_monic); of_second = h }
 
   pub common_product : (e d m : List ℕ) → IsOver k.ops e → IsMonic e → IsOver k.ops d → IsMonic d → m ≡ product_of k.ops e d → IsCommonMultiple k.ops e d m
@@ -57,16 +57,16 @@ module _ (k : CodeField) where
   })
 
   -- one denominator more
-  pub denominators_more : (n : ℕ) (zs : List ElemValue) (i : ℕ) (z : ElemValue) (e m : List ℕ) → All (IsElem k.ops n) zs → i < length zs → z ≡ get_or zs i z → IsOver k.ops e → All (λ z. Divides k.ops z.den e) (take i zs) → IsCommonMultiple k.ops e z.den m
-      → All (λ z. Divides k.ops z.den m) (take (i + 1) zs)
+  pub denominators_more : (n : ℕ) (zs : List ElemValue) (i : ℕ) (z : ElemValue) (e m : List ℕ) → All (IsElem k.ops n) zs → i < length zs → z ≡ get_or zs i z → IsOver k.ops e → All (λ z. DividesList k.ops z.den e) (take i zs) → IsCommonMultiple k.ops e z.den m
+      → All (λ z. DividesList k.ops z.den m) (take (i + 1) zs)
   denominators_more n zs i z e m zs_in less z_is e_in so_far common =
-      (all_more (λ z. Divides k.ops z.den m) zs i z less).0 (
+      (all_more (λ z. DividesList k.ops z.den m) zs i z less).0 (
         (λ j d j_less.
             let in_zs : j < length zs = omega (arith, less, j_less, length_take j_less) in
             divides_trans (get_or (take i zs) j d).den e m
             (den_over (get_or (take i zs) j d) (subst (IsElem k.ops n) (sym (get_or-take i zs j d (length_take j_less))) (zs_in j d in_zs)))
             e_in common.over (monic_poly m common.monic) (so_far j d j_less) common.of_first),
-        subst (λ z'. Divides k.ops z'.den m) z_is common.of_second,
+        subst (λ z'. DividesList k.ops z'.den m) z_is common.of_second,
       )
     where
       length_take : {j : ℕ} → j < length (take i zs) → j < i

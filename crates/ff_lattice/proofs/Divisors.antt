@@ -5,7 +5,7 @@ use Rattle.ring_theory.proofs.Ring.{domain_cancel}
 use Rattle.ring_theory.proofs.Solver.{ring, reads, from_two}
 use Rattle.ff_fields.specs.Field.{CodeField}
 use Rattle.ff_fields.specs.Over.{IsOver, IsOver_nil}
-use Rattle.ff_poly.specs.Words.{IsPoly, IsMonic, IsQuotient, Divides, product_of, sum_of}
+use Rattle.ff_poly.specs.Words.{IsPoly, IsMonic, IsQuotientWithRest, DividesList, product_of, sum_of}
 use Rattle.ff_poly.specs.PolyOver.{IsOver_product_of, IsOver_sum_of}
 use Rattle.ff_poly.specs.Value.{value, value_product, value_sum, same_from_value, one_quotient}
 use Rattle.ff_poly.specs.Polynomials.{Polynomial, polynomials, polynomials_domain, value_nil, value_not_zero}
@@ -63,12 +63,12 @@ module _ (k : CodeField) where
 
   -- ---- lists of codes
 
-  pub divides_self : (d : List ℕ) → IsOver k.ops d → IsPoly d → Divides k.ops d d
+  pub divides_self : (d : List ℕ) → IsOver k.ops d → IsPoly d → DividesList k.ops d d
   divides_self d d_in d_poly =
       divides_codes k d d d_in d_in d_poly (record { quotient = (polynomials k).𝟙; is = sym (S.mul_one (value k d)) })
 
   -- u·v as what the lists stand for
-  pub divides_product : (e u v : List ℕ) → IsOver k.ops e → IsOver k.ops u → IsOver k.ops v → Divides k.ops e (product_of k.ops u v) ↔ DividesPol k (value k e) ((polynomials k).◌⊗◌ (value k u) (value k v))
+  pub divides_product : (e u v : List ℕ) → IsOver k.ops e → IsOver k.ops u → IsOver k.ops v → DividesList k.ops e (product_of k.ops u v) ↔ DividesPol k (value k e) ((polynomials k).◌⊗◌ (value k u) (value k v))
   divides_product e u v e_in u_in v_in =
       let is = value_product k u v u_in v_in in (
         λ h. subst (DividesPol k (value k e)) is (divides_value k e (product_of k.ops u v) e_in h),
@@ -86,7 +86,7 @@ module _ (k : CodeField) where
       (value_sum k a [] a_in IsOver_nil ∙ ap ((polynomials k).◌⊕◌ (value k a)) (value_nil k) ∙ S.add_zero (value k a))
 
   -- the quotient by a divisor leaves no rest
-  pub exact : (a b q rest : List ℕ) → IsOver k.ops a → IsPoly a → IsOver k.ops b → IsPoly b → b ≢ [] → Divides k.ops b a → IsQuotient k.ops a b q rest → a ≡ product_of k.ops b q
+  pub exact : (a b q rest : List ℕ) → IsOver k.ops a → IsPoly a → IsOver k.ops b → IsPoly b → b ≢ [] → DividesList k.ops b a → IsQuotientWithRest k.ops a b q rest → a ≡ product_of k.ops b q
   exact a b q rest a_in a_poly b_in b_poly some h division =
       h.product
       ∙ ap (product_of k.ops b)
@@ -106,7 +106,7 @@ module _ (k : CodeField) where
       positive (c ∷ b) some = omega arith
 
   -- a divisor of what isn't 0 is no longer
-  pub divisor_short : (d a : List ℕ) → IsOver k.ops d → IsPoly d → Divides k.ops d a → 0 < length a → length d ≤ length a
+  pub divisor_short : (d a : List ℕ) → IsOver k.ops d → IsPoly d → DividesList k.ops d a → 0 < length a → length d ≤ length a
   divisor_short d a d_in d_poly h some = go d h.quotient d_in d_poly h.quotient_in h.quotient_poly h.product
     where
       go : (d q : List ℕ) → IsOver k.ops d → IsPoly d → IsOver k.ops q → IsPoly q → a ≡ product_of k.ops d q → length d ≤ length a

@@ -4,7 +4,7 @@ use Rattle.ring_theory.specs.Subsets.{Span}
 use Rattle.ring_theory.proofs.Rows.{pair_path}
 use Rattle.ff_fields.specs.Field.{CodeField}
 use Rattle.ff_fields.specs.Over.{IsOver}
-use Rattle.ff_poly.specs.Words.{IsPoly, Divides, product_of}
+use Rattle.ff_poly.specs.Words.{IsPoly, DividesList, product_of}
 use Rattle.ff_poly.specs.PolyOver.{IsOver_product_of}
 use Rattle.ff_poly.specs.Value.{value, value_product, same_from_value}
 use Rattle.ff_poly.specs.Polynomials.{Polynomial, polynomials, codes_of, IsOver_codes_of, IsPoly_codes_of, value_codes_of}
@@ -27,13 +27,13 @@ module _ (k : CodeField) where
     pub quotient : Polynomial k
     pub is : a ≡ (polynomials k).◌⊗◌ d quotient
 
-  pub divides_value : (d a : List ℕ) → IsOver k.ops d → Divides k.ops d a → DividesPol (value k d) (value k a)
+  pub divides_value : (d a : List ℕ) → IsOver k.ops d → DividesList k.ops d a → DividesPol (value k d) (value k a)
   divides_value d a d_in h = record {
     quotient = value k h.quotient;
     is = ap (value k) h.product ∙ value_product k d h.quotient d_in h.quotient_in;
   }
 
-  pub divides_codes : (d a : List ℕ) → IsOver k.ops d → IsOver k.ops a → IsPoly a → DividesPol (value k d) (value k a) → Divides k.ops d a
+  pub divides_codes : (d a : List ℕ) → IsOver k.ops d → IsOver k.ops a → IsPoly a → DividesPol (value k d) (value k a) → DividesList k.ops d a
   divides_codes d a d_in a_in a_poly h = record {
     quotient = codes_of k h.quotient;
     quotient_in = IsOver_codes_of k h.quotient;

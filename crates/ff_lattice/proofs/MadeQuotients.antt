@@ -4,15 +4,15 @@ use Rattle.ff_fields.specs.Field.{CodeField}
 use Rattle.ff_poly.specs.Popov.{longest, IsRow, IsPopov}
 use Rattle.function_field.specs.Values.{PresValue, IsPresOver, Functions, functions}
 use Rattle.ff_lattice.specs.Lattices.{LatticeValue, Contains, InSpanOf, elems_over}
-use Rattle.ff_lattice.specs.Orders.{IsOrder}
+use Rattle.ff_lattice.specs.Orders.{IsOrderLattice}
 use Rattle.ff_lattice.specs.PositionLists.{pivot_length, codes_below}
-use Rattle.ff_lattice.specs.Quotients.{QuotientValue, IsFrame, IsQuotient, IsClassOf, IsIdeal, IsRowOf, AreProducts}
+use Rattle.ff_lattice.specs.Quotients.{QuotientValue, IsFrame, IsQuotient, IsClassOf, IsIdealLattice, IsRowOf, AreProducts}
 use Rattle.ff_lattice.proofs.QuotientLaws.{class_of_row}
 
 abbrev pub made_value : List (List (List ℕ)) → ℕ → List (List (List (List ℕ))) → List ℕ → PresValue → LatticeValue → LatticeValue → QuotientValue
 made_value rows depth products one p order ideal = record { p = p; order = order; ideal = ideal; rows = rows; depth = depth; products = products; one = one }
 
-module _ (k : CodeField) (q : QuotientValue) (positive : 1 ≤ q.p.n) (p_in : IsPresOver k.ops q.p) (order : IsOrder k q.p q.order) (ideal : IsIdeal k q.p q.order q.ideal)
+module _ (k : CodeField) (q : QuotientValue) (positive : 1 ≤ q.p.n) (p_in : IsPresOver k.ops q.p) (order : IsOrderLattice k q.p q.order) (ideal : IsIdealLattice k q.p q.order q.ideal)
     (rows_in : All (IsRow k.ops q.p.n) q.rows) (popov : IsPopov q.p.n q.rows) (members : (z : Functions k q.p) → Contains k q.p q.ideal z ↔ InSpanOf k q.p (elems_over q.rows q.order.den) z)
     (deep : (j : ℕ) → j < q.p.n → pivot_length q.rows j ≤ q.depth) (products : AreProducts k q.p q.order (length q.order.rows) q.products) where
   pub made_frame : IsFrame k q

@@ -13,7 +13,7 @@ use Rattle.ff_fields.specs.Code.{code_ring}
 use Rattle.ff_fields.specs.Over.{IsOver}
 use Rattle.ff_poly.specs.Value.{value}
 use Rattle.ff_poly.specs.Polynomials.{Polynomial, polynomials}
-use Rattle.ff_poly.specs.Popov.{IsRow, InSpan, IsCombination, multiple_of_row}
+use Rattle.ff_poly.specs.Popov.{IsRow, InSpan, IsCombinationList, multiple_of_row}
 use Rattle.popov_theory.specs.Module.{PolynomialModule}
 use Rattle.popov_theory.specs.Span as theory
 use Rattle.popov_theory.specs.Span.{combine}
@@ -129,7 +129,7 @@ module _ (k : CodeField) (p : PresValue) where
 
 -- the answer of the division by the scaled rows
 pub contains_decided : (k : CodeField) (n : ℕ) (l : LatticeValue) (z : ElemValue) (found : Option (Vec (List ℕ))) (r : Bool) → IsLattice k.ops n l → IsElem k.ops n z → IsMonicElem z
-    → MatchOption found (¬ InSpan k.ops n (map (multiple_of_row k.ops z.den) l.rows) (multiple_of_row k.ops l.den z.num)) (λ x. IsCombination k.ops n (map (multiple_of_row k.ops z.den) l.rows) (multiple_of_row k.ops l.den z.num) x.items)
+    → MatchOption found (¬ InSpan k.ops n (map (multiple_of_row k.ops z.den) l.rows) (multiple_of_row k.ops l.den z.num)) (λ x. IsCombinationList k.ops n (map (multiple_of_row k.ops z.den) l.rows) (multiple_of_row k.ops l.den z.num) x.items)
     → r ≡ is_some found → (p : PresValue) → 1 ≤ p.n → p.n ≡ n → IsTrue r ↔ Contains k p l (function_of k p z)
 contains_decided k n l z found r lattice z_in z_monic m r_is p positive n_is =
     let iff = contains_iff k p l (subst (λ n. IsLattice k.ops n l) (sym n_is) lattice) z (subst (λ n. IsElem k.ops n z) (sym n_is) z_in) z_monic in
@@ -140,7 +140,7 @@ contains_decided k n l z found r lattice z_in z_monic m r_is p positive n_is =
     go found m r_is T T'
   where
     go : (found : Option (Vec (List ℕ)))
-        → MatchOption found (¬ InSpan k.ops n (map (multiple_of_row k.ops z.den) l.rows) (multiple_of_row k.ops l.den z.num)) (λ x. IsCombination k.ops n (map (multiple_of_row k.ops z.den) l.rows) (multiple_of_row k.ops l.den z.num) x.items)
+        → MatchOption found (¬ InSpan k.ops n (map (multiple_of_row k.ops z.den) l.rows) (multiple_of_row k.ops l.den z.num)) (λ x. IsCombinationList k.ops n (map (multiple_of_row k.ops z.den) l.rows) (multiple_of_row k.ops l.den z.num) x.items)
         → r ≡ is_some found → (InSpan k.ops n (map (multiple_of_row k.ops z.den) l.rows) (multiple_of_row k.ops l.den z.num) → Contains k p l (function_of k p z)) → (Contains k p l (function_of k p z) → InSpan k.ops n (map (multiple_of_row k.ops z.den) l.rows) (multiple_of_row k.ops l.den z.num))
         → IsTrue r ↔ Contains k p l (function_of k p z)
     go None none is to from = (λ t. let no : false ≡ true = sym is ∙ t in (cc), λ h. absurd (none (from h)))

@@ -7,7 +7,7 @@ use Rattle.ring_theory.proofs.Solver.{ring, reads}
 use Rattle.ff_fields.specs.Field.{CodeField}
 use Rattle.ff_fields.specs.Code.{is_zero_code}
 use Rattle.ff_fields.specs.Over.{IsOver}
-use Rattle.ff_poly.specs.Words.{IsPoly, IsMonic, Divides, product_of}
+use Rattle.ff_poly.specs.Words.{IsPoly, IsMonic, DividesList, product_of}
 use Rattle.ff_poly.specs.PolyOver.{IsOver_product_of}
 use Rattle.ff_poly.specs.Value.{value, value_product}
 use Rattle.ff_poly.specs.Polynomials.{Polynomial, polynomials}
@@ -68,7 +68,7 @@ module _ (k : CodeField) where
     e_value = ap (value k) e_is ∙ value_product k h g h_in g_in ∙ (polynomials k).mul_comm (value k h) (value k g)
 
     -- h divides u·w, so e divides u·(g·w)
-    scaled_entry : (u w : List ℕ) → IsOver k.ops u → IsOver k.ops w → Divides k.ops h (product_of k.ops u w) → Divides k.ops e (product_of k.ops u (product_of k.ops g w))
+    scaled_entry : (u w : List ℕ) → IsOver k.ops u → IsOver k.ops w → DividesList k.ops h (product_of k.ops u w) → DividesList k.ops e (product_of k.ops u (product_of k.ops g w))
     scaled_entry u w u_in w_in d =
         (divides_product k e u (product_of k.ops g w) e_in u_in (IsOver_product_of k g_in w_in)).1
         (subst (λ x. DividesPol k x ((polynomials k).◌⊗◌ (value k u) (value k (product_of k.ops g w)))) (sym e_value)
@@ -76,50 +76,50 @@ module _ (k : CodeField) where
         (sym (ap ((polynomials k).◌⊗◌ (value k u)) (value_product k g w g_in w_in) ∙ inner (value k u) (value k g) (value k w)))
         (pol_scale k (value k g) (value k h) ((polynomials k).◌⊗◌ (value k u) (value k w)) ((divides_product k h u w h_in u_in w_in).0 d))))
 
-    scaled_row : (u : List ℕ) (row : List (List ℕ)) → IsOver k.ops u → All (IsOver k.ops) row → All (λ w. Divides k.ops h (product_of k.ops u w)) row → All (λ v. Divides k.ops e (product_of k.ops u v)) (multiple_of_row k.ops g row)
-    scaled_row u [] u_in over d = All-nil (λ v. Divides k.ops e (product_of k.ops u v))
+    scaled_row : (u : List ℕ) (row : List (List ℕ)) → IsOver k.ops u → All (IsOver k.ops) row → All (λ w. DividesList k.ops h (product_of k.ops u w)) row → All (λ v. DividesList k.ops e (product_of k.ops u v)) (multiple_of_row k.ops g row)
+    scaled_row u [] u_in over d = All-nil (λ v. DividesList k.ops e (product_of k.ops u v))
     scaled_row u (w ∷ row) u_in over d =
-        All-cons (λ v. Divides k.ops e (product_of k.ops u v)) (product_of k.ops g w) (multiple_of_row k.ops g row)
-        (scaled_entry u w u_in (All-head (IsOver k.ops) w row over) (All-head (λ w. Divides k.ops h (product_of k.ops u w)) w row d))
-        (scaled_row u row u_in (All-tail (IsOver k.ops) w row over) (All-tail (λ w. Divides k.ops h (product_of k.ops u w)) w row d))
+        All-cons (λ v. DividesList k.ops e (product_of k.ops u v)) (product_of k.ops g w) (multiple_of_row k.ops g row)
+        (scaled_entry u w u_in (All-head (IsOver k.ops) w row over) (All-head (λ w. DividesList k.ops h (product_of k.ops u w)) w row d))
+        (scaled_row u row u_in (All-tail (IsOver k.ops) w row over) (All-tail (λ w. DividesList k.ops h (product_of k.ops u w)) w row d))
 
     scaled_rows : (n : ℕ) (u : List ℕ) (rows : List (List (List ℕ))) → IsOver k.ops u → All (IsRow k.ops n) rows → IsMultiplier k.ops rows h u → IsMultiplier k.ops (map (multiple_of_row k.ops g) rows) e u
     scaled_rows n u rows u_in over m = record { each = go rows over m.each }
       where
         T : List (List ℕ) → Type 0
-        T row = All (λ w. Divides k.ops h (product_of k.ops u w)) row
+        T row = All (λ w. DividesList k.ops h (product_of k.ops u w)) row
 
         T' : List (List ℕ) → Type 0
-        T' row = All (λ v. Divides k.ops e (product_of k.ops u v)) row
+        T' row = All (λ v. DividesList k.ops e (product_of k.ops u v)) row
 
-        go : (rows : List (List (List ℕ))) → All (IsRow k.ops n) rows → All (λ row. All (λ w. Divides k.ops h (product_of k.ops u w)) row) rows → All (λ row. All (λ v. Divides k.ops e (product_of k.ops u v)) row) (map (multiple_of_row k.ops g) rows)
-        go [] over d = All-nil (λ row. All (λ v. Divides k.ops e (product_of k.ops u v)) row)
+        go : (rows : List (List (List ℕ))) → All (IsRow k.ops n) rows → All (λ row. All (λ w. DividesList k.ops h (product_of k.ops u w)) row) rows → All (λ row. All (λ v. DividesList k.ops e (product_of k.ops u v)) row) (map (multiple_of_row k.ops g) rows)
+        go [] over d = All-nil (λ row. All (λ v. DividesList k.ops e (product_of k.ops u v)) row)
         go (row ∷ rows) over d =
-            All-cons (λ row. All (λ v. Divides k.ops e (product_of k.ops u v)) row) (multiple_of_row k.ops g row) (map (multiple_of_row k.ops g) rows)
-            (scaled_row u row u_in (All-head (IsRow k.ops n) row rows over).over (All-head (λ row. All (λ w. Divides k.ops h (product_of k.ops u w)) row) row rows d))
-            (go rows (All-tail (IsRow k.ops n) row rows over) (All-tail (λ row. All (λ w. Divides k.ops h (product_of k.ops u w)) row) row rows d))
+            All-cons (λ row. All (λ v. DividesList k.ops e (product_of k.ops u v)) row) (multiple_of_row k.ops g row) (map (multiple_of_row k.ops g) rows)
+            (scaled_row u row u_in (All-head (IsRow k.ops n) row rows over).over (All-head (λ row. All (λ w. DividesList k.ops h (product_of k.ops u w)) row) row rows d))
+            (go rows (All-tail (IsRow k.ops n) row rows over) (All-tail (λ row. All (λ w. DividesList k.ops h (product_of k.ops u w)) row) row rows d))
 
   module _ (n : ℕ) (rows : List (List (List ℕ))) (e h : List ℕ) (rows_in : All (IsRow k.ops n) rows) (popov : IsPopov n rows) (e_in : IsOver k.ops e) (e_monic : IsMonic e)
       (m : IsLeastMultiplier k.ops rows e h) where
     e_poly : IsPoly e
     e_poly = monic_poly e e_monic
 
-    e_each : (row : List (List ℕ)) → All (IsOver k.ops) row → All (λ v. Divides k.ops e (product_of k.ops e v)) row
-    e_each [] over = All-nil (λ v. Divides k.ops e (product_of k.ops e v))
+    e_each : (row : List (List ℕ)) → All (IsOver k.ops) row → All (λ v. DividesList k.ops e (product_of k.ops e v)) row
+    e_each [] over = All-nil (λ v. DividesList k.ops e (product_of k.ops e v))
     e_each (v ∷ row) over =
         let v_in = All-head (IsOver k.ops) v row over in
-        All-cons (λ v. Divides k.ops e (product_of k.ops e v)) v row
+        All-cons (λ v. DividesList k.ops e (product_of k.ops e v)) v row
         ((divides_product k e e v e_in e_in v_in).1 (pol_self k (value k e) (value k v)))
         (e_each row (All-tail (IsOver k.ops) v row over))
 
     -- e takes the rows into its multiples, so that h divides it
-    pub h_divides : Divides k.ops h e
+    pub h_divides : DividesList k.ops h e
     h_divides = (m.divides e e_in e_poly).1 (record { each = go rows rows_in })
       where
-        go : (rows : List (List (List ℕ))) → All (IsRow k.ops n) rows → All (λ row. All (λ v. Divides k.ops e (product_of k.ops e v)) row) rows
-        go [] over = All-nil (λ row. All (λ v. Divides k.ops e (product_of k.ops e v)) row)
+        go : (rows : List (List (List ℕ))) → All (IsRow k.ops n) rows → All (λ row. All (λ v. DividesList k.ops e (product_of k.ops e v)) row) rows
+        go [] over = All-nil (λ row. All (λ v. DividesList k.ops e (product_of k.ops e v)) row)
         go (row ∷ rows) over =
-            All-cons (λ row. All (λ v. Divides k.ops e (product_of k.ops e v)) row) row rows (e_each row (All-head (IsRow k.ops n) row rows over).over) (go rows (All-tail (IsRow k.ops n) row rows over))
+            All-cons (λ row. All (λ v. DividesList k.ops e (product_of k.ops e v)) row) row rows (e_each row (All-head (IsRow k.ops n) row rows over).over) (go rows (All-tail (IsRow k.ops n) row rows over))
 
     module _ (g : List ℕ) (g_in : IsOver k.ops g) (g_poly : IsPoly g) (e_is : e ≡ product_of k.ops h g) where
       pub g_some : g ≢ []
@@ -132,30 +132,30 @@ module _ (k : CodeField) where
       pub g_monic : IsMonic g
       g_monic = monic_factor k h g m.over m.poly m.monic g_in g_poly (g_positive g g_some) (subst IsMonic e_is e_monic)
 
-      entry_divides : (v : List ℕ) → IsOver k.ops v → IsPoly v → Divides k.ops e (product_of k.ops h v) → Divides k.ops g v
+      entry_divides : (v : List ℕ) → IsOver k.ops v → IsPoly v → DividesList k.ops e (product_of k.ops h v) → DividesList k.ops g v
       entry_divides v v_in v_poly d =
           divides_codes k g v g_in v_in v_poly
           (pol_cancel k (value k h) (value k g) (value k v) (monic_value k h m.over m.poly m.monic)
           (subst (λ x. DividesPol k x ((polynomials k).◌⊗◌ (value k h) (value k v))) (ap (value k) e_is ∙ value_product k h g m.over g_in)
           ((divides_product k e h v e_in m.over v_in).0 d)))
 
-      row_divides : (row : List (List ℕ)) → All (IsOver k.ops) row → All IsPoly row → All (λ v. Divides k.ops e (product_of k.ops h v)) row → All (Divides k.ops g) row
-      row_divides [] over poly d = All-nil (Divides k.ops g)
+      row_divides : (row : List (List ℕ)) → All (IsOver k.ops) row → All IsPoly row → All (λ v. DividesList k.ops e (product_of k.ops h v)) row → All (DividesList k.ops g) row
+      row_divides [] over poly d = All-nil (DividesList k.ops g)
       row_divides (v ∷ row) over poly d =
-          All-cons (Divides k.ops g) v row
-          (entry_divides v (All-head (IsOver k.ops) v row over) (All-head IsPoly v row poly) (All-head (λ v. Divides k.ops e (product_of k.ops h v)) v row d))
-          (row_divides row (All-tail (IsOver k.ops) v row over) (All-tail IsPoly v row poly) (All-tail (λ v. Divides k.ops e (product_of k.ops h v)) v row d))
+          All-cons (DividesList k.ops g) v row
+          (entry_divides v (All-head (IsOver k.ops) v row over) (All-head IsPoly v row poly) (All-head (λ v. DividesList k.ops e (product_of k.ops h v)) v row d))
+          (row_divides row (All-tail (IsOver k.ops) v row over) (All-tail IsPoly v row poly) (All-tail (λ v. DividesList k.ops e (product_of k.ops h v)) v row d))
 
       -- the common factor divides each entry
-      pub g_divides : All (All (Divides k.ops g)) rows
+      pub g_divides : All (All (DividesList k.ops g)) rows
       g_divides = go rows rows_in (popov_poly n rows popov) ((m.divides h m.over m.poly).0 (divides_self k h m.over m.poly)).each
         where
-          go : (rows : List (List (List ℕ))) → All (IsRow k.ops n) rows → All (All IsPoly) rows → All (λ row. All (λ v. Divides k.ops e (product_of k.ops h v)) row) rows → All (All (Divides k.ops g)) rows
-          go [] over poly d = All-nil (All (Divides k.ops g))
+          go : (rows : List (List (List ℕ))) → All (IsRow k.ops n) rows → All (All IsPoly) rows → All (λ row. All (λ v. DividesList k.ops e (product_of k.ops h v)) row) rows → All (All (DividesList k.ops g)) rows
+          go [] over poly d = All-nil (All (DividesList k.ops g))
           go (row ∷ rows) over poly d =
-              All-cons (All (Divides k.ops g)) row rows
-              (row_divides row (All-head (IsRow k.ops n) row rows over).over (All-head (All IsPoly) row rows poly) (All-head (λ row. All (λ v. Divides k.ops e (product_of k.ops h v)) row) row rows d))
-              (go rows (All-tail (IsRow k.ops n) row rows over) (All-tail (All IsPoly) row rows poly) (All-tail (λ row. All (λ v. Divides k.ops e (product_of k.ops h v)) row) row rows d))
+              All-cons (All (DividesList k.ops g)) row rows
+              (row_divides row (All-head (IsRow k.ops n) row rows over).over (All-head (All IsPoly) row rows poly) (All-head (λ row. All (λ v. DividesList k.ops e (product_of k.ops h v)) row) row rows d))
+              (go rows (All-tail (IsRow k.ops n) row rows over) (All-tail (All IsPoly) row rows poly) (All-tail (λ row. All (λ v. DividesList k.ops e (product_of k.ops h v)) row) row rows d))
 
       module _ (quotients : List (List (List ℕ))) (q : IsQuotientOfRows k.ops g n rows quotients) where
         quotients_popov : IsPopov n quotients

@@ -13,7 +13,7 @@ use Rattle.ring_theory.proofs.Division.{length_add, length_neg}
 use Rattle.ff_fields.specs.Field.{CodeField}
 use Rattle.ff_fields.specs.Code.{code_ring, code_domain, same_code, raw_ring, is_zero_code}
 use Rattle.ff_fields.specs.Over.{IsOver, get_or_below}
-use Rattle.ff_poly.specs.Words.{IsPoly, IsMonic, Divides, product_of, difference_of, multiple_of, top_of}
+use Rattle.ff_poly.specs.Words.{IsPoly, IsMonic, DividesList, product_of, difference_of, multiple_of, top_of}
 use Rattle.ff_poly.specs.PolyOver.{IsPoly_poly_of, IsOver_difference_of, IsOver_multiple_of}
 use Rattle.ff_poly.specs.Value.{value, same_from_value}
 use Rattle.ff_poly.specs.Terms.{value_difference}
@@ -51,7 +51,7 @@ module _ (k : CodeField) where
     pub quotient : Row (Polynomial k) n
     pub is : row_scale S.ops n E v ≡ row_scale S.ops n D quotient
 
-  row_divides : (n : ℕ) (d e : List ℕ) (row : List (List ℕ)) → IsOver k.ops d → IsOver k.ops e → All (IsOver k.ops) row → All (λ v. Divides k.ops d (product_of k.ops e v)) row → RowDivides n (value k d) (value k e) (read_row k n row)
+  row_divides : (n : ℕ) (d e : List ℕ) (row : List (List ℕ)) → IsOver k.ops d → IsOver k.ops e → All (IsOver k.ops) row → All (λ v. DividesList k.ops d (product_of k.ops e v)) row → RowDivides n (value k d) (value k e) (read_row k n row)
   unfolding row_scale
   row_divides zero d e row d_in e_in over h = record { quotient = tt; is = refl }
   row_divides (suc n) d e [] d_in e_in over h =
@@ -59,18 +59,18 @@ module _ (k : CodeField) where
       record { quotient = (S.𝟘, rest.quotient); is = pair_path (mul_zero S (value k e) ∙ sym (mul_zero S (value k d))) rest.is }
   row_divides (suc n) d e (v ∷ row) d_in e_in over h =
       let v_in = All-head (IsOver k.ops) v row over in
-      let first = (divides_product k d e v d_in e_in v_in).0 (All-head (λ v. Divides k.ops d (product_of k.ops e v)) v row h) in
-      let rest = row_divides n d e row d_in e_in (All-tail (IsOver k.ops) v row over) (All-tail (λ v. Divides k.ops d (product_of k.ops e v)) v row h) in
+      let first = (divides_product k d e v d_in e_in v_in).0 (All-head (λ v. DividesList k.ops d (product_of k.ops e v)) v row h) in
+      let rest = row_divides n d e row d_in e_in (All-tail (IsOver k.ops) v row over) (All-tail (λ v. DividesList k.ops d (product_of k.ops e v)) v row h) in
       record { quotient = (first.quotient, rest.quotient); is = pair_path first.is rest.is }
 
   divides_row : (n : ℕ) (d e : List ℕ) (row : List (List ℕ)) (w : Row (Polynomial k) n) → length row ≤ n → IsOver k.ops d → IsOver k.ops e → All (IsOver k.ops) row → row_scale S.ops n (value k e) (read_row k n row) ≡ row_scale S.ops n (value k d) w
-      → All (λ v. Divides k.ops d (product_of k.ops e v)) row
+      → All (λ v. DividesList k.ops d (product_of k.ops e v)) row
   unfolding row_scale
-  divides_row n d e [] w le d_in e_in over is = All-nil (λ v. Divides k.ops d (product_of k.ops e v))
+  divides_row n d e [] w le d_in e_in over is = All-nil (λ v. DividesList k.ops d (product_of k.ops e v))
   divides_row zero d e (v ∷ row) w le d_in e_in over is = absurd (omega (arith, le))
   divides_row (suc n) d e (v ∷ row) (a, w) le d_in e_in over is =
       let v_in = All-head (IsOver k.ops) v row over in
-      All-cons (λ v. Divides k.ops d (product_of k.ops e v)) v row
+      All-cons (λ v. DividesList k.ops d (product_of k.ops e v)) v row
       ((divides_product k d e v d_in e_in v_in).1 (record { quotient = a; is = ap (λ t. t.0) is }))
       (divides_row n d e row w (omega (arith, le)) d_in e_in (All-tail (IsOver k.ops) v row over) (ap (λ t. t.1) is))
 
@@ -146,7 +146,7 @@ module _ (k : CodeField) where
             let t = h z member in
             let same = over_same c (row_scale S.ops n (value k e) (read_row k n row)) t.0 D (polynomials k).𝟙 D_some ((polynomials_domain k).one_not_zero)
             (sym (over_scale c (value k e) (read_row k n row) D D_some) ∙ t.1) in
-            subst (All (λ v. Divides k.ops l.den (product_of k.ops e v))) (any_default l.rows i [] d less)
+            subst (All (λ v. DividesList k.ops l.den (product_of k.ops e v))) (any_default l.rows i [] d less)
             (divides_row n l.den e row t.0 (omega (arith, row_in.size)) lattice.den_in e_in row_in.over
             (sym (row_scale_one S n (row_scale S.ops n (value k e) (read_row k n row))) ∙ same));
       }
@@ -154,10 +154,10 @@ module _ (k : CodeField) where
       den_takes : Takes (Contains k p l) (value k l.den)
       den_takes = takes_of l.den lattice.den_in (record { each = λ i d less. row (get_or l.rows i d) (lattice.rows_in i d less).over })
         where
-          row : (v : List (List ℕ)) → All (IsOver k.ops) v → All (λ v. Divides k.ops l.den (product_of k.ops l.den v)) v
-          row [] over = All-nil (λ v. Divides k.ops l.den (product_of k.ops l.den v))
+          row : (v : List (List ℕ)) → All (IsOver k.ops) v → All (λ v. DividesList k.ops l.den (product_of k.ops l.den v)) v
+          row [] over = All-nil (λ v. DividesList k.ops l.den (product_of k.ops l.den v))
           row (a ∷ v) over =
-              All-cons (λ v. Divides k.ops l.den (product_of k.ops l.den v)) a v
+              All-cons (λ v. DividesList k.ops l.den (product_of k.ops l.den v)) a v
               ((divides_product k l.den l.den a lattice.den_in lattice.den_in (All-head (IsOver k.ops) a v over)).1 (pol_self k D (value k a)))
               (row v (All-tail (IsOver k.ops) a v over))
 

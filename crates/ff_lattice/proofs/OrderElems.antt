@@ -6,7 +6,7 @@ use Rattle.ring_theory.specs.Rows.{row_scale, entry}
 use Rattle.ff_fields.specs.Field.{CodeField}
 use Rattle.ff_fields.specs.Code.{code_ring}
 use Rattle.ff_fields.specs.Over.{IsOver}
-use Rattle.ff_poly.specs.Words.{Divides, product_of}
+use Rattle.ff_poly.specs.Words.{DividesList, product_of}
 use Rattle.ff_poly.specs.Value.{value}
 use Rattle.ff_poly.specs.Polynomials.{Polynomial, polynomials}
 use Rattle.ff_poly.specs.Popov.{entry_at, multiple_of_row}
@@ -55,9 +55,9 @@ module _ (k : CodeField) (p : PresValue) (l : LatticeValue) (lattice : IsLattice
   scaled_size = length-map z.num (product_of k.ops l.den) ∙ z_in.one_each
 
   -- the denominator of z divides each entry of its numerators times the lattice's denominator
-  pub divides_scaled : Contains k p l (function_of k p z) → All (Divides k.ops z.den) scaled
+  pub divides_scaled : Contains k p l (function_of k p z) → All (DividesList k.ops z.den) scaled
   divides_scaled member j d less =
-      subst (Divides k.ops z.den) (any_default scaled j [] d less)
+      subst (DividesList k.ops z.den) (any_default scaled j [] d less)
       (divides_codes k z.den (entry_at scaled j) z_in.den_over (over_at k scaled scaled_over j) (multiple_poly k l.den z.num j [] less)
       (record { quotient = entry S.ops n j m.numerator; is = sym (entry_read k n j scaled in_row) ∙ ap (entry S.ops n j) is ∙ entry_scale (code_ring k) n j (value k z.den) m.numerator }))
     where

@@ -12,7 +12,7 @@ use Rattle.function_field.specs.Functions.{IsPolynomial}
 use Rattle.function_field.specs.Values.{ElemValue, PresValue, Functions, functions, function_of, equation_of}
 use Rattle.function_field.proofs.ScalarRings.{polynomials_subring}
 use Rattle.ff_lattice.specs.Lattices.{LatticeValue, IsLattice, Contains, InSpanOf, row_elems}
-use Rattle.ff_lattice.specs.Orders.{IsOrder, IsOrderByRows, TakesRowsIn}
+use Rattle.ff_lattice.specs.Orders.{IsOrderLattice, IsOrderByRows, TakesRowsIn}
 
 pub false_true : false ≡ true → ⊥
 false_true e = cc
@@ -99,14 +99,14 @@ module _ (k : CodeField) (p : PresValue) where
     pub rows_members : All (λ z. L (f z)) (row_elems l)
     rows_members = all_from_map f L (row_elems l) (span_members F T 𝓢 gens)
 
-    pub order_from_rows : IsLattice k.ops p.n l → IsOrderByRows k p l → IsOrder k p l
+    pub order_from_rows : IsLattice k.ops p.n l → IsOrderByRows k p l → IsOrderLattice k p l
     order_from_rows lattice h = record {
       lattice = lattice;
       one_in = h.one_in;
       product_in = spans_product F T 𝓢 gens gens gens (rows_to_gens (row_elems l) h.products_in);
     }
 
-    pub rows_of_order : IsOrder k p l → IsOrderByRows k p l
+    pub rows_of_order : IsOrderLattice k p l → IsOrderByRows k p l
     rows_of_order o = record {
       one_in = o.one_in;
       products_in = λ i d less j e less'.

@@ -4,7 +4,7 @@ use Rattle.std.specs.Prelude.{◌≡◌, ℕ, ◌≤◌, ◌*◌, ◌-◌, ◌�
 use Rattle.ring_theory.specs.Subsets.{Span}
 use Rattle.ff_fields.specs.Field.{FieldOps, CodeField}
 use Rattle.ff_fields.specs.Over.{IsOver}
-use Rattle.ff_poly.specs.Words.{IsPoly, IsMonic, Divides, product_of}
+use Rattle.ff_poly.specs.Words.{IsPoly, IsMonic, DividesList, product_of}
 use Rattle.ff_poly.specs.Popov.{IsRow, IsPopov, pivot_degree}
 use Rattle.ff_poly.specs.Value.{value}
 use Rattle.function_field.specs.Functions.{IsPolynomial, of_poly}
@@ -34,7 +34,7 @@ pub record IsForm (l : LatticeValue) : Type 0 where
 
 -- e times each entry of the rows is a multiple of the denominator, so that e times each row over it is a row of polynomials
 pub record IsMultiplier (k : FieldOps) (rows : List (List (List ℕ))) (den e : List ℕ) : Type 0 where
-  pub each : All (λ row. All (λ v. Divides k den (product_of k e v)) row) rows
+  pub each : All (λ row. All (λ v. DividesList k den (product_of k e v)) row) rows
 
 -- the form of a lattice of rank n: a Popov basis of n rows over the monic denominator of least degree
 pub record IsLattice (k : FieldOps) (n : ℕ) (l : LatticeValue) : Type 0 where

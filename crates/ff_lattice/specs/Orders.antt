@@ -6,7 +6,7 @@ use Rattle.ff_lattice.specs.Lattices.{LatticeValue, IsLattice, Contains, row_ele
 
 module _ (k : CodeField) (p : PresValue) where
   -- a lattice that contains 1 and the product of each two members
-  pub record IsOrder (l : LatticeValue) : Type 0 where
+  pub record IsOrderLattice (l : LatticeValue) : Type 0 where
     pub lattice : IsLattice k.ops p.n l
     pub one_in : Contains k p l (functions k p).𝟙
     pub product_in : (u v : Functions k p) → Contains k p l u → Contains k p l v → Contains k p l ((functions k p).◌⊗◌ u v)

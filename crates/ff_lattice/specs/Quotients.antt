@@ -8,7 +8,7 @@ use Rattle.ff_poly.specs.Popov.{row_at, longest, IsRow, IsPopov}
 use Rattle.function_field.specs.Values.{ElemValue, PresValue, IsPresOver, Functions, functions, function_of}
 use Rattle.ff_falg.specs.Algebras.{AlgebraOps, IsAlgebra, IsVector}
 use Rattle.ff_lattice.specs.Lattices.{LatticeValue, IsLattice, Contains, InSpanOf, elems_over}
-use Rattle.ff_lattice.specs.Orders.{IsOrder}
+use Rattle.ff_lattice.specs.Orders.{IsOrderLattice}
 use Rattle.ff_lattice.specs.PositionLists.{pivot_length, code_count, codes_below, spread_onto}
 
 -- a presentation, an order, an ideal, and what the quotient keeps of them
@@ -55,7 +55,7 @@ pub record IsClassOf (k : CodeField) (q : QuotientValue) (z : Functions k q.p) (
   pub difference : Contains k q.p q.ideal ((functions k q.p).◌⊕◌ z ((functions k q.p).⊖◌ (function_of k q.p (lifted k.ops q a))))
 
 -- the ideal lies in the order and is closed under multiplication by it
-pub record IsIdeal (k : CodeField) (p : PresValue) (order ideal : LatticeValue) : Type 0 where
+pub record IsIdealLattice (k : CodeField) (p : PresValue) (order ideal : LatticeValue) : Type 0 where
   pub lattice : IsLattice k.ops p.n ideal
   pub within : (z : Functions k p) → Contains k p ideal z → Contains k p order z
   pub closed : (u v : Functions k p) → Contains k p order u → Contains k p ideal v → Contains k p ideal ((functions k p).◌⊗◌ u v)
@@ -79,8 +79,8 @@ pub record AreProducts (k : CodeField) (p : PresValue) (order : LatticeValue) (c
 pub record IsFrame (k : CodeField) (q : QuotientValue) : Type 0 where
   pub positive : 1 ≤ q.p.n
   pub p_in : IsPresOver k.ops q.p
-  pub order : IsOrder k q.p q.order
-  pub ideal : IsIdeal k q.p q.order q.ideal
+  pub order : IsOrderLattice k q.p q.order
+  pub ideal : IsIdealLattice k q.p q.order q.ideal
   pub rows_in : All (IsRow k.ops q.p.n) q.rows
   pub rows_popov : IsPopov q.p.n q.rows
   pub rows_are : (z : Functions k q.p) → Contains k q.p q.ideal z ↔ InSpanOf k q.p (elems_over q.rows q.order.den) z

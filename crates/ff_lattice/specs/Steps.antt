@@ -2,7 +2,7 @@
 use Rattle.std.specs.Prelude.{◌≡◌, ℕ, zero, suc, ◌+◌, ◌-◌, ◌<◌, ◌≤◌, ◌↔◌, List, [], ◌∷◌, ◌++◌, length, get_or, map, replicate, take, slice_set, All}
 use Rattle.ff_fields.specs.Field.{FieldOps}
 use Rattle.ff_fields.specs.Over.{IsOver}
-use Rattle.ff_poly.specs.Words.{IsPoly, IsMonic, Divides, product_of, shifted}
+use Rattle.ff_poly.specs.Words.{IsPoly, IsMonic, DividesList, product_of, shifted}
 use Rattle.ff_poly.specs.Popov.{entry_at, row_at, IsRow, IsPopov, InSpan, HasMultipleIn, combination, multiple_of_row}
 use Rattle.function_field.specs.Values.{ElemValue}
 use Rattle.ff_lattice.specs.Lattices.{LatticeValue, IsMultiplier}
@@ -16,7 +16,7 @@ abbrev pub lifted : ℕ → List (List ℕ) → List (List ℕ)
 lifted power row = map (λ v. shifted v power) row
 
 -- the rows of m times the power behind those of the unit matrix
-pub record IsBesideUnit (power : ℕ) (m rows : List (List (List ℕ))) : Type 0 where
+pub record IsBesideUnitRows (power : ℕ) (m rows : List (List (List ℕ))) : Type 0 where
   pub size : length rows ≡ length m
   pub at : (i : ℕ) → i < length m → row_at rows i ≡ unit_row (length m) i ++ lifted power (row_at m i)
 
@@ -50,25 +50,25 @@ pub record IsAnnihilator (k : FieldOps) (e v h : List ℕ) : Type 0 where
   pub over : IsOver k h
   pub poly : IsPoly h
   pub monic : IsMonic h
-  pub divides : (u : List ℕ) → IsOver k u → IsPoly u → Divides k h u ↔ Divides k e (product_of k u v)
+  pub divides : (u : List ℕ) → IsOver k u → IsPoly u → DividesList k h u ↔ DividesList k e (product_of k u v)
 
 -- monic, and its multiples are those of h with a property
 pub record IsNext (k : FieldOps) (h : List ℕ) (T : List ℕ → Type 0) (next : List ℕ) : Type 0 where
   pub over : IsOver k next
   pub poly : IsPoly next
   pub monic : IsMonic next
-  pub divides : (u : List ℕ) → IsOver k u → IsPoly u → Divides k next u ↔ (Divides k h u × T u)
+  pub divides : (u : List ℕ) → IsOver k u → IsPoly u → DividesList k next u ↔ (DividesList k h u × T u)
 
 -- u times each entry of the row is a multiple of e
 abbrev pub IsRowMultiplier : FieldOps → List ℕ → List (List ℕ) → List ℕ → Type 0
-IsRowMultiplier k e row u = All (λ v. Divides k e (product_of k u v)) row
+IsRowMultiplier k e row u = All (λ v. DividesList k e (product_of k u v)) row
 
 -- the monic polynomial whose multiples are those u for which u times each entry of the rows is a multiple of e
 pub record IsLeastMultiplier (k : FieldOps) (rows : List (List (List ℕ))) (e h : List ℕ) : Type 0 where
   pub over : IsOver k h
   pub poly : IsPoly h
   pub monic : IsMonic h
-  pub divides : (u : List ℕ) → IsOver k u → IsPoly u → Divides k h u ↔ IsMultiplier k rows e u
+  pub divides : (u : List ℕ) → IsOver k u → IsPoly u → DividesList k h u ↔ IsMultiplier k rows e u
 
 -- g times each entry is the row
 pub record IsRowQuotient (k : FieldOps) (g : List ℕ) (row quotient : List (List ℕ)) : Type 0 where
@@ -95,8 +95,8 @@ pub record IsReducedTo (k : FieldOps) (rows : List (List (List ℕ))) (e : List 
 pub record IsCommonMultiple (k : FieldOps) (e d m : List ℕ) : Type 0 where
   pub over : IsOver k m
   pub monic : IsMonic m
-  pub of_first : Divides k e m
-  pub of_second : Divides k d m
+  pub of_first : DividesList k e m
+  pub of_second : DividesList k d m
 
 -- a row over e is the element
 pub record IsExpansion (k : FieldOps) (e : List ℕ) (z : ElemValue) (row : List (List ℕ)) : Type 0 where

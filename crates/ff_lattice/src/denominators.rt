@@ -2,7 +2,7 @@
 
 ghost use Rattle.std.specs.Prelude.{◌≡◌, ◌≢◌, ◌<◌, ◌≤◌, [], ◌∷◌, length, All, IfOk};
 ghost use Rattle.ff_fields.specs.Over.{IsOver};
-ghost use Rattle.ff_poly.specs.Words.{IsPoly, IsMonic, Divides, product_of};
+ghost use Rattle.ff_poly.specs.Words.{IsPoly, IsMonic, DividesList, product_of};
 ghost use Rattle.ff_poly.specs.Popov.{rows_of, IsRow};
 ghost use Rattle.ff_lattice.specs.Steps.{IsAnnihilator, IsNext, IsRowMultiplier, IsLeastMultiplier, IsRowQuotient, IsQuotientOfRows};
 
@@ -52,7 +52,7 @@ fn next_multiplier<K: SmallField>(
     requires h_monic { IsMonic h.now }
     requires v_in { IsOver (K.field k.now).ops v.now }
     ensures { let k = (K.field k.now).ops in
-        IfOk result (IsNext k h.now (λ u. Divides k e.now (product_of k u v.now))) }
+        IfOk result (IsNext k h.now (λ u. DividesList k e.now (product_of k u v.now))) }
 {
     let product = poly::mul(alloc, k, h, v)?;
     let more = annihilator(alloc, k, e, &product)?;
@@ -116,7 +116,7 @@ pub(crate) fn exact_quotient<K: SmallField>(
     requires b_in { IsOver (K.field k.now).ops b.now }
     requires b_poly { IsPoly b.now }
     requires b_some { b.now ≢ [] }
-    requires divides { Divides (K.field k.now).ops b.now a.now }
+    requires divides { DividesList (K.field k.now).ops b.now a.now }
     ensures product { IfOk result (λ q. a.now ≡ product_of (K.field k.now).ops b.now q) }
     ensures over { IfOk result (IsOver (K.field k.now).ops) }
     ensures poly { IfOk result IsPoly }
@@ -137,7 +137,7 @@ pub(crate) fn row_quotient<K: SmallField>(
     requires g_some { g.now ≢ [] }
     requires row_in { All (IsOver (K.field k.now).ops) row.now }
     requires row_poly { All IsPoly row.now }
-    requires divides { All (Divides (K.field k.now).ops g.now) row.now }
+    requires divides { All (DividesList (K.field k.now).ops g.now) row.now }
     ensures { IfOk result (λ q. IsRowQuotient (K.field k.now).ops g.now row.now q.items) }
 {
     let mut quotients = Vec::new(alloc);
@@ -160,7 +160,7 @@ pub(crate) fn quotient_rows<K: SmallField>(
     requires g_some { g.now ≢ [] }
     requires rows_in { All (IsRow (K.field k.now).ops n) (rows_of rows.now) }
     requires rows_poly { All (All IsPoly) (rows_of rows.now) }
-    requires divides { All (All (Divides (K.field k.now).ops g.now)) (rows_of rows.now) }
+    requires divides { All (All (DividesList (K.field k.now).ops g.now)) (rows_of rows.now) }
     ensures { IfOk result (λ q. IsQuotientOfRows (K.field k.now).ops g.now n (rows_of rows.now) (rows_of q.items)) }
 {
     let mut quotients = Vec::new(alloc);

@@ -2,7 +2,7 @@
 
 ghost use Rattle.std.specs.Prelude.{◌≡◌, ◌≢◌, ◌↔◌, ◌≤◌, ◌<◌, [], ◌∷◌, length, All, IfOk, IsTrue};
 ghost use Rattle.ff_fields.specs.Over.{IsOver};
-ghost use Rattle.ff_poly.specs.Words.{IsPoly, IsMonic, Divides};
+ghost use Rattle.ff_poly.specs.Words.{IsPoly, IsMonic, DividesList};
 ghost use Rattle.ff_poly.specs.Popov.{rows_of, IsRow};
 ghost use Rattle.function_field.specs.Values.{ElemValue, PresValue, Functions, IsElem};
 ghost use Rattle.ff_lattice.specs.Lattices.{LatticeValue, IsLattice, Contains, InSpanOf, IsFull, IsSpannedBy};
@@ -40,7 +40,7 @@ fn divides<K: SmallField>(alloc: Global, k: &K, d: &Poly, e: &Poly) -> Result<bo
     requires d_in { IsOver (K.field k.now).ops d.now }
     requires d_some { d.now ≢ [] }
     requires e_in { IsOver (K.field k.now).ops e.now }
-    ensures { IfOk result (λ r. IsTrue r → IsPoly e.now → Divides (K.field k.now).ops d.now e.now) }
+    ensures { IfOk result (λ r. IsTrue r → IsPoly e.now → DividesList (K.field k.now).ops d.now e.now) }
 {
     let (_, rest) = poly::divide(alloc, k, e, d)?;
     Ok(rest.is_zero())
@@ -76,7 +76,7 @@ pub(crate) fn common_denominator<K: SmallField>(
     requires { All (IsElem (K.field k.now).ops n) gens.now }
     ensures over { IfOk result (IsOver (K.field k.now).ops) }
     ensures monic { IfOk result IsMonic }
-    ensures divides { IfOk result (λ e. All (λ z. Divides (K.field k.now).ops z.den e) gens.now) }
+    ensures divides { IfOk result (λ e. All (λ z. DividesList (K.field k.now).ops z.den e) gens.now) }
 {
     let mut e = Poly::one(alloc)?;
     for z in gens {
@@ -96,7 +96,7 @@ pub(crate) fn numerators<K: SmallField>(
     requires gens_in { All (IsElem (K.field k.now).ops n) gens.now }
     requires e_in { IsOver (K.field k.now).ops e.now }
     requires e_monic { IsMonic e.now }
-    requires divides { All (λ z. Divides (K.field k.now).ops z.den e.now) gens.now }
+    requires divides { All (λ z. DividesList (K.field k.now).ops z.den e.now) gens.now }
     ensures { IfOk result (λ rows. IsExpanded (K.field k.now).ops n e.now gens.now (rows_of rows.items)) }
 {
     let mut rows = Vec::new(alloc);

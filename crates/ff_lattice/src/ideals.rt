@@ -3,8 +3,8 @@
 ghost use Rattle.std.specs.Prelude.{◌≡◌, ◌↔◌, ◌≤◌, All, IfOk, IsTrue};
 ghost use Rattle.function_field.specs.Values.{PresValue, IsPresOver, Functions, functions, function_of};
 ghost use Rattle.ff_lattice.specs.Lattices.{LatticeValue, IsLattice, Contains, row_elems};
-ghost use Rattle.ff_lattice.specs.Orders.{IsOrder, TakesRowsIn};
-ghost use Rattle.ff_lattice.specs.Quotients.{IsIdeal};
+ghost use Rattle.ff_lattice.specs.Orders.{IsOrderLattice, TakesRowsIn};
+ghost use Rattle.ff_lattice.specs.Quotients.{IsIdealLattice};
 
 use crate::lattice::Lattice;
 use crate::order::{Order, takes_rows_in};
@@ -68,9 +68,9 @@ pub fn is_ideal<K: SmallField>(
     i: &Lattice,
 ) -> Result<bool, AllocError>
     requires p_in { IsPresOver (K.field k.now).ops p.now }
-    requires order { IsOrder (K.field k.now) p.now o.now }
+    requires order { IsOrderLattice (K.field k.now) p.now o.now }
     requires i_form { IsLattice (K.field k.now).ops p.now.n i.now }
-    ensures { IfOk result (λ r. IsTrue r ↔ IsIdeal (K.field k.now) p.now o.now i.now) }
+    ensures { IfOk result (λ r. IsTrue r ↔ IsIdealLattice (K.field k.now) p.now o.now i.now) }
 {
     let l = o.lattice();
     if !has_rows(alloc, k, p, l, i)? {

@@ -3,7 +3,7 @@
 ghost use Rattle.std.specs.Prelude.{◌≡◌, ◌↔◌, ◌≤◌, ◌<◌, [], ◌∷◌, length, All, IfOk, IfSome, IsSome, IsTrue};
 ghost use Rattle.function_field.specs.Values.{PresValue, IsPresOver, IsElem, IsMonicElem, Functions, functions, function_of};
 ghost use Rattle.ff_lattice.specs.Lattices.{LatticeValue, IsLattice, Contains, row_elems};
-ghost use Rattle.ff_lattice.specs.Orders.{IsOrder, IsOrderByRows, TakesRowsIn};
+ghost use Rattle.ff_lattice.specs.Orders.{IsOrderLattice, IsOrderByRows, TakesRowsIn};
 ghost use Rattle.ff_lattice.specs.Steps.{unit_row};
 
 use crate::lattice::Lattice;
@@ -116,7 +116,7 @@ impl Order {
     ) -> Result<Option<Order>, AllocError>
         requires p_in { IsPresOver (K.field k.now).ops p.now }
         requires l_form { IsLattice (K.field k.now).ops p.now.n l }
-        ensures decides { IfOk result (λ found. IsSome found ↔ IsOrder (K.field k.now) p.now l) }
+        ensures decides { IfOk result (λ found. IsSome found ↔ IsOrderLattice (K.field k.now) p.now l) }
         ensures same { IfOk result (λ found. IfSome found (λ o. o ≡ l)) }
     {
         let one = one_elem(alloc, k, p.n())?;
@@ -131,7 +131,7 @@ impl Order {
 
     /// The order of a lattice that is known to be one. No test is made.
     pub fn of<K: SmallField>(k: &K, p: &Pres, l: Lattice) -> Order
-        requires { IsOrder (K.field k.now) p.now l }
+        requires { IsOrderLattice (K.field k.now) p.now l }
         ensures { result ≡ l }
     {
         Order { lattice: l }
@@ -156,5 +156,5 @@ impl Order {
 /// A lattice is an order exactly where 1 and the products of its rows are members.
 pub fn order_by_rows<K: SmallField>(k: &K, p: &Pres, l: &Lattice)
     requires { IsLattice (K.field k.now).ops p.now.n l.now }
-    ensures { let k = K.field k.now in IsOrder k p.now l.now ↔ IsOrderByRows k p.now l.now }
+    ensures { let k = K.field k.now in IsOrderLattice k p.now l.now ↔ IsOrderByRows k p.now l.now }
 {}

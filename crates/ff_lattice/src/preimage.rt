@@ -2,7 +2,7 @@
 
 ghost use Rattle.std.specs.Prelude.{◌≡◌, ◌+◌, ◌<◌, ◌≤◌, ◌↔◌, ℕ, [], ◌++◌, length, map, replicate, All, IfOk, MatchOption, OnOk, IsTrue};
 ghost use Rattle.ff_poly.specs.Popov.{rows_of, row_at, entry_at, IsRow, IsPopov};
-ghost use Rattle.ff_lattice.specs.Steps.{lifted, unit_row, IsTwistedRows, IsBesideUnit, HasZeroCorner, HasShortMultiples, corner, IsPreimage, pivot_sum};
+ghost use Rattle.ff_lattice.specs.Steps.{lifted, unit_row, IsTwistedRows, IsBesideUnitRows, HasZeroCorner, HasShortMultiples, corner, IsPreimage, pivot_sum};
 
 use crate::positions::longest_entry;
 use crate::rows::{copy_row, unit_row, zero_row};
@@ -33,7 +33,7 @@ fn rows_beside_unit(
     m: &[Vec<Poly>],
     power: usize,
 ) -> Result<Vec<Vec<Poly>>, AllocError>
-    ensures { IfOk result (λ rows. IsBesideUnit power (rows_of m.now) (rows_of rows.items)) }
+    ensures { IfOk result (λ rows. IsBesideUnitRows power (rows_of m.now) (rows_of rows.items)) }
 {
     let mut rows = Vec::new(alloc);
     for i in 0..m.len() {

@@ -6,8 +6,8 @@ ghost use Rattle.ff_poly.specs.Popov.{rows_of, IsRow, IsPopov};
 ghost use Rattle.function_field.specs.Values.{PresValue, IsPresOver, Functions, functions, function_of, IsElem, IsMonicElem};
 ghost use Rattle.ff_falg.specs.Algebras.{IsVector};
 ghost use Rattle.ff_lattice.specs.Lattices.{LatticeValue, IsLattice, Contains, InSpanOf, elems_over};
-ghost use Rattle.ff_lattice.specs.Orders.{IsOrder};
-ghost use Rattle.ff_lattice.specs.Quotients.{QuotientValue, IsQuotient, IsQuotientOver, IsClassOf, IsRowOf, IsRowsOf, IsIdeal, AreProducts, HasClasses, dimension, lifted, quotient_ops, spread};
+ghost use Rattle.ff_lattice.specs.Orders.{IsOrderLattice};
+ghost use Rattle.ff_lattice.specs.Quotients.{QuotientValue, IsQuotient, IsQuotientOver, IsClassOf, IsRowOf, IsRowsOf, IsIdealLattice, AreProducts, HasClasses, dimension, lifted, quotient_ops, spread};
 
 use crate::denominators::row_quotient;
 use crate::lattice::Lattice;
@@ -95,7 +95,7 @@ fn ideal_basis<K: SmallField>(
     i: &Lattice,
 ) -> Result<Vec<Vec<Poly>>, AllocError>
     requires l_form { IsLattice (K.field k.now).ops p.now.n l.now }
-    requires ideal { IsIdeal (K.field k.now) p.now l.now i.now }
+    requires ideal { IsIdealLattice (K.field k.now) p.now l.now i.now }
     ensures rows_in { IfOk result (λ rows. All (IsRow (K.field k.now).ops p.now.n) (rows_of rows.items)) }
     ensures popov { IfOk result (λ rows. IsPopov p.now.n (rows_of rows.items)) }
     ensures members { let k = K.field k.now in
@@ -118,7 +118,7 @@ fn product_rows<K: SmallField>(
     l: &Lattice,
 ) -> Result<Vec<Vec<Vec<Poly>>>, AllocError>
     requires p_in { IsPresOver (K.field k.now).ops p.now }
-    requires order { IsOrder (K.field k.now) p.now l.now }
+    requires order { IsOrderLattice (K.field k.now) p.now l.now }
     ensures { let k = K.field k.now in
         IfOk result (λ ms. AreProducts k p.now l.now (length l.now.rows) (map (λ m. rows_of m.items) ms.items)) }
 {
@@ -142,8 +142,8 @@ impl Quotient {
         i: &Lattice,
     ) -> Result<Quotient, AllocError>
         requires p_in { IsPresOver (K.field k.now).ops p.now }
-        requires order { IsOrder (K.field k.now) p.now o.now }
-        requires ideal { IsIdeal (K.field k.now) p.now o.now i.now }
+        requires order { IsOrderLattice (K.field k.now) p.now o.now }
+        requires ideal { IsIdealLattice (K.field k.now) p.now o.now i.now }
         ensures p { IfOk result (λ q. q.p ≡ p.now) }
         ensures order { IfOk result (λ q. q.order ≡ o.now) }
         ensures ideal { IfOk result (λ q. q.ideal ≡ i.now) }

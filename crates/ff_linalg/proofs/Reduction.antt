@@ -15,7 +15,7 @@ use Rattle.linear_theory.specs.Echelon.{row, IsReduced}
 use Rattle.linear_theory.proofs.Elimination.{next, normal, normal_is, from, from_here, from_other, length_next, next_reduced, next_rank, next_same, row_pivot, row_other, skip_column, same_refl}
 use Rattle.linear_theory.proofs.SameRows.{HasEntries, same_of_entries, reduced_of_entries}
 use Rattle.ff_linalg.specs.Steps.{entry_at, normalized, cleared, eliminated}
-use Rattle.ff_linalg.specs.Forms.{sequences_of, IsReducedBelow, HaveSameSpace, IsStep}
+use Rattle.ff_linalg.specs.Forms.{sequences_of, IsReducedBelow, HaveSameSpace, IsEliminationStep}
 use Rattle.ff_linalg.proofs.Reading.{read_zero, read_add, read_mul, read_neg, read_one, row_entry, length_sequences, entry_in}
 
 -- the rows after an exchange
@@ -248,9 +248,9 @@ module _ (k : CodeField) (width : ℕ) (rows : List (List ℕ)) (wide : All (λ 
 
 pub pivot_step : (k : CodeField) (width : ℕ) (rows : List (List ℕ)) → All (λ r. length r ≡ width) rows → All (IsOver k.ops) rows → (c : ℕ) → c < width
     → (p : ℕ) → IsReducedBelow k c rows p → (i : ℕ) → p ≤ i → i < length rows → entry_at rows i c ≢ 0
-    → IsStep k width c rows (eliminated k.ops p c (swap rows p i)) (suc p)
+    → IsEliminationStep k width c rows (eliminated k.ops p c (swap rows p i)) (suc p)
 pivot_step k width rows wide over c c_below p below i late i_in some =
-    subst (λ n. IsStep k width c rows (eliminated k.ops n c (swap rows n i)) (suc n)) below.rank_is
+    subst (λ n. IsEliminationStep k width c rows (eliminated k.ops n c (swap rows n i)) (suc n)) below.rank_is
     (record {
       reduced = stepped_reduced k width rows wide over c c_below below.form i i_late i_in some;
       same = stepped_same k width rows wide over c c_below below.form i i_late i_in some;
@@ -260,7 +260,7 @@ pivot_step k width rows wide over c c_below p below i late i_in some =
     i_late = omega (arith, below.rank_is)
 
 pub skip_step : (k : CodeField) (width : ℕ) (rows : List (List ℕ)) (c : ℕ) (p : ℕ) → IsReducedBelow k c rows p
-    → ((l : ℕ) → p ≤ l → l < length rows → entry_at rows l c ≡ 0) → IsStep k width c rows rows p
+    → ((l : ℕ) → p ≤ l → l < length rows → entry_at rows l c ≡ 0) → IsEliminationStep k width c rows rows p
 skip_step k width rows c p below none = record {
   reduced = record {
     form = skip_column (code_ring k).ring (sequences_of k rows) c below.form (λ l a b.

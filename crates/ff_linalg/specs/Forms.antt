@@ -20,7 +20,7 @@ abbrev pub HaveSameSpace : (k : CodeField) → ℕ → List (List ℕ) → List 
 HaveSameSpace k width rows rows' = SameRowSpace (code_ring k).ops width (sequences_of k rows) (sequences_of k rows')
 
 -- what a step in column c makes of the rows: one column more is reduced, and the row space stays
-pub record IsStep (k : CodeField) (width c : ℕ) (rows rows' : List (List ℕ)) (rank : ℕ) : Type 0 where
+pub record IsEliminationStep (k : CodeField) (width c : ℕ) (rows rows' : List (List ℕ)) (rank : ℕ) : Type 0 where
   pub reduced : IsReducedBelow k (suc c) rows' rank
   pub same : HaveSameSpace k width rows' rows
 

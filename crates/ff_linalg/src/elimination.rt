@@ -4,7 +4,7 @@ ghost use Rattle.std.specs.Prelude.{◌≡◌, ℕ, ◌+◌, ◌*◌, ◌<◌, �
 ghost use Rattle.ff_fields.specs.Over.{IsOver};
 ghost use Rattle.ff_linalg.specs.Matrix.{rows_in, IsMatrixOver, HasShape};
 ghost use Rattle.ff_linalg.specs.Steps.{RaisesPivot, HasNoPivot};
-ghost use Rattle.ff_linalg.specs.Forms.{IsReducedBelow, HaveSameSpace, IsStep};
+ghost use Rattle.ff_linalg.specs.Forms.{IsReducedBelow, HaveSameSpace, IsEliminationStep};
 ghost use Rattle.ff_linalg.specs.Space.{IsInRowSpace, IsReducedForm};
 
 use crate::matrix::Matrix;
@@ -43,7 +43,7 @@ fn eliminate_next<K: SmallField>(
     requires entries_in { IsOver (K.field k.now).ops entries.old }
     requires reduced { IsReducedBelow (K.field k.now) c (rows_in cols rows entries.old) rank }
     ensures over { IsOver (K.field k.now).ops entries.new }
-    ensures step { IsStep (K.field k.now) cols c (rows_in cols rows entries.old) (rows_in cols rows entries.new) result }
+    ensures step { IsEliminationStep (K.field k.now) cols c (rows_in cols rows entries.old) (rows_in cols rows entries.new) result }
 {
     if !raise_pivot(entries, rows, cols, rank, c) {
         return rank;

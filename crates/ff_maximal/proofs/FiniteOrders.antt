@@ -22,7 +22,7 @@ use Rattle.ff_algebra.proofs.OtherSide.{on_finite_side}
 use Rattle.ff_factor.specs.Factors.{FactorsValue, IsFactorisation, polys_of}
 use Rattle.trace_theory.specs.Traces.{HasPolynomialCoordinates, polynomial_product}
 use Rattle.ff_lattice.specs.Lattices.{LatticeValue, IsLattice, Contains, elems_over, row_elems}
-use Rattle.ff_lattice.specs.Orders.{IsOrder}
+use Rattle.ff_lattice.specs.Orders.{IsOrderLattice}
 use Rattle.ff_lattice.proofs.Normal.{popov_poly}
 use Rattle.ff_order.specs.Enlargements.{TakenByProducts, repeated}
 use Rattle.value_theory.proofs.Bridge.{order_set}
@@ -69,7 +69,7 @@ module _ (k : CodeField) (c : CurveValue) (curve : IsCurve k c) where
   row_functions : (l : LatticeValue) → IsLattice k.ops c.fin.n l → map (function_of k c.fin) (row_elems l) ≡ map (function_on k c.fin c.c Finite) (row_elems l)
   row_functions l form = on_rows l.rows l.den form.rows_in (popov_poly c.fin.n l.rows form.popov) form.den_in form.den_poly form.monic
 
-  module _ (f : FactorsValue) (h : IsFactorisation k.ops c.disc f) (o m : LatticeValue) (o_order : IsOrder k c.fin o) (m_order : IsOrder k c.fin m)
+  module _ (f : FactorsValue) (h : IsFactorisation k.ops c.disc f) (o m : LatticeValue) (o_order : IsOrderLattice k c.fin o) (m_order : IsOrderLattice k c.fin m)
       (start : (z : Functions k c.fin) → Contains k c.fin o z ↔ HasPolynomialCoordinates (equation_of k c.fin) z)
       (members : (z : Functions k c.fin) → Contains k c.fin m z ↔ TakenByProducts (equation_of k c.fin) (map (value k) (repeated f.parts)) (Contains k c.fin o) z) where
     all_members : (z : Functions k c.fin) → Contains k c.fin m z ↔ IsIntegralAt (setting k c.fin) Finite z
@@ -96,10 +96,10 @@ module _ (k : CodeField) (c : CurveValue) (curve : IsCurve k c) where
       → (primes : List (List ℕ))
       → primes ≡ repeated f.parts
       → (o : LatticeValue)
-      → IsOrder k p o
+      → IsOrderLattice k p o
       → ((z : Functions k p) → Contains k p o z ↔ HasPolynomialCoordinates (equation_of k p) z)
       → (r : Result LatticeValue AllocError)
-      → IfOk r (IsOrder k p)
+      → IfOk r (IsOrderLattice k p)
       → IfOk r (λ m. (z : Functions k p) → Contains k p m z ↔ TakenByProducts (equation_of k p) (map (value k) primes) (Contains k p o) z)
       → IfOk r (IsIntegralLattice k c Finite)
 

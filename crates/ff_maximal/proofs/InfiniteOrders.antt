@@ -5,7 +5,7 @@ use Rattle.std.specs.declared.alloc.AllocError.{AllocError}
 use Rattle.ring_theory.specs.Subsets.{Span}
 use Rattle.ff_fields.specs.Field.{CodeField}
 use Rattle.ff_fields.specs.Over.{IsOver}
-use Rattle.ff_poly.specs.Words.{IsIrreducible}
+use Rattle.ff_poly.specs.Words.{IsIrreducibleList}
 use Rattle.ff_poly.specs.Value.{value}
 use Rattle.ff_poly.specs.Polynomials.{polynomials, x_poly}
 use Rattle.function_field.specs.declared.side.Side.TheVariants.{Finite, Infinite}
@@ -28,14 +28,14 @@ use Rattle.infinite_theory.proofs.InfiniteTransport.{x_irreducible, infinite_map
 use Rattle.infinite_theory.proofs.LocalIntegral.{taken_is_supported, taken_maximal}
 use Rattle.infinite_theory.proofs.InfiniteOrders.{infinite_integral, infinite_members}
 use Rattle.ff_lattice.specs.Lattices.{LatticeValue, Contains, row_elems}
-use Rattle.ff_lattice.specs.Orders.{IsOrder}
+use Rattle.ff_lattice.specs.Orders.{IsOrderLattice}
 use Rattle.value_theory.proofs.Bridge.{order_set}
 use Rattle.value_theory.proofs.InfiniteLattices.{image_of, some, some_inf, infinite_disc, rows_are, power_to, power_from}
 use Rattle.ff_infinite.proofs.LowZeros.{power_over}
 use Rattle.value_theory.specs.IntegralLattices.{IsOverPowerOfT, SpansIntegral, SpansOverPowersOfT, IsIntegralLattice}
 
 -- the list of the variable's codes is an irreducible polynomial
-pub variable_irreducible : (k : CodeField) (t : List ℕ) → t ≡ 0 ∷ 1 ∷ [] → IsIrreducible k.ops t
+pub variable_irreducible : (k : CodeField) (t : List ℕ) → t ≡ 0 ∷ 1 ∷ [] → IsIrreducibleList k.ops t
 variable_irreducible k t is =
     let size : length t ≡ 2 = ap length is in
     record {
@@ -57,7 +57,7 @@ module _ (k : CodeField) (c : CurveValue) (curve : IsCurve k c) where
   disc_at_infinity : ¬ (discriminant (equation_of k c.inf) ≡ (polynomials k).𝟘)
   disc_at_infinity = infinite_disc k c curve
 
-  module _ (m : LatticeValue) (m_order : IsOrder k c.inf m)
+  module _ (m : LatticeValue) (m_order : IsOrderLattice k c.inf m)
       (members : (z : Functions k c.inf) → Contains k c.inf m z ↔ TakenByPowers (equation_of k c.inf) (x_poly k) (HasPolynomialCoordinates (equation_of k c.inf)) z) where
     maximal : MaximalAt (functions k c.inf).ops (of_poly (equation_of k c.inf) (x_poly k)) (IsIntegralAt (setting k c.inf) Finite) (Contains k c.inf m)
     maximal z n integral inside = (members z).1 (taken_maximal (equation_of k c.inf) (x_poly k) (x_irreducible k) z n integral ((members _).0 inside))
@@ -102,7 +102,7 @@ module _ (k : CodeField) (c : CurveValue) (curve : IsCurve k c) where
       → (o : LatticeValue)
       → ((z : Functions k c.inf) → Contains k c.inf o z ↔ HasPolynomialCoordinates (equation_of k c.inf) z)
       → (r : Result LatticeValue AllocError)
-      → IfOk r (IsOrder k p)
+      → IfOk r (IsOrderLattice k p)
       → IfOk r (λ m. (z : Functions k p) → Contains k p m z ↔ TakenByPowers (equation_of k p) (value k t) (Contains k p o) z)
       → IfOk r (IsIntegralLattice k c Infinite)
 

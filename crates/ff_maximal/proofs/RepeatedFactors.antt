@@ -9,7 +9,7 @@ use Rattle.ring_theory.proofs.Ring.{one_mul}
 use Rattle.linear_theory.specs.Euclidean.{IsDivisorIn}
 use Rattle.ff_fields.specs.Field.{CodeField}
 use Rattle.ff_fields.specs.Over.{IsOver, IsOver_nil, IsOver_cons}
-use Rattle.ff_poly.specs.Words.{IsIrreducible, poly_of}
+use Rattle.ff_poly.specs.Words.{IsIrreducibleList, poly_of}
 use Rattle.ff_poly.specs.PolyOver.{IsOver_product_of}
 use Rattle.ff_poly.specs.PowerWords.{power_of}
 use Rattle.ff_poly.specs.Value.{value, value_product}
@@ -103,26 +103,26 @@ module _ (k : CodeField) where
       value_product k (power_of k.ops f.0 f.1) (product_of_parts k.ops fs) (power_over f.0 f.1 f_in) (parts_over fs rest_in)
       ∙ ap₂ (polynomials k).◌⊗◌ (value_power k f.0 f.1 f_in) (parts_value fs rest_in)
 
-  different : (fs : List (List ℕ × ℕ)) → All (IsOver k.ops) (polys_of fs) → All (IsIrreducible k.ops) (polys_of fs) → AreAscendingPolys (polys_of fs) → AreDifferent k fs
+  different : (fs : List (List ℕ × ℕ)) → All (IsOver k.ops) (polys_of fs) → All (IsIrreducibleList k.ops) (polys_of fs) → AreAscendingPolys (polys_of fs) → AreDifferent k fs
   different [] over irreducible ascending = tt
   different (f ∷ fs) over irreducible ascending = (
-    record { over = All-head (IsOver k.ops) f.0 (polys_of fs) over; irreducible = All-head (IsIrreducible k.ops) f.0 (polys_of fs) irreducible },
-    others fs (All-tail (IsOver k.ops) f.0 (polys_of fs) over) (All-tail (IsIrreducible k.ops) f.0 (polys_of fs) irreducible) ascending.0,
-    different fs (All-tail (IsOver k.ops) f.0 (polys_of fs) over) (All-tail (IsIrreducible k.ops) f.0 (polys_of fs) irreducible) ascending.1,
+    record { over = All-head (IsOver k.ops) f.0 (polys_of fs) over; irreducible = All-head (IsIrreducibleList k.ops) f.0 (polys_of fs) irreducible },
+    others fs (All-tail (IsOver k.ops) f.0 (polys_of fs) over) (All-tail (IsIrreducibleList k.ops) f.0 (polys_of fs) irreducible) ascending.0,
+    different fs (All-tail (IsOver k.ops) f.0 (polys_of fs) over) (All-tail (IsIrreducibleList k.ops) f.0 (polys_of fs) irreducible) ascending.1,
   )
     where
       Other : List ℕ × ℕ → Type 0
       Other g = IsPrime k g.0 × ¬ (f.0 ≡ g.0)
 
-      others : (gs : List (List ℕ × ℕ)) → All (IsOver k.ops) (polys_of gs) → All (IsIrreducible k.ops) (polys_of gs) → All (IsBeforePoly f.0) (polys_of gs)
+      others : (gs : List (List ℕ × ℕ)) → All (IsOver k.ops) (polys_of gs) → All (IsIrreducibleList k.ops) (polys_of gs) → All (IsBeforePoly f.0) (polys_of gs)
           → All (λ (g : List ℕ × ℕ). IsPrime k g.0 × ¬ (f.0 ≡ g.0)) gs
       others [] a b c = All-nil (λ (g : List ℕ × ℕ). IsPrime k g.0 × ¬ (f.0 ≡ g.0))
       others (g ∷ gs) a b c =
           All-cons (λ (g : List ℕ × ℕ). IsPrime k g.0 × ¬ (f.0 ≡ g.0)) g gs (
-            record { over = All-head (IsOver k.ops) g.0 (polys_of gs) a; irreducible = All-head (IsIrreducible k.ops) g.0 (polys_of gs) b },
+            record { over = All-head (IsOver k.ops) g.0 (polys_of gs) a; irreducible = All-head (IsIrreducibleList k.ops) g.0 (polys_of gs) b },
             before_differs f.0 g.0 (All-head (IsBeforePoly f.0) g.0 (polys_of gs) c),
           )
-          (others gs (All-tail (IsOver k.ops) g.0 (polys_of gs) a) (All-tail (IsIrreducible k.ops) g.0 (polys_of gs) b) (All-tail (IsBeforePoly f.0) g.0 (polys_of gs) c))
+          (others gs (All-tail (IsOver k.ops) g.0 (polys_of gs) a) (All-tail (IsIrreducibleList k.ops) g.0 (polys_of gs) b) (All-tail (IsBeforePoly f.0) g.0 (polys_of gs) c))
 
   module _ (d : List ℕ) (f : FactorsValue) (h : IsFactorisation k.ops d f) where
     abbrev u : Polynomial k
@@ -162,10 +162,10 @@ module _ (k : CodeField) where
         all_expanded (IsPrime k) f.parts
         (λ j q less. record { over = h.over j q less; irreducible = h.irreducible j q less })
 
-    pub expanded_irreducible : All (λ Q. IsIrreducible k.ops (codes_of k Q)) (map (value k) (expanded f.parts))
+    pub expanded_irreducible : All (λ Q. IsIrreducibleList k.ops (codes_of k Q)) (map (value k) (expanded f.parts))
     expanded_irreducible =
-        All-map (λ Q. IsIrreducible k.ops (codes_of k Q)) (value k) (expanded f.parts)
-        (All-weaker (IsPrime k) (λ q. IsIrreducible k.ops (codes_of k (value k q))) (λ q prime. irreducible_value k q prime.over prime.irreducible) (expanded f.parts) primes)
+        All-map (λ Q. IsIrreducibleList k.ops (codes_of k Q)) (value k) (expanded f.parts)
+        (All-weaker (IsPrime k) (λ q. IsIrreducibleList k.ops (codes_of k (value k q))) (λ q prime. irreducible_value k q prime.over prime.irreducible) (expanded f.parts) primes)
 
     -- those whose squares divide it are the repeated ones
     pub listed : ¬ (value k d ≡ (polynomials k).𝟘)

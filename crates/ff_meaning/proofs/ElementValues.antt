@@ -24,7 +24,7 @@ use Rattle.ff_text.specs.Values.{written_codes, exponent_of_y, triple_of, triple
 use Rattle.ff_text.proofs.Gathered.{found_behind}
 use Rattle.ff_meaning.specs.declared.refusal.Refusal.{Refusal}
 use Rattle.ff_meaning.specs.Meaning.{codes_of_den, codes_of_element, AreCodesBelow, IsSumOf, IsPolyOf, ArePolysOf, IsDenOf, IsElementOf, greatest_degree, degree_of_element}
-use Rattle.ff_meaning.specs.Refusals.{IsWithin, IsElementRow, range, size, degree, zero_den}
+use Rattle.ff_meaning.specs.Refusals.{IsWithinDegrees, IsElementRow, range, size, degree, zero_den}
 use Rattle.ff_meaning.specs.Elements.{greatest_in_x, AreSumsOf, IsDenSumOf, AreElementSums, AreCoefficients}
 use Rattle.ff_meaning.proofs.TermCodes.{code_none, code_other, code_of_each, code_above, code_on_top, same_terms}
 use Rattle.ff_meaning.proofs.EntrySums.{codes_below}
@@ -189,7 +189,7 @@ module _ (k : FieldOps) where
   none_found q codes h = ap (find (λ d. nat_le q d)) (sym (append-nil codes)) ∙ found_behind q codes [] h
 
   -- no row holds of an element that may stand
-  pub no_element_row : (n bound : ℕ) (e : ElemText) (r : Refusal) → IsWithin k n bound e → ¬ IsElementRow k n bound e r
+  pub no_element_row : (n bound : ℕ) (e : ElemText) (r : Refusal) → IsWithinDegrees k n bound e → ¬ IsElementRow k n bound e r
   no_element_row n bound e r h (range row) = let none = none_found k.size (codes_of_element e) h.written in absurd (let found = row.1 in cc)
   no_element_row n bound e r h (size below other is) = other h.size
   no_element_row n bound e r h (degree long z z_is great is) =

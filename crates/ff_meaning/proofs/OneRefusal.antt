@@ -28,7 +28,7 @@ use Rattle.ff_meaning.specs.Limits.{max_degree}
 use Rattle.ff_meaning.specs.Bindings.{Bindings, Bound, with_field, with_curve, IsSomeWith}
 use Rattle.ff_meaning.specs.SameBindings.{AreSameFields, AreSame, NothingBound, OneField, OneCurve}
 use Rattle.ff_meaning.specs.Meaning.{AreCodesBelow, codes_of_den, codes_of_element, IsSumOf, ArePolysOf, IsDenOf, IsElementOf, degree_of_element}
-use Rattle.ff_meaning.specs.Refusals.{IsCodeRow, IsFieldLineFault, refusal_of_field, IsFieldRow, refusal_of_curve, IsNoCurve, IsWithin, IsElementRow, IsProductRow, IsFactorRow, IsRefusalRow}
+use Rattle.ff_meaning.specs.Refusals.{IsCodeRow, IsFieldLineFault, refusal_of_field, IsFieldRow, refusal_of_curve, IsNoCurve, IsWithinDegrees, IsElementRow, IsProductRow, IsFactorRow, IsRefusalRow}
 use Rattle.ff_meaning.specs.Refusals as rows
 use Rattle.ff_meaning.proofs.TermCodes.{same_terms}
 use Rattle.ff_meaning.proofs.ElementValues.{same_poly, same_polys, same_den, none_found, no_element_row}

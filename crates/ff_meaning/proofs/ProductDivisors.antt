@@ -5,7 +5,7 @@ use Rattle.ring_theory.specs.Members.{In}
 use Rattle.ff_fields.specs.Field.{CodeField}
 use Rattle.ff_fields.specs.Over.{IsOver}
 use Rattle.linear_theory.specs.Euclidean.{IsDivisorIn}
-use Rattle.ff_poly.specs.Words.{IsPoly, IsIrreducible, Divides, product_of}
+use Rattle.ff_poly.specs.Words.{IsPoly, IsIrreducibleList, DividesList, product_of}
 use Rattle.ff_poly.specs.Value.{value, value_product}
 use Rattle.ff_poly.specs.Polynomials.{polynomials}
 use Rattle.polynomial_theory.proofs.Divisors.{divisor_of_divides, divides_of_divisor}
@@ -31,7 +31,7 @@ module _ (k : CodeField) where
   pub both_irreducible : (ps qs : List (List ℕ)) → AreIrreducible k.ops ps → AreIrreducible k.ops qs → AreIrreducible k.ops (ps ++ qs)
   both_irreducible ps qs h j = record {
     over = All-append (IsOver k.ops) ps qs h.over j.over;
-    irreducible = All-append (IsIrreducible k.ops) ps qs h.irreducible j.irreducible;
+    irreducible = All-append (IsIrreducibleList k.ops) ps qs h.irreducible j.irreducible;
   }
 
   pub product_divisors : (a b : List ℕ) (ps qs : List (List ℕ)) → IsOver k.ops a → IsPoly a → IsOver k.ops b → IsPoly b → HasFactorsOf k.ops ps a → HasFactorsOf k.ops qs b

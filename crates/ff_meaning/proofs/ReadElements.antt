@@ -6,7 +6,7 @@ use Rattle.ff_algebra.specs.CurveTerms.{IsCoefficient, degree_in_x}
 use Rattle.ff_text.specs.declared.terms.ElemText.{ElemText}
 use Rattle.ff_text.specs.Printing.{IsWritableElement}
 use Rattle.ff_meaning.specs.declared.refusal.Refusal.TheVariants.{Length, LimitX, Zero}
-use Rattle.ff_meaning.specs.Refusals.{IsWithin, IsElementRow, size, degree, zero_den}
+use Rattle.ff_meaning.specs.Refusals.{IsWithinDegrees, IsElementRow, size, degree, zero_den}
 use Rattle.ff_meaning.specs.Elements.{greatest_in_x, AreElementSums, AreCoefficients, IsElementRead}
 use Rattle.ff_meaning.proofs.EntrySums.{length_sums, length_coefficients}
 use Rattle.ff_meaning.proofs.ElementValues.{Terms, coefficient_exists, coefficients_exist, element_below, element_of, element_degree}
@@ -36,7 +36,7 @@ module _ (k : CodeField) where
             let same = element_degree k e ss s sums ps d num den writable in
             zero_den right_length (record { num = ps; den = d }) (element_of k e ss s sums ps d num den) (omega (arith, same)) none refl
 
-        within : d ≢ [] → IsWithin k.ops n bound e
+        within : d ≢ [] → IsWithinDegrees k.ops n bound e
         within some =
             let same = element_degree k e ss s sums ps d num den writable in
             record {

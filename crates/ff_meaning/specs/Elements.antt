@@ -6,7 +6,7 @@ use Rattle.ff_algebra.specs.CurveTerms.{IsCoefficient, degree_in_x}
 use Rattle.ff_text.specs.declared.terms.Term.{Term}
 use Rattle.ff_text.specs.declared.terms.ElemText.{ElemText}
 use Rattle.ff_meaning.specs.Meaning.{IsSumOf}
-use Rattle.ff_meaning.specs.Refusals.{IsWithin}
+use Rattle.ff_meaning.specs.Refusals.{IsWithinDegrees}
 
 -- the greatest exponent of x in lists of terms
 abbrev pub greatest_in_x : List (List (ℕ × ℕ × ℕ)) → ℕ
@@ -38,6 +38,6 @@ module _ (k : FieldOps) where
 
 -- z stands for the written element
 pub record IsElementRead (k : CodeField) (n bound : ℕ) (e : ElemText) (z : ElemValue) : Type 0 where
-  pub within : IsWithin k.ops n bound e
+  pub within : IsWithinDegrees k.ops n bound e
   pub same : (p : PresValue) → function_of k p z ≡ function_of k p within.value
   pub in_range : IsElem k.ops n z

@@ -18,7 +18,7 @@ use Rattle.ff_script.specs.declared.script.Statement.{Statement}
 use Rattle.ff_script.specs.declared.script.Statement.TheVariants.{FieldOf, CurveOf, Mul, Factor, OrderOf}
 use Rattle.ff_meaning.specs.declared.refusal.Refusal.{Refusal}
 use Rattle.ff_meaning.specs.declared.refusal.Refusal.TheVariants.{FieldSize, NotField, LimitY, LimitX, NotMonic, NotSeparable, LimitDisc, LimitInf, CodeRange, Length, Zero, Memory}
-use Rattle.ff_fields.specs.FieldData.{FieldData, IsField, ops_of, with_laws}
+use Rattle.ff_fields.specs.FieldData.{FieldData, IsFieldData, ops_of, with_laws}
 use Rattle.ff_meaning.specs.Limits.{max_degree}
 use Rattle.ff_meaning.specs.Bindings.{Bindings, ForField, ForCurve}
 use Rattle.ff_meaning.specs.Meaning.{AreCodesBelow, IsFirstCodeFrom, codes_of_element, IsSumOf, IsPolyOf, IsElementOf, degree_of_element}
@@ -66,13 +66,13 @@ pub data IsNoCurve (k : CodeField) (f : List Term) (r : Refusal) : Type 0 where
   fault : (sum : List (ℕ × ℕ × ℕ)) → IsSumOf k.ops f sum → (e : CurveFault) → e ≢ curves.Memory → IsCurveFault k sum e → r ≡ refusal_of_curve e → IsNoCurve k f r
 
 abbrev pub IsCurveRow : FieldData → List Term → Refusal → Type 0
-IsCurveRow d f r = (is : IsField d) × IsNoCurve (with_laws d is) f r
+IsCurveRow d f r = (is : IsFieldData d) × IsNoCurve (with_laws d is) f r
 
 -- ---- the rows of a product
 
 module _ (k : FieldOps) (n bound : ℕ) where
   -- an element of n entries, of degrees up to the bound, over a denominator that isn't 0
-  pub record IsWithin (e : ElemText) : Type 0 where
+  pub record IsWithinDegrees (e : ElemText) : Type 0 where
     pub written : AreCodesBelow k.size (codes_of_element e)
     pub size : length e.entries ≡ n
     pub value : ElemValue
@@ -88,7 +88,7 @@ module _ (k : FieldOps) (n bound : ℕ) where
 
   -- the first element's rows come before the second's
   abbrev pub IsProductRow : ElemText → ElemText → Refusal → Type 0
-  IsProductRow a b r = IsElementRow a r ⊎ (IsWithin a × IsElementRow b r)
+  IsProductRow a b r = IsElementRow a r ⊎ (IsWithinDegrees a × IsElementRow b r)
 
 -- ---- the rows of a factorisation
 

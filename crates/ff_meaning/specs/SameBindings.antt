@@ -1,14 +1,14 @@
 -- Bindings that say the same, as a script can lead to them: one field, and one curve over it. Data of a field aren't
 -- told apart by its operations, since a modulus of degree 1 may be any.
 use Rattle.std.specs.Prelude.{◌≡◌}
-use Rattle.ff_fields.specs.FieldData.{FieldData, IsField, ops_of, with_laws}
+use Rattle.ff_fields.specs.FieldData.{FieldData, IsFieldData, ops_of, with_laws}
 use Rattle.function_field.specs.Curves.{CurveValue, IsCurve}
 use Rattle.ff_meaning.specs.Bindings.{Bindings, nothing, with_field, with_curve}
 
 -- two fields with the same operations
 pub record AreSameFields (d e : FieldData) : Type 0 where
-  pub left : IsField d
-  pub right : IsField e
+  pub left : IsFieldData d
+  pub right : IsFieldData e
   pub ops : ops_of d ≡ ops_of e
 
 -- and a curve over them

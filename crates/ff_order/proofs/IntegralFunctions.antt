@@ -9,7 +9,7 @@ use Rattle.prime_theory.proofs.Enlarge.{PowersOf}
 use Rattle.linear_theory.specs.Euclidean.{IsDivisorIn}
 use Rattle.ff_fields.specs.Field.{CodeField}
 use Rattle.ff_fields.specs.Over.{IsOver}
-use Rattle.ff_poly.specs.Words.{IsIrreducible}
+use Rattle.ff_poly.specs.Words.{IsIrreducibleList}
 use Rattle.ff_poly.specs.Value.{value}
 use Rattle.ff_poly.specs.Polynomials.{Polynomial, polynomials, codes_of}
 use Rattle.function_field.specs.declared.side.Side.TheVariants.{Finite}
@@ -59,7 +59,7 @@ module _ {k : CodeField} (c : Equation k) where
 
     -- where the polynomials are all whose squares divide the discriminant, these are all integral functions
     pub all_integral : ((z : FunctionOf c) → HasPolynomialCoordinates c z → O z) → (qs : List (Polynomial k))
-        → IsDivisorIn (polynomials k).ops (discriminant c) (polynomial_product k qs) → All (λ q. IsIrreducible k.ops (codes_of k q)) qs
+        → IsDivisorIn (polynomials k).ops (discriminant c) (polynomial_product k qs) → All (λ q. IsIrreducibleList k.ops (codes_of k q)) qs
         → All (λ q. IsDivisorIn (polynomials k).ops ((polynomials k).◌⊗◌ q q) (discriminant c) → Any (λ r. r ≡ q) ps) qs
         → (z : FunctionOf c) → M z ↔ IsIntegralAt (setting_of c) Finite z
     all_integral start qs divides irreducible listed z = (
@@ -87,9 +87,9 @@ module _ (k : CodeField) where
   any_value qs q (j, r, less, at, is) =
       (j, value k r, subst (λ n. j < n) (sym (length-map qs (value k))) less, get_or-map (value k) qs j r (value k r) less ∙ ap (value k) at, ap (value k) is)
 
-  pub irreducible_values : (qs : List (List ℕ)) → All (IsOver k.ops) qs → All (IsIrreducible k.ops) qs → All (λ q. IsIrreducible k.ops (codes_of k q)) (map (value k) qs)
+  pub irreducible_values : (qs : List (List ℕ)) → All (IsOver k.ops) qs → All (IsIrreducibleList k.ops) qs → All (λ q. IsIrreducibleList k.ops (codes_of k q)) (map (value k) qs)
   irreducible_values qs over irreducible =
-      All-map (λ q. IsIrreducible k.ops (codes_of k q)) (value k) qs
+      All-map (λ q. IsIrreducibleList k.ops (codes_of k q)) (value k) qs
       (λ j d less. irreducible_value k (get_or qs j d) (over j d less) (irreducible j d less))
 
   pub listed_values : (c : Equation k) (primes qs : List (List ℕ))

@@ -20,7 +20,7 @@ use Rattle.lattice_theory.proofs.Indices.{index_of, index_less}
 use Rattle.order_theory.proofs.IntegralLattice.{integral_lattice}
 use Rattle.order_theory.proofs.LocalOrders.{order_integral}
 use Rattle.ff_lattice.specs.Lattices.{LatticeValue, Contains}
-use Rattle.ff_lattice.specs.Orders.{IsOrder}
+use Rattle.ff_lattice.specs.Orders.{IsOrderLattice}
 use Rattle.ff_lattice.proofs.Divisors.{monic_value}
 use Rattle.ff_lattice.proofs.OneForm.{one_form}
 use Rattle.ff_lattice.proofs.SpannedSets.{full_from_rank}
@@ -58,7 +58,7 @@ module _ (k : CodeField) (p : PresValue) where
     measure = index_by (polynomial_discrete k (discriminant (equation_of k p)) (polynomials k).𝟘) (polynomial_discrete k (value k l.den) (polynomials k).𝟘)
 
     -- it is the index of each order
-    module _ (positive : 0 < p.n) (some : ¬ (discriminant (equation_of k p) ≡ (polynomials k).𝟘)) (order : IsOrder k p l) where
+    module _ (positive : 0 < p.n) (some : ¬ (discriminant (equation_of k p) ≡ (polynomials k).𝟘)) (order : IsOrderLattice k p l) where
       integral : (z : Functions k p) → Contains k p l z → IsIntegralAt (setting_of (equation_of k p)) Finite z
       integral = order_integral (equation_of k p) (Contains k p l) (order_set k p positive l order)
 
@@ -95,7 +95,7 @@ module _ (k : CodeField) (p : PresValue) where
       measure_is = by_is (polynomial_discrete k (discriminant (equation_of k p)) (polynomials k).𝟘) (polynomial_discrete k (value k l.den) (polynomials k).𝟘)
 
   -- a turn that isn't the last lowers it
-  pub turn_smaller : 0 < p.n → ¬ (discriminant (equation_of k p) ≡ (polynomials k).𝟘) → (pi : List ℕ) (cur next : LatticeValue) → IsOrder k p cur → IsTurn k p pi cur next
+  pub turn_smaller : 0 < p.n → ¬ (discriminant (equation_of k p) ≡ (polynomials k).𝟘) → (pi : List ℕ) (cur next : LatticeValue) → IsOrderLattice k p cur → IsTurn k p pi cur next
       → ¬ (next ≡ cur) → measure next < measure cur
   turn_smaller positive some pi cur next order t differ =
       index_less (equation_of k p) (Contains k p cur) (Contains k p next) Int (lattice_set k p positive cur order.lattice)

@@ -19,8 +19,8 @@ use Rattle.linear_theory.specs.Module.{combination}
 use Rattle.ff_linalg.specs.Matrix.{MatrixValue}
 use Rattle.ff_linalg.specs.Space.{row_ops}
 use Rattle.ff_linalg.proofs.Bridge.{own_row_codes}
-use Rattle.ff_falg.specs.Algebras.{IsVector, IsNilpotent, power}
-use Rattle.ff_falg.specs.Spaces.{IsEchelonBasis}
+use Rattle.ff_falg.specs.Algebras.{IsVector, IsNilpotentVector, power}
+use Rattle.ff_falg.specs.Spaces.{IsEchelonBasisMatrix}
 use Rattle.function_field.specs.Functions.{of_poly, over, IsPolynomial}
 use Rattle.function_field.specs.Values.{ElemValue, IsElem, Functions, functions, function_of, equation_of}
 use Rattle.function_field.proofs.ScalarRings.{polynomials_subring}
@@ -72,7 +72,7 @@ module _ (k : CodeField) (q : QuotientValue) (h : IsQuotient k q) where
       classes.of_product z (pow F.ops z e) a (power k.ops (quotient_ops q) a e) z_in (order_power z z_in e) a_of (power_class z a z_in a_of e)
 
   -- what nilpotent codes are lifted to has a power in the ideal
-  lift_nilpotent : (a : List ℕ) → V a → IsNilpotent k.ops (quotient_ops q) a → IsNilpotentModulo k q.p q.order q.ideal (lift a)
+  lift_nilpotent : (a : List ℕ) → V a → IsNilpotentVector k.ops (quotient_ops q) a → IsNilpotentModulo k q.p q.order q.ideal (lift a)
   lift_nilpotent a a_in n = record {
     within = a_member;
     nilpotent = record {
@@ -114,7 +114,7 @@ module _ (k : CodeField) (q : QuotientValue) (h : IsQuotient k q) where
       )
 
   -- codes of a member with a power in the ideal are nilpotent
-  codes_nilpotent : (z : Functions k q.p) (a : List ℕ) → IsNilpotentModulo k q.p q.order q.ideal z → IsClassOf k q z a → IsNilpotent k.ops (quotient_ops q) a
+  codes_nilpotent : (z : Functions k q.p) (a : List ℕ) → IsNilpotentModulo k q.p q.order q.ideal z → IsClassOf k q z a → IsNilpotentVector k.ops (quotient_ops q) a
   codes_nilpotent z a n a_of = record {
     exponent = suc n.nilpotent.exponent;
     is =
@@ -179,7 +179,7 @@ module _ (k : CodeField) (q : QuotientValue) (h : IsQuotient k q) where
 
   -- ---- a basis of the nilpotent classes
 
-  module _ (m : MatrixValue) (basis : IsEchelonBasis k.ops (dimension q) (IsNilpotent k.ops (quotient_ops q)) m) where
+  module _ (m : MatrixValue) (basis : IsEchelonBasisMatrix k.ops (dimension q) (IsNilpotentVector k.ops (quotient_ops q)) m) where
     abbrev Modulo : Functions k q.p → Type 0
     Modulo = IsNilpotentModulo k q.p q.order q.ideal
 
@@ -189,7 +189,7 @@ module _ (k : CodeField) (q : QuotientValue) (h : IsQuotient k q) where
     row_vector : (r : ℕ) → r < length m.rows → V (get_or m.rows r [])
     row_vector r less = rows_in r [] less
 
-    rows_nilpotent : (r : ℕ) → r < length m.rows → IsNilpotent k.ops (quotient_ops q) (get_or m.rows r [])
+    rows_nilpotent : (r : ℕ) → r < length m.rows → IsNilpotentVector k.ops (quotient_ops q) (get_or m.rows r [])
     rows_nilpotent r less =
         ((basis.row_space (get_or m.rows r [])).0
         (own_row_codes k m basis.over.each (λ j d l. basis.shape.each j d l ∙ sym basis.shape.col_count) r less)).1

@@ -26,7 +26,7 @@ use Rattle.function_field.specs.Values.{ElemValue, PresValue, IsElem, Functions,
 use Rattle.function_field.proofs.ScalarRings.{of_poly_one}
 use Rattle.trace_theory.specs.Traces.{HasPolynomialCoordinates}
 use Rattle.ff_lattice.specs.Lattices.{LatticeValue, IsLattice, Contains, InSpanOf, IsFull, elems_over}
-use Rattle.ff_lattice.specs.Orders.{IsOrder}
+use Rattle.ff_lattice.specs.Orders.{IsOrderLattice}
 use Rattle.ff_lattice.specs.Steps.{unit_row}
 use Rattle.ff_lattice.proofs.Elements.{in_span_of}
 use Rattle.ff_lattice.proofs.Fracs.{over_eq, over_mul}
@@ -189,7 +189,7 @@ module _ (k : CodeField) (p : PresValue) where
         )
 
     -- a lattice with these members is an order
-    pub powers_order : (l : LatticeValue) → IsLattice k.ops p.n l → ((z : Functions k p) → Contains k p l z ↔ HasPolynomialCoordinates (equation_of k p) z) → IsOrder k p l
+    pub powers_order : (l : LatticeValue) → IsLattice k.ops p.n l → ((z : Functions k p) → Contains k p l z ↔ HasPolynomialCoordinates (equation_of k p) z) → IsOrderLattice k p l
     powers_order l form members = record {
       lattice = form;
       one_in = (members (functions k p).𝟙).1 (record { coordinates = row_of c (polynomials k).𝟙; value = of_poly_one c });

@@ -15,7 +15,7 @@ use Rattle.order_theory.specs.Orders.{TakenByPowers}
 use Rattle.order_theory.proofs.LocalOrders.{order_integral}
 use Rattle.order_theory.proofs.Enlargements.{enlarged_same, enlarged_more, products_iff}
 use Rattle.ff_lattice.specs.Lattices.{LatticeValue, Contains}
-use Rattle.ff_lattice.specs.Orders.{IsOrder}
+use Rattle.ff_lattice.specs.Orders.{IsOrderLattice}
 use Rattle.ff_lattice.proofs.SumsAndProducts.{map_join}
 use Rattle.ff_order.specs.Enlargements.{TakenByProducts}
 use Rattle.ff_order.specs.Steps.{IsEnlarged}
@@ -54,12 +54,12 @@ module _ {k : CodeField} (c : Equation k) (O : FunctionOf c → Type 0) (𝓞 : 
         λ t. same.1 (more.1 (subst (λ es. EnlargedAt (ring_of c) Int es O z) list (words.1 t))),
       )
 
-module _ (k : CodeField) (p : PresValue) (positive : 0 < p.n) (o : LatticeValue) (order : IsOrder k p o) where
+module _ (k : CodeField) (p : PresValue) (positive : 0 < p.n) (o : LatticeValue) (order : IsOrderLattice k p o) where
   pub enlarged_none : IsEnlarged k p [] o o
   enlarged_none = record { order = order; members = products_none (equation_of k p) (Contains k p o) (order_set k p positive o order) }
 
   pub enlarged_next : (primes : List (List ℕ)) (i : ℕ) (pi : List ℕ) (cur next : LatticeValue) → i < length primes → pi ≡ get_or primes i pi
-      → IsEnlarged k p (take i primes) o cur → IsOrder k p next
+      → IsEnlarged k p (take i primes) o cur → IsOrderLattice k p next
       → ((z : Functions k p) → Contains k p next z ↔ TakenByPowers (equation_of k p) (value k pi) (Contains k p cur) z) → IsEnlarged k p (take (i + 1) primes) o next
   enlarged_next primes i pi cur next less pi_is so_far next_order next_members = record {
     order = next_order;

@@ -19,8 +19,8 @@ use Rattle.prime_theory.proofs.Radicals.{p_in_radical}
 use Rattle.order_theory.specs.Orders as theory
 use Rattle.order_theory.proofs.Enlargements.{order_has, radical_of_order, ideal_module}
 use Rattle.ff_lattice.specs.Lattices.{LatticeValue, IsLattice, Contains, InSpanOf, IsFull, IsScaled, IsSumOf, row_elems}
-use Rattle.ff_lattice.specs.Orders.{IsOrder}
-use Rattle.ff_lattice.specs.Quotients.{IsIdeal}
+use Rattle.ff_lattice.specs.Orders.{IsOrderLattice}
+use Rattle.ff_lattice.specs.Quotients.{IsIdealLattice}
 use Rattle.ff_lattice.proofs.SpannedSets.{lattice_full}
 use Rattle.ff_lattice.proofs.SumsAndProducts.{map_join, sum_iff, full_within}
 use Rattle.ff_order.specs.Steps.{IsNilpotentModulo, IsNilpotentBasis}
@@ -61,7 +61,7 @@ module _ (k : CodeField) (p : PresValue) where
         λ h. m.1 (s.1 h),
       )
 
-  module _ (positive : 0 < p.n) (o : LatticeValue) (order : IsOrder k p o) where
+  module _ (positive : 0 < p.n) (o : LatticeValue) (order : IsOrderLattice k p o) where
     abbrev O : Functions k p → Type 0
     O = Contains k p o
 
@@ -70,7 +70,7 @@ module _ (k : CodeField) (p : PresValue) where
 
     -- the multiples of an order by a polynomial are an ideal
     pub multiples_are_ideal : (a : List ℕ) (l : LatticeValue) → IsLattice k.ops p.n l
-        → ((z : Functions k p) → Contains k p l z ↔ Multiple (functions k p).ops (of_poly (equation_of k p) (value k a)) (Contains k p o) z) → IsIdeal k p o l
+        → ((z : Functions k p) → Contains k p l z ↔ Multiple (functions k p).ops (of_poly (equation_of k p) (value k a)) (Contains k p o) z) → IsIdealLattice k p o l
     multiples_are_ideal a l form members =
         let 𝓘 = multiples_ideal F O 𝓞.ring (poly a) (order_has (equation_of k p) O 𝓞 (value k a)) (poly a) (order_has (equation_of k p) O 𝓞 (value k a)) in
         record {

@@ -9,7 +9,7 @@ use Rattle.linear_theory.specs.Euclidean.{IsDivisorIn}
 use Rattle.linear_theory.proofs.Euclid.{OrderAt, order_at, order_unique, euclid}
 use Rattle.ff_fields.specs.Field.{CodeField}
 use Rattle.ff_fields.specs.Over.{IsOver}
-use Rattle.ff_poly.specs.Words.{IsPoly, IsMonic, IsIrreducible, Divides, product_of}
+use Rattle.ff_poly.specs.Words.{IsPoly, IsMonic, IsIrreducibleList, DividesList, product_of}
 use Rattle.ff_poly.specs.Value.{value, value_product, same_from_value}
 use Rattle.ff_poly.specs.Polynomials.{Polynomial, polynomials, codes_of, numbers_discrete, value_one}
 use Rattle.polynomial_theory.proofs.Division.{euclidean}
@@ -26,7 +26,7 @@ module _ (k : CodeField) where
   -- an irreducible polynomial over the field, as a list of codes
   pub record IsPrime (q : List ℕ) : Type 0 where
     pub over : IsOver k.ops q
-    pub irreducible : IsIrreducible k.ops q
+    pub irreducible : IsIrreducibleList k.ops q
 
   -- two of which one divides the other are the same
   divides_same : (p q : List ℕ) → IsPrime p → IsPrime q → IsDivisorIn (polynomials k).ops (value k p) (value k q) → p ≡ q
@@ -38,7 +38,7 @@ module _ (k : CodeField) where
       q_poly : IsPoly q
       q_poly = monic_poly q q_prime.irreducible.monic
 
-      m : Divides k.ops p q
+      m : DividesList k.ops p q
       m = divides_codes k p q p_prime.over q_prime.over q_poly (record { quotient = d.0; is = d.1 })
 
       not_shorter : ¬ (length p < length q)
@@ -93,7 +93,7 @@ module _ (k : CodeField) where
     abbrev Q : Polynomial k
     Q = value k q
 
-    Q_irreducible : IsIrreducible k.ops (codes_of k (value k q))
+    Q_irreducible : IsIrreducibleList k.ops (codes_of k (value k q))
     Q_irreducible = irreducible_value k q q_prime.over q_prime.irreducible
 
     abbrev Divisor : Polynomial k → Type 0

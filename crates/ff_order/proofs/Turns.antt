@@ -2,7 +2,7 @@
 use Rattle.std.proofs.Common.{◌≡◌, ℕ, ◌<◌, ◌↔◌, List, subst}
 use Rattle.ff_fields.specs.Field.{CodeField}
 use Rattle.ff_fields.specs.Over.{IsOver}
-use Rattle.ff_poly.specs.Words.{IsIrreducible}
+use Rattle.ff_poly.specs.Words.{IsIrreducibleList}
 use Rattle.ff_poly.specs.Value.{value}
 use Rattle.function_field.specs.Functions.{of_poly}
 use Rattle.function_field.specs.Values.{PresValue, Functions, functions, equation_of}
@@ -12,15 +12,15 @@ use Rattle.order_theory.specs.Orders as theory
 use Rattle.order_theory.specs.Orders.{TakenByPowers}
 use Rattle.order_theory.proofs.Enlargements.{radical_of_order, radical_has, multipliers_have, multipliers_taken, maximal_of_multipliers, taken_has, taken_again, taken_is}
 use Rattle.ff_lattice.specs.Lattices.{LatticeValue, IsLattice, Contains}
-use Rattle.ff_lattice.specs.Orders.{IsOrder}
-use Rattle.ff_lattice.specs.Quotients.{IsIdeal}
+use Rattle.ff_lattice.specs.Orders.{IsOrderLattice}
+use Rattle.ff_lattice.specs.Quotients.{IsIdealLattice}
 use Rattle.ff_lattice.specs.Colons.{IsColon}
 use Rattle.ff_order.specs.Steps.{IsTurn, IsBetween}
 use Rattle.value_theory.specs.Laws.{row_functions}
 use Rattle.value_theory.proofs.Bridge.{lattice_set, order_set, irreducible_value}
 
 module _ (k : CodeField) (p : PresValue) (positive : 0 < p.n) where
-  module _ (o : LatticeValue) (order : IsOrder k p o) (pi : List ℕ) where
+  module _ (o : LatticeValue) (order : IsOrderLattice k p o) (pi : List ℕ) where
     abbrev O : Functions k p → Type 0
     O = Contains k p o
 
@@ -36,7 +36,7 @@ module _ (k : CodeField) (p : PresValue) (positive : 0 < p.n) where
     module _ (i : LatticeValue) (form : IsLattice k.ops p.n i)
         (members : (z : Functions k p) → Contains k p i z ↔ Radical (functions k p).ops (Contains k p o) (of_poly (equation_of k p) (value k pi)) z) where
       -- the radical is an ideal
-      pub radical_is_ideal : IsIdeal k p o i
+      pub radical_is_ideal : IsIdealLattice k p o i
       radical_is_ideal = record {
         lattice = form;
         within = λ z h. ((members z).0 h).within;
@@ -44,7 +44,7 @@ module _ (k : CodeField) (p : PresValue) (positive : 0 < p.n) where
       }
 
       -- its multipliers are a turn
-      pub turn : IsOver k.ops pi → IsIrreducible k.ops pi → (next : LatticeValue) → IsOrder k p next
+      pub turn : IsOver k.ops pi → IsIrreducibleList k.ops pi → (next : LatticeValue) → IsOrderLattice k p next
           → ((z : Functions k p) → Contains k p next z ↔ IsColon k p i i z) → IsTurn k p pi o next
       turn over irreducible next next_order next_members = record {
         order = next_order;

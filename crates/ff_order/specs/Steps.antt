@@ -10,7 +10,7 @@ use Rattle.prime_theory.specs.Ideals.{PowerIn}
 use Rattle.prime_theory.specs.Orders.{MaximalAt}
 use Rattle.order_theory.specs.Orders.{TakenByPowers}
 use Rattle.ff_lattice.specs.Lattices.{LatticeValue, Contains, InSpanOf, IsSumOf}
-use Rattle.ff_lattice.specs.Orders.{IsOrder}
+use Rattle.ff_lattice.specs.Orders.{IsOrderLattice}
 use Rattle.ff_lattice.specs.Quotients.{QuotientValue, lifted}
 use Rattle.ff_order.specs.Enlargements.{TakenByProducts}
 
@@ -33,7 +33,7 @@ module _ (k : CodeField) (p : PresValue) where
 
   -- an order between o and the integral functions that powers of pi take into o; where it is o, o is maximal at pi
   pub record IsTurn (pi : List ℕ) (o next : LatticeValue) : Type 0 where
-    pub order : IsOrder k p next
+    pub order : IsOrderLattice k p next
     pub has : (z : Functions k p) → Contains k p o z → Contains k p next z
     pub taken : (z : Functions k p) → Contains k p next z → TakenByPowers (equation_of k p) (value k pi) (Contains k p o) z
     pub last : ((z : Functions k p) → Contains k p next z → Contains k p o z)
@@ -41,11 +41,11 @@ module _ (k : CodeField) (p : PresValue) where
 
   -- an order between o and the integral functions that powers of pi take into o
   pub record IsBetween (pi : List ℕ) (o cur : LatticeValue) : Type 0 where
-    pub order : IsOrder k p cur
+    pub order : IsOrderLattice k p cur
     pub has : (z : Functions k p) → Contains k p o z → Contains k p cur z
     pub taken : (z : Functions k p) → Contains k p cur z → TakenByPowers (equation_of k p) (value k pi) (Contains k p o) z
 
   -- an order of the integral functions that products of powers of the polynomials take into o
   pub record IsEnlarged (primes : List (List ℕ)) (o cur : LatticeValue) : Type 0 where
-    pub order : IsOrder k p cur
+    pub order : IsOrderLattice k p cur
     pub members : (z : Functions k p) → Contains k p cur z ↔ TakenByProducts (equation_of k p) (map (value k) primes) (Contains k p o) z

@@ -2,14 +2,14 @@
 
 ghost use Rattle.std.specs.Prelude.{◌≡◌, ◌↔◌, map, All, IfOk};
 ghost use Rattle.ff_fields.specs.Over.{IsOver};
-ghost use Rattle.ff_poly.specs.Words.{IsIrreducible};
+ghost use Rattle.ff_poly.specs.Words.{IsIrreducibleList};
 ghost use Rattle.ff_poly.specs.Value.{value};
 ghost use Rattle.ff_poly.specs.Polynomials.{polynomials};
 ghost use Rattle.function_field.specs.Discriminant.{discriminant};
 ghost use Rattle.function_field.specs.Values.{PresValue, IsPresOver, Functions, functions, equation_of};
 ghost use Rattle.ff_lattice.specs.Lattices.{LatticeValue, IsLattice, Contains};
-ghost use Rattle.ff_lattice.specs.Orders.{IsOrder};
-ghost use Rattle.ff_lattice.specs.Quotients.{IsIdeal};
+ghost use Rattle.ff_lattice.specs.Orders.{IsOrderLattice};
+ghost use Rattle.ff_lattice.specs.Quotients.{IsIdealLattice};
 ghost use Rattle.ff_lattice.specs.Colons.{IsColon};
 ghost use Rattle.order_theory.specs.Orders.{TakenByPowers};
 ghost use Rattle.ff_order.specs.Steps.{IsTurn};
@@ -33,8 +33,8 @@ pub fn multiplier<K: SmallField>(
     i: &Lattice,
 ) -> Result<Order, AllocError>
     requires p_in { IsPresOver (K.field k.now).ops p.now }
-    requires ideal { IsIdeal (K.field k.now) p.now o.now i.now }
-    ensures order { IfOk result (IsOrder (K.field k.now) p.now) }
+    requires ideal { IsIdealLattice (K.field k.now) p.now o.now i.now }
+    ensures order { IfOk result (IsOrderLattice (K.field k.now) p.now) }
     ensures members { let k = K.field k.now in
         IfOk result (λ m. (z : Functions k p.now) → Contains k p.now m z ↔ IsColon k p.now i.now i.now z) }
 {
@@ -51,9 +51,9 @@ fn enlarged<K: SmallField>(
     pi: &Poly,
 ) -> Result<Order, AllocError>
     requires p_in { IsPresOver (K.field k.now).ops p.now }
-    requires order { IsOrder (K.field k.now) p.now o.now }
+    requires order { IsOrderLattice (K.field k.now) p.now o.now }
     requires pi_in { IsOver (K.field k.now).ops pi.now }
-    requires irreducible { IsIrreducible (K.field k.now).ops pi.now }
+    requires irreducible { IsIrreducibleList (K.field k.now).ops pi.now }
     ensures { IfOk result (IsTurn (K.field k.now) p.now pi.now o.now) }
 {
     let degree = p.n();
@@ -73,10 +73,10 @@ pub fn p_maximal<K: SmallField>(
 ) -> Result<Order, AllocError>
     requires p_in { IsPresOver (K.field k.now).ops p.now }
     requires some { let k = K.field k.now in ¬ (discriminant (equation_of k p.now) ≡ (polynomials k).𝟘) }
-    requires order { IsOrder (K.field k.now) p.now o.now }
+    requires order { IsOrderLattice (K.field k.now) p.now o.now }
     requires pi_in { IsOver (K.field k.now).ops pi.now }
-    requires irreducible { IsIrreducible (K.field k.now).ops pi.now }
-    ensures order { IfOk result (IsOrder (K.field k.now) p.now) }
+    requires irreducible { IsIrreducibleList (K.field k.now).ops pi.now }
+    ensures order { IfOk result (IsOrderLattice (K.field k.now) p.now) }
     ensures members { let k = K.field k.now in
         IfOk result (λ m. (z : Functions k p.now) →
         Contains k p.now m z ↔ TakenByPowers (equation_of k p.now) (value k pi.now) (Contains k p.now o.now) z) }
@@ -104,10 +104,10 @@ pub fn maximal<K: SmallField>(
 ) -> Result<Order, AllocError>
     requires p_in { IsPresOver (K.field k.now).ops p.now }
     requires some { let k = K.field k.now in ¬ (discriminant (equation_of k p.now) ≡ (polynomials k).𝟘) }
-    requires order { IsOrder (K.field k.now) p.now o.now }
+    requires order { IsOrderLattice (K.field k.now) p.now o.now }
     requires primes_in { All (IsOver (K.field k.now).ops) primes.now }
-    requires irreducible { All (IsIrreducible (K.field k.now).ops) primes.now }
-    ensures order { IfOk result (IsOrder (K.field k.now) p.now) }
+    requires irreducible { All (IsIrreducibleList (K.field k.now).ops) primes.now }
+    ensures order { IfOk result (IsOrderLattice (K.field k.now) p.now) }
     ensures members { let k = K.field k.now in
         IfOk result (λ m. (z : Functions k p.now) →
         Contains k p.now m z ↔ TakenByProducts (equation_of k p.now) (map (value k) primes.now) (Contains k p.now o.now) z) }

@@ -4,7 +4,7 @@ ghost use Rattle.std.specs.Prelude.{◌≡◌, ◌↔◌, ◌≤◌, map, All};
 ghost use Rattle.std.specs.List.{Any};
 ghost use Rattle.linear_theory.specs.Euclidean.{IsDivisorIn};
 ghost use Rattle.ff_fields.specs.Over.{IsOver};
-ghost use Rattle.ff_poly.specs.Words.{IsIrreducible};
+ghost use Rattle.ff_poly.specs.Words.{IsIrreducibleList};
 ghost use Rattle.ff_poly.specs.Value.{value};
 ghost use Rattle.ff_poly.specs.Polynomials.{polynomials};
 ghost use Rattle.function_field.specs.declared.side.Side.TheVariants.{Finite};
@@ -13,7 +13,7 @@ ghost use Rattle.function_field.specs.Places.{IsIntegralAt};
 ghost use Rattle.function_field.specs.Values.{PresValue, Functions, equation_of, setting};
 ghost use Rattle.trace_theory.specs.Traces.{HasPolynomialCoordinates, polynomial_product};
 ghost use Rattle.ff_lattice.specs.Lattices.{LatticeValue, Contains};
-ghost use Rattle.ff_lattice.specs.Orders.{IsOrder};
+ghost use Rattle.ff_lattice.specs.Orders.{IsOrderLattice};
 ghost use Rattle.ff_order.specs.Enlargements.{TakenByProducts};
 
 use ff_algebra::Pres;
@@ -33,14 +33,14 @@ pub fn integral_law<K: SmallField>(
     factors: &[Poly],
 )
     requires positive { 1 ≤ p.now.n }
-    requires o_order { IsOrder (K.field k.now) p.now o.now }
+    requires o_order { IsOrderLattice (K.field k.now) p.now o.now }
     requires start { let k = K.field k.now in
         (z : Functions k p.now) → HasPolynomialCoordinates (equation_of k p.now) z → Contains k p.now o.now z }
-    requires m_order { IsOrder (K.field k.now) p.now m.now }
+    requires m_order { IsOrderLattice (K.field k.now) p.now m.now }
     requires enlarged { let k = K.field k.now in
         (z : Functions k p.now) → Contains k p.now m.now z ↔ TakenByProducts (equation_of k p.now) (map (value k) primes.now) (Contains k p.now o.now) z }
     requires factors_in { All (IsOver (K.field k.now).ops) factors.now }
-    requires irreducible { All (IsIrreducible (K.field k.now).ops) factors.now }
+    requires irreducible { All (IsIrreducibleList (K.field k.now).ops) factors.now }
     requires product { let k = K.field k.now in
         IsDivisorIn (polynomials k).ops (discriminant (equation_of k p.now)) (polynomial_product k (map (value k) factors.now)) }
     requires listed { let k = K.field k.now in

@@ -2,14 +2,14 @@
 
 ghost use Rattle.std.specs.Prelude.{◌≡◌, ◌≢◌, ◌↔◌, [], All, IfOk};
 ghost use Rattle.ff_fields.specs.Over.{IsOver};
-ghost use Rattle.ff_poly.specs.Words.{IsIrreducible};
+ghost use Rattle.ff_poly.specs.Words.{IsIrreducibleList};
 ghost use Rattle.ff_poly.specs.Value.{value};
 ghost use Rattle.function_field.specs.Functions.{of_poly};
 ghost use Rattle.function_field.specs.Values.{PresValue, IsPresOver, Functions, functions, equation_of};
 ghost use Rattle.ff_falg.specs.Algebras.{IsVector};
 ghost use Rattle.ff_lattice.specs.Lattices.{LatticeValue, IsLattice, Contains};
-ghost use Rattle.ff_lattice.specs.Orders.{IsOrder};
-ghost use Rattle.ff_lattice.specs.Quotients.{QuotientValue, IsQuotient, IsQuotientOver, IsIdeal, dimension};
+ghost use Rattle.ff_lattice.specs.Orders.{IsOrderLattice};
+ghost use Rattle.ff_lattice.specs.Quotients.{QuotientValue, IsQuotient, IsQuotientOver, IsIdealLattice, dimension};
 ghost use Rattle.prime_theory.specs.Ideals.{Multiple};
 ghost use Rattle.prime_theory.specs.Orders.{Radical};
 ghost use Rattle.ff_order.specs.Steps.{AreLifts, IsNilpotentBasis};
@@ -32,10 +32,10 @@ fn multiples<K: SmallField>(
     o: &Order,
     a: &Poly,
 ) -> Result<Lattice, AllocError>
-    requires order { IsOrder (K.field k.now) p.now o.now }
+    requires order { IsOrderLattice (K.field k.now) p.now o.now }
     requires a_in { IsOver (K.field k.now).ops a.now }
     requires some { a.now ≢ [] }
-    ensures ideal { IfOk result (IsIdeal (K.field k.now) p.now o.now) }
+    ensures ideal { IfOk result (IsIdealLattice (K.field k.now) p.now o.now) }
     ensures members { let k = K.field k.now in
         IfOk result (λ l. (z : Functions k p.now) →
         Contains k p.now l z ↔ Multiple (functions k p.now).ops (of_poly (equation_of k p.now) (value k a.now)) (Contains k p.now o.now) z) }
@@ -88,11 +88,11 @@ pub fn radical<K: SmallField>(
     pi: &Poly,
 ) -> Result<Lattice, AllocError>
     requires p_in { IsPresOver (K.field k.now).ops p.now }
-    requires order { IsOrder (K.field k.now) p.now o.now }
+    requires order { IsOrderLattice (K.field k.now) p.now o.now }
     requires pi_in { IsOver (K.field k.now).ops pi.now }
-    requires irreducible { IsIrreducible (K.field k.now).ops pi.now }
+    requires irreducible { IsIrreducibleList (K.field k.now).ops pi.now }
     ensures form { IfOk result (IsLattice (K.field k.now).ops p.now.n) }
-    ensures ideal { IfOk result (IsIdeal (K.field k.now) p.now o.now) }
+    ensures ideal { IfOk result (IsIdealLattice (K.field k.now) p.now o.now) }
     ensures members { let k = K.field k.now in
         IfOk result (λ l. (z : Functions k p.now) →
         Contains k p.now l z ↔ Radical (functions k p.now).ops (Contains k p.now o.now) (of_poly (equation_of k p.now) (value k pi.now)) z) }

@@ -14,7 +14,7 @@ use Rattle.ring_theory.specs.Polynomials.{Pol}
 use Rattle.ring_theory.proofs.Polynomials.{pol_ring, same_pol, series_add, series_mul}
 use Rattle.ring_theory.proofs.Division.{divided, rest_ends, length_bound}
 use Rattle.ff_fields.specs.Over.{IsOver, IsOver_trim, IsOver_quotient_from, IsOver_rest_from, get_or_below}
-use Rattle.ff_poly.specs.Words.{IsPoly, IsQuotient, poly_of, sum_of, product_of}
+use Rattle.ff_poly.specs.Words.{IsPoly, IsQuotientWithRest, poly_of, sum_of, product_of}
 use Rattle.ff_poly.specs.PolyOver.{IsOver_sum_of, IsOver_product_of, IsPoly_poly_of}
 use Rattle.ff_fields.specs.Numbers.{numbers, read, numbers_read, numbers_trim, numbers_rest_from, numbers_quotient_from, numbers_get_or}
 use Rattle.ff_poly.specs.Value.{value, series_value, same_from_value, value_sum, value_product}
@@ -113,7 +113,7 @@ module _ (k : CodeField) (a b : List ℕ) (a_in : IsOver k.ops a) (b_in : IsOver
       (numbers_get_or k bs (length bs - 1) ∙ ap₂ (λ ns n. get_or ns (n - 1) 0) (numbers_read k b b_in) length_bs)
       ∙ k.laws.inv_mul top (get_or_below k b (length b - 1) b_in) top_some)
 
-  pub is_quotient : IsQuotient k.ops a b (poly_of raw_quotient) (poly_of raw_rest)
+  pub is_quotient : IsQuotientWithRest k.ops a b (poly_of raw_quotient) (poly_of raw_rest)
   is_quotient = record {
     whole = same_from_value k a (sum_of k.ops (product_of k.ops b q) rest) a_in (IsOver_sum_of k bq_in rest_in) a_poly (IsPoly_poly_of (add_lists (raw_ring k.ops) (product_of k.ops b q) rest))
         (same_pol K (value k a) (s.◌⊕◌ (s.◌⊗◌ (value k b) (value k q)) (value k rest)) (λ n.
@@ -168,7 +168,7 @@ module _ (k : CodeField) (a b : List ℕ) (a_in : IsOver k.ops a) (b_in : IsOver
       short = omega (arith, bound, rest_length, length_bs)
 
 -- the same, of what the call has in hand
-pub quotient_at : (k : CodeField) (a b a' b' q rest : List ℕ) (inverse : ℕ) → IsOver k.ops a → IsOver k.ops b → IsPoly a → get_or b (length b - 1) 0 ≢ 0 → 0 < length b → a' ≡ a → b' ≡ b → inverse ≡ k.inv (get_or b (length b - 1) 0) → q ≡ poly_of (quotient_from (raw_ring k.ops) b' inverse a') → rest ≡ poly_of (rest_from (raw_ring k.ops) b' inverse a') → IsQuotient k.ops a b q rest
+pub quotient_at : (k : CodeField) (a b a' b' q rest : List ℕ) (inverse : ℕ) → IsOver k.ops a → IsOver k.ops b → IsPoly a → get_or b (length b - 1) 0 ≢ 0 → 0 < length b → a' ≡ a → b' ≡ b → inverse ≡ k.inv (get_or b (length b - 1) 0) → q ≡ poly_of (quotient_from (raw_ring k.ops) b' inverse a') → rest ≡ poly_of (rest_from (raw_ring k.ops) b' inverse a') → IsQuotientWithRest k.ops a b q rest
 quotient_at k a b a' b' q rest inverse a_in b_in a_poly top_some b_some a_is b_is inverse_is q_is rest_is =
     rw (q_is, rest_is, a_is, b_is, inverse_is) (is_quotient k a b a_in b_in a_poly top_some b_some)
 

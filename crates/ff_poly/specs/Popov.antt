@@ -84,7 +84,7 @@ combination k width (c ∷ cs) [] = replicate width []
 combination k width (c ∷ cs) (row ∷ rows) = sum_of_rows k (multiple_of_row k c row) (combination k width cs rows)
 
 -- v is the combination of the rows with these coefficients
-pub record IsCombination (k : FieldOps) (width : ℕ) (rows : List (List (List ℕ))) (v : List (List ℕ)) (coefficients : List (List ℕ)) : Type 0 where
+pub record IsCombinationList (k : FieldOps) (width : ℕ) (rows : List (List (List ℕ))) (v : List (List ℕ)) (coefficients : List (List ℕ)) : Type 0 where
   pub size : length coefficients ≡ length rows
   pub over : All (IsOver k) coefficients
   pub is : v ≡ combination k width coefficients rows
@@ -92,7 +92,7 @@ pub record IsCombination (k : FieldOps) (width : ℕ) (rows : List (List (List �
 -- the lattice of the rows: their combinations
 pub record InSpan (k : FieldOps) (width : ℕ) (rows : List (List (List ℕ))) (v : List (List ℕ)) : Type 0 where
   pub coefficients : List (List ℕ)
-  pub is : IsCombination k width rows v coefficients
+  pub is : IsCombinationList k width rows v coefficients
 
 pub record HaveSameSpan (k : FieldOps) (width : ℕ) (rows rows' : List (List (List ℕ))) : Type 0 where
   pub left : (v : List (List ℕ)) → InSpan k width rows v → InSpan k width rows' v

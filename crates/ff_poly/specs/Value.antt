@@ -15,7 +15,7 @@ use Rattle.ring_theory.proofs.Division.{one_way}
 use Rattle.ff_fields.specs.Over.{IsOver}
 use Rattle.ff_fields.specs.Numbers.{numbers, read, numbers_read, read_numbers, numbers_add, numbers_mul, numbers_trim}
 use Rattle.ff_poly.specs.PolyOver.{IsOver_sum_of, IsOver_product_of, IsPoly_poly_of}
-use Rattle.ff_poly.specs.Words.{IsPoly, IsQuotient, poly_of, sum_of, product_of}
+use Rattle.ff_poly.specs.Words.{IsPoly, IsQuotientWithRest, poly_of, sum_of, product_of}
 
 module _ (k : CodeField) where
   abbrev K : TestedRing (Code k)
@@ -96,14 +96,14 @@ module _ (k : CodeField) where
   length_value a a_in a_poly = sym (length-map (value a).0 (λ x. x.0)) ∙ ap length (numbers_value a a_in a_poly)
 
   -- there is one quotient and one rest
-  pub one_quotient : (a b q q' rest rest' : List ℕ) → IsOver k.ops b → IsPoly b → IsQuotient k.ops a b q rest → IsQuotient k.ops a b q' rest' → (q ≡ q') × (rest ≡ rest')
+  pub one_quotient : (a b q q' rest rest' : List ℕ) → IsOver k.ops b → IsPoly b → IsQuotientWithRest k.ops a b q rest → IsQuotientWithRest k.ops a b q' rest' → (q ≡ q') × (rest ≡ rest')
   one_quotient a b q q' rest rest' b_in b_poly d d' =
       let both = one_way K (code_domain k) (value a) (value b) (value q) (value q') (value rest) (value rest') (divides a b q rest b_in b_poly d) (divides a b q' rest' b_in b_poly d') in (
         same_from_value q q' d.quotient_in d'.quotient_in d.quotient_poly d'.quotient_poly both.0,
         same_from_value rest rest' d.rest_in d'.rest_in d.rest_poly d'.rest_poly both.1,
       )
     where
-      divides : (a b q rest : List ℕ) → IsOver k.ops b → IsPoly b → IsQuotient k.ops a b q rest → IsDivision K (value a) (value b) (value q) (value rest)
+      divides : (a b q rest : List ℕ) → IsOver k.ops b → IsPoly b → IsQuotientWithRest k.ops a b q rest → IsDivision K (value a) (value b) (value q) (value rest)
       divides a b q rest b_in b_poly d = record {
         whole =
             ap value d.whole

@@ -14,7 +14,7 @@ use Rattle.popov_theory.specs.Span.{InSpan}
 use Rattle.popov_theory.proofs.Module.{v_add_neg, v_sub_add, v_neg_add, v_neg_neg, v_add_assoc}
 use Rattle.popov_theory.proofs.Span.{span_zero, span_row, span_add, span_scale}
 use Rattle.ff_popov.specs.Reading.{read_row, row_space, read_rows}
-use Rattle.ff_popov.specs.Rows.{IsRowLess, IsCongruent}
+use Rattle.ff_popov.specs.Rows.{IsRowLess, IsCongruentRow}
 use Rattle.ff_popov.proofs.Entries.{any_default}
 use Rattle.ff_popov.proofs.ReadRows.{read_row_at, space_less}
 use Rattle.ff_popov.proofs.Transformations.{less_row}
@@ -32,10 +32,10 @@ module _ (k : CodeField) (w : ℕ) (rows : List (List (List ℕ))) where
   abbrev R : List (List ℕ) → Row (Pol (code_ring k)) (suc (w - 1))
   R v = read_row k (suc (w - 1)) v
 
-  pub congruent_refl : (v : List (List ℕ)) → IsRow k.ops w v → IsCongruent k w rows v v
+  pub congruent_refl : (v : List (List ℕ)) → IsRow k.ops w v → IsCongruentRow k w rows v v
   congruent_refl v v_row = record { row = v_row; trimmed = λ h. h; difference = subst (InSpan M (read_rows k w rows)) (sym (v_add_neg M (R v))) (span_zero M (read_rows k w rows)) }
 
-  pub congruent_step : (old mid b new : List (List ℕ)) (i c s : ℕ) → IsCongruent k w rows old mid → IsRow k.ops w b → b ≡ row_at rows i → c < k.size → IsRowLess k.ops mid c s b new → IsCongruent k w rows old new
+  pub congruent_step : (old mid b new : List (List ℕ)) (i c s : ℕ) → IsCongruentRow k w rows old mid → IsRow k.ops w b → b ≡ row_at rows i → c < k.size → IsRowLess k.ops mid c s b new → IsCongruentRow k w rows old new
   congruent_step old mid b new i c s h b_row b_is c_in less = record {
     row = less_row k w mid b new c s h.row b_row c_in less;
     trimmed = λ _ j d in_new. subst IsPoly (sym (any_default new j d [] in_new ∙ less.entries j (omega (arith, in_new, less.size)))) (IsPoly_less_multiple k.ops (entry_at mid j) c s (entry_at b j));
@@ -48,7 +48,7 @@ module _ (k : CodeField) (w : ℕ) (rows : List (List (List ℕ))) where
         (subst (InSpan M (read_rows k w rows)) (read_row_at k w rows i ∙ sym (ap R b_is)) (span_row M (read_rows k w rows) i))));
   }
 
-  pub congruent_trans : (u v x : List (List ℕ)) → IsCongruent k w rows u v → IsCongruent k w rows v x → IsCongruent k w rows u x
+  pub congruent_trans : (u v x : List (List ℕ)) → IsCongruentRow k w rows u v → IsCongruentRow k w rows v x → IsCongruentRow k w rows u x
   congruent_trans u v x h h' = record {
     row = h'.row;
     trimmed = λ x_poly. h'.trimmed (h.trimmed x_poly);

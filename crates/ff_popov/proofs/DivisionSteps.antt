@@ -18,7 +18,7 @@ use Rattle.ff_poly.specs.PolyOver.{IsOver_difference_of}
 use Rattle.ff_poly.specs.Value.{value}
 use Rattle.ff_poly.specs.Polynomials.{value_nil, value_one}
 use Rattle.ff_poly.specs.Terms.{term, less_multiple, value_difference, value_less_multiple, IsOver_less_multiple}
-use Rattle.ff_poly.specs.Popov.{rows_of, entry_at, row_at, IsRow, IsPivot, IsZeroRow, IsPopov, InSpan, IsCombination}
+use Rattle.ff_poly.specs.Popov.{rows_of, entry_at, row_at, IsRow, IsPivot, IsZeroRow, IsPopov, InSpan, IsCombinationList}
 use Rattle.popov_theory.specs.Module.{PolynomialModule}
 use Rattle.popov_theory.specs.Span.{combine}
 use Rattle.popov_theory.specs.Span as theory
@@ -152,7 +152,7 @@ module _ (k : CodeField) where
         x : Row (Pol (code_ring k)) (suc (w - 1))
         x = M.◌·◌ (value k (term c s)) (get_or rs column M.𝟎)
 
-    pub rest_done : (cs rest : List (List ℕ)) → IsRest k w basis v cs rest → All IsPoly rest → IsZeroRow rest → IsCombination k.ops w basis v cs
+    pub rest_done : (cs rest : List (List ℕ)) → IsRest k w basis v cs rest → All IsPoly rest → IsZeroRow rest → IsCombinationList k.ops w basis v cs
     rest_done cs rest h rest_poly null =
         combination_from k w basis all v v_row (h.trimmed rest_poly) cs h.size h.over
         (h.whole ∙ ap (M.◌⊞◌ (C cs)) (zero_from_measure M (R rest) (zero_read k w rest null)) ∙ v_add_zero M (C cs))

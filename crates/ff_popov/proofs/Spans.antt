@@ -13,7 +13,7 @@ use Rattle.ff_poly.specs.Words.{IsPoly, sum_of, product_of}
 use Rattle.ff_poly.specs.PolyOver.{IsOver_sum_of, IsOver_product_of, IsPoly_poly_of}
 use Rattle.ff_poly.specs.Value.{value}
 use Rattle.ff_poly.specs.Polynomials.{codes_of, IsOver_codes_of, value_codes_of}
-use Rattle.ff_poly.specs.Popov.{IsRow, sum_of_rows, multiple_of_row, combination, IsCombination, InSpan, HaveSameSpan}
+use Rattle.ff_poly.specs.Popov.{IsRow, sum_of_rows, multiple_of_row, combination, IsCombinationList, InSpan, HaveSameSpan}
 use Rattle.popov_theory.specs.Module.{PolynomialModule}
 use Rattle.popov_theory.specs.Span.{combine}
 use Rattle.popov_theory.specs.Span as theory
@@ -129,7 +129,7 @@ module _ (k : CodeField) where
 
     -- a row with these coefficients
     pub combination_from : (rows : List (List (List ℕ))) → All (IsRow k.ops w) rows → (v : List (List ℕ)) → IsRow k.ops w v → All IsPoly v → (cs : List (List ℕ)) → length cs ≡ length rows → All (IsOver k.ops) cs
-        → R v ≡ combine M (λ i. value k (get_or cs i [])) (read_rows k w rows) → IsCombination k.ops w rows v cs
+        → R v ≡ combine M (λ i. value k (get_or cs i [])) (read_rows k w rows) → IsCombinationList k.ops w rows v cs
     combination_from rows all v v_row v_poly cs size cs_in is = record {
       size = size;
       over = cs_in;

@@ -26,7 +26,7 @@ use Rattle.popov_theory.proofs.Module.{v_neg_add, v_neg_neg, v_add_comm}
 use Rattle.popov_theory.proofs.Span.{span_submodule, neg_in}
 use Rattle.popov_theory.proofs.PolynomialRows.{same_entries, entry_add, entry_neg, row_module_add, row_module_neg}
 use Rattle.ff_popov.specs.Reading.{read_row, row_space, read_rows}
-use Rattle.ff_popov.specs.Rows.{IsOwners, IsCongruent, IsPopovRow, IsPopovRows, owner_length}
+use Rattle.ff_popov.specs.Rows.{IsOwners, IsCongruentRow, IsPopovRow, IsPopovRows, owner_length}
 use Rattle.ff_popov.proofs.Entries.{any_default}
 use Rattle.ff_popov.proofs.ReadRows.{entry_read, over_at}
 use Rattle.ff_popov.proofs.Lengths.{less_multiple_length, trim_length}
@@ -92,7 +92,7 @@ module _ (k : CodeField) where
       go (no off) = omega (arith, ap length (get_or-set_other (replicate w []) i j (less_multiple k.ops [] 1 d one) [] off ∙ zeros_at w j))
 
   module _ (w : ℕ) (rows : List (List (List ℕ))) (os : List ℕ) (i d : ℕ) (r : List (List ℕ)) (less : i < w) (owners : IsOwners w rows os) (d_is : suc d ≡ owner_length rows os i)
-      (h : IsCongruent k w rows (set (replicate w []) i (less_multiple k.ops [] 1 d (1 ∷ []))) r) (shorter : (j : ℕ) → j < w → length (entry_at r j) < owner_length rows os j) where
+      (h : IsCongruentRow k w rows (set (replicate w []) i (less_multiple k.ops [] 1 d (1 ∷ []))) r) (shorter : (j : ℕ) → j < w → length (entry_at r j) < owner_length rows os j) where
     abbrev M : PolynomialModule (code_ring k) (Row (Pol (code_ring k)) (suc (w - 1)))
     M = row_space k w
 

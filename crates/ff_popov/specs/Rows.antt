@@ -98,7 +98,7 @@ pub record IsLow (rows : List (List (List ℕ))) (owners : List ℕ) (len column
   pub right : (j : ℕ) → column ≤ j → j < length row → (length (entry_at row j) < len) ⊎ (length (entry_at row j) < owner_length rows owners j)
 
 -- a row that differs from another by a member of the lattice
-pub record IsCongruent (k : CodeField) (width : ℕ) (rows : List (List (List ℕ))) (old new : List (List ℕ)) : Type 0 where
+pub record IsCongruentRow (k : CodeField) (width : ℕ) (rows : List (List (List ℕ))) (old new : List (List ℕ)) : Type 0 where
   pub row : IsRow k.ops width new
   pub trimmed : All IsPoly old → All IsPoly new
   pub difference : InSpan (row_space k width) (read_rows k width rows) ((row_space k width).◌⊞◌ (read_row k (suc (width - 1)) old) ((row_space k width).⊟◌ (read_row k (suc (width - 1)) new)))

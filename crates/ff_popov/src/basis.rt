@@ -3,7 +3,7 @@
 ghost use Rattle.std.specs.Prelude.{◌≡◌, ◌∷◌, [], ◌+◌, ◌<◌, ◌≤◌, ℕ, length, All, IfOk, OnOk, MatchOption};
 ghost use Rattle.ff_poly.specs.Words.{poly_of};
 ghost use Rattle.ff_poly.specs.Popov.{rows_of, row_at, entry_at, width_of, IsRow, IsPivot, IsWeakPopov, IsPopov, HaveSameSpan, HasFullRank};
-ghost use Rattle.ff_popov.specs.Rows.{IsShortened, IsOwner, IsMissing, IsOwners, IsLow, IsCongruent, IsPopovRow, IsPopovRows, owner_length};
+ghost use Rattle.ff_popov.specs.Rows.{IsShortened, IsOwner, IsMissing, IsOwners, IsLow, IsCongruentRow, IsPopovRow, IsPopovRows, owner_length};
 
 use crate::members::{minus_one, zero_row};
 use crate::rows::{pivot, quotient_term, subtract};
@@ -78,7 +78,7 @@ fn lower_level<K: SmallField>(
     requires owners { IsOwners (length row.old) (rows_of rows.now) owners.now }
     requires low { IsLow (rows_of rows.now) owners.now len (length row.old) row.old }
     ensures low { OnOk result (IsLow (rows_of rows.now) owners.now len 0 row.new) }
-    ensures congruent { OnOk result (IsCongruent (K.field k.now) (length row.old) (rows_of rows.now) row.old row.new) }
+    ensures congruent { OnOk result (IsCongruentRow (K.field k.now) (length row.old) (rows_of rows.now) row.old row.new) }
 {
     for column in (0..row.len()).rev() {
         let other = &rows[owners[column]];
@@ -102,7 +102,7 @@ fn reduce_row<K: SmallField>(
     requires owners { IsOwners (length row.old) (rows_of rows.now) owners.now }
     requires bounded { (j : ℕ) → length (entry_at row.old j) ≤ len }
     ensures shorter { OnOk result ((j : ℕ) → j < length row.old → length (entry_at row.new j) < owner_length (rows_of rows.now) owners.now j) }
-    ensures congruent { OnOk result (IsCongruent (K.field k.now) (length row.old) (rows_of rows.now) row.old row.new) }
+    ensures congruent { OnOk result (IsCongruentRow (K.field k.now) (length row.old) (rows_of rows.now) row.old row.new) }
 {
     for level in (0..len).rev() {
         lower_level(k, row, rows, owners, level + 1)?;

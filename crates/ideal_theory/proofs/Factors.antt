@@ -10,7 +10,7 @@ use Rattle.ring_theory.proofs.Polynomials.{length_product}
 use Rattle.linear_theory.specs.Euclidean.{IsDivisorIn}
 use Rattle.ff_fields.specs.Field.{CodeField}
 use Rattle.ff_fields.specs.Code.{code_ring, code_domain}
-use Rattle.ff_poly.specs.Words.{IsIrreducible}
+use Rattle.ff_poly.specs.Words.{IsIrreducibleList}
 use Rattle.ff_poly.specs.Polynomials.{Polynomial, polynomials, codes_of}
 use Rattle.function_field.specs.Functions.{Equation}
 use Rattle.trace_theory.specs.Traces.{polynomial_product}
@@ -24,7 +24,7 @@ module _ {k : CodeField} (c : Equation k) where
   -- irreducible polynomials whose product g divides
   pub record Factors (g : Polynomial k) : Type 0 where
     pub list : List (Polynomial k)
-    pub irreducible : All (λ p. IsIrreducible k.ops (codes_of k p)) list
+    pub irreducible : All (λ p. IsIrreducibleList k.ops (codes_of k p)) list
     pub divides : IsDivisorIn (polynomials k).ops g (polynomial_product k list)
 
   factors_below : (n : ℕ) (g : Polynomial k) → ¬ (g ≡ (polynomials k).𝟘) → length g.0 < n → Factors g
@@ -48,7 +48,7 @@ module _ {k : CodeField} (c : Equation k) where
           = constant_of c m.product (omega arith) ∙ ap (constant (code_ring k)) top ∙ (constant_hom (code_ring k)).𝟙 in
           record {
             list = [];
-            irreducible = All-nil (λ p. IsIrreducible k.ops (codes_of k p));
+            irreducible = All-nil (λ p. IsIrreducibleList k.ops (codes_of k p));
             divides = (m.unit, sym one ∙ m.is ∙ (polynomials k).mul_comm m.unit g);
           }
       go (inl long) again =
@@ -63,7 +63,7 @@ module _ {k : CodeField} (c : Equation k) where
           let r = again d.0 u_some (omega (arith, e, f, p_long, l)) in
           record {
             list = p ∷ r.list;
-            irreducible = All-cons (λ p. IsIrreducible k.ops (codes_of k p)) p r.list irr r.irreducible;
+            irreducible = All-cons (λ p. IsIrreducibleList k.ops (codes_of k p)) p r.list irr r.irreducible;
             divides = (
               r.divides.0,
               ap ((polynomials k).◌⊗◌ p) r.divides.1 ∙ sym ((polynomials k).mul_assoc p d.0 r.divides.0)

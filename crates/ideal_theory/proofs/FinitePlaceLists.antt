@@ -6,7 +6,7 @@ use Rattle.std.proofs.lemmas.List.Elements.{All-head, All-tail}
 use Rattle.ring_theory.proofs.Ring.{product_not_zero}
 use Rattle.prime_theory.proofs.Lists.{any_left, any_right}
 use Rattle.ff_fields.specs.Field.{CodeField}
-use Rattle.ff_poly.specs.Words.{IsIrreducible}
+use Rattle.ff_poly.specs.Words.{IsIrreducibleList}
 use Rattle.ff_poly.specs.Polynomials.{Polynomial, polynomials, polynomials_domain, codes_of}
 use Rattle.function_field.specs.declared.side.Side.TheVariants.{Finite}
 use Rattle.function_field.specs.Places.{Place, IsPlace, IsIn, IsSamePlace, HasValuation}
@@ -37,7 +37,7 @@ module _ {k : CodeField} (c : Equation k) (some : ¬ (discriminant c ≡ (polyno
         → IsIn (setting_of c) (finite c gs) (of_poly c (polynomial_product k ps))
         → Any (λ Q. IsSamePlace (setting_of c) Q.0 (finite c gs)) list
 
-  extended : (p : Polynomial k) (ps : List (Polynomial k)) → IsIrreducible k.ops (codes_of k p) → HasAll ps
+  extended : (p : Polynomial k) (ps : List (Polynomial k)) → IsIrreducibleList k.ops (codes_of k p) → HasAll ps
       → HasAll (p ∷ ps)
   extended p ps irr rest = record {
     list = first ++ rest.list;
@@ -61,11 +61,11 @@ module _ {k : CodeField} (c : Equation k) (some : ¬ (discriminant c ≡ (polyno
           any_right (λ Q. IsSamePlace (setting_of c) Q.0 (finite c gs)) first rest.list
           (rest.all gs place (factor_in c gs place p (polynomial_product k ps) m n))
 
-  places_with : (ps : List (Polynomial k)) → All (λ p. IsIrreducible k.ops (codes_of k p)) ps → HasAll ps
+  places_with : (ps : List (Polynomial k)) → All (λ p. IsIrreducibleList k.ops (codes_of k p)) ps → HasAll ps
   places_with [] h = record { list = []; all = λ gs place m. absurd (one_out c gs place m) }
   places_with (p ∷ ps) h =
-      extended p ps (All-head (λ p. IsIrreducible k.ops (codes_of k p)) p ps h)
-      (places_with ps (All-tail (λ p. IsIrreducible k.ops (codes_of k p)) p ps h))
+      extended p ps (All-head (λ p. IsIrreducibleList k.ops (codes_of k p)) p ps h)
+      (places_with ps (All-tail (λ p. IsIrreducibleList k.ops (codes_of k p)) p ps h))
 
   -- a function with an inverse has the value 0 at all finite places but those of a list
   pub listed_places : (z y : FunctionOf c) → z ⊗ y ≡ 𝟙

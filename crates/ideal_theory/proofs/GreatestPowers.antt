@@ -12,7 +12,7 @@ use Rattle.prime_theory.proofs.Invertible.{inverse_is_module}
 use Rattle.prime_theory.proofs.Primes.{ideal_module, pair_of_invertible}
 use Rattle.prime_theory.proofs.PrimeProducts.{power_monotone, power_within, inverse_same, value_same}
 use Rattle.ff_fields.specs.Field.{CodeField}
-use Rattle.ff_poly.specs.Words.{IsIrreducible}
+use Rattle.ff_poly.specs.Words.{IsIrreducibleList}
 use Rattle.ff_poly.specs.Polynomials.{Polynomial, codes_of}
 use Rattle.function_field.specs.declared.side.Side.TheVariants.{Finite}
 use Rattle.function_field.specs.Places.{Place, IsPlace, IsIn, IsIntegralAt, LiesOver, HasValuationAtLeast}
@@ -32,7 +32,7 @@ use Rattle.ideal_theory.proofs.IdealIndices.{IsInvertibleLattice, invertible_sam
 use Rattle.ideal_theory.proofs.PowerValues.{on_side}
 use Rattle.ideal_theory.proofs.RelativeIndex.{relative_at}
 
-module _ {k : CodeField} (c : Equation k) (p : Polynomial k) (h : IsIrreducible k.ops (codes_of k p))
+module _ {k : CodeField} (c : Equation k) (p : Polynomial k) (h : IsIrreducibleList k.ops (codes_of k p))
     (O : FunctionOf c → Type 0) (𝓞 : IsOrder c O)
     (maximal : MaximalAt (ring_of c).ops (of_poly c p) (IsIntegralAt (setting_of c) Finite) O)
     (P : FunctionOf c → Type 0) (𝓟 : IsPrime (ring_of c).ops O P) (over : P (of_poly c p)) where
@@ -160,7 +160,7 @@ module _ {k : CodeField} (c : Equation k) (p : Polynomial k) (h : IsIrreducible 
             (λ more. search fuel (suc m) more (omega (arith, l)))
 
 -- the powers of the prime of a finite place over p are the values at the place
-module _ {k : CodeField} (c : Equation k) (p : Polynomial k) (h : IsIrreducible k.ops (codes_of k p))
+module _ {k : CodeField} (c : Equation k) (p : Polynomial k) (h : IsIrreducibleList k.ops (codes_of k p))
     (O : FunctionOf c → Type 0) (𝓞 : IsOrder c O)
     (maximal : MaximalAt (ring_of c).ops (of_poly c p) (IsIntegralAt (setting_of c) Finite) O) where
   open ring_of c use {ops, 𝟙, ◌⊗◌}

@@ -14,7 +14,7 @@ use Rattle.prime_theory.proofs.Compare.{prime_in_system}
 use Rattle.prime_theory.proofs.IntegralRing.{integral_ring}
 use Rattle.prime_theory.proofs.Lists.{any_weaker}
 use Rattle.ff_fields.specs.Field.{CodeField}
-use Rattle.ff_poly.specs.Words.{IsIrreducible}
+use Rattle.ff_poly.specs.Words.{IsIrreducibleList}
 use Rattle.ff_poly.specs.Polynomials.{Polynomial, polynomials, codes_of}
 use Rattle.function_field.specs.declared.side.Side.TheVariants.{Finite}
 use Rattle.function_field.specs.Discriminant.{discriminant}
@@ -57,7 +57,7 @@ module _ {k : CodeField} (c : Equation k) where
       (All-head O w ws j))
       (combination_in O 𝓞 base ds ws (All-tail (IsCode c) d ds h) (All-tail O w ws j))
 
-  module _ (some : ¬ (discriminant c ≡ (polynomials k).𝟘)) (p : Polynomial k) (h : IsIrreducible k.ops (codes_of k p))
+  module _ (some : ¬ (discriminant c ≡ (polynomials k).𝟘)) (p : Polynomial k) (h : IsIrreducibleList k.ops (codes_of k p))
       (O : FunctionOf c → Type 0) (𝓞 : IsOrder c O) (ps : List (RecordedPrime c O)) (valid : IsRecordAt c O p ps) where
     abbrev I : Type 0
     I = RecordedPrime c O

@@ -9,7 +9,7 @@ use Rattle.prime_theory.specs.Ideals.{SameSet}
 use Rattle.prime_theory.specs.Orders.{MaximalAt}
 use Rattle.linear_theory.specs.Euclidean.{IsDivisorIn}
 use Rattle.ff_fields.specs.Field.{CodeField}
-use Rattle.ff_poly.specs.Words.{IsIrreducible}
+use Rattle.ff_poly.specs.Words.{IsIrreducibleList}
 use Rattle.ff_poly.specs.Polynomials.{Polynomial, polynomials, codes_of}
 use Rattle.function_field.specs.Functions.{Equation, FunctionOf, ring_of, of_poly, y_of, degree_of_y, IsPolynomial}
 use Rattle.function_field.specs.Discriminant.{discriminant}
@@ -43,21 +43,21 @@ module _ {k : CodeField} (c : Equation k) where
       (has : (i : ℕ) → i < degree_of_y c → O (pow (ring_of c).ops (y_of c) i))
       (some : ¬ (discriminant c ≡ (polynomials k).𝟘)) where
     -- maximal at those polynomials, it is the maximal order
-    pub maximal_everywhere : ((p : Polynomial k) → IsIrreducible k.ops (codes_of k p)
+    pub maximal_everywhere : ((p : Polynomial k) → IsIrreducibleList k.ops (codes_of k p)
         → IsDivisorIn (polynomials k).ops ((polynomials k).◌⊗◌ p p) (discriminant c)
         → MaximalAt (ring_of c).ops (of_poly c p) (Int c) O) → SameSet O (Int c)
     maximal_everywhere at z = (
       order_integral c O 𝓞 z,
       let f = factors c (discriminant c) some in
           maximal_order c O 𝓞.ring (coordinates_in O (lattice_module c O 𝓞.lattice) has) f.list f.divides f.irreducible
-          (All-weaker (λ p. IsIrreducible k.ops (codes_of k p))
+          (All-weaker (λ p. IsIrreducibleList k.ops (codes_of k p))
           (λ p. IsDivisorIn (polynomials k).ops ((polynomials k).◌⊗◌ p p) (discriminant c)
           → MaximalAt (ring_of c).ops (of_poly c p) (Int c) O)
           (λ p h d. at p h d) f.list f.irreducible) z,
     )
 
     pub recorded_everywhere :
-        ((p : Polynomial k) → IsIrreducible k.ops (codes_of k p)
+        ((p : Polynomial k) → IsIrreducibleList k.ops (codes_of k p)
         → IsDivisorIn (polynomials k).ops ((polynomials k).◌⊗◌ p p) (discriminant c)
         → (ps : List (RecordedPrime c O)) × IsRecordAt c O p ps) → SameSet O (Int c)
     recorded_everywhere records =

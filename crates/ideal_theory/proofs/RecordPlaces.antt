@@ -3,7 +3,7 @@
 use Rattle.std.proofs.Common.{◌≡◌, ℕ, ◌<◌, List, length, get_or, refl, arith, All}
 use Rattle.prime_theory.proofs.Lists.{everywhere, any_weaker}
 use Rattle.ff_fields.specs.Field.{CodeField}
-use Rattle.ff_poly.specs.Words.{IsIrreducible}
+use Rattle.ff_poly.specs.Words.{IsIrreducibleList}
 use Rattle.ff_poly.specs.Polynomials.{Polynomial, polynomials, codes_of}
 use Rattle.function_field.specs.Places.{IsPlace, IsSamePlace}
 use Rattle.function_field.specs.Functions.{Equation, of_poly, setting_of}
@@ -19,7 +19,7 @@ use Rattle.ideal_theory.proofs.OrderPlaces.{order_places}
 use Rattle.ideal_theory.proofs.Records.{record_system}
 
 module _ {k : CodeField} (c : Equation k) (some : ¬ (discriminant c ≡ (polynomials k).𝟘)) (p : Polynomial k)
-    (h : IsIrreducible k.ops (codes_of k p))
+    (h : IsIrreducibleList k.ops (codes_of k p))
     (ps : List (RecordedPrime c (Int c))) (valid : IsRecordAt c (Int c) p ps) where
   abbrev 𝓞 : IsOrder c (Int c)
   𝓞 = maximal_order c some

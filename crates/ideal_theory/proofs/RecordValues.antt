@@ -9,7 +9,7 @@ use Rattle.prime_theory.proofs.Factorisation.{values_of_entries}
 use Rattle.prime_theory.proofs.IntegerFactors.{entries_integers, ramification_of}
 use Rattle.prime_theory.proofs.Valuation.{ge_bounded}
 use Rattle.ff_fields.specs.Field.{CodeField}
-use Rattle.ff_poly.specs.Words.{IsIrreducible}
+use Rattle.ff_poly.specs.Words.{IsIrreducibleList}
 use Rattle.ff_poly.specs.Polynomials.{Polynomial, codes_of}
 use Rattle.function_field.specs.Functions.{Equation, FunctionOf, ring_of, of_poly}
 use Rattle.polynomial_theory.proofs.Irreducible.{irreducible_some}
@@ -56,7 +56,7 @@ module _ {I : Type 0} (e f d : I → ℕ) (some : (i : I) → 1 ≤ d i) where
           let c = some i in
           absurd (omega (arith, a, b, c, p))
 
-module _ {k : CodeField} (c : Equation k) (p : Polynomial k) (h : IsIrreducible k.ops (codes_of k p))
+module _ {k : CodeField} (c : Equation k) (p : Polynomial k) (h : IsIrreducibleList k.ops (codes_of k p))
     (O : FunctionOf c → Type 0) (𝓞 : IsOrder c O)
     (ps : List (RecordedPrime c O)) (valid : IsRecordAt c O p ps) where
   open ring_of c use {ops, 𝟙, ◌⊗◌}

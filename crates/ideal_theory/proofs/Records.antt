@@ -15,7 +15,7 @@ use Rattle.prime_theory.proofs.Scalars.{integral_wider}
 use Rattle.prime_theory.proofs.SystemFromProduct.{positive_entries, system_of_product}
 use Rattle.prime_theory.proofs.Systems.{system_closed}
 use Rattle.ff_fields.specs.Field.{CodeField}
-use Rattle.ff_poly.specs.Words.{IsIrreducible}
+use Rattle.ff_poly.specs.Words.{IsIrreducibleList}
 use Rattle.ff_poly.specs.Polynomials.{Polynomial, codes_of}
 use Rattle.function_field.specs.declared.side.Side.TheVariants.{Finite}
 use Rattle.function_field.specs.Places.{IsIntegralAt}
@@ -40,7 +40,7 @@ module _ {k : CodeField} (c : Equation k) (O : FunctionOf c → Type 0) (𝓞 : 
       inverse_unique (ring_of c) O 𝓞.ring (RowSpan c i.rows) K i.closed ((i.product 𝟙).1 𝓞.ring.one_in)
       (λ a b m n. (i.product (a ⊗ b)).0 (product_member (ring_of c) O 𝓞.ring (RowSpan c i.rows) K a b m n))
 
-module _ {k : CodeField} (c : Equation k) (p : Polynomial k) (h : IsIrreducible k.ops (codes_of k p))
+module _ {k : CodeField} (c : Equation k) (p : Polynomial k) (h : IsIrreducibleList k.ops (codes_of k p))
     (O : FunctionOf c → Type 0) (𝓞 : IsOrder c O) where
   infixl 70 ◌⊗◌
   open ring_of c use {ops, 𝟙, ◌⊗◌}

@@ -7,7 +7,7 @@ use Rattle.prime_theory.specs.Ideals.{SameSet, Multiple, Power}
 use Rattle.prime_theory.specs.Orders.{MaximalAt}
 use Rattle.prime_theory.specs.Places.{IsMaximalIdeal}
 use Rattle.ff_fields.specs.Field.{CodeField}
-use Rattle.ff_poly.specs.Words.{IsIrreducible}
+use Rattle.ff_poly.specs.Words.{IsIrreducibleList}
 use Rattle.ff_poly.specs.Polynomials.{Polynomial, codes_of}
 use Rattle.function_field.specs.declared.side.Side.TheVariants.{Finite}
 use Rattle.function_field.specs.Places.{Place, IsPlace, IsIn, IsSamePlace, LiesOver, IsIntegralAt}
@@ -24,7 +24,7 @@ module _ {k : CodeField} (c : Equation k) (O : FunctionOf c → Type 0) where
   -- at each irreducible polynomial the order is maximal, or M is the order up to functions prime to it
   abbrev pub IsAdmitted : (FunctionOf c → Type 0) → Type 0
   IsAdmitted M =
-      (p : Polynomial k) → IsIrreducible k.ops (codes_of k p)
+      (p : Polynomial k) → IsIrreducibleList k.ops (codes_of k p)
       → MaximalAt (ring_of c).ops (of_poly c p) (IsIntegralAt (setting_of c) Finite) O ⊎ IsOrderUpTo c p O M
 
   -- the rows of an ideal modulo which the order is a field, and those of its inverse, with an exponent and the index

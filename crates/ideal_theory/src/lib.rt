@@ -6,7 +6,7 @@
 
 ghost use Rattle.std.specs.Prelude.{◌≡◌, ◌↔◌, ℕ, suc, ◌<◌, ℤ, ◌+ℤ◌, List};
 ghost use Rattle.ff_fields.specs.Field.{CodeField};
-ghost use Rattle.ff_poly.specs.Words.{IsIrreducible};
+ghost use Rattle.ff_poly.specs.Words.{IsIrreducibleList};
 ghost use Rattle.ff_poly.specs.Polynomials.{Polynomial, polynomials, codes_of};
 ghost use Rattle.function_field.specs.declared.side.Side.{Side};
 ghost use Rattle.function_field.specs.declared.side.Side.TheVariants.{Finite, Infinite};
@@ -106,7 +106,7 @@ pub fn admitted_law<S: FunctionSets>()
 /// inverse takes it into the order; for the prime of a place over p, a member of the order does where its value is at
 /// least the exponent; and of the powers that have a given lattice within the order there is a greatest exponent.
 pub fn greatest_power_law<S: FunctionSets>()
-    ensures inverse { (p : Polynomial S.field) → IsIrreducible S.field.ops (codes_of S.field p)
+    ensures inverse { (p : Polynomial S.field) → IsIrreducibleList S.field.ops (codes_of S.field p)
         → IsOrder S.equation S.first
         → MaximalAt (ring_of S.equation).ops (of_poly S.equation p) (IsIntegralAt (setting_of S.equation) Finite)
         S.first
@@ -115,7 +115,7 @@ pub fn greatest_power_law<S: FunctionSets>()
         → Power (ring_of S.equation).ops S.first S.second m z
         ↔ Colon (ring_of S.equation).ops S.first
         (Power (ring_of S.equation).ops S.first (Inverse (ring_of S.equation).ops S.first S.second) m) z }
-    ensures value { (p : Polynomial S.field) → IsIrreducible S.field.ops (codes_of S.field p)
+    ensures value { (p : Polynomial S.field) → IsIrreducibleList S.field.ops (codes_of S.field p)
         → IsOrder S.equation S.first
         → MaximalAt (ring_of S.equation).ops (of_poly S.equation p) (IsIntegralAt (setting_of S.equation) Finite)
         S.first
@@ -123,7 +123,7 @@ pub fn greatest_power_law<S: FunctionSets>()
         → LiesOver (setting_of S.equation) M (of_poly S.equation p)
         → (z : FunctionOf S.equation) → S.first z → (m : ℕ) → HasValuationAtLeast (setting_of S.equation) M z (pos m)
         ↔ Power (ring_of S.equation).ops S.first (InPrime (setting_of S.equation) M S.first) m z }
-    ensures greatest { (p : Polynomial S.field) → IsIrreducible S.field.ops (codes_of S.field p)
+    ensures greatest { (p : Polynomial S.field) → IsIrreducibleList S.field.ops (codes_of S.field p)
         → IsOrder S.equation S.first
         → MaximalAt (ring_of S.equation).ops (of_poly S.equation p) (IsIntegralAt (setting_of S.equation) Finite)
         S.first
@@ -140,19 +140,19 @@ pub fn record_law<S: FunctionSets>()
         → SameSet (RowSpan S.equation P.inverse_rows)
         (Inverse (ring_of S.equation).ops S.first (RowSpan S.equation P.rows)) }
     ensures system { (p : Polynomial S.field) (ps : List (RecordedPrime S.equation S.first))
-        → IsIrreducible S.field.ops (codes_of S.field p)
+        → IsIrreducibleList S.field.ops (codes_of S.field p)
         → IsOrder S.equation S.first → IsRecordAt S.equation S.first p ps
         → IsFamily (ring_of S.equation).ops S.first (RecordedPrime S.equation S.first) (λ P. RowSpan S.equation P.rows)
         × IsSystem (ring_of S.equation).ops S.first (of_poly S.equation p) (RecordedPrime S.equation S.first)
         (λ P. RowSpan S.equation P.rows) ps
         × AreDistinctPrimes (λ P. RowSpan S.equation P.rows) ps }
     ensures product { (p : Polynomial S.field) (ps : List (RecordedPrime S.equation S.first))
-        → IsIrreducible S.field.ops (codes_of S.field p)
+        → IsIrreducibleList S.field.ops (codes_of S.field p)
         → IsOrder S.equation S.first → IsRecordAt S.equation S.first p ps
         → SameSet (ProductOfPowers S.equation S.first ps)
         (Multiple (ring_of S.equation).ops (of_poly S.equation p) S.first) }
     ensures maximal { (p : Polynomial S.field) (ps : List (RecordedPrime S.equation S.first))
-        → IsIrreducible S.field.ops (codes_of S.field p)
+        → IsIrreducibleList S.field.ops (codes_of S.field p)
         → IsOrder S.equation S.first → IsRecordAt S.equation S.first p ps
         → MaximalAt (ring_of S.equation).ops (of_poly S.equation p) (IsIntegralAt (setting_of S.equation) Finite)
         S.first }
@@ -164,7 +164,7 @@ pub fn record_law<S: FunctionSets>()
 pub fn order_places_law<S: FunctionSets>()
     ensures { (p : Polynomial S.field) (ps : List (RecordedPrime S.equation S.first))
         → ¬ (discriminant S.equation ≡ (polynomials S.field).𝟘)
-        → IsIrreducible S.field.ops (codes_of S.field p) → IsOrder S.equation S.first
+        → IsIrreducibleList S.field.ops (codes_of S.field p) → IsOrder S.equation S.first
         → IsRecordAt S.equation S.first p ps
         → ArePrimesOfPlaces S.equation S.first p ps }
 {}
@@ -174,7 +174,7 @@ pub fn order_places_law<S: FunctionSets>()
 pub fn recorded_places_law()
     ensures { (k : CodeField) (c : Equation k) (p : Polynomial k)
         (ps : List (RecordedPrime c (IsIntegralAt (setting_of c) Finite)))
-        → ¬ (discriminant c ≡ (polynomials k).𝟘) → IsIrreducible k.ops (codes_of k p)
+        → ¬ (discriminant c ≡ (polynomials k).𝟘) → IsIrreducibleList k.ops (codes_of k p)
         → IsRecordAt c (IsIntegralAt (setting_of c) Finite) p ps
         → AreAllPlaces c p ps }
 {}
@@ -193,7 +193,7 @@ pub fn recorded_order_law<S: FunctionSets>()
     ensures maximal { IsOrder S.equation S.first
         → ((i : ℕ) → i < degree_of_y S.equation → S.first (pow (ring_of S.equation).ops (y_of S.equation) i))
         → ¬ (discriminant S.equation ≡ (polynomials S.field).𝟘)
-        → ((p : Polynomial S.field) → IsIrreducible S.field.ops (codes_of S.field p)
+        → ((p : Polynomial S.field) → IsIrreducibleList S.field.ops (codes_of S.field p)
         → IsDivisorIn (polynomials S.field).ops ((polynomials S.field).◌⊗◌ p p) (discriminant S.equation)
         → MaximalAt (ring_of S.equation).ops (of_poly S.equation p) (IsIntegralAt (setting_of S.equation) Finite)
         S.first)
@@ -201,7 +201,7 @@ pub fn recorded_order_law<S: FunctionSets>()
     ensures recorded { IsOrder S.equation S.first
         → ((i : ℕ) → i < degree_of_y S.equation → S.first (pow (ring_of S.equation).ops (y_of S.equation) i))
         → ¬ (discriminant S.equation ≡ (polynomials S.field).𝟘)
-        → ((p : Polynomial S.field) → IsIrreducible S.field.ops (codes_of S.field p)
+        → ((p : Polynomial S.field) → IsIrreducibleList S.field.ops (codes_of S.field p)
         → IsDivisorIn (polynomials S.field).ops ((polynomials S.field).◌⊗◌ p p) (discriminant S.equation)
         → (ps : List (RecordedPrime S.equation S.first)) × IsRecordAt S.equation S.first p ps)
         → SameSet S.first (IsIntegralAt (setting_of S.equation) Finite) }

@@ -18,7 +18,7 @@ use Rattle.ff_fields.specs.Code.{code_ring, same_code, zero_in, read_code, read_
 use Rattle.ff_fields.specs.Numbers.{read}
 use Rattle.linear_theory.specs.Euclidean.{IsDivisorIn}
 use Rattle.ff_poly.specs.Value.{value, numbers_value}
-use Rattle.ff_poly.specs.Words.{IsIrreducible}
+use Rattle.ff_poly.specs.Words.{IsIrreducibleList}
 use Rattle.ff_poly.specs.Polynomials.{Polynomial, polynomials, codes_of, value_codes_of, value_nil, value_one, value_cons, series_read, IsOver_codes_of, x_poly, constant_poly}
 use Rattle.function_field.specs.declared.side.Side.TheVariants.{Finite, Infinite}
 use Rattle.function_field.specs.Functions.{of_poly, IsPolynomial, IsFiniteAtInfinity}
@@ -48,7 +48,7 @@ module _ (k : CodeField) where
   pub x_length : length (x_poly k).0 ≡ 2
   x_length = sym (length-map (x_poly k).0 (λ x. x.0)) ∙ ap length x_codes
 
-  pub x_irreducible : IsIrreducible k.ops (codes_of k (x_poly k))
+  pub x_irreducible : IsIrreducibleList k.ops (codes_of k (x_poly k))
   x_irreducible = record {
     monic = (0 ∷ [], x_codes);
     not_constant = let e : length (codes_of k (x_poly k)) ≡ 2 = ap length x_codes in omega arith;

@@ -6,7 +6,7 @@ use Rattle.prime_theory.specs.Ideals.{SameSet}
 use Rattle.prime_theory.specs.Orders.{MaximalAt}
 use Rattle.linear_theory.specs.Euclidean.{IsDivisorIn}
 use Rattle.ff_fields.specs.Field.{CodeField}
-use Rattle.ff_poly.specs.Words.{IsIrreducible}
+use Rattle.ff_poly.specs.Words.{IsIrreducibleList}
 use Rattle.ff_poly.specs.Polynomials.{Polynomial, polynomials, codes_of}
 use Rattle.function_field.specs.declared.side.Side.TheVariants.{Finite}
 use Rattle.function_field.specs.Places.{IsIntegralAt}
@@ -21,7 +21,7 @@ use Rattle.order_theory.proofs.LocalOrders.{prime_to, order_integral, maximal_if
 use Rattle.infinite_theory.specs.Supported.{IsSupportedAt, HasPowerDenominator, IsLocallyIn}
 use Rattle.infinite_theory.proofs.SupportedLattices.{coordinates_order, coordinates_supported, local_members, taken_supported}
 
-module _ {k : CodeField} (c : Equation k) (p : Polynomial k) (h : IsIrreducible k.ops (codes_of k p)) where
+module _ {k : CodeField} (c : Equation k) (p : Polynomial k) (h : IsIrreducibleList k.ops (codes_of k p)) where
   infixl 70 ◌⊗◌
   open ring_of c use {𝟙, ◌⊗◌}
 

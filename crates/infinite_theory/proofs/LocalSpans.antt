@@ -6,7 +6,7 @@ use Rattle.ring_theory.proofs.Solver.{ring, reads, from_one}
 use Rattle.ring_theory.proofs.Subsets.{span_module}
 use Rattle.ring_theory.proofs.RowMaps.{hom_neg}
 use Rattle.ff_fields.specs.Field.{CodeField}
-use Rattle.ff_poly.specs.Words.{IsIrreducible}
+use Rattle.ff_poly.specs.Words.{IsIrreducibleList}
 use Rattle.ff_poly.specs.Polynomials.{Polynomial, polynomials, codes_of}
 use Rattle.function_field.specs.Functions.{Equation, FunctionOf, ring_of, of_poly, IsPolynomial}
 use Rattle.function_field.proofs.ScalarRings.{polynomials_subring}
@@ -18,7 +18,7 @@ use Rattle.order_theory.specs.Orders.{IsPrimeTo}
 use Rattle.order_theory.proofs.LocalOrders.{prime_to}
 use Rattle.infinite_theory.specs.Supported.{IsLocallyIn}
 
-module _ {k : CodeField} (c : Equation k) (p : Polynomial k) (h : IsIrreducible k.ops (codes_of k p)) where
+module _ {k : CodeField} (c : Equation k) (p : Polynomial k) (h : IsIrreducibleList k.ops (codes_of k p)) where
   infixl 65 ◌⊕◌
   infixl 70 ◌⊗◌
   infixr 80 ⊖◌

@@ -18,7 +18,7 @@ use Rattle.prime_theory.proofs.Radicals.{p_in_radical}
 use Rattle.prime_theory.proofs.Supported.{SupportedAt, supported_between, supported_product, supported_colon}
 use Rattle.linear_theory.specs.Basis.{IsSum}
 use Rattle.ff_fields.specs.Field.{CodeField}
-use Rattle.ff_poly.specs.Words.{IsIrreducible}
+use Rattle.ff_poly.specs.Words.{IsIrreducibleList}
 use Rattle.ff_poly.specs.Polynomials.{Polynomial, polynomials, codes_of}
 use Rattle.function_field.specs.Functions.{Equation, FunctionOf, ring_of, ring_of_x, of_poly, row_of, y_of, degree_of_y, IsPolynomial}
 use Rattle.function_field.specs.Discriminant.{discriminant}
@@ -80,7 +80,7 @@ module _ {k : CodeField} (c : Equation k) where
   sum_in L 𝓛 zero g h = 𝓛.zero_in
   sum_in L 𝓛 (suc n) g h = 𝓛.sum_in _ _ (sum_in L 𝓛 n g (λ i l. h i (omega arith))) (h n (omega arith))
 
-  module _ (p : Polynomial k) (h : IsIrreducible k.ops (codes_of k p)) where
+  module _ (p : Polynomial k) (h : IsIrreducibleList k.ops (codes_of k p)) where
     abbrev P : FunctionOf c
     P = of_poly c p
 

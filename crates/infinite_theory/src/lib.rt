@@ -12,7 +12,7 @@ ghost use Rattle.ring_theory.specs.Subsets.{IsModule, Span, Product, Colon};
 ghost use Rattle.ff_fields.specs.Field.{CodeField};
 ghost use Rattle.linear_theory.specs.Basis.{IsSum};
 ghost use Rattle.linear_theory.specs.Euclidean.{IsDivisorIn};
-ghost use Rattle.ff_poly.specs.Words.{IsIrreducible};
+ghost use Rattle.ff_poly.specs.Words.{IsIrreducibleList};
 ghost use Rattle.ff_poly.specs.Polynomials.{Polynomial, polynomials, codes_of, x_poly};
 ghost use Rattle.function_field.specs.declared.side.Side.TheVariants.{Finite, Infinite};
 ghost use Rattle.function_field.specs.Functions.{Equation, FunctionOf, ring_of, of_poly, setting_of, degree_of_y, IsPolynomial, IsScalar};
@@ -53,37 +53,37 @@ pub trait InfiniteSets {
 /// lies between two. The radical of an order supported at p is one, and so are the integral functions that powers of p
 /// take into it.
 pub fn supported_law<S: FunctionSets>()
-    ensures coordinates { (p : Polynomial S.field) → IsIrreducible S.field.ops (codes_of S.field p)
+    ensures coordinates { (p : Polynomial S.field) → IsIrreducibleList S.field.ops (codes_of S.field p)
         → IsOrder S.equation (HasPolynomialCoordinates S.equation)
         × IsSupportedAt S.equation p (HasPolynomialCoordinates S.equation) }
-    ensures sum { (p : Polynomial S.field) → IsIrreducible S.field.ops (codes_of S.field p)
+    ensures sum { (p : Polynomial S.field) → IsIrreducibleList S.field.ops (codes_of S.field p)
         → IsLattice S.equation S.first → IsLattice S.equation S.second
         → IsSupportedAt S.equation p S.first → IsSupportedAt S.equation p S.second
         → IsSupportedAt S.equation p (IsSum (space_ops S.equation) S.first S.second) }
-    ensures product { (p : Polynomial S.field) → IsIrreducible S.field.ops (codes_of S.field p)
+    ensures product { (p : Polynomial S.field) → IsIrreducibleList S.field.ops (codes_of S.field p)
         → IsLattice S.equation S.first → IsLattice S.equation S.second
         → IsSupportedAt S.equation p S.first → IsSupportedAt S.equation p S.second
         → IsSupportedAt S.equation p (Product (ring_of S.equation).ops S.first S.second) }
-    ensures colon { (p : Polynomial S.field) → IsIrreducible S.field.ops (codes_of S.field p)
+    ensures colon { (p : Polynomial S.field) → IsIrreducibleList S.field.ops (codes_of S.field p)
         → IsLattice S.equation S.first → IsLattice S.equation S.second
         → IsSupportedAt S.equation p S.first → IsSupportedAt S.equation p S.second
         → IsSupportedAt S.equation p (Colon (ring_of S.equation).ops S.first S.second) }
-    ensures multiple { (p : Polynomial S.field) → IsIrreducible S.field.ops (codes_of S.field p)
+    ensures multiple { (p : Polynomial S.field) → IsIrreducibleList S.field.ops (codes_of S.field p)
         → IsLattice S.equation S.first → IsSupportedAt S.equation p S.first
         → (n : ℕ) (u v : FunctionOf S.equation) → (ring_of S.equation).◌⊗◌ u v ≡ (ring_of S.equation).𝟙
         → IsPolynomial S.equation ((ring_of S.equation).◌⊗◌ (pow (ring_of S.equation).ops (of_poly S.equation p) n) u)
         → IsPolynomial S.equation ((ring_of S.equation).◌⊗◌ (pow (ring_of S.equation).ops (of_poly S.equation p) n) v)
         → IsSupportedAt S.equation p (Multiple (ring_of S.equation).ops u S.first) }
-    ensures between { (p : Polynomial S.field) → IsIrreducible S.field.ops (codes_of S.field p)
+    ensures between { (p : Polynomial S.field) → IsIrreducibleList S.field.ops (codes_of S.field p)
         → IsLattice S.equation S.first → IsLattice S.equation S.third
         → IsSupportedAt S.equation p S.first → IsSupportedAt S.equation p S.third
         → IsModule (ring_of S.equation).ops (IsPolynomial S.equation) S.second
         → ((z : FunctionOf S.equation) → S.first z → S.second z)
         → ((z : FunctionOf S.equation) → S.second z → S.third z) → IsSupportedAt S.equation p S.second }
-    ensures radical { (p : Polynomial S.field) → IsIrreducible S.field.ops (codes_of S.field p)
+    ensures radical { (p : Polynomial S.field) → IsIrreducibleList S.field.ops (codes_of S.field p)
         → IsOrder S.equation S.first → IsSupportedAt S.equation p S.first
         → IsSupportedAt S.equation p (Radical (ring_of S.equation).ops S.first (of_poly S.equation p)) }
-    ensures taken { (p : Polynomial S.field) → IsIrreducible S.field.ops (codes_of S.field p)
+    ensures taken { (p : Polynomial S.field) → IsIrreducibleList S.field.ops (codes_of S.field p)
         → ¬ (discriminant S.equation ≡ (polynomials S.field).𝟘)
         → IsOrder S.equation S.first → IsSupportedAt S.equation p S.first
         → IsSupportedAt S.equation p (TakenByPowers S.equation p S.first) }
@@ -92,11 +92,11 @@ pub fn supported_law<S: FunctionSets>()
 /// A lattice supported at p is what it is locally at p, among the functions that have powers of p as denominators. So
 /// membership in it up to factors prime to p is membership of one multiple.
 pub fn local_member_law<S: FunctionSets>()
-    ensures members { (p : Polynomial S.field) → IsIrreducible S.field.ops (codes_of S.field p)
+    ensures members { (p : Polynomial S.field) → IsIrreducibleList S.field.ops (codes_of S.field p)
         → IsLattice S.equation S.first → IsSupportedAt S.equation p S.first
         → (z : FunctionOf S.equation) → S.first z
         ↔ (HasPowerDenominator S.equation p z × IsLocallyIn S.equation p S.first z) }
-    ensures member { (p : Polynomial S.field) → IsIrreducible S.field.ops (codes_of S.field p)
+    ensures member { (p : Polynomial S.field) → IsIrreducibleList S.field.ops (codes_of S.field p)
         → IsLattice S.equation S.first → IsSupportedAt S.equation p S.first
         → (z u : FunctionOf S.equation) → IsPrimeTo S.equation p u
         → HasPowerDenominator S.equation p ((ring_of S.equation).◌⊗◌ u z)
@@ -106,20 +106,20 @@ pub fn local_member_law<S: FunctionSets>()
 /// An order that is maximal at p is the ring of integral functions, locally at p; where it is supported at p, it has
 /// those of them that have powers of p as denominators. So there is one such order.
 pub fn local_integral_law<S: FunctionSets>()
-    ensures locally { (p : Polynomial S.field) → IsIrreducible S.field.ops (codes_of S.field p)
+    ensures locally { (p : Polynomial S.field) → IsIrreducibleList S.field.ops (codes_of S.field p)
         → IsOrder S.equation S.first
         → MaximalAt (ring_of S.equation).ops (of_poly S.equation p) (IsIntegralAt (setting_of S.equation) Finite)
         S.first
         → (z : FunctionOf S.equation) → IsLocallyIn S.equation p S.first z
         ↔ IsLocallyIn S.equation p (IsIntegralAt (setting_of S.equation) Finite) z }
-    ensures members { (p : Polynomial S.field) → IsIrreducible S.field.ops (codes_of S.field p)
+    ensures members { (p : Polynomial S.field) → IsIrreducibleList S.field.ops (codes_of S.field p)
         → IsOrder S.equation S.first → IsSupportedAt S.equation p S.first
         → MaximalAt (ring_of S.equation).ops (of_poly S.equation p) (IsIntegralAt (setting_of S.equation) Finite)
         S.first
         → (z : FunctionOf S.equation) → S.first z
         ↔ (HasPowerDenominator S.equation p z
         × IsLocallyIn S.equation p (IsIntegralAt (setting_of S.equation) Finite) z) }
-    ensures once { (p : Polynomial S.field) → IsIrreducible S.field.ops (codes_of S.field p)
+    ensures once { (p : Polynomial S.field) → IsIrreducibleList S.field.ops (codes_of S.field p)
         → IsOrder S.equation S.first → IsSupportedAt S.equation p S.first
         → MaximalAt (ring_of S.equation).ops (of_poly S.equation p) (IsIntegralAt (setting_of S.equation) Finite)
         S.first
@@ -131,13 +131,13 @@ pub fn local_integral_law<S: FunctionSets>()
 /// The integral functions that powers of p take into k[x][y] are the order supported at p that is maximal at p. Where
 /// the square of p doesn't divide the discriminant, they are k[x][y].
 pub fn supported_order_law()
-    ensures order { (k : CodeField) (c : Equation k) (p : Polynomial k) → IsIrreducible k.ops (codes_of k p)
+    ensures order { (k : CodeField) (c : Equation k) (p : Polynomial k) → IsIrreducibleList k.ops (codes_of k p)
         → ¬ (discriminant c ≡ (polynomials k).𝟘)
         → IsOrder c (TakenByPowers c p (HasPolynomialCoordinates c))
         × IsSupportedAt c p (TakenByPowers c p (HasPolynomialCoordinates c))
         × MaximalAt (ring_of c).ops (of_poly c p) (IsIntegralAt (setting_of c) Finite)
         (TakenByPowers c p (HasPolynomialCoordinates c)) }
-    ensures whole { (k : CodeField) (c : Equation k) (p : Polynomial k) → IsIrreducible k.ops (codes_of k p)
+    ensures whole { (k : CodeField) (c : Equation k) (p : Polynomial k) → IsIrreducibleList k.ops (codes_of k p)
         → ¬ IsDivisorIn (polynomials k).ops ((polynomials k).◌⊗◌ p p) (discriminant c)
         → SameSet (TakenByPowers c p (HasPolynomialCoordinates c)) (HasPolynomialCoordinates c) }
 {}
@@ -145,7 +145,7 @@ pub fn supported_order_law()
 /// The variable is irreducible; and the infinite presentation has the functions of the curve: there is an isomorphism
 /// that takes its elements to the functions that they stand for, and carries what is said of its variable to t = 1/x.
 pub fn infinite_map_law()
-    ensures irreducible { (k : CodeField) → IsIrreducible k.ops (codes_of k (x_poly k)) }
+    ensures irreducible { (k : CodeField) → IsIrreducibleList k.ops (codes_of k (x_poly k)) }
     ensures exists { (k : CodeField) (p q : PresValue) (c : ℕ) → 1 ≤ p.n → IsInfinitePresentation k p c q
         → (f : Functions k q → Functions k p) × IsInfiniteMap k p q c f }
 {}

@@ -13,7 +13,7 @@ use Rattle.prime_theory.specs.Orders.{MaximalAt, Radical, Enlarged}
 use Rattle.prime_theory.proofs.Enlarge.{EnlargedAt, PowersOf, enlarged_iff}
 use Rattle.prime_theory.proofs.Radicals.{radical_ideal, p_in_radical, criterion_iff}
 use Rattle.ff_fields.specs.Field.{CodeField}
-use Rattle.ff_poly.specs.Words.{IsIrreducible}
+use Rattle.ff_poly.specs.Words.{IsIrreducibleList}
 use Rattle.ff_poly.specs.Polynomials.{Polynomial, codes_of}
 use Rattle.function_field.specs.declared.side.Side.TheVariants.{Finite}
 use Rattle.function_field.specs.Places.{IsIntegralAt}
@@ -130,7 +130,7 @@ module _ {k : CodeField} (c : Equation k) where
           (record { quotient = 𝟙; quotient_in = 𝓞.ring.one_in; is = sym ((ring_of c).mul_one (of_poly c p)) })
 
       -- where the multipliers of the radical add nothing, the order is maximal at p
-      pub maximal_of_multipliers : IsIrreducible k.ops (codes_of k p) → (ys : List (FunctionOf c))
+      pub maximal_of_multipliers : IsIrreducibleList k.ops (codes_of k p) → (ys : List (FunctionOf c))
           → SameSet (Radical (ring_of c).ops O (of_poly c p)) (Span (ring_of c).ops (IsPolynomial c) ys)
           → ((z : FunctionOf c) → Colon (ring_of c).ops (Radical (ring_of c).ops O (of_poly c p))
           (Radical (ring_of c).ops O (of_poly c p)) z → O z)

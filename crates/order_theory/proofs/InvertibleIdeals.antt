@@ -24,7 +24,7 @@ use Rattle.linear_theory.specs.Euclidean.{IsDivisorIn}
 use Rattle.linear_theory.proofs.Euclid.{decide_divisor}
 use Rattle.ff_fields.specs.Field.{CodeField}
 use Rattle.ff_fields.specs.Code.{code_ring, code_domain}
-use Rattle.ff_poly.specs.Words.{IsIrreducible}
+use Rattle.ff_poly.specs.Words.{IsIrreducibleList}
 use Rattle.ff_poly.specs.Value.{value, value_product, numbers_value}
 use Rattle.ff_poly.proofs.Parts.{IsMonic_from_top}
 use Rattle.ff_poly.specs.Polynomials.{Polynomial, polynomials, polynomial_discrete, codes_of, value_codes_of}
@@ -176,7 +176,7 @@ module _ (k : CodeField) (g : Polynomial k) (some : ¬ (g ≡ (polynomials k).�
             ∙ (polynomials k).mul_assoc _ _ _,
       )
 
-  pub divisor_irreducible : IsIrreducible k.ops (codes_of k divisor_of)
+  pub divisor_irreducible : IsIrreducibleList k.ops (codes_of k divisor_of)
   unfolding divisor_of
   divisor_irreducible = record {
     monic =
@@ -204,7 +204,7 @@ module _ (k : CodeField) (g : Polynomial k) (some : ¬ (g ≡ (polynomials k).�
 
 module _ {k : CodeField} (c : Equation k) (O : FunctionOf c → Type 0) (𝓞 : IsOrder c O)
     (M : FunctionOf c → Type 0) (lattice : IsLattice c M) (𝓜 : IsModule (ring_of c).ops O M)
-    (admitted : (p : Polynomial k) → IsIrreducible k.ops (codes_of k p)
+    (admitted : (p : Polynomial k) → IsIrreducibleList k.ops (codes_of k p)
     → MaximalAt (ring_of c).ops (of_poly c p) (IsIntegralAt (setting_of c) Finite) O ⊎ IsOrderUpTo c p O M) where
   infixl 65 ◌⊕◌
   infixl 70 ◌⊗◌
@@ -221,7 +221,7 @@ module _ {k : CodeField} (c : Equation k) (O : FunctionOf c → Type 0) (𝓞 : 
   T_ideal : IsIdeal (ring_of c).ops O (Product (ring_of c).ops M (Inverse (ring_of c).ops O M))
   T_ideal = trace_ideal (ring_of c) O 𝓞.ring M 𝓜
 
-  module _ (p : Polynomial k) (h : IsIrreducible k.ops (codes_of k p)) where
+  module _ (p : Polynomial k) (h : IsIrreducibleList k.ops (codes_of k p)) where
     abbrev C : FunctionOf c → Type 0
     C = IsSum (space_ops c) (Product (ring_of c).ops M (Inverse (ring_of c).ops O M)) (pO c p h O 𝓞)
 

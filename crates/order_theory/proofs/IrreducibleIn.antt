@@ -13,7 +13,7 @@ use Rattle.linear_theory.proofs.Euclid.{bezout}
 use Rattle.ff_fields.specs.Field.{CodeField}
 use Rattle.ff_fields.specs.Code.{same_code, Code, code_ring, code_domain, is_zero_code}
 use Rattle.ff_fields.specs.Numbers.{numbers}
-use Rattle.ff_poly.specs.Words.{IsIrreducible, IsMonic, IsPoly}
+use Rattle.ff_poly.specs.Words.{IsIrreducibleList, IsMonic, IsPoly}
 use Rattle.ff_poly.specs.Value.{value, value_product, numbers_value}
 use Rattle.ff_poly.proofs.Parts.{top_of_monic, IsMonic_from_top}
 use Rattle.ff_poly.specs.Polynomials.{Polynomial, polynomials, polynomial_discrete, codes_of, value_codes_of}
@@ -152,7 +152,7 @@ module _ {k : CodeField} (c : Equation k) (gs : List (FunctionOf c))
           ∙ (constant_hom (code_ring k)).𝟙 in
           absurd (one_out (subst In one generator_in))
 
-  pub generator_irreducible : IsIrreducible k.ops (codes_of k generator_of)
+  pub generator_irreducible : IsIrreducibleList k.ops (codes_of k generator_of)
   unfolding generator_of
   generator_irreducible = record {
     monic =
@@ -183,7 +183,7 @@ module _ {k : CodeField} (c : Equation k) (gs : List (FunctionOf c))
           shorter_out Q Q_some (omega arith) (factor_in B Q (subst In e generator_in) (shorter_out B B_some short))
 
   -- two irreducible polynomials in the place divide each other
-  pub divides_other : (p q : Polynomial k) → IsIrreducible k.ops (codes_of k p) → IsIrreducible k.ops (codes_of k q)
+  pub divides_other : (p q : Polynomial k) → IsIrreducibleList k.ops (codes_of k p) → IsIrreducibleList k.ops (codes_of k q)
       → In p → In q
       → IsDivisorIn (polynomials k).ops p q
   divides_other p q h h' p_in q_in = go (decide_divides k p h q)
@@ -195,8 +195,8 @@ module _ {k : CodeField} (c : Equation k) (gs : List (FunctionOf c))
           absurd (one_out (subst In b.is (sum _ _ (times b.left q q_in) (times b.right p p_in))))
 
   -- so they are the same
-  pub same_irreducible : (p q : Polynomial k) → IsIrreducible k.ops (codes_of k p)
-      → IsIrreducible k.ops (codes_of k q) → In p → In q → p ≡ q
+  pub same_irreducible : (p q : Polynomial k) → IsIrreducibleList k.ops (codes_of k p)
+      → IsIrreducibleList k.ops (codes_of k q) → In p → In q → p ≡ q
   same_irreducible p q h h' p_in q_in = go (divides_other p q h h' p_in q_in) (divides_other q p h' h q_in p_in)
     where
       top : (a : Polynomial k) → IsMonic (codes_of k a) → (n : ℕ) × (length a.0 ≡ suc n)

@@ -12,7 +12,7 @@ use Rattle.prime_theory.proofs.Maximal.{maximal_iff_locally}
 use Rattle.linear_theory.specs.Euclidean.{IsDivisorIn}
 use Rattle.linear_theory.proofs.Euclid.{bezout, order_at}
 use Rattle.ff_fields.specs.Field.{CodeField}
-use Rattle.ff_poly.specs.Words.{IsIrreducible}
+use Rattle.ff_poly.specs.Words.{IsIrreducibleList}
 use Rattle.ff_poly.specs.Polynomials.{Polynomial, polynomials, codes_of}
 use Rattle.function_field.specs.declared.side.Side.TheVariants.{Finite}
 use Rattle.function_field.specs.Places.{IsIntegralAt}
@@ -67,7 +67,7 @@ module _ {k : CodeField} (c : Equation k) where
       ((ring_of c).mul_comm _ _ ∙ u.1) ((𝓛.spanned _).0 d.2)
       (λ y h. (𝓛.spanned _).0 (f y ((𝓛.spanned y).1 h)))
 
-  module _ (p : Polynomial k) (h : IsIrreducible k.ops (codes_of k p)) where
+  module _ (p : Polynomial k) (h : IsIrreducibleList k.ops (codes_of k p)) where
     not_one : ¬ IsDivisorIn (polynomials k).ops p (polynomials k).𝟙
     not_one d = (irreducible k p h).nonunit (d.0, sym d.1)
 

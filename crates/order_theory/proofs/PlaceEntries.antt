@@ -12,7 +12,7 @@ use Rattle.prime_theory.specs.IntegerValues.{ValueIs}
 use Rattle.prime_theory.specs.Orders.{MaximalAt}
 use Rattle.prime_theory.proofs.Lists.{pairs_head, pairs_tail, any_here, any_there, any_cases, any_none}
 use Rattle.ff_fields.specs.Field.{CodeField}
-use Rattle.ff_poly.specs.Words.{IsIrreducible}
+use Rattle.ff_poly.specs.Words.{IsIrreducibleList}
 use Rattle.ff_poly.specs.Polynomials.{Polynomial, polynomials, codes_of}
 use Rattle.function_field.specs.declared.side.Side.{Side}
 use Rattle.function_field.specs.declared.side.Side.TheVariants.{Finite, Infinite}
@@ -52,7 +52,7 @@ any_map Q T f g (x ∷ xs) h = go (any_map Q T f g xs) (any_cases Q x xs h)
     go again (inl q) = any_here T (f x) (map f xs) (g x q)
     go again (inr a) = any_there T (f x) (map f xs) (again a)
 
-module _ {k : CodeField} (c : Equation k) (p : Polynomial k) (h : IsIrreducible k.ops (codes_of k p)) where
+module _ {k : CodeField} (c : Equation k) (p : Polynomial k) (h : IsIrreducibleList k.ops (codes_of k p)) where
   open ring_of c use {𝟘, 𝟙, ◌⊕◌, ◌⊗◌, ⊖◌}
 
   infixl 65 ◌⊕◌
@@ -79,7 +79,7 @@ module _ {A : Type 0} (O P P' : A → Type 0) (s : SameSet P P') where
   outside_same u o = record { within = o.within; out = λ m. o.out ((s u).1 m) }
 
 module _ {k : CodeField} (c : Equation k) (some : ¬ (discriminant c ≡ (polynomials k).𝟘)) (p : Polynomial k)
-    (h : IsIrreducible k.ops (codes_of k p)) where
+    (h : IsIrreducibleList k.ops (codes_of k p)) where
   open ring_of c use {𝟘, 𝟙, ◌⊕◌, ◌⊗◌, ⊖◌}
 
   infixl 65 ◌⊕◌

@@ -6,7 +6,7 @@ use Rattle.prime_theory.specs.Orders.{MaximalAt}
 use Rattle.prime_theory.specs.Primes.{Different}
 use Rattle.prime_theory.proofs.Compare.{prime_in_system}
 use Rattle.ff_fields.specs.Field.{CodeField}
-use Rattle.ff_poly.specs.Words.{IsIrreducible}
+use Rattle.ff_poly.specs.Words.{IsIrreducibleList}
 use Rattle.ff_poly.specs.Polynomials.{Polynomial, polynomials, codes_of}
 use Rattle.function_field.specs.Places.{IsPlace, IsIn, IsSamePlace}
 use Rattle.function_field.specs.Functions.{Equation, FunctionOf, ring_of, of_poly, setting_of}
@@ -18,7 +18,7 @@ use Rattle.order_theory.proofs.ReductionAt.{p_in}
 use Rattle.order_theory.proofs.PrimesOver.{Index, PrimeOf, prime_is, prime_lattice, family_of, order_generators, primes_at}
 
 module _ {k : CodeField} (c : Equation k) (some : ¬ (discriminant c ≡ (polynomials k).𝟘)) (p : Polynomial k)
-    (h : IsIrreducible k.ops (codes_of k p)) where
+    (h : IsIrreducibleList k.ops (codes_of k p)) where
   infixl 65 ◌⊕◌
   infixl 70 ◌⊗◌
   infixr 80 ⊖◌

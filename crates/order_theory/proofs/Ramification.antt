@@ -6,7 +6,7 @@ use Rattle.prime_theory.specs.Systems.{IsFamily, IdealProduct}
 use Rattle.prime_theory.specs.IntegerValues.{ValueIs, entry}
 use Rattle.prime_theory.proofs.IntegerFactors.{ramification_of}
 use Rattle.ff_fields.specs.Field.{CodeField}
-use Rattle.ff_poly.specs.Words.{IsIrreducible}
+use Rattle.ff_poly.specs.Words.{IsIrreducibleList}
 use Rattle.ff_poly.specs.Polynomials.{Polynomial, codes_of}
 use Rattle.function_field.specs.declared.side.Side.TheVariants.{Finite}
 use Rattle.function_field.specs.Places.{IsIntegralAt}
@@ -21,7 +21,7 @@ use Rattle.order_theory.proofs.ReductionAt.{pO, p_in, multiple_is_lattice, index
 use Rattle.order_theory.proofs.PrimesOver.{Index, PrimeOf, prime_is, prime_lattice, prime_invertible, family_of, PrimesAt, primes_at}
 use Rattle.order_theory.proofs.IndexProducts.{total, IsFactor, product_index}
 
-module _ {k : CodeField} (c : Equation k) (p : Polynomial k) (h : IsIrreducible k.ops (codes_of k p))
+module _ {k : CodeField} (c : Equation k) (p : Polynomial k) (h : IsIrreducibleList k.ops (codes_of k p))
     (O : FunctionOf c → Type 0) (𝓞 : IsOrder c O)
     (maximal : MaximalAt (ring_of c).ops (of_poly c p) (IsIntegralAt (setting_of c) Finite) O) where
   open ring_of c use {𝟙, ◌⊗◌}

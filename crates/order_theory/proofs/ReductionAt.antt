@@ -17,7 +17,7 @@ use Rattle.linear_theory.proofs.Combination.{combine_cong}
 use Rattle.linear_theory.proofs.Dependence.{coefficients_unique}
 use Rattle.ff_fields.specs.Field.{CodeField}
 use Rattle.ff_fields.specs.Code.{Code, code_ring}
-use Rattle.ff_poly.specs.Words.{IsIrreducible}
+use Rattle.ff_poly.specs.Words.{IsIrreducibleList}
 use Rattle.ff_poly.specs.Polynomials.{Polynomial, polynomials, codes_of}
 use Rattle.function_field.specs.Functions.{Equation, FunctionOf, ring_of, of_poly, degree_of_y, IsPolynomial}
 use Rattle.polynomial_theory.proofs.CodeFields.{code_finite}
@@ -41,7 +41,7 @@ code_rows k (suc n) (a, v) (b, w) = go ((code_finite k).decide a b) (code_rows k
     go (yes e) (no m) = no (λ h. m (ap (λ t. t.1) h))
     go (no m) d = no (λ h. m (ap (λ t. t.0) h))
 
-module _ {k : CodeField} (c : Equation k) (p : Polynomial k) (h : IsIrreducible k.ops (codes_of k p))
+module _ {k : CodeField} (c : Equation k) (p : Polynomial k) (h : IsIrreducibleList k.ops (codes_of k p))
     (O : FunctionOf c → Type 0) (𝓞 : IsOrder c O) where
   infixl 65 ◌⊕◌
   infixl 70 ◌⊗◌

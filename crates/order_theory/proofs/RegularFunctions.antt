@@ -18,7 +18,7 @@ use Rattle.prime_theory.proofs.Systems.{covering}
 use Rattle.prime_theory.proofs.Localisation.{lift}
 use Rattle.ff_fields.specs.Field.{CodeField}
 use Rattle.ff_fields.specs.Code.{code_ring, code_domain}
-use Rattle.ff_poly.specs.Words.{IsIrreducible}
+use Rattle.ff_poly.specs.Words.{IsIrreducibleList}
 use Rattle.ff_poly.specs.Polynomials.{Polynomial, polynomials, polynomial_discrete, codes_of}
 use Rattle.function_field.specs.Places.{IsPlace, IsIn, HasValuationAtLeast}
 use Rattle.function_field.specs.Functions.{Equation, FunctionOf, ring_of, of_poly, setting_of}
@@ -66,7 +66,7 @@ module _ {k : CodeField} (c : Equation k) (z : FunctionOf c) where
   polynomial_in a = polynomial_integral c (of_poly c a) (record { polynomial = a; value = refl })
 
 module _ {k : CodeField} (c : Equation k) (some : ¬ (discriminant c ≡ (polynomials k).𝟘)) (z : FunctionOf c)
-    (p : Polynomial k) (h : IsIrreducible k.ops (codes_of k p))
+    (p : Polynomial k) (h : IsIrreducibleList k.ops (codes_of k p))
     (regular : (gs : List (FunctionOf c)) → IsPlace (setting_of c) (finite c gs)
     → IsIn (setting_of c) (finite c gs) (of_poly c p)
     → HasValuationAtLeast (setting_of c) (finite c gs) z (pos 0)) where

@@ -2,7 +2,7 @@
 use Rattle.std.proofs.Common.{◌↔◌, ◌⊎◌, refl, ◌≡◌, ℕ, List}
 use Rattle.prime_theory.specs.Primes.{IsPrime}
 use Rattle.ff_fields.specs.Field.{CodeField}
-use Rattle.ff_poly.specs.Words.{IsIrreducible}
+use Rattle.ff_poly.specs.Words.{IsIrreducibleList}
 use Rattle.ff_poly.specs.Polynomials.{Polynomial, polynomials, codes_of}
 use Rattle.std.specs.Prelude.{ℤ}
 use Rattle.std.proofs.Common.{refl, pos}
@@ -68,9 +68,9 @@ module _ {k : CodeField} (c : Equation k) where
       (i.0, degree_from_index P i.0 e i.1)
 
   pub place_lies_over : (P : Place (FunctionOf c)) → IsPlace (setting_of c) P → P.side ≡ Finite
-      → (p : Polynomial k) × IsIrreducible k.ops (codes_of k p) × LiesOver (setting_of c) P (of_poly c p)
+      → (p : Polynomial k) × IsIrreducibleList k.ops (codes_of k p) × LiesOver (setting_of c) P (of_poly c p)
   place_lies_over P h e =
-      by_side (λ P. IsPlace (setting_of c) P → (p : Polynomial k) × IsIrreducible k.ops (codes_of k p)
+      by_side (λ P. IsPlace (setting_of c) P → (p : Polynomial k) × IsIrreducibleList k.ops (codes_of k p)
       × LiesOver (setting_of c) P (of_poly c p))
       (λ gs h. (
         generator_of c gs h,
@@ -79,8 +79,8 @@ module _ {k : CodeField} (c : Equation k) where
       )) P.side P.generators e h
 
   pub lies_over_once : (P : Place (FunctionOf c)) (p q : Polynomial k) → IsPlace (setting_of c) P
-      → IsIrreducible k.ops (codes_of k p)
-      → IsIrreducible k.ops (codes_of k q) → LiesOver (setting_of c) P (of_poly c p)
+      → IsIrreducibleList k.ops (codes_of k p)
+      → IsIrreducibleList k.ops (codes_of k q) → LiesOver (setting_of c) P (of_poly c p)
       → LiesOver (setting_of c) P (of_poly c q) → p ≡ q
   lies_over_once P p q h i j m n =
       by_side (λ P. IsPlace (setting_of c) P → IsIn (setting_of c) P (of_poly c p)

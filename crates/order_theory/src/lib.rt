@@ -11,7 +11,7 @@ ghost use Rattle.std.proofs.Common.{pos};
 ghost use Rattle.ring_theory.specs.Subsets.{IsModule, Product};
 ghost use Rattle.ring_theory.specs.Local.{Locally};
 ghost use Rattle.ff_fields.specs.Field.{CodeField};
-ghost use Rattle.ff_poly.specs.Words.{IsIrreducible};
+ghost use Rattle.ff_poly.specs.Words.{IsIrreducibleList};
 ghost use Rattle.ff_poly.specs.Polynomials.{Polynomial, polynomials, codes_of};
 ghost use Rattle.function_field.specs.declared.side.Side.TheVariants.{Finite};
 ghost use Rattle.function_field.specs.Functions.{Equation, FunctionOf, ring_of, of_poly, degree_of_y, setting_of};
@@ -60,14 +60,14 @@ pub fn integral_order_law()
 /// The integral functions that powers of an irreducible p take into an order are an order that is maximal at p. A
 /// lattice that is a ring is maximal at p exactly where it has each integral function up to a factor prime to p.
 pub fn local_order_law<S: FunctionSets>()
-    ensures order { (p : Polynomial S.field) → IsIrreducible S.field.ops (codes_of S.field p)
+    ensures order { (p : Polynomial S.field) → IsIrreducibleList S.field.ops (codes_of S.field p)
         → ¬ (discriminant S.equation ≡ (polynomials S.field).𝟘)
         → IsOrder S.equation S.first → IsOrder S.equation (TakenByPowers S.equation p S.first) }
-    ensures maximal { (p : Polynomial S.field) → IsIrreducible S.field.ops (codes_of S.field p)
+    ensures maximal { (p : Polynomial S.field) → IsIrreducibleList S.field.ops (codes_of S.field p)
         → IsOrder S.equation S.first
         → MaximalAt (ring_of S.equation).ops (of_poly S.equation p) (IsIntegralAt (setting_of S.equation) Finite)
         (TakenByPowers S.equation p S.first) }
-    ensures locally { (p : Polynomial S.field) → IsIrreducible S.field.ops (codes_of S.field p)
+    ensures locally { (p : Polynomial S.field) → IsIrreducibleList S.field.ops (codes_of S.field p)
         → IsLattice S.equation S.first
         → MaximalAt (ring_of S.equation).ops (of_poly S.equation p) (IsIntegralAt (setting_of S.equation) Finite)
         S.first
@@ -80,7 +80,7 @@ pub fn local_order_law<S: FunctionSets>()
 pub fn inverse_law<S: FunctionSets>()
     ensures { IsOrder S.equation S.first → IsLattice S.equation S.second
         → IsModule (ring_of S.equation).ops S.first S.second
-        → ((p : Polynomial S.field) → IsIrreducible S.field.ops (codes_of S.field p)
+        → ((p : Polynomial S.field) → IsIrreducibleList S.field.ops (codes_of S.field p)
         → MaximalAt (ring_of S.equation).ops (of_poly S.equation p) (IsIntegralAt (setting_of S.equation) Finite)
         S.first ⊎ IsOrderUpTo S.equation p S.first S.second)
         → Invertible (ring_of S.equation).ops S.first S.second }
@@ -98,10 +98,10 @@ pub fn product_index_law<S: FunctionSets>()
 pub fn lies_over_law()
     ensures over { (k : CodeField) (c : Equation k) (P : Place (FunctionOf c)) → IsPlace (setting_of c) P → P.side
         ≡ Finite
-        → (p : Polynomial k) × IsIrreducible k.ops (codes_of k p) × LiesOver (setting_of c) P (of_poly c p) }
+        → (p : Polynomial k) × IsIrreducibleList k.ops (codes_of k p) × LiesOver (setting_of c) P (of_poly c p) }
     ensures once { (k : CodeField) (c : Equation k) (P : Place (FunctionOf c)) (p q : Polynomial k)
         → IsPlace (setting_of c) P
-        → IsIrreducible k.ops (codes_of k p) → IsIrreducible k.ops (codes_of k q)
+        → IsIrreducibleList k.ops (codes_of k p) → IsIrreducibleList k.ops (codes_of k q)
         → LiesOver (setting_of c) P (of_poly c p) → LiesOver (setting_of c) P (of_poly c q)
         → p ≡ q }
 {}
@@ -128,7 +128,7 @@ pub fn finite_place_law()
 /// degree of p.
 pub fn places_over_law()
     ensures { (k : CodeField) (c : Equation k) (p : Polynomial k) → ¬ (discriminant c ≡ (polynomials k).𝟘)
-        → IsIrreducible k.ops (codes_of k p)
+        → IsIrreducibleList k.ops (codes_of k p)
         → (ps : List (PlaceOver (setting_of c) (of_poly c p))) × IsAllOver (setting_of c) (of_poly c p) ps
         × (sum_of_degrees (setting_of c) (of_poly c p) ps ≡ degree_of_y c * (length p.0 - 1)) }
 {}

@@ -12,7 +12,7 @@ use Rattle.linear_theory.specs.Euclidean.{IsDivisorIn}
 use Rattle.ff_fields.specs.Field.{CodeField}
 use Rattle.ff_fields.specs.Code.{code_ring, code_domain, raw_ring}
 use Rattle.ff_fields.specs.Over.{IsOver}
-use Rattle.ff_poly.specs.Words.{IsPoly, IsMonic, Divides, product_of}
+use Rattle.ff_poly.specs.Words.{IsPoly, IsMonic, DividesList, product_of}
 use Rattle.ff_poly.specs.PolyOver.{IsOver_product_of, IsPoly_poly_of}
 use Rattle.ff_poly.specs.Value.{value, same_from_value, value_product}
 use Rattle.ff_poly.specs.Polynomials.{Polynomial, polynomials, value_not_zero, codes_of, IsOver_codes_of, IsPoly_codes_of, value_codes_of}
@@ -32,11 +32,11 @@ module _ (k : CodeField) where
   some_value d d_in d_poly some = value_not_zero k d d_in d_poly (λ e. let l = ap length e in absurd (omega arith))
 
   -- what divides as a list divides in k[x]
-  pub divisor_of_divides : (b a : List ℕ) → IsOver k.ops b → (d : Divides k.ops b a) → value k a ≡ value k b ⊗ value k d.quotient
+  pub divisor_of_divides : (b a : List ℕ) → IsOver k.ops b → (d : DividesList k.ops b a) → value k a ≡ value k b ⊗ value k d.quotient
   divisor_of_divides b a b_in d = ap (value k) d.product ∙ value_product k b d.quotient b_in d.quotient_in
 
   -- what divides in k[x] divides as a list
-  pub divides_of_divisor : (b a : List ℕ) → IsOver k.ops b → IsOver k.ops a → IsPoly a → IsDivisorIn (polynomials k).ops (value k b) (value k a) → Divides k.ops b a
+  pub divides_of_divisor : (b a : List ℕ) → IsOver k.ops b → IsOver k.ops a → IsPoly a → IsDivisorIn (polynomials k).ops (value k b) (value k a) → DividesList k.ops b a
   divides_of_divisor b a b_in a_in a_poly d = record {
     quotient = codes_of k d.0;
     quotient_in = IsOver_codes_of k d.0;

@@ -9,12 +9,12 @@ use Rattle.ring_theory.specs.Polynomials.{constant}
 use Rattle.ring_theory.proofs.Evaluate.{constant_hom}
 use Rattle.ring_theory.proofs.Lists.{coeff_trim}
 use Rattle.ring_theory.proofs.Polynomials.{series_mul, length_product}
-use Rattle.linear_theory.specs.Euclidean.{IsDivisorIn, IsUnit, Bezout, IsIrreducible as IsIrreducibleIn}
+use Rattle.linear_theory.specs.Euclidean.{IsDivisorIn, IsUnit, Bezout, IsIrreducible}
 use Rattle.linear_theory.proofs.Euclid.{euclid, decide_divisor, bezout}
 use Rattle.ff_fields.specs.Field.{CodeField}
 use Rattle.ff_fields.specs.Code.{Code, code_ring, code_field, code_domain}
 use Rattle.ff_fields.specs.Numbers.{numbers}
-use Rattle.ff_poly.specs.Words.{IsIrreducible, IsMonic}
+use Rattle.ff_poly.specs.Words.{IsIrreducibleList, IsMonic}
 use Rattle.ff_fields.specs.Over.{IsOver}
 use Rattle.ff_poly.specs.Value.{value, numbers_value}
 use Rattle.ff_poly.specs.Polynomials.{Polynomial, polynomials, polynomials_domain, polynomial_discrete, codes_of, IsOver_codes_of, IsPoly_codes_of, codes_of_product, value_codes_of}
@@ -125,7 +125,7 @@ module _ (k : CodeField) where
       inverse : (u : Code k) × ((code_ring k).◌⊗◌ (top_of d) u ≡ (code_ring k).𝟙)
       inverse = (code_field k).inverse (top_of d) (top_not_zero k d (some_long k d d_some))
 
-  module _ (p : Polynomial k) (h : IsIrreducible k.ops (codes_of k p)) where
+  module _ (p : Polynomial k) (h : IsIrreducibleList k.ops (codes_of k p)) where
     p_long : 2 ≤ length p.0
     p_long = subst (λ n. 2 ≤ n) (length_codes p) h.not_constant
 
@@ -174,7 +174,7 @@ module _ (k : CodeField) where
               product = ap (codes_of k) whole ∙ codes_of_product k m (T ⊗ e);
             }))
 
-    pub irreducible : IsIrreducibleIn (euclidean k) p
+    pub irreducible : IsIrreducible (euclidean k) p
     irreducible = record {
       nonzero = p_some;
       nonunit = λ u. let l = unit_length p u.0 u.1 in let m = p_long in absurd (omega arith);
@@ -192,11 +192,11 @@ module _ (k : CodeField) where
     irreducible_some = p_some
 
   -- the same for a list of codes
-  module _ (p : List ℕ) (p_in : IsOver k.ops p) (h : IsIrreducible k.ops p) where
-    codes : IsIrreducible k.ops (codes_of k (value k p))
-    codes = subst (IsIrreducible k.ops) (sym (numbers_value k p p_in (monic_poly k p h.monic))) h
+  module _ (p : List ℕ) (p_in : IsOver k.ops p) (h : IsIrreducibleList k.ops p) where
+    codes : IsIrreducibleList k.ops (codes_of k (value k p))
+    codes = subst (IsIrreducibleList k.ops) (sym (numbers_value k p p_in (monic_poly k p h.monic))) h
 
-    pub irreducible_list : IsIrreducibleIn (euclidean k) (value k p)
+    pub irreducible_list : IsIrreducible (euclidean k) (value k p)
     irreducible_list = irreducible (value k p) codes
 
     pub prime_list : (a b : Polynomial k) → IsDivisorIn (polynomials k).ops (value k p) (a ⊗ b)

@@ -11,7 +11,7 @@ use Rattle.ff_fields.specs.Numbers.{numbers, read, numbers_read, IsOver_numbers}
 use Rattle.ff_fields.specs.Over.{IsOver, IsOver_nil, IsOver_cons, IsOver_head, IsOver_tail, IsOver_append}
 use Rattle.linear_theory.specs.Euclidean.{IsDivisorIn, IsUnit}
 use Rattle.linear_theory.proofs.Euclid.{divisor_trans, decide_divisor}
-use Rattle.ff_poly.specs.Words.{IsMonic, IsIrreducible, Divides}
+use Rattle.ff_poly.specs.Words.{IsMonic, IsIrreducibleList, DividesList}
 use Rattle.ff_poly.specs.Value.{value}
 use Rattle.ff_poly.specs.Polynomials.{Polynomial, polynomials}
 use Rattle.polynomial_theory.proofs.ListValues.{length_value, monic_poly}
@@ -157,7 +157,7 @@ module _ (k : CodeField) where
   pub record IrreducibleDivisor (d : Polynomial k) : Type 0 where
     pub codes : List ℕ
     pub over : IsOver k.ops codes
-    pub irreducible : IsIrreducible k.ops codes
+    pub irreducible : IsIrreducibleList k.ops codes
     pub divides : IsDivisorIn R.ops (value k codes) d
 
   pub irreducible_divisor : (n : ℕ) (d : Polynomial k) → 2 ≤ length d.0 → length d.0 < n → ¬ (d ≡ 𝟘) → IrreducibleDivisor d
@@ -191,7 +191,7 @@ module _ (k : CodeField) where
           divides : IsDivisorIn R.ops (value k m.codes) d
           divides = (m.inverse, sym (R.mul_one d) ∙ R.mul_comm d 𝟙 ∙ ap (λ w. w ⊗ d) (sym m.inverts) ∙ R.mul_assoc m.inverse m.factor d ∙ ap (λ w. m.inverse ⊗ w) (sym m.is) ∙ R.mul_comm m.inverse (value k m.codes))
 
-          no_divisor : (b : List ℕ) → IsOver k.ops b → IsMonic b → 2 ≤ length b → length b < length m.codes → ¬ Divides k.ops b m.codes
+          no_divisor : (b : List ℕ) → IsOver k.ops b → IsMonic b → 2 ≤ length b → length b < length m.codes → ¬ DividesList k.ops b m.codes
           no_divisor b b_in b_monic b_long b_short h =
               none (
                 length b - 1,
@@ -207,7 +207,7 @@ module _ (k : CodeField) where
               )
 
   -- an irreducible polynomial that divides another one is that one
-  pub irreducible_unique : (p q : List ℕ) → IsOver k.ops p → IsIrreducible k.ops p → IsOver k.ops q → IsIrreducible k.ops q → IsDivisorIn R.ops (value k p) (value k q) → p ≡ q
+  pub irreducible_unique : (p q : List ℕ) → IsOver k.ops p → IsIrreducibleList k.ops p → IsOver k.ops q → IsIrreducibleList k.ops q → IsDivisorIn R.ops (value k p) (value k q) → p ≡ q
   irreducible_unique p q p_in p_irreducible q_in q_irreducible d =
       monic_unique k p q p_in q_in p_irreducible.monic q_irreducible.monic d
       (cofactor.0, sym (R.mul_one (value k p)) ∙ ap (λ x. value k p ⊗ x) (sym cofactor.1) ∙ sym (R.mul_assoc (value k p) d.0 cofactor.0) ∙ ap (λ x. x ⊗ cofactor.0) (sym d.1))

@@ -6,7 +6,7 @@ ghost use Rattle.std.specs.Prelude.{◌≡◌, ℕ, ◌≤◌, ◌⊎◌, List, 
 ghost use Rattle.ff_fields.specs.Field.{CodeField};
 ghost use Rattle.ff_fields.specs.Code.{code_ring};
 ghost use Rattle.ff_fields.specs.Over.{IsOver};
-ghost use Rattle.ff_poly.specs.Words.{IsMonic, IsIrreducible};
+ghost use Rattle.ff_poly.specs.Words.{IsMonic, IsIrreducibleList};
 ghost use Rattle.ff_poly.specs.Value.{value};
 ghost use Rattle.ff_poly.specs.Polynomials.{Polynomial, polynomials};
 ghost use Rattle.linear_theory.specs.Euclidean.{IsDivisorIn, Bezout};
@@ -20,21 +20,21 @@ pub fn division_law()
 
 /// An irreducible polynomial that divides a product divides a factor.
 pub fn prime_law()
-    ensures { (k : CodeField) (p : List ℕ) → IsOver k.ops p → IsIrreducible k.ops p → (a b : Polynomial k)
+    ensures { (k : CodeField) (p : List ℕ) → IsOver k.ops p → IsIrreducibleList k.ops p → (a b : Polynomial k)
         → IsDivisorIn (polynomials k).ops (value k p) ((polynomials k).◌⊗◌ a b)
         → IsDivisorIn (polynomials k).ops (value k p) a ⊎ IsDivisorIn (polynomials k).ops (value k p) b }
 {}
 
 /// What an irreducible polynomial doesn't divide has an inverse modulo it: a combination of the two is 1.
 pub fn inverse_law()
-    ensures { (k : CodeField) (p : List ℕ) → IsOver k.ops p → IsIrreducible k.ops p → (a : Polynomial k)
+    ensures { (k : CodeField) (p : List ℕ) → IsOver k.ops p → IsIrreducibleList k.ops p → (a : Polynomial k)
         → ¬ IsDivisorIn (polynomials k).ops (value k p) a → Bezout (polynomials k).ops a (value k p) }
 {}
 
 /// Each polynomial of degree 1 or more has an irreducible divisor.
 pub fn irreducible_divisor_law()
     ensures { (k : CodeField) (a : Polynomial k) → 2 ≤ length a.0
-        → (p : List ℕ) × IsOver k.ops p × IsIrreducible k.ops p × IsDivisorIn (polynomials k).ops (value k p) a }
+        → (p : List ℕ) × IsOver k.ops p × IsIrreducibleList k.ops p × IsDivisorIn (polynomials k).ops (value k p) a }
 {}
 
 /// Monic polynomials that divide each other are the same.

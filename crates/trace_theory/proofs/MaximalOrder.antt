@@ -9,7 +9,7 @@ use Rattle.prime_theory.proofs.IntegralRing.{integral_base}
 use Rattle.linear_theory.specs.Euclidean.{IsDivisorIn, Bezout}
 use Rattle.linear_theory.proofs.Euclid.{bezout, decide_divisor}
 use Rattle.ff_fields.specs.Field.{CodeField}
-use Rattle.ff_poly.specs.Words.{IsIrreducible}
+use Rattle.ff_poly.specs.Words.{IsIrreducibleList}
 use Rattle.ff_poly.specs.Polynomials.{Polynomial, polynomials, polynomials_domain, codes_of}
 use Rattle.function_field.specs.declared.side.Side.TheVariants.{Finite}
 use Rattle.function_field.specs.Places.{IsIntegralAt}
@@ -54,7 +54,7 @@ module _ {k : CodeField} (c : Equation k) (O : FunctionOf c → Type 0) (𝓞 : 
       sum l a r b w e =
           from_one (ring_of c) w e (ring (ring_of c) (l ∷ a ∷ r ∷ b ∷ w ∷ []) λ q h. simp (reads, q, h 0, h 1, h 2, h 3, h 4) (q.equal _ _ refl))
 
-  module _ (p : Polynomial k) (h : IsIrreducible k.ops (codes_of k p)) where
+  module _ (p : Polynomial k) (h : IsIrreducibleList k.ops (codes_of k p)) where
     decide : (a b : Polynomial k) → ¬ (b ≡ (polynomials k).𝟘) → Dec (IsDivisorIn (polynomials k).ops b a)
     decide a b n = decide_divisor (euclidean k) b a n
 
@@ -89,17 +89,17 @@ module _ {k : CodeField} (c : Equation k) (O : FunctionOf c → Type 0) (𝓞 : 
   abbrev SupportedAt : Polynomial k → Type 0
   SupportedAt p = IsDivisorIn (polynomials k).ops ((polynomials k).◌⊗◌ p p) (discriminant c) → MaximalAt (ring_of c).ops (of_poly c p) Int O
 
-  cleared : (ps : List (Polynomial k)) → All (λ p. IsIrreducible k.ops (codes_of k p)) ps → All SupportedAt ps
+  cleared : (ps : List (Polynomial k)) → All (λ p. IsIrreducibleList k.ops (codes_of k p)) ps → All SupportedAt ps
       → (z : FunctionOf c) → Int z → O (of_poly c (polynomial_product k ps) ⊗ z) → O z
   cleared [] h m z z_int z_in = subst O (ap (λ x. x ⊗ z) (sym (of_poly_one c)) ∙ one_mul (ring_of c) z) z_in
   cleared (p ∷ ps) h m z z_int z_in =
-      cleared ps (All-tail (λ p. IsIrreducible k.ops (codes_of k p)) p ps h) (All-tail SupportedAt p ps m) z z_int
-      (step p (All-head (λ p. IsIrreducible k.ops (codes_of k p)) p ps h) (All-head SupportedAt p ps m) (of_poly c (polynomial_product k ps) ⊗ z)
+      cleared ps (All-tail (λ p. IsIrreducibleList k.ops (codes_of k p)) p ps h) (All-tail SupportedAt p ps m) z z_int
+      (step p (All-head (λ p. IsIrreducibleList k.ops (codes_of k p)) p ps h) (All-head SupportedAt p ps m) (of_poly c (polynomial_product k ps) ⊗ z)
       (integral_times c (of_poly c (polynomial_product k ps)) z (polynomial_integral (polynomial_product k ps)) z_int)
       (subst O (ap (λ x. x ⊗ z) ((poly_hom c).mul p (polynomial_product k ps)) ∙ (ring_of c).mul_assoc _ _ _) z_in))
 
   pub maximal_order : (ps : List (Polynomial k)) → IsDivisorIn (polynomials k).ops (discriminant c) (polynomial_product k ps)
-      → All (λ p. IsIrreducible k.ops (codes_of k p)) ps → All SupportedAt ps → (z : FunctionOf c) → Int z → O z
+      → All (λ p. IsIrreducibleList k.ops (codes_of k p)) ps → All SupportedAt ps → (z : FunctionOf c) → Int z → O z
   maximal_order ps (u, is) h m z z_int =
       cleared ps h m z z_int
       (subst O

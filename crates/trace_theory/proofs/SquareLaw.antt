@@ -9,7 +9,7 @@ use Rattle.ring_theory.proofs.Solver.{ring, reads, from_two}
 use Rattle.linear_theory.specs.Euclidean.{IsDivisorIn}
 use Rattle.linear_theory.proofs.Domain.{least}
 use Rattle.ff_fields.specs.Field.{CodeField}
-use Rattle.ff_poly.specs.Words.{IsIrreducible}
+use Rattle.ff_poly.specs.Words.{IsIrreducibleList}
 use Rattle.ff_poly.specs.Polynomials.{Polynomial, polynomials, polynomials_domain, codes_of}
 use Rattle.function_field.specs.Functions.{Equation, FunctionOf, ring_of, row_of, of_poly, over, y_of, trace_of, degree_of_y, IsPolynomial, setting_of}
 use Rattle.function_field.specs.declared.side.Side.TheVariants.{Finite}
@@ -29,7 +29,7 @@ use Rattle.trace_theory.proofs.Reduced.{den_clears}
 use Rattle.trace_theory.proofs.IntegralLaw.{integral_trace, integral_traces, integral_times}
 use Rattle.polynomial_theory.proofs.Irreducible.{decide_divides, prime, irreducible_some}
 
-module _ {k : CodeField} (c : Equation k) (p : Polynomial k) (h : IsIrreducible k.ops (codes_of k p)) where
+module _ {k : CodeField} (c : Equation k) (p : Polynomial k) (h : IsIrreducibleList k.ops (codes_of k p)) where
   infixl 70 ◌⊗◌
   open ring_of c use {◌⊗◌}
 

@@ -10,7 +10,7 @@ ghost use Rattle.ring_theory.specs.Sums.{sum_below, trace};
 ghost use Rattle.ring_theory.specs.Determinant.{determinant};
 ghost use Rattle.ff_fields.specs.Field.{CodeField};
 ghost use Rattle.linear_theory.specs.Euclidean.{IsDivisorIn};
-ghost use Rattle.ff_poly.specs.Words.{IsIrreducible, IsPoly};
+ghost use Rattle.ff_poly.specs.Words.{IsIrreducibleList, IsPoly};
 ghost use Rattle.ff_poly.specs.Polynomials.{Polynomial, polynomials, codes_of, x_poly};
 ghost use Rattle.ff_poly.specs.Value.{value};
 ghost use Rattle.function_field.specs.Functions.{Equation, FunctionOf, ring_of, of_poly, y_of, trace_of, degree_of_y, setting_of, IsPolynomial, IsScalar};
@@ -126,12 +126,12 @@ pub fn integral_trace_law()
 /// polynomials, the square of p divides the discriminant. So where it doesn't, k[x][y] is maximal at p: it has each integral function that
 /// a power of p takes into it.
 pub fn square_law()
-    ensures square { (k : CodeField) (c : Equation k) (p : Polynomial k) (z : FunctionOf c) → IsIrreducible k.ops (codes_of k p)
+    ensures square { (k : CodeField) (c : Equation k) (p : Polynomial k) (z : FunctionOf c) → IsIrreducibleList k.ops (codes_of k p)
         → HasPolynomialCoordinates c ((ring_of c).◌⊗◌ (of_poly c p) z) → ¬ HasPolynomialCoordinates c z
         → ((i : ℕ) → i < degree_of_y c → IsPolynomial c (trace_of c ((ring_of c).◌⊗◌ z (pow (ring_of c).ops (y_of c) i))))
         → IsPolynomial c (trace_of c ((ring_of c).◌⊗◌ z z))
         → IsDivisorIn (polynomials k).ops ((polynomials k).◌⊗◌ p p) (discriminant c) }
-    ensures maximal { (k : CodeField) (c : Equation k) (p : Polynomial k) → IsIrreducible k.ops (codes_of k p)
+    ensures maximal { (k : CodeField) (c : Equation k) (p : Polynomial k) → IsIrreducibleList k.ops (codes_of k p)
         → ¬ IsDivisorIn (polynomials k).ops ((polynomials k).◌⊗◌ p p) (discriminant c)
         → MaximalAt (ring_of c).ops (of_poly c p) (IsIntegralAt (setting_of c) Finite) (HasPolynomialCoordinates c) }
 {}
@@ -142,7 +142,7 @@ pub fn maximal_order_law<C: Overring>()
     ensures { (ps : List (Polynomial C.field)) → IsSubring (ring_of C.equation).ops C.members
         → ((z : FunctionOf C.equation) → HasPolynomialCoordinates C.equation z → C.members z)
         → IsDivisorIn (polynomials C.field).ops (discriminant C.equation) (polynomial_product C.field ps)
-        → All (λ p. IsIrreducible C.field.ops (codes_of C.field p)) ps
+        → All (λ p. IsIrreducibleList C.field.ops (codes_of C.field p)) ps
         → All (λ p. IsDivisorIn (polynomials C.field).ops ((polynomials C.field).◌⊗◌ p p) (discriminant C.equation)
         → MaximalAt (ring_of C.equation).ops (of_poly C.equation p) (IsIntegralAt (setting_of C.equation) Finite) C.members) ps
         → (z : FunctionOf C.equation) → IsIntegralAt (setting_of C.equation) Finite z → C.members z }

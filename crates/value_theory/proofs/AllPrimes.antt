@@ -8,13 +8,13 @@ use Rattle.prime_theory.specs.Ideals.{SameSet, Power}
 use Rattle.prime_theory.proofs.Lists.{pairs_head, pairs_tail}
 use Rattle.ff_fields.specs.Field.{CodeField}
 use Rattle.ff_fields.specs.Over.{IsOver}
-use Rattle.ff_poly.specs.Words.{IsIrreducible}
+use Rattle.ff_poly.specs.Words.{IsIrreducibleList}
 use Rattle.ff_poly.specs.Value.{value}
 use Rattle.function_field.specs.Values.{PresValue, Functions, functions, equation_of}
 use Rattle.ideal_theory.specs.Records.{RowSpan, RecordedPrime, ProductOfPowers, sum_of_record, IsRecordAt}
 use Rattle.ideal_theory.proofs.OrderPlaces.{order_places}
 use Rattle.ff_lattice.specs.Lattices.{LatticeValue, Contains}
-use Rattle.ff_lattice.specs.Orders.{IsOrder}
+use Rattle.ff_lattice.specs.Orders.{IsOrderLattice}
 use Rattle.ff_lattice.proofs.OneForm.{one_form}
 use Rattle.ff_lattice.proofs.Scaled.{value_length}
 use Rattle.value_theory.specs.Laws.{AreRecordsOf, IsRecordOfPrimes}
@@ -22,7 +22,7 @@ use Rattle.value_theory.specs.Primes.{PrimeValue, IsPrimeOf, AreAllPrimes, Produ
 use Rattle.value_theory.proofs.Bridge.{order_set, irreducible_poly, irreducible_value}
 use Rattle.value_theory.proofs.Primes.{recorded, recorded_is}
 
-module _ (k : CodeField) (q : PresValue) (positive : 0 < q.n) (o : LatticeValue) (order : IsOrder k q o) where
+module _ (k : CodeField) (q : PresValue) (positive : 0 < q.n) (o : LatticeValue) (order : IsOrderLattice k q o) where
   abbrev T : PrimeValue → Type 0
   T = IsPrimeOf k q o
 
@@ -80,7 +80,7 @@ module _ (k : CodeField) (q : PresValue) (positive : 0 < q.n) (o : LatticeValue)
       ap (Product (functions k q).ops (Power (functions k q).ops (Contains k q o) (Contains k q P.rows) P.e))
       (products Ps (All-tail T P Ps h))
 
-  module _ (pi : List ℕ) (pi_in : IsOver k.ops pi) (irreducible : IsIrreducible k.ops pi) (Ps : List PrimeValue)
+  module _ (pi : List ℕ) (pi_in : IsOver k.ops pi) (irreducible : IsIrreducibleList k.ops pi) (Ps : List PrimeValue)
       (h : AreAllPrimes k q o pi Ps) where
     pub record_is : IsRecordAt (equation_of k q) (Contains k q o) (value k pi) (records Ps h.primes)
     record_is = record {

@@ -3,7 +3,7 @@ use Rattle.std.proofs.Common.{◌≡◌, ℕ, ◌<◌, ◌↔◌, List, [], leng
 use Rattle.ring_theory.proofs.Ring.{neg_mul, one_mul}
 use Rattle.ff_fields.specs.Field.{CodeField}
 use Rattle.ff_fields.specs.Over.{IsOver}
-use Rattle.ff_poly.specs.Words.{IsPoly, IsIrreducible}
+use Rattle.ff_poly.specs.Words.{IsPoly, IsIrreducibleList}
 use Rattle.ff_poly.specs.Value.{value, numbers_value}
 use Rattle.ff_poly.specs.Polynomials.{polynomials, codes_of, value_not_zero}
 use Rattle.function_field.specs.Values.{PresValue, Functions, functions, equation_of}
@@ -12,7 +12,7 @@ use Rattle.lattice_theory.specs.Lattices as theory
 use Rattle.lattice_theory.proofs.Lattices.{lattice_module}
 use Rattle.order_theory.specs.Orders as theory_orders
 use Rattle.ff_lattice.specs.Lattices.{LatticeValue, IsLattice, Contains, IsFull}
-use Rattle.ff_lattice.specs.Orders.{IsOrder}
+use Rattle.ff_lattice.specs.Orders.{IsOrderLattice}
 use Rattle.ff_lattice.specs.Colons.{IsColon}
 use Rattle.value_theory.specs.Laws.{row_functions}
 use Rattle.ff_lattice.proofs.Normal.{monic_poly}
@@ -36,7 +36,7 @@ module _ (k : CodeField) (p : PresValue) where
     pub lattice_set : (l : LatticeValue) → IsLattice k.ops p.n l → theory.IsLattice (equation_of k p) (Contains k p l)
     lattice_set l form = full_lattice l (lattice_full k p l positive form)
 
-    pub order_set : (l : LatticeValue) → IsOrder k p l → theory_orders.IsOrder (equation_of k p) (Contains k p l)
+    pub order_set : (l : LatticeValue) → IsOrderLattice k p l → theory_orders.IsOrder (equation_of k p) (Contains k p l)
     order_set l order =
         let 𝓜 = lattice_module (equation_of k p) (Contains k p l) (lattice_set l order.lattice) in
         let 𝓢 = polynomials_subring (equation_of k p) in
@@ -56,7 +56,7 @@ module _ (k : CodeField) (p : PresValue) where
 
   -- the functions that take a lattice into itself are an order
   pub colon_order : (i l : LatticeValue) → IsLattice k.ops p.n l
-      → ((z : Functions k p) → Contains k p l z ↔ IsColon k p i i z) → IsOrder k p l
+      → ((z : Functions k p) → Contains k p l z ↔ IsColon k p i i z) → IsOrderLattice k p l
   colon_order i l form members = record {
     lattice = form;
     one_in = (members (functions k p).𝟙).1 (λ w w_in. subst (Contains k p i) (sym (one_mul (functions k p) w)) w_in);
@@ -67,15 +67,15 @@ module _ (k : CodeField) (p : PresValue) where
   }
 
 -- an irreducible list of codes is an irreducible polynomial
-module _ (k : CodeField) (pi : List ℕ) (over : IsOver k.ops pi) (irreducible : IsIrreducible k.ops pi) where
+module _ (k : CodeField) (pi : List ℕ) (over : IsOver k.ops pi) (irreducible : IsIrreducibleList k.ops pi) where
   pub irreducible_poly : IsPoly pi
   irreducible_poly = monic_poly pi irreducible.monic
 
   pub irreducible_some : ¬ (pi ≡ [])
   irreducible_some e = absurd (let l = irreducible.not_constant in omega (arith, ap length e))
 
-  pub irreducible_value : IsIrreducible k.ops (codes_of k (value k pi))
-  irreducible_value = subst (IsIrreducible k.ops) (sym (numbers_value k pi over irreducible_poly)) irreducible
+  pub irreducible_value : IsIrreducibleList k.ops (codes_of k (value k pi))
+  irreducible_value = subst (IsIrreducibleList k.ops) (sym (numbers_value k pi over irreducible_poly)) irreducible
 
   pub irreducible_not_zero : ¬ (value k pi ≡ (polynomials k).𝟘)
   irreducible_not_zero = value_not_zero k pi over irreducible_poly irreducible_some

@@ -16,7 +16,7 @@ use Rattle.function_field.specs.Functions.{IsPolynomial, over}
 use Rattle.function_field.specs.Values.{PresValue, Functions, functions, function_of, equation_of}
 use Rattle.function_field.proofs.ScalarRings.{polynomials_subring}
 use Rattle.ff_lattice.specs.Lattices.{LatticeValue, Contains}
-use Rattle.ff_lattice.specs.Quotients.{QuotientValue, IsQuotient, IsIdeal, IsClassOf, HasClasses, dimension, lifted, codes_of_row, product_codes, quotient_ops}
+use Rattle.ff_lattice.specs.Quotients.{QuotientValue, IsQuotient, IsIdealLattice, IsClassOf, HasClasses, dimension, lifted, codes_of_row, product_codes, quotient_ops}
 use Rattle.ff_lattice.proofs.ClassAlgebras.{same_sym, same_trans}
 use Rattle.ff_lattice.proofs.Elements.{elem_over, in_span_of}
 use Rattle.ff_lattice.proofs.Spaces.{codes_row, codes_row_length, codes_row_over, read_codes_row}
@@ -37,7 +37,7 @@ module _ (k : CodeField) (p : PresValue) where
     pub closed_module : IsModule (functions k p).ops (Contains k p o) (Contains k p i)
     closed_module = let 𝓜 = members_module i in record { zero_in = 𝓜.zero_in; sum_in = 𝓜.sum_in; scale_in = closed }
 
-  pub ideal_set : (o i : LatticeValue) → IsIdeal k p o i
+  pub ideal_set : (o i : LatticeValue) → IsIdealLattice k p o i
       → theory.IsIdeal (functions k p).ops (Contains k p o) (Contains k p i)
   ideal_set o i h = let 𝓜 = members_module i in
       record { within = h.within; zero_in = 𝓜.zero_in; sum_in = 𝓜.sum_in; scale_in = h.closed }

@@ -8,7 +8,7 @@ use Rattle.function_field.specs.Functions.{of_poly}
 use Rattle.function_field.specs.Values.{PresValue, Functions, functions, equation_of}
 use Rattle.ideal_theory.specs.Records.{RecordedPrime}
 use Rattle.ff_lattice.specs.Lattices.{LatticeValue, Contains}
-use Rattle.ff_lattice.specs.Orders.{IsOrder}
+use Rattle.ff_lattice.specs.Orders.{IsOrderLattice}
 use Rattle.ff_lattice.proofs.PivotIndices.{lattice_over, index_is}
 use Rattle.value_theory.specs.Laws.{IsRecordOf, row_functions}
 use Rattle.value_theory.specs.Primes.{PrimeValue, IsPrimeOf}
@@ -16,7 +16,7 @@ use Rattle.value_theory.proofs.Bridge.{lattice_set, order_set}
 use Rattle.value_theory.proofs.Ideals.{members_module}
 use Rattle.value_theory.proofs.Indices.{same_index}
 
-module _ (k : CodeField) (q : PresValue) (positive : 0 < q.n) (o : LatticeValue) (order : IsOrder k q o)
+module _ (k : CodeField) (q : PresValue) (positive : 0 < q.n) (o : LatticeValue) (order : IsOrderLattice k q o)
     (P : PrimeValue) (prime : IsPrimeOf k q o P) where
   infixl 70 ◌⊗◌
   open functions k q use {𝟙, ◌⊗◌}

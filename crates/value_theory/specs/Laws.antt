@@ -15,7 +15,7 @@ use Rattle.ideal_theory.specs.Indices.{HasRelativeIndex}
 use Rattle.ideal_theory.specs.Records.{RecordedPrime, IsRecordAt, ArePrimesOfPlaces}
 use Rattle.ff_lattice.specs.Lattices.{LatticeValue, IsLattice, Contains, row_elems, pivot_degree_of}
 use Rattle.ff_lattice.specs.Indices.{HasIndex}
-use Rattle.ff_lattice.specs.Quotients.{QuotientValue, IsIdeal, quotient_ops}
+use Rattle.ff_lattice.specs.Quotients.{QuotientValue, IsIdealLattice, quotient_ops}
 use Rattle.value_theory.specs.Primes.{PrimeValue}
 
 -- the rows of a lattice, as functions
@@ -38,9 +38,9 @@ module _ (k : CodeField) (p : PresValue) where
 
   -- an ideal of an order of codes is one of the theory, and a module over the order
   pub record IdealsAsSets : Type 0 where
-    pub ideal : (o i : LatticeValue) → IsIdeal k p o i
+    pub ideal : (o i : LatticeValue) → IsIdealLattice k p o i
         → theory_ideals.IsIdeal (functions k p).ops (Contains k p o) (Contains k p i)
-    pub module_is : (o i : LatticeValue) → IsIdeal k p o i
+    pub module_is : (o i : LatticeValue) → IsIdealLattice k p o i
         → IsModule (functions k p).ops (Contains k p o) (Contains k p i)
 
   -- the record of a prime: its rows and those of its inverse, with its ramification index and its degree

@@ -12,7 +12,7 @@ use Rattle.function_field.specs.Functions.{of_poly}
 use Rattle.function_field.specs.Values.{PresValue, Functions, functions, equation_of}
 use Rattle.ff_lattice.specs.Lattices.{LatticeValue, IsLattice, Contains, pivot_degree_of}
 use Rattle.ff_lattice.specs.Colons.{IsColon}
-use Rattle.ff_lattice.specs.Quotients.{IsIdeal}
+use Rattle.ff_lattice.specs.Quotients.{IsIdealLattice}
 
 -- a side, the polynomial that the prime lies over, its number among the primes over that, its ramification index and
 -- its degree,
@@ -31,7 +31,7 @@ module _ (k : CodeField) (q : PresValue) (o : LatticeValue) where
   -- power that has the
   -- polynomial
   pub record IsPrimeOf (P : PrimeValue) : Type 0 where
-    pub ideal : IsIdeal k q o P.rows
+    pub ideal : IsIdealLattice k q o P.rows
     pub inverse_form : IsLattice k.ops q.n P.inverse
     pub maximal : IsMaximalIdeal (functions k q).ops (Contains k q o) (Contains k q P.rows)
     pub over : Contains k q P.rows (of_poly (equation_of k q) (value k P.p))

@@ -6,7 +6,7 @@
 ghost use Rattle.std.specs.Prelude.{◌<◌, ℕ, List};
 ghost use Rattle.ff_fields.specs.Field.{CodeField};
 ghost use Rattle.ff_fields.specs.Over.{IsOver};
-ghost use Rattle.ff_poly.specs.Words.{IsIrreducible};
+ghost use Rattle.ff_poly.specs.Words.{IsIrreducibleList};
 ghost use Rattle.ff_poly.specs.Polynomials.{x_poly};
 ghost use Rattle.function_field.specs.declared.side.Side.TheVariants.{Infinite};
 ghost use Rattle.function_field.specs.Curves.{CurveValue, IsCurve};
@@ -14,7 +14,7 @@ ghost use Rattle.function_field.specs.Values.{PresValue, equation_of};
 ghost use Rattle.infinite_theory.specs.Supported.{IsSupportedAt};
 ghost use Rattle.ideal_theory.specs.Records.{RecordedPrime};
 ghost use Rattle.ff_lattice.specs.Lattices.{LatticeValue, Contains};
-ghost use Rattle.ff_lattice.specs.Orders.{IsOrder};
+ghost use Rattle.ff_lattice.specs.Orders.{IsOrderLattice};
 ghost use Rattle.ff_lattice.specs.Quotients.{QuotientValue, IsQuotient};
 ghost use Rattle.value_theory.specs.IntegralLattices.{IsIntegralLattice};
 ghost use Rattle.value_theory.specs.Primes.{PrimeValue, IsPrimeOf, AreAllPrimes};
@@ -38,7 +38,7 @@ pub fn field_law()
 
 /// A prime of an order gives a recorded prime: its rows, those of its inverse, its ramification index and its degree.
 pub fn prime_law()
-    ensures { (k : CodeField) (p : PresValue) (o : LatticeValue) (P : PrimeValue) → 0 < p.n → IsOrder k p o
+    ensures { (k : CodeField) (p : PresValue) (o : LatticeValue) (P : PrimeValue) → 0 < p.n → IsOrderLattice k p o
         → IsPrimeOf k p o P
         → (R : RecordedPrime (equation_of k p) (Contains k p o)) × IsRecordOf k p o P R }
 {}
@@ -48,8 +48,8 @@ pub fn prime_law()
 /// its degree.
 pub fn primes_law()
     ensures { (k : CodeField) (p : PresValue) (o : LatticeValue) (pi : List ℕ) (Ps : List PrimeValue) → 0 < p.n
-        → IsOrder k p o
-        → IsOver k.ops pi → IsIrreducible k.ops pi → AreAllPrimes k p o pi Ps
+        → IsOrderLattice k p o
+        → IsOver k.ops pi → IsIrreducibleList k.ops pi → AreAllPrimes k p o pi Ps
         → (Rs : List (RecordedPrime (equation_of k p) (Contains k p o))) × IsRecordOfPrimes k p o pi Ps Rs }
 {}
 

@@ -1,7 +1,7 @@
 use Rattle.std.proofs.Common.{All}
 use Rattle.ff_fields.specs.Over.{IsOver}
-use Rattle.ff_poly.specs.Words.{IsIrreducible}
+use Rattle.ff_poly.specs.Words.{IsIrreducibleList}
 use Rattle.cases_lattice.proofs.enlarged.primes.Given as goal
 
 abbrev pub invariant-loop-part : goal.invariant-loop-part
-invariant-loop-part g l = All (IsOver (g.K.SmallField.field l.k).ops) l.found.items × All (IsIrreducible (g.K.SmallField.field l.k).ops) l.found.items
+invariant-loop-part g l = All (IsOver (g.K.SmallField.field l.k).ops) l.found.items × All (IsIrreducibleList (g.K.SmallField.field l.k).ops) l.found.items

@@ -1,5 +1,5 @@
 use Rattle.std.proofs.Common.{sym, subst}
-use Rattle.ff_falg.specs.Algebras.{IsPrimitive}
+use Rattle.ff_falg.specs.Algebras.{IsPrimitiveVector}
 use Rattle.ff_falg.specs.Idempotents.{elements_of, IsPrimitiveList}
 use Rattle.ff_factor.specs.Pulls.{ArePrimesOf, IsPrimeList, IsSplitOff}
 use Rattle.ff_factor.specs.Quotients.{quotient_algebra}
@@ -26,7 +26,7 @@ primes_of-requires-clause-primitive g c =
     let k = g.K.SmallField.field c.args.k.now in
     let list : IsPrimitiveList k.ops (quotient_algebra c.in_ok-a.a) (elements_of c.as_slice.result.now)
     = subst (λ vs. IsPrimitiveList k.ops (quotient_algebra c.in_ok-a.a) (elements_of vs)) (sym c.as_slice.ensures.value) c.in_ok-found.ensures in
-    all_of_in (IsPrimitive k.ops (quotient_algebra c.in_ok-a.a)) (elements_of c.as_slice.result.now) (λ e i. (list.members e).0 i)
+    all_of_in (IsPrimitiveVector k.ops (quotient_algebra c.in_ok-a.a)) (elements_of c.as_slice.result.now) (λ e i. (list.members e).0 i)
 
 pub split_off-requires-clause-primes : goal.split_off-requires-clause-primes
 split_off-requires-clause-primes g c =

@@ -1,7 +1,7 @@
 use Rattle.std.proofs.Common.{take, arith, refl, sym, ◌∙◌, subst}
 use Rattle.std.proofs.lemmas.List.{take_all}
 use Rattle.ff_linalg.specs.Matrix.{row_of}
-use Rattle.ff_falg.specs.Algebras.{IsVector, IsFixed, IsIdempotent}
+use Rattle.ff_falg.specs.Algebras.{IsVector, IsFixedVector, IsIdempotentVector}
 use Rattle.ff_falg.specs.Relations.{IsBounded}
 use Rattle.ff_falg.specs.Splits.{IsSplitOnto}
 use Rattle.ff_falg.specs.Idempotents.{elements_of}
@@ -21,14 +21,14 @@ split-requires-clause-fixed g c =
     let k = g.K.SmallField.field c.args.k.now in
     let A = g.A.FiniteAlgebra.algebra c.args.a.now in
     let law = g.A.FiniteAlgebra.laws c.args.a.now k c.requires.over in
-    subst (IsFixed k.ops A) (sym c.row.ensures) (basis_fixed k A law c.args.basis.now c.requires.basis c.args.i c.requires.within)
+    subst (IsFixedVector k.ops A) (sym c.row.ensures) (basis_fixed k A law c.args.basis.now c.requires.basis c.args.i c.requires.within)
 
 pub split-requires-clause-idempotent : goal.split-requires-clause-idempotent
 split-requires-clause-idempotent g c =
     let k = g.K.SmallField.field c.args.k.now in
     let A = g.A.FiniteAlgebra.algebra c.args.a.now in
     let law = g.A.FiniteAlgebra.laws c.args.a.now k c.requires.over in
-    subst (IsIdempotent k.ops A) (sym c.as_slice.ensures.value)
+    subst (IsIdempotentVector k.ops A) (sym c.as_slice.ensures.value)
     (member_at k A law c.args.parts.now c.loop-e.e-index c.e-item.result c.e-item.is (omega arith) c.requires.splitting.orthogonal).0
 
 pub split-requires-clause-nonzero : goal.split-requires-clause-nonzero

@@ -1,6 +1,6 @@
 use Rattle.std.proofs.Common.{length, ◌-◌, ◌≡◌, ◌≢◌, ℕ, ◌<◌, ◌≤◌, slice_index}
 use Rattle.ff_fields.specs.Field.{pow_of}
-use Rattle.ff_fields.specs.Tables.{IsWritten}
+use Rattle.ff_fields.specs.Tables.{AreWrittenTables}
 use Rattle.ff_fields.proofs.table.write_powers.Given as goal
 
 abbrev pub invariant-loop-count : goal.invariant-loop-count
@@ -10,7 +10,7 @@ invariant-loop-count g l =
       codes_long : length l.codes ≡ k.size - 1;
       logs_long : length l.logs ≡ k.size;
       mark : slice_index l.logs 0 ≡ 65535;
-      written : IsWritten k.ops l.fn.g l.count l.codes l.logs;
+      written : AreWrittenTables k.ops l.fn.g l.count l.codes l.logs;
       power_is : l.power ≡ pow_of k.ops l.fn.g l.count;
       not_one : (i : ℕ) → 0 < i → i ≤ l.count → pow_of k.ops l.fn.g i ≢ 1;
       within : l.count ≤ k.size - 1;

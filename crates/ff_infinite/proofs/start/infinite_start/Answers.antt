@@ -4,7 +4,7 @@ use Rattle.function_field.specs.Values.{IsElem, Functions, equation_of, function
 use Rattle.trace_theory.specs.Traces.{HasPolynomialCoordinates}
 use Rattle.infinite_theory.specs.Supported.{IsSupportedAt}
 use Rattle.ff_lattice.specs.Lattices.{Contains, InSpanOf, IsFull}
-use Rattle.ff_lattice.specs.Orders.{IsOrder}
+use Rattle.ff_lattice.specs.Orders.{IsOrderLattice}
 use Rattle.ff_lattice.specs.Steps.{unit_row}
 use Rattle.ff_infinite.proofs.PowersOfY.{ArePowers, powers_more, powers_full, started, start_order, start_supported}
 use Rattle.ff_infinite.proofs.start.infinite_start.Goals as goal
@@ -42,7 +42,7 @@ of-requires g c =
     let s =
     started k q c.inf-p.result.now c.loop-i.i c.loop-i.powers.items c.deref.result.now c.in_ok-l.l c.inf-p.ensures c.deref.ensures.value c.loop-i.invariant all positive
     c.in_ok-l.ensures.form c.in_ok-l.ensures.members in
-    subst (λ q. IsOrder k q c.in_ok-l.l) (sym c.inf-p.ensures) (start_order k q c.in_ok-l.l s.1 s.0)
+    subst (λ q. IsOrderLattice k q c.in_ok-l.l) (sym c.inf-p.ensures) (start_order k q c.in_ok-l.l s.1 s.0)
 
 pub returns-clause-order : goal.returns-clause-order
 returns-clause-order g c =
@@ -54,7 +54,7 @@ returns-clause-order g c =
     let s =
     started k q c.inf-p.result.now c.loop-i.i c.loop-i.powers.items c.deref.result.now c.in_ok-l.l c.inf-p.ensures c.deref.ensures.value c.loop-i.invariant all positive
     c.in_ok-l.ensures.form c.in_ok-l.ensures.members in
-    subst (IsOrder k q) (sym c.of.ensures) (start_order k q c.in_ok-l.l s.1 s.0)
+    subst (IsOrderLattice k q) (sym c.of.ensures) (start_order k q c.in_ok-l.l s.1 s.0)
 
 pub returns-clause-members : goal.returns-clause-members
 returns-clause-members g c =

@@ -1,6 +1,6 @@
 use Rattle.std.proofs.Common.{subst, sym, All}
 use Rattle.ff_fields.specs.Over.{IsOver}
-use Rattle.ff_poly.specs.Words.{IsPoly, Divides}
+use Rattle.ff_poly.specs.Words.{IsPoly, DividesList}
 use Rattle.ff_poly.specs.Popov.{IsRow}
 use Rattle.ff_lattice.specs.Steps.{IsRowQuotient}
 use Rattle.ff_lattice.proofs.Pushes.{read_all}
@@ -19,7 +19,7 @@ row_quotient-requires-clause-row_poly g c =
 pub row_quotient-requires-clause-divides : goal.row_quotient-requires-clause-divides
 row_quotient-requires-clause-divides g c =
     let k = g.K.SmallField.field c.args.k.now in
-    subst (All (Divides k.ops c.args.g.now)) (sym c.deref.ensures.value) (read_all (All (Divides k.ops c.args.g.now)) c.args.rows.now c.loop-row.row-index c.row-item.result c.requires.divides c.loop-row-test.true c.row-item.is)
+    subst (All (DividesList k.ops c.args.g.now)) (sym c.deref.ensures.value) (read_all (All (DividesList k.ops c.args.g.now)) c.args.rows.now c.loop-row.row-index c.row-item.result c.requires.divides c.loop-row-test.true c.row-item.is)
 
 pub loop-row-preserved : goal.loop-row-preserved
 loop-row-preserved g c =

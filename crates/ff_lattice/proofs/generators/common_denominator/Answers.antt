@@ -1,6 +1,6 @@
 use Rattle.std.proofs.Common.{subst, All, arith}
 use Rattle.std.proofs.lemmas.List.{take_all}
-use Rattle.ff_poly.specs.Words.{Divides}
+use Rattle.ff_poly.specs.Words.{DividesList}
 use Rattle.ff_lattice.specs.Steps.{IsCommonMultiple}
 use Rattle.ff_lattice.proofs.CommonDenominators.{denominators_more}
 use Rattle.ff_lattice.proofs.generators.common_denominator.Goals as goal
@@ -18,4 +18,4 @@ loop-z-preserved g c =
 pub returns-clause-divides : goal.returns-clause-divides
 returns-clause-divides g c =
     let k = g.K.SmallField.field c.args.k.now in
-    subst (All (λ z. Divides k.ops z.den c.loop-z.e)) (take_all c.loop-z.z-index c.args.gens.now (omega arith)) c.loop-z.invariant.divides
+    subst (All (λ z. DividesList k.ops z.den c.loop-z.e)) (take_all c.loop-z.z-index c.args.gens.now (omega arith)) c.loop-z.invariant.divides

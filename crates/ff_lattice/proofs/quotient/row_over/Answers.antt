@@ -1,6 +1,6 @@
 use Rattle.std.proofs.Common.{sym, ap₂, ◌∙◌, subst, All}
 use Rattle.ff_fields.specs.Over.{IsOver}
-use Rattle.ff_poly.specs.Words.{IsPoly, Divides}
+use Rattle.ff_poly.specs.Words.{IsPoly, DividesList}
 use Rattle.ff_poly.specs.Popov.{multiple_of_row}
 use Rattle.ff_lattice.specs.Steps.{IsRowQuotient}
 use Rattle.ff_lattice.proofs.SpannedSets.{multiple_poly}
@@ -27,8 +27,8 @@ row_quotient-requires-clause-divides g c =
     let l = c.args.l.now in
     let z = c.args.z.now in
     let is = c.deref.ensures.value ∙ c.in_ok-v.ensures ∙ ap₂ (multiple_of_row k.ops) c.den.ensures.den c.num.ensures in
-    subst (λ d. All (Divides k.ops d) c.deref.result.now) (sym c.den-2.ensures.den)
-    (subst (All (Divides k.ops z.den)) (sym is) (divides_scaled k c.args.p.now l c.requires.l_form z c.requires.z_in c.den-2.ensures.monic c.requires.member))
+    subst (λ d. All (DividesList k.ops d) c.deref.result.now) (sym c.den-2.ensures.den)
+    (subst (All (DividesList k.ops z.den)) (sym is) (divides_scaled k c.args.p.now l c.requires.l_form z c.requires.z_in c.den-2.ensures.monic c.requires.member))
 
 pub returns : goal.returns
 returns g c =

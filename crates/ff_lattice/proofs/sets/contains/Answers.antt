@@ -3,7 +3,7 @@ use Rattle.std.specs.Prelude.{MatchOption}
 use Rattle.std.proofs.lemmas.List.{length-map}
 use Rattle.ff_fields.specs.Over.{IsOver}
 use Rattle.ff_poly.specs.Words.{product_of}
-use Rattle.ff_poly.specs.Popov.{rows_of, IsRow, IsPopov, InSpan, IsCombination, multiple_of_row}
+use Rattle.ff_poly.specs.Popov.{rows_of, IsRow, IsPopov, InSpan, IsCombinationList, multiple_of_row}
 use Rattle.ff_popov.proofs.Spans.{multiple_over}
 use Rattle.ff_lattice.proofs.Normal.{popov_poly, trimmed_rows}
 use Rattle.ff_lattice.proofs.Scaled.{popov_multiples}
@@ -67,8 +67,8 @@ returns g c =
     let size : length c.deref-2.result.now ≡ n = ap length v_is ∙ length-map z.num (product_of k.ops a.den) ∙ c.requires.z_in.one_each in
     let found = c.in_ok-found.found in
     let m =
-    subst (λ m. MatchOption found (¬ InSpan k.ops m (map (multiple_of_row k.ops z.den) a.rows) (multiple_of_row k.ops a.den z.num)) (λ x. IsCombination k.ops m (map (multiple_of_row k.ops z.den) a.rows) (multiple_of_row k.ops a.den z.num) x.items)) size
-    (subst (λ v. MatchOption found (¬ InSpan k.ops (length c.deref-2.result.now) (map (multiple_of_row k.ops z.den) a.rows) v) (λ x. IsCombination k.ops (length c.deref-2.result.now) (map (multiple_of_row k.ops z.den) a.rows) v x.items)) v_is
-    (subst (λ rows. MatchOption found (¬ InSpan k.ops (length c.deref-2.result.now) rows c.deref-2.result.now) (λ x. IsCombination k.ops (length c.deref-2.result.now) rows c.deref-2.result.now x.items)) rows_is
+    subst (λ m. MatchOption found (¬ InSpan k.ops m (map (multiple_of_row k.ops z.den) a.rows) (multiple_of_row k.ops a.den z.num)) (λ x. IsCombinationList k.ops m (map (multiple_of_row k.ops z.den) a.rows) (multiple_of_row k.ops a.den z.num) x.items)) size
+    (subst (λ v. MatchOption found (¬ InSpan k.ops (length c.deref-2.result.now) (map (multiple_of_row k.ops z.den) a.rows) v) (λ x. IsCombinationList k.ops (length c.deref-2.result.now) (map (multiple_of_row k.ops z.den) a.rows) v x.items)) v_is
+    (subst (λ rows. MatchOption found (¬ InSpan k.ops (length c.deref-2.result.now) rows c.deref-2.result.now) (λ x. IsCombinationList k.ops (length c.deref-2.result.now) rows c.deref-2.result.now x.items)) rows_is
     c.in_ok-found.ensures)) in
     contains_decided k n a z found c.is_some.result c.requires.a_form c.requires.z_in c.den-2.ensures.monic m c.is_some.ensures

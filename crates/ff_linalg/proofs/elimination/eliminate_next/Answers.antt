@@ -4,7 +4,7 @@ use Rattle.ff_linalg.proofs.elimination.eliminate_next.Goals as goal
 use Rattle.ff_fields.specs.Over.{IsOver}
 use Rattle.ff_linalg.specs.Matrix.{rows_in}
 use Rattle.ff_linalg.specs.Steps.{eliminated}
-use Rattle.ff_linalg.specs.Forms.{IsStep}
+use Rattle.ff_linalg.specs.Forms.{IsEliminationStep}
 use Rattle.ff_linalg.proofs.Flat.{length_rows_in, rows_in_wide, rows_in_over, over_from_rows}
 use Rattle.ff_linalg.proofs.Reduction.{swap_here, all_swap, pivot_step, skip_step}
 
@@ -16,7 +16,7 @@ returns-then-not-raise_pivot-clause-step g c =
     let k = g.K.SmallField.field c.args.k.now in
     let rows = rows_in c.args.cols c.args.rows in
     let h = c.if-not-raise_pivot.ensures in
-    subst (λ xs. IsStep k c.args.cols c.args.c (rows c.args.entries.now) (rows xs) c.args.rank) (sym h.1)
+    subst (λ xs. IsEliminationStep k c.args.cols c.args.c (rows c.args.entries.now) (rows xs) c.args.rank) (sym h.1)
     (skip_step k c.args.cols (rows c.args.entries.now) c.args.c c.args.rank c.requires.reduced h.0)
 
 pub clear_column-requires-clause-row_in : goal.clear_column-requires-clause-row_in
@@ -49,8 +49,8 @@ returns-clause-step g c =
     let h = c.if-not-raise_pivot.ensures in
     let old = rows_in c.args.cols c.args.rows c.args.entries.now in
     let new_is = c.clear_column.ensures.eliminated ∙ ap (eliminated k.ops c.args.rank c.args.c) h.is in
-    subst (λ n. IsStep k c.args.cols c.args.c old (rows_in c.args.cols c.args.rows c.clear_column.new.entries) n) (sym (add-one c.args.rank))
-    (subst (λ rows. IsStep k c.args.cols c.args.c old rows (suc c.args.rank)) (sym new_is)
+    subst (λ n. IsEliminationStep k c.args.cols c.args.c old (rows_in c.args.cols c.args.rows c.clear_column.new.entries) n) (sym (add-one c.args.rank))
+    (subst (λ rows. IsEliminationStep k c.args.cols c.args.c old rows (suc c.args.rank)) (sym new_is)
     (pivot_step k c.args.cols old (rows_in_wide c.args.cols c.args.rows c.args.entries.now c.requires.shape)
     (rows_in_over k.ops c.args.cols c.args.rows c.args.entries.now c.requires.entries_in) c.args.c c.requires.col_in c.args.rank c.requires.reduced
     h.position h.late h.within h.nonzero))

@@ -1,6 +1,6 @@
 use Rattle.std.proofs.Common.{◌∙◌, ap, sym, subst, All}
 use Rattle.ff_fields.specs.Over.{IsOver}
-use Rattle.ff_poly.specs.Words.{IsIrreducible}
+use Rattle.ff_poly.specs.Words.{IsIrreducibleList}
 use Rattle.ff_factor.specs.Factors.{IsFactorisation}
 use Rattle.ff_order.specs.Enlargements.{repeated}
 use Rattle.ff_maximal.proofs.FiniteOrders.{all_repeated, some_disc, finite_answer}
@@ -18,8 +18,8 @@ maximal-requires-clause-primes_in g c =
 pub maximal-requires-clause-irreducible : goal.maximal-requires-clause-irreducible
 maximal-requires-clause-irreducible g c =
     let k = g.K.SmallField.field c.args.k.now in
-    subst (All (IsIrreducible k.ops)) (sym (c.deref.ensures.value ∙ c.in_ok-primes.ensures ∙ ap repeated c.parts.ensures))
-    (all_repeated (IsIrreducible k.ops) c.in_ok-factors.factors.parts c.in_ok-factors.ensures.irreducible)
+    subst (All (IsIrreducibleList k.ops)) (sym (c.deref.ensures.value ∙ c.in_ok-primes.ensures ∙ ap repeated c.parts.ensures))
+    (all_repeated (IsIrreducibleList k.ops) c.in_ok-factors.factors.parts c.in_ok-factors.ensures.irreducible)
 
 pub returns : goal.returns
 returns g c =

@@ -1,13 +1,13 @@
 use Rattle.std.proofs.Common.{sym, subst}
 use Rattle.ff_maximal.proofs.InfiniteOrders.{variable_irreducible, variable_over, some_disc_at_infinity, infinite_answer}
-use Rattle.ff_lattice.specs.Orders.{IsOrder}
+use Rattle.ff_lattice.specs.Orders.{IsOrderLattice}
 use Rattle.ff_maximal.proofs.orders.infinite_order.Goals as goal
 
 pub p_maximal-requires-clause-some : goal.p_maximal-requires-clause-some
 p_maximal-requires-clause-some g c = some_disc_at_infinity (g.K.SmallField.field c.args.k.now) c.args.curve.now c.requires c.inf-p.result.now c.inf-p.ensures
 
 pub p_maximal-requires-clause-order : goal.p_maximal-requires-clause-order
-p_maximal-requires-clause-order g c = subst (λ p. IsOrder (g.K.SmallField.field c.args.k.now) p c.in_ok-start.start) (sym c.inf-p.ensures) c.in_ok-start.ensures.order
+p_maximal-requires-clause-order g c = subst (λ p. IsOrderLattice (g.K.SmallField.field c.args.k.now) p c.in_ok-start.start) (sym c.inf-p.ensures) c.in_ok-start.ensures.order
 
 pub p_maximal-requires-clause-pi_in : goal.p_maximal-requires-clause-pi_in
 p_maximal-requires-clause-pi_in g c = variable_over (g.K.SmallField.field c.args.k.now) c.in_ok-t.t c.in_ok-t.ensures

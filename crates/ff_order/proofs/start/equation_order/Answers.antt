@@ -2,7 +2,7 @@ use Rattle.std.proofs.Common.{◌≡◌, ◌↔◌, [], ◌∷◌, sym, subst, a
 use Rattle.function_field.specs.Values.{IsElem, Functions, equation_of, function_of}
 use Rattle.trace_theory.specs.Traces.{HasPolynomialCoordinates}
 use Rattle.ff_lattice.specs.Lattices.{IsFull, InSpanOf, Contains}
-use Rattle.ff_lattice.specs.Orders.{IsOrder}
+use Rattle.ff_lattice.specs.Orders.{IsOrderLattice}
 use Rattle.ff_lattice.specs.Steps.{unit_row}
 use Rattle.ff_order.proofs.Powers.{ArePowers, powers_none, powers_more, powers_answer, powers_full, powers_order}
 use Rattle.ff_order.proofs.start.equation_order.Goals as goal
@@ -51,7 +51,7 @@ returns-clause-order g c =
     let positive = c.n-degree.ensures.range.positive in
     let size : c.loop-i.i ≡ c.args.p.now.n = omega (arith, c.n-degree.ensures.n) in
     let powers = subst (λ n. ArePowers k p n c.loop-i.powers.items) size c.loop-i.invariant in
-    subst (IsOrder k p) (sym c.of.ensures)
+    subst (IsOrderLattice k p) (sym c.of.ensures)
     (powers_order k p positive c.in_ok-l.l c.in_ok-l.ensures.form
     (powers_answer k p positive c.loop-i.powers.items c.in_ok-l.l powers
     (subst (λ zs. (z : Functions k p) → Contains k p c.in_ok-l.l z ↔ InSpanOf k p zs z) c.deref.ensures.value c.in_ok-l.ensures.members)))
