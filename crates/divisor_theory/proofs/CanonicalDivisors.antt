@@ -1,8 +1,8 @@
 -- Where F is a field, there is a canonical divisor.
 use Rattle.std.proofs.Common.{◌≡◌, sym, ap, subst}
-use Rattle.ring_theory.specs.Ring.{IsField}
+use Rattle.ring_lemmas.specs.Ring.{IsField}
 use Rattle.ring_theory.specs.Subsets.{IsModule}
-use Rattle.ring_theory.proofs.Ring.{one_mul}
+use Rattle.ring_lemmas.proofs.Ring.{one_mul}
 use Rattle.prime_theory.specs.Ideals.{Invertible}
 use Rattle.ff_fields.specs.Field.{CodeField}
 use Rattle.ff_poly.specs.Polynomials.{polynomials}

@@ -2,10 +2,10 @@
 use Rattle.std.proofs.Common.{◌≡◌, ℕ, ◌+◌, ◌<◌, List, [], ◌∷◌, length, sym, ◌∙◌, ap, subst, arith}
 use Rattle.std.proofs.lemmas.Int.{ints}
 use Rattle.std.proofs.Math.IntN.{ℤ, pos, ◌+ℤ◌, ◌-ℤ◌}
-use Rattle.ring_theory.proofs.Ring.{one_mul, zero_add}
+use Rattle.ring_lemmas.proofs.Ring.{one_mul, zero_add}
 use Rattle.prime_theory.specs.Ideals.{SameSet}
 use Rattle.linear_theory.specs.Basis.{IsBasis}
-use Rattle.linear_theory.proofs.Lists.{entry}
+use Rattle.linear_theory.specs.Lists.{entry}
 use Rattle.ff_fields.specs.Field.{CodeField}
 use Rattle.ff_fields.specs.Code.{code_ring, code_field}
 use Rattle.ff_poly.specs.Polynomials.{polynomials}

@@ -4,8 +4,8 @@ use Rattle.std.proofs.Common.{◌≡◌, List, [], ◌∷◌, map, refl, sym, �
 use Rattle.std.specs.Prelude.{ℕ, neg_ℤ}
 use Rattle.std.proofs.lemmas.Int.{ints}
 use Rattle.std.proofs.Math.IntN.{ℤ, ◌+ℤ◌}
-use Rattle.ring_theory.proofs.Ring.{mul_mul, mul_left_comm}
-use Rattle.ring_theory.proofs.Solver.{ring, reads}
+use Rattle.ring_lemmas.proofs.Ring.{mul_mul, mul_left_comm}
+use Rattle.ring_lemmas.proofs.Solver.{ring, reads}
 use Rattle.prime_theory.specs.Ideals.{Multiple, SameSet}
 use Rattle.linear_theory.specs.Module.{IsLinear}
 use Rattle.ff_fields.specs.Field.{CodeField}

@@ -3,14 +3,14 @@
 use Rattle.std.proofs.Common.{◌≡◌, ℕ, zero, suc, List, [], ◌∷◌, map, refl, sym, ◌∙◌, ap, ap₂, subst}
 use Rattle.std.proofs.lemmas.List.{length-map}
 use Rattle.ring_theory.specs.Local.{PrimeTo}
-use Rattle.ring_theory.specs.Ring.{pow}
+use Rattle.ring_lemmas.specs.Ring.{pow}
 use Rattle.ring_theory.specs.Subsets.{IsModule, Span}
-use Rattle.ring_theory.specs.Polynomials.{constant}
+use Rattle.ring_lemmas.specs.Polynomials.{constant}
 use Rattle.ring_theory.proofs.Evaluate.{length_trim}
 use Rattle.ring_theory.proofs.Local.{comaximal_power}
-use Rattle.ring_theory.proofs.Ring.{one_mul}
+use Rattle.ring_lemmas.proofs.Ring.{one_mul}
 use Rattle.ring_theory.proofs.RowMaps.{hom_zero}
-use Rattle.ring_theory.proofs.Solver.{ring, reads, from_one}
+use Rattle.ring_lemmas.proofs.Solver.{ring, reads, from_one}
 use Rattle.ring_theory.proofs.Subsets.{span_module}
 use Rattle.prime_theory.specs.Ideals.{SameSet}
 use Rattle.linear_theory.specs.Basis.{IsSubspace, IsSum}

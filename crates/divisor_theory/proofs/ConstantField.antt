@@ -2,9 +2,9 @@
 use Rattle.std.proofs.Common.{◌≡◌, ℕ, suc, ◌<◌, Bool, true, false, List, [], ◌∷◌, length, All, refl, sym, ◌∙◌, ap, ap₂, subst}
 use Rattle.std.proofs.Math.Bool.{Bool-set}
 use Rattle.std.proofs.lemmas.List.Elements.{All-head, All-tail}
-use Rattle.ring_theory.specs.Ring.{CommRing, IsField}
+use Rattle.ring_lemmas.specs.Ring.{CommRing, IsField}
 use Rattle.ring_theory.specs.Subsets.{IsSubring}
-use Rattle.ring_theory.proofs.Solver.{ring, reads}
+use Rattle.ring_lemmas.proofs.Solver.{ring, reads}
 use Rattle.prime_theory.proofs.Lists.{everywhere}
 use Rattle.linear_theory.specs.Fields.{Field}
 use Rattle.linear_theory.specs.Module.{Module, IsHomomorphism, combine}

@@ -5,7 +5,7 @@ use Rattle.std.proofs.lemmas.List.{length-map}
 use Rattle.std.proofs.lemmas.List.Elements.{All-cons, All-map, All-weaker}
 use Rattle.ring_theory.specs.Subsets.{IsSubring, Span}
 use Rattle.ring_theory.proofs.Integral.{integral}
-use Rattle.ring_theory.proofs.Ring.{mul_zero, neg_unique}
+use Rattle.ring_lemmas.proofs.Ring.{mul_zero, neg_unique}
 use Rattle.ring_theory.proofs.Subsets.{span_tail}
 use Rattle.prime_theory.proofs.Scalars.{integral_wider}
 use Rattle.linear_theory.specs.Module.{combine}

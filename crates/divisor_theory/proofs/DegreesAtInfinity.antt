@@ -6,7 +6,7 @@ use Rattle.std.proofs.lemmas.Int.{ints}
 use Rattle.std.proofs.lemmas.List.Elements.{All-nil, All-head, All-tail}
 use Rattle.std.proofs.Math.IntN.{ℤ, pos, ◌+ℤ◌, ◌-ℤ◌, ◌*ℤ◌}
 use Rattle.ring_theory.specs.Subsets.{IsModule, Product}
-use Rattle.ring_theory.proofs.Ring.{one_mul, zero_add}
+use Rattle.ring_lemmas.proofs.Ring.{one_mul, zero_add}
 use Rattle.ring_theory.proofs.Subsets.{product_member}
 use Rattle.prime_theory.specs.Ideals.{Inverse, Invertible, SameSet, Power}
 use Rattle.prime_theory.specs.IntegerValues.{up, down, PrimePower}

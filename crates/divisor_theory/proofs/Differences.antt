@@ -7,7 +7,7 @@ use Rattle.std.proofs.lemmas.List.Elements.{All-weaker}
 use Rattle.std.proofs.Math.IntN.{ℤ, ◌+ℤ◌, ◌-ℤ◌}
 use lib.Signed.{◌≤ℤ◌}
 use Rattle.ring_theory.specs.Subsets.{Colon, Product}
-use Rattle.ring_theory.proofs.Ring.{mul_left_comm}
+use Rattle.ring_lemmas.proofs.Ring.{mul_left_comm}
 use Rattle.prime_theory.specs.Ideals.{SameSet, Invertible}
 use Rattle.prime_theory.specs.Primes.{IsPrime}
 use Rattle.prime_theory.proofs.Lists.{both}

@@ -1,10 +1,10 @@
 -- The genus: where F is a field, it times the dimension of the constants is the sum of the max(0, d_i - 1), for the
 -- degrees of a reduced basis of (O_fin, O_inf).
 use Rattle.std.proofs.Common.{◌≡◌, ℕ, suc, ◌+◌, ◌*◌, ◌≤◌, ◌⊎◌, inl, inr, ℤ, pos, List, [], ◌∷◌, length, refl, sym, ◌∙◌, ap, ap₂, subst, arith, suc-mul, mul-le-mul_right, mul_comm}
-use Rattle.ring_theory.specs.Ring.{IsField}
+use Rattle.ring_lemmas.specs.Ring.{IsField}
 use Rattle.ring_theory.specs.Subsets.{IsSubring}
-use Rattle.ring_theory.proofs.Ring.{add_add, zero_add}
-use Rattle.ring_theory.proofs.Solver.{ring, reads}
+use Rattle.ring_lemmas.proofs.Ring.{add_add, zero_add}
+use Rattle.ring_lemmas.proofs.Solver.{ring, reads}
 use Rattle.prime_theory.proofs.Lists.{everywhere}
 use Rattle.linear_theory.specs.Fields.{Field}
 use Rattle.linear_theory.specs.Module.{combine}

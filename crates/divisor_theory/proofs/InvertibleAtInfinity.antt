@@ -2,11 +2,11 @@
 -- infinity, and so are their products and the inverses of infinite places.
 use Rattle.std.proofs.Common.{◌≡◌, ℕ, suc, ◌+◌, List, [], ◌∷◌, map, All, refl, sym, ◌∙◌, ap, subst}
 use Rattle.std.proofs.lemmas.List.Elements.{All-map}
-use Rattle.ring_theory.specs.Ring.{pow}
-use Rattle.ring_theory.specs.Sums.{sum_over}
+use Rattle.ring_lemmas.specs.Ring.{pow}
+use Rattle.ring_lemmas.specs.Sums.{sum_over}
 use Rattle.ring_theory.specs.Subsets.{IsSubring, IsModule, Span, Factors, Product, products}
-use Rattle.ring_theory.proofs.Ring.{mul_zero, pow_add}
-use Rattle.ring_theory.proofs.Solver.{ring, reads}
+use Rattle.ring_lemmas.proofs.Ring.{mul_zero, pow_add}
+use Rattle.ring_lemmas.proofs.Solver.{ring, reads}
 use Rattle.ring_theory.proofs.Subsets.{product_member, product_module, product_of_spans, span_head, span_tail, span_least, span_module}
 use Rattle.prime_theory.specs.Ideals.{SameSet, Inverse, Invertible}
 use Rattle.prime_theory.specs.Primes.{IsPrime}

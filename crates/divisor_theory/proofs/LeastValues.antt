@@ -7,11 +7,11 @@ use Rattle.std.proofs.lemmas.Int.{ints, by_lt_z}
 use Rattle.std.proofs.lemmas.List.Elements.{All-nil, All-cons, All-head, All-tail, All-weaker}
 use Rattle.std.proofs.Math.IntN.{ℤ, pos, negsuc, ◌+ℤ◌}
 use lib.Signed.{◌≤ℤ◌}
-use Rattle.ring_theory.specs.Ring.{IsField}
-use Rattle.ring_theory.specs.Sums.{sum_over}
+use Rattle.ring_lemmas.specs.Ring.{IsField}
+use Rattle.ring_lemmas.specs.Sums.{sum_over}
 use Rattle.ring_theory.specs.Subsets.{IsModule, Factors}
-use Rattle.ring_theory.proofs.Ring.{zero_mul, mul_zero}
-use Rattle.ring_theory.proofs.Solver.{ring, reads}
+use Rattle.ring_lemmas.proofs.Ring.{zero_mul, mul_zero}
+use Rattle.ring_lemmas.proofs.Solver.{ring, reads}
 use Rattle.prime_theory.specs.Ideals.{SameSet, Inverse, Invertible}
 use Rattle.prime_theory.proofs.Products.{product_universal, additive_of_module}
 use Rattle.prime_theory.proofs.Residues.{Generator, generator}

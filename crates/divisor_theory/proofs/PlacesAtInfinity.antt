@@ -1,9 +1,9 @@
 -- Each degree of an infinite place is its index in the functions that are integral at infinity.
 use Rattle.std.proofs.Common.{◌≡◌, ℕ, List, [], ◌∷◌, refl, sym, ◌∙◌, ap}
-use Rattle.ring_theory.specs.Lists.{coeff_of}
-use Rattle.ring_theory.proofs.Solver.{ring, reads}
-use Rattle.ring_theory.specs.Polynomials.{constant, pol_ops}
-use Rattle.ring_theory.proofs.Lists.{coeff_trim}
+use Rattle.ring_lemmas.specs.Lists.{coeff_of}
+use Rattle.ring_lemmas.proofs.Solver.{ring, reads}
+use Rattle.ring_lemmas.specs.Polynomials.{constant, pol_ops}
+use Rattle.ring_lemmas.proofs.Lists.{coeff_trim}
 use Rattle.ff_fields.specs.Field.{CodeField}
 use Rattle.ff_fields.specs.Code.{Code, code_ring}
 use Rattle.ff_poly.specs.Polynomials.{polynomials}

@@ -2,8 +2,8 @@
 use Rattle.std.proofs.Common.{◌≡◌, ℕ, suc, ◌+◌, sym, ◌∙◌, ap, ap₂, arith}
 use Rattle.std.proofs.lemmas.Int.{ints}
 use Rattle.std.proofs.Math.IntN.{ℤ, pos, negsuc, ◌+ℤ◌, ◌-ℤ◌}
-use Rattle.ring_theory.specs.Ring.{pow}
-use Rattle.ring_theory.proofs.Ring.{one_mul, mul_mul, pow_add}
+use Rattle.ring_lemmas.specs.Ring.{pow}
+use Rattle.ring_lemmas.proofs.Ring.{one_mul, mul_mul, pow_add}
 use Rattle.prime_theory.specs.IntegerValues.{up, down}
 use Rattle.ff_fields.specs.Field.{CodeField}
 use Rattle.function_field.specs.Divisors.{x_to}

@@ -5,7 +5,7 @@ use Rattle.std.specs.List.{Any}
 use Rattle.std.proofs.lemmas.Int.{ints}
 use Rattle.std.proofs.Math.IntN.{ℤ, pos, ◌+ℤ◌}
 use lib.Signed.{◌<ℤ◌}
-use Rattle.ring_theory.specs.Ring.{IsField}
+use Rattle.ring_lemmas.specs.Ring.{IsField}
 use Rattle.prime_theory.specs.Ideals.{SameSet, Multiple}
 use Rattle.ff_fields.specs.Field.{CodeField}
 use Rattle.ff_fields.specs.Code.{code_ring, code_field}

@@ -5,14 +5,14 @@ use Rattle.std.proofs.lemmas.Int.{ints}
 use Rattle.std.proofs.lemmas.List.{length-map}
 use Rattle.std.proofs.lemmas.List.Elements.{All-nil, All-cons}
 use Rattle.std.proofs.Math.IntN.{ℤ, pos, ◌+ℤ◌, ◌-ℤ◌}
-use Rattle.ring_theory.specs.Ring.{pow}
-use Rattle.ring_theory.specs.Rows.{entry}
+use Rattle.ring_lemmas.specs.Ring.{pow}
+use Rattle.ring_lemmas.specs.Rows.{entry}
 use Rattle.ring_theory.specs.Subsets.{Span}
-use Rattle.ring_theory.specs.Sums.{sum_below}
+use Rattle.ring_lemmas.specs.Sums.{sum_below}
 use Rattle.ring_theory.proofs.Local.{power_in}
-use Rattle.ring_theory.proofs.Ring.{pow_mul, mul_pow, mul_left_comm}
+use Rattle.ring_lemmas.proofs.Ring.{pow_mul, mul_pow, mul_left_comm}
 use Rattle.ring_theory.proofs.Subsets.{span_least}
-use Rattle.ring_theory.proofs.Sums.{below_cong, below_first}
+use Rattle.ring_lemmas.proofs.Sums.{below_cong, below_first}
 use Rattle.prime_theory.specs.Ideals.{SameSet}
 use Rattle.linear_theory.specs.Module.{combine}
 use Rattle.linear_theory.proofs.Combination.{combine_cong}

@@ -2,11 +2,11 @@
 use Rattle.std.proofs.Common.{◌≡◌, ℕ, ℤ, inl, List, [], ◌∷◌, map, All, refl, sym, ◌∙◌, ap, subst}
 use Rattle.std.proofs.lemmas.List.Elements.{All-nil, All-cons, All-head, All-tail, All-map, All-weaker}
 use Rattle.ring_theory.specs.Local.{PrimeTo}
-use Rattle.ring_theory.specs.Ring.{pow}
+use Rattle.ring_lemmas.specs.Ring.{pow}
 use Rattle.ring_theory.specs.Subsets.{IsSubring, IsModule, Product}
-use Rattle.ring_theory.proofs.Ring.{one_mul, zero_mul, mul_zero, add_mul, mul_mul, mul_left_comm}
+use Rattle.ring_lemmas.proofs.Ring.{one_mul, zero_mul, mul_zero, add_mul, mul_mul, mul_left_comm}
 use Rattle.ring_theory.proofs.RowMaps.{hom_zero}
-use Rattle.ring_theory.proofs.Solver.{ring, reads}
+use Rattle.ring_lemmas.proofs.Solver.{ring, reads}
 use Rattle.ring_theory.proofs.Subsets.{product_member, product_module, span_least}
 use Rattle.prime_theory.specs.Ideals.{Inverse, Invertible, IsAdditive}
 use Rattle.prime_theory.proofs.Localisation.{Common, common}

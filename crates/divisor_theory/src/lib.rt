@@ -7,13 +7,13 @@
 
 ghost use Rattle.std.specs.Prelude.{◌≡◌, ◌↔◌, ℕ, ◌+◌, ◌*◌, ◌-◌, ◌<◌, ℤ, ◌+ℤ◌, ◌-ℤ◌, ◌<ℤ◌, ◌≤ℤ◌, List, length, map};
 ghost use Rattle.std.proofs.Common.{pos};
-ghost use Rattle.ring_theory.specs.Ring.{IsField};
+ghost use Rattle.ring_lemmas.specs.Ring.{IsField};
 ghost use Rattle.ring_theory.specs.Subsets.{Span, Colon};
 ghost use Rattle.ff_fields.specs.Field.{CodeField};
 ghost use Rattle.ff_fields.specs.Code.{code_ring};
 ghost use Rattle.ff_poly.specs.Polynomials.{polynomials, x_poly};
 ghost use Rattle.linear_theory.specs.Basis.{IsNull};
-ghost use Rattle.linear_theory.proofs.Lists.{entry};
+ghost use Rattle.linear_theory.specs.Lists.{entry};
 ghost use Rattle.prime_theory.specs.Ideals.{SameSet};
 ghost use Rattle.function_field.specs.declared.side.Side.{Side};
 ghost use Rattle.function_field.specs.declared.side.Side.TheVariants.{Finite, Infinite};

@@ -7,7 +7,7 @@ use borrow.Author.Count.{below_more}
 use Rattle.ff_fields.specs.Field.{FieldOps, CodeField}
 use Rattle.ff_fields.specs.Over.{IsOver, IsOver_trim, IsOver_zeros, get_or_below}
 use Rattle.ff_fields.specs.Code.{is_zero_code}
-use Rattle.ring_theory.specs.Lists.{trim_onto}
+use Rattle.ring_lemmas.specs.Lists.{trim_onto}
 use Rattle.ff_poly.specs.Words.{poly_of}
 use Rattle.ff_poly.specs.PolyOver.{IsPoly_poly_of}
 use Rattle.ff_poly.specs.TermWords.{code_at}

@@ -2,10 +2,10 @@
 use Rattle.std.proofs.Common.{◌≡◌, ◌≢◌, ℕ, suc, ◌-◌, ◌<◌, List, [], ◌∷◌, length, map, refl, sym, ap, ap₂, ◌∙◌, arith, All}
 use Rattle.std.proofs.lemmas.List.{length-map}
 use Rattle.std.proofs.lemmas.List.Elements.{All-nil, All-cons, All-head, All-tail, All-same}
-use Rattle.ring_theory.specs.Rows.{row_add, row_scale, row_mul}
-use Rattle.ring_theory.proofs.Ring.{mul_zero}
-use Rattle.ring_theory.proofs.Rows.{row_scale_scale, row_scale_comm}
-use Rattle.ring_theory.proofs.RowFractions.{pair_add, pair_mul}
+use Rattle.ring_lemmas.specs.Rows.{row_add, row_scale, row_mul}
+use Rattle.ring_lemmas.proofs.Ring.{mul_zero}
+use Rattle.ring_lemmas.proofs.Rows.{row_scale_scale, row_scale_comm}
+use Rattle.ring_theory.specs.FunctionRing.{pair_add, pair_mul}
 use Rattle.ff_fields.specs.Field.{FieldOps, CodeField}
 use Rattle.ff_fields.specs.Over.{IsOver}
 use Rattle.ff_poly.specs.Words.{IsPoly, top_of, multiple_of, product_of}

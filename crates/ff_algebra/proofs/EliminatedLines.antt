@@ -5,8 +5,8 @@ use Rattle.std.proofs.lemmas.Bool.{cases_lt}
 use Rattle.std.proofs.lemmas.List.{get_or_past, get_or_default, get_or-map, get_or-drop, get_or-take, get_or-set_same, get_or-set_other, get_or-replicate, length-map, length-take, length-replicate}
 use Rattle.std.proofs.lemmas.List.Edits.{length-remove}
 use Rattle.std.proofs.lemmas.List.Elements.{All-take}
-use Rattle.ring_theory.specs.Rows.{row_zero, row_add, row_scale, row_one, row_mul}
-use Rattle.ring_theory.proofs.Rows.{pair_path, row_add_comm, row_add_zero}
+use Rattle.ring_lemmas.specs.Rows.{row_zero, row_add, row_scale, row_one, row_mul}
+use Rattle.ring_lemmas.proofs.Rows.{pair_path, row_add_comm, row_add_zero}
 use Rattle.ff_fields.specs.Field.{CodeField}
 use Rattle.ff_fields.specs.Over.{IsOver}
 use Rattle.ff_poly.specs.Words.{IsPoly}

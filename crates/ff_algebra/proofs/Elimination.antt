@@ -4,10 +4,11 @@ use Rattle.std.specs.Prelude.{remove}
 use Rattle.std.proofs.lemmas.Bool.{cases_lt}
 use Rattle.std.proofs.lemmas.List.{get_or_past}
 use Rattle.std.proofs.lemmas.List.Elements.{All-head, All-tail, All-drop}
-use Rattle.ring_theory.specs.Ring.{CommRing}
-use Rattle.ring_theory.specs.Rows.{Row, row_add, row_scale, row_one, row_mul}
-use Rattle.ring_theory.proofs.Ring.{mul_zero, one_mul, neg_mul, add_add, neg_zero, product_not_zero}
-use Rattle.ring_theory.proofs.Rows.{row_ring, row_add_scale, row_scale_add, row_scale_scale, scale_row_mul, row_mul_comm, row_mul_add}
+use Rattle.ring_lemmas.specs.Ring.{CommRing}
+use Rattle.ring_lemmas.specs.Rows.{Row, row_add, row_scale, row_one, row_mul}
+use Rattle.ring_lemmas.proofs.Ring.{mul_zero, one_mul, neg_mul, add_add, neg_zero, product_not_zero}
+use Rattle.ring_theory.specs.RowRing.{row_ring}
+use Rattle.ring_lemmas.proofs.Rows.{row_add_scale, row_scale_add, row_scale_scale, scale_row_mul, row_mul_comm, row_mul_add}
 use Rattle.ff_fields.specs.Field.{FieldOps, CodeField}
 use Rattle.ff_fields.specs.Over.{IsOver, IsOver_nil}
 use Rattle.ff_poly.specs.Words.{IsPoly, multiple_of, product_of}

@@ -5,11 +5,11 @@ use Rattle.std.proofs.lemmas.List.{length-append}
 use Rattle.std.proofs.lemmas.List.Elements.{All-pop}
 use Rattle.std.proofs.Math.ListN.{get_or-append}
 use Rattle.std.proofs.Math.Seq.{get_or-append_seam}
-use Rattle.ring_theory.specs.Ring.{CommRing}
-use Rattle.ring_theory.specs.Rows.{Row, row_zero, row_scale, row_one, row_mul}
-use Rattle.ring_theory.proofs.Ring.{one_mul, zero_mul}
-use Rattle.ring_theory.proofs.Rows.{row_mul_comm, row_scale_one, row_scale_zero, row_zero_scale, row_scale_scale, scale_row_mul}
-use Rattle.ring_theory.proofs.RowFractions.{pair_mul, whole_pair}
+use Rattle.ring_lemmas.specs.Ring.{CommRing}
+use Rattle.ring_lemmas.specs.Rows.{Row, row_zero, row_scale, row_one, row_mul}
+use Rattle.ring_lemmas.proofs.Ring.{one_mul, zero_mul}
+use Rattle.ring_lemmas.proofs.Rows.{row_mul_comm, row_scale_one, row_scale_zero, row_zero_scale, row_scale_scale, scale_row_mul}
+use Rattle.ring_theory.specs.FunctionRing.{pair_mul, whole_pair}
 use Rattle.ff_fields.specs.Field.{CodeField}
 use Rattle.ff_fields.specs.Over.{IsOver}
 use Rattle.ff_poly.specs.Words.{IsPoly}

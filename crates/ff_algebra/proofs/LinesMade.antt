@@ -4,10 +4,10 @@ use Rattle.std.proofs.lemmas.List.{length-append, length-replicate}
 use Rattle.std.proofs.lemmas.List.Elements.{All-append, All-set}
 use Rattle.std.proofs.Math.ListN.{length-set, get_or-append}
 use Rattle.std.proofs.Math.Seq.{drop-append_seam}
-use Rattle.ring_theory.specs.Ring.{CommRing}
-use Rattle.ring_theory.specs.Rows.{Row, row_zero, row_add, row_scale, row_one, row_mul}
-use Rattle.ring_theory.proofs.Ring.{one_mul, neg_mul, neg_add}
-use Rattle.ring_theory.proofs.Rows.{pair_path, row_add_comm, row_add_zero, row_scale_zero}
+use Rattle.ring_lemmas.specs.Ring.{CommRing}
+use Rattle.ring_lemmas.specs.Rows.{Row, row_zero, row_add, row_scale, row_one, row_mul}
+use Rattle.ring_lemmas.proofs.Ring.{one_mul, neg_mul, neg_add}
+use Rattle.ring_lemmas.proofs.Rows.{pair_path, row_add_comm, row_add_zero, row_scale_zero}
 use Rattle.ff_fields.specs.Field.{CodeField}
 use Rattle.ff_fields.specs.Over.{IsOver, IsOver_nil, IsOver_cons}
 use Rattle.ff_poly.specs.Words.{IsPoly, sum_of, multiple_of, product_of}

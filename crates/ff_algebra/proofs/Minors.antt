@@ -2,11 +2,11 @@
 use mathlib.Core.Path.{fun_ext}
 use Rattle.std.proofs.Common.{◌≡◌, ℕ, zero, suc, ◌+◌, ◌-◌, ◌<◌, List, [], ◌∷◌, length, get_or, refl, sym, ap, ap₂, ◌∙◌, arith, add-one}
 use Rattle.std.specs.List.{remove}
-use Rattle.ring_theory.specs.Ring.{CommRing, pow}
-use Rattle.ring_theory.specs.Sums.{sum_below}
+use Rattle.ring_lemmas.specs.Ring.{CommRing, pow}
+use Rattle.ring_lemmas.specs.Sums.{sum_below}
 use Rattle.ring_theory.specs.Determinant.{minor, determinant}
-use Rattle.ring_theory.proofs.Sums.{below_cong}
-use Rattle.ring_theory.proofs.Ring.{one_mul, neg_mul, neg_unique}
+use Rattle.ring_lemmas.proofs.Sums.{below_cong}
+use Rattle.ring_lemmas.proofs.Ring.{one_mul, neg_mul, neg_unique}
 use Rattle.ff_fields.specs.Field.{CodeField}
 use Rattle.ff_fields.specs.Over.{IsOver, IsOver_nil, IsOver_cons}
 use Rattle.ff_poly.specs.Words.{IsPoly, poly_of, sum_of, product_of, multiple_of}

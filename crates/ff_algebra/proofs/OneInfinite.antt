@@ -3,9 +3,9 @@ use Rattle.std.proofs.Common.{◌≡◌, ℕ, zero, suc, ◌+◌, ◌<◌, List,
 use Rattle.std.proofs.lemmas.List.{same_lists, length-append, length-replicate, length-reverse}
 use Rattle.std.proofs.lemmas.List.Elements.{All-get_or}
 use mathlib.Core.List.{reverse-reverse}
-use Rattle.ring_theory.specs.Ring.{CommRing, pow}
-use Rattle.ring_theory.specs.Rows.{row_scale}
-use Rattle.ring_theory.proofs.Ring.{mul_zero, zero_add, one_mul}
+use Rattle.ring_lemmas.specs.Ring.{CommRing, pow}
+use Rattle.ring_lemmas.specs.Rows.{row_scale}
+use Rattle.ring_lemmas.proofs.Ring.{mul_zero, zero_add, one_mul}
 use Rattle.ff_fields.specs.Field.{CodeField}
 use Rattle.ff_fields.specs.Over.{IsOver, IsOver_append, IsOver_zeros}
 use Rattle.ff_fields.specs.Numbers.{read, numbers_read, numbers_trim}

@@ -3,11 +3,11 @@ use Rattle.std.proofs.Common.{◌≡◌, ◌≢◌, ℕ, zero, suc, ◌+◌, ◌
 use Rattle.std.proofs.Math.Nat.{mul-suc}
 use Rattle.std.proofs.lemmas.List.Elements.{All-head, All-tail, All-get_or, All-from_get_or}
 use mathlib.Core.List.{reverse-append, reverse-cons}
-use Rattle.ring_theory.specs.Ring.{pow}
-use Rattle.ring_theory.specs.Lists.{scale_list, IsTrimmed, trim_onto, IsTrimmed_trim}
-use Rattle.ring_theory.proofs.Ring.{mul_zero, zero_mul, pow_add, mul_pow, pow_one_base}
-use Rattle.ring_theory.proofs.Lists.{trim_trimmed}
-use Rattle.ring_theory.proofs.Solver.{ring, reads}
+use Rattle.ring_lemmas.specs.Ring.{pow}
+use Rattle.ring_lemmas.specs.Lists.{scale_list, IsTrimmed, trim_onto, IsTrimmed_trim}
+use Rattle.ring_lemmas.proofs.Ring.{mul_zero, zero_mul, pow_add, mul_pow, pow_one_base}
+use Rattle.ring_lemmas.proofs.Lists.{trim_trimmed}
+use Rattle.ring_lemmas.proofs.Solver.{ring, reads}
 use Rattle.ff_fields.specs.Field.{CodeField}
 use Rattle.ff_fields.specs.Code.{raw_ring, is_zero_code}
 use Rattle.ff_fields.specs.Over.{IsOver, IsOver_nil, IsOver_cons, IsOver_head, IsOver_tail, get_or_below}

@@ -1,12 +1,11 @@
 -- The traces of the powers of y, one after another, and the discriminant that they make.
-use Rattle.std.proofs.Common.{◌≡◌, ℕ, zero, suc, ◌+◌, ◌-◌, ◌*◌, ◌<◌, ◌≤◌, List, [], ◌∷◌, ◌++◌, length, get_or, take, replicate, refl, sym, ap, ap₂, ◌∙◌, arith, add-one, All}
-use Rattle.std.proofs.Common.{Ok, Err, Result}
+use Rattle.std.proofs.Common.{◌≡◌, ℕ, zero, suc, ◌+◌, ◌-◌, ◌*◌, ◌<◌, ◌≤◌, List, [], ◌∷◌, ◌++◌, length, get_or, take, replicate, refl, sym, ap, ap₂, ◌∙◌, arith, add-one, All, Ok, Err, Result}
 use Rattle.std.specs.Prelude.{IfOk}
 use Rattle.std.proofs.lemmas.List.{length-replicate, length-take, get_or-take}
 use Rattle.std.proofs.lemmas.List.Elements.{All-cons, All-push, All-replicate}
-use Rattle.ring_theory.specs.Rows.{row_trace, y_to}
+use Rattle.ring_lemmas.specs.Rows.{row_trace, y_to}
 use Rattle.ring_theory.specs.Determinant.{determinant}
-use Rattle.ring_theory.proofs.Rows.{pair_path}
+use Rattle.ring_lemmas.proofs.Rows.{pair_path}
 use Rattle.ff_fields.specs.Field.{CodeField}
 use Rattle.ff_fields.specs.Over.{IsOver, IsOver_nil, IsOver_cons}
 use Rattle.ff_poly.specs.Words.{IsPoly}

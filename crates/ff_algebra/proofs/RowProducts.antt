@@ -2,10 +2,10 @@
 use Rattle.std.proofs.Common.{◌≡◌, ℕ, zero, suc, ◌+◌, ◌-◌, ◌<◌, ◌≤◌, List, [], ◌∷◌, ◌++◌, length, get_or, take, drop, set, map, replicate, Some, refl, sym, ap, ap₂, ◌∙◌, arith, add-one, All}
 use Rattle.std.proofs.lemmas.List.{take_at, take_all, drop_all, drop_more, length-append, length-replicate}
 use Rattle.std.proofs.lemmas.List.Elements.{All-nil, All-cons, All-head, All-tail, All-replicate, All-pop}
-use Rattle.ring_theory.specs.Ring.{CommRing}
-use Rattle.ring_theory.specs.Rows.{Row, row_zero, row_add, row_scale, shift, top, times_y, row_times, row_mul}
-use Rattle.ring_theory.proofs.Ring.{mul_zero, one_mul, neg_mul}
-use Rattle.ring_theory.proofs.Rows.{pair_path, row_add_comm}
+use Rattle.ring_lemmas.specs.Ring.{CommRing}
+use Rattle.ring_lemmas.specs.Rows.{Row, row_zero, row_add, row_scale, shift, top, times_y, row_times, row_mul}
+use Rattle.ring_lemmas.proofs.Ring.{mul_zero, one_mul, neg_mul}
+use Rattle.ring_lemmas.proofs.Rows.{pair_path, row_add_comm}
 use Rattle.ff_fields.specs.Field.{FieldOps, CodeField}
 use Rattle.ff_fields.specs.Over.{IsOver, IsOver_nil}
 use Rattle.ff_poly.specs.Words.{IsPoly, sum_of, multiple_of, product_of}

@@ -1,7 +1,7 @@
 -- The trace of a row, one power of y after another, and the trace of an element.
 use Rattle.std.proofs.Common.{◌≡◌, ℕ, zero, suc, ◌+◌, ◌-◌, ◌<◌, List, [], ◌∷◌, get_or, refl, sym, ap, ap₂, ◌∙◌, arith, add-one}
-use Rattle.ring_theory.specs.Rows.{Row, entry, y_to, row_times, diagonal_sum, row_trace, row_one, row_mul}
-use Rattle.ring_theory.proofs.Rows.{pair_path, row_mul_one, times_times_y}
+use Rattle.ring_lemmas.specs.Rows.{Row, entry, y_to, row_times, diagonal_sum, row_trace, row_one, row_mul}
+use Rattle.ring_lemmas.proofs.Rows.{pair_path, row_mul_one, times_times_y}
 use Rattle.ff_fields.specs.Field.{CodeField}
 use Rattle.ff_fields.specs.Over.{IsOver}
 use Rattle.ff_poly.specs.Words.{sum_of}

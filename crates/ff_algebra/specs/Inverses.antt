@@ -1,6 +1,6 @@
 -- How an inverse or a zero divisor is found: elimination on multiples of a row.
 use Rattle.std.specs.Prelude.{◌≡◌, ◌≢◌, ℕ, suc, ◌+◌, ◌-◌, ◌*◌, ◌<◌, List, [], length, get_or, map, drop, remove, ◌⊎◌}
-use Rattle.ring_theory.specs.Rows.{row_add, row_scale, row_one, row_mul}
+use Rattle.ring_lemmas.specs.Rows.{row_add, row_scale, row_one, row_mul}
 use Rattle.ff_fields.specs.Field.{FieldOps, CodeField}
 use Rattle.ff_fields.specs.Over.{IsOver}
 use Rattle.ff_poly.specs.Words.{IsPoly, multiple_of}

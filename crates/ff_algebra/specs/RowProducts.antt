@@ -1,6 +1,6 @@
 -- How rows of polynomials are added and multiplied, as lists of lists of codes.
 use Rattle.std.specs.Prelude.{◌≡◌, ℕ, suc, ◌-◌, List, [], ◌∷◌, length, All}
-use Rattle.ring_theory.specs.Rows.{Row, row_zero, row_add, row_scale, times_y}
+use Rattle.ring_lemmas.specs.Rows.{Row, row_zero, row_add, row_scale, times_y}
 use Rattle.ff_fields.specs.Field.{FieldOps, CodeField}
 use Rattle.ff_fields.specs.Over.{IsOver}
 use Rattle.ff_poly.specs.Words.{IsPoly, sum_of, multiple_of, product_of}

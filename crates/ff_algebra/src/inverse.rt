@@ -1,7 +1,7 @@
 //! Inverses of functions.
 
 ghost use Rattle.std.specs.Prelude.{◌≡◌, ℕ, length, All, IfOk, IfErr};
-ghost use Rattle.ring_theory.specs.Rows.{row_scale};
+ghost use Rattle.ring_lemmas.specs.Rows.{row_scale};
 ghost use Rattle.ff_fields.specs.Over.{IsOver};
 ghost use Rattle.ff_poly.specs.Value.{value};
 ghost use Rattle.ff_poly.specs.Polynomials.{polynomials};

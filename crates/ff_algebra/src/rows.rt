@@ -1,7 +1,7 @@
 //! The inner loops, on rows of polynomials.
 
 ghost use Rattle.std.specs.Prelude.{◌≡◌, ◌-◌, ◌<◌, ◌≤◌, [], suc, length, map, replicate, All, IfOk, OnOk};
-ghost use Rattle.ring_theory.specs.Rows.{row_trace, row_mul};
+ghost use Rattle.ring_lemmas.specs.Rows.{row_trace, row_mul};
 ghost use Rattle.ff_fields.specs.Over.{IsOver};
 ghost use Rattle.ff_poly.specs.Words.{multiple_of};
 ghost use Rattle.ff_poly.specs.Value.{value};

@@ -1,10 +1,10 @@
 -- Lists of elements of a ring times one element, and fractions with one denominator.
 use Rattle.std.proofs.Common.{◌≡◌, ◌⊎◌, inl, inr, List, [], ◌∷◌, map, All, refl, sym, ap, ap₂, ◌∙◌}
 use Rattle.std.proofs.lemmas.List.Elements.{All-nil, All-cons, All-head, All-tail}
-use Rattle.ring_theory.specs.Ring.{CommRing}
+use Rattle.ring_lemmas.specs.Ring.{CommRing}
 use Rattle.ring_theory.specs.Members.{In}
-use Rattle.ring_theory.proofs.Ring.{one_mul, mul_left_comm}
-use Rattle.ring_theory.proofs.Solver.{ring, reads, from_one}
+use Rattle.ring_lemmas.proofs.Ring.{one_mul, mul_left_comm}
+use Rattle.ring_lemmas.proofs.Solver.{ring, reads, from_one}
 use Rattle.linear_theory.specs.Euclidean.{IsDivisorIn}
 
 module _ {A : Type 0} (R : CommRing A) where

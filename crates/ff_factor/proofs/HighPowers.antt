@@ -2,10 +2,10 @@
 use Rattle.std.proofs.Common.{◌≡◌, ℕ, zero, suc, ◌-◌, ◌*◌, ◌<◌, ◌≤◌, ◌^◌, List, [], ◌∷◌, ◌++◌, length, take, replicate, min, sym, ap, ap₂, ◌∙◌, subst, arith}
 use Rattle.std.proofs.Math.Nat.{mul-le-mul, pow-zero, pow-suc}
 use Rattle.std.proofs.lemmas.List.{take_all}
-use Rattle.ring_theory.specs.Ring.{CommRing, pow}
-use Rattle.ring_theory.specs.Congruence.{IsCongruent}
-use Rattle.ring_theory.proofs.Ring.{pow_mul}
-use Rattle.ring_theory.proofs.Congruence.{congruent_same, congruent_sym, congruent_trans, congruent_mul, congruent_refl}
+use Rattle.ring_lemmas.specs.Ring.{CommRing, pow}
+use Rattle.ring_lemmas.specs.Congruence.{IsCongruent}
+use Rattle.ring_lemmas.proofs.Ring.{pow_mul}
+use Rattle.ring_lemmas.proofs.Congruence.{congruent_same, congruent_sym, congruent_trans, congruent_mul, congruent_refl}
 use Rattle.ff_fields.specs.Field.{CodeField}
 use Rattle.ff_fields.specs.Over.{IsOver}
 use Rattle.ff_poly.specs.PowerWords.{IsRest, power_of}

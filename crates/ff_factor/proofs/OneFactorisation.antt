@@ -1,9 +1,9 @@
 -- A polynomial has one factorisation.
 use Rattle.std.proofs.Common.{◌≡◌, ℕ, zero, suc, ◌≤◌, ◌⊎◌, inl, inr, List, [], ◌∷◌, length, All, refl, sym, ap, ap₂, ◌∙◌, subst, arith}
 use Rattle.std.proofs.lemmas.List.Elements.{All-head, All-tail}
-use Rattle.ring_theory.specs.Ring.{CommRing, pow}
+use Rattle.ring_lemmas.specs.Ring.{CommRing, pow}
 use Rattle.ring_theory.specs.Members.{In}
-use Rattle.ring_theory.proofs.Ring.{one_mul, mul_zero}
+use Rattle.ring_lemmas.proofs.Ring.{one_mul, mul_zero}
 use Rattle.ring_theory.proofs.Polynomials.{length_product}
 use Rattle.ff_fields.specs.Field.{CodeField}
 use Rattle.ff_fields.specs.Code.{code_ring, code_domain}

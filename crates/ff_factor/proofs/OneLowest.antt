@@ -1,8 +1,8 @@
 -- Fractions have one form in lowest terms: of two denominators of least degree the difference would be a smaller one.
 use Rattle.std.proofs.Common.{◌≡◌, ◌≢◌, ℕ, ◌-◌, ◌<◌, ◌≤◌, List, [], length, map, All, sym, ap, ◌∙◌, subst, arith}
 use Rattle.std.proofs.lemmas.List.{length-map, length_push}
-use Rattle.ring_theory.specs.Ring.{CommRing}
-use Rattle.ring_theory.proofs.Ring.{eq_of_sub}
+use Rattle.ring_lemmas.specs.Ring.{CommRing}
+use Rattle.ring_lemmas.proofs.Ring.{eq_of_sub}
 use Rattle.ff_fields.specs.Field.{CodeField}
 use Rattle.ff_fields.specs.Over.{IsOver}
 use Rattle.ff_poly.specs.Words.{IsPoly, IsMonic}

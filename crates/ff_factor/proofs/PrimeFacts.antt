@@ -1,16 +1,18 @@
 -- The primes of primitive idempotents are irreducible, different ones don't divide each other, and what none of them divides is a unit modulo g.
 use Rattle.std.proofs.Common.{◌≡◌, ℕ, ◌-◌, ◌<◌, ◌≤◌, ◌↔◌, ◌⊎◌, inl, inr, List, [], ◌∷◌, ◌++◌, length, refl, sym, ap, ap₂, ◌∙◌, subst, arith}
 use Rattle.std.proofs.lemmas.List.{length_push}
-use Rattle.ring_theory.specs.Ring.{CommRing}
-use Rattle.ring_theory.specs.Lists.{coeff_of, add_lists}
-use Rattle.ring_theory.specs.Congruence.{IsCongruent}
-use Rattle.ring_theory.proofs.Congruence.{congruent_same, congruent_sym, congruent_trans, congruent_mul, congruent_refl}
+use Rattle.ring_lemmas.specs.Ring.{CommRing}
+use Rattle.ring_lemmas.specs.Lists.{coeff_of, add_lists}
+use Rattle.ring_lemmas.specs.Congruence.{IsCongruent}
+use Rattle.ring_lemmas.proofs.Congruence.{congruent_same, congruent_sym, congruent_trans, congruent_mul, congruent_refl}
 use Rattle.ring_theory.proofs.RowMaps.{hom_neg}
 use Rattle.ring_theory.specs.Members.{In}
-use Rattle.ring_theory.proofs.Ring.{zero_mul, mul_zero, eq_of_sub, zero_add}
-use Rattle.ring_theory.proofs.Solver.{ring, reads, from_one, from_two}
-use Rattle.ring_theory.proofs.Polynomials.{length_product, series_add, series_neg, coeff_past}
-use Rattle.ring_theory.proofs.Division.{length_bound, short_multiple}
+use Rattle.ring_lemmas.proofs.Ring.{zero_mul, mul_zero, eq_of_sub, zero_add}
+use Rattle.ring_lemmas.proofs.Solver.{ring, reads, from_one, from_two}
+use Rattle.ring_theory.proofs.Polynomials.{length_product}
+use Rattle.ring_lemmas.proofs.Polynomials.{series_add, series_neg, coeff_past}
+use Rattle.ring_lemmas.proofs.Division.{length_bound}
+use Rattle.ring_theory.proofs.Division.{short_multiple}
 use Rattle.ff_fields.specs.Field.{CodeField}
 use Rattle.ff_fields.specs.Code.{code_ring, code_domain, raw_ring}
 use Rattle.ff_fields.specs.Over.{IsOver}

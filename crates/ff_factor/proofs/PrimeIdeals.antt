@@ -1,12 +1,12 @@
 -- The prime of a primitive idempotent, out of the first relation among its products with powers of a high power of x.
 use Rattle.std.proofs.Common.{◌≡◌, ℕ, zero, suc, ◌+◌, ◌-◌, ◌<◌, ◌≤◌, ◌^◌, ◌↔◌, ◌⊎◌, inl, inr, List, [], ◌∷◌, ◌++◌, length, map, take, refl, sym, ap, ap₂, ◌∙◌, subst, arith}
 use Rattle.std.proofs.lemmas.List.{length-map, length_push}
-use Rattle.ring_theory.specs.Ring.{CommRing, pow}
-use Rattle.ring_theory.specs.Lists.{neg_list}
-use Rattle.ring_theory.proofs.Ring.{mul_pow}
-use Rattle.ring_theory.proofs.Solver.{ring, reads, from_one}
-use Rattle.ring_theory.proofs.Lists.{length_neg_list}
-use Rattle.ring_theory.proofs.Congruence.{congruent_refl}
+use Rattle.ring_lemmas.specs.Ring.{CommRing, pow}
+use Rattle.ring_lemmas.specs.Lists.{neg_list, mul_lists}
+use Rattle.ring_lemmas.proofs.Ring.{mul_pow}
+use Rattle.ring_lemmas.proofs.Solver.{ring, reads, from_one}
+use Rattle.ring_lemmas.proofs.Lists.{length_neg_list}
+use Rattle.ring_lemmas.proofs.Congruence.{congruent_refl}
 use Rattle.ring_theory.proofs.Evaluate.{evaluate}
 use Rattle.ff_fields.specs.Field.{CodeField}
 use Rattle.ff_fields.specs.Code.{Code, raw_ring, code_ring, read_code}
@@ -17,7 +17,6 @@ use Rattle.ff_poly.specs.Words.{IsPoly, IsMonic, DividesList, product_of}
 use Rattle.ff_poly.specs.PolyOver.{IsOver_product_of, IsPoly_poly_of}
 use Rattle.ff_poly.specs.Value.{value, value_product, same_from_value}
 use Rattle.ff_poly.specs.Polynomials.{Polynomial, polynomials, polynomial_discrete, x_poly, codes_of, IsOver_codes_of, IsPoly_codes_of, value_codes_of}
-use Rattle.ring_theory.specs.Lists.{mul_lists}
 use Rattle.ff_linalg.specs.Matrix.{MatrixValue}
 use Rattle.finite_algebra_theory.specs.Algebra.{FiniteAlgebra, IsPrimitive}
 use Rattle.finite_algebra_theory.specs.ByMap.{Image}

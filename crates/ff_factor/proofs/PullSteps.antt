@@ -1,7 +1,7 @@
 -- The loop that divides by a polynomial as often as it goes.
 use Rattle.std.proofs.Common.{◌≡◌, ◌≢◌, ℕ, suc, ◌+◌, ◌<◌, ◌≤◌, List, [], ◌∷◌, length, refl, sym, ap, ◌∙◌, subst, arith}
-use Rattle.ring_theory.specs.Ring.{CommRing, pow}
-use Rattle.ring_theory.proofs.Ring.{mul_zero, one_mul}
+use Rattle.ring_lemmas.specs.Ring.{CommRing, pow}
+use Rattle.ring_lemmas.proofs.Ring.{mul_zero, one_mul}
 use Rattle.ring_theory.proofs.Polynomials.{length_product}
 use Rattle.ring_theory.specs.Division.{IsDivision}
 use Rattle.ring_theory.proofs.Division.{one_way}

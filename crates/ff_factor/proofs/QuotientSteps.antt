@@ -1,9 +1,9 @@
 -- Steps of the loop that multiplies modulo a polynomial.
 use Rattle.std.proofs.Common.{◌≡◌, ℕ, suc, ◌+◌, ◌-◌, ◌<◌, ◌≤◌, List, [], ◌∷◌, ◌++◌, length, get_or, take, drop, set, replicate, sym, ap, ap₂, ◌∙◌, arith}
 use Rattle.std.proofs.lemmas.List.{drop_more, drop_all, take_at}
-use Rattle.ring_theory.specs.Lists.{add_lists, scale_list}
-use Rattle.ring_theory.proofs.Ring.{zero_mul}
-use Rattle.ring_theory.proofs.Congruence.{congruent_same, congruent_trans}
+use Rattle.ring_lemmas.specs.Lists.{add_lists, scale_list}
+use Rattle.ring_lemmas.proofs.Ring.{zero_mul}
+use Rattle.ring_lemmas.proofs.Congruence.{congruent_same, congruent_trans}
 use Rattle.ff_fields.specs.Field.{FieldOps, CodeField}
 use Rattle.ff_fields.specs.Code.{raw_ring}
 use Rattle.ff_fields.specs.Over.{IsOver_zeros}

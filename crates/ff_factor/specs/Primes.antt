@@ -1,7 +1,7 @@
 -- The primes that belong to the idempotents of k[x] modulo a monic polynomial.
 use Rattle.std.specs.Prelude.{ℕ, ◌≤◌, ◌^◌, ◌↔◌, List}
-use Rattle.ring_theory.specs.Ring.{pow}
-use Rattle.ring_theory.specs.Congruence.{IsCongruent}
+use Rattle.ring_lemmas.specs.Ring.{pow}
+use Rattle.ring_lemmas.specs.Congruence.{IsCongruent}
 use Rattle.ff_fields.specs.Field.{FieldOps, CodeField}
 use Rattle.ff_fields.specs.Over.{IsOver}
 use Rattle.ff_poly.specs.Words.{IsPoly, IsMonic, DividesList}

@@ -1,14 +1,15 @@
 -- k[x] modulo a monic polynomial: a list of codes stands for the class of its polynomial, and so it is an algebra.
 use Rattle.std.proofs.Common.{◌≡◌, ℕ, zero, suc, ◌+◌, ◌-◌, ◌<◌, ◌≤◌, ◌↔◌, List, [], ◌∷◌, ◌++◌, length, get_or, take, replicate, refl, sym, ap, ap₂, ◌∙◌, subst, arith}
 use Rattle.std.proofs.lemmas.List.{length-append, length-map, length-replicate, length-take-le, take_more, take_all, length_push}
-use Rattle.ring_theory.specs.Ring.{CommRing}
-use Rattle.ring_theory.specs.Lists.{coeff_of, add_lists, scale_list}
-use Rattle.ring_theory.specs.Congruence.{IsCongruent}
-use Rattle.ring_theory.proofs.Ring.{zero_mul, one_mul}
-use Rattle.ring_theory.proofs.Solver.{ring, reads}
-use Rattle.ring_theory.proofs.Lists.{length_scale_list}
-use Rattle.ring_theory.proofs.Congruence.{congruent_same, congruent_sym, congruent_trans, congruent_add, congruent_mul, congruent_mul_left, congruent_refl}
-use Rattle.ring_theory.proofs.Classes.{rest, length_rest, rest_congruent, short_same}
+use Rattle.ring_lemmas.specs.Ring.{CommRing}
+use Rattle.ring_lemmas.specs.Lists.{coeff_of, add_lists, scale_list}
+use Rattle.ring_lemmas.specs.Congruence.{IsCongruent}
+use Rattle.ring_lemmas.proofs.Ring.{zero_mul, one_mul}
+use Rattle.ring_lemmas.proofs.Solver.{ring, reads}
+use Rattle.ring_lemmas.proofs.Lists.{length_scale_list}
+use Rattle.ring_lemmas.proofs.Congruence.{congruent_same, congruent_sym, congruent_trans, congruent_add, congruent_mul, congruent_mul_left, congruent_refl}
+use Rattle.ring_theory.specs.Classes.{rest}
+use Rattle.ring_theory.proofs.Classes.{length_rest, rest_congruent, short_same}
 use Rattle.ff_fields.specs.Field.{CodeField}
 use Rattle.ff_fields.specs.Code.{raw_ring, code_ring, code_domain, zero_in}
 use Rattle.ff_fields.specs.Over.{IsOver, IsOver_cons, IsOver_head, IsOver_tail, IsOver_take, IsOver_append, IsOver_zeros, IsOver_scale, get_or_below}

@@ -3,7 +3,7 @@ use Rattle.std.specs.Prelude.{ℕ, ◌-◌, ◌≤◌, List, [], ◌∷◌, leng
 use Rattle.ff_fields.specs.Field.{FieldOps}
 use Rattle.ff_fields.specs.Code.{raw_ring}
 use Rattle.ff_fields.specs.Over.{IsOver}
-use Rattle.ring_theory.specs.Lists.{add_lists, scale_list}
+use Rattle.ring_lemmas.specs.Lists.{add_lists, scale_list}
 use Rattle.ff_poly.specs.Words.{IsMonic}
 use Rattle.ff_falg.specs.Algebras.{AlgebraOps}
 

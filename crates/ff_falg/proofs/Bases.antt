@@ -2,9 +2,9 @@
 use Rattle.std.proofs.Common.{◌≡◌, ℕ, zero, suc, ◌<◌, inl, inr, List, [], ◌∷◌, length, get_or, replicate, All, refl, sym, ap, ap₂, ◌∙◌, subst, arith}
 use Rattle.std.proofs.lemmas.List.{length-map}
 use Rattle.std.proofs.lemmas.List.Elements.{All-nil, All-cons, All-head, All-tail}
-use Rattle.ring_theory.specs.Ring.{CommRing}
+use Rattle.ring_lemmas.specs.Ring.{CommRing}
 use Rattle.ring_theory.specs.Subsets.{Span}
-use Rattle.ring_theory.specs.Lists.{coeff_of, add_lists, scale_list}
+use Rattle.ring_lemmas.specs.Lists.{coeff_of, add_lists, scale_list}
 use Rattle.ring_theory.specs.Members.{In}
 use Rattle.ring_theory.proofs.Subsets.{span_head, span_tail, span_zero}
 use Rattle.ff_fields.specs.Field.{CodeField}

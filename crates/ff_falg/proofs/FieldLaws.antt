@@ -2,7 +2,7 @@
 use Rattle.std.proofs.Common.{◌≡◌, ℕ, ◌<◌, ◌↔◌, List, length, replicate, sym, ap, ◌∙◌, arith}
 use Rattle.std.proofs.lemmas.List.{nil_from_length}
 use Rattle.ff_falg.proofs.PowerLaws.{empty_or}
-use Rattle.ring_theory.specs.Ring.{CommRing, IsField, pow}
+use Rattle.ring_lemmas.specs.Ring.{CommRing, IsField, pow}
 use Rattle.ff_fields.specs.Field.{CodeField}
 use Rattle.ff_linalg.specs.Matrix.{MatrixValue}
 use Rattle.ff_linalg.specs.Kernel.{IsKernelBasis}

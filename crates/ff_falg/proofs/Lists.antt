@@ -3,8 +3,8 @@ use Rattle.std.proofs.Common.{◌≡◌, ℕ, zero, suc, ◌<◌, List, [], ◌�
 use Rattle.ff_fields.specs.Field.{CodeField}
 use Rattle.ff_fields.specs.Code.{raw_ring, code_ring}
 use Rattle.ff_fields.specs.Over.{IsOver, IsOver_head, IsOver_tail}
-use Rattle.ring_theory.proofs.Ring.{zero_mul, mul_zero}
-use Rattle.ring_theory.specs.Lists.{add_lists, neg_list, scale_list}
+use Rattle.ring_lemmas.proofs.Ring.{zero_mul, mul_zero}
+use Rattle.ring_lemmas.specs.Lists.{add_lists, neg_list, scale_list}
 
 module _ (k : CodeField) where
   pub code_zero_mul : (c : ℕ) → c < k.size → k.mul 0 c ≡ 0

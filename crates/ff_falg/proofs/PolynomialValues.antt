@@ -1,11 +1,11 @@
 -- Polynomials as lists of codes and as lists of vectors: values, quotients, roots.
 use Rattle.std.proofs.Common.{◌≡◌, ℕ, suc, ◌-◌, ◌<◌, List, [], ◌∷◌, ◌++◌, length, take, map, inl, inr, refl, sym, ap, ap₂, ◌∙◌, subst, arith}
 use Rattle.std.proofs.lemmas.List.{length-map, take_at}
-use Rattle.ring_theory.specs.Ring.{CommRing}
+use Rattle.ring_lemmas.specs.Ring.{CommRing}
 use Rattle.ring_theory.proofs.RowMaps.{hom_neg, hom_zero}
 use Rattle.ring_theory.specs.Members.{In, IsDistinct}
-use Rattle.ring_theory.proofs.Solver.{ring, reads, from_one}
-use Rattle.ring_theory.specs.Lists.{neg_list}
+use Rattle.ring_lemmas.proofs.Solver.{ring, reads, from_one}
+use Rattle.ring_lemmas.specs.Lists.{neg_list}
 use Rattle.ff_fields.specs.Field.{CodeField}
 use Rattle.ff_fields.specs.Code.{Code, code_ring, raw_ring, read_code, read_code_below, same_code}
 use Rattle.ff_fields.specs.Numbers.{numbers, read}

@@ -3,10 +3,10 @@ use Rattle.std.proofs.Common.{◌≡◌, ℕ, zero, suc, ◌+◌, ◌*◌, ◌/�
 use Rattle.std.proofs.Math.Nat.{pow-zero, pow-suc, one-mul}
 use Rattle.std.proofs.lemmas.List.{length-map, get_or-map, same_lists, nil_from_length, get_or_default}
 use Rattle.std.proofs.lemmas.List.Elements.{All-head, All-tail}
-use Rattle.ring_theory.specs.Ring.{CommRing, pow}
-use Rattle.ring_theory.specs.Lists.{add_lists, neg_list}
-use Rattle.ring_theory.proofs.Solver.{ring, reads, from_one}
-use Rattle.ring_theory.proofs.Ring.{pow_add, pow_mul, mul_pow}
+use Rattle.ring_lemmas.specs.Ring.{CommRing, pow}
+use Rattle.ring_lemmas.specs.Lists.{add_lists, neg_list}
+use Rattle.ring_lemmas.proofs.Solver.{ring, reads, from_one}
+use Rattle.ring_lemmas.proofs.Ring.{pow_add, pow_mul, mul_pow}
 use Rattle.ff_fields.specs.Field.{CodeField}
 use Rattle.ff_fields.specs.Code.{raw_ring}
 use Rattle.ff_fields.specs.Numbers.{read}

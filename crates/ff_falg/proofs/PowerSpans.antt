@@ -2,8 +2,8 @@
 use Rattle.std.proofs.Common.{◌≡◌, ℕ, zero, suc, ◌<◌, ◌≤◌, List, [], length, get_or, take, map, refl, sym, ap, ap₂, ◌∙◌, subst, arith}
 use native.Mathlib.Decide.{dec_le}
 use Rattle.std.proofs.lemmas.List.{length-map, get_or-map, get_or-take, length-take-le, same_lists, get_or_default}
-use Rattle.ring_theory.specs.Ring.{CommRing, pow}
-use Rattle.ring_theory.proofs.Ring.{mul_left_comm}
+use Rattle.ring_lemmas.specs.Ring.{CommRing, pow}
+use Rattle.ring_lemmas.proofs.Ring.{mul_left_comm}
 use Rattle.ff_fields.specs.Field.{CodeField}
 use Rattle.ff_fields.specs.Code.{read_code}
 use Rattle.ff_fields.specs.Numbers.{numbers, read, IsOver_numbers}

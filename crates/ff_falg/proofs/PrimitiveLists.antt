@@ -1,15 +1,14 @@
 -- A full splitting, in another order, is the list of the primitive idempotents.
 use Rattle.std.proofs.Common.{◌≡◌, ℕ, ◌<◌, ◌≤◌, ◌⊎◌, ◌↔◌, inl, inr, List, [], ◌∷◌, length, map, replicate, All, refl, sym, ap, ap₂, ◌∙◌, subst, arith}
 use Rattle.std.proofs.lemmas.List.{length-map, nil_from_length}
-use Rattle.ring_theory.specs.Ring.{CommRing, pow}
-use Rattle.ring_theory.specs.Sums.{sum_over}
-use Rattle.ring_theory.proofs.Ring.{zero_mul, one_mul, add_mul, mul_zero, zero_add}
+use Rattle.ring_lemmas.specs.Ring.{CommRing, pow}
+use Rattle.ring_lemmas.specs.Sums.{sum_over}
+use Rattle.ring_lemmas.proofs.Ring.{zero_mul, one_mul, add_mul, mul_zero, zero_add}
 use Rattle.ring_theory.specs.Members.{In, IsDistinct}
-use Rattle.ring_theory.proofs.Solver.{ring, reads, from_two}
+use Rattle.ring_lemmas.proofs.Solver.{ring, reads, from_two}
 use Rattle.ff_fields.specs.Field.{CodeField}
 use Rattle.ff_linalg.specs.Matrix.{MatrixValue}
-use Rattle.finite_algebra_theory.specs.Algebra.{FiniteAlgebra}
-use Rattle.finite_algebra_theory.specs.Algebra.{IsPrimitive}
+use Rattle.finite_algebra_theory.specs.Algebra.{FiniteAlgebra, IsPrimitive}
 use Rattle.finite_algebra_theory.specs.ByMap.{Image}
 use Rattle.finite_algebra_theory.specs.Idempotents.{Orthogonal, Splitting}
 use Rattle.finite_algebra_theory.proofs.Idempotents.{member_sum, orthogonal_member, orthogonal_distinct}

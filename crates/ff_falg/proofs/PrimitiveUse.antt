@@ -1,11 +1,10 @@
 -- What the list of the primitive idempotents says in the ring of vectors, for the crates above.
 use Rattle.std.proofs.Common.{◌≡◌, ℕ, suc, ◌<◌, ◌⊎◌, inl, inr, List, [], ◌∷◌, length, get_or, All, refl, sym, ap, ◌∙◌, subst, arith}
 use Rattle.std.proofs.lemmas.List.Elements.{All-head}
-use Rattle.ring_theory.specs.Ring.{CommRing}
+use Rattle.ring_lemmas.specs.Ring.{CommRing}
 use Rattle.ring_theory.specs.Members.{In, IsDistinct}
 use Rattle.ff_fields.specs.Field.{CodeField}
-use Rattle.finite_algebra_theory.specs.Algebra.{FiniteAlgebra, IsFixed}
-use Rattle.finite_algebra_theory.specs.Algebra.{IsPrimitive as IsPrimitiveVector}
+use Rattle.finite_algebra_theory.specs.Algebra.{FiniteAlgebra, IsFixed, IsPrimitive as IsPrimitiveVector}
 use Rattle.finite_algebra_theory.specs.ByMap.{Image}
 use Rattle.finite_algebra_theory.specs.Idempotents.{ScalarAt, Splitting, Split}
 use Rattle.finite_algebra_theory.proofs.Existence.{split_of_minimal, fixed_span, fixed_among, elements}

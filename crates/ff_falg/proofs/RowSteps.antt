@@ -4,7 +4,7 @@ use native.Mathlib.Decide.{ℕ_discrete}
 use Rattle.std.proofs.Math.Seq.{drop-cons}
 use Rattle.std.proofs.lemmas.List.{take_all, drop_all, append-nil, get_or-set_same, get_or-set_other, set-get_or, length-set, length-replicate}
 use Rattle.std.proofs.lemmas.List.Elements.{All-set, All-replicate, All-drop, All-head, All-tail, All-get_or}
-use Rattle.ring_theory.specs.Lists.{add_lists, scale_list}
+use Rattle.ring_lemmas.specs.Lists.{add_lists, scale_list}
 use Rattle.ff_fields.specs.Field.{CodeField}
 use Rattle.ff_fields.specs.Code.{raw_ring}
 use Rattle.ff_fields.specs.Over.{IsOver, get_or_below, IsOver_drop}

@@ -4,9 +4,9 @@ use native.Mathlib.Decide.{ℕ_discrete}
 use Rattle.std.proofs.Math.Nat.{mul-le-mul}
 use Rattle.std.proofs.lemmas.List.{length-set}
 use Rattle.std.proofs.lemmas.List.Elements.{All-set}
-use Rattle.ring_theory.proofs.Ring.{neg_zero, eq_of_sub, sub_of_eq}
-use Rattle.ring_theory.specs.Ring.{pow}
-use Rattle.ring_theory.specs.Lists.{add_lists, neg_list}
+use Rattle.ring_lemmas.proofs.Ring.{neg_zero, eq_of_sub, sub_of_eq}
+use Rattle.ring_lemmas.specs.Ring.{pow}
+use Rattle.ring_lemmas.specs.Lists.{add_lists, neg_list}
 use Rattle.ff_fields.specs.Field.{CodeField, sub_of}
 use Rattle.ff_fields.specs.Code.{raw_ring, code_ring}
 use Rattle.ff_fields.specs.Over.{IsOver, IsOver_head, IsOver_tail, get_or_below}

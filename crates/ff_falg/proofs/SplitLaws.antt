@@ -1,9 +1,9 @@
 -- A fixed element splits an idempotent: the roots of its minimal polynomial there, and the parts at the roots.
 use Rattle.std.proofs.Common.{◌≡◌, ◌≢◌, ℕ, suc, ◌<◌, ◌≤◌, ◌⊎◌, inl, inr, List, [], ◌∷◌, ◌++◌, length, take, map, refl, sym, ap, ap₂, ◌∙◌, subst, arith}
 use Rattle.std.proofs.lemmas.List.{length-map, map-append}
-use Rattle.ring_theory.specs.Ring.{CommRing}
-use Rattle.ring_theory.specs.Lists.{scale_list}
-use Rattle.ring_theory.proofs.Ring.{zero_add}
+use Rattle.ring_lemmas.specs.Ring.{CommRing}
+use Rattle.ring_lemmas.specs.Lists.{scale_list}
+use Rattle.ring_lemmas.proofs.Ring.{zero_add}
 use Rattle.ring_theory.proofs.RowMaps.{hom_zero}
 use Rattle.ring_theory.specs.Members.{In, IsDistinct}
 use Rattle.ff_fields.specs.Field.{CodeField}

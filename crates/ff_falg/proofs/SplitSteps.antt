@@ -1,10 +1,10 @@
 -- What a call of `split` does.
 use Rattle.std.proofs.Common.{◌≡◌, ◌≢◌, ℕ, ◌<◌, ◌≤◌, List, [], ◌∷◌, length, get_or, map, replicate, All, refl, sym, ap, ap₂, ◌∙◌, subst, arith}
 use Rattle.std.proofs.lemmas.List.{length-map, nil_from_length}
-use Rattle.ring_theory.specs.Ring.{CommRing, pow}
-use Rattle.ring_theory.specs.Lists.{neg_list}
-use Rattle.ring_theory.proofs.Ring.{pow_one}
-use Rattle.ring_theory.proofs.Lists.{length_neg_list}
+use Rattle.ring_lemmas.specs.Ring.{CommRing, pow}
+use Rattle.ring_lemmas.specs.Lists.{neg_list}
+use Rattle.ring_lemmas.proofs.Ring.{pow_one}
+use Rattle.ring_lemmas.proofs.Lists.{length_neg_list}
 use Rattle.ff_fields.specs.Field.{CodeField}
 use Rattle.ff_fields.specs.Code.{Code, raw_ring, read_code}
 use Rattle.ff_fields.specs.Numbers.{read}

@@ -2,10 +2,10 @@
 use Rattle.std.proofs.Common.{◌≡◌, ℕ, suc, ◌<◌, List, [], ◌∷◌, length, map, All, refl, sym, ap, ap₂, ◌∙◌, subst}
 use Rattle.std.proofs.lemmas.List.{length-map}
 use Rattle.std.proofs.lemmas.List.Elements.{All-nil, All-cons, All-head, All-tail}
-use Rattle.ring_theory.specs.Ring.{CommRing}
+use Rattle.ring_lemmas.specs.Ring.{CommRing}
 use Rattle.ring_theory.specs.Subsets.{Span}
-use Rattle.ring_theory.specs.Lists.{add_lists, scale_list}
-use Rattle.ring_theory.proofs.Ring.{mul_zero}
+use Rattle.ring_lemmas.specs.Lists.{add_lists, scale_list}
+use Rattle.ring_lemmas.proofs.Ring.{mul_zero}
 use Rattle.ring_theory.specs.Maps.{IsHom}
 use Rattle.ff_fields.specs.Field.{CodeField}
 use Rattle.ff_fields.specs.Code.{Code, code_ring, raw_ring}

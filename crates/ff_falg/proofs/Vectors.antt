@@ -6,9 +6,9 @@ use native.Mathlib.Nat.{ℕ_set}
 use native.Mathlib.Decide.{ℕ_discrete}
 use mathlib.Core.HLevel.{Σ_prop_path}
 use mathlib.Core.List.{is_set}
-use Rattle.ring_theory.specs.Ring.{Operations, CommRing, pow}
-use Rattle.ring_theory.specs.Lists.{add_lists, neg_list, scale_list}
-use Rattle.ring_theory.proofs.Lists.{length_add_lists, length_scale_list, length_neg_list}
+use Rattle.ring_lemmas.specs.Ring.{Operations, CommRing, pow}
+use Rattle.ring_lemmas.specs.Lists.{add_lists, neg_list, scale_list}
+use Rattle.ring_lemmas.proofs.Lists.{length_add_lists, length_scale_list, length_neg_list}
 use Rattle.ff_fields.specs.Field.{FieldOps, CodeField}
 use Rattle.ff_fields.specs.Code.{raw_ring}
 use Rattle.ff_fields.specs.Over.{IsOver_cons, IsOver_add, IsOver_neg, IsOver_scale, IsOver_zeros}

@@ -1,7 +1,7 @@
 -- The primitive idempotents of an algebra, as a list (Lang, Algebra).
 use Rattle.std.specs.Prelude.{◌≡◌, ◌≢◌, ℕ, suc, ◌<◌, ◌⊎◌, ◌↔◌, List, [], ◌∷◌, length, get_or, map}
 use Rattle.std.specs.Global.{Vec}
-use Rattle.ring_theory.specs.Lists.{add_lists}
+use Rattle.ring_lemmas.specs.Lists.{add_lists}
 use Rattle.ring_theory.specs.Members.{In}
 use Rattle.ff_fields.specs.Field.{FieldOps}
 use Rattle.ff_fields.specs.Code.{raw_ring}

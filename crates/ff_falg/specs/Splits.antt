@@ -1,6 +1,6 @@
 -- The words of the private contracts on idempotents that are split.
 use Rattle.std.specs.Prelude.{◌≡◌, ◌≢◌, ℕ, ◌<◌, ◌≤◌, ◌-◌, ◌⊎◌, List, [], ◌∷◌, ◌++◌, length, take, All}
-use Rattle.ring_theory.specs.Lists.{scale_list}
+use Rattle.ring_lemmas.specs.Lists.{scale_list}
 use Rattle.ff_fields.specs.Field.{FieldOps}
 use Rattle.ff_fields.specs.Code.{raw_ring}
 use Rattle.ff_linalg.specs.Matrix.{MatrixValue, row_of}

@@ -2,7 +2,7 @@
 use Rattle.std.specs.Prelude.{◌≡◌, ℕ, ◌<◌, ◌≤◌, ◌^◌, List, length, slice_set}
 use Rattle.ff_fields.specs.Field.{FieldOps}
 use Rattle.ff_fields.specs.Code.{raw_ring}
-use Rattle.ring_theory.specs.Lists.{add_lists, neg_list}
+use Rattle.ring_lemmas.specs.Lists.{add_lists, neg_list}
 use Rattle.ff_linalg.specs.Matrix.{MatrixValue, IsMatrixOver, HasShape, row_of}
 use Rattle.ff_linalg.specs.Space.{product_of}
 use Rattle.ff_linalg.specs.Steps.{unit_row}

@@ -3,7 +3,7 @@
 ghost use Rattle.std.specs.Prelude.{◌≡◌, ◌<◌, length, IfOk};
 ghost use Rattle.ff_fields.specs.Code.{raw_ring};
 ghost use Rattle.ff_fields.specs.Over.{IsOver};
-ghost use Rattle.ring_theory.specs.Lists.{neg_list};
+ghost use Rattle.ring_lemmas.specs.Lists.{neg_list};
 ghost use Rattle.ff_falg.specs.Roots.{monic_value, quotient_of, IsRoots};
 
 use crate::rows::zeros;

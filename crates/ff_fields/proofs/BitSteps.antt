@@ -6,7 +6,7 @@ use Rattle.std.proofs.Math.Nat.{div-div-eq-div-mul, div-lt_iff_lt-mul, div-one, 
 use Rattle.std.proofs.lemmas.Nat.{xor_lt}
 use Rattle.std.proofs.lemmas.Nat.Bits.{bit_at_lowest, bit_at-suc, bit_at-zero, bit_at_xor, bit_at-lt, bit_at_above}
 use Rattle.std.proofs.lemmas.List.{drop_more, drop_all}
-use Rattle.ring_theory.specs.Lists.{add_lists, neg_list}
+use Rattle.ring_lemmas.specs.Lists.{add_lists, neg_list}
 use Rattle.ff_fields.specs.Prime.{prime_of}
 use Rattle.ff_fields.specs.Code.{raw_ring}
 use Rattle.ff_fields.specs.Residue.{digits, number, number_digits, length_digits, IsOver_digits, residue_mul}

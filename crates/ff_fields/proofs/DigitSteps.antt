@@ -3,7 +3,7 @@ use Rattle.std.proofs.Common.{◌≡◌, ℕ, suc, ◌+◌, ◌-◌, ◌*◌, �
 use Rattle.std.proofs.lemmas.List.{append-nil, drop_more, length-drop, take_all, take_more_set}
 use Rattle.std.proofs.Math.Nat.{mul-le-mul_right, pow-le-pow_right, le_trans}
 use Rattle.ff_fields.specs.Code.{raw_ring}
-use Rattle.ring_theory.specs.Lists.{add_lists, neg_list}
+use Rattle.ring_lemmas.specs.Lists.{add_lists, neg_list}
 use Rattle.ff_fields.specs.Prime.{prime_of}
 use Rattle.ff_fields.specs.Over.{IsOver, IsOver_drop}
 use Rattle.ff_fields.specs.Residue.{digits, number, number_below}

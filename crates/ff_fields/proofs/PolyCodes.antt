@@ -4,11 +4,12 @@ use Rattle.std.proofs.Common.{◌≡◌, ◌≢◌, ℕ, zero, suc, ◌+◌, ◌
 use Rattle.std.proofs.Math.Nat.{mul-le-mul_left, mul-le-mul_right, pow-le-pow_right, pow-zero, add-mul-mod_self_left, add-mul-div_left, div-eq_of_lt, le_trans}
 use Rattle.std.proofs.lemmas.Bool.{cases_lt}
 use Rattle.std.proofs.lemmas.List.{length-map}
-use Rattle.ring_theory.specs.Ring.{TestedRing}
-use Rattle.ring_theory.specs.Lists.{coeff_of, trim_onto, trim}
-use Rattle.ring_theory.proofs.Lists.{coeff_trim}
-use Rattle.ring_theory.specs.Polynomials.{Pol, pol_ops}
-use Rattle.ring_theory.proofs.Polynomials.{pol_ring, same_pol, coeff_top}
+use Rattle.ring_lemmas.specs.Ring.{TestedRing}
+use Rattle.ring_lemmas.specs.Lists.{coeff_of, trim_onto, trim}
+use Rattle.ring_lemmas.proofs.Lists.{coeff_trim}
+use Rattle.ring_lemmas.specs.Polynomials.{Pol, pol_ops}
+use Rattle.ring_theory.specs.PolynomialRing.{pol_ring}
+use Rattle.ring_lemmas.proofs.Polynomials.{same_pol, coeff_top}
 use Rattle.ff_fields.specs.Field.{CodeField}
 use Rattle.ff_fields.specs.Prime.{is_listed, prime_of, prime_field}
 use Rattle.ff_fields.specs.Code.{Code, code_ring, same_code, is_zero_code}

@@ -2,7 +2,7 @@
 use Rattle.std.specs.Prelude.{◌≢◌, ◌-◌, ◌*◌, ◌≤◌}
 use Rattle.std.proofs.Common.{◌≡◌, ℕ, zero, suc, ◌+◌, ◌/◌, ◌%◌, ◌<◌, refl, sym, ap, ◌∙◌, arith, zero-add}
 use Rattle.std.proofs.Math.Nat.{div-add-mod}
-use Rattle.ring_theory.proofs.Ring.{mul_zero}
+use Rattle.ring_lemmas.proofs.Ring.{mul_zero}
 use Rattle.ff_fields.specs.Field.{CodeField, pow_of}
 use Rattle.ff_fields.specs.Code.{code_ring, zero_in}
 use Rattle.ff_fields.proofs.Power.{pow_of_below, mul_one}

@@ -3,14 +3,16 @@ use Rattle.std.proofs.Common.{◌≡◌, ◌≢◌, ℕ, suc, ◌+◌, ◌-◌, 
 use Rattle.std.proofs.Math.Nat.{mul-le-mul_right, pow-le-pow_right}
 use Rattle.std.proofs.lemmas.Bool.{cases_lt}
 use Rattle.std.proofs.lemmas.List.{length-replicate}
-use Rattle.ring_theory.specs.Ring.{TestedRing}
-use Rattle.ring_theory.specs.Lists.{coeff_of}
-use Rattle.ring_theory.specs.Congruence.{IsCongruent}
-use Rattle.ring_theory.proofs.Ring.{zero_add, one_mul, mul_zero, domain_cancel}
-use Rattle.ring_theory.proofs.Congruence.{congruent_sym, congruent_trans, congruent_same}
-use Rattle.ring_theory.proofs.Sequences.{convolution_top}
-use Rattle.ring_theory.specs.Polynomials.{Pol, pol_ops}
-use Rattle.ring_theory.proofs.Polynomials.{pol_ring, pol_domain, series_mul, coeff_past, length_product}
+use Rattle.ring_lemmas.specs.Ring.{TestedRing}
+use Rattle.ring_lemmas.specs.Lists.{coeff_of}
+use Rattle.ring_lemmas.specs.Congruence.{IsCongruent}
+use Rattle.ring_lemmas.proofs.Ring.{zero_add, one_mul, mul_zero, domain_cancel}
+use Rattle.ring_lemmas.proofs.Congruence.{congruent_sym, congruent_trans, congruent_same}
+use Rattle.ring_lemmas.proofs.Sequences.{convolution_top}
+use Rattle.ring_lemmas.specs.Polynomials.{Pol, pol_ops}
+use Rattle.ring_theory.specs.PolynomialRing.{pol_ring}
+use Rattle.ring_theory.proofs.Polynomials.{pol_domain, length_product}
+use Rattle.ring_lemmas.proofs.Polynomials.{series_mul, coeff_past}
 use Rattle.ring_theory.specs.Division.{IsDivision}
 use Rattle.ring_theory.proofs.Division.{one_way}
 use Rattle.ff_fields.specs.Field.{CodeField}

@@ -3,11 +3,11 @@ use Rattle.std.proofs.Common.{◌≡◌, ℕ, zero, suc, ◌+◌, ◌-◌, ◌*�
 use Rattle.std.proofs.Math.Nat.{mod-add-mod, add-mod-mod, add-mul-mod_self_left}
 use Rattle.std.proofs.lemmas.Bool.{cases_lt}
 use Rattle.std.proofs.lemmas.List.{get_or_default}
-use Rattle.ring_theory.specs.Ring.{CommRing, TestedRing}
-use Rattle.ring_theory.specs.Lists.{coeff_of, convolution, scale_list, mul_onto}
-use Rattle.ring_theory.proofs.Ring.{zero_add}
-use Rattle.ring_theory.proofs.Lists.{coeff_add, coeff_scale}
-use Rattle.ring_theory.proofs.Sequences.{convolution_null_left}
+use Rattle.ring_lemmas.specs.Ring.{CommRing, TestedRing}
+use Rattle.ring_lemmas.specs.Lists.{coeff_of, convolution, scale_list, mul_onto}
+use Rattle.ring_lemmas.proofs.Ring.{zero_add}
+use Rattle.ring_lemmas.proofs.Lists.{coeff_add, coeff_scale}
+use Rattle.ring_lemmas.proofs.Sequences.{convolution_null_left}
 use Rattle.ff_fields.specs.Field.{CodeField}
 use Rattle.ff_fields.specs.Prime.{is_listed, prime_of, prime_field}
 use Rattle.ff_fields.specs.Code.{Code, code_ring, same_code, read_code, read_code_below}

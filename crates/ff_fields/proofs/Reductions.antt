@@ -1,14 +1,15 @@
 -- Reductions as equations of polynomials.
 use Rattle.std.proofs.Common.{◌≡◌, ℕ, zero, suc, ◌^◌, ◌<◌, ◌≤◌, List, [], ◌∷◌, ◌++◌, length, get_or, take, replicate, IsTrue, refl, sym, ap, ap₂, ◌∙◌, arith}
 use mathlib.Core.Path.{fun_ext}
-use Rattle.ring_theory.specs.Ring.{TestedRing}
-use Rattle.ring_theory.specs.Lists.{coeff_of, convolution, mul_onto, scale_list}
-use Rattle.ring_theory.proofs.Ring.{zero_add, mul_zero}
-use Rattle.ring_theory.proofs.Sequences.{convolution_comm}
-use Rattle.ring_theory.proofs.Lists.{coeff_trim, coeff_add, coeff_scale, coeff_mul, coeff_mul_onto}
-use Rattle.ring_theory.specs.Polynomials.{Pol}
-use Rattle.ring_theory.proofs.Polynomials.{pol_ring, same_pol, series_add, series_mul}
-use Rattle.ring_theory.proofs.Division.{length_bound}
+use Rattle.ring_lemmas.specs.Ring.{TestedRing}
+use Rattle.ring_lemmas.specs.Lists.{coeff_of, convolution, mul_onto, scale_list}
+use Rattle.ring_lemmas.proofs.Ring.{zero_add, mul_zero}
+use Rattle.ring_lemmas.proofs.Sequences.{convolution_comm}
+use Rattle.ring_lemmas.proofs.Lists.{coeff_trim, coeff_add, coeff_scale, coeff_mul, coeff_mul_onto}
+use Rattle.ring_lemmas.specs.Polynomials.{Pol}
+use Rattle.ring_theory.specs.PolynomialRing.{pol_ring}
+use Rattle.ring_lemmas.proofs.Polynomials.{same_pol, series_add, series_mul}
+use Rattle.ring_lemmas.proofs.Division.{length_bound}
 use Rattle.ff_fields.specs.Field.{CodeField}
 use Rattle.ff_fields.specs.Prime.{is_listed, prime_of, prime_field}
 use Rattle.ff_fields.specs.Code.{Code, code_ring, same_code, read_code_below}

@@ -3,14 +3,17 @@
 use Rattle.std.proofs.Common.{◌≡◌, ℕ, zero, suc, ◌+◌, ◌-◌, ◌<◌, ◌≤◌, [], ◌∷◌, length, IsTrue, ◌⊎◌, inl, inr, refl, sym, ap, ap₂, ◌∙◌, arith, subst}
 use Rattle.std.proofs.lemmas.Bool.{cases_lt, cases_eq}
 use mathlib.Core.Path.{fun_ext}
-use Rattle.ring_theory.specs.Ring.{CommRing, TestedRing, IsDomain}
-use Rattle.ring_theory.specs.Lists.{coeff_of, convolution, rest_from, quotient_from}
-use Rattle.ring_theory.proofs.Ring.{one_mul, mul_zero, mul_neg, add_mul, mul_left_comm}
-use Rattle.ring_theory.proofs.Sequences.{convolution_comm, convolution_constant_left}
-use Rattle.ring_theory.proofs.Lists.{coeff_trim}
-use Rattle.ring_theory.specs.Polynomials.{Pol, pol_of, pol_ops}
-use Rattle.ring_theory.proofs.Polynomials.{pol_ring, pol_domain, same_pol, series_add, series_mul, coeff_past, length_from_top, length_product}
-use Rattle.ring_theory.proofs.Division.{divided, rest_ends, length_bound, short_multiple}
+use Rattle.ring_lemmas.specs.Ring.{CommRing, TestedRing, IsDomain}
+use Rattle.ring_lemmas.specs.Lists.{coeff_of, convolution, rest_from, quotient_from}
+use Rattle.ring_lemmas.proofs.Ring.{one_mul, mul_zero, mul_neg, add_mul, mul_left_comm}
+use Rattle.ring_lemmas.proofs.Sequences.{convolution_comm, convolution_constant_left}
+use Rattle.ring_lemmas.proofs.Lists.{coeff_trim}
+use Rattle.ring_lemmas.specs.Polynomials.{Pol, pol_of, pol_ops}
+use Rattle.ring_theory.specs.PolynomialRing.{pol_ring}
+use Rattle.ring_theory.proofs.Polynomials.{pol_domain, length_product}
+use Rattle.ring_lemmas.proofs.Polynomials.{same_pol, series_add, series_mul, coeff_past, length_from_top}
+use Rattle.ring_lemmas.proofs.Division.{divided, rest_ends, length_bound}
+use Rattle.ring_theory.proofs.Division.{short_multiple}
 use Rattle.ff_fields.specs.Field.{CodeField}
 use Rattle.ff_fields.specs.Prime.{is_listed, prime_field}
 use Rattle.ff_fields.specs.Code.{Code, code_ring, code_field, code_domain, same_code}

@@ -4,8 +4,8 @@ use Rattle.std.proofs.Common.{ap, ◌∙◌, arith, eqb-true, mod-lt, mod-eq_of_
 use Rattle.std.proofs.Math.Bridge.{le_prop}
 use native.Mathlib.Nat.{ℕ_set}
 use mathlib.Core.HLevel.{Σ_prop_path}
-use Rattle.ring_theory.specs.Ring.{Operations, TestedRing, IsDomain, IsField}
-use Rattle.ring_theory.proofs.Ring.{field_domain}
+use Rattle.ring_lemmas.specs.Ring.{Operations, TestedRing, IsDomain, IsField}
+use Rattle.ring_lemmas.proofs.Ring.{field_domain}
 use Rattle.ff_fields.specs.Field.{FieldOps, CodeField}
 
 -- the code of zero is 0

@@ -1,8 +1,8 @@
 -- What a modulus must be, and what stands in the way of a field.
 use Rattle.std.specs.Prelude.{◌≡◌, ◌≢◌, ℕ, suc, ◌+◌, ◌*◌, ◌%◌, ◌^◌, ◌<◌, ◌≤◌, List, ◌∷◌, length, get_or, IsTrue}
-use Rattle.ring_theory.specs.Lists.{coeff_of, convolution, mul_onto}
-use Rattle.ring_theory.specs.Polynomials.{Pol, pol_of}
-use Rattle.ring_theory.proofs.Polynomials.{pol_ring}
+use Rattle.ring_lemmas.specs.Lists.{coeff_of, convolution, mul_onto}
+use Rattle.ring_lemmas.specs.Polynomials.{Pol, pol_of}
+use Rattle.ring_theory.specs.PolynomialRing.{pol_ring}
 use Rattle.ff_fields.specs.declared.fault.FieldFault.{FieldFault}
 use Rattle.ff_fields.specs.declared.fault.FieldFault.TheVariants.{FieldSize, CodeRange, NotMonic, NotField}
 use Rattle.ff_fields.specs.Field.{CodeField}

@@ -3,10 +3,9 @@ use Rattle.std.specs.Prelude.{◌≡◌, ℕ, zero, suc, ◌-◌, Bool, true, fa
 use Rattle.std.proofs.Common.{sym, ap, ap₂, ◌∙◌}
 use Rattle.std.proofs.lemmas.List.{length-map}
 use Rattle.ff_fields.specs.Field.{CodeField}
-use Rattle.ring_theory.specs.Ring.{TestedRing}
+use Rattle.ring_lemmas.specs.Ring.{TestedRing}
 use Rattle.ff_fields.specs.Code.{raw_ring, is_zero_code, Code, same_code, code_ring, read_code, read_code_below}
-use Rattle.ring_theory.specs.Lists.{add_lists, neg_list, scale_list, mul_lists, mul_onto, trim_onto, trim}
-use Rattle.ring_theory.specs.Lists.{digit_of, rest_from, quotient_from}
+use Rattle.ring_lemmas.specs.Lists.{add_lists, neg_list, scale_list, mul_lists, mul_onto, trim_onto, trim, digit_of, rest_from, quotient_from}
 use Rattle.ff_fields.specs.Over.{IsOver, IsOver_nil, IsOver_cons, IsOver_head, IsOver_tail}
 
 module _ (k : CodeField) where

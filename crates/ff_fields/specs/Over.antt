@@ -4,8 +4,7 @@ use Rattle.std.proofs.Common.{arith}
 use Rattle.std.proofs.lemmas.List.Elements.{All-append, All-take, All-drop, All-replicate}
 use Rattle.ff_fields.specs.Field.{FieldOps, CodeField}
 use Rattle.ff_fields.specs.Code.{raw_ring, is_zero_code, zero_in}
-use Rattle.ring_theory.specs.Lists.{add_lists, neg_list, scale_list, mul_lists, mul_onto, trim_onto, trim}
-use Rattle.ring_theory.specs.Lists.{digit_of, rest_from, quotient_from}
+use Rattle.ring_lemmas.specs.Lists.{add_lists, neg_list, scale_list, mul_lists, mul_onto, trim_onto, trim, digit_of, rest_from, quotient_from}
 
 -- each code is one of the field
 pub record IsOver (k : FieldOps) (codes : List ℕ) : Type 0 where

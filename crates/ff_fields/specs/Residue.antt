@@ -8,17 +8,21 @@ use Rattle.std.proofs.lemmas.Bool.{cases_lt, cases_eq}
 use mathlib.Core.Path.{fun_ext}
 use native.Mathlib.Nat.{ℕ_set}
 use mathlib.Core.HLevel.{Σ_prop_path}
-use Rattle.ring_theory.specs.Ring.{Operations, CommRing, TestedRing, IsDomain, pow}
-use Rattle.ring_theory.specs.Lists.{coeff_of, convolution, add_lists, neg_list, mul_lists, rest_from, quotient_from}
-use Rattle.ring_theory.specs.Congruence.{IsCongruent, Represents}
-use Rattle.ring_theory.proofs.Ring.{zero_add, neg_add, zero_mul, one_mul, mul_zero, neg_zero, cross}
-use Rattle.ring_theory.proofs.Sequences.{convolution_comm}
-use Rattle.ring_theory.proofs.Lists.{coeff_add, coeff_mul, coeff_neg, coeff_trim, coeff_append_zeros, length_add_lists, length_neg_list}
-use Rattle.ring_theory.specs.Polynomials.{Pol, pol_of, pol_ops}
-use Rattle.ring_theory.proofs.Polynomials.{pol_ring, same_pol, series_add, series_neg, series_mul, coeff_past, length_from_top}
-use Rattle.ring_theory.proofs.Division.{divided, rest_ends, length_bound, length_add, length_neg, length_rest_from, short_multiple}
-use Rattle.ring_theory.proofs.Congruence.{congruent_sym, congruent_same, represented_ring}
-use Rattle.ring_theory.proofs.Finite.{power_all, codes_to, length_codes_to, codes_to_some, codes_to_distinct, codes_to_all}
+use Rattle.ring_lemmas.specs.Ring.{Operations, CommRing, TestedRing, IsDomain, pow}
+use Rattle.ring_lemmas.specs.Lists.{coeff_of, convolution, add_lists, neg_list, mul_lists, rest_from, quotient_from}
+use Rattle.ring_lemmas.specs.Congruence.{IsCongruent, Represents}
+use Rattle.ring_lemmas.proofs.Ring.{zero_add, neg_add, zero_mul, one_mul, mul_zero, neg_zero, cross}
+use Rattle.ring_lemmas.proofs.Sequences.{convolution_comm}
+use Rattle.ring_lemmas.proofs.Lists.{coeff_add, coeff_mul, coeff_neg, coeff_trim, coeff_append_zeros, length_add_lists, length_neg_list}
+use Rattle.ring_lemmas.specs.Polynomials.{Pol, pol_of, pol_ops}
+use Rattle.ring_theory.specs.PolynomialRing.{pol_ring}
+use Rattle.ring_lemmas.proofs.Polynomials.{same_pol, series_add, series_neg, series_mul, coeff_past, length_from_top}
+use Rattle.ring_lemmas.proofs.Division.{divided, rest_ends, length_bound, length_rest_from}
+use Rattle.ring_theory.proofs.Division.{length_add, length_neg, short_multiple}
+use Rattle.ring_lemmas.proofs.Congruence.{congruent_sym, congruent_same}
+use Rattle.ring_theory.specs.RepresentedRing.{represented_ring}
+use Rattle.ring_theory.proofs.Finite.{power_all, length_codes_to, codes_to_some, codes_to_distinct, codes_to_all}
+use Rattle.ring_theory.specs.Members.{codes_to}
 use Rattle.ff_fields.specs.Field.{FieldOps, FieldLaws, CodeField, pow_of, times_of}
 use Rattle.ff_fields.specs.Prime.{is_listed, prime_of, prime_field, listed_above, listed_prime}
 use Rattle.ff_fields.specs.Code.{raw_ring, Code, code_ring, code_domain, read_code, same_code}

@@ -198,7 +198,6 @@ impl IsStandard for TableField {
 }
 
 impl SmallField for TableField {
-    ghost use Rattle.ff_fields.specs.Standards.{standard_of};
 
     ghost field = { standard_of };
 

@@ -1,7 +1,7 @@
 -- The codes of a monic polynomial are zeros, and then a list that begins with another code.
 use Rattle.std.proofs.Common.{◌≡◌, ◌≢◌, ℕ, zero, suc, ◌<◌, ◌≤◌, ◌⊎◌, inl, inr, List, [], ◌∷◌, ◌++◌, length, get_or, drop, replicate, refl, sym, ◌∙◌, ap₂, arith}
 use Rattle.std.proofs.lemmas.Bool.{cases_lt}
-use Rattle.ring_theory.proofs.Lists.{trim_trimmed, IsTrimmed_push}
+use Rattle.ring_lemmas.proofs.Lists.{trim_trimmed, IsTrimmed_push}
 use Rattle.ff_fields.specs.Field.{FieldOps, CodeField}
 use Rattle.ff_fields.specs.Code.{is_zero_code}
 use Rattle.ff_fields.specs.Over.{IsOver, IsOver_nil, IsOver_cons, IsOver_append, IsOver_zeros, IsOver_tail}

@@ -79,7 +79,6 @@ pub struct WriteSink<W: Write> {
 }
 
 impl<W: Write> Model for WriteSink<W> {
-    ghost use Rattle.ff_io.specs.Streams.{Counted};
 
     ghost Value = { Counted W };
 

@@ -23,8 +23,8 @@ pub struct MemSource {
 }
 
 impl Model for MemSource {
-    ghost use Rattle.std.specs.Prelude.{◌≤◌, length};
-    ghost use Rattle.ff_io.specs.Memory.{SourceState};
+    ghost use Rattle.std.specs.Prelude.{◌≤◌, length, vec_capacity};
+    ghost use Rattle.ff_io.specs.Memory.{SourceState, SinkState};
 
     ghost Value = { SourceState };
 
@@ -139,8 +139,6 @@ pub struct MemSink {
 }
 
 impl Model for MemSink {
-    ghost use Rattle.std.specs.Prelude.{◌≤◌, length, vec_capacity};
-    ghost use Rattle.ff_io.specs.Memory.{SinkState};
 
     ghost Value = { SinkState };
 

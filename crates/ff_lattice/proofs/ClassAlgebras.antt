@@ -1,8 +1,7 @@
 -- An algebra on vectors by what they stand for in a ring modulo an ideal: its laws are those of the ring.
-use Rattle.std.proofs.Common.{◌≡◌, ℕ, List, sym, ap, ◌∙◌, subst}
-use Rattle.ring_theory.specs.Ring.{CommRing}
-use Rattle.std.proofs.Common.{[], ◌∷◌, refl}
-use Rattle.ring_theory.proofs.Solver.{ring, reads}
+use Rattle.std.proofs.Common.{◌≡◌, ℕ, List, sym, ap, ◌∙◌, subst, [], ◌∷◌, refl}
+use Rattle.ring_lemmas.specs.Ring.{CommRing}
+use Rattle.ring_lemmas.proofs.Solver.{ring, reads}
 
 -- O is closed under products, and I is an ideal of it
 pub record IsIdealOf {A : Type 0} (R : CommRing A) (O I : A → Type 0) : Type 0 where

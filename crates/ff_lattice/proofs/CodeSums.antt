@@ -2,12 +2,13 @@
 use Rattle.std.proofs.Common.{◌≡◌, ℕ, zero, suc, ◌+◌, ◌-◌, ◌*◌, ◌/◌, ◌%◌, ◌<◌, ◌≤◌, ◌⊎◌, inl, inr, true, false, List, [], ◌∷◌, length, get_or, drop, refl, sym, ap, ap₂, ◌∙◌, subst, arith}
 use Rattle.std.proofs.lemmas.Bool.{cases_lt, le-ltb}
 use Rattle.std.proofs.lemmas.Nat.{div-add-mod', mod_below, row_fits}
-use Rattle.ring_theory.specs.Ring.{CommRing, TestedRing}
-use Rattle.ring_theory.specs.Lists.{add_lists, scale_list, coeff_of}
-use Rattle.ring_theory.specs.Rows.{Row}
-use Rattle.ring_theory.proofs.Ring.{mul_zero, neg_unique}
-use Rattle.ring_theory.specs.Polynomials.{Pol}
-use Rattle.ring_theory.proofs.Polynomials.{pol_ring, same_pol}
+use Rattle.ring_lemmas.specs.Ring.{CommRing, TestedRing}
+use Rattle.ring_lemmas.specs.Lists.{add_lists, scale_list, coeff_of}
+use Rattle.ring_lemmas.specs.Rows.{Row}
+use Rattle.ring_lemmas.proofs.Ring.{mul_zero, neg_unique}
+use Rattle.ring_lemmas.specs.Polynomials.{Pol}
+use Rattle.ring_theory.specs.PolynomialRing.{pol_ring}
+use Rattle.ring_lemmas.proofs.Polynomials.{same_pol}
 use Rattle.ff_fields.specs.Field.{CodeField}
 use Rattle.ff_fields.specs.Code.{Code, code_ring, raw_ring, zero_in}
 use Rattle.ff_fields.specs.Numbers.{read, numbers_read}

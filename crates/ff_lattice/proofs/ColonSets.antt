@@ -4,12 +4,12 @@ use Rattle.std.specs.Prelude.{slice_get}
 use Rattle.std.proofs.lemmas.List.Elements.{All-nil, All-cons, All-head, All-tail, All-set, All-replicate}
 use Rattle.std.proofs.lemmas.List.{length-set, length-replicate}
 use Rattle.std.proofs.lemmas.Option.{get_or_from_slice_get}
-use Rattle.ring_theory.specs.Ring.{CommRing}
-use Rattle.ring_theory.specs.Rows.{row_scale, row_zero}
+use Rattle.ring_lemmas.specs.Ring.{CommRing}
+use Rattle.ring_lemmas.specs.Rows.{row_scale, row_zero}
 use Rattle.ring_theory.specs.Subsets.{IsSubring, IsModule}
-use Rattle.ring_theory.proofs.Ring.{mul_zero, one_mul}
-use Rattle.ring_theory.proofs.Rows.{pair_path, row_scale_zero}
-use Rattle.ring_theory.proofs.Solver.{ring, reads}
+use Rattle.ring_lemmas.proofs.Ring.{mul_zero, one_mul}
+use Rattle.ring_lemmas.proofs.Rows.{pair_path, row_scale_zero}
+use Rattle.ring_lemmas.proofs.Solver.{ring, reads}
 use Rattle.ring_theory.proofs.Subsets.{span_zero, span_sum, span_scale, span_least, span_head, span_tail}
 use Rattle.ff_fields.specs.Field.{CodeField}
 use Rattle.ff_fields.specs.Over.{IsOver, IsOver_nil}

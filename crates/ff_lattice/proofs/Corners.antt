@@ -2,11 +2,11 @@
 -- the right parts of the first rows of their Popov form are zero; and the pairs have full rank where the span has.
 use Rattle.std.proofs.Common.{◌≡◌, ℕ, suc, ◌<◌, ◌≤◌, ◌+◌, ◌*◌, ◌-◌, ◌/◌, ◌%◌, ◌⊎◌, inl, inr, List, length, sym, ◌∙◌, ap, ap₂, arith, subst}
 use Rattle.std.proofs.lemmas.Bool.{cases_lt}
-use Rattle.ring_theory.specs.Ring.{TestedRing, IsField, IsDomain}
-use Rattle.ring_theory.specs.Lists.{coeff_of}
-use Rattle.ring_theory.proofs.Ring.{field_domain}
-use Rattle.ring_theory.specs.Polynomials.{Pol}
-use Rattle.ring_theory.proofs.Polynomials.{pol_ring}
+use Rattle.ring_lemmas.specs.Ring.{TestedRing, IsField, IsDomain}
+use Rattle.ring_lemmas.specs.Lists.{coeff_of}
+use Rattle.ring_lemmas.proofs.Ring.{field_domain}
+use Rattle.ring_lemmas.specs.Polynomials.{Pol}
+use Rattle.ring_theory.specs.PolynomialRing.{pol_ring}
 use Rattle.popov_theory.specs.Module.{PolynomialModule, measure, row_degree, column}
 use Rattle.popov_theory.specs.Span.{row_at, InSpan}
 use Rattle.popov_theory.specs.Popov.{IsPopov}

@@ -1,8 +1,8 @@
 -- Divisibility of polynomials, as members of k[x] and as lists of codes.
 use Rattle.std.proofs.Common.{◌≡◌, ◌≢◌, ℕ, ◌<◌, ◌≤◌, ◌↔◌, List, [], ◌∷◌, length, refl, sym, ◌∙◌, ap, ap₂, subst, arith}
-use Rattle.ring_theory.specs.Ring.{CommRing}
-use Rattle.ring_theory.proofs.Ring.{domain_cancel}
-use Rattle.ring_theory.proofs.Solver.{ring, reads, from_two}
+use Rattle.ring_lemmas.specs.Ring.{CommRing}
+use Rattle.ring_lemmas.proofs.Ring.{domain_cancel}
+use Rattle.ring_lemmas.proofs.Solver.{ring, reads, from_two}
 use Rattle.ff_fields.specs.Field.{CodeField}
 use Rattle.ff_fields.specs.Over.{IsOver, IsOver_nil}
 use Rattle.ff_poly.specs.Words.{IsPoly, IsMonic, IsQuotientWithRest, DividesList, product_of, sum_of}

@@ -1,10 +1,10 @@
 -- The functions v/e that rows v stand for over a polynomial e: sums, multiples, products, and when two are equal.
 use Rattle.std.proofs.Common.{◌≡◌, ℕ, zero, suc, refl, sym, ◌∙◌, ap}
-use Rattle.ring_theory.specs.Ring.{CommRing, IsDomain}
-use Rattle.ring_theory.specs.Rows.{Row, row_zero, row_add, row_scale, row_mul, row_one}
-use Rattle.ring_theory.proofs.Ring.{domain_cancel, product_not_zero}
-use Rattle.ring_theory.proofs.Rows.{pair_path, row_scale_add, row_scale_zero, row_scale_scale, row_scale_comm, row_mul_comm, row_mul_one, scale_row_mul}
-use Rattle.ring_theory.proofs.RowFractions.{pair_add, pair_mul, whole_pair}
+use Rattle.ring_lemmas.specs.Ring.{CommRing, IsDomain}
+use Rattle.ring_lemmas.specs.Rows.{Row, row_zero, row_add, row_scale, row_mul, row_one}
+use Rattle.ring_lemmas.proofs.Ring.{domain_cancel, product_not_zero}
+use Rattle.ring_lemmas.proofs.Rows.{pair_path, row_scale_add, row_scale_zero, row_scale_scale, row_scale_comm, row_mul_comm, row_mul_one, scale_row_mul}
+use Rattle.ring_theory.specs.FunctionRing.{pair_add, pair_mul, whole_pair}
 use Rattle.ff_fields.specs.Field.{CodeField}
 use Rattle.ff_poly.specs.Polynomials.{Polynomial, polynomials, polynomials_domain}
 use Rattle.function_field.specs.Functions.{Equation, RowOver, FunctionOf, ring_of, function_eq, function_same, add_rows, mul_rows, whole_row, row_of, of_poly, over, add_function, mul_function, zero_function}

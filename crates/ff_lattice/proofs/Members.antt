@@ -1,8 +1,8 @@
 -- The span over k[x] of rows over a polynomial: the functions v/e with v in the module that the rows span.
 use Rattle.std.proofs.Common.{◌≡◌, ℕ, zero, suc, List, [], ◌∷◌, map, refl, sym, ◌∙◌, ap, ap₂, subst, All, ◌↔◌}
 use Rattle.std.proofs.lemmas.List.Elements.{All-nil, All-cons}
-use Rattle.ring_theory.specs.Ring.{CommRing}
-use Rattle.ring_theory.specs.Rows.{Row}
+use Rattle.ring_lemmas.specs.Ring.{CommRing}
+use Rattle.ring_lemmas.specs.Rows.{Row}
 use Rattle.ring_theory.specs.Subsets.{IsSubring, IsModule, Span}
 use Rattle.ring_theory.proofs.Subsets.{span_zero, span_sum, span_scale, span_head, span_tail, span_least}
 use Rattle.ff_fields.specs.Field.{CodeField}
@@ -14,7 +14,8 @@ use Rattle.popov_theory.specs.Module.{PolynomialModule}
 use Rattle.popov_theory.specs.Span.{row_at, InSpan}
 use Rattle.popov_theory.specs.Span as theory
 use Rattle.popov_theory.proofs.Span as spans
-use Rattle.popov_theory.proofs.PolynomialRows.{row_module, row_module_zero, row_module_add, row_module_scale}
+use Rattle.popov_theory.specs.RowModule.{row_module}
+use Rattle.popov_theory.proofs.PolynomialRows.{row_module_zero, row_module_add, row_module_scale}
 use Rattle.ff_lattice.proofs.Fracs.{over_zero, over_add, over_scale, over_injective}
 
 module _ {k : CodeField} (c : Equation k) where

@@ -3,11 +3,11 @@ use Rattle.std.proofs.Common.{◌≡◌, ℕ, zero, suc, ◌-◌, ◌≤◌, ◌
 use Rattle.std.specs.Prelude.{MatchOption, is_some}
 use Rattle.std.specs.Global.{Vec}
 use Rattle.std.proofs.lemmas.List.Elements.{All-nil, All-cons, All-head, All-tail}
-use Rattle.ring_theory.specs.Ring.{CommRing, TestedRing}
-use Rattle.ring_theory.specs.Lists.{tail_of}
-use Rattle.ring_theory.specs.Rows.{Row}
-use Rattle.ring_theory.specs.Polynomials.{Pol}
-use Rattle.ring_theory.proofs.Polynomials.{pol_ring}
+use Rattle.ring_lemmas.specs.Ring.{CommRing, TestedRing}
+use Rattle.ring_lemmas.specs.Lists.{tail_of}
+use Rattle.ring_lemmas.specs.Rows.{Row}
+use Rattle.ring_lemmas.specs.Polynomials.{Pol}
+use Rattle.ring_theory.specs.PolynomialRing.{pol_ring}
 use Rattle.ff_fields.specs.Field.{CodeField}
 use Rattle.ff_fields.specs.Code.{code_ring}
 use Rattle.ff_fields.specs.Over.{IsOver}

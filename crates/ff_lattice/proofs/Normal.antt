@@ -2,8 +2,8 @@
 use Rattle.std.proofs.Common.{◌≡◌, ◌≢◌, ℕ, zero, suc, ◌<◌, ◌≤◌, ◌⊎◌, inl, inr, List, [], ◌∷◌, length, get_or, map, refl, sym, ◌∙◌, ap, subst, arith, All}
 use Rattle.std.proofs.lemmas.Bool.{cases_lt}
 use Rattle.std.proofs.lemmas.List.Elements.{All-nil, All-cons, All-head, All-tail}
-use Rattle.ring_theory.proofs.Lists.{IsTrimmed_push}
-use Rattle.ring_theory.proofs.Solver.{ring, reads}
+use Rattle.ring_lemmas.proofs.Lists.{IsTrimmed_push}
+use Rattle.ring_lemmas.proofs.Solver.{ring, reads}
 use Rattle.ff_fields.specs.Field.{CodeField}
 use Rattle.ff_fields.specs.Code.{is_zero_code}
 use Rattle.ff_fields.specs.Over.{IsOver}

@@ -3,12 +3,12 @@ use Rattle.std.proofs.Common.{◌≡◌, ◌≢◌, ℕ, zero, suc, ◌-◌, ◌
 use Rattle.std.proofs.lemmas.Bool.{cases_lt}
 use Rattle.std.proofs.lemmas.List.{length-map}
 use Rattle.std.proofs.lemmas.List.Elements.{All-nil, All-cons, All-head, All-tail}
-use Rattle.ring_theory.specs.Ring.{CommRing}
-use Rattle.ring_theory.specs.Lists.{coeff_of, scale_list, add_lists, neg_list}
-use Rattle.ring_theory.specs.Rows.{Row, row_zero, row_add, row_scale}
-use Rattle.ring_theory.proofs.Ring.{mul_zero, one_mul, eq_of_sub, neg_mul, add_mul}
-use Rattle.ring_theory.proofs.Rows.{pair_path, row_scale_add, row_scale_zero, row_scale_comm, row_scale_one}
-use Rattle.ring_theory.proofs.Polynomials.{series_add, series_neg}
+use Rattle.ring_lemmas.specs.Ring.{CommRing}
+use Rattle.ring_lemmas.specs.Lists.{coeff_of, scale_list, add_lists, neg_list}
+use Rattle.ring_lemmas.specs.Rows.{Row, row_zero, row_add, row_scale}
+use Rattle.ring_lemmas.proofs.Ring.{mul_zero, one_mul, eq_of_sub, neg_mul, add_mul}
+use Rattle.ring_lemmas.proofs.Rows.{pair_path, row_scale_add, row_scale_zero, row_scale_comm, row_scale_one}
+use Rattle.ring_lemmas.proofs.Polynomials.{series_add, series_neg}
 use Rattle.ring_theory.proofs.Division.{length_add, length_neg}
 use Rattle.ff_fields.specs.Field.{CodeField}
 use Rattle.ff_fields.specs.Code.{code_ring, code_domain, same_code, raw_ring, is_zero_code}

@@ -1,8 +1,8 @@
 -- The element 1.
 use Rattle.std.proofs.Common.{◌≡◌, ℕ, zero, suc, ◌-◌, ◌≤◌, [], ◌∷◌, sym, ◌∙◌, arith}
-use Rattle.ring_theory.proofs.Rows.{pair_path}
-use Rattle.ring_theory.specs.Rows.{row_one}
-use Rattle.ring_theory.proofs.RowFractions.{whole_pair}
+use Rattle.ring_lemmas.proofs.Rows.{pair_path}
+use Rattle.ring_lemmas.specs.Rows.{row_one}
+use Rattle.ring_theory.specs.FunctionRing.{whole_pair}
 use Rattle.ff_fields.specs.Field.{CodeField}
 use Rattle.ff_poly.specs.Polynomials.{polynomials, value_one}
 use Rattle.ff_popov.specs.Reading.{read_row}

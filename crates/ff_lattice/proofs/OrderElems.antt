@@ -1,8 +1,8 @@
 -- A member of a lattice as a row over the lattice's denominator.
 use Rattle.std.proofs.Common.{◌≡◌, ℕ, suc, ◌-◌, ◌<◌, List, [], length, sym, ◌∙◌, ap, subst, arith, All}
 use Rattle.std.proofs.lemmas.List.{length-map}
-use Rattle.ring_theory.specs.Ring.{CommRing}
-use Rattle.ring_theory.specs.Rows.{row_scale, entry}
+use Rattle.ring_lemmas.specs.Ring.{CommRing}
+use Rattle.ring_lemmas.specs.Rows.{row_scale, entry}
 use Rattle.ff_fields.specs.Field.{CodeField}
 use Rattle.ff_fields.specs.Code.{code_ring}
 use Rattle.ff_fields.specs.Over.{IsOver}
@@ -10,7 +10,7 @@ use Rattle.ff_poly.specs.Words.{DividesList, product_of}
 use Rattle.ff_poly.specs.Value.{value}
 use Rattle.ff_poly.specs.Polynomials.{Polynomial, polynomials}
 use Rattle.ff_poly.specs.Popov.{entry_at, multiple_of_row}
-use Rattle.popov_theory.proofs.PolynomialRows.{entry_scale}
+use Rattle.ring_theory.proofs.PolynomialRows.{entry_scale}
 use Rattle.ff_popov.specs.Reading.{read_row, read_rows}
 use Rattle.ff_popov.proofs.Entries.{any_default}
 use Rattle.ff_popov.proofs.ReadRows.{entry_read, read_multiple, over_at}

@@ -3,9 +3,9 @@ use Rattle.std.proofs.Common.{◌≡◌, ℕ, ◌+◌, ◌<◌, ◌≤◌, ◌�
 use Rattle.std.specs.Prelude.{slice_get}
 use Rattle.std.proofs.lemmas.List.Elements.{All-nil, All-cons, All-head, All-tail}
 use Rattle.std.proofs.lemmas.Option.{get_or_from_slice_get}
-use Rattle.ring_theory.specs.Ring.{CommRing}
+use Rattle.ring_lemmas.specs.Ring.{CommRing}
 use Rattle.ring_theory.specs.Subsets.{IsSubring, IsModule, Span}
-use Rattle.ring_theory.proofs.Ring.{mul_zero}
+use Rattle.ring_lemmas.proofs.Ring.{mul_zero}
 use Rattle.ring_theory.proofs.Subsets.{span_zero, span_sum, span_scale, span_least, span_members}
 use Rattle.ff_fields.specs.Field.{CodeField}
 use Rattle.function_field.specs.Functions.{IsPolynomial}

@@ -3,15 +3,15 @@ use Rattle.std.proofs.Common.{◌≡◌, ℕ, suc, ◌+◌, ◌-◌, ◌*◌, �
 use Rattle.std.proofs.lemmas.Int.{ints}
 use Rattle.std.proofs.lemmas.List.{length-map}
 use Rattle.std.proofs.lemmas.List.Elements.{All-map, All-from_get_or}
-use Rattle.ring_theory.specs.Ring.{CommRing}
-use Rattle.ring_theory.specs.Lists.{tail_of}
-use Rattle.ring_theory.specs.Rows.{Row, row_scale}
+use Rattle.ring_lemmas.specs.Ring.{CommRing}
+use Rattle.ring_lemmas.specs.Lists.{tail_of}
+use Rattle.ring_lemmas.specs.Rows.{Row, row_scale}
 use Rattle.ring_theory.specs.Subsets.{IsSubring}
-use Rattle.ring_theory.proofs.Ring.{neg_unique, add_sub, product_not_zero}
-use Rattle.ring_theory.proofs.Rows.{row_scale_scale}
+use Rattle.ring_lemmas.proofs.Ring.{neg_unique, add_sub, product_not_zero}
+use Rattle.ring_lemmas.proofs.Rows.{row_scale_scale}
 use Rattle.ring_theory.proofs.RowMaps.{hom_zero}
 use Rattle.ring_theory.proofs.Subsets.{span_zero, span_sum, span_scale}
-use Rattle.ring_theory.specs.Polynomials.{constant}
+use Rattle.ring_lemmas.specs.Polynomials.{constant}
 use Rattle.ring_theory.proofs.Evaluate.{constant_hom}
 use Rattle.linear_theory.specs.Fields.{Field, domain_of}
 use Rattle.linear_theory.specs.Module.{Module, combine, IsHomomorphism}

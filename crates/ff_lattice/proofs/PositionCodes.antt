@@ -4,11 +4,11 @@ use Rattle.std.specs.Prelude.{All}
 use Rattle.std.proofs.lemmas.Bool.{cases_lt}
 use Rattle.std.proofs.lemmas.Nat.{div-add-mod', mod_below}
 use Rattle.std.proofs.lemmas.List.{get_or-map, length-append, length-replicate, get_or-append_right}
-use Rattle.ring_theory.specs.Ring.{TestedRing}
-use Rattle.ring_theory.specs.Lists.{coeff_of}
-use Rattle.ring_theory.specs.Rows.{Row}
-use Rattle.ring_theory.specs.Polynomials.{Pol}
-use Rattle.ring_theory.proofs.Polynomials.{coeff_past}
+use Rattle.ring_lemmas.specs.Ring.{TestedRing}
+use Rattle.ring_lemmas.specs.Lists.{coeff_of}
+use Rattle.ring_lemmas.specs.Rows.{Row}
+use Rattle.ring_lemmas.specs.Polynomials.{Pol}
+use Rattle.ring_lemmas.proofs.Polynomials.{coeff_past}
 use Rattle.ff_fields.specs.Field.{FieldOps, CodeField}
 use Rattle.ff_fields.specs.Code.{Code, code_ring, read_code, read_code_below, same_code, zero_in}
 use Rattle.ff_fields.specs.Over.{IsOver}

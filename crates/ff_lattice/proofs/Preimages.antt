@@ -7,10 +7,10 @@ use Rattle.std.proofs.Math.Seq.{take-append_seam, drop-append_seam, get_or-appen
 use Rattle.std.proofs.lemmas.List.Elements.{All-nil, All-cons, All-head, All-tail, All-append, All-set, All-replicate}
 use native.Mathlib.Decide.{ℕ_discrete}
 use mathlib.Core.Path.{fun_ext}
-use Rattle.ring_theory.specs.Lists.{coeff_of}
-use Rattle.ring_theory.specs.Rows.{Row, row_zero, row_scale, entry}
-use Rattle.ring_theory.proofs.Ring.{mul_zero, product_not_zero}
-use Rattle.ring_theory.proofs.Rows.{pair_path, row_scale_zero}
+use Rattle.ring_lemmas.specs.Lists.{coeff_of}
+use Rattle.ring_lemmas.specs.Rows.{Row, row_zero, row_scale, entry}
+use Rattle.ring_lemmas.proofs.Ring.{mul_zero, product_not_zero}
+use Rattle.ring_lemmas.proofs.Rows.{pair_path, row_scale_zero}
 use Rattle.ff_fields.specs.Field.{CodeField}
 use Rattle.ff_fields.specs.Code.{code_ring, code_field, same_code}
 use Rattle.ff_fields.specs.Over.{IsOver, IsOver_nil, IsOver_cons, IsOver_zeros, IsOver_append, IsOver_trim}
@@ -27,7 +27,8 @@ use Rattle.popov_theory.proofs.Module.{same_columns, scale_zero}
 use Rattle.popov_theory.proofs.Product.{product_zero, product_scale}
 use Rattle.popov_theory.proofs.Span.{span_row, span_zero, span_least, combine_add, combine_scale, within_rows}
 use Rattle.popov_theory.proofs.PopovForm.{row_past}
-use Rattle.popov_theory.proofs.PolynomialRows.{row_module_zero, row_module_add, row_module_scale, entry_add, entry_scale, entry_zero, same_entries}
+use Rattle.popov_theory.proofs.PolynomialRows.{row_module_zero, row_module_add, row_module_scale}
+use Rattle.ring_theory.proofs.PolynomialRows.{entry_add, entry_scale, entry_zero, same_entries}
 use Rattle.popov_theory.proofs.Kernel.{W, IsLinear}
 use Rattle.ff_popov.specs.Reading.{read_row, row_space, read_rows}
 use Rattle.ff_popov.proofs.ReadRows.{entry_read, read_row_at, past_row, read_zeros, over_at}

@@ -5,13 +5,13 @@ use Rattle.std.proofs.lemmas.List.Elements.{All-replicate}
 use Rattle.std.proofs.lemmas.Nat.{mul-le, div-add-mod', mod_below, row_fits}
 use Rattle.std.proofs.lemmas.Bool.{cases_lt}
 use Rattle.std.proofs.Math.Nat.{le-max_left, le-max_right}
-use Rattle.ring_theory.specs.Ring.{CommRing, TestedRing}
-use Rattle.ring_theory.specs.Lists.{add_lists, scale_list}
-use Rattle.ring_theory.specs.Rows.{Row}
+use Rattle.ring_lemmas.specs.Ring.{CommRing, TestedRing}
+use Rattle.ring_lemmas.specs.Lists.{add_lists, scale_list}
+use Rattle.ring_lemmas.specs.Rows.{Row}
 use Rattle.ring_theory.specs.Subsets.{IsSubring}
-use Rattle.ring_theory.proofs.Ring.{add_mul, mul_zero, zero_mul, neg_mul, neg_zero, one_mul, eq_of_sub, neg_unique}
+use Rattle.ring_lemmas.proofs.Ring.{add_mul, mul_zero, zero_mul, neg_mul, neg_zero, one_mul, eq_of_sub, neg_unique}
 use Rattle.ring_theory.proofs.Subsets.{span_zero, span_sum, span_scale}
-use Rattle.ring_theory.specs.Polynomials.{Pol}
+use Rattle.ring_lemmas.specs.Polynomials.{Pol}
 use Rattle.ff_fields.specs.Field.{CodeField}
 use Rattle.ff_fields.specs.Code.{Code, code_ring, raw_ring, zero_in, same_code}
 use Rattle.ff_fields.specs.Over.{IsOver, IsOver_nil, IsOver_head, IsOver_tail, IsOver_scale, IsOver_add, IsOver_zeros}
@@ -34,7 +34,7 @@ use Rattle.function_field.specs.Values.{PresValue, Functions, functions, functio
 use Rattle.function_field.proofs.ScalarRings.{polynomials_subring, of_poly_neg, of_poly_one}
 use Rattle.function_field.proofs.OnSide.{of_poly_plus, of_poly_times, of_poly_zero}
 use Rattle.ff_falg.specs.Algebras.{IsAlgebra, IsVector}
-use Rattle.ring_theory.proofs.Lists.{length_add_lists, length_scale_list}
+use Rattle.ring_lemmas.proofs.Lists.{length_add_lists, length_scale_list}
 use Rattle.ff_lattice.specs.Lattices.{IsLattice, Contains, row_elems}
 use Rattle.ff_lattice.specs.PositionLists.{code_count, codes_below, sum_of_codes}
 use Rattle.ff_lattice.specs.Quotients.{QuotientValue, dimension, spread, codes_of_row, lifted, product_codes, quotient_ops, IsClassOf, IsFrame, HasClasses}

@@ -2,19 +2,18 @@
 use Rattle.std.proofs.Common.{◌≡◌, ℕ, suc, ◌-◌, ◌<◌, ◌↔◌, List, [], ◌∷◌, length, map, refl, sym, ◌∙◌, ap, subst, arith, All}
 use Rattle.std.proofs.lemmas.List.{length-map}
 use Rattle.std.proofs.lemmas.List.Elements.{All-nil, All-cons, All-head, All-tail}
-use Rattle.ring_theory.specs.Ring.{CommRing}
-use Rattle.ring_theory.specs.Rows.{Row}
+use Rattle.ring_lemmas.specs.Ring.{CommRing}
+use Rattle.ring_lemmas.specs.Rows.{Row}
 use Rattle.ring_theory.specs.Subsets.{IsSubring, IsModule}
-use Rattle.ring_theory.proofs.Ring.{mul_zero}
-use Rattle.ring_theory.proofs.Solver.{ring, reads}
+use Rattle.ring_lemmas.proofs.Ring.{mul_zero}
+use Rattle.ring_lemmas.proofs.Solver.{ring, reads}
 use Rattle.ring_theory.proofs.Subsets.{span_zero, span_sum, span_scale, span_least}
 use Rattle.ff_fields.specs.Field.{CodeField}
 use Rattle.ff_fields.specs.Code.{code_ring}
 use Rattle.ff_fields.specs.Over.{IsOver}
 use Rattle.ff_poly.specs.Words.{IsPoly, product_of}
-use Rattle.ff_poly.specs.Value.{value}
+use Rattle.ff_poly.specs.Value.{value, value_product}
 use Rattle.ff_poly.specs.PolyOver.{IsOver_product_of}
-use Rattle.ff_poly.specs.Value.{value_product}
 use Rattle.ff_poly.proofs.Parts.{IsPoly_product_of}
 use Rattle.ff_poly.specs.Polynomials.{Polynomial, polynomials, codes_of, IsOver_codes_of, IsPoly_codes_of, value_codes_of}
 use Rattle.ff_poly.specs.Popov.{row_at, entry_at, IsRow, InSpan, combination, HasFullRank}

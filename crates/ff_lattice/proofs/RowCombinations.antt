@@ -3,13 +3,13 @@ use Rattle.std.proofs.Common.{◌≡◌, ℕ, zero, suc, ◌-◌, ◌<◌, List,
 use Rattle.std.proofs.lemmas.List.{length-map}
 use Rattle.std.proofs.lemmas.List.Elements.{All-head, All-tail}
 use mathlib.Core.Path.{fun_ext}
-use Rattle.ring_theory.specs.Ring.{CommRing, TestedRing}
-use Rattle.ring_theory.specs.Lists.{tail_of}
-use Rattle.ring_theory.specs.Rows.{Row, entry}
-use Rattle.ring_theory.proofs.Ring.{mul_zero}
-use Rattle.ring_theory.proofs.Solver.{ring, reads}
-use Rattle.ring_theory.specs.Polynomials.{Pol}
-use Rattle.ring_theory.proofs.Polynomials.{pol_ring}
+use Rattle.ring_lemmas.specs.Ring.{CommRing, TestedRing}
+use Rattle.ring_lemmas.specs.Lists.{tail_of}
+use Rattle.ring_lemmas.specs.Rows.{Row, entry}
+use Rattle.ring_lemmas.proofs.Ring.{mul_zero}
+use Rattle.ring_lemmas.proofs.Solver.{ring, reads}
+use Rattle.ring_lemmas.specs.Polynomials.{Pol}
+use Rattle.ring_theory.specs.PolynomialRing.{pol_ring}
 use Rattle.ff_fields.specs.Field.{CodeField}
 use Rattle.ff_fields.specs.Code.{code_ring}
 use Rattle.ff_fields.specs.Over.{IsOver}
@@ -22,7 +22,8 @@ use Rattle.popov_theory.specs.Span as theory
 use Rattle.popov_theory.proofs.Module.{scale_zero, scale_add, scale_scale, zero_scale}
 use Rattle.popov_theory.proofs.Span.{combine_add, combine_scale}
 use Rattle.popov_theory.proofs.Kernel.{IsLinear}
-use Rattle.popov_theory.proofs.PolynomialRows.{row_module_zero, row_module_add, row_module_scale, entry_add, entry_scale}
+use Rattle.popov_theory.proofs.PolynomialRows.{row_module_zero, row_module_add, row_module_scale}
+use Rattle.ring_theory.proofs.PolynomialRows.{entry_add, entry_scale}
 use Rattle.ff_popov.specs.Reading.{read_row, row_space, read_rows}
 use Rattle.ff_popov.proofs.ReadRows.{entry_read, same_from_read}
 use Rattle.ff_popov.proofs.Spans.{combination_read, combination_row, combine_same, space_multiple, multiple_row}

@@ -1,13 +1,13 @@
 -- A fraction times a lattice.
 use Rattle.std.proofs.Common.{◌≡◌, ◌≢◌, ℕ, suc, ◌-◌, ◌<◌, ◌↔◌, List, [], ◌∷◌, length, map, refl, sym, ◌∙◌, ap, subst, arith, All}
 use Rattle.std.proofs.lemmas.List.Elements.{All-nil, All-cons}
-use Rattle.ring_theory.specs.Ring.{CommRing, TestedRing, IsDomain}
-use Rattle.ring_theory.specs.Rows.{Row, row_scale}
-use Rattle.ring_theory.proofs.Ring.{product_not_zero, zero_mul}
-use Rattle.ring_theory.proofs.Solver.{ring, reads}
-use Rattle.ring_theory.proofs.Rows.{row_scale_scale}
-use Rattle.ring_theory.specs.Polynomials.{Pol}
-use Rattle.ring_theory.proofs.Polynomials.{pol_ring}
+use Rattle.ring_lemmas.specs.Ring.{CommRing, TestedRing, IsDomain}
+use Rattle.ring_lemmas.specs.Rows.{Row, row_scale}
+use Rattle.ring_lemmas.proofs.Ring.{product_not_zero, zero_mul}
+use Rattle.ring_lemmas.proofs.Solver.{ring, reads}
+use Rattle.ring_lemmas.proofs.Rows.{row_scale_scale}
+use Rattle.ring_lemmas.specs.Polynomials.{Pol}
+use Rattle.ring_theory.specs.PolynomialRing.{pol_ring}
 use Rattle.ff_fields.specs.Field.{CodeField}
 use Rattle.ff_fields.specs.Code.{code_ring, code_field}
 use Rattle.ff_fields.specs.Over.{IsOver, get_or_below}

@@ -1,6 +1,6 @@
 -- Each row has a multiple in the lattice of a Popov basis by a polynomial whose degree is at most the pivot degree.
 use Rattle.std.proofs.Common.{◌≡◌, ℕ, suc, ◌+◌, ◌-◌, ◌<◌, List, [], ◌∷◌, length, refl, sym, ◌∙◌, ap, subst, arith, All}
-use Rattle.ring_theory.specs.Rows.{Row}
+use Rattle.ring_lemmas.specs.Rows.{Row}
 use Rattle.ff_fields.specs.Field.{CodeField}
 use Rattle.ff_fields.specs.Code.{code_ring, code_field}
 use Rattle.ff_poly.specs.Value.{value}

@@ -2,18 +2,20 @@
 use Rattle.std.proofs.Common.{◌≡◌, ℕ, zero, suc, ◌+◌, ◌-◌, ◌*◌, ◌<◌, ◌≤◌, ◌/◌, ◌%◌, ◌⊎◌, inl, inr, List, [], take, drop, refl, sym, ◌∙◌, ap, subst, arith, le_of_suc-le-suc}
 use Rattle.std.proofs.lemmas.Bool.{cases_lt}
 use Rattle.std.proofs.lemmas.List.{get_or-take, get_or-drop}
-use Rattle.ring_theory.specs.Ring.{TestedRing}
-use Rattle.ring_theory.specs.Lists.{coeff_of}
-use Rattle.ring_theory.specs.Rows.{Row, entry}
-use Rattle.ring_theory.proofs.Rows.{pair_path}
-use Rattle.ring_theory.specs.Polynomials.{Pol}
-use Rattle.ring_theory.proofs.Polynomials.{pol_ring}
+use Rattle.ring_lemmas.specs.Ring.{TestedRing}
+use Rattle.ring_lemmas.specs.Lists.{coeff_of}
+use Rattle.ring_lemmas.specs.Rows.{Row, entry}
+use Rattle.ring_lemmas.proofs.Rows.{pair_path}
+use Rattle.ring_lemmas.specs.Polynomials.{Pol}
+use Rattle.ring_theory.specs.PolynomialRing.{pol_ring}
 use Rattle.ff_fields.specs.Field.{CodeField}
 use Rattle.ff_fields.specs.Code.{code_ring}
 use Rattle.ff_poly.specs.Value.{value}
 use Rattle.popov_theory.specs.Module.{PolynomialModule}
 use Rattle.popov_theory.proofs.Module.{split, column_below}
-use Rattle.popov_theory.proofs.PolynomialRows.{row_module, row_width, row_entry, same_entries}
+use Rattle.popov_theory.specs.RowModule.{row_module}
+use Rattle.popov_theory.proofs.PolynomialRows.{row_width, row_entry}
+use Rattle.ring_theory.proofs.PolynomialRows.{same_entries}
 use Rattle.popov_theory.proofs.Product.{product_module, product_width, product_left, product_right}
 use Rattle.ff_popov.specs.Reading.{read_row}
 use Rattle.ff_popov.proofs.ReadRows.{entry_read}

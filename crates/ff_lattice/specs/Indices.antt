@@ -1,7 +1,7 @@
 -- The index of a set of functions in a larger one: the dimension over k of the one modulo the other (Stichtenoth, Algebraic
 -- Function Fields and Codes, chapter 1).
 use Rattle.std.specs.Prelude.{◌≡◌, ℕ, List, length}
-use Rattle.ring_theory.specs.Polynomials.{constant}
+use Rattle.ring_lemmas.specs.Polynomials.{constant}
 use Rattle.linear_theory.specs.Module.{ModuleOps, restricted_ops}
 use Rattle.linear_theory.specs.Basis.{IsBasis}
 use Rattle.ff_fields.specs.Field.{CodeField}

@@ -1,6 +1,6 @@
 -- The quotient of an order by an ideal: a finite algebra, by lists of codes.
 use Rattle.std.specs.Prelude.{◌≡◌, ℕ, ◌*◌, ◌<◌, ◌≤◌, ◌↔◌, List, [], length, get_or, map, max, replicate, All}
-use Rattle.ring_theory.specs.Lists.{add_lists}
+use Rattle.ring_lemmas.specs.Lists.{add_lists}
 use Rattle.ff_fields.specs.Field.{FieldOps, CodeField}
 use Rattle.ff_fields.specs.Code.{raw_ring}
 use Rattle.ff_poly.specs.Words.{IsPoly}

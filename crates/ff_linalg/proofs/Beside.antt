@@ -6,13 +6,14 @@ use Rattle.std.proofs.lemmas.List.Elements.{All-get_or}
 use Rattle.std.specs.Prelude.{All}
 use Rattle.ff_fields.specs.Field.{CodeField}
 use Rattle.ff_fields.specs.Code.{Code, code_ring, code_domain, read_code}
-use Rattle.ring_theory.specs.Ring.{CommRing}
+use Rattle.ring_lemmas.specs.Ring.{CommRing}
 use Rattle.linear_theory.specs.Fields.{Domain}
 use Rattle.linear_theory.specs.Echelon.{row, SameRowSpace}
-use Rattle.linear_theory.proofs.Augment.{augment, unit, length_augment, row_augment, row_augment_right, unit_here, unit_other}
+use Rattle.linear_theory.specs.Kernel.{augment, unit, size, Eliminated}
+use Rattle.linear_theory.proofs.Augment.{length_augment, row_augment, row_augment_right, unit_here, unit_other}
 use Rattle.linear_theory.proofs.Echelon.{same_rank}
 use Rattle.linear_theory.proofs.Elimination.{same_refl, same_trans}
-use Rattle.linear_theory.proofs.Kernel.{size, Eliminated, eliminated, left_reduced, left_rank}
+use Rattle.linear_theory.proofs.Kernel.{eliminated, left_reduced, left_rank}
 use Rattle.linear_theory.proofs.SameRows.{HasEntries, same_of_entries}
 use Rattle.ff_linalg.specs.Steps.{unit_row, IsBesideUnit}
 use Rattle.ff_linalg.specs.Forms.{sequences_of, IsReducedBelow, HaveSameSpace, IsEliminated}

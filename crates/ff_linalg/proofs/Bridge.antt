@@ -7,9 +7,9 @@ use Rattle.ff_fields.specs.Field.{FieldOps, CodeField}
 use Rattle.ff_fields.specs.Code.{Code, code_ring, raw_ring, read_code, read_code_below}
 use Rattle.ff_fields.specs.Numbers.{read, numbers, numbers_read, read_numbers, numbers_add, numbers_scale, IsOver_numbers}
 use Rattle.ff_fields.specs.Over.{IsOver, IsOver_head, IsOver_tail, IsOver_zeros, IsOver_add, IsOver_scale}
-use Rattle.ring_theory.specs.Ring.{CommRing}
-use Rattle.ring_theory.specs.Lists.{coeff_of, add_lists, scale_list}
-use Rattle.ring_theory.proofs.Lists.{coeff_add, coeff_scale, length_add_lists, length_scale_list}
+use Rattle.ring_lemmas.specs.Ring.{CommRing}
+use Rattle.ring_lemmas.specs.Lists.{coeff_of, add_lists, scale_list}
+use Rattle.ring_lemmas.proofs.Lists.{coeff_add, coeff_scale, length_add_lists, length_scale_list}
 use Rattle.linear_theory.specs.Module.{combine, combination, sequence_ops}
 use Rattle.linear_theory.specs.Echelon.{row, rows_of, InRowSpace}
 use Rattle.linear_theory.proofs.Combination.{sequences, combine_cong, combine_none}

@@ -1,10 +1,10 @@
 -- Where a column is a combination of the columns before it in some rows, it is in each combination of these rows.
 use Rattle.std.proofs.Common.{◌≡◌, ℕ, suc, ◌<◌, List, [], ◌∷◌, length, refl, sym, ◌∙◌, ap, ap₂, arith}
-use Rattle.ring_theory.specs.Ring.{CommRing}
-use Rattle.ring_theory.specs.Sums.{sum_below}
-use Rattle.ring_theory.proofs.Ring.{mul_zero}
-use Rattle.ring_theory.proofs.Solver.{ring, reads}
-use Rattle.ring_theory.proofs.Sums.{below_cong, below_zero, below_add, below_scale, below_first}
+use Rattle.ring_lemmas.specs.Ring.{CommRing}
+use Rattle.ring_lemmas.specs.Sums.{sum_below}
+use Rattle.ring_lemmas.proofs.Ring.{mul_zero}
+use Rattle.ring_lemmas.proofs.Solver.{ring, reads}
+use Rattle.ring_lemmas.proofs.Sums.{below_cong, below_zero, below_add, below_scale, below_first}
 use Rattle.linear_theory.specs.Module.{combine, sequence_ops}
 use Rattle.linear_theory.specs.Echelon.{row, InRowSpace}
 

@@ -1,9 +1,9 @@
 -- Reduced rows of which the first ones have a 1 on the diagonal: these columns are independent, and the next one shows the
 -- coefficients by which it is a combination of them.
 use Rattle.std.proofs.Common.{◌≡◌, ℕ, zero, suc, ◌<◌, ◌≤◌, ◌⊎◌, inl, inr, List, length, sym, ◌∙◌, ap, ap₂, arith, eq-or-lt_of_le}
-use Rattle.ring_theory.specs.Ring.{CommRing}
-use Rattle.ring_theory.proofs.Ring.{mul_zero}
-use Rattle.ring_theory.proofs.Sums.{below_single}
+use Rattle.ring_lemmas.specs.Ring.{CommRing}
+use Rattle.ring_lemmas.proofs.Ring.{mul_zero}
+use Rattle.ring_lemmas.proofs.Sums.{below_single}
 use Rattle.linear_theory.specs.Fields.{Domain}
 use Rattle.linear_theory.specs.Echelon.{row, IsReduced}
 use Rattle.ff_linalg.proofs.Columns.{IsCombinedAt, dot_none}

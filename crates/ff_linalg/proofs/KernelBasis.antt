@@ -7,10 +7,11 @@ use Rattle.ff_fields.specs.Field.{CodeField}
 use Rattle.ff_fields.specs.Code.{Code, code_ring, read_code}
 use Rattle.ff_fields.specs.Numbers.{read}
 use Rattle.ff_fields.specs.Over.{IsOver, IsOver_drop, IsOver_zeros}
-use Rattle.ring_theory.specs.Lists.{coeff_of}
-use Rattle.ring_theory.specs.Ring.{CommRing}
+use Rattle.ring_lemmas.specs.Lists.{coeff_of}
+use Rattle.ring_lemmas.specs.Ring.{CommRing}
 use Rattle.linear_theory.specs.Echelon.{row, InRowSpace}
-use Rattle.linear_theory.proofs.Kernel.{Eliminated, kernel_rows, kernel_entry, length_kernel_rows, kernel_reduced, kernel_rank, kernel_spanned, kernel_members, full_rank}
+use Rattle.linear_theory.specs.Kernel.{Eliminated}
+use Rattle.linear_theory.proofs.Kernel.{kernel_rows, kernel_entry, length_kernel_rows, kernel_reduced, kernel_rank, kernel_spanned, kernel_members, full_rank}
 use Rattle.linear_theory.proofs.SameRows.{HasEntries, entries_back, reduced_of_entries, space_of_entries}
 use Rattle.ff_linalg.specs.Matrix.{MatrixValue, rows_in, IsMatrixOver}
 use Rattle.ff_linalg.specs.Forms.{sequences_of, IsReducedBelow, IsEliminated}

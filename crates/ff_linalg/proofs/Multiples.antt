@@ -2,11 +2,11 @@
 use Rattle.std.proofs.Common.{◌≡◌, ℕ, zero, suc, ◌+◌, ◌<◌, ◌≤◌, List, [], ◌∷◌, ◌++◌, length, get_or, take, drop, set, map, refl, sym, ap, ap₂, ◌∙◌, arith, add-one}
 use Rattle.std.proofs.lemmas.List.{take_all, drop_all, append-nil, length-map}
 use Rattle.ff_fields.specs.Field.{CodeField}
-use Rattle.ring_theory.specs.Ring.{Operations}
+use Rattle.ring_lemmas.specs.Ring.{Operations}
 use Rattle.ff_fields.specs.Code.{raw_ring, code_ring}
-use Rattle.ring_theory.specs.Lists.{add_lists, scale_list}
-use Rattle.ring_theory.proofs.Ring.{zero_mul, mul_zero}
-use Rattle.ring_theory.proofs.Lists.{add_lists_nil, length_scale_list, get_or_scale_list}
+use Rattle.ring_lemmas.specs.Lists.{add_lists, scale_list}
+use Rattle.ring_lemmas.proofs.Ring.{zero_mul, mul_zero}
+use Rattle.ring_lemmas.proofs.Lists.{add_lists_nil, length_scale_list, get_or_scale_list}
 use Rattle.ff_fields.specs.Over.{IsOver, IsOver_head, IsOver_tail, IsOver_add, IsOver_take}
 
 -- a list is added, one position after another

@@ -1,6 +1,6 @@
 -- Codes read as members of the field, and rows of codes as rows over it.
 use Rattle.std.proofs.Common.{◌≡◌, ℕ, zero, suc, ◌<◌, List, [], ◌∷◌, length, get_or, map, refl, sym, ◌∙◌, ap, ap₂}
-use Rattle.ring_theory.specs.Lists.{coeff_of}
+use Rattle.ring_lemmas.specs.Lists.{coeff_of}
 use Rattle.std.proofs.lemmas.List.{length-map}
 use Rattle.std.proofs.lemmas.List.Elements.{All-head, All-tail}
 use Rattle.std.specs.Prelude.{All}

@@ -7,10 +7,10 @@ use Rattle.std.proofs.lemmas.List.Elements.{All-get_or, All-from_get_or}
 use Rattle.ff_fields.specs.Field.{FieldOps, CodeField}
 use Rattle.ff_fields.specs.Code.{Code, code_ring, raw_ring, read_code}
 use Rattle.ff_fields.specs.Over.{IsOver}
-use Rattle.ring_theory.specs.Ring.{CommRing}
-use Rattle.ring_theory.specs.Lists.{add_lists, scale_list}
-use Rattle.ring_theory.proofs.Ring.{neg_mul}
-use Rattle.ring_theory.proofs.Lists.{get_or_scale_list, length_scale_list}
+use Rattle.ring_lemmas.specs.Ring.{CommRing}
+use Rattle.ring_lemmas.specs.Lists.{add_lists, scale_list}
+use Rattle.ring_lemmas.proofs.Ring.{neg_mul}
+use Rattle.ring_lemmas.proofs.Lists.{get_or_scale_list, length_scale_list}
 use Rattle.linear_theory.specs.Echelon.{row, IsReduced}
 use Rattle.linear_theory.proofs.Elimination.{next, normal, normal_is, from, from_here, from_other, length_next, next_reduced, next_rank, next_same, row_pivot, row_other, skip_column, same_refl}
 use Rattle.linear_theory.proofs.SameRows.{HasEntries, same_of_entries, reduced_of_entries}

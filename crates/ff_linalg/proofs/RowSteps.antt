@@ -7,7 +7,7 @@ use borrow.Rule.Slice.PartMut.{put_mid}
 use Rattle.ff_fields.specs.Field.{FieldOps, CodeField}
 use Rattle.ff_fields.specs.Code.{raw_ring}
 use Rattle.ff_fields.specs.Over.{IsOver, IsOver_take, IsOver_drop, IsOver_scale, get_or_below}
-use Rattle.ring_theory.specs.Lists.{scale_list}
+use Rattle.ring_lemmas.specs.Lists.{scale_list}
 use Rattle.ff_linalg.specs.Matrix.{rows_in}
 use Rattle.ff_linalg.specs.Steps.{normalized, cleared, eliminated}
 use Rattle.ff_linalg.proofs.Flat.{length_rows_in, rows_in_middle, rows_in_split, rows_in_get, rows_in_put, row_end, row_span}

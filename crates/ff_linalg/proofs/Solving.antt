@@ -7,10 +7,10 @@ use Rattle.ff_fields.specs.Field.{FieldOps, CodeField}
 use Rattle.ff_fields.specs.Code.{Code, code_ring, raw_ring}
 use Rattle.ff_fields.specs.Numbers.{read, numbers_read, read_numbers, numbers_neg}
 use Rattle.ff_fields.specs.Over.{IsOver, IsOver_cons, IsOver_tail, IsOver_neg, IsOver_zeros}
-use Rattle.ring_theory.specs.Ring.{CommRing}
-use Rattle.ring_theory.specs.Lists.{coeff_of, neg_list}
-use Rattle.ring_theory.proofs.Ring.{neg_unique, neg_neg, neg_mul, one_mul}
-use Rattle.ring_theory.proofs.Lists.{length_neg_list, coeff_neg}
+use Rattle.ring_lemmas.specs.Ring.{CommRing}
+use Rattle.ring_lemmas.specs.Lists.{coeff_of, neg_list}
+use Rattle.ring_lemmas.proofs.Ring.{neg_unique, neg_neg, neg_mul, one_mul}
+use Rattle.ring_lemmas.proofs.Lists.{length_neg_list, coeff_neg}
 use Rattle.linear_theory.specs.Module.{combine, sequence_ops}
 use Rattle.linear_theory.specs.Echelon.{row, InRowSpace}
 use Rattle.linear_theory.proofs.Combination.{sequences, combine_cong, combine_scale}

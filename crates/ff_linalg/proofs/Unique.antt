@@ -7,7 +7,7 @@ use Rattle.ff_fields.specs.Field.{CodeField}
 use Rattle.ff_fields.specs.Code.{Code, code_ring, read_code}
 use Rattle.ff_fields.specs.Numbers.{read, numbers, numbers_read}
 use Rattle.ff_fields.specs.Over.{IsOver}
-use Rattle.ring_theory.specs.Ring.{CommRing}
+use Rattle.ring_lemmas.specs.Ring.{CommRing}
 use Rattle.linear_theory.specs.Echelon.{SameRowSpace, InRowSpace, HasWidth, row}
 use Rattle.linear_theory.proofs.Echelon.{echelon_unique, same_rank}
 use Rattle.ff_linalg.specs.Matrix.{MatrixValue, IsMatrixOver, HasShape}

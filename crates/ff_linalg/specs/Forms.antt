@@ -4,7 +4,7 @@ use Rattle.ff_fields.specs.Field.{CodeField}
 use Rattle.ff_fields.specs.Code.{Code, code_ring}
 use Rattle.ff_fields.specs.Numbers.{read}
 use Rattle.linear_theory.specs.Echelon.{IsReduced, SameRowSpace, rows_of}
-use Rattle.linear_theory.proofs.Kernel.{Eliminated}
+use Rattle.linear_theory.specs.Kernel.{Eliminated}
 
 -- the rows as sequences of members of the field, 0 past the end
 abbrev pub sequences_of : (k : CodeField) → List (List ℕ) → List (ℕ → Code k)

@@ -3,7 +3,7 @@ use Rattle.std.specs.Prelude.{◌≡◌, ◌<◌, ℕ, List, length, replicate}
 use Rattle.ff_fields.specs.Field.{FieldOps}
 use Rattle.ff_fields.specs.Code.{raw_ring}
 use Rattle.ff_fields.specs.Over.{IsOver}
-use Rattle.ring_theory.specs.Lists.{add_lists, scale_list}
+use Rattle.ring_lemmas.specs.Lists.{add_lists, scale_list}
 use Rattle.linear_theory.specs.Module.{ModuleOps, combination}
 use Rattle.linear_theory.specs.Echelon.{IsReduced, rows_of}
 use Rattle.ff_linalg.specs.Matrix.{MatrixValue, row_of, first_rows_of}

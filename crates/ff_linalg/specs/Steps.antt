@@ -2,7 +2,7 @@
 use Rattle.std.specs.Prelude.{◌≡◌, ◌≢◌, ◌<◌, ◌≤◌, ℕ, suc, List, [], ◌∷◌, ◌++◌, take, drop, map, length, swap, slice_index, slice_index_or, slice_set, replicate}
 use Rattle.ff_fields.specs.Field.{FieldOps}
 use Rattle.ff_fields.specs.Code.{raw_ring}
-use Rattle.ring_theory.specs.Lists.{add_lists, scale_list}
+use Rattle.ring_lemmas.specs.Lists.{add_lists, scale_list}
 
 abbrev pub entry_at : List (List ℕ) → ℕ → ℕ → ℕ
 entry_at rows r c = slice_index (slice_index_or rows r []) c

@@ -3,7 +3,7 @@
 ghost use Rattle.std.specs.Prelude.{◌≡◌, ℕ, ◌<◌, ◌≤◌, length, map, slice_index};
 ghost use Rattle.ff_fields.specs.Code.{raw_ring};
 ghost use Rattle.ff_fields.specs.Over.{IsOver};
-ghost use Rattle.ring_theory.specs.Lists.{add_lists, scale_list};
+ghost use Rattle.ring_lemmas.specs.Lists.{add_lists, scale_list};
 
 use ff_fields::field::SmallField;
 

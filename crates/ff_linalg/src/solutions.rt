@@ -2,7 +2,7 @@
 
 ghost use Rattle.std.specs.Prelude.{◌≡◌, length, IfOk, MatchOption};
 ghost use Rattle.ff_fields.specs.Over.{IsOver};
-ghost use Rattle.ring_theory.specs.Lists.{neg_list};
+ghost use Rattle.ring_lemmas.specs.Lists.{neg_list};
 ghost use Rattle.ff_fields.specs.Code.{raw_ring};
 ghost use Rattle.ff_linalg.specs.Matrix.{HasShape, IsMatrixOver, with_first_row};
 ghost use Rattle.ff_linalg.specs.Space.{IsSolution, HasNoSolution};

@@ -3,9 +3,8 @@ use Rattle.std.proofs.Common.{◌≡◌, ◌↔◌, ℕ, ◌<◌, List, [], ◌�
 use Rattle.std.specs.List.{Any}
 use Rattle.std.proofs.lemmas.List.Elements.{All-weaker, All-map}
 use Rattle.std.proofs.lemmas.List.{length-map, get_or-map}
-use Rattle.ring_theory.proofs.Ring.{one_mul}
-use Rattle.prime_theory.specs.Orders.{MaximalAt}
-use Rattle.prime_theory.proofs.Enlarge.{PowersOf}
+use Rattle.ring_lemmas.proofs.Ring.{one_mul}
+use Rattle.prime_theory.specs.Orders.{MaximalAt, PowersOf}
 use Rattle.linear_theory.specs.Euclidean.{IsDivisorIn}
 use Rattle.ff_fields.specs.Field.{CodeField}
 use Rattle.ff_fields.specs.Over.{IsOver}

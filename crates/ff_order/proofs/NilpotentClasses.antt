@@ -3,11 +3,11 @@
 use Rattle.std.proofs.Common.{◌≡◌, ℕ, zero, suc, ◌+◌, ◌-◌, ◌<◌, List, [], ◌∷◌, ◌++◌, length, get_or, map, take, replicate, refl, sym, ◌∙◌, ap, ap₂, subst, arith, All}
 use Rattle.std.proofs.lemmas.List.{length-replicate, take_more}
 use Rattle.std.proofs.lemmas.List.Elements.{All-nil, All-cons, All-head, All-tail, All-append, All-map}
-use Rattle.ring_theory.specs.Ring.{CommRing, pow}
-use Rattle.ring_theory.specs.Lists.{scale_list}
-use Rattle.ring_theory.specs.Rows.{Row}
+use Rattle.ring_lemmas.specs.Ring.{CommRing, pow}
+use Rattle.ring_lemmas.specs.Lists.{scale_list}
+use Rattle.ring_lemmas.specs.Rows.{Row}
 use Rattle.ring_theory.specs.Subsets.{IsSubring, Span}
-use Rattle.ring_theory.proofs.Ring.{zero_add, add_sub}
+use Rattle.ring_lemmas.proofs.Ring.{zero_add, add_sub}
 use Rattle.ring_theory.proofs.Subsets.{span_zero}
 use Rattle.ff_fields.specs.Field.{CodeField}
 use Rattle.ff_fields.specs.Code.{raw_ring}

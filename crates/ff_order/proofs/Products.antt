@@ -1,8 +1,8 @@
 -- One polynomial of a list after another: the order after each of them.
 use Rattle.std.proofs.Common.{◌≡◌, ◌↔◌, ℕ, ◌+◌, ◌<◌, List, [], ◌∷◌, ◌++◌, length, get_or, map, take, refl, sym, ◌∙◌, ap, subst}
 use Rattle.std.proofs.lemmas.List.{take_more}
-use Rattle.ring_theory.proofs.Ring.{one_mul}
-use Rattle.prime_theory.proofs.Enlarge.{EnlargedAt}
+use Rattle.ring_lemmas.proofs.Ring.{one_mul}
+use Rattle.prime_theory.specs.Orders.{EnlargedAt}
 use Rattle.ff_fields.specs.Field.{CodeField}
 use Rattle.ff_poly.specs.Value.{value}
 use Rattle.ff_poly.specs.Polynomials.{Polynomial}

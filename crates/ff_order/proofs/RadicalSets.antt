@@ -1,9 +1,9 @@
 -- The radical of an order at a polynomial: the multiples of the order by it, and the nilpotent classes modulo them.
 use Rattle.std.proofs.Common.{◌≡◌, ℕ, ◌<◌, ◌↔◌, List, [], ◌∷◌, ◌++◌, length, map, sym, ◌∙◌, ap, subst, All}
 use Rattle.std.proofs.lemmas.List.Elements.{All-map, All-weaker}
-use Rattle.ring_theory.specs.Ring.{CommRing}
+use Rattle.ring_lemmas.specs.Ring.{CommRing}
 use Rattle.ring_theory.specs.Subsets.{IsSubring, Span}
-use Rattle.ring_theory.proofs.Ring.{one_mul}
+use Rattle.ring_lemmas.proofs.Ring.{one_mul}
 use Rattle.ring_theory.proofs.Subsets.{span_least, span_append_right}
 use Rattle.ff_fields.specs.Field.{CodeField}
 use Rattle.ff_poly.specs.Value.{value}

@@ -1,8 +1,8 @@
 -- In a factorisation the square of an irreducible polynomial divides the product where the exponent of that polynomial is 2 or more.
 use Rattle.std.proofs.Common.{◌≡◌, ◌⊎◌, ℕ, zero, suc, ◌<◌, ◌≤◌, List, [], ◌∷◌, length, get_or, inl, inr, refl, sym, ◌∙◌, ap, subst, arith, All}
 use Rattle.std.proofs.lemmas.List.Elements.{All-head, All-tail}
-use Rattle.ring_theory.specs.Ring.{CommRing, pow}
-use Rattle.ring_theory.proofs.Ring.{mul_zero, mul_left_comm}
+use Rattle.ring_lemmas.specs.Ring.{CommRing, pow}
+use Rattle.ring_lemmas.proofs.Ring.{mul_zero, mul_left_comm}
 use Rattle.std.proofs.lemmas.List.{length-append}
 use Rattle.ff_poly.proofs.Results.{product_of_nil}
 use Rattle.linear_theory.specs.Euclidean.{IsDivisorIn}

@@ -5,7 +5,7 @@ use Rattle.ff_poly.specs.Polynomials.{Polynomial}
 use Rattle.function_field.specs.declared.side.Side.TheVariants.{Finite}
 use Rattle.function_field.specs.Places.{IsIntegralAt}
 use Rattle.function_field.specs.Functions.{Equation, FunctionOf, ring_of, of_poly, setting_of}
-use Rattle.prime_theory.proofs.Enlarge.{PowersOf}
+use Rattle.prime_theory.specs.Orders.{PowersOf}
 
 module _ {k : CodeField} (c : Equation k) where
   -- z is integral over the polynomials, and a product of powers of the listed polynomials takes it into O

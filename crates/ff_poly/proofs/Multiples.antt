@@ -3,10 +3,10 @@ use Rattle.std.proofs.Common.{◌≡◌, ℕ, zero, suc, ◌+◌, ◌-◌, ◌<�
 use Rattle.std.proofs.lemmas.List.{take_all, drop_all, drop_at, take_at, length-replicate, length-drop, drop_more, take_rest, append-nil, replicate-append-replicate}
 use borrow.Rule.Slice.PartMut.{put_mid}
 use Rattle.ff_fields.specs.Field.{CodeField}
-use Rattle.ring_theory.specs.Ring.{Operations}
+use Rattle.ring_lemmas.specs.Ring.{Operations}
 use Rattle.ff_fields.specs.Code.{raw_ring}
-use Rattle.ring_theory.specs.Lists.{add_lists, scale_list, mul_onto}
-use Rattle.ring_theory.proofs.Lists.{add_lists_nil, length_scale_list}
+use Rattle.ring_lemmas.specs.Lists.{add_lists, scale_list, mul_onto}
+use Rattle.ring_lemmas.proofs.Lists.{add_lists_nil, length_scale_list}
 use Rattle.ff_fields.specs.Over.{IsOver, IsOver_add, IsOver_take}
 
 -- ---- a list is added, one position after another

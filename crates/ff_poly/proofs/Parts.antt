@@ -1,12 +1,12 @@
 -- What multiples and sums with a product stand for.
 use Rattle.std.proofs.Common.{◌≡◌, ◌≢◌, ℕ, suc, ◌+◌, ◌-◌, ◌<◌, List, [], ◌∷◌, ◌++◌, length, get_or, take, refl, sym, ap, ap₂, ◌∙◌, arith, add-one}
 use Rattle.std.proofs.lemmas.List.{take_all, take_more, length-append, length-map, get_or_at}
-use Rattle.ring_theory.specs.Ring.{Operations, TestedRing}
-use Rattle.ring_theory.specs.Lists.{coeff_of, convolution, add_lists, mul_lists, scale_list, trim, IsTrimmed_trim}
-use Rattle.ring_theory.proofs.Ring.{neg_mul, one_mul, neg_unique}
-use Rattle.ring_theory.proofs.Sequences.{convolution_constant_left, convolution_past, convolution_top}
-use Rattle.ring_theory.proofs.Lists.{coeff_scale, coeff_mul, coeff_trim, trim_trimmed, IsTrimmed_push}
-use Rattle.ring_theory.proofs.Polynomials.{same_pol, series_mul, coeff_past, length_from_top}
+use Rattle.ring_lemmas.specs.Ring.{Operations, TestedRing}
+use Rattle.ring_lemmas.specs.Lists.{coeff_of, convolution, add_lists, mul_lists, scale_list, trim, IsTrimmed_trim}
+use Rattle.ring_lemmas.proofs.Ring.{neg_mul, one_mul, neg_unique}
+use Rattle.ring_lemmas.proofs.Sequences.{convolution_constant_left, convolution_past, convolution_top}
+use Rattle.ring_lemmas.proofs.Lists.{coeff_scale, coeff_mul, coeff_trim, trim_trimmed, IsTrimmed_push}
+use Rattle.ring_lemmas.proofs.Polynomials.{same_pol, series_mul, coeff_past, length_from_top}
 use Rattle.ff_fields.specs.Field.{FieldOps, CodeField}
 use Rattle.ff_fields.specs.Code.{raw_ring, is_zero_code, same_code, code_ring, code_domain, read_code, read_code_below}
 use Rattle.ff_fields.specs.Over.{IsOver, IsOver_nil, IsOver_cons, get_or_below}

@@ -1,10 +1,10 @@
 -- Powers modulo a polynomial, by squares.
 use Rattle.std.proofs.Common.{◌≡◌, ℕ, zero, suc, ◌+◌, ◌/◌, ◌%◌, ◌<◌, ◌≤◌, ◌⊎◌, inl, inr, List, [], ◌∷◌, length, drop, get_or, refl, sym, ap, ap₂, ◌∙◌, arith, add-one}
 use Rattle.std.proofs.lemmas.List.{drop_more}
-use Rattle.ring_theory.specs.Ring.{CommRing, pow}
-use Rattle.ring_theory.specs.Congruence.{IsCongruent}
-use Rattle.ring_theory.proofs.Ring.{pow_add, mul_pow, one_mul}
-use Rattle.ring_theory.proofs.Congruence.{congruent_same, congruent_refl, congruent_sym, congruent_trans, congruent_mul}
+use Rattle.ring_lemmas.specs.Ring.{CommRing, pow}
+use Rattle.ring_lemmas.specs.Congruence.{IsCongruent}
+use Rattle.ring_lemmas.proofs.Ring.{pow_add, mul_pow, one_mul}
+use Rattle.ring_lemmas.proofs.Congruence.{congruent_same, congruent_refl, congruent_sym, congruent_trans, congruent_mul}
 use Rattle.ff_fields.specs.Field.{CodeField}
 use Rattle.ff_fields.specs.Code.{zero_in}
 use Rattle.ff_fields.specs.Over.{IsOver, IsOver_nil, IsOver_cons, IsOver_head, IsOver_tail}

@@ -5,14 +5,15 @@ use Rattle.std.proofs.lemmas.List.{drop_all, drop_at, take_at, take_more, length
 use mathlib.Core.Path.{fun_ext}
 use borrow.Rule.Slice.PartMut.{put_mid}
 use Rattle.ff_fields.specs.Field.{CodeField}
-use Rattle.ring_theory.specs.Ring.{Operations, TestedRing}
-use Rattle.ring_theory.specs.Lists.{convolution, coeff_of, add_lists, scale_list, trim, IsTrimmed, digit_of, rest_from, quotient_from, IsTrimmed_trim}
-use Rattle.ring_theory.proofs.Sequences.{convolution_comm}
+use Rattle.ring_lemmas.specs.Ring.{Operations, TestedRing}
+use Rattle.ring_lemmas.specs.Lists.{convolution, coeff_of, add_lists, scale_list, trim, IsTrimmed, digit_of, rest_from, quotient_from, IsTrimmed_trim}
+use Rattle.ring_lemmas.proofs.Sequences.{convolution_comm}
 use Rattle.ff_fields.specs.Code.{raw_ring, Code, same_code, code_ring, read_code, is_zero_code}
-use Rattle.ring_theory.proofs.Lists.{coeff_trim}
-use Rattle.ring_theory.specs.Polynomials.{Pol}
-use Rattle.ring_theory.proofs.Polynomials.{pol_ring, same_pol, series_add, series_mul}
-use Rattle.ring_theory.proofs.Division.{divided, rest_ends, length_bound}
+use Rattle.ring_lemmas.proofs.Lists.{coeff_trim}
+use Rattle.ring_lemmas.specs.Polynomials.{Pol}
+use Rattle.ring_theory.specs.PolynomialRing.{pol_ring}
+use Rattle.ring_lemmas.proofs.Polynomials.{same_pol, series_add, series_mul}
+use Rattle.ring_lemmas.proofs.Division.{divided, rest_ends, length_bound}
 use Rattle.ff_fields.specs.Over.{IsOver, IsOver_trim, IsOver_quotient_from, IsOver_rest_from, get_or_below}
 use Rattle.ff_poly.specs.Words.{IsPoly, IsQuotientWithRest, poly_of, sum_of, product_of}
 use Rattle.ff_poly.specs.PolyOver.{IsOver_sum_of, IsOver_product_of, IsPoly_poly_of}

@@ -3,8 +3,8 @@ use Rattle.std.proofs.Common.{◌≡◌, ℕ, List, [], ◌∷◌, ◌++◌, len
 use Rattle.std.proofs.lemmas.List.{map-append, take_at}
 use Rattle.ff_fields.specs.Field.{FieldOps, CodeField}
 use Rattle.ff_fields.specs.Code.{raw_ring, Code, code_ring, is_zero_code}
-use Rattle.ring_theory.specs.Lists.{coeff_of, add_lists, neg_list, mul_lists, mul_onto, trim_onto}
-use Rattle.ring_theory.proofs.Lists.{coeff_add, coeff_append_zeros, coeff_mul_onto}
+use Rattle.ring_lemmas.specs.Lists.{coeff_of, add_lists, neg_list, mul_lists, mul_onto, trim_onto}
+use Rattle.ring_lemmas.proofs.Lists.{coeff_add, coeff_append_zeros, coeff_mul_onto}
 use Rattle.ff_fields.specs.Over.{IsOver}
 use Rattle.ff_poly.specs.Words.{poly_of, sum_of, difference_of, product_of}
 use Rattle.ff_fields.specs.Numbers.{numbers, read, numbers_read, numbers_add, numbers_neg, numbers_mul, numbers_mul_onto, numbers_zeros}

@@ -2,10 +2,10 @@
 use Rattle.std.proofs.Common.{◌≡◌, ℕ, zero, suc, ◌+◌, ◌-◌, ◌<◌, ◌≤◌, List, [], ◌∷◌, ◌++◌, length, get_or, take, drop, replicate, refl, sym, ap, ap₂, ◌∙◌, arith, add-one, append_assoc}
 use Rattle.std.proofs.lemmas.List.{take-append-drop, length-map, length-append, length-replicate, drop_all, drop_at, take_at, length-drop, length-take-le, drop_more, take_more, take_rest, append-nil}
 use borrow.Rule.Slice.PartMut.{put_mid}
-use Rattle.ring_theory.specs.Ring.{Operations, TestedRing}
-use Rattle.ring_theory.specs.Lists.{coeff_of, add_lists, scale_list, mul_lists, trim}
-use Rattle.ring_theory.proofs.Ring.{mul_zero}
-use Rattle.ring_theory.proofs.Lists.{coeff_add, coeff_scale, coeff_trim, coeff_append_zeros, add_lists_nil, trim_trimmed, length_add_lists, length_scale_list}
+use Rattle.ring_lemmas.specs.Ring.{Operations, TestedRing}
+use Rattle.ring_lemmas.specs.Lists.{coeff_of, add_lists, scale_list, mul_lists, trim}
+use Rattle.ring_lemmas.proofs.Ring.{mul_zero}
+use Rattle.ring_lemmas.proofs.Lists.{coeff_add, coeff_scale, coeff_trim, coeff_append_zeros, add_lists_nil, trim_trimmed, length_add_lists, length_scale_list}
 use Rattle.ff_fields.specs.Field.{FieldOps, CodeField}
 use Rattle.ff_fields.specs.Code.{raw_ring, is_zero_code, Code, code_ring, read_code, read_code_below}
 use Rattle.ff_fields.specs.Over.{IsOver, IsOver_head, IsOver_tail, IsOver_cons, IsOver_add, IsOver_scale}

@@ -6,11 +6,11 @@ use Rattle.ff_fields.specs.Field.{CodeField}
 use Rattle.ff_fields.specs.Code.{raw_ring, Code, code_ring}
 use Rattle.ff_fields.specs.Numbers.{numbers, read, numbers_read, numbers_add, numbers_neg, numbers_mul, numbers_zeros, numbers_scale, numbers_trim}
 use Rattle.ff_fields.specs.Over.{IsOver, IsOver_head, IsOver_tail}
-use Rattle.ring_theory.specs.Ring.{TestedRing}
-use Rattle.ring_theory.specs.Lists.{coeff_of, convolution, add_lists, neg_list, scale_list, mul_lists, trim}
-use Rattle.ring_theory.proofs.Ring.{zero_add, zero_mul, neg_mul, neg_zero}
-use Rattle.ring_theory.proofs.Sequences.{convolution_constant_left}
-use Rattle.ring_theory.proofs.Lists.{coeff_add, coeff_neg, coeff_scale, coeff_mul, coeff_trim, coeff_append_zeros}
+use Rattle.ring_lemmas.specs.Ring.{TestedRing}
+use Rattle.ring_lemmas.specs.Lists.{coeff_of, convolution, add_lists, neg_list, scale_list, mul_lists, trim}
+use Rattle.ring_lemmas.proofs.Ring.{zero_add, zero_mul, neg_mul, neg_zero}
+use Rattle.ring_lemmas.proofs.Sequences.{convolution_constant_left}
+use Rattle.ring_lemmas.proofs.Lists.{coeff_add, coeff_neg, coeff_scale, coeff_mul, coeff_trim, coeff_append_zeros}
 use Rattle.ff_poly.specs.Words.{poly_of}
 use Rattle.ff_poly.specs.Value.{same_numbers}
 use Rattle.ff_poly.specs.Terms.{term, less_multiple}

@@ -2,7 +2,7 @@
 use Rattle.std.proofs.Common.{◌≡◌, ◌≢◌, ℕ, ◌+◌, ◌-◌, ◌<◌, ◌≤◌, ◌⊎◌, inl, inr, List, [], ◌∷◌, ◌++◌, length, get_or, take, sym, ap, ◌∙◌, arith, eq-eqb, ne_eqb}
 use Rattle.std.proofs.lemmas.List.{take_more}
 use Rattle.ff_fields.specs.Code.{is_zero_code}
-use Rattle.ring_theory.proofs.Lists.{trim_push_zero, IsTrimmed_push, trim_trimmed}
+use Rattle.ring_lemmas.proofs.Lists.{trim_push_zero, IsTrimmed_push, trim_trimmed}
 use Rattle.ff_poly.specs.Words.{IsPoly, poly_of}
 
 take_last : (xs : List ℕ) (n : ℕ) → 0 < n → n ≤ length xs → take n xs ≡ take (n - 1) xs ++ get_or xs (n - 1) 0 ∷ []

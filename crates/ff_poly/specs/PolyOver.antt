@@ -2,7 +2,7 @@
 use Rattle.std.specs.Prelude.{ℕ, ◌<◌, List}
 use Rattle.ff_fields.specs.Field.{CodeField}
 use Rattle.ff_fields.specs.Code.{raw_ring, is_zero_code}
-use Rattle.ring_theory.specs.Lists.{add_lists, neg_list, scale_list, mul_lists, IsTrimmed_trim}
+use Rattle.ring_lemmas.specs.Lists.{add_lists, neg_list, scale_list, mul_lists, IsTrimmed_trim}
 use Rattle.ff_fields.specs.Over.{IsOver, IsOver_trim, IsOver_add, IsOver_neg, IsOver_scale, IsOver_mul}
 use Rattle.ff_poly.specs.Words.{IsPoly, poly_of, sum_of, difference_of, multiple_of, product_of}
 

@@ -3,13 +3,15 @@ use Rattle.std.specs.Prelude.{◌≡◌, ℕ, zero, suc, ◌<◌, List, [], ◌�
 use Rattle.std.proofs.Common.{sym, ap, ap₂, ◌∙◌}
 use mathlib.Core.HLevel.{Σ_prop_path}
 use native.Mathlib.Decide.{ℕ_discrete}
-use Rattle.ring_theory.specs.Ring.{TestedRing, IsDomain}
-use Rattle.ring_theory.specs.Lists.{coeff_of, add_lists, mul_lists}
-use Rattle.ring_theory.proofs.Ring.{zero_add, zero_mul, one_mul}
-use Rattle.ring_theory.proofs.Sequences.{convolution_constant_left}
-use Rattle.ring_theory.proofs.Lists.{trim_trimmed, coeff_trim}
-use Rattle.ring_theory.specs.Polynomials.{Pol, pol_of, pol_ops}
-use Rattle.ring_theory.proofs.Polynomials.{pol_ring, pol_domain, same_pol, series_add, series_mul, IsTrimmed_prop}
+use Rattle.ring_lemmas.specs.Ring.{TestedRing, IsDomain}
+use Rattle.ring_lemmas.specs.Lists.{coeff_of, add_lists, mul_lists}
+use Rattle.ring_lemmas.proofs.Ring.{zero_add, zero_mul, one_mul}
+use Rattle.ring_lemmas.proofs.Sequences.{convolution_constant_left}
+use Rattle.ring_lemmas.proofs.Lists.{trim_trimmed, coeff_trim}
+use Rattle.ring_lemmas.specs.Polynomials.{Pol, pol_of, pol_ops}
+use Rattle.ring_theory.specs.PolynomialRing.{pol_ring}
+use Rattle.ring_theory.proofs.Polynomials.{pol_domain}
+use Rattle.ring_lemmas.proofs.Polynomials.{same_pol, series_add, series_mul, IsTrimmed_prop}
 use Rattle.ff_fields.specs.Field.{CodeField}
 use Rattle.ff_fields.specs.Code.{zero_in, Code, same_code, code_ring, code_domain, read_code, read_code_below}
 use Rattle.ff_fields.specs.Over.{IsOver, IsOver_nil, IsOver_cons}

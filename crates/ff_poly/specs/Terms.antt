@@ -3,12 +3,12 @@ use Rattle.std.specs.Prelude.{◌≡◌, ℕ, ◌<◌, List, [], ◌∷◌, ◌+
 use Rattle.std.proofs.Common.{sym, ap, ap₂, ◌∙◌}
 use Rattle.ff_fields.specs.Field.{FieldOps, CodeField}
 use Rattle.ff_fields.specs.Code.{raw_ring, code_ring}
-use Rattle.ff_fields.specs.Numbers.{read, numbers_read, numbers_neg}
+use Rattle.ff_fields.specs.Numbers.{read, numbers_read, numbers_neg, numbers_add}
 use Rattle.ff_fields.specs.Over.{IsOver, IsOver_nil, IsOver_cons, IsOver_append, IsOver_zeros}
-use Rattle.ring_theory.specs.Lists.{add_lists, neg_list}
-use Rattle.ring_theory.proofs.Lists.{coeff_add, coeff_neg, coeff_trim}
-use Rattle.ring_theory.proofs.Polynomials.{pol_ring, same_pol, series_add, series_neg}
-use Rattle.ff_fields.specs.Numbers.{numbers_add}
+use Rattle.ring_lemmas.specs.Lists.{add_lists, neg_list}
+use Rattle.ring_lemmas.proofs.Lists.{coeff_add, coeff_neg, coeff_trim}
+use Rattle.ring_theory.specs.PolynomialRing.{pol_ring}
+use Rattle.ring_lemmas.proofs.Polynomials.{same_pol, series_add, series_neg}
 use Rattle.ff_poly.specs.Words.{IsPoly, poly_of, difference_of, product_of}
 use Rattle.ff_poly.specs.PolyOver.{IsOver_difference_of, IsOver_product_of, IsPoly_poly_of}
 use Rattle.ff_poly.specs.Value.{value, value_product, series_value}

@@ -4,12 +4,13 @@ use Rattle.std.proofs.Common.{sym, ap, ap₂, ◌∙◌, arith}
 use Rattle.std.proofs.lemmas.List.{length-map}
 use mathlib.Core.Path.{fun_ext}
 use Rattle.ff_fields.specs.Field.{CodeField}
-use Rattle.ring_theory.specs.Ring.{TestedRing}
-use Rattle.ring_theory.specs.Lists.{convolution, coeff_of, add_lists, mul_lists, trim}
+use Rattle.ring_lemmas.specs.Ring.{TestedRing}
+use Rattle.ring_lemmas.specs.Lists.{convolution, coeff_of, add_lists, mul_lists, trim}
 use Rattle.ff_fields.specs.Code.{raw_ring, is_zero_code, Code, code_ring, code_domain}
-use Rattle.ring_theory.proofs.Lists.{trim_trimmed, coeff_add, coeff_mul, coeff_trim, same_trims}
-use Rattle.ring_theory.specs.Polynomials.{Pol, pol_of}
-use Rattle.ring_theory.proofs.Polynomials.{pol_ring, same_pol, series_add, series_mul}
+use Rattle.ring_lemmas.proofs.Lists.{trim_trimmed, coeff_add, coeff_mul, coeff_trim, same_trims}
+use Rattle.ring_lemmas.specs.Polynomials.{Pol, pol_of}
+use Rattle.ring_theory.specs.PolynomialRing.{pol_ring}
+use Rattle.ring_lemmas.proofs.Polynomials.{same_pol, series_add, series_mul}
 use Rattle.ring_theory.specs.Division.{IsDivision}
 use Rattle.ring_theory.proofs.Division.{one_way}
 use Rattle.ff_fields.specs.Over.{IsOver}

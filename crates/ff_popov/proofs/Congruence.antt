@@ -2,9 +2,9 @@
 use Rattle.std.proofs.Common.{◌≡◌, ℕ, suc, ◌-◌, ◌<◌, List, [], sym, ap, ◌∙◌, arith, subst}
 use Rattle.ff_fields.specs.Field.{CodeField}
 use Rattle.ff_fields.specs.Code.{code_ring}
-use Rattle.ring_theory.specs.Ring.{TestedRing}
-use Rattle.ring_theory.specs.Rows.{Row}
-use Rattle.ring_theory.specs.Polynomials.{Pol}
+use Rattle.ring_lemmas.specs.Ring.{TestedRing}
+use Rattle.ring_lemmas.specs.Rows.{Row}
+use Rattle.ring_lemmas.specs.Polynomials.{Pol}
 use Rattle.ff_poly.specs.Words.{IsPoly}
 use Rattle.ff_poly.specs.Value.{value}
 use Rattle.ff_poly.specs.Terms.{term, IsPoly_less_multiple}

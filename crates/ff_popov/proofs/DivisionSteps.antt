@@ -7,12 +7,12 @@ use Rattle.std.specs.Global.{Vec}
 use Rattle.ff_fields.specs.Field.{FieldOps, CodeField}
 use Rattle.ff_fields.specs.Code.{code_ring, is_zero_code}
 use Rattle.ff_fields.specs.Over.{IsOver, IsOver_nil, IsOver_cons}
-use Rattle.ring_theory.specs.Ring.{TestedRing}
-use Rattle.ring_theory.specs.Lists.{tail_of}
-use Rattle.ring_theory.specs.Rows.{Row}
-use Rattle.ring_theory.proofs.Ring.{zero_add, mul_neg, neg_neg}
-use Rattle.ring_theory.specs.Polynomials.{Pol}
-use Rattle.ring_theory.proofs.Polynomials.{pol_ring}
+use Rattle.ring_lemmas.specs.Ring.{TestedRing}
+use Rattle.ring_lemmas.specs.Lists.{tail_of}
+use Rattle.ring_lemmas.specs.Rows.{Row}
+use Rattle.ring_lemmas.proofs.Ring.{zero_add, mul_neg, neg_neg}
+use Rattle.ring_lemmas.specs.Polynomials.{Pol}
+use Rattle.ring_theory.specs.PolynomialRing.{pol_ring}
 use Rattle.ff_poly.specs.Words.{IsPoly, difference_of}
 use Rattle.ff_poly.specs.PolyOver.{IsOver_difference_of}
 use Rattle.ff_poly.specs.Value.{value}

@@ -7,8 +7,8 @@ use Rattle.std.proofs.lemmas.List.{nil_from_length, length-replicate}
 use Rattle.ff_fields.specs.Field.{CodeField}
 use Rattle.ff_fields.specs.Code.{code_ring, code_domain}
 use Rattle.ff_fields.specs.Over.{IsOver, IsOver_nil}
-use Rattle.ring_theory.specs.Rows.{Row}
-use Rattle.ring_theory.specs.Polynomials.{Pol}
+use Rattle.ring_lemmas.specs.Rows.{Row}
+use Rattle.ring_lemmas.specs.Polynomials.{Pol}
 use Rattle.ff_poly.specs.Value.{value}
 use Rattle.ff_poly.specs.Polynomials.{codes_of, IsOver_codes_of, value_codes_of, value_not_zero}
 use Rattle.ff_poly.specs.Popov.{row_at, IsRow, IsPivot, IsZeroRow, IsWeakPopov, HasFullRank, HasMultipleIn, HaveSameSpan, IsPopov, multiple_of_row, combination}

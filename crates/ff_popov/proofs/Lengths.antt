@@ -4,10 +4,10 @@ use Rattle.std.proofs.lemmas.List.{length-replicate, length-take-le, append-nil,
 use Rattle.ff_fields.specs.Field.{CodeField}
 use Rattle.ff_fields.specs.Code.{raw_ring, code_ring, is_zero_code, Code}
 use Rattle.ff_fields.specs.Over.{IsOver, get_or_below}
-use Rattle.ring_theory.specs.Ring.{Operations}
-use Rattle.ring_theory.specs.Lists.{add_lists, scale_list, trim, trim_onto}
-use Rattle.ring_theory.proofs.Ring.{neg_mul}
-use Rattle.ring_theory.proofs.Lists.{length_add_lists, length_scale_list, get_or_scale_list}
+use Rattle.ring_lemmas.specs.Ring.{Operations}
+use Rattle.ring_lemmas.specs.Lists.{add_lists, scale_list, trim, trim_onto}
+use Rattle.ring_lemmas.proofs.Ring.{neg_mul}
+use Rattle.ring_lemmas.proofs.Lists.{length_add_lists, length_scale_list, get_or_scale_list}
 use Rattle.ff_poly.specs.Words.{IsPoly, poly_of}
 use Rattle.ff_poly.specs.Terms.{less_multiple}
 use Rattle.ff_poly.proofs.Trims.{poly_of_take_less}

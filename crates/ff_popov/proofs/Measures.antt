@@ -6,16 +6,18 @@ use Rattle.ff_fields.specs.Field.{CodeField}
 use Rattle.ff_fields.specs.Code.{Code, code_ring, read_code}
 use Rattle.ff_fields.specs.Over.{IsOver}
 use Rattle.ff_fields.specs.Numbers.{read}
-use Rattle.ring_theory.specs.Lists.{coeff_of, IsTrimmed}
-use Rattle.ring_theory.specs.Rows.{Row, entry}
-use Rattle.ring_theory.specs.Polynomials.{Pol}
-use Rattle.ring_theory.proofs.Polynomials.{pol_ring, coeff_past, coeff_top}
+use Rattle.ring_lemmas.specs.Lists.{coeff_of, IsTrimmed}
+use Rattle.ring_lemmas.specs.Rows.{Row, entry}
+use Rattle.ring_lemmas.specs.Polynomials.{Pol}
+use Rattle.ring_theory.specs.PolynomialRing.{pol_ring}
+use Rattle.ring_lemmas.proofs.Polynomials.{coeff_past, coeff_top}
 use Rattle.ff_poly.specs.Words.{IsPoly}
 use Rattle.ff_poly.specs.Value.{value, numbers_value}
 use Rattle.ff_poly.specs.Polynomials.{value_nil}
 use Rattle.ff_poly.specs.Popov.{entry_at, IsPivot, IsZeroRow}
 use Rattle.popov_theory.specs.Module.{PolynomialModule, measure, pivot, row_degree}
-use Rattle.popov_theory.proofs.PolynomialRows.{row_width, row_entry, same_entries, row_module_zero, entry_zero}
+use Rattle.popov_theory.proofs.PolynomialRows.{row_width, row_entry, row_module_zero}
+use Rattle.ring_theory.proofs.PolynomialRows.{same_entries, entry_zero}
 use Rattle.popov_theory.proofs.Measure.{pivot_is, measure_zero}
 use Rattle.ff_popov.specs.Reading.{read_row, row_space}
 use Rattle.ff_popov.proofs.Lengths.{trim_length}

@@ -1,12 +1,12 @@
 -- A Popov basis of codes, in the module that it is read into.
-use Rattle.std.proofs.Common.{◌≡◌, ℕ, suc, ◌+◌, ◌-◌, ◌*◌, ◌<◌, ◌≤◌, ◌⊎◌, inl, inr, List, [], length, get_or, sym, ap, ◌∙◌, arith, subst, ◌++◌, ◌∷◌, refl, ap₂, length-append}
+use Rattle.std.proofs.Common.{◌≡◌, ℕ, suc, ◌+◌, ◌-◌, ◌*◌, ◌<◌, ◌≤◌, ◌⊎◌, inl, inr, List, [], length, get_or, sym, ap, ◌∙◌, arith, subst, ◌++◌, ◌∷◌, refl, ap₂, length-append, add-mul}
 use Rattle.std.specs.Prelude.{All}
 use Rattle.std.proofs.lemmas.Bool.{cases_lt}
 use Rattle.std.proofs.lemmas.List.{length-map, get_or-map, get_or-append_right}
 use Rattle.ff_fields.specs.Field.{CodeField}
 use Rattle.ff_fields.specs.Code.{code_ring, code_domain, read_code, read_code_below, same_code}
-use Rattle.ring_theory.specs.Rows.{Row}
-use Rattle.ring_theory.specs.Polynomials.{Pol}
+use Rattle.ring_lemmas.specs.Rows.{Row}
+use Rattle.ring_lemmas.specs.Polynomials.{Pol}
 use Rattle.ff_poly.specs.Popov.{entry_at, row_at, IsRow, IsPopov}
 use Rattle.popov_theory.specs.Module.{PolynomialModule, measure, pivot, row_degree, column}
 use Rattle.popov_theory.specs.Span.{InSpan}
@@ -19,8 +19,7 @@ use Rattle.ff_popov.specs.Reading.{read_row, row_space, read_rows}
 use Rattle.ff_popov.proofs.ReadRows.{over_at, read_row_at}
 use Rattle.ff_popov.proofs.Measures.{measured, space_width, coef_read, coef_short}
 use Rattle.ff_popov.proofs.Positions.{times_le}
-use Rattle.std.proofs.Common.{add-mul}
-use Rattle.ring_theory.specs.Lists.{coeff_of}
+use Rattle.ring_lemmas.specs.Lists.{coeff_of}
 use Rattle.ff_poly.specs.Value.{value}
 use Rattle.ff_poly.specs.Polynomials.{series_read}
 

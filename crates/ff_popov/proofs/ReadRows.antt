@@ -5,12 +5,12 @@ use Rattle.std.proofs.lemmas.Bool.{cases_lt}
 use Rattle.ff_fields.specs.Field.{CodeField}
 use Rattle.ff_fields.specs.Code.{code_ring}
 use Rattle.ff_fields.specs.Over.{IsOver, IsOver_nil}
-use Rattle.ring_theory.specs.Ring.{TestedRing}
-use Rattle.ring_theory.specs.Rows.{Row, row_zero, row_add, row_neg, row_scale, entry}
-use Rattle.ring_theory.proofs.Ring.{mul_zero}
-use Rattle.ring_theory.proofs.Rows.{pair_path}
-use Rattle.ring_theory.specs.Polynomials.{Pol}
-use Rattle.ring_theory.proofs.Polynomials.{pol_ring}
+use Rattle.ring_lemmas.specs.Ring.{TestedRing}
+use Rattle.ring_lemmas.specs.Rows.{Row, row_zero, row_add, row_neg, row_scale, entry}
+use Rattle.ring_lemmas.proofs.Ring.{mul_zero}
+use Rattle.ring_lemmas.proofs.Rows.{pair_path}
+use Rattle.ring_lemmas.specs.Polynomials.{Pol}
+use Rattle.ring_theory.specs.PolynomialRing.{pol_ring}
 use Rattle.ff_poly.specs.Words.{IsPoly, difference_of}
 use Rattle.ff_poly.specs.Value.{value, value_sum, value_product, same_from_value}
 use Rattle.ff_poly.specs.Polynomials.{value_nil}
@@ -19,7 +19,8 @@ use Rattle.ff_poly.specs.Popov.{entry_at, row_at, IsRow, sum_of_rows, multiple_o
 use Rattle.ff_poly.proofs.Results.{product_of_nil}
 use Rattle.popov_theory.specs.Module.{PolynomialModule}
 use Rattle.popov_theory.specs.Popov.{put}
-use Rattle.popov_theory.proofs.PolynomialRows.{same_entries, entry_add, entry_neg, entry_scale, row_module_zero, row_module_add, row_module_neg, row_module_scale}
+use Rattle.ring_theory.proofs.PolynomialRows.{same_entries, entry_add, entry_neg, entry_scale}
+use Rattle.popov_theory.proofs.PolynomialRows.{row_module_zero, row_module_add, row_module_neg, row_module_scale}
 use Rattle.ff_popov.specs.Reading.{read_row, row_space, read_rows}
 use Rattle.ff_popov.specs.Rows.{IsRowLess}
 

@@ -6,9 +6,9 @@ use Rattle.std.proofs.lemmas.List.Elements.{All-nil, All-cons, All-replicate}
 use Rattle.ff_fields.specs.Field.{CodeField}
 use Rattle.ff_fields.specs.Code.{code_ring, raw_ring}
 use Rattle.ff_fields.specs.Over.{IsOver, IsOver_nil}
-use Rattle.ring_theory.specs.Lists.{tail_of, add_lists}
-use Rattle.ring_theory.specs.Rows.{Row}
-use Rattle.ring_theory.specs.Polynomials.{Pol}
+use Rattle.ring_lemmas.specs.Lists.{tail_of, add_lists}
+use Rattle.ring_lemmas.specs.Rows.{Row}
+use Rattle.ring_lemmas.specs.Polynomials.{Pol}
 use Rattle.ff_poly.specs.Words.{IsPoly, sum_of, product_of}
 use Rattle.ff_poly.specs.PolyOver.{IsOver_sum_of, IsOver_product_of, IsPoly_poly_of}
 use Rattle.ff_poly.specs.Value.{value}

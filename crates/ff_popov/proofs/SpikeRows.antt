@@ -8,12 +8,13 @@ use native.Mathlib.Decide.{ℕ_discrete}
 use Rattle.ff_fields.specs.Field.{CodeField}
 use Rattle.ff_fields.specs.Code.{code_ring, code_field, read_code, read_code_below, same_code, is_zero_code}
 use Rattle.ff_fields.specs.Over.{IsOver, IsOver_nil, get_or_below}
-use Rattle.ring_theory.specs.Ring.{TestedRing}
-use Rattle.ring_theory.specs.Lists.{coeff_of}
-use Rattle.ring_theory.specs.Rows.{Row, row_add, row_neg}
-use Rattle.ring_theory.proofs.Ring.{zero_add, neg_neg, neg_zero}
-use Rattle.ring_theory.specs.Polynomials.{Pol}
-use Rattle.ring_theory.proofs.Polynomials.{pol_ring, coeff_past, series_add}
+use Rattle.ring_lemmas.specs.Ring.{TestedRing}
+use Rattle.ring_lemmas.specs.Lists.{coeff_of}
+use Rattle.ring_lemmas.specs.Rows.{Row, row_add, row_neg}
+use Rattle.ring_lemmas.proofs.Ring.{zero_add, neg_neg, neg_zero}
+use Rattle.ring_lemmas.specs.Polynomials.{Pol}
+use Rattle.ring_theory.specs.PolynomialRing.{pol_ring}
+use Rattle.ring_lemmas.proofs.Polynomials.{coeff_past, series_add}
 use Rattle.ff_poly.specs.Words.{IsPoly, IsMonic, difference_of}
 use Rattle.ff_poly.specs.Value.{value}
 use Rattle.ff_poly.specs.Polynomials.{value_nil, value_one, series_read}
@@ -24,7 +25,8 @@ use Rattle.popov_theory.specs.Module.{PolynomialModule}
 use Rattle.popov_theory.specs.Span.{InSpan}
 use Rattle.popov_theory.proofs.Module.{v_neg_add, v_neg_neg, v_add_comm}
 use Rattle.popov_theory.proofs.Span.{span_submodule, neg_in}
-use Rattle.popov_theory.proofs.PolynomialRows.{same_entries, entry_add, entry_neg, row_module_add, row_module_neg}
+use Rattle.ring_theory.proofs.PolynomialRows.{same_entries, entry_add, entry_neg}
+use Rattle.popov_theory.proofs.PolynomialRows.{row_module_add, row_module_neg}
 use Rattle.ff_popov.specs.Reading.{read_row, row_space, read_rows}
 use Rattle.ff_popov.specs.Rows.{IsOwners, IsCongruentRow, IsPopovRow, IsPopovRows, owner_length}
 use Rattle.ff_popov.proofs.Entries.{any_default}

@@ -11,8 +11,8 @@ use native.Mathlib.Decide.{ℕ_discrete}
 use Rattle.ff_fields.specs.Field.{FieldOps, CodeField}
 use Rattle.ff_fields.specs.Code.{code_ring}
 use Rattle.ff_fields.specs.Over.{IsOver}
-use Rattle.ring_theory.specs.Rows.{Row}
-use Rattle.ring_theory.specs.Polynomials.{Pol}
+use Rattle.ring_lemmas.specs.Rows.{Row}
+use Rattle.ring_lemmas.specs.Polynomials.{Pol}
 use Rattle.ff_poly.specs.Value.{value}
 use Rattle.ff_poly.specs.Terms.{term, IsOver_less_multiple}
 use Rattle.ff_poly.specs.Popov.{rows_of, entry_at, row_at, width_of, IsRow, IsPivot, IsWeakPopov}

@@ -2,12 +2,12 @@
 use Rattle.std.specs.Prelude.{ℕ, zero, suc, ◌-◌, List, [], ◌∷◌, map}
 use Rattle.ff_fields.specs.Field.{CodeField}
 use Rattle.ff_fields.specs.Code.{code_ring}
-use Rattle.ring_theory.specs.Rows.{Row}
-use Rattle.ring_theory.specs.Polynomials.{Pol}
-use Rattle.ring_theory.proofs.Polynomials.{pol_ring}
+use Rattle.ring_lemmas.specs.Rows.{Row}
+use Rattle.ring_lemmas.specs.Polynomials.{Pol}
+use Rattle.ring_theory.specs.PolynomialRing.{pol_ring}
 use Rattle.ff_poly.specs.Value.{value}
 use Rattle.popov_theory.specs.Module.{PolynomialModule}
-use Rattle.popov_theory.proofs.PolynomialRows.{row_module}
+use Rattle.popov_theory.specs.RowModule.{row_module}
 
 module _ (k : CodeField) where
   -- the row of n polynomials; zero past the end

@@ -4,7 +4,7 @@ use Rattle.std.proofs.lemmas.Bool.{eq-eqb}
 use Rattle.std.proofs.lemmas.List.{reverse-append, reverse-reverse, length-reverse}
 use Rattle.std.proofs.lemmas.List.Elements.{All-head, All-tail}
 use Rattle.ff_fields.specs.Code.{is_zero_code}
-use Rattle.ring_theory.specs.Lists.{IsTrimmed}
+use Rattle.ring_lemmas.specs.Lists.{IsTrimmed}
 use Rattle.ff_text.specs.Printed.{term_text, poly_text, IsPrintable}
 use Rattle.ff_text.specs.PrintedWriting.{plus_text}
 use Rattle.ff_text.specs.PrintedReading.{after_text, number_at, power_at, term_at, plus_at, on_top, codes_at, poly_at}

@@ -8,7 +8,7 @@ use Rattle.std.proofs.lemmas.List.Sums.{sum_by-append, sum_by-cons}
 use Rattle.std.proofs.lemmas.List.Folds.{sum_by-replicate}
 use Rattle.std.proofs.Math.Seq.{get_or-append_seam, take-suc}
 use Rattle.ff_fields.specs.Code.{is_zero_code}
-use Rattle.ring_theory.proofs.Lists.{IsTrimmed_push, trim_trimmed}
+use Rattle.ring_lemmas.proofs.Lists.{IsTrimmed_push, trim_trimmed}
 use Rattle.ff_poly.specs.Words.{IsPoly, poly_of, IsMonic, top_of}
 use Rattle.ff_text.specs.Printed.{power_text, term_text, poly_text, term_count, den_text, over_text, IsPrintable}
 use Rattle.ff_text.specs.PrintedWriting.{plus_text}

@@ -4,7 +4,7 @@ use Rattle.std.proofs.lemmas.Bool.{eqb-true, eq-eqb, ne_eqb, cases_Bool}
 use Rattle.std.proofs.lemmas.List.{reverse-append, reverse-reverse, length-reverse}
 use Rattle.std.proofs.lemmas.List.Elements.{All-nil, All-cons, All-head, All-tail, All-append}
 use Rattle.ff_fields.specs.Code.{is_zero_code}
-use Rattle.ring_theory.proofs.Lists.{IsTrimmed_push, trim_trimmed}
+use Rattle.ring_lemmas.proofs.Lists.{IsTrimmed_push, trim_trimmed}
 use Rattle.ff_poly.specs.Words.{IsPoly, poly_of}
 use Rattle.ff_text.specs.Printed.{term_text, poly_text, IsPrintable}
 use Rattle.ff_text.specs.PrintedWriting.{plus_text}

@@ -50,7 +50,6 @@ pub struct TermList {
 }
 
 impl Model for TermList {
-    ghost use Rattle.std.specs.Prelude.{List};
     ghost use Rattle.ff_text.specs.declared.terms.Term.{Term};
 
     ghost Value = { List Term };
@@ -66,7 +65,6 @@ pub struct EntryList {
 }
 
 impl Model for EntryList {
-    ghost use Rattle.std.specs.Prelude.{List};
     ghost use Rattle.ff_text.specs.declared.terms.Term.{Term};
 
     ghost Value = { List (List Term) };

@@ -1,14 +1,13 @@
 -- Lists of coefficients as functions of polynomials: leading coefficients, synthetic division, the minimal polynomial and
 -- Lagrange's idempotents as a program has them, and the q-th power of a combination.
 use Rattle.std.proofs.lemmas.List.Elements.{All-nil, All-cons, All-head, All-tail, All-weaker, All-map}
-use Rattle.std.proofs.Common.{◌≡◌, ℕ, suc, ◌<◌, ◌^◌, List, [], ◌∷◌, map, length, refl, ◌∙◌, ap, ap₂, subst}
+use Rattle.std.proofs.Common.{◌≡◌, ℕ, suc, ◌<◌, ◌^◌, List, [], ◌∷◌, map, length, refl, ◌∙◌, ap, ap₂, subst, All}
 use Rattle.std.proofs.lemmas.List.{length-map}
-use Rattle.ring_theory.specs.Ring.{CommRing, pow}
+use Rattle.ring_lemmas.specs.Ring.{CommRing, pow}
 use Rattle.ring_theory.specs.Subsets.{IsSubring, Span}
-use Rattle.ring_theory.proofs.Ring.{zero_add, mul_pow}
-use Rattle.ring_theory.proofs.Solver.{ring, reads, from_one, from_two}
+use Rattle.ring_lemmas.proofs.Ring.{zero_add, mul_pow}
+use Rattle.ring_lemmas.proofs.Solver.{ring, reads, from_one, from_two}
 use Rattle.ring_theory.proofs.Subsets.{span_zero}
-use Rattle.std.proofs.Common.{All}
 use Rattle.finite_algebra_theory.specs.Polynomial.{Leading, Monic}
 use Rattle.finite_algebra_theory.specs.Algebra.{FiniteAlgebra, powers}
 use Rattle.finite_algebra_theory.specs.Horner.{value, combination, suffix_values}

@@ -1,18 +1,22 @@
 -- The polynomials over a finite field modulo a monic one of degree at least 1 are a finite algebra.
 use Rattle.std.proofs.Common.{◌≡◌, ℕ, zero, suc, ◌-◌, ◌≤◌, ◌<◌, List, [], ◌∷◌, length, refl, sym, ◌∙◌, ap, ap₂, subst, arith}
 use mathlib.Core.HLevel.{Σ_prop_path}
-use Rattle.ring_theory.specs.Ring.{CommRing, TestedRing, IsDomain, IsField}
-use Rattle.ring_theory.specs.Lists.{coeff_of}
+use Rattle.ring_lemmas.specs.Ring.{CommRing, TestedRing, IsDomain, IsField}
+use Rattle.ring_lemmas.specs.Lists.{coeff_of}
 use Rattle.ring_theory.specs.Subsets.{Span}
-use Rattle.ring_theory.specs.Congruence.{IsCongruent}
-use Rattle.ring_theory.proofs.Ring.{field_domain, zero_mul}
-use Rattle.ring_theory.specs.Polynomials.{Pol, pol_ops, constant}
-use Rattle.ring_theory.proofs.Polynomials.{pol_ring, pol_domain, IsTrimmed_prop}
-use Rattle.ring_theory.proofs.Congruence.{congruent_sym, congruent_trans, congruent_add, congruent_mul, congruent_same}
-use Rattle.ring_theory.proofs.Classes.{Class, class_of, classes, class_same, short_same, length_rest, rest_congruent, rest}
+use Rattle.ring_lemmas.specs.Congruence.{IsCongruent}
+use Rattle.ring_lemmas.proofs.Ring.{field_domain, zero_mul}
+use Rattle.ring_lemmas.specs.Polynomials.{Pol, pol_ops, constant}
+use Rattle.ring_theory.specs.PolynomialRing.{pol_ring}
+use Rattle.ring_theory.proofs.Polynomials.{pol_domain}
+use Rattle.ring_lemmas.proofs.Polynomials.{IsTrimmed_prop}
+use Rattle.ring_lemmas.proofs.Congruence.{congruent_sym, congruent_trans, congruent_add, congruent_mul, congruent_same}
+use Rattle.ring_theory.specs.Classes.{Class, class_of, rest}
+use Rattle.finite_algebra_theory.specs.Classes.{classes}
+use Rattle.ring_theory.proofs.Classes.{class_same, short_same, length_rest, rest_congruent}
 use Rattle.ring_theory.specs.Maps.{IsHom}
 use Rattle.ring_theory.proofs.Evaluate.{length_trim, constant_hom, x_pol, pol_self, pol_value, evaluate, evaluate_hom, hom_after}
-use Rattle.ring_theory.proofs.Solver.{ring, reads}
+use Rattle.ring_lemmas.proofs.Solver.{ring, reads}
 use Rattle.ring_theory.proofs.Subsets.{span_zero}
 use Rattle.finite_algebra_theory.specs.Algebra.{FiniteAlgebra, powers}
 use Rattle.finite_algebra_theory.specs.ByMap.{FiniteField, Image}

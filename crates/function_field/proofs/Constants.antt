@@ -1,8 +1,8 @@
 -- 1 is in the space of the divisor 0.
 use Rattle.std.proofs.Common.{pos, neg_ℤ, [], sym, ◌∙◌, ap₂, subst, lit≤}
-use Rattle.ring_theory.specs.Ring.{CommRing}
+use Rattle.ring_lemmas.specs.Ring.{CommRing}
 use Rattle.ring_theory.specs.Integral.{IsIntegral}
-use Rattle.ring_theory.proofs.Ring.{zero_add}
+use Rattle.ring_lemmas.proofs.Ring.{zero_add}
 use Rattle.function_field.specs.declared.side.Side.{Side}
 use Rattle.function_field.specs.Setting.{Setting}
 use Rattle.function_field.specs.Places.{Place, IsPlace, IsIntegralAt, HasValuationAtLeast}

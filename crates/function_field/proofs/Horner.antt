@@ -1,8 +1,8 @@
 -- A row over a polynomial d stands for the sum of v_i·y^i, divided by d.
 use Rattle.std.proofs.Common.{◌≡◌, ℕ, zero, suc, refl, sym, ◌∙◌, ap, ap₂}
-use Rattle.ring_theory.specs.Rows.{Row, row_zero, row_add, row_scale, times_y, row_times, row_one, row_mul}
-use Rattle.ring_theory.proofs.RowFractions.{pair_add, pair_mul, whole_pair}
-use Rattle.ring_theory.proofs.Rows.{pair_path, row_mul_one, row_mul_comm, times_times_y, row_scale_one, row_scale_zero, row_scale_scale, scale_row_mul}
+use Rattle.ring_lemmas.specs.Rows.{Row, row_zero, row_add, row_scale, times_y, row_times, row_one, row_mul}
+use Rattle.ring_theory.specs.FunctionRing.{pair_add, pair_mul, whole_pair}
+use Rattle.ring_lemmas.proofs.Rows.{pair_path, row_mul_one, row_mul_comm, times_times_y, row_scale_one, row_scale_zero, row_scale_scale, scale_row_mul}
 use Rattle.ff_fields.specs.Field.{CodeField}
 use Rattle.ff_poly.specs.Polynomials.{Polynomial, polynomials, polynomials_domain}
 use Rattle.function_field.specs.Functions.{Equation, RowOver, FunctionOf, ring_of, ring_of_x, function, function_eq, add_rows, mul_rows, whole_row, row_of, of_poly, y_of, add_function, mul_function, zero_function}

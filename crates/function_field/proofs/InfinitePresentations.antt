@@ -4,9 +4,9 @@ use Rattle.std.proofs.Math.Nat.{mul-le-mul_right}
 use Rattle.std.proofs.lemmas.Bool.{cases_lt}
 use Rattle.std.proofs.lemmas.List.Elements.{All-get_or, All-from_get_or, All-head, All-tail, All-push}
 use mathlib.Core.List.{reverse-cons}
-use Rattle.ring_theory.specs.Ring.{CommRing, pow}
-use Rattle.ring_theory.specs.Lists.{trim_onto}
-use Rattle.ring_theory.proofs.Ring.{mul_rules, mul_zero, zero_add, one_mul, pow_add}
+use Rattle.ring_lemmas.specs.Ring.{CommRing, pow}
+use Rattle.ring_lemmas.specs.Lists.{trim_onto}
+use Rattle.ring_lemmas.proofs.Ring.{mul_rules, mul_zero, zero_add, one_mul, pow_add}
 use Rattle.ff_fields.specs.Field.{CodeField}
 use Rattle.ff_fields.specs.Code.{is_zero_code, zero_in}
 use Rattle.ff_fields.specs.Over.{IsOver, IsOver_nil, IsOver_cons, IsOver_trim, IsOver_append, IsOver_zeros}

@@ -1,12 +1,12 @@
 -- The function of an element of either presentation is the one that the element stands for.
 use Rattle.std.proofs.Common.{◌≡◌, ℕ, zero, suc, ◌-◌, ◌<◌, List, [], ◌∷◌, ◌++◌, length, reverse, refl, sym, ◌∙◌, ap, ap₂, true≢false, eq-eqb}
 use mathlib.Core.List.{reverse-append}
-use Rattle.ring_theory.specs.Ring.{CommRing, pow}
-use Rattle.ring_theory.specs.Lists.{IsTrimmed}
-use Rattle.ring_theory.specs.Rows.{row_zero, row_add, row_scale, row_one, row_mul}
-use Rattle.ring_theory.proofs.RowFractions.{pair_mul, whole_pair}
-use Rattle.ring_theory.proofs.Ring.{mul_rules, one_mul}
-use Rattle.ring_theory.proofs.Rows.{pair_path, row_mul_one, row_mul_comm, row_add_zero, row_scale_zero, row_scale_scale, scale_row_mul}
+use Rattle.ring_lemmas.specs.Ring.{CommRing, pow}
+use Rattle.ring_lemmas.specs.Lists.{IsTrimmed}
+use Rattle.ring_lemmas.specs.Rows.{row_zero, row_add, row_scale, row_one, row_mul}
+use Rattle.ring_theory.specs.FunctionRing.{pair_mul, whole_pair}
+use Rattle.ring_lemmas.proofs.Ring.{mul_rules, one_mul}
+use Rattle.ring_lemmas.proofs.Rows.{pair_path, row_mul_one, row_mul_comm, row_add_zero, row_scale_zero, row_scale_scale, scale_row_mul}
 use Rattle.ff_fields.specs.Field.{CodeField}
 use Rattle.ff_fields.specs.Code.{is_zero_code}
 use Rattle.ff_fields.specs.Over.{IsOver, IsOver_head, IsOver_tail}

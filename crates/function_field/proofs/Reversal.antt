@@ -2,8 +2,8 @@
 use Rattle.std.proofs.Common.{◌≡◌, ℕ, List, [], ◌∷◌, ◌++◌, length, reverse, sym, ◌∙◌, ap, ap₂}
 use Rattle.std.proofs.lemmas.List.{length-reverse}
 use mathlib.Core.List.{reverse-cons}
-use Rattle.ring_theory.specs.Ring.{CommRing, pow}
-use Rattle.ring_theory.proofs.Ring.{ring_rules, mul_zero}
+use Rattle.ring_lemmas.specs.Ring.{CommRing, pow}
+use Rattle.ring_lemmas.proofs.Ring.{ring_rules, mul_zero}
 
 module _ {E : Type 0} (F : CommRing E) (e : ℕ → E) where
   open F use {𝟘, 𝟙, ◌⊕◌, ◌⊗◌, ⊖◌}

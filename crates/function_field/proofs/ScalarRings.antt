@@ -1,11 +1,11 @@
 -- The polynomials, and the fractions of degree at most 0, are subrings of the functions.
 use Rattle.std.proofs.Common.{◌≡◌, suc, ◌≤◌, length, refl, sym, ◌∙◌, ap, ap₂, arith, le_refl}
-use Rattle.ring_theory.specs.Rows.{row_zero, row_add, row_neg, row_scale, row_one}
+use Rattle.ring_lemmas.specs.Rows.{row_zero, row_add, row_neg, row_scale, row_one}
 use Rattle.ring_theory.specs.Subsets.{IsSubring}
-use Rattle.ring_theory.proofs.Ring.{neg_unique, product_not_zero}
-use Rattle.ring_theory.proofs.Rows.{pair_path, row_add_zero, row_scale_zero}
-use Rattle.ring_theory.proofs.RowFractions.{pair_add, pair_mul, pair_neg, whole_pair}
-use Rattle.ring_theory.specs.Polynomials.{pol_ops}
+use Rattle.ring_lemmas.proofs.Ring.{neg_unique, product_not_zero}
+use Rattle.ring_lemmas.proofs.Rows.{pair_path, row_add_zero, row_scale_zero}
+use Rattle.ring_theory.specs.FunctionRing.{pair_add, pair_mul, pair_neg, whole_pair}
+use Rattle.ring_lemmas.specs.Polynomials.{pol_ops}
 use Rattle.ring_theory.proofs.Polynomials.{length_product, length_product_le}
 use Rattle.ring_theory.proofs.Division.{length_add, length_neg}
 use Rattle.ff_fields.specs.Field.{CodeField}

@@ -1,10 +1,10 @@
 -- The negative of 1 is a scalar of both sides.
 use Rattle.std.proofs.Common.{◌≡◌, ℕ, zero, suc, [], refl, ◌∙◌, ap, le_refl}
-use Rattle.ring_theory.specs.Ring.{CommRing}
-use Rattle.ring_theory.specs.Rows.{row_zero, row_neg, row_scale, row_one}
-use Rattle.ring_theory.proofs.RowFractions.{pair_neg, whole_pair}
-use Rattle.ring_theory.proofs.Ring.{neg_zero}
-use Rattle.ring_theory.proofs.Rows.{pair_path}
+use Rattle.ring_lemmas.specs.Ring.{CommRing}
+use Rattle.ring_lemmas.specs.Rows.{row_zero, row_neg, row_scale, row_one}
+use Rattle.ring_theory.specs.FunctionRing.{pair_neg, whole_pair}
+use Rattle.ring_lemmas.proofs.Ring.{neg_zero}
+use Rattle.ring_lemmas.proofs.Rows.{pair_path}
 use Rattle.ring_theory.proofs.Division.{length_neg}
 use Rattle.ff_fields.specs.Field.{CodeField}
 use Rattle.ff_fields.specs.Code.{code_ring}

@@ -1,7 +1,7 @@
 -- A span is the set of combinations with listed coefficients.
 use Rattle.std.proofs.Common.{◌≡◌, List, [], ◌∷◌, length, refl, ◌∙◌, ap, arith, ◌↔◌, All}
 use Rattle.std.proofs.lemmas.List.Elements.{All-nil, All-cons, All-head, All-tail}
-use Rattle.ring_theory.specs.Ring.{Operations}
+use Rattle.ring_lemmas.specs.Ring.{Operations}
 use Rattle.ring_theory.specs.Subsets.{Span}
 use Rattle.function_field.specs.Spans.{combination, InSpan}
 

@@ -2,7 +2,7 @@
 use Rattle.std.proofs.Common.{◌≡◌, ℕ, zero, suc, ◌+◌, ◌<◌, ◌≤◌, List, [], ◌∷◌, ◌++◌, length, map, refl, subst, arith, All}
 use Rattle.std.proofs.lemmas.List.Elements.{All-nil, All-cons, All-head, All-tail}
 use native.Mathlib.Decide.{ℕ_discrete}
-use Rattle.ring_theory.specs.Rows.{Row}
+use Rattle.ring_lemmas.specs.Rows.{Row}
 use Rattle.ring_theory.proofs.Choose.{Member, here, there, choose}
 use Rattle.ff_fields.specs.Field.{CodeField}
 use Rattle.ff_poly.specs.Value.{value}

@@ -1,7 +1,7 @@
 -- The discriminant of a presentation (Stichtenoth, chapter 3; Cohen, A Course in Computational Algebraic Number Theory, chapter 4).
 use Rattle.std.specs.Prelude.{ℕ, ◌+◌}
 use Rattle.ring_theory.specs.Determinant.{determinant}
-use Rattle.ring_theory.specs.Rows.{row_trace, y_to}
+use Rattle.ring_lemmas.specs.Rows.{row_trace, y_to}
 use Rattle.ff_fields.specs.Field.{CodeField}
 use Rattle.ff_poly.specs.Polynomials.{Polynomial, polynomials}
 use Rattle.function_field.specs.Functions.{Equation, degree_of_y}

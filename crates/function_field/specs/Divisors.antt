@@ -1,6 +1,6 @@
 -- Divisors, spaces and their bases.
 use Rattle.std.specs.Prelude.{◌≡◌, ℕ, suc, ℤ, pos, negsuc, ◌+ℤ◌, ◌*ℤ◌, neg_ℤ, List, [], ◌∷◌, length, All, AllPairs, ◌↔◌, ◌⊎◌}
-use Rattle.ring_theory.specs.Ring.{pow}
+use Rattle.ring_lemmas.specs.Ring.{pow}
 use Rattle.ring_theory.specs.Subsets.{Span}
 use Rattle.ring_theory.specs.Integral.{IsIntegral}
 use Rattle.function_field.specs.declared.side.Side.{Side}

@@ -1,11 +1,12 @@
 -- F = k(x)[y]/(f), with what the definitions of places, divisors and spaces speak of.
 use Rattle.std.specs.Prelude.{◌≡◌, ℕ, zero, suc, ◌≤◌, length, refl}
 use Rattle.std.proofs.Common.{sym, ◌∙◌, ap}
-use Rattle.ring_theory.specs.Ring.{CommRing}
-use Rattle.ring_theory.specs.Rows.{Row, row_zero, row_scale, times_y, row_trace, row_one}
-use Rattle.ring_theory.proofs.Rows.{pair_path, row_trace_scale, row_scale_zero}
-use Rattle.ring_theory.specs.RowFractions.{RowPair, SamePair}
-use Rattle.ring_theory.proofs.RowFractions.{pair_add, pair_mul, pair_neg, whole_pair, Function, function_ring, pair_function, pair_function_eq, pair_function_same, each_pair, function_discrete, from_pairs, add_pairs, mul_pairs, neg_pair, zero_pair, one_pair}
+use Rattle.ring_lemmas.specs.Ring.{CommRing}
+use Rattle.ring_lemmas.specs.Rows.{Row, row_zero, row_scale, times_y, row_trace, row_one}
+use Rattle.ring_lemmas.proofs.Rows.{pair_path, row_trace_scale, row_scale_zero}
+use Rattle.ring_lemmas.specs.RowFractions.{RowPair, SamePair}
+use Rattle.ring_theory.specs.FunctionRing.{pair_add, pair_mul, pair_neg, whole_pair, Function, function_ring, pair_function, from_pairs}
+use Rattle.ring_theory.proofs.RowFractions.{pair_function_eq, pair_function_same, each_pair, function_discrete, add_pairs, mul_pairs, neg_pair, zero_pair, one_pair}
 use Rattle.ff_fields.specs.Field.{CodeField}
 use Rattle.ff_poly.specs.Polynomials.{Polynomial, polynomials, polynomials_domain, polynomial_discrete, x_poly, x_poly_not_zero}
 use Rattle.function_field.specs.declared.side.Side.{Side}

@@ -1,6 +1,6 @@
 -- The infinite presentation: t = 1/x and Y = y/x^c.
 use Rattle.std.specs.Prelude.{◌≡◌, ℕ, ◌+◌, ◌-◌, ◌*◌, ◌≤◌, ◌<◌, List, [], ◌∷◌, length, get_or, reverse}
-use Rattle.ring_theory.specs.Ring.{pow}
+use Rattle.ring_lemmas.specs.Ring.{pow}
 use Rattle.ff_fields.specs.Field.{CodeField}
 use Rattle.ff_poly.specs.Polynomials.{Polynomial, codes_of, constant_poly}
 use Rattle.function_field.specs.declared.side.Side.{Side}

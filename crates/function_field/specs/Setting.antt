@@ -1,6 +1,6 @@
 -- What the definitions of places, divisors and spaces speak of.
 use Rattle.std.specs.Prelude.{ℕ}
-use Rattle.ring_theory.specs.Ring.{CommRing}
+use Rattle.ring_lemmas.specs.Ring.{CommRing}
 use Rattle.function_field.specs.declared.side.Side.{Side}
 
 pub record Setting (E : Type 0) : Type 1 where

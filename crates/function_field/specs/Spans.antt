@@ -1,6 +1,6 @@
 -- Combinations with listed coefficients, and in how many ways a function is one.
 use Rattle.std.specs.Prelude.{◌≡◌, List, [], ◌∷◌, length, All}
-use Rattle.ring_theory.specs.Ring.{Operations}
+use Rattle.ring_lemmas.specs.Ring.{Operations}
 
 module _ {E : Type 0} (F : Operations E) where
   infixl 65 ◌⊕◌

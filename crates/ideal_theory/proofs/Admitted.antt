@@ -2,7 +2,7 @@
 use Rattle.std.proofs.Common.{◌⊎◌, inl, inr, subst}
 use Rattle.ring_theory.specs.Subsets.{Product}
 use Rattle.ring_theory.proofs.Subsets.{product_member}
-use Rattle.ring_theory.proofs.Ring.{mul_mul}
+use Rattle.ring_lemmas.proofs.Ring.{mul_mul}
 use Rattle.prime_theory.specs.Ideals.{Inverse}
 use Rattle.prime_theory.specs.Orders.{MaximalAt}
 use Rattle.prime_theory.proofs.Products.{product_universal, own_module, additive_of_module}

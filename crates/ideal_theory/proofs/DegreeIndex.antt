@@ -1,11 +1,11 @@
 -- Each degree of a finite place is its index in the integral functions.
 use Rattle.std.proofs.Common.{◌≡◌, All, ℕ, zero, suc, ◌<◌, List, [], ◌∷◌, length, refl, sym, ◌∙◌, ap, ap₂, subst, arith}
 use Rattle.std.proofs.lemmas.List.Elements.{All-nil, All-cons, All-head, All-tail}
-use Rattle.ring_theory.specs.Lists.{coeff_of}
+use Rattle.ring_lemmas.specs.Lists.{coeff_of}
 use Rattle.ring_theory.specs.Subsets.{Span}
-use Rattle.ring_theory.proofs.Solver.{ring, reads}
-use Rattle.ring_theory.specs.Polynomials.{constant, pol_ops}
-use Rattle.ring_theory.proofs.Lists.{coeff_trim}
+use Rattle.ring_lemmas.proofs.Solver.{ring, reads}
+use Rattle.ring_lemmas.specs.Polynomials.{constant, pol_ops}
+use Rattle.ring_lemmas.proofs.Lists.{coeff_trim}
 use Rattle.linear_theory.specs.Module.{combine}
 use Rattle.ff_fields.specs.Field.{CodeField}
 use Rattle.ff_fields.specs.Code.{Code, code_ring}
@@ -21,7 +21,7 @@ use Rattle.lattice_theory.proofs.Indices.{code_of}
 use Rattle.lattice_theory.proofs.Operations.{inverse_of}
 use Rattle.order_theory.proofs.Degrees.{constant_of, code_is}
 use Rattle.order_theory.proofs.FinitePlaces.{Int, finite, place_prime}
-use Rattle.ring_theory.proofs.Ring.{zero_mul}
+use Rattle.ring_lemmas.proofs.Ring.{zero_mul}
 use Rattle.ideal_theory.proofs.PowerValues.{on_side}
 
 module _ {k : CodeField} (c : Equation k) where

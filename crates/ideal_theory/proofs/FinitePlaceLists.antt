@@ -3,7 +3,7 @@
 use Rattle.std.proofs.Common.{◌≡◌, ◌⊎◌, inl, inr, List, [], ◌∷◌, ◌++◌, map, pos, refl, sym, ◌∙◌, subst, All}
 use Rattle.std.specs.List.{Any}
 use Rattle.std.proofs.lemmas.List.Elements.{All-head, All-tail}
-use Rattle.ring_theory.proofs.Ring.{product_not_zero}
+use Rattle.ring_lemmas.proofs.Ring.{product_not_zero}
 use Rattle.prime_theory.proofs.Lists.{any_left, any_right}
 use Rattle.ff_fields.specs.Field.{CodeField}
 use Rattle.ff_poly.specs.Words.{IsIrreducibleList}

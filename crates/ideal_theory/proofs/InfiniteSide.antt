@@ -2,10 +2,10 @@
 -- the infinite places.
 use Rattle.std.proofs.Common.{◌≡◌, ◌↔◌, ◌⊎◌, inl, inr, ℕ, List, [], ◌∷◌, refl, sym, subst}
 use Rattle.ring_theory.specs.Subsets.{IsSubring, IsModule, Product}
-use Rattle.ring_theory.proofs.Ring.{one_mul}
+use Rattle.ring_lemmas.proofs.Ring.{one_mul}
 use Rattle.ring_theory.proofs.RowMaps.{hom_zero}
 use Rattle.ring_theory.proofs.Subsets.{product_member, product_module}
-use Rattle.ring_theory.proofs.Solver.{ring, reads}
+use Rattle.ring_lemmas.proofs.Solver.{ring, reads}
 use Rattle.prime_theory.specs.Ideals.{Invertible, Inverse, IsAdditive}
 use Rattle.prime_theory.specs.Primes.{IsPrime}
 use Rattle.prime_theory.proofs.Products.{product_into}

@@ -3,7 +3,7 @@ use Rattle.std.proofs.Common.{◌≡◌, ◌↔◌, ◌⊎◌, inl, inr, List, [
 use Rattle.std.specs.List.{Any}
 use Rattle.std.proofs.lemmas.List.Elements.{All-head, All-tail, All-weaker}
 use Rattle.ring_theory.specs.Subsets.{IsModule}
-use Rattle.ring_theory.proofs.Solver.{ring, reads, from_one}
+use Rattle.ring_lemmas.proofs.Solver.{ring, reads, from_one}
 use Rattle.ring_theory.proofs.Subsets.{span_module}
 use Rattle.prime_theory.specs.Ideals.{SameSet}
 use Rattle.prime_theory.specs.IntegerValues.{ValueIs}

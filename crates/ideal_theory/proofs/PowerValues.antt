@@ -2,10 +2,10 @@
 use Rattle.std.proofs.Common.{◌≡◌, ℕ, zero, suc, List, [], ◌∷◌, refl, sym, subst, arith}
 use Rattle.std.proofs.lemmas.Int.{ints}
 use Rattle.std.proofs.Math.IntN.{ℤ, pos, negsuc, ◌+ℤ◌}
-use Rattle.ring_theory.specs.Ring.{pow}
+use Rattle.ring_lemmas.specs.Ring.{pow}
 use Rattle.ring_theory.specs.Subsets.{IsSubring}
-use Rattle.ring_theory.proofs.Ring.{one_mul, mul_zero}
-use Rattle.ring_theory.proofs.Solver.{ring, reads}
+use Rattle.ring_lemmas.proofs.Ring.{one_mul, mul_zero}
+use Rattle.ring_lemmas.proofs.Solver.{ring, reads}
 use Rattle.prime_theory.specs.Ideals.{IsAdditive, IsIdeal, SameSet, Inverse, Power}
 use Rattle.prime_theory.specs.IntegerValues.{up, down, PrimePower}
 use Rattle.prime_theory.specs.Primes.{IsPrime}

@@ -7,7 +7,7 @@ use Rattle.std.proofs.lemmas.List.Kept.{AllPairs-cons}
 use Rattle.std.proofs.lemmas.Int.{ints}
 use Rattle.std.proofs.Math.IntN.{ℤ, pos, ◌+ℤ◌}
 use lib.Signed.{◌≤ℤ◌}
-use Rattle.ring_theory.proofs.Ring.{one_mul}
+use Rattle.ring_lemmas.proofs.Ring.{one_mul}
 use Rattle.prime_theory.specs.Ideals.{Invertible, Multiple, SameSet}
 use Rattle.prime_theory.specs.Primes.{IsPrime}
 use Rattle.prime_theory.proofs.Lists.{both, any_here, any_there, any_none, any_cases, any_weaker}

@@ -2,8 +2,8 @@
 -- is the maximal order.
 use Rattle.std.proofs.Common.{◌≡◌, ℕ, ◌<◌, List, refl, sym, ◌∙◌, subst}
 use Rattle.std.proofs.lemmas.List.Elements.{All-weaker}
-use Rattle.ring_theory.specs.Ring.{pow}
-use Rattle.ring_theory.specs.Rows.{entry}
+use Rattle.ring_lemmas.specs.Ring.{pow}
+use Rattle.ring_lemmas.specs.Rows.{entry}
 use Rattle.ring_theory.specs.Subsets.{IsModule}
 use Rattle.prime_theory.specs.Ideals.{SameSet}
 use Rattle.prime_theory.specs.Orders.{MaximalAt}

@@ -3,7 +3,7 @@ use Rattle.std.proofs.Common.{◌≡◌, ℕ, ◌+◌, refl, sym, arith}
 use Rattle.std.proofs.lemmas.Int.{ints}
 use Rattle.std.proofs.Math.IntN.{ℤ, pos, ◌+ℤ◌, ◌-ℤ◌}
 use Rattle.ring_theory.specs.Subsets.{Span}
-use Rattle.ring_theory.proofs.Ring.{zero_add}
+use Rattle.ring_lemmas.proofs.Ring.{zero_add}
 use Rattle.prime_theory.specs.Ideals.{SameSet}
 use Rattle.linear_theory.specs.Basis.{IsSum}
 use Rattle.ff_fields.specs.Field.{CodeField}

@@ -21,7 +21,7 @@ ghost use Rattle.prime_theory.specs.Orders.{MaximalAt};
 ghost use Rattle.prime_theory.specs.Primes.{IsPrime};
 ghost use Rattle.prime_theory.specs.Systems.{IsFamily, IsSystem, AreDistinctPrimes};
 ghost use Rattle.linear_theory.specs.Euclidean.{IsDivisorIn};
-ghost use Rattle.ring_theory.specs.Ring.{pow};
+ghost use Rattle.ring_lemmas.specs.Ring.{pow};
 ghost use Rattle.ring_theory.specs.Subsets.{IsModule, Product, Colon};
 ghost use Rattle.order_theory.specs.Orders.{IsOrder};
 ghost use Rattle.lattice_theory.specs.Lattices.{IsLattice};

@@ -1,9 +1,8 @@
 -- Each equation is that of a presentation by lists of codes, and that has an infinite presentation.
-use Rattle.std.proofs.Common.{◌≡◌, ℕ, zero, suc, ◌+◌, ◌-◌, ◌*◌, ◌≤◌, ◌<◌, List, [], ◌∷◌, length, get_or, refl, ◌∙◌, ap, subst, arith}
-use Rattle.ring_theory.specs.Rows.{Row}
-use Rattle.ring_theory.proofs.Rows.{pair_path}
+use Rattle.std.proofs.Common.{◌≡◌, ℕ, zero, suc, ◌+◌, ◌-◌, ◌*◌, ◌≤◌, ◌<◌, List, [], ◌∷◌, length, get_or, refl, ◌∙◌, ap, subst, arith, max}
+use Rattle.ring_lemmas.specs.Rows.{Row}
+use Rattle.ring_lemmas.proofs.Rows.{pair_path}
 use Rattle.std.specs.Int.{div_ceil}
-use Rattle.std.proofs.Common.{max}
 use Rattle.ff_fields.specs.Field.{CodeField}
 use Rattle.ff_poly.specs.Polynomials.{Polynomial, codes_of, value_codes_of}
 use Rattle.function_field.specs.Curves.{reversed_of}

@@ -1,8 +1,8 @@
 -- Membership in O_inf, and in a span over the fractions of degree at most 0, is decided; so each infinite place has t.
 use Rattle.std.proofs.Common.{◌≡◌, ℕ, ◌≤◌, ◌*◌, ◌-◌, List, [], ◌∷◌, map, refl, sym, ◌∙◌, ap, ap₂, subst}
-use Rattle.ring_theory.specs.Ring.{pow}
+use Rattle.ring_lemmas.specs.Ring.{pow}
 use Rattle.ring_theory.specs.Subsets.{Span}
-use Rattle.ring_theory.proofs.Ring.{mul_zero, mul_left_comm}
+use Rattle.ring_lemmas.proofs.Ring.{mul_zero, mul_left_comm}
 use Rattle.ring_theory.proofs.RowMaps.{hom_zero}
 use Rattle.ff_fields.specs.Field.{CodeField}
 use Rattle.ff_poly.specs.Polynomials.{polynomials, polynomials_domain, x_poly}

@@ -3,14 +3,14 @@
 -- integral, or spanned, over the ones to what is so over the others.
 use Rattle.std.proofs.Common.{◌≡◌, ◌↔◌, ℕ, ◌≤◌, List, [], ◌∷◌, length, map, get_or, refl, sym, ◌∙◌, ap, ap₂, subst, arith}
 use Rattle.std.proofs.lemmas.List.{length-map}
-use Rattle.ring_theory.specs.Ring.{CommRing}
-use Rattle.ring_theory.specs.Lists.{coeff_of}
+use Rattle.ring_lemmas.specs.Ring.{CommRing}
+use Rattle.ring_lemmas.specs.Lists.{coeff_of}
 use Rattle.ring_theory.specs.Subsets.{Span}
 use Rattle.ring_theory.specs.Local.{Locally}
 use Rattle.ring_theory.specs.Integral.{IsIntegral}
-use Rattle.ring_theory.proofs.Ring.{zero_mul, zero_add, mul_zero}
-use Rattle.ring_theory.proofs.Solver.{ring, reads}
-use Rattle.ring_theory.proofs.Polynomials.{series_mul}
+use Rattle.ring_lemmas.proofs.Ring.{zero_mul, zero_add, mul_zero}
+use Rattle.ring_lemmas.proofs.Solver.{ring, reads}
+use Rattle.ring_lemmas.proofs.Polynomials.{series_mul}
 use Rattle.ring_theory.proofs.RowMaps.{hom_zero}
 use Rattle.ff_fields.specs.Field.{CodeField}
 use Rattle.ff_fields.specs.Over.{IsOver, IsOver_nil, IsOver_cons, IsOver_head}

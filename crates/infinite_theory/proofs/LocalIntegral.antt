@@ -1,7 +1,7 @@
 -- Orders that are k[x][y] up to powers of p and maximal at p: they are the integral functions, locally at p, that have
 -- powers of p as denominators.
 use Rattle.std.proofs.Common.{◌≡◌, ◌↔◌, sym, subst}
-use Rattle.ring_theory.proofs.Ring.{one_mul}
+use Rattle.ring_lemmas.proofs.Ring.{one_mul}
 use Rattle.prime_theory.specs.Ideals.{SameSet}
 use Rattle.prime_theory.specs.Orders.{MaximalAt}
 use Rattle.linear_theory.specs.Euclidean.{IsDivisorIn}

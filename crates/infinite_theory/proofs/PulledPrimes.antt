@@ -4,7 +4,7 @@ use Rattle.std.proofs.Common.{◌≡◌, ◌↔◌, ◌⊎◌, inl, inr, ℕ, Li
 use Rattle.ring_theory.specs.Subsets.{IsModule, Span}
 use Rattle.ring_theory.specs.Local.{PrimeTo}
 use Rattle.ring_theory.proofs.RowMaps.{hom_zero, hom_neg}
-use Rattle.ring_theory.proofs.Solver.{ring, reads, from_one}
+use Rattle.ring_lemmas.proofs.Solver.{ring, reads, from_one}
 use Rattle.ring_theory.proofs.Subsets.{span_module}
 use Rattle.prime_theory.specs.Ideals.{IsIdeal, SameSet}
 use Rattle.prime_theory.specs.Orders.{MaximalAt}

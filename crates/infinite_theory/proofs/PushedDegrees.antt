@@ -5,9 +5,9 @@ use Rattle.std.proofs.lemmas.List.{length-map}
 use Rattle.std.proofs.lemmas.List.Elements.{All-nil, All-cons, All-head, All-tail, All-map, All-weaker}
 use Rattle.ring_theory.specs.Subsets.{IsSubring, IsModule, Span}
 use Rattle.ring_theory.specs.Local.{PrimeTo}
-use Rattle.ring_theory.proofs.Ring.{one_mul, mul_zero}
+use Rattle.ring_lemmas.proofs.Ring.{one_mul, mul_zero}
 use Rattle.ring_theory.proofs.RowMaps.{hom_zero, hom_neg}
-use Rattle.ring_theory.proofs.Solver.{ring, reads, from_one}
+use Rattle.ring_lemmas.proofs.Solver.{ring, reads, from_one}
 use Rattle.ring_theory.proofs.Subsets.{span_module}
 use Rattle.prime_theory.specs.Ideals.{SameSet}
 use Rattle.prime_theory.specs.Primes.{IsPrime}

@@ -6,7 +6,7 @@ use Rattle.ring_theory.specs.Subsets.{IsSubring, IsModule}
 use Rattle.ring_theory.specs.Local.{PrimeTo}
 use Rattle.ring_theory.specs.Maps.{IsHom}
 use Rattle.ring_theory.proofs.RowMaps.{hom_zero}
-use Rattle.ring_theory.proofs.Solver.{ring, reads}
+use Rattle.ring_lemmas.proofs.Solver.{ring, reads}
 use Rattle.ring_theory.proofs.Subsets.{span_least}
 use Rattle.ring_theory.proofs.Local.{locally_module, locally_product}
 use Rattle.prime_theory.proofs.Localisation.{Common, common}

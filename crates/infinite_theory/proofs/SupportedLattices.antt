@@ -2,16 +2,16 @@
 -- and what lies between two.
 use Rattle.std.proofs.Common.{◌≡◌, ◌↔◌, All, ℕ, zero, suc, ◌+◌, ◌<◌, List, [], ◌∷◌, refl, sym, ◌∙◌, ap, ap₂, subst, arith}
 use Rattle.std.proofs.lemmas.List.Elements.{All-nil, All-cons, All-head, All-tail, All-weaker}
-use Rattle.ring_theory.specs.Ring.{pow}
-use Rattle.ring_theory.specs.Rows.{entry, row_mul}
-use Rattle.ring_theory.specs.Sums.{sum_below}
+use Rattle.ring_lemmas.specs.Ring.{pow}
+use Rattle.ring_lemmas.specs.Rows.{entry, row_mul}
+use Rattle.ring_lemmas.specs.Sums.{sum_below}
 use Rattle.ring_theory.specs.Subsets.{IsSubring, IsModule, Product, Colon}
 use Rattle.ring_theory.specs.Local.{PrimeTo}
-use Rattle.ring_theory.proofs.Ring.{neg_mul, one_mul, mul_left_comm, pow_add}
-use Rattle.ring_theory.proofs.Sums.{below_scale}
+use Rattle.ring_lemmas.proofs.Ring.{neg_mul, one_mul, mul_left_comm, pow_add}
+use Rattle.ring_lemmas.proofs.Sums.{below_scale}
 use Rattle.ring_theory.proofs.Subsets.{span_least}
 use Rattle.ring_theory.proofs.Local.{power_in, two_denominators}
-use Rattle.ring_theory.proofs.Solver.{ring, reads, from_one}
+use Rattle.ring_lemmas.proofs.Solver.{ring, reads, from_one}
 use Rattle.prime_theory.specs.Ideals.{Multiple}
 use Rattle.prime_theory.specs.Orders.{Radical}
 use Rattle.prime_theory.proofs.Radicals.{p_in_radical}

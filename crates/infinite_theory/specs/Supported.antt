@@ -1,6 +1,6 @@
 -- Lattices that differ from k[x][y] at an irreducible polynomial p alone, and what holds up to factors prime to p.
 use Rattle.std.specs.Prelude.{ℕ, ◌<◌}
-use Rattle.ring_theory.specs.Ring.{pow}
+use Rattle.ring_lemmas.specs.Ring.{pow}
 use Rattle.ring_theory.specs.Local.{Locally}
 use Rattle.ff_fields.specs.Field.{CodeField}
 use Rattle.ff_poly.specs.Polynomials.{Polynomial}

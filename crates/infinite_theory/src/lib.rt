@@ -7,7 +7,7 @@
 
 ghost use Rattle.std.specs.Prelude.{◌≡◌, ℕ, ℤ, ◌+ℤ◌, ◌≤◌, ◌↔◌, List, map};
 ghost use Rattle.std.proofs.Common.{pos};
-ghost use Rattle.ring_theory.specs.Ring.{pow};
+ghost use Rattle.ring_lemmas.specs.Ring.{pow};
 ghost use Rattle.ring_theory.specs.Subsets.{IsModule, Span, Product, Colon};
 ghost use Rattle.ff_fields.specs.Field.{CodeField};
 ghost use Rattle.linear_theory.specs.Basis.{IsSum};

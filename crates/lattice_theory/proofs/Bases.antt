@@ -2,13 +2,14 @@
 use Rattle.std.proofs.Common.{◌≡◌, ℕ, suc, ◌-◌, ◌*◌, ◌<◌, List, [], ◌∷◌, length, map, refl, sym, ◌∙◌, ap, ap₂, subst, arith}
 use Rattle.std.proofs.lemmas.List.{length-map}
 use Rattle.std.proofs.lemmas.List.Elements.{All-map, All-from_get_or, All-weaker}
-use Rattle.ring_theory.specs.Lists.{coeff_of, tail_of}
-use Rattle.ring_theory.proofs.Ring.{zero_mul, mul_zero, one_mul}
-use Rattle.ring_theory.proofs.Sequences.{convolution_constant_left}
-use Rattle.ring_theory.specs.Polynomials.{constant}
+use Rattle.ring_lemmas.specs.Lists.{coeff_of, tail_of}
+use Rattle.ring_lemmas.proofs.Ring.{zero_mul, mul_zero, one_mul}
+use Rattle.ring_lemmas.proofs.Sequences.{convolution_constant_left}
+use Rattle.ring_lemmas.specs.Polynomials.{constant}
 use Rattle.ring_theory.proofs.Evaluate.{constant_hom, length_trim}
-use Rattle.ring_theory.proofs.Lists.{coeff_trim}
-use Rattle.ring_theory.proofs.Polynomials.{series_mul, length_product}
+use Rattle.ring_lemmas.proofs.Lists.{coeff_trim}
+use Rattle.ring_lemmas.proofs.Polynomials.{series_mul}
+use Rattle.ring_theory.proofs.Polynomials.{length_product}
 use Rattle.popov_theory.specs.Module.{measure}
 use Rattle.popov_theory.specs.Span.{combine, InSpan}
 use Rattle.popov_theory.proofs.Division.{coordinates_unique}

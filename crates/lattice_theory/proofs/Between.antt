@@ -4,8 +4,8 @@ use Rattle.std.proofs.Common.{◌≡◌, All, ℕ, suc, List, [], ◌∷◌, ◌
 use Rattle.std.proofs.lemmas.List.Elements.{All-cons, All-nil, All-append, All-head, All-tail, All-weaker}
 use Rattle.ring_theory.specs.Subsets.{IsModule, Span}
 use Rattle.ring_theory.proofs.Subsets.{span_head, span_append_left, span_append_right, span_least, span_module}
-use Rattle.ring_theory.proofs.Ring.{zero_add}
-use Rattle.ring_theory.proofs.Solver.{ring, reads}
+use Rattle.ring_lemmas.proofs.Ring.{zero_add}
+use Rattle.ring_lemmas.proofs.Solver.{ring, reads}
 use Rattle.ring_theory.specs.Members.{In}
 use Rattle.linear_theory.specs.Module.{combine}
 use Rattle.ff_fields.specs.Field.{CodeField}

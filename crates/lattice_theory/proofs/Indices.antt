@@ -2,11 +2,11 @@
 use Rattle.std.proofs.Common.{◌≡◌, ℕ, zero, suc, ◌+◌, ◌<◌, List, [], ◌∷◌, ◌++◌, length, map, refl, sym, ◌∙◌, ap, ap₂, subst, arith}
 use Rattle.std.proofs.lemmas.List.{length-append, length-map}
 use Rattle.std.proofs.lemmas.List.Elements.{All-map, All-from_get_or, All-nil}
-use Rattle.ring_theory.specs.Lists.{tail_of}
+use Rattle.ring_lemmas.specs.Lists.{tail_of}
 use Rattle.ring_theory.specs.Subsets.{IsModule}
-use Rattle.ring_theory.proofs.Ring.{neg_unique, add_sub, zero_add}
+use Rattle.ring_lemmas.proofs.Ring.{neg_unique, add_sub, zero_add}
 use Rattle.ring_theory.proofs.RowMaps.{hom_zero}
-use Rattle.ring_theory.specs.Polynomials.{constant}
+use Rattle.ring_lemmas.specs.Polynomials.{constant}
 use Rattle.ring_theory.proofs.Evaluate.{constant_hom}
 use Rattle.popov_theory.specs.Span.{InSpan, IsWithin}
 use Rattle.popov_theory.specs.Popov.{pivot_degree}

@@ -12,7 +12,7 @@ use Rattle.popov_theory.proofs.Reduction.{Reduced, reduce, reduced_span}
 use Rattle.ff_fields.specs.Field.{CodeField}
 use Rattle.ff_fields.specs.Code.{code_field}
 use Rattle.ff_poly.specs.Polynomials.{Polynomial, polynomials, polynomials_domain}
-use Rattle.ring_theory.proofs.Ring.{product_not_zero}
+use Rattle.ring_lemmas.proofs.Ring.{product_not_zero}
 use Rattle.function_field.specs.Functions.{Equation, FunctionOf, ring_of, IsPolynomial}
 use Rattle.function_field.proofs.ScalarRings.{polynomials_subring}
 use Rattle.lattice_theory.specs.Lattices.{IsLattice}

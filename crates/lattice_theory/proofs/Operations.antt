@@ -1,9 +1,9 @@
 -- Lattices out of lattices: k[x][y], multiples, sums, products, intersections, colons.
 use Rattle.std.proofs.Common.{◌≡◌, All, List, [], ◌∷◌, ◌++◌, map, refl, sym, ◌∙◌, ap, ap₂, subst}
 use Rattle.std.proofs.lemmas.List.Elements.{All-nil, All-cons, All-append, All-weaker, All-map}
-use Rattle.ring_theory.specs.Ring.{CommRing}
+use Rattle.ring_lemmas.specs.Ring.{CommRing}
 use Rattle.ring_theory.specs.Subsets.{IsSubring, IsModule, Span, Product, Colon, products}
-use Rattle.ring_theory.proofs.Ring.{one_mul, zero_add, mul_zero, mul_left_comm, add_add, product_not_zero}
+use Rattle.ring_lemmas.proofs.Ring.{one_mul, zero_add, mul_zero, mul_left_comm, add_add, product_not_zero}
 use Rattle.ring_theory.proofs.Subsets.{span_least, span_module, span_multiples, span_append_left, span_append_right, product_of_spans, product_member, colon_module}
 use Rattle.prime_theory.specs.Ideals.{Multiple}
 use Rattle.prime_theory.proofs.Products.{product_monotone}

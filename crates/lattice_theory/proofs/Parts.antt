@@ -1,13 +1,14 @@
 -- Functions over one denominator d as rows of polynomials: spans of functions are those of their rows.
 use Rattle.std.proofs.Common.{◌≡◌, ℕ, zero, suc, List, [], ◌∷◌, map, refl, sym, ◌∙◌, ap, ap₂, subst}
-use Rattle.ring_theory.specs.Lists.{tail_of}
-use Rattle.ring_theory.specs.Rows.{Row, row_zero, row_scale}
+use Rattle.ring_lemmas.specs.Lists.{tail_of}
+use Rattle.ring_lemmas.specs.Rows.{Row, row_zero, row_scale}
 use Rattle.ring_theory.specs.Subsets.{Span}
-use Rattle.ring_theory.proofs.Ring.{domain_cancel, product_not_zero, zero_mul}
-use Rattle.ring_theory.proofs.Rows.{pair_path, row_scale_add, row_scale_scale, row_zero_scale}
+use Rattle.ring_lemmas.proofs.Ring.{domain_cancel, product_not_zero, zero_mul}
+use Rattle.ring_lemmas.proofs.Rows.{pair_path, row_scale_add, row_scale_scale, row_zero_scale}
 use Rattle.popov_theory.specs.Module.{PolynomialModule}
 use Rattle.popov_theory.specs.Span.{combine, InSpan}
-use Rattle.popov_theory.proofs.PolynomialRows.{row_module, row_module_zero, row_module_add, row_module_scale}
+use Rattle.popov_theory.specs.RowModule.{row_module}
+use Rattle.popov_theory.proofs.PolynomialRows.{row_module_zero, row_module_add, row_module_scale}
 use Rattle.popov_theory.proofs.Span.{span_zero, span_add, span_scale, span_head, span_later}
 use Rattle.ff_fields.specs.Field.{CodeField}
 use Rattle.ff_fields.specs.Code.{code_ring}

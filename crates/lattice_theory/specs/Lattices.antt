@@ -2,7 +2,7 @@
 -- indices, as dimensions over k (Stichtenoth, Algebraic Function Fields and Codes, chapters 1 and 3).
 use Rattle.std.specs.Prelude.{◌≡◌, ℕ, List, length}
 use Rattle.ring_theory.specs.Subsets.{Span}
-use Rattle.ring_theory.specs.Polynomials.{constant}
+use Rattle.ring_lemmas.specs.Polynomials.{constant}
 use Rattle.prime_theory.specs.Ideals.{SameSet}
 use Rattle.linear_theory.specs.Module.{ModuleOps, restricted_ops}
 use Rattle.linear_theory.specs.Basis.{IsBasis, IsNull}

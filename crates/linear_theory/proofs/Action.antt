@@ -1,8 +1,8 @@
 -- Polynomials, as lists of coefficients, at a linear map of a module.
 use Rattle.std.proofs.Common.{◌≡◌, ℕ, zero, suc, List, [], ◌∷◌, length, refl, sym, ◌∙◌, ap, ap₂}
-use Rattle.ring_theory.specs.Ring.{CommRing}
-use Rattle.ring_theory.specs.Lists.{coeff_of, add_lists, scale_list, mul_lists}
-use Rattle.ring_theory.proofs.Solver.{reads}
+use Rattle.ring_lemmas.specs.Ring.{CommRing}
+use Rattle.ring_lemmas.specs.Lists.{coeff_of, add_lists, scale_list, mul_lists}
+use Rattle.ring_lemmas.proofs.Solver.{reads}
 use Rattle.linear_theory.specs.Module.{Module, combine, IsLinear}
 use Rattle.linear_theory.specs.Basis.{IsSubspace}
 use Rattle.linear_theory.specs.Polynomial.{SamePolynomial, act, powers_at}

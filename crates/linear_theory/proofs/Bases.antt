@@ -3,13 +3,14 @@
 use Rattle.std.proofs.Common.{◌≡◌, ℕ, zero, suc, ◌<◌, ◌+◌, ◌⊎◌, inl, inr, List, [], ◌∷◌, ◌++◌, length, All, refl, sym, ◌∙◌, ap, ap₂, subst, arith, zero-add}
 use Rattle.std.proofs.lemmas.List.{length-append}
 use Rattle.std.proofs.lemmas.List.Elements.{All-cons, All-head, All-tail}
-use Rattle.ring_theory.specs.Ring.{CommRing}
-use Rattle.ring_theory.proofs.Ring.{zero_mul, zero_add}
-use Rattle.ring_theory.proofs.Solver.{reads}
+use Rattle.ring_lemmas.specs.Ring.{CommRing}
+use Rattle.ring_lemmas.proofs.Ring.{zero_mul, zero_add}
+use Rattle.ring_lemmas.proofs.Solver.{reads}
 use Rattle.linear_theory.specs.Fields.{Field, domain_of}
 use Rattle.linear_theory.specs.Module.{Module, combine}
 use Rattle.linear_theory.specs.Basis.{IsSubspace, IsCombination, IsIndependent, IsBasis, IsNull}
-use Rattle.linear_theory.proofs.Lists.{entry, remove, insert, omit, length_remove, All_remove, remove_append, insert_split}
+use Rattle.linear_theory.specs.Lists.{entry, remove, insert, omit}
+use Rattle.linear_theory.proofs.Lists.{length_remove, All_remove, remove_append, insert_split}
 use Rattle.linear_theory.proofs.Module.{linear, parts, vector, scalar, zero_plus, scale_zero}
 use Rattle.linear_theory.proofs.Combination.{combine_none, combine_linear, combine_scale, combine_append, combine_insert, combine_omit}
 use Rattle.linear_theory.proofs.Domain.{cancel_right, first_nonzero, inverse_of, inverse_is}

@@ -3,14 +3,15 @@
 use Rattle.std.proofs.Common.{◌≡◌, ℕ, zero, suc, ◌<◌, ◌≤◌, ◌+◌, ◌⊎◌, inl, inr, List, [], ◌∷◌, ◌++◌, length, All, refl, sym, ◌∙◌, ap, ap₂, subst, arith}
 use Rattle.std.proofs.lemmas.List.{length-append}
 use Rattle.std.proofs.lemmas.List.Elements.{All-nil, All-cons, All-head, All-tail}
-use Rattle.ring_theory.specs.Ring.{CommRing}
-use Rattle.ring_theory.proofs.Ring.{mul_zero, zero_mul, zero_add, one_mul, eq_of_sub}
-use Rattle.ring_theory.proofs.Solver.{ring, reads}
+use Rattle.ring_lemmas.specs.Ring.{CommRing}
+use Rattle.ring_lemmas.proofs.Ring.{mul_zero, zero_mul, zero_add, one_mul, eq_of_sub}
+use Rattle.ring_lemmas.proofs.Solver.{ring, reads}
 use Rattle.linear_theory.specs.Fields.{Field, domain_of}
 use Rattle.linear_theory.specs.Module.{Module, combine, sequence_ops}
 use Rattle.linear_theory.specs.Basis.{IsSubspace, IsCombination, IsIndependent, IsBasis}
 use Rattle.linear_theory.specs.Echelon.{row}
-use Rattle.linear_theory.proofs.Lists.{entry, join, join_left, join_right, All_entry}
+use Rattle.linear_theory.specs.Lists.{entry, join}
+use Rattle.linear_theory.proofs.Lists.{join_left, join_right, All_entry}
 use Rattle.linear_theory.proofs.Module.{linear, parts, vector, scalar}
 use Rattle.linear_theory.proofs.Combination.{combine_none, combine_zero, combine_linear, combine_scale, combine_append, combine_join}
 use Rattle.linear_theory.proofs.Domain.{first_nonzero, inverse_of, inverse_is, decide_equal}

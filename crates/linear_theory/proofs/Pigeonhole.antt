@@ -4,7 +4,8 @@ use native.Mathlib.Decide.{ℕ_discrete}
 use Rattle.std.proofs.lemmas.List.Elements.{All-nil, All-cons, All-head}
 use Rattle.ring_theory.specs.Monoid.{CommMonoid}
 use Rattle.linear_theory.specs.Distinct.{Distinct, product_over, product_below}
-use Rattle.linear_theory.proofs.Lists.{entry, remove, length_remove, All_remove, All_entry, All_both, remove_entry}
+use Rattle.linear_theory.specs.Lists.{entry, remove}
+use Rattle.linear_theory.proofs.Lists.{length_remove, All_remove, All_entry, All_both, remove_entry}
 
 -- without a member the list is distinct, and the others are different from that member
 distinct_remove : {X : Type 0} (d : X) (xs : List X) (i : ℕ) → i < length xs → Distinct xs

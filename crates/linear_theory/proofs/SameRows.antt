@@ -1,6 +1,6 @@
 -- Lists of rows with the same entries have the same forms and row spaces.
 use Rattle.std.proofs.Common.{◌≡◌, ℕ, suc, ◌<◌, ◌≤◌, List, [], ◌∷◌, length, sym, ◌∙◌, ap₂, subst, refl, arith}
-use Rattle.ring_theory.specs.Ring.{Operations, CommRing}
+use Rattle.ring_lemmas.specs.Ring.{Operations, CommRing}
 use Rattle.linear_theory.specs.Module.{combine, sequence_ops}
 use Rattle.linear_theory.specs.Echelon.{row, InRowSpace, SameRowSpace, IsReduced}
 

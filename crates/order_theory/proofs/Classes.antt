@@ -1,9 +1,9 @@
 -- A ring O modulo p, on a set of representatives: given which representative a member of O has, the representatives
 -- are a ring.
 use Rattle.std.proofs.Common.{◌≡◌, [], ◌∷◌, refl, sym, ◌∙◌, ap, subst}
-use Rattle.ring_theory.specs.Ring.{Operations, CommRing}
+use Rattle.ring_lemmas.specs.Ring.{Operations, CommRing}
 use Rattle.ring_theory.specs.Subsets.{IsSubring}
-use Rattle.ring_theory.proofs.Solver.{ring, reads}
+use Rattle.ring_lemmas.proofs.Solver.{ring, reads}
 use Rattle.prime_theory.specs.Ideals.{IsIdeal, Multiple}
 use Rattle.prime_theory.proofs.PohstZassenhaus.{multiples_ideal}
 use Rattle.places_theory.specs.Reductions.{IsReduction}

@@ -3,14 +3,14 @@
 -- the order, and where they add nothing, the order is maximal at p.
 use Rattle.std.proofs.Common.{◌↔◌, ℕ, ◌+◌, List, [], ◌∷◌, ◌++◌, map, All, refl, sym, ◌∙◌, ap, subst}
 use Rattle.std.proofs.lemmas.List.Elements.{All-nil, All-cons, All-weaker}
-use Rattle.ring_theory.specs.Ring.{pow}
+use Rattle.ring_lemmas.specs.Ring.{pow}
 use Rattle.ring_theory.specs.Subsets.{IsSubring, IsModule, Span, Colon}
 use Rattle.ring_theory.specs.Integral.{IsIntegral}
-use Rattle.ring_theory.proofs.Ring.{one_mul, pow_add, mul_left_comm}
+use Rattle.ring_lemmas.proofs.Ring.{one_mul, pow_add, mul_left_comm}
 use Rattle.ring_theory.proofs.Subsets.{span_least, span_module, span_members}
 use Rattle.prime_theory.specs.Ideals.{IsIdeal, SameSet}
-use Rattle.prime_theory.specs.Orders.{MaximalAt, Radical, Enlarged}
-use Rattle.prime_theory.proofs.Enlarge.{EnlargedAt, PowersOf, enlarged_iff}
+use Rattle.prime_theory.specs.Orders.{MaximalAt, Radical, Enlarged, EnlargedAt, PowersOf}
+use Rattle.prime_theory.proofs.Enlarge.{enlarged_iff}
 use Rattle.prime_theory.proofs.Radicals.{radical_ideal, p_in_radical, criterion_iff}
 use Rattle.ff_fields.specs.Field.{CodeField}
 use Rattle.ff_poly.specs.Words.{IsIrreducibleList}

@@ -2,9 +2,9 @@
 use Rattle.std.proofs.Common.{◌≡◌, ◌⊎◌, inl, inr, ℕ, zero, suc, ◌≤◌, List, [], ◌∷◌, length, refl, sym, ◌∙◌, ap, ap₂, subst, arith}
 use Rattle.ring_theory.specs.Subsets.{IsModule}
 use Rattle.ring_theory.proofs.Integral.{Low}
-use Rattle.ring_theory.proofs.Ring.{one_mul, mul_zero, neg_mul, product_not_zero}
-use Rattle.ring_theory.proofs.Solver.{ring, reads, from_one}
-use Rattle.ring_theory.specs.Polynomials.{pol_ops}
+use Rattle.ring_lemmas.proofs.Ring.{one_mul, mul_zero, neg_mul, product_not_zero}
+use Rattle.ring_lemmas.proofs.Solver.{ring, reads, from_one}
+use Rattle.ring_lemmas.specs.Polynomials.{pol_ops}
 use Rattle.ring_theory.proofs.Evaluate.{length_trim}
 use Rattle.ring_theory.proofs.Subsets.{span_module}
 use Rattle.prime_theory.specs.Primes.{IsPrime}

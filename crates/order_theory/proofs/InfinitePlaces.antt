@@ -2,8 +2,8 @@
 use Rattle.std.proofs.Common.{◌≡◌, ◌⊎◌, inl, inr, ℕ, zero, suc, ◌<◌, ◌≤◌, ◌-◌, List, [], ◌∷◌, length, refl, sym, ◌∙◌, ap, subst, arith}
 use Rattle.ring_theory.specs.Subsets.{IsSubring, IsModule}
 use Rattle.ring_theory.proofs.Integral.{Low}
-use Rattle.ring_theory.proofs.Ring.{one_mul, neg_mul}
-use Rattle.ring_theory.proofs.Solver.{ring, reads, from_two}
+use Rattle.ring_lemmas.proofs.Ring.{one_mul, neg_mul}
+use Rattle.ring_lemmas.proofs.Solver.{ring, reads, from_two}
 use Rattle.ring_theory.proofs.Subsets.{span_module}
 use Rattle.ring_theory.proofs.Division.{length_add, length_neg}
 use Rattle.prime_theory.proofs.IntegralRing.{unit_trick, integral_ring, integral_base}

@@ -4,9 +4,9 @@
 use Rattle.std.proofs.Common.{◌≡◌, All, ℕ, zero, suc, ◌<◌, List, ◌++◌, map, refl, sym, ◌∙◌, ap, subst, arith}
 use Rattle.std.proofs.lemmas.List.Elements.{All-append, All-weaker, All-map}
 use Rattle.ring_theory.specs.Subsets.{IsSubring, IsModule, Span}
-use Rattle.ring_theory.specs.Ring.{pow}
-use Rattle.ring_theory.specs.Rows.{Row, entry}
-use Rattle.ring_theory.proofs.Ring.{one_mul}
+use Rattle.ring_lemmas.specs.Ring.{pow}
+use Rattle.ring_lemmas.specs.Rows.{Row, entry}
+use Rattle.ring_lemmas.proofs.Ring.{one_mul}
 use Rattle.ring_theory.proofs.RowMaps.{eval_none, eval_cons}
 use Rattle.ring_theory.proofs.Subsets.{span_least, span_members, span_append_left, span_append_right, span_multiples}
 use Rattle.prime_theory.specs.Ideals.{Multiple}

@@ -2,15 +2,15 @@
 use Rattle.std.proofs.Common.{◌≡◌, All, ◌⊎◌, inl, inr, ℕ, zero, suc, ◌<◌, ◌≤◌, List, [], ◌∷◌, length, refl, sym, ◌∙◌, ap, subst, arith}
 use Rattle.std.proofs.lemmas.List.{length-map}
 use Rattle.std.proofs.lemmas.List.Elements.{All-nil, All-cons, All-head, All-tail, All-weaker}
-use Rattle.ring_theory.specs.Ring.{CommRing, pow}
-use Rattle.ring_theory.specs.Sums.{sum_over}
+use Rattle.ring_lemmas.specs.Ring.{CommRing, pow}
+use Rattle.ring_lemmas.specs.Sums.{sum_over}
 use Rattle.ring_theory.specs.Subsets.{IsSubring, IsModule, Product}
-use Rattle.ring_theory.proofs.Ring.{mul_pow, mul_zero, zero_add}
+use Rattle.ring_lemmas.proofs.Ring.{mul_pow, mul_zero, zero_add}
 use Rattle.ring_theory.proofs.Local.{power_in}
-use Rattle.ring_theory.proofs.Solver.{ring, reads, from_one}
+use Rattle.ring_lemmas.proofs.Solver.{ring, reads, from_one}
 use Rattle.ring_theory.proofs.Polynomials.{length_product}
-use Rattle.ring_theory.specs.Lists.{coeff_of}
-use Rattle.ring_theory.specs.Polynomials.{constant}
+use Rattle.ring_lemmas.specs.Lists.{coeff_of}
+use Rattle.ring_lemmas.specs.Polynomials.{constant}
 use Rattle.ring_theory.proofs.Evaluate.{constant_hom}
 use Rattle.order_theory.proofs.Degrees.{constant_of}
 use Rattle.prime_theory.specs.Ideals.{IsIdeal, Inverse, Invertible, Multiple}

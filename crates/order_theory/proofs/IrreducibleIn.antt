@@ -1,11 +1,11 @@
 -- Each finite place lies over an irreducible polynomial, and over one only.
 use Rattle.std.proofs.Common.{◌+◌, ◌≡◌, ◌⊎◌, inl, inr, ℕ, zero, suc, ◌<◌, ◌≤◌, List, [], ◌∷◌, ◌++◌, length, get_or, refl, sym, ◌∙◌, ap, subst, arith}
 use Rattle.std.proofs.lemmas.List.{length-map}
-use Rattle.ring_theory.specs.Lists.{coeff_of, IsTrimmed}
+use Rattle.ring_lemmas.specs.Lists.{coeff_of, IsTrimmed}
 use Rattle.ring_theory.specs.Subsets.{IsModule}
-use Rattle.ring_theory.proofs.Ring.{one_mul, zero_mul, mul_zero}
-use Rattle.ring_theory.proofs.Solver.{ring, reads}
-use Rattle.ring_theory.specs.Polynomials.{constant}
+use Rattle.ring_lemmas.proofs.Ring.{one_mul, zero_mul, mul_zero}
+use Rattle.ring_lemmas.proofs.Solver.{ring, reads}
+use Rattle.ring_lemmas.specs.Polynomials.{constant}
 use Rattle.ring_theory.proofs.Evaluate.{constant_hom}
 use Rattle.ring_theory.proofs.Polynomials.{length_product}
 use Rattle.linear_theory.specs.Euclidean.{IsDivisorIn}

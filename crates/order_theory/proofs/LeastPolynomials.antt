@@ -2,7 +2,7 @@
 use Rattle.std.proofs.Common.{◌⊎◌, inl, inr, ℕ, zero, suc, ◌<◌, ◌≤◌, List, [], ◌∷◌, length, refl, sym, subst, arith}
 use Rattle.ring_theory.specs.Members.{In}
 use Rattle.ring_theory.proofs.Evaluate.{pol_self}
-use Rattle.ring_theory.specs.Polynomials.{pol_of}
+use Rattle.ring_lemmas.specs.Polynomials.{pol_of}
 use Rattle.ff_fields.specs.Field.{CodeField}
 use Rattle.ff_fields.specs.Code.{Code, code_ring}
 use Rattle.ff_poly.specs.Polynomials.{Polynomial}

@@ -1,10 +1,10 @@
 -- Lattices and orders at an irreducible polynomial p: what is prime to p, denominators, and the order of all integral
 -- functions that powers of p take into a given one.
 use Rattle.std.proofs.Common.{◌≡◌, ℕ, zero, suc, ◌+◌, inl, inr, refl, sym, ◌∙◌, ap, ap₂, subst, arith, ◌↔◌}
-use Rattle.ring_theory.specs.Ring.{pow}
+use Rattle.ring_lemmas.specs.Ring.{pow}
 use Rattle.ring_theory.specs.Subsets.{IsSubring, IsModule}
 use Rattle.ring_theory.specs.Local.{PrimeTo, Locally}
-use Rattle.ring_theory.proofs.Ring.{pow_add, mul_zero, mul_neg, mul_mul, one_mul}
+use Rattle.ring_lemmas.proofs.Ring.{pow_add, mul_zero, mul_neg, mul_mul, one_mul}
 use Rattle.ring_theory.proofs.Local.{two_denominators}
 use Rattle.prime_theory.specs.Orders.{MaximalAt, Denominator, Enlarged}
 use Rattle.prime_theory.proofs.IntegralRing.{integral_of_order, integral_of_stable}

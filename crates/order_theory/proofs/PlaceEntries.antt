@@ -5,7 +5,7 @@ use Rattle.std.specs.Prelude.{ℤ}
 use Rattle.std.specs.List.{Any, AllPairs}
 use Rattle.std.proofs.lemmas.List.Kept.{AllPairs-cons}
 use Rattle.std.proofs.lemmas.List.Elements.{All-map, All-weaker}
-use Rattle.ring_theory.proofs.Ring.{one_mul}
+use Rattle.ring_lemmas.proofs.Ring.{one_mul}
 use Rattle.prime_theory.specs.Ideals.{SameSet}
 use Rattle.prime_theory.specs.Primes.{Different, Pair, Outside}
 use Rattle.prime_theory.specs.IntegerValues.{ValueIs}

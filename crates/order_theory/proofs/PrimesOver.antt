@@ -2,7 +2,7 @@
 use Rattle.std.proofs.Common.{◌≡◌, arith, All, ◌⊎◌, inl, inr, ℕ, suc, List, [], ◌∷◌, map, refl, sym, ◌∙◌, ap, subst}
 use Rattle.std.proofs.lemmas.List.Elements.{All-nil, All-cons, All-head, All-tail}
 use Rattle.std.proofs.lemmas.List.Kept.{AllPairs-cons}
-use Rattle.ring_theory.specs.Ring.{CommRing}
+use Rattle.ring_lemmas.specs.Ring.{CommRing}
 use Rattle.ring_theory.specs.Subsets.{Colon, Span, Product}
 use Rattle.ring_theory.specs.Maps.{IsHom}
 use Rattle.prime_theory.specs.Ideals.{Inverse, Invertible, SameSet, IsIdeal}

@@ -1,12 +1,12 @@
 -- An order modulo an irreducible polynomial p is a finite algebra over k: the coordinates in a basis modulo p stand
 -- for the classes.
 use Rattle.std.proofs.Common.{◌≡◌, ℕ, zero, suc, ◌<◌, ◌≤◌, ◌*◌, ◌-◌, List, [], ◌∷◌, length, refl, sym, ◌∙◌, ap, subst, arith}
-use Rattle.ring_theory.specs.Ring.{CommRing}
-use Rattle.ring_theory.specs.Rows.{Row, entry}
+use Rattle.ring_lemmas.specs.Ring.{CommRing}
+use Rattle.ring_lemmas.specs.Rows.{Row, entry}
 use Rattle.ring_theory.specs.Subsets.{IsModule}
-use Rattle.ring_theory.proofs.Ring.{one_mul, mul_neg}
-use Rattle.ring_theory.proofs.Rows.{row_set, pair_path}
-use Rattle.ring_theory.proofs.Solver.{ring, reads, from_one, from_two}
+use Rattle.ring_lemmas.proofs.Ring.{one_mul, mul_neg}
+use Rattle.ring_lemmas.proofs.Rows.{row_set, pair_path}
+use Rattle.ring_lemmas.proofs.Solver.{ring, reads, from_one, from_two}
 use Rattle.std.proofs.lemmas.List.{length-map}
 use Rattle.std.proofs.Math.Nat.{mul-le-mul_left}
 use Rattle.prime_theory.specs.Ideals.{Multiple}

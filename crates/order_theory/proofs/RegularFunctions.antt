@@ -2,12 +2,12 @@
 -- p; so where it is at least 0 at each finite place, it is integral.
 use Rattle.std.proofs.Common.{◌≡◌, ◌⊎◌, inl, inr, ℕ, zero, suc, ◌≤◌, List, length, pos, refl, sym, ◌∙◌, ap, subst, arith}
 use Rattle.std.proofs.lemmas.List.{length-map}
-use Rattle.ring_theory.specs.Ring.{pow}
+use Rattle.ring_lemmas.specs.Ring.{pow}
 use Rattle.ring_theory.specs.Local.{Locally}
-use Rattle.ring_theory.specs.Lists.{coeff_of}
+use Rattle.ring_lemmas.specs.Lists.{coeff_of}
 use Rattle.ring_theory.proofs.Local.{power_in}
-use Rattle.ring_theory.proofs.Ring.{one_mul, mul_zero, zero_mul, add_mul}
-use Rattle.ring_theory.specs.Polynomials.{constant}
+use Rattle.ring_lemmas.proofs.Ring.{one_mul, mul_zero, zero_mul, add_mul}
+use Rattle.ring_lemmas.specs.Polynomials.{constant}
 use Rattle.ring_theory.proofs.Evaluate.{constant_hom}
 use Rattle.ring_theory.proofs.Polynomials.{length_product}
 use Rattle.prime_theory.specs.Ideals.{IsIdeal}

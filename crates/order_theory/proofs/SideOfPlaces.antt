@@ -1,11 +1,10 @@
 -- The theorems on finite places, for places whose side is given by an equation.
-use Rattle.std.proofs.Common.{◌↔◌, ◌⊎◌, refl, ◌≡◌, ℕ, List}
+use Rattle.std.proofs.Common.{◌↔◌, ◌⊎◌, refl, ◌≡◌, ℕ, List, pos}
 use Rattle.prime_theory.specs.Primes.{IsPrime}
 use Rattle.ff_fields.specs.Field.{CodeField}
 use Rattle.ff_poly.specs.Words.{IsIrreducibleList}
 use Rattle.ff_poly.specs.Polynomials.{Polynomial, polynomials, codes_of}
 use Rattle.std.specs.Prelude.{ℤ}
-use Rattle.std.proofs.Common.{refl, pos}
 use Rattle.order_theory.proofs.IrreducibleIn.{generator_of, generator_in, generator_irreducible, same_irreducible}
 use Rattle.std.specs.List.{Any}
 use Rattle.order_theory.proofs.FinitelyMany.{finitely_many}

@@ -2,8 +2,8 @@
 -- of the place.
 use Rattle.std.proofs.Common.{◌≡◌, List, [], ◌∷◌, pos, refl, sym, ◌∙◌, subst}
 use Rattle.std.specs.Prelude.{ℤ}
-use Rattle.ring_theory.proofs.Ring.{product_not_zero}
-use Rattle.ring_theory.proofs.Solver.{ring, reads, from_one}
+use Rattle.ring_lemmas.proofs.Ring.{product_not_zero}
+use Rattle.ring_lemmas.proofs.Solver.{ring, reads, from_one}
 use Rattle.prime_theory.specs.Ideals.{SameSet}
 use Rattle.prime_theory.proofs.Primes.{outside_product}
 use Rattle.ff_fields.specs.Field.{CodeField}

@@ -1,11 +1,11 @@
 -- Polynomials at t = 1/x: a power of x times the value is the reversed polynomial.
 use Rattle.finite_algebra_theory.proofs.ByMap.{map_pow}
-use Rattle.ring_theory.proofs.Ring.{mul_pow, pow_one_base, product_not_zero}
+use Rattle.ring_lemmas.proofs.Ring.{mul_pow, pow_one_base, product_not_zero}
 use Rattle.std.proofs.Common.{zero, suc, ◌≡◌, ℕ, List, [], ◌∷◌, length, reverse, refl, sym, ◌∙◌, ap}
-use Rattle.ring_theory.specs.Ring.{pow}
+use Rattle.ring_lemmas.specs.Ring.{pow}
 use Rattle.ring_theory.specs.Maps.{IsHom}
 use Rattle.ring_theory.proofs.RowMaps.{hom_zero}
-use Rattle.ring_theory.specs.Polynomials.{constant}
+use Rattle.ring_lemmas.specs.Polynomials.{constant}
 use Rattle.ring_theory.proofs.Evaluate.{constant_hom, evaluate, evaluate_trim, value_of, value_hom, hom_after}
 use Rattle.ff_fields.specs.Field.{CodeField}
 use Rattle.ff_fields.specs.Code.{Code, code_ring, same_code, read_code, read_code_below, zero_in}

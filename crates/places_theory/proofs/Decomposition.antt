@@ -1,9 +1,9 @@
 -- Where O modulo p is a finite algebra, its primitive idempotents give a prime system at p.
 use Rattle.std.proofs.Common.{◌≡◌, ◌↔◌, ◌⊎◌, inl, inr, ℕ, zero, suc, List, [], ◌∷◌, refl, sym, ◌∙◌, ap, ap₂, subst}
-use Rattle.ring_theory.specs.Ring.{CommRing, pow}
-use Rattle.ring_theory.specs.Sums.{sum_over}
+use Rattle.ring_lemmas.specs.Ring.{CommRing, pow}
+use Rattle.ring_lemmas.specs.Sums.{sum_over}
 use Rattle.ring_theory.specs.Subsets.{IsSubring}
-use Rattle.ring_theory.proofs.Ring.{mul_zero, add_cancel_left, sub_of_eq}
+use Rattle.ring_lemmas.proofs.Ring.{mul_zero, add_cancel_left, sub_of_eq}
 use Rattle.ring_theory.proofs.Local.{power_in}
 use Rattle.ring_theory.specs.Members.{In}
 use Rattle.prime_theory.specs.Ideals.{Multiple}
@@ -15,7 +15,7 @@ use Rattle.finite_algebra_theory.specs.Maximal.{NilpotentAt}
 use Rattle.finite_algebra_theory.proofs.Frobenius.{idempotent_power}
 use Rattle.finite_algebra_theory.proofs.Maximal.{nilpotent_or_invertible}
 use Rattle.finite_algebra_theory.proofs.Existence.{primitives}
-use Rattle.ring_theory.proofs.Solver.{ring, reads, from_two}
+use Rattle.ring_lemmas.proofs.Solver.{ring, reads, from_two}
 use Rattle.places_theory.specs.Reductions.{IsReduction, Primitive}
 
 -- two primitive idempotents are equal or have product 0

@@ -4,18 +4,19 @@ use Rattle.prime_theory.proofs.Scalars.{span_wider, integral_wider}
 use Rattle.std.proofs.Common.{◌≡◌, ℕ, zero, suc, ◌+◌, ◌-◌, ◌≤◌, ◌<◌, Bool, true, false, List, [], ◌∷◌, ◌++◌, length, map, get_or, reverse, replicate, refl, sym, ◌∙◌, ap, ap₂, subst, arith, true≢false, eqb-true, eq-eqb}
 use Rattle.std.proofs.lemmas.List.{length-append, length-map, length-replicate, length-reverse, reverse-reverse, map-append}
 use mathlib.Core.List.{reverse-cons}
-use Rattle.ring_theory.specs.Ring.{CommRing, pow}
-use Rattle.ring_theory.specs.Lists.{coeff_of, IsTrimmed}
+use Rattle.ring_lemmas.specs.Ring.{CommRing, pow}
+use Rattle.ring_lemmas.specs.Lists.{coeff_of, IsTrimmed}
 use Rattle.ring_theory.specs.Subsets.{IsSubring, Span}
 use Rattle.ring_theory.specs.Local.{Locally}
 use Rattle.ring_theory.specs.Integral.{IsIntegral}
-use Rattle.ring_theory.proofs.Ring.{mul_zero, product_not_zero}
-use Rattle.ring_theory.proofs.Lists.{trim_trimmed, IsTrimmed_push}
-use Rattle.ring_theory.specs.Polynomials.{pol_ops}
-use Rattle.ring_theory.proofs.Polynomials.{series_mul, length_product, length_product_le}
+use Rattle.ring_lemmas.proofs.Ring.{mul_zero, product_not_zero}
+use Rattle.ring_lemmas.proofs.Lists.{trim_trimmed, IsTrimmed_push}
+use Rattle.ring_lemmas.specs.Polynomials.{pol_ops}
+use Rattle.ring_lemmas.proofs.Polynomials.{series_mul}
+use Rattle.ring_theory.proofs.Polynomials.{length_product, length_product_le}
 use Rattle.ring_theory.proofs.RowMaps.{hom_zero, hom_neg}
 use Rattle.ring_theory.proofs.Evaluate.{length_trim}
-use Rattle.ring_theory.proofs.Solver.{ring, reads, from_one, from_two, from_three}
+use Rattle.ring_lemmas.proofs.Solver.{ring, reads, from_one, from_two, from_three}
 use Rattle.ff_fields.specs.Field.{CodeField}
 use Rattle.ff_fields.specs.Over.{IsOver, IsOver_nil, IsOver_cons, IsOver_head, IsOver_tail, IsOver_append}
 use Rattle.ff_fields.specs.Code.{is_zero_code, Code, code_ring, code_domain, same_code, read_code, read_code_below}

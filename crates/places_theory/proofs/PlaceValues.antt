@@ -4,7 +4,7 @@ use Rattle.prime_theory.proofs.Scalars.{span_wider}
 use Rattle.std.proofs.Common.{◌≡◌, ◌↔◌, ◌⊎◌, inl, inr, ℕ, suc, arith}
 use Rattle.std.proofs.lemmas.Int.{ints}
 use Rattle.std.proofs.Math.IntN.{ℤ, pos, negsuc, ◌+ℤ◌, ◌-ℤ◌}
-use Rattle.ring_theory.specs.Ring.{pow}
+use Rattle.ring_lemmas.specs.Ring.{pow}
 use Rattle.ring_theory.specs.Subsets.{IsSubring}
 use Rattle.ring_theory.specs.Local.{Locally}
 use Rattle.ring_theory.proofs.Subsets.{span_members}

@@ -4,7 +4,7 @@ use Rattle.std.proofs.Common.{◌≡◌, List, [], ◌∷◌, ◌++◌, map, sym
 use Rattle.std.proofs.lemmas.List.Elements.{All-nil, All-cons, All-head, All-tail, All-weaker}
 use Rattle.ring_theory.specs.Subsets.{IsSubring, IsModule, Span}
 use Rattle.ring_theory.specs.Local.{Locally}
-use Rattle.ring_theory.proofs.Ring.{mul_left_comm}
+use Rattle.ring_lemmas.proofs.Ring.{mul_left_comm}
 use Rattle.ring_theory.proofs.Subsets.{span_module, span_members}
 use Rattle.prime_theory.specs.Ideals.{SameSet}
 use Rattle.prime_theory.specs.Systems.{Generators, IsFamily, IsSystem}

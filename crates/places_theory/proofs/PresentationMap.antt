@@ -1,13 +1,13 @@
 -- The map from the functions of the infinite presentation to those of the finite one: t goes to 1/x and Y to y/x^c.
 use Rattle.std.proofs.Common.{◌≡◌, ℕ, zero, suc, ◌+◌, ◌-◌, ◌*◌, ◌≤◌, ◌<◌, List, [], ◌∷◌, length, get_or, refl, sym, ◌∙◌, ap, ap₂, subst, arith}
 use Rattle.std.proofs.Math.Nat.{mul-suc}
-use Rattle.ring_theory.specs.Ring.{pow}
-use Rattle.ring_theory.specs.Rows.{Row, row_zero, times_y, row_one}
-use Rattle.ring_theory.proofs.Ring.{one_mul, mul_zero, pow_add, pow_mul, mul_pow}
-use Rattle.ring_theory.proofs.Rows.{pair_path}
+use Rattle.ring_lemmas.specs.Ring.{pow}
+use Rattle.ring_lemmas.specs.Rows.{Row, row_zero, times_y, row_one}
+use Rattle.ring_lemmas.proofs.Ring.{one_mul, mul_zero, pow_add, pow_mul, mul_pow}
+use Rattle.ring_lemmas.proofs.Rows.{pair_path}
 use Rattle.ring_theory.specs.Maps.{IsHom}
 use Rattle.ring_theory.proofs.RowMaps.{eval, eval_none, eval_cons, eval_times_y, pair_value, pair_value_is, pair_value_same, pair_add_value, pair_mul_value}
-use Rattle.ring_theory.proofs.Solver.{ring, reads, from_one}
+use Rattle.ring_lemmas.proofs.Solver.{ring, reads, from_one}
 use Rattle.ff_fields.specs.Field.{CodeField}
 use Rattle.ff_poly.specs.Value.{value, numbers_value}
 use Rattle.ff_poly.specs.Words.{IsPoly}

@@ -1,15 +1,15 @@
 -- The functions of the infinite presentation are those of the finite one: the map between them is an isomorphism.
 use Rattle.std.proofs.Common.{◌≡◌, ℕ, zero, suc, ◌+◌, ◌-◌, ◌≤◌, List, [], ◌∷◌, length, reverse, refl, sym, ◌∙◌, ap, ap₂, subst, arith}
 use mathlib.Core.List.{reverse-reverse}
-use Rattle.ring_theory.specs.Ring.{CommRing, IsDomain, pow}
-use Rattle.ring_theory.specs.Rows.{Row, row_zero, row_scale}
-use Rattle.ring_theory.proofs.Ring.{one_mul, zero_add, mul_zero, pow_add, eq_of_sub, sub_of_eq}
-use Rattle.ring_theory.proofs.Rows.{pair_path, row_scale_one, row_scale_zero}
-use Rattle.ring_theory.proofs.RowFractions.{whole_pair}
+use Rattle.ring_lemmas.specs.Ring.{CommRing, IsDomain, pow}
+use Rattle.ring_lemmas.specs.Rows.{Row, row_zero, row_scale}
+use Rattle.ring_lemmas.proofs.Ring.{one_mul, zero_add, mul_zero, pow_add, eq_of_sub, sub_of_eq}
+use Rattle.ring_lemmas.proofs.Rows.{pair_path, row_scale_one, row_scale_zero}
+use Rattle.ring_theory.specs.FunctionRing.{whole_pair}
 use Rattle.ring_theory.proofs.RowMaps.{hom_zero, hom_neg, eval_none, eval_cons, eval_scale}
-use Rattle.ring_theory.specs.Polynomials.{constant}
+use Rattle.ring_lemmas.specs.Polynomials.{constant}
 use Rattle.ring_theory.proofs.Evaluate.{evaluate, value_constant}
-use Rattle.ring_theory.proofs.Solver.{ring, reads, from_one, from_two, from_three}
+use Rattle.ring_lemmas.proofs.Solver.{ring, reads, from_one, from_two, from_three}
 use Rattle.ff_fields.specs.Field.{CodeField}
 use Rattle.ff_fields.specs.Code.{Code, code_ring}
 use Rattle.ff_poly.specs.Value.{value}

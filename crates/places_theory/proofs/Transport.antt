@@ -1,7 +1,7 @@
 -- What an isomorphism of rings carries over: integral elements, spans, products, powers, maximal ideals and their valuations.
 use Rattle.std.proofs.Common.{◌≡◌, ◌↔◌, ℕ, zero, suc, List, [], ◌∷◌, map, refl, sym, ◌∙◌, ap, ap₂, subst}
-use Rattle.ring_theory.specs.Ring.{CommRing, pow}
-use Rattle.ring_theory.specs.Sums.{sum_below, sum_over}
+use Rattle.ring_lemmas.specs.Ring.{CommRing, pow}
+use Rattle.ring_lemmas.specs.Sums.{sum_below, sum_over}
 use Rattle.ring_theory.specs.Subsets.{Span, Product, Factors}
 use Rattle.ring_theory.specs.Integral.{IsIntegral}
 use Rattle.ring_theory.specs.Maps.{IsHom}

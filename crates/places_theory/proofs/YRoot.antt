@@ -1,11 +1,11 @@
 -- The generator y is a root of its polynomial, and a row over 1 stands for the sum of v_i·y^i.
 use Rattle.std.proofs.Common.{ap₂, ◌≡◌, ℕ, zero, suc, [], ◌∷◌, refl, sym, ◌∙◌, ap}
-use Rattle.ring_theory.specs.Ring.{CommRing, pow}
-use Rattle.ring_theory.specs.Rows.{row_zero, Row, row_scale, shift, top, times_y}
-use Rattle.ring_theory.proofs.Ring.{mul_zero, one_mul}
+use Rattle.ring_lemmas.specs.Ring.{CommRing, pow}
+use Rattle.ring_lemmas.specs.Rows.{row_zero, Row, row_scale, shift, top, times_y}
+use Rattle.ring_lemmas.proofs.Ring.{mul_zero, one_mul}
 use Rattle.ring_theory.specs.Maps.{IsHom}
 use Rattle.ring_theory.proofs.RowMaps.{hom_zero, hom_neg, eval, eval_none, eval_cons, eval_add, eval_scale, eval_shift}
-use Rattle.ring_theory.proofs.Solver.{ring, reads, from_two}
+use Rattle.ring_lemmas.proofs.Solver.{ring, reads, from_two}
 use Rattle.ff_fields.specs.Field.{CodeField}
 use Rattle.ff_poly.specs.Polynomials.{Polynomial, polynomials}
 use Rattle.function_field.specs.Functions.{Equation, RowOver, FunctionOf, ring_of, function, of_poly, row_of, over, y_of}

@@ -1,6 +1,6 @@
 -- Isomorphisms of rings.
 use Rattle.std.specs.Prelude.{◌≡◌}
-use Rattle.ring_theory.specs.Ring.{CommRing}
+use Rattle.ring_lemmas.specs.Ring.{CommRing}
 use Rattle.ring_theory.specs.Maps.{IsHom}
 
 -- a homomorphism that takes different elements to different ones and has each element as a value

@@ -1,6 +1,6 @@
 -- A ring modulo an element, as a ring of its own; and the primitive idempotents of a ring as a type.
 use Rattle.std.specs.Prelude.{◌≡◌, ◌↔◌}
-use Rattle.ring_theory.specs.Ring.{Operations}
+use Rattle.ring_lemmas.specs.Ring.{Operations}
 use Rattle.prime_theory.specs.Ideals.{Multiple}
 use Rattle.finite_algebra_theory.specs.Algebra.{IsPrimitive}
 

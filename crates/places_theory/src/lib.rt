@@ -5,7 +5,7 @@
 ghost use Rattle.std.specs.Prelude.{◌≡◌, ◌≢◌, ℕ, [], suc, ◌≤◌, ℤ, ◌+ℤ◌, List, map, All, ◌↔◌};
 ghost use Rattle.std.specs.List.{Contains, Any};
 ghost use Rattle.std.proofs.Common.{pos};
-ghost use Rattle.ring_theory.specs.Ring.{CommRing, pow};
+ghost use Rattle.ring_lemmas.specs.Ring.{CommRing, pow};
 ghost use Rattle.ring_theory.specs.Subsets.{IsSubring, Span};
 ghost use Rattle.ring_theory.specs.Integral.{IsIntegral};
 ghost use Rattle.ring_theory.specs.Local.{PrimeTo, Locally};

@@ -1,9 +1,9 @@
 -- The field of codes as a finite field.
 use Rattle.std.proofs.Common.{◌≡◌, ℕ, zero, suc, ◌-◌, ◌<◌, inl, inr, List, ◌∷◌, length, refl, ◌∙◌, ap, arith}
 use native.Mathlib.Decide.{ℕ_discrete}
-use Rattle.ring_theory.specs.Ring.{pow}
-use Rattle.ring_theory.specs.Members.{In}
-use Rattle.ring_theory.proofs.Finite.{codes_to, length_codes_to, codes_to_some, codes_to_distinct, codes_to_all}
+use Rattle.ring_lemmas.specs.Ring.{pow}
+use Rattle.ring_theory.specs.Members.{In, codes_to}
+use Rattle.ring_theory.proofs.Finite.{length_codes_to, codes_to_some, codes_to_distinct, codes_to_all}
 use Rattle.ff_fields.specs.Field.{CodeField, pow_of}
 use Rattle.ff_fields.specs.Code.{Code, code_ring, code_field, same_code, zero_in}
 use Rattle.finite_algebra_theory.specs.ByMap.{FiniteField}

@@ -1,12 +1,12 @@
 -- Division of polynomials, and k[x] as a Euclidean domain.
 use mathlib.Core.Path.{fun_ext}
 use Rattle.std.proofs.Common.{◌≡◌, ◌<◌, ◌≤◌, ◌-◌, inr, [], ◌∷◌, length, sym, ◌∙◌, ap, ap₂, arith}
-use Rattle.ring_theory.specs.Lists.{coeff_of, convolution, rest_from, quotient_from}
-use Rattle.ring_theory.proofs.Sequences.{convolution_comm}
-use Rattle.ring_theory.proofs.Lists.{coeff_trim}
-use Rattle.ring_theory.specs.Polynomials.{pol_of}
-use Rattle.ring_theory.proofs.Polynomials.{same_pol, series_add, series_mul, coeff_top}
-use Rattle.ring_theory.proofs.Division.{divided, rest_ends, length_bound}
+use Rattle.ring_lemmas.specs.Lists.{coeff_of, convolution, rest_from, quotient_from}
+use Rattle.ring_lemmas.proofs.Sequences.{convolution_comm}
+use Rattle.ring_lemmas.proofs.Lists.{coeff_trim}
+use Rattle.ring_lemmas.specs.Polynomials.{pol_of}
+use Rattle.ring_lemmas.proofs.Polynomials.{same_pol, series_add, series_mul, coeff_top}
+use Rattle.ring_lemmas.proofs.Division.{divided, rest_ends, length_bound}
 use Rattle.linear_theory.specs.Euclidean.{Euclidean}
 use Rattle.ff_fields.specs.Field.{CodeField}
 use Rattle.ff_fields.specs.Code.{Code, code_ring, code_field}

@@ -2,12 +2,13 @@
 -- polynomials that divide each other are the same.
 use Rattle.std.proofs.Common.{◌≡◌, ℕ, ◌-◌, ◌<◌, ◌≤◌, ◌⊎◌, inl, inr, List, [], ◌∷◌, length, refl, sym, ap, ap₂, ◌∙◌, subst, arith}
 use Rattle.std.proofs.lemmas.List.{length_push}
-use Rattle.ring_theory.specs.Ring.{CommRing}
-use Rattle.ring_theory.specs.Lists.{coeff_of, mul_lists}
-use Rattle.ring_theory.proofs.Ring.{zero_mul, mul_zero, eq_of_sub}
-use Rattle.ring_theory.proofs.Solver.{ring, reads, from_one}
-use Rattle.ring_theory.proofs.Polynomials.{series_add, series_neg, coeff_past}
-use Rattle.ring_theory.proofs.Division.{length_bound, short_multiple}
+use Rattle.ring_lemmas.specs.Ring.{CommRing}
+use Rattle.ring_lemmas.specs.Lists.{coeff_of, mul_lists}
+use Rattle.ring_lemmas.proofs.Ring.{zero_mul, mul_zero, eq_of_sub}
+use Rattle.ring_lemmas.proofs.Solver.{ring, reads, from_one}
+use Rattle.ring_lemmas.proofs.Polynomials.{series_add, series_neg, coeff_past}
+use Rattle.ring_lemmas.proofs.Division.{length_bound}
+use Rattle.ring_theory.proofs.Division.{short_multiple}
 use Rattle.linear_theory.specs.Euclidean.{IsDivisorIn}
 use Rattle.ff_fields.specs.Field.{CodeField}
 use Rattle.ff_fields.specs.Code.{code_ring, code_domain, raw_ring}

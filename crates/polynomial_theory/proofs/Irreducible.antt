@@ -2,13 +2,14 @@
 -- it divides a factor.
 use Rattle.std.proofs.Common.{◌≡◌, ℕ, suc, ◌<◌, ◌≤◌, ◌+◌, ◌-◌, ◌⊎◌, inl, inr, List, [], ◌∷◌, ◌++◌, length, refl, sym, ◌∙◌, ap, subst, arith}
 use Rattle.std.proofs.lemmas.List.{length-map, map-append}
-use Rattle.ring_theory.specs.Lists.{coeff_of}
-use Rattle.ring_theory.proofs.Ring.{mul_zero, zero_mul, mul_mul}
-use Rattle.ring_theory.proofs.Sequences.{convolution_constant_left}
-use Rattle.ring_theory.specs.Polynomials.{constant}
+use Rattle.ring_lemmas.specs.Lists.{coeff_of}
+use Rattle.ring_lemmas.proofs.Ring.{mul_zero, zero_mul, mul_mul}
+use Rattle.ring_lemmas.proofs.Sequences.{convolution_constant_left}
+use Rattle.ring_lemmas.specs.Polynomials.{constant}
 use Rattle.ring_theory.proofs.Evaluate.{constant_hom}
-use Rattle.ring_theory.proofs.Lists.{coeff_trim}
-use Rattle.ring_theory.proofs.Polynomials.{series_mul, length_product}
+use Rattle.ring_lemmas.proofs.Lists.{coeff_trim}
+use Rattle.ring_lemmas.proofs.Polynomials.{series_mul}
+use Rattle.ring_theory.proofs.Polynomials.{length_product}
 use Rattle.linear_theory.specs.Euclidean.{IsDivisorIn, IsUnit, Bezout, IsIrreducible}
 use Rattle.linear_theory.proofs.Euclid.{euclid, decide_divisor, bezout}
 use Rattle.ff_fields.specs.Field.{CodeField}

@@ -1,9 +1,10 @@
 -- The lengths of polynomials that are not 0, and the powers of x.
 use Rattle.std.proofs.Common.{◌≡◌, ℕ, zero, suc, ◌<◌, ◌≤◌, ◌⊎◌, inl, inr, [], ◌∷◌, length, refl, sym, ◌∙◌, ap, arith}
-use Rattle.ring_theory.specs.Ring.{pow}
-use Rattle.ring_theory.proofs.Ring.{mul_zero, product_not_zero}
-use Rattle.ring_theory.specs.Polynomials.{pol_ops}
-use Rattle.ring_theory.proofs.Polynomials.{coeff_past, length_product}
+use Rattle.ring_lemmas.specs.Ring.{pow}
+use Rattle.ring_lemmas.proofs.Ring.{mul_zero, product_not_zero}
+use Rattle.ring_lemmas.specs.Polynomials.{pol_ops}
+use Rattle.ring_lemmas.proofs.Polynomials.{coeff_past}
+use Rattle.ring_theory.proofs.Polynomials.{length_product}
 use Rattle.ff_fields.specs.Field.{CodeField}
 use Rattle.ff_fields.specs.Code.{code_ring, code_domain, read_code, read_code_below}
 use Rattle.ff_poly.specs.Polynomials.{Polynomial, polynomials, polynomials_domain, polynomial_discrete, x_poly, x_poly_not_zero, series_read}

@@ -1,12 +1,12 @@
 -- What sums, multiples, zeros and shifted lists of codes stand for, where zeros may be on top.
 use Rattle.std.proofs.Common.{◌≡◌, ℕ, zero, suc, ◌+◌, ◌-◌, ◌<◌, ◌≤◌, List, [], ◌∷◌, ◌++◌, length, get_or, take, replicate, refl, sym, ap, ap₂, ◌∙◌, subst, arith}
 use Rattle.std.proofs.lemmas.List.{length-map, get_or_push, length_push, take_more, take_all}
-use Rattle.ring_theory.specs.Lists.{coeff_of, add_lists, scale_list, IsTrimmed}
-use Rattle.ring_theory.proofs.Ring.{mul_zero}
-use Rattle.ring_theory.proofs.Sequences.{convolution_constant_left}
-use Rattle.ring_theory.proofs.Lists.{coeff_add, coeff_scale, IsTrimmed_push}
-use Rattle.ring_theory.specs.Polynomials.{pol_ops}
-use Rattle.ring_theory.proofs.Polynomials.{same_pol, series_add, series_mul}
+use Rattle.ring_lemmas.specs.Lists.{coeff_of, add_lists, scale_list, IsTrimmed}
+use Rattle.ring_lemmas.proofs.Ring.{mul_zero}
+use Rattle.ring_lemmas.proofs.Sequences.{convolution_constant_left}
+use Rattle.ring_lemmas.proofs.Lists.{coeff_add, coeff_scale, IsTrimmed_push}
+use Rattle.ring_lemmas.specs.Polynomials.{pol_ops}
+use Rattle.ring_lemmas.proofs.Polynomials.{same_pol, series_add, series_mul}
 use Rattle.ring_theory.proofs.Evaluate.{length_trim}
 use Rattle.ff_fields.specs.Field.{CodeField}
 use Rattle.ff_fields.specs.Code.{raw_ring, code_ring, same_code, read_code, read_code_below, zero_in, is_zero_code}

@@ -1,20 +1,22 @@
 -- Two bases over k of a module modulo a subspace have the same length: dimension is well defined.
 use Rattle.std.proofs.Common.{◌≡◌, ◌≢◌, ℕ, zero, suc, ◌<◌, ◌≤◌, ◌+◌, ◌*◌, ◌⊎◌, inl, inr, List, [], ◌∷◌, length, refl, sym, ◌∙◌, ap, ap₂, arith, subst, le_of_suc-le-suc}
 use Rattle.std.proofs.lemmas.Bool.{cases_lt}
-use Rattle.ring_theory.specs.Ring.{TestedRing, IsField}
-use Rattle.ring_theory.specs.Lists.{coeff_of, tail_of}
-use Rattle.ring_theory.specs.Rows.{Row, entry}
-use Rattle.ring_theory.proofs.Ring.{mul_zero}
-use Rattle.ring_theory.proofs.Lists.{coeff_trim}
-use Rattle.ring_theory.proofs.Sequences.{convolution_comm, convolution_constant_left}
-use Rattle.ring_theory.specs.Polynomials.{Pol}
-use Rattle.ring_theory.proofs.Polynomials.{pol_ring, same_pol, series_mul, coeff_top}
+use Rattle.ring_lemmas.specs.Ring.{TestedRing, IsField}
+use Rattle.ring_lemmas.specs.Lists.{coeff_of, tail_of}
+use Rattle.ring_lemmas.specs.Rows.{Row, entry}
+use Rattle.ring_lemmas.proofs.Ring.{mul_zero}
+use Rattle.ring_lemmas.proofs.Lists.{coeff_trim}
+use Rattle.ring_lemmas.proofs.Sequences.{convolution_comm, convolution_constant_left}
+use Rattle.ring_lemmas.specs.Polynomials.{Pol}
+use Rattle.ring_theory.specs.PolynomialRing.{pol_ring}
+use Rattle.ring_lemmas.proofs.Polynomials.{same_pol, series_mul, coeff_top}
 use Rattle.popov_theory.specs.Module.{PolynomialModule}
 use Rattle.popov_theory.specs.Span.{row_at, combine}
 use Rattle.popov_theory.specs.Basis.{scalar_combine, IsBasisModulo}
 use Rattle.popov_theory.proofs.Module.{v_add_zero, v_zero_add, v_add_add, v_add_neg, v_neg_add, v_neg_neg, v_neg_zero, zero_scale, scale_add, scale_scale, scale_zero, scale_neg}
 use Rattle.popov_theory.proofs.PopovForm.{tabulate, tabulate_length}
-use Rattle.popov_theory.proofs.PolynomialRows.{row_module, row_width, row_entry}
+use Rattle.popov_theory.specs.RowModule.{row_module}
+use Rattle.popov_theory.proofs.PolynomialRows.{row_width, row_entry}
 use Rattle.popov_theory.proofs.PredictableDegree.{empty_pol}
 use Rattle.popov_theory.proofs.Relations.{Relation, relation}
 use Rattle.popov_theory.proofs.Triangular.{constant, constant_zero, scalar_add, scalar_zero, IsSubspace}

@@ -1,10 +1,10 @@
 -- Each list of rows of full rank has one Popov basis, and full rank is decided.
 use Rattle.std.proofs.Common.{◌≡◌, ℕ, zero, suc, ◌<◌, ◌+◌, ◌*◌, ◌⊎◌, inl, inr, List, length, refl, sym, ◌∙◌, ap, arith, subst}
 use native.Mathlib.Decide.{ℕ_discrete}
-use Rattle.ring_theory.specs.Ring.{TestedRing, IsDomain, IsField}
-use Rattle.ring_theory.proofs.Ring.{field_domain}
-use Rattle.ring_theory.specs.Polynomials.{Pol}
-use Rattle.ring_theory.proofs.Polynomials.{pol_ring}
+use Rattle.ring_lemmas.specs.Ring.{TestedRing, IsDomain, IsField}
+use Rattle.ring_lemmas.proofs.Ring.{field_domain}
+use Rattle.ring_lemmas.specs.Polynomials.{Pol}
+use Rattle.ring_theory.specs.PolynomialRing.{pol_ring}
 use Rattle.popov_theory.specs.Module.{PolynomialModule, measure, column}
 use Rattle.popov_theory.specs.Span.{row_at, InSpan, HaveSameSpan, HasFullRank}
 use Rattle.popov_theory.specs.Popov.{put, IsWeakPopov, IsFull}

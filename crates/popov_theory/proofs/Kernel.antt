@@ -3,12 +3,12 @@
 use Rattle.std.proofs.Common.{◌≡◌, ℕ, zero, suc, ◌<◌, ◌≤◌, ◌+◌, ◌*◌, ◌-◌, ◌/◌, ◌%◌, ◌⊎◌, inl, inr, List, length, refl, sym, ◌∙◌, ap, ap₂, arith, subst, add-mul}
 use Rattle.std.proofs.lemmas.Bool.{cases_lt}
 use Rattle.std.proofs.lemmas.Nat.{div-mul-add}
-use Rattle.ring_theory.specs.Ring.{CommRing, TestedRing, IsField, IsDomain}
-use Rattle.ring_theory.specs.Lists.{coeff_of, convolution, tail_of}
-use Rattle.ring_theory.proofs.Ring.{field_domain, zero_mul, zero_add}
-use Rattle.ring_theory.proofs.Rows.{pair_path}
-use Rattle.ring_theory.specs.Polynomials.{Pol}
-use Rattle.ring_theory.proofs.Polynomials.{pol_ring}
+use Rattle.ring_lemmas.specs.Ring.{CommRing, TestedRing, IsField, IsDomain}
+use Rattle.ring_lemmas.specs.Lists.{coeff_of, convolution, tail_of}
+use Rattle.ring_lemmas.proofs.Ring.{field_domain, zero_mul, zero_add}
+use Rattle.ring_lemmas.proofs.Rows.{pair_path}
+use Rattle.ring_lemmas.specs.Polynomials.{Pol}
+use Rattle.ring_theory.specs.PolynomialRing.{pol_ring}
 use Rattle.popov_theory.specs.Module.{PolynomialModule, measure, row_degree, column}
 use Rattle.popov_theory.specs.Span.{row_at, InSpan, IsSubmodule}
 use Rattle.popov_theory.specs.Popov.{IsPopov, Leading}
@@ -16,7 +16,8 @@ use Rattle.popov_theory.proofs.Module.{v_sub_sub, scale_zero, zero_scale, v_add_
 use Rattle.popov_theory.proofs.Positions.{column_at, row_le}
 use Rattle.popov_theory.proofs.Measure.{measure_scale, measure_past, measure_top, pivot_is, zero_from_measure, measure_zero}
 use Rattle.popov_theory.proofs.Span.{span_submodule, neg_in, sub_in, span_zero, span_add, span_scale, span_row, span_least}
-use Rattle.popov_theory.proofs.Monomials.{monomial, monomial_off, monomial_length}
+use Rattle.ring_theory.specs.Monomials.{monomial}
+use Rattle.ring_theory.proofs.Monomials.{monomial_off, monomial_length}
 use Rattle.popov_theory.proofs.PopovForm.{popov_weak, popov_leading, row_past, popov_measure, popov_least, tabulate, tabulate_at, tabulate_length}
 use Rattle.popov_theory.proofs.Division.{normal_form, normal_form_reduced, difference_in, in_span_from_normal, reduced_in_span}
 use Rattle.popov_theory.proofs.FullRank.{measure_unit}

@@ -2,12 +2,12 @@
 use Rattle.std.proofs.Common.{◌≡◌, ◌≢◌, ℕ, zero, suc, ◌<◌, ◌≤◌, ◌+◌, ◌*◌, ◌-◌, ◌/◌, ◌%◌, ◌⊎◌, inl, inr, Bool, true, false, cond, [], ◌∷◌, length, refl, sym, ◌∙◌, ap, ap₂, arith, subst, true≢false, eq-or-lt_of_le, add-mul}
 use Rattle.std.proofs.lemmas.Nat.{div-mul-add, mul-le}
 use Rattle.std.proofs.lemmas.Bool.{cases_lt}
-use Rattle.ring_theory.specs.Ring.{TestedRing, IsDomain}
-use Rattle.ring_theory.specs.Lists.{coeff_of, convolution}
-use Rattle.ring_theory.proofs.Ring.{neg_zero, product_not_zero}
-use Rattle.ring_theory.proofs.Sequences.{convolution_past, convolution_top, convolution_null_left, convolution_comm}
-use Rattle.ring_theory.specs.Polynomials.{Pol}
-use Rattle.ring_theory.proofs.Polynomials.{coeff_past, coeff_top}
+use Rattle.ring_lemmas.specs.Ring.{TestedRing, IsDomain}
+use Rattle.ring_lemmas.specs.Lists.{coeff_of, convolution}
+use Rattle.ring_lemmas.proofs.Ring.{neg_zero, product_not_zero}
+use Rattle.ring_lemmas.proofs.Sequences.{convolution_past, convolution_top, convolution_null_left, convolution_comm}
+use Rattle.ring_lemmas.specs.Polynomials.{Pol}
+use Rattle.ring_lemmas.proofs.Polynomials.{coeff_past, coeff_top}
 use Rattle.popov_theory.specs.Module.{PolynomialModule, top_position, measure, pivot, row_degree, column}
 use Rattle.popov_theory.proofs.Module.{split, column_below}
 use Rattle.popov_theory.proofs.Positions.{row_le, degree_less, degree_rises, column_at}

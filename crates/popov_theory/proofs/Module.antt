@@ -2,13 +2,14 @@
 use Rattle.std.proofs.Common.{◌≡◌, [], ◌∷◌, ℕ, zero, suc, ◌<◌, ◌+◌, ◌*◌, ◌/◌, ◌%◌, refl, sym, ◌∙◌, ap, ap₂, subst}
 use Rattle.std.proofs.lemmas.Nat.{div-add-mod', mod_below}
 use mathlib.Core.Path.{fun_ext}
-use Rattle.ring_theory.specs.Ring.{TestedRing}
-use Rattle.ring_theory.specs.Lists.{coeff_of, convolution}
-use Rattle.ring_theory.proofs.Ring.{neg_neg, neg_sum}
-use Rattle.ring_theory.proofs.Sequences.{convolution_add_left, convolution_add_right, convolution_assoc, convolution_comm, convolution_null_left, convolution_constant_left}
-use Rattle.ring_theory.specs.Polynomials.{Pol, pol_ops}
-use Rattle.ring_theory.proofs.Polynomials.{pol_ring, series_add, series_mul}
-use Rattle.ring_theory.proofs.Lists.{coeff_trim}
+use Rattle.ring_lemmas.specs.Ring.{TestedRing}
+use Rattle.ring_lemmas.specs.Lists.{coeff_of, convolution}
+use Rattle.ring_lemmas.proofs.Ring.{neg_neg, neg_sum}
+use Rattle.ring_lemmas.proofs.Sequences.{convolution_add_left, convolution_add_right, convolution_assoc, convolution_comm, convolution_null_left, convolution_constant_left}
+use Rattle.ring_lemmas.specs.Polynomials.{Pol, pol_ops}
+use Rattle.ring_theory.specs.PolynomialRing.{pol_ring}
+use Rattle.ring_lemmas.proofs.Polynomials.{series_add, series_mul}
+use Rattle.ring_lemmas.proofs.Lists.{coeff_trim}
 use Rattle.popov_theory.specs.Module.{PolynomialModule}
 
 module _ {A V : Type 0} {k : TestedRing A} (M : PolynomialModule k V) where

@@ -1,46 +1,17 @@
--- Monomials a·x^s, and the multiple of a row by one that clears a position.
-use Rattle.std.proofs.Common.{◌≡◌, ◌≢◌, ℕ, zero, suc, ◌<◌, ◌≤◌, ◌+◌, ◌*◌, ◌-◌, [], ◌∷◌, length, refl, sym, ◌∙◌, ap, arith}
-use Rattle.ring_theory.specs.Ring.{TestedRing, IsField}
-use Rattle.ring_theory.specs.Lists.{coeff_of}
-use Rattle.ring_theory.proofs.Lists.{coeff_trim}
-use Rattle.ring_theory.specs.Polynomials.{Pol, pol_of}
-use Rattle.ring_theory.proofs.Polynomials.{length_from_top}
-use Rattle.popov_theory.specs.Module.{PolynomialModule, measure, spike}
-pub use Rattle.popov_theory.specs.Module.{monomial}
+-- The multiple of a row by a monomial that clears a position.
+use Rattle.std.proofs.Common.{◌≡◌, ◌≢◌, ℕ, suc, ◌<◌, ◌≤◌, ◌+◌, ◌*◌, ◌-◌, [], ◌∷◌, refl, ◌∙◌, ap, arith}
+use Rattle.ring_lemmas.specs.Ring.{TestedRing, IsField}
+use Rattle.ring_lemmas.specs.Lists.{coeff_of}
+use Rattle.ring_lemmas.specs.Polynomials.{Pol, pol_of}
+use Rattle.ring_theory.specs.Monomials.{spike, monomial}
+use Rattle.ring_theory.proofs.Monomials.{monomial_at, monomial_off}
+use Rattle.popov_theory.specs.Module.{PolynomialModule, measure}
 use Rattle.popov_theory.proofs.Measure.{measure_past, measure_top, measure_bound, scale_top, scale_past}
 
-module _ {A : Type 0} (k : TestedRing A) where
-  spike_at : (a : A) (s : ℕ) → coeff_of k.ops (spike k a s) s ≡ a
-  unfolding spike
-  spike_at a zero = refl
-  spike_at a (suc s) = spike_at a s
-
-  spike_off : (a : A) (s i : ℕ) → i ≢ s → coeff_of k.ops (spike k a s) i ≡ k.𝟘
-  unfolding spike
-  spike_off a zero zero differ = absurd (differ refl)
-  spike_off a zero (suc i) differ = refl
-  spike_off a (suc s) zero differ = refl
-  spike_off a (suc s) (suc i) differ = spike_off a s i (λ e. differ (ap suc e))
-
-  pub monomial_at : (a : A) (s : ℕ) → coeff_of k.ops (monomial k a s).0 s ≡ a
-  unfolding monomial
-  monomial_at a s = coeff_trim k (spike k a s) s ∙ spike_at a s
-
-  pub monomial_off : (a : A) (s i : ℕ) → i ≢ s → coeff_of k.ops (monomial k a s).0 i ≡ k.𝟘
-  unfolding monomial
-  monomial_off a s i differ = coeff_trim k (spike k a s) i ∙ spike_off a s i differ
-
-  -- it has the degree s where a is not zero
-  pub monomial_length : (a : A) (s : ℕ) → a ≢ k.𝟘 → length (monomial k a s).0 ≡ suc s
-  monomial_length a s some =
-      length_from_top k (monomial k a s).0 s (monomial k a s).1 (λ z. some (sym (monomial_at a s) ∙ z)) (λ i after. monomial_off a s i (λ z. absurd (omega (arith, z, after))))
-
 module _ {A V : Type 0} {k : TestedRing A} (M : PolynomialModule k V) (field : IsField k.ops) where
-  infixl 65 ◌⊞◌
   infixl 70 ◌·◌
-  infixr 80 ⊟◌
   infixl 70 ◌⊗◌
-  open M use {width, 𝟎, ◌⊞◌, ⊟◌, ◌·◌, coef}
+  open M use {width, ◌·◌, coef}
   open k use {◌⊗◌}
 
   -- a multiple of v that ends at the position e, with the coefficient of u there

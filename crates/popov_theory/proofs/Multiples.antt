@@ -1,8 +1,8 @@
 -- The multiples x^t of the rows of a list, with t below a bound for each row: their measures are different.
 use Rattle.std.proofs.Common.{◌≡◌, ◌≢◌, ℕ, zero, suc, ◌<◌, ◌+◌, ◌*◌, ◌⊎◌, inl, inr, List, [], ◌∷◌, ◌++◌, length, refl, sym, ◌∙◌, ap, arith, subst, le_of_suc-le-suc, length-append}
 use native.Mathlib.Decide.{ℕ_discrete}
-use Rattle.ring_theory.specs.Ring.{TestedRing, IsDomain}
-use Rattle.ring_theory.specs.Lists.{tail_of}
+use Rattle.ring_lemmas.specs.Ring.{TestedRing, IsDomain}
+use Rattle.ring_lemmas.specs.Lists.{tail_of}
 use Rattle.ring_theory.specs.Members.{In, IsDistinct}
 use Rattle.popov_theory.specs.Module.{PolynomialModule, measure, column}
 use Rattle.popov_theory.specs.Span.{row_at}
@@ -10,7 +10,8 @@ use Rattle.popov_theory.specs.Popov.{IsWeakPopov}
 use Rattle.popov_theory.proofs.Positions.{column_shift, row_le}
 use Rattle.popov_theory.proofs.Measure.{measure_scale}
 use Rattle.popov_theory.proofs.PredictableDegree.{weak_tail, row_not_zero}
-use Rattle.popov_theory.proofs.Monomials.{monomial, monomial_length}
+use Rattle.ring_theory.specs.Monomials.{monomial}
+use Rattle.ring_theory.proofs.Monomials.{monomial_length}
 
 -- t 0 + t 1 and so on, n terms
 unfoldable pub sum_first : (ℕ → ℕ) → ℕ → ℕ

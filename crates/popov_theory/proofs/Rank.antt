@@ -3,7 +3,7 @@ use Rattle.std.proofs.Common.{◌≡◌, ◌≢◌, ℕ, zero, suc, ◌<◌, ◌
 use Rattle.std.proofs.lemmas.Bool.{eqb-true, eqb-false}
 use Rattle.std.proofs.lemmas.Nat.{mod_below}
 use native.Mathlib.Decide.{ℕ_discrete}
-use Rattle.ring_theory.specs.Ring.{TestedRing}
+use Rattle.ring_lemmas.specs.Ring.{TestedRing}
 use Rattle.ring_theory.specs.Members.{In, IsDistinct}
 use Rattle.popov_theory.specs.Module.{PolynomialModule, measure, pivot}
 use Rattle.popov_theory.specs.Span.{row_at}

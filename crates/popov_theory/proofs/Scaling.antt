@@ -2,12 +2,13 @@
 use Rattle.std.proofs.Common.{◌≡◌, ◌≢◌, ℕ, zero, suc, ◌<◌, ◌≤◌, ◌+◌, ◌*◌, ◌-◌, ◌⊎◌, inl, inr, List, [], ◌∷◌, length, map, refl, sym, ◌∙◌, ap, ap₂, arith, subst, suc-mul}
 use Rattle.std.proofs.lemmas.Bool.{cases_lt}
 use Rattle.std.proofs.lemmas.Nat.{mul-le}
-use Rattle.ring_theory.specs.Ring.{TestedRing, IsDomain}
-use Rattle.ring_theory.specs.Lists.{coeff_of, tail_of}
-use Rattle.ring_theory.proofs.Ring.{one_mul}
-use Rattle.ring_theory.proofs.Sequences.{convolution_past, convolution_top, convolution_null_left, convolution_comm}
-use Rattle.ring_theory.specs.Polynomials.{Pol}
-use Rattle.ring_theory.proofs.Polynomials.{pol_ring, coeff_past}
+use Rattle.ring_lemmas.specs.Ring.{TestedRing, IsDomain}
+use Rattle.ring_lemmas.specs.Lists.{coeff_of, tail_of}
+use Rattle.ring_lemmas.proofs.Ring.{one_mul}
+use Rattle.ring_lemmas.proofs.Sequences.{convolution_past, convolution_top, convolution_null_left, convolution_comm}
+use Rattle.ring_lemmas.specs.Polynomials.{Pol}
+use Rattle.ring_theory.specs.PolynomialRing.{pol_ring}
+use Rattle.ring_lemmas.proofs.Polynomials.{coeff_past}
 use Rattle.popov_theory.specs.Module.{PolynomialModule, measure, pivot, row_degree, column, top_position}
 use Rattle.popov_theory.specs.Span.{row_at, InSpan, combine}
 use Rattle.popov_theory.specs.Popov.{IsPopov, pivot_degree}

@@ -1,10 +1,11 @@
 -- Each element has a multiple in a span in Popov form by a polynomial other than 0 whose degree is at most the pivot degree.
 use Rattle.std.proofs.Common.{◌≡◌, ℕ, zero, suc, ◌<◌, ◌≤◌, List, [], ◌∷◌, length, refl, sym, ◌∙◌, ap, arith, subst, le_of_suc-le-suc}
-use Rattle.ring_theory.specs.Ring.{TestedRing, IsField}
-use Rattle.ring_theory.specs.Lists.{coeff_of, tail_of}
-use Rattle.ring_theory.proofs.Lists.{coeff_trim}
-use Rattle.ring_theory.specs.Polynomials.{Pol, pol_of, pol_ops, constant}
-use Rattle.ring_theory.proofs.Polynomials.{pol_ring, same_pol}
+use Rattle.ring_lemmas.specs.Ring.{TestedRing, IsField}
+use Rattle.ring_lemmas.specs.Lists.{coeff_of, tail_of}
+use Rattle.ring_lemmas.proofs.Lists.{coeff_trim}
+use Rattle.ring_lemmas.specs.Polynomials.{Pol, pol_of, pol_ops, constant}
+use Rattle.ring_theory.specs.PolynomialRing.{pol_ring}
+use Rattle.ring_lemmas.proofs.Polynomials.{same_pol}
 use Rattle.ring_theory.proofs.Evaluate.{x_pol, pol_cons, length_trim}
 use Rattle.popov_theory.specs.Module.{PolynomialModule}
 use Rattle.popov_theory.specs.Span.{row_at, InSpan}

@@ -1,11 +1,12 @@
 -- Rows whose measures are different, and are the measures of N that are not leading for a span, are a basis of N modulo it.
 use Rattle.std.proofs.Common.{◌≡◌, ◌≢◌, ℕ, zero, suc, ◌<◌, ◌≤◌, ◌*◌, ◌⊎◌, inl, inr, Bool, true, false, cond, List, [], ◌∷◌, length, refl, sym, ◌∙◌, ap, ap₂, arith, subst, eq-or-lt_of_le}
-use Rattle.ring_theory.specs.Ring.{TestedRing, IsField, IsDomain}
-use Rattle.ring_theory.specs.Lists.{coeff_of, tail_of}
-use Rattle.ring_theory.proofs.Ring.{field_domain}
-use Rattle.ring_theory.proofs.Lists.{coeff_trim}
-use Rattle.ring_theory.specs.Polynomials.{Pol, pol_of, pol_ops}
-use Rattle.ring_theory.proofs.Polynomials.{pol_ring, same_pol, series_add}
+use Rattle.ring_lemmas.specs.Ring.{TestedRing, IsField, IsDomain}
+use Rattle.ring_lemmas.specs.Lists.{coeff_of, tail_of}
+use Rattle.ring_lemmas.proofs.Ring.{field_domain}
+use Rattle.ring_lemmas.proofs.Lists.{coeff_trim}
+use Rattle.ring_lemmas.specs.Polynomials.{Pol, pol_of, pol_ops}
+use Rattle.ring_theory.specs.PolynomialRing.{pol_ring}
+use Rattle.ring_lemmas.proofs.Polynomials.{same_pol, series_add}
 use Rattle.popov_theory.specs.Module.{PolynomialModule, measure}
 use Rattle.popov_theory.specs.Span.{row_at, InSpan, IsSubmodule}
 use Rattle.popov_theory.specs.Popov.{IsWeakPopov, Leading}

@@ -1,12 +1,12 @@
 -- The ring O[z] of an element z that is integral over O, as the values at z of the polynomials of degree below that of
 -- its equation.
 use Rattle.std.proofs.Common.{◌≡◌, ℕ, zero, suc, ◌+◌, [], ◌∷◌, refl, sym, ◌∙◌, ap, subst, arith, zero-add, suc-add}
-use Rattle.ring_theory.specs.Ring.{CommRing, pow}
-use Rattle.ring_theory.specs.Sums.{sum_below}
+use Rattle.ring_lemmas.specs.Ring.{CommRing, pow}
+use Rattle.ring_lemmas.specs.Sums.{sum_below}
 use Rattle.ring_theory.specs.Subsets.{IsSubring}
 use Rattle.ring_theory.specs.Integral.{IsIntegral}
 use Rattle.ring_theory.proofs.Integral.{Low, low_sum, low_scale, low_neg, low_constant, low_shift, low_power, low_up, low_more, low_product}
-use Rattle.ring_theory.proofs.Solver.{ring, reads, from_one}
+use Rattle.ring_lemmas.proofs.Solver.{ring, reads, from_one}
 
 module _ {A : Type 0} (R : CommRing A) (O : A → Type 0) (𝓞 : IsSubring R.ops O) where
   infixl 65 ◌⊕◌

@@ -1,11 +1,11 @@
 -- Modules localised at a prime, and valuations by ideals: the value of z at P is at least a - b where z is in P^(a -
 -- b) at P.
 use Rattle.std.proofs.Common.{◌≡◌, ℕ, ◌+◌, [], ◌∷◌, refl, sym, subst}
-use Rattle.ring_theory.specs.Ring.{CommRing, pow}
+use Rattle.ring_lemmas.specs.Ring.{CommRing, pow}
 use Rattle.ring_theory.specs.Subsets.{IsSubring, IsModule, Product}
-use Rattle.ring_theory.proofs.Ring.{one_mul, mul_left_comm, mul_mul}
+use Rattle.ring_lemmas.proofs.Ring.{one_mul, mul_left_comm, mul_mul}
 use Rattle.ring_theory.proofs.Subsets.{product_member, product_module}
-use Rattle.ring_theory.proofs.Solver.{ring, reads, from_one}
+use Rattle.ring_lemmas.proofs.Solver.{ring, reads, from_one}
 use Rattle.prime_theory.specs.Ideals.{IsAdditive, Inverse, Power, SameSet}
 use Rattle.prime_theory.specs.Primes.{IsPrime, Outside, Pair, theta, AtLeast}
 use Rattle.prime_theory.specs.Systems.{At, IdealPower}

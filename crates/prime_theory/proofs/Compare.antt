@@ -2,7 +2,7 @@
 use Rattle.std.specs.List.{Any}
 use Rattle.std.proofs.Common.{◌⊎◌, inl, inr, List, [], ◌∷◌, All}
 use Rattle.std.proofs.lemmas.List.Elements.{All-nil, All-cons, All-head, All-tail}
-use Rattle.ring_theory.specs.Ring.{CommRing}
+use Rattle.ring_lemmas.specs.Ring.{CommRing}
 use Rattle.ring_theory.specs.Subsets.{IsSubring}
 use Rattle.ring_theory.proofs.Subsets.{span_least}
 use Rattle.prime_theory.specs.Ideals.{SameSet}

@@ -4,7 +4,7 @@ use Rattle.ring_theory.proofs.Finite.{product}
 use Rattle.prime_theory.proofs.Lists.{any_here, any_there}
 use Rattle.std.proofs.Common.{◌≡◌, ◌⊎◌, inl, inr, ℕ, List, [], ◌∷◌, All}
 use Rattle.std.proofs.lemmas.List.Elements.{All-nil, All-cons, All-weaker}
-use Rattle.ring_theory.specs.Ring.{CommRing, pow}
+use Rattle.ring_lemmas.specs.Ring.{CommRing, pow}
 use Rattle.ring_theory.specs.Subsets.{IsSubring}
 use Rattle.ring_theory.specs.Local.{PrimeTo}
 use Rattle.prime_theory.specs.Ideals.{SameSet}

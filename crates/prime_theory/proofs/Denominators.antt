@@ -3,15 +3,15 @@
 use Rattle.prime_theory.proofs.Scalars.{span_wider, integral_wider}
 use Rattle.ring_theory.proofs.Local.{power_in}
 use Rattle.std.proofs.Common.{◌≡◌, ℕ, zero, suc, ◌<◌, List, [], ◌∷◌, refl, sym, ◌∙◌, ap, subst, arith}
-use Rattle.ring_theory.specs.Ring.{CommRing, pow}
+use Rattle.ring_lemmas.specs.Ring.{CommRing, pow}
 use Rattle.ring_theory.specs.Subsets.{IsSubring, Span}
 use Rattle.ring_theory.specs.Local.{Locally}
 use Rattle.prime_theory.specs.Ideals.{IsMultiplicative}
 use Rattle.ring_theory.specs.Integral.{IsIntegral}
-use Rattle.ring_theory.proofs.Ring.{mul_zero, one_mul, mul_pow}
+use Rattle.ring_lemmas.proofs.Ring.{mul_zero, one_mul, mul_pow}
 use Rattle.ring_theory.proofs.Subsets.{span_module, span_least}
 use Rattle.ring_theory.proofs.Integral.{Low}
-use Rattle.ring_theory.proofs.Solver.{ring, reads}
+use Rattle.ring_lemmas.proofs.Solver.{ring, reads}
 use Rattle.prime_theory.proofs.Adjoined.{low_by_root, low_has, power_low}
 use Rattle.prime_theory.proofs.IntegralRing.{integral_of_multiplier, integral_product, integral_base, powers, low_span, span_low, low_module}
 

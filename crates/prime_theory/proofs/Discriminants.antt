@@ -1,8 +1,8 @@
 -- An element whose products with a basis have traces in S has coordinates in S times the inverse of the discriminant.
 use Rattle.std.proofs.Common.{◌≡◌, ℕ, zero, suc, ◌<◌, ◌∙◌, ap, subst}
 use mathlib.Core.Path.{fun_ext}
-use Rattle.ring_theory.specs.Ring.{CommRing, pow}
-use Rattle.ring_theory.specs.Sums.{sum_below}
+use Rattle.ring_lemmas.specs.Ring.{CommRing, pow}
+use Rattle.ring_lemmas.specs.Sums.{sum_below}
 use Rattle.ring_theory.specs.Subsets.{IsSubring}
 use Rattle.ring_theory.specs.Determinant.{determinant, minor, with_row}
 use Rattle.ring_theory.proofs.Local.{power_in}

@@ -1,6 +1,6 @@
 -- Products of powers of primes do not depend on the order of the list, and only on the sums of exponents.
 use Rattle.std.proofs.Common.{ℕ, zero, suc, ◌+◌, List, [], ◌∷◌, ◌++◌, subst, add_comm}
-use Rattle.ring_theory.specs.Ring.{CommRing}
+use Rattle.ring_lemmas.specs.Ring.{CommRing}
 use Rattle.ring_theory.specs.Subsets.{IsSubring, IsModule, Product}
 use Rattle.ring_theory.proofs.Subsets.{product_member, product_module}
 use Rattle.prime_theory.specs.Ideals.{SameSet, Inverse, Power}

@@ -1,28 +1,16 @@
 -- Enlarging an order at one element after another: the integral elements that a product of powers takes into the order.
-use Rattle.std.proofs.Common.{◌≡◌, ◌↔◌, ℕ, List, [], ◌∷◌, refl, sym, ◌∙◌, ap, subst, All}
+use Rattle.std.proofs.Common.{◌↔◌, List, [], ◌∷◌, refl, sym, ◌∙◌, ap, subst, All}
 use Rattle.std.proofs.lemmas.List.Elements.{All-head, All-tail}
-use Rattle.ring_theory.specs.Ring.{CommRing, pow}
+use Rattle.ring_lemmas.specs.Ring.{CommRing, pow}
+use Rattle.ring_lemmas.proofs.Ring.{one_mul}
 use Rattle.ring_theory.specs.Subsets.{IsSubring}
-use Rattle.ring_theory.proofs.Ring.{one_mul}
 use Rattle.ring_theory.proofs.Local.{power_in}
-use Rattle.prime_theory.specs.Orders.{Enlarged}
-
--- one enlargement for each member of a list
-abbrev pub EnlargedAt : {A : Type 0} → CommRing A → (A → Type 0) → List A → (A → Type 0) → A → Type 0
-EnlargedAt R Int [] O = O
-EnlargedAt R Int (p ∷ ps) O = EnlargedAt R Int ps (Enlarged R Int p O)
-
--- d is a product of powers of the members of a list
-abbrev pub PowersOf : {A : Type 0} → CommRing A → List A → A → Type 0
-PowersOf R [] d = d ≡ R.𝟙
-PowersOf {A} R (p ∷ ps) d = (a : ℕ) × (c : A) × PowersOf R ps c × (d ≡ R.◌⊗◌ (pow R.ops p a) c)
+use Rattle.prime_theory.specs.Orders.{Enlarged, EnlargedAt, PowersOf}
 
 module _ {A : Type 0} (R : CommRing A) (S : A → Type 0) (𝓢 : IsSubring R.ops S) (Int : A → Type 0)
     (scale : (s z : A) → S s → Int z → Int (R.ops.◌⊗◌ s z)) where
-  infixl 65 ◌⊕◌
   infixl 70 ◌⊗◌
-  infixr 80 ⊖◌
-  open R use {𝟘, 𝟙, ◌⊕◌, ◌⊗◌, ⊖◌}
+  open R use {𝟙, ◌⊗◌}
 
   powers_in : (ps : List A) → All S ps → (d : A) → PowersOf R ps d → S d
   powers_in [] h d k = subst S (sym k) 𝓢.one_in

@@ -2,11 +2,11 @@
 use Rattle.prime_theory.proofs.Lists.{any_one}
 use Rattle.std.proofs.Common.{◌≡◌, ℕ, ◌+◌, ◌*◌, ◌≤◌, List, [], ◌∷◌, refl, sym, ap, subst, arith, All}
 use Rattle.std.proofs.lemmas.List.Elements.{All-nil, All-cons, All-head}
-use Rattle.ring_theory.specs.Ring.{CommRing, pow}
+use Rattle.ring_lemmas.specs.Ring.{CommRing, pow}
 use Rattle.ring_theory.specs.Subsets.{IsSubring}
 use Rattle.ring_theory.specs.Integral.{IsIntegral}
 use Rattle.ring_theory.proofs.Subsets.{product_member}
-use Rattle.ring_theory.proofs.Solver.{ring, reads, from_one, from_two}
+use Rattle.ring_lemmas.proofs.Solver.{ring, reads, from_one, from_two}
 use Rattle.prime_theory.specs.Primes.{IsPrime, Outside, Pair, AtLeast, Exactly}
 use Rattle.prime_theory.specs.Systems.{opposite, IdealProduct, PrimeExponent, IsFamily, IsSystem, counted}
 use Rattle.prime_theory.proofs.Valuation.{ge_product, ge_bounded, ge_reindex, ge_of_member, eq_product, eq_power, eq_quotient, eq_of_outside}

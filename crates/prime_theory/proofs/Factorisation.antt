@@ -2,11 +2,11 @@
 use Rattle.prime_theory.proofs.Lists.{both, everywhere, pairs_head, pairs_tail}
 use Rattle.std.proofs.Common.{◌≡◌, ◌↔◌, ◌⊎◌, inl, inr, ℕ, zero, suc, ◌+◌, List, [], ◌∷◌, refl, sym, ◌∙◌, ap, ap₂, subst, arith, zero-add, All, add-zero}
 use Rattle.std.proofs.lemmas.List.Elements.{All-nil, All-cons, All-head, All-tail, All-weaker}
-use Rattle.ring_theory.specs.Ring.{CommRing, pow}
+use Rattle.ring_lemmas.specs.Ring.{CommRing, pow}
 use Rattle.ring_theory.specs.Subsets.{IsSubring, IsModule, Product, Colon}
-use Rattle.ring_theory.proofs.Ring.{one_mul, mul_left_comm, pow_add, pow_one_base}
+use Rattle.ring_lemmas.proofs.Ring.{one_mul, mul_left_comm, pow_add, pow_one_base}
 use Rattle.ring_theory.proofs.Subsets.{product_member}
-use Rattle.ring_theory.proofs.Solver.{ring, reads, from_one}
+use Rattle.ring_lemmas.proofs.Solver.{ring, reads, from_one}
 use Rattle.prime_theory.specs.Ideals.{SameSet, Inverse, Power, Multiple}
 use Rattle.prime_theory.specs.Primes.{Different, AtLeast, Exactly}
 use Rattle.prime_theory.specs.Systems.{IdealPower, IdealProduct, PrimeExponent, IsFamily, IsSystem, AreDistinctPrimes, counted}

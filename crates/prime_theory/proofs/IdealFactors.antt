@@ -4,11 +4,11 @@ use Rattle.prime_theory.proofs.Lists.{pick, everywhere, both, pairs_head, pairs_
 use Rattle.ring_theory.proofs.Local.{power_in}
 use Rattle.std.proofs.Common.{◌≡◌, ◌⊎◌, inl, inr, ℕ, suc, ◌+◌, ◌*◌, ◌≤◌, List, [], ◌∷◌, map, refl, sym, ◌∙◌, ap, ap₂, subst, arith, All}
 use Rattle.std.proofs.lemmas.List.Elements.{All-nil, All-cons, All-head, All-tail, All-weaker, All-map}
-use Rattle.ring_theory.specs.Ring.{CommRing, pow}
+use Rattle.ring_lemmas.specs.Ring.{CommRing, pow}
 use Rattle.ring_theory.specs.Subsets.{IsSubring, IsModule, Span}
-use Rattle.ring_theory.proofs.Ring.{mul_left_comm, one_mul, mul_zero, zero_mul, add_mul, pow_add}
+use Rattle.ring_lemmas.proofs.Ring.{mul_left_comm, one_mul, mul_zero, zero_mul, add_mul, pow_add}
 use Rattle.ring_theory.proofs.Subsets.{span_least, span_multiples, span_members}
-use Rattle.ring_theory.proofs.Solver.{ring, reads}
+use Rattle.ring_lemmas.proofs.Solver.{ring, reads}
 use Rattle.prime_theory.specs.Ideals.{IsIdeal, SameSet, Multiple}
 use Rattle.prime_theory.specs.Primes.{Outside, Different, AtLeast, Exactly, theta}
 use Rattle.prime_theory.specs.Systems.{IdealProduct, PrimeExponent, IsFamily, IsSystem, Escapes, UnitModulo, AreDistinctPrimes}

@@ -3,11 +3,11 @@
 use Rattle.ring_theory.proofs.Local.{power_in}
 use Rattle.std.proofs.Common.{◌≡◌, ◌⊎◌, inl, inr, ℕ, zero, suc, List, [], ◌∷◌, refl, subst, All}
 use Rattle.std.proofs.lemmas.List.Elements.{All-nil, All-cons, All-head, All-tail}
-use Rattle.ring_theory.specs.Ring.{CommRing, pow}
+use Rattle.ring_lemmas.specs.Ring.{CommRing, pow}
 use Rattle.ring_theory.specs.Subsets.{IsSubring, Product, Colon}
-use Rattle.ring_theory.proofs.Ring.{mul_pow}
+use Rattle.ring_lemmas.proofs.Ring.{mul_pow}
 use Rattle.ring_theory.proofs.Subsets.{product_member}
-use Rattle.ring_theory.proofs.Solver.{ring, reads}
+use Rattle.ring_lemmas.proofs.Solver.{ring, reads}
 use Rattle.prime_theory.specs.Ideals.{IsIdeal, Inverse, Invertible, Multiple}
 use Rattle.prime_theory.specs.Primes.{IsPrime}
 use Rattle.prime_theory.specs.Systems.{TraceGenerators, IsFamily, IsDecomposition, PrimeAt}

@@ -2,13 +2,13 @@
 use Rattle.ring_theory.proofs.Local.{power_in}
 use Rattle.std.proofs.Common.{◌≡◌, ℕ, zero, suc, ◌<◌, List, [], ◌∷◌, map, refl, sym, ◌∙◌, ap, subst, arith, All}
 use Rattle.std.proofs.lemmas.List.Elements.{All-nil, All-cons, All-weaker, All-map}
-use Rattle.ring_theory.specs.Ring.{CommRing, pow}
+use Rattle.ring_lemmas.specs.Ring.{CommRing, pow}
 use Rattle.ring_theory.specs.Subsets.{IsSubring, IsModule, Span, Product, products}
 use Rattle.ring_theory.specs.Integral.{IsIntegral}
-use Rattle.ring_theory.proofs.Ring.{mul_zero, one_mul, add_mul, mul_left_comm}
+use Rattle.ring_lemmas.proofs.Ring.{mul_zero, one_mul, add_mul, mul_left_comm}
 use Rattle.ring_theory.proofs.Subsets.{span_module, span_head, span_tail, span_members, span_least, span_multiples, product_of_spans, product_member, product_module}
 use Rattle.ring_theory.proofs.Integral.{Low, low_zero, low_sum, low_scale, low_neg, low_shift, integral}
-use Rattle.ring_theory.proofs.Solver.{ring, reads, from_two}
+use Rattle.ring_lemmas.proofs.Solver.{ring, reads, from_two}
 use Rattle.prime_theory.proofs.Adjoined.{low_times, low_by_root, low_has, power_low}
 use Rattle.prime_theory.proofs.Products.{product_universal, additive_of_module}
 

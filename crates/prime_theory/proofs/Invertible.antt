@@ -2,11 +2,11 @@
 use Rattle.ring_theory.proofs.Finite.{product}
 use Rattle.std.proofs.Common.{◌≡◌, ◌⊎◌, inl, inr, ℕ, zero, suc, List, [], ◌∷◌, refl, sym, ap, subst, All}
 use Rattle.std.proofs.lemmas.List.Elements.{All-nil, All-cons, All-head, All-tail, All-weaker}
-use Rattle.ring_theory.specs.Ring.{CommRing, pow}
+use Rattle.ring_lemmas.specs.Ring.{CommRing, pow}
 use Rattle.ring_theory.specs.Subsets.{Span, IsSubring, IsModule, Product, Colon}
-use Rattle.ring_theory.proofs.Ring.{one_mul, mul_zero, mul_left_comm}
+use Rattle.ring_lemmas.proofs.Ring.{one_mul, mul_zero, mul_left_comm}
 use Rattle.ring_theory.proofs.Subsets.{product_member, product_module, colon_module, span_least}
-use Rattle.ring_theory.proofs.Solver.{ring, reads, from_one}
+use Rattle.ring_lemmas.proofs.Solver.{ring, reads, from_one}
 use Rattle.prime_theory.specs.Ideals.{IsIdeal, SameSet, Inverse, Invertible, Multiple}
 use Rattle.ring_theory.specs.Local.{PrimeTo}
 use Rattle.prime_theory.specs.Systems.{UnitModulo}
@@ -134,7 +134,7 @@ module _ {A : Type 0} (R : CommRing A) (O : A → Type 0) (𝓞 : IsSubring R.op
     where
       back : (x y w : A) → b.element ⊗ (x ⊗ y) ≡ p ⊗ w → w ≡ r ⊗ b.element ⊗ y ⊗ x
       back x y w f =
-          Rattle.ring_theory.proofs.Solver.from_two R (⊖ w) (⊖ r) e f
+          Rattle.ring_lemmas.proofs.Solver.from_two R (⊖ w) (⊖ r) e f
           (ring R (p ∷ r ∷ b.element ∷ x ∷ y ∷ w ∷ []) λ q i. simp (reads, q, i 0, i 1, i 2, i 3, i 4, i 5)
           (q.equal _ _ refl))
 

@@ -1,6 +1,6 @@
 -- Integer powers of an invertible module, which need be no prime and need not lie in O.
 use Rattle.std.proofs.Common.{ℕ, zero, suc, ◌+◌, subst}
-use Rattle.ring_theory.specs.Ring.{CommRing}
+use Rattle.ring_lemmas.specs.Ring.{CommRing}
 use Rattle.ring_theory.specs.Subsets.{IsSubring, IsModule, Product}
 use Rattle.ring_theory.proofs.Subsets.{product_member, product_module}
 use Rattle.prime_theory.specs.Ideals.{SameSet, Inverse, Invertible, Power}

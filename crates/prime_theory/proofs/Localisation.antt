@@ -3,12 +3,12 @@
 use Rattle.ring_theory.proofs.Finite.{product}
 use Rattle.std.proofs.Common.{◌≡◌, ◌↔◌, ℕ, zero, suc, List, [], ◌∷◌, refl, sym, ◌∙◌, ap, subst, All}
 use Rattle.std.proofs.lemmas.List.Elements.{All-nil, All-cons, All-head, All-tail, All-weaker}
-use Rattle.ring_theory.specs.Ring.{CommRing, pow}
+use Rattle.ring_lemmas.specs.Ring.{CommRing, pow}
 use Rattle.ring_theory.specs.Subsets.{IsSubring, IsModule}
 use Rattle.ring_theory.specs.Local.{Comaximal, PrimeTo, Locally}
-use Rattle.ring_theory.proofs.Ring.{one_mul, mul_left_comm}
+use Rattle.ring_lemmas.proofs.Ring.{one_mul, mul_left_comm}
 use Rattle.ring_theory.proofs.Local.{two_denominators, locally_of, locally_module}
-use Rattle.ring_theory.proofs.Solver.{ring, reads, from_one}
+use Rattle.ring_lemmas.proofs.Solver.{ring, reads, from_one}
 use Rattle.prime_theory.specs.Ideals.{IsIdeal, OneModulo}
 
 -- a member of J that is comaximal with p

@@ -2,7 +2,7 @@
 use Rattle.ring_theory.proofs.Finite.{product}
 use Rattle.std.proofs.Common.{◌≡◌, ◌↔◌, ℕ, List, subst, All}
 use Rattle.std.proofs.lemmas.List.Elements.{All-weaker}
-use Rattle.ring_theory.specs.Ring.{CommRing, pow}
+use Rattle.ring_lemmas.specs.Ring.{CommRing, pow}
 use Rattle.ring_theory.specs.Subsets.{IsSubring, IsModule}
 use Rattle.ring_theory.specs.Local.{PrimeTo, Locally}
 use Rattle.ring_theory.proofs.Local.{two_denominators}

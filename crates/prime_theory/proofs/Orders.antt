@@ -4,13 +4,13 @@ use Rattle.prime_theory.proofs.Lists.{any_here, any_there, any_weaker}
 use Rattle.ring_theory.proofs.Local.{power_in}
 use Rattle.std.proofs.Common.{◌≡◌, ◌⊎◌, inl, inr, ℕ, zero, suc, ◌+◌, ◌*◌, ◌-◌, ◌≤◌, ◌<◌, List, [], ◌∷◌, refl, sym, ◌∙◌, ap, subst, arith, zero-add, All}
 use Rattle.std.proofs.lemmas.List.Elements.{All-nil, All-cons, All-head, All-tail, All-weaker}
-use Rattle.ring_theory.specs.Ring.{CommRing, pow}
-use Rattle.ring_theory.specs.Sums.{sum_below}
+use Rattle.ring_lemmas.specs.Ring.{CommRing, pow}
+use Rattle.ring_lemmas.specs.Sums.{sum_below}
 use Rattle.ring_theory.specs.Subsets.{IsSubring, Span}
 use Rattle.ring_theory.specs.Integral.{IsIntegral}
-use Rattle.ring_theory.proofs.Ring.{mul_zero, one_mul, mul_left_comm, mul_pow}
+use Rattle.ring_lemmas.proofs.Ring.{mul_zero, one_mul, mul_left_comm, mul_pow}
 use Rattle.ring_theory.proofs.Subsets.{span_least}
-use Rattle.ring_theory.proofs.Solver.{ring, reads, from_one}
+use Rattle.ring_lemmas.proofs.Solver.{ring, reads, from_one}
 use Rattle.prime_theory.specs.Primes.{IsPrime, Outside, Pair, theta, AtLeast, Exactly}
 use Rattle.prime_theory.proofs.Primes.{ideal_neg, outside_power, one_outside}
 use Rattle.prime_theory.proofs.Valuation.{theta_zero, theta_up, theta_right, ge_reindex, eq_reindex, ge_module, ge_quotient, eq_power, climb}

@@ -2,12 +2,12 @@
 use Rattle.prime_theory.proofs.Scalars.{span_wider}
 use Rattle.std.proofs.Common.{◌≡◌, List, [], ◌∷◌, ◌++◌, map, refl, ◌∙◌, subst, All}
 use Rattle.std.proofs.lemmas.List.Elements.{All-weaker, All-append, All-map}
-use Rattle.ring_theory.specs.Ring.{CommRing}
+use Rattle.ring_lemmas.specs.Ring.{CommRing}
 use Rattle.ring_theory.specs.Subsets.{IsSubring, IsModule, Span}
 use Rattle.ring_theory.specs.Local.{PrimeTo, Locally}
-use Rattle.ring_theory.proofs.Ring.{mul_left_comm}
+use Rattle.ring_lemmas.proofs.Ring.{mul_left_comm}
 use Rattle.ring_theory.proofs.Subsets.{span_module, span_least, span_members, span_multiples, span_append_left, span_append_right}
-use Rattle.ring_theory.proofs.Solver.{ring, reads, from_one}
+use Rattle.ring_lemmas.proofs.Solver.{ring, reads, from_one}
 use Rattle.prime_theory.specs.Ideals.{IsIdeal, SameSet}
 use Rattle.prime_theory.specs.Places.{PlaceOf}
 

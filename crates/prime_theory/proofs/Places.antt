@@ -1,13 +1,13 @@
 -- Places of a ring B over an order O that has B locally at p: places and primes correspond, and their valuations agree.
 use Rattle.std.proofs.Common.{◌≡◌, ◌↔◌, ◌⊎◌, inl, inr, ℕ, zero, suc, List, [], ◌∷◌, refl, sym, ◌∙◌, ap, ap₂, subst, All}
 use Rattle.std.proofs.lemmas.List.Elements.{All-weaker}
-use Rattle.ring_theory.specs.Ring.{CommRing, pow}
+use Rattle.ring_lemmas.specs.Ring.{CommRing, pow}
 use Rattle.ring_theory.specs.Subsets.{IsSubring, IsModule, Span}
 use Rattle.ring_theory.specs.Local.{Comaximal, PrimeTo, Locally}
-use Rattle.ring_theory.proofs.Ring.{mul_zero, one_mul, mul_left_comm, mul_mul, mul_pow}
+use Rattle.ring_lemmas.proofs.Ring.{mul_zero, one_mul, mul_left_comm, mul_mul, mul_pow}
 use Rattle.ring_theory.proofs.Local.{locally_module, by_comaximal}
 use Rattle.ring_theory.proofs.Subsets.{span_least}
-use Rattle.ring_theory.proofs.Solver.{ring, reads, from_one}
+use Rattle.ring_lemmas.proofs.Solver.{ring, reads, from_one}
 use Rattle.prime_theory.specs.Ideals.{IsIdeal, Power}
 use Rattle.prime_theory.specs.Primes.{IsPrime, Outside, Pair, AtLeast}
 use Rattle.prime_theory.specs.Places.{IsMaximalIdeal, PlaceOf, PlaceAtLeast, PlaceAtLeastMinus}

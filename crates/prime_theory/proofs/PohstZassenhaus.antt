@@ -2,13 +2,13 @@
 use Rattle.ring_theory.proofs.Local.{power_in}
 use Rattle.std.proofs.Common.{◌≡◌, ℕ, zero, suc, ◌+◌, ◌*◌, ◌<◌, List, [], ◌∷◌, refl, sym, ◌∙◌, ap, ap₂, subst, arith, suc-add, All}
 use Rattle.std.proofs.lemmas.List.Elements.{All-head, All-tail, All-weaker}
-use Rattle.ring_theory.specs.Ring.{CommRing, pow}
+use Rattle.ring_lemmas.specs.Ring.{CommRing, pow}
 use Rattle.ring_theory.specs.Subsets.{IsSubring, Colon, Span, Combined}
 use Rattle.ring_theory.specs.Integral.{IsIntegral}
-use Rattle.ring_theory.proofs.Ring.{mul_zero, one_mul, add_mul, mul_left_comm, mul_pow, pow_mul}
+use Rattle.ring_lemmas.proofs.Ring.{mul_zero, one_mul, add_mul, mul_left_comm, mul_pow, pow_mul}
 use Rattle.ring_theory.proofs.Integral.{Low}
 use Rattle.prime_theory.proofs.Adjoined.{low_times, low_by_root, low_has, power_low}
-use Rattle.ring_theory.proofs.Solver.{ring, reads}
+use Rattle.ring_lemmas.proofs.Solver.{ring, reads}
 use Rattle.prime_theory.specs.Ideals.{IsIdeal, Multiple}
 use Rattle.prime_theory.specs.Orders.{MaximalAt, Radical, Iterated}
 

@@ -1,8 +1,8 @@
 -- Products of powers of primes, localised at one prime: only the exponents at that prime count.
 use Rattle.std.proofs.Common.{◌↔◌, ◌⊎◌, inl, inr, ℕ, zero, suc, ◌+◌, List, [], ◌∷◌, subst, zero-add}
-use Rattle.ring_theory.specs.Ring.{CommRing, pow}
+use Rattle.ring_lemmas.specs.Ring.{CommRing, pow}
 use Rattle.ring_theory.specs.Subsets.{IsSubring, IsModule, Product}
-use Rattle.ring_theory.proofs.Ring.{one_mul, mul_left_comm, pow_one_base}
+use Rattle.ring_lemmas.proofs.Ring.{one_mul, mul_left_comm, pow_one_base}
 use Rattle.ring_theory.proofs.Subsets.{product_member, product_module}
 use Rattle.prime_theory.specs.Ideals.{IsIdeal, Inverse, Power, SameSet}
 use Rattle.prime_theory.specs.Primes.{IsPrime, Outside, Pair, Different, AtLeast}

@@ -1,12 +1,12 @@
 -- Prime ideals with a field of classes: elements outside, pairs and invertibility, different primes.
 use Rattle.std.proofs.Common.{◌≡◌, ◌⊎◌, inl, inr, ℕ, zero, suc, List, [], ◌∷◌, refl, sym, ◌∙◌, ap, subst}
-use Rattle.ring_theory.specs.Ring.{CommRing, pow}
-use Rattle.ring_theory.specs.Sums.{sum_over}
+use Rattle.ring_lemmas.specs.Ring.{CommRing, pow}
+use Rattle.ring_lemmas.specs.Sums.{sum_over}
 use Rattle.ring_theory.specs.Subsets.{IsSubring, IsModule, Factors, Product}
 use Rattle.ring_theory.specs.Local.{Comaximal}
-use Rattle.ring_theory.proofs.Ring.{zero_mul, one_mul, add_mul}
+use Rattle.ring_lemmas.proofs.Ring.{zero_mul, one_mul, add_mul}
 use Rattle.ring_theory.proofs.Subsets.{product_member, product_module, colon_module}
-use Rattle.ring_theory.proofs.Solver.{ring, reads}
+use Rattle.ring_lemmas.proofs.Solver.{ring, reads}
 use Rattle.prime_theory.specs.Ideals.{IsIdeal, IsAdditive, Inverse, Invertible, SameSet}
 use Rattle.prime_theory.specs.Primes.{IsPrime, Outside, Pair}
 use Rattle.prime_theory.proofs.Products.{own_module}

@@ -1,11 +1,11 @@
 -- Products of subsets: the universal property, and the laws that follow from it.
 use Rattle.std.proofs.Common.{◌≡◌, ℕ, zero, suc, ◌+◌, List, [], ◌∷◌, refl, sym, subst, zero-add, suc-add}
-use Rattle.ring_theory.specs.Ring.{CommRing, pow}
-use Rattle.ring_theory.specs.Sums.{sum_over}
+use Rattle.ring_lemmas.specs.Ring.{CommRing, pow}
+use Rattle.ring_lemmas.specs.Sums.{sum_over}
 use Rattle.ring_theory.specs.Subsets.{IsSubring, IsModule, Factors, Product}
-use Rattle.ring_theory.proofs.Ring.{mul_zero, one_mul}
+use Rattle.ring_lemmas.proofs.Ring.{mul_zero, one_mul}
 use Rattle.ring_theory.proofs.Subsets.{product_member, product_module}
-use Rattle.ring_theory.proofs.Solver.{ring, reads}
+use Rattle.ring_lemmas.proofs.Solver.{ring, reads}
 use Rattle.prime_theory.specs.Ideals.{IsAdditive, Power, SameSet}
 
 module _ {A : Type 0} (R : CommRing A) where

@@ -5,9 +5,9 @@ use Rattle.std.proofs.lemmas.List.Elements.{All-weaker}
 use Rattle.ring_theory.proofs.Local.{power_in}
 use Rattle.std.proofs.Common.{ℕ, zero, suc, [], ◌∷◌, sym, ◌∙◌, ap, subst, ◌≡◌, ◌↔◌, List}
 use Rattle.std.proofs.lemmas.List.Elements.{All-nil, All-cons}
-use Rattle.ring_theory.specs.Ring.{CommRing, pow}
+use Rattle.ring_lemmas.specs.Ring.{CommRing, pow}
 use Rattle.ring_theory.specs.Subsets.{IsSubring, Colon, Span}
-use Rattle.ring_theory.proofs.Ring.{one_mul, mul_pow}
+use Rattle.ring_lemmas.proofs.Ring.{one_mul, mul_pow}
 use Rattle.ring_theory.proofs.Subsets.{span_head, span_tail, span_module, span_members}
 use Rattle.prime_theory.specs.Ideals.{IsIdeal, Multiple, SameSet}
 use Rattle.prime_theory.specs.Orders.{MaximalAt, Radical, Iterated}

@@ -1,10 +1,10 @@
 -- Modulo a prime, an invertible module has one generator: it is the residue ring, times an element.
 use Rattle.std.proofs.Common.{◌≡◌, ◌⊎◌, inl, inr, List, [], ◌∷◌, refl, sym, subst}
-use Rattle.ring_theory.specs.Ring.{CommRing}
-use Rattle.ring_theory.specs.Sums.{sum_over}
+use Rattle.ring_lemmas.specs.Ring.{CommRing}
+use Rattle.ring_lemmas.specs.Sums.{sum_over}
 use Rattle.ring_theory.specs.Subsets.{IsSubring, IsModule, Factors, Product}
 use Rattle.ring_theory.proofs.Subsets.{product_member}
-use Rattle.ring_theory.proofs.Solver.{ring, reads, from_one}
+use Rattle.ring_lemmas.proofs.Solver.{ring, reads, from_one}
 use Rattle.prime_theory.specs.Ideals.{Inverse, Invertible}
 use Rattle.prime_theory.specs.Primes.{IsPrime, Outside}
 use Rattle.prime_theory.proofs.Products.{product_universal}

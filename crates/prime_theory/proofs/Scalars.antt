@@ -1,6 +1,6 @@
 -- Spans and integral elements over a greater set of scalars.
 use Rattle.std.proofs.Common.{List, [], ◌∷◌}
-use Rattle.ring_theory.specs.Ring.{CommRing}
+use Rattle.ring_lemmas.specs.Ring.{CommRing}
 use Rattle.ring_theory.specs.Subsets.{Span}
 use Rattle.ring_theory.specs.Integral.{IsIntegral}
 

@@ -1,13 +1,13 @@
 -- Modules between multiples of W by powers of p: they are their localisation at p, as far as W with the inverse of p
 -- goes. And the part at p of a module that lies anyhow.
 use Rattle.std.proofs.Common.{◌≡◌, ◌↔◌, ℕ, ◌+◌, [], ◌∷◌, refl, sym, ◌∙◌, ap, subst}
-use Rattle.ring_theory.specs.Ring.{CommRing, pow}
+use Rattle.ring_lemmas.specs.Ring.{CommRing, pow}
 use Rattle.ring_theory.specs.Subsets.{IsSubring, IsModule, Product, Colon}
 use Rattle.ring_theory.specs.Local.{PrimeTo, Locally}
-use Rattle.ring_theory.proofs.Ring.{one_mul, mul_left_comm, mul_mul, pow_add}
+use Rattle.ring_lemmas.proofs.Ring.{one_mul, mul_left_comm, mul_mul, pow_add}
 use Rattle.ring_theory.proofs.Local.{two_denominators, locally_of, power_in}
 use Rattle.ring_theory.proofs.Subsets.{product_member}
-use Rattle.ring_theory.proofs.Solver.{ring, reads}
+use Rattle.ring_lemmas.proofs.Solver.{ring, reads}
 use Rattle.prime_theory.proofs.Products.{product_universal}
 
 -- p^exponent takes W into L and L into W

@@ -1,9 +1,9 @@
 -- Primes whose product, with exponents at least 1, is p·O are a prime system at p.
 use Rattle.std.proofs.Common.{ℕ, suc, ◌+◌, List, [], ◌∷◌, sym, subst, All}
 use Rattle.std.proofs.lemmas.List.Elements.{All-nil, All-cons, All-head, All-tail}
-use Rattle.ring_theory.specs.Ring.{CommRing, pow}
+use Rattle.ring_lemmas.specs.Ring.{CommRing, pow}
 use Rattle.ring_theory.specs.Subsets.{IsSubring, Product}
-use Rattle.ring_theory.proofs.Ring.{pow_add}
+use Rattle.ring_lemmas.proofs.Ring.{pow_add}
 use Rattle.ring_theory.proofs.Subsets.{product_member}
 use Rattle.prime_theory.specs.Ideals.{IsAdditive, Multiple, Power}
 use Rattle.prime_theory.specs.Systems.{IdealPower, IdealProduct, PrimeExponent, IsFamily, IsSystem}

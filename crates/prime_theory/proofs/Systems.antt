@@ -3,11 +3,11 @@ use Rattle.prime_theory.proofs.Lists.{any_one}
 use Rattle.ring_theory.proofs.Local.{power_in}
 use Rattle.std.proofs.Common.{◌≡◌, ◌⊎◌, inl, inr, ℕ, zero, suc, ◌+◌, ◌*◌, ◌≤◌, List, [], ◌∷◌, refl, sym, ap, ◌∙◌, subst, arith, All}
 use Rattle.std.proofs.lemmas.List.Elements.{All-nil, All-cons, All-head, All-tail, All-weaker}
-use Rattle.ring_theory.specs.Ring.{CommRing, pow}
+use Rattle.ring_lemmas.specs.Ring.{CommRing, pow}
 use Rattle.ring_theory.specs.Subsets.{IsSubring}
 use Rattle.ring_theory.specs.Integral.{IsIntegral}
-use Rattle.ring_theory.proofs.Ring.{one_mul, zero_mul, add_mul}
-use Rattle.ring_theory.proofs.Solver.{ring, reads}
+use Rattle.ring_lemmas.proofs.Ring.{one_mul, zero_mul, add_mul}
+use Rattle.ring_lemmas.proofs.Solver.{ring, reads}
 use Rattle.prime_theory.specs.Ideals.{IsIdeal, SameSet, Multiple, PowerIn}
 use Rattle.prime_theory.specs.Primes.{IsPrime, Outside, Pair, Different, AtLeast, Exactly}
 use Rattle.prime_theory.specs.Systems.{IdealProduct, PrimeExponent, IsFamily, IsSystem, Escapes, UnitModulo}

@@ -1,9 +1,9 @@
 -- Valuations at a prime with a pair: the rules.
 use Rattle.std.proofs.Common.{◌≡◌, ◌⊎◌, inl, inr, ℕ, zero, suc, ◌+◌, ◌*◌, ◌-◌, ◌≤◌, ◌<◌, [], ◌∷◌, refl, sym, ◌∙◌, ap, ap₂, subst, arith, zero-add, suc-add, add_comm, zero-mul}
-use Rattle.ring_theory.specs.Ring.{CommRing, pow}
+use Rattle.ring_lemmas.specs.Ring.{CommRing, pow}
 use Rattle.ring_theory.specs.Subsets.{IsSubring, IsModule}
-use Rattle.ring_theory.proofs.Ring.{mul_zero, zero_mul, one_mul, mul_left_comm, pow_add, mul_pow, mul_mul}
-use Rattle.ring_theory.proofs.Solver.{ring, reads, from_one}
+use Rattle.ring_lemmas.proofs.Ring.{mul_zero, zero_mul, one_mul, mul_left_comm, pow_add, mul_pow, mul_mul}
+use Rattle.ring_lemmas.proofs.Solver.{ring, reads, from_one}
 use Rattle.prime_theory.specs.Primes.{IsPrime, Outside, Pair, theta, Valued, AtLeast, Exactly}
 use Rattle.prime_theory.proofs.Primes.{outside_product, outside_power, outside_add, one_outside, in_prime}
 

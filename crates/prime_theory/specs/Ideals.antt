@@ -1,6 +1,6 @@
 -- Additive subsets, ideals of a subring, powers of subsets, and multiples of one element.
 use Rattle.std.specs.Prelude.{◌≡◌, ◌↔◌, ℕ, zero, suc}
-use Rattle.ring_theory.specs.Ring.{Operations, pow}
+use Rattle.ring_lemmas.specs.Ring.{Operations, pow}
 use Rattle.ring_theory.specs.Subsets.{Product, Colon}
 
 -- closed under 0 and +

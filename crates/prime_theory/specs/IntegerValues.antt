@@ -1,7 +1,7 @@
 -- Values in the integers: the pair of numbers that stands for an integer exponent.
 use Rattle.std.specs.Prelude.{ℕ, suc, ℤ}
 use Rattle.std.proofs.Common.{pos, negsuc}
-use Rattle.ring_theory.specs.Ring.{Operations}
+use Rattle.ring_lemmas.specs.Ring.{Operations}
 use Rattle.prime_theory.specs.Primes.{Pair, AtLeast, Exactly}
 use Rattle.prime_theory.specs.Systems.{IdealPower, PrimeExponent}
 

@@ -1,6 +1,6 @@
 -- Subrings that are maximal at an element p, radicals modulo p, and iterated colons.
-use Rattle.std.specs.Prelude.{ℕ, zero, suc}
-use Rattle.ring_theory.specs.Ring.{Operations, CommRing, pow}
+use Rattle.std.specs.Prelude.{ℕ, zero, suc, ◌≡◌, List, [], ◌∷◌}
+use Rattle.ring_lemmas.specs.Ring.{Operations, CommRing, pow}
 use Rattle.prime_theory.specs.Ideals.{Multiple, PowerIn}
 
 -- O has each z of Int that a power of p takes into O; Int stands for the integral elements
@@ -29,3 +29,13 @@ pub record Denominator {A : Type 0} (R : Operations A) (N O : A → Type 0) (p z
   pub cofactor : A
   pub cofactor_in : N cofactor
   pub multiple_in : O (R.◌⊗◌ (R.◌⊗◌ (pow R p exponent) cofactor) z)
+
+-- one enlargement for each member of a list
+abbrev pub EnlargedAt : {A : Type 0} → CommRing A → (A → Type 0) → List A → (A → Type 0) → A → Type 0
+EnlargedAt R Int [] O = O
+EnlargedAt R Int (p ∷ ps) O = EnlargedAt R Int ps (Enlarged R Int p O)
+
+-- d is a product of powers of the members of a list
+abbrev pub PowersOf : {A : Type 0} → CommRing A → List A → A → Type 0
+PowersOf R [] d = d ≡ R.𝟙
+PowersOf {A} R (p ∷ ps) d = (a : ℕ) × (c : A) × PowersOf R ps c × (d ≡ R.◌⊗◌ (pow R.ops p a) c)

@@ -1,6 +1,6 @@
 -- Maximal ideals of a ring B, and the valuation that their powers give.
 use Rattle.std.specs.Prelude.{ℕ}
-use Rattle.ring_theory.specs.Ring.{Operations}
+use Rattle.ring_lemmas.specs.Ring.{Operations}
 use Rattle.ring_theory.specs.Local.{Locally}
 use Rattle.prime_theory.specs.Ideals.{IsIdeal, Power}
 use Rattle.prime_theory.specs.Primes.{InverseModulo}

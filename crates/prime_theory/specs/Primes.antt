@@ -1,7 +1,7 @@
 -- Prime (maximal) ideals of a subring O, pairs of elements that stand for them, and valuations.
 -- An integer exponent is a difference a - b of numbers of ℕ, written as the two of them.
 use Rattle.std.specs.Prelude.{◌⊎◌, ℕ}
-use Rattle.ring_theory.specs.Ring.{Operations, pow}
+use Rattle.ring_lemmas.specs.Ring.{Operations, pow}
 use Rattle.prime_theory.specs.Ideals.{IsIdeal, Inverse}
 
 -- an inverse of u in O up to a member of P

@@ -1,9 +1,9 @@
 -- Localisation of modules at a prime, products of powers of primes, and prime systems at an element p.
 use Rattle.std.specs.Prelude.{◌≡◌, ◌⊎◌, ℕ, ◌+◌, List, [], ◌∷◌, All, AllPairs}
 use Rattle.std.proofs.Common.{inl, inr}
-use Rattle.ring_theory.specs.Ring.{Operations}
+use Rattle.ring_lemmas.specs.Ring.{Operations}
 use Rattle.ring_theory.specs.Subsets.{Product, Span}
-use Rattle.ring_theory.specs.Sums.{sum_over}
+use Rattle.ring_lemmas.specs.Sums.{sum_over}
 use Rattle.ring_theory.specs.Local.{Locally}
 use Rattle.prime_theory.specs.Orders.{Radical}
 use Rattle.prime_theory.specs.Ideals.{Inverse, Power, SameSet, Multiple, OneModulo, PowerIn}

@@ -6,8 +6,8 @@
 ghost use Rattle.std.specs.Prelude.{◌≡◌, ℕ, suc, ◌<◌, ℤ, ◌+ℤ◌, ◌⊎◌, List, ◌++◌, All, map, ◌↔◌};
 ghost use Rattle.std.specs.List.{Any};
 ghost use Rattle.std.proofs.Common.{pos, negsuc};
-ghost use Rattle.ring_theory.specs.Ring.{CommRing, pow};
-ghost use Rattle.ring_theory.specs.Sums.{sum_below};
+ghost use Rattle.ring_lemmas.specs.Ring.{CommRing, pow};
+ghost use Rattle.ring_lemmas.specs.Sums.{sum_below};
 ghost use Rattle.ring_theory.specs.Determinant.{determinant};
 ghost use Rattle.ring_theory.specs.Subsets.{IsSubring, IsModule, Span, Product, Colon};
 ghost use Rattle.ring_theory.specs.Integral.{IsIntegral};

@@ -1,13 +1,15 @@
 -- Constants and the variable among the polynomials over a field, and polynomials by their coefficients.
 use Rattle.std.proofs.Common.{◌≡◌, ℕ, zero, suc, ◌<◌, ◌≤◌, ◌⊎◌, inl, inr, [], ◌∷◌, length, refl, sym, ◌∙◌, ap, ap₂, arith}
-use Rattle.ring_theory.specs.Ring.{TestedRing, IsDomain, IsField}
-use Rattle.ring_theory.specs.Lists.{coeff_of}
-use Rattle.ring_theory.proofs.Ring.{zero_add, zero_mul, one_mul, field_domain}
-use Rattle.ring_theory.proofs.Sequences.{convolution_constant_left}
-use Rattle.ring_theory.proofs.Lists.{coeff_trim}
-use Rattle.ring_theory.specs.Polynomials.{Pol, pol_ops}
-use Rattle.ring_theory.proofs.Polynomials.{pol_ring, pol_domain, same_pol, series_add, series_mul, coeff_past}
-use Rattle.ring_theory.proofs.Division.{length_bound}
+use Rattle.ring_lemmas.specs.Ring.{TestedRing, IsDomain, IsField}
+use Rattle.ring_lemmas.specs.Lists.{coeff_of}
+use Rattle.ring_lemmas.proofs.Ring.{zero_add, zero_mul, one_mul, field_domain}
+use Rattle.ring_lemmas.proofs.Sequences.{convolution_constant_left}
+use Rattle.ring_lemmas.proofs.Lists.{coeff_trim}
+use Rattle.ring_lemmas.specs.Polynomials.{Pol, pol_ops}
+use Rattle.ring_theory.specs.PolynomialRing.{pol_ring}
+use Rattle.ring_theory.proofs.Polynomials.{pol_domain}
+use Rattle.ring_lemmas.proofs.Polynomials.{same_pol, series_add, series_mul, coeff_past}
+use Rattle.ring_lemmas.proofs.Division.{length_bound}
 use Rattle.linear_theory.specs.Fields.{Domain, Field}
 use Rattle.reduced_basis_theory.specs.Reduced.{variable, constant}
 

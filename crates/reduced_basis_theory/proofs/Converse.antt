@@ -2,15 +2,16 @@
 use Rattle.std.proofs.Common.{◌≡◌, ℕ, ◌+◌, ◌<◌, ◌↔◌, ℤ, pos, ◌+ℤ◌, ◌-ℤ◌, ◌≤ℤ◌, List, [], ◌∷◌, length, All, refl, sym, ◌∙◌, ap, ap₂, subst, arith}
 use Rattle.std.proofs.lemmas.List.Elements.{All-weaker}
 use Rattle.std.proofs.lemmas.Int.{ints}
-use Rattle.ring_theory.specs.Ring.{TestedRing, CommRing, IsField}
-use Rattle.ring_theory.proofs.Ring.{field_domain, eq_of_sub, neg_mul, one_mul}
-use Rattle.ring_theory.proofs.Solver.{reads}
-use Rattle.ring_theory.specs.Polynomials.{Pol}
-use Rattle.ring_theory.proofs.Polynomials.{pol_ring}
+use Rattle.ring_lemmas.specs.Ring.{TestedRing, CommRing, IsField}
+use Rattle.ring_lemmas.proofs.Ring.{field_domain, eq_of_sub, neg_mul, one_mul}
+use Rattle.ring_lemmas.proofs.Solver.{reads}
+use Rattle.ring_lemmas.specs.Polynomials.{Pol}
+use Rattle.ring_theory.specs.PolynomialRing.{pol_ring}
 use Rattle.linear_theory.specs.Fields.{domain_of}
 use Rattle.linear_theory.specs.Module.{Module, combine}
 use Rattle.linear_theory.specs.Basis.{IsCombination, IsNull, IsBasis}
-use Rattle.linear_theory.proofs.Lists.{entry, omit, remove, length_remove}
+use Rattle.linear_theory.specs.Lists.{entry, omit, remove}
+use Rattle.linear_theory.proofs.Lists.{length_remove}
 use Rattle.linear_theory.proofs.Module.{linear, parts, vector, scalar, plus_negative}
 use Rattle.linear_theory.proofs.Combination.{combine_omit, combine_linear, combine_scale}
 use Rattle.linear_theory.proofs.Exchange.{exchange, exchange_multiples}

@@ -1,10 +1,10 @@
 -- The elements x^j·b_i with j at most m - d_i are a basis, over the constants, of the intersection of I with x^m·N.
 use Rattle.std.proofs.Common.{◌≡◌, ℕ, ◌<◌, ◌≤◌, ℤ, ◌+ℤ◌, ◌-ℤ◌, List, length, refl, sym, ◌∙◌, ap, subst, arith}
 use Rattle.std.proofs.lemmas.Int.{ints}
-use Rattle.ring_theory.specs.Ring.{TestedRing, IsField}
-use Rattle.ring_theory.proofs.Ring.{field_domain}
-use Rattle.ring_theory.specs.Polynomials.{Pol}
-use Rattle.ring_theory.proofs.Polynomials.{pol_ring}
+use Rattle.ring_lemmas.specs.Ring.{TestedRing, IsField}
+use Rattle.ring_lemmas.proofs.Ring.{field_domain}
+use Rattle.ring_lemmas.specs.Polynomials.{Pol}
+use Rattle.ring_theory.specs.PolynomialRing.{pol_ring}
 use Rattle.linear_theory.specs.Module.{Module, combine}
 use Rattle.linear_theory.specs.Basis.{IsNull, IsBasis}
 use Rattle.reduced_basis_theory.specs.Degree.{size, degree, total}

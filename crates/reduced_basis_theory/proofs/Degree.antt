@@ -1,10 +1,10 @@
 -- Degrees of sums and products of polynomials, with integers as bounds.
-use Rattle.std.proofs.Common.{◌≡◌, ℕ, suc, ◌+◌, ◌<◌, ◌≤◌, ◌⊎◌, inl, inr, [], ◌∷◌, length, ℤ, pos, negsuc, ◌+ℤ◌, refl, ◌∙◌, ap, arith}
+use Rattle.std.proofs.Common.{◌≡◌, ℕ, suc, ◌+◌, ◌<◌, ◌≤◌, ◌⊎◌, inl, inr, [], ◌∷◌, length, ℤ, pos, negsuc, ◌+ℤ◌, refl, ◌∙◌, ap, arith, ◌<ℤ◌, ◌≤ℤ◌}
 use Rattle.std.proofs.lemmas.Int.{ints}
-use Rattle.std.proofs.Common.{◌<ℤ◌, ◌≤ℤ◌}
-use Rattle.ring_theory.specs.Ring.{TestedRing, IsDomain}
-use Rattle.ring_theory.specs.Polynomials.{Pol, pol_ops}
-use Rattle.ring_theory.proofs.Polynomials.{pol_ring, same_pol, length_mul}
+use Rattle.ring_lemmas.specs.Ring.{TestedRing, IsDomain}
+use Rattle.ring_lemmas.specs.Polynomials.{Pol, pol_ops}
+use Rattle.ring_theory.specs.PolynomialRing.{pol_ring}
+use Rattle.ring_lemmas.proofs.Polynomials.{same_pol, length_mul}
 use Rattle.ring_theory.proofs.Division.{length_add}
 use Rattle.reduced_basis_theory.specs.Degree.{size, DegreeAtMost, degree}
 

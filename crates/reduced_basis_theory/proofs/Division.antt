@@ -1,7 +1,7 @@
 -- Division by powers of the variable, where the variable acts with an inverse.
 use Rattle.std.proofs.Common.{◌≡◌, ℕ, zero, suc, ◌∙◌, ap}
-use Rattle.ring_theory.specs.Ring.{TestedRing, IsField}
-use Rattle.ring_theory.proofs.Polynomials.{pol_ring}
+use Rattle.ring_lemmas.specs.Ring.{TestedRing, IsField}
+use Rattle.ring_theory.specs.PolynomialRing.{pol_ring}
 use Rattle.linear_theory.specs.Module.{Module}
 use Rattle.reduced_basis_theory.specs.Reduced.{variable, divided, HasDivision}
 use Rattle.reduced_basis_theory.proofs.Powers.{power}

@@ -1,9 +1,9 @@
 -- The dual of the dual is the pair itself, and the sum of the degrees of a dual lattice in a fixed family.
 use Rattle.std.proofs.Common.{◌≡◌, ℕ, ◌↔◌, ℤ, pos, ◌+ℤ◌, ◌-ℤ◌, List, sym, subst, arith}
 use Rattle.std.proofs.lemmas.Int.{ints}
-use Rattle.ring_theory.specs.Ring.{TestedRing, CommRing, IsField}
-use Rattle.ring_theory.specs.Polynomials.{Pol}
-use Rattle.ring_theory.proofs.Polynomials.{pol_ring}
+use Rattle.ring_lemmas.specs.Ring.{TestedRing, CommRing, IsField}
+use Rattle.ring_lemmas.specs.Polynomials.{Pol}
+use Rattle.ring_theory.specs.PolynomialRing.{pol_ring}
 use Rattle.linear_theory.specs.Module.{Module}
 use Rattle.reduced_basis_theory.specs.Degree.{DegreeAtMost, degree, degree_sum}
 use Rattle.reduced_basis_theory.specs.Reduced.{IsReducedBasisOfPair}

@@ -2,12 +2,12 @@
 use Rattle.std.proofs.Common.{◌≡◌, ℕ, zero, suc, ◌<◌, ℤ, ◌+ℤ◌, ◌-ℤ◌, List, [], ◌∷◌, length, All, refl, sym, ◌∙◌, ap, ap₂, subst, arith}
 use Rattle.std.proofs.lemmas.List.Elements.{All-head, All-tail}
 use Rattle.std.proofs.lemmas.Int.{ints}
-use Rattle.ring_theory.specs.Ring.{TestedRing, CommRing, IsField}
-use Rattle.ring_theory.proofs.Ring.{field_domain, product_not_zero, mul_left_comm}
-use Rattle.ring_theory.specs.Polynomials.{Pol}
-use Rattle.ring_theory.proofs.Polynomials.{pol_ring}
+use Rattle.ring_lemmas.specs.Ring.{TestedRing, CommRing, IsField}
+use Rattle.ring_lemmas.proofs.Ring.{field_domain, product_not_zero, mul_left_comm}
+use Rattle.ring_lemmas.specs.Polynomials.{Pol}
+use Rattle.ring_theory.specs.PolynomialRing.{pol_ring}
 use Rattle.linear_theory.specs.Module.{Module, combine}
-use Rattle.linear_theory.proofs.Lists.{entry, insert}
+use Rattle.linear_theory.specs.Lists.{entry, insert}
 use Rattle.reduced_basis_theory.specs.Degree.{DegreeAtMost, degree}
 use Rattle.reduced_basis_theory.specs.Reduced.{InLattice, Coordinates, CoordinatesAtMost, IsReducedBasisOfPair, IsReducedAt}
 use Rattle.reduced_basis_theory.specs.Dual.{AreFractions, IsSymmetricForm, DualLattice, DualFamily, IsDualBasis, dot, negated}

@@ -1,14 +1,13 @@
 -- Each basis has a dual basis, where V can be divided by polynomials: by a linear relation between the forms.
 use Rattle.std.proofs.Common.{◌≡◌, ℕ, zero, suc, ◌<◌, List, [], ◌∷◌, length, map, refl, sym, ◌∙◌, ap, ap₂, subst, arith}
 use Rattle.std.proofs.lemmas.List.{length-map}
-use Rattle.ring_theory.specs.Ring.{TestedRing, CommRing, IsField}
-use Rattle.ring_theory.proofs.Ring.{neg_unique, neg_mul, neg_neg, neg_zero, zero_mul, zero_add}
-use Rattle.ring_theory.specs.Polynomials.{Pol}
-use Rattle.ring_theory.proofs.Polynomials.{pol_ring}
+use Rattle.ring_lemmas.specs.Ring.{TestedRing, CommRing, IsField}
+use Rattle.ring_lemmas.proofs.Ring.{neg_unique, neg_mul, neg_neg, neg_zero, zero_mul, zero_add}
+use Rattle.ring_lemmas.specs.Polynomials.{Pol}
+use Rattle.ring_theory.specs.PolynomialRing.{pol_ring}
 use Rattle.linear_theory.specs.Module.{Module, combine, sequence_ops}
 use Rattle.linear_theory.specs.Basis.{Relation}
-use Rattle.linear_theory.proofs.Lists.{entry, insert}
-use Rattle.linear_theory.proofs.Elimination.{tabulate}
+use Rattle.linear_theory.specs.Lists.{entry, insert, tabulate}
 use Rattle.linear_theory.proofs.Relation.{relation}
 use Rattle.reduced_basis_theory.specs.Reduced.{Coordinates}
 use Rattle.reduced_basis_theory.specs.Dual.{AreFractions, IsSymmetricForm, IsDualBasis}

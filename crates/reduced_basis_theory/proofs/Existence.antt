@@ -2,11 +2,11 @@
 -- reduced basis for the other.
 use Rattle.std.proofs.Common.{◌≡◌, ℕ, zero, suc, ◌<◌, ◌≤◌, ◌+◌, ◌-◌, ◌↔◌, ℤ, pos, ◌+ℤ◌, ◌-ℤ◌, List, [], ◌∷◌, length, refl, sym, ◌∙◌, ap, ap₂, subst, arith}
 use Rattle.std.proofs.lemmas.Int.{ints}
-use Rattle.ring_theory.specs.Ring.{TestedRing, IsField}
-use Rattle.ring_theory.specs.Rows.{Row, entry}
-use Rattle.ring_theory.proofs.Ring.{field_domain, product_not_zero, domain_cancel, mul_left_comm, pow_add}
-use Rattle.ring_theory.specs.Polynomials.{Pol}
-use Rattle.ring_theory.proofs.Polynomials.{pol_ring}
+use Rattle.ring_lemmas.specs.Ring.{TestedRing, IsField}
+use Rattle.ring_lemmas.specs.Rows.{Row, entry}
+use Rattle.ring_lemmas.proofs.Ring.{field_domain, product_not_zero, domain_cancel, mul_left_comm, pow_add}
+use Rattle.ring_lemmas.specs.Polynomials.{Pol}
+use Rattle.ring_theory.specs.PolynomialRing.{pol_ring}
 use Rattle.linear_theory.specs.Module.{Module, combine}
 use Rattle.linear_theory.proofs.Module.{scale_zero}
 use Rattle.linear_theory.proofs.Combination.{combine_zero, combine_linear, combine_scale, combine_cong}
@@ -18,7 +18,8 @@ use Rattle.popov_theory.proofs.PopovForm.{tabulate_at, tabulate_length, popov_we
 use Rattle.popov_theory.proofs.PredictableDegree.{coefficients_zero}
 use Rattle.popov_theory.proofs.Measure.{zero_row}
 use Rattle.popov_theory.proofs.Existence.{popov_basis}
-use Rattle.popov_theory.proofs.PolynomialRows.{row_width, row_module_zero, row_module_scale, entry_zero, entry_scale, same_entries}
+use Rattle.popov_theory.proofs.PolynomialRows.{row_width, row_module_zero, row_module_scale}
+use Rattle.ring_theory.proofs.PolynomialRows.{entry_zero, entry_scale, same_entries}
 use Rattle.reduced_basis_theory.specs.Degree.{DegreeAtMost, degree, size, total}
 use Rattle.reduced_basis_theory.specs.Reduced.{InLattice, Coordinates, CoordinatesAtMost, IsReducedAt, IsReducedBasisOfPair, IsLatticeBasis}
 use Rattle.reduced_basis_theory.specs.Rows.{from_rows, row_times, IsPredictable}
@@ -33,7 +34,7 @@ use Rattle.reduced_basis_theory.proofs.WeightedRows.{Rows, weighted, entry_weigh
 
 -- the member of a list at i
 abbrev member : {V : Type 0} → V → List V → ℕ → V
-member z vs i = Rattle.linear_theory.proofs.Lists.entry z vs i
+member z vs i = Rattle.linear_theory.specs.Lists.entry z vs i
 
 total_member : (n : ℕ) (a : ℕ → ℕ) (j : ℕ) → j < n → a j ≤ total n a
 total_member zero a j l = absurd (omega arith)
@@ -291,7 +292,7 @@ module _ {C V : Type 0} (k : TestedRing C) (field : IsField k.ops) (M : Module (
         (combine_form c
         ∙ same_entries k (suc n) _ _ (λ j l'.
         entry_weighted k field n u some (row_times k (suc n) c B) j l' ∙ ap (λ y. u j ⊗ y) (zero j l')
-        ∙ Rattle.ring_theory.proofs.Ring.mul_zero (pol_ring k).ring (u j)
+        ∙ Rattle.ring_lemmas.proofs.Ring.mul_zero (pol_ring k).ring (u j)
         ∙ sym (entry_zero k (suc n) j))
         ∙ sym (row_module_zero k n))
         i (subst (λ x. i < x) (sym form_length) l)

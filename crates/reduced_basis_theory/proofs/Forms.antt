@@ -1,11 +1,11 @@
 -- Forms of combinations, and elements that are told apart by their forms with a basis.
 use Rattle.std.proofs.Common.{◌≡◌, ℕ, zero, suc, ◌<◌, ℤ, List, [], ◌∷◌, length, refl, sym, ◌∙◌, ap, ap₂, arith}
-use Rattle.ring_theory.specs.Ring.{TestedRing, CommRing, IsField}
-use Rattle.ring_theory.proofs.Ring.{field_domain, zero_mul, mul_zero, zero_add, product_not_zero}
-use Rattle.ring_theory.specs.Polynomials.{Pol}
-use Rattle.ring_theory.proofs.Polynomials.{pol_ring}
+use Rattle.ring_lemmas.specs.Ring.{TestedRing, CommRing, IsField}
+use Rattle.ring_lemmas.proofs.Ring.{field_domain, zero_mul, mul_zero, zero_add, product_not_zero}
+use Rattle.ring_lemmas.specs.Polynomials.{Pol}
+use Rattle.ring_theory.specs.PolynomialRing.{pol_ring}
 use Rattle.linear_theory.specs.Module.{Module, combine}
-use Rattle.linear_theory.proofs.Lists.{entry, insert}
+use Rattle.linear_theory.specs.Lists.{entry, insert}
 use Rattle.reduced_basis_theory.specs.Degree.{DegreeAtMost}
 use Rattle.reduced_basis_theory.specs.Reduced.{Coordinates}
 use Rattle.reduced_basis_theory.specs.Dual.{PolynomialFraction, AreFractions, IsSymmetricForm, dot}

@@ -2,13 +2,13 @@
 -- them.
 use Rattle.std.proofs.Common.{◌≡◌, ℕ, zero, suc, ◌<◌, ℤ, ◌+ℤ◌, ◌-ℤ◌, ◌≤ℤ◌, List, [], ◌∷◌, length, refl, sym, ◌∙◌, ap, ap₂, subst, arith}
 use Rattle.std.proofs.lemmas.Int.{ints}
-use Rattle.ring_theory.specs.Ring.{TestedRing, CommRing, IsField}
-use Rattle.ring_theory.proofs.Ring.{field_domain, product_not_zero}
-use Rattle.ring_theory.proofs.Solver.{reads}
-use Rattle.ring_theory.specs.Polynomials.{Pol}
-use Rattle.ring_theory.proofs.Polynomials.{pol_ring}
+use Rattle.ring_lemmas.specs.Ring.{TestedRing, CommRing, IsField}
+use Rattle.ring_lemmas.proofs.Ring.{field_domain, product_not_zero}
+use Rattle.ring_lemmas.proofs.Solver.{reads}
+use Rattle.ring_lemmas.specs.Polynomials.{Pol}
+use Rattle.ring_theory.specs.PolynomialRing.{pol_ring}
 use Rattle.linear_theory.specs.Module.{Module, combine}
-use Rattle.linear_theory.proofs.Lists.{entry, insert, remove}
+use Rattle.linear_theory.specs.Lists.{entry, insert, remove}
 use Rattle.linear_theory.proofs.Module.{linear, parts, vector, scalar, scale_zero}
 use Rattle.linear_theory.proofs.Combination.{combine_insert, combine_zero, combine_scale, combine_linear}
 use Rattle.reduced_basis_theory.specs.Degree.{DegreeAtMost, degree}

@@ -1,15 +1,17 @@
 -- The index of one lattice in another, and of one family in another, is the difference of the sums of the degrees.
 use Rattle.std.proofs.Common.{◌≡◌, ℕ, ◌-◌, ◌<◌, ◌≤◌, ℤ, pos, ◌+ℤ◌, ◌-ℤ◌, List, [], ◌∷◌, length, refl, sym, ◌∙◌, ap, ap₂, subst, arith}
 use Rattle.std.proofs.lemmas.Int.{ints}
-use Rattle.ring_theory.specs.Ring.{TestedRing, CommRing, IsField}
-use Rattle.ring_theory.specs.Lists.{coeff_of, rest_from, quotient_from}
-use Rattle.ring_theory.proofs.Ring.{field_domain}
-use Rattle.ring_theory.proofs.Sequences.{convolution_comm}
-use Rattle.ring_theory.proofs.Solver.{reads}
-use Rattle.ring_theory.proofs.Lists.{coeff_trim}
-use Rattle.ring_theory.specs.Polynomials.{Pol, pol_of}
-use Rattle.ring_theory.proofs.Polynomials.{pol_ring, same_pol, series_add, series_mul, coeff_top}
-use Rattle.ring_theory.proofs.Division.{divided, rest_ends, length_bound, length_neg}
+use Rattle.ring_lemmas.specs.Ring.{TestedRing, CommRing, IsField}
+use Rattle.ring_lemmas.specs.Lists.{coeff_of, rest_from, quotient_from}
+use Rattle.ring_lemmas.proofs.Ring.{field_domain}
+use Rattle.ring_lemmas.proofs.Sequences.{convolution_comm}
+use Rattle.ring_lemmas.proofs.Solver.{reads}
+use Rattle.ring_lemmas.proofs.Lists.{coeff_trim}
+use Rattle.ring_lemmas.specs.Polynomials.{Pol, pol_of}
+use Rattle.ring_theory.specs.PolynomialRing.{pol_ring}
+use Rattle.ring_lemmas.proofs.Polynomials.{same_pol, series_add, series_mul, coeff_top}
+use Rattle.ring_lemmas.proofs.Division.{divided, rest_ends, length_bound}
+use Rattle.ring_theory.proofs.Division.{length_neg}
 use Rattle.linear_theory.specs.Module.{Module, combine}
 use Rattle.linear_theory.specs.Basis.{IsBasis, IsNull, IsSum}
 use Rattle.linear_theory.proofs.Module.{linear, parts, vector, scalar}
@@ -43,7 +45,7 @@ module _ {C : Type 0} (k : TestedRing C) (field : IsField k.ops) where
           let top_nonzero : ¬ (coeff_of k.ops e.0 (length e.0 - 1) ≡ k.𝟘)
           = subst (λ ys. ¬ (coeff_of k.ops ys (length ys - 1) ≡ k.𝟘)) (sym is)
           (subst (λ j. ¬ (coeff_of k.ops (x ∷ xs) j ≡ k.𝟘)) (let w : length xs ≡ length (x ∷ xs) - 1 = omega arith in w)
-          (coeff_top k x xs (subst (λ ys. Rattle.ring_theory.specs.Lists.IsTrimmed k.is_zero ys) is e.1))) in
+          (coeff_top k x xs (subst (λ ys. Rattle.ring_lemmas.specs.Lists.IsTrimmed k.is_zero ys) is e.1))) in
           let i = field.inverse (coeff_of k.ops e.0 (length e.0 - 1)) top_nonzero in
           let q = pol_of k (quotient_from k.ops e.0 i.0 a.0) in
           let r = pol_of k (rest_from k.ops e.0 i.0 a.0) in
@@ -65,7 +67,7 @@ module _ {C : Type 0} (k : TestedRing C) (field : IsField k.ops) where
               ∙ sym (series_add k _ _ n
               ∙ ap₂ k.◌⊕◌
               (series_mul k e _ n ∙ convolution_comm k.ring _ _ n
-              ∙ ap (λ f. Rattle.ring_theory.specs.Lists.convolution k.ops f (series k e) n)
+              ∙ ap (λ f. Rattle.ring_lemmas.specs.Lists.convolution k.ops f (series k e) n)
               (mathlib.Core.Path.fun_ext (coeff_trim k (quotient_from k.ops e.0 v a.0))))
               (coeff_trim k (rest_from k.ops e.0 v a.0) n))
 

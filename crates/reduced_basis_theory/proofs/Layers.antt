@@ -3,11 +3,11 @@
 use Rattle.std.proofs.Common.{◌≡◌, ℕ, zero, suc, ◌+◌, ◌<◌, ◌≤◌, ◌-◌, ◌⊎◌, inl, inr, List, [], ◌∷◌, length, All, refl, sym, ◌∙◌, ap, ap₂, subst, arith}
 use Rattle.std.proofs.lemmas.List.{length-append}
 use Rattle.std.proofs.lemmas.List.Elements.{All-nil, All-cons}
-use Rattle.ring_theory.specs.Ring.{TestedRing, CommRing}
-use Rattle.ring_theory.specs.Polynomials.{Pol}
-use Rattle.ring_theory.proofs.Polynomials.{pol_ring}
+use Rattle.ring_lemmas.specs.Ring.{TestedRing, CommRing}
+use Rattle.ring_lemmas.specs.Polynomials.{Pol}
+use Rattle.ring_theory.specs.PolynomialRing.{pol_ring}
 use Rattle.linear_theory.specs.Module.{Module, combine}
-use Rattle.linear_theory.proofs.Lists.{insert, join}
+use Rattle.linear_theory.specs.Lists.{insert, join}
 use Rattle.linear_theory.proofs.Module.{zero_plus}
 use Rattle.linear_theory.proofs.Combination.{combine_append, combine_join, combine_cong, combine_zero}
 use Rattle.reduced_basis_theory.specs.Degree.{total}

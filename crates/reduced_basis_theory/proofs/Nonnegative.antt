@@ -2,13 +2,14 @@
 use Rattle.std.proofs.Common.{◌≡◌, ℕ, zero, suc, ◌<◌, ℤ, pos, ◌-ℤ◌, ◌≤ℤ◌, ◌<ℤ◌, List, length, All, refl, sym, ◌∙◌, ap, subst, arith}
 use Rattle.std.proofs.lemmas.List.Elements.{All-nil, All-cons, All-weaker}
 use Rattle.std.proofs.lemmas.Int.{ints, by_lt_z}
-use Rattle.ring_theory.specs.Ring.{TestedRing, CommRing, IsField}
-use Rattle.ring_theory.specs.Polynomials.{Pol}
-use Rattle.ring_theory.proofs.Polynomials.{pol_ring}
+use Rattle.ring_lemmas.specs.Ring.{TestedRing, CommRing, IsField}
+use Rattle.ring_lemmas.specs.Polynomials.{Pol}
+use Rattle.ring_theory.specs.PolynomialRing.{pol_ring}
 use Rattle.linear_theory.specs.Fields.{domain_of}
 use Rattle.linear_theory.specs.Module.{Module, IsLinear}
 use Rattle.linear_theory.specs.Basis.{IsCombination, IsNull}
-use Rattle.linear_theory.proofs.Lists.{entry, insert, insert_here}
+use Rattle.linear_theory.specs.Lists.{entry, insert}
+use Rattle.linear_theory.proofs.Lists.{insert_here}
 use Rattle.linear_theory.proofs.Module.{scale_zero}
 use Rattle.linear_theory.proofs.Combination.{linear_zero}
 use Rattle.linear_theory.proofs.Exchange.{exchange}

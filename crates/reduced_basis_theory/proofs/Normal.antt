@@ -1,10 +1,10 @@
 -- The multiples x^(-d i)·b i of a reduced basis are a basis of N over the fractions of degree at most 0.
 use Rattle.std.proofs.Common.{◌≡◌, ℕ, suc, ◌<◌, ◌↔◌, ℤ, pos, negsuc, ◌+ℤ◌, ◌-ℤ◌, List, sym, ◌∙◌, ap, subst, arith}
 use Rattle.std.proofs.lemmas.Int.{ints}
-use Rattle.ring_theory.specs.Ring.{TestedRing, CommRing, IsField}
-use Rattle.ring_theory.proofs.Ring.{field_domain, product_not_zero, one_mul}
-use Rattle.ring_theory.specs.Polynomials.{Pol}
-use Rattle.ring_theory.proofs.Polynomials.{pol_ring}
+use Rattle.ring_lemmas.specs.Ring.{TestedRing, CommRing, IsField}
+use Rattle.ring_lemmas.proofs.Ring.{field_domain, product_not_zero, one_mul}
+use Rattle.ring_lemmas.specs.Polynomials.{Pol}
+use Rattle.ring_theory.specs.PolynomialRing.{pol_ring}
 use Rattle.linear_theory.specs.Module.{Module, combine}
 use Rattle.reduced_basis_theory.specs.Degree.{DegreeAtMost, degree}
 use Rattle.reduced_basis_theory.specs.Reduced.{IsReducedAt}

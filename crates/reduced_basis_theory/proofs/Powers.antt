@@ -1,11 +1,12 @@
 -- Powers of the variable: polynomials of each degree.
 use Rattle.std.proofs.Common.{◌≡◌, ℕ, zero, suc, ◌<◌, [], ◌∷◌, length, pos, sym, ◌∙◌, ap, arith}
 use Rattle.std.proofs.lemmas.Int.{ints}
-use Rattle.ring_theory.specs.Ring.{TestedRing, IsField, pow}
-use Rattle.ring_theory.proofs.Ring.{field_domain}
-use Rattle.ring_theory.proofs.Lists.{coeff_trim}
-use Rattle.ring_theory.specs.Polynomials.{Pol}
-use Rattle.ring_theory.proofs.Polynomials.{pol_ring, length_from_top}
+use Rattle.ring_lemmas.specs.Ring.{TestedRing, IsField, pow}
+use Rattle.ring_lemmas.proofs.Ring.{field_domain}
+use Rattle.ring_lemmas.proofs.Lists.{coeff_trim}
+use Rattle.ring_lemmas.specs.Polynomials.{Pol}
+use Rattle.ring_theory.specs.PolynomialRing.{pol_ring}
+use Rattle.ring_lemmas.proofs.Polynomials.{length_from_top}
 use Rattle.reduced_basis_theory.specs.Degree.{degree}
 use Rattle.reduced_basis_theory.specs.Reduced.{variable}
 use Rattle.reduced_basis_theory.proofs.Degree.{length_product, length_zero}

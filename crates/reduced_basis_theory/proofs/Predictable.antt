@@ -1,9 +1,9 @@
 -- A matrix with predictable degrees makes a reduced basis out of a reduced one.
 use Rattle.std.proofs.Common.{◌≡◌, ℕ, zero, suc, ◌<◌, ℤ, ◌+ℤ◌, ◌-ℤ◌, List, sym, ◌∙◌, ap, subst, arith}
 use Rattle.std.proofs.lemmas.Int.{ints}
-use Rattle.ring_theory.specs.Ring.{TestedRing}
-use Rattle.ring_theory.specs.Polynomials.{Pol}
-use Rattle.ring_theory.proofs.Polynomials.{pol_ring}
+use Rattle.ring_lemmas.specs.Ring.{TestedRing}
+use Rattle.ring_lemmas.specs.Polynomials.{Pol}
+use Rattle.ring_theory.specs.PolynomialRing.{pol_ring}
 use Rattle.linear_theory.specs.Module.{Module, combine}
 use Rattle.linear_theory.proofs.Combination.{combine_zero, combine_linear}
 use Rattle.reduced_basis_theory.specs.Degree.{DegreeAtMost, degree}

@@ -4,7 +4,7 @@ use Rattle.std.proofs.lemmas.List.{length-append, length-map}
 use Rattle.linear_theory.specs.Fields.{Field, domain_of}
 use Rattle.linear_theory.specs.Module.{Module, combine, IsLinear}
 use Rattle.linear_theory.specs.Basis.{IsBasis, IsNull, IsSubspace}
-use Rattle.linear_theory.proofs.Lists.{join}
+use Rattle.linear_theory.specs.Lists.{join}
 use Rattle.linear_theory.proofs.Combination.{combine_append, combine_join, combine_cong, combine_map}
 use Rattle.linear_theory.proofs.Bases.{combine_in}
 use Rattle.linear_theory.proofs.Exchange.{bases_same_length}

@@ -1,9 +1,9 @@
 -- The lattice I, the members N m of the family, and their intersections are spaces over the constants.
 use Rattle.std.proofs.Common.{◌≡◌, ℕ, ◌↔◌, ℤ, pos, ◌+ℤ◌, List, length, sym, ◌∙◌, ap, ap₂, subst, arith}
 use Rattle.std.proofs.lemmas.Int.{ints}
-use Rattle.ring_theory.specs.Ring.{TestedRing, IsField}
-use Rattle.ring_theory.specs.Polynomials.{Pol}
-use Rattle.ring_theory.proofs.Polynomials.{pol_ring}
+use Rattle.ring_lemmas.specs.Ring.{TestedRing, IsField}
+use Rattle.ring_lemmas.specs.Polynomials.{Pol}
+use Rattle.ring_theory.specs.PolynomialRing.{pol_ring}
 use Rattle.linear_theory.specs.Module.{Module}
 use Rattle.linear_theory.specs.Basis.{IsSubspace}
 use Rattle.linear_theory.proofs.Combination.{combine_zero, combine_sum, combine_scale}

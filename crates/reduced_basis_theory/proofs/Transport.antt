@@ -2,9 +2,9 @@
 use Rattle.std.proofs.Common.{◌≡◌, ℕ, zero, suc, ◌+◌, ◌↔◌, ℤ, pos, ◌+ℤ◌, ◌-ℤ◌, List, map, sym, ◌∙◌, ap, subst, arith}
 use Rattle.std.proofs.lemmas.List.{length-map}
 use Rattle.std.proofs.lemmas.Int.{ints}
-use Rattle.ring_theory.specs.Ring.{TestedRing}
-use Rattle.ring_theory.specs.Polynomials.{Pol}
-use Rattle.ring_theory.proofs.Polynomials.{pol_ring}
+use Rattle.ring_lemmas.specs.Ring.{TestedRing}
+use Rattle.ring_lemmas.specs.Polynomials.{Pol}
+use Rattle.ring_theory.specs.PolynomialRing.{pol_ring}
 use Rattle.linear_theory.specs.Module.{Module, combine, IsLinear}
 use Rattle.linear_theory.proofs.Combination.{combine_map, linear_zero}
 use Rattle.reduced_basis_theory.specs.Degree.{DegreeAtMost, degree, degree_sum}

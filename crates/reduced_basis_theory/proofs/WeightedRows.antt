@@ -4,12 +4,13 @@ use Rattle.std.proofs.Common.{◌≡◌, ℕ, zero, suc, ◌<◌, ◌≤◌, ◌
 use Rattle.std.proofs.lemmas.Nat.{div-add-mod', mod_below, le-div}
 use Rattle.std.proofs.lemmas.Bool.{cases_lt}
 use Rattle.std.proofs.lemmas.Int.{ints}
-use Rattle.ring_theory.specs.Ring.{TestedRing, IsField}
-use Rattle.ring_theory.specs.Lists.{coeff_of}
-use Rattle.ring_theory.specs.Rows.{Row, row_add, row_scale, entry}
-use Rattle.ring_theory.proofs.Ring.{field_domain, domain_cancel, mul_left_comm, mul_zero}
-use Rattle.ring_theory.specs.Polynomials.{Pol}
-use Rattle.ring_theory.proofs.Polynomials.{pol_ring, coeff_past, coeff_top}
+use Rattle.ring_lemmas.specs.Ring.{TestedRing, IsField}
+use Rattle.ring_lemmas.specs.Lists.{coeff_of}
+use Rattle.ring_lemmas.specs.Rows.{Row, row_add, row_scale, entry}
+use Rattle.ring_lemmas.proofs.Ring.{field_domain, domain_cancel, mul_left_comm, mul_zero}
+use Rattle.ring_lemmas.specs.Polynomials.{Pol}
+use Rattle.ring_theory.specs.PolynomialRing.{pol_ring}
+use Rattle.ring_lemmas.proofs.Polynomials.{coeff_past, coeff_top}
 use Rattle.popov_theory.specs.Module.{PolynomialModule, measure, pivot, row_degree}
 use Rattle.popov_theory.specs.Span.{combine, row_at}
 use Rattle.popov_theory.specs.Popov.{IsWeakPopov}
@@ -17,7 +18,9 @@ use Rattle.popov_theory.proofs.Module.{zero_scale}
 use Rattle.popov_theory.proofs.Positions.{row_le}
 use Rattle.popov_theory.proofs.Measure.{measure_past, measure_bound, zero_row, measure_scale, measure_parts}
 use Rattle.popov_theory.proofs.PredictableDegree.{predict}
-use Rattle.popov_theory.proofs.PolynomialRows.{row_module, row_width, row_entry, row_module_zero, row_module_add, row_module_scale, entry_zero, entry_add, entry_scale, same_entries}
+use Rattle.popov_theory.specs.RowModule.{row_module}
+use Rattle.popov_theory.proofs.PolynomialRows.{row_width, row_entry, row_module_zero, row_module_add, row_module_scale}
+use Rattle.ring_theory.proofs.PolynomialRows.{entry_zero, entry_add, entry_scale, same_entries}
 use Rattle.reduced_basis_theory.specs.Degree.{DegreeAtMost, degree, size}
 use Rattle.reduced_basis_theory.specs.Rows.{row_times, IsPredictable}
 use Rattle.reduced_basis_theory.proofs.Degree.{size_least, size_greatest, degree_of_zero, decide_zero, degree_product, degree_cancel, degree_own}

@@ -1,9 +1,9 @@
 -- A ring V over the polynomials with a trace form, pairs of lattices that are modules over a pair, and canonical pairs
 -- (H. Stichtenoth, Algebraic Function Fields and Codes, sections 1.5 and 3.4).
 use Rattle.std.specs.Prelude.{◌≡◌, ◌↔◌, ℤ, pos, ◌+ℤ◌, ◌-ℤ◌}
-use Rattle.ring_theory.specs.Ring.{Operations, TestedRing}
+use Rattle.ring_lemmas.specs.Ring.{Operations, TestedRing}
 use Rattle.ring_theory.specs.Subsets.{Colon}
-use Rattle.ring_theory.specs.Polynomials.{Pol}
+use Rattle.ring_lemmas.specs.Polynomials.{Pol}
 use Rattle.linear_theory.specs.Module.{ModuleOps, IsLinear}
 use Rattle.reduced_basis_theory.specs.Dual.{AreFractions, IsSymmetricForm, DualLattice, DualFamily}
 

@@ -1,7 +1,7 @@
 -- Polynomials of bounded degree, where the bound is an integer, and sums of degrees.
 use Rattle.std.specs.Prelude.{ℕ, zero, suc, ◌+◌, ◌<◌, ◌≤◌, ℤ, pos, negsuc, ◌+ℤ◌, ◌-ℤ◌, ◌≤ℤ◌, length}
-use Rattle.ring_theory.specs.Ring.{TestedRing}
-use Rattle.ring_theory.specs.Polynomials.{Pol}
+use Rattle.ring_lemmas.specs.Ring.{TestedRing}
+use Rattle.ring_lemmas.specs.Polynomials.{Pol}
 
 -- the number of the coefficients of a polynomial whose degree is at most m: m + 1, or 0 for a negative m
 unfoldable pub size : ℤ → ℕ

@@ -1,10 +1,10 @@
 -- A symmetric form with values in the fractions of the polynomials, and the duals of lattices, families and bases.
 use Rattle.std.specs.Prelude.{◌≡◌, ℕ, zero, suc, ◌<◌, ℤ, pos, negsuc, ◌+ℤ◌, ◌-ℤ◌, List, length}
-use Rattle.ring_theory.specs.Ring.{Operations, TestedRing, pow}
-use Rattle.ring_theory.specs.Polynomials.{Pol}
-use Rattle.ring_theory.proofs.Polynomials.{pol_ring}
+use Rattle.ring_lemmas.specs.Ring.{Operations, TestedRing, pow}
+use Rattle.ring_lemmas.specs.Polynomials.{Pol}
+use Rattle.ring_theory.specs.PolynomialRing.{pol_ring}
 use Rattle.linear_theory.specs.Module.{ModuleOps, IsHomomorphism}
-use Rattle.linear_theory.proofs.Lists.{entry, insert}
+use Rattle.linear_theory.specs.Lists.{entry, insert}
 use Rattle.reduced_basis_theory.specs.Degree.{DegreeAtMost, degree}
 use Rattle.reduced_basis_theory.specs.Reduced.{variable}
 

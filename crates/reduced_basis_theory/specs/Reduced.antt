@@ -1,9 +1,9 @@
 -- Reduced bases: a module V over the polynomials, a lattice I in it, and a family N, where N m stands for x^m·N
 -- (F. Hess, Computing Riemann-Roch spaces in algebraic function fields and related topics, 2002, section 4).
 use Rattle.std.specs.Prelude.{◌≡◌, ℕ, zero, suc, ◌<◌, ◌↔◌, ℤ, pos, negsuc, ◌+ℤ◌, ◌-ℤ◌, List, [], ◌∷◌, ◌++◌, length}
-use Rattle.ring_theory.specs.Ring.{Operations, TestedRing, pow}
-use Rattle.ring_theory.specs.Polynomials.{Pol, pol_of}
-use Rattle.ring_theory.proofs.Polynomials.{pol_ring}
+use Rattle.ring_lemmas.specs.Ring.{Operations, TestedRing, pow}
+use Rattle.ring_lemmas.specs.Polynomials.{Pol, pol_of}
+use Rattle.ring_theory.specs.PolynomialRing.{pol_ring}
 use Rattle.linear_theory.specs.Module.{ModuleOps, IsLinear, combine}
 use Rattle.linear_theory.specs.Basis.{IsBasis, IsSum}
 use Rattle.reduced_basis_theory.specs.Degree.{DegreeAtMost, degree}

@@ -1,9 +1,9 @@
 -- Matrices of polynomials with predictable degrees (T. Kailath, Linear Systems, 1980, section 6.3).
 use Rattle.std.specs.Prelude.{ℕ, ◌<◌, ◌↔◌, ℤ, ◌-ℤ◌, List}
-use Rattle.ring_theory.specs.Ring.{TestedRing}
-use Rattle.ring_theory.specs.Polynomials.{Pol}
+use Rattle.ring_lemmas.specs.Ring.{TestedRing}
+use Rattle.ring_lemmas.specs.Polynomials.{Pol}
 use Rattle.linear_theory.specs.Module.{ModuleOps, combine}
-use Rattle.linear_theory.proofs.Elimination.{tabulate}
+use Rattle.linear_theory.specs.Lists.{tabulate}
 use Rattle.reduced_basis_theory.specs.Degree.{DegreeAtMost}
 use Rattle.reduced_basis_theory.specs.Dual.{dot}
 

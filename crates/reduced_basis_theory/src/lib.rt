@@ -11,13 +11,13 @@
 #![tactic(auto)]
 
 ghost use Rattle.std.specs.Prelude.{◌≡◌, ℕ, suc, ◌+◌, ◌*◌, ◌<◌, ℤ, pos, ◌+ℤ◌, ◌-ℤ◌, ◌≤ℤ◌, ◌<ℤ◌, List, length, ◌↔◌};
-ghost use Rattle.ring_theory.specs.Ring.{CommRing, TestedRing, IsField};
-ghost use Rattle.ring_theory.specs.Polynomials.{Pol};
-ghost use Rattle.ring_theory.proofs.Polynomials.{pol_ring};
+ghost use Rattle.ring_lemmas.specs.Ring.{CommRing, TestedRing, IsField};
+ghost use Rattle.ring_lemmas.specs.Polynomials.{Pol};
+ghost use Rattle.ring_theory.specs.PolynomialRing.{pol_ring};
 ghost use Rattle.linear_theory.specs.Fields.{Field};
 ghost use Rattle.linear_theory.specs.Module.{Module, combine};
 ghost use Rattle.linear_theory.specs.Basis.{IsBasis, IsNull, IsSubspace, IsSum};
-ghost use Rattle.linear_theory.proofs.Lists.{entry};
+ghost use Rattle.linear_theory.specs.Lists.{entry};
 ghost use Rattle.reduced_basis_theory.specs.Degree.{size, DegreeAtMost, degree_sum, dimension_sum, genus_sum, count_up_to, HasAscendingDegrees};
 ghost use Rattle.reduced_basis_theory.specs.Reduced.{InLattice, Coordinates, CoordinatesAtMost, divided, PowersOf, IsReducedAt, IsReducedBasisOfPair, IsLatticeBasis, constants_ops, layers, Section, HasDimension, HasDivision, IsLocalPair, IsExtension};
 ghost use Rattle.reduced_basis_theory.specs.Dual.{AreFractions, FractionAtMost, IsRestriction, IsPowerOfX, IsSymmetricForm, DualLattice, DualFamily, IsDualBasis, negated};

@@ -3,34 +3,31 @@ use Rattle.std.proofs.Common.{◌≡◌, ◌-◌, ◌<◌, length, sym, ap, ap�
 use mathlib.Core.HLevel.{Σ_prop_path}
 use mathlib.Core.Path.{fun_ext}
 use Rattle.std.proofs.Math.Bridge.{le_prop}
-use Rattle.ring_theory.specs.Ring.{Operations, TestedRing, IsDomain}
-use Rattle.ring_theory.specs.Lists.{coeff_of, convolution, rest_from, quotient_from}
-use Rattle.ring_theory.specs.Congruence.{IsCongruent, Represents}
-use Rattle.ring_theory.proofs.Ring.{cross, mul_zero, neg_zero}
-use Rattle.ring_theory.proofs.Sequences.{convolution_comm}
-use Rattle.ring_theory.proofs.Lists.{coeff_trim}
-use Rattle.ring_theory.specs.Polynomials.{Pol, pol_of, pol_ops}
-use Rattle.ring_theory.proofs.Polynomials.{pol_ring, pol_set, pol_domain, same_pol, series_add, series_mul}
-use Rattle.ring_theory.proofs.Division.{divided, rest_ends, length_bound, length_add, length_neg, short_multiple}
-use Rattle.ring_theory.proofs.Congruence.{congruent_sym, represented_ring}
+use Rattle.ring_lemmas.specs.Ring.{TestedRing, IsDomain}
+use Rattle.ring_lemmas.specs.Lists.{coeff_of, convolution, quotient_from}
+use Rattle.ring_lemmas.specs.Congruence.{IsCongruent, Represents}
+use Rattle.ring_lemmas.specs.Polynomials.{Pol, pol_of, pol_ops}
+use Rattle.ring_lemmas.proofs.Ring.{cross, mul_zero, neg_zero}
+use Rattle.ring_lemmas.proofs.Sequences.{convolution_comm}
+use Rattle.ring_lemmas.proofs.Lists.{coeff_trim}
+use Rattle.ring_lemmas.proofs.Polynomials.{pol_set, same_pol, series_add, series_mul}
+use Rattle.ring_lemmas.proofs.Division.{divided, rest_shorter}
+use Rattle.ring_lemmas.proofs.Congruence.{congruent_sym}
+use Rattle.ring_theory.specs.PolynomialRing.{pol_ring}
+use Rattle.ring_theory.specs.Classes.{Class, class_ops, rest}
+use Rattle.ring_theory.proofs.Division.{length_add, length_neg, short_multiple}
 
 module _ {A : Type 0} (r : TestedRing A) (domain : IsDomain r.ops) (f : Pol r) (monic : r.◌⊗◌ r.𝟙 (coeff_of r.ops f.0 (length f.0 - 1)) ≡ r.𝟙) (deep : 1 < length f.0) where
   abbrev pub s : TestedRing (Pol r)
   s = pol_ring r
 
-  -- the rest of a polynomial modulo f, and the quotient
-  abbrev pub rest : Pol r → Pol r
-  rest a = pol_of r (rest_from r.ops f.0 r.𝟙 a.0)
-
   quotient : Pol r → Pol r
   quotient a = pol_of r (quotient_from r.ops f.0 r.𝟙 a.0)
 
-  pub length_rest : (a : Pol r) → length (rest a).0 < length f.0
-  length_rest a =
-      let bound = length_bound r (rest a).0 (length f.0 - 1) (rest a).1 (λ i le. coeff_trim r _ i ∙ rest_ends r f.0 r.𝟙 monic a.0 i le) in
-      omega (arith, bound, deep)
+  pub length_rest : (a : Pol r) → length (rest r domain f monic deep a).0 < length f.0
+  length_rest a = rest_shorter r f monic deep a
 
-  pub rest_congruent : (a : Pol r) → IsCongruent s.ops f (rest a) a
+  pub rest_congruent : (a : Pol r) → IsCongruent s.ops f (rest r domain f monic deep a) a
   unfolding quotient
   rest_congruent a = congruent_sym s.ring f _ _ (record {
     times = quotient a;
@@ -39,24 +36,8 @@ module _ {A : Type 0} (r : TestedRing A) (domain : IsDomain r.ops) (f : Pol r) (
         ∙ r.add_comm _ _
         ∙ ap₂ r.◌⊕◌ (sym (coeff_trim r _ n))
         (convolution_comm r.ring _ _ n ∙ ap (λ g. convolution r.ops (coeff_of r.ops f.0) g n) (sym (fun_ext (coeff_trim r (quotient_from r.ops f.0 r.𝟙 a.0)))) ∙ sym (series_mul r f (quotient a) n))
-        ∙ sym (series_add r (rest a) (s.◌⊗◌ f (quotient a)) n));
+        ∙ sym (series_add r (rest r domain f monic deep a) (s.◌⊗◌ f (quotient a)) n));
   })
-
-  -- a class is a polynomial that is shorter than f
-  abbrev pub Class : Type 0
-  Class = (a : Pol r) × (length a.0 < length f.0)
-
-  abbrev pub class_of : Pol r → Class
-  class_of a = (rest a, length_rest a)
-
-  abbrev pub class_ops : Operations Class
-  class_ops = record {
-    𝟘 = class_of s.𝟘;
-    𝟙 = class_of s.𝟙;
-    ◌⊕◌ = λ x y. class_of (s.◌⊕◌ x.0 y.0);
-    ⊖◌ = λ x. class_of (s.⊖◌ x.0);
-    ◌⊗◌ = λ x y. class_of (s.◌⊗◌ x.0 y.0);
-  }
 
   pub short_same : (a b : Pol r) → length a.0 < length f.0 → length b.0 < length f.0 → IsCongruent s.ops f a b → a ≡ b
   short_same a b a_short b_short c =
@@ -73,13 +54,13 @@ module _ {A : Type 0} (r : TestedRing A) (domain : IsDomain r.ops) (f : Pol r) (
       none : c.times ≡ s.𝟘
       none = short_multiple r domain f c.times short
 
-  pub class_same : (x y : Class) → x.0 ≡ y.0 → x ≡ y
+  pub class_same : (x y : Class r domain f monic deep) → x.0 ≡ y.0 → x ≡ y
   class_same x y e = Σ_prop_path (λ a. le_prop) e
 
-  pub class_set : IsSet Class
+  pub class_set : IsSet (Class r domain f monic deep)
   class_set = let h : IsSet (Pol r) = pol_set r in hlevel (h, le_prop)
 
-  pub classes_represent : Represents class_ops s.ops f
+  pub classes_represent : Represents (class_ops r domain f monic deep) s.ops f
   classes_represent = record {
     of = λ x. x.0;
     of_zero = rest_congruent s.𝟘;
@@ -90,21 +71,7 @@ module _ {A : Type 0} (r : TestedRing A) (domain : IsDomain r.ops) (f : Pol r) (
     same = λ x y c. class_same x y (short_same x.0 y.0 x.1 y.1 c);
   }
 
-  pub rest_null : rest s.𝟘 ≡ s.𝟘
+  pub rest_null : rest r domain f monic deep s.𝟘 ≡ s.𝟘
   unfolding pol_ops
-  rest_null = short_same (rest s.𝟘) s.𝟘 (length_rest s.𝟘) (omega (arith, deep)) (rest_congruent s.𝟘)
-
-  -- the ring of the classes
-  abbrev pub classes : TestedRing Class
-  classes = record {
-    ring = represented_ring class_ops s.ring f classes_represent class_set;
-    is_zero = λ x. s.is_zero x.0;
-    zero_is_zero = ap s.is_zero rest_null ∙ s.zero_is_zero;
-    zero_from = λ x e. class_same x (class_of s.𝟘) (s.zero_from x.0 e ∙ sym rest_null);
-  }
-
--- at a polynomial ring: k[x][y] modulo a monic f, with no lemma of its own
-module _ {A : Type 0} (r : TestedRing A) (domain : IsDomain r.ops) where
-  pub tower : (f : Pol (pol_ring r)) (monic : (pol_ring r).◌⊗◌ (pol_ring r).𝟙 (coeff_of (pol_ring r).ops f.0 (length f.0 - 1)) ≡ (pol_ring r).𝟙)
-      (deep : 1 < length f.0) → TestedRing (Class (pol_ring r) (pol_domain r domain) f monic deep)
-  tower f monic deep = classes (pol_ring r) (pol_domain r domain) f monic deep
+  rest_null = short_same (rest r domain f monic deep s.𝟘) s.𝟘 (length_rest s.𝟘) (omega (arith, deep))
+      (rest_congruent s.𝟘)

@@ -1,11 +1,11 @@
 -- Cramer's rule: a combination of the rows in place of row i multiplies the determinant by the i-th coefficient.
 use mathlib.Core.Path.{fun_ext}
 use Rattle.std.proofs.Common.{◌≡◌, ℕ, zero, suc, ◌<◌, ◌⊎◌, inl, inr, Bool, true, List, replicate, refl, sym, ◌∙◌, ap, ap₂, arith}
-use Rattle.ring_theory.specs.Ring.{CommRing}
-use Rattle.ring_theory.specs.Sums.{sum_below}
+use Rattle.ring_lemmas.specs.Ring.{CommRing}
+use Rattle.ring_lemmas.specs.Sums.{sum_below}
 use Rattle.ring_theory.specs.Determinant.{determinant, with_row}
-use Rattle.ring_theory.proofs.Ring.{mul_zero}
-use Rattle.ring_theory.proofs.Sums.{below_first, below_single}
+use Rattle.ring_lemmas.proofs.Ring.{mul_zero}
+use Rattle.ring_lemmas.proofs.Sums.{below_first, below_single}
 use Rattle.ring_theory.proofs.Determinant.{unit, wedges, wedge_cong, wedge_linear, wedge_linear_vector, wedge_zero, wedge_zero_vector, combined, combined_sum, volume, volume_is, determinant_repeated}
 
 -- the row that was put in, and the others

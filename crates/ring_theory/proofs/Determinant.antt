@@ -2,12 +2,12 @@
 -- algebra is a function of masks, lists of flags that say which unit vectors a product has.
 use mathlib.Core.Path.{fun_ext}
 use Rattle.std.proofs.Common.{◌≡◌, ℕ, zero, suc, ◌<◌, Bool, true, false, List, [], ◌∷◌, replicate, refl, sym, ◌∙◌, ap, ap₂, arith}
-use Rattle.ring_theory.specs.Ring.{Operations, CommRing, pow}
-use Rattle.ring_theory.specs.Sums.{sum_below, matrix_product}
+use Rattle.ring_lemmas.specs.Ring.{Operations, CommRing, pow}
+use Rattle.ring_lemmas.specs.Sums.{sum_below, matrix_product}
 use Rattle.ring_theory.specs.Determinant.{minor, determinant}
-use Rattle.ring_theory.proofs.Ring.{zero_add, one_mul, zero_mul, neg_zero, neg_neg}
-use Rattle.ring_theory.proofs.Solver.{ring, reads, from_three}
-use Rattle.ring_theory.proofs.Sums.{below_cong, below_neg, below_first}
+use Rattle.ring_lemmas.proofs.Ring.{zero_add, one_mul, zero_mul, neg_zero, neg_neg}
+use Rattle.ring_lemmas.proofs.Solver.{ring, reads, from_three}
+use Rattle.ring_lemmas.proofs.Sums.{below_cong, below_neg, below_first}
 
 abbrev pub wedge : {A : Type 0} → Operations A → (ℕ → A) → (List Bool → A) → List Bool → A
 wedge R v x [] = R.𝟘

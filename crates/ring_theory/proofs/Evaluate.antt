@@ -1,15 +1,16 @@
 -- The value of a polynomial at an element of a ring over its coefficients: a homomorphism. Constants are one too.
 use Rattle.std.proofs.Common.{◌≡◌, ◌≤◌, arith, length, ℕ, zero, suc, Bool, true, false, cond, List, [], ◌∷◌, refl, sym, ◌∙◌, ap, ap₂}
-use Rattle.ring_theory.specs.Ring.{CommRing, TestedRing}
-use Rattle.ring_theory.specs.Lists.{coeff_of, tail_of, add_lists, scale_list, mul_lists, trim, trim_onto}
-use Rattle.ring_theory.proofs.Ring.{zero_add, one_mul, mul_zero, zero_mul}
-use Rattle.ring_theory.proofs.Sequences.{convolution_constant_left}
-use Rattle.ring_theory.proofs.Lists.{coeff_trim}
-use Rattle.ring_theory.specs.Polynomials.{Pol, pol_of, pol_ops, constant}
-use Rattle.ring_theory.proofs.Polynomials.{pol_ring, same_pol, series_add, series_mul}
+use Rattle.ring_lemmas.specs.Ring.{CommRing, TestedRing}
+use Rattle.ring_lemmas.specs.Lists.{coeff_of, tail_of, add_lists, scale_list, mul_lists, trim, trim_onto}
+use Rattle.ring_lemmas.proofs.Ring.{zero_add, one_mul, mul_zero, zero_mul}
+use Rattle.ring_lemmas.proofs.Sequences.{convolution_constant_left}
+use Rattle.ring_lemmas.proofs.Lists.{coeff_trim}
+use Rattle.ring_lemmas.specs.Polynomials.{Pol, pol_of, pol_ops, constant}
+use Rattle.ring_theory.specs.PolynomialRing.{pol_ring}
+use Rattle.ring_lemmas.proofs.Polynomials.{same_pol, series_add, series_mul}
 use Rattle.ring_theory.specs.Maps.{IsHom}
 use Rattle.ring_theory.proofs.RowMaps.{hom_zero}
-use Rattle.ring_theory.proofs.Solver.{ring, reads}
+use Rattle.ring_lemmas.proofs.Solver.{ring, reads}
 
 pub length_trim : {A : Type 0} (z : A → Bool) (xs : List A) → length (trim z xs) ≤ length xs
 length_trim z [] = omega arith

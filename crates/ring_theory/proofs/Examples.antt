@@ -2,11 +2,12 @@
 -- an identity up to a relation, by way of the quotient.
 use mathlib.Core.Quot.{mk}
 use Rattle.std.proofs.Common.{◌≡◌, refl, subst, [], ◌∷◌}
-use Rattle.ring_theory.specs.Ring.{Operations, CommRing}
-use Rattle.ring_theory.specs.Quotient.{RingUpTo}
+use Rattle.ring_lemmas.specs.Ring.{Operations, CommRing}
+use Rattle.ring_lemmas.specs.Quotient.{RingUpTo}
 use Rattle.ring_theory.specs.Subsets.{IsSubring, IsModule}
-use Rattle.ring_theory.proofs.Solver.{ring, reads}
-use Rattle.ring_theory.proofs.Quotient.{quotient_ring, class_eq}
+use Rattle.ring_lemmas.proofs.Solver.{ring, reads}
+use Rattle.ring_theory.specs.QuotientRing.{quotient_ring}
+use Rattle.ring_lemmas.proofs.Quotient.{class_eq}
 
 module _ {A : Type 0} (R : CommRing A) where
   infixl 65 ◌⊕◌

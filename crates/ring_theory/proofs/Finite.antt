@@ -4,9 +4,9 @@ use Rattle.std.proofs.Math.Bridge.{le_prop}
 use mathlib.Core.HLevel.{Σ_prop_path}
 use Rattle.std.proofs.lemmas.List.{length-map}
 use Rattle.std.proofs.Math.Nat.{le_of_suc-le}
-use Rattle.ring_theory.specs.Members.{In, IsDistinct}
-use Rattle.ring_theory.specs.Ring.{CommRing, IsDomain, pow}
-use Rattle.ring_theory.proofs.Ring.{one_mul, mul_left_comm, product_not_zero, domain_cancel}
+use Rattle.ring_lemmas.specs.Ring.{CommRing, IsDomain, pow}
+use Rattle.ring_lemmas.proofs.Ring.{one_mul, mul_left_comm, product_not_zero, domain_cancel}
+use Rattle.ring_theory.specs.Members.{In, IsDistinct, codes_to}
 
 split : {A : Type 0} (x : A) (xs : List A) → In x xs → (l : List A) × ((r : List A) × (xs ≡ l ++ x ∷ r))
 split x [] h = absurd h
@@ -25,10 +25,9 @@ In_map f x (y ∷ ys) (inl e) = (y, (inl refl, e))
 In_map f x (y ∷ ys) (inr h) = let p = In_map f x ys h in (p.0, (inr p.1.0, p.1.1))
 
 module _ {A : Type 0} (r : CommRing A) where
-  open r use {𝟘, 𝟙, ◌⊕◌, ◌⊗◌, ⊖◌}
+  open r use {𝟘, 𝟙, ◌⊗◌}
 
   infixl 70 ◌⊗◌
-  infixr 80 ⊖◌
   abbrev pub product : List A → A
   product [] = 𝟙
   product (x ∷ xs) = x ⊗ product xs
@@ -89,12 +88,6 @@ module _ {A : Type 0} (r : CommRing A) where
         within y h =
             let p = In_map (λ x. a ⊗ x) y units h in
             all y (λ e. product_not_zero domain a p.0 a_some (some p.0 p.1.0) (sym p.1.1 ∙ e))
-
--- the codes from 1 to n, of those below q
-
-abbrev pub codes_to : (q n : ℕ) → n < q → List ((c : ℕ) × (c < q))
-codes_to q zero less = []
-codes_to q (suc n) less = (suc n, less) ∷ codes_to q n (le_of_suc-le less)
 
 pub length_codes_to : (q n : ℕ) (less : n < q) → length (codes_to q n less) ≡ n
 length_codes_to q zero less = refl

@@ -1,63 +1,17 @@
--- Fractions are a ring up to `Same`, so their classes are a commutative ring, in which the denominators have inverses.
-use mathlib.Core.Quot.{Quot, mk}
-use mathlib.Core.Quot.{sound}
-use Rattle.std.proofs.Common.{◌≡◌, [], ◌∷◌, refl, sym, ◌∙◌, ap, ap₂}
-use Rattle.ring_theory.specs.Ring.{CommRing}
-use Rattle.ring_theory.specs.Quotient.{RingUpTo}
-use Rattle.ring_theory.specs.Fractions.{Denominators, Same, whole, fraction_ops}
-use Rattle.ring_theory.proofs.Ring.{eq_of_sub}
-use Rattle.ring_theory.proofs.Solver.{ring, reads, from_one, from_two}
-use Rattle.ring_theory.proofs.Quotient.{quotient_ring, class_eq}
+-- The ring of fractions holds the ring, and the denominators have inverses in it.
+use mathlib.Core.Quot.{mk, sound}
+use Rattle.std.proofs.Common.{◌≡◌, [], ◌∷◌, refl, sym, ◌∙◌, ap}
+use Rattle.ring_lemmas.specs.Ring.{CommRing}
+use Rattle.ring_lemmas.specs.Fractions.{Denominators, whole}
+use Rattle.ring_lemmas.proofs.Solver.{ring, reads}
+use Rattle.ring_lemmas.proofs.Quotient.{class_eq}
+use Rattle.ring_lemmas.proofs.Fractions.{fractions}
+use Rattle.ring_theory.specs.FractionRing.{embed, fraction_ring}
 
 module _ {A : Type 0} (R : CommRing A) where
   infixl 65 ◌⊕◌
   infixl 70 ◌⊗◌
-  infixr 80 ⊖◌
-  open R use {𝟘, 𝟙, ◌⊕◌, ◌⊗◌, ⊖◌}
-
-  -- the equations, for plain variables: numerators a b c, denominators d e f
-  sums : (a d a' d' b e b' e' : A) → a ⊗ d' ≡ a' ⊗ d → b ⊗ e' ≡ b' ⊗ e
-      → (a ⊗ e ⊕ b ⊗ d) ⊗ (d' ⊗ e') ≡ (a' ⊗ e' ⊕ b' ⊗ d') ⊗ (d ⊗ e)
-  sums a d a' d' b e b' e' h k =
-      from_two R (e ⊗ e') (d ⊗ d') h k (ring R (a ∷ d ∷ a' ∷ d' ∷ b ∷ e ∷ b' ∷ e' ∷ []) λ q x.
-      simp (reads, q, x 0, x 1, x 2, x 3, x 4, x 5, x 6, x 7) (q.equal _ _ refl))
-
-  products : (a d a' d' b e b' e' : A) → a ⊗ d' ≡ a' ⊗ d → b ⊗ e' ≡ b' ⊗ e
-      → (a ⊗ b) ⊗ (d' ⊗ e') ≡ (a' ⊗ b') ⊗ (d ⊗ e)
-  products a d a' d' b e b' e' h k =
-      from_two R (b ⊗ e') (a' ⊗ d) h k (ring R (a ∷ d ∷ a' ∷ d' ∷ b ∷ e ∷ b' ∷ e' ∷ []) λ q x.
-      simp (reads, q, x 0, x 1, x 2, x 3, x 4, x 5, x 6, x 7) (q.equal _ _ refl))
-
-  negatives : (a d a' d' : A) → a ⊗ d' ≡ a' ⊗ d → ⊖ a ⊗ d' ≡ ⊖ a' ⊗ d
-  negatives a d a' d' h =
-      from_one R (⊖ 𝟙) h (ring R (a ∷ d ∷ a' ∷ d' ∷ []) λ q x. simp (reads, q, x 0, x 1, x 2, x 3) (q.equal _ _ refl))
-
-  transitive : (a d b e c f : A) → a ⊗ e ≡ b ⊗ d → b ⊗ f ≡ c ⊗ e → e ⊗ (a ⊗ f ⊕ ⊖ (c ⊗ d)) ≡ 𝟘
-  transitive a d b e c f h k =
-      from_two R f d h k (ring R (a ∷ d ∷ b ∷ e ∷ c ∷ f ∷ []) λ q x.
-      simp (reads, q, x 0, x 1, x 2, x 3, x 4, x 5) (q.equal _ _ refl))
-
-  add_assoc : (a d b e c f : A)
-      → ((a ⊗ e ⊕ b ⊗ d) ⊗ f ⊕ c ⊗ (d ⊗ e)) ⊗ (d ⊗ (e ⊗ f)) ≡ (a ⊗ (e ⊗ f) ⊕ (b ⊗ f ⊕ c ⊗ e) ⊗ d) ⊗ ((d ⊗ e) ⊗ f)
-  add_assoc a d b e c f =
-      ring R (a ∷ d ∷ b ∷ e ∷ c ∷ f ∷ []) λ q x. simp (reads, q, x 0, x 1, x 2, x 3, x 4, x 5) (q.equal _ _ refl)
-
-  mul_add : (a d b e c f : A)
-      → (a ⊗ (b ⊗ f ⊕ c ⊗ e)) ⊗ ((d ⊗ e) ⊗ (d ⊗ f)) ≡ ((a ⊗ b) ⊗ (d ⊗ f) ⊕ (a ⊗ c) ⊗ (d ⊗ e)) ⊗ (d ⊗ (e ⊗ f))
-  mul_add a d b e c f =
-      ring R (a ∷ d ∷ b ∷ e ∷ c ∷ f ∷ []) λ q x. simp (reads, q, x 0, x 1, x 2, x 3, x 4, x 5) (q.equal _ _ refl)
-
-  add_comm : (a d b e : A) → (a ⊗ e ⊕ b ⊗ d) ⊗ (e ⊗ d) ≡ (b ⊗ d ⊕ a ⊗ e) ⊗ (d ⊗ e)
-  add_comm a d b e = ring R (a ∷ d ∷ b ∷ e ∷ []) λ q x. simp (reads, q, x 0, x 1, x 2, x 3) (q.equal _ _ refl)
-
-  add_zero : (a d : A) → (a ⊗ 𝟙 ⊕ 𝟘 ⊗ d) ⊗ d ≡ a ⊗ (d ⊗ 𝟙)
-  add_zero a d = ring R (a ∷ d ∷ []) λ q x. simp (reads, q, x 0, x 1) (q.equal _ _ refl)
-
-  add_neg : (a d : A) → (a ⊗ d ⊕ ⊖ a ⊗ d) ⊗ 𝟙 ≡ 𝟘 ⊗ (d ⊗ d)
-  add_neg a d = ring R (a ∷ d ∷ []) λ q x. simp (reads, q, x 0, x 1) (q.equal _ _ refl)
-
-  mul_one : (a d : A) → (a ⊗ 𝟙) ⊗ d ≡ a ⊗ (d ⊗ 𝟙)
-  mul_one a d = ring R (a ∷ d ∷ []) λ q x. simp (reads, q, x 0, x 1) (q.equal _ _ refl)
+  open R use {𝟙, ◌⊕◌, ◌⊗◌}
 
   inverse : (d : A) → (d ⊗ 𝟙) ⊗ 𝟙 ≡ 𝟙 ⊗ (𝟙 ⊗ d)
   inverse d = ring R (d ∷ []) λ q x. simp (reads, q, x 0) (q.equal _ _ refl)
@@ -66,46 +20,17 @@ module _ {A : Type 0} (R : CommRing A) where
   sum_of_wholes a b = ring R (a ∷ b ∷ []) λ q x. simp (reads, q, x 0, x 1) (q.equal _ _ refl)
 
   module _ (N : A → Type 0) (D : Denominators R.ops N) where
-    pub fractions : RingUpTo (fraction_ops R.ops N D) (Same R.ops N)
-    fractions = record {
-      prop = λ p q. R.is_set _ _;
-      refl = λ p. refl;
-      symm = λ p q e. sym e;
-      trans = λ p q s e f.
-          eq_of_sub R _ _ (D.cancel q.den _ q.den_in (transitive p.num p.den q.num q.den s.num s.den e f));
-      sum_same = λ p p' q q' h k. sums p.num p.den p'.num p'.den q.num q.den q'.num q'.den h k;
-      product_same = λ p p' q q' h k. products p.num p.den p'.num p'.den q.num q.den q'.num q'.den h k;
-      neg_same = λ p p' h. negatives p.num p.den p'.num p'.den h;
-      add_assoc = λ p q s. add_assoc p.num p.den q.num q.den s.num s.den;
-      add_comm = λ p q. add_comm p.num p.den q.num q.den;
-      add_zero = λ p. add_zero p.num p.den;
-      add_neg = λ p. add_neg p.num p.den;
-      mul_assoc = λ p q s. ap₂ ◌⊗◌ (R.mul_assoc _ _ _) (sym (R.mul_assoc _ _ _));
-      mul_comm = λ p q. ap₂ ◌⊗◌ (R.mul_comm _ _) (R.mul_comm _ _);
-      mul_one = λ p. mul_one p.num p.den;
-      mul_add = λ p q s. mul_add p.num p.den q.num q.den s.num s.den;
-    }
-
-    abbrev pub Fractions : Type 0
-    Fractions = Quot (Same R.ops N)
-
-    abbrev pub fraction_ring : CommRing Fractions
-    fraction_ring = quotient_ring (fraction_ops R.ops N D) (Same R.ops N) fractions
-
-    -- A in its fractions: equal only for equals, and the denominators have inverses
-    abbrev pub embed : A → Fractions
-    embed a = mk (whole R.ops N D a)
-
-    pub embed_injective : (a b : A) → embed a ≡ embed b → a ≡ b
+    pub embed_injective : (a b : A) → embed R N D a ≡ embed R N D b → a ≡ b
     embed_injective a b e =
-        sym (R.mul_one a) ∙ (class_eq _ _ fractions (whole R.ops N D a) (whole R.ops N D b)).0 e ∙ R.mul_one b
+        sym (R.mul_one a) ∙ (class_eq _ _ (fractions R N D) (whole R.ops N D a) (whole R.ops N D b)).0 e ∙ R.mul_one b
 
     pub embed_inverse : (d : A) (h : N d)
-        → fraction_ring.◌⊗◌ (embed d) (mk (record { num = 𝟙; den = d; den_in = h })) ≡ fraction_ring.𝟙
+        → (fraction_ring R N D).◌⊗◌ (embed R N D d) (mk (record { num = 𝟙; den = d; den_in = h }))
+            ≡ (fraction_ring R N D).𝟙
     embed_inverse d h = sound (inverse d)
 
-    pub embed_product : (a b : A) → fraction_ring.◌⊗◌ (embed a) (embed b) ≡ embed (a ⊗ b)
+    pub embed_product : (a b : A) → (fraction_ring R N D).◌⊗◌ (embed R N D a) (embed R N D b) ≡ embed R N D (a ⊗ b)
     embed_product a b = sound (ap (λ t. (a ⊗ b) ⊗ t) (sym (R.mul_one 𝟙)))
 
-    pub embed_sum : (a b : A) → fraction_ring.◌⊕◌ (embed a) (embed b) ≡ embed (a ⊕ b)
+    pub embed_sum : (a b : A) → (fraction_ring R N D).◌⊕◌ (embed R N D a) (embed R N D b) ≡ embed R N D (a ⊕ b)
     embed_sum a b = sound (sum_of_wholes a b)

@@ -3,15 +3,15 @@
 use Rattle.std.proofs.Common.{◌≡◌, ℕ, zero, suc, ◌<◌, ◌≤◌, ◌+◌, eqb, cond, ◌⊎◌, inl, inr, eq-or-lt_of_le, le_of_suc-le-suc, List, [], ◌∷◌, length, refl, sym, ◌∙◌, ap, ap₂, subst, All, add_comm, suc-add, zero-add, arith}
 use Rattle.std.proofs.lemmas.Bool.{eq-eqb, ne_eqb}
 use Rattle.std.proofs.lemmas.List.Elements.{All-head, All-tail}
-use Rattle.ring_theory.specs.Lists.{coeff_of}
-use Rattle.ring_theory.specs.Ring.{Operations, CommRing, pow}
-use Rattle.ring_theory.specs.Sums.{sum_below}
+use Rattle.ring_lemmas.specs.Lists.{coeff_of}
+use Rattle.ring_lemmas.specs.Ring.{Operations, CommRing, pow}
+use Rattle.ring_lemmas.specs.Sums.{sum_below}
 use Rattle.ring_theory.specs.Subsets.{IsSubring, Span}
 use Rattle.ring_theory.specs.Integral.{IsIntegral}
-use Rattle.ring_theory.proofs.Ring.{zero_add, one_mul, mul_zero, zero_mul, add_mul, mul_left_comm, pow_add}
-use Rattle.ring_theory.proofs.Solver.{ring, reads, from_two, var, ◌⊞◌, ◌⊠◌, ⊟◌}
+use Rattle.ring_lemmas.proofs.Ring.{zero_add, one_mul, mul_zero, zero_mul, add_mul, mul_left_comm, pow_add}
+use Rattle.ring_lemmas.proofs.Solver.{ring, reads, from_two, var, ◌⊞◌, ◌⊠◌, ⊟◌}
 use Rattle.ring_theory.proofs.Subsets.{span_module}
-use Rattle.ring_theory.proofs.Sums.{below_cong, below_add, below_scale, below_neg, below_zero, below_first}
+use Rattle.ring_lemmas.proofs.Sums.{below_cong, below_add, below_scale, below_neg, below_zero, below_first}
 
 -- s plus z times a member of a further set
 pub record Stepped {A : Type 0} (R : Operations A) (S : A → Type 0) (z : A) (Rest : A → Type 0) (a : A) : Type 0 where

@@ -1,11 +1,11 @@
 -- Members of a module locally at an element.
 use Rattle.std.proofs.Common.{ℕ, zero, suc, [], ◌∷◌, refl, subst}
-use Rattle.ring_theory.specs.Ring.{CommRing, pow}
+use Rattle.ring_lemmas.specs.Ring.{CommRing, pow}
 use Rattle.ring_theory.specs.Subsets.{IsSubring, IsModule, Product}
 use Rattle.ring_theory.specs.Local.{Comaximal, PrimeTo, Locally}
 use Rattle.ring_theory.proofs.Subsets.{product_member}
-use Rattle.ring_theory.proofs.Ring.{one_mul, mul_left_comm, mul_mul}
-use Rattle.ring_theory.proofs.Solver.{ring, reads, from_one, from_two}
+use Rattle.ring_lemmas.proofs.Ring.{one_mul, mul_left_comm, mul_mul}
+use Rattle.ring_lemmas.proofs.Solver.{ring, reads, from_one, from_two}
 
 module _ {A : Type 0} (R : CommRing A) (S : A → Type 0) (𝓢 : IsSubring R.ops S) where
   infixl 65 ◌⊕◌

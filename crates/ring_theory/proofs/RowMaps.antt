@@ -2,11 +2,12 @@
 use Rattle.std.proofs.Common.{◌≡◌, ℕ, zero, suc, refl, sym, ◌∙◌, ap, ap₂}
 use mathlib.Core.HLevel.{Π_prop}
 use Rattle.ring_theory.specs.Maps.{IsHom}
-use Rattle.ring_theory.specs.Ring.{CommRing, IsDomain, pow}
-use Rattle.ring_theory.specs.Rows.{Row, row_zero, row_add, row_scale, shift, top, times_y, row_times, row_mul}
-use Rattle.ring_theory.proofs.Ring.{zero_add, mul_zero, mul_neg, neg_neg, add_cancel_left, product_not_zero, ring_rules, mul_rules}
-use Rattle.ring_theory.specs.RowFractions.{RowPair, SamePair}
-use Rattle.ring_theory.proofs.RowFractions.{Function, function_ring, pair_function, from_pairs, each_pair, add_pairs, mul_pairs, pair_add, pair_mul}
+use Rattle.ring_lemmas.specs.Ring.{CommRing, IsDomain, pow}
+use Rattle.ring_lemmas.specs.Rows.{Row, row_zero, row_add, row_scale, shift, top, times_y, row_times, row_mul}
+use Rattle.ring_lemmas.proofs.Ring.{zero_add, mul_zero, mul_neg, neg_neg, add_cancel_left, product_not_zero, ring_rules, mul_rules}
+use Rattle.ring_lemmas.specs.RowFractions.{RowPair, SamePair}
+use Rattle.ring_theory.specs.FunctionRing.{Function, function_ring, pair_function, from_pairs, pair_add, pair_mul}
+use Rattle.ring_theory.proofs.RowFractions.{each_pair, add_pairs, mul_pairs}
 
 module _ {E : Type 0} (F : CommRing E) where
   open F use {𝟘, 𝟙, ◌⊕◌, ◌⊗◌, ⊖◌}

@@ -1,9 +1,9 @@
 -- The product of rows is the product of polynomials in y, reduced modulo f.
 use Rattle.std.proofs.Common.{◌≡◌, ℕ, zero, suc, List, [], ◌∷◌, refl, sym, ◌∙◌, ap, ap₂}
-use Rattle.ring_theory.specs.Ring.{CommRing}
-use Rattle.ring_theory.specs.Lists.{add_lists, scale_list, mul_lists}
-use Rattle.ring_theory.specs.Rows.{Row, row_zero, row_add, row_scale, times_y, row_times, row_one, row_mul}
-use Rattle.ring_theory.proofs.Rows.{row_rules, row_add_zero, row_add_comm, row_zero_scale, row_scale_zero, row_add_scale, row_scale_scale, times_y_add, times_y_scale, row_mul_one}
+use Rattle.ring_lemmas.specs.Ring.{CommRing}
+use Rattle.ring_lemmas.specs.Lists.{add_lists, scale_list, mul_lists}
+use Rattle.ring_lemmas.specs.Rows.{Row, row_zero, row_add, row_scale, times_y, row_times, row_one, row_mul}
+use Rattle.ring_lemmas.proofs.Rows.{row_rules, row_add_zero, row_add_comm, row_zero_scale, row_scale_zero, row_add_scale, row_scale_scale, times_y_add, times_y_scale, row_mul_one}
 
 module _ {P : Type 0} where
   -- a row as a list of coefficients

@@ -1,8 +1,8 @@
 -- The trace of multiplication by 1 is n.
 use Rattle.std.proofs.Common.{◌≡◌, ℕ, zero, suc, ◌≤◌, refl, sym, ◌∙◌, ap, ap₂, arith, le_refl}
-use Rattle.ring_theory.specs.Ring.{CommRing}
-use Rattle.ring_theory.specs.Rows.{Row, row_add, times_y, row_times, y_to, entry, diagonal_sum, row_trace, row_one, row_mul}
-use Rattle.ring_theory.proofs.Rows.{pair_path, pad_none, row_add_zero, row_add_comm, row_zero_scale, row_mul_one, row_mul_comm, pad, times_one_pad}
+use Rattle.ring_lemmas.specs.Ring.{CommRing}
+use Rattle.ring_lemmas.specs.Rows.{Row, row_add, times_y, row_times, y_to, entry, diagonal_sum, row_trace, row_one, row_mul}
+use Rattle.ring_lemmas.proofs.Rows.{pair_path, pad_none, row_add_zero, row_add_comm, row_zero_scale, row_mul_one, row_mul_comm, pad, times_one_pad}
 
 module _ {P : Type 0} (S : CommRing P) where
   -- y^i as a row of length i + 1

@@ -1,12 +1,12 @@
 -- Spans, products and colons of subsets are modules, and the product of two spans is the span of the products.
 use Rattle.std.proofs.Common.{◌≡◌, List, [], ◌∷◌, ◌++◌, map, refl, sym, ◌∙◌, ap, ap₂, subst, All, ◌↔◌}
 use Rattle.std.proofs.lemmas.List.Elements.{All-nil, All-cons, All-head, All-tail, All-weaker, All-append, All-map}
-use Rattle.ring_theory.specs.Ring.{CommRing}
-use Rattle.ring_theory.specs.Sums.{sum_over}
+use Rattle.ring_lemmas.specs.Ring.{CommRing}
+use Rattle.ring_lemmas.specs.Sums.{sum_over}
 use Rattle.ring_theory.specs.Subsets.{IsSubring, IsModule, Span, Factors, Product, Colon, products}
-use Rattle.ring_theory.proofs.Ring.{mul_zero, zero_mul, add_mul}
-use Rattle.ring_theory.proofs.Solver.{ring, reads}
-use Rattle.ring_theory.proofs.Sums.{over_append, over_map, over_scale, over_cong}
+use Rattle.ring_lemmas.proofs.Ring.{mul_zero, zero_mul, add_mul}
+use Rattle.ring_lemmas.proofs.Solver.{ring, reads}
+use Rattle.ring_lemmas.proofs.Sums.{over_append, over_map, over_scale, over_cong}
 
 module _ {A : Type 0} (R : CommRing A) where
   infixl 65 ◌⊕◌

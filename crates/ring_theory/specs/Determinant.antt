@@ -1,7 +1,7 @@
 -- Determinants of square matrices, as functions of two indices, by expansion along the first column.
 use Rattle.std.specs.Prelude.{ℕ, zero, suc}
-use Rattle.ring_theory.specs.Ring.{Operations, pow}
-use Rattle.ring_theory.specs.Sums.{sum_below}
+use Rattle.ring_lemmas.specs.Ring.{Operations, pow}
+use Rattle.ring_lemmas.specs.Sums.{sum_below}
 
 -- the rows but row i, and the columns but the first
 abbrev pub minor : {A : Type 0} → ℕ → (ℕ → ℕ → A) → ℕ → ℕ → A

@@ -1,7 +1,7 @@
 -- Elements that are integral over a subring.
 use Rattle.std.specs.Prelude.{◌≡◌, ℕ, ◌<◌}
-use Rattle.ring_theory.specs.Ring.{Operations, pow}
-use Rattle.ring_theory.specs.Sums.{sum_below}
+use Rattle.ring_lemmas.specs.Ring.{Operations, pow}
+use Rattle.ring_lemmas.specs.Sums.{sum_below}
 
 -- z^m plus the sum of c_i·z^i for i below m is 0, with m ≥ 1 and all c_i in S
 pub record IsIntegral {A : Type 0} (R : Operations A) (S : A → Type 0) (z : A) : Type 0 where

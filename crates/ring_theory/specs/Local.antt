@@ -1,6 +1,6 @@
 -- Locally at an element p of a subring S: up to factors from a set N of members of S that are prime to p.
 use Rattle.std.specs.Prelude.{◌≡◌}
-use Rattle.ring_theory.specs.Ring.{Operations}
+use Rattle.ring_lemmas.specs.Ring.{Operations}
 
 -- w and p span 1 over S
 pub record Comaximal {A : Type 0} (R : Operations A) (S : A → Type 0) (w p : A) : Type 0 where

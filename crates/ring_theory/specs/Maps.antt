@@ -1,6 +1,6 @@
 -- Maps of rings.
 use Rattle.std.specs.Prelude.{◌≡◌}
-use Rattle.ring_theory.specs.Ring.{CommRing}
+use Rattle.ring_lemmas.specs.Ring.{CommRing}
 
 -- the map keeps sums, products and 1
 pub record IsHom {P E : Type 0} (S : CommRing P) (F : CommRing E) (map : P → E) : Type 0 where

@@ -1,8 +1,8 @@
 -- Subsets of a commutative ring as predicates: subrings, modules over a subring, spans, products and colons.
 -- A proof that an element is in a subset is never compared with another, so a predicate may be any family of types.
 use Rattle.std.specs.Prelude.{◌≡◌, List, [], ◌∷◌, map, ◌++◌}
-use Rattle.ring_theory.specs.Ring.{Operations}
-use Rattle.ring_theory.specs.Sums.{sum_over}
+use Rattle.ring_lemmas.specs.Ring.{Operations}
+use Rattle.ring_lemmas.specs.Sums.{sum_over}
 
 pub record IsSubring {A : Type 0} (R : Operations A) (S : A → Type 0) : Type 0 where
   pub zero_in : S R.𝟘

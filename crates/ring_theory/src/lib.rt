@@ -3,8 +3,8 @@
 #![tactic(auto)]
 
 ghost use Rattle.std.specs.Prelude.{◌≡◌, ℕ, Bool, IsTrue, List, ◌∷◌, All, ◌↔◌};
-ghost use Rattle.ring_theory.specs.Ring.{CommRing};
-ghost use Rattle.ring_theory.specs.Sums.{matrix_product};
+ghost use Rattle.ring_lemmas.specs.Ring.{CommRing};
+ghost use Rattle.ring_lemmas.specs.Sums.{matrix_product};
 ghost use Rattle.ring_theory.specs.Determinant.{determinant};
 ghost use Rattle.ring_theory.specs.Subsets.{IsSubring, Span, Product, products};
 ghost use Rattle.ring_theory.specs.Integral.{IsIntegral};

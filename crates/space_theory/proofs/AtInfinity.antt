@@ -1,8 +1,8 @@
 -- The combinations of a lattice over k[t] are a lattice at infinity, and so is O_inf where the discriminant isn't 0.
 use Rattle.std.proofs.Common.{◌≡◌, ◌↔◌, ℕ, List, map, refl, ◌∙◌, ap, subst}
-use Rattle.ring_theory.specs.Ring.{pow}
+use Rattle.ring_lemmas.specs.Ring.{pow}
 use Rattle.ring_theory.specs.Subsets.{Span}
-use Rattle.ring_theory.proofs.Ring.{mul_left_comm}
+use Rattle.ring_lemmas.proofs.Ring.{mul_left_comm}
 use Rattle.prime_theory.specs.Ideals.{SameSet}
 use Rattle.linear_theory.proofs.Euclid.{order_at}
 use Rattle.ff_fields.specs.Field.{CodeField}

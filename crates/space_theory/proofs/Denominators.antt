@@ -2,8 +2,8 @@
 -- own.
 use Rattle.std.proofs.Common.{◌≡◌, ℕ, zero, suc, ◌≤◌, ◌<◌, List, [], ◌∷◌, length, refl, sym, ◌∙◌, ap, ap₂, subst, arith}
 use Rattle.ring_theory.specs.Subsets.{Span}
-use Rattle.ring_theory.proofs.Ring.{mul_zero}
-use Rattle.ring_theory.proofs.Solver.{ring, reads, from_one}
+use Rattle.ring_lemmas.proofs.Ring.{mul_zero}
+use Rattle.ring_lemmas.proofs.Solver.{ring, reads, from_one}
 use Rattle.ring_theory.proofs.Polynomials.{length_product, length_product_le}
 use Rattle.ff_fields.specs.Field.{CodeField}
 use Rattle.ff_fields.specs.Code.{code_ring, code_domain}
@@ -12,7 +12,7 @@ use Rattle.function_field.specs.Functions.{Equation, FunctionOf, ring_of, of_pol
 use Rattle.function_field.proofs.OnSide.{den_inverse}
 use Rattle.function_field.proofs.ScalarRings.{bottoms_not_zero}
 use Rattle.linear_theory.specs.Module.{combine}
-use Rattle.linear_theory.proofs.Lists.{insert}
+use Rattle.linear_theory.specs.Lists.{insert}
 use Rattle.linear_theory.proofs.Combination.{combine_scale}
 use Rattle.places_theory.proofs.YRoot.{poly_hom, over_times_den}
 use Rattle.lattice_theory.specs.Lattices.{polynomial_ops}

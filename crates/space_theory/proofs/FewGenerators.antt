@@ -2,9 +2,9 @@
 -- n functions span.
 use Rattle.std.proofs.Common.{◌≡◌, ◌↔◌, ℕ, List, [], ◌∷◌, length, map, refl, sym, ◌∙◌, ap, ap₂, subst, arith}
 use Rattle.std.proofs.lemmas.List.{length-map}
-use Rattle.ring_theory.specs.Ring.{pow}
+use Rattle.ring_lemmas.specs.Ring.{pow}
 use Rattle.ring_theory.specs.Subsets.{Span}
-use Rattle.ring_theory.proofs.Ring.{mul_zero}
+use Rattle.ring_lemmas.proofs.Ring.{mul_zero}
 use Rattle.ff_fields.specs.Field.{CodeField}
 use Rattle.linear_theory.specs.Euclidean.{IsDivisorIn}
 use Rattle.ff_poly.specs.Polynomials.{Polynomial, polynomials, x_poly, x_poly_not_zero}

@@ -1,13 +1,14 @@
 -- n elements that span n free elements are free.
 use Rattle.std.proofs.Common.{◌≡◌, ℕ, ◌<◌, List, [], ◌∷◌, length, All, refl, sym, ◌∙◌, ap, ap₂, subst, arith}
 use Rattle.std.proofs.lemmas.List.Elements.{All-weaker}
-use Rattle.ring_theory.specs.Ring.{TestedRing, IsField}
-use Rattle.ring_theory.proofs.Solver.{reads}
-use Rattle.ring_theory.specs.Polynomials.{Pol}
-use Rattle.ring_theory.proofs.Polynomials.{pol_ring}
+use Rattle.ring_lemmas.specs.Ring.{TestedRing, IsField}
+use Rattle.ring_lemmas.proofs.Solver.{reads}
+use Rattle.ring_lemmas.specs.Polynomials.{Pol}
+use Rattle.ring_theory.specs.PolynomialRing.{pol_ring}
 use Rattle.linear_theory.specs.Module.{Module, combine}
 use Rattle.linear_theory.specs.Basis.{IsCombination, IsNull}
-use Rattle.linear_theory.proofs.Lists.{entry, omit, remove, length_remove}
+use Rattle.linear_theory.specs.Lists.{entry, omit, remove}
+use Rattle.linear_theory.proofs.Lists.{length_remove}
 use Rattle.linear_theory.proofs.Module.{linear, parts, scalar}
 use Rattle.linear_theory.proofs.Combination.{combine_omit, combine_linear, combine_scale}
 use Rattle.linear_theory.proofs.Exchange.{exchange_multiples}

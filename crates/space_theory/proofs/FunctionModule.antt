@@ -1,8 +1,8 @@
 -- The functions of a curve as a module over the polynomials, with 1/x as division by the variable.
 use Rattle.std.proofs.Common.{◌≡◌, ℕ, zero, suc, ℤ, pos, negsuc, [], ◌∷◌, sym, ◌∙◌, ap, ap₂}
-use Rattle.ring_theory.specs.Ring.{pow}
-use Rattle.ring_theory.proofs.Ring.{one_mul}
-use Rattle.ring_theory.specs.Polynomials.{pol_of}
+use Rattle.ring_lemmas.specs.Ring.{pow}
+use Rattle.ring_lemmas.proofs.Ring.{one_mul}
+use Rattle.ring_lemmas.specs.Polynomials.{pol_of}
 use Rattle.ff_fields.specs.Field.{CodeField}
 use Rattle.ff_fields.specs.Code.{code_ring, same_code, zero_in, read_code, read_code_below}
 use Rattle.ff_poly.specs.Polynomials.{polynomials, x_poly, x_poly_not_zero}

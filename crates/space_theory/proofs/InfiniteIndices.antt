@@ -3,9 +3,9 @@
 use Rattle.std.proofs.Common.{◌≡◌, ℕ, ◌+◌, ℤ, pos, ◌-ℤ◌, List, [], ◌∷◌, ◌++◌, length, refl, sym, ◌∙◌, ap, subst, arith}
 use Rattle.std.proofs.lemmas.List.{length-append}
 use Rattle.ring_theory.specs.Subsets.{IsModule}
-use Rattle.ring_theory.proofs.Ring.{one_mul}
+use Rattle.ring_lemmas.proofs.Ring.{one_mul}
 use Rattle.ring_theory.proofs.Subsets.{span_module}
-use Rattle.ring_theory.specs.Polynomials.{constant}
+use Rattle.ring_lemmas.specs.Polynomials.{constant}
 use Rattle.ring_theory.proofs.Evaluate.{length_trim}
 use Rattle.prime_theory.specs.Ideals.{SameSet}
 use Rattle.linear_theory.specs.Fields.{domain_of}

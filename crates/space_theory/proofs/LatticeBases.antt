@@ -8,7 +8,7 @@ use Rattle.ff_poly.specs.Polynomials.{Polynomial, polynomials}
 use Rattle.function_field.specs.Functions.{Equation, FunctionOf, ring_of, of_poly, degree_of_y, IsPolynomial}
 use Rattle.function_field.proofs.ScalarRings.{polynomials_subring}
 use Rattle.linear_theory.specs.Module.{combine}
-use Rattle.linear_theory.proofs.Lists.{insert}
+use Rattle.linear_theory.specs.Lists.{insert}
 use Rattle.lattice_theory.specs.Lattices.{IsLattice, polynomial_ops}
 use Rattle.lattice_theory.proofs.Bases.{lattice_basis}
 use Rattle.lattice_theory.proofs.Lattices.{lattice_module}

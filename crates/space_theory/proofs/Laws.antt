@@ -10,7 +10,7 @@ use Rattle.function_field.specs.Functions.{Equation, FunctionOf, setting_of, deg
 use Rattle.function_field.specs.Places.{IsIntegralAt}
 use Rattle.function_field.specs.Divisors.{Divisor, MeetsOn, InSpace, IsBasis, IsSimultaneousBasis, IsSumOfSides, SpansOnce, shifted}
 use Rattle.prime_theory.specs.Ideals.{SameSet}
-use Rattle.linear_theory.proofs.Elimination.{tabulate}
+use Rattle.linear_theory.specs.Lists.{tabulate}
 use Rattle.linear_theory.specs.Basis.{IsSum}
 use Rattle.trace_theory.specs.Traces.{HasPolynomialCoordinates}
 use Rattle.lattice_theory.specs.Lattices.{IsLattice, HasIndex, space_ops, polynomial_ops}

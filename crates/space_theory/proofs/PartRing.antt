@@ -1,7 +1,7 @@
 -- A subring that is given by a proposition, as a ring of its own.
 use Rattle.std.proofs.Common.{◌≡◌}
 use mathlib.Core.HLevel.{Σ_prop_path}
-use Rattle.ring_theory.specs.Ring.{CommRing}
+use Rattle.ring_lemmas.specs.Ring.{CommRing}
 use Rattle.ring_theory.specs.Subsets.{IsSubring}
 
 module _ {A : Type 0} (R : CommRing A) (S : A → Type 0) (𝓢 : IsSubring R.ops S) (prop : (a : A) → IsProp (S a)) where

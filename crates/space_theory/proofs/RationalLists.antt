@@ -1,8 +1,8 @@
 -- Functions that are independent over the polynomials are so over the rational functions.
 use Rattle.std.proofs.Common.{◌≡◌, ℕ, suc, ◌<◌, List, [], ◌∷◌, length, All, refl, sym, ◌∙◌, ap, ap₂, arith}
 use Rattle.std.proofs.lemmas.List.Elements.{All-nil, All-cons, All-head, All-tail}
-use Rattle.ring_theory.proofs.Ring.{mul_zero}
-use Rattle.ring_theory.proofs.Solver.{ring, reads, from_one}
+use Rattle.ring_lemmas.proofs.Ring.{mul_zero}
+use Rattle.ring_lemmas.proofs.Solver.{ring, reads, from_one}
 use Rattle.ff_fields.specs.Field.{CodeField}
 use Rattle.ff_poly.specs.Polynomials.{Polynomial, polynomials, polynomials_domain}
 use Rattle.function_field.specs.Functions.{Equation, FunctionOf, ring_of, of_poly, row_of, over}
@@ -10,7 +10,7 @@ use Rattle.function_field.specs.Spans.{combination}
 use Rattle.function_field.proofs.OnSide.{of_poly_zero, den_inverse}
 use Rattle.function_field.proofs.ScalarRings.{bottoms_not_zero}
 use Rattle.linear_theory.specs.Module.{combine}
-use Rattle.linear_theory.proofs.Lists.{insert}
+use Rattle.linear_theory.specs.Lists.{insert}
 use Rattle.linear_theory.proofs.Combination.{combine_scale}
 use Rattle.places_theory.proofs.YRoot.{poly_hom, over_times_den}
 use Rattle.trace_theory.specs.Traces.{IsRational}

@@ -2,10 +2,10 @@
 -- span is one.
 use Rattle.std.proofs.Common.{◌≡◌, ℕ, zero, suc, ◌<◌, List, [], ◌∷◌, length, All, refl, sym, ◌∙◌, ap, ap₂, subst, arith}
 use Rattle.std.proofs.lemmas.List.Elements.{All-nil, All-cons, All-head, All-tail}
-use Rattle.ring_theory.specs.Ring.{CommRing}
+use Rattle.ring_lemmas.specs.Ring.{CommRing}
 use Rattle.ring_theory.specs.Subsets.{IsSubring, Span}
-use Rattle.ring_theory.proofs.Ring.{eq_of_sub}
-use Rattle.ring_theory.proofs.Solver.{ring, reads}
+use Rattle.ring_lemmas.proofs.Ring.{eq_of_sub}
+use Rattle.ring_lemmas.proofs.Solver.{ring, reads}
 use Rattle.linear_theory.specs.Module.{combine, restricted_ops, IsHomomorphism}
 use Rattle.linear_theory.specs.Basis.{IsIndependent as IsFree}
 use Rattle.function_field.specs.Spans.{combination, IsIndependent, InSpanOnce}

@@ -4,10 +4,10 @@ use Rattle.std.proofs.Common.{◌≡◌, ℕ, zero, suc, ◌<◌, ◌≤◌, ℤ
 use Rattle.std.proofs.Math.IntN.{neg_ℤ}
 use Rattle.std.proofs.lemmas.Int.{ints}
 use Rattle.std.proofs.lemmas.List.Elements.{All-nil, All-cons, All-head, All-tail}
-use Rattle.ring_theory.specs.Ring.{pow}
+use Rattle.ring_lemmas.specs.Ring.{pow}
 use Rattle.ring_theory.specs.Subsets.{Span}
-use Rattle.ring_theory.proofs.Ring.{mul_zero}
-use Rattle.ring_theory.proofs.Solver.{ring, reads, from_one}
+use Rattle.ring_lemmas.proofs.Ring.{mul_zero}
+use Rattle.ring_lemmas.proofs.Solver.{ring, reads, from_one}
 use Rattle.ring_theory.proofs.Subsets.{span_least}
 use Rattle.ff_fields.specs.Field.{CodeField}
 use Rattle.ff_fields.specs.Code.{code_ring, code_field, code_domain}
@@ -19,8 +19,7 @@ use Rattle.function_field.specs.Divisors.{x_to, shifted, SpansOnce}
 use Rattle.function_field.proofs.OnSide.{den_inverse}
 use Rattle.function_field.proofs.ScalarRings.{polynomials_subring, finite_at_infinity_subring, bottoms_not_zero, over_times, of_poly_one}
 use Rattle.linear_theory.specs.Module.{combine}
-use Rattle.linear_theory.proofs.Lists.{entry}
-use Rattle.linear_theory.proofs.Elimination.{tabulate}
+use Rattle.linear_theory.specs.Lists.{entry, tabulate}
 use Rattle.places_theory.proofs.YRoot.{poly_hom, over_times_den}
 use Rattle.trace_theory.specs.Traces.{IsRational}
 use Rattle.trace_theory.proofs.FunctionPowers.{power_some}

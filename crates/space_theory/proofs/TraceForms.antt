@@ -1,9 +1,9 @@
 -- The trace of a product as a form with values in the rational functions: it tells functions apart where the
 -- discriminant isn't 0.
 use Rattle.std.proofs.Common.{◌≡◌, [], ◌∷◌, refl, sym, ◌∙◌, ap}
-use Rattle.ring_theory.specs.Ring.{pow}
-use Rattle.ring_theory.proofs.Ring.{add_mul, zero_add, add_cancel, eq_of_sub}
-use Rattle.ring_theory.proofs.Solver.{ring, reads}
+use Rattle.ring_lemmas.specs.Ring.{pow}
+use Rattle.ring_lemmas.proofs.Ring.{add_mul, zero_add, add_cancel, eq_of_sub}
+use Rattle.ring_lemmas.proofs.Solver.{ring, reads}
 use Rattle.ff_fields.specs.Field.{CodeField}
 use Rattle.ff_fields.specs.Code.{code_ring}
 use Rattle.ff_poly.specs.Polynomials.{polynomials, polynomials_domain}

@@ -1,7 +1,7 @@
 -- Lattices at infinity, and pairs of a lattice over the polynomials and one at infinity, which stand for divisors
 -- (F. Hess, Computing Riemann-Roch spaces in algebraic function fields and related topics, 2002, sections 2 and 4).
 use Rattle.std.specs.Prelude.{◌≡◌, ℕ, ℤ, neg_ℤ, List, length}
-use Rattle.ring_theory.specs.Ring.{pow}
+use Rattle.ring_lemmas.specs.Ring.{pow}
 use Rattle.ring_theory.specs.Subsets.{Span}
 use Rattle.prime_theory.specs.Ideals.{SameSet}
 use Rattle.ff_fields.specs.Field.{CodeField}

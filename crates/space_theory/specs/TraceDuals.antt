@@ -1,10 +1,10 @@
 -- The duals of lattices under the trace of a product, and with them the pairs of canonical divisors (Stichtenoth,
 -- section 3.4).
 use Rattle.std.specs.Prelude.{◌≡◌, ℕ, ◌<◌, List, length}
-use Rattle.ring_theory.specs.Ring.{pow}
+use Rattle.ring_lemmas.specs.Ring.{pow}
 use Rattle.ff_fields.specs.Field.{CodeField}
 use Rattle.function_field.specs.Functions.{Equation, FunctionOf, ring_of, trace_of, setting_of, degree_of_y, IsPolynomial, IsFiniteAtInfinity}
-use Rattle.linear_theory.proofs.Lists.{entry}
+use Rattle.linear_theory.specs.Lists.{entry}
 
 module _ {k : CodeField} (c : Equation k) where
   -- the functions whose products with the members of I have polynomials as traces

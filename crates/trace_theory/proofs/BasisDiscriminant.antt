@@ -1,12 +1,12 @@
 -- The discriminant of another basis.
 use Rattle.std.proofs.Common.{◌≡◌, ℕ, suc, ◌<◌, ◌+◌, [], ◌∷◌, refl, sym, ◌∙◌, ap, ap₂}
-use Rattle.ring_theory.specs.Ring.{CommRing, pow}
-use Rattle.ring_theory.specs.Sums.{sum_below, matrix_product}
+use Rattle.ring_lemmas.specs.Ring.{CommRing, pow}
+use Rattle.ring_lemmas.specs.Sums.{sum_below, matrix_product}
 use Rattle.ring_theory.specs.Determinant.{determinant}
-use Rattle.ring_theory.proofs.Ring.{pow_add}
-use Rattle.ring_theory.proofs.Sums.{below_cong, below_scale_right}
+use Rattle.ring_lemmas.proofs.Ring.{pow_add}
+use Rattle.ring_lemmas.proofs.Sums.{below_cong, below_scale_right}
 use Rattle.ring_theory.proofs.Determinant.{determinant_product}
-use Rattle.ring_theory.proofs.Solver.{ring, reads}
+use Rattle.ring_lemmas.proofs.Solver.{ring, reads}
 use Rattle.ff_fields.specs.Field.{CodeField}
 use Rattle.function_field.specs.Functions.{Equation, FunctionOf, ring_of, of_poly, y_of, trace_of, degree_of_y}
 use Rattle.function_field.specs.Discriminant.{discriminant}

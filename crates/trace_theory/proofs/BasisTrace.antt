@@ -1,12 +1,12 @@
 -- The trace in any basis: coordinates of functions, and the matrices of multiplication by a function in two bases.
 use native.Mathlib.Decide.{ℕ_discrete}
 use Rattle.std.proofs.Common.{◌≡◌, ℕ, zero, suc, ◌<◌, sym, ◌∙◌, ap, ap₂, arith}
-use Rattle.ring_theory.specs.Ring.{CommRing, pow}
-use Rattle.ring_theory.specs.Rows.{Row, row_scale, entry}
-use Rattle.ring_theory.specs.Sums.{sum_below, trace}
-use Rattle.ring_theory.proofs.Ring.{mul_zero, one_mul, add_cancel_left, mul_left_comm}
-use Rattle.ring_theory.proofs.Rows.{pair_path, row_scale_zero}
-use Rattle.ring_theory.proofs.Sums.{below_cong, below_scale, below_scale_right, below_single}
+use Rattle.ring_lemmas.specs.Ring.{CommRing, pow}
+use Rattle.ring_lemmas.specs.Rows.{Row, row_scale, entry}
+use Rattle.ring_lemmas.specs.Sums.{sum_below, trace}
+use Rattle.ring_lemmas.proofs.Ring.{mul_zero, one_mul, add_cancel_left, mul_left_comm}
+use Rattle.ring_lemmas.proofs.Rows.{pair_path, row_scale_zero}
+use Rattle.ring_lemmas.proofs.Sums.{below_cong, below_scale, below_scale_right, below_single}
 use Rattle.ff_fields.specs.Field.{CodeField}
 use Rattle.ff_poly.specs.Polynomials.{Polynomial, polynomials}
 use Rattle.function_field.specs.Functions.{Equation, RowOver, AreSame, FunctionOf, ring_of, function, function_eq, from_rows, from_rows_value, row_of, of_poly, over, y_of, trace_of, degree_of_y}

@@ -1,11 +1,11 @@
 -- The trace form is degenerate exactly where the discriminant is 0.
 use Rattle.std.proofs.Common.{◌≡◌, ℕ, suc, ◌<◌, ◌↔◌, refl, sym, ◌∙◌, ap}
-use Rattle.ring_theory.specs.Ring.{pow}
-use Rattle.ring_theory.specs.Rows.{row_zero, entry}
-use Rattle.ring_theory.proofs.Ring.{mul_zero}
-use Rattle.ring_theory.proofs.Rows.{row_scale_one, row_scale_zero}
-use Rattle.ring_theory.proofs.RowFractions.{whole_pair}
-use Rattle.ring_theory.proofs.Sums.{below_cong}
+use Rattle.ring_lemmas.specs.Ring.{pow}
+use Rattle.ring_lemmas.specs.Rows.{row_zero, entry}
+use Rattle.ring_lemmas.proofs.Ring.{mul_zero}
+use Rattle.ring_lemmas.proofs.Rows.{row_scale_one, row_scale_zero}
+use Rattle.ring_theory.specs.FunctionRing.{whole_pair}
+use Rattle.ring_lemmas.proofs.Sums.{below_cong}
 use Rattle.linear_theory.specs.Fields.{Domain}
 use Rattle.ff_fields.specs.Field.{CodeField}
 use Rattle.ff_poly.specs.Polynomials.{Polynomial, polynomials, polynomials_domain, polynomial_discrete}

@@ -1,18 +1,18 @@
 -- Over a domain a square matrix whose determinant is 0 has a relation between its rows.
 use Rattle.std.proofs.Common.{◌≡◌, ℕ, zero, suc, ◌<◌, ◌⊎◌, inl, inr, ◌∷◌, length, refl, sym, ◌∙◌, ap, subst, arith}
 use native.Mathlib.Decide.{ℕ_discrete}
-use Rattle.ring_theory.specs.Ring.{CommRing}
-use Rattle.ring_theory.specs.Sums.{sum_below, matrix_product}
+use Rattle.ring_lemmas.specs.Ring.{CommRing}
+use Rattle.ring_lemmas.specs.Sums.{sum_below, matrix_product}
 use Rattle.ring_theory.specs.Determinant.{determinant, with_row}
-use Rattle.ring_theory.proofs.Ring.{mul_zero, zero_mul, zero_add, neg_mul, neg_unique, product_not_zero}
-use Rattle.ring_theory.proofs.Sums.{below_first, below_cong, below_neg}
+use Rattle.ring_lemmas.proofs.Ring.{mul_zero, zero_mul, zero_add, neg_mul, neg_unique, product_not_zero}
+use Rattle.ring_lemmas.proofs.Sums.{below_first, below_cong, below_neg}
 use Rattle.ring_theory.proofs.Determinant.{determinant_product}
 use Rattle.linear_theory.specs.Fields.{Domain}
 use Rattle.linear_theory.specs.Module.{combine, sequence_ops}
 use Rattle.linear_theory.specs.Basis.{Relation, IsIndependent}
 use Rattle.linear_theory.proofs.Standard.{Vanishes}
 use Rattle.linear_theory.proofs.Relation.{relation}
-use Rattle.linear_theory.proofs.Elimination.{tabulate}
+use Rattle.linear_theory.specs.Lists.{tabulate}
 use Rattle.linear_theory.proofs.Independence.{independent_or_relation}
 use Rattle.ring_theory.proofs.Cramer.{cramer}
 use Rattle.trace_theory.proofs.RowForm.{with_row_cong}

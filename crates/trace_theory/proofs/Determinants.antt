@@ -1,12 +1,12 @@
 -- Determinants: of matrices with equal entries, of diagonal matrices, of a multiple of a row, of matrices near 1, and of images.
 use mathlib.Core.Path.{fun_ext}
 use Rattle.std.proofs.Common.{◌≡◌, ℕ, zero, suc, ◌<◌, [], ◌∷◌, refl, sym, ◌∙◌, ap, ap₂, arith}
-use Rattle.ring_theory.specs.Ring.{Operations, CommRing, pow}
-use Rattle.ring_theory.specs.Sums.{sum_below, matrix_product, trace}
+use Rattle.ring_lemmas.specs.Ring.{Operations, CommRing, pow}
+use Rattle.ring_lemmas.specs.Sums.{sum_below, matrix_product, trace}
 use Rattle.ring_theory.specs.Determinant.{determinant, minor, with_row}
-use Rattle.ring_theory.proofs.Ring.{zero_add, one_mul, mul_zero, zero_mul, add_cancel_left}
-use Rattle.ring_theory.proofs.Sums.{below_cong, below_first, below_zero, below_single, below_scale, below_swap}
-use Rattle.ring_theory.proofs.Solver.{ring, reads}
+use Rattle.ring_lemmas.proofs.Ring.{zero_add, one_mul, mul_zero, zero_mul, add_cancel_left}
+use Rattle.ring_lemmas.proofs.Sums.{below_cong, below_first, below_zero, below_single, below_scale, below_swap}
+use Rattle.ring_lemmas.proofs.Solver.{ring, reads}
 use Rattle.ring_theory.specs.Maps.{IsHom}
 use Rattle.ring_theory.proofs.RowMaps.{hom_zero, hom_neg}
 use Rattle.ring_theory.proofs.Determinant.{determinant_product}

@@ -1,10 +1,10 @@
 -- The basis that is dual to the powers of y under the trace form.
 use Rattle.std.proofs.Common.{◌≡◌, ℕ, suc, ◌<◌, [], ◌∷◌, refl, sym, ◌∙◌, ap}
-use Rattle.ring_theory.specs.Ring.{CommRing, pow}
-use Rattle.ring_theory.specs.Sums.{sum_below}
-use Rattle.ring_theory.proofs.Ring.{mul_zero, zero_add, add_cancel, eq_of_sub}
-use Rattle.ring_theory.proofs.Sums.{below_cong, below_single, below_scale_right}
-use Rattle.ring_theory.proofs.Solver.{ring, reads}
+use Rattle.ring_lemmas.specs.Ring.{CommRing, pow}
+use Rattle.ring_lemmas.specs.Sums.{sum_below}
+use Rattle.ring_lemmas.proofs.Ring.{mul_zero, zero_add, add_cancel, eq_of_sub}
+use Rattle.ring_lemmas.proofs.Sums.{below_cong, below_single, below_scale_right}
+use Rattle.ring_lemmas.proofs.Solver.{ring, reads}
 use Rattle.ff_fields.specs.Field.{CodeField}
 use Rattle.ff_poly.specs.Polynomials.{polynomials}
 use Rattle.function_field.specs.Functions.{Equation, FunctionOf, ring_of, of_poly, over, y_of, trace_of, degree_of_y}

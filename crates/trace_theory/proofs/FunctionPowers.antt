@@ -1,11 +1,11 @@
 -- Powers of functions, and exponents m, as large as wanted, for which the m-th power keeps sums and traces.
 use Rattle.std.proofs.Common.{◌≡◌, ℕ, zero, suc, ◌≤◌, ◌*◌, ◌+◌, refl, sym, ◌∙◌, ap, ap₂, arith, mul-suc}
-use Rattle.ring_theory.specs.Ring.{CommRing, pow}
-use Rattle.ring_theory.specs.Rows.{Row, row_zero, row_scale}
-use Rattle.ring_theory.proofs.Ring.{pow_one, pow_mul, product_not_zero}
-use Rattle.ring_theory.proofs.Rows.{row_scale_one, row_scale_zero}
+use Rattle.ring_lemmas.specs.Ring.{CommRing, pow}
+use Rattle.ring_lemmas.specs.Rows.{Row, row_zero, row_scale}
+use Rattle.ring_lemmas.proofs.Ring.{pow_one, pow_mul, product_not_zero}
+use Rattle.ring_lemmas.proofs.Rows.{row_scale_one, row_scale_zero}
 use Rattle.ring_theory.specs.Maps.{IsHom}
-use Rattle.ring_theory.specs.Polynomials.{constant}
+use Rattle.ring_lemmas.specs.Polynomials.{constant}
 use Rattle.ring_theory.proofs.Evaluate.{constant_hom, hom_after}
 use Rattle.ff_fields.specs.Field.{CodeField}
 use Rattle.ff_fields.specs.Code.{code_ring}

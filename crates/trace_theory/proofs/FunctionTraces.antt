@@ -1,11 +1,11 @@
 -- Products and traces of rows over polynomials.
 use Rattle.std.proofs.Common.{◌≡◌, ℕ, zero, suc, refl, sym, ◌∙◌, ap, ap₂}
-use Rattle.ring_theory.specs.Ring.{CommRing, pow, nat}
-use Rattle.ring_theory.specs.Sums.{sum_below}
-use Rattle.ring_theory.specs.Rows.{Row, row_scale, y_to, row_one}
-use Rattle.ring_theory.proofs.Ring.{one_mul}
-use Rattle.ring_theory.proofs.Rows.{pair_path, row_scale_zero, scale_row_mul}
-use Rattle.ring_theory.proofs.RowFractions.{pair_add, pair_mul, whole_pair}
+use Rattle.ring_lemmas.specs.Ring.{CommRing, pow, nat}
+use Rattle.ring_lemmas.specs.Sums.{sum_below}
+use Rattle.ring_lemmas.specs.Rows.{Row, row_scale, y_to, row_one}
+use Rattle.ring_lemmas.proofs.Ring.{one_mul}
+use Rattle.ring_lemmas.proofs.Rows.{pair_path, row_scale_zero, scale_row_mul}
+use Rattle.ring_theory.specs.FunctionRing.{pair_add, pair_mul, whole_pair}
 use Rattle.ff_fields.specs.Field.{CodeField}
 use Rattle.ff_poly.specs.Polynomials.{Polynomial, polynomials, polynomials_domain}
 use Rattle.function_field.specs.Functions.{Equation, FunctionOf, ring_of, function_eq, function_same, row_of, of_poly, over, y_of, add_rows, mul_rows, add_function, mul_function, one_function, whole_row, trace_of, trace_function, degree_of_y}

@@ -1,14 +1,14 @@
 -- The infinite presentation: its traces of powers of Y, and its discriminant, read at t = 1/x, are those of the finite one times powers of t.
 use Rattle.std.proofs.Common.{◌≡◌, ℕ, zero, suc, ◌<◌, ◌≤◌, ◌+◌, ◌-◌, ◌*◌, List, [], ◌∷◌, length, get_or, reverse, refl, sym, ◌∙◌, ap, ap₂, subst, arith}
 use Rattle.std.proofs.lemmas.List.{length-map, length-reverse}
-use Rattle.ring_theory.specs.Ring.{CommRing, pow}
-use Rattle.ring_theory.specs.Rows.{entry}
-use Rattle.ring_theory.proofs.Ring.{pow_mul, mul_pow, pow_one_base, eq_of_sub, sub_of_eq, mul_zero, pow_add}
+use Rattle.ring_lemmas.specs.Ring.{CommRing, pow}
+use Rattle.ring_lemmas.specs.Rows.{entry}
+use Rattle.ring_lemmas.proofs.Ring.{pow_mul, mul_pow, pow_one_base, eq_of_sub, sub_of_eq, mul_zero, pow_add}
 use Rattle.ring_theory.proofs.Evaluate.{length_trim}
 use mathlib.Core.List.{reverse-reverse}
 use Rattle.ring_theory.proofs.RowMaps.{hom_neg}
 use Rattle.trace_theory.proofs.Determinants.{image_power}
-use Rattle.ring_theory.proofs.Solver.{ring, reads, from_three, from_one}
+use Rattle.ring_lemmas.proofs.Solver.{ring, reads, from_three, from_one}
 use Rattle.ring_theory.proofs.Polynomials.{length_product, length_product_le}
 use Rattle.ff_fields.specs.Field.{CodeField}
 use Rattle.ff_fields.specs.Code.{code_ring, code_domain, read_code}

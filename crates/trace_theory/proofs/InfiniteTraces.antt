@@ -1,10 +1,10 @@
 -- The trace of a function is the same in both presentations.
 use Rattle.std.proofs.Common.{◌≡◌, ℕ, suc, ◌≤◌, ◌-◌, ◌*◌, length, sym, ◌∙◌, ap, ap₂}
-use Rattle.ring_theory.specs.Ring.{CommRing, pow}
-use Rattle.ring_theory.specs.Rows.{Row, entry}
-use Rattle.ring_theory.specs.Sums.{sum_below}
-use Rattle.ring_theory.proofs.Ring.{mul_pow, pow_mul}
-use Rattle.ring_theory.proofs.Sums.{below_cong}
+use Rattle.ring_lemmas.specs.Ring.{CommRing, pow}
+use Rattle.ring_lemmas.specs.Rows.{Row, entry}
+use Rattle.ring_lemmas.specs.Sums.{sum_below}
+use Rattle.ring_lemmas.proofs.Ring.{mul_pow, pow_mul}
+use Rattle.ring_lemmas.proofs.Sums.{below_cong}
 use Rattle.ring_theory.proofs.RowMaps.{eval}
 use Rattle.ff_fields.specs.Field.{CodeField}
 use Rattle.ff_poly.specs.Polynomials.{Polynomial, polynomials, codes_of, x_poly, x_poly_not_zero}

@@ -1,9 +1,9 @@
 -- The traces of integral functions of both sides.
 use Rattle.std.proofs.Common.{◌≡◌, ℕ, zero, suc, ◌<◌, ◌≤◌, ◌+◌, length, refl, sym, ◌∙◌, ap, subst, arith, le_refl}
-use Rattle.ring_theory.specs.Ring.{CommRing, pow}
-use Rattle.ring_theory.specs.Rows.{row_scale}
-use Rattle.ring_theory.proofs.Ring.{one_mul, product_not_zero}
-use Rattle.ring_theory.proofs.Rows.{pair_path, row_scale_zero}
+use Rattle.ring_lemmas.specs.Ring.{CommRing, pow}
+use Rattle.ring_lemmas.specs.Rows.{row_scale}
+use Rattle.ring_lemmas.proofs.Ring.{one_mul, product_not_zero}
+use Rattle.ring_lemmas.proofs.Rows.{pair_path, row_scale_zero}
 use Rattle.ring_theory.proofs.Polynomials.{length_product}
 use Rattle.ff_fields.specs.Field.{CodeField}
 use Rattle.ff_fields.specs.Code.{code_ring, code_domain}

@@ -1,17 +1,17 @@
 -- A rational function t with a multiple d·t^m in the polynomials, or in the fractions of degree at most 0, for one d and for exponents
 -- m as large as wanted, is such a function itself; so traces of integral functions are.
 use Rattle.std.proofs.Common.{◌≡◌, ℕ, zero, suc, ◌<◌, ◌≤◌, ◌⊎◌, inl, inr, [], ◌∷◌, length, refl, sym, ◌∙◌, ap, ap₂, subst, arith}
-use Rattle.ring_theory.specs.Ring.{CommRing, pow}
-use Rattle.ring_theory.specs.Rows.{Row, row_zero, entry}
-use Rattle.ring_theory.specs.Sums.{sum_below}
+use Rattle.ring_lemmas.specs.Ring.{CommRing, pow}
+use Rattle.ring_lemmas.specs.Rows.{Row, row_zero, entry}
+use Rattle.ring_lemmas.specs.Sums.{sum_below}
 use Rattle.ring_theory.specs.Subsets.{IsSubring}
 use Rattle.ring_theory.specs.Integral.{IsIntegral}
-use Rattle.ring_theory.proofs.Ring.{one_mul, zero_mul, mul_zero, mul_left_comm, product_not_zero}
-use Rattle.ring_theory.proofs.Sums.{below_scale, below_cong, below_first}
+use Rattle.ring_lemmas.proofs.Ring.{one_mul, zero_mul, mul_zero, mul_left_comm, product_not_zero}
+use Rattle.ring_lemmas.proofs.Sums.{below_scale, below_cong, below_first}
 use Rattle.ring_theory.specs.Maps.{IsHom}
 use Rattle.ring_theory.proofs.RowMaps.{eval, eval_none, eval_cons}
 use Rattle.ring_theory.proofs.Local.{power_in}
-use Rattle.ring_theory.proofs.Solver.{ring, reads, from_one}
+use Rattle.ring_lemmas.proofs.Solver.{ring, reads, from_one}
 use Rattle.ring_theory.proofs.Polynomials.{length_product}
 use Rattle.prime_theory.proofs.IntegralRing.{integral_ring}
 use Rattle.ff_fields.specs.Field.{CodeField}

@@ -2,12 +2,12 @@
 -- The traces of all powers of such a function have a common denominator, and that of an m-th power is the m-th power of the trace for
 -- exponents m as large as wanted.
 use Rattle.std.proofs.Common.{eq-or-lt_of_le, le_of_suc-le-suc, ◌≡◌, ℕ, zero, suc, ◌<◌, ◌⊎◌, inl, inr, [], ◌∷◌, refl, sym, ◌∙◌, ap, subst, arith}
-use Rattle.ring_theory.specs.Ring.{CommRing, pow}
+use Rattle.ring_lemmas.specs.Ring.{CommRing, pow}
 use Rattle.ring_theory.specs.Subsets.{IsSubring}
 use Rattle.ring_theory.specs.Integral.{IsIntegral}
-use Rattle.ring_theory.proofs.Ring.{one_mul, mul_zero, add_cancel_left}
+use Rattle.ring_lemmas.proofs.Ring.{one_mul, mul_zero, add_cancel_left}
 use Rattle.ring_theory.proofs.Integral.{Low}
-use Rattle.ring_theory.proofs.Solver.{ring, reads, from_two}
+use Rattle.ring_lemmas.proofs.Solver.{ring, reads, from_two}
 use Rattle.prime_theory.proofs.Adjoined.{power_low, low_by_root, low_has}
 
 -- in a ring with a subring S and a map that is additive and linear over S

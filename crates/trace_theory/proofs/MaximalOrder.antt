@@ -2,8 +2,8 @@
 use Rattle.std.proofs.Common.{◌≡◌, List, [], ◌∷◌, All, refl, sym, ◌∙◌, ap, ap₂, subst}
 use Rattle.std.proofs.lemmas.List.Elements.{All-head, All-tail}
 use Rattle.ring_theory.specs.Subsets.{IsSubring}
-use Rattle.ring_theory.proofs.Ring.{one_mul, product_not_zero}
-use Rattle.ring_theory.proofs.Solver.{ring, reads, from_one}
+use Rattle.ring_lemmas.proofs.Ring.{one_mul, product_not_zero}
+use Rattle.ring_lemmas.proofs.Solver.{ring, reads, from_one}
 use Rattle.prime_theory.specs.Orders.{MaximalAt}
 use Rattle.prime_theory.proofs.IntegralRing.{integral_base}
 use Rattle.linear_theory.specs.Euclidean.{IsDivisorIn, Bezout}

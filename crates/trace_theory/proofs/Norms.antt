@@ -1,11 +1,11 @@
 -- The norm of a row, the determinant of its matrix: it is multiplicative, and that of 1 + a·v is 1 + a·(the trace of v) up to a multiple of a².
 use native.Mathlib.Decide.{ℕ_discrete}
 use Rattle.std.proofs.Common.{◌≡◌, ℕ, zero, suc, ◌<◌, refl, sym, ◌∙◌, ap, ap₂}
-use Rattle.ring_theory.specs.Ring.{CommRing, pow}
-use Rattle.ring_theory.specs.Rows.{Row, row_scale}
-use Rattle.ring_theory.specs.Sums.{matrix_product}
+use Rattle.ring_lemmas.specs.Ring.{CommRing, pow}
+use Rattle.ring_lemmas.specs.Rows.{Row, row_scale}
+use Rattle.ring_lemmas.specs.Sums.{matrix_product}
 use Rattle.ring_theory.specs.Determinant.{determinant}
-use Rattle.ring_theory.proofs.Ring.{one_mul, add_mul}
+use Rattle.ring_lemmas.proofs.Ring.{one_mul, add_mul}
 use Rattle.ring_theory.proofs.Determinant.{determinant_product}
 use Rattle.trace_theory.proofs.RowMatrix.{rows, y, tr, at, at_scale, entry_add, entry_here, entry_other, y_unit, unit_row, matrix, matrix_mul, left_scale, trace_is}
 use Rattle.trace_theory.proofs.Determinants.{Near, near, near_one, diagonal, product_below, diagonal_determinant, diagonal_here, diagonal_other, determinant_cong}

@@ -1,13 +1,13 @@
 -- The q-th power of a sum of rows of polynomials is the sum of the q-th powers, q being the number of codes of the field.
 use Rattle.std.proofs.Common.{◌≡◌, ℕ, suc, ◌-◌, ◌≤◌, inl, inr, List, [], ◌∷◌, length, All, refl, sym, ◌∙◌, ap, arith}
 use Rattle.std.proofs.lemmas.List.Elements.{All-nil, All-cons}
-use Rattle.ring_theory.specs.Ring.{CommRing, pow}
-use Rattle.ring_theory.specs.Rows.{Row, row_zero, row_add, row_one}
+use Rattle.ring_lemmas.specs.Ring.{CommRing, pow}
+use Rattle.ring_lemmas.specs.Rows.{Row, row_zero, row_add, row_one}
 use Rattle.ring_theory.specs.Members.{In, IsDistinct}
-use Rattle.ring_theory.proofs.Rows.{pair_path, row_add_zero}
+use Rattle.ring_lemmas.proofs.Rows.{pair_path, row_add_zero}
 use Rattle.ring_theory.specs.Maps.{IsHom}
 use Rattle.ring_theory.proofs.RowMaps.{hom_zero}
-use Rattle.ring_theory.specs.Polynomials.{constant}
+use Rattle.ring_lemmas.specs.Polynomials.{constant}
 use Rattle.ring_theory.proofs.Evaluate.{constant_hom, hom_after}
 use Rattle.linear_theory.specs.Fields.{Domain}
 use Rattle.linear_theory.specs.Distinct.{Distinct}

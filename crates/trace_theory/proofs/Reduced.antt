@@ -1,15 +1,15 @@
 -- Where the discriminant isn't 0, no function but 0 is nilpotent, and F is a field where 0 and 1 are its only idempotents.
 use Rattle.std.proofs.Common.{◌≡◌, ℕ, zero, suc, ◌<◌, ◌≤◌, ◌+◌, ◌-◌, ◌⊎◌, inl, inr, List, [], ◌∷◌, refl, sym, ◌∙◌, ap, ap₂, subst, arith, ◌↔◌}
-use Rattle.ring_theory.specs.Ring.{CommRing, IsField, pow}
-use Rattle.ring_theory.specs.Rows.{Row, row_zero, row_scale, entry}
-use Rattle.ring_theory.specs.Sums.{sum_below}
-use Rattle.ring_theory.proofs.Ring.{one_mul, zero_mul, mul_zero, zero_add, mul_left_comm, mul_pow, pow_add, add_cancel_left}
-use Rattle.ring_theory.proofs.Sums.{below_first, below_cong, below_scale}
-use Rattle.ring_theory.proofs.Solver.{ring, reads, from_two}
-use Rattle.ring_theory.proofs.Rows.{row_scale_one}
+use Rattle.ring_lemmas.specs.Ring.{CommRing, IsField, pow}
+use Rattle.ring_lemmas.specs.Rows.{Row, row_zero, row_scale, entry}
+use Rattle.ring_lemmas.specs.Sums.{sum_below}
+use Rattle.ring_lemmas.proofs.Ring.{one_mul, zero_mul, mul_zero, zero_add, mul_left_comm, mul_pow, pow_add, add_cancel_left}
+use Rattle.ring_lemmas.proofs.Sums.{below_first, below_cong, below_scale}
+use Rattle.ring_lemmas.proofs.Solver.{ring, reads, from_two}
+use Rattle.ring_lemmas.proofs.Rows.{row_scale_one}
 use Rattle.linear_theory.specs.Basis.{Relation}
 use Rattle.linear_theory.proofs.Relation.{relation}
-use Rattle.linear_theory.proofs.Elimination.{tabulate}
+use Rattle.linear_theory.specs.Lists.{tabulate}
 use Rattle.linear_theory.proofs.Domain.{first_nonzero}
 use Rattle.ff_fields.specs.Field.{CodeField}
 use Rattle.ff_poly.specs.Polynomials.{Polynomial, polynomials}

@@ -1,12 +1,12 @@
 -- Rows whose products with the powers of y have multiples of d as traces: the discriminant times such a row is a multiple of d.
 use native.Mathlib.Decide.{ℕ_discrete}
 use Rattle.std.proofs.Common.{◌≡◌, ℕ, zero, suc, ◌<◌, ◌+◌, refl, sym, ◌∙◌, ap, arith}
-use Rattle.ring_theory.specs.Ring.{CommRing, IsDomain}
-use Rattle.ring_theory.specs.Rows.{Row, row_scale}
-use Rattle.ring_theory.specs.Sums.{sum_below}
+use Rattle.ring_lemmas.specs.Ring.{CommRing, IsDomain}
+use Rattle.ring_lemmas.specs.Rows.{Row, row_scale}
+use Rattle.ring_lemmas.specs.Sums.{sum_below}
 use Rattle.ring_theory.specs.Determinant.{determinant, with_row}
-use Rattle.ring_theory.proofs.Ring.{domain_cancel, mul_left_comm}
-use Rattle.ring_theory.proofs.Sums.{below_cong, below_scale}
+use Rattle.ring_lemmas.proofs.Ring.{domain_cancel, mul_left_comm}
+use Rattle.ring_lemmas.proofs.Sums.{below_cong, below_scale}
 use Rattle.ring_theory.proofs.Cramer.{cramer}
 use Rattle.trace_theory.proofs.RowMatrix.{rows, y, tr, at, at_scale, row_with, entry_with, row_by_entries, trace_form, trace_product}
 use Rattle.trace_theory.proofs.Determinants.{determinant_cong, scaled_row, transposed}

@@ -1,11 +1,12 @@
 -- A row is the sum of its entries times the powers of y, and multiplication by a row has a matrix.
 use Rattle.std.proofs.Common.{◌≡◌, ℕ, zero, suc, ◌<◌, ◌+◌, refl, sym, ◌∙◌, ap, ap₂, arith, zero-add}
-use Rattle.ring_theory.specs.Ring.{CommRing}
-use Rattle.ring_theory.specs.Rows.{Row, row_zero, row_add, row_scale, shift, top, times_y, row_times, entry, y_to, diagonal_sum, row_trace, row_one, row_mul}
-use Rattle.ring_theory.specs.Sums.{sum_below, matrix_product, trace}
-use Rattle.ring_theory.proofs.Ring.{mul_zero, neg_zero}
-use Rattle.ring_theory.proofs.Sums.{below_cong, below_first, below_add}
-use Rattle.ring_theory.proofs.Rows.{pair_path, row_add_zero, row_zero_scale, times_scale, times_times_y, row_ring, row_mul_one, entry_scale, row_trace_scale, scale_row_mul}
+use Rattle.ring_lemmas.specs.Ring.{CommRing}
+use Rattle.ring_lemmas.specs.Rows.{Row, row_zero, row_add, row_scale, shift, top, times_y, row_times, entry, y_to, diagonal_sum, row_trace, row_one, row_mul}
+use Rattle.ring_lemmas.specs.Sums.{sum_below, matrix_product, trace}
+use Rattle.ring_lemmas.proofs.Ring.{mul_zero, neg_zero}
+use Rattle.ring_lemmas.proofs.Sums.{below_cong, below_first, below_add}
+use Rattle.ring_lemmas.proofs.Rows.{pair_path, row_add_zero, row_zero_scale, times_scale, times_times_y, row_mul_one, entry_scale, row_trace_scale, scale_row_mul}
+use Rattle.ring_theory.specs.RowRing.{row_ring}
 
 module _ {P : Type 0} (S : CommRing P) where
   -- the row of the i-th power of y

@@ -1,11 +1,11 @@
 -- Similar matrices have one trace.
 use Rattle.std.proofs.Common.{◌≡◌, ℕ, zero, suc, ◌<◌, [], ◌∷◌, refl, sym, ◌∙◌, ap, ap₂}
-use Rattle.ring_theory.specs.Ring.{CommRing}
-use Rattle.ring_theory.specs.Sums.{sum_below, matrix_product, trace}
+use Rattle.ring_lemmas.specs.Ring.{CommRing}
+use Rattle.ring_lemmas.specs.Sums.{sum_below, matrix_product, trace}
 use Rattle.ring_theory.specs.Determinant.{determinant, with_row}
-use Rattle.ring_theory.proofs.Ring.{zero_mul, mul_zero, add_mul, one_mul, eq_of_sub, neg_mul}
-use Rattle.ring_theory.proofs.Sums.{below_cong, below_single, below_add, below_neg, matrix_assoc, trace_swap}
-use Rattle.ring_theory.proofs.Solver.{ring, reads, from_two}
+use Rattle.ring_lemmas.proofs.Ring.{zero_mul, mul_zero, add_mul, one_mul, eq_of_sub, neg_mul}
+use Rattle.ring_lemmas.proofs.Sums.{below_cong, below_single, below_add, below_neg, matrix_assoc, trace_swap}
+use Rattle.ring_lemmas.proofs.Solver.{ring, reads, from_two}
 use Rattle.ring_theory.proofs.Determinant.{determinant_product}
 use Rattle.ring_theory.proofs.Cramer.{cramer}
 use Rattle.trace_theory.proofs.Determinants.{diagonal, product_below, diagonal_determinant, diagonal_here, diagonal_other, determinant_cong, zero_row}

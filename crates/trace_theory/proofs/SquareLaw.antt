@@ -1,11 +1,11 @@
 -- Where an irreducible p takes a function to polynomial coordinates that the function doesn't have, while its traces are polynomials, the
 -- square of p divides the discriminant.
 use Rattle.std.proofs.Common.{◌≡◌, ℕ, suc, ◌<◌, ◌⊎◌, inl, inr, [], ◌∷◌, refl, sym, ◌∙◌, ap, ap₂, subst, zero}
-use Rattle.ring_theory.specs.Ring.{pow}
-use Rattle.ring_theory.specs.Rows.{Row}
-use Rattle.ring_theory.proofs.Ring.{mul_left_comm, domain_cancel, product_not_zero, one_mul}
-use Rattle.ring_theory.proofs.Rows.{row_scale_one}
-use Rattle.ring_theory.proofs.Solver.{ring, reads, from_two}
+use Rattle.ring_lemmas.specs.Ring.{pow}
+use Rattle.ring_lemmas.specs.Rows.{Row}
+use Rattle.ring_lemmas.proofs.Ring.{mul_left_comm, domain_cancel, product_not_zero, one_mul}
+use Rattle.ring_lemmas.proofs.Rows.{row_scale_one}
+use Rattle.ring_lemmas.proofs.Solver.{ring, reads, from_two}
 use Rattle.linear_theory.specs.Euclidean.{IsDivisorIn}
 use Rattle.linear_theory.proofs.Domain.{least}
 use Rattle.ff_fields.specs.Field.{CodeField}

@@ -1,9 +1,9 @@
 -- The discriminant takes a function whose products with the powers of y have polynomials as traces to polynomial coordinates.
 use Rattle.std.proofs.Common.{◌≡◌, ℕ, zero, suc, ◌<◌, sym, ◌∙◌, ap, arith}
-use Rattle.ring_theory.specs.Ring.{pow}
-use Rattle.ring_theory.specs.Rows.{Row, row_scale}
-use Rattle.ring_theory.proofs.Ring.{one_mul}
-use Rattle.ring_theory.proofs.Rows.{row_scale_one}
+use Rattle.ring_lemmas.specs.Ring.{pow}
+use Rattle.ring_lemmas.specs.Rows.{Row, row_scale}
+use Rattle.ring_lemmas.proofs.Ring.{one_mul}
+use Rattle.ring_lemmas.proofs.Rows.{row_scale_one}
 use Rattle.ff_fields.specs.Field.{CodeField}
 use Rattle.ff_poly.specs.Polynomials.{Polynomial, polynomials}
 use Rattle.function_field.specs.Functions.{Equation, FunctionOf, ring_of, row_of, of_poly, over, y_of, trace_of, degree_of_y, IsPolynomial}

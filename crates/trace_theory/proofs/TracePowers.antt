@@ -1,11 +1,12 @@
 -- The trace of a q-th power is the q-th power of the trace.
 use Rattle.std.proofs.Common.{◌≡◌, ℕ, zero, suc, ◌<◌, ◌≤◌, ◌⊎◌, inl, inr, [], ◌∷◌, length, refl, sym, ◌∙◌, ap, ap₂, arith}
-use Rattle.ring_theory.specs.Ring.{CommRing, pow}
-use Rattle.ring_theory.specs.Rows.{Row, row_scale}
-use Rattle.ring_theory.proofs.Ring.{mul_pow, pow_one_base, eq_of_sub, domain_cancel, product_not_zero, mul_zero}
-use Rattle.ring_theory.proofs.Solver.{ring, reads, from_one}
-use Rattle.ring_theory.specs.Polynomials.{pol_ops}
-use Rattle.ring_theory.proofs.Polynomials.{coeff_past, length_product}
+use Rattle.ring_lemmas.specs.Ring.{CommRing, pow}
+use Rattle.ring_lemmas.specs.Rows.{Row, row_scale}
+use Rattle.ring_lemmas.proofs.Ring.{mul_pow, pow_one_base, eq_of_sub, domain_cancel, product_not_zero, mul_zero}
+use Rattle.ring_lemmas.proofs.Solver.{ring, reads, from_one}
+use Rattle.ring_lemmas.specs.Polynomials.{pol_ops}
+use Rattle.ring_lemmas.proofs.Polynomials.{coeff_past}
+use Rattle.ring_theory.proofs.Polynomials.{length_product}
 use Rattle.ff_fields.specs.Field.{CodeField}
 use Rattle.ff_fields.specs.Code.{code_ring, code_domain, read_code, read_code_below}
 use Rattle.ff_poly.specs.Polynomials.{Polynomial, polynomials, polynomials_domain, polynomial_discrete, x_poly, x_poly_not_zero, series_read}

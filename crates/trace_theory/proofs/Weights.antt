@@ -1,13 +1,13 @@
 -- Two presentations with coefficients g_j and f_j where the image of g_j is that of f_j times T^(n-j): the powers of y, their traces and the
 -- discriminants differ by powers of T.
 use Rattle.std.proofs.Common.{◌≡◌, ℕ, zero, suc, ◌<◌, ◌+◌, ◌-◌, ◌*◌, [], ◌∷◌, refl, sym, ◌∙◌, ap, ap₂, arith, mul-suc, suc-mul, mul-zero}
-use Rattle.ring_theory.specs.Ring.{CommRing, pow}
-use Rattle.ring_theory.specs.Rows.{Row, shift, top, times_y, entry, y_to}
-use Rattle.ring_theory.specs.Sums.{sum_below}
+use Rattle.ring_lemmas.specs.Ring.{CommRing, pow}
+use Rattle.ring_lemmas.specs.Rows.{Row, shift, top, times_y, entry, y_to}
+use Rattle.ring_lemmas.specs.Sums.{sum_below}
 use Rattle.ring_theory.specs.Determinant.{determinant}
-use Rattle.ring_theory.proofs.Ring.{one_mul, zero_mul, zero_add, add_mul, mul_left_comm, pow_add, mul_mul, mul_pow, pow_one_base}
-use Rattle.ring_theory.proofs.Sums.{below_cong, below_scale_right}
-use Rattle.ring_theory.proofs.Solver.{ring, reads, from_two}
+use Rattle.ring_lemmas.proofs.Ring.{one_mul, zero_mul, zero_add, add_mul, mul_left_comm, pow_add, mul_mul, mul_pow, pow_one_base}
+use Rattle.ring_lemmas.proofs.Sums.{below_cong, below_scale_right}
+use Rattle.ring_lemmas.proofs.Solver.{ring, reads, from_two}
 use Rattle.ring_theory.specs.Maps.{IsHom}
 use Rattle.ring_theory.proofs.RowMaps.{hom_zero, hom_neg}
 use Rattle.trace_theory.proofs.RowMatrix.{y, tr, at, at_scale, entry_add, unit_row, entry_here, entry_other, y_unit, y_product, trace_is, matrix}

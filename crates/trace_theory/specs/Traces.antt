@@ -1,8 +1,8 @@
 -- Rational functions, polynomials in x and y, and the trace form (Stichtenoth, Algebraic Function Fields and Codes, chapter 3).
 use Rattle.std.specs.Prelude.{◌≡◌, ℕ, suc, ◌<◌, List, [], ◌∷◌}
-use Rattle.ring_theory.specs.Ring.{pow}
-use Rattle.ring_theory.specs.Sums.{sum_below}
-use Rattle.ring_theory.specs.Rows.{Row}
+use Rattle.ring_lemmas.specs.Ring.{pow}
+use Rattle.ring_lemmas.specs.Sums.{sum_below}
+use Rattle.ring_lemmas.specs.Rows.{Row}
 use Rattle.ff_fields.specs.Field.{CodeField}
 use Rattle.ff_poly.specs.Polynomials.{Polynomial, polynomials, polynomials_domain}
 use Rattle.function_field.specs.Functions.{Equation, FunctionOf, ring_of, row_of, over, y_of, trace_of, degree_of_y}

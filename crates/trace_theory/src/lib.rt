@@ -4,9 +4,9 @@
 #![tactic(auto)]
 
 ghost use Rattle.std.specs.Prelude.{◌≡◌, ◌≢◌, ℕ, ◌+◌, ◌-◌, ◌*◌, ◌≤◌, ◌<◌, ◌↔◌, ◌⊎◌, [], length, reverse, List, All};
-ghost use Rattle.ring_theory.specs.Ring.{IsField, pow, nat};
+ghost use Rattle.ring_lemmas.specs.Ring.{IsField, pow, nat};
 ghost use Rattle.ring_theory.specs.Subsets.{IsSubring};
-ghost use Rattle.ring_theory.specs.Sums.{sum_below, trace};
+ghost use Rattle.ring_lemmas.specs.Sums.{sum_below, trace};
 ghost use Rattle.ring_theory.specs.Determinant.{determinant};
 ghost use Rattle.ff_fields.specs.Field.{CodeField};
 ghost use Rattle.linear_theory.specs.Euclidean.{IsDivisorIn};

@@ -1,6 +1,6 @@
 -- Lattices and orders of codes as sets of functions: what contracts say of them, in the words of the theory.
 use Rattle.std.proofs.Common.{◌≡◌, ℕ, ◌<◌, ◌↔◌, List, [], length, sym, ◌∙◌, ap, subst, arith}
-use Rattle.ring_theory.proofs.Ring.{neg_mul, one_mul}
+use Rattle.ring_lemmas.proofs.Ring.{neg_mul, one_mul}
 use Rattle.ff_fields.specs.Field.{CodeField}
 use Rattle.ff_fields.specs.Over.{IsOver}
 use Rattle.ff_poly.specs.Words.{IsPoly, IsIrreducibleList}

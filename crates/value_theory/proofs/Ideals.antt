@@ -1,8 +1,8 @@
 -- Ideals of orders of codes in the words of the theory; and those that are maximal: exactly those modulo which the
 -- order is a field.
 use Rattle.std.proofs.Common.{◌≡◌, ℕ, suc, ◌-◌, ◌↔◌, List, replicate, sym, ◌∙◌, ap, subst, arith}
-use Rattle.ring_theory.specs.Ring.{CommRing}
-use Rattle.ring_theory.specs.Rows.{Row}
+use Rattle.ring_lemmas.specs.Ring.{CommRing}
+use Rattle.ring_lemmas.specs.Rows.{Row}
 use Rattle.ring_theory.specs.Subsets.{IsModule}
 use Rattle.ring_theory.proofs.Subsets.{span_module}
 use Rattle.prime_theory.specs.Ideals as theory

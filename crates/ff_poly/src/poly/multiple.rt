@@ -3,7 +3,7 @@
 ghost use Rattle.std.specs.Prelude.{◌≡◌, ◌≢◌, ◌+◌, ◌^◌, ◌<◌, ◌≤◌, [], ◌++◌, length, replicate, OnOk, OnErr};
 ghost use Rattle.ff_fields.specs.Code.{raw_ring};
 ghost use Rattle.ff_fields.specs.Over.{IsOver};
-ghost use Rattle.ring_theory.specs.Lists.{add_lists, scale_list};
+ghost use Rattle.ring_lemmas.specs.Lists.{add_lists, scale_list};
 ghost use Rattle.ff_poly.specs.Words.{IsPoly, poly_of};
 ghost use Rattle.ff_poly.specs.Terms.{less_multiple};
 

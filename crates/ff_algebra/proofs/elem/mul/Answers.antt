@@ -1,6 +1,6 @@
 use Rattle.std.proofs.Common.{◌≡◌, ◌-◌, ap, ap₂, ◌∙◌, subst}
 use Rattle.std.proofs.lemmas.List.Elements.{All-same}
-use Rattle.ring_theory.specs.Rows.{row_mul}
+use Rattle.ring_lemmas.specs.Rows.{row_mul}
 use Rattle.ff_fields.specs.Over.{IsOver}
 use Rattle.ff_poly.specs.Words.{product_of}
 use Rattle.ff_poly.specs.Polynomials.{polynomials}

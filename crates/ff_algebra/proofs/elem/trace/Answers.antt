@@ -1,5 +1,5 @@
 use Rattle.std.proofs.Common.{◌-◌, ap, sym, subst, ◌∙◌}
-use Rattle.ring_theory.specs.Rows.{row_trace}
+use Rattle.ring_lemmas.specs.Rows.{row_trace}
 use Rattle.ff_poly.specs.Words.{IsMonic}
 use Rattle.ff_poly.specs.Polynomials.{polynomials}
 use Rattle.function_field.specs.Values.{ElemValue, IsMonicElem, equation_of}

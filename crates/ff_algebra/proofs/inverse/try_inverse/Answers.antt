@@ -1,6 +1,6 @@
 use Rattle.std.proofs.Common.{◌≡◌, ◌≢◌, suc, ◌-◌, true, false, [], ap, ap₂, ◌∙◌, subst}
 use Rattle.std.proofs.lemmas.List.Elements.{All-same}
-use Rattle.ring_theory.specs.Rows.{row_scale}
+use Rattle.ring_lemmas.specs.Rows.{row_scale}
 use Rattle.ff_fields.specs.Over.{IsOver}
 use Rattle.ff_poly.specs.Value.{value}
 use Rattle.ff_poly.specs.Polynomials.{polynomials}

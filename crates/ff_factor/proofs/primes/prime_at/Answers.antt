@@ -1,7 +1,7 @@
 use Rattle.std.proofs.Common.{◌≡◌, ◌-◌, ◌++◌, [], ◌∷◌, length, arith, sym, ap, ◌∙◌, subst}
 use Rattle.ff_falg.specs.Relations.{IsBounded}
-use Rattle.ring_theory.specs.Lists.{neg_list}
-use Rattle.ring_theory.proofs.Lists.{trim_trimmed}
+use Rattle.ring_lemmas.specs.Lists.{neg_list}
+use Rattle.ring_lemmas.proofs.Lists.{trim_trimmed}
 use Rattle.ff_fields.specs.Code.{is_zero_code, raw_ring}
 use Rattle.ff_poly.specs.Words.{poly_of}
 use Rattle.ff_factor.proofs.QuotientSteps.{written}

@@ -1,7 +1,7 @@
 use Rattle.std.proofs.Common.{◌≡◌, ◌++◌, [], ◌∷◌, map, arith, sym, ap, ◌∙◌, subst}
 use Rattle.std.proofs.lemmas.List.{take_at, map-append}
 use Rattle.std.proofs.lemmas.Result.{IfOk-weaker}
-use Rattle.ring_theory.specs.Lists.{neg_list}
+use Rattle.ring_lemmas.specs.Lists.{neg_list}
 use Rattle.ff_fields.specs.Code.{raw_ring}
 use Rattle.ff_falg.specs.Roots.{IsRoots}
 use Rattle.ff_falg.specs.Splits.{part_of}

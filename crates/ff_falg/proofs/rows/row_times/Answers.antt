@@ -1,6 +1,6 @@
 use Rattle.std.proofs.Common.{arith, ap, ◌∙◌, replicate}
 use Rattle.std.proofs.lemmas.List.{take_at}
-use Rattle.ring_theory.specs.Lists.{add_lists}
+use Rattle.ring_lemmas.specs.Lists.{add_lists}
 use Rattle.ff_fields.specs.Code.{raw_ring}
 use Rattle.ff_linalg.specs.Space.{product_of}
 use Rattle.ff_falg.proofs.rows.row_times.Goals as goal

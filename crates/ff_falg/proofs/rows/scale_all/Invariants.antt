@@ -1,7 +1,7 @@
 use Rattle.std.proofs.Common.{◌≡◌, ◌++◌, take, drop}
 use Rattle.ff_falg.proofs.rows.scale_all.Given as goal
 use Rattle.ff_fields.specs.Code.{raw_ring}
-use Rattle.ring_theory.specs.Lists.{scale_list}
+use Rattle.ring_lemmas.specs.Lists.{scale_list}
 
 abbrev pub invariant-loop-j : goal.invariant-loop-j
 invariant-loop-j g l =

@@ -1,6 +1,6 @@
 use Rattle.std.proofs.Common.{◌≡◌, ◌+◌, ◌-◌, ◌*◌, ◌^◌, ◌<◌}
 use Rattle.ff_fields.specs.Code.{raw_ring}
-use Rattle.ring_theory.specs.Lists.{neg_list}
+use Rattle.ring_lemmas.specs.Lists.{neg_list}
 use Rattle.ff_fields.specs.Prime.{prime_of}
 use Rattle.ff_fields.specs.Residue.{digits, number}
 use Rattle.ff_fields.proofs.digits.neg_digits.Given as goal

@@ -4,7 +4,7 @@ use borrow.Rule.Slice.PartMut.{put_mid}
 use Rattle.ff_linalg.proofs.rows.clear_rows.Goals as goal
 use Rattle.ff_fields.specs.Code.{raw_ring}
 use Rattle.ff_fields.specs.Over.{IsOver, IsOver_take, IsOver_drop, IsOver_append, IsOver_add, IsOver_scale, get_or_below}
-use Rattle.ring_theory.specs.Lists.{add_lists, scale_list}
+use Rattle.ring_lemmas.specs.Lists.{add_lists, scale_list}
 use Rattle.ff_linalg.specs.Matrix.{rows_in}
 use Rattle.ff_linalg.specs.Steps.{cleared}
 use Rattle.ff_linalg.proofs.Flat.{row_end, row_span, length_rows_in, rows_in_get, rows_in_put}

@@ -1,7 +1,7 @@
 use Rattle.std.proofs.Common.{ℕ, ◌<◌, length, get_or, map, sym, arith}
 use Rattle.std.proofs.lemmas.List.{length-map, get_or-map}
 use Rattle.ff_fields.specs.Code.{raw_ring}
-use Rattle.ring_theory.proofs.Lists.{add_lists_nil}
+use Rattle.ring_lemmas.proofs.Lists.{add_lists_nil}
 use Rattle.ff_linalg.proofs.slices.add_entries.Goals as goal
 use Rattle.ff_linalg.proofs.Multiples.{IsOver_part, add_lists_step}
 use Rattle.ff_linalg.proofs.Tables.{IsOver_entries}

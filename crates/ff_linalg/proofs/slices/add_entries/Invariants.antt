@@ -1,7 +1,7 @@
 use Rattle.std.proofs.Common.{◌≡◌, take, map, slice_index}
 use Rattle.ff_linalg.proofs.slices.add_entries.Given as goal
 use Rattle.ff_fields.specs.Code.{raw_ring}
-use Rattle.ring_theory.specs.Lists.{add_lists}
+use Rattle.ring_lemmas.specs.Lists.{add_lists}
 
 abbrev pub invariant-loop-j : goal.invariant-loop-j
 invariant-loop-j g l =

@@ -1,6 +1,6 @@
 use Rattle.std.proofs.Common.{ap, ◌∙◌}
 use Rattle.ff_fields.specs.Code.{raw_ring}
-use Rattle.ring_theory.specs.Lists.{add_lists}
+use Rattle.ring_lemmas.specs.Lists.{add_lists}
 use Rattle.ff_linalg.proofs.slices.add_multiple.Goals as goal
 use Rattle.ff_linalg.proofs.Multiples.{add_nothing}
 use Rattle.ff_linalg.proofs.Tables.{entries_multiply}

@@ -2,7 +2,7 @@ use Rattle.std.proofs.Common.{◌<◌, length, arith, sym, ◌∙◌}
 use Rattle.ff_linalg.proofs.slices.add_products.Goals as goal
 use Rattle.ff_linalg.proofs.slices.add_products.Goals.{then-codes-j-ne0, else-codes-j-ne0}
 use Rattle.ff_fields.specs.Code.{raw_ring}
-use Rattle.ring_theory.proofs.Lists.{length_scale_list, get_or_scale_list}
+use Rattle.ring_lemmas.proofs.Lists.{length_scale_list, get_or_scale_list}
 use Rattle.ff_fields.specs.Over.{IsOver_scale}
 use Rattle.ff_linalg.proofs.Multiples.{IsOver_part, add_lists_step, add_lists_pass, add_lists_all}
 

@@ -2,7 +2,7 @@ use Rattle.std.proofs.Common.{[], ◌∷◌, ◌++◌, take, sym, ap, ap₂, ◌
 use Rattle.std.proofs.lemmas.List.{take_all}
 use Rattle.ff_linalg.proofs.solutions.negatives.Goals as goal
 use Rattle.ff_fields.specs.Code.{raw_ring}
-use Rattle.ring_theory.specs.Lists.{neg_list}
+use Rattle.ring_lemmas.specs.Lists.{neg_list}
 use Rattle.ff_linalg.proofs.Solving.{neg_list_more}
 
 pub loop-c-init : goal.loop-c-init

@@ -2,7 +2,7 @@ use Rattle.std.proofs.Common.{◌≡◌, ◌-◌, [], length, replicate, arith, 
 use Rattle.std.proofs.lemmas.List.{nil_from_length}
 use Rattle.ff_poly.proofs.poly.mul.Goals as goal
 use Rattle.ff_fields.specs.Code.{raw_ring}
-use Rattle.ring_theory.specs.Lists.{mul_onto}
+use Rattle.ring_lemmas.specs.Lists.{mul_onto}
 use Rattle.ff_poly.specs.Words.{poly_of, product_of}
 use Rattle.ff_poly.specs.PolyOver.{IsOver_product_of}
 use Rattle.ff_poly.proofs.Results.{written_back, product_from_top, product_of_nil}

@@ -1,7 +1,7 @@
 use Rattle.std.proofs.Common.{arith, ap, ap₂, ◌∙◌}
 use Rattle.ff_poly.proofs.poly.sub.Goals as goal
 use Rattle.ff_fields.specs.Code.{raw_ring}
-use Rattle.ring_theory.specs.Lists.{add_lists, neg_list}
+use Rattle.ring_lemmas.specs.Lists.{add_lists, neg_list}
 use Rattle.ff_poly.specs.Words.{poly_of}
 use Rattle.ff_poly.specs.PolyOver.{IsOver_difference_of}
 use Rattle.ff_poly.proofs.Results.{written_back, difference_from_padded}

@@ -1,5 +1,5 @@
 use Rattle.std.proofs.Common.{◌≡◌, zero, ◌%◌, length, refl, ap, arith, inl, inr}
-use Rattle.ring_theory.specs.Ring.{pow}
+use Rattle.ring_lemmas.specs.Ring.{pow}
 use Rattle.ff_poly.specs.Value.{value}
 use Rattle.ff_poly.specs.Polynomials.{polynomials}
 use Rattle.ff_poly.specs.PowerWords.{IsRest}

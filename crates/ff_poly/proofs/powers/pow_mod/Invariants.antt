@@ -1,6 +1,6 @@
 use Rattle.std.proofs.Common.{◌<◌, length}
-use Rattle.ring_theory.specs.Ring.{pow}
-use Rattle.ring_theory.specs.Congruence.{IsCongruent}
+use Rattle.ring_lemmas.specs.Ring.{pow}
+use Rattle.ring_lemmas.specs.Congruence.{IsCongruent}
 use Rattle.ff_fields.specs.Over.{IsOver}
 use Rattle.ff_poly.specs.Words.{IsPoly}
 use Rattle.ff_poly.specs.Value.{value}

@@ -1,7 +1,7 @@
 use Rattle.std.proofs.Common.{◌<◌, length, arith, sym, ◌∙◌}
 use Rattle.ff_poly.proofs.slices.add_multiple.Goals as goal
 use Rattle.ff_fields.specs.Code.{raw_ring}
-use Rattle.ring_theory.proofs.Lists.{length_scale_list, get_or_scale_list}
+use Rattle.ring_lemmas.proofs.Lists.{length_scale_list, get_or_scale_list}
 use Rattle.ff_fields.specs.Over.{IsOver_scale}
 use Rattle.ff_poly.proofs.Multiples.{IsOver_part, add_lists_step, add_lists_all}
 

@@ -2,7 +2,7 @@ use Rattle.std.proofs.Common.{◌≡◌, suc, ◌-◌, length, take, drop, refl,
 use Rattle.ff_poly.proofs.slices.divide_over.Goals as goal
 use Rattle.ff_fields.specs.Code.{raw_ring}
 use Rattle.ff_fields.specs.Over.{IsOver_append, IsOver_drop, IsOver_rest_from, IsOver_take, get_or_below}
-use Rattle.ring_theory.specs.Lists.{add_lists, scale_list}
+use Rattle.ring_lemmas.specs.Lists.{add_lists, scale_list}
 use Rattle.ff_poly.proofs.Quotients.{digit_step, quotient_step, rest_step}
 
 pub mul-digit-requires-clause-a_in : goal.mul-digit-requires-clause-a_in

@@ -1,7 +1,7 @@
 use Rattle.std.proofs.Common.{◌<◌, length, get_or, arith, sym}
 use Rattle.ff_poly.proofs.slices.subtract_all.Goals as goal
 use Rattle.ff_fields.specs.Code.{raw_ring}
-use Rattle.ring_theory.proofs.Lists.{length_neg_list, get_or_neg_list}
+use Rattle.ring_lemmas.proofs.Lists.{length_neg_list, get_or_neg_list}
 use Rattle.ff_fields.specs.Over.{IsOver_neg}
 use Rattle.ff_poly.proofs.Multiples.{IsOver_part, add_lists_step, add_lists_all}
 

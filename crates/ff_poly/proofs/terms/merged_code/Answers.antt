@@ -1,8 +1,7 @@
 use Rattle.std.proofs.Common.{◌≡◌, [], sym, ◌∙◌, refl, arith}
 use Rattle.std.proofs.lemmas.List.{nil_from_length}
-use Rattle.ff_poly.specs.TermWords.{IsBefore}
+use Rattle.ff_poly.specs.TermWords.{IsBefore, IsUpTo}
 use Rattle.ff_poly.proofs.TermLists.{all_front, strictly, merged_none, merged_other, merged_same}
-use Rattle.ff_poly.specs.TermWords.{IsUpTo}
 use Rattle.ff_poly.proofs.terms.merged_code.Goals as goal
 use Rattle.ff_poly.proofs.terms.merged_code.Goals.{then-last-term-via-then-last-term, then-last-term-via-else-last-term+then-last-term-2}
 

@@ -1,5 +1,5 @@
 use Rattle.std.proofs.Common.{◌≡◌, [], ◌∷◌, ◌-◌, replicate, ap, ap₂, ◌∙◌}
-use Rattle.ring_theory.specs.Rows.{row_trace}
+use Rattle.ring_lemmas.specs.Rows.{row_trace}
 use Rattle.ff_poly.specs.Polynomials.{polynomials}
 use Rattle.function_field.specs.Values.{equation_of}
 use Rattle.ff_algebra.specs.RowProducts.{row_at}

@@ -2,7 +2,7 @@ use Rattle.std.proofs.Common.{◌-◌, ◌++◌, replicate, arith, ap, ap₂, �
 use Rattle.std.proofs.lemmas.List.{take_all}
 use Rattle.ff_poly.proofs.poly.Poly.sub_multiple.Goals as goal
 use Rattle.ff_fields.specs.Code.{raw_ring}
-use Rattle.ring_theory.specs.Lists.{add_lists, scale_list}
+use Rattle.ring_lemmas.specs.Lists.{add_lists, scale_list}
 use Rattle.ff_poly.specs.Words.{poly_of}
 use Rattle.ff_poly.specs.Terms.{IsOver_less_multiple}
 use Rattle.ff_poly.proofs.Results.{written_back}

@@ -1,6 +1,6 @@
 -- Fractions whose denominators are from a set N of elements that cancel, and when two are the same.
 use Rattle.std.specs.Prelude.{◌≡◌}
-use Rattle.ring_theory.specs.Ring.{Operations}
+use Rattle.ring_lemmas.specs.Ring.{Operations}
 
 pub record Denominators {A : Type 0} (R : Operations A) (N : A → Type 0) : Type 0 where
   pub one_in : N R.𝟙

@@ -3,9 +3,9 @@
 use Prim.Native.Nat.{compare, Ordering}
 use lib.Dec.{is_le, compare_is_eq}
 use Rattle.std.proofs.Common.{leb-true, leb-false, ◌≡◌, ℕ, zero, suc, ◌+◌, ◌*◌, ◌-◌, ◌≤◌, true, false, leb, List, [], ◌∷◌, refl, sym, ◌∙◌, ap, ap₂, eqb-true, le_of_lt, arith}
-use Rattle.ring_theory.specs.Ring.{Operations, CommRing, pow, nat}
-use Rattle.ring_theory.specs.Lists.{coeff_of}
-use Rattle.ring_theory.proofs.Ring.{zero_add, one_mul, add_mul, add_left_comm, mul_left_comm, add_add, mul_mul, mul_zero, zero_mul, mul_neg, neg_mul, neg_neg, neg_zero, neg_sum, nat_add, nat_mul, eq_of_sub, sub_of_eq}
+use Rattle.ring_lemmas.specs.Ring.{Operations, CommRing, pow, nat}
+use Rattle.ring_lemmas.specs.Lists.{coeff_of}
+use Rattle.ring_lemmas.proofs.Ring.{zero_add, one_mul, add_mul, add_left_comm, mul_left_comm, add_add, mul_mul, mul_zero, zero_mul, mul_neg, neg_mul, neg_neg, neg_zero, neg_sum, nat_add, nat_mul, eq_of_sub, sub_of_eq}
 
 infixl 65 ◌⊞◌
 infixl 70 ◌⊠◌

@@ -1,8 +1,8 @@
 -- Finite sums: equal terms, sums and multiples of sums, exchange of two sums, and the product of matrices.
 use Rattle.std.proofs.Common.{◌≡◌, ℕ, zero, suc, ◌<◌, ◌⊎◌, inl, inr, eq-or-lt_of_le, le_of_suc-le-suc, List, [], ◌∷◌, ◌++◌, map, refl, sym, ◌∙◌, ap, ap₂, arith}
-use Rattle.ring_theory.specs.Ring.{CommRing}
-use Rattle.ring_theory.specs.Sums.{sum_below, sum_over, matrix_product, trace}
-use Rattle.ring_theory.proofs.Ring.{zero_add, add_add, mul_zero, zero_mul, add_mul, neg_zero, neg_sum}
+use Rattle.ring_lemmas.specs.Ring.{CommRing}
+use Rattle.ring_lemmas.specs.Sums.{sum_below, sum_over, matrix_product, trace}
+use Rattle.ring_lemmas.proofs.Ring.{zero_add, add_add, mul_zero, zero_mul, add_mul, neg_zero, neg_sum}
 
 module _ {A : Type 0} (R : CommRing A) where
   infixl 65 ◌⊕◌

@@ -1,8 +1,8 @@
 -- Sequences over a ring, added by positions and multiplied as power series.
 use Rattle.std.proofs.Common.{◌≡◌, ℕ, zero, suc, ◌+◌, ◌<◌, refl, sym, ap, ap₂, ◌∙◌, arith, suc-add, zero-add}
-use Rattle.ring_theory.specs.Ring.{CommRing}
-use Rattle.ring_theory.specs.Lists.{tail_of, convolution}
-use Rattle.ring_theory.proofs.Ring.{zero_add, add_add, add_mul, mul_zero, zero_mul}
+use Rattle.ring_lemmas.specs.Ring.{CommRing}
+use Rattle.ring_lemmas.specs.Lists.{tail_of, convolution}
+use Rattle.ring_lemmas.proofs.Ring.{zero_add, add_add, add_mul, mul_zero, zero_mul}
 
 module _ {A : Type 0} (r : CommRing A) where
   open r use {𝟘, 𝟙, ◌⊕◌, ◌⊗◌, ⊖◌}

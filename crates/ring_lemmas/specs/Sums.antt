@@ -1,6 +1,6 @@
 -- Finite sums in a commutative ring, and the product of matrices as functions of two indices.
 use Rattle.std.specs.Prelude.{ℕ, zero, suc, List, [], ◌∷◌}
-use Rattle.ring_theory.specs.Ring.{Operations}
+use Rattle.ring_lemmas.specs.Ring.{Operations}
 
 -- the sum of f i for i below n
 abbrev pub sum_below : {A : Type 0} → Operations A → ℕ → (ℕ → A) → A

@@ -1,6 +1,6 @@
 -- Congruence modulo an element, and what stands for the classes.
 use Rattle.std.specs.Prelude.{◌≡◌}
-use Rattle.ring_theory.specs.Ring.{Operations}
+use Rattle.ring_lemmas.specs.Ring.{Operations}
 
 -- x and y differ by a multiple of m
 pub record IsCongruent {S : Type 0} (s : Operations S) (m x y : S) : Type 0 where

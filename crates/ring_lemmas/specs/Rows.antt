@@ -1,6 +1,6 @@
 -- Rows of n elements: the coefficients of 1, y, up to y^(n-1), with the product of polynomials in y modulo f.
 use Rattle.std.specs.Prelude.{ℕ, zero, suc}
-use Rattle.ring_theory.specs.Ring.{Operations, CommRing}
+use Rattle.ring_lemmas.specs.Ring.{Operations, CommRing}
 
 abbrev pub Row : Type 0 → ℕ → Type 0
 Row P zero = Unit {0}
@@ -71,3 +71,13 @@ module _ {P : Type 0} (S : CommRing P) (n : ℕ) (f : Row P (suc n)) where
   -- the product modulo y^(n+1) plus the row f
   unfoldable pub row_mul : Row P (suc n) → Row P (suc n) → Row P (suc n)
   row_mul v w = row_times S.ops (suc n) (suc n) f v w
+
+  -- the operations of rows modulo f
+  abbrev pub row_ops : Operations (Row P (suc n))
+  row_ops = record {
+    𝟘 = row_zero S.ops (suc n);
+    𝟙 = row_one S n;
+    ◌⊕◌ = row_add S.ops (suc n);
+    ⊖◌ = row_neg S.ops (suc n);
+    ◌⊗◌ = row_mul;
+  }

@@ -1,11 +1,11 @@
--- A ring modulo a congruence whose classes have representatives: the representatives are a ring.
+-- Congruence modulo an element, and the laws of a ring for what stands for the classes.
 use Rattle.std.proofs.Common.{◌≡◌, refl, sym, ap, ap₂, ◌∙◌}
-use Rattle.ring_theory.specs.Ring.{Operations, CommRing}
-use Rattle.ring_theory.specs.Congruence.{IsCongruent, Represents}
-use Rattle.ring_theory.proofs.Ring.{add_add, mul_zero, mul_left_comm}
+use Rattle.ring_lemmas.specs.Ring.{Operations, CommRing}
+use Rattle.ring_lemmas.specs.Congruence.{IsCongruent, Represents}
+use Rattle.ring_lemmas.proofs.Ring.{add_add, mul_zero, mul_left_comm}
 
 module _ {S : Type 0} (s : CommRing S) (m : S) where
-  open s use {𝟘, 𝟙, ◌⊕◌, ◌⊗◌, ⊖◌}
+  open s use {𝟘, ◌⊕◌, ◌⊗◌, ⊖◌}
 
   infixl 65 ◌⊕◌
   infixl 70 ◌⊗◌
@@ -107,18 +107,3 @@ module _ {C S : Type 0} (c : Operations C) (s : CommRing S) (m : S) (rep : Repre
       by (trans (rep.of_mul x (c.◌⊕◌ y z)) (mul (same (rep.of x)) (rep.of_add y z)))
       (trans (rep.of_add (c.◌⊗◌ x y) (c.◌⊗◌ x z)) (add (rep.of_mul x y) (rep.of_mul x z)))
       (s.mul_add (rep.of x) (rep.of y) (rep.of z))
-
-  -- the ring of the representatives
-  abbrev pub represented_ring : IsSet C → CommRing C
-  represented_ring set = record {
-    ops = c;
-    is_set = set;
-    add_assoc = represented_add_assoc;
-    add_comm = represented_add_comm;
-    add_zero = represented_add_zero;
-    add_neg = represented_add_neg;
-    mul_assoc = represented_mul_assoc;
-    mul_comm = represented_mul_comm;
-    mul_one = represented_mul_one;
-    mul_add = represented_mul_add;
-  }

@@ -1,8 +1,8 @@
--- The rows modulo f are a commutative ring.
+-- The laws of a ring for rows modulo f.
 use Rattle.std.proofs.Common.{◌≡◌, ℕ, zero, suc, ◌≤◌, refl, sym, ◌∙◌, ap, ap₂, le_of_suc-le-suc, le_refl, arith}
-use Rattle.ring_theory.specs.Ring.{CommRing}
-use Rattle.ring_theory.specs.Rows.{row_one, row_mul, Row, row_zero, row_add, row_neg, row_scale, shift, top, times_y, row_times, entry, diagonal_sum, row_trace, y_to}
-use Rattle.ring_theory.proofs.Ring.{neg_sum, neg_zero, mul_zero, mul_neg, add_mul}
+use Rattle.ring_lemmas.specs.Ring.{CommRing}
+use Rattle.ring_lemmas.specs.Rows.{row_one, row_mul, Row, row_zero, row_add, row_neg, row_scale, shift, top, times_y, row_times, entry, diagonal_sum, row_trace, y_to}
+use Rattle.ring_lemmas.proofs.Ring.{neg_sum, neg_zero, mul_zero, mul_neg, add_mul}
 
 pub pair_path : {A B : Type 0} {a a' : A} {b b' : B} → a ≡ a' → b ≡ b' → ◌≡◌ {A = A × B} (a, b) (a', b')
 pair_path p q = λ i. (p i, q i)
@@ -239,27 +239,6 @@ module _ {P : Type 0} (S : CommRing P) (n : ℕ) (f : Row P (suc n)) where
   pub scale_row_mul : (d : P) (v w : Row P (suc n)) → row_scale S.ops (suc n) d (row_mul S n f v w) ≡ row_mul S n f (row_scale S.ops (suc n) d v) w
   unfolding row_mul
   scale_row_mul d v w = sym (scale_times S (suc n) f (suc n) d v w)
-
-  -- k[x][y] modulo f
-  abbrev pub row_ring : CommRing (Row P (suc n))
-  row_ring = record {
-    ops = record {
-      𝟘 = row_zero S.ops (suc n);
-      𝟙 = row_one S n;
-      ◌⊕◌ = row_add S.ops (suc n);
-      ⊖◌ = row_neg S.ops (suc n);
-      ◌⊗◌ = row_mul S n f;
-    };
-    is_set = row_set S (suc n);
-    add_assoc = row_add_assoc S (suc n);
-    add_comm = row_add_comm S (suc n);
-    add_zero = row_add_zero S (suc n);
-    add_neg = row_add_neg S (suc n);
-    mul_assoc = row_mul_assoc;
-    mul_comm = row_mul_comm;
-    mul_one = row_mul_one;
-    mul_add = row_mul_add;
-  }
 
   pub entry_scale : (m i : ℕ) (d : P) (v : Row P m) → entry S.ops m i (row_scale S.ops m d v) ≡ S.◌⊗◌ d (entry S.ops m i v)
   unfolding entry row_scale

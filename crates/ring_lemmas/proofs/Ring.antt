@@ -1,6 +1,6 @@
 -- The first lemmas on commutative rings.
 use Rattle.std.proofs.Common.{◌≡◌, ℕ, zero, suc, ◌+◌, ◌*◌, refl, sym, ◌∙◌, ap, ap₂, suc-add, zero-add, mul-suc, mul-zero}
-use Rattle.ring_theory.specs.Ring.{Operations, CommRing, IsDomain, IsField, pow, nat}
+use Rattle.ring_lemmas.specs.Ring.{Operations, CommRing, IsDomain, IsField, pow, nat}
 
 module _ {A : Type 0} (R : CommRing A) where
   infixl 65 ◌⊕◌

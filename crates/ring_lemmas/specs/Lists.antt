@@ -1,6 +1,6 @@
 -- Lists of coefficients over a ring, lowest first, and their operations; sequences, multiplied as power series.
 use Rattle.std.specs.Prelude.{◌≡◌, ℕ, zero, suc, ◌-◌, Bool, true, false, cond, refl, List, [], ◌∷◌, length, get_or, replicate}
-use Rattle.ring_theory.specs.Ring.{Operations}
+use Rattle.ring_lemmas.specs.Ring.{Operations}
 
 abbrev pub tail_of : {A : Type 0} → (ℕ → A) → ℕ → A
 tail_of f n = f (suc n)

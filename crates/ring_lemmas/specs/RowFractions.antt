@@ -1,8 +1,8 @@
 -- Rows over denominators.
 use Rattle.std.specs.Prelude.{◌≡◌, ℕ, suc, refl}
-use Rattle.ring_theory.specs.Ring.{CommRing}
-use Rattle.ring_theory.specs.Rows.{Row, row_scale, row_one}
-use Rattle.ring_theory.specs.Fractions.{Fraction}
+use Rattle.ring_lemmas.specs.Ring.{CommRing}
+use Rattle.ring_lemmas.specs.Rows.{Row, row_scale, row_one}
+use Rattle.ring_lemmas.specs.Fractions.{Fraction}
 
 module _ {P : Type 0} (S : CommRing P) (n : ℕ) where
   -- a row over a denominator

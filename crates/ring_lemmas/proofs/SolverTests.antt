@@ -1,7 +1,7 @@
 -- Calls of the solver: the goal's atoms in a list, and one rewriting that reads the goal as two expressions.
 use Rattle.std.proofs.Common.{◌≡◌, [], ◌∷◌, refl}
-use Rattle.ring_theory.specs.Ring.{CommRing, pow}
-use Rattle.ring_theory.proofs.Solver.{Expr, var, ◌⊞◌, ◌⊠◌, solve, ring, reads, from_two}
+use Rattle.ring_lemmas.specs.Ring.{CommRing, pow}
+use Rattle.ring_lemmas.proofs.Solver.{Expr, var, ◌⊞◌, ◌⊠◌, solve, ring, reads, from_two}
 
 module _ {A : Type 0} (R : CommRing A) where
   infixl 65 ◌⊕◌

@@ -1,7 +1,7 @@
 -- Polynomials over a ring, as lists of coefficients without a zero on top.
 use Rattle.std.specs.Prelude.{Bool, true, false, List, [], ◌∷◌}
-use Rattle.ring_theory.specs.Ring.{Operations, TestedRing}
-use Rattle.ring_theory.specs.Lists.{add_lists, neg_list, mul_lists, trim, IsTrimmed, IsTrimmed_trim}
+use Rattle.ring_lemmas.specs.Ring.{Operations, TestedRing}
+use Rattle.ring_lemmas.specs.Lists.{add_lists, neg_list, mul_lists, trim, IsTrimmed, IsTrimmed_trim}
 
 -- a polynomial
 abbrev pub Pol : {A : Type 0} → TestedRing A → Type 0

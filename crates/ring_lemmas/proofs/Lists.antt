@@ -1,9 +1,9 @@
 -- The coefficients of what the operations on lists make; lists without a zero on top.
 use Rattle.std.proofs.Common.{◌≡◌, ℕ, zero, suc, ◌<◌, ◌≤◌, Bool, true, false, cond, List, [], ◌∷◌, ◌++◌, length, get_or, replicate, refl, sym, ap, ap₂, ◌∙◌, arith}
-use Rattle.ring_theory.specs.Ring.{Operations, TestedRing}
-use Rattle.ring_theory.specs.Lists.{IsTrimmed_trim, coeff_of, convolution, add_lists, scale_list, neg_list, mul_lists, mul_onto, trim_onto, trim, IsTrimmed}
-use Rattle.ring_theory.proofs.Ring.{zero_add, mul_zero, neg_zero}
-use Rattle.ring_theory.proofs.Sequences.{convolution_null_left}
+use Rattle.ring_lemmas.specs.Ring.{Operations, TestedRing}
+use Rattle.ring_lemmas.specs.Lists.{IsTrimmed_trim, coeff_of, convolution, add_lists, scale_list, neg_list, mul_lists, mul_onto, trim_onto, trim, IsTrimmed}
+use Rattle.ring_lemmas.proofs.Ring.{zero_add, mul_zero, neg_zero}
+use Rattle.ring_lemmas.proofs.Sequences.{convolution_null_left}
 
 pub IsTrimmed_tail : {A : Type 0} (z : A → Bool) (x : A) (xs : List A) → IsTrimmed z (x ∷ xs) → IsTrimmed z xs
 IsTrimmed_tail z x [] t = tt

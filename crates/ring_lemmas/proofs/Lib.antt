@@ -1,0 +1,13 @@
+pub mod Congruence
+pub mod Division
+pub mod Fractions
+pub mod Lists
+pub mod Polynomials
+pub mod Quotient
+pub mod Ring
+pub mod RowFractions
+pub mod Rows
+pub mod Sequences
+pub mod Solver
+pub mod SolverTests
+pub mod Sums

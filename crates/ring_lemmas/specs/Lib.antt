@@ -1,0 +1,9 @@
+pub mod Congruence
+pub mod Fractions
+pub mod Lists
+pub mod Polynomials
+pub mod Quotient
+pub mod Ring
+pub mod RowFractions
+pub mod Rows
+pub mod Sums
