@@ -7,7 +7,8 @@ use ff_fields::prime::PrimeField;
 use ff_fields::residue::ResidueField;
 use std::alloc::{AllocError, Global};
 
-/// The field of the numbers, or its fault: a prime, or a prime, a degree, and a modulus of one code more than the degree.
+/// The field of the numbers, or its fault: a prime, or a prime, a degree, and a modulus of one code more than the
+/// degree.
 /// None where there are others.
 pub fn field_of(numbers: &[u32]) -> Option<Result<Field, FieldFault>> {
     if numbers.len() == 1 {

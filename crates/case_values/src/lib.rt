@@ -1,5 +1,7 @@
-//! Values read from the lines of a table of cases, and written into their answers: fields, polynomials as codes, rows between
-//! commas, elements, presentations, terms and matrices. All that a call asks of its arguments is tested here, so that programs
+//! Values read from the lines of a table of cases, and written into their answers: fields, polynomials as codes, rows
+//! between
+//! commas, elements, presentations, terms and matrices. All that a call asks of its arguments is tested here, so that
+//! programs
 //! of cases prove nothing.
 //!
 //! | Value | Text |

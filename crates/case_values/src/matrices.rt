@@ -83,7 +83,8 @@ fn zeros<K: SmallField>(
     Ok(m)
 }
 
-/// The matrix of the numbers of rows and columns, and of the rows after a comma each. Entries that are missing at the end are 0.
+/// The matrix of the numbers of rows and columns, and of the rows after a comma each. Entries that are missing at the
+/// end are 0.
 pub fn matrix<K: SmallField>(alloc: Global, k: &K, text: &str) -> Result<Matrix, AllocError>
     ensures { IfOk result (IsMatrixOver (K.field k.now).ops) }
 {

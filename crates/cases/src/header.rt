@@ -9,8 +9,10 @@
 //! - `room N`: the most bytes that the sink takes.
 //! - `open end`: no line feed behind the last line of the script.
 //! - `feeds N`: line feeds behind the script until it has N bytes.
-//! - `each read fails`, `each write fails`: a run for each call that fails, up to the first that doesn't, with a line each.
-//! - `first step of field P`: no run, but one step of a session over this statement, with `printed N`, the number of bytes
+//! - `each read fails`, `each write fails`: a run for each call that fails, up to the first that doesn't, with a line
+//!   each.
+//! - `first step of field P`: no run, but one step of a session over this statement, with `printed N`, the number of
+//!   bytes
 //!   that were printed before, and `bare`.
 //! - what begins with `#` is a remark.
 

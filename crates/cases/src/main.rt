@@ -1,7 +1,8 @@
 //! Runs the program over each script of a table of cases, in memory, and prints how each run ended.
 //!
 //! Standard input is a table: a header line, which begins with `---- `, and the lines of its script up to the next one.
-//! `header` says what a header may ask for. Scripts are written with the escapes of `case_bytes`. The answer to a case is
+//! `header` says what a header may ask for. Scripts are written with the escapes of `case_bytes`. The answer to a case
+//! is
 //! its header, the status, the number of bytes that were read, and what was printed.
 #![tactic(auto)]
 
@@ -17,7 +18,8 @@ use std::alloc::{AllocError, Global};
 use std::io;
 use std::io::Write;
 
-/// The script of a case: its lines, each with a line feed (but for the last one of an open end), and line feeds up to so
+/// The script of a case: its lines, each with a line feed (but for the last one of an open end), and line feeds up to
+/// so
 /// many bytes, where the header says so.
 fn script(alloc: Global, header: &str, lines: Option<&str>) -> Result<Vec<u8>, AllocError> {
     let mut script = Vec::new(alloc);

@@ -182,7 +182,8 @@ fn modulo<K: SmallField>(
     }
 }
 
-/// `element` has `n: z`; `sum` and `same` have `n: a: b`; `trace` and `killed` have `f: z`; `product` and `inverse` have `f: a: b`.
+/// `element` has `n: z`; `sum` and `same` have `n: a: b`; `trace` and `killed` have `f: z`; `product` and `inverse`
+/// have `f: a: b`.
 pub fn element_line<K: SmallField>(
     alloc: Global,
     k: &K,

@@ -58,7 +58,8 @@ fn returned<K: SmallField>(
     decided(alloc, returns(alloc, k, c, &z)?)
 }
 
-/// `terms: z`: z in the infinite presentation, z of the infinite presentation in the finite one, or whether z is the same when
+/// `terms: z`: z in the infinite presentation, z of the infinite presentation in the finite one, or whether z is the
+/// same when
 /// it comes back.
 pub fn side_line<K: SmallField>(
     alloc: Global,

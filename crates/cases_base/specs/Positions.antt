@@ -16,18 +16,21 @@ by_positions k (x ∷ xs) (y ∷ ys) = k.mul x y ∷ by_positions k xs ys
 
 -- one position more
 pub positions_more : (k : FieldOps) (a b : List ℕ) (i : ℕ) → length a ≡ length b → i < length a
-    → by_positions k (take i a) (take i b) ++ k.mul (get_or a i 0) (get_or b i 0) ∷ [] ≡ by_positions k (take (suc i) a) (take (suc i) b)
+    → by_positions k (take i a) (take i b) ++ k.mul (get_or a i 0) (get_or b i 0) ∷ []
+    ≡ by_positions k (take (suc i) a) (take (suc i) b)
 positions_more k [] b i e less = absurd (omega arith)
 positions_more k (x ∷ a) [] i e less = absurd (omega arith)
 positions_more k (x ∷ a) (y ∷ b) zero e less = refl
-positions_more k (x ∷ a) (y ∷ b) (suc i) e less = ap (λ w. k.mul x y ∷ w) (positions_more k a b i (omega arith) (omega arith))
+positions_more k (x ∷ a) (y ∷ b) (suc i) e less = ap (λ w. k.mul x y ∷ w)
+    (positions_more k a b i (omega arith) (omega arith))
 
 -- n copies of the field
 abbrev pub positions_algebra : ℕ → AlgebraOps
 positions_algebra n = record { size = n; unit = replicate n 1; product = by_positions }
 
 module _ (k : CodeField) where
-  positions_in : (n : ℕ) (a b : List ℕ) → IsVector k.ops n a → IsVector k.ops n b → IsVector k.ops n (by_positions k.ops a b)
+  positions_in : (n : ℕ) (a b : List ℕ) → IsVector k.ops n a → IsVector k.ops n b
+      → IsVector k.ops n (by_positions k.ops a b)
   positions_in zero [] b a_in b_in = record { size = refl; over = IsOver_nil }
   positions_in zero (x ∷ a) b a_in b_in = absurd (let e = a_in.size in omega arith)
   positions_in (suc n) [] b a_in b_in = absurd (let e = a_in.size in omega arith)
@@ -40,12 +43,14 @@ module _ (k : CodeField) where
         over = IsOver_cons (k.laws.mul_below x y (IsOver_head a_in.over) (IsOver_head b_in.over)) rest.over;
       }
 
-  positions_comm : (a b : List ℕ) → IsOver k.ops a → IsOver k.ops b → length a ≡ length b → by_positions k.ops a b ≡ by_positions k.ops b a
+  positions_comm : (a b : List ℕ) → IsOver k.ops a → IsOver k.ops b → length a ≡ length b
+      → by_positions k.ops a b ≡ by_positions k.ops b a
   positions_comm [] [] a_in b_in e = refl
   positions_comm [] (y ∷ b) a_in b_in e = refl
   positions_comm (x ∷ a) [] a_in b_in e = refl
   positions_comm (x ∷ a) (y ∷ b) a_in b_in e =
-      ap₂ ◌∷◌ (k.laws.mul_comm x y (IsOver_head a_in) (IsOver_head b_in)) (positions_comm a b (IsOver_tail a_in) (IsOver_tail b_in) (omega arith))
+      ap₂ ◌∷◌ (k.laws.mul_comm x y (IsOver_head a_in) (IsOver_head b_in))
+      (positions_comm a b (IsOver_tail a_in) (IsOver_tail b_in) (omega arith))
 
   positions_assoc : (a b c : List ℕ) → IsOver k.ops a → IsOver k.ops b → IsOver k.ops c
       → by_positions k.ops (by_positions k.ops a b) c ≡ by_positions k.ops a (by_positions k.ops b c)
@@ -61,7 +66,8 @@ module _ (k : CodeField) where
   positions_one (x ∷ a) a_in = ap₂ ◌∷◌ (k.laws.one_mul x (IsOver_head a_in)) (positions_one a (IsOver_tail a_in))
 
   positions_sum : (a b c : List ℕ) → IsOver k.ops a → IsOver k.ops b → IsOver k.ops c → length b ≡ length c
-      → by_positions k.ops a (add_lists (raw_ring k.ops) b c) ≡ add_lists (raw_ring k.ops) (by_positions k.ops a b) (by_positions k.ops a c)
+      → by_positions k.ops a (add_lists (raw_ring k.ops) b c)
+      ≡ add_lists (raw_ring k.ops) (by_positions k.ops a b) (by_positions k.ops a c)
   positions_sum [] b c a_in b_in c_in e = refl
   positions_sum (x ∷ a) [] [] a_in b_in c_in e = refl
   positions_sum (x ∷ a) [] (z ∷ c) a_in b_in c_in e = absurd (omega arith)
@@ -75,7 +81,8 @@ module _ (k : CodeField) where
   positions_scale d [] b d_in a_in b_in = refl
   positions_scale d (x ∷ a) [] d_in a_in b_in = refl
   positions_scale d (x ∷ a) (y ∷ b) d_in a_in b_in =
-      ap₂ ◌∷◌ (k.laws.mul_assoc d x y d_in (IsOver_head a_in) (IsOver_head b_in)) (positions_scale d a b d_in (IsOver_tail a_in) (IsOver_tail b_in))
+      ap₂ ◌∷◌ (k.laws.mul_assoc d x y d_in (IsOver_head a_in) (IsOver_head b_in))
+      (positions_scale d a b d_in (IsOver_tail a_in) (IsOver_tail b_in))
 
   pub positions_laws : (n : ℕ) → IsAlgebra k (positions_algebra n)
   positions_laws n = record {
@@ -84,6 +91,7 @@ module _ (k : CodeField) where
     commutative = λ a b a_in b_in. positions_comm a b a_in.over b_in.over (a_in.size ∙ sym b_in.size);
     associative = λ a b c a_in b_in c_in. positions_assoc a b c a_in.over b_in.over c_in.over;
     unit_times = λ a a_in. ap (λ m. by_positions k.ops (replicate m 1) a) (sym a_in.size) ∙ positions_one a a_in.over;
-    distributive = λ a b c a_in b_in c_in. positions_sum a b c a_in.over b_in.over c_in.over (b_in.size ∙ sym c_in.size);
+    distributive = λ a b c a_in b_in c_in. positions_sum a b c a_in.over b_in.over c_in.over
+        (b_in.size ∙ sym c_in.size);
     linear = λ d a b d_in a_in b_in. positions_scale d a b d_in a_in.over b_in.over;
   }

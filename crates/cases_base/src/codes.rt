@@ -112,7 +112,8 @@ fn values<K: SmallField>(
     }
 }
 
-/// `a b`, `a` or nothing: the value at two codes, those at a and each code, or those at all codes but 0; `neg` and `inv` of one
+/// `a b`, `a` or nothing: the value at two codes, those at a and each code, or those at all codes but 0; `neg` and
+/// `inv` of one
 /// code, and `pow` of a code and an exponent, or of a code and all exponents below the size.
 pub fn code_line<K: SmallField>(
     alloc: Global,

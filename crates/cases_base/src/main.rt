@@ -1,4 +1,5 @@
-//! Answers lines of known answers over fields, polynomials, matrices, algebras, factors and rows of polynomials: a line in, a
+//! Answers lines of known answers over fields, polynomials, matrices, algebras, factors and rows of polynomials: a line
+//! in, a
 //! line out. A line is a word, a field, a colon, and arguments between colons.
 #![tactic(auto)]
 

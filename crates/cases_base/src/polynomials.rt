@@ -133,7 +133,8 @@ fn made<K: SmallField>(alloc: Global, k: &K, word: &str, text: &str) -> Result<P
     }
 }
 
-/// The polynomial that the word makes of the arguments; of `quotient` the rest too, of `value` a code, of `terms` terms.
+/// The polynomial that the word makes of the arguments; of `quotient` the rest too, of `value` a code, of `terms`
+/// terms.
 pub fn polynomial_line<K: SmallField>(
     alloc: Global,
     k: &K,

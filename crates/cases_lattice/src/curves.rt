@@ -37,8 +37,10 @@ fn maximal_text<K: SmallField>(
     lattice_text(alloc, maximal_order(alloc, k, c, side)?.lattice())
 }
 
-/// `terms:` and an argument. The maximal order of a side, or k[t][Y], of no argument; whether an element is in k[t][Y] or in its
-/// combinations over the fractions of degree at most 0; or a radical, its multipliers, or an enlargement, of polynomials.
+/// `terms:` and an argument. The maximal order of a side, or k[t][Y], of no argument; whether an element is in k[t][Y]
+/// or in its
+/// combinations over the fractions of degree at most 0; or a radical, its multipliers, or an enlargement, of
+/// polynomials.
 pub fn curve_line<K: SmallField>(
     alloc: Global,
     k: &K,

@@ -122,7 +122,8 @@ fn of_one<K: SmallField>(
     }
 }
 
-/// Over the presentation f: `lattice` has `f: A`; `sum`, `product`, `colon` and `same` have `f: A: B`; `scale`, `contains` and
+/// Over the presentation f: `lattice` has `f: A`; `sum`, `product`, `colon` and `same` have `f: A: B`; `scale`,
+/// `contains` and
 /// `row` have `f: A:` and a fraction, an element or a number.
 pub fn lattice_line<K: SmallField>(
     alloc: Global,

@@ -119,7 +119,8 @@ fn codes_of<K: SmallField>(
     }
 }
 
-/// Modulo an ideal, `f: A: I:` and arguments: the codes of `one`, of the `class` of an element, of what codes are `lifted` to,
+/// Modulo an ideal, `f: A: I:` and arguments: the codes of `one`, of the `class` of an element, of what codes are
+/// `lifted` to,
 /// or of the classes of two elements, `times` each other. Where all is 0, `none`.
 pub fn quotient_line<K: SmallField>(
     alloc: Global,

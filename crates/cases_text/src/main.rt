@@ -2,7 +2,8 @@
 //!
 //! A line is a word, for some words a number, `: ` and a text, which is written with the escapes of `case_bytes`:
 //!
-//! - `number COL`, `terms COL`, `terms in x COL`, `element COL`: what a reader reads at the column, printed again, and the
+//! - `number COL`, `terms COL`, `terms in x COL`, `element COL`: what a reader reads at the column, printed again, and
+//!   the
 //!   column behind it; or the column of the fault.
 //! - `sum P`: the terms of the sum over the field of P elements, as the exponents of y and x and the code.
 //! - `poly`, `elem`, `poly COL`, `elem COL`: the codes of a printed form, lowest first, and the form printed again.

@@ -1,4 +1,5 @@
-//! Answers a script about the functions of a curve over a finite field: it reads the script from standard input, and prints
+//! Answers a script about the functions of a curve over a finite field: it reads the script from standard input, and
+//! prints
 //! to standard output a block for each statement. `ff_program::top` does the work, and says what is printed.
 #![tactic(auto)]
 

@@ -28,7 +28,8 @@ trimmed_tail : (c : ℕ) (a : List ℕ) → IsTrimmed is_zero_code (c ∷ a) →
 trimmed_tail c [] t = tt
 trimmed_tail c (d ∷ a) t = t
 
-pub same_codes : (a b : List ℕ) → IsTrimmed is_zero_code a → IsTrimmed is_zero_code b → ((j : ℕ) → get_or a j 0 ≡ get_or b j 0) → a ≡ b
+pub same_codes : (a b : List ℕ) → IsTrimmed is_zero_code a → IsTrimmed is_zero_code b
+    → ((j : ℕ) → get_or a j 0 ≡ get_or b j 0) → a ≡ b
 same_codes [] [] s t h = refl
 same_codes [] (d ∷ b) s t h = absurd (some_code (d ∷ b) t (λ e. cc) (λ j. sym (h j)))
 same_codes (c ∷ a) [] s t h = absurd (some_code (c ∷ a) s (λ e. cc) h)
@@ -66,17 +67,22 @@ module _ (k : FieldOps) (f : List (ℕ × ℕ × ℕ)) where
 
 module _ (k : CodeField) (f : List (ℕ × ℕ × ℕ)) where
   -- and one discriminant
-  same_disc : (p q : PresValue) (a b : List ℕ) → IsEquationOf k.ops f p → IsEquationOf k.ops f q → IsDiscriminant k p a → IsDiscriminant k q b → a ≡ b
+  same_disc : (p q : PresValue) (a b : List ℕ) → IsEquationOf k.ops f p → IsEquationOf k.ops f q → IsDiscriminant k p a
+      → IsDiscriminant k q b → a ≡ b
   same_disc p q a b h g a_is b_is =
       same_from_value k a b a_is.over b_is.over a_is.poly b_is.poly
       (a_is.value ∙ ap (λ q. discriminant (equation_of k q)) (same_equation k.ops f p q h g) ∙ sym b_is.value)
 
-  same_number_at : (p q : PresValue) (c d : ℕ) → IsEquationOf k.ops f p → IsEquationOf k.ops f q → IsInfinityNumber p c → IsInfinityNumber q d → c ≡ d
-  same_number_at p q c d h g c_is d_is = same_number p c d c_is (subst (λ w. IsInfinityNumber w d) (same_equation k.ops f q p g h) d_is)
+  same_number_at : (p q : PresValue) (c d : ℕ) → IsEquationOf k.ops f p → IsEquationOf k.ops f q → IsInfinityNumber p c
+      → IsInfinityNumber q d → c ≡ d
+  same_number_at p q c d h g c_is d_is = same_number p c d c_is
+      (subst (λ w. IsInfinityNumber w d) (same_equation k.ops f q p g h) d_is)
 
-  same_product : (p q : PresValue) (c d : ℕ) → IsEquationOf k.ops f p → IsEquationOf k.ops f q → IsInfinityNumber p c → IsInfinityNumber q d → c * p.n * (p.n - 1) ≡ d * q.n * (q.n - 1)
+  same_product : (p q : PresValue) (c d : ℕ) → IsEquationOf k.ops f p → IsEquationOf k.ops f q → IsInfinityNumber p c
+      → IsInfinityNumber q d → c * p.n * (p.n - 1) ≡ d * q.n * (q.n - 1)
   same_product p q c d h g c_is d_is =
-      ap₂ (λ c (p : PresValue). c * p.n * (p.n - 1)) (same_number_at p q c d h g c_is d_is) (same_equation k.ops f p q h g)
+      ap₂ (λ c (p : PresValue). c * p.n * (p.n - 1)) (same_number_at p q c d h g c_is d_is)
+      (same_equation k.ops f p q h g)
 
   -- what is asked of the terms, one thing after another
   abbrev Stage : ℕ → Type 0
@@ -84,8 +90,10 @@ module _ (k : CodeField) (f : List (ℕ × ℕ × ℕ)) where
   Stage (suc zero) = degree_in_x f ≤ 32
   Stage (suc (suc zero)) = IsCoefficient k.ops f (degree_in_y f) (1 ∷ [])
   Stage (suc (suc (suc zero))) = (q : PresValue) (a : List ℕ) → IsEquationOf k.ops f q → IsDiscriminant k q a → a ≢ []
-  Stage (suc (suc (suc (suc zero)))) = (q : PresValue) (a : List ℕ) → IsEquationOf k.ops f q → IsDiscriminant k q a → length a ≤ 65
-  Stage (suc (suc (suc (suc (suc s))))) = (q : PresValue) (c : ℕ) → IsEquationOf k.ops f q → IsInfinityNumber q c → c * q.n * (q.n - 1) ≤ 224
+  Stage (suc (suc (suc (suc zero)))) = (q : PresValue) (a : List ℕ) → IsEquationOf k.ops f q → IsDiscriminant k q a
+      → length a ≤ 65
+  Stage (suc (suc (suc (suc (suc s))))) = (q : PresValue) (c : ℕ) → IsEquationOf k.ops f q → IsInfinityNumber q c
+      → c * q.n * (q.n - 1) ≤ 224
 
   first_two : IsSmall f → (s : ℕ) → s < 2 → Stage s
   first_two h zero less = h.0
@@ -95,7 +103,8 @@ module _ (k : CodeField) (f : List (ℕ × ℕ × ℕ)) where
   first_three : (q : PresValue) → IsSmallEquation k.ops f q → (s : ℕ) → s < 3 → Stage s
   first_three q h zero less = h.small.0
   first_three q h (suc zero) less = h.small.1
-  first_three q h (suc (suc zero)) less = subst (λ n. IsCoefficient k.ops f n (1 ∷ [])) h.equation.degree h.equation.monic
+  first_three q h (suc (suc zero)) less = subst (λ n. IsCoefficient k.ops f n (1 ∷ [])) h.equation.degree
+      h.equation.monic
   first_three q h (suc (suc (suc s))) less = absurd (omega arith)
 
   module _ (q : PresValue) (h : IsSmallEquation k.ops f q) (a : List ℕ) (a_is : IsDiscriminant k q a) where
@@ -103,7 +112,8 @@ module _ (k : CodeField) (f : List (ℕ × ℕ × ℕ)) where
     first_four some zero less = h.small.0
     first_four some (suc zero) less = h.small.1
     first_four some (suc (suc zero)) less = first_three q h 2 (omega arith)
-    first_four some (suc (suc (suc zero))) less = λ p b g b_is none. some (same_disc q p a b h.equation g a_is b_is ∙ none)
+    first_four some (suc (suc (suc zero))) less = λ p b g b_is none. some
+        (same_disc q p a b h.equation g a_is b_is ∙ none)
     first_four some (suc (suc (suc (suc s)))) less = absurd (omega arith)
 
     first_five : a ≢ [] → length a ≤ 65 → (s : ℕ) → s < 5 → Stage s
@@ -111,7 +121,8 @@ module _ (k : CodeField) (f : List (ℕ × ℕ × ℕ)) where
     first_five some short (suc zero) less = h.small.1
     first_five some short (suc (suc zero)) less = first_three q h 2 (omega arith)
     first_five some short (suc (suc (suc zero))) less = first_four some 3 (omega arith)
-    first_five some short (suc (suc (suc (suc zero)))) less = λ p b g b_is. let e = ap length (same_disc q p a b h.equation g a_is b_is) in omega (arith, e)
+    first_five some short (suc (suc (suc (suc zero)))) less = λ p b g b_is. let
+        e = ap length (same_disc q p a b h.equation g a_is b_is) in omega (arith, e)
     first_five some short (suc (suc (suc (suc (suc s))))) less = absurd (omega arith)
 
   some_from_length : (a : List ℕ) (d : ℕ) → length a ≡ d + 1 → a ≢ []
@@ -133,11 +144,20 @@ module _ (k : CodeField) (f : List (ℕ × ℕ × ℕ)) where
 
   fails : (e : CurveFault) → e ≢ Memory → IsCurveFault k f e → FailsAt (rank e)
   fails (LimitY n) some h = record { passed = λ s less. absurd (omega arith); failed = h.1 }
-  fails (LimitX d) some h = record { passed = λ s less. (let e : s ≡ 0 = omega arith in subst Stage (sym e) h.0); failed = λ le. omega (arith, h.1, h.2, le) }
-  fails (NotMonic p) some h = record { passed = first_two h.0; failed = λ one. h.2 (same_coefficient k.ops f (degree_in_y f) p (1 ∷ []) h.1 one) }
+  fails (LimitX d) some h = record {
+    passed = λ s less. (let e : s ≡ 0 = omega arith in subst Stage (sym e) h.0);
+    failed
+        = λ le. omega (arith, h.1, h.2, le);
+  }
+  fails (NotMonic p) some h = record {
+    passed = first_two h.0;
+    failed = λ one. h.2
+        (same_coefficient k.ops f (degree_in_y f) p (1 ∷ []) h.1 one);
+  }
   fails NotSeparable some h = record {
     passed = first_three h.pres h.equation;
-    failed = λ all. all h.pres [] h.equation.equation (record { poly = record { trimmed = tt }; over = IsOver_nil; value = value_nil k ∙ sym h.zero }) refl;
+    failed = λ all. all h.pres [] h.equation.equation
+        (record { poly = record { trimmed = tt }; over = IsOver_nil; value = value_nil k ∙ sym h.zero }) refl;
   }
   fails (LimitDisc d) some h = record {
     passed = first_four h.pres h.equation h.disc h.is_disc (some_from_length h.disc d h.degree);
@@ -156,10 +176,12 @@ module _ (k : CodeField) (f : List (ℕ × ℕ × ℕ)) where
   same_rank (NotMonic p) (NotMonic q) same h g = ap NotMonic (same_coefficient k.ops f (degree_in_y f) p q h.1 g.1)
   same_rank NotSeparable NotSeparable same h g = refl
   same_rank (LimitDisc n) (LimitDisc m) same h g =
-      let e = ap length (same_disc h.pres g.pres h.disc g.disc h.equation.equation g.equation.equation h.is_disc g.is_disc) in
+      let e = ap length (same_disc h.pres g.pres h.disc g.disc h.equation.equation g.equation.equation h.is_disc
+      g.is_disc) in
       let d : n ≡ m = omega (arith, e, h.degree, g.degree) in ap LimitDisc d
   same_rank (LimitInf n) (LimitInf m) same h g =
-      ap LimitInf (h.value ∙ same_product h.pres g.pres h.c g.c h.equation.equation g.equation.equation h.number g.number ∙ sym g.value)
+      ap LimitInf (h.value ∙ same_product h.pres g.pres h.c g.c h.equation.equation g.equation.equation h.number
+      g.number ∙ sym g.value)
   same_rank Memory Memory same h g = refl
   same_rank e d same h g = absurd (omega arith)
 
@@ -176,8 +198,10 @@ module _ (k : CodeField) (f : List (ℕ × ℕ × ℕ)) where
   all_stages c h zero = h.equation.small.0
   all_stages c h (suc zero) = h.equation.small.1
   all_stages c h (suc (suc zero)) = first_three c.fin h.equation 2 (omega arith)
-  all_stages c h (suc (suc (suc zero))) = first_four c.fin h.equation c.disc h.curve.disc h.curve.separable 3 (omega arith)
-  all_stages c h (suc (suc (suc (suc zero)))) = first_five c.fin h.equation c.disc h.curve.disc h.curve.separable h.curve.disc_degree 4 (omega arith)
+  all_stages c h (suc (suc (suc zero))) = first_four c.fin h.equation c.disc h.curve.disc h.curve.separable 3
+      (omega arith)
+  all_stages c h (suc (suc (suc (suc zero)))) = first_five c.fin h.equation c.disc h.curve.disc h.curve.separable
+      h.curve.disc_degree 4 (omega arith)
   all_stages c h (suc (suc (suc (suc (suc s))))) = λ q d g number.
       let e = same_product c.fin q c.c d h.equation.equation g h.curve.infinite.number number in
       let le = h.curve.disc_at_infinity in
@@ -188,9 +212,11 @@ module _ (k : CodeField) (f : List (ℕ × ℕ × ℕ)) where
   no_fault e c some h g = (fails e some h).failed (all_stages c g (rank e))
 
   -- curves of the same terms have the same equation, discriminant and infinity number
-  pub same_parts : (c d : CurveValue) → IsCurveOf k f c → IsCurveOf k f d → (c.fin ≡ d.fin) × (c.disc ≡ d.disc) × (c.c ≡ d.c)
+  pub same_parts : (c d : CurveValue) → IsCurveOf k f c → IsCurveOf k f d
+      → (c.fin ≡ d.fin) × (c.disc ≡ d.disc) × (c.c ≡ d.c)
   same_parts c d h g = (
     same_equation k.ops f c.fin d.fin h.equation.equation g.equation.equation,
     same_disc c.fin d.fin c.disc d.disc h.equation.equation g.equation.equation h.curve.disc g.curve.disc,
-    same_number_at c.fin d.fin c.c d.c h.equation.equation g.equation.equation h.curve.infinite.number g.curve.infinite.number,
+    same_number_at c.fin d.fin c.c d.c h.equation.equation g.equation.equation h.curve.infinite.number
+        g.curve.infinite.number,
   )

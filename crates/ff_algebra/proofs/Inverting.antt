@@ -28,22 +28,26 @@ use Rattle.ff_algebra.proofs.LinesMade.{row_of_append}
 pub killed_has_none : {A : Type 0} (R : CommRing A) (a w z : A) → R.◌⊗◌ a w ≡ R.𝟘 → ¬ (w ≡ R.𝟘) → ¬ (R.◌⊗◌ a z ≡ R.𝟙)
 killed_has_none R a w z killed some inverse =
     some
-    (sym (one_mul R w) ∙ ap (λ t. R.◌⊗◌ t w) (sym inverse ∙ R.mul_comm a z) ∙ R.mul_assoc z a w ∙ ap (R.◌⊗◌ z) killed ∙ R.mul_comm z R.𝟘
+    (sym (one_mul R w) ∙ ap (λ t. R.◌⊗◌ t w) (sym inverse ∙ R.mul_comm a z) ∙ R.mul_assoc z a w ∙ ap (R.◌⊗◌ z) killed
+    ∙ R.mul_comm z R.𝟘
     ∙ zero_mul R z)
 
 module _ (k : CodeField) (p : PresValue) (v : List (List ℕ)) where
   abbrev S : CommRing (Polynomial k)
   S = (polynomials k).ring
 
-  abbrev times : Row (Polynomial k) (suc (p.n - 1)) → Row (Polynomial k) (suc (p.n - 1)) → Row (Polynomial k) (suc (p.n - 1))
+  abbrev times : Row (Polynomial k) (suc (p.n - 1)) → Row (Polynomial k) (suc (p.n - 1))
+      → Row (Polynomial k) (suc (p.n - 1))
   times = row_mul S (p.n - 1) (equation_of k p).coefficients
 
   -- the last factor is d
-  pub split : (factors w : List (List ℕ)) (d : List ℕ) → 1 ≤ p.n → factors ≡ w ++ d ∷ [] → HasFactors k p v factors → IsRelation k p v w d
+  pub split : (factors w : List (List ℕ)) (d : List ℕ) → 1 ≤ p.n → factors ≡ w ++ d ∷ [] → HasFactors k p v factors
+      → IsRelation k p v w d
   split factors w d positive factors_are is =
       let relation = subst (HasFactors k p v) factors_are is in
       let size : length w ≡ p.n = omega (arith, length-append w (d ∷ []), relation.row.one_each) in
-      let last : get_or (w ++ d ∷ []) p.n [] ≡ d = ap (λ j. get_or (w ++ d ∷ []) j []) (sym size) ∙ get_or-append_seam w d [] [] in
+      let last : get_or (w ++ d ∷ []) p.n [] ≡ d = ap (λ j. get_or (w ++ d ∷ []) j []) (sym size)
+      ∙ get_or-append_seam w d [] [] in
       let overs = All-pop (IsOver k.ops) factors w (Some d) factors_are is.row.over in
       let polys = All-pop IsPoly factors w (Some d) factors_are is.row.poly in
       record {
@@ -56,12 +60,20 @@ module _ (k : CodeField) (p : PresValue) (v : List (List ℕ)) where
             ∙ ap (λ r. times r (row_at k p v)) (row_of_append k (suc (p.n - 1)) w (d ∷ []) (omega arith));
         some = λ none.
             elim (cases_lt relation.position p.n) [
-              | inl less ↦ (relation.position, less, λ e. relation.some (get_or-append w (d ∷ []) [] relation.position (omega arith) ∙ e))
-              | inr past ↦ absurd (relation.some (ap (λ j. get_or (w ++ d ∷ []) j []) (let here : relation.position ≡ p.n = omega (arith, relation.within) in here) ∙ last ∙ none))
+              | inl less ↦ (
+                relation.position,
+                less,
+                λ e. relation.some
+                    (get_or-append w (d ∷ []) [] relation.position (omega arith) ∙ e),
+              )
+              | inr past ↦ absurd (relation.some
+                  (ap (λ j. get_or (w ++ d ∷ []) j [])
+                  (let here : relation.position ≡ p.n = omega (arith, relation.within) in here) ∙ last ∙ none))
             ];
       }
 
-module _ (k : CodeField) (p : PresValue) (a : ElemValue) (a_in : IsElem k.ops p.n a) (a_monic : IsMonicElem a) (w : List (List ℕ)) (d : List ℕ) (is : IsRelation k p a.num w d) where
+module _ (k : CodeField) (p : PresValue) (a : ElemValue) (a_in : IsElem k.ops p.n a) (a_monic : IsMonicElem a)
+    (w : List (List ℕ)) (d : List ℕ) (is : IsRelation k p a.num w d) where
   abbrev E : CommRing (Functions k p)
   E = functions k p
 
@@ -76,7 +88,8 @@ module _ (k : CodeField) (p : PresValue) (a : ElemValue) (a_in : IsElem k.ops p.
 
   -- the product of a and a row over e, where the row is a multiple of w
   product_is : (e : Polynomial k) (z : RowOver (equation_of k p)) → z.num ≡ row_scale R.ops m e (row_at k p w)
-      → row_mul R (p.n - 1) (equation_of k p).coefficients (row_over k p a).num z.num ≡ row_scale R.ops m (R.◌⊗◌ e (value k d)) (row_one R (p.n - 1))
+      → row_mul R (p.n - 1) (equation_of k p).coefficients (row_over k p a).num z.num
+      ≡ row_scale R.ops m (R.◌⊗◌ e (value k d)) (row_one R (p.n - 1))
   product_is e z num =
       let f = (equation_of k p).coefficients in
       ap₂ (row_mul R (p.n - 1) f) (row_over_num k p a) num
@@ -86,8 +99,10 @@ module _ (k : CodeField) (p : PresValue) (a : ElemValue) (a_in : IsElem k.ops p.
       ∙ sym (row_scale_scale R m e (value k d) (row_one R (p.n - 1)))
 
   -- d isn't 0: the inverse is den·w over d
-  pub inverse_function : (num : List (List ℕ)) (z : ElemValue) → d ≢ [] → row_at k p num ≡ row_scale R.ops m (value k a.den) (row_at k p w)
-      → function_of k p z ≡ function_of k p (record { num = num; den = d }) → E.◌⊗◌ (function_of k p a) (function_of k p z) ≡ E.𝟙
+  pub inverse_function : (num : List (List ℕ)) (z : ElemValue) → d ≢ []
+      → row_at k p num ≡ row_scale R.ops m (value k a.den) (row_at k p w)
+      → function_of k p z ≡ function_of k p (record { num = num; den = d })
+      → E.◌⊗◌ (function_of k p a) (function_of k p z) ≡ E.𝟙
   unfolding pair_mul whole_pair
   inverse_function num z some num_is z_is =
       let c = equation_of k p in
@@ -103,7 +118,8 @@ module _ (k : CodeField) (p : PresValue) (a : ElemValue) (a_in : IsElem k.ops p.
       ∙ sym (one_function c)
 
   -- d is 0: w kills
-  module _ (z : ElemValue) (none : d ≡ []) (z_is : function_of k p z ≡ function_of k p (record { num = w; den = 1 ∷ [] })) where
+  module _ (z : ElemValue) (none : d ≡ [])
+      (z_is : function_of k p z ≡ function_of k p (record { num = w; den = 1 ∷ [] })) where
     abbrev whole : ElemValue
     whole = record { num = w; den = 1 ∷ [] }
 
@@ -129,7 +145,8 @@ module _ (k : CodeField) (p : PresValue) (a : ElemValue) (a_in : IsElem k.ops p.
         ∙ sym (row_scale_zero R m (R.◌⊗◌ (row_over k p a).den y.den)))
         ∙ sym (zero_function c)
 
-    nothing_of_row : (n j : ℕ) (vs : List (List ℕ)) → j < n → row_of_list k n vs ≡ row_zero R.ops n → value k (get_or vs j []) ≡ R.𝟘
+    nothing_of_row : (n j : ℕ) (vs : List (List ℕ)) → j < n → row_of_list k n vs ≡ row_zero R.ops n
+        → value k (get_or vs j []) ≡ R.𝟘
     unfolding row_zero
     nothing_of_row zero j vs less e = absurd (omega arith)
     nothing_of_row (suc n) j [] less e = value_nil k

@@ -12,13 +12,12 @@ use Rattle.ff_fields.specs.Field.{CodeField}
 use Rattle.ff_fields.specs.Code.{raw_ring, is_zero_code}
 use Rattle.ff_fields.specs.Over.{IsOver, IsOver_nil, IsOver_cons, IsOver_head, IsOver_tail, get_or_below}
 use Rattle.ff_poly.specs.Words.{IsMonic, poly_of, top_of, multiple_of}
-use Rattle.ff_poly.specs.Value.{value}
-use Rattle.ff_poly.specs.Polynomials.{polynomials, constant_poly, x_poly, x_poly_not_zero}
+use Rattle.ff_poly.specs.Polynomials.{constant_poly, x_poly, x_poly_not_zero}
 use Rattle.ff_poly.proofs.Parts.{value_multiple}
 use Rattle.function_field.specs.declared.side.Side.TheVariants.{Finite, Infinite}
 use Rattle.function_field.specs.Functions.{of_poly}
 use Rattle.function_field.specs.Values.{PresValue, ElemValue, IsElem, IsMonicElem, Functions, functions, equation_of, row_of_list, row_over, function_of}
-use Rattle.function_field.specs.Infinity.{constant, value_at, row_value_at, variable, generator, StandsFor, function_on}
+use Rattle.function_field.specs.Infinity.{constant, value_at, row_value_at, variable, generator, function_on}
 use Rattle.function_field.specs.Curves.{reversed_of}
 use Rattle.function_field.proofs.Horner.{horner, den_times_function}
 use Rattle.function_field.proofs.OnSide.{of_poly_times, den_inverse, value_at_x, function_on_stands, stands_once}
@@ -89,7 +88,8 @@ trimmed_top (a ∷ d ∷ w) t n =
     let last : length (a ∷ d ∷ w) - 1 ≡ suc (length (d ∷ w) - 1) = omega arith in
     λ e. trimmed_top (d ∷ w) t (λ f. cc) (sym (ap (λ i. get_or (a ∷ d ∷ w) i 0) last) ∙ e)
 
-pub over_turned : (k : CodeField) (c m : ℕ) (vs ws : List (List ℕ)) → AreTurned c m vs ws → All (IsOver k.ops) vs → All (IsOver k.ops) ws
+pub over_turned : (k : CodeField) (c m : ℕ) (vs ws : List (List ℕ)) → AreTurned c m vs ws → All (IsOver k.ops) vs
+    → All (IsOver k.ops) ws
 over_turned k c m vs ws h vs_in =
     All-from_get_or (IsOver k.ops) ws [] (λ i less.
     let less' : i < length vs = omega (arith, h.same_length) in
@@ -106,17 +106,21 @@ module _ (k : CodeField) (p : PresValue) where
     powers : (d n : ℕ) → pow (functions k p).ops t (d + n) ⊗ pow (functions k p).ops x n ≡ pow (functions k p).ops t d
     powers d n =
         ap (λ s. s ⊗ pow (functions k p).ops x n) (pow_add (functions k p) t d n)
-        ∙ (functions k p).mul_assoc (pow (functions k p).ops t d) (pow (functions k p).ops t n) (pow (functions k p).ops x n)
+        ∙ (functions k p).mul_assoc (pow (functions k p).ops t d) (pow (functions k p).ops t n)
+        (pow (functions k p).ops x n)
         ∙ ap (λ s. pow (functions k p).ops t d ⊗ s)
         ((functions k p).mul_comm (pow (functions k p).ops t n) (pow (functions k p).ops x n)
-        ∙ sym (mul_pow (functions k p) x t n) ∙ ap (λ s. pow (functions k p).ops s n) inverse ∙ pow_one_base (functions k p) n)
+        ∙ sym (mul_pow (functions k p) x t n) ∙ ap (λ s. pow (functions k p).ops s n) inverse
+        ∙ pow_one_base (functions k p) n)
         ∙ (functions k p).mul_one (pow (functions k p).ops t d)
 
     -- t^(m-1)·x^n·a(x), read at t
     term : (a : List ℕ) (m n : ℕ) → (a ≢ [] → length a + n ≤ m)
-        → value_at k p t (reversed_of a (m - n)) ≡ value_at k p x a ⊗ (pow (functions k p).ops t (m - 1) ⊗ pow (functions k p).ops x n)
+        → value_at k p t (reversed_of a (m - n))
+        ≡ value_at k p x a ⊗ (pow (functions k p).ops t (m - 1) ⊗ pow (functions k p).ops x n)
     term [] m n fits =
-        null (m - n - length {A = ℕ} []) ∙ sym (zero_mul (functions k p) (pow (functions k p).ops t (m - 1) ⊗ pow (functions k p).ops x n))
+        null (m - n - length {A = ℕ} [])
+        ∙ sym (zero_mul (functions k p) (pow (functions k p).ops t (m - 1) ⊗ pow (functions k p).ops x n))
       where
         null : (j : ℕ) → value_at k p t (poly_of (replicate j 0 ++ [])) ≡ 𝟘
         null j =
@@ -140,8 +144,10 @@ module _ (k : CodeField) (p : PresValue) where
       row : (m j : ℕ) (vs ws : List (List ℕ)) → length ws ≡ length vs
           → ((i : ℕ) → i < length vs → get_or ws i [] ≡ reversed_of (get_or vs i []) (m - c * (j + i)))
           → ((i : ℕ) → i < length vs → get_or vs i [] ≢ [] → length (get_or vs i []) + c * (j + i) ≤ m)
-          → row_value_at k p t H ws ≡ pow (functions k p).ops t (m - 1) ⊗ pow (functions k p).ops x (c * j) ⊗ row_value_at k p x G vs
-      row m j [] [] size each fits = sym (mul_zero (functions k p) (pow (functions k p).ops t (m - 1) ⊗ pow (functions k p).ops x (c * j)))
+          → row_value_at k p t H ws ≡ pow (functions k p).ops t (m - 1) ⊗ pow (functions k p).ops x (c * j) ⊗
+          row_value_at k p x G vs
+      row m j [] [] size each fits = sym
+          (mul_zero (functions k p) (pow (functions k p).ops t (m - 1) ⊗ pow (functions k p).ops x (c * j)))
       row m j [] (w ∷ ws) size each fits = absurd (omega arith)
       row m j (v ∷ vs) [] size each fits = absurd (omega arith)
       row m j (v ∷ vs) (w ∷ ws) size each fits =
@@ -155,27 +161,34 @@ module _ (k : CodeField) (p : PresValue) where
           (λ i less some. rw (shift i) at (fits (suc i) (omega arith) some)))
           ∙ ap (λ s. value_at k p x v ⊗ (pow (functions k p).ops t (m - 1) ⊗ pow (functions k p).ops x (c * j))
           ⊕ H ⊗ (pow (functions k p).ops t (m - 1) ⊗ s ⊗ row_value_at k p x G vs)) (next j)
-          ∙ step (value_at k p x v) (pow (functions k p).ops t (m - 1)) (pow (functions k p).ops x (c * j)) (pow (functions k p).ops x c) (row_value_at k p x G vs)
-          ∙ ap (λ s. pow (functions k p).ops t (m - 1) ⊗ pow (functions k p).ops x (c * j) ⊗ (value_at k p x v ⊕ s ⊗ row_value_at k p x G vs)) (sym generators)
+          ∙ step (value_at k p x v) (pow (functions k p).ops t (m - 1)) (pow (functions k p).ops x (c * j))
+          (pow (functions k p).ops x c) (row_value_at k p x G vs)
+          ∙ ap (λ s. pow (functions k p).ops t (m - 1) ⊗ pow (functions k p).ops x (c * j) ⊗
+          (value_at k p x v ⊕ s ⊗ row_value_at k p x G vs)) (sym generators)
         where
-          next : (n : ℕ) → pow (functions k p).ops x (c * suc n) ≡ pow (functions k p).ops x c ⊗ pow (functions k p).ops x (c * n)
+          next : (n : ℕ) → pow (functions k p).ops x (c * suc n)
+              ≡ pow (functions k p).ops x c ⊗ pow (functions k p).ops x (c * n)
           next n =
               let more : c * suc n ≡ c + c * n = rw (mul-suc c n) (omega arith) in
               ap (pow (functions k p).ops x) more ∙ pow_add (functions k p) x c (c * n)
 
           step : (a T X C R : Functions k p) → a ⊗ (T ⊗ X) ⊕ H ⊗ (T ⊗ (C ⊗ X) ⊗ R) ≡ T ⊗ X ⊗ (a ⊕ H ⊗ C ⊗ R)
           step a T X C R =
-              ring (functions k p) (a ∷ T ∷ X ∷ C ∷ R ∷ H ∷ []) λ q h. simp (reads, q, h 0, h 1, h 2, h 3, h 4, h 5) (q.equal _ _ refl)
+              ring (functions k p) (a ∷ T ∷ X ∷ C ∷ R ∷ H ∷ []) λ q h. simp (reads, q, h 0, h 1, h 2, h 3, h 4, h 5)
+              (q.equal _ _ refl)
 
       -- d(x)·f = Σ v_i(x)·G^i becomes the equation of the turned parts
-      stands : (m : ℕ) (z g : ElemValue) (f : Functions k p) → AreTurned c m z.num g.num → g.den ≡ reversed_of z.den m → length z.den ≤ m
-          → value_at k p x z.den ⊗ f ≡ row_value_at k p x G z.num → value_at k p t g.den ⊗ f ≡ row_value_at k p t H g.num
+      stands : (m : ℕ) (z g : ElemValue) (f : Functions k p) → AreTurned c m z.num g.num → g.den ≡ reversed_of z.den m
+          → length z.den ≤ m
+          → value_at k p x z.den ⊗ f ≡ row_value_at k p x G z.num
+          → value_at k p t g.den ⊗ f ≡ row_value_at k p t H g.num
       stands m z g f num den fits h =
           let none : c * 0 ≡ 0 = omega arith in
           let all : m ≡ m - 0 = omega arith in
           let whole : (n : ℕ) → 0 + n ≡ n = λ n. omega arith in
           let W = pow (functions k p).ops t (m - 1) ⊗ pow (functions k p).ops x 0 in
-          ap (λ s. s ⊗ f) (ap (value_at k p t) (den ∙ ap (reversed_of z.den) all) ∙ term z.den m 0 (λ some. omega arith))
+          ap (λ s. s ⊗ f) (ap (value_at k p t) (den ∙ ap (reversed_of z.den) all)
+          ∙ term z.den m 0 (λ some. omega arith))
           ∙ turn (value_at k p x z.den) W f
           ∙ ap (λ s. W ⊗ s) h
           ∙ sym (row m 0 z.num g.num num.same_length
@@ -206,7 +219,8 @@ module _ (k : CodeField) (p : PresValue) where
       ∙ collect (constant k p u) (constant k p a) t (value_at k p t w)
     where
       collect : (u a t v : Functions k p) → u ⊗ a ⊕ t ⊗ (u ⊗ v) ≡ u ⊗ (a ⊕ t ⊗ v)
-      collect u a t v = ring (functions k p) (u ∷ a ∷ t ∷ v ∷ []) λ q h. simp (reads, q, h 0, h 1, h 2, h 3) (q.equal _ _ refl)
+      collect u a t v = ring (functions k p) (u ∷ a ∷ t ∷ v ∷ []) λ q h. simp (reads, q, h 0, h 1, h 2, h 3)
+          (q.equal _ _ refl)
 
   multiple_at : (t : Functions k p) (u : ℕ) (w : List ℕ) → u < k.size → IsOver k.ops w
       → value_at k p t (multiple_of k.ops w u) ≡ constant k p u ⊗ value_at k p t w
@@ -220,13 +234,16 @@ module _ (k : CodeField) (p : PresValue) where
       → row_value_at k p t Y (map (λ v. multiple_of k.ops v u) vs) ≡ constant k p u ⊗ row_value_at k p t Y vs
   row_multiple_at t Y u [] u_in vs_in = sym (mul_zero (functions k p) (constant k p u))
   row_multiple_at t Y u (v ∷ vs) u_in vs_in =
-      ap₂ (λ s r. s ⊕ Y ⊗ r) (multiple_at t u v u_in (All-head (IsOver k.ops) v vs vs_in)) (row_multiple_at t Y u vs u_in (All-tail (IsOver k.ops) v vs vs_in))
+      ap₂ (λ s r. s ⊕ Y ⊗ r) (multiple_at t u v u_in (All-head (IsOver k.ops) v vs vs_in))
+      (row_multiple_at t Y u vs u_in (All-tail (IsOver k.ops) v vs vs_in))
       ∙ collect (constant k p u) (value_at k p t v) Y (row_value_at k p t Y vs)
     where
       collect : (u a t v : Functions k p) → u ⊗ a ⊕ t ⊗ (u ⊗ v) ≡ u ⊗ (a ⊕ t ⊗ v)
-      collect u a t v = ring (functions k p) (u ∷ a ∷ t ∷ v ∷ []) λ q h. simp (reads, q, h 0, h 1, h 2, h 3) (q.equal _ _ refl)
+      collect u a t v = ring (functions k p) (u ∷ a ∷ t ∷ v ∷ []) λ q h. simp (reads, q, h 0, h 1, h 2, h 3)
+          (q.equal _ _ refl)
 
-  multiple_stands : (t Y : Functions k p) (u : ℕ) (g w : ElemValue) (f : Functions k p) → u < k.size → All (IsOver k.ops) g.num → IsOver k.ops g.den
+  multiple_stands : (t Y : Functions k p) (u : ℕ) (g w : ElemValue) (f : Functions k p) → u < k.size
+      → All (IsOver k.ops) g.num → IsOver k.ops g.den
       → w.num ≡ map (λ v. multiple_of k.ops v u) g.num → w.den ≡ multiple_of k.ops g.den u
       → value_at k p t g.den ⊗ f ≡ row_value_at k p t Y g.num → value_at k p t w.den ⊗ f ≡ row_value_at k p t Y w.num
   multiple_stands t Y u g w f u_in num_in den_in num den h =
@@ -248,13 +265,16 @@ module _ (k : CodeField) (p : PresValue) where
   y_is c =
       sym ((functions k p).mul_one (generator k p c Finite))
       ∙ ap (λ s. generator k p c Finite ⊗ s)
-      (sym (pow_one_base (functions k p) c) ∙ ap (λ s. pow (functions k p).ops s c) (sym t_times_x) ∙ mul_pow (functions k p) (variable k p Infinite) (variable k p Finite) c)
-      ∙ sym ((functions k p).mul_assoc (generator k p c Finite) (pow (functions k p).ops (variable k p Infinite) c) (pow (functions k p).ops (variable k p Finite) c))
+      (sym (pow_one_base (functions k p) c) ∙ ap (λ s. pow (functions k p).ops s c) (sym t_times_x)
+      ∙ mul_pow (functions k p) (variable k p Infinite) (variable k p Finite) c)
+      ∙ sym ((functions k p).mul_assoc (generator k p c Finite) (pow (functions k p).ops (variable k p Infinite) c)
+      (pow (functions k p).ops (variable k p Finite) c))
 
   -- ---- elements of the finite presentation stand for their function
 
   horner_at : (c m : ℕ) (vs : List (List ℕ)) → length vs ≡ m
-      → horner (equation_of k p) m (row_of_list k m vs) ≡ row_value_at k p (variable k p Finite) (generator k p c Finite) vs
+      → horner (equation_of k p) m (row_of_list k m vs)
+      ≡ row_value_at k p (variable k p Finite) (generator k p c Finite) vs
   unfolding horner
   horner_at c zero [] e = refl
   horner_at c zero (v ∷ vs) e = absurd (omega arith)
@@ -262,19 +282,24 @@ module _ (k : CodeField) (p : PresValue) where
   horner_at c (suc m) (v ∷ vs) e =
       ap₂ (λ s r. s ⊕ generator k p c Finite ⊗ r) (sym (value_at_x k p v)) (horner_at c m vs (omega arith))
 
-  pub on_finite_side : (c : ℕ) (z : ElemValue) → 1 ≤ p.n → IsElem k.ops p.n z → IsMonicElem z → function_on k p c Finite z ≡ function_of k p z
+  pub on_finite_side : (c : ℕ) (z : ElemValue) → 1 ≤ p.n → IsElem k.ops p.n z → IsMonicElem z
+      → function_on k p c Finite z ≡ function_of k p z
   on_finite_side c z some z_in z_monic =
-      sym (stands_once k p c Finite z (function_of k p z) z_in.den_over z_monic.den_poly (monic_some z.den z_monic.monic)
+      sym (stands_once k p c Finite z (function_of k p z) z_in.den_over z_monic.den_poly
+      (monic_some z.den z_monic.monic)
       (ap (λ s. s ⊗ function_of k p z)
-      (value_at_x k p z.den ∙ ap (of_poly (equation_of k p)) (sym (row_over_den k p z (elem_den k p z p.n z_in z_monic))))
+      (value_at_x k p z.den ∙ ap (of_poly (equation_of k p))
+      (sym (row_over_den k p z (elem_den k p z p.n z_in z_monic))))
       ∙ den_times_function (equation_of k p) (row_over k p z)
       ∙ ap (horner (equation_of k p) (suc (p.n - 1))) (row_over_num k p z)
       ∙ horner_at c (suc (p.n - 1)) z.num (let e : length z.num ≡ p.n = z_in.one_each in omega arith)))
 
   -- z turned is g, which w is when its denominator is made monic
-  module _ (c m : ℕ) (z g w : ElemValue) (z_in : IsElem k.ops (length z.num) z) (z_monic : IsMonicElem z) (w_in : IsElem k.ops (length g.num) w) (w_monic : IsMonicElem w)
+  module _ (c m : ℕ) (z g w : ElemValue) (z_in : IsElem k.ops (length z.num) z) (z_monic : IsMonicElem z)
+      (w_in : IsElem k.ops (length g.num) w) (w_monic : IsMonicElem w)
       (turned : AreTurned c m z.num g.num) (den : g.den ≡ reversed_of z.den m) (fits : length z.den ≤ m)
-      (num_is : w.num ≡ map (λ v. multiple_of k.ops v (k.inv (top_of g.den))) g.num) (den_is : w.den ≡ multiple_of k.ops g.den (k.inv (top_of g.den))) where
+      (num_is : w.num ≡ map (λ v. multiple_of k.ops v (k.inv (top_of g.den))) g.num)
+      (den_is : w.den ≡ multiple_of k.ops g.den (k.inv (top_of g.den))) where
     num_in : All (IsOver k.ops) g.num
     num_in = over_turned k c m z.num g.num turned z_in.num_over
 
@@ -284,14 +309,18 @@ module _ (k : CodeField) (p : PresValue) where
     u_in : k.inv (top_of g.den) < k.size
     u_in =
         k.laws.inv_below (top_of g.den) (get_or_below k g.den (length g.den - 1) den_in)
-        (trimmed_top g.den (rw den (IsTrimmed_trim is_zero_code (replicate (m - length z.den) 0 ++ poly_of (reverse z.den))))
+        (trimmed_top g.den (rw den (IsTrimmed_trim is_zero_code
+        (replicate (m - length z.den) 0 ++ poly_of (reverse z.den))))
         (λ e. reversed_not_zero z.den m z_monic.monic (sym den ∙ e)))
 
     pub turned_to_infinite : 1 ≤ p.n → p.n ≡ length z.num → function_on k p c Infinite w ≡ function_of k p z
     turned_to_infinite some size =
-        sym (stands_once k p c Infinite w (function_on k p c Finite z) w_in.den_over w_monic.den_poly (monic_some w.den w_monic.monic)
-        (multiple_stands (variable k p Infinite) (generator k p c Infinite) (k.inv (top_of g.den)) g w (function_on k p c Finite z) u_in num_in den_in num_is den_is
-        (stands (variable k p Finite) (variable k p Infinite) x_times_t c (generator k p c Finite) (generator k p c Infinite) (y_is c) m z g
+        sym (stands_once k p c Infinite w (function_on k p c Finite z) w_in.den_over w_monic.den_poly
+        (monic_some w.den w_monic.monic)
+        (multiple_stands (variable k p Infinite) (generator k p c Infinite) (k.inv (top_of g.den)) g w
+        (function_on k p c Finite z) u_in num_in den_in num_is den_is
+        (stands (variable k p Finite) (variable k p Infinite) x_times_t c (generator k p c Finite)
+        (generator k p c Infinite) (y_is c) m z g
         (function_on k p c Finite z) turned den fits
         (function_on_stands k p c Finite z z_in.den_over z_monic.den_poly (monic_some z.den z_monic.monic)))))
         ∙ on_finite_side c z some (subst (λ n. IsElem k.ops n z) (sym size) z_in) z_monic
@@ -299,8 +328,11 @@ module _ (k : CodeField) (p : PresValue) where
     pub turned_to_finite : 1 ≤ p.n → p.n ≡ length z.num → function_of k p w ≡ function_on k p c Infinite z
     turned_to_finite some size =
         sym (on_finite_side c w some (subst (λ n. IsElem k.ops n w) (turned.same_length ∙ sym size) w_in) w_monic)
-        ∙ sym (stands_once k p c Finite w (function_on k p c Infinite z) w_in.den_over w_monic.den_poly (monic_some w.den w_monic.monic)
-        (multiple_stands (variable k p Finite) (generator k p c Finite) (k.inv (top_of g.den)) g w (function_on k p c Infinite z) u_in num_in den_in num_is den_is
-        (stands (variable k p Infinite) (variable k p Finite) t_times_x c (generator k p c Infinite) (generator k p c Finite) refl m z g
+        ∙ sym (stands_once k p c Finite w (function_on k p c Infinite z) w_in.den_over w_monic.den_poly
+        (monic_some w.den w_monic.monic)
+        (multiple_stands (variable k p Finite) (generator k p c Finite) (k.inv (top_of g.den)) g w
+        (function_on k p c Infinite z) u_in num_in den_in num_is den_is
+        (stands (variable k p Infinite) (variable k p Finite) t_times_x c (generator k p c Infinite)
+        (generator k p c Finite) refl m z g
         (function_on k p c Infinite z) turned den fits
         (function_on_stands k p c Infinite z z_in.den_over z_monic.den_poly (monic_some z.den z_monic.monic)))))

@@ -33,7 +33,8 @@ first_row (suc (suc (suc (suc i)))) less = absurd (omega arith)
 first_count : (n : ℕ) → n ≤ 4 → length (take n four_rows) ≡ n
 first_count n le = omega (arith, length-take n four_rows)
 
-pub IfOk_three : {T E : Type 0} (r : Result T E) (P Q R S : T → Type 0) → ((x : T) → P x → Q x → R x → S x) → IfOk r P → IfOk r Q → IfOk r R → IfOk r S
+pub IfOk_three : {T E : Type 0} (r : Result T E) (P Q R S : T → Type 0) → ((x : T) → P x → Q x → R x → S x) → IfOk r P
+    → IfOk r Q → IfOk r R → IfOk r S
 IfOk_three (Ok x) P Q R S f p q r = f x p q r
 IfOk_three (Err e) P Q R S f p q r = tt
 
@@ -46,16 +47,20 @@ module _ (k : CodeField) (p : PresValue) where
     pub each : (i : ℕ) → i < m → value k (get_or traces i []) ≡ power_trace (equation_of k p) i
     pub over : All (IsOver k.ops) traces
 
-  one_is : row_at k p ((1 ∷ []) ∷ replicate (p.n - 1) []) ≡ y_to (polynomials k).ops (p.n - 1) (equation_of k p).coefficients 0
+  one_is : row_at k p ((1 ∷ []) ∷ replicate (p.n - 1) [])
+      ≡ y_to (polynomials k).ops (p.n - 1) (equation_of k p).coefficients 0
   unfolding y_to
   one_is = pair_path (value_one k) (row_of_zeros k (p.n - 1) (p.n - 1))
 
-  pub traces_none : (power traces : List (List ℕ)) → 1 ≤ p.n → power ≡ (1 ∷ []) ∷ replicate (p.n - 1) [] → traces ≡ [] → AreTraces 0 power traces
+  pub traces_none : (power traces : List (List ℕ)) → 1 ≤ p.n → power ≡ (1 ∷ []) ∷ replicate (p.n - 1) [] → traces ≡ []
+      → AreTraces 0 power traces
   traces_none power traces some power_is none = rw (power_is, none) (record {
     row = record {
       one_each = omega (arith, length-replicate {A = List ℕ});
-      over = All-cons (IsOver k.ops) (1 ∷ []) _ (IsOver_cons k.laws.one_below IsOver_nil) (All-replicate (IsOver k.ops) (p.n - 1) [] IsOver_nil);
-      poly = All-cons IsPoly (1 ∷ []) _ (record { trimmed = refl }) (All-replicate IsPoly (p.n - 1) [] (record { trimmed = tt }));
+      over = All-cons (IsOver k.ops) (1 ∷ []) _ (IsOver_cons k.laws.one_below IsOver_nil)
+          (All-replicate (IsOver k.ops) (p.n - 1) [] IsOver_nil);
+      poly = All-cons IsPoly (1 ∷ []) _ (record { trimmed = refl })
+          (All-replicate IsPoly (p.n - 1) [] (record { trimmed = tt }));
     };
     power_is = one_is;
     size = refl;
@@ -63,14 +68,18 @@ module _ (k : CodeField) (p : PresValue) where
     over = λ i d less. absurd (omega arith);
   })
 
-  power_more : (m : ℕ) (old new : List (List ℕ)) → row_at k p old ≡ y_to (polynomials k).ops (p.n - 1) (equation_of k p).coefficients m → row_at k p new ≡ y_times k p (row_at k p old)
+  power_more : (m : ℕ) (old new : List (List ℕ))
+      → row_at k p old ≡ y_to (polynomials k).ops (p.n - 1) (equation_of k p).coefficients m
+      → row_at k p new ≡ y_times k p (row_at k p old)
       → row_at k p new ≡ y_to (polynomials k).ops (p.n - 1) (equation_of k p).coefficients (m + 1)
   unfolding y_to
   power_more m old new old_is new_is =
-      new_is ∙ ap (y_times k p) old_is ∙ ap (y_to (polynomials k).ops (p.n - 1) (equation_of k p).coefficients) (sym (add-one m))
+      new_is ∙ ap (y_times k p) old_is ∙ ap (y_to (polynomials k).ops (p.n - 1) (equation_of k p).coefficients)
+      (sym (add-one m))
 
   pub traces_more : (m : ℕ) (power next traces more : List (List ℕ)) (t : List ℕ) → AreTraces m power traces
-      → value k t ≡ row_trace (polynomials k).ops (p.n - 1) (equation_of k p).coefficients (row_at k p power) → IsOver k.ops t → more ≡ traces ++ t ∷ []
+      → value k t ≡ row_trace (polynomials k).ops (p.n - 1) (equation_of k p).coefficients (row_at k p power)
+      → IsOver k.ops t → more ≡ traces ++ t ∷ []
       → row_at k p next ≡ y_times k p (row_at k p power) → IsPolyRow k.ops p.n next → AreTraces (m + 1) next more
   traces_more m power next traces more t h t_is t_in more_is next_is next_in = record {
     row = next_in;
@@ -87,14 +96,17 @@ module _ (k : CodeField) (p : PresValue) where
       size_push (y ∷ xs) x = let e = size_push xs x in omega (arith, e)
 
   -- the determinant of the traces is the discriminant
-  pub discriminant_is : (traces entries : List (List ℕ)) (n : ℕ) → n ≡ p.n → 1 ≤ p.n → p.n ≤ 4 → length traces + 1 ≡ 2 * p.n → entries ≡ traces
+  pub discriminant_is : (traces entries : List (List ℕ)) (n : ℕ) → n ≡ p.n → 1 ≤ p.n → p.n ≤ 4
+      → length traces + 1 ≡ 2 * p.n → entries ≡ traces
       → ((i : ℕ) → i < length traces → value k (get_or traces i []) ≡ power_trace (equation_of k p) i)
-      → determinant (polynomials k).ops (length (take n four_rows)) (matrix_of k entries (take n four_rows) 0) ≡ discriminant (equation_of k p)
+      → determinant (polynomials k).ops (length (take n four_rows)) (matrix_of k entries (take n four_rows) 0)
+      ≡ discriminant (equation_of k p)
   discriminant_is traces entries n n_is some le size same each =
       let rows = take n four_rows in
       let all : length rows ≡ suc (p.n - 1) = (let e = first_count n (omega arith) in omega (arith, e)) in
       ap₂ (λ m w. determinant (polynomials k).ops m (matrix_of k w rows 0)) all same
-      ∙ determinant_cong (polynomials k).ring (suc (p.n - 1)) (matrix_of k traces rows 0) (λ i j. power_trace (equation_of k p) (i + j)) (λ i j i_in j_in.
+      ∙ determinant_cong (polynomials k).ring (suc (p.n - 1)) (matrix_of k traces rows 0)
+      (λ i j. power_trace (equation_of k p) (i + j)) (λ i j i_in j_in.
       let row : get_or rows i 0 ≡ i = get_or-take n four_rows i 0 (omega arith) ∙ first_row i (omega arith) in
       let at : get_or rows i 0 + 0 + j ≡ i + j = omega (arith, row) in
       ap (λ n. value k (get_or traces n [])) at ∙ each (i + j) (omega (arith, size)))

@@ -1,8 +1,7 @@
 -- The curve that terms in x and y give, and why terms give none.
-use Rattle.std.specs.Prelude.{◌≡◌, ◌≢◌, ℕ, ◌+◌, ◌-◌, ◌*◌, ◌≤◌, ◌<◌, max, List, [], ◌∷◌, length, get_or, reverse, All}
+use Rattle.std.specs.Prelude.{◌≡◌, ◌≢◌, ℕ, ◌+◌, ◌-◌, ◌*◌, ◌≤◌, ◌<◌, max, List, [], ◌∷◌, length, get_or}
 use Rattle.ff_fields.specs.Field.{FieldOps, CodeField}
-use Rattle.ff_fields.specs.Over.{IsOver}
-use Rattle.ff_poly.specs.Words.{IsPoly, poly_of, shifted}
+use Rattle.ff_poly.specs.Words.{IsPoly}
 use Rattle.ff_poly.specs.TermWords.{code_at}
 use Rattle.ff_poly.specs.Value.{value}
 use Rattle.ff_poly.specs.Polynomials.{Polynomial, polynomials}
@@ -82,7 +81,8 @@ module _ (k : CodeField) where
     pub value : d ≡ c * pres.n * (pres.n - 1)
     pub above : 224 < d
 
-  -- what keeps the terms from giving a curve; each fault comes only where none above it holds. Want of memory says nothing
+  -- what keeps the terms from giving a curve; each fault comes only where none above it holds. Want of memory says
+  -- nothing
   abbrev pub IsCurveFault : List (ℕ × ℕ × ℕ) → CurveFault → Type 0
   IsCurveFault f (LimitY n) = (n ≡ degree_in_y f) × ¬ IsSmallInY f
   IsCurveFault f (LimitX d) = IsSmallInY f × (d ≡ degree_in_x f) × (32 < d)

@@ -50,10 +50,12 @@ module _ (k : CodeField) (p : PresValue) (v : List (List ℕ)) where
     pub row : IsPolyRow k.ops (2 * p.n + 1) line
     pub product :
         row_add (polynomials k).ops (suc (p.n - 1)) (row_at k p (drop (p.n + 1) line))
-        (row_scale (polynomials k).ops (suc (p.n - 1)) (value k (get_or line p.n [])) (row_one (polynomials k).ring (p.n - 1)))
+        (row_scale (polynomials k).ops (suc (p.n - 1)) (value k (get_or line p.n []))
+        (row_one (polynomials k).ring (p.n - 1)))
         ≡ row_mul (polynomials k).ring (p.n - 1) (equation_of k p).coefficients (row_at k p line) (row_at k p v)
 
-  -- lines with an entry of their own among the factors, which are 0 in the columns behind the factors and before this one
+  -- lines with an entry of their own among the factors, which are 0 in the columns behind the factors and before this
+  -- one
   pub record IsEliminated (column : ℕ) (lines : List (List (List ℕ))) : Type 0 where
     pub each : (i : ℕ) → i < length lines → IsLine (get_or lines i [])
     pub cleared : (i j : ℕ) → p.n < j → j < column → entry_of lines i j ≡ []

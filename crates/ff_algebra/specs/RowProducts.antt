@@ -25,7 +25,8 @@ module _ (k : FieldOps) where
   abbrev pub cross_sums : List ℕ → List ℕ → List (List ℕ) → List (List ℕ) → List (List ℕ)
   cross_sums d e [] ws = []
   cross_sums d e (v ∷ vs) [] = []
-  cross_sums d e (v ∷ vs) (w ∷ ws) = sum_of k (product_of k e v) (multiple_of k (product_of k d w) 1) ∷ cross_sums d e vs ws
+  cross_sums d e (v ∷ vs) (w ∷ ws) = sum_of k (product_of k e v) (multiple_of k (product_of k d w) 1) ∷ cross_sums d e
+      vs ws
 
 module _ (k : CodeField) (p : PresValue) where
   -- a row of n polynomials, as coefficients of 1, y, up to y^(n-1)
@@ -40,4 +41,5 @@ module _ (k : CodeField) (p : PresValue) where
   abbrev pub list_times : List (List ℕ) → Row (Polynomial k) (suc (p.n - 1)) → Row (Polynomial k) (suc (p.n - 1))
   list_times [] w = row_zero (polynomials k).ops (suc (p.n - 1))
   list_times (v ∷ vs) w =
-      row_add (polynomials k).ops (suc (p.n - 1)) (row_scale (polynomials k).ops (suc (p.n - 1)) (value k v) w) (y_times (list_times vs w))
+      row_add (polynomials k).ops (suc (p.n - 1)) (row_scale (polynomials k).ops (suc (p.n - 1)) (value k v) w)
+      (y_times (list_times vs w))

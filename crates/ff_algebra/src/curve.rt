@@ -145,7 +145,8 @@ impl Curve {
     }
 }
 
-/// The faults exclude each other and the curve: terms give one fault at most but for want of memory, and none where they
+/// The faults exclude each other and the curve: terms give one fault at most but for want of memory, and none where
+/// they
 /// give a curve, which is the only one.
 pub fn one_fault<K: SmallField>(k: &K, f: &Terms)
     ensures fault { let k = K.field k.now in

@@ -130,7 +130,8 @@ pub(crate) fn row_product<K: SmallField>(
     requires w_in { All (IsOver (K.field k.now).ops) w.now }
     ensures product { let k = K.field k.now in
         let f = (equation_of k p.now).coefficients in
-        IfOk result (λ row. row_at k p.now row.items ≡ row_mul (polynomials k).ring (p.now.n - 1) f (row_at k p.now v.now) (row_at k p.now w.now)) }
+        IfOk result (λ row. row_at k p.now row.items
+        ≡ row_mul (polynomials k).ring (p.now.n - 1) f (row_at k p.now v.now) (row_at k p.now w.now)) }
     ensures in_range { IfOk result (λ row. IsPolyRow (K.field k.now).ops p.now.n row.items) }
 {
     let mut product = zeros(alloc, p.n())?;

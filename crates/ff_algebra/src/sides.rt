@@ -12,7 +12,8 @@ use crate::elem::Elem;
 use ff_fields::field::SmallField;
 use std::alloc::{AllocError, Global};
 
-/// The function of z in the infinite presentation, whose variable is t = 1/x and whose generator is Y = y/x^c. The numerators
+/// The function of z in the infinite presentation, whose variable is t = 1/x and whose generator is Y = y/x^c. The
+/// numerators
 /// and the denominator are read at 1/t and multiplied by the least power of t that makes polynomials of them. z has n
 /// numerators. It takes the time of writing down the answer.
 pub fn to_inf<K: SmallField>(alloc: Global, k: &K, c: &Curve, z: &Elem) -> Result<Elem, AllocError>
@@ -26,7 +27,8 @@ pub fn to_inf<K: SmallField>(alloc: Global, k: &K, c: &Curve, z: &Elem) -> Resul
     turned(alloc, k, c.c() as usize, z)
 }
 
-/// The function of z, an element of the infinite presentation, in the finite one. z has n numerators. It takes the time of
+/// The function of z, an element of the infinite presentation, in the finite one. z has n numerators. It takes the time
+/// of
 /// writing down the answer.
 pub fn to_fin<K: SmallField>(alloc: Global, k: &K, c: &Curve, z: &Elem) -> Result<Elem, AllocError>
     requires curve { IsCurve (K.field k.now) c.now }
@@ -39,7 +41,8 @@ pub fn to_fin<K: SmallField>(alloc: Global, k: &K, c: &Curve, z: &Elem) -> Resul
     turned(alloc, k, c.c() as usize, z)
 }
 
-/// The element of either presentation in the other one. One body serves both ways, since the one variable is the inverse of the
+/// The element of either presentation in the other one. One body serves both ways, since the one variable is the
+/// inverse of the
 /// other, and each generator is the other one divided by the c-th power of its variable.
 fn turned<K: SmallField>(alloc: Global, k: &K, c: usize, z: &Elem) -> Result<Elem, AllocError>
     requires small { c < 2 ^ 32 }
@@ -69,7 +72,8 @@ fn turned<K: SmallField>(alloc: Global, k: &K, c: usize, z: &Elem) -> Result<Ele
     Ok(Elem::new(k, num, den))
 }
 
-/// The least number of codes that is enough for the denominator, and leaves enough less c·i for each numerator but 0, the one at
+/// The least number of codes that is enough for the denominator, and leaves enough less c·i for each numerator but 0,
+/// the one at
 /// the i-th power of the generator.
 fn codes_needed(c: usize, z: &Elem) -> usize
     requires small { c < 2 ^ 32 }

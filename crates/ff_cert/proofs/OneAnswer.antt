@@ -45,39 +45,48 @@ pub record IsOne (a b : Answer) (next after : Bindings) : Type 0 where
   pub answer : a ≡ b
   pub bindings : AreSame next after
 
-one_field : (p : ℕ) (tail : Option Modulus) (q r : ℕ) (next after : Bindings) → field_row.IsTrue p tail q next → field_row.IsTrue p tail r after
+one_field : (p : ℕ) (tail : Option Modulus) (q r : ℕ) (next after : Bindings) → field_row.IsTrue p tail q next
+    → field_row.IsTrue p tail r after
     → IsOne (answers.FieldOf q) (answers.FieldOf r) next after
 one_field p tail q r next after h g =
     let same = same_named p tail (ops_of h.field) (ops_of g.field) h.named g.named in
     record {
       answer = ap answers.FieldOf (h.size.size ∙ ap (λ (k : FieldOps). k.size) same ∙ sym g.size.size);
-      bindings = OneField h.field g.field (record { left = h.is_field; right = g.is_field; ops = same }) h.bound g.bound;
+      bindings = OneField h.field g.field (record { left = h.is_field; right = g.is_field; ops = same }) h.bound
+          g.bound;
     }
 
-one_curve_of : (k : CodeField) (f : List Term) (c d : CurveValue) → curve_row.IsCurveOfTerms k f c → curve_row.IsCurveOfTerms k f d → c ≡ d
+one_curve_of : (k : CodeField) (f : List Term) (c d : CurveValue) → curve_row.IsCurveOfTerms k f c
+    → curve_row.IsCurveOfTerms k f d → c ≡ d
 one_curve_of k f c d h g =
-    one_curve k g.sum c d (subst (λ s. IsCurveOf k s c) (same_sum k f h.sum g.sum h.is_sum g.is_sum) h.is_curve) g.is_curve
+    one_curve k g.sum c d (subst (λ s. IsCurveOf k s c) (same_sum k f h.sum g.sum h.is_sum g.is_sum) h.is_curve)
+    g.is_curve
 
-one_curve_answer : (d e : FieldData) (f : List Term) (m n b c : ℕ) (next after : Bindings) → AreSameFields d e → curve_row.IsTrue d f m b next → curve_row.IsTrue e f n c after
+one_curve_answer : (d e : FieldData) (f : List Term) (m n b c : ℕ) (next after : Bindings) → AreSameFields d e
+    → curve_row.IsTrue d f m b next → curve_row.IsTrue e f n c after
     → IsOne (answers.CurveOf m b) (answers.CurveOf n c) next after
 one_curve_answer d e f m n b c next after same h g =
     let curves : h.curve ≡ g.curve
     = one_curve_of (with_laws e g.is_field) f h.curve g.curve
-    (subst (λ k. curve_row.IsCurveOfTerms k f h.curve) (fields_same d e same h.is_field g.is_field) h.is_curve) g.is_curve in
+    (subst (λ k. curve_row.IsCurveOfTerms k f h.curve) (fields_same d e same h.is_field g.is_field) h.is_curve)
+    g.is_curve in
     let curve = subst (λ k. IsCurve k h.curve) (same_field d d h.is_field same.left refl) h.is_curve.is_curve.curve in
     record {
       answer =
           ap₂ answers.CurveOf (h.degree ∙ ap (λ (x : CurveValue). x.fin.n) curves ∙ sym g.degree)
           (h.number ∙ ap (λ (x : CurveValue). x.c) curves ∙ sym g.number);
-      bindings = OneCurve d e h.curve (record { fields = same; curve = curve }) h.bound (g.bound ∙ ap (with_curve e) (sym curves));
+      bindings = OneCurve d e h.curve (record { fields = same; curve = curve }) h.bound
+          (g.bound ∙ ap (with_curve e) (sym curves));
     }
 
-one_product : (k : CodeField) (p : PresValue) → 1 ≤ p.n → (a b : ElemText) (z w : WrittenValue) → mul_row.IsTrue k p a b z → mul_row.IsTrue k p a b w → z ≡ w
+one_product : (k : CodeField) (p : PresValue) → 1 ≤ p.n → (a b : ElemText) (z w : WrittenValue)
+    → mul_row.IsTrue k p a b z → mul_row.IsTrue k p a b w → z ≡ w
 one_product k p some a b z w h g =
     let product = λ (x y : ElemValue). (functions k p).◌⊗◌ (function_of k p x) (function_of k p y) in
     let left = same_element k.ops a h.left g.left h.is_left g.is_left in
     let right = same_element k.ops b h.right g.right h.is_right g.is_right in
-    one_written k p some (product g.left g.right) z w (subst (λ f. IsWritten k p f z) (ap₂ product left right) h.product) g.product
+    one_written k p some (product g.left g.right) z w
+    (subst (λ f. IsWritten k p f z) (ap₂ product left right) h.product) g.product
 
 -- the powers as a factorisation has them
 abbrev pair : PowerLine → List ℕ × ℕ
@@ -95,7 +104,8 @@ same_powers (l ∷ ls) (m ∷ ms) e =
     let others : pairs ls ≡ pairs ms = cc in
     ap₂ (λ x xs. x ∷ xs) (λ i. record { exponent = (first i).1; poly = (first i).0 }) (same_powers ls ms others)
 
-one_factors : (k : CodeField) (g : List Term) (u v : ℕ) (ls ms : List PowerLine) → factor_row.IsTrue k.ops g u ls → factor_row.IsTrue k.ops g v ms → (u ≡ v) × (ls ≡ ms)
+one_factors : (k : CodeField) (g : List Term) (u v : ℕ) (ls ms : List PowerLine) → factor_row.IsTrue k.ops g u ls
+    → factor_row.IsTrue k.ops g v ms → (u ≡ v) × (ls ≡ ms)
 one_factors k g u v ls ms h j =
     let same = same_poly k.ops g h.sum j.sum h.is_sum j.is_sum in
     let one =
@@ -107,7 +117,8 @@ one_factors k g u v ls ms h j =
 -- ---- the answer is of the statement's kind
 
 module _ (old next : Bindings) where
-  field_is : (p : ℕ) (tail : Option Modulus) (a : Answer) → Answers old (FieldOf p tail) a next → (q : ℕ) × (a ≡ answers.FieldOf q) × field_row.IsTrue p tail q next
+  field_is : (p : ℕ) (tail : Option Modulus) (a : Answer) → Answers old (FieldOf p tail) a next
+      → (q : ℕ) × (a ≡ answers.FieldOf q) × field_row.IsTrue p tail q next
   field_is p tail (answers.FieldOf q) h = (q, refl, h.1)
   field_is p tail (answers.CurveOf n c) h = absurd h
   field_is p tail (answers.Mul z) h = absurd h
@@ -117,7 +128,8 @@ module _ (old next : Bindings) where
   abbrev Curve : List Term → ℕ → ℕ → FieldData → Type 0
   Curve f n c d = (old.bound ≡ None) × curve_row.IsTrue d f n c next
 
-  curve_is : (f : List Term) (a : Answer) → Answers old (CurveOf f) a next → (n : ℕ) × (c : ℕ) × (a ≡ answers.CurveOf n c) × ForField old (Curve f n c)
+  curve_is : (f : List Term) (a : Answer) → Answers old (CurveOf f) a next
+      → (n : ℕ) × (c : ℕ) × (a ≡ answers.CurveOf n c) × ForField old (Curve f n c)
   curve_is f (answers.FieldOf q) h = absurd h
   curve_is f (answers.CurveOf n c) h = (n, c, refl, h)
   curve_is f (answers.Mul z) h = absurd h
@@ -127,7 +139,8 @@ module _ (old next : Bindings) where
   abbrev Product : ElemText → ElemText → WrittenValue → FieldData → CurveValue → Type 0
   Product x y z d c = (is : IsFieldData d) × mul_row.IsTrue (with_laws d is) c.fin x y z × (next ≡ old)
 
-  mul_is : (x y : ElemText) (a : Answer) → Answers old (Mul x y) a next → (z : WrittenValue) × (a ≡ answers.Mul z) × ForCurve old (Product x y z)
+  mul_is : (x y : ElemText) (a : Answer) → Answers old (Mul x y) a next
+      → (z : WrittenValue) × (a ≡ answers.Mul z) × ForCurve old (Product x y z)
   mul_is x y (answers.FieldOf q) h = absurd h
   mul_is x y (answers.CurveOf n c) h = absurd h
   mul_is x y (answers.Mul z) h = (z, refl, h)
@@ -137,7 +150,8 @@ module _ (old next : Bindings) where
   abbrev Factors : List Term → ℕ → List PowerLine → FieldData → CurveValue → Type 0
   Factors g u ls d c = factor_row.IsTrue (ops_of d) g u ls × (next ≡ old)
 
-  factor_is : (g : List Term) (a : Answer) → Answers old (Factor g) a next → (u : ℕ) × (ls : List PowerLine) × (a ≡ answers.Factor u ls) × ForCurve old (Factors g u ls)
+  factor_is : (g : List Term) (a : Answer) → Answers old (Factor g) a next
+      → (u : ℕ) × (ls : List PowerLine) × (a ≡ answers.Factor u ls) × ForCurve old (Factors g u ls)
   factor_is g (answers.FieldOf q) h = absurd h
   factor_is g (answers.CurveOf n c) h = absurd h
   factor_is g (answers.Mul z) h = absurd h
@@ -147,7 +161,8 @@ module _ (old next : Bindings) where
   abbrev Order : Side → List WrittenValue → FieldData → CurveValue → Type 0
   Order s zs d c = (is : IsFieldData d) × order_row.IsTrue (with_laws d is) c s zs × (next ≡ old)
 
-  order_is : (s : Side) (a : Answer) → Answers old (OrderOf s) a next → (zs : List WrittenValue) × (a ≡ answers.OrderOf zs) × ForCurve old (Order s zs)
+  order_is : (s : Side) (a : Answer) → Answers old (OrderOf s) a next
+      → (zs : List WrittenValue) × (a ≡ answers.OrderOf zs) × ForCurve old (Order s zs)
   order_is s (answers.FieldOf q) h = absurd h
   order_is s (answers.CurveOf n c) h = absurd h
   order_is s (answers.Mul z) h = absurd h
@@ -156,16 +171,21 @@ module _ (old next : Bindings) where
 
 -- ---- over the same bindings
 
-for_field : (a b : Bindings) (P Q : FieldData → Type 0) (R : Type 0) → ((d e : FieldData) → AreSameFields d e → P d → Q e → R) → AreSame a b → ForField a P → ForField b Q → R
+for_field : (a b : Bindings) (P Q : FieldData → Type 0) (R : Type 0)
+    → ((d e : FieldData) → AreSameFields d e → P d → Q e → R) → AreSame a b → ForField a P → ForField b Q → R
 for_field a b P Q R f (NothingBound a_is b_is) h g = absurd (subst (λ o. ForField o P) a_is h)
-for_field a b P Q R f (OneField d e same a_is b_is) h g = f d e same (subst (λ o. ForField o P) a_is h) (subst (λ o. ForField o Q) b_is g)
-for_field a b P Q R f (OneCurve d e c same a_is b_is) h g = f d e same.fields (subst (λ o. ForField o P) a_is h) (subst (λ o. ForField o Q) b_is g)
+for_field a b P Q R f (OneField d e same a_is b_is) h g = f d e same (subst (λ o. ForField o P) a_is h)
+    (subst (λ o. ForField o Q) b_is g)
+for_field a b P Q R f (OneCurve d e c same a_is b_is) h g = f d e same.fields (subst (λ o. ForField o P) a_is h)
+    (subst (λ o. ForField o Q) b_is g)
 
-for_curve : (a b : Bindings) (P Q : FieldData → CurveValue → Type 0) (R : Type 0) → ((d e : FieldData) (c : CurveValue) → AreSameCurves d e c → P d c → Q e c → R) → AreSame a b
+for_curve : (a b : Bindings) (P Q : FieldData → CurveValue → Type 0) (R : Type 0)
+    → ((d e : FieldData) (c : CurveValue) → AreSameCurves d e c → P d c → Q e c → R) → AreSame a b
     → ForCurve a P → ForCurve b Q → R
 for_curve a b P Q R f (NothingBound a_is b_is) h g = absurd (subst (λ o. ForCurve o P) a_is h)
 for_curve a b P Q R f (OneField d e same a_is b_is) h g = absurd (subst (λ o. ForCurve o P) a_is h)
-for_curve a b P Q R f (OneCurve d e c same a_is b_is) h g = f d e c same (subst (λ o. ForCurve o P) a_is h) (subst (λ o. ForCurve o Q) b_is g)
+for_curve a b P Q R f (OneCurve d e c same a_is b_is) h g = f d e c same (subst (λ o. ForCurve o P) a_is h)
+    (subst (λ o. ForCurve o Q) b_is g)
 
 same_next : (old other next after : Bindings) → AreSame old other → next ≡ old → after ≡ other → AreSame next after
 same_next old other next after same h g = rw (h, g) same
@@ -175,27 +195,36 @@ module _ (d e : FieldData) (c : CurveValue) (same : AreSameCurves d e c) where
   curve_over : (is : IsFieldData e) → IsCurve (with_laws e is) c
   curve_over is = subst (λ k. IsCurve k c) (fields_same d e same.fields same.fields.left is) same.curve
 
-  products_same : (x y : ElemText) (z w : WrittenValue) (is : IsFieldData d) (is' : IsFieldData e) → mul_row.IsTrue (with_laws d is) c.fin x y z → mul_row.IsTrue (with_laws e is') c.fin x y w → z ≡ w
+  products_same : (x y : ElemText) (z w : WrittenValue) (is : IsFieldData d) (is' : IsFieldData e)
+      → mul_row.IsTrue (with_laws d is) c.fin x y z → mul_row.IsTrue (with_laws e is') c.fin x y w → z ≡ w
   products_same x y z w is is' h g =
       let two = (curve_over is').at_least_two in
       let some : 1 ≤ c.fin.n = omega (arith, two) in
-      one_product (with_laws e is') c.fin some x y z w (subst (λ k. mul_row.IsTrue k c.fin x y z) (fields_same d e same.fields is is') h) g
+      one_product (with_laws e is') c.fin some x y z w
+      (subst (λ k. mul_row.IsTrue k c.fin x y z) (fields_same d e same.fields is is') h) g
 
-  factors_same : (g : List Term) (u v : ℕ) (ls ms : List PowerLine) → factor_row.IsTrue (ops_of d) g u ls → factor_row.IsTrue (ops_of e) g v ms → (u ≡ v) × (ls ≡ ms)
+  factors_same : (g : List Term) (u v : ℕ) (ls ms : List PowerLine) → factor_row.IsTrue (ops_of d) g u ls
+      → factor_row.IsTrue (ops_of e) g v ms → (u ≡ v) × (ls ≡ ms)
   factors_same g u v ls ms h j =
       let here = ops_with_laws e same.fields.right in
-      one_factors (with_laws e same.fields.right) g u v ls ms (subst (λ o. factor_row.IsTrue o g u ls) (same.fields.ops ∙ here) h) (subst (λ o. factor_row.IsTrue o g v ms) here j)
+      one_factors (with_laws e same.fields.right) g u v ls ms
+      (subst (λ o. factor_row.IsTrue o g u ls) (same.fields.ops ∙ here) h)
+      (subst (λ o. factor_row.IsTrue o g v ms) here j)
 
-  orders_same : (s : Side) (zs ws : List WrittenValue) (is : IsFieldData d) (is' : IsFieldData e) → order_row.IsTrue (with_laws d is) c s zs → order_row.IsTrue (with_laws e is') c s ws → zs ≡ ws
+  orders_same : (s : Side) (zs ws : List WrittenValue) (is : IsFieldData d) (is' : IsFieldData e)
+      → order_row.IsTrue (with_laws d is) c s zs → order_row.IsTrue (with_laws e is') c s ws → zs ≡ ws
   orders_same s zs ws is is' h g =
-      one_order (with_laws e is') c (curve_over is') s zs ws (subst (λ k. order_row.IsTrue k c s zs) (fields_same d e same.fields is is') h) g
+      one_order (with_laws e is') c (curve_over is') s zs ws
+      (subst (λ k. order_row.IsTrue k c s zs) (fields_same d e same.fields is is') h) g
 
 module _ (old other next after : Bindings) (same : AreSame old other) where
   -- answers that the same bindings stay behind
   stays : (a b x y : Answer) → a ≡ x → b ≡ y → x ≡ y → next ≡ old → after ≡ other → IsOne a b next after
-  stays a b x y a_is b_is e h g = record { answer = a_is ∙ e ∙ sym b_is; bindings = same_next old other next after same h g }
+  stays a b x y a_is b_is e h g = record
+      { answer = a_is ∙ e ∙ sym b_is; bindings = same_next old other next after same h g }
 
-  pub one_answer : (s : Statement) (a b : Answer) → Answers old s a next → Answers other s b after → IsOne a b next after
+  pub one_answer : (s : Statement) (a b : Answer) → Answers old s a next → Answers other s b after
+      → IsOne a b next after
   one_answer (FieldOf p tail) a b h g =
       let l = field_is old next p tail a h in
       let r = field_is other after p tail b g in
@@ -213,7 +242,8 @@ module _ (old other next after : Bindings) (same : AreSame old other) where
       let l = mul_is old next x y a h in
       let r = mul_is other after x y b g in
       for_curve old other (Product old next x y l.0) (Product other after x y r.0) (IsOne a b next after)
-      (λ d e c curves u v. stays a b (answers.Mul l.0) (answers.Mul r.0) l.1 r.1 (ap answers.Mul (products_same d e c curves x y l.0 r.0 u.0 v.0 u.1 v.1)) u.2 v.2) same l.2 r.2
+      (λ d e c curves u v. stays a b (answers.Mul l.0) (answers.Mul r.0) l.1 r.1
+      (ap answers.Mul (products_same d e c curves x y l.0 r.0 u.0 v.0 u.1 v.1)) u.2 v.2) same l.2 r.2
   one_answer (Factor p) a b h g =
       let l = factor_is old next p a h in
       let r = factor_is other after p b g in
@@ -226,4 +256,5 @@ module _ (old other next after : Bindings) (same : AreSame old other) where
       let l = order_is old next s a h in
       let r = order_is other after s b g in
       for_curve old other (Order old next s l.0) (Order other after s r.0) (IsOne a b next after)
-      (λ d e c curves u v. stays a b (answers.OrderOf l.0) (answers.OrderOf r.0) l.1 r.1 (ap answers.OrderOf (orders_same d e c curves s l.0 r.0 u.0 v.0 u.1 v.1)) u.2 v.2) same l.2 r.2
+      (λ d e c curves u v. stays a b (answers.OrderOf l.0) (answers.OrderOf r.0) l.1 r.1
+      (ap answers.OrderOf (orders_same d e c curves s l.0 r.0 u.0 v.0 u.1 v.1)) u.2 v.2) same l.2 r.2

@@ -46,48 +46,65 @@ ByDegree a r = (max_answer_degree < degree_of_answer a) × (r ≡ LimitDegree (d
 
 abbrev ByOutput : SessionValue → Statement → Answer → Refusal → Type 0
 ByOutput s t a r =
-    (degree_of_answer a ≤ max_answer_degree) × (max_output < output_after s.printed (block_text t a)) × (r ≡ LimitOutput (output_after s.printed (block_text t a)))
+    (degree_of_answer a ≤ max_answer_degree) × (max_output < output_after s.printed (block_text t a))
+    × (r ≡ LimitOutput (output_after s.printed (block_text t a)))
 
-which : (s : SessionValue) (t : Statement) (a : Answer) (r : Refusal) → IsTextRow s t a r → ByDegree a r ⊎ ByOutput s t a r
+which : (s : SessionValue) (t : Statement) (a : Answer) (r : Refusal) → IsTextRow s t a r
+    → ByDegree a r ⊎ ByOutput s t a r
 which s t a r (degree great) = inl (great, refl)
 which s t a r (output small long) = inr (small, long, refl)
 
 module _ (old other : SessionValue) (same : AreSameSessions old other) (s : Statement) where
-  same_output : (a b : Answer) → a ≡ b → output_after old.printed (block_text s a) ≡ output_after other.printed (block_text s b)
+  same_output : (a b : Answer) → a ≡ b → output_after old.printed (block_text s a)
+      ≡ output_after other.printed (block_text s b)
   same_output a b e = ap₂ (λ n x. output_after n (block_text s x)) same.printed e
 
   -- a session takes one block
-  pub one_taken : (a b : Answer) (new after : SessionValue) → Takes old s a new → Takes other s b after → (a ≡ b) × AreSameSessions new after
+  pub one_taken : (a b : Answer) (new after : SessionValue) → Takes old s a new → Takes other s b after
+      → (a ≡ b) × AreSameSessions new after
   one_taken a b new after h g =
-      let one = one_answer old.bindings other.bindings new.bindings after.bindings same.bindings s a b h.is_true g.is_true in
+      let one = one_answer old.bindings other.bindings new.bindings after.bindings same.bindings s a b h.is_true
+      g.is_true in
       let count = ap₂ (λ n x. n + length (block_text s x)) same.printed one.answer in
       (one.answer, record { bindings = one.bindings; printed = h.count ∙ count ∙ sym g.count })
 
-  no_text_row : (a : Answer) (new : SessionValue) (b : Answer) (next : Bindings) (r : Refusal) → Takes old s a new → Answers other.bindings s b next → ByDegree b r ⊎ ByOutput other s b r → ⊥
+  no_text_row : (a : Answer) (new : SessionValue) (b : Answer) (next : Bindings) (r : Refusal) → Takes old s a new
+      → Answers other.bindings s b next → ByDegree b r ⊎ ByOutput other s b r → ⊥
   no_text_row a new b next r h g (inl long) =
       let one = one_answer old.bindings other.bindings new.bindings next same.bindings s a b h.is_true g in
-      below max_answer_degree (degree_of_answer b) long.0 (subst (λ x. degree_of_answer x ≤ max_answer_degree) one.answer h.small)
+      below max_answer_degree (degree_of_answer b) long.0
+      (subst (λ x. degree_of_answer x ≤ max_answer_degree) one.answer h.small)
   no_text_row a new b next r h g (inr long) =
       let one = one_answer old.bindings other.bindings new.bindings next same.bindings s a b h.is_true g in
-      below max_output (output_after other.printed (block_text s b)) long.1 (subst (λ n. n ≤ max_output) (same_output a b one.answer) h.room)
+      below max_output (output_after other.printed (block_text s b)) long.1
+      (subst (λ n. n ≤ max_output) (same_output a b one.answer) h.room)
 
   -- a statement that is taken isn't refused
   pub not_both : (a : Answer) (new : SessionValue) (r : Refusal) → Takes old s a new → Refuses other s r → ⊥
-  not_both a new r h (row g) = h.not_refused r (row_moves other.bindings old.bindings s r (bindings_turned old.bindings other.bindings same.bindings) g)
+  not_both a new r h (row g) = h.not_refused r
+      (row_moves other.bindings old.bindings s r (bindings_turned old.bindings other.bindings same.bindings) g)
   not_both a new r h (text b next is none long) = no_text_row a new b next r h is (which other s b r long)
 
-  same_text_row : (a b : Answer) (r t : Refusal) → a ≡ b → ByDegree a r ⊎ ByOutput old s a r → ByDegree b t ⊎ ByOutput other s b t → r ≡ t
+  same_text_row : (a b : Answer) (r t : Refusal) → a ≡ b → ByDegree a r ⊎ ByOutput old s a r
+      → ByDegree b t ⊎ ByOutput other s b t → r ≡ t
   same_text_row a b r t e (inl h) (inl g) = h.1 ∙ ap (λ x. LimitDegree (degree_of_answer x)) e ∙ sym g.1
-  same_text_row a b r t e (inl h) (inr g) = absurd (below max_answer_degree (degree_of_answer a) h.0 (subst (λ x. degree_of_answer x ≤ max_answer_degree) (sym e) g.0))
-  same_text_row a b r t e (inr h) (inl g) = absurd (below max_answer_degree (degree_of_answer a) (subst (λ x. max_answer_degree < degree_of_answer x) (sym e) g.0) h.0)
+  same_text_row a b r t e (inl h) (inr g) = absurd
+      (below max_answer_degree (degree_of_answer a) h.0
+      (subst (λ x. degree_of_answer x ≤ max_answer_degree) (sym e) g.0))
+  same_text_row a b r t e (inr h) (inl g) = absurd
+      (below max_answer_degree (degree_of_answer a) (subst (λ x. max_answer_degree < degree_of_answer x) (sym e) g.0)
+      h.0)
   same_text_row a b r t e (inr h) (inr g) = h.2 ∙ ap LimitOutput (same_output a b e) ∙ sym g.2
 
   -- a session refuses a statement in one way
   pub one_refused : (r t : Refusal) → Refuses old s r → Refuses other s t → r ≡ t
-  one_refused r t (row h) (row g) = one_row other.bindings s r t (row_moves old.bindings other.bindings s r same.bindings h) g
-  one_refused r t (row h) (text b next is none long) = absurd (none r (row_moves old.bindings other.bindings s r same.bindings h))
+  one_refused r t (row h) (row g) = one_row other.bindings s r t
+      (row_moves old.bindings other.bindings s r same.bindings h) g
+  one_refused r t (row h) (text b next is none long) = absurd
+      (none r (row_moves old.bindings other.bindings s r same.bindings h))
   one_refused r t (text a next is none long) (row g) =
-      absurd (none t (row_moves other.bindings old.bindings s t (bindings_turned old.bindings other.bindings same.bindings) g))
+      absurd (none t (row_moves other.bindings old.bindings s t
+      (bindings_turned old.bindings other.bindings same.bindings) g))
   one_refused r t (text a next is none long) (text b after is' none' long') =
       let one = one_answer old.bindings other.bindings next after same.bindings s a b is is' in
       same_text_row a b r t one.answer (which old s a r long) (which other s b t long')

@@ -1,4 +1,5 @@
--- The integral functions of a side are printed in one way: their lattice has one form, and a function is written in one way.
+-- The integral functions of a side are printed in one way: their lattice has one form, and a function is written in one
+-- way.
 use Rattle.std.proofs.Common.{◌≡◌, ℕ, ◌≤◌, ◌↔◌, List, [], ◌∷◌, map, refl, sym, ap₂, ◌∙◌, subst, arith, All}
 use Rattle.std.proofs.lemmas.List.Elements.{All-head, All-tail}
 use Rattle.ff_fields.specs.Field.{CodeField}
@@ -33,47 +34,63 @@ module _ (k : CodeField) (c : CurveValue) (curve : IsCurve k c) where
       omega (arith, two, same)
 
   -- the lattice whose rows are printed
-  integral_lattice : (s : Side) (zs : List WrittenValue) (h : order_row.IsTrue k c s zs) → IsIntegralLattice k c s h.lattice
+  integral_lattice : (s : Side) (zs : List WrittenValue) (h : order_row.IsTrue k c s zs)
+      → IsIntegralLattice k c s h.lattice
   integral_lattice s zs h =
       let same = sym (written_functions k c s (row_elems h.lattice) zs h.rows) in
-      record { form = h.form; span = subst (SpansIntegral k c s) same h.span; whole = subst (SpansOverPowersOfT k c s) same h.whole }
+      record {
+        form = h.form;
+        span = subst (SpansIntegral k c s) same h.span;
+        whole = subst (SpansOverPowersOfT k c s)
+            same h.whole;
+      }
 
   -- ---- one lattice
 
-  finite_elems : (rows : List (List (List ℕ))) (den : List ℕ) → All (IsRow k.ops c.fin.n) rows → All (All IsPoly) rows → IsOver k.ops den → IsPoly den → IsMonic den
+  finite_elems : (rows : List (List (List ℕ))) (den : List ℕ) → All (IsRow k.ops c.fin.n) rows → All (All IsPoly) rows
+      → IsOver k.ops den → IsPoly den → IsMonic den
       → map (function_on k c.fin c.c Finite) (elems_over rows den) ≡ map (function_of k c.fin) (elems_over rows den)
   finite_elems [] den rows_in rows_poly den_in den_poly monic = refl
   finite_elems (v ∷ rows) den rows_in rows_poly den_in den_poly monic =
       let r = All-head (IsRow k.ops c.fin.n) v rows rows_in in
       let r_poly = All-head (All IsPoly) v rows rows_poly in
       ap₂ ◌∷◌
-      (on_finite_side k c.fin c.c (record { num = v; den = den }) some (record { one_each = r.size; num_over = r.over; den_over = den_in })
+      (on_finite_side k c.fin c.c (record { num = v; den = den }) some
+      (record { one_each = r.size; num_over = r.over; den_over = den_in })
       (record { num_poly = r_poly; den_poly = den_poly; monic = monic }))
-      (finite_elems rows den (All-tail (IsRow k.ops c.fin.n) v rows rows_in) (All-tail (All IsPoly) v rows rows_poly) den_in den_poly monic)
+      (finite_elems rows den (All-tail (IsRow k.ops c.fin.n) v rows rows_in) (All-tail (All IsPoly) v rows rows_poly)
+      den_in den_poly monic)
 
-  finite_members : (l : LatticeValue) → IsIntegralLattice k c Finite l → (z : Functions k c.fin) → Contains k c.fin l z ↔ IsIntegralAt (setting k c.fin) Finite z
+  finite_members : (l : LatticeValue) → IsIntegralLattice k c Finite l → (z : Functions k c.fin)
+      → Contains k c.fin l z ↔ IsIntegralAt (setting k c.fin) Finite z
   finite_members l h z =
       subst (SpansIntegral k c Finite)
-      (finite_elems l.rows l.den h.form.rows_in (popov_poly c.fin.n l.rows h.form.popov) h.form.den_in h.form.den_poly h.form.monic) h.span z
+      (finite_elems l.rows l.den h.form.rows_in (popov_poly c.fin.n l.rows h.form.popov) h.form.den_in h.form.den_poly
+      h.form.monic) h.span z
 
   same_set : {A B C : Type 0} → A ↔ C → B ↔ C → A ↔ B
   same_set f g = (λ a. g.1 (f.0 a), λ b. f.1 (g.0 b))
 
   pub one_integral : (s : Side) (l m : LatticeValue) → IsIntegralLattice k c s l → IsIntegralLattice k c s m → l ≡ m
-  one_integral Finite l m h g = one_form k c.fin l m h.form g.form (λ z. same_set (finite_members l h z) (finite_members m g z)) some
+  one_integral Finite l m h g = one_form k c.fin l m h.form g.form
+      (λ z. same_set (finite_members l h z) (finite_members m g z)) some
   one_integral Infinite l m h g =
-      one_form k c.inf l m h.form g.form (λ z. same_set (integral_members k c curve l h z) (integral_members k c curve m g z)) some_inf
+      one_form k c.inf l m h.form g.form
+      (λ z. same_set (integral_members k c curve l h z) (integral_members k c curve m g z)) some_inf
 
   -- ---- one list of rows
 
-  same_rows : (s : Side) (rs : List ElemValue) (zs ws : List WrittenValue) → order_row.AreWrittenRows k c s rs zs → order_row.AreWrittenRows k c s rs ws → zs ≡ ws
+  same_rows : (s : Side) (rs : List ElemValue) (zs ws : List WrittenValue) → order_row.AreWrittenRows k c s rs zs
+      → order_row.AreWrittenRows k c s rs ws → zs ≡ ws
   same_rows s [] zs ws h g = h ∙ sym g
   same_rows s (r ∷ rs) [] ws h g = absurd h
   same_rows s (r ∷ rs) (z ∷ zs) [] h g = absurd g
   same_rows s (r ∷ rs) (z ∷ zs) (w ∷ ws) h g =
       ap₂ ◌∷◌ (one_written k c.fin some (function_on k c.fin c.c s r) z w h.0 g.0) (same_rows s rs zs ws h.1 g.1)
 
-  pub one_order : (s : Side) (zs ws : List WrittenValue) → order_row.IsTrue k c s zs → order_row.IsTrue k c s ws → zs ≡ ws
+  pub one_order : (s : Side) (zs ws : List WrittenValue) → order_row.IsTrue k c s zs → order_row.IsTrue k c s ws
+      → zs ≡ ws
   one_order s zs ws h g =
       let same = one_integral s h.lattice g.lattice (integral_lattice s zs h) (integral_lattice s ws g) in
-      same_rows s (row_elems g.lattice) zs ws (subst (λ l. order_row.AreWrittenRows k c s (row_elems l) zs) same h.rows) g.rows
+      same_rows s (row_elems g.lattice) zs ws (subst (λ l. order_row.AreWrittenRows k c s (row_elems l) zs) same h.rows)
+      g.rows

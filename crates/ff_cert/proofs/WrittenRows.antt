@@ -9,7 +9,8 @@ use Rattle.ff_text.specs.Printed.{WrittenValue}
 use Rattle.ff_meaning.specs.LowestTerms.{elem_of}
 use Rattle.ff_cert.specs.RowOrder as order_row
 
-pub written_functions : (k : CodeField) (c : CurveValue) (s : Side) (rs : List ElemValue) (zs : List WrittenValue) → order_row.AreWrittenRows k c s rs zs
+pub written_functions : (k : CodeField) (c : CurveValue) (s : Side) (rs : List ElemValue) (zs : List WrittenValue)
+    → order_row.AreWrittenRows k c s rs zs
     → map (function_on k c.fin c.c s) rs ≡ map (λ (z : WrittenValue). function_of k c.fin (elem_of z)) zs
 written_functions k c s [] zs h = rw h refl
 written_functions k c s (r ∷ rs) [] h = absurd h

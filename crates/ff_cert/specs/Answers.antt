@@ -15,10 +15,12 @@ use Rattle.ff_cert.specs.RowOrder as order_row
 -- with these bindings the answer to the statement is true, and the next bindings have taken it in
 abbrev pub Answers : Bindings → Statement → Answer → Bindings → Type 0
 Answers old (FieldOf p tail) (answers.FieldOf q) next = (old.field ≡ None) × field_row.IsTrue p tail q next
-Answers old (CurveOf f) (answers.CurveOf n c) next = ForField old (λ d. (old.bound ≡ None) × curve_row.IsTrue d f n c next)
+Answers old (CurveOf f) (answers.CurveOf n c) next = ForField old
+    (λ d. (old.bound ≡ None) × curve_row.IsTrue d f n c next)
 Answers old (Mul a b) (answers.Mul z) next =
     ForCurve old (λ d c. (is : IsFieldData d) × mul_row.IsTrue (with_laws d is) c.fin a b z × (next ≡ old))
-Answers old (Factor g) (answers.Factor unit parts) next = ForCurve old (λ d c. factor_row.IsTrue (ops_of d) g unit parts × (next ≡ old))
+Answers old (Factor g) (answers.Factor unit parts) next = ForCurve old
+    (λ d c. factor_row.IsTrue (ops_of d) g unit parts × (next ≡ old))
 Answers old (OrderOf s) (answers.OrderOf zs) next =
     ForCurve old (λ d c. (is : IsFieldData d) × order_row.IsTrue (with_laws d is) c s zs × (next ≡ old))
 Answers _ _ _ _ = ⊥

@@ -27,14 +27,17 @@ output_after printed text = printed + length text + room_behind
 -- the answer's text may not be printed
 pub data IsTextRow (old : SessionValue) (s : Statement) (a : Answer) : Refusal → Type 0 where
   degree : max_answer_degree < degree_of_answer a → IsTextRow old s a (LimitDegree (degree_of_answer a))
-  output : degree_of_answer a ≤ max_answer_degree → max_output < output_after old.printed (block_text s a) → IsTextRow old s a (LimitOutput (output_after old.printed (block_text s a)))
+  output : degree_of_answer a ≤ max_answer_degree → max_output < output_after old.printed (block_text s a)
+      → IsTextRow old s a (LimitOutput (output_after old.printed (block_text s a)))
 
 -- one of the statement's rows holds, or it has a true answer whose text may not be printed
 pub data Refuses (old : SessionValue) (s : Statement) (r : Refusal) : Type 0 where
   row : IsRefusalRow old.bindings s r → Refuses old s r
-  text : (a : Answer) (next : Bindings) → Answers old.bindings s a next → HasNoRow old.bindings s → IsTextRow old s a r → Refuses old s r
+  text : (a : Answer) (next : Bindings) → Answers old.bindings s a next → HasNoRow old.bindings s → IsTextRow old s a r
+      → Refuses old s r
 
--- The answer to the statement is true, none of its rows of refusals holds, its text may be printed, and the session has taken
+-- The answer to the statement is true, none of its rows of refusals holds, its text may be printed, and the session has
+-- taken
 -- the block in.
 pub record Takes (old : SessionValue) (s : Statement) (answer : Answer) (new : SessionValue) : Type 0 where
   pub is_true : Answers old.bindings s answer new.bindings

@@ -28,7 +28,8 @@ module _ {A : Type 0} (R : CommRing A) where
   pub times_swap : (c d : A) (xs : List A) → times c (times d xs) ≡ times d (times c xs)
   times_swap c d xs = times_times c d xs ∙ ap (λ e. times e xs) (R.mul_comm c d) ∙ sym (times_times d c xs)
 
-  pub times_cancel : (c : A) → ((x y : A) → c ⊗ x ≡ c ⊗ y → x ≡ y) → (xs ys : List A) → times c xs ≡ times c ys → xs ≡ ys
+  pub times_cancel : (c : A) → ((x y : A) → c ⊗ x ≡ c ⊗ y → x ≡ y) → (xs ys : List A) → times c xs ≡ times c ys
+      → xs ≡ ys
   times_cancel c cancel [] [] e = refl
   times_cancel c cancel [] (y ∷ ys) e = let none : [] ≡ c ⊗ y ∷ times c ys = e in absurd (cc)
   times_cancel c cancel (x ∷ xs) [] e = let none : c ⊗ x ∷ times c xs ≡ [] = e in absurd (cc)
@@ -39,7 +40,8 @@ module _ {A : Type 0} (R : CommRing A) where
       ap₂ ◌∷◌ (cancel x y first) (times_cancel c cancel xs ys rest)
 
   -- where e times each v is d times something, d divides each of them
-  pub divides_members : (d e : A) (vs ws : List A) → times e vs ≡ times d ws → (v : A) → In v vs → IsDivisorIn R.ops d (e ⊗ v)
+  pub divides_members : (d e : A) (vs ws : List A) → times e vs ≡ times d ws → (v : A) → In v vs
+      → IsDivisorIn R.ops d (e ⊗ v)
   divides_members d e [] ws same v i = absurd i
   divides_members d e (x ∷ vs) [] same v i = let none : e ⊗ x ∷ times e vs ≡ [] = same in absurd (cc)
   divides_members d e (x ∷ vs) (w ∷ ws) same v i =
@@ -61,7 +63,8 @@ module _ {A : Type 0} (R : CommRing A) where
       (divides_times p c vs (All-tail (IsDivisorIn R.ops p) v vs all))
 
   -- where vs over d and ws over e are both ns over c, they are the same
-  pub cross_same : (c d e : A) → ((x y : A) → c ⊗ x ≡ c ⊗ y → x ≡ y) → (ns vs ws : List A) → times c vs ≡ times d ns → times c ws ≡ times e ns
+  pub cross_same : (c d e : A) → ((x y : A) → c ⊗ x ≡ c ⊗ y → x ≡ y) → (ns vs ws : List A) → times c vs ≡ times d ns
+      → times c ws ≡ times e ns
       → times e vs ≡ times d ws
   cross_same c d e cancel ns vs ws f g =
       times_cancel c cancel (times e vs) (times d ws)

@@ -1,6 +1,5 @@
 -- k[x] modulo a monic polynomial is a field exactly where the polynomial is irreducible.
-use Rattle.std.proofs.Common.{◌≡◌, ◌≢◌, Result, Ok, Err, Bool, IfOk, IsTrue, ℕ, zero, suc, ◌+◌, ◌-◌, ◌<◌, ◌≤◌, ◌↔◌, List, [], ◌∷◌, ◌++◌, length, get_or, take, replicate, refl, sym, ap, ap₂, ◌∙◌, subst, arith}
-use Rattle.std.proofs.lemmas.List.{length_push, get_or_push, take_more, take_all}
+use Rattle.std.proofs.Common.{◌≡◌, ◌≢◌, Result, Ok, Err, Bool, IfOk, IsTrue, ℕ, zero, suc, ◌-◌, ◌<◌, ◌≤◌, ◌↔◌, List, [], ◌∷◌, length, get_or, replicate, refl, sym, ap, ◌∙◌, subst, arith}
 use Rattle.ring_lemmas.specs.Ring.{CommRing}
 use Rattle.ring_lemmas.specs.Congruence.{IsCongruent}
 use Rattle.ring_lemmas.proofs.Ring.{mul_zero, zero_add}
@@ -12,9 +11,9 @@ use Rattle.linear_theory.proofs.Euclid.{bezout}
 use Rattle.ff_fields.specs.Field.{CodeField}
 use Rattle.ff_fields.specs.Code.{code_ring, code_domain}
 use Rattle.ff_fields.specs.Over.{IsOver}
-use Rattle.ff_poly.specs.Words.{IsPoly, IsMonic, IsIrreducibleList, DividesList, top_of}
-use Rattle.ff_poly.specs.Value.{value, numbers_value, value_product}
-use Rattle.ff_poly.specs.Polynomials.{Polynomial, polynomials, value_not_zero, codes_of}
+use Rattle.ff_poly.specs.Words.{IsMonic, IsIrreducibleList, DividesList}
+use Rattle.ff_poly.specs.Value.{value, numbers_value}
+use Rattle.ff_poly.specs.Polynomials.{Polynomial, polynomials, codes_of}
 use Rattle.ff_falg.specs.Algebras.{IsVector, IsFieldAlgebra}
 use Rattle.ff_factor.specs.Quotients.{IsModulus, product_modulo, quotient_algebra}
 use Rattle.polynomial_theory.proofs.ListValues.{length_value, monic_poly}
@@ -25,7 +24,8 @@ use Rattle.polynomial_theory.proofs.Irreducible.{irreducible}
 use Rattle.polynomial_theory.proofs.Divisors.{some_value, divisor_of_divides}
 
 -- an answer to one question answers an equivalent one
-pub answer_as : {E : Type 0} {P Q : Type 0} (r : Result Bool E) → IfOk r (λ t. IsTrue t ↔ P) → (P ↔ Q) → IfOk r (λ t. IsTrue t ↔ Q)
+pub answer_as : {E : Type 0} {P Q : Type 0} (r : Result Bool E) → IfOk r (λ t. IsTrue t ↔ P) → (P ↔ Q)
+    → IfOk r (λ t. IsTrue t ↔ Q)
 answer_as (Ok t) h e = (λ x. e.0 (h.0 x), λ q. h.1 (e.1 q))
 answer_as (Err e) h pq = tt
 
@@ -49,7 +49,8 @@ module _ (k : CodeField) where
     modulus_some : ¬ (G ≡ 𝟘)
     modulus_some = some_value k g h.over (monic_poly k g h.monic) (let l = h.not_constant in omega arith)
 
-    no_divisor : IsFieldAlgebra k.ops (quotient_algebra g) → (b : List ℕ) → IsOver k.ops b → IsMonic b → 2 ≤ length b → length b < length g → ¬ DividesList k.ops b g
+    no_divisor : IsFieldAlgebra k.ops (quotient_algebra g) → (b : List ℕ) → IsOver k.ops b → IsMonic b → 2 ≤ length b
+        → length b < length g → ¬ DividesList k.ops b g
     no_divisor F b b_in b_monic b_long b_short d = none
       where
         B : Polynomial k
@@ -83,21 +84,28 @@ module _ (k : CodeField) where
             let law = quotient_laws k g h in
             let n = length g - 1 in
             let some : s.vector ≢ replicate n 0 = λ e.
-            b_some (short_eq k g h B 𝟘 (omega (arith, b_length)) (let z = zero_length k in omega (arith, h.not_constant))
-            (congruent_trans S G B (value k s.vector) 𝟘 (congruent_sym S G (value k s.vector) B s.value_is) ((zero_class k g h s.vector s.vector_in).0 e))) in
+            b_some (short_eq k g h B 𝟘 (omega (arith, b_length))
+            (let z = zero_length k in omega (arith, h.not_constant))
+            (congruent_trans S G B (value k s.vector) 𝟘 (congruent_sym S G (value k s.vector) B s.value_is)
+            ((zero_class k g h s.vector s.vector_in).0 e))) in
             let i = F.inverse s.vector s.vector_in some in
             let one : IsCongruent (polynomials k).ops G (B ⊗ value k i.0) 𝟙
             = congruent_trans S G (B ⊗ value k i.0) (value k s.vector ⊗ value k i.0) 𝟙
             (congruent_trans S G _ (value k i.0 ⊗ B) _ (congruent_same S G _ _ (S.mul_comm B (value k i.0)))
-            (congruent_trans S G _ (value k i.0 ⊗ value k s.vector) _ (congruent_mul_left S G (value k i.0) B (value k s.vector) (congruent_sym S G (value k s.vector) B s.value_is))
+            (congruent_trans S G _ (value k i.0 ⊗ value k s.vector) _
+            (congruent_mul_left S G (value k i.0) B (value k s.vector)
+            (congruent_sym S G (value k s.vector) B s.value_is))
             (congruent_same S G _ _ (S.mul_comm (value k i.0) (value k s.vector)))))
             (congruent_trans S G _ (value k (product_modulo k.ops g s.vector i.0)) 𝟙
             (congruent_sym S G _ _ (value_product_modulo k g h s.vector i.0 s.vector_in.over i.1))
             (congruent_same S G _ _ (ap (value k) i.2 ∙ value_quotient_unit k g h))) in
             q_some (short_eq k g h Q 𝟘 q_short (let z = zero_length k in omega (arith, h.not_constant))
             (congruent_trans S G Q (Q ⊗ (B ⊗ value k i.0)) 𝟘
-            (congruent_trans S G Q (Q ⊗ 𝟙) _ (congruent_same S G _ _ (sym (S.mul_one Q))) (congruent_mul_left S G Q 𝟙 (B ⊗ value k i.0) (congruent_sym S G _ _ one)))
-            (congruent_trans S G _ (G ⊗ value k i.0) 𝟘 (congruent_same S G _ _ (moved Q B (value k i.0) ∙ ap (λ w. w ⊗ value k i.0) (sym whole))) (modulus_null (value k i.0)))))
+            (congruent_trans S G Q (Q ⊗ 𝟙) _ (congruent_same S G _ _ (sym (S.mul_one Q)))
+            (congruent_mul_left S G Q 𝟙 (B ⊗ value k i.0) (congruent_sym S G _ _ one)))
+            (congruent_trans S G _ (G ⊗ value k i.0) 𝟘
+            (congruent_same S G _ _ (moved Q B (value k i.0) ∙ ap (λ w. w ⊗ value k i.0) (sym whole)))
+            (modulus_null (value k i.0)))))
           where
             moved : (q b c : Polynomial k) → q ⊗ (b ⊗ c) ≡ b ⊗ q ⊗ c
             moved q b c = ring S (q ∷ b ∷ c ∷ []) λ x y. simp (reads, x, y 0, y 1, y 2) (x.equal _ _ refl)
@@ -130,8 +138,10 @@ module _ (k : CodeField) where
               s.vector,
               s.vector_in,
               same_by k g h _ _ 𝟙 𝟙 (product_in k g h a s.vector a_in.over s.vector_in) (quotient_laws k g h).unit_in
-                  (congruent_trans S G _ (value k a ⊗ value k s.vector) 𝟙 (value_product_modulo k g h a s.vector a_in.over s.vector_in)
-                  (congruent_trans S G _ (value k a ⊗ z.left) 𝟙 (congruent_mul_left S G (value k a) (value k s.vector) z.left s.value_is)
+                  (congruent_trans S G _ (value k a ⊗ value k s.vector) 𝟙
+                  (value_product_modulo k g h a s.vector a_in.over s.vector_in)
+                  (congruent_trans S G _ (value k a ⊗ z.left) 𝟙
+                  (congruent_mul_left S G (value k a) (value k s.vector) z.left s.value_is)
                   (record { times = ⊖ z.right; differs = from_one S 𝟙 z.is (step z.left (value k a) z.right G) })))
                   (congruent_same S G _ _ (value_quotient_unit k g h)) refl,
             )
@@ -139,9 +149,11 @@ module _ (k : CodeField) where
             step : (l a r p : Polynomial k) → a ⊗ l ⊕ ⊖ (𝟙 ⊕ p ⊗ ⊖ r) ≡ 𝟙 ⊗ (l ⊗ a ⊕ r ⊗ p ⊕ ⊖ 𝟙)
             step l a r p = ring S (l ∷ a ∷ r ∷ p ∷ []) λ x y. simp (reads, x, y 0, y 1, y 2, y 3) (x.equal _ _ refl)
 
-            not_divisor : (a : List ℕ) → IsVector k.ops (length g - 1) a → a ≢ replicate (length g - 1) 0 → ¬ IsDivisorIn (polynomials k).ops G (value k a)
+            not_divisor : (a : List ℕ) → IsVector k.ops (length g - 1) a → a ≢ replicate (length g - 1) 0
+                → ¬ IsDivisorIn (polynomials k).ops G (value k a)
             not_divisor a a_in ne d =
-                ne ((zero_class k g h a a_in).1 (congruent_trans S G _ (G ⊗ d.0) 𝟘 (congruent_same S G _ _ d.1) (modulus_null d.0)))
+                ne ((zero_class k g h a a_in).1
+                (congruent_trans S G _ (G ⊗ d.0) 𝟘 (congruent_same S G _ _ d.1) (modulus_null d.0)))
 
     pub field_irreducible : IsFieldAlgebra k.ops (quotient_algebra g) ↔ IsIrreducibleList k.ops g
     field_irreducible = (irreducible_of_field, field_of_irreducible)

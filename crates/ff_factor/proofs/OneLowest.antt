@@ -29,22 +29,29 @@ module _ (k : CodeField) where
   abbrev P : CommRing (Polynomial k)
   P = (polynomials k).ring
 
-  module _ (num : List (List ℕ)) (den : List ℕ) (num_in : All (IsOver k.ops) num) (den_in : IsOver k.ops den) (den_poly : IsPoly den) (den_some : den ≢ []) where
+  module _ (num : List (List ℕ)) (den : List ℕ) (num_in : All (IsOver k.ops) num) (den_in : IsOver k.ops den)
+      (den_poly : IsPoly den) (den_some : den ≢ []) where
     -- two forms are the same fractions
-    both_same : (vs : List (List ℕ)) (d : List ℕ) (ws : List (List ℕ)) (e : List ℕ) → IsInLowestTermsOf k.ops num den vs d → IsInLowestTermsOf k.ops num den ws e
+    both_same : (vs : List (List ℕ)) (d : List ℕ) (ws : List (List ℕ)) (e : List ℕ)
+        → IsInLowestTermsOf k.ops num den vs d → IsInLowestTermsOf k.ops num den ws e
         → times P (value k e) (values k vs) ≡ times P (value k d) (values k ws)
     both_same vs d ws e a b =
-        cross_same P (value k den) (value k d) (value k e) (λ x y. cancel k (value k den) x y (list_some k den den_in den_poly den_some)) (values k num) (values k vs) (values k ws)
+        cross_same P (value k den) (value k d) (value k e)
+        (λ x y. cancel k (value k den) x y (list_some k den den_in den_poly den_some)) (values k num) (values k vs)
+        (values k ws)
         (same_values k den d vs num den_in a.den_over a.num_over num_in a.same)
         (same_values k den e ws num den_in b.den_over b.num_over num_in b.same)
 
-    not_longer : (vs : List (List ℕ)) (d : List ℕ) (ws : List (List ℕ)) (e : List ℕ) → IsInLowestTermsOf k.ops num den vs d → IsInLowestTermsOf k.ops num den ws e
+    not_longer : (vs : List (List ℕ)) (d : List ℕ) (ws : List (List ℕ)) (e : List ℕ)
+        → IsInLowestTermsOf k.ops num den vs d → IsInLowestTermsOf k.ops num den ws e
         → length d ≤ length e
     not_longer vs d ws e a b =
-        a.least ws e b.num_over b.den_over (monic_poly k e b.monic) (λ z. let l = monic_long e b.monic in let m = ap length z in absurd (omega arith))
+        a.least ws e b.num_over b.den_over (monic_poly k e b.monic)
+        (λ z. let l = monic_long e b.monic in let m = ap length z in absurd (omega arith))
         (same_products k e d vs ws b.den_over a.den_over a.num_over b.num_over (both_same vs d ws e a b))
 
-    one_denominator : (vs : List (List ℕ)) (d : List ℕ) (ws : List (List ℕ)) (e : List ℕ) → IsInLowestTermsOf k.ops num den vs d → IsInLowestTermsOf k.ops num den ws e
+    one_denominator : (vs : List (List ℕ)) (d : List ℕ) (ws : List (List ℕ)) (e : List ℕ)
+        → IsInLowestTermsOf k.ops num den vs d → IsInLowestTermsOf k.ops num den ws e
         → d ≡ e
     one_denominator vs d ws e a b = go (numbers_discrete d e)
       where
@@ -58,17 +65,21 @@ module _ (k : CodeField) where
         size = let l = not_longer vs d ws e a b in let m = not_longer ws e vs d b a in omega arith
 
         short : length (codes_of k gap) ≤ length e - 1
-        short = subst (λ n. n ≤ length e - 1) (sym (length-map gap.0 (λ x. x.0))) (monic_gap k e d b.den_over a.den_over b.monic a.monic size)
+        short = subst (λ n. n ≤ length e - 1) (sym (length-map gap.0 (λ x. x.0)))
+            (monic_gap k e d b.den_over a.den_over b.monic a.monic size)
 
         same : times P (value k (codes_of k gap)) (values k vs) ≡ times P (value k d) (values k (map (codes_of k) rows))
         same =
-            ap (λ x. times P x (values k vs)) (value_codes_of k gap) ∙ gaps_same P (value k d) (value k e) (values k vs) (values k ws) (both_same vs d ws e a b)
+            ap (λ x. times P x (values k vs)) (value_codes_of k gap)
+            ∙ gaps_same P (value k d) (value k e) (values k vs) (values k ws) (both_same vs d ws e a b)
             ∙ ap (times P (value k d)) (sym (values_codes k rows))
 
         least : codes_of k gap ≢ [] → length d ≤ length (codes_of k gap)
         least some =
-            a.least (map (codes_of k) rows) (codes_of k gap) (over_codes k rows) (IsOver_codes_of k gap) (IsPoly_codes_of k gap) some
-            (same_products k (codes_of k gap) d vs (map (codes_of k) rows) (IsOver_codes_of k gap) a.den_over a.num_over (over_codes k rows) same)
+            a.least (map (codes_of k) rows) (codes_of k gap) (over_codes k rows) (IsOver_codes_of k gap)
+            (IsPoly_codes_of k gap) some
+            (same_products k (codes_of k gap) d vs (map (codes_of k) rows) (IsOver_codes_of k gap) a.den_over a.num_over
+            (over_codes k rows) same)
 
         none : codes_of k gap ≡ [] → d ≡ e
         none z =
@@ -77,9 +88,11 @@ module _ (k : CodeField) where
 
         go : Dec (d ≡ e) → d ≡ e
         go (yes s) = s
-        go (no n) = let l = least (λ z. n (none z)) in let m = short in let s = size in let o = monic_long d a.monic in absurd (omega arith)
+        go (no n) = let l = least (λ z. n (none z)) in let m = short in let s = size in let o = monic_long d a.monic in
+            absurd (omega arith)
 
-    pub one_form : (vs : List (List ℕ)) (d : List ℕ) (ws : List (List ℕ)) (e : List ℕ) → IsInLowestTermsOf k.ops num den vs d → IsInLowestTermsOf k.ops num den ws e
+    pub one_form : (vs : List (List ℕ)) (d : List ℕ) (ws : List (List ℕ)) (e : List ℕ)
+        → IsInLowestTermsOf k.ops num den vs d → IsInLowestTermsOf k.ops num den ws e
         → (vs ≡ ws) × (d ≡ e)
     one_form vs d ws e a b =
         let s = one_denominator vs d ws e a b in
@@ -87,7 +100,9 @@ module _ (k : CodeField) where
         = ap (λ x. times P (value k x) (values k vs)) s ∙ both_same vs d ws e a b in (
           values_same k vs ws a.num_over b.num_over a.num_poly b.num_poly
               (times_cancel P (value k d)
-              (λ x y. cancel k (value k d) x y (list_some k d a.den_over (monic_poly k d a.monic) (λ z. let l = monic_long d a.monic in let m = ap length z in absurd (omega arith))))
+              (λ x y. cancel k (value k d) x y
+              (list_some k d a.den_over (monic_poly k d a.monic)
+              (λ z. let l = monic_long d a.monic in let m = ap length z in absurd (omega arith))))
               (values k vs) (values k ws) same),
           s,
         )

@@ -9,9 +9,11 @@ use Rattle.ff_factor.specs.Factors.{IsBelow, IsBeforePoly, AreAscendingPolys}
 use Rattle.ff_factor.specs.Pulls.{IsWith}
 
 -- the first position from the top at which two lists of one length differ decides
-pub below_at : (a b : List ℕ) (i : ℕ) → length a ≡ length b → i < length a → drop (i + 1) a ≡ drop (i + 1) b → get_or a i 0 ≢ get_or b i 0
+pub below_at : (a b : List ℕ) (i : ℕ) → length a ≡ length b → i < length a → drop (i + 1) a ≡ drop (i + 1) b
+    → get_or a i 0 ≢ get_or b i 0
     → IsBelow a b ↔ (get_or a i 0 < get_or b i 0)
-below_at a b i size less above differ = go a b i size less (ap (λ n. drop n a) (sym (add-one i)) ∙ above ∙ ap (λ n. drop n b) (add-one i)) differ
+below_at a b i size less above differ = go a b i size less
+    (ap (λ n. drop n a) (sym (add-one i)) ∙ above ∙ ap (λ n. drop n b) (add-one i)) differ
   where
     irreflexive : (xs ys : List ℕ) → xs ≡ ys → IsBelow xs ys → ⊥
     irreflexive [] [] e h = h
@@ -20,7 +22,8 @@ below_at a b i size less above differ = go a b i size less (ap (λ n. drop n a) 
     irreflexive (x ∷ xs) (y ∷ ys) e (inl h) = irreflexive xs ys (ap (drop 1) e) h
     irreflexive (x ∷ xs) (y ∷ ys) e (inr h) = let f : x ≡ y = ap (λ w. get_or w 0 0) e in let l = h.1 in omega arith
 
-    go : (a b : List ℕ) (i : ℕ) → length a ≡ length b → i < length a → drop (suc i) a ≡ drop (suc i) b → get_or a i 0 ≢ get_or b i 0
+    go : (a b : List ℕ) (i : ℕ) → length a ≡ length b → i < length a → drop (suc i) a ≡ drop (suc i) b
+        → get_or a i 0 ≢ get_or b i 0
         → IsBelow a b ↔ (get_or a i 0 < get_or b i 0)
     go [] b i size less above differ = absurd (omega arith)
     go (x ∷ a) [] i size less above differ = absurd (omega arith)
@@ -29,7 +32,11 @@ below_at a b i size less above differ = go a b i size less (ap (λ n. drop n a) 
         to : IsBelow (x ∷ a) (y ∷ b) → x < y
         to (inl h) = absurd (irreflexive a b above h)
         to (inr h) = h.1
-    go (x ∷ a) (y ∷ b) (suc i) size less above differ = (to (go a b i (omega arith) (omega arith) above differ), λ l. inl ((go a b i (omega arith) (omega arith) above differ).1 l))
+    go (x ∷ a) (y ∷ b) (suc i) size less above differ = (
+      to (go a b i (omega arith) (omega arith) above differ),
+      λ l. inl
+          ((go a b i (omega arith) (omega arith) above differ).1 l),
+    )
       where
         to : (IsBelow a b ↔ (get_or a i 0 < get_or b i 0)) → IsBelow (x ∷ a) (y ∷ b) → get_or a i 0 < get_or b i 0
         to r (inl h) = r.0 h
@@ -77,7 +84,11 @@ below_total (x ∷ a) [] size ne not = absurd (omega arith)
 below_total (x ∷ a) (y ∷ b) size ne not = go (lists_same a b) (λ n. below_total a b (omega arith) n (λ h. not (inl h)))
   where
     go : Dec (a ≡ b) → (¬ (a ≡ b) → IsBelow b a) → IsBelow (y ∷ b) (x ∷ a)
-    go (yes e) f = inr (sym e, let f : ¬ (x ≡ y) = λ s. ne (ap₂ ◌∷◌ s e) in let g : ¬ (x < y) = λ l. not (inr (e, l)) in omega arith)
+    go (yes e) f = inr (
+      sym e,
+      let f : ¬ (x ≡ y) = λ s. ne (ap₂ ◌∷◌ s e) in let g : ¬ (x < y) = λ l. not (inr (e, l)) in
+          omega arith,
+    )
     go (no n) f = inl (f n)
 
 pub before_total : (a b : List ℕ) → ¬ (a ≡ b) → ¬ IsBeforePoly a b → IsBeforePoly b a
@@ -96,29 +107,35 @@ before_total a b ne not = go (compare (length a) (length b))
 after_head : (p q : List ℕ) (qs : List (List ℕ)) → IsBeforePoly p q → All (IsBeforePoly q) qs → All (IsBeforePoly p) qs
 after_head p q [] b all = All-nil (IsBeforePoly p)
 after_head p q (r ∷ qs) b all =
-    All-cons (IsBeforePoly p) r qs (before_trans p q r b (All-head (IsBeforePoly q) r qs all)) (after_head p q qs b (All-tail (IsBeforePoly q) r qs all))
+    All-cons (IsBeforePoly p) r qs (before_trans p q r b (All-head (IsBeforePoly q) r qs all))
+    (after_head p q qs b (All-tail (IsBeforePoly q) r qs all))
 
 all_insert : (N : List ℕ → Type 0) (ps : List (List ℕ)) (i : ℕ) (p : List ℕ) → All N ps → N p → All N (insert ps i p)
 all_insert N ps zero p all here = All-cons N p ps here all
 all_insert N [] (suc i) p all here = All-cons N p [] here all
-all_insert N (q ∷ ps) (suc i) p all here = All-cons N q (insert ps i p) (All-head N q ps all) (all_insert N ps i p (All-tail N q ps all) here)
+all_insert N (q ∷ ps) (suc i) p all here = All-cons N q (insert ps i p) (All-head N q ps all)
+    (all_insert N ps i p (All-tail N q ps all) here)
 
-ascending_insert : (ps : List (List ℕ)) (i : ℕ) (p : List ℕ) → AreAscendingPolys ps → ((j : ℕ) → j < i → IsBeforePoly (get_or ps j []) p)
+ascending_insert : (ps : List (List ℕ)) (i : ℕ) (p : List ℕ) → AreAscendingPolys ps
+    → ((j : ℕ) → j < i → IsBeforePoly (get_or ps j []) p)
     → IsBeforePoly p (get_or ps i []) → i < length ps → AreAscendingPolys (insert ps i p)
 ascending_insert [] i p up before here less = absurd (omega arith)
-ascending_insert (q ∷ ps) zero p up before here less = (All-cons (IsBeforePoly p) q ps here (after_head p q ps here up.0), up)
+ascending_insert (q ∷ ps) zero p up before here less =
+    (All-cons (IsBeforePoly p) q ps here (after_head p q ps here up.0), up)
 ascending_insert (q ∷ ps) (suc i) p up before here less = (
   all_insert (IsBeforePoly q) ps i p up.0 (before 0 (omega arith)),
   ascending_insert ps i p up.1 (λ j l. before (suc j) (omega arith)) here (omega arith),
 )
 
-ascending_push : (ps : List (List ℕ)) (p : List ℕ) → AreAscendingPolys ps → ((j : ℕ) → j < length ps → IsBeforePoly (get_or ps j []) p) → AreAscendingPolys (ps ++ p ∷ [])
+ascending_push : (ps : List (List ℕ)) (p : List ℕ) → AreAscendingPolys ps
+    → ((j : ℕ) → j < length ps → IsBeforePoly (get_or ps j []) p) → AreAscendingPolys (ps ++ p ∷ [])
 ascending_push [] p up before = (All-nil (IsBeforePoly p), tt)
 ascending_push (q ∷ ps) p up before = (pushed ps up.0, ascending_push ps p up.1 (λ j l. before (suc j) (omega arith)))
   where
     pushed : (ps : List (List ℕ)) → All (IsBeforePoly q) ps → All (IsBeforePoly q) (ps ++ p ∷ [])
     pushed [] all = All-cons (IsBeforePoly q) p [] (before 0 (omega arith)) (All-nil (IsBeforePoly q))
-    pushed (r ∷ ps) all = All-cons (IsBeforePoly q) r (ps ++ p ∷ []) (All-head (IsBeforePoly q) r ps all) (pushed ps (All-tail (IsBeforePoly q) r ps all))
+    pushed (r ∷ ps) all = All-cons (IsBeforePoly q) r (ps ++ p ∷ []) (All-head (IsBeforePoly q) r ps all)
+        (pushed ps (All-tail (IsBeforePoly q) r ps all))
 
 in_insert : (ps : List (List ℕ)) (i : ℕ) (p q : List ℕ) → In q ps → In q (insert ps i p)
 in_insert ps zero p q h = inr h
@@ -144,7 +161,8 @@ in_get [] i less = absurd (omega arith)
 in_get (p ∷ ps) zero less = inl refl
 in_get (p ∷ ps) (suc i) less = inr (in_get ps i (omega arith))
 
-pub with_insert : (ps new : List (List ℕ)) (i : ℕ) (p : List ℕ) → AreAscendingPolys ps → ((j : ℕ) → j < i → IsBeforePoly (get_or ps j []) p)
+pub with_insert : (ps new : List (List ℕ)) (i : ℕ) (p : List ℕ) → AreAscendingPolys ps
+    → ((j : ℕ) → j < i → IsBeforePoly (get_or ps j []) p)
     → IsBeforePoly p (get_or ps i []) → i < length ps → new ≡ insert ps i p → IsWith ps p new
 with_insert ps new i p up before here less is = subst (IsWith ps p) (sym is) (record {
   ascending = ascending_insert ps i p up before here less;
@@ -153,7 +171,8 @@ with_insert ps new i p up before here less is = subst (IsWith ps p) (sym is) (re
   each = of_insert ps i p;
 })
 
-pub with_same : (ps : List (List ℕ)) (i : ℕ) (p : List ℕ) → AreAscendingPolys ps → p ≡ get_or ps i [] → i < length ps → IsWith ps p ps
+pub with_same : (ps : List (List ℕ)) (i : ℕ) (p : List ℕ) → AreAscendingPolys ps → p ≡ get_or ps i [] → i < length ps
+    → IsWith ps p ps
 with_same ps i p up same less = record {
   ascending = up;
   old_in = λ q h. h;
@@ -161,7 +180,8 @@ with_same ps i p up same less = record {
   each = λ q ne h. h;
 }
 
-pub with_push : (ps new : List (List ℕ)) (p : List ℕ) → AreAscendingPolys ps → ((j : ℕ) → j < length ps → IsBeforePoly (get_or ps j []) p)
+pub with_push : (ps new : List (List ℕ)) (p : List ℕ) → AreAscendingPolys ps
+    → ((j : ℕ) → j < length ps → IsBeforePoly (get_or ps j []) p)
     → new ≡ ps ++ p ∷ [] → IsWith ps p new
 with_push ps new p up before is = subst (IsWith ps p) (sym is) (record {
   ascending = ascending_push ps p up before;
@@ -187,15 +207,18 @@ with_push ps new p up before is = subst (IsWith ps p) (sym is) (record {
 
 -- ---- the answers of the comparison
 
-pub answer_at : (a b a' b' : List ℕ) (i : ℕ) → a ≡ a' → b ≡ b' → length a ≡ length b → 0 < i → i ≤ length a → drop i a ≡ drop i b
-    → get_or a (i - 1) 0 ≢ get_or b (i - 1) 0 → IsTrue (nat_lt (get_or a (i - 1) 0) (get_or b (i - 1) 0)) ↔ IsBeforePoly a' b'
+pub answer_at : (a b a' b' : List ℕ) (i : ℕ) → a ≡ a' → b ≡ b' → length a ≡ length b → 0 < i → i ≤ length a
+    → drop i a ≡ drop i b
+    → get_or a (i - 1) 0 ≢ get_or b (i - 1) 0
+    → IsTrue (nat_lt (get_or a (i - 1) 0) (get_or b (i - 1) 0)) ↔ IsBeforePoly a' b'
 answer_at a b a' b' i a_is b_is size some within above differ =
     subst (λ w. IsTrue (nat_lt (get_or a (i - 1) 0) (get_or b (i - 1) 0)) ↔ IsBeforePoly w b') a_is
     (subst (λ w. IsTrue (nat_lt (get_or a (i - 1) 0) (get_or b (i - 1) 0)) ↔ IsBeforePoly a w) b_is
     (λ t. inr (size, r.1 (ltb-true _ _ t)), λ h. lt-ltb _ _ (r.0 (from h))))
   where
     r : IsBelow a b ↔ (get_or a (i - 1) 0 < get_or b (i - 1) 0)
-    r = below_at a b (i - 1) size (omega arith) (let e : i ≡ i - 1 + 1 = omega arith in subst (λ n. drop n a ≡ drop n b) e above) differ
+    r = below_at a b (i - 1) size (omega arith)
+        (let e : i ≡ i - 1 + 1 = omega arith in subst (λ n. drop n a ≡ drop n b) e above) differ
 
     from : IsBeforePoly a b → IsBelow a b
     from (inl l) = absurd (omega arith)

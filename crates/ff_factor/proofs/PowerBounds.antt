@@ -38,13 +38,15 @@ module _ (k : CodeField) (A : AlgebraOps) (law : IsAlgebra k A) (some : 0 < A.si
     length_down zero = refl
     length_down (suc n) = ap suc (length_down n)
 
-    all_down : (N : Vector k A.size → Type 0) (n : ℕ) → ((i : ℕ) → i < n → N (R.◌⊗◌ (pow R.ops x i) e)) → All N (down x e n)
+    all_down : (N : Vector k A.size → Type 0) (n : ℕ) → ((i : ℕ) → i < n → N (R.◌⊗◌ (pow R.ops x i) e))
+        → All N (down x e n)
     unfolding down
     all_down N zero f = All-nil N
     all_down N (suc n) f = All-cons N _ _ (f n (omega arith)) (all_down N n (λ i less. f i (omega arith)))
 
     -- one of the powers is a combination of the lower ones
-    dependent_down : (n : ℕ) → Dependent R.ops S (down x e n) → (j : ℕ) × (j < n) × Span R.ops S (down x e j) (R.◌⊗◌ (pow R.ops x j) e)
+    dependent_down : (n : ℕ) → Dependent R.ops S (down x e n)
+        → (j : ℕ) × (j < n) × Span R.ops S (down x e j) (R.◌⊗◌ (pow R.ops x j) e)
     unfolding down
     dependent_down zero d = absurd d
     dependent_down (suc n) (inl s) = (n, omega arith, s)
@@ -55,10 +57,12 @@ module _ (k : CodeField) (A : AlgebraOps) (law : IsAlgebra k A) (some : 0 < A.si
         subst (Span R.ops S (powers R.ops x e n)) (powers_get R x e n i e less)
         (span_members R S 𝓐.subring (powers R.ops x e n) i e (let l = length_powers R x e n in omega arith))
 
-    relation : (n : ℕ) → length (basis k A law) < n → (j : ℕ) × (j < n) × Span R.ops S (powers R.ops x e j) (R.◌⊗◌ (pow R.ops x j) e)
+    relation : (n : ℕ) → length (basis k A law) < n
+        → (j : ℕ) × (j < n) × Span R.ops S (powers R.ops x e j) (R.◌⊗◌ (pow R.ops x j) e)
     relation n more =
         let d = more_dependent R S 𝓐.subring (λ c. 𝓐.decide c R.𝟘) 𝓐.inverse (basis k A law) (down x e n)
-        (all_down (Span R.ops S (basis k A law)) n (λ i less. basis_spans k A law _)) (let l = length_down n in omega arith) in
+        (all_down (Span R.ops S (basis k A law)) n (λ i less. basis_spans k A law _))
+        (let l = length_down n in omega arith) in
         let r = dependent_down n d in (
           r.0,
           r.1,
@@ -66,10 +70,13 @@ module _ (k : CodeField) (A : AlgebraOps) (law : IsAlgebra k A) (some : 0 < A.si
               (all_down (Span R.ops S (powers R.ops x e r.0)) r.0 (λ i less. power_member r.0 i less)) _ r.2,
         )
 
-  pub powers_bounded_by_size : (x e : List ℕ) → IsVector k.ops A.size x → IsVector k.ops A.size e → IsBounded k.ops A x e A.size
-  powers_bounded_by_size x e x_in e_in = record { bounded = λ m h independent. go m h independent (dec_le (length m.rows) A.size) }
+  pub powers_bounded_by_size : (x e : List ℕ) → IsVector k.ops A.size x → IsVector k.ops A.size e
+      → IsBounded k.ops A x e A.size
+  powers_bounded_by_size x e x_in e_in = record
+      { bounded = λ m h independent. go m h independent (dec_le (length m.rows) A.size) }
     where
-      go : (m : MatrixValue) → IsPowers k.ops A x e m → HasIndependentRows k.ops m → Dec (length m.rows ≤ A.size) → length m.rows ≤ A.size
+      go : (m : MatrixValue) → IsPowers k.ops A x e m → HasIndependentRows k.ops m → Dec (length m.rows ≤ A.size)
+          → length m.rows ≤ A.size
       go m h independent (yes l) = l
       go m h independent (no ne) =
           let r = relation (x, x_in) (e, e_in) (length m.rows) (let l = length_basis k A law in omega arith) in

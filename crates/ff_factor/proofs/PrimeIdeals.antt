@@ -2,7 +2,7 @@
 use Rattle.std.proofs.Common.{◌≡◌, ℕ, zero, suc, ◌+◌, ◌-◌, ◌<◌, ◌≤◌, ◌^◌, ◌↔◌, ◌⊎◌, inl, inr, List, [], ◌∷◌, ◌++◌, length, map, take, refl, sym, ap, ap₂, ◌∙◌, subst, arith}
 use Rattle.std.proofs.lemmas.List.{length-map, length_push}
 use Rattle.ring_lemmas.specs.Ring.{CommRing, pow}
-use Rattle.ring_lemmas.specs.Lists.{neg_list, mul_lists}
+use Rattle.ring_lemmas.specs.Lists.{neg_list}
 use Rattle.ring_lemmas.proofs.Ring.{mul_pow}
 use Rattle.ring_lemmas.proofs.Solver.{ring, reads, from_one}
 use Rattle.ring_lemmas.proofs.Lists.{length_neg_list}
@@ -13,10 +13,9 @@ use Rattle.ff_fields.specs.Code.{Code, raw_ring, code_ring, read_code}
 use Rattle.ff_fields.specs.Numbers.{read}
 use Rattle.ff_fields.specs.Over.{IsOver, IsOver_nil, IsOver_cons, IsOver_append, IsOver_neg, IsOver_take}
 use Rattle.linear_theory.specs.Euclidean.{IsDivisorIn}
-use Rattle.ff_poly.specs.Words.{IsPoly, IsMonic, DividesList, product_of}
-use Rattle.ff_poly.specs.PolyOver.{IsOver_product_of, IsPoly_poly_of}
-use Rattle.ff_poly.specs.Value.{value, value_product, same_from_value}
-use Rattle.ff_poly.specs.Polynomials.{Polynomial, polynomials, polynomial_discrete, x_poly, codes_of, IsOver_codes_of, IsPoly_codes_of, value_codes_of}
+use Rattle.ff_poly.specs.Words.{IsMonic}
+use Rattle.ff_poly.specs.Value.{value}
+use Rattle.ff_poly.specs.Polynomials.{Polynomial, polynomials, polynomial_discrete, x_poly}
 use Rattle.ff_linalg.specs.Matrix.{MatrixValue}
 use Rattle.finite_algebra_theory.specs.Algebra.{FiniteAlgebra, IsPrimitive}
 use Rattle.finite_algebra_theory.specs.ByMap.{Image}
@@ -46,7 +45,8 @@ idempotent_power R e idem zero some = absurd (omega arith)
 idempotent_power R e idem (suc zero) some = R.mul_one e
 idempotent_power R e idem (suc (suc n)) some = ap (R.◌⊗◌ e) (idempotent_power R e idem (suc n) (omega arith)) ∙ idem
 
-module _ (k : CodeField) (g : List ℕ) (h : IsModulus k.ops g) (e : List ℕ) (primitive : IsPrimitiveVector k.ops (quotient_algebra g) e) where
+module _ (k : CodeField) (g : List ℕ) (h : IsModulus k.ops g) (e : List ℕ)
+    (primitive : IsPrimitiveVector k.ops (quotient_algebra g) e) where
   infixl 65 ◌⊕◌
   infixl 70 ◌⊗◌
   infixr 80 ⊖◌
@@ -93,7 +93,8 @@ module _ (k : CodeField) (g : List ℕ) (h : IsModulus k.ops g) (e : List ℕ) (
   at_maximal = above_maximal P R S 𝓐 of (vector_hom k g h) (onto k g h) E primitive_E
 
   -- said of lists
-  pub at_nilpotent : (u : List ℕ) → IsOver k.ops u → At (value k u) ↔ IsNilpotentVector k.ops (quotient_algebra g) (product_modulo k.ops g u e)
+  pub at_nilpotent : (u : List ℕ) → IsOver k.ops u
+      → At (value k u) ↔ IsNilpotentVector k.ops (quotient_algebra g) (product_modulo k.ops g u e)
   at_nilpotent u u_in =
       let s = nilpotent_vector k (quotient_algebra g) law (R.◌⊗◌ (of (value k u)) E) in
       let same = product_vector k g h u E u_in in (
@@ -112,11 +113,13 @@ module _ (k : CodeField) (g : List ℕ) (h : IsModulus k.ops g) (e : List ℕ) (
     same_size = ap (λ s. s ^ high.times) (sym (length_scalars k (quotient_algebra g) law some))
 
     reached : length 𝓐.basis ≤ q
-    reached = let r = high.reached in let e = length_basis k (quotient_algebra g) law in let s = same_size in omega arith
+    reached = let r = high.reached in let e = length_basis k (quotient_algebra g) law in let s = same_size in omega
+        arith
 
     z_is : Z ≡ pow R.ops (of (x_poly k)) q
     z_is =
-        same_classes k g h Z (of (pow P.ops (x_poly k) (k.size ^ high.times))) _ _ high.is (vector_of_is k g h (pow P.ops (x_poly k) (k.size ^ high.times)))
+        same_classes k g h Z (of (pow P.ops (x_poly k) (k.size ^ high.times))) _ _ high.is
+        (vector_of_is k g h (pow P.ops (x_poly k) (k.size ^ high.times)))
         (congruent_refl P (value k g) (pow P.ops (x_poly k) (k.size ^ high.times)))
         ∙ vector_power k g h (x_poly k) (k.size ^ high.times) ∙ ap (pow R.ops (of (x_poly k))) same_size
 
@@ -157,7 +160,8 @@ module _ (k : CodeField) (g : List ℕ) (h : IsModulus k.ops g) (e : List ℕ) (
       prime_length = length_push (neg_list (raw_ring k.ops) v) 1 ∙ ap (λ l. l + 1) (length_neg_list (raw_ring k.ops) v)
 
       min : Minimal R.ops S Z E (length (map ι (read k v))) (horner R.ops (map R.⊖◌ (map ι (read k v))) R.𝟙)
-      min = minimal_of_first k (quotient_algebra g) law z e z_in primitive.idempotent.vector m relation.powers some v relation.first
+      min = minimal_of_first k (quotient_algebra g) law z e z_in primitive.idempotent.vector m relation.powers some v
+          relation.first
 
       degree_is : length (map ι (read k v)) ≡ length v
       degree_is = length-map (read k v) ι ∙ length-map v (read_code k)
@@ -178,7 +182,8 @@ module _ (k : CodeField) (g : List ℕ) (h : IsModulus k.ops g) (e : List ℕ) (
           less i j = grind arith
 
           lower_in : IsOver k.ops monic.0
-          lower_in = subst (IsOver k.ops) (take_lower monic.0) (IsOver_take (length monic.0) (subst (IsOver k.ops) monic.1 w_in))
+          lower_in = subst (IsOver k.ops) (take_lower monic.0)
+              (IsOver_take (length monic.0) (subst (IsOver k.ops) monic.1 w_in))
             where
               take_lower : (xs : List ℕ) → take (length xs) (xs ++ 1 ∷ []) ≡ xs
               take_lower [] = refl
@@ -195,8 +200,10 @@ module _ (k : CodeField) (g : List ℕ) (h : IsModulus k.ops g) (e : List ℕ) (
               absurd
               (min.least (length (map ι (read k monic.0))) (let d = degree_is in let s = lower_size in omega arith)
               (horner R.ops (map ι (read k monic.0)) R.𝟙)
-              (leading_list R S 𝓐.subring (map ι (read k monic.0)) R.𝟙 (scalars_in k (quotient_algebra g) law (read k monic.0)))
-              (ap (λ y. R.◌⊗◌ y E) (sym (evaluate_monic k (quotient_algebra g) law Z monic.0) ∙ ap value_at_z (sym monic.1)) ∙ (at_value w w_in).0 a))
+              (leading_list R S 𝓐.subring (map ι (read k monic.0)) R.𝟙
+              (scalars_in k (quotient_algebra g) law (read k monic.0)))
+              (ap (λ y. R.◌⊗◌ y E) (sym (evaluate_monic k (quotient_algebra g) law Z monic.0)
+              ∙ ap value_at_z (sym monic.1)) ∙ (at_value w w_in).0 a))
           go (inr l) = let s = size in omega arith
 
       prime_monic : IsMonic prime
@@ -219,13 +226,15 @@ module _ (k : CodeField) (g : List ℕ) (h : IsModulus k.ops g) (e : List ℕ) (
               step u p w r = ring P (u ∷ p ∷ w ∷ r ∷ []) λ q x. simp (reads, q, x 0, x 1, x 2, x 3) (q.equal _ _ refl)
 
           rest_at : At d.rest
-          rest_at = subst At left (at_maximal.ideal.sum_in _ _ a (at_maximal.ideal.scale_in (⊖ d.quotient) (value k prime) tt prime_at_e))
+          rest_at = subst At left (at_maximal.ideal.sum_in _ _ a
+              (at_maximal.ideal.scale_in (⊖ d.quotient) (value k prime) tt prime_at_e))
 
           go : Dec (d.rest ≡ 𝟘) → IsDivisorIn (polynomials k).ops (value k prime) u
           go (yes z) = (d.quotient, d.is ∙ ap (λ r. value k prime ⊗ d.quotient ⊕ r) z ∙ P.add_zero _)
           go (no ne) =
               let w = made_monic k d.rest ne in
-              let l = long w.codes w.over w.monic (subst At (sym w.is) (at_maximal.ideal.scale_in w.factor d.rest tt rest_at)) in
+              let l = long w.codes w.over w.monic
+              (subst At (sym w.is) (at_maximal.ideal.scale_in w.factor d.rest tt rest_at)) in
               let s = w.length_is in
               let t = d.shorter in
               absurd (omega (arith, prime_length, length_value k prime prime_in (monic_poly k prime prime_monic)))
@@ -238,6 +247,7 @@ module _ (k : CodeField) (g : List ℕ) (h : IsModulus k.ops g) (e : List ℕ) (
           λ d. (at_nilpotent u u_in).0
               (subst At (P.mul_comm _ _ ∙ sym (divisor_of_divides k prime u prime_in d))
               (at_maximal.ideal.scale_in (value k d.quotient) (value k prime) tt prime_at_e)),
-          λ a. divides_of_divisor k prime u prime_in u_in u_poly (prime_divides (value k u) ((at_nilpotent u u_in).1 a)),
+          λ a. divides_of_divisor k prime u prime_in u_in u_poly
+              (prime_divides (value k u) ((at_nilpotent u u_in).1 a)),
         );
       }

@@ -19,10 +19,12 @@ module _ (k : CodeField) where
       → values k (map (product_of k.ops a) vs) ≡ times (polynomials k).ring (value k a) (values k vs)
   values_products a [] a_in vs_in = refl
   values_products a (v ∷ vs) a_in vs_in =
-      ap₂ ◌∷◌ (value_product k a v a_in (All-head (IsOver k.ops) v vs vs_in)) (values_products a vs a_in (All-tail (IsOver k.ops) v vs vs_in))
+      ap₂ ◌∷◌ (value_product k a v a_in (All-head (IsOver k.ops) v vs vs_in))
+      (values_products a vs a_in (All-tail (IsOver k.ops) v vs vs_in))
 
   -- equal products of lists have equal values
-  pub same_values : (a b : List ℕ) (vs ws : List (List ℕ)) → IsOver k.ops a → IsOver k.ops b → All (IsOver k.ops) vs → All (IsOver k.ops) ws
+  pub same_values : (a b : List ℕ) (vs ws : List (List ℕ)) → IsOver k.ops a → IsOver k.ops b → All (IsOver k.ops) vs
+      → All (IsOver k.ops) ws
       → map (product_of k.ops a) vs ≡ map (product_of k.ops b) ws
       → times (polynomials k).ring (value k a) (values k vs) ≡ times (polynomials k).ring (value k b) (values k ws)
   same_values a b vs ws a_in b_in vs_in ws_in e =
@@ -34,11 +36,13 @@ module _ (k : CodeField) where
   codes_products a (v ∷ vs) a_in vs_in =
       let v_in = All-head (IsOver k.ops) v vs vs_in in
       ap₂ ◌∷◌
-      (ap (codes_of k) (sym (value_product k a v a_in v_in)) ∙ numbers_value k (product_of k.ops a v) (IsOver_product_of k a_in v_in) (IsPoly_product_of k.ops a v))
+      (ap (codes_of k) (sym (value_product k a v a_in v_in))
+      ∙ numbers_value k (product_of k.ops a v) (IsOver_product_of k a_in v_in) (IsPoly_product_of k.ops a v))
       (codes_products a vs a_in (All-tail (IsOver k.ops) v vs vs_in))
 
   -- and the other way round
-  pub same_products : (a b : List ℕ) (vs ws : List (List ℕ)) → IsOver k.ops a → IsOver k.ops b → All (IsOver k.ops) vs → All (IsOver k.ops) ws
+  pub same_products : (a b : List ℕ) (vs ws : List (List ℕ)) → IsOver k.ops a → IsOver k.ops b → All (IsOver k.ops) vs
+      → All (IsOver k.ops) ws
       → times (polynomials k).ring (value k a) (values k vs) ≡ times (polynomials k).ring (value k b) (values k ws)
       → map (product_of k.ops a) vs ≡ map (product_of k.ops b) ws
   same_products a b vs ws a_in b_in vs_in ws_in e =
@@ -51,8 +55,10 @@ module _ (k : CodeField) where
       (codes_values vs (All-tail (IsOver k.ops) v vs vs_in) (All-tail IsPoly v vs vs_poly))
 
   -- lists that stand for the same are the same
-  pub values_same : (vs ws : List (List ℕ)) → All (IsOver k.ops) vs → All (IsOver k.ops) ws → All IsPoly vs → All IsPoly ws → values k vs ≡ values k ws → vs ≡ ws
-  values_same vs ws vs_in ws_in vs_poly ws_poly e = sym (codes_values vs vs_in vs_poly) ∙ ap (map (codes_of k)) e ∙ codes_values ws ws_in ws_poly
+  pub values_same : (vs ws : List (List ℕ)) → All (IsOver k.ops) vs → All (IsOver k.ops) ws → All IsPoly vs
+      → All IsPoly ws → values k vs ≡ values k ws → vs ≡ ws
+  values_same vs ws vs_in ws_in vs_poly ws_poly e = sym (codes_values vs vs_in vs_poly) ∙ ap (map (codes_of k)) e
+      ∙ codes_values ws ws_in ws_poly
 
   -- each polynomial has a list
   pub values_codes : (xs : List (Polynomial k)) → values k (map (codes_of k) xs) ≡ xs
@@ -61,19 +67,23 @@ module _ (k : CodeField) where
 
   pub over_codes : (xs : List (Polynomial k)) → All (IsOver k.ops) (map (codes_of k) xs)
   over_codes [] = All-nil (IsOver k.ops)
-  over_codes (x ∷ xs) = All-cons (IsOver k.ops) (codes_of k x) (map (codes_of k) xs) (IsOver_codes_of k x) (over_codes xs)
+  over_codes (x ∷ xs) = All-cons (IsOver k.ops) (codes_of k x) (map (codes_of k) xs) (IsOver_codes_of k x)
+      (over_codes xs)
 
   -- multiples by a code
   pub values_multiples : (c : ℕ) (vs : List (List ℕ)) → c < k.size → All (IsOver k.ops) vs
       → values k (map (λ v. multiple_of k.ops v c) vs) ≡ times (polynomials k).ring (constant_poly k c) (values k vs)
   values_multiples c [] c_in vs_in = refl
   values_multiples c (v ∷ vs) c_in vs_in =
-      ap₂ ◌∷◌ (value_multiple k v c (All-head (IsOver k.ops) v vs vs_in) c_in) (values_multiples c vs c_in (All-tail (IsOver k.ops) v vs vs_in))
+      ap₂ ◌∷◌ (value_multiple k v c (All-head (IsOver k.ops) v vs vs_in) c_in)
+      (values_multiples c vs c_in (All-tail (IsOver k.ops) v vs vs_in))
 
-  pub over_multiples : (c : ℕ) (vs : List (List ℕ)) → c < k.size → All (IsOver k.ops) vs → All (IsOver k.ops) (map (λ v. multiple_of k.ops v c) vs)
+  pub over_multiples : (c : ℕ) (vs : List (List ℕ)) → c < k.size → All (IsOver k.ops) vs
+      → All (IsOver k.ops) (map (λ v. multiple_of k.ops v c) vs)
   over_multiples c [] c_in vs_in = All-nil (IsOver k.ops)
   over_multiples c (v ∷ vs) c_in vs_in =
-      All-cons (IsOver k.ops) _ _ (IsOver_multiple_of k (All-head (IsOver k.ops) v vs vs_in) c_in) (over_multiples c vs c_in (All-tail (IsOver k.ops) v vs vs_in))
+      All-cons (IsOver k.ops) _ _ (IsOver_multiple_of k (All-head (IsOver k.ops) v vs vs_in) c_in)
+      (over_multiples c vs c_in (All-tail (IsOver k.ops) v vs vs_in))
 
   pub poly_multiples : (c : ℕ) (vs : List (List ℕ)) → All IsPoly (map (λ v. multiple_of k.ops v c) vs)
   poly_multiples c [] = All-nil IsPoly

@@ -34,7 +34,8 @@ module _ (k : CodeField) (A : AlgebraOps) (law : IsAlgebra k A) where
   primitive_vector e p = record {
     nonzero = λ z. p.nonzero (ap (λ y. y.0) z);
     idempotent = same_vector k A.size _ _ p.idempotent.square;
-    least = λ f idem below. pick f (p.least f.0 (record { vector = f.1; square = ap (λ y. y.0) idem }) (ap (λ y. y.0) below));
+    least = λ f idem below. pick f (p.least f.0 (record { vector = f.1; square = ap (λ y. y.0) idem })
+        (ap (λ y. y.0) below));
   }
     where
       pick : (f : Vector k A.size) → (f.0 ≡ R.𝟘.0) ⊎ (f.0 ≡ e) → (f ≡ R.𝟘) ⊎ (f ≡ (e, p.idempotent.vector))
@@ -49,18 +50,23 @@ module _ (k : CodeField) (A : AlgebraOps) (law : IsAlgebra k A) where
 
   -- the value of a monic list
   pub evaluate_monic : (t : Vector k A.size) (lower : List ℕ)
-      → evaluate (code_ring k) R (scalar k A law) (scalar_map k A law) t (read k (lower ++ 1 ∷ [])) ≡ horner R.ops (map (scalar k A law) (read k lower)) R.𝟙 t
+      → evaluate (code_ring k) R (scalar k A law) (scalar_map k A law) t (read k (lower ++ 1 ∷ []))
+      ≡ horner R.ops (map (scalar k A law) (read k lower)) R.𝟙 t
   evaluate_monic t [] =
-      ap₂ R.◌⊕◌ (ap (scalar k A law) (same_code k (read_code k 1) (code_ring k).𝟙 (read_code_below k 1 k.laws.one_below)) ∙ (scalar_map k A law).𝟙) (mul_zero R t)
+      ap₂ R.◌⊕◌ (ap (scalar k A law) (same_code k (read_code k 1) (code_ring k).𝟙
+      (read_code_below k 1 k.laws.one_below)) ∙ (scalar_map k A law).𝟙) (mul_zero R t)
       ∙ R.add_zero R.𝟙
   evaluate_monic t (c ∷ lower) = ap (λ w. R.◌⊕◌ (scalar k A law (read_code k c)) (R.◌⊗◌ t w)) (evaluate_monic t lower)
 
   -- the values at the powers
   pub evaluate_power : (some : 0 < A.size) (m : ℕ) (t : Vector k A.size) (cs : List (Code k))
-      → pow R.ops (evaluate (code_ring k) R (scalar k A law) (scalar_map k A law) t cs) (length (vector_algebra k A law some).codes ^ m)
-      ≡ evaluate (code_ring k) R (scalar k A law) (scalar_map k A law) (pow R.ops t (length (vector_algebra k A law some).codes ^ m)) cs
+      → pow R.ops (evaluate (code_ring k) R (scalar k A law) (scalar_map k A law) t cs)
+      (length (vector_algebra k A law some).codes ^ m)
+      ≡ evaluate (code_ring k) R (scalar k A law) (scalar_map k A law)
+      (pow R.ops t (length (vector_algebra k A law some).codes ^ m)) cs
   evaluate_power some m t [] =
-      iterate_scalar R (Image (scalar k A law)) (vector_algebra k A law some) m R.𝟘 (vector_algebra k A law some).subring.zero_in
+      iterate_scalar R (Image (scalar k A law)) (vector_algebra k A law some) m R.𝟘
+      (vector_algebra k A law some).subring.zero_in
   evaluate_power some m t (c ∷ cs) =
       let 𝓐 = vector_algebra k A law some in
       let w = evaluate (code_ring k) R (scalar k A law) (scalar_map k A law) t cs in
@@ -85,12 +91,14 @@ module _ (k : CodeField) (g : List ℕ) (h : IsModulus k.ops g) where
   Q = ring_of_vectors
 
   -- vectors of one class are the same
-  pub same_classes : (x y : V) (u w : Polynomial k) → IsCongruent P.ops (value k g) (value k x.0) u → IsCongruent P.ops (value k g) (value k y.0) w
+  pub same_classes : (x y : V) (u w : Polynomial k) → IsCongruent P.ops (value k g) (value k x.0) u
+      → IsCongruent P.ops (value k g) (value k y.0) w
       → IsCongruent P.ops (value k g) u w → x ≡ y
   same_classes x y u w x_is y_is c =
       same_vector k (length g - 1) x y
       (same_class k g h x.0 y.0 x.1 y.1
-      (congruent_trans P (value k g) _ u _ x_is (congruent_trans P (value k g) u w _ c (congruent_sym P (value k g) _ w y_is))))
+      (congruent_trans P (value k g) _ u _ x_is
+      (congruent_trans P (value k g) u w _ c (congruent_sym P (value k g) _ w y_is))))
 
   -- the vector of a polynomial
   unfoldable pub vector_of : Polynomial k → V
@@ -105,7 +113,8 @@ module _ (k : CodeField) (g : List ℕ) (h : IsModulus k.ops g) where
     add = λ a b.
         same_classes _ _ _ _ (vector_of_is (P.◌⊕◌ a b))
         (congruent_trans P (value k g) _ _ _
-        (congruent_same P (value k g) _ _ (value_add_lists k (vector_of a).0 (vector_of b).0 (vector_of a).1.over (vector_of b).1.over))
+        (congruent_same P (value k g) _ _
+        (value_add_lists k (vector_of a).0 (vector_of b).0 (vector_of a).1.over (vector_of b).1.over))
         (congruent_add P (value k g) _ _ _ _ (vector_of_is a) (vector_of_is b)))
         (congruent_refl P (value k g) (P.◌⊕◌ a b));
     mul = λ a b.
@@ -115,20 +124,24 @@ module _ (k : CodeField) (g : List ℕ) (h : IsModulus k.ops g) where
         (congruent_mul P (value k g) _ _ _ _ (vector_of_is a) (vector_of_is b)))
         (congruent_refl P (value k g) (P.◌⊗◌ a b));
     𝟙 =
-        same_classes _ _ _ _ (vector_of_is P.𝟙) (congruent_same P (value k g) _ _ (value_quotient_unit k g h)) (congruent_refl P (value k g) P.𝟙);
+        same_classes _ _ _ _ (vector_of_is P.𝟙) (congruent_same P (value k g) _ _ (value_quotient_unit k g h))
+        (congruent_refl P (value k g) P.𝟙);
   }
 
   pub onto : (x : V) → (u : Polynomial k) × (x ≡ vector_of u)
   onto x = (
     value k x.0,
-    same_classes _ _ _ _ (congruent_refl P (value k g) (value k x.0)) (vector_of_is (value k x.0)) (congruent_refl P (value k g) (value k x.0)),
+    same_classes _ _ _ _ (congruent_refl P (value k g) (value k x.0)) (vector_of_is (value k x.0))
+        (congruent_refl P (value k g) (value k x.0)),
   )
 
   -- the product of a polynomial with a vector
-  pub product_vector : (u : List ℕ) (e : V) → IsOver k.ops u → product_modulo k.ops g u e.0 ≡ (Q.◌⊗◌ (vector_of (value k u)) e).0
+  pub product_vector : (u : List ℕ) (e : V) → IsOver k.ops u
+      → product_modulo k.ops g u e.0 ≡ (Q.◌⊗◌ (vector_of (value k u)) e).0
   product_vector u e u_in =
       ap (λ y. y.0)
-      (same_classes (product_modulo k.ops g u e.0, product_in k g h u e.0 u_in e.1) (Q.◌⊗◌ (vector_of (value k u)) e) _ _
+      (same_classes (product_modulo k.ops g u e.0, product_in k g h u e.0 u_in e.1) (Q.◌⊗◌ (vector_of (value k u)) e) _
+      _
       (value_product_modulo k g h u e.0 u_in e.1)
       (congruent_trans P (value k g) _ _ _
       (value_product_modulo k g h (vector_of (value k u)).0 e.0 (vector_of (value k u)).1.over e.1)
@@ -139,17 +152,21 @@ module _ (k : CodeField) (g : List ℕ) (h : IsModulus k.ops g) where
   vector_power u zero = vector_hom.𝟙
   vector_power u (suc n) = vector_hom.mul u (pow P.ops u n) ∙ ap (Q.◌⊗◌ (vector_of u)) (vector_power u n)
 
-  vector_constant : (c : ℕ) → c < k.size → vector_of (constant_poly k c) ≡ scalar k (quotient_algebra g) (quotient_laws k g h) (read_code k c)
+  vector_constant : (c : ℕ) → c < k.size
+      → vector_of (constant_poly k c) ≡ scalar k (quotient_algebra g) (quotient_laws k g h) (read_code k c)
   vector_constant c c_in =
       same_classes _ _ _ _ (vector_of_is (constant_poly k c))
       (congruent_same P (value k g) _ _
-      (value_scale_list k (read_code k c).0 (quotient_algebra g).unit (read_code k c).1 (quotient_laws k g h).unit_in.over
-      ∙ ap₂ P.◌⊗◌ (ap (constant_poly k) (read_code_below k c c_in)) (value_quotient_unit k g h) ∙ P.mul_one (constant_poly k c)))
+      (value_scale_list k (read_code k c).0 (quotient_algebra g).unit (read_code k c).1
+      (quotient_laws k g h).unit_in.over
+      ∙ ap₂ P.◌⊗◌ (ap (constant_poly k) (read_code_below k c c_in)) (value_quotient_unit k g h)
+      ∙ P.mul_one (constant_poly k c)))
       (congruent_refl P (value k g) (constant_poly k c))
 
   -- the vector of a polynomial is its value at that of x
   pub vector_value : (u : List ℕ) → IsOver k.ops u
-      → vector_of (value k u) ≡ evaluate (code_ring k) Q (scalar k (quotient_algebra g) (quotient_laws k g h)) (scalar_map k (quotient_algebra g) (quotient_laws k g h)) (vector_of (x_poly k)) (read k u)
+      → vector_of (value k u) ≡ evaluate (code_ring k) Q (scalar k (quotient_algebra g) (quotient_laws k g h))
+      (scalar_map k (quotient_algebra g) (quotient_laws k g h)) (vector_of (x_poly k)) (read k u)
   vector_value [] u_in = ap vector_of (value_nil k) ∙ hom_zero P Q vector_of vector_hom
   vector_value (c ∷ u) u_in =
       ap vector_of (value_cons k c u)

@@ -19,8 +19,10 @@ module _ (k : FieldOps) where
   abbrev pub HasFactorsOf : List (List ℕ) → List ℕ → Type 0
   HasFactorsOf factors den = (p : List ℕ) → IsOver k p → IsIrreducibleList k p → DividesList k p den → In p factors
 
-  -- num' over den' are the fractions of num over den, den' is monic, and none of the factors divides den' and each of num'
-  pub record AreCancelled (factors : List (List ℕ)) (num : List (List ℕ)) (den : List ℕ) (num' : List (List ℕ)) (den' : List ℕ) : Type 0 where
+  -- num' over den' are the fractions of num over den, den' is monic, and none of the factors divides den' and each of
+  -- num'
+  pub record AreCancelled (factors : List (List ℕ)) (num : List (List ℕ)) (den : List ℕ) (num' : List (List ℕ))
+      (den' : List ℕ) : Type 0 where
     pub one_each : length num' ≡ length num
     pub same : AreSameFractions num' den' num den
     pub num_over : All (IsOver k) num'
@@ -29,12 +31,15 @@ module _ (k : FieldOps) where
     pub monic : IsMonic den'
     pub free : (p : List ℕ) → In p factors → DividesList k p den' → ¬ All (DividesList k p) num'
 
-  -- num' over den' are the fractions of num over den, den' is monic, and no denominator of the same fractions has a smaller degree
-  pub record IsInLowestTermsOf (num : List (List ℕ)) (den : List ℕ) (num' : List (List ℕ)) (den' : List ℕ) : Type 0 where
-    pub one_each : length num' ≡ length num
-    pub same : AreSameFractions num' den' num den
-    pub num_over : All (IsOver k) num'
-    pub den_over : IsOver k den'
-    pub num_poly : All IsPoly num'
-    pub monic : IsMonic den'
-    pub least : (ws : List (List ℕ)) (d : List ℕ) → All (IsOver k) ws → IsOver k d → IsPoly d → d ≢ [] → AreSameFractions num' den' ws d → length den' ≤ length d
+  -- num' over den' are the fractions of num over den, den' is monic, and no denominator of the same fractions has a
+  -- smaller degree
+  pub record IsInLowestTermsOf (num : List (List ℕ)) (den : List ℕ) (num' : List (List ℕ)) (den' : List ℕ) : Type 0
+    where
+      pub one_each : length num' ≡ length num
+      pub same : AreSameFractions num' den' num den
+      pub num_over : All (IsOver k) num'
+      pub den_over : IsOver k den'
+      pub num_poly : All IsPoly num'
+      pub monic : IsMonic den'
+      pub least : (ws : List (List ℕ)) (d : List ℕ) → All (IsOver k) ws → IsOver k d → IsPoly d → d ≢ []
+          → AreSameFractions num' den' ws d → length den' ≤ length d

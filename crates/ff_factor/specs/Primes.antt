@@ -14,7 +14,8 @@ use Rattle.ff_factor.specs.Quotients.{product_modulo, quotient_algebra}
 pub record IsPrimeAt (k : FieldOps) (g e p : List ℕ) : Type 0 where
   pub over : IsOver k p
   pub monic : IsMonic p
-  pub multiples : (u : List ℕ) → IsOver k u → IsPoly u → DividesList k p u ↔ IsNilpotentVector k (quotient_algebra g) (product_modulo k g u e)
+  pub multiples : (u : List ℕ) → IsOver k u → IsPoly u
+      → DividesList k p u ↔ IsNilpotentVector k (quotient_algebra g) (product_modulo k g u e)
 
 -- z stands for x to a power of q that is at least the bound, modulo g
 pub record IsHighPower (k : CodeField) (g : List ℕ) (bound : ℕ) (z : List ℕ) : Type 0 where

@@ -37,7 +37,8 @@ value_of_parts k [] = (polynomials k).𝟙
 value_of_parts k (f ∷ fs) = (polynomials k).◌⊗◌ (pow (polynomials k).ops (value k f.0) f.1) (value_of_parts k fs)
 
 -- g is the product of powers of these polynomials and the rest, which none of them divides
-pub record IsSplitOff (k : CodeField) (g : List ℕ) (ps : List (List ℕ)) (parts : List (List ℕ × ℕ)) (rest : List ℕ) : Type 0 where
+pub record IsSplitOff (k : CodeField) (g : List ℕ) (ps : List (List ℕ)) (parts : List (List ℕ × ℕ)) (rest : List ℕ) :
+    Type 0 where
   pub polys : polys_of parts ≡ ps
   pub over : IsOver k.ops rest
   pub poly : IsPoly rest
@@ -51,5 +52,6 @@ pub record IsPrimeList (k : CodeField) (g : List ℕ) (ps : List (List ℕ)) : T
   pub over : (p : List ℕ) → In p ps → IsOver k.ops p
   pub irreducible : (p : List ℕ) → In p ps → IsIrreducibleList k.ops p
   pub divides : (p : List ℕ) → In p ps → IsDivisorIn (polynomials k).ops (value k p) (value k g)
-  pub different : (p q : List ℕ) → In p ps → In q ps → ¬ (p ≡ q) → ¬ IsDivisorIn (polynomials k).ops (value k p) (value k q)
+  pub different : (p q : List ℕ) → In p ps → In q ps → ¬ (p ≡ q)
+      → ¬ IsDivisorIn (polynomials k).ops (value k p) (value k q)
   pub ascending : AreAscendingPolys ps

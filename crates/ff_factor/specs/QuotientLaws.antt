@@ -29,7 +29,8 @@ add_push k [] (y ∷ w) a b same = absurd (omega arith)
 add_push k (x ∷ u) [] a b same = absurd (omega arith)
 add_push k (x ∷ u) (y ∷ w) a b same = ap (λ v. k.add x y ∷ v) (add_push k u w a b (omega arith))
 
-scale_push : (k : CodeField) (c : ℕ) (u : List ℕ) (a : ℕ) → scale_list (raw_ring k.ops) c (u ++ a ∷ []) ≡ scale_list (raw_ring k.ops) c u ++ k.mul c a ∷ []
+scale_push : (k : CodeField) (c : ℕ) (u : List ℕ) (a : ℕ)
+    → scale_list (raw_ring k.ops) c (u ++ a ∷ []) ≡ scale_list (raw_ring k.ops) c u ++ k.mul c a ∷ []
 scale_push k c [] a = refl
 scale_push k c (x ∷ u) a = ap (λ v. k.mul c x ∷ v) (scale_push k c u a)
 
@@ -63,7 +64,8 @@ module _ (k : CodeField) (g : List ℕ) (h : IsModulus k.ops g) where
   some : 0 < n
   some = let l = h.not_constant in omega arith
 
-  pub modulus_monic : (code_ring k).◌⊗◌ (code_ring k).𝟙 (coeff_of (code_ring k).ops (value k g).0 (length (value k g).0 - 1)) ≡ (code_ring k).𝟙
+  pub modulus_monic : (code_ring k).◌⊗◌ (code_ring k).𝟙
+      (coeff_of (code_ring k).ops (value k g).0 (length (value k g).0 - 1)) ≡ (code_ring k).𝟙
   modulus_monic = one_mul (code_ring k).ring _ ∙ monic_top k g h.over h.monic
 
   pub modulus_length : length (value k g).0 ≡ length g
@@ -76,7 +78,8 @@ module _ (k : CodeField) (g : List ℕ) (h : IsModulus k.ops g) where
   pub short_eq : (a b : Polynomial k) → length a.0 < length g → length b.0 < length g → Congruent a b → a ≡ b
   short_eq a b a_short b_short c =
       short_same (code_ring k) (code_domain k) (value k g) modulus_monic modulus_deep a b
-      (subst (λ m. length a.0 < m) (sym modulus_length) a_short) (subst (λ m. length b.0 < m) (sym modulus_length) b_short) c
+      (subst (λ m. length a.0 < m) (sym modulus_length) a_short)
+      (subst (λ m. length b.0 < m) (sym modulus_length) b_short) c
 
   pub vector_short : (a : List ℕ) → IsVector k.ops n a → length (value k a).0 < length g
   vector_short a a_in = let l = h.not_constant in let s = a_in.size in omega (arith, value_short k a)
@@ -87,7 +90,8 @@ module _ (k : CodeField) (g : List ℕ) (h : IsModulus k.ops g) where
       same_lists k a b a_in.over b_in.over (a_in.size ∙ sym b_in.size)
       (short_eq (value k a) (value k b) (vector_short a a_in) (vector_short b b_in) c)
 
-  pub same_by : (a b : List ℕ) (u w : Polynomial k) → IsVector k.ops n a → IsVector k.ops n b → Congruent (value k a) u → Congruent (value k b) w → u ≡ w → a ≡ b
+  pub same_by : (a b : List ℕ) (u w : Polynomial k) → IsVector k.ops n a → IsVector k.ops n b → Congruent (value k a) u
+      → Congruent (value k b) w → u ≡ w → a ≡ b
   same_by a b u w a_in b_in a_is b_is e =
       same_class a b a_in b_in
       (congruent_trans S (value k g) _ u _ a_is
@@ -99,7 +103,8 @@ module _ (k : CodeField) (g : List ℕ) (h : IsModulus k.ops g) where
   monic_split =
       h.monic.1
       ∙ ap (λ u. u ++ 1 ∷ [])
-      (sym (ap₂ take (ap (λ m. m - 1) (ap length h.monic.1 ∙ length_push h.monic.0 1) ∙ let e : length h.monic.0 + 1 - 1 ≡ length h.monic.0 = omega arith in e) h.monic.1
+      (sym (ap₂ take (ap (λ m. m - 1) (ap length h.monic.1 ∙ length_push h.monic.0 1)
+      ∙ let e : length h.monic.0 + 1 - 1 ≡ length h.monic.0 = omega arith in e) h.monic.1
       ∙ take_push h.monic.0 1))
 
   length_low : length (take n g) ≡ n
@@ -130,7 +135,8 @@ module _ (k : CodeField) (g : List ℕ) (h : IsModulus k.ops g) where
       sym (ap₂ (add_lists (raw_ring k.ops))
       (split_last (0 ∷ v) n (ap suc v_in.size) ∙ ap (λ a. take n (0 ∷ v) ++ a ∷ []) (get_or_up v n some))
       (ap (scale_list (raw_ring k.ops) c) monic_split ∙ scale_push k c (take n g) 1
-      ∙ ap (λ a. scale_list (raw_ring k.ops) c (take n g) ++ a ∷ []) (k.laws.mul_comm c 1 c_in k.laws.one_below ∙ k.laws.one_mul c c_in))
+      ∙ ap (λ a. scale_list (raw_ring k.ops) c (take n g) ++ a ∷ [])
+      (k.laws.mul_comm c 1 c_in k.laws.one_below ∙ k.laws.one_mul c c_in))
       ∙ add_push k (take n (0 ∷ v)) (scale_list (raw_ring k.ops) c (take n g)) (top v) c
       (length_up v v_in ∙ sym (length_scale_list (raw_ring k.ops) c (take n g) ∙ length_low))
       ∙ ap (λ a. times_x k.ops g v ++ a ∷ []) (code_add_neg k (top v) (top_in v v_in)))
@@ -143,8 +149,10 @@ module _ (k : CodeField) (g : List ℕ) (h : IsModulus k.ops g) where
         let c_in = k.laws.neg_below (top v) (top_in v v_in) in
         sym (value_padded k (times_x k.ops g v) 1)
         ∙ ap (value k) (times_x_padded v v_in)
-        ∙ value_add_lists k (0 ∷ v) (scale_list (raw_ring k.ops) c g) (IsOver_cons (zero_in k) v_in.over) (IsOver_scale k c g c_in h.over)
-        ∙ ap₂ ◌⊕◌ (value_up k v) (value_scale_list k c g c_in h.over ∙ (polynomials k).mul_comm (constant_poly k c) (value k g));
+        ∙ value_add_lists k (0 ∷ v) (scale_list (raw_ring k.ops) c g) (IsOver_cons (zero_in k) v_in.over)
+        (IsOver_scale k c g c_in h.over)
+        ∙ ap₂ ◌⊕◌ (value_up k v) (value_scale_list k c g c_in h.over
+        ∙ (polynomials k).mul_comm (constant_poly k c) (value k g));
   }
 
   -- ---- products
@@ -157,15 +165,18 @@ module _ (k : CodeField) (g : List ℕ) (h : IsModulus k.ops g) where
       (multiple_in k n c b (IsOver_head a_in) b_in)
 
   -- a product stands for the product of what its factors stand for
-  pub value_product_modulo : (a b : List ℕ) → IsOver k.ops a → IsVector k.ops n b → Congruent (value k (product_modulo k.ops g a b)) (value k a ⊗ value k b)
+  pub value_product_modulo : (a b : List ℕ) → IsOver k.ops a → IsVector k.ops n b
+      → Congruent (value k (product_modulo k.ops g a b)) (value k a ⊗ value k b)
   value_product_modulo [] b a_in b_in =
-      congruent_same S (value k g) _ _ (value_zeros k n ∙ sym (zero_mul S (value k b)) ∙ ap (λ w. w ⊗ value k b) (sym (value_nil k)))
+      congruent_same S (value k g) _ _ (value_zeros k n ∙ sym (zero_mul S (value k b))
+      ∙ ap (λ w. w ⊗ value k b) (sym (value_nil k)))
   value_product_modulo (c ∷ a) b a_in b_in =
       let before = product_modulo k.ops g a b in
       let before_in = product_in a b (IsOver_tail a_in) b_in in
       congruent_trans S (value k g) _ _ _
       (congruent_same S (value k g) _ _
-      (value_add_lists k (times_x k.ops g before) (scale_list (raw_ring k.ops) c b) (times_x_in before before_in).over (IsOver_scale k c b (IsOver_head a_in) b_in.over)
+      (value_add_lists k (times_x k.ops g before) (scale_list (raw_ring k.ops) c b) (times_x_in before before_in).over
+      (IsOver_scale k c b (IsOver_head a_in) b_in.over)
       ∙ ap (λ w. value k (times_x k.ops g before) ⊕ w) (value_scale_list k c b (IsOver_head a_in) b_in.over)))
       (congruent_trans S (value k g) _ _ _
       (congruent_add S (value k g) _ (x_poly k ⊗ (value k a ⊗ value k b)) _ (constant_poly k c ⊗ value k b)
@@ -193,18 +204,21 @@ module _ (k : CodeField) (g : List ℕ) (h : IsModulus k.ops g) where
     product_in = λ a b a_in b_in. product_in a b a_in.over b_in;
     commutative = λ a b a_in b_in.
         same_by _ _ _ _ (product_in a b a_in.over b_in) (product_in b a b_in.over a_in)
-        (value_product_modulo a b a_in.over b_in) (value_product_modulo b a b_in.over a_in) (S.mul_comm (value k a) (value k b));
+        (value_product_modulo a b a_in.over b_in) (value_product_modulo b a b_in.over a_in)
+        (S.mul_comm (value k a) (value k b));
     associative = λ a b c a_in b_in c_in.
         let ab_in = product_in a b a_in.over b_in in
         let bc_in = product_in b c b_in.over c_in in
         same_by _ _ _ _ (product_in _ c ab_in.over c_in) (product_in a _ a_in.over bc_in)
         (congruent_trans S (value k g) _ _ _ (value_product_modulo _ c ab_in.over c_in)
-        (congruent_mul S (value k g) _ _ _ _ (value_product_modulo a b a_in.over b_in) (congruent_refl S (value k g) (value k c))))
+        (congruent_mul S (value k g) _ _ _ _ (value_product_modulo a b a_in.over b_in)
+        (congruent_refl S (value k g) (value k c))))
         (congruent_trans S (value k g) _ _ _ (value_product_modulo a _ a_in.over bc_in)
         (congruent_mul_left S (value k g) (value k a) _ _ (value_product_modulo b c b_in.over c_in)))
         (S.mul_assoc (value k a) (value k b) (value k c));
     unit_times = λ a a_in.
-        same_by _ _ _ _ (product_in _ a unit_in.over a_in) a_in (value_product_modulo _ a unit_in.over a_in) (congruent_refl S (value k g) (value k a))
+        same_by _ _ _ _ (product_in _ a unit_in.over a_in) a_in (value_product_modulo _ a unit_in.over a_in)
+        (congruent_refl S (value k g) (value k a))
         (ap (λ w. w ⊗ value k a) value_quotient_unit ∙ one_mul S (value k a));
     distributive = λ a b c a_in b_in c_in.
         let bc_in = sum_in k n b c b_in c_in in
@@ -212,9 +226,12 @@ module _ (k : CodeField) (g : List ℕ) (h : IsModulus k.ops g) where
         let ac_in = product_in a c a_in.over c_in in
         same_by _ _ _ _ (product_in a _ a_in.over bc_in) (sum_in k n _ _ ab_in ac_in)
         (value_product_modulo a _ a_in.over bc_in)
-        (congruent_trans S (value k g) _ _ _ (congruent_same S (value k g) _ _ (value_add_lists k _ _ ab_in.over ac_in.over))
-        (congruent_add S (value k g) _ _ _ _ (value_product_modulo a b a_in.over b_in) (value_product_modulo a c a_in.over c_in)))
-        (ap (λ w. value k a ⊗ w) (value_add_lists k b c b_in.over c_in.over) ∙ S.mul_add (value k a) (value k b) (value k c));
+        (congruent_trans S (value k g) _ _ _
+        (congruent_same S (value k g) _ _ (value_add_lists k _ _ ab_in.over ac_in.over))
+        (congruent_add S (value k g) _ _ _ _ (value_product_modulo a b a_in.over b_in)
+        (value_product_modulo a c a_in.over c_in)))
+        (ap (λ w. value k a ⊗ w) (value_add_lists k b c b_in.over c_in.over)
+        ∙ S.mul_add (value k a) (value k b) (value k c));
     linear = λ c a b c_in a_in b_in.
         let ca_in = multiple_in k n c a c_in a_in in
         let ab_in = product_in a b a_in.over b_in in
@@ -222,7 +239,8 @@ module _ (k : CodeField) (g : List ℕ) (h : IsModulus k.ops g) where
         (value_product_modulo _ b ca_in.over b_in)
         (congruent_trans S (value k g) _ _ _ (congruent_same S (value k g) _ _ (value_scale_list k c _ c_in ab_in.over))
         (congruent_mul_left S (value k g) (constant_poly k c) _ _ (value_product_modulo a b a_in.over b_in)))
-        (ap (λ w. w ⊗ value k b) (value_scale_list k c a c_in a_in.over) ∙ S.mul_assoc (constant_poly k c) (value k a) (value k b));
+        (ap (λ w. w ⊗ value k b) (value_scale_list k c a c_in a_in.over)
+        ∙ S.mul_assoc (constant_poly k c) (value k a) (value k b));
   }
 
   -- ---- classes and vectors
@@ -252,7 +270,9 @@ module _ (k : CodeField) (g : List ℕ) (h : IsModulus k.ops g) where
       over = IsOver_append (IsOver_codes_of k r) (IsOver_zeros k (n - length (codes_of k r)));
     };
     value_is =
-        congruent_trans S (value k g) _ r u (congruent_same S (value k g) _ _ (value_padded k (codes_of k r) (n - length (codes_of k r)) ∙ value_codes_of k r))
+        congruent_trans S (value k g) _ r u
+        (congruent_same S (value k g) _ _ (value_padded k (codes_of k r) (n - length (codes_of k r))
+        ∙ value_codes_of k r))
         (rest_congruent (code_ring k) (code_domain k) (value k g) modulus_monic modulus_deep u);
   }
     where

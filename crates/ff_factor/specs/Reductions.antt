@@ -4,7 +4,7 @@ use Rattle.ring_theory.specs.Members.{In}
 use Rattle.linear_theory.specs.Euclidean.{IsDivisorIn}
 use Rattle.ff_fields.specs.Field.{CodeField}
 use Rattle.ff_fields.specs.Over.{IsOver}
-use Rattle.ff_poly.specs.Words.{IsPoly, IsIrreducibleList}
+use Rattle.ff_poly.specs.Words.{IsPoly}
 use Rattle.ff_poly.specs.Value.{value}
 use Rattle.ff_poly.specs.Polynomials.{Polynomial, polynomials}
 
@@ -30,7 +30,8 @@ module _ (k : CodeField) where
   IsFree p num den = IsDivisorIn (polynomials k).ops (value k p) (value k den) → ¬ DividesAll p num
 
   -- each part of the fractions is the factor times the new one
-  pub record AreReduced (factor : Polynomial k) (num : List (List ℕ)) (den : List ℕ) (num' : List (List ℕ)) (den' : List ℕ) : Type 0 where
+  pub record AreReduced (factor : Polynomial k) (num : List (List ℕ)) (den : List ℕ) (num' : List (List ℕ))
+      (den' : List ℕ) : Type 0 where
     pub num_over : All (IsOver k.ops) num'
     pub den_over : IsOver k.ops den'
     pub den_poly : IsPoly den'
@@ -39,7 +40,8 @@ module _ (k : CodeField) where
     pub den_is : value k den ≡ factor ⊗ value k den'
 
   -- a common factor of all parts is cancelled, and none of these polynomials divides all parts that are left
-  pub record AreLowerAt (ps : List (List ℕ)) (num : List (List ℕ)) (den : List ℕ) (num' : List (List ℕ)) (den' : List ℕ) : Type 0 where
+  pub record AreLowerAt (ps : List (List ℕ)) (num : List (List ℕ)) (den : List ℕ) (num' : List (List ℕ)) (den' : List ℕ)
+      : Type 0 where
     pub factor : Polynomial k
     pub reduced : AreReduced factor num den num' den'
     pub free : (p : List ℕ) → In p ps → IsFree p num' den'

@@ -10,7 +10,8 @@ use ff_fields::field::SmallField;
 use ff_poly::Poly;
 use std::alloc::{AllocError, Global};
 
-/// Whether g is monic of degree 1 or more, and no monic polynomial of a degree from 1 to one below that of g divides it.
+/// Whether g is monic of degree 1 or more, and no monic polynomial of a degree from 1 to one below that of g divides
+/// it.
 /// Cost: that of `is_field` for the polynomials modulo g.
 pub fn is_irreducible<K: SmallField>(alloc: Global, k: &K, g: &Poly) -> Result<bool, AllocError>
     requires { IsOver (K.field k.now).ops g.now }

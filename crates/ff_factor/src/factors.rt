@@ -71,7 +71,8 @@ impl Factors {
     }
 }
 
-/// Divides g by p as often as it goes: how often, and what is left. A multiplicity of 2^32 or more, which only a polynomial of more
+/// Divides g by p as often as it goes: how often, and what is left. A multiplicity of 2^32 or more, which only a
+/// polynomial of more
 /// than 2^32 codes has, is want of memory.
 fn pull_out<K: SmallField>(
     alloc: Global,
@@ -125,9 +126,11 @@ fn split_off<K: SmallField>(
     Ok((parts, rest))
 }
 
-/// The factors of g, which isn't 0: their unit times the product of the powers of their polynomials is g. A multiplicity of 2^32 or
+/// The factors of g, which isn't 0: their unit times the product of the powers of their polynomials is g. A
+/// multiplicity of 2^32 or
 /// more, which only a polynomial of more than 2^32 codes has, is want of memory.
-/// Cost: that of `idempotents` for the polynomials modulo g, for each irreducible factor p the first relation among at most
+/// Cost: that of `idempotents` for the polynomials modulo g, for each irreducible factor p the first relation among at
+/// most
 /// 2·deg p products, and as many divisions as there are factors.
 pub fn factor<K: SmallField>(alloc: Global, k: &K, g: &Poly) -> Result<Factors, AllocError>
     requires over { IsOver (K.field k.now).ops g.now }

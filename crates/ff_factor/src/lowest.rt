@@ -36,7 +36,8 @@ fn divide_all<K: SmallField>(
     requires p_poly { IsPoly p.now }
     requires not_constant { 2 ≤ length p.now }
     ensures { let k = K.field k.now in
-        IfOk result (λ r. MatchOption r (¬ DividesAll k p.now polys.now) (λ qs. AreQuotients k p.now polys.now qs.items)) }
+        IfOk result (λ r. MatchOption r (¬ DividesAll k p.now polys.now)
+        (λ qs. AreQuotients k p.now polys.now qs.items)) }
 {
     let mut quotients = Vec::new(alloc);
     for v in polys {
@@ -65,7 +66,8 @@ fn cancel_once<K: SmallField>(
     requires p_poly { IsPoly p.now }
     requires not_constant { 2 ≤ length p.now }
     ensures { let k = K.field k.now in
-        IfOk result (λ r. MatchOption r (IsFree k p.now num.now den.now) (λ f. AreReduced k (value k p.now) num.now den.now f.0.items f.1)) }
+        IfOk result (λ r. MatchOption r (IsFree k p.now num.now den.now)
+        (λ f. AreReduced k (value k p.now) num.now den.now f.0.items f.1)) }
 {
     let (quotient, rest) = divide(alloc, k, den, p)?;
     if !rest.is_zero() {
@@ -150,9 +152,12 @@ fn make_monic<K: SmallField>(k: &K, num: &mut Vec<Poly>, den: &mut Poly)
     den.multiply_by(k, inverse);
 }
 
-/// Cancels each of the irreducible monic factors from the fractions num over den as often as it divides the denominator and all
-/// numerators, and makes the denominator monic: the same fractions. They are in lowest terms if each irreducible monic divisor of the
-/// denominator is listed; so many fractions over one denominator need its factors once, and those over a product the factors of each
+/// Cancels each of the irreducible monic factors from the fractions num over den as often as it divides the denominator
+/// and all
+/// numerators, and makes the denominator monic: the same fractions. They are in lowest terms if each irreducible monic
+/// divisor of the
+/// denominator is listed; so many fractions over one denominator need its factors once, and those over a product the
+/// factors of each
 /// part. The denominator isn't 0. After want of memory both are as before.
 /// Cost: for each factor one division of each part a turn, with a turn for each time that it is cancelled and one more.
 pub fn cancel<K: SmallField>(
@@ -165,9 +170,11 @@ pub fn cancel<K: SmallField>(
     requires over { let ops = (K.field k.now).ops in All (IsOver ops) num.old.items × IsOver ops den.old }
     requires not_zero { den.old ≢ [] }
     requires factors { AreIrreducible (K.field k.now).ops factors.now }
-    ensures cancelled { OnOk result (AreCancelled (K.field k.now).ops factors.now num.old.items den.old num.new.items den.new) }
+    ensures cancelled { OnOk result (AreCancelled (K.field k.now).ops factors.now num.old.items den.old num.new.items
+        den.new) }
     ensures lowest { let ops = (K.field k.now).ops in
-        OnOk result (HasFactorsOf ops factors.now den.old → IsInLowestTermsOf ops num.old.items den.old num.new.items den.new) }
+        OnOk result (HasFactorsOf ops factors.now den.old
+        → IsInLowestTermsOf ops num.old.items den.old num.new.items den.new) }
     ensures unchanged { OnErr result ((num.new.items ≡ num.old.items) × (den.new ≡ den.old)) }
 {
     let copies = copy_all(alloc, num.as_slice())?;
@@ -179,7 +186,8 @@ pub fn cancel<K: SmallField>(
     Ok(())
 }
 
-/// Brings the fractions num over den into lowest terms: the same fractions, with a monic denominator of least degree. The
+/// Brings the fractions num over den into lowest terms: the same fractions, with a monic denominator of least degree.
+/// The
 /// denominator isn't 0. After want of memory both are as before.
 /// Cost: that of `factor` for the denominator, and that of `cancel` with its irreducible factors.
 pub fn lowest_terms<K: SmallField>(

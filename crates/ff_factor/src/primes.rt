@@ -77,7 +77,8 @@ pub(crate) fn primes_of<K: SmallField>(
     idempotents: &[Vec<u32>],
 ) -> Result<Vec<Poly>, AllocError>
     requires modulus { IsModulus (K.field k.now).ops a.now }
-    requires primitive { All (IsPrimitiveVector (K.field k.now).ops (quotient_algebra a.now)) (elements_of idempotents.now) }
+    requires primitive { All (IsPrimitiveVector (K.field k.now).ops (quotient_algebra a.now))
+        (elements_of idempotents.now) }
     ensures { IfOk result (λ v. ArePrimesOf (K.field k.now).ops a.now (elements_of idempotents.now) v.items) }
 {
     let z = high_power(alloc, k, a.modulus())?;

@@ -12,7 +12,8 @@ use ff_poly::Poly;
 use std::alloc::{AllocError, Global};
 use std::marker::Model;
 
-/// The algebra k[x]/(g) with the basis 1, x, up to x to the power deg g - 1, for a monic g of degree 1 or more. An element
+/// The algebra k[x]/(g) with the basis 1, x, up to x to the power deg g - 1, for a monic g of degree 1 or more. An
+/// element
 /// stands for the polynomial with its codes, lowest first.
 #[derive(Debug, Drop)]
 pub struct PolyQuotient {
@@ -73,7 +74,8 @@ impl<K: SmallField> FiniteAlgebra<K> for PolyQuotient {
         Ok(unit)
     }
 
-    /// The product takes as many steps as a has codes up to the last that isn't 0, each in time of the degree of g, and memory
+    /// The product takes as many steps as a has codes up to the last that isn't 0, each in time of the degree of g, and
+    /// memory
     /// for the answer alone.
     fn mul(&self, alloc: Global, k: &K, a: &[u32], b: &[u32]) -> Result<Vec<u32>, AllocError> {
         let mut product = vec![in alloc; 0; b.len()]?;

@@ -34,7 +34,8 @@ module _ (k : CodeField) where
   get_add (x ∷ xs) (y ∷ ys) zero xs_in ys_in = refl
   get_add (x ∷ xs) (y ∷ ys) (suc j) xs_in ys_in = get_add xs ys j (IsOver_tail xs_in) (IsOver_tail ys_in)
 
-  get_scale : (c : ℕ) (xs : List ℕ) (j : ℕ) → c < k.size → get_or (scale_list (raw_ring k.ops) c xs) j 0 ≡ k.mul c (get_or xs j 0)
+  get_scale : (c : ℕ) (xs : List ℕ) (j : ℕ) → c < k.size
+      → get_or (scale_list (raw_ring k.ops) c xs) j 0 ≡ k.mul c (get_or xs j 0)
   get_scale c [] j c_in = sym (code_mul_zero k c c_in)
   get_scale c (x ∷ xs) zero c_in = refl
   get_scale c (x ∷ xs) (suc j) c_in = get_scale c xs j c_in
@@ -44,7 +45,8 @@ module _ (k : CodeField) where
   coeff_raw (x ∷ xs) zero = refl
   coeff_raw (x ∷ xs) (suc j) = coeff_raw xs j
 
-  row_raw : (rows : List (List ℕ)) (i j : ℕ) → row (raw_ring k.ops) (rows_of (raw_ring k.ops) rows) i j ≡ get_or (get_or rows i []) j 0
+  row_raw : (rows : List (List ℕ)) (i j : ℕ)
+      → row (raw_ring k.ops) (rows_of (raw_ring k.ops) rows) i j ≡ get_or (get_or rows i []) j 0
   row_raw [] i j = refl
   row_raw (r ∷ rows) zero j = coeff_raw r j
   row_raw (r ∷ rows) (suc i) j = row_raw rows i j
@@ -57,7 +59,8 @@ module _ (k : CodeField) (A : AlgebraOps) (law : IsAlgebra k A) where
   S = Image (scalar k A law)
 
   -- a column that is 0 in the generators is 0 in the span
-  span_column : (bs : List (Vector k A.size)) (j : ℕ) → All (λ b. get_or b.0 j 0 ≡ 0) bs → (x : Vector k A.size) → Span R.ops S bs x
+  span_column : (bs : List (Vector k A.size)) (j : ℕ) → All (λ b. get_or b.0 j 0 ≡ 0) bs → (x : Vector k A.size)
+      → Span R.ops S bs x
       → get_or x.0 j 0 ≡ 0
   span_column [] j all x h = ap (λ y. get_or y.0 j 0) h ∙ zeros A.size j
     where
@@ -71,7 +74,8 @@ module _ (k : CodeField) (A : AlgebraOps) (law : IsAlgebra k A) where
       ∙ ap (λ y. get_or (add_lists (raw_ring k.ops) y h.rest.0) j 0) (scalar_times k A law c b)
       ∙ get_add k _ h.rest.0 j (multiple_in k A.size c.0 b.0 c.1 b.1).over h.rest.1.over
       ∙ ap₂ k.add
-      (get_scale k c.0 b.0 j c.1 ∙ ap (k.mul c.0) (All-head (λ b. get_or b.0 j 0 ≡ 0) b bs all) ∙ code_mul_zero k c.0 c.1)
+      (get_scale k c.0 b.0 j c.1 ∙ ap (k.mul c.0) (All-head (λ b. get_or b.0 j 0 ≡ 0) b bs all)
+      ∙ code_mul_zero k c.0 c.1)
       (span_column bs j (All-tail (λ b. get_or b.0 j 0 ≡ 0) b bs all) h.rest h.rest_in)
       ∙ code_add_zero k 0 (zero_in k)
 
@@ -83,7 +87,8 @@ module _ (k : CodeField) (A : AlgebraOps) (law : IsAlgebra k A) where
   independent (r ∷ rows) all pivot one others (inl s) =
       one_zero _ (one 0 (omega arith))
       (span_column (vectors k A.size rows (All-tail (IsVector k.ops A.size) r rows all)) (pivot 0)
-      (column rows (All-tail (IsVector k.ops A.size) r rows all) (λ l less. others 0 (suc l) (omega arith) (omega arith))) _ s)
+      (column rows (All-tail (IsVector k.ops A.size) r rows all)
+      (λ l less. others 0 (suc l) (omega arith) (omega arith))) _ s)
     where
       one_zero : (x : ℕ) → x ≡ 1 → x ≡ 0 → ⊥
       one_zero x e f = omega arith
@@ -96,13 +101,15 @@ module _ (k : CodeField) (A : AlgebraOps) (law : IsAlgebra k A) where
           All-cons (λ b. get_or b.0 (pivot 0) 0 ≡ 0) _ _ (h 0 (omega arith))
           (column rows (All-tail (IsVector k.ops A.size) r rows all) (λ l less. h (suc l) (omega arith)))
   independent (r ∷ rows) all pivot one others (inr d) =
-      independent rows (All-tail (IsVector k.ops A.size) r rows all) (λ i. pivot (suc i)) (λ i less. one (suc i) (omega arith))
+      independent rows (All-tail (IsVector k.ops A.size) r rows all) (λ i. pivot (suc i))
+      (λ i less. one (suc i) (omega arith))
       (λ i l less less'. others (suc i) (suc l) (omega arith) (omega arith)) d
 
   in_span : (bs : List (Vector k A.size)) (b : Vector k A.size) → In b bs → Span R.ops S bs b
   in_span [] b i = absurd i
   in_span (c ∷ bs) b (inl e) =
-      subst (Span R.ops S (c ∷ bs)) (sym e) (span_head R S (image_subring (code_ring k).ring R (scalar k A law) (scalar_map k A law)) c bs)
+      subst (Span R.ops S (c ∷ bs)) (sym e)
+      (span_head R S (image_subring (code_ring k).ring R (scalar k A law) (scalar_map k A law)) c bs)
   in_span (c ∷ bs) b (inr i) =
       span_tail R S (image_subring (code_ring k).ring R (scalar k A law) (scalar_map k A law)) c bs b (in_span bs b i)
 
@@ -122,7 +129,8 @@ module _ (k : CodeField) (A : AlgebraOps) (law : IsAlgebra k A) where
         (λ i less. sym (row_raw k m.rows i (form.pivot i)) ∙ form.pivot_one i (omega arith))
         (λ i l less less'.
         sym (row_raw k m.rows l (form.pivot i))
-        ∙ form.column_zero i l (omega arith) (let e = length-map m.rows (coeff_of (raw_ring k.ops)) in omega arith) (λ e. omega arith))
+        ∙ form.column_zero i l (omega arith) (let e = length-map m.rows (coeff_of (raw_ring k.ops)) in omega arith)
+        (λ e. omega arith))
 
     pub span_space : (x : Vector k A.size) → Span R.ops S basis_vectors x → space x.0
     span_space x s =
@@ -158,7 +166,8 @@ module _ (k : CodeField) (A : AlgebraOps) (law : IsAlgebra k A) where
     pub rows_none : ((x : Vector k A.size) → space x.0 → x ≡ R.𝟘) → length m.rows ≡ 0
     rows_none z = sym length_basis_vectors ∙ go basis_vectors basis_independent (λ x i. z x (member_space x i))
       where
-        go : (bs : List (Vector k A.size)) → (Dependent R.ops S bs → ⊥) → ((x : Vector k A.size) → In x bs → x ≡ R.𝟘) → length bs ≡ 0
+        go : (bs : List (Vector k A.size)) → (Dependent R.ops S bs → ⊥) → ((x : Vector k A.size) → In x bs → x ≡ R.𝟘)
+            → length bs ≡ 0
         go [] n z = refl
         go (b ∷ bs) n z =
             absurd (n (inl (subst (Span R.ops S bs) (sym (z b (inl refl)))

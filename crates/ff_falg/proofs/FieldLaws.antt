@@ -36,24 +36,29 @@ module _ (k : CodeField) (A : AlgebraOps) (law : IsAlgebra k A) where
 
   -- a field has dimension 1 at least
   pub field_some : IsFieldAlgebra k.ops A → 0 < A.size
-  field_some F = empty_or A.size (0 < A.size) (λ e. absurd (F.one_not_zero (nil_from_length A.unit (law.unit_in.size ∙ e) ∙ sym (ap (λ n. replicate n 0) e)))) (λ l. l)
+  field_some F = empty_or A.size (0 < A.size)
+      (λ e. absurd (F.one_not_zero (nil_from_length A.unit (law.unit_in.size ∙ e) ∙ sym (ap (λ n. replicate n 0) e))))
+      (λ l. l)
 
   -- the elements of which the q-th power is 0
   abbrev pub IsKilled : List ℕ → Type 0
   IsKilled v = power k.ops A v k.size ≡ zero_of A
 
-  pub killed_space : (f m : MatrixValue) → IsFrobenius k.ops A f → IsKernelBasis k.ops f m → IsEchelonBasisMatrix k.ops A.size IsKilled m
+  pub killed_space : (f m : MatrixValue) → IsFrobenius k.ops A f → IsKernelBasis k.ops f m
+      → IsEchelonBasisMatrix k.ops A.size IsKilled m
   killed_space f m h kernel =
       kernel_space k A.size f m IsKilled h.shape kernel
       (λ v v_in e. sym (h.values v v_in) ∙ e) (λ v v_in e. h.values v v_in ∙ e)
 
   module _ (some : 0 < A.size) where
     pub fixed_span : (m : MatrixValue) (h : IsEchelonBasisMatrix k.ops A.size (IsFixedVector k.ops A) m)
-        → FixedSpan R.ops (Image (scalar k A law)) (vector_algebra k A law some).codes (basis_vectors k A law (IsFixedVector k.ops A) m h)
+        → FixedSpan R.ops (Image (scalar k A law)) (vector_algebra k A law some).codes
+        (basis_vectors k A law (IsFixedVector k.ops A) m h)
     fixed_span m h = record {
       fixed = λ b i.
           ap (pow R.ops b) (length_scalars k A law some)
-          ∙ same_vector k A.size _ _ (power_value k A law b k.size ∙ (member_space k A law (IsFixedVector k.ops A) m h b i).is);
+          ∙ same_vector k A.size _ _ (power_value k A law b k.size
+          ∙ (member_space k A law (IsFixedVector k.ops A) m h b i).is);
       spans = λ b e.
           space_span k A law (IsFixedVector k.ops A) m h b (record {
             is =
@@ -62,15 +67,18 @@ module _ (k : CodeField) (A : AlgebraOps) (law : IsAlgebra k A) where
           });
     }
 
-    above : (killed fixed : MatrixValue) → IsEchelonBasisMatrix k.ops A.size IsKilled killed → IsEchelonBasisMatrix k.ops A.size (IsFixedVector k.ops A) fixed
+    above : (killed fixed : MatrixValue) → IsEchelonBasisMatrix k.ops A.size IsKilled killed
+        → IsEchelonBasisMatrix k.ops A.size (IsFixedVector k.ops A) fixed
         → ((length killed.rows ≡ 0) × (length fixed.rows ≡ 1)) ↔ IsFieldAlgebra k.ops A
     above killed fixed h f =
         let test = field_by_number R (Image (scalar k A law)) (vector_algebra k A law some)
-        (basis_vectors k A law (IsFixedVector k.ops A) fixed f) (fixed_span fixed f) (basis_independent k A law (IsFixedVector k.ops A) fixed f) in
+        (basis_vectors k A law (IsFixedVector k.ops A) fixed f) (fixed_span fixed f)
+        (basis_independent k A law (IsFixedVector k.ops A) fixed f) in
         let number = length_basis_vectors k A law (IsFixedVector k.ops A) fixed f in (
           (λ t. field_value (test.1 (
             (λ a e. no_rows k A law IsKilled killed h t.0 a
-                (sym (power_value k A law a k.size) ∙ ap (λ y. y.0) (ap (pow R.ops a) (sym (length_scalars k A law some)) ∙ e))),
+                (sym (power_value k A law a k.size)
+                ∙ ap (λ y. y.0) (ap (pow R.ops a) (sym (length_scalars k A law some)) ∙ e))),
             number ∙ t.1,
           ))),
           (λ F.
@@ -83,15 +91,18 @@ module _ (k : CodeField) (A : AlgebraOps) (law : IsAlgebra k A) where
         )
 
   -- in a field no element but 0 has the q-th power 0
-  pub field_kernel : (killed : MatrixValue) → IsEchelonBasisMatrix k.ops A.size IsKilled killed → IsFieldAlgebra k.ops A → length killed.rows ≡ 0
+  pub field_kernel : (killed : MatrixValue) → IsEchelonBasisMatrix k.ops A.size IsKilled killed → IsFieldAlgebra k.ops A
+      → length killed.rows ≡ 0
   field_kernel killed h F =
       let some = field_some F in
       let t = test_of_field R (Image (scalar k A law)) (vector_algebra k A law some) (value_field F) in
       rows_none k A law IsKilled killed h (λ x e.
-      t.0 x (ap (pow R.ops x) (length_scalars k A law some) ∙ same_vector k A.size _ _ (power_value k A law x k.size ∙ e)))
+      t.0 x (ap (pow R.ops x) (length_scalars k A law some)
+      ∙ same_vector k A.size _ _ (power_value k A law x k.size ∙ e)))
 
   -- the algebra is a field exactly where no element but 0 has the q-th power 0, and the fixed ones have dimension 1
-  pub field_test : (killed fixed : MatrixValue) → IsEchelonBasisMatrix k.ops A.size IsKilled killed → IsEchelonBasisMatrix k.ops A.size (IsFixedVector k.ops A) fixed
+  pub field_test : (killed fixed : MatrixValue) → IsEchelonBasisMatrix k.ops A.size IsKilled killed
+      → IsEchelonBasisMatrix k.ops A.size (IsFixedVector k.ops A) fixed
       → ((length killed.rows ≡ 0) × (length fixed.rows ≡ 1)) ↔ IsFieldAlgebra k.ops A
   field_test killed fixed h f =
       empty_or A.size (((length killed.rows ≡ 0) × (length fixed.rows ≡ 1)) ↔ IsFieldAlgebra k.ops A)

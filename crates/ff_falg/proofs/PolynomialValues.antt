@@ -33,7 +33,8 @@ module _ {E : Type 0} (R : CommRing E) where
       step c (value R.ops cs top a) _ (value_combination cs top a (a ⊗ e))
     where
       step : (c v s : E) → v ⊗ (a ⊗ e) ≡ s → (c ⊕ a ⊗ v) ⊗ e ≡ c ⊗ e ⊕ s
-      step c v s f = from_one R R.𝟙 f (ring R (c ∷ v ∷ s ∷ a ∷ e ∷ []) λ q h. simp (reads, q, h 0, h 1, h 2, h 3, h 4) (q.equal _ _ refl))
+      step c v s f = from_one R R.𝟙 f (ring R (c ∷ v ∷ s ∷ a ∷ e ∷ []) λ q h. simp (reads, q, h 0, h 1, h 2, h 3, h 4)
+          (q.equal _ _ refl))
 
 module _ (k : CodeField) where
   -- the value of a list of codes is that of the numbers
@@ -43,29 +44,35 @@ module _ (k : CodeField) where
   value_read (d ∷ lower) c over =
       ap₂ k.add (read_code_below k d (IsOver_head over)) (ap (k.mul c.0) (value_read lower c (IsOver_tail over)))
 
-  pub value_numbers : (cs : List (Code k)) (c : Code k) → (value (code_ring k).ops cs (code_ring k).𝟙 c).0 ≡ monic_value k.ops (numbers k cs) c.0
+  pub value_numbers : (cs : List (Code k)) (c : Code k)
+      → (value (code_ring k).ops cs (code_ring k).𝟙 c).0 ≡ monic_value k.ops (numbers k cs) c.0
   value_numbers [] c = refl
   value_numbers (d ∷ cs) c = ap (λ v. k.add d.0 (k.mul c.0 v)) (value_numbers cs c)
 
   -- the quotient by t - c
   pub suffix_read : (d : ℕ) (lower : List ℕ) (c : Code k) → IsOver k.ops lower
-      → numbers k (suffix_values (code_ring k).ops (read k lower) (code_ring k).𝟙 c) ++ 1 ∷ [] ≡ quotient_of k.ops (d ∷ lower) c.0
+      → numbers k (suffix_values (code_ring k).ops (read k lower) (code_ring k).𝟙 c) ++ 1 ∷ []
+      ≡ quotient_of k.ops (d ∷ lower) c.0
   suffix_read d [] c over = refl
   suffix_read d (b ∷ lower) c over = ap₂ ◌∷◌ (value_read (b ∷ lower) c over) (suffix_read b lower c (IsOver_tail over))
 
-  length_suffixes : (cs : List (Code k)) (c : Code k) → length (suffix_values (code_ring k).ops cs (code_ring k).𝟙 c) ≡ length cs
+  length_suffixes : (cs : List (Code k)) (c : Code k)
+      → length (suffix_values (code_ring k).ops cs (code_ring k).𝟙 c) ≡ length cs
   length_suffixes [] c = refl
   length_suffixes (d ∷ cs) c = ap suc (length_suffixes cs c)
 
   pub weight_read : (d : ℕ) (lower : List ℕ) (c : Code k) → IsOver k.ops lower
-      → (value (code_ring k).ops (suffix_values (code_ring k).ops (read k lower) (code_ring k).𝟙 c) (code_ring k).𝟙 c).0 ≡ weight_of k.ops (d ∷ lower) c.0
+      → (value (code_ring k).ops (suffix_values (code_ring k).ops (read k lower) (code_ring k).𝟙 c) (code_ring k).𝟙 c).0
+      ≡ weight_of k.ops (d ∷ lower) c.0
   weight_read d lower c over =
       value_numbers (suffix_values (code_ring k).ops (read k lower) (code_ring k).𝟙 c) c
       ∙ ap (λ xs. monic_value k.ops xs c.0)
       (sym (ap (take (length (d ∷ lower) - 1)) (sym (suffix_read d lower c over))
-      ∙ take_at (numbers k (suffix_values (code_ring k).ops (read k lower) (code_ring k).𝟙 c)) (1 ∷ []) (length (d ∷ lower) - 1) size))
+      ∙ take_at (numbers k (suffix_values (code_ring k).ops (read k lower) (code_ring k).𝟙 c)) (1 ∷ [])
+      (length (d ∷ lower) - 1) size))
     where
-      size : length (numbers k (suffix_values (code_ring k).ops (read k lower) (code_ring k).𝟙 c)) ≡ length (d ∷ lower) - 1
+      size : length (numbers k (suffix_values (code_ring k).ops (read k lower) (code_ring k).𝟙 c))
+          ≡ length (d ∷ lower) - 1
       size =
           length-map (suffix_values (code_ring k).ops (read k lower) (code_ring k).𝟙 c) (λ y. y.0)
           ∙ length_suffixes (read k lower) c ∙ length-map lower (read_code k)
@@ -73,7 +80,8 @@ module _ (k : CodeField) where
 
   pub read_in : (c : Code k) (xs : List ℕ) → IsOver k.ops xs → In c.0 xs → In c (read k xs)
   read_in c [] over i = absurd i
-  read_in c (x ∷ xs) over (inl e) = inl (same_code k c (read_code k x) (e ∙ sym (read_code_below k x (IsOver_head over))))
+  read_in c (x ∷ xs) over (inl e) = inl (same_code k c (read_code k x)
+      (e ∙ sym (read_code_below k x (IsOver_head over))))
   read_in c (x ∷ xs) over (inr i) = inr (read_in c xs (IsOver_tail over) i)
 
   pub of_read : (c : Code k) (xs : List ℕ) → IsOver k.ops xs → In c (read k xs) → In c.0 xs
@@ -84,7 +92,8 @@ module _ (k : CodeField) where
   pub read_distinct : (xs : List ℕ) → IsOver k.ops xs → IsDistinct xs → IsDistinct (read k xs)
   read_distinct [] over distinct = tt
   read_distinct (x ∷ xs) over distinct = (
-    (λ i. distinct.0 (subst (λ n. In n xs) (read_code_below k x (IsOver_head over)) (of_read (read_code k x) xs (IsOver_tail over) i))),
+    (λ i. distinct.0 (subst (λ n. In n xs) (read_code_below k x (IsOver_head over))
+        (of_read (read_code k x) xs (IsOver_tail over) i))),
     read_distinct xs (IsOver_tail over) distinct.1,
   )
 
@@ -101,7 +110,8 @@ module _ (k : CodeField) (A : AlgebraOps) (law : IsAlgebra k A) where
 
   pub scalar_injective : 0 < A.size → (a b : Code k) → ι a ≡ ι b → a ≡ b
   scalar_injective some =
-      map_injective (code_ring k).ring R ι (scalar_map k A law) (code_finite k) (vector_discrete k A.size) (one_not_zero k A law some)
+      map_injective (code_ring k).ring R ι (scalar_map k A law) (code_finite k) (vector_discrete k A.size)
+      (one_not_zero k A law some)
       (basis k A law) (basis_spans k A law)
 
   pub value_scalar : (cs : List (Code k)) (c : Code k)
@@ -133,7 +143,8 @@ module _ (k : CodeField) (A : AlgebraOps) (law : IsAlgebra k A) where
       value_scalar (read k lower) c ∙ ap ι (same_code k _ (code_ring k).𝟘 (value_read k lower c over ∙ z))
       ∙ hom_zero (code_ring k).ring R ι (scalar_map k A law)
 
-  pub scalar_root : 0 < A.size → (lower : List ℕ) (c : Code k) → IsOver k.ops lower → value R.ops (map ι (read k lower)) R.𝟙 (ι c) ≡ R.𝟘
+  pub scalar_root : 0 < A.size → (lower : List ℕ) (c : Code k) → IsOver k.ops lower
+      → value R.ops (map ι (read k lower)) R.𝟙 (ι c) ≡ R.𝟘
       → monic_value k.ops lower c.0 ≡ 0
   scalar_root some lower c over z =
       sym (value_read k lower c over)

@@ -23,7 +23,8 @@ module _ (k : CodeField) (A : AlgebraOps) (law : IsAlgebra k A) (x : List ℕ) (
       sym (law.associative x (power k.ops A x (l - 1)) e x_in (power_in k A law x (l - 1) x_in) e_in)
       ∙ ap (at e) (let h : suc (l - 1) ≡ l = omega arith in h)
 
-  pub powers_first : (e : List ℕ) (m : MatrixValue) → IsVector k.ops A.size e → 0 < length m.rows → IsPowers k.ops A x e m → row_of m 0 ≡ e
+  pub powers_first : (e : List ℕ) (m : MatrixValue) → IsVector k.ops A.size e → 0 < length m.rows
+      → IsPowers k.ops A x e m → row_of m 0 ≡ e
   powers_first e m e_in some h = h.written.rows 0 some ∙ law.unit_times e e_in
 
   pub single_powers : (e : List ℕ) (m : MatrixValue) → IsVector k.ops A.size e → IsFirstRow e m → IsPowers k.ops A x e m
@@ -44,21 +45,29 @@ module _ (k : CodeField) (A : AlgebraOps) (law : IsAlgebra k A) (x : List ℕ) (
       first zero less = sym (law.unit_times e e_in)
       first (suc l) less = absurd (omega arith)
 
-  pub written_start : (e : List ℕ) (count : ℕ) (m : MatrixValue) → m ≡ zero_matrix count A.size → AreWritten k.ops A x e count 0 m
+  pub written_start : (e : List ℕ) (count : ℕ) (m : MatrixValue) → m ≡ zero_matrix count A.size
+      → AreWritten k.ops A x e count 0 m
   written_start e count m is =
       subst (AreWritten k.ops A x e count 0) (sym is)
       (record { size = (zero_holds k (at e) count A.size).shape.row_count; written = zero_holds k (at e) count A.size })
 
-  pub written_step : (e : List ℕ) (count l : ℕ) (m new : MatrixValue) (row : List ℕ) → IsVector k.ops A.size e → l < count
-      → row ≡ at e l → new ≡ with_row m l row → AreWritten k.ops A x e count l m → AreWritten k.ops A x e count (l + 1) new
+  pub written_step : (e : List ℕ) (count l : ℕ) (m new : MatrixValue) (row : List ℕ) → IsVector k.ops A.size e
+      → l < count
+      → row ≡ at e l → new ≡ with_row m l row → AreWritten k.ops A x e count l m
+      → AreWritten k.ops A x e count (l + 1) new
   written_step e count l m new row e_in less row_is new_is before =
       let h = holds_step k (at e) count A.size l m new row less (at_in e l e_in) row_is new_is before.written in
       record { size = h.shape.row_count; written = h }
 
-  pub written_below : (e : List ℕ) (count l : ℕ) (m : MatrixValue) → AreWritten k.ops A x e count l m → IsPowersBelow k.ops A x e l m
-  written_below e count l m h = record { written = subst (λ n. HasRowsBelow k.ops (at e) n A.size l m) (sym h.size) h.written }
+  pub written_below : (e : List ℕ) (count l : ℕ) (m : MatrixValue) → AreWritten k.ops A x e count l m
+      → IsPowersBelow k.ops A x e l m
+  written_below e count l m h = record {
+    written = subst (λ n. HasRowsBelow k.ops (at e) n A.size l m) (sym h.size)
+        h.written;
+  }
 
-  pub written_all : (e : List ℕ) (count l : ℕ) (m : MatrixValue) → count ≤ l → AreWritten k.ops A x e count l m → IsPowers k.ops A x e m
+  pub written_all : (e : List ℕ) (count l : ℕ) (m : MatrixValue) → count ≤ l → AreWritten k.ops A x e count l m
+      → IsPowers k.ops A x e m
   written_all e count l m le h = record {
     written = record {
       shape = subst (λ n. HasShape m n A.size) (sym h.size) h.written.shape;

@@ -35,9 +35,11 @@ module _ {E : Type 0} (R : CommRing E) where
   open R use {𝟘, 𝟙, ◌⊕◌, ◌⊗◌}
 
   -- an element that each member absorbs is absorbed by the sum
-  absorbed : (s : E) (xs : List E) → ((e : E) → In e xs → e ⊗ s ≡ e) → sum_over R.ops xs (λ e. e) ⊗ s ≡ sum_over R.ops xs (λ e. e)
+  absorbed : (s : E) (xs : List E) → ((e : E) → In e xs → e ⊗ s ≡ e)
+      → sum_over R.ops xs (λ e. e) ⊗ s ≡ sum_over R.ops xs (λ e. e)
   absorbed s [] h = zero_mul R s
-  absorbed s (e ∷ xs) h = add_mul R e (sum_over R.ops xs (λ e. e)) s ∙ ap₂ ◌⊕◌ (h e (inl refl)) (absorbed s xs (λ y i. h y (inr i)))
+  absorbed s (e ∷ xs) h = add_mul R e (sum_over R.ops xs (λ e. e)) s
+      ∙ ap₂ ◌⊕◌ (h e (inl refl)) (absorbed s xs (λ y i. h y (inr i)))
 
   pub orthogonal_of : (xs : List E) → IsDistinct xs → ((e : E) → In e xs → (e ⊗ e ≡ e) × (¬ (e ≡ 𝟘)))
       → ((e f : E) → In e xs → In f xs → (e ≡ f) ⊎ (e ⊗ f ≡ 𝟘)) → Orthogonal R.ops xs
@@ -89,7 +91,8 @@ module _ {E : Type 0} (R : CommRing E) where
     kept_part value [] = refl
     kept_part value (x ∷ xs) = go (kept_part value xs) (decide (f ⊗ x) 𝟘)
       where
-        go : IsSublist (map value (kept xs)) (map value xs) → (t : Dec (f ⊗ x ≡ 𝟘)) → IsSublist (map value (pick t x (kept xs))) (map value (x ∷ xs))
+        go : IsSublist (map value (kept xs)) (map value xs) → (t : Dec (f ⊗ x ≡ 𝟘))
+            → IsSublist (map value (pick t x (kept xs))) (map value (x ∷ xs))
         go ih (yes z) = inl ih
         go ih (no n) = inr (map value (kept xs), refl, ih)
 
@@ -124,9 +127,11 @@ module _ (k : CodeField) (A : AlgebraOps) (law : IsAlgebra k A) where
   }
 
   pub in_lists : (x : V) (xs : List V) → In x.0 (lists k A law xs) → In x xs
-  in_lists x xs i = let r = of_map (λ y. y.0) xs x.0 i in subst (λ y. In y xs) (sym (same_vector k A.size x r.0 r.2)) r.1
+  in_lists x xs i = let r = of_map (λ y. y.0) xs x.0 i in subst (λ y. In y xs) (sym (same_vector k A.size x r.0 r.2))
+      r.1
 
-  module _ (basis : MatrixValue) (h : IsEchelonBasisMatrix k.ops A.size (IsFixedVector k.ops A) basis) (some : 0 < A.size)
+  module _ (basis : MatrixValue) (h : IsEchelonBasisMatrix k.ops A.size (IsFixedVector k.ops A) basis)
+      (some : 0 < A.size)
       (es : List (List ℕ)) (s : IsFullSplitting k.ops A basis es) where
     abbrev 𝓐 : FiniteAlgebra R.ops S
     𝓐 = vector_algebra k A law some
@@ -162,10 +167,12 @@ module _ (k : CodeField) (A : AlgebraOps) (law : IsAlgebra k A) where
 
     module _ (ts : List (List ℕ)) (r : IsReordered es ts) where
       in_vs : (t : List ℕ) → In t ts → (v : V) × In v vs × (t ≡ v.0)
-      in_vs t i = of_map (λ y. y.0) vs t (subst (In t) (sym (lists_vectors k A law es s.splitting.orthogonal)) (r.back t i))
+      in_vs t i = of_map (λ y. y.0) vs t
+          (subst (In t) (sym (lists_vectors k A law es s.splitting.orthogonal)) (r.back t i))
 
       all : All (IsVector k.ops A.size) ts
-      all = all_of_in (IsVector k.ops A.size) ts (λ t i. let v = in_vs t i in subst (IsVector k.ops A.size) (sym v.2) v.0.1)
+      all = all_of_in (IsVector k.ops A.size) ts
+          (λ t i. let v = in_vs t i in subst (IsVector k.ops A.size) (sym v.2) v.0.1)
 
       abbrev us : List V
       us = vectors k A.size ts all
@@ -213,7 +220,8 @@ module _ (k : CodeField) (A : AlgebraOps) (law : IsAlgebra k A) where
       primitive : (f : V) → IsPrimitive R.ops f ↔ In f us
       primitive = primitive_idempotents R S 𝓐 [] us splitting complete_us
 
-      idempotents : (f : List ℕ) → IsIdempotentVector k.ops A f → (fs : List (List ℕ)) × IsSublist fs ts × (f ≡ sum_of k.ops A fs)
+      idempotents : (f : List ℕ) → IsIdempotentVector k.ops A f
+          → (fs : List (List ℕ)) × IsSublist fs ts × (f ≡ sum_of k.ops A fs)
       idempotents f i =
           let v : V = (f, i.vector) in
           let square : R.◌⊗◌ v v ≡ v = same_vector k A.size _ _ i.square in
@@ -221,7 +229,8 @@ module _ (k : CodeField) (A : AlgebraOps) (law : IsAlgebra k A) where
             lists k A law ks,
             subst (IsSublist (lists k A law ks)) lists_us (kept_part R 𝓐.decide v square (λ y. y.0) us),
             sym (sym (sum_value k A law ks)
-                ∙ ap (λ y. y.0) (kept_sum R 𝓐.decide v square us (λ e j. (primitive e).1 j) ∙ ap (R.◌⊗◌ v) sum ∙ R.mul_one v)),
+                ∙ ap (λ y. y.0) (kept_sum R 𝓐.decide v square us (λ e j. (primitive e).1 j) ∙ ap (R.◌⊗◌ v) sum
+                ∙ R.mul_one v)),
           )
 
       -- the reordered list is that of the primitive idempotents
@@ -231,7 +240,8 @@ module _ (k : CodeField) (A : AlgebraOps) (law : IsAlgebra k A) where
           (λ i.
               let v = in_vs e i in
               subst (IsPrimitiveVector k.ops A) (sym v.2) (primitive_value v.0 ((primitive v.0).1 (vs_us v.0 v.1)))),
-          (λ p. subst (In e) lists_us (in_map (λ y. y.0) us (e, p.idempotent.vector) ((primitive (e, p.idempotent.vector)).0 (value_primitive e p)))),
+          (λ p. subst (In e) lists_us (in_map (λ y. y.0) us (e, p.idempotent.vector)
+              ((primitive (e, p.idempotent.vector)).0 (value_primitive e p)))),
         );
         ascending = ascending;
         product = λ e f i j ne.
@@ -247,7 +257,8 @@ module _ (k : CodeField) (A : AlgebraOps) (law : IsAlgebra k A) where
       }
 
   -- in dimension 0 there is none
-  pub none_list : (basis : MatrixValue) → IsEchelonBasisMatrix k.ops A.size (IsFixedVector k.ops A) basis → length basis.rows ≡ 0 → IsPrimitiveList k.ops A []
+  pub none_list : (basis : MatrixValue) → IsEchelonBasisMatrix k.ops A.size (IsFixedVector k.ops A) basis
+      → length basis.rows ≡ 0 → IsPrimitiveList k.ops A []
   none_list basis h none = record {
     members = λ e. ((λ i. absurd i), (λ p. p.nonzero (empty e p.idempotent.vector)));
     ascending = record { next = λ i less. absurd (omega arith) };

@@ -48,7 +48,8 @@ ascending_distinct (e ∷ es) a = (
         → (x : List ℕ) → In x es → IsBeforeVector e x
     above e [] h x i = absurd i
     above e (y ∷ es) h x (inl s) = subst (IsBeforeVector e) (sym s) (h 0 (omega arith))
-    above e (y ∷ es) h x (inr i) = before_before e y x (h 0 (omega arith)) (above y es (λ j less. h (suc j) (omega arith)) x i)
+    above e (y ∷ es) h x (inr i) = before_before e y x (h 0 (omega arith))
+        (above y es (λ j less. h (suc j) (omega arith)) x i)
 
 module _ (k : CodeField) (A : AlgebraOps) (law : IsAlgebra k A) (some : 0 < A.size) where
   abbrev V : Type 0
@@ -64,9 +65,11 @@ module _ (k : CodeField) (A : AlgebraOps) (law : IsAlgebra k A) (some : 0 < A.si
   𝓐 = vector_algebra k A law some
 
   -- at a primitive idempotent each fixed element is a scalar
-  pub primitive_scalar : (e : V) → IsPrimitiveVector R.ops e → (b : V) → IsFixed R.ops (length 𝓐.codes) b → ScalarAt R.ops S b e
+  pub primitive_scalar : (e : V) → IsPrimitiveVector R.ops e → (b : V) → IsFixed R.ops (length 𝓐.codes) b
+      → ScalarAt R.ops S b e
   primitive_scalar e p b fixed =
-      let m = minimal_exists R S 𝓐 (fixed_among R S 𝓐 (elements R S 𝓐 𝓐.basis)) (fixed_span R S 𝓐) b e fixed p.idempotent in
+      let m = minimal_exists R S 𝓐 (fixed_among R S 𝓐 (elements R S 𝓐 𝓐.basis)) (fixed_span R S 𝓐) b e fixed
+      p.idempotent in
       let s = split_of_minimal R S 𝓐 b e fixed p.idempotent p.nonzero m.0 m.2 m.3 in
       go s.0 s.1
     where
@@ -101,7 +104,8 @@ module _ (k : CodeField) (A : AlgebraOps) (law : IsAlgebra k A) (some : 0 < A.si
     pub primitives_splitting : Splitting R.ops S [] primitives
     primitives_splitting = record {
       orthogonal =
-          orthogonal_of R primitives (distinct primitives (subst IsDistinct (sym lists_primitives) (ascending_distinct ts h.ascending)))
+          orthogonal_of R primitives (distinct primitives
+          (subst IsDistinct (sym lists_primitives) (ascending_distinct ts h.ascending)))
           (λ e i. let p = member_primitive e i in (p.idempotent, p.nonzero))
           (λ e f i j. apart e f i j (vector_discrete k A.size e f));
       sum = same_vector k A.size _ _ (sum_value k A law primitives ∙ ap (sum_of k.ops A) lists_primitives ∙ h.sum);
@@ -115,7 +119,8 @@ module _ (k : CodeField) (A : AlgebraOps) (law : IsAlgebra k A) (some : 0 < A.si
         apart : (e f : V) → In e primitives → In f primitives → Dec (e ≡ f) → (e ≡ f) ⊎ (R.◌⊗◌ e f ≡ R.𝟘)
         apart e f i j (yes s) = inl s
         apart e f i j (no n) =
-            inr (same_vector k A.size _ _ (h.product e.0 f.0 (member_in e i) (member_in f j) (λ s. n (same_vector k A.size e f s))))
+            inr (same_vector k A.size _ _
+            (h.product e.0 f.0 (member_in e i) (member_in f j) (λ s. n (same_vector k A.size e f s))))
 
     pub primitives_complete : IsComplete R S 𝓐 primitives
     primitives_complete b fixed e i = primitive_scalar e (member_primitive e i) b fixed

@@ -25,11 +25,13 @@ use Rattle.ff_falg.proofs.Vectors.{Vector, vector_ring, same_vector, power_value
 use Rattle.ff_falg.proofs.VectorAlgebra.{vectors, scalar, length_scalars, one_not_zero}
 
 -- a row is among the vectors of the rows
-pub in_vectors : (k : CodeField) (n : ℕ) (rows : List (List ℕ)) (all : All (IsVector k.ops n) rows) (l : ℕ) (v_in : IsVector k.ops n (get_or rows l []))
+pub in_vectors : (k : CodeField) (n : ℕ) (rows : List (List ℕ)) (all : All (IsVector k.ops n) rows) (l : ℕ)
+    (v_in : IsVector k.ops n (get_or rows l []))
     → l < length rows → In (get_or rows l [], v_in) (vectors k n rows all)
 in_vectors k n [] all l v_in less = absurd (omega arith)
 in_vectors k n (r ∷ rows) all zero v_in less = inl (same_vector k n _ _ refl)
-in_vectors k n (r ∷ rows) all (suc l) v_in less = inr (in_vectors k n rows (All-tail (IsVector k.ops n) r rows all) l v_in (omega arith))
+in_vectors k n (r ∷ rows) all (suc l) v_in less = inr
+    (in_vectors k n rows (All-tail (IsVector k.ops n) r rows all) l v_in (omega arith))
 
 -- and a vector of the rows is a row
 pub of_vectors : (k : CodeField) (n : ℕ) (rows : List (List ℕ)) (all : All (IsVector k.ops n) rows) (x : Vector k n)
@@ -37,7 +39,8 @@ pub of_vectors : (k : CodeField) (n : ℕ) (rows : List (List ℕ)) (all : All (
 of_vectors k n [] all x i = absurd i
 of_vectors k n (r ∷ rows) all x (inl e) = (0, omega arith, ap (λ y. y.0) e)
 of_vectors k n (r ∷ rows) all x (inr i) =
-    let s = of_vectors k n rows (All-tail (IsVector k.ops n) r rows all) x i in (suc s.0, let l : s.0 < length rows = s.1 in omega arith, s.2)
+    let s = of_vectors k n rows (All-tail (IsVector k.ops n) r rows all) x i in
+    (suc s.0, let l : s.0 < length rows = s.1 in omega arith, s.2)
 
 module _ (k : CodeField) (A : AlgebraOps) (law : IsAlgebra k A) where
   abbrev R : CommRing (Vector k A.size)
@@ -49,7 +52,8 @@ module _ (k : CodeField) (A : AlgebraOps) (law : IsAlgebra k A) where
   orthogonal_at (e ∷ es) zero less o = (o.0, o.1)
   orthogonal_at (e ∷ es) (suc i) less o = orthogonal_at es i (omega arith) o.3
 
-  pub member_at : (parts : List (Vec ℕ)) (i : ℕ) (e : Vec ℕ) → e ≡ get_or parts i e → i < length parts → IsOrthogonal k.ops A (elements_of parts)
+  pub member_at : (parts : List (Vec ℕ)) (i : ℕ) (e : Vec ℕ) → e ≡ get_or parts i e → i < length parts
+      → IsOrthogonal k.ops A (elements_of parts)
       → IsIdempotentVector k.ops A e.items × (e.items ≢ zero_of A)
   member_at parts i e e_is less o =
       subst (λ y. IsIdempotentVector k.ops A y × (y ≢ zero_of A))
@@ -68,7 +72,8 @@ module _ (k : CodeField) (A : AlgebraOps) (law : IsAlgebra k A) where
     pub basis_fixed : (l : ℕ) → l < length basis.rows → IsFixedVector k.ops A (row_of basis l)
     basis_fixed l less =
         member_space k A law (IsFixedVector k.ops A) basis h (row_of basis l, basis_row l less)
-        (in_vectors k A.size basis.rows (rows_in k basis (length basis.rows) A.size h.shape h.over) l (basis_row l less) less)
+        (in_vectors k A.size basis.rows (rows_in k basis (length basis.rows) A.size h.shape h.over) l (basis_row l less)
+        less)
 
     pub basis_some : 0 < length basis.rows → 0 < A.size
     basis_some some =
@@ -87,7 +92,8 @@ module _ (k : CodeField) (A : AlgebraOps) (law : IsAlgebra k A) where
         record {
           bounded = λ m p independent.
               subst (λ n. length m.rows ≤ n) (length_basis_vectors k A law (IsFixedVector k.ops A) basis h)
-              (powers_bounded k A law (row_of basis l) e x_in idem.vector m p some (basis_vectors k A law (IsFixedVector k.ops A) basis h)
+              (powers_bounded k A law (row_of basis l) e x_in idem.vector m p some
+              (basis_vectors k A law (IsFixedVector k.ops A) basis h)
               (fixed_span k A law some basis h)
               (ap (pow R.ops (row_of basis l, x_in)) (length_scalars k A law some)
               ∙ same_vector k A.size _ _ (power_value k A law (row_of basis l, x_in) k.size ∙ (basis_fixed l less).is))

@@ -17,9 +17,11 @@ negatives k (x ∷ xs) = ap (λ w. k.neg x ∷ w) (negatives k xs)
 -- the rest of a list from the position before
 before : (xs : List ℕ) (j : ℕ) → 0 < j → j ≤ length xs → drop (j - 1) xs ≡ get_or xs (j - 1) 0 ∷ drop j xs
 before xs j some le =
-    drop-cons xs (j - 1) 0 (omega arith) ∙ ap (λ i. get_or xs (j - 1) 0 ∷ drop i xs) (let e : suc (j - 1) ≡ j = omega arith in e)
+    drop-cons xs (j - 1) 0 (omega arith)
+    ∙ ap (λ i. get_or xs (j - 1) 0 ∷ drop i xs) (let e : suc (j - 1) ≡ j = omega arith in e)
 
-pub monic_step : (k : FieldOps) (lower : List ℕ) (c j v w x : ℕ) → 0 < j → j ≤ length lower → v ≡ monic_value k (drop j lower) c
+pub monic_step : (k : FieldOps) (lower : List ℕ) (c j v w x : ℕ) → 0 < j → j ≤ length lower
+    → v ≡ monic_value k (drop j lower) c
     → w ≡ k.mul c v → x ≡ k.add (get_or lower (j - 1) 0) w → x ≡ monic_value k (drop (j - 1) lower) c
 monic_step k lower c j v w x some le v_is w_is x_is =
     x_is ∙ ap (k.add (get_or lower (j - 1) 0)) (w_is ∙ ap (k.mul c) v_is)
@@ -30,7 +32,8 @@ set_here [] i v less = absurd (omega arith)
 set_here (x ∷ xs) zero v less = refl
 set_here (x ∷ xs) (suc i) v less = set_here xs i v (omega arith)
 
-pub quotient_step : (k : FieldOps) (lower quotient : List ℕ) (c j v : ℕ) → 0 < j → j ≤ length lower → length quotient ≡ length lower
+pub quotient_step : (k : FieldOps) (lower quotient : List ℕ) (c j v : ℕ) → 0 < j → j ≤ length lower
+    → length quotient ≡ length lower
     → v ≡ monic_value k (drop j lower) c → drop j quotient ≡ quotient_of k (drop j lower) c
     → drop (j - 1) (set quotient (j - 1) v) ≡ quotient_of k (drop (j - 1) lower) c
 quotient_step k lower quotient c j v some le same v_is rest =
@@ -44,7 +47,8 @@ quotient_step k lower quotient c j v some le same v_is rest =
 distinct_push : (xs : List ℕ) (x : ℕ) → IsDistinct xs → (In x xs → ⊥) → IsDistinct (xs ++ x ∷ [])
 distinct_push [] x distinct out = ((λ i. i), tt)
 distinct_push (y ∷ xs) x distinct out = (
-  (λ i. elim (in_append y xs (x ∷ []) i) [ inl j ↦ distinct.0 j | inr j ↦ elim j [ inl e ↦ out (inl (sym e)) | inr h ↦ h ] ]),
+  (λ i. elim (in_append y xs (x ∷ []) i)
+      [ inl j ↦ distinct.0 j | inr j ↦ elim j [ inl e ↦ out (inl (sym e)) | inr h ↦ h ] ]),
   distinct_push xs x distinct.1 (λ i. out (inr i)),
 )
 
@@ -91,6 +95,8 @@ module _ (k : CodeField) where
   monic_below (d ∷ lower) c over c_in =
       k.laws.add_below d _ (IsOver_head over) (k.laws.mul_below c _ c_in (monic_below lower c (IsOver_tail over) c_in))
 
-  pub quotient_over : (lower : List ℕ) (c : ℕ) → IsOver k.ops lower → c < k.size → IsOver k.ops (quotient_of k.ops lower c)
+  pub quotient_over : (lower : List ℕ) (c : ℕ) → IsOver k.ops lower → c < k.size
+      → IsOver k.ops (quotient_of k.ops lower c)
   quotient_over [] c over c_in = IsOver_nil
-  quotient_over (d ∷ lower) c over c_in = IsOver_cons (monic_below lower c (IsOver_tail over) c_in) (quotient_over lower c (IsOver_tail over) c_in)
+  quotient_over (d ∷ lower) c over c_in = IsOver_cons (monic_below lower c (IsOver_tail over) c_in)
+      (quotient_over lower c (IsOver_tail over) c_in)

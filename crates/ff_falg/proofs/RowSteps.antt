@@ -28,7 +28,8 @@ overwritten_more : (new old : List ℕ) (j : ℕ) → length new ≡ length old 
 overwritten_more [] old j same less = absurd (omega arith)
 overwritten_more (x ∷ new) [] j same less = absurd (omega arith)
 overwritten_more (x ∷ new) (o ∷ old) zero same less = refl
-overwritten_more (x ∷ new) (o ∷ old) (suc j) same less = ap (λ w. x ∷ w) (overwritten_more new old j (omega arith) (omega arith))
+overwritten_more (x ∷ new) (o ∷ old) (suc j) same less = ap (λ w. x ∷ w)
+    (overwritten_more new old j (omega arith) (omega arith))
 
 -- a row of which the first codes are written over
 abbrev pub overwritten : List ℕ → MatrixValue → ℕ → ℕ → MatrixValue
@@ -37,8 +38,10 @@ overwritten new m i j = with_row m i (take j new ++ drop j (row_of m i))
 pub overwritten_start : (new : List ℕ) (m : MatrixValue) (i : ℕ) → m ≡ overwritten new m i 0
 overwritten_start new m i = ap (λ rows. record { cols = m.cols; rows = rows }) (sym (set-get_or m.rows i []))
 
-pub overwritten_step : (new : List ℕ) (m now : MatrixValue) (i j x : ℕ) → i < length m.rows → length new ≡ m.cols → HasShape m (length m.rows) m.cols
-    → j < length new → x ≡ get_or new j 0 → now ≡ overwritten new m i j → with_entry now i j x ≡ overwritten new m i (j + 1)
+pub overwritten_step : (new : List ℕ) (m now : MatrixValue) (i j x : ℕ) → i < length m.rows → length new ≡ m.cols
+    → HasShape m (length m.rows) m.cols
+    → j < length new → x ≡ get_or new j 0 → now ≡ overwritten new m i j
+    → with_entry now i j x ≡ overwritten new m i (j + 1)
 overwritten_step new m now i j x within width shape less x_is now_is =
     rw (now_is, x_is, add-one)
     (ap (λ rows. record { cols = m.cols; rows = rows })
@@ -46,19 +49,23 @@ overwritten_step new m now i j x within width shape less x_is now_is =
     (get_or-set_same m.rows i (take j new ++ drop j (get_or m.rows i [])) [] within)
     ∙ set_set m.rows i _ _
     ∙ ap (set m.rows i)
-    (overwritten_more new (get_or m.rows i []) j (let e : length (get_or m.rows i []) ≡ m.cols = shape.each i [] within in omega arith) less)))
+    (overwritten_more new (get_or m.rows i []) j
+    (let e : length (get_or m.rows i []) ≡ m.cols = shape.each i [] within in omega arith) less)))
 
-pub overwritten_end : (new : List ℕ) (m now : MatrixValue) (i j : ℕ) → i < length m.rows → length new ≡ m.cols → HasShape m (length m.rows) m.cols
+pub overwritten_end : (new : List ℕ) (m now : MatrixValue) (i j : ℕ) → i < length m.rows → length new ≡ m.cols
+    → HasShape m (length m.rows) m.cols
     → length new ≤ j → now ≡ overwritten new m i j → now ≡ with_row m i new
 overwritten_end new m now i j within width shape le now_is =
     now_is
     ∙ ap (with_row m i)
     (ap₂ (λ x y. x ++ y) (take_all j new le)
-    (drop_all j (get_or m.rows i []) (let e : length (get_or m.rows i []) ≡ m.cols = shape.each i [] within in omega arith))
+    (drop_all j (get_or m.rows i []) (let e : length (get_or m.rows i [])
+    ≡ m.cols = shape.each i [] within in omega arith))
     ∙ append-nil new)
 
 -- what becomes of a matrix of which a row is written over
-pub with_row_shape : (m : MatrixValue) (n cols i : ℕ) (row : List ℕ) → HasShape m n cols → length row ≡ cols → HasShape (with_row m i row) n cols
+pub with_row_shape : (m : MatrixValue) (n cols i : ℕ) (row : List ℕ) → HasShape m n cols → length row ≡ cols
+    → HasShape (with_row m i row) n cols
 with_row_shape m n cols i row shape width = record {
   row_count = length-set m.rows i row ∙ shape.row_count;
   col_count = shape.col_count;
@@ -72,16 +79,19 @@ pub with_row_same : (m : MatrixValue) (i : ℕ) (row : List ℕ) → i < length 
 with_row_same m i row within = get_or-set_same m.rows i row [] within
 
 module _ (k : CodeField) where
-  pub with_row_over : (m : MatrixValue) (i : ℕ) (row : List ℕ) → IsMatrixOver k.ops m → IsOver k.ops row → IsMatrixOver k.ops (with_row m i row)
+  pub with_row_over : (m : MatrixValue) (i : ℕ) (row : List ℕ) → IsMatrixOver k.ops m → IsOver k.ops row
+      → IsMatrixOver k.ops (with_row m i row)
   with_row_over m i row over row_in = record { each = All-set (IsOver k.ops) m.rows i row row_in over.each }
 
   -- a row of a matrix is a vector
-  pub row_in : (m : MatrixValue) (n cols i : ℕ) → HasShape m n cols → IsMatrixOver k.ops m → i < n → IsVector k.ops cols (row_of m i)
+  pub row_in : (m : MatrixValue) (n cols i : ℕ) → HasShape m n cols → IsMatrixOver k.ops m → i < n
+      → IsVector k.ops cols (row_of m i)
   row_in m n cols i shape over within =
       let l : i < length m.rows = let e = shape.row_count in omega arith in
       record { size = shape.each i [] l; over = over.each i [] l }
 
-  pub rows_in : (m : MatrixValue) (n cols : ℕ) → HasShape m n cols → IsMatrixOver k.ops m → All (IsVector k.ops cols) m.rows
+  pub rows_in : (m : MatrixValue) (n cols : ℕ) → HasShape m n cols → IsMatrixOver k.ops m
+      → All (IsVector k.ops cols) m.rows
   rows_in m n cols shape over = λ i d l. record { size = shape.each i d l; over = over.each i d l }
 
   -- a combination of vectors is one
@@ -93,7 +103,8 @@ module _ (k : CodeField) where
       sum_in k n _ _ (multiple_in k n c r (cs_in.each 0 0 (omega arith)) (All-head (IsVector k.ops n) r rows all))
       (combination_in n cs rows (IsOver_drop 1 cs_in) (All-tail (IsVector k.ops n) r rows all))
 
-  pub product_in : (m : MatrixValue) (v : List ℕ) → IsOver k.ops v → HasShape m (length m.rows) m.cols → IsMatrixOver k.ops m
+  pub product_in : (m : MatrixValue) (v : List ℕ) → IsOver k.ops v → HasShape m (length m.rows) m.cols
+      → IsMatrixOver k.ops m
       → IsVector k.ops m.cols (product_of k.ops v m)
   product_in m v v_in shape over = combination_in m.cols v m.rows v_in (rows_in m (length m.rows) m.cols shape over)
 
@@ -108,9 +119,11 @@ module _ (k : CodeField) where
       lists_comm k (replicate n 0) w (zeros_in k n).over w_in.over
       ∙ ap (λ n. add_lists (raw_ring k.ops) w (replicate n 0)) (sym w_in.size) ∙ lists_zero k w w_in.over
 
-  pub summed_step : (m : MatrixValue) (v old sum new row : List ℕ) (i c : ℕ) → IsOver k.ops v → All (IsVector k.ops m.cols) m.rows
+  pub summed_step : (m : MatrixValue) (v old sum new row : List ℕ) (i c : ℕ) → IsOver k.ops v
+      → All (IsVector k.ops m.cols) m.rows
       → i < length v → length v ≤ length m.rows → c ≡ get_or v i 0 → row ≡ row_of m i
-      → new ≡ add_lists (raw_ring k.ops) sum (scale_list (raw_ring k.ops) c row) → IsSummed m v old i sum → IsSummed m v old (i + 1) new
+      → new ≡ add_lists (raw_ring k.ops) sum (scale_list (raw_ring k.ops) c row) → IsSummed m v old i sum
+      → IsSummed m v old (i + 1) new
   summed_step m v old sum new row i c v_in all less le c_is row_is new_is before =
       let l : i < length m.rows = omega arith in
       let r = All-get_or (IsVector k.ops m.cols) m.rows i [] l all in
@@ -120,9 +133,11 @@ module _ (k : CodeField) where
       record {
         vector = subst (IsVector k.ops m.cols) (sym new_value) (sum_in k m.cols sum _ before.vector part);
         is =
-            ap₂ (λ x j. add_lists (raw_ring k.ops) x (combination (row_ops k.ops m.cols) (drop j v) (drop j m.rows))) new_value (add-one i)
+            ap₂ (λ x j. add_lists (raw_ring k.ops) x (combination (row_ops k.ops m.cols) (drop j v) (drop j m.rows)))
+            new_value (add-one i)
             ∙ lists_assoc k sum _ _ before.vector.over part.over
-            (combination_in m.cols (drop (suc i) v) (drop (suc i) m.rows) (IsOver_drop (suc i) v_in) (All-drop (IsVector k.ops m.cols) (suc i) m.rows all)).over
+            (combination_in m.cols (drop (suc i) v) (drop (suc i) m.rows) (IsOver_drop (suc i) v_in)
+            (All-drop (IsVector k.ops m.cols) (suc i) m.rows all)).over
             ∙ ap (add_lists (raw_ring k.ops) sum)
             (sym (ap₂ (combination (row_ops k.ops m.cols)) (drop-cons v i 0 less) (drop-cons m.rows i [] l)))
             ∙ before.is;
@@ -131,11 +146,14 @@ module _ (k : CodeField) where
   pub summed_end : (m : MatrixValue) (v old sum : List ℕ) (i : ℕ) → length v ≤ i → IsSummed m v old i sum
       → sum ≡ add_lists (raw_ring k.ops) old (product_of k.ops v m)
   summed_end m v old sum i le h =
-      sym (ap (λ n. add_lists (raw_ring k.ops) sum (replicate n 0)) (sym h.vector.size) ∙ lists_zero k sum h.vector.over)
-      ∙ ap (λ xs. add_lists (raw_ring k.ops) sum (combination (row_ops k.ops m.cols) xs (drop i m.rows))) (sym (drop_all i v le))
+      sym (ap (λ n. add_lists (raw_ring k.ops) sum (replicate n 0)) (sym h.vector.size)
+      ∙ lists_zero k sum h.vector.over)
+      ∙ ap (λ xs. add_lists (raw_ring k.ops) sum (combination (row_ops k.ops m.cols) xs (drop i m.rows)))
+      (sym (drop_all i v le))
       ∙ h.is
 
-  pub holds_step : (f : ℕ → List ℕ) (n cols i : ℕ) (m new : MatrixValue) (row : List ℕ) → i < n → IsVector k.ops cols (f i) → row ≡ f i
+  pub holds_step : (f : ℕ → List ℕ) (n cols i : ℕ) (m new : MatrixValue) (row : List ℕ) → i < n
+      → IsVector k.ops cols (f i) → row ≡ f i
       → new ≡ with_row m i row → HasRowsBelow k.ops f n cols i m → HasRowsBelow k.ops f n cols (i + 1) new
   holds_step f n cols i m new row within value_in row_is new_is before =
       subst (HasRowsBelow k.ops f n cols (i + 1)) (sym (new_is ∙ ap (with_row m i) row_is)) (record {
@@ -146,7 +164,8 @@ module _ (k : CodeField) where
     where
       go : (l : ℕ) → l < i + 1 → Dec (l ≡ i) → row_of (with_row m i (f i)) l ≡ f l
       go l less (yes e) =
-          ap (row_of (with_row m i (f i))) e ∙ with_row_same m i (f i) (let s = before.shape.row_count in omega arith) ∙ sym (ap f e)
+          ap (row_of (with_row m i (f i))) e ∙ with_row_same m i (f i) (let s = before.shape.row_count in omega arith)
+          ∙ sym (ap f e)
       go l less (no ne) = with_row_other m i l (f i) ne ∙ before.rows l (omega arith)
 
   pub zero_holds : (f : ℕ → List ℕ) (n cols : ℕ) → HasRowsBelow k.ops f n cols 0 (zero_matrix n cols)

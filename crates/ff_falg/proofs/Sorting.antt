@@ -25,14 +25,16 @@ at_in [] i less = absurd (omega arith)
 at_in (x ∷ xs) zero less = inl refl
 at_in (x ∷ xs) (suc i) less = inr (at_in xs i (omega arith))
 
-distinct_at : (xs : List (List ℕ)) → IsDistinct xs → (i j : ℕ) → i < length xs → j < length xs → get_or xs i [] ≡ get_or xs j [] → i ≡ j
+distinct_at : (xs : List (List ℕ)) → IsDistinct xs → (i j : ℕ) → i < length xs → j < length xs
+    → get_or xs i [] ≡ get_or xs j [] → i ≡ j
 distinct_at [] d i j l m e = absurd (omega arith)
 distinct_at (x ∷ xs) d zero zero l m e = refl
 distinct_at (x ∷ xs) d zero (suc j) l m e = absurd (d.0 (subst (λ y. In y xs) (sym e) (at_in xs j (omega arith))))
 distinct_at (x ∷ xs) d (suc i) zero l m e = absurd (d.0 (subst (λ y. In y xs) e (at_in xs i (omega arith))))
 distinct_at (x ∷ xs) d (suc i) (suc j) l m e = ap suc (distinct_at xs d.1 i j (omega arith) (omega arith) e)
 
-at_distinct : (xs : List (List ℕ)) → ((i j : ℕ) → i < length xs → j < length xs → get_or xs i [] ≡ get_or xs j [] → i ≡ j) → IsDistinct xs
+at_distinct : (xs : List (List ℕ)) → ((i j : ℕ) → i < length xs → j < length xs → get_or xs i [] ≡ get_or xs j []
+    → i ≡ j) → IsDistinct xs
 at_distinct [] h = tt
 at_distinct (x ∷ xs) h = (
   (λ i. let r = in_at x xs i in
@@ -95,7 +97,8 @@ pub record IsReordered (xs ys : List (List ℕ)) : Type 0 where
   pub back : (x : List ℕ) → In x ys → In x xs
   pub distinct : IsDistinct ys
 
-reordered_swap : (xs ys : List (List ℕ)) (p q : ℕ) → p < length ys → q < length ys → IsReordered xs ys → IsReordered xs (swap ys p q)
+reordered_swap : (xs ys : List (List ℕ)) (p q : ℕ) → p < length ys → q < length ys → IsReordered xs ys
+    → IsReordered xs (swap ys p q)
 reordered_swap xs ys p q p_in q_in h = record {
   forth = λ x i.
       let r = in_at x ys (h.forth x i) in
@@ -104,13 +107,15 @@ reordered_swap xs ys p q p_in q_in h = record {
       (at_in (swap ys p q) m.from (let l = m.from_in in let s = length_swap ys p q p_in q_in in omega arith));
   back = λ x i.
       let r = in_at x (swap ys p q) i in
-      let m = moved ys p q r.0 p_in q_in (let l : r.0 < length (swap ys p q) = r.1 in let s = length_swap ys p q p_in q_in in omega arith) in
+      let m = moved ys p q r.0 p_in q_in
+      (let l : r.0 < length (swap ys p q) = r.1 in let s = length_swap ys p q p_in q_in in omega arith) in
       h.back x (subst (λ y. In y ys) (sym m.is ∙ r.2) (at_in ys m.from m.from_in));
   distinct = at_distinct (swap ys p q) (λ i j l m e.
       let s = length_swap ys p q p_in q_in in
       let a = moved ys p q i p_in q_in (omega arith) in
       let b = moved ys p q j p_in q_in (omega arith) in
-      moved_injective p q i j a.from b.from (distinct_at ys h.distinct a.from b.from a.from_in b.from_in (sym a.is ∙ e ∙ b.is)) a.which b.which);
+      moved_injective p q i j a.from b.from
+      (distinct_at ys h.distinct a.from b.from a.from_in b.from_in (sym a.is ∙ e ∙ b.is)) a.which b.which);
 }
 
 pub reordered : (xs ys : List (List ℕ)) → IsDistinct xs → IsPermutation xs ys → IsReordered xs ys
@@ -132,9 +137,14 @@ before_of_cmp [] (y ∷ ys) e ne = tt
 before_of_cmp (x ∷ xs) [] e ne = (cc)
 before_of_cmp (x ∷ xs) (y ∷ ys) e ne = go (ℕ_discrete x y) (dec_le (suc x) y) (before_of_cmp xs ys)
   where
-    go : Dec (x ≡ y) → Dec (x < y) → (is_lt (slice_cmp nat_cmp ys xs) ≡ false → xs ≢ ys → IsBeforeVector xs ys) → (x < y) ⊎ ((x ≡ y) × IsBeforeVector xs ys)
+    go : Dec (x ≡ y) → Dec (x < y) → (is_lt (slice_cmp nat_cmp ys xs) ≡ false → xs ≢ ys → IsBeforeVector xs ys)
+        → (x < y) ⊎ ((x ≡ y) × IsBeforeVector xs ys)
     go (yes s) d rest =
-        inr (s, rest (sym (ap (λ o. is_lt (ordering_then o (slice_cmp nat_cmp ys xs))) (cmp_same y x (sym s))) ∙ e) (λ f. ne (ap₂ ◌∷◌ s f)))
+        inr (
+          s,
+          rest (sym (ap (λ o. is_lt (ordering_then o (slice_cmp nat_cmp ys xs))) (cmp_same y x (sym s))) ∙ e)
+              (λ f. ne (ap₂ ◌∷◌ s f)),
+        )
     go (no n) (yes l) rest = inl l
     go (no n) (no m) rest =
         let f : true ≡ false
@@ -142,11 +152,13 @@ before_of_cmp (x ∷ xs) (y ∷ ys) e ne = go (ℕ_discrete x y) (dec_le (suc x)
         absurd ((cc))
 
 -- sorted vectors of different codes stand in ascending order
-pub ascending : (ts : List (Vec ℕ)) → IsSorted (λ x y. slice_cmp nat_cmp x.items y.items) ts → IsDistinct (elements_of ts) → AreAscendingVectors (elements_of ts)
+pub ascending : (ts : List (Vec ℕ)) → IsSorted (λ x y. slice_cmp nat_cmp x.items y.items) ts
+    → IsDistinct (elements_of ts) → AreAscendingVectors (elements_of ts)
 ascending ts sorted distinct = record { next = λ i less. go ts sorted distinct i less }
   where
     go : (ts : List (Vec ℕ)) → IsSorted (λ x y. slice_cmp nat_cmp x.items y.items) ts → IsDistinct (elements_of ts)
-        → (i : ℕ) → suc i < length (elements_of ts) → IsBeforeVector (get_or (elements_of ts) i []) (get_or (elements_of ts) (suc i) [])
+        → (i : ℕ) → suc i < length (elements_of ts)
+        → IsBeforeVector (get_or (elements_of ts) i []) (get_or (elements_of ts) (suc i) [])
     go [] sorted distinct i less = absurd (omega arith)
     go (t ∷ ts) sorted distinct i less =
         let size = length-map (t ∷ ts) (λ v. v.items) in
@@ -154,6 +166,8 @@ ascending ts sorted distinct = record { next = λ i less. go ts sorted distinct 
         let here = get_or-map (λ v. v.items) (t ∷ ts) i t [] (omega arith) in
         let there = get_or-map (λ v. v.items) (t ∷ ts) (suc i) t [] l in
         before_of_cmp _ _
-        (ap₂ (λ x y. is_lt (slice_cmp nat_cmp x y)) (there ∙ ap (λ n. (get_or (t ∷ ts) n t).items) (sym (add-one i))) here
+        (ap₂ (λ x y. is_lt (slice_cmp nat_cmp x y)) (there ∙ ap (λ n. (get_or (t ∷ ts) n t).items) (sym (add-one i)))
+        here
         ∙ sorted i t (omega arith) (subst (λ n. n < length (t ∷ ts)) (sym (add-one i)) l))
-        (λ e. let f : i ≡ suc i = distinct_at (elements_of (t ∷ ts)) distinct i (suc i) (omega arith) less e in absurd (omega arith))
+        (λ e. let f : i ≡ suc i = distinct_at (elements_of (t ∷ ts)) distinct i (suc i) (omega arith) less e in absurd
+        (omega arith))

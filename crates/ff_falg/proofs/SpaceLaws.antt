@@ -43,23 +43,30 @@ module _ (k : CodeField) where
 
   -- a row less a unit row
   less_unit : (row : List ℕ) (i : ℕ) → IsOver k.ops row → i < length row
-      → set row i (sub_of k.ops (get_or row i 0) 1) ≡ add_lists (raw_ring k.ops) row (neg_list (raw_ring k.ops) (unit_row (length row) i))
+      → set row i (sub_of k.ops (get_or row i 0) 1)
+      ≡ add_lists (raw_ring k.ops) row (neg_list (raw_ring k.ops) (unit_row (length row) i))
   less_unit [] i over less = absurd (omega arith)
   less_unit (x ∷ row) zero over less =
       ap (λ w. k.add x (k.neg 1) ∷ w)
       (sym (ap (add_lists (raw_ring k.ops) row) (neg_zeros (length row)) ∙ lists_zero k row (IsOver_tail over)))
   less_unit (x ∷ row) (suc i) over less =
-      ap₂ ◌∷◌ (sym (ap (k.add x) code_neg_zero ∙ code_add_zero k x (IsOver_head over))) (less_unit row i (IsOver_tail over) (omega arith))
+      ap₂ ◌∷◌ (sym (ap (k.add x) code_neg_zero ∙ code_add_zero k x (IsOver_head over)))
+      (less_unit row i (IsOver_tail over) (omega arith))
 
-  pub entry_in : (m : MatrixValue) (n cols i j : ℕ) → HasShape m n cols → IsMatrixOver k.ops m → i < n → entry_of m i j < k.size
+  pub entry_in : (m : MatrixValue) (n cols i j : ℕ) → HasShape m n cols → IsMatrixOver k.ops m → i < n
+      → entry_of m i j < k.size
   entry_in m n cols i j shape over less = get_or_below k (row_of m i) j (row_in k m n cols i shape over less).over
 
   pub less_step : (m now : MatrixValue) (i x : ℕ) → HasShape m m.cols m.cols → i < m.cols
-      → x ≡ sub_of k.ops (entry_of now i i) 1 → IsLessUnit k.ops m i now → IsLessUnit k.ops m (i + 1) (with_entry now i i x)
+      → x ≡ sub_of k.ops (entry_of now i i) 1 → IsLessUnit k.ops m i now
+      → IsLessUnit k.ops m (i + 1) (with_entry now i i x)
   less_step m now i x shape less x_is before = record {
     shape = with_row_shape now m.cols m.cols i _ before.shape (length-set (row_of now i) i x ∙ row.size);
     over = with_row_over k now i _ before.over
-        (record { each = All-set (λ c. c < k.size) (row_of now i) i x (subst (λ c. c < k.size) (sym x_is) value_in) row.over.each });
+        (record {
+          each = All-set (λ c. c < k.size) (row_of now i) i x (subst (λ c. c < k.size) (sym x_is) value_in)
+              row.over.each;
+        });
     done = λ l h. go l h (ℕ_discrete l i);
     rest = λ l h. with_row_other now i l _ (λ e. omega arith) ∙ before.rest l (omega arith);
   }
@@ -77,7 +84,8 @@ module _ (k : CodeField) where
           ∙ with_row_same now i _ (let s = before.shape.row_count in omega arith)
           ∙ ap (set (row_of now i) i) x_is
           ∙ less_unit (row_of now i) i row.over (let s = row.size in omega arith)
-          ∙ ap₂ (λ r n. add_lists (raw_ring k.ops) r (neg_list (raw_ring k.ops) (unit_row n i))) (before.rest i (omega arith)) row.size
+          ∙ ap₂ (λ r n. add_lists (raw_ring k.ops) r (neg_list (raw_ring k.ops) (unit_row n i)))
+          (before.rest i (omega arith)) row.size
           ∙ ap (λ j. add_lists (raw_ring k.ops) (row_of m j) (neg_list (raw_ring k.ops) (unit_row m.cols j))) (sym e)
       go l h (no ne) = with_row_other now i l _ ne ∙ before.done l (omega arith)
 
@@ -113,10 +121,12 @@ module _ (k : CodeField) (A : AlgebraOps) (law : IsAlgebra k A) where
     rows = λ l less. h.rows l less ∙ ap (power k.ops A (unit_row A.size l)) (sym (once k A law));
   }
 
-  pub iterate_step : (bound bound' : ℕ) (m new : MatrixValue) → IsIterate k.ops A bound m → IsProductBelow k.ops m m (length m.rows) new
+  pub iterate_step : (bound bound' : ℕ) (m new : MatrixValue) → IsIterate k.ops A bound m
+      → IsProductBelow k.ops m m (length m.rows) new
       → bound' ≤ bound * bound → IsIterate k.ops A bound' new
   iterate_step bound bound' m new h p le = record {
-    shape = subst (λ c. HasShape new c A.size) h.shape.row_count (subst (HasShape new (length m.rows)) h.shape.col_count p.written.shape);
+    shape = subst (λ c. HasShape new c A.size) h.shape.row_count
+        (subst (HasShape new (length m.rows)) h.shape.col_count p.written.shape);
     over = p.written.over;
     times = h.times + h.times;
     reached = subst (λ n. bound' ≤ n) (sym doubled) (let a = mul-le-mul h.reached h.reached in omega arith);
@@ -137,33 +147,43 @@ module _ (k : CodeField) (A : AlgebraOps) (law : IsAlgebra k A) where
       → IsEchelonBasisMatrix k.ops A.size (IsNilpotentVector k.ops A) m
   nilpotent_space a m h kernel =
       kernel_space k A.size a m (IsNilpotentVector k.ops A) h.shape kernel
-      (λ v v_in e. record { exponent = k.size ^ h.times; is = sym (iterate_values k A law h.times a h.shape h.rows v v_in) ∙ e })
+      (λ v v_in e. record {
+        exponent = k.size ^ h.times;
+        is = sym
+            (iterate_values k A law h.times a h.shape h.rows v v_in) ∙ e;
+      })
       (λ v v_in n.
       iterate_values k A law h.times a h.shape h.rows v v_in
-      ∙ by_dimension k A law _ _ (power_in k A law v (k.size ^ h.times) v_in) (zeros_in k A.size) (λ some. killed some v v_in n))
+      ∙ by_dimension k A law _ _ (power_in k A law v (k.size ^ h.times) v_in) (zeros_in k A.size)
+      (λ some. killed some v v_in n))
     where
-      killed : 0 < A.size → (v : List ℕ) (v_in : IsVector k.ops A.size v) → IsNilpotentVector k.ops A v → power k.ops A v (k.size ^ h.times) ≡ zero_of A
+      killed : 0 < A.size → (v : List ℕ) (v_in : IsVector k.ops A.size v) → IsNilpotentVector k.ops A v
+          → power k.ops A v (k.size ^ h.times) ≡ zero_of A
       killed some v v_in n =
           sym (power_value k A law (v, v_in) (k.size ^ h.times))
-          ∙ ap (λ y. y.0) (ap (λ e. pow (vector_ring k A law).ops (v, v_in) (e ^ h.times)) (sym (length_scalars k A law some))
+          ∙ ap (λ y. y.0) (ap (λ e. pow (vector_ring k A law).ops (v, v_in) (e ^ h.times))
+          (sym (length_scalars k A law some))
           ∙ (nilpotent_kernel (vector_ring k A law) (Image (scalar k A law)) (vector_algebra k A law some) h.times
           (subst (λ e. length (basis k A law) ≤ e ^ h.times) (sym (length_scalars k A law some))
           (let e = length_basis k A law in let r = h.reached in omega arith))
           (v, v_in)).0 (n.exponent, same_vector k A.size _ _ (power_value k A law (v, v_in) n.exponent ∙ n.is)))
 
   -- the elements that are their own q-th powers are the kernel of the map a to a^q - a
-  pub fixed_space : (f a m : MatrixValue) → IsFrobenius k.ops A f → IsLessUnit k.ops f f.cols a → IsKernelBasis k.ops a m
+  pub fixed_space : (f a m : MatrixValue) → IsFrobenius k.ops A f → IsLessUnit k.ops f f.cols a
+      → IsKernelBasis k.ops a m
       → IsEchelonBasisMatrix k.ops A.size (IsFixedVector k.ops A) m
   fixed_space f a m h less kernel =
       kernel_space k A.size a m (IsFixedVector k.ops A) shape kernel
       (λ v v_in e. record {
         is =
-            ap (λ y. y.0) (eq_of_sub (vector_ring k A law) (power k.ops A v k.size, power_in k A law v k.size v_in) (v, v_in)
+            ap (λ y. y.0) (eq_of_sub (vector_ring k A law) (power k.ops A v k.size, power_in k A law v k.size v_in)
+            (v, v_in)
             (same_vector k A.size _ _ (sym (values v v_in) ∙ e)));
       })
       (λ v v_in s.
       values v v_in
-      ∙ ap (λ y. y.0) (sub_of_eq (vector_ring k A law) (power k.ops A v k.size, power_in k A law v k.size v_in) (v, v_in)
+      ∙ ap (λ y. y.0) (sub_of_eq (vector_ring k A law) (power k.ops A v k.size, power_in k A law v k.size v_in)
+      (v, v_in)
       (same_vector k A.size _ _ s.is)))
     where
       shape : HasShape a A.size A.size
@@ -174,4 +194,5 @@ module _ (k : CodeField) (A : AlgebraOps) (law : IsAlgebra k A) where
       values =
           less_values k A law a shape (λ l l_less.
           less.done l (let e = h.shape.col_count in omega arith)
-          ∙ ap₂ (λ r n. add_lists (raw_ring k.ops) r (neg_list (raw_ring k.ops) (unit_row n l))) (h.rows l l_less) h.shape.col_count)
+          ∙ ap₂ (λ r n. add_lists (raw_ring k.ops) r (neg_list (raw_ring k.ops) (unit_row n l))) (h.rows l l_less)
+          h.shape.col_count)

@@ -41,7 +41,8 @@ combination_take : (k : CodeField) (n : ℕ) (cs : List ℕ) (rows : List (List 
     → row_combination (row_ops k.ops n) cs (take (length cs) rows) ≡ row_combination (row_ops k.ops n) cs rows
 combination_take k n [] rows = refl
 combination_take k n (c ∷ cs) [] = refl
-combination_take k n (c ∷ cs) (r ∷ rows) = ap ((row_ops k.ops n).◌⊞◌ (scale_list (raw_ring k.ops) c r)) (combination_take k n cs rows)
+combination_take k n (c ∷ cs) (r ∷ rows) = ap ((row_ops k.ops n).◌⊞◌ (scale_list (raw_ring k.ops) c r))
+    (combination_take k n cs rows)
 
 module _ (k : CodeField) (A : AlgebraOps) (law : IsAlgebra k A) (some : 0 < A.size) where
   abbrev R : CommRing (Vector k A.size)
@@ -79,12 +80,16 @@ module _ (k : CodeField) (A : AlgebraOps) (law : IsAlgebra k A) (some : 0 < A.si
     rs_over = over_of_in k rs roots.within
 
     distinct : IsDistinct cs
-    distinct = distinct_map ι (scalar_injective k A law some) (read k rs) (read_distinct k rs rs_over roots.below.distinct)
+    distinct = distinct_map ι (scalar_injective k A law some) (read k rs)
+        (read_distinct k rs rs_over roots.below.distinct)
 
     cs_roots : (c : Vector k A.size) → In c cs → S c × (f c ≡ R.𝟘)
     cs_roots c i =
-        let r = of_map ι (read k rs) c i in
-        ((r.0, r.2), ap f r.2 ∙ root_scalar k A law (d ∷ lower) r.0 over (roots.below.each r.0.0 (of_read k r.0 rs rs_over r.1)).1)
+        let r = of_map ι (read k rs) c i in (
+          (r.0, r.2),
+          ap f r.2 ∙ root_scalar k A law (d ∷ lower) r.0 over
+              (roots.below.each r.0.0 (of_read k r.0 rs rs_over r.1)).1,
+        )
 
     number : length cs ≡ suc degree
     number = go roots.end
@@ -104,7 +109,8 @@ module _ (k : CodeField) (A : AlgebraOps) (law : IsAlgebra k A) (some : 0 < A.si
         go : (length rs ≡ length (d ∷ lower)) ⊎ (roots.bound ≡ k.size) → length cs ≡ suc degree
         go (inl e) = length_cs ∙ e ∙ ap suc (sym degree_is)
         go (inr e) =
-            let l = at_most (roots_among R S 𝓐 f 𝓐.codes) cs (roots_among_distinct R S 𝓐 f 𝓐.codes 𝓐.codes_distinct) (λ c i. within c e i) in
+            let l = at_most (roots_among R S 𝓐 f 𝓐.codes) cs (roots_among_distinct R S 𝓐 f 𝓐.codes 𝓐.codes_distinct)
+            (λ c i. within c e i) in
             let s = minimal_roots R S 𝓐 a u fixed (suc degree) f min in
             let m = most in omega arith
 
@@ -116,15 +122,18 @@ module _ (k : CodeField) (A : AlgebraOps) (law : IsAlgebra k A) (some : 0 < A.si
     quotient_monic c =
         subst (λ n. Monic R.ops S n (quotient c)) (length_suffix_values R (map ι (read k lower)) R.𝟙 (ι c))
         (leading_list R S 𝓐.subring (suffix_values R.ops (map ι (read k lower)) R.𝟙 (ι c)) R.𝟙
-        (suffix_values_in R S 𝓐.subring (map ι (read k lower)) R.𝟙 (ι c) (scalars_in k A law (read k lower)) 𝓐.subring.one_in (c, refl)))
+        (suffix_values_in R S 𝓐.subring (map ι (read k lower)) R.𝟙 (ι c) (scalars_in k A law (read k lower))
+        𝓐.subring.one_in (c, refl)))
 
-    quotient_divides : (c : Code k) → f (ι c) ≡ R.𝟘 → (t : Vector k A.size) → f t ≡ R.◌⊗◌ (R.◌⊕◌ t (R.⊖◌ (ι c))) (quotient c t)
+    quotient_divides : (c : Code k) → f (ι c) ≡ R.𝟘 → (t : Vector k A.size)
+        → f t ≡ R.◌⊗◌ (R.◌⊕◌ t (R.⊖◌ (ι c))) (quotient c t)
     quotient_divides c root t =
         synthetic R (ι (read_code k d)) (map ι (read k lower)) R.𝟙 (ι c) t
         ∙ ap (λ y. R.◌⊕◌ y (R.◌⊗◌ (R.◌⊕◌ t (R.⊖◌ (ι c))) (quotient c t))) root ∙ zero_add R _
 
     abbrev weight : Code k → Code k
-    weight c = value (code_ring k).ops (suffix_values (code_ring k).ops (read k lower) (code_ring k).𝟙 c) (code_ring k).𝟙 c
+    weight c = value (code_ring k).ops (suffix_values (code_ring k).ops (read k lower) (code_ring k).𝟙 c)
+        (code_ring k).𝟙 c
 
     quotient_weight : (c : Code k) → quotient c (ι c) ≡ ι (weight c)
     quotient_weight c =
@@ -137,7 +146,8 @@ module _ (k : CodeField) (A : AlgebraOps) (law : IsAlgebra k A) (some : 0 < A.si
     -- each root is simple
     pub weight_some : (c : Code k) → In c (read k rs) → weight_of k.ops (d ∷ lower) c.0 ≢ 0
     weight_some c i z =
-        let l = monic_roots R S 𝓐 degree (quotient c) (quotient_monic c) cs distinct (λ y j. ((cs_roots y j).0, go y j (vector_discrete k A.size y (ι c)))) in
+        let l = monic_roots R S 𝓐 degree (quotient c) (quotient_monic c) cs distinct
+        (λ y j. ((cs_roots y j).0, go y j (vector_discrete k A.size y (ι c)))) in
         let n = number in absurd (omega arith)
       where
         zero_there : quotient c (ι c) ≡ R.𝟘
@@ -161,7 +171,8 @@ module _ (k : CodeField) (A : AlgebraOps) (law : IsAlgebra k A) (some : 0 < A.si
     inverse_value : (c : Code k) → In c (read k rs) → (inverse c).0 ≡ k.inv (weight_of k.ops (d ∷ lower) c.0)
     inverse_value c i =
         read_code_below k _
-        (k.laws.inv_below (weight_of k.ops (d ∷ lower) c.0) (subst (λ n. n < k.size) (weight_read k d lower c (IsOver_tail over)) (weight c).1)
+        (k.laws.inv_below (weight_of k.ops (d ∷ lower) c.0)
+        (subst (λ n. n < k.size) (weight_read k d lower c (IsOver_tail over)) (weight c).1)
         (weight_some c i))
 
     is_inverse : (c : Code k) → In c (read k rs) → R.◌⊗◌ (quotient c (ι c)) (ι (inverse c)) ≡ R.𝟙
@@ -170,7 +181,8 @@ module _ (k : CodeField) (A : AlgebraOps) (law : IsAlgebra k A) (some : 0 < A.si
         ∙ sym ((scalar_map k A law).mul (weight c) (inverse c))
         ∙ ap ι (same_code k _ (code_ring k).𝟙
         (ap₂ k.mul (weight_read k d lower c (IsOver_tail over)) (inverse_value c i)
-        ∙ k.laws.mul_comm _ _ below (k.laws.inv_below _ below (weight_some c i)) ∙ k.laws.inv_mul _ below (weight_some c i)))
+        ∙ k.laws.mul_comm _ _ below (k.laws.inv_below _ below (weight_some c i))
+        ∙ k.laws.inv_mul _ below (weight_some c i)))
         ∙ (scalar_map k A law).𝟙
       where
         below : weight_of k.ops (d ∷ lower) c.0 < k.size
@@ -178,7 +190,8 @@ module _ (k : CodeField) (A : AlgebraOps) (law : IsAlgebra k A) (some : 0 < A.si
 
     part_lagrange : (c : Code k) → In c (read k rs) → Lagrange R.ops S a u degree f (ι c) (part_vector c)
     part_lagrange c i =
-        lagrange_of_list R S 𝓐 a u (ι (read_code k d)) (map ι (read k lower)) (read_code k d, refl) (scalars_in k A law (read k lower))
+        lagrange_of_list R S 𝓐 a u (ι (read_code k d)) (map ι (read k lower)) (read_code k d, refl)
+        (scalars_in k A law (read k lower))
         (ι c) (c, refl) (root_of c i) (ι (inverse c)) (inverse c, refl) (is_inverse c i)
 
     part_list : (ds : List (Code k)) → ((c : Code k) → In c ds → In c (read k rs))
@@ -206,24 +219,29 @@ module _ (k : CodeField) (A : AlgebraOps) (law : IsAlgebra k A) (some : 0 < A.si
               ap (λ y. y.0) (value_combination R (suffix_values R.ops (map ι (read k lower)) R.𝟙 (ι c)) R.𝟙 a u
               ∙ ap₂ (λ xs n. combination R.ops xs (powers R.ops a u (suc n)))
               (ap₂ (λ xs y. xs ++ y ∷ []) (suffix_scalar k A law (read k lower) c) (sym (scalar_map k A law).𝟙)
-              ∙ sym (map-append ι (suffix_values (code_ring k).ops (read k lower) (code_ring k).𝟙 c) ((code_ring k).𝟙 ∷ [])))
+              ∙ sym (map-append ι (suffix_values (code_ring k).ops (read k lower) (code_ring k).𝟙 c)
+              ((code_ring k).𝟙 ∷ [])))
               (length_suffix_values R (map ι (read k lower)) R.𝟙 (ι c) ∙ degree_is))
-              ∙ combination_value k A law (suffix_values (code_ring k).ops (read k lower) (code_ring k).𝟙 c ++ (code_ring k).𝟙 ∷ [])
+              ∙ combination_value k A law
+              (suffix_values (code_ring k).ops (read k lower) (code_ring k).𝟙 c ++ (code_ring k).𝟙 ∷ [])
               (powers R.ops a u (suc (length lower)))
               ∙ ap₂ (row_combination (row_ops k.ops A.size))
-              (map-append (λ y. y.0) (suffix_values (code_ring k).ops (read k lower) (code_ring k).𝟙 c) ((code_ring k).𝟙 ∷ [])
+              (map-append (λ y. y.0) (suffix_values (code_ring k).ops (read k lower) (code_ring k).𝟙 c)
+              ((code_ring k).𝟙 ∷ [])
               ∙ suffix_read k d lower c (IsOver_tail over))
               (powers_rows k A law a.0 u.0 a.1 u.1 m h (suc (length lower)) within
               ∙ ap (λ n. take n m.rows) (sym (length_quotient k.ops (d ∷ lower) c.0)))
               ∙ combination_take k A.size (quotient_of k.ops (d ∷ lower) c.0) m.rows
-              ∙ ap (λ n. row_combination (row_ops k.ops n) (quotient_of k.ops (d ∷ lower) c.0) m.rows) (sym h.written.shape.col_count)
+              ∙ ap (λ n. row_combination (row_ops k.ops n) (quotient_of k.ops (d ∷ lower) c.0) m.rows)
+              (sym h.written.shape.col_count)
 
       parts_value : (xs : List ℕ) → IsOver k.ops xs → ((c : Code k) → In c (read k xs) → In c (read k rs))
           → map (λ y. y.0) (map part_vector (read k xs)) ≡ map (part_of k.ops (d ∷ lower) m) xs
       parts_value [] xs_over w = refl
       parts_value (x ∷ xs) xs_over w =
           ap₂ ◌∷◌
-          (part_value (read_code k x) (w (read_code k x) (inl refl)) ∙ ap (part_of k.ops (d ∷ lower) m) (read_code_below k x (IsOver_head xs_over)))
+          (part_value (read_code k x) (w (read_code k x) (inl refl))
+          ∙ ap (part_of k.ops (d ∷ lower) m) (read_code_below k x (IsOver_head xs_over)))
           (parts_value xs (IsOver_tail xs_over) (λ c i. w c (inr i)))
 
       pub parts_are : map (λ y. y.0) (map part_vector (read k rs)) ≡ map (part_of k.ops (d ∷ lower) m) rs

@@ -43,7 +43,8 @@ module _ (k : CodeField) (A : AlgebraOps) (law : IsAlgebra k A) where
       empty_or A.size (0 < A.size)
       (λ z. absurd (ne (nil_from_length e (e_in.size ∙ z) ∙ sym (ap (λ n. replicate n 0) z)))) (λ l. l)
 
-  module _ (x e : List ℕ) (x_in : IsVector k.ops A.size x) (fixed : IsFixedVector k.ops A x) (idem : IsIdempotentVector k.ops A e) (ne : e ≢ zero_of A)
+  module _ (x e : List ℕ) (x_in : IsVector k.ops A.size x) (fixed : IsFixedVector k.ops A x)
+      (idem : IsIdempotentVector k.ops A e) (ne : e ≢ zero_of A)
       (m : MatrixValue) (v : List ℕ) (r : IsRelation k.ops A x e m v) where
     abbrev a : Vector k A.size
     a = (x, x_in)
@@ -66,7 +67,8 @@ module _ (k : CodeField) (A : AlgebraOps) (law : IsAlgebra k A) where
         go : (w : List ℕ) → v ≡ w → 0 < length w
         go [] n =
             let within : 0 < length m.rows = let l = r.first.within in omega arith in
-            let p = subst (λ y. IsSolution k.ops (first_rows_of m (length y)) (row_of m (length y)) y) n r.first.relation in
+            let p = subst (λ y. IsSolution k.ops (first_rows_of m (length y)) (row_of m (length y)) y) n
+            r.first.relation in
             absurd (ne (sym (powers_first k A law x x_in e m idem.vector within r.powers) ∙ sym p.product
             ∙ ap (λ c. replicate c 0) r.powers.written.shape.col_count))
         go (c ∷ w) n = omega arith
@@ -75,7 +77,8 @@ module _ (k : CodeField) (A : AlgebraOps) (law : IsAlgebra k A) where
     pub one_split : length v ≡ 1 → IsSplit k.ops A x e (e ∷ [])
     one_split one =
         split_value k A law a u (u ∷ [])
-        (split_one R (Image ι) a u idempotent (λ z. ne (ap (λ y. y.0) z)) (ι (read_code k (get_or v 0 0)), (read_code k (get_or v 0 0), refl), value_is))
+        (split_one R (Image ι) a u idempotent (λ z. ne (ap (λ y. y.0) z))
+        (ι (read_code k (get_or v 0 0)), (read_code k (get_or v 0 0), refl), value_is))
       where
         single : (w : List ℕ) → length w ≡ 1 → read k w ≡ read_code k (get_or w 0 0) ∷ []
         single [] e = absurd (omega arith)
@@ -94,12 +97,14 @@ module _ (k : CodeField) (A : AlgebraOps) (law : IsAlgebra k A) where
     minimal lower is =
         subst (λ xs. Minimal R.ops (Image ι) a u (length xs) (value R.ops xs R.𝟙))
         (negatives_scalar k A law v v_over ∙ ap (λ xs. map ι (read k xs)) (sym is))
-        (subst (λ n. Minimal R.ops (Image ι) a u n (value R.ops (map R.⊖◌ (map ι (read k v))) R.𝟙)) (sym (length-map (map ι (read k v)) R.⊖◌))
+        (subst (λ n. Minimal R.ops (Image ι) a u n (value R.ops (map R.⊖◌ (map ι (read k v))) R.𝟙))
+        (sym (length-map (map ι (read k v)) R.⊖◌))
         (minimal_of_first k A law x e x_in idem.vector m r.powers some v r.first))
 
     fixed_vector : pow R.ops a (length (vector_algebra k A law some).codes) ≡ a
     fixed_vector =
-        ap (pow R.ops a) (length_scalars k A law some) ∙ same_vector k A.size _ _ (power_value k A law a k.size ∙ fixed.is)
+        ap (pow R.ops a) (length_scalars k A law some)
+        ∙ same_vector k A.size _ _ (power_value k A law a k.size ∙ fixed.is)
 
     module _ (lower : List ℕ) (is : lower ≡ neg_list (raw_ring k.ops) v) where
       pub lower_over : IsOver k.ops lower
@@ -130,7 +135,8 @@ module _ (k : CodeField) (A : AlgebraOps) (law : IsAlgebra k A) where
                     (read_in k (c, roots.within c i) rs (over_of_in k rs roots.within) i);
               })
 
-      pub parts_split_value : (rs : List ℕ) → IsRoots k.ops lower rs → IsSplit k.ops A x e (map (part_of k.ops lower m) rs)
+      pub parts_split_value : (rs : List ℕ) → IsRoots k.ops lower rs
+          → IsSplit k.ops A x e (map (part_of k.ops lower m) rs)
       parts_split_value rs roots = go lower lower_over lower_some (minimal lower is) roots lower_within
         where
           go : (xs : List ℕ) → IsOver k.ops xs → 0 < length xs

@@ -76,18 +76,21 @@ module _ (k : CodeField) (A : AlgebraOps) (law : IsAlgebra k A) where
   lists_vectors [] o = refl
   lists_vectors (e ∷ es) o = ap (λ w. e ∷ w) (lists_vectors es o.3)
 
-  all_vectors : (P : List ℕ → Type 0) (Q : V → Type 0) → ((x : V) → P x.0 → Q x) → (es : List (List ℕ)) (o : IsOrthogonal k.ops A es)
+  all_vectors : (P : List ℕ → Type 0) (Q : V → Type 0) → ((x : V) → P x.0 → Q x)
+      → (es : List (List ℕ)) (o : IsOrthogonal k.ops A es)
       → All P es → All Q (vectors_of es o)
   all_vectors P Q w [] o h = All-nil Q
   all_vectors P Q w (e ∷ es) o h =
-      All-cons Q (e, o.0.vector) (vectors_of es o.3) (w (e, o.0.vector) (All-head P e es h)) (all_vectors P Q w es o.3 (All-tail P e es h))
+      All-cons Q (e, o.0.vector) (vectors_of es o.3) (w (e, o.0.vector) (All-head P e es h))
+      (all_vectors P Q w es o.3 (All-tail P e es h))
 
   pub value_orthogonal : (es : List (List ℕ)) (o : IsOrthogonal k.ops A es) → Orthogonal R.ops (vectors_of es o)
   value_orthogonal [] o = tt
   value_orthogonal (e ∷ es) o = (
     same_vector k A.size _ _ o.0.square,
     (λ z. o.1 (ap (λ y. y.0) z)),
-    all_vectors (λ f. A.product k.ops e f ≡ zero_of A) (λ f. R.◌⊗◌ (e, o.0.vector) f ≡ R.𝟘) (λ x z. same_vector k A.size _ _ z) es o.3 o.2,
+    all_vectors (λ f. A.product k.ops e f ≡ zero_of A) (λ f. R.◌⊗◌ (e, o.0.vector) f ≡ R.𝟘)
+        (λ x z. same_vector k A.size _ _ z) es o.3 o.2,
     value_orthogonal es o.3,
   )
 
@@ -105,7 +108,8 @@ module _ (k : CodeField) (A : AlgebraOps) (law : IsAlgebra k A) where
       → All (ScalarAt R.ops S a) (vectors_of es o)
   value_scalars a es o h = all_vectors (IsScalarAt k.ops A a.0) (ScalarAt R.ops S a) (value_scalar_at a) es o h
 
-  value_split : (a e : V) (fs : List (List ℕ)) (s : IsSplit k.ops A a.0 e.0 fs) → Split R.ops S a e (vectors_of fs s.orthogonal)
+  value_split : (a e : V) (fs : List (List ℕ)) (s : IsSplit k.ops A a.0 e.0 fs)
+      → Split R.ops S a e (vectors_of fs s.orthogonal)
   value_split a e fs s = record {
     orthogonal = value_orthogonal fs s.orthogonal;
     sum = value_sum fs s.orthogonal e s.sum;
@@ -128,8 +132,10 @@ module _ (k : CodeField) (A : AlgebraOps) (law : IsAlgebra k A) where
       rest (z ∷ zs) = zs
 
   -- the splitting of the elements that are scalars at each member
-  pub value_splitting : (basis : MatrixValue) (i : ℕ) (es : List (List ℕ)) (s : IsSplitting k.ops A basis i es) (used : List V)
-      → ((a : V) → In a used → (l : ℕ) × (l < i) × (a.0 ≡ row_of basis l)) → Splitting R.ops S used (vectors_of es s.orthogonal)
+  pub value_splitting : (basis : MatrixValue) (i : ℕ) (es : List (List ℕ)) (s : IsSplitting k.ops A basis i es)
+      (used : List V)
+      → ((a : V) → In a used → (l : ℕ) × (l < i) × (a.0 ≡ row_of basis l))
+      → Splitting R.ops S used (vectors_of es s.orthogonal)
   value_splitting basis i es s used w = record {
     orthogonal = value_orthogonal es s.orthogonal;
     sum = value_sum es s.orthogonal R.𝟙 s.sum;
@@ -159,27 +165,34 @@ module _ (k : CodeField) (A : AlgebraOps) (law : IsAlgebra k A) where
         olds_are = map-append (λ x. x.0) h.olds ((e, e_in) ∷ []) ∙ ap (λ xs. xs ++ e ∷ []) h.olds_are;
         news = h.news ++ gs;
         news_are =
-            map-append (λ x. x.0) h.news gs ∙ ap₂ (λ xs ys. xs ++ ys) h.news_are (lists_vectors s.parts s.split.orthogonal) ∙ sym s.is;
+            map-append (λ x. x.0) h.news gs
+            ∙ ap₂ (λ xs ys. xs ++ ys) h.news_are (lists_vectors s.parts s.split.orthogonal) ∙ sym s.is;
         refines = refines_push R S a h.olds h.news (e, e_in) gs h.refines (value_split a (e, e_in) s.parts s.split);
       }
 
   -- once all are refined, one more row is a scalar at each
-  pub refined_end : (basis : MatrixValue) (i : ℕ) (es fs : List (List ℕ)) → ((l : ℕ) → l ≤ i → IsVector k.ops A.size (row_of basis l))
-      → (a : V) → a.0 ≡ row_of basis i → IsSplitting k.ops A basis i es → IsRefined a es fs → IsSplitting k.ops A basis (i + 1) fs
+  pub refined_end : (basis : MatrixValue) (i : ℕ) (es fs : List (List ℕ))
+      → ((l : ℕ) → l ≤ i → IsVector k.ops A.size (row_of basis l))
+      → (a : V) → a.0 ≡ row_of basis i → IsSplitting k.ops A basis i es → IsRefined a es fs
+      → IsSplitting k.ops A basis (i + 1) fs
   refined_end basis i es fs rows_in a a_is s h = record {
-    orthogonal = subst (IsOrthogonal k.ops A) h.news_are (orthogonal_value h.news (start [] (λ b j. absurd j)).orthogonal);
-    sum = sym (ap (sum_of k.ops A) h.news_are) ∙ sym (sum_value h.news) ∙ ap (λ y. y.0) (start [] (λ b j. absurd j)).sum;
+    orthogonal = subst (IsOrthogonal k.ops A) h.news_are
+        (orthogonal_value h.news (start [] (λ b j. absurd j)).orthogonal);
+    sum = sym (ap (sum_of k.ops A) h.news_are) ∙ sym (sum_value h.news)
+        ∙ ap (λ y. y.0) (start [] (λ b j. absurd j)).sum;
     scalar = λ l less. go l less (ℕ_discrete l i);
   }
     where
-      start : (used : List V) → ((b : V) → In b used → (l : ℕ) × (l < i) × (b.0 ≡ row_of basis l)) → Splitting R.ops S (a ∷ used) h.news
+      start : (used : List V) → ((b : V) → In b used → (l : ℕ) × (l < i) × (b.0 ≡ row_of basis l))
+          → Splitting R.ops S (a ∷ used) h.news
       start used w =
           splitting_step R S a used h.olds h.news
           (subst (Splitting R.ops S used) (same_lists_vectors _ _ (lists_vectors es s.orthogonal ∙ sym h.olds_are))
           (value_splitting basis i es s used w))
           h.refines
 
-      scalars : (used : List V) (w : (b : V) → In b used → (l : ℕ) × (l < i) × (b.0 ≡ row_of basis l)) (b : V) → In b (a ∷ used)
+      scalars : (used : List V) (w : (b : V) → In b used → (l : ℕ) × (l < i) × (b.0 ≡ row_of basis l)) (b : V)
+          → In b (a ∷ used)
           → All (IsScalarAt k.ops A b.0) fs
       scalars used w b j =
           subst (All (IsScalarAt k.ops A b.0)) h.news_are
@@ -187,7 +200,8 @@ module _ (k : CodeField) (A : AlgebraOps) (law : IsAlgebra k A) where
 
       go : (l : ℕ) → l < i + 1 → Dec (l ≡ i) → All (IsScalarAt k.ops A (row_of basis l)) fs
       go l less (yes e) =
-          subst (λ y. All (IsScalarAt k.ops A y) fs) (a_is ∙ ap (row_of basis) (sym e)) (scalars [] (λ b j. absurd j) a (inl refl))
+          subst (λ y. All (IsScalarAt k.ops A y) fs) (a_is ∙ ap (row_of basis) (sym e))
+          (scalars [] (λ b j. absurd j) a (inl refl))
       go l less (no ne) =
           let b : V = (row_of basis l, rows_in l (omega arith)) in
           scalars (b ∷ [])

@@ -33,7 +33,8 @@ unit_rows_get (suc n) (suc i) l =
     get_map (unit_rows n) i (omega (arith, length_unit_rows n)) ∙ ap (λ r. 0 ∷ r) (unit_rows_get n i (omega arith))
 
 module _ (k : CodeField) where
-  longer : (n : ℕ) (rows : List (List ℕ)) → All (IsVector k.ops n) rows → All (IsVector k.ops (suc n)) (map (λ r. 0 ∷ r) rows)
+  longer : (n : ℕ) (rows : List (List ℕ)) → All (IsVector k.ops n) rows
+      → All (IsVector k.ops (suc n)) (map (λ r. 0 ∷ r) rows)
   longer n [] all = All-nil (IsVector k.ops (suc n))
   longer n (r ∷ rows) all =
       let h = All-head (IsVector k.ops n) r rows all in
@@ -53,21 +54,27 @@ module _ (k : CodeField) where
   combination_longer n [] rows cs_in = refl
   combination_longer n (c ∷ cs) [] cs_in = refl
   combination_longer n (c ∷ cs) (r ∷ rows) cs_in =
-      ap (add_lists (raw_ring k.ops) (scale_list (raw_ring k.ops) c (0 ∷ r))) (combination_longer n cs rows (IsOver_tail cs_in))
-      ∙ ap (λ x. x ∷ add_lists (raw_ring k.ops) (scale_list (raw_ring k.ops) c r) (combination (row_ops k.ops n) cs rows))
+      ap (add_lists (raw_ring k.ops) (scale_list (raw_ring k.ops) c (0 ∷ r)))
+      (combination_longer n cs rows (IsOver_tail cs_in))
+      ∙ ap (λ x. x ∷ add_lists (raw_ring k.ops) (scale_list (raw_ring k.ops) c r)
+      (combination (row_ops k.ops n) cs rows))
       (ap (λ x. k.add x 0) (code_mul_zero k c (IsOver_head cs_in)) ∙ code_add_zero k 0 (zero_in k))
 
-  pub combination_units : (xs : List ℕ) → IsOver k.ops xs → combination (row_ops k.ops (length xs)) xs (unit_rows (length xs)) ≡ xs
+  pub combination_units : (xs : List ℕ) → IsOver k.ops xs
+      → combination (row_ops k.ops (length xs)) xs (unit_rows (length xs)) ≡ xs
   combination_units [] xs_in = refl
   combination_units (x ∷ xs) xs_in =
       ap (add_lists (raw_ring k.ops) (scale_list (raw_ring k.ops) x (1 ∷ replicate (length xs) 0)))
       (combination_longer (length xs) xs (unit_rows (length xs)) (IsOver_tail xs_in))
       ∙ ap₂ (λ y ys. y ∷ ys)
-      (ap (λ y. k.add y 0) (k.laws.mul_comm x 1 (IsOver_head xs_in) k.laws.one_below ∙ k.laws.one_mul x (IsOver_head xs_in))
+      (ap (λ y. k.add y 0) (k.laws.mul_comm x 1 (IsOver_head xs_in) k.laws.one_below
+      ∙ k.laws.one_mul x (IsOver_head xs_in))
       ∙ code_add_zero k x (IsOver_head xs_in))
-      (ap₂ (add_lists (raw_ring k.ops)) (scale_zeros k x (length xs) (IsOver_head xs_in)) (combination_units xs (IsOver_tail xs_in))
+      (ap₂ (add_lists (raw_ring k.ops)) (scale_zeros k x (length xs) (IsOver_head xs_in))
+      (combination_units xs (IsOver_tail xs_in))
       ∙ lists_comm k (replicate (length xs) 0) xs (IsOver_zeros k (length xs)) (IsOver_tail xs_in)
       ∙ lists_zero k xs (IsOver_tail xs_in))
 
   pub unit_in : (n i : ℕ) → i < n → IsVector k.ops n (unit_row n i)
-  unit_in n i l = subst (IsVector k.ops n) (unit_rows_get n i l) (unit_rows_in n i [] (omega (arith, length_unit_rows n)))
+  unit_in n i l = subst (IsVector k.ops n) (unit_rows_get n i l)
+      (unit_rows_in n i [] (omega (arith, length_unit_rows n)))

@@ -28,13 +28,16 @@ module _ (k : CodeField) (n : ℕ) where
   -- rows of n codes as vectors
   abbrev pub vectors : (rows : List (List ℕ)) → All (IsVector k.ops n) rows → List (Vector k n)
   vectors [] all = []
-  vectors (r ∷ rows) all = (r, All-head (IsVector k.ops n) r rows all) ∷ vectors rows (All-tail (IsVector k.ops n) r rows all)
+  vectors (r ∷ rows) all = (r, All-head (IsVector k.ops n) r rows all) ∷ vectors rows
+      (All-tail (IsVector k.ops n) r rows all)
 
-  pub rows_of_vectors : (rows : List (List ℕ)) (all : All (IsVector k.ops n) rows) → map (λ x. x.0) (vectors rows all) ≡ rows
+  pub rows_of_vectors : (rows : List (List ℕ)) (all : All (IsVector k.ops n) rows)
+      → map (λ x. x.0) (vectors rows all) ≡ rows
   rows_of_vectors [] all = refl
   rows_of_vectors (r ∷ rows) all = ap (λ w. r ∷ w) (rows_of_vectors rows (All-tail (IsVector k.ops n) r rows all))
 
-  pub length_vectors : (rows : List (List ℕ)) (all : All (IsVector k.ops n) rows) → length (vectors rows all) ≡ length rows
+  pub length_vectors : (rows : List (List ℕ)) (all : All (IsVector k.ops n) rows)
+      → length (vectors rows all) ≡ length rows
   length_vectors rows all = sym (length-map (vectors rows all) (λ x. x.0)) ∙ ap length (rows_of_vectors rows all)
 
 module _ (k : CodeField) (A : AlgebraOps) (law : IsAlgebra k A) where
@@ -52,19 +55,22 @@ module _ (k : CodeField) (A : AlgebraOps) (law : IsAlgebra k A) where
   pub scalar_map : IsHom (code_ring k).ring R scalar
   scalar_map = record {
     add = λ a b. same_vector k A.size _ _ (scale_sum k a.0 b.0 A.unit a.1 b.1 law.unit_in.over);
-    mul = λ a b. same_vector k A.size _ _ (scale_product k a.0 b.0 A.unit a.1 b.1 law.unit_in.over ∙ sym (scalar_times a (scalar b)));
+    mul = λ a b. same_vector k A.size _ _
+        (scale_product k a.0 b.0 A.unit a.1 b.1 law.unit_in.over ∙ sym (scalar_times a (scalar b)));
     𝟙 = same_vector k A.size _ _ (scale_one k A.unit law.unit_in.over);
   }
 
   -- combinations of rows are those of vectors
   pub combination_value : (cs : List (Code k)) (bs : List (Vector k A.size))
-      → (combination R.ops (map scalar cs) bs).0 ≡ row_combination (row_ops k.ops A.size) (numbers k cs) (map (λ x. x.0) bs)
+      → (combination R.ops (map scalar cs) bs).0
+      ≡ row_combination (row_ops k.ops A.size) (numbers k cs) (map (λ x. x.0) bs)
   combination_value [] bs = refl
   combination_value (c ∷ cs) [] = refl
   combination_value (c ∷ cs) (b ∷ bs) = ap₂ (add_lists (raw_ring k.ops)) (scalar_times c b) (combination_value cs bs)
 
   pub combination_read : (cs : List ℕ) (bs : List (Vector k A.size)) → IsOver k.ops cs
-      → (combination R.ops (map scalar (read k cs)) bs).0 ≡ row_combination (row_ops k.ops A.size) cs (map (λ x. x.0) bs)
+      → (combination R.ops (map scalar (read k cs)) bs).0
+      ≡ row_combination (row_ops k.ops A.size) cs (map (λ x. x.0) bs)
   combination_read cs bs over =
       combination_value (read k cs) bs
       ∙ ap (λ xs. row_combination (row_ops k.ops A.size) xs (map (λ x. x.0) bs)) (numbers_read k cs over)
@@ -85,7 +91,8 @@ module _ (k : CodeField) (A : AlgebraOps) (law : IsAlgebra k A) where
       → x.0 ≡ row_combination (row_ops k.ops A.size) cs (map (λ x. x.0) bs) → Span R.ops (Image scalar) bs x
   combination_span cs bs x over e =
       subst (Span R.ops (Image scalar) bs) (same_vector k A.size _ _ (combination_read cs bs over ∙ sym e))
-      (span_of_combination R (Image scalar) (image_subring (code_ring k).ring R scalar scalar_map) (map scalar (read k cs)) bs (scalars_in (read k cs)))
+      (span_of_combination R (Image scalar) (image_subring (code_ring k).ring R scalar scalar_map)
+      (map scalar (read k cs)) bs (scalars_in (read k cs)))
 
   abbrev pub basis : List (Vector k A.size)
   basis = vectors k A.size (unit_rows A.size) (unit_rows_in k A.size)
@@ -96,7 +103,8 @@ module _ (k : CodeField) (A : AlgebraOps) (law : IsAlgebra k A) where
   pub basis_spans : (x : Vector k A.size) → Span R.ops (Image scalar) basis x
   basis_spans x =
       combination_span x.0 basis x x.1.over
-      (sym (ap (λ rows. row_combination (row_ops k.ops A.size) x.0 rows) (rows_of_vectors k A.size (unit_rows A.size) (unit_rows_in k A.size))
+      (sym (ap (λ rows. row_combination (row_ops k.ops A.size) x.0 rows)
+      (rows_of_vectors k A.size (unit_rows A.size) (unit_rows_in k A.size))
       ∙ ap (λ n. row_combination (row_ops k.ops n) x.0 (unit_rows n)) (sym x.1.size)
       ∙ combination_units k x.0 x.1.over))
 
@@ -107,7 +115,8 @@ module _ (k : CodeField) (A : AlgebraOps) (law : IsAlgebra k A) where
         x.1 (ap (λ v. v.0) (sym (R.mul_one x.0) ∙ ap (R.◌⊗◌ x.0) e ∙ mul_zero R x.0))
 
     abbrev pub vector_algebra : FiniteAlgebra R.ops (Image scalar)
-    vector_algebra = algebra (code_ring k).ring R scalar scalar_map (code_finite k) (vector_discrete k A.size) one_not_zero basis basis_spans
+    vector_algebra = algebra (code_ring k).ring R scalar scalar_map (code_finite k) (vector_discrete k A.size)
+        one_not_zero basis basis_spans
 
     pub length_scalars : length vector_algebra.codes ≡ k.size
     length_scalars = length-map (code_finite k).codes scalar ∙ length_codes k

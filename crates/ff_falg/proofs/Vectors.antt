@@ -32,7 +32,8 @@ module _ (k : CodeField) (n : ℕ) where
   pub zeros_in : IsVector k.ops n (replicate n 0)
   zeros_in = record { size = length-replicate {A = ℕ} n 0; over = IsOver_zeros k n }
 
-  pub sum_in : (x y : List ℕ) → IsVector k.ops n x → IsVector k.ops n y → IsVector k.ops n (add_lists (raw_ring k.ops) x y)
+  pub sum_in : (x y : List ℕ) → IsVector k.ops n x → IsVector k.ops n y
+      → IsVector k.ops n (add_lists (raw_ring k.ops) x y)
   sum_in x y x_in y_in = record {
     size = length_add_lists (raw_ring k.ops) x y (let a = x_in.size in let b = y_in.size in omega arith) ∙ x_in.size;
     over = IsOver_add k x y x_in.over y_in.over;
@@ -41,8 +42,13 @@ module _ (k : CodeField) (n : ℕ) where
   pub neg_in : (x : List ℕ) → IsVector k.ops n x → IsVector k.ops n (neg_list (raw_ring k.ops) x)
   neg_in x x_in = record { size = length_neg_list (raw_ring k.ops) x ∙ x_in.size; over = IsOver_neg k x x_in.over }
 
-  pub multiple_in : (c : ℕ) (x : List ℕ) → c < k.size → IsVector k.ops n x → IsVector k.ops n (scale_list (raw_ring k.ops) c x)
-  multiple_in c x c_in x_in = record { size = length_scale_list (raw_ring k.ops) c x ∙ x_in.size; over = IsOver_scale k c x c_in x_in.over }
+  pub multiple_in : (c : ℕ) (x : List ℕ) → c < k.size → IsVector k.ops n x
+      → IsVector k.ops n (scale_list (raw_ring k.ops) c x)
+  multiple_in c x c_in x_in = record {
+    size = length_scale_list (raw_ring k.ops) c x
+        ∙ x_in.size;
+    over = IsOver_scale k c x c_in x_in.over;
+  }
 
   list_discrete : (xs ys : List ℕ) → Dec (xs ≡ ys)
   list_discrete [] [] = yes refl

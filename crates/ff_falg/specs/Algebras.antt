@@ -20,13 +20,16 @@ pub record IsVector (k : FieldOps) (n : ℕ) (v : List ℕ) : Type 0 where
 -- a commutative algebra with unit over k, on the vectors
 pub record IsAlgebra (k : CodeField) (A : AlgebraOps) : Type 0 where
   pub unit_in : IsVector k.ops A.size A.unit
-  pub product_in : (a b : List ℕ) → IsVector k.ops A.size a → IsVector k.ops A.size b → IsVector k.ops A.size (A.product k.ops a b)
-  pub commutative : (a b : List ℕ) → IsVector k.ops A.size a → IsVector k.ops A.size b → A.product k.ops a b ≡ A.product k.ops b a
+  pub product_in : (a b : List ℕ) → IsVector k.ops A.size a → IsVector k.ops A.size b
+      → IsVector k.ops A.size (A.product k.ops a b)
+  pub commutative : (a b : List ℕ) → IsVector k.ops A.size a → IsVector k.ops A.size b
+      → A.product k.ops a b ≡ A.product k.ops b a
   pub associative : (a b c : List ℕ) → IsVector k.ops A.size a → IsVector k.ops A.size b → IsVector k.ops A.size c
       → A.product k.ops (A.product k.ops a b) c ≡ A.product k.ops a (A.product k.ops b c)
   pub unit_times : (a : List ℕ) → IsVector k.ops A.size a → A.product k.ops A.unit a ≡ a
   pub distributive : (a b c : List ℕ) → IsVector k.ops A.size a → IsVector k.ops A.size b → IsVector k.ops A.size c
-      → A.product k.ops a (add_lists (raw_ring k.ops) b c) ≡ add_lists (raw_ring k.ops) (A.product k.ops a b) (A.product k.ops a c)
+      → A.product k.ops a (add_lists (raw_ring k.ops) b c)
+      ≡ add_lists (raw_ring k.ops) (A.product k.ops a b) (A.product k.ops a c)
   pub linear : (c : ℕ) (a b : List ℕ) → c < k.size → IsVector k.ops A.size a → IsVector k.ops A.size b
       → A.product k.ops (scale_list (raw_ring k.ops) c a) b ≡ scale_list (raw_ring k.ops) c (A.product k.ops a b)
 
@@ -62,4 +65,5 @@ pub record IsPrimitiveVector (k : FieldOps) (A : AlgebraOps) (e : List ℕ) : Ty
 -- the algebra is a field: 1 isn't 0, and each element that isn't 0 has an inverse
 pub record IsFieldAlgebra (k : FieldOps) (A : AlgebraOps) : Type 0 where
   pub one_not_zero : A.unit ≢ zero_of A
-  pub inverse : (a : List ℕ) → IsVector k A.size a → a ≢ zero_of A → (b : List ℕ) × IsVector k A.size b × (A.product k a b ≡ A.unit)
+  pub inverse : (a : List ℕ) → IsVector k A.size a → a ≢ zero_of A
+      → (b : List ℕ) × IsVector k A.size b × (A.product k a b ≡ A.unit)

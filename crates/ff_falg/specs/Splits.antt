@@ -15,7 +15,8 @@ weight_of k lower c = monic_value k (take (length lower - 1) (quotient_of k lowe
 
 -- the value of that quotient, made 1 at c, where the rows of a matrix are the powers
 abbrev pub part_of : FieldOps → List ℕ → MatrixValue → ℕ → List ℕ
-part_of k lower powers c = scale_list (raw_ring k) (k.inv (weight_of k lower c)) (product_of k (quotient_of k lower c) powers)
+part_of k lower powers c = scale_list (raw_ring k) (k.inv (weight_of k lower c))
+    (product_of k (quotient_of k lower c) powers)
 
 -- a code whose quotient has a value that isn't 0
 pub record IsSimple (k : FieldOps) (lower : List ℕ) (c : ℕ) : Type 0 where

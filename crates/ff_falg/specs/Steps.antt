@@ -26,7 +26,8 @@ pub record IsProductBelow (k : FieldOps) (a b : MatrixValue) (i : ℕ) (m : Matr
 pub record IsFrobeniusBelow (k : FieldOps) (A : AlgebraOps) (i : ℕ) (m : MatrixValue) : Type 0 where
   pub written : HasRowsBelow k (λ l. power k A (unit_row A.size l) k.size) A.size A.size i m
 
--- the matrix of an iterate of the map a to a^q, so often that q to this number is at least the bound: its rows are the powers
+-- the matrix of an iterate of the map a to a^q, so often that q to this number is at least the bound: its rows are the
+-- powers
 -- of the unit rows
 pub record IsIterate (k : FieldOps) (A : AlgebraOps) (bound : ℕ) (m : MatrixValue) : Type 0 where
   pub shape : HasShape m A.size A.size
@@ -39,5 +40,6 @@ pub record IsIterate (k : FieldOps) (A : AlgebraOps) (bound : ℕ) (m : MatrixVa
 pub record IsLessUnit (k : FieldOps) (m : MatrixValue) (i : ℕ) (new : MatrixValue) : Type 0 where
   pub shape : HasShape new m.cols m.cols
   pub over : IsMatrixOver k new
-  pub done : (l : ℕ) → l < i → row_of new l ≡ add_lists (raw_ring k) (row_of m l) (neg_list (raw_ring k) (unit_row m.cols l))
+  pub done : (l : ℕ) → l < i → row_of new l
+      ≡ add_lists (raw_ring k) (row_of m l) (neg_list (raw_ring k) (unit_row m.cols l))
   pub rest : (l : ℕ) → i ≤ l → row_of new l ≡ row_of m l

@@ -7,7 +7,8 @@ ghost use Rattle.ff_falg.specs.Algebras.{AlgebraOps, IsAlgebra, IsVector};
 use ff_fields::field::SmallField;
 use std::alloc::{AllocError, Global};
 
-/// A commutative algebra with unit, of finite dimension over a small field that each call is given. An element is the list
+/// A commutative algebra with unit, of finite dimension over a small field that each call is given. An element is the
+/// list
 /// of its coordinates, as many codes as the dimension.
 pub trait FiniteAlgebra<K: SmallField> {
     // The dimension, the unit, and the product over a field.
@@ -16,7 +17,8 @@ pub trait FiniteAlgebra<K: SmallField> {
     // It is an algebra over this field.
     ghost IsOver: { Self → CodeField → Type 0 };
 
-    // What that says. It is a value, and not a law of the trait, so that an algebra says itself over which fields it is one.
+    // What that says. It is a value, and not a law of the trait, so that an algebra says itself over which fields it is
+    // one.
     ghost laws: { (a : Self) (k : CodeField) → IsOver a k → IsAlgebra k (algebra a) };
 
     /// The dimension. No memory.

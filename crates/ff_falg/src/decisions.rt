@@ -10,7 +10,8 @@ use ff_fields::field::SmallField;
 use ff_linalg::kernel;
 use std::alloc::{AllocError, Global};
 
-/// Whether the algebra is a field: the map a to a^q has kernel 0, and fixes a space of dimension 1. False at dimension 0.
+/// Whether the algebra is a field: the map a to a^q has kernel 0, and fixes a space of dimension 1. False at dimension
+/// 0.
 /// Cost: that of `frobenius` and of two kernels.
 pub fn is_field<K: SmallField, A: FiniteAlgebra<K>>(
     alloc: Global,

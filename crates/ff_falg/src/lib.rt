@@ -1,4 +1,5 @@
-//! Finite commutative algebras over a small field: the Frobenius map, nilpotent and fixed elements, primitive idempotents.
+//! Finite commutative algebras over a small field: the Frobenius map, nilpotent and fixed elements, primitive
+//! idempotents.
 #![tactic(auto)]
 
 pub mod algebra;

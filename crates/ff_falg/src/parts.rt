@@ -56,7 +56,8 @@ fn push_parts<K: SmallField>(
     requires powers_in { IsMatrixOver (K.field k.now).ops powers.now }
     requires shape { HasShape powers.now (length powers.now.rows) powers.now.cols }
     requires simple { All (IsSimple (K.field k.now).ops lower.now) found.now }
-    ensures { OnOk result (elements_of out.new.items ≡ elements_of out.old.items ++ map (part_of (K.field k.now).ops lower.now powers.now) found.now) }
+    ensures { OnOk result (elements_of out.new.items
+        ≡ elements_of out.old.items ++ map (part_of (K.field k.now).ops lower.now powers.now) found.now) }
 {
     for c in found {
         out.push(part(alloc, k, lower, *c, powers)?)?;
@@ -81,7 +82,8 @@ fn split<K: SmallField, A: FiniteAlgebra<K>>(
     requires nonzero { e.now ≢ zero_of (A.algebra a.now) }
     requires some { 0 < bound }
     requires bounded { IsBounded (K.field k.now).ops (A.algebra a.now) x.now e.now bound }
-    ensures { OnOk result (IsSplitOnto (K.field k.now).ops (A.algebra a.now) x.now e.now (elements_of out.old.items) (elements_of out.new.items)) }
+    ensures { OnOk result (IsSplitOnto (K.field k.now).ops (A.algebra a.now) x.now e.now (elements_of out.old.items)
+        (elements_of out.new.items)) }
 {
     let relation = first_relation(alloc, k, a, x, e, bound)?;
     let mut lower = relation.coefficients;
@@ -111,10 +113,12 @@ fn refine<K: SmallField, A: FiniteAlgebra<K>>(
     parts: &[Vec<u32>],
 ) -> Result<Vec<Vec<u32>>, AllocError>
     requires over { A.IsOver a.now (K.field k.now) }
-    requires basis { IsEchelonBasisMatrix (K.field k.now).ops (A.algebra a.now).size (IsFixedVector (K.field k.now).ops (A.algebra a.now)) basis.now }
+    requires basis { IsEchelonBasisMatrix (K.field k.now).ops (A.algebra a.now).size
+        (IsFixedVector (K.field k.now).ops (A.algebra a.now)) basis.now }
     requires within { i < length basis.now.rows }
     requires splitting { IsSplitting (K.field k.now).ops (A.algebra a.now) basis.now i (elements_of parts.now) }
-    ensures { IfOk result (λ v. IsSplitting (K.field k.now).ops (A.algebra a.now) basis.now (i + 1) (elements_of v.items)) }
+    ensures { IfOk result (λ v. IsSplitting (K.field k.now).ops (A.algebra a.now) basis.now (i + 1)
+        (elements_of v.items)) }
 {
     let mut out = Vec::new(alloc);
     for e in parts {
@@ -139,7 +143,8 @@ fn split_one<K: SmallField, A: FiniteAlgebra<K>>(
     basis: &Matrix,
 ) -> Result<Vec<Vec<u32>>, AllocError>
     requires over { A.IsOver a.now (K.field k.now) }
-    requires basis { IsEchelonBasisMatrix (K.field k.now).ops (A.algebra a.now).size (IsFixedVector (K.field k.now).ops (A.algebra a.now)) basis.now }
+    requires basis { IsEchelonBasisMatrix (K.field k.now).ops (A.algebra a.now).size
+        (IsFixedVector (K.field k.now).ops (A.algebra a.now)) basis.now }
     requires some { 0 < length basis.now.rows }
     ensures { IfOk result (λ v. IsFullSplitting (K.field k.now).ops (A.algebra a.now) basis.now (elements_of v.items)) }
 {
@@ -155,8 +160,10 @@ fn split_one<K: SmallField, A: FiniteAlgebra<K>>(
 }
 
 /// All primitive idempotents, ordered by their lists of codes, which are compared from the first entry.
-/// Cost: that of `fixed`; for each idempotent that a row splits into s, at most 2·s products, the first relation of at most
-/// 2·s elements, and values at codes; the values are at most 2·r·q in all, where r is the number of idempotents and q the
+/// Cost: that of `fixed`; for each idempotent that a row splits into s, at most 2·s products, the first relation of at
+/// most
+/// 2·s elements, and values at codes; the values are at most 2·r·q in all, where r is the number of idempotents and q
+/// the
 /// size of the field.
 pub fn idempotents<K: SmallField, A: FiniteAlgebra<K>>(
     alloc: Global,

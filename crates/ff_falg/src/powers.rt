@@ -68,7 +68,8 @@ fn next_row<K: SmallField, A: FiniteAlgebra<K>>(
     requires over { A.IsOver a.now (K.field k.now) }
     requires within { i < (A.algebra a.now).size }
     requires before { IsFrobeniusBelow (K.field k.now).ops (A.algebra a.now) i rows.now }
-    ensures { IfOk result (λ v. v.items ≡ power (K.field k.now).ops (A.algebra a.now) (unit_row (A.algebra a.now).size i) (K.field k.now).size) }
+    ensures { IfOk result (λ v. v.items ≡ power (K.field k.now).ops (A.algebra a.now)
+        (unit_row (A.algebra a.now).size i) (K.field k.now).size) }
 {
     if i >= 2 && is_next(alloc, k, a, i)? {
         return a.mul(alloc, k, rows.row(1), rows.row(i - 1));
@@ -77,9 +78,11 @@ fn next_row<K: SmallField, A: FiniteAlgebra<K>>(
     pow(alloc, k, a, element.as_slice(), k.size())
 }
 
-/// The matrix of the map that takes an element to its q-th power, where q is the size of the field: row i is the q-th power
+/// The matrix of the map that takes an element to its q-th power, where q is the size of the field: row i is the q-th
+/// power
 /// of basis element i, and v times the matrix is that of v.
-/// Cost: two products for each basis element that is the one before times that with number 1, and for each other one at most
+/// Cost: two products for each basis element that is the one before times that with number 1, and for each other one at
+/// most
 /// twice as many as q has bits.
 pub fn frobenius<K: SmallField, A: FiniteAlgebra<K>>(
     alloc: Global,

@@ -11,7 +11,8 @@ use ff_fields::field::SmallField;
 use ff_linalg::{Matrix, min_relation};
 use std::alloc::{AllocError, Global};
 
-/// The elements e, x·e, x·x·e, .. as rows, as far as there is a relation among them, and the coefficients of the first row
+/// The elements e, x·e, x·x·e, .. as rows, as far as there is a relation among them, and the coefficients of the first
+/// row
 /// that is a combination of the rows before it.
 #[derive(Drop)]
 pub struct Relation {
@@ -45,7 +46,8 @@ fn next_power<K: SmallField, A: FiniteAlgebra<K>>(
     requires within { l < length powers.now.rows }
     requires before { IsPowersBelow (K.field k.now).ops (A.algebra a.now) x.now (row_of known.now 0) l powers.now }
     ensures { let A = A.algebra a.now in
-        IfOk result (λ v. v.items ≡ A.product (K.field k.now).ops (power (K.field k.now).ops A x.now l) (row_of known.now 0)) }
+        IfOk result (λ v. v.items ≡ A.product (K.field k.now).ops (power (K.field k.now).ops A x.now l)
+        (row_of known.now 0)) }
 {
     if l < known.rows() {
         return known.row(l).to_vec(alloc);
@@ -77,8 +79,10 @@ fn more_powers<K: SmallField, A: FiniteAlgebra<K>>(
     Ok(powers)
 }
 
-/// The first relation among e, x·e, x·x·e, .., of which at most `bound` are independent. The number of rows is doubled until
-/// there is one; from half of the bound on all are taken at once. More than `usize::MAX` rows, which only a bound of `usize::MAX` asks
+/// The first relation among e, x·e, x·x·e, .., of which at most `bound` are independent. The number of rows is doubled
+/// until
+/// there is one; from half of the bound on all are taken at once. More than `usize::MAX` rows, which only a bound of
+/// `usize::MAX` asks
 /// for, are want of memory.
 /// Cost: one elimination for each number of rows, 1, 2, 4, .. and bound + 1.
 pub fn first_relation<K: SmallField, A: FiniteAlgebra<K>>(
@@ -94,7 +98,8 @@ pub fn first_relation<K: SmallField, A: FiniteAlgebra<K>>(
     requires e_in { IsVector (K.field k.now).ops (A.algebra a.now).size e.now }
     requires some { 0 < bound }
     requires bounded { IsBounded (K.field k.now).ops (A.algebra a.now) x.now e.now bound }
-    ensures { IfOk result (λ r. IsRelation (K.field k.now).ops (A.algebra a.now) x.now e.now r.powers r.coefficients.items) }
+    ensures { IfOk result (λ r. IsRelation (K.field k.now).ops (A.algebra a.now) x.now e.now r.powers
+        r.coefficients.items) }
 {
     let mut powers = first_power(alloc, e)?;
     'grow: loop {

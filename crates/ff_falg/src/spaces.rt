@@ -13,7 +13,8 @@ use ff_fields::field::SmallField;
 use ff_linalg::{Matrix, kernel};
 use std::alloc::{AllocError, Global};
 
-/// The matrix of an iterate of the map a to a^q, where q to the number of times is at least the dimension: each matrix is the
+/// The matrix of an iterate of the map a to a^q, where q to the number of times is at least the dimension: each matrix
+/// is the
 /// square of the one before.
 fn high_iterate<K: SmallField, A: FiniteAlgebra<K>>(
     alloc: Global,
@@ -45,7 +46,8 @@ pub(crate) fn take_unit<K: SmallField>(k: &K, m: &mut Matrix)
 }
 
 /// The reduced echelon basis, as rows, of the elements of which some power is 0.
-/// Cost: that of `frobenius`, a product of matrices for each doubling of the number of times until q to this number is at
+/// Cost: that of `frobenius`, a product of matrices for each doubling of the number of times until q to this number is
+/// at
 /// least the dimension, and a kernel.
 pub fn nilpotents<K: SmallField, A: FiniteAlgebra<K>>(
     alloc: Global,
@@ -54,7 +56,8 @@ pub fn nilpotents<K: SmallField, A: FiniteAlgebra<K>>(
 ) -> Result<Matrix, AllocError>
     requires { A.IsOver a.now (K.field k.now) }
     ensures { let n = (A.algebra a.now).size in
-        IfOk result (IsEchelonBasisMatrix (K.field k.now).ops n (IsNilpotentVector (K.field k.now).ops (A.algebra a.now))) }
+        IfOk result (IsEchelonBasisMatrix (K.field k.now).ops n
+        (IsNilpotentVector (K.field k.now).ops (A.algebra a.now))) }
 {
     let iterate = high_iterate(alloc, k, a)?;
     kernel(alloc, k, &iterate)

@@ -27,9 +27,11 @@ module _ (p : ℕ) (above : 1 < p) where
 
   module _ (m : ℕ) (modulus : List ℕ) where
     pub none_first : NoFactorBelow p m modulus (p ^ 1)
-    none_first e d c some half monic less c_in factor = let low = degree_below e 1 d monic less in absurd (omega (arith, some, low))
+    none_first e d c some half monic less c_in factor = let low = degree_below e 1 d monic less in absurd
+        (omega (arith, some, low))
 
-    pub none_more : (d : ℕ) → NoFactorBelow p m modulus d → ((c : ℕ) → c < p ^ m → ¬ IsFactor p m modulus d c) → NoFactorBelow p m modulus (d + 1)
+    pub none_more : (d : ℕ) → NoFactorBelow p m modulus d → ((c : ℕ) → c < p ^ m → ¬ IsFactor p m modulus d c)
+        → NoFactorBelow p m modulus (d + 1)
     none_more d before here e x c some half monic less c_in factor = go (eq-or-lt_of_le le)
       where
         le : x ≤ d
@@ -48,7 +50,8 @@ module _ (p : ℕ) (above : 1 < p) where
         none e x c some half monic (omega (arith, up, under, far)) c_in factor
 
     -- no degree is left
-    pub none_all : (n : ℕ) → m / 2 + 1 ≤ n → NoFactorBelow p m modulus (p ^ n) → (bound : ℕ) → NoFactorBelow p m modulus bound
+    pub none_all : (n : ℕ) → m / 2 + 1 ≤ n → NoFactorBelow p m modulus (p ^ n) → (bound : ℕ)
+        → NoFactorBelow p m modulus bound
     none_all n far none bound e x c some half monic less c_in factor =
         let low : suc e ≤ n = omega (arith, far, half) in
         let up : p ^ suc e ≤ p ^ n = pow-le-pow_right pos low in

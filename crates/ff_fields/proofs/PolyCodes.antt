@@ -25,21 +25,27 @@ module _ (p : ℕ) (pos : 0 < p) where
   number_from_top n [] same = absurd (omega arith)
   number_from_top zero (d ∷ ds) same = omega (arith, pow-zero p, ap (λ w. d * w) (pow-zero p))
   number_from_top (suc n) (d ∷ ds) same =
-      let rest : p * (get_or ds n 0 * p ^ n) ≤ p * number p ds = mul-le-mul_left p (number_from_top n ds (omega arith)) in
-      let whole : get_or ds n 0 * p ^ suc n ≡ p * (get_or ds n 0 * p ^ n) = ap (λ w. get_or ds n 0 * w) (pow-suc p n) ∙ turn (get_or ds n 0) (p ^ n) p in
+      let rest : p * (get_or ds n 0 * p ^ n) ≤ p * number p ds = mul-le-mul_left p (number_from_top n ds (omega arith))
+      in
+      let whole : get_or ds n 0 * p ^ suc n ≡ p * (get_or ds n 0 * p ^ n) = ap (λ w. get_or ds n 0 * w) (pow-suc p n)
+      ∙ turn (get_or ds n 0) (p ^ n) p in
       omega (arith, rest, whole)
     where
       turn : (t w p : ℕ) → t * (w * p) ≡ p * (t * w)
       turn t w p = grind arith
 
-  pub number_to_top : (n : ℕ) (ds : List ℕ) → length ds ≡ suc n → IsOver (prime_of p) ds → number p ds < suc (get_or ds n 0) * p ^ n
+  pub number_to_top : (n : ℕ) (ds : List ℕ) → length ds ≡ suc n → IsOver (prime_of p) ds
+      → number p ds < suc (get_or ds n 0) * p ^ n
   number_to_top n [] same over = absurd (omega arith)
   number_to_top zero (d ∷ []) same over = omega (arith, pow-zero p, ap (λ w. suc d * w) (pow-zero p))
   number_to_top zero (d ∷ e ∷ ds) same over = absurd (omega arith)
   number_to_top (suc n) (d ∷ ds) same over =
-      let rest : p * suc (number p ds) ≤ p * (suc (get_or ds n 0) * p ^ n) = mul-le-mul_left p (number_to_top n ds (omega arith) (IsOver_tail over)) in
+      let rest : p * suc (number p ds) ≤ p * (suc (get_or ds n 0) * p ^ n) = mul-le-mul_left p
+      (number_to_top n ds (omega arith) (IsOver_tail over)) in
       let d_in : d < p = IsOver_head over in
-      let whole : suc (get_or ds n 0) * p ^ suc n ≡ p * (suc (get_or ds n 0) * p ^ n) = ap (λ w. suc (get_or ds n 0) * w) (pow-suc p n) ∙ turn (suc (get_or ds n 0)) (p ^ n) p in
+      let whole : suc (get_or ds n 0) * p ^ suc n
+      ≡ p * (suc (get_or ds n 0) * p ^ n) = ap (λ w. suc (get_or ds n 0) * w) (pow-suc p n)
+      ∙ turn (suc (get_or ds n 0)) (p ^ n) p in
       omega (arith, rest, d_in, whole, mul_suc_lem p (number p ds))
     where
       turn : (t w p : ℕ) → t * (w * p) ≡ p * (t * w)
@@ -49,14 +55,19 @@ module _ (p : ℕ) (pos : 0 < p) where
       mul_suc_lem a b = omega arith
 
   -- the digits of a number are those that made it, and zeros
-  pub digit_of_number : (m : ℕ) (ds : List ℕ) (n : ℕ) → length ds ≤ m → IsOver (prime_of p) ds → get_or (digits p m (number p ds)) n 0 ≡ get_or ds n 0
+  pub digit_of_number : (m : ℕ) (ds : List ℕ) (n : ℕ) → length ds ≤ m → IsOver (prime_of p) ds
+      → get_or (digits p m (number p ds)) n 0 ≡ get_or ds n 0
   digit_of_number zero [] n le over = refl
   digit_of_number zero (d ∷ ds) n le over = absurd (omega arith)
   digit_of_number (suc m) [] zero le over = mod-eq_of_lt pos
-  digit_of_number (suc m) [] (suc n) le over = ap (λ c. get_or (digits p m c) n 0) (div-eq_of_lt pos) ∙ digit_of_number m [] n (omega arith) over
-  digit_of_number (suc m) (d ∷ ds) zero le over = add-mul-mod_self_left d p (number p ds) ∙ mod-eq_of_lt (IsOver_head over)
+  digit_of_number (suc m) [] (suc n) le over = ap (λ c. get_or (digits p m c) n 0) (div-eq_of_lt pos)
+      ∙ digit_of_number m [] n (omega arith) over
+  digit_of_number (suc m) (d ∷ ds) zero le over = add-mul-mod_self_left d p (number p ds)
+      ∙ mod-eq_of_lt (IsOver_head over)
   digit_of_number (suc m) (d ∷ ds) (suc n) le over =
-      ap (λ c. get_or (digits p m c) n 0) (add-mul-div_left d (number p ds) pos ∙ ap (λ w. w + number p ds) (div-eq_of_lt (IsOver_head over)) ∙ none (number p ds))
+      ap (λ c. get_or (digits p m c) n 0)
+      (add-mul-div_left d (number p ds) pos ∙ ap (λ w. w + number p ds) (div-eq_of_lt (IsOver_head over))
+      ∙ none (number p ds))
       ∙ digit_of_number m ds n (omega arith) (IsOver_tail over)
     where
       none : (n : ℕ) → 0 + n ≡ n
@@ -101,15 +112,19 @@ module _ (p : ℕ) (listed : IsTrue (is_listed p)) where
 
   pub code_from_top : (f : Pol K) (n : ℕ) → length f.0 ≡ suc n → digit_at f n * p ^ n ≤ code f
   code_from_top f n long =
-      subst (λ w. w * p ^ n ≤ code f) (sym (numbers_get_or k f.0 n)) (number_from_top p base_pos n (numbers k f.0) (length_numbers f ∙ long))
+      subst (λ w. w * p ^ n ≤ code f) (sym (numbers_get_or k f.0 n))
+      (number_from_top p base_pos n (numbers k f.0) (length_numbers f ∙ long))
 
   pub code_to_top : (f : Pol K) (n : ℕ) → length f.0 ≡ suc n → code f < suc (digit_at f n) * p ^ n
   code_to_top f n long =
-      subst (λ w. code f < suc w * p ^ n) (sym (numbers_get_or k f.0 n)) (number_to_top p base_pos n (numbers k f.0) (length_numbers f ∙ long) (IsOver_numbers k f.0))
+      subst (λ w. code f < suc w * p ^ n) (sym (numbers_get_or k f.0 n))
+      (number_to_top p base_pos n (numbers k f.0) (length_numbers f ∙ long) (IsOver_numbers k f.0))
 
   pub top_some : (f : Pol K) (n : ℕ) → length f.0 ≡ suc n → coeff_of K.ops f.0 n ≢ K.𝟘
   top_some ([], t) n long = absurd (omega arith)
-  top_some ((x ∷ xs), t) n long = let same : length xs ≡ n = omega arith in subst (λ i. coeff_of K.ops (x ∷ xs) i ≢ K.𝟘) same (coeff_top K x xs t)
+  top_some ((x ∷ xs), t) n long = let same : length xs
+      ≡ n = omega arith in subst (λ i. coeff_of K.ops (x ∷ xs) i ≢ K.𝟘) same
+      (coeff_top K x xs t)
 
   pub top_pos : (f : Pol K) (n : ℕ) → length f.0 ≡ suc n → 0 < digit_at f n
   top_pos f n long = pos_of_ne-zero (λ e. top_some f n long (same_code k _ K.𝟘 e))
@@ -153,7 +168,8 @@ module _ (p : ℕ) (listed : IsTrue (is_listed p)) where
       le_trans (code_below f (length g.0 - 1) (omega arith)) (code_least g (length g.0 - 1) long)
 
   -- of two as long as each other, the one with the larger top
-  pub code_higher : (f g : Pol K) (n : ℕ) → length f.0 ≡ suc n → length g.0 ≡ suc n → digit_at f n < digit_at g n → code f < code g
+  pub code_higher : (f g : Pol K) (n : ℕ) → length f.0 ≡ suc n → length g.0 ≡ suc n → digit_at f n < digit_at g n
+      → code f < code g
   code_higher f g n f_long g_long less =
       let rows : suc (digit_at f n) * p ^ n ≤ digit_at g n * p ^ n = mul-le-mul_right (p ^ n) less in
       omega (arith, rows, code_to_top f n f_long, code_from_top g n g_long)
@@ -163,7 +179,8 @@ module _ (p : ℕ) (listed : IsTrue (is_listed p)) where
   of_code m c = polynomial p listed (digits p m c)
 
   pub digit_of_code : (m c n : ℕ) → digit_at (of_code m c) n ≡ get_or (digits p m c) n 0
-  digit_of_code m c n = ap (λ x. x.0) (coeff_trim K (read k (digits p m c)) n) ∙ read_at p listed (digits p m c) n (IsOver_digits p base_pos m c)
+  digit_of_code m c n = ap (λ x. x.0) (coeff_trim K (read k (digits p m c)) n)
+      ∙ read_at p listed (digits p m c) n (IsOver_digits p base_pos m c)
 
   -- each undoes the other
   pub of_code_code : (m : ℕ) (f : Pol K) → length f.0 ≤ m → of_code m (code f) ≡ f
@@ -176,7 +193,8 @@ module _ (p : ℕ) (listed : IsTrue (is_listed p)) where
 
   pub code_of_code : (m c : ℕ) → c < p ^ m → code (of_code m c) ≡ c
   code_of_code m c less =
-      ap (number p) (numbers_trim k (read k (digits p m c)) ∙ ap (trim is_zero_code) (numbers_read k (digits p m c) (IsOver_digits p base_pos m c)))
+      ap (number p) (numbers_trim k (read k (digits p m c))
+      ∙ ap (trim is_zero_code) (numbers_read k (digits p m c) (IsOver_digits p base_pos m c)))
       ∙ number_trim p (digits p m c) ∙ number_digits p base_pos m c less
 
   pub code_null : code s.𝟘 ≡ 0
@@ -221,4 +239,5 @@ module _ (p : ℕ) (listed : IsTrue (is_listed p)) where
         where
           go : (t < 2) ⊎ (2 ≤ t) → t ≡ 1
           go (inl few) = omega arith
-          go (inr many) = let rows : 2 * p ^ e ≤ t * p ^ e = mul-le-mul_right (p ^ e) many in absurd (omega (arith, rows))
+          go (inr many) = let rows : 2 * p ^ e ≤ t * p ^ e = mul-le-mul_right (p ^ e) many in absurd
+              (omega (arith, rows))

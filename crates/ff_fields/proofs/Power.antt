@@ -17,10 +17,12 @@ module _ (k : CodeField) where
       ∙ sym (k.laws.mul_assoc a a rest a_in a_in (pow_of_below (k.mul a a) e (k.laws.mul_below a a a_in a_in)))
 
   pub pow_of_even : (a e : ℕ) → a < k.size → e % 2 ≡ 0 → pow_of k.ops a e ≡ pow_of k.ops (k.mul a a) (e / 2)
-  pow_of_even a e a_in even = let halves : e ≡ e / 2 + e / 2 = omega arith in ap (pow_of k.ops a) halves ∙ pow_of_double a (e / 2) a_in
+  pow_of_even a e a_in even = let halves : e ≡ e / 2 + e / 2 = omega arith in ap (pow_of k.ops a) halves
+      ∙ pow_of_double a (e / 2) a_in
 
   -- an odd power, beside a factor
-  pub pow_of_odd : (b a e : ℕ) → b < k.size → a < k.size → e % 2 ≡ 1 → k.mul b (pow_of k.ops a e) ≡ k.mul (k.mul b a) (pow_of k.ops (k.mul a a) (e / 2))
+  pub pow_of_odd : (b a e : ℕ) → b < k.size → a < k.size → e % 2 ≡ 1
+      → k.mul b (pow_of k.ops a e) ≡ k.mul (k.mul b a) (pow_of k.ops (k.mul a a) (e / 2))
   pow_of_odd b a e b_in a_in odd =
       let halves : e ≡ suc (e / 2 + e / 2) = omega arith in
       let rest = pow_of k.ops (k.mul a a) (e / 2) in
@@ -32,7 +34,11 @@ module _ (k : CodeField) where
   mul_one a a_in = k.laws.mul_comm a 1 a_in k.laws.one_below ∙ k.laws.one_mul a a_in
 
   -- one turn of the loop: an odd exponent gives its factor to `power`, and then the base is squared
-  pub power_turn : (power square left total power' square' : ℕ) → power < k.size → square < k.size → k.mul power (pow_of k.ops square left) ≡ total → ((left % 2 ≡ 1) × (power' ≡ k.mul power square)) ⊎ ((left % 2 ≡ 0) × (power' ≡ power)) → square' ≡ k.mul square square → (power' < k.size) × (square' < k.size) × (k.mul power' (pow_of k.ops square' (left / 2)) ≡ total)
+  pub power_turn : (power square left total power' square' : ℕ) → power < k.size → square < k.size
+      → k.mul power (pow_of k.ops square left) ≡ total
+      → ((left % 2 ≡ 1) × (power' ≡ k.mul power square)) ⊎ ((left % 2 ≡ 0) × (power' ≡ power))
+      → square' ≡ k.mul square square → (power' < k.size) × (square' < k.size)
+      × (k.mul power' (pow_of k.ops square' (left / 2)) ≡ total)
   power_turn power square left total power' square' power_in square_in kept (inl (odd, p_is)) s_is = (
     rw p_is (k.laws.mul_below power square power_in square_in),
     rw s_is (k.laws.mul_below square square square_in square_in),

@@ -9,12 +9,14 @@ use Rattle.ff_fields.proofs.Power.{pow_of_below, mul_one}
 
 module _ (k : CodeField) where
   pub pow_of_add : (a i j : ℕ) → a < k.size → pow_of k.ops a (i + j) ≡ k.mul (pow_of k.ops a i) (pow_of k.ops a j)
-  pow_of_add a zero j a_in = ap (pow_of k.ops a) (zero-add j) ∙ sym (k.laws.one_mul (pow_of k.ops a j) (pow_of_below k a j a_in))
+  pow_of_add a zero j a_in = ap (pow_of k.ops a) (zero-add j)
+      ∙ sym (k.laws.one_mul (pow_of k.ops a j) (pow_of_below k a j a_in))
   pow_of_add a (suc i) j a_in =
       let next : suc i + j ≡ suc (i + j) = omega arith in
       ap (pow_of k.ops a) next
       ∙ ap (k.mul a) (pow_of_add a i j a_in)
-      ∙ sym (k.laws.mul_assoc a (pow_of k.ops a i) (pow_of k.ops a j) a_in (pow_of_below k a i a_in) (pow_of_below k a j a_in))
+      ∙ sym (k.laws.mul_assoc a (pow_of k.ops a i) (pow_of k.ops a j) a_in (pow_of_below k a i a_in)
+      (pow_of_below k a j a_in))
 
   pub pow_of_mul : (a i e : ℕ) → a < k.size → pow_of k.ops (pow_of k.ops a i) e ≡ pow_of k.ops a (i * e)
   pow_of_mul a i zero a_in = let none : i * 0 ≡ 0 = omega arith in ap (pow_of k.ops a) (sym none)
@@ -49,7 +51,8 @@ module _ (k : CodeField) where
   pub pow_of_some : (a e : ℕ) → a < k.size → a ≢ 0 → pow_of k.ops a e ≢ 0
   pow_of_some a zero a_in some null = absurd (omega (arith, null))
   pow_of_some a (suc e) a_in some null =
-      pow_of_some a e a_in some (cancel a (pow_of k.ops a e) 0 a_in (pow_of_below k a e a_in) (zero_in k) some (null ∙ sym (null_mul a a_in)))
+      pow_of_some a e a_in some (cancel a (pow_of k.ops a e) 0 a_in (pow_of_below k a e a_in) (zero_in k) some
+      (null ∙ sym (null_mul a a_in)))
 
   pub pow_of_order : (a : ℕ) → a < k.size → a ≢ 0 → pow_of k.ops a (k.size - 1) ≡ 1
   pow_of_order a a_in some =
@@ -70,7 +73,8 @@ module _ (k : CodeField) where
       sym (
       ap (pow_of k.ops a) (parts n e)
       ∙ pow_of_add a (n * (e / n)) (e % n) a_in
-      ∙ ap (λ w. k.mul w rest) (sym (pow_of_mul a n (e / n) a_in) ∙ ap (λ w. pow_of k.ops w (e / n)) (pow_of_order a a_in some) ∙ pow_of_one (e / n))
+      ∙ ap (λ w. k.mul w rest) (sym (pow_of_mul a n (e / n) a_in)
+      ∙ ap (λ w. pow_of k.ops w (e / n)) (pow_of_order a a_in some) ∙ pow_of_one (e / n))
       ∙ k.laws.one_mul rest rest_in
       )
     where
@@ -78,8 +82,11 @@ module _ (k : CodeField) where
       parts n e = sym (div-add-mod e n)
 
   -- equal powers differ by an exponent whose power is 1
-  pub pow_of_gap : (a i j : ℕ) → a < k.size → a ≢ 0 → i ≤ j → pow_of k.ops a i ≡ pow_of k.ops a j → pow_of k.ops a (j - i) ≡ 1
+  pub pow_of_gap : (a i j : ℕ) → a < k.size → a ≢ 0 → i ≤ j → pow_of k.ops a i ≡ pow_of k.ops a j
+      → pow_of k.ops a (j - i) ≡ 1
   pow_of_gap a i j a_in some le same =
       let whole : i + (j - i) ≡ j = omega arith in
-      cancel (pow_of k.ops a i) (pow_of k.ops a (j - i)) 1 (pow_of_below k a i a_in) (pow_of_below k a (j - i) a_in) k.laws.one_below (pow_of_some a i a_in some)
-      (sym (pow_of_add a i (j - i) a_in) ∙ ap (pow_of k.ops a) whole ∙ sym same ∙ sym (mul_one k _ (pow_of_below k a i a_in)))
+      cancel (pow_of k.ops a i) (pow_of k.ops a (j - i)) 1 (pow_of_below k a i a_in) (pow_of_below k a (j - i) a_in)
+      k.laws.one_below (pow_of_some a i a_in some)
+      (sym (pow_of_add a i (j - i) a_in) ∙ ap (pow_of k.ops a) whole ∙ sym same
+      ∙ sym (mul_one k _ (pow_of_below k a i a_in)))

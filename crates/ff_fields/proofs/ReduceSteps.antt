@@ -16,10 +16,12 @@ use Rattle.ff_fields.specs.Numbers.{read, numbers_read, numbers_get_or}
 use Rattle.ff_fields.specs.Modulus.{IsReducedProduct, stepped}
 
 -- each position of a list over the prime field is below p, also past its end
-pub digit_below : (p : ℕ) → IsTrue (is_listed p) → (codes : List ℕ) → IsOver (prime_of p) codes → (n : ℕ) → get_or codes n 0 < p
+pub digit_below : (p : ℕ) → IsTrue (is_listed p) → (codes : List ℕ) → IsOver (prime_of p) codes → (n : ℕ)
+    → get_or codes n 0 < p
 digit_below p listed codes over n = get_or_below (prime_field p listed) codes n over
 
-carried_below : (p : ℕ) → IsTrue (is_listed p) → (codes : List ℕ) → IsOver (prime_of p) codes → (n : ℕ) → get_or (0 ∷ codes) n 0 < p
+carried_below : (p : ℕ) → IsTrue (is_listed p) → (codes : List ℕ) → IsOver (prime_of p) codes → (n : ℕ)
+    → get_or (0 ∷ codes) n 0 < p
 carried_below p listed codes over zero = let above = (prime_field p listed).laws.one_below in omega (arith, above)
 carried_below p listed codes over (suc n) = digit_below p listed codes over n
 
@@ -61,9 +63,11 @@ module _ {A : Type 0} (R : CommRing A) where
 
   next_position : (new tm cb old w : A) → R.◌⊕◌ new tm ≡ R.◌⊕◌ cb old → R.◌⊕◌ (R.◌⊕◌ w old) cb ≡ R.◌⊕◌ (R.◌⊕◌ tm w) new
   next_position new tm cb old w e =
-      R.add_assoc w old cb ∙ ap (R.◌⊕◌ w) (R.add_comm old cb ∙ sym e ∙ R.add_comm new tm) ∙ sym (R.add_assoc w tm new) ∙ ap (λ x. R.◌⊕◌ x new) (R.add_comm w tm)
+      R.add_assoc w old cb ∙ ap (R.◌⊕◌ w) (R.add_comm old cb ∙ sym e ∙ R.add_comm new tm) ∙ sym (R.add_assoc w tm new)
+      ∙ ap (λ x. R.◌⊕◌ x new) (R.add_comm w tm)
 
--- what a step makes, at each position: the new rest and the multiple of the modulus are the old rest one position up and c · row
+-- what a step makes, at each position: the new rest and the multiple of the modulus are the old rest one position up
+-- and c · row
 module _ (p : ℕ) (listed : IsTrue (is_listed p)) where
   abbrev k : CodeField
   k = prime_field p listed
@@ -71,27 +75,38 @@ module _ (p : ℕ) (listed : IsTrue (is_listed p)) where
   abbrev K : TestedRing (Code k)
   K = code_ring k
 
-  pub read_at : (codes : List ℕ) (n : ℕ) → IsOver (prime_of p) codes → (coeff_of K.ops (read k codes) n).0 ≡ get_or codes n 0
+  pub read_at : (codes : List ℕ) (n : ℕ) → IsOver (prime_of p) codes
+      → (coeff_of K.ops (read k codes) n).0 ≡ get_or codes n 0
   read_at codes n over = numbers_get_or k (read k codes) n ∙ ap (λ w. get_or w n 0) (numbers_read k codes over)
 
-  module _ (before row modulus rest : List ℕ) (c : ℕ) (some : 0 < length before) (c_in : c < p) (row_long : length row ≡ length before) (modulus_long : length modulus ≡ length before + 1) (monic : get_or modulus (length before) 0 ≡ 1) (before_in : IsOver (prime_of p) before) (row_in : IsOver (prime_of p) row) (modulus_in : IsOver (prime_of p) modulus) (rest_long : length rest ≡ length before) where
+  module _ (before row modulus rest : List ℕ) (c : ℕ) (some : 0 < length before) (c_in : c < p)
+      (row_long : length row ≡ length before) (modulus_long : length modulus ≡ length before + 1)
+      (monic : get_or modulus (length before) 0 ≡ 1) (before_in : IsOver (prime_of p) before)
+      (row_in : IsOver (prime_of p) row) (modulus_in : IsOver (prime_of p) modulus)
+      (rest_long : length rest ≡ length before) where
     abbrev t : ℕ
     t = get_or before (length before - 1) 0
 
     t_in : t < p
     t_in = digit_below p listed before before_in (length before - 1)
 
-    balanced : ((n : ℕ) → n < length before → get_or rest n 0 ≡ stepped p before c row (p - t) modulus n) → (n : ℕ) → (get_or rest n 0 + (t * get_or modulus n 0) % p) % p ≡ ((c * get_or row n 0) % p + get_or (0 ∷ before) n 0) % p
+    balanced : ((n : ℕ) → n < length before → get_or rest n 0 ≡ stepped p before c row (p - t) modulus n) → (n : ℕ)
+        → (get_or rest n 0 + (t * get_or modulus n 0) % p) % p
+        ≡ ((c * get_or row n 0) % p + get_or (0 ∷ before) n 0) % p
     balanced each n = go (cases_lt n (length before))
       where
-        at_top : (m : ℕ) → (n ≡ length before) ⊎ (length before < n) → get_or modulus n 0 ≡ m → get_or rest n 0 ≡ 0 → get_or row n 0 ≡ 0 → (0 + (t * m) % p) % p ≡ ((c * 0) % p + get_or (0 ∷ before) n 0) % p
+        at_top : (m : ℕ) → (n ≡ length before) ⊎ (length before < n) → get_or modulus n 0 ≡ m → get_or rest n 0 ≡ 0
+            → get_or row n 0 ≡ 0 → (0 + (t * m) % p) % p ≡ ((c * 0) % p + get_or (0 ∷ before) n 0) % p
         at_top m (inl here) m_is rest_is row_is =
             let one : m ≡ 1 = sym m_is ∙ ap (λ i. get_or modulus i 0) here ∙ monic in
-            let old : get_or (0 ∷ before) n 0 ≡ t = at_carried before n (omega arith) ∙ ap (λ i. get_or before (i - 1) 0) here in
+            let old : get_or (0 ∷ before) n 0 ≡ t = at_carried before n (omega arith)
+            ∙ ap (λ i. get_or before (i - 1) 0) here in
             ap (λ w. (0 + (t * w) % p) % p) one ∙ ends t c ∙ ap (λ w. ((c * 0) % p + w) % p) (sym old)
           where
             ends : (t c : ℕ) → (0 + (t * 1) % p) % p ≡ ((c * 0) % p + t) % p
-            ends t c = let one : t * 1 ≡ t + 0 = omega arith in let none : c * 0 ≡ 0 = omega arith in add-mod-mod 0 (t * 1) p ∙ ap (λ w. w % p) (sum t) ∙ sym (mod-add-mod (c * 0) p t)
+            ends t c = let one : t * 1 ≡ t
+                + 0 = omega arith in let none : c * 0 ≡ 0 = omega arith in add-mod-mod 0 (t * 1) p
+                ∙ ap (λ w. w % p) (sum t) ∙ sym (mod-add-mod (c * 0) p t)
               where
                 sum : (t : ℕ) → 0 + t * 1 ≡ c * 0 + t
                 sum t = omega arith
@@ -109,14 +124,18 @@ module _ (p : ℕ) (listed : IsTrue (is_listed p)) where
         split : (a b : ℕ) → b ≤ a → (a ≡ b) ⊎ (b < a)
         split a b le = elim (cases_lt b a) [ inl less ↦ inr less | inr more ↦ inl (omega arith) ]
 
-        go : (n < length before) ⊎ (length before ≤ n) → (get_or rest n 0 + (t * get_or modulus n 0) % p) % p ≡ ((c * get_or row n 0) % p + get_or (0 ∷ before) n 0) % p
-        go (inl less) = rw (each n less) (given_back p (get_or (0 ∷ before) n 0) (get_or modulus n 0) (get_or row n 0) t c t_in)
+        go : (n < length before) ⊎ (length before ≤ n)
+            → (get_or rest n 0 + (t * get_or modulus n 0) % p) % p
+            ≡ ((c * get_or row n 0) % p + get_or (0 ∷ before) n 0) % p
+        go (inl less) = rw (each n less)
+            (given_back p (get_or (0 ∷ before) n 0) (get_or modulus n 0) (get_or row n 0) t c t_in)
         go (inr more) =
             let rest_is = past_end rest n (omega arith) in
             let row_is = past_end row n (omega arith) in
             rw (rest_is, row_is) (at_top (get_or modulus n 0) (split n (length before) more) refl rest_is row_is)
 
-    pub rest_over : ((n : ℕ) → n < length before → get_or rest n 0 ≡ stepped p before c row (p - t) modulus n) → IsOver (prime_of p) rest
+    pub rest_over : ((n : ℕ) → n < length before → get_or rest n 0 ≡ stepped p before c row (p - t) modulus n)
+        → IsOver (prime_of p) rest
     rest_over each = record {
       each = λ i d less.
           subst (λ w. w < p) (sym (get_or_default rest i d 0 less ∙ each i (omega arith)))
@@ -133,40 +152,62 @@ module _ (p : ℕ) (listed : IsTrue (is_listed p)) where
     v = read_code k c
 
     -- the same over the prime field
-    step_at : ((n : ℕ) → n < length before → get_or rest n 0 ≡ stepped p before c row (p - t) modulus n) → (n : ℕ) → K.◌⊕◌ (coeff_of K.ops (read k rest) n) (K.◌⊗◌ u (coeff_of K.ops (read k modulus) n)) ≡ K.◌⊕◌ (K.◌⊗◌ v (coeff_of K.ops (read k row) n)) (coeff_of K.ops (K.𝟘 ∷ read k before) n)
+    step_at : ((n : ℕ) → n < length before → get_or rest n 0 ≡ stepped p before c row (p - t) modulus n) → (n : ℕ)
+        → K.◌⊕◌ (coeff_of K.ops (read k rest) n) (K.◌⊗◌ u (coeff_of K.ops (read k modulus) n))
+        ≡ K.◌⊕◌ (K.◌⊗◌ v (coeff_of K.ops (read k row) n)) (coeff_of K.ops (K.𝟘 ∷ read k before) n)
     step_at each n =
         same_code k _ _
-        (ap₂ (λ x y. (x + y) % p) (read_at rest n (rest_over each)) (ap₂ (λ x y. (x * y) % p) (read_code_below k t t_in) (read_at modulus n modulus_in))
+        (ap₂ (λ x y. (x + y) % p) (read_at rest n (rest_over each))
+        (ap₂ (λ x y. (x * y) % p) (read_code_below k t t_in) (read_at modulus n modulus_in))
         ∙ balanced each n
-        ∙ sym (ap₂ (λ x y. (x + y) % p) (ap₂ (λ x y. (x * y) % p) (read_code_below k c c_in) (read_at row n row_in)) (carried n)))
+        ∙ sym (ap₂ (λ x y. (x + y) % p) (ap₂ (λ x y. (x * y) % p) (read_code_below k c c_in) (read_at row n row_in))
+        (carried n)))
       where
         carried : (n : ℕ) → (coeff_of K.ops (K.𝟘 ∷ read k before) n).0 ≡ get_or (0 ∷ before) n 0
         carried zero = refl
         carried (suc n) = read_at before n before_in
 
     -- one position more is reduced
-    more_at : ((n : ℕ) → n < length before → get_or rest n 0 ≡ stepped p before c row (p - t) modulus n) → (a start quotient : List ℕ) → IsReducedProduct p a row start quotient modulus before → (n : ℕ) → coeff_of K.ops (mul_onto K.ops (read k (c ∷ a)) (read k row) (read k start)) n ≡ K.◌⊕◌ (convolution K.ops (coeff_of K.ops (read k (t ∷ quotient))) (coeff_of K.ops (read k modulus)) n) (coeff_of K.ops (read k rest) n)
+    more_at : ((n : ℕ) → n < length before → get_or rest n 0 ≡ stepped p before c row (p - t) modulus n)
+        → (a start quotient : List ℕ) → IsReducedProduct p a row start quotient modulus before → (n : ℕ)
+        → coeff_of K.ops (mul_onto K.ops (read k (c ∷ a)) (read k row) (read k start)) n
+        ≡ K.◌⊕◌ (convolution K.ops (coeff_of K.ops (read k (t ∷ quotient))) (coeff_of K.ops (read k modulus)) n)
+        (coeff_of K.ops (read k rest) n)
     more_at each a start quotient done n =
         coeff_add K (K.𝟘 ∷ mul_onto K.ops (read k a) (read k row) (read k start)) (scale_list K.ops v (read k row)) n
-        ∙ ap (K.◌⊕◌ (coeff_of K.ops (K.𝟘 ∷ mul_onto K.ops (read k a) (read k row) (read k start)) n)) (coeff_scale K v (read k row) n)
+        ∙ ap (K.◌⊕◌ (coeff_of K.ops (K.𝟘 ∷ mul_onto K.ops (read k a) (read k row) (read k start)) n))
+        (coeff_scale K v (read k row) n)
         ∙ go n
       where
-        go : (n : ℕ) → K.◌⊕◌ (coeff_of K.ops (K.𝟘 ∷ mul_onto K.ops (read k a) (read k row) (read k start)) n) (K.◌⊗◌ v (coeff_of K.ops (read k row) n)) ≡ K.◌⊕◌ (convolution K.ops (coeff_of K.ops (read k (t ∷ quotient))) (coeff_of K.ops (read k modulus)) n) (coeff_of K.ops (read k rest) n)
+        go : (n : ℕ) → K.◌⊕◌ (coeff_of K.ops (K.𝟘 ∷ mul_onto K.ops (read k a) (read k row) (read k start)) n)
+            (K.◌⊗◌ v (coeff_of K.ops (read k row) n))
+            ≡ K.◌⊕◌ (convolution K.ops (coeff_of K.ops (read k (t ∷ quotient))) (coeff_of K.ops (read k modulus)) n)
+            (coeff_of K.ops (read k rest) n)
         go zero = first_position K.ring _ _ _ _ refl (step_at each zero)
         go (suc n) =
             ap (λ w. K.◌⊕◌ w (K.◌⊗◌ v (coeff_of K.ops (read k row) (suc n)))) (done.whole listed n)
             ∙ next_position K.ring _ _ _ _ _ (step_at each (suc n))
 
-pub reduced_more : (p : ℕ) (before row modulus rest : List ℕ) (c : ℕ) → 0 < length before → c < p → length row ≡ length before → length modulus ≡ length before + 1 → get_or modulus (length before) 0 ≡ 1 → IsOver (prime_of p) before → IsOver (prime_of p) row → IsOver (prime_of p) modulus → length rest ≡ length before → ((n : ℕ) → n < length before → get_or rest n 0 ≡ stepped p before c row (p - get_or before (length before - 1) 0) modulus n) → (a start quotient : List ℕ) → IsReducedProduct p a row start quotient modulus before → IsReducedProduct p (c ∷ a) row start (get_or before (length before - 1) 0 ∷ quotient) modulus rest
-reduced_more p before row modulus rest c some c_in row_long modulus_long monic before_in row_in modulus_in rest_long each a start quotient done = record {
-  whole = λ listed. more_at p listed before row modulus rest c some c_in row_long modulus_long monic before_in row_in modulus_in rest_long each a start quotient done;
-}
+pub reduced_more : (p : ℕ) (before row modulus rest : List ℕ) (c : ℕ) → 0 < length before → c < p
+    → length row ≡ length before → length modulus ≡ length before + 1 → get_or modulus (length before) 0 ≡ 1
+    → IsOver (prime_of p) before → IsOver (prime_of p) row → IsOver (prime_of p) modulus → length rest ≡ length before
+    → ((n : ℕ) → n < length before → get_or rest n 0
+    ≡ stepped p before c row (p - get_or before (length before - 1) 0) modulus n) → (a start quotient : List ℕ)
+    → IsReducedProduct p a row start quotient modulus before
+    → IsReducedProduct p (c ∷ a) row start (get_or before (length before - 1) 0 ∷ quotient) modulus rest
+reduced_more p before row modulus rest c some c_in row_long modulus_long monic before_in row_in modulus_in rest_long
+    each a start quotient done = record {
+      whole = λ listed. more_at p listed before row modulus rest c some c_in row_long modulus_long
+          monic before_in row_in
+          modulus_in rest_long each a start quotient done;
+    }
 
 -- nothing is reduced yet
 pub reduced_none : (p : ℕ) (row modulus before : List ℕ) → IsReducedProduct p [] row before [] modulus before
 reduced_none p row modulus before = record {
   whole = λ listed n.
       let r = code_ring (prime_field p listed) in
-      sym (ap (λ w. r.◌⊕◌ w (coeff_of r.ops (read (prime_field p listed) before) n)) (convolution_null_left r.ring (λ _. r.𝟘) (coeff_of r.ops (read (prime_field p listed) modulus)) (λ _. refl) n)
+      sym (ap (λ w. r.◌⊕◌ w (coeff_of r.ops (read (prime_field p listed) before) n))
+      (convolution_null_left r.ring (λ _. r.𝟘) (coeff_of r.ops (read (prime_field p listed) modulus)) (λ _. refl) n)
       ∙ zero_add r.ring _);
 }

@@ -35,16 +35,19 @@ module _ (p : ℕ) (listed : IsTrue (is_listed p)) where
   abbrev s : TestedRing (Pol K)
   s = pol_ring K
 
-  pub coeff_polynomial : (codes : List ℕ) (n : ℕ) → IsOver (prime_of p) codes → (coeff_of K.ops (polynomial p listed codes).0 n).0 ≡ get_or codes n 0
+  pub coeff_polynomial : (codes : List ℕ) (n : ℕ) → IsOver (prime_of p) codes
+      → (coeff_of K.ops (polynomial p listed codes).0 n).0 ≡ get_or codes n 0
   coeff_polynomial codes n over = ap (λ x. x.0) (coeff_trim K (read k codes) n) ∙ read_at p listed codes n over
 
-  pub length_polynomial : (codes : List ℕ) → IsOver (prime_of p) codes → length (polynomial p listed codes).0 ≤ length codes
+  pub length_polynomial : (codes : List ℕ) → IsOver (prime_of p) codes
+      → length (polynomial p listed codes).0 ≤ length codes
   length_polynomial codes over =
       length_bound K (polynomial p listed codes).0 (length codes) (polynomial p listed codes).1
       (λ i le. same_code k _ K.𝟘 (coeff_polynomial codes i over ∙ past_end codes i le))
 
   -- the digits of the number of a list are the list, up to zeros on top
-  pub of_number : (m : ℕ) (codes : List ℕ) → length codes ≤ m → IsOver (prime_of p) codes → of_code p listed m (number p codes) ≡ polynomial p listed codes
+  pub of_number : (m : ℕ) (codes : List ℕ) → length codes ≤ m → IsOver (prime_of p) codes
+      → of_code p listed m (number p codes) ≡ polynomial p listed codes
   of_number m codes le over =
       same_pol K _ _ (λ n.
       same_code k _ _
@@ -55,13 +58,19 @@ module _ (p : ℕ) (listed : IsTrue (is_listed p)) where
   pub of_code_same : (n m c : ℕ) → n ≤ m → c < p ^ n → of_code p listed m c ≡ of_code p listed n c
   of_code_same n m c le less =
       ap (of_code p listed m) (sym (code_of_code p listed n c less))
-      ∙ of_code_code p listed m (of_code p listed n c) (le_trans_lem (length_polynomial (digits p n c) (IsOver_digits p (base_pos p listed) n c)) (length_digits p n c))
+      ∙ of_code_code p listed m (of_code p listed n c)
+      (le_trans_lem (length_polynomial (digits p n c) (IsOver_digits p (base_pos p listed) n c))
+      (length_digits p n c))
     where
-      le_trans_lem : length (polynomial p listed (digits p n c)).0 ≤ length (digits p n c) → length (digits p n c) ≡ n → length (polynomial p listed (digits p n c)).0 ≤ m
+      le_trans_lem : length (polynomial p listed (digits p n c)).0 ≤ length (digits p n c) → length (digits p n c) ≡ n
+          → length (polynomial p listed (digits p n c)).0 ≤ m
       le_trans_lem a b = omega (arith, a, b, le)
 
   -- the right side of a reduction
-  reduced_at : (q f rest : List ℕ) (n : ℕ) → K.◌⊕◌ (convolution K.ops (coeff_of K.ops (read k q)) (coeff_of K.ops (read k f)) n) (coeff_of K.ops (read k rest) n) ≡ coeff_of K.ops (s.◌⊕◌ (s.◌⊗◌ (polynomial p listed f) (polynomial p listed q)) (polynomial p listed rest)).0 n
+  reduced_at : (q f rest : List ℕ) (n : ℕ)
+      → K.◌⊕◌ (convolution K.ops (coeff_of K.ops (read k q)) (coeff_of K.ops (read k f)) n)
+      (coeff_of K.ops (read k rest) n) ≡ coeff_of K.ops
+      (s.◌⊕◌ (s.◌⊗◌ (polynomial p listed f) (polynomial p listed q)) (polynomial p listed rest)).0 n
   reduced_at q f rest n =
       sym (series_add K (s.◌⊗◌ (polynomial p listed f) (polynomial p listed q)) (polynomial p listed rest) n
       ∙ ap₂ K.◌⊕◌
@@ -75,7 +84,9 @@ module _ (p : ℕ) (listed : IsTrue (is_listed p)) where
   zeros_at (suc m) (suc n) = zeros_at m n
 
   -- a product that was reduced
-  pub reduced_product : (a b q f rest : List ℕ) (m : ℕ) → IsReducedProduct p a b (replicate m 0) q f rest → s.◌⊗◌ (polynomial p listed a) (polynomial p listed b) ≡ s.◌⊕◌ (s.◌⊗◌ (polynomial p listed f) (polynomial p listed q)) (polynomial p listed rest)
+  pub reduced_product : (a b q f rest : List ℕ) (m : ℕ) → IsReducedProduct p a b (replicate m 0) q f rest
+      → s.◌⊗◌ (polynomial p listed a) (polynomial p listed b)
+      ≡ s.◌⊕◌ (s.◌⊗◌ (polynomial p listed f) (polynomial p listed q)) (polynomial p listed rest)
   reduced_product a b q f rest m done =
       same_pol K _ _ (λ n.
       series_mul K (polynomial p listed a) (polynomial p listed b) n
@@ -88,19 +99,25 @@ module _ (p : ℕ) (listed : IsTrue (is_listed p)) where
   unit_zero : coeff_of K.ops (read k (1 ∷ [])) zero ≡ K.𝟙
   unit_zero = same_code k _ K.𝟙 (read_code_below k 1 k.laws.one_below)
 
-  onto_unit : (xs zs : List (Code k)) (j n : ℕ) → coeff_of K.ops (mul_onto K.ops xs (read k (unit_list j)) zs) n ≡ coeff_of K.ops (xs ++ zs) n
+  onto_unit : (xs zs : List (Code k)) (j n : ℕ)
+      → coeff_of K.ops (mul_onto K.ops xs (read k (unit_list j)) zs) n ≡ coeff_of K.ops (xs ++ zs) n
   onto_unit [] zs j n = refl
   onto_unit (x ∷ xs) zs j n =
       coeff_add K (K.𝟘 ∷ mul_onto K.ops xs (read k (unit_list j)) zs) (scale_list K.ops x (read k (unit_list j))) n
-      ∙ ap (K.◌⊕◌ (coeff_of K.ops (K.𝟘 ∷ mul_onto K.ops xs (read k (unit_list j)) zs) n)) (coeff_scale K x (read k (unit_list j)) n)
+      ∙ ap (K.◌⊕◌ (coeff_of K.ops (K.𝟘 ∷ mul_onto K.ops xs (read k (unit_list j)) zs) n))
+      (coeff_scale K x (read k (unit_list j)) n)
       ∙ go n (onto_unit xs zs j)
     where
-      go : (n : ℕ) → ((n : ℕ) → coeff_of K.ops (mul_onto K.ops xs (read k (unit_list j)) zs) n ≡ coeff_of K.ops (xs ++ zs) n) → K.◌⊕◌ (coeff_of K.ops (K.𝟘 ∷ mul_onto K.ops xs (read k (unit_list j)) zs) n) (K.◌⊗◌ x (coeff_of K.ops (read k (unit_list j)) n)) ≡ coeff_of K.ops (x ∷ (xs ++ zs)) n
+      go : (n : ℕ) → ((n : ℕ) → coeff_of K.ops (mul_onto K.ops xs (read k (unit_list j)) zs) n
+          ≡ coeff_of K.ops (xs ++ zs) n) → K.◌⊕◌ (coeff_of K.ops (K.𝟘 ∷ mul_onto K.ops xs (read k (unit_list j)) zs) n)
+          (K.◌⊗◌ x (coeff_of K.ops (read k (unit_list j)) n)) ≡ coeff_of K.ops (x ∷ (xs ++ zs)) n
       go zero rest = ap (λ w. K.◌⊕◌ K.𝟘 (K.◌⊗◌ x w)) unit_zero ∙ zero_add K.ring _ ∙ K.mul_one x
-      go (suc n) rest = ap₂ (λ v w. K.◌⊕◌ v (K.◌⊗◌ x w)) (rest n) (zeros_at j n) ∙ ap (K.◌⊕◌ _) (mul_zero K.ring x) ∙ K.add_zero _
+      go (suc n) rest = ap₂ (λ v w. K.◌⊕◌ v (K.◌⊗◌ x w)) (rest n) (zeros_at j n) ∙ ap (K.◌⊕◌ _) (mul_zero K.ring x)
+          ∙ K.add_zero _
 
   -- the lower coefficients of a monic polynomial, and its top before zeros
-  monic_split : (f : List ℕ) (m j n : ℕ) → length f ≡ suc m → IsOver (prime_of p) f → get_or f m 0 ≡ 1 → coeff_of K.ops (read k (take m f) ++ read k (unit_list j)) n ≡ coeff_of K.ops (read k f) n
+  monic_split : (f : List ℕ) (m j n : ℕ) → length f ≡ suc m → IsOver (prime_of p) f → get_or f m 0 ≡ 1
+      → coeff_of K.ops (read k (take m f) ++ read k (unit_list j)) n ≡ coeff_of K.ops (read k f) n
   monic_split [] m j n long over monic = absurd (omega arith)
   monic_split (c ∷ []) zero j zero long over monic = ap (λ w. coeff_of K.ops (read k (w ∷ [])) zero) (sym monic)
   monic_split (c ∷ []) zero j (suc n) long over monic = zeros_at j n
@@ -109,7 +126,9 @@ module _ (p : ℕ) (listed : IsTrue (is_listed p)) where
   monic_split (c ∷ f) (suc m) j (suc n) long over monic = monic_split f m j n (omega arith) (IsOver_tail over) monic
 
   -- a division of a monic polynomial
-  pub reduced_quotient : (f q d rest : List ℕ) (m j : ℕ) → length f ≡ suc m → IsOver (prime_of p) f → get_or f m 0 ≡ 1 → IsReducedProduct p (take m f) (unit_list j) (unit_list j) q d rest → polynomial p listed f ≡ s.◌⊕◌ (s.◌⊗◌ (polynomial p listed d) (polynomial p listed q)) (polynomial p listed rest)
+  pub reduced_quotient : (f q d rest : List ℕ) (m j : ℕ) → length f ≡ suc m → IsOver (prime_of p) f → get_or f m 0 ≡ 1
+      → IsReducedProduct p (take m f) (unit_list j) (unit_list j) q d rest
+      → polynomial p listed f ≡ s.◌⊕◌ (s.◌⊗◌ (polynomial p listed d) (polynomial p listed q)) (polynomial p listed rest)
   reduced_quotient f q d rest m j long over monic done =
       same_pol K _ _ (λ n.
       coeff_trim K (read k f) n

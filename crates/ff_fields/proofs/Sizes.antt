@@ -33,7 +33,9 @@ first_unit (suc e) some short =
     ap (λ w. 1 ∷ w) (take-replicate e 15 0 (omega arith) ∙ ap (λ n. replicate n 0) same)
 
 pub length_unit : (e : ℕ) → 0 < e → e ≤ 16 → length (take {A = ℕ} e (1 ∷ replicate 15 0)) ≡ e
-length_unit e some short = let none : length (replicate {A = ℕ} (e - 1) 0) ≡ e - 1 = length-replicate (e - 1) 0 in ap length (first_unit e some short) ∙ omega (arith, none, some)
+length_unit e some short = let none : length (replicate {A = ℕ} (e - 1) 0)
+    ≡ e - 1 = length-replicate (e - 1) 0 in ap length (first_unit e some short)
+    ∙ omega (arith, none, some)
 
 pub length_positions : (n : ℕ) → n ≤ 17 → length (take {A = ℕ} n (replicate 17 0)) ≡ n
 length_positions n short = ap length (take-replicate n 17 0 short) ∙ length-replicate n 0

@@ -48,7 +48,8 @@ module _ (k : CodeField) where
       add_assoc = λ x y z. same_code _ _ (k.laws.add_assoc x.0 y.0 z.0 x.1 y.1 z.1);
       add_comm = λ x y. same_code _ _ (k.laws.add_comm x.0 y.0 x.1 y.1);
       add_zero = λ x. same_code _ _ (k.laws.add_comm x.0 0 x.1 zero_in ∙ k.laws.zero_add x.0 x.1);
-      add_neg = λ x. same_code _ _ (k.laws.add_comm x.0 (k.neg x.0) x.1 (k.laws.neg_below x.0 x.1) ∙ k.laws.neg_add x.0 x.1);
+      add_neg = λ x. same_code _ _ (k.laws.add_comm x.0 (k.neg x.0) x.1 (k.laws.neg_below x.0 x.1)
+          ∙ k.laws.neg_add x.0 x.1);
       mul_assoc = λ x y z. same_code _ _ (k.laws.mul_assoc x.0 y.0 z.0 x.1 y.1 z.1);
       mul_comm = λ x y. same_code _ _ (k.laws.mul_comm x.0 y.0 x.1 y.1);
       mul_one = λ x. same_code _ _ (k.laws.mul_comm x.0 1 x.1 k.laws.one_below ∙ k.laws.one_mul x.0 x.1);
@@ -71,8 +72,11 @@ module _ (k : CodeField) where
 
       inverse_of : (x : Code k) → x.0 ≢ 0 → (y : Code k) × (code_ops.◌⊗◌ x y ≡ code_ops.𝟙)
       inverse_of x some =
-          let inverse_in = k.laws.inv_below x.0 x.1 some in
-          ((k.inv x.0, inverse_in), same_code _ _ (k.laws.mul_comm x.0 (k.inv x.0) x.1 inverse_in ∙ k.laws.inv_mul x.0 x.1 some))
+          let inverse_in = k.laws.inv_below x.0 x.1 some in (
+            (k.inv x.0, inverse_in),
+            same_code _ _
+                (k.laws.mul_comm x.0 (k.inv x.0) x.1 inverse_in ∙ k.laws.inv_mul x.0 x.1 some),
+          )
 
   pub code_domain : IsDomain code_ops
   code_domain = field_domain code_ring.ring code_field

@@ -29,7 +29,8 @@ abbrev pub with_laws : (d : FieldData) → IsFieldData d → CodeField
 with_laws (Modulo p) is = prime_field p is
 with_laws (ByModulus p m modulus) is = modulus_field p m modulus is
 
--- the data of a field that takes no memory, and of one that is held; a field by tables has those of the field that it was made of
+-- the data of a field that takes no memory, and of one that is held; a field by tables has those of the field that it
+-- was made of
 abbrev pub data_of_standard : Standard → FieldData
 data_of_standard (standard.Prime k) = Modulo k.p
 data_of_standard (standard.Residue k) = ByModulus k.p k.m (take (k.m + 1) k.modulus)

@@ -75,7 +75,9 @@ polynomial p listed codes = pol_of (code_ring (prime_field p listed)) (read (pri
 
 -- the modulus is the product of the polynomials that two codes stand for
 pub record IsFactor (p m : ℕ) (modulus : List ℕ) (a b : ℕ) : Type 0 where
-  pub product : (listed : IsTrue (is_listed p)) → (pol_ring (code_ring (prime_field p listed))).◌⊗◌ (polynomial p listed (digits p m a)) (polynomial p listed (digits p m b)) ≡ polynomial p listed modulus
+  pub product : (listed : IsTrue (is_listed p))
+      → (pol_ring (code_ring (prime_field p listed))).◌⊗◌ (polynomial p listed (digits p m a))
+      (polynomial p listed (digits p m b)) ≡ polynomial p listed modulus
 
 -- d is the code of a monic polynomial of degree e
 pub record IsMonicCode (p e d : ℕ) : Type 0 where
@@ -84,7 +86,8 @@ pub record IsMonicCode (p e d : ℕ) : Type 0 where
 
 -- no monic polynomial of a degree from 1 to m / 2, with a code below the bound, divides the modulus
 abbrev pub NoFactorBelow : ℕ → ℕ → List ℕ → ℕ → Type 0
-NoFactorBelow p m modulus bound = (e d c : ℕ) → 0 < e → e + e ≤ m → IsMonicCode p e d → d < bound → c < p ^ m → ¬ IsFactor p m modulus d c
+NoFactorBelow p m modulus bound = (e d c : ℕ) → 0 < e → e + e ≤ m → IsMonicCode p e d → d < bound → c < p ^ m
+    → ¬ IsFactor p m modulus d c
 
 -- a · b and `before`, moved up by as many positions as a has, make quotient · modulus and the rest
 pub record IsReducedProduct (p : ℕ) (a b before quotient modulus rest : List ℕ) : Type 0 where
@@ -92,7 +95,8 @@ pub record IsReducedProduct (p : ℕ) (a b before quotient modulus rest : List �
       let k = prime_field p listed in
       let r = code_ring k in
       (n : ℕ) → coeff_of r.ops (mul_onto r.ops (read k a) (read k b) (read k before)) n
-      ≡ r.◌⊕◌ (convolution r.ops (coeff_of r.ops (read k quotient)) (coeff_of r.ops (read k modulus)) n) (coeff_of r.ops (read k rest) n)
+      ≡ r.◌⊕◌ (convolution r.ops (coeff_of r.ops (read k quotient)) (coeff_of r.ops (read k modulus)) n)
+      (coeff_of r.ops (read k rest) n)
 
 -- the entry at n of s · before + c · row, less `lost` times the modulus
 abbrev pub stepped : ℕ → List ℕ → ℕ → List ℕ → ℕ → List ℕ → ℕ → ℕ

@@ -20,16 +20,19 @@ module _ (k : CodeField) where
   read ns = map (read_code k) ns
 
   -- the operations on numbers are those on codes
-  pub numbers_add : (xs ys : List (Code k)) → numbers (add_lists K.ops xs ys) ≡ add_lists (raw_ring k.ops) (numbers xs) (numbers ys)
+  pub numbers_add : (xs ys : List (Code k))
+      → numbers (add_lists K.ops xs ys) ≡ add_lists (raw_ring k.ops) (numbers xs) (numbers ys)
   numbers_add [] ys = refl
   numbers_add (x ∷ xs) [] = refl
   numbers_add (x ∷ xs) (y ∷ ys) = ap (λ w. k.add x.0 y.0 ∷ w) (numbers_add xs ys)
 
-  pub numbers_scale : (c : Code k) (ys : List (Code k)) → numbers (scale_list K.ops c ys) ≡ scale_list (raw_ring k.ops) c.0 (numbers ys)
+  pub numbers_scale : (c : Code k) (ys : List (Code k))
+      → numbers (scale_list K.ops c ys) ≡ scale_list (raw_ring k.ops) c.0 (numbers ys)
   numbers_scale c [] = refl
   numbers_scale c (y ∷ ys) = ap (λ w. k.mul c.0 y.0 ∷ w) (numbers_scale c ys)
 
-  pub numbers_mul : (xs ys : List (Code k)) → numbers (mul_lists K.ops xs ys) ≡ mul_lists (raw_ring k.ops) (numbers xs) (numbers ys)
+  pub numbers_mul : (xs ys : List (Code k))
+      → numbers (mul_lists K.ops xs ys) ≡ mul_lists (raw_ring k.ops) (numbers xs) (numbers ys)
   numbers_mul [] ys = refl
   numbers_mul (x ∷ xs) ys =
       numbers_add (scale_list K.ops x ys) (K.𝟘 ∷ mul_lists K.ops xs ys)
@@ -39,7 +42,8 @@ module _ (k : CodeField) where
   numbers_neg [] = refl
   numbers_neg (y ∷ ys) = ap (λ w. k.neg y.0 ∷ w) (numbers_neg ys)
 
-  pub numbers_mul_onto : (xs ys zs : List (Code k)) → numbers (mul_onto K.ops xs ys zs) ≡ mul_onto (raw_ring k.ops) (numbers xs) (numbers ys) (numbers zs)
+  pub numbers_mul_onto : (xs ys zs : List (Code k))
+      → numbers (mul_onto K.ops xs ys zs) ≡ mul_onto (raw_ring k.ops) (numbers xs) (numbers ys) (numbers zs)
   numbers_mul_onto [] ys zs = refl
   numbers_mul_onto (x ∷ xs) ys zs =
       numbers_add (K.𝟘 ∷ mul_onto K.ops xs ys zs) (scale_list K.ops x ys)
@@ -49,7 +53,8 @@ module _ (k : CodeField) where
   numbers_zeros zero = refl
   numbers_zeros (suc m) = ap (λ w. 0 ∷ w) (numbers_zeros m)
 
-  numbers_trim_onto : (x : Code k) (xs : List (Code k)) → numbers (trim_onto K.is_zero x xs) ≡ trim_onto is_zero_code x.0 (numbers xs)
+  numbers_trim_onto : (x : Code k) (xs : List (Code k))
+      → numbers (trim_onto K.is_zero x xs) ≡ trim_onto is_zero_code x.0 (numbers xs)
   numbers_trim_onto x [] = go (is_zero_code x.0)
     where
       go : (b : Bool) → numbers (cond b [] (x ∷ [])) ≡ cond b [] (x.0 ∷ [])
@@ -79,23 +84,30 @@ module _ (k : CodeField) where
   numbers_get_or (x ∷ xs) zero = refl
   numbers_get_or (x ∷ xs) (suc i) = numbers_get_or xs i
 
-  numbers_digit : (b t : List (Code k)) (inverse : Code k) → (digit_of K.ops b inverse t).0 ≡ digit_of (raw_ring k.ops) (numbers b) inverse.0 (numbers t)
+  numbers_digit : (b t : List (Code k)) (inverse : Code k)
+      → (digit_of K.ops b inverse t).0 ≡ digit_of (raw_ring k.ops) (numbers b) inverse.0 (numbers t)
   numbers_digit b t inverse =
-      ap (λ c. k.mul c inverse.0) (numbers_get_or t (length b - 1) ∙ ap (λ n. get_or (numbers t) (n - 1) 0) (sym (length-map b (λ x. x.0))))
+      ap (λ c. k.mul c inverse.0) (numbers_get_or t (length b - 1)
+      ∙ ap (λ n. get_or (numbers t) (n - 1) 0) (sym (length-map b (λ x. x.0))))
 
-  pub numbers_rest_from : (b xs : List (Code k)) (inverse : Code k) → numbers (rest_from K.ops b inverse xs) ≡ rest_from (raw_ring k.ops) (numbers b) inverse.0 (numbers xs)
-  numbers_rest_from b [] inverse = numbers_zeros (length b - 1) ∙ ap (λ n. replicate (n - 1) 0) (sym (length-map b (λ x. x.0)))
+  pub numbers_rest_from : (b xs : List (Code k)) (inverse : Code k)
+      → numbers (rest_from K.ops b inverse xs) ≡ rest_from (raw_ring k.ops) (numbers b) inverse.0 (numbers xs)
+  numbers_rest_from b [] inverse = numbers_zeros (length b - 1)
+      ∙ ap (λ n. replicate (n - 1) 0) (sym (length-map b (λ x. x.0)))
   numbers_rest_from b (x ∷ xs) inverse =
       let t = x ∷ rest_from K.ops b inverse xs in
       let same = ap (λ w. x.0 ∷ w) (numbers_rest_from b xs inverse) in
       numbers_add t (scale_list K.ops (K.⊖◌ (digit_of K.ops b inverse t)) b)
       ∙ ap₂ (add_lists (raw_ring k.ops)) same
       (numbers_scale (K.⊖◌ (digit_of K.ops b inverse t)) b
-      ∙ ap (λ c. scale_list (raw_ring k.ops) (k.neg c) (numbers b)) (numbers_digit b t inverse ∙ ap (digit_of (raw_ring k.ops) (numbers b) inverse.0) same))
+      ∙ ap (λ c. scale_list (raw_ring k.ops) (k.neg c) (numbers b))
+      (numbers_digit b t inverse ∙ ap (digit_of (raw_ring k.ops) (numbers b) inverse.0) same))
 
-  pub numbers_quotient_from : (b xs : List (Code k)) (inverse : Code k) → numbers (quotient_from K.ops b inverse xs) ≡ quotient_from (raw_ring k.ops) (numbers b) inverse.0 (numbers xs)
+  pub numbers_quotient_from : (b xs : List (Code k)) (inverse : Code k)
+      → numbers (quotient_from K.ops b inverse xs) ≡ quotient_from (raw_ring k.ops) (numbers b) inverse.0 (numbers xs)
   numbers_quotient_from b [] inverse = refl
   numbers_quotient_from b (x ∷ xs) inverse =
       ap₂ ◌∷◌
-      (numbers_digit b (x ∷ rest_from K.ops b inverse xs) inverse ∙ ap (λ w. digit_of (raw_ring k.ops) (numbers b) inverse.0 (x.0 ∷ w)) (numbers_rest_from b xs inverse))
+      (numbers_digit b (x ∷ rest_from K.ops b inverse xs) inverse
+      ∙ ap (λ w. digit_of (raw_ring k.ops) (numbers b) inverse.0 (x.0 ∷ w)) (numbers_rest_from b xs inverse))
       (numbers_quotient_from b xs inverse)

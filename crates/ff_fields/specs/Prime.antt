@@ -80,7 +80,8 @@ listed_computes p listed = e1 (or_cases _ (nat_eq p 13) listed)
     e2 (inl e) = e3 (or_cases _ _ e)
     e2 (inr e) = at_two computes 11 p refl e
 
-    e1 : ((nat_eq p 2 || nat_eq p 3 || nat_eq p 5 || nat_eq p 7 || nat_eq p 11) ≡ true) ⊎ (nat_eq p 13 ≡ true) → computes p ≡ true
+    e1 : ((nat_eq p 2 || nat_eq p 3 || nat_eq p 5 || nat_eq p 7 || nat_eq p 11) ≡ true) ⊎ (nat_eq p 13 ≡ true)
+        → computes p ≡ true
     e1 (inl e) = e2 (or_cases _ _ e)
     e1 (inr e) = at_two computes 13 p refl e
 
@@ -99,7 +100,8 @@ module _ (p : ℕ) (above : 1 < p) where
   distributes a b c = mul-mod_second a (b + c) p ∙ ap (λ n. n % p) (mul-add a b c) ∙ add-mod (a * b) (a * c) p
 
   negated : (a : ℕ) → a < p → ((p - a) % p + a) % p ≡ 0
-  negated a in_p = let whole : p - a + a ≡ p = omega arith in mod-add-mod (p - a) p a ∙ ap (λ n. n % p) whole ∙ mod_self p
+  negated a in_p = let whole : p - a + a ≡ p = omega arith in mod-add-mod (p - a) p a ∙ ap (λ n. n % p) whole
+      ∙ mod_self p
 
 pub listed_above : (p : ℕ) → IsTrue (is_listed p) → 1 < p
 listed_above p listed = grind arith
@@ -109,16 +111,22 @@ listed_small p listed = grind arith
 
 pub listed_prime : (p : ℕ) → IsTrue (is_listed p) → IsPrimeNumber p
 listed_prime p listed =
-    let halves = and_parts (all_below p (inverse_holds p) && all_below p (power_holds p)) _ (listed_computes p listed) in
+    let halves = and_parts (all_below p (inverse_holds p) && all_below p (power_holds p)) _ (listed_computes p listed)
+    in
     let parts = and_parts (all_below p (leaves_rest p)) _ halves.1 in
-    record { above = listed_above p listed; no_divisor = λ d above less. rest p d above (all_below_at p (leaves_rest p) parts.0 d less) }
+    record {
+      above = listed_above p listed;
+      no_divisor = λ d above less. rest p d above
+          (all_below_at p (leaves_rest p) parts.0 d less);
+    }
   where
     rest : (p d : ℕ) → 1 < d → leaves_rest p d ≡ true → p % d ≢ 0
     rest p d above holds null = grind arith
 
 pub prime_laws : (p : ℕ) → IsTrue (is_listed p) → FieldLaws (prime_of p)
 prime_laws p listed =
-    let halves = and_parts (all_below p (inverse_holds p) && all_below p (power_holds p)) _ (listed_computes p listed) in
+    let halves = and_parts (all_below p (inverse_holds p) && all_below p (power_holds p)) _ (listed_computes p listed)
+    in
     let parts = and_parts (all_below p (inverse_holds p)) (all_below p (power_holds p)) halves.0 in
     let above : 1 < p = listed_above p listed in
     record {

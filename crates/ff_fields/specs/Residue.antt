@@ -47,7 +47,8 @@ power_by mul a (suc e) = mul a (power_by mul a e)
 -- the product modulo the modulus
 abbrev pub residue_mul : ℕ → ℕ → List ℕ → ℕ → ℕ → ℕ
 residue_mul p m modulus a b =
-    let f = raw_ring (prime_of p) in number p (take m (rest_from f modulus 1 (mul_lists f (digits p m a) (digits p m b))))
+    let f = raw_ring (prime_of p) in number p
+    (take m (rest_from f modulus 1 (mul_lists f (digits p m a) (digits p m b))))
 
 -- sums by digits, products modulo the modulus
 abbrev pub residue_of : ℕ → ℕ → List ℕ → FieldOps
@@ -77,7 +78,8 @@ null_sum p (suc m) pos =
     none : (p : ℕ) → 0 + p * 0 ≡ 0
     none p = omega arith
 
-small_sum : (p m a b : ℕ) → 0 < p → 0 < m → a < p → b < p → number p (add_lists (raw_ring (prime_of p)) (digits p m a) (digits p m b)) ≡ (a + b) % p
+small_sum : (p m a b : ℕ) → 0 < p → 0 < m → a < p → b < p
+    → number p (add_lists (raw_ring (prime_of p)) (digits p m a) (digits p m b)) ≡ (a + b) % p
 small_sum p zero a b pos some a_in b_in = absurd (omega arith)
 small_sum p (suc m) a b pos some a_in b_in =
     let rest : ℕ → ℕ → ℕ = λ c d. number p (add_lists (raw_ring (prime_of p)) (digits p m c) (digits p m d)) in
@@ -114,7 +116,8 @@ module _ (p : ℕ) (pos : 0 < p) where
   digits_number (suc m) (d ∷ ds) same over =
       ap₂ ◌∷◌
       (add-mul-mod_self_left d p (number p ds) ∙ mod-eq_of_lt (IsOver_head over))
-      (ap (digits p m) (add-mul-div_left d (number p ds) pos ∙ ap (λ w. w + number p ds) (div-eq_of_lt (IsOver_head over)) ∙ zero_add_lem (number p ds))
+      (ap (digits p m) (add-mul-div_left d (number p ds) pos
+      ∙ ap (λ w. w + number p ds) (div-eq_of_lt (IsOver_head over)) ∙ zero_add_lem (number p ds))
       ∙ digits_number m ds (omega arith) (IsOver_tail over))
     where
       zero_add_lem : (n : ℕ) → 0 + n ≡ n
@@ -126,7 +129,8 @@ module _ (p : ℕ) (pos : 0 < p) where
       below_one : (c : ℕ) → c < p ^ 0 → c ≡ 0
       below_one c less = omega (arith, pow-zero p)
   number_digits (suc m) c less =
-      ap (λ w. c % p + p * w) (number_digits m (c / p) ((div-lt_iff_lt-mul pos).1 (subst (λ w. c < w) (pow-suc p m) less)))
+      ap (λ w. c % p + p * w) (number_digits m (c / p)
+      ((div-lt_iff_lt-mul pos).1 (subst (λ w. c < w) (pow-suc p m) less)))
       ∙ mod-add-div c p
 
   pub number_below : (m : ℕ) (ds : List ℕ) → length ds ≡ m → IsOver (prime_of p) ds → number p ds < p ^ m
@@ -149,7 +153,8 @@ module _ (p : ℕ) (pos : 0 < p) where
 
 -- the codes below p^m are the classes of polynomials modulo the modulus
 
-module _ (p : ℕ) (listed : IsTrue (is_listed p)) (m : ℕ) (some : 0 < m) (modulus : List ℕ) (long : length modulus ≡ suc m) (modulus_in : IsOver (prime_of p) modulus) (monic : get_or modulus m 0 ≡ 1) where
+module _ (p : ℕ) (listed : IsTrue (is_listed p)) (m : ℕ) (some : 0 < m) (modulus : List ℕ)
+    (long : length modulus ≡ suc m) (modulus_in : IsOver (prime_of p) modulus) (monic : get_or modulus m 0 ≡ 1) where
   abbrev pub k : CodeField
   k = prime_field p listed
 
@@ -194,13 +199,15 @@ module _ (p : ℕ) (listed : IsTrue (is_listed p)) (m : ℕ) (some : 0 < m) (mod
   length_sum_list : (a b : ℕ) → length (sum_list a b) ≡ m
   unfolding sum_list
   length_sum_list a b =
-      length_add_lists K.ops (digit_codes a) (digit_codes b) (omega (arith, length_digit_codes a, length_digit_codes b)) ∙ length_digit_codes a
+      length_add_lists K.ops (digit_codes a) (digit_codes b) (omega (arith, length_digit_codes a, length_digit_codes b))
+      ∙ length_digit_codes a
 
   sum_is : (a b : ℕ) → ops.add a b ≡ number p (numbers k (sum_list a b))
   unfolding sum_list
   sum_is a b =
       ap (number p)
-      (ap₂ (add_lists (raw_ring k.ops)) (sym (numbers_digit_codes a)) (sym (numbers_digit_codes b)) ∙ sym (numbers_add k (digit_codes a) (digit_codes b)))
+      (ap₂ (add_lists (raw_ring k.ops)) (sym (numbers_digit_codes a)) (sym (numbers_digit_codes b))
+      ∙ sym (numbers_add k (digit_codes a) (digit_codes b)))
 
   of_sum : (a b : ℕ) → of (ops.add a b) ≡ s.◌⊕◌ (of a) (of b)
   unfolding sum_list
@@ -226,7 +233,8 @@ module _ (p : ℕ) (listed : IsTrue (is_listed p)) (m : ℕ) (some : 0 < m) (mod
   product_is a b =
       ap (λ w. number p (take m w))
       (ap₂ (λ x y. rest_from (raw_ring k.ops) x 1 y) (sym modulus_back)
-      (ap₂ (mul_lists (raw_ring k.ops)) (sym (numbers_digit_codes a)) (sym (numbers_digit_codes b)) ∙ sym (numbers_mul k (digit_codes a) (digit_codes b)))
+      (ap₂ (mul_lists (raw_ring k.ops)) (sym (numbers_digit_codes a)) (sym (numbers_digit_codes b))
+      ∙ sym (numbers_mul k (digit_codes a) (digit_codes b)))
       ∙ sym (numbers_rest_from k modulus_codes (mul_lists K.ops (digit_codes a) (digit_codes b)) K.𝟙))
       ∙ ap (number p) (take-map (λ x. x.0) m (product_list a b))
 
@@ -247,7 +255,11 @@ module _ (p : ℕ) (listed : IsTrue (is_listed p)) (m : ℕ) (some : 0 < m) (mod
   unfolding product_list
   length_part a b =
       length-take-le m (product_list a b)
-      (omega (arith, length_rest_from K.ops modulus_codes K.𝟙 (mul_lists K.ops (digit_codes a) (digit_codes b)), length_modulus_codes))
+      (omega (
+        arith,
+        length_rest_from K.ops modulus_codes K.𝟙 (mul_lists K.ops (digit_codes a) (digit_codes b)),
+        length_modulus_codes,
+      ))
 
   -- nothing is lost where the product is cut at m positions
   coeff_part : (a b n : ℕ) → coeff_of K.ops (take m (product_list a b)) n ≡ coeff_of K.ops (product_list a b) n
@@ -258,7 +270,8 @@ module _ (p : ℕ) (listed : IsTrue (is_listed p)) (m : ℕ) (some : 0 < m) (mod
       go (inl less) = get_or-take m (product_list a b) n K.𝟘 less
       go (inr more) =
           coeff_past K (take m (product_list a b)) n (omega (arith, length_part a b))
-          ∙ sym (rest_ends K modulus_codes K.𝟙 inverts (mul_lists K.ops (digit_codes a) (digit_codes b)) n (omega (arith, length_modulus_codes)))
+          ∙ sym (rest_ends K modulus_codes K.𝟙 inverts (mul_lists K.ops (digit_codes a) (digit_codes b)) n
+          (omega (arith, length_modulus_codes)))
 
   unfoldable pub M : Pol K
   M = pol_of K modulus_codes
@@ -281,7 +294,8 @@ module _ (p : ℕ) (listed : IsTrue (is_listed p)) (m : ℕ) (some : 0 < m) (mod
       trimmed : (c : ℕ) → coeff_of K.ops (of c).0 ≡ coeff_of K.ops (digit_codes c)
       trimmed c = fun_ext (coeff_trim K (digit_codes c))
 
-      same_product : (n : ℕ) → coeff_of K.ops (mul_lists K.ops (of a).0 (of b).0) n ≡ coeff_of K.ops (mul_lists K.ops (digit_codes a) (digit_codes b)) n
+      same_product : (n : ℕ) → coeff_of K.ops (mul_lists K.ops (of a).0 (of b).0) n
+          ≡ coeff_of K.ops (mul_lists K.ops (digit_codes a) (digit_codes b)) n
       same_product n =
           coeff_mul K (of a).0 (of b).0 n ∙ ap₂ (λ f g. convolution K.ops f g n) (trimmed a) (trimmed b)
           ∙ sym (coeff_mul K (digit_codes a) (digit_codes b) n)
@@ -289,10 +303,13 @@ module _ (p : ℕ) (listed : IsTrue (is_listed p)) (m : ℕ) (some : 0 < m) (mod
       written : (n : ℕ) → coeff_of K.ops (of (ops.mul a b)).0 n ≡ coeff_of K.ops (product_list a b) n
       written n =
           coeff_trim K (digit_codes (ops.mul a b)) n
-          ∙ ap (λ w. coeff_of K.ops w n) (ap digit_codes (product_is a b) ∙ digit_codes_number (take m (product_list a b)) (length_part a b))
+          ∙ ap (λ w. coeff_of K.ops w n)
+          (ap digit_codes (product_is a b) ∙ digit_codes_number (take m (product_list a b)) (length_part a b))
           ∙ coeff_part a b n
 
-      multiple : (n : ℕ) → coeff_of K.ops (s.◌⊗◌ M (quotient a b)).0 n ≡ convolution K.ops (coeff_of K.ops (quotient_from K.ops modulus_codes K.𝟙 (mul_lists K.ops (digit_codes a) (digit_codes b)))) (coeff_of K.ops modulus_codes) n
+      multiple : (n : ℕ) → coeff_of K.ops (s.◌⊗◌ M (quotient a b)).0 n
+          ≡ convolution K.ops (coeff_of K.ops (quotient_from K.ops modulus_codes K.𝟙
+          (mul_lists K.ops (digit_codes a) (digit_codes b)))) (coeff_of K.ops modulus_codes) n
       multiple n =
           series_mul K M (quotient a b) n ∙ convolution_comm K.ring _ _ n
           ∙ ap₂ (λ f g. convolution K.ops f g n) (fun_ext (coeff_trim K _)) (fun_ext (coeff_trim K modulus_codes))
@@ -320,23 +337,31 @@ module _ (p : ℕ) (listed : IsTrue (is_listed p)) (m : ℕ) (some : 0 < m) (mod
       ∙ number_digits p pos m b b_in
     where
       gap : s.◌⊗◌ M c.times ≡ s.◌⊕◌ (of a) (s.⊖◌ (of b))
-      gap = sym (cross s.ring (of a) s.𝟘 (of b) (s.◌⊗◌ M c.times) (s.add_zero (of a) ∙ c.differs) ∙ ap (s.◌⊕◌ (s.◌⊗◌ M c.times)) (neg_zero s.ring) ∙ s.add_zero _)
+      gap = sym (cross s.ring (of a) s.𝟘 (of b) (s.◌⊗◌ M c.times) (s.add_zero (of a) ∙ c.differs)
+          ∙ ap (s.◌⊕◌ (s.◌⊗◌ M c.times)) (neg_zero s.ring) ∙ s.add_zero _)
 
       short : length (s.◌⊗◌ M c.times).0 < length M.0
       short =
           subst (λ w. length w.0 < length M.0) (sym gap)
-          (omega (arith, length_M, length_add K (of a) (s.⊖◌ (of b)) m (length_of a) (length_neg K (of b) m (length_of b))))
+          (omega (
+            arith,
+            length_M,
+            length_add K (of a) (s.⊖◌ (of b)) m (length_of a)
+                (length_neg K (of b) m (length_of b)),
+          ))
 
       none : c.times ≡ s.𝟘
       none = short_multiple K (code_domain k) M c.times short
 
       polys : of a ≡ of b
-      polys = c.differs ∙ ap (λ w. s.◌⊕◌ (of b) (s.◌⊗◌ M w)) none ∙ ap (s.◌⊕◌ (of b)) (mul_zero s.ring M) ∙ s.add_zero (of b)
+      polys = c.differs ∙ ap (λ w. s.◌⊕◌ (of b) (s.◌⊗◌ M w)) none ∙ ap (s.◌⊕◌ (of b)) (mul_zero s.ring M)
+          ∙ s.add_zero (of b)
 
       lists : digit_codes a ≡ digit_codes b
       lists =
           ext_get_or K.𝟘 (digit_codes a) (digit_codes b) (length_digit_codes a ∙ sym (length_digit_codes b))
-          (λ i less. sym (coeff_trim K (digit_codes a) i) ∙ ap (λ w. coeff_of K.ops w.0 i) polys ∙ coeff_trim K (digit_codes b) i)
+          (λ i less. sym (coeff_trim K (digit_codes a) i) ∙ ap (λ w. coeff_of K.ops w.0 i) polys
+          ∙ coeff_trim K (digit_codes b) i)
 
   -- the ring of the codes
 
@@ -358,7 +383,8 @@ module _ (p : ℕ) (listed : IsTrue (is_listed p)) (m : ℕ) (some : 0 < m) (mod
 
   negative_is : (a : ℕ) → ops.neg a ≡ number p (numbers k (difference_list a))
   unfolding difference_list
-  negative_is a = ap (number p) (ap (neg_list (raw_ring k.ops)) (sym (numbers_digit_codes a)) ∙ sym (numbers_neg k (digit_codes a)))
+  negative_is a = ap (number p) (ap (neg_list (raw_ring k.ops)) (sym (numbers_digit_codes a))
+      ∙ sym (numbers_neg k (digit_codes a)))
 
   length_difference_list : (a : ℕ) → length (difference_list a) ≡ m
   unfolding difference_list
@@ -385,7 +411,8 @@ module _ (p : ℕ) (listed : IsTrue (is_listed p)) (m : ℕ) (some : 0 < m) (mod
   of_null =
       same_pol K _ _ (λ n.
       coeff_trim K (digit_codes 0) n
-      ∙ ap (λ w. coeff_of K.ops w n) (ap digit_codes (sym (number_zeros m)) ∙ digit_codes_number (replicate m K.𝟘) (length-replicate m K.𝟘))
+      ∙ ap (λ w. coeff_of K.ops w n) (ap digit_codes (sym (number_zeros m))
+      ∙ digit_codes_number (replicate m K.𝟘) (length-replicate m K.𝟘))
       ∙ coeff_append_zeros K [] m n)
 
   pub of_unit : of 1 ≡ s.𝟙
@@ -440,93 +467,96 @@ module _ (p : ℕ) (listed : IsTrue (is_listed p)) (m : ℕ) (some : 0 < m) (mod
 
   -- where no product of two nonzero codes is 0, the codes are a field
 
-  module _ (small : p ^ m ≤ 65536) (no_divisors : (a b : ℕ) → a < p ^ m → b < p ^ m → a ≢ 0 → b ≢ 0 → ops.mul a b ≢ 0) where
-    same_codes : (x y : C) → x.0 ≡ y.0 → x ≡ y
-    same_codes x y e = Σ_prop_path (λ c. le_prop) e
+  module _ (small : p ^ m ≤ 65536) (no_divisors : (a b : ℕ) → a < p ^ m → b < p ^ m → a ≢ 0 → b ≢ 0 → ops.mul a b ≢ 0)
+    where
+      same_codes : (x y : C) → x.0 ≡ y.0 → x ≡ y
+      same_codes x y e = Σ_prop_path (λ c. le_prop) e
 
-    class_domain : IsDomain class_ops
-    class_domain = record {
-      one_not_zero = λ e. apart class_ops.𝟙.0 class_ops.𝟘.0 refl refl (ap (λ x. x.0) e);
-      cancel_zero = λ x y x_some null. go x y x_some (ap (λ w. w.0) null) (cases_eq y.0 0);
-    }
-      where
-        apart : (a b : ℕ) → a ≡ 1 → b ≡ 0 → a ≡ b → ⊥
-        apart a b a_is b_is same = omega arith
+      class_domain : IsDomain class_ops
+      class_domain = record {
+        one_not_zero = λ e. apart class_ops.𝟙.0 class_ops.𝟘.0 refl refl (ap (λ x. x.0) e);
+        cancel_zero = λ x y x_some null. go x y x_some (ap (λ w. w.0) null) (cases_eq y.0 0);
+      }
+        where
+          apart : (a b : ℕ) → a ≡ 1 → b ≡ 0 → a ≡ b → ⊥
+          apart a b a_is b_is same = omega arith
 
-        go : (x y : C) → ¬ (x ≡ class_ops.𝟘) → ops.mul x.0 y.0 ≡ 0 → (y.0 ≡ 0) ⊎ (y.0 ≡ 0 → ⊥) → y ≡ class_ops.𝟘
-        go x y x_some null (inl e) = same_codes y class_ops.𝟘 e
-        go x y x_some null (inr y_some) = absurd (no_divisors x.0 y.0 x.1 y.1 (λ e. x_some (same_codes x class_ops.𝟘 e)) y_some null)
+          go : (x y : C) → ¬ (x ≡ class_ops.𝟘) → ops.mul x.0 y.0 ≡ 0 → (y.0 ≡ 0) ⊎ (y.0 ≡ 0 → ⊥) → y ≡ class_ops.𝟘
+          go x y x_some null (inl e) = same_codes y class_ops.𝟘 e
+          go x y x_some null (inr y_some) = absurd
+              (no_divisors x.0 y.0 x.1 y.1 (λ e. x_some (same_codes x class_ops.𝟘 e)) y_some null)
 
-    last : p ^ m - 1 < p ^ m
-    last = omega (arith, two_le)
+      last : p ^ m - 1 < p ^ m
+      last = omega (arith, two_le)
 
-    -- each nonzero code to the power q - 1 is 1
-    unit_power : (x : C) → x.0 ≢ 0 → pow class_ops x (p ^ m - 1) ≡ class_ring.𝟙
-    unit_power x some =
-        ap (pow class_ops x) (sym (length_codes_to (p ^ m) (p ^ m - 1) last))
-        ∙ power_all class_ring class_domain (codes_to (p ^ m) (p ^ m - 1) last)
-        (codes_to_distinct (p ^ m) (p ^ m - 1) last)
-        (λ y h e. absurd (omega (arith, codes_to_some (p ^ m) (p ^ m - 1) last y h, ap (λ w. w.0) e)))
-        (λ y y_some. codes_to_all (p ^ m) (p ^ m - 1) last y (pos_of_ne-zero (λ e. y_some (same_codes y class_ring.𝟘 e))) (omega (arith, y.1)))
-        x (λ e. some (ap (λ w. w.0) e))
+      -- each nonzero code to the power q - 1 is 1
+      unit_power : (x : C) → x.0 ≢ 0 → pow class_ops x (p ^ m - 1) ≡ class_ring.𝟙
+      unit_power x some =
+          ap (pow class_ops x) (sym (length_codes_to (p ^ m) (p ^ m - 1) last))
+          ∙ power_all class_ring class_domain (codes_to (p ^ m) (p ^ m - 1) last)
+          (codes_to_distinct (p ^ m) (p ^ m - 1) last)
+          (λ y h e. absurd (omega (arith, codes_to_some (p ^ m) (p ^ m - 1) last y h, ap (λ w. w.0) e)))
+          (λ y y_some. codes_to_all (p ^ m) (p ^ m - 1) last y
+          (pos_of_ne-zero (λ e. y_some (same_codes y class_ring.𝟘 e))) (omega (arith, y.1)))
+          x (λ e. some (ap (λ w. w.0) e))
 
-    power_is : (x : C) (e : ℕ) → (pow class_ops x e).0 ≡ pow_of ops x.0 e
-    power_is x zero = refl
-    power_is x (suc e) = ap (ops.mul x.0) (power_is x e)
+      power_is : (x : C) (e : ℕ) → (pow class_ops x e).0 ≡ pow_of ops x.0 e
+      power_is x zero = refl
+      power_is x (suc e) = ap (ops.mul x.0) (power_is x e)
 
-    power_by_is : (x : C) (e : ℕ) → (pow class_ops x e).0 ≡ power_by ops.mul x.0 e
-    power_by_is x zero = refl
-    power_by_is x (suc e) = ap (ops.mul x.0) (power_by_is x e)
+      power_by_is : (x : C) (e : ℕ) → (pow class_ops x e).0 ≡ power_by ops.mul x.0 e
+      power_by_is x zero = refl
+      power_by_is x (suc e) = ap (ops.mul x.0) (power_by_is x e)
 
-    raw_unit : (a : ℕ) → a < p ^ m → a ≢ 0 → pow_of ops a (p ^ m - 1) ≡ 1
-    raw_unit a a_in some = sym (power_is (a, a_in) (p ^ m - 1)) ∙ ap (λ x. x.0) (unit_power (a, a_in) some)
+      raw_unit : (a : ℕ) → a < p ^ m → a ≢ 0 → pow_of ops a (p ^ m - 1) ≡ 1
+      raw_unit a a_in some = sym (power_is (a, a_in) (p ^ m - 1)) ∙ ap (λ x. x.0) (unit_power (a, a_in) some)
 
-    inverse_below : (a : ℕ) → a < p ^ m → ops.inv a < p ^ m
-    inverse_below a a_in = rw (sym (power_by_is (a, a_in) (p ^ m - 2))) ((pow class_ops (a, a_in) (p ^ m - 2)).1)
+      inverse_below : (a : ℕ) → a < p ^ m → ops.inv a < p ^ m
+      inverse_below a a_in = rw (sym (power_by_is (a, a_in) (p ^ m - 2))) ((pow class_ops (a, a_in) (p ^ m - 2)).1)
 
-    pub residue_laws : FieldLaws ops
-    residue_laws = record {
-      one_below = two_le;
-      size_within = small;
-      is_prime = listed_prime p listed;
-      times_one = sum_of_ones p m modulus (listed_above p listed) some p ∙ mod_self p;
-      add_below = λ a b _ _. sum_below a b;
-      neg_below = λ a _. negative_below a;
-      mul_below = λ a b _ _. product_below a b;
-      inv_below = λ a a_in _. inverse_below a a_in;
-      add_comm = λ a b a_in b_in. ap (λ x. x.0) (class_ring.add_comm (a, a_in) (b, b_in));
-      add_assoc = λ a b c a_in b_in c_in. ap (λ x. x.0) (class_ring.add_assoc (a, a_in) (b, b_in) (c, c_in));
-      zero_add = λ a a_in. ap (λ x. x.0) (zero_add class_ring (a, a_in));
-      neg_add = λ a a_in. ap (λ x. x.0) (neg_add class_ring (a, a_in));
-      mul_comm = λ a b a_in b_in. ap (λ x. x.0) (class_ring.mul_comm (a, a_in) (b, b_in));
-      mul_assoc = λ a b c a_in b_in c_in. ap (λ x. x.0) (class_ring.mul_assoc (a, a_in) (b, b_in) (c, c_in));
-      one_mul = λ a a_in. ap (λ x. x.0) (one_mul class_ring (a, a_in));
-      mul_add = λ a b c a_in b_in c_in. ap (λ x. x.0) (class_ring.mul_add (a, a_in) (b, b_in) (c, c_in));
-      inv_mul = λ a a_in some.
-          ap (λ x. x.0) (class_ring.mul_comm (ops.inv a, inverse_below a a_in) (a, a_in))
-          ∙ ap (ops.mul a) (sym (power_by_is (a, a_in) (p ^ m - 2)) ∙ power_is (a, a_in) (p ^ m - 2))
-          ∙ ap (pow_of ops a) count_inv
-          ∙ raw_unit a a_in some;
-      pow_size = λ a a_in. pow_size a a_in (cases_eq a 0);
-    }
-      where
-        count_inv : suc (p ^ m - 2) ≡ p ^ m - 1
-        count_inv = omega (arith, two_le)
+      pub residue_laws : FieldLaws ops
+      residue_laws = record {
+        one_below = two_le;
+        size_within = small;
+        is_prime = listed_prime p listed;
+        times_one = sum_of_ones p m modulus (listed_above p listed) some p ∙ mod_self p;
+        add_below = λ a b _ _. sum_below a b;
+        neg_below = λ a _. negative_below a;
+        mul_below = λ a b _ _. product_below a b;
+        inv_below = λ a a_in _. inverse_below a a_in;
+        add_comm = λ a b a_in b_in. ap (λ x. x.0) (class_ring.add_comm (a, a_in) (b, b_in));
+        add_assoc = λ a b c a_in b_in c_in. ap (λ x. x.0) (class_ring.add_assoc (a, a_in) (b, b_in) (c, c_in));
+        zero_add = λ a a_in. ap (λ x. x.0) (zero_add class_ring (a, a_in));
+        neg_add = λ a a_in. ap (λ x. x.0) (neg_add class_ring (a, a_in));
+        mul_comm = λ a b a_in b_in. ap (λ x. x.0) (class_ring.mul_comm (a, a_in) (b, b_in));
+        mul_assoc = λ a b c a_in b_in c_in. ap (λ x. x.0) (class_ring.mul_assoc (a, a_in) (b, b_in) (c, c_in));
+        one_mul = λ a a_in. ap (λ x. x.0) (one_mul class_ring (a, a_in));
+        mul_add = λ a b c a_in b_in c_in. ap (λ x. x.0) (class_ring.mul_add (a, a_in) (b, b_in) (c, c_in));
+        inv_mul = λ a a_in some.
+            ap (λ x. x.0) (class_ring.mul_comm (ops.inv a, inverse_below a a_in) (a, a_in))
+            ∙ ap (ops.mul a) (sym (power_by_is (a, a_in) (p ^ m - 2)) ∙ power_is (a, a_in) (p ^ m - 2))
+            ∙ ap (pow_of ops a) count_inv
+            ∙ raw_unit a a_in some;
+        pow_size = λ a a_in. pow_size a a_in (cases_eq a 0);
+      }
+        where
+          count_inv : suc (p ^ m - 2) ≡ p ^ m - 1
+          count_inv = omega (arith, two_le)
 
-        count_all : p ^ m ≡ suc (p ^ m - 1)
-        count_all = omega (arith, two_le)
+          count_all : p ^ m ≡ suc (p ^ m - 1)
+          count_all = omega (arith, two_le)
 
-        pow_size : (a : ℕ) → a < p ^ m → (a ≡ 0) ⊎ (a ≡ 0 → ⊥) → pow_of ops a (p ^ m) ≡ a
-        pow_size a a_in (inl e) =
-            ap (pow_of ops a) count_all
-            ∙ ap (λ w. ops.mul w (pow_of ops a (p ^ m - 1))) e
-            ∙ ap (λ x. ops.mul 0 x) (sym (power_is (a, a_in) (p ^ m - 1)))
-            ∙ ap (λ x. x.0) (zero_mul class_ring (pow class_ops (a, a_in) (p ^ m - 1)))
-            ∙ sym e
-        pow_size a a_in (inr n) =
-            ap (pow_of ops a) count_all ∙ ap (ops.mul a) (raw_unit a a_in n)
-            ∙ ap (λ x. x.0) (class_ring.mul_comm (a, a_in) class_ring.𝟙 ∙ one_mul class_ring (a, a_in))
+          pow_size : (a : ℕ) → a < p ^ m → (a ≡ 0) ⊎ (a ≡ 0 → ⊥) → pow_of ops a (p ^ m) ≡ a
+          pow_size a a_in (inl e) =
+              ap (pow_of ops a) count_all
+              ∙ ap (λ w. ops.mul w (pow_of ops a (p ^ m - 1))) e
+              ∙ ap (λ x. ops.mul 0 x) (sym (power_is (a, a_in) (p ^ m - 1)))
+              ∙ ap (λ x. x.0) (zero_mul class_ring (pow class_ops (a, a_in) (p ^ m - 1)))
+              ∙ sym e
+          pow_size a a_in (inr n) =
+              ap (pow_of ops a) count_all ∙ ap (ops.mul a) (raw_unit a a_in n)
+              ∙ ap (λ x. x.0) (class_ring.mul_comm (a, a_in) class_ring.𝟙 ∙ one_mul class_ring (a, a_in))
 
-    -- the field of the codes below p^m
-    abbrev pub residue_field : CodeField
-    residue_field = record { ops = ops; laws = residue_laws }
+      -- the field of the codes below p^m
+      abbrev pub residue_field : CodeField
+      residue_field = record { ops = ops; laws = residue_laws }

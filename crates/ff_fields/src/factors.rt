@@ -32,7 +32,8 @@ fn cofactor(p: u32, m: u32, modulus: &[u32], degree: u32, d: u32) -> Option<u32>
     }
 }
 
-/// The least two residues whose product is 0, where the first has this degree and none of a lower degree has such another.
+/// The least two residues whose product is 0, where the first has this degree and none of a lower degree has such
+/// another.
 fn zero_product_of(p: u32, m: u32, modulus: &[u32], degree: u32) -> Option<(u32, u32)>
     requires modulus { IsMonicModulus p m modulus.now }
     requires some { 0 < degree }

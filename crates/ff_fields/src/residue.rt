@@ -63,9 +63,12 @@ impl ResidueField {
     /// The field of p to the m elements by this modulus, whose m + 1 coefficients stand lowest first.
     ///
     /// `FieldSize(p, m)` where p isn't listed, m is 0 or p to the m is above 65,536; else `CodeRange(c)` at the first
-    /// coefficient c that is p or more; else `NotMonic(c)` where the top coefficient c isn't 1; else `NotField(a, b)` where
-    /// a·b = 0 for codes that aren't 0, at the least such a and then the least b. That a is the first monic divisor of the
-    /// modulus, of at most half its degree, in the order of codes, and b is its cofactor, so at most 510 trial divisions find
+    /// coefficient c that is p or more; else `NotMonic(c)` where the top coefficient c isn't 1; else `NotField(a, b)`
+    /// where
+    /// a·b = 0 for codes that aren't 0, at the least such a and then the least b. That a is the first monic divisor of
+    /// the
+    /// modulus, of at most half its degree, in the order of codes, and b is its cofactor, so at most 510 trial
+    /// divisions find
     /// them.
     pub fn new(p: u32, m: u32, modulus: &[u32]) -> Result<ResidueField, FieldFault>
         requires { length modulus.now ≡ m + 1 }

@@ -154,8 +154,10 @@ impl TableField {
 
     /// The same field by tables, with sums in odd characteristic by tables too.
     ///
-    /// `None` exactly where no code has q - 1 different powers, q being the size. The codes are tried from 1 on, each by as
-    /// many products as it has different powers. The tables take 6 bytes for each element, and 2 more while they are made.
+    /// `None` exactly where no code has q - 1 different powers, q being the size. The codes are tried from 1 on, each
+    /// by as
+    /// many products as it has different powers. The tables take 6 bytes for each element, and 2 more while they are
+    /// made.
     pub fn new<B: IsStandard>(alloc: Global, base: &B) -> Result<Option<TableField>, AllocError>
         ensures made { IfOk result (λ o. IfSome o (λ t. standard_of t ≡ B.field base.now)) }
         ensures some { IfOk result (λ o. IfSome o (λ _. (g : ℕ) × ((g < (B.field base.now).size)
@@ -198,7 +200,6 @@ impl IsStandard for TableField {
 }
 
 impl SmallField for TableField {
-
     ghost field = { standard_of };
 
     fn size(&self) -> u32 {

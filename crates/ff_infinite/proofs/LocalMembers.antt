@@ -34,7 +34,8 @@ use Rattle.ff_infinite.specs.Steps.{IsFreed}
 use Rattle.ff_infinite.proofs.LowZeros.{over_right}
 
 module _ (k : CodeField) where
-  value_above_zeros : (b : ℕ) (u : List ℕ) → value k (replicate b 0 ++ u) ≡ (polynomials k).◌⊗◌ (pow (polynomials k).ops (x_poly k) b) (value k u)
+  value_above_zeros : (b : ℕ) (u : List ℕ)
+      → value k (replicate b 0 ++ u) ≡ (polynomials k).◌⊗◌ (pow (polynomials k).ops (x_poly k) b) (value k u)
   value_above_zeros zero u = sym (one_mul (polynomials k).ring (value k u))
   value_above_zeros (suc b) u =
       value_cons k 0 (replicate b 0 ++ u)
@@ -55,7 +56,8 @@ module _ (k : CodeField) (q : PresValue) where
   abbrev sum_of : List (List ℕ) → Functions k q
   sum_of vs = at_y (equation_of k q) (suc (q.n - 1)) (row_of_list k (suc (q.n - 1)) vs)
 
-  den_times_elem : (z : ElemValue) → ¬ (value k z.den ≡ (polynomials k).𝟘) → of (value k z.den) ⊗ function_of k q z ≡ sum_of z.num
+  den_times_elem : (z : ElemValue) → ¬ (value k z.den ≡ (polynomials k).𝟘)
+      → of (value k z.den) ⊗ function_of k q z ≡ sum_of z.num
   den_times_elem z some =
       ap (λ d. of d ⊗ function_of k q z) (sym (row_over_den k q z some))
       ∙ den_times (equation_of k q) (row_over k q z)
@@ -69,7 +71,8 @@ module _ (k : CodeField) (q : PresValue) where
     plain_v = record { num = w.num; den = replicate h.exponent 0 ++ 1 ∷ [] }
 
     power_is : value k (replicate h.exponent 0 ++ 1 ∷ []) ≡ power
-    power_is = value_above_zeros k h.exponent (1 ∷ []) ∙ ap ((polynomials k).◌⊗◌ power) (value_one k) ∙ (polynomials k).mul_one power
+    power_is = value_above_zeros k h.exponent (1 ∷ []) ∙ ap ((polynomials k).◌⊗◌ power) (value_one k)
+        ∙ (polynomials k).mul_one power
 
     freed_sum : of power ⊗ function_of k q v ≡ sum_of w.num
     freed_sum =
@@ -80,13 +83,15 @@ module _ (k : CodeField) (q : PresValue) where
     whole_sum =
         sym ((functions k q).mul_assoc (of power) (of (value k h.rest)) (function_of k q w))
         ∙ ap (λ d. d ⊗ function_of k q w)
-        (sym ((poly_hom (equation_of k q)).mul power (value k h.rest)) ∙ ap of (sym (ap (value k) h.den ∙ value_above_zeros k h.exponent h.rest)))
+        (sym ((poly_hom (equation_of k q)).mul power (value k h.rest))
+        ∙ ap of (sym (ap (value k) h.den ∙ value_above_zeros k h.exponent h.rest)))
         ∙ den_times_elem w some
 
     -- v is w times the rest of the denominator
     freed_product : function_of k q v ≡ of (value k h.rest) ⊗ function_of k q w
     freed_product =
-        cancel (of power) (over (equation_of k q) (row_of (equation_of k q) (polynomials k).𝟙) power (x_power_not_zero k h.exponent))
+        cancel (of power) (over (equation_of k q) (row_of (equation_of k q) (polynomials k).𝟙) power
+        (x_power_not_zero k h.exponent))
         (function_of k q v) (of (value k h.rest) ⊗ function_of k q w)
         (den_inverse (equation_of k q) power (x_power_not_zero k h.exponent)) (freed_sum ∙ sym whole_sum)
       where
@@ -115,26 +120,32 @@ module _ (k : CodeField) (p q : PresValue) (c : ℕ) (h : IsInfinitePresentation
   m = infinite_map k p q c h some
 
   -- the rows go to the functions that they stand for
-  images : (rows : List (List (List ℕ))) (den : List ℕ) → All (IsRow k.ops q.n) rows → IsOver k.ops den → IsPoly den → ¬ (den ≡ [])
+  images : (rows : List (List (List ℕ))) (den : List ℕ) → All (IsRow k.ops q.n) rows → IsOver k.ops den → IsPoly den
+      → ¬ (den ≡ [])
       → map f (map (function_of k q) (elems_over rows den)) ≡ map (function_on k p c Infinite) (elems_over rows den)
   images [] den rows_in den_in den_poly n = refl
   images (v ∷ rows) den rows_in den_in den_poly n =
       let r = All-head (IsRow k.ops q.n) v rows rows_in in
-      ap₂ ◌∷◌ (m.elements (record { num = v; den = den }) (record { one_each = r.size; num_over = r.over; den_over = den_in }) den_poly n)
+      ap₂ ◌∷◌ (m.elements (record { num = v; den = den })
+      (record { one_each = r.size; num_over = r.over; den_over = den_in }) den_poly n)
       (images rows den (All-tail (IsRow k.ops q.n) v rows rows_in) den_in den_poly n)
 
   -- what the variable doesn't divide
-  prime_to : (u : List ℕ) → IsOver k.ops u → ¬ (get_or u 0 0 ≡ 0) → IsPrimeTo (equation_of k q) (x_poly k) (of_poly (equation_of k q) (value k u))
+  prime_to : (u : List ℕ) → IsOver k.ops u → ¬ (get_or u 0 0 ≡ 0)
+      → IsPrimeTo (equation_of k q) (x_poly k) (of_poly (equation_of k q) (value k u))
   prime_to u u_in first =
       (m.prime_to (of_poly (equation_of k q) (value k u))).1 (record {
         codes = u;
         codes_over = u_in;
         first = first;
-        value = m.values (value k u) ∙ sym (at_codes k p (variable k p Infinite) (value k u)) ∙ sym (value_at_is k p (variable k p Infinite) u);
+        value = m.values (value k u) ∙ sym (at_codes k p (variable k p Infinite) (value k u))
+            ∙ sym (value_at_is k p (variable k p Infinite) u);
       })
 
-  pub local_members : (l : LatticeValue) → IsLattice k.ops q.n l → IsSupportedAt (equation_of k q) (x_poly k) (Contains k q l)
-      → (z : Functions k p) (w v : ElemValue) → IsElem k.ops q.n w → IsMonicElem w → function_on k p c Infinite w ≡ z → (e : IsFreed k w v)
+  pub local_members : (l : LatticeValue) → IsLattice k.ops q.n l
+      → IsSupportedAt (equation_of k q) (x_poly k) (Contains k q l)
+      → (z : Functions k p) (w v : ElemValue) → IsElem k.ops q.n w → IsMonicElem w → function_on k p c Infinite w ≡ z
+      → (e : IsFreed k w v)
       → (b : Bool) → IsTrue b ↔ Contains k q l (function_of k q v) → IsTrue b ↔ InInfiniteSpan k p c (row_elems l) z
   local_members l l_in tame z w v w_in w_monic z_is e b decided = (
     λ t. to_z (spans.0 (local.1 (subst (Contains k q l) product (decided.0 t)))),
@@ -151,13 +162,16 @@ module _ (k : CodeField) (p q : PresValue) (c : ℕ) (h : IsInfinitePresentation
           ↔ Contains k q l ((functions k q).◌⊗◌ (of_poly (equation_of k q) (value k e.rest)) (function_of k q w))
       local =
           local_member (equation_of k q) (x_poly k) (x_irreducible k) (Contains k q l)
-          (span_module (functions k q) (IsPolynomial (equation_of k q)) (polynomials_subring (equation_of k q)) (map (function_of k q) (row_elems l))) tame
+          (span_module (functions k q) (IsPolynomial (equation_of k q)) (polynomials_subring (equation_of k q))
+          (map (function_of k q) (row_elems l))) tame
           (function_of k q w) (of_poly (equation_of k q) (value k e.rest)) (prime_to e.rest rest_in e.first)
-          (subst (HasPowerDenominator (equation_of k q) (x_poly k)) (freed_product k q w v (elem_den k q w q.n w_in w_monic) e)
+          (subst (HasPowerDenominator (equation_of k q) (x_poly k))
+          (freed_product k q w v (elem_den k q w q.n w_in w_monic) e)
           (freed_power k q w v (elem_den k q w q.n w_in w_monic) e))
 
       spans : IsLocallyIn (equation_of k q) (x_poly k) (Contains k q l) (function_of k q w)
-          ↔ Span (functions k p).ops ((setting k p).IsScalar Infinite) (map f (map (function_of k q) (row_elems l))) (f (function_of k q w))
+          ↔ Span (functions k p).ops ((setting k p).IsScalar Infinite) (map f (map (function_of k q) (row_elems l)))
+          (f (function_of k q w))
       spans = m.spans (map (function_of k q) (row_elems l)) (function_of k q w)
 
       rows_are : map f (map (function_of k q) (row_elems l)) ≡ map (function_on k p c Infinite) (row_elems l)
@@ -166,14 +180,18 @@ module _ (k : CodeField) (p q : PresValue) (c : ℕ) (h : IsInfinitePresentation
       is_z : f (function_of k q w) ≡ z
       is_z = m.elements w w_in w_monic.den_poly (monic_some w.den w_monic.monic) ∙ z_is
 
-      to_z : Span (functions k p).ops ((setting k p).IsScalar Infinite) (map f (map (function_of k q) (row_elems l))) (f (function_of k q w))
+      to_z : Span (functions k p).ops ((setting k p).IsScalar Infinite) (map f (map (function_of k q) (row_elems l)))
+          (f (function_of k q w))
           → InInfiniteSpan k p c (row_elems l) z
       to_z s =
           subst (InInfiniteSpan k p c (row_elems l)) is_z
-          (subst (λ hs. Span (functions k p).ops ((setting k p).IsScalar Infinite) hs (f (function_of k q w))) rows_are s)
+          (subst (λ hs. Span (functions k p).ops ((setting k p).IsScalar Infinite) hs (f (function_of k q w))) rows_are
+          s)
 
       from_z : InInfiniteSpan k p c (row_elems l) z
-          → Span (functions k p).ops ((setting k p).IsScalar Infinite) (map f (map (function_of k q) (row_elems l))) (f (function_of k q w))
+          → Span (functions k p).ops ((setting k p).IsScalar Infinite) (map f (map (function_of k q) (row_elems l)))
+          (f (function_of k q w))
       from_z s =
-          subst (λ hs. Span (functions k p).ops ((setting k p).IsScalar Infinite) hs (f (function_of k q w))) (sym rows_are)
+          subst (λ hs. Span (functions k p).ops ((setting k p).IsScalar Infinite) hs (f (function_of k q w)))
+          (sym rows_are)
           (subst (InInfiniteSpan k p c (row_elems l)) (sym is_z) s)

@@ -8,10 +8,12 @@ use Rattle.ff_fields.specs.Over.{IsOver, IsOver_nil, IsOver_cons, IsOver_append,
 use Rattle.ff_poly.specs.Words.{IsMonic, shifted}
 use Rattle.ff_poly.proofs.Parts.{top_of_monic}
 
-pub zeros_below : (b : ℕ) (d : List ℕ) → b ≤ length d → ((j : ℕ) → j < b → get_or d j 0 ≡ 0) → d ≡ replicate b 0 ++ drop b d
+pub zeros_below : (b : ℕ) (d : List ℕ) → b ≤ length d → ((j : ℕ) → j < b → get_or d j 0 ≡ 0)
+    → d ≡ replicate b 0 ++ drop b d
 zeros_below zero d le zeros = refl
 zeros_below (suc b) [] le zeros = absurd (omega arith)
-zeros_below (suc b) (a ∷ d) le zeros = ap₂ ◌∷◌ (zeros 0 (omega arith)) (zeros_below b d (omega arith) (λ j less. zeros (suc j) (omega arith)))
+zeros_below (suc b) (a ∷ d) le zeros = ap₂ ◌∷◌ (zeros 0 (omega arith))
+    (zeros_below b d (omega arith) (λ j less. zeros (suc j) (omega arith)))
 
 first_of_drop : (b : ℕ) (d : List ℕ) → get_or (drop b d) 0 0 ≡ get_or d b 0
 first_of_drop zero d = refl

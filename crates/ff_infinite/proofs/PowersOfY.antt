@@ -42,7 +42,8 @@ module _ (k : CodeField) (q : PresValue) where
     pub elems : All (IsElem k.ops q.n) zs
     pub each :
         (j : ℕ) (z : ElemValue) → j < i
-        → function_of k q (get_or zs j z) ≡ over (equation_of k q) ((row_space k q.n).unit j) (polynomials k).𝟙 (polynomials_domain k).one_not_zero
+        → function_of k q (get_or zs j z)
+        ≡ over (equation_of k q) ((row_space k q.n).unit j) (polynomials k).𝟙 (polynomials_domain k).one_not_zero
 
   pub powers_none : ArePowers 0 []
   powers_none = record { size = refl; elems = All-nil (IsElem k.ops q.n); each = λ j z less. absurd (omega arith) }
@@ -62,15 +63,19 @@ module _ (k : CodeField) (q : PresValue) where
       u = (row_space k q.n).unit i
 
   pub powers_more : (i : ℕ) (old new : List ElemValue) (z : ElemValue) → i < q.n → IsElem k.ops q.n z
-      → function_of k q z ≡ function_of k q (record { num = unit_row q.n i; den = 1 ∷ [] }) → new ≡ old ++ z ∷ [] → ArePowers i old → ArePowers (i + 1) new
+      → function_of k q z ≡ function_of k q (record { num = unit_row q.n i; den = 1 ∷ [] }) → new ≡ old ++ z ∷ []
+      → ArePowers i old → ArePowers (i + 1) new
   powers_more i old new z less z_in z_is new_is h = record {
-    size = let a = length-append old (z ∷ []) in ap length new_is ∙ a ∙ (let b : length old ≡ i = h.size in omega arith);
+    size = let a = length-append old (z ∷ []) in ap length new_is ∙ a
+        ∙ (let b : length old ≡ i = h.size in omega arith);
     elems = subst (All (IsElem k.ops q.n)) (sym new_is) (All-push (IsElem k.ops q.n) old z h.elems z_in);
     each = λ j d under. ap (λ zs. function_of k q (get_or zs j d)) new_is ∙ at j d under (cases_lt j i);
   }
     where
-      at : (j : ℕ) (d : ElemValue) → j < i + 1 → (j < i) ⊎ (i ≤ j) → function_of k q (get_or (old ++ z ∷ []) j d) ≡ unit_function j
-      at j d under (inl l) = ap (function_of k q) (get_or_append_left old (z ∷ []) d j (omega (arith, h.size))) ∙ h.each j d l
+      at : (j : ℕ) (d : ElemValue) → j < i + 1 → (j < i) ⊎ (i ≤ j)
+          → function_of k q (get_or (old ++ z ∷ []) j d) ≡ unit_function j
+      at j d under (inl l) = ap (function_of k q) (get_or_append_left old (z ∷ []) d j (omega (arith, h.size)))
+          ∙ h.each j d l
       at j d under (inr m) =
           let e : j ≡ i = omega arith in
           let f : length old ≡ j = h.size ∙ sym e in
@@ -102,14 +107,16 @@ module _ (k : CodeField) (q : PresValue) where
     powers_members z = (
       λ s.
           let t =
-          rows_of_span (equation_of k q) (polynomials k).𝟙 (polynomials_domain k).one_not_zero (units (row_space k q.n)) z
+          rows_of_span (equation_of k q) (polynomials k).𝟙 (polynomials_domain k).one_not_zero (units (row_space k q.n))
+          z
           (subst (λ fs. Span (functions k q).ops (IsPolynomial (equation_of k q)) fs z) functions_are s) in
           record { coordinates = t.0; value = t.2 },
       λ m.
           subst (λ fs. Span (functions k q).ops (IsPolynomial (equation_of k q)) fs z) (sym functions_are)
           (subst (Span (functions k q).ops (IsPolynomial (equation_of k q))
           (map over_one (units (row_space k q.n)))) (sym m.value)
-          (span_of_rows (equation_of k q) (polynomials k).𝟙 (polynomials_domain k).one_not_zero (units (row_space k q.n)) m.coordinates
+          (span_of_rows (equation_of k q) (polynomials k).𝟙 (polynomials_domain k).one_not_zero
+          (units (row_space k q.n)) m.coordinates
           (in_units (row_space k q.n) (code_field k) m.coordinates))),
     )
 
@@ -121,31 +128,42 @@ module _ (k : CodeField) (q : PresValue) where
         factor_poly = IsPoly_codes_of k f.factor;
         some = λ e. f.some (sym (value_codes_of k f.factor) ∙ ap (value k) e ∙ value_nil k);
         is_in = (powers_members _).1
-            (subst (λ a. HasPolynomialCoordinates (equation_of k q) ((functions k q).◌⊗◌ (of_poly (equation_of k q) a) z)) (sym (value_codes_of k f.factor)) f.multiple_in);
+            (subst (λ a. HasPolynomialCoordinates (equation_of k q)
+            ((functions k q).◌⊗◌ (of_poly (equation_of k q) a) z)) (sym (value_codes_of k f.factor)) f.multiple_in);
       };
     }
 
   -- a lattice of the functions that have polynomials as coordinates
-  module _ (l : LatticeValue) (members : (z : Functions k q) → Contains k q l z ↔ HasPolynomialCoordinates (equation_of k q) z) where
+  module _ (l : LatticeValue) (members : (z : Functions k q)
+      → Contains k q l z ↔ HasPolynomialCoordinates (equation_of k q) z) where
     pub start_order : IsLattice k.ops q.n l → IsOrderLattice k q l
     start_order form = record {
       lattice = form;
       one_in = (members (functions k q).𝟙).1 (coordinates_ring (equation_of k q)).one_in;
-      product_in = λ u v u_in v_in. (members _).1 ((coordinates_ring (equation_of k q)).product_in u v ((members u).0 u_in) ((members v).0 v_in));
+      product_in = λ u v u_in v_in. (members _).1
+          ((coordinates_ring (equation_of k q)).product_in u v ((members u).0 u_in) ((members v).0 v_in));
     }
 
     pub start_supported : IsSupportedAt (equation_of k q) (x_poly k) (Contains k q l)
     start_supported =
         let t = coordinates_supported (equation_of k q) (x_poly k) (x_irreducible k) in
-        record { exponent = t.exponent; has = λ i less. (members _).1 (t.has i less); within = λ z m. t.within z ((members z).0 m) }
+        record {
+          exponent = t.exponent;
+          has = λ i less. (members _).1 (t.has i less);
+          within = λ z m. t.within z
+              ((members z).0 m);
+        }
 
 -- the lattice that they span, in the words of the presentation q' that the calls are given
-pub started : (k : CodeField) (q q' : PresValue) (i : ℕ) (zs ds : List ElemValue) (l : LatticeValue) → q' ≡ q → ds ≡ zs → ArePowers k q i zs → i ≡ q.n → 0 < q.n
+pub started : (k : CodeField) (q q' : PresValue) (i : ℕ) (zs ds : List ElemValue) (l : LatticeValue) → q' ≡ q → ds ≡ zs
+    → ArePowers k q i zs → i ≡ q.n → 0 < q.n
     → IsLattice k.ops q'.n l → ((z : Functions k q') → Contains k q' l z ↔ InSpanOf k q' ds z)
     → IsLattice k.ops q.n l × ((z : Functions k q) → Contains k q l z ↔ HasPolynomialCoordinates (equation_of k q) z)
 started k q q' i zs ds l same are h all positive form members =
     let spanned : (z : Functions k q) → Contains k q l z ↔ InSpanOf k q zs z
-    = subst (λ xs. (z : Functions k q) → Contains k q l z ↔ InSpanOf k q xs z) are (subst (λ q. (z : Functions k q) → Contains k q l z ↔ InSpanOf k q ds z) same members) in (
+    = subst (λ xs. (z : Functions k q) → Contains k q l z ↔ InSpanOf k q xs z) are
+    (subst (λ q. (z : Functions k q) → Contains k q l z ↔ InSpanOf k q ds z) same members) in (
       subst (λ q. IsLattice k.ops q.n l) same form,
-      λ z. let p = powers_members k q positive zs (subst (λ n. ArePowers k q n zs) all h) z in (λ m. p.0 ((spanned z).0 m), λ m. (spanned z).1 (p.1 m)),
+      λ z. let p = powers_members k q positive zs (subst (λ n. ArePowers k q n zs) all h) z in
+          (λ m. p.0 ((spanned z).0 m), λ m. (spanned z).1 (p.1 m)),
     )

@@ -9,4 +9,5 @@ pub record IsFreed (k : CodeField) (w v : ElemValue) : Type 0 where
   pub rest : List ℕ
   pub den : w.den ≡ replicate exponent 0 ++ rest
   pub first : ¬ (get_or rest 0 0 ≡ 0)
-  pub functions : (p : PresValue) → function_of k p v ≡ function_of k p (record { num = w.num; den = replicate exponent 0 ++ 1 ∷ [] })
+  pub functions : (p : PresValue) → function_of k p v
+      ≡ function_of k p (record { num = w.num; den = replicate exponent 0 ++ 1 ∷ [] })

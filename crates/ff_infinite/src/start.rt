@@ -15,12 +15,14 @@ use ff_lattice::operations::spanned;
 use ff_lattice::order::power_of_y;
 use std::alloc::{AllocError, Global};
 
-/// The order k[t][Y] of the infinite presentation: the functions that have polynomials in t as coordinates. Its rows are 1, Y,
+/// The order k[t][Y] of the infinite presentation: the functions that have polynomials in t as coordinates. Its rows
+/// are 1, Y,
 /// up to Y^(n-1). It takes the time of a Popov basis of the unit matrix.
 pub fn infinite_start<K: SmallField>(alloc: Global, k: &K, c: &Curve) -> Result<Order, AllocError>
     ensures order { IfOk result (IsOrderLattice (K.field k.now) c.now.inf) }
     ensures members { let k = K.field k.now in
-        IfOk result (λ o. (z : Functions k c.now.inf) → Contains k c.now.inf o z ↔ HasPolynomialCoordinates (equation_of k c.now.inf) z) }
+        IfOk result (λ o. (z : Functions k c.now.inf)
+        → Contains k c.now.inf o z ↔ HasPolynomialCoordinates (equation_of k c.now.inf) z) }
     ensures tame { let k = K.field k.now in
         IfOk result (λ o. IsSupportedAt (equation_of k c.now.inf) (x_poly k) (Contains k c.now.inf o)) }
 {

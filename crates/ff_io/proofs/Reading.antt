@@ -12,7 +12,8 @@ pub took_more : (before : List ℕ) (mid now : Option (List ℕ)) (bytes buffer 
 took_more before mid now bytes buffer n fits p q =
     let m = length bytes in
     let r = MatchOption-at_some _ (λ xs. Took n buffer xs now) (drop m before) p.others q in
-    let long : length (bytes ++ take n buffer) ≡ m + n = length-append bytes (take n buffer) ∙ ap (λ k. m + k) (length-take-le n buffer fits) in
+    let long : length (bytes ++ take n buffer) ≡ m + n = length-append bytes (take n buffer)
+    ∙ ap (λ k. m + k) (length-take-le n buffer fits) in
     let inside : m + n ≤ length before = omega (arith, p.within, r.within, length-drop m before) in
     record {
       within = omega (arith, long, inside);
@@ -30,24 +31,31 @@ pub took_all : (before : List ℕ) (mid now : Option (List ℕ)) (bytes buffer :
 took_all before mid now bytes buffer p q end =
     let m = length bytes in
     let r = MatchOption-at_some _ (λ xs. Took 0 buffer xs now) (drop m before) p.others q in
-    let none = MatchOption-at_some _ (λ xs. xs ≡ []) (drop m before) p.others end in
-    (sym (take_all m bytes (omega arith)) ∙ p.same ∙ take_all m before (omega (arith, ap length none, length-drop m before)), r.others ∙ ap Some none)
+    let none = MatchOption-at_some _ (λ xs. xs ≡ []) (drop m before) p.others end in (
+      sym (take_all m bytes (omega arith)) ∙ p.same
+          ∙ take_all m before (omega (arith, ap length none, length-drop m before)),
+      r.others ∙ ap Some none,
+    )
 
 -- n more bytes of the buffer, as far as the source tells
-pub took_next : (before mid now : Option (List ℕ)) (bytes buffer more : List ℕ) (n : ℕ) → n ≤ length buffer → more ≡ take n buffer
+pub took_next : (before mid now : Option (List ℕ)) (bytes buffer more : List ℕ) (n : ℕ) → n ≤ length buffer
+    → more ≡ take n buffer
     → IfSome before (λ xs. Took (length bytes) bytes xs mid) → IfSome mid (λ xs. Took n buffer xs now)
     → IfSome before (λ xs. Took (length (bytes ++ more)) (bytes ++ more) xs now)
 took_next None mid now bytes buffer more n fits from p q = tt
 took_next (Some xs) mid now bytes buffer more n fits from p q =
-    subst (λ l. Took (length (bytes ++ l)) (bytes ++ l) xs now) (sym from) (took_more xs mid now bytes buffer n fits p q)
+    subst (λ l. Took (length (bytes ++ l)) (bytes ++ l) xs now) (sym from)
+    (took_more xs mid now bytes buffer n fits p q)
 
 -- a read of nothing at the end
 pub took_whole : (before mid now : Option (List ℕ)) (bytes buffer : List ℕ) (n : ℕ) → n ≡ 0
-    → IfSome before (λ xs. Took (length bytes) bytes xs mid) → IfSome mid (λ xs. Took n buffer xs now) → IfSome mid (λ xs. xs ≡ [])
+    → IfSome before (λ xs. Took (length bytes) bytes xs mid) → IfSome mid (λ xs. Took n buffer xs now)
+    → IfSome mid (λ xs. xs ≡ [])
     → IfSome before (λ xs. (bytes ≡ xs) × (now ≡ Some []))
 took_whole None mid now bytes buffer n none p q end = tt
 took_whole (Some xs) mid now bytes buffer n none p q end =
     took_all xs mid now bytes buffer p (subst (λ k. IfSome mid (λ ys. Took k buffer ys now)) none q) end
 
 pub grown_length : (now bytes buffer : List ℕ) (n : ℕ) → now ≡ bytes ++ take n buffer → length now ≤ length bytes + n
-grown_length now bytes buffer n grown = omega (arith, ap length grown, length-append bytes (take n buffer), length-take n buffer)
+grown_length now bytes buffer n grown = omega
+    (arith, ap length grown, length-append bytes (take n buffer), length-take n buffer)

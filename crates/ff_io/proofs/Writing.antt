@@ -5,7 +5,8 @@ use Rattle.std.proofs.lemmas.Option.{MatchOption-at_some}
 use Rattle.ff_io.specs.Streams.{Appends, AppendsPart, Fills, IsPrefix}
 use Rattle.ff_io.proofs.Prefixes.{prefix_refl, prefix_take}
 
-pub appends_more : (before mid now : Option (List ℕ)) (xs ys : List ℕ) → Appends before mid xs → Appends mid now ys → Appends before now (xs ++ ys)
+pub appends_more : (before mid now : Option (List ℕ)) (xs ys : List ℕ) → Appends before mid xs → Appends mid now ys
+    → Appends before now (xs ++ ys)
 appends_more None mid now xs ys p q = tt
 appends_more (Some old) mid now xs ys p q =
     MatchOption-at_some _ (λ zs. now ≡ Some (zs ++ ys)) (old ++ xs) p q ∙ ap Some (append_assoc old xs ys)
@@ -18,8 +19,10 @@ appends_take before mid now bytes piece at n from p q =
     subst (Appends before now) joined (appends_more before mid now _ _ p q)
 
 -- a write of nothing
-pub appends_nothing : (before mid now : Option (List ℕ)) (xs : List ℕ) → Appends before mid xs → Appends mid now [] → Appends before now xs
-appends_nothing before mid now xs p q = subst (Appends before now) (append-nil xs) (appends_more before mid now xs [] p q)
+pub appends_nothing : (before mid now : Option (List ℕ)) (xs : List ℕ) → Appends before mid xs → Appends mid now []
+    → Appends before now xs
+appends_nothing before mid now xs p q = subst (Appends before now) (append-nil xs)
+    (appends_more before mid now xs [] p q)
 
 -- the room after a write of n bytes of the piece that begins at the place
 pub fills_more : (before mid now : Option ℕ) (len rest at n faults faults_mid faults_now : ℕ) → rest + at ≡ len
@@ -29,7 +32,8 @@ pub fills_more : (before mid now : Option ℕ) (len rest at n faults faults_mid 
 fills_more None mid now len rest at n faults faults_mid faults_now parts p q = tt
 fills_more (Some f) mid now len rest at n faults faults_mid faults_now parts p q = λ enough.
     let first = p enough in
-    let second = MatchOption-at_some _ (λ m. rest ≤ m → Fills n m now faults_mid faults_now) (f - at) first.room q (omega arith) in
+    let second = MatchOption-at_some _ (λ m. rest ≤ m → Fills n m now faults_mid faults_now) (f - at) first.room q
+    (omega arith) in
     let less : f - at - n ≡ f - (at + n) = omega arith in
     record { room = second.room ∙ ap Some less; faultless = second.faultless ∙ first.faultless }
 

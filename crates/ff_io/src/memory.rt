@@ -28,7 +28,14 @@ impl Model for MemSource {
 
     ghost Value = { SourceState };
 
-    ghost view = { λ s. record { bytes = s.bytes.items; place = s.place; calls = s.calls; failing = s.failing.items; faults = s.faults; step = s.step } };
+    ghost view = { λ s. record {
+      bytes = s.bytes.items;
+      place = s.place;
+      calls = s.calls;
+      failing = s.failing.items;
+      faults = s.faults;
+      step = s.step;
+    } };
 
     ghost invariant = { λ s. (s.place ≤ length s.bytes.items) × (1 ≤ s.step) };
 }
@@ -38,7 +45,14 @@ impl MemSource {
     /// `step` bytes. Takes no memory.
     pub fn new(bytes: Vec<u8>, failing: Vec<u64>, step: usize) -> MemSource
         requires { 1 ≤ step }
-        ensures made { result ≡ record { bytes = bytes.items; place = 0; calls = 0; failing = failing.items; faults = 0; step = step } }
+        ensures made { result ≡ record {
+          bytes = bytes.items;
+          place = 0;
+          calls = 0;
+          failing = failing.items;
+          faults = 0;
+          step = step;
+        } }
         ensures left { ⟦<MemSource as Source>⟧.left result ≡ Some bytes.items }
         ensures faults { ⟦<MemSource as Source>⟧.faults result ≡ 0 }
         ensures steady { ⟦<MemSource as Source>⟧.steady result ↔ (failing.items ≡ []) }
@@ -102,9 +116,11 @@ impl Source for MemSource {
     /// is left allow.
     fn read(&mut self, buf: &mut [u8]) -> Result<usize, Failed>
         ensures fails { IsErr result ↔ Contains self.old.failing (next_count self.old.calls) }
-        ensures moves { IfOk result (λ n. (n ≡ min (min self.old.step (length buf.new)) (length self.old.bytes - self.old.place))
+        ensures moves { IfOk result (λ n.
+            (n ≡ min (min self.old.step (length buf.new)) (length self.old.bytes - self.old.place))
             × (self.new ≡ record self.old { place = self.old.place + n; calls = next_count self.old.calls })) }
-        ensures counts { OnErr result (self.new ≡ record self.old { calls = next_count self.old.calls; faults = next_count self.old.faults }) }
+        ensures counts { OnErr result (self.new
+            ≡ record self.old { calls = next_count self.old.calls; faults = next_count self.old.faults }) }
 
         // As every source.
         ensures fits { IfOk result (λ n. n ≤ length buf.new) }
@@ -139,10 +155,16 @@ pub struct MemSink {
 }
 
 impl Model for MemSink {
-
     ghost Value = { SinkState };
 
-    ghost view = { λ s. record { taken = s.taken.items; room = s.room; calls = s.calls; failing = s.failing.items; faults = s.faults; step = s.step } };
+    ghost view = { λ s. record {
+      taken = s.taken.items;
+      room = s.room;
+      calls = s.calls;
+      failing = s.failing.items;
+      faults = s.faults;
+      step = s.step;
+    } };
 
     ghost invariant = { λ s. (length s.taken.items ≤ s.room) × (s.room ≤ vec_capacity s.taken) × (1 ≤ s.step) };
 }
@@ -157,10 +179,12 @@ impl MemSink {
         step: usize,
     ) -> Result<MemSink, AllocError>
         requires { 1 ≤ step }
-        ensures made { IfOk result (λ s. s ≡ record { taken = []; room = room; calls = 0; failing = failing.items; faults = 0; step = step }) }
+        ensures made { IfOk result (λ s. s
+            ≡ record { taken = []; room = room; calls = 0; failing = failing.items; faults = 0; step = step }) }
         ensures taken { IfOk result (λ s. ⟦<MemSink as Sink>⟧.taken s ≡ Some []) }
         ensures faults { IfOk result (λ s. ⟦<MemSink as Sink>⟧.faults s ≡ 0) }
-        ensures free { IfOk result (λ s. ⟦<MemSink as Sink>⟧.free s ≡ (if length failing.items == 0 then Some room else None)) }
+        ensures free { IfOk result (λ s. ⟦<MemSink as Sink>⟧.free s
+            ≡ (if length failing.items == 0 then Some room else None)) }
     {
         Ok(MemSink {
             taken: Vec::with_capacity(alloc, room)?,
@@ -225,8 +249,10 @@ impl Sink for MemSink {
         ensures fails { IsErr result ↔ (Contains self.old.failing (next_count self.old.calls)
             ⊎ (self.old.room < length self.old.taken + min self.old.step (length piece.now))) }
         ensures moves { IfOk result (λ n. (n ≡ min self.old.step (length piece.now))
-            × (self.new ≡ record self.old { taken = self.old.taken ++ take n piece.now; calls = next_count self.old.calls })) }
-        ensures counts { OnErr result (self.new ≡ record self.old { calls = next_count self.old.calls; faults = next_count self.old.faults }) }
+            × (self.new ≡ record self.old
+            { taken = self.old.taken ++ take n piece.now; calls = next_count self.old.calls })) }
+        ensures counts { OnErr result (self.new
+            ≡ record self.old { calls = next_count self.old.calls; faults = next_count self.old.faults }) }
 
         // As every sink.
         ensures fits { IfOk result (λ n. n ≤ length piece.now) }

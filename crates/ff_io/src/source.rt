@@ -68,7 +68,8 @@ const PIECE: usize = 4096;
 /// Each byte is copied once, and the cost is in proportion to the bytes and the reads.
 pub fn read_all<S: Source>(alloc: Global, src: &mut S, limit: usize) -> Result<Vec<u8>, ReadEnd>
     ensures within { IfOk result (λ bytes. length bytes.items ≤ limit) }
-    ensures whole { IfOk result (λ bytes. IfSome (S.left src.old) (λ xs. (bytes.items ≡ xs) × (S.left src.new ≡ Some []))) }
+    ensures whole { IfOk result (λ bytes. IfSome (S.left src.old)
+        (λ xs. (bytes.items ≡ xs) × (S.left src.new ≡ Some []))) }
     ensures too_long { IsErrOf result ReadEnd.TooLong → IfSome (S.left src.old) (λ xs.
         (limit < length xs) × (S.left src.new ≡ Some (drop (limit + 1) xs))) }
 

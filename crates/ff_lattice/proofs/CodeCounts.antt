@@ -33,7 +33,8 @@ degrees_to : List (List (List ℕ)) → ℕ → ℕ → ℕ
 degrees_to rows t zero = 0
 degrees_to rows t (suc j) = degrees_to rows t j + degree_to (pivot_length rows j) t
 
-degrees_next : (rows : List (List (List ℕ))) (t j : ℕ) → degrees_to rows (suc t) j ≡ degrees_to rows t j + behind_all rows t j
+degrees_next : (rows : List (List (List ℕ))) (t j : ℕ)
+    → degrees_to rows (suc t) j ≡ degrees_to rows t j + behind_all rows t j
 unfolding degrees_to degree_to behind_all
 degrees_next rows t zero = refl
 degrees_next rows t (suc j) = omega (arith, degrees_next rows t j)
@@ -47,29 +48,50 @@ degrees_zero rows (suc j) = omega (arith, degrees_zero rows j)
 degree_below : (len t : ℕ) → suc t ≤ len → degree_to len t ≡ t
 unfolding degree_to
 degree_below len zero le = refl
-degree_below len (suc t) le = omega (arith, degree_below len t (omega (arith, le)), behind_one len t (lt-ltb (suc t) len (omega (arith, le))))
+degree_below len (suc t) le = omega (
+  arith,
+  degree_below len t (omega (arith, le)),
+  behind_one len t
+      (lt-ltb (suc t) len (omega (arith, le))),
+)
 
 degree_whole : (len t : ℕ) → len ≤ suc t → degree_to len t ≡ len - 1
 unfolding degree_to
 degree_whole len zero le = omega (arith, le)
 degree_whole len (suc t) le = go (cases_lt (suc t) len) (degree_whole len t)
   where
-    go : (suc t < len) ⊎ (len ≤ suc t) → (len ≤ suc t → degree_to len t ≡ len - 1) → degree_to len t + one_behind len t ≡ len - 1
-    go (inl less) h = omega (arith, le, less, degree_below len t (omega (arith, less)), behind_one len t (lt-ltb (suc t) len less))
+    go : (suc t < len) ⊎ (len ≤ suc t) → (len ≤ suc t → degree_to len t ≡ len - 1)
+        → degree_to len t + one_behind len t ≡ len - 1
+    go (inl less) h = omega (
+      arith,
+      le,
+      less,
+      degree_below len t (omega (arith, less)),
+      behind_one len t
+          (lt-ltb (suc t) len less),
+    )
     go (inr more) h = omega (arith, h more, behind_none len t (le-ltb (suc t) len more))
 
-degrees_whole : (rows : List (List (List ℕ))) (t j : ℕ) → ((i : ℕ) → i < j → pivot_length rows i ≤ suc t) → degrees_to rows t j ≡ pivot_sum rows j
+degrees_whole : (rows : List (List (List ℕ))) (t j : ℕ) → ((i : ℕ) → i < j → pivot_length rows i ≤ suc t)
+    → degrees_to rows t j ≡ pivot_sum rows j
 unfolding degrees_to
 degrees_whole rows t zero h = refl
 degrees_whole rows t (suc j) h =
-    omega (arith, degrees_whole rows t j (λ i less. h i (omega (arith, less))), degree_whole (pivot_length rows j) t (h j (omega arith)))
+    omega (
+      arith,
+      degrees_whole rows t j (λ i less. h i (omega (arith, less))),
+      degree_whole (pivot_length rows j) t
+          (h j (omega arith)),
+    )
 
-module _ (n : ℕ) (order ideal : List (List (List ℕ))) (longer : (j : ℕ) → j < n → pivot_length order j ≤ pivot_length ideal j) where
+module _ (n : ℕ) (order ideal : List (List (List ℕ)))
+    (longer : (j : ℕ) → j < n → pivot_length order j ≤ pivot_length ideal j) where
   abbrev count : ℕ → ℕ
   count e = code_count n order ideal e
 
   -- one position
-  count_position : (t j : ℕ) → j < n → count (suc (t * n + j)) + one_behind (pivot_length order j) t ≡ count (t * n + j) + one_behind (pivot_length ideal j) t
+  count_position : (t j : ℕ) → j < n → count (suc (t * n + j)) + one_behind (pivot_length order j) t
+      ≡ count (t * n + j) + one_behind (pivot_length ideal j) t
   count_position t j less = go (true_or_false (is_outside n order ideal e)) (true_or_false (is_kept n order ideal e))
     where
       e : ℕ
@@ -81,16 +103,35 @@ module _ (n : ℕ) (order ideal : List (List (List ℕ))) (longer : (j : ℕ) �
       kept_is : is_kept n order ideal (t * n + j) ≡ nat_lt (suc t) (pivot_length ideal j)
       kept_is = ap₂ (λ s i. nat_lt (suc s) (pivot_length ideal i)) (div-mul-add t n j less) (mod-mul-add t n j less)
 
-      go : (is_outside n order ideal (t * n + j) ≡ true) ⊎ (is_outside n order ideal (t * n + j) ≡ false) → (is_kept n order ideal (t * n + j) ≡ true) ⊎ (is_kept n order ideal (t * n + j) ≡ false)
-          → count (suc (t * n + j)) + one_behind (pivot_length order j) t ≡ count (t * n + j) + one_behind (pivot_length ideal j) t
+      go : (is_outside n order ideal (t * n + j) ≡ true) ⊎ (is_outside n order ideal (t * n + j) ≡ false)
+          → (is_kept n order ideal (t * n + j) ≡ true) ⊎ (is_kept n order ideal (t * n + j) ≡ false)
+          → count (suc (t * n + j)) + one_behind (pivot_length order j) t
+          ≡ count (t * n + j) + one_behind (pivot_length ideal j) t
       go (inl o) q =
           let under : suc t < pivot_length order j = ltb-true (suc t) (pivot_length order j) (sym outside_is ∙ o) in
           let under' : suc t < pivot_length ideal j = omega (arith, under, longer j less) in
-          omega (arith, count_outside n order ideal e o, behind_one (pivot_length order j) t (lt-ltb (suc t) (pivot_length order j) under), behind_one (pivot_length ideal j) t (lt-ltb (suc t) (pivot_length ideal j) under'))
+          omega (
+            arith,
+            count_outside n order ideal e o,
+            behind_one (pivot_length order j) t
+                (lt-ltb (suc t) (pivot_length order j) under),
+            behind_one (pivot_length ideal j) t
+                (lt-ltb (suc t) (pivot_length ideal j) under'),
+          )
       go (inr o) (inl q) =
-          omega (arith, count_kept n order ideal e o q, behind_none (pivot_length order j) t (sym outside_is ∙ o), behind_one (pivot_length ideal j) t (sym kept_is ∙ q))
+          omega (
+            arith,
+            count_kept n order ideal e o q,
+            behind_none (pivot_length order j) t (sym outside_is ∙ o),
+            behind_one (pivot_length ideal j) t (sym kept_is ∙ q),
+          )
       go (inr o) (inr q) =
-          omega (arith, count_ideal n order ideal e o q, behind_none (pivot_length order j) t (sym outside_is ∙ o), behind_none (pivot_length ideal j) t (sym kept_is ∙ q))
+          omega (
+            arith,
+            count_ideal n order ideal e o q,
+            behind_none (pivot_length order j) t (sym outside_is ∙ o),
+            behind_none (pivot_length ideal j) t (sym kept_is ∙ q),
+          )
 
   -- the positions of one power of x
   count_power : (t j : ℕ) → j ≤ n → count (t * n + j) + behind_all order t j ≡ count (t * n) + behind_all ideal t j
@@ -108,9 +149,18 @@ module _ (n : ℕ) (order ideal : List (List (List ℕ))) (longer : (j : ℕ) �
       omega (arith, ap count e, degrees_zero order n, degrees_zero ideal n)
   count_powers (suc t) =
       let e : suc t * n ≡ t * n + n = omega (arith, suc-mul t n) in
-      omega (arith, ap count e, count_powers t, count_power t n (omega arith), degrees_next order t n, degrees_next ideal t n)
+      omega (
+        arith,
+        ap count e,
+        count_powers t,
+        count_power t n (omega arith),
+        degrees_next order t n,
+        degrees_next
+            ideal t n,
+      )
 
-  pub count_degrees : (depth : ℕ) → ((j : ℕ) → j < n → pivot_length ideal j ≤ depth) → count (depth * n) + pivot_sum order n ≡ pivot_sum ideal n
+  pub count_degrees : (depth : ℕ) → ((j : ℕ) → j < n → pivot_length ideal j ≤ depth)
+      → count (depth * n) + pivot_sum order n ≡ pivot_sum ideal n
   count_degrees depth deep =
       omega (
         arith,

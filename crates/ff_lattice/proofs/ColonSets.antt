@@ -42,7 +42,8 @@ one_row_in k n den den_in = record {
   over = All-set (IsOver k.ops) (replicate n []) 0 den den_in (All-replicate (IsOver k.ops) n [] IsOver_nil);
 }
 
-module _ (k : CodeField) (n : ℕ) (m ls basis : List (List (List ℕ))) (pre : IsPreimage k.ops 1 n m ls basis) (h : List ℕ) (h_is : h ≡ entry_at (row_at basis 0) 0) where
+module _ (k : CodeField) (n : ℕ) (m ls basis : List (List (List ℕ))) (pre : IsPreimage k.ops 1 n m ls basis)
+    (h : List ℕ) (h_is : h ≡ entry_at (row_at basis 0) 0) where
   pub first_row : IsRow k.ops 1 (row_at basis 0)
   first_row = pre.rows_in 0 [] (omega (arith, pre.popov.size))
 
@@ -73,25 +74,31 @@ module _ (k : CodeField) (p : PresValue) where
 
   -- ---- a polynomial in a lattice
 
-  read_first : (m : ℕ) (den : List ℕ) → read_row k (suc m) (den ∷ replicate m []) ≡ (value k den, row_zero (polynomials k).ops m)
+  read_first : (m : ℕ) (den : List ℕ) → read_row k (suc m) (den ∷ replicate m [])
+      ≡ (value k den, row_zero (polynomials k).ops m)
   read_first m den = pair_path refl (read_zeros k m m)
 
-  read_one_row : (n : ℕ) (den : List ℕ) → 0 < n → read_row k (suc (n - 1)) (one_row n den) ≡ (value k den, row_zero (polynomials k).ops (n - 1))
+  read_one_row : (n : ℕ) (den : List ℕ) → 0 < n
+      → read_row k (suc (n - 1)) (one_row n den) ≡ (value k den, row_zero (polynomials k).ops (n - 1))
   read_one_row n den positive =
       let e : suc (n - 1) ≡ n = omega (arith, positive) in
       ap (λ w. read_row k (suc (n - 1)) (one_row w den)) (sym e) ∙ read_first (n - 1) den
 
-  one_row_is : (den : List ℕ) (some : ¬ (value k den ≡ (polynomials k).𝟘)) → 0 < p.n → f (record { num = one_row p.n den; den = den }) ≡ F.𝟙
+  one_row_is : (den : List ℕ) (some : ¬ (value k den ≡ (polynomials k).𝟘)) → 0 < p.n
+      → f (record { num = one_row p.n den; den = den }) ≡ F.𝟙
   unfolding row_scale
   one_row_is den some positive =
       elem_over k p den some (one_row p.n den)
       ∙ ap (λ v. over c v (value k den) some) (read_one_row p.n den positive)
-      ∙ over_eq c (row_of c (value k den)) (row_of c (polynomials k).𝟙) (value k den) (polynomials k).𝟙 some (polynomials_domain k).one_not_zero
-      (pair_path (S.mul_comm (polynomials k).𝟙 (value k den)) (row_scale_zero S (p.n - 1) (polynomials k).𝟙 ∙ sym (row_scale_zero S (p.n - 1) (value k den))))
+      ∙ over_eq c (row_of c (value k den)) (row_of c (polynomials k).𝟙) (value k den) (polynomials k).𝟙 some
+      (polynomials_domain k).one_not_zero
+      (pair_path (S.mul_comm (polynomials k).𝟙 (value k den))
+      (row_scale_zero S (p.n - 1) (polynomials k).𝟙 ∙ sym (row_scale_zero S (p.n - 1) (value k den))))
       ∙ sym (of_poly_one c)
 
   module _ (b : LatticeValue) (positive : 0 < p.n) (b_form : IsLattice k.ops p.n b) (basis : List (List (List ℕ)))
-      (pre : IsPreimage k.ops 1 p.n (one_row p.n b.den ∷ []) b.rows basis) (h : List ℕ) (h_is : h ≡ entry_at (row_at basis 0) 0) where
+      (pre : IsPreimage k.ops 1 p.n (one_row p.n b.den ∷ []) b.rows basis) (h : List ℕ)
+      (h_is : h ≡ entry_at (row_at basis 0) 0) where
     den_some : ¬ (value k b.den ≡ (polynomials k).𝟘)
     den_some = monic_value k b.den b_form.den_in b_form.den_poly b_form.monic
 
@@ -99,7 +106,8 @@ module _ (k : CodeField) (p : PresValue) where
     m = one_row p.n b.den ∷ []
 
     m_in : All (IsRow k.ops p.n) (one_row p.n b.den ∷ [])
-    m_in = All-cons (IsRow k.ops p.n) (one_row p.n b.den) [] (one_row_in k p.n b.den b_form.den_in) (All-nil (IsRow k.ops p.n))
+    m_in = All-cons (IsRow k.ops p.n) (one_row p.n b.den) [] (one_row_in k p.n b.den b_form.den_in)
+        (All-nil (IsRow k.ops p.n))
 
     abbrev cs : List (List ℕ)
     cs = row_at basis 0
@@ -117,7 +125,8 @@ module _ (k : CodeField) (p : PresValue) where
     inside =
         (pre.members (row_at basis 0) cs_row cs_poly).0
         (from_space k 1 basis pre.rows_in (row_at basis 0) cs_row cs_poly
-        (subst (theory.InSpan (row_space k 1) (read_rows k 1 basis)) (read_row_at k 1 basis 0) (span_row (row_space k 1) (read_rows k 1 basis) 0)))
+        (subst (theory.InSpan (row_space k 1) (read_rows k 1 basis)) (read_row_at k 1 basis 0)
+        (span_row (row_space k 1) (read_rows k 1 basis) 0)))
 
     pub polynomial_inside : Contains k p b (of_poly (equation_of k p) (value k h))
     polynomial_inside =
@@ -129,7 +138,8 @@ module _ (k : CodeField) (p : PresValue) where
           is = elem_over k p b.den den_some (combination k.ops p.n cs m);
         }))
       where
-        is : f (record { num = combination k.ops p.n (row_at basis 0) (one_row p.n b.den ∷ []); den = b.den }) ≡ of_poly (equation_of k p) (value k h)
+        is : f (record { num = combination k.ops p.n (row_at basis 0) (one_row p.n b.den ∷ []); den = b.den })
+            ≡ of_poly (equation_of k p) (value k h)
         is =
             combination_function k p b.den den_some cs m cs_row.size cs_row.over m_in
             ∙ lin_one c (λ i. value k (entry_at cs i)) (f (record { num = one_row p.n b.den; den = b.den }))
@@ -142,28 +152,35 @@ module _ (k : CodeField) (p : PresValue) where
   Holds a z ws = All (λ w. Contains k p a ((functions k p).◌⊗◌ (function_of k p w) z)) ws
 
   module _ (a b : LatticeValue) where
-    move : (z s w : Functions k p) → (functions k p).◌⊗◌ z ((functions k p).◌⊗◌ s w) ≡ (functions k p).◌⊗◌ s ((functions k p).◌⊗◌ z w)
+    move : (z s w : Functions k p) → (functions k p).◌⊗◌ z ((functions k p).◌⊗◌ s w)
+        ≡ (functions k p).◌⊗◌ s ((functions k p).◌⊗◌ z w)
     move z s w = ring (functions k p) (z ∷ s ∷ w ∷ []) λ q x. simp (reads, q, x 0, x 1, x 2) (q.equal _ _ refl)
 
     -- the functions whose product with z is in a
     taken_module : (z : Functions k p) → IsModule F.ops T (λ w. Contains k p a ((functions k p).◌⊗◌ z w))
     taken_module z = record {
       zero_in = subst (Contains k p a) (sym (mul_zero F z)) (span_zero F T 𝓢 (map f (row_elems a)));
-      sum_in = λ x y x_in y_in. subst (Contains k p a) (sym (F.mul_add z x y)) (span_sum F T 𝓢 (map f (row_elems a)) (F.◌⊗◌ z x) (F.◌⊗◌ z y) x_in y_in);
-      scale_in = λ s x s_in x_in. subst (Contains k p a) (sym (move z s x)) (span_scale F T 𝓢 (map f (row_elems a)) s (F.◌⊗◌ z x) s_in x_in);
+      sum_in = λ x y x_in y_in. subst (Contains k p a) (sym (F.mul_add z x y))
+          (span_sum F T 𝓢 (map f (row_elems a)) (F.◌⊗◌ z x) (F.◌⊗◌ z y) x_in y_in);
+      scale_in = λ s x s_in x_in. subst (Contains k p a) (sym (move z s x))
+          (span_scale F T 𝓢 (map f (row_elems a)) s (F.◌⊗◌ z x) s_in x_in);
     }
 
-    each_function : (z : Functions k p) (ws : List ElemValue) → Holds a z ws → All (λ w. Contains k p a ((functions k p).◌⊗◌ z w)) (map f ws)
+    each_function : (z : Functions k p) (ws : List ElemValue) → Holds a z ws
+        → All (λ w. Contains k p a ((functions k p).◌⊗◌ z w)) (map f ws)
     each_function z [] h = All-nil (λ w. Contains k p a ((functions k p).◌⊗◌ z w))
     each_function z (w ∷ ws) h =
         All-cons (λ w. Contains k p a ((functions k p).◌⊗◌ z w)) (f w) (map f ws)
-        (subst (Contains k p a) (F.mul_comm (f w) z) (All-head (λ w. Contains k p a ((functions k p).◌⊗◌ (function_of k p w) z)) w ws h))
+        (subst (Contains k p a) (F.mul_comm (f w) z)
+        (All-head (λ w. Contains k p a ((functions k p).◌⊗◌ (function_of k p w) z)) w ws h))
         (each_function z ws (All-tail (λ w. Contains k p a ((functions k p).◌⊗◌ (function_of k p w) z)) w ws h))
 
     holds_colon : (z : Functions k p) → Holds a z (row_elems b) → IsColon k p a b z
-    holds_colon z h = span_least F T 𝓢 (λ w. Contains k p a ((functions k p).◌⊗◌ z w)) (taken_module z) (map f (row_elems b)) (each_function z (row_elems b) h)
+    holds_colon z h = span_least F T 𝓢 (λ w. Contains k p a ((functions k p).◌⊗◌ z w)) (taken_module z)
+        (map f (row_elems b)) (each_function z (row_elems b) h)
 
-    each_row : (z : Functions k p) (ws : List ElemValue) → ((w : Functions k p) → InSpanOf k p ws w → Contains k p a ((functions k p).◌⊗◌ z w)) → Holds a z ws
+    each_row : (z : Functions k p) (ws : List ElemValue)
+        → ((w : Functions k p) → InSpanOf k p ws w → Contains k p a ((functions k p).◌⊗◌ z w)) → Holds a z ws
     each_row z [] h = All-nil (λ w. Contains k p a ((functions k p).◌⊗◌ (function_of k p w) z))
     each_row z (w ∷ ws) h =
         All-cons (λ w. Contains k p a ((functions k p).◌⊗◌ (function_of k p w) z)) w ws
@@ -171,15 +188,18 @@ module _ (k : CodeField) (p : PresValue) where
         (each_row z ws (λ x x_in. h x (span_tail F T 𝓢 (f w) (map f ws) x x_in)))
 
     -- the multiples of 1/h by members of a that each row of b takes into a are the colon, where h is in b
-    pub colon_iff : (h : List ℕ) → Contains k p b (of_poly (equation_of k p) (value k h)) → (z : Functions k p) → (IsScaled k p (1 ∷ []) h (Contains k p a) z × Holds a z (row_elems b)) ↔ IsColon k p a b z
+    pub colon_iff : (h : List ℕ) → Contains k p b (of_poly (equation_of k p) (value k h)) → (z : Functions k p)
+        → (IsScaled k p (1 ∷ []) h (Contains k p a) z × Holds a z (row_elems b)) ↔ IsColon k p a b z
     colon_iff h h_in z = (
       λ s. holds_colon z s.1,
       λ colon. (
         record {
           member = F.◌⊗◌ (of_poly c (value k h)) z;
-          member_in = subst (Contains k p a) (F.mul_comm z (of_poly c (value k h))) (colon (of_poly c (value k h)) h_in);
+          member_in = subst (Contains k p a) (F.mul_comm z (of_poly c (value k h)))
+              (colon (of_poly c (value k h)) h_in);
           is =
-              sym (ap (λ u. F.◌⊗◌ u (F.◌⊗◌ (of_poly c (value k h)) z)) (ap (of_poly c) (value_one k) ∙ sym (of_poly_one c))
+              sym (ap (λ u. F.◌⊗◌ u (F.◌⊗◌ (of_poly c (value k h)) z))
+              (ap (of_poly c) (value_one k) ∙ sym (of_poly_one c))
               ∙ one_mul F (F.◌⊗◌ (of_poly c (value k h)) z));
         },
         each_row z (row_elems b) colon,
@@ -187,9 +207,11 @@ module _ (k : CodeField) (p : PresValue) where
     )
 
     -- one row more
-    pub colon_more : (start old new : LatticeValue) (i : ℕ) (w : ElemValue) → i < length (row_elems b) → slice_get (row_elems b) i ≡ Some w
+    pub colon_more : (start old new : LatticeValue) (i : ℕ) (w : ElemValue) → i < length (row_elems b)
+        → slice_get (row_elems b) i ≡ Some w
         → ((z : Functions k p) → Contains k p old z ↔ (Contains k p start z × Holds a z (take i (row_elems b))))
-        → ((z : Functions k p) → Contains k p new z ↔ (Contains k p old z × Contains k p a ((functions k p).◌⊗◌ (function_of k p w) z)))
+        → ((z : Functions k p) → Contains k p new z
+        ↔ (Contains k p old z × Contains k p a ((functions k p).◌⊗◌ (function_of k p w) z)))
         → (z : Functions k p) → Contains k p new z ↔ (Contains k p start z × Holds a z (take (i + 1) (row_elems b)))
     colon_more start old new i w less w_is so_far more z =
         let P = λ (w : ElemValue). Contains k p a ((functions k p).◌⊗◌ (function_of k p w) z) in
@@ -205,7 +227,8 @@ module _ (k : CodeField) (p : PresValue) where
         )
 
     -- the colon from the multiples of a member of a by 1/h
-    pub colon_is : (h : List ℕ) (start : LatticeValue) → Contains k p b (of_poly (equation_of k p) (value k h)) → ((z : Functions k p) → Contains k p start z ↔ IsScaled k p (1 ∷ []) h (Contains k p a) z)
+    pub colon_is : (h : List ℕ) (start : LatticeValue) → Contains k p b (of_poly (equation_of k p) (value k h))
+        → ((z : Functions k p) → Contains k p start z ↔ IsScaled k p (1 ∷ []) h (Contains k p a) z)
         → (z : Functions k p) → (Contains k p start z × Holds a z (row_elems b)) ↔ IsColon k p a b z
     colon_is h start h_in start_is z =
         let iff = colon_iff h h_in z in (

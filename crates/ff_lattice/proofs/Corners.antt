@@ -1,4 +1,5 @@
--- Where the factor t of the twisted pairs vanishes up to more than the degrees of multiples that the map takes into the span,
+-- Where the factor t of the twisted pairs vanishes up to more than the degrees of multiples that the map takes into the
+-- span,
 -- the right parts of the first rows of their Popov form are zero; and the pairs have full rank where the span has.
 use Rattle.std.proofs.Common.{◌≡◌, ℕ, suc, ◌<◌, ◌≤◌, ◌+◌, ◌*◌, ◌-◌, ◌/◌, ◌%◌, ◌⊎◌, inl, inr, List, length, sym, ◌∙◌, ap, ap₂, arith, subst}
 use Rattle.std.proofs.lemmas.Bool.{cases_lt}
@@ -21,7 +22,8 @@ use Rattle.popov_theory.proofs.Product.{product_width, product_right}
 use Rattle.popov_theory.proofs.Kernel.{W, IsLinear, measure_pair, convolution_null_below}
 use Rattle.ff_lattice.proofs.KernelRows.{Twisted, twisted_zero}
 
-module _ {A V U : Type 0} {k : TestedRing A} (M : PolynomialModule k V) (N : PolynomialModule k U) (field : IsField k.ops) (φ : V → U) (linear : IsLinear M N φ) (ls : List U)
+module _ {A V U : Type 0} {k : TestedRing A} (M : PolynomialModule k V) (N : PolynomialModule k U)
+    (field : IsField k.ops) (φ : V → U) (linear : IsLinear M N φ) (ls : List U)
     (t : Pol k) (cancel : (u : U) → N.◌·◌ t u ≡ N.𝟎 → u ≡ N.𝟎) where
   abbrev W₀ : PolynomialModule k (V × U)
   W₀ = W M N
@@ -33,7 +35,8 @@ module _ {A V U : Type 0} {k : TestedRing A} (M : PolynomialModule k V) (N : Pol
   T q = Twisted M N field φ linear ls t cancel q
 
   -- t times what is left of w is twisted with t·h·z
-  pub twisted_multiple : (z : V) (w : U) (h : Pol k) → InSpan N ls (N.◌·◌ h (N.◌⊞◌ w (N.⊟◌ (φ (M.◌·◌ t z))))) → T (M.◌·◌ ((pol_ring k).◌⊗◌ t h) z, N.◌·◌ ((pol_ring k).◌⊗◌ t h) w)
+  pub twisted_multiple : (z : V) (w : U) (h : Pol k) → InSpan N ls (N.◌·◌ h (N.◌⊞◌ w (N.⊟◌ (φ (M.◌·◌ t z)))))
+      → T (M.◌·◌ ((pol_ring k).◌⊗◌ t h) z, N.◌·◌ ((pol_ring k).◌⊗◌ t h) w)
   twisted_multiple z w h h_in = record {
     offset = N.◌·◌ h (N.◌⊞◌ w (N.⊟◌ (φ (M.◌·◌ t z))));
     offset_in = h_in;
@@ -42,17 +45,22 @@ module _ {A V U : Type 0} {k : TestedRing A} (M : PolynomialModule k V) (N : Pol
         ∙ ap (N.◌·◌ t)
         (sym (v_add_sub N (N.◌·◌ h (φ (M.◌·◌ t z))) (N.◌·◌ h w))
         ∙ ap₂ N.◌⊞◌
-        (sym (linear.scale h (M.◌·◌ t z)) ∙ ap φ (sym (scale_scale M h t z) ∙ ap (λ c. M.◌·◌ c z) ((pol_ring k).mul_comm h t)))
-        (ap (λ y. N.◌⊞◌ (N.◌·◌ h w) y) (sym (scale_neg N h (φ (M.◌·◌ t z)))) ∙ sym (scale_add N h w (N.⊟◌ (φ (M.◌·◌ t z))))));
+        (sym (linear.scale h (M.◌·◌ t z))
+        ∙ ap φ (sym (scale_scale M h t z) ∙ ap (λ c. M.◌·◌ c z) ((pol_ring k).mul_comm h t)))
+        (ap (λ y. N.◌⊞◌ (N.◌·◌ h w) y) (sym (scale_neg N h (φ (M.◌·◌ t z))))
+        ∙ sym (scale_add N h w (N.⊟◌ (φ (M.◌·◌ t z))))));
   }
 
-  module _ (K : ℕ) (t_low : (i : ℕ) → i < K → coeff_of k.ops t.0 i ≡ k.𝟘) (rs : List (V × U)) (p : IsPopov W₀ rs) (left : (q : V × U) → InSpan W₀ rs q → T q) (right : (q : V × U) → T q → InSpan W₀ rs q)
-      (i : ℕ) (less : i < M.width) (h : Pol k) (some : ¬ (h ≡ (pol_ring k).𝟘)) (short : length h.0 ≤ K) (multiple : InSpan N ls (N.◌·◌ h (φ (M.unit i)))) where
+  module _ (K : ℕ) (t_low : (i : ℕ) → i < K → coeff_of k.ops t.0 i ≡ k.𝟘) (rs : List (V × U)) (p : IsPopov W₀ rs)
+      (left : (q : V × U) → InSpan W₀ rs q → T q) (right : (q : V × U) → T q → InSpan W₀ rs q)
+      (i : ℕ) (less : i < M.width) (h : Pol k) (some : ¬ (h ≡ (pol_ring k).𝟘)) (short : length h.0 ≤ K)
+      (multiple : InSpan N ls (N.◌·◌ h (φ (M.unit i)))) where
     low : (q : V × U) → T q → (s j : ℕ) → j < N.width → s < K → N.coef q.1 (s * N.width + j) ≡ k.𝟘
     low q q_in s j j_less s_less =
         ap (λ y. N.coef y (s * N.width + j)) q_in.is
         ∙ N.coef_scale t (N.◌⊞◌ (φ q.0) q_in.offset) s j j_less
-        ∙ convolution_null_below k.ring s (coeff_of k.ops t.0) (λ e. N.coef (N.◌⊞◌ (φ q.0) q_in.offset) (e * N.width + j))
+        ∙ convolution_null_below k.ring s (coeff_of k.ops t.0)
+        (λ e. N.coef (N.◌⊞◌ (φ q.0) q_in.offset) (e * N.width + j))
         (λ e le. t_low e (omega (arith, le, s_less)))
 
     w_less : i < W₀.width
@@ -75,7 +83,8 @@ module _ {A V U : Type 0} {k : TestedRing A} (M : PolynomialModule k V) (N : Pol
         ∙ omega (arith, measure_unit M domain i))
 
     multiple_in : InSpan W₀ rs (M.◌·◌ h (M.unit i), N.𝟎)
-    multiple_in = right _ (twisted_zero M N field φ linear ls t cancel (M.◌·◌ h (M.unit i)) (subst (InSpan N ls) (sym (linear.scale h (M.unit i))) multiple))
+    multiple_in = right _ (twisted_zero M N field φ linear ls t cancel (M.◌·◌ h (M.unit i))
+        (subst (InSpan N ls) (sym (linear.scale h (M.unit i))) multiple))
 
     degree_le : row_degree W₀ (row_at W₀ rs i) ≤ γ
     degree_le = go (cases_lt γ (row_degree W₀ (row_at W₀ rs i)))
@@ -85,17 +94,27 @@ module _ {A V U : Type 0} {k : TestedRing A} (M : PolynomialModule k V) (N : Pol
             subst (λ n. measure W₀ (row_at W₀ rs i) ≤ n) multiple_measure
             (subst (λ j. measure W₀ (row_at W₀ rs j) ≤ measure W₀ (M.◌·◌ h (M.unit i), N.𝟎))
             (ap (column W₀.width) multiple_measure ∙ column_at W₀.width W₀.positive γ i w_less)
-            (popov_least W₀ domain rs p (M.◌·◌ h (M.unit i), N.𝟎) multiple_in (λ z. absurd (omega (arith, z, multiple_measure)))))
+            (popov_least W₀ domain rs p (M.◌·◌ h (M.unit i), N.𝟎) multiple_in
+            (λ z. absurd (omega (arith, z, multiple_measure)))))
 
-        go : (γ < row_degree W₀ (row_at W₀ rs i)) ⊎ (row_degree W₀ (row_at W₀ rs i) ≤ γ) → row_degree W₀ (row_at W₀ rs i) ≤ γ
+        go : (γ < row_degree W₀ (row_at W₀ rs i)) ⊎ (row_degree W₀ (row_at W₀ rs i) ≤ γ)
+            → row_degree W₀ (row_at W₀ rs i) ≤ γ
         go (inr le) = le
-        go (inl more) = absurd (omega (arith, at_pivot, popov_measure W₀ rs p i w_less, row_le W₀.width W₀.positive γ _ more, W₀.positive))
+        go (inl more) = absurd (omega (
+          arith,
+          at_pivot,
+          popov_measure W₀ rs p i w_less,
+          row_le W₀.width W₀.positive γ _
+              more,
+          W₀.positive,
+        ))
 
     -- the right part of the row is zero
     pub right_null : (row_at W₀ rs i).1 ≡ N.𝟎
     right_null =
         N.same (row_at W₀ rs i).1 N.𝟎 (λ e.
-        subst (λ n. N.coef (row_at W₀ rs i).1 n ≡ k.𝟘) (split N e) (at (e / N.width) (e % N.width) (column_below N e) (cases_lt (e / N.width) K))
+        subst (λ n. N.coef (row_at W₀ rs i).1 n ≡ k.𝟘) (split N e)
+        (at (e / N.width) (e % N.width) (column_below N e) (cases_lt (e / N.width) K))
         ∙ sym (N.coef_zero e))
       where
         at : (s j : ℕ) → j < N.width → (s < K) ⊎ (K ≤ s) → N.coef (row_at W₀ rs i).1 (s * N.width + j) ≡ k.𝟘
@@ -111,5 +130,6 @@ module _ {A V U : Type 0} {k : TestedRing A} (M : PolynomialModule k V) (N : Pol
               h_size,
               high,
               w_less,
-              row_le W₀.width W₀.positive (row_degree W₀ (row_at W₀ rs i)) s (omega (arith, degree_le, short, h_size, high)),
+              row_le W₀.width W₀.positive (row_degree W₀ (row_at W₀ rs i)) s
+                  (omega (arith, degree_le, short, h_size, high)),
             ))

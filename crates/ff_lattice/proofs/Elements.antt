@@ -33,29 +33,37 @@ module _ (k : CodeField) where
     is = ap (value k) h.product ∙ value_product k d h.quotient d_in h.quotient_in;
   }
 
-  pub divides_codes : (d a : List ℕ) → IsOver k.ops d → IsOver k.ops a → IsPoly a → DividesPol (value k d) (value k a) → DividesList k.ops d a
+  pub divides_codes : (d a : List ℕ) → IsOver k.ops d → IsOver k.ops a → IsPoly a → DividesPol (value k d) (value k a)
+      → DividesList k.ops d a
   divides_codes d a d_in a_in a_poly h = record {
     quotient = codes_of k h.quotient;
     quotient_in = IsOver_codes_of k h.quotient;
     quotient_poly = IsPoly_codes_of k h.quotient;
     product =
-        same_from_value k a (product_of k.ops d (codes_of k h.quotient)) a_in (IsOver_product_of k d_in (IsOver_codes_of k h.quotient)) a_poly (IsPoly_product_of k.ops d (codes_of k h.quotient))
-        (h.is ∙ ap ((polynomials k).◌⊗◌ (value k d)) (sym (value_codes_of k h.quotient)) ∙ sym (value_product k d (codes_of k h.quotient) d_in (IsOver_codes_of k h.quotient)));
+        same_from_value k a (product_of k.ops d (codes_of k h.quotient)) a_in
+        (IsOver_product_of k d_in (IsOver_codes_of k h.quotient)) a_poly
+        (IsPoly_product_of k.ops d (codes_of k h.quotient))
+        (h.is ∙ ap ((polynomials k).◌⊗◌ (value k d)) (sym (value_codes_of k h.quotient))
+        ∙ sym (value_product k d (codes_of k h.quotient) d_in (IsOver_codes_of k h.quotient)));
   }
 
 module _ (k : CodeField) (p : PresValue) (den : List ℕ) (some : ¬ (value k den ≡ (polynomials k).𝟘)) where
   -- the function of a row over the denominator
-  pub elem_over : (v : List (List ℕ)) → function_of k p (record { num = v; den = den }) ≡ over (equation_of k p) (read_row k (suc (p.n - 1)) v) (value k den) some
+  pub elem_over : (v : List (List ℕ)) → function_of k p (record { num = v; den = den })
+      ≡ over (equation_of k p) (read_row k (suc (p.n - 1)) v) (value k den) some
   elem_over v =
-      function_parts k p (record { num = v; den = den }) (record { num = read_row k (suc (p.n - 1)) v; den = value k den; den_not_zero = some })
+      function_parts k p (record { num = v; den = den })
+      (record { num = read_row k (suc (p.n - 1)) v; den = value k den; den_not_zero = some })
       (sym (read_is k (suc (p.n - 1)) v)) refl
 
-  pub elems_functions : (rows : List (List (List ℕ))) → map (function_of k p) (elems_over rows den) ≡ overs (equation_of k p) (value k den) some (read_rows k p.n rows)
+  pub elems_functions : (rows : List (List (List ℕ)))
+      → map (function_of k p) (elems_over rows den) ≡ overs (equation_of k p) (value k den) some (read_rows k p.n rows)
   elems_functions [] = refl
   elems_functions (v ∷ rows) = ap₂ ◌∷◌ (elem_over v) (elems_functions rows)
 
   -- the span of rows over a denominator, by numerators
-  pub in_span_of : (rows : List (List (List ℕ))) (z : Functions k p) → InSpanOf k p (elems_over rows den) z ↔ Member (equation_of k p) (value k den) some (read_rows k p.n rows) z
+  pub in_span_of : (rows : List (List (List ℕ))) (z : Functions k p)
+      → InSpanOf k p (elems_over rows den) z ↔ Member (equation_of k p) (value k den) some (read_rows k p.n rows) z
   in_span_of rows z =
       let m = span_member (equation_of k p) (value k den) some (read_rows k p.n rows) z in
       let S = λ (fs : List (Functions k p)). Span (functions k p).ops (IsPolynomial (equation_of k p)) fs z in (

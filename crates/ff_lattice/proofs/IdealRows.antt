@@ -14,13 +14,17 @@ use Rattle.ff_lattice.proofs.Results.{ok_through}
 
 module _ (k : CodeField) (p : PresValue) (l i : LatticeValue) where
   -- a lattice lies in another where its rows do
-  pub within_from_rows : All (λ w. Contains k p l (function_of k p w)) (row_elems i) → (z : Functions k p) → Contains k p i z → Contains k p l z
+  pub within_from_rows : All (λ w. Contains k p l (function_of k p w)) (row_elems i) → (z : Functions k p)
+      → Contains k p i z → Contains k p l z
   within_from_rows all =
-      span_least (functions k p) (IsPolynomial (equation_of k p)) (polynomials_subring (equation_of k p)) (Contains k p l)
-      (span_module (functions k p) (IsPolynomial (equation_of k p)) (polynomials_subring (equation_of k p)) (map (function_of k p) (row_elems l)))
+      span_least (functions k p) (IsPolynomial (equation_of k p)) (polynomials_subring (equation_of k p))
+      (Contains k p l)
+      (span_module (functions k p) (IsPolynomial (equation_of k p)) (polynomials_subring (equation_of k p))
+      (map (function_of k p) (row_elems l)))
       (map (function_of k p) (row_elems i)) (all_of_map (function_of k p) (Contains k p l) (row_elems i) all)
 
-  pub ideal_from_rows : IsLattice k.ops p.n i → All (λ w. Contains k p l (function_of k p w)) (row_elems i) → All (λ z. TakesRowsIn k p i (function_of k p z)) (row_elems l) → IsIdealLattice k p l i
+  pub ideal_from_rows : IsLattice k.ops p.n i → All (λ w. Contains k p l (function_of k p w)) (row_elems i)
+      → All (λ z. TakesRowsIn k p i (function_of k p z)) (row_elems l) → IsIdealLattice k p l i
   ideal_from_rows lattice inside products = record {
     lattice = lattice;
     within = within_from_rows inside;
@@ -35,15 +39,19 @@ module _ (k : CodeField) (p : PresValue) (l i : LatticeValue) where
 
 module _ (k : CodeField) (p : PresValue) (o l i : LatticeValue) (same : l ≡ o) where
   -- a row that isn't in the order
-  pub not_inside : (inside : Bool) → (IsTrue inside ↔ All (λ w. Contains k p l (function_of k p w)) (row_elems i)) → inside ≡ false → IsTrue false ↔ IsIdealLattice k p o i
+  pub not_inside : (inside : Bool) → (IsTrue inside ↔ All (λ w. Contains k p l (function_of k p w)) (row_elems i))
+      → inside ≡ false → IsTrue false ↔ IsIdealLattice k p o i
   not_inside inside decides outside = (
     λ t. absurd (false_true t),
     λ h. sym outside ∙ decides.1 (rows_inside k p l i (subst (λ l. IsIdealLattice k p l i) (sym same) h)),
   )
 
   -- rows in the order, of which the products are decided
-  pub inside_decided : {E : Type 0} → IsLattice k.ops p.n i → (inside : Bool) → (IsTrue inside ↔ All (λ w. Contains k p l (function_of k p w)) (row_elems i)) → inside ≡ true → (r : Result Bool E)
-      → IfOk r (λ t. IsTrue t ↔ All (λ z. TakesRowsIn k p i (function_of k p z)) (row_elems l)) → IfOk r (λ t. IsTrue t ↔ IsIdealLattice k p o i)
+  pub inside_decided : {E : Type 0} → IsLattice k.ops p.n i → (inside : Bool)
+      → (IsTrue inside ↔ All (λ w. Contains k p l (function_of k p w)) (row_elems i)) → inside ≡ true
+      → (r : Result Bool E)
+      → IfOk r (λ t. IsTrue t ↔ All (λ z. TakesRowsIn k p i (function_of k p z)) (row_elems l))
+      → IfOk r (λ t. IsTrue t ↔ IsIdealLattice k p o i)
   inside_decided lattice inside decides is_inside r h =
       ok_through r (λ t e. (
         λ is. subst (λ l. IsIdealLattice k p l i) same (ideal_from_rows k p l i lattice (decides.0 is_inside) (e.0 is)),

@@ -1,4 +1,5 @@
--- What a linear map takes into a span, by a Popov form of the pairs (v, t·(φ v + l)): where the right parts of its first
+-- What a linear map takes into a span, by a Popov form of the pairs (v, t·(φ v + l)): where the right parts of its
+-- first
 -- rows are zero, their left parts are the Popov form of these elements.
 use Rattle.std.proofs.Common.{◌≡◌, ℕ, suc, ◌<◌, ◌≤◌, ◌+◌, ◌*◌, ◌-◌, ◌/◌, ◌⊎◌, inl, inr, List, length, refl, sym, ◌∙◌, ap, ap₂, arith, subst, add-mul}
 use Rattle.std.proofs.lemmas.Bool.{cases_lt}
@@ -20,7 +21,8 @@ use Rattle.popov_theory.proofs.Dimension.{units, units_at, units_length, in_unit
 use Rattle.popov_theory.proofs.Product.{product_zero, product_width, product_left, product_right, product_add, product_scale}
 use Rattle.popov_theory.proofs.Kernel.{W, IsLinear, measure_first}
 
-module _ {A V U : Type 0} {k : TestedRing A} (M : PolynomialModule k V) (N : PolynomialModule k U) (field : IsField k.ops) (φ : V → U) (linear : IsLinear M N φ) (ls : List U)
+module _ {A V U : Type 0} {k : TestedRing A} (M : PolynomialModule k V) (N : PolynomialModule k U)
+    (field : IsField k.ops) (φ : V → U) (linear : IsLinear M N φ) (ls : List U)
     (t : Pol k) (cancel : (u : U) → N.◌·◌ t u ≡ N.𝟎 → u ≡ N.𝟎) where
   abbrev W₀ : PolynomialModule k (V × U)
   W₀ = W M N
@@ -55,7 +57,8 @@ module _ {A V U : Type 0} {k : TestedRing A} (M : PolynomialModule k V) (N : Pol
   from_twisted_zero : (v : V) → Twisted (v, N.𝟎) → InSpan N ls (φ v)
   from_twisted_zero v h =
       subst (InSpan N ls)
-      (sym (v_eq_of_sub N (φ v) (N.⊟◌ h.offset) (ap (λ y. N.◌⊞◌ (φ v) y) (v_neg_neg N h.offset) ∙ cancel (N.◌⊞◌ (φ v) h.offset) (sym h.is))))
+      (sym (v_eq_of_sub N (φ v) (N.⊟◌ h.offset)
+      (ap (λ y. N.◌⊞◌ (φ v) y) (v_neg_neg N h.offset) ∙ cancel (N.◌⊞◌ (φ v) h.offset) (sym h.is))))
       (neg_in N (InSpan N ls) (span_submodule N ls) h.offset h.offset_in)
 
   pub twisted_submodule : IsSubmodule W₀ Twisted
@@ -70,14 +73,16 @@ module _ {A V U : Type 0} {k : TestedRing A} (M : PolynomialModule k V) (N : Pol
       offset_in = span_add N ls p_in.offset q_in.offset p_in.offset_in q_in.offset_in;
       is =
           ap₂ N.◌⊞◌ p_in.is q_in.is ∙ sym (scale_add N t _ _)
-          ∙ ap (N.◌·◌ t) (v_add_add N _ _ _ _ ∙ ap (λ y. N.◌⊞◌ y (N.◌⊞◌ p_in.offset q_in.offset)) (sym (linear.add p.0 q.0)));
+          ∙ ap (N.◌·◌ t) (v_add_add N _ _ _ _
+          ∙ ap (λ y. N.◌⊞◌ y (N.◌⊞◌ p_in.offset q_in.offset)) (sym (linear.add p.0 q.0)));
     });
     scale_in = λ c p p_in. subst Twisted (sym (product_scale M N c p)) (record {
       offset = N.◌·◌ c p_in.offset;
       offset_in = span_scale N ls c p_in.offset p_in.offset_in;
       is =
           ap (N.◌·◌ c) p_in.is ∙ swapped c (N.◌⊞◌ (φ p.0) p_in.offset)
-          ∙ ap (N.◌·◌ t) (scale_add N c (φ p.0) p_in.offset ∙ ap (λ y. N.◌⊞◌ y (N.◌·◌ c p_in.offset)) (sym (linear.scale c p.0)));
+          ∙ ap (N.◌·◌ t) (scale_add N c (φ p.0) p_in.offset
+          ∙ ap (λ y. N.◌⊞◌ y (N.◌·◌ c p_in.offset)) (sym (linear.scale c p.0)));
     });
   }
 
@@ -92,7 +97,8 @@ module _ {A V U : Type 0} {k : TestedRing A} (M : PolynomialModule k V) (N : Pol
   }
 
   -- rows that have a generator for each column and one for each row of the list generate the twisted pairs
-  module _ (gs : List (V × U)) (firsts : (i : ℕ) → i < M.width → InSpan W₀ gs (M.unit i, N.◌·◌ t (φ (M.unit i)))) (seconds : (i : ℕ) → InSpan W₀ gs (M.𝟎, N.◌·◌ t (row_at N ls i))) where
+  module _ (gs : List (V × U)) (firsts : (i : ℕ) → i < M.width → InSpan W₀ gs (M.unit i, N.◌·◌ t (φ (M.unit i))))
+      (seconds : (i : ℕ) → InSpan W₀ gs (M.𝟎, N.◌·◌ t (row_at N ls i))) where
     First : V → Type 0
     First v = InSpan W₀ gs (v, N.◌·◌ t (φ v))
 
@@ -102,7 +108,8 @@ module _ {A V U : Type 0} {k : TestedRing A} (M : PolynomialModule k V) (N : Pol
       where
         𝓕 : IsSubmodule M First
         𝓕 = record {
-          zero_in = subst (InSpan W₀ gs) (product_zero M N ∙ pair_path refl (sym (ap (N.◌·◌ t) φ_zero ∙ scale_zero N t))) (span_zero W₀ gs);
+          zero_in = subst (InSpan W₀ gs)
+              (product_zero M N ∙ pair_path refl (sym (ap (N.◌·◌ t) φ_zero ∙ scale_zero N t))) (span_zero W₀ gs);
           sum_in = λ u v u_in v_in.
               subst (InSpan W₀ gs)
               (product_add M N (u, N.◌·◌ t (φ u)) (v, N.◌·◌ t (φ v))
@@ -131,7 +138,8 @@ module _ {A V U : Type 0} {k : TestedRing A} (M : PolynomialModule k V) (N : Pol
           zero_in = subst (InSpan W₀ gs) (product_zero M N ∙ pair_path refl (sym (scale_zero N t))) (span_zero W₀ gs);
           sum_in = λ u v u_in v_in.
               subst (InSpan W₀ gs)
-              (product_add M N (M.𝟎, N.◌·◌ t u) (M.𝟎, N.◌·◌ t v) ∙ pair_path (v_add_zero M M.𝟎) (sym (scale_add N t u v)))
+              (product_add M N (M.𝟎, N.◌·◌ t u) (M.𝟎, N.◌·◌ t v)
+              ∙ pair_path (v_add_zero M M.𝟎) (sym (scale_add N t u v)))
               (span_add W₀ gs (M.𝟎, N.◌·◌ t u) (M.𝟎, N.◌·◌ t v) u_in v_in);
           scale_in = λ c u u_in.
               subst (InSpan W₀ gs)
@@ -147,7 +155,8 @@ module _ {A V U : Type 0} {k : TestedRing A} (M : PolynomialModule k V) (N : Pol
         ∙ pair_path (v_add_zero M q.0) (sym (scale_add N t (φ q.0) h.offset) ∙ sym h.is))
         (span_add W₀ gs (q.0, N.◌·◌ t (φ q.0)) (M.𝟎, N.◌·◌ t h.offset) (first_in q.0) (second_in h.offset h.offset_in))
 
-  module _ (rs : List (V × U)) (p : IsPopov W₀ rs) (left : (q : V × U) → InSpan W₀ rs q → Twisted q) (right : (q : V × U) → Twisted q → InSpan W₀ rs q)
+  module _ (rs : List (V × U)) (p : IsPopov W₀ rs) (left : (q : V × U) → InSpan W₀ rs q → Twisted q)
+      (right : (q : V × U) → Twisted q → InSpan W₀ rs q)
       (right_zero : (i : ℕ) → i < M.width → (row_at W₀ rs i).1 ≡ N.𝟎) where
     w_less : (i : ℕ) → i < M.width → i < W₀.width
     w_less i less = omega (arith, less, product_width M N)
@@ -169,10 +178,12 @@ module _ {A V U : Type 0} {k : TestedRing A} (M : PolynomialModule k V) (N : Pol
     unfolding kernel_rows
     kernel_length = tabulate_length M M.width (λ i. (row_at W₀ rs i).0)
 
-    first_measure : (i : ℕ) → i < M.width → measure M (row_at M kernel_rows i) ≡ suc (row_degree W₀ (row_at W₀ rs i) * M.width + i)
+    first_measure : (i : ℕ) → i < M.width
+        → measure M (row_at M kernel_rows i) ≡ suc (row_degree W₀ (row_at W₀ rs i) * M.width + i)
     first_measure i less =
         ap (measure M) (kernel_at i less)
-        ∙ measure_first M N (row_at W₀ rs i).0 (row_at W₀ rs i).1 (row_degree W₀ (row_at W₀ rs i)) i less (popov_measure W₀ rs p i (w_less i less))
+        ∙ measure_first M N (row_at W₀ rs i).0 (row_at W₀ rs i).1 (row_degree W₀ (row_at W₀ rs i)) i less
+        (popov_measure W₀ rs p i (w_less i less))
 
     first_degree : (i : ℕ) → i < M.width → row_degree M (row_at M kernel_rows i) ≡ row_degree W₀ (row_at W₀ rs i)
     first_degree i less =
@@ -180,7 +191,8 @@ module _ {A V U : Type 0} {k : TestedRing A} (M : PolynomialModule k V) (N : Pol
         let back : suc (d * M.width + i) - 1 ≡ d * M.width + i = omega arith in
         ap (λ n. (n - 1) / M.width) (first_measure i less) ∙ ap (λ n. n / M.width) back ∙ div-mul-add d M.width i less
 
-    first_coef : (i s j : ℕ) → i < M.width → j < M.width → M.coef (row_at M kernel_rows i) (s * M.width + j) ≡ W₀.coef (row_at W₀ rs i) (s * W₀.width + j)
+    first_coef : (i s j : ℕ) → i < M.width → j < M.width
+        → M.coef (row_at M kernel_rows i) (s * M.width + j) ≡ W₀.coef (row_at W₀ rs i) (s * W₀.width + j)
     first_coef i s j i_less j_less =
         ap (λ v. M.coef v (s * M.width + j)) (kernel_at i i_less) ∙ sym (product_left M N (row_at W₀ rs i) s j j_less)
 
@@ -188,7 +200,8 @@ module _ {A V U : Type 0} {k : TestedRing A} (M : PolynomialModule k V) (N : Pol
     kernel_popov = record {
       size = kernel_length;
       some = λ i less z. absurd (omega (arith, z, first_measure i less));
-      pivot_at = λ i less. ap (column M.width) (first_measure i less) ∙ column_at M.width M.positive (row_degree W₀ (row_at W₀ rs i)) i less;
+      pivot_at = λ i less. ap (column M.width) (first_measure i less)
+          ∙ column_at M.width M.positive (row_degree W₀ (row_at W₀ rs i)) i less;
       monic = λ i less.
           let d = row_degree W₀ (row_at W₀ rs i) in
           ap (M.coef (row_at M kernel_rows i)) (omega (arith, first_measure i less))
@@ -196,7 +209,8 @@ module _ {A V U : Type 0} {k : TestedRing A} (M : PolynomialModule k V) (N : Pol
           ∙ ap (W₀.coef (row_at W₀ rs i)) (omega (arith, popov_measure W₀ rs p i (w_less i less)))
           ∙ p.monic i (w_less i less);
       small = λ i j s i_less j_less differ le.
-          first_coef i s j i_less j_less ∙ p.small i j s (w_less i i_less) (w_less j j_less) differ (omega (arith, le, first_degree j j_less));
+          first_coef i s j i_less j_less
+          ∙ p.small i j s (w_less i i_less) (w_less j j_less) differ (omega (arith, le, first_degree j j_less));
     }
 
     kernel_submodule : IsSubmodule M Kernel
@@ -211,11 +225,13 @@ module _ {A V U : Type 0} {k : TestedRing A} (M : PolynomialModule k V) (N : Pol
     kernel_in = span_least M Kernel kernel_submodule kernel_rows (λ i. go i (cases_lt i M.width))
       where
         go : (i : ℕ) → (i < M.width) ⊎ (M.width ≤ i) → Kernel (row_at M kernel_rows i)
-        go i (inr more) = subst Kernel (sym (row_past M kernel_rows i (omega (arith, more, kernel_length)))) kernel_submodule.zero_in
+        go i (inr more) = subst Kernel (sym (row_past M kernel_rows i (omega (arith, more, kernel_length))))
+            kernel_submodule.zero_in
         go i (inl less) =
             subst Kernel (sym (kernel_at i less))
             (from_twisted_zero (row_at W₀ rs i).0
-            (subst Twisted (pair_path {a = (row_at W₀ rs i).0} refl (right_zero i less)) (left (row_at W₀ rs i) (span_row W₀ rs i))))
+            (subst Twisted (pair_path {a = (row_at W₀ rs i).0} refl (right_zero i less))
+            (left (row_at W₀ rs i) (span_row W₀ rs i))))
 
     -- and is all of it
     pub kernel_all : (v : V) → Kernel v → InSpan M kernel_rows v
@@ -227,7 +243,8 @@ module _ {A V U : Type 0} {k : TestedRing A} (M : PolynomialModule k V) (N : Pol
         ρ_in : Kernel ρ
         ρ_in =
             subst Kernel (v_sub_sub M v ρ)
-            (sub_in M Kernel kernel_submodule v (M.◌⊞◌ v (M.⊟◌ ρ)) v_in (kernel_in _ (difference_in M field kernel_rows v)))
+            (sub_in M Kernel kernel_submodule v (M.◌⊞◌ v (M.⊟◌ ρ)) v_in
+            (kernel_in _ (difference_in M field kernel_rows v)))
 
         zero_at : (e : ℕ) → Leading W₀ rs (suc e) → W₀.coef (ρ, N.𝟎) e ≡ k.𝟘
         zero_at e l = subst (λ n. W₀.coef (ρ, N.𝟎) n ≡ k.𝟘) position (at (cases_lt l.index M.width))
@@ -246,9 +263,11 @@ module _ {A V U : Type 0} {k : TestedRing A} (M : PolynomialModule k V) (N : Pol
             at (inl less) =
                 product_left M N (ρ, N.𝟎) (l.times + d) l.index less
                 ∙ (normal_form_reduced M field kernel_rows v).zero_at ((l.times + d) * M.width + l.index)
-                (popov_leading M kernel_rows kernel_popov l.index (l.times + d) less (omega (arith, first_degree l.index less)))
+                (popov_leading M kernel_rows kernel_popov l.index (l.times + d) less
+                (omega (arith, first_degree l.index less)))
 
         pair_zero : ◌≡◌ {A = V × U} (ρ, N.𝟎) (M.𝟎, N.𝟎)
         pair_zero =
-            reduced_in_span W₀ domain rs (popov_weak W₀ rs p) (ρ, N.𝟎) (right (ρ, N.𝟎) (twisted_zero ρ ρ_in)) (record { zero_at = zero_at })
+            reduced_in_span W₀ domain rs (popov_weak W₀ rs p) (ρ, N.𝟎) (right (ρ, N.𝟎) (twisted_zero ρ ρ_in))
+            (record { zero_at = zero_at })
             ∙ product_zero M N

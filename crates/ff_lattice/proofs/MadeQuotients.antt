@@ -9,12 +9,17 @@ use Rattle.ff_lattice.specs.PositionLists.{pivot_length, codes_below}
 use Rattle.ff_lattice.specs.Quotients.{QuotientValue, IsFrame, IsQuotient, IsClassOf, IsIdealLattice, IsRowOf, AreProducts}
 use Rattle.ff_lattice.proofs.QuotientLaws.{class_of_row}
 
-abbrev pub made_value : List (List (List ℕ)) → ℕ → List (List (List (List ℕ))) → List ℕ → PresValue → LatticeValue → LatticeValue → QuotientValue
-made_value rows depth products one p order ideal = record { p = p; order = order; ideal = ideal; rows = rows; depth = depth; products = products; one = one }
+abbrev pub made_value : List (List (List ℕ)) → ℕ → List (List (List (List ℕ))) → List ℕ → PresValue → LatticeValue
+    → LatticeValue → QuotientValue
+made_value rows depth products one p order ideal = record
+    { p = p; order = order; ideal = ideal; rows = rows; depth = depth; products = products; one = one }
 
-module _ (k : CodeField) (q : QuotientValue) (positive : 1 ≤ q.p.n) (p_in : IsPresOver k.ops q.p) (order : IsOrderLattice k q.p q.order) (ideal : IsIdealLattice k q.p q.order q.ideal)
-    (rows_in : All (IsRow k.ops q.p.n) q.rows) (popov : IsPopov q.p.n q.rows) (members : (z : Functions k q.p) → Contains k q.p q.ideal z ↔ InSpanOf k q.p (elems_over q.rows q.order.den) z)
-    (deep : (j : ℕ) → j < q.p.n → pivot_length q.rows j ≤ q.depth) (products : AreProducts k q.p q.order (length q.order.rows) q.products) where
+module _ (k : CodeField) (q : QuotientValue) (positive : 1 ≤ q.p.n) (p_in : IsPresOver k.ops q.p)
+    (order : IsOrderLattice k q.p q.order) (ideal : IsIdealLattice k q.p q.order q.ideal)
+    (rows_in : All (IsRow k.ops q.p.n) q.rows) (popov : IsPopov q.p.n q.rows)
+    (members : (z : Functions k q.p) → Contains k q.p q.ideal z ↔ InSpanOf k q.p (elems_over q.rows q.order.den) z)
+    (deep : (j : ℕ) → j < q.p.n → pivot_length q.rows j ≤ q.depth)
+    (products : AreProducts k q.p q.order (length q.order.rows) q.products) where
   pub made_frame : IsFrame k q
   made_frame =
       let size = order.lattice.popov.size in
@@ -29,14 +34,17 @@ module _ (k : CodeField) (q : QuotientValue) (positive : 1 ≤ q.p.n) (p_in : Is
         deep = deep;
         products_size = omega (arith, products.size, size);
         products_each = λ i less. omega (arith, products.each i (omega (arith, less, size)), size);
-        products_are = λ i j i_less j_less. products.are i j (omega (arith, i_less, size)) (omega (arith, j_less, size));
+        products_are = λ i j i_less j_less. products.are i j (omega (arith, i_less, size))
+            (omega (arith, j_less, size));
       }
 
-  pub made_quotient : (row : List (List ℕ)) → IsRowOf k q.p q.order (functions k q.p).𝟙 row → q.one ≡ codes_below q.p.n q.order.rows q.rows k.ops (max q.depth (longest row) * q.p.n) row → IsQuotient k q
+  pub made_quotient : (row : List (List ℕ)) → IsRowOf k q.p q.order (functions k q.p).𝟙 row
+      → q.one ≡ codes_below q.p.n q.order.rows q.rows k.ops (max q.depth (longest row) * q.p.n) row → IsQuotient k q
   made_quotient row r one_is = record {
     frame = made_frame;
     one_is =
         subst (IsClassOf k q (functions k q.p).𝟙) (sym one_is)
-        (subst (λ x. IsClassOf k q x (codes_below q.p.n q.order.rows q.rows k.ops (max q.depth (longest row) * q.p.n) row)) r.is
+        (subst (λ x. IsClassOf k q x (codes_below q.p.n q.order.rows q.rows k.ops (max q.depth (longest row) * q.p.n)
+        row)) r.is
         (class_of_row k q made_frame row r.row_in (subst (Contains k q.p q.order) (sym r.is) order.one_in)));
   }

@@ -49,10 +49,12 @@ module _ {k : CodeField} (c : Equation k) where
     pub frac_add : (u v : Row (Polynomial k) (suc c.lower_degree)) → F.◌⊕◌ (frac u) (frac v) ≡ frac (M.◌⊞◌ u v)
     frac_add u v = over_add c u v e some ∙ ap frac (sym (row_module_add (code_ring k) c.lower_degree u v))
 
-    pub frac_scale : (a : Polynomial k) (v : Row (Polynomial k) (suc c.lower_degree)) → F.◌⊗◌ (of_poly c a) (frac v) ≡ frac (M.◌·◌ a v)
+    pub frac_scale : (a : Polynomial k) (v : Row (Polynomial k) (suc c.lower_degree))
+        → F.◌⊗◌ (of_poly c a) (frac v) ≡ frac (M.◌·◌ a v)
     frac_scale a v = over_scale c a v e some ∙ ap frac (sym (row_module_scale (code_ring k) c.lower_degree a v))
 
-    pub member_module : (rs : List (Row (Polynomial k) (suc c.lower_degree))) → IsModule F.ops (IsPolynomial c) (Member rs)
+    pub member_module : (rs : List (Row (Polynomial k) (suc c.lower_degree)))
+        → IsModule F.ops (IsPolynomial c) (Member rs)
     member_module rs = record {
       zero_in = record { numerator = M.𝟎; in_rows = spans.span_zero M rs; is = sym frac_zero };
       sum_in = λ a b h g. record {
@@ -67,7 +69,8 @@ module _ {k : CodeField} (c : Equation k) where
       };
     }
 
-    all_members : (rs ss : List (Row (Polynomial k) (suc c.lower_degree))) → ((i : ℕ) → InSpan M rs (row_at M ss i)) → All (Member rs) (overs ss)
+    all_members : (rs ss : List (Row (Polynomial k) (suc c.lower_degree))) → ((i : ℕ) → InSpan M rs (row_at M ss i))
+        → All (Member rs) (overs ss)
     all_members rs [] h = All-nil (Member rs)
     all_members rs (s ∷ ss) h =
         All-cons (Member rs) (frac s) (overs ss) (record { numerator = s; in_rows = h zero; is = refl })
@@ -76,12 +79,15 @@ module _ {k : CodeField} (c : Equation k) where
     abbrev 𝓢 : IsSubring F.ops (IsPolynomial c)
     𝓢 = polynomials_subring c
 
-    frac_rows : (rs : List (Row (Polynomial k) (suc c.lower_degree))) (i : ℕ) → Span F.ops (IsPolynomial c) (overs rs) (frac (row_at M rs i))
+    frac_rows : (rs : List (Row (Polynomial k) (suc c.lower_degree))) (i : ℕ)
+        → Span F.ops (IsPolynomial c) (overs rs) (frac (row_at M rs i))
     frac_rows [] i = frac_zero
     frac_rows (r ∷ rs) zero = span_head F (IsPolynomial c) 𝓢 (frac r) (overs rs)
-    frac_rows (r ∷ rs) (suc i) = span_tail F (IsPolynomial c) 𝓢 (frac r) (overs rs) (frac (row_at M rs i)) (frac_rows rs i)
+    frac_rows (r ∷ rs) (suc i) = span_tail F (IsPolynomial c) 𝓢 (frac r) (overs rs) (frac (row_at M rs i))
+        (frac_rows rs i)
 
-    frac_span : (rs : List (Row (Polynomial k) (suc c.lower_degree))) (v : Row (Polynomial k) (suc c.lower_degree)) → InSpan M rs v → Span F.ops (IsPolynomial c) (overs rs) (frac v)
+    frac_span : (rs : List (Row (Polynomial k) (suc c.lower_degree))) (v : Row (Polynomial k) (suc c.lower_degree))
+        → InSpan M rs v → Span F.ops (IsPolynomial c) (overs rs) (frac v)
     frac_span rs = spans.span_least M N 𝓝 rs (frac_rows rs)
       where
         N : Row (Polynomial k) (suc c.lower_degree) → Type 0
@@ -89,20 +95,26 @@ module _ {k : CodeField} (c : Equation k) where
 
         𝓝 : theory.IsSubmodule M (λ v. Span F.ops (IsPolynomial c) (overs rs) (frac v))
         𝓝 = record {
-          zero_in = subst (Span F.ops (IsPolynomial c) (overs rs)) (sym frac_zero) (span_zero F (IsPolynomial c) 𝓢 (overs rs));
-          sum_in = λ u v u_in v_in. subst (Span F.ops (IsPolynomial c) (overs rs)) (frac_add u v) (span_sum F (IsPolynomial c) 𝓢 (overs rs) (frac u) (frac v) u_in v_in);
+          zero_in = subst (Span F.ops (IsPolynomial c) (overs rs)) (sym frac_zero)
+              (span_zero F (IsPolynomial c) 𝓢 (overs rs));
+          sum_in = λ u v u_in v_in. subst (Span F.ops (IsPolynomial c) (overs rs)) (frac_add u v)
+              (span_sum F (IsPolynomial c) 𝓢 (overs rs) (frac u) (frac v) u_in v_in);
           scale_in = λ a v v_in.
               subst (Span F.ops (IsPolynomial c) (overs rs)) (frac_scale a v)
-              (span_scale F (IsPolynomial c) 𝓢 (overs rs) (of_poly c a) (frac v) (record { polynomial = a; value = refl }) v_in);
+              (span_scale F (IsPolynomial c) 𝓢 (overs rs) (of_poly c a) (frac v)
+              (record { polynomial = a; value = refl }) v_in);
         }
 
     -- the span is the set of these members
-    pub span_member : (rs : List (Row (Polynomial k) (suc c.lower_degree))) (z : FunctionOf c) → Span F.ops (IsPolynomial c) (overs rs) z ↔ Member rs z
+    pub span_member : (rs : List (Row (Polynomial k) (suc c.lower_degree))) (z : FunctionOf c)
+        → Span F.ops (IsPolynomial c) (overs rs) z ↔ Member rs z
     span_member rs z = (
-      span_least F (IsPolynomial c) 𝓢 (Member rs) (member_module rs) (overs rs) (all_members rs rs (spans.span_row M rs)) z,
+      span_least F (IsPolynomial c) 𝓢 (Member rs) (member_module rs) (overs rs)
+          (all_members rs rs (spans.span_row M rs)) z,
       λ h. subst (Span F.ops (IsPolynomial c) (overs rs)) (sym h.is) (frac_span rs h.numerator h.in_rows),
     )
 
     -- v/e is a member exactly where v is in the span of the rows
-    pub member_numerator : (rs : List (Row (Polynomial k) (suc c.lower_degree))) (v : Row (Polynomial k) (suc c.lower_degree)) → Member rs (over c v e some) → InSpan M rs v
+    pub member_numerator : (rs : List (Row (Polynomial k) (suc c.lower_degree)))
+        (v : Row (Polynomial k) (suc c.lower_degree)) → Member rs (over c v e some) → InSpan M rs v
     member_numerator rs v h = subst (InSpan M rs) (sym (over_injective c v h.numerator e some h.is)) h.in_rows

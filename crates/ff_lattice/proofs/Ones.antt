@@ -25,6 +25,7 @@ module _ (k : CodeField) (p : PresValue) where
   pub one_is : 1 ≤ p.n → function_of k p (record { num = unit_row p.n 0; den = 1 ∷ [] }) ≡ (functions k p).𝟙
   unfolding whole_pair
   one_is positive =
-      function_parts k p (record { num = unit_row p.n 0; den = 1 ∷ [] }) (whole_row (equation_of k p) (row_one (polynomials k).ring (p.n - 1)))
+      function_parts k p (record { num = unit_row p.n 0; den = 1 ∷ [] })
+      (whole_row (equation_of k p) (row_one (polynomials k).ring (p.n - 1)))
       (sym (read_is k (suc (p.n - 1)) (unit_row p.n 0)) ∙ read_one p.n positive) (value_one k)
       ∙ sym (one_function (equation_of k p))

@@ -26,7 +26,8 @@ use Rattle.ff_lattice.proofs.Elements.{elem_over, in_span_of, divides_codes}
 use Rattle.ff_lattice.proofs.Divisors.{monic_value}
 use Rattle.ff_lattice.proofs.SpannedSets.{multiple_poly}
 
-module _ (k : CodeField) (p : PresValue) (l : LatticeValue) (lattice : IsLattice k.ops p.n l) (z : ElemValue) (z_in : IsElem k.ops p.n z) (z_monic : IsMonicElem z) where
+module _ (k : CodeField) (p : PresValue) (l : LatticeValue) (lattice : IsLattice k.ops p.n l) (z : ElemValue)
+    (z_in : IsElem k.ops p.n z) (z_monic : IsMonicElem z) where
   abbrev c : Equation k
   c = equation_of k p
 
@@ -58,8 +59,13 @@ module _ (k : CodeField) (p : PresValue) (l : LatticeValue) (lattice : IsLattice
   pub divides_scaled : Contains k p l (function_of k p z) → All (DividesList k.ops z.den) scaled
   divides_scaled member j d less =
       subst (DividesList k.ops z.den) (any_default scaled j [] d less)
-      (divides_codes k z.den (entry_at scaled j) z_in.den_over (over_at k scaled scaled_over j) (multiple_poly k l.den z.num j [] less)
-      (record { quotient = entry S.ops n j m.numerator; is = sym (entry_read k n j scaled in_row) ∙ ap (entry S.ops n j) is ∙ entry_scale (code_ring k) n j (value k z.den) m.numerator }))
+      (divides_codes k z.den (entry_at scaled j) z_in.den_over (over_at k scaled scaled_over j)
+      (multiple_poly k l.den z.num j [] less)
+      (record {
+        quotient = entry S.ops n j m.numerator;
+        is = sym (entry_read k n j scaled in_row)
+            ∙ ap (entry S.ops n j) is ∙ entry_scale (code_ring k) n j (value k z.den) m.numerator;
+      }))
     where
       m : Member (equation_of k p) (value k l.den) den_some (read_rows k p.n l.rows) (function_of k p z)
       m = (in_span_of k p l.den den_some l.rows (function_of k p z)).0 member
@@ -67,15 +73,21 @@ module _ (k : CodeField) (p : PresValue) (l : LatticeValue) (lattice : IsLattice
       in_row : j < suc (p.n - 1)
       in_row = omega (arith, less, scaled_size)
 
-      is : read_row k (suc (p.n - 1)) (multiple_of_row k.ops l.den z.num) ≡ row_scale S.ops (suc (p.n - 1)) (value k z.den) m.numerator
+      is : read_row k (suc (p.n - 1)) (multiple_of_row k.ops l.den z.num)
+          ≡ row_scale S.ops (suc (p.n - 1)) (value k z.den) m.numerator
       is =
           scaled_read
-          ∙ over_same c (read_row k n z.num) m.numerator (value k z.den) (value k l.den) e_some den_some (sym (elem_over k p z.den e_some z.num) ∙ m.is)
+          ∙ over_same c (read_row k n z.num) m.numerator (value k z.den) (value k l.den) e_some den_some
+          (sym (elem_over k p z.den e_some z.num) ∙ m.is)
 
   -- the quotient is the row
   pub quotient_is_row : (r : List (List ℕ)) → IsRowQuotient k.ops z.den scaled r → IsRowOf k p l (function_of k p z) r
   quotient_is_row r h = record {
-    row_in = record { size = sym (length-map r (product_of k.ops z.den)) ∙ ap length h.is ∙ scaled_size; over = h.over };
+    row_in = record {
+      size = sym (length-map r (product_of k.ops z.den)) ∙ ap length h.is
+          ∙ scaled_size;
+      over = h.over;
+    };
     row_poly = h.poly;
     is =
         elem_over k p l.den den_some r

@@ -21,15 +21,18 @@ false_true e = cc
 pub all_of_map : {X Y : Type 0} (f : X → Y) (P : Y → Type 0) (xs : List X) → All (λ x. P (f x)) xs → All P (map f xs)
 all_of_map f P [] all = All-nil P
 all_of_map f P (x ∷ xs) all =
-    All-cons P (f x) (map f xs) (All-head (λ x. P (f x)) x xs all) (all_of_map f P xs (All-tail (λ x. P (f x)) x xs all))
+    All-cons P (f x) (map f xs) (All-head (λ x. P (f x)) x xs all)
+    (all_of_map f P xs (All-tail (λ x. P (f x)) x xs all))
 
 pub all_from_map : {X Y : Type 0} (f : X → Y) (P : Y → Type 0) (xs : List X) → All P (map f xs) → All (λ x. P (f x)) xs
 all_from_map f P [] all = All-nil (λ x. P (f x))
 all_from_map f P (x ∷ xs) all =
-    All-cons (λ x. P (f x)) x xs (All-head P (f x) (map f xs) all) (all_from_map f P xs (All-tail P (f x) (map f xs) all))
+    All-cons (λ x. P (f x)) x xs (All-head P (f x) (map f xs) all)
+    (all_from_map f P xs (All-tail P (f x) (map f xs) all))
 
 -- one entry more has the property
-pub all_more : {X : Type 0} (P : X → Type 0) (xs : List X) (i : ℕ) (x : X) → slice_get xs i ≡ Some x → P x → ((j : ℕ) (d : X) → j < i → P (get_or xs j d)) → (j : ℕ) (d : X) → j < i + 1 → P (get_or xs j d)
+pub all_more : {X : Type 0} (P : X → Type 0) (xs : List X) (i : ℕ) (x : X) → slice_get xs i ≡ Some x → P x
+    → ((j : ℕ) (d : X) → j < i → P (get_or xs j d)) → (j : ℕ) (d : X) → j < i + 1 → P (get_or xs j d)
 all_more P xs i x x_is here below j d less =
     let le : j ≤ i = omega (arith, less) in
     go (eq-or-lt_of_le le)
@@ -43,7 +46,8 @@ module _ {A : Type 0} (R : CommRing A) (S : A → Type 0) (𝓢 : IsSubring R.op
   takes_module : (bs : List A) (z : A) → IsModule R.ops S (λ v. Span R.ops S bs (R.◌⊗◌ z v))
   takes_module bs z = record {
     zero_in = subst (Span R.ops S bs) (sym (mul_zero R z)) (span_zero R S 𝓢 bs);
-    sum_in = λ a b a_in b_in. subst (Span R.ops S bs) (sym (R.mul_add z a b)) (span_sum R S 𝓢 bs (R.◌⊗◌ z a) (R.◌⊗◌ z b) a_in b_in);
+    sum_in = λ a b a_in b_in. subst (Span R.ops S bs) (sym (R.mul_add z a b))
+        (span_sum R S 𝓢 bs (R.◌⊗◌ z a) (R.◌⊗◌ z b) a_in b_in);
     scale_in = λ s a s_in a_in.
         subst (Span R.ops S bs)
         (sym (R.mul_assoc s z a) ∙ ap (λ x. R.◌⊗◌ x a) (R.mul_comm s z) ∙ R.mul_assoc z s a)
@@ -51,18 +55,22 @@ module _ {A : Type 0} (R : CommRing A) (S : A → Type 0) (𝓢 : IsSubring R.op
   }
 
   -- z takes a span into another where it takes the generators there
-  pub takes_span : (bs cs : List A) (z : A) → All (λ w. Span R.ops S bs (R.◌⊗◌ z w)) cs → (v : A) → Span R.ops S cs v → Span R.ops S bs (R.◌⊗◌ z v)
+  pub takes_span : (bs cs : List A) (z : A) → All (λ w. Span R.ops S bs (R.◌⊗◌ z w)) cs → (v : A) → Span R.ops S cs v
+      → Span R.ops S bs (R.◌⊗◌ z v)
   takes_span bs cs z all v v_in = span_least R S 𝓢 (λ v. Span R.ops S bs (R.◌⊗◌ z v)) (takes_module bs z) cs all v v_in
 
-  takes_all : (bs cs : List A) (v : A) → Span R.ops S cs v → (xs : List A) → All (λ a. All (λ c. Span R.ops S bs (R.◌⊗◌ a c)) cs) xs → All (λ a. Span R.ops S bs (R.◌⊗◌ v a)) xs
+  takes_all : (bs cs : List A) (v : A) → Span R.ops S cs v → (xs : List A)
+      → All (λ a. All (λ c. Span R.ops S bs (R.◌⊗◌ a c)) cs) xs → All (λ a. Span R.ops S bs (R.◌⊗◌ v a)) xs
   takes_all bs cs v v_in [] all = All-nil (λ a. Span R.ops S bs (R.◌⊗◌ v a))
   takes_all bs cs v v_in (a ∷ xs) all =
       All-cons (λ a. Span R.ops S bs (R.◌⊗◌ v a)) a xs
-      (subst (Span R.ops S bs) (R.mul_comm a v) (takes_span bs cs a (All-head (λ a. All (λ c. Span R.ops S bs (R.◌⊗◌ a c)) cs) a xs all) v v_in))
+      (subst (Span R.ops S bs) (R.mul_comm a v)
+      (takes_span bs cs a (All-head (λ a. All (λ c. Span R.ops S bs (R.◌⊗◌ a c)) cs) a xs all) v v_in))
       (takes_all bs cs v v_in xs (All-tail (λ a. All (λ c. Span R.ops S bs (R.◌⊗◌ a c)) cs) a xs all))
 
   -- the products of members of two spans are in a third where those of the generators are
-  pub spans_product : (bs xs cs : List A) → All (λ a. All (λ c. Span R.ops S bs (R.◌⊗◌ a c)) cs) xs → (u v : A) → Span R.ops S xs u → Span R.ops S cs v → Span R.ops S bs (R.◌⊗◌ u v)
+  pub spans_product : (bs xs cs : List A) → All (λ a. All (λ c. Span R.ops S bs (R.◌⊗◌ a c)) cs) xs → (u v : A)
+      → Span R.ops S xs u → Span R.ops S cs v → Span R.ops S bs (R.◌⊗◌ u v)
   spans_product bs xs cs all u v u_in v_in =
       subst (Span R.ops S bs) (R.mul_comm v u) (takes_span bs xs v (takes_all bs cs v v_in xs all) u u_in)
 
@@ -86,13 +94,15 @@ module _ (k : CodeField) (p : PresValue) where
     abbrev gens : List (Functions k p)
     gens = map f (row_elems l)
 
-    rows_to_gens : (xs : List ElemValue) → All (λ z. TakesRowsIn k p l (f z)) xs → All (λ a. All (λ c. L (F.◌⊗◌ a c)) gens) (map f xs)
+    rows_to_gens : (xs : List ElemValue) → All (λ z. TakesRowsIn k p l (f z)) xs
+        → All (λ a. All (λ c. L (F.◌⊗◌ a c)) gens) (map f xs)
     rows_to_gens xs all =
         all_of_map f (λ a. All (λ c. L (F.◌⊗◌ a c)) gens) xs
         (λ i d less. all_of_map f (λ c. L (F.◌⊗◌ (f (get_or xs i d)) c)) (row_elems l) (all i d less))
 
     -- the products of combinations of other elements and members are members where the products with the rows are
-    pub products_from_rows : (xs : List ElemValue) → All (λ z. TakesRowsIn k p l (f z)) xs → (u v : Functions k p) → InSpanOf k p xs u → L v → L (F.◌⊗◌ u v)
+    pub products_from_rows : (xs : List ElemValue) → All (λ z. TakesRowsIn k p l (f z)) xs → (u v : Functions k p)
+        → InSpanOf k p xs u → L v → L (F.◌⊗◌ u v)
     products_from_rows xs all = spans_product F T 𝓢 gens (map f xs) gens (rows_to_gens xs all)
 
     -- the rows are members
@@ -110,5 +120,6 @@ module _ (k : CodeField) (p : PresValue) where
     rows_of_order o = record {
       one_in = o.one_in;
       products_in = λ i d less j e less'.
-          o.product_in (f (get_or (row_elems l) i d)) (f (get_or (row_elems l) j e)) (rows_members i d less) (rows_members j e less');
+          o.product_in (f (get_or (row_elems l) i d)) (f (get_or (row_elems l) j e)) (rows_members i d less)
+          (rows_members j e less');
     }

@@ -97,11 +97,14 @@ module _ (k : CodeField) (p : PresValue) where
       record {
         zero_in = span_zero F T 𝓢 gens;
         sum_in = λ u v u_in v_in. span_sum F T 𝓢 gens u v u_in v_in;
-        scale_in = λ a v v_in. span_scale F T 𝓢 gens (code_of a) v (record { polynomial = constant (code_ring k) a; value = refl }) v_in;
+        scale_in = λ a v v_in. span_scale F T 𝓢 gens (code_of a) v
+            (record { polynomial = constant (code_ring k) a; value = refl }) v_in;
       }
 
-  pub index_once : (l : LatticeValue) (B : Functions k p → Type 0) (g h : ℕ) → HasIndex k p (Contains k p l) B g → HasIndex k p (Contains k p l) B h → g ≡ h
-  index_once l B g h i j = sym i.count ∙ bases_same_length (domain_of codes) space (Contains k p l) (lattice_subspace l) B i.basis j.basis i.is j.is ∙ j.count
+  pub index_once : (l : LatticeValue) (B : Functions k p → Type 0) (g h : ℕ) → HasIndex k p (Contains k p l) B g
+      → HasIndex k p (Contains k p l) B h → g ≡ h
+  index_once l B g h i j = sym i.count ∙ bases_same_length (domain_of codes) space (Contains k p l) (lattice_subspace l)
+      B i.basis j.basis i.is j.is ∙ j.count
 
   abbrev M : PolynomialModule (code_ring k) (Row (Polynomial k) (suc (p.n - 1)))
   M = row_space k p.n
@@ -112,7 +115,8 @@ module _ (k : CodeField) (p : PresValue) where
     pub popov : theory.IsPopov M rows
     pub members : (z : Functions k p) → L z ↔ Member (equation_of k p) d some rows z
 
-  module _ (A B : Functions k p → Type 0) (d : Polynomial k) (some : ¬ (d ≡ (polynomials k).𝟘)) (a : AtDen A d some) (b : AtDen B d some) (within : (z : Functions k p) → A z → B z) where
+  module _ (A B : Functions k p → Type 0) (d : Polynomial k) (some : ¬ (d ≡ (polynomials k).𝟘)) (a : AtDen A d some)
+      (b : AtDen B d some) (within : (z : Functions k p) → A z → B z) where
     abbrev part : Row (Polynomial k) (suc (p.n - 1)) → Functions k p
     part v = over (equation_of k p) v d some
 
@@ -128,12 +132,15 @@ module _ (k : CodeField) (p : PresValue) where
     part_neg : (v : Row (Polynomial k) (suc (p.n - 1))) → part (M.⊟◌ v) ≡ F.⊖◌ (part v)
     part_neg v = neg_unique F _ _ (frac_add c d some v _ ∙ ap part (v_add_neg M v) ∙ part_zero)
 
-    part_combine : (e : ℕ → Code k) (rs : List (Row (Polynomial k) (suc (p.n - 1)))) → part (scalar_combine M e rs) ≡ combine (space_ops k p) e (overs c d some rs)
+    part_combine : (e : ℕ → Code k) (rs : List (Row (Polynomial k) (suc (p.n - 1))))
+        → part (scalar_combine M e rs) ≡ combine (space_ops k p) e (overs c d some rs)
     part_combine e [] = part_zero
-    part_combine e (r ∷ rs) = sym (frac_add c d some _ _) ∙ ap₂ F.◌⊕◌ (sym (frac_scale c d some (constant (code_ring k) (e 0)) r)) (part_combine (tail_of e) rs)
+    part_combine e (r ∷ rs) = sym (frac_add c d some _ _)
+        ∙ ap₂ F.◌⊕◌ (sym (frac_scale c d some (constant (code_ring k) (e 0)) r)) (part_combine (tail_of e) rs)
 
     -- a basis of the rows is one of the functions
-    row_basis : (g : List (Row (Polynomial k) (suc (p.n - 1)))) → IsBasisModulo M (InSpan M b.rows) (InSpan M a.rows) g → IsBasis (code_ring k).ops (space_ops k p) A B (overs c d some g)
+    row_basis : (g : List (Row (Polynomial k) (suc (p.n - 1)))) → IsBasisModulo M (InSpan M b.rows) (InSpan M a.rows) g
+        → IsBasis (code_ring k).ops (space_ops k p) A B (overs c d some g)
     row_basis g h = record {
       members_in = All-map B part g (All-from_get_or (λ v. B (part v)) g M.𝟎 (λ i l. part_in _ (h.members i)));
       spanning = λ z z_in.
@@ -143,7 +150,8 @@ module _ (k : CodeField) (p : PresValue) where
             coefficient = e;
             rest = F.◌⊕◌ z (F.⊖◌ (combine (space_ops k p) e (overs c d some g)));
             rest_in =
-                subst A (sym (frac_add c d some t.numerator _) ∙ ap₂ F.◌⊕◌ (sym t.is) (part_neg _ ∙ ap F.⊖◌ (part_combine e g)))
+                subst A (sym (frac_add c d some t.numerator _)
+                ∙ ap₂ F.◌⊕◌ (sym t.is) (part_neg _ ∙ ap F.⊖◌ (part_combine e g)))
                 (part_from _ (h.spans t.numerator t.in_rows));
             is = sym (add_sub F z _);
           };
@@ -153,19 +161,28 @@ module _ (k : CodeField) (p : PresValue) where
     }
 
     rows_within : IsWithin M a.rows b.rows
-    rows_within = record { within = λ v h. member_numerator c d some b.rows v ((b.members (part v)).0 (within (part v) (part_from v h))) }
+    rows_within = record {
+      within = λ v h. member_numerator c d some b.rows v
+          ((b.members (part v)).0 (within (part v) (part_from v h)));
+    }
 
     dimension : Dimension M a.rows b.rows
     dimension = dimension_of M (code_field k) a.rows b.rows a.popov b.popov rows_within
 
     index_at : HasIndex k p A B (length dimension.basis)
-    index_at = record { basis = overs c d some dimension.basis; is = row_basis dimension.basis dimension.is; count = length-map dimension.basis part }
+    index_at = record {
+      basis = overs c d some dimension.basis;
+      is = row_basis dimension.basis dimension.is;
+      count =
+          length-map dimension.basis part;
+    }
 
     -- equal pivot degrees
     same_at : theory.pivot_degree M b.rows ≡ theory.pivot_degree M a.rows → (z : Functions k p) → A z ↔ B z
     same_at e z = (
       within z,
-      λ h. (a.members z).1 (subst (λ rs. Member (equation_of k p) d some rs z) (sym (dimension.equal e)) ((b.members z).0 h)),
+      λ h. (a.members z).1 (subst (λ rs. Member (equation_of k p) d some rs z) (sym (dimension.equal e))
+          ((b.members z).0 h)),
     )
 
   -- rows in Popov form over a monic polynomial, which need not be the least
@@ -177,7 +194,14 @@ module _ (k : CodeField) (p : PresValue) where
     pub monic : IsMonic l.den
 
   pub lattice_over : (l : LatticeValue) → IsLattice k.ops p.n l → IsOverMonic l
-  lattice_over l h = record { rows_in = h.rows_in; popov = h.popov; den_in = h.den_in; den_poly = h.den_poly; monic = h.monic }
+  lattice_over l h = record {
+    rows_in = h.rows_in;
+    popov = h.popov;
+    den_in = h.den_in;
+    den_poly = h.den_poly;
+    monic =
+        h.monic;
+  }
 
   -- a monic list of codes is a monic polynomial
   monic_of : (d : List ℕ) → IsOver k.ops d → IsPoly d → IsMonic d → scaling.IsMonic (code_ring k) (value k d)
@@ -191,15 +215,23 @@ module _ (k : CodeField) (p : PresValue) where
         top = same_code k _ _ (coeff_code k d (length d - 1) d_in ∙ ap (λ m. get_or d m 0) position ∙ t.2);
       }
 
-  monic_degree : (d : List ℕ) (d_in : IsOver k.ops d) (d_poly : IsPoly d) (monic : IsMonic d) → (monic_of d d_in d_poly monic).degree ≡ length d - 1
+  monic_degree : (d : List ℕ) (d_in : IsOver k.ops d) (d_poly : IsPoly d) (monic : IsMonic d)
+      → (monic_of d d_in d_poly monic).degree ≡ length d - 1
   unfolding monic_of
   monic_degree d d_in d_poly monic = refl
 
-  degrees_read : (rows : List (List (List ℕ))) (i : ℕ) → ((j m : ℕ) → j < length rows → m ≡ i + j → row_degree M (read_row k (suc (p.n - 1)) (row_at rows j)) ≡ length (entry_at (row_at rows j) m) - 1)
+  degrees_read : (rows : List (List (List ℕ))) (i : ℕ)
+      → ((j m : ℕ) → j < length rows → m ≡ i + j
+      → row_degree M (read_row k (suc (p.n - 1)) (row_at rows j)) ≡ length (entry_at (row_at rows j) m) - 1)
       → theory.pivot_degree M (read_rows k p.n rows) ≡ pivot_degree_from i rows
   degrees_read [] i h = refl
   degrees_read (r ∷ rows) i h =
-      omega (arith, h 0 i (omega arith) (omega arith), degrees_read rows (suc i) (λ j m less e. h (suc j) m (omega (arith, less)) (omega (arith, e))))
+      omega (
+        arith,
+        h 0 i (omega arith) (omega arith),
+        degrees_read rows (suc i)
+            (λ j m less e. h (suc j) m (omega (arith, less)) (omega (arith, e))),
+      )
 
   module _ (l : LatticeValue) (h : IsOverMonic l) where
     abbrev rs : List (Row (Polynomial k) (suc (p.n - 1)))
@@ -216,10 +248,12 @@ module _ (k : CodeField) (p : PresValue) where
         let at : m ≡ j = omega (arith, e) in
         let j_less : j < p.n = omega (arith, less, h.popov.size) in
         let row = h.rows_in j [] less in
-        (measured k p.n (row_at l.rows j) j row.size (h.popov.pivot_at j j_less) (over_at k (row_at l.rows j) row.over j) (h.popov.trimmed j j)).1
+        (measured k p.n (row_at l.rows j) j row.size (h.popov.pivot_at j j_less)
+        (over_at k (row_at l.rows j) row.over j) (h.popov.trimmed j j)).1
         ∙ ap (λ m. length (entry_at (row_at l.rows j) m) - 1) (sym at))
 
-    module _ (positive : 0 < p.n) (e : Polynomial k) (monic : scaling.IsMonic (code_ring k) e) (d : Polynomial k) (some : ¬ (d ≡ (polynomials k).𝟘)) (product : d ≡ (polynomials k).◌⊗◌ e (value k l.den)) where
+    module _ (positive : 0 < p.n) (e : Polynomial k) (monic : scaling.IsMonic (code_ring k) e) (d : Polynomial k)
+        (some : ¬ (d ≡ (polynomials k).𝟘)) (product : d ≡ (polynomials k).◌⊗◌ e (value k l.den)) where
       raised_part : (v : Row (Polynomial k) (suc (p.n - 1))) → over c (M.◌·◌ e v) d some ≡ over c v D D_some
       raised_part v =
           ap (λ w. over c w d some) (row_module_scale (code_ring k) (p.n - 1) e v)
@@ -250,7 +284,8 @@ module _ (k : CodeField) (p : PresValue) where
         );
       }
 
-      raised_degree : theory.pivot_degree M (scaled M (code_domain k) e monic rs) ≡ length l.rows * monic.degree + pivot_degree l.rows
+      raised_degree : theory.pivot_degree M (scaled M (code_domain k) e monic rs)
+          ≡ length l.rows * monic.degree + pivot_degree l.rows
       raised_degree =
           let popov = basis_popov k p.n l.rows h.rows_in h.popov positive in
           let size : length rs ≡ length l.rows = length-map l.rows (read_row k (suc (p.n - 1))) in
@@ -268,23 +303,28 @@ module _ (k : CodeField) (p : PresValue) where
     common = (polynomials k).◌⊗◌ (value k b.den) (value k a.den)
 
     common_some : ¬ ((polynomials k).◌⊗◌ (value k b.den) (value k a.den) ≡ (polynomials k).𝟘)
-    common_some = product_not_zero (polynomials_domain k) (value k b.den) (value k a.den) (D_some b over_b) (D_some a over_a)
+    common_some = product_not_zero (polynomials_domain k) (value k b.den) (value k a.den) (D_some b over_b)
+        (D_some a over_a)
 
     abbrev left : AtDen (Contains k p a) common common_some
     left = raised a over_a positive (value k b.den) monic_b common common_some refl
 
     abbrev right : AtDen (Contains k p b) common common_some
-    right = raised b over_b positive (value k a.den) monic_a common common_some ((polynomials k).mul_comm (value k b.den) (value k a.den))
+    right = raised b over_b positive (value k a.den) monic_a common common_some
+        ((polynomials k).mul_comm (value k b.den) (value k a.den))
 
     left_degree : theory.pivot_degree M left.rows ≡ length b.rows * (length b.den - 1) + pivot_degree a.rows
     left_degree =
         raised_degree a over_a positive (value k b.den) monic_b common common_some refl
-        ∙ ap₂ (λ m d. m * d + pivot_degree a.rows) (over_a.popov.size ∙ sym over_b.popov.size) (monic_degree b.den over_b.den_in over_b.den_poly over_b.monic)
+        ∙ ap₂ (λ m d. m * d + pivot_degree a.rows) (over_a.popov.size ∙ sym over_b.popov.size)
+        (monic_degree b.den over_b.den_in over_b.den_poly over_b.monic)
 
     right_degree : theory.pivot_degree M right.rows ≡ length a.rows * (length a.den - 1) + pivot_degree b.rows
     right_degree =
-        raised_degree b over_b positive (value k a.den) monic_a common common_some ((polynomials k).mul_comm (value k b.den) (value k a.den))
-        ∙ ap₂ (λ m d. m * d + pivot_degree b.rows) (over_b.popov.size ∙ sym over_a.popov.size) (monic_degree a.den over_a.den_in over_a.den_poly over_a.monic)
+        raised_degree b over_b positive (value k a.den) monic_a common common_some
+        ((polynomials k).mul_comm (value k b.den) (value k a.den))
+        ∙ ap₂ (λ m d. m * d + pivot_degree b.rows) (over_b.popov.size ∙ sym over_a.popov.size)
+        (monic_degree a.den over_a.den_in over_a.den_poly over_a.monic)
 
     module _ (within : (z : Functions k p) → Contains k p a z → Contains k p b z) where
       abbrev between : Dimension M left.rows right.rows
@@ -301,10 +341,12 @@ module _ (k : CodeField) (p : PresValue) where
       pub number_is : pos number ≡ pivot_degree_of a -ℤ pivot_degree_of b
       unfolding number
       number_is =
-          index_number (length between.basis) (pivot_degree a.rows) (pivot_degree b.rows) (length b.rows * (length b.den - 1)) (length a.rows * (length a.den - 1))
+          index_number (length between.basis) (pivot_degree a.rows) (pivot_degree b.rows)
+          (length b.rows * (length b.den - 1)) (length a.rows * (length a.den - 1))
           (omega (arith, between.size, left_degree, right_degree))
 
-      pub index_is : (g : ℕ) → HasIndex k p (Contains k p a) (Contains k p b) g ↔ (pos g ≡ pivot_degree_of a -ℤ pivot_degree_of b)
+      pub index_is : (g : ℕ) → HasIndex k p (Contains k p a) (Contains k p b) g
+          ↔ (pos g ≡ pivot_degree_of a -ℤ pivot_degree_of b)
       index_is g = (
         λ i. ap pos (index_once a (Contains k p b) g number i index_number_is) ∙ number_is,
         λ e.
@@ -316,14 +358,16 @@ module _ (k : CodeField) (p : PresValue) where
       unfolding number
       same_members e =
           let none : length between.basis ≡ 0 = omega (arith, ints, number_is, e) in
-          let degrees : theory.pivot_degree M right.rows ≡ theory.pivot_degree M left.rows = omega (arith, none, between.size) in
+          let degrees : theory.pivot_degree M right.rows
+          ≡ theory.pivot_degree M left.rows = omega (arith, none, between.size) in
           same_at (Contains k p a) (Contains k p b) common common_some left right within degrees
 
       pub same_lattice : IsLattice k.ops p.n a → IsLattice k.ops p.n b → pivot_degree_of a ≡ pivot_degree_of b → a ≡ b
       same_lattice a_form b_form e = one_form k p a b a_form b_form (same_members e) positive
 
   -- one set has one pivot degree, also over a denominator that isn't the least
-  pub one_degree : (positive : 0 < p.n) (a b : LatticeValue) → IsOverMonic a → IsOverMonic b → ((z : Functions k p) → Contains k p a z ↔ Contains k p b z) → pivot_degree_of a ≡ pivot_degree_of b
+  pub one_degree : (positive : 0 < p.n) (a b : LatticeValue) → IsOverMonic a → IsOverMonic b
+      → ((z : Functions k p) → Contains k p a z ↔ Contains k p b z) → pivot_degree_of a ≡ pivot_degree_of b
   one_degree positive a b over_a over_b same =
       let first = number_is positive a b over_a over_b (λ z. (same z).0) in
       let second = number_is positive b a over_b over_a (λ z. (same z).1) in

@@ -39,19 +39,22 @@ pub true_or_false : (b : Bool) → (b ≡ true) ⊎ (b ≡ false)
 true_or_false true = inl refl
 true_or_false false = inr refl
 
-pub row_less_length : (k : FieldOps) (a : List (List ℕ)) (c s : ℕ) (b : List (List ℕ)) → length (row_less k a c s b) ≡ length a
+pub row_less_length : (k : FieldOps) (a : List (List ℕ)) (c s : ℕ) (b : List (List ℕ))
+    → length (row_less k a c s b) ≡ length a
 row_less_length k [] c s b = refl
 row_less_length k (u ∷ a) c s [] = ap suc (row_less_length k a c s [])
 row_less_length k (u ∷ a) c s (v ∷ b) = ap suc (row_less_length k a c s b)
 
-pub row_less_at : (k : FieldOps) (a : List (List ℕ)) (c s : ℕ) (b : List (List ℕ)) (i : ℕ) → i < length a → entry_at (row_less k a c s b) i ≡ less_multiple k (entry_at a i) c s (entry_at b i)
+pub row_less_at : (k : FieldOps) (a : List (List ℕ)) (c s : ℕ) (b : List (List ℕ)) (i : ℕ) → i < length a
+    → entry_at (row_less k a c s b) i ≡ less_multiple k (entry_at a i) c s (entry_at b i)
 row_less_at k [] c s b i less = absurd (omega (arith, less))
 row_less_at k (u ∷ a) c s [] zero less = refl
 row_less_at k (u ∷ a) c s [] (suc i) less = row_less_at k a c s [] i (omega (arith, less))
 row_less_at k (u ∷ a) c s (v ∷ b) zero less = refl
 row_less_at k (u ∷ a) c s (v ∷ b) (suc i) less = row_less_at k a c s b i (omega (arith, less))
 
-pub row_less_is : (k : FieldOps) (a : List (List ℕ)) (c s : ℕ) (b : List (List ℕ)) → IsRowLess k a c s b (row_less k a c s b)
+pub row_less_is : (k : FieldOps) (a : List (List ℕ)) (c s : ℕ) (b : List (List ℕ))
+    → IsRowLess k a c s b (row_less k a c s b)
 row_less_is k a c s b = record { size = row_less_length k a c s b; entries = row_less_at k a c s b }
 
 module _ (k : CodeField) where
@@ -73,7 +76,8 @@ module _ (k : CodeField) where
       go : (t < length a) ⊎ (length a ≤ t) → coeff_of A.ops (value k a).0 t ≡ read_code k (get_or a t 0)
       go (inl less) = series_read k a t ∙ get_or-map (read_code k) a t 0 A.𝟘 less
       go (inr more) =
-          coeff_past A (value k a).0 t (omega (arith, value_short k a, more)) ∙ sym zero_code ∙ ap (read_code k) (sym (none a t more))
+          coeff_past A (value k a).0 t (omega (arith, value_short k a, more)) ∙ sym zero_code
+          ∙ ap (read_code k) (sym (none a t more))
 
   term_length : (c s : ℕ) → length (term c s) ≡ s + 1
   term_length c s = length-append (replicate s 0) (c ∷ []) ∙ ap (λ m. m + 1) (length-replicate {A = ℕ} s 0)
@@ -83,10 +87,12 @@ module _ (k : CodeField) where
   term_top c s =
       let none : s - s ≡ 0 = omega arith in
       coeff_code (term c s) s
-      ∙ ap (read_code k) (get_or-append_right (replicate {A = ℕ} s 0) (c ∷ []) s s 0 (length-replicate {A = ℕ} s 0) (omega arith) ∙ ap (λ m. get_or {A = ℕ} (c ∷ []) m 0) none)
+      ∙ ap (read_code k) (get_or-append_right (replicate {A = ℕ} s 0) (c ∷ []) s s 0 (length-replicate {A = ℕ} s 0)
+      (omega arith) ∙ ap (λ m. get_or {A = ℕ} (c ∷ []) m 0) none)
 
   pub term_past : (c s i : ℕ) → s < i → coeff_of A.ops (value k (term c s)).0 i ≡ A.𝟘
-  term_past c s i past = coeff_past A (value k (term c s)).0 i (omega (arith, value_short k (term c s), term_length c s, past))
+  term_past c s i past = coeff_past A (value k (term c s)).0 i
+      (omega (arith, value_short k (term c s), term_length c s, past))
 
   module _ (n : ℕ) (positive : 0 < n) where
     abbrev M : PolynomialModule (code_ring k) (Row (Pol (code_ring k)) (suc (n - 1)))
@@ -107,7 +113,8 @@ module _ (k : CodeField) where
     -- the coefficient at a position
     pub coef_position : (v : List (List ℕ)) (e : ℕ) → M.coef (R v) e ≡ read_code k (code_at n [] [] v e)
     coef_position v e =
-        ap (M.coef (R v)) (sym (position_is e)) ∙ coef_read k n v (e / n) (e % n) (column_in e) ∙ coeff_code (entry_at v (e % n)) (e / n)
+        ap (M.coef (R v)) (sym (position_is e)) ∙ coef_read k n v (e / n) (e % n) (column_in e)
+        ∙ coeff_code (entry_at v (e % n)) (e / n)
 
     get_below : (a : List ℕ) (t : ℕ) → IsOver k.ops a → get_or a t 0 < k.size
     get_below a t a_in = go (cases_lt t (length a))
@@ -173,7 +180,8 @@ module _ (k : CodeField) where
         pub multiple_ends : measure M (M.◌·◌ (value k (term c s)) row) ≤ suc e
         multiple_ends =
             measure_bound M (M.◌·◌ (value k (term c s)) row) (suc e) (λ i le.
-            scale_past M (value k (term c s)) row s last (λ m past. term_past c s m past) row_ends i (omega (arith, ends_at, le)))
+            scale_past M (value k (term c s)) row s last (λ m past. term_past c s m past) row_ends i
+            (omega (arith, ends_at, le)))
 
         pub multiple_top : M.coef (M.◌·◌ (value k (term c s)) row) e ≡ read_code k c
         multiple_top =
@@ -183,30 +191,45 @@ module _ (k : CodeField) where
             ∙ A.mul_one (read_code k c)
 
       -- one position is cleared
-      module _ (e : ℕ) (v : List (List ℕ)) (v_row : IsRow k.ops n v) (reaches : pivot_length rows (e % n) ≤ suc (e / n)) where
-        abbrev code : ℕ
-        code = code_at n [] [] v e
+      module _ (e : ℕ) (v : List (List ℕ)) (v_row : IsRow k.ops n v) (reaches : pivot_length rows (e % n) ≤ suc (e / n))
+        where
+          abbrev code : ℕ
+          code = code_at n [] [] v e
 
-        pub cleared_row : IsRow k.ops n (cleared n [] [] k.ops rows e v)
-        cleared_row =
-            less_row k n v (row_at rows (e % n)) (cleared n [] [] k.ops rows e v) code (lift_power n [] [] rows e) v_row (basis_row (e % n) (mod_below e n positive))
-            (code_below v e v_row) (row_less_is k.ops v code (lift_power n [] [] rows e) (row_at rows (e % n)))
+          pub cleared_row : IsRow k.ops n (cleared n [] [] k.ops rows e v)
+          cleared_row =
+              less_row k n v (row_at rows (e % n)) (cleared n [] [] k.ops rows e v) code
+              (lift_power n [] [] rows e) v_row
+              (basis_row (e % n) (mod_below e n positive))
+              (code_below v e v_row) (row_less_is k.ops v code (lift_power n [] [] rows e) (row_at rows (e % n)))
 
-        pub cleared_is : R (cleared n [] [] k.ops rows e v) ≡ M.◌⊞◌ (R v) (M.⊟◌ (M.◌·◌ (value k (term code (lift_power n [] [] rows e))) (R (row_at rows (e % n)))))
-        cleared_is =
-            let b_row = basis_row (e % n) (mod_below e n positive) in
-            space_less k n v (row_at rows (e % n)) (cleared n [] [] k.ops rows e v) code (lift_power n [] [] rows e) (b_row.size ∙ sym v_row.size) v_row.over b_row.over
-            (code_below v e v_row) (row_less_is k.ops v code (lift_power n [] [] rows e) (row_at rows (e % n)))
+          pub cleared_is : R (cleared n [] [] k.ops rows e v)
+              ≡ M.◌⊞◌ (R v) (M.⊟◌ (M.◌·◌ (value k (term code (lift_power n [] [] rows e))) (R (row_at rows (e % n)))))
+          cleared_is =
+              let b_row = basis_row (e % n) (mod_below e n positive) in
+              space_less k n v (row_at rows (e % n)) (cleared n [] [] k.ops rows e v) code (lift_power n [] [] rows e)
+              (b_row.size ∙ sym v_row.size) v_row.over b_row.over
+              (code_below v e v_row) (row_less_is k.ops v code (lift_power n [] [] rows e) (row_at rows (e % n)))
 
-        pub cleared_falls : measure M (R v) ≤ suc e → measure M (R (cleared n [] [] k.ops rows e v)) ≤ e
-        cleared_falls le =
-            subst (λ r. measure M r ≤ e) (sym cleared_is)
-            (measure_falls M (R v) (M.◌·◌ (value k (term code (lift_power n [] [] rows e))) (R (row_at rows (e % n)))) e le (multiple_ends e code reaches) (coef_position v e ∙ sym (multiple_top e code reaches)))
+          pub cleared_falls : measure M (R v) ≤ suc e → measure M (R (cleared n [] [] k.ops rows e v)) ≤ e
+          cleared_falls le =
+              subst (λ r. measure M r ≤ e) (sym cleared_is)
+              (measure_falls M (R v)
+              (M.◌·◌ (value k (term code (lift_power n [] [] rows e))) (R (row_at rows (e % n)))) e
+              le (multiple_ends e code reaches) (coef_position v e ∙ sym (multiple_top e code reaches)))
 
       -- a member ends at no position that no row reaches
-      pub ends_nowhere : (z : Row (Pol (code_ring k)) (suc (n - 1))) (e : ℕ) → InSpan M rs z → suc (e / n) < pivot_length rows (e % n) → measure M z ≢ suc e
+      pub ends_nowhere : (z : Row (Pol (code_ring k)) (suc (n - 1))) (e : ℕ) → InSpan M rs z
+          → suc (e / n) < pivot_length rows (e % n) → measure M z ≢ suc e
       ends_nowhere z e z_in short is =
           let back : suc (e / n) - 1 ≡ e / n = omega arith in
-          let at : measure M z ≡ suc ((suc (e / n) - 1) * M.width + e % n) = is ∙ ap suc (sym (ap (λ t. t * M.width + e % n) back ∙ position_is e)) in
-          let at_column : pivot M z ≡ e % n = ap (λ m. column M.width m) (is ∙ ap suc (sym (position_is e))) ∙ column_at M.width M.positive (e / n) (e % n) (column_in e) in
-          absurd (omega (arith, member_longer k n rows all popov z (suc (e / n)) (e % n) z_in at at_column (omega arith) (mod_below e n positive), short))
+          let at : measure M z ≡ suc ((suc (e / n) - 1) * M.width + e % n) = is
+          ∙ ap suc (sym (ap (λ t. t * M.width + e % n) back ∙ position_is e)) in
+          let at_column : pivot M z ≡ e % n = ap (λ m. column M.width m) (is ∙ ap suc (sym (position_is e)))
+          ∙ column_at M.width M.positive (e / n) (e % n) (column_in e) in
+          absurd (omega (
+            arith,
+            member_longer k n rows all popov z (suc (e / n)) (e % n) z_in at at_column (omega arith)
+                (mod_below e n positive),
+            short,
+          ))

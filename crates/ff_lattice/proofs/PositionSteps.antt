@@ -12,14 +12,18 @@ use Rattle.ff_lattice.specs.PositionLists.{pivot_length, row_less, is_outside, i
 use Rattle.ff_lattice.proofs.PositionCodes.{cond_true, cond_false, row_less_length, row_less_at, row_less_is}
 
 -- a row with the entries of a row less a multiple
-pub row_less_from : (k : FieldOps) (a : List (List ℕ)) (c s : ℕ) (b row : List (List ℕ)) → IsRowLess k a c s b row → row ≡ row_less k a c s b
+pub row_less_from : (k : FieldOps) (a : List (List ℕ)) (c s : ℕ) (b row : List (List ℕ)) → IsRowLess k a c s b row
+    → row ≡ row_less k a c s b
 row_less_from k a c s b row h =
     same_row row (row_less k a c s b) (h.size ∙ sym (row_less_length k a c s b))
     (λ j less. h.entries j (omega (arith, less, h.size)) ∙ sym (row_less_at k a c s b j (omega (arith, less, h.size))))
 
 -- a pivot is the longest entry of its row, so that its multiples fit
-pub pivot_fits : (n : ℕ) (rows : List (List (List ℕ))) (j t s bound : ℕ) → IsPopov n rows → j < n → s ≡ t + 1 - pivot_length rows j → pivot_length rows j ≤ t + 1 → t + 1 < bound → (i : ℕ) → s + length (entry_at (row_at rows j) i) < bound
-pivot_fits n rows j t s bound popov less s_is reaches fits i = omega (arith, s_is, reaches, fits, (popov.pivot_at j less).greatest i)
+pub pivot_fits : (n : ℕ) (rows : List (List (List ℕ))) (j t s bound : ℕ) → IsPopov n rows → j < n
+    → s ≡ t + 1 - pivot_length rows j → pivot_length rows j ≤ t + 1 → t + 1 < bound → (i : ℕ)
+    → s + length (entry_at (row_at rows j) i) < bound
+pivot_fits n rows j t s bound popov less s_is reaches fits i = omega
+    (arith, s_is, reaches, fits, (popov.pivot_at j less).greatest i)
 
 module _ (k : FieldOps) (n : ℕ) (W J : List (List (List ℕ))) (t j : ℕ) (less : j < n) where
   abbrev e : ℕ
@@ -32,8 +36,10 @@ module _ (k : FieldOps) (n : ℕ) (W J : List (List (List ℕ))) (t j : ℕ) (le
   column = mod-mul-add t n j less
 
   cleared_row_is : (rows : List (List (List ℕ))) (v : List (List ℕ))
-      → cleared n W J k rows (t * n + j) v ≡ row_less k v (get_or (entry_at v j) t 0) (suc t - pivot_length rows j) (row_at rows j)
-  cleared_row_is rows v = ap₂ (λ a b. row_less k v (get_or (entry_at v b) a 0) (suc a - pivot_length rows b) (row_at rows b)) high column
+      → cleared n W J k rows (t * n + j) v
+      ≡ row_less k v (get_or (entry_at v j) t 0) (suc t - pivot_length rows j) (row_at rows j)
+  cleared_row_is rows v = ap₂ (λ a b. row_less k v (get_or (entry_at v b) a 0) (suc a - pivot_length rows b)
+      (row_at rows b)) high column
 
   outside_at : suc t < pivot_length W j → is_outside n W J (t * n + j) ≡ true
   outside_at h = ap₂ (λ a b. nat_lt (suc a) (pivot_length W b)) high column ∙ lt-ltb (suc t) (pivot_length W j) h
@@ -48,44 +54,60 @@ module _ (k : FieldOps) (n : ℕ) (W J : List (List (List ℕ))) (t j : ℕ) (le
   ideal_at h = ap₂ (λ a b. nat_lt (suc a) (pivot_length J b)) high column ∙ le-ltb (suc t) (pivot_length J j) h
 
   -- nothing is read
-  pub read_outside : (v : List (List ℕ)) (codes : List ℕ) → IsRow k n v → suc t < pivot_length W j → IsReadDown k n W J (suc (t * n + j)) (t * n + j) v codes v codes
-  read_outside v codes v_in h = record { row_in = v_in; codes_are = ap (λ xs. codes ++ xs) (sym (cond_true (is_outside n W J (t * n + j)) _ _ (outside_at h))) }
+  pub read_outside : (v : List (List ℕ)) (codes : List ℕ) → IsRow k n v → suc t < pivot_length W j
+      → IsReadDown k n W J (suc (t * n + j)) (t * n + j) v codes v codes
+  read_outside v codes v_in h = record {
+    row_in = v_in;
+    codes_are = ap (λ xs. codes ++ xs)
+        (sym (cond_true (is_outside n W J (t * n + j)) _ _ (outside_at h)));
+  }
 
-  pub read_ideal : (v row : List (List ℕ)) (codes : List ℕ) → IsRow k n row → pivot_length W j ≤ suc t → pivot_length J j ≤ suc t
-      → row ≡ row_less k v (get_or (entry_at v j) t 0) (suc t - pivot_length J j) (row_at J j) → IsReadDown k n W J (suc (t * n + j)) (t * n + j) v codes row codes
+  pub read_ideal : (v row : List (List ℕ)) (codes : List ℕ) → IsRow k n row → pivot_length W j ≤ suc t
+      → pivot_length J j ≤ suc t
+      → row ≡ row_less k v (get_or (entry_at v j) t 0) (suc t - pivot_length J j) (row_at J j)
+      → IsReadDown k n W J (suc (t * n + j)) (t * n + j) v codes row codes
   read_ideal v row codes row_in h q row_is = record {
     row_in = row_in;
     codes_are =
         ap (λ xs. codes ++ xs)
         (ap (codes_below n W J k (t * n + j)) (row_is ∙ sym (cleared_row_is J v))
-        ∙ sym (cond_false (is_outside n W J (t * n + j)) _ _ (inside_at h) ∙ cond_false (is_kept n W J (t * n + j)) _ _ (ideal_at q)));
+        ∙ sym (cond_false (is_outside n W J (t * n + j)) _ _ (inside_at h)
+        ∙ cond_false (is_kept n W J (t * n + j)) _ _ (ideal_at q)));
   }
 
-  pub read_kept : (v row : List (List ℕ)) (codes more : List ℕ) (c : ℕ) → IsRow k n row → pivot_length W j ≤ suc t → suc t < pivot_length J j → c ≡ get_or (entry_at v j) t 0 → more ≡ codes ++ c ∷ []
-      → row ≡ row_less k v (get_or (entry_at v j) t 0) (suc t - pivot_length W j) (row_at W j) → IsReadDown k n W J (suc (t * n + j)) (t * n + j) v codes row more
+  pub read_kept : (v row : List (List ℕ)) (codes more : List ℕ) (c : ℕ) → IsRow k n row → pivot_length W j ≤ suc t
+      → suc t < pivot_length J j → c ≡ get_or (entry_at v j) t 0 → more ≡ codes ++ c ∷ []
+      → row ≡ row_less k v (get_or (entry_at v j) t 0) (suc t - pivot_length W j) (row_at W j)
+      → IsReadDown k n W J (suc (t * n + j)) (t * n + j) v codes row more
   read_kept v row codes more c row_in h q c_is more_is row_is = record {
     row_in = row_in;
     codes_are =
         ap (λ xs. xs ++ codes_below n W J k (t * n + j) row) more_is
         ∙ append_assoc codes (c ∷ []) (codes_below n W J k (t * n + j) row)
         ∙ ap (λ xs. codes ++ xs)
-        (ap₂ ◌∷◌ (c_is ∙ sym (ap₂ (λ a b. get_or (entry_at v b) a 0) high column)) (ap (codes_below n W J k (t * n + j)) (row_is ∙ sym (cleared_row_is W v)))
-        ∙ sym (cond_false (is_outside n W J (t * n + j)) _ _ (inside_at h) ∙ cond_true (is_kept n W J (t * n + j)) _ _ (kept_at q)));
+        (ap₂ ◌∷◌ (c_is ∙ sym (ap₂ (λ a b. get_or (entry_at v b) a 0) high column))
+        (ap (codes_below n W J k (t * n + j)) (row_is ∙ sym (cleared_row_is W v)))
+        ∙ sym (cond_false (is_outside n W J (t * n + j)) _ _ (inside_at h)
+        ∙ cond_true (is_kept n W J (t * n + j)) _ _ (kept_at q)));
   }
 
 module _ (k : FieldOps) (n : ℕ) (W J : List (List (List ℕ))) where
   pub read_none : (e : ℕ) (v : List (List ℕ)) (codes : List ℕ) → IsRow k n v → IsReadDown k n W J e e v codes v codes
   read_none e v codes v_in = record { row_in = v_in; codes_are = refl }
 
-  pub read_on : (a b d : ℕ) (v u x : List (List ℕ)) (xs ys zs : List ℕ) → IsReadDown k n W J a b v xs u ys → IsReadDown k n W J b d u ys x zs → IsReadDown k n W J a d v xs x zs
+  pub read_on : (a b d : ℕ) (v u x : List (List ℕ)) (xs ys zs : List ℕ) → IsReadDown k n W J a b v xs u ys
+      → IsReadDown k n W J b d u ys x zs → IsReadDown k n W J a d v xs x zs
   read_on a b d v u x xs ys zs h g = record { row_in = g.row_in; codes_are = g.codes_are ∙ h.codes_are }
 
 -- a row less a multiple is a row
-pub row_less_row : (k : CodeField) (n : ℕ) (a b : List (List ℕ)) (c s : ℕ) → IsRow k.ops n a → IsRow k.ops n b → c < k.size → IsRow k.ops n (row_less k.ops a c s b)
-row_less_row k n a b c s a_in b_in c_in = less_row k n a b (row_less k.ops a c s b) c s a_in b_in c_in (row_less_is k.ops a c s b)
+pub row_less_row : (k : CodeField) (n : ℕ) (a b : List (List ℕ)) (c s : ℕ) → IsRow k.ops n a → IsRow k.ops n b
+    → c < k.size → IsRow k.ops n (row_less k.ops a c s b)
+row_less_row k n a b c s a_in b_in c_in = less_row k n a b (row_less k.ops a c s b) c s a_in b_in c_in
+    (row_less_is k.ops a c s b)
 
 -- one entry more, and the longest of all entries
-pub longest_take : (row : List (List ℕ)) (i : ℕ) → i < length row → longest (take (i + 1) row) ≡ max (longest (take i row)) (length (entry_at row i))
+pub longest_take : (row : List (List ℕ)) (i : ℕ) → i < length row
+    → longest (take (i + 1) row) ≡ max (longest (take i row)) (length (entry_at row i))
 longest_take [] i less = absurd (omega (arith, less))
 longest_take (a ∷ row) zero less = omega (arith, le-max_left (length a) 0)
 longest_take (a ∷ row) (suc i) less =
@@ -96,7 +118,8 @@ longest_take (a ∷ row) (suc i) less =
 
 module _ (k : FieldOps) (n : ℕ) (W J rows : List (List (List ℕ))) (t j : ℕ) (less : j < n) where
   -- no code is spread
-  pub spread_outside : (v : List (List ℕ)) (codes : List ℕ) → IsRow k n v → length codes ≡ code_count n W J (suc (t * n + j)) → suc t < pivot_length W j
+  pub spread_outside : (v : List (List ℕ)) (codes : List ℕ) → IsRow k n v
+      → length codes ≡ code_count n W J (suc (t * n + j)) → suc t < pivot_length W j
       → IsSpreadDown k n W J rows (suc (t * n + j)) (t * n + j) v codes v codes
   spread_outside v codes v_in size h =
       let o = outside_at k n W J t j less h in
@@ -106,7 +129,8 @@ module _ (k : FieldOps) (n : ℕ) (W J rows : List (List (List ℕ))) (t j : ℕ
         row_is = sym (cond_true (is_outside n W J (t * n + j)) _ _ o);
       }
 
-  pub spread_ideal : (v : List (List ℕ)) (codes : List ℕ) → IsRow k n v → length codes ≡ code_count n W J (suc (t * n + j)) → pivot_length W j ≤ suc t → pivot_length J j ≤ suc t
+  pub spread_ideal : (v : List (List ℕ)) (codes : List ℕ) → IsRow k n v
+      → length codes ≡ code_count n W J (suc (t * n + j)) → pivot_length W j ≤ suc t → pivot_length J j ≤ suc t
       → IsSpreadDown k n W J rows (suc (t * n + j)) (t * n + j) v codes v codes
   spread_ideal v codes v_in size h q_le =
       let o = inside_at k n W J t j less h in
@@ -118,12 +142,16 @@ module _ (k : FieldOps) (n : ℕ) (W J rows : List (List (List ℕ))) (t j : ℕ
       }
 
   -- there is a code to spread
-  pub spread_some : (codes : List ℕ) → length codes ≡ code_count n W J (suc (t * n + j)) → pivot_length W j ≤ suc t → suc t < pivot_length J j → length codes ≡ suc (code_count n W J (t * n + j))
+  pub spread_some : (codes : List ℕ) → length codes ≡ code_count n W J (suc (t * n + j)) → pivot_length W j ≤ suc t
+      → suc t < pivot_length J j → length codes ≡ suc (code_count n W J (t * n + j))
   spread_some codes size h q_less =
-      size ∙ cond_false (is_outside n W J (t * n + j)) _ _ (inside_at k n W J t j less h) ∙ cond_true (is_kept n W J (t * n + j)) _ _ (kept_at k n W J t j less q_less)
+      size ∙ cond_false (is_outside n W J (t * n + j)) _ _ (inside_at k n W J t j less h)
+      ∙ cond_true (is_kept n W J (t * n + j)) _ _ (kept_at k n W J t j less q_less)
 
-  pub spread_kept : (v row : List (List ℕ)) (codes left : List ℕ) → IsRow k n row → length codes ≡ code_count n W J (suc (t * n + j)) → pivot_length W j ≤ suc t → suc t < pivot_length J j
-      → left ≡ drop 1 codes → suc (length left) ≡ length codes → row ≡ row_less k v (k.neg (get_or codes 0 0)) (suc t - pivot_length W j) (row_at rows j)
+  pub spread_kept : (v row : List (List ℕ)) (codes left : List ℕ) → IsRow k n row
+      → length codes ≡ code_count n W J (suc (t * n + j)) → pivot_length W j ≤ suc t → suc t < pivot_length J j
+      → left ≡ drop 1 codes → suc (length left) ≡ length codes
+      → row ≡ row_less k v (k.neg (get_or codes 0 0)) (suc t - pivot_length W j) (row_at rows j)
       → IsSpreadDown k n W J rows (suc (t * n + j)) (t * n + j) v codes row left
   spread_kept v row codes left row_in size h q_less left_is left_size row_is =
       let o = inside_at k n W J t j less h in
@@ -133,12 +161,14 @@ module _ (k : FieldOps) (n : ℕ) (W J rows : List (List (List ℕ))) (t j : ℕ
         left_in = omega (arith, spread_some codes size h q_less, left_size);
         row_is =
             ap₂ (spread_onto n W J k rows (t * n + j)) left_is
-            (row_is ∙ sym (ap₂ (λ a b. row_less k v (k.neg (get_or codes 0 0)) (suc a - pivot_length W b) (row_at rows b)) (high k n W J t j less) (column k n W J t j less)))
+            (row_is ∙ sym (ap₂ (λ a b. row_less k v (k.neg (get_or codes 0 0)) (suc a - pivot_length W b)
+            (row_at rows b)) (high k n W J t j less) (column k n W J t j less)))
             ∙ sym (cond_false (is_outside n W J (t * n + j)) _ _ o ∙ cond_true (is_kept n W J (t * n + j)) _ _ q);
       }
 
 module _ (k : FieldOps) (n : ℕ) (W J rows : List (List (List ℕ))) where
-  pub spread_on : (a b d : ℕ) (v u x : List (List ℕ)) (xs ys zs : List ℕ) → IsSpreadDown k n W J rows a b v xs u ys → IsSpreadDown k n W J rows b d u ys x zs → IsSpreadDown k n W J rows a d v xs x zs
+  pub spread_on : (a b d : ℕ) (v u x : List (List ℕ)) (xs ys zs : List ℕ) → IsSpreadDown k n W J rows a b v xs u ys
+      → IsSpreadDown k n W J rows b d u ys x zs → IsSpreadDown k n W J rows a d v xs x zs
   spread_on a b d v u x xs ys zs h g = record { row_in = g.row_in; left_in = g.left_in; row_is = g.row_is ∙ h.row_is }
 
 -- the codes from a position of the list on

@@ -47,10 +47,12 @@ module _ (k : CodeField) (q : QuotientValue) (h : IsFrame k q) where
   over_order = record { rows = q.rows; den = q.order.den }
 
   is_over : IsOverMonic k q.p over_order
-  is_over = let l = h.order.lattice in record { rows_in = h.rows_in; popov = h.rows_popov; den_in = l.den_in; den_poly = l.den_poly; monic = l.monic }
+  is_over = let l = h.order.lattice in record
+      { rows_in = h.rows_in; popov = h.rows_popov; den_in = l.den_in; den_poly = l.den_poly; monic = l.monic }
 
   ideal_degree : pivot_degree_of q.ideal ≡ pivot_degree_of over_order
-  ideal_degree = one_degree k q.p h.positive q.ideal over_order (lattice_over k q.p q.ideal h.ideal.lattice) is_over h.rows_are
+  ideal_degree = one_degree k q.p h.positive q.ideal over_order (lattice_over k q.p q.ideal h.ideal.lattice) is_over
+      h.rows_are
 
   rows_within : IsWithin M js ws
   rows_within = record {
@@ -60,7 +62,8 @@ module _ (k : CodeField) (q : QuotientValue) (h : IsFrame k q) where
         let z = over c v (value k q.order.den) some in
         member_numerator c (value k q.order.den) some ws v
         ((in_span_of k q.p q.order.den some q.order.rows z).0
-        (h.ideal.within z ((h.rows_are z).1 ((in_span_of k q.p q.order.den some q.rows z).1 (record { numerator = v; in_rows = v_in; is = refl })))));
+        (h.ideal.within z ((h.rows_are z).1
+        ((in_span_of k q.p q.order.den some q.rows z).1 (record { numerator = v; in_rows = v_in; is = refl })))));
   }
 
   -- the pivots of the ideal are no shorter than those of the order
@@ -69,7 +72,8 @@ module _ (k : CodeField) (q : QuotientValue) (h : IsFrame k q) where
       let l = h.order.lattice in
       let in_width : j < M.width = omega (arith, less, space_width k q.p.n, h.positive) in
       let le =
-      degree_within M (code_field k) js ws (basis_popov k n q.rows h.rows_in h.rows_popov h.positive) (basis_popov k n q.order.rows l.rows_in l.popov h.positive) rows_within j in_width in
+      degree_within M (code_field k) js ws (basis_popov k n q.rows h.rows_in h.rows_popov h.positive)
+      (basis_popov k n q.order.rows l.rows_in l.popov h.positive) rows_within j in_width in
       omega (
         arith,
         le,
@@ -80,10 +84,14 @@ module _ (k : CodeField) (q : QuotientValue) (h : IsFrame k q) where
 
   pub dimension_is : pos (dimension q) ≡ pivot_degree_of q.ideal -ℤ pivot_degree_of q.order
   dimension_is =
-      let w : pivot_sum q.order.rows n ≡ pivot_degree q.order.rows = ap (pivot_sum q.order.rows) (sym h.order.lattice.popov.size) ∙ whole_sum q.order.rows in
-      let j : pivot_sum q.rows n ≡ pivot_degree q.rows = ap (pivot_sum q.rows) (sym h.rows_popov.size) ∙ whole_sum q.rows in
+      let w : pivot_sum q.order.rows n ≡ pivot_degree q.order.rows = ap (pivot_sum q.order.rows)
+      (sym h.order.lattice.popov.size) ∙ whole_sum q.order.rows in
+      let j : pivot_sum q.rows n ≡ pivot_degree q.rows = ap (pivot_sum q.rows) (sym h.rows_popov.size)
+      ∙ whole_sum q.rows in
       let same : length q.rows ≡ length q.order.rows = h.rows_popov.size ∙ sym h.order.lattice.popov.size in
-      difference (dimension q) (pivot_degree q.order.rows) (pivot_degree q.rows) (length q.order.rows * (length q.order.den - 1))
+      difference (dimension q) (pivot_degree q.order.rows) (pivot_degree q.rows)
+      (length q.order.rows * (length q.order.den - 1))
       (omega (arith, w, j, count_degrees n q.order.rows q.rows longer q.depth h.deep))
-      ∙ ap (λ m. (pos (pivot_degree q.rows) -ℤ pos (m * (length q.order.den - 1))) -ℤ pivot_degree_of q.order) (sym same)
+      ∙ ap (λ m. (pos (pivot_degree q.rows) -ℤ pos (m * (length q.order.den - 1))) -ℤ pivot_degree_of q.order)
+      (sym same)
       ∙ ap (λ x. x -ℤ pivot_degree_of q.order) (sym ideal_degree)

@@ -19,28 +19,36 @@ all_push P xs x h p = All-append P xs (x ∷ []) h (All-cons P x [] p (All-nil P
 
 module _ (k : FieldOps) (g : List ℕ) where
   pub row_quotient_start : (row : List (List ℕ)) (qs : List (List ℕ)) → qs ≡ [] → IsRowQuotient k g (take 0 row) qs
-  row_quotient_start row qs none = subst (IsRowQuotient k g []) (sym none) (record { over = All-nil (IsOver k); poly = All-nil IsPoly; is = refl })
+  row_quotient_start row qs none = subst (IsRowQuotient k g []) (sym none)
+      (record { over = All-nil (IsOver k); poly = All-nil IsPoly; is = refl })
 
-  pub row_quotient_more : (row old new : List (List ℕ)) (i : ℕ) (v q : List ℕ) → IsRowQuotient k g (take i row) old → i < length row → v ≡ get_or row i v → v ≡ product_of k g q → IsOver k q → IsPoly q → new ≡ old ++ q ∷ []
+  pub row_quotient_more : (row old new : List (List ℕ)) (i : ℕ) (v q : List ℕ) → IsRowQuotient k g (take i row) old
+      → i < length row → v ≡ get_or row i v → v ≡ product_of k g q → IsOver k q → IsPoly q → new ≡ old ++ q ∷ []
       → IsRowQuotient k g (take (i + 1) row) new
-  row_quotient_more row old new i v q so_far less v_is product over poly new_is = subst (IsRowQuotient k g (take (i + 1) row)) (sym new_is) (record {
-    over = all_push (IsOver k) old q so_far.over over;
-    poly = all_push IsPoly old q so_far.poly poly;
-    is =
-        map_push (product_of k g) old q
-        ∙ ap₂ (λ xs x. xs ++ x ∷ []) so_far.is (sym product ∙ v_is)
-        ∙ sym (take_more row i v less);
-  })
+  row_quotient_more row old new i v q so_far less v_is product over poly new_is = subst
+      (IsRowQuotient k g (take (i + 1) row)) (sym new_is) (record {
+        over = all_push (IsOver k) old q so_far.over over;
+        poly = all_push IsPoly old q so_far.poly poly;
+        is =
+            map_push (product_of k g) old q
+            ∙ ap₂ (λ xs x. xs ++ x ∷ []) so_far.is (sym product ∙ v_is)
+            ∙ sym (take_more row i v less);
+      })
 
-  pub row_quotient_all : (row qs : List (List ℕ)) (i : ℕ) → IsRowQuotient k g (take i row) qs → take i row ≡ row → IsRowQuotient k g row qs
+  pub row_quotient_all : (row qs : List (List ℕ)) (i : ℕ) → IsRowQuotient k g (take i row) qs → take i row ≡ row
+      → IsRowQuotient k g row qs
   row_quotient_all row qs i h all = subst (λ r. IsRowQuotient k g r qs) all h
 
   -- the row that a quotient of a row of the width is
   quotient_row : (n : ℕ) (row q : List (List ℕ)) → IsRow k n row → IsRowQuotient k g row q → IsRow k n q
-  quotient_row n row q row_in h = record { size = sym (length-map q (product_of k g)) ∙ ap length h.is ∙ row_in.size; over = h.over }
+  quotient_row n row q row_in h = record
+      { size = sym (length-map q (product_of k g)) ∙ ap length h.is ∙ row_in.size; over = h.over }
 
-  pub quotient_rows_more : (n : ℕ) (rows old new : List (Vec (List ℕ))) (i : ℕ) (row q : Vec (List ℕ)) → All (IsRow k n) (rows_of rows) → IsQuotientOfRows k g n (take i (rows_of rows)) (rows_of old) → i < length rows → row ≡ get_or rows i row
-      → IsRowQuotient k g row.items q.items → new ≡ old ++ q ∷ [] → IsQuotientOfRows k g n (take (i + 1) (rows_of rows)) (rows_of new)
+  pub quotient_rows_more : (n : ℕ) (rows old new : List (Vec (List ℕ))) (i : ℕ) (row q : Vec (List ℕ))
+      → All (IsRow k n) (rows_of rows) → IsQuotientOfRows k g n (take i (rows_of rows)) (rows_of old) → i < length rows
+      → row ≡ get_or rows i row
+      → IsRowQuotient k g row.items q.items → new ≡ old ++ q ∷ []
+      → IsQuotientOfRows k g n (take (i + 1) (rows_of rows)) (rows_of new)
   quotient_rows_more n rows old new i row q rows_in so_far less row_is h new_is =
       let more : i < length (rows_of rows) = omega (arith, less, length-map rows (λ (u : Vec (List ℕ)). u.items)) in
       let read = read_row rows i row less row_is in

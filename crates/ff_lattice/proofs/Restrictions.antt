@@ -19,7 +19,6 @@ use Rattle.ff_poly.specs.Polynomials.{Polynomial, polynomials, codes_of, IsOver_
 use Rattle.ff_poly.specs.Popov.{row_at, entry_at, IsRow, InSpan, combination, HasFullRank}
 use Rattle.popov_theory.specs.Module.{PolynomialModule}
 use Rattle.popov_theory.specs.Span as theory
-use Rattle.popov_theory.specs.Span.{combine}
 use Rattle.popov_theory.proofs.Span.{span_row}
 use Rattle.ff_popov.specs.Reading.{read_row, row_space, read_rows}
 use Rattle.ff_popov.proofs.ReadRows.{read_row_at}
@@ -67,7 +66,8 @@ module _ (k : CodeField) (p : PresValue) where
     abbrev f : ElemValue → Functions k p
     f z = function_of k p z
 
-    move : (w s z : Functions k p) → (functions k p).◌⊗◌ w ((functions k p).◌⊗◌ s z) ≡ (functions k p).◌⊗◌ s ((functions k p).◌⊗◌ w z)
+    move : (w s z : Functions k p) → (functions k p).◌⊗◌ w ((functions k p).◌⊗◌ s z)
+        ≡ (functions k p).◌⊗◌ s ((functions k p).◌⊗◌ w z)
     move w s z = ring (functions k p) (w ∷ s ∷ z ∷ []) λ q x. simp (reads, q, x 0, x 1, x 2) (q.equal _ _ refl)
 
     pub both_module : IsModule F.ops T B
@@ -75,7 +75,8 @@ module _ (k : CodeField) (p : PresValue) where
       zero_in = (span_zero F T 𝓢 (map f ls), subst (InSpanOf k p es) (sym (mul_zero F w)) (span_zero F T 𝓢 (map f es)));
       sum_in = λ x y x_in y_in. (
         span_sum F T 𝓢 (map f ls) x y x_in.0 y_in.0,
-        subst (InSpanOf k p es) (sym (F.mul_add w x y)) (span_sum F T 𝓢 (map f es) (F.◌⊗◌ w x) (F.◌⊗◌ w y) x_in.1 y_in.1),
+        subst (InSpanOf k p es) (sym (F.mul_add w x y))
+            (span_sum F T 𝓢 (map f es) (F.◌⊗◌ w x) (F.◌⊗◌ w y) x_in.1 y_in.1),
       );
       scale_in = λ s x s_in x_in. (
         span_scale F T 𝓢 (map f ls) s x s_in x_in.0,
@@ -94,7 +95,8 @@ module _ (k : CodeField) (p : PresValue) where
           let scalar : T r = record { polynomial = value k b.factor; value = refl } in
           let product : F.◌⊗◌ r (F.◌⊗◌ q z) ≡ F.◌⊗◌ (of_poly c (value k (product_of k.ops b.factor a.factor))) z
           = sym (F.mul_assoc r q z)
-          ∙ ap (λ x. F.◌⊗◌ x z) (of_poly_times c (value k b.factor) (value k a.factor) ∙ ap (of_poly c) (sym (value_product k b.factor a.factor b.factor_in a.factor_in))) in
+          ∙ ap (λ x. F.◌⊗◌ x z) (of_poly_times c (value k b.factor) (value k a.factor)
+          ∙ ap (of_poly c) (sym (value_product k b.factor a.factor b.factor_in a.factor_in))) in
           record {
             factor = product_of k.ops b.factor a.factor;
             factor_in = IsOver_product_of k b.factor_in a.factor_in;
@@ -112,11 +114,19 @@ module _ (k : CodeField) (p : PresValue) where
         positive [] some = absurd (some refl)
         positive (x ∷ a) some = omega arith
 
-        some : (a b : List ℕ) → IsOver k.ops a → IsOver k.ops b → IsPoly a → IsPoly b → ¬ (a ≡ []) → ¬ (b ≡ []) → ¬ (product_of k.ops a b ≡ [])
+        some : (a b : List ℕ) → IsOver k.ops a → IsOver k.ops b → IsPoly a → IsPoly b → ¬ (a ≡ []) → ¬ (b ≡ [])
+            → ¬ (product_of k.ops a b ≡ [])
         some a b a_in b_in a_poly b_poly a_some b_some none =
-            absurd (omega (arith, product_length k a b a_in a_poly b_in b_poly (positive a a_some) (positive b b_some), ap length none, positive a a_some, positive b b_some))
+            absurd (omega (
+              arith,
+              product_length k a b a_in a_poly b_in b_poly (positive a a_some) (positive b b_some),
+              ap length none,
+              positive a a_some,
+              positive b b_some,
+            ))
 
-  module _ (l a : LatticeValue) (w : ElemValue) (basis : List (List (List ℕ))) (positive : 0 < p.n) (l_form : IsLattice k.ops p.n l) (a_form : IsLattice k.ops p.n a) (kept : IsKept k p l w a basis) where
+  module _ (l a : LatticeValue) (w : ElemValue) (basis : List (List (List ℕ))) (positive : 0 < p.n)
+      (l_form : IsLattice k.ops p.n l) (a_form : IsLattice k.ops p.n a) (kept : IsKept k p l w a basis) where
     abbrev D : Polynomial k
     D = value k l.den
 
@@ -161,29 +171,37 @@ module _ (k : CodeField) (p : PresValue) where
           combined_in (row_at basis i) row,
           (kept.members (row_at basis i) row poly).0
               (from_space k p.n basis kept.rows_in (row_at basis i) row poly
-              (subst (theory.InSpan M (read_rows k p.n basis)) (read_row_at k p.n basis i) (span_row M (read_rows k p.n basis) i))),
+              (subst (theory.InSpan M (read_rows k p.n basis)) (read_row_at k p.n basis i)
+              (span_row M (read_rows k p.n basis) i))),
         )
 
-    all_functions : (N : Functions k p → Type 0) (zs : List (List (List ℕ))) → ((i : ℕ) → i < length zs → N (fun (row_at zs i))) → All N (map (function_of k p) (elems_over (map (λ z. combination k.ops p.n z l.rows) zs) l.den))
+    all_functions : (N : Functions k p → Type 0) (zs : List (List (List ℕ)))
+        → ((i : ℕ) → i < length zs → N (fun (row_at zs i)))
+        → All N (map (function_of k p) (elems_over (map (λ z. combination k.ops p.n z l.rows) zs) l.den))
     all_functions N [] h = All-nil N
     all_functions N (z ∷ zs) h =
-        All-cons N (fun z) (map (function_of k p) (elems_over (map (λ z. combination k.ops p.n z l.rows) zs) l.den)) (h 0 (omega arith))
+        All-cons N (fun z) (map (function_of k p) (elems_over (map (λ z. combination k.ops p.n z l.rows) zs) l.den))
+        (h 0 (omega arith))
         (all_functions N zs (λ i less. h (suc i) (omega (arith, less))))
 
     kept_to : (z : Functions k p) → InSpanOf k p (elems_over made l.den) z → Both (Contains k p l) (Contains k p a) W z
     kept_to =
-        span_least F T 𝓢 (Both (Contains k p l) (Contains k p a) W) (both_module (elems_over l.rows l.den) (elems_over a.rows a.den) W)
+        span_least F T 𝓢 (Both (Contains k p l) (Contains k p a) W)
+        (both_module (elems_over l.rows l.den) (elems_over a.rows a.den) W)
         (map (function_of k p) (elems_over made l.den))
         (all_functions (Both (Contains k p l) (Contains k p a) W) basis each)
 
-    kept_from : (z : Functions k p) → Both (Contains k p l) (Contains k p a) W z → InSpanOf k p (elems_over made l.den) z
+    kept_from : (z : Functions k p) → Both (Contains k p l) (Contains k p a) W z
+        → InSpanOf k p (elems_over made l.den) z
     kept_from z (z_in, wz_in) =
         (in_span_of k p l.den den_some made z).1
         (record {
           numerator = read_row k n (combination k.ops p.n cs l.rows);
           in_rows =
-              subst (theory.InSpan M (read_rows k p.n made)) (apply_read k p.n l.rows l_form.popov.size positive l_form.rows_in cs cs_row)
-              (image_in k p.n l.rows l_form.popov.size positive l_form.rows_in basis kept.rows_in (read_row k n cs) (to_space k p.n basis kept.rows_in cs in_basis));
+              subst (theory.InSpan M (read_rows k p.n made))
+              (apply_read k p.n l.rows l_form.popov.size positive l_form.rows_in cs cs_row)
+              (image_in k p.n l.rows l_form.popov.size positive l_form.rows_in basis kept.rows_in (read_row k n cs)
+              (to_space k p.n basis kept.rows_in cs in_basis));
           is = z_is ∙ elem_over k p l.den den_some (combination k.ops p.n cs l.rows);
         })
       where
@@ -194,50 +212,65 @@ module _ (k : CodeField) (p : PresValue) where
         cs = listed p.n (λ i. codes_of k (m.in_rows.coefficients i))
 
         cs_row : IsRow k.ops p.n cs
-        cs_row = record { size = listed_length p.n (λ i. codes_of k (m.in_rows.coefficients i)); over = listed_all (IsOver k.ops) p.n (λ i. codes_of k (m.in_rows.coefficients i)) (λ i. IsOver_codes_of k (m.in_rows.coefficients i)) }
+        cs_row = record {
+          size = listed_length p.n (λ i. codes_of k (m.in_rows.coefficients i));
+          over = listed_all
+              (IsOver k.ops) p.n (λ i. codes_of k (m.in_rows.coefficients i))
+              (λ i. IsOver_codes_of k (m.in_rows.coefficients i));
+        }
 
         cs_poly : All IsPoly cs
-        cs_poly = listed_all IsPoly p.n (λ i. codes_of k (m.in_rows.coefficients i)) (λ i. IsPoly_codes_of k (m.in_rows.coefficients i))
+        cs_poly = listed_all IsPoly p.n (λ i. codes_of k (m.in_rows.coefficients i))
+            (λ i. IsPoly_codes_of k (m.in_rows.coefficients i))
 
         same : read_row k n (combination k.ops p.n cs l.rows) ≡ m.numerator
         same =
             combination_read k p.n cs l.rows (cs_row.size ∙ sym l_form.popov.size) cs_row.over l_form.rows_in
             ∙ combine_same k p.n M (read_rows k p.n l.rows) (λ i. value k (entry_at cs i)) m.in_rows.coefficients
             (λ i less.
-            ap (value k) (listed_at p.n (λ i. codes_of k (m.in_rows.coefficients i)) i [] (omega (arith, less, length-map l.rows (read_row k n), l_form.popov.size)))
+            ap (value k) (listed_at p.n (λ i. codes_of k (m.in_rows.coefficients i)) i []
+            (omega (arith, less, length-map l.rows (read_row k n), l_form.popov.size)))
             ∙ value_codes_of k (m.in_rows.coefficients i))
             ∙ sym m.in_rows.is
 
         z_is : z ≡ fun cs
-        z_is = m.is ∙ sym (elem_over k p l.den den_some (combination k.ops p.n cs l.rows) ∙ ap (λ v. over c v D den_some) same)
+        z_is = m.is ∙ sym (elem_over k p l.den den_some (combination k.ops p.n cs l.rows)
+            ∙ ap (λ v. over c v D den_some) same)
 
         in_basis : InSpan k.ops p.n basis cs
         in_basis = (kept.members cs cs_row cs_poly).1 (subst (λ y. Contains k p a (F.◌⊗◌ W y)) z_is wz_in)
 
-    pub kept_iff : (z : Functions k p) → InSpanOf k p (elems_over (map (λ z. combination k.ops p.n z l.rows) basis) l.den) z ↔ Both (Contains k p l) (Contains k p a) (function_of k p w) z
+    pub kept_iff : (z : Functions k p) → InSpanOf k p
+        (elems_over (map (λ z. combination k.ops p.n z l.rows) basis) l.den) z
+        ↔ Both (Contains k p l) (Contains k p a) (function_of k p w) z
     kept_iff z = (kept_to z, kept_from z)
 
     pub made_rows : All (IsRow k.ops p.n) (map (λ z. combination k.ops p.n z l.rows) basis)
     made_rows = go basis kept.rows_in
       where
-        go : (zs : List (List (List ℕ))) → All (IsRow k.ops p.n) zs → All (IsRow k.ops p.n) (map (λ z. combination k.ops p.n z l.rows) zs)
+        go : (zs : List (List (List ℕ))) → All (IsRow k.ops p.n) zs
+            → All (IsRow k.ops p.n) (map (λ z. combination k.ops p.n z l.rows) zs)
         go [] h = All-nil (IsRow k.ops p.n)
         go (z ∷ zs) h =
             All-cons (IsRow k.ops p.n) (combination k.ops p.n z l.rows) (map (λ z. combination k.ops p.n z l.rows) zs)
-            (combination_row k p.n z l.rows (All-head (IsRow k.ops p.n) z zs h).over l_form.rows_in) (go zs (All-tail (IsRow k.ops p.n) z zs h))
+            (combination_row k p.n z l.rows (All-head (IsRow k.ops p.n) z zs h).over l_form.rows_in)
+            (go zs (All-tail (IsRow k.ops p.n) z zs h))
 
     pub made_poly : All (All IsPoly) (map (λ z. combination k.ops p.n z l.rows) basis)
     made_poly = go basis kept.rows_in
       where
-        go : (zs : List (List (List ℕ))) → All (IsRow k.ops p.n) zs → All (All IsPoly) (map (λ z. combination k.ops p.n z l.rows) zs)
+        go : (zs : List (List (List ℕ))) → All (IsRow k.ops p.n) zs
+            → All (All IsPoly) (map (λ z. combination k.ops p.n z l.rows) zs)
         go [] h = All-nil (All IsPoly)
         go (z ∷ zs) h =
             let row = All-head (IsRow k.ops p.n) z zs h in
             All-cons (All IsPoly) (combination k.ops p.n z l.rows) (map (λ z. combination k.ops p.n z l.rows) zs)
-            (combination_poly k p.n z l.rows (row.size ∙ sym l_form.popov.size) row.over) (go zs (All-tail (IsRow k.ops p.n) z zs h))
+            (combination_poly k p.n z l.rows (row.size ∙ sym l_form.popov.size) row.over)
+            (go zs (All-tail (IsRow k.ops p.n) z zs h))
 
     pub made_rank : HasFullRank k.ops p.n (map (λ z. combination k.ops p.n z l.rows) basis)
     made_rank =
         rank_of_full k p l.den den_some made made_rows
         (full_within k p (Both (Contains k p l) (Contains k p a) W) (InSpanOf k p (elems_over made l.den)) kept_from
-        (both_full (elems_over l.rows l.den) (elems_over a.rows a.den) W (lattice_full k p l positive l_form) (lattice_full k p a positive a_form)))
+        (both_full (elems_over l.rows l.den) (elems_over a.rows a.den) W (lattice_full k p l positive l_form)
+        (lattice_full k p a positive a_form)))

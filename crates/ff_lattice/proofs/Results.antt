@@ -6,8 +6,10 @@ use Rattle.function_field.specs.Values.{PresValue, Functions}
 use Rattle.ff_lattice.specs.Lattices.{LatticeValue, Contains}
 
 -- the members of the answer are those of one set, so those of another that is the same
-pub members_through : {E : Type 0} (k : CodeField) (p : PresValue) (r : Result LatticeValue E) {A B : Functions k p → Type 0} → ((z : Functions k p) → A z ↔ B z)
-    → IfOk r (λ l. (z : Functions k p) → Contains k p l z ↔ A z) → IfOk r (λ l. (z : Functions k p) → Contains k p l z ↔ B z)
+pub members_through : {E : Type 0} (k : CodeField) (p : PresValue) (r : Result LatticeValue E)
+    {A B : Functions k p → Type 0} → ((z : Functions k p) → A z ↔ B z)
+    → IfOk r (λ l. (z : Functions k p) → Contains k p l z ↔ A z)
+    → IfOk r (λ l. (z : Functions k p) → Contains k p l z ↔ B z)
 members_through k p (Ok l) same h = λ z. (λ x. (same z).0 ((h z).0 x), λ y. (h z).1 ((same z).1 y))
 members_through k p (Err e) same h = h
 

@@ -14,7 +14,8 @@ use Rattle.function_field.specs.Values.{ElemValue, IsElem}
 use Rattle.ff_lattice.specs.Lattices.{LatticeValue, IsLattice, elems_over, row_elems}
 use Rattle.ff_lattice.proofs.Normal.{popov_poly}
 
-pub elem_at : (rows : List (List (List ℕ))) (den : List ℕ) (i : ℕ) → i < length rows → slice_get (elems_over rows den) i ≡ Some (record { num = row_at rows i; den = den })
+pub elem_at : (rows : List (List (List ℕ))) (den : List ℕ) (i : ℕ) → i < length rows
+    → slice_get (elems_over rows den) i ≡ Some (record { num = row_at rows i; den = den })
 elem_at [] den i less = absurd (omega (arith, less))
 elem_at (row ∷ rows) den zero less = refl
 elem_at (row ∷ rows) den (suc i) less = elem_at rows den i (omega (arith, less))
@@ -27,16 +28,20 @@ module _ (k : CodeField) where
   inverse_one =
       let one_some : 1 ≢ 0 = λ e. absurd (omega (arith, e)) in
       let inv_in = k.laws.inv_below 1 k.laws.one_below one_some in
-      sym (k.laws.one_mul (k.inv 1) inv_in) ∙ k.laws.mul_comm 1 (k.inv 1) k.laws.one_below inv_in ∙ k.laws.inv_mul 1 k.laws.one_below one_some
+      sym (k.laws.one_mul (k.inv 1) inv_in) ∙ k.laws.mul_comm 1 (k.inv 1) k.laws.one_below inv_in
+      ∙ k.laws.inv_mul 1 k.laws.one_below one_some
 
   times_one : (v : List ℕ) → IsOver k.ops v → IsPoly v → multiple_of k.ops v 1 ≡ v
   times_one v v_in v_poly =
-      same_from_value k (multiple_of k.ops v 1) v (IsOver_multiple_of k v_in k.laws.one_below) v_in (IsPoly_multiple_of k.ops v 1) v_poly (value_multiple_one k v v_in)
+      same_from_value k (multiple_of k.ops v 1) v (IsOver_multiple_of k v_in k.laws.one_below) v_in
+      (IsPoly_multiple_of k.ops v 1) v_poly (value_multiple_one k v v_in)
 
-  all_times_one : (row : List (List ℕ)) → All (IsOver k.ops) row → All IsPoly row → map (λ v. multiple_of k.ops v 1) row ≡ row
+  all_times_one : (row : List (List ℕ)) → All (IsOver k.ops) row → All IsPoly row
+      → map (λ v. multiple_of k.ops v 1) row ≡ row
   all_times_one [] over poly = refl
   all_times_one (v ∷ row) over poly =
-      ap₂ ◌∷◌ (times_one v (All-head (IsOver k.ops) v row over) (All-head IsPoly v row poly)) (all_times_one row (All-tail (IsOver k.ops) v row over) (All-tail IsPoly v row poly))
+      ap₂ ◌∷◌ (times_one v (All-head (IsOver k.ops) v row over) (All-head IsPoly v row poly))
+      (all_times_one row (All-tail (IsOver k.ops) v row over) (All-tail IsPoly v row poly))
 
   top_inverse : (den : List ℕ) → IsMonic den → k.inv (top_of den) ≡ 1
   top_inverse den monic =
@@ -45,8 +50,10 @@ module _ (k : CodeField) where
       ap k.inv (ap (λ n. get_or den n 0) position ∙ t.2) ∙ inverse_one
 
   -- an element that is made from a row and a monic denominator has these parts
-  pub made_elem : (z : ElemValue) (num : List (List ℕ)) (den : List ℕ) → All (IsOver k.ops) num → All IsPoly num → IsOver k.ops den → IsPoly den → IsMonic den
-      → z.num ≡ map (λ v. multiple_of k.ops v (k.inv (top_of den))) num → z.den ≡ multiple_of k.ops den (k.inv (top_of den)) → z ≡ record { num = num; den = den }
+  pub made_elem : (z : ElemValue) (num : List (List ℕ)) (den : List ℕ) → All (IsOver k.ops) num → All IsPoly num
+      → IsOver k.ops den → IsPoly den → IsMonic den
+      → z.num ≡ map (λ v. multiple_of k.ops v (k.inv (top_of den))) num
+      → z.den ≡ multiple_of k.ops den (k.inv (top_of den)) → z ≡ record { num = num; den = den }
   made_elem z num den num_in num_poly den_in den_poly monic num_is den_is =
       let one = top_inverse den monic in
       ap₂ (λ v d. record { num = v; den = d })

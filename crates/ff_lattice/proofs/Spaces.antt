@@ -33,13 +33,16 @@ module _ {A V : Type 0} {k : TestedRing A} (M : PolynomialModule k V) where
   combine_none : (rs : List V) (c : ℕ → Pol k) → ((i : ℕ) → c i ≡ (pol_ring k).𝟘) → combine M c rs ≡ M.𝟎
   combine_none [] c h = refl
   combine_none (r ∷ rs) c h =
-      ap₂ M.◌⊞◌ (ap (λ a. M.◌·◌ a r) (h zero) ∙ zero_scale M r) (combine_none rs (tail_of c) (λ i. h (suc i))) ∙ v_add_zero M M.𝟎
+      ap₂ M.◌⊞◌ (ap (λ a. M.◌·◌ a r) (h zero) ∙ zero_scale M r) (combine_none rs (tail_of c) (λ i. h (suc i)))
+      ∙ v_add_zero M M.𝟎
 
   -- the combination with the coefficient 1 at one row and 0 at the others
-  pub combine_one : (rs : List V) (i : ℕ) (c : ℕ → Pol k) → c i ≡ (pol_ring k).𝟙 → ((j : ℕ) → ¬ (j ≡ i) → c j ≡ (pol_ring k).𝟘) → combine M c rs ≡ theory.row_at M rs i
+  pub combine_one : (rs : List V) (i : ℕ) (c : ℕ → Pol k) → c i ≡ (pol_ring k).𝟙
+      → ((j : ℕ) → ¬ (j ≡ i) → c j ≡ (pol_ring k).𝟘) → combine M c rs ≡ theory.row_at M rs i
   combine_one [] i c one others = refl
   combine_one (r ∷ rs) zero c one others =
-      ap₂ M.◌⊞◌ (ap (λ a. M.◌·◌ a r) one ∙ scale_one M r) (combine_none rs (tail_of c) (λ j. others (suc j) (λ e. absurd (omega (arith, e)))))
+      ap₂ M.◌⊞◌ (ap (λ a. M.◌·◌ a r) one ∙ scale_one M r)
+      (combine_none rs (tail_of c) (λ j. others (suc j) (λ e. absurd (omega (arith, e)))))
       ∙ v_add_zero M r
   combine_one (r ∷ rs) (suc i) c one others =
       ap₂ M.◌⊞◌ (ap (λ a. M.◌·◌ a r) (others zero (λ e. absurd (omega (arith, e)))) ∙ zero_scale M r)
@@ -62,7 +65,8 @@ module _ (k : CodeField) where
 
   value_step : (w : List ℕ) → value k (0 ∷ w) ≡ P.◌⊗◌ (x_poly k) (value k w)
   value_step w =
-      value_cons k 0 w ∙ ap (λ a. P.◌⊕◌ a (P.◌⊗◌ (x_poly k) (value k w))) zero_constant ∙ zero_add P.ring (P.◌⊗◌ (x_poly k) (value k w))
+      value_cons k 0 w ∙ ap (λ a. P.◌⊕◌ a (P.◌⊗◌ (x_poly k) (value k w))) zero_constant
+      ∙ zero_add P.ring (P.◌⊗◌ (x_poly k) (value k w))
     where
       zero_constant : constant_poly k 0 ≡ P.𝟘
       zero_constant = sym (value_poly_of (0 ∷ []) (IsOver_zeros k 1)) ∙ value_nil k
@@ -90,12 +94,14 @@ module _ (k : CodeField) where
   pub codes_row_over : (n : ℕ) (v : Row (Polynomial k) n) → All (IsOver k.ops) (codes_row n v)
   unfolding codes_row
   codes_row_over zero v = All-nil (IsOver k.ops)
-  codes_row_over (suc n) (p, v) = All-cons (IsOver k.ops) (codes_of k p) (codes_row n v) (IsOver_codes_of k p) (codes_row_over n v)
+  codes_row_over (suc n) (p, v) = All-cons (IsOver k.ops) (codes_of k p) (codes_row n v) (IsOver_codes_of k p)
+      (codes_row_over n v)
 
   pub codes_row_poly : (n : ℕ) (v : Row (Polynomial k) n) → All IsPoly (codes_row n v)
   unfolding codes_row
   codes_row_poly zero v = All-nil IsPoly
-  codes_row_poly (suc n) (p, v) = All-cons IsPoly (codes_of k p) (codes_row n v) (IsPoly_codes_of k p) (codes_row_poly n v)
+  codes_row_poly (suc n) (p, v) = All-cons IsPoly (codes_of k p) (codes_row n v) (IsPoly_codes_of k p)
+      (codes_row_poly n v)
 
   pub read_codes_row : (n : ℕ) (v : Row (Polynomial k) n) → read_row k n (codes_row n v) ≡ v
   unfolding codes_row
@@ -107,35 +113,45 @@ module _ (k : CodeField) where
     abbrev M : PolynomialModule (code_ring k) (Row (Polynomial k) (suc (w - 1)))
     M = row_space k w
 
-    pub row_in : (rows : List (List (List ℕ))) → All (IsRow k.ops w) rows → (i : ℕ) → i < length rows → IsRow k.ops w (row_at rows i)
+    pub row_in : (rows : List (List (List ℕ))) → All (IsRow k.ops w) rows → (i : ℕ) → i < length rows
+        → IsRow k.ops w (row_at rows i)
     row_in rows all i less = all i [] less
 
     read_length : (rows : List (List (List ℕ))) → length (read_rows k w rows) ≡ length rows
     read_length rows = length-map rows (read_row k (suc (w - 1)))
 
-    pub within_space : (rows rows' : List (List (List ℕ))) → All (IsRow k.ops w) rows → All (IsRow k.ops w) rows' → ((i : ℕ) → i < length rows → All IsPoly (row_at rows i))
-        → ((v : List (List ℕ)) → InSpan k.ops w rows v → InSpan k.ops w rows' v) → theory.IsWithin M (read_rows k w rows) (read_rows k w rows')
-    within_space rows rows' all all' polys h = within_rows M (read_rows k w rows) (read_rows k w rows') (λ i. go i (cases_lt i (length rows)))
+    pub within_space : (rows rows' : List (List (List ℕ))) → All (IsRow k.ops w) rows → All (IsRow k.ops w) rows'
+        → ((i : ℕ) → i < length rows → All IsPoly (row_at rows i))
+        → ((v : List (List ℕ)) → InSpan k.ops w rows v → InSpan k.ops w rows' v)
+        → theory.IsWithin M (read_rows k w rows) (read_rows k w rows')
+    within_space rows rows' all all' polys h = within_rows M (read_rows k w rows) (read_rows k w rows')
+        (λ i. go i (cases_lt i (length rows)))
       where
-        go : (i : ℕ) → (i < length rows) ⊎ (length rows ≤ i) → theory.InSpan M (read_rows k w rows') (theory.row_at M (read_rows k w rows) i)
+        go : (i : ℕ) → (i < length rows) ⊎ (length rows ≤ i)
+            → theory.InSpan M (read_rows k w rows') (theory.row_at M (read_rows k w rows) i)
         go i (inr past) =
-            subst (theory.InSpan M (read_rows k w rows')) (sym (row_past M (read_rows k w rows) i (omega (arith, past, read_length rows))))
+            subst (theory.InSpan M (read_rows k w rows'))
+            (sym (row_past M (read_rows k w rows) i (omega (arith, past, read_length rows))))
             (span_zero M (read_rows k w rows'))
         go i (inl less) =
             subst (theory.InSpan M (read_rows k w rows')) (sym (read_row_at k w rows i))
             (to_space k w rows' all' (row_at rows i)
             (h (row_at rows i)
             (from_space k w rows all (row_at rows i) (row_in rows all i less) (polys i less)
-            (subst (theory.InSpan M (read_rows k w rows)) (read_row_at k w rows i) (span_row M (read_rows k w rows) i)))))
+            (subst (theory.InSpan M (read_rows k w rows)) (read_row_at k w rows i)
+            (span_row M (read_rows k w rows) i)))))
 
     pub same_space : (rows rows' : List (List (List ℕ))) → All (IsRow k.ops w) rows → All (IsRow k.ops w) rows'
-        → ((i : ℕ) → i < length rows → All IsPoly (row_at rows i)) → ((i : ℕ) → i < length rows' → All IsPoly (row_at rows' i))
+        → ((i : ℕ) → i < length rows → All IsPoly (row_at rows i))
+        → ((i : ℕ) → i < length rows' → All IsPoly (row_at rows' i))
         → HaveSameSpan k.ops w rows rows' → theory.HaveSameSpan M (read_rows k w rows) (read_rows k w rows')
     same_space rows rows' all all' polys polys' h = record {
       left = within_space rows rows' all all' polys h.left;
       right = within_space rows' rows all' all polys' h.right;
     }
 
-    pub combination_poly : (cs : List (List ℕ)) (rows : List (List (List ℕ))) → length cs ≡ length rows → All (IsOver k.ops) cs → All IsPoly (combination k.ops w cs rows)
+    pub combination_poly : (cs : List (List ℕ)) (rows : List (List (List ℕ))) → length cs ≡ length rows
+        → All (IsOver k.ops) cs → All IsPoly (combination k.ops w cs rows)
     combination_poly cs rows size cs_in =
-        member_poly k w rows (combination k.ops w cs rows) (record { coefficients = cs; is = record { size = size; over = cs_in; is = refl } })
+        member_poly k w rows (combination k.ops w cs rows)
+        (record { coefficients = cs; is = record { size = size; over = cs_in; is = refl } })

@@ -26,7 +26,8 @@ module _ {P : Type 0} where
   row_from zero f = tt
   row_from (suc n) f = (f 0, row_from n (λ i. f (suc i)))
 
-pub entry_row_from : {A : Type 0} (k : TestedRing A) (n i : ℕ) (f : ℕ → Pol k) → i < n → entry (pol_ring k).ops n i (row_from n f) ≡ f i
+pub entry_row_from : {A : Type 0} (k : TestedRing A) (n i : ℕ) (f : ℕ → Pol k) → i < n
+    → entry (pol_ring k).ops n i (row_from n f) ≡ f i
 unfolding entry row_from
 entry_row_from k zero i f less = absurd (omega arith)
 entry_row_from k (suc n) zero f less = refl
@@ -47,7 +48,11 @@ module _ {A : Type 0} (k : TestedRing A) (r c w : ℕ) (width : suc w ≡ suc r 
 
   -- the two parts
   unfoldable pub cut : Row (Pol k) (suc w) → Row (Pol k) (suc r) × Row (Pol k) (suc c)
-  cut v = (row_from (suc r) (λ j. entry (pol_ring k).ops (suc w) j v), row_from (suc c) (λ j. entry (pol_ring k).ops (suc w) (suc r + j) v))
+  cut v = (
+    row_from (suc r) (λ j. entry (pol_ring k).ops (suc w) j v),
+    row_from (suc c)
+        (λ j. entry (pol_ring k).ops (suc w) (suc r + j) v),
+  )
 
   pub cut_left : (v : Whole) (j : ℕ) → j < suc r → at (suc r) j (cut v).0 ≡ at (suc w) j v
   unfolding cut
@@ -61,12 +66,14 @@ module _ {A : Type 0} (k : TestedRing A) (r c w : ℕ) (width : suc w ≡ suc r 
   joined_at q j (inl _) = at (suc r) j q.0
   joined_at q j (inr _) = at (suc c) (j - suc r) q.1
 
-  joined_left : (q : Left × Right) (j : ℕ) → j < suc r → (x : (j < suc r) ⊎ (suc r ≤ j)) → joined_at q j x ≡ at (suc r) j q.0
+  joined_left : (q : Left × Right) (j : ℕ) → j < suc r → (x : (j < suc r) ⊎ (suc r ≤ j))
+      → joined_at q j x ≡ at (suc r) j q.0
   unfolding joined_at
   joined_left q j less (inl _) = refl
   joined_left q j less (inr more) = absurd (omega (arith, less, more))
 
-  joined_right : (q : Left × Right) (j : ℕ) → (x : (suc r + j < suc r) ⊎ (suc r ≤ suc r + j)) → joined_at q (suc r + j) x ≡ at (suc c) j q.1
+  joined_right : (q : Left × Right) (j : ℕ) → (x : (suc r + j < suc r) ⊎ (suc r ≤ suc r + j))
+      → joined_at q (suc r + j) x ≡ at (suc c) j q.1
   unfolding joined_at
   joined_right q j (inl less) = absurd (omega (arith, less))
   joined_right q j (inr _) = let e : suc r + j - suc r ≡ j = omega arith in ap (λ i. at (suc c) i q.1) e
@@ -81,9 +88,11 @@ module _ {A : Type 0} (k : TestedRing A) (r c w : ℕ) (width : suc w ≡ suc r 
       let q : Left × Right = (u, y) in
       pair_path
       (same_entries k (suc r) (cut (join q)).0 u (λ j less.
-      cut_left (join q) j less ∙ entry_row_from k (suc w) j (λ i. joined_at q i (cases_lt i (suc r))) (omega (arith, less, width)) ∙ joined_left q j less (cases_lt j (suc r))))
+      cut_left (join q) j less ∙ entry_row_from k (suc w) j (λ i. joined_at q i (cases_lt i (suc r)))
+      (omega (arith, less, width)) ∙ joined_left q j less (cases_lt j (suc r))))
       (same_entries k (suc c) (cut (join q)).1 y (λ j less.
-      cut_right (join q) j less ∙ entry_row_from k (suc w) (suc r + j) (λ i. joined_at q i (cases_lt i (suc r))) (omega (arith, less, width)) ∙ joined_right q j (cases_lt (suc r + j) (suc r))))
+      cut_right (join q) j less ∙ entry_row_from k (suc w) (suc r + j) (λ i. joined_at q i (cases_lt i (suc r)))
+      (omega (arith, less, width)) ∙ joined_right q j (cases_lt (suc r + j) (suc r))))
 
   abbrev M : PolynomialModule k (Row (Pol k) (suc r))
   M = row_module k r
@@ -101,7 +110,8 @@ module _ {A : Type 0} (k : TestedRing A) (r c w : ℕ) (width : suc w ≡ suc r 
   cut_width = omega (arith, product_width M N, row_width k r, row_width k c, row_width k w, width)
 
   -- the coefficients stay
-  coef_at : (v : Whole) (s j : ℕ) → j < W.width → (j < suc r) ⊎ (suc r ≤ j) → W.coef (cut v) (s * W.width + j) ≡ whole.coef v (s * W.width + j)
+  coef_at : (v : Whole) (s j : ℕ) → j < W.width → (j < suc r) ⊎ (suc r ≤ j)
+      → W.coef (cut v) (s * W.width + j) ≡ whole.coef v (s * W.width + j)
   coef_at v s j less (inl left) =
       product_left M N (cut v) s j (omega (arith, left, row_width k r))
       ∙ row_entry k r (cut v).0 s j left
@@ -127,16 +137,19 @@ module _ {A : Type 0} (k : TestedRing A) (r c w : ℕ) (width : suc w ≡ suc r 
 
 module _ (k : CodeField) (r c w : ℕ) (width : suc w ≡ suc r + suc c) where
   -- the parts of a row of codes
-  pub cut_read : (v : List (List ℕ)) → cut (code_ring k) r c w width (read_row k (suc w) v) ≡ (read_row k (suc r) (take (suc r) v), read_row k (suc c) (drop (suc r) v))
+  pub cut_read : (v : List (List ℕ)) → cut (code_ring k) r c w width (read_row k (suc w) v)
+      ≡ (read_row k (suc r) (take (suc r) v), read_row k (suc c) (drop (suc r) v))
   cut_read v =
       let R = read_row k (suc w) v in
       pair_path
-      (same_entries (code_ring k) (suc r) (cut (code_ring k) r c w width R).0 (read_row k (suc r) (take (suc r) v)) (λ j less.
+      (same_entries (code_ring k) (suc r) (cut (code_ring k) r c w width R).0 (read_row k (suc r) (take (suc r) v))
+      (λ j less.
       cut_left (code_ring k) r c w width R j less
       ∙ entry_read k (suc w) j v (omega (arith, less, width))
       ∙ ap (value k) (sym (get_or-take (suc r) v j [] less))
       ∙ sym (entry_read k (suc r) j (take (suc r) v) less)))
-      (same_entries (code_ring k) (suc c) (cut (code_ring k) r c w width R).1 (read_row k (suc c) (drop (suc r) v)) (λ j less.
+      (same_entries (code_ring k) (suc c) (cut (code_ring k) r c w width R).1 (read_row k (suc c) (drop (suc r) v))
+      (λ j less.
       cut_right (code_ring k) r c w width R j less
       ∙ entry_read k (suc w) (suc r + j) v (omega (arith, less, width))
       ∙ ap (value k) (sym (get_or-drop (suc r) v j []))

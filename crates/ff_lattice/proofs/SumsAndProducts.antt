@@ -28,18 +28,25 @@ map_join f (x ∷ xs) ys = ap (λ zs. f x ∷ zs) (map_join f xs ys)
 
 module _ {A : Type 0} (R : CommRing A) (S : A → Type 0) (𝓢 : IsSubring R.ops S) where
   -- a member of the span of two lists is a sum
-  split_span : (bs cs : List A) (z : A) → Span R.ops S (bs ++ cs) z → (x : A) × Span R.ops S bs x × ((y : A) × Span R.ops S cs y × (z ≡ R.◌⊕◌ x y))
+  split_span : (bs cs : List A) (z : A) → Span R.ops S (bs ++ cs) z
+      → (x : A) × Span R.ops S bs x × ((y : A) × Span R.ops S cs y × (z ≡ R.◌⊕◌ x y))
   split_span [] cs z h = (R.𝟘, refl, (z, h, sym (R.add_comm R.𝟘 z ∙ R.add_zero z)))
   split_span (b ∷ bs) cs z h =
       let rest = split_span bs cs h.rest h.rest_in in (
         R.◌⊕◌ (R.◌⊗◌ h.scalar b) rest.0,
         record { scalar = h.scalar; scalar_in = h.scalar_in; rest = rest.0; rest_in = rest.1; is = refl },
-        (rest.2.0, rest.2.1, h.is ∙ ap (R.◌⊕◌ (R.◌⊗◌ h.scalar b)) rest.2.2 ∙ sym (R.add_assoc (R.◌⊗◌ h.scalar b) rest.0 rest.2.0)),
+        (
+          rest.2.0,
+          rest.2.1,
+          h.is ∙ ap (R.◌⊕◌ (R.◌⊗◌ h.scalar b)) rest.2.2
+              ∙ sym (R.add_assoc (R.◌⊗◌ h.scalar b) rest.0 rest.2.0),
+        ),
       )
 
   pub products_join : (xs ys cs : List A) → products R.ops (xs ++ ys) cs ≡ products R.ops xs cs ++ products R.ops ys cs
   products_join [] ys cs = refl
-  products_join (x ∷ xs) ys cs = ap (λ zs. map (R.◌⊗◌ x) cs ++ zs) (products_join xs ys cs) ∙ sym (append_assoc (map (R.◌⊗◌ x) cs) (products R.ops xs cs) (products R.ops ys cs))
+  products_join (x ∷ xs) ys cs = ap (λ zs. map (R.◌⊗◌ x) cs ++ zs) (products_join xs ys cs)
+      ∙ sym (append_assoc (map (R.◌⊗◌ x) cs) (products R.ops xs cs) (products R.ops ys cs))
 
 -- the rows of a lattice are elements
 pub rows_elems : (k : CodeField) (n : ℕ) (l : LatticeValue) → IsLattice k.ops n l → All (IsElem k.ops n) (row_elems l)
@@ -50,13 +57,16 @@ rows_elems k n l lattice = go l.rows lattice.rows_in
     go (row ∷ rows) over =
         let r = All-head (IsRow k.ops n) row rows over in
         All-cons (IsElem k.ops n) (record { num = row; den = l.den }) (elems_over rows l.den)
-        (record { one_each = r.size; num_over = r.over; den_over = lattice.den_in }) (go rows (All-tail (IsRow k.ops n) row rows over))
+        (record { one_each = r.size; num_over = r.over; den_over = lattice.den_in })
+        (go rows (All-tail (IsRow k.ops n) row rows over))
 
 -- one element more of a list
-pub elems_more : {X : Type 0} (old new start xs : List X) (i : ℕ) (z : X) → i < length xs → old ≡ start ++ take i xs → slice_get xs i ≡ Some z → new ≡ old ++ z ∷ [] → new ≡ start ++ take (i + 1) xs
+pub elems_more : {X : Type 0} (old new start xs : List X) (i : ℕ) (z : X) → i < length xs → old ≡ start ++ take i xs
+    → slice_get xs i ≡ Some z → new ≡ old ++ z ∷ [] → new ≡ start ++ take (i + 1) xs
 elems_more old new start xs i z less so_far z_is new_is =
     new_is ∙ ap (λ ys. ys ++ z ∷ []) so_far ∙ append_assoc start (take i xs) (z ∷ [])
-    ∙ ap (λ ys. start ++ ys) (ap (λ y. take i xs ++ y ∷ []) (sym (get_or_from_slice_get xs i z z z_is)) ∙ sym (take_more xs i z less))
+    ∙ ap (λ ys. start ++ ys) (ap (λ y. take i xs ++ y ∷ []) (sym (get_or_from_slice_get xs i z z z_is))
+    ∙ sym (take_more xs i z less))
 
 module _ (k : CodeField) (p : PresValue) where
   abbrev F : CommRing (Functions k p)
@@ -75,11 +85,19 @@ module _ (k : CodeField) (p : PresValue) where
   full_within A B h full = record {
     multiple = λ z.
         let m = full.multiple z in
-        record { factor = m.factor; factor_in = m.factor_in; factor_poly = m.factor_poly; some = m.some; is_in = h (F.◌⊗◌ (of_poly (equation_of k p) (value k m.factor)) z) m.is_in };
+        record {
+          factor = m.factor;
+          factor_in = m.factor_in;
+          factor_poly = m.factor_poly;
+          some = m.some;
+          is_in = h
+              (F.◌⊗◌ (of_poly (equation_of k p) (value k m.factor)) z) m.is_in;
+        };
   }
 
   -- the span of two lists of elements is the set of sums
-  pub sum_iff : (xs ys : List ElemValue) (z : Functions k p) → InSpanOf k p (xs ++ ys) z ↔ IsSumOf k p (InSpanOf k p xs) (InSpanOf k p ys) z
+  pub sum_iff : (xs ys : List ElemValue) (z : Functions k p)
+      → InSpanOf k p (xs ++ ys) z ↔ IsSumOf k p (InSpanOf k p xs) (InSpanOf k p ys) z
   sum_iff xs ys z =
       let S = λ (fs : List (Functions k p)). Span F.ops T fs z in (
         λ h.
@@ -96,7 +114,8 @@ module _ (k : CodeField) (p : PresValue) where
   pub sum_full : (xs ys : List ElemValue) → IsFull k p (InSpanOf k p xs) → IsFull k p (InSpanOf k p (xs ++ ys))
   sum_full xs ys =
       full_within (InSpanOf k p xs) (InSpanOf k p (xs ++ ys))
-      (λ z h. subst (λ fs. Span F.ops T fs z) (sym (map_join f xs ys)) (span_append_left F T 𝓢 (map f xs) (map f ys) z h))
+      (λ z h. subst (λ fs. Span F.ops T fs z) (sym (map_join f xs ys))
+      (span_append_left F T 𝓢 (map f xs) (map f ys) z h))
 
   -- products of two sets of full rank have full rank
   pub product_full : (A B : Functions k p → Type 0) → IsFull k p A → IsFull k p B → IsFull k p (Product F.ops A B)
@@ -114,54 +133,73 @@ module _ (k : CodeField) (p : PresValue) where
           is_in =
               subst (Product F.ops A B)
               (regroup q z r
-              ∙ ap (λ x. F.◌⊗◌ x z) (of_poly_times (equation_of k p) (value k a.factor) (value k b.factor) ∙ ap (of_poly (equation_of k p)) (sym (value_product k a.factor b.factor a.factor_in b.factor_in))))
+              ∙ ap (λ x. F.◌⊗◌ x z) (of_poly_times (equation_of k p) (value k a.factor) (value k b.factor)
+              ∙ ap (of_poly (equation_of k p)) (sym (value_product k a.factor b.factor a.factor_in b.factor_in))))
               (product_member F T 𝓢 A B (F.◌⊗◌ q z) (F.◌⊗◌ r F.𝟙) a.is_in b.is_in);
         };
   }
     where
-      regroup : (q z r : Functions k p) → (functions k p).◌⊗◌ ((functions k p).◌⊗◌ q z) ((functions k p).◌⊗◌ r (functions k p).𝟙) ≡ (functions k p).◌⊗◌ ((functions k p).◌⊗◌ q r) z
+      regroup : (q z r : Functions k p) → (functions k p).◌⊗◌ ((functions k p).◌⊗◌ q z)
+          ((functions k p).◌⊗◌ r (functions k p).𝟙) ≡ (functions k p).◌⊗◌ ((functions k p).◌⊗◌ q r) z
       regroup q z r = ring (functions k p) (q ∷ z ∷ r ∷ []) λ q' x. simp (reads, q', x 0, x 1, x 2) (q'.equal _ _ refl)
 
       positive : (a : List ℕ) → ¬ (a ≡ []) → 0 < length a
       positive [] some = absurd (some refl)
       positive (x ∷ a) some = omega arith
 
-      some : (a b : List ℕ) → IsOver k.ops a → IsOver k.ops b → IsPoly a → IsPoly b → ¬ (a ≡ []) → ¬ (b ≡ []) → ¬ (product_of k.ops a b ≡ [])
+      some : (a b : List ℕ) → IsOver k.ops a → IsOver k.ops b → IsPoly a → IsPoly b → ¬ (a ≡ []) → ¬ (b ≡ [])
+          → ¬ (product_of k.ops a b ≡ [])
       some a b a_in b_in a_poly b_poly a_some b_some none =
-          absurd (omega (arith, product_length k a b a_in a_poly b_in b_poly (positive a a_some) (positive b b_some), ap length none, positive a a_some, positive b b_some))
+          absurd (omega (
+            arith,
+            product_length k a b a_in a_poly b_in b_poly (positive a a_some) (positive b b_some),
+            ap
+                length none,
+            positive a a_some,
+            positive b b_some,
+          ))
 
   -- the products of the rows span the products of the lattices
-  pub product_iff : (gens xs ys : List ElemValue) → map f gens ≡ products F.ops (map f xs) (map f ys) → (z : Functions k p) → InSpanOf k p gens z ↔ Product F.ops (InSpanOf k p xs) (InSpanOf k p ys) z
+  pub product_iff : (gens xs ys : List ElemValue) → map f gens ≡ products F.ops (map f xs) (map f ys)
+      → (z : Functions k p) → InSpanOf k p gens z ↔ Product F.ops (InSpanOf k p xs) (InSpanOf k p ys) z
   product_iff gens xs ys is z =
       let both = product_of_spans F T 𝓢 (map f xs) (map f ys) z in (
         λ h. both.1 (subst (λ fs. Span F.ops T fs z) is h),
         λ h. subst (λ fs. Span F.ops T fs z) (sym is) (both.0 h),
       )
 
-  pub products_full : (gens xs ys : List ElemValue) → map f gens ≡ products F.ops (map f xs) (map f ys) → IsFull k p (InSpanOf k p xs) → IsFull k p (InSpanOf k p ys) → IsFull k p (InSpanOf k p gens)
+  pub products_full : (gens xs ys : List ElemValue) → map f gens ≡ products F.ops (map f xs) (map f ys)
+      → IsFull k p (InSpanOf k p xs) → IsFull k p (InSpanOf k p ys) → IsFull k p (InSpanOf k p gens)
   products_full gens xs ys is xs_full ys_full =
-      full_within (Product F.ops (InSpanOf k p xs) (InSpanOf k p ys)) (InSpanOf k p gens) (λ z h. (product_iff gens xs ys is z).1 h)
+      full_within (Product F.ops (InSpanOf k p xs) (InSpanOf k p ys)) (InSpanOf k p gens)
+      (λ z h. (product_iff gens xs ys is z).1 h)
       (product_full (InSpanOf k p xs) (InSpanOf k p ys) xs_full ys_full)
 
   -- one product more
-  pub product_more : (old new start : List ElemValue) (z : ElemValue) (ys : List ElemValue) (j : ℕ) (y x : ElemValue) → j < length ys → slice_get ys j ≡ Some y → f x ≡ F.◌⊗◌ (f z) (f y) → new ≡ old ++ x ∷ []
-      → map f old ≡ map f start ++ map (F.◌⊗◌ (f z)) (map f (take j ys)) → map f new ≡ map f start ++ map (F.◌⊗◌ (f z)) (map f (take (j + 1) ys))
+  pub product_more : (old new start : List ElemValue) (z : ElemValue) (ys : List ElemValue) (j : ℕ) (y x : ElemValue)
+      → j < length ys → slice_get ys j ≡ Some y → f x ≡ F.◌⊗◌ (f z) (f y) → new ≡ old ++ x ∷ []
+      → map f old ≡ map f start ++ map (F.◌⊗◌ (f z)) (map f (take j ys))
+      → map f new ≡ map f start ++ map (F.◌⊗◌ (f z)) (map f (take (j + 1) ys))
   product_more old new start z ys j y x less y_is x_is new_is so_far =
       ap (map f) new_is ∙ map_join f old (x ∷ [])
       ∙ ap₂ (λ us v. us ++ v ∷ []) so_far x_is
       ∙ append_assoc (map f start) (map (F.◌⊗◌ (f z)) (map f (take j ys))) (F.◌⊗◌ (f z) (f y) ∷ [])
       ∙ ap (λ us. map f start ++ us)
-      (sym (ap (λ us. map (F.◌⊗◌ (f z)) (map f us)) (take_more ys j y less ∙ ap (λ u. take j ys ++ u ∷ []) (get_or_from_slice_get ys j y y y_is))
+      (sym (ap (λ us. map (F.◌⊗◌ (f z)) (map f us))
+      (take_more ys j y less ∙ ap (λ u. take j ys ++ u ∷ []) (get_or_from_slice_get ys j y y y_is))
       ∙ ap (map (F.◌⊗◌ (f z))) (map_join f (take j ys) (y ∷ []))
       ∙ map_join (F.◌⊗◌ (f z)) (map f (take j ys)) (f y ∷ [])))
 
   -- the products with one row more
-  pub products_more : (old new xs ys : List ElemValue) (i : ℕ) (x : ElemValue) → i < length xs → slice_get xs i ≡ Some x → map f old ≡ products F.ops (map f (take i xs)) (map f ys)
-      → map f new ≡ map f old ++ map (F.◌⊗◌ (f x)) (map f ys) → map f new ≡ products F.ops (map f (take (i + 1) xs)) (map f ys)
+  pub products_more : (old new xs ys : List ElemValue) (i : ℕ) (x : ElemValue) → i < length xs → slice_get xs i ≡ Some x
+      → map f old ≡ products F.ops (map f (take i xs)) (map f ys)
+      → map f new ≡ map f old ++ map (F.◌⊗◌ (f x)) (map f ys)
+      → map f new ≡ products F.ops (map f (take (i + 1) xs)) (map f ys)
   products_more old new xs ys i x less x_is so_far new_is =
       new_is ∙ ap (λ us. us ++ map (F.◌⊗◌ (f x)) (map f ys)) so_far
       ∙ sym (ap (λ us. products F.ops us (map f ys))
-      (ap (map f) (take_more xs i x less ∙ ap (λ u. take i xs ++ u ∷ []) (get_or_from_slice_get xs i x x x_is)) ∙ map_join f (take i xs) (x ∷ []))
+      (ap (map f) (take_more xs i x less ∙ ap (λ u. take i xs ++ u ∷ []) (get_or_from_slice_get xs i x x x_is))
+      ∙ map_join f (take i xs) (x ∷ []))
       ∙ products_join F T 𝓢 (map f (take i xs)) (f x ∷ []) (map f ys)
       ∙ ap (λ us. products F.ops (map f (take i xs)) (map f ys) ++ us) (nil_end (map (F.◌⊗◌ (f x)) (map f ys))))
     where

@@ -11,7 +11,8 @@ use Rattle.popov_theory.specs.Popov.{IsPopov}
 use Rattle.popov_theory.proofs.Module.{same_columns}
 use Rattle.popov_theory.proofs.Measure.{measure_past, measure_top, measure_is, measure_bound}
 
-module _ {A V U : Type 0} {k : TestedRing A} (M : PolynomialModule k V) (W : PolynomialModule k U) (ι : V → U) (width : W.width ≡ M.width)
+module _ {A V U : Type 0} {k : TestedRing A} (M : PolynomialModule k V) (W : PolynomialModule k U) (ι : V → U)
+    (width : W.width ≡ M.width)
     (coef : (v : V) (e : ℕ) → W.coef (ι v) e ≡ M.coef v e) where
   pub moved_zero : ι M.𝟎 ≡ W.𝟎
   moved_zero = W.same (ι M.𝟎) W.𝟎 (λ e. coef M.𝟎 e ∙ M.coef_zero e ∙ sym (W.coef_zero e))
@@ -28,7 +29,8 @@ module _ {A V U : Type 0} {k : TestedRing A} (M : PolynomialModule k V) (W : Pol
       coef (M.◌·◌ c v) (s * W.width + j)
       ∙ ap (λ w. M.coef (M.◌·◌ c v) (s * w + j)) width
       ∙ M.coef_scale c v s j less'
-      ∙ ap (λ g. convolution k.ops (coeff_of k.ops c.0) g s) (fun_ext (λ t. ap (λ w. M.coef v (t * w + j)) (sym width) ∙ sym (coef v (t * W.width + j))))
+      ∙ ap (λ g. convolution k.ops (coeff_of k.ops c.0) g s)
+      (fun_ext (λ t. ap (λ w. M.coef v (t * w + j)) (sym width) ∙ sym (coef v (t * W.width + j))))
       ∙ sym (W.coef_scale c (ι v) s j less))
 
   pub moved_injective : (u v : V) → ι u ≡ ι v → u ≡ v
@@ -39,9 +41,11 @@ module _ {A V U : Type 0} {k : TestedRing A} (M : PolynomialModule k V) (W : Pol
     where
       go : (n : ℕ) → measure M v ≡ n → measure W (ι v) ≡ n
       go zero z =
-          let le : measure W (ι v) ≤ 0 = measure_bound W (ι v) 0 (λ e _. coef v e ∙ measure_past M v e (omega (arith, z))) in
+          let le : measure W (ι v) ≤ 0 = measure_bound W (ι v) 0
+          (λ e _. coef v e ∙ measure_past M v e (omega (arith, z))) in
           omega (arith, le)
-      go (suc e) z = measure_is W (ι v) e (λ h. measure_top M v e z (sym (coef v e) ∙ h)) (λ i past. coef v i ∙ measure_past M v i (omega (arith, z, past)))
+      go (suc e) z = measure_is W (ι v) e (λ h. measure_top M v e z (sym (coef v e) ∙ h))
+          (λ i past. coef v i ∙ measure_past M v i (omega (arith, z, past)))
 
   pub moved_pivot : (v : V) → pivot W (ι v) ≡ pivot M v
   moved_pivot v = ap₂ column width (moved_measure v)
@@ -60,14 +64,18 @@ module _ {A V U : Type 0} {k : TestedRing A} (M : PolynomialModule k V) (W : Pol
   pub moved_popov : (rs : List V) → IsPopov M rs → IsPopov W (moved rs)
   moved_popov rs p = record {
     size = length-map rs ι ∙ p.size ∙ sym width;
-    some = λ i less z. p.some i (inside i less) (sym (moved_measure (row_at M rs i)) ∙ ap (measure W) (sym (moved_at rs i)) ∙ z);
+    some = λ i less z. p.some i (inside i less)
+        (sym (moved_measure (row_at M rs i)) ∙ ap (measure W) (sym (moved_at rs i)) ∙ z);
     pivot_at = λ i less. ap (pivot W) (moved_at rs i) ∙ moved_pivot (row_at M rs i) ∙ p.pivot_at i (inside i less);
     monic = λ i less.
-        ap (λ u. W.coef u (measure W u - 1)) (moved_at rs i) ∙ ap (λ n. W.coef (ι (row_at M rs i)) (n - 1)) (moved_measure (row_at M rs i))
+        ap (λ u. W.coef u (measure W u - 1)) (moved_at rs i)
+        ∙ ap (λ n. W.coef (ι (row_at M rs i)) (n - 1)) (moved_measure (row_at M rs i))
         ∙ coef (row_at M rs i) (measure M (row_at M rs i) - 1) ∙ p.monic i (inside i less);
     small = λ i j s i_less j_less differ le.
-        ap (λ u. W.coef u (s * W.width + j)) (moved_at rs i) ∙ coef (row_at M rs i) (s * W.width + j) ∙ ap (λ w. M.coef (row_at M rs i) (s * w + j)) width
-        ∙ p.small i j s (inside i i_less) (inside j j_less) differ (subst (λ d. d ≤ s) (ap (row_degree W) (moved_at rs j) ∙ moved_degree (row_at M rs j)) le);
+        ap (λ u. W.coef u (s * W.width + j)) (moved_at rs i) ∙ coef (row_at M rs i) (s * W.width + j)
+        ∙ ap (λ w. M.coef (row_at M rs i) (s * w + j)) width
+        ∙ p.small i j s (inside i i_less) (inside j j_less) differ
+        (subst (λ d. d ≤ s) (ap (row_degree W) (moved_at rs j) ∙ moved_degree (row_at M rs j)) le);
   }
     where
       inside : (i : ℕ) → i < W.width → i < M.width
@@ -75,7 +83,8 @@ module _ {A V U : Type 0} {k : TestedRing A} (M : PolynomialModule k V) (W : Pol
 
   moved_combine : (rs : List V) (c : ℕ → Pol k) → ι (combine M c rs) ≡ combine W c (moved rs)
   moved_combine [] c = moved_zero
-  moved_combine (r ∷ rs) c = moved_add (M.◌·◌ (c zero) r) (combine M (tail_of c) rs) ∙ ap₂ W.◌⊞◌ (moved_scale (c zero) r) (moved_combine rs (tail_of c))
+  moved_combine (r ∷ rs) c = moved_add (M.◌·◌ (c zero) r) (combine M (tail_of c) rs)
+      ∙ ap₂ W.◌⊞◌ (moved_scale (c zero) r) (moved_combine rs (tail_of c))
 
   pub span_moved : (rs : List V) (v : V) → InSpan M rs v → InSpan W (moved rs) (ι v)
   span_moved rs v h = record { coefficients = h.coefficients; is = ap ι h.is ∙ moved_combine rs h.coefficients }

@@ -1,4 +1,5 @@
--- The functions that take one lattice into another: the colon of two lattices, for ideals their quotient (Cohen, A Course in
+-- The functions that take one lattice into another: the colon of two lattices, for ideals their quotient (Cohen, A
+-- Course in
 -- Computational Algebraic Number Theory).
 use Rattle.std.specs.Prelude.{ℕ, ◌↔◌, List, [], replicate, slice_set, All}
 use Rattle.ff_fields.specs.Field.{CodeField}
@@ -16,9 +17,11 @@ abbrev pub one_row : ℕ → List ℕ → List (List ℕ)
 one_row n den = slice_set (replicate n []) 0 den
 
 -- the Popov basis of the coefficients with which the rows of l combine to functions whose product with w is in a
-pub record IsKept (k : CodeField) (p : PresValue) (l : LatticeValue) (w : ElemValue) (a : LatticeValue) (basis : List (List (List ℕ))) : Type 0 where
+pub record IsKept (k : CodeField) (p : PresValue) (l : LatticeValue) (w : ElemValue) (a : LatticeValue)
+    (basis : List (List (List ℕ))) : Type 0 where
   pub rows_in : All (IsRow k.ops p.n) basis
   pub popov : IsPopov p.n basis
   pub members : (c : List (List ℕ)) → IsRow k.ops p.n c → All IsPoly c
       → InSpan k.ops p.n basis c
-      ↔ Contains k p a ((functions k p).◌⊗◌ (function_of k p w) (function_of k p (record { num = combination k.ops p.n c l.rows; den = l.den })))
+      ↔ Contains k p a ((functions k p).◌⊗◌ (function_of k p w)
+      (function_of k p (record { num = combination k.ops p.n c l.rows; den = l.den })))

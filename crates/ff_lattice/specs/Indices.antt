@@ -1,4 +1,5 @@
--- The index of a set of functions in a larger one: the dimension over k of the one modulo the other (Stichtenoth, Algebraic
+-- The index of a set of functions in a larger one: the dimension over k of the one modulo the other (Stichtenoth,
+-- Algebraic
 -- Function Fields and Codes, chapter 1).
 use Rattle.std.specs.Prelude.{◌≡◌, ℕ, List, length}
 use Rattle.ring_lemmas.specs.Polynomials.{constant}

@@ -32,7 +32,8 @@ pub record IsForm (l : LatticeValue) : Type 0 where
   pub den_poly : IsPoly l.den
   pub monic : IsMonic l.den
 
--- e times each entry of the rows is a multiple of the denominator, so that e times each row over it is a row of polynomials
+-- e times each entry of the rows is a multiple of the denominator, so that e times each row over it is a row of
+-- polynomials
 pub record IsMultiplier (k : FieldOps) (rows : List (List (List ℕ))) (den e : List ℕ) : Type 0 where
   pub each : All (λ row. All (λ v. DividesList k den (product_of k e v)) row) rows
 
@@ -79,7 +80,8 @@ pub record IsSumOf (k : CodeField) (p : PresValue) (A B : Functions k p → Type
   pub is : z ≡ (functions k p).◌⊕◌ left right
 
 -- den·z is num·w for a member w of the set, so that z is num/den times w
-pub record IsScaled (k : CodeField) (p : PresValue) (num den : List ℕ) (A : Functions k p → Type 0) (z : Functions k p) : Type 0 where
+pub record IsScaled (k : CodeField) (p : PresValue) (num den : List ℕ) (A : Functions k p → Type 0) (z : Functions k p)
+    : Type 0 where
   pub member : Functions k p
   pub member_in : A member
   pub is :

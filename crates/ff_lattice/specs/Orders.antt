@@ -1,4 +1,5 @@
--- Orders of F: the lattices that are rings (Zassenhaus, Ein Algorithmus zur Berechnung einer Minimalbasis über gegebener Ordnung).
+-- Orders of F: the lattices that are rings (Zassenhaus, Ein Algorithmus zur Berechnung einer Minimalbasis über
+-- gegebener Ordnung).
 use Rattle.std.specs.Prelude.{All}
 use Rattle.ff_fields.specs.Field.{CodeField}
 use Rattle.function_field.specs.Values.{PresValue, Functions, functions, function_of}
@@ -9,7 +10,8 @@ module _ (k : CodeField) (p : PresValue) where
   pub record IsOrderLattice (l : LatticeValue) : Type 0 where
     pub lattice : IsLattice k.ops p.n l
     pub one_in : Contains k p l (functions k p).𝟙
-    pub product_in : (u v : Functions k p) → Contains k p l u → Contains k p l v → Contains k p l ((functions k p).◌⊗◌ u v)
+    pub product_in : (u v : Functions k p) → Contains k p l u → Contains k p l v
+        → Contains k p l ((functions k p).◌⊗◌ u v)
 
   -- the products of z and the rows are members
   abbrev pub TakesRowsIn : LatticeValue → Functions k p → Type 0

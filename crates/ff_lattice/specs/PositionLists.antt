@@ -1,5 +1,7 @@
--- The normal form of a row of an order modulo an ideal, as a list of codes. The coefficient of x^t in column j stands at the
--- position t·n + j. There is one code for each position at which a row of the order ends and none of the ideal, from the highest
+-- The normal form of a row of an order modulo an ideal, as a list of codes. The coefficient of x^t in column j stands
+-- at the
+-- position t·n + j. There is one code for each position at which a row of the order ends and none of the ideal, from
+-- the highest
 -- position down (Becker and Weispfenning, Gröbner Bases, on normal forms).
 use Rattle.std.specs.Prelude.{◌≡◌, ℕ, zero, suc, ◌-◌, ◌/◌, ◌%◌, Bool, cond, nat_lt, List, [], ◌∷◌, ◌++◌, length, get_or, drop}
 use Rattle.ff_fields.specs.Field.{FieldOps}
@@ -55,22 +57,27 @@ module _ (n : ℕ) (order ideal : List (List (List ℕ))) where
   sum_of_codes add null term zero a = null
   sum_of_codes add null term (suc e) a =
       cond (is_outside e) (sum_of_codes add null term e a)
-      (cond (is_kept e) (add (term (get_or a 0 0) (lift_power order e) (e % n)) (sum_of_codes add null term e (drop 1 a))) (sum_of_codes add null term e a))
+      (cond (is_kept e) (add (term (get_or a 0 0) (lift_power order e) (e % n))
+      (sum_of_codes add null term e (drop 1 a))) (sum_of_codes add null term e a))
 
   -- the row, and for each code c the multiple by c·x^s of the row of its column
   abbrev pub spread_onto : FieldOps → List (List (List ℕ)) → ℕ → List ℕ → List (List ℕ) → List (List ℕ)
   spread_onto k rows zero a row = row
   spread_onto k rows (suc e) a row =
       cond (is_outside e) (spread_onto k rows e a row)
-      (cond (is_kept e) (spread_onto k rows e (drop 1 a) (row_less k row (k.neg (get_or a 0 0)) (lift_power order e) (row_at rows (e % n)))) (spread_onto k rows e a row))
+      (cond (is_kept e) (spread_onto k rows e (drop 1 a)
+      (row_less k row (k.neg (get_or a 0 0)) (lift_power order e) (row_at rows (e % n))))
+      (spread_onto k rows e a row))
 
 -- from one position down to another: the codes that were appended, and the row that is left
-pub record IsReadDown (k : FieldOps) (n : ℕ) (order ideal : List (List (List ℕ))) (high low : ℕ) (row : List (List ℕ)) (codes : List ℕ) (rest : List (List ℕ)) (more : List ℕ) : Type 0 where
+pub record IsReadDown (k : FieldOps) (n : ℕ) (order ideal : List (List (List ℕ))) (high low : ℕ) (row : List (List ℕ))
+    (codes : List ℕ) (rest : List (List ℕ)) (more : List ℕ) : Type 0 where
   pub row_in : IsRow k n rest
   pub codes_are : more ++ codes_below n order ideal k low rest ≡ codes ++ codes_below n order ideal k high row
 
 -- from one position down to another: the codes that are left, and the row to which multiples were added
-pub record IsSpreadDown (k : FieldOps) (n : ℕ) (order ideal rows : List (List (List ℕ))) (high low : ℕ) (row : List (List ℕ)) (codes : List ℕ) (more : List (List ℕ)) (left : List ℕ) : Type 0 where
+pub record IsSpreadDown (k : FieldOps) (n : ℕ) (order ideal rows : List (List (List ℕ))) (high low : ℕ)
+    (row : List (List ℕ)) (codes : List ℕ) (more : List (List ℕ)) (left : List ℕ) : Type 0 where
   pub row_in : IsRow k n more
   pub left_in : length left ≡ code_count n order ideal low
   pub row_is : spread_onto n order ideal k rows low left more ≡ spread_onto n order ideal k rows high codes row

@@ -52,27 +52,32 @@ quotient_ops q = record { size = dimension q; unit = q.one; product = λ k a b. 
 -- the codes a stand for z: it differs from what they are lifted to by a member of the ideal
 pub record IsClassOf (k : CodeField) (q : QuotientValue) (z : Functions k q.p) (a : List ℕ) : Type 0 where
   pub codes : IsVector k.ops (dimension q) a
-  pub difference : Contains k q.p q.ideal ((functions k q.p).◌⊕◌ z ((functions k q.p).⊖◌ (function_of k q.p (lifted k.ops q a))))
+  pub difference : Contains k q.p q.ideal
+      ((functions k q.p).◌⊕◌ z ((functions k q.p).⊖◌ (function_of k q.p (lifted k.ops q a))))
 
 -- the ideal lies in the order and is closed under multiplication by it
 pub record IsIdealLattice (k : CodeField) (p : PresValue) (order ideal : LatticeValue) : Type 0 where
   pub lattice : IsLattice k.ops p.n ideal
   pub within : (z : Functions k p) → Contains k p ideal z → Contains k p order z
-  pub closed : (u v : Functions k p) → Contains k p order u → Contains k p ideal v → Contains k p ideal ((functions k p).◌⊗◌ u v)
+  pub closed : (u v : Functions k p) → Contains k p order u → Contains k p ideal v
+      → Contains k p ideal ((functions k p).◌⊗◌ u v)
 
 -- a row over the denominator of the order stands for z
-pub record IsRowOf (k : CodeField) (p : PresValue) (order : LatticeValue) (z : Functions k p) (row : List (List ℕ)) : Type 0 where
+pub record IsRowOf (k : CodeField) (p : PresValue) (order : LatticeValue) (z : Functions k p) (row : List (List ℕ)) :
+    Type 0 where
   pub row_in : IsRow k.ops p.n row
   pub row_poly : All IsPoly row
   pub is : function_of k p (record { num = row; den = order.den }) ≡ z
 
 -- for the first rows of the order the rows that stand for their products by all rows
-pub record AreProducts (k : CodeField) (p : PresValue) (order : LatticeValue) (count : ℕ) (products : List (List (List (List ℕ)))) : Type 0 where
+pub record AreProducts (k : CodeField) (p : PresValue) (order : LatticeValue) (count : ℕ)
+    (products : List (List (List (List ℕ)))) : Type 0 where
   pub size : length products ≡ count
   pub each : (i : ℕ) → i < count → length (get_or products i []) ≡ length order.rows
   pub are : (i j : ℕ) → i < count → j < length order.rows
       → IsRowOf k p order
-      ((functions k p).◌⊗◌ (function_of k p (record { num = row_at order.rows i; den = order.den })) (function_of k p (record { num = row_at order.rows j; den = order.den })))
+      ((functions k p).◌⊗◌ (function_of k p (record { num = row_at order.rows i; den = order.den }))
+      (function_of k p (record { num = row_at order.rows j; den = order.den })))
       (row_at (get_or products i []) j)
 
 -- an order, an ideal of it, and their rows and products over the denominator of the order
@@ -89,13 +94,16 @@ pub record IsFrame (k : CodeField) (q : QuotientValue) : Type 0 where
   pub products_each : (i : ℕ) → i < q.p.n → length (get_or q.products i []) ≡ q.p.n
   pub products_are : (i j : ℕ) → i < q.p.n → j < q.p.n
       → IsRowOf k q.p q.order
-      ((functions k q.p).◌⊗◌ (function_of k q.p (record { num = row_at q.order.rows i; den = q.order.den })) (function_of k q.p (record { num = row_at q.order.rows j; den = q.order.den })))
+      ((functions k q.p).◌⊗◌ (function_of k q.p (record { num = row_at q.order.rows i; den = q.order.den }))
+      (function_of k q.p (record { num = row_at q.order.rows j; den = q.order.den })))
       (row_at (get_or q.products i []) j)
 
 -- rows that stand for elements
-pub record IsRowsOf (k : CodeField) (p : PresValue) (order : LatticeValue) (zs : List ElemValue) (rows : List (List (List ℕ))) : Type 0 where
+pub record IsRowsOf (k : CodeField) (p : PresValue) (order : LatticeValue) (zs : List ElemValue)
+    (rows : List (List (List ℕ))) : Type 0 where
   pub size : length rows ≡ length zs
-  pub each : (j : ℕ) (d : ElemValue) → j < length zs → IsRowOf k p order (function_of k p (get_or zs j d)) (row_at rows j)
+  pub each : (j : ℕ) (d : ElemValue) → j < length zs
+      → IsRowOf k p order (function_of k p (get_or zs j d)) (row_at rows j)
 
 -- the quotient was made over this field
 pub record IsQuotient (k : CodeField) (q : QuotientValue) : Type 0 where
@@ -111,8 +119,10 @@ pub record IsQuotientOver (k : CodeField) (q : QuotientValue) : Type 0 where
 pub record HasClasses (k : CodeField) (q : QuotientValue) : Type 0 where
   pub only : (z : Functions k q.p) (a b : List ℕ) → IsClassOf k q z a → IsClassOf k q z b → a ≡ b
   pub of_lifted : (a : List ℕ) → IsVector k.ops (dimension q) a → IsClassOf k q (function_of k q.p (lifted k.ops q a)) a
-  pub of_sum : (z w : Functions k q.p) (a b : List ℕ) → IsClassOf k q z a → IsClassOf k q w b → IsClassOf k q ((functions k q.p).◌⊕◌ z w) (add_lists (raw_ring k.ops) a b)
-  pub of_product : (z w : Functions k q.p) (a b : List ℕ) → Contains k q.p q.order z → Contains k q.p q.order w → IsClassOf k q z a → IsClassOf k q w b
+  pub of_sum : (z w : Functions k q.p) (a b : List ℕ) → IsClassOf k q z a → IsClassOf k q w b
+      → IsClassOf k q ((functions k q.p).◌⊕◌ z w) (add_lists (raw_ring k.ops) a b)
+  pub of_product : (z w : Functions k q.p) (a b : List ℕ) → Contains k q.p q.order z → Contains k q.p q.order w
+      → IsClassOf k q z a → IsClassOf k q w b
       → IsClassOf k q ((functions k q.p).◌⊗◌ z w) (product_codes k.ops q a b)
   pub of_one : IsClassOf k q (functions k q.p).𝟙 q.one
   pub of_ideal : (z : Functions k q.p) → IsClassOf k q z (replicate (dimension q) 0) ↔ Contains k q.p q.ideal z

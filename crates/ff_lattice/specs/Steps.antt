@@ -38,7 +38,8 @@ corner n rows = map (take n) (take n rows)
 pub record IsPreimage (k : FieldOps) (n width : ℕ) (m ls basis : List (List (List ℕ))) : Type 0 where
   pub rows_in : All (IsRow k n) basis
   pub popov : IsPopov n basis
-  pub members : (z : List (List ℕ)) → IsRow k n z → All IsPoly z → InSpan k n basis z ↔ InSpan k width ls (combination k width z m)
+  pub members : (z : List (List ℕ)) → IsRow k n z → All IsPoly z
+      → InSpan k n basis z ↔ InSpan k width ls (combination k width z m)
 
 -- each row of the width has a multiple in the lattice of the rows by a polynomial other than 0 of at most this length
 pub record HasShortMultiples (k : FieldOps) (width : ℕ) (rows : List (List (List ℕ))) (bound : ℕ) : Type 0 where
@@ -106,9 +107,10 @@ pub record IsExpansion (k : FieldOps) (e : List ℕ) (z : ElemValue) (row : List
   pub num_is : row ≡ multiple_of_row k factor z.num
 
 -- the rows over e are the elements
-pub record IsExpanded (k : FieldOps) (n : ℕ) (e : List ℕ) (zs : List ElemValue) (rows : List (List (List ℕ))) : Type 0 where
-  pub size : length rows ≡ length zs
-  pub each : (i : ℕ) (d : ElemValue) → i < length zs → IsExpansion k e (get_or zs i d) (row_at rows i)
+pub record IsExpanded (k : FieldOps) (n : ℕ) (e : List ℕ) (zs : List ElemValue) (rows : List (List (List ℕ))) : Type 0
+  where
+    pub size : length rows ≡ length zs
+    pub each : (i : ℕ) (d : ElemValue) → i < length zs → IsExpansion k e (get_or zs i d) (row_at rows i)
 
 -- the sum of the degrees of the pivots of the first i rows
 abbrev pub pivot_sum : List (List (List ℕ)) → ℕ → ℕ

@@ -194,7 +194,8 @@ fn restricted_by_rows<K: SmallField>(
     ensures members { let k = K.field k.now in
         IfOk result (λ l. (z : Functions k p.now) →
         Contains k p.now l z
-        ↔ (Contains k p.now start z × All (λ w. Contains k p.now a.now ((functions k p.now).◌⊗◌ (function_of k p.now w) z)) (row_elems b.now))) }
+        ↔ (Contains k p.now start z × All
+        (λ w. Contains k p.now a.now ((functions k p.now).◌⊗◌ (function_of k p.now w) z)) (row_elems b.now))) }
 {
     let mut found = start;
     for i in 0..b.len() {
@@ -204,7 +205,8 @@ fn restricted_by_rows<K: SmallField>(
     Ok(found)
 }
 
-/// The functions whose products with the members of b are in a. It takes the time of a Popov basis of 2·n rows for each of
+/// The functions whose products with the members of b are in a. It takes the time of a Popov basis of 2·n rows for each
+/// of
 /// the n rows of b, where n is the degree in y.
 pub fn colon<K: SmallField>(
     alloc: Global,

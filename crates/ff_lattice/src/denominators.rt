@@ -83,7 +83,8 @@ fn row_multiplier<K: SmallField>(
     Ok(next)
 }
 
-/// The monic polynomial whose multiples are the u for which e divides u times each entry of the rows. It takes the time of
+/// The monic polynomial whose multiples are the u for which e divides u times each entry of the rows. It takes the time
+/// of
 /// one Popov basis of two rows for each entry.
 pub(crate) fn least_multiplier<K: SmallField>(
     alloc: Global,

@@ -109,8 +109,10 @@ pub(crate) fn numerators<K: SmallField>(
 }
 
 impl Lattice {
-    /// The lattice of all combinations of the generators over k[x]; NotFull exactly where their rank is below the degree in
-    /// y. It takes the time of a Popov basis of the numerators over a common denominator, which has at most the degree of
+    /// The lattice of all combinations of the generators over k[x]; NotFull exactly where their rank is below the
+    /// degree in
+    /// y. It takes the time of a Popov basis of the numerators over a common denominator, which has at most the degree
+    /// of
     /// the product of the different denominators, and of the least denominator.
     pub fn from_generators<K: SmallField>(
         alloc: Global,
@@ -123,7 +125,8 @@ impl Lattice {
         ensures members { let k = K.field k.now in
             IfOk result (λ l. (z : Functions k p.now) → Contains k p.now l z ↔ InSpanOf k p.now gens.now z) }
         ensures full { let k = K.field k.now in IfOk result (λ l. IsFull k p.now (Contains k p.now l)) }
-        ensures not_full { let k = K.field k.now in result ≡ Err NotFull → ¬ IsFull k p.now (InSpanOf k p.now gens.now) }
+        ensures not_full { let k = K.field k.now in result ≡ Err NotFull
+            → ¬ IsFull k p.now (InSpanOf k p.now gens.now) }
     {
         let e = common_denominator(alloc, k, gens, p.n())?;
         let rows = numerators(alloc, k, gens, p.n(), &e)?;

@@ -58,7 +58,8 @@ fn takes_rows<K: SmallField>(
     Ok(true)
 }
 
-/// Is the lattice an ideal of the order? It takes the time of n² products of rows, and of n² + n questions whether an element
+/// Is the lattice an ideal of the order? It takes the time of n² products of rows, and of n² + n questions whether an
+/// element
 /// is in a lattice, where n is the degree in y.
 pub fn is_ideal<K: SmallField>(
     alloc: Global,

@@ -11,16 +11,20 @@ use crate::quotient::Quotient;
 use ff_algebra::Pres;
 use ff_fields::field::SmallField;
 
-/// The dimension over k of a lattice modulo a smaller one is the difference of their pivot degrees, and no other number. Where
+/// The dimension over k of a lattice modulo a smaller one is the difference of their pivot degrees, and no other
+/// number. Where
 /// the pivot degrees are the same, so are the lattices.
 pub fn index_law<K: SmallField>(k: &K, p: &Pres, a: &Lattice, b: &Lattice)
     requires a_form { IsLattice (K.field k.now).ops p.now.n a.now }
     requires b_form { IsLattice (K.field k.now).ops p.now.n b.now }
     requires positive { 1 ≤ p.now.n }
-    requires within { let k = K.field k.now in (z : Functions k p.now) → Contains k p.now a.now z → Contains k p.now b.now z }
+    requires within { let k = K.field k.now in (z : Functions k p.now) → Contains k p.now a.now z
+        → Contains k p.now b.now z }
     ensures index { let k = K.field k.now in
-        (g : ℕ) → HasIndex k p.now (Contains k p.now a.now) (Contains k p.now b.now) g ↔ (pos g ≡ pivot_degree_of a.now -ℤ pivot_degree_of b.now) }
-    ensures exists { let k = K.field k.now in (g : ℕ) × HasIndex k p.now (Contains k p.now a.now) (Contains k p.now b.now) g }
+        (g : ℕ) → HasIndex k p.now (Contains k p.now a.now) (Contains k p.now b.now) g
+        ↔ (pos g ≡ pivot_degree_of a.now -ℤ pivot_degree_of b.now) }
+    ensures exists { let k = K.field k.now in (g : ℕ)
+        × HasIndex k p.now (Contains k p.now a.now) (Contains k p.now b.now) g }
     ensures same { pivot_degree_of a.now ≡ pivot_degree_of b.now → a.now ≡ b.now }
 {}
 

@@ -17,7 +17,8 @@ use ff_popov::popov;
 use std::alloc::{AllocError, Global};
 use std::marker::Model;
 
-/// A lattice of F, a module over k[x] of full rank: its Popov basis over one monic denominator of least degree. Over the
+/// A lattice of F, a module over k[x] of full rank: its Popov basis over one monic denominator of least degree. Over
+/// the
 /// infinite presentation the polynomials are those in 1/x.
 #[derive(Debug, Drop)]
 pub struct Lattice {
@@ -117,8 +118,10 @@ pub(crate) fn from_rows<K: SmallField>(
     requires rows_poly { All (All IsPoly) (rows_of rows.items) }
     requires e_in { IsOver (K.field k.now).ops e.now }
     requires e_monic { IsMonic e.now }
-    ensures form { IfOk result (λ found. MatchOption found (¬ HasFullRank (K.field k.now).ops n (rows_of rows.items)) (IsLattice (K.field k.now).ops n)) }
-    ensures members { IfOk result (λ found. IfSome found (IsSpannedBy (K.field k.now) n (elems_over (rows_of rows.items) e.now))) }
+    ensures form { IfOk result (λ found. MatchOption found (¬ HasFullRank (K.field k.now).ops n (rows_of rows.items))
+        (IsLattice (K.field k.now).ops n)) }
+    ensures members { IfOk result (λ found. IfSome found
+        (IsSpannedBy (K.field k.now) n (elems_over (rows_of rows.items) e.now))) }
 {
     match popov(alloc, k, rows, n)? {
         None => Ok(None),

@@ -61,7 +61,8 @@ pub fn sum<K: SmallField>(
     requires b_form { IsLattice (K.field k.now).ops p.now.n b.now }
     ensures form { IfOk result (IsLattice (K.field k.now).ops p.now.n) }
     ensures members { let k = K.field k.now in
-        IfOk result (λ l. (z : Functions k p.now) → Contains k p.now l z ↔ IsSumOf k p.now (Contains k p.now a.now) (Contains k p.now b.now) z) }
+        IfOk result (λ l. (z : Functions k p.now)
+        → Contains k p.now l z ↔ IsSumOf k p.now (Contains k p.now a.now) (Contains k p.now b.now) z) }
 {
     let mut gens = Vec::with_capacity(alloc, 2 * p.n())?;
     push_rows(alloc, k, &mut gens, a)?;
@@ -85,7 +86,8 @@ pub(crate) fn push_products<K: SmallField>(
     ensures in_range { OnOk result (All (IsElem (K.field k.now).ops p.now.n) gens.new.items) }
     ensures products { let k = K.field k.now in
         let f = function_of k p.now in
-        OnOk result (map f gens.new.items ≡ map f gens.old.items ++ map ((functions k p.now).◌⊗◌ (f z.now)) (map f (row_elems b.now))) }
+        OnOk result (map f gens.new.items
+        ≡ map f gens.old.items ++ map ((functions k p.now).◌⊗◌ (f z.now)) (map f (row_elems b.now))) }
 {
     for j in 0..b.len() {
         let row = b.row(alloc, k, j)?;
@@ -107,7 +109,9 @@ pub fn product<K: SmallField>(
     requires b_form { IsLattice (K.field k.now).ops p.now.n b.now }
     ensures form { IfOk result (IsLattice (K.field k.now).ops p.now.n) }
     ensures members { let k = K.field k.now in
-        IfOk result (λ l. (z : Functions k p.now) → Contains k p.now l z ↔ Product (functions k p.now).ops (Contains k p.now a.now) (Contains k p.now b.now) z) }
+        IfOk result (λ l. (z : Functions k p.now)
+        → Contains k p.now l z ↔ Product (functions k p.now).ops (Contains k p.now a.now) (Contains k p.now b.now)
+        z) }
 {
     let mut gens = Vec::with_capacity(alloc, p.n() * p.n())?;
     for i in 0..a.len() {

@@ -16,7 +16,8 @@ use ff_poly::Poly;
 use std::alloc::{AllocError, Global};
 use std::marker::Model;
 
-/// An order of F: a lattice that contains 1 and the products of its members. Which lattices are orders, `Order::new` says.
+/// An order of F: a lattice that contains 1 and the products of its members. Which lattices are orders, `Order::new`
+/// says.
 #[derive(Debug, Drop)]
 pub struct Order {
     lattice: Lattice,
@@ -52,7 +53,8 @@ pub fn power_of_y<K: SmallField>(
 ) -> Result<Elem, AllocError>
     requires { i < n }
     ensures row { let k = K.field k.now in
-        IfOk result (λ z. (p : PresValue) → function_of k p z ≡ function_of k p (record { num = unit_row n i; den = 1 ∷ [] })) }
+        IfOk result (λ z. (p : PresValue)
+        → function_of k p z ≡ function_of k p (record { num = unit_row n i; den = 1 ∷ [] })) }
     ensures in_range { IfOk result (IsElem (K.field k.now).ops n) }
 {
     let num = unit_row(alloc, n, i)?;

@@ -70,7 +70,8 @@ fn clear<K: SmallField>(
     requires j_in { j < length row.old }
     requires fits { t + 1 < 2 ^ 64 }
     requires reaches { pivot_length (rows_of rows.now) j ≤ t + 1 }
-    ensures { OnOk result (row.new ≡ row_less (K.field k.now).ops row.old (get_or (entry_at row.old j) t 0) (suc t - pivot_length (rows_of rows.now) j) (row_at (rows_of rows.now) j)) }
+    ensures { OnOk result (row.new ≡ row_less (K.field k.now).ops row.old (get_or (entry_at row.old j) t 0)
+        (suc t - pivot_length (rows_of rows.now) j) (row_at (rows_of rows.now) j)) }
 {
     let s = t + 1 - pivot_len(k, rows, j);
     let code = row[j].coeff(t);
@@ -96,7 +97,8 @@ fn read_position<K: SmallField>(
     requires j_in { j < length row.old }
     requires fits { t + 1 < 2 ^ 64 }
     ensures { let n = length row.old in
-        OnOk result (IsReadDown (K.field k.now).ops n (rows_of order.now) (rows_of ideal.now) (suc (t * n + j)) (t * n + j) row.old codes.old.items row.new codes.new.items) }
+        OnOk result (IsReadDown (K.field k.now).ops n (rows_of order.now) (rows_of ideal.now) (suc (t * n + j))
+        (t * n + j) row.old codes.old.items row.new codes.new.items) }
 {
     if t + 1 < pivot_len(k, order, j) {
         return Ok(());
@@ -126,7 +128,8 @@ fn read_degree<K: SmallField>(
     requires ideal_popov { IsPopov (length row.old) (rows_of ideal.now) }
     requires fits { t + 1 < 2 ^ 64 }
     ensures { let n = length row.old in
-        OnOk result (IsReadDown (K.field k.now).ops n (rows_of order.now) (rows_of ideal.now) (suc t * n) (t * n) row.old codes.old.items row.new codes.new.items) }
+        OnOk result (IsReadDown (K.field k.now).ops n (rows_of order.now) (rows_of ideal.now) (suc t * n) (t * n)
+        row.old codes.old.items row.new codes.new.items) }
 {
     for j in (0..row.len()).rev() {
         read_position(k, codes, row, order, ideal, t, j)?;
@@ -148,7 +151,8 @@ pub(crate) fn longest_entry(row: &[Poly]) -> usize
     most
 }
 
-/// The codes of a row modulo the ideal, whose pivots are at most so long. It takes the time of two subtractions of rows for
+/// The codes of a row modulo the ideal, whose pivots are at most so long. It takes the time of two subtractions of rows
+/// for
 /// each position of the row.
 pub(crate) fn read_codes<K: SmallField>(
     alloc: Global,
@@ -164,7 +168,8 @@ pub(crate) fn read_codes<K: SmallField>(
     requires ideal_in { All (IsRow (K.field k.now).ops (length row.old)) (rows_of ideal.now) }
     requires ideal_popov { IsPopov (length row.old) (rows_of ideal.now) }
     ensures { let n = length row.old in
-        IfOk result (λ v. v.items ≡ codes_below n (rows_of order.now) (rows_of ideal.now) (K.field k.now).ops (max depth (longest row.old) * n) row.old) }
+        IfOk result (λ v. v.items ≡ codes_below n (rows_of order.now) (rows_of ideal.now) (K.field k.now).ops
+        (max depth (longest row.old) * n) row.old) }
 {
     let mut codes = Vec::new(alloc);
     let most = longest_entry(row);
@@ -175,7 +180,8 @@ pub(crate) fn read_codes<K: SmallField>(
     Ok(codes)
 }
 
-/// Adds the multiple of row j by the code at the position of x^t in column j, if there is one; answers how many codes are done.
+/// Adds the multiple of row j by the code at the position of x^t in column j, if there is one; answers how many codes
+/// are done.
 fn spread_position<K: SmallField>(
     k: &K,
     row: &mut [Poly],
@@ -200,7 +206,9 @@ fn spread_position<K: SmallField>(
     requires j_in { j < length row.old }
     requires fits { t + 1 < 2 ^ 64 }
     ensures { let n = length row.old in
-        IfOk result (λ next. IsSpreadDown (K.field k.now).ops n (rows_of order.now) (rows_of ideal.now) (rows_of rows.now) (suc (t * n + j)) (t * n + j) row.old (drop done codes.now) row.new (drop next codes.now)) }
+        IfOk result (λ next. IsSpreadDown (K.field k.now).ops n (rows_of order.now) (rows_of ideal.now)
+        (rows_of rows.now) (suc (t * n + j)) (t * n + j) row.old (drop done codes.now) row.new
+        (drop next codes.now)) }
 {
     let first = pivot_len(k, order, j);
     if t + 1 < first {
@@ -237,7 +245,8 @@ fn spread_degree<K: SmallField>(
         length (drop done codes.now) ≡ code_count n (rows_of order.now) (rows_of ideal.now) (suc t * n) }
     requires fits { t + 1 < 2 ^ 64 }
     ensures { let n = length row.old in
-        IfOk result (λ next. IsSpreadDown (K.field k.now).ops n (rows_of order.now) (rows_of ideal.now) (rows_of rows.now) (suc t * n) (t * n) row.old (drop done codes.now) row.new (drop next codes.now)) }
+        IfOk result (λ next. IsSpreadDown (K.field k.now).ops n (rows_of order.now) (rows_of ideal.now)
+        (rows_of rows.now) (suc t * n) (t * n) row.old (drop done codes.now) row.new (drop next codes.now)) }
 {
     let mut next = done;
     for j in (0..row.len()).rev() {
@@ -263,9 +272,11 @@ pub(crate) fn spread_codes<K: SmallField>(
     requires rows_in { All (IsRow (K.field k.now).ops (length order.now)) (rows_of rows.now) }
     requires rows_size { length rows.now ≡ length order.now }
     requires codes_in { IsOver (K.field k.now).ops codes.now }
-    requires size { let n = length order.now in length codes.now ≡ code_count n (rows_of order.now) (rows_of ideal.now) (depth * n) }
+    requires size { let n = length order.now in length codes.now
+        ≡ code_count n (rows_of order.now) (rows_of ideal.now) (depth * n) }
     ensures { let n = length order.now in
-        IfOk result (λ v. v.items ≡ spread_onto n (rows_of order.now) (rows_of ideal.now) (K.field k.now).ops (rows_of rows.now) (depth * n) codes.now (replicate n [])) }
+        IfOk result (λ v. v.items ≡ spread_onto n (rows_of order.now) (rows_of ideal.now) (K.field k.now).ops
+        (rows_of rows.now) (depth * n) codes.now (replicate n [])) }
 {
     let mut row = zero_row(alloc, order.len())?;
     let mut done = 0;

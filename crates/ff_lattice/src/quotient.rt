@@ -42,9 +42,27 @@ impl Model for Quotient {
 
     ghost Value = { QuotientValue };
 
-    ghost view = { λ q. record { p = q.p; order = q.order; ideal = q.ideal; rows = rows_of q.rows.items; depth = q.depth; products = map (λ m. rows_of m.items) q.products.items; one = q.one.items } };
+    ghost view = { λ q. record {
+      p = q.p;
+      order = q.order;
+      ideal = q.ideal;
+      rows = rows_of q.rows.items;
+      depth =
+          q.depth;
+      products = map (λ m. rows_of m.items) q.products.items;
+      one = q.one.items;
+    } };
 
-    ghost invariant = { λ q. length q.one.items ≡ dimension (record { p = q.p; order = q.order; ideal = q.ideal; rows = rows_of q.rows.items; depth = q.depth; products = map (λ m. rows_of m.items) q.products.items; one = q.one.items }) };
+    ghost invariant = { λ q. length q.one.items
+        ≡ dimension (record {
+          p = q.p;
+          order = q.order;
+          ideal = q.ideal;
+          rows = rows_of q.rows.items;
+          depth = q.depth;
+          products = map (λ m. rows_of m.items) q.products.items;
+          one = q.one.items;
+        }) };
 }
 
 /// The row that stands for z, which is in the lattice, over the lattice's denominator.
@@ -99,7 +117,8 @@ fn ideal_basis<K: SmallField>(
     ensures rows_in { IfOk result (λ rows. All (IsRow (K.field k.now).ops p.now.n) (rows_of rows.items)) }
     ensures popov { IfOk result (λ rows. IsPopov p.now.n (rows_of rows.items)) }
     ensures members { let k = K.field k.now in
-        IfOk result (λ rows. (z : Functions k p.now) → Contains k p.now i.now z ↔ InSpanOf k p.now (elems_over (rows_of rows.items) l.now.den) z) }
+        IfOk result (λ rows. (z : Functions k p.now)
+        → Contains k p.now i.now z ↔ InSpanOf k p.now (elems_over (rows_of rows.items) l.now.den) z) }
 {
     let mut gens = Vec::new(alloc);
     push_rows(alloc, k, &mut gens, i)?;
@@ -192,7 +211,8 @@ impl Quotient {
         &self.ideal
     }
 
-    /// The codes of the class of a member of the order. It takes the time of one row division, and of two subtractions of
+    /// The codes of the class of a member of the order. It takes the time of one row division, and of two subtractions
+    /// of
     /// rows for each position of the row.
     pub fn reduce<K: SmallField>(
         &self,
@@ -202,7 +222,8 @@ impl Quotient {
     ) -> Result<Vec<u32>, AllocError>
         requires over { IsQuotient (K.field k.now) self.now }
         requires z_in { IsElem (K.field k.now).ops self.now.p.n z.now }
-        requires member { let k = K.field k.now in Contains k self.now.p self.now.order (function_of k self.now.p z.now) }
+        requires member { let k = K.field k.now in Contains k self.now.p self.now.order
+            (function_of k self.now.p z.now) }
         ensures { let k = K.field k.now in
             IfOk result (λ a. IsClassOf k self.now (function_of k self.now.p z.now) a.items) }
     {
@@ -231,7 +252,8 @@ impl Quotient {
         Ok(row)
     }
 
-    /// A member of the order of the class with these codes, of which there are as many as the dimension. It takes the time
+    /// A member of the order of the class with these codes, of which there are as many as the dimension. It takes the
+    /// time
     /// of a subtraction of rows for each code.
     pub fn lift<K: SmallField>(&self, alloc: Global, k: &K, a: &[u32]) -> Result<Elem, AllocError>
         requires over { IsQuotient (K.field k.now) self.now }

@@ -80,7 +80,8 @@ pub(crate) fn multiple_rows<K: SmallField>(
 ) -> Result<Vec<Vec<Poly>>, AllocError>
     requires c_in { IsOver (K.field k.now).ops c.now }
     requires rows_in { All (IsRow (K.field k.now).ops n) (rows_of rows.now) }
-    ensures { IfOk result (λ products. rows_of products.items ≡ map (multiple_of_row (K.field k.now).ops c.now) (rows_of rows.now)) }
+    ensures { IfOk result (λ products. rows_of products.items
+        ≡ map (multiple_of_row (K.field k.now).ops c.now) (rows_of rows.now)) }
 {
     let mut products = Vec::new(alloc);
     for row in rows {

@@ -65,7 +65,8 @@ pub(crate) fn same_rows(vs: &[Vec<Poly>], ws: &[Vec<Poly>]) -> bool
     true
 }
 
-/// Are the two lattices the same set of functions? That is so exactly where their rows and denominators are the same. It
+/// Are the two lattices the same set of functions? That is so exactly where their rows and denominators are the same.
+/// It
 /// takes time in the size of the rows.
 pub fn same_lattice<K: SmallField>(k: &K, a: &Lattice, b: &Lattice) -> bool
     requires a_form { IsLattice (K.field k.now).ops (length a.now.rows) a.now }

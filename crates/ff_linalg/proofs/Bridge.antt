@@ -29,7 +29,8 @@ coeff_raw k [] j = refl
 coeff_raw k (x ∷ xs) zero = refl
 coeff_raw k (x ∷ xs) (suc j) = coeff_raw k xs j
 
-pub raw_entry : (k : FieldOps) (rows : List (List ℕ)) (i j : ℕ) → row (raw_ring k) (rows_of (raw_ring k) rows) i j ≡ entry_at rows i j
+pub raw_entry : (k : FieldOps) (rows : List (List ℕ)) (i j : ℕ)
+    → row (raw_ring k) (rows_of (raw_ring k) rows) i j ≡ entry_at rows i j
 raw_entry k [] i j = refl
 raw_entry k (r ∷ rows) zero j = coeff_raw k r j
 raw_entry k (r ∷ rows) (suc i) j = raw_entry k rows i j
@@ -42,12 +43,15 @@ module _ (k : CodeField) where
   length_raw rows = length-map rows (coeff_of (raw_ring k.ops))
 
   -- reduced forms
-  pub form_of_codes : (m : MatrixValue) (rank : ℕ) → All (IsOver k.ops) m.rows → IsReducedBelow k m.cols m.rows rank → IsReducedForm k.ops m rank
+  pub form_of_codes : (m : MatrixValue) (rank : ℕ) → All (IsOver k.ops) m.rows → IsReducedBelow k m.cols m.rows rank
+      → IsReducedForm k.ops m rank
   form_of_codes m rank over r = record {
     form = reduced_across R.ops (raw_ring k.ops) m.cols (sequences_of k m.rows) (rows_of (raw_ring k.ops) m.rows)
         (length_raw m.rows ∙ sym (length_sequences k m.rows))
-        (λ i j l b e. raw_entry k.ops m.rows i j ∙ entry i j 0 (omega (arith, k.laws.one_below)) (sym (row_entry k m.rows i j) ∙ e ∙ sym (read_zero k)))
-        (λ i j l b e. raw_entry k.ops m.rows i j ∙ entry i j 1 k.laws.one_below (sym (row_entry k m.rows i j) ∙ e ∙ sym (read_one k))) r.form;
+        (λ i j l b e. raw_entry k.ops m.rows i j
+        ∙ entry i j 0 (omega (arith, k.laws.one_below)) (sym (row_entry k m.rows i j) ∙ e ∙ sym (read_zero k)))
+        (λ i j l b e. raw_entry k.ops m.rows i j
+        ∙ entry i j 1 k.laws.one_below (sym (row_entry k m.rows i j) ∙ e ∙ sym (read_one k))) r.form;
     rank_is = r.rank_is;
   }
     where
@@ -59,19 +63,24 @@ module _ (k : CodeField) where
     form = reduced_across (raw_ring k.ops) R.ops m.cols (rows_of (raw_ring k.ops) m.rows) (sequences_of k m.rows)
         (length_sequences k m.rows ∙ sym (length_raw m.rows))
         (λ i j l b e. row_entry k m.rows i j ∙ ap (read_code k) (sym (raw_entry k.ops m.rows i j) ∙ e) ∙ read_zero k)
-        (λ i j l b e. row_entry k m.rows i j ∙ ap (read_code k) (sym (raw_entry k.ops m.rows i j) ∙ e) ∙ read_one k) r.form;
+        (λ i j l b e. row_entry k m.rows i j ∙ ap (read_code k) (sym (raw_entry k.ops m.rows i j) ∙ e) ∙ read_one k)
+        r.form;
     rank_is = r.rank_is;
   }
 
   -- sums and multiples of lists
-  read_add_lists : (xs ys : List ℕ) → IsOver k.ops xs → IsOver k.ops ys → read k (add_lists (raw_ring k.ops) xs ys) ≡ add_lists R.ops (read k xs) (read k ys)
+  read_add_lists : (xs ys : List ℕ) → IsOver k.ops xs → IsOver k.ops ys
+      → read k (add_lists (raw_ring k.ops) xs ys) ≡ add_lists R.ops (read k xs) (read k ys)
   read_add_lists xs ys xs_in ys_in =
-      ap (read k) (ap₂ (add_lists (raw_ring k.ops)) (sym (numbers_read k xs xs_in)) (sym (numbers_read k ys ys_in)) ∙ sym (numbers_add k (read k xs) (read k ys)))
+      ap (read k) (ap₂ (add_lists (raw_ring k.ops)) (sym (numbers_read k xs xs_in)) (sym (numbers_read k ys ys_in))
+      ∙ sym (numbers_add k (read k xs) (read k ys)))
       ∙ read_numbers k (add_lists R.ops (read k xs) (read k ys))
 
-  read_scale_list : (c : ℕ) (ys : List ℕ) → c < k.size → IsOver k.ops ys → read k (scale_list (raw_ring k.ops) c ys) ≡ scale_list R.ops (read_code k c) (read k ys)
+  read_scale_list : (c : ℕ) (ys : List ℕ) → c < k.size → IsOver k.ops ys
+      → read k (scale_list (raw_ring k.ops) c ys) ≡ scale_list R.ops (read_code k c) (read k ys)
   read_scale_list c ys c_in ys_in =
-      ap (read k) (ap₂ (scale_list (raw_ring k.ops)) (sym (read_code_below k c c_in)) (sym (numbers_read k ys ys_in)) ∙ sym (numbers_scale k (read_code k c) (read k ys)))
+      ap (read k) (ap₂ (scale_list (raw_ring k.ops)) (sym (read_code_below k c c_in)) (sym (numbers_read k ys ys_in))
+      ∙ sym (numbers_scale k (read_code k c) (read k ys)))
       ∙ read_numbers k (scale_list R.ops (read_code k c) (read k ys))
 
   pub coeff_zeros : (n j : ℕ) → coeff_of R.ops (read k (replicate n 0)) j ≡ R.𝟘
@@ -80,26 +89,32 @@ module _ (k : CodeField) where
   coeff_zeros (suc n) (suc j) = coeff_zeros n j
 
   -- combinations
-  pub combination_over : (cols : ℕ) (cs : List ℕ) (rows : List (List ℕ)) → IsOver k.ops cs → All (IsOver k.ops) rows → IsOver k.ops (combination (row_ops k.ops cols) cs rows)
+  pub combination_over : (cols : ℕ) (cs : List ℕ) (rows : List (List ℕ)) → IsOver k.ops cs → All (IsOver k.ops) rows
+      → IsOver k.ops (combination (row_ops k.ops cols) cs rows)
   combination_over cols [] rows cs_in over = IsOver_zeros k cols
   combination_over cols (c ∷ cs) [] cs_in over = IsOver_zeros k cols
   combination_over cols (c ∷ cs) (r ∷ rows) cs_in over =
       IsOver_add k _ _ (IsOver_scale k c r (IsOver_head cs_in) (All-head (IsOver k.ops) r rows over))
       (combination_over cols cs rows (IsOver_tail cs_in) (All-tail (IsOver k.ops) r rows over))
 
-  pub length_combination : (cols : ℕ) (cs : List ℕ) (rows : List (List ℕ)) → All (λ r. length r ≡ cols) rows → length (combination (row_ops k.ops cols) cs rows) ≡ cols
+  pub length_combination : (cols : ℕ) (cs : List ℕ) (rows : List (List ℕ)) → All (λ r. length r ≡ cols) rows
+      → length (combination (row_ops k.ops cols) cs rows) ≡ cols
   length_combination cols [] rows wide = length-replicate cols 0
   length_combination cols (c ∷ cs) [] wide = length-replicate cols 0
   length_combination cols (c ∷ cs) (r ∷ rows) wide =
       let a = All-head (λ r. length r ≡ cols) r rows wide in
       let b = length_combination cols cs rows (All-tail (λ r. length r ≡ cols) r rows wide) in
       let s = length_scale_list (raw_ring k.ops) c r in
-      length_add_lists (raw_ring k.ops) (scale_list (raw_ring k.ops) c r) (combination (row_ops k.ops cols) cs rows) (omega (arith, a, b, s)) ∙ s ∙ a
+      length_add_lists (raw_ring k.ops) (scale_list (raw_ring k.ops) c r) (combination (row_ops k.ops cols) cs rows)
+      (omega (arith, a, b, s)) ∙ s ∙ a
 
-  pub combination_is : (cols : ℕ) (cs : List ℕ) (rows : List (List ℕ)) → IsOver k.ops cs → All (IsOver k.ops) rows → (j : ℕ)
-      → coeff_of R.ops (read k (combination (row_ops k.ops cols) cs rows)) j ≡ combine (sequence_ops R.ops) (coeff_of R.ops (read k cs)) (sequences_of k rows) j
+  pub combination_is : (cols : ℕ) (cs : List ℕ) (rows : List (List ℕ)) → IsOver k.ops cs → All (IsOver k.ops) rows
+      → (j : ℕ)
+      → coeff_of R.ops (read k (combination (row_ops k.ops cols) cs rows)) j
+      ≡ combine (sequence_ops R.ops) (coeff_of R.ops (read k cs)) (sequences_of k rows) j
   combination_is cols [] rows cs_in over j =
-      coeff_zeros cols j ∙ sym (ap (λ s. s j) (combine_none (sequences R) (coeff_of R.ops (read k [])) (sequences_of k rows) (λ i l. refl)))
+      coeff_zeros cols j ∙ sym (ap (λ s. s j)
+      (combine_none (sequences R) (coeff_of R.ops (read k [])) (sequences_of k rows) (λ i l. refl)))
   combination_is cols (c ∷ cs) [] cs_in over j = coeff_zeros cols j
   combination_is cols (c ∷ cs) (r ∷ rows) cs_in over j =
       let c_in = IsOver_head cs_in in
@@ -107,17 +122,20 @@ module _ (k : CodeField) where
       let rest_in = All-tail (IsOver k.ops) r rows over in
       let rest = combination (row_ops k.ops cols) cs rows in
       ap (λ xs. coeff_of R.ops xs j)
-      (read_add_lists (scale_list (raw_ring k.ops) c r) rest (IsOver_scale k c r c_in r_in) (combination_over cols cs rows (IsOver_tail cs_in) rest_in)
+      (read_add_lists (scale_list (raw_ring k.ops) c r) rest (IsOver_scale k c r c_in r_in)
+      (combination_over cols cs rows (IsOver_tail cs_in) rest_in)
       ∙ ap (λ xs. add_lists R.ops xs (read k rest)) (read_scale_list c r c_in r_in))
       ∙ coeff_add (code_ring k) (scale_list R.ops (read_code k c) (read k r)) (read k rest) j
-      ∙ ap₂ R.◌⊕◌ (coeff_scale (code_ring k) (read_code k c) (read k r) j) (combination_is cols cs rows (IsOver_tail cs_in) rest_in j)
+      ∙ ap₂ R.◌⊕◌ (coeff_scale (code_ring k) (read_code k c) (read k r) j)
+      (combination_is cols cs rows (IsOver_tail cs_in) rest_in j)
 
   -- lists of codes with the same entries over the field
   pub codes_ext : (xs ys : List ℕ) → IsOver k.ops xs → IsOver k.ops ys → length xs ≡ length ys
       → ((j : ℕ) → j < length xs → coeff_of R.ops (read k xs) j ≡ coeff_of R.ops (read k ys) j) → xs ≡ ys
   codes_ext xs ys xs_in ys_in e h =
       sym (numbers_read k xs xs_in)
-      ∙ ap (numbers k) (list_ext R (read k xs) (read k ys) (length-map xs (read_code k) ∙ e ∙ sym (length-map ys (read_code k)))
+      ∙ ap (numbers k) (list_ext R (read k xs) (read k ys)
+      (length-map xs (read_code k) ∙ e ∙ sym (length-map ys (read_code k)))
       (λ j l. h j (subst (λ n. j < n) (length-map xs (read_code k)) l)))
       ∙ numbers_read k ys ys_in
 
@@ -136,18 +154,22 @@ module _ (k : CodeField) where
       → InRowSpace R.ops m.cols (sequences_of k m.rows) (coeff_of R.ops (read k w))
   space_of_codes m w over h = record {
     coefficient = coeff_of R.ops (read k h.coefficients);
-    is = λ j l. ap (λ xs. coeff_of R.ops (read k xs) j) h.is ∙ combination_is m.cols h.coefficients m.rows h.over over j;
+    is = λ j l. ap (λ xs. coeff_of R.ops (read k xs) j) h.is
+        ∙ combination_is m.cols h.coefficients m.rows h.over over j;
   }
 
-  pub codes_of_space : (m : MatrixValue) (w : List ℕ) → All (IsOver k.ops) m.rows → All (λ r. length r ≡ m.cols) m.rows → IsOver k.ops w → length w ≡ m.cols
+  pub codes_of_space : (m : MatrixValue) (w : List ℕ) → All (IsOver k.ops) m.rows → All (λ r. length r ≡ m.cols) m.rows
+      → IsOver k.ops w → length w ≡ m.cols
       → InRowSpace R.ops m.cols (sequences_of k m.rows) (coeff_of R.ops (read k w)) → IsInRowSpace k.ops m w
   codes_of_space m w over wide w_in w_long h = record {
     coefficients = cs;
     one_each = length_codes_of (length m.rows) h.coefficient;
     over = cs_in;
-    is = codes_ext w (product_of k.ops cs m) w_in (combination_over m.cols cs m.rows cs_in over) (w_long ∙ sym (length_combination m.cols cs m.rows wide)) (λ j l.
+    is = codes_ext w (product_of k.ops cs m) w_in (combination_over m.cols cs m.rows cs_in over)
+        (w_long ∙ sym (length_combination m.cols cs m.rows wide)) (λ j l.
         h.is j (subst (λ n. j < n) w_long l)
-        ∙ ap (λ s. s j) (combine_cong (sequences R) h.coefficient (coeff_of R.ops (read k cs)) (sequences_of k m.rows) (λ i a.
+        ∙ ap (λ s. s j) (combine_cong (sequences R) h.coefficient (coeff_of R.ops (read k cs)) (sequences_of k m.rows)
+        (λ i a.
         sym (coeff_codes_of (length m.rows) h.coefficient i (subst (λ n. i < n) (length_sequences k m.rows) a))))
         ∙ sym (combination_is m.cols cs m.rows cs_in over j));
   }
@@ -158,26 +180,32 @@ module _ (k : CodeField) where
       cs_in : IsOver k.ops cs
       cs_in = IsOver_numbers k (cut (length m.rows) h.coefficient)
 
-  pub row_look : (rows : List (List ℕ)) (i j : ℕ) → row R.ops (sequences_of k rows) i j ≡ coeff_of R.ops (read k (get_or rows i [])) j
+  pub row_look : (rows : List (List ℕ)) (i j : ℕ)
+      → row R.ops (sequences_of k rows) i j ≡ coeff_of R.ops (read k (get_or rows i [])) j
   row_look [] i j = refl
   row_look (r ∷ rows) zero j = refl
   row_look (r ∷ rows) (suc i) j = row_look rows i j
 
   -- a row is in the row space
-  pub own_row_codes : (m : MatrixValue) → All (IsOver k.ops) m.rows → All (λ r. length r ≡ m.cols) m.rows → (i : ℕ) → i < length m.rows
+  pub own_row_codes : (m : MatrixValue) → All (IsOver k.ops) m.rows → All (λ r. length r ≡ m.cols) m.rows → (i : ℕ)
+      → i < length m.rows
       → IsInRowSpace k.ops m (get_or m.rows i [])
   own_row_codes m over wide i l =
-      codes_of_space m (get_or m.rows i []) over wide (All-get_or (IsOver k.ops) m.rows i [] l over) (All-get_or (λ r. length r ≡ m.cols) m.rows i [] l wide)
+      codes_of_space m (get_or m.rows i []) over wide (All-get_or (IsOver k.ops) m.rows i [] l over)
+      (All-get_or (λ r. length r ≡ m.cols) m.rows i [] l wide)
       (record { coefficient = h.coefficient; is = λ j a. sym (row_look m.rows i j) ∙ h.is j a })
     where
       h : InRowSpace R.ops m.cols (sequences_of k m.rows) (row R.ops (sequences_of k m.rows) i)
       h = own_row R m.cols (sequences_of k m.rows) i (subst (λ n. i < n) (sym (length_sequences k m.rows)) l)
 
   -- the row spaces of matrices of one width
-  pub same_space_within : (m m' : MatrixValue) → m.cols ≡ m'.cols → IsMatrixOver k.ops m → IsMatrixOver k.ops m' → All (λ r. length r ≡ m.cols) m.rows
-      → All (λ r. length r ≡ m'.cols) m'.rows → HaveSameSpace k m.cols m.rows m'.rows → (w : List ℕ) → IsInRowSpace k.ops m w → IsInRowSpace k.ops m' w
+  pub same_space_within : (m m' : MatrixValue) → m.cols ≡ m'.cols → IsMatrixOver k.ops m → IsMatrixOver k.ops m'
+      → All (λ r. length r ≡ m.cols) m.rows
+      → All (λ r. length r ≡ m'.cols) m'.rows → HaveSameSpace k m.cols m.rows m'.rows → (w : List ℕ)
+      → IsInRowSpace k.ops m w → IsInRowSpace k.ops m' w
   same_space_within m m' e over over' wide wide' same w h =
       codes_of_space m' w over'.each wide' (rw h.is (combination_over m.cols h.coefficients m.rows h.over over.each))
       (ap length h.is ∙ length_combination m.cols h.coefficients m.rows wide ∙ e)
       (subst (λ n. InRowSpace R.ops n (sequences_of k m'.rows) (coeff_of R.ops (read k w))) e
-      (same_row_space R m.cols (sequences_of k m.rows) (sequences_of k m'.rows) same (coeff_of R.ops (read k w)) (space_of_codes m w over.each h)))
+      (same_row_space R m.cols (sequences_of k m.rows) (sequences_of k m'.rows) same (coeff_of R.ops (read k w))
+      (space_of_codes m w over.each h)))

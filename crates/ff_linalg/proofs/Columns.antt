@@ -34,7 +34,8 @@ module _ {A : Type 0} (R : CommRing A) where
       step : (x y z : A) → x ⊗ (a ⊗ y ⊕ z) ≡ a ⊗ (x ⊗ y) ⊕ x ⊗ z
       step x y z = ring R (a ∷ x ∷ y ∷ z ∷ []) λ q h. simp (reads, q, h 0, h 1, h 2, h 3) (q.equal _ _ refl)
 
-  combined : (r : ℕ) (v d : ℕ → A) (rows : List (ℕ → A)) → ((l : ℕ) → l < length rows → IsCombinedAt r v (row R.ops rows l))
+  combined : (r : ℕ) (v d : ℕ → A) (rows : List (ℕ → A))
+      → ((l : ℕ) → l < length rows → IsCombinedAt r v (row R.ops rows l))
       → IsCombinedAt r v (combine (sequence_ops R.ops) d rows)
   combined r v d [] h = sym (dot_none r v (λ i. 𝟘) (λ i l. refl))
   combined r v d (u ∷ rows) h =
@@ -42,7 +43,8 @@ module _ {A : Type 0} (R : CommRing A) where
       ∙ sym (dot_linear r v (d 0) u (combine (sequence_ops R.ops) (λ i. d (suc i)) rows))
 
   pub combined_in_space : (width r : ℕ) (v : ℕ → A) (rows : List (ℕ → A)) → r < width
-      → ((l : ℕ) → l < length rows → IsCombinedAt r v (row R.ops rows l)) → (w : ℕ → A) → InRowSpace R.ops width rows w → IsCombinedAt r v w
+      → ((l : ℕ) → l < length rows → IsCombinedAt r v (row R.ops rows l)) → (w : ℕ → A) → InRowSpace R.ops width rows w
+      → IsCombinedAt r v w
   combined_in_space width r v rows within h w s =
       s.is r within ∙ combined r v s.coefficient rows h
       ∙ sym (below_cong R r (λ i. v i ⊗ w i) (λ i. v i ⊗ combine (sequence_ops R.ops) s.coefficient rows i)

@@ -1,4 +1,5 @@
--- Reduced rows of which the first ones have a 1 on the diagonal: these columns are independent, and the next one shows the
+-- Reduced rows of which the first ones have a 1 on the diagonal: these columns are independent, and the next one shows
+-- the
 -- coefficients by which it is a combination of them.
 use Rattle.std.proofs.Common.{◌≡◌, ℕ, zero, suc, ◌<◌, ◌≤◌, ◌⊎◌, inl, inr, List, length, sym, ◌∙◌, ap, ap₂, arith, eq-or-lt_of_le}
 use Rattle.ring_lemmas.specs.Ring.{CommRing}
@@ -44,7 +45,8 @@ module _ {A : Type 0} (D : Domain A) (width : ℕ) (rows : List (ℕ → A)) (r 
   off_diagonal i l a b ne = ap (row R.ops rows l) (sym (on_diagonal i a)) ∙ r.column_zero i l (ranked i a) b ne
 
   -- none of these columns is a combination of the columns before it
-  pub independent_columns : (i : ℕ) (v : ℕ → A) → i < count → ¬ ((l : ℕ) → l < length rows → IsCombinedAt R i v (row R.ops rows l))
+  pub independent_columns : (i : ℕ) (v : ℕ → A) → i < count
+      → ¬ ((l : ℕ) → l < length rows → IsCombinedAt R i v (row R.ops rows l))
   independent_columns i v l h =
       D.one_not_zero
       (sym (ones i l) ∙ h i (omega arith)
@@ -58,14 +60,16 @@ module _ {A : Type 0} (D : Domain A) (width : ℕ) (rows : List (ℕ → A)) (r 
         pivot : (m : l < r.rank) → (count ≡ r.pivot l) ⊎ (count < r.pivot l) → row R.ops rows l count ≡ 𝟘
         pivot m (inl e) =
             let same : l ≡ count = let k = late l m in omega arith in
-            absurd (ends (omega arith) (ap (λ n. row R.ops rows n count) (sym same) ∙ ap (row R.ops rows l) e ∙ r.pivot_one l m))
+            absurd (ends (omega arith) (ap (λ n. row R.ops rows n count) (sym same) ∙ ap (row R.ops rows l) e
+            ∙ r.pivot_one l m))
         pivot m (inr c) = r.left_zero l count m c
 
         go : (l < r.rank) ⊎ (r.rank ≤ l) → row R.ops rows l count ≡ 𝟘
         go (inl m) = pivot m (eq-or-lt_of_le (let k = late l m in let k' : count ≤ r.pivot l = omega arith in k'))
         go (inr m) = r.zero_rows l count m b within
 
-    pub dependent_column : (v : ℕ → A) → ((i : ℕ) → i < count → v i ≡ row R.ops rows i count) → (l : ℕ) → l < length rows
+    pub dependent_column : (v : ℕ → A) → ((i : ℕ) → i < count → v i ≡ row R.ops rows i count) → (l : ℕ)
+        → l < length rows
         → IsCombinedAt R count v (row R.ops rows l)
     dependent_column v v_is l b = go (order l count)
       where

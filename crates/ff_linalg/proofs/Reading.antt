@@ -19,16 +19,21 @@ module _ (k : CodeField) where
   pub read_one : read_code k 1 ≡ (code_ring k).𝟙
   read_one = same_code k _ _ (read_code_below k 1 k.laws.one_below)
 
-  pub read_add : (a b : ℕ) → a < k.size → b < k.size → read_code k (k.add a b) ≡ (code_ring k).◌⊕◌ (read_code k a) (read_code k b)
+  pub read_add : (a b : ℕ) → a < k.size → b < k.size
+      → read_code k (k.add a b) ≡ (code_ring k).◌⊕◌ (read_code k a) (read_code k b)
   read_add a b a_in b_in =
-      same_code k _ _ (read_code_below k (k.add a b) (k.laws.add_below a b a_in b_in) ∙ sym (ap₂ k.add (read_code_below k a a_in) (read_code_below k b b_in)))
+      same_code k _ _ (read_code_below k (k.add a b) (k.laws.add_below a b a_in b_in)
+      ∙ sym (ap₂ k.add (read_code_below k a a_in) (read_code_below k b b_in)))
 
-  pub read_mul : (a b : ℕ) → a < k.size → b < k.size → read_code k (k.mul a b) ≡ (code_ring k).◌⊗◌ (read_code k a) (read_code k b)
+  pub read_mul : (a b : ℕ) → a < k.size → b < k.size
+      → read_code k (k.mul a b) ≡ (code_ring k).◌⊗◌ (read_code k a) (read_code k b)
   read_mul a b a_in b_in =
-      same_code k _ _ (read_code_below k (k.mul a b) (k.laws.mul_below a b a_in b_in) ∙ sym (ap₂ k.mul (read_code_below k a a_in) (read_code_below k b b_in)))
+      same_code k _ _ (read_code_below k (k.mul a b) (k.laws.mul_below a b a_in b_in)
+      ∙ sym (ap₂ k.mul (read_code_below k a a_in) (read_code_below k b b_in)))
 
   pub read_neg : (a : ℕ) → a < k.size → read_code k (k.neg a) ≡ (code_ring k).⊖◌ (read_code k a)
-  read_neg a a_in = same_code k _ _ (read_code_below k (k.neg a) (k.laws.neg_below a a_in) ∙ sym (ap k.neg (read_code_below k a a_in)))
+  read_neg a a_in = same_code k _ _ (read_code_below k (k.neg a) (k.laws.neg_below a a_in)
+      ∙ sym (ap k.neg (read_code_below k a a_in)))
 
   -- codes below the size are what they are read as
   pub read_same : (a b : ℕ) → a < k.size → b < k.size → read_code k a ≡ read_code k b → a ≡ b
@@ -40,7 +45,8 @@ module _ (k : CodeField) where
   coeff_read (x ∷ xs) (suc j) = coeff_read xs j
 
   -- the entries of the rows as sequences
-  pub row_entry : (rows : List (List ℕ)) (i j : ℕ) → row (code_ring k).ops (sequences_of k rows) i j ≡ read_code k (entry_at rows i j)
+  pub row_entry : (rows : List (List ℕ)) (i j : ℕ)
+      → row (code_ring k).ops (sequences_of k rows) i j ≡ read_code k (entry_at rows i j)
   row_entry [] i j = sym read_zero
   row_entry (r ∷ rows) zero j = coeff_read r j
   row_entry (r ∷ rows) (suc i) j = row_entry rows i j

@@ -28,9 +28,11 @@ module _ (rows : List (List ℕ)) (p i : ℕ) (p_in : p < length rows) (i_in : i
       same (x ∷ xs) zero d d' l = refl
       same (x ∷ xs) (suc j) d d' l = same xs j d d' (omega arith)
 
-      go : (rows : List (List ℕ)) → p < length rows → i < length rows → swap rows p i ≡ set (set rows p (get_or rows i [])) i (get_or rows p [])
+      go : (rows : List (List ℕ)) → p < length rows → i < length rows
+          → swap rows p i ≡ set (set rows p (get_or rows i [])) i (get_or rows p [])
       go [] l m = absurd (omega arith)
-      go (r ∷ rows) l m = ap₂ (λ x y. set (set (r ∷ rows) p x) i y) (same (r ∷ rows) i r [] m) (same (r ∷ rows) p r [] l)
+      go (r ∷ rows) l m = ap₂ (λ x y. set (set (r ∷ rows) p x) i y) (same (r ∷ rows) i r [] m)
+          (same (r ∷ rows) p r [] l)
 
   pub swap_here : get_or (swap rows p i) p [] ≡ get_or rows i []
   swap_here = ap (λ w. get_or w p []) swap_is ∙ go (ℕ_discrete p i)
@@ -38,19 +40,25 @@ module _ (rows : List (List ℕ)) (p i : ℕ) (p_in : p < length rows) (i_in : i
       go : Dec (p ≡ i) → get_or (set (set rows p (get_or rows i [])) i (get_or rows p [])) p [] ≡ get_or rows i []
       go (yes e) =
           ap (λ n. get_or (set (set rows p (get_or rows i [])) i (get_or rows p [])) n []) e
-          ∙ get_or-set_same (set rows p (get_or rows i [])) i (get_or rows p []) [] (omega (arith, length-set rows p (get_or rows i []))) ∙ ap (λ n. get_or rows n []) e
+          ∙ get_or-set_same (set rows p (get_or rows i [])) i (get_or rows p []) []
+          (omega (arith, length-set rows p (get_or rows i []))) ∙ ap (λ n. get_or rows n []) e
       go (no ne) =
-          get_or-set_other (set rows p (get_or rows i [])) i p (get_or rows p []) [] ne ∙ get_or-set_same rows p (get_or rows i []) [] p_in
+          get_or-set_other (set rows p (get_or rows i [])) i p (get_or rows p []) [] ne
+          ∙ get_or-set_same rows p (get_or rows i []) [] p_in
 
   pub swap_there : get_or (swap rows p i) i [] ≡ get_or rows p []
-  swap_there = ap (λ w. get_or w i []) swap_is ∙ get_or-set_same (set rows p (get_or rows i [])) i (get_or rows p []) [] (omega (arith, length-set rows p (get_or rows i [])))
+  swap_there = ap (λ w. get_or w i []) swap_is
+      ∙ get_or-set_same (set rows p (get_or rows i [])) i (get_or rows p []) []
+      (omega (arith, length-set rows p (get_or rows i [])))
 
   pub swap_other : (l : ℕ) → ¬ (l ≡ p) → ¬ (l ≡ i) → get_or (swap rows p i) l [] ≡ get_or rows l []
   swap_other l ne nf =
-      ap (λ w. get_or w l []) swap_is ∙ get_or-set_other (set rows p (get_or rows i [])) i l (get_or rows p []) [] nf ∙ get_or-set_other rows p l (get_or rows i []) [] ne
+      ap (λ w. get_or w l []) swap_is ∙ get_or-set_other (set rows p (get_or rows i [])) i l (get_or rows p []) [] nf
+      ∙ get_or-set_other rows p l (get_or rows i []) [] ne
 
   pub length_swap : length (swap rows p i) ≡ length rows
-  length_swap = ap length swap_is ∙ length-set (set rows p (get_or rows i [])) i (get_or rows p []) ∙ length-set rows p (get_or rows i [])
+  length_swap = ap length swap_is ∙ length-set (set rows p (get_or rows i [])) i (get_or rows p [])
+      ∙ length-set rows p (get_or rows i [])
 
 -- an exchange of a row with itself
 pub swap_self : (rows : List (List ℕ)) (p : ℕ) → p < length rows → swap rows p p ≡ rows
@@ -67,10 +75,13 @@ module _ (k : FieldOps) (p c : ℕ) (rows : List (List ℕ)) (p_in : p < length 
 
   pub eliminated_pivot : get_or (eliminated k p c rows) p [] ≡ pivot
   eliminated_pivot =
-      get_or-append_right (map (cleared k c pivot) (take p rows)) (pivot ∷ map (cleared k c pivot) (drop (suc p) rows)) p p [] front_length (omega arith)
-      ∙ ap (λ n. get_or (pivot ∷ map (cleared k c pivot) (drop (suc p) rows)) n []) (let e : p - p ≡ 0 = omega arith in e)
+      get_or-append_right (map (cleared k c pivot) (take p rows)) (pivot ∷ map (cleared k c pivot) (drop (suc p) rows))
+      p p [] front_length (omega arith)
+      ∙ ap (λ n. get_or (pivot ∷ map (cleared k c pivot) (drop (suc p) rows)) n [])
+      (let e : p - p ≡ 0 = omega arith in e)
 
-  pub eliminated_other : (l : ℕ) → l < length rows → ¬ (l ≡ p) → get_or (eliminated k p c rows) l [] ≡ cleared k c pivot (get_or rows l [])
+  pub eliminated_other : (l : ℕ) → l < length rows → ¬ (l ≡ p)
+      → get_or (eliminated k p c rows) l [] ≡ cleared k c pivot (get_or rows l [])
   eliminated_other l l_in ne = go (order l p)
     where
       order : (a b : ℕ) → (a < b) ⊎ (b ≤ a)
@@ -78,15 +89,18 @@ module _ (k : FieldOps) (p c : ℕ) (rows : List (List ℕ)) (p_in : p < length 
 
       go : (l < p) ⊎ (p ≤ l) → get_or (eliminated k p c rows) l [] ≡ cleared k c pivot (get_or rows l [])
       go (inl a) =
-          get_or_append_left (map (cleared k c pivot) (take p rows)) (pivot ∷ map (cleared k c pivot) (drop (suc p) rows)) [] l (omega (arith, front_length))
+          get_or_append_left (map (cleared k c pivot) (take p rows))
+          (pivot ∷ map (cleared k c pivot) (drop (suc p) rows)) [] l (omega (arith, front_length))
           ∙ get_or-map (cleared k c pivot) (take p rows) l [] [] (omega (arith, length-take-le p rows (omega arith)))
           ∙ ap (cleared k c pivot) (get_or-take p rows l [] a)
       go (inr a) =
           let e : l - p ≡ suc (l - suc p) = omega arith in
           let f : suc p + (l - suc p) ≡ l = omega arith in
-          get_or-append_right (map (cleared k c pivot) (take p rows)) (pivot ∷ map (cleared k c pivot) (drop (suc p) rows)) p l [] front_length a
+          get_or-append_right (map (cleared k c pivot) (take p rows))
+          (pivot ∷ map (cleared k c pivot) (drop (suc p) rows)) p l [] front_length a
           ∙ ap (λ n. get_or (pivot ∷ map (cleared k c pivot) (drop (suc p) rows)) n []) e
-          ∙ get_or-map (cleared k c pivot) (drop (suc p) rows) (l - suc p) [] [] (omega (arith, length-drop (suc p) rows))
+          ∙ get_or-map (cleared k c pivot) (drop (suc p) rows) (l - suc p) [] []
+          (omega (arith, length-drop (suc p) rows))
           ∙ ap (cleared k c pivot) (get_or-drop (suc p) rows (l - suc p) [] ∙ ap (λ n. get_or rows n []) f)
 
   pub length_eliminated : length (eliminated k p c rows) ≡ length rows
@@ -102,8 +116,10 @@ add_entry k (x ∷ xs) (y ∷ ys) zero l e = refl
 add_entry k (x ∷ xs) (y ∷ ys) (suc j) l e = add_entry k xs ys j (omega arith) (omega arith)
 
 -- one column's step, with the row i at the position of the rank
-module _ (k : CodeField) (width : ℕ) (rows : List (List ℕ)) (wide : All (λ r. length r ≡ width) rows) (over : All (IsOver k.ops) rows)
-    (c : ℕ) (c_below : c < width) (r : IsReduced (code_ring k).ops c (sequences_of k rows)) (i : ℕ) (i_late : r.rank ≤ i) (i_in : i < length rows)
+module _ (k : CodeField) (width : ℕ) (rows : List (List ℕ)) (wide : All (λ r. length r ≡ width) rows)
+    (over : All (IsOver k.ops) rows)
+    (c : ℕ) (c_below : c < width) (r : IsReduced (code_ring k).ops c (sequences_of k rows)) (i : ℕ)
+    (i_late : r.rank ≤ i) (i_in : i < length rows)
     (nonzero : entry_at rows i c ≢ 0) where
   abbrev R : CommRing (Code k)
   R = (code_ring k).ring
@@ -129,7 +145,8 @@ module _ (k : CodeField) (width : ℕ) (rows : List (List ℕ)) (wide : All (λ 
   inverts : R.◌⊗◌ (row R.ops F i c) v ≡ R.𝟙
   inverts =
       ap (λ x. R.◌⊗◌ x v) (row_entry k rows i c) ∙ R.mul_comm _ _
-      ∙ sym (read_mul k _ _ inverse_below (entry_below_size i c)) ∙ ap (read_code k) (k.laws.inv_mul _ (entry_below_size i c) nonzero) ∙ read_one k
+      ∙ sym (read_mul k _ _ inverse_below (entry_below_size i c))
+      ∙ ap (read_code k) (k.laws.inv_mul _ (entry_below_size i c) nonzero) ∙ read_one k
 
   p_in : p < length rows
   p_in = omega arith
@@ -144,17 +161,21 @@ module _ (k : CodeField) (width : ℕ) (rows : List (List ℕ)) (wide : All (λ 
   wide_row l m = All-get_or (λ r. length r ≡ width) rows l [] m wide
 
   -- the entries of the pivot's row
-  pivot_entry : (j : ℕ) → j < width → get_or (normalized k.ops c (get_or rows i [])) j 0 ≡ k.mul (k.inv (entry_at rows i c)) (entry_at rows i j)
-  pivot_entry j l = get_or_scale_list (raw_ring k.ops) (k.inv (entry_at rows i c)) (get_or rows i []) j 0 (omega (arith, wide_row i i_in))
+  pivot_entry : (j : ℕ) → j < width → get_or (normalized k.ops c (get_or rows i [])) j 0
+      ≡ k.mul (k.inv (entry_at rows i c)) (entry_at rows i j)
+  pivot_entry j l = get_or_scale_list (raw_ring k.ops) (k.inv (entry_at rows i c)) (get_or rows i []) j 0
+      (omega (arith, wide_row i i_in))
 
   at_pivot : (j : ℕ) → j < width → row R.ops (sequences_of k stepped) p j ≡ row R.ops N p j
   at_pivot j l =
       row_entry k stepped p j
       ∙ ap (λ w. read_code k (get_or w j 0))
-      (eliminated_pivot k.ops p c (swap rows p i) (omega (arith, p_in, length_swap rows p i p_in i_in)) ∙ ap (normalized k.ops c) (swap_here rows p i p_in i_in))
+      (eliminated_pivot k.ops p c (swap rows p i) (omega (arith, p_in, length_swap rows p i p_in i_in))
+      ∙ ap (normalized k.ops c) (swap_here rows p i p_in i_in))
       ∙ ap (read_code k) (pivot_entry j l) ∙ read_mul k _ _ inverse_below (entry_below_size i j)
       ∙ ap (λ x. R.◌⊗◌ v x) (sym (row_entry k rows i j))
-      ∙ sym (row_pivot R width F c c_below r i i_late below v inverts j ∙ normal_is R width F c c_below r i i_late below v inverts j)
+      ∙ sym (row_pivot R width F c c_below r i i_late below v inverts j
+      ∙ normal_is R width F c c_below r i i_late below v inverts j)
 
   -- where a row comes from
   record Source (l : ℕ) : Type 0 where
@@ -170,7 +191,8 @@ module _ (k : CodeField) (width : ℕ) (rows : List (List ℕ)) (wide : All (λ 
       go (yes e) = record {
         position = p;
         position_in = p_in;
-        from_is = ap (from R width F c c_below r i i_late below v inverts) e ∙ from_here R width F c c_below r i i_late below v inverts;
+        from_is = ap (from R width F c c_below r i i_late below v inverts) e
+            ∙ from_here R width F c c_below r i i_late below v inverts;
         row_is = ap (λ n. get_or (swap rows p i) n []) e ∙ swap_there rows p i p_in i_in;
       }
       go (no nf) = record {
@@ -180,22 +202,28 @@ module _ (k : CodeField) (width : ℕ) (rows : List (List ℕ)) (wide : All (λ 
         row_is = swap_other rows p i p_in i_in l ne nf;
       }
 
-  at_other : (l j : ℕ) → l < length rows → j < width → ¬ (l ≡ p) → row R.ops (sequences_of k stepped) l j ≡ row R.ops N l j
+  at_other : (l j : ℕ) → l < length rows → j < width → ¬ (l ≡ p)
+      → row R.ops (sequences_of k stepped) l j ≡ row R.ops N l j
   at_other l j l_in j_in ne =
       row_entry k stepped l j
       ∙ ap (λ w. read_code k (get_or w j 0))
-      (eliminated_other k.ops p c (swap rows p i) (omega (arith, p_in, length_swap rows p i p_in i_in)) l (omega (arith, length_swap rows p i p_in i_in)) ne
+      (eliminated_other k.ops p c (swap rows p i) (omega (arith, p_in, length_swap rows p i p_in i_in)) l
+      (omega (arith, length_swap rows p i p_in i_in)) ne
       ∙ ap₂ (λ x y. cleared k.ops c (normalized k.ops c x) y) (swap_here rows p i p_in i_in) s.row_is)
       ∙ ap (read_code k) entry
       ∙ read_add k e _ (entry_below_size s.position j) product_below
       ∙ ap (λ x. R.◌⊕◌ (read_code k e) x)
       (read_mul k _ _ (k.laws.neg_below ec (entry_below_size s.position c)) quotient_below
-      ∙ ap₂ R.◌⊗◌ (read_neg k ec (entry_below_size s.position c)) (read_mul k _ _ inverse_below (entry_below_size i j) ∙ ap (λ x. R.◌⊗◌ v x) (sym (row_entry k rows i j)))
+      ∙ ap₂ R.◌⊗◌ (read_neg k ec (entry_below_size s.position c))
+      (read_mul k _ _ inverse_below (entry_below_size i j) ∙ ap (λ x. R.◌⊗◌ v x) (sym (row_entry k rows i j)))
       ∙ neg_mul R (read_code k ec) _)
       ∙ sym (row_other R width F c c_below r i i_late below v inverts l j (omega (arith, length_sequences k rows)) ne
-      ∙ ap (λ n. R.◌⊕◌ (row R.ops F n j) (R.⊖◌ (R.◌⊗◌ (row R.ops F n c) (normal R width F c c_below r i i_late below v inverts j)))) s.from_is
-      ∙ ap₂ (λ x y. R.◌⊕◌ x (R.⊖◌ (R.◌⊗◌ y (normal R width F c c_below r i i_late below v inverts j)))) (row_entry k rows s.position j) (row_entry k rows s.position c)
-      ∙ ap (λ x. R.◌⊕◌ (read_code k e) (R.⊖◌ (R.◌⊗◌ (read_code k ec) x))) (normal_is R width F c c_below r i i_late below v inverts j))
+      ∙ ap (λ n. R.◌⊕◌ (row R.ops F n j)
+      (R.⊖◌ (R.◌⊗◌ (row R.ops F n c) (normal R width F c c_below r i i_late below v inverts j)))) s.from_is
+      ∙ ap₂ (λ x y. R.◌⊕◌ x (R.⊖◌ (R.◌⊗◌ y (normal R width F c c_below r i i_late below v inverts j))))
+      (row_entry k rows s.position j) (row_entry k rows s.position c)
+      ∙ ap (λ x. R.◌⊕◌ (read_code k e) (R.⊖◌ (R.◌⊗◌ (read_code k ec) x)))
+      (normal_is R width F c c_below r i i_late below v inverts j))
     where
       s : Source l
       s = source l l_in ne
@@ -218,20 +246,32 @@ module _ (k : CodeField) (width : ℕ) (rows : List (List ℕ)) (wide : All (λ 
       entry : get_or (cleared k.ops c (normalized k.ops c (get_or rows i [])) (get_or rows s.position [])) j 0
           ≡ k.add e (k.mul (k.neg ec) (k.mul (k.inv (entry_at rows i c)) (entry_at rows i j)))
       entry =
-          add_entry k.ops (get_or rows s.position []) (scale_list (raw_ring k.ops) (k.neg ec) (normalized k.ops c (get_or rows i []))) j (omega (arith, wide_row s.position s.position_in))
-          (wide_row s.position s.position_in ∙ sym (length_scale_list (raw_ring k.ops) (k.neg ec) (normalized k.ops c (get_or rows i [])) ∙ wide_pivot))
+          add_entry k.ops (get_or rows s.position [])
+          (scale_list (raw_ring k.ops) (k.neg ec) (normalized k.ops c (get_or rows i []))) j
+          (omega (arith, wide_row s.position s.position_in))
+          (wide_row s.position s.position_in
+          ∙ sym (length_scale_list (raw_ring k.ops) (k.neg ec) (normalized k.ops c (get_or rows i []))
+          ∙ wide_pivot))
           ∙ ap (k.add e)
-          (get_or_scale_list (raw_ring k.ops) (k.neg ec) (normalized k.ops c (get_or rows i [])) j 0 (omega (arith, wide_pivot)) ∙ ap (k.mul (k.neg ec)) (pivot_entry j j_in))
+          (get_or_scale_list (raw_ring k.ops) (k.neg ec) (normalized k.ops c (get_or rows i [])) j 0
+          (omega (arith, wide_pivot)) ∙ ap (k.mul (k.neg ec)) (pivot_entry j j_in))
 
   count : length (sequences_of k stepped) ≡ length N
   count =
-      length_sequences k stepped ∙ length_eliminated k.ops p c (swap rows p i) (omega (arith, p_in, length_swap rows p i p_in i_in)) ∙ length_swap rows p i p_in i_in
+      length_sequences k stepped ∙ length_eliminated k.ops p c (swap rows p i)
+      (omega (arith, p_in, length_swap rows p i p_in i_in)) ∙ length_swap rows p i p_in i_in
       ∙ sym (length_next R width F c c_below r i i_late below v inverts ∙ length_sequences k rows)
 
   has_entries : HasEntries R width N (sequences_of k stepped)
-  has_entries = record { count = count; entry = λ l j a b. go l j (omega (arith, a, length_next R width F c c_below r i i_late below v inverts, length_sequences k rows)) b (ℕ_discrete l p) }
+  has_entries = record {
+    count = count;
+    entry = λ l j a b. go l j
+        (omega (arith, a, length_next R width F c c_below r i i_late below v inverts, length_sequences k rows)) b
+        (ℕ_discrete l p);
+  }
     where
-      go : (l j : ℕ) → l < length rows → j < width → Dec (l ≡ p) → row R.ops (sequences_of k stepped) l j ≡ row R.ops N l j
+      go : (l j : ℕ) → l < length rows → j < width → Dec (l ≡ p)
+          → row R.ops (sequences_of k stepped) l j ≡ row R.ops N l j
       go l j a b (yes e) = subst (λ n. row R.ops (sequences_of k stepped) n j ≡ row R.ops N n j) (sym e) (at_pivot j b)
       go l j a b (no ne) = at_other l j a b ne
 
@@ -244,9 +284,11 @@ module _ (k : CodeField) (width : ℕ) (rows : List (List ℕ)) (wide : All (λ 
   }
 
   stepped_same : HaveSameSpace k width stepped rows
-  stepped_same = same_of_entries R width N (sequences_of k stepped) has_entries F (next_same R width F c c_below r i i_late below v inverts)
+  stepped_same = same_of_entries R width N (sequences_of k stepped) has_entries F
+      (next_same R width F c c_below r i i_late below v inverts)
 
-pub pivot_step : (k : CodeField) (width : ℕ) (rows : List (List ℕ)) → All (λ r. length r ≡ width) rows → All (IsOver k.ops) rows → (c : ℕ) → c < width
+pub pivot_step : (k : CodeField) (width : ℕ) (rows : List (List ℕ)) → All (λ r. length r ≡ width) rows
+    → All (IsOver k.ops) rows → (c : ℕ) → c < width
     → (p : ℕ) → IsReducedBelow k c rows p → (i : ℕ) → p ≤ i → i < length rows → entry_at rows i c ≢ 0
     → IsEliminationStep k width c rows (eliminated k.ops p c (swap rows p i)) (suc p)
 pivot_step k width rows wide over c c_below p below i late i_in some =
@@ -264,7 +306,8 @@ pub skip_step : (k : CodeField) (width : ℕ) (rows : List (List ℕ)) (c : ℕ)
 skip_step k width rows c p below none = record {
   reduced = record {
     form = skip_column (code_ring k).ring (sequences_of k rows) c below.form (λ l a b.
-        row_entry k rows l c ∙ ap (read_code k) (none l (omega (arith, below.rank_is)) (omega (arith, length_sequences k rows))) ∙ read_zero k);
+        row_entry k rows l c ∙ ap (read_code k)
+        (none l (omega (arith, below.rank_is)) (omega (arith, length_sequences k rows))) ∙ read_zero k);
     rank_is = below.rank_is;
   };
   same = same_refl (code_ring k).ring width (sequences_of k rows);
@@ -288,13 +331,17 @@ reduced_start k rows = record {
 }
 
 -- what holds of each row holds of each after an exchange
-pub all_swap : (P : List ℕ → Type 0) (rows : List (List ℕ)) (p i : ℕ) → p < length rows → i < length rows → All P rows → All P (swap rows p i)
+pub all_swap : (P : List ℕ → Type 0) (rows : List (List ℕ)) (p i : ℕ) → p < length rows → i < length rows → All P rows
+    → All P (swap rows p i)
 all_swap P rows p i p_in i_in h =
-    All-from_get_or P (swap rows p i) [] (λ l l_in. go l (omega (arith, l_in, length_swap rows p i p_in i_in)) (ℕ_discrete l p) (ℕ_discrete l i))
+    All-from_get_or P (swap rows p i) []
+    (λ l l_in. go l (omega (arith, l_in, length_swap rows p i p_in i_in)) (ℕ_discrete l p) (ℕ_discrete l i))
   where
     go : (l : ℕ) → l < length rows → Dec (l ≡ p) → Dec (l ≡ i) → P (get_or (swap rows p i) l [])
     go l l_in (yes e) d =
-        subst P (sym (ap (λ n. get_or (swap rows p i) n []) e ∙ swap_here rows p i p_in i_in)) (All-get_or P rows i [] i_in h)
+        subst P (sym (ap (λ n. get_or (swap rows p i) n []) e ∙ swap_here rows p i p_in i_in))
+        (All-get_or P rows i [] i_in h)
     go l l_in (no ne) (yes e) =
-        subst P (sym (ap (λ n. get_or (swap rows p i) n []) e ∙ swap_there rows p i p_in i_in)) (All-get_or P rows p [] p_in h)
+        subst P (sym (ap (λ n. get_or (swap rows p i) n []) e ∙ swap_there rows p i p_in i_in))
+        (All-get_or P rows p [] p_in h)
     go l l_in (no ne) (no nf) = subst P (sym (swap_other rows p i p_in i_in l ne nf)) (All-get_or P rows l [] l_in h)

@@ -13,12 +13,14 @@ use Rattle.ff_linalg.specs.Steps.{normalized, cleared, eliminated}
 use Rattle.ff_linalg.proofs.Flat.{length_rows_in, rows_in_middle, rows_in_split, rows_in_get, rows_in_put, row_end, row_span}
 
 -- a row is exchanged with an earlier one
-swap_middle : {X : Type 0} (before bs : List X) (y d : X) (u l : ℕ) → length before ≡ l → u < l → swap (before ++ y ∷ bs) u l ≡ set before u y ++ get_or before u d ∷ bs
+swap_middle : {X : Type 0} (before bs : List X) (y d : X) (u l : ℕ) → length before ≡ l → u < l
+    → swap (before ++ y ∷ bs) u l ≡ set before u y ++ get_or before u d ∷ bs
 swap_middle [] bs y d u l e less = absurd (omega arith)
 swap_middle {X} (a ∷ before) bs y d u l e less =
     let all : List X = (a ∷ before) ++ y ∷ bs in
     let lower : get_or all l a ≡ y = ap (λ m. get_or all m a) (sym e) ∙ get_or-append_seam (a ∷ before) y bs a in
-    let upper : get_or all u a ≡ get_or (a ∷ before) u d = get_or_append_left (a ∷ before) (y ∷ bs) a u (omega arith) ∙ same (a ∷ before) u a d (omega arith) in
+    let upper : get_or all u a ≡ get_or (a ∷ before) u d = get_or_append_left (a ∷ before) (y ∷ bs) a u (omega arith)
+    ∙ same (a ∷ before) u a d (omega arith) in
     ap₂ (λ p q. set (set all u p) l q) lower upper
     ∙ ap (λ w. set w l (get_or (a ∷ before) u d)) (set-append_left (a ∷ before) (y ∷ bs) u y (omega arith))
     ∙ set_at (set (a ∷ before) u y) y bs (get_or (a ∷ before) u d) l (length_set (a ∷ before) u y ∙ e)
@@ -35,13 +37,17 @@ swap_middle {X} (a ∷ before) bs y d u l e less =
 
 pub swapped_rows : (c n u l : ℕ) (xs upper lower : List ℕ) → length xs ≡ n * c → u < l → l < n
     → upper ≡ take c (drop (l * c) xs) → lower ≡ take (u * c + c - u * c) (drop (u * c) (take (l * c) xs))
-    → rows_in c n (put_mid (u * c) (u * c + c - u * c) (take (l * c) xs) upper ++ (lower ++ drop c (drop (l * c) xs))) ≡ swap (rows_in c n xs) u l
+    → rows_in c n (put_mid (u * c) (u * c + c - u * c) (take (l * c) xs) upper ++ (lower ++ drop c (drop (l * c) xs)))
+    ≡ swap (rows_in c n xs) u l
 swapped_rows c n u l xs upper lower shape less within upper_is lower_is =
     ap₂ (λ m k. rows_in c m (put_mid (u * c) k front upper ++ (lower ++ drop c back))) (sym count) (row_span (u * c) c)
     ∙ rows_in_middle c l (n - suc l) (put_mid (u * c) c front upper) lower (drop c back) put_length lower_length
-    ∙ ap₂ (λ before r. before ++ r ∷ rows_in c (n - suc l) (drop c back)) (rows_in_put c l u front front_length less upper upper_length ∙ ap (set (rows_in c l front) u) upper_is) lower_row
+    ∙ ap₂ (λ before r. before ++ r ∷ rows_in c (n - suc l) (drop c back))
+    (rows_in_put c l u front front_length less upper upper_length ∙ ap (set (rows_in c l front) u) upper_is)
+    lower_row
     ∙ sym (ap (λ rows. swap rows u l) (rows_in_split c n l xs shape within)
-    ∙ swap_middle (rows_in c l front) (rows_in c (n - suc l) (drop c back)) (take c back) [] u l (length_rows_in c l front) less)
+    ∙ swap_middle (rows_in c l front) (rows_in c (n - suc l) (drop c back)) (take c back) [] u l
+    (length_rows_in c l front) less)
   where
     front : List ℕ
     front = take (l * c) xs
@@ -56,15 +62,18 @@ swapped_rows c n u l xs upper lower shape less within upper_is lower_is =
     front_length = length-take-le (l * c) xs (omega (arith, row_end l n c within))
 
     upper_length : length upper ≡ c
-    upper_length = ap length upper_is ∙ length-take-le c back (omega (arith, row_end l n c within, length-drop (l * c) xs))
+    upper_length = ap length upper_is ∙ length-take-le c back
+        (omega (arith, row_end l n c within, length-drop (l * c) xs))
 
     lower_row : lower ≡ get_or (rows_in c l front) u []
-    lower_row = lower_is ∙ ap (λ m. take m (drop (u * c) front)) (row_span (u * c) c) ∙ sym (rows_in_get c l u front front_length less)
+    lower_row = lower_is ∙ ap (λ m. take m (drop (u * c) front)) (row_span (u * c) c)
+        ∙ sym (rows_in_get c l u front front_length less)
 
     lower_length : length lower ≡ c
     lower_length =
         ap length (lower_is ∙ ap (λ m. take m (drop (u * c) front)) (row_span (u * c) c))
-        ∙ length-take-le c (drop (u * c) front) (omega (arith, row_end u l c less, front_length, length-drop (u * c) front))
+        ∙ length-take-le c (drop (u * c) front)
+        (omega (arith, row_end u l c less, front_length, length-drop (u * c) front))
 
     put_length : length (put_mid (u * c) c front upper) ≡ l * c
     put_length =
@@ -82,11 +91,14 @@ swapped_rows c n u l xs upper lower shape less within upper_is lower_is =
 
 -- all rows after elimination by one of them
 eliminated_middle : (k : FieldOps) (p c : ℕ) (before bs : List (List ℕ)) (r : List ℕ) → length before ≡ p
-    → eliminated k p c (before ++ r ∷ bs) ≡ map (cleared k c (normalized k c r)) before ++ normalized k c r ∷ map (cleared k c (normalized k c r)) bs
+    → eliminated k p c (before ++ r ∷ bs)
+    ≡ map (cleared k c (normalized k c r)) before ++ normalized k c r ∷ map (cleared k c (normalized k c r)) bs
 eliminated_middle k p c before bs r e =
-    ap (λ w. map (cleared k c (normalized k c w)) (take p (before ++ r ∷ bs)) ++ normalized k c w ∷ map (cleared k c (normalized k c w)) (drop (suc p) (before ++ r ∷ bs)))
+    ap (λ w. map (cleared k c (normalized k c w)) (take p (before ++ r ∷ bs))
+    ++ normalized k c w ∷ map (cleared k c (normalized k c w)) (drop (suc p) (before ++ r ∷ bs)))
     (ap (λ m. get_or (before ++ r ∷ bs) m []) (sym e) ∙ get_or-append_seam before r bs [])
-    ∙ ap₂ (λ x y. map (cleared k c (normalized k c r)) x ++ normalized k c r ∷ map (cleared k c (normalized k c r)) y) (take_at before (r ∷ bs) p e) (rest before p e)
+    ∙ ap₂ (λ x y. map (cleared k c (normalized k c r)) x ++ normalized k c r ∷ map (cleared k c (normalized k c r)) y)
+    (take_at before (r ∷ bs) p e) (rest before p e)
   where
     rest : (before : List (List ℕ)) (p : ℕ) → length before ≡ p → drop (suc p) (before ++ r ∷ bs) ≡ bs
     rest [] zero e = refl
@@ -104,9 +116,13 @@ eliminated_rows k c n p j xs front pivot back shape within front_length pivot_le
     ap (λ m. rows_in c m (front ++ (pivot ++ back))) (sym count)
     ∙ rows_in_middle c p (n - p - 1) front pivot back front_length pivot_length
     ∙ ap₂ (λ x y. x ++ pivot ∷ y) front_is back_is
-    ∙ ap (λ w. map (cleared k j w) (rows_in c p (take (p * c) xs)) ++ w ∷ map (cleared k j w) (rows_in c (n - p - 1) (drop c (drop (p * c) xs)))) pivot_is
-    ∙ sym (ap (eliminated k p j) (rows_in_split c n p xs shape within ∙ ap (λ m. rows_in c p (take (p * c) xs) ++ take c (drop (p * c) xs) ∷ rows_in c m (drop c (drop (p * c) xs))) less)
-    ∙ eliminated_middle k p j (rows_in c p (take (p * c) xs)) (rows_in c (n - p - 1) (drop c (drop (p * c) xs))) (take c (drop (p * c) xs)) (length_rows_in c p (take (p * c) xs)))
+    ∙ ap (λ w. map (cleared k j w) (rows_in c p (take (p * c) xs))
+    ++ w ∷ map (cleared k j w) (rows_in c (n - p - 1) (drop c (drop (p * c) xs)))) pivot_is
+    ∙ sym (ap (eliminated k p j) (rows_in_split c n p xs shape within
+    ∙ ap (λ m. rows_in c p (take (p * c) xs) ++ take c (drop (p * c) xs) ∷ rows_in c m (drop c (drop (p * c) xs)))
+    less)
+    ∙ eliminated_middle k p j (rows_in c p (take (p * c) xs)) (rows_in c (n - p - 1) (drop c (drop (p * c) xs)))
+    (take c (drop (p * c) xs)) (length_rows_in c p (take (p * c) xs)))
   where
     count : p + suc (n - p - 1) ≡ n
     count = omega arith
@@ -125,7 +141,8 @@ pub record PivotRow (k : FieldOps) (j : ℕ) (old new : List ℕ) (inverse : ℕ
   pub new_in : IsOver k new
   pub new_is : new ≡ normalized k j old
 
-pub pivot_row : (k : CodeField) (c n p j : ℕ) (xs old new : List ℕ) (inverse : ℕ) → length xs ≡ n * c → p < n → IsOver k.ops xs
+pub pivot_row : (k : CodeField) (c n p j : ℕ) (xs old new : List ℕ) (inverse : ℕ) → length xs ≡ n * c → p < n
+    → IsOver k.ops xs
     → get_or (get_or (rows_in c n xs) p []) j 0 ≢ 0 → old ≡ take c (drop (p * c) xs) → inverse ≡ k.inv (get_or old j 0)
     → new ≡ scale_list (raw_ring k.ops) inverse old → PivotRow k.ops j old new inverse
 pivot_row k c n p j xs old new inverse shape within over some old_is inverse_is new_is = record {

@@ -28,29 +28,36 @@ module _ (k : CodeField) where
   abbrev R : CommRing (Code k)
   R = (code_ring k).ring
 
-  coeff_read_neg : (xs : List ℕ) (i : ℕ) → IsOver k.ops xs → coeff_of R.ops (read k (neg_list (raw_ring k.ops) xs)) i ≡ R.⊖◌ (coeff_of R.ops (read k xs) i)
+  coeff_read_neg : (xs : List ℕ) (i : ℕ) → IsOver k.ops xs
+      → coeff_of R.ops (read k (neg_list (raw_ring k.ops) xs)) i ≡ R.⊖◌ (coeff_of R.ops (read k xs) i)
   coeff_read_neg xs i over =
       ap (λ ys. coeff_of R.ops ys i)
-      (ap (λ ns. read k (neg_list (raw_ring k.ops) ns)) (sym (numbers_read k xs over)) ∙ ap (read k) (sym (numbers_neg k (read k xs))) ∙ read_numbers k (neg_list R.ops (read k xs)))
+      (ap (λ ns. read k (neg_list (raw_ring k.ops) ns)) (sym (numbers_read k xs over))
+      ∙ ap (read k) (sym (numbers_neg k (read k xs))) ∙ read_numbers k (neg_list R.ops (read k xs)))
       ∙ coeff_neg (code_ring k) (read k xs) i
 
   -- a combination with the negative coefficients
-  negated : (c : ℕ → Code k) (F : List (ℕ → Code k)) (j : ℕ) → combine (sequence_ops R.ops) (λ i. R.⊖◌ (c i)) F j ≡ R.⊖◌ (combine (sequence_ops R.ops) c F j)
+  negated : (c : ℕ → Code k) (F : List (ℕ → Code k)) (j : ℕ)
+      → combine (sequence_ops R.ops) (λ i. R.⊖◌ (c i)) F j ≡ R.⊖◌ (combine (sequence_ops R.ops) c F j)
   negated c F j =
-      ap (λ s. s j) (combine_cong (sequences R) (λ i. R.⊖◌ (c i)) (λ i. R.◌⊗◌ (R.⊖◌ R.𝟙) (c i)) F (λ i l. sym (minus (c i))) ∙ combine_scale (sequences R) (R.⊖◌ R.𝟙) c F)
+      ap (λ s. s j) (combine_cong (sequences R) (λ i. R.⊖◌ (c i)) (λ i. R.◌⊗◌ (R.⊖◌ R.𝟙) (c i)) F
+      (λ i l. sym (minus (c i))) ∙ combine_scale (sequences R) (R.⊖◌ R.𝟙) c F)
       ∙ minus (combine (sequence_ops R.ops) c F j)
     where
       minus : (x : Code k) → R.◌⊗◌ (R.⊖◌ R.𝟙) x ≡ R.⊖◌ x
       minus x = neg_mul R R.𝟙 x ∙ ap R.⊖◌ (one_mul R x)
 
-  pub combination_neg : (cols : ℕ) (v : List ℕ) (rows : List (List ℕ)) → IsOver k.ops v → All (IsOver k.ops) rows → (j : ℕ)
+  pub combination_neg : (cols : ℕ) (v : List ℕ) (rows : List (List ℕ)) → IsOver k.ops v → All (IsOver k.ops) rows
+      → (j : ℕ)
       → combine (sequence_ops R.ops) (coeff_of R.ops (read k (neg_list (raw_ring k.ops) v))) (sequences_of k rows) j
       ≡ R.⊖◌ (combine (sequence_ops R.ops) (coeff_of R.ops (read k v)) (sequences_of k rows) j)
   combination_neg cols v rows v_in over j =
-      ap (λ s. s j) (combine_cong (sequences R) (coeff_of R.ops (read k (neg_list (raw_ring k.ops) v))) (λ i. R.⊖◌ (coeff_of R.ops (read k v) i)) (sequences_of k rows) (λ i l. coeff_read_neg v i v_in))
+      ap (λ s. s j) (combine_cong (sequences R) (coeff_of R.ops (read k (neg_list (raw_ring k.ops) v)))
+      (λ i. R.⊖◌ (coeff_of R.ops (read k v) i)) (sequences_of k rows) (λ i l. coeff_read_neg v i v_in))
       ∙ negated (coeff_of R.ops (read k v)) (sequences_of k rows) j
 
-  module _ (a : MatrixValue) (b : List ℕ) (over : All (IsOver k.ops) a.rows) (wide : All (λ r. length r ≡ a.cols) a.rows) (b_in : IsOver k.ops b) (b_long : length b ≡ a.cols) where
+  module _ (a : MatrixValue) (b : List ℕ) (over : All (IsOver k.ops) a.rows)
+      (wide : All (λ r. length r ≡ a.cols) a.rows) (b_in : IsOver k.ops b) (b_long : length b ≡ a.cols) where
     abbrev S : MatrixValue
     S = with_first_row b a
 
@@ -64,20 +71,24 @@ module _ (k : CodeField) where
     abbrev total : List ℕ → ℕ → Code k
     total v j = combine (sequence_ops R.ops) (coeff_of R.ops (read k v)) (sequences_of k a.rows) j
 
-    first_one : (v : List ℕ) → IsOver k.ops v → (j : ℕ) → coeff_of R.ops (read k (product_of k.ops (1 ∷ v) S)) j ≡ R.◌⊕◌ (coeff_of R.ops (read k b) j) (total v j)
+    first_one : (v : List ℕ) → IsOver k.ops v → (j : ℕ)
+        → coeff_of R.ops (read k (product_of k.ops (1 ∷ v) S)) j ≡ R.◌⊕◌ (coeff_of R.ops (read k b) j) (total v j)
     first_one v v_in j =
         combination_is k a.cols (1 ∷ v) S.rows (IsOver_cons k.laws.one_below v_in) s_over j
         ∙ ap (λ x. R.◌⊕◌ (R.◌⊗◌ x (coeff_of R.ops (read k b) j)) (total v j)) (read_one k)
         ∙ ap (λ x. R.◌⊕◌ x (total v j)) (one_mul R (coeff_of R.ops (read k b) j))
 
     -- a relation whose first coefficient is 1 is a solution
-    pub solution_of_relation : (w : List ℕ) → IsInKernel k.ops S (1 ∷ w) → IsSolution k.ops a b (neg_list (raw_ring k.ops) w)
+    pub solution_of_relation : (w : List ℕ) → IsInKernel k.ops S (1 ∷ w)
+        → IsSolution k.ops a b (neg_list (raw_ring k.ops) w)
     solution_of_relation w h = record {
       one_each = length_neg_list (raw_ring k.ops) w ∙ (let e = h.one_each in omega (arith, e));
       over = IsOver_neg k w w_in;
-      product = codes_ext k (product_of k.ops (neg_list (raw_ring k.ops) w) a) b (combination_over k a.cols (neg_list (raw_ring k.ops) w) a.rows (IsOver_neg k w w_in) over) b_in
+      product = codes_ext k (product_of k.ops (neg_list (raw_ring k.ops) w) a) b
+          (combination_over k a.cols (neg_list (raw_ring k.ops) w) a.rows (IsOver_neg k w w_in) over) b_in
           (length_combination k a.cols (neg_list (raw_ring k.ops) w) a.rows wide ∙ sym b_long) (λ j l.
-          combination_is k a.cols (neg_list (raw_ring k.ops) w) a.rows (IsOver_neg k w w_in) over j ∙ combination_neg a.cols w a.rows w_in over j
+          combination_is k a.cols (neg_list (raw_ring k.ops) w) a.rows (IsOver_neg k w w_in) over j
+          ∙ combination_neg a.cols w a.rows w_in over j
           ∙ ap R.⊖◌ (neg_unique R (coeff_of R.ops (read k b) j) (total w j)
           (sym (first_one w w_in j) ∙ ap (λ xs. coeff_of R.ops (read k xs) j) h.product ∙ coeff_zeros k a.cols j))
           ∙ neg_neg R (coeff_of R.ops (read k b) j));
@@ -91,11 +102,13 @@ module _ (k : CodeField) where
     relation_of_solution v h = record {
       one_each = ap suc (length_neg_list (raw_ring k.ops) v ∙ h.one_each);
       over = w_in;
-      product = codes_ext k (product_of k.ops (1 ∷ w) S) (replicate a.cols 0) (combination_over k a.cols (1 ∷ w) S.rows w_in s_over) (IsOver_zeros k a.cols)
+      product = codes_ext k (product_of k.ops (1 ∷ w) S) (replicate a.cols 0)
+          (combination_over k a.cols (1 ∷ w) S.rows w_in s_over) (IsOver_zeros k a.cols)
           (length_combination k a.cols (1 ∷ w) S.rows s_wide ∙ sym (length-replicate a.cols 0)) (λ j l.
           first_one w (IsOver_neg k v h.over) j
           ∙ ap (λ x. R.◌⊕◌ (coeff_of R.ops (read k b) j) x) (combination_neg a.cols v a.rows h.over over j
-          ∙ ap R.⊖◌ (sym (combination_is k a.cols v a.rows h.over over j) ∙ ap (λ xs. coeff_of R.ops (read k xs) j) h.product))
+          ∙ ap R.⊖◌ (sym (combination_is k a.cols v a.rows h.over over j)
+          ∙ ap (λ xs. coeff_of R.ops (read k xs) j) h.product))
           ∙ R.add_neg (coeff_of R.ops (read k b) j) ∙ sym (coeff_zeros k a.cols j));
     }
       where
@@ -112,7 +125,8 @@ module _ (k : CodeField) where
         pub one : entry_at m.rows 0 0 ≡ 1
 
       pub first_of_solution : (v : List ℕ) → IsSolution k.ops a b v → BeginsWithOne
-      first_of_solution v h = go (leading_is_pivot (domain_of_codes k) m.cols (sequences_of k m.rows) r.form (coeff_of R.ops (read k w)) member 0 leads)
+      first_of_solution v h = go (leading_is_pivot (domain_of_codes k) m.cols (sequences_of k m.rows) r.form
+          (coeff_of R.ops (read k w)) member 0 leads)
         where
           w : List ℕ
           w = 1 ∷ neg_list (raw_ring k.ops) v
@@ -134,7 +148,8 @@ module _ (k : CodeField) where
           first zero l e = record {
             some = omega (arith, l, r.rank_is);
             one = read_same k (entry_at m.rows 0 0) 1 (entry_in k m.rows 0 0 basis.over.each) k.laws.one_below
-                (sym (row_entry k m.rows 0 0) ∙ ap (row R.ops (sequences_of k m.rows) 0) e ∙ r.form.pivot_one 0 l ∙ sym (read_one k));
+                (sym (row_entry k m.rows 0 0) ∙ ap (row R.ops (sequences_of k m.rows) 0) e ∙ r.form.pivot_one 0 l
+                ∙ sym (read_one k));
           }
           first (suc i) l e = absurd (let a = r.form.increasing 0 (suc i) (omega arith) l in omega (arith, a, e))
 
@@ -145,7 +160,8 @@ module _ (k : CodeField) where
       no_solution none v h = none (first_of_solution v h)
 
       -- and gives one
-      pub solution_of_first : (w : List ℕ) → 0 < length m.rows → get_or m.rows 0 [] ≡ 1 ∷ w → IsSolution k.ops a b (neg_list (raw_ring k.ops) w)
+      pub solution_of_first : (w : List ℕ) → 0 < length m.rows → get_or m.rows 0 [] ≡ 1 ∷ w
+          → IsSolution k.ops a b (neg_list (raw_ring k.ops) w)
       solution_of_first w some e =
           solution_of_relation w
           (subst (IsInKernel k.ops S) e
@@ -157,27 +173,30 @@ split_first [] l = absurd (omega arith)
 split_first (x ∷ xs) l = (xs, ap (λ ys. x ∷ ys) (sym (take_all (length (x ∷ xs) - 1) xs (omega arith))))
 
 -- what the code knows of the matrices
-module _ (k : CodeField) (a : MatrixValue) (b : List ℕ) (s m : MatrixValue) (s_is : s ≡ with_first_row b a) (shape : HasShape a (length a.rows) a.cols)
-    (a_in : IsMatrixOver k.ops a) (b_in : IsOver k.ops b) (width : length b ≡ a.cols) (basis : IsKernelBasis k.ops s m) where
-  of_stack : IsKernelBasis k.ops (with_first_row b a) m
-  of_stack = subst (λ v. IsKernelBasis k.ops v m) s_is basis
+module _ (k : CodeField) (a : MatrixValue) (b : List ℕ) (s m : MatrixValue) (s_is : s ≡ with_first_row b a)
+    (shape : HasShape a (length a.rows) a.cols)
+    (a_in : IsMatrixOver k.ops a) (b_in : IsOver k.ops b) (width : length b ≡ a.cols) (basis : IsKernelBasis k.ops s m)
+  where
+    of_stack : IsKernelBasis k.ops (with_first_row b a) m
+    of_stack = subst (λ v. IsKernelBasis k.ops v m) s_is basis
 
-  pub solve_none : ¬ ((0 < length m.rows) × (entry_at m.rows 0 0 ≡ 1)) → HasNoSolution k.ops a b
-  solve_none none = no_solution k a b a_in.each shape.each b_in width m of_stack (λ h. none (h.some, h.one))
+    pub solve_none : ¬ ((0 < length m.rows) × (entry_at m.rows 0 0 ≡ 1)) → HasNoSolution k.ops a b
+    solve_none none = no_solution k a b a_in.each shape.each b_in width m of_stack (λ h. none (h.some, h.one))
 
-  pub solve_some : (first v : List ℕ) → first ≡ get_or m.rows 0 [] → 0 < length m.rows → get_or first 0 0 ≡ 1
-      → v ≡ neg_list (raw_ring k.ops) (take (length first - 1) (drop 1 first)) → IsSolution k.ops a b v
-  solve_some first v first_is some one v_is =
-      subst (IsSolution k.ops a b) (sym v_is)
-      (solution_of_first k a b a_in.each shape.each b_in width m of_stack (take (length first - 1) (drop 1 first)) some
-      (sym first_is ∙ (split_first first long).1 ∙ ap (λ x. x ∷ take (length first - 1) (drop 1 first)) one))
-    where
-      long : 0 < length first
-      long = nonempty first one
-        where
-          nonempty : (xs : List ℕ) → get_or xs 0 0 ≡ 1 → 0 < length xs
-          nonempty [] e = absurd (omega arith)
-          nonempty (x ∷ xs) e = omega arith
+    pub solve_some : (first v : List ℕ) → first ≡ get_or m.rows 0 [] → 0 < length m.rows → get_or first 0 0 ≡ 1
+        → v ≡ neg_list (raw_ring k.ops) (take (length first - 1) (drop 1 first)) → IsSolution k.ops a b v
+    solve_some first v first_is some one v_is =
+        subst (IsSolution k.ops a b) (sym v_is)
+        (solution_of_first k a b a_in.each shape.each b_in width m of_stack
+        (take (length first - 1) (drop 1 first)) some
+        (sym first_is ∙ (split_first first long).1 ∙ ap (λ x. x ∷ take (length first - 1) (drop 1 first)) one))
+      where
+        long : 0 < length first
+        long = nonempty first one
+          where
+            nonempty : (xs : List ℕ) → get_or xs 0 0 ≡ 1 → 0 < length xs
+            nonempty [] e = absurd (omega arith)
+            nonempty (x ∷ xs) e = omega arith
 
 -- codes are negated one after another
 pub neg_list_more : (k : FieldOps) (xs : List ℕ) (i : ℕ) → i < length xs

@@ -12,10 +12,12 @@ use Rattle.ff_linalg.specs.Relations.{IsColumnWritten, IsTransposedBelow, IsTran
 use Rattle.ff_linalg.proofs.Reading.{entry_in}
 
 -- a column is written, one code after another
-pub column_begin : (m : MatrixValue) (c : ℕ) (codes : List ℕ) → HasShape m (length m.rows) m.cols → IsColumnWritten m c codes 0 m
+pub column_begin : (m : MatrixValue) (c : ℕ) (codes : List ℕ) → HasShape m (length m.rows) m.cols
+    → IsColumnWritten m c codes 0 m
 column_begin m c codes shape = record { shape = shape; here = λ j l. absurd (omega arith); others = λ j i ne. refl }
 
-pub column_step : (old now : MatrixValue) (c j x : ℕ) (codes : List ℕ) → c < old.cols → j < length old.rows → x ≡ get_or codes j 0
+pub column_step : (old now : MatrixValue) (c j x : ℕ) (codes : List ℕ) → c < old.cols → j < length old.rows
+    → x ≡ get_or codes j 0
     → IsColumnWritten old c codes j now → IsColumnWritten old c codes (j + 1) (with_entry now j c x)
 column_step old now c j x codes c_in j_in x_is h = record {
   shape = record {
@@ -48,14 +50,16 @@ column_step old now c j x codes c_in j_in x_is h = record {
         ∙ get_or-set_same row c x 0 (omega (arith, wide)) ∙ x_is ∙ ap (λ n. get_or codes n 0) (sym e)
     written l m (no ne) = ap (λ r. get_or r c 0) (get_or-set_other now.rows j l new [] ne) ∙ h.here l (omega arith)
 
-    other : (l i : ℕ) → ¬ (i ≡ c) → Dec (l ≡ j) → get_or (get_or (set now.rows j new) l []) i 0 ≡ get_or (get_or old.rows l []) i 0
+    other : (l i : ℕ) → ¬ (i ≡ c) → Dec (l ≡ j)
+        → get_or (get_or (set now.rows j new) l []) i 0 ≡ get_or (get_or old.rows l []) i 0
     other l i ne (yes e) =
         ap (λ n. get_or (get_or (set now.rows j new) n []) i 0) e ∙ ap (λ r. get_or r i 0) here_row
         ∙ get_or-set_other row c i x 0 ne ∙ ap (λ n. get_or (get_or now.rows n []) i 0) (sym e) ∙ h.others l i ne
     other l i ne (no f) = ap (λ r. get_or r i 0) (get_or-set_other now.rows j l new [] f) ∙ h.others l i ne
 
 -- the rows are written as columns, one after another
-pub transposed_begin : (a : MatrixValue) (rows cols : ℕ) → rows ≡ length a.rows → cols ≡ a.cols → IsTransposedBelow a 0 (zero_matrix cols rows)
+pub transposed_begin : (a : MatrixValue) (rows cols : ℕ) → rows ≡ length a.rows → cols ≡ a.cols
+    → IsTransposedBelow a 0 (zero_matrix cols rows)
 transposed_begin a rows cols rows_is cols_is = record {
   shape = record {
     row_count = length-replicate cols (replicate rows 0) ∙ cols_is;
@@ -65,7 +69,8 @@ transposed_begin a rows cols rows_is cols_is = record {
   entries = λ i j l. absurd (omega arith);
 }
 
-pub transposed_step : (a now new : MatrixValue) (i : ℕ) (codes : List ℕ) → HasShape a (length a.rows) a.cols → i < length a.rows → codes ≡ row_of a i
+pub transposed_step : (a now new : MatrixValue) (i : ℕ) (codes : List ℕ) → HasShape a (length a.rows) a.cols
+    → i < length a.rows → codes ≡ row_of a i
     → IsColumnWritten now i codes (length codes) new → IsTransposedBelow a i now → IsTransposedBelow a (i + 1) new
 transposed_step a now new i codes shape within codes_is w h = record {
   shape = record {
@@ -81,10 +86,12 @@ transposed_step a now new i codes shape within codes_is w h = record {
 
     go : (l j : ℕ) → l < i + 1 → j < a.cols → Dec (l ≡ i) → entry_of new j l ≡ entry_of a l j
     go l j m j_in (yes e) =
-        ap (entry_of new j) e ∙ w.here j (omega (arith, long)) ∙ ap (λ r. get_or r j 0) codes_is ∙ ap (λ n. entry_of a n j) (sym e)
+        ap (entry_of new j) e ∙ w.here j (omega (arith, long)) ∙ ap (λ r. get_or r j 0) codes_is
+        ∙ ap (λ n. entry_of a n j) (sym e)
     go l j m j_in (no ne) = w.others j l ne ∙ h.entries l j (omega arith) j_in
 
-pub transposed_over : (k : CodeField) (a t : MatrixValue) → IsTransposed a t → IsMatrixOver k.ops a → IsMatrixOver k.ops t
+pub transposed_over : (k : CodeField) (a t : MatrixValue) → IsTransposed a t → IsMatrixOver k.ops a
+    → IsMatrixOver k.ops t
 transposed_over k a t h over = record {
   each = All-from_get_or (IsOver k.ops) t.rows [] (λ j l. record {
     each = All-from_get_or (λ c. c < k.size) (row_of t j) 0 (λ i m.
@@ -95,7 +102,8 @@ transposed_over k a t h over = record {
 }
 
 -- a column is read, one entry after another
-pub column_start_step : (m : MatrixValue) (c i x : ℕ) (out new : List ℕ) → x ≡ entry_of m i c → new ≡ out ++ x ∷ [] → IsColumnStart m c i out
+pub column_start_step : (m : MatrixValue) (c i x : ℕ) (out new : List ℕ) → x ≡ entry_of m i c → new ≡ out ++ x ∷ []
+    → IsColumnStart m c i out
     → IsColumnStart m c (i + 1) new
 column_start_step m c i x out new x_is new_is h = record {
   size = ap length new_is ∙ length-append out (x ∷ []) ∙ ap (λ n. n + 1) h.size;
@@ -104,5 +112,6 @@ column_start_step m c i x out new x_is new_is h = record {
   where
     go : (l : ℕ) → l < i + 1 → Dec (l ≡ i) → get_or (out ++ x ∷ []) l 0 ≡ entry_of m l c
     go l b (yes e) =
-        ap (λ n. get_or (out ++ x ∷ []) n 0) (e ∙ sym h.size) ∙ get_or-append_seam out x [] 0 ∙ x_is ∙ ap (λ n. entry_of m n c) (sym e)
+        ap (λ n. get_or (out ++ x ∷ []) n 0) (e ∙ sym h.size) ∙ get_or-append_seam out x [] 0 ∙ x_is
+        ∙ ap (λ n. entry_of m n c) (sym e)
     go l b (no ne) = get_or_append_left out (x ∷ []) 0 l (omega (arith, h.size)) ∙ h.entries l (omega arith)

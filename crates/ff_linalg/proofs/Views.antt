@@ -15,7 +15,8 @@ pub view_cols : (cols rows : ℕ) (xs : List ℕ) (m : MatrixValue) → view_of 
 view_cols cols rows xs m e = ap (λ v. v.cols) e
 
 -- an empty vector that was made longer
-pub resized_zeros : (items old : List ℕ) (count n : ℕ) → items ≡ take count old ++ replicate (count - n) 0 → old ≡ [] → n ≡ 0 → items ≡ replicate count 0
+pub resized_zeros : (items old : List ℕ) (count n : ℕ) → items ≡ take count old ++ replicate (count - n) 0 → old ≡ []
+    → n ≡ 0 → items ≡ replicate count 0
 resized_zeros items old count n items_is none empty =
     items_is ∙ ap₂ (λ xs m. take count xs ++ replicate m 0) none (let e : count - n ≡ count = omega (arith, empty) in e)
     ∙ ap (λ xs. xs ++ replicate count 0) (take_all count [] (omega arith))

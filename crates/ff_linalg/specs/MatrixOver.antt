@@ -12,9 +12,13 @@ module _ (k : CodeField) where
   row_over (x ∷ rows) (suc r) over = row_over rows r (All-tail (IsOver k.ops) x rows over)
 
   pub zero_matrix_over : (rows cols : ℕ) → IsMatrixOver k.ops (zero_matrix rows cols)
-  zero_matrix_over rows cols = record { each = All-replicate (IsOver k.ops) rows (replicate cols 0) (IsOver_zeros k cols) }
+  zero_matrix_over rows cols = record {
+    each = All-replicate (IsOver k.ops) rows (replicate cols 0)
+        (IsOver_zeros k cols);
+  }
 
-  pub with_entry_over : (m : MatrixValue) (r c v : ℕ) → IsMatrixOver k.ops m → v < k.size → IsMatrixOver k.ops (with_entry m r c v)
+  pub with_entry_over : (m : MatrixValue) (r c v : ℕ) → IsMatrixOver k.ops m → v < k.size
+      → IsMatrixOver k.ops (with_entry m r c v)
   with_entry_over m r c v over v_in =
       let row = row_over m.rows r over.each in
       record {

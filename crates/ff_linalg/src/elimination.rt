@@ -16,7 +16,8 @@ fn raise_pivot(entries: &mut [u32], rows: usize, cols: usize, rank: usize, c: us
     requires shape { length entries.old ≡ rows * cols }
     requires col_in { c < cols }
     ensures { let old = rows_in cols rows entries.old in
-        MatchBool result (RaisesPivot old (rows_in cols rows entries.new) rank c) (HasNoPivot old rank c × (entries.new ≡ entries.old)) }
+        MatchBool result (RaisesPivot old (rows_in cols rows entries.new) rank c)
+        (HasNoPivot old rank c × (entries.new ≡ entries.old)) }
 {
     match find_pivot(entries, rows, cols, rank, c) {
         Some(i) => {
@@ -29,7 +30,8 @@ fn raise_pivot(entries: &mut [u32], rows: usize, cols: usize, rank: usize, c: us
     }
 }
 
-/// Eliminates in column c, where the columns before it are done with `rank` pivots, and answers how many there are then.
+/// Eliminates in column c, where the columns before it are done with `rank` pivots, and answers how many there are
+/// then.
 fn eliminate_next<K: SmallField>(
     k: &K,
     entries: &mut [u32],
@@ -43,7 +45,8 @@ fn eliminate_next<K: SmallField>(
     requires entries_in { IsOver (K.field k.now).ops entries.old }
     requires reduced { IsReducedBelow (K.field k.now) c (rows_in cols rows entries.old) rank }
     ensures over { IsOver (K.field k.now).ops entries.new }
-    ensures step { IsEliminationStep (K.field k.now) cols c (rows_in cols rows entries.old) (rows_in cols rows entries.new) result }
+    ensures step { IsEliminationStep (K.field k.now) cols c (rows_in cols rows entries.old)
+        (rows_in cols rows entries.new) result }
 {
     if !raise_pivot(entries, rows, cols, rank, c) {
         return rank;
@@ -52,7 +55,8 @@ fn eliminate_next<K: SmallField>(
     rank + 1
 }
 
-/// Eliminates in the columns from `from` up to `to`, where those before are done with `rank` pivots, and answers how many
+/// Eliminates in the columns from `from` up to `to`, where those before are done with `rank` pivots, and answers how
+/// many
 /// there are then.
 pub(crate) fn reduce<K: SmallField>(
     k: &K,
@@ -86,7 +90,8 @@ pub fn echelon<K: SmallField>(k: &K, a: &mut Matrix) -> usize
     ensures shape { HasShape a.new (length a.old.rows) a.old.cols }
     ensures over { IsMatrixOver (K.field k.now).ops a.new }
     ensures reduced { IsReducedForm (K.field k.now).ops a.new result }
-    ensures row_space { (v : List ℕ) → IsInRowSpace (K.field k.now).ops a.new v ↔ IsInRowSpace (K.field k.now).ops a.old v }
+    ensures row_space { (v : List ℕ) → IsInRowSpace (K.field k.now).ops a.new v
+        ↔ IsInRowSpace (K.field k.now).ops a.old v }
 {
     let rows = a.rows;
     let cols = a.cols;
@@ -100,5 +105,6 @@ pub fn echelon_law<K: SmallField>(k: &K, a: &Matrix, b: &Matrix)
     requires a_in { IsMatrixOver (K.field k.now).ops a.now }
     requires b_in { IsMatrixOver (K.field k.now).ops b.now }
     ensures { (r s : ℕ) → IsReducedForm (K.field k.now).ops a.now r → IsReducedForm (K.field k.now).ops b.now s
-        → ((v : List ℕ) → IsInRowSpace (K.field k.now).ops a.now v ↔ IsInRowSpace (K.field k.now).ops b.now v) → (a.now ≡ b.now) × (r ≡ s) }
+        → ((v : List ℕ) → IsInRowSpace (K.field k.now).ops a.now v ↔ IsInRowSpace (K.field k.now).ops b.now v)
+        → (a.now ≡ b.now) × (r ≡ s) }
 {}

@@ -50,7 +50,8 @@ fn eliminate_whole<K: SmallField>(
     requires entries_in { IsOver (K.field k.now).ops entries.now }
     ensures within { result ≤ rows }
     ensures over { IsOver (K.field k.now).ops whole.new }
-    ensures eliminated { IsEliminated (K.field k.now) cols (rows_in cols rows entries.now) (rows_in (cols + rows) rows whole.new) result }
+    ensures eliminated { IsEliminated (K.field k.now) cols (rows_in cols rows entries.now)
+        (rows_in (cols + rows) rows whole.new) result }
 {
     let width = cols + rows;
     write_beside_unit(whole, entries, rows, cols);
@@ -72,7 +73,8 @@ fn lower_right(
     requires top_in { top ≤ rows }
     requires left_in { left ≤ width }
     ensures length { IfOk result (λ v. length v.items ≡ (rows - top) * (width - left)) }
-    ensures rows { IfOk result (λ v. rows_in (width - left) (rows - top) v.items ≡ map (drop left) (drop top (rows_in width rows entries.now))) }
+    ensures rows { IfOk result (λ v. rows_in (width - left) (rows - top) v.items
+        ≡ map (drop left) (drop top (rows_in width rows entries.now))) }
 {
     let mut out = Vec::new(alloc);
     for i in 0..rows - top {
@@ -82,7 +84,8 @@ fn lower_right(
     Ok(out)
 }
 
-/// The reduced echelon basis, as rows, of all v with v·a = 0. The rows with the unit matrix on their right are held at once; more than
+/// The reduced echelon basis, as rows, of all v with v·a = 0. The rows with the unit matrix on their right are held at
+/// once; more than
 /// `usize::MAX` columns of these are want of memory, since one row of them fits in no memory.
 /// Cost: rows² · (rows + cols) products and sums.
 pub fn kernel<K: SmallField>(alloc: Global, k: &K, a: &Matrix) -> Result<Matrix, AllocError>

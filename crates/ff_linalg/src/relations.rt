@@ -71,7 +71,8 @@ pub fn min_relation<K: SmallField>(
     a: &Matrix,
 ) -> Result<Option<Vec<u32>>, AllocError>
     requires { IsMatrixOver (K.field k.now).ops a.now }
-    ensures { IfOk result (λ o. MatchOption o (HasIndependentRows (K.field k.now).ops a.now) (λ v. IsFirstRelation (K.field k.now).ops a.now v.items)) }
+    ensures { IfOk result (λ o. MatchOption o (HasIndependentRows (K.field k.now).ops a.now)
+        (λ v. IsFirstRelation (K.field k.now).ops a.now v.items)) }
 {
     let mut columns = transposed(alloc, a)?;
     echelon(k, &mut columns);

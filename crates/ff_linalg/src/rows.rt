@@ -18,7 +18,8 @@ pub(crate) fn find_pivot(
 ) -> Option<usize>
     requires shape { length entries.now ≡ rows * cols }
     requires col_in { c < cols }
-    ensures { let m = rows_in cols rows entries.now in MatchOption result ((l : ℕ) → rank ≤ l → l < rows → entry_at m l c ≡ 0)
+    ensures { let m = rows_in cols rows entries.now in MatchOption result
+        ((l : ℕ) → rank ≤ l → l < rows → entry_at m l c ≡ 0)
         (λ i. (rank ≤ i) × (i < rows) × (entry_at m i c ≢ 0)) }
 {
     for i in rank..rows {
@@ -78,7 +79,8 @@ pub(crate) fn clear_column<K: SmallField>(
     requires col_in { c < cols }
     requires nonzero { entry_at (rows_in cols rows entries.old) p c ≢ 0 }
     requires entries_in { IsOver (K.field k.now).ops entries.old }
-    ensures eliminated { rows_in cols rows entries.new ≡ eliminated (K.field k.now).ops p c (rows_in cols rows entries.old) }
+    ensures eliminated { rows_in cols rows entries.new
+        ≡ eliminated (K.field k.now).ops p c (rows_in cols rows entries.old) }
     ensures over { IsOver (K.field k.now).ops entries.new }
 {
     let (front, rest) = entries.split_at_mut(p * cols);

@@ -45,7 +45,8 @@ fn add_entries<K: SmallField>(k: &K, sum: &mut [u32], table: &[u32], codes: &[u3
     requires whole { (K.field k.now).size ≤ length table.now }
     requires table_in { IsOver (K.field k.now).ops table.now }
     requires codes_in { IsOver (K.field k.now).ops codes.now }
-    ensures { let r = raw_ring (K.field k.now).ops in sum.new ≡ add_lists r sum.old (map (λ x. slice_index table.now x) codes.now) }
+    ensures { let r = raw_ring (K.field k.now).ops in sum.new
+        ≡ add_lists r sum.old (map (λ x. slice_index table.now x) codes.now) }
 {
     for j in 0..codes.len() {
         sum[j] = k.add(sum[j], table[codes[j] as usize]);
@@ -69,10 +70,13 @@ fn add_products<K: SmallField>(k: &K, sum: &mut [u32], c: u32, codes: &[u32])
 
 /// Adds c times the codes to the first entries of the sum, in place; the other entries stay.
 ///
-/// The sum has at least as many entries as there are codes, and c, the codes and the sum are over the field. Where c is 0,
-/// nothing is done. Over a field of at most 64 elements, the multiples of c are written into a table first if there are more
+/// The sum has at least as many entries as there are codes, and c, the codes and the sum are over the field. Where c is
+/// 0,
+/// nothing is done. Over a field of at most 64 elements, the multiples of c are written into a table first if there are
+/// more
 /// than 64 codes, so that no code costs a product.
-/// Cost: a product and a sum for each code; with the table a product for each element of the field and a sum for each code.
+/// Cost: a product and a sum for each code; with the table a product for each element of the field and a sum for each
+/// code.
 /// No call takes memory.
 pub fn add_multiple<K: SmallField>(k: &K, sum: &mut [u32], c: u32, codes: &[u32])
     requires fits { length codes.now ≤ length sum.old }

@@ -44,7 +44,8 @@ pub(crate) fn negatives<K: SmallField>(
     Ok(out)
 }
 
-/// A v with v·a = b; None exactly where there is none. A matrix of `usize::MAX` rows, whose kernel with one row more fits in no
+/// A v with v·a = b; None exactly where there is none. A matrix of `usize::MAX` rows, whose kernel with one row more
+/// fits in no
 /// memory, is want of memory.
 /// Cost: that of a kernel with one row more.
 pub fn solve<K: SmallField>(
@@ -56,7 +57,8 @@ pub fn solve<K: SmallField>(
     requires a_in { IsMatrixOver (K.field k.now).ops a.now }
     requires b_in { IsOver (K.field k.now).ops b.now }
     requires width { length b.now ≡ a.now.cols }
-    ensures { IfOk result (λ r. MatchOption r (HasNoSolution (K.field k.now).ops a.now b.now) (λ v. IsSolution (K.field k.now).ops a.now b.now v.items)) }
+    ensures { IfOk result (λ r. MatchOption r (HasNoSolution (K.field k.now).ops a.now b.now)
+        (λ v. IsSolution (K.field k.now).ops a.now b.now v.items)) }
 {
     let relations = kernel(alloc, k, &stacked(alloc, b, a)?)?;
     if relations.rows() == 0 {

@@ -1,4 +1,5 @@
--- The order that is enlarged at the irreducible polynomials whose squares divide the discriminant has all integral functions.
+-- The order that is enlarged at the irreducible polynomials whose squares divide the discriminant has all integral
+-- functions.
 use Rattle.std.proofs.Common.{◌≡◌, ℕ, ◌≤◌, ◌↔◌, Bool, true, false, cond, nat_lt, List, [], ◌∷◌, map, refl, sym, ap, ap₂, subst, ◌∙◌, arith, All}
 use Rattle.std.specs.Prelude.{Result, Ok, Err, IfOk}
 use Rattle.std.specs.declared.alloc.AllocError.{AllocError}
@@ -50,7 +51,8 @@ module _ (k : CodeField) (c : CurveValue) (curve : IsCurve k c) where
   disc_some zero = value_some (curve.disc.value ∙ zero)
 
   -- on the finite side an element of the presentation stands for its own function
-  on_rows : (rows : List (List (List ℕ))) (den : List ℕ) → All (IsRow k.ops c.fin.n) rows → All (All IsPoly) rows → IsOver k.ops den → IsPoly den → IsMonic den
+  on_rows : (rows : List (List (List ℕ))) (den : List ℕ) → All (IsRow k.ops c.fin.n) rows → All (All IsPoly) rows
+      → IsOver k.ops den → IsPoly den → IsMonic den
       → map (function_of k c.fin) (elems_over rows den) ≡ map (function_on k c.fin c.c Finite) (elems_over rows den)
   on_rows [] den rows_in polys den_in den_poly monic = refl
   on_rows (v ∷ rows) den rows_in polys den_in den_poly monic =
@@ -59,26 +61,37 @@ module _ (k : CodeField) (c : CurveValue) (curve : IsCurve k c) where
       (sym (on_finite_side k c.fin c.c (record { num = v; den = den }) positive
       (record { one_each = row.size; num_over = row.over; den_over = den_in })
       (record { num_poly = All-head (All IsPoly) v rows polys; den_poly = den_poly; monic = monic })))
-      (on_rows rows den (All-tail (IsRow k.ops c.fin.n) v rows rows_in) (All-tail (All IsPoly) v rows polys) den_in den_poly monic)
+      (on_rows rows den (All-tail (IsRow k.ops c.fin.n) v rows rows_in) (All-tail (All IsPoly) v rows polys) den_in
+      den_poly monic)
 
-  pub copied : (side : Side) (r : ElemValue) (x : Result ElemValue AllocError) → side ≡ Finite → IsElem k.ops c.fin.n r → IsMonicElem r → IfOk x (λ z. z ≡ r)
+  pub copied : (side : Side) (r : ElemValue) (x : Result ElemValue AllocError) → side ≡ Finite → IsElem k.ops c.fin.n r
+      → IsMonicElem r → IfOk x (λ z. z ≡ r)
       → IfOk x (λ z. function_of k c.fin z ≡ function_on k c.fin c.c side r)
-  copied side r (Ok z) is r_in monic e = ap (function_of k c.fin) e ∙ sym (on_finite_side k c.fin c.c r positive r_in monic) ∙ ap (λ s. function_on k c.fin c.c s r) (sym is)
+  copied side r (Ok z) is r_in monic e = ap (function_of k c.fin) e
+      ∙ sym (on_finite_side k c.fin c.c r positive r_in monic) ∙ ap (λ s. function_on k c.fin c.c s r) (sym is)
   copied side r (Err x) is r_in monic e = e
 
-  row_functions : (l : LatticeValue) → IsLattice k.ops c.fin.n l → map (function_of k c.fin) (row_elems l) ≡ map (function_on k c.fin c.c Finite) (row_elems l)
-  row_functions l form = on_rows l.rows l.den form.rows_in (popov_poly c.fin.n l.rows form.popov) form.den_in form.den_poly form.monic
+  row_functions : (l : LatticeValue) → IsLattice k.ops c.fin.n l
+      → map (function_of k c.fin) (row_elems l) ≡ map (function_on k c.fin c.c Finite) (row_elems l)
+  row_functions l form = on_rows l.rows l.den form.rows_in (popov_poly c.fin.n l.rows form.popov) form.den_in
+      form.den_poly form.monic
 
-  module _ (f : FactorsValue) (h : IsFactorisation k.ops c.disc f) (o m : LatticeValue) (o_order : IsOrderLattice k c.fin o) (m_order : IsOrderLattice k c.fin m)
+  module _ (f : FactorsValue) (h : IsFactorisation k.ops c.disc f) (o m : LatticeValue)
+      (o_order : IsOrderLattice k c.fin o) (m_order : IsOrderLattice k c.fin m)
       (start : (z : Functions k c.fin) → Contains k c.fin o z ↔ HasPolynomialCoordinates (equation_of k c.fin) z)
-      (members : (z : Functions k c.fin) → Contains k c.fin m z ↔ TakenByProducts (equation_of k c.fin) (map (value k) (repeated f.parts)) (Contains k c.fin o) z) where
+      (members : (z : Functions k c.fin)
+      → Contains k c.fin m z ↔ TakenByProducts (equation_of k c.fin) (map (value k) (repeated f.parts))
+      (Contains k c.fin o) z) where
     all_members : (z : Functions k c.fin) → Contains k c.fin m z ↔ IsIntegralAt (setting k c.fin) Finite z
     all_members =
-        all_integral (equation_of k c.fin) (Contains k c.fin o) (Contains k c.fin m) (order_set k c.fin positive o o_order) (order_set k c.fin positive m m_order)
+        all_integral (equation_of k c.fin) (Contains k c.fin o) (Contains k c.fin m)
+        (order_set k c.fin positive o o_order) (order_set k c.fin positive m m_order)
         (map (value k) (repeated f.parts)) members (λ z. (start z).1) (map (value k) (expanded f.parts))
-        (subst (λ d. IsDivisorIn (polynomials k).ops d (polynomial_product k (map (value k) (expanded f.parts)))) curve.disc.value (divides_expanded k c.disc f h))
+        (subst (λ d. IsDivisorIn (polynomials k).ops d (polynomial_product k (map (value k) (expanded f.parts))))
+        curve.disc.value (divides_expanded k c.disc f h))
         (expanded_irreducible k c.disc f h)
-        (subst (λ d. All (λ q. IsDivisorIn (polynomials k).ops ((polynomials k).◌⊗◌ q q) d → Any (λ r. r ≡ q) (map (value k) (repeated f.parts))) (map (value k) (expanded f.parts)))
+        (subst (λ d. All (λ q. IsDivisorIn (polynomials k).ops ((polynomials k).◌⊗◌ q q) d
+        → Any (λ r. r ≡ q) (map (value k) (repeated f.parts))) (map (value k) (expanded f.parts)))
         curve.disc.value (listed k c.disc f h value_some))
 
     pub finite_lattice : IsIntegralLattice k c Finite m
@@ -100,13 +113,16 @@ module _ (k : CodeField) (c : CurveValue) (curve : IsCurve k c) where
       → ((z : Functions k p) → Contains k p o z ↔ HasPolynomialCoordinates (equation_of k p) z)
       → (r : Result LatticeValue AllocError)
       → IfOk r (IsOrderLattice k p)
-      → IfOk r (λ m. (z : Functions k p) → Contains k p m z ↔ TakenByProducts (equation_of k p) (map (value k) primes) (Contains k p o) z)
+      → IfOk r (λ m. (z : Functions k p)
+      → Contains k p m z ↔ TakenByProducts (equation_of k p) (map (value k) primes) (Contains k p o) z)
       → IfOk r (IsIntegralLattice k c Finite)
 
   promise : Promise c.fin
   promise f h primes is o o_order start (Ok m) order members =
       finite_lattice f h o m o_order order start
-      (subst (λ ps. (z : Functions k c.fin) → Contains k c.fin m z ↔ TakenByProducts (equation_of k c.fin) (map (value k) ps) (Contains k c.fin o) z) is members)
+      (subst (λ ps. (z : Functions k c.fin)
+      → Contains k c.fin m z ↔ TakenByProducts (equation_of k c.fin) (map (value k) ps) (Contains k c.fin o) z) is
+      members)
   promise f h primes is o o_order start (Err e) order members = members
 
   pub finite_answer : (p : PresValue) → p ≡ c.fin → Promise p

@@ -58,35 +58,53 @@ module _ (k : CodeField) (c : CurveValue) (curve : IsCurve k c) where
   disc_at_infinity = infinite_disc k c curve
 
   module _ (m : LatticeValue) (m_order : IsOrderLattice k c.inf m)
-      (members : (z : Functions k c.inf) → Contains k c.inf m z ↔ TakenByPowers (equation_of k c.inf) (x_poly k) (HasPolynomialCoordinates (equation_of k c.inf)) z) where
-    maximal : MaximalAt (functions k c.inf).ops (of_poly (equation_of k c.inf) (x_poly k)) (IsIntegralAt (setting k c.inf) Finite) (Contains k c.inf m)
-    maximal z n integral inside = (members z).1 (taken_maximal (equation_of k c.inf) (x_poly k) (x_irreducible k) z n integral ((members _).0 inside))
+      (members : (z : Functions k c.inf)
+      → Contains k c.inf m z ↔ TakenByPowers (equation_of k c.inf) (x_poly k)
+      (HasPolynomialCoordinates (equation_of k c.inf)) z) where
+    maximal : MaximalAt (functions k c.inf).ops (of_poly (equation_of k c.inf) (x_poly k))
+        (IsIntegralAt (setting k c.inf) Finite) (Contains k c.inf m)
+    maximal z n integral inside = (members z).1
+        (taken_maximal (equation_of k c.inf) (x_poly k) (x_irreducible k) z n integral ((members _).0 inside))
 
     tame : IsSupportedAt (equation_of k c.inf) (x_poly k) (Contains k c.inf m)
     tame =
         let t = taken_is_supported (equation_of k c.inf) (x_poly k) (x_irreducible k) disc_at_infinity in
-        record { exponent = t.exponent; has = λ i less. (members _).1 (t.has i less); within = λ z h. t.within z ((members z).0 h) }
+        record {
+          exponent = t.exponent;
+          has = λ i less. (members _).1 (t.has i less);
+          within = λ z h. t.within z
+              ((members z).0 h);
+        }
 
     order : theory.IsOrder (equation_of k c.inf) (Contains k c.inf m)
     order = order_set k c.inf (some_inf k c curve) m m_order
 
-    itself : SameSet (Contains k c.inf m) (Span (functions k c.inf).ops (IsPolynomial (equation_of k c.inf)) (map (function_of k c.inf) (row_elems m)))
+    itself : SameSet (Contains k c.inf m)
+        (Span (functions k c.inf).ops (IsPolynomial (equation_of k c.inf)) (map (function_of k c.inf) (row_elems m)))
     itself z = (λ h. h, λ h. h)
 
     span : SpansIntegral k c Infinite (map (function_on k c.fin c.c Infinite) (row_elems m))
     span z =
         let w = g.isomorphism.onto z in
-        let i = infinite_integral k c.fin c.inf c.c f g (Contains k c.inf m) order maximal (map (function_of k c.inf) (row_elems m)) itself w.0 in
-        subst (λ y. Span (functions k c.fin).ops ((setting k c.fin).IsScalar Infinite) (map (function_on k c.fin c.c Infinite) (row_elems m)) y ↔ IsIntegralAt (setting k c.fin) Infinite y) w.1
-        (subst (λ hs. Span (functions k c.fin).ops ((setting k c.fin).IsScalar Infinite) hs (f w.0) ↔ IsIntegralAt (setting k c.fin) Infinite (f w.0)) (rows_are k c curve m m_order.lattice) (i.1, i.0))
+        let i = infinite_integral k c.fin c.inf c.c f g (Contains k c.inf m) order maximal
+        (map (function_of k c.inf) (row_elems m)) itself w.0 in
+        subst (λ y. Span (functions k c.fin).ops ((setting k c.fin).IsScalar Infinite)
+        (map (function_on k c.fin c.c Infinite) (row_elems m)) y ↔ IsIntegralAt (setting k c.fin) Infinite y) w.1
+        (subst (λ hs. Span (functions k c.fin).ops ((setting k c.fin).IsScalar Infinite) hs (f w.0)
+        ↔ IsIntegralAt (setting k c.fin) Infinite (f w.0)) (rows_are k c curve m m_order.lattice) (i.1, i.0))
 
     whole : SpansOverPowersOfT k c Infinite (map (function_on k c.fin c.c Infinite) (row_elems m))
     whole z =
         let w = g.isomorphism.onto z in
-        let s = span_iff (functions k c.inf) (functions k c.fin) f g.isomorphism (IsPolynomial (equation_of k c.inf)) (InReverse k c.fin) g.polynomials (map (function_of k c.inf) (row_elems m)) w.0 in
+        let s = span_iff (functions k c.inf) (functions k c.fin) f g.isomorphism (IsPolynomial (equation_of k c.inf))
+        (InReverse k c.fin) g.polynomials (map (function_of k c.inf) (row_elems m)) w.0 in
         let b = infinite_members k c.fin c.inf c.c f g (Contains k c.inf m) order maximal tame w.0 in
-        subst (λ y. Span (functions k c.fin).ops (IsPolynomialOn k c.fin Infinite) (map (function_on k c.fin c.c Infinite) (row_elems m)) y ↔ (IsIntegralAt (setting k c.fin) Infinite y × IsOverPowerOfT k c y)) w.1
-        (subst (λ hs. Span (functions k c.fin).ops (IsPolynomialOn k c.fin Infinite) hs (f w.0) ↔ (IsIntegralAt (setting k c.fin) Infinite (f w.0) × IsOverPowerOfT k c (f w.0))) (rows_are k c curve m m_order.lattice) (
+        subst (λ y. Span (functions k c.fin).ops (IsPolynomialOn k c.fin Infinite)
+        (map (function_on k c.fin c.c Infinite) (row_elems m)) y
+        ↔ (IsIntegralAt (setting k c.fin) Infinite y × IsOverPowerOfT k c y)) w.1
+        (subst (λ hs. Span (functions k c.fin).ops (IsPolynomialOn k c.fin Infinite) hs (f w.0)
+        ↔ (IsIntegralAt (setting k c.fin) Infinite (f w.0) × IsOverPowerOfT k c (f w.0)))
+        (rows_are k c curve m m_order.lattice) (
           λ h. let n = b.0 (s.1 h) in (n.1, power_to k c curve w.0 n.0),
           λ h. s.0 (b.1 (power_from k c curve w.0 h.1, h.0)),
         ))
@@ -103,15 +121,18 @@ module _ (k : CodeField) (c : CurveValue) (curve : IsCurve k c) where
       → ((z : Functions k c.inf) → Contains k c.inf o z ↔ HasPolynomialCoordinates (equation_of k c.inf) z)
       → (r : Result LatticeValue AllocError)
       → IfOk r (IsOrderLattice k p)
-      → IfOk r (λ m. (z : Functions k p) → Contains k p m z ↔ TakenByPowers (equation_of k p) (value k t) (Contains k p o) z)
+      → IfOk r (λ m. (z : Functions k p)
+      → Contains k p m z ↔ TakenByPowers (equation_of k p) (value k t) (Contains k p o) z)
       → IfOk r (IsIntegralLattice k c Infinite)
 
   promise : Promise c.inf
   promise t is o start (Ok m) m_order members = infinite_lattice m m_order taken
     where
-      taken : (z : Functions k c.inf) → Contains k c.inf m z ↔ TakenByPowers (equation_of k c.inf) (x_poly k) (HasPolynomialCoordinates (equation_of k c.inf)) z
+      taken : (z : Functions k c.inf) → Contains k c.inf m z
+          ↔ TakenByPowers (equation_of k c.inf) (x_poly k) (HasPolynomialCoordinates (equation_of k c.inf)) z
       taken z =
-          let both = subst (λ a. Contains k c.inf m z ↔ TakenByPowers (equation_of k c.inf) (value k a) (Contains k c.inf o) z) is (members z) in (
+          let both = subst (λ a. Contains k c.inf m z
+          ↔ TakenByPowers (equation_of k c.inf) (value k a) (Contains k c.inf o) z) is (members z) in (
             λ h. let e = both.0 h in record { in_Int = e.in_Int; exponent = e.exponent; inside = (start _).0 e.inside },
             λ e. both.1 (record { in_Int = e.in_Int; exponent = e.exponent; inside = (start _).1 e.inside }),
           )
@@ -121,4 +142,5 @@ module _ (k : CodeField) (c : CurveValue) (curve : IsCurve k c) where
   infinite_answer p is = subst Promise (sym is) promise
 
   pub some_disc_at_infinity : (p : PresValue) → p ≡ c.inf → ¬ (discriminant (equation_of k p) ≡ (polynomials k).𝟘)
-  some_disc_at_infinity p is = subst (λ q. ¬ (discriminant (equation_of k q) ≡ (polynomials k).𝟘)) (sym is) disc_at_infinity
+  some_disc_at_infinity p is = subst (λ q. ¬ (discriminant (equation_of k q) ≡ (polynomials k).𝟘)) (sym is)
+      disc_at_infinity

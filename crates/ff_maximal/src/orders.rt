@@ -31,7 +31,8 @@ fn repeated(alloc: Global, parts: &[(Poly, u32)]) -> Result<Vec<Poly>, AllocErro
 }
 
 /// The integral functions of the finite side: k[x][y], enlarged at the irreducible polynomials whose squares divide the
-/// discriminant. Over a curve whose discriminant has no such square it takes the time of factoring that, and of a Popov basis of
+/// discriminant. Over a curve whose discriminant has no such square it takes the time of factoring that, and of a Popov
+/// basis of
 /// the unit matrix.
 fn finite_order<K: SmallField>(alloc: Global, k: &K, curve: &Curve) -> Result<Order, AllocError>
     requires { IsCurve (K.field k.now) curve.now }
@@ -51,7 +52,8 @@ fn variable(alloc: Global) -> Result<Poly, AllocError>
     shift(alloc, &Poly::one(alloc)?, 1)
 }
 
-/// The integral functions of the infinite side that have powers of t = 1/x as denominators: k[t][Y], enlarged at t. Their
+/// The integral functions of the infinite side that have powers of t = 1/x as denominators: k[t][Y], enlarged at t.
+/// Their
 /// combinations over the fractions of degree at most 0 are all integral functions of that side. It takes the time of
 /// `p_maximal` at t over the infinite presentation.
 fn infinite_order<K: SmallField>(alloc: Global, k: &K, curve: &Curve) -> Result<Order, AllocError>
@@ -64,8 +66,10 @@ fn infinite_order<K: SmallField>(alloc: Global, k: &K, curve: &Curve) -> Result<
     p_maximal(alloc, k, p, &start, &t)
 }
 
-/// The maximal order of a side: the integral functions of the finite side, or those of the infinite side that have powers
-/// of t = 1/x as denominators, whose combinations over the fractions of degree at most 0 are all integral functions of that
+/// The maximal order of a side: the integral functions of the finite side, or those of the infinite side that have
+/// powers
+/// of t = 1/x as denominators, whose combinations over the fractions of degree at most 0 are all integral functions of
+/// that
 /// side (Stichtenoth, Algebraic Function Fields and Codes, chapter 3; Hess, 2002). It takes the time of factoring the
 /// discriminant and of the turns that enlarge k[x][y], or of those that enlarge k[t][Y] at t.
 pub fn maximal_order<K: SmallField>(

@@ -22,11 +22,14 @@ ops_are (Modulo p) is = refl
 ops_are (ByModulus p m modulus) is = refl
 
 -- data with the same operations
-pub same_field : (d e : FieldData) (is : IsFieldData d) (is' : IsFieldData e) → ops_of d ≡ ops_of e → with_laws d is ≡ with_laws e is'
+pub same_field : (d e : FieldData) (is : IsFieldData d) (is' : IsFieldData e) → ops_of d ≡ ops_of e
+    → with_laws d is ≡ with_laws e is'
 same_field d e is is' same =
-    same_laws (with_laws d is).ops (with_laws e is').ops (ops_are d is ∙ same ∙ sym (ops_are e is')) (with_laws d is).laws (with_laws e is').laws
+    same_laws (with_laws d is).ops (with_laws e is').ops (ops_are d is ∙ same ∙ sym (ops_are e is'))
+    (with_laws d is).laws (with_laws e is').laws
 
-pub fields_same : (d e : FieldData) (h : AreSameFields d e) (is : IsFieldData d) (is' : IsFieldData e) → with_laws d is ≡ with_laws e is'
+pub fields_same : (d e : FieldData) (h : AreSameFields d e) (is : IsFieldData d) (is' : IsFieldData e)
+    → with_laws d is ≡ with_laws e is'
 fields_same d e h is is' = same_field d e is is' h.ops
 
 -- the operations of data, with their laws

@@ -28,7 +28,7 @@ use Rattle.ff_meaning.specs.Limits.{max_degree}
 use Rattle.ff_meaning.specs.Bindings.{Bindings, Bound, with_field, with_curve, IsSomeWith}
 use Rattle.ff_meaning.specs.SameBindings.{AreSameFields, AreSame, NothingBound, OneField, OneCurve}
 use Rattle.ff_meaning.specs.Meaning.{AreCodesBelow, codes_of_den, codes_of_element, IsSumOf, ArePolysOf, IsDenOf, IsElementOf, degree_of_element}
-use Rattle.ff_meaning.specs.Refusals.{IsCodeRow, IsFieldLineFault, refusal_of_field, IsFieldRow, refusal_of_curve, IsNoCurve, IsWithinDegrees, IsElementRow, IsProductRow, IsFactorRow, IsRefusalRow}
+use Rattle.ff_meaning.specs.Refusals.{IsCodeRow, IsFieldLineFault, refusal_of_field, IsFieldRow, refusal_of_curve, IsNoCurve, IsElementRow, IsProductRow, IsFactorRow, IsRefusalRow}
 use Rattle.ff_meaning.specs.Refusals as rows
 use Rattle.ff_meaning.proofs.TermCodes.{same_terms}
 use Rattle.ff_meaning.proofs.ElementValues.{same_poly, same_polys, same_den, none_found, no_element_row}
@@ -69,7 +69,8 @@ module _ (p m : ℕ) (codes : List ℕ) where
           let out = h.outside in
           omega (arith, below, is, out)
 
-      go : (h.position < g.position) ⊎ (g.position ≤ h.position) → (g.position < h.position) ⊎ (h.position ≤ g.position) → c ≡ d
+      go : (h.position < g.position) ⊎ (g.position ≤ h.position) → (g.position < h.position) ⊎ (h.position ≤ g.position)
+          → c ≡ d
       go (inl less) other = absurd (before c d h g less)
       go (inr le) (inl less) = absurd (before d c g h less)
       go (inr le) (inr ge) =
@@ -105,12 +106,14 @@ module _ (p m : ℕ) (codes : List ℕ) where
       let same = same_product a b c d h.1 g.1 in
       ap₂ fields.NotField same.0 same.1
 
-same_line_fault : (p : ℕ) (tail : Option Modulus) (e d : FieldFault) → IsFieldLineFault p tail e → IsFieldLineFault p tail d → e ≡ d
+same_line_fault : (p : ℕ) (tail : Option Modulus) (e d : FieldFault) → IsFieldLineFault p tail e
+    → IsFieldLineFault p tail d → e ≡ d
 same_line_fault p None e d h g = h.1 ∙ sym g.1
 same_line_fault p (Some tail) e d h g = same_fault p tail.m tail.codes e d h g
 
 one_field_row : (p : ℕ) (tail : Option Modulus) (r t : Refusal) → IsFieldRow p tail r → IsFieldRow p tail t → r ≡ t
-one_field_row p tail r t h g = h.is ∙ ap refusal_of_field (same_line_fault p tail h.fault g.fault h.holds g.holds) ∙ sym g.is
+one_field_row p tail r t h g = h.is ∙ ap refusal_of_field (same_line_fault p tail h.fault g.fault h.holds g.holds)
+    ∙ sym g.is
 
 -- ---- curves
 
@@ -120,11 +123,14 @@ module _ (k : CodeField) (f : List Term) where
 
   one_curve_row : (r t : Refusal) → IsNoCurve k f r → IsNoCurve k f t → r ≡ t
   one_curve_row r t (rows.range h) (rows.range g) = same_code k.size (written_codes f) r t h g
-  one_curve_row r t (rows.range h) (rows.fault sum is e some holds told) = absurd (no_code k.ops (written_codes f) r is.written h)
-  one_curve_row r t (rows.fault sum is e some holds told) (rows.range g) = absurd (no_code k.ops (written_codes f) t is.written g)
+  one_curve_row r t (rows.range h) (rows.fault sum is e some holds told) = absurd
+      (no_code k.ops (written_codes f) r is.written h)
+  one_curve_row r t (rows.fault sum is e some holds told) (rows.range g) = absurd
+      (no_code k.ops (written_codes f) t is.written g)
   one_curve_row r t (rows.fault sum is e some holds told) (rows.fault sum' is' e' some' holds' told') =
       let same = same_sum sum sum' is is' in
-      told ∙ ap refusal_of_curve (one_fault k sum' e e' some some' (subst (λ s. IsCurveFault k s e) same holds) holds') ∙ sym told'
+      told ∙ ap refusal_of_curve (one_fault k sum' e e' some some' (subst (λ s. IsCurveFault k s e) same holds) holds')
+      ∙ sym told'
 
 -- ---- elements and polynomials
 
@@ -135,10 +141,12 @@ module _ (k : FieldOps) where
       let dens = same_den k e.den z.den w.den h.denominator g.denominator in
       λ i. record { num = nums i; den = dens i }
 
-  polys_written : (es : List (List Term)) (ps : List (List ℕ)) → ArePolysOf k es ps → AreCodesBelow k.size (flat_map written_codes es)
+  polys_written : (es : List (List Term)) (ps : List (List ℕ)) → ArePolysOf k es ps
+      → AreCodesBelow k.size (flat_map written_codes es)
   polys_written [] ps h = All-nil (λ c. c < k.size)
   polys_written (e ∷ es) [] h = absurd h
-  polys_written (e ∷ es) (p ∷ ps) h = All-append (λ c. c < k.size) (written_codes e) (flat_map written_codes es) h.0.written (polys_written es ps h.1)
+  polys_written (e ∷ es) (p ∷ ps) h = All-append (λ c. c < k.size) (written_codes e) (flat_map written_codes es)
+      h.0.written (polys_written es ps h.1)
 
   den_written : (o : Option (List Term)) (d : List ℕ) → IsDenOf k o d → AreCodesBelow k.size (codes_of_den o)
   den_written None d h = All-nil (λ c. c < k.size)
@@ -150,57 +158,71 @@ module _ (k : FieldOps) where
       (polys_written e.entries z.num h.numerators) (den_written e.den z.den h.denominator)
 
   module _ (n bound : ℕ) where
-    same_size : (e : ElemText) (z w : ElemValue) → IsElementOf k e z → IsElementOf k e w → degree_of_element z ≡ degree_of_element w
+    same_size : (e : ElemText) (z w : ElemValue) → IsElementOf k e z → IsElementOf k e w
+        → degree_of_element z ≡ degree_of_element w
     same_size e z w h g = ap degree_of_element (same_element e z w h g)
 
     one_element_row : (e : ElemText) (r t : Refusal) → IsElementRow k n bound e r → IsElementRow k n bound e t → r ≡ t
     one_element_row e r t (rows.range h) (rows.range g) = same_code k.size (codes_of_element e) r t h g
     one_element_row e r t (rows.range h) (rows.size below other is) = absurd (no_code k (codes_of_element e) r below h)
-    one_element_row e r t (rows.range h) (rows.degree long z z_is great is) = absurd (no_code k (codes_of_element e) r (element_written e z z_is) h)
-    one_element_row e r t (rows.range h) (rows.zero_den long z z_is small none is) = absurd (no_code k (codes_of_element e) r (element_written e z z_is) h)
+    one_element_row e r t (rows.range h) (rows.degree long z z_is great is) = absurd
+        (no_code k (codes_of_element e) r (element_written e z z_is) h)
+    one_element_row e r t (rows.range h) (rows.zero_den long z z_is small none is) = absurd
+        (no_code k (codes_of_element e) r (element_written e z z_is) h)
     one_element_row e r t (rows.size below other is) (rows.range g) = absurd (no_code k (codes_of_element e) t below g)
     one_element_row e r t (rows.size below other is) (rows.size below' other' is') = is ∙ sym is'
     one_element_row e r t (rows.size below other is) (rows.degree long z z_is great is') = absurd (other long)
     one_element_row e r t (rows.size below other is) (rows.zero_den long z z_is small none is') = absurd (other long)
-    one_element_row e r t (rows.degree long z z_is great is) (rows.range g) = absurd (no_code k (codes_of_element e) t (element_written e z z_is) g)
+    one_element_row e r t (rows.degree long z z_is great is) (rows.range g) = absurd
+        (no_code k (codes_of_element e) t (element_written e z z_is) g)
     one_element_row e r t (rows.degree long z z_is great is) (rows.size below other is') = absurd (other long)
     one_element_row e r t (rows.degree long z z_is great is) (rows.degree long' w w_is great' is') =
         is ∙ ap (λ x. LimitX (degree_of_element x)) (same_element e z w z_is w_is) ∙ sym is'
     one_element_row e r t (rows.degree long z z_is great is) (rows.zero_den long' w w_is small none is') =
         absurd (let same = same_size e z w z_is w_is in omega (arith, same, great, small))
-    one_element_row e r t (rows.zero_den long z z_is small none is) (rows.range g) = absurd (no_code k (codes_of_element e) t (element_written e z z_is) g)
+    one_element_row e r t (rows.zero_den long z z_is small none is) (rows.range g) = absurd
+        (no_code k (codes_of_element e) t (element_written e z z_is) g)
     one_element_row e r t (rows.zero_den long z z_is small none is) (rows.size below other is') = absurd (other long)
     one_element_row e r t (rows.zero_den long z z_is small none is) (rows.degree long' w w_is great is') =
         absurd (let same = same_size e z w z_is w_is in omega (arith, same, great, small))
-    one_element_row e r t (rows.zero_den long z z_is small none is) (rows.zero_den long' w w_is small' none' is') = is ∙ sym is'
+    one_element_row e r t (rows.zero_den long z z_is small none is) (rows.zero_den long' w w_is small' none' is') = is
+        ∙ sym is'
 
-    one_product_row : (a b : ElemText) (r t : Refusal) → IsProductRow k n bound a b r → IsProductRow k n bound a b t → r ≡ t
+    one_product_row : (a b : ElemText) (r t : Refusal) → IsProductRow k n bound a b r → IsProductRow k n bound a b t
+        → r ≡ t
     one_product_row a b r t (inl h) (inl g) = one_element_row a r t h g
     one_product_row a b r t (inl h) (inr g) = absurd (no_element_row k n bound a r g.0 h)
     one_product_row a b r t (inr h) (inl g) = absurd (no_element_row k n bound a t h.0 g)
     one_product_row a b r t (inr h) (inr g) = one_element_row b r t h.1 g.1
 
-  one_factor_row : (bound : ℕ) (g : List Term) (r t : Refusal) → IsFactorRow k bound g r → IsFactorRow k bound g t → r ≡ t
+  one_factor_row : (bound : ℕ) (g : List Term) (r t : Refusal) → IsFactorRow k bound g r → IsFactorRow k bound g t
+      → r ≡ t
   one_factor_row bound g r t (rows.range h) (rows.range j) = same_code k.size (written_codes g) r t h j
-  one_factor_row bound g r t (rows.range h) (rows.degree p p_is great is) = absurd (no_code k (written_codes g) r p_is.written h)
-  one_factor_row bound g r t (rows.range h) (rows.zero_sum none is) = absurd (no_code k (written_codes g) r none.written h)
-  one_factor_row bound g r t (rows.degree p p_is great is) (rows.range j) = absurd (no_code k (written_codes g) t p_is.written j)
+  one_factor_row bound g r t (rows.range h) (rows.degree p p_is great is) = absurd
+      (no_code k (written_codes g) r p_is.written h)
+  one_factor_row bound g r t (rows.range h) (rows.zero_sum none is) = absurd
+      (no_code k (written_codes g) r none.written h)
+  one_factor_row bound g r t (rows.degree p p_is great is) (rows.range j) = absurd
+      (no_code k (written_codes g) t p_is.written j)
   one_factor_row bound g r t (rows.degree p p_is great is) (rows.degree q q_is great' is') =
       is ∙ ap (λ (x : List ℕ). LimitX (length x - 1)) (same_poly k g p q p_is q_is) ∙ sym is'
   one_factor_row bound g r t (rows.degree p p_is great is) (rows.zero_sum none is') =
       absurd (let same = ap length (same_poly k g p [] p_is none) in omega (arith, same, great))
-  one_factor_row bound g r t (rows.zero_sum none is) (rows.range j) = absurd (no_code k (written_codes g) t none.written j)
+  one_factor_row bound g r t (rows.zero_sum none is) (rows.range j) = absurd
+      (no_code k (written_codes g) t none.written j)
   one_factor_row bound g r t (rows.zero_sum none is) (rows.degree q q_is great is') =
       absurd (let same = ap length (same_poly k g q [] q_is none) in omega (arith, same, great))
   one_factor_row bound g r t (rows.zero_sum none is) (rows.zero_sum none' is') = is ∙ sym is'
 
 -- ---- all rows
 
-for_field : (P Q : FieldData → Type 0) (A : Type 0) → ((d : FieldData) → P d → Q d → A) → (o : Option FieldData) → IsSomeWith o P → IsSomeWith o Q → A
+for_field : (P Q : FieldData → Type 0) (A : Type 0) → ((d : FieldData) → P d → Q d → A) → (o : Option FieldData)
+    → IsSomeWith o P → IsSomeWith o Q → A
 for_field P Q A f None h g = absurd h
 for_field P Q A f (Some d) h g = f d h g
 
-for_curve : (P Q : FieldData → CurveValue → Type 0) (A : Type 0) → ((d : FieldData) (c : CurveValue) → P d c → Q d c → A) → (o : Option FieldData) (b : Option Bound)
+for_curve : (P Q : FieldData → CurveValue → Type 0) (A : Type 0)
+    → ((d : FieldData) (c : CurveValue) → P d c → Q d c → A) → (o : Option FieldData) (b : Option Bound)
     → IsSomeWith o (λ d. IsSomeWith b (λ x. P d x.curve)) → IsSomeWith o (λ d. IsSomeWith b (λ x. Q d x.curve)) → A
 for_curve P Q A f None b h g = absurd h
 for_curve P Q A f (Some d) None h g = absurd h
@@ -210,9 +232,11 @@ pub one_row : (old : Bindings) (s : Statement) (r t : Refusal) → IsRefusalRow 
 one_row old (FieldOf p tail) r t h g = one_field_row p tail r t h.1 g.1
 one_row old (CurveOf f) r t h g =
     for_field (λ d. rows.IsCurveRow d f r) (λ d. rows.IsCurveRow d f t) (r ≡ t)
-    (λ d a b. one_curve_row (with_laws d b.0) f r t (subst (λ k. IsNoCurve k f r) (same_field d d a.0 b.0 refl) a.1) b.1) old.field h g
+    (λ d a b. one_curve_row (with_laws d b.0) f r t (subst (λ k. IsNoCurve k f r) (same_field d d a.0 b.0 refl) a.1)
+    b.1) old.field h g
 one_row old (Mul a b) r t h g =
-    for_curve (λ d c. IsProductRow (ops_of d) c.fin.n max_degree a b r) (λ d c. IsProductRow (ops_of d) c.fin.n max_degree a b t) (r ≡ t)
+    for_curve (λ d c. IsProductRow (ops_of d) c.fin.n max_degree a b r)
+    (λ d c. IsProductRow (ops_of d) c.fin.n max_degree a b t) (r ≡ t)
     (λ d c x y. one_product_row (ops_of d) c.fin.n max_degree a b r t x y) old.field old.bound h g
 one_row old (Factor p) r t h g =
     for_curve (λ d c. IsFactorRow (ops_of d) max_degree p r) (λ d c. IsFactorRow (ops_of d) max_degree p t) (r ≡ t)
@@ -261,9 +285,11 @@ factor_some k bound g r (rows.zero_sum none is) m = absurd cc
 pub row_some : (old : Bindings) (s : Statement) (r : Refusal) → IsRefusalRow old s r → r ≢ Memory
 row_some old (FieldOf p tail) r h m = field_some h.1.fault (sym h.1.is ∙ m)
 row_some old (CurveOf f) r h m =
-    for_field (λ d. rows.IsCurveRow d f r) (λ d. rows.IsCurveRow d f r) ⊥ (λ d a b. no_curve_some (with_laws d a.0) f r a.1 m) old.field h h
+    for_field (λ d. rows.IsCurveRow d f r) (λ d. rows.IsCurveRow d f r) ⊥
+    (λ d a b. no_curve_some (with_laws d a.0) f r a.1 m) old.field h h
 row_some old (Mul a b) r h m =
-    for_curve (λ d c. IsProductRow (ops_of d) c.fin.n max_degree a b r) (λ d c. IsProductRow (ops_of d) c.fin.n max_degree a b r) ⊥
+    for_curve (λ d c. IsProductRow (ops_of d) c.fin.n max_degree a b r)
+    (λ d c. IsProductRow (ops_of d) c.fin.n max_degree a b r) ⊥
     (λ d c x y. product_some (ops_of d) c.fin.n max_degree a b r x m) old.field old.bound h h
 row_some old (Factor p) r h m =
     for_curve (λ d c. IsFactorRow (ops_of d) max_degree p r) (λ d c. IsFactorRow (ops_of d) max_degree p r) ⊥
@@ -272,16 +298,23 @@ row_some old (OrderOf side) r h m = absurd h
 
 -- ---- the same bindings have the same rows
 
-field_moves : (d e : FieldData) (s : Statement) (r : Refusal) → AreSameFields d e → IsRefusalRow (with_field d) s r → IsRefusalRow (with_field e) s r
+field_moves : (d e : FieldData) (s : Statement) (r : Refusal) → AreSameFields d e → IsRefusalRow (with_field d) s r
+    → IsRefusalRow (with_field e) s r
 field_moves d e (FieldOf p tail) r same h = absurd (let none = h.0 in cc)
-field_moves d e (CurveOf f) r same h = (same.right, subst (λ k. IsNoCurve k f r) (fields_same d e same h.0 same.right) h.1)
+field_moves d e (CurveOf f) r same h = (
+  same.right,
+  subst (λ k. IsNoCurve k f r) (fields_same d e same h.0 same.right)
+      h.1,
+)
 field_moves d e (Mul a b) r same h = absurd h
 field_moves d e (Factor g) r same h = absurd h
 field_moves d e (OrderOf side) r same h = absurd h
 
-curve_moves : (d e : FieldData) (c : CurveValue) (s : Statement) (r : Refusal) → AreSameFields d e → IsRefusalRow (with_curve d c) s r → IsRefusalRow (with_curve e c) s r
+curve_moves : (d e : FieldData) (c : CurveValue) (s : Statement) (r : Refusal) → AreSameFields d e
+    → IsRefusalRow (with_curve d c) s r → IsRefusalRow (with_curve e c) s r
 curve_moves d e c (FieldOf p tail) r same h = absurd (let none = h.0 in cc)
-curve_moves d e c (CurveOf f) r same h = (same.right, subst (λ k. IsNoCurve k f r) (fields_same d e same h.0 same.right) h.1)
+curve_moves d e c (CurveOf f) r same h =
+    (same.right, subst (λ k. IsNoCurve k f r) (fields_same d e same h.0 same.right) h.1)
 curve_moves d e c (Mul a b) r same h = subst (λ o. IsProductRow o c.fin.n max_degree a b r) same.ops h
 curve_moves d e c (Factor g) r same h = subst (λ o. IsFactorRow o max_degree g r) same.ops h
 curve_moves d e c (OrderOf side) r same h = absurd h
@@ -291,4 +324,5 @@ row_moves a b s r (NothingBound a_is b_is) h = subst (λ x. IsRefusalRow x s r) 
 row_moves a b s r (OneField d e same a_is b_is) h =
     subst (λ x. IsRefusalRow x s r) (sym b_is) (field_moves d e s r same (subst (λ x. IsRefusalRow x s r) a_is h))
 row_moves a b s r (OneCurve d e c same a_is b_is) h =
-    subst (λ x. IsRefusalRow x s r) (sym b_is) (curve_moves d e c s r same.fields (subst (λ x. IsRefusalRow x s r) a_is h))
+    subst (λ x. IsRefusalRow x s r) (sym b_is)
+    (curve_moves d e c s r same.fields (subst (λ x. IsRefusalRow x s r) a_is h))

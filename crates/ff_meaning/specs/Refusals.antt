@@ -1,4 +1,5 @@
--- When a statement is refused, and how. The rows of a statement exclude each other: each says that those before it don't hold.
+-- When a statement is refused, and how. The rows of a statement exclude each other: each says that those before it
+-- don't hold.
 use Rattle.std.specs.Prelude.{◌≡◌, ◌≢◌, ℕ, ◌<◌, ◌≤◌, ◌-◌, ◌⊎◌, List, [], ◌∷◌, length, Option, Some, None, IsTrue}
 use Rattle.ff_fields.specs.declared.fault.FieldFault.{FieldFault}
 use Rattle.ff_fields.specs.declared.fault.FieldFault.TheVariants as fields
@@ -63,7 +64,8 @@ refusal_of_curve curves.Memory = Memory
 -- a code is too great, or the sum of the terms gives no curve
 pub data IsNoCurve (k : CodeField) (f : List Term) (r : Refusal) : Type 0 where
   range : IsCodeRow k.size (written_codes f) r → IsNoCurve k f r
-  fault : (sum : List (ℕ × ℕ × ℕ)) → IsSumOf k.ops f sum → (e : CurveFault) → e ≢ curves.Memory → IsCurveFault k sum e → r ≡ refusal_of_curve e → IsNoCurve k f r
+  fault : (sum : List (ℕ × ℕ × ℕ)) → IsSumOf k.ops f sum → (e : CurveFault) → e ≢ curves.Memory → IsCurveFault k sum e
+      → r ≡ refusal_of_curve e → IsNoCurve k f r
 
 abbrev pub IsCurveRow : FieldData → List Term → Refusal → Type 0
 IsCurveRow d f r = (is : IsFieldData d) × IsNoCurve (with_laws d is) f r
@@ -82,9 +84,12 @@ module _ (k : FieldOps) (n bound : ℕ) where
 
   pub data IsElementRow (e : ElemText) (r : Refusal) : Type 0 where
     range : IsCodeRow k.size (codes_of_element e) r → IsElementRow e r
-    size : AreCodesBelow k.size (codes_of_element e) → length e.entries ≢ n → r ≡ Length (length e.entries) → IsElementRow e r
-    degree : length e.entries ≡ n → (z : ElemValue) → IsElementOf k e z → bound < degree_of_element z → r ≡ LimitX (degree_of_element z) → IsElementRow e r
-    zero_den : length e.entries ≡ n → (z : ElemValue) → IsElementOf k e z → degree_of_element z ≤ bound → z.den ≡ [] → r ≡ Zero → IsElementRow e r
+    size : AreCodesBelow k.size (codes_of_element e) → length e.entries ≢ n → r ≡ Length (length e.entries)
+        → IsElementRow e r
+    degree : length e.entries ≡ n → (z : ElemValue) → IsElementOf k e z → bound < degree_of_element z
+        → r ≡ LimitX (degree_of_element z) → IsElementRow e r
+    zero_den : length e.entries ≡ n → (z : ElemValue) → IsElementOf k e z → degree_of_element z ≤ bound → z.den ≡ []
+        → r ≡ Zero → IsElementRow e r
 
   -- the first element's rows come before the second's
   abbrev pub IsProductRow : ElemText → ElemText → Refusal → Type 0

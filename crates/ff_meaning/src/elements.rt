@@ -95,7 +95,8 @@ fn polynomials<K: SmallField>(
 }
 
 /// The element as it is written, of n entries, or why it may not stand: a code that is too great, another number of
-/// entries, a degree in x above the bound, or a denominator 0. It takes time in proportion to the text's terms and the bound.
+/// entries, a degree in x above the bound, or a denominator 0. It takes time in proportion to the text's terms and the
+/// bound.
 pub fn element<K: SmallField>(
     alloc: Global,
     k: &K,

@@ -13,7 +13,8 @@ use ff_poly::{Poly, Terms};
 use ff_text::{TermList, TextFault, collect};
 use std::alloc::{AllocError, Global};
 
-/// The sum of the terms, or the first written code that is too great. Time grows with the square of the number of terms.
+/// The sum of the terms, or the first written code that is too great. Time grows with the square of the number of
+/// terms.
 pub fn sum<K: SmallField>(alloc: Global, k: &K, terms: &TermList) -> Result<Terms, Refusal>
     requires { All HasSmallExponents terms.now }
     ensures sum { IfOk result (IsSumOf (K.field k.now).ops terms.now) }
@@ -38,7 +39,8 @@ pub fn degree_in_x(terms: &[(u64, u64, u32)]) -> u64
     degree
 }
 
-/// The polynomial in x of the terms without y. No exponent of x is above the bound. It takes time in proportion to the terms
+/// The polynomial in x of the terms without y. No exponent of x is above the bound. It takes time in proportion to the
+/// terms
 /// and the bound.
 pub fn polynomial<K: SmallField>(
     alloc: Global,

@@ -13,7 +13,8 @@ use std::alloc::{AllocError, AllocFailed, Global};
 /// Why a statement isn't answered, with the values that the refusal's line tells.
 #[derive(Debug, Drop)]
 pub enum Refusal {
-    /// The characteristic p and the degree m: p isn't one of 2, 3, 5, 7, 11 and 13, m is 0, or p to the m is above 65,536.
+    /// The characteristic p and the degree m: p isn't one of 2, 3, 5, 7, 11 and 13, m is 0, or p to the m is above
+    /// 65,536.
     FieldSize(u32, u32),
     /// Two codes that aren't 0, with the product 0.
     NotField(u32, u32),
@@ -134,7 +135,8 @@ fn push_words(out: &mut Vec<u8>, r: &Refusal) -> Result<(), AllocError>
     }
 }
 
-/// The line of a refusal, without its line feed, at the end of the buffer. After an error the buffer holds a part of it.
+/// The line of a refusal, without its line feed, at the end of the buffer. After an error the buffer holds a part of
+/// it.
 /// Want of memory has no line.
 pub fn push_refusal(out: &mut Vec<u8>, r: &Refusal) -> Result<(), AllocError>
     requires { r.now ≢ Memory }

@@ -30,8 +30,10 @@ fn copies(alloc: Global, polys: &[Poly]) -> Result<Vec<Poly>, AllocError>
     Ok(copies)
 }
 
-/// The function of the element, written in lowest terms, where each irreducible monic divisor of the denominator is listed. It takes
-/// one division of each part a turn, with a turn for each time that a divisor is cancelled and one more for each divisor.
+/// The function of the element, written in lowest terms, where each irreducible monic divisor of the denominator is
+/// listed. It takes
+/// one division of each part a turn, with a turn for each time that a divisor is cancelled and one more for each
+/// divisor.
 pub fn in_lowest_terms_by<K: SmallField>(
     alloc: Global,
     k: &K,
@@ -87,7 +89,8 @@ fn in_x_and_y<K: SmallField>(
     }
 }
 
-/// The function of an element of the side's presentation, written in x and y in lowest terms. It takes the factors of the
+/// The function of an element of the side's presentation, written in x and y in lowest terms. It takes the factors of
+/// the
 /// denominator.
 pub fn written<K: SmallField>(
     alloc: Global,
@@ -106,7 +109,8 @@ pub fn written<K: SmallField>(
     in_lowest_terms(alloc, k, curve.fin(), &z)
 }
 
-/// The irreducible monic divisors of the product of a and b, which aren't 0: those of a, then those of b. One that divides both
+/// The irreducible monic divisors of the product of a and b, which aren't 0: those of a, then those of b. One that
+/// divides both
 /// stands twice.
 /// Cost: that of `factor` for a and for b, which is less than for their product.
 pub fn divisors_of_product<K: SmallField>(
@@ -118,7 +122,8 @@ pub fn divisors_of_product<K: SmallField>(
     requires over { let ops = (K.field k.now).ops in IsOver ops a.now × IsOver ops b.now }
     requires not_zero { (a.now ≢ []) × (b.now ≢ []) }
     ensures irreducible { IfOk result (λ ps. AreIrreducible (K.field k.now).ops ps.items) }
-    ensures each { let ops = (K.field k.now).ops in IfOk result (λ ps. HasFactorsOf ops ps.items (product_of ops a.now b.now)) }
+    ensures each { let ops = (K.field k.now).ops in IfOk result
+        (λ ps. HasFactorsOf ops ps.items (product_of ops a.now b.now)) }
 {
     let mut divisors = factor(alloc, k, a)?.polys(alloc)?;
     let mut others = factor(alloc, k, b)?.polys(alloc)?;

@@ -1,4 +1,5 @@
--- The nilpotent classes of an order modulo an ideal: the members of the order with a power in the ideal, from a basis of the nilpotent
+-- The nilpotent classes of an order modulo an ideal: the members of the order with a power in the ideal, from a basis
+-- of the nilpotent
 -- elements of the quotient.
 use Rattle.std.proofs.Common.{◌≡◌, ℕ, zero, suc, ◌+◌, ◌-◌, ◌<◌, List, [], ◌∷◌, ◌++◌, length, get_or, map, take, replicate, refl, sym, ◌∙◌, ap, ap₂, subst, arith, All}
 use Rattle.std.proofs.lemmas.List.{length-replicate, take_more}
@@ -69,10 +70,12 @@ module _ (k : CodeField) (q : QuotientValue) (h : IsQuotient k q) where
       → IsClassOf k q (pow (functions k q.p).ops z e) (power k.ops (quotient_ops q) a e)
   power_class z a z_in a_of zero = classes.of_one
   power_class z a z_in a_of (suc e) =
-      classes.of_product z (pow F.ops z e) a (power k.ops (quotient_ops q) a e) z_in (order_power z z_in e) a_of (power_class z a z_in a_of e)
+      classes.of_product z (pow F.ops z e) a (power k.ops (quotient_ops q) a e) z_in (order_power z z_in e) a_of
+      (power_class z a z_in a_of e)
 
   -- what nilpotent codes are lifted to has a power in the ideal
-  lift_nilpotent : (a : List ℕ) → V a → IsNilpotentVector k.ops (quotient_ops q) a → IsNilpotentModulo k q.p q.order q.ideal (lift a)
+  lift_nilpotent : (a : List ℕ) → V a → IsNilpotentVector k.ops (quotient_ops q) a
+      → IsNilpotentModulo k q.p q.order q.ideal (lift a)
   lift_nilpotent a a_in n = record {
     within = a_member;
     nilpotent = record {
@@ -80,7 +83,8 @@ module _ (k : CodeField) (q : QuotientValue) (h : IsQuotient k q) where
       power_in =
           h.frame.ideal.closed (lift a) (pow F.ops (lift a) n.exponent) a_member
           ((classes.of_ideal (pow F.ops (lift a) n.exponent)).0
-          (subst (IsClassOf k q (pow F.ops (lift a) n.exponent)) n.is (power_class (lift a) a a_member (classes.of_lifted a a_in) n.exponent)));
+          (subst (IsClassOf k q (pow F.ops (lift a) n.exponent)) n.is
+          (power_class (lift a) a a_member (classes.of_lifted a a_in) n.exponent)));
     };
   }
     where
@@ -98,27 +102,32 @@ module _ (k : CodeField) (q : QuotientValue) (h : IsQuotient k q) where
       record { size = codes_row_length k (suc (q.p.n - 1)) v ∙ size; over = codes_row_over k (suc (q.p.n - 1)) v }
 
   row_codes_function : (v : Row (Polynomial k) (suc (q.p.n - 1)))
-      → function_of k q.p (record { num = row_codes v; den = q.order.den }) ≡ over (equation_of k q.p) v (value k q.order.den) (den_some k q h.frame)
+      → function_of k q.p (record { num = row_codes v; den = q.order.den })
+      ≡ over (equation_of k q.p) v (value k q.order.den) (den_some k q h.frame)
   row_codes_function v =
       elem_over k q.p q.order.den (den_some k q h.frame) (row_codes v)
-      ∙ ap (λ u. over (equation_of k q.p) u (value k q.order.den) (den_some k q h.frame)) (read_codes_row k (suc (q.p.n - 1)) v)
+      ∙ ap (λ u. over (equation_of k q.p) u (value k q.order.den) (den_some k q h.frame))
+      (read_codes_row k (suc (q.p.n - 1)) v)
 
   -- each member of the order has codes
   codes_for : (z : Functions k q.p) → O z → (a : List ℕ) × IsClassOf k q z a
   codes_for z z_in =
       let m = (in_span_of k q.p q.order.den (den_some k q h.frame) q.order.rows z).0 z_in in
-      let is : function_of k q.p (record { num = row_codes m.numerator; den = q.order.den }) ≡ z = row_codes_function m.numerator ∙ sym m.is in (
+      let is : function_of k q.p (record { num = row_codes m.numerator; den = q.order.den })
+      ≡ z = row_codes_function m.numerator ∙ sym m.is in (
         codes_of_row k.ops q (row_codes m.numerator),
         subst (λ x. IsClassOf k q x (codes_of_row k.ops q (row_codes m.numerator))) is
             (class_of_row k q h.frame (row_codes m.numerator) (row_codes_in m.numerator) (subst O (sym is) z_in)),
       )
 
   -- codes of a member with a power in the ideal are nilpotent
-  codes_nilpotent : (z : Functions k q.p) (a : List ℕ) → IsNilpotentModulo k q.p q.order q.ideal z → IsClassOf k q z a → IsNilpotentVector k.ops (quotient_ops q) a
+  codes_nilpotent : (z : Functions k q.p) (a : List ℕ) → IsNilpotentModulo k q.p q.order q.ideal z → IsClassOf k q z a
+      → IsNilpotentVector k.ops (quotient_ops q) a
   codes_nilpotent z a n a_of = record {
     exponent = suc n.nilpotent.exponent;
     is =
-        classes.only (pow F.ops z (suc n.nilpotent.exponent)) (power k.ops (quotient_ops q) a (suc n.nilpotent.exponent)) (replicate (dimension q) 0)
+        classes.only (pow F.ops z (suc n.nilpotent.exponent))
+        (power k.ops (quotient_ops q) a (suc n.nilpotent.exponent)) (replicate (dimension q) 0)
         (power_class z a n.within a_of (suc n.nilpotent.exponent))
         ((classes.of_ideal (pow F.ops z (suc n.nilpotent.exponent))).1 n.nilpotent.power_in);
   }
@@ -147,12 +156,14 @@ module _ (k : CodeField) (q : QuotientValue) (h : IsQuotient k q) where
     left = F.𝟘;
     left_in = span_zero F T 𝓢 fs;
     right = lift (replicate (dimension q) 0);
-    right_in = (classes.of_ideal (lift (replicate (dimension q) 0))).0 (classes.of_lifted (replicate (dimension q) 0) zeros_vector);
+    right_in = (classes.of_ideal (lift (replicate (dimension q) 0))).0
+        (classes.of_lifted (replicate (dimension q) 0) zeros_vector);
     is = sym (zero_add F _);
   }
 
   -- a combination of codes is lifted to a combination, up to the ideal
-  lift_combined : (cs : List ℕ) (rows : List (List ℕ)) → IsOver k.ops cs → All V rows → Sum (map lift rows) (lift (combined cs rows))
+  lift_combined : (cs : List ℕ) (rows : List (List ℕ)) → IsOver k.ops cs → All V rows
+      → Sum (map lift rows) (lift (combined cs rows))
   lift_combined [] rows cs_in rows_in = zeros_sum (map lift rows)
   lift_combined (c ∷ cs) [] cs_in rows_in = zeros_sum []
   lift_combined (c ∷ cs) (r ∷ rows) cs_in rows_in =
@@ -172,14 +183,16 @@ module _ (k : CodeField) (q : QuotientValue) (h : IsQuotient k q) where
         right_in = rest.right_in;
         is =
             lift_add k q h.frame (scale_list (raw_ring k.ops) c r) (combined cs rows)
-            (scale_vector k q h.frame c (IsOver_head cs_in) r r_in) (combined_vector cs rows (IsOver_tail cs_in) (All-tail V r rows rows_in))
+            (scale_vector k q h.frame c (IsOver_head cs_in) r r_in)
+            (combined_vector cs rows (IsOver_tail cs_in) (All-tail V r rows rows_in))
             ∙ ap₂ F.◌⊕◌ (lift_scale k q h.frame c (IsOver_head cs_in) r r_in) rest.is
             ∙ sym (F.add_assoc _ rest.left rest.right);
       }
 
   -- ---- a basis of the nilpotent classes
 
-  module _ (m : MatrixValue) (basis : IsEchelonBasisMatrix k.ops (dimension q) (IsNilpotentVector k.ops (quotient_ops q)) m) where
+  module _ (m : MatrixValue) (basis : IsEchelonBasisMatrix k.ops (dimension q)
+      (IsNilpotentVector k.ops (quotient_ops q)) m) where
     abbrev Modulo : Functions k q.p → Type 0
     Modulo = IsNilpotentModulo k q.p q.order q.ideal
 
@@ -218,16 +231,19 @@ module _ (k : CodeField) (q : QuotientValue) (h : IsQuotient k q) where
 
     all_nilpotent : All (λ a. Modulo (lift a)) m.rows
     all_nilpotent j d less =
-        subst (λ a. Modulo (lift a)) (any_default m.rows j [] d less) (lift_nilpotent (get_or m.rows j []) (row_vector j less) (rows_nilpotent j less))
+        subst (λ a. Modulo (lift a)) (any_default m.rows j [] d less)
+        (lift_nilpotent (get_or m.rows j []) (row_vector j less) (rows_nilpotent j less))
 
     -- elements that are lifted from its rows
     pub nilpotent_basis : (zs : List ElemValue) → AreLifts k q m.rows zs → IsNilpotentBasis k q.p q.order q.ideal zs
     nilpotent_basis zs lifts = record {
       elems = lifts.elems;
       nilpotent =
-          all_from_map (function_of k q.p) Modulo zs (subst (All Modulo) (sym lifts.functions) (All-map Modulo lift m.rows all_nilpotent));
+          all_from_map (function_of k q.p) Modulo zs
+          (subst (All Modulo) (sym lifts.functions) (All-map Modulo lift m.rows all_nilpotent));
       spanning = λ z n.
-          subst (λ fs. IsSumOf k q.p (Span (functions k q.p).ops (IsPolynomial (equation_of k q.p)) fs) (Contains k q.p q.ideal) z)
+          subst (λ fs. IsSumOf k q.p (Span (functions k q.p).ops (IsPolynomial (equation_of k q.p)) fs)
+          (Contains k q.p q.ideal) z)
           (sym lifts.functions) (spanning z n);
     }
 
@@ -242,11 +258,15 @@ module _ (k : CodeField) (q : QuotientValue) where
   pub lifts_none : AreLifts k q [] []
   lifts_none = record { elems = All-nil (IsElem k.ops q.p.n); functions = refl }
 
-  pub lifts_more : (codes : List (List ℕ)) (old new : List ElemValue) (i : ℕ) (a : List ℕ) (z : ElemValue) → i < length codes → a ≡ get_or codes i []
-      → IsElem k.ops q.p.n z → function_of k q.p z ≡ function_of k q.p (lifted k.ops q a) → new ≡ old ++ z ∷ [] → AreLifts k q (take i codes) old
+  pub lifts_more : (codes : List (List ℕ)) (old new : List ElemValue) (i : ℕ) (a : List ℕ) (z : ElemValue)
+      → i < length codes → a ≡ get_or codes i []
+      → IsElem k.ops q.p.n z → function_of k q.p z ≡ function_of k q.p (lifted k.ops q a) → new ≡ old ++ z ∷ []
+      → AreLifts k q (take i codes) old
       → AreLifts k q (take (i + 1) codes) new
   lifts_more codes old new i a z less a_is z_in z_is new_is so_far = record {
-    elems = subst (All (IsElem k.ops q.p.n)) (sym new_is) (All-append (IsElem k.ops q.p.n) old (z ∷ []) so_far.elems (All-cons (IsElem k.ops q.p.n) z [] z_in (All-nil (IsElem k.ops q.p.n))));
+    elems = subst (All (IsElem k.ops q.p.n)) (sym new_is)
+        (All-append (IsElem k.ops q.p.n) old (z ∷ []) so_far.elems
+        (All-cons (IsElem k.ops q.p.n) z [] z_in (All-nil (IsElem k.ops q.p.n))));
     functions =
         ap (map f) new_is ∙ map_join f old (z ∷ [])
         ∙ ap₂ (λ us v. us ++ v ∷ []) so_far.functions (z_is ∙ ap lifting a_is)

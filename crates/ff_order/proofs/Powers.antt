@@ -42,7 +42,8 @@ unit_rows n (suc i) = unit_rows n i ++ unit_row n i ∷ []
 unit_rows_length : (n i : ℕ) → length (unit_rows n i) ≡ i
 unfolding unit_rows
 unit_rows_length n zero = refl
-unit_rows_length n (suc i) = let e = unit_rows_length n i in length-append (unit_rows n i) (unit_row n i ∷ []) ∙ omega arith
+unit_rows_length n (suc i) = let e = unit_rows_length n i in length-append (unit_rows n i) (unit_row n i ∷ [])
+    ∙ omega arith
 
 unit_rows_at : (n i j : ℕ) → j < i → row_at (unit_rows n i) j ≡ unit_row n j
 unfolding unit_rows
@@ -52,22 +53,26 @@ unit_rows_at n (suc i) j less = go (cases_lt j i) (unit_rows_at n i j)
     size : length (unit_rows n i) ≡ i
     size = unit_rows_length n i
 
-    go : (j < i) ⊎ (i ≤ j) → (j < i → row_at (unit_rows n i) j ≡ unit_row n j) → row_at (unit_rows n i ++ unit_row n i ∷ []) j ≡ unit_row n j
+    go : (j < i) ⊎ (i ≤ j) → (j < i → row_at (unit_rows n i) j ≡ unit_row n j)
+        → row_at (unit_rows n i ++ unit_row n i ∷ []) j ≡ unit_row n j
     go (inl l) before = get_or_append_left (unit_rows n i) (unit_row n i ∷ []) [] j (omega (arith, size)) ∙ before l
     go (inr m) before =
         let e : j ≡ length (unit_rows n i) = omega (arith, size) in
         let f : i ≡ j = omega arith in
-        ap (row_at (unit_rows n i ++ unit_row n i ∷ [])) e ∙ get_or-append_seam (unit_rows n i) (unit_row n i) [] [] ∙ ap (unit_row n) f
+        ap (row_at (unit_rows n i ++ unit_row n i ∷ [])) e ∙ get_or-append_seam (unit_rows n i) (unit_row n i) [] []
+        ∙ ap (unit_row n) f
 
 -- products of functions with polynomials as coordinates have such
 module _ {k : CodeField} (c : Equation k) where
-  pub coordinates_product : (u v : FunctionOf c) → HasPolynomialCoordinates c u → HasPolynomialCoordinates c v → HasPolynomialCoordinates c ((ring_of c).◌⊗◌ u v)
+  pub coordinates_product : (u v : FunctionOf c) → HasPolynomialCoordinates c u → HasPolynomialCoordinates c v
+      → HasPolynomialCoordinates c ((ring_of c).◌⊗◌ u v)
   coordinates_product u v a b = record {
     coordinates = w;
     value =
         ap₂ (ring_of c).◌⊗◌ a.value b.value
         ∙ over_mul c a.coordinates b.coordinates one one some some
-        ∙ over_eq c w w ((polynomials k).◌⊗◌ one one) one (product_not_zero (polynomials_domain k) one one some some) some
+        ∙ over_eq c w w ((polynomials k).◌⊗◌ one one) one (product_not_zero (polynomials_domain k) one one some some)
+        some
         (ap (λ d. row_scale (polynomials k).ops (suc c.lower_degree) d w) (sym ((polynomials k).mul_one one)));
   }
     where
@@ -101,14 +106,18 @@ module _ (k : CodeField) (p : PresValue) where
   powers_none = record { elems = All-nil (IsElem k.ops p.n); functions = refl }
 
   pub powers_more : (i : ℕ) (old new : List ElemValue) (z : ElemValue) → IsElem k.ops p.n z
-      → function_of k p z ≡ function_of k p (record { num = unit_row p.n i; den = 1 ∷ [] }) → new ≡ old ++ z ∷ [] → ArePowers i old → ArePowers (suc i) new
+      → function_of k p z ≡ function_of k p (record { num = unit_row p.n i; den = 1 ∷ [] }) → new ≡ old ++ z ∷ []
+      → ArePowers i old → ArePowers (suc i) new
   unfolding unit_rows
   powers_more i old new z z_in z_is new_is so_far = record {
-    elems = subst (All (IsElem k.ops p.n)) (sym new_is) (All-append (IsElem k.ops p.n) old (z ∷ []) so_far.elems (All-cons (IsElem k.ops p.n) z [] z_in (All-nil (IsElem k.ops p.n))));
+    elems = subst (All (IsElem k.ops p.n)) (sym new_is)
+        (All-append (IsElem k.ops p.n) old (z ∷ []) so_far.elems
+        (All-cons (IsElem k.ops p.n) z [] z_in (All-nil (IsElem k.ops p.n))));
     functions =
         ap (map f) new_is ∙ map_join f old (z ∷ [])
         ∙ ap₂ (λ us v. us ++ v ∷ []) so_far.functions z_is
-        ∙ sym (ap (map f) (map_join over_one (unit_rows p.n i) (unit_row p.n i ∷ [])) ∙ map_join f (powers i) (over_one (unit_row p.n i) ∷ []));
+        ∙ sym (ap (map f) (map_join over_one (unit_rows p.n i) (unit_row p.n i ∷ []))
+        ∙ map_join f (powers i) (over_one (unit_row p.n i) ∷ []));
   }
 
   module _ (positive : 0 < p.n) where
@@ -132,7 +141,8 @@ module _ (k : CodeField) (p : PresValue) where
 
     -- each row of polynomials is a combination of the unit rows
     all_in : (v : Row (Polynomial k) (suc (p.n - 1))) → theory.InSpan M (read_rows k p.n rows) v
-    all_in v = spans.span_least M (theory.InSpan M (read_rows k p.n rows)) 𝓢 (units M) (λ i. at i (cases_lt i p.n)) v (in_units M (code_field k) v)
+    all_in v = spans.span_least M (theory.InSpan M (read_rows k p.n rows)) 𝓢 (units M) (λ i. at i (cases_lt i p.n)) v
+        (in_units M (code_field k) v)
       where
         𝓢 : theory.IsSubmodule M (theory.InSpan M (read_rows k p.n rows))
         𝓢 = record {
@@ -147,24 +157,35 @@ module _ (k : CodeField) (p : PresValue) where
         at : (i : ℕ) → (i < p.n) ⊎ (p.n ≤ i) → theory.InSpan M (read_rows k p.n rows) (theory.row_at M (units M) i)
         at i (inl less) =
             subst (theory.InSpan M (read_rows k p.n rows))
-            (read_row_at k p.n rows i ∙ ap (read_row k (suc (p.n - 1))) (unit_rows_at p.n p.n i less) ∙ read_unit k p.n i positive less
+            (read_row_at k p.n rows i ∙ ap (read_row k (suc (p.n - 1))) (unit_rows_at p.n p.n i less)
+            ∙ read_unit k p.n i positive less
             ∙ sym (units_at M i (omega (arith, wide))))
             (spans.span_row M (read_rows k p.n rows) i)
         at i (inr more) =
-            subst (theory.InSpan M (read_rows k p.n rows)) (sym (row_past M (units M) i (omega (arith, wide, units_length M)))) (spans.span_zero M (read_rows k p.n rows))
+            subst (theory.InSpan M (read_rows k p.n rows))
+            (sym (row_past M (units M) i (omega (arith, wide, units_length M))))
+            (spans.span_zero M (read_rows k p.n rows))
 
-    same_over : (v : Row (Polynomial k) (suc (p.n - 1))) → over c v (value k (1 ∷ [])) one_some ≡ over c v (polynomials k).𝟙 (polynomials_domain k).one_not_zero
-    same_over v = over_eq c v v (value k (1 ∷ [])) (polynomials k).𝟙 one_some (polynomials_domain k).one_not_zero (ap (λ d. row_scale S.ops (suc (p.n - 1)) d v) (sym one_is))
+    same_over : (v : Row (Polynomial k) (suc (p.n - 1)))
+        → over c v (value k (1 ∷ [])) one_some ≡ over c v (polynomials k).𝟙 (polynomials_domain k).one_not_zero
+    same_over v = over_eq c v v (value k (1 ∷ [])) (polynomials k).𝟙 one_some (polynomials_domain k).one_not_zero
+        (ap (λ d. row_scale S.ops (suc (p.n - 1)) d v) (sym one_is))
 
     -- the combinations of the powers of y
     powers_iff : (z : Functions k p) → InSpanOf k p (powers p.n) z ↔ HasPolynomialCoordinates (equation_of k p) z
     powers_iff z =
         let s = in_span_of k p (1 ∷ []) one_some rows z in (
           λ h. let m = s.0 h in record { coordinates = m.numerator; value = m.is ∙ same_over m.numerator },
-          λ h. s.1 (record { numerator = h.coordinates; in_rows = all_in h.coordinates; is = h.value ∙ sym (same_over h.coordinates) }),
+          λ h. s.1 (record {
+            numerator = h.coordinates;
+            in_rows = all_in h.coordinates;
+            is = h.value
+                ∙ sym (same_over h.coordinates);
+          }),
         )
 
-    pub powers_members : (zs : List ElemValue) → ArePowers p.n zs → (z : Functions k p) → InSpanOf k p zs z ↔ HasPolynomialCoordinates (equation_of k p) z
+    pub powers_members : (zs : List ElemValue) → ArePowers p.n zs → (z : Functions k p)
+        → InSpanOf k p zs z ↔ HasPolynomialCoordinates (equation_of k p) z
     powers_members zs h z =
         let iff = powers_iff z in (
           λ s. iff.0 (subst (λ fs. Span (functions k p).ops (IsPolynomial (equation_of k p)) fs z) h.functions s),
@@ -176,10 +197,18 @@ module _ (k : CodeField) (p : PresValue) where
         full_within k p (InSpanOf k p (powers p.n)) (InSpanOf k p zs)
         (λ z. subst (λ fs. Span (functions k p).ops (IsPolynomial (equation_of k p)) fs z) (sym h.functions))
         (full_from_rank k p (1 ∷ []) one_some rows
-        (record { multiple = λ v. record { factor = (polynomials k).𝟙; some = (polynomials_domain k).one_not_zero; in_span = all_in (M.◌·◌ (polynomials k).𝟙 v) } }))
+        (record {
+          multiple = λ v. record {
+            factor = (polynomials k).𝟙;
+            some = (polynomials_domain k).one_not_zero;
+            in_span = all_in
+                (M.◌·◌ (polynomials k).𝟙 v);
+          };
+        }))
 
     -- the lattice of such elements
-    pub powers_answer : (zs : List ElemValue) (l : LatticeValue) → ArePowers p.n zs → ((z : Functions k p) → Contains k p l z ↔ InSpanOf k p zs z)
+    pub powers_answer : (zs : List ElemValue) (l : LatticeValue) → ArePowers p.n zs
+        → ((z : Functions k p) → Contains k p l z ↔ InSpanOf k p zs z)
         → (z : Functions k p) → Contains k p l z ↔ HasPolynomialCoordinates (equation_of k p) z
     powers_answer zs l h members z =
         let m = powers_members zs h z in
@@ -189,13 +218,16 @@ module _ (k : CodeField) (p : PresValue) where
         )
 
     -- a lattice with these members is an order
-    pub powers_order : (l : LatticeValue) → IsLattice k.ops p.n l → ((z : Functions k p) → Contains k p l z ↔ HasPolynomialCoordinates (equation_of k p) z) → IsOrderLattice k p l
+    pub powers_order : (l : LatticeValue) → IsLattice k.ops p.n l
+        → ((z : Functions k p) → Contains k p l z ↔ HasPolynomialCoordinates (equation_of k p) z) → IsOrderLattice k p l
     powers_order l form members = record {
       lattice = form;
-      one_in = (members (functions k p).𝟙).1 (record { coordinates = row_of c (polynomials k).𝟙; value = of_poly_one c });
+      one_in = (members (functions k p).𝟙).1
+          (record { coordinates = row_of c (polynomials k).𝟙; value = of_poly_one c });
       product_in = λ u v u_in v_in. (members _).1 (times u v ((members u).0 u_in) ((members v).0 v_in));
     }
       where
-        times : (u v : Functions k p) → HasPolynomialCoordinates (equation_of k p) u → HasPolynomialCoordinates (equation_of k p) v
+        times : (u v : Functions k p) → HasPolynomialCoordinates (equation_of k p) u
+            → HasPolynomialCoordinates (equation_of k p) v
             → HasPolynomialCoordinates (equation_of k p) ((functions k p).◌⊗◌ u v)
         times u v a b = coordinates_product (equation_of k p) u v a b

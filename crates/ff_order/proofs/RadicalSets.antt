@@ -48,14 +48,18 @@ module _ (k : CodeField) (p : PresValue) where
   )
     where
       unit : (z : Functions k p) → F.◌⊗◌ (poly one) z ≡ z
-      unit z = ap (λ u. F.◌⊗◌ u z) (ap poly one_is ∙ ap (of_poly (equation_of k p)) (value_one k) ∙ sym (of_poly_one (equation_of k p))) ∙ one_mul F z
+      unit z = ap (λ u. F.◌⊗◌ u z) (ap poly one_is ∙ ap (of_poly (equation_of k p)) (value_one k)
+          ∙ sym (of_poly_one (equation_of k p))) ∙ one_mul F z
 
   -- the same of an answer, by its promise for each presentation of the degree
   pub multiples_members : (l o o' : LatticeValue) (a one : List ℕ) → o' ≡ o → one ≡ 1 ∷ [] → p.n ≡ length o.rows
-      → ((p' : PresValue) → p'.n ≡ length o'.rows → (z : Functions k p') → Contains k p' l z ↔ IsScaled k p' a one (Contains k p' o') z)
-      → (z : Functions k p) → Contains k p l z ↔ Multiple (functions k p).ops (of_poly (equation_of k p) (value k a)) (Contains k p o) z
+      → ((p' : PresValue) → p'.n ≡ length o'.rows → (z : Functions k p')
+      → Contains k p' l z ↔ IsScaled k p' a one (Contains k p' o') z)
+      → (z : Functions k p) → Contains k p l z
+      ↔ Multiple (functions k p).ops (of_poly (equation_of k p) (value k a)) (Contains k p o) z
   multiples_members l o o' a one same one_is size members z =
-      let m = subst (λ (x : LatticeValue). p.n ≡ length x.rows → Contains k p l z ↔ IsScaled k p a one (Contains k p x) z) same (λ e. members p e z) size in
+      let m = subst (λ (x : LatticeValue). p.n ≡ length x.rows
+      → Contains k p l z ↔ IsScaled k p a one (Contains k p x) z) same (λ e. members p e z) size in
       let s = scaled_multiples a one (Contains k p o) one_is z in (
         λ h. s.0 (m.0 h),
         λ h. m.1 (s.1 h),
@@ -70,9 +74,12 @@ module _ (k : CodeField) (p : PresValue) where
 
     -- the multiples of an order by a polynomial are an ideal
     pub multiples_are_ideal : (a : List ℕ) (l : LatticeValue) → IsLattice k.ops p.n l
-        → ((z : Functions k p) → Contains k p l z ↔ Multiple (functions k p).ops (of_poly (equation_of k p) (value k a)) (Contains k p o) z) → IsIdealLattice k p o l
+        → ((z : Functions k p) → Contains k p l z
+        ↔ Multiple (functions k p).ops (of_poly (equation_of k p) (value k a)) (Contains k p o) z)
+        → IsIdealLattice k p o l
     multiples_are_ideal a l form members =
-        let 𝓘 = multiples_ideal F O 𝓞.ring (poly a) (order_has (equation_of k p) O 𝓞 (value k a)) (poly a) (order_has (equation_of k p) O 𝓞 (value k a)) in
+        let 𝓘 = multiples_ideal F O 𝓞.ring (poly a) (order_has (equation_of k p) O 𝓞 (value k a)) (poly a)
+        (order_has (equation_of k p) O 𝓞 (value k a)) in
         record {
           lattice = form;
           within = λ z h. 𝓘.within z ((members z).0 h);
@@ -80,20 +87,24 @@ module _ (k : CodeField) (p : PresValue) where
         }
 
     -- elements and the rows of a lattice have full rank
-    pub lifts_full : (zs : List ElemValue) (l : LatticeValue) → IsLattice k.ops p.n l → IsFull k p (InSpanOf k p (zs ++ row_elems l))
+    pub lifts_full : (zs : List ElemValue) (l : LatticeValue) → IsLattice k.ops p.n l
+        → IsFull k p (InSpanOf k p (zs ++ row_elems l))
     lifts_full zs l form =
         full_within k p (Contains k p l) (InSpanOf k p (zs ++ row_elems l))
         (λ z h.
-        subst (λ fs. Span (functions k p).ops (IsPolynomial (equation_of k p)) fs z) (sym (map_join (function_of k p) zs (row_elems l)))
+        subst (λ fs. Span (functions k p).ops (IsPolynomial (equation_of k p)) fs z)
+        (sym (map_join (function_of k p) zs (row_elems l)))
         (span_append_right F T 𝓢 (map (function_of k p) zs) (map (function_of k p) (row_elems l)) z h))
         (lattice_full k p l positive form)
 
     module _ (a : List ℕ) (l : LatticeValue)
-        (members : (z : Functions k p) → Contains k p l z ↔ Multiple (functions k p).ops (of_poly (equation_of k p) (value k a)) (Contains k p o) z) where
+        (members : (z : Functions k p) → Contains k p l z
+        ↔ Multiple (functions k p).ops (of_poly (equation_of k p) (value k a)) (Contains k p o) z) where
       abbrev R : Functions k p → Type 0
       R = Radical (functions k p).ops (Contains k p o) (of_poly (equation_of k p) (value k a))
 
-      𝓡 : local.IsIdeal (functions k p).ops (Contains k p o) (Radical (functions k p).ops (Contains k p o) (of_poly (equation_of k p) (value k a)))
+      𝓡 : local.IsIdeal (functions k p).ops (Contains k p o)
+          (Radical (functions k p).ops (Contains k p o) (of_poly (equation_of k p) (value k a)))
       𝓡 = radical_of_order (equation_of k p) O 𝓞 (value k a)
 
       to_radical : (z : Functions k p) → IsNilpotentModulo k p o l z → R z
@@ -104,7 +115,8 @@ module _ (k : CodeField) (p : PresValue) where
 
       -- a basis of the nilpotent classes and the multiples span the radical
       pub radical_spanned : (zs : List ElemValue) → IsNilpotentBasis k p o l zs → (z : Functions k p)
-          → InSpanOf k p (zs ++ row_elems l) z ↔ Radical (functions k p).ops (Contains k p o) (of_poly (equation_of k p) (value k a)) z
+          → InSpanOf k p (zs ++ row_elems l) z
+          ↔ Radical (functions k p).ops (Contains k p o) (of_poly (equation_of k p) (value k a)) z
       radical_spanned zs basis z = (
         λ h. from_sum ((sum_iff k p zs (row_elems l) z).0 h),
         λ r.
@@ -119,11 +131,14 @@ module _ (k : CodeField) (p : PresValue) where
           all_in : All R (map (function_of k p) zs)
           all_in =
               All-map R (function_of k p) zs
-              (All-weaker (λ x. IsNilpotentModulo k p o l (function_of k p x)) (λ x. R (function_of k p x)) (λ x n. to_radical (function_of k p x) n) zs basis.nilpotent)
+              (All-weaker (λ x. IsNilpotentModulo k p o l (function_of k p x)) (λ x. R (function_of k p x))
+              (λ x n. to_radical (function_of k p x) n) zs basis.nilpotent)
 
           from_sum : IsSumOf k p (InSpanOf k p zs) (Contains k p l) z → R z
           from_sum s =
               subst R (sym s.is)
               (𝓡.sum_in s.left s.right
-              (span_least F T 𝓢 R (ideal_module (equation_of k p) O 𝓞 R 𝓡) (map (function_of k p) zs) all_in s.left s.left_in)
-              (p_in_radical F O 𝓞.ring (poly a) (order_has (equation_of k p) O 𝓞 (value k a)) s.right ((members s.right).0 s.right_in)))
+              (span_least F T 𝓢 R (ideal_module (equation_of k p) O 𝓞 R 𝓡) (map (function_of k p) zs) all_in s.left
+              s.left_in)
+              (p_in_radical F O 𝓞.ring (poly a) (order_has (equation_of k p) O 𝓞 (value k a)) s.right
+              ((members s.right).0 s.right_in)))

@@ -1,4 +1,5 @@
--- In a factorisation the square of an irreducible polynomial divides the product where the exponent of that polynomial is 2 or more.
+-- In a factorisation the square of an irreducible polynomial divides the product where the exponent of that polynomial
+-- is 2 or more.
 use Rattle.std.proofs.Common.{◌≡◌, ◌⊎◌, ℕ, zero, suc, ◌<◌, ◌≤◌, List, [], ◌∷◌, length, get_or, inl, inr, refl, sym, ◌∙◌, ap, subst, arith, All}
 use Rattle.std.proofs.lemmas.List.Elements.{All-head, All-tail}
 use Rattle.ring_lemmas.specs.Ring.{CommRing, pow}
@@ -29,8 +30,11 @@ module _ (k : CodeField) where
     pub irreducible : IsIrreducibleList k.ops q
 
   -- two of which one divides the other are the same
-  divides_same : (p q : List ℕ) → IsPrime p → IsPrime q → IsDivisorIn (polynomials k).ops (value k p) (value k q) → p ≡ q
-  divides_same p q p_prime q_prime d = by (cofactor_one m.quotient (monic_factor k p m.quotient p_prime.over p_poly p_prime.irreducible.monic m.quotient_in m.quotient_poly some (subst IsMonic m.product q_prime.irreducible.monic)) short)
+  divides_same : (p q : List ℕ) → IsPrime p → IsPrime q → IsDivisorIn (polynomials k).ops (value k p) (value k q)
+      → p ≡ q
+  divides_same p q p_prime q_prime d = by
+      (cofactor_one m.quotient (monic_factor k p m.quotient p_prime.over p_poly p_prime.irreducible.monic m.quotient_in
+      m.quotient_poly some (subst IsMonic m.product q_prime.irreducible.monic)) short)
     where
       p_poly : IsPoly p
       p_poly = monic_poly p p_prime.irreducible.monic
@@ -42,7 +46,8 @@ module _ (k : CodeField) where
       m = divides_codes k p q p_prime.over q_prime.over q_poly (record { quotient = d.0; is = d.1 })
 
       not_shorter : ¬ (length p < length q)
-      not_shorter less = q_prime.irreducible.no_divisor p p_prime.over p_prime.irreducible.monic p_prime.irreducible.not_constant less m
+      not_shorter less = q_prime.irreducible.no_divisor p p_prime.over p_prime.irreducible.monic
+          p_prime.irreducible.not_constant less m
 
       some : 0 < length m.quotient
       some = positive m.quotient (λ e.
@@ -56,7 +61,8 @@ module _ (k : CodeField) where
 
       short : length m.quotient ≤ 1
       short =
-          let l = product_length k p m.quotient p_prime.over p_poly m.quotient_in m.quotient_poly (let n = p_prime.irreducible.not_constant in omega arith) some in
+          let l = product_length k p m.quotient p_prime.over p_poly m.quotient_in m.quotient_poly
+          (let n = p_prime.irreducible.not_constant in omega arith) some in
           let e : length q ≡ length (product_of k.ops p m.quotient) = ap length m.product in
           let n : length q ≤ length p = not_less not_shorter in
           omega (arith, l, e, n)
@@ -105,29 +111,35 @@ module _ (k : CodeField) where
     -- it doesn't divide what has an inverse
     not_unit : (u v : Polynomial k) → (polynomials k).◌⊗◌ u v ≡ (polynomials k).𝟙 → ¬ Divisor u
     not_unit u v e d =
-        (irreducible k Q Q_irreducible).nonunit ((polynomials k).◌⊗◌ d.0 v, sym (S.mul_assoc Q d.0 v) ∙ ap (λ x. (polynomials k).◌⊗◌ x v) (sym d.1) ∙ e)
+        (irreducible k Q Q_irreducible).nonunit
+        ((polynomials k).◌⊗◌ d.0 v, sym (S.mul_assoc Q d.0 v) ∙ ap (λ x. (polynomials k).◌⊗◌ x v) (sym d.1) ∙ e)
 
     not_one : ¬ Divisor (polynomials k).𝟙
     not_one = not_unit (polynomials k).𝟙 (polynomials k).𝟙 (S.mul_one (polynomials k).𝟙)
 
     free_power : (p : List ℕ) → IsPrime p → ¬ (q ≡ p) → (e : ℕ) → ¬ Divisor (pow (polynomials k).ops (value k p) e)
     free_power p p_prime differ zero d = not_one d
-    free_power p p_prime differ (suc e) d = go (prime (value k p) (pow (polynomials k).ops (value k p) e) d) (free_power p p_prime differ e)
+    free_power p p_prime differ (suc e) d = go (prime (value k p) (pow (polynomials k).ops (value k p) e) d)
+        (free_power p p_prime differ e)
       where
-        go : Divisor (value k p) ⊎ Divisor (pow (polynomials k).ops (value k p) e) → ¬ Divisor (pow (polynomials k).ops (value k p) e) → ⊥
+        go : Divisor (value k p) ⊎ Divisor (pow (polynomials k).ops (value k p) e)
+            → ¬ Divisor (pow (polynomials k).ops (value k p) e) → ⊥
         go (inl h) n = differ (divides_same q p q_prime p_prime h)
         go (inr h) n = n h
 
     free_product : (fs : List (List ℕ × ℕ)) → AreOther q fs → ¬ Divisor (product_of_powers fs)
     unfolding product_of_powers
     free_product [] others d = not_one d
-    free_product (f ∷ fs) others d = go (prime (pow (polynomials k).ops (value k f.0) f.1) (product_of_powers fs) d) (free_product fs (All-tail Other f fs others))
+    free_product (f ∷ fs) others d = go (prime (pow (polynomials k).ops (value k f.0) f.1) (product_of_powers fs) d)
+        (free_product fs (All-tail Other f fs others))
       where
         Other : List ℕ × ℕ → Type 0
         Other g = IsPrime g.0 × ¬ (q ≡ g.0)
 
-        go : Divisor (pow (polynomials k).ops (value k f.0) f.1) ⊎ Divisor (product_of_powers fs) → ¬ Divisor (product_of_powers fs) → ⊥
-        go (inl h) n = let o = All-head (λ (g : List ℕ × ℕ). IsPrime g.0 × ¬ (q ≡ g.0)) f fs others in free_power f.0 o.0 o.1 f.1 h
+        go : Divisor (pow (polynomials k).ops (value k f.0) f.1) ⊎ Divisor (product_of_powers fs)
+            → ¬ Divisor (product_of_powers fs) → ⊥
+        go (inl h) n = let o = All-head (λ (g : List ℕ × ℕ). IsPrime g.0 × ¬ (q ≡ g.0)) f fs others in free_power f.0
+            o.0 o.1 f.1 h
         go (inr h) n = n h
 
     -- how often it divides the product of the powers
@@ -140,7 +152,14 @@ module _ (k : CodeField) where
 
     orders : (fs : List (List ℕ × ℕ)) → AreDifferent fs → HasOrder fs
     unfolding product_of_powers
-    orders [] h = record { order = 0; cofactor = (polynomials k).𝟙; is = sym (S.mul_one (polynomials k).𝟙); free = not_one; part = inl refl }
+    orders [] h = record {
+      order = 0;
+      cofactor = (polynomials k).𝟙;
+      is = sym (S.mul_one (polynomials k).𝟙);
+      free =
+          not_one;
+      part = inl refl;
+    }
     orders (f ∷ fs) h = go (numbers_discrete q f.0) (orders fs h.2)
       where
         go : Dec (q ≡ f.0) → HasOrder fs → HasOrder (f ∷ fs)
@@ -154,7 +173,8 @@ module _ (k : CodeField) where
         go (no n) r = record {
           order = r.order;
           cofactor = (polynomials k).◌⊗◌ (pow (polynomials k).ops (value k f.0) f.1) r.cofactor;
-          is = ap ((polynomials k).◌⊗◌ (pow (polynomials k).ops (value k f.0) f.1)) r.is ∙ mul_left_comm S _ _ r.cofactor;
+          is = ap ((polynomials k).◌⊗◌ (pow (polynomials k).ops (value k f.0) f.1)) r.is
+              ∙ mul_left_comm S _ _ r.cofactor;
           free = λ d. by (prime (pow (polynomials k).ops (value k f.0) f.1) r.cofactor d);
           part = later r.part;
         }
@@ -169,8 +189,10 @@ module _ (k : CodeField) where
             later (inr (i, l, m)) = inr (suc i, omega arith, m)
 
     -- where its square divides the product, it is a part with an exponent of 2 or more
-    pub square_part : (u v d : Polynomial k) (fs : List (List ℕ × ℕ)) → AreDifferent fs → (polynomials k).◌⊗◌ u v ≡ (polynomials k).𝟙
-        → d ≡ (polynomials k).◌⊗◌ u (product_of_powers fs) → ¬ (d ≡ (polynomials k).𝟘) → IsDivisorIn (polynomials k).ops ((polynomials k).◌⊗◌ (value k q) (value k q)) d
+    pub square_part : (u v d : Polynomial k) (fs : List (List ℕ × ℕ)) → AreDifferent fs
+        → (polynomials k).◌⊗◌ u v ≡ (polynomials k).𝟙
+        → d ≡ (polynomials k).◌⊗◌ u (product_of_powers fs) → ¬ (d ≡ (polynomials k).𝟘)
+        → IsDivisorIn (polynomials k).ops ((polynomials k).◌⊗◌ (value k q) (value k q)) d
         → (i : ℕ) × (i < length fs) × ((get_or fs i ([], 0)).0 ≡ q) × (2 ≤ (get_or fs i ([], 0)).1)
     square_part u v d fs different unit d_is some (w, e) = go r.part
       where
@@ -200,7 +222,8 @@ module _ (k : CodeField) where
 
         two : suc (suc o.order) ≡ r.order
         two =
-            (order_unique (euclidean k) Q (irreducible k Q Q_irreducible) (suc (suc o.order)) r.order o.cofactor ((polynomials k).◌⊗◌ u r.cofactor) o.cofactor_free free
+            (order_unique (euclidean k) Q (irreducible k Q Q_irreducible) (suc (suc o.order)) r.order o.cofactor
+            ((polynomials k).◌⊗◌ u r.cofactor) o.cofactor_free free
             (sym left ∙ right)).0
 
         go : (r.order ≡ 0) ⊎ ((i : ℕ) × (i < length fs) × (get_or fs i ([], 0) ≡ (q, r.order)))

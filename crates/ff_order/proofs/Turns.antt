@@ -30,11 +30,13 @@ module _ (k : CodeField) (p : PresValue) (positive : 0 < p.n) where
     abbrev R : Functions k p → Type 0
     R = Radical (functions k p).ops (Contains k p o) (of_poly (equation_of k p) (value k pi))
 
-    𝓡 : local.IsIdeal (functions k p).ops (Contains k p o) (Radical (functions k p).ops (Contains k p o) (of_poly (equation_of k p) (value k pi)))
+    𝓡 : local.IsIdeal (functions k p).ops (Contains k p o)
+        (Radical (functions k p).ops (Contains k p o) (of_poly (equation_of k p) (value k pi)))
     𝓡 = radical_of_order (equation_of k p) O 𝓞 (value k pi)
 
     module _ (i : LatticeValue) (form : IsLattice k.ops p.n i)
-        (members : (z : Functions k p) → Contains k p i z ↔ Radical (functions k p).ops (Contains k p o) (of_poly (equation_of k p) (value k pi)) z) where
+        (members : (z : Functions k p) → Contains k p i z
+        ↔ Radical (functions k p).ops (Contains k p o) (of_poly (equation_of k p) (value k pi)) z) where
       -- the radical is an ideal
       pub radical_is_ideal : IsIdealLattice k p o i
       radical_is_ideal = record {
@@ -50,12 +52,15 @@ module _ (k : CodeField) (p : PresValue) (positive : 0 < p.n) where
         order = next_order;
         has = λ z h.
             (next_members z).1
-            (λ y y_in. (members _).1 (multipliers_have (equation_of k p) O 𝓞 (value k pi) R 𝓡 z h y ((members y).0 y_in)));
+            (λ y y_in. (members _).1 (multipliers_have (equation_of k p) O 𝓞 (value k pi) R 𝓡 z h y
+            ((members y).0 y_in)));
         taken = λ z h.
-            multipliers_taken (equation_of k p) O 𝓞 (value k pi) (Contains k p i) (lattice_set k p positive i form) radical_is_ideal.within
+            multipliers_taken (equation_of k p) O 𝓞 (value k pi) (Contains k p i) (lattice_set k p positive i form)
+            radical_is_ideal.within
             ((members _).1 (radical_has (equation_of k p) O 𝓞 (value k pi))) z ((next_members z).0 h);
         last = λ none.
-            maximal_of_multipliers (equation_of k p) O 𝓞 (value k pi) (irreducible_value k pi over irreducible) (row_functions k p i)
+            maximal_of_multipliers (equation_of k p) O 𝓞 (value k pi) (irreducible_value k pi over irreducible)
+            (row_functions k p i)
             (λ z. ((members z).1, (members z).0))
             (λ z h. none z ((next_members z).1 (λ y y_in. (members _).1 (h y ((members y).0 y_in)))));
       }
@@ -65,7 +70,8 @@ module _ (k : CodeField) (p : PresValue) (positive : 0 < p.n) where
     between_start = record { order = order; has = λ z h. h; taken = taken_has (equation_of k p) O 𝓞 (value k pi) }
 
     -- after one turn more
-    pub between_more : (cur next : LatticeValue) → IsBetween k p pi o cur → IsTurn k p pi cur next → IsBetween k p pi o next
+    pub between_more : (cur next : LatticeValue) → IsBetween k p pi o cur → IsTurn k p pi cur next
+        → IsBetween k p pi o next
     between_more cur next b t = record {
       order = t.order;
       has = λ z h. t.has z (b.has z h);
@@ -76,4 +82,5 @@ module _ (k : CodeField) (p : PresValue) (positive : 0 < p.n) where
     pub between_last : (cur next : LatticeValue) → IsBetween k p pi o cur → IsTurn k p pi cur next → next ≡ cur
         → (z : Functions k p) → Contains k p cur z ↔ TakenByPowers (equation_of k p) (value k pi) (Contains k p o) z
     between_last cur next b t same =
-        taken_is (equation_of k p) O 𝓞 (value k pi) (Contains k p cur) b.has b.taken (t.last (λ z h. subst (λ l. Contains k p l z) same h))
+        taken_is (equation_of k p) O 𝓞 (value k pi) (Contains k p cur) b.has b.taken
+        (t.last (λ z h. subst (λ l. Contains k p l z) same h))

@@ -1,4 +1,5 @@
--- The integral functions that products of powers of polynomials take into an order (Pohst and Zassenhaus, Algorithmic Algebraic Number Theory).
+-- The integral functions that products of powers of polynomials take into an order (Pohst and Zassenhaus, Algorithmic
+-- Algebraic Number Theory).
 use Rattle.std.specs.Prelude.{ℕ, List, [], ◌∷◌, map, cond, nat_lt}
 use Rattle.ff_fields.specs.Field.{CodeField}
 use Rattle.ff_poly.specs.Polynomials.{Polynomial}

@@ -24,7 +24,8 @@ use ff_lattice::{Lattice, Order};
 use ff_poly::Poly;
 use std::alloc::{AllocError, Global};
 
-/// The functions whose products with the members of an ideal of the order are in the ideal. It takes the time of `colon`.
+/// The functions whose products with the members of an ideal of the order are in the ideal. It takes the time of
+/// `colon`.
 pub fn multiplier<K: SmallField>(
     alloc: Global,
     k: &K,
@@ -62,7 +63,8 @@ fn enlarged<K: SmallField>(
     multiplier(alloc, k, p, o, &i)
 }
 
-/// The integral functions that a power of an irreducible monic polynomial takes into the order. The discriminant isn't 0.
+/// The integral functions that a power of an irreducible monic polynomial takes into the order. The discriminant isn't
+/// 0.
 /// It takes the time of a radical and its multipliers for each turn; each turn but the last enlarges the order.
 pub fn p_maximal<K: SmallField>(
     alloc: Global,
@@ -93,7 +95,8 @@ pub fn p_maximal<K: SmallField>(
     }
 }
 
-/// The integral functions that a product of powers of irreducible monic polynomials takes into the order. The discriminant
+/// The integral functions that a product of powers of irreducible monic polynomials takes into the order. The
+/// discriminant
 /// isn't 0. It takes the time of `p_maximal` for each of the polynomials.
 pub fn maximal<K: SmallField>(
     alloc: Global,
@@ -110,7 +113,8 @@ pub fn maximal<K: SmallField>(
     ensures order { IfOk result (IsOrderLattice (K.field k.now) p.now) }
     ensures members { let k = K.field k.now in
         IfOk result (λ m. (z : Functions k p.now) →
-        Contains k p.now m z ↔ TakenByProducts (equation_of k p.now) (map (value k) primes.now) (Contains k p.now o.now) z) }
+        Contains k p.now m z ↔ TakenByProducts (equation_of k p.now) (map (value k) primes.now) (Contains k p.now o.now)
+        z) }
 {
     let degree = p.n();
     prove!(degree > 0);

@@ -21,7 +21,8 @@ use ff_fields::field::SmallField;
 use ff_lattice::Order;
 use ff_poly::Poly;
 
-/// What `maximal` answers for an order that has k[x][y] are exactly the integral functions, where the listed polynomials are
+/// What `maximal` answers for an order that has k[x][y] are exactly the integral functions, where the listed
+/// polynomials are
 /// all irreducible ones whose squares divide the discriminant. The factors of the discriminant are given as a list of
 /// irreducible polynomials, with repeats, whose product it divides.
 pub fn integral_law<K: SmallField>(
@@ -38,13 +39,16 @@ pub fn integral_law<K: SmallField>(
         (z : Functions k p.now) → HasPolynomialCoordinates (equation_of k p.now) z → Contains k p.now o.now z }
     requires m_order { IsOrderLattice (K.field k.now) p.now m.now }
     requires enlarged { let k = K.field k.now in
-        (z : Functions k p.now) → Contains k p.now m.now z ↔ TakenByProducts (equation_of k p.now) (map (value k) primes.now) (Contains k p.now o.now) z }
+        (z : Functions k p.now) → Contains k p.now m.now z
+        ↔ TakenByProducts (equation_of k p.now) (map (value k) primes.now) (Contains k p.now o.now) z }
     requires factors_in { All (IsOver (K.field k.now).ops) factors.now }
     requires irreducible { All (IsIrreducibleList (K.field k.now).ops) factors.now }
     requires product { let k = K.field k.now in
-        IsDivisorIn (polynomials k).ops (discriminant (equation_of k p.now)) (polynomial_product k (map (value k) factors.now)) }
+        IsDivisorIn (polynomials k).ops (discriminant (equation_of k p.now))
+        (polynomial_product k (map (value k) factors.now)) }
     requires listed { let k = K.field k.now in
-        All (λ q. IsDivisorIn (polynomials k).ops ((polynomials k).◌⊗◌ (value k q) (value k q)) (discriminant (equation_of k p.now)) → Any (λ r. r ≡ q) primes.now) factors.now }
+        All (λ q. IsDivisorIn (polynomials k).ops ((polynomials k).◌⊗◌ (value k q) (value k q))
+        (discriminant (equation_of k p.now)) → Any (λ r. r ≡ q) primes.now) factors.now }
     ensures { let k = K.field k.now in
         (z : Functions k p.now) → Contains k p.now m.now z ↔ IsIntegralAt (setting k p.now) Finite z }
 {}

@@ -38,7 +38,8 @@ fn multiples<K: SmallField>(
     ensures ideal { IfOk result (IsIdealLattice (K.field k.now) p.now o.now) }
     ensures members { let k = K.field k.now in
         IfOk result (λ l. (z : Functions k p.now) →
-        Contains k p.now l z ↔ Multiple (functions k p.now).ops (of_poly (equation_of k p.now) (value k a.now)) (Contains k p.now o.now) z) }
+        Contains k p.now l z ↔ Multiple (functions k p.now).ops (of_poly (equation_of k p.now) (value k a.now))
+        (Contains k p.now o.now) z) }
 {
     let degree = p.n();
     prove!(degree > 0);
@@ -77,7 +78,8 @@ fn nilpotent_lifts<K: SmallField>(
     lift_rows(alloc, k, q, &basis)
 }
 
-/// The radical of the order at an irreducible monic polynomial: the members of which a power is a multiple of the polynomial
+/// The radical of the order at an irreducible monic polynomial: the members of which a power is a multiple of the
+/// polynomial
 /// by a member. It takes the time of the nilpotent elements of the order modulo the polynomial, an algebra of n times
 /// its degree dimensions, and of a Popov basis of so many rows.
 pub fn radical<K: SmallField>(
@@ -95,7 +97,8 @@ pub fn radical<K: SmallField>(
     ensures ideal { IfOk result (IsIdealLattice (K.field k.now) p.now o.now) }
     ensures members { let k = K.field k.now in
         IfOk result (λ l. (z : Functions k p.now) →
-        Contains k p.now l z ↔ Radical (functions k p.now).ops (Contains k p.now o.now) (of_poly (equation_of k p.now) (value k pi.now)) z) }
+        Contains k p.now l z ↔ Radical (functions k p.now).ops (Contains k p.now o.now)
+        (of_poly (equation_of k p.now) (value k pi.now)) z) }
 {
     let degree = p.n();
     prove!(degree > 0);

@@ -18,7 +18,8 @@ use std::alloc::{AllocError, Global};
 pub fn equation_order<K: SmallField>(alloc: Global, k: &K, p: &Pres) -> Result<Order, AllocError>
     ensures order { IfOk result (IsOrderLattice (K.field k.now) p.now) }
     ensures members { let k = K.field k.now in
-        IfOk result (λ o. (z : Functions k p.now) → Contains k p.now o z ↔ HasPolynomialCoordinates (equation_of k p.now) z) }
+        IfOk result (λ o. (z : Functions k p.now)
+        → Contains k p.now o z ↔ HasPolynomialCoordinates (equation_of k p.now) z) }
 {
     let degree = p.n();
     let mut powers = Vec::new(alloc);

@@ -23,14 +23,17 @@ use Rattle.ff_poly.specs.Value.{value, series_value, same_from_value, value_sum,
 -- one element of a moves to what follows
 front_move : (a ys : List ℕ) (n : ℕ) → n < length a → take (suc n) a ++ ys ≡ take n a ++ (get_or a n 0 ∷ ys)
 front_move a ys n less =
-    ap (λ m. take m a ++ ys) (sym (add-one n)) ∙ ap (λ w. w ++ ys) (take_more a n 0 less) ∙ append_assoc (take n a) (get_or a n 0 ∷ []) ys
+    ap (λ m. take m a ++ ys) (sym (add-one n)) ∙ ap (λ w. w ++ ys) (take_more a n 0 less)
+    ∙ append_assoc (take n a) (get_or a n 0 ∷ []) ys
 
-module _ (r : Operations ℕ) (null : r.𝟘 ≡ 0) (b : List ℕ) (inverse : ℕ) (a : List ℕ) (i n : ℕ) (whole : i ≡ suc n) (within : i ≤ length a) where
+module _ (r : Operations ℕ) (null : r.𝟘 ≡ 0) (b : List ℕ) (inverse : ℕ) (a : List ℕ) (i n : ℕ) (whole : i ≡ suc n)
+    (within : i ≤ length a) where
   later : List ℕ
   later = rest_from r b inverse (drop (n + 1) a)
 
   -- what the loop has before a step, at the position of the step
-  unfolded : (rest : List ℕ) → rest ≡ take i a ++ rest_from r b inverse (drop i a) → rest ≡ take n a ++ (get_or a n 0 ∷ later)
+  unfolded : (rest : List ℕ) → rest ≡ take i a ++ rest_from r b inverse (drop i a)
+      → rest ≡ take n a ++ (get_or a n 0 ∷ later)
   unfolding later
   unfolded rest done =
       done
@@ -39,9 +42,12 @@ module _ (r : Operations ℕ) (null : r.𝟘 ≡ 0) (b : List ℕ) (inverse : �
       ∙ front_move a (rest_from r b inverse (drop (n + 1) a)) n (omega arith)
 
   dropped : (rest : List ℕ) → rest ≡ take i a ++ rest_from r b inverse (drop i a) → drop n rest ≡ get_or a n 0 ∷ later
-  dropped rest done = ap (drop n) (unfolded rest done) ∙ drop_at (take n a) (get_or a n 0 ∷ later) n (length-take-le n a (omega arith))
+  dropped rest done = ap (drop n) (unfolded rest done)
+      ∙ drop_at (take n a) (get_or a n 0 ∷ later) n (length-take-le n a (omega arith))
 
-  pub digit_step : (rest : List ℕ) (digit : ℕ) → rest ≡ take i a ++ rest_from r b inverse (drop i a) → digit ≡ r.◌⊗◌ (get_or rest (n + (length b - 1)) 0) inverse → digit ≡ digit_of r b inverse (get_or a n 0 ∷ rest_from r b inverse (drop (n + 1) a))
+  pub digit_step : (rest : List ℕ) (digit : ℕ) → rest ≡ take i a ++ rest_from r b inverse (drop i a)
+      → digit ≡ r.◌⊗◌ (get_or rest (n + (length b - 1)) 0) inverse
+      → digit ≡ digit_of r b inverse (get_or a n 0 ∷ rest_from r b inverse (drop (n + 1) a))
   unfolding later
   digit_step rest digit done digit_is =
       digit_is
@@ -49,11 +55,15 @@ module _ (r : Operations ℕ) (null : r.𝟘 ≡ 0) (b : List ℕ) (inverse : �
       (sym (get_or-drop n rest (length b - 1) 0) ∙ ap (λ w. get_or w (length b - 1) 0) (dropped rest done)
       ∙ ap (λ z. get_or (get_or a n 0 ∷ later) (length b - 1) z) (sym null))
 
-  pub rest_step : (rest part now : List ℕ) (digit : ℕ) → rest ≡ take i a ++ rest_from r b inverse (drop i a) → digit ≡ digit_of r b inverse (get_or a n 0 ∷ rest_from r b inverse (drop (n + 1) a)) → part ≡ take (length rest - n) (drop n rest) → now ≡ add_lists r part (scale_list r (r.⊖◌ digit) b) → put_mid n (length rest - n) rest now ≡ take n a ++ rest_from r b inverse (drop n a)
+  pub rest_step : (rest part now : List ℕ) (digit : ℕ) → rest ≡ take i a ++ rest_from r b inverse (drop i a)
+      → digit ≡ digit_of r b inverse (get_or a n 0 ∷ rest_from r b inverse (drop (n + 1) a))
+      → part ≡ take (length rest - n) (drop n rest) → now ≡ add_lists r part (scale_list r (r.⊖◌ digit) b)
+      → put_mid n (length rest - n) rest now ≡ take n a ++ rest_from r b inverse (drop n a)
   unfolding later
   rest_step rest part now digit done digit_is part_is now_is =
       ap₂ (λ p q. p ++ q)
-      (ap (take n) (unfolded rest done) ∙ take_at (take n a) (get_or a n 0 ∷ later) n (length-take-le n a (omega arith)))
+      (ap (take n) (unfolded rest done) ∙ take_at (take n a) (get_or a n 0 ∷ later) n
+      (length-take-le n a (omega arith)))
       (ap₂ (λ p q. p ++ q)
       (now_is
       ∙ ap₂ (λ w c. add_lists r w (scale_list r (r.⊖◌ c) b)) (part_is ∙ take_rest rest n ∙ dropped rest done) digit_is
@@ -61,18 +71,23 @@ module _ (r : Operations ℕ) (null : r.𝟘 ≡ 0) (b : List ℕ) (inverse : �
       (drop_all (length rest - n) (drop n rest) (omega (arith, length-drop n rest)))
       ∙ append-nil _)
 
-  pub quotient_step : (first quotient : List ℕ) (digit : ℕ) → length first ≡ length a → quotient ≡ take i first ++ quotient_from r b inverse (drop i a) → digit ≡ digit_of r b inverse (get_or a n 0 ∷ rest_from r b inverse (drop (n + 1) a)) → set quotient n digit ≡ take n first ++ quotient_from r b inverse (drop n a)
+  pub quotient_step : (first quotient : List ℕ) (digit : ℕ) → length first ≡ length a
+      → quotient ≡ take i first ++ quotient_from r b inverse (drop i a)
+      → digit ≡ digit_of r b inverse (get_or a n 0 ∷ rest_from r b inverse (drop (n + 1) a))
+      → set quotient n digit ≡ take n first ++ quotient_from r b inverse (drop n a)
   quotient_step first quotient digit same done digit_is =
       ap (λ w. set w n digit)
       (done ∙ ap (λ m. take m first ++ quotient_from r b inverse (drop m a)) whole
       ∙ ap (λ m. take (suc n) first ++ quotient_from r b inverse (drop m a)) (sym (add-one n))
       ∙ front_move first (quotient_from r b inverse (drop (n + 1) a)) n (omega arith))
-      ∙ set_at (take n first) (get_or first n 0) (quotient_from r b inverse (drop (n + 1) a)) digit n (length-take-le n first (omega arith))
+      ∙ set_at (take n first) (get_or first n 0) (quotient_from r b inverse (drop (n + 1) a)) digit n
+      (length-take-le n first (omega arith))
       ∙ ap (λ c. take n first ++ (c ∷ quotient_from r b inverse (drop (n + 1) a))) digit_is
       ∙ ap (λ w. take n first ++ quotient_from r b inverse w) (sym (drop_more a n 0 (omega arith)))
 
 -- the two lists that the loop leaves are quotient and rest
-module _ (k : CodeField) (a b : List ℕ) (a_in : IsOver k.ops a) (b_in : IsOver k.ops b) (a_poly : IsPoly a) (top_some : get_or b (length b - 1) 0 ≢ 0) (b_some : 0 < length b) where
+module _ (k : CodeField) (a b : List ℕ) (a_in : IsOver k.ops a) (b_in : IsOver k.ops b) (a_poly : IsPoly a)
+    (top_some : get_or b (length b - 1) 0 ≢ 0) (b_some : 0 < length b) where
   abbrev K : TestedRing (Code k)
   K = code_ring k
 
@@ -96,12 +111,14 @@ module _ (k : CodeField) (a b : List ℕ) (a_in : IsOver k.ops a) (b_in : IsOver
 
   quotient_is : raw_quotient ≡ numbers k (quotient_from K.ops bs inverse xs)
   quotient_is =
-      ap₂ (λ x y. quotient_from (raw_ring k.ops) x (k.inv top) y) (sym (numbers_read k b b_in)) (sym (numbers_read k a a_in))
+      ap₂ (λ x y. quotient_from (raw_ring k.ops) x (k.inv top) y) (sym (numbers_read k b b_in))
+      (sym (numbers_read k a a_in))
       ∙ sym (numbers_quotient_from k bs xs inverse)
 
   rest_is : raw_rest ≡ numbers k (rest_from K.ops bs inverse xs)
   rest_is =
-      ap₂ (λ x y. rest_from (raw_ring k.ops) x (k.inv top) y) (sym (numbers_read k b b_in)) (sym (numbers_read k a a_in))
+      ap₂ (λ x y. rest_from (raw_ring k.ops) x (k.inv top) y) (sym (numbers_read k b b_in))
+      (sym (numbers_read k a a_in))
       ∙ sym (numbers_rest_from k bs xs inverse)
 
   length_bs : length bs ≡ length b
@@ -116,19 +133,23 @@ module _ (k : CodeField) (a b : List ℕ) (a_in : IsOver k.ops a) (b_in : IsOver
 
   pub is_quotient : IsQuotientWithRest k.ops a b (poly_of raw_quotient) (poly_of raw_rest)
   is_quotient = record {
-    whole = same_from_value k a (sum_of k.ops (product_of k.ops b q) rest) a_in (IsOver_sum_of k bq_in rest_in) a_poly (IsPoly_poly_of (add_lists (raw_ring k.ops) (product_of k.ops b q) rest))
+    whole = same_from_value k a (sum_of k.ops (product_of k.ops b q) rest) a_in (IsOver_sum_of k bq_in rest_in) a_poly
+        (IsPoly_poly_of (add_lists (raw_ring k.ops) (product_of k.ops b q) rest))
         (same_pol K (value k a) (s.◌⊕◌ (s.◌⊗◌ (value k b) (value k q)) (value k rest)) (λ n.
         coeff_trim K xs n
         ∙ divided K bs inverse xs n
         ∙ ap₂ K.◌⊕◌
         (ap₂ (λ f g. convolution K.ops f g n)
-        (fun_ext (λ i. sym (series_value k (quotient_from K.ops bs inverse xs) i) ∙ ap (λ ns. coeff_of K.ops (value k (poly_of ns)).0 i) (sym quotient_is)))
+        (fun_ext (λ i. sym (series_value k (quotient_from K.ops bs inverse xs) i)
+        ∙ ap (λ ns. coeff_of K.ops (value k (poly_of ns)).0 i) (sym quotient_is)))
         (fun_ext (λ i. sym (coeff_trim K bs i)))
         ∙ convolution_comm K.ring _ _ n
         ∙ sym (series_mul K (value k b) (value k q) n))
-        (sym (series_value k (rest_from K.ops bs inverse xs) n) ∙ ap (λ ns. coeff_of K.ops (value k (poly_of ns)).0 n) (sym rest_is))
+        (sym (series_value k (rest_from K.ops bs inverse xs) n)
+        ∙ ap (λ ns. coeff_of K.ops (value k (poly_of ns)).0 n) (sym rest_is))
         ∙ sym (series_add K (s.◌⊗◌ (value k b) (value k q)) (value k rest) n))
-        ∙ sym (value_sum k (product_of k.ops b q) rest bq_in rest_in ∙ ap (λ w. s.◌⊕◌ w (value k rest)) (value_product k b q b_in q_in)));
+        ∙ sym (value_sum k (product_of k.ops b q) rest bq_in rest_in
+        ∙ ap (λ w. s.◌⊕◌ w (value k rest)) (value_product k b q b_in q_in)));
     shorter = short;
     quotient_in = q_in;
     rest_in = rest_in;
@@ -156,7 +177,8 @@ module _ (k : CodeField) (a b : List ℕ) (a_in : IsOver k.ops a) (b_in : IsOver
 
       bound : length (trim K.is_zero (rest_from K.ops bs inverse xs)) ≤ length bs - 1
       bound =
-          length_bound K (trim K.is_zero (rest_from K.ops bs inverse xs)) (length bs - 1) (IsTrimmed_trim K.is_zero (rest_from K.ops bs inverse xs))
+          length_bound K (trim K.is_zero (rest_from K.ops bs inverse xs)) (length bs - 1)
+          (IsTrimmed_trim K.is_zero (rest_from K.ops bs inverse xs))
           (λ i le. coeff_trim K (rest_from K.ops bs inverse xs) i ∙ rest_ends K bs inverse inverts xs i le)
 
       rest_length : length rest ≡ length (trim K.is_zero (rest_from K.ops bs inverse xs))
@@ -169,7 +191,10 @@ module _ (k : CodeField) (a b : List ℕ) (a_in : IsOver k.ops a) (b_in : IsOver
       short = omega (arith, bound, rest_length, length_bs)
 
 -- the same, of what the call has in hand
-pub quotient_at : (k : CodeField) (a b a' b' q rest : List ℕ) (inverse : ℕ) → IsOver k.ops a → IsOver k.ops b → IsPoly a → get_or b (length b - 1) 0 ≢ 0 → 0 < length b → a' ≡ a → b' ≡ b → inverse ≡ k.inv (get_or b (length b - 1) 0) → q ≡ poly_of (quotient_from (raw_ring k.ops) b' inverse a') → rest ≡ poly_of (rest_from (raw_ring k.ops) b' inverse a') → IsQuotientWithRest k.ops a b q rest
+pub quotient_at : (k : CodeField) (a b a' b' q rest : List ℕ) (inverse : ℕ) → IsOver k.ops a → IsOver k.ops b → IsPoly a
+    → get_or b (length b - 1) 0 ≢ 0 → 0 < length b → a' ≡ a → b' ≡ b → inverse ≡ k.inv (get_or b (length b - 1) 0)
+    → q ≡ poly_of (quotient_from (raw_ring k.ops) b' inverse a')
+    → rest ≡ poly_of (rest_from (raw_ring k.ops) b' inverse a') → IsQuotientWithRest k.ops a b q rest
 quotient_at k a b a' b' q rest inverse a_in b_in a_poly top_some b_some a_is b_is inverse_is q_is rest_is =
     rw (q_is, rest_is, a_is, b_is, inverse_is) (is_quotient k a b a_in b_in a_poly top_some b_some)
 

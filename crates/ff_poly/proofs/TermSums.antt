@@ -56,7 +56,8 @@ module _ {A : Type 0} (r : CommRing A) {X : Type 0} (f : X → A) where
       ∙ total_set mid j a d (omega (arith, size)) ∙ total_set xs i b d i_less)
 
   pub total_permutation : (xs ys : List X) → IsPermutation xs ys → total ys ≡ total xs
-  total_permutation xs ys p = IsPermutation-keeps xs (λ l. total l ≡ total xs) refl (λ l i j i_less j_less h. total_swap l i j i_less j_less ∙ h) ys p
+  total_permutation xs ys p = IsPermutation-keeps xs (λ l. total l ≡ total xs) refl
+      (λ l i j i_less j_less h. total_swap l i j i_less j_less ∙ h) ys p
 
 -- ---- the codes at given exponents
 
@@ -64,51 +65,66 @@ module _ (k : CodeField) (i j : ℕ) where
   abbrev pub term_code : ℕ × ℕ × ℕ → Code k
   term_code t = cond (nat_eq t.0 i && nat_eq t.1 j) (read_code k t.2) (code_ring k).𝟘
 
-  pub code_at_total : (ts : List (ℕ × ℕ × ℕ)) → All (λ t. t.2 < k.size) ts → code_at k.ops i j ts ≡ (total (code_ring k).ring term_code ts).0
+  pub code_at_total : (ts : List (ℕ × ℕ × ℕ)) → All (λ t. t.2 < k.size) ts
+      → code_at k.ops i j ts ≡ (total (code_ring k).ring term_code ts).0
   code_at_total [] ts_in = refl
-  code_at_total (t ∷ ts) ts_in = go (nat_eq t.0 i && nat_eq t.1 j) (code_at_total ts (All-tail (λ t. t.2 < k.size) t ts ts_in)) (All-head (λ t. t.2 < k.size) t ts ts_in)
+  code_at_total (t ∷ ts) ts_in = go (nat_eq t.0 i && nat_eq t.1 j)
+      (code_at_total ts (All-tail (λ t. t.2 < k.size) t ts ts_in)) (All-head (λ t. t.2 < k.size) t ts ts_in)
     where
       go : (b : Bool) → code_at k.ops i j ts ≡ (total (code_ring k).ring term_code ts).0 → t.2 < k.size
-          → cond b (k.add t.2 (code_at k.ops i j ts)) (code_at k.ops i j ts) ≡ ((code_ring k).◌⊕◌ (cond b (read_code k t.2) (code_ring k).𝟘) (total (code_ring k).ring term_code ts)).0
+          → cond b (k.add t.2 (code_at k.ops i j ts)) (code_at k.ops i j ts)
+          ≡ ((code_ring k).◌⊕◌ (cond b (read_code k t.2) (code_ring k).𝟘) (total (code_ring k).ring term_code ts)).0
       go true same t_in = ap₂ k.add (sym (read_code_below k t.2 t_in)) same
       go false same t_in = same ∙ sym (k.laws.zero_add _ (total (code_ring k).ring term_code ts).1)
 
   -- two lists with the same total have the same code
-  pub same_code_at : (ts us : List (ℕ × ℕ × ℕ)) → All (λ t. t.2 < k.size) ts → All (λ t. t.2 < k.size) us → total (code_ring k).ring term_code ts ≡ total (code_ring k).ring term_code us → code_at k.ops i j ts ≡ code_at k.ops i j us
+  pub same_code_at : (ts us : List (ℕ × ℕ × ℕ)) → All (λ t. t.2 < k.size) ts → All (λ t. t.2 < k.size) us
+      → total (code_ring k).ring term_code ts ≡ total (code_ring k).ring term_code us
+      → code_at k.ops i j ts ≡ code_at k.ops i j us
   same_code_at ts us ts_in us_in same = code_at_total ts ts_in ∙ ap (λ x. x.0) same ∙ sym (code_at_total us us_in)
 
-  pub code_at_permutation : (ts us : List (ℕ × ℕ × ℕ)) → IsPermutation ts us → All (λ t. t.2 < k.size) ts → code_at k.ops i j us ≡ code_at k.ops i j ts
+  pub code_at_permutation : (ts us : List (ℕ × ℕ × ℕ)) → IsPermutation ts us → All (λ t. t.2 < k.size) ts
+      → code_at k.ops i j us ≡ code_at k.ops i j ts
   code_at_permutation ts us p ts_in =
-      same_code_at us ts (All-permutation (λ t. t.2 < k.size) ts us p ts_in) ts_in (total_permutation (code_ring k).ring term_code ts us p)
+      same_code_at us ts (All-permutation (λ t. t.2 < k.size) ts us p ts_in) ts_in
+      (total_permutation (code_ring k).ring term_code ts us p)
 
   -- codes at the same exponents are added
-  term_code_sum : (y x a b : ℕ) → a < k.size → b < k.size → term_code (y, x, k.add a b) ≡ (code_ring k).◌⊕◌ (term_code (y, x, a)) (term_code (y, x, b))
+  term_code_sum : (y x a b : ℕ) → a < k.size → b < k.size
+      → term_code (y, x, k.add a b) ≡ (code_ring k).◌⊕◌ (term_code (y, x, a)) (term_code (y, x, b))
   term_code_sum y x a b a_in b_in = go (nat_eq y i && nat_eq x j)
     where
-      go : (c : Bool) → cond c (read_code k (k.add a b)) (code_ring k).𝟘 ≡ (code_ring k).◌⊕◌ (cond c (read_code k a) (code_ring k).𝟘) (cond c (read_code k b) (code_ring k).𝟘)
+      go : (c : Bool) → cond c (read_code k (k.add a b)) (code_ring k).𝟘
+          ≡ (code_ring k).◌⊕◌ (cond c (read_code k a) (code_ring k).𝟘) (cond c (read_code k b) (code_ring k).𝟘)
       go true =
           same_code k _ _
-          (read_code_below k (k.add a b) (k.laws.add_below a b a_in b_in) ∙ sym (ap₂ k.add (read_code_below k a a_in) (read_code_below k b b_in)))
+          (read_code_below k (k.add a b) (k.laws.add_below a b a_in b_in)
+          ∙ sym (ap₂ k.add (read_code_below k a a_in) (read_code_below k b b_in)))
       go false = sym ((code_ring k).add_zero (code_ring k).𝟘)
 
   pub merged_total : (ts : List (ℕ × ℕ × ℕ)) (y x a b : ℕ) → a < k.size → b < k.size
-      → total (code_ring k).ring term_code (ts ++ (y, x, k.add a b) ∷ []) ≡ total (code_ring k).ring term_code ((ts ++ (y, x, a) ∷ []) ++ (y, x, b) ∷ [])
+      → total (code_ring k).ring term_code (ts ++ (y, x, k.add a b) ∷ [])
+      ≡ total (code_ring k).ring term_code ((ts ++ (y, x, a) ∷ []) ++ (y, x, b) ∷ [])
   merged_total ts y x a b a_in b_in =
       let R = (code_ring k).ring in
       let f = term_code in
       total_append R f ts ((y, x, k.add a b) ∷ [])
       ∙ ap (λ w. R.◌⊕◌ (total R f ts) (R.◌⊕◌ w R.𝟘)) (term_code_sum y x a b a_in b_in)
       ∙ regroup R (total R f ts) (f (y, x, a)) (f (y, x, b))
-      ∙ sym (total_append R f (ts ++ (y, x, a) ∷ []) ((y, x, b) ∷ []) ∙ ap (λ w. R.◌⊕◌ w (R.◌⊕◌ (f (y, x, b)) R.𝟘)) (total_append R f ts ((y, x, a) ∷ [])))
+      ∙ sym (total_append R f (ts ++ (y, x, a) ∷ []) ((y, x, b) ∷ [])
+      ∙ ap (λ w. R.◌⊕◌ w (R.◌⊕◌ (f (y, x, b)) R.𝟘)) (total_append R f ts ((y, x, a) ∷ [])))
     where
-      regroup : {A : Type 0} (R : CommRing A) (t a b : A) → R.◌⊕◌ t (R.◌⊕◌ (R.◌⊕◌ a b) R.𝟘) ≡ R.◌⊕◌ (R.◌⊕◌ t (R.◌⊕◌ a R.𝟘)) (R.◌⊕◌ b R.𝟘)
+      regroup : {A : Type 0} (R : CommRing A) (t a b : A)
+          → R.◌⊕◌ t (R.◌⊕◌ (R.◌⊕◌ a b) R.𝟘) ≡ R.◌⊕◌ (R.◌⊕◌ t (R.◌⊕◌ a R.𝟘)) (R.◌⊕◌ b R.𝟘)
       regroup R t a b = grind (arith, R)
 
   -- a term with the code 0 adds nothing
-  pub zero_total : (ts : List (ℕ × ℕ × ℕ)) (y x : ℕ) → total (code_ring k).ring term_code (ts ++ (y, x, 0) ∷ []) ≡ total (code_ring k).ring term_code ts
+  pub zero_total : (ts : List (ℕ × ℕ × ℕ)) (y x : ℕ)
+      → total (code_ring k).ring term_code (ts ++ (y, x, 0) ∷ []) ≡ total (code_ring k).ring term_code ts
   zero_total ts y x =
       let R = (code_ring k).ring in
-      total_append R term_code ts ((y, x, 0) ∷ []) ∙ ap (λ w. R.◌⊕◌ (total R term_code ts) (R.◌⊕◌ w R.𝟘)) (go (nat_eq y i && nat_eq x j))
+      total_append R term_code ts ((y, x, 0) ∷ [])
+      ∙ ap (λ w. R.◌⊕◌ (total R term_code ts) (R.◌⊕◌ w R.𝟘)) (go (nat_eq y i && nat_eq x j))
       ∙ ap (R.◌⊕◌ (total R term_code ts)) (R.add_zero R.𝟘) ∙ R.add_zero (total R term_code ts)
     where
       go : (c : Bool) → cond c (read_code k 0) (code_ring k).𝟘 ≡ (code_ring k).𝟘

@@ -11,17 +11,24 @@ take_last xs n pos le =
     ap (λ m. take m xs) whole ∙ take_more xs (n - 1) 0 (omega arith)
 
 -- a zero on top is dropped
-pub poly_of_take_less : (xs : List ℕ) (n : ℕ) → 0 < n → n ≤ length xs → get_or xs (n - 1) 0 ≡ 0 → poly_of (take (n - 1) xs) ≡ poly_of (take n xs)
+pub poly_of_take_less : (xs : List ℕ) (n : ℕ) → 0 < n → n ≤ length xs → get_or xs (n - 1) 0 ≡ 0
+    → poly_of (take (n - 1) xs) ≡ poly_of (take n xs)
 poly_of_take_less xs n pos le null =
-    sym (ap poly_of (take_last xs n pos le) ∙ trim_push_zero is_zero_code (take (n - 1) xs) (get_or xs (n - 1) 0) (eq-eqb _ 0 null))
+    sym (ap poly_of (take_last xs n pos le)
+    ∙ trim_push_zero is_zero_code (take (n - 1) xs) (get_or xs (n - 1) 0) (eq-eqb _ 0 null))
 
-IsPoly_take : (xs : List ℕ) (n : ℕ) → n ≤ length xs → (n ≡ 0) ⊎ ((0 < n) × (get_or xs (n - 1) 0 ≢ 0)) → IsPoly (take n xs)
+IsPoly_take : (xs : List ℕ) (n : ℕ) → n ≤ length xs → (n ≡ 0) ⊎ ((0 < n) × (get_or xs (n - 1) 0 ≢ 0))
+    → IsPoly (take n xs)
 IsPoly_take xs n le (inl none) = rw none (record { trimmed = tt })
 IsPoly_take xs n le (inr (pos, some)) =
-    rw (take_last xs n pos le) (record { trimmed = IsTrimmed_push is_zero_code (take (n - 1) xs) (get_or xs (n - 1) 0) (ne_eqb _ 0 some) })
+    rw (take_last xs n pos le) (record {
+      trimmed = IsTrimmed_push is_zero_code (take (n - 1) xs) (get_or xs (n - 1) 0)
+          (ne_eqb _ 0 some);
+    })
 
 -- where the loop ends, what is left is the polynomial
-pub trimmed : (xs : List ℕ) (n : ℕ) → n ≤ length xs → (n ≡ 0) ⊎ ((0 < n) × (get_or xs (n - 1) 0 ≢ 0)) → poly_of (take n xs) ≡ poly_of xs → IsPoly (take n xs) × (take n xs ≡ poly_of xs)
+pub trimmed : (xs : List ℕ) (n : ℕ) → n ≤ length xs → (n ≡ 0) ⊎ ((0 < n) × (get_or xs (n - 1) 0 ≢ 0))
+    → poly_of (take n xs) ≡ poly_of xs → IsPoly (take n xs) × (take n xs ≡ poly_of xs)
 trimmed xs n le ends kept =
     let is_poly = IsPoly_take xs n le ends in
     (is_poly, sym (trim_trimmed is_zero_code (take n xs) is_poly.trimmed) ∙ kept)

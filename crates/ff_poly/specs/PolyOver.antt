@@ -15,10 +15,13 @@ module _ (k : CodeField) where
 
   pub IsOver_difference_of : {a b : List ℕ} → IsOver k.ops a → IsOver k.ops b → IsOver k.ops (difference_of k.ops a b)
   IsOver_difference_of {a = a} {b = b} a_in b_in =
-      IsOver_trim (add_lists (raw_ring k.ops) a (neg_list (raw_ring k.ops) b)) (IsOver_add k a (neg_list (raw_ring k.ops) b) a_in (IsOver_neg k b b_in))
+      IsOver_trim (add_lists (raw_ring k.ops) a (neg_list (raw_ring k.ops) b))
+      (IsOver_add k a (neg_list (raw_ring k.ops) b) a_in (IsOver_neg k b b_in))
 
   pub IsOver_multiple_of : {a : List ℕ} {c : ℕ} → IsOver k.ops a → c < k.size → IsOver k.ops (multiple_of k.ops a c)
-  IsOver_multiple_of {a = a} {c = c} a_in c_in = IsOver_trim (scale_list (raw_ring k.ops) c a) (IsOver_scale k c a c_in a_in)
+  IsOver_multiple_of {a = a} {c = c} a_in c_in = IsOver_trim (scale_list (raw_ring k.ops) c a)
+      (IsOver_scale k c a c_in a_in)
 
   pub IsOver_product_of : {a b : List ℕ} → IsOver k.ops a → IsOver k.ops b → IsOver k.ops (product_of k.ops a b)
-  IsOver_product_of {a = a} {b = b} a_in b_in = IsOver_trim (mul_lists (raw_ring k.ops) a b) (IsOver_mul k a b a_in b_in)
+  IsOver_product_of {a = a} {b = b} a_in b_in = IsOver_trim (mul_lists (raw_ring k.ops) a b)
+      (IsOver_mul k a b a_in b_in)

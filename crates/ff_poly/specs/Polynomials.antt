@@ -98,28 +98,36 @@ module _ (k : CodeField) where
   value_one = ap (λ c. pol_of (code_ring k) (c ∷ [])) read_one
 
   -- the coefficients of what a list stands for
-  pub series_read : (w : List ℕ) (n : ℕ) → coeff_of (code_ring k).ops (value k w).0 n ≡ coeff_of (code_ring k).ops (read k w) n
+  pub series_read : (w : List ℕ) (n : ℕ)
+      → coeff_of (code_ring k).ops (value k w).0 n ≡ coeff_of (code_ring k).ops (read k w) n
   series_read w n = coeff_trim (code_ring k) (read k w) n
 
-  times_x : (p : Polynomial k) (n : ℕ) → coeff_of (code_ring k).ops (polynomials.◌⊗◌ x_poly p).0 (suc n) ≡ coeff_of (code_ring k).ops p.0 n
+  times_x : (p : Polynomial k) (n : ℕ) → coeff_of (code_ring k).ops (polynomials.◌⊗◌ x_poly p).0 (suc n)
+      ≡ coeff_of (code_ring k).ops p.0 n
   times_x p n =
       series_mul (code_ring k) x_poly p (suc n)
       ∙ ap₂ (code_ring k).◌⊕◌
-      (ap (λ c. (code_ring k).◌⊗◌ c (coeff_of (code_ring k).ops p.0 (suc n))) (series_read (0 ∷ 1 ∷ []) 0 ∙ read_zero) ∙ zero_mul (code_ring k).ring _)
-      (convolution_constant_left (code_ring k).ring _ (coeff_of (code_ring k).ops p.0) (λ i. series_read (0 ∷ 1 ∷ []) (suc (suc i))) n
-      ∙ ap (λ c. (code_ring k).◌⊗◌ c (coeff_of (code_ring k).ops p.0 n)) (series_read (0 ∷ 1 ∷ []) 1 ∙ read_one) ∙ one_mul (code_ring k).ring _)
+      (ap (λ c. (code_ring k).◌⊗◌ c (coeff_of (code_ring k).ops p.0 (suc n))) (series_read (0 ∷ 1 ∷ []) 0 ∙ read_zero)
+      ∙ zero_mul (code_ring k).ring _)
+      (convolution_constant_left (code_ring k).ring _ (coeff_of (code_ring k).ops p.0)
+      (λ i. series_read (0 ∷ 1 ∷ []) (suc (suc i))) n
+      ∙ ap (λ c. (code_ring k).◌⊗◌ c (coeff_of (code_ring k).ops p.0 n)) (series_read (0 ∷ 1 ∷ []) 1 ∙ read_one)
+      ∙ one_mul (code_ring k).ring _)
       ∙ zero_add (code_ring k).ring _
 
   times_x_low : (p : Polynomial k) → coeff_of (code_ring k).ops (polynomials.◌⊗◌ x_poly p).0 zero ≡ (code_ring k).𝟘
   times_x_low p =
       series_mul (code_ring k) x_poly p zero
-      ∙ ap (λ c. (code_ring k).◌⊗◌ c (coeff_of (code_ring k).ops p.0 zero)) (series_read (0 ∷ 1 ∷ []) 0 ∙ read_zero) ∙ zero_mul (code_ring k).ring _
+      ∙ ap (λ c. (code_ring k).◌⊗◌ c (coeff_of (code_ring k).ops p.0 zero)) (series_read (0 ∷ 1 ∷ []) 0 ∙ read_zero)
+      ∙ zero_mul (code_ring k).ring _
 
   -- a list is its first code, and x times the rest
-  pub value_cons : (c : ℕ) (w : List ℕ) → value k (c ∷ w) ≡ polynomials.◌⊕◌ (constant_poly c) (polynomials.◌⊗◌ x_poly (value k w))
+  pub value_cons : (c : ℕ) (w : List ℕ) → value k (c ∷ w)
+      ≡ polynomials.◌⊕◌ (constant_poly c) (polynomials.◌⊗◌ x_poly (value k w))
   value_cons c w = same_pol (code_ring k) _ _ go
     where
-      go : (n : ℕ) → coeff_of (code_ring k).ops (value k (c ∷ w)).0 n ≡ coeff_of (code_ring k).ops (polynomials.◌⊕◌ (constant_poly c) (polynomials.◌⊗◌ x_poly (value k w))).0 n
+      go : (n : ℕ) → coeff_of (code_ring k).ops (value k (c ∷ w)).0 n
+          ≡ coeff_of (code_ring k).ops (polynomials.◌⊕◌ (constant_poly c) (polynomials.◌⊗◌ x_poly (value k w))).0 n
       go zero =
           series_read (c ∷ w) zero ∙ sym ((code_ring k).add_zero _)
           ∙ ap₂ (code_ring k).◌⊕◌ (sym (series_read (c ∷ []) zero)) (sym (times_x_low (value k w)))
@@ -145,17 +153,20 @@ module _ (k : CodeField) where
   value_first c w c_in some e =
       some
       (sym (read_code_below k c c_in)
-      ∙ ap (λ x. x.0) (sym (series_read (c ∷ w) zero) ∙ ap (λ p. coeff_of (code_ring k).ops p.0 zero) e ∙ ap (λ p. coeff_of (code_ring k).ops p.0 zero) (sym value_nil)))
+      ∙ ap (λ x. x.0) (sym (series_read (c ∷ w) zero) ∙ ap (λ p. coeff_of (code_ring k).ops p.0 zero) e
+      ∙ ap (λ p. coeff_of (code_ring k).ops p.0 zero) (sym value_nil)))
 
   pub x_poly_not_zero : ¬ (x_poly ≡ polynomials.𝟘)
   x_poly_not_zero =
-      value_not_zero (0 ∷ 1 ∷ []) (IsOver_cons (zero_in k) (IsOver_cons k.laws.one_below IsOver_nil)) (record { trimmed = refl }) (λ e. cc)
+      value_not_zero (0 ∷ 1 ∷ []) (IsOver_cons (zero_in k) (IsOver_cons k.laws.one_below IsOver_nil))
+      (record { trimmed = refl }) (λ e. cc)
 
   -- the codes of sums, products and negatives
   pub codes_of_sum : (p q : Polynomial k) → codes_of (polynomials.◌⊕◌ p q) ≡ sum_of k.ops (codes_of p) (codes_of q)
   unfolding pol_ops
   codes_of_sum p q = numbers_trim k (add_lists (code_ring k).ops p.0 q.0) ∙ ap poly_of (numbers_add k p.0 q.0)
 
-  pub codes_of_product : (p q : Polynomial k) → codes_of (polynomials.◌⊗◌ p q) ≡ product_of k.ops (codes_of p) (codes_of q)
+  pub codes_of_product : (p q : Polynomial k)
+      → codes_of (polynomials.◌⊗◌ p q) ≡ product_of k.ops (codes_of p) (codes_of q)
   unfolding pol_ops
   codes_of_product p q = numbers_trim k (mul_lists (code_ring k).ops p.0 q.0) ∙ ap poly_of (numbers_mul k p.0 q.0)

@@ -1,4 +1,5 @@
--- Rows of polynomials over a field, as lists of lists of codes: pivots, weak Popov and Popov form, and what rows span over
+-- Rows of polynomials over a field, as lists of lists of codes: pivots, weak Popov and Popov form, and what rows span
+-- over
 -- k[x] (Kailath, Linear Systems; Mulders and Storjohann, On lattice reduction for polynomial matrices).
 use Rattle.std.specs.Prelude.{◌≡◌, ◌≢◌, ℕ, suc, ◌<◌, ◌≤◌, ◌+◌, ◌-◌, ◌*◌, List, [], ◌∷◌, length, get_or, map, max, replicate, sum_by, All}
 use Rattle.std.specs.Global.{Vec}
@@ -41,13 +42,15 @@ pub record IsPivot (row : List (List ℕ)) (j : ℕ) : Type 0 where
 pub record IsWeakPopov (rows : List (List (List ℕ))) : Type 0 where
   pub apart : (i j column : ℕ) → IsPivot (row_at rows i) column → IsPivot (row_at rows j) column → i ≡ j
 
--- Popov form of full rank: row i has its pivot in column i, the pivot is monic, and every other entry of the column has a
+-- Popov form of full rank: row i has its pivot in column i, the pivot is monic, and every other entry of the column has
+-- a
 -- smaller degree
 pub record IsPopov (width : ℕ) (rows : List (List (List ℕ))) : Type 0 where
   pub size : length rows ≡ width
   pub pivot_at : (i : ℕ) → i < width → IsPivot (row_at rows i) i
   pub monic : (i : ℕ) → i < width → IsMonic (entry_at (row_at rows i) i)
-  pub smaller : (i j : ℕ) → i < width → j < width → i ≢ j → length (entry_at (row_at rows i) j) < length (entry_at (row_at rows j) j)
+  pub smaller : (i j : ℕ) → i < width → j < width → i ≢ j
+      → length (entry_at (row_at rows i) j) < length (entry_at (row_at rows j) j)
   pub trimmed : (i j : ℕ) → IsPoly (entry_at (row_at rows i) j)
 
 -- the sum of the degrees of the pivots, those of the columns from i on
@@ -84,7 +87,8 @@ combination k width (c ∷ cs) [] = replicate width []
 combination k width (c ∷ cs) (row ∷ rows) = sum_of_rows k (multiple_of_row k c row) (combination k width cs rows)
 
 -- v is the combination of the rows with these coefficients
-pub record IsCombinationList (k : FieldOps) (width : ℕ) (rows : List (List (List ℕ))) (v : List (List ℕ)) (coefficients : List (List ℕ)) : Type 0 where
+pub record IsCombinationList (k : FieldOps) (width : ℕ) (rows : List (List (List ℕ))) (v : List (List ℕ))
+    (coefficients : List (List ℕ)) : Type 0 where
   pub size : length coefficients ≡ length rows
   pub over : All (IsOver k) coefficients
   pub is : v ≡ combination k width coefficients rows

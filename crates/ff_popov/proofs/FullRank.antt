@@ -27,7 +27,8 @@ use Rattle.ff_popov.proofs.Spans.{to_space, space_multiple, member_row, combinat
 use Rattle.ff_popov.proofs.Transformations.{row_past as codes_past}
 
 -- full rank is a matter of the lattice
-pub full_rank_same : (k : CodeField) (w : ℕ) (rows rows' : List (List (List ℕ))) → HaveSameSpan k.ops w rows rows' → HasFullRank k.ops w rows → HasFullRank k.ops w rows'
+pub full_rank_same : (k : CodeField) (w : ℕ) (rows rows' : List (List (List ℕ))) → HaveSameSpan k.ops w rows rows'
+    → HasFullRank k.ops w rows → HasFullRank k.ops w rows'
 full_rank_same k w rows rows' h full = record {
   multiple = λ v v_row.
       let m = full.multiple v v_row in
@@ -54,7 +55,8 @@ module _ (k : CodeField) where
   codes_row_over : (n : ℕ) (v : Row (Pol (code_ring k)) n) → All (IsOver k.ops) (codes_row n v)
   unfolding codes_row
   codes_row_over zero v = All-nil (IsOver k.ops)
-  codes_row_over (suc n) (p, v) = All-cons (IsOver k.ops) (codes_of k p) (codes_row n v) (IsOver_codes_of k p) (codes_row_over n v)
+  codes_row_over (suc n) (p, v) = All-cons (IsOver k.ops) (codes_of k p) (codes_row n v) (IsOver_codes_of k p)
+      (codes_row_over n v)
 
   read_codes_row : (n : ℕ) (v : Row (Pol (code_ring k)) n) → read_row k n (codes_row n v) ≡ v
   unfolding codes_row
@@ -77,7 +79,8 @@ module _ (k : CodeField) where
           some = value_not_zero k m.factor m.factor_in m.factor_poly m.factor_some;
           in_span =
               subst (spans.InSpan M rs)
-              (space_multiple k w m.factor u m.factor_in u_row.over ∙ ap (M.◌·◌ (value k m.factor)) (read_codes_row (suc (w - 1)) v))
+              (space_multiple k w m.factor u m.factor_in u_row.over
+              ∙ ap (M.◌·◌ (value k m.factor)) (read_codes_row (suc (w - 1)) v))
               (to_space k w rows all (multiple_of_row k.ops m.factor u) m.in_span);
         }
           where
@@ -85,7 +88,11 @@ module _ (k : CodeField) where
             u = codes_row (suc (w - 1)) v
 
             u_row : IsRow k.ops w (codes_row (suc (w - 1)) v)
-            u_row = record { size = omega (arith, codes_row_length (suc (w - 1)) v, positive); over = codes_row_over (suc (w - 1)) v }
+            u_row = record {
+              size = omega (arith, codes_row_length (suc (w - 1)) v, positive);
+              over = codes_row_over
+                  (suc (w - 1)) v;
+            }
 
             m : HasMultipleIn k.ops w rows (codes_row (suc (w - 1)) v)
             m = full.multiple (codes_row (suc (w - 1)) v) u_row
@@ -111,7 +118,8 @@ module _ (k : CodeField) where
       pivot_of : (m : ℕ) → ¬ (measure M (get_or rs m M.𝟎) ≡ 0) → IsPivot (row_at rows m) (pivot M (get_or rs m M.𝟎))
       pivot_of m some = go (zero_or_pivot_of (row_at rows m))
         where
-          go : IsZeroRow (row_at rows m) ⊎ ((p : ℕ) × IsPivot (row_at rows m) p) → IsPivot (row_at rows m) (pivot M (get_or rs m M.𝟎))
+          go : IsZeroRow (row_at rows m) ⊎ ((p : ℕ) × IsPivot (row_at rows m) p)
+              → IsPivot (row_at rows m) (pivot M (get_or rs m M.𝟎))
           go (inl null) = absurd (some (ap (measure M) (read_row_at k w rows m) ∙ zero_read k w (row_at rows m) null))
           go (inr (p, at)) = subst (IsPivot (row_at rows m)) (sym (pivot_read m p at)) at
 
@@ -130,7 +138,8 @@ module _ (k : CodeField) where
           in_width = omega (arith, less, space_width k w)
 
           at : IsPivot (row_at rows (full.owner j)) j
-          at = subst (IsPivot (row_at rows (full.owner j))) (full.owner_pivot j in_width) (pivot_of (full.owner j) (full.owner_some j in_width))
+          at = subst (IsPivot (row_at rows (full.owner j))) (full.owner_pivot j in_width)
+              (pivot_of (full.owner j) (full.owner_some j in_width))
 
       -- a column without a pivot keeps the rank below the width
       pub rank_below : ¬ HasFullRank k.ops w rows
@@ -145,7 +154,10 @@ module _ (k : CodeField) (w : ℕ) (rows : List (List (List ℕ))) (all : All (I
   no_rows positive none = rank_below k w positive rows all weak 0 positive missing
     where
       weak : IsWeakPopov rows
-      weak = record { apart = λ i j column p q. absurd (omega (arith, pivot_below (row_at rows i) column p, ap length (codes_past rows i (omega (arith, none))))) }
+      weak = record {
+        apart = λ i j column p q. absurd
+            (omega (arith, pivot_below (row_at rows i) column p, ap length (codes_past rows i (omega (arith, none)))));
+      }
 
       missing : IsMissing rows 0
       missing = record {
@@ -170,7 +182,8 @@ module _ (k : CodeField) (w : ℕ) (rows : List (List (List ℕ))) (all : All (I
         is = record {
           size = refl;
           over = All-nil (IsOver k.ops);
-          is = empty_same v (replicate w []) (omega (arith, (member_row k w rows all v v_in).size, none)) (omega (arith, zeros_size [], none));
+          is = empty_same v (replicate w []) (omega (arith, (member_row k w rows all v v_in).size, none))
+              (omega (arith, zeros_size [], none));
         };
       };
       right = λ v v_in. record {
@@ -194,10 +207,15 @@ module _ (k : CodeField) (w : ℕ) (rows : List (List (List ℕ))) (all : All (I
       zeros = All-replicate (IsOver k.ops) (length rows) [] IsOver_nil
 
   -- the Popov basis of the reduced rows is that of the rows, and they have no basis together
-  pub found_of : {B : Type 0} → 0 < w → (reduced : List (List (List ℕ))) → HaveSameSpan k.ops w rows reduced → All (IsRow k.ops w) reduced → IsWeakPopov reduced → (found : Option B) (of : B → List (List (List ℕ)))
-      → MatchOption found ((j : ℕ) × (j < w) × IsMissing reduced j) (λ basis. IsPopov w (of basis) × All (IsRow k.ops w) (of basis) × HaveSameSpan k.ops w reduced (of basis))
-      → MatchOption found (¬ HasFullRank k.ops w rows) (λ basis. IsPopov w (of basis) × All (IsRow k.ops w) (of basis) × HaveSameSpan k.ops w rows (of basis))
-  found_of positive reduced same reduced_in weak None of (j, less, missing) = λ rank. rank_below k w positive reduced reduced_in weak j less missing (full_rank_same k w rows reduced same rank)
+  pub found_of : {B : Type 0} → 0 < w → (reduced : List (List (List ℕ))) → HaveSameSpan k.ops w rows reduced
+      → All (IsRow k.ops w) reduced → IsWeakPopov reduced → (found : Option B) (of : B → List (List (List ℕ)))
+      → MatchOption found ((j : ℕ) × (j < w) × IsMissing reduced j)
+      (λ basis. IsPopov w (of basis) × All (IsRow k.ops w) (of basis) × HaveSameSpan k.ops w reduced (of basis))
+      → MatchOption found (¬ HasFullRank k.ops w rows)
+      (λ basis. IsPopov w (of basis) × All (IsRow k.ops w) (of basis) × HaveSameSpan k.ops w rows (of basis))
+  found_of positive reduced same reduced_in weak None of (j, less, missing) = λ rank. rank_below k w positive reduced
+      reduced_in weak j less missing
+      (full_rank_same k w rows reduced same rank)
   found_of positive reduced same reduced_in weak (Some basis) of (popov, basis_in, span) = (
     popov,
     basis_in,

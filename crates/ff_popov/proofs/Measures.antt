@@ -26,21 +26,40 @@ use Rattle.ff_popov.proofs.ReadRows.{entry_read}
 use native.Mathlib.Decide.{ℕ_discrete}
 
 -- a row is zero or has a pivot
-pub zero_or_pivot : (row : List (List ℕ)) → ((j : ℕ) → IsPoly (entry_at row j)) → IsZeroRow row ⊎ ((j : ℕ) × IsPivot row j)
+pub zero_or_pivot : (row : List (List ℕ)) → ((j : ℕ) → IsPoly (entry_at row j))
+    → IsZeroRow row ⊎ ((j : ℕ) × IsPivot row j)
 zero_or_pivot row trimmed = go (search_pivot (length row))
   where
-    search_more : (n : ℕ) → (column : ℕ) × ((longest : ℕ) × PivotSoFar row n column longest) → (column : ℕ) × ((longest : ℕ) × PivotSoFar row (n + 1) column longest)
+    search_more : (n : ℕ) → (column : ℕ) × ((longest : ℕ) × PivotSoFar row n column longest)
+        → (column : ℕ) × ((longest : ℕ) × PivotSoFar row (n + 1) column longest)
     search_more n (column, (longest, so_far)) = at (cases_lt (length (entry_at row n)) longest)
       where
-        at : (length (entry_at row n) < longest) ⊎ (longest ≤ length (entry_at row n)) → (column : ℕ) × ((longest : ℕ) × PivotSoFar row (n + 1) column longest)
-        at (inl shorter) = (column, (longest, so_far_skip row n column longest (length (entry_at row n)) so_far refl shorter (trimmed n)))
-        at (inr le) = (n, (length (entry_at row n), so_far_more row n column longest (length (entry_at row n)) so_far refl le (trimmed n)))
+        at : (length (entry_at row n) < longest) ⊎ (longest ≤ length (entry_at row n))
+            → (column : ℕ) × ((longest : ℕ) × PivotSoFar row (n + 1) column longest)
+        at (inl shorter) = (
+          column,
+          (
+            longest,
+            so_far_skip row n column longest (length (entry_at row n)) so_far refl
+                shorter (trimmed n),
+          ),
+        )
+        at (inr le) = (
+          n,
+          (
+            length (entry_at row n),
+            so_far_more row n column longest (length (entry_at row n)) so_far
+                refl le (trimmed n),
+          ),
+        )
 
     search_pivot : (n : ℕ) → (column : ℕ) × ((longest : ℕ) × PivotSoFar row n column longest)
     search_pivot zero = (0, (0, so_far_none row))
-    search_pivot (suc n) = subst (λ m. (column : ℕ) × ((longest : ℕ) × PivotSoFar row m column longest)) (omega arith) (search_more n (search_pivot n))
+    search_pivot (suc n) = subst (λ m. (column : ℕ) × ((longest : ℕ) × PivotSoFar row m column longest)) (omega arith)
+        (search_more n (search_pivot n))
 
-    go : (column : ℕ) × ((longest : ℕ) × PivotSoFar row (length row) column longest) → IsZeroRow row ⊎ ((j : ℕ) × IsPivot row j)
+    go : (column : ℕ) × ((longest : ℕ) × PivotSoFar row (length row) column longest)
+        → IsZeroRow row ⊎ ((j : ℕ) × IsPivot row j)
     go (column, (longest, so_far)) = at (ℕ_discrete longest 0)
       where
         at : Dec (longest ≡ 0) → IsZeroRow row ⊎ ((j : ℕ) × IsPivot row j)
@@ -51,13 +70,15 @@ module _ (k : CodeField) where
   pub value_short : (a : List ℕ) → length (value k a).0 ≤ length a
   value_short a = omega (arith, trim_length (code_ring k).is_zero (read k a), length-map a (read_code k))
 
-  value_top : (a : List ℕ) → IsOver k.ops a → IsPoly a → 0 < length a → coeff_of (code_ring k).ops (value k a).0 (length a - 1) ≢ (code_ring k).𝟘
+  value_top : (a : List ℕ) → IsOver k.ops a → IsPoly a → 0 < length a
+      → coeff_of (code_ring k).ops (value k a).0 (length a - 1) ≢ (code_ring k).𝟘
   value_top a a_in a_poly some = go (value k a).0 refl (value k a).1
     where
       size : length (value k a).0 ≡ length a
       size = sym (length-map (value k a).0 (λ x. x.0)) ∙ ap length (numbers_value k a a_in a_poly)
 
-      go : (xs : List (Code k)) → (value k a).0 ≡ xs → IsTrimmed (code_ring k).is_zero (value k a).0 → coeff_of (code_ring k).ops (value k a).0 (length a - 1) ≢ (code_ring k).𝟘
+      go : (xs : List (Code k)) → (value k a).0 ≡ xs → IsTrimmed (code_ring k).is_zero (value k a).0
+          → coeff_of (code_ring k).ops (value k a).0 (length a - 1) ≢ (code_ring k).𝟘
       go [] e t = absurd (omega (arith, ap length e, size, some))
       go (x ∷ xs) e t =
           subst (λ ys. coeff_of (code_ring k).ops ys (length a - 1) ≢ (code_ring k).𝟘) (sym e)
@@ -74,17 +95,23 @@ module _ (k : CodeField) where
     pub space_width : M.width ≡ suc (w - 1)
     space_width = row_width (code_ring k) (w - 1)
 
-    pub coef_read : (v : List (List ℕ)) (s j : ℕ) → j < M.width → M.coef (R v) (s * M.width + j) ≡ coeff_of (code_ring k).ops (value k (entry_at v j)).0 s
+    pub coef_read : (v : List (List ℕ)) (s j : ℕ) → j < M.width
+        → M.coef (R v) (s * M.width + j) ≡ coeff_of (code_ring k).ops (value k (entry_at v j)).0 s
     coef_read v s j less =
         let in_row : j < suc (w - 1) = omega (arith, less, space_width) in
-        row_entry (code_ring k) (w - 1) (R v) s j in_row ∙ ap (λ p. coeff_of (code_ring k).ops p.0 s) (entry_read k (suc (w - 1)) j v in_row)
+        row_entry (code_ring k) (w - 1) (R v) s j in_row
+        ∙ ap (λ p. coeff_of (code_ring k).ops p.0 s) (entry_read k (suc (w - 1)) j v in_row)
 
-    pub coef_short : (v : List (List ℕ)) (s j : ℕ) → j < M.width → length (entry_at v j) ≤ s → M.coef (R v) (s * M.width + j) ≡ (code_ring k).𝟘
-    coef_short v s j less short = coef_read v s j less ∙ coeff_past (code_ring k) (value k (entry_at v j)).0 s (omega (arith, value_short (entry_at v j), short))
+    pub coef_short : (v : List (List ℕ)) (s j : ℕ) → j < M.width → length (entry_at v j) ≤ s
+        → M.coef (R v) (s * M.width + j) ≡ (code_ring k).𝟘
+    coef_short v s j less short = coef_read v s j less
+        ∙ coeff_past (code_ring k) (value k (entry_at v j)).0 s (omega (arith, value_short (entry_at v j), short))
 
     -- the measure, the degree and the pivot of a row with a pivot
-    pub measured : (v : List (List ℕ)) (j : ℕ) → length v ≡ w → IsPivot v j → IsOver k.ops (entry_at v j) → IsPoly (entry_at v j)
-        → (measure M (R v) ≡ suc ((length (entry_at v j) - 1) * M.width + j)) × (row_degree M (R v) ≡ length (entry_at v j) - 1) × (pivot M (R v) ≡ j)
+    pub measured : (v : List (List ℕ)) (j : ℕ) → length v ≡ w → IsPivot v j → IsOver k.ops (entry_at v j)
+        → IsPoly (entry_at v j)
+        → (measure M (R v) ≡ suc ((length (entry_at v j) - 1) * M.width + j))
+        × (row_degree M (R v) ≡ length (entry_at v j) - 1) × (pivot M (R v) ≡ j)
     measured v j size p over trimmed =
         let in_row : j < M.width = omega (arith, pivot_below v j p, size, space_width) in
         pivot_is M (R v) (length (entry_at v j) - 1) j in_row
@@ -100,4 +127,5 @@ module _ (k : CodeField) where
         is =
             same_entries (code_ring k) (suc (w - 1)) (R v) M.𝟎 (λ j less.
             entry_read k (suc (w - 1)) j v less ∙ ap (value k) (null.zero_at j) ∙ value_nil k
-            ∙ sym (ap (entry (pol_ring (code_ring k)).ops (suc (w - 1)) j) (row_module_zero (code_ring k) (w - 1)) ∙ entry_zero (code_ring k) (suc (w - 1)) j))
+            ∙ sym (ap (entry (pol_ring (code_ring k)).ops (suc (w - 1)) j) (row_module_zero (code_ring k) (w - 1))
+            ∙ entry_zero (code_ring k) (suc (w - 1)) j))

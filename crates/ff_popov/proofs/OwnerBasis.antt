@@ -51,18 +51,24 @@ zero_or_pivot_of (a ∷ row) = go (zero_or_pivot_of row)
     go (inl null) = at_zero (length a) (omega arith) null
     go (inr (j, p)) = at (cases_lt (length (entry_at row j)) (length a))
       where
-        at : (length (entry_at row j) < length a) ⊎ (length a ≤ length (entry_at row j)) → IsZeroRow (a ∷ row) ⊎ ((i : ℕ) × IsPivot (a ∷ row) i)
+        at : (length (entry_at row j) < length a) ⊎ (length a ≤ length (entry_at row j))
+            → IsZeroRow (a ∷ row) ⊎ ((i : ℕ) × IsPivot (a ∷ row) i)
         at (inl less) = inr (0, first (omega (arith, less)) (λ i. omega (arith, p.greatest i, less)))
         at (inr le) = inr (
           suc j,
           record {
             some = p.some;
             greatest = elim [ zero ↦ le | suc i ↦ p.greatest i ];
-            rightmost = elim [ zero ↦ λ after. absurd (omega (arith, after)) | suc i ↦ λ after. p.rightmost i (omega (arith, after)) ];
+            rightmost = elim [
+              | zero ↦ λ after. absurd (omega (arith, after))
+              | suc i ↦ λ after. p.rightmost i
+                  (omega (arith, after))
+            ];
           },
         )
 
-module _ (k : CodeField) (w : ℕ) (rows : List (List (List ℕ))) (os : List ℕ) (all : All (IsRow k.ops w) rows) (weak : IsWeakPopov rows) (owners : IsOwners w rows os) where
+module _ (k : CodeField) (w : ℕ) (rows : List (List (List ℕ))) (os : List ℕ) (all : All (IsRow k.ops w) rows)
+    (weak : IsWeakPopov rows) (owners : IsOwners w rows os) where
   abbrev M : PolynomialModule (code_ring k) (Row (Pol (code_ring k)) (suc (w - 1)))
   M = row_space k w
 
@@ -87,11 +93,14 @@ module _ (k : CodeField) (w : ℕ) (rows : List (List (List ℕ))) (os : List �
   owner_is_row j less = all (O j) [] (position_below (O j) j (owners.owner_at j less).pivot)
 
   pub owner_measured : (j : ℕ) → j < w
-      → (measure M (get_or rs (O j) M.𝟎) ≡ suc ((owner_length rows os j - 1) * M.width + j)) × (row_degree M (get_or rs (O j) M.𝟎) ≡ owner_length rows os j - 1) × (pivot M (get_or rs (O j) M.𝟎) ≡ j)
+      → (measure M (get_or rs (O j) M.𝟎) ≡ suc ((owner_length rows os j - 1) * M.width + j))
+      × (row_degree M (get_or rs (O j) M.𝟎) ≡ owner_length rows os j - 1) × (pivot M (get_or rs (O j) M.𝟎) ≡ j)
   owner_measured j less =
-      subst (λ r. (measure M r ≡ suc ((owner_length rows os j - 1) * M.width + j)) × (row_degree M r ≡ owner_length rows os j - 1) × (pivot M r ≡ j))
+      subst (λ r. (measure M r ≡ suc ((owner_length rows os j - 1) * M.width + j))
+      × (row_degree M r ≡ owner_length rows os j - 1) × (pivot M r ≡ j))
       (sym (read_row_at k w rows (O j)))
-      (measured k w (row_at rows (O j)) j row.size o.pivot (over_at k (row_at rows (O j)) row.over j) (o.trimmed j [] (omega (arith, less, row.size))))
+      (measured k w (row_at rows (O j)) j row.size o.pivot (over_at k (row_at rows (O j)) row.over j)
+      (o.trimmed j [] (omega (arith, less, row.size))))
     where
       o : IsOwner rows j (O j)
       o = owners.owner_at j less
@@ -124,18 +133,21 @@ module _ (k : CodeField) (w : ℕ) (rows : List (List (List ℕ))) (os : List �
   pub owners_full : 0 < w → theory.IsFull M rs
   owners_full positive = record {
     owner = O;
-    owner_some = λ j less z. absurd (omega (arith, z, (owner_measured j (omega (arith, less, space_width k w, positive))).0));
+    owner_some = λ j less z. absurd (omega
+        (arith, z, (owner_measured j (omega (arith, less, space_width k w, positive))).0));
     owner_pivot = λ j less. (owner_measured j (omega (arith, less, space_width k w, positive))).2;
   }
 
   -- the pivot of a member of the lattice is no shorter than that of the row of its column
-  pub owner_shortest : (z : List (List ℕ)) (j : ℕ) → IsRow k.ops w z → All IsPoly z → IsPivot z j → InSpan M rs (R z) → owner_length rows os j ≤ length (entry_at z j)
+  pub owner_shortest : (z : List (List ℕ)) (j : ℕ) → IsRow k.ops w z → All IsPoly z → IsPivot z j → InSpan M rs (R z)
+      → owner_length rows os j ≤ length (entry_at z j)
   owner_shortest z j z_row z_poly p z_in = go (cases_lt (length (entry_at z j)) (owner_length rows os j))
     where
       in_row : j < length z
       in_row = pivot_below z j p
 
-      at : (measure M (R z) ≡ suc ((length (entry_at z j) - 1) * M.width + j)) × (row_degree M (R z) ≡ length (entry_at z j) - 1) × (pivot M (R z) ≡ j)
+      at : (measure M (R z) ≡ suc ((length (entry_at z j) - 1) * M.width + j))
+          × (row_degree M (R z) ≡ length (entry_at z j) - 1) × (pivot M (R z) ≡ j)
       at = measured k w z j z_row.size p (over_at k z z_row.over j) (z_poly j [] in_row)
 
       lead : Leading M rs (measure M (R z))
@@ -151,12 +163,14 @@ module _ (k : CodeField) (w : ℕ) (rows : List (List (List ℕ))) (os : List �
           ∙ owned_pivot lead.index of.0 of.1 of.2
 
       is : measure M (R z) ≡ lead.times * M.width + measure M (get_or rs (O j) M.𝟎)
-      is = subst (λ m. measure M (R z) ≡ lead.times * M.width + measure M (get_or rs m M.𝟎)) (of.2 ∙ ap O (sym same)) lead.is
+      is = subst (λ m. measure M (R z) ≡ lead.times * M.width + measure M (get_or rs m M.𝟎)) (of.2 ∙ ap O (sym same))
+          lead.is
 
       less : j < w
       less = omega (arith, in_row, z_row.size)
 
-      go : (length (entry_at z j) < owner_length rows os j) ⊎ (owner_length rows os j ≤ length (entry_at z j)) → owner_length rows os j ≤ length (entry_at z j)
+      go : (length (entry_at z j) < owner_length rows os j) ⊎ (owner_length rows os j ≤ length (entry_at z j))
+          → owner_length rows os j ≤ length (entry_at z j)
       go (inr le) = le
       go (inl shorter) =
           absurd (omega (
@@ -164,12 +178,14 @@ module _ (k : CodeField) (w : ℕ) (rows : List (List (List ℕ))) (os : List �
             is,
             at.0,
             (owner_measured j less).0,
-            times_le (length (entry_at z j) - 1 + 1) (owner_length rows os j - 1) M.width (omega (arith, shorter, p.some)),
+            times_le (length (entry_at z j) - 1 + 1) (owner_length rows os j - 1) M.width
+                (omega (arith, shorter, p.some)),
             add-mul (length (entry_at z j) - 1) 1 M.width,
             M.positive,
           ))
 
-  module _ (positive : 0 < w) (ps : List (List (List ℕ))) (size : length ps ≡ w) (each : (i : ℕ) → i < w → IsPopovRow k w rows os i (row_at ps i)) where
+  module _ (positive : 0 < w) (ps : List (List (List ℕ))) (size : length ps ≡ w)
+      (each : (i : ℕ) → i < w → IsPopovRow k w rows os i (row_at ps i)) where
     abbrev qs : List (Row (Pol (code_ring k)) (suc (w - 1)))
     qs = read_rows k w ps
 
@@ -204,13 +220,15 @@ module _ (k : CodeField) (w : ℕ) (rows : List (List (List ℕ))) (os : List �
       size = size;
       pivot_at = popov_pivot;
       monic = λ i less. (each i less).monic;
-      smaller = λ i j less less' differ. omega (arith, (each i less).smaller j less' (λ e. differ (sym e)), (each j less').size);
+      smaller = λ i j less less' differ. omega
+          (arith, (each i less).smaller j less' (λ e. differ (sym e)), (each j less').size);
       trimmed = λ i j. trimmed i j (cases_lt i w);
     }
       where
         trimmed : (i j : ℕ) → (i < w) ⊎ (w ≤ i) → IsPoly (entry_at (row_at ps i) j)
         trimmed i j (inl less) = trimmed_at (row_at ps i) (each i less).trimmed j
-        trimmed i j (inr more) = subst (λ r. IsPoly (entry_at r j)) (sym (codes_past ps i (omega (arith, more, size)))) (record { trimmed = tt })
+        trimmed i j (inr more) = subst (λ r. IsPoly (entry_at r j)) (sym (codes_past ps i (omega (arith, more, size))))
+            (record { trimmed = tt })
 
     pub rows_in : All (IsRow k.ops w) ps
     rows_in i d less = subst (IsRow k.ops w) (any_default ps i [] d less) (each i (omega (arith, less, size))).over
@@ -218,7 +236,8 @@ module _ (k : CodeField) (w : ℕ) (rows : List (List (List ℕ))) (os : List �
     qs_measured : (j : ℕ) → j < w → measure M (get_or qs j M.𝟎) ≡ suc ((owner_length rows os j - 1) * M.width + j)
     qs_measured j less =
         ap (measure M) (read_row_at k w ps j)
-        ∙ (measured k w (row_at ps j) j h.over.size (popov_pivot j less) (over_at k (row_at ps j) h.over.over j) (trimmed_at (row_at ps j) h.trimmed j)).0
+        ∙ (measured k w (row_at ps j) j h.over.size (popov_pivot j less) (over_at k (row_at ps j) h.over.over j)
+        (trimmed_at (row_at ps j) h.trimmed j)).0
         ∙ ap (λ n. suc ((n - 1) * M.width + j)) h.size
       where
         h : IsPopovRow k w rows os j (row_at ps j)
@@ -229,7 +248,8 @@ module _ (k : CodeField) (w : ℕ) (rows : List (List (List ℕ))) (os : List �
       where
         member : (i : ℕ) → (i < w) ⊎ (w ≤ i) → InSpan M rs (get_or qs i M.𝟎)
         member i (inl less) = subst (InSpan M rs) (sym (read_row_at k w ps i)) (each i less).in_span
-        member i (inr more) = subst (InSpan M rs) (sym (row_past M qs i (omega (arith, more, size, length-map ps R)))) (span_zero M rs)
+        member i (inr more) = subst (InSpan M rs) (sym (row_past M qs i (omega (arith, more, size, length-map ps R))))
+            (span_zero M rs)
 
     leads : (e : ℕ) → Leading M rs (suc e) → Leading M qs (suc e)
     leads e l =
@@ -239,7 +259,8 @@ module _ (k : CodeField) (w : ℕ) (rows : List (List (List ℕ))) (os : List �
           below = omega (arith, a.1, size, length-map ps R);
           some = λ z. absurd (omega (arith, z, qs_measured a.0 a.1));
           times = l.times;
-          is = l.is ∙ ap (λ m. l.times * M.width + m) (ap (λ i. measure M (get_or rs i M.𝟎)) a.2 ∙ (owner_measured a.0 a.1).0 ∙ sym (qs_measured a.0 a.1));
+          is = l.is ∙ ap (λ m. l.times * M.width + m)
+              (ap (λ i. measure M (get_or rs i M.𝟎)) a.2 ∙ (owner_measured a.0 a.1).0 ∙ sym (qs_measured a.0 a.1));
         }
 
     -- the rows of the Popov basis span the lattice
@@ -247,5 +268,11 @@ module _ (k : CodeField) (w : ℕ) (rows : List (List (List ℕ))) (os : List �
     rows_span = record { left = within_from_leading M (code_field k) qs rs owners_weak within leads; right = within }
 
   -- the rows of the Popov basis are the Popov basis of the lattice
-  pub basis_is : (ps : List (List (List ℕ))) → 0 < w → IsPopovRows k w rows os w ps → IsPopov w ps × All (IsRow k.ops w) ps × codes.HaveSameSpan k.ops w rows ps
-  basis_is ps positive h = (rows_popov positive ps h.size h.each, rows_in positive ps h.size h.each, same_lattice k w rows ps all (rows_in positive ps h.size h.each) (rows_span positive ps h.size h.each))
+  pub basis_is : (ps : List (List (List ℕ))) → 0 < w → IsPopovRows k w rows os w ps
+      → IsPopov w ps × All (IsRow k.ops w) ps × codes.HaveSameSpan k.ops w rows ps
+  basis_is ps positive h = (
+    rows_popov positive ps h.size h.each,
+    rows_in positive ps h.size h.each,
+    same_lattice k w
+        rows ps all (rows_in positive ps h.size h.each) (rows_span positive ps h.size h.each),
+  )

@@ -23,14 +23,16 @@ so_far_none row = record {
   trimmed = λ i less. absurd (omega (arith, less));
 }
 
-trimmed_more : (row : List (List ℕ)) (n : ℕ) → ((i : ℕ) → i < n → IsPoly (entry_at row i)) → IsPoly (entry_at row n) → (i : ℕ) → i < n + 1 → IsPoly (entry_at row i)
+trimmed_more : (row : List (List ℕ)) (n : ℕ) → ((i : ℕ) → i < n → IsPoly (entry_at row i)) → IsPoly (entry_at row n)
+    → (i : ℕ) → i < n + 1 → IsPoly (entry_at row i)
 trimmed_more row n before here i less = go (cases_lt i n)
   where
     go : (i < n) ⊎ (n ≤ i) → IsPoly (entry_at row i)
     go (inl lower) = before i lower
     go (inr more) = subst (λ j. IsPoly (entry_at row j)) (omega (arith, less, more)) here
 
-pub so_far_more : (row : List (List ℕ)) (n column longest len : ℕ) → PivotSoFar row n column longest → len ≡ length (entry_at row n) → longest ≤ len → IsPoly (entry_at row n) → PivotSoFar row (n + 1) n len
+pub so_far_more : (row : List (List ℕ)) (n column longest len : ℕ) → PivotSoFar row n column longest
+    → len ≡ length (entry_at row n) → longest ≤ len → IsPoly (entry_at row n) → PivotSoFar row (n + 1) n len
 so_far_more row n column longest len so_far len_is le is_poly = record {
   upto = λ i less i_le. upto i less (cases_lt i n);
   after = λ i less past. absurd (omega (arith, less, past));
@@ -45,9 +47,11 @@ so_far_more row n column longest len so_far len_is le is_poly = record {
 
     upto : (i : ℕ) → i < n + 1 → (i < n) ⊎ (n ≤ i) → length (entry_at row i) ≤ len
     upto i less (inl lower) = before i lower (cases_lt column i)
-    upto i less (inr more) = let e : i ≡ n = omega (arith, less, more) in omega (arith, ap (λ j. length (entry_at row j)) e, len_is)
+    upto i less (inr more) = let e : i ≡ n = omega (arith, less, more) in omega
+        (arith, ap (λ j. length (entry_at row j)) e, len_is)
 
-pub so_far_skip : (row : List (List ℕ)) (n column longest len : ℕ) → PivotSoFar row n column longest → len ≡ length (entry_at row n) → len < longest → IsPoly (entry_at row n) → PivotSoFar row (n + 1) column longest
+pub so_far_skip : (row : List (List ℕ)) (n column longest len : ℕ) → PivotSoFar row n column longest
+    → len ≡ length (entry_at row n) → len < longest → IsPoly (entry_at row n) → PivotSoFar row (n + 1) column longest
 so_far_skip row n column longest len so_far len_is shorter is_poly = record {
   upto = λ i less i_le. upto i less i_le (cases_lt i n);
   after = λ i less past. after i less past (cases_lt i n);
@@ -79,23 +83,28 @@ past_end [] i le = refl
 past_end (a ∷ row) zero le = absurd (omega (arith, le))
 past_end (a ∷ row) (suc i) le = past_end row i (omega (arith, le))
 
-pub so_far_trimmed : (row : List (List ℕ)) (n column longest : ℕ) → PivotSoFar row n column longest → length row ≤ n → All IsPoly row
-so_far_trimmed row n column longest so_far le i d less = subst IsPoly (default row i d less) (so_far.trimmed i (omega (arith, le, less)))
+pub so_far_trimmed : (row : List (List ℕ)) (n column longest : ℕ) → PivotSoFar row n column longest → length row ≤ n
+    → All IsPoly row
+so_far_trimmed row n column longest so_far le i d less = subst IsPoly (default row i d less)
+    (so_far.trimmed i (omega (arith, le, less)))
   where
     default : (xs : List (List ℕ)) (i : ℕ) (d : List ℕ) → i < length xs → get_or xs i [] ≡ get_or xs i d
     default [] i d less = absurd (omega (arith, less))
     default (x ∷ xs) zero d less = refl
     default (x ∷ xs) (suc i) d less = default xs i d (omega (arith, less))
 
-pub so_far_zero : (row : List (List ℕ)) (n column longest : ℕ) → PivotSoFar row n column longest → length row ≤ n → longest ≡ 0 → IsZeroRow row
-so_far_zero row n column longest so_far le null = record { zero_at = λ j. nil_from_length (entry_at row j) (at j (cases_lt j n) (cases_lt column j)) }
+pub so_far_zero : (row : List (List ℕ)) (n column longest : ℕ) → PivotSoFar row n column longest → length row ≤ n
+    → longest ≡ 0 → IsZeroRow row
+so_far_zero row n column longest so_far le null = record
+    { zero_at = λ j. nil_from_length (entry_at row j) (at j (cases_lt j n) (cases_lt column j)) }
   where
     at : (j : ℕ) → (j < n) ⊎ (n ≤ j) → (column < j) ⊎ (j ≤ column) → length (entry_at row j) ≡ 0
     at j (inr more) side = past_end row j (omega (arith, le, more))
     at j (inl less) (inl past) = omega (arith, so_far.after j less past, null)
     at j (inl less) (inr j_le) = omega (arith, so_far.upto j less j_le, null)
 
-pub so_far_pivot : (row : List (List ℕ)) (n column longest : ℕ) → PivotSoFar row n column longest → length row ≤ n → longest ≢ 0 → IsPivot row column
+pub so_far_pivot : (row : List (List ℕ)) (n column longest : ℕ) → PivotSoFar row n column longest → length row ≤ n
+    → longest ≢ 0 → IsPivot row column
 so_far_pivot row n column longest so_far le some = record {
   some = omega (arith, at, some);
   greatest = λ i. greatest i (cases_lt i n) (cases_lt column i);
@@ -109,7 +118,8 @@ so_far_pivot row n column longest so_far le some = record {
     at : length (entry_at row column) ≡ longest
     at = so_far.at (some_at n refl)
 
-    greatest : (i : ℕ) → (i < n) ⊎ (n ≤ i) → (column < i) ⊎ (i ≤ column) → length (entry_at row i) ≤ length (entry_at row column)
+    greatest : (i : ℕ) → (i < n) ⊎ (n ≤ i) → (column < i) ⊎ (i ≤ column)
+        → length (entry_at row i) ≤ length (entry_at row column)
     greatest i (inr more) side = omega (arith, past_end row i (omega (arith, le, more)))
     greatest i (inl less) (inl past) = omega (arith, so_far.after i less past, at)
     greatest i (inl less) (inr i_le) = omega (arith, so_far.upto i less i_le, at)

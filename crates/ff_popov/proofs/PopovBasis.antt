@@ -23,7 +23,8 @@ use Rattle.ring_lemmas.specs.Lists.{coeff_of}
 use Rattle.ff_poly.specs.Value.{value}
 use Rattle.ff_poly.specs.Polynomials.{series_read}
 
-module _ (k : CodeField) (w : ℕ) (basis : List (List (List ℕ))) (all : All (IsRow k.ops w) basis) (popov : IsPopov w basis) where
+module _ (k : CodeField) (w : ℕ) (basis : List (List (List ℕ))) (all : All (IsRow k.ops w) basis)
+    (popov : IsPopov w basis) where
   abbrev M : PolynomialModule (code_ring k) (Row (Pol (code_ring k)) (suc (w - 1)))
   M = row_space k w
 
@@ -40,29 +41,41 @@ module _ (k : CodeField) (w : ℕ) (basis : List (List (List ℕ))) (all : All (
   basis_row i less = all i [] (omega (arith, less, popov.size))
 
   pub basis_measured : (i : ℕ) → i < w
-      → (measure M (get_or rs i M.𝟎) ≡ suc ((length (entry_at (row_at basis i) i) - 1) * M.width + i)) × (row_degree M (get_or rs i M.𝟎) ≡ length (entry_at (row_at basis i) i) - 1) × (pivot M (get_or rs i M.𝟎) ≡ i)
+      → (measure M (get_or rs i M.𝟎) ≡ suc ((length (entry_at (row_at basis i) i) - 1) * M.width + i))
+      × (row_degree M (get_or rs i M.𝟎) ≡ length (entry_at (row_at basis i) i) - 1)
+      × (pivot M (get_or rs i M.𝟎) ≡ i)
   basis_measured i less =
-      subst (λ r. (measure M r ≡ suc ((length (entry_at (row_at basis i) i) - 1) * M.width + i)) × (row_degree M r ≡ length (entry_at (row_at basis i) i) - 1) × (pivot M r ≡ i))
+      subst (λ r. (measure M r ≡ suc ((length (entry_at (row_at basis i) i) - 1) * M.width + i))
+      × (row_degree M r ≡ length (entry_at (row_at basis i) i) - 1) × (pivot M r ≡ i))
       (sym (read_row_at k w basis i))
-      (measured k w (row_at basis i) i (basis_row i less).size (popov.pivot_at i less) (over_at k (row_at basis i) (basis_row i less).over i) (popov.trimmed i i))
+      (measured k w (row_at basis i) i (basis_row i less).size (popov.pivot_at i less)
+      (over_at k (row_at basis i) (basis_row i less).over i) (popov.trimmed i i))
 
   pub basis_weak : theory.IsWeakPopov M rs
-  basis_weak = record { apart = λ i j differ i_some j_some. apart i j differ (cases_lt i w) (cases_lt j w) i_some j_some }
+  basis_weak = record {
+    apart = λ i j differ i_some j_some. apart i j differ (cases_lt i w) (cases_lt j w) i_some j_some;
+  }
     where
-      apart : (i j : ℕ) → ¬ (i ≡ j) → (i < w) ⊎ (w ≤ i) → (j < w) ⊎ (w ≤ j) → ¬ (get_or rs i M.𝟎 ≡ M.𝟎) → ¬ (get_or rs j M.𝟎 ≡ M.𝟎) → ¬ (pivot M (get_or rs i M.𝟎) ≡ pivot M (get_or rs j M.𝟎))
-      apart i j differ (inl less) (inl less') i_some j_some = λ e. differ (sym (basis_measured i less).2 ∙ e ∙ (basis_measured j less').2)
+      apart : (i j : ℕ) → ¬ (i ≡ j) → (i < w) ⊎ (w ≤ i) → (j < w) ⊎ (w ≤ j) → ¬ (get_or rs i M.𝟎 ≡ M.𝟎)
+          → ¬ (get_or rs j M.𝟎 ≡ M.𝟎) → ¬ (pivot M (get_or rs i M.𝟎) ≡ pivot M (get_or rs j M.𝟎))
+      apart i j differ (inl less) (inl less') i_some j_some = λ e. differ
+          (sym (basis_measured i less).2 ∙ e ∙ (basis_measured j less').2)
       apart i j differ (inr more) side i_some j_some = λ e. i_some (row_past M rs i (omega (arith, more, basis_length)))
-      apart i j differ (inl less) (inr more) i_some j_some = λ e. j_some (row_past M rs j (omega (arith, more, basis_length)))
+      apart i j differ (inl less) (inr more) i_some j_some = λ e. j_some
+          (row_past M rs j (omega (arith, more, basis_length)))
 
   pub basis_full : 0 < w → theory.IsFull M rs
   basis_full positive = record {
     owner = λ j. j;
-    owner_some = λ j less z. absurd (omega (arith, z, (basis_measured j (omega (arith, less, space_width k w, positive))).0));
+    owner_some = λ j less z. absurd (omega
+        (arith, z, (basis_measured j (omega (arith, less, space_width k w, positive))).0));
     owner_pivot = λ j less. (basis_measured j (omega (arith, less, space_width k w, positive))).2;
   }
 
   -- a member of the lattice has a pivot no shorter than that of the basis in its column
-  pub member_longer : (z : Row (Pol (code_ring k)) (suc (w - 1))) (len j : ℕ) → InSpan M rs z → measure M z ≡ suc ((len - 1) * M.width + j) → pivot M z ≡ j → 0 < len → j < w → length (entry_at (row_at basis j) j) ≤ len
+  pub member_longer : (z : Row (Pol (code_ring k)) (suc (w - 1))) (len j : ℕ) → InSpan M rs z
+      → measure M z ≡ suc ((len - 1) * M.width + j) → pivot M z ≡ j → 0 < len → j < w
+      → length (entry_at (row_at basis j) j) ≤ len
   member_longer z len j z_in z_measure z_pivot some less = go (cases_lt len (length (entry_at (row_at basis j) j)))
     where
       lead : Leading M rs (measure M z)
@@ -80,7 +93,8 @@ module _ (k : CodeField) (w : ℕ) (basis : List (List (List ℕ))) (all : All (
       is : measure M z ≡ lead.times * M.width + measure M (get_or rs j M.𝟎)
       is = subst (λ i. measure M z ≡ lead.times * M.width + measure M (get_or rs i M.𝟎)) (sym same) lead.is
 
-      go : (len < length (entry_at (row_at basis j) j)) ⊎ (length (entry_at (row_at basis j) j) ≤ len) → length (entry_at (row_at basis j) j) ≤ len
+      go : (len < length (entry_at (row_at basis j) j)) ⊎ (length (entry_at (row_at basis j) j) ≤ len)
+          → length (entry_at (row_at basis j) j) ≤ len
       go (inr le) = le
       go (inl shorter) =
           absurd (omega (
@@ -106,17 +120,21 @@ module _ (k : CodeField) (w : ℕ) (basis : List (List (List ℕ))) (all : All (
       inside : (i : ℕ) → i < M.width → i < w
       inside i less = omega (arith, less, space_width k w, positive)
 
-      small : (i j s : ℕ) → i < w → j < w → ¬ (i ≡ j) → row_degree M (get_or rs j M.𝟎) ≤ s → M.coef (get_or rs i M.𝟎) (s * M.width + j) ≡ (code_ring k).𝟘
+      small : (i j s : ℕ) → i < w → j < w → ¬ (i ≡ j) → row_degree M (get_or rs j M.𝟎) ≤ s
+          → M.coef (get_or rs i M.𝟎) (s * M.width + j) ≡ (code_ring k).𝟘
       small i j s i_less j_less differ le =
           ap (λ r. M.coef r (s * M.width + j)) (read_row_at k w basis i)
           ∙ coef_short k w (row_at basis i) s j (omega (arith, j_less, space_width k w, positive))
           (omega (arith, popov.smaller i j i_less j_less differ, le, (basis_measured j j_less).1))
 
-      top_one : (a : List ℕ) → (lower : List ℕ) × (a ≡ lower ++ 1 ∷ []) → coeff_of (code_ring k).ops (value k a).0 (length a - 1) ≡ (code_ring k).𝟙
+      top_one : (a : List ℕ) → (lower : List ℕ) × (a ≡ lower ++ 1 ∷ [])
+          → coeff_of (code_ring k).ops (value k a).0 (length a - 1) ≡ (code_ring k).𝟙
       top_one a (lower, e) =
           series_read k a (length a - 1)
           ∙ get_or-map (read_code k) a (length a - 1) 0 (code_ring k).𝟘 (omega (arith, size))
-          ∙ ap (read_code k) (ap (λ x. get_or x (length a - 1) 0) e ∙ get_or-append_right lower (1 ∷ []) (length lower) (length a - 1) 0 refl (omega (arith, size)) ∙ ap (λ n. get_or (1 ∷ []) n 0) none)
+          ∙ ap (read_code k) (ap (λ x. get_or x (length a - 1) 0) e
+          ∙ get_or-append_right lower (1 ∷ []) (length lower) (length a - 1) 0 refl (omega (arith, size))
+          ∙ ap (λ n. get_or (1 ∷ []) n 0) none)
           ∙ same_code k (read_code k 1) (code_ring k).𝟙 (read_code_below k 1 k.laws.one_below)
         where
           size : length a ≡ length lower + 1
@@ -125,9 +143,11 @@ module _ (k : CodeField) (w : ℕ) (basis : List (List (List ℕ))) (all : All (
           none : length a - 1 - length lower ≡ 0
           none = omega (arith, size)
 
-      monic : (i : ℕ) → i < w → (lower : List ℕ) × (entry_at (row_at basis i) i ≡ lower ++ 1 ∷ []) → M.coef (get_or rs i M.𝟎) (measure M (get_or rs i M.𝟎) - 1) ≡ (code_ring k).𝟙
+      monic : (i : ℕ) → i < w → (lower : List ℕ) × (entry_at (row_at basis i) i ≡ lower ++ 1 ∷ [])
+          → M.coef (get_or rs i M.𝟎) (measure M (get_or rs i M.𝟎) - 1) ≡ (code_ring k).𝟙
       monic i less one =
           ap₂ (λ r n. M.coef r (n - 1)) (read_row_at k w basis i) (basis_measured i less).0
           ∙ ap (M.coef (R (row_at basis i))) (omega arith)
-          ∙ coef_read k w (row_at basis i) (length (entry_at (row_at basis i) i) - 1) i (omega (arith, less, space_width k w, positive))
+          ∙ coef_read k w (row_at basis i) (length (entry_at (row_at basis i) i) - 1) i
+          (omega (arith, less, space_width k w, positive))
           ∙ top_one (entry_at (row_at basis i) i) one

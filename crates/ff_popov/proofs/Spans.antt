@@ -43,22 +43,28 @@ module _ (k : CodeField) where
   sum_length (a ∷ u) [] size = absurd (omega (arith, size))
   sum_length (a ∷ u) (b ∷ v) size = ap suc (sum_length u v (omega (arith, size)))
 
-  sum_over : (u v : List (List ℕ)) → All (IsOver k.ops) u → All (IsOver k.ops) v → All (IsOver k.ops) (sum_of_rows k.ops u v)
+  sum_over : (u v : List (List ℕ)) → All (IsOver k.ops) u → All (IsOver k.ops) v
+      → All (IsOver k.ops) (sum_of_rows k.ops u v)
   sum_over [] v u_in v_in = All-nil (IsOver k.ops)
   sum_over (a ∷ u) [] u_in v_in = All-nil (IsOver k.ops)
   sum_over (a ∷ u) (b ∷ v) u_in v_in =
-      All-cons (IsOver k.ops) (sum_of k.ops a b) (sum_of_rows k.ops u v) (IsOver_sum_of k (u_in 0 [] (omega arith)) (v_in 0 [] (omega arith)))
-      (sum_over u v (λ j d less. u_in (suc j) d (omega (arith, less))) (λ j d less. v_in (suc j) d (omega (arith, less))))
+      All-cons (IsOver k.ops) (sum_of k.ops a b) (sum_of_rows k.ops u v)
+      (IsOver_sum_of k (u_in 0 [] (omega arith)) (v_in 0 [] (omega arith)))
+      (sum_over u v (λ j d less. u_in (suc j) d (omega (arith, less)))
+      (λ j d less. v_in (suc j) d (omega (arith, less))))
 
   sum_poly : (u v : List (List ℕ)) → All IsPoly (sum_of_rows k.ops u v)
   sum_poly [] v = All-nil IsPoly
   sum_poly (a ∷ u) [] = All-nil IsPoly
-  sum_poly (a ∷ u) (b ∷ v) = All-cons IsPoly (sum_of k.ops a b) (sum_of_rows k.ops u v) (IsPoly_poly_of (add_lists (raw_ring k.ops) a b)) (sum_poly u v)
+  sum_poly (a ∷ u) (b ∷ v) = All-cons IsPoly (sum_of k.ops a b) (sum_of_rows k.ops u v)
+      (IsPoly_poly_of (add_lists (raw_ring k.ops) a b)) (sum_poly u v)
 
-  pub multiple_over : (c : List ℕ) (v : List (List ℕ)) → IsOver k.ops c → All (IsOver k.ops) v → All (IsOver k.ops) (multiple_of_row k.ops c v)
+  pub multiple_over : (c : List ℕ) (v : List (List ℕ)) → IsOver k.ops c → All (IsOver k.ops) v
+      → All (IsOver k.ops) (multiple_of_row k.ops c v)
   multiple_over c [] c_in v_in = All-nil (IsOver k.ops)
   multiple_over c (a ∷ v) c_in v_in =
-      All-cons (IsOver k.ops) (product_of k.ops c a) (multiple_of_row k.ops c v) (IsOver_product_of k c_in (v_in 0 [] (omega arith)))
+      All-cons (IsOver k.ops) (product_of k.ops c a) (multiple_of_row k.ops c v)
+      (IsOver_product_of k c_in (v_in 0 [] (omega arith)))
       (multiple_over c v c_in (λ j d less. v_in (suc j) d (omega (arith, less))))
 
   module _ (w : ℕ) where
@@ -68,22 +74,31 @@ module _ (k : CodeField) where
     abbrev R : List (List ℕ) → Row (Pol (code_ring k)) (suc (w - 1))
     R v = read_row k (suc (w - 1)) v
 
-    pub multiple_row : (c : List ℕ) (v : List (List ℕ)) → IsOver k.ops c → IsRow k.ops w v → IsRow k.ops w (multiple_of_row k.ops c v)
-    multiple_row c v c_in v_row = record { size = length-map v (product_of k.ops c) ∙ v_row.size; over = multiple_over c v c_in v_row.over }
+    pub multiple_row : (c : List ℕ) (v : List (List ℕ)) → IsOver k.ops c → IsRow k.ops w v
+        → IsRow k.ops w (multiple_of_row k.ops c v)
+    multiple_row c v c_in v_row = record
+        { size = length-map v (product_of k.ops c) ∙ v_row.size; over = multiple_over c v c_in v_row.over }
 
     -- what a multiple stands for
-    pub space_multiple : (c : List ℕ) (v : List (List ℕ)) → IsOver k.ops c → All (IsOver k.ops) v → R (multiple_of_row k.ops c v) ≡ M.◌·◌ (value k c) (R v)
-    space_multiple c v c_in v_in = read_multiple k (suc (w - 1)) c v c_in v_in ∙ sym (row_module_scale (code_ring k) (w - 1) (value k c) (R v))
+    pub space_multiple : (c : List ℕ) (v : List (List ℕ)) → IsOver k.ops c → All (IsOver k.ops) v
+        → R (multiple_of_row k.ops c v) ≡ M.◌·◌ (value k c) (R v)
+    space_multiple c v c_in v_in = read_multiple k (suc (w - 1)) c v c_in v_in
+        ∙ sym (row_module_scale (code_ring k) (w - 1) (value k c) (R v))
 
     -- a combination is a row of the width
-    pub combination_row : (cs : List (List ℕ)) (rows : List (List (List ℕ))) → All (IsOver k.ops) cs → All (IsRow k.ops w) rows → IsRow k.ops w (combination k.ops w cs rows)
-    combination_row [] rows cs_in all = record { size = length-replicate w []; over = All-replicate (IsOver k.ops) w [] IsOver_nil }
-    combination_row (c ∷ cs) [] cs_in all = record { size = length-replicate w []; over = All-replicate (IsOver k.ops) w [] IsOver_nil }
+    pub combination_row : (cs : List (List ℕ)) (rows : List (List (List ℕ))) → All (IsOver k.ops) cs
+        → All (IsRow k.ops w) rows → IsRow k.ops w (combination k.ops w cs rows)
+    combination_row [] rows cs_in all = record
+        { size = length-replicate w []; over = All-replicate (IsOver k.ops) w [] IsOver_nil }
+    combination_row (c ∷ cs) [] cs_in all = record
+        { size = length-replicate w []; over = All-replicate (IsOver k.ops) w [] IsOver_nil }
     combination_row (c ∷ cs) (r ∷ rows) cs_in all =
         let first = multiple_row c r (cs_in 0 [] (omega arith)) (all 0 [] (omega arith)) in
-        let rest = combination_row cs rows (λ j d less. cs_in (suc j) d (omega (arith, less))) (λ j d less. all (suc j) d (omega (arith, less))) in
+        let rest = combination_row cs rows (λ j d less. cs_in (suc j) d (omega (arith, less)))
+        (λ j d less. all (suc j) d (omega (arith, less))) in
         record {
-          size = sum_length (multiple_of_row k.ops c r) (combination k.ops w cs rows) (first.size ∙ sym rest.size) ∙ first.size;
+          size = sum_length (multiple_of_row k.ops c r) (combination k.ops w cs rows) (first.size ∙ sym rest.size)
+              ∙ first.size;
           over = sum_over (multiple_of_row k.ops c r) (combination k.ops w cs rows) first.over rest.over;
         }
 
@@ -93,7 +108,8 @@ module _ (k : CodeField) where
     combination_poly (c ∷ cs) (r ∷ rows) = sum_poly (multiple_of_row k.ops c r) (combination k.ops w cs rows)
 
     -- what a combination stands for
-    pub combination_read : (cs : List (List ℕ)) (rows : List (List (List ℕ))) → length cs ≡ length rows → All (IsOver k.ops) cs → All (IsRow k.ops w) rows
+    pub combination_read : (cs : List (List ℕ)) (rows : List (List (List ℕ))) → length cs ≡ length rows
+        → All (IsOver k.ops) cs → All (IsRow k.ops w) rows
         → R (combination k.ops w cs rows) ≡ combine M (λ i. value k (get_or cs i [])) (read_rows k w rows)
     combination_read [] [] size cs_in all = read_zeros k (suc (w - 1)) w ∙ sym (row_module_zero (code_ring k) (w - 1))
     combination_read [] (r ∷ rows) size cs_in all = absurd (omega (arith, size))
@@ -105,46 +121,59 @@ module _ (k : CodeField) where
         let all_rest = λ (j : ℕ) (d : List (List ℕ)) (less : j < length rows). all (suc j) d (omega (arith, less)) in
         let first = multiple_row c r c_in r_row in
         let rest = combination_row cs rows cs_rest all_rest in
-        read_sum k (suc (w - 1)) (multiple_of_row k.ops c r) (combination k.ops w cs rows) (first.size ∙ sym rest.size) first.over rest.over
+        read_sum k (suc (w - 1)) (multiple_of_row k.ops c r) (combination k.ops w cs rows) (first.size ∙ sym rest.size)
+        first.over rest.over
         ∙ sym (row_module_add (code_ring k) (w - 1) (R (multiple_of_row k.ops c r)) (R (combination k.ops w cs rows)))
-        ∙ ap₂ M.◌⊞◌ (space_multiple c r c_in r_row.over) (combination_read cs rows (omega (arith, size)) cs_rest all_rest)
+        ∙ ap₂ M.◌⊞◌ (space_multiple c r c_in r_row.over)
+        (combination_read cs rows (omega (arith, size)) cs_rest all_rest)
 
     -- members of the lattice are rows without zeros on top
-    pub member_row : (rows : List (List (List ℕ))) → All (IsRow k.ops w) rows → (v : List (List ℕ)) → InSpan k.ops w rows v → IsRow k.ops w v
-    member_row rows all v v_in = subst (IsRow k.ops w) (sym v_in.is.is) (combination_row v_in.coefficients rows v_in.is.over all)
+    pub member_row : (rows : List (List (List ℕ))) → All (IsRow k.ops w) rows → (v : List (List ℕ))
+        → InSpan k.ops w rows v → IsRow k.ops w v
+    member_row rows all v v_in = subst (IsRow k.ops w) (sym v_in.is.is)
+        (combination_row v_in.coefficients rows v_in.is.over all)
 
     pub member_poly : (rows : List (List (List ℕ))) (v : List (List ℕ)) → InSpan k.ops w rows v → All IsPoly v
     member_poly rows v v_in = subst (All IsPoly) (sym v_in.is.is) (combination_poly v_in.coefficients rows)
 
-    pub to_space : (rows : List (List (List ℕ))) → All (IsRow k.ops w) rows → (v : List (List ℕ)) → InSpan k.ops w rows v → theory.InSpan M (read_rows k w rows) (R v)
+    pub to_space : (rows : List (List (List ℕ))) → All (IsRow k.ops w) rows → (v : List (List ℕ))
+        → InSpan k.ops w rows v → theory.InSpan M (read_rows k w rows) (R v)
     to_space rows all v v_in = record {
       coefficients = λ i. value k (get_or v_in.coefficients i []);
       is = ap R v_in.is.is ∙ combination_read v_in.coefficients rows v_in.is.size v_in.is.over all;
     }
 
-    pub combine_same : {V : Type 0} (N : PolynomialModule (code_ring k) V) (rs : List V) (c d : ℕ → Pol (code_ring k)) → ((i : ℕ) → i < length rs → c i ≡ d i) → combine N c rs ≡ combine N d rs
+    pub combine_same : {V : Type 0} (N : PolynomialModule (code_ring k) V) (rs : List V) (c d : ℕ → Pol (code_ring k))
+        → ((i : ℕ) → i < length rs → c i ≡ d i) → combine N c rs ≡ combine N d rs
     combine_same N [] c d h = refl
     combine_same N (r ∷ rs) c d h =
-        ap₂ N.◌⊞◌ (ap (λ p. N.◌·◌ p r) (h 0 (omega arith))) (combine_same N rs (tail_of c) (tail_of d) (λ i less. h (suc i) (omega (arith, less))))
+        ap₂ N.◌⊞◌ (ap (λ p. N.◌·◌ p r) (h 0 (omega arith)))
+        (combine_same N rs (tail_of c) (tail_of d) (λ i less. h (suc i) (omega (arith, less))))
 
     -- a row with these coefficients
-    pub combination_from : (rows : List (List (List ℕ))) → All (IsRow k.ops w) rows → (v : List (List ℕ)) → IsRow k.ops w v → All IsPoly v → (cs : List (List ℕ)) → length cs ≡ length rows → All (IsOver k.ops) cs
+    pub combination_from : (rows : List (List (List ℕ))) → All (IsRow k.ops w) rows → (v : List (List ℕ))
+        → IsRow k.ops w v → All IsPoly v → (cs : List (List ℕ)) → length cs ≡ length rows → All (IsOver k.ops) cs
         → R v ≡ combine M (λ i. value k (get_or cs i [])) (read_rows k w rows) → IsCombinationList k.ops w rows v cs
     combination_from rows all v v_row v_poly cs size cs_in is = record {
       size = size;
       over = cs_in;
       is =
-          same_from_read k w v (combination k.ops w cs rows) v_row (combination_row cs rows cs_in all) v_poly (combination_poly cs rows)
+          same_from_read k w v (combination k.ops w cs rows) v_row (combination_row cs rows cs_in all) v_poly
+          (combination_poly cs rows)
           (is ∙ sym (combination_read cs rows size cs_in all));
     }
 
-    pub from_space : (rows : List (List (List ℕ))) → All (IsRow k.ops w) rows → (v : List (List ℕ)) → IsRow k.ops w v → All IsPoly v → theory.InSpan M (read_rows k w rows) (R v) → InSpan k.ops w rows v
+    pub from_space : (rows : List (List (List ℕ))) → All (IsRow k.ops w) rows → (v : List (List ℕ)) → IsRow k.ops w v
+        → All IsPoly v → theory.InSpan M (read_rows k w rows) (R v) → InSpan k.ops w rows v
     from_space rows all v v_row v_poly v_in = record {
       coefficients = cs;
       is = combination_from rows all v v_row v_poly cs (listed_length (length rows) f)
-          (λ i d less. subst (IsOver k.ops) (sym (listed_at (length rows) f i d (omega (arith, less, listed_length (length rows) f)))) (IsOver_codes_of k (v_in.coefficients i)))
+          (λ i d less. subst (IsOver k.ops)
+          (sym (listed_at (length rows) f i d (omega (arith, less, listed_length (length rows) f))))
+          (IsOver_codes_of k (v_in.coefficients i)))
           (v_in.is ∙ combine_same M (read_rows k w rows) v_in.coefficients (λ i. value k (get_or cs i [])) (λ i less.
-          sym (ap (value k) (listed_at (length rows) f i [] (omega (arith, less, length-map rows R))) ∙ value_codes_of k (v_in.coefficients i))));
+          sym (ap (value k) (listed_at (length rows) f i [] (omega (arith, less, length-map rows R)))
+          ∙ value_codes_of k (v_in.coefficients i))));
     }
       where
         f : ℕ → List ℕ
@@ -154,8 +183,11 @@ module _ (k : CodeField) where
         cs = listed (length rows) (λ i. codes_of k (v_in.coefficients i))
 
     -- rows whose spans are the same have the same lattice, and the other way round
-    pub same_lattice : (rows rows' : List (List (List ℕ))) → All (IsRow k.ops w) rows → All (IsRow k.ops w) rows' → theory.HaveSameSpan M (read_rows k w rows) (read_rows k w rows') → HaveSameSpan k.ops w rows rows'
+    pub same_lattice : (rows rows' : List (List (List ℕ))) → All (IsRow k.ops w) rows → All (IsRow k.ops w) rows'
+        → theory.HaveSameSpan M (read_rows k w rows) (read_rows k w rows') → HaveSameSpan k.ops w rows rows'
     same_lattice rows rows' all all' h = record {
-      left = λ v v_in. from_space rows' all' v (member_row rows all v v_in) (member_poly rows v v_in) (h.left.within (R v) (to_space rows all v v_in));
-      right = λ v v_in. from_space rows all v (member_row rows' all' v v_in) (member_poly rows' v v_in) (h.right.within (R v) (to_space rows' all' v v_in));
+      left = λ v v_in. from_space rows' all' v (member_row rows all v v_in) (member_poly rows v v_in)
+          (h.left.within (R v) (to_space rows all v v_in));
+      right = λ v v_in. from_space rows all v (member_row rows' all' v v_in) (member_poly rows' v v_in)
+          (h.right.within (R v) (to_space rows' all' v v_in));
     }

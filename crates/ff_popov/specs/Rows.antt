@@ -63,7 +63,8 @@ position width row = position_from width 0 row
 abbrev pub total_position : ℕ → List (List (List ℕ)) → ℕ
 total_position width rows = sum_by (position width) rows
 
--- row is a less a multiple of b by a term, and shorter in the column of the pivot of b; no other entry grows past those of the multiple
+-- row is a less a multiple of b by a term, and shorter in the column of the pivot of b; no other entry grows past those
+-- of the multiple
 pub record IsShortened (k : FieldOps) (a b : List (List ℕ)) (column : ℕ) (row : List (List ℕ)) : Type 0 where
   pub scalar : ℕ
   pub scalar_in : scalar < k.size
@@ -71,7 +72,8 @@ pub record IsShortened (k : FieldOps) (a b : List (List ℕ)) (column : ℕ) (ro
   pub is : IsRowLess k a scalar power b row
   pub at : length (entry_at row column) < length (entry_at a column)
   pub left : (i n : ℕ) → length (entry_at a i) ≤ n → length (entry_at a column) ≤ n → length (entry_at row i) ≤ n
-  pub right : (i n : ℕ) → column < i → length (entry_at a i) ≤ n → length (entry_at a column) ≤ n + 1 → length (entry_at row i) ≤ n
+  pub right : (i n : ℕ) → column < i → length (entry_at a i) ≤ n → length (entry_at a column) ≤ n + 1
+      → length (entry_at row i) ≤ n
 
 -- row i has its pivot in the column, and no zeros on top
 pub record IsOwner (rows : List (List (List ℕ))) (column i : ℕ) : Type 0 where
@@ -92,19 +94,25 @@ pub record IsOwners (width : ℕ) (rows : List (List (List ℕ))) (owners : List
 abbrev pub owner_length : List (List (List ℕ)) → List ℕ → ℕ → ℕ
 owner_length rows owners j = length (entry_at (row_at rows (get_or owners j 0)) j)
 
--- the entries are at most len long, those from the column on shorter, but for those that are shorter than the pivot of their column
+-- the entries are at most len long, those from the column on shorter, but for those that are shorter than the pivot of
+-- their column
 pub record IsLow (rows : List (List (List ℕ))) (owners : List ℕ) (len column : ℕ) (row : List (List ℕ)) : Type 0 where
   pub upto : (j : ℕ) → (length (entry_at row j) ≤ len) ⊎ (length (entry_at row j) < owner_length rows owners j)
-  pub right : (j : ℕ) → column ≤ j → j < length row → (length (entry_at row j) < len) ⊎ (length (entry_at row j) < owner_length rows owners j)
+  pub right : (j : ℕ) → column ≤ j → j < length row
+      → (length (entry_at row j) < len) ⊎ (length (entry_at row j) < owner_length rows owners j)
 
 -- a row that differs from another by a member of the lattice
-pub record IsCongruentRow (k : CodeField) (width : ℕ) (rows : List (List (List ℕ))) (old new : List (List ℕ)) : Type 0 where
-  pub row : IsRow k.ops width new
-  pub trimmed : All IsPoly old → All IsPoly new
-  pub difference : InSpan (row_space k width) (read_rows k width rows) ((row_space k width).◌⊞◌ (read_row k (suc (width - 1)) old) ((row_space k width).⊟◌ (read_row k (suc (width - 1)) new)))
+pub record IsCongruentRow (k : CodeField) (width : ℕ) (rows : List (List (List ℕ))) (old new : List (List ℕ)) : Type 0
+  where
+    pub row : IsRow k.ops width new
+    pub trimmed : All IsPoly old → All IsPoly new
+    pub difference : InSpan (row_space k width) (read_rows k width rows)
+        ((row_space k width).◌⊞◌ (read_row k (suc (width - 1)) old)
+        ((row_space k width).⊟◌ (read_row k (suc (width - 1)) new)))
 
 -- the row of the Popov basis with its pivot in column i
-pub record IsPopovRow (k : CodeField) (width : ℕ) (rows : List (List (List ℕ))) (owners : List ℕ) (i : ℕ) (row : List (List ℕ)) : Type 0 where
+pub record IsPopovRow (k : CodeField) (width : ℕ) (rows : List (List (List ℕ))) (owners : List ℕ) (i : ℕ)
+    (row : List (List ℕ)) : Type 0 where
   pub over : IsRow k.ops width row
   pub trimmed : All IsPoly row
   pub in_span : InSpan (row_space k width) (read_rows k width rows) (read_row k (suc (width - 1)) row)
@@ -113,6 +121,7 @@ pub record IsPopovRow (k : CodeField) (width : ℕ) (rows : List (List (List ℕ
   pub smaller : (j : ℕ) → j < width → ¬ (j ≡ i) → length (entry_at row j) < owner_length rows owners j
 
 -- the rows of the Popov basis for the columns below n
-pub record IsPopovRows (k : CodeField) (width : ℕ) (rows : List (List (List ℕ))) (owners : List ℕ) (n : ℕ) (basis : List (List (List ℕ))) : Type 0 where
+pub record IsPopovRows (k : CodeField) (width : ℕ) (rows : List (List (List ℕ))) (owners : List ℕ) (n : ℕ)
+    (basis : List (List (List ℕ))) : Type 0 where
   pub size : length basis ≡ n
   pub each : (i : ℕ) → i < n → IsPopovRow k width rows owners i (row_at basis i)

@@ -31,7 +31,8 @@ fn owner(rows: &[Vec<Poly>], column: usize) -> Option<usize>
 
 /// For each column the row with its pivot there; None where a column has none.
 fn owners(alloc: Global, rows: &[Vec<Poly>], width: usize) -> Result<Option<Vec<usize>>, AllocError>
-    ensures { IfOk result (λ found. MatchOption found ((j : ℕ) × (j < width) × IsMissing (rows_of rows.now) j) (λ v. IsOwners width (rows_of rows.now) v.items)) }
+    ensures { IfOk result (λ found. MatchOption found ((j : ℕ) × (j < width) × IsMissing (rows_of rows.now) j)
+        (λ v. IsOwners width (rows_of rows.now) v.items)) }
 {
     let mut found = Vec::new(alloc);
     for column in 0..width {
@@ -78,7 +79,8 @@ fn lower_level<K: SmallField>(
     requires owners { IsOwners (length row.old) (rows_of rows.now) owners.now }
     requires low { IsLow (rows_of rows.now) owners.now len (length row.old) row.old }
     ensures low { OnOk result (IsLow (rows_of rows.now) owners.now len 0 row.new) }
-    ensures congruent { OnOk result (IsCongruentRow (K.field k.now) (length row.old) (rows_of rows.now) row.old row.new) }
+    ensures congruent { OnOk result
+        (IsCongruentRow (K.field k.now) (length row.old) (rows_of rows.now) row.old row.new) }
 {
     for column in (0..row.len()).rev() {
         let other = &rows[owners[column]];
@@ -101,8 +103,10 @@ fn reduce_row<K: SmallField>(
     requires rows_in { All (IsRow (K.field k.now).ops (length row.old)) (rows_of rows.now) }
     requires owners { IsOwners (length row.old) (rows_of rows.now) owners.now }
     requires bounded { (j : ℕ) → length (entry_at row.old j) ≤ len }
-    ensures shorter { OnOk result ((j : ℕ) → j < length row.old → length (entry_at row.new j) < owner_length (rows_of rows.now) owners.now j) }
-    ensures congruent { OnOk result (IsCongruentRow (K.field k.now) (length row.old) (rows_of rows.now) row.old row.new) }
+    ensures shorter { OnOk result ((j : ℕ) → j < length row.old
+        → length (entry_at row.new j) < owner_length (rows_of rows.now) owners.now j) }
+    ensures congruent { OnOk result
+        (IsCongruentRow (K.field k.now) (length row.old) (rows_of rows.now) row.old row.new) }
 {
     for level in (0..len).rev() {
         lower_level(k, row, rows, owners, level + 1)?;
@@ -119,7 +123,8 @@ fn constant(alloc: Global, code: u32) -> Result<Poly, AllocError>
     Ok(Poly::from_codes(codes))
 }
 
-/// The row of the Popov basis with its pivot in column i: the rest of -x^d modulo the lattice, and x^d, where d is the degree
+/// The row of the Popov basis with its pivot in column i: the rest of -x^d modulo the lattice, and x^d, where d is the
+/// degree
 /// of the pivot there.
 fn popov_row<K: SmallField>(
     alloc: Global,
@@ -131,7 +136,8 @@ fn popov_row<K: SmallField>(
     requires i_in { i < length owners.now }
     requires rows_in { All (IsRow (K.field k.now).ops (length owners.now)) (rows_of rows.now) }
     requires owners { IsOwners (length owners.now) (rows_of rows.now) owners.now }
-    ensures { IfOk result (λ row. IsPopovRow (K.field k.now) (length owners.now) (rows_of rows.now) owners.now i row.items) }
+    ensures { IfOk result (λ row. IsPopovRow (K.field k.now) (length owners.now) (rows_of rows.now) owners.now i
+        row.items) }
 {
     let one = constant(alloc, 1)?;
     let minus = minus_one(alloc, k)?;
@@ -152,7 +158,8 @@ fn popov_rows<K: SmallField>(
 ) -> Result<Vec<Vec<Poly>>, AllocError>
     requires rows_in { All (IsRow (K.field k.now).ops (length owners.now)) (rows_of rows.now) }
     requires owners { IsOwners (length owners.now) (rows_of rows.now) owners.now }
-    ensures { IfOk result (λ basis. IsPopovRows (K.field k.now) (length owners.now) (rows_of rows.now) owners.now (length owners.now) (rows_of basis.items)) }
+    ensures { IfOk result (λ basis. IsPopovRows (K.field k.now) (length owners.now) (rows_of rows.now) owners.now
+        (length owners.now) (rows_of basis.items)) }
 {
     let mut basis = Vec::new(alloc);
     for i in 0..owners.len() {
@@ -171,7 +178,9 @@ fn basis_of<K: SmallField>(
     requires positive { 0 < width }
     requires rows_in { All (IsRow (K.field k.now).ops width) (rows_of rows.now) }
     requires weak { IsWeakPopov (rows_of rows.now) }
-    ensures { IfOk result (λ found. MatchOption found ((j : ℕ) × (j < width) × IsMissing (rows_of rows.now) j) (λ basis. IsPopov width (rows_of basis.items) × All (IsRow (K.field k.now).ops width) (rows_of basis.items) × HaveSameSpan (K.field k.now).ops width (rows_of rows.now) (rows_of basis.items))) }
+    ensures { IfOk result (λ found. MatchOption found ((j : ℕ) × (j < width) × IsMissing (rows_of rows.now) j)
+        (λ basis. IsPopov width (rows_of basis.items) × All (IsRow (K.field k.now).ops width) (rows_of basis.items)
+        × HaveSameSpan (K.field k.now).ops width (rows_of rows.now) (rows_of basis.items))) }
 {
     match owners(alloc, rows, width)? {
         None => Ok(None),
@@ -194,14 +203,16 @@ fn reduce_rows<K: SmallField, L: Ledger>(
     requires one { blank.parts ≡ 1 }
     requires rows_in { All (IsRow (K.field k.now).ops (width_of (rows_of rows.old.items))) (rows_of rows.old.items) }
     ensures weak { OnOk result (IsWeakPopov (rows_of rows.new.items)) }
-    ensures span { HaveSameSpan (K.field k.now).ops (width_of (rows_of rows.old.items)) (rows_of rows.old.items) (rows_of rows.new.items) }
+    ensures span { HaveSameSpan (K.field k.now).ops (width_of (rows_of rows.old.items)) (rows_of rows.old.items)
+        (rows_of rows.new.items) }
     ensures rows_in { All (IsRow (K.field k.now).ops (width_of (rows_of rows.old.items))) (rows_of rows.new.items) }
 {
     let mut steps = Steps::<L>::new(blank);
     weak_popov(alloc, k, rows, &mut steps)
 }
 
-/// The Popov basis of the lattice of the rows; None exactly where their rank is below the width. Of width 0 it has no rows.
+/// The Popov basis of the lattice of the rows; None exactly where their rank is below the width. Of width 0 it has no
+/// rows.
 /// Takes as many simple transformations as `weak_popov`, and then one division of -x^d for each column.
 pub fn popov<K: SmallField>(
     alloc: Global,
@@ -210,7 +221,9 @@ pub fn popov<K: SmallField>(
     width: usize,
 ) -> Result<Option<Vec<Vec<Poly>>>, AllocError>
     requires { All (IsRow (K.field k.now).ops width) (rows_of rows.items) }
-    ensures { IfOk result (λ found. MatchOption found (¬ HasFullRank (K.field k.now).ops width (rows_of rows.items)) (λ basis. IsPopov width (rows_of basis.items) × All (IsRow (K.field k.now).ops width) (rows_of basis.items) × HaveSameSpan (K.field k.now).ops width (rows_of rows.items) (rows_of basis.items))) }
+    ensures { IfOk result (λ found. MatchOption found (¬ HasFullRank (K.field k.now).ops width (rows_of rows.items))
+        (λ basis. IsPopov width (rows_of basis.items) × All (IsRow (K.field k.now).ops width) (rows_of basis.items)
+        × HaveSameSpan (K.field k.now).ops width (rows_of rows.items) (rows_of basis.items))) }
 {
     if width == 0 {
         return Ok(Some(Vec::new(alloc)));

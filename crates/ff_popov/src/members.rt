@@ -30,8 +30,10 @@ pub(crate) fn minus_one<K: SmallField>(alloc: Global, k: &K) -> Result<Poly, All
     Ok(Poly::from_codes(codes))
 }
 
-/// The coefficients with which v is a combination of the rows of a Popov basis of its width; None exactly where v isn't in
-/// their lattice. Takes as many subtractions of rows as v has positions, the width times its degree and 1, each linear in a row.
+/// The coefficients with which v is a combination of the rows of a Popov basis of its width; None exactly where v isn't
+/// in
+/// their lattice. Takes as many subtractions of rows as v has positions, the width times its degree and 1, each linear
+/// in a row.
 pub fn coordinates<K: SmallField>(
     alloc: Global,
     k: &K,
@@ -41,7 +43,9 @@ pub fn coordinates<K: SmallField>(
     requires basis_in { All (IsRow (K.field k.now).ops (length v.now)) (rows_of basis.now) }
     requires popov { IsPopov (length v.now) (rows_of basis.now) }
     requires v_in { All (IsOver (K.field k.now).ops) v.now }
-    ensures { IfOk result (λ found. MatchOption found (¬ InSpan (K.field k.now).ops (length v.now) (rows_of basis.now) v.now) (λ c. IsCombinationList (K.field k.now).ops (length v.now) (rows_of basis.now) v.now c.items)) }
+    ensures { IfOk result (λ found. MatchOption found
+        (¬ InSpan (K.field k.now).ops (length v.now) (rows_of basis.now) v.now)
+        (λ c. IsCombinationList (K.field k.now).ops (length v.now) (rows_of basis.now) v.now c.items)) }
 {
     let minus = minus_one(alloc, k)?;
     let mut rest = copy_row(alloc, v)?;

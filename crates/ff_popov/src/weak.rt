@@ -33,7 +33,8 @@ fn order(rows: &mut [Vec<Poly>], i: usize, j: usize, column: usize)
     requires i_in { i < length rows.old }
     requires pair { IsClash (rows_of rows.old) i j column }
     ensures rows { SameOrSwapped rows.old i j rows.new }
-    ensures longer { length (entry_at (row_at (rows_of rows.new) j) column) ≤ length (entry_at (row_at (rows_of rows.new) i) column) }
+    ensures longer { length (entry_at (row_at (rows_of rows.new) j) column) ≤ length
+        (entry_at (row_at (rows_of rows.new) i) column) }
 {
     if rows[i][column].len() < rows[j][column].len() {
         rows.swap(i, j);
@@ -76,8 +77,10 @@ fn step<K: SmallField>(
     requires apart { IsApartBelow i (rows_of rows.old) }
     ensures keeps { Keeps (K.field k.now) (width_of (rows_of rows.old)) (rows_of rows.old) (rows_of rows.new) }
     ensures apart { IsApartBelow i (rows_of rows.new) }
-    ensures falls { OnOk result (total_position (width_of (rows_of rows.old)) (rows_of rows.new) < total_position (width_of (rows_of rows.old)) (rows_of rows.old)) }
-    ensures stays { total_position (width_of (rows_of rows.old)) (rows_of rows.new) ≤ total_position (width_of (rows_of rows.old)) (rows_of rows.old) }
+    ensures falls { OnOk result (total_position (width_of (rows_of rows.old)) (rows_of rows.new) < total_position
+        (width_of (rows_of rows.old)) (rows_of rows.old)) }
+    ensures stays { total_position (width_of (rows_of rows.old)) (rows_of rows.new) ≤ total_position
+        (width_of (rows_of rows.old)) (rows_of rows.old) }
 {
     order(rows, i, j, column);
     let row = cleared(alloc, k, &rows[i], &rows[j], column)?;
@@ -98,7 +101,8 @@ fn settle<K: SmallField, L: Ledger>(
     requires apart { IsApartBelow i (rows_of rows.old) }
     ensures keeps { Keeps (K.field k.now) (width_of (rows_of rows.old)) (rows_of rows.old) (rows_of rows.new) }
     ensures apart { OnOk result (IsApartBelow (i + 1) (rows_of rows.new)) }
-    ensures steps { steps.new + total_position (width_of (rows_of rows.old)) (rows_of rows.new) ≤ steps.old + total_position (width_of (rows_of rows.old)) (rows_of rows.old) }
+    ensures steps { steps.new + total_position (width_of (rows_of rows.old)) (rows_of rows.new) ≤ steps.old
+        + total_position (width_of (rows_of rows.old)) (rows_of rows.old) }
     ensures counted { steps.old ≤ steps.new }
 {
     while let Some((j, column)) = clash(rows, i) {
@@ -118,7 +122,8 @@ fn reduce<K: SmallField, L: Ledger>(
     requires { All (IsRow (K.field k.now).ops (width_of (rows_of rows.old))) (rows_of rows.old) }
     ensures keeps { Keeps (K.field k.now) (width_of (rows_of rows.old)) (rows_of rows.old) (rows_of rows.new) }
     ensures apart { OnOk result (IsApartBelow (length rows.new) (rows_of rows.new)) }
-    ensures steps { steps.new + total_position (width_of (rows_of rows.old)) (rows_of rows.new) ≤ steps.old + total_position (width_of (rows_of rows.old)) (rows_of rows.old) }
+    ensures steps { steps.new + total_position (width_of (rows_of rows.old)) (rows_of rows.new) ≤ steps.old
+        + total_position (width_of (rows_of rows.old)) (rows_of rows.old) }
     ensures counted { steps.old ≤ steps.new }
 {
     for i in 0..rows.len() {
@@ -127,8 +132,10 @@ fn reduce<K: SmallField, L: Ledger>(
     Ok(())
 }
 
-/// Brings the rows, all of one width, into weak Popov form. Each step of the counter is one simple transformation: c·x^j
-/// times a row is taken from another row with its pivot in the same column and at least its degree, so that the pivot falls.
+/// Brings the rows, all of one width, into weak Popov form. Each step of the counter is one simple transformation:
+/// c·x^j
+/// times a row is taken from another row with its pivot in the same column and at least its degree, so that the pivot
+/// falls.
 /// A transformation takes time linear in the two rows; the new row is made aside, so that after want of memory the rows
 /// span the same lattice.
 pub fn weak_popov<K: SmallField, L: Ledger>(
@@ -139,7 +146,8 @@ pub fn weak_popov<K: SmallField, L: Ledger>(
 ) -> Result<(), AllocError>
     requires { All (IsRow (K.field k.now).ops (width_of (rows_of rows.old.items))) (rows_of rows.old.items) }
     ensures weak { OnOk result (IsWeakPopov (rows_of rows.new.items)) }
-    ensures span { HaveSameSpan (K.field k.now).ops (width_of (rows_of rows.old.items)) (rows_of rows.old.items) (rows_of rows.new.items) }
+    ensures span { HaveSameSpan (K.field k.now).ops (width_of (rows_of rows.old.items)) (rows_of rows.old.items)
+        (rows_of rows.new.items) }
     ensures count { length rows.new.items ≡ length rows.old.items }
     ensures rows_in { All (IsRow (K.field k.now).ops (width_of (rows_of rows.old.items))) (rows_of rows.new.items) }
     ensures steps { steps.new ≤ steps.old + degree_bound (width_of (rows_of rows.old.items)) (rows_of rows.old.items) }

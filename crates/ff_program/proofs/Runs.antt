@@ -16,7 +16,8 @@ use Rattle.ff_session.specs.Sessions.{IsStep}
 use Rattle.ff_program.specs.Output.{Block, blocks_text, AreTrue, IsAnswered}
 use Rattle.ff_program.specs.Ready.{IsAfter, AtStart, AfterField, AfterCurve}
 
-true_push : (s : SessionValue) (bs : List Block) (mid : SessionValue) (b : Block) (next : SessionValue) → AreTrue s bs mid → Takes mid b.statement b.answer next → AreTrue s (bs ++ b ∷ []) next
+true_push : (s : SessionValue) (bs : List Block) (mid : SessionValue) (b : Block) (next : SessionValue)
+    → AreTrue s bs mid → Takes mid b.statement b.answer next → AreTrue s (bs ++ b ∷ []) next
 true_push s [] mid b next h a = (next, subst_answers h a, refl)
   where
     subst_answers : s ≡ mid → Takes mid b.statement b.answer next → Takes s b.statement b.answer next
@@ -24,7 +25,8 @@ true_push s [] mid b next h a = (next, subst_answers h a, refl)
 true_push s (d ∷ ds) mid b next h a = (h.0, h.1, true_push h.0 ds mid b next h.2 a)
 
 -- the blocks with the next one are true, and one statement fewer is left
-pub answered_more : (ss : List Statement) (blocks : List Block) (old new : SessionValue) (s : Statement) (rest : List Statement) (text : List ℕ)
+pub answered_more : (ss : List Statement) (blocks : List Block) (old new : SessionValue) (s : Statement)
+    (rest : List Statement) (text : List ℕ)
     → IsAnswered ss blocks old (s ∷ rest) → (b : IsStep old s text new)
     → IsAnswered ss (blocks ++ record { statement = s; answer = b.answer } ∷ []) new rest
 answered_more ss blocks old new s rest text h b = record {
@@ -32,11 +34,18 @@ answered_more ss blocks old new s rest text h b = record {
   statements =
       h.statements
       ∙ sym (append_assoc (map (λ d. d.statement) blocks) (s ∷ []) rest)
-      ∙ ap (λ ts. ts ++ rest) (sym (map-append (λ d. d.statement) blocks (record { statement = s; answer = b.answer } ∷ [])));
+      ∙ ap (λ ts. ts ++ rest) (sym (map-append (λ d. d.statement) blocks
+      (record { statement = s; answer = b.answer } ∷ [])));
 }
 
-pub blocks_text_more : (blocks : List Block) (b : Block) → blocks_text (blocks ++ b ∷ []) ≡ blocks_text blocks ++ block_text b.statement b.answer
-blocks_text_more blocks b = grind (arith, common_steps, flat_map-append (λ b. block_text b.statement b.answer) blocks (b ∷ []))
+pub blocks_text_more : (blocks : List Block) (b : Block)
+    → blocks_text (blocks ++ b ∷ []) ≡ blocks_text blocks ++ block_text b.statement b.answer
+blocks_text_more blocks b = grind (
+  arith,
+  common_steps,
+  flat_map-append (λ b. block_text b.statement b.answer) blocks
+      (b ∷ []),
+)
 
 -- a statement that may follow stands in its place
 place_nothing : (k : ℕ) (s : Statement) → k ≡ 0 → MayFollow k s → IsInPlace nothing s
@@ -53,7 +62,8 @@ place_field k d (Mul x y) h m = absurd (omega arith)
 place_field k d (Factor g) h m = absurd (omega arith)
 place_field k d (OrderOf side) h m = absurd (omega arith)
 
-place_curve : (k : ℕ) (d : FieldData) (c : CurveValue) (s : Statement) → 2 ≤ k → MayFollow k s → IsInPlace (with_curve d c) s
+place_curve : (k : ℕ) (d : FieldData) (c : CurveValue) (s : Statement) → 2 ≤ k → MayFollow k s
+    → IsInPlace (with_curve d c) s
 place_curve k d c (FieldOf p tail) h m = absurd (omega arith)
 place_curve k d c (CurveOf f) h m = absurd (omega arith)
 place_curve k d c (Mul x y) h m = tt
@@ -66,7 +76,8 @@ in_place k old s (AfterField h d is) m = subst (λ o. IsInPlace o s) (sym is) (p
 in_place k old s (AfterCurve h d c is) m = subst (λ o. IsInPlace o s) (sym is) (place_curve k d c s h m)
 
 -- a statement that is answered leads to the next bindings
-after_nothing : (k : ℕ) (s : Statement) (a : Answer) (new : Bindings) → k ≡ 0 → Answers nothing s a new → IsAfter (k + 1) new
+after_nothing : (k : ℕ) (s : Statement) (a : Answer) (new : Bindings) → k ≡ 0 → Answers nothing s a new
+    → IsAfter (k + 1) new
 after_nothing k (FieldOf p tail) (answers.FieldOf q) new h a = AfterField (omega (arith, h)) a.1.field a.1.bound
 after_nothing k (FieldOf p tail) (answers.CurveOf n m) new h a = elim a [ ]
 after_nothing k (FieldOf p tail) (answers.Mul z) new h a = elim a [ ]
@@ -93,7 +104,8 @@ after_nothing k (OrderOf side) (answers.Mul z) new h a = elim a [ ]
 after_nothing k (OrderOf side) (answers.Factor unit parts) new h a = elim a [ ]
 after_nothing k (OrderOf side) (answers.OrderOf zs) new h a = elim a [ ]
 
-after_field : (k : ℕ) (d : FieldData) (s : Statement) (a : Answer) (new : Bindings) → k ≡ 1 → Answers (with_field d) s a new → IsAfter (k + 1) new
+after_field : (k : ℕ) (d : FieldData) (s : Statement) (a : Answer) (new : Bindings) → k ≡ 1
+    → Answers (with_field d) s a new → IsAfter (k + 1) new
 after_field k d (FieldOf p tail) (answers.FieldOf q) new h a = absurd (let none = a.0 in cc)
 after_field k d (FieldOf p tail) (answers.CurveOf n m) new h a = elim a [ ]
 after_field k d (FieldOf p tail) (answers.Mul z) new h a = elim a [ ]
@@ -120,7 +132,8 @@ after_field k d (OrderOf side) (answers.Mul z) new h a = elim a [ ]
 after_field k d (OrderOf side) (answers.Factor unit parts) new h a = elim a [ ]
 after_field k d (OrderOf side) (answers.OrderOf zs) new h a = elim a [ ]
 
-after_curve : (k : ℕ) (d : FieldData) (c : CurveValue) (s : Statement) (a : Answer) (new : Bindings) → 2 ≤ k → Answers (with_curve d c) s a new → IsAfter (k + 1) new
+after_curve : (k : ℕ) (d : FieldData) (c : CurveValue) (s : Statement) (a : Answer) (new : Bindings) → 2 ≤ k
+    → Answers (with_curve d c) s a new → IsAfter (k + 1) new
 after_curve k d c (FieldOf p tail) (answers.FieldOf q) new h a = absurd (let none = a.0 in cc)
 after_curve k d c (FieldOf p tail) (answers.CurveOf n m) new h a = elim a [ ]
 after_curve k d c (FieldOf p tail) (answers.Mul z) new h a = elim a [ ]
@@ -147,7 +160,8 @@ after_curve k d c (OrderOf side) (answers.Mul z) new h a = elim a [ ]
 after_curve k d c (OrderOf side) (answers.Factor unit parts) new h a = elim a [ ]
 after_curve k d c (OrderOf side) (answers.OrderOf zs) new h a = AfterCurve (omega (arith, h)) d c a.2
 
-pub after_answer : (k : ℕ) (old : Bindings) (s : Statement) (a : Answer) (new : Bindings) → IsAfter k old → Answers old s a new → IsAfter (k + 1) new
+pub after_answer : (k : ℕ) (old : Bindings) (s : Statement) (a : Answer) (new : Bindings) → IsAfter k old
+    → Answers old s a new → IsAfter (k + 1) new
 after_answer k old s a new (AtStart h is) t = after_nothing k s a new h (subst (λ o. Answers o s a new) is t)
 after_answer k old s a new (AfterField h d is) t = after_field k d s a new h (subst (λ o. Answers o s a new) is t)
 after_answer k old s a new (AfterCurve h d c is) t = after_curve k d c s a new h (subst (λ o. Answers o s a new) is t)

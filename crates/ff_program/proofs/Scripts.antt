@@ -26,7 +26,8 @@ IsShort n bytes = length bytes ≤ n
 
 -- ---- lines
 
-onto_short : (n b : ℕ) (parts : List (List ℕ)) → AllByRecursion (IsShort n) parts → AllByRecursion (IsShort (suc n)) (onto_first b parts)
+onto_short : (n b : ℕ) (parts : List (List ℕ)) → AllByRecursion (IsShort n) parts
+    → AllByRecursion (IsShort (suc n)) (onto_first b parts)
 onto_short n b [] h = (omega arith, tt)
 onto_short n b (part ∷ parts) h = (let le = h.0 in omega (arith, le), longer parts h.1)
   where
@@ -42,11 +43,13 @@ pieces_short : (p : ℕ → Bool) (bytes : List ℕ) → AllByRecursion (IsShort
 pieces_short p [] = (omega arith, tt)
 pieces_short p (b ∷ bs) = go (p b) (pieces_short p bs)
   where
-    go : (t : Bool) → AllByRecursion (IsShort (length bs)) (slice_split p bs) → AllByRecursion (IsShort (suc (length bs))) (cond t ([] ∷ slice_split p bs) (onto_first b (slice_split p bs)))
+    go : (t : Bool) → AllByRecursion (IsShort (length bs)) (slice_split p bs)
+        → AllByRecursion (IsShort (suc (length bs))) (cond t ([] ∷ slice_split p bs) (onto_first b (slice_split p bs)))
     go true h = (omega arith, one_longer (length bs) (slice_split p bs) h)
     go false h = onto_short (length bs) b (slice_split p bs) h
 
-kept_short : (n : ℕ) (pieces : List (List ℕ)) → AllByRecursion (IsShort n) pieces → AllByRecursion (IsShort n) (without_empty_last pieces)
+kept_short : (n : ℕ) (pieces : List (List ℕ)) → AllByRecursion (IsShort n) pieces
+    → AllByRecursion (IsShort n) (without_empty_last pieces)
 kept_short n [] h = tt
 kept_short n ([] ∷ []) h = tt
 kept_short n ((b ∷ bs) ∷ []) h = h
@@ -55,39 +58,55 @@ kept_short n ((b ∷ bs) ∷ next ∷ pieces) h = (h.0, kept_short n (next ∷ p
 
 -- ---- statements
 
-parts_short : (parts : List (List ℕ)) (bytes : List ℕ) → SpellsParts parts bytes → AllByRecursion (IsShort (length bytes)) parts
+parts_short : (parts : List (List ℕ)) (bytes : List ℕ) → SpellsParts parts bytes
+    → AllByRecursion (IsShort (length bytes)) parts
 parts_short [] bytes h = tt
 parts_short (part ∷ []) bytes h = (let e = ap length h in omega (arith, e), tt)
 parts_short (part ∷ next ∷ parts) bytes h =
     let long = length_then bytes h in
     let here = ap length h.first in
     let rest = length_then h.back h.second in
-    let others = parts_short (next ∷ parts) h.second.back h.second.second in
-    (omega (arith, long, here), longer (length h.second.back) (length bytes) (next ∷ parts) (omega (arith, long, rest)) others)
+    let others = parts_short (next ∷ parts) h.second.back h.second.second in (
+      omega (arith, long, here),
+      longer (length h.second.back) (length bytes) (next ∷ parts) (omega (arith, long, rest))
+          others,
+    )
   where
-    longer : (m n : ℕ) (parts : List (List ℕ)) → m ≤ n → AllByRecursion (IsShort m) parts → AllByRecursion (IsShort n) parts
+    longer : (m n : ℕ) (parts : List (List ℕ)) → m ≤ n → AllByRecursion (IsShort m) parts
+        → AllByRecursion (IsShort n) parts
     longer m n [] le h = tt
     longer m n (part ∷ parts) le h = (let short = h.0 in omega (arith, short), longer m n parts le h.1)
 
-more_small : (es : List (List Term)) (g : List ℕ) → length g < 2 ^ 34 → Each (λ e. Then (Around (codes ",")) (SpellsTerms false e)) es g → All (All HasSmallExponents) es
+more_small : (es : List (List Term)) (g : List ℕ) → length g < 2 ^ 34
+    → Each (λ e. Then (Around (codes ",")) (SpellsTerms false e)) es g → All (All HasSmallExponents) es
 more_small [] g short h = All-nil (All HasSmallExponents)
 more_small (e ∷ es) g short h =
     let long = length_then g h in
     let part = length_then h.front h.first in
-    All-cons (All HasSmallExponents) e es (terms_small false e h.first.back h.first.second (omega arith)) (more_small es h.back (omega arith) h.second)
+    All-cons (All HasSmallExponents) e es (terms_small false e h.first.back h.first.second (omega arith))
+    (more_small es h.back (omega arith) h.second)
 
-entries_small : (es : List (List Term)) (g : List ℕ) → length g < 2 ^ 34 → SpellsEntries es g → All (All HasSmallExponents) es
+entries_small : (es : List (List Term)) (g : List ℕ) → length g < 2 ^ 34 → SpellsEntries es g
+    → All (All HasSmallExponents) es
 entries_small [] g short h = absurd h
 entries_small (e ∷ es) g short h =
     let long = length_then g h in
-    All-cons (All HasSmallExponents) e es (terms_small false e h.front h.first (omega arith)) (more_small es h.back (omega arith) h.second)
+    All-cons (All HasSmallExponents) e es (terms_small false e h.front h.first (omega arith))
+    (more_small es h.back (omega arith) h.second)
 
 one_term_small : (d : List Term) (g : List ℕ) → length g < 2 ^ 34 → SpellsOneTerm d g → All HasSmallExponents d
 one_term_small [] g short h = absurd h
 one_term_small (t ∷ []) g short h = terms_small false (t ∷ []) g spelled short
   where
     first : SpellsFirst false t g
-    first = record { front = []; back = g; whole = refl; first = subst (λ m. FirstSign m []) (sym h.0) refl; second = h.1 }
+    first = record {
+      front = [];
+      back = g;
+      whole = refl;
+      first = subst (λ m. FirstSign m []) (sym h.0) refl;
+      second =
+          h.1;
+    }
 
     spelled : SpellsTerms false (t ∷ []) g
     spelled = record { front = g; back = []; whole = sym (append-nil g); first = first; second = refl }
@@ -101,7 +120,8 @@ den_small d g short (inr h) =
     let inner = length_then h.second.back h.second.second in
     terms_small false d h.second.second.front h.second.second.first (omega arith)
 
-tail_small : (o : Option (List Term)) (g : List ℕ) → length g < 2 ^ 34 → SpellsTail o g → IfSome o (All HasSmallExponents)
+tail_small : (o : Option (List Term)) (g : List ℕ) → length g < 2 ^ 34 → SpellsTail o g
+    → IfSome o (All HasSmallExponents)
 tail_small None g short h = tt
 tail_small (Some d) g short h =
     let slash = length_then g h in
@@ -118,7 +138,8 @@ element_small e g short h =
       den = tail_small e.den h.back (omega arith) h.second;
     }
 
-powers_small : (s : Statement) (parts : List (List ℕ)) (n : ℕ) → n < 2 ^ 34 → AllByRecursion (IsShort n) parts → ArePartsOf s parts → HasSmallPowers s
+powers_small : (s : Statement) (parts : List (List ℕ)) (n : ℕ) → n < 2 ^ 34 → AllByRecursion (IsShort n) parts
+    → ArePartsOf s parts → HasSmallPowers s
 powers_small (FieldOf p tail) parts n small short h = tt
 powers_small (CurveOf f) parts n small short h =
     let all = subst (AllByRecursion (IsShort n)) h.1 short in
@@ -140,10 +161,14 @@ line_ready s line short h =
     let whole = length_then line h in
     let inner = length_then h.back h.second in
     let spelled = h.second.first in
-    let small : length h.second.front < 2 ^ 34 = omega arith in
-    (line_writable s line h, powers_small s spelled.parts (length h.second.front) small (parts_short spelled.parts h.second.front spelled.joined) spelled.named)
+    let small : length h.second.front < 2 ^ 34 = omega arith in (
+      line_writable s line h,
+      powers_small s spelled.parts (length h.second.front) small
+          (parts_short spelled.parts h.second.front spelled.joined) spelled.named,
+    )
 
-lines_ready : (n : ℕ) (lines : List (List ℕ)) (ss : List Statement) → n < 2 ^ 34 → AllByRecursion (IsShort n) lines → IsReadAs lines ss → All IsReady ss
+lines_ready : (n : ℕ) (lines : List (List ℕ)) (ss : List Statement) → n < 2 ^ 34 → AllByRecursion (IsShort n) lines
+    → IsReadAs lines ss → All IsReady ss
 lines_ready n [] ss small short h = rw h (All-nil IsReady)
 lines_ready n (line ∷ lines) [] small short h = All-nil IsReady
 lines_ready n (line ∷ lines) (s ∷ ss) small short (inl h) = lines_ready n lines (s ∷ ss) small short.1 h.1
@@ -155,4 +180,5 @@ lines_ready n (line ∷ lines) (s ∷ ss) small short (inr h) =
 pub script_ready : (bytes : List ℕ) (ss : List Statement) → length bytes ≤ 65536 → IsScript bytes ss → All IsReady ss
 script_ready bytes ss short h =
     let small : length bytes < 2 ^ 34 = omega arith in
-    lines_ready (length bytes) (lines_of bytes) ss small (kept_short (length bytes) (slice_split (λ b. b == 10) bytes) (pieces_short (λ b. b == 10) bytes)) h.read
+    lines_ready (length bytes) (lines_of bytes) ss small
+    (kept_short (length bytes) (slice_split (λ b. b == 10) bytes) (pieces_short (λ b. b == 10) bytes)) h.read

@@ -4,7 +4,8 @@ use Rattle.std.specs.Cmp.Lexicographic.{same_text, other_text}
 use lib.Pointwise.{pointwise}
 
 -- one word, compared byte by byte
-pub one_word : {A : Type 0} (f : A → List ℕ) (text : List ℕ) (ws : List A) (w : A) (r : Bool) → 1 ≤ length ws → length ws < 2 → w ≡ get_or ws 0 w
+pub one_word : {A : Type 0} (f : A → List ℕ) (text : List ℕ) (ws : List A) (w : A) (r : Bool) → 1 ≤ length ws
+    → length ws < 2 → w ≡ get_or ws 0 w
     → r ≡ pointwise nat_eq (f w) text → IsTrue r ↔ (map f ws ≡ text ∷ [])
 one_word f text [] w r some few is same = absurd (omega arith)
 one_word f text (v ∷ u ∷ ws) w r some few is same = absurd (omega arith)

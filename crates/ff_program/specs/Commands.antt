@@ -26,8 +26,10 @@ pub record IsAnsweredWhole (bytes text : List ℕ) : Type 0 where
   pub answered : IsAnswered statements blocks last []
   pub is : text ≡ blocks_text blocks ++ end_line (length blocks)
 
-module _ {S T : Type 0} (left : S → Option (List ℕ)) (source_faults : S → ℕ) (taken : T → Option (List ℕ)) (sink_faults : T → ℕ) (free : T → Option ℕ) where
-  -- Of a run over these bytes, by its status: what it printed, and that it read them to their end, or one byte past the limit.
+module _ {S T : Type 0} (left : S → Option (List ℕ)) (source_faults : S → ℕ) (taken : T → Option (List ℕ))
+    (sink_faults : T → ℕ) (free : T → Option ℕ) where
+  -- Of a run over these bytes, by its status: what it printed, and that it read them to their end, or one byte past the
+  -- limit.
   pub record RunEnds (bytes : List ℕ) (source : S) (old new : T) (status : Status) : Type 0 where
     pub read : left source ≡ Some (drop 65537 bytes)
     pub ends : EndsAs taken sink_faults free (IsOutput bytes) (IsBegun bytes) old new status
@@ -39,9 +41,11 @@ module _ {S T : Type 0} (left : S → Option (List ℕ)) (source_faults : S → 
   Runs source source' sink sink' ReadFault = Rose (source_faults source) (source_faults source') × (sink' ≡ sink)
   Runs source source' sink sink' WriteFault =
       Rose (sink_faults sink) (sink_faults sink')
-      × ForSome (left source) (λ bytes. EndsAs taken sink_faults free (IsOutput bytes) (IsBegun bytes) sink sink' WriteFault)
+      × ForSome (left source) (λ bytes. EndsAs taken sink_faults free (IsOutput bytes) (IsBegun bytes) sink sink'
+      WriteFault)
   Runs source source' sink sink' WantOfMemory =
-      ForSome (left source) (λ bytes. EndsAs taken sink_faults free (IsOutput bytes) (IsBegun bytes) sink sink' WantOfMemory)
+      ForSome (left source) (λ bytes. EndsAs taken sink_faults free (IsOutput bytes) (IsBegun bytes) sink sink'
+      WantOfMemory)
   Runs source source' sink sink' _ = ⊥
 
   -- with room for all that a run over these bytes could print, it printed without a fault

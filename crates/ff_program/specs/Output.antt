@@ -43,9 +43,10 @@ AreTrue s [] last = s ≡ last
 AreTrue s (b ∷ bs) last = (next : SessionValue) × Takes s b.statement b.answer next × AreTrue next bs last
 
 -- true blocks for the first of the statements, and the statements that are left
-pub record IsAnswered (ss : List Statement) (blocks : List Block) (last : SessionValue) (rest : List Statement) : Type 0 where
-  pub blocks_true : AreTrue at_start blocks last
-  pub statements : ss ≡ map (λ b. b.statement) blocks ++ rest
+pub record IsAnswered (ss : List Statement) (blocks : List Block) (last : SessionValue) (rest : List Statement) : Type 0
+  where
+    pub blocks_true : AreTrue at_start blocks last
+    pub statements : ss ≡ map (λ b. b.statement) blocks ++ rest
 
 -- what follows n blocks: the end, or the echo and the refusal of the next statement
 abbrev pub IsClosing : ℕ → SessionValue → List Statement → List ℕ → Bool → Type 0
@@ -68,15 +69,19 @@ pub data IsOutput (bytes : List ℕ) : List ℕ → Bool → Type 0 where
   TooLong : 65536 < length bytes → IsOutput bytes too_long_line false
   Syntax : (line : ℕ) → length bytes ≤ 65536 → IsSyntaxFault bytes line → IsOutput bytes (syntax_line line) false
   Misplaced : (line : ℕ) → length bytes ≤ 65536 → IsMisplaced bytes line → IsOutput bytes (misplaced_line line) false
-  Script : (ss : List Statement) (text : List ℕ) (finished : Bool) → length bytes ≤ 65536 → IsScript bytes ss → IsOut ss text finished → IsOutput bytes text finished
+  Script : (ss : List Statement) (text : List ℕ) (finished : Bool) → length bytes ≤ 65536 → IsScript bytes ss
+      → IsOut ss text finished → IsOutput bytes text finished
 
 -- What a run over these statements has printed between two pieces: the blocks of the first ones, or all.
 pub data IsPart (ss : List Statement) : List ℕ → Type 0 where
-  Blocks : (blocks : List Block) (last : SessionValue) (rest : List Statement) → IsAnswered ss blocks last rest → IsPart ss (blocks_text blocks)
+  Blocks : (blocks : List Block) (last : SessionValue) (rest : List Statement) → IsAnswered ss blocks last rest
+      → IsPart ss (blocks_text blocks)
   Whole : (text : List ℕ) (finished : Bool) → IsOut ss text finished → IsPart ss text
 
--- what a run has printed between two pieces: nothing, the one line of an input that is no script, or a part over its statements
+-- what a run has printed between two pieces: nothing, the one line of an input that is no script, or a part over its
+-- statements
 pub data IsBegun (bytes : List ℕ) : List ℕ → Type 0 where
   Nothing : IsBegun bytes []
   Line : (text : List ℕ) (finished : Bool) → IsOutput bytes text finished → IsBegun bytes text
-  Part : (ss : List Statement) (text : List ℕ) → length bytes ≤ 65536 → IsScript bytes ss → IsPart ss text → IsBegun bytes text
+  Part : (ss : List Statement) (text : List ℕ) → length bytes ≤ 65536 → IsScript bytes ss → IsPart ss text
+      → IsBegun bytes text

@@ -21,7 +21,8 @@ module _ {T : Type 0} (taken : T → Option (List ℕ)) (faults : T → ℕ) (fr
     pub cause : Rose (faults old) (faults new)
     pub no_room : ForSome (free old) (λ f. length text ≤ f → ⊥)
 
-  -- By its status a call printed one of these outputs, finished or not; or broke off in one that is begun; or stopped behind one.
+  -- By its status a call printed one of these outputs, finished or not; or broke off in one that is begun; or stopped
+  -- behind one.
   abbrev pub EndsAs : (List ℕ → Bool → Type 0) → (List ℕ → Type 0) → T → T → Status → Type 0
   EndsAs IsOutput IsBegun old new Done = (text : List ℕ) × IsOutput text true × Prints old new text
   EndsAs IsOutput IsBegun old new Refused = (text : List ℕ) × IsOutput text false × Prints old new text
@@ -31,4 +32,5 @@ module _ {T : Type 0} (taken : T → Option (List ℕ)) (faults : T → ℕ) (fr
 
   -- The text was printed, and the status is the one asked for; or the sink failed in it.
   abbrev pub EndsWith : T → T → List ℕ → Status → Status → Type 0
-  EndsWith old new text asked status = ((status ≡ asked) × Prints old new text) ⊎ ((status ≡ WriteFault) × BreaksOff old new text)
+  EndsWith old new text asked status = ((status ≡ asked) × Prints old new text)
+      ⊎ ((status ≡ WriteFault) × BreaksOff old new text)

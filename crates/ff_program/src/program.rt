@@ -23,7 +23,8 @@ fn is_run(words: &[String]) -> bool
     }
 }
 
-/// Does what the words after the program's own name ask for. With the word `run` it reads a script from the source to its
+/// Does what the words after the program's own name ask for. With the word `run` it reads a script from the source to
+/// its
 /// end, and prints to the sink a true answer to each statement, up to the first that is refused. Other words print the
 /// usage line; then nothing is read, and no memory is taken. Of bytes the clauses speak where the source and the sink
 /// tell them. `WantOfMemory` may come at any moment.
@@ -48,7 +49,8 @@ pub fn top<S: Source, T: Sink>(alloc: Global, words: &[String], src: &mut S, out
     // A fault comes only where the source or the sink counted one; what was printed begins an output of the bytes.
     ensures read_fault { result ≡ Status.ReadFault → Rose (S.faults src.old) (S.faults src.new) × (out.new ≡ out.old) }
     ensures write_fault { result ≡ Status.WriteFault → Rose (T.faults out.old) (T.faults out.new) }
-    ensures broken_off { result ≡ Status.WriteFault → IsRun (map string_bytes words.now) → ForSome (S.left src.old) (λ bytes.
+    ensures broken_off { result ≡ Status.WriteFault → IsRun (map string_bytes words.now)
+        → ForSome (S.left src.old) (λ bytes.
         (text : List ℕ) × IsBegun bytes text × BreaksOff T.taken T.faults T.free out.old out.new text) }
     ensures stopped { result ≡ Status.WantOfMemory → ForSome (S.left src.old) (λ bytes.
         (text : List ℕ) × IsBegun bytes text × Prints T.taken T.faults T.free out.old out.new text) }

@@ -141,7 +141,8 @@ fn run_bytes<T: Sink>(alloc: Global, bytes: &[u8], out: &mut T) -> Status
 /// Reads a script to its end, and answers it.
 pub fn run<S: Source, T: Sink>(alloc: Global, src: &mut S, out: &mut T) -> Status
     ensures runs { Runs S.left S.faults T.taken T.faults T.free src.old src.new out.old out.new result }
-    ensures stays_steady { S.steady src.old → (S.faults src.new ≡ S.faults src.old) × S.steady src.new × ¬ (result ≡ Status.ReadFault) }
+    ensures stays_steady { S.steady src.old
+        → (S.faults src.new ≡ S.faults src.old) × S.steady src.new × ¬ (result ≡ Status.ReadFault) }
 {
     match read_all(alloc, src, LIMIT) {
         Ok(bytes) => run_bytes(alloc, bytes.as_slice(), out),

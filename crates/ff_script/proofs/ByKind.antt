@@ -46,7 +46,8 @@ statement OrderKind side = OrderOf side
 abbrev pub IsHeldAt : (k : Kind) → Held k → List ℕ → Type 0
 IsHeldAt FieldKind h bytes = IsWhole h.1 × AreNumbersAt (h.0 ∷ numbers_of h.1) bytes
 IsHeldAt CurveKind f bytes = AreTermsAt true f bytes
-IsHeldAt MulKind h bytes = (rest : List ℕ) × IsFront (SpellsElement h.0) bytes rest × IsFront (SpellsElement h.1) rest []
+IsHeldAt MulKind h bytes = (rest : List ℕ) × IsFront (SpellsElement h.0) bytes rest
+    × IsFront (SpellsElement h.1) rest []
 IsHeldAt FactorKind g bytes = AreTermsAt false g bytes
 IsHeldAt OrderKind side bytes = IsSideAt side bytes
 
@@ -73,7 +74,8 @@ made_again (Mul a b) = refl
 made_again (Factor g) = refl
 made_again (OrderOf side) = refl
 
-behind_held : (word : List ℕ) (s : Statement) (bytes : List ℕ) → IsBehind word s bytes → (word ≡ word_of (kind_of s)) × IsHeldAt (kind_of s) (held_by s) bytes
+behind_held : (word : List ℕ) (s : Statement) (bytes : List ℕ) → IsBehind word s bytes
+    → (word ≡ word_of (kind_of s)) × IsHeldAt (kind_of s) (held_by s) bytes
 behind_held word (FieldOf p tail) bytes h = (h.0, (h.1, h.2))
 behind_held word (CurveOf f) bytes h = h
 behind_held word (Mul a b) bytes h = h
@@ -88,7 +90,8 @@ mark [] = 0
 mark (b ∷ bs) = b + 2 * mark bs
 
 abbrev kind_at : ℕ → Kind
-kind_at n = if eqb n 3180 then FieldKind else if eqb n 3349 then CurveKind else if eqb n 775 then MulKind else if eqb n 7044 then FactorKind else OrderKind
+kind_at n = if eqb n 3180 then FieldKind else if eqb n 3349 then CurveKind else if eqb n 775 then MulKind else if eqb n
+    7044 then FactorKind else OrderKind
 
 told : (k : Kind) → kind_at (mark (word_of k)) ≡ k
 told FieldKind = refl
@@ -110,14 +113,17 @@ pub record IsOfKind (k : Kind) (s : Statement) (bytes : List ℕ) : Type 0 where
 pub of_kind : (k : Kind) (s : Statement) (bytes : List ℕ) → IsBehind (word_of k) s bytes → IsOfKind k s bytes
 of_kind k s bytes h =
     let b = behind_held (word_of k) s bytes h in
-    subst (λ (l : Kind). IsOfKind l s bytes) (sym (same_kind k (kind_of s) b.0)) (record { held = held_by s; made = made_again s; at = b.1 })
+    subst (λ (l : Kind). IsOfKind l s bytes) (sym (same_kind k (kind_of s) b.0))
+    (record { held = held_by s; made = made_again s; at = b.1 })
 
 -- where the bytes aren't what the kind holds, no statement stands behind its word
-pub none_of_kind : (k : Kind) (bytes : List ℕ) → ((held : Held k) → IsHeldAt k held bytes → ⊥) → (s : Statement) → IsBehind (word_of k) s bytes → ⊥
+pub none_of_kind : (k : Kind) (bytes : List ℕ) → ((held : Held k) → IsHeldAt k held bytes → ⊥) → (s : Statement)
+    → IsBehind (word_of k) s bytes → ⊥
 none_of_kind k bytes none s h = let o = of_kind k s bytes h in none o.held o.at
 
 -- the word of a statement
-pub word_of_behind : (word : List ℕ) (s : Statement) (bytes : List ℕ) → IsBehind word s bytes → word ≡ word_of (kind_of s)
+pub word_of_behind : (word : List ℕ) (s : Statement) (bytes : List ℕ) → IsBehind word s bytes
+    → word ≡ word_of (kind_of s)
 word_of_behind word s bytes h = let b = behind_held word s bytes h in b.0
 
 -- ---- words

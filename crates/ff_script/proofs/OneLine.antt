@@ -39,7 +39,8 @@ tail_equal (Some a) (Some b) e =
     let others : a.codes ≡ b.codes = cc in
     ap (λ (m : Modulus). Some m) (modulus_same a b degree others)
 
-field_same : (p q : ℕ) (s t : Option Modulus) (bytes : List ℕ) → AreNumbersAt (p ∷ numbers_of s) bytes → AreNumbersAt (q ∷ numbers_of t) bytes → FieldOf p s ≡ FieldOf q t
+field_same : (p q : ℕ) (s t : Option Modulus) (bytes : List ℕ) → AreNumbersAt (p ∷ numbers_of s) bytes
+    → AreNumbersAt (q ∷ numbers_of t) bytes → FieldOf p s ≡ FieldOf q t
 field_same p q s t bytes h k =
     let all : p ∷ numbers_of s ≡ q ∷ numbers_of t = numbers_same (p ∷ numbers_of s) (q ∷ numbers_of t) bytes h k in
     let first : p ≡ q = cc in
@@ -57,30 +58,41 @@ one_side Infinite Finite bytes h k = absurd (other_word bytes k h)
 one_side Infinite Infinite bytes h k = refl
 
 -- the last part spells one value at most
-last_same : {V : Type 0} (Spells : V → List ℕ → Type 0) → OneValue Spells → ((v : V) (b : List ℕ) → Spells v b → IsSolid b) → (v w : V) (bytes : List ℕ) → IsFront (Spells v) bytes [] → IsFront (Spells w) bytes [] → v ≡ w
+last_same : {V : Type 0} (Spells : V → List ℕ → Type 0) → OneValue Spells
+    → ((v : V) (b : List ℕ) → Spells v b → IsSolid b) → (v w : V) (bytes : List ℕ) → IsFront (Spells v) bytes []
+    → IsFront (Spells w) bytes [] → v ≡ w
 last_same Spells one solid v w bytes h k =
     let blanks : Blanks (h.gap ++ []) = subst Blanks (sym (append-nil h.gap)) h.blanks in
     let others : Blanks (k.gap ++ []) = subst Blanks (sym (append-nil k.gap)) k.blanks in
-    let fronts : h.front ≡ k.front = stopped_same h.front k.front (h.gap ++ []) (k.gap ++ []) (solid v h.front h.part).stops (solid w k.front k.part).stops blanks others (sym h.whole ∙ k.whole) in
+    let fronts : h.front ≡ k.front = stopped_same h.front k.front (h.gap ++ []) (k.gap ++ [])
+    (solid v h.front h.part).stops (solid w k.front k.part).stops blanks others (sym h.whole ∙ k.whole) in
     one v w k.front (subst (Spells v) fronts h.part) k.part
 
 module _ (one_terms : (with_y : Bool) → OneValue (SpellsTerms with_y)) (one_element : OneValue SpellsElement) where
   -- an element at the front, and what stands behind it
-  element_same : (a b : ElemText) (bytes r s : List ℕ) → IsElementFront a bytes r → IsElementFront b bytes s → (a ≡ b) × (r ≡ s)
+  element_same : (a b : ElemText) (bytes r s : List ℕ) → IsElementFront a bytes r → IsElementFront b bytes s
+      → (a ≡ b) × (r ≡ s)
   element_same a b bytes r s h k =
       let both = fronts_one bytes a b r s h k in
       (one_element a b k.front.front (subst (SpellsElement a) both.0 h.front.part) k.front.part, both.1)
 
   -- the bytes are one thing of a kind at most
-  held_same : (k : Kind) (a b : Held k) (bytes : List ℕ) → IsHeldAt k a bytes → IsHeldAt k b bytes → statement k a ≡ statement k b
+  held_same : (k : Kind) (a b : Held k) (bytes : List ℕ) → IsHeldAt k a bytes → IsHeldAt k b bytes
+      → statement k a ≡ statement k b
   held_same FieldKind a b bytes h k = field_same a.0 b.0 a.1 b.1 bytes h.1 k.1
-  held_same CurveKind f g bytes h k = ap (λ (x : List Term). CurveOf x) (last_same (SpellsTerms true) (one_terms true) (terms_solid true) f g bytes h k)
+  held_same CurveKind f g bytes h k = ap (λ (x : List Term). CurveOf x)
+      (last_same (SpellsTerms true) (one_terms true) (terms_solid true) f g bytes h k)
   held_same MulKind a b bytes h k =
-      let left = element_same a.0 b.0 bytes h.0 k.0 (record { front = h.1; behind = begins_element a.1 h.0 [] h.2 }) (record { front = k.1; behind = begins_element b.1 k.0 [] k.2 }) in
-      let right = element_same a.1 b.1 k.0 [] [] (record { front = subst (λ (t : List ℕ). IsFront (SpellsElement a.1) t []) left.1 h.2; behind = refl }) (record { front = k.2; behind = refl }) in
+      let left = element_same a.0 b.0 bytes h.0 k.0 (record { front = h.1; behind = begins_element a.1 h.0 [] h.2 })
+      (record { front = k.1; behind = begins_element b.1 k.0 [] k.2 }) in
+      let right = element_same a.1 b.1 k.0 [] []
+      (record { front = subst (λ (t : List ℕ). IsFront (SpellsElement a.1) t []) left.1 h.2; behind = refl })
+      (record { front = k.2; behind = refl }) in
       ap (λ (x : ElemText). Mul x a.1) left.0 ∙ ap (Mul b.0) right.0
-  held_same FactorKind f g bytes h k = ap (λ (x : List Term). Factor x) (last_same (SpellsTerms false) (one_terms false) (terms_solid false) f g bytes h k)
-  held_same OrderKind s t bytes h k = ap (λ (x : Side). OrderOf x) (last_same SpellsSide one_side side_solid s t bytes h k)
+  held_same FactorKind f g bytes h k = ap (λ (x : List Term). Factor x)
+      (last_same (SpellsTerms false) (one_terms false) (terms_solid false) f g bytes h k)
+  held_same OrderKind s t bytes h k = ap (λ (x : Side). OrderOf x)
+      (last_same SpellsSide one_side side_solid s t bytes h k)
 
   behind_same : (word bytes : List ℕ) (s t : Statement) → IsBehind word s bytes → IsBehind word t bytes → s ≡ t
   behind_same word bytes s t h k =
@@ -94,20 +106,28 @@ module _ (one_terms : (with_y : Bool) → OneValue (SpellsTerms with_y)) (one_el
       let left = line_at s line h in
       let right = line_at t line k in
       let is = word_of_statement left.word s left.rest left.behind in
-      behind_same left.word left.rest s t left.behind (statement_behind left.word (behind_blanks line) left.rest is left.front t right)
+      behind_same left.word left.rest s t left.behind
+      (statement_behind left.word (behind_blanks line) left.rest is left.front t right)
 
 -- ---- skipped lines
 
 -- bytes that begin with a word begin with a word byte
-word_first : (word more : List ℕ) → IsWord word → (b : ℕ) × (bs : List ℕ) × (word ++ more ≡ b ∷ bs) × (is_word_byte b ≡ true)
+word_first : (word more : List ℕ) → IsWord word
+    → (b : ℕ) × (bs : List ℕ) × (word ++ more ≡ b ∷ bs) × (is_word_byte b ≡ true)
 word_first [] more h = let none : false ≡ true = h.ends in absurd cc
 word_first (b ∷ bs) more h = (b, bs ++ more, refl, h.all.0)
 
-begins : (line : List ℕ) (s : Statement) → SpellsLine s line → (b : ℕ) × (bs : List ℕ) × (behind_blanks line ≡ b ∷ bs) × (is_word_byte b ≡ true)
+begins : (line : List ℕ) (s : Statement) → SpellsLine s line
+    → (b : ℕ) × (bs : List ℕ) × (behind_blanks line ≡ b ∷ bs) × (is_word_byte b ≡ true)
 begins line s h =
     let at = line_at s line h in
-    let first = word_first at.word (at.front.gap ++ at.rest) (word_of_statement at.word s at.rest at.behind) in
-    (first.0, first.1, at.front.whole ∙ ap (λ (t : List ℕ). t ++ (at.front.gap ++ at.rest)) at.front.part ∙ first.2, first.3)
+    let first = word_first at.word (at.front.gap ++ at.rest) (word_of_statement at.word s at.rest at.behind) in (
+      first.0,
+      first.1,
+      at.front.whole ∙ ap (λ (t : List ℕ). t ++ (at.front.gap ++ at.rest)) at.front.part
+          ∙ first.2,
+      first.3,
+    )
 
 -- a line that is skipped spells no statement
 pub skipped_none : (line : List ℕ) (s : Statement) → IsSkipped line → SpellsLine s line → ⊥

@@ -45,30 +45,40 @@ element_unfed e bytes h =
 numbers_unfed : (ns : List ℕ) (parts : List (List ℕ)) → AreNumbers ns parts → AllByRecursion AreUnfed parts
 numbers_unfed [] parts h = subst (AllByRecursion AreUnfed) (sym h) tt
 numbers_unfed (n ∷ ns) [] h = absurd h
-numbers_unfed (n ∷ ns) (part ∷ parts) h = (inside_unfed part (number_solid n part h.0).inside, numbers_unfed ns parts h.1)
+numbers_unfed (n ∷ ns) (part ∷ parts) h =
+    (inside_unfed part (number_solid n part h.0).inside, numbers_unfed ns parts h.1)
 
 parts_unfed : (s : Statement) (parts : List (List ℕ)) → ArePartsOf s parts → AllByRecursion AreUnfed parts
-parts_unfed (FieldOf p tail) parts h = subst (AllByRecursion AreUnfed) (sym h.1) ((refl, (refl, (refl, (refl, (refl, tt))))), numbers_unfed (p ∷ numbers_of tail) h.0 h.2)
-parts_unfed (CurveOf f) parts h = subst (AllByRecursion AreUnfed) (sym h.1) ((refl, (refl, (refl, (refl, (refl, tt))))), (inside_unfed h.0 (terms_solid true f h.0 h.2).inside, tt))
-parts_unfed (Mul a b) parts h = subst (AllByRecursion AreUnfed) (sym h.2) ((refl, (refl, (refl, tt))), (element_unfed a h.0 h.3, (element_unfed b h.1 h.4, tt)))
-parts_unfed (Factor g) parts h = subst (AllByRecursion AreUnfed) (sym h.1) ((refl, (refl, (refl, (refl, (refl, (refl, tt)))))), (inside_unfed h.0 (terms_solid false g h.0 h.2).inside, tt))
-parts_unfed (OrderOf side) parts h = subst (AllByRecursion AreUnfed) (sym h.1) ((refl, (refl, (refl, (refl, (refl, tt))))), (inside_unfed h.0 (side_solid side h.0 h.2).inside, tt))
+parts_unfed (FieldOf p tail) parts h = subst (AllByRecursion AreUnfed) (sym h.1)
+    ((refl, (refl, (refl, (refl, (refl, tt))))), numbers_unfed (p ∷ numbers_of tail) h.0 h.2)
+parts_unfed (CurveOf f) parts h = subst (AllByRecursion AreUnfed) (sym h.1)
+    ((refl, (refl, (refl, (refl, (refl, tt))))), (inside_unfed h.0 (terms_solid true f h.0 h.2).inside, tt))
+parts_unfed (Mul a b) parts h = subst (AllByRecursion AreUnfed) (sym h.2)
+    ((refl, (refl, (refl, tt))), (element_unfed a h.0 h.3, (element_unfed b h.1 h.4, tt)))
+parts_unfed (Factor g) parts h = subst (AllByRecursion AreUnfed) (sym h.1)
+    ((refl, (refl, (refl, (refl, (refl, (refl, tt)))))), (inside_unfed h.0 (terms_solid false g h.0 h.2).inside, tt))
+parts_unfed (OrderOf side) parts h = subst (AllByRecursion AreUnfed) (sym h.1)
+    ((refl, (refl, (refl, (refl, (refl, tt))))), (inside_unfed h.0 (side_solid side h.0 h.2).inside, tt))
 
-joined_unfed : (parts : List (List ℕ)) (core : List ℕ) → AllByRecursion AreUnfed parts → SpellsParts parts core → AreUnfed core
+joined_unfed : (parts : List (List ℕ)) (core : List ℕ) → AllByRecursion AreUnfed parts → SpellsParts parts core
+    → AreUnfed core
 joined_unfed [] core h joined = subst AreUnfed (sym joined) tt
 joined_unfed (part ∷ []) core h joined = subst AreUnfed (sym joined) h.0
 joined_unfed (part ∷ next ∷ parts) core h joined =
     let first : AreUnfed joined.front = subst AreUnfed (sym joined.first) h.0 in
     let gap : AreUnfed joined.second.front = blanks_unfed joined.second.front joined.second.first.blanks in
     let more : AreUnfed joined.second.back = joined_unfed (next ∷ parts) joined.second.back h.1 joined.second.second in
-    let behind : AreUnfed joined.back = subst AreUnfed (sym joined.second.whole) (all_append IsUnfed joined.second.front joined.second.back gap more) in
+    let behind : AreUnfed joined.back = subst AreUnfed (sym joined.second.whole)
+    (all_append IsUnfed joined.second.front joined.second.back gap more) in
     subst AreUnfed (sym joined.whole) (all_append IsUnfed joined.front joined.back first behind)
 
 -- a line that spells a statement has no line feed
 pub line_unfed : (s : Statement) (line : List ℕ) → SpellsLine s line → AreUnfed line
 line_unfed s line h =
-    let core : AreUnfed h.second.front = joined_unfed h.second.first.parts h.second.front (parts_unfed s h.second.first.parts h.second.first.named) h.second.first.joined in
-    let behind : AreUnfed h.back = subst AreUnfed (sym h.second.whole) (all_append IsUnfed h.second.front h.second.back core (blanks_unfed h.second.back h.second.second)) in
+    let core : AreUnfed h.second.front = joined_unfed h.second.first.parts h.second.front
+    (parts_unfed s h.second.first.parts h.second.first.named) h.second.first.joined in
+    let behind : AreUnfed h.back = subst AreUnfed (sym h.second.whole)
+    (all_append IsUnfed h.second.front h.second.back core (blanks_unfed h.second.back h.second.second)) in
     subst AreUnfed (sym h.whole) (all_append IsUnfed h.front h.back (blanks_unfed h.front h.first) behind)
 
 unfed_passes : (bytes : List ℕ) → AreUnfed bytes → All (λ b. is_feed b ≡ false) bytes
@@ -81,7 +91,8 @@ unfed_passes (b ∷ bs) h = All-cons (λ b. is_feed b ≡ false) b bs h.0 (unfed
 space_gap : (left right : List ℕ) → IsGap left right (codes " ")
 space_gap left right = record { blanks = (refl, tt); apart = λ both e. cc }
 
-spaced : (part next : List ℕ) (parts : List (List ℕ)) (rest : List ℕ) → SpellsParts (next ∷ parts) rest → SpellsParts (part ∷ next ∷ parts) (part ++ (32 ∷ rest))
+spaced : (part next : List ℕ) (parts : List (List ℕ)) (rest : List ℕ) → SpellsParts (next ∷ parts) rest
+    → SpellsParts (part ∷ next ∷ parts) (part ++ (32 ∷ rest))
 spaced part next parts rest h = record {
   front = part;
   back = 32 ∷ rest;
@@ -92,7 +103,8 @@ spaced part next parts rest h = record {
 
 numbers_spaced : (part : List ℕ) (ns : List ℕ) → SpellsParts (part ∷ map decimal ns) (part ++ numbers_text ns)
 numbers_spaced part [] = append-nil part
-numbers_spaced part (n ∷ ns) = spaced part (decimal n) (map decimal ns) (decimal n ++ numbers_text ns) (numbers_spaced (decimal n) ns)
+numbers_spaced part (n ∷ ns) = spaced part (decimal n) (map decimal ns) (decimal n ++ numbers_text ns)
+    (numbers_spaced (decimal n) ns)
 
 side_spelled : (side : Side) → SpellsSide side (side_text side)
 side_spelled Finite = refl
@@ -117,7 +129,12 @@ module _ (spelled : AreSpelled) where
   parts_of (OrderOf side) = codes "order" ∷ side_text side ∷ []
 
   parts_named : (s : Statement) → IsWritable s → ArePartsOf s (parts_of s)
-  parts_named (FieldOf p tail) h = (map decimal (p ∷ numbers_of tail), refl, numbers_spelled (p ∷ numbers_of tail) h.0, h.1)
+  parts_named (FieldOf p tail) h = (
+    map decimal (p ∷ numbers_of tail),
+    refl,
+    numbers_spelled (p ∷ numbers_of tail) h.0,
+    h.1,
+  )
   parts_named (CurveOf f) h = (terms_text f, refl, spelled.terms true f h)
   parts_named (Mul a b) h = (element_text a, element_text b, refl, spelled.element a h.0, spelled.element b h.1)
   parts_named (Factor g) h = (terms_text g, refl, spelled.terms false g h)
@@ -126,7 +143,8 @@ module _ (spelled : AreSpelled) where
   parts_joined : (s : Statement) → SpellsParts (parts_of s) (statement_text s)
   parts_joined (FieldOf p tail) = numbers_spaced (codes "field") (p ∷ numbers_of tail)
   parts_joined (CurveOf f) = spaced (codes "curve") (terms_text f) [] (terms_text f) refl
-  parts_joined (Mul a b) = spaced (codes "mul") (element_text a) (element_text b ∷ []) (element_text a ++ (32 ∷ element_text b)) (spaced (element_text a) (element_text b) [] (element_text b) refl)
+  parts_joined (Mul a b) = spaced (codes "mul") (element_text a) (element_text b ∷ [])
+      (element_text a ++ (32 ∷ element_text b)) (spaced (element_text a) (element_text b) [] (element_text b) refl)
   parts_joined (Factor g) = spaced (codes "factor") (terms_text g) [] (terms_text g) refl
   parts_joined (OrderOf side) = spaced (codes "order") (side_text side) [] (side_text side) refl
 
@@ -135,23 +153,39 @@ module _ (spelled : AreSpelled) where
     front = [];
     back = statement_text s;
     first = tt;
-    second = record { front = statement_text s; back = []; first = record { parts = parts_of s; named = parts_named s h; joined = parts_joined s }; second = tt; whole = sym (append-nil (statement_text s)) };
+    second = record {
+      front = statement_text s;
+      back = [];
+      first = record
+          { parts = parts_of s; named = parts_named s h; joined = parts_joined s };
+      second = tt;
+      whole = sym
+          (append-nil (statement_text s));
+    };
     whole = refl;
   }
 
-  pub same_text : IsOneLine → (s t : Statement) → IsWritable s → IsWritable t → statement_text s ≡ statement_text t → s ≡ t
+  pub same_text : IsOneLine → (s t : Statement) → IsWritable s → IsWritable t → statement_text s ≡ statement_text t
+      → s ≡ t
   same_text one s t h k e = one (statement_text t) s t (subst (SpellsLine s) e (text_spells s h)) (text_spells t k)
 
   -- the first line of a printed script
-  first_text : (s : Statement) (ss : List Statement) → IsWritable s → lines_of (script_text (s ∷ ss)) ≡ statement_text s ∷ lines_of (script_text ss)
+  first_text : (s : Statement) (ss : List Statement) → IsWritable s
+      → lines_of (script_text (s ∷ ss)) ≡ statement_text s ∷ lines_of (script_text ss)
   first_text s ss h =
       let unfed = unfed_passes (statement_text s) (line_unfed s (statement_text s) (text_spells s h)) in
-      let regrouped : script_text (s ∷ ss) ≡ statement_text s ++ (10 ∷ script_text ss) = append_assoc (statement_text s) (codes "\n") (script_text ss) in
-      lines_cut (script_text (s ∷ ss)) (statement_text s) (script_text ss) (ap (slice_split is_feed) regrouped ∙ slice_split_at is_feed (statement_text s) 10 (script_text ss) unfed refl)
+      let regrouped : script_text (s ∷ ss)
+      ≡ statement_text s ++ (10 ∷ script_text ss) = append_assoc (statement_text s) (codes "\n") (script_text ss)
+      in
+      lines_cut (script_text (s ∷ ss)) (statement_text s) (script_text ss)
+      (ap (slice_split is_feed) regrouped ∙ slice_split_at is_feed (statement_text s) 10 (script_text ss) unfed
+      refl)
 
   printed_read : (ss : List Statement) → AllByRecursion IsWritable ss → IsReadAs (lines_of (script_text ss)) ss
   printed_read [] h = refl
-  printed_read (s ∷ ss) h = subst (λ (t : List (List ℕ)). IsReadAs t (s ∷ ss)) (sym (first_text s ss h.0)) (inr (text_spells s h.0, printed_read ss h.1))
+  printed_read (s ∷ ss) h = subst (λ (t : List (List ℕ)). IsReadAs t (s ∷ ss)) (sym (first_text s ss h.0))
+      (inr (text_spells s h.0, printed_read ss h.1))
 
-  pub printed_script : (ss : List Statement) → AllByRecursion IsWritable ss → IsInOrder ss → IsScript (script_text ss) ss
+  pub printed_script : (ss : List Statement) → AllByRecursion IsWritable ss → IsInOrder ss
+      → IsScript (script_text ss) ss
   printed_script ss h order = record { read = printed_read ss h; order = order }

@@ -62,7 +62,8 @@ pub blank_no_word : (b : ℕ) → is_blank b ≡ true → is_word_byte b ≡ fal
 blank_no_word b h = each_blank (λ c. is_word_byte c ≡ false) refl refl refl b h
 
 -- blanks are passed
-pub blanks_passed : (gap rest : List ℕ) → Blanks gap → begins_with_blank rest ≡ false → behind_blanks (gap ++ rest) ≡ rest
+pub blanks_passed : (gap rest : List ℕ) → Blanks gap → begins_with_blank rest ≡ false
+    → behind_blanks (gap ++ rest) ≡ rest
 blanks_passed [] [] h e = refl
 blanks_passed [] (b ∷ bs) h e = rw e refl
 blanks_passed (g ∷ gap) rest h e = rw h.0 (blanks_passed gap rest h.1 e)
@@ -79,20 +80,28 @@ passed [] = record { gap = []; blanks = tt; whole = refl; edge = refl }
 passed (b ∷ bs) = elim (cases_Bool (is_blank b)) [
   | inl is ↦
       let more = passed bs in
-      rw is (record { gap = b ∷ more.gap; blanks = (is, more.blanks); whole = ap (λ (t : List ℕ). b ∷ t) more.whole; edge = more.edge })
+      rw is (record {
+        gap = b ∷ more.gap;
+        blanks = (is, more.blanks);
+        whole = ap (λ (t : List ℕ). b ∷ t) more.whole;
+        edge = more.edge;
+      })
   | inr not ↦ rw not (record { gap = []; blanks = tt; whole = refl; edge = not })
 ]
 
 -- blanks, and then what doesn't begin with one, in one way
-pub blanks_same : (a b x y : List ℕ) → Blanks a → Blanks b → begins_with_blank x ≡ false → begins_with_blank y ≡ false → a ++ x ≡ b ++ y → x ≡ y
-blanks_same a b x y is_a is_b edge_x edge_y e = sym (blanks_passed a x is_a edge_x) ∙ ap behind_blanks e ∙ blanks_passed b y is_b edge_y
+pub blanks_same : (a b x y : List ℕ) → Blanks a → Blanks b → begins_with_blank x ≡ false → begins_with_blank y ≡ false
+    → a ++ x ≡ b ++ y → x ≡ y
+blanks_same a b x y is_a is_b edge_x edge_y e = sym (blanks_passed a x is_a edge_x) ∙ ap behind_blanks e
+    ∙ blanks_passed b y is_b edge_y
 
 -- ---- word bytes
 
 abbrev pub AllWord : List ℕ → Type 0
 AllWord bytes = AllByRecursion (λ b. IsTrue (is_word_byte b)) bytes
 
-pub gap_no_word : (gap rest : List ℕ) → Blanks gap → begins_with_word rest ≡ false → begins_with_word (gap ++ rest) ≡ false
+pub gap_no_word : (gap rest : List ℕ) → Blanks gap → begins_with_word rest ≡ false
+    → begins_with_word (gap ++ rest) ≡ false
 gap_no_word [] rest h e = e
 gap_no_word (g ∷ gap) rest h e = blank_no_word g h.0
 
@@ -110,7 +119,8 @@ all_word_ends (b ∷ []) h some = h.0
 all_word_ends (b ∷ c ∷ a) h some = all_word_ends (c ∷ a) h.1 (λ e. cc)
 
 -- a run of word bytes that isn't shorter than another, which ends there
-pub words_longest : (a b x y : List ℕ) → AllWord a → begins_with_word y ≡ false → length b ≤ length a → a ++ x ≡ b ++ y → (a ≡ b) × (x ≡ y)
+pub words_longest : (a b x y : List ℕ) → AllWord a → begins_with_word y ≡ false → length b ≤ length a → a ++ x ≡ b ++ y
+    → (a ≡ b) × (x ≡ y)
 words_longest [] [] x y h ended l e = (refl, e)
 words_longest [] (d ∷ b) x y h ended l e = absurd (omega arith)
 words_longest (c ∷ a) [] x y h ended l e = absurd (both_ways (is_word_byte c) (ap begins_with_word e ∙ ended) h.0)
@@ -121,10 +131,13 @@ words_longest (c ∷ a) (d ∷ b) x y h ended l e =
     (cc, more.1)
 
 -- two runs of word bytes that end where they end
-pub words_same : (a b x y : List ℕ) → AllWord a → AllWord b → begins_with_word x ≡ false → begins_with_word y ≡ false → a ++ x ≡ b ++ y → (a ≡ b) × (x ≡ y)
+pub words_same : (a b x y : List ℕ) → AllWord a → AllWord b → begins_with_word x ≡ false → begins_with_word y ≡ false
+    → a ++ x ≡ b ++ y → (a ≡ b) × (x ≡ y)
 words_same [] [] x y h k ended_x ended_y e = (refl, e)
-words_same [] (d ∷ b) x y h k ended_x ended_y e = absurd (both_ways (is_word_byte d) (ap begins_with_word (sym e) ∙ ended_x) k.0)
-words_same (c ∷ a) [] x y h k ended_x ended_y e = absurd (both_ways (is_word_byte c) (ap begins_with_word e ∙ ended_y) h.0)
+words_same [] (d ∷ b) x y h k ended_x ended_y e = absurd
+    (both_ways (is_word_byte d) (ap begins_with_word (sym e) ∙ ended_x) k.0)
+words_same (c ∷ a) [] x y h k ended_x ended_y e = absurd
+    (both_ways (is_word_byte c) (ap begins_with_word e ∙ ended_y) h.0)
 words_same (c ∷ a) (d ∷ b) x y h k ended_x ended_y e =
     let head : c ≡ d = head_same c d (a ++ x) (b ++ y) e in
     let more = words_same a b x y h.1 k.1 ended_x ended_y (tail_same c d (a ++ x) (b ++ y) e) in
@@ -156,7 +169,8 @@ stopped_within a [] g h stops blanks e =
     absurd (stopped_no_blanks a stops (all_front (λ b. IsTrue (is_blank b)) a g is))
 stopped_within [] (d ∷ b) g h stops blanks e = absurd stops
 stopped_within (c ∷ []) (d ∷ b) g h stops blanks e = omega arith
-stopped_within (c ∷ c' ∷ a) (d ∷ b) g h stops blanks e = omega (arith, stopped_within (c' ∷ a) b g h stops blanks (tail_same c d ((c' ∷ a) ++ g) (b ++ h) e))
+stopped_within (c ∷ c' ∷ a) (d ∷ b) g h stops blanks e = omega
+    (arith, stopped_within (c' ∷ a) b g h stops blanks (tail_same c d ((c' ∷ a) ++ g) (b ++ h) e))
 
 -- a text without a blank at its end, and blanks behind it, in one way
 pub stopped_same : (a b g h : List ℕ) → IsStopped a → IsStopped b → Blanks g → Blanks h → a ++ g ≡ b ++ h → a ≡ b

@@ -78,7 +78,8 @@ blanks_inside (g ∷ gap) h = (each_blank IsInside (refl, refl) (refl, refl) (re
 around_inside : (mark bytes : List ℕ) → AreInside mark → Around mark bytes → AreInside bytes
 around_inside mark bytes h t =
     let last : AreInside t.second.front = subst AreInside (sym t.second.first) h in
-    let behind : AreInside t.back = subst AreInside (sym t.second.whole) (all_append IsInside t.second.front t.second.back last (blanks_inside t.second.back t.second.second)) in
+    let behind : AreInside t.back = subst AreInside (sym t.second.whole)
+    (all_append IsInside t.second.front t.second.back last (blanks_inside t.second.back t.second.second)) in
     subst AreInside (sym t.whole) (all_append IsInside t.front t.back (blanks_inside t.front t.first) behind)
 
 -- a text before an ending
@@ -86,7 +87,12 @@ ending_behind : (a b : List ℕ) → AreInside a → IsEnding b → IsEnding (a 
 ending_behind a b h k = record { stops = stopped_behind a b k.stops; inside = all_append IsInside a b h k.inside }
 
 solid_before : (a b : List ℕ) → IsSolid a → IsEnding b → IsSolid (a ++ b)
-solid_before a b h k = record { starts = starts_before a b h.starts; stops = stopped_behind a b k.stops; inside = all_append IsInside a b h.inside k.inside }
+solid_before a b h k = record {
+  starts = starts_before a b h.starts;
+  stops = stopped_behind a b k.stops;
+  inside =
+      all_append IsInside a b h.inside k.inside;
+}
 
 pub solid_ending : (a : List ℕ) → IsSolid a → IsEnding a
 solid_ending a h = record { stops = h.stops; inside = h.inside }
@@ -145,11 +151,14 @@ ending_tail a b h k = elim k [
 ]
 
 module _ {V : Type 0} (Part : V → List ℕ → Type 0) where
-  each_tail : (vs : List V) (bytes : List ℕ) → ((v : V) (b : List ℕ) → Part v b → IsEnding b) → Each Part vs bytes → IsTail bytes
+  each_tail : (vs : List V) (bytes : List ℕ) → ((v : V) (b : List ℕ) → Part v b → IsEnding b) → Each Part vs bytes
+      → IsTail bytes
   each_tail [] bytes ends h = inl h
-  each_tail (v ∷ vs) bytes ends h = inr (subst IsEnding (sym h.whole) (ending_tail h.front h.back (ends v h.front h.first) (each_tail vs h.back ends h.second)))
+  each_tail (v ∷ vs) bytes ends h = inr (subst IsEnding (sym h.whole)
+      (ending_tail h.front h.back (ends v h.front h.first) (each_tail vs h.back ends h.second)))
 
-  joined_solid : (mark : List ℕ) (vs : List V) (bytes : List ℕ) → AreInside mark → ((v : V) (b : List ℕ) → Part v b → IsSolid b) → Joined mark Part vs bytes → IsSolid bytes
+  joined_solid : (mark : List ℕ) (vs : List V) (bytes : List ℕ) → AreInside mark
+      → ((v : V) (b : List ℕ) → Part v b → IsSolid b) → Joined mark Part vs bytes → IsSolid bytes
   joined_solid mark [] bytes inside solid h = absurd h
   joined_solid mark (v ∷ vs) bytes inside solid h =
       subst IsSolid (sym h.whole) (solid_tail h.front h.back (solid v h.front h.first) (next_tail vs h.back h.second))
@@ -158,7 +167,9 @@ module _ {V : Type 0} (Part : V → List ℕ → Type 0) where
       next_tail [] b k = inl k
       next_tail (w ∷ ws) b k =
           let sign : AreInside k.first.front = around_inside mark k.first.front inside k.first.first in
-          let one : IsEnding k.front = subst IsEnding (sym k.first.whole) (ending_behind k.first.front k.first.back sign (solid_ending k.first.back (solid w k.first.back k.first.second))) in
+          let one : IsEnding k.front = subst IsEnding (sym k.first.whole)
+          (ending_behind k.first.front k.first.back sign
+          (solid_ending k.first.back (solid w k.first.back k.first.second))) in
           inr (subst IsEnding (sym k.whole) (ending_tail k.front k.back one (next_tail ws k.back k.second)))
 
 -- ---- polynomials
@@ -167,7 +178,9 @@ power_solid : (letter : List ℕ) (n : ℕ) (bytes : List ℕ) → IsSolid lette
 power_solid letter n bytes solid (inl h) = subst IsSolid (sym h.1) solid
 power_solid letter n bytes solid (inr h) =
     let sign : AreInside h.second.front = around_inside (codes "^") h.second.front ((refl, refl), tt) h.second.first in
-    let behind : IsEnding h.back = subst IsEnding (sym h.second.whole) (ending_behind h.second.front h.second.back sign (solid_ending h.second.back (number_solid n h.second.back h.second.second))) in
+    let behind : IsEnding h.back = subst IsEnding (sym h.second.whole)
+    (ending_behind h.second.front h.second.back sign
+    (solid_ending h.second.back (number_solid n h.second.back h.second.second))) in
     subst IsSolid (sym h.whole) (solid_before h.front h.back (subst IsSolid (sym h.first) solid) behind)
 
 letter_solid : (b : ℕ) → is_blank b ≡ false → IsInside b → IsSolid (b ∷ [])
@@ -179,13 +192,16 @@ factor_solid with_y (X n) bytes h = power_solid (codes "x") n bytes (letter_soli
 factor_solid with_y (Y n) bytes h = power_solid (codes "y") n bytes (letter_solid 121 refl (refl, refl)) h.1
 
 factors_solid : (with_y : Bool) (fs : List Factor) (bytes : List ℕ) → SpellsFactors with_y fs bytes → IsSolid bytes
-factors_solid with_y fs bytes h = joined_solid (SpellsFactor with_y) (codes "*") fs bytes ((refl, refl), tt) (factor_solid with_y) h
+factors_solid with_y fs bytes h = joined_solid (SpellsFactor with_y) (codes "*") fs bytes ((refl, refl), tt)
+    (factor_solid with_y) h
 
 signed_solid : (minus : Bool) (front back : List ℕ) → FirstSign minus front → IsSolid back → IsSolid (front ++ back)
 signed_solid true front back h solid =
     let sign : AreInside h.front = subst AreInside (sym h.first) ((refl, refl), tt) in
-    let starts : Starts front = subst Starts (sym h.whole) (starts_before h.front h.back (subst Starts (sym h.first) refl)) in
-    let inside : AreInside front = subst AreInside (sym h.whole) (all_append IsInside h.front h.back sign (blanks_inside h.back h.second)) in
+    let starts : Starts front = subst Starts (sym h.whole)
+    (starts_before h.front h.back (subst Starts (sym h.first) refl)) in
+    let inside : AreInside front = subst AreInside (sym h.whole)
+    (all_append IsInside h.front h.back sign (blanks_inside h.back h.second)) in
     record {
       starts = starts_before front back starts;
       stops = stopped_behind front back solid.stops;
@@ -198,30 +214,58 @@ sign_inside true bytes h = around_inside (codes "-") bytes ((refl, refl), tt) h
 sign_inside false bytes h = around_inside (codes "+") bytes ((refl, refl), tt) h
 
 next_ending : (with_y : Bool) (t : Term) (bytes : List ℕ) → SpellsNext with_y t bytes → IsEnding bytes
-next_ending with_y t bytes h = subst IsEnding (sym h.whole) (ending_behind h.front h.back (sign_inside t.minus h.front h.first) (solid_ending h.back (factors_solid with_y t.factors h.back h.second)))
+next_ending with_y t bytes h = subst IsEnding (sym h.whole)
+    (ending_behind h.front h.back (sign_inside t.minus h.front h.first)
+    (solid_ending h.back (factors_solid with_y t.factors h.back h.second)))
 
 pub terms_solid : (with_y : Bool) (ts : List Term) (bytes : List ℕ) → SpellsTerms with_y ts bytes → IsSolid bytes
 terms_solid with_y [] bytes h = absurd h
 terms_solid with_y (t ∷ ts) bytes h =
-    let first : IsSolid h.front = subst IsSolid (sym h.first.whole) (signed_solid t.minus h.first.front h.first.back h.first.first (factors_solid with_y t.factors h.first.back h.first.second)) in
-    subst IsSolid (sym h.whole) (solid_tail h.front h.back first (each_tail (SpellsNext with_y) ts h.back (next_ending with_y) h.second))
+    let first : IsSolid h.front = subst IsSolid (sym h.first.whole)
+    (signed_solid t.minus h.first.front h.first.back h.first.first
+    (factors_solid with_y t.factors h.first.back h.first.second)) in
+    subst IsSolid (sym h.whole) (solid_tail h.front h.back first
+    (each_tail (SpellsNext with_y) ts h.back (next_ending with_y) h.second))
 
 -- ---- sides
 
 pub side_solid : (side : Side) (bytes : List ℕ) → SpellsSide side bytes → IsSolid bytes
-side_solid Finite bytes h = subst IsSolid (sym h) (record { starts = refl; stops = refl; inside = ((refl, refl), ((refl, refl), ((refl, refl), ((refl, refl), ((refl, refl), ((refl, refl), tt)))))) })
-side_solid Infinite bytes h = subst IsSolid (sym h) (record { starts = refl; stops = refl; inside = ((refl, refl), ((refl, refl), ((refl, refl), ((refl, refl), ((refl, refl), ((refl, refl), ((refl, refl), ((refl, refl), tt)))))))) })
+side_solid Finite bytes h = subst IsSolid (sym h)
+    (record {
+      starts = refl;
+      stops = refl;
+      inside =
+          ((refl, refl), ((refl, refl), ((refl, refl), ((refl, refl), ((refl, refl), ((refl, refl), tt))))));
+    })
+side_solid Infinite bytes h = subst IsSolid (sym h)
+    (record {
+      starts = refl;
+      stops = refl;
+      inside = (
+        (refl, refl),
+        (
+          (refl, refl),
+          (
+            (refl, refl),
+            ((refl, refl), ((refl, refl), ((refl, refl), ((refl, refl), ((refl, refl), tt))))),
+          ),
+        ),
+      );
+    })
 
 -- ---- elements
 
 -- a part between blanks and a closing mark
-closed_ending : (Part : List ℕ → Type 0) (mark bytes : List ℕ) → IsSolid mark → ((b : List ℕ) → Part b → IsSolid b) → Then Blanks (Then Part (Then Blanks (Is mark))) bytes → IsEnding bytes
+closed_ending : (Part : List ℕ → Type 0) (mark bytes : List ℕ) → IsSolid mark → ((b : List ℕ) → Part b → IsSolid b)
+    → Then Blanks (Then Part (Then Blanks (Is mark))) bytes → IsEnding bytes
 closed_ending Part mark bytes closes solid h =
     let part = h.second in
     let last = part.second in
     let close : IsEnding last.back = subst IsEnding (sym last.second) (solid_ending mark closes) in
-    let behind : IsEnding part.back = subst IsEnding (sym last.whole) (ending_behind last.front last.back (blanks_inside last.front last.first) close) in
-    let from : IsEnding h.back = subst IsEnding (sym part.whole) (ending_behind part.front part.back (solid part.front part.first).inside behind) in
+    let behind : IsEnding part.back = subst IsEnding (sym last.whole)
+    (ending_behind last.front last.back (blanks_inside last.front last.first) close) in
+    let from : IsEnding h.back = subst IsEnding (sym part.whole)
+    (ending_behind part.front part.back (solid part.front part.first).inside behind) in
     subst IsEnding (sym h.whole) (ending_behind h.front h.back (blanks_inside h.front h.first) from)
 
 one_term_solid : (ts : List Term) (bytes : List ℕ) → SpellsOneTerm ts bytes → IsSolid bytes
@@ -233,13 +277,16 @@ den_solid : (ts : List Term) (bytes : List ℕ) → SpellsDen ts bytes → IsSol
 den_solid ts bytes (inl h) = one_term_solid ts bytes h
 den_solid ts bytes (inr h) =
     let left : IsSolid h.front = subst IsSolid (sym h.first) (letter_solid 40 refl (refl, refl)) in
-    subst IsSolid (sym h.whole) (solid_before h.front h.back left (closed_ending (SpellsTerms false ts) (codes ")") h.back (letter_solid 41 refl (refl, refl)) (terms_solid false ts) h.second))
+    subst IsSolid (sym h.whole) (solid_before h.front h.back left
+    (closed_ending (SpellsTerms false ts) (codes ")") h.back (letter_solid 41 refl (refl, refl))
+    (terms_solid false ts) h.second))
 
 den_tail : (den : Option (List Term)) (bytes : List ℕ) → SpellsTail den bytes → IsTail bytes
 den_tail None bytes h = inl h
 den_tail (Some d) bytes h =
     let slash : AreInside h.front = around_inside (codes "/") h.front ((refl, refl), tt) h.first in
-    inr (subst IsEnding (sym h.whole) (ending_behind h.front h.back slash (solid_ending h.back (den_solid d h.back h.second))))
+    inr (subst IsEnding (sym h.whole) (ending_behind h.front h.back slash
+    (solid_ending h.back (den_solid d h.back h.second))))
 
 -- an opening bracket, and what no further one stands in
 pub record IsBracketed (bytes : List ℕ) : Type 0 where
@@ -249,10 +296,14 @@ pub record IsBracketed (bytes : List ℕ) : Type 0 where
 
 pub element_bracketed : (e : ElemText) (bytes : List ℕ) → SpellsElement e bytes → IsBracketed bytes
 element_bracketed e bytes h =
-    let entries : (b : List ℕ) → SpellsEntries e.entries b → IsSolid b = λ b k. joined_solid (SpellsTerms false) (codes ",") e.entries b ((refl, refl), tt) (terms_solid false) k in
-    let close : IsEnding h.first.back = closed_ending (SpellsEntries e.entries) (codes "]") h.first.back (letter_solid 93 refl (refl, refl)) entries h.first.second in
+    let entries : (b : List ℕ) → SpellsEntries e.entries b
+    → IsSolid b = λ b k. joined_solid (SpellsTerms false) (codes ",") e.entries b ((refl, refl), tt)
+    (terms_solid false) k in
+    let close : IsEnding h.first.back = closed_ending (SpellsEntries e.entries) (codes "]") h.first.back
+    (letter_solid 93 refl (refl, refl)) entries h.first.second in
     record {
       body = h.first.back ++ h.back;
       ending = ending_tail h.first.back h.back close (den_tail e.den h.back h.second);
-      whole = h.whole ∙ ap (λ (t : List ℕ). t ++ h.back) (h.first.whole ∙ ap (λ (t : List ℕ). t ++ h.first.back) h.first.first);
+      whole = h.whole ∙ ap (λ (t : List ℕ). t ++ h.back)
+          (h.first.whole ∙ ap (λ (t : List ℕ). t ++ h.first.back) h.first.first);
     }

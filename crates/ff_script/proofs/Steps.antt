@@ -17,7 +17,8 @@ use Rattle.ff_script.proofs.Spelled.{number_word, number_ends}
 -- ---- a part that was read
 
 -- a part, and the blanks behind it passed
-pub front_here : (Part : List ℕ → Type 0) (bytes front rest : List ℕ) → Part front → bytes ≡ front ++ rest → (ends_with_word front ≡ true → begins_with_word rest ≡ false) → IsFront Part bytes (behind_blanks rest)
+pub front_here : (Part : List ℕ → Type 0) (bytes front rest : List ℕ) → Part front → bytes ≡ front ++ rest
+    → (ends_with_word front ≡ true → begins_with_word rest ≡ false) → IsFront Part bytes (behind_blanks rest)
 front_here Part bytes front rest part whole apart =
     let p = passed rest in
     record {
@@ -51,31 +52,39 @@ range_length bytes end h =
 
 module _ {V : Type 0} (Spells : V → List ℕ → Type 0) where
   -- a column as the fault says that there is no spelling
-  pub no_spelling : (bytes : List ℕ) (e : TextFault) (column : ℕ) → e ≡ Syntax column → IsReadFault Spells bytes 0 e → IsNoSpelling Spells bytes 0
+  pub no_spelling : (bytes : List ℕ) (e : TextFault) (column : ℕ) → e ≡ Syntax column → IsReadFault Spells bytes 0 e
+      → IsNoSpelling Spells bytes 0
   no_spelling bytes e column is fault = let h = subst (IsReadFault Spells bytes 0) is fault in h.0
 
   -- where no part is a spelling, none stands at the front
-  pub no_front : (bytes : List ℕ) → IsNoSpelling Spells bytes 0 → (v : V) (rest : List ℕ) → IsFront (Spells v) bytes rest → ⊥
+  pub no_front : (bytes : List ℕ) → IsNoSpelling Spells bytes 0 → (v : V) (rest : List ℕ)
+      → IsFront (Spells v) bytes rest → ⊥
   no_front bytes none v rest f =
-      none v (length f.front) (omega arith) (front_fits bytes f.front (f.gap ++ rest) f.whole) (subst (Spells v) (sym (range_front bytes f.front (f.gap ++ rest) f.whole)) f.part)
+      none v (length f.front) (omega arith) (front_fits bytes f.front (f.gap ++ rest) f.whole)
+      (subst (Spells v) (sym (range_front bytes f.front (f.gap ++ rest) f.whole)) f.part)
 
   -- no part at the front is longer than the longest spelling
-  pub front_short : (bytes : List ℕ) (w : V) (end : ℕ) → IsLongestSpelling Spells bytes 0 w end → (v : V) (rest : List ℕ) (f : IsFront (Spells v) bytes rest) → length f.front ≤ end
+  pub front_short : (bytes : List ℕ) (w : V) (end : ℕ) → IsLongestSpelling Spells bytes 0 w end
+      → (v : V) (rest : List ℕ) (f : IsFront (Spells v) bytes rest) → length f.front ≤ end
   front_short bytes w end h v rest f = elim (cases_lt end (length f.front)) [
-    | inl longer ↦ absurd (h.longest v (length f.front) longer (front_fits bytes f.front (f.gap ++ rest) f.whole) (subst (Spells v) (sym (range_front bytes f.front (f.gap ++ rest) f.whole)) f.part))
+    | inl longer ↦ absurd (h.longest v (length f.front) longer (front_fits bytes f.front (f.gap ++ rest) f.whole)
+        (subst (Spells v) (sym (range_front bytes f.front (f.gap ++ rest) f.whole)) f.part))
     | inr other ↦ other
   ]
 
 -- ---- words
 
 -- a word that isn't at the front
-pub no_word_front : (word bytes : List ℕ) → ((rest : List ℕ) → bytes ≢ word ++ rest) → (rest : List ℕ) → IsFront (Is word) bytes rest → ⊥
+pub no_word_front : (word bytes : List ℕ) → ((rest : List ℕ) → bytes ≢ word ++ rest) → (rest : List ℕ)
+    → IsFront (Is word) bytes rest → ⊥
 no_word_front word bytes none rest f = none (f.gap ++ rest) (f.whole ∙ ap (λ (t : List ℕ). t ++ (f.gap ++ rest)) f.part)
 
 -- a word that goes on
-pub word_front_on : (word bytes more : List ℕ) → IsTrue (ends_with_word word) → bytes ≡ word ++ more → begins_with_word more ≡ true → (rest : List ℕ) → IsFront (Is word) bytes rest → ⊥
+pub word_front_on : (word bytes more : List ℕ) → IsTrue (ends_with_word word) → bytes ≡ word ++ more
+    → begins_with_word more ≡ true → (rest : List ℕ) → IsFront (Is word) bytes rest → ⊥
 word_front_on word bytes more ends e on rest f =
-    let behind : more ≡ f.gap ++ rest = append_cancel_left word more (f.gap ++ rest) (sym e ∙ f.whole ∙ ap (λ (t : List ℕ). t ++ (f.gap ++ rest)) f.part) in
+    let behind : more ≡ f.gap ++ rest = append_cancel_left word more (f.gap ++ rest)
+    (sym e ∙ f.whole ∙ ap (λ (t : List ℕ). t ++ (f.gap ++ rest)) f.part) in
     both_ways (begins_with_word more) (ap begins_with_word behind ∙ f.apart (ap ends_with_word f.part ∙ ends)) on
 
 -- one rest stands behind a word
@@ -83,7 +92,8 @@ pub word_rest : (word bytes r s : List ℕ) → IsFront (Is word) bytes r → Is
 word_rest word bytes r s f g =
     let left : bytes ≡ word ++ (f.gap ++ r) = f.whole ∙ ap (λ (t : List ℕ). t ++ (f.gap ++ r)) f.part in
     let right : bytes ≡ word ++ (g.gap ++ s) = g.whole ∙ ap (λ (t : List ℕ). t ++ (g.gap ++ s)) g.part in
-    blanks_same f.gap g.gap r s f.blanks g.blanks f.edge g.edge (append_cancel_left word (f.gap ++ r) (g.gap ++ s) (sym left ∙ right))
+    blanks_same f.gap g.gap r s f.blanks g.blanks f.edge g.edge
+    (append_cancel_left word (f.gap ++ r) (g.gap ++ s) (sym left ∙ right))
 
 -- ---- what the code says
 
@@ -91,17 +101,25 @@ word_rest word bytes r s f g =
 pub behind_at : (bytes : List ℕ) (end : ℕ) → take (length bytes - end) (drop end bytes) ≡ drop end bytes
 behind_at bytes end = take_rest bytes end
 
-pub word_behind : (bytes : List ℕ) (end : ℕ) (b x : Bool) → b ≡ begins_with_word (take (length bytes - end) (drop end bytes)) → b ≡ x → begins_with_word (drop end bytes) ≡ x
+pub word_behind : (bytes : List ℕ) (end : ℕ) (b x : Bool)
+    → b ≡ begins_with_word (take (length bytes - end) (drop end bytes)) → b ≡ x → begins_with_word (drop end bytes) ≡ x
 word_behind bytes end b x tested is = ap begins_with_word (sym (behind_at bytes end)) ∙ sym tested ∙ is
 
-pub passed_behind : (bytes rest : List ℕ) (end : ℕ) → rest ≡ behind_blanks (take (length bytes - end) (drop end bytes)) → behind_blanks (drop end bytes) ≡ rest
+pub passed_behind : (bytes rest : List ℕ) (end : ℕ) → rest ≡ behind_blanks (take (length bytes - end) (drop end bytes))
+    → behind_blanks (drop end bytes) ≡ rest
 passed_behind bytes rest end e = ap behind_blanks (sym (behind_at bytes end)) ∙ sym e
 
-pub blank_behind : (bytes rest : List ℕ) (end : ℕ) (b : Bool) → rest ≡ behind_blanks (take (length bytes - end) (drop end bytes)) → b ≡ eqb (length rest) 0 → b ≡ true → behind_blanks (drop end bytes) ≡ []
-blank_behind bytes rest end b e tested is = ap behind_blanks (sym (behind_at bytes end)) ∙ sym e ∙ nil_from_length rest (eqb-true (length rest) 0 (sym tested ∙ is))
+pub blank_behind : (bytes rest : List ℕ) (end : ℕ) (b : Bool)
+    → rest ≡ behind_blanks (take (length bytes - end) (drop end bytes)) → b ≡ eqb (length rest) 0 → b ≡ true
+    → behind_blanks (drop end bytes) ≡ []
+blank_behind bytes rest end b e tested is = ap behind_blanks (sym (behind_at bytes end)) ∙ sym e
+    ∙ nil_from_length rest (eqb-true (length rest) 0 (sym tested ∙ is))
 
-pub not_blank_behind : (bytes rest : List ℕ) (end : ℕ) (b : Bool) → rest ≡ behind_blanks (take (length bytes - end) (drop end bytes)) → b ≡ eqb (length rest) 0 → b ≡ false → behind_blanks (drop end bytes) ≢ []
-not_blank_behind bytes rest end b e tested not none = eqb-false (length rest) 0 (sym tested ∙ not) (ap length (e ∙ ap behind_blanks (behind_at bytes end) ∙ none))
+pub not_blank_behind : (bytes rest : List ℕ) (end : ℕ) (b : Bool)
+    → rest ≡ behind_blanks (take (length bytes - end) (drop end bytes)) → b ≡ eqb (length rest) 0 → b ≡ false
+    → behind_blanks (drop end bytes) ≢ []
+not_blank_behind bytes rest end b e tested not none = eqb-false (length rest) 0 (sym tested ∙ not)
+    (ap length (e ∙ ap behind_blanks (behind_at bytes end) ∙ none))
 
 pub nil_tested : (rest : List ℕ) (b : Bool) → b ≡ eqb (length rest) 0 → b ≡ true → rest ≡ []
 nil_tested rest b tested is = nil_from_length rest (eqb-true (length rest) 0 (sym tested ∙ is))
@@ -121,18 +139,28 @@ skipped_blank line rest e short =
     let nil : behind_blanks line ≡ [] = sym e ∙ nil_from_length rest none in
     inl (subst Blanks (sym (p.whole ∙ ap (λ (t : List ℕ). p.gap ++ t) nil ∙ append-nil p.gap)) p.blanks)
 
-marked : (rest : List ℕ) → 1 ≤ length rest → eqb (get_or rest 0 0) 35 ≡ true → (more : List ℕ) × (rest ≡ codes "#" ++ more)
+marked : (rest : List ℕ) → 1 ≤ length rest → eqb (get_or rest 0 0) 35 ≡ true
+    → (more : List ℕ) × (rest ≡ codes "#" ++ more)
 marked [] some h = absurd (omega arith)
 marked (b ∷ bs) some h = (bs, ap (λ (n : ℕ). n ∷ bs) (eqb-true b 35 h))
 
-pub skipped_mark : (line rest : List ℕ) → rest ≡ behind_blanks line → 1 ≤ length rest → eqb (get_or rest 0 0) 35 ≡ true → IsSkipped line
+pub skipped_mark : (line rest : List ℕ) → rest ≡ behind_blanks line → 1 ≤ length rest → eqb (get_or rest 0 0) 35 ≡ true
+    → IsSkipped line
 skipped_mark line rest e some h =
     let p = passed line in
     let m = marked rest some h in
-    inr (record { front = p.gap; back = behind_blanks line; first = p.blanks; second = record { front = codes "#"; back = m.0; first = refl; second = tt; whole = sym e ∙ m.1 }; whole = p.whole })
+    inr (record {
+      front = p.gap;
+      back = behind_blanks line;
+      first = p.blanks;
+      second = record
+          { front = codes "#"; back = m.0; first = refl; second = tt; whole = sym e ∙ m.1 };
+      whole = p.whole;
+    })
 
 -- a comment begins with its mark, behind the blanks
-pub comment_at : (line : List ℕ) → Then Blanks (Then (Is (codes "#")) Any) line → (more : List ℕ) × (behind_blanks line ≡ 35 ∷ more)
+pub comment_at : (line : List ℕ) → Then Blanks (Then (Is (codes "#")) Any) line
+    → (more : List ℕ) × (behind_blanks line ≡ 35 ∷ more)
 comment_at line h =
     let mark : h.back ≡ 35 ∷ h.second.back = h.second.whole ∙ ap (λ (t : List ℕ). t ++ h.second.back) h.second.first in
     let whole : line ≡ h.front ++ (35 ∷ h.second.back) = h.whole ∙ ap (λ (t : List ℕ). h.front ++ t) mark in
@@ -142,8 +170,10 @@ comment_at line h =
 pub blank_at : (line : List ℕ) → Blanks line → behind_blanks line ≡ []
 blank_at line h = ap behind_blanks (sym (append-nil line)) ∙ blanks_passed line [] h refl
 
-pub skipped_marked : (line rest : List ℕ) → rest ≡ behind_blanks line → 1 ≤ length rest → IsSkipped line → eqb (get_or rest 0 0) 35 ≡ true
-skipped_marked line rest e some (inl h) = let none : length rest ≡ 0 = ap length (e ∙ blank_at line h) in absurd (omega arith)
+pub skipped_marked : (line rest : List ℕ) → rest ≡ behind_blanks line → 1 ≤ length rest → IsSkipped line
+    → eqb (get_or rest 0 0) 35 ≡ true
+skipped_marked line rest e some (inl h) = let none : length rest
+    ≡ 0 = ap length (e ∙ blank_at line h) in absurd (omega arith)
 skipped_marked line rest e some (inr h) =
     let m = comment_at line h in
     subst (λ (t : List ℕ). eqb (get_or t 0 0) 35 ≡ true) (sym (e ∙ m.1)) refl
@@ -151,36 +181,56 @@ skipped_marked line rest e some (inr h) =
 -- ---- numbers
 
 -- no number stands where the reader found none
-pub no_number : (bytes : List ℕ) (r : Result (ℕ × ℕ) TextFault) (e : TextFault) → r ≡ Err e → IsReadFault SpellsNumber bytes 0 e → r ≢ Err Memory → (n : ℕ) (rest : List ℕ) → IsFront (SpellsNumber n) bytes rest → ⊥
+pub no_number : (bytes : List ℕ) (r : Result (ℕ × ℕ) TextFault) (e : TextFault) → r ≡ Err e
+    → IsReadFault SpellsNumber bytes 0 e → r ≢ Err Memory → (n : ℕ) (rest : List ℕ)
+    → IsFront (SpellsNumber n) bytes rest → ⊥
 no_number bytes r (Syntax column) is fault memory n rest f = no_front SpellsNumber bytes fault.0 n rest f
 no_number bytes r (CodeRange code) is fault memory n rest f = fault
 no_number bytes r Memory is fault memory n rest f = memory is
 
-pub number_same : (bytes : List ℕ) (n m : ℕ) (r s : List ℕ) → IsFront (SpellsNumber n) bytes r → IsFront (SpellsNumber m) bytes s → (n ≡ m) × (r ≡ s)
+pub number_same : (bytes : List ℕ) (n m : ℕ) (r s : List ℕ) → IsFront (SpellsNumber n) bytes r
+    → IsFront (SpellsNumber m) bytes s → (n ≡ m) × (r ≡ s)
 number_same bytes n m r s f g =
-    let both = words_same f.front g.front (f.gap ++ r) (g.gap ++ s) (number_word n f.front f.part) (number_word m g.front g.part) (f.apart (number_ends n f.front f.part)) (g.apart (number_ends m g.front g.part)) (sym f.whole ∙ g.whole) in
+    let both = words_same f.front g.front (f.gap ++ r) (g.gap ++ s) (number_word n f.front f.part)
+    (number_word m g.front g.part) (f.apart (number_ends n f.front f.part))
+    (g.apart (number_ends m g.front g.part)) (sym f.whole ∙ g.whole) in
     let rest : r ≡ s = blanks_same f.gap g.gap r s f.blanks g.blanks f.edge g.edge both.1 in
     let other : SpellsNumber m f.front = subst (SpellsNumber m) (sym both.0) g.part in
     (sym f.part.value ∙ other.value, rest)
 
 -- digits that go on are no number
-pub number_front_on : (bytes : List ℕ) (n end : ℕ) → IsLongestSpelling SpellsNumber bytes 0 n end → begins_with_word (drop end bytes) ≡ true → (m : ℕ) (rest : List ℕ) → IsFront (SpellsNumber m) bytes rest → ⊥
+pub number_front_on : (bytes : List ℕ) (n end : ℕ) → IsLongestSpelling SpellsNumber bytes 0 n end
+    → begins_with_word (drop end bytes) ≡ true → (m : ℕ) (rest : List ℕ) → IsFront (SpellsNumber m) bytes rest → ⊥
 number_front_on bytes n end h on m rest f =
-    let short : length f.front ≤ length (slice_range bytes 0 end) = omega (arith, front_short SpellsNumber bytes n end h m rest f, range_length bytes end h.within) in
+    let short : length f.front ≤ length (slice_range bytes 0 end) = omega
+    (arith, front_short SpellsNumber bytes n end h m rest f, range_length bytes end h.within) in
     let ended : begins_with_word (f.gap ++ rest) ≡ false = f.apart (number_ends m f.front f.part) in
-    let both = words_longest (slice_range bytes 0 end) f.front (drop end bytes) (f.gap ++ rest) (number_word n (slice_range bytes 0 end) h.spelled) ended short (sym (split_at bytes end) ∙ f.whole) in
+    let both = words_longest (slice_range bytes 0 end) f.front (drop end bytes) (f.gap ++ rest)
+    (number_word n (slice_range bytes 0 end) h.spelled) ended short (sym (split_at bytes end) ∙ f.whole) in
     both_ways (begins_with_word (drop end bytes)) (ap begins_with_word both.1 ∙ ended) on
 
-pub number_front : (bytes : List ℕ) (n end : ℕ) → IsLongestSpelling SpellsNumber bytes 0 n end → begins_with_word (drop end bytes) ≡ false → IsFront (SpellsNumber n) bytes (behind_blanks (drop end bytes))
-number_front bytes n end h off = front_here (SpellsNumber n) bytes (slice_range bytes 0 end) (drop end bytes) h.spelled (split_at bytes end) (λ e. off)
+pub number_front : (bytes : List ℕ) (n end : ℕ) → IsLongestSpelling SpellsNumber bytes 0 n end
+    → begins_with_word (drop end bytes) ≡ false → IsFront (SpellsNumber n) bytes (behind_blanks (drop end bytes))
+number_front bytes n end h off = front_here (SpellsNumber n) bytes (slice_range bytes 0 end) (drop end bytes) h.spelled
+    (split_at bytes end) (λ e. off)
 
-pub number_shorter : (bytes : List ℕ) (n : ℕ) (rest : List ℕ) → IsFront (SpellsNumber n) bytes rest → length rest < length bytes
-number_shorter bytes n rest f = omega (arith, f.part.numeral.0, ap length f.whole, length-append f.front (f.gap ++ rest), length-append f.gap rest)
+pub number_shorter : (bytes : List ℕ) (n : ℕ) (rest : List ℕ) → IsFront (SpellsNumber n) bytes rest
+    → length rest < length bytes
+number_shorter bytes n rest f = omega (
+  arith,
+  f.part.numeral.0,
+  ap length f.whole,
+  length-append f.front
+      (f.gap ++ rest),
+  length-append f.gap rest,
+)
 
 pub numbers_same : (ns ms : List ℕ) (bytes : List ℕ) → AreNumbersAt ns bytes → AreNumbersAt ms bytes → ns ≡ ms
 numbers_same [] [] bytes h k = refl
-numbers_same [] (m ∷ ms) bytes h k = let shorter = number_shorter bytes m k.0 k.1 in let none : length bytes ≡ 0 = ap length h in absurd (omega arith)
-numbers_same (n ∷ ns) [] bytes h k = let shorter = number_shorter bytes n h.0 h.1 in let none : length bytes ≡ 0 = ap length k in absurd (omega arith)
+numbers_same [] (m ∷ ms) bytes h k = let shorter = number_shorter bytes m k.0 k.1 in let
+    none : length bytes ≡ 0 = ap length h in absurd (omega arith)
+numbers_same (n ∷ ns) [] bytes h k = let shorter = number_shorter bytes n h.0 h.1 in let
+    none : length bytes ≡ 0 = ap length k in absurd (omega arith)
 numbers_same (n ∷ ns) (m ∷ ms) bytes h k =
     let both = number_same bytes n m h.0 k.0 h.1 k.1 in
     let more : ns ≡ ms = numbers_same ns ms h.0 h.2 (subst (AreNumbersAt ms) (sym both.1) k.2) in
@@ -195,22 +245,31 @@ pub record HaveRead (bytes numbers rest : List ℕ) : Type 0 where
 pub none_read : (bytes : List ℕ) → HaveRead bytes [] bytes
 none_read bytes = record { on = λ ms h. h; back = λ ns h. (ns, refl, h) }
 
-pub read_more : (bytes numbers rest : List ℕ) (n : ℕ) (behind : List ℕ) → HaveRead bytes numbers rest → IsFront (SpellsNumber n) rest behind → HaveRead bytes (numbers ++ n ∷ []) behind
+pub read_more : (bytes numbers rest : List ℕ) (n : ℕ) (behind : List ℕ) → HaveRead bytes numbers rest
+    → IsFront (SpellsNumber n) rest behind → HaveRead bytes (numbers ++ n ∷ []) behind
 read_more bytes numbers rest n behind h f = record {
-  on = λ ms k. subst (λ (t : List ℕ). AreNumbersAt t bytes) (sym (append_assoc numbers (n ∷ []) ms)) (h.on (n ∷ ms) (behind, f, k));
+  on = λ ms k. subst (λ (t : List ℕ). AreNumbersAt t bytes) (sym (append_assoc numbers (n ∷ []) ms))
+      (h.on (n ∷ ms) (behind, f, k));
   back = λ ns k. let m = h.back ns k in go ns m.0 m.1 m.2;
 }
   where
-    go : (ns ms : List ℕ) → ns ≡ numbers ++ ms → AreNumbersAt ms rest → (ls : List ℕ) × (ns ≡ (numbers ++ n ∷ []) ++ ls) × AreNumbersAt ls behind
-    go ns [] e k = let shorter = number_shorter rest n behind f in let none : length rest ≡ 0 = ap length k in absurd (omega arith)
+    go : (ns ms : List ℕ) → ns ≡ numbers ++ ms → AreNumbersAt ms rest
+        → (ls : List ℕ) × (ns ≡ (numbers ++ n ∷ []) ++ ls) × AreNumbersAt ls behind
+    go ns [] e k = let shorter = number_shorter rest n behind f in let none : length rest ≡ 0 = ap length k in absurd
+        (omega arith)
     go ns (m ∷ ms) e k =
-        let both = number_same rest n m behind k.0 f k.1 in
-        (ms, e ∙ ap (λ (i : ℕ). numbers ++ i ∷ ms) (sym both.0) ∙ sym (append_assoc numbers (n ∷ []) ms), subst (AreNumbersAt ms) (sym both.1) k.2)
+        let both = number_same rest n m behind k.0 f k.1 in (
+          ms,
+          e ∙ ap (λ (i : ℕ). numbers ++ i ∷ ms) (sym both.0)
+              ∙ sym (append_assoc numbers (n ∷ []) ms),
+          subst (AreNumbersAt ms) (sym both.1) k.2,
+        )
 
 pub read_all : (bytes numbers rest : List ℕ) → HaveRead bytes numbers rest → rest ≡ [] → AreNumbersAt numbers bytes
 read_all bytes numbers rest h e = subst (λ (t : List ℕ). AreNumbersAt t bytes) (append-nil numbers) (h.on [] e)
 
-pub read_none : (bytes numbers rest : List ℕ) → HaveRead bytes numbers rest → rest ≢ [] → ((n : ℕ) (behind : List ℕ) → IsFront (SpellsNumber n) rest behind → ⊥) → (ns : List ℕ) → AreNumbersAt ns bytes → ⊥
+pub read_none : (bytes numbers rest : List ℕ) → HaveRead bytes numbers rest → rest ≢ []
+    → ((n : ℕ) (behind : List ℕ) → IsFront (SpellsNumber n) rest behind → ⊥) → (ns : List ℕ) → AreNumbersAt ns bytes → ⊥
 read_none bytes numbers rest h some none ns k = let m = h.back ns k in go m.0 m.2
   where
     go : (ms : List ℕ) → AreNumbersAt ms rest → ⊥
@@ -221,7 +280,8 @@ read_none bytes numbers rest h some none ns k = let m = h.back ns k in go m.0 m.
 
 module _ (with_y : Bool) where
   -- what the reader left is blank
-  pub terms_front : (bytes : List ℕ) (f : List Term) (end : ℕ) → IsLongestSpelling (SpellsTerms with_y) bytes 0 f end → behind_blanks (drop end bytes) ≡ [] → AreTermsAt with_y f bytes
+  pub terms_front : (bytes : List ℕ) (f : List Term) (end : ℕ) → IsLongestSpelling (SpellsTerms with_y) bytes 0 f end
+      → behind_blanks (drop end bytes) ≡ [] → AreTermsAt with_y f bytes
   terms_front bytes f end h e =
       let p = passed (drop end bytes) in
       let gap : drop end bytes ≡ p.gap = p.whole ∙ ap (λ (t : List ℕ). p.gap ++ t) e ∙ append-nil p.gap in
@@ -236,7 +296,8 @@ module _ (with_y : Bool) where
       }
 
 -- two fronts, of which the second isn't longer: what it lacks stands behind it
-pub shorter_front : (a x b y : List ℕ) → length b ≤ length a → a ++ x ≡ b ++ y → (c : List ℕ) × (a ≡ b ++ c) × (y ≡ c ++ x)
+pub shorter_front : (a x b y : List ℕ) → length b ≤ length a → a ++ x ≡ b ++ y
+    → (c : List ℕ) × (a ≡ b ++ c) × (y ≡ c ++ x)
 shorter_front [] x [] y h e = ([], refl, sym e)
 shorter_front [] x (d ∷ b) y h e = absurd (omega arith)
 shorter_front (c ∷ a) x [] y h e = (c ∷ a, refl, sym e)
@@ -248,10 +309,13 @@ shorter_front (c ∷ a) x (d ∷ b) y h e =
 
 module _ (with_y : Bool) where
   -- what the reader left isn't blank
-  pub terms_front_on : (bytes : List ℕ) (f : List Term) (end : ℕ) → IsLongestSpelling (SpellsTerms with_y) bytes 0 f end → behind_blanks (drop end bytes) ≢ [] → (g : List Term) → AreTermsAt with_y g bytes → ⊥
+  pub terms_front_on : (bytes : List ℕ) (f : List Term) (end : ℕ) → IsLongestSpelling (SpellsTerms with_y) bytes 0 f end
+      → behind_blanks (drop end bytes) ≢ [] → (g : List Term) → AreTermsAt with_y g bytes → ⊥
   terms_front_on bytes f end h some g k =
-      let short : length k.front ≤ length (slice_range bytes 0 end) = omega (arith, front_short (SpellsTerms with_y) bytes f end h g [] k, range_length bytes end h.within) in
-      let c = shorter_front (slice_range bytes 0 end) (drop end bytes) k.front (k.gap ++ []) short (sym (split_at bytes end) ∙ k.whole) in
+      let short : length k.front ≤ length (slice_range bytes 0 end) = omega
+      (arith, front_short (SpellsTerms with_y) bytes f end h g [] k, range_length bytes end h.within) in
+      let c = shorter_front (slice_range bytes 0 end) (drop end bytes) k.front (k.gap ++ []) short
+      (sym (split_at bytes end) ∙ k.whole) in
       let is : Blanks (c.0 ++ drop end bytes) = subst Blanks (sym (append-nil k.gap) ∙ c.2) k.blanks in
       let left : Blanks (drop end bytes) = all_back (λ b. IsTrue (is_blank b)) c.0 (drop end bytes) is in
       some (ap behind_blanks (sym (append-nil (drop end bytes))) ∙ blanks_passed (drop end bytes) [] left refl)

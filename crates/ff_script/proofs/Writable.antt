@@ -20,7 +20,8 @@ power_writable letter n bytes (inl h) = let one = h.0 in omega arith
 power_writable letter n bytes (inr h) = number_small n h.second.back h.second.second
 
 module _ {V : Type 0} (Part : V → List ℕ → Type 0) (P : V → Type 0) where
-  each_holds : (vs : List V) (bytes : List ℕ) → ((v : V) (b : List ℕ) → Part v b → P v) → Each Part vs bytes → AllByRecursion P vs
+  each_holds : (vs : List V) (bytes : List ℕ) → ((v : V) (b : List ℕ) → Part v b → P v) → Each Part vs bytes
+      → AllByRecursion P vs
   each_holds [] bytes f h = tt
   each_holds (v ∷ vs) bytes f h = (f v h.front h.first, each_holds vs h.back f h.second)
 
@@ -30,13 +31,15 @@ module _ (with_y : Bool) where
   factor_writable (X n) bytes h = power_writable (codes "x") n bytes h
   factor_writable (Y n) bytes h = (h.0, power_writable (codes "y") n bytes h.1)
 
-  factors_writable : (fs : List Factor) (bytes : List ℕ) → SpellsFactors with_y fs bytes → (fs ≢ []) × AllByRecursion (IsWritableFactor with_y) fs
+  factors_writable : (fs : List Factor) (bytes : List ℕ) → SpellsFactors with_y fs bytes
+      → (fs ≢ []) × AllByRecursion (IsWritableFactor with_y) fs
   factors_writable [] bytes h = absurd h
   factors_writable (f ∷ fs) bytes h = (
     λ e. cc,
     (
       factor_writable f h.front h.first,
-      each_holds (λ g. Then (Around (codes "*")) (SpellsFactor with_y g)) (IsWritableFactor with_y) fs h.back (λ g b k. factor_writable g k.back k.second) h.second,
+      each_holds (λ g. Then (Around (codes "*")) (SpellsFactor with_y g)) (IsWritableFactor with_y) fs h.back
+          (λ g b k. factor_writable g k.back k.second) h.second,
     ),
   )
 
@@ -46,17 +49,20 @@ module _ (with_y : Bool) where
     λ e. cc,
     (
       factors_writable t.factors h.first.back h.first.second,
-      each_holds (SpellsNext with_y) (IsWritableTerm with_y) ts h.back (λ u b k. factors_writable u.factors k.back k.second) h.second,
+      each_holds (SpellsNext with_y) (IsWritableTerm with_y) ts h.back
+          (λ u b k. factors_writable u.factors k.back k.second) h.second,
     ),
   )
 
-entries_writable : (es : List (List Term)) (bytes : List ℕ) → SpellsEntries es bytes → (es ≢ []) × AllByRecursion (IsWritableTerms false) es
+entries_writable : (es : List (List Term)) (bytes : List ℕ) → SpellsEntries es bytes
+    → (es ≢ []) × AllByRecursion (IsWritableTerms false) es
 entries_writable [] bytes h = absurd h
 entries_writable (e ∷ es) bytes h = (
   λ k. cc,
   (
     terms_writable false e h.front h.first,
-    each_holds (λ d. Then (Around (codes ",")) (SpellsTerms false d)) (IsWritableTerms false) es h.back (λ d b k. terms_writable false d k.back k.second) h.second,
+    each_holds (λ d. Then (Around (codes ",")) (SpellsTerms false d)) (IsWritableTerms false) es h.back
+        (λ d b k. terms_writable false d k.back k.second) h.second,
   ),
 )
 

@@ -57,12 +57,17 @@ abbrev pub SpellsSide : Side → List ℕ → Type 0
 SpellsSide Finite bytes = bytes ≡ codes "finite"
 SpellsSide Infinite bytes = bytes ≡ codes "infinite"
 
--- the parts that spell a statement: its word, and then its numbers, its polynomial, its elements or its side; y stands in that of `curve` alone
+-- the parts that spell a statement: its word, and then its numbers, its polynomial, its elements or its side; y stands
+-- in that of `curve` alone
 abbrev pub ArePartsOf : Statement → List (List ℕ) → Type 0
-ArePartsOf (FieldOf p tail) parts = (numbers : List (List ℕ)) × (parts ≡ codes "field" ∷ numbers) × AreNumbers (p ∷ numbers_of tail) numbers × IsWhole tail
-ArePartsOf (CurveOf f) parts = (polynomial : List ℕ) × (parts ≡ codes "curve" ∷ polynomial ∷ []) × SpellsTerms true f polynomial
-ArePartsOf (Mul a b) parts = (left : List ℕ) × (right : List ℕ) × (parts ≡ codes "mul" ∷ left ∷ right ∷ []) × SpellsElement a left × SpellsElement b right
-ArePartsOf (Factor g) parts = (polynomial : List ℕ) × (parts ≡ codes "factor" ∷ polynomial ∷ []) × SpellsTerms false g polynomial
+ArePartsOf (FieldOf p tail) parts = (numbers : List (List ℕ)) × (parts ≡ codes "field" ∷ numbers)
+    × AreNumbers (p ∷ numbers_of tail) numbers × IsWhole tail
+ArePartsOf (CurveOf f) parts = (polynomial : List ℕ) × (parts ≡ codes "curve" ∷ polynomial ∷ [])
+    × SpellsTerms true f polynomial
+ArePartsOf (Mul a b) parts = (left : List ℕ) × (right : List ℕ) × (parts ≡ codes "mul" ∷ left ∷ right ∷ [])
+    × SpellsElement a left × SpellsElement b right
+ArePartsOf (Factor g) parts = (polynomial : List ℕ) × (parts ≡ codes "factor" ∷ polynomial ∷ [])
+    × SpellsTerms false g polynomial
 ArePartsOf (OrderOf side) parts = (word : List ℕ) × (parts ≡ codes "order" ∷ word ∷ []) × SpellsSide side word
 
 -- a statement

@@ -67,7 +67,8 @@ pub record IsElementFront (e : ElemText) (bytes rest : List ℕ) : Type 0 where
 abbrev pub IsBehind : List ℕ → Statement → List ℕ → Type 0
 IsBehind word (FieldOf p tail) bytes = (word ≡ codes "field") × IsWhole tail × AreNumbersAt (p ∷ numbers_of tail) bytes
 IsBehind word (CurveOf f) bytes = (word ≡ codes "curve") × AreTermsAt true f bytes
-IsBehind word (Mul a b) bytes = (word ≡ codes "mul") × ((rest : List ℕ) × IsFront (SpellsElement a) bytes rest × IsFront (SpellsElement b) rest [])
+IsBehind word (Mul a b) bytes = (word ≡ codes "mul")
+    × ((rest : List ℕ) × IsFront (SpellsElement a) bytes rest × IsFront (SpellsElement b) rest [])
 IsBehind word (Factor g) bytes = (word ≡ codes "factor") × AreTermsAt false g bytes
 IsBehind word (OrderOf side) bytes = (word ≡ codes "order") × IsSideAt side bytes
 

@@ -36,6 +36,7 @@ pub fn spelled_is_writable()
 /// by a line feed, are a script of them. So each is read again as it was, and two with one text are equal.
 pub fn printed_is_read()
     ensures line { (s : Statement) → IsWritable s → SpellsLine s (statement_text s) }
-    ensures script { (ss : List Statement) → AllByRecursion IsWritable ss → IsInOrder ss → IsScript (script_text ss) ss }
+    ensures script { (ss : List Statement) → AllByRecursion IsWritable ss → IsInOrder ss
+        → IsScript (script_text ss) ss }
     ensures one_text { (s t : Statement) → IsWritable s → IsWritable t → statement_text s ≡ statement_text t → s ≡ t }
 {}

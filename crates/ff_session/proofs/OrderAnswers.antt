@@ -16,18 +16,22 @@ use Rattle.ff_meaning.specs.LowestTerms.{IsWritten, elem_of}
 use Rattle.ff_cert.specs.RowOrder as order_row
 
 module _ (k : CodeField) (c : CurveValue) (s : Side) where
-  rows_push : (rs : List ElemValue) (zs : List WrittenValue) (r : ElemValue) (z : WrittenValue) → order_row.AreWrittenRows k c s rs zs
+  rows_push : (rs : List ElemValue) (zs : List WrittenValue) (r : ElemValue) (z : WrittenValue)
+      → order_row.AreWrittenRows k c s rs zs
       → IsWritten k c.fin (function_on k c.fin c.c s r) z → order_row.AreWrittenRows k c s (rs ++ r ∷ []) (zs ++ z ∷ [])
   rows_push [] zs r z h one = rw h (one, refl)
   rows_push (q ∷ rs) [] r z h one = absurd h
   rows_push (q ∷ rs) (w ∷ zs) r z h one = (h.0, rows_push rs zs r z h.1 one)
 
-  pub rows_more : (rs : List ElemValue) (i : ℕ) (zs more : List WrittenValue) (r : ElemValue) (z : WrittenValue) → i < length rs → slice_get rs i ≡ Some r
-      → order_row.AreWrittenRows k c s (take i rs) zs → IsWritten k c.fin (function_on k c.fin c.c s r) z → more ≡ zs ++ z ∷ []
+  pub rows_more : (rs : List ElemValue) (i : ℕ) (zs more : List WrittenValue) (r : ElemValue) (z : WrittenValue)
+      → i < length rs → slice_get rs i ≡ Some r
+      → order_row.AreWrittenRows k c s (take i rs) zs → IsWritten k c.fin (function_on k c.fin c.c s r) z
+      → more ≡ zs ++ z ∷ []
       → order_row.AreWrittenRows k c s (take (i + 1) rs) more
   rows_more rs i zs more r z less at h one more_is =
       rw (take_more rs i r less, more_is)
-      (subst (λ q. order_row.AreWrittenRows k c s (take i rs ++ q ∷ []) (zs ++ z ∷ [])) (sym (get_or_from_slice_get rs i r r at)) (rows_push (take i rs) zs r z h one))
+      (subst (λ q. order_row.AreWrittenRows k c s (take i rs ++ q ∷ []) (zs ++ z ∷ []))
+      (sym (get_or_from_slice_get rs i r r at)) (rows_push (take i rs) zs r z h one))
 
   -- they stand for the functions of the rows
   written_functions : (rs : List ElemValue) (zs : List WrittenValue) → order_row.AreWrittenRows k c s rs zs
@@ -36,7 +40,8 @@ module _ (k : CodeField) (c : CurveValue) (s : Side) where
   written_functions (r ∷ rs) [] h = absurd h
   written_functions (r ∷ rs) (z ∷ zs) h = ap₂ ◌∷◌ (sym h.0.same) (written_functions rs zs h.1)
 
-  pub order_answer : (l : LatticeValue) (zs : List WrittenValue) → IsIntegralLattice k c s l → order_row.AreWrittenRows k c s (row_elems l) zs → order_row.IsTrue k c s zs
+  pub order_answer : (l : LatticeValue) (zs : List WrittenValue) → IsIntegralLattice k c s l
+      → order_row.AreWrittenRows k c s (row_elems l) zs → order_row.IsTrue k c s zs
   order_answer l zs h rows = record {
     lattice = l;
     form = h.form;

@@ -14,8 +14,10 @@ use Rattle.ff_session.specs.Steps.{IsProductRead}
 
 module _ (k : CodeField) (f : PresValue) (a b : ElemText) where
   -- x and y are read, z is their product, and w is z as it is written
-  pub product_read : (x y z : ElemValue) (w : WrittenValue) → IsElementRead k f.n max_degree a x → IsElementRead k f.n max_degree b y
-      → function_of k f z ≡ (functions k f).◌⊗◌ (function_of k f x) (function_of k f y) → IsWritten k f (function_of k f z) w → IsProductRead k f a b w
+  pub product_read : (x y z : ElemValue) (w : WrittenValue) → IsElementRead k f.n max_degree a x
+      → IsElementRead k f.n max_degree b y
+      → function_of k f z ≡ (functions k f).◌⊗◌ (function_of k f x) (function_of k f y)
+      → IsWritten k f (function_of k f z) w → IsProductRead k f a b w
   product_read x y z w x_is y_is product low = record {
     is = record {
       left = x_is.within.value;
@@ -24,7 +26,8 @@ module _ (k : CodeField) (f : PresValue) (a b : ElemText) where
       right = y_is.within.value;
       is_right = y_is.within.is;
       right_over = y_is.within.over;
-      product = subst (λ (g : Functions k f). IsWritten k f g w) (product ∙ ap₂ (functions k f).◌⊗◌ (x_is.same f) (y_is.same f)) low;
+      product = subst (λ (g : Functions k f). IsWritten k f g w)
+          (product ∙ ap₂ (functions k f).◌⊗◌ (x_is.same f) (y_is.same f)) low;
     };
     no_row = no_row;
   }

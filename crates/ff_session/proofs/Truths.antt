@@ -63,7 +63,8 @@ no_field_row p tail k r named h = none tail h.fault named h.holds
     no_fault_of m codes (fields.FieldSize q n) is h = h.2 is.polynomial.size
     no_fault_of m codes (fields.CodeRange c) is h =
         let first = h.1 in
-        let below : get_or codes first.position 0 < p = All-get_or (λ c. c < p) codes first.position 0 first.within is.polynomial.over.each in
+        let below : get_or codes first.position 0 < p = All-get_or (λ c. c < p) codes first.position 0 first.within
+        is.polynomial.over.each in
         let e = first.is in let out = first.outside in
         omega (arith, below, e, out)
     no_fault_of m codes (fields.NotMonic c) is h = h.3 (sym h.2 ∙ is.polynomial.monic)
@@ -75,14 +76,17 @@ no_field_row p tail k r named h = none tail h.fault named h.holds
     none (Some tail) e named h = no_fault_of tail.m tail.codes e named.0 h
 
 no_curve_row : (k : CodeField) (f : List Term) (c : CurveValue) (r : Refusal) → IsCurveOfTerms k f c → ¬ IsNoCurve k f r
-no_curve_row k f c r h (range found) = let none = none_found k.ops k.size (written_codes f) h.is_sum.written in absurd (let some = found.1 in cc)
+no_curve_row k f c r h (range found) = let none = none_found k.ops k.size (written_codes f) h.is_sum.written in absurd
+    (let some = found.1 in cc)
 no_curve_row k f c r h (fault sum is e some holds told) =
-    let same : sum ≡ h.sum = same_terms k sum h.sum is.terms h.is_sum.terms is.codes_in h.is_sum.codes_in (λ i j. is.codes i j ∙ sym (h.is_sum.codes i j)) in
+    let same : sum ≡ h.sum = same_terms k sum h.sum is.terms h.is_sum.terms is.codes_in h.is_sum.codes_in
+    (λ i j. is.codes i j ∙ sym (h.is_sum.codes i j)) in
     no_fault k h.sum e c some (subst (λ s. IsCurveFault k s e) same holds) h.is_curve
 
 -- ---- fields and curves
 
-pub field_answer : (old : Bindings) (s : Statement) (p : ℕ) (tail : Option Modulus) (a : Answer) (k : AnyField) → nothing ≡ old → s ≡ FieldOf p tail → IsFieldAnswer p tail a k
+pub field_answer : (old : Bindings) (s : Statement) (p : ℕ) (tail : Option Modulus) (a : Answer) (k : AnyField)
+    → nothing ≡ old → s ≡ FieldOf p tail → IsFieldAnswer p tail a k
     → HasAnswer old s a (with_field (data_of k))
 field_answer old s p tail a k is s_is h =
     subst (λ o. HasAnswer o s a (with_field (data_of k))) is
@@ -94,17 +98,21 @@ field_answer old s p tail a k is s_is h =
           field = data_of k;
           is_field = data_is k;
           named = subst (Names p tail) (sym (same_ops k)) h.named;
-          size = subst (λ (o : FieldOps). IsFieldOf o (field_of k).ops.size) (sym (same_ops k)) (record { size = refl; no_divisors = no_divisors (field_of k) });
+          size = subst (λ (o : FieldOps). IsFieldOf o (field_of k).ops.size) (sym (same_ops k))
+              (record { size = refl; no_divisors = no_divisors (field_of k) });
           bound = refl;
         },
       );
       not_refused = λ r found. no_field_row p tail (field_of k).ops r h.named found.1;
     })))
 
-pub field_refused : (old : Bindings) (s : Statement) (p : ℕ) (tail : Option Modulus) (r : Refusal) → nothing ≡ old → s ≡ FieldOf p tail → UnlessMemory (IsFieldRow p tail) r → UnlessMemory (IsRefusalRow old s) r
-field_refused old s p tail r is s_is h some = subst (λ o. IsRefusalRow o s r) is (subst (λ t. IsRefusalRow nothing t r) (sym s_is) (refl, h some))
+pub field_refused : (old : Bindings) (s : Statement) (p : ℕ) (tail : Option Modulus) (r : Refusal) → nothing ≡ old
+    → s ≡ FieldOf p tail → UnlessMemory (IsFieldRow p tail) r → UnlessMemory (IsRefusalRow old s) r
+field_refused old s p tail r is s_is h some = subst (λ o. IsRefusalRow o s r) is
+    (subst (λ t. IsRefusalRow nothing t r) (sym s_is) (refl, h some))
 
-pub curve_answer : (old : Bindings) (s : Statement) (f : List Term) (a : Answer) (k : AnyField) (c : CurveValue) → with_field (data_of k) ≡ old → s ≡ CurveOf f → IsCurveAnswer (field_of k) f a c
+pub curve_answer : (old : Bindings) (s : Statement) (f : List Term) (a : Answer) (k : AnyField) (c : CurveValue)
+    → with_field (data_of k) ≡ old → s ≡ CurveOf f → IsCurveAnswer (field_of k) f a c
     → HasAnswer old s a (with_curve (data_of k) c)
 curve_answer old s f a k c is s_is h =
     subst (λ o. HasAnswer o s a (with_curve (data_of k) c)) is
@@ -121,10 +129,12 @@ curve_answer old s f a k c is s_is h =
           bound = refl;
         },
       );
-      not_refused = λ r found. no_curve_row (field_of k) f c r h.curve (subst (λ (l : CodeField). IsNoCurve l f r) (laws_are k found.0) found.1);
+      not_refused = λ r found. no_curve_row (field_of k) f c r h.curve
+          (subst (λ (l : CodeField). IsNoCurve l f r) (laws_are k found.0) found.1);
     })))
 
-pub curve_refused : (old : Bindings) (s : Statement) (f : List Term) (k : AnyField) (r : Refusal) → with_field (data_of k) ≡ old → s ≡ CurveOf f → UnlessMemory (IsNoCurve (field_of k) f) r
+pub curve_refused : (old : Bindings) (s : Statement) (f : List Term) (k : AnyField) (r : Refusal)
+    → with_field (data_of k) ≡ old → s ≡ CurveOf f → UnlessMemory (IsNoCurve (field_of k) f) r
     → UnlessMemory (IsRefusalRow old s) r
 curve_refused old s f k r is s_is h some =
     subst (λ o. IsRefusalRow o s r) is (subst (λ t. IsRefusalRow (with_field (data_of k)) t r) (sym s_is)
@@ -136,29 +146,37 @@ module _ (k : AnyField) (c : CurveValue) (s : Statement) where
   abbrev here : Bindings
   here = with_curve (data_of k) c
 
-  pub mul_answer : (a b : ElemText) (z : WrittenValue) → s ≡ Mul a b → IsProductRead (field_of k) c.fin a b z → HasAnswer here s (answers.Mul z) here
+  pub mul_answer : (a b : ElemText) (z : WrittenValue) → s ≡ Mul a b → IsProductRead (field_of k) c.fin a b z
+      → HasAnswer here s (answers.Mul z) here
   mul_answer a b z s_is h =
       subst (λ t. HasAnswer here t (answers.Mul z) here) (sym s_is) (record {
         is_true = (data_is k, subst (λ (l : CodeField). mul_row.IsTrue l c.fin a b z) (sym (same_field k)) h.is, refl);
-        not_refused = λ r found. h.no_row r (subst (λ (o : FieldOps). IsProductRow o c.fin.n max_degree a b r) (same_ops k) found);
+        not_refused = λ r found. h.no_row r
+            (subst (λ (o : FieldOps). IsProductRow o c.fin.n max_degree a b r) (same_ops k) found);
       })
 
-  pub mul_refused : (a b : ElemText) (r : Refusal) → s ≡ Mul a b → UnlessMemory (IsProductRow (field_of k).ops c.fin.n max_degree a b) r → UnlessMemory (IsRefusalRow here s) r
+  pub mul_refused : (a b : ElemText) (r : Refusal) → s ≡ Mul a b
+      → UnlessMemory (IsProductRow (field_of k).ops c.fin.n max_degree a b) r → UnlessMemory (IsRefusalRow here s) r
   mul_refused a b r s_is h some =
-      subst (λ t. IsRefusalRow here t r) (sym s_is) (subst (λ (o : FieldOps). IsProductRow o c.fin.n max_degree a b r) (sym (same_ops k)) (h some))
+      subst (λ t. IsRefusalRow here t r) (sym s_is)
+      (subst (λ (o : FieldOps). IsProductRow o c.fin.n max_degree a b r) (sym (same_ops k)) (h some))
 
-  pub factor_answer : (g : List Term) (unit : ℕ) (parts : List PowerLine) → s ≡ Factor g → AreFactorsRead (field_of k).ops g unit parts → HasAnswer here s (answers.Factor unit parts) here
+  pub factor_answer : (g : List Term) (unit : ℕ) (parts : List PowerLine) → s ≡ Factor g
+      → AreFactorsRead (field_of k).ops g unit parts → HasAnswer here s (answers.Factor unit parts) here
   factor_answer g unit parts s_is h =
       subst (λ t. HasAnswer here t (answers.Factor unit parts) here) (sym s_is) (record {
         is_true = (subst (λ (o : FieldOps). factor_row.IsTrue o g unit parts) (sym (same_ops k)) h.is, refl);
         not_refused = λ r found. h.no_row r (subst (λ (o : FieldOps). IsFactorRow o max_degree g r) (same_ops k) found);
       })
 
-  pub factor_refused : (g : List Term) (r : Refusal) → s ≡ Factor g → UnlessMemory (IsFactorRow (field_of k).ops max_degree g) r → UnlessMemory (IsRefusalRow here s) r
+  pub factor_refused : (g : List Term) (r : Refusal) → s ≡ Factor g
+      → UnlessMemory (IsFactorRow (field_of k).ops max_degree g) r → UnlessMemory (IsRefusalRow here s) r
   factor_refused g r s_is h some =
-      subst (λ t. IsRefusalRow here t r) (sym s_is) (subst (λ (o : FieldOps). IsFactorRow o max_degree g r) (sym (same_ops k)) (h some))
+      subst (λ t. IsRefusalRow here t r) (sym s_is)
+      (subst (λ (o : FieldOps). IsFactorRow o max_degree g r) (sym (same_ops k)) (h some))
 
-  pub order_true : (side : Side) (zs : List WrittenValue) → s ≡ OrderOf side → order_row.IsTrue (field_of k) c side zs → HasAnswer here s (answers.OrderOf zs) here
+  pub order_true : (side : Side) (zs : List WrittenValue) → s ≡ OrderOf side → order_row.IsTrue (field_of k) c side zs
+      → HasAnswer here s (answers.OrderOf zs) here
   order_true side zs s_is h =
       subst (λ t. HasAnswer here t (answers.OrderOf zs) here) (sym s_is) (record {
         is_true = (data_is k, subst (λ (l : CodeField). order_row.IsTrue l c side zs) (sym (same_field k)) h, refl);
@@ -168,8 +186,10 @@ module _ (k : AnyField) (c : CurveValue) (s : Statement) where
 -- ---- a step
 
 -- the session has taken in the block of a true answer
-pub stepped : (old new : SessionValue) (s : Statement) (a : Answer) (next : Option Bound) (text : List ℕ) → HasAnswer old.bindings s a (bindings_after old.bindings next) → IsBlock old s a text
-    → new.bindings ≡ bindings_after old.bindings next → new.printed ≡ old.printed + length text → new.bare ≡ old.bare → IsStep old s text new
+pub stepped : (old new : SessionValue) (s : Statement) (a : Answer) (next : Option Bound) (text : List ℕ)
+    → HasAnswer old.bindings s a (bindings_after old.bindings next) → IsBlock old s a text
+    → new.bindings ≡ bindings_after old.bindings next → new.printed ≡ old.printed + length text → new.bare ≡ old.bare
+    → IsStep old s text new
 stepped old new s a next text h b bound printed bare = record {
   answer = a;
   takes = record {

@@ -78,8 +78,10 @@ impl Session {
         }
     }
 
-    /// The text of the statement's block, or why there is none. The statement has a spelling and stands in its place. After
-    /// a refusal the session is as before. A product takes the square of the degrees, and the factors of its denominator; a
+    /// The text of the statement's block, or why there is none. The statement has a spelling and stands in its place.
+    /// After
+    /// a refusal the session is as before. A product takes the square of the degrees, and the factors of its
+    /// denominator; a
     /// curve, some hundred products; factors, what `factor` takes; an order, what `maximal_order` takes.
     pub fn step(&mut self, s: &Statement) -> Result<Vec<u8>, Refusal>
         requires in_place { IsInPlace self.old.bindings s.now }
@@ -122,7 +124,8 @@ impl Session {
         requires in_place { IsInPlace self.now.bindings s.now }
         requires spelled { IsWritable s.now }
         requires powers { HasSmallPowers s.now }
-        ensures answer { IfOk result (λ r. HasAnswer self.now.bindings s.now r.0 (bindings_after self.now.bindings r.1)) }
+        ensures answer { IfOk result
+            (λ r. HasAnswer self.now.bindings s.now r.0 (bindings_after self.now.bindings r.1)) }
         ensures sound { IfOk result (λ r. ForSome r.1 IsSound) }
         ensures refused { IfErr result (UnlessMemory (IsRefusalRow self.now.bindings s.now)) }
     {

@@ -53,7 +53,8 @@ number_one c d = record {
   value = let v = d.value in omega arith;
 }
 
-pub number_more : (n : ℕ) (g : List ℕ) (c : ℕ) → SpellsNumber n g → length g < 9 → IsDigit c → SpellsNumber (10 * n + (c - 48)) (g ++ c ∷ [])
+pub number_more : (n : ℕ) (g : List ℕ) (c : ℕ) → SpellsNumber n g → length g < 9 → IsDigit c
+    → SpellsNumber (10 * n + (c - 48)) (g ++ c ∷ [])
 number_more n g c s short d =
     let long : length (g ++ c ∷ []) ≡ length g + 1 = length-append g (c ∷ []) in
     let some = s.numeral.0 in
@@ -65,13 +66,15 @@ number_more n g c s short d =
 
 pub number_small : (n : ℕ) (g : List ℕ) → SpellsNumber n g → n < 1000000000
 number_small n g s =
-    let bound : digits_value 10 g < 10 ^ 9 = digits_value_short (numerals_by_value (AllDigits 10) tells_digits) g 9 s.numeral.1 s.few in
+    let bound : digits_value 10 g < 10 ^ 9 = digits_value_short (numerals_by_value (AllDigits 10) tells_digits) g 9
+    s.numeral.1 s.few in
     let was = s.value in
     omega arith
 
 pub number_room : (n : ℕ) (g : List ℕ) → SpellsNumber n g → length g < 9 → n < 100000000
 number_room n g s short =
-    let bound : digits_value 10 g < 10 ^ 8 = digits_value_short (numerals_by_value (AllDigits 10) tells_digits) g 8 s.numeral.1 (omega arith) in
+    let bound : digits_value 10 g < 10 ^ 8 = digits_value_short (numerals_by_value (AllDigits 10) tells_digits) g 8
+    s.numeral.1 (omega arith) in
     let was = s.value in
     omega arith
 
@@ -115,13 +118,16 @@ digits_more s t g b is e =
 -- digits that leave room for one more have a small number
 pub leads_room : (s : ℕ × ℕ) (g : List ℕ) → Leads number_step (0, 0) g s → s.0 < 9 → s.1 < 100000000
 leads_room s g leads short =
-    let d = along number_step IsDigits digits_more (0, 0) s [] g (record { count = refl; few = omega arith; digits = tt; value = refl }) leads in
+    let d = along number_step IsDigits digits_more (0, 0) s [] g
+    (record { count = refl; few = omega arith; digits = tt; value = refl }) leads in
     let count = d.count in
-    let bound : digits_value 10 g < 10 ^ 8 = digits_value_short (numerals_by_value (AllDigits 10) tells_digits) g 8 d.digits (omega arith) in
+    let bound : digits_value 10 g < 10 ^ 8 = digits_value_short (numerals_by_value (AllDigits 10) tells_digits) g 8
+    d.digits (omega arith) in
     let was = d.value in
     omega arith
 
-leads_digits : (k n : ℕ) (ds : List ℕ) → AllDigits 10 ds → k + length ds ≤ 9 → Leads number_step (k, n) ds (k + length ds, digits_value_after 10 n ds)
+leads_digits : (k n : ℕ) (ds : List ℕ) → AllDigits 10 ds → k + length ds ≤ 9
+    → Leads number_step (k, n) ds (k + length ds, digits_value_after 10 n ds)
 leads_digits k n [] all few = let same : k ≡ k + 0 = omega arith in ap (λ i. Some (i, n)) same
 leads_digits k n (c ∷ cs) all few =
     let d = digit_of_value c all.0 in
@@ -129,7 +135,9 @@ leads_digits k n (c ∷ cs) all few =
     let both : is_ascii_digit c && nat_lt k 9 ≡ true = and_from (is_ascii_digit c) (nat_lt k 9) d.test room in
     let number : 10 * n + (c - 48) ≡ n * 10 + digit_value c = let v = d.value in omega arith in
     let count : k + 1 + length cs ≡ k + suc (length cs) = omega arith in
-    let more : Leads number_step (k + 1, n * 10 + digit_value c) cs (k + 1 + length cs, digits_value_after 10 (n * 10 + digit_value c) cs) = leads_digits (k + 1) (n * 10 + digit_value c) cs all.1 (omega arith) in
+    let more : Leads number_step (k + 1, n * 10 + digit_value c) cs
+    (k + 1 + length cs, digits_value_after 10 (n * 10 + digit_value c) cs) = leads_digits (k + 1)
+    (n * 10 + digit_value c) cs all.1 (omega arith) in
     rw (both, number) (more ∙ ap (λ i. Some (i, digits_value_after 10 (n * 10 + digit_value c) cs)) count)
 
 pub number_machine : IsMachine number_step (0, 0) number_whole number_last SpellsNumber
@@ -137,14 +145,23 @@ number_machine = record {
   fresh = refl;
   none = refl;
   sound = λ g s leads is.
-      let d = along number_step IsDigits digits_more (0, 0) s [] g (record { count = refl; few = omega arith; digits = tt; value = refl }) leads in
+      let d = along number_step IsDigits digits_more (0, 0) s [] g
+      (record { count = refl; few = omega arith; digits = tt; value = refl }) leads in
       let some : 0 < s.0 = ltb-true 0 s.0 is in
-      let count = d.count in
-      (s.1, ap (λ b. cond b (Some s.1) None) is, record { numeral = (omega arith, d.digits); few = d.few; value = d.value });
+      let count = d.count in (
+        s.1,
+        ap (λ b. cond b (Some s.1) None) is,
+        record
+            { numeral = (omega arith, d.digits); few = d.few; value = d.value },
+      );
   complete = λ v g spelled.
       let some = spelled.numeral.0 in
-      let is : nat_lt 0 (0 + length g) ≡ true = lt-ltb 0 (0 + length g) (omega arith) in
-      ((0 + length g, digits_value 10 g), leads_digits 0 0 g spelled.numeral.1 (let few = spelled.few in omega arith), is, ap (λ b. cond b (Some (digits_value 10 g)) None) is ∙ ap (λ n. Some n) spelled.value);
+      let is : nat_lt 0 (0 + length g) ≡ true = lt-ltb 0 (0 + length g) (omega arith) in (
+        (0 + length g, digits_value 10 g),
+        leads_digits 0 0 g spelled.numeral.1 (let few = spelled.few in omega arith),
+        is,
+        ap (λ b. cond b (Some (digits_value 10 g)) None) is ∙ ap (λ n. Some n) spelled.value,
+      );
   live = λ g s leads. live s (nat_lt 0 s.0) refl;
   kept = λ g s t b leads stepped unfinished.
       let p = test_some (is_ascii_digit b && nat_lt s.0 9) (s.0 + 1, 10 * s.1 + (b - 48)) t stepped in
@@ -153,7 +170,8 @@ number_machine = record {
       absurd cc;
 }
   where
-    live : (s : ℕ × ℕ) (b : Bool) → nat_lt 0 s.0 ≡ b → (rest : List ℕ) × (t : ℕ × ℕ) × Leads number_step s rest t × (number_whole t ≡ true)
+    live : (s : ℕ × ℕ) (b : Bool) → nat_lt 0 s.0 ≡ b
+        → (rest : List ℕ) × (t : ℕ × ℕ) × Leads number_step s rest t × (number_whole t ≡ true)
     live s true is = ([], s, refl, is)
     live s false not =
         let none : s.0 ≤ 0 = ltb-false 0 s.0 not in
@@ -163,7 +181,8 @@ number_machine = record {
 -- ---- reading a number in a line
 
 abbrev pub IsReadNumber : List ℕ → ℕ → ℕ → ℕ → Type 0
-IsReadNumber line at end n = IsRead number_step (0, 0) number_whole number_last SpellsNumber line at end end (end - at, n)
+IsReadNumber line at end n = IsRead number_step (0, 0) number_whole number_last SpellsNumber line at end end
+    (end - at, n)
 
 abbrev pub NumberStops : List ℕ → ℕ → ℕ → ℕ → Type 0
 NumberStops line at end n = Stops number_step (0, 0) number_whole number_last SpellsNumber line end (end - at, n)
@@ -171,15 +190,22 @@ NumberStops line at end n = Stops number_step (0, 0) number_whole number_last Sp
 pub number_begins : (line : List ℕ) (at : ℕ) → at ≤ length line → IsReadNumber line at at 0
 number_begins line at le =
     let none : 0 ≡ at - at = omega arith in
-    subst (λ (k : ℕ). IsRead number_step (0, 0) number_whole number_last SpellsNumber line at at at (k, 0)) none (read_start number_step (0, 0) number_whole number_last SpellsNumber number_machine line at le)
+    subst (λ (k : ℕ). IsRead number_step (0, 0) number_whole number_last SpellsNumber line at at at (k, 0)) none
+    (read_start number_step (0, 0) number_whole number_last SpellsNumber number_machine line at le)
 
-pub number_goes_on : (line : List ℕ) (at end n m : ℕ) → IsReadNumber line at end n → end < length line → end - at < 9 → is_ascii_digit (get_or line end 0) ≡ true → m ≡ 10 * n + (get_or line end 0 - 48) → IsReadNumber line at (end + 1) m
+pub number_goes_on : (line : List ℕ) (at end n m : ℕ) → IsReadNumber line at end n → end < length line → end - at < 9
+    → is_ascii_digit (get_or line end 0) ≡ true → m ≡ 10 * n + (get_or line end 0 - 48)
+    → IsReadNumber line at (end + 1) m
 number_goes_on line at end n m r lt short digit value =
     let from = r.from in
-    let both : is_ascii_digit (get_or line end 0) && nat_lt (end - at) 9 ≡ true = and_from _ _ digit (lt-ltb (end - at) 9 short) in
+    let both : is_ascii_digit (get_or line end 0) && nat_lt (end - at) 9
+    ≡ true = and_from _ _ digit (lt-ltb (end - at) 9 short) in
     let count : end - at + 1 ≡ end + 1 - at = omega arith in
-    let stepped : number_step (end - at, n) (get_or line end 0) ≡ Some (end + 1 - at, m) = rw both (ap (λ k. Some (k, 10 * n + (get_or line end 0 - 48))) count ∙ ap (λ k. Some (end + 1 - at, k)) (sym value)) in
-    read_whole number_step (0, 0) number_whole number_last SpellsNumber number_machine line at end end (end - at, n) (end + 1 - at, m) r lt stepped (lt-ltb 0 (end + 1 - at) (omega arith))
+    let stepped : number_step (end - at, n) (get_or line end 0)
+    ≡ Some (end + 1 - at, m) = rw both (ap (λ k. Some (k, 10 * n + (get_or line end 0 - 48))) count
+    ∙ ap (λ k. Some (end + 1 - at, k)) (sym value)) in
+    read_whole number_step (0, 0) number_whole number_last SpellsNumber number_machine line at end end (end - at, n)
+    (end + 1 - at, m) r lt stepped (lt-ltb 0 (end + 1 - at) (omega arith))
 
 pub number_room_at : (line : List ℕ) (at end n : ℕ) → IsReadNumber line at end n → end - at < 9 → n < 100000000
 number_room_at line at end n r short = leads_room (end - at, n) (slice_range line at end) r.state short
@@ -190,22 +216,29 @@ stops_at_end line at end n le = inl le
 pub stops_at_nine : (line : List ℕ) (at end n : ℕ) → 9 ≤ end - at → NumberStops line at end n
 stops_at_nine line at end n full = inr (stop (is_ascii_digit (get_or line end 0)))
   where
-    stop : (b : Bool) → cond {A = Option (ℕ × ℕ)} (b && nat_lt (end - at) 9) (Some (end - at + 1, 10 * n + (get_or line end 0 - 48))) None ≡ None
+    stop : (b : Bool) → cond {A = Option (ℕ × ℕ)} (b && nat_lt (end - at) 9)
+        (Some (end - at + 1, 10 * n + (get_or line end 0 - 48))) None ≡ None
     stop true = rw (le-ltb (end - at) 9 full) refl
     stop false = refl
 
-pub stops_at_other : (line : List ℕ) (at end n : ℕ) → is_ascii_digit (get_or line end 0) ≡ false → NumberStops line at end n
+pub stops_at_other : (line : List ℕ) (at end n : ℕ) → is_ascii_digit (get_or line end 0) ≡ false
+    → NumberStops line at end n
 stops_at_other line at end n not = inr (rw not refl)
 
-pub number_found : (line : List ℕ) (at end n : ℕ) → IsReadNumber line at end n → NumberStops line at end n → end ≢ at → IsLongestSpelling SpellsNumber line at n end
+pub number_found : (line : List ℕ) (at end n : ℕ) → IsReadNumber line at end n → NumberStops line at end n → end ≢ at
+    → IsLongestSpelling SpellsNumber line at n end
 number_found line at end n r stops some =
     let from = r.from in
-    read_found number_step (0, 0) number_whole number_last SpellsNumber number_machine line at end end (end - at, n) n r stops (rw (lt-ltb 0 (end - at) (omega arith)) refl)
+    read_found number_step (0, 0) number_whole number_last SpellsNumber number_machine line at end end (end - at, n) n r
+    stops (rw (lt-ltb 0 (end - at) (omega arith)) refl)
 
-pub number_nothing : (line : List ℕ) (at end n : ℕ) → IsReadNumber line at end n → NumberStops line at end n → end ≡ at → IsReadFault SpellsNumber line at (Syntax at)
+pub number_nothing : (line : List ℕ) (at end n : ℕ) → IsReadNumber line at end n → NumberStops line at end n → end ≡ at
+    → IsReadFault SpellsNumber line at (Syntax at)
 number_nothing line at end n r stops here =
     let none : nat_lt 0 (end - at) ≡ false = le-ltb 0 (end - at) (omega arith) in
-    subst (λ (i : ℕ). IsReadFault SpellsNumber line at (Syntax i)) here (read_nothing number_step (0, 0) number_whole number_last SpellsNumber number_machine line at end end (end - at, n) r stops (rw none refl))
+    subst (λ (i : ℕ). IsReadFault SpellsNumber line at (Syntax i)) here
+    (read_nothing number_step (0, 0) number_whole number_last SpellsNumber number_machine line at end end
+    (end - at, n) r stops (rw none refl))
 
 -- bytes spell one number at most
 pub same_number : (m n : ℕ) (g : List ℕ) → SpellsNumber m g → SpellsNumber n g → m ≡ n

@@ -13,7 +13,8 @@ differ b is_false is_true = cc
 -- ---- one step
 
 -- no term of degree j comes next
-pub codes_skip : (j : ℕ) (bytes : List ℕ) → ((t : ReadTerm) → plus_at bytes ≡ Some t → t.0.1 ≢ j) → codes_at (suc j) bytes ≡ on_top 0 (codes_at j bytes)
+pub codes_skip : (j : ℕ) (bytes : List ℕ) → ((t : ReadTerm) → plus_at bytes ≡ Some t → t.0.1 ≢ j)
+    → codes_at (suc j) bytes ≡ on_top 0 (codes_at j bytes)
 unfolding codes_at
 codes_skip j bytes other = go (plus_at bytes) refl
   where
@@ -22,12 +23,14 @@ codes_skip j bytes other = go (plus_at bytes) refl
     go (Some t) e = rw (e, ne_eqb t.0.1 j (other t e)) refl
 
 -- the next term is of degree j
-pub codes_take : (j : ℕ) (bytes : List ℕ) (t : ReadTerm) → plus_at bytes ≡ Some t → t.0.1 ≡ j → codes_at (suc j) bytes ≡ on_top t.0.0 (codes_at j t.1)
+pub codes_take : (j : ℕ) (bytes : List ℕ) (t : ReadTerm) → plus_at bytes ≡ Some t → t.0.1 ≡ j
+    → codes_at (suc j) bytes ≡ on_top t.0.0 (codes_at j t.1)
 unfolding codes_at
 codes_take j bytes t e same = rw (e, eq-eqb t.0.1 j same) refl
 
 -- no term below degree j comes next
-pub codes_past : (j : ℕ) (bytes : List ℕ) → ((t : ReadTerm) → plus_at bytes ≡ Some t → j ≤ t.0.1) → codes_at j bytes ≡ (replicate j 0, bytes)
+pub codes_past : (j : ℕ) (bytes : List ℕ) → ((t : ReadTerm) → plus_at bytes ≡ Some t → j ≤ t.0.1)
+    → codes_at j bytes ≡ (replicate j 0, bytes)
 unfolding codes_at
 codes_past zero bytes past = refl
 codes_past (suc j) bytes past =
@@ -55,7 +58,8 @@ codes_gap (suc j) bytes t e below = elim (cases_Bool (eqb t.0.1 j)) [
 
 -- ---- what the loop knows of the next term
 
-pub lower_is : (bound : ℕ) (bytes : List ℕ) (t : ReadTerm) → lower_at bound bytes ≡ Some t → (plus_at bytes ≡ Some t) × (t.0.1 < bound)
+pub lower_is : (bound : ℕ) (bytes : List ℕ) (t : ReadTerm) → lower_at bound bytes ≡ Some t
+    → (plus_at bytes ≡ Some t) × (t.0.1 < bound)
 unfolding lower_at
 lower_is bound bytes t e =
     let a = bind_some (plus_at bytes) (λ u. cond (ltb u.0.1 bound) (Some u) None) t e in
@@ -63,22 +67,28 @@ lower_is bound bytes t e =
     let degree : a.0.0.1 < bound = ltb-true a.0.0.1 bound g.0 in
     (a.1 ∙ ap Some g.1, omega (arith, ap (λ (u : ReadTerm). u.0.1) g.1))
 
-pub lower_none : (bound : ℕ) (bytes : List ℕ) → lower_at bound bytes ≡ None → (t : ReadTerm) → plus_at bytes ≡ Some t → bound ≤ t.0.1
+pub lower_none : (bound : ℕ) (bytes : List ℕ) → lower_at bound bytes ≡ None → (t : ReadTerm) → plus_at bytes ≡ Some t
+    → bound ≤ t.0.1
 unfolding lower_at
 lower_none bound bytes e t is = elim (cases_Bool (ltb t.0.1 bound)) [
-  | inl below ↦ absurd (no_none (sym (let one : (plus_at bytes >>= λ (u : ReadTerm). cond (ltb u.0.1 bound) (Some u) None) ≡ Some t = rw (is, below) refl in one) ∙ e))
+  | inl below ↦ absurd (no_none (sym (let one :
+      (plus_at bytes >>= λ (u : ReadTerm). cond (ltb u.0.1 bound) (Some u) None)
+      ≡ Some t = rw (is, below) refl in one) ∙ e))
   | inr not ↦ ltb-false t.0.1 bound not
 ]
 
 -- ---- what the loop keeps
 
-pub codes_ended : (start whole : List ℕ) (bound : ℕ) (bytes : List ℕ) → lower_at bound bytes ≡ None → start ++ (codes_at bound bytes).0 ≡ whole → start ++ replicate bound 0 ≡ whole
-codes_ended start whole bound bytes e kept = ap (λ (r : List ℕ × List ℕ). start ++ r.0) (sym (codes_past bound bytes (lower_none bound bytes e))) ∙ kept
+pub codes_ended : (start whole : List ℕ) (bound : ℕ) (bytes : List ℕ) → lower_at bound bytes ≡ None
+    → start ++ (codes_at bound bytes).0 ≡ whole → start ++ replicate bound 0 ≡ whole
+codes_ended start whole bound bytes e kept = ap (λ (r : List ℕ × List ℕ). start ++ r.0)
+    (sym (codes_past bound bytes (lower_none bound bytes e))) ∙ kept
 
 pub rest_ended : (bound : ℕ) (bytes : List ℕ) → lower_at bound bytes ≡ None → (codes_at bound bytes).1 ≡ bytes
 rest_ended bound bytes e = ap (λ (r : List ℕ × List ℕ). r.1) (codes_past bound bytes (lower_none bound bytes e))
 
-pub codes_more : (start whole : List ℕ) (bound : ℕ) (bytes : List ℕ) (t : ReadTerm) → lower_at bound bytes ≡ Some t → start ++ (codes_at bound bytes).0 ≡ whole
+pub codes_more : (start whole : List ℕ) (bound : ℕ) (bytes : List ℕ) (t : ReadTerm) → lower_at bound bytes ≡ Some t
+    → start ++ (codes_at bound bytes).0 ≡ whole
     → ((start ++ replicate (bound - 1 - t.0.1) 0) ++ t.0.0 ∷ []) ++ (codes_at t.0.1 t.1).0 ≡ whole
 codes_more start whole bound bytes t e kept =
     let is = lower_is bound bytes t e in
@@ -87,5 +97,7 @@ codes_more start whole bound bytes t e kept =
     append_assoc (start ++ gap) (t.0.0 ∷ []) behind ∙ append_assoc start gap (t.0.0 ∷ behind)
     ∙ ap (λ (r : List ℕ × List ℕ). start ++ r.0) (sym (codes_gap bound bytes t is.0 is.1)) ∙ kept
 
-pub rest_more : (bound : ℕ) (bytes : List ℕ) (t : ReadTerm) → lower_at bound bytes ≡ Some t → (codes_at t.0.1 t.1).1 ≡ (codes_at bound bytes).1
-rest_more bound bytes t e = let is = lower_is bound bytes t e in ap (λ (r : List ℕ × List ℕ). r.1) (sym (codes_gap bound bytes t is.0 is.1))
+pub rest_more : (bound : ℕ) (bytes : List ℕ) (t : ReadTerm) → lower_at bound bytes ≡ Some t
+    → (codes_at t.0.1 t.1).1 ≡ (codes_at bound bytes).1
+rest_more bound bytes t e = let is = lower_is bound bytes t e in ap (λ (r : List ℕ × List ℕ). r.1)
+    (sym (codes_gap bound bytes t is.0 is.1))

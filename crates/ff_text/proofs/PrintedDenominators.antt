@@ -25,8 +25,11 @@ use Rattle.ff_text.proofs.PrintedTexts.{poly_end}
 monic_top : (d : List ℕ) → top_of d ≡ 1 → IsMonic d
 monic_top [] e = absurd cc
 monic_top (a ∷ bs) e =
-    let last : get_or (a ∷ bs) (length bs) 0 ≡ 1 = ap (λ i. get_or (a ∷ bs) i 0) (omega arith) ∙ e in
-    (take (length bs) (a ∷ bs), sym (take_all (suc (length bs)) (a ∷ bs) (omega arith)) ∙ take-suc (a ∷ bs) (length bs) 0 (omega arith) ∙ ap (λ x. take (length bs) (a ∷ bs) ++ x ∷ []) last)
+    let last : get_or (a ∷ bs) (length bs) 0 ≡ 1 = ap (λ i. get_or (a ∷ bs) i 0) (omega arith) ∙ e in (
+      take (length bs) (a ∷ bs),
+      sym (take_all (suc (length bs)) (a ∷ bs) (omega arith))
+          ∙ take-suc (a ∷ bs) (length bs) 0 (omega arith) ∙ ap (λ x. take (length bs) (a ∷ bs) ++ x ∷ []) last,
+    )
 
 top_monic : (d : List ℕ) → IsMonic d → top_of d ≡ 1
 top_monic d (lower, e) =
@@ -93,7 +96,8 @@ power_trimmed j = trim_trimmed is_zero_code (power_of_x j) (power_is_poly j).tri
 power_printable : (j : ℕ) → j ≤ 1024 → IsPrintable (power_of_x j)
 power_printable j h = record {
   poly = power_is_poly j;
-  small = All-append (λ c. c < 65536) (replicate j 0) (1 ∷ []) (All-replicate (λ c. c < 65536) j 0 (omega arith)) (All-cons (λ c. c < 65536) 1 [] (omega arith) (All-nil (λ c. c < 65536)));
+  small = All-append (λ c. c < 65536) (replicate j 0) (1 ∷ []) (All-replicate (λ c. c < 65536) j 0 (omega arith))
+      (All-cons (λ c. c < 65536) 1 [] (omega arith) (All-nil (λ c. c < 65536)));
   short = omega (arith, length_power j);
 }
 
@@ -116,24 +120,29 @@ pub record IsDenIn (text bytes d rest : List ℕ) : Type 0 where
 
 -- ---- in parentheses
 
-inner_takes : (bytes : List ℕ) (b : List ℕ × List ℕ) → inner_at bytes ≡ Some b → IsDenIn (poly_text b.0 ++ codes ")") bytes b.0 b.1 × (1 < term_count b.0)
+inner_takes : (bytes : List ℕ) (b : List ℕ × List ℕ) → inner_at bytes ≡ Some b
+    → IsDenIn (poly_text b.0 ++ codes ")") bytes b.0 b.1 × (1 < term_count b.0)
 unfolding inner_at
 inner_takes bytes b e =
-    let d = bind_some (poly_at bytes) (λ d. after_text (codes ")") d.1 >>= λ rest. cond (eqb (top_of d.0) 1 && ltb 1 (term_count d.0)) (Some (d.0, rest)) None) b e in
-    let rest = bind_some (after_text (codes ")") d.0.1) (λ rest. cond (eqb (top_of d.0.0) 1 && ltb 1 (term_count d.0.0)) (Some (d.0.0, rest)) None) b d.2 in
+    let d = bind_some (poly_at bytes) (λ d. after_text (codes ")") d.1 >>= λ rest. cond
+    (eqb (top_of d.0) 1 && ltb 1 (term_count d.0)) (Some (d.0, rest)) None) b e in
+    let rest = bind_some (after_text (codes ")") d.0.1)
+    (λ rest. cond (eqb (top_of d.0.0) 1 && ltb 1 (term_count d.0.0)) (Some (d.0.0, rest)) None) b d.2 in
     let g = guard_some (eqb (top_of d.0.0) 1 && ltb 1 (term_count d.0.0)) (d.0.0, rest.0) b rest.2 in
     let tests = and_parts (eqb (top_of d.0.0) 1) (ltb 1 (term_count d.0.0)) g.0 in
     let is = poly_takes bytes d.0 d.1 in
     subst (λ (r : List ℕ × List ℕ). IsDenIn (poly_text r.0 ++ codes ")") bytes r.0 r.1 × (1 < term_count r.0)) g.1 (
       record {
-        parts = then_takes bytes (poly_text d.0.0) d.0.1 (codes ")") rest.0 is.parts (text_takes (codes ")") d.0.1 rest.0 rest.1);
+        parts = then_takes bytes (poly_text d.0.0) d.0.1 (codes ")") rest.0 is.parts
+            (text_takes (codes ")") d.0.1 rest.0 rest.1);
         printable = is.printable;
         monic = monic_top d.0.0 (eqb-true _ _ tests.0);
       },
       ltb-true _ _ tests.1,
     )
 
-inner_again : (d rest : List ℕ) → IsPrintable d → IsMonic d → 1 < term_count d → inner_at (poly_text d ++ (codes ")" ++ rest)) ≡ Some (d, rest)
+inner_again : (d rest : List ℕ) → IsPrintable d → IsMonic d → 1 < term_count d
+    → inner_at (poly_text d ++ (codes ")" ++ rest)) ≡ Some (d, rest)
 unfolding inner_at
 inner_again d rest printable monic more =
     let one = poly_again d (codes ")" ++ rest) printable (poly_end (41 ∷ rest) refl) in
@@ -141,11 +150,13 @@ inner_again d rest printable monic more =
 
 -- ---- behind `/`
 
-den_takes : (bytes : List ℕ) (b : List ℕ × List ℕ) → den_at bytes ≡ Some b → IsDenIn (den_text b.0) bytes b.0 b.1 × (b.0 ≢ 1 ∷ [])
+den_takes : (bytes : List ℕ) (b : List ℕ × List ℕ) → den_at bytes ≡ Some b
+    → IsDenIn (den_text b.0) bytes b.0 b.1 × (b.0 ≢ 1 ∷ [])
 unfolding den_at
 den_takes bytes b e =
     let P : List ℕ × List ℕ → Type 0 = λ r. IsDenIn (den_text r.0) bytes r.0 r.1 × (r.0 ≢ 1 ∷ []) in
-    elim (choice_some inner_at (after_text (codes "(") bytes) (power_at bytes >>= λ j. Some (power_of_x j.0, j.1)) b e) [
+    elim (choice_some inner_at (after_text (codes "(") bytes)
+    (power_at bytes >>= λ j. Some (power_of_x j.0, j.1)) b e) [
       | inl w ↦
           let j = bind_some (power_at bytes) (λ j. Some (power_of_x j.0, j.1)) b w.1 in
           let is = power_takes bytes j.0.0 j.0.1 j.1 in
@@ -162,7 +173,9 @@ den_takes bytes b e =
           let is = inner_takes w.0 b w.2 in
           let more : 1 < term_count b.0 = is.1 in (
             record {
-              parts = then_takes bytes (codes "(") w.0 (poly_text b.0 ++ codes ")") b.1 (text_takes (codes "(") bytes w.0 w.1) is.0.parts ∙ ap (λ (t : List ℕ). t ++ b.1) (sym (long_text b.0 more));
+              parts = then_takes bytes (codes "(") w.0 (poly_text b.0 ++ codes ")") b.1
+                  (text_takes (codes "(") bytes w.0 w.1) is.0.parts
+                  ∙ ap (λ (t : List ℕ). t ++ b.1) (sym (long_text b.0 more));
               printable = is.0.printable;
               monic = is.0.monic;
             },
@@ -176,26 +189,40 @@ power_is d (lower, e) few =
     let none : term_count lower ≡ 0 = omega (arith, ap (λ c. term_count c) e, count_append lower (1 ∷ [])) in
     (length lower, e ∙ ap (λ zs. zs ++ 1 ∷ []) (no_terms lower none))
 
-den_again_power : (j : ℕ) (rest : List ℕ) → 1 ≤ j → j ≤ 1024 → IsPowerEnd rest → den_at (den_text (power_of_x j) ++ rest) ≡ Some (power_of_x j, rest)
+den_again_power : (j : ℕ) (rest : List ℕ) → 1 ≤ j → j ≤ 1024 → IsPowerEnd rest
+    → den_at (den_text (power_of_x j) ++ rest) ≡ Some (power_of_x j, rest)
 unfolding den_at
 den_again_power j rest least most end =
     let text : den_text (power_of_x j) ++ rest ≡ power_text j ++ rest = ap (λ t. t ++ rest) (power_den_text j least) in
-    let none : after_text (codes "(") (power_text j ++ rest) ≡ None = ap (λ t. after_text (codes "(") (t ++ rest)) (power_written j least) ∙ other_text 40 120 [] (exponent_text j ++ rest) refl in
+    let none : after_text (codes "(") (power_text j ++ rest)
+    ≡ None = ap (λ t. after_text (codes "(") (t ++ rest)) (power_written j least)
+    ∙ other_text 40 120 [] (exponent_text j ++ rest) refl in
     ap den_at text ∙ rw (none, power_again j rest least most end) refl
 
-den_again_long : (d rest : List ℕ) → IsPrintable d → IsMonic d → 1 < term_count d → den_at (den_text d ++ rest) ≡ Some (d, rest)
+den_again_long : (d rest : List ℕ) → IsPrintable d → IsMonic d → 1 < term_count d
+    → den_at (den_text d ++ rest) ≡ Some (d, rest)
 unfolding den_at
 den_again_long d rest printable monic more =
-    let text : den_text d ++ rest ≡ codes "(" ++ (poly_text d ++ (codes ")" ++ rest)) = ap (λ t. t ++ rest) (long_text d more) ∙ append_assoc (codes "(") (poly_text d ++ codes ")") rest ∙ ap (λ t. codes "(" ++ t) (append_assoc (poly_text d) (codes ")") rest) in
-    ap den_at text ∙ rw (text_again (codes "(") (poly_text d ++ (codes ")" ++ rest)), inner_again d rest printable monic more) refl
+    let text : den_text d ++ rest ≡ codes "("
+    ++ (poly_text d ++ (codes ")" ++ rest)) = ap (λ t. t ++ rest) (long_text d more)
+    ∙ append_assoc (codes "(") (poly_text d ++ codes ")") rest
+    ∙ ap (λ t. codes "(" ++ t) (append_assoc (poly_text d) (codes ")") rest) in
+    ap den_at text ∙ rw (
+      text_again (codes "(") (poly_text d ++ (codes ")" ++ rest)),
+      inner_again d rest printable monic
+          more,
+    ) refl
 
-den_again_short : (d rest : List ℕ) → IsPrintable d → (j : ℕ) × (d ≡ power_of_x j) → d ≢ 1 ∷ [] → IsPowerEnd rest → den_at (den_text d ++ rest) ≡ Some (d, rest)
+den_again_short : (d rest : List ℕ) → IsPrintable d → (j : ℕ) × (d ≡ power_of_x j) → d ≢ 1 ∷ [] → IsPowerEnd rest
+    → den_at (den_text d ++ rest) ≡ Some (d, rest)
 den_again_short d rest printable (zero, e) other end = absurd (other e)
 den_again_short d rest printable (suc j, e) other end =
     let long : suc (suc j) ≤ 1025 = omega (arith, printable.short, ap length e, length_power (suc j)) in
-    subst (λ x. den_at (den_text x ++ rest) ≡ Some (x, rest)) (sym e) (den_again_power (suc j) rest (omega arith) (omega arith) end)
+    subst (λ x. den_at (den_text x ++ rest) ≡ Some (x, rest)) (sym e)
+    (den_again_power (suc j) rest (omega arith) (omega arith) end)
 
-den_again : (d rest : List ℕ) → IsPrintable d → IsMonic d → d ≢ 1 ∷ [] → IsPowerEnd rest → den_at (den_text d ++ rest) ≡ Some (d, rest)
+den_again : (d rest : List ℕ) → IsPrintable d → IsMonic d → d ≢ 1 ∷ [] → IsPowerEnd rest
+    → den_at (den_text d ++ rest) ≡ Some (d, rest)
 den_again d rest printable monic other end = elim (cases_Bool (ltb 1 (term_count d))) [
   | inl many ↦ den_again_long d rest printable monic (ltb-true _ _ many)
   | inr few ↦ den_again_short d rest printable (power_is d monic (ltb-false _ _ few)) other end
@@ -222,17 +249,20 @@ pub over_takes : (bytes : List ℕ) (b : List ℕ × List ℕ) → over_at bytes
 unfolding over_at
 over_takes bytes b e =
     elim (choice_some den_at (after_text (codes "/") bytes) (Some (1 ∷ [], bytes)) b e) [
-      | inl w ↦ subst (λ (r : List ℕ × List ℕ). IsDenIn (over_text r.0) bytes r.0 r.1) (some_is (1 ∷ [], bytes) b w.1) (record { parts = refl; printable = one_printable; monic = ([], refl) })
+      | inl w ↦ subst (λ (r : List ℕ × List ℕ). IsDenIn (over_text r.0) bytes r.0 r.1) (some_is (1 ∷ [], bytes) b w.1)
+          (record { parts = refl; printable = one_printable; monic = ([], refl) })
       | inr w ↦
           let is = den_takes w.0 b w.2 in
           record {
-            parts = then_takes bytes (codes "/") w.0 (den_text b.0) b.1 (text_takes (codes "/") bytes w.0 w.1) is.0.parts ∙ ap (λ (t : List ℕ). t ++ b.1) (sym (over_written b.0 is.1));
+            parts = then_takes bytes (codes "/") w.0 (den_text b.0) b.1 (text_takes (codes "/") bytes w.0 w.1)
+                is.0.parts ∙ ap (λ (t : List ℕ). t ++ b.1) (sym (over_written b.0 is.1));
             printable = is.0.printable;
             monic = is.0.monic;
           }
     ]
 
-pub over_again : (d rest : List ℕ) → IsPrintable d → IsMonic d → IsElemEnd rest → over_at (over_text d ++ rest) ≡ Some (d, rest)
+pub over_again : (d rest : List ℕ) → IsPrintable d → IsMonic d → IsElemEnd rest
+    → over_at (over_text d ++ rest) ≡ Some (d, rest)
 unfolding over_at
 over_again d rest printable monic end = elim (is_one d) [
   | inl one ↦ subst (λ x. over_at (over_text x ++ rest) ≡ Some (x, rest)) (sym one) (rw end.over refl)

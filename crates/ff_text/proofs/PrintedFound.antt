@@ -7,12 +7,14 @@ use Rattle.std.proofs.lemmas.Bool.{eqb-true, eq-eqb}
 use Rattle.ff_text.specs.PrintedReading.{◌>>=◌, Finds, with_front, with_first, after_text}
 
 -- the value of a step that found one
-pub bind_some : {A B : Type 0} (o : Option A) (f : A → Option B) (y : B) → (o >>= f) ≡ Some y → (x : A) × (o ≡ Some x) × (f x ≡ Some y)
+pub bind_some : {A B : Type 0} (o : Option A) (f : A → Option B) (y : B) → (o >>= f) ≡ Some y
+    → (x : A) × (o ≡ Some x) × (f x ≡ Some y)
 bind_some (Some x) f y e = (x, refl, e)
 bind_some None f y e = absurd cc
 
 -- which of two ways found the value
-pub choice_some : {A B : Type 0} (f : A → Option B) (o : Option A) (d : Option B) (y : B) → option_map_or f o d ≡ Some y → ((o ≡ None) × (d ≡ Some y)) ⊎ ((x : A) × (o ≡ Some x) × (f x ≡ Some y))
+pub choice_some : {A B : Type 0} (f : A → Option B) (o : Option A) (d : Option B) (y : B) → option_map_or f o d ≡ Some y
+    → ((o ≡ None) × (d ≡ Some y)) ⊎ ((x : A) × (o ≡ Some x) × (f x ≡ Some y))
 choice_some f (Some x) d y e = inr (x, refl, e)
 choice_some f None d y e = inl (refl, e)
 
@@ -53,7 +55,9 @@ text_again [] rest = refl
 text_again (c ∷ cs) rest = rw (eq-eqb c c refl) (text_again cs rest)
 
 -- what `strip_prefix` ensures
-pub stripped : (text bytes : List ℕ) (r : Option (Bor (List ℕ))) → MatchOption r ((rest : List ℕ) → bytes ≢ text ++ rest) (λ x. bytes ≡ text ++ x.now) → Finds (λ x. x.now) r (after_text text bytes)
+pub stripped : (text bytes : List ℕ) (r : Option (Bor (List ℕ)))
+    → MatchOption r ((rest : List ℕ) → bytes ≢ text ++ rest) (λ x. bytes ≡ text ++ x.now)
+    → Finds (λ x. x.now) r (after_text text bytes)
 stripped text bytes (Some x) h = rw h (text_again text x.now)
 stripped text bytes None h = nothing (after_text text bytes) refl
   where
@@ -67,6 +71,7 @@ then_takes a x b y c first second = first ∙ ap (λ (t : List ℕ). x ++ t) sec
 
 -- ---- what was read before
 
-pub with_front_push : {X Y : Type 0} (front : List X) (x : X) (read : Option (List X × Y)) → with_front (front ++ x ∷ []) read ≡ with_front front (with_first x read)
+pub with_front_push : {X Y : Type 0} (front : List X) (x : X) (read : Option (List X × Y))
+    → with_front (front ++ x ∷ []) read ≡ with_front front (with_first x read)
 with_front_push front x (Some y) = ap (λ xs. Some (xs, y.1)) (append_assoc front (x ∷ []) y.0)
 with_front_push front x None = refl

@@ -16,7 +16,8 @@ pub down_zero : (c : ℕ) (cs : List ℕ) → c ≡ 0 → terms_down (c ∷ cs) 
 down_zero zero cs e = refl
 down_zero (suc c) cs e = absurd (omega arith)
 
-pub plus_some : (c : ℕ) (cs : List ℕ) → c ≢ 0 → plus_text (c ∷ cs) ≡ (codes " + " ++ term_text c (length cs)) ++ plus_text cs
+pub plus_some : (c : ℕ) (cs : List ℕ) → c ≢ 0
+    → plus_text (c ∷ cs) ≡ (codes " + " ++ term_text c (length cs)) ++ plus_text cs
 plus_some c cs some = rw (down_some c cs some) refl
 
 pub plus_zero : (c : ℕ) (cs : List ℕ) → c ≡ 0 → plus_text (c ∷ cs) ≡ plus_text cs
@@ -35,28 +36,35 @@ pub plus_more : (out p : List ℕ) (c i j : ℕ) → j ≡ suc i → i < length 
     → ((out ++ codes " + ") ++ term_text c i) ++ plus_text (reverse (take i p)) ≡ out ++ plus_text (reverse (take j p))
 plus_more out p c i j e lt is some =
     let long : length (reverse (take i p)) ≡ i = length_reverse_take p i (omega arith) in
-    let next : reverse (take j p) ≡ c ∷ reverse (take i p) = ap (λ n. reverse (take n p)) e ∙ reverse_take p i lt ∙ ap (λ d. d ∷ reverse (take i p)) (sym is) in
+    let next : reverse (take j p) ≡ c ∷ reverse (take i p) = ap (λ n. reverse (take n p)) e ∙ reverse_take p i lt
+    ∙ ap (λ d. d ∷ reverse (take i p)) (sym is) in
     let text : plus_text (reverse (take j p)) ≡ (codes " + " ++ term_text c i) ++ plus_text (reverse (take i p)) =
-    ap plus_text next ∙ plus_some c (reverse (take i p)) some ∙ ap (λ n. (codes " + " ++ term_text c n) ++ plus_text (reverse (take i p))) long in
+    ap plus_text next ∙ plus_some c (reverse (take i p)) some
+    ∙ ap (λ n. (codes " + " ++ term_text c n) ++ plus_text (reverse (take i p))) long in
     append_assoc (out ++ codes " + ") (term_text c i) (plus_text (reverse (take i p)))
     ∙ append_assoc out (codes " + ") (term_text c i ++ plus_text (reverse (take i p)))
     ∙ ap (λ t. out ++ t) (sym (append_assoc (codes " + ") (term_text c i) (plus_text (reverse (take i p)))) ∙ sym text)
 
 -- a list of codes from the top down, the first of them not 0
-pub top_text : (c : ℕ) (cs : List ℕ) → c ≢ 0 → (p : List ℕ) → reverse p ≡ c ∷ cs → poly_text p ≡ term_text c (length cs) ++ plus_text cs
+pub top_text : (c : ℕ) (cs : List ℕ) → c ≢ 0 → (p : List ℕ) → reverse p ≡ c ∷ cs
+    → poly_text p ≡ term_text c (length cs) ++ plus_text cs
 top_text c cs some [] e = absurd cc
-top_text c cs some (a ∷ bs) e = ap (λ l. join_by (λ (t : ℕ × ℕ). term_text t.0 t.1) (codes " + ") (terms_down l)) e ∙ rw (down_some c cs some) refl
+top_text c cs some (a ∷ bs) e = ap (λ l. join_by (λ (t : ℕ × ℕ). term_text t.0 t.1) (codes " + ") (terms_down l)) e
+    ∙ rw (down_some c cs some) refl
 
 -- the text of a polynomial by its term on top
-pub poly_first : (p : List ℕ) (d c : ℕ) → degree_of p ≡ Some d → c ≡ get_or p (length p - 1) 0 → c ≢ 0 → poly_text p ≡ term_text c d ++ plus_text (reverse (take d p))
+pub poly_first : (p : List ℕ) (d c : ℕ) → degree_of p ≡ Some d → c ≡ get_or p (length p - 1) 0 → c ≢ 0
+    → poly_text p ≡ term_text c d ++ plus_text (reverse (take d p))
 poly_first [] d c e is some = absurd cc
 poly_first (a ∷ bs) d c e is some =
     let top : length bs ≡ d = some_is (length bs) d e in
     let code : c ≡ get_or (a ∷ bs) d 0 = is ∙ ap (λ i. get_or (a ∷ bs) i 0) (omega arith) in
     let long : length (reverse (take d (a ∷ bs))) ≡ d = length_reverse_take (a ∷ bs) d (omega arith) in
     let whole : reverse (a ∷ bs) ≡ c ∷ reverse (take d (a ∷ bs)) =
-    ap reverse (sym (take_all (suc d) (a ∷ bs) (omega arith))) ∙ reverse_take (a ∷ bs) d (omega arith) ∙ ap (λ x. x ∷ reverse (take d (a ∷ bs))) (sym code) in
-    top_text c (reverse (take d (a ∷ bs))) some (a ∷ bs) whole ∙ ap (λ n. term_text c n ++ plus_text (reverse (take d (a ∷ bs)))) long
+    ap reverse (sym (take_all (suc d) (a ∷ bs) (omega arith))) ∙ reverse_take (a ∷ bs) d (omega arith)
+    ∙ ap (λ x. x ∷ reverse (take d (a ∷ bs))) (sym code) in
+    top_text c (reverse (take d (a ∷ bs))) some (a ∷ bs) whole
+    ∙ ap (λ n. term_text c n ++ plus_text (reverse (take d (a ∷ bs)))) long
 
 pub length_from_degree : (p : List ℕ) (d : ℕ) → degree_of p ≡ Some d → length p ≡ suc d
 length_from_degree [] d e = absurd cc

@@ -10,7 +10,8 @@ use Rattle.ff_text.proofs.PrintedFound.{bind_some, choice_some, guard_some, test
 
 -- ---- one digit
 
-pub digit_is : (bytes : List ℕ) (d : ℕ) (rest : List ℕ) → digit_at bytes ≡ Some (d, rest) → (bytes ≡ (48 + d) ∷ rest) × (d < 10)
+pub digit_is : (bytes : List ℕ) (d : ℕ) (rest : List ℕ) → digit_at bytes ≡ Some (d, rest)
+    → (bytes ≡ (48 + d) ∷ rest) × (d < 10)
 unfolding digit_at
 digit_is [] d rest e = absurd cc
 digit_is (c ∷ cs) d rest e =
@@ -23,7 +24,8 @@ digit_is (c ∷ cs) d rest e =
     let head : c ≡ 48 + d = omega arith in
     (cc, omega arith)
 
-pub digit_shorter : (bytes : List ℕ) (d : ℕ) (rest : List ℕ) → digit_at bytes ≡ Some (d, rest) → length rest < length bytes
+pub digit_shorter : (bytes : List ℕ) (d : ℕ) (rest : List ℕ) → digit_at bytes ≡ Some (d, rest)
+    → length rest < length bytes
 digit_shorter bytes d rest e = omega (arith, ap length (digit_is bytes d rest e).0)
 
 -- ---- a run of digits
@@ -36,7 +38,8 @@ digits_ended limit n (c ∷ cs) e = elim (cases_Bool (is_ascii_digit c)) [
   | inr not ↦ rw not refl
 ]
 
-pub digits_go_on : (limit n : ℕ) (bytes : List ℕ) (d : ℕ) (rest : List ℕ) → digit_at bytes ≡ Some (d, rest) → digits_at limit n bytes ≡ cond (nat_lt (10 * n + d) limit) (digits_at limit (10 * n + d) rest) None
+pub digits_go_on : (limit n : ℕ) (bytes : List ℕ) (d : ℕ) (rest : List ℕ) → digit_at bytes ≡ Some (d, rest)
+    → digits_at limit n bytes ≡ cond (nat_lt (10 * n + d) limit) (digits_at limit (10 * n + d) rest) None
 unfolding digit_at digits_at
 digits_go_on limit n [] d rest e = absurd cc
 digits_go_on limit n (c ∷ cs) d rest e =
@@ -45,11 +48,16 @@ digits_go_on limit n (c ∷ cs) d rest e =
     let behind : cs ≡ rest = ap (λ (p : ℕ × List ℕ). p.1) g.1 in
     rw (g.0, ← value, ← behind) refl
 
-pub digits_more : (limit n : ℕ) (bytes : List ℕ) (d : ℕ) (rest : List ℕ) (total : Option (ℕ × List ℕ)) → digit_at bytes ≡ Some (d, rest) → digits_at limit n bytes ≡ total → 10 * n + d < limit → digits_at limit (10 * n + d) rest ≡ total
-digits_more limit n bytes d rest total e so_far lt = sym (digits_go_on limit n bytes d rest e ∙ rw (lt-ltb (10 * n + d) limit lt) refl) ∙ so_far
+pub digits_more : (limit n : ℕ) (bytes : List ℕ) (d : ℕ) (rest : List ℕ) (total : Option (ℕ × List ℕ))
+    → digit_at bytes ≡ Some (d, rest) → digits_at limit n bytes ≡ total → 10 * n + d < limit
+    → digits_at limit (10 * n + d) rest ≡ total
+digits_more limit n bytes d rest total e so_far lt = sym
+    (digits_go_on limit n bytes d rest e ∙ rw (lt-ltb (10 * n + d) limit lt) refl) ∙ so_far
 
-pub digits_passed : (limit n : ℕ) (bytes : List ℕ) (d : ℕ) (rest : List ℕ) (total : Option (ℕ × List ℕ)) → digit_at bytes ≡ Some (d, rest) → digits_at limit n bytes ≡ total → limit ≤ 10 * n + d → total ≡ None
-digits_passed limit n bytes d rest total e so_far le = sym so_far ∙ digits_go_on limit n bytes d rest e ∙ rw (le-ltb (10 * n + d) limit le) refl
+pub digits_passed : (limit n : ℕ) (bytes : List ℕ) (d : ℕ) (rest : List ℕ) (total : Option (ℕ × List ℕ))
+    → digit_at bytes ≡ Some (d, rest) → digits_at limit n bytes ≡ total → limit ≤ 10 * n + d → total ≡ None
+digits_passed limit n bytes d rest total e so_far le = sym so_far ∙ digits_go_on limit n bytes d rest e
+    ∙ rw (le-ltb (10 * n + d) limit le) refl
 
 decimal_push : (n d : ℕ) → 1 ≤ n → d < 10 → 10 * n + d < 2 ^ 64 → decimal (10 * n + d) ≡ decimal n ++ ((48 + d) ∷ [])
 decimal_push n d low small fits =
@@ -58,7 +66,8 @@ decimal_push n d low small fits =
     decimal_step (10 * n + d) (omega arith) fits ∙ rw (tens, ones) refl
 
 -- digits behind a number are its further digits
-digits_take : (limit n : ℕ) (bytes : List ℕ) (m : ℕ) (rest : List ℕ) → limit ≤ 2 ^ 32 → 1 ≤ n → n < limit → digits_at limit n bytes ≡ Some (m, rest) → (decimal n ++ bytes ≡ decimal m ++ rest) × (m < limit)
+digits_take : (limit n : ℕ) (bytes : List ℕ) (m : ℕ) (rest : List ℕ) → limit ≤ 2 ^ 32 → 1 ≤ n → n < limit
+    → digits_at limit n bytes ≡ Some (m, rest) → (decimal n ++ bytes ≡ decimal m ++ rest) × (m < limit)
 unfolding digits_at
 digits_take limit n [] m rest fits low lt e =
     let value : n ≡ m = ap (λ (p : ℕ × List ℕ). p.0) (some_is (n, []) (m, rest) e) in
@@ -69,11 +78,13 @@ digits_take limit n (c ∷ cs) m rest fits low lt e = elim (cases_Bool (is_ascii
       let both = and_parts (leb 48 c) (leb c 57) is in
       let first : 48 ≤ c = leb-true 48 c both.0 in
       let last : c ≤ 57 = leb-true c 57 both.1 in
-      let g = test_some (ltb (10 * n + (c - 48)) limit) (digits_at limit (10 * n + (c - 48)) cs) (m, rest) (rw is at e) in
+      let g = test_some (ltb (10 * n + (c - 48)) limit) (digits_at limit (10 * n + (c - 48)) cs) (m, rest) (rw is at e)
+      in
       let below : 10 * n + (c - 48) < limit = ltb-true _ _ g.0 in
       let more = digits_take limit (10 * n + (c - 48)) cs m rest fits (omega arith) below g.1 in
       let head : 48 + (c - 48) ≡ c = omega arith in
-      let push : decimal (10 * n + (c - 48)) ≡ decimal n ++ (c ∷ []) = decimal_push n (c - 48) low (omega arith) (omega arith) ∙ rw head refl in
+      let push : decimal (10 * n + (c - 48))
+      ≡ decimal n ++ (c ∷ []) = decimal_push n (c - 48) low (omega arith) (omega arith) ∙ rw head refl in
       (sym (append_assoc (decimal n) (c ∷ []) cs) ∙ ap (λ (t : List ℕ). t ++ cs) (sym push) ∙ more.0, more.1)
   | inr not ↦
       let g = some_is (n, c ∷ cs) (m, rest) (rw not at e) in
@@ -88,31 +99,38 @@ pub record IsNumberIn (low limit : ℕ) (bytes : List ℕ) (n : ℕ) (rest : Lis
   pub least : low ≤ n
   pub below : n < limit
 
-number_parts : (low limit : ℕ) (bytes : List ℕ) (n : ℕ) (rest : List ℕ) → limit ≤ 2 ^ 32 → 1 ≤ low → after_text (codes "0") bytes ≡ None → digits_at limit 0 bytes ≡ Some (n, rest) → low ≤ n → IsNumberIn low limit bytes n rest
+number_parts : (low limit : ℕ) (bytes : List ℕ) (n : ℕ) (rest : List ℕ) → limit ≤ 2 ^ 32 → 1 ≤ low
+    → after_text (codes "0") bytes ≡ None → digits_at limit 0 bytes ≡ Some (n, rest) → low ≤ n
+    → IsNumberIn low limit bytes n rest
 unfolding after_text digits_at
-number_parts low limit [] n rest fits one no_zero e le = absurd (let zero_is = ap (λ (p : ℕ × List ℕ). p.0) (some_is (0, []) (n, rest) e) in omega (arith, zero_is))
+number_parts low limit [] n rest fits one no_zero e le = absurd
+    (let zero_is = ap (λ (p : ℕ × List ℕ). p.0) (some_is (0, []) (n, rest) e) in omega (arith, zero_is))
 number_parts low limit (c ∷ cs) n rest fits one no_zero e le = elim (cases_Bool (is_ascii_digit c)) [
   | inl is ↦
       let both = and_parts (leb 48 c) (leb c 57) is in
       let first : 48 ≤ c = leb-true 48 c both.0 in
       let last : c ≤ 57 = leb-true c 57 both.1 in
-      let g = test_some (ltb (10 * 0 + (c - 48)) limit) (digits_at limit (10 * 0 + (c - 48)) cs) (n, rest) (rw is at e) in
+      let g = test_some (ltb (10 * 0 + (c - 48)) limit) (digits_at limit (10 * 0 + (c - 48)) cs) (n, rest) (rw is at e)
+      in
       let below : 10 * 0 + (c - 48) < limit = ltb-true _ _ g.0 in
       let not_zero : c ≢ 48 = λ same. no_none (rw (eq-eqb c 48 same) at no_zero) in
       let more = digits_take limit (10 * 0 + (c - 48)) cs n rest fits (omega arith) below g.1 in
       let value : 10 * 0 + (c - 48) ≡ c - 48 = omega arith in
       let head : 48 + (c - 48) ≡ c = omega arith in
-      let digit : decimal (10 * 0 + (c - 48)) ≡ c ∷ [] = ap decimal value ∙ decimal_digit (c - 48) (omega arith) ∙ rw head refl in
+      let digit : decimal (10 * 0 + (c - 48)) ≡ c ∷ [] = ap decimal value ∙ decimal_digit (c - 48) (omega arith)
+      ∙ rw head refl in
       record { text = ap (λ (t : List ℕ). t ++ cs) (sym digit) ∙ more.0; least = le; below = more.1 }
   | inr not ↦
       let zero_is = ap (λ (p : ℕ × List ℕ). p.0) (some_is (0, c ∷ cs) (n, rest) (rw not at e)) in
       absurd (omega (arith, zero_is))
 ]
 
-pub number_takes : (low limit : ℕ) (bytes : List ℕ) (n : ℕ) (rest : List ℕ) → limit ≤ 2 ^ 32 → 1 ≤ low → number_at low limit bytes ≡ Some (n, rest) → IsNumberIn low limit bytes n rest
+pub number_takes : (low limit : ℕ) (bytes : List ℕ) (n : ℕ) (rest : List ℕ) → limit ≤ 2 ^ 32 → 1 ≤ low
+    → number_at low limit bytes ≡ Some (n, rest) → IsNumberIn low limit bytes n rest
 unfolding number_at
 number_takes low limit bytes n rest fits one e =
-    elim (choice_some (λ (_ : List ℕ). None) (after_text (codes "0") bytes) (digits_at limit 0 bytes >>= λ m. cond (leb low m.0) (Some m) None) (n, rest) e) [
+    elim (choice_some (λ (_ : List ℕ). None) (after_text (codes "0") bytes)
+    (digits_at limit 0 bytes >>= λ m. cond (leb low m.0) (Some m) None) (n, rest) e) [
       | inl w ↦
           let b = bind_some (digits_at limit 0 bytes) (λ m. cond (leb low m.0) (Some m) None) (n, rest) w.1 in
           let g = guard_some (leb low b.0.0) b.0 (n, rest) b.2 in
@@ -127,34 +145,46 @@ number_takes low limit bytes n rest fits one e =
 digit_again : (d : ℕ) (rest : List ℕ) → d < 10 → digit_at ((48 + d) ∷ rest) ≡ Some (d, rest)
 unfolding digit_at
 digit_again d rest lt =
-    let is : is_ascii_digit (48 + d) ≡ true = and_from (leb 48 (48 + d)) (leb (48 + d) 57) (le-leb _ _ (omega arith)) (le-leb _ _ (omega arith)) in
+    let is : is_ascii_digit (48 + d) ≡ true = and_from (leb 48 (48 + d)) (leb (48 + d) 57) (le-leb _ _ (omega arith))
+    (le-leb _ _ (omega arith)) in
     let value : (48 + d) - 48 ≡ d = omega arith in
     rw (is, value) refl
 
 -- the digits of n at the front are read as n, and the first isn't `0`
 abbrev Continues : ℕ → ℕ → List ℕ → Type 0
-Continues limit n ds = 1 ≤ n → n < limit → (rest : List ℕ) → (after_text (codes "0") (ds ++ rest) ≡ None) × (digits_at limit 0 (ds ++ rest) ≡ digits_at limit n rest)
+Continues limit n ds = 1 ≤ n → n < limit → (rest : List ℕ)
+    → (after_text (codes "0") (ds ++ rest) ≡ None) × (digits_at limit 0 (ds ++ rest) ≡ digits_at limit n rest)
 
 continues_one : (limit n : ℕ) → n < 10 → Continues limit n ((48 + n) ∷ [])
 unfolding after_text
 continues_one limit n small low lt rest =
     let not_zero : eqb (48 + n) 48 ≡ false = ne_eqb _ _ (λ e. omega (arith, e)) in
     let value : 10 * 0 + n ≡ n = omega arith in
-    let step : digits_at limit 0 ((48 + n) ∷ rest) ≡ cond (nat_lt (10 * 0 + n) limit) (digits_at limit (10 * 0 + n) rest) None = digits_go_on limit 0 ((48 + n) ∷ rest) n rest (digit_again n rest small) in
+    let step : digits_at limit 0 ((48 + n) ∷ rest)
+    ≡ cond (nat_lt (10 * 0 + n) limit) (digits_at limit (10 * 0 + n) rest) None = digits_go_on limit 0
+    ((48 + n) ∷ rest) n rest (digit_again n rest small) in
     (rw not_zero refl, step ∙ rw (value, lt-ltb n limit lt) refl)
 
-continues_more : (limit n : ℕ) (ds : List ℕ) → 10 ≤ n → Continues limit (n / 10) ds → Continues limit n (ds ++ ((48 + n % 10) ∷ []))
+continues_more : (limit n : ℕ) (ds : List ℕ) → 10 ≤ n → Continues limit (n / 10) ds
+    → Continues limit n (ds ++ ((48 + n % 10) ∷ []))
 continues_more limit n ds large before low lt rest =
     let front = before (omega arith) (omega arith) ((48 + n % 10) ∷ rest) in
     let value : 10 * (n / 10) + n % 10 ≡ n = omega arith in
-    let regrouped : (ds ++ ((48 + n % 10) ∷ [])) ++ rest ≡ ds ++ ((48 + n % 10) ∷ rest) = append_assoc ds ((48 + n % 10) ∷ []) rest in
-    let step : digits_at limit (n / 10) ((48 + n % 10) ∷ rest) ≡ cond (nat_lt (10 * (n / 10) + n % 10) limit) (digits_at limit (10 * (n / 10) + n % 10) rest) None = digits_go_on limit (n / 10) ((48 + n % 10) ∷ rest) (n % 10) rest (digit_again (n % 10) rest (omega arith)) in
-    (ap (after_text (codes "0")) regrouped ∙ front.0, ap (digits_at limit 0) regrouped ∙ front.1 ∙ step ∙ rw (value, lt-ltb n limit lt) refl)
+    let regrouped : (ds ++ ((48 + n % 10) ∷ [])) ++ rest
+    ≡ ds ++ ((48 + n % 10) ∷ rest) = append_assoc ds ((48 + n % 10) ∷ []) rest in
+    let step : digits_at limit (n / 10) ((48 + n % 10) ∷ rest)
+    ≡ cond (nat_lt (10 * (n / 10) + n % 10) limit) (digits_at limit (10 * (n / 10) + n % 10) rest) None =
+    digits_go_on limit (n / 10) ((48 + n % 10) ∷ rest) (n % 10) rest (digit_again (n % 10) rest (omega arith)) in (
+      ap (after_text (codes "0")) regrouped ∙ front.0,
+      ap (digits_at limit 0) regrouped ∙ front.1 ∙ step
+          ∙ rw (value, lt-ltb n limit lt) refl,
+    )
 
 continues : (limit n : ℕ) → n < 2 ^ 64 → Continues limit n (decimal n)
 continues limit n fits = decimal_by_steps (Continues limit) (continues_one limit) (continues_more limit) n fits
 
-pub number_again : (low limit n : ℕ) (rest : List ℕ) → limit ≤ 2 ^ 32 → 1 ≤ low → low ≤ n → n < limit → digit_at rest ≡ None → number_at low limit (decimal n ++ rest) ≡ Some (n, rest)
+pub number_again : (low limit n : ℕ) (rest : List ℕ) → limit ≤ 2 ^ 32 → 1 ≤ low → low ≤ n → n < limit
+    → digit_at rest ≡ None → number_at low limit (decimal n ++ rest) ≡ Some (n, rest)
 unfolding number_at
 number_again low limit n rest fits one le lt ended =
     let front = continues limit n (omega arith) (omega arith) lt rest in

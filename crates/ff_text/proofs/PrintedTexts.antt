@@ -70,7 +70,8 @@ read_whole p b is e = ap poly_at (sym (append-nil (poly_text p) ∙ e)) ∙ poly
 pub no_poly : (b : List ℕ) → poly_at b ≡ None → (p : List ℕ) → IsPrintable p → poly_text p ≢ b
 no_poly b none p is e = no_none (sym (read_whole p b is e) ∙ none)
 
-pub longer_poly : (b q rest : List ℕ) → poly_at b ≡ Some (q, rest) → length rest ≢ 0 → (p : List ℕ) → IsPrintable p → poly_text p ≢ b
+pub longer_poly : (b q rest : List ℕ) → poly_at b ≡ Some (q, rest) → length rest ≢ 0 → (p : List ℕ) → IsPrintable p
+    → poly_text p ≢ b
 longer_poly b q rest read long p is e =
     let same = some_is (p, []) (q, rest) (sym (read_whole p b is e) ∙ read) in
     long (sym (ap (λ (r : List ℕ × List ℕ). length r.1) same))
@@ -87,11 +88,15 @@ whole_poly b p rest read e =
 -- ---- texts inside a line
 
 -- what is left of a line is so long as what is behind the text
-pub drop_rest : (line text rest : List ℕ) (at : ℕ) → at ≤ length line → drop at line ≡ text ++ rest → drop (length line - length rest) line ≡ rest
+pub drop_rest : (line text rest : List ℕ) (at : ℕ) → at ≤ length line → drop at line ≡ text ++ rest
+    → drop (length line - length rest) line ≡ rest
 drop_rest line text rest at within e =
-    let whole : line ≡ (take at line ++ text) ++ rest = sym (take-append-drop at line) ∙ ap (λ t. take at line ++ t) e ∙ sym (append_assoc (take at line) text rest) in
-    let long : length line - length rest ≡ length (take at line ++ text) = omega (arith, ap length whole, length-append (take at line ++ text) rest) in
-    ap (λ n. drop n line) long ∙ ap (λ l. drop (length (take at line ++ text)) l) whole ∙ drop-append_seam (take at line ++ text) rest
+    let whole : line ≡ (take at line ++ text) ++ rest = sym (take-append-drop at line) ∙ ap (λ t. take at line ++ t) e
+    ∙ sym (append_assoc (take at line) text rest) in
+    let long : length line - length rest
+    ≡ length (take at line ++ text) = omega (arith, ap length whole, length-append (take at line ++ text) rest) in
+    ap (λ n. drop n line) long ∙ ap (λ l. drop (length (take at line ++ text)) l) whole
+    ∙ drop-append_seam (take at line ++ text) rest
 
 pub rest_fits : (line text rest : List ℕ) (at : ℕ) → drop at line ≡ text ++ rest → length rest ≤ length line
 rest_fits line text rest at e = omega (arith, ap length e, length-append text rest, length-drop at line)
@@ -103,7 +108,8 @@ from line at = take (length line - at) (drop at line)
 pub from_is : (line : List ℕ) (at : ℕ) → from line at ≡ drop at line
 from_is line at = take_all (length line - at) (drop at line) (omega (arith, length-drop at line))
 
-pub poly_found_at : (line p rest : List ℕ) (at : ℕ) → at ≤ length line → poly_at (from line at) ≡ Some (p, rest) → ends_poly rest ≡ true → IsPolyAt line at p (length line - length rest)
+pub poly_found_at : (line p rest : List ℕ) (at : ℕ) → at ≤ length line → poly_at (from line at) ≡ Some (p, rest)
+    → ends_poly rest ≡ true → IsPolyAt line at p (length line - length rest)
 poly_found_at line p rest at within read ends =
     let is = poly_takes (drop at line) (p, rest) (ap poly_at (sym (from_is line at)) ∙ read) in
     let left = drop_rest line (poly_text p) rest at within is.parts in
@@ -115,27 +121,33 @@ poly_found_at line p rest at within read ends =
     }
 
 pub poly_fits_at : (line p rest : List ℕ) (at : ℕ) → poly_at (from line at) ≡ Some (p, rest) → length rest ≤ length line
-poly_fits_at line p rest at read = rest_fits line (poly_text p) rest at (poly_takes (drop at line) (p, rest) (ap poly_at (sym (from_is line at)) ∙ read)).parts
+poly_fits_at line p rest at read = rest_fits line (poly_text p) rest at
+    (poly_takes (drop at line) (p, rest) (ap poly_at (sym (from_is line at)) ∙ read)).parts
 
 read_at : (line p : List ℕ) (at end : ℕ) → IsPolyAt line at p end → poly_at (from line at) ≡ Some (p, drop end line)
-read_at line p at end is = ap poly_at (from_is line at ∙ is.text) ∙ poly_again p (drop end line) is.printable (poly_end (drop end line) is.ends)
+read_at line p at end is = ap poly_at (from_is line at ∙ is.text)
+    ∙ poly_again p (drop end line) is.printable (poly_end (drop end line) is.ends)
 
-pub no_poly_at : (line : List ℕ) (at : ℕ) → poly_at (from line at) ≡ None → (p : List ℕ) (end : ℕ) → ¬ IsPolyAt line at p end
+pub no_poly_at : (line : List ℕ) (at : ℕ) → poly_at (from line at) ≡ None → (p : List ℕ) (end : ℕ)
+    → ¬ IsPolyAt line at p end
 no_poly_at line at none p end is = no_none (sym (read_at line p at end is) ∙ none)
 
 pub wrong_end : (b : Bool) → b ≡ false → b ≡ true → ⊥
 wrong_end b is_false is_true = cc
 
-pub no_end_at : (line q rest : List ℕ) (at : ℕ) → poly_at (from line at) ≡ Some (q, rest) → ends_poly rest ≡ false → (p : List ℕ) (end : ℕ) → ¬ IsPolyAt line at p end
+pub no_end_at : (line q rest : List ℕ) (at : ℕ) → poly_at (from line at) ≡ Some (q, rest) → ends_poly rest ≡ false
+    → (p : List ℕ) (end : ℕ) → ¬ IsPolyAt line at p end
 no_end_at line q rest at read open_end p end is =
     let same = some_is (p, drop end line) (q, rest) (sym (read_at line p at end is) ∙ read) in
     wrong_end (ends_poly rest) open_end (ap (λ (r : List ℕ × List ℕ). ends_poly r.1) (sym same) ∙ is.ends)
 
 -- ---- the law
 
-pub one_poly : (p q r s : List ℕ) → IsPrintable p → IsPrintable q → ends_poly r ≡ true → ends_poly s ≡ true → poly_text p ++ r ≡ poly_text q ++ s → (p ≡ q) × (r ≡ s)
+pub one_poly : (p q r s : List ℕ) → IsPrintable p → IsPrintable q → ends_poly r ≡ true → ends_poly s ≡ true
+    → poly_text p ++ r ≡ poly_text q ++ s → (p ≡ q) × (r ≡ s)
 one_poly p q r s p_is q_is r_ends s_ends e =
-    let same = some_is (p, r) (q, s) (sym (poly_again p r p_is (poly_end r r_ends)) ∙ ap poly_at e ∙ poly_again q s q_is (poly_end s s_ends)) in
+    let same = some_is (p, r) (q, s) (sym (poly_again p r p_is (poly_end r r_ends)) ∙ ap poly_at e
+    ∙ poly_again q s q_is (poly_end s s_ends)) in
     (ap (λ (x : List ℕ × List ℕ). x.0) same, ap (λ (x : List ℕ × List ℕ). x.1) same)
 
 pub same_poly : (p q : List ℕ) → IsPrintable p → IsPrintable q → poly_text p ≡ poly_text q → p ≡ q

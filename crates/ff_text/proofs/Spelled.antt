@@ -23,11 +23,19 @@ power_written letter n small = go (eqb n 1) refl
   where
     go : (b : Bool) → eqb n 1 ≡ b → SpellsPower letter n (cond b letter (letter ++ (codes "^" ++ decimal n)))
     go true is = inl (eqb-true n 1 is, refl)
-    go false is = inr (then_of letter (codes "^" ++ decimal n) refl (then_of (codes "^") (decimal n) (around_of (codes "^") [] tt) (number_written n small)))
+    go false is = inr (then_of letter (codes "^" ++ decimal n) refl
+        (then_of (codes "^") (decimal n) (around_of (codes "^") [] tt) (number_written n small)))
 
 -- ", " and the like: a mark with a blank behind it, or on both sides
 mark_blank : (mark : List ℕ) → Around mark (mark ++ codes " ")
-mark_blank mark = record { front = []; back = mark ++ codes " "; first = tt; second = then_of mark (codes " ") refl (refl, tt); whole = refl }
+mark_blank mark = record {
+  front = [];
+  back = mark
+      ++ codes " ";
+  first = tt;
+  second = then_of mark (codes " ") refl (refl, tt);
+  whole = refl;
+}
 
 blank_mark_blank : (mark : List ℕ) → Around mark (codes " " ++ (mark ++ codes " "))
 blank_mark_blank mark = then_of (codes " ") (mark ++ codes " ") (refl, tt) (then_of mark (codes " ") refl (refl, tt))
@@ -38,13 +46,18 @@ module _ (y : Bool) where
   factor_written (X n) w = power_written (codes "x") n w
   factor_written (Y n) w = (w.0, power_written (codes "y") n w.1)
 
-  next_factors_written : (fs : List Factor) → AllByRecursion (IsWritableFactor y) fs → Each (λ f. Then (Around (codes "*")) (SpellsFactor y f)) fs (next_factors_text fs)
+  next_factors_written : (fs : List Factor) → AllByRecursion (IsWritableFactor y) fs
+      → Each (λ f. Then (Around (codes "*")) (SpellsFactor y f)) fs (next_factors_text fs)
   next_factors_written [] all = refl
-  next_factors_written (f ∷ fs) all = then_of (codes "*" ++ factor_text f) (next_factors_text fs) (then_of (codes "*") (factor_text f) (around_of (codes "*") [] tt) (factor_written f all.0)) (next_factors_written fs all.1)
+  next_factors_written (f ∷ fs) all = then_of (codes "*" ++ factor_text f) (next_factors_text fs)
+      (then_of (codes "*") (factor_text f) (around_of (codes "*") [] tt) (factor_written f all.0))
+      (next_factors_written fs all.1)
 
-  factors_written : (t : Term) (fs : List Factor) → t.factors ≡ fs → fs ≢ [] → AllByRecursion (IsWritableFactor y) fs → SpellsFactors y fs (factors_text fs)
+  factors_written : (t : Term) (fs : List Factor) → t.factors ≡ fs → fs ≢ [] → AllByRecursion (IsWritableFactor y) fs
+      → SpellsFactors y fs (factors_text fs)
   factors_written t [] is some all = absurd (some refl)
-  factors_written t (f ∷ fs) is some all = then_of (factor_text f) (next_factors_text fs) (factor_written f all.0) (next_factors_written fs all.1)
+  factors_written t (f ∷ fs) is some all = then_of (factor_text f) (next_factors_text fs) (factor_written f all.0)
+      (next_factors_written fs all.1)
 
   term_written : (t : Term) → IsWritableTerm y t → SpellsFactors y t.factors (factors_text t.factors)
   term_written t w = factors_written t t.factors refl w.0 w.1
@@ -57,48 +70,76 @@ module _ (y : Bool) where
   next_written true = blank_mark_blank (codes "-")
   next_written false = blank_mark_blank (codes "+")
 
-  next_terms_written : (ts : List Term) → AllByRecursion (IsWritableTerm y) ts → Each (SpellsNext y) ts (next_terms_text ts)
+  next_terms_written : (ts : List Term) → AllByRecursion (IsWritableTerm y) ts
+      → Each (SpellsNext y) ts (next_terms_text ts)
   next_terms_written [] all = refl
-  next_terms_written (t ∷ ts) all = then_of (next_sign t.minus ++ factors_text t.factors) (next_terms_text ts) (then_of (next_sign t.minus) (factors_text t.factors) (next_written t.minus) (term_written t all.0)) (next_terms_written ts all.1)
+  next_terms_written (t ∷ ts) all = then_of (next_sign t.minus ++ factors_text t.factors) (next_terms_text ts)
+      (then_of (next_sign t.minus) (factors_text t.factors) (next_written t.minus) (term_written t all.0))
+      (next_terms_written ts all.1)
 
   -- a polynomial that is printed is spelled so
   pub terms_written : (ts : List Term) → IsWritableTerms y ts → SpellsTerms y ts (terms_text ts)
   terms_written [] w = absurd (w.0 refl)
   terms_written (t ∷ ts) w =
       subst (SpellsTerms y (t ∷ ts)) (append_assoc (first_sign t.minus) (factors_text t.factors) (next_terms_text ts))
-      (then_of (first_sign t.minus ++ factors_text t.factors) (next_terms_text ts) (then_of (first_sign t.minus) (factors_text t.factors) (first_written t.minus) (term_written t w.1.0)) (next_terms_written ts w.1.1))
+      (then_of (first_sign t.minus ++ factors_text t.factors) (next_terms_text ts)
+      (then_of (first_sign t.minus) (factors_text t.factors) (first_written t.minus) (term_written t w.1.0))
+      (next_terms_written ts w.1.1))
 
-next_entries_written : (es : List (List Term)) → AllByRecursion (IsWritableTerms false) es → Each (λ e. Then (Around (codes ",")) (SpellsTerms false e)) es (next_entries_text es)
+next_entries_written : (es : List (List Term)) → AllByRecursion (IsWritableTerms false) es
+    → Each (λ e. Then (Around (codes ",")) (SpellsTerms false e)) es (next_entries_text es)
 next_entries_written [] all = refl
-next_entries_written (e ∷ es) all = then_of (codes ", " ++ terms_text e) (next_entries_text es) (then_of (codes ", ") (terms_text e) (mark_blank (codes ",")) (terms_written false e all.0)) (next_entries_written es all.1)
+next_entries_written (e ∷ es) all = then_of (codes ", " ++ terms_text e) (next_entries_text es)
+    (then_of (codes ", ") (terms_text e) (mark_blank (codes ",")) (terms_written false e all.0))
+    (next_entries_written es all.1)
 
-entries_written : (es : List (List Term)) → es ≢ [] → AllByRecursion (IsWritableTerms false) es → SpellsEntries es (entries_text es)
+entries_written : (es : List (List Term)) → es ≢ [] → AllByRecursion (IsWritableTerms false) es
+    → SpellsEntries es (entries_text es)
 entries_written [] some all = absurd (some refl)
-entries_written (e ∷ es) some all = then_of (terms_text e) (next_entries_text es) (terms_written false e all.0) (next_entries_written es all.1)
+entries_written (e ∷ es) some all = then_of (terms_text e) (next_entries_text es) (terms_written false e all.0)
+    (next_entries_written es all.1)
 
 -- without blanks inside the brackets
-within_written : {Part : List ℕ → Type 0} (left g right : List ℕ) → Part g → Within left Part right (left ++ (g ++ right))
+within_written : {Part : List ℕ → Type 0} (left g right : List ℕ) → Part g
+    → Within left Part right (left ++ (g ++ right))
 within_written left g right part =
-    then_of left (g ++ right) refl (record { front = []; back = g ++ right; first = tt; second = then_of g right part (record { front = []; back = right; first = tt; second = refl; whole = refl }); whole = refl })
+    then_of left (g ++ right) refl (record {
+      front = [];
+      back = g ++ right;
+      first = tt;
+      second = then_of g right part
+          (record { front = []; back = right; first = tt; second = refl; whole = refl });
+      whole = refl;
+    })
 
-one_written : (t : Term) (m : Bool) → t.minus ≡ m → IsWritableTerms false (t ∷ []) → SpellsDen (t ∷ []) (cond (not m) (terms_text (t ∷ [])) (codes "(" ++ (terms_text (t ∷ []) ++ codes ")")))
-one_written t true is w = inr (within_written (codes "(") (terms_text (t ∷ [])) (codes ")") (terms_written false (t ∷ []) w))
+one_written : (t : Term) (m : Bool) → t.minus ≡ m → IsWritableTerms false (t ∷ [])
+    → SpellsDen (t ∷ []) (cond (not m) (terms_text (t ∷ [])) (codes "(" ++ (terms_text (t ∷ []) ++ codes ")")))
+one_written t true is w = inr (within_written (codes "(") (terms_text (t ∷ [])) (codes ")")
+    (terms_written false (t ∷ []) w))
 one_written t false is w =
-    let plain : first_sign t.minus ++ (factors_text t.factors ++ []) ≡ factors_text t.factors = ap (λ m. first_sign m ++ (factors_text t.factors ++ [])) is ∙ append-nil (factors_text t.factors) in
+    let plain : first_sign t.minus ++ (factors_text t.factors ++ [])
+    ≡ factors_text t.factors = ap (λ m. first_sign m ++ (factors_text t.factors ++ [])) is
+    ∙ append-nil (factors_text t.factors) in
     inl (is, subst (SpellsFactors false t.factors) (sym plain) (term_written false t w.1.0))
 
-den_written : (d : List Term) → IsWritableTerms false d → SpellsDen d (cond (is_one_term d) (terms_text d) (codes "(" ++ (terms_text d ++ codes ")")))
+den_written : (d : List Term) → IsWritableTerms false d
+    → SpellsDen d (cond (is_one_term d) (terms_text d) (codes "(" ++ (terms_text d ++ codes ")")))
 den_written [] w = absurd (w.0 refl)
 den_written (t ∷ []) w = one_written t t.minus refl w
-den_written (t ∷ u ∷ ts) w = inr (within_written (codes "(") (terms_text (t ∷ u ∷ ts)) (codes ")") (terms_written false (t ∷ u ∷ ts) w))
+den_written (t ∷ u ∷ ts) w = inr (within_written (codes "(") (terms_text (t ∷ u ∷ ts)) (codes ")")
+    (terms_written false (t ∷ u ∷ ts) w))
 
 tail_written : (den : Option (List Term)) → IfSome den (IsWritableTerms false) → SpellsTail den (den_text den)
 tail_written None w = refl
-tail_written (Some d) w = then_of (codes "/") (cond (is_one_term d) (terms_text d) (codes "(" ++ (terms_text d ++ codes ")"))) (around_of (codes "/") [] tt) (den_written d w)
+tail_written (Some d) w = then_of (codes "/")
+    (cond (is_one_term d) (terms_text d) (codes "(" ++ (terms_text d ++ codes ")"))) (around_of (codes "/") [] tt)
+    (den_written d w)
 
 -- an element that is printed is spelled so
 pub element_written : (e : ElemText) → IsWritableElement e → SpellsElement e (element_text e)
 element_written e w =
     let text : List ℕ = entries_text e.entries in
     subst (SpellsElement e) (ap (λ x. codes "[" ++ x) (append_assoc text (codes "]") (den_text e.den)))
-    (then_of (codes "[" ++ (text ++ codes "]")) (den_text e.den) (within_written (codes "[") text (codes "]") (entries_written e.entries w.some w.entries)) (tail_written e.den w.den))
+    (then_of (codes "[" ++ (text ++ codes "]")) (den_text e.den)
+    (within_written (codes "[") text (codes "]") (entries_written e.entries w.some w.entries))
+    (tail_written e.den w.den))

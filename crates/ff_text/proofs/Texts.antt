@@ -9,7 +9,8 @@ pub then_of : {A B : List ℕ → Type 0} (a b : List ℕ) → A a → B b → T
 then_of a b first second = record { front = a; back = b; first = first; second = second; whole = refl }
 
 -- more behind the second
-pub then_more : {A B C : List ℕ → Type 0} (g h : List ℕ) → Then A B g → ((b : List ℕ) → B b → C (b ++ h)) → Then A C (g ++ h)
+pub then_more : {A B C : List ℕ → Type 0} (g h : List ℕ) → Then A B g → ((b : List ℕ) → B b → C (b ++ h))
+    → Then A C (g ++ h)
 then_more g h t more = record {
   front = t.front;
   back = t.back ++ h;
@@ -20,11 +21,24 @@ then_more g h t more = record {
 
 -- another second
 pub then_map : {A B C : List ℕ → Type 0} (g : List ℕ) → Then A B g → ((b : List ℕ) → B b → C b) → Then A C g
-then_map g t other = record { front = t.front; back = t.back; first = t.first; second = other t.back t.second; whole = t.whole }
+then_map g t other = record {
+  front = t.front;
+  back = t.back;
+  first = t.first;
+  second = other t.back t.second;
+  whole =
+      t.whole;
+}
 
 -- another first
 pub then_map_first : {A B C : List ℕ → Type 0} (g : List ℕ) → Then A C g → ((a : List ℕ) → A a → B a) → Then B C g
-then_map_first g t other = record { front = t.front; back = t.back; first = other t.front t.first; second = t.second; whole = t.whole }
+then_map_first g t other = record {
+  front = t.front;
+  back = t.back;
+  first = other t.front t.first;
+  second = t.second;
+  whole = t.whole;
+}
 
 -- three in a row, grouped to the left and to the right
 pub then_left : {A B C : List ℕ → Type 0} (g : List ℕ) → Then A (Then B C) g → Then (Then A B) C g
@@ -87,7 +101,8 @@ then_blanks g a = record { front = g; back = []; first = a; second = tt; whole =
 
 -- ---- joined parts
 
-pub each_push : {V : Type 0} (Part : V → List ℕ → Type 0) (vs : List V) (v : V) (g h : List ℕ) → Each Part vs g → Part v h → Each Part (vs ++ v ∷ []) (g ++ h)
+pub each_push : {V : Type 0} (Part : V → List ℕ → Type 0) (vs : List V) (v : V) (g h : List ℕ) → Each Part vs g
+    → Part v h → Each Part (vs ++ v ∷ []) (g ++ h)
 each_push Part [] v g h e p = subst (Then (Part v) (Is [])) (sym (ap (λ x. x ++ h) e)) (then_nothing h p)
 each_push Part (w ∷ vs) v g h e p = then_more g h e (λ b all. each_push Part vs v b h all p)
 
@@ -95,11 +110,15 @@ each_push Part (w ∷ vs) v g h e p = then_more g h e (λ b all. each_push Part 
 abbrev pub JoinedFront : {V : Type 0} → List ℕ → (V → List ℕ → Type 0) → List V → List ℕ → Type 0
 JoinedFront mark Part vs g = ((vs ≡ []) × (g ≡ [])) ⊎ Then (Joined mark Part vs) (Around mark) g
 
-pub joined_push : {V : Type 0} (mark : List ℕ) (Part : V → List ℕ → Type 0) (vs : List V) (v : V) (g h : List ℕ) → JoinedFront mark Part vs g → Part v h → Joined mark Part (vs ++ v ∷ []) (g ++ h)
-joined_push mark Part [] v g h (inl none) p = subst (Then (Part v) (Is [])) (sym (ap (λ x. x ++ h) none.1)) (then_nothing h p)
+pub joined_push : {V : Type 0} (mark : List ℕ) (Part : V → List ℕ → Type 0) (vs : List V) (v : V) (g h : List ℕ)
+    → JoinedFront mark Part vs g → Part v h → Joined mark Part (vs ++ v ∷ []) (g ++ h)
+joined_push mark Part [] v g h (inl none) p = subst (Then (Part v) (Is [])) (sym (ap (λ x. x ++ h) none.1))
+    (then_nothing h p)
 joined_push mark Part [] v g h (inr some) p = absurd some.first
 joined_push mark Part (w ∷ vs) v g h (inl none) p = absurd (let e = none.0 in cc)
 joined_push mark Part (w ∷ vs) v g h (inr some) p =
     then_more g h (then_right g some) (λ b rest.
-    subst (Each (λ u. Then (Around mark) (Part u)) (vs ++ v ∷ [])) (sym (ap (λ x. x ++ h) rest.whole ∙ append_assoc rest.front rest.back h))
-    (each_push (λ u. Then (Around mark) (Part u)) vs v rest.front (rest.back ++ h) rest.first (then_of rest.back h rest.second p)))
+    subst (Each (λ u. Then (Around mark) (Part u)) (vs ++ v ∷ []))
+    (sym (ap (λ x. x ++ h) rest.whole ∙ append_assoc rest.front rest.back h))
+    (each_push (λ u. Then (Around mark) (Part u)) vs v rest.front (rest.back ++ h) rest.first
+    (then_of rest.back h rest.second p)))

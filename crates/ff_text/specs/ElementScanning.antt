@@ -27,7 +27,8 @@ opened e b = if b == 91 then Some (at_stage Opened e) else None
 
 -- a byte of a polynomial or of a term
 abbrev pub inside : Bool → Stage → ElementScan → ℕ → Option ElementScan
-inside signs stage e b = option_map (λ s. record { stage = stage; entries = e.entries; scan = s }) (scan_step (in_x signs) e.scan b)
+inside signs stage e b = option_map (λ s. record { stage = stage; entries = e.entries; scan = s })
+    (scan_step (in_x signs) e.scan b)
 
 -- a blank before a polynomial, or its first byte
 abbrev pub before : Stage → ElementScan → ℕ → Option ElementScan
@@ -35,23 +36,28 @@ before stage e b = if is_blank b then Some e else inside true stage e b
 
 -- the end of an entry
 abbrev pub entry_ended : Stage → ElementScan → Option ElementScan
-entry_ended stage e = if is_some (ended e.scan.position) then Some (record { stage = stage; entries = e.entries ++ option_to_list (last_terms e.scan); scan = begun }) else None
+entry_ended stage e = if is_some (ended e.scan.position) then Some
+    (record { stage = stage; entries = e.entries ++ option_to_list (last_terms e.scan); scan = begun }) else None
 
 -- a comma or a bracket behind an entry, or a byte of it
 abbrev pub in_entry : ElementScan → ℕ → Option ElementScan
-in_entry e b = if b == 44 then entry_ended Opened e else (if b == 93 then entry_ended Closed e else inside true Entry e b)
+in_entry e b = if b == 44 then entry_ended Opened e else
+    (if b == 93 then entry_ended Closed e else inside true Entry e b)
 
 -- a blank or a slash behind the entries
 abbrev pub behind_entries : ElementScan → ℕ → Option ElementScan
-behind_entries e b = if is_blank b then Some (at_stage Spaced e) else (if b == 47 then Some (at_stage Slash e) else None)
+behind_entries e b = if is_blank b then Some (at_stage Spaced e) else
+    (if b == 47 then Some (at_stage Slash e) else None)
 
 -- a blank before the denominator, a parenthesis, or the first byte of a term
 abbrev pub behind_slash : ElementScan → ℕ → Option ElementScan
-behind_slash e b = if is_blank b then Some e else (if b == 40 then Some (at_stage Paren e) else inside false OneTerm e b)
+behind_slash e b = if is_blank b then Some e else
+    (if b == 40 then Some (at_stage Paren e) else inside false OneTerm e b)
 
 -- the parenthesis behind a denominator, or a byte of it
 abbrev pub in_den : ElementScan → ℕ → Option ElementScan
-in_den e b = if b == 41 then (if is_some (ended e.scan.position) then Some (at_stage Done e) else None) else inside true Inner e b
+in_den e b = if b == 41 then (if is_some (ended e.scan.position) then Some (at_stage Done e) else None) else inside true
+    Inner e b
 
 abbrev pub stage_step : ElementScan → Stage → ℕ → Option ElementScan
 stage_step e Outside b = opened e b

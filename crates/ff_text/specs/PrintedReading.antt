@@ -42,7 +42,8 @@ digit_at (c ∷ cs) = if is_ascii_digit c then Some (c - 48, cs) else None
 -- the number that the digits at the front end, where n stands before them, below the limit
 unfoldable pub digits_at : ℕ → ℕ → List ℕ → Option (ℕ × List ℕ)
 digits_at limit n [] = Some (n, [])
-digits_at limit n (c ∷ cs) = if is_ascii_digit c then (if nat_lt (10 * n + (c - 48)) limit then digits_at limit (10 * n + (c - 48)) cs else None) else Some (n, c ∷ cs)
+digits_at limit n (c ∷ cs) = if is_ascii_digit c then
+    (if nat_lt (10 * n + (c - 48)) limit then digits_at limit (10 * n + (c - 48)) cs else None) else Some (n, c ∷ cs)
 
 -- a number from low on, not 0, below the limit
 unfoldable pub number_at : ℕ → ℕ → List ℕ → Option (ℕ × List ℕ)
@@ -140,7 +141,8 @@ power_of_x j = replicate j 0 ++ 1 ∷ []
 
 -- a denominator behind `/`
 unfoldable pub den_at : List ℕ → Option (List ℕ × List ℕ)
-den_at bytes = option_map_or inner_at (after_text (codes "(") bytes) (power_at bytes >>= λ j. Some (power_of_x j.0, j.1))
+den_at bytes = option_map_or inner_at (after_text (codes "(") bytes)
+    (power_at bytes >>= λ j. Some (power_of_x j.0, j.1))
 
 -- a denominator, 1 if none is written
 unfoldable pub over_at : List ℕ → Option (List ℕ × List ℕ)

@@ -151,11 +151,19 @@ term_of minus fs = record { minus = minus; factors = fs }
 
 -- a `*` ends a factor
 abbrev pub after_star : Scan → Option Scan
-after_star s = option_map (λ f. record { terms = s.terms; minus = s.minus; factors = s.factors ++ f ∷ []; position = Starred }) (ended s.position)
+after_star s = option_map (λ f. record {
+  terms = s.terms;
+  minus = s.minus;
+  factors = s.factors
+      ++ f ∷ [];
+  position = Starred;
+}) (ended s.position)
 
 -- a sign ends a term
 abbrev pub after_sign : Bool → Scan → Option Scan
-after_sign minus s = option_map (λ f. record { terms = s.terms ++ term_of s.minus (s.factors ++ f ∷ []) ∷ []; minus = minus; factors = []; position = Signed }) (ended s.position)
+after_sign minus s = option_map (λ f. record
+    { terms = s.terms ++ term_of s.minus (s.factors ++ f ∷ []) ∷ []; minus = minus; factors = []; position = Signed })
+    (ended s.position)
 
 -- a minus may also begin the polynomial
 abbrev pub after_minus : Scan → Position → Option Scan

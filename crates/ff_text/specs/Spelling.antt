@@ -57,7 +57,8 @@ pub record SpellsNumber (n : ℕ) (bytes : List ℕ) : Type 0 where
 
 -- a letter alone, or with an exponent
 abbrev pub SpellsPower : List ℕ → ℕ → List ℕ → Type 0
-SpellsPower letter n bytes = ((n ≡ 1) × Is letter bytes) ⊎ Then (Is letter) (Then (Around (codes "^")) (SpellsNumber n)) bytes
+SpellsPower letter n bytes = ((n ≡ 1) × Is letter bytes)
+    ⊎ Then (Is letter) (Then (Around (codes "^")) (SpellsNumber n)) bytes
 
 module _ (with_y : Bool) where
   -- a number, a power of x, or one of y where it may stand

@@ -50,7 +50,12 @@ module _ (k : FieldOps) where
 
   -- a term: the exponents of y and of x, and the product of the codes with the sign
   abbrev pub triple_of : Term → ℕ × ℕ × ℕ
-  triple_of t = (sum_by exponent_of_y t.factors, sum_by exponent_of_x t.factors, signed t.minus (fold k.mul 1 (codes_of t.factors)))
+  triple_of t = (
+    sum_by exponent_of_y t.factors,
+    sum_by exponent_of_x t.factors,
+    signed t.minus
+        (fold k.mul 1 (codes_of t.factors)),
+  )
 
   -- the terms in their order
   abbrev pub triples_of : List Term → List (ℕ × ℕ × ℕ)

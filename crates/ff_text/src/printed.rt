@@ -31,7 +31,8 @@ pub fn poly_text(alloc: Global, p: &Poly) -> Result<Vec<u8>, AllocError>
 }
 
 /// The text of an element, as it is given: its numerators in brackets, joined by `, `, and the denominator behind `/`,
-/// in parentheses where it has more than one term. A denominator 1 isn't written. Time and memory grow with the degrees.
+/// in parentheses where it has more than one term. A denominator 1 isn't written. Time and memory grow with the
+/// degrees.
 pub fn elem_text(alloc: Global, num: &[Poly], den: &Poly) -> Result<Vec<u8>, AllocError>
     ensures { IfOk result (λ text. text.items ≡ elem_text num.now den.now) }
 {
@@ -68,8 +69,10 @@ pub fn elem_of_text(alloc: Global, b: &[u8]) -> Result<(Vec<Poly>, Poly), TextFa
     Ok(z)
 }
 
-/// The printable polynomial whose text stands in the line from column `at` on, and the position after it. Behind it stands
-/// nothing that could go on a polynomial: no digit, `^` or `*`, and not ` + `. `Syntax(0)` exactly where none stands so.
+/// The printable polynomial whose text stands in the line from column `at` on, and the position after it. Behind it
+/// stands
+/// nothing that could go on a polynomial: no digit, `^` or `*`, and not ` + `. `Syntax(0)` exactly where none stands
+/// so.
 /// Time grows with its text and degree.
 pub fn read_poly(alloc: Global, line: &[u8], at: usize) -> Result<(Poly, usize), TextFault>
     requires { at ≤ length line.now }
@@ -111,6 +114,7 @@ pub fn one_elem_text()
     ensures front { (num other : List (List ℕ)) (den over r s : List ℕ) →
         IsPrintableElem num den → IsPrintableElem other over → IsTrue (ends_elem r) → IsTrue (ends_elem s) →
         elem_text num den ++ r ≡ elem_text other over ++ s → (num ≡ other) × (den ≡ over) × (r ≡ s) }
-    ensures whole { (num other : List (List ℕ)) (den over : List ℕ) → IsPrintableElem num den → IsPrintableElem other over →
+    ensures whole { (num other : List (List ℕ)) (den over : List ℕ) → IsPrintableElem num den
+        → IsPrintableElem other over →
         elem_text num den ≡ elem_text other over → (num ≡ other) × (den ≡ over) }
 {}

@@ -10,7 +10,8 @@ use ff_fields::field::SmallField;
 use ff_poly::Terms;
 use std::alloc::Global;
 
-/// The sum of the terms over the field. Condition: in each term the exponents of x add up to less than 2^64, and those of
+/// The sum of the terms over the field. Condition: in each term the exponents of x add up to less than 2^64, and those
+/// of
 /// y too. `TextFault::CodeRange` tells the first code, in the order in which they are written, that is the size of the
 /// field or more. It takes the time of a sort of the terms.
 pub fn collect<K: SmallField>(alloc: Global, k: &K, terms: &TermList) -> Result<Terms, TextFault>

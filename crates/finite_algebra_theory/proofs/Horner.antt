@@ -1,4 +1,5 @@
--- Lists of coefficients as functions of polynomials: leading coefficients, synthetic division, the minimal polynomial and
+-- Lists of coefficients as functions of polynomials: leading coefficients, synthetic division, the minimal polynomial
+-- and
 -- Lagrange's idempotents as a program has them, and the q-th power of a combination.
 use Rattle.std.proofs.lemmas.List.Elements.{All-nil, All-cons, All-head, All-tail, All-weaker, All-map}
 use Rattle.std.proofs.Common.{◌≡◌, ℕ, suc, ◌<◌, ◌^◌, List, [], ◌∷◌, map, length, refl, ◌∙◌, ap, ap₂, subst, All}
@@ -23,17 +24,20 @@ module _ {A : Type 0} (R : CommRing A) where
 
   -- synthetic division
   pub synthetic : (d : A) (cs : List A) (top c t : A)
-      → value R.ops (d ∷ cs) top t ≡ value R.ops (d ∷ cs) top c ⊕ (t ⊕ ⊖ c) ⊗ value R.ops (suffix_values R.ops cs top c) top t
+      → value R.ops (d ∷ cs) top t ≡ value R.ops (d ∷ cs) top c ⊕ (t ⊕ ⊖ c) ⊗ value R.ops (suffix_values R.ops cs top c)
+      top t
   synthetic d [] top c t = base
     where
       base : d ⊕ t ⊗ top ≡ d ⊕ c ⊗ top ⊕ (t ⊕ ⊖ c) ⊗ top
       base = ring R (d ∷ top ∷ c ∷ t ∷ []) λ q h. simp (reads, q, h 0, h 1, h 2, h 3) (q.equal _ _ refl)
   synthetic d (x ∷ cs) top c t =
-      step (value R.ops (x ∷ cs) top t) (value R.ops (x ∷ cs) top c) (value R.ops (suffix_values R.ops cs top c) top t) (synthetic x cs top c t)
+      step (value R.ops (x ∷ cs) top t) (value R.ops (x ∷ cs) top c) (value R.ops (suffix_values R.ops cs top c) top t)
+      (synthetic x cs top c t)
     where
       step : (u v w : A) → u ≡ v ⊕ (t ⊕ ⊖ c) ⊗ w → d ⊕ t ⊗ u ≡ d ⊕ c ⊗ v ⊕ (t ⊕ ⊖ c) ⊗ (v ⊕ t ⊗ w)
       step u v w e =
-          from_one R t e (ring R (u ∷ v ∷ w ∷ d ∷ c ∷ t ∷ []) λ q h. simp (reads, q, h 0, h 1, h 2, h 3, h 4, h 5) (q.equal _ _ refl))
+          from_one R t e (ring R (u ∷ v ∷ w ∷ d ∷ c ∷ t ∷ []) λ q h. simp (reads, q, h 0, h 1, h 2, h 3, h 4, h 5)
+          (q.equal _ _ refl))
 
   pub length_suffix_values : (cs : List A) (top c : A) → length (suffix_values R.ops cs top c) ≡ length cs
   length_suffix_values [] top c = refl
@@ -41,14 +45,17 @@ module _ {A : Type 0} (R : CommRing A) where
 
   -- the value with negated coefficients, times e, by the powers of a at e
   pub value_powers : (cs : List A) (a e : A)
-      → value R.ops (map ⊖◌ cs) 𝟙 a ⊗ e ⊕ combination R.ops cs (powers R.ops a e (length cs)) ≡ pow R.ops a (length cs) ⊗ e
+      → value R.ops (map ⊖◌ cs) 𝟙 a ⊗ e ⊕ combination R.ops cs (powers R.ops a e (length cs))
+      ≡ pow R.ops a (length cs) ⊗ e
   value_powers [] a e = R.add_zero _
   value_powers (c ∷ cs) a e =
-      step (value R.ops (map ⊖◌ cs) 𝟙 a) (combination R.ops cs (powers R.ops a (a ⊗ e) (length cs))) (pow R.ops a (length cs)) (value_powers cs a (a ⊗ e))
+      step (value R.ops (map ⊖◌ cs) 𝟙 a) (combination R.ops cs (powers R.ops a (a ⊗ e) (length cs)))
+      (pow R.ops a (length cs)) (value_powers cs a (a ⊗ e))
     where
       step : (v s p : A) → v ⊗ (a ⊗ e) ⊕ s ≡ p ⊗ (a ⊗ e) → (⊖ c ⊕ a ⊗ v) ⊗ e ⊕ (c ⊗ e ⊕ s) ≡ a ⊗ p ⊗ e
       step v s p f =
-          from_one R 𝟙 f (ring R (v ∷ s ∷ p ∷ a ∷ c ∷ e ∷ []) λ q h. simp (reads, q, h 0, h 1, h 2, h 3, h 4, h 5) (q.equal _ _ refl))
+          from_one R 𝟙 f (ring R (v ∷ s ∷ p ∷ a ∷ c ∷ e ∷ []) λ q h. simp (reads, q, h 0, h 1, h 2, h 3, h 4, h 5)
+          (q.equal _ _ refl))
 
   module _ (S : A → Type 0) (𝓢 : IsSubring R.ops S) where
     -- a list of coefficients and a leading one are the function of a polynomial
@@ -102,12 +109,15 @@ module _ {A : Type 0} (R : CommRing A) where
     }
       where
         zero : (v s p : A) → v ⊗ e ⊕ s ≡ p → p ≡ s → v ⊗ e ≡ 𝟘
-        zero v s p f g = from_two R 𝟙 𝟙 f g (ring R (v ∷ s ∷ p ∷ e ∷ []) λ q h. simp (reads, q, h 0, h 1, h 2, h 3) (q.equal _ _ refl))
+        zero v s p f g = from_two R 𝟙 𝟙 f g
+            (ring R (v ∷ s ∷ p ∷ e ∷ []) λ q h. simp (reads, q, h 0, h 1, h 2, h 3) (q.equal _ _ refl))
 
     -- Lagrange's idempotent at a root, by synthetic division
-    pub lagrange_of_list : (a e : A) (d : A) (cs : List A) → S d → All S cs → (c : A) → S c → value R.ops (d ∷ cs) 𝟙 c ≡ 𝟘
+    pub lagrange_of_list : (a e : A) (d : A) (cs : List A) → S d → All S cs → (c : A) → S c
+        → value R.ops (d ∷ cs) 𝟙 c ≡ 𝟘
         → (u : A) → S u → value R.ops (suffix_values R.ops cs 𝟙 c) 𝟙 c ⊗ u ≡ 𝟙
-        → Lagrange R.ops S a e (length cs) (value R.ops (d ∷ cs) 𝟙) c (u ⊗ (value R.ops (suffix_values R.ops cs 𝟙 c) 𝟙 a ⊗ e))
+        → Lagrange R.ops S a e (length cs) (value R.ops (d ∷ cs) 𝟙) c
+        (u ⊗ (value R.ops (suffix_values R.ops cs 𝟙 c) 𝟙 a ⊗ e))
     lagrange_of_list a e d cs d_in h c c_in root u u_in is = record {
       quotient = value R.ops (suffix_values R.ops cs 𝟙 c) 𝟙;
       quotient_in =
@@ -125,10 +135,12 @@ module _ {A : Type 0} (R : CommRing A) where
 
     -- the iterate of a combination is the combination of the iterates: so its matrix has the rows of these
     pub iterate_combination : (m : ℕ) (cs bs : List A) → All S cs
-        → pow R.ops (combination R.ops cs bs) (length 𝓐.codes ^ m) ≡ combination R.ops cs (map (λ b. pow R.ops b (length 𝓐.codes ^ m)) bs)
+        → pow R.ops (combination R.ops cs bs) (length 𝓐.codes ^ m)
+        ≡ combination R.ops cs (map (λ b. pow R.ops b (length 𝓐.codes ^ m)) bs)
     iterate_combination m [] bs h = iterate_scalar R S 𝓐 m 𝟘 𝓐.subring.zero_in
     iterate_combination m (c ∷ cs) [] h = iterate_scalar R S 𝓐 m 𝟘 𝓐.subring.zero_in
     iterate_combination m (c ∷ cs) (b ∷ bs) h =
         iterate_add R S 𝓐 m (c ⊗ b) (combination R.ops cs bs)
-        ∙ ap₂ ◌⊕◌ (mul_pow R c b (length 𝓐.codes ^ m) ∙ ap (λ x. x ⊗ pow R.ops b (length 𝓐.codes ^ m)) (iterate_scalar R S 𝓐 m c (All-head S c cs h)))
+        ∙ ap₂ ◌⊕◌ (mul_pow R c b (length 𝓐.codes ^ m)
+        ∙ ap (λ x. x ⊗ pow R.ops b (length 𝓐.codes ^ m)) (iterate_scalar R S 𝓐 m c (All-head S c cs h)))
         (iterate_combination m cs bs (All-tail S c cs h))

@@ -39,7 +39,8 @@ module _ {A E : Type 0} (r : TestedRing A) (F : CommRing E) (e : A → E) (hom :
   pub value_in_powers : (n : ℕ) (u : E) (w : List A) → length w ≤ n
       → Span F.ops (Image e) (powers F.ops t u n) (F.◌⊗◌ (evaluate r F e hom t w) u)
   value_in_powers n u [] l =
-      subst (Span F.ops (Image e) (powers F.ops t u n)) (sym (zero_mul F u)) (span_zero F (Image e) (image_subring r.ring F e hom) (powers F.ops t u n))
+      subst (Span F.ops (Image e) (powers F.ops t u n)) (sym (zero_mul F u))
+      (span_zero F (Image e) (image_subring r.ring F e hom) (powers F.ops t u n))
   value_in_powers zero u (c ∷ w) l = absurd (omega arith)
   value_in_powers (suc n) u (c ∷ w) l = record {
     scalar = e c;
@@ -69,9 +70,12 @@ module _ {A : Type 0} (r : TestedRing A) (field : IsField r.ops) (f : Pol r)
   congruent_eq : (a b : Pol r) → IsCongruent P.ops f a b → of a ≡ of b
   congruent_eq a b c =
       class_same r (field_domain r.ring field) f monic deep (of a) (of b)
-      (short_same r (field_domain r.ring field) f monic deep _ _ (length_rest r (field_domain r.ring field) f monic deep a) (length_rest r (field_domain r.ring field) f monic deep b)
+      (short_same r (field_domain r.ring field) f monic deep _ _
+      (length_rest r (field_domain r.ring field) f monic deep a)
+      (length_rest r (field_domain r.ring field) f monic deep b)
       (congruent_trans P f _ a _ (rest_congruent r (field_domain r.ring field) f monic deep a)
-      (congruent_trans P f a b _ c (congruent_sym P f _ b (rest_congruent r (field_domain r.ring field) f monic deep b)))))
+      (congruent_trans P f a b _ c (congruent_sym P f _ b
+      (rest_congruent r (field_domain r.ring field) f monic deep b)))))
 
   own : (a : Pol r) → IsCongruent P.ops f a (rest r (field_domain r.ring field) f monic deep a)
   own a = congruent_sym P f _ a (rest_congruent r (field_domain r.ring field) f monic deep a)
@@ -94,14 +98,16 @@ module _ {A : Type 0} (r : TestedRing A) (field : IsField r.ops) (f : Pol r)
   of_short : (y : Class r (field_domain r.ring field) f monic deep) → of y.0 ≡ y
   of_short y =
       class_same r (field_domain r.ring field) f monic deep (of y.0) y
-      (short_same r (field_domain r.ring field) f monic deep _ y.0 (length_rest r (field_domain r.ring field) f monic deep y.0) y.1
+      (short_same r (field_domain r.ring field) f monic deep _ y.0
+      (length_rest r (field_domain r.ring field) f monic deep y.0) y.1
       (rest_congruent r (field_domain r.ring field) f monic deep y.0))
 
   -- each class is a combination of the powers of the class of x
   abbrev X : Class r (field_domain r.ring field) f monic deep
   X = of (x_pol r)
 
-  class_value : (y : Class r (field_domain r.ring field) f monic deep) → y ≡ evaluate r C of_constant constant_map X y.0.0
+  class_value : (y : Class r (field_domain r.ring field) f monic deep)
+      → y ≡ evaluate r C of_constant constant_map X y.0.0
   class_value y =
       sym (of_short y) ∙ ap of (sym (pol_self r y.0) ∙ pol_value r y.0.0)
       ∙ evaluate_hom r P (constant r) (constant_hom r) (x_pol r) C of rest_hom y.0.0
@@ -110,13 +116,15 @@ module _ {A : Type 0} (r : TestedRing A) (field : IsField r.ops) (f : Pol r)
       → Span C.ops (Image of_constant) (powers C.ops X C.𝟙 (length f.0)) y
   class_spans y =
       subst (Span C.ops (Image of_constant) (powers C.ops X C.𝟙 (length f.0))) (C.mul_one _ ∙ sym (class_value y))
-      (value_in_powers r C of_constant constant_map X (length f.0) C.𝟙 y.0.0 (let l : length y.0.0 < length f.0 = y.1 in omega arith))
+      (value_in_powers r C of_constant constant_map X (length f.0) C.𝟙 y.0.0
+      (let l : length y.0.0 < length f.0 = y.1 in omega arith))
 
   class_discrete : ((a b : A) → Dec (a ≡ b)) → (y z : Class r (field_domain r.ring field) f monic deep) → Dec (y ≡ z)
   class_discrete d y z = go (list_discrete d y.0.0 z.0.0)
     where
       go : Dec (y.0.0 ≡ z.0.0) → Dec (y ≡ z)
-      go (yes e) = yes (class_same r (field_domain r.ring field) f monic deep y z (Σ_prop_path (IsTrimmed_prop r.is_zero) e))
+      go (yes e) = yes (class_same r (field_domain r.ring field) f monic deep y z
+          (Σ_prop_path (IsTrimmed_prop r.is_zero) e))
       go (no n) = no (λ e. n (ap (λ v. v.0.0) e))
 
   class_nonzero : ¬ (C.𝟙 ≡ C.𝟘)
@@ -126,10 +134,12 @@ module _ {A : Type 0} (r : TestedRing A) (field : IsField r.ops) (f : Pol r)
       (short_same r (field_domain r.ring field) f monic deep P.𝟙 P.𝟘
       (let l : length P.𝟙.0 ≤ 1 = length_trim r.is_zero (r.𝟙 ∷ []) in omega (arith, deep)) (omega (arith, deep))
       (congruent_trans P f P.𝟙 (rest r (field_domain r.ring field) f monic deep P.𝟙) P.𝟘 (own P.𝟙)
-      (congruent_trans P f (rest r (field_domain r.ring field) f monic deep P.𝟙) (rest r (field_domain r.ring field) f monic deep P.𝟘) P.𝟘
+      (congruent_trans P f (rest r (field_domain r.ring field) f monic deep P.𝟙)
+      (rest r (field_domain r.ring field) f monic deep P.𝟘) P.𝟘
       (congruent_same P f _ _ (ap (λ y. y.0) e)) (rest_congruent r (field_domain r.ring field) f monic deep P.𝟘))))
 
   -- the polynomials modulo f, over the classes of the constants
   pub quotient_algebra : FiniteField r.ops → FiniteAlgebra C.ops (Image of_constant)
   quotient_algebra 𝓚 =
-      algebra r.ring C of_constant constant_map 𝓚 (class_discrete 𝓚.decide) class_nonzero (powers C.ops X C.𝟙 (length f.0)) class_spans
+      algebra r.ring C of_constant constant_map 𝓚 (class_discrete 𝓚.decide) class_nonzero
+      (powers C.ops X C.𝟙 (length f.0)) class_spans

@@ -10,7 +10,8 @@ use Rattle.ring_theory.specs.Classes.{Class, class_of, class_ops}
 use Rattle.ring_theory.proofs.Polynomials.{pol_domain}
 use Rattle.ring_theory.proofs.Classes.{class_same, class_set, classes_represent, rest_null}
 
-module _ {A : Type 0} (r : TestedRing A) (domain : IsDomain r.ops) (f : Pol r) (monic : r.◌⊗◌ r.𝟙 (coeff_of r.ops f.0 (length f.0 - 1)) ≡ r.𝟙) (deep : 1 < length f.0) where
+module _ {A : Type 0} (r : TestedRing A) (domain : IsDomain r.ops) (f : Pol r)
+    (monic : r.◌⊗◌ r.𝟙 (coeff_of r.ops f.0 (length f.0 - 1)) ≡ r.𝟙) (deep : 1 < length f.0) where
   abbrev pub s : TestedRing (Pol r)
   s = pol_ring r
 
@@ -27,6 +28,7 @@ module _ {A : Type 0} (r : TestedRing A) (domain : IsDomain r.ops) (f : Pol r) (
 
 -- at a polynomial ring: k[x][y] modulo a monic f, with no lemma of its own
 module _ {A : Type 0} (r : TestedRing A) (domain : IsDomain r.ops) where
-  pub tower : (f : Pol (pol_ring r)) (monic : (pol_ring r).◌⊗◌ (pol_ring r).𝟙 (coeff_of (pol_ring r).ops f.0 (length f.0 - 1)) ≡ (pol_ring r).𝟙)
+  pub tower : (f : Pol (pol_ring r)) (monic : (pol_ring r).◌⊗◌ (pol_ring r).𝟙
+      (coeff_of (pol_ring r).ops f.0 (length f.0 - 1)) ≡ (pol_ring r).𝟙)
       (deep : 1 < length f.0) → TestedRing (Class (pol_ring r) (pol_domain r domain) f monic deep)
   tower f monic deep = classes (pol_ring r) (pol_domain r domain) f monic deep

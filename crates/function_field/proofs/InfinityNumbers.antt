@@ -43,8 +43,10 @@ number_of_all p i c all h = record {
 }
 
 -- a coefficient of degree d
-pub number_of_more : (p : PresValue) (i c d e : ℕ) → 1 ≤ i → IsNumberBelow p i c → length_at p i ≡ suc d → e ≡ max c (div_ceil d i) → IsNumberBelow p (i + 1) e
-number_of_more p i c d e low h long is = record { enough = below_more (λ j. 1 ≤ j → length_at p j ≤ e * j + 1) i before here; least = least }
+pub number_of_more : (p : PresValue) (i c d e : ℕ) → 1 ≤ i → IsNumberBelow p i c → length_at p i ≡ suc d
+    → e ≡ max c (div_ceil d i) → IsNumberBelow p (i + 1) e
+number_of_more p i c d e low h long is = record
+    { enough = below_more (λ j. 1 ≤ j → length_at p j ≤ e * j + 1) i before here; least = least }
   where
     before : (j : ℕ) → j < i → 1 ≤ j → length_at p j ≤ e * j + 1
     before j less low' =

@@ -19,14 +19,16 @@ module _ {E : Type 0} (F : CommRing E) (e : ℕ → E) where
   pub value_append : (x : E) (w : List ℕ) (c : ℕ) → value x (w ++ c ∷ []) ≡ value x w ⊕ pow F.ops x (length w) ⊗ e c
   unfolding value
   value_append x [] c =
-      ap (λ s. e c ⊕ s) (mul_zero F x) ∙ F.add_comm (e c) 𝟘 ∙ ap (λ s. 𝟘 ⊕ s) (sym (F.mul_comm 𝟙 (e c) ∙ F.mul_one (e c)))
+      ap (λ s. e c ⊕ s) (mul_zero F x) ∙ F.add_comm (e c) 𝟘
+      ∙ ap (λ s. 𝟘 ⊕ s) (sym (F.mul_comm 𝟙 (e c) ∙ F.mul_one (e c)))
   value_append x (b ∷ w) c =
       ap (λ s. e b ⊕ x ⊗ s) (value_append x w c) ∙ regroup (e b) x (value x w) (pow F.ops x (length w)) (e c)
     where
       regroup : (b x v p c : E) → b ⊕ x ⊗ (v ⊕ p ⊗ c) ≡ b ⊕ x ⊗ v ⊕ x ⊗ p ⊗ c
       regroup b x v p c = simp ring_rules
 
-  pub value_reverse : (x t : E) → x ⊗ t ≡ 𝟙 → (w : List ℕ) → pow F.ops x (length w) ⊗ value t w ≡ x ⊗ value x (reverse w)
+  pub value_reverse : (x t : E) → x ⊗ t ≡ 𝟙 → (w : List ℕ)
+      → pow F.ops x (length w) ⊗ value t w ≡ x ⊗ value x (reverse w)
   unfolding value
   value_reverse x t h [] = mul_zero F 𝟙 ∙ sym (mul_zero F x)
   value_reverse x t h (c ∷ w) =

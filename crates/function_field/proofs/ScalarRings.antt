@@ -23,7 +23,12 @@ module _ {k : CodeField} (c : Equation k) where
   of_poly_one =
       one_function c
       ∙ function_eq c (whole_row c (row_one (ring_of_x c) c.lower_degree))
-      (record { num = row_of c (polynomials k).𝟙; den = (polynomials k).𝟙; den_not_zero = (polynomials_domain k).one_not_zero }) refl
+      (record {
+        num = row_of c (polynomials k).𝟙;
+        den = (polynomials k).𝟙;
+        den_not_zero =
+            (polynomials_domain k).one_not_zero;
+      }) refl
 
   pub of_poly_neg : (a : Polynomial k) → (ring_of c).⊖◌ (of_poly c a) ≡ of_poly c ((polynomials k).⊖◌ a)
   of_poly_neg a =
@@ -52,26 +57,32 @@ module _ {k : CodeField} (c : Equation k) where
   abbrev fraction_of : (a b : Polynomial k) → ¬ (b ≡ (polynomials k).𝟘) → RowOver c
   fraction_of a b n = record { num = row_of c a; den = b; den_not_zero = n }
 
-  pub bottoms_not_zero : (b b' : Polynomial k) → ¬ (b ≡ (polynomials k).𝟘) → ¬ (b' ≡ (polynomials k).𝟘) → ¬ ((polynomials k).◌⊗◌ b b' ≡ (polynomials k).𝟘)
+  pub bottoms_not_zero : (b b' : Polynomial k) → ¬ (b ≡ (polynomials k).𝟘) → ¬ (b' ≡ (polynomials k).𝟘)
+      → ¬ ((polynomials k).◌⊗◌ b b' ≡ (polynomials k).𝟘)
   bottoms_not_zero b b' n m = product_not_zero (polynomials_domain k) b b' n m
 
   sum_row : (a a' b b' : Polynomial k)
-      → row_add (ring_of_x c).ops (suc c.lower_degree) (row_scale (ring_of_x c).ops (suc c.lower_degree) b' (row_of c a)) (row_scale (ring_of_x c).ops (suc c.lower_degree) b (row_of c a'))
+      → row_add (ring_of_x c).ops (suc c.lower_degree)
+      (row_scale (ring_of_x c).ops (suc c.lower_degree) b' (row_of c a))
+      (row_scale (ring_of_x c).ops (suc c.lower_degree) b (row_of c a'))
       ≡ row_of c ((polynomials k).◌⊕◌ ((polynomials k).◌⊗◌ b' a) ((polynomials k).◌⊗◌ b a'))
   unfolding row_add row_scale
   sum_row a a' b b' =
       pair_path refl
-      (ap₂ (row_add (ring_of_x c).ops c.lower_degree) (row_scale_zero (ring_of_x c) c.lower_degree b') (row_scale_zero (ring_of_x c) c.lower_degree b)
+      (ap₂ (row_add (ring_of_x c).ops c.lower_degree) (row_scale_zero (ring_of_x c) c.lower_degree b')
+      (row_scale_zero (ring_of_x c) c.lower_degree b)
       ∙ row_add_zero (ring_of_x c) c.lower_degree (row_zero (ring_of_x c).ops c.lower_degree))
 
   pub over_plus : (a a' b b' : Polynomial k) (n : ¬ (b ≡ (polynomials k).𝟘)) (m : ¬ (b' ≡ (polynomials k).𝟘))
       → (ring_of c).◌⊕◌ (over c (row_of c a) b n) (over c (row_of c a') b' m)
-      ≡ over c (row_of c ((polynomials k).◌⊕◌ ((polynomials k).◌⊗◌ b' a) ((polynomials k).◌⊗◌ b a'))) ((polynomials k).◌⊗◌ b b') (bottoms_not_zero b b' n m)
+      ≡ over c (row_of c ((polynomials k).◌⊕◌ ((polynomials k).◌⊗◌ b' a) ((polynomials k).◌⊗◌ b a')))
+      ((polynomials k).◌⊗◌ b b') (bottoms_not_zero b b' n m)
   unfolding pair_add
   over_plus a a' b b' n m =
       add_function c (fraction_of a b n) (fraction_of a' b' m)
       ∙ function_eq c (add_rows c (fraction_of a b n) (fraction_of a' b' m))
-      (fraction_of ((polynomials k).◌⊕◌ ((polynomials k).◌⊗◌ b' a) ((polynomials k).◌⊗◌ b a')) ((polynomials k).◌⊗◌ b b') (bottoms_not_zero b b' n m))
+      (fraction_of ((polynomials k).◌⊕◌ ((polynomials k).◌⊗◌ b' a) ((polynomials k).◌⊗◌ b a'))
+      ((polynomials k).◌⊗◌ b b') (bottoms_not_zero b b' n m))
       (ap (row_scale (ring_of_x c).ops (suc c.lower_degree) ((polynomials k).◌⊗◌ b b')) (sum_row a a' b b'))
 
   pub over_times : (a a' b b' : Polynomial k) (n : ¬ (b ≡ (polynomials k).𝟘)) (m : ¬ (b' ≡ (polynomials k).𝟘))
@@ -84,7 +95,8 @@ module _ {k : CodeField} (c : Equation k) where
       (fraction_of ((polynomials k).◌⊗◌ a a') ((polynomials k).◌⊗◌ b b') (bottoms_not_zero b b' n m))
       (ap (row_scale (ring_of_x c).ops (suc c.lower_degree) ((polynomials k).◌⊗◌ b b')) (row_product c a a'))
 
-  neg_row : (a : Polynomial k) → row_neg (ring_of_x c).ops (suc c.lower_degree) (row_of c a) ≡ row_of c ((polynomials k).⊖◌ a)
+  neg_row : (a : Polynomial k) → row_neg (ring_of_x c).ops (suc c.lower_degree) (row_of c a)
+      ≡ row_of c ((polynomials k).⊖◌ a)
   unfolding row_neg
   neg_row a = pair_path refl (row_neg_zero (ring_of_x c) c.lower_degree)
 
@@ -100,17 +112,40 @@ module _ {k : CodeField} (c : Equation k) where
   unfolding pol_ops
   zero_short = omega arith
 
-  sum_short : (a a' b b' : Polynomial k) → ¬ (b ≡ (polynomials k).𝟘) → ¬ (b' ≡ (polynomials k).𝟘) → length a.0 ≤ length b.0 → length a'.0 ≤ length b'.0
-      → length ((polynomials k).◌⊕◌ ((polynomials k).◌⊗◌ b' a) ((polynomials k).◌⊗◌ b a')).0 ≤ length ((polynomials k).◌⊗◌ b b').0
+  sum_short : (a a' b b' : Polynomial k) → ¬ (b ≡ (polynomials k).𝟘) → ¬ (b' ≡ (polynomials k).𝟘)
+      → length a.0 ≤ length b.0 → length a'.0 ≤ length b'.0
+      → length ((polynomials k).◌⊕◌ ((polynomials k).◌⊗◌ b' a) ((polynomials k).◌⊗◌ b a')).0 ≤ length
+      ((polynomials k).◌⊗◌ b b').0
   sum_short a a' b b' n m short short' =
-      length_add (code_ring k) ((polynomials k).◌⊗◌ b' a) ((polynomials k).◌⊗◌ b a') (length ((polynomials k).◌⊗◌ b b').0)
-      (omega (arith, short, length_product (code_ring k) (code_domain k) b b' n m, length_product_le (code_ring k) (code_domain k) b' a))
-      (omega (arith, short', length_product (code_ring k) (code_domain k) b b' n m, length_product_le (code_ring k) (code_domain k) b a'))
+      length_add (code_ring k) ((polynomials k).◌⊗◌ b' a) ((polynomials k).◌⊗◌ b a')
+      (length ((polynomials k).◌⊗◌ b b').0)
+      (omega (
+        arith,
+        short,
+        length_product (code_ring k) (code_domain k) b b' n m,
+        length_product_le (code_ring k)
+            (code_domain k) b' a,
+      ))
+      (omega (
+        arith,
+        short',
+        length_product (code_ring k) (code_domain k) b b' n m,
+        length_product_le (code_ring k)
+            (code_domain k) b a',
+      ))
 
-  product_short : (a a' b b' : Polynomial k) → ¬ (b ≡ (polynomials k).𝟘) → ¬ (b' ≡ (polynomials k).𝟘) → length a.0 ≤ length b.0 → length a'.0 ≤ length b'.0
+  product_short : (a a' b b' : Polynomial k) → ¬ (b ≡ (polynomials k).𝟘) → ¬ (b' ≡ (polynomials k).𝟘)
+      → length a.0 ≤ length b.0 → length a'.0 ≤ length b'.0
       → length ((polynomials k).◌⊗◌ a a').0 ≤ length ((polynomials k).◌⊗◌ b b').0
   product_short a a' b b' n m short short' =
-      omega (arith, short, short', length_product (code_ring k) (code_domain k) b b' n m, length_product_le (code_ring k) (code_domain k) a a')
+      omega (
+        arith,
+        short,
+        short',
+        length_product (code_ring k) (code_domain k) b b' n m,
+        length_product_le
+            (code_ring k) (code_domain k) a a',
+      )
 
   pub finite_at_infinity_subring : IsSubring (ring_of c).ops (IsFiniteAtInfinity c)
   finite_at_infinity_subring = record {

@@ -25,7 +25,12 @@ module _ {P : Type 0} (S : CommRing P) where
 module _ {k : CodeField} (c : Equation k) where
   -- -1 as a row over 1
   abbrev minus_one : RowOver c
-  minus_one = record { num = row_of c ((polynomials k).⊖◌ (polynomials k).𝟙); den = (polynomials k).𝟙; den_not_zero = (polynomials_domain k).one_not_zero }
+  minus_one = record {
+    num = row_of c ((polynomials k).⊖◌ (polynomials k).𝟙);
+    den = (polynomials k).𝟙;
+    den_not_zero =
+        (polynomials_domain k).one_not_zero;
+  }
 
   neg_one : (ring_of c).⊖◌ (ring_of c).𝟙 ≡ of_poly c ((polynomials k).⊖◌ (polynomials k).𝟙)
   unfolding pair_neg whole_pair row_one row_neg
@@ -34,7 +39,8 @@ module _ {k : CodeField} (c : Equation k) where
       ∙ neg_function c (whole_row c (row_one (ring_of_x c) c.lower_degree))
       ∙ function_eq c
       (neg_rows c (whole_row c (row_one (ring_of_x c) c.lower_degree))) minus_one
-      (ap (row_scale (ring_of_x c).ops (suc c.lower_degree) (polynomials k).𝟙) (pair_path refl (row_neg_zero (ring_of_x c) c.lower_degree)))
+      (ap (row_scale (ring_of_x c).ops (suc c.lower_degree) (polynomials k).𝟙)
+      (pair_path refl (row_neg_zero (ring_of_x c) c.lower_degree)))
 
   neg_one_scalar : (s : Side) → IsScalar c s ((ring_of c).⊖◌ (ring_of c).𝟙)
   neg_one_scalar Finite = record { polynomial = (polynomials k).⊖◌ (polynomials k).𝟙; value = neg_one }

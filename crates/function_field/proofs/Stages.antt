@@ -45,25 +45,29 @@ module _ {A B C : Type 0} (f : A → B → C) where
   all_pairs [] ys = []
   all_pairs (x ∷ xs) ys = map (f x) ys ++ all_pairs xs ys
 
-  pairs_member : (a : A) (b : B) (xs : List A) (ys : List B) → Member a xs → Member b ys → Member (f a b) (all_pairs xs ys)
+  pairs_member : (a : A) (b : B) (xs : List A) (ys : List B) → Member a xs → Member b ys
+      → Member (f a b) (all_pairs xs ys)
   unfolding all_pairs
   pairs_member a b [] ys m l = elim m [ ]
   pairs_member a b (x ∷ xs) ys here l = member_left (f a b) (map (f a) ys) (all_pairs xs ys) (member_map (f a) b ys l)
-  pairs_member a b (x ∷ xs) ys (there m) l = member_right (f a b) (map (f x) ys) (all_pairs xs ys) (pairs_member a b xs ys m l)
+  pairs_member a b (x ∷ xs) ys (there m) l = member_right (f a b) (map (f x) ys) (all_pairs xs ys)
+      (pairs_member a b xs ys m l)
 
 -- the lists of at most n of the letters
 words : List ℕ → ℕ → List (List ℕ)
 words letters zero = [] ∷ []
 words letters (suc n) = [] ∷ all_pairs (λ c w. c ∷ w) letters (words letters n)
 
-words_member : (letters : List ℕ) (n : ℕ) (w : List ℕ) → All (λ c. Member c letters) w → length w ≤ n → Member w (words letters n)
+words_member : (letters : List ℕ) (n : ℕ) (w : List ℕ) → All (λ c. Member c letters) w → length w ≤ n
+    → Member w (words letters n)
 unfolding words
 words_member letters zero [] h l = here
 words_member letters zero (c ∷ w) h l = absurd (omega arith)
 words_member letters (suc n) [] h l = here
 words_member letters (suc n) (c ∷ w) hs l =
     let P : ℕ → Type 0 = λ d. Member d letters in
-    there (pairs_member (λ c w. c ∷ w) c w letters (words letters n) (All-head P c w hs) (words_member letters n w (All-tail P c w hs) (omega arith)))
+    there (pairs_member (λ c w. c ∷ w) c w letters (words letters n) (All-head P c w hs)
+    (words_member letters n w (All-tail P c w hs) (omega arith)))
 
 bound : List ℕ → ℕ
 bound [] = 0
@@ -88,7 +92,8 @@ module _ (k : CodeField) where
   poly_member p n h =
       let l : length (codes_of k p) ≤ bound (codes_of k p) = length_bounded (codes_of k p) in
       subst (λ q. Member q (map (value k) (words (upto n) n))) (value_codes_of k p)
-      (member_map (value k) (codes_of k p) (words (upto n) n) (words_member (upto n) n (codes_of k p) (bounded (codes_of k p) n h) (omega arith)))
+      (member_map (value k) (codes_of k p) (words (upto n) n)
+      (words_member (upto n) n (codes_of k p) (bounded (codes_of k p) n h) (omega arith)))
 
   rows : (m n : ℕ) → List (Row (Polynomial k) m)
   rows zero n = tt ∷ []
@@ -102,16 +107,19 @@ module _ (k : CodeField) where
   unfolding rows row_bound
   row_member zero n v h = here
   row_member (suc m) n (a, v) h =
-      pairs_member (λ a v. (a, v)) a v (polys n) (rows m n) (poly_member a n (omega arith)) (row_member m n v (omega arith))
+      pairs_member (λ a v. (a, v)) a v (polys n) (rows m n) (poly_member a n (omega arith))
+      (row_member m n v (omega arith))
 
 module _ {k : CodeField} (c : Equation k) where
-  make_function : (z : RowOver c) (d : Dec (z.den ≡ (polynomials k).𝟘)) → function c (over_checked c z.num z.den d) ≡ function c z
+  make_function : (z : RowOver c) (d : Dec (z.den ≡ (polynomials k).𝟘))
+      → function c (over_checked c z.num z.den d) ≡ function c z
   unfolding over_checked
   make_function z (yes e) = absurd (z.den_not_zero e)
   make_function z (no n) = function_eq c (record { num = z.num; den = z.den; den_not_zero = n }) z refl
 
   stage : ℕ → List (RowOver c)
-  stage n = all_pairs (λ v d. over_checked c v d (polynomial_discrete k d (polynomials k).𝟘)) (rows k (suc c.lower_degree) n) (polys k n)
+  stage n = all_pairs (λ v d. over_checked c v d (polynomial_discrete k d (polynomials k).𝟘))
+      (rows k (suc c.lower_degree) n) (polys k n)
 
   -- each function is that of a row which can be found
   pub row_of_function : (z : FunctionOf c) → (a : RowOver c) × (function c a ≡ z)
@@ -121,7 +129,8 @@ module _ {k : CodeField} (c : Equation k) where
       (λ a. (
         row_bound k (suc c.lower_degree) a.num + bound (codes_of k a.den),
         over_checked c a.num a.den (polynomial_discrete k a.den (polynomials k).𝟘),
-        pairs_member (λ v d. over_checked c v d (polynomial_discrete k d (polynomials k).𝟘)) a.num a.den (rows k (suc c.lower_degree) _) (polys k _)
+        pairs_member (λ v d. over_checked c v d (polynomial_discrete k d (polynomials k).𝟘)) a.num a.den
+            (rows k (suc c.lower_degree) _) (polys k _)
             (row_member k (suc c.lower_degree) _ a.num (omega arith)) (poly_member k a.den _ (omega arith)),
         make_function a (polynomial_discrete k a.den (polynomials k).𝟘),
       ))

@@ -101,18 +101,21 @@ module _ {E : Type 0} (S : Setting E) where
     pub finite : IsDualOn W Finite 𝟙
     pub infinite : IsDualOn W Infinite (pow ops S.x 2)
 
-  -- each member of O_s is a combination over k plus a member of M, and a combination lies in M only where all its codes are 0
+  -- each member of O_s is a combination over k plus a member of M, and a combination lies in M only where all its codes
+  -- are 0
   pub record HasDegree (P : Place E) (g : ℕ) : Type 0 where
     pub classes : List E
     pub count : length classes ≡ g
     pub members : All (IsIntegralAt S P.side) classes
     pub spanning : (z : E) → IsIntegralAt S P.side z → (c : E) × Span ops S.IsCode classes c × IsIn S P (minus ops z c)
-    pub independent : (cs : List E) → length cs ≡ g → All S.IsCode cs → IsIn S P (combination ops cs classes) → All (λ c. c ≡ 𝟘) cs
+    pub independent : (cs : List E) → length cs ≡ g → All S.IsCode cs → IsIn S P (combination ops cs classes)
+        → All (λ c. c ≡ 𝟘) cs
 
   -- the sum of D(P)·degree(P)
   pub data HasTotalDegree : Divisor E → ℤ → Type 0 where
     none : HasTotalDegree [] (pos 0)
-    entry : {e : Entry E} {D : Divisor E} {d : ℤ} (g : ℕ) → HasDegree e.place g → HasTotalDegree D d → HasTotalDegree (e ∷ D) (e.times *ℤ pos g +ℤ d)
+    entry : {e : Entry E} {D : Divisor E} {d : ℤ} (g : ℕ) → HasDegree e.place g → HasTotalDegree D d
+        → HasTotalDegree (e ∷ D) (e.times *ℤ pos g +ℤ d)
 
   -- e of a place over the polynomial p, or over infinity
   abbrev pub HasRamification : Place E → E → ℕ → Type 0

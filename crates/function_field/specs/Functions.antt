@@ -19,7 +19,8 @@ pub record Equation (k : CodeField) : Type 0 where
   pub coefficients : Row (Polynomial k) (suc lower_degree)
 
 module _ (k : CodeField) where
-  row_equal : (n : ℕ) (a b : Polynomial k) (v w : Row (Polynomial k) n) → Dec (a ≡ b) → Dec (v ≡ w) → Dec (◌≡◌ {A = Row (Polynomial k) (suc n)} (a, v) (b, w))
+  row_equal : (n : ℕ) (a b : Polynomial k) (v w : Row (Polynomial k) n) → Dec (a ≡ b) → Dec (v ≡ w)
+      → Dec (◌≡◌ {A = Row (Polynomial k) (suc n)} (a, v) (b, w))
   row_equal n a b v w (yes e) (yes d) = yes (pair_path e d)
   row_equal n a b v w (yes e) (no m) = no (λ h. m (ap (λ t. t.1) h))
   row_equal n a b v w (no m) d = no (λ h. m (ap (λ t. t.0) h))
@@ -79,7 +80,8 @@ module _ {k : CodeField} (c : Equation k) where
   function_same z w e = pair_function_same ring_of_x (polynomials_domain k) c.lower_degree c.coefficients z w e
 
   -- a fact of each function that a row stands for is one of each function
-  pub each_function : (T : FunctionOf → Type 0) → ((z : FunctionOf) → IsProp (T z)) → ((z : RowOver) → T (function z)) → (z : FunctionOf) → T z
+  pub each_function : (T : FunctionOf → Type 0) → ((z : FunctionOf) → IsProp (T z)) → ((z : RowOver) → T (function z))
+      → (z : FunctionOf) → T z
   unfolding function FunctionOf
   each_function T h t = each_pair ring_of_x (polynomials_domain k) c.lower_degree c.coefficients T h t
 
@@ -89,14 +91,17 @@ module _ {k : CodeField} (c : Equation k) where
   pub functions_discrete : (z w : FunctionOf) → Dec (z ≡ w)
   unfolding FunctionOf
   functions_discrete =
-      function_discrete ring_of_x (polynomials_domain k) c.lower_degree c.coefficients (row_discrete k (suc c.lower_degree))
+      function_discrete ring_of_x (polynomials_domain k) c.lower_degree c.coefficients
+      (row_discrete k (suc c.lower_degree))
 
   -- a function of the rows that takes the same rows to equal values
-  pub from_rows : {B : Type 0} → IsSet B → (f : RowOver → B) → ((z w : RowOver) → AreSame z w → f z ≡ f w) → FunctionOf → B
+  pub from_rows : {B : Type 0} → IsSet B → (f : RowOver → B) → ((z w : RowOver) → AreSame z w → f z ≡ f w) → FunctionOf
+      → B
   unfolding FunctionOf
   from_rows set f h = from_pairs ring_of_x (polynomials_domain k) c.lower_degree c.coefficients set f h
 
-  pub from_rows_value : {B : Type 0} (set : IsSet B) (f : RowOver → B) (h : (z w : RowOver) → AreSame z w → f z ≡ f w) (z : RowOver) → from_rows set f h (function z) ≡ f z
+  pub from_rows_value : {B : Type 0} (set : IsSet B) (f : RowOver → B) (h : (z w : RowOver) → AreSame z w → f z ≡ f w)
+      (z : RowOver) → from_rows set f h (function z) ≡ f z
   unfolding from_rows function
   from_rows_value set f h z = refl
 
@@ -122,7 +127,8 @@ module _ {k : CodeField} (c : Equation k) where
   one_function = one_pair ring_of_x (polynomials_domain k) c.lower_degree c.coefficients
 
   -- v/d
-  abbrev pub over : Row (Polynomial k) (suc c.lower_degree) → (d : Polynomial k) → ¬ (d ≡ (polynomials k).𝟘) → FunctionOf
+  abbrev pub over : Row (Polynomial k) (suc c.lower_degree) → (d : Polynomial k) → ¬ (d ≡ (polynomials k).𝟘)
+      → FunctionOf
   over v d n = function (record { num = v; den = d; den_not_zero = n })
 
   -- the polynomial a, as a row
@@ -133,7 +139,8 @@ module _ {k : CodeField} (c : Equation k) where
   of_poly a = over (row_of a) (polynomials k).𝟙 ((polynomials_domain k).one_not_zero)
 
   abbrev pub y_of : FunctionOf
-  y_of = over (times_y ring_of_x.ops (suc c.lower_degree) c.coefficients (row_one ring_of_x c.lower_degree)) (polynomials k).𝟙 ((polynomials_domain k).one_not_zero)
+  y_of = over (times_y ring_of_x.ops (suc c.lower_degree) c.coefficients (row_one ring_of_x c.lower_degree))
+      (polynomials k).𝟙 ((polynomials_domain k).one_not_zero)
 
   -- the codes of k
   pub record IsCode (z : FunctionOf) : Type 0 where
@@ -176,12 +183,14 @@ module _ {k : CodeField} (c : Equation k) where
       (row_scale_zero ring_of_x c.lower_degree w.den ∙ sym (row_scale_zero ring_of_x c.lower_degree z.den))
 
   pub trace_of : FunctionOf → FunctionOf
-  trace_of = from_rows ring_of.is_set (λ z. function (pair_trace z)) (λ z w h. function_eq (pair_trace z) (pair_trace w) (pair_trace_same z w h))
+  trace_of = from_rows ring_of.is_set (λ z. function (pair_trace z))
+      (λ z w h. function_eq (pair_trace z) (pair_trace w) (pair_trace_same z w h))
 
   pub trace_function : (z : RowOver) → trace_of (function z) ≡ function (pair_trace z)
   unfolding trace_of
   trace_function z =
-      from_rows_value ring_of.is_set (λ z. function (pair_trace z)) (λ z w h. function_eq (pair_trace z) (pair_trace w) (pair_trace_same z w h)) z
+      from_rows_value ring_of.is_set (λ z. function (pair_trace z))
+      (λ z w h. function_eq (pair_trace z) (pair_trace w) (pair_trace_same z w h)) z
 
   abbrev pub setting_of : Setting FunctionOf
   setting_of = record {

@@ -7,6 +7,7 @@ use Rattle.function_field.specs.Values.{PresValue, ElemValue, Functions, functio
 use Rattle.function_field.specs.Infinity.{function_on}
 
 module _ (k : CodeField) (p : PresValue) where
-  -- z is a combination, over the fractions of degree at most 0, of the functions that these elements of the infinite presentation stand for
+  -- z is a combination, over the fractions of degree at most 0, of the functions that these elements of the infinite
+  -- presentation stand for
   abbrev pub InInfiniteSpan : ℕ → List ElemValue → Functions k p → Type 0
   InInfiniteSpan c zs = Span (functions k p).ops ((setting k p).IsScalar Infinite) (map (function_on k p c Infinite) zs)

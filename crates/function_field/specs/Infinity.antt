@@ -39,18 +39,21 @@ module _ (k : CodeField) (p : PresValue) where
 
   abbrev pub generator : ℕ → Side → Functions k p
   generator c Finite = y_of (equation_of k p)
-  generator c Infinite = (functions k p).◌⊗◌ (y_of (equation_of k p)) (pow (functions k p).ops ((setting k p).one_over_x) c)
+  generator c Infinite = (functions k p).◌⊗◌ (y_of (equation_of k p))
+      (pow (functions k p).ops ((setting k p).one_over_x) c)
 
   -- the element of a side's presentation stands for the function w: d times w is the sum of v_i·Y^i
   abbrev pub StandsFor : ℕ → Side → ElemValue → Functions k p → Type 0
   StandsFor c s z w =
       (functions k p).◌⊗◌ (value_at (variable s) z.den) w ≡ row_value_at (variable s) (generator c s) z.num
 
-  -- 1/d, where the codes of d are read at the variable of the side: d(1/x) times x^m is the reversed d at x, for m + 1 codes
+  -- 1/d, where the codes of d are read at the variable of the side: d(1/x) times x^m is the reversed d at x, for m + 1
+  -- codes
   abbrev pub inverse_at : Side → List ℕ → Functions k p
   inverse_at Finite d = function_of k p (record { num = (1 ∷ []) ∷ []; den = d })
   inverse_at Infinite d =
-      (functions k p).◌⊗◌ ((functions k p).◌⊗◌ (pow (functions k p).ops ((setting k p).x) (length d)) ((setting k p).one_over_x))
+      (functions k p).◌⊗◌ ((functions k p).◌⊗◌ (pow (functions k p).ops ((setting k p).x) (length d))
+      ((setting k p).one_over_x))
       (function_of k p (record { num = (1 ∷ []) ∷ []; den = reverse d }))
 
   -- the function that an element of a side's presentation stands for
@@ -70,4 +73,5 @@ module _ (k : CodeField) (p : PresValue) where
     pub coefficients :
         (i : ℕ) → i < p.n
         → value_at (variable Infinite) (get_or q.coeffs i [])
-        ≡ (functions k p).◌⊗◌ (value_at (variable Finite) (get_or p.coeffs i [])) (pow (functions k p).ops (variable Infinite) (c * (p.n - i)))
+        ≡ (functions k p).◌⊗◌ (value_at (variable Finite) (get_or p.coeffs i []))
+        (pow (functions k p).ops (variable Infinite) (c * (p.n - i)))

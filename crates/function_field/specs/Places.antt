@@ -28,7 +28,8 @@ module _ {E : Type 0} (S : Setting E) where
     pub integral : (z : E) → IsIn P z → IsIntegralAt P.side z
     pub ideal : (z w : E) → IsIntegralAt P.side z → IsIn P w → IsIn P (z ⊗ w)
     pub proper : ¬ IsIn P 𝟙
-    pub inverse : (z : E) → IsIntegralAt P.side z → ¬ IsIn P z → (w : E) × IsIntegralAt P.side w × IsIn P (minus ops (z ⊗ w) 𝟙)
+    pub inverse : (z : E) → IsIntegralAt P.side z → ¬ IsIn P z
+        → (w : E) × IsIntegralAt P.side w × IsIn P (minus ops (z ⊗ w) 𝟙)
 
   pub record IsSamePlace (P Q : Place E) : Type 0 where
     pub side : P.side ≡ Q.side

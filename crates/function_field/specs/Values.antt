@@ -61,15 +61,22 @@ module _ (k : CodeField) where
 
 module _ {k : CodeField} (c : Equation k) where
   -- v over d, and over 1 where d is 0
-  unfoldable pub over_checked : Row (Polynomial k) (suc c.lower_degree) → (d : Polynomial k) → Dec (d ≡ (polynomials k).𝟘) → RowOver c
-  over_checked v d (yes e) = record { num = v; den = (polynomials k).𝟙; den_not_zero = (polynomials_domain k).one_not_zero }
+  unfoldable pub over_checked : Row (Polynomial k) (suc c.lower_degree) → (d : Polynomial k)
+      → Dec (d ≡ (polynomials k).𝟘) → RowOver c
+  over_checked v d (yes e) = record {
+    num = v;
+    den = (polynomials k).𝟙;
+    den_not_zero =
+        (polynomials_domain k).one_not_zero;
+  }
   over_checked v d (no n) = record { num = v; den = d; den_not_zero = n }
 
 module _ (k : CodeField) where
   -- the row over a polynomial that an element is, with 1 in place of a denominator 0
   unfoldable pub row_over : (p : PresValue) → ElemValue → RowOver (equation_of k p)
   row_over p z =
-      over_checked (equation_of k p) (row_of_list k (suc (p.n - 1)) z.num) (value k z.den) (polynomial_discrete k (value k z.den) (polynomials k).𝟘)
+      over_checked (equation_of k p) (row_of_list k (suc (p.n - 1)) z.num) (value k z.den)
+      (polynomial_discrete k (value k z.den) (polynomials k).𝟘)
 
   -- the function that an element stands for
   abbrev pub function_of : (p : PresValue) → ElemValue → FunctionOf (equation_of k p)

@@ -57,7 +57,8 @@ module _ {k : CodeField} (c : Equation k) where
       (All-head O w ws j))
       (combination_in O 𝓞 base ds ws (All-tail (IsCode c) d ds h) (All-tail O w ws j))
 
-  module _ (some : ¬ (discriminant c ≡ (polynomials k).𝟘)) (p : Polynomial k) (h : IsIrreducibleList k.ops (codes_of k p))
+  module _ (some : ¬ (discriminant c ≡ (polynomials k).𝟘)) (p : Polynomial k)
+      (h : IsIrreducibleList k.ops (codes_of k p))
       (O : FunctionOf c → Type 0) (𝓞 : IsOrder c O) (ps : List (RecordedPrime c O)) (valid : IsRecordAt c O p ps) where
     abbrev I : Type 0
     I = RecordedPrime c O

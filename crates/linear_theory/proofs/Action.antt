@@ -62,7 +62,8 @@ module _ {A V : Type 0} {R : CommRing A} (M : Module R V) (X : V → V) (X_linea
       ∙ ap₂ ◌⊞◌ (act_scaled a q v) (ap₂ ◌⊞◌ (M.zero_scale v) (ap X (act_times p q v)) ∙ zero_plus M _)
 
   -- the value as a combination of v, X v, ..
-  power_shift : (c : ℕ → A) (n : ℕ) (v : V) → X (combine M.ops c (powers_at X n v)) ≡ combine M.ops c (powers_at X n (X v))
+  power_shift : (c : ℕ → A) (n : ℕ) (v : V)
+      → X (combine M.ops c (powers_at X n v)) ≡ combine M.ops c (powers_at X n (X v))
   power_shift c zero v = X_zero
   power_shift c (suc n) v = X_linear (c 0) v _ ∙ ap (λ x. c 0 • X v ⊞ x) (power_shift (λ i. c (suc i)) n (X v))
 
@@ -71,7 +72,8 @@ module _ {A V : Type 0} {R : CommRing A} (M : Module R V) (X : V → V) (X_linea
   act_combine (a ∷ p) v = ap (λ x. a • v ⊞ x) (ap X (act_combine p v) ∙ power_shift (coeff_of R.ops p) (length p) v)
 
   -- values of members of a stable subspace
-  pub act_in : (U : V → Type 0) → IsSubspace M.ops U → ((v : V) → U v → U (X v)) → (p : List A) (v : V) → U v → U (act M.ops X p v)
+  pub act_in : (U : V → Type 0) → IsSubspace M.ops U → ((v : V) → U v → U (X v)) → (p : List A) (v : V) → U v
+      → U (act M.ops X p v)
   act_in U 𝓤 stable [] v h = 𝓤.zero_in
   act_in U 𝓤 stable (a ∷ p) v h = 𝓤.sum_in _ _ (𝓤.scale_in a v h) (stable _ (act_in U 𝓤 stable p v h))
 

@@ -72,12 +72,14 @@ module _ {A V : Type 0} (K : Field A) (M : Module K.ring V) where
 
         divided : (d : A) → d ≡ (d ⊗ inverse_of K a) ⊗ a
         divided d =
-            sym (R.mul_one d) ∙ ap (λ y. d ⊗ y) (sym (inverse_is K a nonzero) ∙ R.mul_comm _ _) ∙ sym (R.mul_assoc _ _ _)
+            sym (R.mul_one d) ∙ ap (λ y. d ⊗ y) (sym (inverse_is K a nonzero) ∙ R.mul_comm _ _)
+            ∙ sym (R.mul_assoc _ _ _)
 
         step : (s a : A) (p x x' t t' : V)
             → ((s ⊗ a) • p ⊞ x') ⊞ t' ≡ (s • ((a • p ⊞ x) ⊞ t) ⊞ (⊖ s • x ⊞ x')) ⊞ (t' ⊞ ⊖ s • t)
         step s a p x x' t t' =
-            linear M (scalar M s ∷ scalar M a ∷ vector M p ∷ vector M x ∷ vector M x' ∷ vector M t ∷ vector M t' ∷ []) λ q y.
+            linear M (scalar M s ∷ scalar M a ∷ vector M p ∷ vector M x ∷ vector M x' ∷ vector M t ∷ vector M t' ∷ []) λ
+            q y.
             simp (parts, reads, q, y 0, y 1, y 2, y 3, y 4, y 5, y 6) (q.equal _ _ refl)
 
         spans : (w : V) → IsCombination M.ops U ws w → IsCombination M.ops U (v ∷ others) w
@@ -117,12 +119,14 @@ module _ {A V : Type 0} (K : Field A) (M : Module K.ring V) where
               | zero ↦ λ k. first
               | suc j ↦ λ k.
                   sym (zero_add R _)
-                  ∙ ap (λ z. z ⊕ e (suc j)) (sym (ap (λ z. z ⊗ omit i c j) first ∙ zero_mul R _)) ∙ both.1 j (omega arith)
+                  ∙ ap (λ z. z ⊕ e (suc j)) (sym (ap (λ z. z ⊗ omit i c j) first ∙ zero_mul R _))
+                  ∙ both.1 j (omega arith)
             ]
 
     independent_tail : (v : V) (vs : List V) → IsIndependent R.ops M.ops U (v ∷ vs) → IsIndependent R.ops M.ops U vs
     independent_tail v vs free c m i l =
-        free (insert 0 𝟘 c) (subst U (sym (ap (λ x. x ⊞ combine M.ops c vs) (M.zero_scale v) ∙ zero_plus M _)) m) (suc i) (omega arith)
+        free (insert 0 𝟘 c) (subst U (sym (ap (λ x. x ⊞ combine M.ops c vs) (M.zero_scale v) ∙ zero_plus M _)) m)
+        (suc i) (omega arith)
 
     -- an independent list and members of a basis that make a basis together
     pub record Completion (P : V → Type 0) (vs ws : List V) : Type 0 where
@@ -155,7 +159,8 @@ module _ {A V : Type 0} (K : Field A) (M : Module K.ring V) where
         go r k (first_nonzero (domain_of K) (λ j. k.coefficient (length vs + j)) (length r.others))
       where
         go : (r : Completion P vs ws) (k : IsCombination M.ops U (vs ++ r.others) v)
-            → ((i : ℕ) × (i < length r.others) × (¬ (k.coefficient (length vs + i) ≡ 𝟘)) × ((j : ℕ) → j < i → k.coefficient (length vs + j) ≡ 𝟘))
+            → ((i : ℕ) × (i < length r.others) × (¬ (k.coefficient (length vs + i) ≡ 𝟘))
+            × ((j : ℕ) → j < i → k.coefficient (length vs + j) ≡ 𝟘))
             ⊎ ((i : ℕ) → i < length r.others → k.coefficient (length vs + i) ≡ 𝟘)
             → Completion P (v ∷ vs) ws
         go r k (inl f) =
@@ -177,6 +182,7 @@ module _ {A V : Type 0} (K : Field A) (M : Module K.ring V) where
               is =
                   k.is ∙ ap (λ x. x ⊞ k.rest)
                   (combine_append M k.coefficient vs r.others
-                  ∙ ap (λ x. combine M.ops k.coefficient vs ⊞ x) (combine_none M (λ i. k.coefficient (length vs + i)) r.others none)
+                  ∙ ap (λ x. combine M.ops k.coefficient vs ⊞ x)
+                  (combine_none M (λ i. k.coefficient (length vs + i)) r.others none)
                   ∙ M.add_zero _);
             }))

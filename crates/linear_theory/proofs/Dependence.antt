@@ -29,7 +29,8 @@ length_front zero xs l = refl
 length_front (suc n) [] l = absurd (omega arith)
 length_front (suc n) (x ∷ xs) l = ap suc (length_front n xs (omega arith))
 
-pub front_more : {X : Type 0} (d : X) (n : ℕ) (xs : List X) → n < length xs → front (suc n) xs ≡ front n xs ++ entry d xs n ∷ []
+pub front_more : {X : Type 0} (d : X) (n : ℕ) (xs : List X) → n < length xs
+    → front (suc n) xs ≡ front n xs ++ entry d xs n ∷ []
 front_more d n [] l = absurd (omega arith)
 front_more d zero (x ∷ xs) l = refl
 front_more d (suc n) (x ∷ xs) l = ap (λ ys. x ∷ ys) (front_more d n xs (omega arith))
@@ -59,7 +60,8 @@ module _ {A V : Type 0} {R : CommRing A} (M : Module R V) (U : V → Type 0) (�
   open R use {𝟘, 𝟙, ◌⊕◌, ◌⊗◌, ⊖◌}
 
   -- the coefficients of a combination of independent vectors
-  pub coefficients_unique : (ws : List V) → IsIndependent R.ops M.ops U ws → (v : V) → (h k : IsCombination M.ops U ws v)
+  pub coefficients_unique : (ws : List V) → IsIndependent R.ops M.ops U ws → (v : V)
+      → (h k : IsCombination M.ops U ws v)
       → (i : ℕ) → i < length ws → h.coefficient i ≡ k.coefficient i
   coefficients_unique ws free v h k i l =
       sym (eq_of_sub R (k.coefficient i) (h.coefficient i)
@@ -74,9 +76,11 @@ module _ {A V : Type 0} {R : CommRing A} (M : Module R V) (U : V → Type 0) (�
       step : (x t y s : V) → x ⊞ t ≡ y ⊞ s → ⊖ 𝟙 • x ⊞ y ≡ t ⊞ ⊖ 𝟙 • s
       step x t y s e =
           let f : ⊖ 𝟙 • x ⊞ y ≡ (⊖ 𝟙 • x ⊞ (y ⊞ s)) ⊞ ⊖ 𝟙 • s
-          = linear M (vector M x ∷ vector M y ∷ vector M s ∷ []) λ q z. simp (parts, reads, q, z 0, z 1, z 2) (q.equal _ _ refl) in
+          = linear M (vector M x ∷ vector M y ∷ vector M s ∷ []) λ q z. simp (parts, reads, q, z 0, z 1, z 2)
+          (q.equal _ _ refl) in
           let g : (⊖ 𝟙 • x ⊞ (x ⊞ t)) ⊞ ⊖ 𝟙 • s ≡ t ⊞ ⊖ 𝟙 • s
-          = linear M (vector M x ∷ vector M t ∷ vector M s ∷ []) λ q z. simp (parts, reads, q, z 0, z 1, z 2) (q.equal _ _ refl) in
+          = linear M (vector M x ∷ vector M t ∷ vector M s ∷ []) λ q z. simp (parts, reads, q, z 0, z 1, z 2)
+          (q.equal _ _ refl) in
           f ∙ ap (λ z. (⊖ 𝟙 • x ⊞ z) ⊞ ⊖ 𝟙 • s) (sym e) ∙ g
 
       m : U (combine M.ops d ws)
@@ -89,11 +93,13 @@ module _ {A V : Type 0} {R : CommRing A} (M : Module R V) (U : V → Type 0) (�
   independent_left us vs free c m i l =
       sym (join_left (length us) c (λ i. 𝟘) i l)
       ∙ free (join (length us) c (λ i. 𝟘))
-      (subst U (sym (combine_join M c (λ i. 𝟘) us vs ∙ ap (λ x. combine M.ops c us ⊞ x) (combine_zero M vs) ∙ M.add_zero _)) m) i
+      (subst U (sym (combine_join M c (λ i. 𝟘) us vs ∙ ap (λ x. combine M.ops c us ⊞ x) (combine_zero M vs)
+      ∙ M.add_zero _)) m) i
       (subst (λ n. i < n) (sym (length-append us vs)) (omega arith))
 
   -- the last member of an independent list is no combination of the others
-  pub last_not_combination : ¬ (𝟙 ≡ 𝟘) → (vs : List V) (v : V) → IsIndependent R.ops M.ops U (vs ++ v ∷ []) → ¬ IsCombination M.ops U vs v
+  pub last_not_combination : ¬ (𝟙 ≡ 𝟘) → (vs : List V) (v : V) → IsIndependent R.ops M.ops U (vs ++ v ∷ [])
+      → ¬ IsCombination M.ops U vs v
   last_not_combination one vs v free h =
       one (sym (join_right n d one_there 0)
       ∙ free (join n d one_there) (subst U (sym e) h.rest_in) (n + 0)
@@ -147,7 +153,8 @@ module _ {A V : Type 0} (K : Field A) (M : Module K.ring V) (U : V → Type 0) (
       step : (x v : V) (a b : A) → a ⊗ b ≡ 𝟙 → v ≡ ⊖ b • x ⊞ b • (x ⊞ (a • v ⊞ 𝟬))
       step x v a b e =
           let f : ⊖ b • x ⊞ b • (x ⊞ (a • v ⊞ 𝟬)) ≡ (a ⊗ b) • v
-          = linear M (vector M x ∷ vector M v ∷ scalar M a ∷ scalar M b ∷ []) λ q y. simp (parts, reads, q, y 0, y 1, y 2, y 3) (q.equal _ _ refl) in
+          = linear M (vector M x ∷ vector M v ∷ scalar M a ∷ scalar M b ∷ []) λ q y. simp
+          (parts, reads, q, y 0, y 1, y 2, y 3) (q.equal _ _ refl) in
           sym (M.one_scale v) ∙ ap (λ y. y • v) (sym e) ∙ sym f
 
       last : Dec (c (n + 0) ≡ 𝟘) → c (n + 0) ≡ 𝟘
@@ -167,7 +174,8 @@ module _ {A V : Type 0} (K : Field A) (M : Module K.ring V) (U : V → Type 0) (
       all d (inl k) =
           free c
           (subst U
-          (ap (λ x. combine M.ops c vs ⊞ (x • v ⊞ 𝟬)) (last d) ∙ ap (λ x. combine M.ops c vs ⊞ x) (M.add_zero _ ∙ M.zero_scale v)
+          (ap (λ x. combine M.ops c vs ⊞ (x • v ⊞ 𝟬)) (last d)
+          ∙ ap (λ x. combine M.ops c vs ⊞ x) (M.add_zero _ ∙ M.zero_scale v)
           ∙ M.add_zero _) m') i k
       all d (inr k) =
           let b : i < n + 1 = subst (λ k. i < k) (length-append vs (v ∷ [])) l in
@@ -175,11 +183,13 @@ module _ {A V : Type 0} (K : Field A) (M : Module K.ring V) (U : V → Type 0) (
 
   -- a list is independent exactly where no member is a combination of the earlier ones
   pub independent_of_none : (n : ℕ) (rows : List V) → n ≤ length rows
-      → ((i : ℕ) → i < n → ¬ IsCombination M.ops U (front i rows) (entry 𝟬 rows i)) → IsIndependent R.ops M.ops U (front n rows)
+      → ((i : ℕ) → i < n → ¬ IsCombination M.ops U (front i rows) (entry 𝟬 rows i))
+      → IsIndependent R.ops M.ops U (front n rows)
   independent_of_none zero rows l h = λ c m i k. absurd (omega arith)
   independent_of_none (suc n) rows l h =
       subst (IsIndependent R.ops M.ops U) (sym (front_more 𝟬 n rows l))
-      (independent_more (front n rows) (entry 𝟬 rows n) (independent_of_none n rows (omega arith) (λ i k. h i (omega arith)))
+      (independent_more (front n rows) (entry 𝟬 rows n)
+      (independent_of_none n rows (omega arith) (λ i k. h i (omega arith)))
       (h n (omega arith)))
 
   pub none_of_independent : (rows : List V) → IsIndependent R.ops M.ops U rows → (i : ℕ) → i < length rows
@@ -209,7 +219,8 @@ module _ {A V : Type 0} (K : Field A) (M : Module K.ring V) (U : V → Type 0) (
             k : IsCombination M.ops U (vs ++ r.others) v
             k = r.basis.spanning v v_in
 
-            decide : ((i : ℕ) × (i < length r.others) × (¬ (k.coefficient (length vs + i) ≡ 𝟘)) × ((j : ℕ) → j < i → k.coefficient (length vs + j) ≡ 𝟘))
+            decide : ((i : ℕ) × (i < length r.others) × (¬ (k.coefficient (length vs + i) ≡ 𝟘))
+                × ((j : ℕ) → j < i → k.coefficient (length vs + j) ≡ 𝟘))
                 ⊎ ((i : ℕ) → i < length r.others → k.coefficient (length vs + i) ≡ 𝟘) → Dec (IsCombination M.ops U vs v)
             decide (inr none) =
                 yes (record {
@@ -219,7 +230,8 @@ module _ {A V : Type 0} (K : Field A) (M : Module K.ring V) (U : V → Type 0) (
                   is =
                       k.is ∙ ap (λ x. x ⊞ k.rest)
                       (combine_append M k.coefficient vs r.others
-                      ∙ ap (λ x. combine M.ops k.coefficient vs ⊞ x) (combine_none M (λ i. k.coefficient (length vs + i)) r.others none)
+                      ∙ ap (λ x. combine M.ops k.coefficient vs ⊞ x)
+                      (combine_none M (λ i. k.coefficient (length vs + i)) r.others none)
                       ∙ M.add_zero _);
                 })
             decide (inl p) =
@@ -245,18 +257,21 @@ module _ {A V : Type 0} (K : Field A) (M : Module K.ring V) (U : V → Type 0) (
     first_dependent rows h zero l = inr (λ c m i k. absurd (omega arith))
     first_dependent rows h (suc n) l = go (first_dependent rows h n (omega arith))
       where
-        next : (free : IsIndependent R.ops M.ops U (front n rows)) → Dec (IsCombination M.ops U (front n rows) (entry 𝟬 rows n))
+        next : (free : IsIndependent R.ops M.ops U (front n rows))
+            → Dec (IsCombination M.ops U (front n rows) (entry 𝟬 rows n))
             → FirstDependent rows ⊎ IsIndependent R.ops M.ops U (front (suc n) rows)
         next free (yes k) = inl (record { position = n; position_below = l; independent = free; combination = k })
         next free (no k) =
-            inr (subst (IsIndependent R.ops M.ops U) (sym (front_more 𝟬 n rows l)) (independent_more (front n rows) (entry 𝟬 rows n) free k))
+            inr (subst (IsIndependent R.ops M.ops U) (sym (front_more 𝟬 n rows l))
+            (independent_more (front n rows) (entry 𝟬 rows n) free k))
 
         go : FirstDependent rows ⊎ IsIndependent R.ops M.ops U (front n rows)
             → FirstDependent rows ⊎ IsIndependent R.ops M.ops U (front (suc n) rows)
         go (inl f) = inl f
         go (inr free) =
             next free
-            (decide_combination (front n rows) (All_front W n rows h) free (entry 𝟬 rows n) (All_entry W 𝟬 rows n h (omega arith)))
+            (decide_combination (front n rows) (All_front W n rows h) free (entry 𝟬 rows n)
+            (All_entry W 𝟬 rows n h (omega arith)))
 
 -- rows with 1 at a pivot that is 0 in the later rows: a member that is 0 at all pivots is 0
 pub record IsTriangular {A : Type 0} (R : CommRing A) (width : ℕ) (rows : List (ℕ → A)) (pivot : ℕ → ℕ) : Type 0 where
@@ -264,7 +279,8 @@ pub record IsTriangular {A : Type 0} (R : CommRing A) (width : ℕ) (rows : List
   pub pivot_one : (i : ℕ) → i < length rows → row R.ops rows i (pivot i) ≡ R.𝟙
   pub later_zero : (i j : ℕ) → i < length rows → j < i → row R.ops rows i (pivot j) ≡ R.𝟘
 
-pub zero_at_pivots : {A : Type 0} (R : CommRing A) (width : ℕ) (rows : List (ℕ → A)) (pivot : ℕ → ℕ) → IsTriangular R width rows pivot
+pub zero_at_pivots : {A : Type 0} (R : CommRing A) (width : ℕ) (rows : List (ℕ → A)) (pivot : ℕ → ℕ)
+    → IsTriangular R width rows pivot
     → (c : ℕ → A) → ((i : ℕ) → i < length rows → combine (sequence_ops R.ops) c rows (pivot i) ≡ R.𝟘)
     → (j : ℕ) → j < width → combine (sequence_ops R.ops) c rows j ≡ R.𝟘
 zero_at_pivots R width [] pivot t c h j l = refl
@@ -282,7 +298,8 @@ zero_at_pivots {A} R width (r ∷ rows) pivot t c h j l =
     first : c 0 ≡ R.𝟘
     first =
         sym (ap₂ (λ x y. R.◌⊕◌ (R.◌⊗◌ (c 0) x) y) (t.pivot_one 0 (omega arith))
-        (column_none R (λ i. c (suc i)) rows (pivot 0) (λ m k. ap (λ x. R.◌⊗◌ (c (suc m)) x) (t.later_zero (suc m) 0 (omega arith) (omega arith)) ∙ mul_zero R _))
+        (column_none R (λ i. c (suc i)) rows (pivot 0)
+        (λ m k. ap (λ x. R.◌⊗◌ (c (suc m)) x) (t.later_zero (suc m) 0 (omega arith) (omega arith)) ∙ mul_zero R _))
         ∙ R.add_zero _ ∙ R.mul_one _)
         ∙ h 0 (omega arith)
 

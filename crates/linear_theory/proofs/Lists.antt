@@ -13,7 +13,8 @@ insert_here zero x c = refl
 insert_here (suc i) x c = insert_here i x (λ k. c (suc k))
 
 -- the terms of c are terms of the sequence with one more
-pub insert_there : {A : Type 0} (i : ℕ) (x : A) (c : ℕ → A) (n j : ℕ) → j < n → (k : ℕ) × (k < suc n) × (insert i x c k ≡ c j)
+pub insert_there : {A : Type 0} (i : ℕ) (x : A) (c : ℕ → A) (n j : ℕ) → j < n
+    → (k : ℕ) × (k < suc n) × (insert i x c k ≡ c j)
 insert_there zero x c n j l = (suc j, omega arith, refl)
 insert_there (suc i) x c n zero l = (0, omega arith, refl)
 insert_there (suc i) x c zero (suc j) l = absurd (omega arith)
@@ -45,22 +46,30 @@ All_remove P (suc i) (x ∷ xs) h = All-cons P x (remove i xs) (All-head P x xs 
 
 pub remove_append : {X : Type 0} (us vs : List X) (j : ℕ) → remove (length us + j) (us ++ vs) ≡ us ++ remove j vs
 remove_append [] vs j = ap (λ k. remove k vs) (zero-add j)
-remove_append (u ∷ us) vs j = ap (λ k. remove k (u ∷ us ++ vs)) (suc-add (length us) j) ∙ ap (λ x. u ∷ x) (remove_append us vs j)
+remove_append (u ∷ us) vs j = ap (λ k. remove k (u ∷ us ++ vs)) (suc-add (length us) j)
+    ∙ ap (λ x. u ∷ x) (remove_append us vs j)
 
 -- the terms of the longer sequence: the one put in, and those of c
 pub insert_split : {A : Type 0} (P : A → Type 0) (i : ℕ) (x : A) (c : ℕ → A) (n : ℕ) → i < suc n
     → ((k : ℕ) → k < suc n → P (insert i x c k)) → P x × ((j : ℕ) → j < n → P (c j))
-insert_split P i x c n l h = (subst P (insert_here i x c) (h i l), λ j k. let r = insert_there i x c n j k in subst P r.2 (h r.0 r.1))
+insert_split P i x c n l h = (
+  subst P (insert_here i x c) (h i l),
+  λ j k. let r = insert_there i x c n j k in subst P
+      r.2 (h r.0 r.1),
+)
 
-pub All_entry : {X : Type 0} (P : X → Type 0) (d : X) (xs : List X) (i : ℕ) → All P xs → i < length xs → P (entry d xs i)
+pub All_entry : {X : Type 0} (P : X → Type 0) (d : X) (xs : List X) (i : ℕ) → All P xs → i < length xs
+    → P (entry d xs i)
 All_entry P d [] i h l = absurd (omega arith)
 All_entry P d (x ∷ xs) zero h l = All-head P x xs h
 All_entry P d (x ∷ xs) (suc i) h l = All_entry P d xs i (All-tail P x xs h) (omega arith)
 
-pub All_both : {X : Type 0} (P Q S : X → Type 0) → ((x : X) → P x → Q x → S x) → (xs : List X) → All P xs → All Q xs → All S xs
+pub All_both : {X : Type 0} (P Q S : X → Type 0) → ((x : X) → P x → Q x → S x) → (xs : List X) → All P xs → All Q xs
+    → All S xs
 All_both P Q S f [] h k = All-nil S
 All_both P Q S f (x ∷ xs) h k =
-    All-cons S x xs (f x (All-head P x xs h) (All-head Q x xs k)) (All_both P Q S f xs (All-tail P x xs h) (All-tail Q x xs k))
+    All-cons S x xs (f x (All-head P x xs h) (All-head Q x xs k))
+    (All_both P Q S f xs (All-tail P x xs h) (All-tail Q x xs k))
 
 -- a member of a list without one member is a member of the list
 pub remove_entry : {X : Type 0} (d : X) (xs : List X) (i j : ℕ) → i < length xs → j < length (remove i xs)

@@ -50,8 +50,11 @@ smaller n = All_both (λ y. y < suc n) (λ y. ¬ (y ≡ n)) (λ y. y < n) (λ y 
 left_below : (n : ℕ) (xs : List ℕ) (i : ℕ) → i < length xs → entry 0 xs i ≡ n → Distinct xs → All (λ y. y < suc n) xs
     → Distinct (remove i xs) × All (λ y. y < n) (remove i xs)
 left_below n xs i l e apart h =
-    let k = distinct_remove 0 xs i l apart in
-    (k.0, smaller n (remove i xs) (All_remove (λ y. y < suc n) i xs h) (subst (λ m. All (λ y. ¬ (y ≡ m)) (remove i xs)) e k.1))
+    let k = distinct_remove 0 xs i l apart in (
+      k.0,
+      smaller n (remove i xs) (All_remove (λ y. y < suc n) i xs h)
+          (subst (λ m. All (λ y. ¬ (y ≡ m)) (remove i xs)) e k.1),
+    )
 
 pub distinct_below : (n : ℕ) (xs : List ℕ) → Distinct xs → All (λ y. y < n) xs → length xs ≤ n
 distinct_below zero [] apart h = omega arith
@@ -93,7 +96,8 @@ product_of_all M g zero (x ∷ xs) apart h e = absurd (omega arith)
 product_of_all M g (suc n) xs apart h e = go (position_of n xs) (product_of_all M g n)
   where
     go : ((i : ℕ) × (i < length xs) × (entry 0 xs i ≡ n)) ⊎ All (λ y. ¬ (y ≡ n)) xs
-        → ((ys : List ℕ) → Distinct ys → All (λ y. y < n) ys → length ys ≡ n → product_over M ys g ≡ product_below M n g)
+        → ((ys : List ℕ) → Distinct ys → All (λ y. y < n) ys → length ys ≡ n
+        → product_over M ys g ≡ product_below M n g)
         → product_over M xs g ≡ M.◌·◌ (g n) (product_below M n g)
     go (inl p) ih =
         let k = left_below n xs p.0 p.1 p.2 apart h in

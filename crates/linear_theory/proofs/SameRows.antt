@@ -20,14 +20,16 @@ module _ {A B : Type 0} (R : Operations A) (S : Operations B) (width : ℕ) (row
   reduced_across r = record {
     rank = r.rank;
     rank_within = subst (λ n. r.rank ≤ n) (sym count) r.rank_within;
-    zero_rows = λ i j a b k. zero_at i j (subst (λ n. i < n) count b) k (r.zero_rows i j a (subst (λ n. i < n) count b) k);
+    zero_rows = λ i j a b k. zero_at i j (subst (λ n. i < n) count b) k
+        (r.zero_rows i j a (subst (λ n. i < n) count b) k);
     pivot = r.pivot;
     pivot_below = r.pivot_below;
     increasing = r.increasing;
     left_zero = λ i j l k. zero_at i j (row_below r i l) (left_below r i j l k) (r.left_zero i j l k);
     pivot_one = λ i l. one_at i (r.pivot i) (row_below r i l) (r.pivot_below i l) (r.pivot_one i l);
     column_zero = λ i l a b ne.
-        zero_at l (r.pivot i) (subst (λ n. l < n) count b) (r.pivot_below i a) (r.column_zero i l a (subst (λ n. l < n) count b) ne);
+        zero_at l (r.pivot i) (subst (λ n. l < n) count b) (r.pivot_below i a)
+        (r.column_zero i l a (subst (λ n. l < n) count b) ne);
   }
 
 module _ {A : Type 0} (R : CommRing A) where
@@ -60,7 +62,8 @@ module _ {A : Type 0} (R : CommRing A) where
     }
 
     -- what has the row space of the first has that of the second
-    pub same_of_entries : (others : List (ℕ → A)) → SameRowSpace R.ops width rows others → SameRowSpace R.ops width rows' others
+    pub same_of_entries : (others : List (ℕ → A)) → SameRowSpace R.ops width rows others
+        → SameRowSpace R.ops width rows' others
     same_of_entries others h = record {
       first_in = λ i l.
           let k : i < length rows = subst (λ n. i < n) same.count l in
@@ -70,6 +73,8 @@ module _ {A : Type 0} (R : CommRing A) where
     }
 
   -- the form of the second list
-  abbrev pub reduced_of_entries : (width : ℕ) (rows rows' : List (ℕ → A)) → HasEntries width rows rows' → IsReduced R.ops width rows → IsReduced R.ops width rows'
+  abbrev pub reduced_of_entries : (width : ℕ) (rows rows' : List (ℕ → A)) → HasEntries width rows rows'
+      → IsReduced R.ops width rows → IsReduced R.ops width rows'
   reduced_of_entries width rows rows' same r =
-      reduced_across R.ops R.ops width rows rows' same.count (λ i j l k e. same.entry i j l k ∙ e) (λ i j l k e. same.entry i j l k ∙ e) r
+      reduced_across R.ops R.ops width rows rows' same.count (λ i j l k e. same.entry i j l k ∙ e)
+      (λ i j l k e. same.entry i j l k ∙ e) r

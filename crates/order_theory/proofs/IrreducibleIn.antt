@@ -183,7 +183,8 @@ module _ {k : CodeField} (c : Equation k) (gs : List (FunctionOf c))
           shorter_out Q Q_some (omega arith) (factor_in B Q (subst In e generator_in) (shorter_out B B_some short))
 
   -- two irreducible polynomials in the place divide each other
-  pub divides_other : (p q : Polynomial k) → IsIrreducibleList k.ops (codes_of k p) → IsIrreducibleList k.ops (codes_of k q)
+  pub divides_other : (p q : Polynomial k) → IsIrreducibleList k.ops (codes_of k p)
+      → IsIrreducibleList k.ops (codes_of k q)
       → In p → In q
       → IsDivisorIn (polynomials k).ops p q
   divides_other p q h h' p_in q_in = go (decide_divides k p h q)

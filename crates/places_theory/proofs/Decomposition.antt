@@ -19,8 +19,10 @@ use Rattle.ring_lemmas.proofs.Solver.{ring, reads, from_two}
 use Rattle.places_theory.specs.Reductions.{IsReduction, Primitive}
 
 -- two primitive idempotents are equal or have product 0
-pub primitive_pair : {B : Type 0} (Q : CommRing B) (e f : B) → IsPrimitive Q.ops e → IsPrimitive Q.ops f → (e ≡ f) ⊎ (Q.◌⊗◌ e f ≡ Q.𝟘)
-primitive_pair Q e f p r = go (p.least (Q.◌⊗◌ f e) (idem p.idempotent r.idempotent) (Q.mul_assoc f e e ∙ ap (Q.◌⊗◌ f) p.idempotent))
+pub primitive_pair : {B : Type 0} (Q : CommRing B) (e f : B) → IsPrimitive Q.ops e → IsPrimitive Q.ops f
+    → (e ≡ f) ⊎ (Q.◌⊗◌ e f ≡ Q.𝟘)
+primitive_pair Q e f p r = go (p.least (Q.◌⊗◌ f e) (idem p.idempotent r.idempotent)
+    (Q.mul_assoc f e e ∙ ap (Q.◌⊗◌ f) p.idempotent))
     (r.least (Q.◌⊗◌ f e) (idem p.idempotent r.idempotent) (twice r.idempotent))
   where
     idem : Q.◌⊗◌ e e ≡ e → Q.◌⊗◌ f f ≡ f → Q.◌⊗◌ (Q.◌⊗◌ f e) (Q.◌⊗◌ f e) ≡ Q.◌⊗◌ f e
@@ -61,7 +63,8 @@ module _ {A B : Type 0} (R : CommRing A) (O : A → Type 0) (𝓞 : IsSubring R.
 
   -- members of O that reduce to the same differ by a multiple of p
   same : (a c : A) → O a → O c → reduce a ≡ reduce c → Multiple R.ops p O (a ⊕ ⊖ c)
-  same a c h i e = (red.kernel (a ⊕ ⊖ c) (𝓞.sum_in _ _ h (𝓞.neg_in c i))).0 (reduce_less a c h i ∙ sub_of_eq Q (reduce a) (reduce c) e)
+  same a c h i e = (red.kernel (a ⊕ ⊖ c) (𝓞.sum_in _ _ h (𝓞.neg_in c i))).0
+      (reduce_less a c h i ∙ sub_of_eq Q (reduce a) (reduce c) e)
 
   abbrev I : Type 0
   I = Primitive Q.ops
@@ -69,7 +72,8 @@ module _ {A B : Type 0} (R : CommRing A) (O : A → Type 0) (𝓞 : IsSubring R.
   abbrev pub lifted : Primitive Q.ops → A
   lifted i = lift i.0
 
-  reduce_sum : (xs : List (Primitive Q.ops)) → O (sum_over R.ops xs lifted) × (reduce (sum_over R.ops xs lifted) ≡ sum_over Q.ops xs (λ i. i.0))
+  reduce_sum : (xs : List (Primitive Q.ops))
+      → O (sum_over R.ops xs lifted) × (reduce (sum_over R.ops xs lifted) ≡ sum_over Q.ops xs (λ i. i.0))
   reduce_sum [] = (𝓞.zero_in, reduce_zero)
   reduce_sum (i ∷ xs) =
       let r = reduce_sum xs in (
@@ -99,19 +103,22 @@ module _ {A B : Type 0} (R : CommRing A) (O : A → Type 0) (𝓞 : IsSubring R.
   pub radical_iff : (a : A) → Radical R.ops O p a ↔ (O a × IsNilpotent Q.ops (reduce a))
   radical_iff a = (λ h. (h.within, reduced_nilpotent a h), λ h. of_nilpotent a h.0 h.1)
 
-  pub prime_iff : (i : Primitive Q.ops) (z : A) → PrimeAt R.ops O p (lifted i) z ↔ (O z × NilpotentAt Q.ops i.0 (reduce z))
+  pub prime_iff : (i : Primitive Q.ops) (z : A)
+      → PrimeAt R.ops O p (lifted i) z ↔ (O z × NilpotentAt Q.ops i.0 (reduce z))
   prime_iff i z = (
     λ h. (h.within, subst (IsNilpotent Q.ops) (at h.within) (reduced_nilpotent (z ⊗ lift i.0) h.nilpotent)),
     λ h. record {
       within = h.0;
-      nilpotent = of_nilpotent (z ⊗ lift i.0) (𝓞.product_in _ _ h.0 (red.lift_in i.0)) (subst (IsNilpotent Q.ops) (sym (at h.0)) h.1);
+      nilpotent = of_nilpotent (z ⊗ lift i.0) (𝓞.product_in _ _ h.0 (red.lift_in i.0))
+          (subst (IsNilpotent Q.ops) (sym (at h.0)) h.1);
     },
   )
     where
       at : O z → reduce (z ⊗ lift i.0) ≡ Q.◌⊗◌ (reduce z) i.0
       at h = red.mul z (lift i.0) h (red.lift_in i.0) ∙ ap (Q.◌⊗◌ (reduce z)) (red.reduce_lift i.0)
 
-  module _ (K : B → Type 0) (𝓐 : FiniteAlgebra Q.ops K) (is : List (Primitive Q.ops)) (one : sum_over Q.ops is (λ i. i.0) ≡ Q.𝟙) where
+  module _ (K : B → Type 0) (𝓐 : FiniteAlgebra Q.ops K) (is : List (Primitive Q.ops))
+      (one : sum_over Q.ops is (λ i. i.0) ≡ Q.𝟙) where
     reduce_at : (z : A) → O z → (i : Primitive Q.ops) → reduce (z ⊗ lift i.0) ≡ Q.◌⊗◌ (reduce z) i.0
     reduce_at z h i = red.mul z (lift i.0) h (red.lift_in i.0) ∙ ap (Q.◌⊗◌ (reduce z)) (red.reduce_lift i.0)
 
@@ -120,7 +127,8 @@ module _ {A B : Type 0} (R : CommRing A) (O : A → Type 0) (𝓞 : IsSubring R.
       within = λ i. red.lift_in i.0;
       idempotent = λ i.
           same (lift i.0 ⊗ lift i.0) (lift i.0) (𝓞.product_in _ _ (red.lift_in i.0) (red.lift_in i.0)) (red.lift_in i.0)
-          (reduce_at (lift i.0) (red.lift_in i.0) i ∙ ap (λ x. Q.◌⊗◌ x i.0) (red.reduce_lift i.0) ∙ i.1.idempotent ∙ sym (red.reduce_lift i.0));
+          (reduce_at (lift i.0) (red.lift_in i.0) i ∙ ap (λ x. Q.◌⊗◌ x i.0) (red.reduce_lift i.0) ∙ i.1.idempotent
+          ∙ sym (red.reduce_lift i.0));
       orthogonal = λ i j. apart i j (primitive_pair Q i.0 j.0 i.1 j.1);
       sum_one =
           same 𝟙 (sum_over R.ops is lifted) 𝓞.one_in (reduce_sum is).0 (red.one ∙ sym one ∙ sym (reduce_sum is).1);
@@ -128,11 +136,13 @@ module _ {A B : Type 0} (R : CommRing A) (O : A → Type 0) (𝓞 : IsSubring R.
           i.1.nonzero (sym (idempotent_power Q K 𝓐 i.0 h.nilpotent.exponent i.1.idempotent)
           ∙ ap (λ x. pow Q.ops x (suc h.nilpotent.exponent)) (sym (red.reduce_lift i.0))
           ∙ sym (reduce_power (lift i.0) (red.lift_in i.0) (suc h.nilpotent.exponent))
-          ∙ (red.kernel _ (power_in R O 𝓞 (lift i.0) (red.lift_in i.0) (suc h.nilpotent.exponent))).1 h.nilpotent.power_in);
+          ∙ (red.kernel _ (power_in R O 𝓞 (lift i.0) (red.lift_in i.0) (suc h.nilpotent.exponent))).1
+          h.nilpotent.power_in);
       locality = λ i z z_in. local i z z_in (nilpotent_or_invertible Q K 𝓐 i.0 i.1 (reduce z));
     }
       where
-        apart : (i j : Primitive Q.ops) → (i.0 ≡ j.0) ⊎ (Q.◌⊗◌ i.0 j.0 ≡ Q.𝟘) → (lift i.0 ≡ lift j.0) ⊎ Multiple R.ops p O (lift i.0 ⊗ lift j.0)
+        apart : (i j : Primitive Q.ops) → (i.0 ≡ j.0) ⊎ (Q.◌⊗◌ i.0 j.0 ≡ Q.𝟘)
+            → (lift i.0 ≡ lift j.0) ⊎ Multiple R.ops p O (lift i.0 ⊗ lift j.0)
         apart i j (inl e) = inl (ap lift e)
         apart i j (inr z) =
             inr ((red.kernel _ (𝓞.product_in _ _ (red.lift_in i.0) (red.lift_in j.0))).0
@@ -141,10 +151,12 @@ module _ {A B : Type 0} (R : CommRing A) (O : A → Type 0) (𝓞 : IsSubring R.
         turn : (a b c : B) → Q.◌⊗◌ b (Q.◌⊗◌ a c) ≡ Q.◌⊗◌ (Q.◌⊗◌ a b) c
         turn a b c = ring Q (a ∷ b ∷ c ∷ []) λ q i. simp (reads, q, i 0, i 1, i 2) (q.equal _ _ refl)
 
-        local : (i : Primitive Q.ops) (z : A) → O z → NilpotentAt Q.ops i.0 (reduce z) ⊎ IsInvertibleAt Q.ops i.0 (reduce z)
+        local : (i : Primitive Q.ops) (z : A) → O z
+            → NilpotentAt Q.ops i.0 (reduce z) ⊎ IsInvertibleAt Q.ops i.0 (reduce z)
             → Radical R.ops O p (z ⊗ lift i.0) ⊎ ((c : A) × O c × Multiple R.ops p O (c ⊗ (z ⊗ lift i.0) ⊕ ⊖ lift i.0))
         local i z z_in (inl n) =
-            inl (of_nilpotent (z ⊗ lift i.0) (𝓞.product_in _ _ z_in (red.lift_in i.0)) (subst (IsNilpotent Q.ops) (sym (reduce_at z z_in i)) n))
+            inl (of_nilpotent (z ⊗ lift i.0) (𝓞.product_in _ _ z_in (red.lift_in i.0))
+            (subst (IsNilpotent Q.ops) (sym (reduce_at z z_in i)) n))
         local i z z_in (inr u) =
             let c = lift u.0 in
             let c_in = red.lift_in u.0 in
@@ -153,7 +165,8 @@ module _ {A B : Type 0} (R : CommRing A) (O : A → Type 0) (𝓞 : IsSubring R.
               c,
               c_in,
               same (c ⊗ (z ⊗ lift i.0)) (lift i.0) (𝓞.product_in _ _ c_in w_in) (red.lift_in i.0)
-                  (red.mul c _ c_in w_in ∙ ap₂ Q.◌⊗◌ (red.reduce_lift u.0) (reduce_at z z_in i) ∙ turn (reduce z) u.0 i.0 ∙ u.1 ∙ sym (red.reduce_lift i.0)),
+                  (red.mul c _ c_in w_in ∙ ap₂ Q.◌⊗◌ (red.reduce_lift u.0) (reduce_at z z_in i)
+                  ∙ turn (reduce z) u.0 i.0 ∙ u.1 ∙ sym (red.reduce_lift i.0)),
             )
 
   -- the list of the primitive idempotents, each with the proof that it is one
@@ -161,7 +174,8 @@ module _ {A B : Type 0} (R : CommRing A) (O : A → Type 0) (𝓞 : IsSubring R.
   attach [] f = []
   attach (x ∷ xs) f = (x, f x (inl refl)) ∷ attach xs (λ y i. f y (inr i))
 
-  attach_sum : (xs : List B) (f : (x : B) → In x xs → IsPrimitive Q.ops x) → sum_over Q.ops (attach xs f) (λ i. i.0) ≡ sum_over Q.ops xs (λ e. e)
+  attach_sum : (xs : List B) (f : (x : B) → In x xs → IsPrimitive Q.ops x)
+      → sum_over Q.ops (attach xs f) (λ i. i.0) ≡ sum_over Q.ops xs (λ e. e)
   unfolding attach
   attach_sum [] f = refl
   attach_sum (x ∷ xs) f = ap (Q.◌⊕◌ x) (attach_sum xs (λ y i. f y (inr i)))

@@ -1,4 +1,5 @@
--- The functions that are integral over k[t] are those that are integral over the polynomials of the infinite presentation.
+-- The functions that are integral over k[t] are those that are integral over the polynomials of the infinite
+-- presentation.
 use Rattle.std.proofs.Common.{◌↔◌, ℕ, ◌≤◌, sym, ◌∙◌, ap}
 use Rattle.ring_theory.specs.Integral.{IsIntegral}
 use Rattle.ff_fields.specs.Field.{CodeField}
@@ -15,11 +16,13 @@ use Rattle.places_theory.proofs.Transport.{integral_iff}
 
 module _ (k : CodeField) (p q : PresValue) (c : ℕ) (h : IsInfinitePresentation k p c q) (some : 1 ≤ p.n) where
   -- polynomials go to k[t], and nothing else does
-  pub polynomial_iff : (z : Functions k q) → IsPolynomial (equation_of k q) z ↔ InReverse k p (presentation_map k p q c h some z)
+  pub polynomial_iff : (z : Functions k q)
+      → IsPolynomial (equation_of k q) z ↔ InReverse k p (presentation_map k p q c h some z)
   polynomial_iff z = (
     λ g. record {
       polynomial = g.polynomial;
-      value = ap (presentation_map k p q c h some) g.value ∙ map_poly k p q c h some g.polynomial ∙ at_codes k p (variable k p Infinite) g.polynomial;
+      value = ap (presentation_map k p q c h some) g.value ∙ map_poly k p q c h some g.polynomial
+          ∙ at_codes k p (variable k p Infinite) g.polynomial;
     },
     λ g. record {
       polynomial = g.polynomial;
@@ -30,7 +33,9 @@ module _ (k : CodeField) (p q : PresValue) (c : ℕ) (h : IsInfinitePresentation
   )
 
   pub integral_reverse : (z : Functions k q)
-      → IsIntegralAt (setting k q) Finite z ↔ IsIntegral (functions k p).ops (InReverse k p) (presentation_map k p q c h some z)
+      → IsIntegralAt (setting k q) Finite z
+      ↔ IsIntegral (functions k p).ops (InReverse k p) (presentation_map k p q c h some z)
   integral_reverse z =
-      integral_iff (functions k q) (functions k p) (presentation_map k p q c h some) (presentation_isomorphism k p q c h some)
+      integral_iff (functions k q) (functions k p) (presentation_map k p q c h some)
+      (presentation_isomorphism k p q c h some)
       (IsPolynomial (equation_of k q)) (InReverse k p) polynomial_iff z

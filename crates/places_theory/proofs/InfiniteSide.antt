@@ -1,4 +1,5 @@
--- The infinite side: its scalars are k[t] with the inverses of what t does not divide, so its integral functions and its spans are
+-- The infinite side: its scalars are k[t] with the inverses of what t does not divide, so its integral functions and
+-- its spans are
 -- those over k[t] up to such factors.
 use Rattle.prime_theory.proofs.Scalars.{span_wider, integral_wider}
 use Rattle.std.proofs.Common.{◌≡◌, ℕ, zero, suc, ◌+◌, ◌-◌, ◌≤◌, ◌<◌, Bool, true, false, List, [], ◌∷◌, ◌++◌, length, map, get_or, reverse, replicate, refl, sym, ◌∙◌, ap, ap₂, subst, arith, true≢false, eqb-true, eq-eqb}
@@ -40,7 +41,8 @@ module _ (k : CodeField) where
   value_zeros zero = value_nil k
   value_zeros (suc m) =
       value_cons k 0 (replicate m 0)
-      ∙ ap₂ (polynomials k).◌⊕◌ (constant_zero k) (ap ((polynomials k).◌⊗◌ (x_poly k)) (value_zeros m) ∙ mul_zero (polynomials k).ring (x_poly k))
+      ∙ ap₂ (polynomials k).◌⊕◌ (constant_zero k)
+      (ap ((polynomials k).◌⊗◌ (x_poly k)) (value_zeros m) ∙ mul_zero (polynomials k).ring (x_poly k))
       ∙ (polynomials k).add_zero (polynomials k).𝟘
 
   -- zeros on top change nothing
@@ -67,21 +69,26 @@ module _ (k : CodeField) where
       trimmed : IsTrimmed (code_ring k).is_zero (read k (w ++ c ∷ []))
       trimmed =
           subst (IsTrimmed (code_ring k).is_zero) (sym (map-append (read_code k) w (c ∷ [])))
-          (IsTrimmed_push (code_ring k).is_zero (read k w) (read_code k c) (nonzero ((code_ring k).is_zero (read_code k c)) refl))
+          (IsTrimmed_push (code_ring k).is_zero (read k w) (read_code k c)
+          (nonzero ((code_ring k).is_zero (read_code k c)) refl))
 
   length_at_most : (w : List ℕ) → length (value k w).0 ≤ length w
-  length_at_most w = let l = length_trim (code_ring k).is_zero (read k w) in let e = length-map w (read_code k) in omega arith
+  length_at_most w = let l = length_trim (code_ring k).is_zero (read k w) in let e = length-map w (read_code k) in omega
+      arith
 
   x_length : length (x_poly k).0 ≡ 2
   x_length = length_last (0 ∷ []) 1 k.laws.one_below (λ e. absurd (omega arith))
 
   -- each factor x makes one more
-  x_times : (m : ℕ) (a : Polynomial k) → length ((polynomials k).◌⊗◌ (pow (polynomials k).ops (x_poly k) m) a).0 ≤ m + length a.0
+  x_times : (m : ℕ) (a : Polynomial k) → length ((polynomials k).◌⊗◌ (pow (polynomials k).ops (x_poly k) m) a).0 ≤ m
+      + length a.0
   x_times zero a =
-      subst (λ b. length b.0 ≤ 0 + length a.0) (sym ((polynomials k).mul_comm (polynomials k).𝟙 a ∙ (polynomials k).mul_one a)) (omega arith)
+      subst (λ b. length b.0 ≤ 0 + length a.0)
+      (sym ((polynomials k).mul_comm (polynomials k).𝟙 a ∙ (polynomials k).mul_one a)) (omega arith)
   x_times (suc m) a =
       let b = (polynomials k).◌⊗◌ (pow (polynomials k).ops (x_poly k) m) a in
-      subst (λ b. length b.0 ≤ suc m + length a.0) (sym ((polynomials k).mul_assoc (x_poly k) (pow (polynomials k).ops (x_poly k) m) a))
+      subst (λ b. length b.0 ≤ suc m + length a.0)
+      (sym ((polynomials k).mul_assoc (x_poly k) (pow (polynomials k).ops (x_poly k) m) a))
       (omega (arith, x_times m a, length_product_le (code_ring k) (code_domain k) (x_poly k) b, x_length))
 
   x_times_exact : (m : ℕ) (a : Polynomial k) → ¬ (a ≡ (polynomials k).𝟘)
@@ -90,14 +97,22 @@ module _ (k : CodeField) where
       ap (λ b. length b.0) ((polynomials k).mul_comm (polynomials k).𝟙 a ∙ (polynomials k).mul_one a) ∙ (omega arith)
   x_times_exact (suc m) a n =
       let b = (polynomials k).◌⊗◌ (pow (polynomials k).ops (x_poly k) m) a in
-      let some = product_not_zero (polynomials_domain k) (pow (polynomials k).ops (x_poly k) m) a (x_power_not_zero k m) n in
+      let some = product_not_zero (polynomials_domain k) (pow (polynomials k).ops (x_poly k) m) a (x_power_not_zero k m)
+      n in
       ap (λ b. length b.0) ((polynomials k).mul_assoc (x_poly k) (pow (polynomials k).ops (x_poly k) m) a)
-      ∙ (omega (arith, x_times_exact m a n, length_product (code_ring k) (code_domain k) (x_poly k) b (x_poly_not_zero k) some, x_length))
+      ∙ (omega (
+        arith,
+        x_times_exact m a n,
+        length_product (code_ring k) (code_domain k) (x_poly k) b
+            (x_poly_not_zero k) some,
+        x_length,
+      ))
 
   over_reverse : (w : List ℕ) → IsOver k.ops w → IsOver k.ops (reverse w)
   over_reverse [] h = IsOver_nil
   over_reverse (c ∷ w) h =
-      subst (IsOver k.ops) (sym (reverse-cons c w)) (IsOver_append (over_reverse w (IsOver_tail h)) (IsOver_cons (IsOver_head h) IsOver_nil))
+      subst (IsOver k.ops) (sym (reverse-cons c w))
+      (IsOver_append (over_reverse w (IsOver_tail h)) (IsOver_cons (IsOver_head h) IsOver_nil))
 
 module _ (k : CodeField) (p : PresValue) where
   infixl 65 ◌⊕◌
@@ -123,25 +138,32 @@ module _ (k : CodeField) (p : PresValue) where
   -- k[t] is a ring
   pub reverse_ring : IsSubring F.ops (InReverse k p)
   reverse_ring = record {
-    zero_in = record { polynomial = (polynomials k).𝟘; value = sym (hom_zero (polynomials k).ring F (at k p T) (at_hom k p T)) ∙ at_codes k p T (polynomials k).𝟘 };
+    zero_in = record {
+      polynomial = (polynomials k).𝟘;
+      value = sym
+          (hom_zero (polynomials k).ring F (at k p T) (at_hom k p T)) ∙ at_codes k p T (polynomials k).𝟘;
+    };
     one_in = record { polynomial = (polynomials k).𝟙; value = sym (at_hom k p T).𝟙 ∙ at_codes k p T (polynomials k).𝟙 };
     sum_in = λ a b h g. record {
       polynomial = (polynomials k).◌⊕◌ h.polynomial g.polynomial;
       value =
           ap₂ (λ s r. s ⊕ r) (h.value ∙ sym (at_codes k p T h.polynomial)) (g.value ∙ sym (at_codes k p T g.polynomial))
-          ∙ sym ((at_hom k p T).add h.polynomial g.polynomial) ∙ at_codes k p T ((polynomials k).◌⊕◌ h.polynomial g.polynomial);
+          ∙ sym ((at_hom k p T).add h.polynomial g.polynomial)
+          ∙ at_codes k p T ((polynomials k).◌⊕◌ h.polynomial g.polynomial);
     };
     neg_in = λ a h. record {
       polynomial = (polynomials k).⊖◌ h.polynomial;
       value =
           ap ⊖◌ (h.value ∙ sym (at_codes k p T h.polynomial))
-          ∙ sym (hom_neg (polynomials k).ring F (at k p T) (at_hom k p T) h.polynomial) ∙ at_codes k p T ((polynomials k).⊖◌ h.polynomial);
+          ∙ sym (hom_neg (polynomials k).ring F (at k p T) (at_hom k p T) h.polynomial)
+          ∙ at_codes k p T ((polynomials k).⊖◌ h.polynomial);
     };
     product_in = λ a b h g. record {
       polynomial = (polynomials k).◌⊗◌ h.polynomial g.polynomial;
       value =
           ap₂ (λ s r. s ⊗ r) (h.value ∙ sym (at_codes k p T h.polynomial)) (g.value ∙ sym (at_codes k p T g.polynomial))
-          ∙ sym ((at_hom k p T).mul h.polynomial g.polynomial) ∙ at_codes k p T ((polynomials k).◌⊗◌ h.polynomial g.polynomial);
+          ∙ sym ((at_hom k p T).mul h.polynomial g.polynomial)
+          ∙ at_codes k p T ((polynomials k).◌⊗◌ h.polynomial g.polynomial);
     };
   }
 
@@ -178,13 +200,15 @@ module _ (k : CodeField) (p : PresValue) where
         };
   }
     where
-      at_zero : (w : List ℕ) → IsOver k.ops w → ¬ (get_or w 0 0 ≡ 0) → ¬ (coeff_of (code_ring k).ops (value k w).0 0 ≡ (code_ring k).𝟘)
+      at_zero : (w : List ℕ) → IsOver k.ops w → ¬ (get_or w 0 0 ≡ 0)
+          → ¬ (coeff_of (code_ring k).ops (value k w).0 0 ≡ (code_ring k).𝟘)
       at_zero w w_in n e = n (sym (first_read w w_in) ∙ ap (λ x. x.0) (sym (series_read k w 0) ∙ e))
 
       both : {a b : Functions k p} → (h : IsPrimeToT k p a) → (g : IsPrimeToT k p b)
           → (coeff_of (code_ring k).ops ((polynomials k).◌⊗◌ (value k h.codes) (value k g.codes)).0 0).0 ≡ 0 → ⊥
       both h g e =
-          product_not_zero (code_domain k) _ _ (at_zero h.codes h.codes_over h.first) (at_zero g.codes g.codes_over g.first)
+          product_not_zero (code_domain k) _ _ (at_zero h.codes h.codes_over h.first)
+          (at_zero g.codes g.codes_over g.first)
           (sym (series_mul (code_ring k) (value k h.codes) (value k g.codes) 0) ∙ same_code k _ (code_ring k).𝟘 e)
 
   -- a list that does not begin with 0, reversed: a polynomial of the list's length
@@ -206,7 +230,8 @@ module _ (k : CodeField) (p : PresValue) where
         is = reversed k p (c ∷ w);
       }
     where
-      some : length (value k (reverse w ++ c ∷ [])).0 ≡ 0 → length (value k (reverse w ++ c ∷ [])).0 ≡ suc (length (reverse w)) → ⊥
+      some : length (value k (reverse w ++ c ∷ [])).0 ≡ 0
+          → length (value k (reverse w ++ c ∷ [])).0 ≡ suc (length (reverse w)) → ⊥
       some f g = absurd (omega arith)
 
   -- each has an inverse
@@ -223,36 +248,47 @@ module _ (k : CodeField) (p : PresValue) where
       )
     where
       product : (b i s w : Functions k p) → s ⊗ w ≡ b → b ⊗ i ≡ 𝟙 → i ⊗ s ⊗ w ≡ 𝟙
-      product b i s w e f = from_two F i 𝟙 e f (ring F (b ∷ i ∷ s ∷ w ∷ []) λ o n. simp (reads, o, n 0, n 1, n 2, n 3) (o.equal _ _ refl))
+      product b i s w e f = from_two F i 𝟙 e f
+          (ring F (b ∷ i ∷ s ∷ w ∷ []) λ o n. simp (reads, o, n 0, n 1, n 2, n 3) (o.equal _ _ refl))
 
   -- what is finite at infinity is in k[t] up to a factor that t does not divide
   to_local : (z : Functions k p) → IsFiniteAtInfinity (equation_of k p) z → Locally F.ops U (InReverse k p) z
   to_local z h = go (codes_of k h.bottom) refl
     where
-      padded_length : length (reverse (codes_of k h.top ++ replicate (length (codes_of k h.bottom) - length (codes_of k h.top)) 0)) ≡ length (codes_of k h.bottom)
+      padded_length : length (reverse (codes_of k h.top
+          ++ replicate (length (codes_of k h.bottom) - length (codes_of k h.top)) 0)) ≡ length (codes_of k h.bottom)
       padded_length =
           let l : length h.top.0 ≤ length h.bottom.0 = h.degrees in
           let e = length_codes k h.top in
           let f = length_codes k h.bottom in
           length-reverse _ ∙ length-append (codes_of k h.top) _
-          ∙ ap (λ n. length (codes_of k h.top) + n) (length-replicate (length (codes_of k h.bottom) - length (codes_of k h.top)) 0)
+          ∙ ap (λ n. length (codes_of k h.top) + n)
+          (length-replicate (length (codes_of k h.bottom) - length (codes_of k h.top)) 0)
           ∙ (omega arith)
 
-      bottom_is : pow F.ops X (length (codes_of k h.bottom)) ⊗ value_at k p T (reverse (codes_of k h.bottom)) ≡ X ⊗ of h.bottom
+      bottom_is : pow F.ops X (length (codes_of k h.bottom)) ⊗ value_at k p T (reverse (codes_of k h.bottom))
+          ≡ X ⊗ of h.bottom
       bottom_is =
-          ap (λ n. pow F.ops X n ⊗ value_at k p T (reverse (codes_of k h.bottom))) (sym (length-reverse (codes_of k h.bottom)))
+          ap (λ n. pow F.ops X n ⊗ value_at k p T (reverse (codes_of k h.bottom)))
+          (sym (length-reverse (codes_of k h.bottom)))
           ∙ reversed k p (reverse (codes_of k h.bottom)) ∙ (poly_hom (equation_of k p)).mul (x_poly k) _
           ∙ ap (λ a. X ⊗ of a) (ap (value k) (reverse-reverse (codes_of k h.bottom)) ∙ value_codes_of k h.bottom)
 
       top_is : pow F.ops X (length (codes_of k h.bottom))
-          ⊗ value_at k p T (reverse (codes_of k h.top ++ replicate (length (codes_of k h.bottom) - length (codes_of k h.top)) 0)) ≡ X ⊗ of h.top
+          ⊗ value_at k p T (reverse (codes_of k h.top
+          ++ replicate (length (codes_of k h.bottom) - length (codes_of k h.top)) 0)) ≡ X ⊗ of h.top
       top_is =
-          ap (λ n. pow F.ops X n ⊗ value_at k p T (reverse (codes_of k h.top ++ replicate (length (codes_of k h.bottom) - length (codes_of k h.top)) 0))) (sym padded_length)
-          ∙ reversed k p (reverse (codes_of k h.top ++ replicate (length (codes_of k h.bottom) - length (codes_of k h.top)) 0))
+          ap (λ n. pow F.ops X n ⊗ value_at k p T
+          (reverse (codes_of k h.top ++ replicate (length (codes_of k h.bottom) - length (codes_of k h.top)) 0)))
+          (sym padded_length)
+          ∙ reversed k p (reverse (codes_of k h.top
+          ++ replicate (length (codes_of k h.bottom) - length (codes_of k h.top)) 0))
           ∙ (poly_hom (equation_of k p)).mul (x_poly k) _
           ∙ ap (λ a. X ⊗ of a)
-          (ap (value k) (reverse-reverse (codes_of k h.top ++ replicate (length (codes_of k h.bottom) - length (codes_of k h.top)) 0))
-          ∙ value_pad k (codes_of k h.top) (length (codes_of k h.bottom) - length (codes_of k h.top)) ∙ value_codes_of k h.top)
+          (ap (value k) (reverse-reverse
+          (codes_of k h.top ++ replicate (length (codes_of k h.bottom) - length (codes_of k h.top)) 0))
+          ∙ value_pad k (codes_of k h.top) (length (codes_of k h.bottom) - length (codes_of k h.top))
+          ∙ value_codes_of k h.top)
 
       cancel : (s r b w a v : Functions k p) → s ⊗ r ≡ 𝟙 → s ⊗ w ≡ X ⊗ b → s ⊗ v ≡ X ⊗ a → b ⊗ z ≡ a → w ⊗ z ≡ v
       cancel s r b w a v e f g i = sym (undo (w ⊗ z)) ∙ ap (λ q. r ⊗ q) middle ∙ undo v
@@ -263,13 +299,16 @@ module _ (k : CodeField) (p : PresValue) where
           middle : s ⊗ (w ⊗ z) ≡ s ⊗ v
           middle =
               from_three F z (⊖ 𝟙) X f g i
-              (ring F (s ∷ w ∷ b ∷ v ∷ a ∷ z ∷ X ∷ []) λ o n. simp (reads, o, n 0, n 1, n 2, n 3, n 4, n 5, n 6) (o.equal _ _ refl))
+              (ring F (s ∷ w ∷ b ∷ v ∷ a ∷ z ∷ X ∷ []) λ o n. simp (reads, o, n 0, n 1, n 2, n 3, n 4, n 5, n 6)
+              (o.equal _ _ refl))
 
       multiple : value_at k p T (reverse (codes_of k h.bottom)) ⊗ z
-          ≡ value_at k p T (reverse (codes_of k h.top ++ replicate (length (codes_of k h.bottom) - length (codes_of k h.top)) 0))
+          ≡ value_at k p T (reverse (codes_of k h.top
+          ++ replicate (length (codes_of k h.bottom) - length (codes_of k h.top)) 0))
       multiple =
           cancel (pow F.ops X (length (codes_of k h.bottom))) (pow F.ops T (length (codes_of k h.bottom))) (of h.bottom)
-          (value_at k p T (reverse (codes_of k h.bottom))) (of h.top) _ (powers_cancel k p (length (codes_of k h.bottom))) bottom_is top_is
+          (value_at k p T (reverse (codes_of k h.bottom))) (of h.top) _
+          (powers_cancel k p (length (codes_of k h.bottom))) bottom_is top_is
           (ap (λ s. of h.bottom ⊗ s) h.value ∙ over_times_den (equation_of k p) h.top h.bottom h.not_null)
 
       ends : (w : List ℕ) → IsPoly w → ¬ (w ≡ []) → ¬ (get_or (reverse w) 0 0 ≡ 0)
@@ -278,7 +317,9 @@ module _ (k : CodeField) (p : PresValue) where
           last : (w : List ℕ) → IsTrimmed is_zero_code w → ¬ (w ≡ []) → ¬ (get_or (reverse w) 0 0 ≡ 0)
           last [] t n e = n refl
           last (c ∷ []) t n e = true≢false (sym (eq-eqb c 0 e) ∙ t)
-          last (a ∷ d ∷ w) t n e = last (d ∷ w) t (λ f. cc) (sym (first (reverse (d ∷ w)) (ap length (reverse-cons d w) ∙ length-append (reverse w) (d ∷ []))) ∙ ap (λ v. get_or v 0 0) (sym (reverse-cons a (d ∷ w))) ∙ e)
+          last (a ∷ d ∷ w) t n e = last (d ∷ w) t (λ f. cc)
+              (sym (first (reverse (d ∷ w)) (ap length (reverse-cons d w) ∙ length-append (reverse w) (d ∷ [])))
+              ∙ ap (λ v. get_or v 0 0) (sym (reverse-cons a (d ∷ w))) ∙ e)
             where
               first : (v : List ℕ) → length v ≡ length (reverse w) + 1 → get_or (v ++ a ∷ []) 0 0 ≡ get_or v 0 0
               first [] l = absurd (omega arith)
@@ -291,7 +332,8 @@ module _ (k : CodeField) (p : PresValue) where
         factor_in = record {
           codes = reverse (codes_of k h.bottom);
           codes_over = over_reverse k (codes_of k h.bottom) (IsOver_codes_of k h.bottom);
-          first = ends (codes_of k h.bottom) (IsPoly_codes_of k h.bottom) (λ f. h.not_null (sym (value_codes_of k h.bottom) ∙ ap (value k) f ∙ value_nil k));
+          first = ends (codes_of k h.bottom) (IsPoly_codes_of k h.bottom)
+              (λ f. h.not_null (sym (value_codes_of k h.bottom) ∙ ap (value k) f ∙ value_nil k));
           value = refl;
         };
         multiple_in = subst (InReverse k p) (sym multiple) (in_reverse _);
@@ -310,7 +352,8 @@ module _ (k : CodeField) (p : PresValue) where
       let some = product_not_zero (polynomials_domain k) (x_poly k) r.polynomial (x_poly_not_zero k) r.nonzero in
       let bottom = (polynomials k).◌⊗◌ (pow (polynomials k).ops (x_poly k) n) B in
       let top = (polynomials k).◌⊗◌ (pow (polynomials k).ops (x_poly k) m) A in
-      let not_null = product_not_zero (polynomials_domain k) (pow (polynomials k).ops (x_poly k) n) B (x_power_not_zero k n) some in
+      let not_null = product_not_zero (polynomials_domain k) (pow (polynomials k).ops (x_poly k) n) B
+      (x_power_not_zero k n) some in
       record {
         top = top;
         bottom = bottom;
@@ -337,22 +380,29 @@ module _ (k : CodeField) (p : PresValue) where
     where
       cross : (s r w v : Functions k p) → w ⊗ z ≡ v → s ⊗ (r ⊗ w) ⊗ z ≡ r ⊗ (s ⊗ v)
       cross s r w v e =
-          from_one F (s ⊗ r) e (ring F (s ∷ r ∷ w ∷ v ∷ z ∷ []) λ o n. simp (reads, o, n 0, n 1, n 2, n 3, n 4) (o.equal _ _ refl))
+          from_one F (s ⊗ r) e (ring F (s ∷ r ∷ w ∷ v ∷ z ∷ []) λ o n. simp (reads, o, n 0, n 1, n 2, n 3, n 4)
+          (o.equal _ _ refl))
 
   -- the scalars of the infinite side are k[t] with denominators that t does not divide
   pub scalars_local : SameSet (IsFiniteAtInfinity (equation_of k p)) (Locally F.ops U (InReverse k p))
   scalars_local z = (to_local z, of_local z)
 
   -- a function is integral there where a multiple by such a denominator is integral over k[t]
-  pub integral_local : SameSet (IsIntegral F.ops (IsFiniteAtInfinity (equation_of k p))) (Locally F.ops U (IsIntegral F.ops (InReverse k p)))
+  pub integral_local : SameSet (IsIntegral F.ops (IsFiniteAtInfinity (equation_of k p)))
+      (Locally F.ops U (IsIntegral F.ops (InReverse k p)))
   integral_local z = (
-    λ h. integral_cleared F (InReverse k p) reverse_ring U denominators z (integral_wider F (IsFiniteAtInfinity (equation_of k p)) (Locally F.ops U (InReverse k p)) to_local z h),
-    λ h. integral_wider F (Locally F.ops U (InReverse k p)) (IsFiniteAtInfinity (equation_of k p)) of_local z (integral_of_cleared F (InReverse k p) reverse_ring U denominators denominator_inverse z h),
+    λ h. integral_cleared F (InReverse k p) reverse_ring U denominators z
+        (integral_wider F (IsFiniteAtInfinity (equation_of k p)) (Locally F.ops U (InReverse k p)) to_local z h),
+    λ h. integral_wider F (Locally F.ops U (InReverse k p)) (IsFiniteAtInfinity (equation_of k p)) of_local z
+        (integral_of_cleared F (InReverse k p) reverse_ring U denominators denominator_inverse z h),
   )
 
   -- and likewise for spans
-  pub span_local : (bs : List (Functions k p)) → SameSet (Span F.ops (IsFiniteAtInfinity (equation_of k p)) bs) (Locally F.ops U (Span F.ops (InReverse k p) bs))
+  pub span_local : (bs : List (Functions k p))
+      → SameSet (Span F.ops (IsFiniteAtInfinity (equation_of k p)) bs) (Locally F.ops U (Span F.ops (InReverse k p) bs))
   span_local bs z = (
-    λ h. span_cleared F (InReverse k p) reverse_ring U denominators bs z (span_wider F (IsFiniteAtInfinity (equation_of k p)) (Locally F.ops U (InReverse k p)) to_local bs z h),
-    λ h. span_wider F (Locally F.ops U (InReverse k p)) (IsFiniteAtInfinity (equation_of k p)) of_local bs z (span_of_cleared F (InReverse k p) reverse_ring U denominators denominator_inverse bs z h),
+    λ h. span_cleared F (InReverse k p) reverse_ring U denominators bs z
+        (span_wider F (IsFiniteAtInfinity (equation_of k p)) (Locally F.ops U (InReverse k p)) to_local bs z h),
+    λ h. span_wider F (Locally F.ops U (InReverse k p)) (IsFiniteAtInfinity (equation_of k p)) of_local bs z
+        (span_of_cleared F (InReverse k p) reverse_ring U denominators denominator_inverse bs z h),
   )

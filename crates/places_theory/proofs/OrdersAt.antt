@@ -17,7 +17,8 @@ module _ {E : Type 0} (S : Setting E) (s : Side) (Base N : E → Type 0) (p : E)
 
   pub order_of_maximal : IsSubring ops Base → PrimeTo ops Base N p → IsSubring ops O → ((z : E) → Base z → O z)
       → ((z : E) → O z → IsIntegralAt S s z) → ((z : E) → IsIntegralAt S s z → Locally ops N (IsIntegral ops Base) z)
-      → ((z : E) → IsIntegral ops Base z → Denominator ops N O p z) → MaximalAt ops p (IsIntegral ops O) O → IsOrderAt S s Base N p O
+      → ((z : E) → IsIntegral ops Base z → Denominator ops N O p z) → MaximalAt ops p (IsIntegral ops O) O
+      → IsOrderAt S s Base N p O
   order_of_maximal 𝓑 𝓝 𝓞 base integral down den maximal = record {
     base_ring = 𝓑;
     prime_to = 𝓝;

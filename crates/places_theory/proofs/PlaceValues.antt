@@ -1,4 +1,5 @@
--- At a place over p, with an order that is maximal at p: the valuation of the place is that of its prime of the order. So it is
+-- At a place over p, with an order that is maximal at p: the valuation of the place is that of its prime of the order.
+-- So it is
 -- additive on products, and each function with an inverse has one.
 use Rattle.prime_theory.proofs.Scalars.{span_wider}
 use Rattle.std.proofs.Common.{◌≡◌, ◌↔◌, ◌⊎◌, inl, inr, ℕ, suc, arith}
@@ -22,7 +23,8 @@ use Rattle.function_field.specs.Places.{Place, IsPlace, IsIntegralAt, IsIn, IsIn
 use Rattle.places_theory.specs.Orders.{IsOrderAt, InPrime}
 use Rattle.places_theory.proofs.Sides.{side_ring, scalar_integral, place_is_maximal, place_ideal, in_power_is}
 
-module _ {E : Type 0} (S : Setting E) (scalars : (s : Side) → IsSubring S.functions.ops (S.IsScalar s)) (P : Place E) (place : IsPlace S P)
+module _ {E : Type 0} (S : Setting E) (scalars : (s : Side) → IsSubring S.functions.ops (S.IsScalar s)) (P : Place E)
+    (place : IsPlace S P)
     (Base N O : E → Type 0) (p : E) (order : IsOrderAt S P.side Base N p O) (p_in : IsIn S P p)
     (decide : (u : E) → O u → IsIn S P u ⊎ (¬ (IsIn S P u))) where
   infixl 65 ◌⊕◌
@@ -38,12 +40,14 @@ module _ {E : Type 0} (S : Setting E) (scalars : (s : Side) → IsSubring S.func
 
   pub place_prime : IsPrime ops O (InPrime S P O)
   place_prime =
-      prime_of_place S.functions Base order.base_ring N p order.prime_to O order.ring order.base B (side_ring S scalars P.side) order.integral order.locally
+      prime_of_place S.functions Base order.base_ring N p order.prime_to O order.ring order.base B
+      (side_ring S scalars P.side) order.integral order.locally
       M ((place_is_maximal S scalars P).0 place) p_in decide
 
   from_prime : (z : E) → IsIn S P z ↔ PlaceOf ops B N (InPrime S P O) z
   from_prime =
-      place_from_prime S.functions Base order.base_ring N p order.prime_to O order.ring order.base B (side_ring S scalars P.side) order.integral order.locally
+      place_from_prime S.functions Base order.base_ring N p order.prime_to O order.ring order.base B
+      (side_ring S scalars P.side) order.integral order.locally
       M ((place_is_maximal S scalars P).0 place) p_in
 
   to_local : (z : E) → IsIn S P z → Locally ops N (InPrime S P O) z
@@ -93,59 +97,78 @@ module _ {E : Type 0} (S : Setting E) (scalars : (s : Side) → IsSubring S.func
     pub value_iff : (z : E) (m : ℤ) → HasValuationAtLeast S P z m ↔ ValueAtLeast ops O (InPrime S P O) t z m
     value_iff z (pos m) = (
       λ h.
-          value_of_place S.functions Base order.base_ring N p order.prime_to O order.ring order.base B (side_ring S scalars P.side) order.integral order.locally
-          (InPrime S P O) place_prime prime_p t M (place_ideal S scalars P place) to_local (λ a i. i.1) z m ((at_least z m).0 h),
+          value_of_place S.functions Base order.base_ring N p order.prime_to O order.ring order.base B
+          (side_ring S scalars P.side) order.integral order.locally
+          (InPrime S P O) place_prime prime_p t M (place_ideal S scalars P place) to_local (λ a i. i.1) z m
+          ((at_least z m).0 h),
       λ h.
           (at_least z m).1
-          (place_of_value S.functions Base order.base_ring N p order.prime_to O order.ring order.base B (side_ring S scalars P.side) order.integral order.locally
+          (place_of_value S.functions Base order.base_ring N p order.prime_to O order.ring order.base B
+          (side_ring S scalars P.side) order.integral order.locally
           (InPrime S P O) place_prime prime_p t M (place_ideal S scalars P place) to_local (λ a i. i.1) z m h),
     )
     value_iff z (negsuc m) = (
       λ h.
-          value_of_place_minus S.functions Base order.base_ring N p order.prime_to O order.ring order.base B (side_ring S scalars P.side) order.integral order.locally
-          (InPrime S P O) place_prime prime_p t M (place_ideal S scalars P place) to_local (λ a i. i.1) z (suc m) ((at_least_minus z (suc m)).0 h),
+          value_of_place_minus S.functions Base order.base_ring N p order.prime_to O order.ring order.base B
+          (side_ring S scalars P.side) order.integral order.locally
+          (InPrime S P O) place_prime prime_p t M (place_ideal S scalars P place) to_local (λ a i. i.1) z (suc m)
+          ((at_least_minus z (suc m)).0 h),
       λ h.
           (at_least_minus z (suc m)).1
-          (place_minus_of_value S.functions Base order.base_ring N p order.prime_to O order.ring order.base B (side_ring S scalars P.side) order.integral order.locally
+          (place_minus_of_value S.functions Base order.base_ring N p order.prime_to O order.ring order.base B
+          (side_ring S scalars P.side) order.integral order.locally
           (InPrime S P O) place_prime prime_p t M (place_ideal S scalars P place) to_local (λ a i. i.1) P.generators
-          (span_members S.functions (S.IsScalar P.side) (scalars P.side) P.generators) (span_wider S.functions (S.IsScalar P.side) B (scalar_integral S scalars P.side) P.generators) z (suc m) h),
+          (span_members S.functions (S.IsScalar P.side) (scalars P.side) P.generators)
+          (span_wider S.functions (S.IsScalar P.side) B (scalar_integral S scalars P.side) P.generators) z (suc m)
+          h),
     )
 
     pub valuation_iff : (z : E) (m : ℤ) → HasValuation S P z m ↔ ValueIs ops O (InPrime S P O) t z m
     valuation_iff z m = (
-      λ h. exact h (value_next S.functions O order.ring (InPrime S P O) place_prime t z m ((value_iff z m).0 h.reached)),
+      λ h. exact h (value_next S.functions O order.ring (InPrime S P O) place_prime t z m
+          ((value_iff z m).0 h.reached)),
       λ h. record {
         reached = (value_iff z m).1 (value_of_exact S.functions O order.ring (InPrime S P O) place_prime t z m h);
         not_more = λ i.
-            let l = value_bounded S.functions O order.ring (InPrime S P O) place_prime t z m (m +ℤ pos 1) h ((value_iff z (m +ℤ pos 1)).0 i) in
+            let l = value_bounded S.functions O order.ring (InPrime S P O) place_prime t z m (m +ℤ pos 1) h
+            ((value_iff z (m +ℤ pos 1)).0 i) in
             absurd (omega (arith, ints));
       },
     )
       where
-        exact : HasValuation S P z m → ValueAtLeast ops O (InPrime S P O) t z (m +ℤ pos 1) ⊎ ValueIs ops O (InPrime S P O) t z m → ValueIs ops O (InPrime S P O) t z m
+        exact : HasValuation S P z m → ValueAtLeast ops O (InPrime S P O) t z (m +ℤ pos 1)
+            ⊎ ValueIs ops O (InPrime S P O) t z m → ValueIs ops O (InPrime S P O) t z m
         exact h (inl i) = absurd (h.not_more ((value_iff z (m +ℤ pos 1)).1 i))
         exact h (inr i) = i
 
     -- values add on products
-    pub valuation_product : (z w : E) (m n : ℤ) → HasValuation S P z m → HasValuation S P w n → HasValuation S P (z ⊗ w) (m +ℤ n)
+    pub valuation_product : (z w : E) (m n : ℤ) → HasValuation S P z m → HasValuation S P w n
+        → HasValuation S P (z ⊗ w) (m +ℤ n)
     valuation_product z w m n h i =
         (valuation_iff (z ⊗ w) (m +ℤ n)).1
-        (exact_product S.functions O order.ring (InPrime S P O) place_prime t z w m n ((valuation_iff z m).0 h) ((valuation_iff w n).0 i))
+        (exact_product S.functions O order.ring (InPrime S P O) place_prime t z w m n ((valuation_iff z m).0 h)
+        ((valuation_iff w n).0 i))
 
     -- and that of a sum of different values is the smaller one
-    pub valuation_sum : (z w : E) (m : ℤ) → HasValuation S P z m → HasValuationAtLeast S P w (m +ℤ pos 1) → HasValuation S P (z ⊕ w) m
+    pub valuation_sum : (z w : E) (m : ℤ) → HasValuation S P z m → HasValuationAtLeast S P w (m +ℤ pos 1)
+        → HasValuation S P (z ⊕ w) m
     valuation_sum z w m h i =
         (valuation_iff (z ⊕ w) m).1
-        (exact_sum S.functions O order.ring (InPrime S P O) place_prime t z w m ((valuation_iff z m).0 h) ((value_iff w (m +ℤ pos 1)).0 i))
+        (exact_sum S.functions O order.ring (InPrime S P O) place_prime t z w m ((valuation_iff z m).0 h)
+        ((value_iff w (m +ℤ pos 1)).0 i))
 
-    -- a function with an inverse has a valuation: d·z and d'·y are in the order, with d·d' a power of p times a w outside the place
-    pub valuation_exists : (z y d d' w : E) (e n : ℕ) → z ⊗ y ≡ 𝟙 → O d → O d' → O (d ⊗ z) → O (d' ⊗ y) → d ⊗ d' ≡ pow ops p n ⊗ w
+    -- a function with an inverse has a valuation: d·z and d'·y are in the order, with d·d' a power of p times a w
+    -- outside the place
+    pub valuation_exists : (z y d d' w : E) (e n : ℕ) → z ⊗ y ≡ 𝟙 → O d → O d' → O (d ⊗ z) → O (d' ⊗ y)
+        → d ⊗ d' ≡ pow ops p n ⊗ w
         → O w → ¬ (IsIn S P w) → HasValuation S P p (pos e) → (m : ℤ) × HasValuation S P z m
     valuation_exists z y d d' w e n inverse d_in d'_in dz d'y split w_in w_out h =
         let r =
-        exact_of_invertible S.functions O order.ring (InPrime S P O) place_prime t p z y d d' w e n inverse d_in d'_in dz d'y split
+        exact_of_invertible S.functions O order.ring (InPrime S P O) place_prime t p z y d d' w e n inverse d_in d'_in
+        dz d'y split
         (record { within = w_in; out = λ i. w_out i.1 }) ((valuation_iff p (pos e)).0 h) in (
           pos r.0 -ℤ pos r.1,
           (valuation_iff z (pos r.0 -ℤ pos r.1)).1
-              (eq_reindex S.functions O order.ring (InPrime S P O) place_prime t z r.0 r.1 (up (pos r.0 -ℤ pos r.1)) (down (pos r.0 -ℤ pos r.1)) (parts_of r.0 r.1) r.2),
+              (eq_reindex S.functions O order.ring (InPrime S P O) place_prime t z r.0 r.1 (up (pos r.0 -ℤ pos r.1))
+              (down (pos r.0 -ℤ pos r.1)) (parts_of r.0 r.1) r.2),
         )

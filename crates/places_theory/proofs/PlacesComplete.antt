@@ -74,7 +74,8 @@ module _ {E : Type 0} (S : Setting E) (scalars : (s : Side) → IsSubring S.func
       let all = map (ops.◌⊗◌ c.factor) P.generators ++ map (ops.◌⊗◌ p) rows in
       let same : SameSet (InPrime S P O) (Span ops Base all)
       = prime_generators S.functions Base o.base_ring N p o.prime_to O o.ring o.base (IsIn S P) 𝓜 over.over
-      (λ a b i m. over.place.ideal a b (o.integral a i) m) rows P.generators spanned locally c.factor c.factor_in c.cleared in
+      (λ a b i m. over.place.ideal a b (o.integral a i) m) rows P.generators spanned locally c.factor c.factor_in
+      c.cleared in
       record {
         list = all;
         members =
@@ -84,7 +85,8 @@ module _ {E : Type 0} (S : Setting E) (scalars : (s : Side) → IsSubring S.func
       }
 
   -- the place is the same as one of the list
-  pub place_in_system : (I : Type 0) (at : I → Place E) → ((i : I) → IsPlaceOver S (at i) Base N p O) → ((i : I) → (at i).side ≡ P.side)
+  pub place_in_system : (I : Type 0) (at : I → Place E) → ((i : I) → IsPlaceOver S (at i) Base N p O)
+      → ((i : I) → (at i).side ≡ P.side)
       → IsFamily ops O I (λ i. InPrime S (at i) O) → (is : List I) → IsSystem ops O p I (λ i. InPrime S (at i) O) is
       → ((a : E) → Base a → S.IsScalar P.side a) → (rows : List E) → SameSet O (Span ops Base rows)
       → ((z : E) → IsIn S P z → Locally ops N (Span ops Base P.generators) z) → Any (λ i. IsSamePlace S (at i) P) is

@@ -1,4 +1,5 @@
--- The places over p and the primes of an order that is maximal at p: each prime with finitely many generators is that of a place, and
+-- The places over p and the primes of an order that is maximal at p: each prime with finitely many generators is that
+-- of a place, and
 -- a place is known from its prime.
 use Rattle.std.proofs.Common.{◌≡◌, ◌↔◌, List, ◌++◌, map, sym, subst}
 use Rattle.ring_theory.specs.Subsets.{IsSubring, IsModule, Span}
@@ -35,15 +36,18 @@ module _ {E : Type 0} (S : Setting E) (scalars : (s : Side) → IsSubring S.func
   }
 
   module _ (s : Side) (Base N : E → Type 0) (p : E) (O : E → Type 0) (order : IsOrderAt S s Base N p O) where
-    -- the place of a prime: spanned by generators of the prime over the base ring and the multiples by p of those of the side's ring
+    -- the place of a prime: spanned by generators of the prime over the base ring and the multiples by p of those of
+    -- the side's ring
     module _ (P : E → Type 0) (𝓟 : IsPrime ops O P) (p_in : P p) (scalar : (a : E) → Base a → S.IsScalar s a)
-        (rows gens : List E) (spanned : SameSet P (Span ops Base rows)) (all : SameSet (IsIntegralAt S s) (Span ops (S.IsScalar s) gens)) where
+        (rows gens : List E) (spanned : SameSet P (Span ops Base rows))
+        (all : SameSet (IsIntegralAt S s) (Span ops (S.IsScalar s) gens)) where
       abbrev pub place_of : Place E
       place_of = record { side = s; generators = rows ++ map (◌⊗◌ p) gens }
 
       maximal : IsMaximalIdeal ops (IsIntegralAt S s) (PlaceOf ops (IsIntegralAt S s) N P)
       maximal =
-          place_of_prime S.functions Base order.base_ring N p order.prime_to O order.ring order.base (IsIntegralAt S s) (side_ring S scalars s)
+          place_of_prime S.functions Base order.base_ring N p order.prime_to O order.ring order.base (IsIntegralAt S s)
+          (side_ring S scalars s)
           order.integral order.locally P 𝓟 p_in
 
       module_of : IsModule ops (S.IsScalar s) (PlaceOf ops (IsIntegralAt S s) N P)
@@ -55,23 +59,28 @@ module _ {E : Type 0} (S : Setting E) (scalars : (s : Side) → IsSubring S.func
 
       pub members_are : SameSet (PlaceOf ops (IsIntegralAt S s) N P) (IsIn S place_of)
       members_are =
-          place_generators S.functions Base order.base_ring N p order.prime_to O order.ring order.base (S.IsScalar s) (scalars s) scalar
-          (IsIntegralAt S s) (side_ring S scalars s) (scalar_integral S scalars s) order.integral order.locally P 𝓟.ideal p_in module_of
+          place_generators S.functions Base order.base_ring N p order.prime_to O order.ring order.base (S.IsScalar s)
+          (scalars s) scalar
+          (IsIntegralAt S s) (side_ring S scalars s) (scalar_integral S scalars s) order.integral order.locally P
+          𝓟.ideal p_in module_of
           rows gens spanned all
 
       pub place_of_is_place : IsPlace S place_of
-      place_of_is_place = (place_is_maximal S scalars place_of).1 (maximal_same (IsIntegralAt S s) _ (IsIn S place_of) members_are maximal)
+      place_of_is_place = (place_is_maximal S scalars place_of).1
+          (maximal_same (IsIntegralAt S s) _ (IsIn S place_of) members_are maximal)
 
       -- its members in the order are the prime
       pub place_of_members : (z : E) → O z → IsIn S place_of z ↔ P z
       place_of_members z z_in =
           let w =
-          place_within S.functions Base order.base_ring N p order.prime_to O order.ring order.base (IsIntegralAt S s) (side_ring S scalars s)
+          place_within S.functions Base order.base_ring N p order.prime_to O order.ring order.base (IsIntegralAt S s)
+          (side_ring S scalars s)
           order.integral order.locally P 𝓟 p_in z z_in in
           (λ h. w.0 ((members_are z).1 h), λ h. (members_are z).0 (w.1 h))
 
   -- two places over p with the same members in the order are the same
-  pub same_by_order : (P Q : Place E) (Base N : E → Type 0) (p : E) (O : E → Type 0) → IsPlaceOver S P Base N p O → IsPlaceOver S Q Base N p O
+  pub same_by_order : (P Q : Place E) (Base N : E → Type 0) (p : E) (O : E → Type 0) → IsPlaceOver S P Base N p O
+      → IsPlaceOver S Q Base N p O
       → P.side ≡ Q.side → ((z : E) → O z → IsIn S P z ↔ IsIn S Q z) → IsSamePlace S P Q
   same_by_order P Q Base N p O h k e same = record {
     side = e;
@@ -99,7 +108,10 @@ module _ {E : Type 0} (S : Setting E) (scalars : (s : Side) → IsSubring S.func
     );
   }
     where
-      known : (T : Place E) → IsPlaceOver S T Base N p O → (z : E) → IsIn S T z ↔ PlaceOf ops (IsIntegralAt S T.side) N (InPrime S T O) z
+      known : (T : Place E) → IsPlaceOver S T Base N p O → (z : E)
+          → IsIn S T z ↔ PlaceOf ops (IsIntegralAt S T.side) N (InPrime S T O) z
       known T o =
-          place_from_prime S.functions Base o.order.base_ring N p o.order.prime_to O o.order.ring o.order.base (IsIntegralAt S T.side)
-          (side_ring S scalars T.side) o.order.integral o.order.locally (IsIn S T) ((place_is_maximal S scalars T).0 o.place) o.over
+          place_from_prime S.functions Base o.order.base_ring N p o.order.prime_to O o.order.ring o.order.base
+          (IsIntegralAt S T.side)
+          (side_ring S scalars T.side) o.order.integral o.order.locally (IsIn S T)
+          ((place_is_maximal S scalars T).0 o.place) o.over

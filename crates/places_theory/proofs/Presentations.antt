@@ -87,18 +87,22 @@ module _ (k : CodeField) (p q : PresValue) (c : ℕ) (h : IsInfinitePresentation
             ap₂ (λ s w. s ⊗ w) (pow_add F X L (c + M) ∙ ap (λ s. pow F.ops X L ⊗ s) (pow_add F X c M))
             (eval_cons (polynomials k).ring F (φ k p q c) (at_hom k p T) (η k p q c) m a v)
             ∙ collect (pow F.ops X L) (pow F.ops X c) (pow F.ops X M) (pow F.ops T c) (φ k p q c a) (at_Y k p q c m v)
-            (of_poly (equation_of k p) (turned k p a)) (at_y (equation_of k p) m r.row) (turned_is k p a) r.is (powers_cancel k p c)
+            (of_poly (equation_of k p) (turned k p a)) (at_y (equation_of k p) m r.row) (turned_is k p a) r.is
+            (powers_cancel k p c)
             ∙ ap₂ (λ s w. s ⊕ Y ⊗ w)
             (ap (λ s. s ⊗ of_poly (equation_of k p) (turned k p a)) (sym (pow_add F X c M) ∙ sym (x_power k p (c + M)))
             ∙ sym ((poly_hom (equation_of k p)).mul xM (turned k p a)))
             (ap (λ s. s ⊗ at_y (equation_of k p) m r.row) (sym (x_power k p L))
-            ∙ sym (eval_scale (polynomials k).ring F (of_poly (equation_of k p)) (poly_hom (equation_of k p)) Y m xL r.row))
+            ∙ sym (eval_scale (polynomials k).ring F (of_poly (equation_of k p)) (poly_hom (equation_of k p)) Y m xL
+            r.row))
             ∙ sym (eval_cons (polynomials k).ring F (of_poly (equation_of k p)) (poly_hom (equation_of k p)) Y m
             ((polynomials k).◌⊗◌ xM (turned k p a)) (row_scale (polynomials k).ops m xL r.row));
         null = λ e.
             pair_path
-            (turned_zero k p a ((polynomials_domain k).cancel_zero xM (turned k p a) (nonzero (c + M)) (ap (λ w. w.0) e)))
-            (r.null (row_scale_cancel (polynomials k).ring (polynomials_domain k) m xL r.row (nonzero L) (ap (λ w. w.1) e)));
+            (turned_zero k p a ((polynomials_domain k).cancel_zero xM (turned k p a) (nonzero (c + M))
+            (ap (λ w. w.0) e)))
+            (r.null (row_scale_cancel (polynomials k).ring (polynomials_domain k) m xL r.row (nonzero L)
+            (ap (λ w. w.1) e)));
       }
     where
       nonzero : (n : ℕ) → ¬ (pow (polynomials k).ops (x_poly k) n ≡ (polynomials k).𝟘)
@@ -119,22 +123,27 @@ module _ (k : CodeField) (p q : PresValue) (c : ℕ) (h : IsInfinitePresentation
   at_Y_null : (v : Row (Polynomial k) (suc (q.n - 1))) → (m : ℕ) → suc (q.n - 1) ≡ suc m → m ≡ p.n - 1
       → at_Y k p q c (suc (q.n - 1)) v ≡ 𝟘 → v ≡ row_zero (polynomials k).ops (suc (q.n - 1))
   unfolding whole_pair
-  at_Y_null v m e f z = r.null (zero_row (q.n - 1) (let g : suc (q.n - 1) ≡ suc m = e in omega arith) r.row (sym r.is ∙ ap (λ s. pow F.ops X r.exponent ⊗ s) z ∙ mul_zero F _))
+  at_Y_null v m e f z = r.null (zero_row (q.n - 1) (let g : suc (q.n - 1) ≡ suc m = e in omega arith) r.row
+      (sym r.is ∙ ap (λ s. pow F.ops X r.exponent ⊗ s) z ∙ mul_zero F _))
     where
       r : Cleared (suc (q.n - 1)) v
       r = cleared (suc (q.n - 1)) v
 
-      zero_here : (u : Row (Polynomial k) (suc (p.n - 1))) → at_y (equation_of k p) (suc (p.n - 1)) u ≡ 𝟘 → u ≡ row_zero (polynomials k).ops (suc (p.n - 1))
+      zero_here : (u : Row (Polynomial k) (suc (p.n - 1))) → at_y (equation_of k p) (suc (p.n - 1)) u ≡ 𝟘
+          → u ≡ row_zero (polynomials k).ops (suc (p.n - 1))
       zero_here u g =
           sym (row_scale_one (polynomials k).ring (suc (p.n - 1)) u)
-          ∙ function_same (equation_of k p) (plain (equation_of k p) u) (whole_row (equation_of k p) (row_zero (polynomials k).ops (suc (p.n - 1))))
+          ∙ function_same (equation_of k p) (plain (equation_of k p) u)
+          (whole_row (equation_of k p) (row_zero (polynomials k).ops (suc (p.n - 1))))
           (sym (at_y_plain (equation_of k p) u) ∙ g ∙ zero_function (equation_of k p))
           ∙ row_scale_one (polynomials k).ring (suc (p.n - 1)) (row_zero (polynomials k).ops (suc (p.n - 1)))
 
-      zero_row : (n : ℕ) → n ≡ p.n - 1 → (u : Row (Polynomial k) (suc n)) → at_y (equation_of k p) (suc n) u ≡ 𝟘 → u ≡ row_zero (polynomials k).ops (suc n)
+      zero_row : (n : ℕ) → n ≡ p.n - 1 → (u : Row (Polynomial k) (suc n)) → at_y (equation_of k p) (suc n) u ≡ 𝟘
+          → u ≡ row_zero (polynomials k).ops (suc n)
       zero_row n g =
           subst
-          (λ n. (u : Row (Polynomial k) (suc n)) → at_y (equation_of k p) (suc n) u ≡ 𝟘 → u ≡ row_zero (polynomials k).ops (suc n)) (sym g) zero_here
+          (λ n. (u : Row (Polynomial k) (suc n)) → at_y (equation_of k p) (suc n) u ≡ 𝟘
+          → u ≡ row_zero (polynomials k).ops (suc n)) (sym g) zero_here
 
   kernel : (z : Functions k q) → map z ≡ 𝟘 → z ≡ (functions k q).𝟘
   unfolding whole_pair
@@ -156,7 +165,8 @@ module _ (k : CodeField) (p q : PresValue) (c : ℕ) (h : IsInfinitePresentation
             where
               undo : (d i s : Functions k p) → d ⊗ i ≡ 𝟙 → i ⊗ s ≡ 𝟘 → s ≡ 𝟘
               undo d i s g j =
-                  from_two F (⊖ s) d g j (ring F (d ∷ i ∷ s ∷ []) λ o n. simp (reads, o, n 0, n 1, n 2) (o.equal _ _ refl))
+                  from_two F (⊖ s) d g j
+                  (ring F (d ∷ i ∷ s ∷ []) λ o n. simp (reads, o, n 0, n 1, n 2) (o.equal _ _ refl))
 
           null : a.num ≡ row_zero (polynomials k).ops (suc (q.n - 1))
           null = at_Y_null a.num (q.n - 1) refl (let g : q.n ≡ p.n = h.degree in omega arith) value_null
@@ -175,10 +185,18 @@ module _ (k : CodeField) (p q : PresValue) (c : ℕ) (h : IsInfinitePresentation
   Hit w = (z : Functions k q) × (map z ≡ w)
 
   hit_sum : (a b : Functions k p) → Hit a → Hit b → Hit (a ⊕ b)
-  hit_sum a b (z, e) (w, f) = ((functions k q).◌⊕◌ z w, (presentation_hom k p q c h some).add z w ∙ ap₂ (λ s r. s ⊕ r) e f)
+  hit_sum a b (z, e) (w, f) = (
+    (functions k q).◌⊕◌ z w,
+    (presentation_hom k p q c h some).add z w
+        ∙ ap₂ (λ s r. s ⊕ r) e f,
+  )
 
   hit_product : (a b : Functions k p) → Hit a → Hit b → Hit (a ⊗ b)
-  hit_product a b (z, e) (w, f) = ((functions k q).◌⊗◌ z w, (presentation_hom k p q c h some).mul z w ∙ ap₂ (λ s r. s ⊗ r) e f)
+  hit_product a b (z, e) (w, f) = (
+    (functions k q).◌⊗◌ z w,
+    (presentation_hom k p q c h some).mul z w
+        ∙ ap₂ (λ s r. s ⊗ r) e f,
+  )
 
   hit_power : (a : Functions k p) → Hit a → (n : ℕ) → Hit (pow F.ops a n)
   hit_power a g zero = ((functions k q).𝟙, (presentation_hom k p q c h some).𝟙)
@@ -194,7 +212,8 @@ module _ (k : CodeField) (p q : PresValue) (c : ℕ) (h : IsInfinitePresentation
   hit_eq a b e (z, f) = (z, f ∙ e)
 
   hit_code : (a : Code k) → Hit (of_code k p a)
-  hit_code a = hit_eq _ _ (value_constant (code_ring k) F (of_code k p) (code_hom k p) T a) (hit_at (constant (code_ring k) a))
+  hit_code a = hit_eq _ _ (value_constant (code_ring k) F (of_code k p) (code_hom k p) T a)
+      (hit_at (constant (code_ring k) a))
 
   -- 1/x is the value at itself of x
   t_is : φ k p q c (x_poly k) ≡ T
@@ -205,7 +224,8 @@ module _ (k : CodeField) (p q : PresValue) (c : ℕ) (h : IsInfinitePresentation
     where
       zero_code : constant_code k p 0 ≡ 𝟘
       zero_code =
-          ap (of_poly (equation_of k p)) (constant_zero k) ∙ hom_zero (polynomials k).ring F (of_poly (equation_of k p)) (poly_hom (equation_of k p))
+          ap (of_poly (equation_of k p)) (constant_zero k)
+          ∙ hom_zero (polynomials k).ring F (of_poly (equation_of k p)) (poly_hom (equation_of k p))
 
       one_code : constant_code k p 1 ≡ 𝟙
       one_code =
@@ -218,12 +238,14 @@ module _ (k : CodeField) (p q : PresValue) (c : ℕ) (h : IsInfinitePresentation
   hit_x = hit_eq _ _ same (hit_unit (x_poly k) (x_poly_not_zero k))
     where
       other : (i s r : Functions k p) → s ⊗ i ≡ 𝟙 → r ⊗ s ≡ 𝟙 → i ≡ r
-      other i s r f g = from_two F r (⊖ i) f g (ring F (i ∷ s ∷ r ∷ []) λ o n. simp (reads, o, n 0, n 1, n 2) (o.equal _ _ refl))
+      other i s r f g = from_two F r (⊖ i) f g
+          (ring F (i ∷ s ∷ r ∷ []) λ o n. simp (reads, o, n 0, n 1, n 2) (o.equal _ _ refl))
 
       same : unit k p q c h some (x_poly k) (x_poly_not_zero k) ≡ X
       same =
           other (unit k p q c h some (x_poly k) (x_poly_not_zero k)) T X
-          (ap (λ s. s ⊗ unit k p q c h some (x_poly k) (x_poly_not_zero k)) (sym t_is) ∙ unit_law k p q c h some (x_poly k) (x_poly_not_zero k)) (x_times_t k p)
+          (ap (λ s. s ⊗ unit k p q c h some (x_poly k) (x_poly_not_zero k)) (sym t_is)
+          ∙ unit_law k p q c h some (x_poly k) (x_poly_not_zero k)) (x_times_t k p)
 
   hit_codes : (w : List (Code k)) → Hit (evaluate (code_ring k) F (of_code k p) (code_hom k p) X w)
   hit_codes [] = ((functions k q).𝟘, hom_zero (functions k q) F map (presentation_hom k p q c h some))
@@ -245,7 +267,8 @@ module _ (k : CodeField) (p q : PresValue) (c : ℕ) (h : IsInfinitePresentation
       hit_eq _ _ (sym (eval_none (polynomials k).ring F (of_poly (equation_of k p)) (poly_hom (equation_of k p)) Y v))
       ((functions k q).𝟘, hom_zero (functions k q) F map (presentation_hom k p q c h some))
   hit_row (suc m) (a, v) =
-      hit_eq _ _ (sym (eval_cons (polynomials k).ring F (of_poly (equation_of k p)) (poly_hom (equation_of k p)) Y m a v))
+      hit_eq _ _ (sym (eval_cons (polynomials k).ring F (of_poly (equation_of k p)) (poly_hom (equation_of k p)) Y m a
+      v))
       (hit_sum _ _ (hit_poly a) (hit_product _ _ hit_y (hit_row m v)))
 
   -- an inverse of each polynomial but 0
@@ -266,7 +289,8 @@ module _ (k : CodeField) (p q : PresValue) (c : ℕ) (h : IsInfinitePresentation
             product (of_poly (equation_of k p) d) (pow F.ops X (length w)) (pow F.ops T (length w)) (φ k p q c D) i
             (ap (λ s. pow F.ops X (length w) ⊗ s) (sym (value_at_is k p T w)) ∙ reversed k p w
             ∙ (poly_hom (equation_of k p)).mul (x_poly k) (value k (reverse w))
-            ∙ ap (λ a. X ⊗ of_poly (equation_of k p) a) (ap (value k) (reverse-reverse (codes_of k d)) ∙ value_codes_of k d))
+            ∙ ap (λ a. X ⊗ of_poly (equation_of k p) a)
+            (ap (value k) (reverse-reverse (codes_of k d)) ∙ value_codes_of k d))
             (powers_cancel k p (length w)) (unit_law k p q c h some D nonzero);
       }
     where
@@ -284,7 +308,8 @@ module _ (k : CodeField) (p q : PresValue) (c : ℕ) (h : IsInfinitePresentation
   map_onto w = go (row_of_function (equation_of k p) w)
     where
       undo : (d i s w : Functions k p) → d ⊗ i ≡ 𝟙 → d ⊗ w ≡ s → i ⊗ s ≡ w
-      undo d i s w f g = from_two F w (⊖ i) f g (ring F (d ∷ i ∷ s ∷ w ∷ []) λ o n. simp (reads, o, n 0, n 1, n 2, n 3) (o.equal _ _ refl))
+      undo d i s w f g = from_two F w (⊖ i) f g
+          (ring F (d ∷ i ∷ s ∷ w ∷ []) λ o n. simp (reads, o, n 0, n 1, n 2, n 3) (o.equal _ _ refl))
 
       go : (a : RowOver (equation_of k p)) × (function (equation_of k p) a ≡ w) → Hit w
       go (a, f) =
@@ -295,4 +320,8 @@ module _ (k : CodeField) (p q : PresValue) (c : ℕ) (h : IsInfinitePresentation
           (hit_product _ _ i.hit (hit_row (suc (p.n - 1)) a.num))
 
   pub presentation_isomorphism : IsIsomorphism (functions k q) (functions k p) (presentation_map k p q c h some)
-  presentation_isomorphism = record { hom = presentation_hom k p q c h some; injective = map_injective; onto = map_onto }
+  presentation_isomorphism = record {
+    hom = presentation_hom k p q c h some;
+    injective = map_injective;
+    onto = map_onto;
+  }

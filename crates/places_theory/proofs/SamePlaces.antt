@@ -91,15 +91,19 @@ module _ {E : Type 0} (S : Setting E) (scalars : (s : Side) → IsSubring S.func
               negative x = ring S.functions (x ∷ []) λ q i. simp (reads, q, i 0) (q.equal _ _ refl)
 
   -- sameness is decided where membership in both is
-  pub same_place_decided : (P Q : Place E) → ((z : E) → Dec (IsIn S P z)) → ((z : E) → Dec (IsIn S Q z)) → Dec (IsSamePlace S P Q)
-  same_place_decided P Q p q = go (side_discrete P.side Q.side) (decide_all (IsIn S Q) q P.generators) (decide_all (IsIn S P) p Q.generators)
+  pub same_place_decided : (P Q : Place E) → ((z : E) → Dec (IsIn S P z)) → ((z : E) → Dec (IsIn S Q z))
+      → Dec (IsSamePlace S P Q)
+  same_place_decided P Q p q = go (side_discrete P.side Q.side) (decide_all (IsIn S Q) q P.generators)
+      (decide_all (IsIn S P) p Q.generators)
     where
       members : {A B : E → Type 0} → ((z : E) → A z ↔ B z) → (xs : List E) → All A xs → All B xs
       members f xs h k d l = (f _).0 (h k d l)
 
-      go : Dec (P.side ≡ Q.side) → Dec (All (IsIn S Q) P.generators) → Dec (All (IsIn S P) Q.generators) → Dec (IsSamePlace S P Q)
+      go : Dec (P.side ≡ Q.side) → Dec (All (IsIn S Q) P.generators) → Dec (All (IsIn S P) Q.generators)
+          → Dec (IsSamePlace S P Q)
       go (no n) a b = no (λ h. n h.side)
       go (yes e) (no n) b = no (λ h. n (members h.members P.generators (generators_in P)))
-      go (yes e) (yes a) (no n) = no (λ h. n (members (λ z. ((h.members z).1, (h.members z).0)) Q.generators (generators_in Q)))
+      go (yes e) (yes a) (no n) = no (λ h. n
+          (members (λ z. ((h.members z).1, (h.members z).0)) Q.generators (generators_in Q)))
       go (yes e) (yes a) (yes b) =
           yes (record { side = e; members = λ z. (place_within P Q e a z, place_within Q P (sym e) b z) })

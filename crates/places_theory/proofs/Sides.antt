@@ -1,4 +1,5 @@
--- The integral functions of a side are a ring, and the places of the side are its maximal ideals with finitely many generators.
+-- The integral functions of a side are a ring, and the places of the side are its maximal ideals with finitely many
+-- generators.
 use Rattle.std.proofs.Common.{◌↔◌, ℕ, zero, suc, ap, subst}
 use Rattle.ring_theory.specs.Subsets.{IsSubring, IsModule}
 use Rattle.ring_theory.proofs.Subsets.{span_module, product_module}
@@ -43,7 +44,12 @@ module _ {E : Type 0} (S : Setting E) (scalars : (s : Side) → IsSubring S.func
       proper = place.proper;
       invert = λ u u_in n.
           let w = place.inverse u u_in n in
-          record { inverse = w.0; inverse_in = w.1; is = subst (IsIn S P) (ap (λ x. x ⊕ ⊖ 𝟙) (S.functions.mul_comm u w.0)) w.2 };
+          record {
+            inverse = w.0;
+            inverse_in = w.1;
+            is = subst (IsIn S P)
+                (ap (λ x. x ⊕ ⊖ 𝟙) (S.functions.mul_comm u w.0)) w.2;
+          };
     },
     λ max. record {
       integral = max.ideal.within;
@@ -60,7 +66,8 @@ module _ {E : Type 0} (S : Setting E) (scalars : (s : Side) → IsSubring S.func
     pub in_power_module : (m : ℕ) → IsModule ops (IsIntegralAt S P.side) (InPower S P m)
     in_power_module zero = integral_module P.side
     in_power_module (suc m) =
-        product_module S.functions (IsIntegralAt S P.side) (side_ring P.side) (InPower S P m) (IsIn S P) (in_power_module m)
+        product_module S.functions (IsIntegralAt S P.side) (side_ring P.side) (InPower S P m) (IsIn S P)
+        (in_power_module m)
 
     pub in_power_integral : (m : ℕ) (z : E) → InPower S P m z → IsIntegralAt S P.side z
     in_power_integral zero z h = h
@@ -74,7 +81,8 @@ module _ {E : Type 0} (S : Setting E) (scalars : (s : Side) → IsSubring S.func
     in_power_descends m z h =
         product_into S.functions (InPower S P m) (IsIn S P) (InPower S P m)
         (additive_of_module S.functions (IsIntegralAt S P.side) (InPower S P m) (in_power_module m))
-        (λ a b i j. subst (InPower S P m) (S.functions.mul_comm b a) ((in_power_module m).scale_in b a (place.integral b j) i)) z h
+        (λ a b i j. subst (InPower S P m) (S.functions.mul_comm b a)
+        ((in_power_module m).scale_in b a (place.integral b j) i)) z h
 
     pub in_power_within : (m : ℕ) (z : E) → InPower S P (suc m) z → IsIn S P z
     in_power_within m z h =
@@ -92,7 +100,8 @@ module _ {E : Type 0} (S : Setting E) (scalars : (s : Side) → IsSubring S.func
         let same = in_power_is m in (
           λ h.
               product_swap S.functions O 𝓞 (Power ops O M m) M 𝓜 z
-              (product_monotone S.functions O 𝓞 (InPower S P m) M (Power ops O M m) M (power_module S.functions O 𝓞 M 𝓜 m)
+              (product_monotone S.functions O 𝓞 (InPower S P m) M (Power ops O M m) M
+              (power_module S.functions O 𝓞 M 𝓜 m)
               (λ a. (same a).0) (λ a i. i) z h),
           λ h.
               product_monotone S.functions O 𝓞 (Power ops O M m) M (InPower S P m) M (in_power_module m)

@@ -1,4 +1,5 @@
--- What an isomorphism of rings carries over: integral elements, spans, products, powers, maximal ideals and their valuations.
+-- What an isomorphism of rings carries over: integral elements, spans, products, powers, maximal ideals and their
+-- valuations.
 use Rattle.std.proofs.Common.{◌≡◌, ◌↔◌, ℕ, zero, suc, List, [], ◌∷◌, map, refl, sym, ◌∙◌, ap, ap₂, subst}
 use Rattle.ring_lemmas.specs.Ring.{CommRing, pow}
 use Rattle.ring_lemmas.specs.Sums.{sum_below, sum_over}
@@ -19,7 +20,8 @@ module _ {A B : Type 0} (R : CommRing A) (R' : CommRing B) (f : A → B) (hom : 
 
   module _ (S : A → Type 0) (S' : B → Type 0) (carry : (a : A) → S a → S' (f a)) where
     terms : (n : ℕ) (c : ℕ → A) (z : A)
-        → sum_below R'.ops n (λ i. f (R.◌⊗◌ (c i) (pow R.ops z i))) ≡ sum_below R'.ops n (λ i. R'.◌⊗◌ (f (c i)) (pow R'.ops (f z) i))
+        → sum_below R'.ops n (λ i. f (R.◌⊗◌ (c i) (pow R.ops z i)))
+        ≡ sum_below R'.ops n (λ i. R'.◌⊗◌ (f (c i)) (pow R'.ops (f z) i))
     terms zero c z = refl
     terms (suc n) c z = ap₂ R'.◌⊕◌ (terms n c z) (hom.mul _ _ ∙ ap (R'.◌⊗◌ (f (c n))) (map_pow R R' f hom z n))
 
@@ -45,20 +47,29 @@ module _ {A B : Type 0} (R : CommRing A) (R' : CommRing B) (f : A → B) (hom : 
       is = ap f h.is ∙ hom.add _ _ ∙ ap (λ x. R'.◌⊕◌ x (f h.rest)) (hom.mul h.scalar b);
     }
 
-  module _ (M N : A → Type 0) (M' N' : B → Type 0) (left : (a : A) → M a → M' (f a)) (right : (a : A) → N a → N' (f a)) where
-    factors : (ps : List (Factors M N))
-        → (qs : List (Factors M' N')) × (f (sum_over R.ops ps (λ p. R.◌⊗◌ p.left p.right)) ≡ sum_over R'.ops qs (λ p. R'.◌⊗◌ p.left p.right))
-    factors [] = ([], hom_zero R R' f hom)
-    factors (p ∷ ps) =
-        let r = factors ps in (
-          record { left = f p.left; left_in = left p.left p.left_in; right = f p.right; right_in = right p.right p.right_in } ∷ r.0,
-          hom.add _ _ ∙ ap₂ R'.◌⊕◌ (hom.mul p.left p.right) r.1,
-        )
+  module _ (M N : A → Type 0) (M' N' : B → Type 0) (left : (a : A) → M a → M' (f a)) (right : (a : A) → N a → N' (f a))
+    where
+      factors : (ps : List (Factors M N))
+          → (qs : List (Factors M' N')) × (f (sum_over R.ops ps (λ p. R.◌⊗◌ p.left p.right))
+          ≡ sum_over R'.ops qs (λ p. R'.◌⊗◌ p.left p.right))
+      factors [] = ([], hom_zero R R' f hom)
+      factors (p ∷ ps) =
+          let r = factors ps in (
+            record {
+              left = f p.left;
+              left_in = left p.left p.left_in;
+              right = f p.right;
+              right_in = right p.right
+                  p.right_in;
+            } ∷ r.0,
+            hom.add _ _ ∙ ap₂ R'.◌⊕◌ (hom.mul p.left p.right) r.1,
+          )
 
-    pub product_image : (z : A) → Product R.ops M N z → Product R'.ops M' N' (f z)
-    product_image z h = let r = factors h.0 in (r.0, ap f h.1 ∙ r.1)
+      pub product_image : (z : A) → Product R.ops M N z → Product R'.ops M' N' (f z)
+      product_image z h = let r = factors h.0 in (r.0, ap f h.1 ∙ r.1)
 
-  pub power_image : (O P : A → Type 0) (O' P' : B → Type 0) → ((a : A) → O a → O' (f a)) → ((a : A) → P a → P' (f a)) → (n : ℕ) (z : A)
+  pub power_image : (O P : A → Type 0) (O' P' : B → Type 0) → ((a : A) → O a → O' (f a)) → ((a : A) → P a → P' (f a))
+      → (n : ℕ) (z : A)
       → Power R.ops O P n z → Power R'.ops O' P' n (f z)
   power_image O P O' P' g h zero z i = g z i
   power_image O P O' P' g h (suc n) z i =
@@ -77,8 +88,10 @@ module _ {A B : Type 0} (R : CommRing A) (R' : CommRing B) (f : A → B) (iso : 
 
   pub back_hom : IsHom R' R back
   back_hom = record {
-    add = λ a b. iso.injective _ _ (f_back (R'.◌⊕◌ a b) ∙ sym (iso.hom.add (back a) (back b) ∙ ap₂ R'.◌⊕◌ (f_back a) (f_back b)));
-    mul = λ a b. iso.injective _ _ (f_back (R'.◌⊗◌ a b) ∙ sym (iso.hom.mul (back a) (back b) ∙ ap₂ R'.◌⊗◌ (f_back a) (f_back b)));
+    add = λ a b. iso.injective _ _ (f_back (R'.◌⊕◌ a b)
+        ∙ sym (iso.hom.add (back a) (back b) ∙ ap₂ R'.◌⊕◌ (f_back a) (f_back b)));
+    mul = λ a b. iso.injective _ _ (f_back (R'.◌⊗◌ a b)
+        ∙ sym (iso.hom.mul (back a) (back b) ∙ ap₂ R'.◌⊗◌ (f_back a) (f_back b)));
     𝟙 = iso.injective _ _ (f_back R'.𝟙 ∙ sym iso.hom.𝟙);
   }
 
@@ -86,7 +99,8 @@ module _ {A B : Type 0} (R : CommRing A) (R' : CommRing B) (f : A → B) (iso : 
   returns : (S : A → Type 0) (S' : B → Type 0) → ((a : A) → S a ↔ S' (f a)) → (b : B) → S' b → S (back b)
   returns S S' e b h = (e (back b)).1 (subst S' (sym (f_back b)) h)
 
-  pub integral_iff : (S : A → Type 0) (S' : B → Type 0) → ((a : A) → S a ↔ S' (f a)) → (z : A) → IsIntegral R.ops S z ↔ IsIntegral R'.ops S' (f z)
+  pub integral_iff : (S : A → Type 0) (S' : B → Type 0) → ((a : A) → S a ↔ S' (f a)) → (z : A)
+      → IsIntegral R.ops S z ↔ IsIntegral R'.ops S' (f z)
   integral_iff S S' e z = (
     integral_image R R' f iso.hom S S' (λ a. (e a).0) z,
     λ h. subst (IsIntegral R.ops S) (back_f z) (integral_image R' R back back_hom S' S (returns S S' e) (f z) h),
@@ -96,22 +110,27 @@ module _ {A B : Type 0} (R : CommRing A) (R' : CommRing B) (f : A → B) (iso : 
   map_back [] = refl
   map_back (b ∷ bs) = ap₂ (λ x xs. x ∷ xs) (back_f b) (map_back bs)
 
-  pub span_iff : (S : A → Type 0) (S' : B → Type 0) → ((a : A) → S a ↔ S' (f a)) → (bs : List A) (z : A) → Span R.ops S bs z ↔ Span R'.ops S' (map f bs) (f z)
+  pub span_iff : (S : A → Type 0) (S' : B → Type 0) → ((a : A) → S a ↔ S' (f a)) → (bs : List A) (z : A)
+      → Span R.ops S bs z ↔ Span R'.ops S' (map f bs) (f z)
   span_iff S S' e bs z = (
     span_image R R' f iso.hom S S' (λ a. (e a).0) bs z,
     λ h.
         subst (λ xs. Span R.ops S xs z) (map_back bs)
-        (subst (Span R.ops S (map back (map f bs))) (back_f z) (span_image R' R back back_hom S' S (returns S S' e) (map f bs) (f z) h)),
+        (subst (Span R.ops S (map back (map f bs))) (back_f z)
+        (span_image R' R back back_hom S' S (returns S S' e) (map f bs) (f z) h)),
   )
 
-  pub power_iff : (O P : A → Type 0) (O' P' : B → Type 0) → ((a : A) → O a ↔ O' (f a)) → ((a : A) → P a ↔ P' (f a)) → (n : ℕ) (z : A)
+  pub power_iff : (O P : A → Type 0) (O' P' : B → Type 0) → ((a : A) → O a ↔ O' (f a)) → ((a : A) → P a ↔ P' (f a))
+      → (n : ℕ) (z : A)
       → Power R.ops O P n z ↔ Power R'.ops O' P' n (f z)
   power_iff O P O' P' g h n z = (
     power_image R R' f iso.hom O P O' P' (λ a. (g a).0) (λ a. (h a).0) n z,
-    λ i. subst (Power R.ops O P n) (back_f z) (power_image R' R back back_hom O' P' O P (returns O O' g) (returns P P' h) n (f z) i),
+    λ i. subst (Power R.ops O P n) (back_f z)
+        (power_image R' R back back_hom O' P' O P (returns O O' g) (returns P P' h) n (f z) i),
   )
 
-  module _ (O M : A → Type 0) (O' M' : B → Type 0) (ring_same : (a : A) → O a ↔ O' (f a)) (same : (a : A) → M a ↔ M' (f a)) where
+  module _ (O M : A → Type 0) (O' M' : B → Type 0) (ring_same : (a : A) → O a ↔ O' (f a))
+      (same : (a : A) → M a ↔ M' (f a)) where
     to_M : (b : B) (a : A) → f a ≡ b → M a → M' b
     to_M b a e h = subst M' e ((same a).0 h)
 
@@ -121,10 +140,12 @@ module _ {A B : Type 0} (R : CommRing A) (R' : CommRing B) (f : A → B) (iso : 
         within = λ b i. subst O' (f_back b) ((ring_same (back b)).0 (h.ideal.within (back b) (returns M M' same b i)));
         zero_in = to_M R'.𝟘 R.𝟘 (hom_zero R R' f iso.hom) h.ideal.zero_in;
         sum_in = λ a b i j.
-            to_M (R'.◌⊕◌ a b) (R.◌⊕◌ (back a) (back b)) (iso.hom.add (back a) (back b) ∙ ap₂ R'.◌⊕◌ (f_back a) (f_back b))
+            to_M (R'.◌⊕◌ a b) (R.◌⊕◌ (back a) (back b))
+            (iso.hom.add (back a) (back b) ∙ ap₂ R'.◌⊕◌ (f_back a) (f_back b))
             (h.ideal.sum_in _ _ (returns M M' same a i) (returns M M' same b j));
         scale_in = λ a b i j.
-            to_M (R'.◌⊗◌ a b) (R.◌⊗◌ (back a) (back b)) (iso.hom.mul (back a) (back b) ∙ ap₂ R'.◌⊗◌ (f_back a) (f_back b))
+            to_M (R'.◌⊗◌ a b) (R.◌⊗◌ (back a) (back b))
+            (iso.hom.mul (back a) (back b) ∙ ap₂ R'.◌⊗◌ (f_back a) (f_back b))
             (h.ideal.scale_in _ _ (returns O O' ring_same a i) (returns M M' same b j));
       };
       proper = λ i. h.proper (subst M (back_hom.𝟙) (returns M M' same R'.𝟙 i));
@@ -160,44 +181,50 @@ module _ {A B : Type 0} (R : CommRing A) (R' : CommRing B) (f : A → B) (iso : 
       unit_in = (ring_same h.unit).0 h.unit_in;
       unit_out = out h.unit h.unit_out;
       takes = λ w i.
-          let k = h.takes (back w) (power_image R' R back back_hom O' M' O M (returns O O' ring_same) (returns M M' same) m w i) in
-          subst O' (iso.hom.mul (R.◌⊗◌ h.unit z) (back w) ∙ ap₂ R'.◌⊗◌ (iso.hom.mul h.unit z) (f_back w)) ((ring_same _).0 k);
+          let k = h.takes (back w) (power_image R' R back back_hom O' M' O M (returns O O' ring_same)
+          (returns M M' same) m w i) in
+          subst O' (iso.hom.mul (R.◌⊗◌ h.unit z) (back w) ∙ ap₂ R'.◌⊗◌ (iso.hom.mul h.unit z) (f_back w))
+          ((ring_same _).0 k);
     }
 
 -- both ways
 module _ {A B : Type 0} (R : CommRing A) (R' : CommRing B) (f : A → B) (iso : IsIsomorphism R R' f)
-    (O M : A → Type 0) (O' M' : B → Type 0) (ring_same : (a : A) → O a ↔ O' (f a)) (same : (a : A) → M a ↔ M' (f a)) where
-  inverse : IsIsomorphism R' R (back R R' f iso)
-  inverse = record {
-    hom = back_hom R R' f iso;
-    injective = λ a b e. sym (f_back R R' f iso a) ∙ ap f e ∙ f_back R R' f iso b;
-    onto = λ a. (f a, back_f R R' f iso a);
-  }
+    (O M : A → Type 0) (O' M' : B → Type 0) (ring_same : (a : A) → O a ↔ O' (f a)) (same : (a : A) → M a ↔ M' (f a))
+  where
+    inverse : IsIsomorphism R' R (back R R' f iso)
+    inverse = record {
+      hom = back_hom R R' f iso;
+      injective = λ a b e. sym (f_back R R' f iso a) ∙ ap f e ∙ f_back R R' f iso b;
+      onto = λ a. (f a, back_f R R' f iso a);
+    }
 
-  same_back : (S : A → Type 0) (S' : B → Type 0) → ((a : A) → S a ↔ S' (f a)) → (b : B) → S' b ↔ S (back R R' f iso b)
-  same_back S S' e b = (
-    λ h. (e (back R R' f iso b)).1 (subst S' (sym (f_back R R' f iso b)) h),
-    λ h. subst S' (f_back R R' f iso b) ((e (back R R' f iso b)).0 h),
-  )
+    same_back : (S : A → Type 0) (S' : B → Type 0) → ((a : A) → S a ↔ S' (f a)) → (b : B) → S' b ↔ S (back R R' f iso b)
+    same_back S S' e b = (
+      λ h. (e (back R R' f iso b)).1 (subst S' (sym (f_back R R' f iso b)) h),
+      λ h. subst S' (f_back R R' f iso b) ((e (back R R' f iso b)).0 h),
+    )
 
-  pub maximal_iff : IsMaximalIdeal R.ops O M ↔ IsMaximalIdeal R'.ops O' M'
-  maximal_iff = (
-    maximal_to R R' f iso O M O' M' ring_same same,
-    maximal_to R' R (back R R' f iso) inverse O' M' O M (same_back O O' ring_same) (same_back M M' same),
-  )
+    pub maximal_iff : IsMaximalIdeal R.ops O M ↔ IsMaximalIdeal R'.ops O' M'
+    maximal_iff = (
+      maximal_to R R' f iso O M O' M' ring_same same,
+      maximal_to R' R (back R R' f iso) inverse O' M' O M (same_back O O' ring_same) (same_back M M' same),
+    )
 
-  pub value_iff : (z : A) (m : ℕ) → PlaceAtLeast R.ops O M z m ↔ PlaceAtLeast R'.ops O' M' (f z) m
-  value_iff z m = (
-    value_to R R' f iso O M O' M' ring_same same z m,
-    λ h.
-        subst (λ x. PlaceAtLeast R.ops O M x m) (back_f R R' f iso z)
-        (value_to R' R (back R R' f iso) inverse O' M' O M (same_back O O' ring_same) (same_back M M' same) (f z) m h),
-  )
+    pub value_iff : (z : A) (m : ℕ) → PlaceAtLeast R.ops O M z m ↔ PlaceAtLeast R'.ops O' M' (f z) m
+    value_iff z m = (
+      value_to R R' f iso O M O' M' ring_same same z m,
+      λ h.
+          subst (λ x. PlaceAtLeast R.ops O M x m) (back_f R R' f iso z)
+          (value_to R' R (back R R' f iso) inverse O' M' O M (same_back O O' ring_same)
+          (same_back M M' same) (f z) m h),
+    )
 
-  pub value_minus_iff : (z : A) (m : ℕ) → PlaceAtLeastMinus R.ops O M z m ↔ PlaceAtLeastMinus R'.ops O' M' (f z) m
-  value_minus_iff z m = (
-    value_minus_to R R' f iso O M O' M' ring_same same z m,
-    λ h.
-        subst (λ x. PlaceAtLeastMinus R.ops O M x m) (back_f R R' f iso z)
-        (value_minus_to R' R (back R R' f iso) inverse O' M' O M (same_back O O' ring_same) (same_back M M' same) (f z) m h),
-  )
+    pub value_minus_iff : (z : A) (m : ℕ) → PlaceAtLeastMinus R.ops O M z m ↔ PlaceAtLeastMinus R'.ops O' M' (f z) m
+    value_minus_iff z m = (
+      value_minus_to R R' f iso O M O' M' ring_same same z m,
+      λ h.
+          subst (λ x. PlaceAtLeastMinus R.ops O M x m) (back_f R R' f iso z)
+          (value_minus_to R' R (back R R' f iso) inverse O' M' O M (same_back O O' ring_same)
+          (same_back M M' same) (f z)
+          m h),
+    )

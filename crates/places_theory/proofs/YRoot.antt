@@ -58,7 +58,8 @@ module _ {k : CodeField} (c : Equation k) where
       ∙ one_mul (ring_of c) (function c (plain c v))
 
   -- a/b is the only function that b takes to a
-  pub over_times_den : (a b : Polynomial k) (n : ¬ (b ≡ (polynomials k).𝟘)) → (ring_of c).◌⊗◌ (of_poly c b) (over c (row_of c a) b n) ≡ of_poly c a
+  pub over_times_den : (a b : Polynomial k) (n : ¬ (b ≡ (polynomials k).𝟘))
+      → (ring_of c).◌⊗◌ (of_poly c b) (over c (row_of c a) b n) ≡ of_poly c a
   over_times_den a b n =
       den_times (record { num = row_of c a; den = b; den_not_zero = n })
       ∙ eval_constant (polynomials k).ring (ring_of c) (of_poly c) poly_hom (y_of c) c.lower_degree a
@@ -66,9 +67,11 @@ module _ {k : CodeField} (c : Equation k) where
   pub over_unique : (a b : Polynomial k) (n : ¬ (b ≡ (polynomials k).𝟘)) (z : FunctionOf c)
       → (ring_of c).◌⊗◌ (of_poly c b) z ≡ of_poly c a → z ≡ over c (row_of c a) b n
   over_unique a b n z e =
-      same (of_poly c b) (over c (row_of c (polynomials k).𝟙) b n) z (over c (row_of c a) b n) (den_inverse c b n) (e ∙ sym (over_times_den a b n))
+      same (of_poly c b) (over c (row_of c (polynomials k).𝟙) b n) z (over c (row_of c a) b n) (den_inverse c b n)
+      (e ∙ sym (over_times_den a b n))
     where
-      same : (d i z w : FunctionOf c) → (ring_of c).◌⊗◌ d i ≡ (ring_of c).𝟙 → (ring_of c).◌⊗◌ d z ≡ (ring_of c).◌⊗◌ d w → z ≡ w
+      same : (d i z w : FunctionOf c) → (ring_of c).◌⊗◌ d i ≡ (ring_of c).𝟙 → (ring_of c).◌⊗◌ d z ≡ (ring_of c).◌⊗◌ d w
+          → z ≡ w
       same d i z w f g =
           from_two (ring_of c) ((ring_of c).◌⊕◌ w ((ring_of c).⊖◌ z)) i f g
           (ring (ring_of c) (d ∷ i ∷ z ∷ w ∷ []) λ q h. simp (reads, q, h 0, h 1, h 2, h 3) (q.equal _ _ refl))
@@ -83,7 +86,8 @@ module _ {k : CodeField} (c : Equation k) where
   top_last zero a = refl
   top_last (suc n) a = top_last n (polynomials k).𝟘
 
-  pub y_root : (ring_of c).◌⊕◌ (pow (ring_of c).ops (y_of c) (suc c.lower_degree)) (at_y (suc c.lower_degree) c.coefficients) ≡ (ring_of c).𝟘
+  pub y_root : (ring_of c).◌⊕◌ (pow (ring_of c).ops (y_of c) (suc c.lower_degree))
+      (at_y (suc c.lower_degree) c.coefficients) ≡ (ring_of c).𝟘
   unfolding times_y
   y_root =
       solve (at_y (suc n) (shift P.ops (suc n) P.𝟘 v)) (at_y (suc n) c.coefficients)
@@ -99,7 +103,8 @@ module _ {k : CodeField} (c : Equation k) where
       v = last_row c.lower_degree
 
       turned : (ring_of c).◌⊗◌ (y_of c) (at_y (suc c.lower_degree) (last_row c.lower_degree))
-          ≡ (ring_of c).◌⊕◌ (at_y (suc c.lower_degree) (shift (polynomials k).ops (suc c.lower_degree) (polynomials k).𝟘 (last_row c.lower_degree)))
+          ≡ (ring_of c).◌⊕◌ (at_y (suc c.lower_degree)
+          (shift (polynomials k).ops (suc c.lower_degree) (polynomials k).𝟘 (last_row c.lower_degree)))
           ((ring_of c).◌⊗◌ ((ring_of c).⊖◌ (ring_of c).𝟙) (at_y (suc c.lower_degree) c.coefficients))
       turned =
           ap ((ring_of c).◌⊗◌ (y_of c)) (at_y_plain (last_row c.lower_degree))
@@ -108,27 +113,36 @@ module _ {k : CodeField} (c : Equation k) where
           ∙ eval_add (polynomials k).ring (ring_of c) (of_poly c) poly_hom (y_of c) (suc c.lower_degree)
           (shift (polynomials k).ops (suc c.lower_degree) (polynomials k).𝟘 (last_row c.lower_degree))
           (row_scale (polynomials k).ops (suc c.lower_degree)
-          ((polynomials k).⊖◌ (top (polynomials k).ops (suc c.lower_degree) (polynomials k).𝟘 (last_row c.lower_degree))) c.coefficients)
-          ∙ ap ((ring_of c).◌⊕◌ (at_y (suc c.lower_degree) (shift (polynomials k).ops (suc c.lower_degree) (polynomials k).𝟘 (last_row c.lower_degree))))
+          ((polynomials k).⊖◌ (top (polynomials k).ops (suc c.lower_degree) (polynomials k).𝟘
+          (last_row c.lower_degree))) c.coefficients)
+          ∙ ap ((ring_of c).◌⊕◌ (at_y (suc c.lower_degree)
+          (shift (polynomials k).ops (suc c.lower_degree) (polynomials k).𝟘 (last_row c.lower_degree))))
           (eval_scale (polynomials k).ring (ring_of c) (of_poly c) poly_hom (y_of c) (suc c.lower_degree)
-          ((polynomials k).⊖◌ (top (polynomials k).ops (suc c.lower_degree) (polynomials k).𝟘 (last_row c.lower_degree))) c.coefficients
+          ((polynomials k).⊖◌ (top (polynomials k).ops (suc c.lower_degree) (polynomials k).𝟘
+          (last_row c.lower_degree))) c.coefficients
           ∙ ap (λ x. (ring_of c).◌⊗◌ x (at_y (suc c.lower_degree) c.coefficients))
           (ap (λ a. of_poly c ((polynomials k).⊖◌ a)) (top_last c.lower_degree (polynomials k).𝟘)
-          ∙ hom_neg (polynomials k).ring (ring_of c) (of_poly c) poly_hom (polynomials k).𝟙 ∙ ap (ring_of c).⊖◌ poly_hom.𝟙))
+          ∙ hom_neg (polynomials k).ring (ring_of c) (of_poly c) poly_hom (polynomials k).𝟙
+          ∙ ap (ring_of c).⊖◌ poly_hom.𝟙))
 
-      shifted : (ring_of c).◌⊕◌ (at_y (suc c.lower_degree) (shift (polynomials k).ops (suc c.lower_degree) (polynomials k).𝟘 (last_row c.lower_degree)))
+      shifted : (ring_of c).◌⊕◌ (at_y (suc c.lower_degree)
+          (shift (polynomials k).ops (suc c.lower_degree) (polynomials k).𝟘 (last_row c.lower_degree)))
           ((ring_of c).◌⊗◌ (pow (ring_of c).ops (y_of c) (suc c.lower_degree)) (ring_of c).𝟙)
-          ≡ (ring_of c).◌⊕◌ (ring_of c).𝟘 ((ring_of c).◌⊗◌ (y_of c) (at_y (suc c.lower_degree) (last_row c.lower_degree)))
+          ≡ (ring_of c).◌⊕◌ (ring_of c).𝟘
+          ((ring_of c).◌⊗◌ (y_of c) (at_y (suc c.lower_degree) (last_row c.lower_degree)))
       shifted =
-          ap (λ x. (ring_of c).◌⊕◌ (at_y (suc c.lower_degree) (shift (polynomials k).ops (suc c.lower_degree) (polynomials k).𝟘 (last_row c.lower_degree)))
+          ap (λ x. (ring_of c).◌⊕◌ (at_y (suc c.lower_degree)
+          (shift (polynomials k).ops (suc c.lower_degree) (polynomials k).𝟘 (last_row c.lower_degree)))
           ((ring_of c).◌⊗◌ (pow (ring_of c).ops (y_of c) (suc c.lower_degree)) x))
           (sym (ap (of_poly c) (top_last c.lower_degree (polynomials k).𝟘) ∙ poly_hom.𝟙))
-          ∙ eval_shift (polynomials k).ring (ring_of c) (of_poly c) poly_hom (y_of c) (suc c.lower_degree) (polynomials k).𝟘 (last_row c.lower_degree)
+          ∙ eval_shift (polynomials k).ring (ring_of c) (of_poly c) poly_hom (y_of c) (suc c.lower_degree)
+          (polynomials k).𝟘 (last_row c.lower_degree)
           ∙ ap (λ x. (ring_of c).◌⊕◌ x ((ring_of c).◌⊗◌ (y_of c) (at_y (suc c.lower_degree) (last_row c.lower_degree))))
           (hom_zero (polynomials k).ring (ring_of c) (of_poly c) poly_hom)
 
       solve : (s g a p : FunctionOf c) → a ≡ (ring_of c).◌⊕◌ s ((ring_of c).◌⊗◌ ((ring_of c).⊖◌ (ring_of c).𝟙) g)
-          → (ring_of c).◌⊕◌ s ((ring_of c).◌⊗◌ p (ring_of c).𝟙) ≡ (ring_of c).◌⊕◌ (ring_of c).𝟘 a → (ring_of c).◌⊕◌ p g ≡ (ring_of c).𝟘
+          → (ring_of c).◌⊕◌ s ((ring_of c).◌⊗◌ p (ring_of c).𝟙) ≡ (ring_of c).◌⊕◌ (ring_of c).𝟘 a
+          → (ring_of c).◌⊕◌ p g ≡ (ring_of c).𝟘
       solve s g a p e f =
           from_two (ring_of c) (ring_of c).𝟙 (ring_of c).𝟙 e f
           (ring (ring_of c) (s ∷ g ∷ a ∷ p ∷ []) λ q h. simp (reads, q, h 0, h 1, h 2, h 3) (q.equal _ _ refl))

@@ -4,8 +4,10 @@ use Rattle.ring_lemmas.specs.Ring.{Operations}
 use Rattle.prime_theory.specs.Ideals.{Multiple}
 use Rattle.finite_algebra_theory.specs.Algebra.{IsPrimitive}
 
--- Q is O modulo p: `reduce` keeps sums and products of members of O and is 0 exactly on p·O, `lift` takes representatives in O
-pub record IsReduction {A B : Type 0} (R : Operations A) (O : A → Type 0) (p : A) (Q : Operations B) (reduce : A → B) (lift : B → A) : Type 0 where
+-- Q is O modulo p: `reduce` keeps sums and products of members of O and is 0 exactly on p·O, `lift` takes
+-- representatives in O
+pub record IsReduction {A B : Type 0} (R : Operations A) (O : A → Type 0) (p : A) (Q : Operations B) (reduce : A → B)
+    (lift : B → A) : Type 0 where
   pub lift_in : (b : B) → O (lift b)
   pub reduce_lift : (b : B) → reduce (lift b) ≡ b
   pub one : reduce R.𝟙 ≡ Q.𝟙

@@ -23,13 +23,15 @@ module _ (k : CodeField) where
       go (no n) = no (λ e. n (ap (λ x. x.0) e))
 
   pub unit_in : (a : Code k) → ¬ (a ≡ (code_ring k).𝟘) → In a units
-  unit_in a n = codes_to_all k.size (k.size - 1) last a (positive a.0 (λ e. n (same_code k a (code_ring k).𝟘 e))) (let l = a.1 in omega arith)
+  unit_in a n = codes_to_all k.size (k.size - 1) last a (positive a.0 (λ e. n (same_code k a (code_ring k).𝟘 e)))
+      (let l = a.1 in omega arith)
     where
       positive : (c : ℕ) → ¬ (c ≡ 0) → 0 < c
       positive c n = omega arith
 
   pub unit_some : (a : Code k) → In a units → ¬ (a ≡ (code_ring k).𝟘)
-  unit_some a i e = let l = codes_to_some k.size (k.size - 1) last a i in let f : a.0 ≡ 0 = ap (λ x. x.0) e in absurd (omega arith)
+  unit_some a i e = let l = codes_to_some k.size (k.size - 1) last a i in let f : a.0 ≡ 0 = ap (λ x. x.0) e in absurd
+      (omega arith)
 
   pub length_units : suc (length units) ≡ k.size
   length_units = let e = length_codes_to k.size (k.size - 1) last in let l = zero_in k in omega arith
@@ -45,7 +47,8 @@ module _ (k : CodeField) where
     codes = (code_ring k).𝟘 ∷ units;
     codes_all = λ a. member a (code_discrete a (code_ring k).𝟘);
     codes_distinct = ((λ i. unit_some (code_ring k).𝟘 i refl), codes_to_distinct k.size (k.size - 1) last);
-    power = λ a. same_code k _ a (power_code a (suc (length units)) ∙ ap (pow_of k.ops a.0) length_units ∙ k.laws.pow_size a.0 a.1);
+    power = λ a. same_code k _ a (power_code a (suc (length units)) ∙ ap (pow_of k.ops a.0) length_units
+        ∙ k.laws.pow_size a.0 a.1);
   }
     where
       member : (a : Code k) → Dec (a ≡ (code_ring k).𝟘) → In a ((code_ring k).𝟘 ∷ units)

@@ -15,7 +15,8 @@ use Rattle.polynomial_theory.specs.Division.{Divided}
 use Rattle.polynomial_theory.proofs.Lengths.{some_long, product_longer}
 
 module _ (k : CodeField) where
-  pub top_not_zero : (b : Polynomial k) → 0 < length b.0 → ¬ (coeff_of (code_ring k).ops b.0 (length b.0 - 1) ≡ (code_ring k).𝟘)
+  pub top_not_zero : (b : Polynomial k) → 0 < length b.0
+      → ¬ (coeff_of (code_ring k).ops b.0 (length b.0 - 1) ≡ (code_ring k).𝟘)
   top_not_zero ([], t) l e = absurd (omega arith)
   top_not_zero ((x ∷ xs), t) l e =
       coeff_top (code_ring k) x xs t
@@ -50,7 +51,8 @@ module _ (k : CodeField) where
       short : length by_rest.0 ≤ length b.0 - 1
       short =
           length_bound (code_ring k) by_rest.0 (length b.0 - 1) by_rest.1 (λ i le.
-          coeff_trim (code_ring k) (rest_from (code_ring k).ops b.0 unit.0 a.0) i ∙ rest_ends (code_ring k) b.0 unit.0 inverts a.0 i le)
+          coeff_trim (code_ring k) (rest_from (code_ring k).ops b.0 unit.0 a.0) i
+          ∙ rest_ends (code_ring k) b.0 unit.0 inverts a.0 i le)
 
       by_shorter : length by_rest.0 < length b.0
       by_shorter = omega (arith, short, some_long k b n)
@@ -66,11 +68,13 @@ module _ (k : CodeField) where
   pub rest_of : Polynomial k → Polynomial k → Polynomial k
   rest_of a b = (by_decision a b (polynomial_discrete k b (polynomials k).𝟘)).1
 
-  pub whole_of : (a b : Polynomial k) → ¬ (b ≡ (polynomials k).𝟘) → a ≡ (polynomials k).◌⊕◌ ((polynomials k).◌⊗◌ b (quotient_of a b)) (rest_of a b)
+  pub whole_of : (a b : Polynomial k) → ¬ (b ≡ (polynomials k).𝟘)
+      → a ≡ (polynomials k).◌⊕◌ ((polynomials k).◌⊗◌ b (quotient_of a b)) (rest_of a b)
   unfolding quotient_of rest_of by_decision
   whole_of a b n = go (polynomial_discrete k b (polynomials k).𝟘)
     where
-      go : (d : Dec (b ≡ (polynomials k).𝟘)) → a ≡ (polynomials k).◌⊕◌ ((polynomials k).◌⊗◌ b (by_decision a b d).0) (by_decision a b d).1
+      go : (d : Dec (b ≡ (polynomials k).𝟘))
+          → a ≡ (polynomials k).◌⊕◌ ((polynomials k).◌⊗◌ b (by_decision a b d).0) (by_decision a b d).1
       go (yes e) = absurd (n e)
       go (no m) = (divide a b m).is
 

@@ -1,4 +1,5 @@
--- Divisors in k[x], and divisors among lists of codes: what divides as a list divides in k[x] and the other way round, a divisor isn't longer, and monic
+-- Divisors in k[x], and divisors among lists of codes: what divides as a list divides in k[x] and the other way round,
+-- a divisor isn't longer, and monic
 -- polynomials that divide each other are the same.
 use Rattle.std.proofs.Common.{◌≡◌, ℕ, ◌-◌, ◌<◌, ◌≤◌, ◌⊎◌, inl, inr, List, [], ◌∷◌, length, refl, sym, ap, ap₂, ◌∙◌, subst, arith}
 use Rattle.std.proofs.lemmas.List.{length_push}
@@ -33,19 +34,23 @@ module _ (k : CodeField) where
   some_value d d_in d_poly some = value_not_zero k d d_in d_poly (λ e. let l = ap length e in absurd (omega arith))
 
   -- what divides as a list divides in k[x]
-  pub divisor_of_divides : (b a : List ℕ) → IsOver k.ops b → (d : DividesList k.ops b a) → value k a ≡ value k b ⊗ value k d.quotient
+  pub divisor_of_divides : (b a : List ℕ) → IsOver k.ops b → (d : DividesList k.ops b a)
+      → value k a ≡ value k b ⊗ value k d.quotient
   divisor_of_divides b a b_in d = ap (value k) d.product ∙ value_product k b d.quotient b_in d.quotient_in
 
   -- what divides in k[x] divides as a list
-  pub divides_of_divisor : (b a : List ℕ) → IsOver k.ops b → IsOver k.ops a → IsPoly a → IsDivisorIn (polynomials k).ops (value k b) (value k a) → DividesList k.ops b a
+  pub divides_of_divisor : (b a : List ℕ) → IsOver k.ops b → IsOver k.ops a → IsPoly a
+      → IsDivisorIn (polynomials k).ops (value k b) (value k a) → DividesList k.ops b a
   divides_of_divisor b a b_in a_in a_poly d = record {
     quotient = codes_of k d.0;
     quotient_in = IsOver_codes_of k d.0;
     quotient_poly = IsPoly_codes_of k d.0;
     product =
-        same_from_value k a (product_of k.ops b (codes_of k d.0)) a_in (IsOver_product_of k b_in (IsOver_codes_of k d.0)) a_poly
+        same_from_value k a (product_of k.ops b (codes_of k d.0)) a_in
+        (IsOver_product_of k b_in (IsOver_codes_of k d.0)) a_poly
         (IsPoly_poly_of (mul_lists (raw_ring k.ops) b (codes_of k d.0)))
-        (d.1 ∙ sym (value_product k b (codes_of k d.0) b_in (IsOver_codes_of k d.0) ∙ ap ((polynomials k).◌⊗◌ (value k b)) (value_codes_of k d.0)));
+        (d.1 ∙ sym (value_product k b (codes_of k d.0) b_in (IsOver_codes_of k d.0)
+        ∙ ap ((polynomials k).◌⊗◌ (value k b)) (value_codes_of k d.0)));
   }
 
   pub divisor_refl : (a : Polynomial k) → IsDivisorIn P.ops a a
@@ -63,7 +68,8 @@ module _ (k : CodeField) where
   monic_gap p q p_in q_in p_monic q_monic same =
       length_bound (code_ring k) gap.0 (length p - 1) gap.1 (λ i le.
       series_add (code_ring k) (value k q) (⊖ value k p) i
-      ∙ ap (λ w. (code_ring k).◌⊕◌ (coeff_of (code_ring k).ops (value k q).0 i) w) (series_neg (code_ring k) (value k p) i)
+      ∙ ap (λ w. (code_ring k).◌⊕◌ (coeff_of (code_ring k).ops (value k q).0 i) w)
+      (series_neg (code_ring k) (value k p) i)
       ∙ go i (split i le))
     where
       gap : Polynomial k
@@ -82,22 +88,29 @@ module _ (k : CodeField) where
       split i le = let l = p_long in grind arith
 
       go : (i : ℕ) → (i ≡ length p - 1) ⊎ (length p ≤ i)
-          → (code_ring k).◌⊕◌ (coeff_of (code_ring k).ops (value k q).0 i) ((code_ring k).⊖◌ (coeff_of (code_ring k).ops (value k p).0 i)) ≡ (code_ring k).𝟘
+          → (code_ring k).◌⊕◌ (coeff_of (code_ring k).ops (value k q).0 i)
+          ((code_ring k).⊖◌ (coeff_of (code_ring k).ops (value k p).0 i)) ≡ (code_ring k).𝟘
       go i (inl e) =
           ap₂ (λ x y. (code_ring k).◌⊕◌ x ((code_ring k).⊖◌ y))
-          (ap (coeff_of (code_ring k).ops (value k q).0) (let s = same in let t = q_size in let f : i ≡ length (value k q).0 - 1 = omega arith in f) ∙ monic_top k q q_in q_monic)
-          (ap (coeff_of (code_ring k).ops (value k p).0) (let t = p_size in let f : i ≡ length (value k p).0 - 1 = omega arith in f) ∙ monic_top k p p_in p_monic)
+          (ap (coeff_of (code_ring k).ops (value k q).0)
+          (let s = same in let t = q_size in let f : i ≡ length (value k q).0 - 1 = omega arith in f)
+          ∙ monic_top k q q_in q_monic)
+          (ap (coeff_of (code_ring k).ops (value k p).0)
+          (let t = p_size in let f : i ≡ length (value k p).0 - 1 = omega arith in f) ∙ monic_top k p p_in p_monic)
           ∙ (code_ring k).add_neg (code_ring k).𝟙
       go i (inr l) =
           ap₂ (λ x y. (code_ring k).◌⊕◌ x ((code_ring k).⊖◌ y))
-          (coeff_past (code_ring k) (value k q).0 i (let s = same in let t = q_size in omega arith)) (coeff_past (code_ring k) (value k p).0 i (let t = p_size in omega arith))
+          (coeff_past (code_ring k) (value k q).0 i (let s = same in let t = q_size in omega arith))
+          (coeff_past (code_ring k) (value k p).0 i (let t = p_size in omega arith))
           ∙ (code_ring k).add_neg (code_ring k).𝟘
 
   -- monic lists that divide each other are the same
-  pub monic_unique : (p q : List ℕ) → IsOver k.ops p → IsOver k.ops q → IsMonic p → IsMonic q → IsDivisorIn P.ops (value k p) (value k q)
+  pub monic_unique : (p q : List ℕ) → IsOver k.ops p → IsOver k.ops q → IsMonic p → IsMonic q
+      → IsDivisorIn P.ops (value k p) (value k q)
       → IsDivisorIn P.ops (value k q) (value k p) → p ≡ q
   monic_unique p q p_in q_in p_monic q_monic d e =
-      same_from_value k p q p_in q_in (monic_poly k p p_monic) (monic_poly k q q_monic) (sym (eq_of_sub P (value k q) (value k p) none))
+      same_from_value k p q p_in q_in (monic_poly k p p_monic) (monic_poly k q q_monic)
+      (sym (eq_of_sub P (value k q) (value k p) none))
     where
       p_long : 0 < length p
       p_long = let l = ap length p_monic.1 in let m = length_push p_monic.0 1 in omega arith
@@ -134,5 +147,6 @@ module _ (k : CodeField) where
           multiple
           ∙ ap (λ w. value k p ⊗ w)
           (short_multiple (code_ring k) (code_domain k) (value k p) (d.0 ⊕ ⊖ 𝟙)
-          (subst (λ w. length w.0 < length (value k p).0) multiple (let s = short in let t = p_size in let l = p_long in omega arith)))
+          (subst (λ w. length w.0 < length (value k p).0) multiple
+          (let s = short in let t = p_size in let l = p_long in omega arith)))
           ∙ mul_zero P (value k p)

@@ -1,4 +1,5 @@
--- A polynomial that no monic polynomial of smaller degree divides, but 1, is irreducible in the Euclidean ring k[x]: if it divides a product
+-- A polynomial that no monic polynomial of smaller degree divides, but 1, is irreducible in the Euclidean ring k[x]: if
+-- it divides a product
 -- it divides a factor.
 use Rattle.std.proofs.Common.{◌≡◌, ℕ, suc, ◌<◌, ◌≤◌, ◌+◌, ◌-◌, ◌⊎◌, inl, inr, List, [], ◌∷◌, ◌++◌, length, refl, sym, ◌∙◌, ap, subst, arith}
 use Rattle.std.proofs.lemmas.List.{length-map, map-append}
@@ -24,7 +25,8 @@ use Rattle.polynomial_theory.proofs.ListValues.{monic_poly}
 use Rattle.polynomial_theory.proofs.Division.{top_not_zero, euclidean, divide}
 
 -- a list is its last member and what is before it
-last_of : {A : Type 0} (f : List A → ℕ → A) → ((x : A) (xs : List A) → f (x ∷ xs) 0 ≡ x) → ((x : A) (xs : List A) (n : ℕ) → f (x ∷ xs) (suc n) ≡ f xs n)
+last_of : {A : Type 0} (f : List A → ℕ → A) → ((x : A) (xs : List A) → f (x ∷ xs) 0 ≡ x)
+    → ((x : A) (xs : List A) (n : ℕ) → f (x ∷ xs) (suc n) ≡ f xs n)
     → (xs : List A) → 0 < length xs → (init : List A) × (xs ≡ init ++ f xs (length xs - 1) ∷ [])
 last_of f first next [] l = absurd (omega arith)
 last_of f first next (x ∷ []) l = ([], ap (λ y. y ∷ []) (sym (first x [])))
@@ -32,7 +34,9 @@ last_of f first next (x ∷ y ∷ xs) l =
     let r = last_of f first next (y ∷ xs) (omega arith) in (
       x ∷ r.0,
       ap (λ ys. x ∷ ys)
-          (r.1 ∙ ap (λ z. r.0 ++ z ∷ []) (sym (next x (y ∷ xs) (length (y ∷ xs) - 1)) ∙ ap (f (x ∷ y ∷ xs)) (let q : suc (length (y ∷ xs) - 1) ≡ length (x ∷ y ∷ xs) - 1 = omega arith in q))),
+          (r.1 ∙ ap (λ z. r.0 ++ z ∷ [])
+          (sym (next x (y ∷ xs) (length (y ∷ xs) - 1))
+          ∙ ap (f (x ∷ y ∷ xs)) (let q : suc (length (y ∷ xs) - 1) ≡ length (x ∷ y ∷ xs) - 1 = omega arith in q))),
     )
 
 module _ (k : CodeField) where
@@ -48,23 +52,31 @@ module _ (k : CodeField) where
 
   monic_codes : (a : Polynomial k) → 0 < length a.0 → top_of a ≡ (code_ring k).𝟙 → IsMonic (codes_of k a)
   monic_codes a l e =
-      let r = last_of (coeff_of (code_ring k).ops) (λ x xs. refl) (λ x xs n. refl) a.0 l in
-      (numbers k r.0, ap (numbers k) (r.1 ∙ ap (λ x. r.0 ++ x ∷ []) e) ∙ map-append (λ x. x.0) r.0 ((code_ring k).𝟙 ∷ []))
+      let r = last_of (coeff_of (code_ring k).ops) (λ x xs. refl) (λ x xs n. refl) a.0 l in (
+        numbers k r.0,
+        ap (numbers k) (r.1 ∙ ap (λ x. r.0 ++ x ∷ []) e)
+            ∙ map-append (λ x. x.0) r.0 ((code_ring k).𝟙 ∷ []),
+      )
 
   -- a multiple by a code
   constant_times : (u : Code k) (a : Polynomial k) (n : ℕ)
-      → coeff_of (code_ring k).ops (constant (code_ring k) u ⊗ a).0 n ≡ (code_ring k).◌⊗◌ u (coeff_of (code_ring k).ops a.0 n)
+      → coeff_of (code_ring k).ops (constant (code_ring k) u ⊗ a).0 n
+      ≡ (code_ring k).◌⊗◌ u (coeff_of (code_ring k).ops a.0 n)
   constant_times u a n =
       series_mul (code_ring k) (constant (code_ring k) u) a n
-      ∙ convolution_constant_left (code_ring k).ring _ (coeff_of (code_ring k).ops a.0) (λ i. coeff_trim (code_ring k) (u ∷ []) (suc i)) n
+      ∙ convolution_constant_left (code_ring k).ring _ (coeff_of (code_ring k).ops a.0)
+      (λ i. coeff_trim (code_ring k) (u ∷ []) (suc i)) n
       ∙ ap (λ c. (code_ring k).◌⊗◌ c (coeff_of (code_ring k).ops a.0 n)) (coeff_trim (code_ring k) (u ∷ []) 0)
 
-  unit_some : (u v : Code k) → (code_ring k).◌⊗◌ u v ≡ (code_ring k).𝟙 → constant (code_ring k) u ⊗ constant (code_ring k) v ≡ 𝟙
-  unit_some u v e = sym ((constant_hom (code_ring k)).mul u v) ∙ ap (constant (code_ring k)) e ∙ (constant_hom (code_ring k)).𝟙
+  unit_some : (u v : Code k) → (code_ring k).◌⊗◌ u v ≡ (code_ring k).𝟙
+      → constant (code_ring k) u ⊗ constant (code_ring k) v ≡ 𝟙
+  unit_some u v e = sym ((constant_hom (code_ring k)).mul u v) ∙ ap (constant (code_ring k)) e
+      ∙ (constant_hom (code_ring k)).𝟙
 
   -- units have one coefficient
   pub unit_length : (a b : Polynomial k) → a ⊗ b ≡ 𝟙 → length a.0 ≡ 1
-  unit_length a b e = go (length_product (code_ring k) (code_domain k) 𝟙 𝟙 (polynomials_domain k).one_not_zero (polynomials_domain k).one_not_zero)
+  unit_length a b e = go (length_product (code_ring k) (code_domain k) 𝟙 𝟙 (polynomials_domain k).one_not_zero
+      (polynomials_domain k).one_not_zero)
     where
       a_some : ¬ (a ≡ 𝟘)
       a_some z = (polynomials_domain k).one_not_zero (sym e ∙ ap (λ x. x ⊗ b) z ∙ zero_mul (polynomials k).ring b)
@@ -76,7 +88,13 @@ module _ (k : CodeField) where
       go f =
           let g : length (𝟙 ⊗ 𝟙).0 ≡ length 𝟙.0 = ap (λ p. length p.0) ((polynomials k).mul_one 𝟙) in
           let h : length (a ⊗ b).0 ≡ length 𝟙.0 = ap (λ p. length p.0) e in
-          omega (arith, some_long k a a_some, some_long k b b_some, length_product (code_ring k) (code_domain k) a b a_some b_some)
+          omega (
+            arith,
+            some_long k a a_some,
+            some_long k b b_some,
+            length_product (code_ring k) (code_domain k) a b
+                a_some b_some,
+          )
 
   pub short_unit : (d : Polynomial k) → length d.0 ≡ 1 → IsUnit (polynomials k).ops d
   short_unit d l =
@@ -109,9 +127,11 @@ module _ (k : CodeField) where
       let U_long = unit_length U T ((polynomials k).mul_comm U T ∙ one) in
       let m = U ⊗ d in
       let m_long : length m.0 ≡ length d.0
-      = omega (arith, U_long, length_product (code_ring k) (code_domain k) U d (some_of_long k U (omega arith)) d_some) in
+      = omega (arith, U_long, length_product (code_ring k) (code_domain k) U d (some_of_long k U (omega arith)) d_some)
+      in
       let top_one : top_of m ≡ (code_ring k).𝟙
-      = ap (λ n. coeff_of (code_ring k).ops m.0 (n - 1)) m_long ∙ constant_times u d (length d.0 - 1) ∙ (code_ring k).mul_comm _ _ ∙ inverse.1 in
+      = ap (λ n. coeff_of (code_ring k).ops m.0 (n - 1)) m_long ∙ constant_times u d (length d.0 - 1)
+      ∙ (code_ring k).mul_comm _ _ ∙ inverse.1 in
       record {
         codes = codes_of k m;
         over = IsOver_codes_of k m;
@@ -134,7 +154,8 @@ module _ (k : CodeField) where
     p_some = let l = p_long in some_of_long k p (omega arith)
 
     -- a divisor of smaller degree has degree 0
-    smaller_divisor : (d : Polynomial k) → IsDivisorIn (polynomials k).ops d p → length d.0 < length p.0 → IsUnit (polynomials k).ops d
+    smaller_divisor : (d : Polynomial k) → IsDivisorIn (polynomials k).ops d p → length d.0 < length p.0
+        → IsUnit (polynomials k).ops d
     smaller_divisor d (e, is) short = go (one_or_more (length d.0) (some_long k d d_some))
       where
         d_some : ¬ (d ≡ 𝟘)
@@ -159,11 +180,18 @@ module _ (k : CodeField) where
             let U_long = unit_length U T one in
             let m = U ⊗ d in
             let m_long : length m.0 ≡ length d.0
-            = omega (arith, U_long, length_product (code_ring k) (code_domain k) U d (some_of_long k U (omega arith)) d_some) in
+            = omega (
+              arith,
+              U_long,
+              length_product (code_ring k) (code_domain k) U d (some_of_long k U (omega arith))
+                  d_some,
+            ) in
             let top_one : top_of m ≡ (code_ring k).𝟙
-            = ap (λ n. coeff_of (code_ring k).ops m.0 (n - 1)) m_long ∙ constant_times u d (length d.0 - 1) ∙ (code_ring k).mul_comm _ _ ∙ inverse.1 in
+            = ap (λ n. coeff_of (code_ring k).ops m.0 (n - 1)) m_long ∙ constant_times u d (length d.0 - 1)
+            ∙ (code_ring k).mul_comm _ _ ∙ inverse.1 in
             let whole : p ≡ m ⊗ (T ⊗ e)
-            = is ∙ sym ((polynomials k).mul_comm 𝟙 (d ⊗ e) ∙ (polynomials k).mul_one (d ⊗ e)) ∙ ap (λ x. x ⊗ (d ⊗ e)) (sym one) ∙ mul_mul (polynomials k).ring U T d e in
+            = is ∙ sym ((polynomials k).mul_comm 𝟙 (d ⊗ e) ∙ (polynomials k).mul_one (d ⊗ e))
+            ∙ ap (λ x. x ⊗ (d ⊗ e)) (sym one) ∙ mul_mul (polynomials k).ring U T d e in
             absurd
             (h.no_divisor (codes_of k m) (IsOver_codes_of k m) (monic_codes m (omega arith) top_one)
             (subst (λ n. 2 ≤ n) (sym (length_codes m ∙ m_long)) l)
@@ -186,7 +214,8 @@ module _ (k : CodeField) where
     decide_divides a = decide_divisor (euclidean k) p a p_some
 
     -- it divides a factor of a product that it divides
-    pub prime : (a b : Polynomial k) → IsDivisorIn (polynomials k).ops p (a ⊗ b) → IsDivisorIn (polynomials k).ops p a ⊎ IsDivisorIn (polynomials k).ops p b
+    pub prime : (a b : Polynomial k) → IsDivisorIn (polynomials k).ops p (a ⊗ b)
+        → IsDivisorIn (polynomials k).ops p a ⊎ IsDivisorIn (polynomials k).ops p b
     prime a b d = euclid (euclidean k) p irreducible a b d
 
     pub irreducible_some : ¬ (p ≡ 𝟘)
@@ -205,5 +234,6 @@ module _ (k : CodeField) where
     prime_list = prime (value k p) codes
 
     -- what it doesn't divide has an inverse modulo it
-    pub inverse_modulo : (a : Polynomial k) → ¬ IsDivisorIn (polynomials k).ops (value k p) a → Bezout (polynomials k).ops a (value k p)
+    pub inverse_modulo : (a : Polynomial k) → ¬ IsDivisorIn (polynomials k).ops (value k p) a
+        → Bezout (polynomials k).ops a (value k p)
     inverse_modulo a n = bezout (euclidean k) (value k p) irreducible_list a n

@@ -1,4 +1,5 @@
--- Each polynomial that isn't constant has an irreducible divisor, and irreducible polynomials that divide each other are the same.
+-- Each polynomial that isn't constant has an irreducible divisor, and irreducible polynomials that divide each other
+-- are the same.
 use Rattle.std.proofs.Common.{◌≡◌, ℕ, zero, suc, ◌-◌, ◌<◌, ◌≤◌, ◌⊎◌, inl, inr, List, [], ◌∷◌, ◌++◌, length, refl, sym, ap, ◌∙◌, subst, arith}
 use Rattle.std.proofs.lemmas.List.{length-map, length_push}
 use Rattle.ring_theory.specs.Members.{In}
@@ -49,7 +50,8 @@ module _ (k : CodeField) where
       go (no none) = no (λ s. none (s.0, (code_finite k).codes_all s.0, s.1))
 
   -- whether some list of n elements has a property
-  some_list : (n : ℕ) (P : List (Code k) → Type 0) → ((xs : List (Code k)) → Dec (P xs)) → Dec ((xs : List (Code k)) × (length xs ≡ n) × P xs)
+  some_list : (n : ℕ) (P : List (Code k) → Type 0) → ((xs : List (Code k)) → Dec (P xs))
+      → Dec ((xs : List (Code k)) × (length xs ≡ n) × P xs)
   some_list zero P decide = go (decide [])
     where
       go : Dec (P []) → Dec ((xs : List (Code k)) × (length xs ≡ 0) × P xs)
@@ -59,9 +61,11 @@ module _ (k : CodeField) where
           none : ((xs : List (Code k)) × (length xs ≡ 0) × P xs) → ⊥
           none ([], e, h) = n h
           none ((x ∷ xs), e, h) = absurd (omega arith)
-  some_list (suc n) P decide = go (some_code (λ a. (xs : List (Code k)) × (length xs ≡ n) × P (a ∷ xs)) (λ a. some_list n (λ xs. P (a ∷ xs)) (λ xs. decide (a ∷ xs))))
+  some_list (suc n) P decide = go (some_code (λ a. (xs : List (Code k)) × (length xs ≡ n) × P (a ∷ xs))
+      (λ a. some_list n (λ xs. P (a ∷ xs)) (λ xs. decide (a ∷ xs))))
     where
-      go : Dec ((a : Code k) × ((xs : List (Code k)) × (length xs ≡ n) × P (a ∷ xs))) → Dec ((xs : List (Code k)) × (length xs ≡ suc n) × P xs)
+      go : Dec ((a : Code k) × ((xs : List (Code k)) × (length xs ≡ n) × P (a ∷ xs)))
+          → Dec ((xs : List (Code k)) × (length xs ≡ suc n) × P xs)
       go (yes s) = yes (s.0 ∷ s.1.0, ap suc s.1.1, s.1.2)
       go (no not) = no none
         where
@@ -78,7 +82,8 @@ module _ (k : CodeField) where
     pub divides : IsDivisorIn R.ops (value k codes) d
 
   monic_some : (b : List ℕ) → IsOver k.ops b → IsMonic b → ¬ (value k b ≡ 𝟘)
-  monic_some b b_in m = some_value k b b_in (monic_poly k b m) (let l = ap length m.1 in let e = length_push m.0 1 in omega arith)
+  monic_some b b_in m = some_value k b b_in (monic_poly k b m)
+      (let l = ap length m.1 in let e = length_push m.0 1 in omega arith)
 
   monic_of : List (Code k) → List ℕ
   monic_of xs = numbers k xs ++ 1 ∷ []
@@ -92,9 +97,11 @@ module _ (k : CodeField) where
   decide_monic n d = go (some_list n (λ xs. IsDivisorIn R.ops (value k (monic_of xs)) d) decide)
     where
       decide : (xs : List (Code k)) → Dec (IsDivisorIn R.ops (value k (monic_of xs)) d)
-      decide xs = decide_divisor (euclidean k) (value k (monic_of xs)) d (monic_some (monic_of xs) (over_of xs) (numbers k xs, refl))
+      decide xs = decide_divisor (euclidean k) (value k (monic_of xs)) d
+          (monic_some (monic_of xs) (over_of xs) (numbers k xs, refl))
 
-      go : Dec ((xs : List (Code k)) × (length xs ≡ n) × IsDivisorIn R.ops (value k (monic_of xs)) d) → Dec (MonicDivisor n d)
+      go : Dec ((xs : List (Code k)) × (length xs ≡ n) × IsDivisorIn R.ops (value k (monic_of xs)) d)
+          → Dec (MonicDivisor n d)
       go (yes s) = yes (record {
         codes = monic_of s.0;
         over = over_of s.0;
@@ -108,10 +115,12 @@ module _ (k : CodeField) where
           none' m =
               let low = m.monic.0 in
               let low_in : IsOver k.ops low = lower_over low (subst (IsOver k.ops) m.monic.1 m.over) in
-              let same : monic_of (read k low) ≡ m.codes = ap (λ ns. ns ++ 1 ∷ []) (numbers_read k low low_in) ∙ sym m.monic.1 in
+              let same : monic_of (read k low) ≡ m.codes = ap (λ ns. ns ++ 1 ∷ []) (numbers_read k low low_in)
+              ∙ sym m.monic.1 in
               none (
                 read k low,
-                let a = length-map (read k low) (λ x. x.0) in let b = ap length (numbers_read k low low_in) in let c = ap length m.monic.1 in
+                let a = length-map (read k low) (λ x. x.0) in let b = ap length (numbers_read k low low_in) in let
+                    c = ap length m.monic.1 in
                     let e = length_push low 1 in let f = m.size in omega arith,
                 subst (λ b. IsDivisorIn R.ops (value k b) d) (sym same) m.divides,
               )
@@ -160,13 +169,22 @@ module _ (k : CodeField) where
     pub irreducible : IsIrreducibleList k.ops codes
     pub divides : IsDivisorIn R.ops (value k codes) d
 
-  pub irreducible_divisor : (n : ℕ) (d : Polynomial k) → 2 ≤ length d.0 → length d.0 < n → ¬ (d ≡ 𝟘) → IrreducibleDivisor d
+  pub irreducible_divisor : (n : ℕ) (d : Polynomial k) → 2 ≤ length d.0 → length d.0 < n → ¬ (d ≡ 𝟘)
+      → IrreducibleDivisor d
   unfolding SmallDivisor
   irreducible_divisor zero d long short some = absurd (omega arith)
   irreducible_divisor (suc n) d long short some = go (decide_small (length d.0 - 1) d) (irreducible_divisor n)
     where
-      go : Dec (SmallDivisor (length d.0 - 1) d) → ((d : Polynomial k) → 2 ≤ length d.0 → length d.0 < n → ¬ (d ≡ 𝟘) → IrreducibleDivisor d) → IrreducibleDivisor d
-      go (yes s) smaller = record { codes = r.codes; over = r.over; irreducible = r.irreducible; divides = divisor_trans R (value k r.codes) (value k m.codes) d r.divides m.divides }
+      go : Dec (SmallDivisor (length d.0 - 1) d)
+          → ((d : Polynomial k) → 2 ≤ length d.0 → length d.0 < n → ¬ (d ≡ 𝟘) → IrreducibleDivisor d)
+          → IrreducibleDivisor d
+      go (yes s) smaller = record {
+        codes = r.codes;
+        over = r.over;
+        irreducible = r.irreducible;
+        divides = divisor_trans
+            R (value k r.codes) (value k m.codes) d r.divides m.divides;
+      }
         where
           m : MonicDivisor s.0 d
           m = s.3
@@ -181,7 +199,12 @@ module _ (k : CodeField) where
       go (no none) smaller = record {
         codes = m.codes;
         over = m.over;
-        irreducible = record { monic = m.monic; not_constant = let e = m.length_is in omega arith; no_divisor = no_divisor };
+        irreducible = record {
+          monic = m.monic;
+          not_constant = let e = m.length_is in omega arith;
+          no_divisor =
+              no_divisor;
+        };
         divides = divides;
       }
         where
@@ -189,9 +212,15 @@ module _ (k : CodeField) where
           m = made_monic k d some
 
           divides : IsDivisorIn R.ops (value k m.codes) d
-          divides = (m.inverse, sym (R.mul_one d) ∙ R.mul_comm d 𝟙 ∙ ap (λ w. w ⊗ d) (sym m.inverts) ∙ R.mul_assoc m.inverse m.factor d ∙ ap (λ w. m.inverse ⊗ w) (sym m.is) ∙ R.mul_comm m.inverse (value k m.codes))
+          divides = (
+            m.inverse,
+            sym (R.mul_one d) ∙ R.mul_comm d 𝟙 ∙ ap (λ w. w ⊗ d) (sym m.inverts)
+                ∙ R.mul_assoc m.inverse m.factor d ∙ ap (λ w. m.inverse ⊗ w) (sym m.is)
+                ∙ R.mul_comm m.inverse (value k m.codes),
+          )
 
-          no_divisor : (b : List ℕ) → IsOver k.ops b → IsMonic b → 2 ≤ length b → length b < length m.codes → ¬ DividesList k.ops b m.codes
+          no_divisor : (b : List ℕ) → IsOver k.ops b → IsMonic b → 2 ≤ length b → length b < length m.codes
+              → ¬ DividesList k.ops b m.codes
           no_divisor b b_in b_monic b_long b_short h =
               none (
                 length b - 1,
@@ -202,15 +231,20 @@ module _ (k : CodeField) where
                   over = b_in;
                   monic = b_monic;
                   size = omega arith;
-                  divides = divisor_trans R (value k b) (value k m.codes) d (value k h.quotient, divisor_of_divides k b m.codes b_in h) divides;
+                  divides = divisor_trans R (value k b) (value k m.codes) d
+                      (value k h.quotient, divisor_of_divides k b m.codes b_in h) divides;
                 },
               )
 
   -- an irreducible polynomial that divides another one is that one
-  pub irreducible_unique : (p q : List ℕ) → IsOver k.ops p → IsIrreducibleList k.ops p → IsOver k.ops q → IsIrreducibleList k.ops q → IsDivisorIn R.ops (value k p) (value k q) → p ≡ q
+  pub irreducible_unique : (p q : List ℕ) → IsOver k.ops p → IsIrreducibleList k.ops p → IsOver k.ops q
+      → IsIrreducibleList k.ops q → IsDivisorIn R.ops (value k p) (value k q) → p ≡ q
   irreducible_unique p q p_in p_irreducible q_in q_irreducible d =
-      monic_unique k p q p_in q_in p_irreducible.monic q_irreducible.monic d
-      (cofactor.0, sym (R.mul_one (value k p)) ∙ ap (λ x. value k p ⊗ x) (sym cofactor.1) ∙ sym (R.mul_assoc (value k p) d.0 cofactor.0) ∙ ap (λ x. x ⊗ cofactor.0) (sym d.1))
+      monic_unique k p q p_in q_in p_irreducible.monic q_irreducible.monic d (
+        cofactor.0,
+        sym (R.mul_one (value k p)) ∙ ap (λ x. value k p ⊗ x) (sym cofactor.1)
+            ∙ sym (R.mul_assoc (value k p) d.0 cofactor.0) ∙ ap (λ x. x ⊗ cofactor.0) (sym d.1),
+      )
     where
       d_some : ¬ (d.0 ≡ 𝟘)
       d_some z = monic_some q q_in q_irreducible.monic (d.1 ∙ ap (λ x. value k p ⊗ x) z ∙ mul_zero R (value k p))

@@ -1,5 +1,7 @@
-//! Polynomials over a small field: division with rest, irreducible polynomials and their inverses, lists of codes for them, and the codes as a
-//! finite field. Each main theorem is the contract of a function with an empty body; the crates above cite the lemmas of proofs/.
+//! Polynomials over a small field: division with rest, irreducible polynomials and their inverses, lists of codes for
+//! them, and the codes as a
+//! finite field. Each main theorem is the contract of a function with an empty body; the crates above cite the lemmas
+//! of proofs/.
 #![tactic(auto)]
 
 ghost use Rattle.std.specs.Prelude.{◌≡◌, ℕ, ◌≤◌, ◌⊎◌, List, length};
@@ -40,10 +42,12 @@ pub fn irreducible_divisor_law()
 /// Monic polynomials that divide each other are the same.
 pub fn monic_law()
     ensures { (k : CodeField) (p q : List ℕ) → IsOver k.ops p → IsOver k.ops q → IsMonic p → IsMonic q
-        → IsDivisorIn (polynomials k).ops (value k p) (value k q) → IsDivisorIn (polynomials k).ops (value k q) (value k p) → p ≡ q }
+        → IsDivisorIn (polynomials k).ops (value k p) (value k q)
+        → IsDivisorIn (polynomials k).ops (value k q) (value k p) → p ≡ q }
 {}
 
-/// The codes of a field are a finite field: equality is decided, all are listed, each once, and each is its own q-th power.
+/// The codes of a field are a finite field: equality is decided, all are listed, each once, and each is its own q-th
+/// power.
 pub fn finite_field_law()
     ensures { (k : CodeField) → FiniteField (code_ring k).ops }
 {}

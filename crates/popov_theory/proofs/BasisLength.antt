@@ -28,10 +28,12 @@ first_sum k f (suc n) = k.◌⊕◌ (f zero) (first_sum k (tail_of f) n)
 
 module _ {A V : Type 0} {k : TestedRing A} (M : PolynomialModule k V) where
   -- the coefficient of a combination is the sum of those of its terms
-  coef_tabulated : (e n : ℕ) (f : ℕ → V) (c : ℕ → Pol k) → M.coef (combine M c (tabulate n f)) e ≡ first_sum k (λ i. M.coef (M.◌·◌ (c i) (f i)) e) n
+  coef_tabulated : (e n : ℕ) (f : ℕ → V) (c : ℕ → Pol k)
+      → M.coef (combine M c (tabulate n f)) e ≡ first_sum k (λ i. M.coef (M.◌·◌ (c i) (f i)) e) n
   unfolding tabulate
   coef_tabulated e zero f c = M.coef_zero e
-  coef_tabulated e (suc n) f c = M.coef_add _ _ e ∙ ap (λ x. k.◌⊕◌ (M.coef (M.◌·◌ (c zero) (f zero)) e) x) (coef_tabulated e n (tail_of f) (tail_of c))
+  coef_tabulated e (suc n) f c = M.coef_add _ _ e
+      ∙ ap (λ x. k.◌⊕◌ (M.coef (M.◌·◌ (c zero) (f zero)) e) x) (coef_tabulated e n (tail_of f) (tail_of c))
 
 module _ {A : Type 0} (k : TestedRing A) where
   infixl 65 ◌⊕◌
@@ -56,7 +58,8 @@ module _ {A : Type 0} (k : TestedRing A) where
       same_pol k _ _ (λ n.
       at n
       ∙ sym (series_mul k (constant k a) (constant k b) n
-      ∙ convolution_constant_left k.ring (coeff_of k.ops (constant k a).0) (coeff_of k.ops (constant k b).0) (constant_past a) n
+      ∙ convolution_constant_left k.ring (coeff_of k.ops (constant k a).0) (coeff_of k.ops (constant k b).0)
+      (constant_past a) n
       ∙ ap (λ x. x ⊗ coeff_of k.ops (constant k b).0 n) (constant_at a)))
     where
       at : (n : ℕ) → coeff_of k.ops (constant k (a ⊗ b)).0 n ≡ a ⊗ coeff_of k.ops (constant k b).0 n
@@ -105,14 +108,18 @@ module _ {A : Type 0} (k : TestedRing A) where
         r : Relation M list
         r = relation M field list (omega (arith, size, less, row_width k n))
 
-        entry_at : (i j t : ℕ) → j < suc n → M.coef (row_of (suc n) (a i)) (t * M.width + j) ≡ coeff_of k.ops (constant k (a i j)).0 t
-        entry_at i j t j_less = row_entry k n (row_of (suc n) (a i)) t j j_less ∙ ap (λ p. coeff_of k.ops p.0 t) (entry_row_of (suc n) j (a i) j_less)
+        entry_at : (i j t : ℕ) → j < suc n
+            → M.coef (row_of (suc n) (a i)) (t * M.width + j) ≡ coeff_of k.ops (constant k (a i j)).0 t
+        entry_at i j t j_less = row_entry k n (row_of (suc n) (a i)) t j j_less
+            ∙ ap (λ p. coeff_of k.ops p.0 t) (entry_row_of (suc n) j (a i) j_less)
 
-        term : (p : Pol k) (i s j : ℕ) → j < suc n → M.coef (M.◌·◌ p (row_of (suc n) (a i))) (s * M.width + j) ≡ coeff_of k.ops p.0 s ⊗ a i j
+        term : (p : Pol k) (i s j : ℕ) → j < suc n
+            → M.coef (M.◌·◌ p (row_of (suc n) (a i))) (s * M.width + j) ≡ coeff_of k.ops p.0 s ⊗ a i j
         term p i s j j_less =
             M.coef_scale p (row_of (suc n) (a i)) s j (omega (arith, j_less, row_width k n))
             ∙ convolution_comm k.ring (coeff_of k.ops p.0) (λ t. M.coef (row_of (suc n) (a i)) (t * M.width + j)) s
-            ∙ convolution_constant_left k.ring (λ t. M.coef (row_of (suc n) (a i)) (t * M.width + j)) (coeff_of k.ops p.0)
+            ∙ convolution_constant_left k.ring (λ t. M.coef (row_of (suc n) (a i)) (t * M.width + j))
+            (coeff_of k.ops p.0)
             (λ t. entry_at i j (suc t) j_less ∙ constant_past (a i j) t) s
             ∙ ap (λ x. x ⊗ coeff_of k.ops p.0 s) (entry_at i j 0 j_less ∙ constant_at (a i j))
             ∙ k.mul_comm (a i j) (coeff_of k.ops p.0 s)
@@ -141,10 +148,12 @@ module _ {A V : Type 0} {k : TestedRing A} (M : PolynomialModule k V) where
   open M use {width, 𝟎, ◌⊞◌, ⊟◌, ◌·◌, coef}
   open k use {𝟘, 𝟙, ◌⊕◌, ◌⊗◌}
 
-  scalar_scale : (g : List V) (a : A) (c : ℕ → A) → scalar_combine M (λ i. a ⊗ c i) g ≡ constant k a · scalar_combine M c g
+  scalar_scale : (g : List V) (a : A) (c : ℕ → A)
+      → scalar_combine M (λ i. a ⊗ c i) g ≡ constant k a · scalar_combine M c g
   scalar_scale [] a c = sym (scale_zero M (constant k a))
   scalar_scale (r ∷ g) a c =
-      ap₂ ◌⊞◌ (ap (λ p. p · r) (constant_mul k a (c zero)) ∙ scale_scale M (constant k a) (constant k (c zero)) r) (scalar_scale g a (tail_of c))
+      ap₂ ◌⊞◌ (ap (λ p. p · r) (constant_mul k a (c zero)) ∙ scale_scale M (constant k a) (constant k (c zero)) r)
+      (scalar_scale g a (tail_of c))
       ∙ sym (scale_add M (constant k a) _ _)
 
   pub scalar_none : (g : List V) (c : ℕ → A) → ((i : ℕ) → i < length g → c i ≡ 𝟘) → scalar_combine M c g ≡ 𝟎
@@ -160,7 +169,8 @@ module _ {A V : Type 0} {k : TestedRing A} (M : PolynomialModule k V) where
         (𝓛.sub_in u (𝟎 ⊞ ⊟ v) u_in (𝓛.sub_in 𝟎 v zero_in v_in))
 
     -- a combination of elements that are written by g is written by g
-    pub gather : (g xs : List V) (v : ℕ → A) (a : ℕ → ℕ → A) → ((i : ℕ) → i < length xs → L (row_at M xs i ⊞ ⊟ scalar_combine M (a i) g))
+    pub gather : (g xs : List V) (v : ℕ → A) (a : ℕ → ℕ → A)
+        → ((i : ℕ) → i < length xs → L (row_at M xs i ⊞ ⊟ scalar_combine M (a i) g))
         → L (scalar_combine M v xs ⊞ ⊟ scalar_combine M (λ j. first_sum k (λ i. v i ⊗ a i j) (length xs)) g)
     gather g [] v a h = subst L (sym (ap (λ x. 𝟎 ⊞ ⊟ x) (scalar_zero M g) ∙ v_add_neg M 𝟎)) zero_in
     gather g (x ∷ xs) v a h =
@@ -171,16 +181,21 @@ module _ {A V : Type 0} {k : TestedRing A} (M : PolynomialModule k V) where
         rest : ℕ → A
         rest j = first_sum k (λ i. v (suc i) ⊗ a (suc i) j) (length xs)
 
-        moved : constant k (v zero) · (x ⊞ ⊟ scalar_combine M (a zero) g) ⊞ (scalar_combine M (tail_of v) xs ⊞ ⊟ scalar_combine M rest g)
-            ≡ constant k (v zero) · x ⊞ scalar_combine M (tail_of v) xs ⊞ ⊟ scalar_combine M (λ j. v zero ⊗ a zero j ⊕ rest j) g
+        moved : constant k (v zero) · (x ⊞ ⊟ scalar_combine M (a zero) g) ⊞
+            (scalar_combine M (tail_of v) xs ⊞ ⊟ scalar_combine M rest g)
+            ≡ constant k (v zero) · x ⊞ scalar_combine M (tail_of v) xs ⊞ ⊟ scalar_combine M
+            (λ j. v zero ⊗ a zero j ⊕ rest j) g
         moved =
             ap (λ y. y ⊞ (scalar_combine M (tail_of v) xs ⊞ ⊟ scalar_combine M rest g))
-            (scale_add M (constant k (v zero)) x _ ∙ ap (λ y. constant k (v zero) · x ⊞ y) (scale_neg M (constant k (v zero)) _ ∙ ap ⊟◌ (sym (scalar_scale g (v zero) (a zero)))))
+            (scale_add M (constant k (v zero)) x _
+            ∙ ap (λ y. constant k (v zero) · x ⊞ y)
+            (scale_neg M (constant k (v zero)) _ ∙ ap ⊟◌ (sym (scalar_scale g (v zero) (a zero)))))
             ∙ v_add_add M _ _ _ _
             ∙ ap (λ y. constant k (v zero) · x ⊞ scalar_combine M (tail_of v) xs ⊞ y)
             (sym (v_neg_add M _ _) ∙ ap ⊟◌ (sym (scalar_add M g (λ j. v zero ⊗ a zero j) rest)))
 
-    pub basis_length_le : (N : V → Type 0) (g g' : List V) → IsBasisModulo M N L g → IsBasisModulo M N L g' → length g' ≤ length g
+    pub basis_length_le : (N : V → Type 0) (g g' : List V) → IsBasisModulo M N L g → IsBasisModulo M N L g'
+        → length g' ≤ length g
     basis_length_le N g g' b b' = go (cases_lt (length g) (length g'))
       where
         a : ℕ → ℕ → A
@@ -190,7 +205,8 @@ module _ {A V : Type 0} {k : TestedRing A} (M : PolynomialModule k V) where
         clash r =
             r.some (b'.independent r.scalars
             (subst L
-            (ap (λ y. scalar_combine M r.scalars g' ⊞ ⊟ y) (scalar_none g (λ j. first_sum k (λ i. r.scalars i ⊗ a i j) (length g')) r.is)
+            (ap (λ y. scalar_combine M r.scalars g' ⊞ ⊟ y)
+            (scalar_none g (λ j. first_sum k (λ i. r.scalars i ⊗ a i j) (length g')) r.is)
             ∙ ap (λ y. scalar_combine M r.scalars g' ⊞ y) (v_neg_zero M) ∙ v_add_zero M _)
             (gather g g' r.scalars a (λ i less. b.spans (row_at M g' i) (b'.members i)))) r.index r.below)
 
@@ -199,5 +215,6 @@ module _ {A V : Type 0} {k : TestedRing A} (M : PolynomialModule k V) where
         go (inl less) = absurd (clash (scalar_relation k field (length g') (length g) less a))
 
     -- dimension is well defined
-    pub basis_length : (N : V → Type 0) (g g' : List V) → IsBasisModulo M N L g → IsBasisModulo M N L g' → length g ≡ length g'
+    pub basis_length : (N : V → Type 0) (g g' : List V) → IsBasisModulo M N L g → IsBasisModulo M N L g'
+        → length g ≡ length g'
     basis_length N g g' b b' = omega (arith, basis_length_le N g g' b b', basis_length_le N g' g b' b)

@@ -23,7 +23,8 @@ module _ {A V : Type 0} {k : TestedRing A} (M : PolynomialModule k V) where
   open M use {width, 𝟎, ◌⊞◌, ⊟◌, ◌·◌}
 
   -- a row is replaced by one of the span from which it comes back
-  pub put_span : (rs : List V) (i : ℕ) (v : V) → i < length rs → InSpan M rs v → InSpan M (put i v rs) (row_at M rs i) → HaveSameSpan M rs (put i v rs)
+  pub put_span : (rs : List V) (i : ℕ) (v : V) → i < length rs → InSpan M rs v → InSpan M (put i v rs) (row_at M rs i)
+      → HaveSameSpan M rs (put i v rs)
   put_span rs i v less v_in back = record {
     left = within_rows M rs (put i v rs) (λ l. old l (ℕ_discrete i l));
     right = within_rows M (put i v rs) rs (λ l. new l (ℕ_discrete i l));
@@ -34,17 +35,20 @@ module _ {A V : Type 0} {k : TestedRing A} (M : PolynomialModule k V) where
       old l (no off) = subst (InSpan M (put i v rs)) (put_off M i l v rs off) (span_row M (put i v rs) l)
 
       new : (l : ℕ) → Dec (i ≡ l) → InSpan M rs (row_at M (put i v rs) l)
-      new l (yes e) = subst (λ x. InSpan M rs (row_at M (put i v rs) x)) e (subst (InSpan M rs) (sym (put_at M i v rs less)) v_in)
+      new l (yes e) = subst (λ x. InSpan M rs (row_at M (put i v rs) x)) e
+          (subst (InSpan M rs) (sym (put_at M i v rs less)) v_in)
       new l (no off) = subst (InSpan M rs) (sym (put_off M i l v rs off)) (span_row M rs l)
 
   -- a row is multiplied by an invertible polynomial
-  pub unit_multiple_span : (rs : List V) (i : ℕ) (c d : Pol k) → i < length rs → (pol_ring k).◌⊗◌ d c ≡ (pol_ring k).𝟙 → HaveSameSpan M rs (put i (◌·◌ c (row_at M rs i)) rs)
+  pub unit_multiple_span : (rs : List V) (i : ℕ) (c d : Pol k) → i < length rs → (pol_ring k).◌⊗◌ d c ≡ (pol_ring k).𝟙
+      → HaveSameSpan M rs (put i (◌·◌ c (row_at M rs i)) rs)
   unit_multiple_span rs i c d less inverse =
       put_span rs i (◌·◌ c (row_at M rs i)) less
       (span_scale M rs c (row_at M rs i) (span_row M rs i))
       (subst (InSpan M ss)
       (sym (scale_scale M d c (row_at M rs i)) ∙ ap (λ p. ◌·◌ p (row_at M rs i)) inverse ∙ scale_one M (row_at M rs i))
-      (span_scale M ss d (◌·◌ c (row_at M rs i)) (subst (InSpan M ss) (put_at M i (◌·◌ c (row_at M rs i)) rs less) (span_row M ss i))))
+      (span_scale M ss d (◌·◌ c (row_at M rs i))
+      (subst (InSpan M ss) (put_at M i (◌·◌ c (row_at M rs i)) rs less) (span_row M ss i))))
     where
       ss : List V
       ss = put i (M.◌·◌ c (row_at M rs i)) rs
@@ -70,7 +74,8 @@ module _ {A V : Type 0} {k : TestedRing A} (M : PolynomialModule k V) where
       member : ℕ → V
       member j = M.◌·◌ (full.multiple (M.unit j)).factor (M.unit j)
 
-      sized : (j : ℕ) (h : Pol k) → ¬ (h ≡ (pol_ring k).𝟘) → (n : ℕ) → length h.0 ≡ n → (d : ℕ) × (measure M (M.◌·◌ h (M.unit j)) ≡ suc (d * M.width + j))
+      sized : (j : ℕ) (h : Pol k) → ¬ (h ≡ (pol_ring k).𝟘) → (n : ℕ) → length h.0 ≡ n
+          → (d : ℕ) × (measure M (M.◌·◌ h (M.unit j)) ≡ suc (d * M.width + j))
       sized j h some zero e = absurd (some (empty_pol k h e))
       sized j h some (suc d) e = (
         d,
@@ -79,7 +84,8 @@ module _ {A V : Type 0} {k : TestedRing A} (M : PolynomialModule k V) where
       )
 
       is : (j : ℕ) → (d : ℕ) × (measure M (member j) ≡ suc (d * M.width + j))
-      is j = sized j (full.multiple (M.unit j)).factor (full.multiple (M.unit j)).some (length (full.multiple (M.unit j)).factor.0) refl
+      is j = sized j (full.multiple (M.unit j)).factor (full.multiple (M.unit j)).some
+          (length (full.multiple (M.unit j)).factor.0) refl
 
 module _ {A V : Type 0} {k : TestedRing A} (M : PolynomialModule k V) (field : IsField k.ops) where
   -- and the other way round
@@ -93,7 +99,8 @@ module _ {A V : Type 0} {k : TestedRing A} (M : PolynomialModule k V) (field : I
   popov_basis rs full =
       let r = reduce M field rs in
       let same = reduced_span M field rs r in
-      let f = popov_form_of M field r.rows r.weak (full_from_rank M (field_domain k.ring field) r.rows r.weak (full_rank_same M rs r.rows same full)) in
+      let f = popov_form_of M field r.rows r.weak
+      (full_from_rank M (field_domain k.ring field) r.rows r.weak (full_rank_same M rs r.rows same full)) in
       record {
         rows = f.rows;
         is = f.is;
@@ -112,6 +119,8 @@ module _ {A V : Type 0} {k : TestedRing A} (M : PolynomialModule k V) (field : I
       same = reduced_span M field rs (reduce M field rs)
 
       go : IsFull M r.rows ⊎ Missing M r.rows → HasFullRank M rs ⊎ (HasFullRank M rs → ⊥)
-      go (inl full) = inl (full_rank_same M r.rows rs (same_span_sym M rs r.rows same) (rank_from_full r.rows r.weak full))
+      go (inl full) = inl (full_rank_same M r.rows rs (same_span_sym M rs r.rows same)
+          (rank_from_full r.rows r.weak full))
       go (inr missing) =
-          inr (λ full. not_full M r.rows missing (full_from_rank M (field_domain k.ring field) r.rows r.weak (full_rank_same M rs r.rows same full)))
+          inr (λ full. not_full M r.rows missing
+          (full_from_rank M (field_domain k.ring field) r.rows r.weak (full_rank_same M rs r.rows same full)))

@@ -28,7 +28,8 @@ module _ {A : Type 0} (k : TestedRing A) where
   top_past f zero e le less = absurd (omega arith)
   top_past f (suc n) e le less = go (k.is_zero (f n)) refl le (eq-or-lt_of_le (omega arith)) (top_past f n e)
     where
-      go : (b : Bool) → k.is_zero (f n) ≡ b → cond b (top_position k.is_zero f n) (suc n) ≤ e → (e ≡ n) ⊎ (e < n) → (top_position k.is_zero f n ≤ e → e < n → f e ≡ k.𝟘) → f e ≡ k.𝟘
+      go : (b : Bool) → k.is_zero (f n) ≡ b → cond b (top_position k.is_zero f n) (suc n) ≤ e → (e ≡ n) ⊎ (e < n)
+          → (top_position k.is_zero f n ≤ e → e < n → f e ≡ k.𝟘) → f e ≡ k.𝟘
       go true is_null le (inl here) earlier = ap f here ∙ k.zero_from (f n) is_null
       go true is_null le (inr lower) earlier = earlier le lower
       go false some le at earlier = absurd (omega arith)
@@ -37,9 +38,11 @@ module _ {A : Type 0} (k : TestedRing A) where
   top_some f zero e is = absurd (omega arith)
   top_some f (suc n) e is = go (k.is_zero (f n)) refl is (top_some f n e)
     where
-      go : (b : Bool) → k.is_zero (f n) ≡ b → cond b (top_position k.is_zero f n) (suc n) ≡ suc e → (top_position k.is_zero f n ≡ suc e → f e ≢ k.𝟘) → f e ≢ k.𝟘
+      go : (b : Bool) → k.is_zero (f n) ≡ b → cond b (top_position k.is_zero f n) (suc n) ≡ suc e
+          → (top_position k.is_zero f n ≡ suc e → f e ≢ k.𝟘) → f e ≢ k.𝟘
       go true is_null is earlier = earlier is
-      go false some is earlier = λ z. true≢false (sym k.zero_is_zero ∙ ap k.is_zero (sym z) ∙ ap (λ i. k.is_zero (f i)) (omega arith) ∙ some)
+      go false some is earlier = λ z. true≢false
+          (sym k.zero_is_zero ∙ ap k.is_zero (sym z) ∙ ap (λ i. k.is_zero (f i)) (omega arith) ∙ some)
 
 module _ {A V : Type 0} {k : TestedRing A} (M : PolynomialModule k V) where
   infixl 65 ◌⊞◌
@@ -113,31 +116,39 @@ module _ {A V : Type 0} {k : TestedRing A} (M : PolynomialModule k V) where
       go (suc m) e =
           measure_is (u ⊞ v) m
           (λ z. measure_top u m e
-          (sym (M.coef_add u v m ∙ ap (λ x. coef u m ⊕ x) (measure_past v m (omega (arith, e, less))) ∙ k.add_zero _) ∙ z))
+          (sym (M.coef_add u v m ∙ ap (λ x. coef u m ⊕ x) (measure_past v m (omega (arith, e, less))) ∙ k.add_zero _)
+          ∙ z))
           (λ i after. M.coef_add u v i
-          ∙ ap₂ ◌⊕◌ (measure_past u i (omega (arith, e, less))) (measure_past v i (omega (arith, e, less))) ∙ k.add_zero _)
+          ∙ ap₂ ◌⊕◌ (measure_past u i (omega (arith, e, less))) (measure_past v i (omega (arith, e, less)))
+          ∙ k.add_zero _)
           ∙ sym e
 
   pub measure_add_right : (u v : V) → measure M u < measure M v → measure M (u ⊞ v) ≡ measure M v
   measure_add_right u v less =
-      ap (measure M) (M.same (u ⊞ v) (v ⊞ u) (λ e. M.coef_add u v e ∙ k.add_comm _ _ ∙ sym (M.coef_add v u e))) ∙ measure_add_left v u less
+      ap (measure M) (M.same (u ⊞ v) (v ⊞ u) (λ e. M.coef_add u v e ∙ k.add_comm _ _ ∙ sym (M.coef_add v u e)))
+      ∙ measure_add_left v u less
 
   -- the row minus another whose measure is the same, with the same last coefficient, has a smaller one
-  pub measure_falls : (u v : V) (e : ℕ) → measure M u ≤ suc e → measure M v ≤ suc e → coef u e ≡ coef v e → measure M (u ⊞ ⊟ v) ≤ e
-  measure_falls u v e u_le v_le tops = measure_bound (u ⊞ ⊟ v) e (λ i le. M.coef_add u (⊟ v) i ∙ ap (λ x. coef u i ⊕ x) (M.coef_neg v i) ∙ go i (eq-or-lt_of_le le))
+  pub measure_falls : (u v : V) (e : ℕ) → measure M u ≤ suc e → measure M v ≤ suc e → coef u e ≡ coef v e
+      → measure M (u ⊞ ⊟ v) ≤ e
+  measure_falls u v e u_le v_le tops = measure_bound (u ⊞ ⊟ v) e
+      (λ i le. M.coef_add u (⊟ v) i ∙ ap (λ x. coef u i ⊕ x) (M.coef_neg v i) ∙ go i (eq-or-lt_of_le le))
     where
       go : (i : ℕ) → (e ≡ i) ⊎ (e < i) → coef u i ⊕ ⊖ coef v i ≡ 𝟘
       go i (inl here) = subst (λ j. coef u j ⊕ ⊖ coef v j ≡ 𝟘) here (ap (λ x. x ⊕ ⊖ coef v e) tops ∙ k.add_neg _)
-      go i (inr past) = ap₂ (λ x y. x ⊕ ⊖ y) (measure_past u i (omega arith)) (measure_past v i (omega arith)) ∙ k.add_neg _
+      go i (inr past) = ap₂ (λ x y. x ⊕ ⊖ y) (measure_past u i (omega arith)) (measure_past v i (omega arith))
+          ∙ k.add_neg _
 
   -- multiples: the last coefficient of c·v
-  module _ (c : Pol k) (v : V) (m n : ℕ) (c_ends : (i : ℕ) → m < i → coeff_of k.ops c.0 i ≡ 𝟘) (v_ends : (i : ℕ) → n < i → coef v i ≡ 𝟘) where
+  module _ (c : Pol k) (v : V) (m n : ℕ) (c_ends : (i : ℕ) → m < i → coeff_of k.ops c.0 i ≡ 𝟘)
+      (v_ends : (i : ℕ) → n < i → coef v i ≡ 𝟘) where
     pub scale_top : coef (c · v) (m * width + n) ≡ coeff_of k.ops c.0 m ⊗ coef v n
     scale_top =
         ap (coef (c · v)) (omega (arith, split M n, add-mul m (n / width) width))
         ∙ M.coef_scale c v (m + n / width) (n % width) (column_below M n)
         ∙ convolution_top k.ring m (n / width) (coeff_of k.ops c.0) (λ t. coef v (t * width + n % width)) c_ends
-        (λ t after. v_ends (t * width + n % width) (omega (arith, split M n, row_le width M.positive (n / width) t after, M.positive)))
+        (λ t after. v_ends (t * width + n % width)
+        (omega (arith, split M n, row_le width M.positive (n / width) t after, M.positive)))
         ∙ ap (λ i. coeff_of k.ops c.0 m ⊗ coef v i) (split M n)
 
     past_at : (s i : ℕ) → i < width → m * width + n < s * width + i → coef (c · v) (s * width + i) ≡ 𝟘
@@ -149,10 +160,12 @@ module _ {A V : Type 0} {k : TestedRing A} (M : PolynomialModule k V) where
         moved : (m + n / width) * width + n % width < s * width + i
         moved = omega (arith, split M n, add-mul m (n / width) width, past)
 
-        go : (n % width < i) ⊎ (i ≤ n % width) → (d : ℕ) → n / width ≡ d → convolution k.ops (coeff_of k.ops c.0) g s ≡ 𝟘
+        go : (n % width < i) ⊎ (i ≤ n % width) → (d : ℕ) → n / width ≡ d
+            → convolution k.ops (coeff_of k.ops c.0) g s ≡ 𝟘
         go (inr left) d is =
             convolution_past k.ring m (n / width) (coeff_of k.ops c.0) g c_ends
-            (λ t after. v_ends (t * width + i) (omega (arith, split M n, column_below M n, row_le width M.positive (n / width) t after)))
+            (λ t after. v_ends (t * width + i)
+            (omega (arith, split M n, column_below M n, row_le width M.positive (n / width) t after)))
             s (degree_rises width M.positive (m + n / width) s i (n % width) left moved)
         go (inl right) zero is =
             convolution_comm k.ring (coeff_of k.ops c.0) g s
@@ -160,15 +173,23 @@ module _ {A V : Type 0} {k : TestedRing A} (M : PolynomialModule k V) where
             (λ t. v_ends (t * width + i) (omega (arith, split M n, ap (λ d. d * width) is))) s
         go (inl right) (suc d) is =
             convolution_past k.ring m d (coeff_of k.ops c.0) g c_ends
-            (λ t after. v_ends (t * width + i) (omega (arith, split M n, mul-le (n / width) width t width (omega (arith, is, after)) (omega arith), right)))
+            (λ t after. v_ends (t * width + i)
+            (omega (
+              arith,
+              split M n,
+              mul-le (n / width) width t width (omega (arith, is, after)) (omega arith),
+              right,
+            )))
             s (omega (arith, is, degree_less width M.positive (m + n / width) s i (n % width) i_below moved))
 
     pub scale_past : (e : ℕ) → m * width + n < e → coef (c · v) e ≡ 𝟘
     scale_past e past =
-        subst (λ i. coef (c · v) i ≡ 𝟘) (split M e) (past_at (e / width) (e % width) (column_below M e) (omega (arith, split M e, past)))
+        subst (λ i. coef (c · v) i ≡ 𝟘) (split M e)
+        (past_at (e / width) (e % width) (column_below M e) (omega (arith, split M e, past)))
 
   -- the measure of a multiple over a domain
-  pub measure_scale : IsDomain k.ops → (c : Pol k) (v : V) (m : ℕ) → length c.0 ≡ suc m → measure M v ≢ 0 → measure M (c · v) ≡ m * width + measure M v
+  pub measure_scale : IsDomain k.ops → (c : Pol k) (v : V) (m : ℕ) → length c.0 ≡ suc m → measure M v ≢ 0
+      → measure M (c · v) ≡ m * width + measure M v
   measure_scale domain ([], t) v m size some = absurd (omega (arith, size))
   measure_scale domain ((x ∷ xs), t) v m size some = go (measure M v) refl
     where
@@ -196,21 +217,31 @@ module _ {A V : Type 0} {k : TestedRing A} (M : PolynomialModule k V) where
   measure_parts v some = omega (arith, split M (measure M v - 1), some)
 
   -- a row whose entry in column j has the degree d, with no higher entry, and none of degree d further to the right
-  pub pivot_is : (v : V) (d j : ℕ) → j < width → coef v (d * width + j) ≢ 𝟘 → ((s i : ℕ) → i < width → d < s → coef v (s * width + i) ≡ 𝟘) → ((i : ℕ) → j < i → i < width → coef v (d * width + i) ≡ 𝟘) → (measure M v ≡ suc (d * width + j)) × (row_degree M v ≡ d) × (pivot M v ≡ j)
-  pivot_is v d j less some higher right = (is, (ap (λ n. (n - 1) / width) is ∙ ap (λ n. n / width) back ∙ div-mul-add d width j less), (ap (column width) is ∙ column_at width M.positive d j less))
+  pub pivot_is : (v : V) (d j : ℕ) → j < width → coef v (d * width + j) ≢ 𝟘
+      → ((s i : ℕ) → i < width → d < s → coef v (s * width + i) ≡ 𝟘)
+      → ((i : ℕ) → j < i → i < width → coef v (d * width + i) ≡ 𝟘)
+      → (measure M v ≡ suc (d * width + j)) × (row_degree M v ≡ d) × (pivot M v ≡ j)
+  pivot_is v d j less some higher right = (
+    is,
+    (ap (λ n. (n - 1) / width) is ∙ ap (λ n. n / width) back ∙ div-mul-add d width j less),
+    (ap (column width) is ∙ column_at width M.positive d j less),
+  )
     where
       back : suc (d * width + j) - 1 ≡ d * width + j
       back = omega arith
 
-      at : (s i : ℕ) → i < width → d * width + j < s * width + i → (s < suc d) ⊎ (suc d ≤ s) → coef v (s * width + i) ≡ 𝟘
+      at : (s i : ℕ) → i < width → d * width + j < s * width + i → (s < suc d) ⊎ (suc d ≤ s)
+          → coef v (s * width + i) ≡ 𝟘
       at s i i_below past (inr more) = higher s i i_below (omega arith)
       at s i i_below past (inl le) = go (eq-or-lt_of_le (degree_less width M.positive d s i j i_below past))
         where
           go : (d ≡ s) ⊎ (d < s) → coef v (s * width + i) ≡ 𝟘
-          go (inl same) = subst (λ t. coef v (t * width + i) ≡ 𝟘) same (right i (omega (arith, past, ap (λ t. t * width) same)) i_below)
+          go (inl same) = subst (λ t. coef v (t * width + i) ≡ 𝟘) same
+              (right i (omega (arith, past, ap (λ t. t * width) same)) i_below)
           go (inr more) = absurd (omega arith)
 
       is : measure M v ≡ suc (d * width + j)
       is = measure_is v (d * width + j) some (λ e past.
           subst (λ i. coef v i ≡ 𝟘) (split M e)
-          (at (e / width) (e % width) (column_below M e) (omega (arith, split M e, past)) (cases_lt (e / width) (suc d))))
+          (at (e / width) (e % width) (column_below M e) (omega (arith, split M e, past))
+          (cases_lt (e / width) (suc d))))

@@ -34,7 +34,8 @@ module _ {A V : Type 0} {k : TestedRing A} (M : PolynomialModule k V) where
 
   -- rows that agree in each column are the same
   pub same_columns : (u v : V) → ((s j : ℕ) → j < width → coef u (s * width + j) ≡ coef v (s * width + j)) → u ≡ v
-  same_columns u v h = M.same u v (λ e. subst (λ i. coef u i ≡ coef v i) (split e) (h (e / width) (e % width) (column_below e)))
+  same_columns u v h = M.same u v (λ e. subst (λ i. coef u i ≡ coef v i) (split e)
+      (h (e / width) (e % width) (column_below e)))
 
   pub v_add_assoc : (u v w : V) → (u ⊞ v) ⊞ w ≡ u ⊞ (v ⊞ w)
   v_add_assoc u v w =
@@ -52,7 +53,8 @@ module _ {A V : Type 0} {k : TestedRing A} (M : PolynomialModule k V) where
   v_zero_add v = v_add_comm 𝟎 v ∙ v_add_zero v
 
   pub v_add_neg : (v : V) → v ⊞ ⊟ v ≡ 𝟎
-  v_add_neg v = M.same _ _ (λ e. M.coef_add v (⊟ v) e ∙ ap (λ x. coef v e ⊕ x) (M.coef_neg v e) ∙ k.add_neg _ ∙ sym (M.coef_zero e))
+  v_add_neg v = M.same _ _ (λ e. M.coef_add v (⊟ v) e ∙ ap (λ x. coef v e ⊕ x) (M.coef_neg v e) ∙ k.add_neg _
+      ∙ sym (M.coef_zero e))
 
   pub v_add_left_comm : (u v w : V) → u ⊞ (v ⊞ w) ≡ v ⊞ (u ⊞ w)
   v_add_left_comm u v w = sym (v_add_assoc u v w) ∙ ap (λ x. x ⊞ w) (v_add_comm u v) ∙ v_add_assoc v u w
@@ -88,7 +90,8 @@ module _ {A V : Type 0} {k : TestedRing A} (M : PolynomialModule k V) where
       M.coef_scale c (u ⊞ v) s j less
       ∙ ap (λ g. convolution k.ops (coeff_of k.ops c.0) g s) (fun_ext (λ t. M.coef_add u v (t * width + j)))
       ∙ convolution_add_right k.ring (coeff_of k.ops c.0) (λ t. coef u (t * width + j)) (λ t. coef v (t * width + j)) s
-      ∙ sym (M.coef_add (c · u) (c · v) (s * width + j) ∙ ap₂ ◌⊕◌ (M.coef_scale c u s j less) (M.coef_scale c v s j less)))
+      ∙ sym (M.coef_add (c · u) (c · v) (s * width + j)
+      ∙ ap₂ ◌⊕◌ (M.coef_scale c u s j less) (M.coef_scale c v s j less)))
 
   pub add_scale : (c d : Pol k) (v : V) → P.◌⊕◌ c d · v ≡ c · v ⊞ d · v
   add_scale c d v =
@@ -96,7 +99,8 @@ module _ {A V : Type 0} {k : TestedRing A} (M : PolynomialModule k V) where
       M.coef_scale (P.◌⊕◌ c d) v s j less
       ∙ ap (λ f. convolution k.ops f (λ t. coef v (t * width + j)) s) (fun_ext (series_add k c d))
       ∙ convolution_add_left k.ring (coeff_of k.ops c.0) (coeff_of k.ops d.0) (λ t. coef v (t * width + j)) s
-      ∙ sym (M.coef_add (c · v) (d · v) (s * width + j) ∙ ap₂ ◌⊕◌ (M.coef_scale c v s j less) (M.coef_scale d v s j less)))
+      ∙ sym (M.coef_add (c · v) (d · v) (s * width + j)
+      ∙ ap₂ ◌⊕◌ (M.coef_scale c v s j less) (M.coef_scale d v s j less)))
 
   pub scale_scale : (c d : Pol k) (v : V) → P.◌⊗◌ c d · v ≡ c · (d · v)
   scale_scale c d v =
@@ -120,7 +124,8 @@ module _ {A V : Type 0} {k : TestedRing A} (M : PolynomialModule k V) where
       same_columns _ _ (λ s j less.
       M.coef_scale c 𝟎 s j less
       ∙ convolution_comm k.ring (coeff_of k.ops c.0) (λ t. coef 𝟎 (t * width + j)) s
-      ∙ convolution_null_left k.ring (λ t. coef 𝟎 (t * width + j)) (coeff_of k.ops c.0) (λ t. M.coef_zero (t * width + j)) s
+      ∙ convolution_null_left k.ring (λ t. coef 𝟎 (t * width + j)) (coeff_of k.ops c.0)
+      (λ t. M.coef_zero (t * width + j)) s
       ∙ sym (M.coef_zero (s * width + j)))
 
   pub scale_one : (v : V) → P.𝟙 · v ≡ v
@@ -128,7 +133,8 @@ module _ {A V : Type 0} {k : TestedRing A} (M : PolynomialModule k V) where
   scale_one v =
       same_columns _ _ (λ s j less.
       M.coef_scale P.𝟙 v s j less
-      ∙ convolution_constant_left k.ring (coeff_of k.ops P.𝟙.0) (λ t. coef v (t * width + j)) (λ i. coeff_trim k (𝟙 ∷ []) (suc i)) s
+      ∙ convolution_constant_left k.ring (coeff_of k.ops P.𝟙.0) (λ t. coef v (t * width + j))
+      (λ i. coeff_trim k (𝟙 ∷ []) (suc i)) s
       ∙ ap (λ x. x ⊗ coef v (s * width + j)) (coeff_trim k (𝟙 ∷ []) zero)
       ∙ k.ring.mul_comm _ _ ∙ k.ring.mul_one _)
 

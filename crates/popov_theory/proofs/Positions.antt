@@ -56,7 +56,8 @@ module _ (w : ℕ) (positive : 0 < w) where
     is =
         let split_a = div-add-mod' a w in
         let split_b = div-add-mod' b w in
-        let back : (a / w - b / w) * w + b / w * w ≡ a / w * w = sym (add-mul (a / w - b / w) (b / w) w) ∙ ap (λ x. x * w) (omega (arith, degrees)) in
+        let back : (a / w - b / w) * w + b / w * w ≡ a / w * w = sym (add-mul (a / w - b / w) (b / w) w)
+        ∙ ap (λ x. x * w) (omega (arith, degrees)) in
         omega (arith, split_a, split_b, back, same_column);
   }
     where

@@ -23,13 +23,16 @@ In_rest z y [] r (inr h) other = h
 In_rest z y (x ∷ l) r (inl e) other = inl e
 In_rest z y (x ∷ l) r (inr h) other = inr (In_rest z y l r h other)
 
-pub length_within : {A : Type 0} (xs ys : List A) → IsDistinct xs → ((x : A) → In x xs → In x ys) → length xs ≤ length ys
+pub length_within : {A : Type 0} (xs ys : List A) → IsDistinct xs → ((x : A) → In x xs → In x ys)
+    → length xs ≤ length ys
 length_within [] ys d h = omega arith
 length_within {A = A} (x ∷ xs) ys d h = go (split_at x ys (h x (inl refl))) (λ zs. length_within xs zs d.1)
   where
-    go : (l : List A) × ((r : List A) × (ys ≡ l ++ x ∷ r)) → ((zs : List A) → ((z : A) → In z xs → In z zs) → length xs ≤ length zs) → length (x ∷ xs) ≤ length ys
+    go : (l : List A) × ((r : List A) × (ys ≡ l ++ x ∷ r))
+        → ((zs : List A) → ((z : A) → In z xs → In z zs) → length xs ≤ length zs) → length (x ∷ xs) ≤ length ys
     go (l, (r, e)) rest =
-        let few = rest (l ++ r) (λ z z_in. In_rest z x l r (subst (In z) e (h z (inr z_in))) (λ same. d.0 (subst (λ y. In y xs) same z_in))) in
+        let few = rest (l ++ r) (λ z z_in. In_rest z x l r (subst (In z) e (h z (inr z_in)))
+        (λ same. d.0 (subst (λ y. In y xs) same z_in))) in
         omega (arith, few, ap length e, length-append l (x ∷ r), length-append l r)
 
 -- the numbers below n
@@ -74,7 +77,8 @@ module _ {A V : Type 0} {k : TestedRing A} (M : PolynomialModule k V) where
   abbrev pub rank : List V → ℕ
   rank rs = length (pivots rs)
 
-  pivots_from : (p : ℕ) (rs : List V) → In p (pivots rs) → (i : ℕ) × (measure M (row_at M rs i) ≢ 0) × (p ≡ pivot M (row_at M rs i))
+  pivots_from : (p : ℕ) (rs : List V) → In p (pivots rs)
+      → (i : ℕ) × (measure M (row_at M rs i) ≢ 0) × (p ≡ pivot M (row_at M rs i))
   pivots_from p [] h = absurd h
   pivots_from p (r ∷ rs) h = go (eqb (measure M r) 0) refl h (pivots_from p rs)
     where
@@ -94,7 +98,8 @@ module _ {A V : Type 0} {k : TestedRing A} (M : PolynomialModule k V) where
       go false e = inl refl
   pivots_has (r ∷ rs) (suc i) some = go (eqb (measure M r) 0) (pivots_has rs i some)
     where
-      go : (b : Bool) → In (pivot M (row_at M rs i)) (pivots rs) → In (pivot M (row_at M rs i)) (cond b (pivots rs) (pivot M r ∷ pivots rs))
+      go : (b : Bool) → In (pivot M (row_at M rs i)) (pivots rs)
+          → In (pivot M (row_at M rs i)) (cond b (pivots rs) (pivot M r ∷ pivots rs))
       go true h = h
       go false h = inr h
 
@@ -108,12 +113,14 @@ module _ {A V : Type 0} {k : TestedRing A} (M : PolynomialModule k V) where
   pivots_distinct [] weak = tt
   pivots_distinct (r ∷ rs) weak = go (eqb (measure M r) 0) refl (pivots_distinct rs (tail_weak r rs weak))
     where
-      go : (b : Bool) → eqb (measure M r) 0 ≡ b → IsDistinct (pivots rs) → IsDistinct (cond b (pivots rs) (pivot M r ∷ pivots rs))
+      go : (b : Bool) → eqb (measure M r) 0 ≡ b → IsDistinct (pivots rs)
+          → IsDistinct (cond b (pivots rs) (pivot M r ∷ pivots rs))
       go true e d = d
       go false e d = (
         λ h.
             let found = pivots_from (pivot M r) rs h in
-            weak.apart 0 (suc found.0) (λ z. absurd (omega (arith, z))) (some_row r (eqb-false _ _ e)) (some_row (row_at M rs found.0) found.1) found.2,
+            weak.apart 0 (suc found.0) (λ z. absurd (omega (arith, z))) (some_row r (eqb-false _ _ e))
+            (some_row (row_at M rs found.0) found.1) found.2,
         d,
       )
 
@@ -124,7 +131,12 @@ module _ {A V : Type 0} {k : TestedRing A} (M : PolynomialModule k V) where
 
   pub rank_le : (rs : List V) → IsWeakPopov M rs → rank rs ≤ width
   rank_le rs weak =
-      omega (arith, below_length width, length_within (pivots rs) (below_list width) (pivots_distinct rs weak) (λ p h. below_has width p (pivot_less p rs h)))
+      omega (
+        arith,
+        below_length width,
+        length_within (pivots rs) (below_list width) (pivots_distinct rs weak)
+            (λ p h. below_has width p (pivot_less p rs h)),
+      )
 
   -- full rank is the width
   pub rank_full : (rs : List V) → IsWeakPopov M rs → IsFull M rs → rank rs ≡ width
@@ -134,7 +146,8 @@ module _ {A V : Type 0} {k : TestedRing A} (M : PolynomialModule k V) where
         rank_le rs weak,
         below_length width,
         length_within (below_list width) (pivots rs) (below_distinct width) (λ j h.
-            subst (λ p. In p (pivots rs)) (full.owner_pivot j (in_below width j h)) (pivots_has rs (full.owner j) (full.owner_some j (in_below width j h)))),
+            subst (λ p. In p (pivots rs)) (full.owner_pivot j (in_below width j h))
+            (pivots_has rs (full.owner j) (full.owner_some j (in_below width j h)))),
       )
 
   pub full_from_rank : (rs : List V) → IsWeakPopov M rs → rank rs ≡ width → IsFull M rs
@@ -147,8 +160,10 @@ module _ {A V : Type 0} {k : TestedRing A} (M : PolynomialModule k V) where
             arith,
             e,
             below_length width,
-            length_within (missing.column_of ∷ pivots rs) (below_list width)
-                (λ h. let found = pivots_from missing.column_of rs h in missing.none found.0 found.1 found.2, pivots_distinct rs weak)
+            length_within (missing.column_of ∷ pivots rs) (below_list width) (
+              λ h. let found = pivots_from missing.column_of rs h in missing.none found.0 found.1 found.2,
+              pivots_distinct rs weak,
+            )
                 (λ p h. below_has width p (less p h)),
           ))
         where
@@ -162,6 +177,8 @@ module _ {A V : Type 0} {k : TestedRing A} (M : PolynomialModule k V) where
   zero_row_in (r ∷ rs) less = go (eqb (measure M r) 0) refl less (zero_row_in rs)
     where
       go : (b : Bool) → eqb (measure M r) 0 ≡ b → length (cond b (pivots rs) (pivot M r ∷ pivots rs)) < suc (length rs)
-          → (rank rs < length rs → (i : ℕ) × (i < length rs) × (row_at M rs i ≡ 𝟎)) → (i : ℕ) × (i < suc (length rs)) × (row_at M (r ∷ rs) i ≡ 𝟎)
+          → (rank rs < length rs → (i : ℕ) × (i < length rs) × (row_at M rs i ≡ 𝟎))
+          → (i : ℕ) × (i < suc (length rs)) × (row_at M (r ∷ rs) i ≡ 𝟎)
       go true e less later = (0, omega arith, zero_from_measure M r (eqb-true _ _ e))
-      go false e less later = let found = later (le_of_suc-le-suc less) in (suc found.0, omega (arith, found.1), found.2)
+      go false e less later = let found = later (le_of_suc-le-suc less) in
+          (suc found.0, omega (arith, found.1), found.2)

@@ -23,7 +23,8 @@ pub record IsMonic {A : Type 0} (k : TestedRing A) (h : Pol k) : Type 0 where
   pub size : length h.0 ≡ suc degree
   pub top : coeff_of k.ops h.0 degree ≡ k.𝟙
 
-module _ {A V : Type 0} {k : TestedRing A} (M : PolynomialModule k V) (domain : IsDomain k.ops) (h : Pol k) (monic : IsMonic k h) where
+module _ {A V : Type 0} {k : TestedRing A} (M : PolynomialModule k V) (domain : IsDomain k.ops) (h : Pol k)
+    (monic : IsMonic k h) where
   infixl 65 ◌⊞◌
   infixl 70 ◌·◌
   infixl 70 ◌⊗◌
@@ -47,14 +48,17 @@ module _ {A V : Type 0} {k : TestedRing A} (M : PolynomialModule k V) (domain : 
   scaled_some v some z = some (omega (arith, scaled_measure v some, z))
 
   unscaled_some : (v : V) → measure M (h · v) ≢ 0 → measure M v ≢ 0
-  unscaled_some v some z = some (ap (λ u. measure M (h · u)) (zero_from_measure M v z) ∙ ap (measure M) (scale_zero M h) ∙ measure_zero M)
+  unscaled_some v some z = some (ap (λ u. measure M (h · u)) (zero_from_measure M v z) ∙ ap (measure M) (scale_zero M h)
+      ∙ measure_zero M)
 
   scaled_pivot : (v : V) → measure M v ≢ 0 → pivot M (h · v) ≡ pivot M v
-  scaled_pivot v some = ap (column width) (scaled_measure v some) ∙ column_shift width M.positive monic.degree (measure M v) some
+  scaled_pivot v some = ap (column width) (scaled_measure v some)
+      ∙ column_shift width M.positive monic.degree (measure M v) some
 
   scaled_degree : (v : V) → measure M v ≢ 0 → row_degree M (h · v) ≡ monic.degree + row_degree M v
   scaled_degree v some =
-      degree_multiple M domain h v (record { degree = monic.degree; size = monic.size; row_some = some; is = scaled_measure v some })
+      degree_multiple M domain h v (record
+      { degree = monic.degree; size = monic.size; row_some = some; is = scaled_measure v some })
 
   h_ends : (i : ℕ) → monic.degree < i → coeff_of k.ops h.0 i ≡ 𝟘
   h_ends i after = coeff_past k h.0 i (omega (arith, monic.size, after))
@@ -66,16 +70,20 @@ module _ {A V : Type 0} {k : TestedRing A} (M : PolynomialModule k V) (domain : 
       ∙ ap (λ x. x ⊗ coef v (measure M v - 1)) monic.top ∙ one_mul k.ring _
 
   -- the entry in a column has its degree raised by that of h
-  entry_ends : (v : V) (j : ℕ) → j < width → (d : ℕ) → ((s : ℕ) → d ≤ s → coef v (s * width + j) ≡ 𝟘) → (s : ℕ) → monic.degree + d ≤ s → coef (h · v) (s * width + j) ≡ 𝟘
+  entry_ends : (v : V) (j : ℕ) → j < width → (d : ℕ) → ((s : ℕ) → d ≤ s → coef v (s * width + j) ≡ 𝟘) → (s : ℕ)
+      → monic.degree + d ≤ s → coef (h · v) (s * width + j) ≡ 𝟘
   entry_ends v j less zero ends s le =
       M.coef_scale h v s j less
       ∙ convolution_comm k.ring (coeff_of k.ops h.0) (λ t. coef v (t * width + j)) s
       ∙ convolution_null_left k.ring (λ t. coef v (t * width + j)) (coeff_of k.ops h.0) (λ t. ends t (omega arith)) s
   entry_ends v j less (suc d) ends s le =
       M.coef_scale h v s j less
-      ∙ convolution_past k.ring monic.degree d (coeff_of k.ops h.0) (λ t. coef v (t * width + j)) h_ends (λ t after. ends t after) s (omega (arith, le))
+      ∙ convolution_past k.ring monic.degree d (coeff_of k.ops h.0) (λ t. coef v (t * width + j)) h_ends
+      (λ t after. ends t after) s (omega (arith, le))
 
-  entry_ends_back : (v : V) (j : ℕ) → j < width → (d : ℕ) → ((s : ℕ) → monic.degree + d ≤ s → coef (h · v) (s * width + j) ≡ 𝟘) → (s : ℕ) → d ≤ s → coef v (s * width + j) ≡ 𝟘
+  entry_ends_back : (v : V) (j : ℕ) → j < width → (d : ℕ)
+      → ((s : ℕ) → monic.degree + d ≤ s → coef (h · v) (s * width + j) ≡ 𝟘) → (s : ℕ) → d ≤ s
+      → coef v (s * width + j) ≡ 𝟘
   entry_ends_back v j less d ends s le = go (top_position k.is_zero g n) refl
     where
       g : ℕ → A
@@ -103,7 +111,8 @@ module _ {A V : Type 0} {k : TestedRing A} (M : PolynomialModule k V) (domain : 
           at (inr higher) =
               absurd (top_some k g n m e
               (sym (M.coef_scale h v (monic.degree + m) j less
-              ∙ convolution_top k.ring monic.degree m (coeff_of k.ops h.0) g h_ends (λ t after. ends_at (suc m) (omega (arith, e)) t after)
+              ∙ convolution_top k.ring monic.degree m (coeff_of k.ops h.0) g h_ends
+              (λ t after. ends_at (suc m) (omega (arith, e)) t after)
               ∙ ap (λ x. x ⊗ g m) monic.top ∙ one_mul k.ring (g m))
               ∙ ends (monic.degree + m) (omega (arith, le, higher))))
 
@@ -116,11 +125,14 @@ module _ {A V : Type 0} {k : TestedRing A} (M : PolynomialModule k V) (domain : 
   popov_scaled rs p = record {
     size = scaled_length rs ∙ p.size;
     some = λ i less. subst (λ v. measure M v ≢ 0) (sym (scaled_at rs i)) (scaled_some (row_at M rs i) (p.some i less));
-    pivot_at = λ i less. ap (pivot M) (scaled_at rs i) ∙ scaled_pivot (row_at M rs i) (p.some i less) ∙ p.pivot_at i less;
-    monic = λ i less. ap (λ v. coef v (measure M v - 1)) (scaled_at rs i) ∙ scaled_top (row_at M rs i) (p.some i less) ∙ p.monic i less;
+    pivot_at = λ i less. ap (pivot M) (scaled_at rs i) ∙ scaled_pivot (row_at M rs i) (p.some i less)
+        ∙ p.pivot_at i less;
+    monic = λ i less. ap (λ v. coef v (measure M v - 1)) (scaled_at rs i) ∙ scaled_top (row_at M rs i) (p.some i less)
+        ∙ p.monic i less;
     small = λ i j s i_less j_less differ le.
         ap (λ v. coef v (s * width + j)) (scaled_at rs i)
-        ∙ entry_ends (row_at M rs i) j j_less (row_degree M (row_at M rs j)) (λ t t_le. p.small i j t i_less j_less differ t_le) s
+        ∙ entry_ends (row_at M rs i) j j_less (row_degree M (row_at M rs j))
+        (λ t t_le. p.small i j t i_less j_less differ t_le) s
         (omega (arith, le, ap (row_degree M) (scaled_at rs j), scaled_degree (row_at M rs j) (p.some j j_less)));
   }
 
@@ -128,12 +140,16 @@ module _ {A V : Type 0} {k : TestedRing A} (M : PolynomialModule k V) (domain : 
   popov_unscaled rs p = record {
     size = sym (scaled_length rs) ∙ p.size;
     some = some;
-    pivot_at = λ i less. sym (scaled_pivot (row_at M rs i) (some i less)) ∙ ap (pivot M) (sym (scaled_at rs i)) ∙ p.pivot_at i less;
-    monic = λ i less. sym (scaled_top (row_at M rs i) (some i less)) ∙ ap (λ v. coef v (measure M v - 1)) (sym (scaled_at rs i)) ∙ p.monic i less;
+    pivot_at = λ i less. sym (scaled_pivot (row_at M rs i) (some i less)) ∙ ap (pivot M) (sym (scaled_at rs i))
+        ∙ p.pivot_at i less;
+    monic = λ i less. sym (scaled_top (row_at M rs i) (some i less))
+        ∙ ap (λ v. coef v (measure M v - 1)) (sym (scaled_at rs i)) ∙ p.monic i less;
     small = λ i j s i_less j_less differ le.
         entry_ends_back (row_at M rs i) j j_less (row_degree M (row_at M rs j))
         (λ t t_le. ap (λ v. coef v (t * width + j)) (sym (scaled_at rs i))
-        ∙ p.small i j t i_less j_less differ (omega (arith, t_le, ap (row_degree M) (scaled_at rs j), scaled_degree (row_at M rs j) (some j j_less)))) s le;
+        ∙ p.small i j t i_less j_less differ
+        (omega (arith, t_le, ap (row_degree M) (scaled_at rs j), scaled_degree (row_at M rs j) (some j j_less)))) s
+        le;
   }
     where
       some : (i : ℕ) → i < width → measure M (row_at M rs i) ≢ 0
@@ -145,19 +161,35 @@ module _ {A V : Type 0} {k : TestedRing A} (M : PolynomialModule k V) (domain : 
   combine_scaled [] c = sym (scale_zero M h)
   combine_scaled (r ∷ rs) c =
       ap₂ ◌⊞◌
-      (sym (scale_scale M (c zero) h r) ∙ ap (λ d. d · r) ((pol_ring k).mul_comm (c zero) h) ∙ scale_scale M h (c zero) r)
+      (sym (scale_scale M (c zero) h r) ∙ ap (λ d. d · r) ((pol_ring k).mul_comm (c zero) h)
+      ∙ scale_scale M h (c zero) r)
       (combine_scaled rs (tail_of c))
       ∙ sym (scale_add M h _ _)
 
   pub span_scaled : (rs : List V) (v : V) → InSpan M rs v → InSpan M (scaled rs) (h · v)
-  span_scaled rs v v_in = record { coefficients = v_in.coefficients; is = ap (λ u. h · u) v_in.is ∙ sym (combine_scaled rs v_in.coefficients) }
+  span_scaled rs v v_in = record {
+    coefficients = v_in.coefficients;
+    is = ap (λ u. h · u) v_in.is
+        ∙ sym (combine_scaled rs v_in.coefficients);
+  }
 
   pub span_unscaled : (rs : List V) (v : V) → InSpan M (scaled rs) v → (u : V) × InSpan M rs u × (v ≡ h · u)
-  span_unscaled rs v v_in =
-      (combine M v_in.coefficients rs, record { coefficients = v_in.coefficients; is = refl }, v_in.is ∙ combine_scaled rs v_in.coefficients)
+  span_unscaled rs v v_in = (
+    combine M v_in.coefficients rs,
+    record { coefficients = v_in.coefficients; is = refl },
+    v_in.is
+        ∙ combine_scaled rs v_in.coefficients,
+  )
 
-  pub pivot_degree_scaled : (rs : List V) → ((i : ℕ) → i < length rs → measure M (row_at M rs i) ≢ 0) → pivot_degree M (scaled rs) ≡ length rs * monic.degree + pivot_degree M rs
+  pub pivot_degree_scaled : (rs : List V) → ((i : ℕ) → i < length rs → measure M (row_at M rs i) ≢ 0)
+      → pivot_degree M (scaled rs) ≡ length rs * monic.degree + pivot_degree M rs
   unfolding scaled
   pivot_degree_scaled [] some = omega arith
   pivot_degree_scaled (r ∷ rs) some =
-      omega (arith, scaled_degree r (some 0 (omega arith)), pivot_degree_scaled rs (λ i less. some (suc i) (omega (arith, less))), suc-mul (length rs) monic.degree)
+      omega (
+        arith,
+        scaled_degree r (some 0 (omega arith)),
+        pivot_degree_scaled rs
+            (λ i less. some (suc i) (omega (arith, less))),
+        suc-mul (length rs) monic.degree,
+      )

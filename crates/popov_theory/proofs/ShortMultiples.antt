@@ -1,4 +1,5 @@
--- Each element has a multiple in a span in Popov form by a polynomial other than 0 whose degree is at most the pivot degree.
+-- Each element has a multiple in a span in Popov form by a polynomial other than 0 whose degree is at most the pivot
+-- degree.
 use Rattle.std.proofs.Common.{◌≡◌, ℕ, zero, suc, ◌<◌, ◌≤◌, List, [], ◌∷◌, length, refl, sym, ◌∙◌, ap, arith, subst, le_of_suc-le-suc}
 use Rattle.ring_lemmas.specs.Ring.{TestedRing, IsField}
 use Rattle.ring_lemmas.specs.Lists.{coeff_of, tail_of}
@@ -65,7 +66,8 @@ module _ {A V : Type 0} {k : TestedRing A} (M : PolynomialModule k V) where
   powers_combine (suc n) c v =
       let rest = pol_of k (first_terms n (tail_of c)) in
       ap (λ y. constant k (c zero) · v ⊞ y)
-      (powers_combine n (tail_of c) (x_pol k · v) ∙ sym (scale_scale M rest (x_pol k) v) ∙ ap (λ p. p · v) (P.mul_comm rest (x_pol k)))
+      (powers_combine n (tail_of c) (x_pol k · v) ∙ sym (scale_scale M rest (x_pol k) v)
+      ∙ ap (λ p. p · v) (P.mul_comm rest (x_pol k)))
       ∙ sym (add_scale M (constant k (c zero)) (P.◌⊗◌ (x_pol k) rest) v)
       ∙ ap (λ p. p · v) (sym (pol_cons k (c zero) (first_terms n (tail_of c))))
 
@@ -105,7 +107,8 @@ module _ {A V : Type 0} {k : TestedRing A} (M : PolynomialModule k V) where
         (scalar_none M g (λ j. first_sum k (λ i. k.◌⊗◌ (r.scalars i) (a i j)) (length xs)) (λ j less.
         ap (first_sum k (λ i. k.◌⊗◌ (r.scalars i) (a i j))) size ∙ r.is j less))
         ∙ ap (λ y. scalar_combine M r.scalars xs ⊞ y) (v_neg_zero M) ∙ v_add_zero M _)
-        (gather M field (InSpan M rs) (span_zero M rs) (submodule_subspace M field (InSpan M rs) (span_submodule M rs)) g xs r.scalars a
+        (gather M field (InSpan M rs) (span_zero M rs) (submodule_subspace M field (InSpan M rs) (span_submodule M rs))
+        g xs r.scalars a
         (λ i less. b.spans (row_at M xs i) tt))
 
     pub short_multiple : ShortMultiple rs v

@@ -1,4 +1,5 @@
--- Rows whose measures are different, and are the measures of N that are not leading for a span, are a basis of N modulo it.
+-- Rows whose measures are different, and are the measures of N that are not leading for a span, are a basis of N modulo
+-- it.
 use Rattle.std.proofs.Common.{◌≡◌, ◌≢◌, ℕ, zero, suc, ◌<◌, ◌≤◌, ◌*◌, ◌⊎◌, inl, inr, Bool, true, false, cond, List, [], ◌∷◌, length, refl, sym, ◌∙◌, ap, ap₂, arith, subst, eq-or-lt_of_le}
 use Rattle.ring_lemmas.specs.Ring.{TestedRing, IsField, IsDomain}
 use Rattle.ring_lemmas.specs.Lists.{coeff_of, tail_of}
@@ -65,7 +66,8 @@ module _ {A V : Type 0} {k : TestedRing A} (M : PolynomialModule k V) where
   -- what was taken away is put back, later
   v_sub_swap : (v t c : V) → (v ⊞ ⊟ t ⊞ ⊟ c) ⊞ t ≡ v ⊞ ⊟ c
   v_sub_swap v t c =
-      ap (λ x. x ⊞ t) (v_add_assoc M v (⊟ t) (⊟ c) ∙ ap (λ x. v ⊞ x) (v_add_comm M (⊟ t) (⊟ c)) ∙ sym (v_add_assoc M v (⊟ c) (⊟ t)))
+      ap (λ x. x ⊞ t) (v_add_assoc M v (⊟ t) (⊟ c) ∙ ap (λ x. v ⊞ x) (v_add_comm M (⊟ t) (⊟ c))
+      ∙ sym (v_add_assoc M v (⊟ c) (⊟ t)))
       ∙ v_sub_add M (v ⊞ ⊟ c) t
 
   v_sub_sum : (v t c : V) → v ⊞ ⊟ t ⊞ ⊟ c ≡ v ⊞ ⊟ (c ⊞ t)
@@ -81,10 +83,12 @@ module _ {A V : Type 0} {k : TestedRing A} (M : PolynomialModule k V) where
   scalar_zero [] = refl
   scalar_zero (r ∷ g) = ap₂ ◌⊞◌ (ap (λ c. c · r) (constant_zero k) ∙ zero_scale M r) (scalar_zero g) ∙ v_add_zero M 𝟎
 
-  pub scalar_add : (g : List V) (c d : ℕ → A) → scalar_combine M (λ i. c i ⊕ d i) g ≡ scalar_combine M c g ⊞ scalar_combine M d g
+  pub scalar_add : (g : List V) (c d : ℕ → A)
+      → scalar_combine M (λ i. c i ⊕ d i) g ≡ scalar_combine M c g ⊞ scalar_combine M d g
   scalar_add [] c d = sym (v_add_zero M 𝟎)
   scalar_add (r ∷ g) c d =
-      ap₂ ◌⊞◌ (ap (λ e. e · r) (constant_add k (c zero) (d zero)) ∙ add_scale M (constant k (c zero)) (constant k (d zero)) r) (scalar_add g (tail_of c) (tail_of d))
+      ap₂ ◌⊞◌ (ap (λ e. e · r) (constant_add k (c zero) (d zero))
+      ∙ add_scale M (constant k (c zero)) (constant k (d zero)) r) (scalar_add g (tail_of c) (tail_of d))
       ∙ v_add_add M _ _ _ _
 
   scalar_row : (g : List V) (i : ℕ) (a : A) → InScalarSpan g (constant k a · row_at M g i)
@@ -102,7 +106,8 @@ module _ {A V : Type 0} {k : TestedRing A} (M : PolynomialModule k V) where
         scalars = before 𝟘 earlier.scalars;
         is =
             earlier.is
-            ∙ sym (ap (λ v. v ⊞ scalar_combine M earlier.scalars g) (ap (λ c. c · r) (constant_zero k) ∙ zero_scale M r) ∙ v_zero_add M _);
+            ∙ sym (ap (λ v. v ⊞ scalar_combine M earlier.scalars g) (ap (λ c. c · r) (constant_zero k) ∙ zero_scale M r)
+            ∙ v_zero_add M _);
       }
 
   scalar_span_add : (g : List V) (u v : V) → InScalarSpan g u → InScalarSpan g v → InScalarSpan g (u ⊞ v)
@@ -137,7 +142,8 @@ module _ {A V : Type 0} {k : TestedRing A} (M : PolynomialModule k V) (field : I
     pub some : (i : ℕ) → i < length g → measure M (row_at M g i) ≢ 0
     pub apart : (i j : ℕ) → i < length g → j < length g → i ≢ j → measure M (row_at M g i) ≢ measure M (row_at M g j)
     pub not_leading : (i : ℕ) → i < length g → Leading M rs (measure M (row_at M g i)) → ⊥
-    pub covers : (v : V) → N v → measure M v ≢ 0 → (Leading M rs (measure M v) → ⊥) → (i : ℕ) × (i < length g) × (measure M (row_at M g i) ≡ measure M v)
+    pub covers : (v : V) → N v → measure M v ≢ 0 → (Leading M rs (measure M v) → ⊥)
+        → (i : ℕ) × (i < length g) × (measure M (row_at M g i) ≡ measure M v)
 
   constant_degree : (a : A) (v : V) → (m : Multiple M domain (constant k a) v) → m.degree ≡ 0
   constant_degree a v m = omega (arith, m.size, constant_length k a)
@@ -148,7 +154,8 @@ module _ {A V : Type 0} {k : TestedRing A} (M : PolynomialModule k V) (field : I
       let none : m.degree * width ≡ 0 * width = ap (λ d. d * width) (constant_degree a v m) in
       omega (arith, m.is, none)
 
-  module _ (rs g : List V) (weak : IsWeakPopov M rs) (N : V → Type 0) (𝓝 : IsSubspace N) (within : (v : V) → InSpan M rs v → N v) (t : IsTriangular rs N g) where
+  module _ (rs g : List V) (weak : IsWeakPopov M rs) (N : V → Type 0) (𝓝 : IsSubspace N)
+      (within : (v : V) → InSpan M rs v → N v) (t : IsTriangular rs N g) where
     -- what is left when a scalar combination is taken away
     record Written (v : V) : Type 0 where
       combination : V
@@ -160,11 +167,13 @@ module _ {A V : Type 0} {k : TestedRing A} (M : PolynomialModule k V) (field : I
       combination = 𝟎;
       combination_in = record { scalars = λ _. 𝟘; is = sym (scalar_zero M g) };
       left_in =
-          subst (InSpan M rs) (sym (ap (λ u. u ⊞ ⊟ 𝟎) (zero_from_measure M v (omega (arith, le))) ∙ v_add_neg M 𝟎)) (span_zero M rs);
+          subst (InSpan M rs) (sym (ap (λ u. u ⊞ ⊟ 𝟎) (zero_from_measure M v (omega (arith, le))) ∙ v_add_neg M 𝟎))
+          (span_zero M rs);
     }
     write (suc n) v v_in le = go (eq-or-lt_of_le le) (leading_or_not M rs (suc n)) (write n)
       where
-        go : (measure M v ≡ suc n) ⊎ (measure M v < suc n) → Leading M rs (suc n) ⊎ (Leading M rs (suc n) → ⊥) → ((u : V) → N u → measure M u ≤ n → Written u) → Written v
+        go : (measure M v ≡ suc n) ⊎ (measure M v < suc n) → Leading M rs (suc n) ⊎ (Leading M rs (suc n) → ⊥)
+            → ((u : V) → N u → measure M u ≤ n → Written u) → Written v
         go (inr less) either lower = lower v v_in (omega (arith, less))
         go (inl is) (inl l) lower = record {
           combination = w.combination;
@@ -187,7 +196,8 @@ module _ {A V : Type 0} {k : TestedRing A} (M : PolynomialModule k V) (field : I
             taken_in = span_scale M rs c.factor row (span_row M rs l.index)
 
             w : Written (v ⊞ ⊟ taken)
-            w = lower (v ⊞ ⊟ taken) (𝓝.sub_in v taken v_in (within taken taken_in)) (measure_falls M v taken n le c.ends (sym c.same_top))
+            w = lower (v ⊞ ⊟ taken) (𝓝.sub_in v taken v_in (within taken taken_in))
+                (measure_falls M v taken n le c.ends (sym c.same_top))
         go (inl is) (inr none) lower = record {
           combination = w.combination ⊞ taken;
           combination_in = scalar_span_add M g w.combination taken w.combination_in (scalar_row M g found.0 a.0);
@@ -207,7 +217,8 @@ module _ {A V : Type 0} {k : TestedRing A} (M : PolynomialModule k V) (field : I
             taken = constant k a.0 · row
 
             w : Written (v ⊞ ⊟ taken)
-            w = lower (v ⊞ ⊟ taken) (𝓝.sub_in v taken v_in (𝓝.scalar_in a.0 row (t.members found.0))) (measure_falls M v taken n le a.1 (sym a.2))
+            w = lower (v ⊞ ⊟ taken) (𝓝.sub_in v taken v_in (𝓝.scalar_in a.0 row (t.members found.0)))
+                (measure_falls M v taken n le a.1 (sym a.2))
 
     no_ties : (c : ℕ → A) → HasNoTies M domain (λ i. constant k (c i)) g
     no_ties c = record {
@@ -215,7 +226,8 @@ module _ {A V : Type 0} {k : TestedRing A} (M : PolynomialModule k V) (field : I
           t.apart i j i_less j_less differ (sym (kept i some) ∙ e ∙ kept j (λ z. some (e ∙ z)));
     }
       where
-        kept : (i : ℕ) → measure M (constant k (c i) · row_at M g i) ≢ 0 → measure M (constant k (c i) · row_at M g i) ≡ measure M (row_at M g i)
+        kept : (i : ℕ) → measure M (constant k (c i) · row_at M g i) ≢ 0
+            → measure M (constant k (c i) · row_at M g i) ≡ measure M (row_at M g i)
         kept i some = kept_measure (c i) (row_at M g i) some
 
     scalars_zero : (c : ℕ → A) → InSpan M rs (scalar_combine M c g) → (i : ℕ) → i < length g → c i ≡ 𝟘

@@ -53,11 +53,11 @@ module _ {A : Type 0} (k : TestedRing A) where
       same = λ u v h.
           same_entries k w u v (λ j less.
           same_pol k (entry P.ops w j u) (entry P.ops w j v)
-              (λ s. sym (row_coef_at k n u s j less) ∙ h (s * w + j) ∙ row_coef_at k n v s j less));
+          (λ s. sym (row_coef_at k n u s j less) ∙ h (s * w + j) ∙ row_coef_at k n v s j less));
       unit = λ e. in_column k w (e % w) (monomial k k.𝟙 (e / w));
       coef_unit = λ e.
           ap (λ p. coeff_of k.ops p.0 (e / w))
-              (in_column_at k w (e % w) (monomial k k.𝟙 (e / w)) (mod_below e w (omega arith)))
+          (in_column_at k w (e % w) (monomial k k.𝟙 (e / w)) (mod_below e w (omega arith)))
           ∙ monomial_at k k.𝟙 (e / w);
       coef_unit_off = λ e i differ. unit_off k n e i differ (ℕ_discrete (e % w) (i % w));
     }

@@ -9,7 +9,7 @@ use Rattle.ring_theory.proofs.Subsets.{product_member}
 use Rattle.ring_lemmas.proofs.Solver.{ring, reads, from_one, from_two}
 use Rattle.prime_theory.specs.Primes.{IsPrime, Outside, Pair, AtLeast, Exactly}
 use Rattle.prime_theory.specs.Systems.{opposite, IdealProduct, PrimeExponent, IsFamily, IsSystem, counted}
-use Rattle.prime_theory.proofs.Valuation.{ge_product, ge_bounded, ge_reindex, ge_of_member, eq_product, eq_power, eq_quotient, eq_of_outside}
+use Rattle.prime_theory.proofs.Valuation.{ge_product, ge_bounded, ge_of_member, eq_product, eq_power, eq_quotient, eq_of_outside}
 use Rattle.prime_theory.proofs.Orders.{least_value}
 use Rattle.prime_theory.proofs.PrimeProducts.{up_at, down_at}
 use Rattle.prime_theory.proofs.DivisorProducts.{product_opposite}

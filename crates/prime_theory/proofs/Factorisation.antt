@@ -14,7 +14,7 @@ use Rattle.prime_theory.proofs.Products.{product_into, own_module, additive_of_m
 use Rattle.prime_theory.proofs.Primes.{ideal_module, one_outside, one_in_inverse, inverse_module}
 use Rattle.prime_theory.proofs.Valuation.{theta_left, ge_of_member, ge_quotient, ge_reindex, ge_of_eq}
 use Rattle.prime_theory.proofs.AtPrime.{at_of, value_of_at, inverse_product, ideal_power_module, product_exchange}
-use Rattle.prime_theory.proofs.PrimeProducts.{up_at, down_at, ideal_product_module, ideal_product_of_value, value_of_ideal_product, value_same}
+use Rattle.prime_theory.proofs.PrimeProducts.{up_at, down_at, ideal_product_module, value_of_ideal_product, value_same}
 use Rattle.prime_theory.proofs.Systems.{conditions, exponent_of_p}
 
 module _ {A : Type 0} (R : CommRing A) (O : A → Type 0) (𝓞 : IsSubring R.ops O) (p : A) (p_in : O p)

@@ -13,7 +13,7 @@ use Rattle.ring_lemmas.proofs.Polynomials.{same_pol, series_add, series_mul, coe
 use Rattle.ring_lemmas.proofs.Division.{divided, rest_ends, length_bound}
 use Rattle.ring_theory.proofs.Division.{length_neg}
 use Rattle.linear_theory.specs.Module.{Module, combine}
-use Rattle.linear_theory.specs.Basis.{IsBasis, IsNull, IsSum}
+use Rattle.linear_theory.specs.Basis.{IsBasis, IsNull}
 use Rattle.linear_theory.proofs.Module.{linear, parts, vector, scalar}
 use Rattle.linear_theory.proofs.Combination.{combine_linear}
 use Rattle.linear_theory.proofs.Dimension.{relative_basis, basis_transport}

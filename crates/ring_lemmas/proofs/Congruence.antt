@@ -34,7 +34,8 @@ module _ {S : Type 0} (s : CommRing S) (m : S) where
         ∙ ap (λ w. z ⊕ w) (sym (s.mul_add m d.times c.times));
   }
 
-  pub congruent_add : (x x' y y' : S) → IsCongruent s.ops m x x' → IsCongruent s.ops m y y' → IsCongruent s.ops m (x ⊕ y) (x' ⊕ y')
+  pub congruent_add : (x x' y y' : S) → IsCongruent s.ops m x x' → IsCongruent s.ops m y y'
+      → IsCongruent s.ops m (x ⊕ y) (x' ⊕ y')
   congruent_add x x' y y' c d = record {
     times = c.times ⊕ d.times;
     differs =
@@ -45,10 +46,12 @@ module _ {S : Type 0} (s : CommRing S) (m : S) where
   pub congruent_mul_left : (a x x' : S) → IsCongruent s.ops m x x' → IsCongruent s.ops m (a ⊗ x) (a ⊗ x')
   congruent_mul_left a x x' c = record {
     times = a ⊗ c.times;
-    differs = ap (λ w. a ⊗ w) c.differs ∙ s.mul_add a x' (m ⊗ c.times) ∙ ap (λ w. a ⊗ x' ⊕ w) (mul_left_comm s a m c.times);
+    differs = ap (λ w. a ⊗ w) c.differs ∙ s.mul_add a x' (m ⊗ c.times)
+        ∙ ap (λ w. a ⊗ x' ⊕ w) (mul_left_comm s a m c.times);
   }
 
-  pub congruent_mul : (x x' y y' : S) → IsCongruent s.ops m x x' → IsCongruent s.ops m y y' → IsCongruent s.ops m (x ⊗ y) (x' ⊗ y')
+  pub congruent_mul : (x x' y y' : S) → IsCongruent s.ops m x x' → IsCongruent s.ops m y y'
+      → IsCongruent s.ops m (x ⊗ y) (x' ⊗ y')
   congruent_mul x x' y y' c d =
       congruent_trans (x ⊗ y) (x ⊗ y') (x' ⊗ y') (congruent_mul_left x y y' d)
       (congruent_trans (x ⊗ y') (y' ⊗ x) (x' ⊗ y') (congruent_same (x ⊗ y') (y' ⊗ x) (s.mul_comm x y'))
@@ -62,10 +65,12 @@ module _ {C S : Type 0} (c : Operations C) (s : CommRing S) (m : S) (rep : Repre
   trans : {x y z : S} → IsCongruent s.ops m x y → IsCongruent s.ops m y z → IsCongruent s.ops m x z
   trans {x = x} {y = y} {z = z} a b = congruent_trans s m x y z a b
 
-  add : {x x' y y' : S} → IsCongruent s.ops m x x' → IsCongruent s.ops m y y' → IsCongruent s.ops m (s.◌⊕◌ x y) (s.◌⊕◌ x' y')
+  add : {x x' y y' : S} → IsCongruent s.ops m x x' → IsCongruent s.ops m y y'
+      → IsCongruent s.ops m (s.◌⊕◌ x y) (s.◌⊕◌ x' y')
   add {x = x} {x' = x'} {y = y} {y' = y'} a b = congruent_add s m x x' y y' a b
 
-  mul : {x x' y y' : S} → IsCongruent s.ops m x x' → IsCongruent s.ops m y y' → IsCongruent s.ops m (s.◌⊗◌ x y) (s.◌⊗◌ x' y')
+  mul : {x x' y y' : S} → IsCongruent s.ops m x x' → IsCongruent s.ops m y y'
+      → IsCongruent s.ops m (s.◌⊗◌ x y) (s.◌⊗◌ x' y')
   mul {x = x} {x' = x'} {y = y} {y' = y'} a b = congruent_mul s m x x' y y' a b
 
   by : {x y : C} {u v : S} → IsCongruent s.ops m (rep.of x) u → IsCongruent s.ops m (rep.of y) v → u ≡ v → x ≡ y

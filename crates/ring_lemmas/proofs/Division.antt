@@ -12,7 +12,8 @@ use Rattle.ring_lemmas.proofs.Polynomials.{coeff_past, coeff_top}
 
 module _ {A : Type 0} (r : TestedRing A) where
   -- a list is no longer than its last coefficient that is not zero
-  pub length_bound : (xs : List A) (n : ℕ) → IsTrimmed r.is_zero xs → ((i : ℕ) → n ≤ i → coeff_of r.ops xs i ≡ r.𝟘) → length xs ≤ n
+  pub length_bound : (xs : List A) (n : ℕ) → IsTrimmed r.is_zero xs → ((i : ℕ) → n ≤ i → coeff_of r.ops xs i ≡ r.𝟘)
+      → length xs ≤ n
   length_bound [] n t ends = omega arith
   length_bound (x ∷ xs) n t ends = go (cases_lt (length xs) n)
     where
@@ -20,7 +21,8 @@ module _ {A : Type 0} (r : TestedRing A) where
       go (inl less) = less
       go (inr more) = absurd (coeff_top r x xs t (ends (length xs) more))
 
-pub length_rest_from : {A : Type 0} (r : Operations A) (b : List A) (inverse : A) (xs : List A) → length b - 1 ≤ length (rest_from r b inverse xs)
+pub length_rest_from : {A : Type 0} (r : Operations A) (b : List A) (inverse : A) (xs : List A)
+    → length b - 1 ≤ length (rest_from r b inverse xs)
 length_rest_from r b inverse [] = omega (arith, length-replicate (length b - 1) r.𝟘)
 length_rest_from r b inverse (x ∷ xs) =
     let t = x ∷ rest_from r b inverse xs in
@@ -42,9 +44,12 @@ module _ {A : Type 0} (r : TestedRing A) (b : List A) (inverse : A) where
   take_back c e x = ap (λ w. c ⊗ e ⊕ (x ⊕ w)) (neg_mul r.ring c e) ∙ add_sub r.ring x (c ⊗ e)
 
   -- a is b times the quotient and the rest
-  pub divided : (xs : List A) (n : ℕ) → coeff_of r.ops xs n ≡ convolution r.ops (coeff_of r.ops (quotient_from r.ops b inverse xs)) (coeff_of r.ops b) n ⊕ coeff_of r.ops (part xs) n
+  pub divided : (xs : List A) (n : ℕ) → coeff_of r.ops xs n
+      ≡ convolution r.ops (coeff_of r.ops (quotient_from r.ops b inverse xs)) (coeff_of r.ops b) n ⊕ coeff_of r.ops
+      (part xs) n
   divided [] n =
-      sym (ap₂ ◌⊕◌ (convolution_null_left r.ring (coeff_of r.ops []) (coeff_of r.ops b) (λ _. refl) n) (coeff_append_zeros r [] (length b - 1) n) ∙ zero_add r.ring 𝟘)
+      sym (ap₂ ◌⊕◌ (convolution_null_left r.ring (coeff_of r.ops []) (coeff_of r.ops b) (λ _. refl) n)
+      (coeff_append_zeros r [] (length b - 1) n) ∙ zero_add r.ring 𝟘)
   divided (x ∷ xs) zero =
       let t = x ∷ part xs in
       let c = digit_of r.ops b inverse t in
@@ -58,15 +63,18 @@ module _ {A : Type 0} (r : TestedRing A) (b : List A) (inverse : A) where
       let f = convolution r.ops (coeff_of r.ops (quotient_from r.ops b inverse xs)) (coeff_of r.ops b) n in
       let old = coeff_of r.ops (part xs) n in
       divided xs n
-      ∙ sym (ap (λ w. (c ⊗ e ⊕ f) ⊕ w) (coeff_add r t (scale_list r.ops (⊖ c) b) (suc n) ∙ ap (λ w. old ⊕ w) (coeff_scale r (⊖ c) b (suc n)))
+      ∙ sym (ap (λ w. (c ⊗ e ⊕ f) ⊕ w) (coeff_add r t (scale_list r.ops (⊖ c) b) (suc n)
+      ∙ ap (λ w. old ⊕ w) (coeff_scale r (⊖ c) b (suc n)))
       ∙ ap (λ w. w ⊕ (old ⊕ ⊖ c ⊗ e)) (r.add_comm (c ⊗ e) f)
       ∙ r.add_assoc f (c ⊗ e) (old ⊕ ⊖ c ⊗ e)
       ∙ ap (λ w. f ⊕ w) (take_back c e old))
 
   -- the rest ends before the top of b
-  pub rest_ends : r.◌⊗◌ inverse (coeff_of r.ops b (length b - 1)) ≡ r.𝟙 → (xs : List A) (n : ℕ) → length b - 1 ≤ n → coeff_of r.ops (part xs) n ≡ 𝟘
+  pub rest_ends : r.◌⊗◌ inverse (coeff_of r.ops b (length b - 1)) ≡ r.𝟙 → (xs : List A) (n : ℕ) → length b - 1 ≤ n
+      → coeff_of r.ops (part xs) n ≡ 𝟘
   rest_ends inverts [] n le = coeff_append_zeros r [] (length b - 1) n
-  rest_ends inverts (x ∷ xs) n le = coeff_add r t (scale_list r.ops (⊖ c) b) n ∙ ap (λ w. coeff_of r.ops t n ⊕ w) (coeff_scale r (⊖ c) b n) ∙ go (rest_ends inverts xs) (eq-or-lt_of_le le)
+  rest_ends inverts (x ∷ xs) n le = coeff_add r t (scale_list r.ops (⊖ c) b) n
+      ∙ ap (λ w. coeff_of r.ops t n ⊕ w) (coeff_scale r (⊖ c) b n) ∙ go (rest_ends inverts xs) (eq-or-lt_of_le le)
     where
       t : List A
       t = x ∷ part xs
@@ -75,18 +83,24 @@ module _ {A : Type 0} (r : TestedRing A) (b : List A) (inverse : A) where
       c = digit_of r.ops b inverse t
 
       top : c ⊗ coeff_of r.ops b (length b - 1) ≡ coeff_of r.ops t (length b - 1)
-      top = r.mul_assoc (coeff_of r.ops t (length b - 1)) inverse (coeff_of r.ops b (length b - 1)) ∙ ap (λ w. coeff_of r.ops t (length b - 1) ⊗ w) inverts ∙ r.mul_one (coeff_of r.ops t (length b - 1))
+      top = r.mul_assoc (coeff_of r.ops t (length b - 1)) inverse (coeff_of r.ops b (length b - 1))
+          ∙ ap (λ w. coeff_of r.ops t (length b - 1) ⊗ w) inverts ∙ r.mul_one (coeff_of r.ops t (length b - 1))
 
-      past : ((m : ℕ) → length b - 1 ≤ m → coeff_of r.ops (part xs) m ≡ 𝟘) → (m : ℕ) → length b - 1 < m → coeff_of r.ops t m ⊕ ⊖ c ⊗ coeff_of r.ops b m ≡ 𝟘
+      past : ((m : ℕ) → length b - 1 ≤ m → coeff_of r.ops (part xs) m ≡ 𝟘) → (m : ℕ) → length b - 1 < m
+          → coeff_of r.ops t m ⊕ ⊖ c ⊗ coeff_of r.ops b m ≡ 𝟘
       past earlier zero less = absurd (omega arith)
       past earlier (suc m) less =
-          ap₂ ◌⊕◌ (earlier m (omega arith)) (ap (λ w. ⊖ c ⊗ w) (coeff_past r b (suc m) (omega arith)) ∙ mul_zero r.ring (⊖ c))
+          ap₂ ◌⊕◌ (earlier m (omega arith))
+          (ap (λ w. ⊖ c ⊗ w) (coeff_past r b (suc m) (omega arith)) ∙ mul_zero r.ring (⊖ c))
           ∙ zero_add r.ring 𝟘
 
-      go : ((m : ℕ) → length b - 1 ≤ m → coeff_of r.ops (part xs) m ≡ 𝟘) → (length b - 1 ≡ n) ⊎ (length b - 1 < n) → coeff_of r.ops t n ⊕ ⊖ c ⊗ coeff_of r.ops b n ≡ 𝟘
+      go : ((m : ℕ) → length b - 1 ≤ m → coeff_of r.ops (part xs) m ≡ 𝟘) → (length b - 1 ≡ n) ⊎ (length b - 1 < n)
+          → coeff_of r.ops t n ⊕ ⊖ c ⊗ coeff_of r.ops b n ≡ 𝟘
       go earlier (inl here) =
           subst (λ m. coeff_of r.ops t m ⊕ ⊖ c ⊗ coeff_of r.ops b m ≡ 𝟘) here
-          (ap (λ w. coeff_of r.ops t (length b - 1) ⊕ w) (neg_mul r.ring c (coeff_of r.ops b (length b - 1)) ∙ ap ⊖◌ top) ∙ r.add_neg (coeff_of r.ops t (length b - 1)))
+          (ap (λ w. coeff_of r.ops t (length b - 1) ⊕ w)
+          (neg_mul r.ring c (coeff_of r.ops b (length b - 1)) ∙ ap ⊖◌ top)
+          ∙ r.add_neg (coeff_of r.ops t (length b - 1)))
       go earlier (inr less) = past earlier n less
 
 -- the rest modulo a monic polynomial is shorter than it
@@ -96,5 +110,5 @@ module _ {A : Type 0} (r : TestedRing A) (f : Pol r)
   rest_shorter a =
       let rest = pol_of r (rest_from r.ops f.0 r.𝟙 a.0) in
       let bound = length_bound r rest.0 (length f.0 - 1) rest.1
-            (λ i le. coeff_trim r _ i ∙ rest_ends r f.0 r.𝟙 monic a.0 i le) in
+      (λ i le. coeff_trim r _ i ∙ rest_ends r f.0 r.𝟙 monic a.0 i le) in
       omega (arith, bound, deep)

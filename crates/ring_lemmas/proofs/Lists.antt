@@ -27,7 +27,8 @@ pub add_lists_nil : {A : Type 0} (r : Operations A) (xs : List A) → add_lists 
 add_lists_nil r [] = refl
 add_lists_nil r (x ∷ xs) = refl
 
-pub length_add_lists : {A : Type 0} (r : Operations A) (xs ys : List A) → length ys ≤ length xs → length (add_lists r xs ys) ≡ length xs
+pub length_add_lists : {A : Type 0} (r : Operations A) (xs ys : List A) → length ys ≤ length xs
+    → length (add_lists r xs ys) ≡ length xs
 length_add_lists r [] [] le = refl
 length_add_lists r [] (y ∷ ys) le = absurd (omega arith)
 length_add_lists r (x ∷ xs) [] le = refl
@@ -41,24 +42,28 @@ pub length_neg_list : {A : Type 0} (r : Operations A) (ys : List A) → length (
 length_neg_list r [] = refl
 length_neg_list r (y ∷ ys) = ap suc (length_neg_list r ys)
 
-pub get_or_scale_list : {A : Type 0} (r : Operations A) (c : A) (ys : List A) (j : ℕ) (d : A) → j < length ys → get_or (scale_list r c ys) j d ≡ r.◌⊗◌ c (get_or ys j d)
+pub get_or_scale_list : {A : Type 0} (r : Operations A) (c : A) (ys : List A) (j : ℕ) (d : A) → j < length ys
+    → get_or (scale_list r c ys) j d ≡ r.◌⊗◌ c (get_or ys j d)
 get_or_scale_list r c [] j d less = absurd (omega arith)
 get_or_scale_list r c (y ∷ ys) zero d less = refl
 get_or_scale_list r c (y ∷ ys) (suc j) d less = get_or_scale_list r c ys j d (omega arith)
 
-pub get_or_neg_list : {A : Type 0} (r : Operations A) (ys : List A) (j : ℕ) (d : A) → j < length ys → get_or (neg_list r ys) j d ≡ r.⊖◌ (get_or ys j d)
+pub get_or_neg_list : {A : Type 0} (r : Operations A) (ys : List A) (j : ℕ) (d : A) → j < length ys
+    → get_or (neg_list r ys) j d ≡ r.⊖◌ (get_or ys j d)
 get_or_neg_list r [] j d less = absurd (omega arith)
 get_or_neg_list r (y ∷ ys) zero d less = refl
 get_or_neg_list r (y ∷ ys) (suc j) d less = get_or_neg_list r ys j d (omega arith)
 
 module _ {A : Type 0} (r : TestedRing A) where
-  pub coeff_add : (xs ys : List A) (n : ℕ) → coeff_of r.ops (add_lists r.ops xs ys) n ≡ r.◌⊕◌ (coeff_of r.ops xs n) (coeff_of r.ops ys n)
+  pub coeff_add : (xs ys : List A) (n : ℕ)
+      → coeff_of r.ops (add_lists r.ops xs ys) n ≡ r.◌⊕◌ (coeff_of r.ops xs n) (coeff_of r.ops ys n)
   coeff_add [] ys n = sym (zero_add r.ring _)
   coeff_add (x ∷ xs) [] n = sym (r.add_zero _)
   coeff_add (x ∷ xs) (y ∷ ys) zero = refl
   coeff_add (x ∷ xs) (y ∷ ys) (suc n) = coeff_add xs ys n
 
-  pub coeff_scale : (c : A) (ys : List A) (n : ℕ) → coeff_of r.ops (scale_list r.ops c ys) n ≡ r.◌⊗◌ c (coeff_of r.ops ys n)
+  pub coeff_scale : (c : A) (ys : List A) (n : ℕ)
+      → coeff_of r.ops (scale_list r.ops c ys) n ≡ r.◌⊗◌ c (coeff_of r.ops ys n)
   coeff_scale c [] n = sym (mul_zero r.ring c)
   coeff_scale c (y ∷ ys) zero = refl
   coeff_scale c (y ∷ ys) (suc n) = coeff_scale c ys n
@@ -68,7 +73,8 @@ module _ {A : Type 0} (r : TestedRing A) where
   coeff_neg (y ∷ ys) zero = refl
   coeff_neg (y ∷ ys) (suc n) = coeff_neg ys n
 
-  pub coeff_mul : (xs ys : List A) (n : ℕ) → coeff_of r.ops (mul_lists r.ops xs ys) n ≡ convolution r.ops (coeff_of r.ops xs) (coeff_of r.ops ys) n
+  pub coeff_mul : (xs ys : List A) (n : ℕ)
+      → coeff_of r.ops (mul_lists r.ops xs ys) n ≡ convolution r.ops (coeff_of r.ops xs) (coeff_of r.ops ys) n
   coeff_mul [] ys n = sym (convolution_null_left r.ring (coeff_of r.ops []) (coeff_of r.ops ys) (λ _. refl) n)
   coeff_mul (x ∷ xs) ys zero =
       coeff_add (scale_list r.ops x ys) (r.𝟘 ∷ mul_lists r.ops xs ys) zero
@@ -85,7 +91,8 @@ module _ {A : Type 0} (r : TestedRing A) where
   coeff_append_zeros (x ∷ xs) m zero = refl
   coeff_append_zeros (x ∷ xs) m (suc n) = coeff_append_zeros xs m n
 
-  pub coeff_mul_onto : (xs ys zs : List A) → ((n : ℕ) → coeff_of r.ops zs n ≡ r.𝟘) → (n : ℕ) → coeff_of r.ops (mul_onto r.ops xs ys zs) n ≡ coeff_of r.ops (mul_lists r.ops xs ys) n
+  pub coeff_mul_onto : (xs ys zs : List A) → ((n : ℕ) → coeff_of r.ops zs n ≡ r.𝟘) → (n : ℕ)
+      → coeff_of r.ops (mul_onto r.ops xs ys zs) n ≡ coeff_of r.ops (mul_lists r.ops xs ys) n
   coeff_mul_onto [] ys zs null n = null n
   coeff_mul_onto (x ∷ xs) ys zs null zero =
       coeff_add (r.𝟘 ∷ mul_onto r.ops xs ys zs) (scale_list r.ops x ys) zero
@@ -97,7 +104,8 @@ module _ {A : Type 0} (r : TestedRing A) where
       ∙ ap (r.◌⊕◌ (coeff_of r.ops (scale_list r.ops x ys) (suc n))) (coeff_mul_onto xs ys zs null n)
       ∙ sym (coeff_add (scale_list r.ops x ys) (r.𝟘 ∷ mul_lists r.ops xs ys) (suc n))
 
-  coeff_trim_onto : (x : A) (xs : List A) (n : ℕ) → coeff_of r.ops (trim_onto r.is_zero x xs) n ≡ coeff_of r.ops (x ∷ xs) n
+  coeff_trim_onto : (x : A) (xs : List A) (n : ℕ)
+      → coeff_of r.ops (trim_onto r.is_zero x xs) n ≡ coeff_of r.ops (x ∷ xs) n
   coeff_trim_onto x [] n = go (r.is_zero x) refl n
     where
       go : (b : Bool) → r.is_zero x ≡ b → (n : ℕ) → coeff_of r.ops (cond b [] (x ∷ [])) n ≡ coeff_of r.ops (x ∷ []) n
@@ -112,19 +120,24 @@ module _ {A : Type 0} (r : TestedRing A) where
   coeff_trim (x ∷ xs) (suc n) = coeff_trim_onto x (trim r.is_zero xs) (suc n) ∙ coeff_trim xs n
 
   -- a trimmed list without coefficients is empty
-  pub all_zero_empty : (x : A) (xs : List A) → IsTrimmed r.is_zero (x ∷ xs) → ((n : ℕ) → coeff_of r.ops (x ∷ xs) n ≡ r.𝟘) → ⊥
+  pub all_zero_empty : (x : A) (xs : List A) → IsTrimmed r.is_zero (x ∷ xs)
+      → ((n : ℕ) → coeff_of r.ops (x ∷ xs) n ≡ r.𝟘) → ⊥
   all_zero_empty x [] t none = let same : true ≡ false = sym r.zero_is_zero ∙ ap r.is_zero (sym (none zero)) ∙ t in (cc)
   all_zero_empty x (y ∷ ys) t none = all_zero_empty y ys t (λ n. none (suc n))
 
   -- trimmed lists with the same coefficients are the same
-  pub same_from_coeffs : (xs ys : List A) → IsTrimmed r.is_zero xs → IsTrimmed r.is_zero ys → ((n : ℕ) → coeff_of r.ops xs n ≡ coeff_of r.ops ys n) → xs ≡ ys
+  pub same_from_coeffs : (xs ys : List A) → IsTrimmed r.is_zero xs → IsTrimmed r.is_zero ys
+      → ((n : ℕ) → coeff_of r.ops xs n ≡ coeff_of r.ops ys n) → xs ≡ ys
   same_from_coeffs [] [] s t same = refl
   same_from_coeffs [] (y ∷ ys) s t same = absurd (all_zero_empty y ys t (λ n. sym (same n)))
   same_from_coeffs (x ∷ xs) [] s t same = absurd (all_zero_empty x xs s same)
   same_from_coeffs (x ∷ xs) (y ∷ ys) s t same =
-      ap₂ ◌∷◌ (same zero) (same_from_coeffs xs ys (IsTrimmed_tail r.is_zero x xs s) (IsTrimmed_tail r.is_zero y ys t) (λ n. same (suc n)))
+      ap₂ ◌∷◌ (same zero) (same_from_coeffs xs ys (IsTrimmed_tail r.is_zero x xs s) (IsTrimmed_tail r.is_zero y ys t)
+      (λ n. same (suc n)))
 
-  pub same_trims : (xs ys : List A) → ((n : ℕ) → coeff_of r.ops xs n ≡ coeff_of r.ops ys n) → trim r.is_zero xs ≡ trim r.is_zero ys
+  pub same_trims : (xs ys : List A) → ((n : ℕ) → coeff_of r.ops xs n ≡ coeff_of r.ops ys n)
+      → trim r.is_zero xs ≡ trim r.is_zero ys
   same_trims xs ys same =
-      same_from_coeffs (trim r.is_zero xs) (trim r.is_zero ys) (IsTrimmed_trim r.is_zero xs) (IsTrimmed_trim r.is_zero ys)
+      same_from_coeffs (trim r.is_zero xs) (trim r.is_zero ys) (IsTrimmed_trim r.is_zero xs)
+      (IsTrimmed_trim r.is_zero ys)
       (λ n. coeff_trim xs n ∙ same n ∙ sym (coeff_trim ys n))

@@ -109,7 +109,8 @@ module _ {A : Type 0} (r : TestedRing A) where
   coeff_top x (y ∷ ys) t = coeff_top y ys t
 
   -- a trimmed list that ends at d has d + 1 positions
-  pub length_from_top : (zs : List A) (d : ℕ) → IsTrimmed r.is_zero zs → coeff_of r.ops zs d ≢ r.𝟘 → ((i : ℕ) → d < i → coeff_of r.ops zs i ≡ r.𝟘) → length zs ≡ suc d
+  pub length_from_top : (zs : List A) (d : ℕ) → IsTrimmed r.is_zero zs → coeff_of r.ops zs d ≢ r.𝟘
+      → ((i : ℕ) → d < i → coeff_of r.ops zs i ≡ r.𝟘) → length zs ≡ suc d
   length_from_top [] d t top ends = absurd (top refl)
   length_from_top (z ∷ []) zero t top ends = refl
   length_from_top (z ∷ y ∷ ys) zero t top ends = absurd (all_zero_empty r y ys t (λ n. ends (suc n) (omega arith)))
@@ -117,13 +118,19 @@ module _ {A : Type 0} (r : TestedRing A) where
       ap suc (length_from_top zs d (IsTrimmed_tail r.is_zero z zs t) top (λ i less. ends (suc i) (omega arith)))
 
   -- the degree of a product is the sum of the degrees
-  pub length_mul : IsDomain r.ops → (x y : A) (xs ys : List A) → IsTrimmed r.is_zero (x ∷ xs) → IsTrimmed r.is_zero (y ∷ ys) → length (trim r.is_zero (mul_lists r.ops (x ∷ xs) (y ∷ ys))) ≡ suc (length xs + length ys)
+  pub length_mul : IsDomain r.ops → (x y : A) (xs ys : List A) → IsTrimmed r.is_zero (x ∷ xs)
+      → IsTrimmed r.is_zero (y ∷ ys) → length (trim r.is_zero (mul_lists r.ops (x ∷ xs) (y ∷ ys)))
+      ≡ suc (length xs + length ys)
   length_mul domain x y xs ys s t =
-      length_from_top (trim r.is_zero (mul_lists r.ops (x ∷ xs) (y ∷ ys))) (length xs + length ys) (IsTrimmed_trim r.is_zero (mul_lists r.ops (x ∷ xs) (y ∷ ys)))
-      (λ e. product_not_zero domain _ _ (coeff_top x xs s) (coeff_top y ys t) (sym (product (length xs + length ys) ∙ top) ∙ e))
-      (λ i past. product i ∙ convolution_past r.ring (length xs) (length ys) (coeff_of r.ops (x ∷ xs)) (coeff_of r.ops (y ∷ ys)) xs_end ys_end i past)
+      length_from_top (trim r.is_zero (mul_lists r.ops (x ∷ xs) (y ∷ ys))) (length xs + length ys)
+      (IsTrimmed_trim r.is_zero (mul_lists r.ops (x ∷ xs) (y ∷ ys)))
+      (λ e. product_not_zero domain _ _ (coeff_top x xs s) (coeff_top y ys t)
+      (sym (product (length xs + length ys) ∙ top) ∙ e))
+      (λ i past. product i ∙ convolution_past r.ring (length xs) (length ys) (coeff_of r.ops (x ∷ xs))
+      (coeff_of r.ops (y ∷ ys)) xs_end ys_end i past)
     where
-      product : (i : ℕ) → coeff_of r.ops (trim r.is_zero (mul_lists r.ops (x ∷ xs) (y ∷ ys))) i ≡ convolution r.ops (coeff_of r.ops (x ∷ xs)) (coeff_of r.ops (y ∷ ys)) i
+      product : (i : ℕ) → coeff_of r.ops (trim r.is_zero (mul_lists r.ops (x ∷ xs) (y ∷ ys))) i
+          ≡ convolution r.ops (coeff_of r.ops (x ∷ xs)) (coeff_of r.ops (y ∷ ys)) i
       product i = coeff_trim r (mul_lists r.ops (x ∷ xs) (y ∷ ys)) i ∙ coeff_mul r (x ∷ xs) (y ∷ ys) i
 
       xs_end : (i : ℕ) → length xs < i → coeff_of r.ops (x ∷ xs) i ≡ r.𝟘
@@ -132,5 +139,7 @@ module _ {A : Type 0} (r : TestedRing A) where
       ys_end : (i : ℕ) → length ys < i → coeff_of r.ops (y ∷ ys) i ≡ r.𝟘
       ys_end i less = coeff_past (y ∷ ys) i less
 
-      top : convolution r.ops (coeff_of r.ops (x ∷ xs)) (coeff_of r.ops (y ∷ ys)) (length xs + length ys) ≡ r.◌⊗◌ (coeff_of r.ops (x ∷ xs) (length xs)) (coeff_of r.ops (y ∷ ys) (length ys))
-      top = convolution_top r.ring (length xs) (length ys) (coeff_of r.ops (x ∷ xs)) (coeff_of r.ops (y ∷ ys)) xs_end ys_end
+      top : convolution r.ops (coeff_of r.ops (x ∷ xs)) (coeff_of r.ops (y ∷ ys)) (length xs + length ys)
+          ≡ r.◌⊗◌ (coeff_of r.ops (x ∷ xs) (length xs)) (coeff_of r.ops (y ∷ ys) (length ys))
+      top = convolution_top r.ring (length xs) (length ys) (coeff_of r.ops (x ∷ xs)) (coeff_of r.ops (y ∷ ys)) xs_end
+          ys_end

@@ -15,7 +15,8 @@ module _ {B : Type 0} (O : Operations B) (r : B → B → Type 0) (L : RingUpTo 
       → (p q : Quot r) → f p q ≡ g p q
   each2 f g h p q = each Quot-set (λ p. f p q) (λ p. g p q) (λ a. each Quot-set (f (mk a)) (g (mk a)) (h a) q) p
 
-  pub each3 : (f g : Quot r → Quot r → Quot r → Quot r) → ((a b c : B) → f (mk a) (mk b) (mk c) ≡ g (mk a) (mk b) (mk c))
+  pub each3 : (f g : Quot r → Quot r → Quot r → Quot r)
+      → ((a b c : B) → f (mk a) (mk b) (mk c) ≡ g (mk a) (mk b) (mk c))
       → (p q s : Quot r) → f p q s ≡ g p q s
   each3 f g h p q s =
       each Quot-set (λ p. f p q s) (λ p. g p q s) (λ a. each2 (f (mk a)) (g (mk a)) (h a) q s) p

@@ -141,10 +141,12 @@ module _ {A : Type 0} (R : CommRing A) where
     one_not_zero = field.one_not_zero;
     cancel_zero = λ a b some e.
         sym (one_mul b) ∙ ap (λ x. x ⊗ b) (sym (field.inverse a some).1) ∙ R.mul_assoc a (field.inverse a some).0 b
-        ∙ mul_left_comm a (field.inverse a some).0 b ∙ ap (λ x. (field.inverse a some).0 ⊗ x) e ∙ mul_zero (field.inverse a some).0;
+        ∙ mul_left_comm a (field.inverse a some).0 b ∙ ap (λ x. (field.inverse a some).0 ⊗ x) e
+        ∙ mul_zero (field.inverse a some).0;
   }
 
-pub product_not_zero : {A : Type 0} {R : Operations A} → IsDomain R → (a b : A) → ¬ (a ≡ R.𝟘) → ¬ (b ≡ R.𝟘) → ¬ (R.◌⊗◌ a b ≡ R.𝟘)
+pub product_not_zero : {A : Type 0} {R : Operations A} → IsDomain R → (a b : A) → ¬ (a ≡ R.𝟘) → ¬ (b ≡ R.𝟘)
+    → ¬ (R.◌⊗◌ a b ≡ R.𝟘)
 product_not_zero domain a b a_some b_some e = b_some (domain.cancel_zero a b a_some e)
 
 -- the laws as lemmas of their own, so that the rulesets below serve every ring
@@ -168,6 +170,15 @@ module _ {A : Type 0} (R : CommRing A) where
   pub r_mul_add : (a b c : A) → a ⊗ (b ⊕ c) ≡ a ⊗ b ⊕ a ⊗ c
   r_mul_add = R.mul_add
 
-pub ruleset ring_rules = (r_mul_add, add_mul, r_mul_assoc, r_add_assoc, r_add_comm, r_mul_comm, add_left_comm, mul_left_comm)
+pub ruleset ring_rules = (
+  r_mul_add,
+  add_mul,
+  r_mul_assoc,
+  r_add_assoc,
+  r_add_comm,
+  r_mul_comm,
+  add_left_comm,
+  mul_left_comm,
+)
 
 pub ruleset mul_rules = (r_mul_assoc, r_mul_comm, mul_left_comm)

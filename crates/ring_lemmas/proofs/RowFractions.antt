@@ -26,7 +26,8 @@ module _ {P : Type 0} (S : CommRing P) (domain : IsDomain S.ops) where
 
     pub den_product : (d e : P) → R.◌⊗◌ (den_row S n d) (den_row S n e) ≡ den_row S n (S.◌⊗◌ d e)
     den_product d e =
-        times_den e (den_row S n d) ∙ row_scale_comm S (suc n) e d (row_one S n) ∙ sym (row_scale_scale S (suc n) d e (row_one S n))
+        times_den e (den_row S n d) ∙ row_scale_comm S (suc n) e d (row_one S n)
+        ∙ sym (row_scale_scale S (suc n) d e (row_one S n))
 
     pub row_denominators : Denominators R (IsDenominator S n)
     row_denominators = record {
@@ -39,7 +40,7 @@ module _ {P : Type 0} (S : CommRing P) (domain : IsDomain S.ops) where
       cancel = λ v a h e.
           row_cancel (suc n) h.den a R.𝟘 h.not_zero
           (sym (times_den h.den a) ∙ ap (R.◌⊗◌ a) (sym h.is) ∙ row_mul_comm S n f a v ∙ e
-              ∙ sym (row_scale_zero S (suc n) h.den));
+          ∙ sym (row_scale_zero S (suc n) h.den));
     }
 
     -- the same as fractions is the same as rows over denominators

@@ -70,7 +70,8 @@ module _ {A : Type 0} (R : CommRing A) where
   over_append f [] ys = sym (zero_add R _)
   over_append f (x ∷ xs) ys = ap (λ z. f x ⊕ z) (over_append f xs ys) ∙ sym (R.add_assoc _ _ _)
 
-  pub over_cong : {I : Type 0} (f g : I → A) → ((x : I) → f x ≡ g x) → (xs : List I) → sum_over R.ops xs f ≡ sum_over R.ops xs g
+  pub over_cong : {I : Type 0} (f g : I → A) → ((x : I) → f x ≡ g x) → (xs : List I)
+      → sum_over R.ops xs f ≡ sum_over R.ops xs g
   over_cong f g h [] = refl
   over_cong f g h (x ∷ xs) = ap₂ ◌⊕◌ (h x) (over_cong f g h xs)
 
@@ -102,7 +103,8 @@ module _ {A : Type 0} (R : CommRing A) where
   -- the product of matrices
 
   pub matrix_assoc : (m n : ℕ) (a b c : ℕ → ℕ → A) (i j : ℕ)
-      → matrix_product R.ops n (matrix_product R.ops m a b) c i j ≡ matrix_product R.ops m a (matrix_product R.ops n b c) i j
+      → matrix_product R.ops n (matrix_product R.ops m a b) c i j
+      ≡ matrix_product R.ops m a (matrix_product R.ops n b c) i j
   matrix_assoc m n a b c i j =
       below_cong n _ _ (λ k l. sym (below_scale_right m (c k j) (λ h. a i h ⊗ b h k)))
       ∙ below_swap n m (λ k h. (a i h ⊗ b h k) ⊗ c k j)

@@ -53,7 +53,8 @@ IsTrimmed z (x ∷ []) = z x ≡ false
 IsTrimmed z (x ∷ y ∷ ys) = IsTrimmed z (y ∷ ys)
 
 -- trimmed, a list has none
-IsTrimmed_trim_onto : {A : Type 0} (z : A → Bool) (x : A) (xs : List A) → IsTrimmed z xs → IsTrimmed z (trim_onto z x xs)
+IsTrimmed_trim_onto : {A : Type 0} (z : A → Bool) (x : A) (xs : List A) → IsTrimmed z xs
+    → IsTrimmed z (trim_onto z x xs)
 IsTrimmed_trim_onto z x [] t = go (z x) refl
   where
     go : (b : Bool) → z x ≡ b → IsTrimmed z (cond b [] (x ∷ []))

@@ -28,9 +28,11 @@ module _ {B : Type 0} (O : Operations B) where
 
 module _ {B : Type 0} (O : Operations B) (r : B → B → Type 0) (L : RingUpTo O r) where
   -- a function of two classes
-  abbrev pub lift2 : (f : B → B → B) → ((a a' b b' : B) → r a a' → r b b' → r (f a b) (f a' b')) → Quot r → Quot r → Quot r
+  abbrev pub lift2 : (f : B → B → B) → ((a a' b b' : B) → r a a' → r b b' → r (f a b) (f a' b')) → Quot r → Quot r
+      → Quot r
   lift2 f h =
-      lift {r = r} (hlevel Quot-set) (λ a. lift {r = r} Quot-set (λ b. mk (f a b)) (λ b b' k. sound (h a a b b' (L.refl a) k)))
+      lift {r = r} (hlevel Quot-set) (λ a. lift {r = r} Quot-set (λ b. mk (f a b))
+      (λ b b' k. sound (h a a b b' (L.refl a) k)))
       (λ a a' k. fun_ext (ind {r = r} (λ q. Quot-set _ _) (λ b. sound (h a a' b b k (L.refl b)))))
 
   abbrev pub quotient_ops : Operations (Quot r)

@@ -56,7 +56,8 @@ module _ {P : Type 0} (S : Operations P) where
   -- the sum, for i below m, of the coefficient of y^i in v·y^i
   unfoldable pub diagonal_sum : (n m : ℕ) → Row P (suc n) → Row P (suc n) → P
   diagonal_sum n zero f v = S.𝟘
-  diagonal_sum n (suc i) f v = S.◌⊕◌ (diagonal_sum n i f v) (entry (suc n) i (row_times (suc n) (suc n) f v (y_to n f i)))
+  diagonal_sum n (suc i) f v = S.◌⊕◌ (diagonal_sum n i f v)
+      (entry (suc n) i (row_times (suc n) (suc n) f v (y_to n f i)))
 
   -- the trace of multiplication by v on 1, y, up to y^n
   unfoldable pub row_trace : (n : ℕ) → Row P (suc n) → Row P (suc n) → P

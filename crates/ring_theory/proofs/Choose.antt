@@ -12,7 +12,11 @@ pub record IsLeast (p : ℕ → Bool) (n : ℕ) : Type 0 where
 
 IsLeast_prop : (p : ℕ → Bool) (n : ℕ) → IsProp (IsLeast p n)
 IsLeast_prop p n a b =
-    λ i. record { passes = Bool-set _ _ a.passes b.passes i; none_below = λ m h. Bool-set _ _ (a.none_below m h) (b.none_below m h) i }
+    λ i. record {
+      passes = Bool-set _ _ a.passes b.passes i;
+      none_below = λ m h. Bool-set _ _ (a.none_below m h)
+          (b.none_below m h) i;
+    }
 
 least_same : (p : ℕ → Bool) (n m : ℕ) → IsLeast p n → IsLeast p m → n ≡ m
 least_same p n m a b = by_order (dec_lt n m) (dec_lt m n)
@@ -35,7 +39,8 @@ module _ (p : ℕ → Bool) where
   first_below zero = inr (λ m h. absurd (omega arith))
   first_below (suc n) = step (first_below n) (p n) refl
     where
-      step : Least ⊎ ((m : ℕ) → m < n → p m ≡ false) → (b : Bool) → p n ≡ b → Least ⊎ ((m : ℕ) → m < suc n → p m ≡ false)
+      step : Least ⊎ ((m : ℕ) → m < n → p m ≡ false) → (b : Bool) → p n ≡ b
+          → Least ⊎ ((m : ℕ) → m < suc n → p m ≡ false)
       step (inl l) b e = inl l
       step (inr none) true e = inl (n, record { passes = e; none_below = none })
       step (inr none) false e = inr (λ m h. below m h (ℕ_discrete m n))
@@ -85,7 +90,8 @@ module _ {A B : Type 0} (f : A → B) (decide : (b b' : B) → Dec (b ≡ b')) w
   pick b [] h = absurd (true≢false (sym h))
   pick b (a ∷ xs) h = at (decide (f a) b) h (pick b xs)
     where
-      at : (d : Dec (f a ≡ b)) → either d (hit b xs) ≡ true → (hit b xs ≡ true → (a : A) × (f a ≡ b)) → (a : A) × (f a ≡ b)
+      at : (d : Dec (f a ≡ b)) → either d (hit b xs) ≡ true → (hit b xs ≡ true → (a : A) × (f a ≡ b))
+          → (a : A) × (f a ≡ b)
       at (yes t) h rest = (a, t)
       at (no n) h rest = rest h
 
@@ -94,5 +100,10 @@ module _ {A B : Type 0} (f : A → B) (decide : (b b' : B) → Dec (b ≡ b')) w
       (stage : ℕ → List A) → ((a : A) → (n : ℕ) × (a' : A) × Member a' (stage n) × (f a' ≡ f a))
       → (b : B) → ∥ ((a : A) × (f a ≡ b)) ∥₁ → (a : A) × (f a ≡ b)
   choose stage covers b t =
-      let w = found (λ n. hit b (stage n)) (∥∥₁_map t (λ u. ((covers u.0).0, member_hits (covers u.0).1 b ((covers u.0).3 ∙ u.1) (stage (covers u.0).0) (covers u.0).2))) in
+      let w = found (λ n. hit b (stage n))
+      (∥∥₁_map t (λ u. (
+        (covers u.0).0,
+        member_hits (covers u.0).1 b ((covers u.0).3 ∙ u.1) (stage (covers u.0).0)
+            (covers u.0).2,
+      ))) in
       pick b (stage w.0) w.1

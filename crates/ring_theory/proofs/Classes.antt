@@ -1,4 +1,5 @@
--- Polynomials modulo a monic one, over any domain: the shorter polynomials are a ring. At k[x] this is k[x][y] modulo f.
+-- Polynomials modulo a monic one, over any domain: the shorter polynomials are a ring. At k[x] this is k[x][y] modulo
+-- f.
 use Rattle.std.proofs.Common.{◌≡◌, ◌-◌, ◌<◌, length, sym, ap, ap₂, ◌∙◌, arith, subst}
 use mathlib.Core.HLevel.{Σ_prop_path}
 use mathlib.Core.Path.{fun_ext}
@@ -17,7 +18,8 @@ use Rattle.ring_theory.specs.PolynomialRing.{pol_ring}
 use Rattle.ring_theory.specs.Classes.{Class, class_ops, rest}
 use Rattle.ring_theory.proofs.Division.{length_add, length_neg, short_multiple}
 
-module _ {A : Type 0} (r : TestedRing A) (domain : IsDomain r.ops) (f : Pol r) (monic : r.◌⊗◌ r.𝟙 (coeff_of r.ops f.0 (length f.0 - 1)) ≡ r.𝟙) (deep : 1 < length f.0) where
+module _ {A : Type 0} (r : TestedRing A) (domain : IsDomain r.ops) (f : Pol r)
+    (monic : r.◌⊗◌ r.𝟙 (coeff_of r.ops f.0 (length f.0 - 1)) ≡ r.𝟙) (deep : 1 < length f.0) where
   abbrev pub s : TestedRing (Pol r)
   s = pol_ring r
 
@@ -35,7 +37,8 @@ module _ {A : Type 0} (r : TestedRing A) (domain : IsDomain r.ops) (f : Pol r) (
         divided r f.0 r.𝟙 a.0 n
         ∙ r.add_comm _ _
         ∙ ap₂ r.◌⊕◌ (sym (coeff_trim r _ n))
-        (convolution_comm r.ring _ _ n ∙ ap (λ g. convolution r.ops (coeff_of r.ops f.0) g n) (sym (fun_ext (coeff_trim r (quotient_from r.ops f.0 r.𝟙 a.0)))) ∙ sym (series_mul r f (quotient a) n))
+        (convolution_comm r.ring _ _ n ∙ ap (λ g. convolution r.ops (coeff_of r.ops f.0) g n)
+        (sym (fun_ext (coeff_trim r (quotient_from r.ops f.0 r.𝟙 a.0)))) ∙ sym (series_mul r f (quotient a) n))
         ∙ sym (series_add r (rest r domain f monic deep a) (s.◌⊗◌ f (quotient a)) n));
   })
 
@@ -44,12 +47,17 @@ module _ {A : Type 0} (r : TestedRing A) (domain : IsDomain r.ops) (f : Pol r) (
       c.differs ∙ ap (λ w. s.◌⊕◌ b (s.◌⊗◌ f w)) none ∙ ap (s.◌⊕◌ b) (mul_zero s.ring f) ∙ s.add_zero b
     where
       gap : s.◌⊗◌ f c.times ≡ s.◌⊕◌ a (s.⊖◌ b)
-      gap = sym (cross s.ring a s.𝟘 b (s.◌⊗◌ f c.times) (s.add_zero a ∙ c.differs) ∙ ap (s.◌⊕◌ (s.◌⊗◌ f c.times)) (neg_zero s.ring) ∙ s.add_zero _)
+      gap = sym (cross s.ring a s.𝟘 b (s.◌⊗◌ f c.times) (s.add_zero a ∙ c.differs)
+          ∙ ap (s.◌⊕◌ (s.◌⊗◌ f c.times)) (neg_zero s.ring) ∙ s.add_zero _)
 
       short : length (s.◌⊗◌ f c.times).0 < length f.0
       short =
           subst (λ w. length w.0 < length f.0) (sym gap)
-          (omega (arith, length_add r a (s.⊖◌ b) (length f.0 - 1) (omega arith) (length_neg r b (length f.0 - 1) (omega arith))))
+          (omega (
+            arith,
+            length_add r a (s.⊖◌ b) (length f.0 - 1) (omega arith)
+                (length_neg r b (length f.0 - 1) (omega arith)),
+          ))
 
       none : c.times ≡ s.𝟘
       none = short_multiple r domain f c.times short

@@ -41,7 +41,8 @@ module _ {A : Type 0} (R : CommRing A) where
   pub wedge_cong : (v : ℕ → A) (x y : List Bool → A) → ((m : List Bool) → x m ≡ y m)
       → (m : List Bool) → wedge R.ops v x m ≡ wedge R.ops v y m
   wedge_cong v x y h [] = refl
-  wedge_cong v x y h (false ∷ m) = wedge_cong (λ i. v (suc i)) (λ k. x (false ∷ k)) (λ k. y (false ∷ k)) (λ k. h (false ∷ k)) m
+  wedge_cong v x y h (false ∷ m) = wedge_cong (λ i. v (suc i)) (λ k. x (false ∷ k)) (λ k. y (false ∷ k))
+      (λ k. h (false ∷ k)) m
   wedge_cong v x y h (true ∷ m) =
       ap₂ (λ s t. v 0 ⊗ s ⊕ ⊖ t) (h (false ∷ m))
       (wedge_cong (λ i. v (suc i)) (λ k. x (true ∷ k)) (λ k. y (true ∷ k)) (λ k. h (true ∷ k)) m)
@@ -208,7 +209,8 @@ module _ {A : Type 0} (R : CommRing A) where
       ∙ regroup c _ _ _ _
     where
       regroup : (c p q r s : A) → (c ⊗ p ⊕ q) ⊕ (c ⊗ r ⊕ s) ≡ c ⊗ (p ⊕ r) ⊕ (q ⊕ s)
-      regroup c p q r s = ring R (c ∷ p ∷ q ∷ r ∷ s ∷ []) λ z h. simp (reads, z, h 0, h 1, h 2, h 3, h 4) (z.equal _ _ refl)
+      regroup c p q r s = ring R (c ∷ p ∷ q ∷ r ∷ s ∷ []) λ z h. simp (reads, z, h 0, h 1, h 2, h 3, h 4)
+          (z.equal _ _ refl)
 
   put_high : (n d : ℕ) (b : ℕ → ℕ → A) (x : List Bool → A) → Degree x d → n < d → (m : List Bool) → put n b x m ≡ 𝟘
   unfolding put Degree
@@ -329,7 +331,8 @@ module _ {A : Type 0} (R : CommRing A) where
       ∙ sym (put_wedges n n a b (unit R.ops) top)
       ∙ put_top n b (wedges R.ops n a (unit R.ops)) (wedges_degree n a) top
 
-  pub combined_sum : (n : ℕ) (v : ℕ → A) (b : ℕ → ℕ → A) (c : ℕ) → combined n v b c ≡ sum_below R.ops n (λ k. v k ⊗ b k c)
+  pub combined_sum : (n : ℕ) (v : ℕ → A) (b : ℕ → ℕ → A) (c : ℕ)
+      → combined n v b c ≡ sum_below R.ops n (λ k. v k ⊗ b k c)
   unfolding combined
   combined_sum zero v b c = refl
   combined_sum (suc n) v b c =

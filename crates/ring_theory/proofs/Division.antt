@@ -1,4 +1,5 @@
--- Division of polynomials with a rest, where the top of the divisor has an inverse, and that there is one way to divide.
+-- Division of polynomials with a rest, where the top of the divisor has an inverse, and that there is one way to
+-- divide.
 use Rattle.std.proofs.Common.{◌≡◌, ℕ, ◌-◌, ◌<◌, ◌≤◌, [], ◌∷◌, length, refl, sym, ap, ap₂, ◌∙◌, arith, subst}
 use Rattle.ring_lemmas.specs.Ring.{TestedRing, IsDomain}
 use Rattle.ring_lemmas.specs.Polynomials.{Pol, pol_ops}
@@ -31,10 +32,12 @@ module _ {A : Type 0} (r : TestedRing A) where
   unfolding pol_ops
   short_multiple domain (bs, bt) ([], tt') short = same_pol r _ _ (λ n. refl)
   short_multiple domain ([], bt) ((y ∷ ys), yt) short = absurd (omega arith)
-  short_multiple domain ((x ∷ xs), xt) ((y ∷ ys), yt) short = absurd (omega (arith, length_mul r domain x y xs ys xt yt))
+  short_multiple domain ((x ∷ xs), xt) ((y ∷ ys), yt) short = absurd
+      (omega (arith, length_mul r domain x y xs ys xt yt))
 
   -- there is one way to divide
-  pub one_way : IsDomain r.ops → (a b q q' rest rest' : Pol r) → IsDivision r a b q rest → IsDivision r a b q' rest' → (q ≡ q') × (rest ≡ rest')
+  pub one_way : IsDomain r.ops → (a b q q' rest rest' : Pol r) → IsDivision r a b q rest → IsDivision r a b q' rest'
+      → (q ≡ q') × (rest ≡ rest')
   one_way domain a b q q' rest rest' d d' = (same_q, same_rest)
     where
       gap : Pol r
@@ -50,7 +53,11 @@ module _ {A : Type 0} (r : TestedRing A) where
           let left = d'.shorter in
           let right = d.shorter in
           subst (λ w. length w.0 < length b.0) (sym moved)
-          (omega (arith, length_add rest' (s.⊖◌ rest) (length b.0 - 1) (omega arith) (length_neg rest (length b.0 - 1) (omega arith))))
+          (omega (
+            arith,
+            length_add rest' (s.⊖◌ rest) (length b.0 - 1) (omega arith)
+                (length_neg rest (length b.0 - 1) (omega arith)),
+          ))
 
       no_gap : gap ≡ s.𝟘
       no_gap = short_multiple domain b gap short

@@ -46,21 +46,26 @@ module _ {A : Type 0} (r : TestedRing A) where
     add = λ a b. sym (same_pol r _ _ (λ n. series_add r (constant r a) (constant r b) n ∙ sums a b n));
     mul = λ a b. sym (same_pol r _ _ (λ n.
         series_mul r (constant r a) (constant r b) n
-        ∙ convolution_constant_left r.ring (coeff_of r.ops (constant r a).0) (coeff_of r.ops (constant r b).0) (constant_rest a) n
+        ∙ convolution_constant_left r.ring (coeff_of r.ops (constant r a).0) (coeff_of r.ops (constant r b).0)
+        (constant_rest a) n
         ∙ products a b n));
     𝟙 = refl;
   }
     where
       sums : (a b : A) (n : ℕ)
-          → r.◌⊕◌ (coeff_of r.ops (constant r a).0 n) (coeff_of r.ops (constant r b).0 n) ≡ coeff_of r.ops (constant r (r.◌⊕◌ a b)).0 n
+          → r.◌⊕◌ (coeff_of r.ops (constant r a).0 n) (coeff_of r.ops (constant r b).0 n)
+          ≡ coeff_of r.ops (constant r (r.◌⊕◌ a b)).0 n
       sums a b zero = ap₂ r.◌⊕◌ (constant_first a) (constant_first b) ∙ sym (constant_first (r.◌⊕◌ a b))
-      sums a b (suc n) = ap₂ r.◌⊕◌ (constant_rest a n) (constant_rest b n) ∙ r.add_zero r.𝟘 ∙ sym (constant_rest (r.◌⊕◌ a b) n)
+      sums a b (suc n) = ap₂ r.◌⊕◌ (constant_rest a n) (constant_rest b n) ∙ r.add_zero r.𝟘
+          ∙ sym (constant_rest (r.◌⊕◌ a b) n)
 
       products : (a b : A) (n : ℕ)
-          → r.◌⊗◌ (coeff_of r.ops (constant r a).0 zero) (coeff_of r.ops (constant r b).0 n) ≡ coeff_of r.ops (constant r (r.◌⊗◌ a b)).0 n
+          → r.◌⊗◌ (coeff_of r.ops (constant r a).0 zero) (coeff_of r.ops (constant r b).0 n)
+          ≡ coeff_of r.ops (constant r (r.◌⊗◌ a b)).0 n
       products a b zero = ap₂ r.◌⊗◌ (constant_first a) (constant_first b) ∙ sym (constant_first (r.◌⊗◌ a b))
       products a b (suc n) =
-          ap (r.◌⊗◌ (coeff_of r.ops (constant r a).0 zero)) (constant_rest b n) ∙ mul_zero r.ring _ ∙ sym (constant_rest (r.◌⊗◌ a b) n)
+          ap (r.◌⊗◌ (coeff_of r.ops (constant r a).0 zero)) (constant_rest b n) ∙ mul_zero r.ring _
+          ∙ sym (constant_rest (r.◌⊗◌ a b) n)
 
   -- the polynomial x, and a list as its first coefficient plus x times the rest
   abbrev pub x_pol : Pol r
@@ -75,14 +80,18 @@ module _ {A : Type 0} (r : TestedRing A) where
   x_rest : (n : ℕ) → coeff_of r.ops x_pol.0 (suc (suc n)) ≡ r.𝟘
   x_rest n = coeff_trim r (r.𝟘 ∷ r.𝟙 ∷ []) (suc (suc n))
 
-  pub pol_cons : (c : A) (w : List A) → pol_of r (c ∷ w) ≡ (pol_ring r).◌⊕◌ (constant r c) ((pol_ring r).◌⊗◌ x_pol (pol_of r w))
+  pub pol_cons : (c : A) (w : List A) → pol_of r (c ∷ w)
+      ≡ (pol_ring r).◌⊕◌ (constant r c) ((pol_ring r).◌⊗◌ x_pol (pol_of r w))
   pol_cons c w =
-      same_pol r _ _ (λ n. coeff_trim r (c ∷ w) n ∙ sym (series_add r (constant r c) ((pol_ring r).◌⊗◌ x_pol (pol_of r w)) n ∙ go n))
+      same_pol r _ _ (λ n. coeff_trim r (c ∷ w) n
+      ∙ sym (series_add r (constant r c) ((pol_ring r).◌⊗◌ x_pol (pol_of r w)) n ∙ go n))
     where
-      go : (n : ℕ) → r.◌⊕◌ (coeff_of r.ops (constant r c).0 n) (coeff_of r.ops ((pol_ring r).◌⊗◌ x_pol (pol_of r w)).0 n) ≡ coeff_of r.ops (c ∷ w) n
+      go : (n : ℕ) → r.◌⊕◌ (coeff_of r.ops (constant r c).0 n)
+          (coeff_of r.ops ((pol_ring r).◌⊗◌ x_pol (pol_of r w)).0 n) ≡ coeff_of r.ops (c ∷ w) n
       go zero =
           ap₂ r.◌⊕◌ (constant_first c)
-          (series_mul r x_pol (pol_of r w) zero ∙ ap (λ a. r.◌⊗◌ a (coeff_of r.ops (pol_of r w).0 zero)) x_first ∙ zero_mul r.ring _)
+          (series_mul r x_pol (pol_of r w) zero ∙ ap (λ a. r.◌⊗◌ a (coeff_of r.ops (pol_of r w).0 zero)) x_first
+          ∙ zero_mul r.ring _)
           ∙ r.add_zero c
       go (suc n) =
           ap₂ r.◌⊕◌ (constant_rest c n)
@@ -172,7 +181,9 @@ evaluate_hom r F e hom t H f g (c ∷ w) =
     ∙ ap (H.◌⊕◌ (f (e c))) (g.mul t (evaluate r F e hom t w) ∙ ap (H.◌⊗◌ (f t)) (evaluate_hom r F e hom t H f g w))
 
 -- a polynomial is its value at x
-pub pol_value : {A : Type 0} (r : TestedRing A) (w : List A) → pol_of r w ≡ evaluate r (pol_ring r).ring (constant r) (constant_hom r) (x_pol r) w
+pub pol_value : {A : Type 0} (r : TestedRing A) (w : List A)
+    → pol_of r w ≡ evaluate r (pol_ring r).ring (constant r) (constant_hom r) (x_pol r) w
 unfolding pol_ops
 pol_value r [] = refl
-pol_value r (c ∷ w) = pol_cons r c w ∙ ap (λ p. (pol_ring r).◌⊕◌ (constant r c) ((pol_ring r).◌⊗◌ (x_pol r) p)) (pol_value r w)
+pol_value r (c ∷ w) = pol_cons r c w ∙ ap (λ p. (pol_ring r).◌⊕◌ (constant r c) ((pol_ring r).◌⊗◌ (x_pol r) p))
+    (pol_value r w)

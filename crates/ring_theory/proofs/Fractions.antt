@@ -26,7 +26,7 @@ module _ {A : Type 0} (R : CommRing A) where
 
     pub embed_inverse : (d : A) (h : N d)
         → (fraction_ring R N D).◌⊗◌ (embed R N D d) (mk (record { num = 𝟙; den = d; den_in = h }))
-            ≡ (fraction_ring R N D).𝟙
+        ≡ (fraction_ring R N D).𝟙
     embed_inverse d h = sound (inverse d)
 
     pub embed_product : (a b : A) → (fraction_ring R N D).◌⊗◌ (embed R N D a) (embed R N D b) ≡ embed R N D (a ⊗ b)

@@ -124,7 +124,8 @@ module _ {A : Type 0} (R : CommRing A) (S : A → Type 0) (𝓢 : IsSubring R.op
   low_more (suc k) n a h = rw suc-add (low_up (k + n) a (low_more k n a h))
 
   pub low_product : (m n : ℕ) (a b : A) → Low R.ops S z m a → Low R.ops S z n b → Low R.ops S z (m + n) (a ⊗ b)
-  low_product zero n a b h k = subst (Low R.ops S z (0 + n)) (sym (zero_mul R b) ∙ ap (λ x. x ⊗ b) (sym h)) (low_zero (0 + n))
+  low_product zero n a b h k = subst (Low R.ops S z (0 + n)) (sym (zero_mul R b) ∙ ap (λ x. x ⊗ b) (sym h))
+      (low_zero (0 + n))
   low_product (suc m) n a b h k =
       let e : h.constant ⊗ b ⊕ z ⊗ (h.rest ⊗ b) ≡ a ⊗ b
       = ap (λ x. h.constant ⊗ b ⊕ x) (sym (R.mul_assoc _ _ _)) ∙ sym (add_mul R _ _ _) ∙ ap (λ x. x ⊗ b) (sym h.is) in
@@ -280,7 +281,8 @@ module _ {A : Type 0} (R : CommRing A) (S : A → Type 0) (𝓢 : IsSubring R.op
           ap₂ ◌⊕◌ (ih k) (ap (λ x. x ⊗ b n) (diagonal_other i n (λ e. omega arith)) ∙ zero_mul R (b n))
           ∙ R.add_zero _
 
-  start : (bs : List A) → ((i : ℕ) → Span R.ops S bs (z ⊗ coeff_of R.ops bs i)) → System (length bs) 1 (coeff_of R.ops bs)
+  start : (bs : List A) → ((i : ℕ) → Span R.ops S bs (z ⊗ coeff_of R.ops bs i))
+      → System (length bs) 1 (coeff_of R.ops bs)
   start bs h = record {
     entry = λ i j. diagonal_at R.ops z i j ⊕ ⊖ c i j;
     diagonal = λ i l. record {
@@ -302,7 +304,8 @@ module _ {A : Type 0} (R : CommRing A) (S : A → Type 0) (𝓢 : IsSubring R.op
   }
     where
       times_gap : (u v w : A) → (u ⊕ ⊖ v) ⊗ w ≡ u ⊗ w ⊕ ⊖ (v ⊗ w)
-      times_gap u v w = ring R (u ∷ v ∷ w ∷ []) λ q x. simp (reads, q, x 0, x 1, x 2) (q.equal ((var 0 ⊞ ⊟ var 1) ⊠ var 2) (var 0 ⊠ var 2 ⊞ ⊟ (var 1 ⊠ var 2)) refl)
+      times_gap u v w = ring R (u ∷ v ∷ w ∷ []) λ q x. simp (reads, q, x 0, x 1, x 2)
+          (q.equal ((var 0 ⊞ ⊟ var 1) ⊠ var 2) (var 0 ⊠ var 2 ⊞ ⊟ (var 1 ⊠ var 2)) refl)
 
       c : ℕ → ℕ → A
       c i = (row bs (z ⊗ coeff_of R.ops bs i) (h i)).coefficient
@@ -310,7 +313,8 @@ module _ {A : Type 0} (R : CommRing A) (S : A → Type 0) (𝓢 : IsSubring R.op
       c_in : (i j : ℕ) → S (⊖ c i j)
       c_in i j = 𝓢.neg_in _ ((row bs (z ⊗ coeff_of R.ops bs i) (h i)).coefficient_in j)
 
-  spans_at : (cs bs : List A) → All (λ b. Span R.ops S cs (z ⊗ b)) bs → (i : ℕ) → Span R.ops S cs (z ⊗ coeff_of R.ops bs i)
+  spans_at : (cs bs : List A) → All (λ b. Span R.ops S cs (z ⊗ b)) bs → (i : ℕ)
+      → Span R.ops S cs (z ⊗ coeff_of R.ops bs i)
   spans_at cs [] h i = subst (Span R.ops S cs) (sym (mul_zero R z)) (span_module R S 𝓢 cs).zero_in
   spans_at cs (b ∷ bs) h zero = All-head (λ b. Span R.ops S cs (z ⊗ b)) b bs h
   spans_at cs (b ∷ bs) h (suc i) = spans_at cs bs (All-tail (λ b. Span R.ops S cs (z ⊗ b)) b bs h) i
@@ -341,7 +345,8 @@ module _ {A : Type 0} (R : CommRing A) (S : A → Type 0) (𝓢 : IsSubring R.op
 
   pub integral : (bs : List A) → All (λ b. Span R.ops S (𝟙 ∷ bs) (z ⊗ b)) (𝟙 ∷ bs) → IsIntegral R.ops S z
   integral bs h =
-      let l = last (length bs) 1 (coeff_of R.ops (𝟙 ∷ bs)) (omega arith) (start (𝟙 ∷ bs) (spans_at (𝟙 ∷ bs) (𝟙 ∷ bs) h)) in
+      let l = last (length bs) 1 (coeff_of R.ops (𝟙 ∷ bs)) (omega arith) (start (𝟙 ∷ bs) (spans_at (𝟙 ∷ bs) (𝟙 ∷ bs) h))
+      in
       let p = polynomial l.degree l.left_monic.rest l.left_monic.rest_in in
       record {
         degree = l.degree;

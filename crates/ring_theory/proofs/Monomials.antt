@@ -30,4 +30,5 @@ module _ {A : Type 0} (k : TestedRing A) where
   -- it has the degree s where a is not zero
   pub monomial_length : (a : A) (s : ℕ) → a ≢ k.𝟘 → length (monomial k a s).0 ≡ suc s
   monomial_length a s some =
-      length_from_top k (monomial k a s).0 s (monomial k a s).1 (λ z. some (sym (monomial_at a s) ∙ z)) (λ i after. monomial_off a s i (λ z. absurd (omega (arith, z, after))))
+      length_from_top k (monomial k a s).0 s (monomial k a s).1 (λ z. some (sym (monomial_at a s) ∙ z))
+      (λ i after. monomial_off a s i (λ z. absurd (omega (arith, z, after))))

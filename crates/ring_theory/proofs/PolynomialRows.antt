@@ -22,7 +22,8 @@ module _ {A : Type 0} (k : TestedRing A) where
   entry_zero (suc n) zero = refl
   entry_zero (suc n) (suc i) = entry_zero n i
 
-  pub entry_add : (n i : ℕ) (u v : Row (Pol k) n) → entry P.ops n i (row_add P.ops n u v) ≡ P.◌⊕◌ (entry P.ops n i u) (entry P.ops n i v)
+  pub entry_add : (n i : ℕ) (u v : Row (Pol k) n)
+      → entry P.ops n i (row_add P.ops n u v) ≡ P.◌⊕◌ (entry P.ops n i u) (entry P.ops n i v)
   unfolding entry row_add
   entry_add zero i u v = sym (P.add_zero P.𝟘)
   entry_add (suc n) zero (a, u) (b, v) = refl
@@ -34,7 +35,8 @@ module _ {A : Type 0} (k : TestedRing A) where
   entry_neg (suc n) zero (a, v) = refl
   entry_neg (suc n) (suc i) (a, v) = entry_neg n i v
 
-  pub entry_scale : (n i : ℕ) (c : Pol k) (v : Row (Pol k) n) → entry P.ops n i (row_scale P.ops n c v) ≡ P.◌⊗◌ c (entry P.ops n i v)
+  pub entry_scale : (n i : ℕ) (c : Pol k) (v : Row (Pol k) n)
+      → entry P.ops n i (row_scale P.ops n c v) ≡ P.◌⊗◌ c (entry P.ops n i v)
   unfolding entry row_scale
   entry_scale zero i c v = sym (mul_zero P.ring c)
   entry_scale (suc n) zero c (a, v) = refl
@@ -44,7 +46,8 @@ module _ {A : Type 0} (k : TestedRing A) where
   pub same_entries : (n : ℕ) (u v : Row (Pol k) n) → ((i : ℕ) → i < n → entry P.ops n i u ≡ entry P.ops n i v) → u ≡ v
   unfolding entry
   same_entries zero u v h = refl
-  same_entries (suc n) (a, u) (b, v) h = pair_path (h 0 (omega arith)) (same_entries n u v (λ i less. h (suc i) (omega (arith, less))))
+  same_entries (suc n) (a, u) (b, v) h = pair_path (h 0 (omega arith))
+      (same_entries n u v (λ i less. h (suc i) (omega (arith, less))))
 
   pub entry_length : (n i : ℕ) (v : Row (Pol k) n) → length (entry P.ops n i v).0 ≤ lengths k n v
   unfolding entry lengths pol_ops
@@ -77,14 +80,17 @@ module _ {A : Type 0} (k : TestedRing A) where
     pub row_coef_at : (v : Row (Pol k) w) (s j : ℕ) → j < w → row_coef k n v (s * w + j)
         ≡ coeff_of k.ops (entry P.ops w j v).0 s
     unfolding row_coef
-    row_coef_at v s j less = ap₂ (λ i d. coeff_of k.ops (entry P.ops w i v).0 d) (mod-mul-add s w j less) (div-mul-add s w j less)
+    row_coef_at v s j less = ap₂ (λ i d. coeff_of k.ops (entry P.ops w i v).0 d) (mod-mul-add s w j less)
+        (div-mul-add s w j less)
 
     pub unit_off : (e i : ℕ) → ¬ (i ≡ e) → Dec (e % w ≡ i % w)
         → row_coef k n (in_column k w (e % w) (monomial k k.𝟙 (e / w))) i ≡ k.𝟘
     unfolding row_coef
-    unit_off e i differ (no off) = ap (λ p. coeff_of k.ops p.0 (i / w)) (in_column_off w (e % w) (i % w) (monomial k k.𝟙 (e / w)) off) ∙ series_zero (i / w)
+    unit_off e i differ (no off) = ap (λ p. coeff_of k.ops p.0 (i / w))
+        (in_column_off w (e % w) (i % w) (monomial k k.𝟙 (e / w)) off) ∙ series_zero (i / w)
     unit_off e i differ (yes same) =
         ap (λ j. coeff_of k.ops (entry P.ops w j (in_column k w (e % w) (monomial k k.𝟙 (e / w)))).0 (i / w)) (sym same)
-        ∙ ap (λ p. coeff_of k.ops p.0 (i / w)) (in_column_at w (e % w) (monomial k k.𝟙 (e / w)) (mod_below e w (omega arith)))
+        ∙ ap (λ p. coeff_of k.ops p.0 (i / w))
+        (in_column_at w (e % w) (monomial k k.𝟙 (e / w)) (mod_below e w (omega arith)))
         ∙ monomial_off k k.𝟙 (e / w) (i / w)
         (λ z. differ (sym (div-add-mod' i w) ∙ ap₂ (λ d j. d * w + j) z (sym same) ∙ div-add-mod' e w))

@@ -29,7 +29,7 @@ module _ {P : Type 0} (S : CommRing P) (domain : IsDomain S.ops) where
     pair_function_same z w e =
         same_pair S domain n f (to_fraction S n z) (to_fraction S n w)
         ((class_eq _ _ (fractions R (IsDenominator S n) (row_denominators S domain n f)) (to_fraction S n z)
-            (to_fraction S n w)).0 e)
+        (to_fraction S n w)).0 e)
 
     -- a fact of each row over a denominator is one of each fraction
     pub each_pair : (T : Function S domain n f → Type 0) → ((z : Function S domain n f) → IsProp (T z))
@@ -64,7 +64,7 @@ module _ {P : Type 0} (S : CommRing P) (domain : IsDomain S.ops) where
     unfolding function_ring pair_add
     add_pairs z w =
         sound (ap₂ R.◌⊗◌ (ap₂ R.◌⊕◌ (times_den S domain n f w.den z.num) (times_den S domain n f z.den w.num))
-            (sym (den_product S domain n f z.den w.den)))
+        (sym (den_product S domain n f z.den w.den)))
 
     pub mul_pairs : (z w : RowPair S n)
         → (function_ring S domain n f).◌⊗◌ (pair_function S domain n f z) (pair_function S domain n f w)

@@ -32,22 +32,28 @@ module _ {P : Type 0} (S : CommRing P) (n : ℕ) (f : Row P (suc n)) where
   unfolding reduce
   reduce_later v =
       ap (λ t. row_add S.ops (suc n) t (times_y S.ops (suc n) f (reduce v))) (row_zero_scale S (suc n) (row_one S n))
-      ∙ row_add_comm S (suc n) (row_zero S.ops (suc n)) (times_y S.ops (suc n) f (reduce v)) ∙ row_add_zero S (suc n) (times_y S.ops (suc n) f (reduce v))
+      ∙ row_add_comm S (suc n) (row_zero S.ops (suc n)) (times_y S.ops (suc n) f (reduce v))
+      ∙ row_add_zero S (suc n) (times_y S.ops (suc n) f (reduce v))
 
-  reduce_mul : (m : ℕ) (v : Row P m) (w : List P) → reduce (mul_lists S.ops (list_of m v) w) ≡ row_times S.ops (suc n) m f v (reduce w)
+  reduce_mul : (m : ℕ) (v : Row P m) (w : List P)
+      → reduce (mul_lists S.ops (list_of m v) w) ≡ row_times S.ops (suc n) m f v (reduce w)
   unfolding list_of row_times reduce
   reduce_mul zero v w = refl
   reduce_mul (suc m) (a, v) w =
       reduce_add (scale_list S.ops a w) (S.𝟘 ∷ mul_lists S.ops (list_of m v) w)
-      ∙ ap₂ (row_add S.ops (suc n)) (reduce_scale a w) (reduce_later (mul_lists S.ops (list_of m v) w) ∙ ap (times_y S.ops (suc n) f) (reduce_mul m v w))
+      ∙ ap₂ (row_add S.ops (suc n)) (reduce_scale a w)
+      (reduce_later (mul_lists S.ops (list_of m v) w) ∙ ap (times_y S.ops (suc n) f) (reduce_mul m v w))
 
   reduce_row : (m : ℕ) (w : Row P m) → reduce (list_of m w) ≡ row_times S.ops (suc n) m f w (row_one S n)
   unfolding reduce list_of row_times
   reduce_row zero w = refl
-  reduce_row (suc m) (a, w) = ap (λ t. row_add S.ops (suc n) (row_scale S.ops (suc n) a (row_one S n)) (times_y S.ops (suc n) f t)) (reduce_row m w)
+  reduce_row (suc m) (a, w) = ap (λ t. row_add S.ops (suc n) (row_scale S.ops (suc n) a (row_one S n))
+      (times_y S.ops (suc n) f t)) (reduce_row m w)
 
   -- the product of two rows is their product in k[x][y], reduced
-  pub row_mul_reduce : (v w : Row P (suc n)) → row_mul S n f v w ≡ reduce (mul_lists S.ops (list_of (suc n) v) (list_of (suc n) w))
+  pub row_mul_reduce : (v w : Row P (suc n))
+      → row_mul S n f v w ≡ reduce (mul_lists S.ops (list_of (suc n) v) (list_of (suc n) w))
   unfolding row_mul
   row_mul_reduce v w =
-      sym (reduce_mul (suc n) v (list_of (suc n) w) ∙ ap (row_times S.ops (suc n) (suc n) f v) (reduce_row (suc n) w ∙ row_mul_one S n f w))
+      sym (reduce_mul (suc n) v (list_of (suc n) w)
+      ∙ ap (row_times S.ops (suc n) (suc n) f v) (reduce_row (suc n) w ∙ row_mul_one S n f w))

@@ -22,21 +22,26 @@ module _ {P : Type 0} (S : CommRing P) where
   multiple (suc m) = S.◌⊕◌ (multiple m) S.𝟙
 
 module _ {P : Type 0} (S : CommRing P) (n : ℕ) (f : Row P (suc n)) where
-  zero_lead : (m : ℕ) (v : Row P m) → row_times S.ops (suc n) (suc m) f (S.𝟘, v) (row_one S n) ≡ times_y S.ops (suc n) f (row_times S.ops (suc n) m f v (row_one S n))
+  zero_lead : (m : ℕ) (v : Row P m) → row_times S.ops (suc n) (suc m) f (S.𝟘, v) (row_one S n)
+      ≡ times_y S.ops (suc n) f (row_times S.ops (suc n) m f v (row_one S n))
   unfolding row_times
   zero_lead m v =
-      ap (λ t. row_add S.ops (suc n) t (times_y S.ops (suc n) f (row_times S.ops (suc n) m f v (row_one S n)))) (row_zero_scale S (suc n) (row_one S n))
+      ap (λ t. row_add S.ops (suc n) t (times_y S.ops (suc n) f (row_times S.ops (suc n) m f v (row_one S n))))
+      (row_zero_scale S (suc n) (row_one S n))
       ∙ row_add_comm S (suc n) _ _ ∙ row_add_zero S (suc n) _
 
-  y_to_unit : (i : ℕ) → suc i ≤ suc n → y_to S.ops n f i ≡ row_times S.ops (suc n) (suc i) f (unit_row S i) (row_one S n)
+  y_to_unit : (i : ℕ) → suc i ≤ suc n → y_to S.ops n f i
+      ≡ row_times S.ops (suc n) (suc i) f (unit_row S i) (row_one S n)
   unfolding y_to unit_row pad
   y_to_unit zero h = sym (times_one_pad S n f 1 (S.𝟙, tt) h ∙ pair_path refl (pad_none S n tt))
-  y_to_unit (suc i) h = ap (times_y S.ops (suc n) f) (y_to_unit i (omega arith)) ∙ sym (zero_lead (suc i) (unit_row S i))
+  y_to_unit (suc i) h = ap (times_y S.ops (suc n) f) (y_to_unit i (omega arith))
+      ∙ sym (zero_lead (suc i) (unit_row S i))
 
   entry_one : (i : ℕ) → suc i ≤ suc n → entry S.ops (suc n) i (row_mul S n f (row_one S n) (y_to S.ops n f i)) ≡ S.𝟙
   entry_one i h =
       ap (entry S.ops (suc n) i)
-      (row_mul_comm S n f (row_one S n) (y_to S.ops n f i) ∙ row_mul_one S n f (y_to S.ops n f i) ∙ y_to_unit i h ∙ times_one_pad S n f (suc i) (unit_row S i) h)
+      (row_mul_comm S n f (row_one S n) (y_to S.ops n f i) ∙ row_mul_one S n f (y_to S.ops n f i) ∙ y_to_unit i h
+      ∙ times_one_pad S n f (suc i) (unit_row S i) h)
       ∙ entry_unit S (suc n) i h
 
   diagonal_one : (m : ℕ) → m ≤ suc n → diagonal_sum S.ops n m f (row_one S n) ≡ multiple S m

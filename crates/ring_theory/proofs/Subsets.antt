@@ -76,7 +76,8 @@ module _ {A : Type 0} (R : CommRing A) where
         (All-weaker (Span R.ops S bs) (Span R.ops S (b ∷ bs)) (span_tail b bs) bs (span_members bs))
 
     -- a module that has the generators has the span
-    pub span_least : (N : A → Type 0) → IsModule R.ops S N → (bs : List A) → All N bs → (a : A) → Span R.ops S bs a → N a
+    pub span_least : (N : A → Type 0) → IsModule R.ops S N → (bs : List A) → All N bs → (a : A) → Span R.ops S bs a
+        → N a
     span_least N 𝓝 [] m a h = subst N (sym h) 𝓝.zero_in
     span_least N 𝓝 (b ∷ bs) m a h =
         subst N (sym h.is)
@@ -162,14 +163,16 @@ module _ {A : Type 0} (R : CommRing A) where
           ∙ ring R (b ∷ c ∷ h.scalar ∷ h.rest ∷ []) λ q x. simp (reads, q, x 0, x 1, x 2, x 3) (q.equal _ _ refl);
     }
 
-    pub span_product_in : (bs cs : List A) (a c : A) → Span R.ops S bs a → Span R.ops S cs c → Span R.ops S (products R.ops bs cs) (a ⊗ c)
+    pub span_product_in : (bs cs : List A) (a c : A) → Span R.ops S bs a → Span R.ops S cs c
+        → Span R.ops S (products R.ops bs cs) (a ⊗ c)
     span_product_in [] cs a c h k = ap (λ z. z ⊗ c) h ∙ zero_mul R c
     span_product_in (b ∷ bs) cs a c h k =
         let all = map (◌⊗◌ b) cs ++ products R.ops bs cs in
         let first : Span R.ops S all (b ⊗ c)
         = span_append_left (map (◌⊗◌ b) cs) (products R.ops bs cs) (b ⊗ c) (span_multiples b cs c k) in
         let others : Span R.ops S all (h.rest ⊗ c)
-        = span_append_right (map (◌⊗◌ b) cs) (products R.ops bs cs) (h.rest ⊗ c) (span_product_in bs cs h.rest c h.rest_in k) in
+        = span_append_right (map (◌⊗◌ b) cs) (products R.ops bs cs) (h.rest ⊗ c)
+        (span_product_in bs cs h.rest c h.rest_in k) in
         let e : h.scalar ⊗ (b ⊗ c) ⊕ h.rest ⊗ c ≡ a ⊗ c
         = ap (λ z. z ⊕ h.rest ⊗ c) (sym (R.mul_assoc _ _ _)) ∙ sym (add_mul R _ _ _) ∙ ap (λ z. z ⊗ c) (sym h.is) in
         subst (Span R.ops S all) e (span_sum all _ _ (span_scale all _ _ h.scalar_in first) others)
@@ -194,6 +197,8 @@ module _ {A : Type 0} (R : CommRing A) where
     pub product_of_spans : (bs cs : List A) (a : A)
         → Product R.ops (Span R.ops S bs) (Span R.ops S cs) a ↔ Span R.ops S (products R.ops bs cs) a
     product_of_spans bs cs a = (
-      product_least (Span R.ops S bs) (Span R.ops S cs) (Span R.ops S (products R.ops bs cs)) (span_module _) (span_product_in bs cs) a,
-      span_least (Product R.ops (Span R.ops S bs) (Span R.ops S cs)) (product_module _ _ (span_module bs)) _ (products_in bs cs) a,
+      product_least (Span R.ops S bs) (Span R.ops S cs) (Span R.ops S (products R.ops bs cs)) (span_module _)
+          (span_product_in bs cs) a,
+      span_least (Product R.ops (Span R.ops S bs) (Span R.ops S cs)) (product_module _ _ (span_module bs)) _
+          (products_in bs cs) a,
     )

@@ -6,7 +6,8 @@ use Rattle.ring_lemmas.specs.Polynomials.{Pol, pol_of}
 use Rattle.ring_lemmas.proofs.Division.{rest_shorter}
 use Rattle.ring_theory.specs.PolynomialRing.{pol_ring}
 
-module _ {A : Type 0} (r : TestedRing A) (domain : IsDomain r.ops) (f : Pol r) (monic : r.◌⊗◌ r.𝟙 (coeff_of r.ops f.0 (length f.0 - 1)) ≡ r.𝟙) (deep : 1 < length f.0) where
+module _ {A : Type 0} (r : TestedRing A) (domain : IsDomain r.ops) (f : Pol r)
+    (monic : r.◌⊗◌ r.𝟙 (coeff_of r.ops f.0 (length f.0 - 1)) ≡ r.𝟙) (deep : 1 < length f.0) where
   abbrev pub s : TestedRing (Pol r)
   s = pol_ring r
 

@@ -48,7 +48,8 @@ module _ {P : Type 0} (S : CommRing P) (domain : IsDomain S.ops) where
     pair_function z = mk (to_fraction S n z)
 
     -- a map out of the fractions, given on rows over denominators
-    abbrev pub from_pairs : {B : Type 0} → IsSet B → (g : RowPair S n → B) → ((z w : RowPair S n) → SamePair S n z w → g z ≡ g w) → Function → B
+    abbrev pub from_pairs : {B : Type 0} → IsSet B → (g : RowPair S n → B)
+        → ((z w : RowPair S n) → SamePair S n z w → g z ≡ g w) → Function → B
     from_pairs set g h =
         lift {r = Same R.ops (IsDenominator S n)} set (λ p. g (pair_of S n p))
-            (λ p q e. h (pair_of S n p) (pair_of S n q) (same_pair S domain n f p q e))
+        (λ p q e. h (pair_of S n p) (pair_of S n q) (same_pair S domain n f p q e))

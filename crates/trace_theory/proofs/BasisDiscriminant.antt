@@ -39,7 +39,8 @@ module _ {k : CodeField} (c : Equation k) where
 
   power_form : (i j : ℕ) → trace_of c (y i ⊗ y j) ≡ of_poly c (gram (K c) c.lower_degree c.coefficients i j)
   power_form i j =
-      ap (trace_of c) (sym (pow_add F (y_of c) i j) ∙ y_power c (i + j)) ∙ trace_over c (Y c (i + j)) (K c).𝟙 (one_some c)
+      ap (trace_of c) (sym (pow_add F (y_of c) i j) ∙ y_power c (i + j))
+      ∙ trace_over c (Y c (i + j)) (K c).𝟙 (one_some c)
 
   -- w_i is the sum of b_ij·y^j
   pub basis_discriminant : (w : ℕ → FunctionOf c) (b : ℕ → ℕ → FunctionOf c)
@@ -51,7 +52,9 @@ module _ {k : CodeField} (c : Equation k) where
       determinant_cong F N _ (matrix_product F.ops N b (matrix_product F.ops N G (λ l j. b j l))) entries
       ∙ determinant_product F N b (matrix_product F.ops N G (λ l j. b j l))
       ∙ ap (λ x. determinant F.ops N b ⊗ x)
-      (determinant_product F N G (λ l j. b j l) ∙ ap₂ ◌⊗◌ (sym (image_determinant (K c) F (of_poly c) (poly_hom c) N (gram (K c) c.lower_degree c.coefficients))) (transposed F N b))
+      (determinant_product F N G (λ l j. b j l)
+      ∙ ap₂ ◌⊗◌ (sym (image_determinant (K c) F (of_poly c) (poly_hom c) N
+      (gram (K c) c.lower_degree c.coefficients))) (transposed F N b))
       ∙ turn (determinant F.ops N b) (of_poly c (discriminant c))
     where
       G : ℕ → ℕ → FunctionOf c
@@ -62,16 +65,21 @@ module _ {k : CodeField} (c : Equation k) where
 
       -- the trace of y^l·w_j
       column : (l j : ℕ) → j < suc c.lower_degree
-          → trace_of c ((ring_of c).◌⊗◌ (pow (ring_of c).ops (y_of c) l) (w j)) ≡ matrix_product (ring_of c).ops (suc c.lower_degree) G (λ l j. b j l) l j
+          → trace_of c ((ring_of c).◌⊗◌ (pow (ring_of c).ops (y_of c) l) (w j))
+          ≡ matrix_product (ring_of c).ops (suc c.lower_degree) G (λ l j. b j l) l j
       column l j b_j =
-          ap (trace_of c) ((ring_of c).mul_comm _ (w j) ∙ ap (λ z. (ring_of c).◌⊗◌ z (pow (ring_of c).ops (y_of c) l)) (is j b_j))
+          ap (trace_of c) ((ring_of c).mul_comm _ (w j)
+          ∙ ap (λ z. (ring_of c).◌⊗◌ z (pow (ring_of c).ops (y_of c) l)) (is j b_j))
           ∙ trace_combination (b j) (λ m r. rational j m b_j r) (pow (ring_of c).ops (y_of c) l)
           ∙ below_cong (ring_of c) (suc c.lower_degree) _ _ (λ m r.
-          ap ((ring_of c).◌⊗◌ (b j m)) (ap (trace_of c) ((ring_of c).mul_comm _ _) ∙ power_form l m) ∙ (ring_of c).mul_comm _ _)
+          ap ((ring_of c).◌⊗◌ (b j m)) (ap (trace_of c) ((ring_of c).mul_comm _ _) ∙ power_form l m)
+          ∙ (ring_of c).mul_comm _ _)
 
       entries : (i j : ℕ) → i < suc c.lower_degree → j < suc c.lower_degree
           → trace_of c ((ring_of c).◌⊗◌ (w i) (w j))
-          ≡ matrix_product (ring_of c).ops (suc c.lower_degree) b (matrix_product (ring_of c).ops (suc c.lower_degree) G (λ l j. b j l)) i j
+          ≡ matrix_product (ring_of c).ops (suc c.lower_degree) b
+          (matrix_product (ring_of c).ops (suc c.lower_degree) G (λ l j. b j l)) i j
       entries i j r s =
-          ap (λ z. trace_of c ((ring_of c).◌⊗◌ z (w j))) (is i r) ∙ trace_combination (b i) (λ m q. rational i m r q) (w j)
+          ap (λ z. trace_of c ((ring_of c).◌⊗◌ z (w j))) (is i r)
+          ∙ trace_combination (b i) (λ m q. rational i m r q) (w j)
           ∙ below_cong (ring_of c) (suc c.lower_degree) _ _ (λ l q. ap ((ring_of c).◌⊗◌ (b i l)) (column l j s))

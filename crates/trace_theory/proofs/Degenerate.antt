@@ -39,7 +39,8 @@ module _ {k : CodeField} (c : Equation k) where
       (row_scale_zero (K c) N d ∙ sym (row_scale_zero (K c) N (K c).𝟙))
 
   pub zero_by_traces : (z : FunctionOf c) → ¬ (discriminant c ≡ (polynomials k).𝟘)
-      → ((i : ℕ) → i < degree_of_y c → trace_of c (z ⊗ pow (ring_of c).ops (y_of c) i) ≡ (ring_of c).𝟘) → z ≡ (ring_of c).𝟘
+      → ((i : ℕ) → i < degree_of_y c → trace_of c (z ⊗ pow (ring_of c).ops (y_of c) i) ≡ (ring_of c).𝟘)
+      → z ≡ (ring_of c).𝟘
   zero_by_traces z some h =
       let r = as_row c z in
       let null : r.num ≡ row_zero (K c).ops N
@@ -48,8 +49,10 @@ module _ {k : CodeField} (c : Equation k) where
       ((K c).mul_comm _ _
       ∙ entry_form (K c) c.lower_degree c.coefficients r.num r.den (λ j. (K c).𝟘) (λ j b.
       polynomial_value c (Tr c ((R c).◌⊗◌ r.num (Y c j))) (K c).𝟘 r.den r.not_zero
-      (sym (trace_power c r.num r.den r.not_zero j) ∙ ap (λ u. trace_of c (u ⊗ pow (ring_of c).ops (y_of c) j)) (sym r.is) ∙ h j b ∙ of_poly_zero c)) i l
-      ∙ ap (λ x. (K c).◌⊗◌ r.den x) (zero_row (K c) N i l (gram (K c) c.lower_degree c.coefficients)) ∙ mul_zero (K c) r.den)
+      (sym (trace_power c r.num r.den r.not_zero j)
+      ∙ ap (λ u. trace_of c (u ⊗ pow (ring_of c).ops (y_of c) j)) (sym r.is) ∙ h j b ∙ of_poly_zero c)) i l
+      ∙ ap (λ x. (K c).◌⊗◌ r.den x) (zero_row (K c) N i l (gram (K c) c.lower_degree c.coefficients))
+      ∙ mul_zero (K c) r.den)
       ∙ sym (entry_zero (K c) N i)) in
       r.is ∙ ap (λ v. over c v r.den r.not_zero) null ∙ sym (zero_over r.den r.not_zero)
 
@@ -63,7 +66,8 @@ module _ {k : CodeField} (c : Equation k) where
             (sym (entry_with (K c) N r.position r.coefficient r.position_below)
             ∙ ap (entry (K c).ops N r.position)
             (sym (row_scale_one (K c) N v)
-            ∙ over_same c v (row_zero (K c).ops N) (K c).𝟙 (K c).𝟙 (one_some c) (one_some c) (e ∙ zero_over (K c).𝟙 (one_some c))
+            ∙ over_same c v (row_zero (K c).ops N) (K c).𝟙 (K c).𝟙 (one_some c) (one_some c)
+            (e ∙ zero_over (K c).𝟙 (one_some c))
             ∙ row_scale_one (K c) N (row_zero (K c).ops N))
             ∙ entry_zero (K c) N r.position);
         traces = λ j l.

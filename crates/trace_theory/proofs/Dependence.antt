@@ -31,7 +31,8 @@ module _ {A : Type 0} (R : CommRing A) where
       → combine (sequence_ops R.ops) c (tabulate n m) j ≡ sum_below R.ops n (λ i. c i ⊗ m i j)
   combine_listed zero c m j = refl
   combine_listed (suc n) c m j =
-      ap (λ s. R.◌⊕◌ (c 0 ⊗ m 0 j) s) (combine_listed n (λ i. c (suc i)) (λ i. m (suc i)) j) ∙ sym (below_first R n (λ i. c i ⊗ m i j))
+      ap (λ s. R.◌⊕◌ (c 0 ⊗ m 0 j) s) (combine_listed n (λ i. c (suc i)) (λ i. m (suc i)) j)
+      ∙ sym (below_first R n (λ i. c i ⊗ m i j))
 
 module _ {A : Type 0} (D : Domain A) where
   infixl 65 ◌⊕◌
@@ -74,7 +75,9 @@ module _ {A : Type 0} (D : Domain A) where
         w,
         record {
           factor = r.coefficient 0;
-          factor_nonzero = λ e. r.nonzero (all_zero r.coefficient (λ l b. r.is l b) e r.position (let b = r.position_below in let q = length_listed n m in omega arith));
+          factor_nonzero = λ e. r.nonzero
+              (all_zero r.coefficient (λ l b. r.is l b) e r.position
+              (let b = r.position_below in let q = length_listed n m in omega arith));
           is = λ l b. turned r.coefficient l (r.is l b);
         },
       )
@@ -87,9 +90,11 @@ module _ {A : Type 0} (D : Domain A) where
           → sum_below R.ops n (λ i. ⊖ c (suc i) ⊗ m i l) ≡ c 0 ⊗ diagonal R.ops (λ i. 𝟙) j l
       turned c l e =
           below_cong R n _ _ (λ i b. neg_mul R _ _) ∙ below_neg R n _
-          ∙ sym (neg_unique R (sum_below R.ops n (λ i. c (suc i) ⊗ m i l)) (c 0 ⊗ diagonal R.ops (λ i. 𝟙) j l) (R.add_comm _ _ ∙ sym (value c l) ∙ e))
+          ∙ sym (neg_unique R (sum_below R.ops n (λ i. c (suc i) ⊗ m i l)) (c 0 ⊗ diagonal R.ops (λ i. 𝟙) j l)
+          (R.add_comm _ _ ∙ sym (value c l) ∙ e))
 
-      all_zero : (c : ℕ → A) → ((l : ℕ) → l < n → combine (sequence_ops R.ops) c (diagonal R.ops (λ i. 𝟙) j ∷ tabulate n m) l ≡ 𝟘) → c 0 ≡ 𝟘
+      all_zero : (c : ℕ → A) → ((l : ℕ) → l < n
+          → combine (sequence_ops R.ops) c (diagonal R.ops (λ i. 𝟙) j ∷ tabulate n m) l ≡ 𝟘) → c 0 ≡ 𝟘
           → (i : ℕ) → i < suc n → c i ≡ 𝟘
       all_zero c h e zero b = e
       all_zero c h e (suc i) b =
@@ -102,15 +107,20 @@ module _ {A : Type 0} (D : Domain A) where
   product_nonzero : (n : ℕ) (f : ℕ → A) → ((i : ℕ) → i < n → ¬ (f i ≡ 𝟘)) → ¬ (product_below R.ops n f ≡ 𝟘)
   product_nonzero zero f h = D.one_not_zero
   product_nonzero (suc n) f h =
-      product_not_zero D.is_domain (f 0) _ (h 0 (omega arith)) (product_nonzero n (λ i. f (suc i)) (λ i l. h (suc i) (omega arith)))
+      product_not_zero D.is_domain (f 0) _ (h 0 (omega arith))
+      (product_nonzero n (λ i. f (suc i)) (λ i l. h (suc i) (omega arith)))
 
   -- rows that are independent have a determinant that isn't 0
-  independent_determinant : (n : ℕ) (m : ℕ → ℕ → A) → IsIndependent R.ops (sequence_ops R.ops) (Vanishes R n) (tabulate n m)
+  independent_determinant : (n : ℕ) (m : ℕ → ℕ → A)
+      → IsIndependent R.ops (sequence_ops R.ops) (Vanishes R n) (tabulate n m)
       → ¬ (determinant R.ops n m ≡ 𝟘)
   independent_determinant n m free e =
-      let W : Choice (λ j w. UnitMultiple n m j w) n = choose (λ j w. UnitMultiple n m j w) n (λ i. 𝟘) (unit_multiple n m free) in
-      let F : Choice (λ j a. (¬ (a ≡ 𝟘)) × ((l : ℕ) → l < n → sum_below R.ops n (λ i. W.chosen j i ⊗ m i l) ≡ a ⊗ diagonal R.ops (λ i. 𝟙) j l)) n
-      = choose (λ j a. (¬ (a ≡ 𝟘)) × ((l : ℕ) → l < n → sum_below R.ops n (λ i. W.chosen j i ⊗ m i l) ≡ a ⊗ diagonal R.ops (λ i. 𝟙) j l)) n 𝟘
+      let W : Choice (λ j w. UnitMultiple n m j w) n = choose (λ j w. UnitMultiple n m j w) n (λ i. 𝟘)
+      (unit_multiple n m free) in
+      let F : Choice (λ j a. (¬ (a ≡ 𝟘))
+      × ((l : ℕ) → l < n → sum_below R.ops n (λ i. W.chosen j i ⊗ m i l) ≡ a ⊗ diagonal R.ops (λ i. 𝟙) j l)) n
+      = choose (λ j a. (¬ (a ≡ 𝟘)) × ((l : ℕ) → l < n
+      → sum_below R.ops n (λ i. W.chosen j i ⊗ m i l) ≡ a ⊗ diagonal R.ops (λ i. 𝟙) j l)) n 𝟘
       (λ j b. let u = W.holds j b in (u.factor, (u.factor_nonzero, u.is))) in
       product_nonzero n F.chosen (λ i l. (F.holds i l).0)
       (sym (diagonal_determinant R n F.chosen)
@@ -120,7 +130,8 @@ module _ {A : Type 0} (D : Domain A) where
     where
       scaled : (r : ℕ → A) (i j : ℕ) → Dec (j ≡ i) → r i ⊗ diagonal R.ops (λ i. 𝟙) i j ≡ diagonal R.ops r i j
       scaled r i j (yes q) =
-          ap (λ l. r i ⊗ diagonal R.ops (λ i. 𝟙) i l) q ∙ ap (λ x. r i ⊗ x) (diagonal_here R (λ i. 𝟙) i) ∙ R.mul_one (r i)
+          ap (λ l. r i ⊗ diagonal R.ops (λ i. 𝟙) i l) q ∙ ap (λ x. r i ⊗ x) (diagonal_here R (λ i. 𝟙) i)
+          ∙ R.mul_one (r i)
           ∙ sym (diagonal_here R r i) ∙ ap (diagonal R.ops r i) (sym q)
       scaled r i j (no ne) =
           ap (λ x. r i ⊗ x) (diagonal_other R (λ i. 𝟙) i j ne) ∙ mul_zero R _ ∙ sym (diagonal_other R r i j ne)
@@ -131,18 +142,21 @@ module _ {A : Type 0} (D : Domain A) where
       D.is_domain.cancel_zero (r.coefficient r.position) (determinant R.ops n m) r.nonzero
       (sym (cramer R n r.position r.position_below r.coefficient m)
       ∙ determinant_cong R n _ (with_row r.position (λ j. 𝟘) m)
-      (λ i j k l. with_row_cong n r.position (λ j. sum_below R.ops n (λ i. r.coefficient i ⊗ m i j)) (λ j. 𝟘) m r.is i j l)
+      (λ i j k l. with_row_cong n r.position (λ j. sum_below R.ops n (λ i. r.coefficient i ⊗ m i j)) (λ j. 𝟘) m r.is i j
+      l)
       ∙ zero_row R n r.position r.position_below m)
 
   pub row_relation : (n : ℕ) (m : ℕ → ℕ → A) → determinant R.ops n m ≡ 𝟘 → RowRelation n m
   row_relation n m e = go (independent_or_relation D n (tabulate n m))
     where
-      go : Relation R.ops n (tabulate n m) ⊎ IsIndependent R.ops (sequence_ops R.ops) (Vanishes R n) (tabulate n m) → RowRelation n m
+      go : Relation R.ops n (tabulate n m) ⊎ IsIndependent R.ops (sequence_ops R.ops) (Vanishes R n) (tabulate n m)
+          → RowRelation n m
       go (inl r) = of_relation n m r
       go (inr free) = absurd (independent_determinant n m free e)
 
   -- where the determinant isn't 0, each row of the unit matrix has a multiple that is a combination of the rows
-  pub unit_multiples : (n : ℕ) (m : ℕ → ℕ → A) → ¬ (determinant R.ops n m ≡ 𝟘) → (j : ℕ) → j < n → (w : ℕ → A) × UnitMultiple n m j w
+  pub unit_multiples : (n : ℕ) (m : ℕ → ℕ → A) → ¬ (determinant R.ops n m ≡ 𝟘) → (j : ℕ) → j < n
+      → (w : ℕ → A) × UnitMultiple n m j w
   unit_multiples n m some j l = unit_multiple n m (free (independent_or_relation D n (tabulate n m))) j l
     where
       free : Relation R.ops n (tabulate n m) ⊎ IsIndependent R.ops (sequence_ops R.ops) (Vanishes R n) (tabulate n m)

@@ -1,4 +1,5 @@
--- Determinants: of matrices with equal entries, of diagonal matrices, of a multiple of a row, of matrices near 1, and of images.
+-- Determinants: of matrices with equal entries, of diagonal matrices, of a multiple of a row, of matrices near 1, and
+-- of images.
 use mathlib.Core.Path.{fun_ext}
 use Rattle.std.proofs.Common.{◌≡◌, ℕ, zero, suc, ◌<◌, [], ◌∷◌, refl, sym, ◌∙◌, ap, ap₂, arith}
 use Rattle.ring_lemmas.specs.Ring.{Operations, CommRing, pow}
@@ -75,16 +76,21 @@ module _ {A : Type 0} (R : CommRing A) where
   diagonal_determinant (suc n) r =
       below_first R n _
       ∙ ap₂ ◌⊕◌ (one_mul R _ ∙ ap (λ d. r 0 ⊗ d) (diagonal_determinant n (λ l. r (suc l))))
-      (below_cong R n _ (λ i. 𝟘) (λ i l. ap (λ x. pow R.ops (⊖ 𝟙) (suc i) ⊗ x) (zero_mul R _) ∙ mul_zero R _) ∙ below_zero R n)
+      (below_cong R n _ (λ i. 𝟘) (λ i l. ap (λ x. pow R.ops (⊖ 𝟙) (suc i) ⊗ x) (zero_mul R _) ∙ mul_zero R _)
+      ∙ below_zero R n)
       ∙ R.add_zero _
 
   -- r_i·m_ij·s_j
   pub determinant_weights : (n : ℕ) (r s : ℕ → A) (m : ℕ → ℕ → A)
-      → determinant R.ops n (λ i j. r i ⊗ m i j ⊗ s j) ≡ product_below R.ops n r ⊗ determinant R.ops n m ⊗ product_below R.ops n s
+      → determinant R.ops n (λ i j. r i ⊗ m i j ⊗ s j)
+      ≡ product_below R.ops n r ⊗ determinant R.ops n m ⊗ product_below R.ops n s
   determinant_weights n r s m =
-      determinant_cong n _ (matrix_product R.ops n (diagonal R.ops r) (matrix_product R.ops n m (diagonal R.ops s))) entries
+      determinant_cong n _ (matrix_product R.ops n (diagonal R.ops r) (matrix_product R.ops n m (diagonal R.ops s)))
+      entries
       ∙ determinant_product R n (diagonal R.ops r) (matrix_product R.ops n m (diagonal R.ops s))
-      ∙ ap₂ ◌⊗◌ (diagonal_determinant n r) (determinant_product R n m (diagonal R.ops s) ∙ ap (λ d. determinant R.ops n m ⊗ d) (diagonal_determinant n s))
+      ∙ ap₂ ◌⊗◌ (diagonal_determinant n r)
+      (determinant_product R n m (diagonal R.ops s)
+      ∙ ap (λ d. determinant R.ops n m ⊗ d) (diagonal_determinant n s))
       ∙ sym (R.mul_assoc _ _ _)
     where
       right : (i j : ℕ) → j < n → matrix_product R.ops n m (diagonal R.ops s) i j ≡ m i j ⊗ s j
@@ -94,18 +100,22 @@ module _ {A : Type 0} (R : CommRing A) where
           ∙ ap (λ x. m i j ⊗ x) (diagonal_here s j)
 
       entries : (i j : ℕ) → i < n → j < n
-          → r i ⊗ m i j ⊗ s j ≡ matrix_product R.ops n (diagonal R.ops r) (matrix_product R.ops n m (diagonal R.ops s)) i j
+          → r i ⊗ m i j ⊗ s j ≡ matrix_product R.ops n (diagonal R.ops r) (matrix_product R.ops n m (diagonal R.ops s))
+          i j
       entries i j k l =
-          R.mul_assoc _ _ _ ∙ ap (λ x. r i ⊗ x) (sym (right i j l)) ∙ ap (λ x. x ⊗ matrix_product R.ops n m (diagonal R.ops s) i j) (sym (diagonal_here r i))
+          R.mul_assoc _ _ _ ∙ ap (λ x. r i ⊗ x) (sym (right i j l))
+          ∙ ap (λ x. x ⊗ matrix_product R.ops n m (diagonal R.ops s) i j) (sym (diagonal_here r i))
           ∙ sym (below_single R n i (λ k. diagonal R.ops r i k ⊗ matrix_product R.ops n m (diagonal R.ops s) k j) k
-          (λ k b ne. ap (λ x. x ⊗ matrix_product R.ops n m (diagonal R.ops s) k j) (diagonal_other r i k ne) ∙ zero_mul R _))
+          (λ k b ne. ap (λ x. x ⊗ matrix_product R.ops n m (diagonal R.ops s) k j) (diagonal_other r i k ne)
+          ∙ zero_mul R _))
 
   pub zero_row : (n i : ℕ) → i < n → (a : ℕ → ℕ → A) → determinant R.ops n (with_row i (λ j. 𝟘) a) ≡ 𝟘
   zero_row n i l a =
       add_cancel_left R d d 𝟘
       (ap (λ x. x ⊕ d) (sym (one_mul R d))
       ∙ sym (determinant_linear R n i l (λ j. 𝟘) (λ j. 𝟘) 𝟙 a)
-      ∙ ap (λ v. determinant R.ops n (with_row i v a)) (fun_ext (λ j. R.add_zero _ ∙ mul_zero R 𝟙)) ∙ sym (R.add_zero d))
+      ∙ ap (λ v. determinant R.ops n (with_row i v a)) (fun_ext (λ j. R.add_zero _ ∙ mul_zero R 𝟙))
+      ∙ sym (R.add_zero d))
     where
       d : A
       d = determinant R.ops n (with_row i (λ j. 𝟘) a)
@@ -139,7 +149,8 @@ module _ {A : Type 0} (R : CommRing A) where
 
   -- the other terms of the expansion are multiples of a²
   square_term : (n i : ℕ) → i < n → (a : A) (m : ℕ → ℕ → A)
-      → (w : A) × (pow R.ops (⊖ 𝟙) (suc i) ⊗ (near a m (suc i) 0 ⊗ determinant R.ops n (minor (suc i) (near a m))) ≡ a ⊗ a ⊗ w)
+      → (w : A) × (pow R.ops (⊖ 𝟙) (suc i) ⊗ (near a m (suc i) 0 ⊗ determinant R.ops n (minor (suc i) (near a m)))
+      ≡ a ⊗ a ⊗ w)
   square_term zero i l a m = absurd (omega arith)
   square_term (suc n) i l a m =
       let v : ℕ → A = λ j. m 0 (suc j) in
@@ -153,7 +164,8 @@ module _ {A : Type 0} (R : CommRing A) where
       regroup : (s a x d : A) → s ⊗ (a ⊗ x ⊗ (a ⊗ d)) ≡ a ⊗ a ⊗ (s ⊗ (x ⊗ d))
       regroup s a x d = ring R (s ∷ a ∷ x ∷ d ∷ []) λ q h. simp (reads, q, h 0, h 1, h 2, h 3) (q.equal _ _ refl)
 
-  square_sum : (n : ℕ) (a : A) (f : ℕ → A) → ((i : ℕ) → i < n → (w : A) × (f i ≡ a ⊗ a ⊗ w)) → (w : A) × (sum_below R.ops n f ≡ a ⊗ a ⊗ w)
+  square_sum : (n : ℕ) (a : A) (f : ℕ → A) → ((i : ℕ) → i < n → (w : A) × (f i ≡ a ⊗ a ⊗ w))
+      → (w : A) × (sum_below R.ops n f ≡ a ⊗ a ⊗ w)
   square_sum zero a f h = (𝟘, sym (mul_zero R _))
   square_sum (suc n) a f h =
       let p = square_sum n a f (λ i l. h i (omega arith)) in
@@ -168,7 +180,8 @@ module _ {A : Type 0} (R : CommRing A) where
   }
   near_one (suc n) a m =
       let r = near_one n a (λ i j. m (suc i) (suc j)) in
-      let p = square_sum n a (λ i. pow R.ops (⊖ 𝟙) (suc i) ⊗ (near a m (suc i) 0 ⊗ determinant R.ops n (minor (suc i) (near a m)))) (λ i l. square_term n i l a m) in
+      let p = square_sum n a (λ i. pow R.ops (⊖ 𝟙) (suc i) ⊗
+      (near a m (suc i) 0 ⊗ determinant R.ops n (minor (suc i) (near a m)))) (λ i l. square_term n i l a m) in
       let t = sum_below R.ops n (λ i. m (suc i) (suc i)) in
       record {
         rest = r.rest ⊕ m 0 0 ⊗ t ⊕ a ⊗ m 0 0 ⊗ r.rest ⊕ p.0;
@@ -176,10 +189,12 @@ module _ {A : Type 0} (R : CommRing A) where
             below_first R n (λ i. pow R.ops (⊖ 𝟙) i ⊗ (near a m i 0 ⊗ determinant R.ops n (minor i (near a m))))
             ∙ ap₂ ◌⊕◌ (ap (λ d. 𝟙 ⊗ ((𝟙 ⊕ a ⊗ m 0 0) ⊗ d)) r.is) p.1
             ∙ collect a (m 0 0) t r.rest p.0
-            ∙ ap (λ s. 𝟙 ⊕ a ⊗ s ⊕ a ⊗ a ⊗ (r.rest ⊕ m 0 0 ⊗ t ⊕ a ⊗ m 0 0 ⊗ r.rest ⊕ p.0)) (sym (below_first R n (λ i. m i i)));
+            ∙ ap (λ s. 𝟙 ⊕ a ⊗ s ⊕ a ⊗ a ⊗ (r.rest ⊕ m 0 0 ⊗ t ⊕ a ⊗ m 0 0 ⊗ r.rest ⊕ p.0))
+            (sym (below_first R n (λ i. m i i)));
       }
     where
-      collect : (a x t w u : A) → 𝟙 ⊗ ((𝟙 ⊕ a ⊗ x) ⊗ (𝟙 ⊕ a ⊗ t ⊕ a ⊗ a ⊗ w)) ⊕ a ⊗ a ⊗ u ≡ 𝟙 ⊕ a ⊗ (x ⊕ t) ⊕ a ⊗ a ⊗ (w ⊕ x ⊗ t ⊕ a ⊗ x ⊗ w ⊕ u)
+      collect : (a x t w u : A) → 𝟙 ⊗ ((𝟙 ⊕ a ⊗ x) ⊗ (𝟙 ⊕ a ⊗ t ⊕ a ⊗ a ⊗ w)) ⊕ a ⊗ a ⊗ u
+          ≡ 𝟙 ⊕ a ⊗ (x ⊕ t) ⊕ a ⊗ a ⊗ (w ⊕ x ⊗ t ⊕ a ⊗ x ⊗ w ⊕ u)
       collect a x t w u =
           ring R (a ∷ x ∷ t ∷ w ∷ u ∷ []) λ q h. simp (reads, q, h 0, h 1, h 2, h 3, h 4) (q.equal _ _ refl)
 
@@ -190,23 +205,27 @@ module _ {A : Type 0} (R : CommRing A) where
   without j m r c = m (suc r) (skip j c)
 
   first_row : (n : ℕ) (m : ℕ → ℕ → A)
-      → determinant R.ops (suc n) m ≡ sum_below R.ops (suc n) (λ j. pow R.ops (⊖ 𝟙) j ⊗ (m 0 j ⊗ determinant R.ops n (without j m)))
+      → determinant R.ops (suc n) m ≡ sum_below R.ops (suc n)
+      (λ j. pow R.ops (⊖ 𝟙) j ⊗ (m 0 j ⊗ determinant R.ops n (without j m)))
   first_row zero m = refl
   first_row (suc n) m =
       let s : ℕ → A = λ i. pow R.ops (⊖ 𝟙) i in
       let d : ℕ → ℕ → A = λ i j. determinant R.ops n (minor i (without (suc j) m)) in
       below_first R (suc n) _
       ∙ ap (λ x. s 0 ⊗ (m 0 0 ⊗ determinant R.ops (suc n) (minor 0 m)) ⊕ x)
-      (below_cong R (suc n) _ (λ i. sum_below R.ops (suc n) (λ j. s (suc i) ⊗ (m (suc i) 0 ⊗ (s j ⊗ (m 0 (suc j) ⊗ d i j)))))
+      (below_cong R (suc n) _ (λ i. sum_below R.ops (suc n)
+      (λ j. s (suc i) ⊗ (m (suc i) 0 ⊗ (s j ⊗ (m 0 (suc j) ⊗ d i j)))))
       (λ i l.
       ap (λ x. s (suc i) ⊗ (m (suc i) 0 ⊗ x))
       (first_row n (minor (suc i) m)
       ∙ below_cong R (suc n) _ (λ j. s j ⊗ (m 0 (suc j) ⊗ d i j)) (λ j b.
       ap (λ x. s j ⊗ (m 0 (suc j) ⊗ x)) (determinant_cong n _ _ (λ r c k k'. both i j r c))))
-      ∙ ap (λ x. s (suc i) ⊗ x) (sym (below_scale R (suc n) (m (suc i) 0) _)) ∙ sym (below_scale R (suc n) (s (suc i)) _))
+      ∙ ap (λ x. s (suc i) ⊗ x) (sym (below_scale R (suc n) (m (suc i) 0) _))
+      ∙ sym (below_scale R (suc n) (s (suc i)) _))
       ∙ below_swap R (suc n) (suc n) (λ i j. s (suc i) ⊗ (m (suc i) 0 ⊗ (s j ⊗ (m 0 (suc j) ⊗ d i j))))
       ∙ below_cong R (suc n) _ (λ j. s (suc j) ⊗ (m 0 (suc j) ⊗ determinant R.ops (suc n) (without (suc j) m))) (λ j b.
-      below_cong R (suc n) _ (λ i. (s (suc j) ⊗ m 0 (suc j)) ⊗ (s i ⊗ (m (suc i) 0 ⊗ d i j))) (λ i l. regroup (s i) (m (suc i) 0) (s j) (m 0 (suc j)) (d i j))
+      below_cong R (suc n) _ (λ i. (s (suc j) ⊗ m 0 (suc j)) ⊗ (s i ⊗ (m (suc i) 0 ⊗ d i j)))
+      (λ i l. regroup (s i) (m (suc i) 0) (s j) (m 0 (suc j)) (d i j))
       ∙ below_scale R (suc n) (s (suc j) ⊗ m 0 (suc j)) _ ∙ R.mul_assoc _ _ _))
       ∙ sym (below_first R (suc n) (λ j. s j ⊗ (m 0 j ⊗ determinant R.ops (suc n) (without j m))))
     where
@@ -223,7 +242,8 @@ module _ {A : Type 0} (R : CommRing A) where
   transposed (suc n) m =
       below_cong R (suc n) _ _ (λ i l.
       ap (λ d. pow R.ops (⊖ 𝟙) i ⊗ (m 0 i ⊗ d))
-      (determinant_cong n _ (λ r c. without i m c r) (λ r c k k'. minor_is i (λ a b. m b a) r c) ∙ transposed n (without i m)))
+      (determinant_cong n _ (λ r c. without i m c r) (λ r c k k'. minor_is i (λ a b. m b a) r c)
+      ∙ transposed n (without i m)))
       ∙ sym (first_row n m)
 
 -- a homomorphism takes determinants to determinants

@@ -48,10 +48,12 @@ module _ {k : CodeField} (c : Equation k) where
         over c v u.1.factor u.1.factor_nonzero,
         λ m b.
             trace_power c v u.1.factor u.1.factor_nonzero m
-            ∙ value_polynomial c (Tr c ((R c).◌⊗◌ v (Y c m))) (diagonal (polynomials k).ops (λ i. (polynomials k).𝟙) j m) u.1.factor u.1.factor_nonzero
+            ∙ value_polynomial c (Tr c ((R c).◌⊗◌ v (Y c m)))
+            (diagonal (polynomials k).ops (λ i. (polynomials k).𝟙) j m) u.1.factor u.1.factor_nonzero
             (row_trace_form (K c) c.lower_degree c.coefficients v m
             ∙ below_cong (K c) (suc c.lower_degree) _ _ (λ i q.
-            ap (λ x. (K c).◌⊗◌ x (gram (K c) c.lower_degree c.coefficients i m)) (entry_with (K c) (suc c.lower_degree) i u.0 q))
+            ap (λ x. (K c).◌⊗◌ x (gram (K c) c.lower_degree c.coefficients i m))
+            (entry_with (K c) (suc c.lower_degree) i u.0 q))
             ∙ u.1.is m b),
       )
 
@@ -62,13 +64,17 @@ module _ {k : CodeField} (c : Equation k) where
   unit_other i j ne = ap (of_poly c) (diagonal_other (K c) (λ i. (K c).𝟙) i j ne) ∙ sym (of_poly_zero c)
 
   -- the combination of the dual basis with given rational coefficients has these as traces
-  dual_trace : (d : ℕ → FunctionOf c) → ((j : ℕ) → j < degree_of_y c → IsDual j (d j)) → (a : ℕ → FunctionOf c) → ((j : ℕ) → IsRational c (a j))
+  dual_trace : (d : ℕ → FunctionOf c) → ((j : ℕ) → j < degree_of_y c → IsDual j (d j)) → (a : ℕ → FunctionOf c)
+      → ((j : ℕ) → IsRational c (a j))
       → (l : ℕ) → l < degree_of_y c → trace_of c (sum_below F.ops (degree_of_y c) (λ j. a j ⊗ d j) ⊗ y l) ≡ a l
   dual_trace d dual a rational l b =
-      ap (trace_of c) (sym (below_scale_right F (suc c.lower_degree) (y l) (λ j. a j ⊗ d j))) ∙ trace_sum c (suc c.lower_degree) _
+      ap (trace_of c) (sym (below_scale_right F (suc c.lower_degree) (y l) (λ j. a j ⊗ d j)))
+      ∙ trace_sum c (suc c.lower_degree) _
       ∙ below_cong F (suc c.lower_degree) _ (λ j. a j ⊗ unit_at j l) (λ j q.
-      ap (trace_of c) (F.mul_assoc _ _ _) ∙ trace_times c (a j) (d j ⊗ y l) (rational j) ∙ ap (λ z. a j ⊗ z) (dual j q l b))
-      ∙ below_single F (suc c.lower_degree) l (λ j. a j ⊗ unit_at j l) b (λ j q ne. ap (λ z. a j ⊗ z) (unit_other j l (λ e. ne (sym e))) ∙ mul_zero F (a j))
+      ap (trace_of c) (F.mul_assoc _ _ _) ∙ trace_times c (a j) (d j ⊗ y l) (rational j)
+      ∙ ap (λ z. a j ⊗ z) (dual j q l b))
+      ∙ below_single F (suc c.lower_degree) l (λ j. a j ⊗ unit_at j l) b
+      (λ j q ne. ap (λ z. a j ⊗ z) (unit_other j l (λ e. ne (sym e))) ∙ mul_zero F (a j))
       ∙ ap (λ z. a l ⊗ z) (unit_here l) ∙ F.mul_one (a l)
 
   trace_minus : (z w : FunctionOf c) → trace_of c z ≡ trace_of c w → trace_of c (z ⊕ ⊖ w) ≡ 𝟘
@@ -90,11 +96,14 @@ module _ {k : CodeField} (c : Equation k) where
         },
       )
     where
-      difference : (z w u : FunctionOf c) → (ring_of c).◌⊕◌ ((ring_of c).◌⊗◌ z u) ((ring_of c).⊖◌ ((ring_of c).◌⊗◌ w u)) ≡ (ring_of c).◌⊗◌ ((ring_of c).◌⊕◌ z ((ring_of c).⊖◌ w)) u
+      difference : (z w u : FunctionOf c)
+          → (ring_of c).◌⊕◌ ((ring_of c).◌⊗◌ z u) ((ring_of c).⊖◌ ((ring_of c).◌⊗◌ w u))
+          ≡ (ring_of c).◌⊗◌ ((ring_of c).◌⊕◌ z ((ring_of c).⊖◌ w)) u
       difference z w u = ring (ring_of c) (z ∷ w ∷ u ∷ []) λ q h. simp (reads, q, h 0, h 1, h 2) (q.equal _ _ refl)
 
       spans : (d : ℕ → FunctionOf c) → ((j : ℕ) → j < degree_of_y c → IsDual j (d j)) → (z : FunctionOf c)
-          → z ≡ sum_below (ring_of c).ops (degree_of_y c) (λ i. (ring_of c).◌⊗◌ (trace_of c ((ring_of c).◌⊗◌ z (pow (ring_of c).ops (y_of c) i))) (d i))
+          → z ≡ sum_below (ring_of c).ops (degree_of_y c)
+          (λ i. (ring_of c).◌⊗◌ (trace_of c ((ring_of c).◌⊗◌ z (pow (ring_of c).ops (y_of c) i))) (d i))
       spans d dual z =
           let a : ℕ → FunctionOf c = λ i. trace_of c ((ring_of c).◌⊗◌ z (pow (ring_of c).ops (y_of c) i)) in
           let w = sum_below (ring_of c).ops (degree_of_y c) (λ i. (ring_of c).◌⊗◌ (a i) (d i)) in

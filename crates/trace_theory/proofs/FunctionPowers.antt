@@ -35,14 +35,16 @@ module _ {k : CodeField} (c : Equation k) where
   pub power_over : (v : Row (Polynomial k) (suc c.lower_degree)) (d : Polynomial k) (n : ¬ (d ≡ (K c).𝟘)) (m : ℕ)
       → pow F.ops (over c v d n) m ≡ over c (pow (R c).ops v m) (pow (K c).ops d m) (power_some d n m)
   power_over v d n zero =
-      y_power c 0 ∙ ap (λ v. over c v (K c).𝟙 (one_some c)) (y_zero (K c) c.lower_degree c.coefficients) ∙ over_eq c _ _ _ _ _ _ refl
+      y_power c 0 ∙ ap (λ v. over c v (K c).𝟙 (one_some c)) (y_zero (K c) c.lower_degree c.coefficients)
+      ∙ over_eq c _ _ _ _ _ _ refl
   power_over v d n (suc m) =
       ap (λ z. over c v d n ⊗ z) (power_over v d n m)
       ∙ over_product c v (pow (R c).ops v m) d (pow (K c).ops d m) n (power_some d n m)
       ∙ over_eq c _ _ _ _ _ _ refl
 
   code_hom : IsHom (code_ring k).ring F (λ a. of_poly c (constant (code_ring k) a))
-  code_hom = hom_after (code_ring k).ring (K c) F (constant (code_ring k)) (of_poly c) (constant_hom (code_ring k)) (poly_hom c)
+  code_hom = hom_after (code_ring k).ring (K c) F (constant (code_ring k)) (of_poly c) (constant_hom (code_ring k))
+      (poly_hom c)
 
   q_add : (z w : FunctionOf c) → pow F.ops (z ⊕ w) (q k) ≡ pow F.ops z (q k) ⊕ pow F.ops w (q k)
   q_add z w = power_add k F (λ a. of_poly c (constant (code_ring k) a)) code_hom z w
@@ -102,15 +104,21 @@ module _ {k : CodeField} (c : Equation k) where
       let a = h.top in
       let null : pow (K c).ops a m ≡ (K c).𝟘
       = first (pow (K c).ops a m)
-      (over_same c (row_of c (pow (K c).ops a m)) (row_zero (K c).ops (suc c.lower_degree)) (pow (K c).ops h.bottom m) (K c).𝟙 (power_some h.bottom h.not_null m) (one_some c)
-      (ap (λ v. over c v (pow (K c).ops h.bottom m) (power_some h.bottom h.not_null m)) (image_power (K c) (R c) (row_of c) (row_hom c) m a)
-      ∙ sym (power_over (row_of c a) h.bottom h.not_null m) ∙ ap (λ t. pow F.ops t m) (sym h.value) ∙ e ∙ zero_over c (K c).𝟙 (one_some c))) in
-      h.value ∙ ap (λ a. over c (row_of c a) h.bottom h.not_null) (root (polynomial_discrete k a (K c).𝟘) null) ∙ sym (zero_over c h.bottom h.not_null)
+      (over_same c (row_of c (pow (K c).ops a m)) (row_zero (K c).ops (suc c.lower_degree)) (pow (K c).ops h.bottom m)
+      (K c).𝟙 (power_some h.bottom h.not_null m) (one_some c)
+      (ap (λ v. over c v (pow (K c).ops h.bottom m) (power_some h.bottom h.not_null m))
+      (image_power (K c) (R c) (row_of c) (row_hom c) m a)
+      ∙ sym (power_over (row_of c a) h.bottom h.not_null m) ∙ ap (λ t. pow F.ops t m) (sym h.value) ∙ e
+      ∙ zero_over c (K c).𝟙 (one_some c))) in
+      h.value ∙ ap (λ a. over c (row_of c a) h.bottom h.not_null) (root (polynomial_discrete k a (K c).𝟘) null)
+      ∙ sym (zero_over c h.bottom h.not_null)
     where
       root : {a : Polynomial k} → Dec (a ≡ (K c).𝟘) → pow (K c).ops a m ≡ (K c).𝟘 → a ≡ (K c).𝟘
       root (yes f) g = f
       root {a} (no n) g = absurd (power_some a n m g)
 
       first : (b : Polynomial k) → row_scale (K c).ops (suc c.lower_degree) (K c).𝟙 (row_of c b)
-          ≡ row_scale (K c).ops (suc c.lower_degree) (pow (K c).ops h.bottom m) (row_zero (K c).ops (suc c.lower_degree)) → b ≡ (K c).𝟘
-      first b g = ap (λ r. r.0) (sym (row_scale_one (K c) (suc c.lower_degree) (row_of c b)) ∙ g ∙ row_scale_zero (K c) (suc c.lower_degree) (pow (K c).ops h.bottom m))
+          ≡ row_scale (K c).ops (suc c.lower_degree) (pow (K c).ops h.bottom m)
+          (row_zero (K c).ops (suc c.lower_degree)) → b ≡ (K c).𝟘
+      first b g = ap (λ r. r.0) (sym (row_scale_one (K c) (suc c.lower_degree) (row_of c b)) ∙ g
+          ∙ row_scale_zero (K c) (suc c.lower_degree) (pow (K c).ops h.bottom m))

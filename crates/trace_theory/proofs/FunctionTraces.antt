@@ -37,7 +37,8 @@ module _ {k : CodeField} (c : Equation k) where
   abbrev pub one_some : ¬ ((polynomials k).𝟙 ≡ (polynomials k).𝟘)
   one_some = (polynomials_domain k).one_not_zero
 
-  pub over_product : (v w : Row (Polynomial k) (suc c.lower_degree)) (d e : Polynomial k) (n : ¬ (d ≡ K.𝟘)) (m : ¬ (e ≡ K.𝟘))
+  pub over_product : (v w : Row (Polynomial k) (suc c.lower_degree)) (d e : Polynomial k) (n : ¬ (d ≡ K.𝟘))
+      (m : ¬ (e ≡ K.𝟘))
       → over c v d n ⊗ over c w e m ≡ over c (R.◌⊗◌ v w) (K.◌⊗◌ d e) (bottoms_not_zero c d e n m)
   unfolding pair_mul
   over_product v w d e n m =
@@ -46,9 +47,11 @@ module _ {k : CodeField} (c : Equation k) where
       (mul_rows c (record { num = v; den = d; den_not_zero = n }) (record { num = w; den = e; den_not_zero = m }))
       (record { num = R.◌⊗◌ v w; den = K.◌⊗◌ d e; den_not_zero = bottoms_not_zero c d e n m }) refl
 
-  pub over_sum : (v w : Row (Polynomial k) (suc c.lower_degree)) (d e : Polynomial k) (n : ¬ (d ≡ K.𝟘)) (m : ¬ (e ≡ K.𝟘))
+  pub over_sum : (v w : Row (Polynomial k) (suc c.lower_degree)) (d e : Polynomial k) (n : ¬ (d ≡ K.𝟘))
+      (m : ¬ (e ≡ K.𝟘))
       → over c v d n ⊕ over c w e m
-      ≡ over c (R.◌⊕◌ (row_scale K.ops (suc c.lower_degree) e v) (row_scale K.ops (suc c.lower_degree) d w)) (K.◌⊗◌ d e) (bottoms_not_zero c d e n m)
+      ≡ over c (R.◌⊕◌ (row_scale K.ops (suc c.lower_degree) e v) (row_scale K.ops (suc c.lower_degree) d w)) (K.◌⊗◌ d e)
+      (bottoms_not_zero c d e n m)
   unfolding pair_add
   over_sum v w d e n m =
       add_function c (record { num = v; den = d; den_not_zero = n }) (record { num = w; den = e; den_not_zero = m })
@@ -62,12 +65,17 @@ module _ {k : CodeField} (c : Equation k) where
 
   -- v/d is w/e where e·v is d·w
   pub over_eq : (v w : Row (Polynomial k) (suc c.lower_degree)) (d e : Polynomial k) (n : ¬ (d ≡ K.𝟘)) (m : ¬ (e ≡ K.𝟘))
-      → row_scale K.ops (suc c.lower_degree) e v ≡ row_scale K.ops (suc c.lower_degree) d w → over c v d n ≡ over c w e m
-  over_eq v w d e n m h = function_eq c (record { num = v; den = d; den_not_zero = n }) (record { num = w; den = e; den_not_zero = m }) h
+      → row_scale K.ops (suc c.lower_degree) e v ≡ row_scale K.ops (suc c.lower_degree) d w
+      → over c v d n ≡ over c w e m
+  over_eq v w d e n m h = function_eq c (record { num = v; den = d; den_not_zero = n })
+      (record { num = w; den = e; den_not_zero = m }) h
 
-  pub over_same : (v w : Row (Polynomial k) (suc c.lower_degree)) (d e : Polynomial k) (n : ¬ (d ≡ K.𝟘)) (m : ¬ (e ≡ K.𝟘))
-      → over c v d n ≡ over c w e m → row_scale K.ops (suc c.lower_degree) e v ≡ row_scale K.ops (suc c.lower_degree) d w
-  over_same v w d e n m h = function_same c (record { num = v; den = d; den_not_zero = n }) (record { num = w; den = e; den_not_zero = m }) h
+  pub over_same : (v w : Row (Polynomial k) (suc c.lower_degree)) (d e : Polynomial k) (n : ¬ (d ≡ K.𝟘))
+      (m : ¬ (e ≡ K.𝟘))
+      → over c v d n ≡ over c w e m → row_scale K.ops (suc c.lower_degree) e v
+      ≡ row_scale K.ops (suc c.lower_degree) d w
+  over_same v w d e n m h = function_same c (record { num = v; den = d; den_not_zero = n })
+      (record { num = w; den = e; den_not_zero = m }) h
 
   pub y_power : (i : ℕ) → pow (ring_of c).ops (y_of c) i ≡ over c (Y i) K.𝟙 one_some
   unfolding whole_pair y_to row_one
@@ -81,9 +89,11 @@ module _ {k : CodeField} (c : Equation k) where
   trace_over v d n = trace_function c (record { num = v; den = d; den_not_zero = n })
 
   -- a·v for a polynomial a
-  pub row_of_times : (a : Polynomial k) (v : Row (Polynomial k) (suc c.lower_degree)) → R.◌⊗◌ (row_of c a) v ≡ row_scale K.ops (suc c.lower_degree) a v
+  pub row_of_times : (a : Polynomial k) (v : Row (Polynomial k) (suc c.lower_degree))
+      → R.◌⊗◌ (row_of c a) v ≡ row_scale K.ops (suc c.lower_degree) a v
   row_of_times a v =
-      ap (λ u. R.◌⊗◌ u v) (row_of_scale c a) ∙ sym (scale_row_mul K c.lower_degree c.coefficients a (row_one K c.lower_degree) v)
+      ap (λ u. R.◌⊗◌ u v) (row_of_scale c a)
+      ∙ sym (scale_row_mul K c.lower_degree c.coefficients a (row_one K c.lower_degree) v)
       ∙ ap (row_scale K.ops (suc c.lower_degree) a) (one_mul R v)
 
   -- each function is a row over a polynomial
@@ -94,7 +104,8 @@ module _ {k : CodeField} (c : Equation k) where
     pub is : z ≡ over c num den not_zero
 
   pub as_row : (z : FunctionOf c) → AsRow z
-  as_row z = let p = row_of_function c z in record { num = p.0.num; den = p.0.den; not_zero = p.0.den_not_zero; is = sym p.1 }
+  as_row z = let p = row_of_function c z in record
+      { num = p.0.num; den = p.0.den; not_zero = p.0.den_not_zero; is = sym p.1 }
 
   pub trace_rational : (z : FunctionOf c) → IsRational c (trace_of c z)
   trace_rational z = let r = as_row z in record {
@@ -113,9 +124,11 @@ module _ {k : CodeField} (c : Equation k) where
       ∙ trace_over _ _ _
       ∙ ap (λ a. over c (row_of c a) (K.◌⊗◌ r.den s.den) (bottoms_not_zero c r.den s.den r.not_zero s.not_zero))
       (trace_add K c.lower_degree c.coefficients _ _
-      ∙ ap₂ K.◌⊕◌ (trace_scale K c.lower_degree c.coefficients s.den r.num) (trace_scale K c.lower_degree c.coefficients r.den s.num))
+      ∙ ap₂ K.◌⊕◌ (trace_scale K c.lower_degree c.coefficients s.den r.num)
+      (trace_scale K c.lower_degree c.coefficients r.den s.num))
       ∙ sym (over_plus c (Tr r.num) (Tr s.num) r.den s.den r.not_zero s.not_zero)
-      ∙ sym (ap₂ ◌⊕◌ (ap (trace_of c) r.is ∙ trace_over r.num r.den r.not_zero) (ap (trace_of c) s.is ∙ trace_over s.num s.den s.not_zero))
+      ∙ sym (ap₂ ◌⊕◌ (ap (trace_of c) r.is ∙ trace_over r.num r.den r.not_zero)
+      (ap (trace_of c) s.is ∙ trace_over s.num s.den s.not_zero))
 
   pub trace_linear : (a b : Polynomial k) (n : ¬ (b ≡ K.𝟘)) (z : FunctionOf c)
       → trace_of c (over c (row_of c a) b n ⊗ z) ≡ over c (row_of c a) b n ⊗ trace_of c z
@@ -131,26 +144,31 @@ module _ {k : CodeField} (c : Equation k) where
 
   pub trace_times : (q z : FunctionOf c) → IsRational c q → trace_of c (q ⊗ z) ≡ q ⊗ trace_of c z
   trace_times q z h =
-      ap (λ u. trace_of c (u ⊗ z)) h.value ∙ trace_linear h.top h.bottom h.not_null z ∙ ap (λ u. u ⊗ trace_of c z) (sym h.value)
+      ap (λ u. trace_of c (u ⊗ z)) h.value ∙ trace_linear h.top h.bottom h.not_null z
+      ∙ ap (λ u. u ⊗ trace_of c z) (sym h.value)
 
   of_ones : (m : ℕ) → of_poly c (sum_below K.ops m (λ i. K.𝟙)) ≡ nat (ring_of c).ops m
   of_ones zero = sym (of_poly_zero c)
   of_ones (suc m) =
-      sym (of_poly_plus c (sum_below K.ops m (λ i. K.𝟙)) K.𝟙) ∙ ap₂ ◌⊕◌ (of_ones m) (sym (of_poly_one c)) ∙ (ring_of c).add_comm _ _
+      sym (of_poly_plus c (sum_below K.ops m (λ i. K.𝟙)) K.𝟙) ∙ ap₂ ◌⊕◌ (of_ones m) (sym (of_poly_one c))
+      ∙ (ring_of c).add_comm _ _
 
   pub trace_of_one : trace_of c 𝟙 ≡ nat (ring_of c).ops (degree_of_y c)
   trace_of_one =
       ap (trace_of c) (y_power 0) ∙ trace_over (Y 0) K.𝟙 one_some
-      ∙ ap (λ a. of_poly c a) (ap Tr (y_zero K c.lower_degree c.coefficients) ∙ trace_unit K c.lower_degree c.coefficients)
+      ∙ ap (λ a. of_poly c a) (ap Tr (y_zero K c.lower_degree c.coefficients)
+      ∙ trace_unit K c.lower_degree c.coefficients)
       ∙ of_ones (suc c.lower_degree)
 
   -- a/d is the polynomial b exactly where a is d·b
-  pub polynomial_value : (a b d : Polynomial k) (n : ¬ (d ≡ K.𝟘)) → over c (row_of c a) d n ≡ of_poly c b → a ≡ K.◌⊗◌ d b
+  pub polynomial_value : (a b d : Polynomial k) (n : ¬ (d ≡ K.𝟘)) → over c (row_of c a) d n ≡ of_poly c b
+      → a ≡ K.◌⊗◌ d b
   unfolding row_scale
   polynomial_value a b d n e =
       sym (one_mul K a) ∙ ap (λ r. r.0) (over_same (row_of c a) (row_of c b) d K.𝟙 n one_some e)
 
-  pub value_polynomial : (a b d : Polynomial k) (n : ¬ (d ≡ K.𝟘)) → a ≡ K.◌⊗◌ d b → over c (row_of c a) d n ≡ of_poly c b
+  pub value_polynomial : (a b d : Polynomial k) (n : ¬ (d ≡ K.𝟘)) → a ≡ K.◌⊗◌ d b
+      → over c (row_of c a) d n ≡ of_poly c b
   unfolding row_scale
   value_polynomial a b d n e =
       over_eq (row_of c a) (row_of c b) d K.𝟙 n one_some
@@ -163,5 +181,6 @@ module _ {k : CodeField} (c : Equation k) where
       ap (λ u. trace_of c (over c v d n ⊗ u)) (y_power i)
       ∙ ap (trace_of c) (over_product v (Y i) d K.𝟙 n one_some)
       ∙ trace_over _ _ _
-      ∙ over_eq (row_of c (Tr (R.◌⊗◌ v (Y i)))) (row_of c (Tr (R.◌⊗◌ v (Y i)))) (K.◌⊗◌ d K.𝟙) d (bottoms_not_zero c d K.𝟙 n one_some) n
+      ∙ over_eq (row_of c (Tr (R.◌⊗◌ v (Y i)))) (row_of c (Tr (R.◌⊗◌ v (Y i)))) (K.◌⊗◌ d K.𝟙) d
+      (bottoms_not_zero c d K.𝟙 n one_some) n
       (ap (λ e. row_scale K.ops (suc c.lower_degree) e (row_of c (Tr (R.◌⊗◌ v (Y i))))) (sym (K.mul_one d)))

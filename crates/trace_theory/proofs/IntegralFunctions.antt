@@ -24,7 +24,8 @@ use Rattle.trace_theory.proofs.IntegralTraces.{Cleared}
 
 module _ (k : CodeField) where
   -- powers of a longer polynomial are longer, by one for each factor
-  pub power_gap : (a b : Polynomial k) → ¬ (a ≡ (polynomials k).𝟘) → ¬ (b ≡ (polynomials k).𝟘) → length b.0 < length a.0 → (m : ℕ)
+  pub power_gap : (a b : Polynomial k) → ¬ (a ≡ (polynomials k).𝟘) → ¬ (b ≡ (polynomials k).𝟘) → length b.0 < length a.0
+      → (m : ℕ)
       → (¬ (pow (polynomials k).ops a m ≡ (polynomials k).𝟘)) × (¬ (pow (polynomials k).ops b m ≡ (polynomials k).𝟘))
       × (length (pow (polynomials k).ops b m).0 + m ≤ length (pow (polynomials k).ops a m).0)
   power_gap a b n n' l zero = ((polynomials_domain k).one_not_zero, (polynomials_domain k).one_not_zero, omega arith)
@@ -55,7 +56,8 @@ module _ {k : CodeField} (c : Equation k) where
       → over c (row_of c a) d n ≡ over c (row_of c b) e m
   unfolding row_scale
   fraction_eq a b d e n m h =
-      over_eq c (row_of c a) (row_of c b) d e n m (pair_path h (row_scale_zero (K c) c.lower_degree e ∙ sym (row_scale_zero (K c) c.lower_degree d)))
+      over_eq c (row_of c a) (row_of c b) d e n m
+      (pair_path h (row_scale_zero (K c) c.lower_degree e ∙ sym (row_scale_zero (K c) c.lower_degree d)))
 
   pub fraction_same : (a b d e : Polynomial k) (n : ¬ (d ≡ (K c).𝟘)) (m : ¬ (e ≡ (K c).𝟘))
       → over c (row_of c a) d n ≡ over c (row_of c b) e m → (K c).◌⊗◌ e a ≡ (K c).◌⊗◌ d b
@@ -63,10 +65,12 @@ module _ {k : CodeField} (c : Equation k) where
   fraction_same a b d e n m h = ap (λ r. r.0) (over_same c (row_of c a) (row_of c b) d e n m h)
 
   pub fraction_power : (a d : Polynomial k) (n : ¬ (d ≡ (K c).𝟘)) (m : ℕ)
-      → pow F.ops (over c (row_of c a) d n) m ≡ over c (row_of c (pow (K c).ops a m)) (pow (K c).ops d m) (power_some c d n m)
+      → pow F.ops (over c (row_of c a) d n) m
+      ≡ over c (row_of c (pow (K c).ops a m)) (pow (K c).ops d m) (power_some c d n m)
   fraction_power a d n m =
       power_over c (row_of c a) d n m
-      ∙ ap (λ v. over c v (pow (K c).ops d m) (power_some c d n m)) (sym (image_power (K c) (R c) (row_of c) (row_hom c) m a))
+      ∙ ap (λ v. over c v (pow (K c).ops d m) (power_some c d n m))
+      (sym (image_power (K c) (R c) (row_of c) (row_hom c) m a))
 
   -- the scalars of a side are rational functions, and each rational function is cleared by one of them
   pub scalar_rational : (s : Side) (z : FunctionOf c) → IsScalar c s z → IsRational c z
@@ -77,10 +81,18 @@ module _ {k : CodeField} (c : Equation k) where
       → length ((K c).◌⊗◌ (K c).𝟙 a).0 ≤ length ((K c).◌⊗◌ (pow (K c).ops (x_poly k) m) b).0
   short_fraction a b m l n =
       subst (λ p. length p.0 ≤ length ((K c).◌⊗◌ (pow (K c).ops (x_poly k) m) b).0) (sym (one_mul (K c) a))
-      (omega (arith, l, x_power_long k m, some_long k b n, length_product (code_ring k) (code_domain k) (pow (K c).ops (x_poly k) m) b (x_power_not_zero k m) n))
+      (omega (
+        arith,
+        l,
+        x_power_long k m,
+        some_long k b n,
+        length_product (code_ring k) (code_domain k)
+            (pow (K c).ops (x_poly k) m) b (x_power_not_zero k m) n,
+      ))
 
   pub rational_cleared : (s : Side) (t : FunctionOf c) → IsRational c t
-      → Cleared F (IsScalar c s) (scalars_subring c s) (trace_of c) (trace_plus c) (λ a z h. trace_times c a z (scalar_rational s a h)) t
+      → Cleared F (IsScalar c s) (scalars_subring c s) (trace_of c) (trace_plus c)
+      (λ a z h. trace_times c a z (scalar_rational s a h)) t
   rational_cleared Finite t h = record {
     factor = of_poly c h.bottom;
     factor_in = record { polynomial = h.bottom; value = refl };
@@ -110,14 +122,18 @@ module _ {k : CodeField} (c : Equation k) where
           bottom = (K c).◌⊗◌ X h.bottom;
           not_null = bottoms_not_zero c X h.bottom X_some h.not_null;
           degrees = short_fraction h.top h.bottom (length h.top.0) (le_refl _) h.not_null;
-          value = ap (λ t. over c (row_of c (K c).𝟙) X X_some ⊗ t) h.value ∙ over_times c (K c).𝟙 h.top X h.bottom X_some h.not_null;
+          value = ap (λ t. over c (row_of c (K c).𝟙) X X_some ⊗ t) h.value
+              ∙ over_times c (K c).𝟙 h.top X h.bottom X_some h.not_null;
         };
       }
     where
-      one_length : (p : Polynomial k) → p ≡ (K c).𝟙 → suc (length ((K c).◌⊗◌ p p).0) ≡ length p.0 + length p.0 → length p.0 ≤ 1
-      one_length p e f = let g : length ((K c).◌⊗◌ p p).0 ≡ length p.0 = ap (λ r. length r.0) (ap ((K c).◌⊗◌ p) e ∙ (K c).mul_one p) in omega arith
+      one_length : (p : Polynomial k) → p ≡ (K c).𝟙 → suc (length ((K c).◌⊗◌ p p).0) ≡ length p.0 + length p.0
+          → length p.0 ≤ 1
+      one_length p e f = let g : length ((K c).◌⊗◌ p p).0
+          ≡ length p.0 = ap (λ r. length r.0) (ap ((K c).◌⊗◌ p) e ∙ (K c).mul_one p) in omega arith
 
       one_short : (m : ℕ) → length (K c).𝟙.0 ≤ length (pow (K c).ops (x_poly k) m).0
       one_short m =
-          let a = one_length (K c).𝟙 refl (length_product (code_ring k) (code_domain k) (K c).𝟙 (K c).𝟙 (one_some c) (one_some c)) in
+          let a = one_length (K c).𝟙 refl
+          (length_product (code_ring k) (code_domain k) (K c).𝟙 (K c).𝟙 (one_some c) (one_some c)) in
           omega (arith, a, x_power_long k m)

@@ -1,4 +1,5 @@
--- The norm of a row, the determinant of its matrix: it is multiplicative, and that of 1 + a·v is 1 + a·(the trace of v) up to a multiple of a².
+-- The norm of a row, the determinant of its matrix: it is multiplicative, and that of 1 + a·v is 1 + a·(the trace of v)
+-- up to a multiple of a².
 use native.Mathlib.Decide.{ℕ_discrete}
 use Rattle.std.proofs.Common.{◌≡◌, ℕ, zero, suc, ◌<◌, refl, sym, ◌∙◌, ap, ap₂}
 use Rattle.ring_lemmas.specs.Ring.{CommRing, pow}
@@ -29,7 +30,8 @@ module _ {P : Type 0} (S : CommRing P) (n : ℕ) (f : Row P (suc n)) where
 
   pub norm_mul : (v w : Row P (suc n)) → norm ((rows S n f).◌⊗◌ v w) ≡ norm v ⊗ norm w
   norm_mul v w =
-      determinant_cong S (suc n) _ (matrix_product S.ops (suc n) (matrix S n f w) (matrix S n f v)) (λ i j k l. matrix_mul S n f v w i j)
+      determinant_cong S (suc n) _ (matrix_product S.ops (suc n) (matrix S n f w) (matrix S n f v))
+      (λ i j k l. matrix_mul S n f v w i j)
       ∙ determinant_product S (suc n) _ _ ∙ S.mul_comm _ _
 
   ones : (m : ℕ) → product_below S.ops m (λ i. 𝟙) ≡ 𝟙
@@ -39,14 +41,16 @@ module _ {P : Type 0} (S : CommRing P) (n : ℕ) (f : Row P (suc n)) where
   pub norm_one : norm (rows S n f).𝟙 ≡ 𝟙
   unfolding matrix
   norm_one =
-      determinant_cong S (suc n) _ (diagonal S.ops (λ i. 𝟙)) (λ i j k l. ap (at S n f j) (one_mul (rows S n f) (y S n f i)) ∙ at_power i j k)
+      determinant_cong S (suc n) _ (diagonal S.ops (λ i. 𝟙))
+      (λ i j k l. ap (at S n f j) (one_mul (rows S n f) (y S n f i)) ∙ at_power i j k)
       ∙ diagonal_determinant S (suc n) (λ i. 𝟙) ∙ ones (suc n)
 
   pub norm_power : (v : Row P (suc n)) (m : ℕ) → norm (pow (rows S n f).ops v m) ≡ pow S.ops (norm v) m
   norm_power v zero = norm_one
   norm_power v (suc m) = norm_mul v _ ∙ ap (λ x. norm v ⊗ x) (norm_power v m)
 
-  pub norm_near : (a : P) (v : Row P (suc n)) → Near S a (norm ((rows S n f).◌⊕◌ (rows S n f).𝟙 (row_scale S.ops (suc n) a v))) (tr S n f v)
+  pub norm_near : (a : P) (v : Row P (suc n))
+      → Near S a (norm ((rows S n f).◌⊕◌ (rows S n f).𝟙 (row_scale S.ops (suc n) a v))) (tr S n f v)
   unfolding matrix
   norm_near a v =
       let r = near_one S (suc n) a (matrix S n f v) in
@@ -58,7 +62,8 @@ module _ {P : Type 0} (S : CommRing P) (n : ℕ) (f : Row P (suc n)) where
       }
     where
       entries : (i j : ℕ) → i < suc n → j < suc n
-          → matrix S n f ((rows S n f).◌⊕◌ (rows S n f).𝟙 (row_scale S.ops (suc n) a v)) i j ≡ near S a (matrix S n f v) i j
+          → matrix S n f ((rows S n f).◌⊕◌ (rows S n f).𝟙 (row_scale S.ops (suc n) a v)) i j
+          ≡ near S a (matrix S n f v) i j
       entries i j k l =
           ap (at S n f j) (add_mul (rows S n f) (rows S n f).𝟙 (row_scale S.ops (suc n) a v) (y S n f i))
           ∙ entry_add S (suc n) j _ _

@@ -1,4 +1,5 @@
--- The q-th power of a sum of rows of polynomials is the sum of the q-th powers, q being the number of codes of the field.
+-- The q-th power of a sum of rows of polynomials is the sum of the q-th powers, q being the number of codes of the
+-- field.
 use Rattle.std.proofs.Common.{◌≡◌, ℕ, suc, ◌-◌, ◌≤◌, inl, inr, List, [], ◌∷◌, length, All, refl, sym, ◌∙◌, ap, arith}
 use Rattle.std.proofs.lemmas.List.Elements.{All-nil, All-cons}
 use Rattle.ring_lemmas.specs.Ring.{CommRing, pow}
@@ -63,7 +64,8 @@ module _ (k : CodeField) where
   pub size_some : 1 ≤ size_less
   unfolding size_less
   size_some =
-      two_codes (code_finite k).codes ((code_finite k).codes_all (code_ring k).𝟘) ((code_finite k).codes_all (code_ring k).𝟙)
+      two_codes (code_finite k).codes ((code_finite k).codes_all (code_ring k).𝟘)
+      ((code_finite k).codes_all (code_ring k).𝟙)
 
   code_power : (a : Code k) → pow (code_ring k).ops a q ≡ a
   code_power a = ap (pow (code_ring k).ops a) (sym length_codes) ∙ (code_finite k).power a
@@ -72,13 +74,16 @@ module _ (k : CodeField) where
   pub power_add : {B : Type 0} (S : CommRing B) (e : Code k → B) → IsHom (code_ring k).ring S e → (a b : B)
       → pow S.ops (S.◌⊕◌ a b) q ≡ S.◌⊕◌ (pow S.ops a q) (pow S.ops b q)
   power_add S e h a b =
-      frobenius codes size_less (code_finite k).codes (distinct (code_finite k).codes (code_finite k).codes_distinct) length_codes
+      frobenius codes size_less (code_finite k).codes (distinct (code_finite k).codes (code_finite k).codes_distinct)
+      length_codes
       (every (λ c. pow (code_ring k).ops c q ≡ c) code_power (code_finite k).codes)
-      (every (λ c. pow (code_ring k).ops ((code_ring k).◌⊕◌ c (code_ring k).𝟙) q ≡ (code_ring k).◌⊕◌ c (code_ring k).𝟙) (λ c. code_power _) (code_finite k).codes)
+      (every (λ c. pow (code_ring k).ops ((code_ring k).◌⊕◌ c (code_ring k).𝟙) q ≡ (code_ring k).◌⊕◌ c (code_ring k).𝟙)
+      (λ c. code_power _) (code_finite k).codes)
       S e (record { zero_is = hom_zero (code_ring k).ring S e h; one_is = h.𝟙; sum_is = h.add; product_is = h.mul }) a b
 
   pub polynomial_power_add : (a b : Polynomial k)
-      → pow (polynomials k).ops ((polynomials k).◌⊕◌ a b) q ≡ (polynomials k).◌⊕◌ (pow (polynomials k).ops a q) (pow (polynomials k).ops b q)
+      → pow (polynomials k).ops ((polynomials k).◌⊕◌ a b) q
+      ≡ (polynomials k).◌⊕◌ (pow (polynomials k).ops a q) (pow (polynomials k).ops b q)
   polynomial_power_add a b = power_add (polynomials k).ring (constant (code_ring k)) (constant_hom (code_ring k)) a b
 
 module _ {k : CodeField} (c : Equation k) where
@@ -94,4 +99,5 @@ module _ {k : CodeField} (c : Equation k) where
       → pow (R c).ops ((R c).◌⊕◌ v w) (q k) ≡ (R c).◌⊕◌ (pow (R c).ops v (q k)) (pow (R c).ops w (q k))
   row_power_add v w =
       power_add k (R c) (λ a. row_of c (constant (code_ring k) a))
-      (hom_after (code_ring k).ring (K c) (R c) (constant (code_ring k)) (row_of c) (constant_hom (code_ring k)) row_hom) v w
+      (hom_after (code_ring k).ring (K c) (R c) (constant (code_ring k)) (row_of c) (constant_hom (code_ring k))
+      row_hom) v w

@@ -1,4 +1,5 @@
--- Rows whose products with the powers of y have multiples of d as traces: the discriminant times such a row is a multiple of d.
+-- Rows whose products with the powers of y have multiples of d as traces: the discriminant times such a row is a
+-- multiple of d.
 use native.Mathlib.Decide.{ℕ_discrete}
 use Rattle.std.proofs.Common.{◌≡◌, ℕ, zero, suc, ◌<◌, ◌+◌, refl, sym, ◌∙◌, ap, arith}
 use Rattle.ring_lemmas.specs.Ring.{CommRing, IsDomain}
@@ -53,23 +54,27 @@ module _ {P : Type 0} (S : CommRing P) (n : ℕ) (f : Row P (suc n)) where
     entry_form i l =
         sym (cramer S (suc n) i l (λ k. at S n f k v) gram)
         ∙ determinant_cong S (suc n) _ (with_row i (λ j. d ⊗ t j) gram)
-        (λ r c k k'. with_row_cong (suc n) i (λ c. sum_below S.ops (suc n) (λ j. at S n f j v ⊗ gram j c)) (λ j. d ⊗ t j) gram
+        (λ r c k k'. with_row_cong (suc n) i (λ c. sum_below S.ops (suc n) (λ j. at S n f j v ⊗ gram j c))
+        (λ j. d ⊗ t j) gram
         (λ c b. sym (trace_form S n f v c) ∙ traces c b) r c k')
         ∙ scaled_row S (suc n) i l d t gram
 
     pub row_form : row_scale S.ops (suc n) disc v ≡ row_scale S.ops (suc n) d (row_with S (suc n) (replaced t))
     row_form =
         row_by_entries S (suc n) _ _ (λ i l.
-        at_scale S n f i disc v ∙ S.mul_comm _ _ ∙ entry_form i l ∙ ap (λ x. d ⊗ x) (sym (entry_with S (suc n) i (replaced t) l))
+        at_scale S n f i disc v ∙ S.mul_comm _ _ ∙ entry_form i l
+        ∙ ap (λ x. d ⊗ x) (sym (entry_with S (suc n) i (replaced t) l))
         ∙ sym (at_scale S n f i d _))
 
     -- where also the trace of v² is d²·s, the square of v_i times the discriminant is a multiple of d²
-    module _ (domain : IsDomain S.ops) (d_some : ¬ (d ≡ 𝟘)) (s : P) (square : tr S n f ((rows S n f).◌⊗◌ v v) ≡ d ⊗ (d ⊗ s)) where
+    module _ (domain : IsDomain S.ops) (d_some : ¬ (d ≡ 𝟘)) (s : P)
+        (square : tr S n f ((rows S n f).◌⊗◌ v v) ≡ d ⊗ (d ⊗ s)) where
       inner : sum_below S.ops (suc n) (λ j. at S n f j v ⊗ t j) ≡ d ⊗ s
       inner =
           domain_cancel S domain d _ _ d_some
           (sym (below_scale S (suc n) d _)
-          ∙ below_cong S (suc n) _ _ (λ j l. mul_left_comm S d (at S n f j v) (t j) ∙ ap (λ x. at S n f j v ⊗ x) (sym (traces j l)))
+          ∙ below_cong S (suc n) _ _ (λ j l. mul_left_comm S d (at S n f j v) (t j)
+          ∙ ap (λ x. at S n f j v ⊗ x) (sym (traces j l)))
           ∙ sym (trace_product S n f v v) ∙ square)
 
       abbrev H : ℕ → ℕ → ℕ → P
@@ -102,7 +107,8 @@ module _ {P : Type 0} (S : CommRing P) (n : ℕ) (f : Row P (suc n)) where
                 ∙ sym (cramer S (suc n) i l (λ k. at S n f k v) (λ r c. H i c r))
                 ∙ determinant_cong S (suc n) _ (with_row i (λ c. d ⊗ u c) (λ r c. H i c r))
                 (λ r c k b.
-                with_row_cong (suc n) i (λ c. sum_below S.ops (suc n) (λ j. at S n f j v ⊗ H i c j)) (λ c. d ⊗ u c) (λ r c. H i c r)
+                with_row_cong (suc n) i (λ c. sum_below S.ops (suc n) (λ j. at S n f j v ⊗ H i c j)) (λ c. d ⊗ u c)
+                (λ r c. H i c r)
                 (λ c b. times_column i c l b (ℕ_discrete c i)) r c b)
                 ∙ scaled_row S (suc n) i l d u (λ r c. H i c r)),
           )

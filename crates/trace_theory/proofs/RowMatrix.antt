@@ -35,7 +35,8 @@ module _ {P : Type 0} (S : CommRing P) where
   entry_other (suc n) zero (suc j) ne = refl
   entry_other (suc n) (suc i) (suc j) ne = entry_other n i j (λ e. ne (ap suc e))
 
-  pub entry_add : (n i : ℕ) (v w : Row P n) → entry S.ops n i (row_add S.ops n v w) ≡ S.◌⊕◌ (entry S.ops n i v) (entry S.ops n i w)
+  pub entry_add : (n i : ℕ) (v w : Row P n)
+      → entry S.ops n i (row_add S.ops n v w) ≡ S.◌⊕◌ (entry S.ops n i v) (entry S.ops n i w)
   unfolding entry row_add
   entry_add zero i v w = sym (S.add_zero S.𝟘)
   entry_add (suc n) zero (a, v) (b, w) = refl
@@ -45,7 +46,8 @@ module _ {P : Type 0} (S : CommRing P) where
   pub row_by_entries : (n : ℕ) (v w : Row P n) → ((i : ℕ) → i < n → entry S.ops n i v ≡ entry S.ops n i w) → v ≡ w
   unfolding entry
   row_by_entries zero v w h = refl
-  row_by_entries (suc n) (a, v) (b, w) h = pair_path (h 0 (omega arith)) (row_by_entries n v w (λ i l. h (suc i) (omega arith)))
+  row_by_entries (suc n) (a, v) (b, w) h = pair_path (h 0 (omega arith))
+      (row_by_entries n v w (λ i l. h (suc i) (omega arith)))
 
   -- the row with given entries
   unfoldable pub row_with : (n : ℕ) → (ℕ → P) → Row P n
@@ -108,7 +110,8 @@ module _ {P : Type 0} (S : CommRing P) (n : ℕ) (f : Row P (suc n)) where
   times_unit : (i : ℕ) → suc i < suc n → times_y S.ops (suc n) f (unit_row S (suc n) i) ≡ unit_row S (suc n) (suc i)
   unfolding times_y
   times_unit i l =
-      ap₂ (λ s t. row_add S.ops (suc n) s (row_scale S.ops (suc n) (S.⊖◌ t) f)) (shift_unit S (suc n) i) (top_unit S (suc n) i l)
+      ap₂ (λ s t. row_add S.ops (suc n) s (row_scale S.ops (suc n) (S.⊖◌ t) f)) (shift_unit S (suc n) i)
+      (top_unit S (suc n) i l)
       ∙ ap (λ t. row_add S.ops (suc n) (unit_row S (suc n) (suc i)) (row_scale S.ops (suc n) t f)) (neg_zero S)
       ∙ ap (row_add S.ops (suc n) (unit_row S (suc n) (suc i))) (row_zero_scale S (suc n) f)
       ∙ row_add_zero S (suc n) (unit_row S (suc n) (suc i))
@@ -151,7 +154,8 @@ module _ {P : Type 0} (S : CommRing P) (n : ℕ) (f : Row P (suc n)) where
     map_times (suc m) (a, v) e =
         add _ _
         ∙ ap₂ ◌⊕◌ (scale a (y e) ∙ ap (λ k. a ⊗ g (y k)) (let q : e ≡ e + 0 = omega arith in q))
-        (ap g (sym (times_times_y S (suc n) f m v (y e)) ∙ ap (row_times S.ops (suc n) m f v) (y_next e)) ∙ map_times m v (suc e)
+        (ap g (sym (times_times_y S (suc n) f m v (y e)) ∙ ap (row_times S.ops (suc n) m f v) (y_next e))
+        ∙ map_times m v (suc e)
         ∙ below_cong S m (λ i. entry S.ops m i v ⊗ g (y (suc e + i))) (λ i. entry S.ops m i v ⊗ g (y (e + suc i)))
         (λ i l. ap (λ k. entry S.ops m i v ⊗ g (y k)) (let q : suc e + i ≡ e + suc i = omega arith in q)))
         ∙ sym (below_first S m (λ i. entry S.ops (suc m) i (a, v) ⊗ g (y (e + i))))
@@ -179,11 +183,13 @@ module _ {P : Type 0} (S : CommRing P) (n : ℕ) (f : Row P (suc n)) where
   unfolding row_trace
   trace_is v = diagonal_is (suc n) v
 
-  right_scale : (d : P) (v u : Row P (suc n)) → rows.◌⊗◌ v (row_scale S.ops (suc n) d u) ≡ row_scale S.ops (suc n) d (rows.◌⊗◌ v u)
+  right_scale : (d : P) (v u : Row P (suc n))
+      → rows.◌⊗◌ v (row_scale S.ops (suc n) d u) ≡ row_scale S.ops (suc n) d (rows.◌⊗◌ v u)
   unfolding row_mul
   right_scale d v u = times_scale S (suc n) f (suc n) d v u
 
-  pub matrix_mul : (v w : Row P (suc n)) (i j : ℕ) → matrix (rows.◌⊗◌ v w) i j ≡ matrix_product S.ops (suc n) (matrix w) (matrix v) i j
+  pub matrix_mul : (v w : Row P (suc n)) (i j : ℕ)
+      → matrix (rows.◌⊗◌ v w) i j ≡ matrix_product S.ops (suc n) (matrix w) (matrix v) i j
   unfolding matrix
   matrix_mul v w i j =
       ap (at j) (rows.mul_assoc v w (y i))
@@ -196,20 +202,25 @@ module _ {P : Type 0} (S : CommRing P) (n : ℕ) (f : Row P (suc n)) where
   unfolding matrix
   trace_add v w =
       trace_is (rows.◌⊕◌ v w)
-      ∙ below_cong S (suc n) _ _ (λ i l. ap (at i) (rows.mul_comm _ _ ∙ rows.mul_add (y i) v w ∙ ap₂ rows.◌⊕◌ (rows.mul_comm _ _) (rows.mul_comm _ _)) ∙ entry_add S (suc n) i _ _)
+      ∙ below_cong S (suc n) _ _ (λ i l. ap (at i)
+      (rows.mul_comm _ _ ∙ rows.mul_add (y i) v w ∙ ap₂ rows.◌⊕◌ (rows.mul_comm _ _) (rows.mul_comm _ _))
+      ∙ entry_add S (suc n) i _ _)
       ∙ below_add S (suc n) _ _ ∙ sym (ap₂ ◌⊕◌ (trace_is v) (trace_is w))
 
   pub trace_scale : (d : P) (v : Row P (suc n)) → tr (row_scale S.ops (suc n) d v) ≡ d ⊗ tr v
   trace_scale d v = row_trace_scale S n f d v
 
-  pub left_scale : (d : P) (u : Row P (suc n)) (j : ℕ) → rows.◌⊗◌ (row_scale S.ops (suc n) d u) (y j) ≡ row_scale S.ops (suc n) d (rows.◌⊗◌ u (y j))
+  pub left_scale : (d : P) (u : Row P (suc n)) (j : ℕ)
+      → rows.◌⊗◌ (row_scale S.ops (suc n) d u) (y j) ≡ row_scale S.ops (suc n) d (rows.◌⊗◌ u (y j))
   left_scale d u j = sym (scale_row_mul S n f d u (y j))
 
   -- the trace of v·y^j is the sum of v_i times the trace of y^(i+j)
-  pub trace_form : (v : Row P (suc n)) (j : ℕ) → tr (rows.◌⊗◌ v (y j)) ≡ sum_below S.ops (suc n) (λ i. at i v ⊗ tr (y (i + j)))
+  pub trace_form : (v : Row P (suc n)) (j : ℕ)
+      → tr (rows.◌⊗◌ v (y j)) ≡ sum_below S.ops (suc n) (λ i. at i v ⊗ tr (y (i + j)))
   trace_form v j =
       map_sum (λ u. tr (rows.◌⊗◌ u (y j)))
-      (λ u u'. ap tr (rows.mul_comm _ _ ∙ rows.mul_add (y j) u u' ∙ ap₂ rows.◌⊕◌ (rows.mul_comm _ _) (rows.mul_comm _ _)) ∙ trace_add _ _)
+      (λ u u'. ap tr (rows.mul_comm _ _ ∙ rows.mul_add (y j) u u'
+      ∙ ap₂ rows.◌⊕◌ (rows.mul_comm _ _) (rows.mul_comm _ _)) ∙ trace_add _ _)
       (λ d u. ap tr (left_scale d u j) ∙ trace_scale d _) v
       ∙ below_cong S (suc n) _ _ (λ i l. ap (λ u. at i v ⊗ tr u) (y_product i j))
 
@@ -217,13 +228,16 @@ module _ {P : Type 0} (S : CommRing P) (n : ℕ) (f : Row P (suc n)) where
   trace_expand v = map_sum tr trace_add trace_scale v
 
   -- the trace of v·w is the sum of v_i times the trace of w·y^i
-  pub trace_product : (v w : Row P (suc n)) → tr (rows.◌⊗◌ v w) ≡ sum_below S.ops (suc n) (λ i. at i v ⊗ tr (rows.◌⊗◌ w (y i)))
+  pub trace_product : (v w : Row P (suc n))
+      → tr (rows.◌⊗◌ v w) ≡ sum_below S.ops (suc n) (λ i. at i v ⊗ tr (rows.◌⊗◌ w (y i)))
   trace_product v w =
       ap tr (rows.mul_comm v w)
-      ∙ map_sum (λ u. tr (rows.◌⊗◌ w u)) (λ u u'. ap tr (rows.mul_add w u u') ∙ trace_add _ _) (λ d u. ap tr (right_scale d w u) ∙ trace_scale d _) v
+      ∙ map_sum (λ u. tr (rows.◌⊗◌ w u)) (λ u u'. ap tr (rows.mul_add w u u') ∙ trace_add _ _)
+      (λ d u. ap tr (right_scale d w u) ∙ trace_scale d _) v
 
   pub trace_unit : tr rows.𝟙 ≡ sum_below S.ops (suc n) (λ i. 𝟙)
   unfolding matrix
   trace_unit =
       trace_is rows.𝟙
-      ∙ below_cong S (suc n) _ _ (λ i l. ap (at i) (rows.mul_comm rows.𝟙 (y i) ∙ rows.mul_one (y i) ∙ y_unit i l) ∙ entry_here S (suc n) i l)
+      ∙ below_cong S (suc n) _ _ (λ i l. ap (at i) (rows.mul_comm rows.𝟙 (y i) ∙ rows.mul_one (y i) ∙ y_unit i l)
+      ∙ entry_here S (suc n) i l)

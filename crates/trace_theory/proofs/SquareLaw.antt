@@ -1,4 +1,5 @@
--- Where an irreducible p takes a function to polynomial coordinates that the function doesn't have, while its traces are polynomials, the
+-- Where an irreducible p takes a function to polynomial coordinates that the function doesn't have, while its traces
+-- are polynomials, the
 -- square of p divides the discriminant.
 use Rattle.std.proofs.Common.{◌≡◌, ℕ, suc, ◌<◌, ◌⊎◌, inl, inr, [], ◌∷◌, refl, sym, ◌∙◌, ap, ap₂, subst, zero}
 use Rattle.ring_lemmas.specs.Ring.{pow}
@@ -47,7 +48,8 @@ module _ {k : CodeField} (c : Equation k) (p : Polynomial k) (h : IsIrreducibleL
       other : (x : Polynomial k) → Divides ((polynomials k).◌⊗◌ a x) → Divides x
       other x d = elim (prime k p h a x d) [ inl y ↦ absurd (free y) | inr y ↦ y ]
 
-      twice : (x y : Polynomial k) → (polynomials k).◌⊗◌ a ((polynomials k).◌⊗◌ a x) ≡ (polynomials k).◌⊗◌ p y → Divides x
+      twice : (x y : Polynomial k) → (polynomials k).◌⊗◌ a ((polynomials k).◌⊗◌ a x) ≡ (polynomials k).◌⊗◌ p y
+          → Divides x
       twice x y f = other x (other ((polynomials k).◌⊗◌ a x) (y, f))
 
       at_first : Divides b → IsDivisorIn (polynomials k).ops ((polynomials k).◌⊗◌ p p) b
@@ -58,23 +60,30 @@ module _ {k : CodeField} (c : Equation k) (p : Polynomial k) (h : IsIrreducibleL
           (q.0, is ∙ ap ((K c).◌⊗◌ p) q.1 ∙ sym ((K c).mul_assoc p p q.0))
         where
           turn : (p a f : Polynomial k)
-              → (polynomials k).◌⊗◌ p ((polynomials k).◌⊗◌ a ((polynomials k).◌⊗◌ a f)) ≡ (polynomials k).◌⊗◌ a ((polynomials k).◌⊗◌ a ((polynomials k).◌⊗◌ p f))
-          turn p a f = mul_left_comm (polynomials k).ring p a _ ∙ ap ((polynomials k).◌⊗◌ a) (mul_left_comm (polynomials k).ring p a f)
+              → (polynomials k).◌⊗◌ p ((polynomials k).◌⊗◌ a ((polynomials k).◌⊗◌ a f))
+              ≡ (polynomials k).◌⊗◌ a ((polynomials k).◌⊗◌ a ((polynomials k).◌⊗◌ p f))
+          turn p a f = mul_left_comm (polynomials k).ring p a _
+              ∙ ap ((polynomials k).◌⊗◌ a) (mul_left_comm (polynomials k).ring p a f)
 
   -- the function w/p
-  over_p : (z : FunctionOf c) (w : Row (Polynomial k) (suc c.lower_degree)) → of_poly c p ⊗ z ≡ over c w (K c).𝟙 (one_some c) → z ≡ over c w p p_some
-  over_p z w e = same (of_poly c p) (over c (row_of c (K c).𝟙) p p_some) z (over c w p p_some) (den_inverse c p p_some) (e ∙ sym (den_clears c w p p_some))
+  over_p : (z : FunctionOf c) (w : Row (Polynomial k) (suc c.lower_degree))
+      → of_poly c p ⊗ z ≡ over c w (K c).𝟙 (one_some c) → z ≡ over c w p p_some
+  over_p z w e = same (of_poly c p) (over c (row_of c (K c).𝟙) p p_some) z (over c w p p_some) (den_inverse c p p_some)
+      (e ∙ sym (den_clears c w p p_some))
     where
-      same : (d i z w : FunctionOf c) → (ring_of c).◌⊗◌ d i ≡ (ring_of c).𝟙 → (ring_of c).◌⊗◌ d z ≡ (ring_of c).◌⊗◌ d w → z ≡ w
+      same : (d i z w : FunctionOf c) → (ring_of c).◌⊗◌ d i ≡ (ring_of c).𝟙 → (ring_of c).◌⊗◌ d z ≡ (ring_of c).◌⊗◌ d w
+          → z ≡ w
       same d i z w f g =
           from_two (ring_of c) ((ring_of c).◌⊕◌ w ((ring_of c).⊖◌ z)) i f g
           (ring (ring_of c) (d ∷ i ∷ z ∷ w ∷ []) λ q h. simp (reads, q, h 0, h 1, h 2, h 3) (q.equal _ _ refl))
 
   -- where p divides each entry, w/p has polynomial coordinates
   all_divided : (w : Row (Polynomial k) (suc c.lower_degree))
-      → ((i : ℕ) → i < suc c.lower_degree → Divides (at (K c) c.lower_degree c.coefficients i w)) → HasPolynomialCoordinates c (over c w p p_some)
+      → ((i : ℕ) → i < suc c.lower_degree → Divides (at (K c) c.lower_degree c.coefficients i w))
+      → HasPolynomialCoordinates c (over c w p p_some)
   all_divided w d =
-      let e : Choice (λ i b. at (K c) c.lower_degree c.coefficients i w ≡ (K c).◌⊗◌ p b) (suc c.lower_degree) = choose _ (suc c.lower_degree) (K c).𝟘 d in
+      let e : Choice (λ i b. at (K c) c.lower_degree c.coefficients i w ≡ (K c).◌⊗◌ p b) (suc c.lower_degree) = choose _
+      (suc c.lower_degree) (K c).𝟘 d in
       let v = row_with (K c) (suc c.lower_degree) e.chosen in
       record {
         coordinates = v;
@@ -82,7 +91,8 @@ module _ {k : CodeField} (c : Equation k) (p : Polynomial k) (h : IsIrreducibleL
             over_eq c w v p (K c).𝟙 p_some (one_some c)
             (row_scale_one (K c) (suc c.lower_degree) w
             ∙ row_by_entries (K c) (suc c.lower_degree) w _ (λ i l.
-            e.holds i l ∙ ap ((K c).◌⊗◌ p) (sym (entry_with (K c) (suc c.lower_degree) i e.chosen l)) ∙ sym (at_scale (K c) c.lower_degree c.coefficients i p v)));
+            e.holds i l ∙ ap ((K c).◌⊗◌ p) (sym (entry_with (K c) (suc c.lower_degree) i e.chosen l))
+            ∙ sym (at_scale (K c) c.lower_degree c.coefficients i p v)));
       }
 
   decide_not : (a : Polynomial k) → Dec (¬ Divides a)
@@ -93,47 +103,64 @@ module _ {k : CodeField} (c : Equation k) (p : Polynomial k) (h : IsIrreducibleL
 
   -- the square divides the discriminant, or the function has polynomial coordinates
   square_or_whole : (z : FunctionOf c) → HasPolynomialCoordinates c (of_poly c p ⊗ z)
-      → ((i : ℕ) → i < degree_of_y c → IsPolynomial c (trace_of c (z ⊗ pow (ring_of c).ops (y_of c) i))) → IsPolynomial c (trace_of c (z ⊗ z))
+      → ((i : ℕ) → i < degree_of_y c → IsPolynomial c (trace_of c (z ⊗ pow (ring_of c).ops (y_of c) i)))
+      → IsPolynomial c (trace_of c (z ⊗ z))
       → IsDivisorIn (polynomials k).ops ((K c).◌⊗◌ p p) (discriminant c) ⊎ HasPolynomialCoordinates c z
-  square_or_whole z times traces square = go (least (λ i. ¬ Divides (at (K c) c.lower_degree c.coefficients i times.coordinates)) (λ i. decide_not _) (suc c.lower_degree))
+  square_or_whole z times traces square = go
+      (least (λ i. ¬ Divides (at (K c) c.lower_degree c.coefficients i times.coordinates)) (λ i. decide_not _)
+      (suc c.lower_degree))
     where
       t : Choice (λ j a. Tr c ((R c).◌⊗◌ times.coordinates (Y c j)) ≡ (K c).◌⊗◌ p a) (suc c.lower_degree)
       t =
           choose _ (suc c.lower_degree) (K c).𝟘 (λ j l. (
             (traces j l).polynomial,
             polynomial_value c (Tr c ((R c).◌⊗◌ times.coordinates (Y c j))) (traces j l).polynomial p p_some
-                (sym (trace_power c times.coordinates p p_some j) ∙ ap (λ u. trace_of c ((ring_of c).◌⊗◌ u (pow (ring_of c).ops (y_of c) j))) (sym (over_p z times.coordinates times.value))
+                (sym (trace_power c times.coordinates p p_some j)
+                ∙ ap (λ u. trace_of c ((ring_of c).◌⊗◌ u (pow (ring_of c).ops (y_of c) j)))
+                (sym (over_p z times.coordinates times.value))
                 ∙ (traces j l).value),
           ))
 
       squared : Tr c ((R c).◌⊗◌ times.coordinates times.coordinates) ≡ (K c).◌⊗◌ p ((K c).◌⊗◌ p square.polynomial)
       squared =
-          polynomial_value c (Tr c ((R c).◌⊗◌ times.coordinates times.coordinates)) square.polynomial ((K c).◌⊗◌ p p) (product_not_zero (polynomials_domain k) p p p_some p_some)
-          (sym (trace_over c _ _ _) ∙ ap (trace_of c) (over_eq c _ _ _ _ _ _ refl ∙ sym (over_product c times.coordinates times.coordinates p p p_some p_some)
-          ∙ sym (ap₂ (ring_of c).◌⊗◌ (over_p z times.coordinates times.value) (over_p z times.coordinates times.value))) ∙ square.value)
+          polynomial_value c (Tr c ((R c).◌⊗◌ times.coordinates times.coordinates)) square.polynomial ((K c).◌⊗◌ p p)
+          (product_not_zero (polynomials_domain k) p p p_some p_some)
+          (sym (trace_over c _ _ _) ∙ ap (trace_of c)
+          (over_eq c _ _ _ _ _ _ refl ∙ sym (over_product c times.coordinates times.coordinates p p p_some p_some)
+          ∙ sym (ap₂ (ring_of c).◌⊗◌ (over_p z times.coordinates times.value) (over_p z times.coordinates times.value)))
+          ∙ square.value)
           ∙ (K c).mul_assoc p p square.polynomial
 
-      go : ((i : ℕ) × (i < suc c.lower_degree) × (¬ Divides (at (K c) c.lower_degree c.coefficients i times.coordinates))
+      go : ((i : ℕ) × (i < suc c.lower_degree)
+          × (¬ Divides (at (K c) c.lower_degree c.coefficients i times.coordinates))
           × ((j : ℕ) → j < i → ¬ ¬ Divides (at (K c) c.lower_degree c.coefficients j times.coordinates)))
-          ⊎ ((i : ℕ) → i < suc c.lower_degree → ¬ ¬ Divides (at (K c) c.lower_degree c.coefficients i times.coordinates))
+          ⊎ ((i : ℕ) → i < suc c.lower_degree
+          → ¬ ¬ Divides (at (K c) c.lower_degree c.coefficients i times.coordinates))
           → IsDivisorIn (polynomials k).ops ((K c).◌⊗◌ p p) (discriminant c) ⊎ HasPolynomialCoordinates c z
       go (inl (i, l, free, before)) =
-          let g = entry_square (K c) c.lower_degree c.coefficients times.coordinates p t.chosen t.holds (polynomials_domain k) p_some square.polynomial squared i l in
-          inl (square_divides (at (K c) c.lower_degree c.coefficients i times.coordinates) (discriminant c) g.0 free g.1)
+          let g = entry_square (K c) c.lower_degree c.coefficients times.coordinates p t.chosen t.holds
+          (polynomials_domain k) p_some square.polynomial squared i l in
+          inl (square_divides (at (K c) c.lower_degree c.coefficients i times.coordinates) (discriminant c) g.0 free
+          g.1)
       go (inr all) =
           inr (subst (HasPolynomialCoordinates c) (sym (over_p z times.coordinates times.value))
-          (all_divided times.coordinates (λ i l. not_not (at (K c) c.lower_degree c.coefficients i times.coordinates) (all i l))))
+          (all_divided times.coordinates
+          (λ i l. not_not (at (K c) c.lower_degree c.coefficients i times.coordinates) (all i l))))
 
   pub square_law : (z : FunctionOf c) → HasPolynomialCoordinates c (of_poly c p ⊗ z) → ¬ HasPolynomialCoordinates c z
-      → ((i : ℕ) → i < degree_of_y c → IsPolynomial c (trace_of c (z ⊗ pow (ring_of c).ops (y_of c) i))) → IsPolynomial c (trace_of c (z ⊗ z))
+      → ((i : ℕ) → i < degree_of_y c → IsPolynomial c (trace_of c (z ⊗ pow (ring_of c).ops (y_of c) i)))
+      → IsPolynomial c (trace_of c (z ⊗ z))
       → IsDivisorIn (polynomials k).ops ((K c).◌⊗◌ p p) (discriminant c)
-  square_law z times not_z traces square = elim (square_or_whole z times traces square) [ inl d ↦ d | inr w ↦ absurd (not_z w) ]
+  square_law z times not_z traces square = elim (square_or_whole z times traces square)
+      [ inl d ↦ d | inr w ↦ absurd (not_z w) ]
 
   -- where the square of p doesn't divide the discriminant, k[x][y] has each integral function that p takes into it
-  pub whole_at : ¬ IsDivisorIn (polynomials k).ops ((K c).◌⊗◌ p p) (discriminant c) → (z : FunctionOf c) → IsIntegralAt (setting_of c) Finite z
+  pub whole_at : ¬ IsDivisorIn (polynomials k).ops ((K c).◌⊗◌ p p) (discriminant c) → (z : FunctionOf c)
+      → IsIntegralAt (setting_of c) Finite z
       → HasPolynomialCoordinates c (of_poly c p ⊗ z) → HasPolynomialCoordinates c z
   whole_at free z integral times =
-      elim (square_or_whole z times (integral_traces c z integral) (integral_trace c Finite (z ⊗ z) (integral_times c z z integral integral)))
+      elim (square_or_whole z times (integral_traces c z integral)
+      (integral_trace c Finite (z ⊗ z) (integral_times c z z integral integral)))
       [ inl d ↦ absurd (free d) | inr w ↦ w ]
 
   -- so it is maximal at p
@@ -144,9 +171,11 @@ module _ {k : CodeField} (c : Equation k) (p : Polynomial k) (h : IsIrreducibleL
       maximal_at free z n h
       (whole_at free (pow (ring_of c).ops (of_poly c p) n ⊗ z)
       (integral_times c (pow (ring_of c).ops (of_poly c p) n) z (power_integral n) h)
-      (subst (HasPolynomialCoordinates c) ((ring_of c).mul_assoc (of_poly c p) (pow (ring_of c).ops (of_poly c p) n) z) g))
+      (subst (HasPolynomialCoordinates c) ((ring_of c).mul_assoc (of_poly c p) (pow (ring_of c).ops (of_poly c p) n) z)
+      g))
     where
       power_integral : (n : ℕ) → IsIntegralAt (setting_of c) Finite (pow (ring_of c).ops (of_poly c p) n)
       power_integral n =
           integral_base (ring_of c) (IsPolynomial c) (polynomials_subring c) _
-          (power_in (ring_of c) (IsPolynomial c) (polynomials_subring c) (of_poly c p) (record { polynomial = p; value = refl }) n)
+          (power_in (ring_of c) (IsPolynomial c) (polynomials_subring c) (of_poly c p)
+          (record { polynomial = p; value = refl }) n)

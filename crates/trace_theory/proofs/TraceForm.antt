@@ -1,4 +1,5 @@
--- The discriminant takes a function whose products with the powers of y have polynomials as traces to polynomial coordinates.
+-- The discriminant takes a function whose products with the powers of y have polynomials as traces to polynomial
+-- coordinates.
 use Rattle.std.proofs.Common.{◌≡◌, ℕ, zero, suc, ◌<◌, sym, ◌∙◌, ap, arith}
 use Rattle.ring_lemmas.specs.Ring.{pow}
 use Rattle.ring_lemmas.specs.Rows.{Row, row_scale}
@@ -39,11 +40,14 @@ module _ {k : CodeField} (c : Equation k) where
   infixl 70 ◌⊗◌
   open ring_of c use {◌⊗◌}
 
-  -- where the traces of (v/d)·y^j are the polynomials t_j, the discriminant times v/d is the row of the determinants with t in place of a row
-  pub form_value : (v : Row (Polynomial k) (suc c.lower_degree)) (d : Polynomial k) (n : ¬ (d ≡ (polynomials k).𝟘)) (t : ℕ → Polynomial k)
+  -- where the traces of (v/d)·y^j are the polynomials t_j, the discriminant times v/d is the row of the determinants
+  -- with t in place of a row
+  pub form_value : (v : Row (Polynomial k) (suc c.lower_degree)) (d : Polynomial k) (n : ¬ (d ≡ (polynomials k).𝟘))
+      (t : ℕ → Polynomial k)
       → ((j : ℕ) → j < degree_of_y c → trace_of c (over c v d n ⊗ pow (ring_of c).ops (y_of c) j) ≡ of_poly c (t j))
       → of_poly c (discriminant c) ⊗ over c v d n
-      ≡ over c (row_with (polynomials k).ring (suc c.lower_degree) (replaced (polynomials k).ring c.lower_degree c.coefficients t)) (polynomials k).𝟙 (one_some c)
+      ≡ over c (row_with (polynomials k).ring (suc c.lower_degree)
+      (replaced (polynomials k).ring c.lower_degree c.coefficients t)) (polynomials k).𝟙 (one_some c)
   form_value v d n t h =
       over_product c (row_of c (discriminant c)) v (polynomials k).𝟙 d (one_some c) n
       ∙ over_eq c _ _ _ _ _ _
@@ -52,7 +56,8 @@ module _ {k : CodeField} (c : Equation k) where
       ∙ row_form (polynomials k).ring c.lower_degree c.coefficients v d t (λ j l.
       polynomial_value c (Tr c ((R c).◌⊗◌ v (Y c j))) (t j) d n (sym (trace_power c v d n j) ∙ h j l))
       ∙ ap (λ e. row_scale (polynomials k).ops (suc c.lower_degree) e
-      (row_with (polynomials k).ring (suc c.lower_degree) (replaced (polynomials k).ring c.lower_degree c.coefficients t)))
+      (row_with (polynomials k).ring (suc c.lower_degree)
+      (replaced (polynomials k).ring c.lower_degree c.coefficients t)))
       (sym (one_mul (polynomials k).ring d)))
 
   pub trace_form : (z : FunctionOf c)
@@ -63,7 +68,8 @@ module _ {k : CodeField} (c : Equation k) where
       let t : Choice (λ j a. trace_of c (z ⊗ pow (ring_of c).ops (y_of c) j) ≡ of_poly c a) (degree_of_y c)
       = choose _ (degree_of_y c) (polynomials k).𝟘 (λ j l. let p = h j l in (p.polynomial, p.value)) in
       record {
-        coordinates = row_with (polynomials k).ring (suc c.lower_degree) (replaced (polynomials k).ring c.lower_degree c.coefficients t.chosen);
+        coordinates = row_with (polynomials k).ring (suc c.lower_degree)
+            (replaced (polynomials k).ring c.lower_degree c.coefficients t.chosen);
         value =
             ap (λ u. of_poly c (discriminant c) ⊗ u) r.is
             ∙ form_value r.num r.den r.not_zero t.chosen (λ j l.

@@ -1,15 +1,11 @@
 -- The trace of a q-th power is the q-th power of the trace.
-use Rattle.std.proofs.Common.{◌≡◌, ℕ, zero, suc, ◌<◌, ◌≤◌, ◌⊎◌, inl, inr, [], ◌∷◌, length, refl, sym, ◌∙◌, ap, ap₂, arith}
+use Rattle.std.proofs.Common.{◌≡◌, ℕ, zero, suc, [], ◌∷◌, refl, sym, ◌∙◌, ap, ap₂}
 use Rattle.ring_lemmas.specs.Ring.{CommRing, pow}
 use Rattle.ring_lemmas.specs.Rows.{Row, row_scale}
-use Rattle.ring_lemmas.proofs.Ring.{mul_pow, pow_one_base, eq_of_sub, domain_cancel, product_not_zero, mul_zero}
+use Rattle.ring_lemmas.proofs.Ring.{mul_pow, pow_one_base, eq_of_sub, domain_cancel, product_not_zero}
 use Rattle.ring_lemmas.proofs.Solver.{ring, reads, from_one}
-use Rattle.ring_lemmas.specs.Polynomials.{pol_ops}
-use Rattle.ring_lemmas.proofs.Polynomials.{coeff_past}
-use Rattle.ring_theory.proofs.Polynomials.{length_product}
 use Rattle.ff_fields.specs.Field.{CodeField}
-use Rattle.ff_fields.specs.Code.{code_ring, code_domain, read_code, read_code_below}
-use Rattle.ff_poly.specs.Polynomials.{Polynomial, polynomials, polynomials_domain, polynomial_discrete, x_poly, x_poly_not_zero, series_read}
+use Rattle.ff_poly.specs.Polynomials.{Polynomial, polynomials_domain}
 use Rattle.function_field.specs.Functions.{Equation, row_of}
 use Rattle.polynomial_theory.proofs.Lengths.{zero_of_multiples}
 use Rattle.trace_theory.proofs.Determinants.{Near, image_power}
@@ -65,7 +61,8 @@ module _ {k : CodeField} (c : Equation k) where
       let r = pow P.ops one.rest (q k) in
       let e : 𝟙 ⊕ A ⊗ T ⊕ A ⊗ A ⊗ all.rest ≡ 𝟙 ⊕ A ⊗ t ⊕ A ⊗ A ⊗ r
       = sym all.is ∙ ap (norm (K c) c.lower_degree c.coefficients) (sym (near_row_power a v))
-      ∙ norm_power (K c) c.lower_degree c.coefficients (near_row a v) (q k) ∙ ap (λ x. pow P.ops x (q k)) one.is ∙ near_power a (Tr c v) one.rest in (
+      ∙ norm_power (K c) c.lower_degree c.coefficients (near_row a v) (q k) ∙ ap (λ x. pow P.ops x (q k)) one.is
+      ∙ near_power a (Tr c v) one.rest in (
         pow P.ops a (size_less k) ⊗ (r ⊕ ⊖ all.rest),
         domain_cancel P (polynomials_domain k) A (T ⊕ ⊖ t) (A ⊗ (r ⊕ ⊖ all.rest)) (some (q k)) (step A T t all.rest r e)
             ∙ P.mul_assoc _ _ _,
@@ -75,8 +72,11 @@ module _ {k : CodeField} (c : Equation k) where
       some zero = (polynomials_domain k).one_not_zero
       some (suc m) = product_not_zero (polynomials_domain k) a (pow P.ops a m) n (some m)
 
-      step : (A T t r r' : Polynomial k) → 𝟙 ⊕ A ⊗ T ⊕ A ⊗ A ⊗ r ≡ 𝟙 ⊕ A ⊗ t ⊕ A ⊗ A ⊗ r' → A ⊗ (T ⊕ ⊖ t) ≡ A ⊗ (A ⊗ (r' ⊕ ⊖ r))
-      step A T t r r' e = from_one P 𝟙 e (ring P (A ∷ T ∷ t ∷ r ∷ r' ∷ []) λ q h. simp (reads, q, h 0, h 1, h 2, h 3, h 4) (q.equal _ _ refl))
+      step : (A T t r r' : Polynomial k) → 𝟙 ⊕ A ⊗ T ⊕ A ⊗ A ⊗ r ≡ 𝟙 ⊕ A ⊗ t ⊕ A ⊗ A ⊗ r'
+          → A ⊗ (T ⊕ ⊖ t) ≡ A ⊗ (A ⊗ (r' ⊕ ⊖ r))
+      step A T t r r' e = from_one P 𝟙 e
+          (ring P (A ∷ T ∷ t ∷ r ∷ r' ∷ []) λ q h. simp (reads, q, h 0, h 1, h 2, h 3, h 4) (q.equal _ _ refl))
 
-  pub row_trace_power : (v : Row (Polynomial k) (suc c.lower_degree)) → Tr c (pow (R c).ops v (q k)) ≡ pow P.ops (Tr c v) (q k)
+  pub row_trace_power : (v : Row (Polynomial k) (suc c.lower_degree))
+      → Tr c (pow (R c).ops v (q k)) ≡ pow P.ops (Tr c v) (q k)
   row_trace_power v = eq_of_sub P _ _ (zero_of_multiples k _ (difference v))

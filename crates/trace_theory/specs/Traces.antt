@@ -1,4 +1,5 @@
--- Rational functions, polynomials in x and y, and the trace form (Stichtenoth, Algebraic Function Fields and Codes, chapter 3).
+-- Rational functions, polynomials in x and y, and the trace form (Stichtenoth, Algebraic Function Fields and Codes,
+-- chapter 3).
 use Rattle.std.specs.Prelude.{◌≡◌, ℕ, suc, ◌<◌, List, [], ◌∷◌}
 use Rattle.ring_lemmas.specs.Ring.{pow}
 use Rattle.ring_lemmas.specs.Sums.{sum_below}
@@ -30,15 +31,18 @@ module _ {k : CodeField} (c : Equation k) where
     pub member : FunctionOf c
     pub not_null : ¬ (member ≡ (ring_of c).𝟘)
     pub traces :
-        (i : ℕ) → i < degree_of_y c → trace_of c ((ring_of c).◌⊗◌ member (pow (ring_of c).ops (y_of c) i)) ≡ (ring_of c).𝟘
+        (i : ℕ) → i < degree_of_y c → trace_of c ((ring_of c).◌⊗◌ member (pow (ring_of c).ops (y_of c) i))
+        ≡ (ring_of c).𝟘
 
   -- the basis that is dual to 1, y, up to y^(n-1) under the trace form
   pub record IsDualToPowers (d : ℕ → FunctionOf c) : Type 0 where
-    pub same : (i : ℕ) → i < degree_of_y c → trace_of c ((ring_of c).◌⊗◌ (pow (ring_of c).ops (y_of c) i) (d i)) ≡ (ring_of c).𝟙
+    pub same : (i : ℕ) → i < degree_of_y c
+        → trace_of c ((ring_of c).◌⊗◌ (pow (ring_of c).ops (y_of c) i) (d i)) ≡ (ring_of c).𝟙
     pub other :
         (i j : ℕ) → i < degree_of_y c → j < degree_of_y c → ¬ (i ≡ j)
         → trace_of c ((ring_of c).◌⊗◌ (pow (ring_of c).ops (y_of c) i) (d j)) ≡ (ring_of c).𝟘
     pub spanning :
         (z : FunctionOf c)
         → z
-        ≡ sum_below (ring_of c).ops (degree_of_y c) (λ i. (ring_of c).◌⊗◌ (trace_of c ((ring_of c).◌⊗◌ z (pow (ring_of c).ops (y_of c) i))) (d i))
+        ≡ sum_below (ring_of c).ops (degree_of_y c)
+        (λ i. (ring_of c).◌⊗◌ (trace_of c ((ring_of c).◌⊗◌ z (pow (ring_of c).ops (y_of c) i))) (d i))

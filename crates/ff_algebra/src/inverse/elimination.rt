@@ -56,7 +56,8 @@ fn starting_lines<K: SmallField>(
 ) -> Result<Vec<Vec<Poly>>, AllocError>
     requires p_in { IsPresOver (K.field k.now).ops p.now }
     requires v_in { IsPolyRow (K.field k.now).ops p.now.n v.now }
-    ensures lines { IfOk result (λ lines. IsEliminated (K.field k.now) p.now v.now (p.now.n + 1) (rows_of lines.items)) }
+    ensures lines { IfOk result (λ lines. IsEliminated (K.field k.now) p.now v.now (p.now.n + 1)
+        (rows_of lines.items)) }
     ensures count { IfOk result (λ lines. length lines.items ≡ p.now.n + 1) }
 {
     let count = p.n() + 1;
@@ -71,7 +72,8 @@ fn starting_lines<K: SmallField>(
 /// The position of a line that isn't 0 in the column, of least degree there; None where each line is 0 there.
 fn shortest_at(lines: &[Vec<Poly>], column: usize) -> Option<usize>
     requires { All (λ line. column < length line) (rows_of lines.now) }
-    ensures { MatchOption result ((i : ℕ) → entry_of (rows_of lines.now) i column ≡ []) (λ i. (i < length lines.now) × (entry_of (rows_of lines.now) i column ≢ [])) }
+    ensures { MatchOption result ((i : ℕ) → entry_of (rows_of lines.now) i column ≡ [])
+        (λ i. (i < length lines.now) × (entry_of (rows_of lines.now) i column ≢ [])) }
 {
     let mut found: Option<(usize, usize)> = None;
     for i in 0..lines.len() {

@@ -18,7 +18,8 @@ fn subtract_at<K: SmallField>(k: &K, sum: &mut [u32], c: u32, j: usize, codes: &
     requires sum_in { IsOver (K.field k.now).ops sum.old }
     requires c_in { c < (K.field k.now).size }
     requires codes_in { IsOver (K.field k.now).ops codes.now }
-    ensures { let r = raw_ring (K.field k.now).ops in sum.new ≡ add_lists r sum.old (replicate j 0 ++ scale_list r ((K.field k.now).neg c) codes.now) }
+    ensures { let r = raw_ring (K.field k.now).ops in sum.new
+        ≡ add_lists r sum.old (replicate j 0 ++ scale_list r ((K.field k.now).neg c) codes.now) }
 {
     add_multiple(k, &mut sum[j..], k.neg(c), codes);
 }
@@ -32,7 +33,8 @@ impl Poly {
         self.codes.len()
     }
 
-    /// Takes c·x^j times the other polynomial away, in place, in time linear in the lengths. Memory is asked for only where
+    /// Takes c·x^j times the other polynomial away, in place, in time linear in the lengths. Memory is asked for only
+    /// where
     /// the polynomial gets longer; after want of it the polynomial is as before.
     pub fn sub_multiple<K: SmallField>(
         &mut self,

@@ -32,7 +32,8 @@ fn lines(alloc: Global, parts: &[(Poly, u32)]) -> Result<PowerList, AllocError>
     Ok(PowerList { powers })
 }
 
-/// The factors of the polynomial in x as it is written, a code and the powers of irreducible polynomials, or why it has none.
+/// The factors of the polynomial in x as it is written, a code and the powers of irreducible polynomials, or why it has
+/// none.
 pub fn factors_of<K: SmallField>(
     alloc: Global,
     k: &K,

@@ -16,7 +16,8 @@ use ff_meaning::{Refusal, element};
 use ff_text::{ElemText, Written};
 use std::alloc::Global;
 
-/// The product of the elements, in lowest terms. It takes the square of the degrees, and the factors of both denominators.
+/// The product of the elements, in lowest terms. It takes the square of the degrees, and the factors of both
+/// denominators.
 pub fn product<K: SmallField>(
     alloc: Global,
     k: &K,

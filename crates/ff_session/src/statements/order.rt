@@ -36,7 +36,8 @@ fn order_rows<K: SmallField>(
     Ok(RowList { rows })
 }
 
-/// Rows that span the functions that are integral on a side, in x and y in lowest terms. It takes the maximal order of the
+/// Rows that span the functions that are integral on a side, in x and y in lowest terms. It takes the maximal order of
+/// the
 /// side, and the factors of each row's denominator.
 pub fn integral_rows<K: SmallField>(
     alloc: Global,

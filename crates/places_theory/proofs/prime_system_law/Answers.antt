@@ -9,4 +9,5 @@ pub returns-clause-prime : goal.returns-clause-prime
 returns-clause-prime g c = λ R A p reduce lift 𝓞 red. prime_iff R g.O.Subset.members 𝓞 p A reduce lift red
 
 pub returns-clause-system : goal.returns-clause-system
-returns-clause-system g c = λ R A p reduce lift 𝓞 p_in red 𝓐. prime_system R g.O.Subset.members 𝓞 p A reduce lift red p_in g.K.Subset.members 𝓐
+returns-clause-system g c = λ R A p reduce lift 𝓞 p_in red 𝓐. prime_system R g.O.Subset.members 𝓞 p A reduce lift red
+    p_in g.K.Subset.members 𝓐

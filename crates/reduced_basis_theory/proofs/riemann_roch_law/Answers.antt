@@ -11,7 +11,8 @@ returns-clause-dimensions g c =
 
 pub returns-clause-genus : goal.returns-clause-genus
 returns-clause-genus g c =
-    λ k field M F R ι tr t one one' canonical module_pair difference n b c' β d δ reduced dual l l' first second x reduced_one l₀ h constants genus_is.
+    λ k field M F R ι tr t one one' canonical module_pair difference n b c' β d δ reduced dual l l' first second x
+    reduced_one l₀ h constants genus_is.
     riemann_roch_genus k field M n F R ι tr t g.O.Subset.members g.P.Filtration.members one one'
     g.W.Subset.members g.X.Filtration.members canonical g.I.Subset.members g.N.Filtration.members module_pair
     g.J.Subset.members g.L.Filtration.members difference b d reduced c' dual l l' first second

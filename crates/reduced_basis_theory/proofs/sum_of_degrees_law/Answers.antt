@@ -9,7 +9,8 @@ returns-clause-index g c = λ k field M n x local space l index b c d f reduced 
 
 pub returns-clause-sum : goal.returns-clause-sum
 returns-clause-sum g c =
-    λ k field M n x local space l index b c y b₀ y₀ d f g' d₀ g₀ reduced reduced₀ reduced_y standard standard_y e some inner.
+    λ k field M n x local space l index b c y b₀ y₀ d f g' d₀ g₀ reduced reduced₀ reduced_y standard standard_y e some
+    inner.
     degrees_by_index k field M n x g.J.Subset.members g.J0.Subset.members g.N.Filtration.members
     g.N0.Filtration.members local space l index g.I.Subset.members b c d f reduced reduced₀
     g.I0.Subset.members g.Y.Filtration.members y b₀ y₀ g' d₀ g₀ reduced_y standard standard_y e some inner

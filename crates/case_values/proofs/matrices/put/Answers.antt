@@ -7,4 +7,5 @@ pub returns : goal.returns
 returns g c =
     let k = g.K.SmallField.field c.args.k.now in
     let below : c.args.code < k.size = search rules in
-    subst (IsMatrixOver k.ops) (sym c.set.ensures) (with_entry_over k c.args.m.now c.args.r c.args.c c.args.code c.requires below)
+    subst (IsMatrixOver k.ops) (sym c.set.ensures)
+    (with_entry_over k c.args.m.now c.args.r c.args.c c.args.code c.requires below)

@@ -8,6 +8,7 @@ pub loop-part-preserved : goal.loop-part-preserved
 loop-part-preserved g c =
     let k = g.K.SmallField.field c.args.k.now in
     let P = IsRow k.ops c.args.width in
-    All-same P _ _ (ap rows_of c.in_ok-push.ensures.items ∙ map-append (λ v. v.items) c.loop-part.rows.items (c.in_ok-wide_row.field-0 ∷ []))
+    All-same P _ _ (ap rows_of c.in_ok-push.ensures.items
+    ∙ map-append (λ v. v.items) c.loop-part.rows.items (c.in_ok-wide_row.field-0 ∷ []))
     (All-append P (rows_of c.loop-part.rows.items) (c.in_ok-wide_row.field-0.items ∷ []) c.loop-part.invariant
     (All-cons P c.in_ok-wide_row.field-0.items [] c.in_ok-wide_row.ensures (All-nil P)))

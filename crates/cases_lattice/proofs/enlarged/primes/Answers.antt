@@ -12,5 +12,6 @@ loop-part-preserved g c =
           (All-cons (IsOver k.ops) c.in_ok-g.g [] c.in_ok-g.ensures.over (All-nil (IsOver k.ops)))),
       subst (All (IsIrreducibleList k.ops)) (sym c.in_ok-push.ensures.items)
           (All-append (IsIrreducibleList k.ops) c.loop-part.found.items (c.in_ok-g.g ∷ []) c.loop-part.invariant.1
-          (All-cons (IsIrreducibleList k.ops) c.in_ok-g.g [] c.in_ok-g.ensures.irreducible (All-nil (IsIrreducibleList k.ops)))),
+          (All-cons (IsIrreducibleList k.ops) c.in_ok-g.g [] c.in_ok-g.ensures.irreducible
+          (All-nil (IsIrreducibleList k.ops)))),
     )

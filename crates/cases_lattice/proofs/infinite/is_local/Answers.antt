@@ -9,4 +9,5 @@ pub local_contains-requires-clause-tame : goal.local_contains-requires-clause-ta
 local_contains-requires-clause-tame g c =
     let k = g.K.SmallField.field c.args.k.now in
     let q = c.args.c.now.inf in
-    subst (λ l. IsSupportedAt (equation_of k q) (x_poly k) (Contains k q l)) (sym c.lattice-l.ensures) c.in_ok-start.ensures.tame
+    subst (λ l. IsSupportedAt (equation_of k q) (x_poly k) (Contains k q l)) (sym c.lattice-l.ensures)
+    c.in_ok-start.ensures.tame

@@ -12,16 +12,22 @@ use Rattle.ff_algebra.proofs.inverse.try_inverse.Goals as goal
 
 pub multiples-requires-clause-row_in : goal.multiples-requires-clause-row_in
 multiples-requires-clause-row_in g c =
-    let k = g.K.SmallField.field c.args.k.now in All-same (IsOver k.ops) _ _ c.as_slice.ensures.value c.in_ok-w.ensures.row.over
+    let k = g.K.SmallField.field c.args.k.now in All-same (IsOver k.ops) _ _ c.as_slice.ensures.value
+    c.in_ok-w.ensures.row.over
 
 pub returns-clause-inverse : goal.returns-clause-inverse
 returns-clause-inverse g c =
     let k = g.K.SmallField.field c.args.k.now in
     let p = c.args.p.now in
     let relation = subst (λ v. IsRelation k p v c.in_ok-w.w.items c.in_ok-w.d) c.num.ensures c.in_ok-w.ensures in
-    let some : c.in_ok-w.d ≢ [] = λ e. let yes : c.is_zero.result ≡ true = c.is_zero.ensures.1 e in let no : c.is_zero.result ≡ false = c.if-is_zero.false in (cc) in
-    inverse_function k p c.args.a.now c.requires.a_in c.den-den.ensures.monic c.in_ok-w.w.items c.in_ok-w.d relation c.in_ok-num.num.items c.new-2.result some
-    (c.in_ok-num.ensures.products (suc (p.n - 1)) ∙ ap₂ (λ d w. row_scale (polynomials k).ops (suc (p.n - 1)) (value k d) (row_at k p w)) c.den-den.ensures.den c.as_slice.ensures.value)
+    let some : c.in_ok-w.d ≢ [] = λ e. let yes : c.is_zero.result
+    ≡ true = c.is_zero.ensures.1 e in let
+    no : c.is_zero.result ≡ false = c.if-is_zero.false in (cc) in
+    inverse_function k p c.args.a.now c.requires.a_in c.den-den.ensures.monic c.in_ok-w.w.items c.in_ok-w.d relation
+    c.in_ok-num.num.items c.new-2.result some
+    (c.in_ok-num.ensures.products (suc (p.n - 1))
+    ∙ ap₂ (λ d w. row_scale (polynomials k).ops (suc (p.n - 1)) (value k d) (row_at k p w)) c.den-den.ensures.den
+    c.as_slice.ensures.value)
     (c.new-2.ensures.same_function p)
 
 pub returns-then-is_zero-clause-kills : goal.returns-then-is_zero-clause-kills
@@ -29,19 +35,24 @@ returns-then-is_zero-clause-kills g c =
     let k = g.K.SmallField.field c.args.k.now in
     let p = c.args.p.now in
     let relation = subst (λ v. IsRelation k p v c.in_ok-w.w.items c.in_ok-w.d) c.num.ensures c.in_ok-w.ensures in
-    kills_function k p c.args.a.now c.requires.a_in c.den-den.ensures.monic c.in_ok-w.w.items c.in_ok-w.d relation c.new.result (c.is_zero.ensures.0 c.if-is_zero.true)
-    (c.new.ensures.same_function p ∙ ap (λ e. let z : ElemValue = record { num = c.in_ok-w.w.items; den = e } in function_of k p z) c.in_ok-one.ensures)
+    kills_function k p c.args.a.now c.requires.a_in c.den-den.ensures.monic c.in_ok-w.w.items c.in_ok-w.d relation
+    c.new.result (c.is_zero.ensures.0 c.if-is_zero.true)
+    (c.new.ensures.same_function p ∙ ap (λ e. let z : ElemValue = record { num = c.in_ok-w.w.items; den = e } in
+    function_of k p z) c.in_ok-one.ensures)
 
 pub returns-then-is_zero-clause-not_zero : goal.returns-then-is_zero-clause-not_zero
 returns-then-is_zero-clause-not_zero g c =
     let k = g.K.SmallField.field c.args.k.now in
     let p = c.args.p.now in
     let relation = subst (λ v. IsRelation k p v c.in_ok-w.w.items c.in_ok-w.d) c.num.ensures c.in_ok-w.ensures in
-    killer_not_zero k p c.args.a.now c.requires.a_in c.den-den.ensures.monic c.in_ok-w.w.items c.in_ok-w.d relation c.new.result (c.is_zero.ensures.0 c.if-is_zero.true)
-    (c.new.ensures.same_function p ∙ ap (λ e. let z : ElemValue = record { num = c.in_ok-w.w.items; den = e } in function_of k p z) c.in_ok-one.ensures)
+    killer_not_zero k p c.args.a.now c.requires.a_in c.den-den.ensures.monic c.in_ok-w.w.items c.in_ok-w.d relation
+    c.new.result (c.is_zero.ensures.0 c.if-is_zero.true)
+    (c.new.ensures.same_function p ∙ ap (λ e. let z : ElemValue = record { num = c.in_ok-w.w.items; den = e } in
+    function_of k p z) c.in_ok-one.ensures)
 
 pub returns-then-is_zero-clause-no_inverse : goal.returns-then-is_zero-clause-no_inverse
 returns-then-is_zero-clause-no_inverse g c =
     let k = g.K.SmallField.field c.args.k.now in
     let p = c.args.p.now in λ u.
-    killed_has_none (functions k p) (function_of k p c.args.a.now) (function_of k p c.new.result) u (returns-then-is_zero-clause-kills g c) (returns-then-is_zero-clause-not_zero g c)
+    killed_has_none (functions k p) (function_of k p c.args.a.now) (function_of k p c.new.result) u
+    (returns-then-is_zero-clause-kills g c) (returns-then-is_zero-clause-not_zero g c)

@@ -23,7 +23,8 @@ pub add-requires-clause-b_in : goal.add-requires-clause-b_in
 add-requires-clause-b_in g c =
     let k = g.K.SmallField.field c.args.k.now in
     let size = c.loop-i.invariant.row.one_each in
-    rw c.index.ensures (All-get_or (IsOver k.ops) c.loop-i.row.items c.loop-i.i c.index.result.now (omega (arith, size, c.n-i-end.ensures.n)) c.loop-i.invariant.row.over)
+    rw c.index.ensures (All-get_or (IsOver k.ops) c.loop-i.row.items c.loop-i.i c.index.result.now
+    (omega (arith, size, c.n-i-end.ensures.n)) c.loop-i.invariant.row.over)
 
 pub loop-i-preserved : goal.loop-i-preserved
 loop-i-preserved g c =
@@ -33,12 +34,18 @@ loop-i-preserved g c =
     let size = c.loop-i.invariant.row.one_each in
     let inside : c.loop-i.i < length c.loop-i.row.items = omega (arith, size, c.n-i-end.ensures.n) in
     let less : c.loop-i.i < suc (p.n - 1) = omega (arith, c.n-i-end.ensures.n, c.n-i-end.ensures.range.positive) in
-    let a_in : IsOver k.ops c.index.result.now = rw c.index.ensures (All-get_or (IsOver k.ops) c.loop-i.row.items c.loop-i.i c.index.result.now inside c.loop-i.invariant.row.over) in
+    let a_in : IsOver k.ops c.index.result.now = rw c.index.ensures
+    (All-get_or (IsOver k.ops) c.loop-i.row.items c.loop-i.i c.index.result.now inside
+    c.loop-i.invariant.row.over) in
     record {
       row = c.in_ok-multiply_by_y.ensures.in_range;
-      power = trace_more k p v c.loop-i.i c.loop-i.row.items c.multiply_by_y.new.row.items c.loop-i.invariant.power c.in_ok-multiply_by_y.ensures.product;
+      power = trace_more k p v c.loop-i.i c.loop-i.row.items c.multiply_by_y.new.row.items c.loop-i.invariant.power
+          c.in_ok-multiply_by_y.ensures.product;
       sum_in = c.in_ok-sum.ensures.over;
-      sum = sum_more k p v c.loop-i.i c.loop-i.row.items c.loop-i.sum c.index.result.now c.in_ok-sum.sum less c.loop-i.invariant.power c.loop-i.invariant.sum (get_or_read c.loop-i.row.items c.loop-i.i c.index.result.now inside c.index.ensures []) c.loop-i.invariant.sum_in a_in c.in_ok-sum.ensures.sum;
+      sum = sum_more k p v c.loop-i.i c.loop-i.row.items c.loop-i.sum c.index.result.now c.in_ok-sum.sum less
+          c.loop-i.invariant.power c.loop-i.invariant.sum
+          (get_or_read c.loop-i.row.items c.loop-i.i c.index.result.now inside c.index.ensures [])
+          c.loop-i.invariant.sum_in a_in c.in_ok-sum.ensures.sum;
     }
 
 pub returns-clause-trace : goal.returns-clause-trace

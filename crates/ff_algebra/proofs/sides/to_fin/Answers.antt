@@ -1,4 +1,4 @@
-use Rattle.std.proofs.Common.{◌≡◌, sym, ap, ◌∙◌, arith}
+use Rattle.std.proofs.Common.{sym, ap, ◌∙◌, arith}
 use Rattle.std.proofs.lemmas.Result.{IfOk-weaker}
 use Rattle.function_field.specs.declared.side.Side.TheVariants.{Infinite}
 use Rattle.function_field.specs.Infinity.{function_on}
@@ -10,6 +10,7 @@ returns-clause-same_function g c =
     let p = c.args.c.now.fin in
     IfOk-weaker c.turned.result _ _
     (λ w h.
-    h p (omega (arith, c.requires.curve.at_least_two)) (sym (c.requires.z_in.one_each ∙ c.requires.curve.infinite.degree))
+    h p (omega (arith, c.requires.curve.at_least_two))
+    (sym (c.requires.z_in.one_each ∙ c.requires.curve.infinite.degree))
     ∙ ap (λ n. function_on k p n Infinite c.args.z.now) c.c.ensures)
     c.turned.ensures.to_finite

@@ -5,4 +5,5 @@ pub returns-clause-answer : goal.returns-clause-answer
 returns-clause-answer c = λ old other next after s a b same h g. (one_answer old other next after same s a b h g).answer
 
 pub returns-clause-bindings : goal.returns-clause-bindings
-returns-clause-bindings c = λ old other next after s a b same h g. (one_answer old other next after same s a b h g).bindings
+returns-clause-bindings c = λ old other next after s a b same h g.
+    (one_answer old other next after same s a b h g).bindings

@@ -12,7 +12,12 @@ returns g c =
     let long : 2 ≤ length c.args.g.now = omega (arith, c.if-codes-lt2.false, l) in
     let one : c.top.result ≡ 1 = omega (arith, c.if-top-ne1.false) in
     let h : IsModulus k.ops c.args.g.now
-    = record { over = c.requires; monic = monic_of_top c.args.g.now (omega (arith, long)) (sym c.top.ensures.top ∙ one); not_constant = long } in
+    = record {
+      over = c.requires;
+      monic = monic_of_top c.args.g.now (omega (arith, long)) (sym c.top.ensures.top ∙ one);
+      not_constant = long;
+    } in
     answer_as c.is_field-2.result
-    (subst (λ w. IfOk c.is_field-2.result (λ t. IsTrue t ↔ IsFieldAlgebra k.ops (quotient_algebra w))) c.in_ok-new.ensures c.is_field-2.ensures)
+    (subst (λ w. IfOk c.is_field-2.result (λ t. IsTrue t ↔ IsFieldAlgebra k.ops (quotient_algebra w)))
+    c.in_ok-new.ensures c.is_field-2.ensures)
     (field_irreducible k c.args.g.now h)

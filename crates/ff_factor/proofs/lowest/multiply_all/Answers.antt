@@ -8,10 +8,14 @@ use Rattle.ff_factor.proofs.lowest.multiply_all.Goals as goal
 pub multiply_by-requires-clause-self_in : goal.multiply_by-requires-clause-self_in
 multiply_by-requires-clause-self_in g c =
     let k = g.K.SmallField.field c.args.k.now in
-    rw (multiples_read (λ v. multiple_of k.ops v c.args.c) c.args.polys.now c.loop-i.polys c.loop-i.i c.index-polys-i.result c.loop-i-test.true c.loop-i.invariant)
-    (All-get_or (IsOver k.ops) c.args.polys.now c.loop-i.i c.index-polys-i.result c.loop-i-test.true c.requires.polys_in)
+    rw (multiples_read (λ v. multiple_of k.ops v c.args.c) c.args.polys.now c.loop-i.polys c.loop-i.i
+    c.index-polys-i.result c.loop-i-test.true c.loop-i.invariant)
+    (All-get_or (IsOver k.ops) c.args.polys.now c.loop-i.i c.index-polys-i.result c.loop-i-test.true
+    c.requires.polys_in)
 
 pub loop-i-preserved : goal.loop-i-preserved
 loop-i-preserved g c =
     let k = g.K.SmallField.field c.args.k.now in
-    rw (c.multiply_by.ensures.multiple) (rw (← c.index-polys-i.is) (map_over_more (λ v. multiple_of k.ops v c.args.c) c.args.polys.now c.loop-i.polys c.loop-i.i c.index-polys-i.result c.loop-i-test.true c.loop-i.invariant c.index-polys-i.is))
+    rw (c.multiply_by.ensures.multiple) (rw (← c.index-polys-i.is)
+    (map_over_more (λ v. multiple_of k.ops v c.args.c) c.args.polys.now c.loop-i.polys c.loop-i.i
+    c.index-polys-i.result c.loop-i-test.true c.loop-i.invariant c.index-polys-i.is))

@@ -18,23 +18,28 @@ first_relation-requires-clause-bounded g c =
     let k = g.K.SmallField.field c.args.k.now in
     let A = quotient_algebra c.args.a.now in
     let law = quotient_laws k c.args.a.now c.requires.modulus in
-    let same : length c.codes.result.now ≡ length c.args.a.now = ap length (c.codes.ensures.codes ∙ c.modulus.ensures) in
+    let same : length c.codes.result.now
+    ≡ length c.args.a.now = ap length (c.codes.ensures.codes ∙ c.modulus.ensures) in
     let l = c.requires.modulus.not_constant in
     subst (λ n. IsBounded k.ops A c.args.z.now c.args.e.now (n - 1)) (sym same)
-    (powers_bounded_by_size k A law (omega arith) c.args.z.now c.args.e.now c.requires.vector c.requires.primitive.idempotent.vector)
+    (powers_bounded_by_size k A law (omega arith) c.args.z.now c.args.e.now c.requires.vector
+    c.requires.primitive.idempotent.vector)
 
 pub returns : goal.returns
 returns g c =
     let k = g.K.SmallField.field c.args.k.now in
     let v = c.in_ok-relation.relation.coefficients.items in
     let h = c.requires.modulus in
-    let made = prime_of_relation k c.args.a.now h c.args.e.now c.requires.primitive c.args.z.now c.requires.vector c.requires.high
+    let made = prime_of_relation k c.args.a.now h c.args.e.now c.requires.primitive c.args.z.now c.requires.vector
+    c.requires.high
     c.in_ok-relation.relation.powers v c.in_ok-relation.ensures in
     let codes_is : c.from_codes.result ≡ poly_of (neg_list (raw_ring k.ops) v ++ 1 ∷ [])
     = c.from_codes.ensures
     ∙ ap poly_of
     (c.in_ok-push.ensures.items
-    ∙ ap (λ w. w ++ 1 ∷ []) (written c.negate_all.new.codes _ _ (omega arith) ∙ c.negate_all.ensures ∙ ap (neg_list (raw_ring k.ops)) c.as_mut_slice.ensures.value)) in
+    ∙ ap (λ w. w ++ 1 ∷ []) (written c.negate_all.new.codes _ _ (omega arith) ∙ c.negate_all.ensures
+    ∙ ap (neg_list (raw_ring k.ops)) c.as_mut_slice.ensures.value)) in
     subst (IsPrimeAt k.ops c.args.a.now c.args.e.now)
-    (sym (codes_is ∙ trim_trimmed is_zero_code (neg_list (raw_ring k.ops) v ++ 1 ∷ []) (monic_poly k _ made.monic).trimmed))
+    (sym (codes_is ∙ trim_trimmed is_zero_code (neg_list (raw_ring k.ops) v ++ 1 ∷ [])
+    (monic_poly k _ made.monic).trimmed))
     made

@@ -4,4 +4,5 @@ use Rattle.ff_factor.specs.Pulls.{ArePrimesOf}
 use Rattle.ff_factor.proofs.primes.primes_of.Given as goal
 
 abbrev pub invariant-loop-e : goal.invariant-loop-e
-invariant-loop-e g l = ArePrimesOf (g.K.SmallField.field l.k).ops l.a (take l.e-index (elements_of l.idempotents)) l.primes.items
+invariant-loop-e g l = ArePrimesOf (g.K.SmallField.field l.k).ops l.a (take l.e-index (elements_of l.idempotents))
+    l.primes.items

@@ -19,10 +19,12 @@ returns g c =
     let k = g.K.SmallField.field c.args.k.now in
     let A = g.A.FiniteAlgebra.algebra c.args.a.now in
     let law = g.A.FiniteAlgebra.laws c.args.a.now k c.requires in
-    let some = basis_some k A law c.in_ok-basis.basis c.in_ok-basis.ensures (let r = c.rows.ensures in let n = c.if-rows-eq0.false in omega arith) in
+    let some = basis_some k A law c.in_ok-basis.basis c.in_ok-basis.ensures
+    (let r = c.rows.ensures in let n = c.if-rows-eq0.false in omega arith) in
     let es = elements_of c.in_ok-parts.parts.items in
     let ts = elements_of c.sort.new.self.items in
-    let r = reordered es ts (distinct_lists k A law c.in_ok-basis.basis c.in_ok-basis.ensures some es c.in_ok-parts.ensures)
+    let r = reordered es ts (distinct_lists k A law c.in_ok-basis.basis c.in_ok-basis.ensures some es
+    c.in_ok-parts.ensures)
     (IsPermutation-map (λ v. v.items) _ _ c.in_ok-sort.ensures.permutation) in
     primitive_list k A law c.in_ok-basis.basis c.in_ok-basis.ensures some es c.in_ok-parts.ensures ts r
     (ascending c.sort.new.self.items c.in_ok-sort.ensures.sorted r.distinct)

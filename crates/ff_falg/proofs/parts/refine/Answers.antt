@@ -14,14 +14,16 @@ split-requires-clause-x_in g c =
     let k = g.K.SmallField.field c.args.k.now in
     let A = g.A.FiniteAlgebra.algebra c.args.a.now in
     let law = g.A.FiniteAlgebra.laws c.args.a.now k c.requires.over in
-    subst (IsVector k.ops A.size) (sym c.row.ensures) (basis_row k A law c.args.basis.now c.requires.basis c.args.i c.requires.within)
+    subst (IsVector k.ops A.size) (sym c.row.ensures)
+    (basis_row k A law c.args.basis.now c.requires.basis c.args.i c.requires.within)
 
 pub split-requires-clause-fixed : goal.split-requires-clause-fixed
 split-requires-clause-fixed g c =
     let k = g.K.SmallField.field c.args.k.now in
     let A = g.A.FiniteAlgebra.algebra c.args.a.now in
     let law = g.A.FiniteAlgebra.laws c.args.a.now k c.requires.over in
-    subst (IsFixedVector k.ops A) (sym c.row.ensures) (basis_fixed k A law c.args.basis.now c.requires.basis c.args.i c.requires.within)
+    subst (IsFixedVector k.ops A) (sym c.row.ensures)
+    (basis_fixed k A law c.args.basis.now c.requires.basis c.args.i c.requires.within)
 
 pub split-requires-clause-idempotent : goal.split-requires-clause-idempotent
 split-requires-clause-idempotent g c =
@@ -29,14 +31,16 @@ split-requires-clause-idempotent g c =
     let A = g.A.FiniteAlgebra.algebra c.args.a.now in
     let law = g.A.FiniteAlgebra.laws c.args.a.now k c.requires.over in
     subst (IsIdempotentVector k.ops A) (sym c.as_slice.ensures.value)
-    (member_at k A law c.args.parts.now c.loop-e.e-index c.e-item.result c.e-item.is (omega arith) c.requires.splitting.orthogonal).0
+    (member_at k A law c.args.parts.now c.loop-e.e-index c.e-item.result c.e-item.is (omega arith)
+    c.requires.splitting.orthogonal).0
 
 pub split-requires-clause-nonzero : goal.split-requires-clause-nonzero
 split-requires-clause-nonzero g c =
     let k = g.K.SmallField.field c.args.k.now in
     let A = g.A.FiniteAlgebra.algebra c.args.a.now in
     let law = g.A.FiniteAlgebra.laws c.args.a.now k c.requires.over in
-    λ z. (member_at k A law c.args.parts.now c.loop-e.e-index c.e-item.result c.e-item.is (omega arith) c.requires.splitting.orthogonal).1
+    λ z. (member_at k A law c.args.parts.now c.loop-e.e-index c.e-item.result c.e-item.is (omega arith)
+    c.requires.splitting.orthogonal).1
     (sym c.as_slice.ensures.value ∙ z)
 
 pub split-requires-clause-bounded : goal.split-requires-clause-bounded
@@ -44,26 +48,32 @@ split-requires-clause-bounded g c =
     let k = g.K.SmallField.field c.args.k.now in
     let A = g.A.FiniteAlgebra.algebra c.args.a.now in
     let law = g.A.FiniteAlgebra.laws c.args.a.now k c.requires.over in
-    let e = member_at k A law c.args.parts.now c.loop-e.e-index c.e-item.result c.e-item.is (omega arith) c.requires.splitting.orthogonal in
+    let e = member_at k A law c.args.parts.now c.loop-e.e-index c.e-item.result c.e-item.is (omega arith)
+    c.requires.splitting.orthogonal in
     subst (λ x. IsBounded k.ops A x c.as_slice.result.now c.rows.result) (sym c.row.ensures)
     (subst (λ y. IsBounded k.ops A (row_of c.args.basis.now c.args.i) y c.rows.result) (sym c.as_slice.ensures.value)
     (subst (IsBounded k.ops A (row_of c.args.basis.now c.args.i) c.e-item.result.items) (sym c.rows.ensures)
-    (relation_bound k A law c.args.basis.now c.requires.basis c.args.i c.e-item.result.items c.requires.within e.0 e.1)))
+    (relation_bound k A law c.args.basis.now c.requires.basis c.args.i c.e-item.result.items c.requires.within e.0
+    e.1)))
 
 pub loop-e-preserved : goal.loop-e-preserved
 loop-e-preserved g c =
     let k = g.K.SmallField.field c.args.k.now in
     let A = g.A.FiniteAlgebra.algebra c.args.a.now in
     let law' = g.A.FiniteAlgebra.laws c.args.a.now k c.requires.over in
-    let e = member_at k A law' c.args.parts.now c.loop-e.e-index c.e-item.result c.e-item.is (omega arith) c.requires.splitting.orthogonal in
+    let e = member_at k A law' c.args.parts.now c.loop-e.e-index c.e-item.result c.e-item.is (omega arith)
+    c.requires.splitting.orthogonal in
     λ law x_in.
     subst (λ es. IsRefined k A law (row_of c.args.basis.now c.args.i, x_in) es (elements_of c.split.new.out.items))
     (sym (elements_more k A law c.args.parts.now c.loop-e.e-index c.e-item.result c.e-item.is (omega arith)))
-    (refined_step k A law (row_of c.args.basis.now c.args.i, x_in) (elements_of (take c.loop-e.e-index c.args.parts.now)) (elements_of c.loop-e.out.items)
+    (refined_step k A law (row_of c.args.basis.now c.args.i, x_in)
+    (elements_of (take c.loop-e.e-index c.args.parts.now)) (elements_of c.loop-e.out.items)
     c.e-item.result.items (elements_of c.split.new.out.items) e.0.vector
-    (subst (λ y. IsSplitOnto k.ops A (row_of c.args.basis.now c.args.i) y (elements_of c.loop-e.out.items) (elements_of c.split.new.out.items))
+    (subst (λ y. IsSplitOnto k.ops A (row_of c.args.basis.now c.args.i) y (elements_of c.loop-e.out.items)
+    (elements_of c.split.new.out.items))
     c.as_slice.ensures.value
-    (subst (λ x. IsSplitOnto k.ops A x c.as_slice.result.now (elements_of c.loop-e.out.items) (elements_of c.split.new.out.items))
+    (subst (λ x. IsSplitOnto k.ops A x c.as_slice.result.now (elements_of c.loop-e.out.items)
+    (elements_of c.split.new.out.items))
     c.row.ensures c.in_ok-split.ensures))
     (c.loop-e.invariant law x_in))
 
@@ -76,5 +86,6 @@ returns g c =
     refined_end k A law c.args.basis.now c.args.i (elements_of c.args.parts.now) (elements_of c.loop-e.out.items)
     (λ l le. basis_row k A law c.args.basis.now c.requires.basis l (let w = c.requires.within in omega arith))
     (row_of c.args.basis.now c.args.i, x_in) refl c.requires.splitting
-    (subst (λ ps. IsRefined k A law (row_of c.args.basis.now c.args.i, x_in) (elements_of ps) (elements_of c.loop-e.out.items))
+    (subst (λ ps. IsRefined k A law (row_of c.args.basis.now c.args.i, x_in) (elements_of ps)
+    (elements_of c.loop-e.out.items))
     (take_all c.loop-e.e-index c.args.parts.now (omega arith)) (c.loop-e.invariant law x_in))

@@ -18,9 +18,11 @@ returns-then-len-eq1 g c =
       is =
           ap (map (λ v. v.items)) c.in_ok-push.ensures.items
           ∙ map-append (λ v. v.items) c.args.out.now.items (c.in_ok-to_vec.field-0 ∷ [])
-          ∙ ap (λ y. map (λ v. v.items) c.args.out.now.items ++ y ∷ []) (c.in_ok-to_vec.ensures.items_if_clones_equal (λ x y e. e));
+          ∙ ap (λ y. map (λ v. v.items) c.args.out.now.items ++ y ∷ [])
+          (c.in_ok-to_vec.ensures.items_if_clones_equal (λ x y e. e));
       split =
-          one_split k A law c.args.x.now c.args.e.now c.requires.x_in c.requires.fixed c.requires.idempotent c.requires.nonzero _ _
+          one_split k A law c.args.x.now c.args.e.now c.requires.x_in c.requires.fixed c.requires.idempotent
+          c.requires.nonzero _ _
           c.in_ok-relation.ensures (omega arith);
     }
 
@@ -32,7 +34,8 @@ roots-requires g c =
     let is : c.as_slice.result.now ≡ neg_list (raw_ring k.ops) c.in_ok-relation.relation.coefficients.items
     = c.as_slice.ensures.value ∙ take_at c.negate_all.new.codes _ _ (omega arith) ∙ c.negate_all.ensures
     ∙ ap (neg_list (raw_ring k.ops)) c.as_mut_slice.ensures.value in
-    lower_over k A law c.args.x.now c.args.e.now c.requires.x_in c.requires.fixed c.requires.idempotent c.requires.nonzero _ _
+    lower_over k A law c.args.x.now c.args.e.now c.requires.x_in c.requires.fixed c.requires.idempotent
+    c.requires.nonzero _ _
     c.in_ok-relation.ensures c.as_slice.result.now is
 
 pub push_parts-requires-clause-lower_in : goal.push_parts-requires-clause-lower_in
@@ -43,7 +46,8 @@ push_parts-requires-clause-lower_in g c =
     let is : c.as_slice-2.result.now ≡ neg_list (raw_ring k.ops) c.in_ok-relation.relation.coefficients.items
     = c.as_slice-2.ensures.value ∙ take_at c.negate_all.new.codes _ _ (omega arith) ∙ c.negate_all.ensures
     ∙ ap (neg_list (raw_ring k.ops)) c.as_mut_slice.ensures.value in
-    lower_over k A law c.args.x.now c.args.e.now c.requires.x_in c.requires.fixed c.requires.idempotent c.requires.nonzero _ _
+    lower_over k A law c.args.x.now c.args.e.now c.requires.x_in c.requires.fixed c.requires.idempotent
+    c.requires.nonzero _ _
     c.in_ok-relation.ensures c.as_slice-2.result.now is
 
 pub push_parts-requires-clause-some : goal.push_parts-requires-clause-some
@@ -54,7 +58,8 @@ push_parts-requires-clause-some g c =
     let is : c.as_slice-2.result.now ≡ neg_list (raw_ring k.ops) c.in_ok-relation.relation.coefficients.items
     = c.as_slice-2.ensures.value ∙ take_at c.negate_all.new.codes _ _ (omega arith) ∙ c.negate_all.ensures
     ∙ ap (neg_list (raw_ring k.ops)) c.as_mut_slice.ensures.value in
-    lower_some k A law c.args.x.now c.args.e.now c.requires.x_in c.requires.fixed c.requires.idempotent c.requires.nonzero _ _
+    lower_some k A law c.args.x.now c.args.e.now c.requires.x_in c.requires.fixed c.requires.idempotent
+    c.requires.nonzero _ _
     c.in_ok-relation.ensures c.as_slice-2.result.now is
 
 pub push_parts-requires-clause-within : goal.push_parts-requires-clause-within
@@ -65,7 +70,8 @@ push_parts-requires-clause-within g c =
     let is : c.as_slice-2.result.now ≡ neg_list (raw_ring k.ops) c.in_ok-relation.relation.coefficients.items
     = c.as_slice-2.ensures.value ∙ take_at c.negate_all.new.codes _ _ (omega arith) ∙ c.negate_all.ensures
     ∙ ap (neg_list (raw_ring k.ops)) c.as_mut_slice.ensures.value in
-    lower_within k A law c.args.x.now c.args.e.now c.requires.x_in c.requires.fixed c.requires.idempotent c.requires.nonzero _ _
+    lower_within k A law c.args.x.now c.args.e.now c.requires.x_in c.requires.fixed c.requires.idempotent
+    c.requires.nonzero _ _
     c.in_ok-relation.ensures c.as_slice-2.result.now is
 
 pub push_parts-requires-clause-simple : goal.push_parts-requires-clause-simple
@@ -78,8 +84,10 @@ push_parts-requires-clause-simple g c =
     ∙ ap (neg_list (raw_ring k.ops)) c.as_mut_slice.ensures.value in
     let roots : IsRoots k.ops c.as_slice-2.result.now c.as_slice-3.result.now
     = subst (IsRoots k.ops c.as_slice-2.result.now) (sym c.as_slice-3.ensures.value)
-    (subst (λ xs. IsRoots k.ops xs c.in_ok-found.found.items) (c.as_slice.ensures.value ∙ sym c.as_slice-2.ensures.value) c.in_ok-found.ensures) in
-    roots_simple k A law c.args.x.now c.args.e.now c.requires.x_in c.requires.fixed c.requires.idempotent c.requires.nonzero _ _
+    (subst (λ xs. IsRoots k.ops xs c.in_ok-found.found.items)
+    (c.as_slice.ensures.value ∙ sym c.as_slice-2.ensures.value) c.in_ok-found.ensures) in
+    roots_simple k A law c.args.x.now c.args.e.now c.requires.x_in c.requires.fixed c.requires.idempotent
+    c.requires.nonzero _ _
     c.in_ok-relation.ensures c.as_slice-2.result.now is c.as_slice-3.result.now roots
 
 pub returns : goal.returns
@@ -92,13 +100,15 @@ returns g c =
     ∙ ap (neg_list (raw_ring k.ops)) c.as_mut_slice.ensures.value in
     let roots : IsRoots k.ops c.as_slice-2.result.now c.as_slice-3.result.now
     = subst (IsRoots k.ops c.as_slice-2.result.now) (sym c.as_slice-3.ensures.value)
-    (subst (λ xs. IsRoots k.ops xs c.in_ok-found.found.items) (c.as_slice.ensures.value ∙ sym c.as_slice-2.ensures.value) c.in_ok-found.ensures) in
+    (subst (λ xs. IsRoots k.ops xs c.in_ok-found.found.items)
+    (c.as_slice.ensures.value ∙ sym c.as_slice-2.ensures.value) c.in_ok-found.ensures) in
     IfOk-weaker c.push_parts.result _ _
     (λ t e. record {
       parts = map (part_of k.ops c.as_slice-2.result.now c.in_ok-relation.relation.powers) c.as_slice-3.result.now;
       is = e;
       split =
-          parts_split_value k A law c.args.x.now c.args.e.now c.requires.x_in c.requires.fixed c.requires.idempotent c.requires.nonzero _ _
+          parts_split_value k A law c.args.x.now c.args.e.now c.requires.x_in c.requires.fixed c.requires.idempotent
+          c.requires.nonzero _ _
           c.in_ok-relation.ensures c.as_slice-2.result.now is c.as_slice-3.result.now roots;
     })
     c.push_parts.ensures

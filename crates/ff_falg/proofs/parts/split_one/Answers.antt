@@ -11,7 +11,8 @@ loop-i-init g c =
     let A = g.A.FiniteAlgebra.algebra c.args.a.now in
     let law = g.A.FiniteAlgebra.laws c.args.a.now k c.requires.over in
     subst (IsSplitting k.ops A c.args.basis.now 0)
-    (sym (ap elements_of (c.in_ok-push.ensures.items ∙ ap (λ xs. xs ++ c.in_ok-one.field-0 ∷ []) c.new-parts.ensures.items)
+    (sym (ap elements_of (c.in_ok-push.ensures.items
+    ∙ ap (λ xs. xs ++ c.in_ok-one.field-0 ∷ []) c.new-parts.ensures.items)
     ∙ ap (λ y. y ∷ []) c.in_ok-one.ensures))
     (splitting_one k A law c.args.basis.now c.requires.basis c.requires.some)
 

@@ -10,14 +10,16 @@ mul-requires-clause-a_in g t c =
     let k = g.K.SmallField.field c.args.k.now in
     let A = g.A.FiniteAlgebra.algebra c.args.a.now in
     let law = g.A.FiniteAlgebra.laws c.args.a.now k c.requires.over in
-    subst (IsVector k.ops A.size) (sym (c.as_slice.ensures.value ∙ c.in_ok-half.ensures)) (power_in k A law c.args.x.now (c.args.e / 2) c.requires.x_in)
+    subst (IsVector k.ops A.size) (sym (c.as_slice.ensures.value ∙ c.in_ok-half.ensures))
+    (power_in k A law c.args.x.now (c.args.e / 2) c.requires.x_in)
 
 pub mul-requires-clause-b_in : goal.mul-requires-clause-b_in
 mul-requires-clause-b_in g t c =
     let k = g.K.SmallField.field c.args.k.now in
     let A = g.A.FiniteAlgebra.algebra c.args.a.now in
     let law = g.A.FiniteAlgebra.laws c.args.a.now k c.requires.over in
-    subst (IsVector k.ops A.size) (sym (c.as_slice-2.ensures.value ∙ c.in_ok-half.ensures)) (power_in k A law c.args.x.now (c.args.e / 2) c.requires.x_in)
+    subst (IsVector k.ops A.size) (sym (c.as_slice-2.ensures.value ∙ c.in_ok-half.ensures))
+    (power_in k A law c.args.x.now (c.args.e / 2) c.requires.x_in)
 
 pub returns-then-e-eq0 : goal.returns-then-e-eq0
 returns-then-e-eq0 g t c =
@@ -25,7 +27,8 @@ returns-then-e-eq0 g t c =
     let A = g.A.FiniteAlgebra.algebra c.args.a.now in
     let law = g.A.FiniteAlgebra.laws c.args.a.now k c.requires.over in
     c.in_ok-square.ensures
-    ∙ ap₂ (A.product k.ops) (c.as_slice.ensures.value ∙ c.in_ok-half.ensures) (c.as_slice-2.ensures.value ∙ c.in_ok-half.ensures)
+    ∙ ap₂ (A.product k.ops) (c.as_slice.ensures.value ∙ c.in_ok-half.ensures)
+    (c.as_slice-2.ensures.value ∙ c.in_ok-half.ensures)
     ∙ power_even k A law c.args.x.now c.args.e c.requires.x_in c.if-e-eq0.true
 
 pub mul-requires-2-clause-b_in : goal.mul-requires-2-clause-b_in
@@ -36,7 +39,8 @@ mul-requires-2-clause-b_in g t c =
     let half = power_in k A law c.args.x.now (c.args.e / 2) c.requires.x_in in
     subst (IsVector k.ops A.size)
     (sym (c.as_slice-3.ensures.value ∙ c.in_ok-square.ensures
-    ∙ ap₂ (A.product k.ops) (c.as_slice.ensures.value ∙ c.in_ok-half.ensures) (c.as_slice-2.ensures.value ∙ c.in_ok-half.ensures)))
+    ∙ ap₂ (A.product k.ops) (c.as_slice.ensures.value ∙ c.in_ok-half.ensures)
+    (c.as_slice-2.ensures.value ∙ c.in_ok-half.ensures)))
     (law.product_in _ _ half half)
 
 pub returns : goal.returns
@@ -46,5 +50,6 @@ returns g t c =
     let law = g.A.FiniteAlgebra.laws c.args.a.now k c.requires.over in
     IfOk-weaker c.mul-2.result _ _ (λ v e. e
     ∙ ap (A.product k.ops c.args.x.now) (c.as_slice-3.ensures.value ∙ c.in_ok-square.ensures
-    ∙ ap₂ (A.product k.ops) (c.as_slice.ensures.value ∙ c.in_ok-half.ensures) (c.as_slice-2.ensures.value ∙ c.in_ok-half.ensures))
+    ∙ ap₂ (A.product k.ops) (c.as_slice.ensures.value ∙ c.in_ok-half.ensures)
+    (c.as_slice-2.ensures.value ∙ c.in_ok-half.ensures))
     ∙ power_odd k A law c.args.x.now c.args.e c.requires.x_in c.if-e-eq0.false) c.mul-2.ensures

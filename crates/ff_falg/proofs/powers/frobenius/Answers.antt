@@ -25,7 +25,8 @@ loop-i-preserved g c =
     let l : c.loop-i.i < A.size = let e = c.dim-n.ensures in omega arith in
     record {
       written =
-          holds_step k (λ i. power k.ops A (unit_row A.size i) k.size) A.size A.size c.loop-i.i c.loop-i.rows _ c.as_slice.result.now l
+          holds_step k (λ i. power k.ops A (unit_row A.size i) k.size) A.size A.size c.loop-i.i c.loop-i.rows _
+          c.as_slice.result.now l
           (power_in k A law (unit_row A.size c.loop-i.i) k.size (unit_in k A.size c.loop-i.i l))
           (c.as_slice.ensures.value ∙ c.in_ok-row.ensures) c.set_row.ensures c.loop-i.invariant.written;
     }
@@ -35,4 +36,6 @@ returns g c =
     let k = g.K.SmallField.field c.args.k.now in
     let A = g.A.FiniteAlgebra.algebra c.args.a.now in
     let law = g.A.FiniteAlgebra.laws c.args.a.now k c.requires in
-    frobenius_values k A law c.loop-i.rows (λ i less. c.loop-i.invariant.written.rows i (let e = c.dim-n.ensures in omega arith)) c.loop-i.invariant.written.shape c.loop-i.invariant.written.over
+    frobenius_values k A law c.loop-i.rows
+    (λ i less. c.loop-i.invariant.written.rows i (let e = c.dim-n.ensures in omega arith))
+    c.loop-i.invariant.written.shape c.loop-i.invariant.written.over

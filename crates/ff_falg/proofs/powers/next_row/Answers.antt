@@ -12,14 +12,16 @@ mul-requires-clause-a_in g c =
     let k = g.K.SmallField.field c.args.k.now in
     let A = g.A.FiniteAlgebra.algebra c.args.a.now in
     subst (IsVector k.ops A.size) (sym c.row.ensures)
-    (row_in k c.args.rows.now A.size A.size 1 c.requires.before.written.shape c.requires.before.written.over (omega arith))
+    (row_in k c.args.rows.now A.size A.size 1 c.requires.before.written.shape c.requires.before.written.over
+    (omega arith))
 
 pub mul-requires-clause-b_in : goal.mul-requires-clause-b_in
 mul-requires-clause-b_in g c =
     let k = g.K.SmallField.field c.args.k.now in
     let A = g.A.FiniteAlgebra.algebra c.args.a.now in
     subst (IsVector k.ops A.size) (sym c.row-then-branch.ensures)
-    (row_in k c.args.rows.now A.size A.size (c.args.i - 1) c.requires.before.written.shape c.requires.before.written.over (omega arith))
+    (row_in k c.args.rows.now A.size A.size (c.args.i - 1) c.requires.before.written.shape
+    c.requires.before.written.over (omega arith))
 
 pub returns-then-branch : goal.returns-then-branch
 returns-then-branch g c =

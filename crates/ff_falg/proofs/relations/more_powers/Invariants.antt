@@ -4,4 +4,5 @@ use Rattle.ff_falg.proofs.relations.more_powers.Given as goal
 
 abbrev pub invariant-loop-l : goal.invariant-loop-l
 invariant-loop-l g l =
-    AreWritten (g.K.SmallField.field l.k).ops (g.A.FiniteAlgebra.algebra l.a) l.x (row_of l.known 0) l.count l.l l.powers
+    AreWritten (g.K.SmallField.field l.k).ops (g.A.FiniteAlgebra.algebra l.a) l.x (row_of l.known 0) l.count l.l
+    l.powers

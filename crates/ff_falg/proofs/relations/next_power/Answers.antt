@@ -11,7 +11,8 @@ mul-requires-clause-b_in g c =
     let k = g.K.SmallField.field c.args.k.now in
     let A = g.A.FiniteAlgebra.algebra c.args.a.now in
     subst (IsVector k.ops A.size) (sym c.row-2.ensures)
-    (row_in k c.args.powers.now (length c.args.powers.now.rows) A.size (c.args.l - 1) c.requires.before.written.shape c.requires.before.written.over (omega arith))
+    (row_in k c.args.powers.now (length c.args.powers.now.rows) A.size (c.args.l - 1) c.requires.before.written.shape
+    c.requires.before.written.over (omega arith))
 
 pub returns : goal.returns
 returns g c =
@@ -19,7 +20,8 @@ returns g c =
     let A = g.A.FiniteAlgebra.algebra c.args.a.now in
     let law = g.A.FiniteAlgebra.laws c.args.a.now k c.requires.over in
     let r = c.rows.ensures in
-    let e_in = row_in k c.args.known.now (length c.args.known.now.rows) A.size 0 c.requires.known.written.shape c.requires.known.written.over c.requires.some in
+    let e_in = row_in k c.args.known.now (length c.args.known.now.rows) A.size 0 c.requires.known.written.shape
+    c.requires.known.written.over c.requires.some in
     IfOk-weaker c.mul.result _ _
     (λ v e. e
     ∙ ap (A.product k.ops c.args.x.now) (c.row-2.ensures ∙ c.requires.before.written.rows (c.args.l - 1) (omega arith))

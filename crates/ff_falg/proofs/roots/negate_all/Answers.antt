@@ -11,4 +11,5 @@ loop-j-preserved g c =
 pub returns : goal.returns
 returns g c =
     let k = g.K.SmallField.field c.args.k.now in
-    mapped_end k.neg c.args.codes.now c.loop-j.codes c.loop-j.j c.loop-j.invariant (omega arith) ∙ negatives k.ops c.args.codes.now
+    mapped_end k.neg c.args.codes.now c.loop-j.codes c.loop-j.j c.loop-j.invariant (omega arith)
+    ∙ negatives k.ops c.args.codes.now

@@ -17,11 +17,13 @@ loop-c-preserved g c =
     let k = g.K.SmallField.field c.args.k.now in
     elim c.if-value-eq0.branch [
       | then-value-eq0+in_ok-push w ↦
-          roots_push k.ops c.args.lower.now c.loop-c.c c.value.result c.loop-c.found.items _ c.value.ensures w.if-value-eq0.true
+          roots_push k.ops c.args.lower.now c.loop-c.c c.value.result c.loop-c.found.items _ c.value.ensures
+          w.if-value-eq0.true
           (ap (λ v. v.items) w.found-is ∙ w.in_ok-push.ensures.items) c.loop-c.invariant
       | else-value-eq0 w ↦
           subst (IsRootsBelow k.ops c.args.lower.now _) (ap (λ v. v.items) (sym w.found-is))
-          (roots_pass k.ops c.args.lower.now c.loop-c.c c.value.result c.loop-c.found.items c.value.ensures w.if-value-eq0.false c.loop-c.invariant)
+          (roots_pass k.ops c.args.lower.now c.loop-c.c c.value.result c.loop-c.found.items c.value.ensures
+          w.if-value-eq0.false c.loop-c.invariant)
     ]
 
 pub returns : goal.returns

@@ -26,7 +26,8 @@ pub loop-i-preserved : goal.loop-i-preserved
 loop-i-preserved g c =
     let k = g.K.SmallField.field c.args.k.now in
     summed_step k c.args.m.now c.args.v.now c.args.sum.now c.loop-i.sum _ _ c.loop-i.i _ c.requires.v_in
-    (rows_in k c.args.m.now _ _ c.requires.shape c.requires.m_in) c.loop-i-test.true c.requires.within refl c.row.ensures
+    (rows_in k c.args.m.now _ _ c.requires.shape c.requires.m_in) c.loop-i-test.true c.requires.within refl
+    c.row.ensures
     c.add_multiple.ensures c.loop-i.invariant
 
 pub returns : goal.returns

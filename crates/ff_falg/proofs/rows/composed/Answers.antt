@@ -9,7 +9,8 @@ pub row_times-requires-clause-v_in : goal.row_times-requires-clause-v_in
 row_times-requires-clause-v_in g c =
     let k = g.K.SmallField.field c.args.k.now in
     let l : c.loop-i.i < length c.args.b.now.rows = let e = c.requires.a_shape.row_count in omega arith in
-    (subst (IsVector k.ops (length c.args.b.now.rows)) (sym c.row.ensures) (row_in k c.args.a.now _ _ c.loop-i.i c.requires.a_shape c.requires.a_in l)).over
+    (subst (IsVector k.ops (length c.args.b.now.rows)) (sym c.row.ensures)
+    (row_in k c.args.a.now _ _ c.loop-i.i c.requires.a_shape c.requires.a_in l)).over
 
 pub set_row-requires-clause-width : goal.set_row-requires-clause-width
 set_row-requires-clause-width g c =
@@ -17,7 +18,8 @@ set_row-requires-clause-width g c =
     let l : c.loop-i.i < length c.args.b.now.rows = let e = c.requires.a_shape.row_count in omega arith in
     let row = row_in k c.args.a.now _ _ c.loop-i.i c.requires.a_shape c.requires.a_in l in
     let e : length c.as_slice.result.now ≡ c.args.b.now.cols
-    = ap length (c.as_slice.ensures.value ∙ c.in_ok-row.ensures ∙ ap (λ r. product_of k.ops r c.args.b.now) c.row.ensures)
+    = ap length (c.as_slice.ensures.value ∙ c.in_ok-row.ensures
+    ∙ ap (λ r. product_of k.ops r c.args.b.now) c.row.ensures)
     ∙ (product_in k c.args.b.now _ row.over c.requires.b_shape c.requires.b_in).size in
     e ∙ sym c.loop-i.invariant.written.shape.col_count
 
@@ -27,7 +29,8 @@ loop-i-preserved g c =
     let l : c.loop-i.i < length c.args.b.now.rows = let e = c.requires.a_shape.row_count in omega arith in
     let row = row_in k c.args.a.now _ _ c.loop-i.i c.requires.a_shape c.requires.a_in l in
     record {
-      written = holds_step k (λ i. product_of k.ops (row_of c.args.a.now i) c.args.b.now) _ _ c.loop-i.i c.loop-i.product _ c.as_slice.result.now
+      written = holds_step k (λ i. product_of k.ops (row_of c.args.a.now i) c.args.b.now) _ _ c.loop-i.i
+          c.loop-i.product _ c.as_slice.result.now
           (let e = c.requires.a_shape.row_count in omega arith)
           (product_in k c.args.b.now _ row.over c.requires.b_shape c.requires.b_in)
           (c.as_slice.ensures.value ∙ c.in_ok-row.ensures ∙ ap (λ r. product_of k.ops r c.args.b.now) c.row.ensures)

@@ -10,7 +10,8 @@ pub returns : goal.returns
 returns g c =
     let k = g.K.SmallField.field c.args.k.now in
     let m = c.args.m.now in
-    let value_in = combination_in k m.cols c.args.v.now m.rows c.requires.v_in (rows_in k m _ _ c.requires.shape c.requires.m_in) in
+    let value_in = combination_in k m.cols c.args.v.now m.rows c.requires.v_in
+    (rows_in k m _ _ c.requires.shape c.requires.m_in) in
     take_at c.add_product.new.sum _ c.in_ok-sum.sum.len (omega arith)
     ∙ c.add_product.ensures
     ∙ ap (λ xs. add_lists (raw_ring k.ops) xs (product_of k.ops c.args.v.now m))

@@ -10,7 +10,8 @@ loop-reach-init g c =
     let law = g.A.FiniteAlgebra.laws c.args.a.now k c.requires in
     record {
       some = let l = k.laws.one_below in let e = c.size-reach.ensures in omega arith;
-      iterate = subst (λ n. IsIterate k.ops A n c.in_ok-iterate.iterate) (sym c.size-reach.ensures) (iterate_start k A law _ c.in_ok-iterate.ensures);
+      iterate = subst (λ n. IsIterate k.ops A n c.in_ok-iterate.iterate) (sym c.size-reach.ensures)
+          (iterate_start k A law _ c.in_ok-iterate.ensures);
     }
 
 pub loop-reach-preserved : goal.loop-reach-preserved
@@ -20,6 +21,7 @@ loop-reach-preserved g c =
     let law = g.A.FiniteAlgebra.laws c.args.a.now k c.requires in
     record {
       some = square_low c.loop-reach.reach _ c.loop-reach.invariant.some c.saturating_mul-reach.ensures;
-      iterate = iterate_step k A law c.loop-reach.reach _ c.loop-reach.iterate _ c.loop-reach.invariant.iterate c.in_ok-iterate-2.ensures
+      iterate = iterate_step k A law c.loop-reach.reach _ c.loop-reach.iterate _ c.loop-reach.invariant.iterate
+          c.in_ok-iterate-2.ensures
           (square_high c.loop-reach.reach _ c.saturating_mul-reach.ensures);
     }

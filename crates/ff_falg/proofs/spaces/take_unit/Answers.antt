@@ -8,7 +8,8 @@ pub sub-less-requires-clause-a_in : goal.sub-less-requires-clause-a_in
 sub-less-requires-clause-a_in g c =
     let k = g.K.SmallField.field c.args.k.now in
     subst (λ x. x < k.size) (sym c.get.ensures)
-    (entry_in k c.loop-i.m _ _ c.loop-i.i c.loop-i.i c.loop-i.invariant.shape c.loop-i.invariant.over (let e = c.cols-i-end.ensures in omega arith))
+    (entry_in k c.loop-i.m _ _ c.loop-i.i c.loop-i.i c.loop-i.invariant.shape c.loop-i.invariant.over
+    (let e = c.cols-i-end.ensures in omega arith))
 
 pub loop-i-preserved : goal.loop-i-preserved
 loop-i-preserved g c =

@@ -14,9 +14,11 @@ loop-i-preserved c =
     let last : c.loop-i.i ≡ suc (c.loop-i.i - 1) = omega (arith, c.loop-i-test.true) in
     record {
       within = omega (arith, within);
-      part = part_more c.args.m c.args.modulus c.args.a c.args.b c.loop-i.i (c.loop-i.i - 1) c.loop-i.product _ c.requires.monic c.requires.modulus_in c.requires.b_in last within refl c.loop-i.invariant.part;
+      part = part_more c.args.m c.args.modulus c.args.a c.args.b c.loop-i.i (c.loop-i.i - 1) c.loop-i.product _
+          c.requires.monic c.requires.modulus_in c.requires.b_in last within refl c.loop-i.invariant.part;
     }
 
 pub returns : goal.returns
 returns c =
-    part_whole c.args.m c.args.modulus c.args.a c.args.b c.loop-i.i c.loop-i.product c.requires.monic (omega (arith, c.loop-i-test.false)) c.loop-i.invariant.part
+    part_whole c.args.m c.args.modulus c.args.a c.args.b c.loop-i.i c.loop-i.product c.requires.monic
+    (omega (arith, c.loop-i-test.false)) c.loop-i.invariant.part

@@ -11,5 +11,6 @@ invariant-loop-i l =
     record {
       position_is : l.position ≡ l.p ^ l.i;
       low : l.sum < l.position;
-      kept : l.sum + l.position * number l.p (neg_list f (digits l.p (l.m - l.i) l.x)) ≡ number l.p (neg_list f (digits l.p l.m l.a));
+      kept : l.sum + l.position * number l.p (neg_list f (digits l.p (l.m - l.i) l.x))
+          ≡ number l.p (neg_list f (digits l.p l.m l.a));
     }

@@ -31,20 +31,29 @@ loop-i-preserved c =
     let a_more : drop n c.args.a.now ≡ get_or c.args.a.now n 0 ∷ drop c.loop-i.i c.args.a.now =
     drop_more c.args.a.now n 0 (omega arith) ∙ ap (λ i. get_or c.args.a.now n 0 ∷ drop i c.args.a.now) after in
     let q_more : drop n (set c.loop-i.quotient n c.step.result) ≡ c.step.result ∷ drop c.loop-i.i c.loop-i.quotient =
-    drop-set c.loop-i.quotient n c.step.result (omega (arith, room, c.requires.room)) ∙ ap (λ i. c.step.result ∷ drop i c.loop-i.quotient) after in
+    drop-set c.loop-i.quotient n c.step.result (omega (arith, room, c.requires.room))
+    ∙ ap (λ i. c.step.result ∷ drop i c.loop-i.quotient) after in
     let top : c.step.result ≡ get_or before (length before - 1) 0 = c.step.ensures.top in
     let some : 0 < length before = omega (arith, same, c.requires.some) in
     let row_long : length c.args.b.now ≡ length before = c.requires.b_long ∙ sym same in
     let modulus_long : length c.args.modulus.now ≡ length before + 1 = omega (arith, same, c.requires.modulus_long) in
-    let monic : get_or c.args.modulus.now (length before) 0 ≡ 1 = ap (λ w. get_or c.args.modulus.now w 0) same ∙ c.requires.monic in
+    let monic : get_or c.args.modulus.now (length before) 0 ≡ 1 = ap (λ w. get_or c.args.modulus.now w 0) same
+    ∙ c.requires.monic in
     let c_in : get_or c.args.a.now n 0 < p = digit_below p c.requires.base c.args.a.now c.requires.a_in n in
-    let each : (i : ℕ) → i < length before → get_or new i 0 ≡ stepped p before (get_or c.args.a.now n 0) c.args.b.now (p - get_or before (length before - 1) 0) c.args.modulus.now i =
-    λ i less. c.step.ensures.each i less ∙ ap (λ w. stepped p before (get_or c.args.a.now n 0) c.args.b.now (p - w) c.args.modulus.now i) top in
+    let each : (i : ℕ) → i < length before
+    → get_or new i 0 ≡ stepped p before (get_or c.args.a.now n 0) c.args.b.now
+    (p - get_or before (length before - 1) 0) c.args.modulus.now i =
+    λ i less. c.step.ensures.each i less
+    ∙ ap (λ w. stepped p before (get_or c.args.a.now n 0) c.args.b.now (p - w) c.args.modulus.now i) top in
     record {
       within = omega (arith, done.within);
-      rest_in = rest_over p c.requires.base before c.args.b.now c.args.modulus.now new (get_or c.args.a.now n 0) some c_in row_long modulus_long monic done.rest_in c.requires.b_in c.requires.modulus_in now each;
+      rest_in = rest_over p c.requires.base before c.args.b.now c.args.modulus.now new (get_or c.args.a.now n 0) some
+          c_in row_long modulus_long monic done.rest_in c.requires.b_in c.requires.modulus_in now each;
       quotient_in = subst (λ w. IsOver (prime_of p) w) (sym q_more)
-          (IsOver_cons (subst (λ w. w < p) (sym top) (digit_below p c.requires.base before done.rest_in (length before - 1))) done.quotient_in);
+          (IsOver_cons (subst (λ w. w < p) (sym top)
+          (digit_below p c.requires.base before done.rest_in (length before - 1))) done.quotient_in);
       whole = rw (a_more, q_more, top)
-          (reduced_more p before c.args.b.now c.args.modulus.now new (get_or c.args.a.now n 0) some c_in row_long modulus_long monic done.rest_in c.requires.b_in c.requires.modulus_in now each (drop c.loop-i.i c.args.a.now) c.args.rest.now (drop c.loop-i.i c.loop-i.quotient) done.whole);
+          (reduced_more p before c.args.b.now c.args.modulus.now new (get_or c.args.a.now n 0) some c_in row_long
+          modulus_long monic done.rest_in c.requires.b_in c.requires.modulus_in now each
+          (drop c.loop-i.i c.args.a.now) c.args.rest.now (drop c.loop-i.i c.loop-i.quotient) done.whole);
     }

@@ -9,6 +9,7 @@ loop-code-preserved g c =
     let before = c.loop-code.invariant in
     record {
       long = omega (arith, c.in_ok-push.ensures.len, c.push.new.self.ok.0, c.loop-code.powers.ok.0, before.long);
-      each = push_step k.ops c.args.codes.now c.args.logs.now c.loop-code.powers.items c.push.new.self.items _ c.loop-code.code-index items
+      each = push_step k.ops c.args.codes.now c.args.logs.now c.loop-code.powers.items c.push.new.self.items _
+          c.loop-code.code-index items
           before.long before.each refl (ap (λ w. get_or c.args.logs.now w 0) c.add-sum.ensures);
     }

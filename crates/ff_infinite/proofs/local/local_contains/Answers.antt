@@ -13,7 +13,8 @@ contains-requires-clause-a_form g c =
 pub contains-requires-clause-z_in : goal.contains-requires-clause-z_in
 contains-requires-clause-z_in g c =
     let k = g.K.SmallField.field c.args.k.now in
-    subst (λ n. IsElem k.ops n c.in_ok-freed.freed) (c.in_ok-w.ensures.in_range.one_each ∙ sym c.requires.l_form.popov.size) c.in_ok-freed.ensures.in_range
+    subst (λ n. IsElem k.ops n c.in_ok-freed.freed)
+    (c.in_ok-w.ensures.in_range.one_each ∙ sym c.requires.l_form.popov.size) c.in_ok-freed.ensures.in_range
 
 pub returns : goal.returns
 returns g c =
@@ -26,7 +27,9 @@ returns g c =
     let positive : 1 ≤ q.n = omega (arith, two, same) in
     IfOk-weaker c.contains.result _ _
     (λ r decided.
-    local_members k p q c.args.c.now.c c.requires.curve.infinite some c.args.l.now c.requires.l_form c.requires.tame (function_of k p c.args.z.now)
-    c.in_ok-w.w c.in_ok-freed.freed c.in_ok-w.ensures.in_range c.in_ok-w.ensures.monic c.in_ok-w.ensures.same_function c.in_ok-freed.ensures.freed r
+    local_members k p q c.args.c.now.c c.requires.curve.infinite some c.args.l.now c.requires.l_form c.requires.tame
+    (function_of k p c.args.z.now)
+    c.in_ok-w.w c.in_ok-freed.freed c.in_ok-w.ensures.in_range c.in_ok-w.ensures.monic c.in_ok-w.ensures.same_function
+    c.in_ok-freed.ensures.freed r
     (decided q positive (sym c.requires.l_form.popov.size)))
     c.contains.ensures

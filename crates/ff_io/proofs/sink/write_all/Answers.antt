@@ -13,5 +13,6 @@ loop-at-preserved g c =
       within = omega (arith, c.in_ok-n.ensures.fits, length-drop at bytes);
       front = appends_take _ _ _ bytes _ at n rest old.front c.in_ok-n.ensures.bytes;
       count = omega (arith, old.count, c.in_ok-n.ensures.count);
-      room = fills_more _ _ _ _ _ at n _ _ _ (omega (arith, ap length rest, length-drop at bytes)) old.room c.in_ok-n.ensures.room;
+      room = fills_more _ _ _ _ _ at n _ _ _ (omega (arith, ap length rest, length-drop at bytes)) old.room
+          c.in_ok-n.ensures.room;
     }

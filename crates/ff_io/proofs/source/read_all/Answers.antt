@@ -6,7 +6,8 @@ use Rattle.ff_io.proofs.source.read_all.Goals as goal
 pub returns-then-n-eq0-clause-whole : goal.returns-then-n-eq0-clause-whole
 returns-then-n-eq0-clause-whole g c =
     let read = c.in_ok-n.ensures in
-    took_whole _ _ _ c.loop-asked.bytes.items _ _ c.if-n-eq0.true c.loop-asked.invariant.front read.bytes (read.end c.if-n-eq0.true (search rules))
+    took_whole _ _ _ c.loop-asked.bytes.items _ _ c.if-n-eq0.true c.loop-asked.invariant.front read.bytes
+    (read.end c.if-n-eq0.true (search rules))
 
 pub loop-asked-preserved : goal.loop-asked-preserved
 loop-asked-preserved g c =
@@ -18,7 +19,8 @@ loop-asked-preserved g c =
     let grown = c.in_ok-extend_from_slice.ensures.items in
     record {
       within = omega (arith, grown_length _ _ _ _ grown);
-      front = rw grown (took_next _ _ _ bytes c.read.new.buf (take n whole) n read.fits (take-append-le n _ _ read.fits) old.front read.bytes);
+      front = rw grown (took_next _ _ _ bytes c.read.new.buf (take n whole) n read.fits (take-append-le n _ _ read.fits)
+          old.front read.bytes);
       count = omega (arith, old.count, read.count);
       steady = λ s. let was = old.steady s in let is = read.stays_steady was.1 in (is.0 ∙ was.0, is.1);
     }

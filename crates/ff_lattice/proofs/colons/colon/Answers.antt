@@ -13,9 +13,12 @@ returns-clause-members g c =
     let k = g.K.SmallField.field c.args.k.now in
     let p = c.args.p.now in
     let a = c.args.a.now in
-    let start_is : (z : Functions k p) → Contains k p c.in_ok-start.start z ↔ IsScaled k p (1 ∷ []) c.in_ok-h.h (Contains k p a) z
-    = subst (λ one. (z : Functions k p) → Contains k p c.in_ok-start.start z ↔ IsScaled k p one c.in_ok-h.h (Contains k p a) z) c.in_ok-one.ensures
+    let start_is : (z : Functions k p) → Contains k p c.in_ok-start.start z
+    ↔ IsScaled k p (1 ∷ []) c.in_ok-h.h (Contains k p a) z
+    = subst (λ one. (z : Functions k p) → Contains k p c.in_ok-start.start z
+    ↔ IsScaled k p one c.in_ok-h.h (Contains k p a) z) c.in_ok-one.ensures
     (c.in_ok-start.ensures.members p (sym c.requires.a_form.popov.size)) in
     members_through k p c.restricted_by_rows.result
-    (colon_is k p a c.args.b.now c.in_ok-h.h c.in_ok-start.start (c.in_ok-h.ensures.inside p (sym c.n.ensures.n)) start_is)
+    (colon_is k p a c.args.b.now c.in_ok-h.h c.in_ok-start.start (c.in_ok-h.ensures.inside p (sym c.n.ensures.n))
+    start_is)
     c.restricted_by_rows.ensures.members

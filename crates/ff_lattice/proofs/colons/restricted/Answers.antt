@@ -16,7 +16,8 @@ combinations-requires-clause-basis_in g c =
     let a = c.args.a.now in
     let w = c.args.w.now in
     let basis = rows_of c.in_ok-basis.basis.items in
-    let size : length c.rows.result.now ≡ p.n = sym (length-map c.rows.result.now (λ v. v.items)) ∙ ap length c.rows.ensures.rows ∙ c.requires.l_form.popov.size in
+    let size : length c.rows.result.now ≡ p.n = sym (length-map c.rows.result.now (λ v. v.items))
+    ∙ ap length c.rows.ensures.rows ∙ c.requires.l_form.popov.size in
     subst (λ n. All (IsRow k.ops n) (rows_of c.deref.result.now)) (sym size)
     (subst (λ vs. All (IsRow k.ops p.n) (rows_of vs)) (sym c.deref.ensures.value) c.in_ok-basis.ensures.rows_in)
 
@@ -40,13 +41,17 @@ returns-then-same_rows-clause-members g c =
     let w = c.args.w.now in
     let basis = rows_of c.in_ok-basis.basis.items in
     let made_is : rows_of c.in_ok-rows.rows.items ≡ map (λ z. combination k.ops p.n z l.rows) basis
-    = c.in_ok-rows.ensures ∙ ap (λ n. map (λ z. combination k.ops n z (rows_of c.rows.result.now)) (rows_of c.deref.result.now)) c.n.ensures.n
+    = c.in_ok-rows.ensures ∙ ap (λ n. map (λ z. combination k.ops n z (rows_of c.rows.result.now))
+    (rows_of c.deref.result.now)) c.n.ensures.n
     ∙ ap₂ (λ ls bs. map (λ z. combination k.ops p.n z ls) (rows_of bs)) c.rows.ensures.rows c.deref.ensures.value in
     let same : map (λ z. combination k.ops p.n z l.rows) basis ≡ l.rows
-    = sym made_is ∙ ap rows_of (sym c.deref-2.ensures.value) ∙ c.same_rows.ensures.0 c.if-same_rows.true ∙ c.rows-2.ensures.rows in
+    = sym made_is ∙ ap rows_of (sym c.deref-2.ensures.value) ∙ c.same_rows.ensures.0 c.if-same_rows.true
+    ∙ c.rows-2.ensures.rows in
     λ z.
-    subst (λ (r : LatticeValue). Contains k p r z ↔ (Contains k p l z × Contains k p a ((functions k p).◌⊗◌ (function_of k p w) z))) (sym c.in_ok-copy.ensures)
-    (subst (λ xs. InSpanOf k p (elems_over xs l.den) z ↔ (Contains k p l z × Contains k p a ((functions k p).◌⊗◌ (function_of k p w) z))) same
+    subst (λ (r : LatticeValue). Contains k p r z
+    ↔ (Contains k p l z × Contains k p a ((functions k p).◌⊗◌ (function_of k p w) z))) (sym c.in_ok-copy.ensures)
+    (subst (λ xs. InSpanOf k p (elems_over xs l.den) z
+    ↔ (Contains k p l z × Contains k p a ((functions k p).◌⊗◌ (function_of k p w) z))) same
     (kept_iff k p l a w basis c.n.ensures.range.positive c.requires.l_form c.requires.a_form c.in_ok-basis.ensures z))
 
 pub from_rows-requires-clause-rows_in : goal.from_rows-requires-clause-rows_in
@@ -58,10 +63,13 @@ from_rows-requires-clause-rows_in g c =
     let w = c.args.w.now in
     let basis = rows_of c.in_ok-basis.basis.items in
     let made_is : rows_of c.in_ok-rows.rows.items ≡ map (λ z. combination k.ops p.n z l.rows) basis
-    = c.in_ok-rows.ensures ∙ ap (λ n. map (λ z. combination k.ops n z (rows_of c.rows.result.now)) (rows_of c.deref.result.now)) c.n.ensures.n
+    = c.in_ok-rows.ensures ∙ ap (λ n. map (λ z. combination k.ops n z (rows_of c.rows.result.now))
+    (rows_of c.deref.result.now)) c.n.ensures.n
     ∙ ap₂ (λ ls bs. map (λ z. combination k.ops p.n z ls) (rows_of bs)) c.rows.ensures.rows c.deref.ensures.value in
     subst (λ n. All (IsRow k.ops n) (rows_of c.in_ok-rows.rows.items)) (sym c.n-2.ensures.n)
-    (subst (All (IsRow k.ops p.n)) (sym made_is) (made_rows k p l a w basis c.n.ensures.range.positive c.requires.l_form c.requires.a_form c.in_ok-basis.ensures))
+    (subst (All (IsRow k.ops p.n)) (sym made_is)
+    (made_rows k p l a w basis c.n.ensures.range.positive c.requires.l_form c.requires.a_form
+    c.in_ok-basis.ensures))
 
 pub from_rows-requires-clause-rows_poly : goal.from_rows-requires-clause-rows_poly
 from_rows-requires-clause-rows_poly g c =
@@ -72,9 +80,11 @@ from_rows-requires-clause-rows_poly g c =
     let w = c.args.w.now in
     let basis = rows_of c.in_ok-basis.basis.items in
     let made_is : rows_of c.in_ok-rows.rows.items ≡ map (λ z. combination k.ops p.n z l.rows) basis
-    = c.in_ok-rows.ensures ∙ ap (λ n. map (λ z. combination k.ops n z (rows_of c.rows.result.now)) (rows_of c.deref.result.now)) c.n.ensures.n
+    = c.in_ok-rows.ensures ∙ ap (λ n. map (λ z. combination k.ops n z (rows_of c.rows.result.now))
+    (rows_of c.deref.result.now)) c.n.ensures.n
     ∙ ap₂ (λ ls bs. map (λ z. combination k.ops p.n z ls) (rows_of bs)) c.rows.ensures.rows c.deref.ensures.value in
-    subst (All (All IsPoly)) (sym made_is) (made_poly k p l a w basis c.n.ensures.range.positive c.requires.l_form c.requires.a_form c.in_ok-basis.ensures)
+    subst (All (All IsPoly)) (sym made_is)
+    (made_poly k p l a w basis c.n.ensures.range.positive c.requires.l_form c.requires.a_form c.in_ok-basis.ensures)
 
 pub unreachable-requires : goal.unreachable-requires
 unreachable-requires g c =
@@ -85,11 +95,15 @@ unreachable-requires g c =
     let w = c.args.w.now in
     let basis = rows_of c.in_ok-basis.basis.items in
     let made_is : rows_of c.in_ok-rows.rows.items ≡ map (λ z. combination k.ops p.n z l.rows) basis
-    = c.in_ok-rows.ensures ∙ ap (λ n. map (λ z. combination k.ops n z (rows_of c.rows.result.now)) (rows_of c.deref.result.now)) c.n.ensures.n
+    = c.in_ok-rows.ensures ∙ ap (λ n. map (λ z. combination k.ops n z (rows_of c.rows.result.now))
+    (rows_of c.deref.result.now)) c.n.ensures.n
     ∙ ap₂ (λ ls bs. map (λ z. combination k.ops p.n z ls) (rows_of bs)) c.rows.ensures.rows c.deref.ensures.value in
-    let found = subst (λ f. MatchOption f (¬ HasFullRank k.ops c.n-2.result (rows_of c.in_ok-rows.rows.items)) (IsLattice k.ops c.n-2.result)) c.in-None.is c.in_ok-lattice.ensures.form in
-    let none = subst (λ xs. ¬ HasFullRank k.ops p.n xs) made_is (subst (λ n. ¬ HasFullRank k.ops n (rows_of c.in_ok-rows.rows.items)) c.n-2.ensures.n found) in
-    none (made_rank k p l a w basis c.n.ensures.range.positive c.requires.l_form c.requires.a_form c.in_ok-basis.ensures)
+    let found = subst (λ f. MatchOption f (¬ HasFullRank k.ops c.n-2.result (rows_of c.in_ok-rows.rows.items))
+    (IsLattice k.ops c.n-2.result)) c.in-None.is c.in_ok-lattice.ensures.form in
+    let none = subst (λ xs. ¬ HasFullRank k.ops p.n xs) made_is
+    (subst (λ n. ¬ HasFullRank k.ops n (rows_of c.in_ok-rows.rows.items)) c.n-2.ensures.n found) in
+    none (made_rank k p l a w basis c.n.ensures.range.positive c.requires.l_form c.requires.a_form
+    c.in_ok-basis.ensures)
 
 pub returns-clause-members : goal.returns-clause-members
 returns-clause-members g c =
@@ -100,17 +114,22 @@ returns-clause-members g c =
     let w = c.args.w.now in
     let basis = rows_of c.in_ok-basis.basis.items in
     let made_is : rows_of c.in_ok-rows.rows.items ≡ map (λ z. combination k.ops p.n z l.rows) basis
-    = c.in_ok-rows.ensures ∙ ap (λ n. map (λ z. combination k.ops n z (rows_of c.rows.result.now)) (rows_of c.deref.result.now)) c.n.ensures.n
+    = c.in_ok-rows.ensures ∙ ap (λ n. map (λ z. combination k.ops n z (rows_of c.rows.result.now))
+    (rows_of c.deref.result.now)) c.n.ensures.n
     ∙ ap₂ (λ ls bs. map (λ z. combination k.ops p.n z ls) (rows_of bs)) c.rows.ensures.rows c.deref.ensures.value in
     let r = c.in-Some.lattice in
-    let spanned = subst (λ f. IfSome f (IsSpannedBy k c.n-2.result (elems_over (rows_of c.in_ok-rows.rows.items) c.den.result.now))) c.in-Some.is c.in_ok-lattice.ensures.members in
+    let spanned = subst (λ f. IfSome f (IsSpannedBy k c.n-2.result
+    (elems_over (rows_of c.in_ok-rows.rows.items) c.den.result.now))) c.in-Some.is c.in_ok-lattice.ensures.members
+    in
     let spanned_n =
     subst (λ d. IsSpannedBy k p.n (elems_over (map (λ z. combination k.ops p.n z l.rows) basis) d) r) c.den.ensures.den
     (subst (λ xs. IsSpannedBy k p.n (elems_over xs c.den.result.now) r) made_is
-    (subst (λ n. IsSpannedBy k n (elems_over (rows_of c.in_ok-rows.rows.items) c.den.result.now) r) c.n-2.ensures.n spanned)) in
+    (subst (λ n. IsSpannedBy k n (elems_over (rows_of c.in_ok-rows.rows.items) c.den.result.now) r) c.n-2.ensures.n
+    spanned)) in
     λ z.
     let m = spanned_n.members p refl z in
-    let s = kept_iff k p l a w basis c.n.ensures.range.positive c.requires.l_form c.requires.a_form c.in_ok-basis.ensures z in (
+    let s = kept_iff k p l a w basis c.n.ensures.range.positive c.requires.l_form c.requires.a_form
+    c.in_ok-basis.ensures z in (
       λ h. s.0 (m.0 h),
       λ h. m.1 (s.1 h),
     )

@@ -14,7 +14,8 @@ loop-i-preserved g c =
     record {
       form = c.in_ok-found.ensures.form;
       members =
-          colon_more k c.args.p.now c.args.a.now b c.args.start c.loop-i.found c.in_ok-found.found c.loop-i.i c.in_ok-row.row less c.in_ok-row.ensures.row
+          colon_more k c.args.p.now c.args.a.now b c.args.start c.loop-i.found c.in_ok-found.found c.loop-i.i
+          c.in_ok-row.row less c.in_ok-row.ensures.row
           c.loop-i.invariant.members c.in_ok-found.ensures.members;
     }
 
@@ -25,5 +26,7 @@ returns-clause-members g c =
     let b = c.args.b.now in
     let size : length (row_elems b) ≤ c.loop-i.i = omega (arith, elems_length b) in
     subst
-    (λ ws. (z : Functions k p) → Contains k p c.loop-i.found z ↔ (Contains k p c.args.start z × All (λ w. Contains k p c.args.a.now ((functions k p).◌⊗◌ (function_of k p w) z)) ws))
+    (λ ws. (z : Functions k p) → Contains k p c.loop-i.found z
+    ↔ (Contains k p c.args.start z × All (λ w. Contains k p c.args.a.now
+    ((functions k p).◌⊗◌ (function_of k p w) z)) ws))
     (take_all c.loop-i.i (row_elems b) size) c.loop-i.invariant.members

@@ -11,5 +11,7 @@ invariant-loop-i g l =
       members :
           (z : Functions k l.p)
           → Contains k l.p l.found z
-          ↔ (Contains k l.p l.fn.start z × All (λ w. Contains k l.p l.a ((functions k l.p).◌⊗◌ (function_of k l.p w) z)) (take l.i (row_elems l.b)));
+          ↔ (Contains k l.p l.fn.start z
+          × All (λ w. Contains k l.p l.a ((functions k l.p).◌⊗◌ (function_of k l.p w) z))
+          (take l.i (row_elems l.b)));
     }

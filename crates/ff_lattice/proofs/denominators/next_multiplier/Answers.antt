@@ -7,5 +7,8 @@ use Rattle.ff_lattice.proofs.denominators.next_multiplier.Goals as goal
 pub returns : goal.returns
 returns g c =
     let k = g.K.SmallField.field c.args.k.now in
-    subst (IsNext k.ops c.args.h.now (λ u. DividesList k.ops c.args.e.now (product_of k.ops u c.args.v.now))) (sym c.in_ok-next.ensures.product)
-    (next_is k c.args.e.now c.args.h.now c.args.v.now c.in_ok-product.product c.in_ok-more.more c.requires.e_in c.requires.h_in c.requires.h_poly c.requires.h_monic c.requires.v_in c.in_ok-product.ensures.product c.in_ok-more.ensures)
+    subst (IsNext k.ops c.args.h.now (λ u. DividesList k.ops c.args.e.now (product_of k.ops u c.args.v.now)))
+    (sym c.in_ok-next.ensures.product)
+    (next_is k c.args.e.now c.args.h.now c.args.v.now c.in_ok-product.product c.in_ok-more.more c.requires.e_in
+    c.requires.h_in c.requires.h_poly c.requires.h_monic c.requires.v_in c.in_ok-product.ensures.product
+    c.in_ok-more.ensures)

@@ -12,10 +12,12 @@ loop-z-preserved g c =
     record {
       over = common.over;
       monic = common.monic;
-      divides = denominators_more k c.args.n c.args.gens.now c.loop-z.z-index c.z-item.result c.loop-z.e c.in_ok-e-2.e c.requires c.loop-z-test.true c.z-item.is c.loop-z.invariant.over c.loop-z.invariant.divides common;
+      divides = denominators_more k c.args.n c.args.gens.now c.loop-z.z-index c.z-item.result c.loop-z.e c.in_ok-e-2.e
+          c.requires c.loop-z-test.true c.z-item.is c.loop-z.invariant.over c.loop-z.invariant.divides common;
     }
 
 pub returns-clause-divides : goal.returns-clause-divides
 returns-clause-divides g c =
     let k = g.K.SmallField.field c.args.k.now in
-    subst (All (λ z. DividesList k.ops z.den c.loop-z.e)) (take_all c.loop-z.z-index c.args.gens.now (omega arith)) c.loop-z.invariant.divides
+    subst (All (λ z. DividesList k.ops z.den c.loop-z.e)) (take_all c.loop-z.z-index c.args.gens.now (omega arith))
+    c.loop-z.invariant.divides

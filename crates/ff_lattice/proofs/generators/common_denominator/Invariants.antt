@@ -6,4 +6,9 @@ use Rattle.ff_lattice.proofs.generators.common_denominator.Given as goal
 abbrev pub invariant-loop-z : goal.invariant-loop-z
 invariant-loop-z g l =
     let k = (g.K.SmallField.field l.k).ops in
-    record { over : IsOver k l.e; monic : IsMonic l.e; divides : All (λ z. DividesList k z.den l.e) (take l.z-index l.gens) }
+    record {
+      over : IsOver k l.e;
+      monic : IsMonic l.e;
+      divides : All (λ z. DividesList k z.den l.e)
+          (take l.z-index l.gens);
+    }

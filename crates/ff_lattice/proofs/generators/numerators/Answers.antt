@@ -14,13 +14,16 @@ exact_quotient-requires-clause-a_poly g c = monic_poly c.args.e.now c.requires.e
 pub multiple_row-requires-clause-row_in : goal.multiple_row-requires-clause-row_in
 multiple_row-requires-clause-row_in g c =
     let k = g.K.SmallField.field c.args.k.now in
-    subst (All (IsOver k.ops)) (sym c.num.ensures) (read_default (IsElem k.ops c.args.n) c.args.gens.now c.loop-z.z-index c.z-item.result c.requires.gens_in c.loop-z-test.true c.z-item.is).num_over
+    subst (All (IsOver k.ops)) (sym c.num.ensures)
+    (read_default (IsElem k.ops c.args.n) c.args.gens.now c.loop-z.z-index c.z-item.result c.requires.gens_in
+    c.loop-z-test.true c.z-item.is).num_over
 
 pub loop-z-preserved : goal.loop-z-preserved
 loop-z-preserved g c =
     let k = g.K.SmallField.field c.args.k.now in
     let more =
-    rows_more k c.args.n c.args.e.now c.args.gens.now c.loop-z.rows.items c.push.new.self.items c.loop-z.z-index c.z-item.result c.in_ok-row.row c.loop-z-test.true c.z-item.is c.loop-z.invariant.size c.loop-z.invariant.each
+    rows_more k c.args.n c.args.e.now c.args.gens.now c.loop-z.rows.items c.push.new.self.items c.loop-z.z-index
+    c.z-item.result c.in_ok-row.row c.loop-z-test.true c.z-item.is c.loop-z.invariant.size c.loop-z.invariant.each
     (record {
       factor = c.in_ok-factor.factor;
       factor_in = c.in_ok-factor.ensures.over;

@@ -7,5 +7,6 @@ use Rattle.ff_lattice.proofs.generators.numerators.Given as goal
 abbrev pub invariant-loop-z : goal.invariant-loop-z
 invariant-loop-z g l = record {
   size : length (rows_of l.rows.items) ≡ l.z-index;
-  each : (m : ℕ) (d : ElemValue) → m < l.z-index → IsExpansion (g.K.SmallField.field l.k).ops l.e (get_or l.gens m d) (row_at (rows_of l.rows.items) m);
+  each : (m : ℕ) (d : ElemValue) → m < l.z-index
+      → IsExpansion (g.K.SmallField.field l.k).ops l.e (get_or l.gens m d) (row_at (rows_of l.rows.items) m);
 }

@@ -12,7 +12,8 @@ loop-j-preserved g c =
     let p = c.args.p.now in
     let positive : 1 ≤ p.n = omega (arith, c.requires.l_form.popov.size) in
     let yes : c.in_ok-contains.field-0 ≡ true = search rules in
-    all_more (λ w. Contains k p c.args.l.now (function_of k p w)) (row_elems c.args.i.now) c.loop-j.j c.in_ok-row.row c.in_ok-row.ensures.row
+    all_more (λ w. Contains k p c.args.l.now (function_of k p w)) (row_elems c.args.i.now) c.loop-j.j c.in_ok-row.row
+    c.in_ok-row.ensures.row
     ((c.in_ok-contains.ensures p positive (sym c.requires.l_form.popov.size)).0 yes)
     c.loop-j.invariant
 
@@ -28,7 +29,8 @@ returns-then-not-branch g c =
       λ all.
           sym no
           ∙ (c.in_ok-contains.ensures p positive (sym c.requires.l_form.popov.size)).1
-          (subst (λ w. Contains k p c.args.l.now (function_of k p w)) (get_or_from_slice_get (row_elems i) c.loop-j.j c.in_ok-row.row c.in_ok-row.row c.in_ok-row.ensures.row)
+          (subst (λ w. Contains k p c.args.l.now (function_of k p w))
+          (get_or_from_slice_get (row_elems i) c.loop-j.j c.in_ok-row.row c.in_ok-row.row c.in_ok-row.ensures.row)
           (all c.loop-j.j c.in_ok-row.row less)),
     )
 

@@ -12,7 +12,8 @@ loop-j-preserved g c =
     let k = g.K.SmallField.field c.args.k.now in
     let p = c.args.p.now in
     let yes : c.in_ok-takes_rows_in.field-0 ≡ true = search rules in
-    all_more (λ w. TakesRowsIn k p c.args.i.now (function_of k p w)) (row_elems c.args.l.now) c.loop-j.j c.in_ok-row.row c.in_ok-row.ensures.row
+    all_more (λ w. TakesRowsIn k p c.args.i.now (function_of k p w)) (row_elems c.args.l.now) c.loop-j.j c.in_ok-row.row
+    c.in_ok-row.ensures.row
     (c.in_ok-takes_rows_in.ensures.0 yes) c.loop-j.invariant
 
 pub returns-then-not-branch : goal.returns-then-not-branch
@@ -26,7 +27,8 @@ returns-then-not-branch g c =
       λ all.
           sym no
           ∙ c.in_ok-takes_rows_in.ensures.1
-          (subst (λ w. TakesRowsIn k p c.args.i.now (function_of k p w)) (get_or_from_slice_get (row_elems l) c.loop-j.j c.in_ok-row.row c.in_ok-row.row c.in_ok-row.ensures.row)
+          (subst (λ w. TakesRowsIn k p c.args.i.now (function_of k p w))
+          (get_or_from_slice_get (row_elems l) c.loop-j.j c.in_ok-row.row c.in_ok-row.row c.in_ok-row.ensures.row)
           (all c.loop-j.j c.in_ok-row.row less)),
     )
 

@@ -8,7 +8,8 @@ returns-clause-index g c =
     let p = c.args.p.now in
     let a = c.args.a.now in
     let b = c.args.b.now in
-    index_is k p c.requires.positive a b (lattice_over k p a c.requires.a_form) (lattice_over k p b c.requires.b_form) c.requires.within
+    index_is k p c.requires.positive a b (lattice_over k p a c.requires.a_form) (lattice_over k p b c.requires.b_form)
+    c.requires.within
 
 pub returns-clause-exists : goal.returns-clause-exists
 returns-clause-exists g c =
@@ -16,8 +17,10 @@ returns-clause-exists g c =
     let p = c.args.p.now in
     let a = c.args.a.now in
     let b = c.args.b.now in (
-      number k p c.requires.positive a b (lattice_over k p a c.requires.a_form) (lattice_over k p b c.requires.b_form) c.requires.within,
-      index_number_is k p c.requires.positive a b (lattice_over k p a c.requires.a_form) (lattice_over k p b c.requires.b_form) c.requires.within,
+      number k p c.requires.positive a b (lattice_over k p a c.requires.a_form) (lattice_over k p b c.requires.b_form)
+          c.requires.within,
+      index_number_is k p c.requires.positive a b (lattice_over k p a c.requires.a_form)
+          (lattice_over k p b c.requires.b_form) c.requires.within,
     )
 
 pub returns-clause-same : goal.returns-clause-same
@@ -26,4 +29,5 @@ returns-clause-same g c =
     let p = c.args.p.now in
     let a = c.args.a.now in
     let b = c.args.b.now in
-    same_lattice k p c.requires.positive a b (lattice_over k p a c.requires.a_form) (lattice_over k p b c.requires.b_form) c.requires.within c.requires.a_form c.requires.b_form
+    same_lattice k p c.requires.positive a b (lattice_over k p a c.requires.a_form)
+    (lattice_over k p b c.requires.b_form) c.requires.within c.requires.a_form c.requires.b_form

@@ -12,8 +12,12 @@ returns-in_ok-normalized-in-Some-clause-members g c =
     let n = c.args.n in
     let l = c.in_ok-normalized-in-Some.field-0 in
     let found =
-    subst (λ f. MatchOption f (¬ HasFullRank k.ops n rows) (λ basis. IsPopov n (rows_of basis.items) × All (IsRow k.ops n) (rows_of basis.items) × HaveSameSpan k.ops n rows (rows_of basis.items)))
+    subst (λ f. MatchOption f (¬ HasFullRank k.ops n rows)
+    (λ basis. IsPopov n (rows_of basis.items) × All (IsRow k.ops n) (rows_of basis.items)
+    × HaveSameSpan k.ops n rows (rows_of basis.items)))
     c.in-Some.is c.in_ok-popov.ensures in
-    rows_spanned k n rows (rows_of c.in-Some.basis.items) c.args.e.now l c.requires.rows_in c.requires.rows_poly found.1 found.0 found.2 c.requires.e_in c.requires.e_monic
+    rows_spanned k n rows (rows_of c.in-Some.basis.items) c.args.e.now l c.requires.rows_in c.requires.rows_poly found.1
+    found.0 found.2 c.requires.e_in c.requires.e_monic
     c.in_ok-normalized-in-Some.ensures.form
-    (subst (λ vs. IsReducedTo k.ops (rows_of vs) c.args.e.now l) c.deref.ensures.value c.in_ok-normalized-in-Some.ensures.reduced)
+    (subst (λ vs. IsReducedTo k.ops (rows_of vs) c.args.e.now l) c.deref.ensures.value
+    c.in_ok-normalized-in-Some.ensures.reduced)

@@ -7,11 +7,13 @@ exact_quotient-requires-clause-a_poly g c = monic_poly c.args.e.now c.requires.e
 
 pub exact_quotient-requires-clause-divides : goal.exact_quotient-requires-clause-divides
 exact_quotient-requires-clause-divides g c =
-    h_divides (g.K.SmallField.field c.args.k.now) c.args.n (rows_of c.args.rows.now) c.args.e.now c.in_ok-den.den c.requires.rows_in c.requires.popov c.requires.e_in c.requires.e_monic c.in_ok-den.ensures
+    h_divides (g.K.SmallField.field c.args.k.now) c.args.n (rows_of c.args.rows.now) c.args.e.now c.in_ok-den.den
+    c.requires.rows_in c.requires.popov c.requires.e_in c.requires.e_monic c.in_ok-den.ensures
 
 pub quotient_rows-requires-clause-g_some : goal.quotient_rows-requires-clause-g_some
 quotient_rows-requires-clause-g_some g c =
-    g_some (g.K.SmallField.field c.args.k.now) c.args.n (rows_of c.args.rows.now) c.args.e.now c.in_ok-den.den c.requires.rows_in c.requires.popov c.requires.e_in c.requires.e_monic c.in_ok-den.ensures
+    g_some (g.K.SmallField.field c.args.k.now) c.args.n (rows_of c.args.rows.now) c.args.e.now c.in_ok-den.den
+    c.requires.rows_in c.requires.popov c.requires.e_in c.requires.e_monic c.in_ok-den.ensures
     c.in_ok-factor.factor c.in_ok-factor.ensures.over c.in_ok-factor.ensures.poly c.in_ok-factor.ensures.product
 
 pub quotient_rows-requires-clause-rows_poly : goal.quotient_rows-requires-clause-rows_poly
@@ -19,22 +21,29 @@ quotient_rows-requires-clause-rows_poly g c = popov_poly c.args.n (rows_of c.arg
 
 pub quotient_rows-requires-clause-divides : goal.quotient_rows-requires-clause-divides
 quotient_rows-requires-clause-divides g c =
-    g_divides (g.K.SmallField.field c.args.k.now) c.args.n (rows_of c.args.rows.now) c.args.e.now c.in_ok-den.den c.requires.rows_in c.requires.popov c.requires.e_in c.requires.e_monic c.in_ok-den.ensures
+    g_divides (g.K.SmallField.field c.args.k.now) c.args.n (rows_of c.args.rows.now) c.args.e.now c.in_ok-den.den
+    c.requires.rows_in c.requires.popov c.requires.e_in c.requires.e_monic c.in_ok-den.ensures
     c.in_ok-factor.factor c.in_ok-factor.ensures.over c.in_ok-factor.ensures.poly c.in_ok-factor.ensures.product
 
 pub returns-clause-form : goal.returns-clause-form
 returns-clause-form g c =
-    normal_lattice (g.K.SmallField.field c.args.k.now) c.args.n (rows_of c.args.rows.now) c.args.e.now c.in_ok-den.den c.requires.rows_in c.requires.popov c.requires.e_in c.requires.e_monic c.in_ok-den.ensures
-    c.in_ok-factor.factor c.in_ok-factor.ensures.over c.in_ok-factor.ensures.poly c.in_ok-factor.ensures.product (rows_of c.in_ok-rows.rows.items) c.in_ok-rows.ensures
+    normal_lattice (g.K.SmallField.field c.args.k.now) c.args.n (rows_of c.args.rows.now) c.args.e.now c.in_ok-den.den
+    c.requires.rows_in c.requires.popov c.requires.e_in c.requires.e_monic c.in_ok-den.ensures
+    c.in_ok-factor.factor c.in_ok-factor.ensures.over c.in_ok-factor.ensures.poly c.in_ok-factor.ensures.product
+    (rows_of c.in_ok-rows.rows.items) c.in_ok-rows.ensures
 
 pub returns-clause-reduced : goal.returns-clause-reduced
 returns-clause-reduced g c =
-    normal_reduced (g.K.SmallField.field c.args.k.now) c.args.n (rows_of c.args.rows.now) c.args.e.now c.in_ok-den.den c.requires.rows_in c.requires.popov c.requires.e_in c.requires.e_monic c.in_ok-den.ensures
-    c.in_ok-factor.factor c.in_ok-factor.ensures.over c.in_ok-factor.ensures.poly c.in_ok-factor.ensures.product (rows_of c.in_ok-rows.rows.items) c.in_ok-rows.ensures
+    normal_reduced (g.K.SmallField.field c.args.k.now) c.args.n (rows_of c.args.rows.now) c.args.e.now c.in_ok-den.den
+    c.requires.rows_in c.requires.popov c.requires.e_in c.requires.e_monic c.in_ok-den.ensures
+    c.in_ok-factor.factor c.in_ok-factor.ensures.over c.in_ok-factor.ensures.poly c.in_ok-factor.ensures.product
+    (rows_of c.in_ok-rows.rows.items) c.in_ok-rows.ensures
 
 pub invariant_of-result : goal.invariant_of-result
 invariant_of-result g c =
     let k = g.K.SmallField.field c.args.k.now in
     form_of k c.args.n (record { rows = rows_of c.in_ok-rows.rows.items; den = c.in_ok-den.den })
-    (normal_lattice k c.args.n (rows_of c.args.rows.now) c.args.e.now c.in_ok-den.den c.requires.rows_in c.requires.popov c.requires.e_in c.requires.e_monic c.in_ok-den.ensures
-    c.in_ok-factor.factor c.in_ok-factor.ensures.over c.in_ok-factor.ensures.poly c.in_ok-factor.ensures.product (rows_of c.in_ok-rows.rows.items) c.in_ok-rows.ensures)
+    (normal_lattice k c.args.n (rows_of c.args.rows.now) c.args.e.now c.in_ok-den.den c.requires.rows_in
+    c.requires.popov c.requires.e_in c.requires.e_monic c.in_ok-den.ensures
+    c.in_ok-factor.factor c.in_ok-factor.ensures.over c.in_ok-factor.ensures.poly c.in_ok-factor.ensures.product
+    (rows_of c.in_ok-rows.rows.items) c.in_ok-rows.ensures)

@@ -17,7 +17,8 @@ loop-i-preserved g c =
     record {
       in_range = c.in_ok-push_products.ensures.in_range;
       products =
-          products_more k c.args.p.now c.loop-i.gens.items c.push_products.new.gens.items (row_elems a) (row_elems c.args.b.now) c.loop-i.i c.in_ok-row.row less c.in_ok-row.ensures.row
+          products_more k c.args.p.now c.loop-i.gens.items c.push_products.new.gens.items (row_elems a)
+          (row_elems c.args.b.now) c.loop-i.i c.in_ok-row.row less c.in_ok-row.ensures.row
           c.loop-i.invariant.products c.in_ok-push_products.ensures.products;
     }
 
@@ -31,9 +32,11 @@ spanned-requires-clause-full g c =
     let f = function_of k p in
     let size : length (row_elems a) ≤ c.loop-i.i = omega (arith, elems_length a) in
     let is : map f c.deref.result.now ≡ products F.ops (map f (row_elems a)) (map f (row_elems b))
-    = ap (map f) c.deref.ensures.value ∙ c.loop-i.invariant.products ∙ ap (λ xs. products F.ops (map f xs) (map f (row_elems b))) (take_all c.loop-i.i (row_elems a) size) in
+    = ap (map f) c.deref.ensures.value ∙ c.loop-i.invariant.products
+    ∙ ap (λ xs. products F.ops (map f xs) (map f (row_elems b))) (take_all c.loop-i.i (row_elems a) size) in
     let positive = c.n.ensures.range.positive in
-    products_full k p c.deref.result.now (row_elems a) (row_elems b) is (lattice_full k p a positive c.requires.a_form) (lattice_full k p b positive c.requires.b_form)
+    products_full k p c.deref.result.now (row_elems a) (row_elems b) is (lattice_full k p a positive c.requires.a_form)
+    (lattice_full k p b positive c.requires.b_form)
 
 pub returns-clause-members : goal.returns-clause-members
 returns-clause-members g c =
@@ -45,5 +48,7 @@ returns-clause-members g c =
     let f = function_of k p in
     let size : length (row_elems a) ≤ c.loop-i.i = omega (arith, elems_length a) in
     let is : map f c.deref.result.now ≡ products F.ops (map f (row_elems a)) (map f (row_elems b))
-    = ap (map f) c.deref.ensures.value ∙ c.loop-i.invariant.products ∙ ap (λ xs. products F.ops (map f xs) (map f (row_elems b))) (take_all c.loop-i.i (row_elems a) size) in
-    members_through k p c.spanned.result (product_iff k p c.deref.result.now (row_elems a) (row_elems b) is) c.spanned.ensures.members
+    = ap (map f) c.deref.ensures.value ∙ c.loop-i.invariant.products
+    ∙ ap (λ xs. products F.ops (map f xs) (map f (row_elems b))) (take_all c.loop-i.i (row_elems a) size) in
+    members_through k p c.spanned.result (product_iff k p c.deref.result.now (row_elems a) (row_elems b) is)
+    c.spanned.ensures.members

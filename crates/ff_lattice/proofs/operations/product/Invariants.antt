@@ -10,5 +10,6 @@ invariant-loop-i g l =
     let f = function_of k l.p in
     record {
       in_range : All (IsElem k.ops l.p.n) l.gens.items;
-      products : map f l.gens.items ≡ products (functions k l.p).ops (map f (take l.i (row_elems l.a))) (map f (row_elems l.b));
+      products : map f l.gens.items ≡ products (functions k l.p).ops (map f (take l.i (row_elems l.a)))
+          (map f (row_elems l.b));
     }

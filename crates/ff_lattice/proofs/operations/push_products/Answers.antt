@@ -15,8 +15,10 @@ loop-j-preserved g c =
     record {
       in_range =
           subst (All (IsElem k.ops p.n)) (sym c.in_ok-push.ensures.items)
-          (all_push (IsElem k.ops p.n) c.loop-j.gens.items c.in_ok-mul.field-0 c.loop-j.invariant.in_range c.in_ok-mul.ensures.in_range);
+          (all_push (IsElem k.ops p.n) c.loop-j.gens.items c.in_ok-mul.field-0 c.loop-j.invariant.in_range
+          c.in_ok-mul.ensures.in_range);
       products =
-          product_more k p c.loop-j.gens.items c.push.new.self.items c.args.gens.now.items c.args.z.now (row_elems b) c.loop-j.j c.in_ok-row.row c.in_ok-mul.field-0 less
+          product_more k p c.loop-j.gens.items c.push.new.self.items c.args.gens.now.items c.args.z.now (row_elems b)
+          c.loop-j.j c.in_ok-row.row c.in_ok-mul.field-0 less
           c.in_ok-row.ensures.row c.in_ok-mul.ensures.product c.in_ok-push.ensures.items c.loop-j.invariant.products;
     }

@@ -9,5 +9,6 @@ invariant-loop-j g l =
     let f = function_of k l.p in
     record {
       in_range : All (IsElem k.ops l.p.n) l.gens.items;
-      products : map f l.gens.items ≡ map f l.fn.gens.items ++ map ((functions k l.p).◌⊗◌ (f l.z)) (map f (take l.j (row_elems l.b)));
+      products : map f l.gens.items ≡ map f l.fn.gens.items
+          ++ map ((functions k l.p).◌⊗◌ (f l.z)) (map f (take l.j (row_elems l.b)));
     }

@@ -8,4 +8,5 @@ pub loop-i-preserved : goal.loop-i-preserved
 loop-i-preserved g c =
     let a = c.args.a.now in
     let less : c.loop-i.i < length (row_elems a) = omega (arith, elems_length a) in
-    elems_more c.loop-i.gens.items c.push.new.self.items c.args.gens.now.items (row_elems a) c.loop-i.i c.in_ok-row.field-0 less c.loop-i.invariant c.in_ok-row.ensures.row c.in_ok-push.ensures.items
+    elems_more c.loop-i.gens.items c.push.new.self.items c.args.gens.now.items (row_elems a) c.loop-i.i
+    c.in_ok-row.field-0 less c.loop-i.invariant c.in_ok-row.ensures.row c.in_ok-push.ensures.items

@@ -13,7 +13,8 @@ loop-i-preserved g c =
     let p = c.args.p.now in
     let l = c.args.l.now in
     let yes : c.in_ok-takes_rows_in.field-0 ≡ true = search rules in
-    all_more (λ w. TakesRowsIn k p l (function_of k p w)) (row_elems l) c.loop-i.i c.in_ok-row.row c.in_ok-row.ensures.row
+    all_more (λ w. TakesRowsIn k p l (function_of k p w)) (row_elems l) c.loop-i.i c.in_ok-row.row
+    c.in_ok-row.ensures.row
     (c.in_ok-takes_rows_in.ensures.0 yes) c.loop-i.invariant
 
 pub returns-then-not-branch : goal.returns-then-not-branch
@@ -27,7 +28,8 @@ returns-then-not-branch g c =
       λ all.
           sym no
           ∙ c.in_ok-takes_rows_in.ensures.1
-          (subst (λ w. TakesRowsIn k p l (function_of k p w)) (get_or_from_slice_get (row_elems l) c.loop-i.i c.in_ok-row.row c.in_ok-row.row c.in_ok-row.ensures.row)
+          (subst (λ w. TakesRowsIn k p l (function_of k p w))
+          (get_or_from_slice_get (row_elems l) c.loop-i.i c.in_ok-row.row c.in_ok-row.row c.in_ok-row.ensures.row)
           (all c.loop-i.i c.in_ok-row.row less)),
     )
 

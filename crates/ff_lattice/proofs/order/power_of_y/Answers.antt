@@ -6,6 +6,7 @@ use Rattle.ff_lattice.proofs.order.power_of_y.Goals as goal
 pub returns-clause-row : goal.returns-clause-row
 returns-clause-row g c = λ p.
     let k = g.K.SmallField.field c.args.k.now in
-    let parts : ◌≡◌ {A = ElemValue} (record { num = c.in_ok-num.num.items; den = c.in_ok-den.den }) (record { num = unit_row c.args.n c.args.i; den = 1 ∷ [] })
+    let parts : ◌≡◌ {A = ElemValue} (record { num = c.in_ok-num.num.items; den = c.in_ok-den.den })
+    (record { num = unit_row c.args.n c.args.i; den = 1 ∷ [] })
     = ap₂ (λ v d. record { num = v; den = d }) c.in_ok-num.ensures c.in_ok-den.ensures in
     c.new.ensures.same_function p ∙ ap (function_of k p) parts

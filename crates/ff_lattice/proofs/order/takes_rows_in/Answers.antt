@@ -15,8 +15,10 @@ loop-j-preserved g c =
     let z = c.args.z.now in
     let positive : 1 ≤ p.n = omega (arith, c.requires.l_form.popov.size) in
     let yes : c.in_ok-contains.field-0 ≡ true = search rules in
-    all_more (λ w. Contains k p l ((functions k p).◌⊗◌ (f z) (f w))) (row_elems l) c.loop-j.j c.in_ok-row.row c.in_ok-row.ensures.row
-    (subst (Contains k p l) c.in_ok-product.ensures.product ((c.in_ok-contains.ensures p positive (sym c.requires.l_form.popov.size)).0 yes))
+    all_more (λ w. Contains k p l ((functions k p).◌⊗◌ (f z) (f w))) (row_elems l) c.loop-j.j c.in_ok-row.row
+    c.in_ok-row.ensures.row
+    (subst (Contains k p l) c.in_ok-product.ensures.product
+    ((c.in_ok-contains.ensures p positive (sym c.requires.l_form.popov.size)).0 yes))
     c.loop-j.invariant
 
 pub returns-then-not-branch : goal.returns-then-not-branch
@@ -34,7 +36,8 @@ returns-then-not-branch g c =
           sym no
           ∙ (c.in_ok-contains.ensures p positive (sym c.requires.l_form.popov.size)).1
           (subst (Contains k p l) (sym c.in_ok-product.ensures.product)
-          (subst (λ w. Contains k p l ((functions k p).◌⊗◌ (f z) (f w))) (get_or_from_slice_get (row_elems l) c.loop-j.j c.in_ok-row.row c.in_ok-row.row c.in_ok-row.ensures.row)
+          (subst (λ w. Contains k p l ((functions k p).◌⊗◌ (f z) (f w)))
+          (get_or_from_slice_get (row_elems l) c.loop-j.j c.in_ok-row.row c.in_ok-row.row c.in_ok-row.ensures.row)
           (all c.loop-j.j c.in_ok-row.row less))),
     )
 

@@ -7,7 +7,8 @@ use Rattle.ff_lattice.proofs.positions.longest_entry.Goals.{then-most-len, else-
 pub loop-entry-preserved : goal.loop-entry-preserved
 loop-entry-preserved c =
     let less : c.loop-entry.entry-index < length c.args.row.now = omega arith in
-    let len = c.len-len.ensures.length ∙ ap length (c.entry-item.is ∙ any_default c.args.row.now c.loop-entry.entry-index c.entry-item.result [] less) in
+    let len = c.len-len.ensures.length ∙ ap length
+    (c.entry-item.is ∙ any_default c.args.row.now c.loop-entry.entry-index c.entry-item.result [] less) in
     let more = longest_take c.args.row.now c.loop-entry.entry-index less in
     elim c.if-most-len.branch [
       | then-most-len w ↦ omega (arith, w.most-is, w.if-most-len.true, more, c.loop-entry.invariant, len)

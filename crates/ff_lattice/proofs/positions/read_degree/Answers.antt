@@ -25,6 +25,11 @@ loop-j-preserved g c =
     let j = c.loop-j.j - 1 in
     let mid = c.loop-j.row in
     let is : suc (c.args.t * n + j) ≡ c.args.t * n + c.loop-j.j = omega arith in
-    let step = subst (λ m. IsReadDown k.ops m W J (suc (c.args.t * m + j)) (c.args.t * m + j) mid c.loop-j.codes.items c.read_position.new.row c.read_position.new.codes.items) c.loop-j.invariant.row_in.size c.in_ok-read_position.ensures in
-    read_on k.ops n W J (suc c.args.t * n) (c.args.t * n + c.loop-j.j) (c.args.t * n + j) row mid c.read_position.new.row c.args.codes.now.items c.loop-j.codes.items c.read_position.new.codes.items c.loop-j.invariant
-    (subst (λ e. IsReadDown k.ops n W J e (c.args.t * n + j) mid c.loop-j.codes.items c.read_position.new.row c.read_position.new.codes.items) is step)
+    let step = subst (λ m. IsReadDown k.ops m W J (suc (c.args.t * m + j)) (c.args.t * m + j) mid c.loop-j.codes.items
+    c.read_position.new.row c.read_position.new.codes.items) c.loop-j.invariant.row_in.size
+    c.in_ok-read_position.ensures in
+    read_on k.ops n W J (suc c.args.t * n) (c.args.t * n + c.loop-j.j) (c.args.t * n + j) row mid
+    c.read_position.new.row c.args.codes.now.items c.loop-j.codes.items c.read_position.new.codes.items
+    c.loop-j.invariant
+    (subst (λ e. IsReadDown k.ops n W J e (c.args.t * n + j) mid c.loop-j.codes.items c.read_position.new.row
+    c.read_position.new.codes.items) is step)

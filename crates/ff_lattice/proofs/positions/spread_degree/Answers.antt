@@ -15,7 +15,8 @@ loop-j-init g c =
     let t = c.args.t in
     let codes = c.args.codes.now in
     let is : suc t * n ≡ t * n + n = omega (arith, suc-mul t n) in
-    subst (λ e. IsSpreadDown k.ops n W J rows (suc t * n) e row (drop c.args.done codes) row (drop c.args.done codes)) is
+    subst (λ e. IsSpreadDown k.ops n W J rows (suc t * n) e row (drop c.args.done codes) row (drop c.args.done codes))
+    is
     (record { row_in = c.requires.row_in; left_in = c.requires.left; row_is = refl })
 
 pub spread_position-requires-clause-row_in : goal.spread_position-requires-clause-row_in
@@ -42,7 +43,8 @@ spread_position-requires-clause-left g c =
     let codes = c.args.codes.now in
     let is : t * n + c.loop-j.j ≡ suc (t * n + (c.loop-j.j - 1)) = omega arith in
     let size = c.loop-j.invariant.row_in.size in
-    c.loop-j.invariant.left_in ∙ ap (code_count n W J) is ∙ ap (λ m. code_count m W J (suc (t * m + (c.loop-j.j - 1)))) (sym size)
+    c.loop-j.invariant.left_in ∙ ap (code_count n W J) is
+    ∙ ap (λ m. code_count m W J (suc (t * m + (c.loop-j.j - 1)))) (sym size)
 
 pub loop-j-preserved : goal.loop-j-preserved
 loop-j-preserved g c =
@@ -58,6 +60,9 @@ loop-j-preserved g c =
     let mid = c.loop-j.row in
     let next = c.in_ok-next.next in
     let is : suc (t * n + j) ≡ t * n + c.loop-j.j = omega arith in
-    let step = subst (λ m. IsSpreadDown k.ops m W J rows (suc (t * m + j)) (t * m + j) mid (drop c.loop-j.next codes) c.spread_position.new.row (drop next codes)) c.loop-j.invariant.row_in.size c.in_ok-next.ensures in
-    spread_on k.ops n W J rows (suc t * n) (t * n + c.loop-j.j) (t * n + j) row mid c.spread_position.new.row (drop c.args.done codes) (drop c.loop-j.next codes) (drop next codes) c.loop-j.invariant
-    (subst (λ e. IsSpreadDown k.ops n W J rows e (t * n + j) mid (drop c.loop-j.next codes) c.spread_position.new.row (drop next codes)) is step)
+    let step = subst (λ m. IsSpreadDown k.ops m W J rows (suc (t * m + j)) (t * m + j) mid (drop c.loop-j.next codes)
+    c.spread_position.new.row (drop next codes)) c.loop-j.invariant.row_in.size c.in_ok-next.ensures in
+    spread_on k.ops n W J rows (suc t * n) (t * n + c.loop-j.j) (t * n + j) row mid c.spread_position.new.row
+    (drop c.args.done codes) (drop c.loop-j.next codes) (drop next codes) c.loop-j.invariant
+    (subst (λ e. IsSpreadDown k.ops n W J rows e (t * n + j) mid (drop c.loop-j.next codes) c.spread_position.new.row
+    (drop next codes)) is step)

@@ -8,13 +8,15 @@ pub sub_multiple-requires-clause-self_in : goal.sub_multiple-requires-clause-sel
 sub_multiple-requires-clause-self_in g c =
     let k = g.K.SmallField.field c.args.k.now in
     let less : c.loop-i.i < length c.args.row.now = omega arith in
-    read_same (IsOver k.ops) c.args.row.now c.loop-i.row c.loop-i.i c.index-row-i.result c.requires.row_in.over c.loop-i.invariant.size less (c.loop-i.invariant.left c.loop-i.i (omega arith))
+    read_same (IsOver k.ops) c.args.row.now c.loop-i.row c.loop-i.i c.index-row-i.result c.requires.row_in.over
+    c.loop-i.invariant.size less (c.loop-i.invariant.left c.loop-i.i (omega arith))
 
 pub sub_multiple-requires-clause-other_in : goal.sub_multiple-requires-clause-other_in
 sub_multiple-requires-clause-other_in g c =
     let k = g.K.SmallField.field c.args.k.now in
     let less : c.loop-i.i < length c.args.other.now = omega (arith, c.requires.other_in.size) in
-    read_default (IsOver k.ops) c.args.other.now c.loop-i.i c.index-other-i-in-loop-i.result c.requires.other_in.over less c.index-other-i-in-loop-i.is
+    read_default (IsOver k.ops) c.args.other.now c.loop-i.i c.index-other-i-in-loop-i.result c.requires.other_in.over
+    less c.index-other-i-in-loop-i.is
 
 pub returns : goal.returns
 returns g c =

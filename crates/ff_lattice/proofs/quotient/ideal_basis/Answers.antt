@@ -16,7 +16,8 @@ rows_over-requires-clause-zs_in g c =
     let l = c.args.l.now in
     let i = c.args.i.now in
     let lattice = c.requires.ideal.lattice in
-    let is : c.deref.result.now ≡ row_elems i = c.deref.ensures.value ∙ c.in_ok-push_rows.ensures ∙ ap (λ xs. xs ++ row_elems i) c.new-gens.ensures.items in
+    let is : c.deref.result.now ≡ row_elems i = c.deref.ensures.value ∙ c.in_ok-push_rows.ensures
+    ∙ ap (λ xs. xs ++ row_elems i) c.new-gens.ensures.items in
     subst (All (IsElem k.ops p.n)) (sym is) (rows_elems k p.n i lattice)
 
 pub rows_over-requires-clause-members : goal.rows_over-requires-clause-members
@@ -26,8 +27,10 @@ rows_over-requires-clause-members g c =
     let l = c.args.l.now in
     let i = c.args.i.now in
     let lattice = c.requires.ideal.lattice in
-    let is : c.deref.result.now ≡ row_elems i = c.deref.ensures.value ∙ c.in_ok-push_rows.ensures ∙ ap (λ xs. xs ++ row_elems i) c.new-gens.ensures.items in
-    subst (All (λ z. Contains k p l (function_of k p z))) (sym is) (λ j d less. c.requires.ideal.within (function_of k p (get_or (row_elems i) j d)) (rows_members k p i j d less))
+    let is : c.deref.result.now ≡ row_elems i = c.deref.ensures.value ∙ c.in_ok-push_rows.ensures
+    ∙ ap (λ xs. xs ++ row_elems i) c.new-gens.ensures.items in
+    subst (All (λ z. Contains k p l (function_of k p z))) (sym is)
+    (λ j d less. c.requires.ideal.within (function_of k p (get_or (row_elems i) j d)) (rows_members k p i j d less))
 
 pub popov-requires : goal.popov-requires
 popov-requires g c =
@@ -36,7 +39,8 @@ popov-requires g c =
     let l = c.args.l.now in
     let i = c.args.i.now in
     let lattice = c.requires.ideal.lattice in
-    let is : c.deref.result.now ≡ row_elems i = c.deref.ensures.value ∙ c.in_ok-push_rows.ensures ∙ ap (λ xs. xs ++ row_elems i) c.new-gens.ensures.items in
+    let is : c.deref.result.now ≡ row_elems i = c.deref.ensures.value ∙ c.in_ok-push_rows.ensures
+    ∙ ap (λ xs. xs ++ row_elems i) c.new-gens.ensures.items in
     let rows = rows_of c.in_ok-rows.rows.items in
     let h = subst (λ zs. IsRowsOf k p l zs rows) is c.in_ok-rows.ensures in
     subst (λ n. All (IsRow k.ops n) rows) (sym c.n.ensures.n) (rows_are_rows k p l (row_elems i) rows h)
@@ -48,11 +52,15 @@ unreachable-requires g c =
     let l = c.args.l.now in
     let i = c.args.i.now in
     let lattice = c.requires.ideal.lattice in
-    let is : c.deref.result.now ≡ row_elems i = c.deref.ensures.value ∙ c.in_ok-push_rows.ensures ∙ ap (λ xs. xs ++ row_elems i) c.new-gens.ensures.items in
+    let is : c.deref.result.now ≡ row_elems i = c.deref.ensures.value ∙ c.in_ok-push_rows.ensures
+    ∙ ap (λ xs. xs ++ row_elems i) c.new-gens.ensures.items in
     let rows = rows_of c.in_ok-rows.rows.items in
     let h = subst (λ zs. IsRowsOf k p l zs rows) is c.in_ok-rows.ensures in
-    let none = subst (λ f. MatchOption f (¬ HasFullRank k.ops c.n.result rows) (λ basis. IsPopov c.n.result (rows_of basis.items) × All (IsRow k.ops c.n.result) (rows_of basis.items) × HaveSameSpan k.ops c.n.result rows (rows_of basis.items))) c.in-None.is c.in_ok-popov.ensures in
-    subst (λ n. ¬ HasFullRank k.ops n rows) c.n.ensures.n none (ideal_rank k p l c.requires.l_form i lattice rows h c.n.ensures.range.positive)
+    let none = subst (λ f. MatchOption f (¬ HasFullRank k.ops c.n.result rows)
+    (λ basis. IsPopov c.n.result (rows_of basis.items) × All (IsRow k.ops c.n.result) (rows_of basis.items)
+    × HaveSameSpan k.ops c.n.result rows (rows_of basis.items))) c.in-None.is c.in_ok-popov.ensures in
+    subst (λ n. ¬ HasFullRank k.ops n rows) c.n.ensures.n none
+    (ideal_rank k p l c.requires.l_form i lattice rows h c.n.ensures.range.positive)
 
 pub returns-clause-members : goal.returns-clause-members
 returns-clause-members g c =
@@ -61,10 +69,14 @@ returns-clause-members g c =
     let l = c.args.l.now in
     let i = c.args.i.now in
     let lattice = c.requires.ideal.lattice in
-    let is : c.deref.result.now ≡ row_elems i = c.deref.ensures.value ∙ c.in_ok-push_rows.ensures ∙ ap (λ xs. xs ++ row_elems i) c.new-gens.ensures.items in
+    let is : c.deref.result.now ≡ row_elems i = c.deref.ensures.value ∙ c.in_ok-push_rows.ensures
+    ∙ ap (λ xs. xs ++ row_elems i) c.new-gens.ensures.items in
     let rows = rows_of c.in_ok-rows.rows.items in
     let h = subst (λ zs. IsRowsOf k p l zs rows) is c.in_ok-rows.ensures in
     let basis = rows_of c.in-Some.basis.items in
-    let found = subst (λ f. MatchOption f (¬ HasFullRank k.ops c.n.result rows) (λ basis. IsPopov c.n.result (rows_of basis.items) × All (IsRow k.ops c.n.result) (rows_of basis.items) × HaveSameSpan k.ops c.n.result rows (rows_of basis.items))) c.in-Some.is c.in_ok-popov.ensures in
+    let found = subst (λ f. MatchOption f (¬ HasFullRank k.ops c.n.result rows)
+    (λ basis. IsPopov c.n.result (rows_of basis.items) × All (IsRow k.ops c.n.result) (rows_of basis.items)
+    × HaveSameSpan k.ops c.n.result rows (rows_of basis.items))) c.in-Some.is c.in_ok-popov.ensures in
     ideal_members k p l c.requires.l_form i lattice rows h basis
-    (subst (λ n. IsPopov n basis) c.n.ensures.n found.0) (subst (λ n. All (IsRow k.ops n) basis) c.n.ensures.n found.1) (subst (λ n. HaveSameSpan k.ops n rows basis) c.n.ensures.n found.2)
+    (subst (λ n. IsPopov n basis) c.n.ensures.n found.0) (subst (λ n. All (IsRow k.ops n) basis) c.n.ensures.n found.1)
+    (subst (λ n. HaveSameSpan k.ops n rows basis) c.n.ensures.n found.2)

@@ -13,7 +13,8 @@ row_quotient-requires-clause-row_in g c =
     let l = c.args.l.now in
     let z = c.args.z.now in
     let is = c.deref.ensures.value ∙ c.in_ok-v.ensures ∙ ap₂ (multiple_of_row k.ops) c.den.ensures.den c.num.ensures in
-    subst (All (IsOver k.ops)) (sym is) (scaled_over k c.args.p.now l c.requires.l_form z c.requires.z_in c.den-2.ensures.monic)
+    subst (All (IsOver k.ops)) (sym is) (scaled_over k c.args.p.now l c.requires.l_form z c.requires.z_in
+    c.den-2.ensures.monic)
 
 pub row_quotient-requires-clause-row_poly : goal.row_quotient-requires-clause-row_poly
 row_quotient-requires-clause-row_poly g c =
@@ -28,7 +29,8 @@ row_quotient-requires-clause-divides g c =
     let z = c.args.z.now in
     let is = c.deref.ensures.value ∙ c.in_ok-v.ensures ∙ ap₂ (multiple_of_row k.ops) c.den.ensures.den c.num.ensures in
     subst (λ d. All (DividesList k.ops d) c.deref.result.now) (sym c.den-2.ensures.den)
-    (subst (All (DividesList k.ops z.den)) (sym is) (divides_scaled k c.args.p.now l c.requires.l_form z c.requires.z_in c.den-2.ensures.monic c.requires.member))
+    (subst (All (DividesList k.ops z.den)) (sym is)
+    (divides_scaled k c.args.p.now l c.requires.l_form z c.requires.z_in c.den-2.ensures.monic c.requires.member))
 
 pub returns : goal.returns
 returns g c =

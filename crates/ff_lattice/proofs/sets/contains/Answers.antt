@@ -17,12 +17,15 @@ coordinates-requires-clause-basis_in g c =
     let z = c.args.z.now in
     let n = length a.rows in
     let rows_is : rows_of c.deref.result.now ≡ map (multiple_of_row k.ops z.den) a.rows
-    = ap rows_of c.deref.ensures.value ∙ c.in_ok-rows.ensures ∙ ap₂ (λ d xs. map (multiple_of_row k.ops d) xs) c.den-2.ensures.den c.rows.ensures.rows in
+    = ap rows_of c.deref.ensures.value ∙ c.in_ok-rows.ensures
+    ∙ ap₂ (λ d xs. map (multiple_of_row k.ops d) xs) c.den-2.ensures.den c.rows.ensures.rows in
     let v_is : c.deref-2.result.now ≡ multiple_of_row k.ops a.den z.num
     = c.deref-2.ensures.value ∙ c.in_ok-v.ensures ∙ ap₂ (multiple_of_row k.ops) c.den.ensures.den c.num.ensures in
-    let size : length c.deref-2.result.now ≡ n = ap length v_is ∙ length-map z.num (product_of k.ops a.den) ∙ c.requires.z_in.one_each in
+    let size : length c.deref-2.result.now ≡ n = ap length v_is ∙ length-map z.num (product_of k.ops a.den)
+    ∙ c.requires.z_in.one_each in
     subst (λ m. All (IsRow k.ops m) (rows_of c.deref.result.now)) (sym size)
-    (subst (All (IsRow k.ops n)) (sym rows_is) (multiples_in k n z.den a.rows c.requires.z_in.den_over c.requires.a_form.rows_in))
+    (subst (All (IsRow k.ops n)) (sym rows_is)
+    (multiples_in k n z.den a.rows c.requires.z_in.den_over c.requires.a_form.rows_in))
 
 pub coordinates-requires-clause-popov : goal.coordinates-requires-clause-popov
 coordinates-requires-clause-popov g c =
@@ -31,15 +34,18 @@ coordinates-requires-clause-popov g c =
     let z = c.args.z.now in
     let n = length a.rows in
     let rows_is : rows_of c.deref.result.now ≡ map (multiple_of_row k.ops z.den) a.rows
-    = ap rows_of c.deref.ensures.value ∙ c.in_ok-rows.ensures ∙ ap₂ (λ d xs. map (multiple_of_row k.ops d) xs) c.den-2.ensures.den c.rows.ensures.rows in
+    = ap rows_of c.deref.ensures.value ∙ c.in_ok-rows.ensures
+    ∙ ap₂ (λ d xs. map (multiple_of_row k.ops d) xs) c.den-2.ensures.den c.rows.ensures.rows in
     let v_is : c.deref-2.result.now ≡ multiple_of_row k.ops a.den z.num
     = c.deref-2.ensures.value ∙ c.in_ok-v.ensures ∙ ap₂ (multiple_of_row k.ops) c.den.ensures.den c.num.ensures in
-    let size : length c.deref-2.result.now ≡ n = ap length v_is ∙ length-map z.num (product_of k.ops a.den) ∙ c.requires.z_in.one_each in
+    let size : length c.deref-2.result.now ≡ n = ap length v_is ∙ length-map z.num (product_of k.ops a.den)
+    ∙ c.requires.z_in.one_each in
     let monic = c.den-2.ensures.monic in
     let form = c.requires.a_form in
     subst (λ m. IsPopov m (rows_of c.deref.result.now)) (sym size)
     (subst (IsPopov n) (sym rows_is)
-    (popov_multiples k z.den c.requires.z_in.den_over monic.den_poly monic.monic n a.rows form.rows_in (trimmed_rows a.rows (popov_poly n a.rows form.popov)) form.popov))
+    (popov_multiples k z.den c.requires.z_in.den_over monic.den_poly monic.monic n a.rows form.rows_in
+    (trimmed_rows a.rows (popov_poly n a.rows form.popov)) form.popov))
 
 pub coordinates-requires-clause-v_in : goal.coordinates-requires-clause-v_in
 coordinates-requires-clause-v_in g c =
@@ -48,11 +54,14 @@ coordinates-requires-clause-v_in g c =
     let z = c.args.z.now in
     let n = length a.rows in
     let rows_is : rows_of c.deref.result.now ≡ map (multiple_of_row k.ops z.den) a.rows
-    = ap rows_of c.deref.ensures.value ∙ c.in_ok-rows.ensures ∙ ap₂ (λ d xs. map (multiple_of_row k.ops d) xs) c.den-2.ensures.den c.rows.ensures.rows in
+    = ap rows_of c.deref.ensures.value ∙ c.in_ok-rows.ensures
+    ∙ ap₂ (λ d xs. map (multiple_of_row k.ops d) xs) c.den-2.ensures.den c.rows.ensures.rows in
     let v_is : c.deref-2.result.now ≡ multiple_of_row k.ops a.den z.num
     = c.deref-2.ensures.value ∙ c.in_ok-v.ensures ∙ ap₂ (multiple_of_row k.ops) c.den.ensures.den c.num.ensures in
-    let size : length c.deref-2.result.now ≡ n = ap length v_is ∙ length-map z.num (product_of k.ops a.den) ∙ c.requires.z_in.one_each in
-    subst (All (IsOver k.ops)) (sym v_is) (multiple_over k a.den z.num c.requires.a_form.den_in c.requires.z_in.num_over)
+    let size : length c.deref-2.result.now ≡ n = ap length v_is ∙ length-map z.num (product_of k.ops a.den)
+    ∙ c.requires.z_in.one_each in
+    subst (All (IsOver k.ops)) (sym v_is)
+    (multiple_over k a.den z.num c.requires.a_form.den_in c.requires.z_in.num_over)
 
 pub returns : goal.returns
 returns g c =
@@ -61,14 +70,23 @@ returns g c =
     let z = c.args.z.now in
     let n = length a.rows in
     let rows_is : rows_of c.deref.result.now ≡ map (multiple_of_row k.ops z.den) a.rows
-    = ap rows_of c.deref.ensures.value ∙ c.in_ok-rows.ensures ∙ ap₂ (λ d xs. map (multiple_of_row k.ops d) xs) c.den-2.ensures.den c.rows.ensures.rows in
+    = ap rows_of c.deref.ensures.value ∙ c.in_ok-rows.ensures
+    ∙ ap₂ (λ d xs. map (multiple_of_row k.ops d) xs) c.den-2.ensures.den c.rows.ensures.rows in
     let v_is : c.deref-2.result.now ≡ multiple_of_row k.ops a.den z.num
     = c.deref-2.ensures.value ∙ c.in_ok-v.ensures ∙ ap₂ (multiple_of_row k.ops) c.den.ensures.den c.num.ensures in
-    let size : length c.deref-2.result.now ≡ n = ap length v_is ∙ length-map z.num (product_of k.ops a.den) ∙ c.requires.z_in.one_each in
+    let size : length c.deref-2.result.now ≡ n = ap length v_is ∙ length-map z.num (product_of k.ops a.den)
+    ∙ c.requires.z_in.one_each in
     let found = c.in_ok-found.found in
     let m =
-    subst (λ m. MatchOption found (¬ InSpan k.ops m (map (multiple_of_row k.ops z.den) a.rows) (multiple_of_row k.ops a.den z.num)) (λ x. IsCombinationList k.ops m (map (multiple_of_row k.ops z.den) a.rows) (multiple_of_row k.ops a.den z.num) x.items)) size
-    (subst (λ v. MatchOption found (¬ InSpan k.ops (length c.deref-2.result.now) (map (multiple_of_row k.ops z.den) a.rows) v) (λ x. IsCombinationList k.ops (length c.deref-2.result.now) (map (multiple_of_row k.ops z.den) a.rows) v x.items)) v_is
-    (subst (λ rows. MatchOption found (¬ InSpan k.ops (length c.deref-2.result.now) rows c.deref-2.result.now) (λ x. IsCombinationList k.ops (length c.deref-2.result.now) rows c.deref-2.result.now x.items)) rows_is
+    subst (λ m. MatchOption found (¬ InSpan k.ops m (map (multiple_of_row k.ops z.den) a.rows)
+    (multiple_of_row k.ops a.den z.num)) (λ x. IsCombinationList k.ops m (map (multiple_of_row k.ops z.den) a.rows)
+    (multiple_of_row k.ops a.den z.num) x.items)) size
+    (subst (λ v. MatchOption found (¬ InSpan k.ops (length c.deref-2.result.now)
+    (map (multiple_of_row k.ops z.den) a.rows) v)
+    (λ x. IsCombinationList k.ops (length c.deref-2.result.now) (map (multiple_of_row k.ops z.den) a.rows) v
+    x.items)) v_is
+    (subst (λ rows. MatchOption found (¬ InSpan k.ops (length c.deref-2.result.now) rows c.deref-2.result.now)
+    (λ x. IsCombinationList k.ops (length c.deref-2.result.now) rows c.deref-2.result.now x.items)) rows_is
     c.in_ok-found.ensures)) in
-    contains_decided k n a z found c.is_some.result c.requires.a_form c.requires.z_in c.den-2.ensures.monic m c.is_some.ensures
+    contains_decided k n a z found c.is_some.result c.requires.a_form c.requires.z_in c.den-2.ensures.monic m
+    c.is_some.ensures

@@ -14,8 +14,12 @@ returns-then-equals-clause-sets g c =
           (subst (λ l. Contains k p l z) same, subst (λ l. Contains k p l z) (sym same)),
       λ same.
           let e =
-          one_form k p c.args.a.now c.args.b.now (subst (λ n. IsLattice k.ops n c.args.a.now) (sym n_is) c.requires.a_form) (subst (λ n. IsLattice k.ops n c.args.b.now) (sym n_is) c.requires.b_form) same (omega (arith, positive)) in
-          c.same_rows.ensures.1 (c.rows.ensures.rows ∙ ap (λ (l : LatticeValue). l.rows) e ∙ sym c.rows-then-equals.ensures.rows),
+          one_form k p c.args.a.now c.args.b.now
+          (subst (λ n. IsLattice k.ops n c.args.a.now) (sym n_is) c.requires.a_form)
+          (subst (λ n. IsLattice k.ops n c.args.b.now) (sym n_is) c.requires.b_form) same (omega (arith, positive))
+          in
+          c.same_rows.ensures.1 (c.rows.ensures.rows ∙ ap (λ (l : LatticeValue). l.rows) e
+          ∙ sym c.rows-then-equals.ensures.rows),
     )
 
 pub returns-else-equals-clause-sets : goal.returns-else-equals-clause-sets
@@ -25,6 +29,9 @@ returns-else-equals-clause-sets g c =
       λ t. let no : false ≡ true = sym c.if-equals.false ∙ t in (cc),
       λ same.
           let e =
-          one_form k p c.args.a.now c.args.b.now (subst (λ n. IsLattice k.ops n c.args.a.now) (sym n_is) c.requires.a_form) (subst (λ n. IsLattice k.ops n c.args.b.now) (sym n_is) c.requires.b_form) same (omega (arith, positive)) in
+          one_form k p c.args.a.now c.args.b.now
+          (subst (λ n. IsLattice k.ops n c.args.a.now) (sym n_is) c.requires.a_form)
+          (subst (λ n. IsLattice k.ops n c.args.b.now) (sym n_is) c.requires.b_form) same (omega (arith, positive))
+          in
           c.equals.ensures.1 (c.den.ensures.den ∙ ap (λ (l : LatticeValue). l.den) e ∙ sym c.den-2.ensures.den),
     )

@@ -15,7 +15,8 @@ returns-else-rank-i c =
       late = omega arith;
       within = omega (arith, c.in-Some.ensures.1, length_rows_in c.args.cols c.args.rows c.args.entries.now);
       nonzero = λ e. c.in-Some.ensures.2 (ap (λ n. entry_at rows n c.args.c) here ∙ e);
-      is = sym (swap_self rows c.args.rank (omega (arith, c.in-Some.ensures.1, length_rows_in c.args.cols c.args.rows c.args.entries.now)));
+      is = sym (swap_self rows c.args.rank
+          (omega (arith, c.in-Some.ensures.1, length_rows_in c.args.cols c.args.rows c.args.entries.now)));
     }
 
 pub returns-in-None : goal.returns-in-None

@@ -11,7 +11,8 @@ loop-c-init g c =
     record {
       over = c.requires.entries_in;
       reduced = c.requires.reduced;
-      same = same_refl (code_ring k).ring c.args.cols (sequences_of k (rows_in c.args.cols c.args.rows c.args.entries.now));
+      same = same_refl (code_ring k).ring c.args.cols
+          (sequences_of k (rows_in c.args.cols c.args.rows c.args.entries.now));
     }
 
 pub eliminate_next-pivots-requires-clause-entries_in : goal.eliminate_next-pivots-requires-clause-entries_in
@@ -26,8 +27,10 @@ loop-c-preserved g c =
     let rows = rows_in c.args.cols c.args.rows in
     record {
       over = c.eliminate_next-pivots.ensures.over;
-      reduced = subst (λ n. IsReducedBelow k n (rows c.eliminate_next-pivots.new.entries) c.eliminate_next-pivots.result) (sym (add-one c.loop-c.c)) c.eliminate_next-pivots.ensures.step.reduced;
-      same = same_trans (code_ring k).ring c.args.cols (sequences_of k (rows c.eliminate_next-pivots.new.entries)) (sequences_of k (rows c.loop-c.entries))
+      reduced = subst (λ n. IsReducedBelow k n (rows c.eliminate_next-pivots.new.entries)
+          c.eliminate_next-pivots.result) (sym (add-one c.loop-c.c)) c.eliminate_next-pivots.ensures.step.reduced;
+      same = same_trans (code_ring k).ring c.args.cols (sequences_of k (rows c.eliminate_next-pivots.new.entries))
+          (sequences_of k (rows c.loop-c.entries))
           (sequences_of k (rows c.args.entries.now)) c.eliminate_next-pivots.ensures.step.same c.loop-c.invariant.same;
     }
 
@@ -38,7 +41,8 @@ pub returns-clause-reduced : goal.returns-clause-reduced
 returns-clause-reduced g c =
     let k = g.K.SmallField.field c.args.k.now in
     let done : c.loop-c.c ≡ c.args.to = omega arith in
-    subst (λ n. IsReducedBelow k n (rows_in c.args.cols c.args.rows c.loop-c.entries) c.loop-c.pivots) done c.loop-c.invariant.reduced
+    subst (λ n. IsReducedBelow k n (rows_in c.args.cols c.args.rows c.loop-c.entries) c.loop-c.pivots) done
+    c.loop-c.invariant.reduced
 
 pub returns-clause-same : goal.returns-clause-same
 returns-clause-same g c = c.loop-c.invariant.same

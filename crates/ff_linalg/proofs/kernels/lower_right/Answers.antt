@@ -13,14 +13,17 @@ loop-i-init c = record {
 pub slice_bounds-extend_from_slice-end : goal.slice_bounds-extend_from_slice-end
 slice_bounds-extend_from_slice-end c =
     let within : c.args.top + c.loop-i.i < c.args.rows = omega arith in
-    let h : (c.args.top + c.loop-i.i) * c.args.width + c.args.width ≤ length c.args.entries.now = omega (arith, c.requires.shape, row_end (c.args.top + c.loop-i.i) c.args.rows c.args.width within) in
+    let h : (c.args.top + c.loop-i.i) * c.args.width
+    + c.args.width ≤ length c.args.entries.now = omega
+    (arith, c.requires.shape, row_end (c.args.top + c.loop-i.i) c.args.rows c.args.width within) in
     h
 
 pub loop-i-preserved : goal.loop-i-preserved
 loop-i-preserved c =
     let within : c.args.top + c.loop-i.i < c.args.rows = omega arith in
     let h = c.in_ok-extend_from_slice.ensures in
-    let step = lower_step c.args.width c.args.left c.args.top c.loop-i.i c.args.rows c.args.entries.now c.loop-i.out.items _ c.extend_from_slice.new.self.items
+    let step = lower_step c.args.width c.args.left c.args.top c.loop-i.i c.args.rows c.args.entries.now
+    c.loop-i.out.items _ c.extend_from_slice.new.self.items
     c.requires.shape c.requires.left_in within c.loop-i.invariant.long c.loop-i.invariant.rows refl h.items in
     record { long = step.0; rows = step.1 }
 
@@ -33,5 +36,6 @@ pub returns-clause-rows : goal.returns-clause-rows
 returns-clause-rows c =
     let done : c.loop-i.i ≡ c.args.rows - c.args.top = omega arith in
     ap (λ n. rows_in (c.args.width - c.args.left) n c.loop-i.out.items) (sym done) ∙ c.loop-i.invariant.rows
-    ∙ ap (λ n. map (drop c.args.left) (take n (drop c.args.top (rows_in c.args.width c.args.rows c.args.entries.now)))) done
+    ∙ ap (λ n. map (drop c.args.left) (take n (drop c.args.top (rows_in c.args.width c.args.rows c.args.entries.now))))
+    done
     ∙ lower_end c.args.width c.args.left c.args.top c.args.rows c.args.entries.now c.requires.top_in

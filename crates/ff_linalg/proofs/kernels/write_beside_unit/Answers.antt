@@ -9,8 +9,10 @@ loop-i-init c = written_start c.args.rows c.args.cols c.args.entries.now c.args.
 pub loop-i-preserved : goal.loop-i-preserved
 loop-i-preserved c =
     let w = c.args.cols + c.args.rows in
-    let long : length c.loop-i.whole ≡ c.args.rows * w = omega (arith, ap length c.requires.zeros ∙ length-replicate (c.args.rows * w) 0) in
-    written_step c.args.rows c.args.cols c.loop-i.i c.args.entries.now c.loop-i.whole _ _ c.write_row.new.row c.requires.shape long c.loop-i-test.true
+    let long : length c.loop-i.whole ≡ c.args.rows * w = omega
+    (arith, ap length c.requires.zeros ∙ length-replicate (c.args.rows * w) 0) in
+    written_step c.args.rows c.args.cols c.loop-i.i c.args.entries.now c.loop-i.whole _ _ c.write_row.new.row
+    c.requires.shape long c.loop-i-test.true
     refl refl c.write_row.ensures c.loop-i.invariant
 
 pub returns : goal.returns

@@ -7,20 +7,26 @@ use Rattle.ff_linalg.proofs.RowSteps.{eliminated_rows, pivot_row, rows_after}
 
 pub inv-inverse-requires-clause-not_zero : goal.inv-inverse-requires-clause-not_zero
 inv-inverse-requires-clause-not_zero g c =
-    (pivot_row (g.K.SmallField.field c.args.k.now) c.args.cols c.args.rows c.args.p c.args.c c.args.entries.now c.split_at_mut-pivot.result.0.now _ _
-    c.requires.shape c.requires.row_in c.requires.entries_in c.requires.nonzero (c.split_at_mut-pivot.ensures.front ∙ ap (take c.args.cols) c.split_at_mut-front.ensures.back)
+    (pivot_row (g.K.SmallField.field c.args.k.now) c.args.cols c.args.rows c.args.p c.args.c c.args.entries.now
+    c.split_at_mut-pivot.result.0.now _ _
+    c.requires.shape c.requires.row_in c.requires.entries_in c.requires.nonzero
+    (c.split_at_mut-pivot.ensures.front ∙ ap (take c.args.cols) c.split_at_mut-front.ensures.back)
     refl refl).nonzero
 
 pub scale_all-requires-clause-c_in : goal.scale_all-requires-clause-c_in
 scale_all-requires-clause-c_in g c =
-    (pivot_row (g.K.SmallField.field c.args.k.now) c.args.cols c.args.rows c.args.p c.args.c c.args.entries.now c.split_at_mut-pivot.result.0.now _ _
-    c.requires.shape c.requires.row_in c.requires.entries_in c.requires.nonzero (c.split_at_mut-pivot.ensures.front ∙ ap (take c.args.cols) c.split_at_mut-front.ensures.back)
+    (pivot_row (g.K.SmallField.field c.args.k.now) c.args.cols c.args.rows c.args.p c.args.c c.args.entries.now
+    c.split_at_mut-pivot.result.0.now _ _
+    c.requires.shape c.requires.row_in c.requires.entries_in c.requires.nonzero
+    (c.split_at_mut-pivot.ensures.front ∙ ap (take c.args.cols) c.split_at_mut-front.ensures.back)
     c.inv-inverse.ensures refl).inverse_in
 
 pub clear_rows-requires-clause-pivot_in : goal.clear_rows-requires-clause-pivot_in
 clear_rows-requires-clause-pivot_in g c =
-    (pivot_row (g.K.SmallField.field c.args.k.now) c.args.cols c.args.rows c.args.p c.args.c c.args.entries.now c.split_at_mut-pivot.result.0.now _ _
-    c.requires.shape c.requires.row_in c.requires.entries_in c.requires.nonzero (c.split_at_mut-pivot.ensures.front ∙ ap (take c.args.cols) c.split_at_mut-front.ensures.back)
+    (pivot_row (g.K.SmallField.field c.args.k.now) c.args.cols c.args.rows c.args.p c.args.c c.args.entries.now
+    c.split_at_mut-pivot.result.0.now _ _
+    c.requires.shape c.requires.row_in c.requires.entries_in c.requires.nonzero
+    (c.split_at_mut-pivot.ensures.front ∙ ap (take c.args.cols) c.split_at_mut-front.ensures.back)
     c.inv-inverse.ensures c.scale_all.ensures).new_in
 
 pub clear_rows-requires-2-clause-shape : goal.clear_rows-requires-2-clause-shape
@@ -29,13 +35,21 @@ clear_rows-requires-2-clause-shape g c =
     let wide : length c.scale_all.new.codes ≡ c.args.cols = omega arith in
     let count : c.args.rows ≡ (c.args.rows - c.args.p - 1) + suc c.args.p = omega arith in
     let left : length c.split_at_mut-pivot.result.1.now ≡ (c.args.rows - c.args.p - 1) * c.args.cols
-    = omega (arith, c.requires.shape, rows_after (c.args.rows - c.args.p - 1) c.args.p c.args.cols c.args.rows count, c.split_at_mut-pivot.ensures.back_len, c.split_at_mut-front.ensures.back_len) in
+    = omega (
+      arith,
+      c.requires.shape,
+      rows_after (c.args.rows - c.args.p - 1) c.args.p c.args.cols c.args.rows count,
+      c.split_at_mut-pivot.ensures.back_len,
+      c.split_at_mut-front.ensures.back_len,
+    ) in
     left ∙ ap (λ m. (c.args.rows - c.args.p - 1) * m) (sym wide)
 
 pub clear_rows-requires-2-clause-pivot_in : goal.clear_rows-requires-2-clause-pivot_in
 clear_rows-requires-2-clause-pivot_in g c =
-    (pivot_row (g.K.SmallField.field c.args.k.now) c.args.cols c.args.rows c.args.p c.args.c c.args.entries.now c.split_at_mut-pivot.result.0.now _ _
-    c.requires.shape c.requires.row_in c.requires.entries_in c.requires.nonzero (c.split_at_mut-pivot.ensures.front ∙ ap (take c.args.cols) c.split_at_mut-front.ensures.back)
+    (pivot_row (g.K.SmallField.field c.args.k.now) c.args.cols c.args.rows c.args.p c.args.c c.args.entries.now
+    c.split_at_mut-pivot.result.0.now _ _
+    c.requires.shape c.requires.row_in c.requires.entries_in c.requires.nonzero
+    (c.split_at_mut-pivot.ensures.front ∙ ap (take c.args.cols) c.split_at_mut-front.ensures.back)
     c.inv-inverse.ensures c.scale_all.ensures).new_in
 
 pub returns-clause-eliminated : goal.returns-clause-eliminated
@@ -48,18 +62,23 @@ returns-clause-eliminated g c =
     let old_is = c.split_at_mut-pivot.ensures.front ∙ ap (take w) c.split_at_mut-front.ensures.back in
     let row =
     pivot_row k w n c.args.p c.args.c c.args.entries.now c.split_at_mut-pivot.result.0.now _ _
-    c.requires.shape c.requires.row_in c.requires.entries_in c.requires.nonzero old_is c.inv-inverse.ensures c.scale_all.ensures in
-    eliminated_rows k.ops w n c.args.p c.args.c c.args.entries.now c.clear_rows.new.part pivot c.clear_rows-2.new.part c.requires.shape c.requires.row_in
+    c.requires.shape c.requires.row_in c.requires.entries_in c.requires.nonzero old_is c.inv-inverse.ensures
+    c.scale_all.ensures in
+    eliminated_rows k.ops w n c.args.p c.args.c c.args.entries.now c.clear_rows.new.part pivot c.clear_rows-2.new.part
+    c.requires.shape c.requires.row_in
     (omega (arith, c.split_at_mut-front.ensures.front_len)) wide
     (row.new_is ∙ ap (normalized k.ops c.args.c) old_is)
     (ap (λ m. rows_in m c.args.p c.clear_rows.new.part) (sym wide) ∙ c.clear_rows.ensures.cleared
     ∙ ap₂ (λ m x. map (cleared k.ops c.args.c pivot) (rows_in m c.args.p x)) wide c.split_at_mut-front.ensures.front)
     (ap (λ m. rows_in m (n - c.args.p - 1) c.clear_rows-2.new.part) (sym wide) ∙ c.clear_rows-2.ensures.cleared
-    ∙ ap₂ (λ m x. map (cleared k.ops c.args.c pivot) (rows_in m (n - c.args.p - 1) x)) wide (c.split_at_mut-pivot.ensures.back ∙ ap (drop w) c.split_at_mut-front.ensures.back))
+    ∙ ap₂ (λ m x. map (cleared k.ops c.args.c pivot) (rows_in m (n - c.args.p - 1) x)) wide
+    (c.split_at_mut-pivot.ensures.back ∙ ap (drop w) c.split_at_mut-front.ensures.back))
 
 pub returns-clause-over : goal.returns-clause-over
 returns-clause-over g c =
     IsOver_append c.clear_rows.ensures.over
-    (IsOver_append (pivot_row (g.K.SmallField.field c.args.k.now) c.args.cols c.args.rows c.args.p c.args.c c.args.entries.now c.split_at_mut-pivot.result.0.now _ _
-    c.requires.shape c.requires.row_in c.requires.entries_in c.requires.nonzero (c.split_at_mut-pivot.ensures.front ∙ ap (take c.args.cols) c.split_at_mut-front.ensures.back)
+    (IsOver_append (pivot_row (g.K.SmallField.field c.args.k.now) c.args.cols c.args.rows c.args.p c.args.c
+    c.args.entries.now c.split_at_mut-pivot.result.0.now _ _
+    c.requires.shape c.requires.row_in c.requires.entries_in c.requires.nonzero
+    (c.split_at_mut-pivot.ensures.front ∙ ap (take c.args.cols) c.split_at_mut-front.ensures.back)
     c.inv-inverse.ensures c.scale_all.ensures).new_in c.clear_rows-2.ensures.over)

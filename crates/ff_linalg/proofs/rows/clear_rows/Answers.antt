@@ -24,7 +24,8 @@ add_multiple-requires-clause-sum_in g c = IsOver_take _ (IsOver_drop _ c.loop-i.
 pub add_multiple-requires-clause-c_in : goal.add_multiple-requires-clause-c_in
 add_multiple-requires-clause-c_in g c =
     let k = g.K.SmallField.field c.args.k.now in
-    rw c.neg-factor.ensures (k.laws.neg_below _ (get_or_below k _ c.args.c (IsOver_take _ (IsOver_drop _ c.loop-i.invariant.over))))
+    rw c.neg-factor.ensures (k.laws.neg_below _
+    (get_or_below k _ c.args.c (IsOver_take _ (IsOver_drop _ c.loop-i.invariant.over))))
 
 pub loop-i-preserved : goal.loop-i-preserved
 loop-i-preserved g c =
@@ -37,30 +38,38 @@ loop-i-preserved g c =
     let within = c.loop-i-test.true in
     let shape : length part ≡ c.args.count * w = omega (arith, c.requires.shape) in
     let whole : row ≡ take w (drop at part) = ap (λ m. take m (drop at part)) (row_span at w) in
-    let long : length row ≡ w = ap length whole ∙ length-take-le w (drop at part) (omega (arith, shape, row_end c.loop-i.i c.args.count w within, length-drop at part)) in
+    let long : length row ≡ w = ap length whole
+    ∙ length-take-le w (drop at part) (omega
+    (arith, shape, row_end c.loop-i.i c.args.count w within, length-drop at part)) in
     let new_length : length new ≡ w = omega (arith, long) in
     let row_over : IsOver k.ops row = IsOver_take _ (IsOver_drop _ c.loop-i.invariant.over) in
-    let factor_in : c.neg-factor.result < k.size = rw c.neg-factor.ensures (k.laws.neg_below _ (get_or_below k row c.args.c row_over)) in
+    let factor_in : c.neg-factor.result < k.size = rw c.neg-factor.ensures
+    (k.laws.neg_below _ (get_or_below k row c.args.c row_over)) in
     let new_over : IsOver k.ops new
     = rw c.add_multiple.ensures (IsOver_add k _ _ row_over (IsOver_scale k _ _ factor_in c.requires.pivot_in)) in
     let new_is : new ≡ cleared k.ops c.args.c c.args.pivot.now (take w (drop at part))
-    = c.add_multiple.ensures ∙ ap (λ x. add_lists (raw_ring k.ops) row (scale_list (raw_ring k.ops) x c.args.pivot.now)) c.neg-factor.ensures
+    = c.add_multiple.ensures ∙ ap (λ x. add_lists (raw_ring k.ops) row (scale_list (raw_ring k.ops) x c.args.pivot.now))
+    c.neg-factor.ensures
     ∙ ap (cleared k.ops c.args.c c.args.pivot.now) whole in
     record {
       done =
           ap (λ m. rows_in w c.args.count (put_mid at m part new)) (row_span at w)
           ∙ rows_in_put w c.args.count c.loop-i.i part shape within new new_length
-          ∙ mapped_step (cleared k.ops c.args.c c.args.pivot.now) (rows_in w c.args.count c.args.part.now) (rows_in w c.args.count part) c.loop-i.i [] new
+          ∙ mapped_step (cleared k.ops c.args.c c.args.pivot.now) (rows_in w c.args.count c.args.part.now)
+          (rows_in w c.args.count part) c.loop-i.i [] new
           c.loop-i.invariant.done (omega (arith, length_rows_in w c.args.count c.args.part.now))
-          (new_is ∙ ap (cleared k.ops c.args.c c.args.pivot.now) (sym (rows_in_get w c.args.count c.loop-i.i part shape within)));
-      over = IsOver_append (IsOver_take at c.loop-i.invariant.over) (IsOver_append new_over (IsOver_drop _ (IsOver_drop at c.loop-i.invariant.over)));
+          (new_is ∙ ap (cleared k.ops c.args.c c.args.pivot.now)
+          (sym (rows_in_get w c.args.count c.loop-i.i part shape within)));
+      over = IsOver_append (IsOver_take at c.loop-i.invariant.over)
+          (IsOver_append new_over (IsOver_drop _ (IsOver_drop at c.loop-i.invariant.over)));
     }
 
 pub returns-clause-cleared : goal.returns-clause-cleared
 returns-clause-cleared g c =
     let k = g.K.SmallField.field c.args.k.now in
     let w = length c.args.pivot.now in
-    mapped_end (cleared k.ops c.args.c c.args.pivot.now) (rows_in w c.args.count c.args.part.now) _ c.loop-i.i c.loop-i.invariant.done
+    mapped_end (cleared k.ops c.args.c c.args.pivot.now) (rows_in w c.args.count c.args.part.now) _ c.loop-i.i
+    c.loop-i.invariant.done
     (omega (arith, length_rows_in w c.args.count c.args.part.now))
 
 pub returns-clause-over : goal.returns-clause-over

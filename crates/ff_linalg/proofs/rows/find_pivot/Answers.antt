@@ -11,7 +11,8 @@ pub returns-then-entries-i-ne0 : goal.returns-then-entries-i-ne0
 returns-then-entries-i-ne0 c = (
   omega arith,
   c.loop-i-test.true,
-  λ e. c.if-entries-i-ne0.true (sym (rows_in_entry c.args.cols c.args.rows c.loop-i.i c.args.entries.now c.requires.shape c.loop-i-test.true c.args.c c.requires.col_in) ∙ e),
+  λ e. c.if-entries-i-ne0.true (sym (rows_in_entry c.args.cols c.args.rows c.loop-i.i c.args.entries.now
+      c.requires.shape c.loop-i-test.true c.args.c c.requires.col_in) ∙ e),
 )
 
 pub loop-i-preserved : goal.loop-i-preserved
@@ -20,10 +21,12 @@ loop-i-preserved c = λ j l m. go j l (last j m)
     last : (j : ℕ) → j < c.loop-i.i + 1 → (j ≡ c.loop-i.i) ⊎ (j < c.loop-i.i)
     last j m = grind arith
 
-    go : (j : ℕ) → c.args.rank ≤ j → (j ≡ c.loop-i.i) ⊎ (j < c.loop-i.i) → entry_at (rows_in c.args.cols c.args.rows c.args.entries.now) j c.args.c ≡ 0
+    go : (j : ℕ) → c.args.rank ≤ j → (j ≡ c.loop-i.i) ⊎ (j < c.loop-i.i)
+        → entry_at (rows_in c.args.cols c.args.rows c.args.entries.now) j c.args.c ≡ 0
     go j l (inr m) = c.loop-i.invariant j l m
     go j l (inl e) =
-        let here = rows_in_entry c.args.cols c.args.rows c.loop-i.i c.args.entries.now c.requires.shape c.loop-i-test.true c.args.c c.requires.col_in ∙ c.if-entries-i-ne0.false in
+        let here = rows_in_entry c.args.cols c.args.rows c.loop-i.i c.args.entries.now c.requires.shape
+        c.loop-i-test.true c.args.c c.requires.col_in ∙ c.if-entries-i-ne0.false in
         subst (λ n. entry_at (rows_in c.args.cols c.args.rows c.args.entries.now) n c.args.c ≡ 0) (sym e) here
 
 pub returns : goal.returns

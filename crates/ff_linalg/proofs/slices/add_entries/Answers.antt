@@ -14,7 +14,8 @@ add-requires-clause-a_in g c =
     let k = g.K.SmallField.field c.args.k.now in
     let within : c.loop-j.j < length c.loop-j.sum = omega arith in
     (IsOver_part k c.args.sum.now c.loop-j.sum _ c.loop-j.j c.requires.sum_in
-    (IsOver_entries k.ops c.args.table.now c.args.codes.now c.requires.whole c.requires.table_in c.requires.codes_in) c.loop-j.invariant).each c.loop-j.j 0 within
+    (IsOver_entries k.ops c.args.table.now c.args.codes.now c.requires.whole c.requires.table_in c.requires.codes_in)
+    c.loop-j.invariant).each c.loop-j.j 0 within
 
 pub loop-j-preserved : goal.loop-j-preserved
 loop-j-preserved g c =

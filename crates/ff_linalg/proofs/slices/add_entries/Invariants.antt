@@ -5,4 +5,5 @@ use Rattle.ring_lemmas.specs.Lists.{add_lists}
 
 abbrev pub invariant-loop-j : goal.invariant-loop-j
 invariant-loop-j g l =
-    let r = raw_ring (g.K.SmallField.field l.k).ops in l.sum ≡ add_lists r l.fn.sum (take l.j (map (λ x. slice_index l.table x) l.codes))
+    let r = raw_ring (g.K.SmallField.field l.k).ops in l.sum
+    ≡ add_lists r l.fn.sum (take l.j (map (λ x. slice_index l.table x) l.codes))

@@ -11,7 +11,8 @@ add-requires-clause-a_in g c =
     let k = g.K.SmallField.field c.args.k.now in
     let within : c.loop-j.j < length c.loop-j.sum = omega arith in
     (IsOver_part k c.args.sum.now c.loop-j.sum _ c.loop-j.j c.requires.sum_in
-    (IsOver_scale k c.args.c c.args.codes.now c.requires.c_in c.requires.codes_in) c.loop-j.invariant).each c.loop-j.j 0 within
+    (IsOver_scale k c.args.c c.args.codes.now c.requires.c_in c.requires.codes_in) c.loop-j.invariant).each c.loop-j.j 0
+    within
 
 pub loop-j-preserved : goal.loop-j-preserved
 loop-j-preserved g c =
@@ -19,14 +20,18 @@ loop-j-preserved g c =
     let r = raw_ring k.ops in
     let same = length_scale_list r c.args.c c.args.codes.now in
     elim c.if-codes-j-ne0.branch [
-      | then-codes-j-ne0 w ↦ w.sum-is ∙ add_lists_step r c.args.sum.now c.loop-j.sum _ c.loop-j.j _ w.mul.result c.loop-j.invariant
+      | then-codes-j-ne0 w ↦ w.sum-is ∙ add_lists_step r c.args.sum.now c.loop-j.sum _ c.loop-j.j _ w.mul.result
+          c.loop-j.invariant
           (omega (arith, same)) (omega (arith, same))
-          (w.mul.ensures ∙ sym (get_or_scale_list r c.args.c c.args.codes.now c.loop-j.j 0 c.loop-j-test.true)) w.add.ensures
-      | else-codes-j-ne0 w ↦ w.sum-is ∙ add_lists_pass k c.args.sum.now c.loop-j.sum c.args.codes.now c.args.c c.loop-j.j c.requires.sum_in c.requires.c_in
+          (w.mul.ensures ∙ sym (get_or_scale_list r c.args.c c.args.codes.now c.loop-j.j 0 c.loop-j-test.true))
+          w.add.ensures
+      | else-codes-j-ne0 w ↦ w.sum-is ∙ add_lists_pass k c.args.sum.now c.loop-j.sum c.args.codes.now c.args.c
+          c.loop-j.j c.requires.sum_in c.requires.c_in
           c.loop-j.invariant c.loop-j-test.true c.requires.fits w.if-codes-j-ne0.false
     ]
 
 pub returns : goal.returns
 returns g c =
     let r = raw_ring (g.K.SmallField.field c.args.k.now).ops in
-    add_lists_all r c.args.sum.now _ _ c.loop-j.j c.loop-j.invariant (omega (arith, length_scale_list r c.args.c c.args.codes.now))
+    add_lists_all r c.args.sum.now _ _ c.loop-j.j c.loop-j.invariant
+    (omega (arith, length_scale_list r c.args.c c.args.codes.now))

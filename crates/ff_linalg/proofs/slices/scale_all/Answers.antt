@@ -6,7 +6,8 @@ use Rattle.ff_linalg.proofs.Multiples.{scale_step, scale_read, scale_end}
 pub mul-requires-clause-b_in : goal.mul-requires-clause-b_in
 mul-requires-clause-b_in g c =
     let within : c.loop-j.j < length c.args.codes.now = omega arith in
-    rw (scale_read (raw_ring (g.K.SmallField.field c.args.k.now).ops) c.args.c c.args.codes.now c.loop-j.codes c.loop-j.j c.loop-j.invariant within)
+    rw (scale_read (raw_ring (g.K.SmallField.field c.args.k.now).ops) c.args.c c.args.codes.now c.loop-j.codes
+    c.loop-j.j c.loop-j.invariant within)
     (c.requires.codes_in.each c.loop-j.j 0 within)
 
 pub loop-j-preserved : goal.loop-j-preserved
@@ -16,4 +17,5 @@ loop-j-preserved g c =
 
 pub returns : goal.returns
 returns g c =
-    scale_end (raw_ring (g.K.SmallField.field c.args.k.now).ops) c.args.c c.args.codes.now c.loop-j.codes c.loop-j.j c.loop-j.invariant (omega arith)
+    scale_end (raw_ring (g.K.SmallField.field c.args.k.now).ops) c.args.c c.args.codes.now c.loop-j.codes c.loop-j.j
+    c.loop-j.invariant (omega arith)

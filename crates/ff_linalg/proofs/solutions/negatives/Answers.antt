@@ -14,7 +14,8 @@ loop-c-preserved g c =
     let i = c.loop-c.c-index in
     let h = c.in_ok-push.ensures in
     h.items ∙ ap₂ (λ xs x. xs ++ x ∷ []) c.loop-c.invariant c.neg.ensures
-    ∙ sym (ap (λ n. neg_list (raw_ring k) (take n c.args.codes.now)) (add-one i) ∙ neg_list_more k c.args.codes.now i c.loop-c-test.true)
+    ∙ sym (ap (λ n. neg_list (raw_ring k) (take n c.args.codes.now)) (add-one i)
+    ∙ neg_list_more k c.args.codes.now i c.loop-c-test.true)
 
 pub returns : goal.returns
 returns g c =

@@ -9,22 +9,26 @@ pub kernel-requires : goal.kernel-requires
 kernel-requires g c =
     let k = g.K.SmallField.field c.args.k.now in
     let made = c.in_ok-stacked.ensures.made in
-    subst (IsMatrixOver k.ops) (sym made) (record { each = All-cons (IsOver k.ops) c.args.b.now c.args.a.now.rows c.requires.b_in c.requires.a_in.each })
+    subst (IsMatrixOver k.ops) (sym made)
+    (record { each = All-cons (IsOver k.ops) c.args.b.now c.args.a.now.rows c.requires.b_in c.requires.a_in.each })
 
 pub returns-then-rows-eq0 : goal.returns-then-rows-eq0
 returns-then-rows-eq0 g c =
     let k = g.K.SmallField.field c.args.k.now in
     let stack = c.in_ok-stacked.ensures in
     let basis = c.in_ok-relations.ensures in
-    solve_none k c.args.a.now c.args.b.now _ c.in_ok-relations.relations stack.made stack.shape c.requires.a_in c.requires.b_in c.requires.width basis
-    (λ h. let some : 0 < length c.in_ok-relations.relations.rows = h.0 in omega (arith, c.if-rows-eq0.true, c.rows.ensures))
+    solve_none k c.args.a.now c.args.b.now _ c.in_ok-relations.relations stack.made stack.shape c.requires.a_in
+    c.requires.b_in c.requires.width basis
+    (λ h. let some : 0 < length c.in_ok-relations.relations.rows = h.0 in omega
+    (arith, c.if-rows-eq0.true, c.rows.ensures))
 
 pub returns-then-first-ne1 : goal.returns-then-first-ne1
 returns-then-first-ne1 g c =
     let k = g.K.SmallField.field c.args.k.now in
     let stack = c.in_ok-stacked.ensures in
     let basis = c.in_ok-relations.ensures in
-    solve_none k c.args.a.now c.args.b.now _ c.in_ok-relations.relations stack.made stack.shape c.requires.a_in c.requires.b_in c.requires.width basis
+    solve_none k c.args.a.now c.args.b.now _ c.in_ok-relations.relations stack.made stack.shape c.requires.a_in
+    c.requires.b_in c.requires.width basis
     (λ h. c.if-first-ne1.true (ap (λ r. get_or r 0 0) c.row-first.ensures ∙ h.1))
 
 pub negatives-requires : goal.negatives-requires
@@ -33,7 +37,8 @@ negatives-requires g c =
     let basis = c.in_ok-relations.ensures in
     let m = c.in_ok-relations.relations in
     let some : 0 < length m.rows = omega (arith, c.if-rows-eq0.false, c.rows.ensures) in
-    IsOver_take _ (IsOver_drop 1 (subst (IsOver k.ops) (sym c.row-first.ensures) (All-get_or (IsOver k.ops) m.rows 0 [] some basis.over.each)))
+    IsOver_take _ (IsOver_drop 1 (subst (IsOver k.ops) (sym c.row-first.ensures)
+    (All-get_or (IsOver k.ops) m.rows 0 [] some basis.over.each)))
 
 pub returns : goal.returns
 returns g c =
@@ -43,5 +48,6 @@ returns g c =
     let m = c.in_ok-relations.relations in
     let some : 0 < length m.rows = omega (arith, c.if-rows-eq0.false, c.rows.ensures) in
     let negated = c.in_ok-negatives.ensures in
-    solve_some k c.args.a.now c.args.b.now _ m stack.made stack.shape c.requires.a_in c.requires.b_in c.requires.width basis
+    solve_some k c.args.a.now c.args.b.now _ m stack.made stack.shape c.requires.a_in c.requires.b_in c.requires.width
+    basis
     c.row-first.result.now c.in_ok-negatives.field-0.items c.row-first.ensures some c.if-first-ne1.false negated

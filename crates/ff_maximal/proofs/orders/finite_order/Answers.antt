@@ -7,7 +7,8 @@ use Rattle.ff_maximal.proofs.FiniteOrders.{all_repeated, some_disc, finite_answe
 use Rattle.ff_maximal.proofs.orders.finite_order.Goals as goal
 
 pub maximal-requires-clause-some : goal.maximal-requires-clause-some
-maximal-requires-clause-some g c = some_disc (g.K.SmallField.field c.args.k.now) c.args.curve.now c.requires c.fin-p.result.now c.fin-p.ensures
+maximal-requires-clause-some g c = some_disc (g.K.SmallField.field c.args.k.now) c.args.curve.now c.requires
+    c.fin-p.result.now c.fin-p.ensures
 
 pub maximal-requires-clause-primes_in : goal.maximal-requires-clause-primes_in
 maximal-requires-clause-primes_in g c =
@@ -18,7 +19,8 @@ maximal-requires-clause-primes_in g c =
 pub maximal-requires-clause-irreducible : goal.maximal-requires-clause-irreducible
 maximal-requires-clause-irreducible g c =
     let k = g.K.SmallField.field c.args.k.now in
-    subst (All (IsIrreducibleList k.ops)) (sym (c.deref.ensures.value ∙ c.in_ok-primes.ensures ∙ ap repeated c.parts.ensures))
+    subst (All (IsIrreducibleList k.ops))
+    (sym (c.deref.ensures.value ∙ c.in_ok-primes.ensures ∙ ap repeated c.parts.ensures))
     (all_repeated (IsIrreducibleList k.ops) c.in_ok-factors.factors.parts c.in_ok-factors.ensures.irreducible)
 
 pub returns : goal.returns

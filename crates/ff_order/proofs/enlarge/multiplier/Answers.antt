@@ -12,4 +12,5 @@ pub returns-clause-order : goal.returns-clause-order
 returns-clause-order g c =
     let k = g.K.SmallField.field c.args.k.now in
     subst (IsOrderLattice k c.args.p.now) (sym c.of.ensures)
-    (colon_order k c.args.p.now c.args.i.now c.in_ok-multipliers.multipliers c.in_ok-multipliers.ensures.form c.in_ok-multipliers.ensures.members)
+    (colon_order k c.args.p.now c.args.i.now c.in_ok-multipliers.multipliers c.in_ok-multipliers.ensures.form
+    c.in_ok-multipliers.ensures.members)

@@ -12,7 +12,8 @@ turns-init g c =
     let p = c.args.p.now in
     let o = c.args.o.now in
     let pi = c.args.pi.now in
-    subst (IsBetween k p pi o) (sym c.in_ok-cur.ensures) (between_start k p c.n-degree.ensures.range.positive o c.requires.order pi)
+    subst (IsBetween k p pi o) (sym c.in_ok-cur.ensures)
+    (between_start k p c.n-degree.ensures.range.positive o c.requires.order pi)
 
 pub enlarged-requires-clause-order : goal.enlarged-requires-clause-order
 enlarged-requires-clause-order g c = c.turns.invariant.order
@@ -20,14 +21,16 @@ enlarged-requires-clause-order g c = c.turns.invariant.order
 pub turns-preserved : goal.turns-preserved
 turns-preserved g c =
     let k = g.K.SmallField.field c.args.k.now in
-    between_more k c.args.p.now c.n-degree.ensures.range.positive c.args.o.now c.requires.order c.args.pi.now c.turns.cur c.in_ok-next.next c.turns.invariant c.in_ok-next.ensures
+    between_more k c.args.p.now c.n-degree.ensures.range.positive c.args.o.now c.requires.order c.args.pi.now
+    c.turns.cur c.in_ok-next.next c.turns.invariant c.in_ok-next.ensures
 
 pub same_lattice-requires-clause-a_form : goal.same_lattice-requires-clause-a_form
 same_lattice-requires-clause-a_form g c =
     let k = g.K.SmallField.field c.args.k.now in
     let next = c.in_ok-next.next in
     subst (λ (l : LatticeValue). IsLattice k.ops (length l.rows) l) (sym c.lattice.ensures)
-    (subst (λ n. IsLattice k.ops n next) (sym c.in_ok-next.ensures.order.lattice.popov.size) c.in_ok-next.ensures.order.lattice)
+    (subst (λ n. IsLattice k.ops n next) (sym c.in_ok-next.ensures.order.lattice.popov.size)
+    c.in_ok-next.ensures.order.lattice)
 
 pub same_lattice-requires-clause-b_form : goal.same_lattice-requires-clause-b_form
 same_lattice-requires-clause-b_form g c =
@@ -36,18 +39,22 @@ same_lattice-requires-clause-b_form g c =
     let cur = c.turns.cur in
     subst (λ (l : LatticeValue). IsLattice k.ops (length l.rows) c.lattice-in-turns.result.now) (sym c.lattice.ensures)
     (subst (λ (l : LatticeValue). IsLattice k.ops (length next.rows) l) (sym c.lattice-in-turns.ensures)
-    (subst (λ n. IsLattice k.ops n cur) (sym c.in_ok-next.ensures.order.lattice.popov.size) c.turns.invariant.order.lattice))
+    (subst (λ n. IsLattice k.ops n cur) (sym c.in_ok-next.ensures.order.lattice.popov.size)
+    c.turns.invariant.order.lattice))
 
 pub returns-then-same_lattice-clause-members : goal.returns-then-same_lattice-clause-members
 returns-then-same_lattice-clause-members g c =
     let k = g.K.SmallField.field c.args.k.now in
     let yes : c.same_lattice.result ≡ true = search rules in
-    between_last k c.args.p.now c.n-degree.ensures.range.positive c.args.o.now c.requires.order c.args.pi.now c.turns.cur c.in_ok-next.next c.turns.invariant c.in_ok-next.ensures
+    between_last k c.args.p.now c.n-degree.ensures.range.positive c.args.o.now c.requires.order c.args.pi.now
+    c.turns.cur c.in_ok-next.next c.turns.invariant c.in_ok-next.ensures
     (sym c.lattice.ensures ∙ c.same_lattice.ensures.equal.0 yes ∙ c.lattice-in-turns.ensures)
 
 pub turns-smaller : goal.turns-smaller
 turns-smaller g c =
     let k = g.K.SmallField.field c.args.k.now in
     let no : c.same_lattice.result ≡ false = search rules in
-    turn_smaller k c.args.p.now c.n-degree.ensures.range.positive c.requires.some c.args.pi.now c.turns.cur c.in_ok-next.next c.turns.invariant.order c.in_ok-next.ensures
-    (λ same. false_true (sym no ∙ c.same_lattice.ensures.equal.1 (c.lattice.ensures ∙ same ∙ sym c.lattice-in-turns.ensures)))
+    turn_smaller k c.args.p.now c.n-degree.ensures.range.positive c.requires.some c.args.pi.now c.turns.cur
+    c.in_ok-next.next c.turns.invariant.order c.in_ok-next.ensures
+    (λ same. false_true (sym no ∙ c.same_lattice.ensures.equal.1
+    (c.lattice.ensures ∙ same ∙ sym c.lattice-in-turns.ensures)))

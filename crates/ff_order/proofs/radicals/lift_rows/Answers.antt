@@ -24,11 +24,13 @@ loop-r-preserved g c =
     let q = c.args.q.now in
     let rows = c.args.m.now.rows in
     let less : c.loop-r.r < length c.args.m.now.rows = omega arith in
-    lifts_more k q rows c.loop-r.lifts.items c.push.new.self.items c.loop-r.r c.row.result.now c.in_ok-lift.field-0 less c.row.ensures
+    lifts_more k q rows c.loop-r.lifts.items c.push.new.self.items c.loop-r.r c.row.result.now c.in_ok-lift.field-0 less
+    c.row.ensures
     c.in_ok-lift.ensures.in_range c.in_ok-lift.ensures.lifted c.in_ok-push.ensures.items c.loop-r.invariant
 
 pub returns : goal.returns
 returns g c =
     let k = g.K.SmallField.field c.args.k.now in
     let done : length c.args.m.now.rows ≤ c.loop-r.r = omega arith in
-    subst (λ ys. AreLifts k c.args.q.now ys c.loop-r.lifts.items) (take_all c.loop-r.r c.args.m.now.rows done) c.loop-r.invariant
+    subst (λ ys. AreLifts k c.args.q.now ys c.loop-r.lifts.items) (take_all c.loop-r.r c.args.m.now.rows done)
+    c.loop-r.invariant

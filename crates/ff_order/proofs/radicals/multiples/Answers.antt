@@ -26,8 +26,10 @@ returns-clause-ideal g c =
     ok_from_both c.scale.result
     (λ l form h.
     multiples_are_ideal k p c.n-degree.ensures.range.positive o c.requires.order a l
-    (subst (λ n. IsLattice k.ops n l) size (subst (λ (x : LatticeValue). IsLattice k.ops (length x.rows) l) c.lattice.ensures form))
-    (multiples_members k p l o c.lattice.result.now a c.in_ok-one.one c.lattice.ensures c.in_ok-one.ensures (sym size) h))
+    (subst (λ n. IsLattice k.ops n l) size
+    (subst (λ (x : LatticeValue). IsLattice k.ops (length x.rows) l) c.lattice.ensures form))
+    (multiples_members k p l o c.lattice.result.now a c.in_ok-one.one c.lattice.ensures c.in_ok-one.ensures (sym size)
+    h))
     c.scale.ensures.form c.scale.ensures.members
 
 pub returns-clause-members : goal.returns-clause-members
@@ -36,5 +38,6 @@ returns-clause-members g c =
     let p = c.args.p.now in
     let o = c.args.o.now in
     ok_through c.scale.result
-    (λ l h. multiples_members k p l o c.lattice.result.now c.args.a.now c.in_ok-one.one c.lattice.ensures c.in_ok-one.ensures (sym c.requires.order.lattice.popov.size) h)
+    (λ l h. multiples_members k p l o c.lattice.result.now c.args.a.now c.in_ok-one.one c.lattice.ensures
+    c.in_ok-one.ensures (sym c.requires.order.lattice.popov.size) h)
     c.scale.ensures.members

@@ -22,7 +22,8 @@ loop-i-preserved g c =
     subst (λ n. ArePowers k p n c.push.new.self.items) (sym (add-one i))
     (powers_more k p i c.loop-i.powers.items c.push.new.self.items z
     (subst (λ n. IsElem k.ops n z) size c.in_ok-power_of_y.ensures.in_range)
-    (subst (λ n. function_of k p z ≡ function_of k p (record { num = unit_row n i; den = 1 ∷ [] })) size (c.in_ok-power_of_y.ensures.row p))
+    (subst (λ n. function_of k p z ≡ function_of k p (record { num = unit_row n i; den = 1 ∷ [] })) size
+    (c.in_ok-power_of_y.ensures.row p))
     c.in_ok-push.ensures.items c.loop-i.invariant)
 
 pub spanned-requires-clause-full : goal.spanned-requires-clause-full
@@ -31,7 +32,8 @@ spanned-requires-clause-full g c =
     let p = c.args.p.now in
     let size : c.loop-i.i ≡ c.args.p.now.n = omega (arith, c.n-degree.ensures.n) in
     subst (λ zs. IsFull k p (InSpanOf k p zs)) (sym c.deref.ensures.value)
-    (powers_full k p c.n-degree.ensures.range.positive c.loop-i.powers.items (subst (λ n. ArePowers k p n c.loop-i.powers.items) size c.loop-i.invariant))
+    (powers_full k p c.n-degree.ensures.range.positive c.loop-i.powers.items
+    (subst (λ n. ArePowers k p n c.loop-i.powers.items) size c.loop-i.invariant))
 
 pub of-requires : goal.of-requires
 of-requires g c =
@@ -42,7 +44,8 @@ of-requires g c =
     let powers = subst (λ n. ArePowers k p n c.loop-i.powers.items) size c.loop-i.invariant in
     powers_order k p positive c.in_ok-l.l c.in_ok-l.ensures.form
     (powers_answer k p positive c.loop-i.powers.items c.in_ok-l.l powers
-    (subst (λ zs. (z : Functions k p) → Contains k p c.in_ok-l.l z ↔ InSpanOf k p zs z) c.deref.ensures.value c.in_ok-l.ensures.members))
+    (subst (λ zs. (z : Functions k p) → Contains k p c.in_ok-l.l z ↔ InSpanOf k p zs z) c.deref.ensures.value
+    c.in_ok-l.ensures.members))
 
 pub returns-clause-order : goal.returns-clause-order
 returns-clause-order g c =
@@ -54,7 +57,8 @@ returns-clause-order g c =
     subst (IsOrderLattice k p) (sym c.of.ensures)
     (powers_order k p positive c.in_ok-l.l c.in_ok-l.ensures.form
     (powers_answer k p positive c.loop-i.powers.items c.in_ok-l.l powers
-    (subst (λ zs. (z : Functions k p) → Contains k p c.in_ok-l.l z ↔ InSpanOf k p zs z) c.deref.ensures.value c.in_ok-l.ensures.members)))
+    (subst (λ zs. (z : Functions k p) → Contains k p c.in_ok-l.l z ↔ InSpanOf k p zs z) c.deref.ensures.value
+    c.in_ok-l.ensures.members)))
 
 pub returns-clause-members : goal.returns-clause-members
 returns-clause-members g c =
@@ -63,6 +67,8 @@ returns-clause-members g c =
     let positive = c.n-degree.ensures.range.positive in
     let size : c.loop-i.i ≡ c.args.p.now.n = omega (arith, c.n-degree.ensures.n) in
     let powers = subst (λ n. ArePowers k p n c.loop-i.powers.items) size c.loop-i.invariant in
-    subst (λ o. (z : Functions k p) → Contains k p o z ↔ HasPolynomialCoordinates (equation_of k p) z) (sym c.of.ensures)
+    subst (λ o. (z : Functions k p) → Contains k p o z ↔ HasPolynomialCoordinates (equation_of k p) z)
+    (sym c.of.ensures)
     (powers_answer k p positive c.loop-i.powers.items c.in_ok-l.l powers
-    (subst (λ zs. (z : Functions k p) → Contains k p c.in_ok-l.l z ↔ InSpanOf k p zs z) c.deref.ensures.value c.in_ok-l.ensures.members))
+    (subst (λ zs. (z : Functions k p) → Contains k p c.in_ok-l.l z ↔ InSpanOf k p zs z) c.deref.ensures.value
+    c.in_ok-l.ensures.members))

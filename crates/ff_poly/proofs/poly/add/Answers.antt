@@ -12,7 +12,8 @@ returns-clause-sum g c =
     c.from_codes.ensures
     ∙ written_back c.add_all.new.sum _ _ (omega arith)
     ∙ ap poly_of c.add_all.ensures
-    ∙ ap₂ (λ x y. poly_of (add_lists (raw_ring k.ops) x y)) (c.as_mut_slice.ensures.value ∙ c.in_ok-codes.ensures) (c.as_slice.ensures.value ∙ c.b.view_is)
+    ∙ ap₂ (λ x y. poly_of (add_lists (raw_ring k.ops) x y)) (c.as_mut_slice.ensures.value ∙ c.in_ok-codes.ensures)
+    (c.as_slice.ensures.value ∙ c.b.view_is)
     ∙ sum_from_padded k c.args.a.now c.args.b.now _ c.requires.a_in c.requires.b_in
 
 pub returns-clause-over : goal.returns-clause-over

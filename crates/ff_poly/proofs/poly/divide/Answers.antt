@@ -21,8 +21,10 @@ divide_over-requires-clause-inverse_in g c =
     let some = top_some c.args.b.now (rw (← c.b.view_is) c.b.invariant) c.requires.not_zero in
     let last : c.len-top.result - 1 ≡ length c.b.inside.codes.items - 1 = omega arith in
     let view = ap length c.b.view_is in
-    let read = get_or_read c.b.inside.codes.items (c.len-top.result - 1) _ (omega (arith, some.0, view)) c.index.ensures 0 in
-    let top = read ∙ ap (λ n. get_or c.b.inside.codes.items n 0) last ∙ ap (λ w. get_or w (length w - 1) 0) c.b.view_is in
+    let read = get_or_read c.b.inside.codes.items (c.len-top.result - 1) _ (omega (arith, some.0, view)) c.index.ensures
+    0 in
+    let top = read ∙ ap (λ n. get_or c.b.inside.codes.items n 0) last
+    ∙ ap (λ w. get_or w (length w - 1) 0) c.b.view_is in
     rw (c.inv-inverse.ensures, top) (k.laws.inv_below _ (get_or_below k c.args.b.now _ c.requires.b_in) some.1)
 
 pub returns : goal.returns
@@ -32,11 +34,16 @@ returns g c =
     let some = top_some c.args.b.now (rw (← c.b.view_is) c.b.invariant) c.requires.not_zero in
     let last : c.len-top.result - 1 ≡ length c.b.inside.codes.items - 1 = omega arith in
     let view = ap length c.b.view_is in
-    let read = get_or_read c.b.inside.codes.items (c.len-top.result - 1) _ (omega (arith, some.0, view)) c.index.ensures 0 in
-    let top = read ∙ ap (λ n. get_or c.b.inside.codes.items n 0) last ∙ ap (λ w. get_or w (length w - 1) 0) c.b.view_is in
-    quotient_at k c.args.a.now c.args.b.now c.as_slice.result.now c.as_slice-2.result.now c.from_codes.result c.from_codes-2.result c.inv-inverse.result
+    let read = get_or_read c.b.inside.codes.items (c.len-top.result - 1) _ (omega (arith, some.0, view)) c.index.ensures
+    0 in
+    let top = read ∙ ap (λ n. get_or c.b.inside.codes.items n 0) last
+    ∙ ap (λ w. get_or w (length w - 1) 0) c.b.view_is in
+    quotient_at k c.args.a.now c.args.b.now c.as_slice.result.now c.as_slice-2.result.now c.from_codes.result
+    c.from_codes-2.result c.inv-inverse.result
     c.requires.a_in c.requires.b_in (rw (← c.a.view_is) c.a.invariant) some.1 some.0
     (c.as_slice.ensures.value ∙ c.a.view_is) (c.as_slice-2.ensures.value ∙ c.b.view_is)
     (c.inv-inverse.ensures ∙ ap k.inv top)
-    (c.from_codes.ensures ∙ written_back c.divide_over.new.quotient _ _ (omega arith) ∙ ap poly_of c.divide_over.ensures.quotient)
-    (c.from_codes-2.ensures ∙ written_back c.divide_over.new.rest _ _ (omega arith) ∙ ap poly_of c.divide_over.ensures.rest)
+    (c.from_codes.ensures ∙ written_back c.divide_over.new.quotient _ _ (omega arith)
+    ∙ ap poly_of c.divide_over.ensures.quotient)
+    (c.from_codes-2.ensures ∙ written_back c.divide_over.new.rest _ _ (omega arith)
+    ∙ ap poly_of c.divide_over.ensures.rest)

@@ -10,17 +10,21 @@ loop-len-preserved c =
     let read = get_or_read c.args.codes.now.items (c.loop-len.len - 1) _ (omega arith) c.index.ensures 0 in
     record {
       within = omega arith;
-      kept = poly_of_take_less c.args.codes.now.items c.loop-len.len c.loop-len-test.true c.loop-len.invariant.within (sym read ∙ c.if-index-ne0.false) ∙ c.loop-len.invariant.kept;
+      kept = poly_of_take_less c.args.codes.now.items c.loop-len.len c.loop-len-test.true c.loop-len.invariant.within
+          (sym read ∙ c.if-index-ne0.false) ∙ c.loop-len.invariant.kept;
     }
 
-ended : (c : goal.After-truncate) → IsPoly (take c.loop-len.len c.args.codes.now.items) × (take c.loop-len.len c.args.codes.now.items ≡ poly_of c.args.codes.now.items)
+ended : (c : goal.After-truncate) → IsPoly (take c.loop-len.len c.args.codes.now.items)
+    × (take c.loop-len.len c.args.codes.now.items ≡ poly_of c.args.codes.now.items)
 ended c =
     elim c.loop-len-test.branch [
       | else-loop-len-test w ↦
-          trimmed c.args.codes.now.items c.loop-len.len c.loop-len.invariant.within (inl (omega arith)) c.loop-len.invariant.kept
+          trimmed c.args.codes.now.items c.loop-len.len c.loop-len.invariant.within (inl (omega arith))
+          c.loop-len.invariant.kept
       | then-loop-len-test+then-index-ne0 w ↦
           let read = get_or_read c.args.codes.now.items (c.loop-len.len - 1) _ (omega arith) w.index.ensures 0 in
-          trimmed c.args.codes.now.items c.loop-len.len c.loop-len.invariant.within (inr (w.loop-len-test.true, λ e. w.if-index-ne0.true (read ∙ e))) c.loop-len.invariant.kept
+          trimmed c.args.codes.now.items c.loop-len.len c.loop-len.invariant.within
+          (inr (w.loop-len-test.true, λ e. w.if-index-ne0.true (read ∙ e))) c.loop-len.invariant.kept
     ]
 
 pub returns-clause-dropped : goal.returns-clause-dropped

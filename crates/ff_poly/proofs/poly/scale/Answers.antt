@@ -10,7 +10,9 @@ returns-clause-multiple g c =
     c.from_codes.ensures
     ∙ written_back c.scale_all.new.codes _ _ (omega arith)
     ∙ ap poly_of c.scale_all.ensures
-    ∙ ap (λ x. multiple_of k.ops x c.args.c) (c.as_mut_slice.ensures.value ∙ c.in_ok-codes.ensures.items_if_clones_equal (λ x y e. e) ∙ c.as_slice.ensures.value ∙ c.a.view_is)
+    ∙ ap (λ x. multiple_of k.ops x c.args.c)
+    (c.as_mut_slice.ensures.value ∙ c.in_ok-codes.ensures.items_if_clones_equal (λ x y e. e)
+    ∙ c.as_slice.ensures.value ∙ c.a.view_is)
 
 pub returns-clause-over : goal.returns-clause-over
 returns-clause-over g c =

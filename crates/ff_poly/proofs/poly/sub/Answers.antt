@@ -12,7 +12,8 @@ returns-clause-difference g c =
     c.from_codes.ensures
     ∙ written_back c.subtract_all.new.sum _ _ (omega arith)
     ∙ ap poly_of c.subtract_all.ensures
-    ∙ ap₂ (λ x y. poly_of (add_lists (raw_ring k.ops) x (neg_list (raw_ring k.ops) y))) (c.as_mut_slice.ensures.value ∙ c.in_ok-codes.ensures) (c.as_slice.ensures.value ∙ c.b.view_is)
+    ∙ ap₂ (λ x y. poly_of (add_lists (raw_ring k.ops) x (neg_list (raw_ring k.ops) y)))
+    (c.as_mut_slice.ensures.value ∙ c.in_ok-codes.ensures) (c.as_slice.ensures.value ∙ c.b.view_is)
     ∙ difference_from_padded k c.args.a.now c.args.b.now _ c.requires.a_in c.requires.b_in
 
 pub returns-clause-over : goal.returns-clause-over

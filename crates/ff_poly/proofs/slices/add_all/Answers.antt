@@ -12,5 +12,6 @@ add-requires-clause-a_in g c =
 
 pub loop-j-preserved : goal.loop-j-preserved
 loop-j-preserved g c =
-    add_lists_step (raw_ring (g.K.SmallField.field c.args.k.now).ops) c.args.sum.now c.loop-j.sum c.args.codes.now c.loop-j.j _ _
+    add_lists_step (raw_ring (g.K.SmallField.field c.args.k.now).ops) c.args.sum.now c.loop-j.sum c.args.codes.now
+    c.loop-j.j _ _
     c.loop-j.invariant c.loop-j-test.true c.requires.fits refl c.add.ensures

@@ -10,7 +10,8 @@ add-requires-clause-a_in g c =
     let k = g.K.SmallField.field c.args.k.now in
     let within : c.loop-j.j < length c.loop-j.sum = omega arith in
     (IsOver_part k c.args.sum.now c.loop-j.sum _ c.loop-j.j c.requires.sum_in
-    (IsOver_scale k c.args.c c.args.codes.now c.requires.c_in c.requires.codes_in) c.loop-j.invariant).each c.loop-j.j 0 within
+    (IsOver_scale k c.args.c c.args.codes.now c.requires.c_in c.requires.codes_in) c.loop-j.invariant).each c.loop-j.j 0
+    within
 
 pub loop-j-preserved : goal.loop-j-preserved
 loop-j-preserved g c =
@@ -23,4 +24,5 @@ loop-j-preserved g c =
 pub returns : goal.returns
 returns g c =
     let r = raw_ring (g.K.SmallField.field c.args.k.now).ops in
-    add_lists_all r c.args.sum.now _ _ c.loop-j.j c.loop-j.invariant (omega (arith, length_scale_list r c.args.c c.args.codes.now))
+    add_lists_all r c.args.sum.now _ _ c.loop-j.j c.loop-j.invariant
+    (omega (arith, length_scale_list r c.args.c c.args.codes.now))

@@ -8,8 +8,11 @@ pub add_multiple-requires-clause-sum_in : goal.add_multiple-requires-clause-sum_
 add_multiple-requires-clause-sum_in g c =
     let k = g.K.SmallField.field c.args.k.now in
     let n = c.loop-i.i - 1 in
-    let rest = IsOver_add_onto k c.args.c (drop c.loop-i.i c.args.a.now) c.args.b.now (drop c.loop-i.i c.args.sum.now) c.requires.c_in (IsOver_drop c.loop-i.i c.requires.a_in) c.requires.b_in (IsOver_drop c.loop-i.i c.requires.sum_in) in
-    IsOver_take (length c.loop-i.sum - n) (IsOver_drop n (rw c.loop-i.invariant.done (IsOver_append (IsOver_take c.loop-i.i c.requires.sum_in) rest)))
+    let rest = IsOver_add_onto k c.args.c (drop c.loop-i.i c.args.a.now) c.args.b.now (drop c.loop-i.i c.args.sum.now)
+    c.requires.c_in (IsOver_drop c.loop-i.i c.requires.a_in) c.requires.b_in
+    (IsOver_drop c.loop-i.i c.requires.sum_in) in
+    IsOver_take (length c.loop-i.sum - n)
+    (IsOver_drop n (rw c.loop-i.invariant.done (IsOver_append (IsOver_take c.loop-i.i c.requires.sum_in) rest)))
 
 pub loop-i-preserved : goal.loop-i-preserved
 loop-i-preserved g c =
@@ -17,5 +20,7 @@ loop-i-preserved g c =
     let fits : c.loop-i.i ≤ length c.args.sum.now = omega (arith, c.requires.fits, c.loop-i.invariant.within) in
     record {
       within = omega arith;
-      done = add_onto_step (raw_ring (g.K.SmallField.field c.args.k.now).ops) c.args.c c.args.a.now c.args.b.now c.args.sum.now c.loop-i.i (c.loop-i.i - 1) _ _ _ _ whole c.loop-i.invariant.within fits c.loop-i.invariant.done refl c.mul.ensures c.add_multiple.ensures;
+      done = add_onto_step (raw_ring (g.K.SmallField.field c.args.k.now).ops) c.args.c c.args.a.now c.args.b.now
+          c.args.sum.now c.loop-i.i (c.loop-i.i - 1) _ _ _ _ whole c.loop-i.invariant.within fits
+          c.loop-i.invariant.done refl c.mul.ensures c.add_multiple.ensures;
     }

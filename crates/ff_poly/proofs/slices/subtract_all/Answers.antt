@@ -16,7 +16,8 @@ pub loop-j-preserved : goal.loop-j-preserved
 loop-j-preserved g c =
     let r = raw_ring (g.K.SmallField.field c.args.k.now).ops in
     let same = length_neg_list r c.args.codes.now in
-    add_lists_step r c.args.sum.now c.loop-j.sum _ c.loop-j.j _ (r.⊖◌ (get_or c.args.codes.now c.loop-j.j 0)) c.loop-j.invariant
+    add_lists_step r c.args.sum.now c.loop-j.sum _ c.loop-j.j _ (r.⊖◌ (get_or c.args.codes.now c.loop-j.j 0))
+    c.loop-j.invariant
     (omega (arith, same)) (omega (arith, same))
     (sym (get_or_neg_list r c.args.codes.now c.loop-j.j 0 c.loop-j-test.true)) c.sub.ensures
 

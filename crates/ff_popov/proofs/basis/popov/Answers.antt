@@ -11,7 +11,8 @@ pub returns-then-width-eq0 : goal.returns-then-width-eq0
 returns-then-width-eq0 g c =
     let k = g.K.SmallField.field c.args.k.now in
     let rows = rows_of c.args.rows.items in
-    subst (λ vs. IsPopov c.args.width (rows_of vs) × All (IsRow k.ops c.args.width) (rows_of vs) × HaveSameSpan k.ops c.args.width rows (rows_of vs)) (sym c.new.ensures.items)
+    subst (λ vs. IsPopov c.args.width (rows_of vs) × All (IsRow k.ops c.args.width) (rows_of vs)
+    × HaveSameSpan k.ops c.args.width rows (rows_of vs)) (sym c.new.ensures.items)
     (no_columns k c.args.width rows c.requires c.if-width-eq0.true)
 
 pub returns-then-is_empty : goal.returns-then-is_empty
@@ -30,7 +31,9 @@ returns g c =
     let less : 0 < length rows = omega (arith, length-map c.args.rows.items (λ v. v.items), some) in
     let same : width_of rows ≡ w = (c.requires 0 [] less).size in
     let found =
-    subst (λ vs. MatchOption c.in_ok-found.found ((j : ℕ) × (j < w) × IsMissing (rows_of vs) j) (λ basis. IsPopov w (rows_of basis.items) × All (IsRow k.ops w) (rows_of basis.items) × HaveSameSpan k.ops w (rows_of vs) (rows_of basis.items)))
+    subst (λ vs. MatchOption c.in_ok-found.found ((j : ℕ) × (j < w) × IsMissing (rows_of vs) j)
+    (λ basis. IsPopov w (rows_of basis.items) × All (IsRow k.ops w) (rows_of basis.items)
+    × HaveSameSpan k.ops w (rows_of vs) (rows_of basis.items)))
     c.deref.ensures.value c.in_ok-found.ensures in
     found_of k w rows c.requires (omega arith) reduced
     (subst (λ n. HaveSameSpan k.ops n rows reduced) same c.in_ok-reduce_rows.ensures.span)

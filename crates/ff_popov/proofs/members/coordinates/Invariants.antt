@@ -5,7 +5,8 @@ use Rattle.ff_popov.proofs.DivisionSteps.{IsRest}
 use Rattle.ff_popov.proofs.members.coordinates.Given as goal
 
 abbrev pub invariant-loop-column : goal.invariant-loop-column
-invariant-loop-column g l = IsRest (g.K.SmallField.field l.k) (length l.v) (rows_of l.basis) l.v l.coefficients.items l.rest.items
+invariant-loop-column g l = IsRest (g.K.SmallField.field l.k) (length l.v) (rows_of l.basis) l.v l.coefficients.items
+    l.rest.items
 
 abbrev pub decreases-loop-column : goal.decreases-loop-column
 decreases-loop-column g l = position (length l.v) l.rest.items

@@ -8,12 +8,14 @@ use Rattle.ff_popov.proofs.Clearing.{cleared_by, multiple_fits}
 pub quotient_term-c-requires-clause-a_in : goal.quotient_term-c-requires-clause-a_in
 quotient_term-c-requires-clause-a_in g c =
     let k = g.K.SmallField.field c.args.k.now in
-    c.requires.row_in.over c.args.column c.index-row-column.result (pivot_below c.args.row.now c.args.column c.requires.row_pivot)
+    c.requires.row_in.over c.args.column c.index-row-column.result
+    (pivot_below c.args.row.now c.args.column c.requires.row_pivot)
 
 pub quotient_term-c-requires-clause-b_in : goal.quotient_term-c-requires-clause-b_in
 quotient_term-c-requires-clause-b_in g c =
     let k = g.K.SmallField.field c.args.k.now in
-    read_default (IsOver k.ops) c.args.other.now c.args.column c.index-other-column.result c.requires.other_in.over (pivot_below c.args.other.now c.args.column c.requires.other_pivot) c.index-other-column.is
+    read_default (IsOver k.ops) c.args.other.now c.args.column c.index-other-column.result c.requires.other_in.over
+    (pivot_below c.args.other.now c.args.column c.requires.other_pivot) c.index-other-column.is
 
 pub subtract-requires-clause-row_in : goal.subtract-requires-clause-row_in
 subtract-requires-clause-row_in g c = c.requires.row_in.over
@@ -24,16 +26,21 @@ subtract-requires-clause-other_in g c = c.requires.other_in.over
 pub subtract-requires-clause-fits : goal.subtract-requires-clause-fits
 subtract-requires-clause-fits g c =
     let k = g.K.SmallField.field c.args.k.now in
-    multiple_fits k c.args.row.now c.args.other.now c.args.row.now c.args.column c.quotient_term-c.result.0 c.quotient_term-c.result.1
+    multiple_fits k c.args.row.now c.args.other.now c.args.row.now c.args.column c.quotient_term-c.result.0
+    c.quotient_term-c.result.1
     c.requires.row_in c.requires.other_in c.requires.row_pivot c.requires.other_pivot c.quotient_term-c.ensures.below
     (get_or c.args.row.now c.args.column c.index-row-column.result) c.index-other-column.result
-    (any_default c.args.row.now c.args.column _ _ (pivot_below c.args.row.now c.args.column c.requires.row_pivot)) c.index-other-column.is c.quotient_term-c.ensures.degrees
+    (any_default c.args.row.now c.args.column _ _ (pivot_below c.args.row.now c.args.column c.requires.row_pivot))
+    c.index-other-column.is c.quotient_term-c.ensures.degrees
     (2 ^ 64) c.quotient_term-c.ensures.fits
 
 pub returns : goal.returns
 returns g c =
     let k = g.K.SmallField.field c.args.k.now in
-    cleared_by k c.args.row.now c.args.other.now c.subtract.new.row c.args.column c.quotient_term-c.result.0 c.quotient_term-c.result.1
+    cleared_by k c.args.row.now c.args.other.now c.subtract.new.row c.args.column c.quotient_term-c.result.0
+    c.quotient_term-c.result.1
     c.requires.row_in c.requires.other_in c.requires.row_pivot c.requires.other_pivot c.quotient_term-c.ensures.below
     (get_or c.args.row.now c.args.column c.index-row-column.result) c.index-other-column.result
-    (any_default c.args.row.now c.args.column _ _ (pivot_below c.args.row.now c.args.column c.requires.row_pivot)) c.index-other-column.is c.quotient_term-c.ensures.degrees c.quotient_term-c.ensures.fits c.quotient_term-c.ensures.shorter c.in_ok-subtract.ensures
+    (any_default c.args.row.now c.args.column _ _ (pivot_below c.args.row.now c.args.column c.requires.row_pivot))
+    c.index-other-column.is c.quotient_term-c.ensures.degrees c.quotient_term-c.ensures.fits
+    c.quotient_term-c.ensures.shorter c.in_ok-subtract.ensures

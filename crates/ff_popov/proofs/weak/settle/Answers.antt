@@ -25,27 +25,41 @@ pub returns-in_err-step-clause-keeps : goal.returns-in_err-step-clause-keeps
 returns-in_err-step-clause-keeps g c =
     let k = g.K.SmallField.field c.args.k.now in
     let w = width_of (rows_of c.args.rows.now) in
-    chained k w c.args.i c.args.rows.now c.loop-j.rows c.loop-j.invariant.keeps c.requires.i_in (rows_of c.step.new.rows) c.in_err-step.ensures.keeps
+    chained k w c.args.i c.args.rows.now c.loop-j.rows c.loop-j.invariant.keeps c.requires.i_in
+    (rows_of c.step.new.rows) c.in_err-step.ensures.keeps
 
 pub returns-in_err-step-clause-steps : goal.returns-in_err-step-clause-steps
 returns-in_err-step-clause-steps g c =
     let k = g.K.SmallField.field c.args.k.now in
     let w = width_of (rows_of c.args.rows.now) in
-    omega (arith, c.loop-j.invariant.steps, chained_stays k w c.args.i c.args.rows.now c.loop-j.rows c.loop-j.invariant.keeps c.requires.i_in (rows_of c.step.new.rows) c.in_err-step.ensures.stays)
+    omega (
+      arith,
+      c.loop-j.invariant.steps,
+      chained_stays k w c.args.i c.args.rows.now c.loop-j.rows
+          c.loop-j.invariant.keeps c.requires.i_in (rows_of c.step.new.rows) c.in_err-step.ensures.stays,
+    )
 
 pub loop-j-smaller : goal.loop-j-smaller
 loop-j-smaller g c =
     let k = g.K.SmallField.field c.args.k.now in
     let w = width_of (rows_of c.args.rows.now) in
-    chained_falls k w c.args.i c.args.rows.now c.loop-j.rows c.loop-j.invariant.keeps c.requires.i_in (rows_of c.step.new.rows) c.in_ok-step.ensures.falls
+    chained_falls k w c.args.i c.args.rows.now c.loop-j.rows c.loop-j.invariant.keeps c.requires.i_in
+    (rows_of c.step.new.rows) c.in_ok-step.ensures.falls
 
 pub loop-j-preserved : goal.loop-j-preserved
 loop-j-preserved g c =
     let k = g.K.SmallField.field c.args.k.now in
     let w = width_of (rows_of c.args.rows.now) in
     record {
-      keeps = chained k w c.args.i c.args.rows.now c.loop-j.rows c.loop-j.invariant.keeps c.requires.i_in (rows_of c.step.new.rows) c.in_ok-step.ensures.keeps;
+      keeps = chained k w c.args.i c.args.rows.now c.loop-j.rows c.loop-j.invariant.keeps c.requires.i_in
+          (rows_of c.step.new.rows) c.in_ok-step.ensures.keeps;
       apart = c.in_ok-step.ensures.apart;
-      steps = omega (arith, c.loop-j.invariant.steps, c.tick.ensures, chained_falls k w c.args.i c.args.rows.now c.loop-j.rows c.loop-j.invariant.keeps c.requires.i_in (rows_of c.step.new.rows) c.in_ok-step.ensures.falls);
+      steps = omega (
+        arith,
+        c.loop-j.invariant.steps,
+        c.tick.ensures,
+        chained_falls k w c.args.i c.args.rows.now
+            c.loop-j.rows c.loop-j.invariant.keeps c.requires.i_in (rows_of c.step.new.rows) c.in_ok-step.ensures.falls,
+      );
       counted = omega (arith, c.loop-j.invariant.counted, c.tick.ensures);
     }

@@ -13,7 +13,8 @@ returns-clause-span g c =
     let start = c.as_mut_slice.ensures.value in
     let keeps =
     subst (λ rows. Keeps k w (rows_of rows) (rows_of c.reduce.new.rows)) start
-    (subst (λ rows. Keeps k (width_of (rows_of rows)) (rows_of c.as_mut_slice.result.now) (rows_of c.reduce.new.rows)) start c.reduce.ensures.keeps) in
+    (subst (λ rows. Keeps k (width_of (rows_of rows)) (rows_of c.as_mut_slice.result.now) (rows_of c.reduce.new.rows))
+    start c.reduce.ensures.keeps) in
     subst (λ rows. HaveSameSpan k.ops w (rows_of c.args.rows.now.items) (rows_of rows))
     (sym (take_at c.reduce.new.rows _ c.args.rows.now.len (omega arith)))
     (same_lattice k w (rows_of c.args.rows.now.items) (rows_of c.reduce.new.rows) c.requires keeps.rows keeps.span)
@@ -23,6 +24,7 @@ returns-clause-steps g c =
     let k = g.K.SmallField.field c.args.k.now in
     let w = width_of (rows_of c.args.rows.now.items) in
     let steps =
-    subst (λ rows. c.reduce.new.steps + total_position (width_of (rows_of rows)) (rows_of c.reduce.new.rows) ≤ c.args.steps.now + total_position (width_of (rows_of rows)) (rows_of rows))
+    subst (λ rows. c.reduce.new.steps + total_position (width_of (rows_of rows)) (rows_of c.reduce.new.rows) ≤
+    c.args.steps.now + total_position (width_of (rows_of rows)) (rows_of rows))
     c.as_mut_slice.ensures.value c.reduce.ensures.steps in
     omega (arith, steps, total_bound k.ops w (rows_of c.args.rows.now.items) c.requires)

@@ -10,7 +10,9 @@ pub returns-clause-begins : goal.returns-clause-begins
 returns-clause-begins c = begins_output
 
 pub returns-clause-answered : goal.returns-clause-answered
-returns-clause-answered c = λ bytes text finished within h. (truth_of bytes text finished h, answered_finished bytes text finished within h)
+returns-clause-answered c = λ bytes text finished within h.
+    (truth_of bytes text finished h, answered_finished bytes text finished within h)
 
 pub returns-clause-room : goal.returns-clause-room
-returns-clause-room c = λ bytes whole finished room h within text begun. let le = not_longer bytes text whole finished begun h in omega (arith, within, le)
+returns-clause-room c = λ bytes whole finished room h within text begun. let
+    le = not_longer bytes text whole finished begun h in omega (arith, within, le)

@@ -14,10 +14,12 @@ returns-in_default c =
 pub returns-then-begins_with_word : goal.returns-then-begins_with_word
 returns-then-begins_with_word c =
     let cases = strip_prefix_is Decides-eqb c.args.bytes.now c.args.word.now _ c.strip_prefix.ensures.cases in
-    word_front_on c.args.word.now c.args.bytes.now c.in-Some.rest.now c.requires (rw c.in-Some.is at cases) (sym c.begins_with_word.ensures ∙ c.if-begins_with_word.true)
+    word_front_on c.args.word.now c.args.bytes.now c.in-Some.rest.now c.requires (rw c.in-Some.is at cases)
+    (sym c.begins_with_word.ensures ∙ c.if-begins_with_word.true)
 
 pub returns : goal.returns
 returns c =
     let cases = strip_prefix_is Decides-eqb c.args.bytes.now c.args.word.now _ c.strip_prefix.ensures.cases in
     subst (IsFront (Is c.args.word.now) c.args.bytes.now) (sym c.behind_blanks.ensures)
-    (front_here (Is c.args.word.now) c.args.bytes.now c.args.word.now c.in-Some.rest.now refl (rw c.in-Some.is at cases) (λ e. sym c.begins_with_word.ensures ∙ c.if-begins_with_word.false))
+    (front_here (Is c.args.word.now) c.args.bytes.now c.args.word.now c.in-Some.rest.now refl (rw c.in-Some.is at cases)
+    (λ e. sym c.begins_with_word.ensures ∙ c.if-begins_with_word.false))

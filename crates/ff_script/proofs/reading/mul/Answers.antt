@@ -14,11 +14,15 @@ returns-in_default-2 c =
 pub returns-then-is_empty : goal.returns-then-is_empty
 returns-then-is_empty c =
     let first : IsElementFront c.in-Some.a c.args.bytes.now c.in-Some.rest.now = rw c.in-Some.is at c.in_ok-a.ensures in
-    let second : IsElementFront c.in-Some-2.b c.in-Some.rest.now c.in-Some-2.rest.now = rw c.in-Some-2.is at c.in_ok-b.ensures in
-    two_elements c.args.bytes.now c.in-Some.a c.in-Some.rest.now c.in-Some-2.b c.in-Some-2.rest.now first second (nil_tested c.in-Some-2.rest.now c.is_empty.result c.is_empty.ensures c.if-is_empty.true)
+    let second : IsElementFront c.in-Some-2.b c.in-Some.rest.now c.in-Some-2.rest.now = rw c.in-Some-2.is at
+    c.in_ok-b.ensures in
+    two_elements c.args.bytes.now c.in-Some.a c.in-Some.rest.now c.in-Some-2.b c.in-Some-2.rest.now first second
+    (nil_tested c.in-Some-2.rest.now c.is_empty.result c.is_empty.ensures c.if-is_empty.true)
 
 pub returns : goal.returns
 returns c =
     let first : IsElementFront c.in-Some.a c.args.bytes.now c.in-Some.rest.now = rw c.in-Some.is at c.in_ok-a.ensures in
-    let second : IsElementFront c.in-Some-2.b c.in-Some.rest.now c.in-Some-2.rest.now = rw c.in-Some-2.is at c.in_ok-b.ensures in
-    more_behind c.args.bytes.now c.in-Some.a c.in-Some.rest.now c.in-Some-2.b c.in-Some-2.rest.now first second (some_tested c.in-Some-2.rest.now c.is_empty.result c.is_empty.ensures c.if-is_empty.false)
+    let second : IsElementFront c.in-Some-2.b c.in-Some.rest.now c.in-Some-2.rest.now = rw c.in-Some-2.is at
+    c.in_ok-b.ensures in
+    more_behind c.args.bytes.now c.in-Some.a c.in-Some.rest.now c.in-Some-2.b c.in-Some-2.rest.now first second
+    (some_tested c.in-Some-2.rest.now c.is_empty.result c.is_empty.ensures c.if-is_empty.false)

@@ -8,13 +8,16 @@ loop-rest-init c = rw c.new-numbers.ensures.items (none_read c.args.bytes.now)
 pub loop-rest-preserved : goal.loop-rest-preserved
 loop-rest-preserved c =
     let pushed : c.push.new.self.items ≡ c.loop-rest.numbers.items ++ c.in-Some.n ∷ [] = c.in_ok-push.ensures.items in
-    rw pushed (read_more c.args.bytes.now c.loop-rest.numbers.items c.loop-rest.rest.now c.in-Some.n c.in-Some.behind.now c.loop-rest.invariant c.in-Some.ensures)
+    rw pushed (read_more c.args.bytes.now c.loop-rest.numbers.items c.loop-rest.rest.now c.in-Some.n
+    c.in-Some.behind.now c.loop-rest.invariant c.in-Some.ensures)
 
 pub loop-rest-smaller : goal.loop-rest-smaller
 loop-rest-smaller c = number_shorter c.loop-rest.rest.now c.in-Some.n c.in-Some.behind.now c.in-Some.ensures
 
 pub returns-in_default : goal.returns-in_default
-returns-in_default c = read_none c.args.bytes.now c.loop-rest.numbers.items c.loop-rest.rest.now c.loop-rest.invariant (some_tested c.loop-rest.rest.now false c.loop-rest-test.ensures refl) c.in_default.ensures
+returns-in_default c = read_none c.args.bytes.now c.loop-rest.numbers.items c.loop-rest.rest.now c.loop-rest.invariant
+    (some_tested c.loop-rest.rest.now false c.loop-rest-test.ensures refl) c.in_default.ensures
 
 pub returns : goal.returns
-returns c = read_all c.args.bytes.now c.loop-rest.numbers.items c.loop-rest.rest.now c.loop-rest.invariant (nil_tested c.loop-rest.rest.now true c.loop-rest-test.ensures refl)
+returns c = read_all c.args.bytes.now c.loop-rest.numbers.items c.loop-rest.rest.now c.loop-rest.invariant
+    (nil_tested c.loop-rest.rest.now true c.loop-rest-test.ensures refl)

@@ -12,8 +12,11 @@ returns-in_err-z-clause-fault c =
 
 pub returns-then-not-is_empty-clause-fault : goal.returns-then-not-is_empty-clause-fault
 returns-then-not-is_empty-clause-fault c =
-    let read : ReadElem = ((c.in_ok-z.z.0.items, c.in_ok-z.z.1), c.in_ok-z.rest.now) in
-    (refl, longer_elem c.args.b.now read c.in_ok-z.ensures (eqb-false _ _ (sym c.is_empty.ensures ∙ c.if-not-is_empty.true)))
+    let read : ReadElem = ((c.in_ok-z.z.0.items, c.in_ok-z.z.1), c.in_ok-z.rest.now) in (
+      refl,
+      longer_elem c.args.b.now read c.in_ok-z.ensures
+          (eqb-false _ _ (sym c.is_empty.ensures ∙ c.if-not-is_empty.true)),
+    )
 
 pub returns-clause-found : goal.returns-clause-found
 returns-clause-found c =

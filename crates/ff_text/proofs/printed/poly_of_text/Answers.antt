@@ -10,7 +10,12 @@ returns-in_err-p-clause-fault c =
     rw (p.1, p.2) (no_text c.in_err-p.field-0.0 (no_poly c.args.b.now) c.in_err-p.ensures)
 
 pub returns-then-not-is_empty-clause-fault : goal.returns-then-not-is_empty-clause-fault
-returns-then-not-is_empty-clause-fault c = (refl, longer_poly c.args.b.now c.in_ok-p.p c.in_ok-p.rest.now c.in_ok-p.ensures (eqb-false _ _ (sym c.is_empty.ensures ∙ c.if-not-is_empty.true)))
+returns-then-not-is_empty-clause-fault c = (
+  refl,
+  longer_poly c.args.b.now c.in_ok-p.p c.in_ok-p.rest.now c.in_ok-p.ensures
+      (eqb-false _ _ (sym c.is_empty.ensures ∙ c.if-not-is_empty.true)),
+)
 
 pub returns-clause-found : goal.returns-clause-found
-returns-clause-found c = whole_poly c.args.b.now c.in_ok-p.p c.in_ok-p.rest.now c.in_ok-p.ensures (eqb-true _ _ (sym c.is_empty.ensures ∙ c.if-not-is_empty.false))
+returns-clause-found c = whole_poly c.args.b.now c.in_ok-p.p c.in_ok-p.rest.now c.in_ok-p.ensures
+    (eqb-true _ _ (sym c.is_empty.ensures ∙ c.if-not-is_empty.false))

@@ -11,8 +11,11 @@ returns-in_err-num-clause-fault c =
 
 pub returns-then-not-ends_elem-clause-fault : goal.returns-then-not-ends_elem-clause-fault
 returns-then-not-ends_elem-clause-fault c =
-    let read : ReadElem = ((c.in_ok-num.num.items, c.in_ok-num.den), c.in_ok-num.rest.now) in
-    (refl, no_end_at c.args.line.now read c.args.at c.in_ok-num.ensures (sym c.ends_elem.ensures ∙ c.if-not-ends_elem.true))
+    let read : ReadElem = ((c.in_ok-num.num.items, c.in_ok-num.den), c.in_ok-num.rest.now) in (
+      refl,
+      no_end_at c.args.line.now read c.args.at c.in_ok-num.ensures
+          (sym c.ends_elem.ensures ∙ c.if-not-ends_elem.true),
+    )
 
 pub overflow_sub-result : goal.overflow_sub-result
 overflow_sub-result c =
@@ -22,5 +25,6 @@ overflow_sub-result c =
 pub returns-clause-found : goal.returns-clause-found
 returns-clause-found c =
     let read : ReadElem = ((c.in_ok-num.num.items, c.in_ok-num.den), c.in_ok-num.rest.now) in
-    let found = elem_found_at c.args.line.now read c.args.at c.requires c.in_ok-num.ensures (sym c.ends_elem.ensures ∙ c.if-not-ends_elem.false) in
+    let found = elem_found_at c.args.line.now read c.args.at c.requires c.in_ok-num.ensures
+    (sym c.ends_elem.ensures ∙ c.if-not-ends_elem.false) in
     rw c.new.ensures found

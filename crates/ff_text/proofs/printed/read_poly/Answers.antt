@@ -9,12 +9,16 @@ returns-in_err-p-clause-fault c =
     rw (p.1, p.2) (no_text c.in_err-p.field-0.0 (no_poly_at c.args.line.now c.args.at) c.in_err-p.ensures)
 
 pub returns-then-not-ends_poly-clause-fault : goal.returns-then-not-ends_poly-clause-fault
-returns-then-not-ends_poly-clause-fault c =
-    (refl, no_end_at c.args.line.now c.in_ok-p.p c.in_ok-p.rest.now c.args.at c.in_ok-p.ensures (sym c.ends_poly.ensures ∙ c.if-not-ends_poly.true))
+returns-then-not-ends_poly-clause-fault c = (
+  refl,
+  no_end_at c.args.line.now c.in_ok-p.p c.in_ok-p.rest.now c.args.at c.in_ok-p.ensures
+      (sym c.ends_poly.ensures ∙ c.if-not-ends_poly.true),
+)
 
 pub overflow_sub-result : goal.overflow_sub-result
 overflow_sub-result c = poly_fits_at c.args.line.now c.in_ok-p.p c.in_ok-p.rest.now c.args.at c.in_ok-p.ensures
 
 pub returns-clause-found : goal.returns-clause-found
 returns-clause-found c =
-    poly_found_at c.args.line.now c.in_ok-p.p c.in_ok-p.rest.now c.args.at c.requires c.in_ok-p.ensures (sym c.ends_poly.ensures ∙ c.if-not-ends_poly.false)
+    poly_found_at c.args.line.now c.in_ok-p.p c.in_ok-p.rest.now c.args.at c.requires c.in_ok-p.ensures
+    (sym c.ends_poly.ensures ∙ c.if-not-ends_poly.false)

@@ -6,32 +6,47 @@ use Rattle.ff_text.proofs.read.read_element.Goals as goal
 use Rattle.ff_text.proofs.read.read_element.Goals.{else-loop-reach-test, then-loop-reach-test+in_ok-step+then-not-branch}
 
 pub step-requires : goal.step-requires
-step-requires c = element_room_at c.args.line.now c.args.at c.loop-reach.reach c.loop-reach.end c.loop-reach.scan c.loop-reach.invariant
+step-requires c = element_room_at c.args.line.now c.args.at c.loop-reach.reach c.loop-reach.end c.loop-reach.scan
+    c.loop-reach.invariant
 
 pub loop-reach-preserved-then-is_whole : goal.loop-reach-preserved-then-is_whole
 loop-reach-preserved-then-is_whole c =
-    element_whole c.args.line.now c.args.at c.loop-reach.reach c.loop-reach.end c.loop-reach.scan c.step.new.self c.loop-reach.invariant c.loop-reach-test.true
-    (step_made (element_step c.loop-reach.scan (get_or c.args.line.now c.loop-reach.reach 0)) c.loop-reach.scan c.step.new.self c.in_ok-step.field-0 c.in_ok-step.ensures c.if-not-branch.false)
+    element_whole c.args.line.now c.args.at c.loop-reach.reach c.loop-reach.end c.loop-reach.scan c.step.new.self
+    c.loop-reach.invariant c.loop-reach-test.true
+    (step_made (element_step c.loop-reach.scan (get_or c.args.line.now c.loop-reach.reach 0)) c.loop-reach.scan
+    c.step.new.self c.in_ok-step.field-0 c.in_ok-step.ensures c.if-not-branch.false)
     (sym c.is_whole.ensures ∙ c.if-is_whole.true)
 
 pub loop-reach-preserved : goal.loop-reach-preserved
 loop-reach-preserved c =
-    element_on c.args.line.now c.args.at c.loop-reach.reach c.loop-reach.end c.loop-reach.scan c.step.new.self c.loop-reach.invariant c.loop-reach-test.true
-    (step_made (element_step c.loop-reach.scan (get_or c.args.line.now c.loop-reach.reach 0)) c.loop-reach.scan c.step.new.self c.in_ok-step.field-0 c.in_ok-step.ensures c.if-not-branch.false)
+    element_on c.args.line.now c.args.at c.loop-reach.reach c.loop-reach.end c.loop-reach.scan c.step.new.self
+    c.loop-reach.invariant c.loop-reach-test.true
+    (step_made (element_step c.loop-reach.scan (get_or c.args.line.now c.loop-reach.reach 0)) c.loop-reach.scan
+    c.step.new.self c.in_ok-step.field-0 c.in_ok-step.ensures c.if-not-branch.false)
     (sym c.is_whole.ensures ∙ c.if-is_whole.false)
 
 pub returns-in-Some-clause-found : goal.returns-in-Some-clause-found
 returns-in-Some-clause-found c =
-    let r : IsElementAllRead c.args.line.now c.args.at c.loop-reach.reach c.loop-reach.end c.loop-reach-test.scan = elim c.loop-reach-test.branch [
-      | else-loop-reach-test w ↦ element_ended c.args.line.now c.args.at c.loop-reach.reach c.loop-reach.end c.loop-reach.scan c.loop-reach-test.scan c.loop-reach.invariant w.scan-is w.loop-reach-test.false
-      | then-loop-reach-test+in_ok-step+then-not-branch w ↦ element_stopped c.args.line.now c.args.at c.loop-reach.reach c.loop-reach.end c.loop-reach.scan w.step.new.self c.loop-reach-test.scan w.in_ok-step.field-0 c.loop-reach.invariant w.scan-is w.in_ok-step.ensures w.if-not-branch.true
+    let r : IsElementAllRead c.args.line.now c.args.at c.loop-reach.reach c.loop-reach.end c.loop-reach-test.scan = elim
+    c.loop-reach-test.branch [
+      | else-loop-reach-test w ↦ element_ended c.args.line.now c.args.at c.loop-reach.reach c.loop-reach.end
+          c.loop-reach.scan c.loop-reach-test.scan c.loop-reach.invariant w.scan-is w.loop-reach-test.false
+      | then-loop-reach-test+in_ok-step+then-not-branch w ↦ element_stopped c.args.line.now c.args.at c.loop-reach.reach
+          c.loop-reach.end c.loop-reach.scan w.step.new.self c.loop-reach-test.scan w.in_ok-step.field-0
+          c.loop-reach.invariant w.scan-is w.in_ok-step.ensures w.if-not-branch.true
     ] in
-    element_found c.args.line.now c.args.at c.loop-reach.reach c.loop-reach.end c.loop-reach-test.scan c.in-Some.element r (sym c.in_ok-element.ensures ∙ c.in-Some.is)
+    element_found c.args.line.now c.args.at c.loop-reach.reach c.loop-reach.end c.loop-reach-test.scan c.in-Some.element
+    r (sym c.in_ok-element.ensures ∙ c.in-Some.is)
 
 pub returns-in-None-clause-fault : goal.returns-in-None-clause-fault
 returns-in-None-clause-fault c =
-    let r : IsElementAllRead c.args.line.now c.args.at c.loop-reach.reach c.loop-reach.end c.loop-reach-test.scan = elim c.loop-reach-test.branch [
-      | else-loop-reach-test w ↦ element_ended c.args.line.now c.args.at c.loop-reach.reach c.loop-reach.end c.loop-reach.scan c.loop-reach-test.scan c.loop-reach.invariant w.scan-is w.loop-reach-test.false
-      | then-loop-reach-test+in_ok-step+then-not-branch w ↦ element_stopped c.args.line.now c.args.at c.loop-reach.reach c.loop-reach.end c.loop-reach.scan w.step.new.self c.loop-reach-test.scan w.in_ok-step.field-0 c.loop-reach.invariant w.scan-is w.in_ok-step.ensures w.if-not-branch.true
+    let r : IsElementAllRead c.args.line.now c.args.at c.loop-reach.reach c.loop-reach.end c.loop-reach-test.scan = elim
+    c.loop-reach-test.branch [
+      | else-loop-reach-test w ↦ element_ended c.args.line.now c.args.at c.loop-reach.reach c.loop-reach.end
+          c.loop-reach.scan c.loop-reach-test.scan c.loop-reach.invariant w.scan-is w.loop-reach-test.false
+      | then-loop-reach-test+in_ok-step+then-not-branch w ↦ element_stopped c.args.line.now c.args.at c.loop-reach.reach
+          c.loop-reach.end c.loop-reach.scan w.step.new.self c.loop-reach-test.scan w.in_ok-step.field-0
+          c.loop-reach.invariant w.scan-is w.in_ok-step.ensures w.if-not-branch.true
     ] in
-    element_nothing c.args.line.now c.args.at c.loop-reach.reach c.loop-reach.end c.loop-reach-test.scan r (sym c.in_ok-element.ensures ∙ c.in-None.is)
+    element_nothing c.args.line.now c.args.at c.loop-reach.reach c.loop-reach.end c.loop-reach-test.scan r
+    (sym c.in_ok-element.ensures ∙ c.in-None.is)

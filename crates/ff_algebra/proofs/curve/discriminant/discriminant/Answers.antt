@@ -17,10 +17,12 @@ returns g c =
     let traces = c.in_ok-traces.traces.items in
     let h = c.in_ok-traces.ensures in
     IfOk_three c.determinant.result
-    (λ d. value k d ≡ determinant (polynomials k).ops (length rows) (matrix_of k c.as_slice.result.now rows 0)) (IsOver k.ops) IsPoly (IsDiscriminant k p)
+    (λ d. value k d ≡ determinant (polynomials k).ops (length rows) (matrix_of k c.as_slice.result.now rows 0))
+    (IsOver k.ops) IsPoly (IsDiscriminant k p)
     (λ d is in_k poly. record {
       poly = poly;
       over = in_k;
-      value = is ∙ discriminant_is k p traces c.as_slice.result.now c.n.result c.n.ensures.n c.n.ensures.range.positive c.n.ensures.range.at_most_four h.count c.as_slice.ensures.value h.traces;
+      value = is ∙ discriminant_is k p traces c.as_slice.result.now c.n.result c.n.ensures.n c.n.ensures.range.positive
+          c.n.ensures.range.at_most_four h.count c.as_slice.ensures.value h.traces;
     })
     c.determinant.ensures.value c.determinant.ensures.over c.determinant.ensures.poly

@@ -12,7 +12,11 @@ loop-i-preserved g c =
     let p = c.in_ok-coefficient.field-0 in
     record {
       size = omega (arith, c.in_ok-push.ensures.len, c.loop-i.invariant.size);
-      each = pushed_each (IsCoefficient k.ops c.args.terms.now) old c.push.new.self.items p [] c.loop-i.i c.loop-i.invariant.size c.loop-i.invariant.each c.in_ok-coefficient.ensures.coefficient c.in_ok-push.ensures.items;
-      over = rw c.in_ok-push.ensures.items (All-push (IsOver k.ops) old p c.loop-i.invariant.over c.in_ok-coefficient.ensures.over);
-      short = rw c.in_ok-push.ensures.items (All-push (λ p. length p ≤ 33) old p c.loop-i.invariant.short c.in_ok-coefficient.ensures.short);
+      each = pushed_each (IsCoefficient k.ops c.args.terms.now) old c.push.new.self.items p [] c.loop-i.i
+          c.loop-i.invariant.size c.loop-i.invariant.each c.in_ok-coefficient.ensures.coefficient
+          c.in_ok-push.ensures.items;
+      over = rw c.in_ok-push.ensures.items
+          (All-push (IsOver k.ops) old p c.loop-i.invariant.over c.in_ok-coefficient.ensures.over);
+      short = rw c.in_ok-push.ensures.items
+          (All-push (λ p. length p ≤ 33) old p c.loop-i.invariant.short c.in_ok-coefficient.ensures.short);
     }

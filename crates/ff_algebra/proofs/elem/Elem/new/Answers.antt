@@ -8,23 +8,29 @@ use Rattle.ff_algebra.proofs.ElemParts.{multiple_function, monic_multiple, range
 use Rattle.ff_algebra.proofs.elem.Elem.new.Goals as goal
 use Rattle.ff_algebra.proofs.elem.Elem.new.Given.{Over}
 
-inverse_is : (g : Over) (c : goal.After-multiply_by g) → c.inv-inverse.result ≡ (g.K.SmallField.field c.args.k.now).inv (top_of c.args.den)
+inverse_is : (g : Over) (c : goal.After-multiply_by g)
+    → c.inv-inverse.result ≡ (g.K.SmallField.field c.args.k.now).inv (top_of c.args.den)
 inverse_is g c =
     let k = g.K.SmallField.field c.args.k.now in c.inv-inverse.ensures ∙ ap k.inv c.top.ensures.top
 
-inverse_in : (g : Over) (c : goal.After-multiply_by g) → (g.K.SmallField.field c.args.k.now).inv (top_of c.args.den) < (g.K.SmallField.field c.args.k.now).size
+inverse_in : (g : Over) (c : goal.After-multiply_by g)
+    → (g.K.SmallField.field c.args.k.now).inv (top_of c.args.den) < (g.K.SmallField.field c.args.k.now).size
 inverse_in g c =
     let k = g.K.SmallField.field c.args.k.now in
-    k.laws.inv_below (top_of c.args.den) (get_or_below k c.args.den (length c.args.den - 1) c.requires.den_in) (λ e. c.top.ensures.not_zero (c.top.ensures.top ∙ e))
+    k.laws.inv_below (top_of c.args.den) (get_or_below k c.args.den (length c.args.den - 1) c.requires.den_in)
+    (λ e. c.top.ensures.not_zero (c.top.ensures.top ∙ e))
 
 num_is : (g : Over) (c : goal.After-multiply_by g)
-    → c.multiply_all.new.row ≡ map (λ v. multiple_of (g.K.SmallField.field c.args.k.now).ops v ((g.K.SmallField.field c.args.k.now).inv (top_of c.args.den))) c.args.num.items
+    → c.multiply_all.new.row ≡ map (λ v. multiple_of (g.K.SmallField.field c.args.k.now).ops v
+    ((g.K.SmallField.field c.args.k.now).inv (top_of c.args.den))) c.args.num.items
 num_is g c =
     let k = g.K.SmallField.field c.args.k.now in
-    c.multiply_all.ensures ∙ ap₂ (λ e w. map (λ v. multiple_of k.ops v e) w) (inverse_is g c) c.as_mut_slice.ensures.value
+    c.multiply_all.ensures ∙ ap₂ (λ e w. map (λ v. multiple_of k.ops v e) w) (inverse_is g c)
+    c.as_mut_slice.ensures.value
 
 den_is : (g : Over) (c : goal.After-multiply_by g)
-    → c.multiply_by.new.self ≡ multiple_of (g.K.SmallField.field c.args.k.now).ops c.args.den ((g.K.SmallField.field c.args.k.now).inv (top_of c.args.den))
+    → c.multiply_by.new.self ≡ multiple_of (g.K.SmallField.field c.args.k.now).ops c.args.den
+    ((g.K.SmallField.field c.args.k.now).inv (top_of c.args.den))
 den_is g c =
     let k = g.K.SmallField.field c.args.k.now in
     c.multiply_by.ensures.multiple ∙ ap (multiple_of k.ops c.args.den) (inverse_is g c)

@@ -10,11 +10,14 @@ loop-i-preserved g c =
     let k = g.K.SmallField.field c.args.k.now in
     let p = c.args.p.now in
     record {
-      count = ap length c.in_ok-push.ensures.items ∙ length-append c.loop-i.lines.items (c.in_ok-line_of.field-0 ∷ []) ∙ ap (λ n. n + 1) c.loop-i.invariant.count;
-      starts = pushed_line (IsStart k p c.args.v.now) c.loop-i.i c.loop-i.lines.items c.push.new.self.items c.in_ok-line_of.field-0 c.loop-i.invariant.count c.in_ok-push.ensures.items c.loop-i.invariant.starts
+      count = ap length c.in_ok-push.ensures.items ∙ length-append c.loop-i.lines.items (c.in_ok-line_of.field-0 ∷ [])
+          ∙ ap (λ n. n + 1) c.loop-i.invariant.count;
+      starts = pushed_line (IsStart k p c.args.v.now) c.loop-i.i c.loop-i.lines.items c.push.new.self.items
+          c.in_ok-line_of.field-0 c.loop-i.invariant.count c.in_ok-push.ensures.items c.loop-i.invariant.starts
           (record {
             line_is = c.in_ok-line_of.ensures.line;
-            factors = c.in_ok-line_of.ensures.factors ∙ c.in_ok-factors.ensures ∙ ap (λ n. set (replicate (n + 1) []) c.loop-i.i (1 ∷ [])) c.n-count.ensures.n;
+            factors = c.in_ok-line_of.ensures.factors ∙ c.in_ok-factors.ensures
+                ∙ ap (λ n. set (replicate (n + 1) []) c.loop-i.i (1 ∷ [])) c.n-count.ensures.n;
           });
     }
 

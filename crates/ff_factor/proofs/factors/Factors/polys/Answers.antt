@@ -8,11 +8,13 @@ pub loop-part-preserved : goal.loop-part-preserved
 loop-part-preserved c =
     let fs = c.deref-part-items.result.now in
     let less : c.loop-part.part-index < length fs = omega arith in
-    polys_more fs c.loop-part.part-index c.part-item.result c.loop-part.polys.items c.push.new.self.items c.in_ok-copy.field-0 less c.part-item.is
+    polys_more fs c.loop-part.part-index c.part-item.result c.loop-part.polys.items c.push.new.self.items
+    c.in_ok-copy.field-0 less c.part-item.is
     c.loop-part.invariant c.in_ok-copy.ensures c.in_ok-push.ensures.items
 
 pub returns : goal.returns
 returns c =
     c.loop-part.invariant
     ∙ ap polys_of
-    (take_all c.loop-part.part-index c.deref-part-items.result.now (omega arith) ∙ c.deref-part-items.ensures.value ∙ ap (λ v. v.parts) c.self.view_is)
+    (take_all c.loop-part.part-index c.deref-part-items.result.now (omega arith) ∙ c.deref-part-items.ensures.value
+    ∙ ap (λ v. v.parts) c.self.view_is)

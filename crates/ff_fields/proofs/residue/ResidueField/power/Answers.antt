@@ -22,11 +22,13 @@ loop-left-preserved c =
     let before = c.loop-left.invariant in
     elim c.if-left-eq1.branch [
       | then-left-eq1 w ↦
-          let turn = power_turn k _ _ c.loop-left.left _ _ _ before.power_in before.square_in before.kept (inl (w.if-left-eq1.true, w.power-is ∙ w.product-power.ensures)) c.product-square.ensures in
+          let turn = power_turn k _ _ c.loop-left.left _ _ _ before.power_in before.square_in before.kept
+          (inl (w.if-left-eq1.true, w.power-is ∙ w.product-power.ensures)) c.product-square.ensures in
           record { power_in = turn.0; square_in = turn.1; kept = turn.2 }
       | else-left-eq1 w ↦
           let even : c.loop-left.left % 2 ≡ 0 = omega arith in
-          let turn = power_turn k _ _ c.loop-left.left _ _ _ before.power_in before.square_in before.kept (inr (even, w.power-is)) c.product-square.ensures in
+          let turn = power_turn k _ _ c.loop-left.left _ _ _ before.power_in before.square_in before.kept
+          (inr (even, w.power-is)) c.product-square.ensures in
           record { power_in = turn.0; square_in = turn.1; kept = turn.2 }
     ]
 

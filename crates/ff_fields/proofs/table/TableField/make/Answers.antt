@@ -10,7 +10,8 @@ pub generator-requires-clause-mark : goal.generator-requires-clause-mark
 generator-requires-clause-mark c =
     let k = standard_of c.args.base in
     let some : 0 < c.size-size.result = omega (arith, c.size-size.ensures, k.laws.one_below) in
-    ap (λ w. get_or w 0 0) (c.deref_mut-2.ensures.value ∙ c.in_ok-logs.ensures) ∙ get_or-replicate c.size-size.result 0 65535 0 some
+    ap (λ w. get_or w 0 0) (c.deref_mut-2.ensures.value ∙ c.in_ok-logs.ensures)
+    ∙ get_or-replicate c.size-size.result 0 65535 0 some
 
 pub with_sums-requires-clause-codes_in : goal.with_sums-requires-clause-codes_in
 with_sums-requires-clause-codes_in c =
@@ -18,7 +19,8 @@ with_sums-requires-clause-codes_in c =
     let found = c.in-Some.ensures in
     let codes_len : c.in_ok-codes.codes.len ≡ length c.generator.new.codes =
     c.in_ok-codes.codes.ok.0 ∙ ap length (sym c.deref_mut.ensures.value) ∙ sym c.generator.auto.codes in
-    subst (IsOver k.ops) (sym (c.deref.ensures.value ∙ written_back c.generator.new.codes _ c.in_ok-codes.codes.len codes_len))
+    subst (IsOver k.ops) (sym (c.deref.ensures.value
+    ∙ written_back c.generator.new.codes _ c.in_ok-codes.codes.len codes_len))
     (codes_over k c.in-Some.generator found.some.0 found.some.1.0 c.generator.new.codes c.generator.new.logs
     found.logs_long found.mark found.some.1.1 found.codes_long)
 
@@ -33,8 +35,10 @@ invariant_of-result c =
     c.in_ok-codes.codes.ok.0 ∙ ap length (sym c.deref_mut.ensures.value) ∙ sym c.generator.auto.codes in
     let logs_len : c.in_ok-logs.logs.len ≡ length logs =
     c.in_ok-logs.logs.ok.0 ∙ ap length (sym c.deref_mut-2.ensures.value) ∙ sym c.generator.auto.logs in
-    let codes_are : c.deref.result.now ≡ codes = c.deref.ensures.value ∙ written_back codes _ c.in_ok-codes.codes.len codes_len in
-    let logs_are : c.deref-2.result.now ≡ logs = c.deref-2.ensures.value ∙ written_back logs _ c.in_ok-logs.logs.len logs_len in
+    let codes_are : c.deref.result.now ≡ codes = c.deref.ensures.value
+    ∙ written_back codes _ c.in_ok-codes.codes.len codes_len in
+    let logs_are : c.deref-2.result.now ≡ logs = c.deref-2.ensures.value
+    ∙ written_back logs _ c.in_ok-logs.logs.len logs_len in
     let long = c.in_ok-powers.ensures.long ∙ ap length codes_are in
     let each : (i : ℕ) → i < length codes → IsPowerOf k.ops codes logs c.in_ok-powers.powers.items i =
     λ i less.

@@ -12,9 +12,11 @@ pub overflow_mul-log : goal.overflow_mul-log
 overflow_mul-log c =
     let k = standard_of c.args.self.now in
     let s = c.self.inside in
-    let T = tables_at s.base c.args.self.now s.generator s.minus_one s.powers.items s.logs.items c.self.view_is c.self.invariant in
+    let T = tables_at s.base c.args.self.now s.generator s.minus_one s.powers.items s.logs.items c.self.view_is
+    c.self.invariant in
     let n_is = c.len-n.ensures ∙ s.powers.ok.0 in
-    let small = log_below k s.generator s.minus_one s.powers.items s.logs.items T c.args.a c.index.result.now c.len-n.result c.requires c.if-a-eq0.false c.index.ensures n_is in
+    let small = log_below k s.generator s.minus_one s.powers.items s.logs.items T c.args.a c.index.result.now
+    c.len-n.result c.requires c.if-a-eq0.false c.index.ensures n_is in
     let within : c.len-n.result ≤ 65535 = omega (arith, n_is, T.powers_are.long, k.laws.size_within) in
     let rest = c.args.e % c.len-n.result in
     let some : 0 < c.len-n.result = omega (arith, small) in
@@ -27,6 +29,8 @@ pub returns : goal.returns
 returns c =
     let k = standard_of c.args.self.now in
     let s = c.self.inside in
-    let T = tables_at s.base c.args.self.now s.generator s.minus_one s.powers.items s.logs.items c.self.view_is c.self.invariant in
-    power_at k s.generator s.minus_one s.powers.items s.logs.items T c.args.a c.args.e c.index.result.now c.len-n.result _ c.index-2.result.now
+    let T = tables_at s.base c.args.self.now s.generator s.minus_one s.powers.items s.logs.items c.self.view_is
+    c.self.invariant in
+    power_at k s.generator s.minus_one s.powers.items s.logs.items T c.args.a c.args.e c.index.result.now c.len-n.result
+    _ c.index-2.result.now
     c.requires c.if-a-eq0.false c.index.ensures (c.len-n.ensures ∙ s.powers.ok.0) refl c.index-2.ensures

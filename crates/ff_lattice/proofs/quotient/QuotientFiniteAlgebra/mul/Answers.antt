@@ -41,7 +41,9 @@ read_codes-requires-clause-row_in g c =
     let row_is = c.deref_mut.ensures.value ∙ c.in_ok-row.ensures ∙ ap (λ rows. spread k.ops q rows a) ms_is in
     let made_in : IsRow k.ops q.p.n made = (product_row k q h a b c.requires.a_in c.requires.b_in).0 in
     let size : length c.deref_mut.result.now ≡ q.p.n = ap length row_is ∙ made_in.size in
-    let order_is = c.rows-rows.ensures.rows ∙ ap (λ (l : LatticeValue). l.rows) (c.lattice.ensures ∙ ap (λ (q : QuotientValue). q.order) c.self.view_is) in
+    let order_is = c.rows-rows.ensures.rows
+    ∙ ap (λ (l : LatticeValue). l.rows) (c.lattice.ensures ∙ ap (λ (q : QuotientValue). q.order) c.self.view_is)
+    in
     let ideal_is = ap rows_of c.deref-2.ensures.value ∙ ap (λ (q : QuotientValue). q.rows) c.self.view_is in
     subst (λ m. IsRow k.ops m c.deref_mut.result.now) (sym size) (subst (IsRow k.ops q.p.n) (sym row_is) made_in)
 
@@ -58,9 +60,12 @@ read_codes-requires-clause-order_in g c =
     let row_is = c.deref_mut.ensures.value ∙ c.in_ok-row.ensures ∙ ap (λ rows. spread k.ops q rows a) ms_is in
     let made_in : IsRow k.ops q.p.n made = (product_row k q h a b c.requires.a_in c.requires.b_in).0 in
     let size : length c.deref_mut.result.now ≡ q.p.n = ap length row_is ∙ made_in.size in
-    let order_is = c.rows-rows.ensures.rows ∙ ap (λ (l : LatticeValue). l.rows) (c.lattice.ensures ∙ ap (λ (q : QuotientValue). q.order) c.self.view_is) in
+    let order_is = c.rows-rows.ensures.rows
+    ∙ ap (λ (l : LatticeValue). l.rows) (c.lattice.ensures ∙ ap (λ (q : QuotientValue). q.order) c.self.view_is)
+    in
     let ideal_is = ap rows_of c.deref-2.ensures.value ∙ ap (λ (q : QuotientValue). q.rows) c.self.view_is in
-    subst (λ m. All (IsRow k.ops m) (rows_of c.rows-rows.result.now)) (sym size) (subst (All (IsRow k.ops q.p.n)) (sym order_is) h.order.lattice.rows_in)
+    subst (λ m. All (IsRow k.ops m) (rows_of c.rows-rows.result.now)) (sym size)
+    (subst (All (IsRow k.ops q.p.n)) (sym order_is) h.order.lattice.rows_in)
 
 pub read_codes-requires-clause-order_popov : goal.read_codes-requires-clause-order_popov
 read_codes-requires-clause-order_popov g c =
@@ -75,9 +80,12 @@ read_codes-requires-clause-order_popov g c =
     let row_is = c.deref_mut.ensures.value ∙ c.in_ok-row.ensures ∙ ap (λ rows. spread k.ops q rows a) ms_is in
     let made_in : IsRow k.ops q.p.n made = (product_row k q h a b c.requires.a_in c.requires.b_in).0 in
     let size : length c.deref_mut.result.now ≡ q.p.n = ap length row_is ∙ made_in.size in
-    let order_is = c.rows-rows.ensures.rows ∙ ap (λ (l : LatticeValue). l.rows) (c.lattice.ensures ∙ ap (λ (q : QuotientValue). q.order) c.self.view_is) in
+    let order_is = c.rows-rows.ensures.rows
+    ∙ ap (λ (l : LatticeValue). l.rows) (c.lattice.ensures ∙ ap (λ (q : QuotientValue). q.order) c.self.view_is)
+    in
     let ideal_is = ap rows_of c.deref-2.ensures.value ∙ ap (λ (q : QuotientValue). q.rows) c.self.view_is in
-    subst (λ m. IsPopov m (rows_of c.rows-rows.result.now)) (sym size) (subst (IsPopov q.p.n) (sym order_is) h.order.lattice.popov)
+    subst (λ m. IsPopov m (rows_of c.rows-rows.result.now)) (sym size)
+    (subst (IsPopov q.p.n) (sym order_is) h.order.lattice.popov)
 
 pub read_codes-requires-clause-ideal_in : goal.read_codes-requires-clause-ideal_in
 read_codes-requires-clause-ideal_in g c =
@@ -92,9 +100,12 @@ read_codes-requires-clause-ideal_in g c =
     let row_is = c.deref_mut.ensures.value ∙ c.in_ok-row.ensures ∙ ap (λ rows. spread k.ops q rows a) ms_is in
     let made_in : IsRow k.ops q.p.n made = (product_row k q h a b c.requires.a_in c.requires.b_in).0 in
     let size : length c.deref_mut.result.now ≡ q.p.n = ap length row_is ∙ made_in.size in
-    let order_is = c.rows-rows.ensures.rows ∙ ap (λ (l : LatticeValue). l.rows) (c.lattice.ensures ∙ ap (λ (q : QuotientValue). q.order) c.self.view_is) in
+    let order_is = c.rows-rows.ensures.rows
+    ∙ ap (λ (l : LatticeValue). l.rows) (c.lattice.ensures ∙ ap (λ (q : QuotientValue). q.order) c.self.view_is)
+    in
     let ideal_is = ap rows_of c.deref-2.ensures.value ∙ ap (λ (q : QuotientValue). q.rows) c.self.view_is in
-    subst (λ m. All (IsRow k.ops m) (rows_of c.deref-2.result.now)) (sym size) (subst (All (IsRow k.ops q.p.n)) (sym ideal_is) h.rows_in)
+    subst (λ m. All (IsRow k.ops m) (rows_of c.deref-2.result.now)) (sym size)
+    (subst (All (IsRow k.ops q.p.n)) (sym ideal_is) h.rows_in)
 
 pub read_codes-requires-clause-ideal_popov : goal.read_codes-requires-clause-ideal_popov
 read_codes-requires-clause-ideal_popov g c =
@@ -109,7 +120,9 @@ read_codes-requires-clause-ideal_popov g c =
     let row_is = c.deref_mut.ensures.value ∙ c.in_ok-row.ensures ∙ ap (λ rows. spread k.ops q rows a) ms_is in
     let made_in : IsRow k.ops q.p.n made = (product_row k q h a b c.requires.a_in c.requires.b_in).0 in
     let size : length c.deref_mut.result.now ≡ q.p.n = ap length row_is ∙ made_in.size in
-    let order_is = c.rows-rows.ensures.rows ∙ ap (λ (l : LatticeValue). l.rows) (c.lattice.ensures ∙ ap (λ (q : QuotientValue). q.order) c.self.view_is) in
+    let order_is = c.rows-rows.ensures.rows
+    ∙ ap (λ (l : LatticeValue). l.rows) (c.lattice.ensures ∙ ap (λ (q : QuotientValue). q.order) c.self.view_is)
+    in
     let ideal_is = ap rows_of c.deref-2.ensures.value ∙ ap (λ (q : QuotientValue). q.rows) c.self.view_is in
     subst (λ m. IsPopov m (rows_of c.deref-2.result.now)) (sym size) (subst (IsPopov q.p.n) (sym ideal_is) h.rows_popov)
 
@@ -126,7 +139,10 @@ returns g c =
     let row_is = c.deref_mut.ensures.value ∙ c.in_ok-row.ensures ∙ ap (λ rows. spread k.ops q rows a) ms_is in
     let made_in : IsRow k.ops q.p.n made = (product_row k q h a b c.requires.a_in c.requires.b_in).0 in
     let size : length c.deref_mut.result.now ≡ q.p.n = ap length row_is ∙ made_in.size in
-    let order_is = c.rows-rows.ensures.rows ∙ ap (λ (l : LatticeValue). l.rows) (c.lattice.ensures ∙ ap (λ (q : QuotientValue). q.order) c.self.view_is) in
+    let order_is = c.rows-rows.ensures.rows
+    ∙ ap (λ (l : LatticeValue). l.rows) (c.lattice.ensures ∙ ap (λ (q : QuotientValue). q.order) c.self.view_is)
+    in
     let ideal_is = ap rows_of c.deref-2.ensures.value ∙ ap (λ (q : QuotientValue). q.rows) c.self.view_is in
-    codes_read k q (length c.deref_mut.result.now) c.self.inside.depth (rows_of c.rows-rows.result.now) (rows_of c.deref-2.result.now) c.deref_mut.result.now made c.in_ok-codes.codes.items
+    codes_read k q (length c.deref_mut.result.now) c.self.inside.depth (rows_of c.rows-rows.result.now)
+    (rows_of c.deref-2.result.now) c.deref_mut.result.now made c.in_ok-codes.codes.items
     size order_is ideal_is (ap (λ (q : QuotientValue). q.depth) c.self.view_is) row_is c.in_ok-codes.ensures

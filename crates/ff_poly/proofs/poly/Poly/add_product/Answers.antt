@@ -32,15 +32,20 @@ returns-clause-sum g c =
     let within : length inside ≤ c.max.result = omega arith in
     let length_a = ap length c.a.view_is in
     let length_self = ap length c.self.view_is in
-    let written = c.in_ok-resize.ensures.items ∙ ap (λ w. w ++ replicate m 0) (take_all c.max.result inside within ∙ c.self.view_is) in
+    let written = c.in_ok-resize.ensures.items
+    ∙ ap (λ w. w ++ replicate m 0) (take_all c.max.result inside within ∙ c.self.view_is) in
     c.drop_zeros.ensures.dropped
     ∙ written_back c.add_product_to.new.sum _ _ (omega arith)
     ∙ ap poly_of c.add_product_to.ensures
-    ∙ ap₂ (λ x y. poly_of (add_onto (raw_ring k.ops) c.args.c x y c.as_mut_slice.result.now)) (c.as_slice.ensures.value ∙ c.a.view_is) (c.as_slice-2.ensures.value ∙ c.b.view_is)
-    ∙ ap (λ z. poly_of (add_onto (raw_ring k.ops) c.args.c c.args.a.now c.args.b.now z)) (c.as_mut_slice.ensures.value ∙ written)
-    ∙ sum_with_product k c.args.self.now c.args.a.now c.args.b.now c.args.c m c.requires.self_in c.requires.c_in c.requires.a_in c.requires.b_in (omega (arith, length_a, length_self))
+    ∙ ap₂ (λ x y. poly_of (add_onto (raw_ring k.ops) c.args.c x y c.as_mut_slice.result.now))
+    (c.as_slice.ensures.value ∙ c.a.view_is) (c.as_slice-2.ensures.value ∙ c.b.view_is)
+    ∙ ap (λ z. poly_of (add_onto (raw_ring k.ops) c.args.c c.args.a.now c.args.b.now z))
+    (c.as_mut_slice.ensures.value ∙ written)
+    ∙ sum_with_product k c.args.self.now c.args.a.now c.args.b.now c.args.c m c.requires.self_in c.requires.c_in
+    c.requires.a_in c.requires.b_in (omega (arith, length_a, length_self))
 
 pub returns-clause-over : goal.returns-clause-over
 returns-clause-over g c =
     let k = g.K.SmallField.field c.args.k.now in
-    rw (returns-clause-sum g c) (IsOver_sum_of k c.requires.self_in (IsOver_multiple_of k (IsOver_product_of k c.requires.a_in c.requires.b_in) c.requires.c_in))
+    rw (returns-clause-sum g c) (IsOver_sum_of k c.requires.self_in
+    (IsOver_multiple_of k (IsOver_product_of k c.requires.a_in c.requires.b_in) c.requires.c_in))

@@ -19,14 +19,17 @@ returns-clause-difference g c =
     ∙ written_back c.subtract_at.new.sum _ _ (omega arith)
     ∙ ap poly_of c.subtract_at.ensures
     ∙ ap₂ (λ x y. poly_of (add_lists r x (replicate c.args.j 0 ++ scale_list r (k.neg c.args.c) y)))
-    (c.as_mut_slice.ensures.value ∙ c.in_ok-resize.ensures.items ∙ ap₂ (λ x y. x ++ y) (take_all _ _ (omega arith) ∙ c.self.view_is) (ap (λ n. replicate n 0) (omega arith)))
+    (c.as_mut_slice.ensures.value ∙ c.in_ok-resize.ensures.items
+    ∙ ap₂ (λ x y. x ++ y) (take_all _ _ (omega arith) ∙ c.self.view_is) (ap (λ n. replicate n 0) (omega arith)))
     (c.as_slice.ensures.value ∙ c.other.view_is)
-    ∙ less_multiple_written k c.args.self.now c.args.c c.requires.c_in c.args.j c.args.other.now (c.max-len.result - c.len.result) c.requires.self_in c.requires.other_in
+    ∙ less_multiple_written k c.args.self.now c.args.c c.requires.c_in c.args.j c.args.other.now
+    (c.max-len.result - c.len.result) c.requires.self_in c.requires.other_in
 
 pub returns-clause-over : goal.returns-clause-over
 returns-clause-over g c =
     let k = g.K.SmallField.field c.args.k.now in
-    rw (returns-clause-difference g c) (IsOver_less_multiple k _ c.args.c c.args.j _ c.requires.self_in c.requires.c_in c.requires.other_in)
+    rw (returns-clause-difference g c) (IsOver_less_multiple k _ c.args.c c.args.j _ c.requires.self_in c.requires.c_in
+    c.requires.other_in)
 
 pub returns-clause-trimmed : goal.returns-clause-trimmed
 returns-clause-trimmed g c = c.drop_zeros.ensures.poly

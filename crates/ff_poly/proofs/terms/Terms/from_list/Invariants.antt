@@ -8,6 +8,7 @@ invariant-loop-i g l =
     record {
       terms : IsTerms l.terms.items;
       terms_in : All (λ t. t.2 < k.size) l.terms.items;
-      up_to : (d : ℕ × ℕ × ℕ) → l.i < length l.sorted.items → All (λ u. IsUpTo u (get_or l.sorted.items l.i d)) l.terms.items;
+      up_to : (d : ℕ × ℕ × ℕ) → l.i < length l.sorted.items
+          → All (λ u. IsUpTo u (get_or l.sorted.items l.i d)) l.terms.items;
       codes : (i j : ℕ) → code_at k.ops i j l.terms.items ≡ code_at k.ops i j (take l.i l.sorted.items);
     }

@@ -13,6 +13,8 @@ loop-i-preserved g c =
     let end = c.len-i-end.ensures in
     let test = c.loop-i-test.true in
     let less : c.loop-i.i < length (row_elems o) = omega (arith, elems_length o, same, end, test) in
-    rows_more (g.K.SmallField.field c.args.k.now) c.args.curve.now c.args.side (row_elems o) c.loop-i.i c.loop-i.rows.items c.push.new.self.items r c.in_ok-written.field-0 less
-    (subst (λ (l : LatticeValue). slice_get (row_elems l) c.loop-i.i ≡ Some r) c.lattice-l.ensures c.in_ok-r.ensures.row)
+    rows_more (g.K.SmallField.field c.args.k.now) c.args.curve.now c.args.side (row_elems o) c.loop-i.i
+    c.loop-i.rows.items c.push.new.self.items r c.in_ok-written.field-0 less
+    (subst (λ (l : LatticeValue). slice_get (row_elems l) c.loop-i.i ≡ Some r) c.lattice-l.ensures
+    c.in_ok-r.ensures.row)
     c.loop-i.invariant c.in_ok-written.ensures c.in_ok-push.ensures.items

@@ -4,4 +4,5 @@ use Rattle.ff_text.proofs.PrintedFound.{stripped}
 use Rattle.ff_text.proofs.printed.digits.after.Goals as goal
 
 pub returns : goal.returns
-returns c = stripped c.args.text.now c.args.bytes.now _ (strip_prefix_is Decides-eqb c.args.bytes.now c.args.text.now _ c.strip_prefix.ensures.cases)
+returns c = stripped c.args.text.now c.args.bytes.now _
+    (strip_prefix_is Decides-eqb c.args.bytes.now c.args.text.now _ c.strip_prefix.ensures.cases)
