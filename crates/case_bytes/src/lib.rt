@@ -1,8 +1,7 @@
 //! Bytes as they are written in a table of cases.
 //!
 //! A text stands for its own bytes, but for `\n`, `\t`, `\r`, `\0`, `\xHH` (a byte by two hexadecimal digits) and a
-//! backslash
-//! before another byte, which stands for that byte. `{N TEXT}` is TEXT written N times.
+//! backslash before another byte, which stands for that byte. `{N TEXT}` is TEXT written N times.
 #![tactic(auto)]
 
 use std::alloc::{AllocError, Global};

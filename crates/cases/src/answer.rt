@@ -2,6 +2,7 @@
 
 use crate::run::run;
 use crate::{header, step, turns};
+use ff_program::Status;
 use std::alloc::{AllocError, Global};
 
 /// The header, as the first line of an answer.
@@ -53,10 +54,36 @@ fn steps(alloc: Global, header: &str) -> Result<Vec<u64>, AllocError> {
     Ok(steps)
 }
 
+/// The name and the number of a status.
+fn numbered(alloc: Global, status: Status) -> Result<String, AllocError> {
+    let n = status.number();
+    Ok(format!(in alloc; "{status:?} {n}\n")?)
+}
+
+/// The name and the number of each status.
+fn statuses(alloc: Global) -> Result<Vec<u8>, AllocError> {
+    let mut text = Vec::new(alloc);
+    for status in [
+        Status::Done,
+        Status::Refused,
+        Status::Usage,
+        Status::ReadFault,
+        Status::WriteFault,
+        Status::WantOfMemory,
+        Status::CheckNo,
+    ] {
+        text.extend_from_slice(numbered(alloc, status)?.as_bytes())?;
+    }
+    Ok(text)
+}
+
 /// What stands behind the header in an answer.
 fn lines(alloc: Global, header: &str, script: &[u8]) -> Result<Vec<u8>, AllocError> {
     if let Some(p) = header::number(header, "first step of field ") {
         return step::first_step(alloc, header, u32::try_from(p).unwrap_or(0));
+    }
+    if header::asks(header, "numbers") {
+        return statuses(alloc);
     }
     let steps = steps(alloc, header)?;
     if header::asks(header, "each ") {

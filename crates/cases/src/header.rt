@@ -14,6 +14,7 @@
 //! - `first step of field P`: no run, but one step of a session over this statement, with `printed N`, the number of
 //!   bytes
 //!   that were printed before, and `bare`.
+//! - `numbers`: no run, but the name and the number of each status.
 //! - what begins with `#` is a remark.
 
 use case_bytes::bytes_of;

@@ -2,8 +2,7 @@
 //!
 //! Standard input is a table: a header line, which begins with `---- `, and the lines of its script up to the next one.
 //! `header` says what a header may ask for. Scripts are written with the escapes of `case_bytes`. The answer to a case
-//! is
-//! its header, the status, the number of bytes that were read, and what was printed.
+//! is its header, the status, the number of bytes that were read, and what was printed.
 #![tactic(auto)]
 
 mod answer;
@@ -19,8 +18,7 @@ use std::io;
 use std::io::Write;
 
 /// The script of a case: its lines, each with a line feed (but for the last one of an open end), and line feeds up to
-/// so
-/// many bytes, where the header says so.
+/// so many bytes, where the header says so.
 fn script(alloc: Global, header: &str, lines: Option<&str>) -> Result<Vec<u8>, AllocError> {
     let mut script = Vec::new(alloc);
     if let Some(lines) = lines {

@@ -1,4 +1,4 @@
-//! One step of a session.
+//! One step of a session, which is a copy.
 
 use crate::header;
 use ff_script::Statement;
@@ -19,16 +19,16 @@ fn refusal_line(alloc: Global, r: &Refusal) -> Result<Vec<u8>, AllocError> {
     Ok(line)
 }
 
-/// What a first step over `field P` answers: the block, or the line of the refusal.
+/// What a first step over `field P` of a copied session answers: the block, or the line of a copy of the refusal.
 pub fn first_step(alloc: Global, header: &str, p: u32) -> Result<Vec<u8>, AllocError> {
     let printed = header::number(header, "printed ").unwrap_or(0);
     if printed > MAX_OUTPUT || p > 999_999_999 {
         return b"no such step\n".to_vec(alloc);
     }
-    let mut session = Session::new(alloc, header::asks(header, "bare"), printed);
+    let mut session = Session::new(alloc, header::asks(header, "bare"), printed).copy()?;
     let s = Statement::FieldOf { p, tail: None };
     match session.step(&s) {
         Ok(text) => Ok(text),
-        Err(r) => refusal_line(alloc, &r),
+        Err(r) => refusal_line(alloc, &r.copy(alloc)?),
     }
 }

@@ -1,5 +1,6 @@
 //! The answer to a line.
 
+use crate::copied::copy_line;
 use crate::curves::curve_line;
 use crate::elements::element_line;
 use crate::sides::side_line;
@@ -18,6 +19,7 @@ fn answered(alloc: Global, line: &str) -> Result<String, AllocError> {
         "element" | "sum" | "same" | "product" | "trace" | "inverse" | "killed" => {
             element_line(alloc, &k, word, tail)
         }
+        "copy" => copy_line(alloc, &k, tail),
         "inf" | "fin" | "returned" => side_line(alloc, &k, word, tail),
         _ => Err(BAD),
     }

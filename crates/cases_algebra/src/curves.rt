@@ -1,28 +1,15 @@
 //! Curves and their faults.
 
-ghost use Rattle.std.specs.Prelude.{IfOk};
-ghost use Rattle.function_field.specs.Curves.{IsCurve};
-
+use case_values::curves::curve;
 use case_values::print::{polynomial_text, push_polynomial, row_text, worded};
-use case_values::read::BAD;
 use case_values::terms::terms;
 use ff_algebra::{Curve, CurveFault};
 use ff_fields::field::SmallField;
 use ff_poly::Poly;
 use std::alloc::{AllocError, Global};
 
-/// The curve of the terms, where there is one.
-pub fn curve<K: SmallField>(alloc: Global, k: &K, text: &str) -> Result<Curve, AllocError>
-    ensures { IfOk result (IsCurve (K.field k.now)) }
-{
-    let f = terms(alloc, k, text)?;
-    match Curve::new(alloc, k, &f) {
-        Ok(made) => Ok(made),
-        Err(_) => Err(BAD),
-    }
-}
-
-fn accepted(alloc: Global, made: &Curve) -> Result<String, AllocError> {
+/// The degree in y and the infinity number.
+pub fn accepted(alloc: Global, made: &Curve) -> Result<String, AllocError> {
     let n = made.fin().n();
     let c = made.c();
     format!(in alloc; "n {n} c {c}")
@@ -51,7 +38,7 @@ fn outcome<K: SmallField>(alloc: Global, k: &K, text: &str) -> Result<String, Al
     let f = terms(alloc, k, text)?;
     match Curve::new(alloc, k, &f) {
         Ok(made) => accepted(alloc, &made),
-        Err(fault) => refused(alloc, fault),
+        Err(fault) => refused(alloc, fault.copy(alloc)?),
     }
 }
 

@@ -22,6 +22,23 @@ fn monic<K: SmallField>(alloc: Global, k: &K, text: &str) -> Result<String, Allo
     element_text(alloc, &element(alloc, k, number(n)? as usize, z)?)
 }
 
+// The sum, or whether the two are the same.
+fn sum_or_same<K: SmallField>(
+    alloc: Global,
+    k: &K,
+    word: &str,
+    a: &Elem,
+    b: &Elem,
+) -> Result<String, AllocError>
+    requires a_in { IsElem (K.field k.now).ops (length a.now.num) a.now }
+    requires b_in { IsElem (K.field k.now).ops (length a.now.num) b.now }
+{
+    if word == "same" {
+        return decided(alloc, same(alloc, k, a, b)?);
+    }
+    element_text(alloc, &add(alloc, k, a, b)?)
+}
+
 // `n: a: b`: the sum, or whether the two are the same.
 fn of_two<K: SmallField>(
     alloc: Global,
@@ -34,10 +51,7 @@ fn of_two<K: SmallField>(
     let n = number(n)? as usize;
     let a = element(alloc, k, n, a)?;
     let b = element(alloc, k, n, b)?;
-    if word == "same" {
-        return decided(alloc, same(alloc, k, &a, &b)?);
-    }
-    element_text(alloc, &add(alloc, k, &a, &b)?)
+    sum_or_same(alloc, k, word, &a, &b)
 }
 
 fn product_text<K: SmallField>(
@@ -95,17 +109,20 @@ fn inverts<K: SmallField>(
     }
 }
 
-// Is a killed by an element that isn't 0?
+// Is a killed by an element that isn't 0? The element is read from a copy.
 fn is_killed<K: SmallField>(alloc: Global, k: &K, p: &Pres, a: &Elem) -> Result<bool, AllocError>
     requires p_in { IsPresOver (K.field k.now).ops p.now }
     requires a_in { IsElem (K.field k.now).ops p.now.n a.now }
 {
-    match try_inverse(alloc, k, p, a) {
-        Err(ZeroDivisor::Kills(w)) => {
+    let Err(divisor) = try_inverse(alloc, k, p, a) else {
+        return Ok(false);
+    };
+    match divisor.copy(alloc)? {
+        ZeroDivisor::Kills(w) => {
             let product = mul(alloc, k, p, a, &w)?;
             Ok(is_zero(&product) && !is_zero(&w))
         }
-        _ => Ok(false),
+        ZeroDivisor::Memory => Err(BAD),
     }
 }
 

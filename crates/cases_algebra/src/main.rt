@@ -1,9 +1,10 @@
 //! Answers lines of known answers over curves, functions, and the same functions in the other presentation: a line in,
-//! a line
-//! out. A line is a word, a field, a colon, and arguments between colons; or it begins with `#` and is its own answer.
+//! a line out. A line is a word, a field, a colon, and arguments between colons; or it begins with `#` and is its own
+//! answer.
 #![tactic(auto)]
 
 mod answer;
+mod copied;
 mod curves;
 mod elements;
 mod sides;

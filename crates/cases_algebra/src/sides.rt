@@ -3,8 +3,8 @@
 ghost use Rattle.function_field.specs.Values.{IsElem};
 ghost use Rattle.function_field.specs.Curves.{IsCurve};
 
-use crate::curves::curve;
 use crate::elements::element_text;
+use case_values::curves::curve;
 use case_values::print::decided;
 use case_values::read::{element, parted};
 use ff_algebra::elem::{Elem, same};
@@ -59,8 +59,7 @@ fn returned<K: SmallField>(
 }
 
 /// `terms: z`: z in the infinite presentation, z of the infinite presentation in the finite one, or whether z is the
-/// same when
-/// it comes back.
+/// same when it comes back.
 pub fn side_line<K: SmallField>(
     alloc: Global,
     k: &K,

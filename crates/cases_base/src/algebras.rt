@@ -12,8 +12,8 @@ use ff_falg::{FiniteAlgebra, fixed, frobenius, idempotents, is_field, nilpotents
 use ff_fields::field::SmallField;
 use std::alloc::{AllocError, Global};
 
-// The polynomials modulo the one of the text.
-fn modulo<K: SmallField>(alloc: Global, k: &K, text: &str) -> Result<PolyQuotient, AllocError>
+/// The polynomials modulo the one of the text.
+pub fn modulo<K: SmallField>(alloc: Global, k: &K, text: &str) -> Result<PolyQuotient, AllocError>
     ensures { IfOk result (IsModulus (K.field k.now).ops) }
 {
     let g = polynomial(alloc, k, text)?;
@@ -33,6 +33,7 @@ fn algebra_text<K: SmallField, A: FiniteAlgebra<K>>(
     requires { A.IsOver a.now (K.field k.now) }
 {
     match word {
+        "one" => codes_text(alloc, a.one(alloc)?.as_slice()),
         "frobenius" => matrix_text(alloc, &frobenius(alloc, k, a)?),
         "nilpotents" => matrix_text(alloc, &nilpotents(alloc, k, a)?),
         "fixed" => matrix_text(alloc, &fixed(alloc, k, a)?),

@@ -1,14 +1,13 @@
 //! Fields and their codes.
 
-use case_values::fields::field_of;
+use case_values::fields::{field_of, tabled};
 use case_values::print::codes_text;
 use case_values::read::{BAD, numbers};
 use ff_fields::fault::FieldFault;
 use ff_fields::field::SmallField;
-use ff_fields::fields::Field;
 use std::alloc::{AllocError, Global};
 
-fn made(alloc: Global, k: &Field) -> Result<String, AllocError> {
+fn made<K: SmallField>(alloc: Global, k: &K) -> Result<String, AllocError> {
     codes_text(alloc, &[k.size(), k.characteristic()])
 }
 
@@ -16,8 +15,8 @@ fn fault_text(alloc: Global, fault: FieldFault) -> Result<String, AllocError> {
     format!(in alloc; "{fault:?}")
 }
 
-/// The size and the characteristic of the field, or what keeps the numbers from making one.
-pub fn field_line(alloc: Global, name: &str) -> Result<String, AllocError> {
+// The field by its definition, or what keeps the numbers from making one.
+fn plain_line(alloc: Global, name: &str) -> Result<String, AllocError> {
     let found = numbers(alloc, name)?;
     let Some(answer) = field_of(found.as_slice()) else {
         return Err(BAD);
@@ -25,6 +24,22 @@ pub fn field_line(alloc: Global, name: &str) -> Result<String, AllocError> {
     match answer {
         Ok(k) => made(alloc, &k),
         Err(fault) => fault_text(alloc, fault),
+    }
+}
+
+// The field by tables, or that no code has powers enough.
+fn tables_line(alloc: Global, name: &str) -> Result<String, AllocError> {
+    match tabled(alloc, name)? {
+        Some(k) => made(alloc, &k),
+        None => "none".to_string(alloc),
+    }
+}
+
+/// The size and the characteristic of the field, which may be one by `tables`, or why there is none.
+pub fn field_line(alloc: Global, name: &str) -> Result<String, AllocError> {
+    match name.strip_prefix("tables ") {
+        Some(numbers) => tables_line(alloc, numbers),
+        None => plain_line(alloc, name),
     }
 }
 
@@ -113,8 +128,7 @@ fn values<K: SmallField>(
 }
 
 /// `a b`, `a` or nothing: the value at two codes, those at a and each code, or those at all codes but 0; `neg` and
-/// `inv` of one
-/// code, and `pow` of a code and an exponent, or of a code and all exponents below the size.
+/// `inv` of one code, and `pow` of a code and an exponent, or of a code and all exponents below the size.
 pub fn code_line<K: SmallField>(
     alloc: Global,
     k: &K,

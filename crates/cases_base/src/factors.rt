@@ -6,8 +6,8 @@ use ff_factor::{Factors, factor, is_irreducible, lowest_terms};
 use ff_fields::field::SmallField;
 use std::alloc::{AllocError, Global};
 
-// The unit, and each polynomial with its exponent.
-fn factors_text(alloc: Global, found: &Factors) -> Result<String, AllocError> {
+/// The unit, and each polynomial with its exponent.
+pub fn factors_text(alloc: Global, found: &Factors) -> Result<String, AllocError> {
     let mut out = worded(alloc, "unit", u64::from(found.unit()))?;
     for part in found.parts() {
         out.push_str(", ")?;
@@ -17,12 +17,17 @@ fn factors_text(alloc: Global, found: &Factors) -> Result<String, AllocError> {
     Ok(out)
 }
 
-fn factored<K: SmallField>(alloc: Global, k: &K, text: &str) -> Result<String, AllocError> {
+/// The factors of the polynomial of the text, which isn't 0.
+pub fn factors_of<K: SmallField>(alloc: Global, k: &K, text: &str) -> Result<Factors, AllocError> {
     let g = polynomial(alloc, k, text)?;
     if g.is_zero() {
         return Err(BAD);
     }
-    let found = factor(alloc, k, &g)?;
+    factor(alloc, k, &g)
+}
+
+fn factored<K: SmallField>(alloc: Global, k: &K, text: &str) -> Result<String, AllocError> {
+    let found = factors_of(alloc, k, text)?;
     factors_text(alloc, &found)
 }
 

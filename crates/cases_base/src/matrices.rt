@@ -76,6 +76,7 @@ pub fn matrix_line<K: SmallField>(
     text: &str,
 ) -> Result<String, AllocError> {
     match word {
+        "matrix" => matrix_text(alloc, &matrix(alloc, k, text)?),
         "echelon" => echelon_text(alloc, k, text),
         "kernel" => kernel_text(alloc, k, text),
         "solve" => list_text(alloc, solution(alloc, k, text)?),

@@ -106,8 +106,8 @@ fn added<K: SmallField>(alloc: Global, k: &K, text: &str) -> Result<Poly, AllocE
     add_product(k, polynomial(alloc, k, s)?, number(c)?, &a, &b)
 }
 
-// The terms, ascending, with commas between them.
-fn terms_text(alloc: Global, terms: &Terms) -> Result<String, AllocError> {
+/// The terms, ascending, with commas between them.
+pub fn terms_text(alloc: Global, terms: &Terms) -> Result<String, AllocError> {
     let mut out = String::new(alloc);
     for t in terms.list() {
         if !out.is_empty() {

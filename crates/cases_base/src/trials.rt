@@ -116,8 +116,7 @@ fn holds<K: SmallField>(alloc: Global, k: &K, word: &str, g: &Poly) -> Result<bo
 }
 
 /// How many monic polynomials of the degree are irreducible, have no factor twice, or are, with all their multiples by
-/// codes,
-/// the products of their factors, which are irreducible.
+/// codes, the products of their factors, which are irreducible.
 pub fn trial_line<K: SmallField>(
     alloc: Global,
     k: &K,

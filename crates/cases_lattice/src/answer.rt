@@ -15,9 +15,8 @@ fn answered(alloc: Global, line: &str) -> Result<String, AllocError> {
     };
     let k = field(alloc, name)?;
     match word {
-        "lattice" | "sum" | "product" | "colon" | "same" | "scale" | "contains" | "row" => {
-            lattice_line(alloc, &k, word, tail)
-        }
+        "lattice" | "copy" | "sum" | "product" | "colon" | "same" | "scale" | "contains" | "row" =>
+            lattice_line(alloc, &k, word, tail),
         "order" | "ideal" => order_line(alloc, &k, word, tail),
         "one" | "class" | "lifted" | "times" => quotient_line(alloc, &k, word, tail),
         "radical"

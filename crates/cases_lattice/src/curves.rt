@@ -1,30 +1,18 @@
 //! Curves, and what is asked of their orders.
 
-ghost use Rattle.std.specs.Prelude.{IfOk};
 ghost use Rattle.function_field.specs.Curves.{IsCurve};
 
 use crate::enlarged::enlarged_text;
 use crate::infinite::is_member;
 use crate::lattices::lattice_text;
+use case_values::curves::curve;
 use case_values::print::decided;
-use case_values::read::{BAD, parted};
-use case_values::terms::terms;
+use case_values::read::parted;
 use ff_algebra::{Curve, Side};
 use ff_fields::field::SmallField;
 use ff_infinite::infinite_start;
 use ff_maximal::maximal_order;
 use std::alloc::{AllocError, Global};
-
-// The curve of the terms, where there is one.
-fn curve<K: SmallField>(alloc: Global, k: &K, text: &str) -> Result<Curve, AllocError>
-    ensures { IfOk result (IsCurve (K.field k.now)) }
-{
-    let f = terms(alloc, k, text)?;
-    match Curve::new(alloc, k, &f) {
-        Ok(made) => Ok(made),
-        Err(_) => Err(BAD),
-    }
-}
 
 fn maximal_text<K: SmallField>(
     alloc: Global,
@@ -38,8 +26,7 @@ fn maximal_text<K: SmallField>(
 }
 
 /// `terms:` and an argument. The maximal order of a side, or k[t][Y], of no argument; whether an element is in k[t][Y]
-/// or in its
-/// combinations over the fractions of degree at most 0; or a radical, its multipliers, or an enlargement, of
+/// or in its combinations over the fractions of degree at most 0; or a radical, its multipliers, or an enlargement, of
 /// polynomials.
 pub fn curve_line<K: SmallField>(
     alloc: Global,

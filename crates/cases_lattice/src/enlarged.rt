@@ -1,16 +1,20 @@
 //! k[x][y] of a curve, its radicals and their multipliers, and its enlargements.
 
-ghost use Rattle.std.specs.Prelude.{All, IfOk};
+ghost use Rattle.std.specs.Prelude.{◌≡◌, All, IfOk};
 ghost use Rattle.ff_fields.specs.Over.{IsOver};
+ghost use Rattle.ff_poly.specs.Polynomials.{polynomials};
 ghost use Rattle.ff_poly.specs.Words.{IsIrreducibleList};
+ghost use Rattle.function_field.specs.Discriminant.{discriminant};
+ghost use Rattle.function_field.specs.Values.{IsPresOver, equation_of};
 ghost use Rattle.function_field.specs.Curves.{IsCurve};
+ghost use Rattle.ff_lattice.specs.Orders.{IsOrderLattice};
 
 use crate::lattices::lattice_text;
 use case_values::read::{BAD, polynomial};
-use ff_algebra::Curve;
+use ff_algebra::{Curve, Pres};
 use ff_factor::is_irreducible;
 use ff_fields::field::SmallField;
-use ff_lattice::{Lattice, Order};
+use ff_lattice::Order;
 use ff_order::{equation_order, maximal, multiplier, p_maximal, radical};
 use ff_poly::Poly;
 use std::alloc::{AllocError, Global};
@@ -43,60 +47,61 @@ fn primes<K: SmallField>(alloc: Global, k: &K, text: &str) -> Result<Vec<Poly>, 
     Ok(found)
 }
 
-// The radical of k[x][y] at the polynomial.
-fn radical_at<K: SmallField>(
+// The radical of the order at the polynomial, or its multipliers.
+fn radical_text<K: SmallField>(
     alloc: Global,
     k: &K,
-    c: &Curve,
-    text: &str,
-) -> Result<Lattice, AllocError>
-    requires { IsCurve (K.field k.now) c.now }
+    p: &Pres,
+    o: &Order,
+    pi: &Poly,
+    word: &str,
+) -> Result<String, AllocError>
+    requires p_in { IsPresOver (K.field k.now).ops p.now }
+    requires order { IsOrderLattice (K.field k.now) p.now o.now }
+    requires pi_in { IsOver (K.field k.now).ops pi.now }
+    requires irreducible { IsIrreducibleList (K.field k.now).ops pi.now }
 {
-    let p = c.fin();
-    let pi = prime(alloc, k, text)?;
-    let start = equation_order(alloc, k, p)?;
-    radical(alloc, k, p, &start, &pi)
+    let r = radical(alloc, k, p, o, pi)?;
+    if word == "radical" {
+        return lattice_text(alloc, &r);
+    }
+    lattice_text(alloc, multiplier(alloc, k, p, o, &r)?.lattice())
 }
 
-// The multipliers of that radical.
-fn multiplier_at<K: SmallField>(
+// What the word makes of the order at the polynomial of the text.
+fn at_one<K: SmallField>(
     alloc: Global,
     k: &K,
-    c: &Curve,
+    p: &Pres,
+    o: &Order,
+    word: &str,
     text: &str,
-) -> Result<Order, AllocError>
-    requires { IsCurve (K.field k.now) c.now }
+) -> Result<String, AllocError>
+    requires p_in { IsPresOver (K.field k.now).ops p.now }
+    requires some { let k = K.field k.now in ¬ (discriminant (equation_of k p.now) ≡ (polynomials k).𝟘) }
+    requires order { IsOrderLattice (K.field k.now) p.now o.now }
 {
-    let p = c.fin();
     let pi = prime(alloc, k, text)?;
-    let start = equation_order(alloc, k, p)?;
-    let r = radical(alloc, k, p, &start, &pi)?;
-    multiplier(alloc, k, p, &start, &r)
+    if word == "pmaximal" {
+        return lattice_text(alloc, p_maximal(alloc, k, p, o, &pi)?.lattice());
+    }
+    radical_text(alloc, k, p, o, &pi, word)
 }
 
-// k[x][y], enlarged at the polynomial.
-fn p_enlarged<K: SmallField>(
+// The order, enlarged at the polynomials of the text.
+fn at_several<K: SmallField>(
     alloc: Global,
     k: &K,
-    c: &Curve,
+    p: &Pres,
+    o: &Order,
     text: &str,
-) -> Result<Order, AllocError>
-    requires { IsCurve (K.field k.now) c.now }
+) -> Result<String, AllocError>
+    requires p_in { IsPresOver (K.field k.now).ops p.now }
+    requires some { let k = K.field k.now in ¬ (discriminant (equation_of k p.now) ≡ (polynomials k).𝟘) }
+    requires order { IsOrderLattice (K.field k.now) p.now o.now }
 {
-    let p = c.fin();
-    let pi = prime(alloc, k, text)?;
-    let start = equation_order(alloc, k, p)?;
-    p_maximal(alloc, k, p, &start, &pi)
-}
-
-// k[x][y], enlarged at the polynomials.
-fn enlarged<K: SmallField>(alloc: Global, k: &K, c: &Curve, text: &str) -> Result<Order, AllocError>
-    requires { IsCurve (K.field k.now) c.now }
-{
-    let p = c.fin();
     let found = primes(alloc, k, text)?;
-    let start = equation_order(alloc, k, p)?;
-    maximal(alloc, k, p, &start, found.as_slice())
+    lattice_text(alloc, maximal(alloc, k, p, o, found.as_slice())?.lattice())
 }
 
 /// Of k[x][y]: the radical at a polynomial, its multipliers, or the enlargement at one polynomial or at several.
@@ -109,10 +114,11 @@ pub fn enlarged_text<K: SmallField>(
 ) -> Result<String, AllocError>
     requires { IsCurve (K.field k.now) c.now }
 {
-    match word {
-        "radical" => lattice_text(alloc, &radical_at(alloc, k, c, text)?),
-        "multiplier" => lattice_text(alloc, multiplier_at(alloc, k, c, text)?.lattice()),
-        "pmaximal" => lattice_text(alloc, p_enlarged(alloc, k, c, text)?.lattice()),
-        _ => lattice_text(alloc, enlarged(alloc, k, c, text)?.lattice()),
+    let p = c.fin();
+    let start = equation_order(alloc, k, p)?;
+    if word == "maximal" {
+        at_several(alloc, k, p, &start, text)
+    } else {
+        at_one(alloc, k, p, &start, word, text)
     }
 }

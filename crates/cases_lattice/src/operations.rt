@@ -26,6 +26,12 @@ fn made<K: SmallField>(alloc: Global, k: &K, p: &Pres, text: &str) -> Result<Str
     }
 }
 
+// A copy of the lattice of the generators.
+fn copied<K: SmallField>(alloc: Global, k: &K, p: &Pres, text: &str) -> Result<String, AllocError> {
+    let l = lattice(alloc, k, p, text)?;
+    lattice_text(alloc, &l.copy(alloc)?)
+}
+
 // `A: B`: the sum, the product, or the functions that take B into A.
 fn of_two<K: SmallField>(
     alloc: Global,
@@ -51,7 +57,7 @@ fn are_same<K: SmallField>(alloc: Global, k: &K, p: &Pres, text: &str) -> Result
     let (a, b) = parted(text)?;
     let a = lattice(alloc, k, p, a)?;
     let b = lattice(alloc, k, p, b)?;
-    Ok(same_lattice(k, &a, &b))
+    same_lattice(alloc, k, &a, &b)
 }
 
 // The lattice times the fraction of the text.
@@ -83,25 +89,16 @@ fn has<K: SmallField>(alloc: Global, k: &K, a: &Lattice, text: &str) -> Result<b
 }
 
 // The row with the number of the text.
-fn row_at<K: SmallField>(alloc: Global, k: &K, a: &Lattice, text: &str) -> Result<Elem, AllocError>
-    requires { IsLattice (K.field k.now).ops (length a.now.rows) a.now }
-{
+fn row_at(alloc: Global, a: &Lattice, text: &str) -> Result<Elem, AllocError> {
     let i = number(text)? as usize;
     if i >= a.len() {
         return Err(BAD);
     }
-    a.row(alloc, k, i)
+    a.row(alloc, i)
 }
 
-fn row_text<K: SmallField>(
-    alloc: Global,
-    k: &K,
-    a: &Lattice,
-    text: &str,
-) -> Result<String, AllocError>
-    requires { IsLattice (K.field k.now).ops (length a.now.rows) a.now }
-{
-    let row = row_at(alloc, k, a, text)?;
+fn row_text(alloc: Global, a: &Lattice, text: &str) -> Result<String, AllocError> {
+    let row = row_at(alloc, a, text)?;
     fraction_text(alloc, row.num(), row.den())
 }
 
@@ -118,13 +115,12 @@ fn of_one<K: SmallField>(
     match word {
         "scale" => lattice_text(alloc, &multiple(alloc, k, &a, x)?),
         "contains" => decided(alloc, has(alloc, k, &a, x)?),
-        _ => row_text(alloc, k, &a, x),
+        _ => row_text(alloc, &a, x),
     }
 }
 
-/// Over the presentation f: `lattice` has `f: A`; `sum`, `product`, `colon` and `same` have `f: A: B`; `scale`,
-/// `contains` and
-/// `row` have `f: A:` and a fraction, an element or a number.
+/// Over the presentation f: `lattice` and `copy` have `f: A`; `sum`, `product`, `colon` and `same` have `f: A: B`;
+/// `scale`, `contains` and `row` have `f: A:` and a fraction, an element or a number.
 pub fn lattice_line<K: SmallField>(
     alloc: Global,
     k: &K,
@@ -135,6 +131,7 @@ pub fn lattice_line<K: SmallField>(
     let p = presentation(alloc, k, f)?;
     match word {
         "lattice" => made(alloc, k, &p, rest),
+        "copy" => copied(alloc, k, &p, rest),
         "same" => decided(alloc, are_same(alloc, k, &p, rest)?),
         "sum" | "product" | "colon" => lattice_text(alloc, &of_two(alloc, k, &p, word, rest)?),
         _ => of_one(alloc, k, &p, word, rest),

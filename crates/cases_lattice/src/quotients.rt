@@ -3,6 +3,8 @@
 ghost use Rattle.std.specs.Prelude.{◌≡◌, IfOk};
 ghost use Rattle.function_field.specs.Values.{IsElem, IsPresOver};
 ghost use Rattle.ff_falg.specs.Algebras.{IsVector};
+ghost use Rattle.ff_lattice.specs.Lattices.{IsLattice};
+ghost use Rattle.ff_lattice.specs.Orders.{IsOrderLattice};
 ghost use Rattle.ff_lattice.specs.Quotients.{IsQuotientOver, dimension};
 
 use crate::lattices::lattice;
@@ -13,10 +15,29 @@ use case_values::read::{BAD, element, parted, presentation};
 use ff_algebra::{Elem, Pres};
 use ff_falg::FiniteAlgebra;
 use ff_fields::field::SmallField;
-use ff_lattice::Quotient;
 use ff_lattice::ideals::is_ideal;
 use ff_lattice::sets::contains;
+use ff_lattice::{Lattice, Order, Quotient};
 use std::alloc::{AllocError, Global};
+
+// The order modulo the lattice, where that is an ideal.
+fn modulo_ideal<K: SmallField>(
+    alloc: Global,
+    k: &K,
+    p: &Pres,
+    o: &Order,
+    i: &Lattice,
+) -> Result<Quotient, AllocError>
+    requires p_in { IsPresOver (K.field k.now).ops p.now }
+    requires order { IsOrderLattice (K.field k.now) p.now o.now }
+    requires form { IsLattice (K.field k.now).ops p.now.n i.now }
+    ensures { IfOk result (IsQuotientOver (K.field k.now)) }
+{
+    if !is_ideal(alloc, k, p, o, i)? {
+        return Err(BAD);
+    }
+    Quotient::new(alloc, k, p, o, i)
+}
 
 // The order of the generators modulo an ideal.
 fn modulo<K: SmallField>(
@@ -31,10 +52,7 @@ fn modulo<K: SmallField>(
 {
     let o = order(alloc, k, p, a)?;
     let i = lattice(alloc, k, p, i)?;
-    if !is_ideal(alloc, k, p, &o, &i)? {
-        return Err(BAD);
-    }
-    Quotient::new(alloc, k, p, &o, &i)
+    modulo_ideal(alloc, k, p, &o, &i)
 }
 
 // The codes of the class of z, which has to be in the order.
@@ -120,8 +138,7 @@ fn codes_of<K: SmallField>(
 }
 
 /// Modulo an ideal, `f: A: I:` and arguments: the codes of `one`, of the `class` of an element, of what codes are
-/// `lifted` to,
-/// or of the classes of two elements, `times` each other. Where all is 0, `none`.
+/// `lifted` to, or of the classes of two elements, `times` each other. Where all is 0, `none`. The quotient is a copy.
 pub fn quotient_line<K: SmallField>(
     alloc: Global,
     k: &K,
@@ -133,7 +150,7 @@ pub fn quotient_line<K: SmallField>(
     let (i, rest) = parted(rest)?;
     let p = presentation(alloc, k, f)?;
     let q = modulo(alloc, k, &p, a, i)?;
-    let found = codes_of(alloc, k, &q, word, rest)?;
+    let found = codes_of(alloc, k, &q.copy(alloc)?, word, rest)?;
     if found.is_empty() {
         return "none".to_string(alloc);
     }

@@ -14,7 +14,8 @@ use Rattle.function_field.specs.Discriminant.{discriminant}
 use Rattle.function_field.specs.Places.{IsIntegralAt}
 use Rattle.function_field.specs.Divisors.{Divisor, IsDivisor, HasTotalDegree, MeetsOn, IsCanonical}
 use Rattle.function_field.specs.Functions.{Equation, FunctionOf, ring_of, trace_of, setting_of, degree_of_y, IsPolynomial}
-use Rattle.lattice_theory.specs.Lattices.{space_ops, polynomial_ops}
+use Rattle.function_field.specs.Indices.{space_ops}
+use Rattle.lattice_theory.specs.Lattices.{polynomial_ops}
 use Rattle.reduced_basis_theory.specs.Degree.{degree_sum}
 use Rattle.reduced_basis_theory.specs.Reduced.{InLattice}
 use Rattle.reduced_basis_theory.proofs.Converse.{converse}

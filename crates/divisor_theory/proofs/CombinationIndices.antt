@@ -23,7 +23,8 @@ use Rattle.function_field.specs.Functions.{Equation, of_poly, IsPolynomial, IsFi
 use Rattle.function_field.specs.Infinity.{variable}
 use Rattle.function_field.specs.Values.{PresValue, Functions, functions, setting, equation_of}
 use Rattle.function_field.proofs.ScalarRings.{polynomials_subring, finite_at_infinity_subring}
-use Rattle.lattice_theory.specs.Lattices.{IsLattice, HasIndex, space_ops}
+use Rattle.function_field.specs.Indices.{HasIndex, space_ops}
+use Rattle.lattice_theory.specs.Lattices.{IsLattice}
 use Rattle.lattice_theory.proofs.Indices.{codes, space, code_of, lattice_subspace}
 use Rattle.lattice_theory.proofs.Lattices.{lattice_module}
 use Rattle.order_theory.specs.Orders.{IsPrimeTo}

@@ -16,7 +16,8 @@ use Rattle.ff_poly.specs.Polynomials.{polynomials}
 use Rattle.function_field.specs.Discriminant.{discriminant}
 use Rattle.function_field.specs.Divisors.{IsConstant}
 use Rattle.function_field.specs.Functions.{Equation, FunctionOf, ring_of, setting_of, functions_discrete}
-use Rattle.lattice_theory.specs.Lattices.{HasIndex, space_ops, polynomial_ops}
+use Rattle.function_field.specs.Indices.{HasIndex, space_ops}
+use Rattle.lattice_theory.specs.Lattices.{polynomial_ops}
 use Rattle.lattice_theory.proofs.Indices.{code_of, code_hom}
 use Rattle.order_theory.proofs.IntegralLattice.{integral_lattice}
 use Rattle.lattice_theory.proofs.Lattices.{lattice_decided}

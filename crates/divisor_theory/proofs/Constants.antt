@@ -23,7 +23,8 @@ use Rattle.function_field.specs.Divisors.{IsConstant}
 use Rattle.function_field.specs.Functions.{Equation, FunctionOf, ring_of, setting_of, degree_of_y, IsCode, IsScalar, IsFiniteAtInfinity}
 use Rattle.function_field.proofs.ScalarRings.{scalars_subring}
 use Rattle.places_theory.proofs.Sides.{side_ring, scalar_integral}
-use Rattle.lattice_theory.specs.Lattices.{HasIndex, space_ops, polynomial_ops}
+use Rattle.function_field.specs.Indices.{HasIndex, space_ops}
+use Rattle.lattice_theory.specs.Lattices.{polynomial_ops}
 use Rattle.lattice_theory.proofs.Bases.{index_same}
 use Rattle.lattice_theory.proofs.Indices.{codes, space, code_of, code_hom}
 use Rattle.reduced_basis_theory.specs.Degree.{size, dimension_sum}

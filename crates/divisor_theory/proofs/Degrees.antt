@@ -14,7 +14,7 @@ use Rattle.function_field.specs.Discriminant.{discriminant}
 use Rattle.function_field.specs.Places.{Place, IsPlace}
 use Rattle.function_field.specs.Divisors.{Divisor, IsDivisor, HasDegree, HasTotalDegree, MeetsOn, InSpace, none, entry}
 use Rattle.function_field.specs.Functions.{Equation, FunctionOf, setting_of, degree_of_y}
-use Rattle.lattice_theory.specs.Lattices.{HasIndex, space_ops}
+use Rattle.function_field.specs.Indices.{HasIndex, space_ops}
 use Rattle.lattice_theory.proofs.Bases.{index_same}
 use Rattle.order_theory.proofs.SideOfPlaces.{degree_of_place}
 use Rattle.infinite_theory.proofs.InfiniteLaws.{degree_exists}
@@ -83,7 +83,3 @@ module _ {k : CodeField} (c : Equation k) (some : ¬ (discriminant c ≡ (polyno
           count = length_section (code_ring k) (code_field k) (functions_module c) (degree_of_y c) I
               (multiples_of c N) b d reduced (pos 0);
         })
-
-    pub space_dimension_exists : (l : ℕ) × HasIndex c (IsNull (space_ops c)) (InSpace (setting_of c) D) l
-    space_dimension_exists = let r = pair_basis in
-        (dimension_sum (degree_of_y c) r.1 (pos 0), space_dimension r.0 r.1 r.2)

@@ -21,7 +21,8 @@ use Rattle.function_field.specs.Places.{Place, IsPlace, IsIn, IsIntegralAt}
 use Rattle.function_field.specs.Divisors.{Entry, Divisor, HasTotalDegree, none, entry}
 use Rattle.function_field.specs.Functions.{Equation, FunctionOf, ring_of, setting_of, degree_of_y}
 use Rattle.function_field.specs.Discriminant.{discriminant}
-use Rattle.lattice_theory.specs.Lattices.{IsLattice, HasIndex}
+use Rattle.function_field.specs.Indices.{HasIndex}
+use Rattle.lattice_theory.specs.Lattices.{IsLattice}
 use Rattle.lattice_theory.proofs.Bases.{index_same}
 use Rattle.reduced_basis_theory.specs.Degree.{degree_sum}
 use Rattle.infinite_theory.proofs.InfiniteLaws.{degree_exists}

@@ -90,9 +90,6 @@ module _ {k : CodeField} (c : Equation k) where
           total : (m n : ℤ) → neg_ℤ m ≤ℤ (neg_ℤ (m -ℤ n) +ℤ neg_ℤ n)
           total m n = omega (arith, ints)
 
-      abbrev D' : Divisor (FunctionOf c)
-      D' = part s D
-
       one : Product (ring_of c).ops (DivisorIdeal (setting_of c) s (part s D))
           (DivisorIdeal (setting_of c) s (opposite_divisor (part s D))) 𝟙
       one =

@@ -19,7 +19,8 @@ use Rattle.function_field.specs.Divisors.{IsConstant, IsSumOfSides, HasGenus}
 use Rattle.function_field.specs.Functions.{Equation, FunctionOf, ring_of, setting_of, degree_of_y}
 use Rattle.function_field.proofs.ScalarRings.{scalars_subring}
 use Rattle.places_theory.proofs.Sides.{side_ring}
-use Rattle.lattice_theory.specs.Lattices.{HasIndex, space_ops, polynomial_ops}
+use Rattle.function_field.specs.Indices.{HasIndex, space_ops}
+use Rattle.lattice_theory.specs.Lattices.{polynomial_ops}
 use Rattle.reduced_basis_theory.specs.Degree.{genus_sum}
 use Rattle.reduced_basis_theory.specs.Reduced.{constants_ops}
 use Rattle.reduced_basis_theory.proofs.Laws.{constants_genus, constants_basis as basis_over_constants}
@@ -31,14 +32,13 @@ use Rattle.space_theory.proofs.ScalarLists.{combine_spanned, independent_lists}
 use Rattle.divisor_theory.proofs.Sequences.{sequence_of, independent_sequences}
 use Rattle.divisor_theory.proofs.Constants.{both_subring, constants_are, constants_index}
 use Rattle.divisor_theory.proofs.ConstantField.{tested, constant_of, Constant, constant_ring, same_constant, constant_field, constant_space, function_hom, over_constants, constants_extension, constants_basis}
+use Rattle.std.proofs.lemmas.Bool.{cases_lt}
+use Rattle.ideal_theory.proofs.DegreeIndex.{part_and_rest}
 
 -- a number that isn't 0 cancels
 cancel_number : (n g h : ℕ) → ¬ (n ≡ 0) → n * g ≡ n * h → g ≡ h
-cancel_number n g h some e = go (order g h) (order h g)
+cancel_number n g h some e = go (cases_lt g h) (cases_lt h g)
   where
-    order : (a b : ℕ) → (suc a ≤ b) ⊎ (b ≤ a)
-    order a b = grind arith
-
     less : (a b : ℕ) → suc a ≤ b → n * a ≡ n * b → ⊥
     less a b l q =
         let u : suc a * n ≤ b * n = mul-le-mul_right n l in
@@ -95,9 +95,6 @@ module _ {k : CodeField} (c : Equation k) (some : ¬ (discriminant c ≡ (polyno
   abbrev K0 : Field (Constant c some)
   K0 = constant_field c some field
 
-  split : (v t : FunctionOf c) → v ≡ t ⊕ (v ⊕ ⊖ t)
-  split v t = ring (ring_of c) (v ∷ t ∷ []) λ r x. simp (reads, r, x 0, x 1) (r.equal _ _ refl)
-
   -- the functions of the definition are a basis of F over O_fin + O_inf and the constants
   basis_of_genus : (g : ℕ) (h : HasGenus (setting_of c) g)
       → IsBasis (constant_ring c some).ops (over_constants c some).ops Sums (λ z. Unit {0}) h.functions
@@ -111,7 +108,7 @@ module _ {k : CodeField} (c : Equation k) (some : ¬ (discriminant c ≡ (polyno
           coefficient = q.0;
           rest = v ⊕ ⊖ s.0;
           rest_in = to_sum (v ⊕ ⊖ s.0) s.2;
-          is = split v s.0 ∙ ap (λ x. x ⊕ (v ⊕ ⊖ s.0)) q.1;
+          is = part_and_rest (ring_of c) v s.0 ∙ ap (λ x. x ⊕ (v ⊕ ⊖ s.0)) q.1;
         };
     independent =
         independent_sequences (constant_ring c some) (ring_of c) (λ a. a.0) (IsConstant (setting_of c))

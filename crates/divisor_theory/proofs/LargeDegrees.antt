@@ -15,7 +15,7 @@ use Rattle.function_field.specs.Discriminant.{discriminant}
 use Rattle.function_field.specs.Places.{IsIntegralAt}
 use Rattle.function_field.specs.Divisors.{Divisor, IsDivisor, HasTotalDegree, MeetsOn, InSpace, IsConstant, HasGenus}
 use Rattle.function_field.specs.Functions.{Equation, FunctionOf, ring_of, trace_of, setting_of, degree_of_y, IsPolynomial, IsFiniteAtInfinity, functions_discrete}
-use Rattle.lattice_theory.specs.Lattices.{HasIndex, space_ops}
+use Rattle.function_field.specs.Indices.{HasIndex, space_ops}
 use Rattle.lattice_theory.proofs.Bases.{index_same}
 use Rattle.prime_theory.specs.Ideals.{SameSet}
 use Rattle.reduced_basis_theory.specs.Degree.{degree_sum}

@@ -32,7 +32,7 @@ use Rattle.order_theory.proofs.SideOfPlaces.{regular_functions}
 use Rattle.infinite_theory.proofs.InfiniteLaws.{regular_integral}
 use Rattle.infinite_theory.proofs.ValueRules.{product_rule}
 use Rattle.ideal_theory.proofs.PowerValues.{values_additive}
-use Rattle.ideal_theory.proofs.PrincipalIdeals.{value_along}
+use Rattle.ideal_theory.proofs.PrincipalIdeals.{value_along, opposite_of}
 use Rattle.ideal_theory.proofs.SideIdeals.{side_divisor}
 use Rattle.divisor_theory.proofs.Differences.{side_prime}
 use Rattle.divisor_theory.proofs.PrincipalDivisors.{value_at}
@@ -90,11 +90,8 @@ module _ {k : CodeField} (c : Equation k) (some : ¬ (discriminant c ≡ (polyno
         let zero = valuation_of_outside (setting_of c) (scalars_subring c) P place 𝟙
         (side_ring (setting_of c) (scalars_subring c) P.side).one_in place.proper in
         at_least_weaker (setting_of c) (scalars_subring c) P place y n.0 (neg_ℤ m)
-        (opposite m n.0 (valuation_unique (setting_of c) (scalars_subring c) P place 𝟙 (m +ℤ n.0) (pos 0) one zero))
+        (opposite_of m n.0 (valuation_unique (setting_of c) (scalars_subring c) P place 𝟙 (m +ℤ n.0) (pos 0) one zero))
         n.1.reached
-      where
-        opposite : (m n : ℤ) → m +ℤ n ≡ pos 0 → neg_ℤ m ≤ℤ n
-        opposite m n e = omega (arith, ints)
 
     -- a sum of products that a function takes to values of at least 0
     listed_sum : (X Y : FunctionOf c → Type 0) (h : FunctionOf c) (fs : List (Factors X Y))
@@ -251,9 +248,6 @@ module _ {k : CodeField} (c : Equation k) (some : ¬ (discriminant c ≡ (polyno
                   elim (places_cover c D.0 D.1.on.divisor.places P place)
                   [ inl m ↦ inl (D.1.values P place h (pos 0) m).reached | inr a ↦ inr a ];
             }
-
-    abbrev Factor : Side → Type 0
-    Factor s = Factors (X s) (Q s)
 
     -- for the factors of a list of products
     abbrev BothAt : (s : Side) → Place (FunctionOf c) → List (Factors (X s) (Q s)) → Type 0

@@ -15,7 +15,8 @@ use Rattle.function_field.specs.Discriminant.{discriminant}
 use Rattle.function_field.specs.Places.{IsIntegralAt}
 use Rattle.function_field.specs.Divisors.{Divisor, IsDivisor, HasTotalDegree, MeetsOn}
 use Rattle.function_field.specs.Functions.{Equation, FunctionOf, ring_of, setting_of, degree_of_y, IsPolynomial}
-use Rattle.lattice_theory.specs.Lattices.{IsLattice, HasIndex}
+use Rattle.function_field.specs.Indices.{HasIndex}
+use Rattle.lattice_theory.specs.Lattices.{IsLattice}
 use Rattle.order_theory.proofs.IntegralLattice.{integral_lattice}
 use Rattle.order_theory.proofs.IndexProducts.{lattice_same}
 use Rattle.reduced_basis_theory.specs.Degree.{degree_sum}

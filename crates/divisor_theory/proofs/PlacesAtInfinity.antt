@@ -1,7 +1,7 @@
 -- Each degree of an infinite place is its index in the functions that are integral at infinity.
-use Rattle.std.proofs.Common.{◌≡◌, ℕ, List, [], ◌∷◌, refl, sym, ◌∙◌, ap}
+use Rattle.std.proofs.Common.{◌≡◌, ℕ, List, [], ◌∷◌, sym, ◌∙◌, ap}
 use Rattle.ring_lemmas.specs.Lists.{coeff_of}
-use Rattle.ring_lemmas.proofs.Solver.{ring, reads}
+use Rattle.ring_lemmas.proofs.Solver.{ring}
 use Rattle.ring_lemmas.specs.Polynomials.{constant, pol_ops}
 use Rattle.ring_lemmas.proofs.Lists.{coeff_trim}
 use Rattle.ff_fields.specs.Field.{CodeField}
@@ -13,13 +13,14 @@ use Rattle.function_field.specs.Divisors.{HasDegree}
 use Rattle.function_field.specs.Functions.{Equation, FunctionOf, ring_of, IsCode, setting_of}
 use Rattle.function_field.proofs.OnSide.{of_poly_zero}
 use Rattle.function_field.proofs.ScalarRings.{scalars_subring}
-use Rattle.lattice_theory.specs.Lattices.{HasIndex}
+use Rattle.function_field.specs.Indices.{HasIndex}
 use Rattle.lattice_theory.proofs.Indices.{code_of}
 use Rattle.order_theory.proofs.InfinitePlaces.{infinite}
 use Rattle.ideal_theory.proofs.PowerValues.{on_side}
 use Rattle.space_theory.proofs.RationalPart.{polynomial_same}
 use Rattle.divisor_theory.proofs.Sequences.{sequence_of, independent_sequences}
 use Rattle.order_theory.proofs.Degrees.{code_is, code_at}
+use Rattle.ideal_theory.proofs.DegreeIndex.{part_and_rest}
 
 module _ {k : CodeField} (c : Equation k) where
   infixl 65 ◌⊕◌
@@ -49,7 +50,7 @@ module _ {k : CodeField} (c : Equation k) where
             coefficient = s.0;
             rest = v ⊕ ⊖ t.0;
             rest_in = t.2;
-            is = split v t.0 ∙ ap (λ x. x ⊕ (v ⊕ ⊖ t.0)) s.1;
+            is = part_and_rest (ring_of c) v t.0 ∙ ap (λ x. x ⊕ (v ⊕ ⊖ t.0)) s.1;
           };
       independent =
           independent_sequences (code_ring k).ring (ring_of c) (code_of c) (IsCode c) (code_is c) code_zero
@@ -58,9 +59,6 @@ module _ {k : CodeField} (c : Equation k) where
     };
     count = d.count;
   }
-    where
-      split : (v t : FunctionOf c) → v ≡ t ⊕ (v ⊕ ⊖ t)
-      split v t = ring (ring_of c) (v ∷ t ∷ []) λ r x. simp (reads, r, x 0, x 1) (r.equal _ _ refl)
 
   pub infinite_degree_index : (P : Place (FunctionOf c)) → P.side ≡ Infinite → (g : ℕ) → HasDegree (setting_of c) P g
       → HasIndex c (IsIn (setting_of c) P) (IsIntegralAt (setting_of c) Infinite) g

@@ -18,7 +18,7 @@ use Rattle.function_field.specs.Functions.{Equation, FunctionOf, ring_of, settin
 use Rattle.function_field.proofs.ScalarRings.{scalars_subring}
 use Rattle.places_theory.proofs.Sides.{side_ring}
 use Rattle.places_theory.proofs.Valuations.{at_least_of_integral, at_least_product, at_least_weaker}
-use Rattle.lattice_theory.specs.Lattices.{HasIndex, space_ops}
+use Rattle.function_field.specs.Indices.{HasIndex, space_ops}
 use Rattle.lattice_theory.proofs.Bases.{index_same}
 use Rattle.lattice_theory.proofs.Indices.{codes, space}
 use Rattle.linear_theory.specs.Fields.{domain_of}

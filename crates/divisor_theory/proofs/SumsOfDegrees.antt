@@ -13,7 +13,8 @@ use Rattle.ff_poly.specs.Polynomials.{x_poly}
 use Rattle.function_field.specs.Functions.{Equation, IsPolynomial, degree_of_y}
 use Rattle.function_field.specs.Values.{PresValue, Functions, functions, equation_of}
 use Rattle.trace_theory.specs.Traces.{HasPolynomialCoordinates}
-use Rattle.lattice_theory.specs.Lattices.{IsLattice, space_ops}
+use Rattle.function_field.specs.Indices.{space_ops}
+use Rattle.lattice_theory.specs.Lattices.{IsLattice}
 use Rattle.lattice_theory.proofs.Indices.{index_of}
 use Rattle.lattice_theory.proofs.Lattices.{lattice_module}
 use Rattle.lattice_theory.proofs.Operations.{polynomial_lattice, sum_lattice}

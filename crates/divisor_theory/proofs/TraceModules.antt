@@ -12,7 +12,7 @@ use Rattle.prime_theory.specs.Ideals.{Inverse, Invertible, IsAdditive}
 use Rattle.prime_theory.proofs.Localisation.{Common, common}
 use Rattle.prime_theory.proofs.Products.{product_into, additive_of_module, own_module}
 use Rattle.ff_fields.specs.Field.{CodeField}
-use Rattle.ff_poly.specs.Polynomials.{Polynomial, polynomials, polynomials_domain, x_poly}
+use Rattle.ff_poly.specs.Polynomials.{polynomials, polynomials_domain, x_poly}
 use Rattle.function_field.specs.declared.side.Side.TheVariants.{Finite, Infinite}
 use Rattle.function_field.specs.Discriminant.{discriminant}
 use Rattle.function_field.specs.Places.{IsIntegralAt}
@@ -22,7 +22,6 @@ use Rattle.function_field.proofs.OnSide.{of_poly_zero}
 use Rattle.function_field.proofs.ScalarRings.{scalars_subring, polynomials_subring, finite_at_infinity_subring}
 use Rattle.places_theory.proofs.PresentationMap.{presentation_map}
 use Rattle.places_theory.proofs.Sides.{side_ring}
-use Rattle.trace_theory.specs.Traces.{IsRational}
 use Rattle.trace_theory.proofs.FunctionTraces.{trace_plus, trace_times}
 use Rattle.lattice_theory.specs.Lattices.{IsLattice}
 use Rattle.lattice_theory.proofs.Lattices.{lattice_module, lattice_generators}
@@ -45,6 +44,7 @@ use Rattle.space_theory.proofs.LatticeBases.{lattice_of_span, span_of_lattice}
 use Rattle.space_theory.proofs.TraceDuals.{duality}
 use Rattle.divisor_theory.proofs.LargeDegrees.{finite_closed}
 use Rattle.space_theory.proofs.Pairs.{sides_basis}
+use Rattle.space_theory.proofs.RationalPart.{polynomial_rational}
 
 module _ {k : CodeField} (c : Equation k) where
   infixl 65 ◌⊕◌
@@ -63,15 +63,11 @@ module _ {k : CodeField} (c : Equation k) where
   𝓘 : IsSubring (ring_of c).ops (IsIntegralAt (setting_of c) Infinite)
   𝓘 = side_ring (setting_of c) (scalars_subring c) Infinite
 
-  polynomial_rational : (p : Polynomial k) → IsRational c (of_poly c p)
-  polynomial_rational p =
-      record { top = p; bottom = (polynomials k).𝟙; not_null = (polynomials_domain k).one_not_zero; value = refl }
-
   -- the trace of a product with 0
   trace_zero : (u : FunctionOf c) → trace_of c (𝟘 ⊗ u) ≡ 𝟘
   trace_zero u =
       ap (λ z. trace_of c (z ⊗ u)) (of_poly_zero c)
-      ∙ trace_times c (of_poly c (polynomials k).𝟘) u (polynomial_rational (polynomials k).𝟘)
+      ∙ trace_times c (of_poly c (polynomials k).𝟘) u (polynomial_rational c (polynomials k).𝟘)
       ∙ ap (λ z. z ⊗ trace_of c u) (sym (of_poly_zero c)) ∙ zero_mul (ring_of c) (trace_of c u)
 
   -- the lattice of a reduced basis

@@ -3,7 +3,7 @@ use Rattle.std.specs.Prelude.{◌≡◌, ℕ, ℤ, pos, ◌-ℤ◌, List}
 use Rattle.ring_theory.specs.Subsets.{Span}
 use Rattle.ff_fields.specs.Field.{CodeField}
 use Rattle.function_field.specs.Functions.{Equation, FunctionOf, ring_of, IsFiniteAtInfinity}
-use Rattle.lattice_theory.specs.Lattices.{HasIndex}
+use Rattle.function_field.specs.Indices.{HasIndex}
 use Rattle.space_theory.specs.Spaces.{IsLatticeAtInfinity}
 
 module _ {k : CodeField} (c : Equation k) where

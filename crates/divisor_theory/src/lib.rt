@@ -24,7 +24,8 @@ ghost use Rattle.function_field.specs.Divisors.{Divisor, IsDivisor, HasMultiplic
 ghost use Rattle.function_field.specs.Discriminant.{discriminant};
 ghost use Rattle.function_field.specs.Infinity.{IsInfinitePresentation};
 ghost use Rattle.trace_theory.specs.Traces.{HasPolynomialCoordinates};
-ghost use Rattle.lattice_theory.specs.Lattices.{IsLattice, HasIndex, space_ops, polynomial_ops};
+ghost use Rattle.function_field.specs.Indices.{HasIndex, space_ops};
+ghost use Rattle.lattice_theory.specs.Lattices.{IsLattice, polynomial_ops};
 ghost use Rattle.order_theory.specs.Orders.{IsOrder};
 ghost use Rattle.reduced_basis_theory.specs.Degree.{degree_sum, dimension_sum, genus_sum};
 ghost use Rattle.reduced_basis_theory.specs.Reduced.{InLattice};

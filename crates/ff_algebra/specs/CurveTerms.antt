@@ -7,6 +7,7 @@ use Rattle.ff_poly.specs.Value.{value}
 use Rattle.ff_poly.specs.Polynomials.{Polynomial, polynomials}
 use Rattle.ff_algebra.specs.declared.curve.CurveFault.{CurveFault}
 use Rattle.ff_algebra.specs.declared.curve.CurveFault.TheVariants.{LimitY, LimitX, NotMonic, NotSeparable, LimitDisc, LimitInf, Memory}
+use Rattle.function_field.specs.Limits.{max_degree_in_y, max_degree_in_x, max_discriminant_degree, max_degree_at_infinity}
 use Rattle.function_field.specs.Values.{PresValue, equation_of}
 use Rattle.function_field.specs.Infinity.{IsInfinityNumber}
 use Rattle.function_field.specs.Discriminant.{discriminant}
@@ -21,13 +22,13 @@ abbrev pub degree_in_x : List (ℕ × ℕ × ℕ) → ℕ
 degree_in_x [] = 0
 degree_in_x (t ∷ ts) = max t.1 (degree_in_x ts)
 
--- the degree in y is from 2 to 4
+-- the degree in y is at least 2 and within the limit
 abbrev pub IsSmallInY : List (ℕ × ℕ × ℕ) → Type 0
-IsSmallInY f = (2 ≤ degree_in_y f) × (degree_in_y f ≤ 4)
+IsSmallInY f = (2 ≤ degree_in_y f) × (degree_in_y f ≤ max_degree_in_y)
 
--- and that in x is at most 32
+-- and that in x is within the limit
 abbrev pub IsSmall : List (ℕ × ℕ × ℕ) → Type 0
-IsSmall f = IsSmallInY f × (degree_in_x f ≤ 32)
+IsSmall f = IsSmallInY f × (degree_in_x f ≤ max_degree_in_x)
 
 module _ (k : FieldOps) (f : List (ℕ × ℕ × ℕ)) where
   -- p is the coefficient of y^i, a polynomial in x
@@ -59,33 +60,33 @@ module _ (k : CodeField) where
     pub equation : IsSmallEquation k.ops f pres
     pub zero : discriminant (equation_of k pres) ≡ (polynomials k).𝟘
 
-  -- the discriminant has the degree d, which is above 64
+  -- the discriminant has the degree d, which is above the limit
   pub record ExceedsDisc (f : List (ℕ × ℕ × ℕ)) (d : ℕ) : Type 0 where
     pub pres : PresValue
     pub equation : IsSmallEquation k.ops f pres
     pub disc : List ℕ
     pub is_disc : IsDiscriminant k pres disc
     pub degree : length disc ≡ d + 1
-    pub above : 64 < d
+    pub above : max_discriminant_degree < d
 
-  -- d is c·n·(n-1), which is above 224; the discriminant isn't 0, and has a degree of at most 64
+  -- d is c·n·(n-1), which is above the limit; the discriminant isn't 0, and has a degree within its limit
   pub record ExceedsInf (f : List (ℕ × ℕ × ℕ)) (d : ℕ) : Type 0 where
     pub pres : PresValue
     pub equation : IsSmallEquation k.ops f pres
     pub disc : List ℕ
     pub is_disc : IsDiscriminant k pres disc
     pub separable : disc ≢ []
-    pub disc_degree : length disc ≤ 65
+    pub disc_degree : length disc ≤ max_discriminant_degree + 1
     pub c : ℕ
     pub number : IsInfinityNumber pres c
     pub value : d ≡ c * pres.n * (pres.n - 1)
-    pub above : 224 < d
+    pub above : max_degree_at_infinity < d
 
   -- what keeps the terms from giving a curve; each fault comes only where none above it holds. Want of memory says
   -- nothing
   abbrev pub IsCurveFault : List (ℕ × ℕ × ℕ) → CurveFault → Type 0
   IsCurveFault f (LimitY n) = (n ≡ degree_in_y f) × ¬ IsSmallInY f
-  IsCurveFault f (LimitX d) = IsSmallInY f × (d ≡ degree_in_x f) × (32 < d)
+  IsCurveFault f (LimitX d) = IsSmallInY f × (d ≡ degree_in_x f) × (max_degree_in_x < d)
   IsCurveFault f (NotMonic p) = IsSmall f × IsCoefficient k.ops f (degree_in_y f) p × (p ≢ 1 ∷ [])
   IsCurveFault f NotSeparable = IsInseparable f
   IsCurveFault f (LimitDisc d) = ExceedsDisc f d

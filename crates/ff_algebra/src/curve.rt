@@ -70,6 +70,23 @@ impl From<AllocError> for CurveFault {
     }
 }
 
+impl CurveFault {
+    /// An equal fault, in memory of its own.
+    pub fn copy(&self, alloc: Global) -> Result<CurveFault, AllocError>
+        ensures { IfOk result (λ e. e ≡ self.now) }
+    {
+        match self {
+            CurveFault::LimitY(n) => Ok(CurveFault::LimitY(*n)),
+            CurveFault::LimitX(d) => Ok(CurveFault::LimitX(*d)),
+            CurveFault::NotMonic(top) => Ok(CurveFault::NotMonic(top.copy(alloc)?)),
+            CurveFault::NotSeparable => Ok(CurveFault::NotSeparable),
+            CurveFault::LimitDisc(d) => Ok(CurveFault::LimitDisc(*d)),
+            CurveFault::LimitInf(d) => Ok(CurveFault::LimitInf(*d)),
+            CurveFault::Memory => Ok(CurveFault::Memory),
+        }
+    }
+}
+
 impl Curve {
     /// The curve of the terms, or the first fault in the order of `CurveFault`. Its infinite presentation is by
     /// Y = y/x^c over the polynomials in t = 1/x, for the least c that makes its coefficients polynomials. It takes
@@ -146,8 +163,7 @@ impl Curve {
 }
 
 /// The faults exclude each other and the curve: terms give one fault at most but for want of memory, and none where
-/// they
-/// give a curve, which is the only one.
+/// they give a curve, which is the only one.
 pub fn one_fault<K: SmallField>(k: &K, f: &Terms)
     ensures fault { let k = K.field k.now in
         (e d : CurveFault) → e ≢ CurveFault.Memory → d ≢ CurveFault.Memory →

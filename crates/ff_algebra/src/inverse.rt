@@ -35,6 +35,18 @@ impl From<AllocError> for ZeroDivisor {
     }
 }
 
+impl ZeroDivisor {
+    /// An equal reason, in memory of its own.
+    pub fn copy(&self, alloc: Global) -> Result<ZeroDivisor, AllocError>
+        ensures { IfOk result (λ e. e ≡ self.now) }
+    {
+        match self {
+            ZeroDivisor::Kills(w) => Ok(ZeroDivisor::Kills(w.copy(alloc)?)),
+            ZeroDivisor::Memory => Ok(ZeroDivisor::Memory),
+        }
+    }
+}
+
 /// Each polynomial of the row times d.
 fn multiples<K: SmallField>(
     alloc: Global,
@@ -88,7 +100,7 @@ pub fn try_inverse<K: SmallField>(
     let (w, d) = relation(alloc, k, p, a.num())?;
     if d.is_zero() {
         let one = Poly::one(alloc)?;
-        return Err(ZeroDivisor::Kills(Elem::new(k, w, one)));
+        return Err(ZeroDivisor::Kills(Elem::over_monic(w, one)));
     }
     let num = multiples(alloc, k, den, w.as_slice())?;
     Ok(Elem::new(k, num, d))

@@ -13,9 +13,8 @@ use ff_fields::field::SmallField;
 use std::alloc::{AllocError, Global};
 
 /// The function of z in the infinite presentation, whose variable is t = 1/x and whose generator is Y = y/x^c. The
-/// numerators
-/// and the denominator are read at 1/t and multiplied by the least power of t that makes polynomials of them. z has n
-/// numerators. It takes the time of writing down the answer.
+/// numerators and the denominator are read at 1/t and multiplied by the least power of t that makes polynomials of
+/// them. z has n numerators. It takes the time of writing down the answer.
 pub fn to_inf<K: SmallField>(alloc: Global, k: &K, c: &Curve, z: &Elem) -> Result<Elem, AllocError>
     requires curve { IsCurve (K.field k.now) c.now }
     requires z_in { IsElem (K.field k.now).ops c.now.fin.n z.now }
@@ -28,8 +27,7 @@ pub fn to_inf<K: SmallField>(alloc: Global, k: &K, c: &Curve, z: &Elem) -> Resul
 }
 
 /// The function of z, an element of the infinite presentation, in the finite one. z has n numerators. It takes the time
-/// of
-/// writing down the answer.
+/// of writing down the answer.
 pub fn to_fin<K: SmallField>(alloc: Global, k: &K, c: &Curve, z: &Elem) -> Result<Elem, AllocError>
     requires curve { IsCurve (K.field k.now) c.now }
     requires z_in { IsElem (K.field k.now).ops c.now.inf.n z.now }
@@ -42,8 +40,7 @@ pub fn to_fin<K: SmallField>(alloc: Global, k: &K, c: &Curve, z: &Elem) -> Resul
 }
 
 /// The element of either presentation in the other one. One body serves both ways, since the one variable is the
-/// inverse of the
-/// other, and each generator is the other one divided by the c-th power of its variable.
+/// inverse of the other, and each generator is the other one divided by the c-th power of its variable.
 fn turned<K: SmallField>(alloc: Global, k: &K, c: usize, z: &Elem) -> Result<Elem, AllocError>
     requires small { c < 2 ^ 32 }
     requires short { length z.now.num ≤ 4 }
@@ -73,8 +70,7 @@ fn turned<K: SmallField>(alloc: Global, k: &K, c: usize, z: &Elem) -> Result<Ele
 }
 
 /// The least number of codes that is enough for the denominator, and leaves enough less c·i for each numerator but 0,
-/// the one at
-/// the i-th power of the generator.
+/// the one at the i-th power of the generator.
 fn codes_needed(c: usize, z: &Elem) -> usize
     requires small { c < 2 ^ 32 }
     requires short { length z.now.num ≤ 4 }

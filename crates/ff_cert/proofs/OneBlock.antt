@@ -5,7 +5,7 @@ use Rattle.function_field.specs.Curves.{CurveValue, IsCurve}
 use Rattle.ff_script.specs.declared.script.Statement.{Statement}
 use Rattle.ff_meaning.specs.declared.refusal.Refusal.{Refusal}
 use Rattle.ff_meaning.specs.declared.refusal.Refusal.TheVariants.{LimitDegree, LimitOutput}
-use Rattle.ff_meaning.specs.Limits.{max_answer_degree, max_output}
+use Rattle.function_field.specs.Limits.{max_answer_degree, max_output}
 use Rattle.ff_meaning.specs.Bindings.{Bindings}
 use Rattle.ff_meaning.specs.SameBindings.{AreSameFields, AreSameCurves, AreSame, NothingBound, OneField, OneCurve}
 use Rattle.ff_meaning.proofs.OneField.{fields_same}

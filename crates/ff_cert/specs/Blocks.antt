@@ -3,7 +3,7 @@ use Rattle.std.specs.Prelude.{◌≡◌, ℕ, ◌<◌, ◌≤◌, ◌+◌, List,
 use Rattle.ff_script.specs.declared.script.Statement.{Statement}
 use Rattle.ff_meaning.specs.declared.refusal.Refusal.{Refusal}
 use Rattle.ff_meaning.specs.declared.refusal.Refusal.TheVariants.{LimitDegree, LimitOutput}
-use Rattle.ff_meaning.specs.Limits.{max_answer_degree, max_output, room_behind}
+use Rattle.function_field.specs.Limits.{max_answer_degree, max_output, room_behind}
 use Rattle.ff_meaning.specs.Refusals.{IsRefusalRow, HasNoRow}
 use Rattle.ff_meaning.specs.Bindings.{Bindings}
 use Rattle.ff_cert.specs.declared.answer.Answer.{Answer}
@@ -37,8 +37,7 @@ pub data Refuses (old : SessionValue) (s : Statement) (r : Refusal) : Type 0 whe
       → Refuses old s r
 
 -- The answer to the statement is true, none of its rows of refusals holds, its text may be printed, and the session has
--- taken
--- the block in.
+-- taken the block in.
 pub record Takes (old : SessionValue) (s : Statement) (answer : Answer) (new : SessionValue) : Type 0 where
   pub is_true : Answers old.bindings s answer new.bindings
   pub not_refused : HasNoRow old.bindings s

@@ -37,6 +37,7 @@ pub struct RowList {
 }
 
 impl Model for RowList {
+    ghost use Rattle.std.specs.Prelude.{List};
     ghost use Rattle.ff_text.specs.Printed.{WrittenValue};
 
     ghost Value = { List WrittenValue };

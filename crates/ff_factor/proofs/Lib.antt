@@ -15,3 +15,6 @@ pub mod ValueLists
 pub mod LowerTerms
 pub mod OneLowest
 pub mod OneFactorisation
+pub mod ProductDivisors
+pub mod FieldPrimes
+pub mod Residues

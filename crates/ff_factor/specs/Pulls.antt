@@ -9,7 +9,9 @@ use Rattle.ff_poly.specs.Words.{IsPoly, IsIrreducibleList}
 use Rattle.ff_poly.specs.Value.{value}
 use Rattle.ff_poly.specs.Polynomials.{Polynomial, polynomials}
 use Rattle.ff_factor.specs.Factors.{AreAscendingPolys, polys_of}
+use Rattle.ff_falg.specs.Idempotents.{IsPrimitiveList}
 use Rattle.ff_factor.specs.Primes.{IsPrimeAt}
+use Rattle.ff_factor.specs.Quotients.{quotient_algebra}
 
 -- g is p to the power count, times the rest, which p doesn't divide
 pub record IsPulledOut (k : CodeField) (g p : List ℕ) (count : ℕ) (rest : List ℕ) : Type 0 where
@@ -30,6 +32,12 @@ pub record ArePrimesOf (k : FieldOps) (g : List ℕ) (es ps : List (List ℕ)) :
   pub each : (p : List ℕ) → In p ps → (e : List ℕ) × In e es × IsPrimeAt k g e p
   pub all : (e : List ℕ) → In e es → (p : List ℕ) × In p ps × IsPrimeAt k g e p
   pub ascending : AreAscendingPolys ps
+
+-- the primes of all primitive idempotents, in ascending order
+pub record AreAllPrimes (k : FieldOps) (g : List ℕ) (ps : List (List ℕ)) : Type 0 where
+  pub idempotents : List (List ℕ)
+  pub list : IsPrimitiveList k (quotient_algebra g) idempotents
+  pub primes : ArePrimesOf k g idempotents ps
 
 -- the product of the powers, in k[x]
 abbrev pub value_of_parts : (k : CodeField) → List (List ℕ × ℕ) → Polynomial k

@@ -5,8 +5,8 @@ use Rattle.ff_fields.specs.Field.{FieldOps}
 use Rattle.ff_fields.specs.Code.{raw_ring}
 use Rattle.ff_fields.specs.Over.{IsOver}
 use Rattle.ring_lemmas.specs.Lists.{add_lists, scale_list}
-use Rattle.ff_poly.specs.Words.{IsMonic}
-use Rattle.ff_falg.specs.Algebras.{AlgebraOps}
+use Rattle.ff_poly.specs.Words.{IsMonic, DividesList, difference_of}
+use Rattle.ff_falg.specs.Algebras.{AlgebraOps, IsVector}
 
 -- monic over the field, of degree 1 or more
 pub record IsModulus (k : FieldOps) (g : List ℕ) : Type 0 where
@@ -39,3 +39,9 @@ quotient_algebra g = record {
   unit = 1 ∷ replicate (length g - 1 - 1) 0;
   product = λ k a b. product_modulo k g a b;
 }
+
+-- r is what a polynomial leaves modulo g: g divides the difference, and r has as many codes as the degree of g says, so
+-- that it stands for a polynomial of lower degree
+pub record IsResidue (k : FieldOps) (g p r : List ℕ) : Type 0 where
+  pub vector : IsVector k (length g - 1) r
+  pub congruent : DividesList k g (difference_of k p r)

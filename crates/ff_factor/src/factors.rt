@@ -6,9 +6,8 @@ ghost use Rattle.ff_poly.specs.Words.{IsPoly};
 ghost use Rattle.ff_factor.specs.Factors.{FactorsValue, IsFactorisation, polys_of};
 ghost use Rattle.ff_factor.specs.Pulls.{IsPrimeList, IsPulledOut, IsSplitOff};
 
-use crate::primes::primes_of;
+use crate::primes::divisors_of;
 use crate::quotient::PolyQuotient;
-use ff_falg::idempotents;
 use ff_fields::field::SmallField;
 use ff_poly::Poly;
 use ff_poly::poly::{divide, scale};
@@ -72,8 +71,7 @@ impl Factors {
 }
 
 /// Divides g by p as often as it goes: how often, and what is left. A multiplicity of 2^32 or more, which only a
-/// polynomial of more
-/// than 2^32 codes has, is want of memory.
+/// polynomial of more than 2^32 codes has, is want of memory.
 fn pull_out<K: SmallField>(
     alloc: Global,
     k: &K,
@@ -127,11 +125,10 @@ fn split_off<K: SmallField>(
 }
 
 /// The factors of g, which isn't 0: their unit times the product of the powers of their polynomials is g. A
-/// multiplicity of 2^32 or
-/// more, which only a polynomial of more than 2^32 codes has, is want of memory.
-/// Cost: that of `idempotents` for the polynomials modulo g, for each irreducible factor p the first relation among at
-/// most
-/// 2·deg p products, and as many divisions as there are factors.
+/// multiplicity of 2^32 or more, which only a polynomial of more than 2^32 codes has, is want of memory.
+/// Cost: that of `idempotents` for the polynomials modulo g, a kernel where there is one, and as many divisions as
+/// there are factors; where g isn't a code times an irreducible polynomial, for each irreducible factor p the first
+/// relation among at most 2·deg p products.
 pub fn factor<K: SmallField>(alloc: Global, k: &K, g: &Poly) -> Result<Factors, AllocError>
     requires over { IsOver (K.field k.now).ops g.now }
     requires not_zero { g.now ≢ [] }
@@ -145,8 +142,7 @@ pub fn factor<K: SmallField>(alloc: Global, k: &K, g: &Poly) -> Result<Factors, 
     }
     let monic = scale(alloc, k, g, k.inv(g.top()))?;
     let a = PolyQuotient::new(alloc, &monic)?;
-    let found = idempotents(alloc, k, &a)?;
-    let primes = primes_of(alloc, k, &a, found.as_slice())?;
+    let primes = divisors_of(alloc, k, &a)?;
     let (parts, rest) = split_off(alloc, k, g, primes.as_slice())?;
     Ok(Factors {
         unit: rest.top(),

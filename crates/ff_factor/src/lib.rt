@@ -11,5 +11,5 @@ mod steps;
 
 pub use decisions::is_irreducible;
 pub use factors::{Factors, factor, one_factorisation};
-pub use lowest::{cancel, lowest_terms, one_lowest};
-pub use quotient::PolyQuotient;
+pub use lowest::{cancel, divisors_of_product, lowest_terms, one_lowest};
+pub use quotient::{PolyQuotient, product_law};

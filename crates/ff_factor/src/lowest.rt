@@ -2,7 +2,7 @@
 
 ghost use Rattle.std.specs.Prelude.{◌≡◌, ◌≢◌, ◌<◌, ◌≤◌, ◌∷◌, ℕ, List, [], length, map, All, IfOk, OnOk, OnErr, MatchOption};
 ghost use Rattle.ff_fields.specs.Over.{IsOver};
-ghost use Rattle.ff_poly.specs.Words.{IsPoly, multiple_of, top_of};
+ghost use Rattle.ff_poly.specs.Words.{IsPoly, multiple_of, product_of, top_of};
 ghost use Rattle.ff_poly.specs.Value.{value};
 ghost use Rattle.ff_factor.specs.LowestTerms.{AreCancelled, AreIrreducible, HasFactorsOf, IsInLowestTermsOf};
 ghost use Rattle.ff_factor.specs.Reductions.{AreLowerAt, AreQuotients, AreReduced, DividesAll, IsFree};
@@ -153,12 +153,10 @@ fn make_monic<K: SmallField>(k: &K, num: &mut Vec<Poly>, den: &mut Poly)
 }
 
 /// Cancels each of the irreducible monic factors from the fractions num over den as often as it divides the denominator
-/// and all
-/// numerators, and makes the denominator monic: the same fractions. They are in lowest terms if each irreducible monic
-/// divisor of the
-/// denominator is listed; so many fractions over one denominator need its factors once, and those over a product the
-/// factors of each
-/// part. The denominator isn't 0. After want of memory both are as before.
+/// and all numerators, and makes the denominator monic: the same fractions. They are in lowest terms if each
+/// irreducible monic divisor of the denominator is listed; so many fractions over one denominator need its factors
+/// once, and those over a product the factors of each part. The denominator isn't 0. After want of memory both are as
+/// before.
 /// Cost: for each factor one division of each part a turn, with a turn for each time that it is cancelled and one more.
 pub fn cancel<K: SmallField>(
     alloc: Global,
@@ -186,9 +184,29 @@ pub fn cancel<K: SmallField>(
     Ok(())
 }
 
+/// The irreducible monic divisors of the product of a and b, which aren't 0: those of a, then those of b. One that
+/// divides both stands twice.
+/// Cost: that of `factor` for a and for b, which is less than for their product.
+pub fn divisors_of_product<K: SmallField>(
+    alloc: Global,
+    k: &K,
+    a: &Poly,
+    b: &Poly,
+) -> Result<Vec<Poly>, AllocError>
+    requires over { let ops = (K.field k.now).ops in IsOver ops a.now × IsOver ops b.now }
+    requires not_zero { (a.now ≢ []) × (b.now ≢ []) }
+    ensures irreducible { IfOk result (λ ps. AreIrreducible (K.field k.now).ops ps.items) }
+    ensures each { let ops = (K.field k.now).ops in IfOk result
+        (λ ps. HasFactorsOf ops ps.items (product_of ops a.now b.now)) }
+{
+    let mut divisors = factor(alloc, k, a)?.polys(alloc)?;
+    let mut others = factor(alloc, k, b)?.polys(alloc)?;
+    divisors.append(&mut others)?;
+    Ok(divisors)
+}
+
 /// Brings the fractions num over den into lowest terms: the same fractions, with a monic denominator of least degree.
-/// The
-/// denominator isn't 0. After want of memory both are as before.
+/// The denominator isn't 0. After want of memory both are as before.
 /// Cost: that of `factor` for the denominator, and that of `cancel` with its irreducible factors.
 pub fn lowest_terms<K: SmallField>(
     alloc: Global,

@@ -7,12 +7,13 @@ ghost use Rattle.ring_lemmas.specs.Lists.{neg_list};
 ghost use Rattle.ff_falg.specs.Algebras.{IsPrimitiveVector, IsVector};
 ghost use Rattle.ff_falg.specs.Idempotents.{elements_of};
 ghost use Rattle.ff_factor.specs.Primes.{IsHighPower, IsPrimeAt};
-ghost use Rattle.ff_factor.specs.Pulls.{ArePrimesOf};
+ghost use Rattle.ff_factor.specs.Pulls.{AreAllPrimes, ArePrimesOf};
 ghost use Rattle.ff_factor.specs.Quotients.{IsModulus, quotient_algebra};
 
 use crate::order::insert;
 use crate::quotient::PolyQuotient;
 use ff_falg::relations::first_relation;
+use ff_falg::{fixed_by, frobenius, idempotents_by, is_field_by};
 use ff_fields::field::SmallField;
 use ff_poly::Poly;
 use ff_poly::powers::pow_mod;
@@ -70,7 +71,7 @@ fn prime_at<K: SmallField>(
 }
 
 /// The primes of primitive idempotents, in ascending order.
-pub(crate) fn primes_of<K: SmallField>(
+fn primes_of<K: SmallField>(
     alloc: Global,
     k: &K,
     a: &PolyQuotient,
@@ -88,4 +89,27 @@ pub(crate) fn primes_of<K: SmallField>(
         insert(&mut primes, p)?;
     }
     Ok(primes)
+}
+
+/// The irreducible divisors of the modulus, in ascending order. Where the polynomials modulo it are a field, it is the
+/// only one, and no relation is looked for.
+/// Cost: that of `frobenius` and of two kernels; where there is no field, that of `idempotents_by`, and for each
+/// divisor p the first relation among at most 2·deg p products.
+pub(crate) fn divisors_of<K: SmallField>(
+    alloc: Global,
+    k: &K,
+    a: &PolyQuotient,
+) -> Result<Vec<Poly>, AllocError>
+    requires { IsModulus (K.field k.now).ops a.now }
+    ensures { IfOk result (λ v. AreAllPrimes (K.field k.now).ops a.now v.items) }
+{
+    let map = frobenius(alloc, k, a)?;
+    let basis = fixed_by(alloc, k, a, &map)?;
+    let found = idempotents_by(alloc, k, a, &basis)?;
+    if is_field_by(alloc, k, a, &map, &basis)? {
+        let mut primes = Vec::new(alloc);
+        primes.push(a.modulus().copy(alloc)?)?;
+        return Ok(primes);
+    }
+    primes_of(alloc, k, a, found.as_slice())
 }

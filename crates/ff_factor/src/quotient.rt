@@ -1,8 +1,9 @@
 //! Polynomials modulo a monic one, as a finite algebra.
 
-ghost use Rattle.std.specs.Prelude.{◌≡◌, ◌≤◌, length, IfOk};
-ghost use Rattle.ff_poly.specs.Words.{IsMonic};
-ghost use Rattle.ff_factor.specs.Quotients.{IsModulus, quotient_algebra};
+ghost use Rattle.std.specs.Prelude.{◌≡◌, ◌≤◌, ◌-◌, ℕ, List, length, IfOk};
+ghost use Rattle.ff_falg.specs.Algebras.{IsVector};
+ghost use Rattle.ff_poly.specs.Words.{IsMonic, product_of};
+ghost use Rattle.ff_factor.specs.Quotients.{IsModulus, IsResidue, quotient_algebra};
 ghost use Rattle.ff_factor.specs.QuotientLaws.{quotient_laws};
 
 use crate::steps::multiply;
@@ -13,8 +14,7 @@ use std::alloc::{AllocError, Global};
 use std::marker::Model;
 
 /// The algebra k[x]/(g) with the basis 1, x, up to x to the power deg g - 1, for a monic g of degree 1 or more. An
-/// element
-/// stands for the polynomial with its codes, lowest first.
+/// element stands for the polynomial with its codes, lowest first.
 #[derive(Debug, Drop)]
 pub struct PolyQuotient {
     g: Poly,
@@ -75,11 +75,25 @@ impl<K: SmallField> FiniteAlgebra<K> for PolyQuotient {
     }
 
     /// The product takes as many steps as a has codes up to the last that isn't 0, each in time of the degree of g, and
-    /// memory
-    /// for the answer alone.
+    /// memory for the answer alone.
     fn mul(&self, alloc: Global, k: &K, a: &[u32], b: &[u32]) -> Result<Vec<u32>, AllocError> {
         let mut product = vec![in alloc; 0; b.len()]?;
         multiply(k, self.g.codes(), product.as_mut_slice(), a, b);
         Ok(product)
     }
+
+    /// The class of x, basis element 1; in dimension 1 the unit.
+    fn generator(&self, alloc: Global, k: &K) -> Result<Vec<u32>, AllocError> {
+        let mut class = vec![in alloc; 0; self.g.codes().len() - 1]?;
+        let position = class.len().min(2) - 1;
+        class[position] = 1;
+        Ok(class)
+    }
 }
+
+/// A law: the product of two elements is what the product of their polynomials leaves modulo g.
+pub fn product_law<K: SmallField>(k: &K)
+    ensures { let ops = (K.field k.now).ops in
+        (g a b : List ℕ) → IsModulus ops g → IsVector ops (length g - 1) a → IsVector ops (length g - 1) b →
+        IsResidue ops g (product_of ops a b) ((quotient_algebra g).product ops a b) }
+{}

@@ -35,8 +35,7 @@ fn multiply_by_x<K: SmallField>(k: &K, g: &[u32], codes: &mut [u32])
 }
 
 /// Writes the product of a and b modulo g over zeros: from the last code of a that isn't 0 down, x times what is there
-/// and a
-/// code times b.
+/// and a code times b.
 pub(crate) fn multiply<K: SmallField>(k: &K, g: &[u32], product: &mut [u32], a: &[u32], b: &[u32])
     requires modulus { IsModulus (K.field k.now).ops g.now }
     requires a_in { IsOver (K.field k.now).ops a.now }

@@ -100,6 +100,16 @@ module _ (k : CodeField) (A : AlgebraOps) (law : IsAlgebra k A) where
       t.0 x (ap (pow R.ops x) (length_scalars k A law some)
       ∙ same_vector k A.size _ _ (power_value k A law x k.size ∙ e)))
 
+  -- in a field the fixed elements have dimension 1
+  pub field_fixed : (fixed : MatrixValue) → IsEchelonBasisMatrix k.ops A.size (IsFixedVector k.ops A) fixed
+      → IsFieldAlgebra k.ops A → length fixed.rows ≡ 1
+  field_fixed fixed f F =
+      let some = field_some F in
+      let test = field_by_number R (Image (scalar k A law)) (vector_algebra k A law some)
+      (basis_vectors k A law (IsFixedVector k.ops A) fixed f) (fixed_span some fixed f)
+      (basis_independent k A law (IsFixedVector k.ops A) fixed f) in
+      sym (length_basis_vectors k A law (IsFixedVector k.ops A) fixed f) ∙ (test.0 (value_field F)).1
+
   -- the algebra is a field exactly where no element but 0 has the q-th power 0, and the fixed ones have dimension 1
   pub field_test : (killed fixed : MatrixValue) → IsEchelonBasisMatrix k.ops A.size IsKilled killed
       → IsEchelonBasisMatrix k.ops A.size (IsFixedVector k.ops A) fixed

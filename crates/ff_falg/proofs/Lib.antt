@@ -4,6 +4,7 @@ pub mod UnitRows
 pub mod VectorAlgebra
 pub mod RowSteps
 pub mod PowerLaws
+pub mod ChainSteps
 pub mod SpaceLaws
 pub mod Bases
 pub mod FieldLaws

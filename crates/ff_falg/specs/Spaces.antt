@@ -7,8 +7,7 @@ use Rattle.ff_linalg.specs.Steps.{unit_row}
 use Rattle.ff_falg.specs.Algebras.{AlgebraOps, IsVector, power}
 
 -- the matrix of the map a to a^q, where q is the size of the field: row i is the q-th power of the basis element with
--- that
--- number, and v·m is that of v
+-- that number, and v·m is that of v
 pub record IsFrobenius (k : FieldOps) (A : AlgebraOps) (m : MatrixValue) : Type 0 where
   pub shape : HasShape m A.size A.size
   pub over : IsMatrixOver k m
@@ -16,8 +15,7 @@ pub record IsFrobenius (k : FieldOps) (A : AlgebraOps) (m : MatrixValue) : Type 
   pub values : (v : List ℕ) → IsVector k A.size v → product_of k v m ≡ power k A v k.size
 
 -- the reduced echelon basis of a space of elements: a matrix in reduced row echelon form without rows that are 0, whose
--- row
--- space is that space
+-- row space is that space
 pub record IsEchelonBasisMatrix (k : FieldOps) (n : ℕ) (space : List ℕ → Type 0) (m : MatrixValue) : Type 0 where
   pub shape : HasShape m (length m.rows) n
   pub over : IsMatrixOver k m

@@ -22,13 +22,8 @@ pub record HasRowsBelow (k : FieldOps) (value : ℕ → List ℕ) (n cols i : �
 pub record IsProductBelow (k : FieldOps) (a b : MatrixValue) (i : ℕ) (m : MatrixValue) : Type 0 where
   pub written : HasRowsBelow k (λ l. product_of k (row_of a l) b) (length a.rows) b.cols i m
 
--- the first i rows are the q-th powers of the first unit rows, where q is the size of the field
-pub record IsFrobeniusBelow (k : FieldOps) (A : AlgebraOps) (i : ℕ) (m : MatrixValue) : Type 0 where
-  pub written : HasRowsBelow k (λ l. power k A (unit_row A.size l) k.size) A.size A.size i m
-
 -- the matrix of an iterate of the map a to a^q, so often that q to this number is at least the bound: its rows are the
--- powers
--- of the unit rows
+-- powers of the unit rows
 pub record IsIterate (k : FieldOps) (A : AlgebraOps) (bound : ℕ) (m : MatrixValue) : Type 0 where
   pub shape : HasShape m A.size A.size
   pub over : IsMatrixOver k m

@@ -8,8 +8,7 @@ use ff_fields::field::SmallField;
 use std::alloc::{AllocError, Global};
 
 /// A commutative algebra with unit, of finite dimension over a small field that each call is given. An element is the
-/// list
-/// of its coordinates, as many codes as the dimension.
+/// list of its coordinates, as many codes as the dimension.
 pub trait FiniteAlgebra<K: SmallField> {
     // The dimension, the unit, and the product over a field.
     ghost algebra: { Self → AlgebraOps };
@@ -35,4 +34,13 @@ pub trait FiniteAlgebra<K: SmallField> {
         requires a_in { IsVector (K.field k.now).ops (algebra self.now).size a.now }
         requires b_in { IsVector (K.field k.now).ops (algebra self.now).size b.now }
         ensures { IfOk result (λ v. v.items ≡ (algebra self.now).product (K.field k.now).ops a.now b.now) };
+
+    /// An element whose products with basis elements are basis elements as often as possible. Any answer is right; a
+    /// good one saves powers in `frobenius`. Here the unit.
+    fn generator(&self, alloc: Global, k: &K) -> Result<Vec<u32>, AllocError>
+        requires over { IsOver self.now (K.field k.now) }
+        ensures { IfOk result (λ v. IsVector (K.field k.now).ops (algebra self.now).size v.items) }
+    {
+        self.one(alloc)
+    }
 }

@@ -12,7 +12,7 @@ mod rows;
 pub mod spaces;
 
 pub use algebra::FiniteAlgebra;
-pub use decisions::is_field;
-pub use parts::idempotents;
+pub use decisions::{is_field, is_field_by};
+pub use parts::{idempotents, idempotents_by};
 pub use powers::frobenius;
-pub use spaces::{fixed, nilpotents};
+pub use spaces::{fixed, fixed_by, nilpotents, nilpotents_by};

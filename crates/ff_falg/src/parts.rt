@@ -160,11 +160,7 @@ fn split_one<K: SmallField, A: FiniteAlgebra<K>>(
 }
 
 /// All primitive idempotents, ordered by their lists of codes, which are compared from the first entry.
-/// Cost: that of `fixed`; for each idempotent that a row splits into s, at most 2·s products, the first relation of at
-/// most
-/// 2·s elements, and values at codes; the values are at most 2·r·q in all, where r is the number of idempotents and q
-/// the
-/// size of the field.
+/// Cost: that of `fixed` and of `idempotents_by`.
 pub fn idempotents<K: SmallField, A: FiniteAlgebra<K>>(
     alloc: Global,
     k: &K,
@@ -174,10 +170,28 @@ pub fn idempotents<K: SmallField, A: FiniteAlgebra<K>>(
     ensures { IfOk result (λ v. IsPrimitiveList (K.field k.now).ops (A.algebra a.now) (elements_of v.items)) }
 {
     let basis = fixed(alloc, k, a)?;
+    idempotents_by(alloc, k, a, &basis)
+}
+
+/// The same, where a basis of the elements that are their own q-th powers is known.
+/// Cost: where there is one idempotent, nothing but its memory; else for each idempotent that a row splits into s, at
+/// most 2·s products, the first relation of at most 2·s elements, and values at codes; the values are at most 2·r·q in
+/// all, where r is the number of idempotents and q the size of the field.
+pub fn idempotents_by<K: SmallField, A: FiniteAlgebra<K>>(
+    alloc: Global,
+    k: &K,
+    a: &A,
+    basis: &Matrix,
+) -> Result<Vec<Vec<u32>>, AllocError>
+    requires over { A.IsOver a.now (K.field k.now) }
+    requires basis { let n = (A.algebra a.now).size in
+        IsEchelonBasisMatrix (K.field k.now).ops n (IsFixedVector (K.field k.now).ops (A.algebra a.now)) basis.now }
+    ensures { IfOk result (λ v. IsPrimitiveList (K.field k.now).ops (A.algebra a.now) (elements_of v.items)) }
+{
     if basis.rows() == 0 {
         return Ok(Vec::new(alloc));
     }
-    let mut parts = split_one(alloc, k, a, &basis)?;
+    let mut parts = split_one(alloc, k, a, basis)?;
     parts.sort()?;
     Ok(parts)
 }

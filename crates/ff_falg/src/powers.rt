@@ -1,10 +1,9 @@
 //! The map that takes an element to its q-th power, where q is the size of the field.
 
-ghost use Rattle.std.specs.Prelude.{◌≡◌, ◌<◌, ◌≤◌, ◌-◌, IsTrue, IfOk};
-ghost use Rattle.ff_linalg.specs.Steps.{unit_row};
+ghost use Rattle.std.specs.Prelude.{◌≡◌, ◌<◌, ℕ, ⊤, true, false, None, Some, length, get_or, IfOk, OnOk, MatchOption};
 ghost use Rattle.ff_falg.specs.Algebras.{IsVector, power};
+ghost use Rattle.ff_falg.specs.Chains.{AreChains, AreStepsBelow, IsFrobeniusAt, IsStep, KeepsFlags};
 ghost use Rattle.ff_falg.specs.Spaces.{IsFrobenius};
-ghost use Rattle.ff_falg.specs.Steps.{IsFrobeniusBelow};
 
 use crate::algebra::FiniteAlgebra;
 use crate::rows::{set_row, unit};
@@ -36,54 +35,205 @@ fn pow<K: SmallField, A: FiniteAlgebra<K>>(
     a.mul(alloc, k, x, square.as_slice())
 }
 
-/// Whether basis element i is the product of those with the numbers 1 and i - 1.
-fn is_next<K: SmallField, A: FiniteAlgebra<K>>(
-    alloc: Global,
-    k: &K,
-    a: &A,
-    i: usize,
-) -> Result<bool, AllocError>
-    requires over { A.IsOver a.now (K.field k.now) }
-    requires low { 2 ≤ i }
-    requires high { i < (A.algebra a.now).size }
-    ensures { let n = (A.algebra a.now).size in IfOk result (λ t. IsTrue t
-        → (A.algebra a.now).product (K.field k.now).ops (unit_row n 1) (unit_row n (i - 1)) ≡ unit_row n i) }
+/// The position of the first code that isn't 0.
+fn first_nonzero(codes: &[u32]) -> Option<usize>
+    ensures { MatchOption result ⊤ (λ i. i < length codes.now) }
 {
-    let n = a.dim();
-    let first = unit(alloc, n, 1)?;
-    let before = unit(alloc, n, i - 1)?;
-    let product = a.mul(alloc, k, first.as_slice(), before.as_slice())?;
-    let next = unit(alloc, n, i)?;
-    Ok(product.as_slice() == next.as_slice())
+    for i in 0..codes.len() {
+        if codes[i] != 0 {
+            return Some(i);
+        }
+    }
+    None
 }
 
-/// The q-th power of basis element i, where the rows hold those of the elements before it.
-fn next_row<K: SmallField, A: FiniteAlgebra<K>>(
+/// The number of the basis element that z times basis element j is; None where it is none.
+fn next_of<K: SmallField, A: FiniteAlgebra<K>>(
     alloc: Global,
     k: &K,
     a: &A,
-    rows: &Matrix,
-    i: usize,
-) -> Result<Vec<u32>, AllocError>
+    z: &[u32],
+    j: usize,
+) -> Result<Option<usize>, AllocError>
     requires over { A.IsOver a.now (K.field k.now) }
-    requires within { i < (A.algebra a.now).size }
-    requires before { IsFrobeniusBelow (K.field k.now).ops (A.algebra a.now) i rows.now }
-    ensures { IfOk result (λ v. v.items ≡ power (K.field k.now).ops (A.algebra a.now)
-        (unit_row (A.algebra a.now).size i) (K.field k.now).size) }
+    requires z_in { IsVector (K.field k.now).ops (A.algebra a.now).size z.now }
+    requires within { j < (A.algebra a.now).size }
+    ensures { IfOk result (λ r. MatchOption r ⊤ (IsStep (K.field k.now).ops (A.algebra a.now) z.now j)) }
 {
-    if i >= 2 && is_next(alloc, k, a, i)? {
-        return a.mul(alloc, k, rows.row(1), rows.row(i - 1));
+    let element = unit(alloc, a.dim(), j)?;
+    let product = a.mul(alloc, k, z, element.as_slice())?;
+    let Some(i) = first_nonzero(product.as_slice()) else {
+        return Ok(None);
+    };
+    let other = unit(alloc, product.len(), i)?;
+    if product.as_slice() == other.as_slice() {
+        return Ok(Some(i));
     }
-    let element = unit(alloc, a.dim(), i)?;
-    pow(alloc, k, a, element.as_slice(), k.size())
+    Ok(None)
+}
+
+/// For each basis element the number of the one that z times it is.
+fn next_list<K: SmallField, A: FiniteAlgebra<K>>(
+    alloc: Global,
+    k: &K,
+    a: &A,
+    z: &[u32],
+) -> Result<Vec<Option<usize>>, AllocError>
+    requires over { A.IsOver a.now (K.field k.now) }
+    requires z_in { IsVector (K.field k.now).ops (A.algebra a.now).size z.now }
+    ensures size { IfOk result (λ v. length v.items ≡ (A.algebra a.now).size) }
+    ensures steps { IfOk result (λ v. AreStepsBelow (K.field k.now).ops (A.algebra a.now) z.now v.items) }
+{
+    let mut next = Vec::new(alloc);
+    for j in 0..a.dim() {
+        next.push(next_of(alloc, k, a, z, j)?)?;
+    }
+    Ok(next)
+}
+
+/// The q-th power of a generator, where q is the size of the field, and for each basis element the number of the one
+/// that the generator times it is.
+fn chains<K: SmallField, A: FiniteAlgebra<K>>(
+    alloc: Global,
+    k: &K,
+    a: &A,
+) -> Result<(Vec<u32>, Vec<Option<usize>>), AllocError>
+    requires { A.IsOver a.now (K.field k.now) }
+    ensures { IfOk result (λ r. AreChains (K.field k.now).ops (A.algebra a.now) r.0.items r.1.items) }
+{
+    let z = a.generator(alloc, k)?;
+    let z_power = pow(alloc, k, a, z.as_slice(), k.size())?;
+    let next = next_list(alloc, k, a, z.as_slice())?;
+    Ok((z_power, next))
+}
+
+/// Whether no number of the list leads to a position, for each position.
+fn heads(alloc: Global, next: &[Option<usize>]) -> Result<Vec<bool>, AllocError>
+    requires { (j i : ℕ) → j < length next.now → get_or next.now j None ≡ Some i → i < length next.now }
+    ensures { IfOk result (λ v. length v.items ≡ length next.now) }
+{
+    let mut heads = vec![in alloc; true; next.len()]?;
+    for j in 0..next.len() {
+        if let Some(i) = next[j] {
+            heads[i] = false;
+        }
+    }
+    Ok(heads)
+}
+
+/// Fills the rows to which the numbers lead from row j, which is filled, as far as they aren't: each is that of z times
+/// the one before.
+fn follow<K: SmallField, A: FiniteAlgebra<K>>(
+    alloc: Global,
+    k: &K,
+    a: &A,
+    z_power: &[u32],
+    next: &[Option<usize>],
+    rows: &mut Matrix,
+    done: &mut [bool],
+    start: usize,
+) -> Result<(), AllocError>
+    requires over { A.IsOver a.now (K.field k.now) }
+    requires chains { AreChains (K.field k.now).ops (A.algebra a.now) z_power.now next.now }
+    requires filled { IsFrobeniusAt (K.field k.now).ops (A.algebra a.now) done.old rows.old }
+    requires within { start < (A.algebra a.now).size }
+    requires first { get_or done.old start false ≡ true }
+    ensures filled { OnOk result (IsFrobeniusAt (K.field k.now).ops (A.algebra a.now) done.new rows.new) }
+    ensures kept { OnOk result (KeepsFlags done.old done.new) }
+{
+    let mut j = start;
+    for _ in 1..a.dim() {
+        let Some(i) = next[j] else {
+            return Ok(());
+        };
+        if done[i] {
+            return Ok(());
+        }
+        let row = a.mul(alloc, k, z_power, rows.row(j))?;
+        set_row(rows, i, row.as_slice());
+        done[i] = true;
+        j = i;
+    }
+    Ok(())
+}
+
+/// Fills row j by a power, and the rows to which the numbers lead from it.
+fn fill_from<K: SmallField, A: FiniteAlgebra<K>>(
+    alloc: Global,
+    k: &K,
+    a: &A,
+    z_power: &[u32],
+    next: &[Option<usize>],
+    rows: &mut Matrix,
+    done: &mut [bool],
+    j: usize,
+) -> Result<(), AllocError>
+    requires over { A.IsOver a.now (K.field k.now) }
+    requires chains { AreChains (K.field k.now).ops (A.algebra a.now) z_power.now next.now }
+    requires filled { IsFrobeniusAt (K.field k.now).ops (A.algebra a.now) done.old rows.old }
+    requires within { j < (A.algebra a.now).size }
+    ensures filled { OnOk result (IsFrobeniusAt (K.field k.now).ops (A.algebra a.now) done.new rows.new) }
+    ensures here { OnOk result (get_or done.new j false ≡ true) }
+    ensures kept { OnOk result (KeepsFlags done.old done.new) }
+{
+    let element = unit(alloc, a.dim(), j)?;
+    let row = pow(alloc, k, a, element.as_slice(), k.size())?;
+    set_row(rows, j, row.as_slice());
+    done[j] = true;
+    follow(alloc, k, a, z_power, next, rows, done, j)
+}
+
+/// Fills the rows to which the numbers lead from the heads.
+fn fill_heads<K: SmallField, A: FiniteAlgebra<K>>(
+    alloc: Global,
+    k: &K,
+    a: &A,
+    z_power: &[u32],
+    next: &[Option<usize>],
+    rows: &mut Matrix,
+    done: &mut [bool],
+) -> Result<(), AllocError>
+    requires over { A.IsOver a.now (K.field k.now) }
+    requires chains { AreChains (K.field k.now).ops (A.algebra a.now) z_power.now next.now }
+    requires filled { IsFrobeniusAt (K.field k.now).ops (A.algebra a.now) done.old rows.old }
+    ensures { OnOk result (IsFrobeniusAt (K.field k.now).ops (A.algebra a.now) done.new rows.new) }
+{
+    let heads = heads(alloc, next)?;
+    for j in 0..heads.len() {
+        if heads[j] {
+            fill_from(alloc, k, a, z_power, next, rows, done, j)?;
+        }
+    }
+    Ok(())
+}
+
+/// Fills the rows that aren't filled.
+fn fill_rest<K: SmallField, A: FiniteAlgebra<K>>(
+    alloc: Global,
+    k: &K,
+    a: &A,
+    z_power: &[u32],
+    next: &[Option<usize>],
+    rows: &mut Matrix,
+    done: &mut [bool],
+) -> Result<(), AllocError>
+    requires over { A.IsOver a.now (K.field k.now) }
+    requires chains { AreChains (K.field k.now).ops (A.algebra a.now) z_power.now next.now }
+    requires filled { IsFrobeniusAt (K.field k.now).ops (A.algebra a.now) done.old rows.old }
+    ensures { OnOk result (IsFrobenius (K.field k.now).ops (A.algebra a.now) rows.new) }
+{
+    for j in 0..done.len() {
+        if !done[j] {
+            fill_from(alloc, k, a, z_power, next, rows, done, j)?;
+        }
+    }
+    Ok(())
 }
 
 /// The matrix of the map that takes an element to its q-th power, where q is the size of the field: row i is the q-th
-/// power
-/// of basis element i, and v times the matrix is that of v.
-/// Cost: two products for each basis element that is the one before times that with number 1, and for each other one at
-/// most
-/// twice as many as q has bits.
+/// power of basis element i, and v times the matrix is that of v.
+/// Cost: two products for each basis element that is a product of the algebra's generator and another one, and for each
+/// other one, and for the generator, at most twice as many as q has bits.
 pub fn frobenius<K: SmallField, A: FiniteAlgebra<K>>(
     alloc: Global,
     k: &K,
@@ -93,10 +243,26 @@ pub fn frobenius<K: SmallField, A: FiniteAlgebra<K>>(
     ensures { IfOk result (IsFrobenius (K.field k.now).ops (A.algebra a.now)) }
 {
     let n = a.dim();
+    let (z_power, next) = chains(alloc, k, a)?;
     let mut rows = Matrix::zero(alloc, n, n)?;
-    for i in 0..n {
-        let row = next_row(alloc, k, a, &rows, i)?;
-        set_row(&mut rows, i, row.as_slice());
-    }
+    let mut done = vec![in alloc; false; n]?;
+    fill_heads(
+        alloc,
+        k,
+        a,
+        z_power.as_slice(),
+        next.as_slice(),
+        &mut rows,
+        done.as_mut_slice(),
+    )?;
+    fill_rest(
+        alloc,
+        k,
+        a,
+        z_power.as_slice(),
+        next.as_slice(),
+        &mut rows,
+        done.as_mut_slice(),
+    )?;
     Ok(rows)
 }

@@ -12,12 +12,26 @@ use ff_linalg::{Matrix, min_relation};
 use std::alloc::{AllocError, Global};
 
 /// The elements e, x·e, x·x·e, .. as rows, as far as there is a relation among them, and the coefficients of the first
-/// row
-/// that is a combination of the rows before it.
+/// row that is a combination of the rows before it.
 #[derive(Drop)]
 pub struct Relation {
     pub powers: Matrix,
     pub coefficients: Vec<u32>,
+}
+
+impl Relation {
+    /// An equal relation, in memory of its own.
+    pub fn copy(&self, alloc: Global) -> Result<Relation, AllocError>
+        ensures powers { IfOk result (λ c. c.powers ≡ self.now.powers) }
+        ensures coefficients { IfOk result (λ c. c.coefficients.items ≡ self.now.coefficients.items) }
+    {
+        let powers = self.powers.copy(alloc)?;
+        let coefficients = self.coefficients.as_slice().to_vec(alloc)?;
+        Ok(Relation {
+            powers,
+            coefficients,
+        })
+    }
 }
 
 /// The row with e alone.
@@ -80,11 +94,9 @@ fn more_powers<K: SmallField, A: FiniteAlgebra<K>>(
 }
 
 /// The first relation among e, x·e, x·x·e, .., of which at most `bound` are independent. The number of rows is doubled
-/// until
-/// there is one; from half of the bound on all are taken at once. More than `usize::MAX` rows, which only a bound of
-/// `usize::MAX` asks
-/// for, are want of memory.
-/// Cost: one elimination for each number of rows, 1, 2, 4, .. and bound + 1.
+/// until there is one; from half of the bound on all are taken at once. More than `usize::MAX` rows, which only a bound
+/// of `usize::MAX` asks for, are want of memory. Cost: one elimination for each number of rows, 1, 2, 4, .. and bound +
+/// 1.
 pub fn first_relation<K: SmallField, A: FiniteAlgebra<K>>(
     alloc: Global,
     k: &K,

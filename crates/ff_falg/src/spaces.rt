@@ -3,7 +3,7 @@
 ghost use Rattle.std.specs.Prelude.{◌≡◌, ◌<◌, ◌≤◌, length, IfOk};
 ghost use Rattle.ff_linalg.specs.Matrix.{IsMatrixOver, HasShape};
 ghost use Rattle.ff_falg.specs.Algebras.{IsNilpotentVector, IsFixedVector};
-ghost use Rattle.ff_falg.specs.Spaces.{IsEchelonBasisMatrix};
+ghost use Rattle.ff_falg.specs.Spaces.{IsEchelonBasisMatrix, IsFrobenius};
 ghost use Rattle.ff_falg.specs.Steps.{IsIterate, IsLessUnit};
 
 use crate::algebra::FiniteAlgebra;
@@ -14,17 +14,18 @@ use ff_linalg::{Matrix, kernel};
 use std::alloc::{AllocError, Global};
 
 /// The matrix of an iterate of the map a to a^q, where q to the number of times is at least the dimension: each matrix
-/// is the
-/// square of the one before.
+/// is the square of the one before.
 fn high_iterate<K: SmallField, A: FiniteAlgebra<K>>(
     alloc: Global,
     k: &K,
     a: &A,
+    map: &Matrix,
 ) -> Result<Matrix, AllocError>
-    requires { A.IsOver a.now (K.field k.now) }
+    requires over { A.IsOver a.now (K.field k.now) }
+    requires map { IsFrobenius (K.field k.now).ops (A.algebra a.now) map.now }
     ensures { IfOk result (IsIterate (K.field k.now).ops (A.algebra a.now) (A.algebra a.now).size) }
 {
-    let mut iterate = frobenius(alloc, k, a)?;
+    let mut iterate = map.copy(alloc)?;
     let mut reach = k.size() as usize;
     while reach < a.dim() {
         iterate = composed(alloc, k, &iterate, &iterate)?;
@@ -34,7 +35,7 @@ fn high_iterate<K: SmallField, A: FiniteAlgebra<K>>(
 }
 
 /// Takes the unit matrix from a square one.
-pub(crate) fn take_unit<K: SmallField>(k: &K, m: &mut Matrix)
+fn take_unit<K: SmallField>(k: &K, m: &mut Matrix)
     requires over { IsMatrixOver (K.field k.now).ops m.old }
     requires shape { HasShape m.old m.old.cols m.old.cols }
     ensures { IsLessUnit (K.field k.now).ops m.old m.old.cols m.new }
@@ -46,9 +47,7 @@ pub(crate) fn take_unit<K: SmallField>(k: &K, m: &mut Matrix)
 }
 
 /// The reduced echelon basis, as rows, of the elements of which some power is 0.
-/// Cost: that of `frobenius`, a product of matrices for each doubling of the number of times until q to this number is
-/// at
-/// least the dimension, and a kernel.
+/// Cost: that of `frobenius` and of `nilpotents_by`.
 pub fn nilpotents<K: SmallField, A: FiniteAlgebra<K>>(
     alloc: Global,
     k: &K,
@@ -59,7 +58,26 @@ pub fn nilpotents<K: SmallField, A: FiniteAlgebra<K>>(
         IfOk result (IsEchelonBasisMatrix (K.field k.now).ops n
         (IsNilpotentVector (K.field k.now).ops (A.algebra a.now))) }
 {
-    let iterate = high_iterate(alloc, k, a)?;
+    let map = frobenius(alloc, k, a)?;
+    nilpotents_by(alloc, k, a, &map)
+}
+
+/// The same, where the matrix of the map a to a^q is known.
+/// Cost: a product of matrices for each doubling of the number of times until q to this number is at least the
+/// dimension, and a kernel.
+pub fn nilpotents_by<K: SmallField, A: FiniteAlgebra<K>>(
+    alloc: Global,
+    k: &K,
+    a: &A,
+    map: &Matrix,
+) -> Result<Matrix, AllocError>
+    requires over { A.IsOver a.now (K.field k.now) }
+    requires map { IsFrobenius (K.field k.now).ops (A.algebra a.now) map.now }
+    ensures { let n = (A.algebra a.now).size in
+        IfOk result (IsEchelonBasisMatrix (K.field k.now).ops n
+        (IsNilpotentVector (K.field k.now).ops (A.algebra a.now))) }
+{
+    let iterate = high_iterate(alloc, k, a, map)?;
     kernel(alloc, k, &iterate)
 }
 
@@ -74,7 +92,24 @@ pub fn fixed<K: SmallField, A: FiniteAlgebra<K>>(
     ensures { let n = (A.algebra a.now).size in
         IfOk result (IsEchelonBasisMatrix (K.field k.now).ops n (IsFixedVector (K.field k.now).ops (A.algebra a.now))) }
 {
-    let mut map = frobenius(alloc, k, a)?;
-    take_unit(k, &mut map);
-    kernel(alloc, k, &map)
+    let map = frobenius(alloc, k, a)?;
+    fixed_by(alloc, k, a, &map)
+}
+
+/// The same, where the matrix of the map a to a^q is known.
+/// Cost: a kernel.
+pub fn fixed_by<K: SmallField, A: FiniteAlgebra<K>>(
+    alloc: Global,
+    k: &K,
+    a: &A,
+    map: &Matrix,
+) -> Result<Matrix, AllocError>
+    requires over { A.IsOver a.now (K.field k.now) }
+    requires map { IsFrobenius (K.field k.now).ops (A.algebra a.now) map.now }
+    ensures { let n = (A.algebra a.now).size in
+        IfOk result (IsEchelonBasisMatrix (K.field k.now).ops n (IsFixedVector (K.field k.now).ops (A.algebra a.now))) }
+{
+    let mut less = map.copy(alloc)?;
+    take_unit(k, &mut less);
+    kernel(alloc, k, &less)
 }

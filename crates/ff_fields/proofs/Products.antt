@@ -69,12 +69,12 @@ module _ (p m : ℕ) (modulus : List ℕ) (poly : IsMonicModulus p m modulus) wh
   unfolding M modulus_codes
   whole_product a b = of_product p listed m poly.size.some modulus poly.long poly.over poly.monic a b
 
-  one_class : (a b : ℕ) → a < p ^ m → b < p ^ m → IsCongruent s.ops F (of a) (of b) → a ≡ b
+  pub one_class : (a b : ℕ) → a < p ^ m → b < p ^ m → IsCongruent s.ops F (of a) (of b) → a ≡ b
   unfolding M modulus_codes
   one_class a b a_in b_in same = same_class p listed m poly.size.some modulus poly.long poly.over poly.monic a b a_in
       b_in same
 
-  below : (a b : ℕ) → residue_mul p m modulus a b < p ^ m
+  pub below : (a b : ℕ) → residue_mul p m modulus a b < p ^ m
   below a b = product_below p listed m poly.size.some modulus poly.long poly.over poly.monic a b
 
   length_null : length s.𝟘.0 ≡ 0
@@ -84,7 +84,7 @@ module _ (p m : ℕ) (modulus : List ℕ) (poly : IsMonicModulus p m modulus) wh
   null : of 0 ≡ s.𝟘
   null = of_null p listed m poly.size.some modulus poly.long poly.over poly.monic
 
-  same_residue : (a b : ℕ) → IsCongruent s.ops F (of (residue_mul p m modulus a b)) (s.◌⊗◌ (of a) (of b))
+  pub same_residue : (a b : ℕ) → IsCongruent s.ops F (of (residue_mul p m modulus a b)) (s.◌⊗◌ (of a) (of b))
   same_residue a b =
       congruent_sym s.ring F _ _ (record {
         times = quotient p listed m poly.size.some modulus poly.long poly.over poly.monic a b;

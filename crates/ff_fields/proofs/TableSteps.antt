@@ -216,6 +216,16 @@ module _ (k : CodeField) (g minus_one : ℕ) (powers : List Power) (logs : List 
       ∙ ap (λ w. k.mul w (pow_of k.ops g (get_or logs b 0))) (log_is a a_in a_some)
       ∙ ap (k.mul a) (log_is b b_in b_some)
 
+  -- an exponent of g that gives a product
+  product_power : (a b e : ℕ) → a < k.size → b < k.size → a ≢ 0 → b ≢ 0
+      → e ≡ (get_or logs a 0 + get_or logs b 0) % length powers → pow_of k.ops g e ≡ k.mul a b
+  product_power a b e a_in b_in a_some b_some is =
+      ap (pow_of k.ops g) is
+      ∙ power_mod (get_or logs a 0 + get_or logs b 0)
+      ∙ pow_of_add k g (get_or logs a 0) (get_or logs b 0) T.g_in
+      ∙ ap (λ w. k.mul w (pow_of k.ops g (get_or logs b 0))) (log_is a a_in a_some)
+      ∙ ap (k.mul a) (log_is b b_in b_some)
+
   pub inverse_entry : (a i : ℕ) (d : Power) → a < k.size → a ≢ 0 → i ≡ (length powers - get_or logs a 0) % length powers
       → (get_or powers i d).code ≡ k.inv a
   inverse_entry a i d a_in some is =
@@ -239,9 +249,9 @@ module _ (k : CodeField) (g minus_one : ℕ) (powers : List Power) (logs : List 
       ∙ sym (pow_of_mul k g log e T.g_in)
       ∙ ap (λ w. pow_of k.ops w e) (log_is a a_in some)
 
-  -- a + b by the logarithm of 1 + b / a
-  module _ (a b gap : ℕ) (d : Power) (a_in : a < k.size) (b_in : b < k.size) (a_some : a ≢ 0) (b_some : b ≢ 0)
-      (gap_is : gap ≡ (get_or logs b 0 + (length powers - get_or logs a 0)) % length powers) where
+  -- a + b by the logarithm of 1 + b / a, for a power b
+  module _ (a b e gap : ℕ) (d : Power) (a_in : a < k.size) (a_some : a ≢ 0) (b_is : pow_of k.ops g e ≡ b)
+      (gap_is : gap ≡ (e + (length powers - get_or logs a 0)) % length powers) where
     abbrev log : ℕ
     log = get_or logs a 0
 
@@ -264,20 +274,19 @@ module _ (k : CodeField) (g minus_one : ℕ) (powers : List Power) (logs : List 
     second =
         let log_below = log_in a a_in a_some in
         let power_a = log_is a a_in a_some in
-        let whole : log + (get_or logs b 0 + (length powers - log))
-        ≡ length powers + get_or logs b 0 = omega (arith, log_below) in
+        let whole : log + (e + (length powers - log)) ≡ length powers + e = omega (arith, log_below) in
         let turn : pow_of k.ops g (length powers) ≡ 1 = ap (pow_of k.ops g) long ∙ pow_of_order k g T.g_in T.g_some in
-        let power_b = pow_of k.ops g (get_or logs b 0) in
-        let power_b_in = pow_of_below k g (get_or logs b 0) T.g_in in
+        let power_b = pow_of k.ops g e in
+        let power_b_in = pow_of_below k g e T.g_in in
         sym (
         ap (λ w. k.mul w rest) (sym power_a)
         ∙ ap (λ w. k.mul (pow_of k.ops g log) w) (ap (pow_of k.ops g) gap_is ∙ power_mod _)
         ∙ sym (pow_of_add k g log _ T.g_in)
         ∙ ap (pow_of k.ops g) whole
-        ∙ pow_of_add k g (length powers) (get_or logs b 0) T.g_in
+        ∙ pow_of_add k g (length powers) e T.g_in
         ∙ ap (λ w. k.mul w power_b) turn
         ∙ k.laws.one_mul power_b power_b_in
-        ∙ log_is b b_in b_some
+        ∙ b_is
         )
 
     sum_in : k.add 1 rest < k.size
@@ -371,14 +380,21 @@ module _ (k : CodeField) (g minus_one : ℕ) (powers : List Power) (logs : List 
       ∙ power_entry a e i entry a_in some
       (i_is ∙ ap (λ x. x * (e % m) % m) (log_read a la a_in la_is) ∙ ap (λ w. get_or logs a 0 * (e % w) % w) m_is)
 
-  module _ (a b la lb m gap : ℕ) (at_gap : Power) (a_in : a < k.size) (b_in : b < k.size) (a_some : a ≢ 0)
-      (b_some : b ≢ 0) (la_is : la ≡ get_or logs a la) (lb_is : lb ≡ get_or logs b lb) (m_is : m ≡ length powers)
-      (gap_is : gap ≡ (lb + (m - la)) % m) (read : at_gap ≡ get_or powers gap at_gap) where
-    gap_same : gap ≡ (get_or logs b 0 + (length powers - get_or logs a 0)) % length powers
+  pub product_power_at : (a b la lb m e : ℕ) → a < k.size → b < k.size → a ≢ 0 → b ≢ 0 → la ≡ get_or logs a la
+      → lb ≡ get_or logs b lb → m ≡ length powers → e ≡ (la + lb) % m → pow_of k.ops g e ≡ k.mul a b
+  product_power_at a b la lb m e a_in b_in a_some b_some la_is lb_is m_is e_is =
+      product_power a b e a_in b_in a_some b_some
+      (e_is ∙ ap₂ (λ x y. (x + y) % m) (log_read a la a_in la_is) (log_read b lb b_in lb_is)
+      ∙ ap (λ w. (get_or logs a 0 + get_or logs b 0) % w) m_is)
+
+  module _ (a b la e m gap : ℕ) (at_gap : Power) (a_in : a < k.size) (a_some : a ≢ 0) (la_is : la ≡ get_or logs a la)
+      (b_is : pow_of k.ops g e ≡ b) (m_is : m ≡ length powers) (gap_is : gap ≡ (e + (m - la)) % m)
+      (read : at_gap ≡ get_or powers gap at_gap) where
+    gap_same : gap ≡ (e + (length powers - get_or logs a 0)) % length powers
     gap_same =
         gap_is
-        ∙ ap₂ (λ x y. (x + (m - y)) % m) (log_read b lb b_in lb_is) (log_read a la a_in la_is)
-        ∙ ap (λ w. (get_or logs b 0 + (w - get_or logs a 0)) % w) m_is
+        ∙ ap (λ y. (e + (m - y)) % m) (log_read a la a_in la_is)
+        ∙ ap (λ w. (e + (w - get_or logs a 0)) % w) m_is
 
     next_same : at_gap.next ≡ (get_or powers gap at_gap).next
     next_same = ap (λ (e : Power). e.next) read
@@ -387,18 +403,18 @@ module _ (k : CodeField) (g minus_one : ℕ) (powers : List Power) (logs : List 
     other_at other e = other (next_same ∙ e)
 
     pub sum_null_at : at_gap.next ≡ 65535 → 0 ≡ k.add a b
-    sum_null_at marked = sum_null a b gap at_gap a_in b_in a_some b_some gap_same (sym next_same ∙ marked)
+    sum_null_at marked = sum_null a b e gap at_gap a_in a_some b_is gap_same (sym next_same ∙ marked)
 
     pub next_at : at_gap.next ≢ 65535 → at_gap.next < m
     next_at other =
-        let small = next_in a b gap at_gap a_in b_in a_some b_some gap_same (other_at other) in
+        let small = next_in a b e gap at_gap a_in a_some b_is gap_same (other_at other) in
         omega (arith, small, next_same, m_is)
 
     pub sum_at : (i : ℕ) (entry : Power) → at_gap.next ≢ 65535 → i ≡ (la + at_gap.next) % m
         → entry ≡ get_or powers i entry → entry.code ≡ k.add a b
     sum_at i entry other i_is found =
         ap (λ (e : Power). e.code) found
-        ∙ sum_entry a b gap at_gap a_in b_in a_some b_some gap_same i entry (other_at other)
+        ∙ sum_entry a b e gap at_gap a_in a_some b_is gap_same i entry (other_at other)
         (i_is ∙ ap₂ (λ x y. (x + y) % m) (log_read a la a_in la_is) next_same
         ∙ ap (λ w. (get_or logs a 0 + (get_or powers gap at_gap).next) % w) m_is)
 

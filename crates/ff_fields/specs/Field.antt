@@ -30,8 +30,7 @@ pub record IsPrimeNumber (p : ℕ) : Type 0 where
   pub no_divisor : (d : ℕ) → 1 < d → d < p → p % d ≢ 0
 
 -- the laws of a field of at most 65,536 elements, whose characteristic is a prime p with p ones making 0, and that each
--- a is
--- its own q-th power; they speak of codes below the size
+-- a is its own q-th power; they speak of codes below the size
 pub record FieldLaws (k : FieldOps) : Type 0 where
   pub one_below : 1 < k.size
   pub size_within : k.size ≤ 65536

@@ -105,6 +105,14 @@ impl SmallField for Field {
             Field::Table(k) => k.pow(a, e),
         }
     }
+
+    fn add_multiple(&self, sum: &mut [u32], c: u32, codes: &[u32]) {
+        match self {
+            Field::Prime(k) => k.add_multiple(sum, c, codes),
+            Field::Residue(k) => k.add_multiple(sum, c, codes),
+            Field::Table(k) => k.add_multiple(sum, c, codes),
+        }
+    }
 }
 
 impl IsStandard for Field {

@@ -1,9 +1,10 @@
 //! The fields of p to the m elements, as polynomials modulo a monic one.
 
-ghost use Rattle.std.specs.Prelude.{◌≡◌, ◌≢◌, ◌+◌, ◌^◌, ◌<◌, ◌↔◌, length, take, IsOk, IfOk, IfErr, IfNone, IfSome};
+ghost use Rattle.std.specs.Prelude.{◌≡◌, ◌≢◌, ℕ, ◌+◌, ◌^◌, ◌<◌, ◌↔◌, length, take, IsOk, IfOk, IfErr, IfNone, IfSome};
 ghost use Rattle.std.specs.Option.{SomeIff};
 ghost use Rattle.ff_fields.specs.Field.{pow_of};
-ghost use Rattle.ff_fields.specs.Modulus.{IsFieldModulus, IsFieldSize, IsFirstOutside, IsFaultOf};
+ghost use Rattle.ff_fields.specs.Laws.{IsProductOf, IsSumOf};
+ghost use Rattle.ff_fields.specs.Modulus.{IsFieldModulus, IsFieldSize, IsFirstOutside, IsFaultOf, IsMonicModulus};
 ghost use Rattle.ff_fields.specs.Over.{IsOver};
 ghost use Rattle.ff_fields.specs.Prime.{prime_of};
 ghost use Rattle.ff_fields.specs.Residue.{digits, residue_of};
@@ -64,12 +65,9 @@ impl ResidueField {
     ///
     /// `FieldSize(p, m)` where p isn't listed, m is 0 or p to the m is above 65,536; else `CodeRange(c)` at the first
     /// coefficient c that is p or more; else `NotMonic(c)` where the top coefficient c isn't 1; else `NotField(a, b)`
-    /// where
-    /// a·b = 0 for codes that aren't 0, at the least such a and then the least b. That a is the first monic divisor of
-    /// the
-    /// modulus, of at most half its degree, in the order of codes, and b is its cofactor, so at most 510 trial
-    /// divisions find
-    /// them.
+    /// where a·b = 0 for codes that aren't 0, at the least such a and then the least b. That a is the first monic
+    /// divisor of the modulus, of at most half its degree, in the order of codes, and b is its cofactor, so at most 510
+    /// trial divisions find them.
     pub fn new(p: u32, m: u32, modulus: &[u32]) -> Result<ResidueField, FieldFault>
         requires { length modulus.now ≡ m + 1 }
         ensures ok { IsOk result ↔ IsFieldModulus p m modulus.now }
@@ -172,3 +170,12 @@ impl SmallField for ResidueField {
         self.power(a, self.size - 2)
     }
 }
+
+/// A law: the sum of two codes is the one code whose polynomial is the sum of theirs, and their product the one whose
+/// polynomial is congruent to the product of theirs modulo the modulus.
+pub fn residue_law(p: u32, m: u32, modulus: &[u32])
+    requires { IsMonicModulus p m modulus.now }
+    ensures sum { let k = residue_of p m modulus.now in (a b c : ℕ) → (c ≡ k.add a b) ↔ IsSumOf p m a b c }
+    ensures product { let k = residue_of p m modulus.now in
+        (a b c : ℕ) → (c ≡ k.mul a b) ↔ IsProductOf p m modulus.now a b c }
+{}

@@ -77,6 +77,13 @@ impl SmallField for Standard {
             Standard::Residue(k) => k.inv(a),
         }
     }
+
+    fn add_multiple(&self, sum: &mut [u32], c: u32, codes: &[u32]) {
+        match self {
+            Standard::Prime(k) => k.add_multiple(sum, c, codes),
+            Standard::Residue(k) => k.add_multiple(sum, c, codes),
+        }
+    }
 }
 
 impl IsStandard for Standard {

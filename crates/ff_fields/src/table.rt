@@ -1,10 +1,12 @@
 //! Fields by tables of powers and logarithms.
 
 ghost use Rattle.std.specs.Prelude.{◌≡◌, ◌≢◌, ℕ, ◌+◌, ◌-◌, ◌%◌, ◌<◌, ◌≤◌, length, replicate, slice_index, IfOk, IfNone, IfSome};
+ghost use Rattle.ff_fields.specs.Code.{raw_ring};
 ghost use Rattle.ff_fields.specs.Field.{pow_of};
 ghost use Rattle.ff_fields.specs.Over.{IsOver};
 ghost use Rattle.ff_fields.specs.Standards.{standard_of};
 ghost use Rattle.ff_fields.specs.Tables.{HasPowers, IsPowerOf, AreWrittenTables};
+ghost use Rattle.ring_lemmas.specs.Lists.{add_lists, scale_list};
 
 use crate::field::SmallField;
 use crate::standard::{IsStandard, Standard};
@@ -126,6 +128,15 @@ fn marks(alloc: Global, n: usize) -> Result<Vec<u16>, AllocError>
     vec![in alloc; MARK; n]
 }
 
+// A logarithm below 2·n modulo n. Where it is below n, the difference wraps round and is the larger; there is no
+// branch, which would be guessed wrong half of the time.
+fn reduced(log: usize, n: usize) -> usize
+    requires { log < n + n }
+    ensures { result ≡ log % n }
+{
+    log.min(log.wrapping_sub(n))
+}
+
 impl TableField {
     // The tables of a field that takes no memory.
     fn make(alloc: Global, base: Standard) -> Result<Option<TableField>, AllocError>
@@ -155,9 +166,8 @@ impl TableField {
     /// The same field by tables, with sums in odd characteristic by tables too.
     ///
     /// `None` exactly where no code has q - 1 different powers, q being the size. The codes are tried from 1 on, each
-    /// by as
-    /// many products as it has different powers. The tables take 6 bytes for each element, and 2 more while they are
-    /// made.
+    /// by as many products as it has different powers. The tables take 6 bytes for each element, and 2 more while they
+    /// are made.
     pub fn new<B: IsStandard>(alloc: Global, base: &B) -> Result<Option<TableField>, AllocError>
         ensures made { IfOk result (λ o. IfSome o (λ t. standard_of t ≡ B.field base.now)) }
         ensures some { IfOk result (λ o. IfSome o (λ _. (g : ℕ) × ((g < (B.field base.now).size)
@@ -183,14 +193,62 @@ impl TableField {
             logs,
         })
     }
-}
 
-// A logarithm below 2·n modulo n.
-fn reduced(log: usize, n: usize) -> usize
-    requires { log < n + n }
-    ensures { result ≡ log % n }
-{
-    if log < n { log } else { log - n }
+    // a + c·b, where neither c nor b is 0. Their product is used by its logarithm alone, so it isn't looked up.
+    fn add_product(&self, a: u32, c: u32, b: u32) -> u32
+        requires a_in { a < (standard_of self.now).size }
+        requires c_in { c < (standard_of self.now).size }
+        requires b_in { b < (standard_of self.now).size }
+        requires c_some { c ≢ 0 }
+        requires b_some { b ≢ 0 }
+        ensures { let k = standard_of self.now in result ≡ k.add a (k.mul c b) }
+    {
+        let n = self.powers.len();
+        let other = reduced(
+            self.logs[c as usize] as usize + self.logs[b as usize] as usize,
+            n,
+        );
+        if a == 0 {
+            return self.powers[other].code as u32;
+        }
+        let log = self.logs[a as usize] as usize;
+        let next = self.powers[reduced(other + (n - log), n)].next;
+        if next == MARK {
+            return 0;
+        }
+        self.powers[reduced(log + next as usize, n)].code as u32
+    }
+
+    // Adds c times the codes to the sum, the products by logarithms and the sums by the base.
+    fn add_looked_up(&self, sum: &mut [u32], c: u32, codes: &[u32])
+        requires fits { length codes.now ≤ length sum.old }
+        requires sum_in { IsOver (standard_of self.now).ops sum.old }
+        requires c_in { c < (standard_of self.now).size }
+        requires codes_in { IsOver (standard_of self.now).ops codes.now }
+        ensures { let r = raw_ring (standard_of self.now).ops in sum.new
+            ≡ add_lists r sum.old (scale_list r c codes.now) }
+    {
+        for j in 0..codes.len() {
+            sum[j] = self.base.add(sum[j], self.mul(c, codes[j]));
+        }
+    }
+
+    // Adds c times the codes to the sum, where c isn't 0, all by logarithms.
+    fn add_by_logs(&self, sum: &mut [u32], c: u32, codes: &[u32])
+        requires fits { length codes.now ≤ length sum.old }
+        requires sum_in { IsOver (standard_of self.now).ops sum.old }
+        requires c_in { c < (standard_of self.now).size }
+        requires c_some { c ≢ 0 }
+        requires codes_in { IsOver (standard_of self.now).ops codes.now }
+        ensures { let r = raw_ring (standard_of self.now).ops in sum.new
+            ≡ add_lists r sum.old (scale_list r c codes.now) }
+    {
+        for j in 0..codes.len() {
+            if codes[j] != 0 {
+                sum[j] = self.add_product(sum[j], c, codes[j]);
+            }
+        }
+    }
 }
 
 impl IsStandard for TableField {
@@ -214,20 +272,10 @@ impl SmallField for TableField {
         if self.adds_by_base {
             return self.base.add(a, b);
         }
-        if a == 0 {
-            return b;
-        }
         if b == 0 {
             return a;
         }
-        let n = self.powers.len();
-        let log = self.logs[a as usize] as usize;
-        let gap = reduced(self.logs[b as usize] as usize + (n - log), n);
-        let next = self.powers[gap].next;
-        if next == MARK {
-            return 0;
-        }
-        self.powers[reduced(log + next as usize, n)].code as u32
+        self.add_product(a, 1, b)
     }
 
     fn sub(&self, a: u32, b: u32) -> u32 {
@@ -258,5 +306,21 @@ impl SmallField for TableField {
         let n = self.powers.len() as u64;
         let log = self.logs[a as usize] as u64 * (e % n) % n;
         self.powers[log as usize].code as u32
+    }
+
+    fn add_multiple(&self, sum: &mut [u32], c: u32, codes: &[u32]) {
+        if c == 0 {
+            return;
+        }
+        match &self.base {
+            Standard::Prime(k) => k.add_multiple(sum, c, codes),
+            Standard::Residue(_) => {
+                if self.adds_by_base {
+                    self.add_looked_up(sum, c, codes);
+                } else {
+                    self.add_by_logs(sum, c, codes);
+                }
+            }
+        }
     }
 }

@@ -1,3 +1,3 @@
 pub mod LowZeros
 pub mod LocalMembers
-pub mod PowersOfY
+pub mod Starts

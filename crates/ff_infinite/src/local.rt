@@ -19,11 +19,9 @@ use ff_poly::poly::shift;
 use std::alloc::{AllocError, Global};
 
 /// Is z, an element of the finite presentation, a combination over R_inf of the rows of an infinite lattice? The
-/// lattice is
-/// k[t][Y] up to powers of t: one of them takes 1, Y, up to Y^(n-1) into it, and it into k[t][Y]. So each denominator
-/// may be
-/// brought to a power of t, since what t doesn't divide has an inverse in R_inf. It takes the time of `to_inf` and of
-/// `contains`.
+/// lattice is k[t][Y] up to powers of t: one of them takes 1, Y, up to Y^(n-1) into it, and it into k[t][Y]. So each
+/// denominator may be brought to a power of t, since what t doesn't divide has an inverse in R_inf. It takes the time
+/// of `to_inf` and of `contains`.
 pub fn local_contains<K: SmallField>(
     alloc: Global,
     k: &K,

@@ -11,13 +11,11 @@ ghost use Rattle.ff_lattice.specs.Orders.{IsOrderLattice};
 use ff_algebra::Curve;
 use ff_fields::field::SmallField;
 use ff_lattice::Order;
-use ff_lattice::operations::spanned;
-use ff_lattice::order::power_of_y;
+use ff_lattice::unit::unit_lattice;
 use std::alloc::{AllocError, Global};
 
 /// The order k[t][Y] of the infinite presentation: the functions that have polynomials in t as coordinates. Its rows
-/// are 1, Y,
-/// up to Y^(n-1). It takes the time of a Popov basis of the unit matrix.
+/// are 1, Y, up to Y^(n-1). It takes the time of `unit_lattice`.
 pub fn infinite_start<K: SmallField>(alloc: Global, k: &K, c: &Curve) -> Result<Order, AllocError>
     ensures order { IfOk result (IsOrderLattice (K.field k.now) c.now.inf) }
     ensures members { let k = K.field k.now in
@@ -27,10 +25,6 @@ pub fn infinite_start<K: SmallField>(alloc: Global, k: &K, c: &Curve) -> Result<
         IfOk result (λ o. IsSupportedAt (equation_of k c.now.inf) (x_poly k) (Contains k c.now.inf o)) }
 {
     let p = c.inf();
-    let mut powers = Vec::new(alloc);
-    for i in 0..p.n() {
-        powers.push(power_of_y(alloc, k, p.n(), i)?)?;
-    }
-    let l = spanned(alloc, k, p, &powers)?;
+    let l = unit_lattice(alloc, k, p.n())?;
     Ok(Order::of(k, p, l))
 }

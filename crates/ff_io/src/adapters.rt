@@ -1,6 +1,5 @@
 //! Sources and sinks over the readers and writers of std. They tell no bytes, and any call may fail. A contract sees
-//! one
-//! as the reader or writer and a count of faults.
+//! one as the reader or writer and a count of faults.
 
 ghost use Rattle.std.specs.Prelude.{◌≡◌, ◌≤◌, ◌<◌, None, length, if◌then◌else◌, is_ok, IfOk};
 ghost use Rattle.std.proofs.lemmas.Option.{none-some};
@@ -80,6 +79,8 @@ pub struct WriteSink<W: Write> {
 }
 
 impl<W: Write> Model for WriteSink<W> {
+    ghost use Rattle.ff_io.specs.Streams.{Counted};
+
     ghost Value = { Counted W };
 
     ghost view = { λ s. record { inner = s.inner; faults = s.faults } };

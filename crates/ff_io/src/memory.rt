@@ -23,8 +23,8 @@ pub struct MemSource {
 }
 
 impl Model for MemSource {
-    ghost use Rattle.std.specs.Prelude.{◌≤◌, length, vec_capacity};
-    ghost use Rattle.ff_io.specs.Memory.{SourceState, SinkState};
+    ghost use Rattle.std.specs.Prelude.{◌≤◌, length};
+    ghost use Rattle.ff_io.specs.Memory.{SourceState};
 
     ghost Value = { SourceState };
 
@@ -155,6 +155,9 @@ pub struct MemSink {
 }
 
 impl Model for MemSink {
+    ghost use Rattle.std.specs.Prelude.{◌≤◌, length, vec_capacity};
+    ghost use Rattle.ff_io.specs.Memory.{SinkState};
+
     ghost Value = { SinkState };
 
     ghost view = { λ s. record {

@@ -1,7 +1,7 @@
 -- The polynomials that take a polynomial, a row or rows into the multiples of e have one monic generator.
 use Rattle.std.proofs.Common.{◌≡◌, ℕ, ◌+◌, ◌<◌, ◌≤◌, ◌↔◌, List, [], ◌∷◌, length, get_or, take, refl, sym, ◌∙◌, ap, ap₂, subst, arith, All}
-use Rattle.std.proofs.lemmas.List.{length-map, get_or-take, length-take-le, take_more, take_all}
-use Rattle.std.proofs.lemmas.List.Elements.{All-nil, All-cons, All-head, All-append}
+use Rattle.std.proofs.lemmas.List.{get_or-take, length-take-le, take_more, take_all}
+use Rattle.std.proofs.lemmas.List.Elements.{All-nil, All-cons, All-append}
 use Rattle.ring_lemmas.specs.Ring.{TestedRing}
 use Rattle.ring_lemmas.proofs.Ring.{one_mul}
 use Rattle.ring_lemmas.proofs.Solver.{ring, reads}
@@ -11,12 +11,11 @@ use Rattle.ff_poly.specs.Words.{IsPoly, IsMonic, IsQuotientWithRest, DividesList
 use Rattle.ff_poly.specs.PolyOver.{IsOver_product_of}
 use Rattle.ff_poly.specs.Value.{value, value_product, value_sum}
 use Rattle.ff_poly.specs.Polynomials.{Polynomial, polynomials, codes_of, IsOver_codes_of, IsPoly_codes_of, value_codes_of, value_one}
-use Rattle.ff_poly.specs.Popov.{rows_of, row_at, entry_at, IsRow, InSpan, combination, multiple_of_row}
-use Rattle.std.specs.Global.{Vec}
 use Rattle.ff_poly.proofs.Parts.{IsPoly_product_of, IsMonic_product}
-use Rattle.ff_lattice.specs.Steps.{HasShortMultiples, IsPreimage, IsAnnihilator, IsNext, IsRowMultiplier, IsLeastMultiplier}
+use Rattle.ff_poly.proofs.Results.{product_of_nil}
+use Rattle.ff_lattice.specs.Steps.{IsAnnihilator, IsNext, IsRowMultiplier, IsLeastMultiplier}
 use Rattle.ff_lattice.proofs.Elements.{DividesPol, divides_value, divides_codes}
-use Rattle.ff_lattice.proofs.Divisors.{pol_rest, pol_times, pol_scale, divides_product, divides_self, product_comm, sum_nil}
+use Rattle.ff_lattice.proofs.Divisors.{pol_rest, pol_times, pol_scale, divides_product, divides_self}
 
 -- a fact of each entry of a first part, and of the next
 pub all_more : {X : Type 0} (P : X → Type 0) (xs : List X) (i : ℕ) (d : X) → i < length xs
@@ -44,91 +43,6 @@ all_more {X} P xs i d less = (to, from)
     )
 
 module _ (k : CodeField) where
-  -- the lattice of one polynomial
-  single_combination : (u w : List ℕ) → IsOver k.ops u → IsOver k.ops w
-      → combination k.ops 1 (u ∷ []) ((w ∷ []) ∷ []) ≡ product_of k.ops u w ∷ []
-  single_combination u w u_in w_in =
-      ap (λ a. a ∷ []) (sum_nil k (product_of k.ops u w) (IsOver_product_of k u_in w_in) (IsPoly_product_of k.ops u w))
-
-  single_span : (e a : List ℕ) → IsOver k.ops e → IsOver k.ops a → IsPoly a
-      → InSpan k.ops 1 ((e ∷ []) ∷ []) (a ∷ []) ↔ DividesList k.ops e a
-  single_span e a e_in a_in a_poly = (to, from)
-    where
-      to : InSpan k.ops 1 ((e ∷ []) ∷ []) (a ∷ []) → DividesList k.ops e a
-      to h = go h.coefficients h.is.size h.is.over h.is.is
-        where
-          go : (cs : List (List ℕ)) → length cs ≡ 1 → All (IsOver k.ops) cs
-              → a ∷ [] ≡ combination k.ops 1 cs ((e ∷ []) ∷ []) → DividesList k.ops e a
-          go [] size over is = absurd (omega (arith, size))
-          go (c ∷ c' ∷ cs) size over is = absurd (omega (arith, size))
-          go (c ∷ []) size over is =
-              let c_in = All-head (IsOver k.ops) c [] over in
-              let same : a ∷ [] ≡ product_of k.ops c e ∷ [] = is ∙ single_combination c e c_in e_in in
-              let a_is : a ≡ product_of k.ops c e = cc in
-              divides_codes k e a e_in a_in a_poly
-              (record {
-                quotient = value k c;
-                is = ap (value k) (a_is ∙ product_comm k c e c_in e_in)
-                    ∙ value_product k e c e_in c_in;
-              })
-
-      from : DividesList k.ops e a → InSpan k.ops 1 ((e ∷ []) ∷ []) (a ∷ [])
-      from h = record {
-        coefficients = h.quotient ∷ [];
-        is = record {
-          size = refl;
-          over = All-cons (IsOver k.ops) h.quotient [] h.quotient_in (All-nil (IsOver k.ops));
-          is =
-              ap (λ x. x ∷ []) (h.product ∙ product_comm k e h.quotient e_in h.quotient_in)
-              ∙ sym (single_combination h.quotient e h.quotient_in e_in);
-        };
-      }
-
-  -- e times each entry is in the lattice of e
-  single_short : (e : List ℕ) → IsOver k.ops e → IsPoly e → ¬ (e ≡ [])
-      → HasShortMultiples k.ops 1 ((e ∷ []) ∷ []) (length e)
-  single_short e e_in e_poly e_some = record {
-    multiple = λ v row. record {
-      factor = e;
-      factor_in = e_in;
-      factor_poly = e_poly;
-      factor_some = e_some;
-      in_span = go v row.size row.over;
-    };
-    short = λ v row. omega arith;
-  }
-    where
-      go : (v : List (List ℕ)) → length v ≡ 1 → All (IsOver k.ops) v
-          → InSpan k.ops 1 ((e ∷ []) ∷ []) (multiple_of_row k.ops e v)
-      go [] size over = absurd (omega (arith, size))
-      go (a ∷ b ∷ v) size over = absurd (omega (arith, size))
-      go (a ∷ []) size over =
-          let a_in = All-head (IsOver k.ops) a [] over in
-          let product_in = IsOver_product_of k e_in a_in in
-          let product_poly = IsPoly_product_of k.ops e a in
-          (single_span e (product_of k.ops e a) e_in product_in product_poly).1
-          (divides_codes k e (product_of k.ops e a) e_in product_in product_poly
-          (record { quotient = value k a; is = value_product k e a e_in a_in }))
-
-  pub short_in : (e : List ℕ) → IsOver k.ops e → IsPoly e → ¬ (e ≡ []) → (ls : List (Vec (List ℕ)))
-      → rows_of ls ≡ (e ∷ []) ∷ [] → (bound : ℕ) → bound ≡ length e
-      → HasShortMultiples k.ops 1 (rows_of ls) bound
-  short_in e e_in e_poly e_some ls ls_is bound is =
-      subst (HasShortMultiples k.ops 1 (rows_of ls)) (sym is)
-      (subst (λ rows. HasShortMultiples k.ops 1 rows (length e)) (sym ls_is) (single_short e e_in e_poly e_some))
-
-  -- a list of one row of one entry
-  one_row : (basis : List (List (List ℕ))) → length basis ≡ 1 → length (row_at basis 0) ≡ 1
-      → basis ≡ (entry_at (row_at basis 0) 0 ∷ []) ∷ []
-  one_row [] size row = absurd (omega (arith, size))
-  one_row (r ∷ r' ∷ basis) size row = absurd (omega (arith, size))
-  one_row (r ∷ []) size row = ap (λ x. x ∷ []) (one_entry r row)
-    where
-      one_entry : (r : List (List ℕ)) → length r ≡ 1 → r ≡ entry_at r 0 ∷ []
-      one_entry [] size = absurd (omega (arith, size))
-      one_entry (a ∷ []) size = refl
-      one_entry (a ∷ b ∷ r) size = absurd (omega (arith, size))
-
   -- e divides u·v exactly where it divides u·w, for the rest w of v
   rest_divides : (e v q w u : List ℕ) → IsOver k.ops e → IsOver k.ops v → IsOver k.ops u
       → IsQuotientWithRest k.ops v e q w → DividesList k.ops e (product_of k.ops u v)
@@ -144,44 +58,47 @@ module _ (k : CodeField) where
         λ h. whole.1 (both.1 (rest.0 h)),
       )
 
-  pub annihilator_is : (e v q w : List ℕ) (basis : List (List (List ℕ))) (h : List ℕ) → IsOver k.ops e → IsOver k.ops v
-      → IsQuotientWithRest k.ops v e q w → IsPreimage k.ops 1 1 ((w ∷ []) ∷ []) ((e ∷ []) ∷ []) basis
-      → h ≡ entry_at (row_at basis 0) 0 → IsAnnihilator k.ops e v h
-  annihilator_is e v q w basis h e_in v_in d p h_is = record {
-    over = over;
-    poly = poly;
-    monic = subst IsMonic (sym h_is) (p.popov.monic 0 (omega arith));
+  -- the annihilator of the rest is that of v
+  pub annihilator_of_rest : (e v q w h : List ℕ) → IsOver k.ops e → IsOver k.ops v → IsQuotientWithRest k.ops v e q w
+      → IsAnnihilator k.ops e w h → IsAnnihilator k.ops e v h
+  annihilator_of_rest e v q w h e_in v_in d a = record {
+    over = a.over;
+    poly = a.poly;
+    monic = a.monic;
     divides = λ u u_in u_poly.
-        let single = single_span h u over u_in u_poly in
-        let z_row : IsRow k.ops 1 (u ∷ []) = record
-        { size = refl; over = All-cons (IsOver k.ops) u [] u_in (All-nil (IsOver k.ops)) } in
-        let members = p.members (u ∷ []) z_row (All-cons IsPoly u [] u_poly (All-nil IsPoly)) in
-        let product = single_span e (product_of k.ops u w) e_in (IsOver_product_of k u_in d.rest_in)
-        (IsPoly_product_of k.ops u w) in
-        let rest = rest_divides e v q w u e_in v_in u_in d in (
-          λ hu.
-              rest.1 (product.0
-              (subst (InSpan k.ops 1 ((e ∷ []) ∷ [])) (single_combination u w u_in d.rest_in)
-              (members.0 (subst (λ b. InSpan k.ops 1 b (u ∷ [])) (sym basis_is) (single.1 hu))))),
-          λ euv.
-              single.0
-              (subst (λ b. InSpan k.ops 1 b (u ∷ [])) basis_is
-              (members.1 (subst (InSpan k.ops 1 ((e ∷ []) ∷ [])) (sym (single_combination u w u_in d.rest_in))
-              (product.1 (rest.0 euv))))),
+        let r = rest_divides e v q w u e_in v_in u_in d in let b = a.divides u u_in u_poly in (
+          λ hu. r.1 (b.0 hu),
+          λ euv. b.1 (r.0 euv),
         );
   }
-    where
-      row : IsRow k.ops 1 (row_at basis 0)
-      row = p.rows_in 0 [] (omega (arith, p.popov.size))
 
-      over : IsOver k.ops h
-      over = subst (IsOver k.ops) (sym h_is) (row.over 0 [] (omega (arith, row.size)))
+  one_divides : (u : List ℕ) → IsOver k.ops u → IsPoly u → DividesList k.ops (1 ∷ []) u
+  one_divides u u_in u_poly =
+      divides_codes k (1 ∷ []) u (IsOver_cons k.laws.one_below IsOver_nil) u_in u_poly
+      (record {
+        quotient = value k u;
+        is = sym (ap (λ x. (polynomials k).◌⊗◌ x (value k u)) (value_one k) ∙ one_mul (polynomials k).ring (value k u));
+      })
 
-      poly : IsPoly h
-      poly = subst IsPoly (sym h_is) (p.popov.trimmed 0 0)
-
-      basis_is : basis ≡ (h ∷ []) ∷ []
-      basis_is = one_row basis p.popov.size row.size ∙ ap (λ a. (a ∷ []) ∷ []) (sym h_is)
+  -- what e divides is taken to its multiples by 1
+  pub annihilator_one : (e v q w h : List ℕ) → IsOver k.ops e → IsOver k.ops v → IsQuotientWithRest k.ops v e q w
+      → w ≡ [] → h ≡ 1 ∷ [] → IsAnnihilator k.ops e v h
+  annihilator_one e v q w h e_in v_in d w_is h_is =
+      annihilator_of_rest e v q w h e_in v_in d
+      (subst (λ w. IsAnnihilator k.ops e w h) (sym w_is) (subst (IsAnnihilator k.ops e []) (sym h_is) (record {
+        over = IsOver_cons k.laws.one_below IsOver_nil;
+        poly = record { trimmed = refl };
+        monic = ([], refl);
+        divides = λ u u_in u_poly. (
+          λ _. record {
+            quotient = [];
+            quotient_in = IsOver_nil;
+            quotient_poly = record { trimmed = tt };
+            product = product_of_nil k.ops u ∙ sym (product_of_nil k.ops e);
+          },
+          λ _. one_divides u u_in u_poly,
+        );
+      })))
 
   -- h times the annihilator of h·v
   pub next_is : (e h v hv a : List ℕ) → IsOver k.ops e → IsOver k.ops h → IsPoly h → IsMonic h → IsOver k.ops v
@@ -296,23 +213,3 @@ module _ (k : CodeField) where
           λ m. d.1 (one_divides u u_in u_poly, m.each),
         );
   }
-    where
-      one_divides : (u : List ℕ) → IsOver k.ops u → IsPoly u → DividesList k.ops (1 ∷ []) u
-      one_divides u u_in u_poly =
-          divides_codes k (1 ∷ []) u (IsOver_cons k.laws.one_below IsOver_nil) u_in u_poly
-          (record {
-            quotient = value k u;
-            is = sym (ap (λ x. (polynomials k).◌⊗◌ x (value k u)) (value_one k)
-                ∙ one_mul (polynomials k).ring (value k u));
-          })
-
-  -- the preimage that the code asks for
-  pub single_preimage : (w e : List ℕ) (m ls : List (Vec (List ℕ))) (basis : List (List (List ℕ)))
-      → rows_of m ≡ (w ∷ []) ∷ [] → rows_of ls ≡ (e ∷ []) ∷ []
-      → IsPreimage k.ops (length m) 1 (rows_of m) (rows_of ls) basis
-      → IsPreimage k.ops 1 1 ((w ∷ []) ∷ []) ((e ∷ []) ∷ []) basis
-  single_preimage w e m ls basis m_is ls_is p =
-      let size : length m ≡ 1 = sym (length-map m (λ (v : Vec (List ℕ)). v.items)) ∙ ap length m_is in
-      subst (λ n. IsPreimage k.ops n 1 ((w ∷ []) ∷ []) ((e ∷ []) ∷ []) basis) size
-      (subst (λ xs. IsPreimage k.ops (length m) 1 xs ((e ∷ []) ∷ []) basis) m_is
-      (subst (λ ys. IsPreimage k.ops (length m) 1 (rows_of m) ys basis) ls_is p))

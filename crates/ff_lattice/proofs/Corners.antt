@@ -1,6 +1,6 @@
 -- Where the factor t of the twisted pairs vanishes up to more than the degrees of multiples that the map takes into the
--- span,
--- the right parts of the first rows of their Popov form are zero; and the pairs have full rank where the span has.
+-- span, the right parts of the first rows of their Popov form are zero; and the pairs have full rank where the span
+-- has.
 use Rattle.std.proofs.Common.{◌≡◌, ℕ, suc, ◌<◌, ◌≤◌, ◌+◌, ◌*◌, ◌-◌, ◌/◌, ◌%◌, ◌⊎◌, inl, inr, List, length, sym, ◌∙◌, ap, ap₂, arith, subst}
 use Rattle.std.proofs.lemmas.Bool.{cases_lt}
 use Rattle.ring_lemmas.specs.Ring.{TestedRing, IsField, IsDomain}

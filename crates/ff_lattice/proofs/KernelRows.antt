@@ -1,6 +1,5 @@
 -- What a linear map takes into a span, by a Popov form of the pairs (v, t·(φ v + l)): where the right parts of its
--- first
--- rows are zero, their left parts are the Popov form of these elements.
+-- first rows are zero, their left parts are the Popov form of these elements.
 use Rattle.std.proofs.Common.{◌≡◌, ℕ, suc, ◌<◌, ◌≤◌, ◌+◌, ◌*◌, ◌-◌, ◌/◌, ◌⊎◌, inl, inr, List, length, refl, sym, ◌∙◌, ap, ap₂, arith, subst, add-mul}
 use Rattle.std.proofs.lemmas.Bool.{cases_lt}
 use Rattle.std.proofs.lemmas.Nat.{div-mul-add}

@@ -12,6 +12,9 @@ pub mod Preimages
 pub mod Pushes
 pub mod Divisors
 pub mod Annihilators
+pub mod Residues
+pub mod ResidueSteps
+pub mod FirstRelations
 pub mod Quotients
 pub mod Normal
 pub mod SpannedSets
@@ -32,6 +35,7 @@ pub mod PositionSteps
 pub mod OrderElems
 pub mod QuotientSteps
 pub mod MadeQuotients
+pub mod OneQuotient
 pub mod Results
 pub mod ScaledSets
 pub mod RowCombinations
@@ -44,3 +48,4 @@ pub mod PivotIndices
 pub mod ShortMultiples
 pub mod CodeCounts
 pub mod QuotientDimensions
+pub mod UnitRows

@@ -18,7 +18,7 @@ use Rattle.ff_poly.specs.PolyOver.{IsPoly_poly_of, IsOver_difference_of, IsOver_
 use Rattle.ff_poly.specs.Value.{value, same_from_value}
 use Rattle.ff_poly.specs.Terms.{value_difference}
 use Rattle.ff_poly.specs.Polynomials.{Polynomial, polynomials, polynomials_domain, numbers_discrete, constant_poly, value_nil}
-use Rattle.ff_poly.specs.Popov.{row_at, IsRow}
+use Rattle.ff_poly.specs.Popov.{row_at, IsRow, IsPopov}
 use Rattle.ff_poly.proofs.Parts.{IsMonic_multiple, value_multiple, top_of_monic}
 use Rattle.ff_poly.proofs.Quotients.{top_some}
 use Rattle.popov_theory.specs.Module.{PolynomialModule}
@@ -99,6 +99,44 @@ module _ (k : CodeField) where
     Takes L E = (z : Functions k p) → L z
         → (w : Row (Polynomial k) (suc (p.n - 1)))
         × ((functions k p).◌⊗◌ (of_poly c E) z ≡ over c w (polynomials k).𝟙 ((polynomials_domain k).one_not_zero))
+
+    rows_from_read : (xs ys : List (List (List ℕ))) → All (IsRow k.ops p.n) xs → All (IsRow k.ops p.n) ys
+        → All (All IsPoly) xs → All (All IsPoly) ys → read_rows k p.n xs ≡ read_rows k p.n ys → xs ≡ ys
+    rows_from_read [] [] xs_in ys_in xs_poly ys_poly e = refl
+    rows_from_read [] (y ∷ ys) xs_in ys_in xs_poly ys_poly e = absurd (omega (arith, ap length e))
+    rows_from_read (x ∷ xs) [] xs_in ys_in xs_poly ys_poly e = absurd (omega (arith, ap length e))
+    rows_from_read (x ∷ xs) (y ∷ ys) xs_in ys_in xs_poly ys_poly e =
+        let first : read_row k (suc (p.n - 1)) x ≡ read_row k (suc (p.n - 1)) y = cc in
+        let rest : read_rows k p.n xs ≡ read_rows k p.n ys = cc in
+        ap₂ ◌∷◌
+        (same_from_read k p.n x y (All-head (IsRow k.ops p.n) x xs xs_in) (All-head (IsRow k.ops p.n) y ys ys_in)
+        (All-head (All IsPoly) x xs xs_poly) (All-head (All IsPoly) y ys ys_poly) first)
+        (rows_from_read xs ys (All-tail (IsRow k.ops p.n) x xs xs_in) (All-tail (IsRow k.ops p.n) y ys ys_in)
+        (All-tail (All IsPoly) x xs xs_poly) (All-tail (All IsPoly) y ys ys_poly) rest)
+
+    module _ (d : List ℕ) (some : ¬ (value k d ≡ (polynomials k).𝟘)) where
+      within : (xs ys : List (List (List ℕ)))
+          → ((z : Functions k p) → InSpanOf k p (elems_over xs d) z → InSpanOf k p (elems_over ys d) z)
+          → theory.IsWithin M (read_rows k p.n xs) (read_rows k p.n ys)
+      within xs ys h = record {
+        within = λ v v_in.
+            member_numerator c (value k d) some (read_rows k p.n ys) v
+            ((in_span_of k p d some ys (over c v (value k d) some)).0
+            (h (over c v (value k d) some)
+            ((in_span_of k p d some xs (over c v (value k d) some)).1
+            (record { numerator = v; in_rows = v_in; is = refl }))));
+      }
+
+      -- rows in Popov form over one polynomial that span the same functions are the same
+      pub one_basis : (xs ys : List (List (List ℕ))) → All (IsRow k.ops p.n) xs → All (IsRow k.ops p.n) ys
+          → IsPopov p.n xs → IsPopov p.n ys
+          → ((z : Functions k p) → InSpanOf k p (elems_over xs d) z ↔ InSpanOf k p (elems_over ys d) z) → 0 < p.n
+          → xs ≡ ys
+      one_basis xs ys xs_in ys_in xs_popov ys_popov same positive =
+          rows_from_read xs ys xs_in ys_in (popov_poly p.n xs xs_popov) (popov_poly p.n ys ys_popov)
+          (popov_unique M (code_domain k) (read_rows k p.n xs) (read_rows k p.n ys)
+          (basis_popov k p.n xs xs_in xs_popov positive) (basis_popov k p.n ys ys_in ys_popov positive)
+          (record { left = within xs ys (λ z. (same z).0); right = within ys xs (λ z. (same z).1) }))
 
     module _ (l : LatticeValue) (lattice : IsLattice k.ops p.n l) where
       abbrev D : Polynomial k
@@ -351,47 +389,11 @@ module _ (k : CodeField) where
           ))
           d
 
-      within : (xs ys : List (List (List ℕ))) (d : List ℕ) (some : ¬ (value k d ≡ (polynomials k).𝟘))
-          → ((z : Functions k p) → InSpanOf k p (elems_over xs d) z → InSpanOf k p (elems_over ys d) z)
-          → theory.IsWithin M (read_rows k p.n xs) (read_rows k p.n ys)
-      within xs ys d some h = record {
-        within = λ v v_in.
-            member_numerator c (value k d) some (read_rows k p.n ys) v
-            ((in_span_of k p d some ys (over c v (value k d) some)).0
-            (h (over c v (value k d) some)
-            ((in_span_of k p d some xs (over c v (value k d) some)).1
-            (record { numerator = v; in_rows = v_in; is = refl }))));
-      }
-
-      spans_same : theory.HaveSameSpan M (read_rows k p.n l.rows) (read_rows k p.n l'.rows)
-      spans_same =
-          let d_some = D_some l lattice in record {
-            left = within l.rows l'.rows l.den d_some
-                (λ z h. subst (λ d. InSpanOf k p (elems_over l'.rows d) z) den_same ((same z).0 h));
-            right = within l'.rows l.rows l.den d_some
-                (λ z h. (same z).1 (subst (λ d. InSpanOf k p (elems_over l'.rows d) z) (sym den_same) h));
-          }
-
-      rows_from_read : (xs ys : List (List (List ℕ))) → All (IsRow k.ops p.n) xs → All (IsRow k.ops p.n) ys
-          → All (All IsPoly) xs → All (All IsPoly) ys → read_rows k p.n xs ≡ read_rows k p.n ys → xs ≡ ys
-      rows_from_read [] [] xs_in ys_in xs_poly ys_poly e = refl
-      rows_from_read [] (y ∷ ys) xs_in ys_in xs_poly ys_poly e = absurd (omega (arith, ap length e))
-      rows_from_read (x ∷ xs) [] xs_in ys_in xs_poly ys_poly e = absurd (omega (arith, ap length e))
-      rows_from_read (x ∷ xs) (y ∷ ys) xs_in ys_in xs_poly ys_poly e =
-          let first : read_row k (suc (p.n - 1)) x ≡ read_row k (suc (p.n - 1)) y = cc in
-          let rest : read_rows k p.n xs ≡ read_rows k p.n ys = cc in
-          ap₂ ◌∷◌
-          (same_from_read k p.n x y (All-head (IsRow k.ops p.n) x xs xs_in) (All-head (IsRow k.ops p.n) y ys ys_in)
-          (All-head (All IsPoly) x xs xs_poly) (All-head (All IsPoly) y ys ys_poly) first)
-          (rows_from_read xs ys (All-tail (IsRow k.ops p.n) x xs xs_in) (All-tail (IsRow k.ops p.n) y ys ys_in)
-          (All-tail (All IsPoly) x xs xs_poly) (All-tail (All IsPoly) y ys ys_poly) rest)
-
       pub one_form : 0 < p.n → l ≡ l'
       one_form positive =
           ap₂ (λ xs d. record { rows = xs; den = d })
-          (rows_from_read l.rows l'.rows lattice.rows_in lattice'.rows_in (popov_poly p.n l.rows lattice.popov)
-          (popov_poly p.n l'.rows lattice'.popov)
-          (popov_unique M (code_domain k) (read_rows k p.n l.rows) (read_rows k p.n l'.rows)
-          (basis_popov k p.n l.rows lattice.rows_in lattice.popov positive)
-          (basis_popov k p.n l'.rows lattice'.rows_in lattice'.popov positive) spans_same))
+          (one_basis l.den (D_some l lattice) l.rows l'.rows lattice.rows_in lattice'.rows_in lattice.popov
+          lattice'.popov
+          (λ z. subst (λ d. InSpanOf k p (elems_over l.rows l.den) z ↔ InSpanOf k p (elems_over l'.rows d) z) den_same
+          (same z)) positive)
           (sym den_same)

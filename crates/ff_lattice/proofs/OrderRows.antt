@@ -1,5 +1,5 @@
 -- Orders by their rows.
-use Rattle.std.proofs.Common.{◌≡◌, ℕ, ◌+◌, ◌<◌, ◌≤◌, ◌⊎◌, inl, inr, List, [], ◌∷◌, get_or, map, sym, ap, ◌∙◌, subst, arith, All, false, true, Some, eq-or-lt_of_le}
+use Rattle.std.proofs.Common.{◌≡◌, ℕ, ◌+◌, ◌<◌, ◌≤◌, ◌⊎◌, inl, inr, List, [], ◌∷◌, get_or, map, refl, sym, ap, ◌∙◌, subst, arith, All, false, true, Some, eq-or-lt_of_le}
 use Rattle.std.specs.Prelude.{slice_get}
 use Rattle.std.proofs.lemmas.List.Elements.{All-nil, All-cons, All-head, All-tail}
 use Rattle.std.proofs.lemmas.Option.{get_or_from_slice_get}
@@ -8,7 +8,8 @@ use Rattle.ring_theory.specs.Subsets.{IsSubring, IsModule, Span}
 use Rattle.ring_lemmas.proofs.Ring.{mul_zero}
 use Rattle.ring_theory.proofs.Subsets.{span_zero, span_sum, span_scale, span_least, span_members}
 use Rattle.ff_fields.specs.Field.{CodeField}
-use Rattle.function_field.specs.Functions.{IsPolynomial}
+use Rattle.ff_poly.specs.Polynomials.{Polynomial}
+use Rattle.function_field.specs.Functions.{IsPolynomial, of_poly}
 use Rattle.function_field.specs.Values.{ElemValue, PresValue, Functions, functions, function_of, equation_of}
 use Rattle.function_field.proofs.ScalarRings.{polynomials_subring}
 use Rattle.ff_lattice.specs.Lattices.{LatticeValue, IsLattice, Contains, InSpanOf, row_elems}
@@ -123,3 +124,9 @@ module _ (k : CodeField) (p : PresValue) where
           o.product_in (f (get_or (row_elems l) i d)) (f (get_or (row_elems l) j e)) (rows_members i d less)
           (rows_members j e less');
     }
+
+    -- a lattice that contains 1 contains the polynomials
+    pub polynomial_in : L F.𝟙 → (a : Polynomial k) → L (of_poly (equation_of k p) a)
+    polynomial_in one_in a =
+        subst L (F.mul_one (of_poly (equation_of k p) a))
+        (span_scale F T 𝓢 gens (of_poly (equation_of k p) a) F.𝟙 (record { polynomial = a; value = refl }) one_in)

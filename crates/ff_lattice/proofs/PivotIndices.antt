@@ -45,7 +45,7 @@ use Rattle.function_field.specs.Values.{PresValue, Functions, functions, functio
 use Rattle.function_field.proofs.ScalarRings.{polynomials_subring, of_poly_one}
 use Rattle.function_field.proofs.OnSide.{of_poly_plus, of_poly_times, of_poly_zero}
 use Rattle.ff_lattice.specs.Lattices.{LatticeValue, IsLattice, Contains, row_elems, pivot_degree_of}
-use Rattle.ff_lattice.specs.Indices.{space_ops, HasIndex}
+use Rattle.function_field.specs.Indices.{space_ops, HasIndex}
 use Rattle.ff_lattice.proofs.Fracs.{over_zero, over_eq}
 use Rattle.ff_lattice.proofs.Members.{Member, member_numerator, frac_add, frac_scale, overs}
 use Rattle.ff_lattice.proofs.Elements.{in_span_of}
@@ -91,7 +91,7 @@ module _ (k : CodeField) (p : PresValue) where
   abbrev space : Module (code_ring k).ring (Functions k p)
   space = restricted (code_ring k).ring (functions k p) code_of code_hom
 
-  lattice_subspace : (l : LatticeValue) → IsSubspace (space_ops k p) (Contains k p l)
+  lattice_subspace : (l : LatticeValue) → IsSubspace (space_ops (equation_of k p)) (Contains k p l)
   lattice_subspace l =
       let gens = map (function_of k p) (row_elems l) in
       record {
@@ -101,8 +101,8 @@ module _ (k : CodeField) (p : PresValue) where
             (record { polynomial = constant (code_ring k) a; value = refl }) v_in;
       }
 
-  pub index_once : (l : LatticeValue) (B : Functions k p → Type 0) (g h : ℕ) → HasIndex k p (Contains k p l) B g
-      → HasIndex k p (Contains k p l) B h → g ≡ h
+  pub index_once : (l : LatticeValue) (B : Functions k p → Type 0) (g h : ℕ)
+      → HasIndex (equation_of k p) (Contains k p l) B g → HasIndex (equation_of k p) (Contains k p l) B h → g ≡ h
   index_once l B g h i j = sym i.count ∙ bases_same_length (domain_of codes) space (Contains k p l) (lattice_subspace l)
       B i.basis j.basis i.is j.is ∙ j.count
 
@@ -133,14 +133,14 @@ module _ (k : CodeField) (p : PresValue) where
     part_neg v = neg_unique F _ _ (frac_add c d some v _ ∙ ap part (v_add_neg M v) ∙ part_zero)
 
     part_combine : (e : ℕ → Code k) (rs : List (Row (Polynomial k) (suc (p.n - 1))))
-        → part (scalar_combine M e rs) ≡ combine (space_ops k p) e (overs c d some rs)
+        → part (scalar_combine M e rs) ≡ combine (space_ops (equation_of k p)) e (overs c d some rs)
     part_combine e [] = part_zero
     part_combine e (r ∷ rs) = sym (frac_add c d some _ _)
         ∙ ap₂ F.◌⊕◌ (sym (frac_scale c d some (constant (code_ring k) (e 0)) r)) (part_combine (tail_of e) rs)
 
     -- a basis of the rows is one of the functions
     row_basis : (g : List (Row (Polynomial k) (suc (p.n - 1)))) → IsBasisModulo M (InSpan M b.rows) (InSpan M a.rows) g
-        → IsBasis (code_ring k).ops (space_ops k p) A B (overs c d some g)
+        → IsBasis (code_ring k).ops (space_ops (equation_of k p)) A B (overs c d some g)
     row_basis g h = record {
       members_in = All-map B part g (All-from_get_or (λ v. B (part v)) g M.𝟎 (λ i l. part_in _ (h.members i)));
       spanning = λ z z_in.
@@ -148,7 +148,7 @@ module _ (k : CodeField) (p : PresValue) where
           let e = h.scalars t.numerator t.in_rows in
           record {
             coefficient = e;
-            rest = F.◌⊕◌ z (F.⊖◌ (combine (space_ops k p) e (overs c d some g)));
+            rest = F.◌⊕◌ z (F.⊖◌ (combine (space_ops (equation_of k p)) e (overs c d some g)));
             rest_in =
                 subst A (sym (frac_add c d some t.numerator _)
                 ∙ ap₂ F.◌⊕◌ (sym t.is) (part_neg _ ∙ ap F.⊖◌ (part_combine e g)))
@@ -169,7 +169,7 @@ module _ (k : CodeField) (p : PresValue) where
     dimension : Dimension M a.rows b.rows
     dimension = dimension_of M (code_field k) a.rows b.rows a.popov b.popov rows_within
 
-    index_at : HasIndex k p A B (length dimension.basis)
+    index_at : HasIndex (equation_of k p) A B (length dimension.basis)
     index_at = record {
       basis = overs c d some dimension.basis;
       is = row_basis dimension.basis dimension.is;
@@ -333,7 +333,7 @@ module _ (k : CodeField) (p : PresValue) where
       pub number : ℕ
       number = length between.basis
 
-      pub index_number_is : HasIndex k p (Contains k p a) (Contains k p b) number
+      pub index_number_is : HasIndex (equation_of k p) (Contains k p a) (Contains k p b) number
       unfolding number
       index_number_is = index_at (Contains k p a) (Contains k p b) common common_some left right within
 
@@ -345,13 +345,13 @@ module _ (k : CodeField) (p : PresValue) where
           (length b.rows * (length b.den - 1)) (length a.rows * (length a.den - 1))
           (omega (arith, between.size, left_degree, right_degree))
 
-      pub index_is : (g : ℕ) → HasIndex k p (Contains k p a) (Contains k p b) g
+      pub index_is : (g : ℕ) → HasIndex (equation_of k p) (Contains k p a) (Contains k p b) g
           ↔ (pos g ≡ pivot_degree_of a -ℤ pivot_degree_of b)
       index_is g = (
         λ i. ap pos (index_once a (Contains k p b) g number i index_number_is) ∙ number_is,
         λ e.
             let same : number ≡ g = omega (arith, ints, number_is, e) in
-            subst (HasIndex k p (Contains k p a) (Contains k p b)) same index_number_is,
+            subst (HasIndex (equation_of k p) (Contains k p a) (Contains k p b)) same index_number_is,
       )
 
       same_members : pivot_degree_of a ≡ pivot_degree_of b → (z : Functions k p) → Contains k p a z ↔ Contains k p b z

@@ -1,14 +1,17 @@
 -- The steps of the calls that read codes and combine rows by codes.
-use Rattle.std.proofs.Common.{◌≡◌, ℕ, zero, suc, ◌+◌, ◌-◌, ◌*◌, ◌/◌, ◌%◌, ◌<◌, ◌≤◌, true, false, nat_lt, List, [], ◌∷◌, ◌++◌, length, get_or, drop, take, max, refl, sym, ap, ap₂, ◌∙◌, arith, append_assoc}
-use Rattle.std.proofs.lemmas.Bool.{lt-ltb, le-ltb}
+use Rattle.std.proofs.Common.{◌≡◌, ℕ, zero, suc, ◌+◌, ◌-◌, ◌*◌, ◌/◌, ◌%◌, ◌<◌, ◌≤◌, ◌⊎◌, inl, inr, subst, Bool, true, false, cond, nat_lt, List, [], ◌∷◌, ◌++◌, length, get_or, drop, take, max, replicate, refl, sym, ap, ap₂, ◌∙◌, arith, append_assoc, All}
+use Rattle.std.proofs.lemmas.List.Elements.{All-nil, All-cons, All-replicate}
+use Rattle.std.proofs.lemmas.Bool.{lt-ltb, le-ltb, cases_lt}
 use Rattle.std.proofs.lemmas.Nat.{div-mul-add, mod-mul-add}
 use Rattle.std.proofs.Math.Nat.{le-max_left}
 use Rattle.ff_fields.specs.Field.{FieldOps, CodeField}
+use Rattle.ff_poly.specs.Words.{IsPoly}
+use Rattle.ff_poly.specs.Terms.{less_multiple, IsPoly_less_multiple}
 use Rattle.ff_poly.specs.Popov.{entry_at, row_at, longest, IsRow, IsPopov}
 use Rattle.ff_popov.proofs.ReadRows.{same_row}
 use Rattle.ff_popov.specs.Rows.{IsRowLess}
 use Rattle.ff_popov.proofs.Transformations.{less_row}
-use Rattle.ff_lattice.specs.PositionLists.{pivot_length, row_less, is_outside, is_kept, cleared, code_count, codes_below, spread_onto, IsReadDown, IsSpreadDown}
+use Rattle.ff_lattice.specs.PositionLists.{IsDeepest, pivot_length, row_less, is_outside, is_kept, lift_power, cleared, code_count, codes_below, spread_onto, IsReadDown, IsSpreadDown}
 use Rattle.ff_lattice.proofs.PositionCodes.{cond_true, cond_false, row_less_length, row_less_at, row_less_is}
 
 -- a row with the entries of a row less a multiple
@@ -17,6 +20,53 @@ pub row_less_from : (k : FieldOps) (a : List (List ℕ)) (c s : ℕ) (b row : Li
 row_less_from k a c s b row h =
     same_row row (row_less k a c s b) (h.size ∙ sym (row_less_length k a c s b))
     (λ j less. h.entries j (omega (arith, less, h.size)) ∙ sym (row_less_at k a c s b j (omega (arith, less, h.size))))
+
+-- what rows less multiples and combinations of rows are made of has no zero on top
+row_less_poly : (k : FieldOps) (a : List (List ℕ)) (c s : ℕ) (b : List (List ℕ)) → All IsPoly (row_less k a c s b)
+row_less_poly k [] c s b = All-nil IsPoly
+row_less_poly k (u ∷ a) c s [] = All-cons IsPoly (less_multiple k u c s []) (row_less k a c s [])
+    (IsPoly_less_multiple k u c s []) (row_less_poly k a c s [])
+row_less_poly k (u ∷ a) c s (v ∷ b) = All-cons IsPoly (less_multiple k u c s v) (row_less k a c s b)
+    (IsPoly_less_multiple k u c s v) (row_less_poly k a c s b)
+
+cond_poly : (x y : Bool) (a b : List (List ℕ)) → All IsPoly a → All IsPoly b → All IsPoly (cond x a (cond y b a))
+cond_poly true y a b a_poly b_poly = a_poly
+cond_poly false true a b a_poly b_poly = b_poly
+cond_poly false false a b a_poly b_poly = a_poly
+
+spread_onto_poly : (n : ℕ) (W J : List (List (List ℕ))) (k : FieldOps) (rows : List (List (List ℕ))) (e : ℕ)
+    (a : List ℕ) (row : List (List ℕ)) → All IsPoly row → All IsPoly (spread_onto n W J k rows e a row)
+spread_onto_poly n W J k rows zero a row h = h
+spread_onto_poly n W J k rows (suc e) a row h =
+    let less = row_less k row (k.neg (get_or a 0 0)) (lift_power n W J W e) (row_at rows (e % n)) in
+    cond_poly (is_outside n W J e) (is_kept n W J e) (spread_onto n W J k rows e a row)
+    (spread_onto n W J k rows e (drop 1 a) less)
+    (spread_onto_poly n W J k rows e a row h)
+    (spread_onto_poly n W J k rows e (drop 1 a) less
+    (row_less_poly k row (k.neg (get_or a 0 0)) (lift_power n W J W e) (row_at rows (e % n))))
+
+pub spread_poly : (n : ℕ) (W J : List (List (List ℕ))) (k : FieldOps) (rows : List (List (List ℕ))) (e : ℕ) (a : List ℕ)
+    → All IsPoly (spread_onto n W J k rows e a (replicate n []))
+spread_poly n W J k rows e a = spread_onto_poly n W J k rows e a (replicate n [])
+    (All-replicate IsPoly n [] (record { trimmed = tt }))
+
+pub deepest_none : (rows : List (List (List ℕ))) → IsDeepest rows 0 0
+deepest_none rows = record { bound = λ j less. absurd (omega (arith, less)); least = λ d h. omega arith }
+
+-- the greatest length with one pivot more
+pub deepest_more : (rows : List (List (List ℕ))) (j most len next : ℕ) → IsDeepest rows j most
+    → len ≡ pivot_length rows j → most ≤ next → len ≤ next → (next ≡ most) ⊎ (next ≡ len) → IsDeepest rows (j + 1) next
+deepest_more rows j most len next h len_is most_le len_le one_of = record
+    { bound = λ i less. bound i less (cases_lt i j); least = λ d g. least d g one_of }
+  where
+    bound : (i : ℕ) → i < j + 1 → (i < j) ⊎ (j ≤ i) → pivot_length rows i ≤ next
+    bound i less (inl lower) = omega (arith, h.bound i lower, most_le)
+    bound i less (inr more) = subst (λ m. pivot_length rows m ≤ next) (omega (arith, less, more))
+        (subst (λ l. l ≤ next) len_is len_le)
+
+    least : (d : ℕ) → ((i : ℕ) → i < j + 1 → pivot_length rows i ≤ d) → (next ≡ most) ⊎ (next ≡ len) → next ≤ d
+    least d g (inl e) = omega (arith, e, h.least d (λ i less. g i (omega (arith, less))))
+    least d g (inr e) = omega (arith, e, len_is, g j (omega arith))
 
 -- a pivot is the longest entry of its row, so that its multiples fit
 pub pivot_fits : (n : ℕ) (rows : List (List (List ℕ))) (j t s bound : ℕ) → IsPopov n rows → j < n

@@ -91,7 +91,7 @@ module _ (k : CodeField) (q : QuotientValue) (h : IsFrame k q) where
       let same : length q.rows ≡ length q.order.rows = h.rows_popov.size ∙ sym h.order.lattice.popov.size in
       difference (dimension q) (pivot_degree q.order.rows) (pivot_degree q.rows)
       (length q.order.rows * (length q.order.den - 1))
-      (omega (arith, w, j, count_degrees n q.order.rows q.rows longer q.depth h.deep))
+      (omega (arith, w, j, count_degrees n q.order.rows q.rows longer q.depth h.deep.bound))
       ∙ ap (λ m. (pos (pivot_degree q.rows) -ℤ pos (m * (length q.order.den - 1))) -ℤ pivot_degree_of q.order)
       (sym same)
       ∙ ap (λ x. x -ℤ pivot_degree_of q.order) (sym ideal_degree)

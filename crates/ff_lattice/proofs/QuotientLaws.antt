@@ -291,7 +291,7 @@ module _ (k : CodeField) (q : QuotientValue) (h : IsFrame k q) where
   class_of_row v v_row v_in = record {
     codes = record {
       size = codes_length k n h.positive W J lattice.rows_in h.rows_in lattice.popov h.rows_popov all v
-          ∙ ap (code_count n W J) all_is ∙ count_past n h.positive W J q.depth h.deep rest;
+          ∙ ap (code_count n W J) all_is ∙ count_past n h.positive W J q.depth h.deep.bound rest;
       over = codes_over k n h.positive W J lattice.rows_in h.rows_in lattice.popov h.rows_popov all v v_row;
     };
     difference =
@@ -328,7 +328,7 @@ module _ (k : CodeField) (q : QuotientValue) (h : IsFrame k q) where
 
       short : row_of_codes k n h.positive W J lattice.rows_in h.rows_in lattice.popov h.rows_popov all a
           ≡ row_of_codes k n h.positive W J lattice.rows_in h.rows_in lattice.popov h.rows_popov E a
-      short = ap (λ e. L e a) all_is ∙ sum_past n h.positive W J q.depth h.deep M.◌⊞◌ M.𝟎
+      short = ap (λ e. L e a) all_is ∙ sum_past n h.positive W J q.depth h.deep.bound M.◌⊞◌ M.𝟎
           (λ x s j. M.◌·◌ (value k (term x s)) (R (row_at W j))) rest a
 
   -- what codes are lifted to is in the order

@@ -15,7 +15,7 @@ use Rattle.ff_popov.proofs.Entries.{any_default}
 use Rattle.function_field.specs.Functions.{IsPolynomial}
 use Rattle.function_field.specs.Values.{ElemValue, PresValue, Functions, functions, function_of, equation_of}
 use Rattle.ff_lattice.specs.Lattices.{LatticeValue, IsLattice, Contains, InSpanOf, IsFull, elems_over, row_elems}
-use Rattle.ff_lattice.specs.Quotients.{IsRowOf, IsRowsOf, AreProducts}
+use Rattle.ff_lattice.specs.Quotients.{IsRowOf, IsRowsOf, AreRowProducts, AreProducts}
 use Rattle.ff_lattice.proofs.Divisors.{monic_value}
 use Rattle.ff_lattice.proofs.Normal.{popov_poly}
 use Rattle.ff_lattice.proofs.Pushes.{rows_push}
@@ -32,6 +32,17 @@ pub read_matrix : (ms : List (Vec (Vec (List ℕ)))) (i : ℕ) (m : Vec (Vec (Li
 read_matrix ms i m less is = ap (λ m. rows_of m.items) is ∙ sym (get_or-map (λ m. rows_of m.items) ms i m [] less)
 
 -- one row more
+-- one list of rows more of the same
+pub copied_matrices : (old new ms : List (Vec (Vec (List ℕ)))) (i : ℕ) (m v : Vec (Vec (List ℕ)))
+    → matrices_of old ≡ take i (matrices_of ms) → i < length ms → m ≡ get_or ms i m → rows_of v.items ≡ rows_of m.items
+    → new ≡ old ++ v ∷ []
+    → matrices_of new ≡ take (i + 1) (matrices_of ms)
+copied_matrices old new ms i m v so_far less m_is v_is new_is =
+    let more : i < length (matrices_of ms) = omega (arith, less, length-map ms (λ m. rows_of m.items)) in
+    ap matrices_of new_is ∙ map_join (λ m. rows_of m.items) old (v ∷ [])
+    ∙ ap₂ (λ xs x. xs ++ x ∷ []) so_far (v_is ∙ read_matrix ms i m less m_is)
+    ∙ sym (take_more (matrices_of ms) i [] more)
+
 pub rows_more : (f : List (List (List ℕ)) → List (List ℕ)) (products : List (List (List (List ℕ))))
     (old new : List (Vec (List ℕ))) (q : Vec (List ℕ)) (i : ℕ) (rows : List (List (List ℕ))) → i < length products
     → rows ≡ get_or products i [] → q.items ≡ f rows → new ≡ old ++ q ∷ [] → rows_of old ≡ map f (take i products)
@@ -135,23 +146,61 @@ module _ (k : CodeField) (p : PresValue) (l : LatticeValue) where
         (omega (arith, less));
   }
 
-  pub products_push : (count : ℕ) (ms : List (List (List (List ℕ)))) (gens : List ElemValue) (z : ElemValue)
-      (rows : List (List (List ℕ))) → AreProducts k p l count ms → count < length l.rows
-      → slice_get (row_elems l) count ≡ Some z
-      → map (function_of k p) gens ≡ map ((functions k p).◌⊗◌ (function_of k p z)) (map (function_of k p) (row_elems l))
-      → IsRowsOf k p l gens rows → AreProducts k p l (count + 1) (ms ++ rows ∷ [])
-  products_push count ms gens z rows h count_less z_is gens_is r = record {
+  -- row i times each row
+  module _ (i : ℕ) (less : i < length l.rows) (gens : List ElemValue) (z : ElemValue)
+      (z_is : slice_get (row_elems l) i ≡ Some z)
+      (gens_is : map (function_of k p) gens
+      ≡ map ((functions k p).◌⊗◌ (function_of k p z)) (map (function_of k p) (row_elems l))) where
+    abbrev f : ElemValue → Functions k p
+    f x = function_of k p x
+
+    abbrev row : ℕ → ElemValue
+    row j = record { num = row_at l.rows j; den = l.den }
+
+    gens_size : length gens ≡ length l.rows
+    gens_size =
+        sym (length-map gens (function_of k p)) ∙ ap length gens_is
+        ∙ length-map (map (function_of k p) (row_elems l)) ((functions k p).◌⊗◌ (function_of k p z))
+        ∙ length-map (row_elems l) (function_of k p) ∙ elems_length l
+
+    z_row : z ≡ record { num = row_at l.rows i; den = l.den }
+    z_row = sym (get_or_from_slice_get (row_elems l) i z z z_is)
+        ∙ get_or_from_slice_get (row_elems l) i (record { num = row_at l.rows i; den = l.den }) z
+        (elem_at l.rows l.den i less)
+
+    product_at : (j : ℕ) → j < length l.rows
+        → function_of k p (get_or gens j z) ≡ (functions k p).◌⊗◌ (function_of k p z)
+        (function_of k p (record { num = row_at l.rows j; den = l.den }))
+    product_at j j_less =
+        sym (get_or-map f gens j z (f z) (omega (arith, j_less, gens_size)))
+        ∙ ap (λ xs. get_or xs j (f z)) gens_is
+        ∙ get_or-map ((functions k p).◌⊗◌ (f z)) (map f (row_elems l)) j (f z) (f z)
+        (omega (arith, j_less, length-map (row_elems l) f, elems_length l))
+        ∙ ap ((functions k p).◌⊗◌ (f z))
+        (get_or-map f (row_elems l) j z (f z) (omega (arith, j_less, elems_length l))
+        ∙ ap f (get_or_from_slice_get (row_elems l) j (row j) z (elem_at l.rows l.den j j_less)))
+
+    pub row_products : (rows : List (List (List ℕ))) → IsRowsOf k p l gens rows → AreRowProducts k p l i rows
+    row_products rows r = record {
+      size = r.size ∙ gens_size;
+      are = λ j j_less.
+          subst (λ x. IsRowOf k p l x (row_at rows j))
+          (product_at j j_less ∙ ap (λ x. (functions k p).◌⊗◌ (f x) (f (row j))) z_row)
+          (r.each j z (omega (arith, j_less, gens_size)));
+    }
+
+  -- a row of the lattice as a function
+  abbrev w : ℕ → Functions k p
+  w i = function_of k p (record { num = row_at l.rows i; den = l.den })
+
+  pub products_push : (count : ℕ) (ms : List (List (List (List ℕ)))) (rows : List (List (List ℕ)))
+      → AreProducts k p l count ms → AreRowProducts k p l count rows → AreProducts k p l (count + 1) (ms ++ rows ∷ [])
+  products_push count ms rows h r = record {
     size = length-append ms (rows ∷ []) ∙ ap (λ m. m + 1) h.size;
     each = λ i less. each i less (cases_lt i count);
     are = λ i j less j_less. are i j less j_less (cases_lt i count);
   }
     where
-      f : ElemValue → Functions k p
-      f x = function_of k p x
-
-      row : ℕ → ElemValue
-      row i = record { num = row_at l.rows i; den = l.den }
-
       at_old : (i : ℕ) → i < count → get_or (ms ++ rows ∷ []) i [] ≡ get_or ms i []
       at_old i lower = get_or_append_left ms (rows ∷ []) [] i (omega (arith, lower, h.size))
 
@@ -161,45 +210,18 @@ module _ (k : CodeField) (p : PresValue) (l : LatticeValue) where
           get_or-append_right ms (rows ∷ []) (length ms) i [] refl (omega (arith, more, h.size))
           ∙ ap (λ m. get_or (rows ∷ []) m []) last
 
-      gens_size : length gens ≡ length l.rows
-      gens_size =
-          sym (length-map gens (function_of k p)) ∙ ap length gens_is
-          ∙ length-map (map (function_of k p) (row_elems l)) ((functions k p).◌⊗◌ (function_of k p z))
-          ∙ length-map (row_elems l) (function_of k p) ∙ elems_length l
-
       each : (i : ℕ) → i < count + 1 → (i < count) ⊎ (count ≤ i)
           → length (get_or (ms ++ rows ∷ []) i []) ≡ length l.rows
       each i less (inl lower) = ap length (at_old i lower) ∙ h.each i lower
-      each i less (inr more) = ap length (at_new i less more) ∙ r.size ∙ gens_size
-
-      z_row : z ≡ record { num = row_at l.rows count; den = l.den }
-      z_row = sym (get_or_from_slice_get (row_elems l) count z z z_is)
-          ∙ get_or_from_slice_get (row_elems l) count (record { num = row_at l.rows count; den = l.den }) z
-          (elem_at l.rows l.den count count_less)
-
-      product_at : (j : ℕ) → j < length l.rows
-          → function_of k p (get_or gens j z) ≡ (functions k p).◌⊗◌ (function_of k p z)
-          (function_of k p (record { num = row_at l.rows j; den = l.den }))
-      product_at j less =
-          sym (get_or-map f gens j z (f z) (omega (arith, less, gens_size)))
-          ∙ ap (λ xs. get_or xs j (f z)) gens_is
-          ∙ get_or-map ((functions k p).◌⊗◌ (f z)) (map f (row_elems l)) j (f z) (f z)
-          (omega (arith, less, length-map (row_elems l) f, elems_length l))
-          ∙ ap ((functions k p).◌⊗◌ (f z))
-          (get_or-map f (row_elems l) j z (f z) (omega (arith, less, elems_length l))
-          ∙ ap f (get_or_from_slice_get (row_elems l) j (row j) z (elem_at l.rows l.den j less)))
+      each i less (inr more) = ap length (at_new i less more) ∙ r.size
 
       are : (i j : ℕ) → i < count + 1 → j < length l.rows → (i < count) ⊎ (count ≤ i)
           → IsRowOf k p l ((functions k p).◌⊗◌ (function_of k p (record { num = row_at l.rows i; den = l.den }))
           (function_of k p (record { num = row_at l.rows j; den = l.den })))
           (row_at (get_or (ms ++ rows ∷ []) i []) j)
-      are i j less j_less (inl lower) = subst
-          (λ m. IsRowOf k p l ((functions k p).◌⊗◌ (f (row i)) (f (row j))) (row_at m j)) (sym (at_old i lower))
-          (h.are i j lower j_less)
+      are i j less j_less (inl lower) = subst (λ m. IsRowOf k p l ((functions k p).◌⊗◌ (w i) (w j)) (row_at m j))
+          (sym (at_old i lower)) (h.are i j lower j_less)
       are i j less j_less (inr more) =
           let here : count ≡ i = omega (arith, less, more) in
-          subst (λ m. IsRowOf k p l ((functions k p).◌⊗◌ (f (row i)) (f (row j))) (row_at m j))
-          (sym (at_new i less more))
-          (subst (λ x. IsRowOf k p l x (row_at rows j))
-          (product_at j j_less ∙ ap (λ x. (functions k p).◌⊗◌ (f x) (f (row j))) (z_row ∙ ap row here))
-          (r.each j z (omega (arith, j_less, gens_size))))
+          subst (λ m. IsRowOf k p l ((functions k p).◌⊗◌ (w i) (w j)) (row_at m j)) (sym (at_new i less more))
+          (subst (λ m. IsRowOf k p l ((functions k p).◌⊗◌ (w m) (w j)) (row_at rows j)) here (r.are j j_less))

@@ -1,6 +1,5 @@
 -- The functions that take one lattice into another: the colon of two lattices, for ideals their quotient (Cohen, A
--- Course in
--- Computational Algebraic Number Theory).
+-- Course in Computational Algebraic Number Theory).
 use Rattle.std.specs.Prelude.{ℕ, ◌↔◌, List, [], replicate, slice_set, All}
 use Rattle.ff_fields.specs.Field.{CodeField}
 use Rattle.ff_poly.specs.Words.{IsPoly}

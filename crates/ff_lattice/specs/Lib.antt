@@ -3,5 +3,6 @@ pub mod Orders
 pub mod PositionLists
 pub mod Quotients
 pub mod Steps
+pub mod Residues
 pub mod Colons
-pub mod Indices
+pub mod Units

@@ -1,9 +1,7 @@
 -- The normal form of a row of an order modulo an ideal, as a list of codes. The coefficient of x^t in column j stands
--- at the
--- position t·n + j. There is one code for each position at which a row of the order ends and none of the ideal, from
--- the highest
--- position down (Becker and Weispfenning, Gröbner Bases, on normal forms).
-use Rattle.std.specs.Prelude.{◌≡◌, ℕ, zero, suc, ◌-◌, ◌/◌, ◌%◌, Bool, cond, nat_lt, List, [], ◌∷◌, ◌++◌, length, get_or, drop}
+-- at the position t·n + j. There is one code for each position at which a row of the order ends and none of the ideal,
+-- from the highest position down (Becker and Weispfenning, Gröbner Bases, on normal forms).
+use Rattle.std.specs.Prelude.{◌≡◌, ℕ, zero, suc, ◌-◌, ◌/◌, ◌%◌, ◌<◌, ◌≤◌, Bool, cond, nat_lt, List, [], ◌∷◌, ◌++◌, length, get_or, drop}
 use Rattle.ff_fields.specs.Field.{FieldOps}
 use Rattle.ff_poly.specs.Terms.{less_multiple}
 use Rattle.ff_poly.specs.Popov.{entry_at, row_at, IsRow}
@@ -11,6 +9,11 @@ use Rattle.ff_poly.specs.Popov.{entry_at, row_at, IsRow}
 -- the length of the pivot in a column
 abbrev pub pivot_length : List (List (List ℕ)) → ℕ → ℕ
 pivot_length rows j = length (entry_at (row_at rows j) j)
+
+-- the greatest length of the pivots in the first columns
+pub record IsDeepest (rows : List (List (List ℕ))) (count depth : ℕ) : Type 0 where
+  pub bound : (j : ℕ) → j < count → pivot_length rows j ≤ depth
+  pub least : (d : ℕ) → ((j : ℕ) → j < count → pivot_length rows j ≤ d) → depth ≤ d
 
 -- a row less c·x^s times another
 abbrev pub row_less : FieldOps → List (List ℕ) → ℕ → ℕ → List (List ℕ) → List (List ℕ)

@@ -9,14 +9,14 @@ use Rattle.function_field.specs.Values.{ElemValue, PresValue, IsPresOver, Functi
 use Rattle.ff_falg.specs.Algebras.{AlgebraOps, IsAlgebra, IsVector}
 use Rattle.ff_lattice.specs.Lattices.{LatticeValue, IsLattice, Contains, InSpanOf, elems_over}
 use Rattle.ff_lattice.specs.Orders.{IsOrderLattice}
-use Rattle.ff_lattice.specs.PositionLists.{pivot_length, code_count, codes_below, spread_onto}
+use Rattle.ff_lattice.specs.PositionLists.{IsDeepest, code_count, codes_below, spread_onto}
 
 -- a presentation, an order, an ideal, and what the quotient keeps of them
 pub record QuotientValue : Type 0 where
   pub p : PresValue
   pub order : LatticeValue
   pub ideal : LatticeValue
-  -- the rows of the ideal over the denominator of the order, and a bound of the lengths of their pivots
+  -- the rows of the ideal over the denominator of the order, and the greatest length of their pivots
   pub rows : List (List (List ℕ))
   pub depth : ℕ
   -- for each row of the order its products by the rows, over the denominator of the order
@@ -69,6 +69,23 @@ pub record IsRowOf (k : CodeField) (p : PresValue) (order : LatticeValue) (z : F
   pub row_poly : All IsPoly row
   pub is : function_of k p (record { num = row; den = order.den }) ≡ z
 
+-- the codes of a row for z, modulo the ideal that has these rows over the denominator of the order
+pub record AreCodesOf (k : CodeField) (p : PresValue) (order : LatticeValue) (rows : List (List (List ℕ))) (depth : ℕ)
+    (z : Functions k p) (codes : List ℕ) : Type 0 where
+  pub row : List (List ℕ)
+  pub row_is : IsRowOf k p order z row
+  pub are : codes ≡ codes_below p.n order.rows rows k.ops (max depth (longest row) * p.n) row
+
+-- the rows that stand for the products of row i of the order by all rows
+pub record AreRowProducts (k : CodeField) (p : PresValue) (order : LatticeValue) (i : ℕ) (rows : List (List (List ℕ))) :
+    Type 0 where
+  pub size : length rows ≡ length order.rows
+  pub are : (j : ℕ) → j < length order.rows
+      → IsRowOf k p order
+      ((functions k p).◌⊗◌ (function_of k p (record { num = row_at order.rows i; den = order.den }))
+      (function_of k p (record { num = row_at order.rows j; den = order.den })))
+      (row_at rows j)
+
 -- for the first rows of the order the rows that stand for their products by all rows
 pub record AreProducts (k : CodeField) (p : PresValue) (order : LatticeValue) (count : ℕ)
     (products : List (List (List (List ℕ)))) : Type 0 where
@@ -89,7 +106,7 @@ pub record IsFrame (k : CodeField) (q : QuotientValue) : Type 0 where
   pub rows_in : All (IsRow k.ops q.p.n) q.rows
   pub rows_popov : IsPopov q.p.n q.rows
   pub rows_are : (z : Functions k q.p) → Contains k q.p q.ideal z ↔ InSpanOf k q.p (elems_over q.rows q.order.den) z
-  pub deep : (j : ℕ) → j < q.p.n → pivot_length q.rows j ≤ q.depth
+  pub deep : IsDeepest q.rows q.p.n q.depth
   pub products_size : length q.products ≡ q.p.n
   pub products_each : (i : ℕ) → i < q.p.n → length (get_or q.products i []) ≡ q.p.n
   pub products_are : (i j : ℕ) → i < q.p.n → j < q.p.n

@@ -199,15 +199,14 @@ fn restricted_by_rows<K: SmallField>(
 {
     let mut found = start;
     for i in 0..b.len() {
-        let row = b.row(alloc, k, i)?;
+        let row = b.row(alloc, i)?;
         found = restricted(alloc, k, p, &found, &row, a)?;
     }
     Ok(found)
 }
 
 /// The functions whose products with the members of b are in a. It takes the time of a Popov basis of 2·n rows for each
-/// of
-/// the n rows of b, where n is the degree in y.
+/// of the n rows of b, where n is the degree in y.
 pub fn colon<K: SmallField>(
     alloc: Global,
     k: &K,

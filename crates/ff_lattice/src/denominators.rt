@@ -1,109 +1,14 @@
-//! Least denominators, and exact quotients.
+//! Exact quotients of rows by a common divisor.
 
-ghost use Rattle.std.specs.Prelude.{◌≡◌, ◌≢◌, ◌<◌, ◌≤◌, [], ◌∷◌, length, All, IfOk};
+ghost use Rattle.std.specs.Prelude.{◌≡◌, ◌≢◌, [], All, IfOk};
 ghost use Rattle.ff_fields.specs.Over.{IsOver};
-ghost use Rattle.ff_poly.specs.Words.{IsPoly, IsMonic, DividesList, product_of};
+ghost use Rattle.ff_poly.specs.Words.{IsPoly, DividesList, product_of};
 ghost use Rattle.ff_poly.specs.Popov.{rows_of, IsRow};
-ghost use Rattle.ff_lattice.specs.Steps.{IsAnnihilator, IsNext, IsRowMultiplier, IsLeastMultiplier, IsRowQuotient, IsQuotientOfRows};
+ghost use Rattle.ff_lattice.specs.Steps.{IsRowQuotient, IsQuotientOfRows};
 
-use crate::preimage::preimage_within;
 use ff_fields::field::SmallField;
 use ff_poly::{Poly, poly};
 use std::alloc::{AllocError, Global};
-
-/// A list of one row with one entry.
-fn single(alloc: Global, v: Poly) -> Result<Vec<Vec<Poly>>, AllocError>
-    ensures { IfOk result (λ rows. rows_of rows.items ≡ (v ∷ []) ∷ []) }
-{
-    let mut row = Vec::new(alloc);
-    row.push(v)?;
-    let mut rows = Vec::new(alloc);
-    rows.push(row)?;
-    Ok(rows)
-}
-
-/// The monic polynomial whose multiples are the u for which e divides u·v.
-fn annihilator<K: SmallField>(alloc: Global, k: &K, e: &Poly, v: &Poly) -> Result<Poly, AllocError>
-    requires e_in { IsOver (K.field k.now).ops e.now }
-    requires e_some { e.now ≢ [] }
-    requires v_in { IsOver (K.field k.now).ops v.now }
-    ensures { IfOk result (IsAnnihilator (K.field k.now).ops e.now v.now) }
-{
-    let (_, rest) = poly::divide(alloc, k, v, e)?;
-    let m = single(alloc, rest)?;
-    let ls = single(alloc, e.copy(alloc)?)?;
-    let basis = preimage_within(alloc, k, &m, &ls, 1, e.len())?;
-    let h = basis[0][0].copy(alloc)?;
-    Ok(h)
-}
-
-/// The monic polynomial whose multiples are the multiples u of h for which e divides u·v.
-fn next_multiplier<K: SmallField>(
-    alloc: Global,
-    k: &K,
-    e: &Poly,
-    h: &Poly,
-    v: &Poly,
-) -> Result<Poly, AllocError>
-    requires e_in { IsOver (K.field k.now).ops e.now }
-    requires e_some { e.now ≢ [] }
-    requires h_in { IsOver (K.field k.now).ops h.now }
-    requires h_poly { IsPoly h.now }
-    requires h_monic { IsMonic h.now }
-    requires v_in { IsOver (K.field k.now).ops v.now }
-    ensures { let k = (K.field k.now).ops in
-        IfOk result (IsNext k h.now (λ u. DividesList k e.now (product_of k u v.now))) }
-{
-    let product = poly::mul(alloc, k, h, v)?;
-    let more = annihilator(alloc, k, e, &product)?;
-    let next = poly::mul(alloc, k, h, &more)?;
-    Ok(next)
-}
-
-/// The monic polynomial whose multiples are the multiples u of h for which e divides u times each entry of the row.
-fn row_multiplier<K: SmallField>(
-    alloc: Global,
-    k: &K,
-    e: &Poly,
-    row: &[Poly],
-    h: Poly,
-) -> Result<Poly, AllocError>
-    requires e_in { IsOver (K.field k.now).ops e.now }
-    requires e_some { e.now ≢ [] }
-    requires row_in { All (IsOver (K.field k.now).ops) row.now }
-    requires h_in { IsOver (K.field k.now).ops h }
-    requires h_poly { IsPoly h }
-    requires h_monic { IsMonic h }
-    ensures { IfOk result (IsNext (K.field k.now).ops h (IsRowMultiplier (K.field k.now).ops e.now row.now)) }
-{
-    let mut next = h;
-    for v in row {
-        next = next_multiplier(alloc, k, e, &next, v)?;
-    }
-    Ok(next)
-}
-
-/// The monic polynomial whose multiples are the u for which e divides u times each entry of the rows. It takes the time
-/// of
-/// one Popov basis of two rows for each entry.
-pub(crate) fn least_multiplier<K: SmallField>(
-    alloc: Global,
-    k: &K,
-    rows: &[Vec<Poly>],
-    n: usize,
-    e: &Poly,
-) -> Result<Poly, AllocError>
-    requires rows_in { All (IsRow (K.field k.now).ops n) (rows_of rows.now) }
-    requires e_in { IsOver (K.field k.now).ops e.now }
-    requires e_some { e.now ≢ [] }
-    ensures { IfOk result (IsLeastMultiplier (K.field k.now).ops (rows_of rows.now) e.now) }
-{
-    let mut h = Poly::one(alloc)?;
-    for row in rows {
-        h = row_multiplier(alloc, k, e, row, h)?;
-    }
-    Ok(h)
-}
 
 /// The quotient of a by b, which divides it.
 pub(crate) fn exact_quotient<K: SmallField>(

@@ -110,10 +110,8 @@ pub(crate) fn numerators<K: SmallField>(
 
 impl Lattice {
     /// The lattice of all combinations of the generators over k[x]; NotFull exactly where their rank is below the
-    /// degree in
-    /// y. It takes the time of a Popov basis of the numerators over a common denominator, which has at most the degree
-    /// of
-    /// the product of the different denominators, and of the least denominator.
+    /// degree in y. It takes the time of a Popov basis of the numerators over a common denominator, which has at most
+    /// the degree of the product of the different denominators, and of the least denominator.
     pub fn from_generators<K: SmallField>(
         alloc: Global,
         k: &K,

@@ -27,7 +27,7 @@ fn has_rows<K: SmallField>(
         IfOk result (λ r. IsTrue r ↔ All (λ w. Contains k p.now l.now (function_of k p.now w)) (row_elems i.now)) }
 {
     for j in 0..i.len() {
-        let row = i.row(alloc, k, j)?;
+        let row = i.row(alloc, j)?;
         if !contains(alloc, k, l, &row)? {
             return Ok(false);
         }
@@ -50,7 +50,7 @@ fn takes_rows<K: SmallField>(
         IfOk result (λ r. IsTrue r ↔ All (λ z. TakesRowsIn k p.now i.now (function_of k p.now z)) (row_elems l.now)) }
 {
     for j in 0..l.len() {
-        let row = l.row(alloc, k, j)?;
+        let row = l.row(alloc, j)?;
         if !takes_rows_in(alloc, k, p, i, &row)? {
             return Ok(false);
         }
@@ -59,8 +59,7 @@ fn takes_rows<K: SmallField>(
 }
 
 /// Is the lattice an ideal of the order? It takes the time of n² products of rows, and of n² + n questions whether an
-/// element
-/// is in a lattice, where n is the degree in y.
+/// element is in a lattice, where n is the degree in y.
 pub fn is_ideal<K: SmallField>(
     alloc: Global,
     k: &K,

@@ -1,9 +1,9 @@
 //! Indices of lattices and dimensions of quotients, by pivot degrees.
 
 ghost use Rattle.std.specs.Prelude.{◌≡◌, ◌↔◌, ◌≤◌, ℕ, pos, ◌-ℤ◌};
-ghost use Rattle.function_field.specs.Values.{PresValue, Functions};
+ghost use Rattle.function_field.specs.Values.{PresValue, Functions, equation_of};
 ghost use Rattle.ff_lattice.specs.Lattices.{LatticeValue, IsLattice, Contains, pivot_degree_of};
-ghost use Rattle.ff_lattice.specs.Indices.{HasIndex};
+ghost use Rattle.function_field.specs.Indices.{HasIndex};
 ghost use Rattle.ff_lattice.specs.Quotients.{QuotientValue, IsQuotient, dimension};
 
 use crate::lattice::Lattice;
@@ -12,8 +12,7 @@ use ff_algebra::Pres;
 use ff_fields::field::SmallField;
 
 /// The dimension over k of a lattice modulo a smaller one is the difference of their pivot degrees, and no other
-/// number. Where
-/// the pivot degrees are the same, so are the lattices.
+/// number. Where the pivot degrees are the same, so are the lattices.
 pub fn index_law<K: SmallField>(k: &K, p: &Pres, a: &Lattice, b: &Lattice)
     requires a_form { IsLattice (K.field k.now).ops p.now.n a.now }
     requires b_form { IsLattice (K.field k.now).ops p.now.n b.now }
@@ -21,10 +20,10 @@ pub fn index_law<K: SmallField>(k: &K, p: &Pres, a: &Lattice, b: &Lattice)
     requires within { let k = K.field k.now in (z : Functions k p.now) → Contains k p.now a.now z
         → Contains k p.now b.now z }
     ensures index { let k = K.field k.now in
-        (g : ℕ) → HasIndex k p.now (Contains k p.now a.now) (Contains k p.now b.now) g
+        (g : ℕ) → HasIndex (equation_of k p.now) (Contains k p.now a.now) (Contains k p.now b.now) g
         ↔ (pos g ≡ pivot_degree_of a.now -ℤ pivot_degree_of b.now) }
     ensures exists { let k = K.field k.now in (g : ℕ)
-        × HasIndex k p.now (Contains k p.now a.now) (Contains k p.now b.now) g }
+        × HasIndex (equation_of k p.now) (Contains k p.now a.now) (Contains k p.now b.now) g }
     ensures same { pivot_degree_of a.now ≡ pivot_degree_of b.now → a.now ≡ b.now }
 {}
 

@@ -1,6 +1,7 @@
 //! The lattices: rows in Popov form over a denominator.
 
-ghost use Rattle.std.specs.Prelude.{◌≡◌, ◌≢◌, ◌<◌, ◌≤◌, length, All, IfOk, IfSome, MatchOption, slice_get, Some};
+ghost use Rattle.std.specs.Prelude.{◌≡◌, ◌≢◌, ℕ, ◌<◌, ◌≤◌, length, All, IfOk, IfSome, MatchOption, slice_get, Some};
+ghost use Rattle.ff_fields.specs.Field.{FieldOps};
 ghost use Rattle.ff_fields.specs.Over.{IsOver};
 ghost use Rattle.ff_poly.specs.Words.{IsPoly, IsMonic};
 ghost use Rattle.ff_poly.specs.Popov.{rows_of, IsRow, IsPopov, HasFullRank};
@@ -8,7 +9,8 @@ ghost use Rattle.function_field.specs.Values.{IsElem, IsMonicElem};
 ghost use Rattle.ff_lattice.specs.Lattices.{LatticeValue, IsForm, IsLattice, IsSpannedBy, elems_over, row_elems};
 ghost use Rattle.ff_lattice.specs.Steps.{IsReducedTo};
 
-use crate::denominators::{exact_quotient, least_multiplier, quotient_rows};
+use crate::denominators::{exact_quotient, quotient_rows};
+use crate::multipliers::least_multiplier;
 use crate::rows::{copy_row, copy_rows};
 use ff_algebra::Elem;
 use ff_fields::field::SmallField;
@@ -18,8 +20,7 @@ use std::alloc::{AllocError, Global};
 use std::marker::Model;
 
 /// A lattice of F, a module over k[x] of full rank: its Popov basis over one monic denominator of least degree. Over
-/// the
-/// infinite presentation the polynomials are those in 1/x.
+/// the infinite presentation the polynomials are those in 1/x.
 #[derive(Debug, Drop)]
 pub struct Lattice {
     rows: Vec<Vec<Poly>>,
@@ -62,16 +63,15 @@ impl Lattice {
     }
 
     /// Row i over the denominator, counted from 0.
-    pub fn row<K: SmallField>(&self, alloc: Global, k: &K, i: usize) -> Result<Elem, AllocError>
-        requires in_rows { i < length self.now.rows }
-        requires form { IsLattice (K.field k.now).ops (length self.now.rows) self.now }
+    pub fn row(&self, alloc: Global, i: usize) -> Result<Elem, AllocError>
+        requires { i < length self.now.rows }
         ensures row { IfOk result (λ z. slice_get (row_elems self.now) i ≡ Some z) }
-        ensures in_range { IfOk result (IsElem (K.field k.now).ops (length self.now.rows)) }
+        ensures in_range { IfOk result (λ z. (k : FieldOps) (n : ℕ) → IsLattice k n self.now → IsElem k n z) }
         ensures monic { IfOk result IsMonicElem }
     {
         let num = copy_row(alloc, &self.rows[i])?;
         let den = self.den.copy(alloc)?;
-        Ok(Elem::new(k, num, den))
+        Ok(Elem::over_monic(num, den))
     }
 
     /// An equal lattice, in memory of its own.

@@ -4,8 +4,9 @@
 //! transformation of rows in the making of a Popov basis; it takes time linear in the two rows.
 //!
 //! - `Lattice::from_generators` of m elements: a Popov basis of m rows, at most m·n·(d + 1) steps, and the least
-//!   denominator,
-//!   for each of the n² entries a Popov basis of two rows of two columns.
+//!   denominator:
+//! about e² products and sums of codes for each of the n² entries, where e is the degree of the common denominator, and
+//!   at most e³ more in all.
 //! - `sum`: that of 2·n generators. `product`: that of n², of the degree 2·d, and n² products of elements.
 //! - `colon`: for each row of the second lattice a Popov basis of 2·n rows of 2·n columns, of about the degree 3·d, and
 //!   where
@@ -21,8 +22,7 @@
 //!   `reduce`.
 //!
 //! Over the field of 7 elements with n = 4, two lattices of the pivot degree 128 take about 4,100 steps for their
-//! product and
-//! 4,200 to 12,000 for a colon; two with rows of the degree 128 take 14,500 and 16,000 to 46,600.
+//! product and 4,200 to 12,000 for a colon; two with rows of the degree 128 take 14,500 and 16,000 to 46,600.
 #![tactic(auto)]
 
 pub mod colons;
@@ -33,6 +33,7 @@ pub mod ideals;
 pub mod indices;
 pub mod lattice;
 pub mod multiples;
+mod multipliers;
 pub mod operations;
 pub mod order;
 mod positions;
@@ -40,8 +41,13 @@ mod preimage;
 pub mod quotient;
 mod rows;
 pub mod sets;
+pub mod unit;
 
+pub use colons::colon;
 pub use generators::LatticeFault;
 pub use lattice::Lattice;
+pub use multiples::scale;
+pub use operations::{product, sum};
 pub use order::Order;
 pub use quotient::Quotient;
+pub use sets::{contains, same_lattice};

@@ -12,8 +12,7 @@ use ff_poly::{Poly, poly};
 use std::alloc::{AllocError, Global};
 
 /// The functions num/den times a member of the lattice. The rows times num are already without two pivots in one
-/// column, so
-/// that it takes the time of a Popov basis without a step of reduction, and of the least denominator.
+/// column, so that it takes the time of a Popov basis without a step of reduction, and of the least denominator.
 pub fn scale<K: SmallField>(
     alloc: Global,
     k: &K,

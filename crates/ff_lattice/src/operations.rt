@@ -1,6 +1,6 @@
 //! Sums, products and multiples of lattices.
 
-ghost use Rattle.std.specs.Prelude.{◌≡◌, ◌≢◌, ◌↔◌, ◌≤◌, [], ◌++◌, length, map, All, IfOk, OnOk};
+ghost use Rattle.std.specs.Prelude.{◌≡◌, ◌≢◌, ◌↔◌, ◌≤◌, ℕ, [], ◌++◌, length, map, take, All, IfOk, OnOk, OnErr};
 ghost use Rattle.ring_theory.specs.Subsets.{Product};
 ghost use Rattle.ff_fields.specs.Over.{IsOver};
 ghost use Rattle.function_field.specs.Values.{PresValue, IsPresOver, IsElem, Functions, functions, function_of};
@@ -33,18 +33,13 @@ pub fn spanned<K: SmallField>(
     }
 }
 
-/// Appends the rows of the lattice, as elements.
-pub fn push_rows<K: SmallField>(
-    alloc: Global,
-    k: &K,
-    gens: &mut Vec<Elem>,
-    a: &Lattice,
-) -> Result<(), AllocError>
-    requires { IsLattice (K.field k.now).ops (length a.now.rows) a.now }
-    ensures { OnOk result (gens.new.items ≡ gens.old.items ++ row_elems a.now) }
+/// Appends the rows of the lattice, as elements. Where memory runs out, the first ones are appended.
+pub fn push_rows(alloc: Global, gens: &mut Vec<Elem>, a: &Lattice) -> Result<(), AllocError>
+    ensures all { OnOk result (gens.new.items ≡ gens.old.items ++ row_elems a.now) }
+    ensures first_ones { OnErr result ((m : ℕ) × (gens.new.items ≡ gens.old.items ++ take m (row_elems a.now))) }
 {
     for i in 0..a.len() {
-        gens.push(a.row(alloc, k, i)?)?;
+        gens.push(a.row(alloc, i)?)?;
     }
     Ok(())
 }
@@ -65,8 +60,8 @@ pub fn sum<K: SmallField>(
         → Contains k p.now l z ↔ IsSumOf k p.now (Contains k p.now a.now) (Contains k p.now b.now) z) }
 {
     let mut gens = Vec::with_capacity(alloc, 2 * p.n())?;
-    push_rows(alloc, k, &mut gens, a)?;
-    push_rows(alloc, k, &mut gens, b)?;
+    push_rows(alloc, &mut gens, a)?;
+    push_rows(alloc, &mut gens, b)?;
     spanned(alloc, k, p, &gens)
 }
 
@@ -90,7 +85,7 @@ pub(crate) fn push_products<K: SmallField>(
         ≡ map f gens.old.items ++ map ((functions k p.now).◌⊗◌ (f z.now)) (map f (row_elems b.now))) }
 {
     for j in 0..b.len() {
-        let row = b.row(alloc, k, j)?;
+        let row = b.row(alloc, j)?;
         gens.push(mul(alloc, k, p, z, &row)?)?;
     }
     Ok(())
@@ -115,7 +110,7 @@ pub fn product<K: SmallField>(
 {
     let mut gens = Vec::with_capacity(alloc, p.n() * p.n())?;
     for i in 0..a.len() {
-        let row = a.row(alloc, k, i)?;
+        let row = a.row(alloc, i)?;
         push_products(alloc, k, p, &mut gens, &row, b)?;
     }
     spanned(alloc, k, p, &gens)

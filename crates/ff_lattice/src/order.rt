@@ -1,13 +1,17 @@
 //! Orders: the lattices that are rings.
 
 ghost use Rattle.std.specs.Prelude.{◌≡◌, ◌↔◌, ◌≤◌, ◌<◌, [], ◌∷◌, length, All, IfOk, IfSome, IsSome, IsTrue};
-ghost use Rattle.function_field.specs.Values.{PresValue, IsPresOver, IsElem, IsMonicElem, Functions, functions, function_of};
+ghost use Rattle.ff_fields.specs.Over.{IsOver};
+ghost use Rattle.ff_poly.specs.Words.{IsPoly};
+ghost use Rattle.ff_poly.specs.Value.{value};
+ghost use Rattle.function_field.specs.Functions.{of_poly};
+ghost use Rattle.function_field.specs.Values.{PresValue, IsPresOver, IsElem, IsMonicElem, Functions, functions, function_of, equation_of};
 ghost use Rattle.ff_lattice.specs.Lattices.{LatticeValue, IsLattice, Contains, row_elems};
 ghost use Rattle.ff_lattice.specs.Orders.{IsOrderLattice, IsOrderByRows, TakesRowsIn};
 ghost use Rattle.ff_lattice.specs.Steps.{unit_row};
 
 use crate::lattice::Lattice;
-use crate::rows::unit_row;
+use crate::rows::{placed_row, unit_row};
 use crate::sets::contains;
 use ff_algebra::elem::mul;
 use ff_algebra::{Elem, Pres};
@@ -41,7 +45,26 @@ pub(crate) fn one_elem<K: SmallField>(alloc: Global, k: &K, n: usize) -> Result<
 {
     let num = unit_row(alloc, n, 0)?;
     let den = Poly::one(alloc)?;
-    Ok(Elem::new(k, num, den))
+    Ok(Elem::over_monic(num, den))
+}
+
+/// The polynomial as an element, with n numerators.
+pub(crate) fn polynomial_elem<K: SmallField>(
+    alloc: Global,
+    k: &K,
+    n: usize,
+    a: Poly,
+) -> Result<Elem, AllocError>
+    requires positive { 1 ≤ n }
+    requires a_in { IsOver (K.field k.now).ops a }
+    requires a_poly { IsPoly a }
+    ensures is { let k = K.field k.now in
+        IfOk result (λ z. (p : PresValue) → p.n ≡ n → function_of k p z ≡ of_poly (equation_of k p) (value k a)) }
+    ensures in_range { IfOk result (IsElem (K.field k.now).ops n) }
+{
+    let num = placed_row(alloc, n, 0, a)?;
+    let den = Poly::one(alloc)?;
+    Ok(Elem::over_monic(num, den))
 }
 
 /// The element y^i, with n numerators, of which there is one for y^i.
@@ -59,7 +82,7 @@ pub fn power_of_y<K: SmallField>(
 {
     let num = unit_row(alloc, n, i)?;
     let den = Poly::one(alloc)?;
-    Ok(Elem::new(k, num, den))
+    Ok(Elem::over_monic(num, den))
 }
 
 /// Are the products of z and the rows of the lattice members?
@@ -77,7 +100,7 @@ pub(crate) fn takes_rows_in<K: SmallField>(
         IfOk result (λ r. IsTrue r ↔ TakesRowsIn k p.now l.now (function_of k p.now z.now)) }
 {
     for j in 0..l.len() {
-        let row = l.row(alloc, k, j)?;
+        let row = l.row(alloc, j)?;
         let product = mul(alloc, k, p, z, &row)?;
         if !contains(alloc, k, l, &product)? {
             return Ok(false);
@@ -99,7 +122,7 @@ fn has_products<K: SmallField>(
         IfOk result (λ r. IsTrue r ↔ All (λ z. TakesRowsIn k p.now l.now (function_of k p.now z)) (row_elems l.now)) }
 {
     for i in 0..l.len() {
-        let row = l.row(alloc, k, i)?;
+        let row = l.row(alloc, i)?;
         if !takes_rows_in(alloc, k, p, l, &row)? {
             return Ok(false);
         }

@@ -3,7 +3,7 @@
 ghost use Rattle.std.specs.Prelude.{◌≡◌, ◌+◌, ◌-◌, ◌*◌, ◌^◌, ◌<◌, ◌≤◌, ℕ, suc, [], length, get_or, drop, max, replicate, All, IfOk, OnOk};
 ghost use Rattle.ff_fields.specs.Over.{IsOver};
 ghost use Rattle.ff_poly.specs.Popov.{rows_of, entry_at, row_at, longest, IsRow, IsPopov};
-ghost use Rattle.ff_lattice.specs.PositionLists.{pivot_length, row_less, code_count, codes_below, spread_onto, IsReadDown, IsSpreadDown};
+ghost use Rattle.ff_lattice.specs.PositionLists.{pivot_length, row_less, code_count, codes_below, spread_onto, IsDeepest, IsReadDown, IsSpreadDown};
 
 use crate::rows::zero_row;
 use ff_fields::field::SmallField;
@@ -44,7 +44,7 @@ fn pivot_len<K: SmallField>(k: &K, rows: &[Vec<Poly>], j: usize) -> usize
 /// The length of the longest pivot.
 pub(crate) fn deepest<K: SmallField>(k: &K, rows: &[Vec<Poly>]) -> usize
     requires { All (IsRow (K.field k.now).ops (length rows.now)) (rows_of rows.now) }
-    ensures { (j : ℕ) → j < length rows.now → pivot_length (rows_of rows.now) j ≤ result }
+    ensures { IsDeepest (rows_of rows.now) (length rows.now) result }
 {
     let mut most = 0;
     for j in 0..rows.len() {
@@ -152,8 +152,7 @@ pub(crate) fn longest_entry(row: &[Poly]) -> usize
 }
 
 /// The codes of a row modulo the ideal, whose pivots are at most so long. It takes the time of two subtractions of rows
-/// for
-/// each position of the row.
+/// for each position of the row.
 pub(crate) fn read_codes<K: SmallField>(
     alloc: Global,
     k: &K,

@@ -64,8 +64,7 @@ fn push_behind_zeros(
 }
 
 /// The rows of ls behind zeros, and then those of m behind the unit matrix, all times x to the power. Those of ls come
-/// first,
-/// so that the others are reduced by them before they are reduced by each other.
+/// first, so that the others are reduced by them before they are reduced by each other.
 fn twisted_rows(
     alloc: Global,
     m: &[Vec<Poly>],
@@ -121,10 +120,8 @@ fn corner(alloc: Global, rows: &[Vec<Poly>], n: usize) -> Result<Vec<Vec<Poly>>,
 }
 
 /// The Popov basis of the rows z with z·m in the lattice of ls, where the power of x is high enough; or None, which
-/// comes only
-/// below each length that multiples in the lattice have at most. A number of columns beyond the end of its type, which
-/// no memory
-/// holds, is a want of memory.
+/// comes only below each length that multiples in the lattice have at most. A number of columns beyond the end of its
+/// type, which no memory holds, is a want of memory.
 fn preimage_at<K: SmallField>(
     alloc: Global,
     k: &K,
@@ -155,8 +152,7 @@ fn preimage_at<K: SmallField>(
 }
 
 /// The power of x to begin with, for so many rows of the answer: the length of the longest entry of the rows, or the
-/// mean of
-/// the lengths that rows of the answer can have together, if that is more. No memory.
+/// mean of the lengths that rows of the answer can have together, if that is more. No memory.
 fn first_power(rows: &[Vec<Poly>], count: usize) -> usize
     requires { 0 < count }
     ensures { 0 < result }
@@ -172,10 +168,8 @@ fn first_power(rows: &[Vec<Poly>], count: usize) -> usize
 }
 
 /// The pivot degree of the rows and 1: each row of their width has a multiple in their lattice by a polynomial of at
-/// most so many
-/// codes. Where the number is beyond the end of its type the pivots have more codes than memory holds, and that is a
-/// want of
-/// memory.
+/// most so many codes. Where the number is beyond the end of its type the pivots have more codes than memory holds, and
+/// that is a want of memory.
 fn multiples_bound(rows: &[Vec<Poly>]) -> Result<usize, AllocError>
     requires { IsPopov (length rows.now) (rows_of rows.now) }
     ensures { IfOk result (λ bound. bound ≡ pivot_sum (rows_of rows.now) (length rows.now) + 1) }
@@ -211,13 +205,11 @@ fn last_preimage<K: SmallField>(
 }
 
 /// The Popov basis of the rows z with z·m in the lattice of the rows ls, in which each row of the width has a multiple
-/// by a
-/// polynomial of at most so many codes. It is read off the Popov basis of the rows of ls behind zeros and those of m
-/// behind the
-/// unit matrix, all times a power of x that is doubled until it is above the degree of the answer, and is the bound at
-/// the
-/// last; `first_power` mostly serves. It takes the time of that Popov basis, of as many rows as m and ls have.
-pub(crate) fn preimage_within<K: SmallField>(
+/// by a polynomial of at most so many codes. It is read off the Popov basis of the rows of ls behind zeros and those of
+/// m behind the unit matrix, all times a power of x that is doubled until it is above the degree of the answer, and is
+/// the bound at the last; `first_power` mostly serves. It takes the time of that Popov basis, of as many rows as m and
+/// ls have.
+fn preimage_within<K: SmallField>(
     alloc: Global,
     k: &K,
     m: &[Vec<Poly>],
@@ -244,8 +236,7 @@ pub(crate) fn preimage_within<K: SmallField>(
 }
 
 /// The Popov basis of the rows z with z·m in the lattice of the Popov basis ls, as `preimage_within` finds it for the
-/// pivot degree
-/// of ls. A bound beyond the end of its type is a want of memory, as `multiples_bound` says.
+/// pivot degree of ls. A bound beyond the end of its type is a want of memory, as `multiples_bound` says.
 pub(crate) fn preimage<K: SmallField>(
     alloc: Global,
     k: &K,

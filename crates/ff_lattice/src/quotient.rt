@@ -2,23 +2,26 @@
 
 ghost use Rattle.std.specs.Prelude.{◌≡◌, ◌↔◌, ◌≤◌, ◌<◌, ◌*◌, [], length, map, replicate, All, IfOk};
 ghost use Rattle.ff_fields.specs.Over.{IsOver};
+ghost use Rattle.ff_poly.specs.Polynomials.{x_poly};
 ghost use Rattle.ff_poly.specs.Popov.{rows_of, IsRow, IsPopov};
-ghost use Rattle.function_field.specs.Values.{PresValue, IsPresOver, Functions, functions, function_of, IsElem, IsMonicElem};
+ghost use Rattle.function_field.specs.Functions.{of_poly};
+ghost use Rattle.function_field.specs.Values.{PresValue, IsPres, IsPresOver, Functions, functions, function_of, equation_of, IsElem, IsMonicElem};
 ghost use Rattle.ff_falg.specs.Algebras.{IsVector};
 ghost use Rattle.ff_lattice.specs.Lattices.{LatticeValue, IsLattice, Contains, InSpanOf, elems_over};
 ghost use Rattle.ff_lattice.specs.Orders.{IsOrderLattice};
-ghost use Rattle.ff_lattice.specs.Quotients.{QuotientValue, IsQuotient, IsQuotientOver, IsClassOf, IsRowOf, IsRowsOf, IsIdealLattice, AreProducts, HasClasses, dimension, lifted, quotient_ops, spread};
+ghost use Rattle.ff_lattice.specs.Quotients.{QuotientValue, IsQuotient, IsQuotientOver, IsClassOf, IsRowOf, IsRowsOf, IsIdealLattice, AreCodesOf, AreRowProducts, AreProducts, HasClasses, dimension, lifted, quotient_ops, spread};
 
 use crate::denominators::row_quotient;
 use crate::lattice::Lattice;
 use crate::operations::{push_products, push_rows};
-use crate::order::{Order, one_elem};
+use crate::order::{Order, one_elem, polynomial_elem};
 use crate::positions::{deepest, read_codes, spread_codes};
-use crate::rows::multiple_row;
+use crate::rows::{copy_matrices, copy_rows, multiple_row};
 use ff_algebra::{Elem, Pres};
 use ff_falg::FiniteAlgebra;
 use ff_fields::field::SmallField;
 use ff_poly::Poly;
+use ff_poly::poly::shift;
 use ff_popov::popov;
 use std::alloc::{AllocError, Global};
 use std::marker::Model;
@@ -104,6 +107,50 @@ fn rows_over<K: SmallField>(
     Ok(rows)
 }
 
+/// The codes of z, which is in the order, modulo the ideal that has these rows over the order's denominator, with
+/// pivots at most so long.
+fn codes_of<K: SmallField>(
+    alloc: Global,
+    k: &K,
+    p: &Pres,
+    l: &Lattice,
+    rows: &[Vec<Poly>],
+    depth: usize,
+    z: &Elem,
+) -> Result<Vec<u32>, AllocError>
+    requires l_form { IsLattice (K.field k.now).ops p.now.n l.now }
+    requires rows_in { All (IsRow (K.field k.now).ops p.now.n) (rows_of rows.now) }
+    requires rows_popov { IsPopov p.now.n (rows_of rows.now) }
+    requires z_in { IsElem (K.field k.now).ops p.now.n z.now }
+    requires member { let k = K.field k.now in Contains k p.now l.now (function_of k p.now z.now) }
+    ensures { let k = K.field k.now in
+        IfOk result (λ v. AreCodesOf k p.now l.now (rows_of rows.now) depth (function_of k p.now z.now) v.items) }
+{
+    let mut row = row_over(alloc, k, p, l, z)?;
+    let codes = read_codes(alloc, k, &mut row, l.rows(), rows, depth)?;
+    Ok(codes)
+}
+
+/// The codes of 1.
+fn unit_codes<K: SmallField>(
+    alloc: Global,
+    k: &K,
+    p: &Pres,
+    l: &Lattice,
+    rows: &[Vec<Poly>],
+    depth: usize,
+) -> Result<Vec<u32>, AllocError>
+    requires order { IsOrderLattice (K.field k.now) p.now l.now }
+    requires rows_in { All (IsRow (K.field k.now).ops p.now.n) (rows_of rows.now) }
+    requires rows_popov { IsPopov p.now.n (rows_of rows.now) }
+    ensures codes { let k = K.field k.now in
+        IfOk result (λ v. AreCodesOf k p.now l.now (rows_of rows.now) depth (functions k p.now).𝟙 v.items) }
+    ensures range { IfOk result (λ v. IsPres p.now) }
+{
+    let unit = one_elem(alloc, k, p.n())?;
+    codes_of(alloc, k, p, l, rows, depth, &unit)
+}
+
 /// The Popov basis of the ideal's rows over the denominator of the order.
 fn ideal_basis<K: SmallField>(
     alloc: Global,
@@ -121,12 +168,31 @@ fn ideal_basis<K: SmallField>(
         → Contains k p.now i.now z ↔ InSpanOf k p.now (elems_over (rows_of rows.items) l.now.den) z) }
 {
     let mut gens = Vec::new(alloc);
-    push_rows(alloc, k, &mut gens, i)?;
+    push_rows(alloc, &mut gens, i)?;
     let rows = rows_over(alloc, k, p, l, &gens)?;
     match popov(alloc, k, rows, p.n())? {
         None => unreachable!(),
         Some(basis) => Ok(basis),
     }
+}
+
+/// The rows that stand for the products of row i of the order by the rows.
+fn products_of_row<K: SmallField>(
+    alloc: Global,
+    k: &K,
+    p: &Pres,
+    l: &Lattice,
+    i: usize,
+) -> Result<Vec<Vec<Poly>>, AllocError>
+    requires p_in { IsPresOver (K.field k.now).ops p.now }
+    requires order { IsOrderLattice (K.field k.now) p.now l.now }
+    requires in_rows { i < length l.now.rows }
+    ensures { let k = K.field k.now in IfOk result (λ rows. AreRowProducts k p.now l.now i (rows_of rows.items)) }
+{
+    let row = l.row(alloc, i)?;
+    let mut gens = Vec::new(alloc);
+    push_products(alloc, k, p, &mut gens, &row, l)?;
+    rows_over(alloc, k, p, l, &gens)
 }
 
 /// For each row of the order the rows that stand for its products by the rows.
@@ -143,10 +209,7 @@ fn product_rows<K: SmallField>(
 {
     let mut products = Vec::new(alloc);
     for i in 0..l.len() {
-        let row = l.row(alloc, k, i)?;
-        let mut gens = Vec::new(alloc);
-        push_products(alloc, k, p, &mut gens, &row, l)?;
-        products.push(rows_over(alloc, k, p, l, &gens)?)?;
+        products.push(products_of_row(alloc, k, p, l, i)?)?;
     }
     Ok(products)
 }
@@ -172,10 +235,8 @@ impl Quotient {
         let l = o.lattice();
         let rows = ideal_basis(alloc, k, p, l, i)?;
         let depth = deepest(k, &rows);
+        let one = unit_codes(alloc, k, p, l, &rows, depth)?;
         let products = product_rows(alloc, k, p, l)?;
-        let unit = one_elem(alloc, k, p.n())?;
-        let mut row = row_over(alloc, k, p, l, &unit)?;
-        let one = read_codes(alloc, k, &mut row, l.rows(), &rows, depth)?;
         let p = p.copy(alloc)?;
         let order = o.copy(alloc)?;
         let ideal = i.copy(alloc)?;
@@ -185,6 +246,27 @@ impl Quotient {
             ideal,
             rows,
             depth,
+            products,
+            one,
+        })
+    }
+
+    /// An equal quotient, in memory of its own.
+    pub fn copy(&self, alloc: Global) -> Result<Quotient, AllocError>
+        ensures { IfOk result (λ q. q ≡ self.now) }
+    {
+        let rows = copy_rows(alloc, &self.rows)?;
+        let products = copy_matrices(alloc, &self.products)?;
+        let one = Vec::from_slice(alloc, &self.one)?;
+        let p = self.p.copy(alloc)?;
+        let order = self.order.copy(alloc)?;
+        let ideal = self.ideal.copy(alloc)?;
+        Ok(Quotient {
+            p,
+            order,
+            ideal,
+            rows,
+            depth: self.depth,
             products,
             one,
         })
@@ -212,8 +294,7 @@ impl Quotient {
     }
 
     /// The codes of the class of a member of the order. It takes the time of one row division, and of two subtractions
-    /// of
-    /// rows for each position of the row.
+    /// of rows for each position of the row.
     pub fn reduce<K: SmallField>(
         &self,
         alloc: Global,
@@ -228,9 +309,19 @@ impl Quotient {
             IfOk result (λ a. IsClassOf k self.now (function_of k self.now.p z.now) a.items) }
     {
         let l = self.order.lattice();
-        let mut row = row_over(alloc, k, &self.p, l, z)?;
-        let codes = read_codes(alloc, k, &mut row, l.rows(), &self.rows, self.depth)?;
-        Ok(codes)
+        codes_of(alloc, k, &self.p, l, &self.rows, self.depth, z)
+    }
+
+    /// The codes of the class of x, which is in every order.
+    pub fn class_of_x<K: SmallField>(&self, alloc: Global, k: &K) -> Result<Vec<u32>, AllocError>
+        requires { IsQuotient (K.field k.now) self.now }
+        ensures { let k = K.field k.now in
+            IfOk result (λ a. IsClassOf k self.now (of_poly (equation_of k self.now.p) (x_poly k)) a.items) }
+    {
+        let one = Poly::one(alloc)?;
+        let x = shift(alloc, &one, 1)?;
+        let z = polynomial_elem(alloc, k, self.p.n(), x)?;
+        self.reduce(alloc, k, &z)
     }
 
     /// The combination of rows by the codes.
@@ -253,8 +344,7 @@ impl Quotient {
     }
 
     /// A member of the order of the class with these codes, of which there are as many as the dimension. It takes the
-    /// time
-    /// of a subtraction of rows for each code.
+    /// time of a subtraction of rows for each code.
     pub fn lift<K: SmallField>(&self, alloc: Global, k: &K, a: &[u32]) -> Result<Elem, AllocError>
         requires over { IsQuotient (K.field k.now) self.now }
         requires a_in { IsVector (K.field k.now).ops (dimension self.now) a.now }
@@ -267,7 +357,7 @@ impl Quotient {
         let l = self.order.lattice();
         let num = self.spread(alloc, k, l.rows(), a)?;
         let den = l.den().copy(alloc)?;
-        Ok(Elem::new(k, num, den))
+        Ok(Elem::over_monic(num, den))
     }
 }
 
@@ -315,12 +405,28 @@ impl<K: SmallField> FiniteAlgebra<K> for Quotient {
         let codes = read_codes(alloc, k, &mut row, rows, &self.rows, self.depth)?;
         Ok(codes)
     }
+
+    /// The class of x: where the ideal is generated by a polynomial, it leads from each class x^s·w of the basis to the
+    /// next.
+    fn generator(&self, alloc: Global, k: &K) -> Result<Vec<u32>, AllocError> {
+        self.class_of_x(alloc, k)
+    }
 }
 
 /// Taking classes keeps sums, products and 1, and takes exactly the ideal to 0; each class has one list of codes.
 pub fn classes_law<K: SmallField>(k: &K, q: &Quotient)
     requires { IsQuotient (K.field k.now) q.now }
     ensures { HasClasses (K.field k.now) q.now }
+{}
+
+/// A presentation, an order and an ideal have one quotient over a field: all that it keeps is the same.
+pub fn one_quotient<K: SmallField>(k: &K, q: &Quotient, r: &Quotient)
+    requires q_over { IsQuotient (K.field k.now) q.now }
+    requires r_over { IsQuotient (K.field k.now) r.now }
+    requires p { q.now.p ≡ r.now.p }
+    requires order { q.now.order ≡ r.now.order }
+    requires ideal { q.now.ideal ≡ r.now.ideal }
+    ensures { q.now ≡ r.now }
 {}
 
 /// A quotient is a commutative algebra with unit over the field that it was made over.

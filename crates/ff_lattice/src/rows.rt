@@ -1,6 +1,6 @@
 //! Rows of polynomials.
 
-ghost use Rattle.std.specs.Prelude.{◌≡◌, ◌<◌, [], map, replicate, All, IfOk};
+ghost use Rattle.std.specs.Prelude.{◌≡◌, ◌<◌, [], map, replicate, slice_set, All, IfOk};
 ghost use Rattle.ff_fields.specs.Over.{IsOver};
 ghost use Rattle.ff_poly.specs.Popov.{rows_of, IsRow, multiple_of_row};
 ghost use Rattle.ff_lattice.specs.Steps.{unit_row};
@@ -31,6 +31,21 @@ pub(crate) fn copy_rows(alloc: Global, rows: &[Vec<Poly>]) -> Result<Vec<Vec<Pol
     Ok(copies)
 }
 
+/// Equal lists of rows, in memory of their own.
+pub(crate) fn copy_matrices(
+    alloc: Global,
+    matrices: &[Vec<Vec<Poly>>],
+) -> Result<Vec<Vec<Vec<Poly>>>, AllocError>
+    ensures { IfOk result (λ copies. map (λ m. rows_of m.items) copies.items
+        ≡ map (λ m. rows_of m.items) matrices.now) }
+{
+    let mut copies = Vec::new(alloc);
+    for rows in matrices {
+        copies.push(copy_rows(alloc, rows)?)?;
+    }
+    Ok(copies)
+}
+
 /// n zeros.
 pub(crate) fn zero_row(alloc: Global, n: usize) -> Result<Vec<Poly>, AllocError>
     ensures { IfOk result (λ row. row.items ≡ replicate n []) }
@@ -49,6 +64,21 @@ pub(crate) fn unit_row(alloc: Global, n: usize, i: usize) -> Result<Vec<Poly>, A
 {
     let mut row = zero_row(alloc, n)?;
     row[i] = Poly::one(alloc)?;
+    Ok(row)
+}
+
+/// n polynomials, a at the position i and 0 elsewhere.
+pub(crate) fn placed_row(
+    alloc: Global,
+    n: usize,
+    i: usize,
+    a: Poly,
+) -> Result<Vec<Poly>, AllocError>
+    requires { i < n }
+    ensures { IfOk result (λ row. row.items ≡ slice_set (replicate n []) i a) }
+{
+    let mut row = zero_row(alloc, n)?;
+    row[i] = a;
     Ok(row)
 }
 

@@ -65,20 +65,32 @@ pub(crate) fn same_rows(vs: &[Vec<Poly>], ws: &[Vec<Poly>]) -> bool
     true
 }
 
+/// Are the rows and the denominators the same?
+fn same_form(a: &Lattice, b: &Lattice) -> bool
+    ensures { IsTrue result ↔ (a.now ≡ b.now) }
+{
+    a.den().equals(b.den()) && same_rows(a.rows(), b.rows())
+}
+
 /// Are the two lattices the same set of functions? That is so exactly where their rows and denominators are the same.
-/// It
-/// takes time in the size of the rows.
-pub fn same_lattice<K: SmallField>(k: &K, a: &Lattice, b: &Lattice) -> bool
+/// It takes time in the size of the rows, and no memory.
+pub fn same_lattice<K: SmallField>(
+    alloc: Global,
+    k: &K,
+    a: &Lattice,
+    b: &Lattice,
+) -> Result<bool, AllocError>
     requires a_form { IsLattice (K.field k.now).ops (length a.now.rows) a.now }
     requires b_form { IsLattice (K.field k.now).ops (length a.now.rows) b.now }
-    ensures equal { IsTrue result ↔ (a.now ≡ b.now) }
+    ensures equal { IfOk result (λ r. IsTrue r ↔ (a.now ≡ b.now)) }
     ensures sets { let k = K.field k.now in
+        IfOk result (λ r.
         (p : PresValue) →
         1 ≤ p.n →
         p.n ≡ length a.now.rows →
-        IsTrue result ↔ ((z : Functions k p) → Contains k p a.now z ↔ Contains k p b.now z) }
+        IsTrue r ↔ ((z : Functions k p) → Contains k p a.now z ↔ Contains k p b.now z)) }
 {
-    a.den().equals(b.den()) && same_rows(a.rows(), b.rows())
+    Ok(same_form(a, b))
 }
 
 /// Two lattices that are the same set of functions have the same rows and the same denominator.

@@ -1,6 +1,5 @@
 -- Reduced rows of which the first ones have a 1 on the diagonal: these columns are independent, and the next one shows
--- the
--- coefficients by which it is a combination of them.
+-- the coefficients by which it is a combination of them.
 use Rattle.std.proofs.Common.{◌≡◌, ℕ, zero, suc, ◌<◌, ◌≤◌, ◌⊎◌, inl, inr, List, length, sym, ◌∙◌, ap, ap₂, arith, eq-or-lt_of_le}
 use Rattle.ring_lemmas.specs.Ring.{CommRing}
 use Rattle.ring_lemmas.proofs.Ring.{mul_zero}

@@ -1,5 +1,4 @@
 pub mod Multiples
-pub mod Tables
 pub mod Flat
 pub mod RowSteps
 pub mod Views

@@ -5,7 +5,7 @@ use Rattle.std.proofs.lemmas.List.{length-map, length-take-le, length-append, le
 use Rattle.std.specs.Prelude.{All, swap}
 use Rattle.std.proofs.lemmas.List.Elements.{All-get_or, All-from_get_or}
 use Rattle.ff_fields.specs.Field.{FieldOps, CodeField}
-use Rattle.ff_fields.specs.Code.{Code, code_ring, raw_ring, read_code}
+use Rattle.ff_fields.specs.Code.{Code, code_ring, raw_ring, read_code, zero_in}
 use Rattle.ff_fields.specs.Over.{IsOver}
 use Rattle.ring_lemmas.specs.Ring.{CommRing}
 use Rattle.ring_lemmas.specs.Lists.{add_lists, scale_list}
@@ -16,7 +16,7 @@ use Rattle.linear_theory.proofs.Elimination.{next, normal, normal_is, from, from
 use Rattle.linear_theory.proofs.SameRows.{HasEntries, same_of_entries, reduced_of_entries}
 use Rattle.ff_linalg.specs.Steps.{entry_at, normalized, cleared, eliminated}
 use Rattle.ff_linalg.specs.Forms.{sequences_of, IsReducedBelow, HaveSameSpace, IsEliminationStep}
-use Rattle.ff_linalg.proofs.Reading.{read_zero, read_add, read_mul, read_neg, read_one, row_entry, length_sequences, entry_in}
+use Rattle.ff_linalg.proofs.Reading.{read_zero, read_add, read_mul, read_neg, read_one, read_same, row_entry, length_sequences, entry_in}
 
 -- the rows after an exchange
 module _ (rows : List (List ℕ)) (p i : ℕ) (p_in : p < length rows) (i_in : i < length rows) where
@@ -345,3 +345,14 @@ all_swap P rows p i p_in i_in h =
         subst P (sym (ap (λ n. get_or (swap rows p i) n []) e ∙ swap_there rows p i p_in i_in))
         (All-get_or P rows p [] p_in h)
     go l l_in (no ne) (no nf) = subst P (sym (swap_other rows p i p_in i_in l ne nf)) (All-get_or P rows l [] l_in h)
+
+-- before column c the rows from the rank on are 0
+pub left_zero_at : (k : CodeField) (c rank : ℕ) (rows : List (List ℕ)) → All (IsOver k.ops) rows
+    → IsReducedBelow k c rows rank
+    → (i j : ℕ) → rank ≤ i → i < length rows → j < c → entry_at rows i j ≡ 0
+left_zero_at k c rank rows over reduced i j late within less =
+    read_same k (entry_at rows i j) 0 (entry_in k rows i j over) (zero_in k)
+    (sym (row_entry k rows i j)
+    ∙ reduced.form.zero_rows i j (omega (arith, reduced.rank_is, late)) (omega (arith, length_sequences k rows, within))
+    less
+    ∙ sym (read_zero k))

@@ -1,13 +1,15 @@
 -- Steps of elimination on a list of rows that is split at one row.
-use Rattle.std.proofs.Common.{◌≡◌, ℕ, zero, suc, ◌+◌, ◌-◌, ◌*◌, ◌<◌, ◌≢◌, List, [], ◌∷◌, ◌++◌, length, get_or, take, drop, set, map, refl, sym, ap, ap₂, ◌∙◌, arith}
-use Rattle.std.proofs.lemmas.List.{length-append, length-drop, length-take-le, take_at, set_at, set-append_left, get_or_append_left}
+use Rattle.std.proofs.Common.{◌≡◌, ℕ, zero, suc, ◌+◌, ◌-◌, ◌*◌, ◌<◌, ◌≤◌, ◌≢◌, List, [], ◌∷◌, ◌++◌, length, get_or, take, drop, set, map, refl, sym, ap, ap₂, ◌∙◌, arith}
+use Rattle.std.proofs.lemmas.List.{append-nil, drop_all, length-append, length-drop, length-take-le, take_at, set_at, set-append_left, get_or_append_left}
 use Rattle.std.proofs.Math.Seq.{get_or-append_seam}
 use Rattle.std.specs.Prelude.{swap}
 use borrow.Rule.Slice.PartMut.{put_mid}
 use Rattle.ff_fields.specs.Field.{FieldOps, CodeField}
-use Rattle.ff_fields.specs.Code.{raw_ring}
-use Rattle.ff_fields.specs.Over.{IsOver, IsOver_take, IsOver_drop, IsOver_scale, get_or_below}
-use Rattle.ring_lemmas.specs.Lists.{scale_list}
+use Rattle.ff_fields.specs.Code.{raw_ring, code_ring}
+use Rattle.ff_fields.specs.Over.{IsOver, IsOver_head, IsOver_tail, IsOver_take, IsOver_drop, IsOver_scale, get_or_below}
+use Rattle.ring_lemmas.specs.Lists.{add_lists, scale_list}
+use Rattle.ring_lemmas.proofs.Ring.{mul_zero}
+use Rattle.ring_lemmas.proofs.Lists.{get_or_scale_list}
 use Rattle.ff_linalg.specs.Matrix.{rows_in}
 use Rattle.ff_linalg.specs.Steps.{normalized, cleared, eliminated}
 use Rattle.ff_linalg.proofs.Flat.{length_rows_in, rows_in_middle, rows_in_split, rows_in_get, rows_in_put, row_end, row_span}
@@ -160,3 +162,33 @@ pivot_row k c n p j xs old new inverse shape within over some old_is inverse_is 
 
     inverse_in : inverse < k.size
     inverse_in = rw inverse_is (k.laws.inv_below _ (get_or_below k old j old_in) nonzero)
+
+-- an entry of the pivot's row that is 0 stays so
+pub left_after : (k : CodeField) (old new : List ℕ) (inverse j : ℕ) → inverse < k.size
+    → new ≡ scale_list (raw_ring k.ops) inverse old
+    → j < length old → get_or old j 0 ≡ 0 → get_or new j 0 ≡ 0
+left_after k old new inverse j inverse_in new_is within zero_is =
+    ap (λ w. get_or w j 0) new_is ∙ get_or_scale_list (raw_ring k.ops) inverse old j 0 within
+    ∙ ap (k.mul inverse) zero_is ∙ ap (λ w. w.0) (mul_zero (code_ring k).ring (inverse, inverse_in))
+
+-- a multiple is added from column c on, where it is 0 before it
+pub added_from : (k : CodeField) (f c : ℕ) (row pivot : List ℕ) → f < k.size → IsOver k.ops row
+    → length row ≡ length pivot → c ≤ length row
+    → ((j : ℕ) → j < c → get_or pivot j 0 ≡ 0)
+    → take c row ++ add_lists (raw_ring k.ops) (drop c row) (scale_list (raw_ring k.ops) f (drop c pivot))
+    ≡ add_lists (raw_ring k.ops) row (scale_list (raw_ring k.ops) f pivot)
+added_from k f zero row pivot f_in row_in same within zeros = refl
+added_from k f (suc c) [] pivot f_in row_in same within zeros = absurd (omega arith)
+added_from k f (suc c) (x ∷ row) [] f_in row_in same within zeros = absurd (omega arith)
+added_from k f (suc c) (x ∷ row) (y ∷ pivot) f_in row_in same within zeros =
+    ap₂ ◌∷◌
+    (sym (ap (k.add x) (ap (k.mul f) (zeros 0 (omega arith)) ∙ ap (λ w. w.0) (mul_zero (code_ring k).ring (f, f_in)))
+    ∙ ap (λ w. w.0) ((code_ring k).add_zero (x, IsOver_head row_in))))
+    (added_from k f c row pivot f_in (IsOver_tail row_in) (omega arith) (omega arith)
+    (λ j less. zeros (suc j) (omega arith)))
+
+-- a list whose entries from c on are written
+pub put_tail : (c n : ℕ) (xs ys : List ℕ) → length xs ≡ n → put_mid c (n - c) xs ys ≡ take c xs ++ ys
+put_tail c n xs ys long =
+    ap (λ w. take c xs ++ w) (ap (λ w. ys ++ w) (drop_all (n - c) (drop c xs) (omega (arith, length-drop c xs)))
+    ∙ append-nil ys)

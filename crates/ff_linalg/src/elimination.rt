@@ -56,8 +56,7 @@ fn eliminate_next<K: SmallField>(
 }
 
 /// Eliminates in the columns from `from` up to `to`, where those before are done with `rank` pivots, and answers how
-/// many
-/// there are then.
+/// many there are then.
 pub(crate) fn reduce<K: SmallField>(
     k: &K,
     entries: &mut [u32],
@@ -84,7 +83,7 @@ pub(crate) fn reduce<K: SmallField>(
 }
 
 /// Brings the matrix into its reduced row echelon form, in place, and answers the rank. No memory.
-/// Cost: rank · rows · cols products and sums.
+/// Cost: at most a product and a sum for each pivot, each row and each column from that of the pivot on.
 pub fn echelon<K: SmallField>(k: &K, a: &mut Matrix) -> usize
     requires { IsMatrixOver (K.field k.now).ops a.old }
     ensures shape { HasShape a.new (length a.old.rows) a.old.cols }

@@ -85,9 +85,8 @@ fn lower_right(
 }
 
 /// The reduced echelon basis, as rows, of all v with v·a = 0. The rows with the unit matrix on their right are held at
-/// once; more than
-/// `usize::MAX` columns of these are want of memory, since one row of them fits in no memory.
-/// Cost: rows² · (rows + cols) products and sums.
+/// once; more than `usize::MAX` columns of these are want of memory, since one row of them fits in no memory. Cost:
+/// rows² · (rows + cols) products and sums.
 pub fn kernel<K: SmallField>(alloc: Global, k: &K, a: &Matrix) -> Result<Matrix, AllocError>
     requires { IsMatrixOver (K.field k.now).ops a.now }
     ensures { IfOk result (IsKernelBasis (K.field k.now).ops a.now) }

@@ -1,6 +1,6 @@
 //! Steps on rows that stand one after another in a buffer.
 
-ghost use Rattle.std.specs.Prelude.{◌≡◌, ◌≢◌, ℕ, ◌*◌, ◌<◌, ◌≤◌, length, map, swap, MatchOption};
+ghost use Rattle.std.specs.Prelude.{◌≡◌, ◌≢◌, ℕ, ◌*◌, ◌<◌, ◌≤◌, length, map, slice_index, swap, MatchOption};
 ghost use Rattle.ff_fields.specs.Over.{IsOver};
 ghost use Rattle.ff_linalg.specs.Matrix.{rows_in};
 ghost use Rattle.ff_linalg.specs.Steps.{entry_at, cleared, eliminated};
@@ -41,7 +41,22 @@ pub(crate) fn swap_rows(entries: &mut [u32], rows: usize, cols: usize, upper: us
     front[upper * cols..upper * cols + cols].swap_with_slice(&mut back[..cols]);
 }
 
-/// Takes from each row the multiple of the pivot's row that clears its entry in column c.
+/// Takes from the row the multiple of the pivot's row that clears its entry in column c. The entries before it stay,
+/// since those of the pivot's row are 0.
+fn clear_row<K: SmallField>(k: &K, row: &mut [u32], pivot: &[u32], c: usize)
+    requires same_size { length row.old ≡ length pivot.now }
+    requires col_in { c < length pivot.now }
+    requires row_in { IsOver (K.field k.now).ops row.old }
+    requires pivot_in { IsOver (K.field k.now).ops pivot.now }
+    requires left_zero { (j : ℕ) → j < c → slice_index pivot.now j ≡ 0 }
+    ensures cleared { row.new ≡ cleared (K.field k.now).ops c pivot.now row.old }
+    ensures over { IsOver (K.field k.now).ops row.new }
+{
+    let factor = k.neg(row[c]);
+    add_multiple(k, &mut row[c..], factor, &pivot[c..]);
+}
+
+/// Takes from each row the multiple of the pivot's row that clears its entry in column c, from that column on.
 pub(crate) fn clear_rows<K: SmallField>(
     k: &K,
     part: &mut [u32],
@@ -53,15 +68,14 @@ pub(crate) fn clear_rows<K: SmallField>(
     requires col_in { c < length pivot.now }
     requires part_in { IsOver (K.field k.now).ops part.old }
     requires pivot_in { IsOver (K.field k.now).ops pivot.now }
+    requires left_zero { (j : ℕ) → j < c → slice_index pivot.now j ≡ 0 }
     ensures cleared { let w = length pivot.now in
         rows_in w count part.new ≡ map (cleared (K.field k.now).ops c pivot.now) (rows_in w count part.old) }
     ensures over { IsOver (K.field k.now).ops part.new }
 {
     let cols = pivot.len();
     for i in 0..count {
-        let row = &mut part[i * cols..i * cols + cols];
-        let factor = k.neg(row[c]);
-        add_multiple(k, row, factor, pivot);
+        clear_row(k, &mut part[i * cols..i * cols + cols], pivot, c);
     }
 }
 
@@ -78,6 +92,7 @@ pub(crate) fn clear_column<K: SmallField>(
     requires row_in { p < rows }
     requires col_in { c < cols }
     requires nonzero { entry_at (rows_in cols rows entries.old) p c ≢ 0 }
+    requires left_zero { (j : ℕ) → j < c → entry_at (rows_in cols rows entries.old) p j ≡ 0 }
     requires entries_in { IsOver (K.field k.now).ops entries.old }
     ensures eliminated { rows_in cols rows entries.new
         ≡ eliminated (K.field k.now).ops p c (rows_in cols rows entries.old) }

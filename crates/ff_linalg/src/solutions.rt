@@ -45,9 +45,7 @@ pub(crate) fn negatives<K: SmallField>(
 }
 
 /// A v with v·a = b; None exactly where there is none. A matrix of `usize::MAX` rows, whose kernel with one row more
-/// fits in no
-/// memory, is want of memory.
-/// Cost: that of a kernel with one row more.
+/// fits in no memory, is want of memory. Cost: that of a kernel with one row more.
 pub fn solve<K: SmallField>(
     alloc: Global,
     k: &K,

@@ -32,8 +32,7 @@ fn repeated(alloc: Global, parts: &[(Poly, u32)]) -> Result<Vec<Poly>, AllocErro
 
 /// The integral functions of the finite side: k[x][y], enlarged at the irreducible polynomials whose squares divide the
 /// discriminant. Over a curve whose discriminant has no such square it takes the time of factoring that, and of a Popov
-/// basis of
-/// the unit matrix.
+/// basis of the unit matrix.
 fn finite_order<K: SmallField>(alloc: Global, k: &K, curve: &Curve) -> Result<Order, AllocError>
     requires { IsCurve (K.field k.now) curve.now }
     ensures { IfOk result (IsIntegralLattice (K.field k.now) curve.now Finite) }
@@ -53,9 +52,8 @@ fn variable(alloc: Global) -> Result<Poly, AllocError>
 }
 
 /// The integral functions of the infinite side that have powers of t = 1/x as denominators: k[t][Y], enlarged at t.
-/// Their
-/// combinations over the fractions of degree at most 0 are all integral functions of that side. It takes the time of
-/// `p_maximal` at t over the infinite presentation.
+/// Their combinations over the fractions of degree at most 0 are all integral functions of that side. It takes the time
+/// of `p_maximal` at t over the infinite presentation.
 fn infinite_order<K: SmallField>(alloc: Global, k: &K, curve: &Curve) -> Result<Order, AllocError>
     requires { IsCurve (K.field k.now) curve.now }
     ensures { IfOk result (IsIntegralLattice (K.field k.now) curve.now Infinite) }
@@ -67,11 +65,9 @@ fn infinite_order<K: SmallField>(alloc: Global, k: &K, curve: &Curve) -> Result<
 }
 
 /// The maximal order of a side: the integral functions of the finite side, or those of the infinite side that have
-/// powers
-/// of t = 1/x as denominators, whose combinations over the fractions of degree at most 0 are all integral functions of
-/// that
-/// side (Stichtenoth, Algebraic Function Fields and Codes, chapter 3; Hess, 2002). It takes the time of factoring the
-/// discriminant and of the turns that enlarge k[x][y], or of those that enlarge k[t][Y] at t.
+/// powers of t = 1/x as denominators, whose combinations over the fractions of degree at most 0 are all integral
+/// functions of that side (Stichtenoth, Algebraic Function Fields and Codes, chapter 3; Hess, 2002). It takes the time
+/// of factoring the discriminant and of the turns that enlarge k[x][y], or of those that enlarge k[t][Y] at t.
 pub fn maximal_order<K: SmallField>(
     alloc: Global,
     k: &K,

@@ -4,7 +4,6 @@ pub mod EntrySums
 pub mod ElementValues
 pub mod ReadElements
 pub mod LowestElements
-pub mod ProductDivisors
 pub mod OneField
 pub mod OneRefusal
 pub mod OneWritten

@@ -1,4 +1,3 @@
-pub mod Limits
 pub mod Bindings
 pub mod SameBindings
 pub mod FieldLines

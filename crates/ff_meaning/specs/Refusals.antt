@@ -20,7 +20,7 @@ use Rattle.ff_script.specs.declared.script.Statement.TheVariants.{FieldOf, Curve
 use Rattle.ff_meaning.specs.declared.refusal.Refusal.{Refusal}
 use Rattle.ff_meaning.specs.declared.refusal.Refusal.TheVariants.{FieldSize, NotField, LimitY, LimitX, NotMonic, NotSeparable, LimitDisc, LimitInf, CodeRange, Length, Zero, Memory}
 use Rattle.ff_fields.specs.FieldData.{FieldData, IsFieldData, ops_of, with_laws}
-use Rattle.ff_meaning.specs.Limits.{max_degree}
+use Rattle.function_field.specs.Limits.{max_degree}
 use Rattle.ff_meaning.specs.Bindings.{Bindings, ForField, ForCurve}
 use Rattle.ff_meaning.specs.Meaning.{AreCodesBelow, IsFirstCodeFrom, codes_of_element, IsSumOf, IsPolyOf, IsElementOf, degree_of_element}
 

@@ -17,8 +17,7 @@ use ff_script::Modulus;
 use std::alloc::{AllocError, Global};
 
 /// The field that the line names: the numbers modulo p, or the polynomials over them modulo the one that is written.
-/// Else
-/// why there is none. No memory is taken.
+/// Else why there is none. No memory is taken.
 pub fn field(p: u32, tail: &Option<Modulus>) -> Result<Field, FieldFault>
     requires { IsWhole tail.now }
     ensures made { IfOk result (λ k. Names p tail.now (field_of k).ops) }
@@ -34,8 +33,7 @@ pub fn field(p: u32, tail: &Option<Modulus>) -> Result<Field, FieldFault>
 }
 
 /// The same field by tables of powers and logarithms, or as it is where no code has all the powers. Products and
-/// inverses take two
-/// look-ups then; the tables take 6 bytes for each element.
+/// inverses take two look-ups then; the tables take 6 bytes for each element.
 pub fn by_tables(alloc: Global, k: Field) -> Result<Field, AllocError>
     ensures { IfOk result (λ t. field_of t ≡ field_of k) }
 {

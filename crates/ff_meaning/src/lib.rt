@@ -1,6 +1,5 @@
 //! What the lines of a script mean over what is bound, and when they are refused: fields, polynomials and elements as
-//! they
-//! are written, and the one way in which a function is written.
+//! they are written, and the one way in which a function is written.
 #![tactic(auto)]
 
 pub mod elements;

@@ -40,8 +40,7 @@ pub fn degree_in_x(terms: &[(u64, u64, u32)]) -> u64
 }
 
 /// The polynomial in x of the terms without y. No exponent of x is above the bound. It takes time in proportion to the
-/// terms
-/// and the bound.
+/// terms and the bound.
 pub fn polynomial<K: SmallField>(
     alloc: Global,
     k: &K,

@@ -54,6 +54,28 @@ impl Refusal {
             _ => false,
         }
     }
+
+    /// An equal refusal, in memory of its own.
+    pub fn copy(&self, alloc: Global) -> Result<Refusal, AllocError>
+        ensures { IfOk result (λ e. e ≡ self.now) }
+    {
+        match self {
+            Refusal::FieldSize(p, m) => Ok(Refusal::FieldSize(*p, *m)),
+            Refusal::NotField(a, b) => Ok(Refusal::NotField(*a, *b)),
+            Refusal::LimitY(n) => Ok(Refusal::LimitY(*n)),
+            Refusal::LimitX(d) => Ok(Refusal::LimitX(*d)),
+            Refusal::NotMonic(top) => Ok(Refusal::NotMonic(top.copy(alloc)?)),
+            Refusal::NotSeparable => Ok(Refusal::NotSeparable),
+            Refusal::LimitDisc(d) => Ok(Refusal::LimitDisc(*d)),
+            Refusal::LimitInf(d) => Ok(Refusal::LimitInf(*d)),
+            Refusal::CodeRange(c) => Ok(Refusal::CodeRange(*c)),
+            Refusal::Length(n) => Ok(Refusal::Length(*n)),
+            Refusal::Zero => Ok(Refusal::Zero),
+            Refusal::LimitDegree(d) => Ok(Refusal::LimitDegree(*d)),
+            Refusal::LimitOutput(n) => Ok(Refusal::LimitOutput(*n)),
+            Refusal::Memory => Ok(Refusal::Memory),
+        }
+    }
 }
 
 impl From<AllocError> for Refusal {

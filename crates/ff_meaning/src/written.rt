@@ -1,8 +1,6 @@
 //! Functions as they are written: lowest terms, in x and y. All that is printed of a function passes here.
 
-ghost use Rattle.std.specs.Prelude.{◌≡◌, ◌≢◌, [], ◌≤◌, IfOk};
-ghost use Rattle.ff_fields.specs.Over.{IsOver};
-ghost use Rattle.ff_poly.specs.Words.{product_of};
+ghost use Rattle.std.specs.Prelude.{◌≡◌, ◌≤◌, IfOk};
 ghost use Rattle.function_field.specs.Values.{IsElem, IsMonicElem, function_of};
 ghost use Rattle.function_field.specs.Infinity.{function_on};
 ghost use Rattle.function_field.specs.Curves.{IsCurve};
@@ -31,9 +29,8 @@ fn copies(alloc: Global, polys: &[Poly]) -> Result<Vec<Poly>, AllocError>
 }
 
 /// The function of the element, written in lowest terms, where each irreducible monic divisor of the denominator is
-/// listed. It takes
-/// one division of each part a turn, with a turn for each time that a divisor is cancelled and one more for each
-/// divisor.
+/// listed. It takes one division of each part a turn, with a turn for each time that a divisor is cancelled and one
+/// more for each divisor.
 pub fn in_lowest_terms_by<K: SmallField>(
     alloc: Global,
     k: &K,
@@ -90,8 +87,7 @@ fn in_x_and_y<K: SmallField>(
 }
 
 /// The function of an element of the side's presentation, written in x and y in lowest terms. It takes the factors of
-/// the
-/// denominator.
+/// the denominator.
 pub fn written<K: SmallField>(
     alloc: Global,
     k: &K,
@@ -107,26 +103,4 @@ pub fn written<K: SmallField>(
 {
     let z = in_x_and_y(alloc, k, curve, side, r)?;
     in_lowest_terms(alloc, k, curve.fin(), &z)
-}
-
-/// The irreducible monic divisors of the product of a and b, which aren't 0: those of a, then those of b. One that
-/// divides both
-/// stands twice.
-/// Cost: that of `factor` for a and for b, which is less than for their product.
-pub fn divisors_of_product<K: SmallField>(
-    alloc: Global,
-    k: &K,
-    a: &Poly,
-    b: &Poly,
-) -> Result<Vec<Poly>, AllocError>
-    requires over { let ops = (K.field k.now).ops in IsOver ops a.now × IsOver ops b.now }
-    requires not_zero { (a.now ≢ []) × (b.now ≢ []) }
-    ensures irreducible { IfOk result (λ ps. AreIrreducible (K.field k.now).ops ps.items) }
-    ensures each { let ops = (K.field k.now).ops in IfOk result
-        (λ ps. HasFactorsOf ops ps.items (product_of ops a.now b.now)) }
-{
-    let mut divisors = factor(alloc, k, a)?.polys(alloc)?;
-    let mut others = factor(alloc, k, b)?.polys(alloc)?;
-    divisors.append(&mut others)?;
-    Ok(divisors)
 }

@@ -1,9 +1,7 @@
-pub mod Results
 pub mod NilpotentClasses
 pub mod RadicalSets
 pub mod Turns
 pub mod Measure
-pub mod Powers
 pub mod IntegralFunctions
 pub mod Products
 pub mod SquareParts

@@ -15,7 +15,7 @@ use Rattle.function_field.specs.Functions.{setting_of}
 use Rattle.function_field.specs.Discriminant.{discriminant}
 use Rattle.function_field.specs.Values.{PresValue, Functions, equation_of}
 use Rattle.lattice_theory.specs.Lattices as theory
-use Rattle.lattice_theory.specs.Lattices.{HasIndex}
+use Rattle.function_field.specs.Indices.{HasIndex}
 use Rattle.lattice_theory.proofs.Operations.{lattice_within}
 use Rattle.lattice_theory.proofs.Indices.{index_of, index_less}
 use Rattle.order_theory.proofs.IntegralLattice.{integral_lattice}

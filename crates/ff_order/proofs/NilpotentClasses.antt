@@ -1,6 +1,5 @@
 -- The nilpotent classes of an order modulo an ideal: the members of the order with a power in the ideal, from a basis
--- of the nilpotent
--- elements of the quotient.
+-- of the nilpotent elements of the quotient.
 use Rattle.std.proofs.Common.{◌≡◌, ℕ, zero, suc, ◌+◌, ◌-◌, ◌<◌, List, [], ◌∷◌, ◌++◌, length, get_or, map, take, replicate, refl, sym, ◌∙◌, ap, ap₂, subst, arith, All}
 use Rattle.std.proofs.lemmas.List.{length-replicate, take_more}
 use Rattle.std.proofs.lemmas.List.Elements.{All-nil, All-cons, All-head, All-tail, All-append, All-map}

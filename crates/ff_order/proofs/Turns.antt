@@ -1,5 +1,6 @@
 -- One turn of the enlargement at an irreducible polynomial, and what it leaves after each turn.
-use Rattle.std.proofs.Common.{◌≡◌, ℕ, ◌<◌, ◌↔◌, List, subst}
+use Rattle.std.proofs.Common.{◌≡◌, ℕ, zero, suc, ◌<◌, ◌↔◌, pos, ◌-ℤ◌, ◌<ℤ◌, List, sym, subst, arith}
+use Rattle.std.proofs.lemmas.Int.{ints}
 use Rattle.ff_fields.specs.Field.{CodeField}
 use Rattle.ff_fields.specs.Over.{IsOver}
 use Rattle.ff_poly.specs.Words.{IsIrreducibleList}
@@ -11,10 +12,11 @@ use Rattle.prime_theory.specs.Orders.{Radical}
 use Rattle.order_theory.specs.Orders as theory
 use Rattle.order_theory.specs.Orders.{TakenByPowers}
 use Rattle.order_theory.proofs.Enlargements.{radical_of_order, radical_has, multipliers_have, multipliers_taken, maximal_of_multipliers, taken_has, taken_again, taken_is}
-use Rattle.ff_lattice.specs.Lattices.{LatticeValue, IsLattice, Contains}
+use Rattle.ff_lattice.specs.Lattices.{LatticeValue, IsLattice, Contains, pivot_degree_of}
 use Rattle.ff_lattice.specs.Orders.{IsOrderLattice}
 use Rattle.ff_lattice.specs.Quotients.{IsIdealLattice}
 use Rattle.ff_lattice.specs.Colons.{IsColon}
+use Rattle.ff_lattice.proofs.PivotIndices.{IsOverMonic, lattice_over, number, number_is, same_lattice}
 use Rattle.ff_order.specs.Steps.{IsTurn, IsBetween}
 use Rattle.value_theory.specs.Laws.{row_functions}
 use Rattle.value_theory.proofs.Bridge.{lattice_set, order_set, irreducible_value}
@@ -58,11 +60,13 @@ module _ (k : CodeField) (p : PresValue) (positive : 0 < p.n) where
             multipliers_taken (equation_of k p) O 𝓞 (value k pi) (Contains k p i) (lattice_set k p positive i form)
             radical_is_ideal.within
             ((members _).1 (radical_has (equation_of k p) O 𝓞 (value k pi))) z ((next_members z).0 h);
-        last = λ none.
+        last = λ same.
             maximal_of_multipliers (equation_of k p) O 𝓞 (value k pi) (irreducible_value k pi over irreducible)
             (row_functions k p i)
             (λ z. ((members z).1, (members z).0))
-            (λ z h. none z ((next_members z).1 (λ y y_in. (members _).1 (h y ((members y).0 y_in)))));
+            (λ z h.
+            subst (λ l. Contains k p l z) same
+            ((next_members z).1 (λ y y_in. (members _).1 (h y ((members y).0 y_in)))));
       }
 
     -- before the first turn
@@ -82,5 +86,23 @@ module _ (k : CodeField) (p : PresValue) (positive : 0 < p.n) where
     pub between_last : (cur next : LatticeValue) → IsBetween k p pi o cur → IsTurn k p pi cur next → next ≡ cur
         → (z : Functions k p) → Contains k p cur z ↔ TakenByPowers (equation_of k p) (value k pi) (Contains k p o) z
     between_last cur next b t same =
-        taken_is (equation_of k p) O 𝓞 (value k pi) (Contains k p cur) b.has b.taken
-        (t.last (λ z h. subst (λ l. Contains k p l z) same h))
+        taken_is (equation_of k p) O 𝓞 (value k pi) (Contains k p cur) b.has b.taken (t.last same)
+
+  -- a larger order has a smaller pivot degree
+  pub degree_falls : (o next : LatticeValue) → IsLattice k.ops p.n o → IsLattice k.ops p.n next
+      → ((z : Functions k p) → Contains k p o z → Contains k p next z) → ¬ (next ≡ o)
+      → pivot_degree_of next <ℤ pivot_degree_of o
+  degree_falls o next o_form next_form within differ =
+      go (number k p positive o next over_o over_next within) (number_is k p positive o next over_o over_next within)
+    where
+      over_o : IsOverMonic k p o
+      over_o = lattice_over k p o o_form
+
+      over_next : IsOverMonic k p next
+      over_next = lattice_over k p next next_form
+
+      go : (m : ℕ) → pos m ≡ pivot_degree_of o -ℤ pivot_degree_of next → pivot_degree_of next <ℤ pivot_degree_of o
+      go zero e =
+          absurd (differ (sym (same_lattice k p positive o next over_o over_next within o_form next_form
+          (omega (arith, ints, e)))))
+      go (suc m) e = omega (arith, ints, e)

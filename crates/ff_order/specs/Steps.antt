@@ -39,7 +39,7 @@ module _ (k : CodeField) (p : PresValue) where
     pub has : (z : Functions k p) → Contains k p o z → Contains k p next z
     pub taken : (z : Functions k p) → Contains k p next z
         → TakenByPowers (equation_of k p) (value k pi) (Contains k p o) z
-    pub last : ((z : Functions k p) → Contains k p next z → Contains k p o z)
+    pub last : next ≡ o
         → MaximalAt (functions k p).ops (of_poly (equation_of k p) (value k pi))
         (IsIntegralAt (setting_of (equation_of k p)) Finite) (Contains k p o)
 

@@ -22,9 +22,8 @@ use ff_lattice::Order;
 use ff_poly::Poly;
 
 /// What `maximal` answers for an order that has k[x][y] are exactly the integral functions, where the listed
-/// polynomials are
-/// all irreducible ones whose squares divide the discriminant. The factors of the discriminant are given as a list of
-/// irreducible polynomials, with repeats, whose product it divides.
+/// polynomials are all irreducible ones whose squares divide the discriminant. The factors of the discriminant are
+/// given as a list of irreducible polynomials, with repeats, whose product it divides.
 pub fn integral_law<K: SmallField>(
     k: &K,
     p: &Pres,

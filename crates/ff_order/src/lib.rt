@@ -7,6 +7,6 @@ pub mod laws;
 pub mod radicals;
 pub mod start;
 
-pub use enlarge::{maximal, multiplier, p_maximal};
+pub use enlarge::{enlarged, maximal, multiplier, p_maximal};
 pub use radicals::radical;
 pub use start::equation_order;

@@ -79,9 +79,8 @@ fn nilpotent_lifts<K: SmallField>(
 }
 
 /// The radical of the order at an irreducible monic polynomial: the members of which a power is a multiple of the
-/// polynomial
-/// by a member. It takes the time of the nilpotent elements of the order modulo the polynomial, an algebra of n times
-/// its degree dimensions, and of a Popov basis of so many rows.
+/// polynomial by a member. It takes the time of the nilpotent elements of the order modulo the polynomial, an algebra
+/// of n times its degree dimensions, and of a Popov basis of so many rows.
 pub fn radical<K: SmallField>(
     alloc: Global,
     k: &K,
@@ -105,6 +104,6 @@ pub fn radical<K: SmallField>(
     let ideal = multiples(alloc, k, p, o, pi)?;
     let q = Quotient::new(alloc, k, p, o, &ideal)?;
     let mut gens = nilpotent_lifts(alloc, k, &q)?;
-    push_rows(alloc, k, &mut gens, &ideal)?;
+    push_rows(alloc, &mut gens, &ideal)?;
     spanned(alloc, k, p, &gens)
 }

@@ -187,8 +187,8 @@ module _ (k : CodeField) where
         p.division.rest_poly,
         p.division.shorter,
         s.division.rest_in,
-        congruent_turn (polynomials k).ring (value k m) (value k power) (value k square) (value k power') (value k square')
-            total left kept
+        congruent_turn (polynomials k).ring (value k m) (value k power) (value k square) (value k power')
+            (value k square') total left kept
             (inl (odd, product_congruent power square m power' power_in square_in m_in p))
             (product_congruent square square m square' square_in square_in m_in s),
       )

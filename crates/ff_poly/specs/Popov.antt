@@ -1,6 +1,5 @@
 -- Rows of polynomials over a field, as lists of lists of codes: pivots, weak Popov and Popov form, and what rows span
--- over
--- k[x] (Kailath, Linear Systems; Mulders and Storjohann, On lattice reduction for polynomial matrices).
+-- over k[x] (Kailath, Linear Systems; Mulders and Storjohann, On lattice reduction for polynomial matrices).
 use Rattle.std.specs.Prelude.{◌≡◌, ◌≢◌, ℕ, suc, ◌<◌, ◌≤◌, ◌+◌, ◌-◌, ◌*◌, List, [], ◌∷◌, length, get_or, map, max, replicate, sum_by, All}
 use Rattle.std.specs.Global.{Vec}
 use Rattle.ff_fields.specs.Field.{FieldOps}
@@ -43,8 +42,7 @@ pub record IsWeakPopov (rows : List (List (List ℕ))) : Type 0 where
   pub apart : (i j column : ℕ) → IsPivot (row_at rows i) column → IsPivot (row_at rows j) column → i ≡ j
 
 -- Popov form of full rank: row i has its pivot in column i, the pivot is monic, and every other entry of the column has
--- a
--- smaller degree
+-- a smaller degree
 pub record IsPopov (width : ℕ) (rows : List (List (List ℕ))) : Type 0 where
   pub size : length rows ≡ width
   pub pivot_at : (i : ℕ) → i < width → IsPivot (row_at rows i) i

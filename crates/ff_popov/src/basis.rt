@@ -124,8 +124,7 @@ fn constant(alloc: Global, code: u32) -> Result<Poly, AllocError>
 }
 
 /// The row of the Popov basis with its pivot in column i: the rest of -x^d modulo the lattice, and x^d, where d is the
-/// degree
-/// of the pivot there.
+/// degree of the pivot there.
 fn popov_row<K: SmallField>(
     alloc: Global,
     k: &K,

@@ -31,9 +31,8 @@ pub(crate) fn minus_one<K: SmallField>(alloc: Global, k: &K) -> Result<Poly, All
 }
 
 /// The coefficients with which v is a combination of the rows of a Popov basis of its width; None exactly where v isn't
-/// in
-/// their lattice. Takes as many subtractions of rows as v has positions, the width times its degree and 1, each linear
-/// in a row.
+/// in their lattice. Takes as many subtractions of rows as v has positions, the width times its degree and 1, each
+/// linear in a row.
 pub fn coordinates<K: SmallField>(
     alloc: Global,
     k: &K,

@@ -133,11 +133,9 @@ fn reduce<K: SmallField, L: Ledger>(
 }
 
 /// Brings the rows, all of one width, into weak Popov form. Each step of the counter is one simple transformation:
-/// c·x^j
-/// times a row is taken from another row with its pivot in the same column and at least its degree, so that the pivot
-/// falls.
-/// A transformation takes time linear in the two rows; the new row is made aside, so that after want of memory the rows
-/// span the same lattice.
+/// c·x^j times a row is taken from another row with its pivot in the same column and at least its degree, so that the
+/// pivot falls. A transformation takes time linear in the two rows; the new row is made aside, so that after want of
+/// memory the rows span the same lattice.
 pub fn weak_popov<K: SmallField, L: Ledger>(
     alloc: Global,
     k: &K,

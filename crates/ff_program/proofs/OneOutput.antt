@@ -2,6 +2,7 @@
 use Rattle.std.proofs.Common.{◌≡◌, ℕ, ◌<◌, ◌≤◌, List, [], ◌∷◌, ◌++◌, length, map, true, Bool, refl, sym, ap, ap₂, ◌∙◌, subst, arith, append_assoc}
 use Rattle.std.proofs.lemmas.Grind.{flat_map-append}
 use Rattle.std.proofs.lemmas.List.{append-nil, length-append}
+use Rattle.function_field.specs.Limits.{max_script}
 use Rattle.ff_io.specs.Streams.{IsPrefix}
 use Rattle.ff_script.specs.declared.script.Statement.{Statement}
 use Rattle.ff_script.specs.Scripts.{IsScript}
@@ -170,7 +171,7 @@ out_begins ss text whole finished (Blocks blocks last rest h) g =
 
 -- ---- the output of bytes
 
-too_long : (bytes : List ℕ) → 65536 < length bytes → length bytes ≤ 65536 → ⊥
+too_long : (bytes : List ℕ) → max_script < length bytes → length bytes ≤ max_script → ⊥
 too_long bytes more le = omega arith
 
 module _ (bytes : List ℕ) where
@@ -200,8 +201,8 @@ module _ (bytes : List ℕ) where
   one_output text other finished over (Script ss u f le h out) (Script ts v e le' g out') =
       one_out ts u v f e (subst (λ x. IsOut x u f) (same_script one_line bytes ss ts h g) out) out'
 
-  part_begins : (ss : List Statement) (text whole : List ℕ) (finished : Bool) → length bytes ≤ 65536 → IsScript bytes ss
-      → IsPart ss text → IsOutput bytes whole finished → IsPrefix text whole
+  part_begins : (ss : List Statement) (text whole : List ℕ) (finished : Bool) → length bytes ≤ max_script
+      → IsScript bytes ss → IsPart ss text → IsOutput bytes whole finished → IsPrefix text whole
   part_begins ss text whole finished le script part (TooLong g) = absurd (too_long bytes g le)
   part_begins ss text whole finished le script part (Syntax n le' g) = absurd (script_no_syntax bytes ss n script g)
   part_begins ss text whole finished le script part (Misplaced n le' g) = absurd
@@ -227,7 +228,7 @@ module _ (bytes : List ℕ) where
       omega (arith, size, same)
 
   -- where each statement has its block, the output is finished
-  pub answered_finished : (text : List ℕ) (finished : Bool) → length bytes ≤ 65536 → IsOutput bytes text finished
+  pub answered_finished : (text : List ℕ) (finished : Bool) → length bytes ≤ max_script → IsOutput bytes text finished
       → IsAnsweredWhole bytes text → finished ≡ true
   answered_finished text finished within h all =
       let out : IsOut all.statements text true

@@ -1,11 +1,12 @@
 -- From what a script's run does to what the run of its bytes does, and to what the program does.
 use Rattle.std.proofs.Common.{◌≡◌, ℕ, ◌+◌, ◌<◌, ◌≤◌, List, [], ◌∷◌, ◌++◌, length, drop, Option, Some, Bool, true, false, IfSome, ◌⊎◌, inl, inr, refl, sym, ap, ◌∙◌, arith, subst}
 use Rattle.std.proofs.lemmas.List.{drop_all}
+use Rattle.function_field.specs.Limits.{max_script}
 use Rattle.ff_io.specs.Streams.{Rose}
 use Rattle.ff_script.specs.declared.script.Statement.{Statement}
 use Rattle.ff_script.specs.Scripts.{IsScript}
 use Rattle.ff_program.specs.declared.status.Status.{Status}
-use Rattle.ff_program.specs.declared.status.Status.TheVariants.{Done, Refused, Usage, ReadFault, WriteFault, WantOfMemory}
+use Rattle.ff_program.specs.declared.status.Status.TheVariants.{Done, Refused, Usage, ReadFault, WriteFault, WantOfMemory, CheckNo}
 use Rattle.ff_program.specs.Output.{IsAnswered, IsClosing, IsOut, IsPart, IsOutput, TooLong, Syntax, Misplaced, Script, IsBegun, Nothing, Line, Part, blocks_text, too_long_line}
 use Rattle.ff_program.specs.Printing.{Prints, EndsAs, EndsWith}
 use Rattle.ff_program.specs.Commands.{IsAnsweredWhole, Runs, IsFaultless}
@@ -36,7 +37,7 @@ truth_of bytes text finished (Script ss t f l s out) e = closed out.rest out.ans
 
 module _ {T : Type 0} (taken : T → Option (List ℕ)) (faults : T → ℕ) (free : T → Option ℕ) where
   -- a run over the statements of a script is one over its bytes
-  pub script_ends : (bytes : List ℕ) (ss : List Statement) (old new : T) (status : Status) → length bytes ≤ 65536
+  pub script_ends : (bytes : List ℕ) (ss : List Statement) (old new : T) (status : Status) → length bytes ≤ max_script
       → IsScript bytes ss
       → EndsAs taken faults free (IsOut ss) (IsPart ss) old new status
       → EndsAs taken faults free (IsOutput bytes) (IsBegun bytes) old new status
@@ -46,6 +47,7 @@ module _ {T : Type 0} (taken : T → Option (List ℕ)) (faults : T → ℕ) (fr
   script_ends bytes ss old new WantOfMemory l s h = (h.0, Part ss h.0 l s h.1, h.2)
   script_ends bytes ss old new Usage l s h = elim h [ ]
   script_ends bytes ss old new ReadFault l s h = elim h [ ]
+  script_ends bytes ss old new CheckNo l s h = elim h [ ]
 
   -- the one line of an input that is no script
   pub line_ends : (bytes text : List ℕ) (old new : T) (status : Status) → IsOutput bytes text false
@@ -71,7 +73,7 @@ module _ {S T : Type 0} (left : S → Option (List ℕ)) (source_faults : S → 
     (faults : T → ℕ) (free : T → Option ℕ)
     (source source' : S) (sink sink' : T) where
   -- all the bytes were read
-  pub runs_read : (bytes : List ℕ) (status : Status) → length bytes ≤ 65536
+  pub runs_read : (bytes : List ℕ) (status : Status) → length bytes ≤ max_script
       → IfSome (left source) (λ xs. (bytes ≡ xs) × (left source' ≡ Some []))
       → EndsAs taken faults free (IsOutput bytes) (IsBegun bytes) sink sink' status
       → Runs left source_faults taken faults free source source' sink sink' status
@@ -100,24 +102,25 @@ module _ {S T : Type 0} (left : S → Option (List ℕ)) (source_faults : S → 
       go WantOfMemory h = λ xs e. ends WantOfMemory h xs e
       go Usage h = elim h [ ]
       go ReadFault h = elim h [ ]
+      go CheckNo h = elim h [ ]
 
   -- one byte more than the limit came
   pub runs_too_long : (status : Status) → IfSome (left source)
-      (λ xs. (65536 < length xs) × (left source' ≡ Some (drop (65536 + 1) xs)))
+      (λ xs. (max_script < length xs) × (left source' ≡ Some (drop (65536 + 1) xs)))
       → EndsWith taken faults free sink sink' too_long_line Refused status
       → Runs left source_faults taken faults free source source' sink sink' status
   runs_too_long status read (inl (e, k)) =
       subst (Runs left source_faults taken faults free source source' sink sink') (sym e)
       (λ xs told.
-      let facts = at_some (λ xs. (65536 < length xs) × (left source' ≡ Some (drop (65536 + 1) xs))) (left source) xs
-      told read in
+      let facts = at_some (λ xs. (max_script < length xs) × (left source' ≡ Some (drop (65536 + 1) xs))) (left source)
+      xs told read in
       record { read = facts.1; ends = (too_long_line, TooLong facts.0, k) })
   runs_too_long status read (inr (e, k)) =
       subst (Runs left source_faults taken faults free source source' sink sink') (sym e) (
         k.cause,
         λ xs told.
-            let facts = at_some (λ xs. (65536 < length xs) × (left source' ≡ Some (drop (65536 + 1) xs))) (left source)
-            xs told read in
+            let facts = at_some (λ xs. (max_script < length xs) × (left source' ≡ Some (drop (65536 + 1) xs)))
+            (left source) xs told read in
             (too_long_line, Line too_long_line false (TooLong facts.0), k),
       )
 
@@ -165,4 +168,5 @@ module _ {S T : Type 0} (left : S → Option (List ℕ)) (source_faults : S → 
   faultless_of WriteFault h steady bytes e room f fits = let ends = h.1 bytes e in absurd
       (ends.2.no_room room f (fits ends.0 ends.1))
   faultless_of ReadFault h steady bytes e room f fits = absurd (steady refl)
+  faultless_of CheckNo h steady bytes e room f fits = elim h [ ]
   faultless_of Usage h steady bytes e room f fits = elim h [ ]

@@ -4,6 +4,7 @@ use Rattle.std.specs.Prelude.{◌==◌, IfSome, Option, Some, None}
 use Rattle.std.specs.List.{slice_split, onto_first, AllByRecursion}
 use Rattle.std.proofs.lemmas.List.{length-append, append-nil}
 use Rattle.std.proofs.lemmas.List.Elements.{All-nil, All-cons}
+use Rattle.function_field.specs.Limits.{max_script}
 use Rattle.ff_text.specs.declared.terms.Term.{Term}
 use Rattle.ff_text.specs.declared.terms.ElemText.{ElemText}
 use Rattle.ff_text.specs.Spelling.{Then, Around, Each, FirstSign, SpellsFirst, SpellsOneTerm, SpellsTerms, SpellsDen, SpellsTail, SpellsEntries, SpellsElement}
@@ -177,7 +178,8 @@ lines_ready n (line ∷ lines) (s ∷ ss) small short (inr h) =
     All-cons IsReady s ss (line_ready s line (omega (arith, le)) h.0) (lines_ready n lines ss small short.1 h.1)
 
 -- a script of at most 65,536 bytes has only such statements
-pub script_ready : (bytes : List ℕ) (ss : List Statement) → length bytes ≤ 65536 → IsScript bytes ss → All IsReady ss
+pub script_ready : (bytes : List ℕ) (ss : List Statement) → length bytes ≤ max_script → IsScript bytes ss
+    → All IsReady ss
 script_ready bytes ss short h =
     let small : length bytes < 2 ^ 34 = omega arith in
     lines_ready (length bytes) (lines_of bytes) ss small

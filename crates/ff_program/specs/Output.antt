@@ -1,5 +1,6 @@
 -- What a run prints.
 use Rattle.std.specs.Prelude.{◌≡◌, ℕ, ◌<◌, ◌≤◌, List, [], ◌∷◌, ◌++◌, length, map, codes, Bool, true, false, flat_map, decimal}
+use Rattle.function_field.specs.Limits.{max_script}
 use Rattle.ff_script.specs.declared.script.Statement.{Statement}
 use Rattle.ff_script.specs.Scripts.{IsScript, IsSyntaxFault, IsMisplaced}
 use Rattle.ff_meaning.specs.declared.refusal.Refusal.{Refusal}
@@ -66,10 +67,11 @@ pub record IsOut (ss : List Statement) (text : List ℕ) (finished : Bool) : Typ
 
 -- what a run prints for its whole input
 pub data IsOutput (bytes : List ℕ) : List ℕ → Bool → Type 0 where
-  TooLong : 65536 < length bytes → IsOutput bytes too_long_line false
-  Syntax : (line : ℕ) → length bytes ≤ 65536 → IsSyntaxFault bytes line → IsOutput bytes (syntax_line line) false
-  Misplaced : (line : ℕ) → length bytes ≤ 65536 → IsMisplaced bytes line → IsOutput bytes (misplaced_line line) false
-  Script : (ss : List Statement) (text : List ℕ) (finished : Bool) → length bytes ≤ 65536 → IsScript bytes ss
+  TooLong : max_script < length bytes → IsOutput bytes too_long_line false
+  Syntax : (line : ℕ) → length bytes ≤ max_script → IsSyntaxFault bytes line → IsOutput bytes (syntax_line line) false
+  Misplaced : (line : ℕ) → length bytes ≤ max_script → IsMisplaced bytes line
+      → IsOutput bytes (misplaced_line line) false
+  Script : (ss : List Statement) (text : List ℕ) (finished : Bool) → length bytes ≤ max_script → IsScript bytes ss
       → IsOut ss text finished → IsOutput bytes text finished
 
 -- What a run over these statements has printed between two pieces: the blocks of the first ones, or all.
@@ -83,5 +85,5 @@ pub data IsPart (ss : List Statement) : List ℕ → Type 0 where
 pub data IsBegun (bytes : List ℕ) : List ℕ → Type 0 where
   Nothing : IsBegun bytes []
   Line : (text : List ℕ) (finished : Bool) → IsOutput bytes text finished → IsBegun bytes text
-  Part : (ss : List Statement) (text : List ℕ) → length bytes ≤ 65536 → IsScript bytes ss → IsPart ss text
+  Part : (ss : List Statement) (text : List ℕ) → length bytes ≤ max_script → IsScript bytes ss → IsPart ss text
       → IsBegun bytes text

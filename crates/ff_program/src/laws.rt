@@ -1,6 +1,7 @@
 //! Laws of what a run prints, each stated by a function with an empty body.
 
 ghost use Rattle.std.specs.Prelude.{◌≡◌, ℕ, ◌≤◌, ◌↔◌, List, length, Bool, true, false};
+ghost use Rattle.function_field.specs.Limits.{max_script};
 ghost use Rattle.ff_io.specs.Streams.{IsPrefix};
 ghost use Rattle.ff_program.specs.Commands.{IsAnsweredWhole};
 ghost use Rattle.ff_program.specs.declared.status.Status.TheVariants.{Done, Refused};
@@ -17,7 +18,7 @@ pub fn one_output()
         → IsOutput bytes text finished → IsOutput bytes other over → (text ≡ other) × (finished ≡ over) }
     ensures begins { (bytes text whole : List ℕ) (finished : Bool)
         → IsBegun bytes text → IsOutput bytes whole finished → IsPrefix text whole }
-    ensures answered { (bytes text : List ℕ) (finished : Bool) → length bytes ≤ 65536
+    ensures answered { (bytes text : List ℕ) (finished : Bool) → length bytes ≤ max_script
         → IsOutput bytes text finished → (finished ≡ true) ↔ IsAnsweredWhole bytes text }
     ensures room { (bytes whole : List ℕ) (finished : Bool) (room : ℕ)
         → IsOutput bytes whole finished → length whole ≤ room

@@ -1,6 +1,5 @@
 //! The program as a library: `top` does what the words of a command ask for, over a source and a sink, and `Status`
-//! says
-//! how it ended.
+//! says how it ended.
 #![tactic(auto)]
 
 pub mod laws;

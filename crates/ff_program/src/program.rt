@@ -24,10 +24,9 @@ fn is_run(words: &[String]) -> bool
 }
 
 /// Does what the words after the program's own name ask for. With the word `run` it reads a script from the source to
-/// its
-/// end, and prints to the sink a true answer to each statement, up to the first that is refused. Other words print the
-/// usage line; then nothing is read, and no memory is taken. Of bytes the clauses speak where the source and the sink
-/// tell them. `WantOfMemory` may come at any moment.
+/// its end, and prints to the sink a true answer to each statement, up to the first that is refused. Other words print
+/// the usage line; then nothing is read, and no memory is taken. Of bytes the clauses speak where the source and the
+/// sink tell them. `WantOfMemory` may come at any moment.
 ///
 /// Reading and parsing take time in proportion to the bytes; a product takes the square of the degrees.
 pub fn top<S: Source, T: Sink>(alloc: Global, words: &[String], src: &mut S, out: &mut T) -> Status
@@ -35,6 +34,7 @@ pub fn top<S: Source, T: Sink>(alloc: Global, words: &[String], src: &mut S, out
     ensures usage { result ≡ Status.Usage → ¬ IsRun (map string_bytes words.now) }
     ensures no_command { ¬ IsRun (map string_bytes words.now) →
         (src.new ≡ src.old) × EndsWith T.taken T.faults T.free out.old out.new usage_line Status.Usage result }
+    ensures no_check { ¬ (result ≡ Status.CheckNo) }
 
     // What is printed is the output of the bytes that the source had left, which were read to their end.
     ensures done { result ≡ Status.Done → ForSome (S.left src.old) (λ bytes.

@@ -1,6 +1,7 @@
 //! Answers a script.
 
 ghost use Rattle.std.specs.Prelude.{◌≡◌, ◌≢◌, ◌≤◌, ◌++◌, length, All, IfOk, OnOk, OnErr};
+ghost use Rattle.function_field.specs.Limits.{max_script};
 ghost use Rattle.ff_script.specs.Scripts.{IsInOrder};
 ghost use Rattle.ff_meaning.specs.declared.refusal.Refusal.{Refusal};
 ghost use Rattle.ff_cert.specs.Lines.{echo_line};
@@ -117,7 +118,7 @@ fn misplaced_text(alloc: Global, line: u32) -> Result<Vec<u8>, AllocError>
 
 /// Answers a script, or says which line isn't in the grammar or out of order.
 fn run_bytes<T: Sink>(alloc: Global, bytes: &[u8], out: &mut T) -> Status
-    requires { length bytes.now ≤ 65536 }
+    requires { length bytes.now ≤ max_script }
     ensures { EndsAs T.taken T.faults T.free (IsOutput bytes.now) (IsBegun bytes.now) out.old out.new result }
 {
     match parse(alloc, bytes) {

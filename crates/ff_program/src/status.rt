@@ -12,10 +12,12 @@ pub enum Status {
     ReadFault,
     WriteFault,
     WantOfMemory,
+    /// A transcript isn't valid: the answer of a check, which no command gives yet.
+    CheckNo,
 }
 
 impl Status {
-    /// The exit status of the program, from 0 on in the order of the variants. 6 is kept for a check that answers no.
+    /// The exit status of the program, from 0 on in the order of the variants.
     pub fn number(self) -> u8
         ensures { result ≡ status_number self }
     {
@@ -26,6 +28,7 @@ impl Status {
             Status::ReadFault => 3,
             Status::WriteFault => 4,
             Status::WantOfMemory => 5,
+            Status::CheckNo => 6,
         }
     }
 }

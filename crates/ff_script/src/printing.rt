@@ -11,8 +11,7 @@ use std::alloc::{AllocError, Global};
 
 /// The text of a statement, without a line feed: one space between tokens, and none within polynomials and elements
 /// but around `+` and `-` and behind `,`. A denominator stands in parentheses unless it is one term without `-`. Linear
-/// in
-/// the text.
+/// in the text.
 pub fn print(alloc: Global, s: &Statement) -> Result<Vec<u8>, AllocError>
     ensures { IfOk result (λ v. v.items ≡ statement_text s.now) }
 {

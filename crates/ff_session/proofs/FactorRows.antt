@@ -8,7 +8,7 @@ use Rattle.ff_text.specs.Printing.{IsWritableTerms}
 use Rattle.ff_text.specs.Values.{written_codes}
 use Rattle.ff_meaning.specs.declared.refusal.Refusal.{Refusal}
 use Rattle.ff_meaning.specs.declared.refusal.Refusal.TheVariants.{LimitX, Zero}
-use Rattle.ff_meaning.specs.Limits.{max_degree}
+use Rattle.function_field.specs.Limits.{max_degree}
 use Rattle.ff_meaning.specs.Meaning.{IsSumOf, IsPolyOf}
 use Rattle.ff_meaning.specs.Refusals.{IsFactorRow, range, degree, zero_sum}
 use Rattle.ff_meaning.proofs.ElementValues.{Terms, coefficient_exists, no_y_sum, degree_is, poly_is, same_poly, none_found}

@@ -1,21 +1,31 @@
 -- The written rows of a side's integral functions, one after another, and what they span.
-use Rattle.std.proofs.Common.{◌≡◌, ℕ, ◌+◌, ◌<◌, List, [], ◌∷◌, ◌++◌, length, take, map, refl, sym, ap₂, subst, Some}
+use Rattle.std.proofs.Common.{◌≡◌, ℕ, ◌+◌, ◌<◌, List, [], ◌∷◌, ◌++◌, length, take, refl, sym, subst, Some}
 use Rattle.std.specs.Prelude.{slice_get, Result, Ok, Err, IfOk}
 use Rattle.std.proofs.lemmas.List.{take_more}
 use Rattle.std.proofs.lemmas.Option.{get_or_from_slice_get}
 use Rattle.std.specs.declared.alloc.AllocError.{AllocError}
 use Rattle.ff_fields.specs.Field.{CodeField}
 use Rattle.function_field.specs.declared.side.Side.{Side}
-use Rattle.function_field.specs.Values.{ElemValue, function_of}
+use Rattle.function_field.specs.declared.side.Side.TheVariants.{Finite, Infinite}
+use Rattle.function_field.specs.Values.{ElemValue}
 use Rattle.function_field.specs.Infinity.{function_on}
-use Rattle.function_field.specs.Curves.{CurveValue}
-use Rattle.ff_lattice.specs.Lattices.{LatticeValue, row_elems}
-use Rattle.value_theory.specs.IntegralLattices.{SpansIntegral, SpansOverPowersOfT, IsIntegralLattice}
+use Rattle.function_field.specs.Curves.{CurveValue, IsCurve}
+use Rattle.ff_lattice.specs.Lattices.{LatticeValue, IsLattice, row_elems}
+use Rattle.value_theory.specs.IntegralLattices.{presentation, SpansIntegral, SpansOverPowersOfT, IsIntegralLattice}
 use Rattle.ff_text.specs.Printed.{WrittenValue}
-use Rattle.ff_meaning.specs.LowestTerms.{IsWritten, elem_of}
+use Rattle.ff_meaning.specs.LowestTerms.{IsWritten}
 use Rattle.ff_cert.specs.RowOrder as order_row
+use Rattle.ff_cert.proofs.WrittenRows.{written_functions}
+
+-- both presentations have one degree
+one_degree : (k : CodeField) (c : CurveValue) → IsCurve k c → (s : Side) → (presentation c s).n ≡ c.fin.n
+one_degree k c h Finite = refl
+one_degree k c h Infinite = h.infinite.degree
 
 module _ (k : CodeField) (c : CurveValue) (s : Side) where
+  pub form_on : (l : LatticeValue) → IsCurve k c → IsIntegralLattice k c s l → IsLattice k.ops c.fin.n l
+  form_on l curve h = subst (λ n. IsLattice k.ops n l) (one_degree k c curve s) h.form
+
   rows_push : (rs : List ElemValue) (zs : List WrittenValue) (r : ElemValue) (z : WrittenValue)
       → order_row.AreWrittenRows k c s rs zs
       → IsWritten k c.fin (function_on k c.fin c.c s r) z → order_row.AreWrittenRows k c s (rs ++ r ∷ []) (zs ++ z ∷ [])
@@ -33,21 +43,14 @@ module _ (k : CodeField) (c : CurveValue) (s : Side) where
       (subst (λ q. order_row.AreWrittenRows k c s (take i rs ++ q ∷ []) (zs ++ z ∷ []))
       (sym (get_or_from_slice_get rs i r r at)) (rows_push (take i rs) zs r z h one))
 
-  -- they stand for the functions of the rows
-  written_functions : (rs : List ElemValue) (zs : List WrittenValue) → order_row.AreWrittenRows k c s rs zs
-      → map (function_on k c.fin c.c s) rs ≡ map (λ (z : WrittenValue). function_of k c.fin (elem_of z)) zs
-  written_functions [] zs h = rw h refl
-  written_functions (r ∷ rs) [] h = absurd h
-  written_functions (r ∷ rs) (z ∷ zs) h = ap₂ ◌∷◌ (sym h.0.same) (written_functions rs zs h.1)
-
   pub order_answer : (l : LatticeValue) (zs : List WrittenValue) → IsIntegralLattice k c s l
       → order_row.AreWrittenRows k c s (row_elems l) zs → order_row.IsTrue k c s zs
   order_answer l zs h rows = record {
     lattice = l;
     form = h.form;
     rows = rows;
-    span = subst (SpansIntegral k c s) (written_functions (row_elems l) zs rows) h.span;
-    whole = subst (SpansOverPowersOfT k c s) (written_functions (row_elems l) zs rows) h.whole;
+    span = subst (SpansIntegral k c s) (written_functions k c s (row_elems l) zs rows) h.span;
+    whole = subst (SpansOverPowersOfT k c s) (written_functions k c s (row_elems l) zs rows) h.whole;
   }
 
   pub rows_answer : (l : LatticeValue) (x : Result (List WrittenValue) AllocError) → IsIntegralLattice k c s l

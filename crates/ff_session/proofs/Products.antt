@@ -5,7 +5,7 @@ use Rattle.function_field.specs.Values.{ElemValue, PresValue, Functions, functio
 use Rattle.ff_text.specs.declared.terms.ElemText.{ElemText}
 use Rattle.ff_text.specs.Printed.{WrittenValue}
 use Rattle.ff_meaning.specs.declared.refusal.Refusal.{Refusal}
-use Rattle.ff_meaning.specs.Limits.{max_degree}
+use Rattle.function_field.specs.Limits.{max_degree}
 use Rattle.ff_meaning.specs.LowestTerms.{IsWritten}
 use Rattle.ff_meaning.specs.Elements.{IsElementRead}
 use Rattle.ff_meaning.specs.Refusals.{IsProductRow}

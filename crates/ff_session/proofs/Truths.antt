@@ -24,7 +24,7 @@ use Rattle.ff_script.specs.declared.script.Statement.{Statement}
 use Rattle.ff_script.specs.declared.script.Statement.TheVariants.{FieldOf, CurveOf, Mul, Factor, OrderOf}
 use Rattle.ff_meaning.specs.declared.refusal.Refusal.{Refusal}
 use Rattle.ff_meaning.specs.FieldLines.{Names}
-use Rattle.ff_meaning.specs.Limits.{max_degree}
+use Rattle.function_field.specs.Limits.{max_degree}
 use Rattle.ff_meaning.specs.Refusals.{UnlessMemory, IsFieldLineFault, IsFieldRow, IsNoCurve, range, fault, IsProductRow, IsFactorRow, IsRefusalRow}
 use Rattle.ff_meaning.specs.Bindings.{Bindings, nothing, with_field, with_curve}
 use Rattle.ff_meaning.proofs.TermCodes.{same_terms}

@@ -12,7 +12,7 @@ use Rattle.ff_script.specs.declared.script.Modulus.{Modulus}
 use Rattle.ff_script.specs.declared.script.Statement.{Statement}
 use Rattle.ff_meaning.specs.declared.refusal.Refusal.{Refusal}
 use Rattle.ff_meaning.specs.FieldLines.{Names}
-use Rattle.ff_meaning.specs.Limits.{max_degree, max_answer_degree, max_output}
+use Rattle.function_field.specs.Limits.{max_degree, max_answer_degree, max_output}
 use Rattle.ff_meaning.specs.Refusals.{HasNoRow, IsProductRow, IsFactorRow}
 use Rattle.ff_meaning.specs.Bindings.{Bindings}
 use Rattle.ff_cert.specs.declared.answer.Answer.{Answer}

@@ -5,6 +5,7 @@ ghost use Rattle.std.specs.Option.{ForSome};
 ghost use Rattle.ff_fields.specs.Fields.{field_of};
 ghost use Rattle.ff_fields.specs.FieldData.{data_of};
 ghost use Rattle.function_field.specs.Curves.{IsCurve};
+ghost use Rattle.function_field.specs.Limits.{max_output};
 ghost use Rattle.ff_script.specs.Printing.{IsWritable};
 ghost use Rattle.ff_meaning.specs.Bindings.{nothing, with_curve, IsInPlace, HasSmallPowers};
 ghost use Rattle.ff_meaning.specs.Refusals.{UnlessMemory, IsRefusalRow};
@@ -23,7 +24,7 @@ use ff_cert::{Answer, degree, push_answer, push_echo};
 use ff_fields::fields::Field;
 use ff_meaning::Refusal;
 use ff_script::Statement;
-use std::alloc::Global;
+use std::alloc::{AllocError, Global};
 use std::marker::Model;
 
 /// The greatest degree of a polynomial in an answer.
@@ -43,6 +44,23 @@ enum Bound {
     Curve { k: Field, curve: Curve },
 }
 
+impl Bound {
+    /// The same field and curve, in memory of their own.
+    fn copy(&self, alloc: Global) -> Result<Bound, AllocError>
+        ensures { IfOk result (λ b. b ≡ self.now) }
+    {
+        match self {
+            Bound::Nothing => Ok(Bound::Nothing),
+            Bound::Field { k } => Ok(Bound::Field { k: k.copy(alloc)? }),
+            Bound::Curve { k, curve } => {
+                let k = k.copy(alloc)?;
+                let curve = curve.copy(alloc)?;
+                Ok(Bound::Curve { k, curve })
+            }
+        }
+    }
+}
+
 /// What the statements so far have bound, whether the texts are bare, and how many bytes were printed so far.
 #[derive(Drop)]
 pub struct Session {
@@ -54,6 +72,7 @@ pub struct Session {
 
 impl Model for Session {
     ghost use Rattle.std.specs.Prelude.{◌≤◌};
+    ghost use Rattle.function_field.specs.Limits.{max_output};
     ghost use Rattle.ff_cert.specs.Blocks.{SessionValue};
     ghost use Rattle.ff_session.specs.Bound.{bindings_of, IsSound};
 
@@ -61,13 +80,13 @@ impl Model for Session {
 
     ghost view = { λ s. record { bindings = bindings_of s.bound; bare = s.bare; printed = s.printed } };
 
-    ghost invariant = { λ s. IsSound s.bound × (s.printed ≤ 268435456) };
+    ghost invariant = { λ s. IsSound s.bound × (s.printed ≤ max_output) };
 }
 
 impl Session {
     /// Nothing is bound, and so many bytes were printed. No memory is taken.
     pub fn new(alloc: Global, bare: bool, printed: u64) -> Session
-        requires { printed ≤ 268435456 }
+        requires { printed ≤ max_output }
         ensures { result ≡ record { bindings = nothing; bare = bare; printed = printed } }
     {
         Session {
@@ -78,11 +97,22 @@ impl Session {
         }
     }
 
+    /// An equal session, in memory of its own.
+    pub fn copy(&self) -> Result<Session, AllocError>
+        ensures { IfOk result (λ s. s ≡ self.now) }
+    {
+        let bound = self.bound.copy(self.alloc)?;
+        Ok(Session {
+            bound,
+            bare: self.bare,
+            printed: self.printed,
+            alloc: self.alloc,
+        })
+    }
+
     /// The text of the statement's block, or why there is none. The statement has a spelling and stands in its place.
-    /// After
-    /// a refusal the session is as before. A product takes the square of the degrees, and the factors of its
-    /// denominator; a
-    /// curve, some hundred products; factors, what `factor` takes; an order, what `maximal_order` takes.
+    /// After a refusal the session is as before. A product takes the square of the degrees, and the factors of its
+    /// denominator; a curve, some hundred products; factors, what `factor` takes; an order, what `maximal_order` takes.
     pub fn step(&mut self, s: &Statement) -> Result<Vec<u8>, Refusal>
         requires in_place { IsInPlace self.old.bindings s.now }
         requires spelled { IsWritable s.now }

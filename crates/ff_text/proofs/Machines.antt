@@ -70,8 +70,7 @@ along step P keeps s t g (b ∷ bs) p e =
 -- ---- a machine of a relation
 
 -- The machine reaches a whole state exactly by a spelling, and has its value. Each state that is reached can become
--- whole. The last value
--- is that of the longest spelling so far.
+-- whole. The last value is that of the longest spelling so far.
 pub record IsMachine {S V : Type 0} (step : S → ℕ → Option S) (start : S) (whole : S → Bool) (last : S → Option V)
     (Spells : V → List ℕ → Type 0) : Type 0 where
   pub fresh : whole start ≡ false

@@ -70,10 +70,8 @@ pub fn elem_of_text(alloc: Global, b: &[u8]) -> Result<(Vec<Poly>, Poly), TextFa
 }
 
 /// The printable polynomial whose text stands in the line from column `at` on, and the position after it. Behind it
-/// stands
-/// nothing that could go on a polynomial: no digit, `^` or `*`, and not ` + `. `Syntax(0)` exactly where none stands
-/// so.
-/// Time grows with its text and degree.
+/// stands nothing that could go on a polynomial: no digit, `^` or `*`, and not ` + `. `Syntax(0)` exactly where none
+/// stands so. Time grows with its text and degree.
 pub fn read_poly(alloc: Global, line: &[u8], at: usize) -> Result<(Poly, usize), TextFault>
     requires { at ≤ length line.now }
     ensures found { IfOk result (λ x. IsPolyAt line.now at x.0 x.1) }

@@ -1,12 +1,9 @@
 //! Reads numbers, polynomials and elements in the middle of a line.
 //!
 //! Each reader reads the longest spelling that begins at a column of the line, and answers its value and the column
-//! behind
-//! it. Where none begins there, it answers `TextFault::Syntax` with the greatest column such that the bytes from the
-//! one
-//! to before the other begin a spelling. It never answers `TextFault::CodeRange`, and takes time in proportion to the
-//! bytes
-//! that it looks at. Condition of each: the column isn't behind the end of the line.
+//! behind it. Where none begins there, it answers `TextFault::Syntax` with the greatest column such that the bytes from
+//! the one to before the other begin a spelling. It never answers `TextFault::CodeRange`, and takes time in proportion
+//! to the bytes that it looks at. Condition of each: the column isn't behind the end of the line.
 
 ghost use Rattle.std.specs.Prelude.{◌≡◌, ◌≢◌, ◌≤◌, true, false, length, Err, IfOk, IfErr};
 ghost use Rattle.ff_text.specs.Spelling.{SpellsNumber, SpellsTerms, SpellsElement};

@@ -50,6 +50,7 @@ pub struct TermList {
 }
 
 impl Model for TermList {
+    ghost use Rattle.std.specs.Prelude.{List};
     ghost use Rattle.ff_text.specs.declared.terms.Term.{Term};
 
     ghost Value = { List Term };
@@ -65,6 +66,7 @@ pub struct EntryList {
 }
 
 impl Model for EntryList {
+    ghost use Rattle.std.specs.Prelude.{List};
     ghost use Rattle.ff_text.specs.declared.terms.Term.{Term};
 
     ghost Value = { List (List Term) };

@@ -11,9 +11,8 @@ use ff_poly::Terms;
 use std::alloc::Global;
 
 /// The sum of the terms over the field. Condition: in each term the exponents of x add up to less than 2^64, and those
-/// of
-/// y too. `TextFault::CodeRange` tells the first code, in the order in which they are written, that is the size of the
-/// field or more. It takes the time of a sort of the terms.
+/// of y too. `TextFault::CodeRange` tells the first code, in the order in which they are written, that is the size of
+/// the field or more. It takes the time of a sort of the terms.
 pub fn collect<K: SmallField>(alloc: Global, k: &K, terms: &TermList) -> Result<Terms, TextFault>
     requires { All HasSmallExponents terms.now }
     ensures codes_in { OnOk result (All (λ c. c < (K.field k.now).size) (written_codes terms.now)) }

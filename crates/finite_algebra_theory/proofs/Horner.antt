@@ -1,6 +1,5 @@
 -- Lists of coefficients as functions of polynomials: leading coefficients, synthetic division, the minimal polynomial
--- and
--- Lagrange's idempotents as a program has them, and the q-th power of a combination.
+-- and Lagrange's idempotents as a program has them, and the q-th power of a combination.
 use Rattle.std.proofs.lemmas.List.Elements.{All-nil, All-cons, All-head, All-tail, All-weaker, All-map}
 use Rattle.std.proofs.Common.{◌≡◌, ℕ, suc, ◌<◌, ◌^◌, List, [], ◌∷◌, map, length, refl, ◌∙◌, ap, ap₂, subst, All}
 use Rattle.std.proofs.lemmas.List.{length-map}

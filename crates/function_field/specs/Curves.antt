@@ -1,9 +1,10 @@
 -- Curves: what each has, its discriminant and its infinite presentation.
-use Rattle.std.specs.Prelude.{◌≡◌, ◌≢◌, ℕ, ◌-◌, ◌*◌, ◌≤◌, List, [], length, reverse, All}
+use Rattle.std.specs.Prelude.{◌≡◌, ◌≢◌, ℕ, ◌+◌, ◌-◌, ◌*◌, ◌≤◌, List, [], length, reverse, All}
 use Rattle.ff_fields.specs.Field.{CodeField}
 use Rattle.ff_fields.specs.Over.{IsOver}
 use Rattle.ff_poly.specs.Words.{IsPoly, poly_of, shifted}
 use Rattle.ff_poly.specs.Value.{value}
+use Rattle.function_field.specs.Limits.{max_degree_in_y, max_discriminant_degree, max_degree_at_infinity}
 use Rattle.function_field.specs.Values.{PresValue, IsPresOver, equation_of}
 use Rattle.function_field.specs.Infinity.{IsInfinitePresentation}
 use Rattle.function_field.specs.Discriminant.{discriminant}
@@ -29,13 +30,13 @@ module _ (k : CodeField) where
   -- what every curve over k is: within the limits, with a discriminant that isn't 0, and with its infinite presentation
   pub record IsCurve (c : CurveValue) : Type 0 where
     pub at_least_two : 2 ≤ c.fin.n
-    pub at_most_four : c.fin.n ≤ 4
+    pub at_most_four : c.fin.n ≤ max_degree_in_y
     pub fin_over : IsPresOver k.ops c.fin
     pub fin_poly : All IsPoly c.fin.coeffs
     pub disc : IsDiscriminant c.fin c.disc
     pub separable : c.disc ≢ []
-    pub disc_degree : length c.disc ≤ 65
+    pub disc_degree : length c.disc ≤ max_discriminant_degree + 1
     pub infinite : IsInfinitePresentation k c.fin c.c c.inf
     pub inf_over : IsPresOver k.ops c.inf
     pub inf_poly : All IsPoly c.inf.coeffs
-    pub disc_at_infinity : c.c * c.fin.n * (c.fin.n - 1) ≤ 224
+    pub disc_at_infinity : c.c * c.fin.n * (c.fin.n - 1) ≤ max_degree_at_infinity

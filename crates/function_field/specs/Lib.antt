@@ -1,4 +1,5 @@
 pub mod Setting
+pub mod Limits
 pub mod Spans
 pub mod Places
 pub mod Divisors
@@ -8,3 +9,4 @@ pub mod Infinity
 pub mod InfiniteSpans
 pub mod Discriminant
 pub mod Curves
+pub mod Indices

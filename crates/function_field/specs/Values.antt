@@ -8,6 +8,7 @@ use Rattle.ff_poly.specs.Words.{IsPoly, IsMonic, product_of}
 use Rattle.ff_poly.specs.Value.{value}
 use Rattle.ff_poly.specs.Polynomials.{Polynomial, polynomials, polynomials_domain, polynomial_discrete}
 use Rattle.function_field.specs.declared.side.Side.{Side}
+use Rattle.function_field.specs.Limits.{max_degree_in_y}
 use Rattle.function_field.specs.Setting.{Setting}
 use Rattle.function_field.specs.Places.{IsIntegralAt}
 use Rattle.function_field.specs.Functions.{Equation, FunctionOf, RowOver, function, ring_of, setting_of}
@@ -22,10 +23,10 @@ pub record PresValue : Type 0 where
   pub n : ℕ
   pub coeffs : List (List ℕ)
 
--- a degree from 1 to 4, and a coefficient for each power below it
+-- a degree from 1 to the limit, and a coefficient for each power below it
 pub record IsPres (p : PresValue) : Type 0 where
   pub positive : 1 ≤ p.n
-  pub at_most_four : p.n ≤ 4
+  pub at_most_four : p.n ≤ max_degree_in_y
   pub one_each : length p.coeffs ≡ p.n
 
 -- no polynomial has a zero on top, and the denominator is monic

@@ -16,13 +16,18 @@ use Rattle.function_field.specs.Places.{Place, IsPlace, IsIn}
 use Rattle.function_field.specs.Divisors.{HasDegree}
 use Rattle.function_field.specs.Functions.{Equation, FunctionOf, ring_of, of_poly, IsCode, setting_of}
 use Rattle.function_field.proofs.ScalarRings.{scalars_subring}
-use Rattle.lattice_theory.specs.Lattices.{HasIndex, space_ops}
+use Rattle.function_field.specs.Indices.{HasIndex, space_ops}
 use Rattle.lattice_theory.proofs.Indices.{code_of}
 use Rattle.lattice_theory.proofs.Operations.{inverse_of}
 use Rattle.order_theory.proofs.Degrees.{constant_of, code_is}
 use Rattle.order_theory.proofs.FinitePlaces.{Int, finite, place_prime}
 use Rattle.ring_lemmas.proofs.Ring.{zero_mul}
 use Rattle.ideal_theory.proofs.PowerValues.{on_side}
+use Rattle.ring_lemmas.specs.Ring.{CommRing}
+
+-- v is t and what is left
+pub part_and_rest : {A : Type 0} (R : CommRing A) (v t : A) → v ≡ R.◌⊕◌ t (R.◌⊕◌ v (R.⊖◌ t))
+part_and_rest R v t = ring R (v ∷ t ∷ []) λ r x. simp (reads, r, x 0, x 1) (r.equal _ _ refl)
 
 module _ {k : CodeField} (c : Equation k) where
   infixl 65 ◌⊕◌
@@ -109,7 +114,7 @@ module _ {k : CodeField} (c : Equation k) where
               coefficient = s.0;
               rest = v ⊕ ⊖ t.0;
               rest_in = t.2;
-              is = split v t.0 ∙ ap (λ x. x ⊕ (v ⊕ ⊖ t.0)) s.1;
+              is = part_and_rest (ring_of c) v t.0 ∙ ap (λ x. x ⊕ (v ⊕ ⊖ t.0)) s.1;
             };
         independent = λ e m i l.
             code_zero (e i)
@@ -119,9 +124,6 @@ module _ {k : CodeField} (c : Equation k) where
       };
       count = d.count;
     }
-      where
-        split : (v t : FunctionOf c) → v ≡ t ⊕ (v ⊕ ⊖ t)
-        split v t = ring (ring_of c) (v ∷ t ∷ []) λ r x. simp (reads, r, x 0, x 1) (r.equal _ _ refl)
 
   pub index_of_degree : (P : Place (FunctionOf c)) → IsPlace (setting_of c) P → P.side ≡ Finite → (g : ℕ)
       → HasDegree (setting_of c) P g

@@ -19,6 +19,7 @@ use Rattle.polynomial_theory.proofs.Irreducible.{irreducible_some}
 use Rattle.lattice_theory.proofs.Bases.{monic_multiple}
 use Rattle.order_theory.proofs.Degrees.{constant_of}
 use Rattle.order_theory.proofs.InvertibleIdeals.{divisor_of, divides_it, divisor_irreducible}
+use Rattle.std.proofs.lemmas.Bool.{cases_lt}
 
 module _ {k : CodeField} (c : Equation k) where
   -- irreducible polynomials whose product g divides
@@ -29,11 +30,8 @@ module _ {k : CodeField} (c : Equation k) where
 
   factors_below : (n : ℕ) (g : Polynomial k) → ¬ (g ≡ (polynomials k).𝟘) → length g.0 < n → Factors g
   factors_below zero g some l = absurd (omega arith)
-  factors_below (suc n) g some l = go (order (length g.0)) (λ u u_some less. factors_below n u u_some less)
+  factors_below (suc n) g some l = go (cases_lt 1 (length g.0)) (λ u u_some less. factors_below n u u_some less)
     where
-      order : (m : ℕ) → (2 ≤ m) ⊎ (m ≤ 1)
-      order m = grind arith
-
       go : (2 ≤ length g.0) ⊎ (length g.0 ≤ 1)
           → ((u : Polynomial k) → ¬ (u ≡ (polynomials k).𝟘) → length u.0 < n → Factors u) → Factors g
       go (inr short) again =

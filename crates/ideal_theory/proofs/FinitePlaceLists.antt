@@ -15,7 +15,7 @@ use Rattle.function_field.specs.Discriminant.{discriminant}
 use Rattle.function_field.proofs.ScalarRings.{scalars_subring}
 use Rattle.trace_theory.specs.Traces.{polynomial_product}
 use Rattle.lattice_theory.specs.Lattices.{HasMultiple}
-use Rattle.order_theory.proofs.IntegralLattice.{integral_lattice, polynomial_integral}
+use Rattle.order_theory.proofs.IntegralLattice.{integral_lattice, polynomial_in}
 use Rattle.order_theory.proofs.FinitePlaces.{Int, finite, in_place_decided}
 use Rattle.order_theory.proofs.IrreducibleIn.{factor_in, one_out, times}
 use Rattle.order_theory.proofs.PlaceEntries.{any_map, places_over_p, all_places_over}
@@ -98,9 +98,6 @@ module _ {k : CodeField} (c : Equation k) (some : ¬ (discriminant c ≡ (polyno
       r : HasAll f.list
       r = places_with f.list f.irreducible
 
-      polynomial_in : (q : Polynomial k) → Int c (of_poly c q)
-      polynomial_in q = polynomial_integral c (of_poly c q) (record { polynomial = q; value = refl })
-
       -- a place with the product of the denominators is listed
       has : (gs : List (FunctionOf c)) → IsPlace (setting_of c) (finite c gs)
           → IsIn (setting_of c) (finite c gs) (of_poly c ((polynomials k).◌⊗◌ a.factor b.factor))
@@ -121,5 +118,5 @@ module _ {k : CodeField} (c : Equation k) (some : ¬ (discriminant c ≡ (polyno
           ((polynomials k).mul_comm _ _) (times c gs place b.factor a.factor m)))
       at gs place (no n) (yes m) = inr (has gs place (times c gs place a.factor b.factor m))
       at gs place (no n) (no m) =
-          inl (value_zero c gs place z y (of_poly c a.factor) (of_poly c b.factor) inverse (polynomial_in a.factor) n
-          a.multiple_in (polynomial_in b.factor) m b.multiple_in)
+          inl (value_zero c gs place z y (of_poly c a.factor) (of_poly c b.factor) inverse (polynomial_in c a.factor) n
+          a.multiple_in (polynomial_in c b.factor) m b.multiple_in)

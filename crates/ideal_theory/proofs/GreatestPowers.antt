@@ -20,7 +20,8 @@ use Rattle.function_field.specs.Functions.{Equation, FunctionOf, ring_of, of_pol
 use Rattle.function_field.proofs.ScalarRings.{scalars_subring}
 use Rattle.places_theory.specs.Orders.{IsOrderAt, InPrime}
 use Rattle.places_theory.proofs.PlaceValues.{value_iff, place_prime as prime_at_order}
-use Rattle.lattice_theory.specs.Lattices.{IsLattice, HasIndex}
+use Rattle.function_field.specs.Indices.{HasIndex}
+use Rattle.lattice_theory.specs.Lattices.{IsLattice}
 use Rattle.lattice_theory.proofs.Indices.{index_add, index_none, index_of, index_once, index_zero}
 use Rattle.lattice_theory.proofs.Operations.{lattice_within}
 use Rattle.order_theory.specs.Orders.{IsOrder, IsPrimeTo}

@@ -14,7 +14,8 @@ use Rattle.prime_theory.proofs.Products.{product_into, product_monotone, product
 use Rattle.prime_theory.proofs.Invertible.{inverse_is_module, inverse_of_product, invertible_product, trace_ideal}
 use Rattle.ff_fields.specs.Field.{CodeField}
 use Rattle.function_field.specs.Functions.{Equation, FunctionOf, ring_of}
-use Rattle.lattice_theory.specs.Lattices.{IsLattice, HasIndex}
+use Rattle.function_field.specs.Indices.{HasIndex}
+use Rattle.lattice_theory.specs.Lattices.{IsLattice}
 use Rattle.lattice_theory.proofs.Bases.{index_same}
 use Rattle.lattice_theory.proofs.Indices.{index_none}
 use Rattle.lattice_theory.proofs.Operations.{product_lattice, colon_lattice}

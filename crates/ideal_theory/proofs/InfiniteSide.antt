@@ -1,6 +1,6 @@
 -- The infinite side: its places are invertible primes of O_inf, so the product of their powers is its conditions at
 -- the infinite places.
-use Rattle.std.proofs.Common.{◌≡◌, ◌↔◌, ◌⊎◌, inl, inr, ℕ, List, [], ◌∷◌, refl, sym, subst}
+use Rattle.std.proofs.Common.{◌≡◌, ◌↔◌, ℕ, List, [], ◌∷◌, refl, sym, subst}
 use Rattle.ring_theory.specs.Subsets.{IsSubring, IsModule, Product}
 use Rattle.ring_lemmas.proofs.Ring.{one_mul}
 use Rattle.ring_theory.proofs.RowMaps.{hom_zero}
@@ -34,6 +34,7 @@ use Rattle.ideal_theory.specs.Ideals.{IsDivisorOn, DivisorIdeal, HasValuesOf}
 use Rattle.ideal_theory.proofs.PowerValues.{on_side}
 use Rattle.ideal_theory.proofs.DivisorIdeals.{by_values}
 use Rattle.ideal_theory.proofs.FiniteSide.{finite_invertible}
+use Rattle.order_theory.proofs.InvertibleIdeals.{one_of_two}
 
 module _ (k : CodeField) (p q : PresValue) (c : ℕ) (f : Functions k q → Functions k p) (g : IsInfiniteMap k p q c f)
     (some : ¬ (discriminant (equation_of k q) ≡ (polynomials k).𝟘)) (ws : List (Functions k p))
@@ -129,12 +130,8 @@ module _ {k : CodeField} (c : Equation k) where
         ideal = m.ideal;
         proper = m.proper;
         invert = m.invert;
-        decide = λ u u_in. decided (spans_decided k c gs u);
+        decide = λ u u_in. one_of_two (spans_decided k c gs u);
       }) P e place
-    where
-      decided : {X : Type 0} → Dec X → X ⊎ (¬ X)
-      decided (yes x) = inl x
-      decided (no n) = inr n
 
   pub infinite_invertible : ¬ (discriminant c ≡ (polynomials k).𝟘) → (P : Place (FunctionOf c))
       → IsPlace (setting_of c) P → P.side ≡ Infinite

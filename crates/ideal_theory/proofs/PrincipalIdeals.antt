@@ -29,7 +29,7 @@ use Rattle.infinite_theory.proofs.ValueRules.{product_rule}
 use Rattle.ideal_theory.specs.Ideals.{IsDivisorOn, IsDivisorOf, DivisorIdeal}
 use Rattle.ideal_theory.proofs.DivisorIdeals.{PlaceOn, same_decided, values_of_ideal, ideal_of_values}
 
-opposite_of : (m n : ℤ) → m +ℤ n ≡ pos 0 → neg_ℤ m ≤ℤ n
+pub opposite_of : (m n : ℤ) → m +ℤ n ≡ pos 0 → neg_ℤ m ≤ℤ n
 opposite_of m n e = omega (arith, ints)
 
 module _ {E : Type 0} (S : Setting E) where
@@ -85,12 +85,6 @@ module _ {k : CodeField} (c : Equation k) (some : ¬ (discriminant c ≡ (polyno
 
   abbrev S : Setting (FunctionOf c)
   S = setting_of c
-
-  abbrev B : FunctionOf c → Type 0
-  B = IsIntegralAt (setting_of c) s
-
-  abbrev On : Type 0
-  On = PlaceOn (setting_of c) (scalars_subring c) s prime invertible
 
   decided : (P Q : PlaceOn (setting_of c) (scalars_subring c) s prime invertible)
       → Dec (IsSamePlace (setting_of c) P.0 Q.0)

@@ -10,7 +10,6 @@ use Rattle.function_field.specs.Functions.{Equation, of_poly, setting_of}
 use Rattle.function_field.specs.Discriminant.{discriminant}
 use Rattle.function_field.proofs.ScalarRings.{scalars_subring}
 use Rattle.places_theory.proofs.Sides.{place_is_maximal}
-use Rattle.order_theory.specs.Orders.{IsOrder}
 use Rattle.order_theory.proofs.FinitePlaces.{Int}
 use Rattle.order_theory.proofs.ReductionAt.{p_in}
 use Rattle.ideal_theory.specs.Records.{RowSpan, RecordedPrime, IsRecordAt, IsPlaceOfPrime, ArePrimesOfPlaces, AreAllPlaces, place_of_rows}
@@ -21,12 +20,6 @@ use Rattle.ideal_theory.proofs.Records.{record_system}
 module _ {k : CodeField} (c : Equation k) (some : ¬ (discriminant c ≡ (polynomials k).𝟘)) (p : Polynomial k)
     (h : IsIrreducibleList k.ops (codes_of k p))
     (ps : List (RecordedPrime c (Int c))) (valid : IsRecordAt c (Int c) p ps) where
-  abbrev 𝓞 : IsOrder c (Int c)
-  𝓞 = maximal_order c some
-
-  abbrev I : Type 0
-  I = RecordedPrime c (Int c)
-
   -- the places of the primes
   r : ArePrimesOfPlaces c (Int c) p ps
   r = order_places c some p h (Int c) (maximal_order c some) ps valid

@@ -13,7 +13,7 @@ use Rattle.ff_poly.specs.Words.{IsIrreducibleList}
 use Rattle.ff_poly.specs.Polynomials.{Polynomial, codes_of}
 use Rattle.function_field.specs.Functions.{Equation, FunctionOf, ring_of, of_poly}
 use Rattle.polynomial_theory.proofs.Irreducible.{irreducible_some}
-use Rattle.lattice_theory.specs.Lattices.{HasIndex}
+use Rattle.function_field.specs.Indices.{HasIndex}
 use Rattle.lattice_theory.proofs.Bases.{index_same}
 use Rattle.lattice_theory.proofs.Indices.{index_once, index_zero}
 use Rattle.lattice_theory.proofs.Operations.{inverse_of}
@@ -22,6 +22,7 @@ use Rattle.order_theory.proofs.IndexProducts.{total}
 use Rattle.order_theory.proofs.ReductionAt.{pO, p_in}
 use Rattle.ideal_theory.specs.Records.{RowSpan, RecordedPrime, IsRecordAt}
 use Rattle.ideal_theory.proofs.Records.{IdealOf, Powers, recorded_family, powers_index, record_powers, record_system, record_distinct}
+use Rattle.std.proofs.lemmas.Bool.{cases_lt}
 
 -- where exponents are bounded by others with the same sum of products, they are equal
 module _ {I : Type 0} (e f d : I → ℕ) (some : (i : I) → 1 ≤ d i) where
@@ -40,14 +41,11 @@ module _ {I : Type 0} (e f d : I → ℕ) (some : (i : I) → 1 ≤ d i) where
       let a : f i * d i ≤ e i * d i = mul-le-mul_right (d i) l in
       let b = total_le is rest in
       All-cons (λ i. f i ≡ e i) i is
-      (equal l (order (f i) (e i))
+      (equal l (cases_lt (f i) (e i))
       (let s : e i * d i + total e d is ≡ f i * d i + total f d is = t in omega (arith, a, b, s)))
       (equal_exponents is rest (let s : e i * d i + total e d is ≡ f i * d i + total f d is = t in
       omega (arith, a, b, s)))
     where
-      order : (m n : ℕ) → (suc m ≤ n) ⊎ (n ≤ m)
-      order m n = grind arith
-
       equal : f i ≤ e i → (suc (f i) ≤ e i) ⊎ (e i ≤ f i) → f i * d i ≡ e i * d i → f i ≡ e i
       equal l (inr g) p = omega (arith, l, g)
       equal l (inl g) p =

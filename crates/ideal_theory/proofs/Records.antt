@@ -20,7 +20,7 @@ use Rattle.ff_poly.specs.Polynomials.{Polynomial, codes_of}
 use Rattle.function_field.specs.declared.side.Side.TheVariants.{Finite}
 use Rattle.function_field.specs.Places.{IsIntegralAt}
 use Rattle.function_field.specs.Functions.{Equation, FunctionOf, ring_of, of_poly, IsPolynomial, degree_of_y, setting_of}
-use Rattle.lattice_theory.specs.Lattices.{HasIndex}
+use Rattle.function_field.specs.Indices.{HasIndex}
 use Rattle.lattice_theory.proofs.Indices.{index_add, index_of, index_once, index_zero}
 use Rattle.lattice_theory.proofs.Lattices.{lattice_decided, lattice_module}
 use Rattle.order_theory.specs.Orders.{IsOrder}
@@ -28,6 +28,7 @@ use Rattle.order_theory.proofs.IndexProducts.{total, IsFactor, product_index}
 use Rattle.order_theory.proofs.PrimesOver.{order_generators}
 use Rattle.order_theory.proofs.ReductionAt.{pO, p_in, p_within, multiple_is_lattice, index_of_p}
 use Rattle.ideal_theory.specs.Records.{RowSpan, RecordedPrime, ProductOfPowers, sum_of_record, IsRecordAt}
+use Rattle.order_theory.proofs.InvertibleIdeals.{one_of_two}
 
 module _ {k : CodeField} (c : Equation k) (O : FunctionOf c → Type 0) (𝓞 : IsOrder c O) where
   open ring_of c use {ops, 𝟙, ◌⊗◌}
@@ -45,9 +46,6 @@ module _ {k : CodeField} (c : Equation k) (p : Polynomial k) (h : IsIrreducibleL
   infixl 70 ◌⊗◌
   open ring_of c use {ops, 𝟙, ◌⊗◌}
 
-  abbrev I : Type 0
-  I = RecordedPrime c O
-
   -- the ideals of a record
   abbrev pub IdealOf : RecordedPrime c O → FunctionOf c → Type 0
   IdealOf i = RowSpan c i.rows
@@ -57,12 +55,8 @@ module _ {k : CodeField} (c : Equation k) (p : Polynomial k) (h : IsIrreducibleL
     ideal = i.field.ideal;
     proper = i.field.proper;
     invert = i.field.invert;
-    decide = λ u u_in. by (lattice_decided c (IdealOf i) i.lattice u);
+    decide = λ u u_in. one_of_two (lattice_decided c (IdealOf i) i.lattice u);
   }
-    where
-      by : {X : Type 0} → Dec X → X ⊎ (¬ X)
-      by (yes x) = inl x
-      by (no n) = inr n
 
   module_of : (i : RecordedPrime c O) → IsModule (ring_of c).ops O (IdealOf i)
   module_of i = ideal_module (ring_of c) O 𝓞.ring (IdealOf i) i.field.ideal
@@ -130,12 +124,6 @@ module _ {k : CodeField} (c : Equation k) (p : Polynomial k) (h : IsIrreducibleL
   -- the exponents less 1
   abbrev less : RecordedPrime c O → ℕ
   less i = i.exponent - 1
-
-  abbrev Positive : List (RecordedPrime c O) → FunctionOf c → Type 0
-  Positive ps =
-      IdealProduct (ring_of c).ops O IdealOf
-      (positive_entries (ring_of c) O 𝓞.ring (of_poly c p) (p_in c p h O 𝓞) (RecordedPrime c O) IdealOf
-      recorded_family less ps)
 
   powers_positive : (ps : List (RecordedPrime c O))
       → positive_entries (ring_of c) O 𝓞.ring (of_poly c p) (p_in c p h O 𝓞) (RecordedPrime c O) IdealOf

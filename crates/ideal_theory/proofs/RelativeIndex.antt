@@ -8,7 +8,8 @@ use Rattle.prime_theory.specs.Ideals.{SameSet}
 use Rattle.linear_theory.specs.Basis.{IsSum}
 use Rattle.ff_fields.specs.Field.{CodeField}
 use Rattle.function_field.specs.Functions.{Equation, FunctionOf, ring_of, IsPolynomial}
-use Rattle.lattice_theory.specs.Lattices.{IsLattice, HasIndex, space_ops}
+use Rattle.function_field.specs.Indices.{HasIndex, space_ops}
+use Rattle.lattice_theory.specs.Lattices.{IsLattice}
 use Rattle.lattice_theory.proofs.Bases.{index_same}
 use Rattle.lattice_theory.proofs.Indices.{index_add, index_none, index_of, index_once}
 use Rattle.lattice_theory.proofs.Lattices.{lattice_module}

@@ -3,7 +3,8 @@ use Rattle.std.specs.Prelude.{◌≡◌, ℕ, ℤ, pos, ◌-ℤ◌, List}
 use Rattle.ring_theory.specs.Subsets.{Span}
 use Rattle.ff_fields.specs.Field.{CodeField}
 use Rattle.function_field.specs.Functions.{Equation, FunctionOf, ring_of, IsPolynomial}
-use Rattle.lattice_theory.specs.Lattices.{IsLattice, HasIndex}
+use Rattle.function_field.specs.Indices.{HasIndex}
+use Rattle.lattice_theory.specs.Lattices.{IsLattice}
 
 module _ {k : CodeField} (c : Equation k) where
   -- in a lattice that has both A and B, the index of A less that of B

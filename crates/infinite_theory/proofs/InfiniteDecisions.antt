@@ -64,7 +64,7 @@ module _ (k : CodeField) (p q : PresValue) (c : ℕ) (f : Functions k q → Func
   f_lift : (w : Functions k p) → f (lift w) ≡ w
   f_lift w = f_back (functions k q) (functions k p) f g.isomorphism w
 
-  map_lift : (ws : List (Functions k p)) → map f (map lift ws) ≡ ws
+  pub map_lift : (ws : List (Functions k p)) → map f (map lift ws) ≡ ws
   map_lift [] = refl
   map_lift (w ∷ ws) = ap₂ (λ x xs. x ∷ xs) (f_lift w) (map_lift ws)
 

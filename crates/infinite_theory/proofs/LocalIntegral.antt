@@ -25,9 +25,6 @@ module _ {k : CodeField} (c : Equation k) (p : Polynomial k) (h : IsIrreducibleL
   infixl 70 ◌⊗◌
   open ring_of c use {𝟙, ◌⊗◌}
 
-  abbrev Int : FunctionOf c → Type 0
-  Int = IsIntegralAt (setting_of c) Finite
-
   -- an order that is maximal at p has, up to factors prime to p, what is integral up to such factors
   pub maximal_local : (O : FunctionOf c → Type 0) → IsOrder c O
       → MaximalAt (ring_of c).ops (of_poly c p) (IsIntegralAt (setting_of c) Finite) O

@@ -18,7 +18,7 @@ use Rattle.function_field.specs.Divisors.{HasDegree}
 use Rattle.function_field.proofs.ScalarRings.{scalars_subring}
 use Rattle.places_theory.specs.Orders.{IsOrderAt, InPrime}
 use Rattle.places_theory.proofs.PlaceValues.{valuation_iff}
-use Rattle.lattice_theory.specs.Lattices.{HasIndex}
+use Rattle.function_field.specs.Indices.{HasIndex}
 use Rattle.order_theory.specs.Orders.{IsOrder, IsPrimeTo}
 use Rattle.order_theory.proofs.Degrees.{classes_of_index}
 use Rattle.order_theory.proofs.LocalOrders.{order_integral, order_polynomials, maximal_order_at}

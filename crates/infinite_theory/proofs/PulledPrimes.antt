@@ -28,7 +28,7 @@ use Rattle.infinite_theory.specs.InfiniteMaps.{IsInfiniteMap, IsMemberBelow}
 use Rattle.infinite_theory.proofs.InfiniteTransport.{x_irreducible}
 use Rattle.infinite_theory.proofs.LocalIntegral.{maximal_local}
 use Rattle.infinite_theory.proofs.InfiniteDecisions.{infinite_span_decided, infinite_has_t}
-use Rattle.infinite_theory.proofs.PushedPlaces.{each, integral_of, pushed}
+use Rattle.infinite_theory.proofs.PushedPlaces.{each, integral_of, pushed, sum_of_parts}
 
 module _ (k : CodeField) (p q : PresValue) (c : ℕ) (f : Functions k q → Functions k p) (g : IsInfiniteMap k p q c f)
     (ws : List (Functions k p)) (place : IsPlace (setting k p) (infinite (equation_of k p) ws)) where
@@ -167,12 +167,6 @@ module _ (k : CodeField) (p q : PresValue) (c : ℕ) (f : Functions k q → Func
       members = each k p q c f g (λ w. IsIn (setting k p) (pushed k p q c f g gs) w ↔ In w) (λ z. (to z, from z));
     }
       where
-        sum : (l u r x z : Functions k q) → l ⊗ u ⊕ r ⊗ x ≡ 𝟙 → l ⊗ (u ⊗ z) ⊕ (r ⊗ z) ⊗ x ≡ z
-        sum l u r x z e =
-            from_one (functions k q) z e
-            (ring (functions k q) (l ∷ u ∷ r ∷ x ∷ z ∷ []) λ o i. simp (reads, o, i 0, i 1, i 2, i 3, i 4)
-            (o.equal _ _ refl))
-
         to : (z : Functions k q) → IsIn (setting k p) (pushed k p q c f g gs) (f z) → In (f z)
         to z m =
             let l = (g.spans gs z).1 m in
@@ -181,7 +175,7 @@ module _ (k : CodeField) (p q : PresValue) (c : ℕ) (f : Functions k q → Func
             let z_in : Inf (f z)
             = (g.integral z).0 (record
             { factor = l.factor; factor_in = l.factor_in; multiple_in = order_integral (equation_of k q) O 𝓞 _ i.0 }) in
-            subst (λ v. In (f v)) (sum b.left l.factor b.right X z b.is)
+            subst (λ v. In (f v)) (sum_of_parts (functions k q) b.left l.factor b.right X z b.is)
             (into_sum _ _ (into_scale b.left _ (image b.left (base b.left b.left_in)) i.1)
             (into_scale (b.right ⊗ z) X (infinite_product b.right z (image b.right (base b.right b.right_in)) z_in)
             into_variable))

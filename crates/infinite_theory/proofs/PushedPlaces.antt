@@ -21,6 +21,14 @@ use Rattle.order_theory.proofs.FinitePlaces.{finite, place_prime}
 use Rattle.infinite_theory.specs.Supported.{IsLocallyIn}
 use Rattle.infinite_theory.specs.InfiniteMaps.{IsInfiniteMap}
 use Rattle.infinite_theory.proofs.InfiniteTransport.{x_irreducible}
+use Rattle.ring_lemmas.specs.Ring.{CommRing}
+
+-- where l·u + r·x is 1, the parts of z add up
+pub sum_of_parts : {A : Type 0} (R : CommRing A) (l u r x z : A) → R.◌⊕◌ (R.◌⊗◌ l u) (R.◌⊗◌ r x) ≡ R.𝟙
+    → R.◌⊕◌ (R.◌⊗◌ l (R.◌⊗◌ u z)) (R.◌⊗◌ (R.◌⊗◌ r z) x) ≡ z
+sum_of_parts R l u r x z e =
+    from_one R z e
+    (ring R (l ∷ u ∷ r ∷ x ∷ z ∷ []) λ o i. simp (reads, o, i 0, i 1, i 2, i 3, i 4) (o.equal _ _ refl))
 
 module _ (k : CodeField) (p q : PresValue) (c : ℕ) (f : Functions k q → Functions k p)
     (g : IsInfiniteMap k p q c f) where
@@ -111,17 +119,11 @@ module _ (k : CodeField) (p q : PresValue) (c : ℕ) (f : Functions k q → Func
       λ n.
           let m = to_near z n in
           let b = 𝓝.comaximal m.factor m.factor_in in
-          subst P (sum b.left m.factor b.right X z b.is)
+          subst P (sum_of_parts (functions k q) b.left m.factor b.right X z b.is)
           (𝓟.ideal.sum_in _ _ (𝓟.ideal.scale_in b.left _ (base b.left b.left_in) m.multiple_in)
           (𝓟.ideal.scale_in (b.right ⊗ z) X (𝓞.product_in _ _ (base b.right b.right_in) z_in) over)),
       λ n. of_near z (near_of P z n),
     )
-      where
-        sum : (l u r p z : Functions k q) → l ⊗ u ⊕ r ⊗ p ≡ 𝟙 → l ⊗ (u ⊗ z) ⊕ (r ⊗ z) ⊗ p ≡ z
-        sum l u r p z e =
-            from_one (functions k q) z e
-            (ring (functions k q) (l ∷ u ∷ r ∷ p ∷ z ∷ []) λ o i. simp (reads, o, i 0, i 1, i 2, i 3, i 4)
-            (o.equal _ _ refl))
 
     -- the images span an infinite place
     pub prime_place : IsPlace (setting k p) (pushed gs)

@@ -27,7 +27,8 @@ use Rattle.function_field.proofs.Horner.{mul_plain}
 use Rattle.places_theory.proofs.YRoot.{poly_hom, at_y_plain}
 use Rattle.trace_theory.specs.Traces.{HasPolynomialCoordinates}
 use Rattle.trace_theory.proofs.IntegralLaw.{eval_sum}
-use Rattle.lattice_theory.specs.Lattices.{IsLattice, space_ops}
+use Rattle.function_field.specs.Indices.{space_ops}
+use Rattle.lattice_theory.specs.Lattices.{IsLattice}
 use Rattle.lattice_theory.proofs.Lattices.{lattice_module, lattice_generators}
 use Rattle.lattice_theory.proofs.Operations.{polynomial_lattice, quotient_module}
 use Rattle.order_theory.specs.Orders.{IsOrder, IsPrimeTo, TakenByPowers}

@@ -1,14 +1,11 @@
 -- Each lattice has a basis of n functions, and the index of its multiple by a polynomial a is n times the degree of a.
-use Rattle.std.proofs.Common.{◌≡◌, ℕ, suc, ◌-◌, ◌*◌, ◌<◌, List, [], ◌∷◌, length, map, refl, sym, ◌∙◌, ap, ap₂, subst, arith}
+use Rattle.std.proofs.Common.{◌≡◌, ℕ, ◌-◌, ◌*◌, ◌<◌, List, [], ◌∷◌, length, map, refl, sym, ◌∙◌, ap, ap₂, subst, arith}
 use Rattle.std.proofs.lemmas.List.{length-map}
 use Rattle.std.proofs.lemmas.List.Elements.{All-map, All-from_get_or, All-weaker}
 use Rattle.ring_lemmas.specs.Lists.{coeff_of, tail_of}
 use Rattle.ring_lemmas.proofs.Ring.{zero_mul, mul_zero, one_mul}
-use Rattle.ring_lemmas.proofs.Sequences.{convolution_constant_left}
 use Rattle.ring_lemmas.specs.Polynomials.{constant}
 use Rattle.ring_theory.proofs.Evaluate.{constant_hom, length_trim}
-use Rattle.ring_lemmas.proofs.Lists.{coeff_trim}
-use Rattle.ring_lemmas.proofs.Polynomials.{series_mul}
 use Rattle.ring_theory.proofs.Polynomials.{length_product}
 use Rattle.popov_theory.specs.Module.{measure}
 use Rattle.popov_theory.specs.Span.{combine, InSpan}
@@ -27,10 +24,12 @@ use Rattle.function_field.specs.Functions.{Equation, FunctionOf, ring_of, of_pol
 use Rattle.places_theory.proofs.YRoot.{poly_hom}
 use Rattle.polynomial_theory.proofs.Lengths.{some_long}
 use Rattle.polynomial_theory.proofs.Division.{top_not_zero}
-use Rattle.lattice_theory.specs.Lattices.{IsLattice, HasIndex, IsBasisOf, polynomial_ops}
+use Rattle.function_field.specs.Indices.{HasIndex}
+use Rattle.lattice_theory.specs.Lattices.{IsLattice, IsBasisOf, polynomial_ops}
 use Rattle.lattice_theory.proofs.Parts.{Rows, module_of, part, part_add, part_scale, part_zero, part_same, Common, common}
 use Rattle.lattice_theory.proofs.Lattices.{AtDen, lattice_at, lattice_module}
 use Rattle.lattice_theory.proofs.Indices.{dimension, index_at, index_size}
+use Rattle.polynomial_theory.proofs.Irreducible.{constant_times}
 
 module _ (k : CodeField) where
   infixl 70 ◌⊗◌
@@ -45,15 +44,6 @@ module _ (k : CodeField) where
     pub back : a ≡ inverse ⊗ product
     pub monic : IsMonic (code_ring k) product
     pub degree : monic.degree ≡ length a.0 - 1
-
-  pub constant_times : (u : Code k) (a : Polynomial k) (n : ℕ)
-      → coeff_of (code_ring k).ops (constant (code_ring k) u ⊗ a).0 n
-      ≡ (code_ring k).◌⊗◌ u (coeff_of (code_ring k).ops a.0 n)
-  constant_times u a n =
-      series_mul (code_ring k) (constant (code_ring k) u) a n
-      ∙ convolution_constant_left (code_ring k).ring _ (coeff_of (code_ring k).ops a.0)
-      (λ i. coeff_trim (code_ring k) (u ∷ []) (suc i)) n
-      ∙ ap (λ c. (code_ring k).◌⊗◌ c (coeff_of (code_ring k).ops a.0 n)) (coeff_trim (code_ring k) (u ∷ []) 0)
 
   pub monic_multiple : (a : Polynomial k) → ¬ (a ≡ 𝟘) → MonicMultiple a
   monic_multiple a some =
@@ -81,7 +71,7 @@ module _ (k : CodeField) where
         monic = record {
           degree = length a.0 - 1;
           size = omega (arith, long, positive);
-          top = constant_times v.0 a (length a.0 - 1) ∙ (code_ring k).mul_comm _ _ ∙ v.1;
+          top = constant_times k v.0 a (length a.0 - 1) ∙ (code_ring k).mul_comm _ _ ∙ v.1;
         };
         degree = refl;
       }

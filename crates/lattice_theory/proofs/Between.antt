@@ -13,7 +13,8 @@ use Rattle.ff_fields.specs.Code.{Code}
 use Rattle.function_field.specs.Functions.{Equation, FunctionOf, ring_of, IsPolynomial}
 use Rattle.function_field.proofs.ScalarRings.{polynomials_subring}
 use Rattle.polynomial_theory.proofs.CodeFields.{code_finite}
-use Rattle.lattice_theory.specs.Lattices.{IsLattice, space_ops, HasIndex}
+use Rattle.function_field.specs.Indices.{space_ops, HasIndex}
+use Rattle.lattice_theory.specs.Lattices.{IsLattice}
 use Rattle.lattice_theory.proofs.Lattices.{lattice_module, lattice_generators}
 use Rattle.lattice_theory.proofs.Indices.{code_of, lattice_subspace, index_of}
 

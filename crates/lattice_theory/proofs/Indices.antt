@@ -26,7 +26,8 @@ use Rattle.ff_poly.specs.Polynomials.{Polynomial, polynomials}
 use Rattle.function_field.specs.Functions.{Equation, FunctionOf, ring_of, of_poly, IsPolynomial}
 use Rattle.function_field.proofs.OnSide.{of_poly_zero}
 use Rattle.places_theory.proofs.YRoot.{poly_hom}
-use Rattle.lattice_theory.specs.Lattices.{IsLattice, space_ops, HasIndex}
+use Rattle.function_field.specs.Indices.{space_ops, HasIndex}
+use Rattle.lattice_theory.specs.Lattices.{IsLattice}
 use Rattle.lattice_theory.proofs.Parts.{Rows, module_of, part, part_add, part_scale, part_zero}
 use Rattle.lattice_theory.proofs.Lattices.{AtDen, two_lattices, lattice_module}
 

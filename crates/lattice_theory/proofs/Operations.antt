@@ -19,7 +19,8 @@ use Rattle.ff_fields.specs.Field.{CodeField}
 use Rattle.ff_poly.specs.Polynomials.{Polynomial, polynomials, polynomials_domain}
 use Rattle.function_field.specs.Functions.{Equation, FunctionOf, ring_of, of_poly, row_of, over, IsPolynomial}
 use Rattle.function_field.proofs.ScalarRings.{polynomials_subring, of_poly_one}
-use Rattle.lattice_theory.specs.Lattices.{IsLattice, space_ops}
+use Rattle.function_field.specs.Indices.{space_ops}
+use Rattle.lattice_theory.specs.Lattices.{IsLattice}
 use Rattle.lattice_theory.proofs.Lattices.{lattice_module, lattice_generators, lattice_decided}
 use Rattle.lattice_theory.proofs.Between.{lattice_between}
 

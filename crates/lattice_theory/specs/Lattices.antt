@@ -1,13 +1,11 @@
--- Lattices: modules over k[x] that finitely many functions span and that have a multiple of each function; and their
--- indices, as dimensions over k (Stichtenoth, Algebraic Function Fields and Codes, chapters 1 and 3).
-use Rattle.std.specs.Prelude.{◌≡◌, ℕ, List, length}
+-- Lattices: modules over k[x] that finitely many functions span and that have a multiple of each function (Stichtenoth,
+-- Algebraic Function Fields and Codes, chapter 3).
+use Rattle.std.specs.Prelude.{◌≡◌, List}
 use Rattle.ring_theory.specs.Subsets.{Span}
-use Rattle.ring_lemmas.specs.Polynomials.{constant}
 use Rattle.prime_theory.specs.Ideals.{SameSet}
 use Rattle.linear_theory.specs.Module.{ModuleOps, restricted_ops}
 use Rattle.linear_theory.specs.Basis.{IsBasis, IsNull}
 use Rattle.ff_fields.specs.Field.{CodeField}
-use Rattle.ff_fields.specs.Code.{Code, code_ring}
 use Rattle.ff_poly.specs.Polynomials.{Polynomial, polynomials}
 use Rattle.function_field.specs.Functions.{Equation, FunctionOf, ring_of, of_poly, IsPolynomial}
 
@@ -24,10 +22,6 @@ module _ {k : CodeField} (c : Equation k) where
     pub spanned : SameSet L (Span (ring_of c).ops (IsPolynomial c) generators)
     pub full : (z : FunctionOf c) → HasMultiple L z
 
-  -- the functions as a vector space over k
-  abbrev pub space_ops : ModuleOps (Code k) (FunctionOf c)
-  space_ops = restricted_ops (ring_of c).ops (λ a. of_poly c (constant (code_ring k) a))
-
   -- the functions as a module over the polynomials
   abbrev pub polynomial_ops : ModuleOps (Polynomial k) (FunctionOf c)
   polynomial_ops = restricted_ops (ring_of c).ops (of_poly c)
@@ -35,9 +29,3 @@ module _ {k : CodeField} (c : Equation k) where
   -- a basis of L over the polynomials: each member is a combination of the list, in one way only
   abbrev pub IsBasisOf : (FunctionOf c → Type 0) → List (FunctionOf c) → Type 0
   IsBasisOf L bs = IsBasis (polynomials k).ops polynomial_ops (IsNull polynomial_ops) L bs
-
-  -- B has the dimension g over k modulo A: a list of g functions is a basis of B modulo A
-  pub record HasIndex (A B : FunctionOf c → Type 0) (g : ℕ) : Type 0 where
-    pub basis : List (FunctionOf c)
-    pub is : IsBasis (code_ring k).ops space_ops A B basis
-    pub count : length basis ≡ g

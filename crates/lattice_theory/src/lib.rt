@@ -11,7 +11,8 @@ ghost use Rattle.function_field.specs.Functions.{Equation, FunctionOf, ring_of, 
 ghost use Rattle.prime_theory.specs.Ideals.{Multiple};
 ghost use Rattle.linear_theory.specs.Basis.{IsSum};
 ghost use Rattle.trace_theory.specs.Traces.{HasPolynomialCoordinates};
-ghost use Rattle.lattice_theory.specs.Lattices.{IsLattice, HasIndex, IsBasisOf, space_ops};
+ghost use Rattle.function_field.specs.Indices.{HasIndex, space_ops};
+ghost use Rattle.lattice_theory.specs.Lattices.{IsLattice, IsBasisOf};
 
 /// Three sets of functions of a curve. Only theorems use it, as a type parameter that no value has.
 pub trait FunctionSets {

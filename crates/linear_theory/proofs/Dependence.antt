@@ -1,53 +1,20 @@
--- Which member of a list is first a combination of the earlier ones, modulo a subspace: none where the list is
--- independent. In a space with a finite basis this is decided.
-use Rattle.std.proofs.Common.{◌≡◌, ℕ, zero, suc, ◌<◌, ◌≤◌, ◌+◌, ◌⊎◌, inl, inr, List, [], ◌∷◌, ◌++◌, length, All, refl, sym, ◌∙◌, ap, ap₂, subst, arith}
+-- The coefficients of a combination of independent members are unique, and a member that is no combination of
+-- them is independent with them. In a space with a finite basis it is decided which is so.
+use Rattle.std.proofs.Common.{◌≡◌, ℕ, ◌<◌, ◌≤◌, ◌+◌, ◌⊎◌, inl, inr, List, [], ◌∷◌, ◌++◌, length, All, refl, sym, ◌∙◌, ap, subst, arith}
 use Rattle.std.proofs.lemmas.List.{length-append}
-use Rattle.std.proofs.lemmas.List.Elements.{All-nil, All-cons, All-head, All-tail}
 use Rattle.ring_lemmas.specs.Ring.{CommRing}
-use Rattle.ring_lemmas.proofs.Ring.{mul_zero, zero_mul, zero_add, one_mul, eq_of_sub}
+use Rattle.ring_lemmas.proofs.Ring.{one_mul, eq_of_sub}
 use Rattle.ring_lemmas.proofs.Solver.{ring, reads}
 use Rattle.linear_theory.specs.Fields.{Field, domain_of}
-use Rattle.linear_theory.specs.Module.{Module, combine, sequence_ops}
+use Rattle.linear_theory.specs.Module.{Module, combine}
 use Rattle.linear_theory.specs.Basis.{IsSubspace, IsCombination, IsIndependent, IsBasis}
-use Rattle.linear_theory.specs.Echelon.{row}
-use Rattle.linear_theory.specs.Lists.{entry, join}
-use Rattle.linear_theory.proofs.Lists.{join_left, join_right, All_entry}
+use Rattle.linear_theory.specs.Lists.{join}
+use Rattle.linear_theory.proofs.Lists.{join_right}
 use Rattle.linear_theory.proofs.Module.{linear, parts, vector, scalar}
 use Rattle.linear_theory.proofs.Combination.{combine_none, combine_zero, combine_linear, combine_scale, combine_append, combine_join}
 use Rattle.linear_theory.proofs.Domain.{first_nonzero, inverse_of, inverse_is, decide_equal}
 use Rattle.linear_theory.proofs.Bases.{complete, Completion}
-use Rattle.linear_theory.proofs.Echelon.{column_none}
-
--- the first members of a list
-abbrev pub front : {X : Type 0} → ℕ → List X → List X
-front zero xs = []
-front (suc n) [] = []
-front (suc n) (x ∷ xs) = x ∷ front n xs
-
-pub length_front : {X : Type 0} (n : ℕ) (xs : List X) → n ≤ length xs → length (front n xs) ≡ n
-length_front zero xs l = refl
-length_front (suc n) [] l = absurd (omega arith)
-length_front (suc n) (x ∷ xs) l = ap suc (length_front n xs (omega arith))
-
-pub front_more : {X : Type 0} (d : X) (n : ℕ) (xs : List X) → n < length xs
-    → front (suc n) xs ≡ front n xs ++ entry d xs n ∷ []
-front_more d n [] l = absurd (omega arith)
-front_more d zero (x ∷ xs) l = refl
-front_more d (suc n) (x ∷ xs) l = ap (λ ys. x ∷ ys) (front_more d n xs (omega arith))
-
-pub front_all : {X : Type 0} (xs : List X) → front (length xs) xs ≡ xs
-front_all [] = refl
-front_all (x ∷ xs) = ap (λ ys. x ∷ ys) (front_all xs)
-
-pub front_rest : {X : Type 0} (n : ℕ) (xs : List X) → (ys : List X) × (xs ≡ front n xs ++ ys)
-front_rest zero xs = (xs, refl)
-front_rest (suc n) [] = ([], refl)
-front_rest (suc n) (x ∷ xs) = let r = front_rest n xs in (r.0, ap (λ ys. x ∷ ys) r.1)
-
-All_front : {X : Type 0} (P : X → Type 0) (n : ℕ) (xs : List X) → All P xs → All P (front n xs)
-All_front P zero xs h = All-nil P
-All_front P (suc n) [] h = h
-All_front P (suc n) (x ∷ xs) h = All-cons P x (front n xs) (All-head P x xs h) (All_front P n xs (All-tail P x xs h))
+use Rattle.std.proofs.lemmas.Bool.{cases_lt}
 
 module _ {A V : Type 0} {R : CommRing A} (M : Module R V) (U : V → Type 0) (𝓤 : IsSubspace M.ops U) where
   infixl 65 ◌⊞◌
@@ -89,40 +56,6 @@ module _ {A V : Type 0} {R : CommRing A} (M : Module R V) (U : V → Type 0) (�
           (sym (combine_linear M (⊖ 𝟙) h.coefficient k.coefficient ws ∙ step _ h.rest _ k.rest (sym h.is ∙ k.is)))
           (𝓤.sum_in _ _ h.rest_in (𝓤.scale_in (⊖ 𝟙) _ k.rest_in))
 
-  pub independent_left : (us vs : List V) → IsIndependent R.ops M.ops U (us ++ vs) → IsIndependent R.ops M.ops U us
-  independent_left us vs free c m i l =
-      sym (join_left (length us) c (λ i. 𝟘) i l)
-      ∙ free (join (length us) c (λ i. 𝟘))
-      (subst U (sym (combine_join M c (λ i. 𝟘) us vs ∙ ap (λ x. combine M.ops c us ⊞ x) (combine_zero M vs)
-      ∙ M.add_zero _)) m) i
-      (subst (λ n. i < n) (sym (length-append us vs)) (omega arith))
-
-  -- the last member of an independent list is no combination of the others
-  pub last_not_combination : ¬ (𝟙 ≡ 𝟘) → (vs : List V) (v : V) → IsIndependent R.ops M.ops U (vs ++ v ∷ [])
-      → ¬ IsCombination M.ops U vs v
-  last_not_combination one vs v free h =
-      one (sym (join_right n d one_there 0)
-      ∙ free (join n d one_there) (subst U (sym e) h.rest_in) (n + 0)
-      (subst (λ k. n + 0 < k) (sym (length-append vs (v ∷ []))) (omega arith)))
-    where
-      n : ℕ
-      n = length vs
-
-      d : ℕ → A
-      d i = ⊖ 𝟙 ⊗ h.coefficient i
-
-      one_there : ℕ → A
-      one_there i = 𝟙
-
-      step : (x t : V) → ⊖ 𝟙 • x ⊞ (𝟙 • (x ⊞ t) ⊞ 𝟬) ≡ t
-      step x t = linear M (vector M x ∷ vector M t ∷ []) λ q y. simp (parts, reads, q, y 0, y 1) (q.equal _ _ refl)
-
-      e : combine M.ops (join n d one_there) (vs ++ v ∷ []) ≡ h.rest
-      e =
-          combine_join M d one_there vs (v ∷ [])
-          ∙ ap₂ (λ x y. x ⊞ (𝟙 • y ⊞ 𝟬)) (combine_scale M (⊖ 𝟙) h.coefficient vs) h.is
-          ∙ step (combine M.ops h.coefficient vs) h.rest
-
 module _ {A V : Type 0} (K : Field A) (M : Module K.ring V) (U : V → Type 0) (𝓤 : IsSubspace M.ops U) where
   infixl 65 ◌⊞◌
   infixr 75 ◌•◌
@@ -139,13 +72,10 @@ module _ {A V : Type 0} (K : Field A) (M : Module K.ring V) (U : V → Type 0) (
   -- a vector that is no combination of independent ones is independent with them
   pub independent_more : (vs : List V) (v : V) → IsIndependent R.ops M.ops U vs → ¬ IsCombination M.ops U vs v
       → IsIndependent R.ops M.ops U (vs ++ v ∷ [])
-  independent_more vs v free no_h c m i l = all (decide_equal K.tested (c (n + 0)) 𝟘) (less_or_same i n)
+  independent_more vs v free no_h c m i l = all (decide_equal K.tested (c (n + 0)) 𝟘) (cases_lt i n)
     where
       n : ℕ
       n = length vs
-
-      less_or_same : (i n : ℕ) → (i < n) ⊎ (n ≤ i)
-      less_or_same i n = grind arith
 
       m' : U (combine M.ops c vs ⊞ (c (n + 0) • v ⊞ 𝟬))
       m' = subst U (combine_append M c vs (v ∷ [])) m
@@ -180,32 +110,6 @@ module _ {A V : Type 0} (K : Field A) (M : Module K.ring V) (U : V → Type 0) (
       all d (inr k) =
           let b : i < n + 1 = subst (λ k. i < k) (length-append vs (v ∷ [])) l in
           ap c (let e : i ≡ n + 0 = omega arith in e) ∙ last d
-
-  -- a list is independent exactly where no member is a combination of the earlier ones
-  pub independent_of_none : (n : ℕ) (rows : List V) → n ≤ length rows
-      → ((i : ℕ) → i < n → ¬ IsCombination M.ops U (front i rows) (entry 𝟬 rows i))
-      → IsIndependent R.ops M.ops U (front n rows)
-  independent_of_none zero rows l h = λ c m i k. absurd (omega arith)
-  independent_of_none (suc n) rows l h =
-      subst (IsIndependent R.ops M.ops U) (sym (front_more 𝟬 n rows l))
-      (independent_more (front n rows) (entry 𝟬 rows n)
-      (independent_of_none n rows (omega arith) (λ i k. h i (omega arith)))
-      (h n (omega arith)))
-
-  pub none_of_independent : (rows : List V) → IsIndependent R.ops M.ops U rows → (i : ℕ) → i < length rows
-      → ¬ IsCombination M.ops U (front i rows) (entry 𝟬 rows i)
-  none_of_independent rows free i l =
-      let r = front_rest (suc i) rows in
-      last_not_combination M U 𝓤 K.is_field.one_not_zero (front i rows) (entry 𝟬 rows i)
-      (subst (IsIndependent R.ops M.ops U) (front_more 𝟬 i rows l)
-      (independent_left M U 𝓤 (front (suc i) rows) r.0 (subst (IsIndependent R.ops M.ops U) r.1 free)))
-
-  -- the first member that is a combination of the earlier ones
-  pub record FirstDependent (rows : List V) : Type 0 where
-    pub position : ℕ
-    pub position_below : position < length rows
-    pub independent : IsIndependent R.ops M.ops U (front position rows)
-    pub combination : IsCombination M.ops U (front position rows) (entry 𝟬 rows position)
 
   module _ (W : V → Type 0) (𝓦 : IsSubspace M.ops W) (ws : List V) (b : IsBasis R.ops M.ops U W ws) where
     -- combinations of an independent list are decidable
@@ -251,59 +155,3 @@ module _ {A V : Type 0} (K : Field A) (M : Module K.ring V) (U : V → Type 0) (
                 p.2 (coefficients_unique M U 𝓤 (vs ++ r.others) r.basis.independent v k longer (length vs + p.0)
                 (subst (λ n. length vs + p.0 < n) (sym (length-append vs r.others)) (omega arith))
                 ∙ join_right (length vs) a.coefficient (λ i. 𝟘) p.0))
-
-    pub first_dependent : (rows : List V) → All W rows → (n : ℕ) → n ≤ length rows
-        → FirstDependent rows ⊎ IsIndependent R.ops M.ops U (front n rows)
-    first_dependent rows h zero l = inr (λ c m i k. absurd (omega arith))
-    first_dependent rows h (suc n) l = go (first_dependent rows h n (omega arith))
-      where
-        next : (free : IsIndependent R.ops M.ops U (front n rows))
-            → Dec (IsCombination M.ops U (front n rows) (entry 𝟬 rows n))
-            → FirstDependent rows ⊎ IsIndependent R.ops M.ops U (front (suc n) rows)
-        next free (yes k) = inl (record { position = n; position_below = l; independent = free; combination = k })
-        next free (no k) =
-            inr (subst (IsIndependent R.ops M.ops U) (sym (front_more 𝟬 n rows l))
-            (independent_more (front n rows) (entry 𝟬 rows n) free k))
-
-        go : FirstDependent rows ⊎ IsIndependent R.ops M.ops U (front n rows)
-            → FirstDependent rows ⊎ IsIndependent R.ops M.ops U (front (suc n) rows)
-        go (inl f) = inl f
-        go (inr free) =
-            next free
-            (decide_combination (front n rows) (All_front W n rows h) free (entry 𝟬 rows n)
-            (All_entry W 𝟬 rows n h (omega arith)))
-
--- rows with 1 at a pivot that is 0 in the later rows: a member that is 0 at all pivots is 0
-pub record IsTriangular {A : Type 0} (R : CommRing A) (width : ℕ) (rows : List (ℕ → A)) (pivot : ℕ → ℕ) : Type 0 where
-  pub pivot_below : (i : ℕ) → i < length rows → pivot i < width
-  pub pivot_one : (i : ℕ) → i < length rows → row R.ops rows i (pivot i) ≡ R.𝟙
-  pub later_zero : (i j : ℕ) → i < length rows → j < i → row R.ops rows i (pivot j) ≡ R.𝟘
-
-pub zero_at_pivots : {A : Type 0} (R : CommRing A) (width : ℕ) (rows : List (ℕ → A)) (pivot : ℕ → ℕ)
-    → IsTriangular R width rows pivot
-    → (c : ℕ → A) → ((i : ℕ) → i < length rows → combine (sequence_ops R.ops) c rows (pivot i) ≡ R.𝟘)
-    → (j : ℕ) → j < width → combine (sequence_ops R.ops) c rows j ≡ R.𝟘
-zero_at_pivots R width [] pivot t c h j l = refl
-zero_at_pivots {A} R width (r ∷ rows) pivot t c h j l =
-    skip j ∙ zero_at_pivots R width rows (λ i. pivot (suc i)) later (λ i. c (suc i))
-    (λ i k. sym (skip (pivot (suc i))) ∙ h (suc i) (omega arith)) j l
-  where
-    later : IsTriangular R width rows (λ i. pivot (suc i))
-    later = record {
-      pivot_below = λ i k. t.pivot_below (suc i) (omega arith);
-      pivot_one = λ i k. t.pivot_one (suc i) (omega arith);
-      later_zero = λ i j k m. t.later_zero (suc i) (suc j) (omega arith) (omega arith);
-    }
-
-    first : c 0 ≡ R.𝟘
-    first =
-        sym (ap₂ (λ x y. R.◌⊕◌ (R.◌⊗◌ (c 0) x) y) (t.pivot_one 0 (omega arith))
-        (column_none R (λ i. c (suc i)) rows (pivot 0)
-        (λ m k. ap (λ x. R.◌⊗◌ (c (suc m)) x) (t.later_zero (suc m) 0 (omega arith) (omega arith)) ∙ mul_zero R _))
-        ∙ R.add_zero _ ∙ R.mul_one _)
-        ∙ h 0 (omega arith)
-
-    skip : (j : ℕ) → combine (sequence_ops R.ops) c (r ∷ rows) j ≡ combine (sequence_ops R.ops) (λ i. c (suc i)) rows j
-    skip j = ap (λ x. R.◌⊕◌ (R.◌⊗◌ x (r j)) (combine (sequence_ops R.ops) (λ i. c (suc i)) rows j)) first
-        ∙ ap (λ x. R.◌⊕◌ x (combine (sequence_ops R.ops) (λ i. c (suc i)) rows j)) (zero_mul R (r j))
-        ∙ zero_add R (combine (sequence_ops R.ops) (λ i. c (suc i)) rows j)

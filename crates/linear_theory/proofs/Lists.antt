@@ -70,14 +70,3 @@ All_both P Q S f [] h k = All-nil S
 All_both P Q S f (x ∷ xs) h k =
     All-cons S x xs (f x (All-head P x xs h) (All-head Q x xs k))
     (All_both P Q S f xs (All-tail P x xs h) (All-tail Q x xs k))
-
--- a member of a list without one member is a member of the list
-pub remove_entry : {X : Type 0} (d : X) (xs : List X) (i j : ℕ) → i < length xs → j < length (remove i xs)
-    → (k : ℕ) × (k < length xs) × (entry d xs k ≡ entry d (remove i xs) j)
-remove_entry d [] i j l m = absurd (omega arith)
-remove_entry d (x ∷ xs) zero j l m = (suc j, omega arith, refl)
-remove_entry d (x ∷ xs) (suc i) zero l m = (0, omega arith, refl)
-remove_entry d (x ∷ xs) (suc i) (suc j) l m =
-    let r = remove_entry d xs i j (omega arith) (omega arith) in
-    let b : r.0 < length xs = r.1 in
-    (suc r.0, omega arith, r.2)

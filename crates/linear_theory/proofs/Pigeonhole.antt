@@ -5,7 +5,7 @@ use Rattle.std.proofs.lemmas.List.Elements.{All-nil, All-cons, All-head}
 use Rattle.ring_theory.specs.Monoid.{CommMonoid}
 use Rattle.linear_theory.specs.Distinct.{Distinct, product_over, product_below}
 use Rattle.linear_theory.specs.Lists.{entry, remove}
-use Rattle.linear_theory.proofs.Lists.{length_remove, All_remove, All_entry, All_both, remove_entry}
+use Rattle.linear_theory.proofs.Lists.{length_remove, All_remove, All_entry, All_both}
 
 -- without a member the list is distinct, and the others are different from that member
 distinct_remove : {X : Type 0} (d : X) (xs : List X) (i : ℕ) → i < length xs → Distinct xs
@@ -68,25 +68,6 @@ distinct_below (suc n) xs apart h = go (position_of n xs) (distinct_below n)
         let l : length (remove p.0 xs) ≤ n = ih (remove p.0 xs) k.0 k.1 in
         omega (arith, length_remove p.0 xs p.1)
     go (inr none) ih = let l : length xs ≤ n = ih xs apart (smaller n xs h none) in omega arith
-
--- n different numbers below n are all of them
-pub all_below : (n : ℕ) (xs : List ℕ) → Distinct xs → All (λ y. y < n) xs → length xs ≡ n
-    → (m : ℕ) → m < n → (i : ℕ) × (i < length xs) × (entry 0 xs i ≡ m)
-all_below zero xs apart h e m l = absurd (omega arith)
-all_below (suc n) xs apart h e m l = go (position_of n xs) (ℕ_discrete m n) (all_below n)
-  where
-    go : ((i : ℕ) × (i < length xs) × (entry 0 xs i ≡ n)) ⊎ All (λ y. ¬ (y ≡ n)) xs → Dec (m ≡ n)
-        → ((ys : List ℕ) → Distinct ys → All (λ y. y < n) ys → length ys ≡ n
-        → (m : ℕ) → m < n → (i : ℕ) × (i < length ys) × (entry 0 ys i ≡ m))
-        → (i : ℕ) × (i < length xs) × (entry 0 xs i ≡ m)
-    go (inr none) d ih =
-        let l : length xs ≤ n = distinct_below n xs apart (smaller n xs h none) in absurd (omega arith)
-    go (inl p) (yes q) ih = (p.0, p.1, p.2 ∙ sym q)
-    go (inl p) (no ne) ih =
-        let k = left_below n xs p.0 p.1 p.2 apart h in
-        let r = ih (remove p.0 xs) k.0 k.1 (omega (arith, length_remove p.0 xs p.1)) m (omega arith) in
-        let s = remove_entry 0 xs p.0 r.0 p.1 r.1 in
-        (s.0, s.1, s.2 ∙ r.2)
 
 -- and their product is the product over the numbers below n
 pub product_of_all : {A : Type 0} (M : CommMonoid A) (g : ℕ → A) (n : ℕ) (xs : List ℕ) → Distinct xs

@@ -45,9 +45,6 @@ module _ {A C : Type 0} (R : CommRing A) (O : A → Type 0) (𝓞 : IsSubring R.
   mul_step : (a b u v : A) → v ⊗ (u ⊕ ⊖ a) ⊕ a ⊗ (v ⊕ ⊖ b) ≡ (u ⊗ v) ⊕ ⊖ (a ⊗ b)
   mul_step a b u v = ring R (a ∷ b ∷ u ∷ v ∷ []) λ q i. simp (reads, q, i 0, i 1, i 2, i 3) (q.equal _ _ refl)
 
-  neg_step : (a u : A) → ⊖ 𝟙 ⊗ (u ⊕ ⊖ a) ≡ ⊖ u ⊕ ⊖ (⊖ a)
-  neg_step a u = ring R (a ∷ u ∷ []) λ q i. simp (reads, q, i 0, i 1) (q.equal _ _ refl)
-
   pub add_class : (a b : A) → O a → O b → reduce (lift (reduce a) ⊕ lift (reduce b)) ≡ reduce (a ⊕ b)
   add_class a b a_in b_in =
       h.same _ _ (𝓞.sum_in _ _ (h.lift_in (reduce a)) (h.lift_in (reduce b))) (𝓞.sum_in a b a_in b_in)
@@ -59,11 +56,6 @@ module _ {A C : Type 0} (R : CommRing A) (O : A → Type 0) (𝓞 : IsSubring R.
       h.same _ _ (𝓞.product_in _ _ (h.lift_in (reduce a)) (h.lift_in (reduce b))) (𝓞.product_in a b a_in b_in)
       (subst (Multiple R.ops p O) (mul_step a b (lift (reduce a)) (lift (reduce b)))
       (𝓟.sum_in _ _ (𝓟.scale_in _ _ (h.lift_in (reduce b)) (back a a_in)) (𝓟.scale_in a _ a_in (back b b_in))))
-
-  neg_class : (a : A) → O a → reduce (⊖ (lift (reduce a))) ≡ reduce (⊖ a)
-  neg_class a a_in =
-      h.same _ _ (𝓞.neg_in _ (h.lift_in (reduce a))) (𝓞.neg_in a a_in)
-      (subst (Multiple R.ops p O) (neg_step a (lift (reduce a))) (𝓟.scale_in _ _ (𝓞.neg_in 𝟙 𝓞.one_in) (back a a_in)))
 
   abbrev plus : C → C → C
   plus x y = reduce (lift x ⊕ lift y)

@@ -16,7 +16,7 @@ use Rattle.function_field.specs.Spans.{combination}
 use Rattle.function_field.specs.Places.{IsIn}
 use Rattle.function_field.specs.Divisors.{HasDegree}
 use Rattle.function_field.specs.Functions.{Equation, FunctionOf, ring_of, of_poly, IsCode, setting_of}
-use Rattle.lattice_theory.specs.Lattices.{HasIndex, space_ops}
+use Rattle.function_field.specs.Indices.{HasIndex, space_ops}
 use Rattle.lattice_theory.proofs.Indices.{code_of, code_hom}
 use Rattle.order_theory.proofs.FinitePlaces.{Int, finite}
 

@@ -21,11 +21,10 @@ use Rattle.function_field.specs.Functions.{Equation, FunctionOf, ring_of, of_pol
 use Rattle.function_field.proofs.ScalarRings.{polynomials_subring}
 use Rattle.polynomial_theory.proofs.Irreducible.{irreducible}
 use Rattle.lattice_theory.specs.Lattices.{IsLattice}
-use Rattle.lattice_theory.proofs.Lattices.{lattice_module}
 use Rattle.lattice_theory.proofs.Operations.{inverse_of}
 use Rattle.order_theory.specs.Orders.{IsOrder, TakenByPowers}
 use Rattle.order_theory.proofs.IntegralLattice.{integral_module}
-use Rattle.order_theory.proofs.LocalOrders.{order_integral, stable_integral}
+use Rattle.order_theory.proofs.LocalOrders.{order_integral, stable_integral, order_polynomials}
 
 module _ {k : CodeField} (c : Equation k) where
   infixl 65 ◌⊕◌
@@ -42,11 +41,8 @@ module _ {k : CodeField} (c : Equation k) where
   -- ---- orders and the polynomials in them
 
   module _ (O : FunctionOf c → Type 0) (𝓞 : IsOrder c O) where
-    pub order_polynomial : (s : FunctionOf c) → IsPolynomial c s → O s
-    order_polynomial s h = subst O ((ring_of c).mul_one s) ((lattice_module c O 𝓞.lattice).scale_in s 𝟙 h 𝓞.ring.one_in)
-
     pub order_has : (p : Polynomial k) → O (of_poly c p)
-    order_has p = order_polynomial (of_poly c p) (record { polynomial = p; value = refl })
+    order_has p = order_polynomials c O 𝓞 (of_poly c p) (record { polynomial = p; value = refl })
 
     -- what is integral over the polynomials is integral over the order
     integral_over : (z : FunctionOf c) → Int z → IsIntegral (ring_of c).ops O z
@@ -54,7 +50,7 @@ module _ {k : CodeField} (c : Equation k) where
       degree = h.degree;
       positive = h.positive;
       coefficient = h.coefficient;
-      coefficient_in = λ i. order_polynomial (h.coefficient i) (h.coefficient_in i);
+      coefficient_in = λ i. order_polynomials c O 𝓞 (h.coefficient i) (h.coefficient_in i);
       root = h.root;
     }
 
@@ -64,7 +60,7 @@ module _ {k : CodeField} (c : Equation k) where
     ideal_module I 𝓘 = record {
       zero_in = 𝓘.zero_in;
       sum_in = 𝓘.sum_in;
-      scale_in = λ s a s_in a_in. 𝓘.scale_in s a (order_polynomial s s_in) a_in;
+      scale_in = λ s a s_in a_in. 𝓘.scale_in s a (order_polynomials c O 𝓞 s s_in) a_in;
     }
 
     module _ (p : Polynomial k) where
@@ -91,7 +87,7 @@ module _ {k : CodeField} (c : Equation k) where
               record {
                 zero_in = m.zero_in;
                 sum_in = m.sum_in;
-                scale_in = λ s a s_in a_in. m.scale_in s a (order_polynomial s s_in) a_in;
+                scale_in = λ s a s_in a_in. m.scale_in s a (order_polynomials c O 𝓞 s s_in) a_in;
               }
 
           𝓡 : IsModule (ring_of c).ops O (Radical (ring_of c).ops O (of_poly c p))

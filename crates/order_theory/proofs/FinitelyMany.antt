@@ -20,12 +20,13 @@ use Rattle.polynomial_theory.proofs.Irreducible.{irreducible_some}
 use Rattle.lattice_theory.specs.Lattices.{HasMultiple}
 use Rattle.lattice_theory.proofs.Bases.{monic_multiple}
 use Rattle.order_theory.proofs.Degrees.{constant_of}
-use Rattle.order_theory.proofs.IntegralLattice.{integral_lattice, polynomial_integral}
+use Rattle.order_theory.proofs.IntegralLattice.{integral_lattice, polynomial_in}
 use Rattle.order_theory.proofs.FinitePlaces.{Int, finite, in_place_decided}
 use Rattle.order_theory.proofs.InvertibleIdeals.{divisor_of, divides_it, divisor_irreducible}
 use Rattle.order_theory.proofs.IrreducibleIn.{factor_in, one_out, times}
 use Rattle.order_theory.proofs.PlaceEntries.{any_map, places_over_p, all_places_over}
 use Rattle.order_theory.proofs.Values.{value_zero}
+use Rattle.std.proofs.lemmas.Bool.{cases_lt}
 
 module _ {k : CodeField} (c : Equation k) (some : ¬ (discriminant c ≡ (polynomials k).𝟘)) where
   infixl 70 ◌⊗◌
@@ -57,11 +58,8 @@ module _ {k : CodeField} (c : Equation k) (some : ¬ (discriminant c ≡ (polyno
 
   places_with : (n : ℕ) (g : Polynomial k) → ¬ (g ≡ (polynomials k).𝟘) → length g.0 < n → HasAll g
   places_with zero g g_some l = absurd (omega arith)
-  places_with (suc n) g g_some l = go (order (length g.0)) (λ u u_some less. places_with n u u_some less)
+  places_with (suc n) g g_some l = go (cases_lt 1 (length g.0)) (λ u u_some less. places_with n u u_some less)
     where
-      order : (m : ℕ) → (2 ≤ m) ⊎ (m ≤ 1)
-      order m = grind arith
-
       by : (gs : List (FunctionOf c)) (place : IsPlace (setting_of c) (finite c gs)) (p u : Polynomial k)
           → IsIn (setting_of c) (finite c gs) (of_poly c ((polynomials k).◌⊗◌ p u))
           → Dec (IsIn (setting_of c) (finite c gs) (of_poly c p))
@@ -123,9 +121,6 @@ module _ {k : CodeField} (c : Equation k) (some : ¬ (discriminant c ≡ (polyno
       r = places_of ((polynomials k).◌⊗◌ a.factor b.factor)
           (product_not_zero (polynomials_domain k) a.factor b.factor a.some b.some)
 
-      polynomial_in : (q : Polynomial k) → Int c (of_poly c q)
-      polynomial_in q = polynomial_integral c (of_poly c q) (record { polynomial = q; value = refl })
-
       at : (gs : List (FunctionOf c)) → IsPlace (setting_of c) (finite c gs)
           → Dec (IsIn (setting_of c) (finite c gs) (of_poly c a.factor))
           → Dec (IsIn (setting_of c) (finite c gs) (of_poly c b.factor))
@@ -136,5 +131,5 @@ module _ {k : CodeField} (c : Equation k) (some : ¬ (discriminant c ≡ (polyno
           ((polynomials k).mul_comm _ _) (times c gs place b.factor a.factor m)))
       at gs place (no n) (yes m) = inr (r.all gs place (times c gs place a.factor b.factor m))
       at gs place (no n) (no m) =
-          inl (value_zero c gs place z y (of_poly c a.factor) (of_poly c b.factor) inverse (polynomial_in a.factor) n
-          a.multiple_in (polynomial_in b.factor) m b.multiple_in)
+          inl (value_zero c gs place z y (of_poly c a.factor) (of_poly c b.factor) inverse (polynomial_in c a.factor) n
+          a.multiple_in (polynomial_in c b.factor) m b.multiple_in)

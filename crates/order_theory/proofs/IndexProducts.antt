@@ -20,7 +20,8 @@ use Rattle.linear_theory.proofs.Bases.{combine_in}
 use Rattle.ff_fields.specs.Field.{CodeField}
 use Rattle.ff_fields.specs.Code.{Code}
 use Rattle.function_field.specs.Functions.{Equation, FunctionOf, ring_of}
-use Rattle.lattice_theory.specs.Lattices.{IsLattice, HasIndex, space_ops}
+use Rattle.function_field.specs.Indices.{HasIndex, space_ops}
+use Rattle.lattice_theory.specs.Lattices.{IsLattice}
 use Rattle.order_theory.specs.Orders.{IsOrder}
 use Rattle.lattice_theory.proofs.Indices.{codes, space, lattice_subspace, index_add, index_none}
 use Rattle.lattice_theory.proofs.Bases.{index_same}

@@ -18,15 +18,13 @@ use Rattle.function_field.proofs.ScalarRings.{finite_at_infinity_subring, of_pol
 use Rattle.places_theory.proofs.YRoot.{poly_hom, over_times_den}
 use Rattle.polynomial_theory.proofs.Lengths.{zero_length}
 use Rattle.order_theory.proofs.FinitePlaces.{one_short, x_long}
+use Rattle.std.proofs.lemmas.Bool.{cases_lt}
 
 -- what is added is shorter: the sum isn't
 sum_long : (k : CodeField) (a b : Polynomial k) → length a.0 < length b.0
     → length b.0 ≤ length ((polynomials k).◌⊕◌ b a).0
-sum_long k a b short = go (order (length ((polynomials k).◌⊕◌ b a).0) (length b.0))
+sum_long k a b short = go (cases_lt (length ((polynomials k).◌⊕◌ b a).0) (length b.0))
   where
-    order : (m n : ℕ) → (m < n) ⊎ (n ≤ m)
-    order m n = grind arith
-
     back : (a b : Polynomial k) → (polynomials k).◌⊕◌ ((polynomials k).◌⊕◌ b a) ((polynomials k).⊖◌ a) ≡ b
     back a b = ring (polynomials k).ring (a ∷ b ∷ []) λ q h. simp (reads, q, h 0, h 1) (q.equal _ _ refl)
 

@@ -22,7 +22,8 @@ use Rattle.places_theory.proofs.SamePlaces.{decide_all}
 use Rattle.places_theory.proofs.YRoot.{poly_hom, at_y, at_y_plain, y_root}
 use Rattle.trace_theory.specs.Traces.{HasPolynomialCoordinates}
 use Rattle.trace_theory.proofs.IntegralLaw.{discriminant_clears, eval_sum}
-use Rattle.lattice_theory.specs.Lattices.{IsLattice, HasIndex, HasMultiple}
+use Rattle.function_field.specs.Indices.{HasIndex}
+use Rattle.lattice_theory.specs.Lattices.{IsLattice, HasMultiple}
 use Rattle.lattice_theory.proofs.Lattices.{lattice_module, lattice_decided, lattice_generators, span_decided}
 use Rattle.lattice_theory.proofs.Indices.{index_of, index_less}
 use Rattle.lattice_theory.proofs.Between.{lattice_between}
@@ -48,6 +49,9 @@ module _ {k : CodeField} (c : Equation k) where
 
   pub polynomial_integral : (s : FunctionOf c) → IsPolynomial c s → Int s
   polynomial_integral s h = integral_base (ring_of c) (IsPolynomial c) 𝓢 s h
+
+  pub polynomial_in : (a : Polynomial k) → Int (of_poly c a)
+  polynomial_in a = polynomial_integral (of_poly c a) (record { polynomial = a; value = refl })
 
   pub integral_module : IsModule (ring_of c).ops (IsPolynomial c) Int
   integral_module = record {
@@ -76,7 +80,7 @@ module _ {k : CodeField} (c : Equation k) where
       integral_subring.zero_in
   at_y_integral (suc m) (a, v) =
       subst Int (sym (eval_cons (polynomials k).ring (ring_of c) (of_poly c) (poly_hom c) (y_of c) m a v))
-      (integral_subring.sum_in _ _ (polynomial_integral (of_poly c a) (record { polynomial = a; value = refl }))
+      (integral_subring.sum_in _ _ (polynomial_in a)
       (integral_subring.product_in _ _ y_integral (at_y_integral m v)))
 
   pub coordinates_integral : (z : FunctionOf c) → HasPolynomialCoordinates c z → Int z

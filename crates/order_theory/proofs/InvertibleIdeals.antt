@@ -1,12 +1,11 @@
 -- In an order that is maximal at each irreducible polynomial, each lattice that is closed under it is invertible.
-use Rattle.std.proofs.Common.{◌≡◌, All, ◌⊎◌, inl, inr, ℕ, zero, suc, ◌<◌, ◌≤◌, List, [], ◌∷◌, length, refl, sym, ◌∙◌, ap, subst, arith}
+use Rattle.std.proofs.Common.{◌≡◌, All, ◌⊎◌, inl, inr, ℕ, zero, ◌<◌, ◌≤◌, List, [], ◌∷◌, length, refl, sym, ◌∙◌, ap, subst, arith}
 use Rattle.std.proofs.lemmas.List.{length-map}
 use Rattle.std.proofs.lemmas.List.Elements.{All-nil, All-cons, All-head, All-tail, All-weaker}
 use Rattle.ring_lemmas.specs.Ring.{CommRing, pow}
 use Rattle.ring_lemmas.specs.Sums.{sum_over}
 use Rattle.ring_theory.specs.Subsets.{IsSubring, IsModule, Product}
-use Rattle.ring_lemmas.proofs.Ring.{mul_pow, mul_zero, zero_add}
-use Rattle.ring_theory.proofs.Local.{power_in}
+use Rattle.ring_lemmas.proofs.Ring.{mul_zero, zero_add}
 use Rattle.ring_lemmas.proofs.Solver.{ring, reads, from_one}
 use Rattle.ring_theory.proofs.Polynomials.{length_product}
 use Rattle.ring_lemmas.specs.Lists.{coeff_of}
@@ -30,21 +29,29 @@ use Rattle.ff_poly.proofs.Parts.{IsMonic_from_top}
 use Rattle.ff_poly.specs.Polynomials.{Polynomial, polynomials, polynomial_discrete, codes_of, value_codes_of}
 use Rattle.function_field.specs.declared.side.Side.TheVariants.{Finite}
 use Rattle.function_field.specs.Places.{IsIntegralAt}
-use Rattle.function_field.specs.Functions.{Equation, FunctionOf, ring_of, of_poly, IsPolynomial, setting_of}
+use Rattle.function_field.specs.Functions.{Equation, FunctionOf, ring_of, of_poly, setting_of}
 use Rattle.places_theory.proofs.YRoot.{poly_hom}
 use Rattle.polynomial_theory.proofs.Lengths.{some_long, zero_length}
 use Rattle.polynomial_theory.proofs.Division.{euclidean}
 use Rattle.polynomial_theory.proofs.Irreducible.{irreducible_some}
-use Rattle.lattice_theory.specs.Lattices.{IsLattice, space_ops}
+use Rattle.function_field.specs.Indices.{space_ops}
+use Rattle.lattice_theory.specs.Lattices.{IsLattice}
 use Rattle.order_theory.specs.Orders.{IsOrder, IsOrderUpTo}
 use Rattle.lattice_theory.proofs.Lattices.{lattice_module, lattice_decided}
 use Rattle.order_theory.proofs.LeastPolynomials.{Least, least_polynomial}
 use Rattle.lattice_theory.proofs.Bases.{MonicMultiple, monic_multiple}
 use Rattle.lattice_theory.proofs.Operations.{inverse_of, product_lattice, colon_lattice, sum_lattice, polynomial_of}
-use Rattle.order_theory.proofs.LocalOrders.{stable_integral, prime_to}
+use Rattle.order_theory.proofs.LocalOrders.{stable_integral, prime_to, order_polynomials}
 use Rattle.order_theory.proofs.ReductionAt.{pO, p_in, multiple_is_lattice, lift}
 use Rattle.order_theory.proofs.PrimesOver.{Index, listed, order_generators}
 use Rattle.order_theory.proofs.IrreducibleIn.{monic_poly, numbers_get}
+use Rattle.prime_theory.proofs.Idempotents.{killed}
+use Rattle.std.proofs.lemmas.Bool.{cases_lt}
+
+-- a decision, as one of two
+pub one_of_two : {X : Type 0} → Dec X → X ⊎ (¬ X)
+one_of_two (yes x) = inl x
+one_of_two (no n) = inr n
 
 module _ {A : Type 0} (R : CommRing A) (O : A → Type 0) (𝓞 : IsSubring R.ops O) (p : A) (p_in : O p)
     (I : Type 0) (e : I → A) (is : List I) (dec : IsDecomposition R.ops O p I e is) where
@@ -52,33 +59,6 @@ module _ {A : Type 0} (R : CommRing A) (O : A → Type 0) (𝓞 : IsSubring R.op
   infixl 70 ◌⊗◌
   infixr 80 ⊖◌
   open R use {𝟘, 𝟙, ◌⊕◌, ◌⊗◌, ⊖◌}
-
-  𝓟 : IsIdeal R.ops O (Multiple R.ops p O)
-  𝓟 = multiples_ideal R O 𝓞 p p_in p p_in
-
-  -- powers of an idempotent
-  idempotent_power : (i : I) (n : ℕ) → Multiple R.ops p O (pow R.ops (e i) (suc n) ⊕ ⊖ (e i))
-  idempotent_power i zero =
-      let f : (x : A) → 𝟘 ≡ x ⊗ 𝟙 ⊕ ⊖ x = λ x. ring R (x ∷ []) λ q j. simp (reads, q, j 0) (q.equal _ _ refl) in
-      subst (Multiple R.ops p O) (f (e i)) 𝓟.zero_in
-  idempotent_power i (suc n) =
-      let f : (x y : A) → x ⊗ (y ⊕ ⊖ x) ⊕ (x ⊗ x ⊕ ⊖ x) ≡ x ⊗ y ⊕ ⊖ x
-      = λ x y. ring R (x ∷ y ∷ []) λ q j. simp (reads, q, j 0, j 1) (q.equal _ _ refl) in
-      subst (Multiple R.ops p O) (f (e i) (pow R.ops (e i) (suc n)))
-      (𝓟.sum_in _ _ (𝓟.scale_in _ _ (dec.within i) (idempotent_power i n)) (dec.idempotent i))
-
-  -- what is nilpotent at an idempotent has a power that takes it into p·O
-  killed : (i : I) (c : A) → O c → Radical R.ops O p (c ⊗ e i) → (n : ℕ) × Multiple R.ops p O (e i ⊗ pow R.ops c n)
-  killed i c c_in h =
-      let n = suc h.nilpotent.exponent in
-      let f : (x y z : A) → x ⊗ y ⊕ ⊖ (x ⊗ (y ⊕ ⊖ z)) ≡ z ⊗ x
-      = λ x y z. ring R (x ∷ y ∷ z ∷ []) λ q j. simp (reads, q, j 0, j 1, j 2) (q.equal _ _ refl) in (
-        n,
-        subst (Multiple R.ops p O) (f (pow R.ops c n) (pow R.ops (e i) n) (e i))
-            (𝓟.sum_in _ _ (subst (Multiple R.ops p O) (mul_pow R c (e i) n) h.nilpotent.power_in)
-            (ideal_neg R O 𝓞 (Multiple R.ops p O) 𝓟 _
-            (𝓟.scale_in _ _ (power_in R O 𝓞 c c_in n) (idempotent_power i h.nilpotent.exponent)))),
-      )
 
   module _ (C : A → Type 0) (𝓒 : IsIdeal R.ops O C) (p_in_C : (a : A) → Multiple R.ops p O a → C a)
       (decide : (a : A) → Dec (C a)) where
@@ -109,7 +89,7 @@ module _ {A : Type 0} (R : CommRing A) (O : A → Type 0) (𝓞 : IsSubring R.op
     all_killed i out [] h = All-nil (λ c. O c × ((n : ℕ) × Multiple R.ops p O (e i ⊗ pow R.ops c n)))
     all_killed i out (c ∷ cs) h =
         All-cons (λ c. O c × ((n : ℕ) × Multiple R.ops p O (e i ⊗ pow R.ops c n))) c cs
-        (c_in, killed i c c_in (by (dec.locality i c c_in)))
+        (c_in, killed R O 𝓞 p p_in I e is dec i c c_in (by (dec.locality i c c_in)))
         (all_killed i out cs (All-tail C c cs h))
       where
         c_in : O c
@@ -266,10 +246,6 @@ module _ {k : CodeField} (c : Equation k) (O : FunctionOf c → Type 0) (𝓞 : 
             from_one (ring_of c) (⊖ 𝟙) e
             (ring (ring_of c) (l ∷ r ∷ []) λ q h. simp (reads, q, h 0, h 1) (q.equal _ _ refl))
 
-        by : {X : Type 0} → Dec X → X ⊎ (¬ X)
-        by (yes x) = inl x
-        by (no n) = inr n
-
         go : Dec (C 𝟙) → UnitModulo (ring_of c).ops O (of_poly c p) T ⊎ Obstruction (ring_of c) O 𝓞.ring (of_poly c p) M
         go (yes m) =
             inl (record {
@@ -283,7 +259,7 @@ module _ {k : CodeField} (c : Equation k) (O : FunctionOf c → Type 0) (𝓞 : 
             C C_ideal in_C (lattice_decided c C C_lattice) n in
             let gens = order_generators c p h O 𝓞 T T_lattice in
             inr (obstruction (ring_of c) O 𝓞.ring (of_poly c p) (p_in c p h O 𝓞)
-            (λ x x_in. by (lattice_decided c (pO c p h O 𝓞) (multiple_is_lattice c p h O 𝓞) x)) 𝓠 M
+            (λ x x_in. one_of_two (lattice_decided c (pO c p h O 𝓞) (multiple_is_lattice c p h O 𝓞) x)) 𝓠 M
             gens.list gens.spanned (lift c p h O 𝓞 i.0.0) ((listed c p h O 𝓞).1.within i.0) (λ m. i.1 (in_C _ m))
             (all_killed (ring_of c) O 𝓞.ring (of_poly c p) (p_in c p h O 𝓞) (Index c p h O 𝓞)
             (λ i. lift c p h O 𝓞 i.0) (listed c p h O 𝓞).0 (listed c p h O 𝓞).1
@@ -311,17 +287,14 @@ module _ {k : CodeField} (c : Equation k) (O : FunctionOf c → Type 0) (𝓞 : 
             let one = trace_of_local (ring_of c) O 𝓞.ring M l.factor l.member l.takes l.has in
             subst T (split b.left (l.member ⊗ l.factor) b.right (of_poly c p) b.is)
             (T_ideal.sum_in _ _
-            (T_ideal.scale_in (b.left ⊗ w) _ (𝓞.ring.product_in _ _ (scalar_in b.left b.left_in) w_in) one)
-            (T_ideal.scale_in b.right _ (scalar_in b.right b.right_in) m))
+            (T_ideal.scale_in (b.left ⊗ w) _ (𝓞.ring.product_in _ _ (order_polynomials c O 𝓞 b.left b.left_in) w_in)
+            one)
+            (T_ideal.scale_in b.right _ (order_polynomials c O 𝓞 b.right b.right_in) m))
           where
             split : (x a y q : FunctionOf c) → x ⊗ a ⊕ y ⊗ q ≡ 𝟙 → (x ⊗ w) ⊗ a ⊕ y ⊗ (q ⊗ w) ≡ w
             split x a y q e =
                 from_one (ring_of c) w e (ring (ring_of c) (x ∷ a ∷ y ∷ q ∷ w ∷ []) λ q h. simp
                 (reads, q, h 0, h 1, h 2, h 3, h 4) (q.equal _ _ refl))
-
-            scalar_in : (s : FunctionOf c) → IsPolynomial c s → O s
-            scalar_in s s_in =
-                subst O ((ring_of c).mul_one s) ((lattice_module c O 𝓞.lattice).scale_in s 𝟙 s_in 𝓞.ring.one_in)
 
   abbrev Some : Polynomial k → Type 0
   Some a = (¬ (a ≡ (polynomials k).𝟘)) × Product (ring_of c).ops M (Inverse (ring_of c).ops O M) (of_poly c a)
@@ -345,11 +318,8 @@ module _ {k : CodeField} (c : Equation k) (O : FunctionOf c → Type 0) (𝓞 : 
 
   -- M times its inverse has 1
   pub lattice_invertible : Invertible (ring_of c).ops O M
-  lattice_invertible = go (order (length smallest.member.0))
+  lattice_invertible = go (cases_lt 1 (length smallest.member.0))
     where
-      order : (n : ℕ) → (2 ≤ n) ⊎ (n ≤ 1)
-      order n = grind arith
-
       go : (2 ≤ length smallest.member.0) ⊎ (length smallest.member.0 ≤ 1) → T 𝟙
       go (inr short) =
           let m = monic_multiple k smallest.member smallest.has.0 in

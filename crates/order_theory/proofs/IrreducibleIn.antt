@@ -1,6 +1,5 @@
 -- Each finite place lies over an irreducible polynomial, and over one only.
 use Rattle.std.proofs.Common.{◌+◌, ◌≡◌, ◌⊎◌, inl, inr, ℕ, zero, suc, ◌<◌, ◌≤◌, List, [], ◌∷◌, ◌++◌, length, get_or, refl, sym, ◌∙◌, ap, subst, arith}
-use Rattle.std.proofs.lemmas.List.{length-map}
 use Rattle.ring_lemmas.specs.Lists.{coeff_of, IsTrimmed}
 use Rattle.ring_theory.specs.Subsets.{IsModule}
 use Rattle.ring_lemmas.proofs.Ring.{one_mul, zero_mul, mul_zero}
@@ -22,11 +21,11 @@ use Rattle.function_field.proofs.ScalarRings.{polynomials_subring}
 use Rattle.function_field.specs.Places.{IsPlace, IsIn, IsIntegralAt}
 use Rattle.function_field.specs.Functions.{Equation, FunctionOf, ring_of, of_poly, IsPolynomial, setting_of}
 use Rattle.places_theory.proofs.YRoot.{poly_hom}
-use Rattle.polynomial_theory.proofs.Lengths.{some_long}
+use Rattle.polynomial_theory.proofs.Lengths.{some_long, one_or_more}
 use Rattle.polynomial_theory.proofs.Division.{euclidean}
-use Rattle.polynomial_theory.proofs.Irreducible.{irreducible_some, irreducible, decide_divides}
+use Rattle.polynomial_theory.proofs.Irreducible.{irreducible_some, irreducible, decide_divides, length_codes, constant_times}
 use Rattle.order_theory.proofs.LeastPolynomials.{Least, least_polynomial}
-use Rattle.lattice_theory.proofs.Bases.{MonicMultiple, monic_multiple, constant_times}
+use Rattle.lattice_theory.proofs.Bases.{MonicMultiple, monic_multiple}
 use Rattle.lattice_theory.proofs.Lattices.{lattice_module}
 use Rattle.order_theory.proofs.IntegralLattice.{polynomial_integral}
 use Rattle.order_theory.proofs.FinitePlaces.{finite, place_lattice, place_polynomial, in_place_decided}
@@ -130,16 +129,10 @@ module _ {k : CodeField} (c : Equation k) (gs : List (FunctionOf c))
   shorter_out : (b : Polynomial k) → ¬ (b ≡ (polynomials k).𝟘) → length b.0 < length monic.product.0 → ¬ In b
   shorter_out b n l m = let le = least.least b (n, m) in let e = length_is in absurd (omega arith)
 
-  codes_length : (a : Polynomial k) → length (codes_of k a) ≡ length a.0
-  codes_length a = length-map a.0 (λ x. x.0)
-
   generator_long : 2 ≤ length monic.product.0
   unfolding generator_of
   generator_long = go (one_or_more (length monic.product.0) (some_long k monic.product generator_some))
     where
-      one_or_more : (n : ℕ) → 0 < n → (n ≡ 1) ⊎ (2 ≤ n)
-      one_or_more n l = grind arith
-
       go : (length monic.product.0 ≡ 1) ⊎ (2 ≤ length monic.product.0) → 2 ≤ length monic.product.0
       go (inr l) = l
       go (inl e) =
@@ -156,19 +149,19 @@ module _ {k : CodeField} (c : Equation k) (gs : List (FunctionOf c))
   unfolding generator_of
   generator_irreducible = record {
     monic =
-        IsMonic_from_top monic.monic.degree (codes_of k monic.product) (codes_length monic.product ∙ monic.monic.size)
+        IsMonic_from_top monic.monic.degree (codes_of k monic.product) (length_codes k monic.product ∙ monic.monic.size)
         (numbers_get k monic.product.0 monic.monic.degree (let s = monic.monic.size in omega arith)
         ∙ ap (λ x. x.0) monic.monic.top);
-    not_constant = subst (λ n. 2 ≤ n) (sym (codes_length monic.product)) generator_long;
+    not_constant = subst (λ n. 2 ≤ n) (sym (length_codes k monic.product)) generator_long;
     no_divisor = λ b b_in b_monic long short d.
         let B = value k b in
         let Q = value k d.quotient in
         let whole : monic.product ≡ (polynomials k).◌⊗◌ B Q
         = sym (value_codes_of k monic.product) ∙ ap (value k) d.product
         ∙ value_product k b d.quotient b_in d.quotient_in in
-        let size : length B.0 ≡ length b = sym (codes_length B)
+        let size : length B.0 ≡ length b = sym (length_codes k B)
         ∙ ap length (numbers_value k b b_in (monic_poly b b_monic)) in
-        divided B Q whole (omega (arith, size, long)) (omega (arith, size, short, codes_length monic.product));
+        divided B Q whole (omega (arith, size, long)) (omega (arith, size, short, length_codes k monic.product));
   }
     where
       divided : (B Q : Polynomial k) → monic.product ≡ (polynomials k).◌⊗◌ B Q → 2 ≤ length B.0
@@ -204,7 +197,7 @@ module _ {k : CodeField} (c : Equation k) (gs : List (FunctionOf c))
           × (coeff_of (code_ring k).ops a.0 n ≡ (code_ring k).𝟙)
       top a m =
           let t = top_of_monic (codes_of k a) m in
-          let size : length a.0 ≡ suc t.0 = sym (codes_length a) ∙ t.1 in (
+          let size : length a.0 ≡ suc t.0 = sym (length_codes k a) ∙ t.1 in (
             t.0,
             size,
             same_code k _ (code_ring k).𝟙 (sym (numbers_get k a.0 t.0 (omega arith)) ∙ t.2),

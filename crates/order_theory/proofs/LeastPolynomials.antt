@@ -7,6 +7,7 @@ use Rattle.ff_fields.specs.Field.{CodeField}
 use Rattle.ff_fields.specs.Code.{Code, code_ring}
 use Rattle.ff_poly.specs.Polynomials.{Polynomial}
 use Rattle.polynomial_theory.proofs.CodeFields.{code_finite}
+use Rattle.std.proofs.lemmas.Bool.{cases_lt}
 
 -- whether a member of a list has a property
 some_in : {X : Type 0} (T : X → Type 0) → ((x : X) → Dec (T x)) → (xs : List X) → Dec ((x : X) × In x xs × T x)
@@ -68,11 +69,8 @@ module _ (k : CodeField) where
       both (no n) e = no (λ h. n h.0)
       both (yes x) (no n) = no (λ h. n h.1)
 
-      order : (m n : ℕ) → (m < n) ⊎ (n ≤ m)
-      order m n = grind arith
-
       smaller : (m n : ℕ) → Dec (m < n)
-      smaller m n = elim (order m n) [ inl l ↦ yes l | inr l ↦ no (λ h. absurd (omega arith)) ]
+      smaller m n = elim (cases_lt m n) [ inl l ↦ yes l | inr l ↦ no (λ h. absurd (omega arith)) ]
 
       go : Dec ((l : List (Code k)) × (length l ≤ length a.0)
           × (T (pol_of (code_ring k) l) × (length (pol_of (code_ring k) l).0 < length a.0)))
@@ -81,7 +79,7 @@ module _ (k : CodeField) where
       go (no m) again = record {
         member = a;
         has = t;
-        least = λ b s. by b s (order (length b.0) (length a.0));
+        least = λ b s. by b s (cases_lt (length b.0) (length a.0));
       }
         where
           by : (b : Polynomial k) → T b → (length b.0 < length a.0) ⊎ (length a.0 ≤ length b.0)

@@ -85,9 +85,6 @@ module _ {k : CodeField} (c : Equation k) (some : ¬ (discriminant c ≡ (polyno
   infixl 65 ◌⊕◌
   infixl 70 ◌⊗◌
   infixr 80 ⊖◌
-  abbrev I : Type 0
-  I = Index c p h (Int c) (integral_order c some p h)
-
   abbrev P : Index c p h (Int c) (integral_order c some p h) → FunctionOf c → Type 0
   P = PrimeOf c p h (Int c) (integral_order c some p h)
 

@@ -29,7 +29,8 @@ use Rattle.function_field.specs.Functions.{Equation, FunctionOf, ring_of, of_pol
 use Rattle.polynomial_theory.proofs.CodeFields.{code_finite}
 use Rattle.places_theory.proofs.Decomposition.{prime_system}
 use Rattle.places_theory.specs.Reductions.{IsReduction, Primitive}
-use Rattle.lattice_theory.specs.Lattices.{IsLattice, space_ops}
+use Rattle.function_field.specs.Indices.{space_ops}
+use Rattle.lattice_theory.specs.Lattices.{IsLattice}
 use Rattle.order_theory.specs.Orders.{IsOrder}
 use Rattle.lattice_theory.proofs.Lattices.{lattice_decided, lattice_generators}
 use Rattle.lattice_theory.proofs.Indices.{codes, space, code_of, code_hom, lattice_subspace}

@@ -12,7 +12,7 @@ use Rattle.function_field.specs.declared.side.Side.TheVariants.{Finite}
 use Rattle.function_field.specs.Places.{IsIntegralAt}
 use Rattle.function_field.specs.Functions.{Equation, FunctionOf, ring_of, of_poly, degree_of_y, setting_of}
 use Rattle.polynomial_theory.proofs.Irreducible.{irreducible_some}
-use Rattle.lattice_theory.specs.Lattices.{HasIndex}
+use Rattle.function_field.specs.Indices.{HasIndex}
 use Rattle.order_theory.specs.Orders.{IsOrder}
 use Rattle.lattice_theory.proofs.Indices.{index_of, index_once}
 use Rattle.lattice_theory.proofs.Bases.{index_same}

@@ -1,6 +1,6 @@
 -- An order modulo an irreducible polynomial p is a finite algebra over k: the coordinates in a basis modulo p stand
 -- for the classes.
-use Rattle.std.proofs.Common.{◌≡◌, ℕ, zero, suc, ◌<◌, ◌≤◌, ◌*◌, ◌-◌, List, [], ◌∷◌, length, refl, sym, ◌∙◌, ap, subst, arith}
+use Rattle.std.proofs.Common.{◌≡◌, ℕ, zero, suc, ◌<◌, ◌≤◌, ◌*◌, ◌-◌, [], ◌∷◌, length, refl, sym, ◌∙◌, ap, subst, arith}
 use Rattle.ring_lemmas.specs.Ring.{CommRing}
 use Rattle.ring_lemmas.specs.Rows.{Row, entry}
 use Rattle.ring_theory.specs.Subsets.{IsModule}
@@ -23,7 +23,8 @@ use Rattle.function_field.specs.Functions.{Equation, FunctionOf, ring_of, of_pol
 use Rattle.polynomial_theory.proofs.CodeFields.{code_finite}
 use Rattle.trace_theory.proofs.RowMatrix.{row_with, entry_with, row_by_entries}
 use Rattle.polynomial_theory.proofs.Irreducible.{irreducible_some}
-use Rattle.lattice_theory.specs.Lattices.{IsLattice, HasIndex, space_ops}
+use Rattle.function_field.specs.Indices.{HasIndex, space_ops}
+use Rattle.lattice_theory.specs.Lattices.{IsLattice}
 use Rattle.order_theory.specs.Orders.{IsOrder}
 use Rattle.lattice_theory.proofs.Lattices.{lattice_module, lattice_decided}
 use Rattle.lattice_theory.proofs.Indices.{codes, space, lattice_subspace, index_none, index_once}
@@ -89,14 +90,8 @@ module _ {k : CodeField} (c : Equation k) (p : Polynomial k) (h : IsIrreducibleL
           let q = mul-le-mul_left (degree_of_y c) (let r : 1 ≤ length p.0 - 1 = omega arith in r) in
           absurd (omega (arith, e, q))
 
-  abbrev ws : List (FunctionOf c)
-  ws = index_of_p.basis
-
   abbrev m : ℕ
   m = length index_of_p.basis
-
-  abbrev U : FunctionOf c → Type 0
-  U = pO
 
   𝓤 : IsSubspace (space_ops c) pO
   𝓤 = lattice_subspace c pO multiple_is_lattice
@@ -125,12 +120,6 @@ module _ {k : CodeField} (c : Equation k) (p : Polynomial k) (h : IsIrreducibleL
   unique : (z : FunctionOf c) (s t : IsCombination (space_ops c) pO index_of_p.basis z) (i : ℕ)
       → i < length index_of_p.basis → s.coefficient i ≡ t.coefficient i
   unique z s t i l = coefficients_unique (space c) pO 𝓤 index_of_p.basis index_of_p.is.independent z s t i l
-
-  lifted : (e : ℕ → Code k) (f : Classes)
-      → ((i : ℕ) → i < length index_of_p.basis → entry (code_ring k).ops (length index_of_p.basis) i f ≡ e i)
-      → lift f ≡ combine (space_ops c) e index_of_p.basis
-  unfolding lift
-  lifted e f g = combine_cong (space c) _ e index_of_p.basis g
 
   same_class : (a b : FunctionOf c) (s : IsCombination (space_ops c) pO index_of_p.basis a)
       (t : IsCombination (space_ops c) pO index_of_p.basis b)

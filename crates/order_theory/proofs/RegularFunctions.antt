@@ -1,6 +1,6 @@
 -- A function whose value is at least 0 at each place over p is integral over the polynomials up to a factor prime to
 -- p; so where it is at least 0 at each finite place, it is integral.
-use Rattle.std.proofs.Common.{◌≡◌, ◌⊎◌, inl, inr, ℕ, zero, suc, ◌≤◌, List, length, pos, refl, sym, ◌∙◌, ap, subst, arith}
+use Rattle.std.proofs.Common.{◌≡◌, ◌⊎◌, inl, inr, ℕ, zero, suc, ◌≤◌, List, length, pos, sym, ◌∙◌, ap, subst, arith}
 use Rattle.std.proofs.lemmas.List.{length-map}
 use Rattle.ring_lemmas.specs.Ring.{pow}
 use Rattle.ring_theory.specs.Local.{Locally}
@@ -32,12 +32,13 @@ use Rattle.lattice_theory.proofs.Bases.{monic_multiple}
 use Rattle.order_theory.proofs.Degrees.{constant_of}
 use Rattle.order_theory.specs.Orders.{IsPrimeTo}
 use Rattle.order_theory.proofs.LocalOrders.{prime_to, denominator}
-use Rattle.order_theory.proofs.IntegralLattice.{integral_lattice, integral_subring, polynomial_integral}
+use Rattle.order_theory.proofs.IntegralLattice.{integral_lattice, integral_subring, polynomial_integral, polynomial_in}
 use Rattle.order_theory.proofs.FinitePlaces.{Int, finite}
 use Rattle.order_theory.proofs.ReductionAt.{p_in}
 use Rattle.order_theory.proofs.PrimesOver.{Index, PrimeOf, prime_over, family_of, primes_at}
 use Rattle.order_theory.proofs.PlaceLists.{integral_order, integral_maximal, rows, members, prime_place}
 use Rattle.order_theory.proofs.InvertibleIdeals.{divisor_of, divides_it, divisor_irreducible}
+use Rattle.std.proofs.lemmas.Bool.{cases_lt}
 
 module _ {k : CodeField} (c : Equation k) (z : FunctionOf c) where
   infixl 65 ◌⊕◌
@@ -61,9 +62,6 @@ module _ {k : CodeField} (c : Equation k) (z : FunctionOf c) where
       subst (Int c) (sym ((ring_of c).mul_assoc s a z)) ((integral_subring c).product_in s _ s_in m.1),
     );
   }
-
-  polynomial_in : (a : Polynomial k) → Int c (of_poly c a)
-  polynomial_in a = polynomial_integral c (of_poly c a) (record { polynomial = a; value = refl })
 
 module _ {k : CodeField} (c : Equation k) (some : ¬ (discriminant c ≡ (polynomials k).𝟘)) (z : FunctionOf c)
     (p : Polynomial k) (h : IsIrreducibleList k.ops (codes_of k p))
@@ -110,7 +108,7 @@ module _ {k : CodeField} (c : Equation k) (some : ¬ (discriminant c ≡ (polyno
       d = denominator c p h (Int c) (integral_lattice c some) z
 
       p_int : Int c (of_poly c p)
-      p_int = polynomial_integral c (of_poly c p) (record { polynomial = p; value = refl })
+      p_int = polynomial_in c p
 
       w_int : Int c d.cofactor
       w_int = polynomial_integral c d.cofactor ((prime_to c p h).within d.cofactor d.cofactor_in)
@@ -154,11 +152,8 @@ module _ {k : CodeField} (c : Equation k) (some : ¬ (discriminant c ≡ (polyno
       least_polynomial k Clears decide f.factor (f.some, f.multiple_in)
 
   pub regular_is_integral : Int c z
-  regular_is_integral = subst (Int c) (one_mul (ring_of c) z) (go (order (length smallest.member.0)))
+  regular_is_integral = subst (Int c) (one_mul (ring_of c) z) (go (cases_lt 1 (length smallest.member.0)))
     where
-      order : (n : ℕ) → (2 ≤ n) ⊎ (n ≤ 1)
-      order n = grind arith
-
       go : (2 ≤ length smallest.member.0) ⊎ (length smallest.member.0 ≤ 1) → Int c (𝟙 ⊗ z)
       go (inr short) =
           let m = monic_multiple k smallest.member smallest.has.0 in
@@ -171,8 +166,8 @@ module _ {k : CodeField} (c : Equation k) (some : ¬ (discriminant c ≡ (polyno
           let one : m.product ≡ (polynomials k).𝟙
           = constant_of c m.product (omega arith) ∙ ap (constant (code_ring k)) top ∙ (constant_hom (code_ring k)).𝟙 in
           subst (λ u. Int c (u ⊗ z)) (sym ((poly_hom c).mul _ _) ∙ ap (of_poly c) (sym m.is ∙ one) ∙ (poly_hom c).𝟙)
-          ((𝓙 c z).scale_in (of_poly c m.unit) (of_poly c smallest.member) (polynomial_in c z m.unit)
-          (polynomial_in c z smallest.member, smallest.has.1)).1
+          ((𝓙 c z).scale_in (of_poly c m.unit) (of_poly c smallest.member) (polynomial_in c m.unit)
+          (polynomial_in c smallest.member, smallest.has.1)).1
       go (inl long) =
           let g = smallest.member in
           let p = divisor_of k g smallest.has.0 long in
@@ -181,8 +176,8 @@ module _ {k : CodeField} (c : Equation k) (some : ¬ (discriminant c ≡ (polyno
           let u = d.0 in
           let u_some : ¬ (u ≡ (polynomials k).𝟘) = λ e. smallest.has.0
           (d.1 ∙ ap ((polynomials k).◌⊗◌ p) e ∙ mul_zero (polynomials k).ring p) in
-          let u_in = cancelled c some z p irr (λ gs place over. regular gs place) (of_poly c u) (polynomial_in c z u)
-          (subst (J c z) (ap (of_poly c) d.1 ∙ (poly_hom c).mul p u) (polynomial_in c z g, smallest.has.1)) in
+          let u_in = cancelled c some z p irr (λ gs place over. regular gs place) (of_poly c u) (polynomial_in c u)
+          (subst (J c z) (ap (of_poly c) d.1 ∙ (poly_hom c).mul p u) (polynomial_in c g, smallest.has.1)) in
           let le = smallest.least u (u_some, u_in.1) in
           let l = length_product (code_ring k) (code_domain k) p u (irreducible_some k p irr) u_some in
           let f : length g.0 ≡ length ((polynomials k).◌⊗◌ p u).0 = ap (λ q. length q.0) d.1 in

@@ -18,7 +18,8 @@ use Rattle.function_field.specs.Functions.{Equation, FunctionOf, ring_of, of_pol
 use Rattle.function_field.specs.Discriminant.{discriminant}
 use Rattle.function_field.proofs.ScalarRings.{scalars_subring}
 use Rattle.places_theory.proofs.SamePlaces.{same_place_decided}
-use Rattle.lattice_theory.specs.Lattices.{IsLattice, HasIndex}
+use Rattle.function_field.specs.Indices.{HasIndex}
+use Rattle.lattice_theory.specs.Lattices.{IsLattice}
 use Rattle.lattice_theory.proofs.Lattices.{lattice_decided}
 use Rattle.lattice_theory.proofs.Indices.{index_of}
 use Rattle.order_theory.proofs.IntegralLattice.{integral_lattice, integral_subring}

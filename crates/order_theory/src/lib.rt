@@ -21,7 +21,8 @@ ghost use Rattle.function_field.specs.Divisors.{HasDegree};
 ghost use Rattle.prime_theory.specs.Ideals.{Invertible};
 ghost use Rattle.prime_theory.specs.Orders.{MaximalAt};
 ghost use Rattle.prime_theory.specs.Primes.{IsPrime};
-ghost use Rattle.lattice_theory.specs.Lattices.{IsLattice, HasIndex};
+ghost use Rattle.function_field.specs.Indices.{HasIndex};
+ghost use Rattle.lattice_theory.specs.Lattices.{IsLattice};
 ghost use Rattle.order_theory.specs.Orders.{IsOrder, IsPrimeTo, TakenByPowers, IsOrderUpTo};
 ghost use Rattle.order_theory.specs.PlaceLists.{PlaceOver, IsAllOver, sum_of_degrees};
 

@@ -66,9 +66,6 @@ module _ {A B : Type 0} (R : CommRing A) (O : A → Type 0) (𝓞 : IsSubring R.
   same a c h i e = (red.kernel (a ⊕ ⊖ c) (𝓞.sum_in _ _ h (𝓞.neg_in c i))).0
       (reduce_less a c h i ∙ sub_of_eq Q (reduce a) (reduce c) e)
 
-  abbrev I : Type 0
-  I = Primitive Q.ops
-
   abbrev pub lifted : Primitive Q.ops → A
   lifted i = lift i.0
 

@@ -1,6 +1,5 @@
 -- The infinite side: its scalars are k[t] with the inverses of what t does not divide, so its integral functions and
--- its spans are
--- those over k[t] up to such factors.
+-- its spans are those over k[t] up to such factors.
 use Rattle.prime_theory.proofs.Scalars.{span_wider, integral_wider}
 use Rattle.std.proofs.Common.{◌≡◌, ℕ, zero, suc, ◌+◌, ◌-◌, ◌≤◌, ◌<◌, Bool, true, false, List, [], ◌∷◌, ◌++◌, length, map, get_or, reverse, replicate, refl, sym, ◌∙◌, ap, ap₂, subst, arith, true≢false, eqb-true, eq-eqb}
 use Rattle.std.proofs.lemmas.List.{length-append, length-map, length-replicate, length-reverse, reverse-reverse, map-append}
@@ -10,13 +9,12 @@ use Rattle.ring_lemmas.specs.Lists.{coeff_of, IsTrimmed}
 use Rattle.ring_theory.specs.Subsets.{IsSubring, Span}
 use Rattle.ring_theory.specs.Local.{Locally}
 use Rattle.ring_theory.specs.Integral.{IsIntegral}
-use Rattle.ring_lemmas.proofs.Ring.{mul_zero, product_not_zero}
+use Rattle.ring_lemmas.proofs.Ring.{product_not_zero}
 use Rattle.ring_lemmas.proofs.Lists.{trim_trimmed, IsTrimmed_push}
 use Rattle.ring_lemmas.specs.Polynomials.{pol_ops}
 use Rattle.ring_lemmas.proofs.Polynomials.{series_mul}
 use Rattle.ring_theory.proofs.Polynomials.{length_product, length_product_le}
 use Rattle.ring_theory.proofs.RowMaps.{hom_zero, hom_neg}
-use Rattle.ring_theory.proofs.Evaluate.{length_trim}
 use Rattle.ring_lemmas.proofs.Solver.{ring, reads, from_one, from_two, from_three}
 use Rattle.ff_fields.specs.Field.{CodeField}
 use Rattle.ff_fields.specs.Over.{IsOver, IsOver_nil, IsOver_cons, IsOver_head, IsOver_tail, IsOver_append}
@@ -24,7 +22,7 @@ use Rattle.ff_fields.specs.Code.{is_zero_code, Code, code_ring, code_domain, sam
 use Rattle.ff_fields.specs.Numbers.{read}
 use Rattle.ff_poly.specs.Value.{value}
 use Rattle.ff_poly.specs.Words.{IsPoly}
-use Rattle.ff_poly.specs.Polynomials.{Polynomial, polynomials, polynomials_domain, codes_of, value_codes_of, value_nil, value_one, value_cons, series_read, IsOver_codes_of, IsPoly_codes_of, constant_poly, x_poly, x_poly_not_zero}
+use Rattle.ff_poly.specs.Polynomials.{Polynomial, polynomials, polynomials_domain, codes_of, value_codes_of, value_nil, value_one, series_read, IsOver_codes_of, IsPoly_codes_of, x_poly, x_poly_not_zero}
 use Rattle.function_field.specs.declared.side.Side.TheVariants.{Finite, Infinite}
 use Rattle.function_field.specs.Functions.{of_poly, over, row_of, IsFiniteAtInfinity}
 use Rattle.function_field.specs.Values.{PresValue, Functions, functions, equation_of}
@@ -34,28 +32,11 @@ use Rattle.prime_theory.proofs.Denominators.{integral_cleared, integral_of_clear
 use Rattle.places_theory.specs.InfiniteSide.{InReverse, IsPrimeToT}
 use Rattle.places_theory.proofs.YRoot.{poly_hom, over_times_den, over_unique}
 use Rattle.polynomial_theory.proofs.Lengths.{x_power_not_zero}
-use Rattle.places_theory.proofs.AtInfinity.{at, at_hom, at_codes, value_at_is, reversed, x_power, powers_cancel, constant_zero}
+use Rattle.places_theory.proofs.AtInfinity.{at, at_hom, at_codes, value_at_is, reversed, x_power, powers_cancel}
+use Rattle.polynomial_theory.proofs.Irreducible.{length_codes}
+use Rattle.polynomial_theory.proofs.ListValues.{value_short, value_padded}
 
 module _ (k : CodeField) where
-  value_zeros : (m : ℕ) → value k (replicate m 0) ≡ (polynomials k).𝟘
-  value_zeros zero = value_nil k
-  value_zeros (suc m) =
-      value_cons k 0 (replicate m 0)
-      ∙ ap₂ (polynomials k).◌⊕◌ (constant_zero k)
-      (ap ((polynomials k).◌⊗◌ (x_poly k)) (value_zeros m) ∙ mul_zero (polynomials k).ring (x_poly k))
-      ∙ (polynomials k).add_zero (polynomials k).𝟘
-
-  -- zeros on top change nothing
-  value_pad : (w : List ℕ) (m : ℕ) → value k (w ++ replicate m 0) ≡ value k w
-  value_pad [] m = value_zeros m ∙ sym (value_nil k)
-  value_pad (c ∷ w) m =
-      value_cons k c (w ++ replicate m 0)
-      ∙ ap (λ v. (polynomials k).◌⊕◌ (constant_poly k c) ((polynomials k).◌⊗◌ (x_poly k) v)) (value_pad w m)
-      ∙ sym (value_cons k c w)
-
-  length_codes : (a : Polynomial k) → length (codes_of k a) ≡ length a.0
-  length_codes a = length-map a.0 (λ x. x.0)
-
   -- a list of codes whose last is not 0 stands for a polynomial of its length
   length_last : (w : List ℕ) (c : ℕ) → c < k.size → ¬ (c ≡ 0) → length (value k (w ++ c ∷ [])).0 ≡ suc (length w)
   length_last w c c_in some =
@@ -71,10 +52,6 @@ module _ (k : CodeField) where
           subst (IsTrimmed (code_ring k).is_zero) (sym (map-append (read_code k) w (c ∷ [])))
           (IsTrimmed_push (code_ring k).is_zero (read k w) (read_code k c)
           (nonzero ((code_ring k).is_zero (read_code k c)) refl))
-
-  length_at_most : (w : List ℕ) → length (value k w).0 ≤ length w
-  length_at_most w = let l = length_trim (code_ring k).is_zero (read k w) in let e = length-map w (read_code k) in omega
-      arith
 
   x_length : length (x_poly k).0 ≡ 2
   x_length = length_last (0 ∷ []) 1 k.laws.one_below (λ e. absurd (omega arith))
@@ -287,7 +264,7 @@ module _ (k : CodeField) (p : PresValue) where
           ∙ ap (λ a. X ⊗ of a)
           (ap (value k) (reverse-reverse
           (codes_of k h.top ++ replicate (length (codes_of k h.bottom) - length (codes_of k h.top)) 0))
-          ∙ value_pad k (codes_of k h.top) (length (codes_of k h.bottom) - length (codes_of k h.top))
+          ∙ value_padded k (codes_of k h.top) (length (codes_of k h.bottom) - length (codes_of k h.top))
           ∙ value_codes_of k h.top)
 
       cancel : (s r b w a v : Functions k p) → s ⊗ r ≡ 𝟙 → s ⊗ w ≡ X ⊗ b → s ⊗ v ≡ X ⊗ a → b ⊗ z ≡ a → w ⊗ z ≡ v
@@ -367,7 +344,7 @@ module _ (k : CodeField) (p : PresValue) where
               length_product (code_ring k) (code_domain k) (x_poly k) r.polynomial (x_poly_not_zero k) r.nonzero,
               x_length k,
               r.exact,
-              length_at_most k (reverse v),
+              value_short k (reverse v),
               length-reverse v,
             );
         value =

@@ -1,6 +1,5 @@
 -- At a place over p, with an order that is maximal at p: the valuation of the place is that of its prime of the order.
--- So it is
--- additive on products, and each function with an inverse has one.
+-- So it is additive on products, and each function with an inverse has one.
 use Rattle.prime_theory.proofs.Scalars.{span_wider}
 use Rattle.std.proofs.Common.{◌≡◌, ◌↔◌, ◌⊎◌, inl, inr, ℕ, suc, arith}
 use Rattle.std.proofs.lemmas.Int.{ints}

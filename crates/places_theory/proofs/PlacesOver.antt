@@ -1,6 +1,5 @@
 -- The places over p and the primes of an order that is maximal at p: each prime with finitely many generators is that
--- of a place, and
--- a place is known from its prime.
+-- of a place, and a place is known from its prime.
 use Rattle.std.proofs.Common.{◌≡◌, ◌↔◌, List, ◌++◌, map, sym, subst}
 use Rattle.ring_theory.specs.Subsets.{IsSubring, IsModule, Span}
 use Rattle.prime_theory.specs.Ideals.{SameSet}

@@ -1,14 +1,12 @@
 -- Sameness of places is an equivalence, and it is decided where membership is.
-use Rattle.std.proofs.Common.{◌≡◌, ◌↔◌, List, [], ◌∷◌, refl, sym, ◌∙◌, ap, subst, All}
+use Rattle.std.proofs.Common.{◌≡◌, ◌↔◌, List, [], ◌∷◌, refl, sym, ◌∙◌, subst, All}
 use Rattle.std.proofs.lemmas.List.Elements.{All-nil, All-cons, All-head, All-tail}
 use Rattle.ring_theory.specs.Subsets.{IsSubring, Span}
 use Rattle.ring_theory.proofs.Subsets.{span_within, span_members}
-use Rattle.ring_lemmas.proofs.Solver.{ring, reads}
 use Rattle.function_field.specs.declared.side.Side.{Side}
 use Rattle.function_field.specs.declared.side.Side.TheVariants.{Finite, Infinite}
 use Rattle.function_field.specs.Setting.{Setting}
-use Rattle.function_field.specs.Places.{Place, IsPlace, IsSamePlace, IsIntegralAt, IsIn}
-use Rattle.places_theory.proofs.Sides.{place_ideal, scalar_integral}
+use Rattle.function_field.specs.Places.{Place, IsSamePlace, IsIn}
 
 pub side_discrete : (s t : Side) → Dec (s ≡ t)
 side_discrete Finite Finite = yes refl
@@ -57,38 +55,6 @@ module _ {E : Type 0} (S : Setting E) (scalars : (s : Side) → IsSubring S.func
 
   pub generators_in : (P : Place E) → All (IsIn S P) P.generators
   generators_in P = span_members S.functions (S.IsScalar P.side) (scalars P.side) P.generators
-
-  -- of two places one lies in the other only where they are the same
-  pub within_is_same : (P Q : Place E) → IsPlace S P → IsPlace S Q → P.side ≡ Q.side
-      → ((z : E) → IsIn S P z → IsIn S Q z) → ((z : E) → IsIntegralAt S P.side z → Dec (IsIn S P z)) → IsSamePlace S P Q
-  within_is_same P Q place place' e f decide = record { side = e; members = λ z. (f z, back z) }
-    where
-      back : (z : E) → IsIn S Q z → IsIn S P z
-      back z h = go (decide z z_in)
-        where
-          z_in : IsIntegralAt S P.side z
-          z_in = subst (λ s. IsIntegralAt S s z) (sym e) (place'.integral z h)
-
-          less : (w : E) → z ⊗ w ⊕ ⊖ (z ⊗ w ⊕ ⊖ 𝟙) ≡ 𝟙
-          less w = ring S.functions (z ∷ w ∷ []) λ q i. simp (reads, q, i 0, i 1) (q.equal _ _ refl)
-
-          go : Dec (IsIn S P z) → IsIn S P z
-          go (yes m) = m
-          go (no n) =
-              let w = place.inverse z z_in n in
-              let 𝓠 = place_ideal S scalars Q place' in
-              let w_in : IsIntegralAt S Q.side w.0 = subst (λ s. IsIntegralAt S s w.0) e w.1 in
-              let minus : IsIn S Q (⊖ 𝟙 ⊗ (z ⊗ w.0 ⊕ ⊖ 𝟙)) = 𝓠.scale_in _ _ minus_one (f _ w.2) in
-              absurd (place'.proper (subst (IsIn S Q) (ap (λ x. z ⊗ w.0 ⊕ x) (negative (z ⊗ w.0 ⊕ ⊖ 𝟙)) ∙ less w.0)
-              (𝓠.sum_in _ _ (subst (IsIn S Q) (S.functions.mul_comm w.0 z) (𝓠.scale_in w.0 z w_in h)) minus)))
-            where
-              minus_one : IsIntegralAt S Q.side (⊖ 𝟙)
-              minus_one =
-                  scalar_integral S scalars Q.side (⊖ 𝟙)
-                  ((scalars Q.side).neg_in 𝟙 (scalars Q.side).one_in)
-
-              negative : (x : E) → ⊖ 𝟙 ⊗ x ≡ ⊖ x
-              negative x = ring S.functions (x ∷ []) λ q i. simp (reads, q, i 0) (q.equal _ _ refl)
 
   -- sameness is decided where membership in both is
   pub same_place_decided : (P Q : Place E) → ((z : E) → Dec (IsIn S P z)) → ((z : E) → Dec (IsIn S Q z))

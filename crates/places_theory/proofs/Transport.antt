@@ -120,15 +120,6 @@ module _ {A B : Type 0} (R : CommRing A) (R' : CommRing B) (f : A → B) (iso : 
         (span_image R' R back back_hom S' S (returns S S' e) (map f bs) (f z) h)),
   )
 
-  pub power_iff : (O P : A → Type 0) (O' P' : B → Type 0) → ((a : A) → O a ↔ O' (f a)) → ((a : A) → P a ↔ P' (f a))
-      → (n : ℕ) (z : A)
-      → Power R.ops O P n z ↔ Power R'.ops O' P' n (f z)
-  power_iff O P O' P' g h n z = (
-    power_image R R' f iso.hom O P O' P' (λ a. (g a).0) (λ a. (h a).0) n z,
-    λ i. subst (Power R.ops O P n) (back_f z)
-        (power_image R' R back back_hom O' P' O P (returns O O' g) (returns P P' h) n (f z) i),
-  )
-
   module _ (O M : A → Type 0) (O' M' : B → Type 0) (ring_same : (a : A) → O a ↔ O' (f a))
       (same : (a : A) → M a ↔ M' (f a)) where
     to_M : (b : B) (a : A) → f a ≡ b → M a → M' b

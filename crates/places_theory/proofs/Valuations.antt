@@ -1,6 +1,5 @@
 -- The rules of valuations at a place that follow from its powers alone: a value of at least m + 1 is one of at least m,
--- there is at
--- most one value, values of sums and products.
+-- there is at most one value, values of sums and products.
 use Rattle.std.proofs.Common.{[], ◌∷◌, ◌≡◌, ◌⊎◌, inl, inr, ℕ, zero, suc, ◌+◌, ◌-◌, ◌≤◌, ◌<◌, refl, sym, subst, arith}
 use Rattle.std.proofs.lemmas.Int.{ints, by_lt_z}
 use Rattle.std.proofs.Math.IntN.{ℤ, pos, negsuc, ◌+ℤ◌, ◌-ℤ◌}
@@ -108,14 +107,6 @@ module _ {E : Type 0} (S : Setting E) (scalars : (s : Side) → IsSubring S.func
     integral = 𝓞.one_in;
     outside = place.proper;
     product = subst O (sym (one_mul S.functions z)) h;
-  }
-
-  pub at_least_of_member : (z : E) → IsIn S P z → HasValuationAtLeast S P z (pos 1)
-  at_least_of_member z h = record {
-    factor = 𝟙;
-    integral = 𝓞.one_in;
-    outside = place.proper;
-    product = product_member S.functions O 𝓞 O (IsIn S P) 𝟙 z 𝓞.one_in h;
   }
 
   pub valuation_of_outside : (z : E) → O z → ¬ (IsIn S P z) → HasValuation S P z (pos 0)

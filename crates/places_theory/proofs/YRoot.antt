@@ -13,6 +13,12 @@ use Rattle.function_field.proofs.Horner.{plain, horner, den_times_function, y_pl
 use Rattle.function_field.proofs.OnSide.{of_poly_plus, of_poly_times, den_inverse}
 use Rattle.function_field.proofs.ScalarRings.{of_poly_one}
 
+-- what has an inverse cancels
+pub cancel_invertible : {A : Type 0} (R : CommRing A) (d i z w : A) → R.◌⊗◌ d i ≡ R.𝟙 → R.◌⊗◌ d z ≡ R.◌⊗◌ d w → z ≡ w
+cancel_invertible R d i z w f g =
+    from_two R (R.◌⊕◌ w (R.⊖◌ z)) i f g
+    (ring R (d ∷ i ∷ z ∷ w ∷ []) λ q h. simp (reads, q, h 0, h 1, h 2, h 3) (q.equal _ _ refl))
+
 module _ {P E : Type 0} (S : CommRing P) (F : CommRing E) (f : P → E) (hom : IsHom S F f) (z : E) where
   -- the row 0 goes to 0, and a constant to its image
   pub eval_null : (m : ℕ) → eval S F f hom z m (row_zero S.ops m) ≡ F.𝟘
@@ -67,14 +73,8 @@ module _ {k : CodeField} (c : Equation k) where
   pub over_unique : (a b : Polynomial k) (n : ¬ (b ≡ (polynomials k).𝟘)) (z : FunctionOf c)
       → (ring_of c).◌⊗◌ (of_poly c b) z ≡ of_poly c a → z ≡ over c (row_of c a) b n
   over_unique a b n z e =
-      same (of_poly c b) (over c (row_of c (polynomials k).𝟙) b n) z (over c (row_of c a) b n) (den_inverse c b n)
-      (e ∙ sym (over_times_den a b n))
-    where
-      same : (d i z w : FunctionOf c) → (ring_of c).◌⊗◌ d i ≡ (ring_of c).𝟙 → (ring_of c).◌⊗◌ d z ≡ (ring_of c).◌⊗◌ d w
-          → z ≡ w
-      same d i z w f g =
-          from_two (ring_of c) ((ring_of c).◌⊕◌ w ((ring_of c).⊖◌ z)) i f g
-          (ring (ring_of c) (d ∷ i ∷ z ∷ w ∷ []) λ q h. simp (reads, q, h 0, h 1, h 2, h 3) (q.equal _ _ refl))
+      cancel_invertible (ring_of c) (of_poly c b) (over c (row_of c (polynomials k).𝟙) b n) z (over c (row_of c a) b n)
+      (den_inverse c b n) (e ∙ sym (over_times_den a b n))
 
   -- the row whose last entry is 1
   last_row : (n : ℕ) → Row (Polynomial k) (suc n)

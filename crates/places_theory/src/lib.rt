@@ -1,7 +1,6 @@
 //! Places and valuations of a function field: the rules that follow from their definitions, and the isomorphism between
-//! the two
-//! presentations. Each main theorem is the contract of a function with an empty body; the crates above cite the lemmas
-//! of proofs/.
+//! the two presentations. Each main theorem is the contract of a function with an empty body; the crates above cite the
+//! lemmas of proofs/.
 #![tactic(auto)]
 
 ghost use Rattle.std.specs.Prelude.{◌≡◌, ◌≢◌, ℕ, [], suc, ◌≤◌, ℤ, ◌+ℤ◌, List, map, All, ◌↔◌};
@@ -35,8 +34,7 @@ ghost use Rattle.places_theory.specs.Reductions.{IsReduction, Primitive};
 use ring_theory::sets::Subset;
 
 /// A function field with a base ring, the members of that ring that are prime to some function, an order over the base
-/// ring and a prime of
-/// the order. Only theorems use it, as a type parameter that no value has.
+/// ring and a prime of the order. Only theorems use it, as a type parameter that no value has.
 pub trait LocalOrder {
     ghost field: { CodeField };
 
@@ -146,8 +144,7 @@ pub fn isomorphism_law<T, Q, O: Subset<T>, M: Subset<T>, B: Subset<Q>, N: Subset
 {}
 
 /// The functions of the infinite presentation are those of the finite one: what its elements stand for is an
-/// isomorphism of rings, which
-/// takes what is integral over the polynomials to what is integral over k[t].
+/// isomorphism of rings, which takes what is integral over the polynomials to what is integral over k[t].
 pub fn presentations_law()
     ensures { (k : CodeField) (p q : PresValue) (c : ℕ) → 1 ≤ p.n → IsInfinitePresentation k p c q
         → (f : Functions k q → Functions k p) × IsIsomorphism (functions k q) (functions k p) f
@@ -158,8 +155,7 @@ pub fn presentations_law()
 {}
 
 /// The scalars of the infinite side are k[t] at t = 1/x with denominators that t does not divide. So a function is
-/// integral there, or
-/// in a span, where a multiple by such a denominator is so over k[t].
+/// integral there, or in a span, where a multiple by such a denominator is so over k[t].
 pub fn infinite_side_law()
     ensures scalars { (k : CodeField) (p : PresValue)
         → SameSet ((setting k p).IsScalar Side.Infinite)
@@ -172,8 +168,8 @@ pub fn infinite_side_law()
 {}
 
 /// Where O modulo p is a finite algebra over a finite field, its primitive idempotents give a prime system of O at p.
-/// The radical modulo
-/// p, and the prime of an idempotent, are the members of O that reduce to nilpotent elements, at the idempotent.
+/// The radical modulo p, and the prime of an idempotent, are the members of O that reduce to nilpotent elements, at the
+/// idempotent.
 pub fn prime_system_law<T, Q, O: Subset<T>, K: Subset<Q>>()
     ensures radical { (R : CommRing T) (A : CommRing Q) (p : T) (reduce : T → Q) (lift : Q → T)
         → IsSubring R.ops O.members
@@ -191,9 +187,8 @@ pub fn prime_system_law<T, Q, O: Subset<T>, K: Subset<Q>>()
 {}
 
 /// An order over the base ring that is maximal at p has each integral function of the side up to a factor prime to p,
-/// where those
-/// over the base ring have a denominator p^n·w, w prime to p, and those of the side are integral over the base ring up
-/// to such a w.
+/// where those over the base ring have a denominator p^n·w, w prime to p, and those of the side are integral over the
+/// base ring up to such a w.
 pub fn order_law<C: LocalOrder>()
     ensures { let S = setting C.field C.presentation in (s : Side) (p : Functions C.field C.presentation)
         → IsSubring S.functions.ops C.base → PrimeTo S.functions.ops C.base C.prime_to p
@@ -209,9 +204,8 @@ pub fn order_law<C: LocalOrder>()
 {}
 
 /// The places over p are those of the primes over p of an order that is maximal at p: each prime that finitely many
-/// functions span is
-/// that of a place, two places with the same prime are the same, and a list of places whose primes are a system at p
-/// has each place over p.
+/// functions span is that of a place, two places with the same prime are the same, and a list of places whose primes
+/// are a system at p has each place over p.
 pub fn places_over_law<C: LocalOrder, I>()
     ensures place { let S = setting C.field C.presentation in (s : Side) (p : Functions C.field C.presentation)
         (rows gens : List (Functions C.field C.presentation))
@@ -241,8 +235,8 @@ pub fn places_over_law<C: LocalOrder, I>()
 {}
 
 /// The valuation of a place over p is that of its prime in an order that is maximal at p. So values add on products,
-/// the value of a sum
-/// of functions with different values is the smaller one, and a function with an inverse has a value.
+/// the value of a sum of functions with different values is the smaller one, and a function with an inverse has a
+/// value.
 pub fn place_valuation_law<C: LocalOrder>()
     ensures prime { let S = setting C.field C.presentation in (P : Place (Functions C.field C.presentation))
         (p : Functions C.field C.presentation)

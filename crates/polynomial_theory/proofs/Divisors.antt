@@ -1,6 +1,5 @@
 -- Divisors in k[x], and divisors among lists of codes: what divides as a list divides in k[x] and the other way round,
--- a divisor isn't longer, and monic
--- polynomials that divide each other are the same.
+-- a divisor isn't longer, and monic polynomials that divide each other are the same.
 use Rattle.std.proofs.Common.{◌≡◌, ℕ, ◌-◌, ◌<◌, ◌≤◌, ◌⊎◌, inl, inr, List, [], ◌∷◌, length, refl, sym, ap, ap₂, ◌∙◌, subst, arith}
 use Rattle.std.proofs.lemmas.List.{length_push}
 use Rattle.ring_lemmas.specs.Ring.{CommRing}

@@ -1,6 +1,5 @@
 -- A polynomial that no monic polynomial of smaller degree divides, but 1, is irreducible in the Euclidean ring k[x]: if
--- it divides a product
--- it divides a factor.
+-- it divides a product it divides a factor.
 use Rattle.std.proofs.Common.{◌≡◌, ℕ, suc, ◌<◌, ◌≤◌, ◌+◌, ◌-◌, ◌⊎◌, inl, inr, List, [], ◌∷◌, ◌++◌, length, refl, sym, ◌∙◌, ap, subst, arith}
 use Rattle.std.proofs.lemmas.List.{length-map, map-append}
 use Rattle.ring_lemmas.specs.Lists.{coeff_of}
@@ -20,7 +19,7 @@ use Rattle.ff_poly.specs.Words.{IsIrreducibleList, IsMonic}
 use Rattle.ff_fields.specs.Over.{IsOver}
 use Rattle.ff_poly.specs.Value.{value, numbers_value}
 use Rattle.ff_poly.specs.Polynomials.{Polynomial, polynomials, polynomials_domain, polynomial_discrete, codes_of, IsOver_codes_of, IsPoly_codes_of, codes_of_product, value_codes_of}
-use Rattle.polynomial_theory.proofs.Lengths.{some_long, some_of_long}
+use Rattle.polynomial_theory.proofs.Lengths.{some_long, some_of_long, one_or_more}
 use Rattle.polynomial_theory.proofs.ListValues.{monic_poly}
 use Rattle.polynomial_theory.proofs.Division.{top_not_zero, euclidean, divide}
 
@@ -59,7 +58,7 @@ module _ (k : CodeField) where
       )
 
   -- a multiple by a code
-  constant_times : (u : Code k) (a : Polynomial k) (n : ℕ)
+  pub constant_times : (u : Code k) (a : Polynomial k) (n : ℕ)
       → coeff_of (code_ring k).ops (constant (code_ring k) u ⊗ a).0 n
       ≡ (code_ring k).◌⊗◌ u (coeff_of (code_ring k).ops a.0 n)
   constant_times u a n =
@@ -160,9 +159,6 @@ module _ (k : CodeField) where
       where
         d_some : ¬ (d ≡ 𝟘)
         d_some z = p_some (is ∙ ap (λ x. x ⊗ e) z ∙ zero_mul (polynomials k).ring e)
-
-        one_or_more : (n : ℕ) → 0 < n → (n ≡ 1) ⊎ (2 ≤ n)
-        one_or_more n l = grind arith
 
         t : Code k
         t = top_of d

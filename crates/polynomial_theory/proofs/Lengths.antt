@@ -8,6 +8,11 @@ use Rattle.ring_theory.proofs.Polynomials.{length_product}
 use Rattle.ff_fields.specs.Field.{CodeField}
 use Rattle.ff_fields.specs.Code.{code_ring, code_domain, read_code, read_code_below}
 use Rattle.ff_poly.specs.Polynomials.{Polynomial, polynomials, polynomials_domain, polynomial_discrete, x_poly, x_poly_not_zero, series_read}
+use Rattle.std.proofs.lemmas.Bool.{cases_lt}
+
+-- a number above 0
+pub one_or_more : (n : ℕ) → 0 < n → (n ≡ 1) ⊎ (2 ≤ n)
+one_or_more n l = grind arith
 
 module _ (k : CodeField) where
   pub zero_length : length (polynomials k).𝟘.0 ≡ 0
@@ -25,11 +30,8 @@ module _ (k : CodeField) where
   product_longer a b n m = omega (arith, some_long b m, length_product (code_ring k) (code_domain k) a b n m)
 
   x_long : 2 ≤ length (x_poly k).0
-  x_long = go (long_or_short (length (x_poly k).0))
+  x_long = go (cases_lt 1 (length (x_poly k).0))
     where
-      long_or_short : (n : ℕ) → (2 ≤ n) ⊎ (n ≤ 1)
-      long_or_short n = grind arith
-
       go : (2 ≤ length (x_poly k).0) ⊎ (length (x_poly k).0 ≤ 1) → 2 ≤ length (x_poly k).0
       go (inl l) = l
       go (inr l) =

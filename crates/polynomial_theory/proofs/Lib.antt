@@ -5,3 +5,6 @@ pub mod Irreducible
 pub mod Divisors
 pub mod CodeFields
 pub mod IrreducibleDivisors
+pub mod PrimePowers
+pub mod Frobenius
+pub mod Iterates

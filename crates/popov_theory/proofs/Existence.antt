@@ -1,57 +1,24 @@
 -- Each list of rows of full rank has one Popov basis, and full rank is decided.
-use Rattle.std.proofs.Common.{◌≡◌, ℕ, zero, suc, ◌<◌, ◌+◌, ◌*◌, ◌⊎◌, inl, inr, List, length, refl, sym, ◌∙◌, ap, arith, subst}
-use native.Mathlib.Decide.{ℕ_discrete}
+use Rattle.std.proofs.Common.{◌≡◌, ℕ, zero, suc, ◌+◌, ◌*◌, ◌⊎◌, inl, inr, List, length, refl, ◌∙◌, ap, arith}
 use Rattle.ring_lemmas.specs.Ring.{TestedRing, IsDomain, IsField}
 use Rattle.ring_lemmas.proofs.Ring.{field_domain}
 use Rattle.ring_lemmas.specs.Polynomials.{Pol}
 use Rattle.ring_theory.specs.PolynomialRing.{pol_ring}
 use Rattle.popov_theory.specs.Module.{PolynomialModule, measure, column}
-use Rattle.popov_theory.specs.Span.{row_at, InSpan, HaveSameSpan, HasFullRank}
-use Rattle.popov_theory.specs.Popov.{put, IsWeakPopov, IsFull}
+use Rattle.popov_theory.specs.Span.{HaveSameSpan, HasFullRank}
+use Rattle.popov_theory.specs.Popov.{IsWeakPopov, IsFull}
 use Rattle.popov_theory.specs.Laws.{PopovForm}
-use Rattle.popov_theory.proofs.Module.{scale_scale, scale_one}
 use Rattle.popov_theory.proofs.Positions.{column_at}
 use Rattle.popov_theory.proofs.Measure.{measure_scale}
 use Rattle.popov_theory.proofs.PredictableDegree.{empty_pol}
-use Rattle.popov_theory.proofs.Span.{span_row, span_scale, within_rows, same_span_sym, same_span_trans}
-use Rattle.popov_theory.proofs.Reduction.{put_at, put_off, Reduced, reduce, reduced_span}
+use Rattle.popov_theory.proofs.Span.{same_span_sym, same_span_trans}
+use Rattle.popov_theory.proofs.Reduction.{Reduced, reduce, reduced_span}
 use Rattle.popov_theory.proofs.FullRank.{measure_unit, full_from_members, full_or_missing, Missing, not_full}
 use Rattle.popov_theory.proofs.Relations.{multiple_from_full}
 use Rattle.popov_theory.proofs.Laws.{popov_form_of}
 
 module _ {A V : Type 0} {k : TestedRing A} (M : PolynomialModule k V) where
   open M use {width, 𝟎, ◌⊞◌, ⊟◌, ◌·◌}
-
-  -- a row is replaced by one of the span from which it comes back
-  pub put_span : (rs : List V) (i : ℕ) (v : V) → i < length rs → InSpan M rs v → InSpan M (put i v rs) (row_at M rs i)
-      → HaveSameSpan M rs (put i v rs)
-  put_span rs i v less v_in back = record {
-    left = within_rows M rs (put i v rs) (λ l. old l (ℕ_discrete i l));
-    right = within_rows M (put i v rs) rs (λ l. new l (ℕ_discrete i l));
-  }
-    where
-      old : (l : ℕ) → Dec (i ≡ l) → InSpan M (put i v rs) (row_at M rs l)
-      old l (yes e) = subst (λ x. InSpan M (put i v rs) (row_at M rs x)) e back
-      old l (no off) = subst (InSpan M (put i v rs)) (put_off M i l v rs off) (span_row M (put i v rs) l)
-
-      new : (l : ℕ) → Dec (i ≡ l) → InSpan M rs (row_at M (put i v rs) l)
-      new l (yes e) = subst (λ x. InSpan M rs (row_at M (put i v rs) x)) e
-          (subst (InSpan M rs) (sym (put_at M i v rs less)) v_in)
-      new l (no off) = subst (InSpan M rs) (sym (put_off M i l v rs off)) (span_row M rs l)
-
-  -- a row is multiplied by an invertible polynomial
-  pub unit_multiple_span : (rs : List V) (i : ℕ) (c d : Pol k) → i < length rs → (pol_ring k).◌⊗◌ d c ≡ (pol_ring k).𝟙
-      → HaveSameSpan M rs (put i (◌·◌ c (row_at M rs i)) rs)
-  unit_multiple_span rs i c d less inverse =
-      put_span rs i (◌·◌ c (row_at M rs i)) less
-      (span_scale M rs c (row_at M rs i) (span_row M rs i))
-      (subst (InSpan M ss)
-      (sym (scale_scale M d c (row_at M rs i)) ∙ ap (λ p. ◌·◌ p (row_at M rs i)) inverse ∙ scale_one M (row_at M rs i))
-      (span_scale M ss d (◌·◌ c (row_at M rs i))
-      (subst (InSpan M ss) (put_at M i (◌·◌ c (row_at M rs i)) rs less) (span_row M ss i))))
-    where
-      ss : List V
-      ss = put i (M.◌·◌ c (row_at M rs i)) rs
 
   -- full rank depends on the span alone
   pub full_rank_same : (rs ss : List V) → HaveSameSpan M rs ss → HasFullRank M rs → HasFullRank M ss

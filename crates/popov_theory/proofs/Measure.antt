@@ -4,7 +4,7 @@ use Rattle.std.proofs.lemmas.Nat.{div-mul-add, mul-le}
 use Rattle.std.proofs.lemmas.Bool.{cases_lt}
 use Rattle.ring_lemmas.specs.Ring.{TestedRing, IsDomain}
 use Rattle.ring_lemmas.specs.Lists.{coeff_of, convolution}
-use Rattle.ring_lemmas.proofs.Ring.{neg_zero, product_not_zero}
+use Rattle.ring_lemmas.proofs.Ring.{product_not_zero}
 use Rattle.ring_lemmas.proofs.Sequences.{convolution_past, convolution_top, convolution_null_left, convolution_comm}
 use Rattle.ring_lemmas.specs.Polynomials.{Pol}
 use Rattle.ring_lemmas.proofs.Polynomials.{coeff_past, coeff_top}
@@ -102,10 +102,6 @@ module _ {A V : Type 0} {k : TestedRing A} (M : PolynomialModule k V) where
   measure_add_le u v n u_le v_le =
       measure_bound (u ⊞ v) n (λ e le.
       M.coef_add u v e ∙ ap₂ ◌⊕◌ (measure_past u e (omega arith)) (measure_past v e (omega arith)) ∙ k.add_zero _)
-
-  pub measure_neg_le : (v : V) (n : ℕ) → measure M v ≤ n → measure M (⊟ v) ≤ n
-  measure_neg_le v n v_le =
-      measure_bound (⊟ v) n (λ e le. M.coef_neg v e ∙ ap ⊖◌ (measure_past v e (omega arith)) ∙ neg_zero k.ring)
 
   -- the larger measure is that of the sum
   pub measure_add_left : (u v : V) → measure M v < measure M u → measure M (u ⊞ v) ≡ measure M u

@@ -9,7 +9,7 @@ use Rattle.popov_theory.specs.Span.{row_at}
 use Rattle.popov_theory.specs.Popov.{IsWeakPopov}
 use Rattle.popov_theory.proofs.Positions.{column_shift, row_le}
 use Rattle.popov_theory.proofs.Measure.{measure_scale}
-use Rattle.popov_theory.proofs.PredictableDegree.{weak_tail, row_not_zero}
+use Rattle.popov_theory.proofs.Rank.{weak_tail, row_not_zero}
 use Rattle.ring_theory.specs.Monomials.{monomial}
 use Rattle.ring_theory.proofs.Monomials.{monomial_length}
 
@@ -238,7 +238,7 @@ module _ {A V : Type 0} {k : TestedRing A} (M : PolynomialModule k V) where
         subst IsDistinct (sym (measures_append (multiples s (ts zero)) (multiples_of (tail_of ts) ss)))
         (distinct_append (measures (multiples s (ts zero))) (measures (multiples_of (tail_of ts) ss))
         (multiples_distinct s (ts zero) (some 0 (omega arith)))
-        (multiples_of_distinct (tail_of ts) ss tail_some (weak_tail M domain s ss weak))
+        (multiples_of_distinct (tail_of ts) ss tail_some (weak_tail M s ss weak))
         (λ n left right. clash n (in_multiples n s (ts zero) (some 0 (omega arith)) left)
         (in_multiples_of n (tail_of ts) ss tail_some right)))
       where
@@ -248,8 +248,8 @@ module _ {A V : Type 0} {k : TestedRing A} (M : PolynomialModule k V) where
         clash : (n : ℕ) → (t : ℕ) × (t < ts zero) × (n ≡ t * width + measure M s) → MultipleOf (tail_of ts) ss n → ⊥
         clash n left right =
             weak.apart 0 (suc right.index) (λ z. absurd (omega (arith, z)))
-            (row_not_zero M domain s (some 0 (omega arith)))
-            (row_not_zero M domain (row_at M ss right.index) (tail_some right.index right.below))
+            (row_not_zero M s (some 0 (omega arith)))
+            (row_not_zero M (row_at M ss right.index) (tail_some right.index right.below))
             (sym (column_shift width M.positive left.0 (measure M s) (some 0 (omega arith)))
             ∙ ap (column width) (sym left.2 ∙ right.is)
             ∙ column_shift width M.positive right.times (measure M (row_at M ss right.index))

@@ -1,5 +1,5 @@
 -- The rank of rows in weak Popov form, the number of those that are not zero: full rank is the width.
-use Rattle.std.proofs.Common.{◌≡◌, ◌≢◌, ℕ, zero, suc, ◌<◌, ◌≤◌, ◌-◌, ◌⊎◌, inl, inr, Bool, true, false, eqb, cond, List, [], ◌∷◌, ◌++◌, length, refl, sym, ap, arith, subst, le_of_suc-le-suc, length-append}
+use Rattle.std.proofs.Common.{◌≡◌, ◌≢◌, ℕ, zero, suc, ◌<◌, ◌≤◌, ◌-◌, inl, inr, Bool, true, false, eqb, cond, List, [], ◌∷◌, ◌++◌, length, refl, sym, ap, arith, subst, le_of_suc-le-suc, length-append}
 use Rattle.std.proofs.lemmas.Bool.{eqb-true, eqb-false}
 use Rattle.std.proofs.lemmas.Nat.{mod_below}
 use native.Mathlib.Decide.{ℕ_discrete}
@@ -7,9 +7,8 @@ use Rattle.ring_lemmas.specs.Ring.{TestedRing}
 use Rattle.ring_theory.specs.Members.{In, IsDistinct}
 use Rattle.popov_theory.specs.Module.{PolynomialModule, measure, pivot}
 use Rattle.popov_theory.specs.Span.{row_at}
-use Rattle.popov_theory.specs.Popov.{IsWeakPopov, IsFull}
-use Rattle.popov_theory.proofs.Measure.{measure_zero, zero_row, zero_from_measure}
-use Rattle.popov_theory.proofs.FullRank.{Missing, full_or_missing}
+use Rattle.popov_theory.specs.Popov.{IsWeakPopov}
+use Rattle.popov_theory.proofs.Measure.{zero_row, zero_from_measure}
 
 -- pigeonhole: distinct members of a list are no more than its length
 split_at : {A : Type 0} (x : A) (xs : List A) → In x xs → (l : List A) × ((r : List A) × (xs ≡ l ++ x ∷ r))
@@ -54,17 +53,6 @@ below_has (suc n) i less = go (ℕ_discrete i n) (below_has n i)
     go (yes e) later = inl e
     go (no off) later = inr (later (omega (arith, less, off)))
 
-in_below : (n i : ℕ) → In i (below_list n) → i < n
-unfolding below_list
-in_below zero i h = absurd h
-in_below (suc n) i (inl e) = omega (arith, e)
-in_below (suc n) i (inr h) = omega (arith, in_below n i h)
-
-below_distinct : (n : ℕ) → IsDistinct (below_list n)
-unfolding below_list
-below_distinct zero = tt
-below_distinct (suc n) = (λ h. absurd (omega (arith, in_below n n h)), below_distinct n)
-
 module _ {A V : Type 0} {k : TestedRing A} (M : PolynomialModule k V) where
   open M use {width, 𝟎}
 
@@ -89,29 +77,15 @@ module _ {A V : Type 0} {k : TestedRing A} (M : PolynomialModule k V) where
       go false e (inl here) later = (0, eqb-false _ _ e, here)
       go false e (inr h) later = let found = later h in (suc found.0, found.1, found.2)
 
-  pivots_has : (rs : List V) (i : ℕ) → measure M (row_at M rs i) ≢ 0 → In (pivot M (row_at M rs i)) (pivots rs)
-  pivots_has [] i some = absurd (some (measure_zero M))
-  pivots_has (r ∷ rs) zero some = go (eqb (measure M r) 0) refl
-    where
-      go : (b : Bool) → eqb (measure M r) 0 ≡ b → In (pivot M r) (cond b (pivots rs) (pivot M r ∷ pivots rs))
-      go true e = absurd (some (eqb-true _ _ e))
-      go false e = inl refl
-  pivots_has (r ∷ rs) (suc i) some = go (eqb (measure M r) 0) (pivots_has rs i some)
-    where
-      go : (b : Bool) → In (pivot M (row_at M rs i)) (pivots rs)
-          → In (pivot M (row_at M rs i)) (cond b (pivots rs) (pivot M r ∷ pivots rs))
-      go true h = h
-      go false h = inr h
+  pub row_not_zero : (v : V) → measure M v ≢ 0 → ¬ (v ≡ 𝟎)
+  row_not_zero v some e = some (zero_row M v e)
 
-  some_row : (v : V) → measure M v ≢ 0 → ¬ (v ≡ 𝟎)
-  some_row v some e = some (zero_row M v e)
-
-  tail_weak : (r : V) (rs : List V) → IsWeakPopov M (r ∷ rs) → IsWeakPopov M rs
-  tail_weak r rs weak = record { apart = λ i j differ. weak.apart (suc i) (suc j) (λ e. differ (omega (arith, e))) }
+  pub weak_tail : (r : V) (rs : List V) → IsWeakPopov M (r ∷ rs) → IsWeakPopov M rs
+  weak_tail r rs weak = record { apart = λ i j differ. weak.apart (suc i) (suc j) (λ e. differ (omega (arith, e))) }
 
   pivots_distinct : (rs : List V) → IsWeakPopov M rs → IsDistinct (pivots rs)
   pivots_distinct [] weak = tt
-  pivots_distinct (r ∷ rs) weak = go (eqb (measure M r) 0) refl (pivots_distinct rs (tail_weak r rs weak))
+  pivots_distinct (r ∷ rs) weak = go (eqb (measure M r) 0) refl (pivots_distinct rs (weak_tail r rs weak))
     where
       go : (b : Bool) → eqb (measure M r) 0 ≡ b → IsDistinct (pivots rs)
           → IsDistinct (cond b (pivots rs) (pivot M r ∷ pivots rs))
@@ -119,8 +93,8 @@ module _ {A V : Type 0} {k : TestedRing A} (M : PolynomialModule k V) where
       go false e d = (
         λ h.
             let found = pivots_from (pivot M r) rs h in
-            weak.apart 0 (suc found.0) (λ z. absurd (omega (arith, z))) (some_row r (eqb-false _ _ e))
-            (some_row (row_at M rs found.0) found.1) found.2,
+            weak.apart 0 (suc found.0) (λ z. absurd (omega (arith, z))) (row_not_zero r (eqb-false _ _ e))
+            (row_not_zero (row_at M rs found.0) found.1) found.2,
         d,
       )
 
@@ -137,39 +111,6 @@ module _ {A V : Type 0} {k : TestedRing A} (M : PolynomialModule k V) where
         length_within (pivots rs) (below_list width) (pivots_distinct rs weak)
             (λ p h. below_has width p (pivot_less p rs h)),
       )
-
-  -- full rank is the width
-  pub rank_full : (rs : List V) → IsWeakPopov M rs → IsFull M rs → rank rs ≡ width
-  rank_full rs weak full =
-      omega (
-        arith,
-        rank_le rs weak,
-        below_length width,
-        length_within (below_list width) (pivots rs) (below_distinct width) (λ j h.
-            subst (λ p. In p (pivots rs)) (full.owner_pivot j (in_below width j h))
-            (pivots_has rs (full.owner j) (full.owner_some j (in_below width j h)))),
-      )
-
-  pub full_from_rank : (rs : List V) → IsWeakPopov M rs → rank rs ≡ width → IsFull M rs
-  full_from_rank rs weak e = go (full_or_missing M rs)
-    where
-      go : IsFull M rs ⊎ Missing M rs → IsFull M rs
-      go (inl full) = full
-      go (inr missing) =
-          absurd (omega (
-            arith,
-            e,
-            below_length width,
-            length_within (missing.column_of ∷ pivots rs) (below_list width) (
-              λ h. let found = pivots_from missing.column_of rs h in missing.none found.0 found.1 found.2,
-              pivots_distinct rs weak,
-            )
-                (λ p h. below_has width p (less p h)),
-          ))
-        where
-          less : (p : ℕ) → In p (missing.column_of ∷ pivots rs) → p < width
-          less p (inl here) = omega (arith, here, missing.below)
-          less p (inr h) = pivot_less p rs h
 
   -- more rows than the rank: one is zero
   pub zero_row_in : (rs : List V) → rank rs < length rs → (i : ℕ) × (i < length rs) × (row_at M rs i ≡ 𝟎)

@@ -12,16 +12,12 @@ use Rattle.ring_lemmas.proofs.Polynomials.{coeff_past}
 use Rattle.popov_theory.specs.Module.{PolynomialModule, measure, pivot, row_degree, column, top_position}
 use Rattle.popov_theory.specs.Span.{row_at, InSpan, combine}
 use Rattle.popov_theory.specs.Popov.{IsPopov, pivot_degree}
+use Rattle.popov_theory.specs.Laws.{multiples}
 use Rattle.popov_theory.proofs.Module.{scale_add, scale_scale, scale_zero}
 use Rattle.popov_theory.proofs.Positions.{column_shift}
 use Rattle.popov_theory.proofs.Measure.{measure_scale, measure_past, zero_from_measure, measure_zero, scale_top, top_past, top_some}
 use Rattle.popov_theory.proofs.PredictableDegree.{degree_multiple}
-
--- the top coefficient is 1, at x^degree
-pub record IsMonic {A : Type 0} (k : TestedRing A) (h : Pol k) : Type 0 where
-  pub degree : ℕ
-  pub size : length h.0 ≡ suc degree
-  pub top : coeff_of k.ops h.0 degree ≡ k.𝟙
+pub use Rattle.popov_theory.specs.Module.{IsMonic}
 
 module _ {A V : Type 0} {k : TestedRing A} (M : PolynomialModule k V) (domain : IsDomain k.ops) (h : Pol k)
     (monic : IsMonic k h) where
@@ -193,3 +189,8 @@ module _ {A V : Type 0} {k : TestedRing A} (M : PolynomialModule k V) (domain : 
             (λ i less. some (suc i) (omega (arith, less))),
         suc-mul (length rs) monic.degree,
       )
+
+  -- the rows of the multiples are the multiples of the rows
+  pub multiples_are : (rs : List V) → multiples M h rs ≡ scaled rs
+  unfolding scaled
+  multiples_are rs = refl

@@ -14,6 +14,8 @@ use Rattle.ring_theory.proofs.Integral.{Low}
 use Rattle.ring_lemmas.proofs.Solver.{ring, reads}
 use Rattle.prime_theory.proofs.Adjoined.{low_by_root, low_has, power_low}
 use Rattle.prime_theory.proofs.IntegralRing.{integral_of_multiplier, integral_product, integral_base, powers, low_span, span_low, low_module}
+use Rattle.prime_theory.proofs.Localisation.{locally_ring}
+use Rattle.prime_theory.proofs.Products.{own_module}
 
 module _ {A : Type 0} (R : CommRing A) (S : A → Type 0) (𝓢 : IsSubring R.ops S) where
   infixl 65 ◌⊕◌
@@ -32,43 +34,11 @@ module _ {A : Type 0} (R : CommRing A) (S : A → Type 0) (𝓢 : IsSubring R.op
       (λ y h. low_span R S 𝓢 x m (x ⊗ y) (low_by_root R S 𝓢 x m r y (back y h)))
 
   module _ (U : A → Type 0) (𝓤 : IsMultiplicative R.ops S U) where
-    -- the ring S with the inverses of U
-    abbrev SU : A → Type 0
-    SU = Locally R.ops U S
-
     su_of : (s : A) → S s → Locally R.ops U S s
     su_of s m = record { factor = 𝟙; factor_in = 𝓤.one_in; multiple_in = subst S (sym (one_mul R s)) m }
 
     pub denominator_ring : IsSubring R.ops (Locally R.ops U S)
-    denominator_ring = record {
-      zero_in = su_of 𝟘 𝓢.zero_in;
-      one_in = su_of 𝟙 𝓢.one_in;
-      sum_in = λ a b h k. record {
-        factor = h.factor ⊗ k.factor;
-        factor_in = 𝓤.product_in _ _ h.factor_in k.factor_in;
-        multiple_in =
-            subst S
-            (ring R (a ∷ b ∷ h.factor ∷ k.factor ∷ []) λ q x. simp (reads, q, x 0, x 1, x 2, x 3) (q.equal _ _ refl))
-            (𝓢.sum_in _ _
-            (𝓢.product_in k.factor _ (𝓤.within _ k.factor_in) h.multiple_in)
-            (𝓢.product_in h.factor _ (𝓤.within _ h.factor_in) k.multiple_in));
-      };
-      neg_in = λ a h. record {
-        factor = h.factor;
-        factor_in = h.factor_in;
-        multiple_in =
-            subst S (ring R (a ∷ h.factor ∷ []) λ q x. simp (reads, q, x 0, x 1) (q.equal _ _ refl))
-            (𝓢.neg_in _ h.multiple_in);
-      };
-      product_in = λ a b h k. record {
-        factor = h.factor ⊗ k.factor;
-        factor_in = 𝓤.product_in _ _ h.factor_in k.factor_in;
-        multiple_in =
-            subst S
-            (ring R (a ∷ b ∷ h.factor ∷ k.factor ∷ []) λ q x. simp (reads, q, x 0, x 1, x 2, x 3) (q.equal _ _ refl))
-            (𝓢.product_in _ _ h.multiple_in k.multiple_in);
-      };
-    }
+    denominator_ring = locally_ring R S 𝓢 U 𝓤 S (own_module R S 𝓢) 𝓢
 
     -- a common denominator w: all multiples v·w of it clear a
     record Cleared (z : A) (n : ℕ) (a : A) : Type 0 where

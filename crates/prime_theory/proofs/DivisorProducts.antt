@@ -1,11 +1,11 @@
--- Products of powers of primes do not depend on the order of the list, and only on the sums of exponents.
+-- Products of powers of primes: of two lists together, and of a list with opposite exponents.
 use Rattle.std.proofs.Common.{ℕ, zero, suc, ◌+◌, List, [], ◌∷◌, ◌++◌, subst, add_comm}
 use Rattle.ring_lemmas.specs.Ring.{CommRing}
 use Rattle.ring_theory.specs.Subsets.{IsSubring, IsModule, Product}
 use Rattle.ring_theory.proofs.Subsets.{product_member, product_module}
 use Rattle.prime_theory.specs.Ideals.{SameSet, Inverse, Power}
 use Rattle.prime_theory.specs.Systems.{IdealPower, IdealProduct, PrimeExponent, IsFamily, opposite}
-use Rattle.prime_theory.proofs.Products.{own_module, product_monotone, product_swap, product_assoc, product_assoc_back, product_one, power_module}
+use Rattle.prime_theory.proofs.Products.{own_module, product_monotone, product_assoc, product_assoc_back, product_one, power_module}
 use Rattle.prime_theory.proofs.Primes.{ideal_module, inverse_module, invertible_of_pair}
 use Rattle.prime_theory.proofs.AtPrime.{product_exchange, ideal_power_module, ideal_power_add}
 use Rattle.prime_theory.proofs.PrimeProducts.{ideal_product_module}
@@ -30,13 +30,6 @@ module _ {A : Type 0} (R : CommRing A) (O : A → Type 0) (𝓞 : IsSubring R.op
   𝓛 : (l : List (PrimeExponent I)) → IsModule R.ops O (Prod l)
   𝓛 = ideal_product_module R O 𝓞 I P fam
 
-  pub same_head : (e : PrimeExponent I) (l l' : List (PrimeExponent I)) → SameSet (Prod l) (Prod l')
-      → SameSet (Prod (e ∷ l)) (Prod (e ∷ l'))
-  same_head e l l' s z = (
-    product_monotone R O 𝓞 (K e) (Prod l) (K e) (Prod l') (𝓚 e) (λ a m. m) (λ a. (s a).0) z,
-    product_monotone R O 𝓞 (K e) (Prod l') (K e) (Prod l) (𝓚 e) (λ a m. m) (λ a. (s a).1) z,
-  )
-
   pub product_append : (l l' : List (PrimeExponent I)) → SameSet (Prod (l ++ l')) (Product R.ops (Prod l) (Prod l'))
   product_append [] l' z = let s = product_one R O 𝓞 (Prod l') (𝓛 l') z in (s.1, s.0)
   product_append (e ∷ l) l' z =
@@ -49,37 +42,6 @@ module _ {A : Type 0} (R : CommRing A) (O : A → Type 0) (𝓞 : IsSubring R.op
             product_monotone R O 𝓞 (K e) (Product R.ops (Prod l) (Prod l')) (K e) (Prod (l ++ l')) (𝓚 e) (λ a m. m)
             (λ a. (ih a).1) z
             (product_assoc R O 𝓞 (K e) (Prod l) (Prod l') (𝓚 e) z h),
-      )
-
-  swap_into : (e e' : PrimeExponent I) (l : List (PrimeExponent I)) (z : A) → Prod (e ∷ e' ∷ l) z → Prod (e' ∷ e ∷ l) z
-  swap_into e e' l z h =
-      product_assoc R O 𝓞 (K e') (K e) (Prod l) (𝓚 e') z
-      (product_monotone R O 𝓞 (Product R.ops (K e) (K e')) (Prod l) (Product R.ops (K e') (K e)) (Prod l)
-      (product_module R O 𝓞 (K e') (K e) (𝓚 e'))
-      (product_swap R O 𝓞 (K e) (K e') (𝓚 e')) (λ a m. m) z
-      (product_assoc_back R O 𝓞 (K e) (K e') (Prod l) (𝓚 e) z h))
-
-  pub product_exchange_two : (e e' : PrimeExponent I) (l : List (PrimeExponent I))
-      → SameSet (Prod (e ∷ e' ∷ l)) (Prod (e' ∷ e ∷ l))
-  product_exchange_two e e' l z = (swap_into e e' l z, swap_into e' e l z)
-
-  pub product_merge : (i : I) (a b c d : ℕ) (l : List (PrimeExponent I))
-      → SameSet (Prod (record { index = i; up = a; down = b } ∷ record { index = i; up = c; down = d } ∷ l))
-      (Prod (record { index = i; up = a + c; down = b + d } ∷ l))
-  product_merge i a b c d l z =
-      let M : ℕ → ℕ → A → Type 0 = IdealPower R.ops O (P i) in
-      let 𝓜 : (m n : ℕ) → IsModule R.ops O (M m n) = ideal_power_module R O 𝓞 (P i) (fam.prime i) (fam.pair i) in
-      let s = ideal_power_add R O 𝓞 (P i) (fam.prime i) (fam.pair i) a b c d in (
-        λ h.
-            product_monotone R O 𝓞 (Product R.ops (M a b) (M c d)) (Prod l) (M (a + c) (b + d)) (Prod l)
-            (𝓜 (a + c) (b + d))
-            (λ x. (s x).0) (λ x m. m) z
-            (product_assoc_back R O 𝓞 (M a b) (M c d) (Prod l) (𝓜 a b) z h),
-        λ h.
-            product_assoc R O 𝓞 (M a b) (M c d) (Prod l) (𝓜 a b) z
-            (product_monotone R O 𝓞 (M (a + c) (b + d)) (Prod l) (Product R.ops (M a b) (M c d)) (Prod l)
-            (product_module R O 𝓞 (M a b) (M c d) (𝓜 a b))
-            (λ x. (s x).1) (λ x m. m) z h),
       )
 
   -- equal exponents cancel
@@ -101,20 +63,6 @@ module _ {A : Type 0} (R : CommRing A) (O : A → Type 0) (𝓞 : IsSubring R.op
         subst (IdealPower R.ops O (P i) n n) (R.mul_one z)
         ((ideal_power_module R O 𝓞 (P i) (fam.prime i) (fam.pair i) n n).scale_in z 𝟙 m (one_in_powers i n)),
   )
-
-  pub product_cancel : (i : I) (n : ℕ) (l : List (PrimeExponent I))
-      → SameSet (Prod (record { index = i; up = n; down = n } ∷ l)) (Prod l)
-  product_cancel i n l z =
-      let s = powers_one i n in
-      let one = product_one R O 𝓞 (Prod l) (𝓛 l) in (
-        λ h.
-            (one z).0
-            (product_monotone R O 𝓞 (IdealPower R.ops O (P i) n n) (Prod l) O (Prod l) (own_module R O 𝓞)
-            (λ x. (s x).0) (λ x m. m) z h),
-        λ h.
-            product_monotone R O 𝓞 O (Prod l) (IdealPower R.ops O (P i) n n) (Prod l)
-            (ideal_power_module R O 𝓞 (P i) (fam.prime i) (fam.pair i) n n) (λ x. (s x).1) (λ x m. m) z ((one z).1 h),
-      )
 
   -- the products of a list and of its opposite are inverse
   pub product_opposite : (l : List (PrimeExponent I)) → SameSet (Product R.ops (Prod l) (Prod (opposite l))) O

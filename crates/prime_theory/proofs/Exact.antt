@@ -1,20 +1,13 @@
--- Each invertible element has an exact value at a prime over p; elements with given exact values divide 1 + p·b.
+-- Each invertible element has an exact value at a prime over p.
 use Rattle.prime_theory.proofs.Lists.{any_one}
-use Rattle.std.proofs.Common.{◌≡◌, ℕ, ◌+◌, ◌*◌, ◌≤◌, List, [], ◌∷◌, refl, sym, ap, subst, arith, All}
+use Rattle.std.proofs.Common.{◌≡◌, ℕ, ◌+◌, ◌*◌, ◌≤◌, [], ◌∷◌, refl, sym, subst, arith, All}
 use Rattle.std.proofs.lemmas.List.Elements.{All-nil, All-cons, All-head}
 use Rattle.ring_lemmas.specs.Ring.{CommRing, pow}
 use Rattle.ring_theory.specs.Subsets.{IsSubring}
-use Rattle.ring_theory.specs.Integral.{IsIntegral}
-use Rattle.ring_theory.proofs.Subsets.{product_member}
-use Rattle.ring_lemmas.proofs.Solver.{ring, reads, from_one, from_two}
+use Rattle.ring_lemmas.proofs.Solver.{ring, reads, from_one}
 use Rattle.prime_theory.specs.Primes.{IsPrime, Outside, Pair, AtLeast, Exactly}
-use Rattle.prime_theory.specs.Systems.{opposite, IdealProduct, PrimeExponent, IsFamily, IsSystem, counted}
 use Rattle.prime_theory.proofs.Valuation.{ge_product, ge_bounded, ge_of_member, eq_product, eq_power, eq_quotient, eq_of_outside}
 use Rattle.prime_theory.proofs.Orders.{least_value}
-use Rattle.prime_theory.proofs.PrimeProducts.{up_at, down_at}
-use Rattle.prime_theory.proofs.DivisorProducts.{product_opposite}
-use Rattle.prime_theory.proofs.IdealFactors.{cofactor_of_exact}
-use Rattle.prime_theory.proofs.IntegralRing.{unit_trick}
 
 module _ {A : Type 0} (R : CommRing A) (O : A → Type 0) (𝓞 : IsSubring R.ops O) (P : A → Type 0) (𝓟 : IsPrime R.ops O P)
     (t : Pair R.ops O P) where
@@ -61,41 +54,3 @@ module _ {A : Type 0} (R : CommRing A) (O : A → Type 0) (𝓞 : IsSubring R.op
       let first = exact_of_divisor (d ⊗ z) (d' ⊗ y) c (n * e) dz_in d'y_in f v' in
       let second = exact_of_divisor d d' c (n * e) d_in d'_in refl v' in
       (first.0 + 0, 0 + second.0, eq_quotient R O 𝓞 P 𝓟 t d z first.0 0 second.0 0 second.1 first.1)
-
-module _ {A : Type 0} (R : CommRing A) (O : A → Type 0) (𝓞 : IsSubring R.ops O) (p : A) (p_in : O p)
-    (I : Type 0) (P : I → A → Type 0) (fam : IsFamily R.ops O I P) where
-  infixl 65 ◌⊕◌
-  infixl 70 ◌⊗◌
-  infixr 80 ⊖◌
-  open R use {𝟘, 𝟙, ◌⊕◌, ◌⊗◌, ⊖◌}
-
-  abbrev Opp : List (PrimeExponent I) → List (PrimeExponent I)
-  Opp = opposite
-
-  pub opposite_up : (i : I) (l : List (PrimeExponent I)) → up_at R O 𝓞 I P fam i (Opp l) ≡ down_at R O 𝓞 I P fam i l
-  opposite_up i [] = refl
-  opposite_up i (e ∷ l) = ap (λ n. counted e.down (fam.compare e.index i) + n) (opposite_up i l)
-
-  pub opposite_down : (i : I) (l : List (PrimeExponent I)) → down_at R O 𝓞 I P fam i (Opp l) ≡ up_at R O 𝓞 I P fam i l
-  opposite_down i [] = refl
-  opposite_down i (e ∷ l) = ap (λ n. counted e.up (fam.compare e.index i) + n) (opposite_down i l)
-
-  -- an element with exactly the exponents of a list at a prime system divides some 1 + p·b, b in a base ring over
-  -- which O is integral
-  pub exact_divides : (S : A → Type 0) → IsSubring R.ops S → S p → ((s : A) → O s → IsIntegral R.ops S s)
-      → (is : List I) → IsSystem R.ops O p I P is → (l : List (PrimeExponent I)) → (z : A) → IdealProduct R.ops O P l z
-      → All (λ i. Exactly R.ops O (P i) (fam.pair i).tau (fam.pair i).gamma z (up_at R O 𝓞 I P fam i l)
-      (down_at R O 𝓞 I P fam i l)) is
-      → (y : A) × (b : A) × S b × (z ⊗ y ≡ 𝟙 ⊕ p ⊗ b)
-  exact_divides S 𝓢 p_base integral is sys l z z_in exact =
-      let c = cofactor_of_exact R O 𝓞 p p_in I P fam is sys l (Opp l) (λ i. opposite_up i l) (λ i. opposite_down i l)
-      (λ a b m n. (product_opposite R O 𝓞 p p_in I P fam l (a ⊗ b)).0
-      (product_member R O 𝓞 (IdealProduct R.ops O P l) (IdealProduct R.ops O P (Opp l)) a b m n))
-      z z_in exact in
-      let s = c.2.quotient in
-      let u = unit_trick R S 𝓢 p s p_base (integral s c.2.quotient_in) in
-      let f : (y s h b : A) → 𝟙 ⊕ ⊖ (z ⊗ y) ≡ p ⊗ s → (𝟙 ⊕ ⊖ (p ⊗ s)) ⊗ h ≡ 𝟙 ⊕ p ⊗ b → z ⊗ (y ⊗ h) ≡ 𝟙 ⊕ p ⊗ b
-      = λ y s h b e e'.
-      from_two R (⊖ h) 𝟙 e e'
-      (ring R (y ∷ s ∷ h ∷ b ∷ p ∷ z ∷ []) λ q i. simp (reads, q, i 0, i 1, i 2, i 3, i 4, i 5) (q.equal _ _ refl)) in
-      (c.0 ⊗ u.cofactor, u.base, u.base_in, f c.0 s u.cofactor u.base c.2.is u.is)

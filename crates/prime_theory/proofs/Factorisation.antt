@@ -11,7 +11,7 @@ use Rattle.prime_theory.specs.Ideals.{SameSet, Inverse, Power, Multiple}
 use Rattle.prime_theory.specs.Primes.{Different, AtLeast, Exactly}
 use Rattle.prime_theory.specs.Systems.{IdealPower, IdealProduct, PrimeExponent, IsFamily, IsSystem, AreDistinctPrimes, counted}
 use Rattle.prime_theory.proofs.Products.{product_into, own_module, additive_of_module, power_member, power_module}
-use Rattle.prime_theory.proofs.Primes.{ideal_module, one_outside, one_in_inverse, inverse_module}
+use Rattle.prime_theory.proofs.Primes.{ideal_module, one_outside, one_in_inverse, inverse_module, different_symmetric}
 use Rattle.prime_theory.proofs.Valuation.{theta_left, ge_of_member, ge_quotient, ge_reindex, ge_of_eq}
 use Rattle.prime_theory.proofs.AtPrime.{at_of, value_of_at, inverse_product, ideal_power_module, product_exchange}
 use Rattle.prime_theory.proofs.PrimeProducts.{up_at, down_at, ideal_product_module, value_of_ideal_product, value_same}
@@ -76,16 +76,6 @@ module _ {A : Type 0} (R : CommRing A) (O : A → Type 0) (𝓞 : IsSubring R.op
     entries [] = []
     entries (i ∷ is) = record { index = i; up = f i; down = g i } ∷ entries is
 
-    different_symmetric : (i j : I) → Different (P i) (P j) → Different (P j) (P i)
-    different_symmetric i j d = record {
-      first = d.second;
-      first_in = d.second_in;
-      first_out = d.second_out;
-      second = d.first;
-      second_in = d.first_in;
-      second_out = d.first_out;
-    }
-
     counted_self : (i : I) (n : ℕ) (c : SameSet (P i) (P i) ⊎ Different (P i) (P i)) → counted n c ≡ n
     counted_self i n (inl s) = refl
     counted_self i n (inr d) = absurd (d.first_out d.first_in)
@@ -116,7 +106,7 @@ module _ {A : Type 0} (R : CommRing A) (O : A → Type 0) (𝓞 : IsSubring R.op
     totals (i ∷ is) h =
         let T : I → Type 0 = λ j. (Up j (entries (i ∷ is)) ≡ f j) × (Down j (entries (i ∷ is)) ≡ g j) in
         let rest = absent i is (All-weaker (λ j. Different (P i) (P j)) (λ j. Different (P j) (P i))
-        (different_symmetric i) is (pairs_head Apart i is h)) in
+        (λ j. different_symmetric (P i) (P j)) is (pairs_head Apart i is h)) in
         All-cons T i is (
           ap₂ ◌+◌ (counted_self i (f i) (fam.compare i i)) rest.0 ∙ add-zero (f i),
           ap₂ ◌+◌ (counted_self i (g i) (fam.compare i i)) rest.1 ∙ add-zero (g i),

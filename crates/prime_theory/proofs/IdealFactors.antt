@@ -2,21 +2,21 @@
 -- values.
 use Rattle.prime_theory.proofs.Lists.{pick, everywhere, both, pairs_head, pairs_tail}
 use Rattle.ring_theory.proofs.Local.{power_in}
-use Rattle.std.proofs.Common.{◌≡◌, ◌⊎◌, inl, inr, ℕ, suc, ◌+◌, ◌*◌, ◌≤◌, List, [], ◌∷◌, map, refl, sym, ◌∙◌, ap, ap₂, subst, arith, All}
+use Rattle.std.proofs.Common.{◌≡◌, ◌⊎◌, inl, inr, ℕ, suc, ◌+◌, ◌*◌, ◌≤◌, List, [], ◌∷◌, map, refl, sym, ◌∙◌, ap, subst, arith, All}
 use Rattle.std.proofs.lemmas.List.Elements.{All-nil, All-cons, All-head, All-tail, All-weaker, All-map}
 use Rattle.ring_lemmas.specs.Ring.{CommRing, pow}
 use Rattle.ring_theory.specs.Subsets.{IsSubring, IsModule, Span}
-use Rattle.ring_lemmas.proofs.Ring.{mul_left_comm, one_mul, mul_zero, zero_mul, add_mul, pow_add}
+use Rattle.ring_lemmas.proofs.Ring.{one_mul, zero_mul, add_mul, pow_add}
 use Rattle.ring_theory.proofs.Subsets.{span_least, span_multiples, span_members}
 use Rattle.ring_lemmas.proofs.Solver.{ring, reads}
-use Rattle.prime_theory.specs.Ideals.{IsIdeal, SameSet, Multiple}
+use Rattle.prime_theory.specs.Ideals.{IsIdeal, SameSet}
 use Rattle.prime_theory.specs.Primes.{Outside, Different, AtLeast, Exactly, theta}
-use Rattle.prime_theory.specs.Systems.{IdealProduct, PrimeExponent, IsFamily, IsSystem, Escapes, UnitModulo, AreDistinctPrimes}
+use Rattle.prime_theory.specs.Systems.{IdealProduct, IsFamily, IsSystem, Escapes, AreDistinctPrimes}
 use Rattle.prime_theory.proofs.Localisation.{lift}
-use Rattle.prime_theory.proofs.Primes.{outside_product, one_outside}
-use Rattle.prime_theory.proofs.Valuation.{eq_theta, eq_product, eq_power, eq_quotient, eq_reindex, eq_sum, eq_of_outside, ge_of_prime, ge_product, ge_quotient, ge_reindex, ge_sum, ge_module, ge_of_eq, ge_bounded}
+use Rattle.prime_theory.proofs.Primes.{outside_product, one_outside, different_symmetric}
+use Rattle.prime_theory.proofs.Valuation.{eq_product, eq_power, eq_quotient, eq_reindex, eq_sum, eq_of_outside, ge_of_prime, ge_product, ge_quotient, ge_reindex, ge_sum, ge_module, ge_bounded}
 use Rattle.prime_theory.proofs.Orders.{least_value_of_span}
-use Rattle.prime_theory.proofs.PrimeProducts.{up_at, down_at, ideal_product_module, ideal_product_of_value, value_of_ideal_product}
+use Rattle.prime_theory.proofs.PrimeProducts.{ideal_product_module}
 use Rattle.prime_theory.proofs.Systems.{covering}
 use Rattle.prime_theory.proofs.Factorisation.{entries, power_in_product, product_bounded, values_of_entries, conditions_entries, ramification, value_of_p_at}
 
@@ -54,12 +54,6 @@ module _ {A : Type 0} (R : CommRing A) (O : A → Type 0) (𝓞 : IsSubring R.op
     pub member_in : M member
     pub exact : Eq i member up down
     pub all : (z : A) → M z → Ge i z up down
-
-  abbrev Up' : I → List (PrimeExponent I) → ℕ
-  Up' = up_at R O 𝓞 I P fam
-
-  abbrev Down' : I → List (PrimeExponent I) → ℕ
-  Down' = down_at R O 𝓞 I P fam
 
   module _ (is : List I) (sys : IsSystem R.ops O p I P is) (M : A → Type 0) (𝓜 : IsModule R.ops O M)
       (gens : List A) (spanned : SameSet M (Span R.ops O gens)) (a : ℕ) (has : M (pow R.ops p a))
@@ -255,7 +249,8 @@ module _ {A : Type 0} (R : CommRing A) (O : A → Type 0) (𝓞 : IsSubring R.op
         All-cons (λ j. ((k : I) → Good k j) → Eq j (sum_of (i ∷ js)) (f j) (g j)) i js
         (λ good.
         eq_sum R O 𝓞 (P i) (fam.prime i) (fam.pair i) (term i) (sum_of js) (f i) (g i) (own i)
-        (others i good js (All-weaker (λ j. Different (P i) (P j)) (λ j. Different (P j) (P i)) (turn i) js
+        (others i good js (All-weaker (λ j. Different (P i) (P j)) (λ j. Different (P j) (P i))
+        (λ j. different_symmetric (P i) (P j)) js
         (pairs_head Apart i js h))))
         (All-weaker (λ j. Different (P i) (P j) × (((k : I) → Good k j) → Eq j (sum_of js) (f j) (g j)))
         (λ j. ((k : I) → Good k j) → Eq j (sum_of (i ∷ js)) (f j) (g j))
@@ -265,16 +260,6 @@ module _ {A : Type 0} (R : CommRing A) (O : A → Type 0) (𝓞 : IsSubring R.op
         (other i j k.0 (good i))))
         js (both (λ j. Different (P i) (P j)) (λ j. ((k : I) → Good k j) → Eq j (sum_of js) (f j) (g j)) js
         (pairs_head Apart i js h) (exact_sum js (pairs_tail Apart i js h))))
-      where
-        turn : (i j : I) → Different (P i) (P j) → Different (P j) (P i)
-        turn i j d = record {
-          first = d.second;
-          first_in = d.second_in;
-          first_out = d.second_out;
-          second = d.first;
-          second_in = d.first_in;
-          second_out = d.first_out;
-        }
 
     -- one element with the least value at each prime of the list
     pub approximate : AreDistinctPrimes P is → (z : A) × M z × All (λ j. Eq j z (f j) (g j)) is
@@ -287,90 +272,3 @@ module _ {A : Type 0} (R : CommRing A) (O : A → Type 0) (𝓞 : IsSubring R.op
               (both (λ j. (i : I) → Good i j) (λ j. ((i : I) → Good i j) → Eq j (sum_of is) (f j) (g j)) is good
               (exact_sum is d)),
         )
-
-  -- the product of a list has an element with exactly the exponents of the list
-  pub approximate_product : (is : List I) → AreDistinctPrimes P is → (l : List (PrimeExponent I))
-      → (z : A) × IdealProduct R.ops O P l z
-      × All (λ i. Eq i z (up_at R O 𝓞 I P fam i l) (down_at R O 𝓞 I P fam i l)) is
-  approximate_product is d l =
-      approximate is (IdealProduct R.ops O P l) (ideal_product_module R O 𝓞 I P fam l) up down best
-      (λ i z m. value_of_ideal_product R O 𝓞 I P fam i l z m) d
-    where
-      up : I → ℕ
-      up i = up_at R O 𝓞 I P fam i l
-
-      down : I → ℕ
-      down i = down_at R O 𝓞 I P fam i l
-
-      best : (i : I) → (x : A) × IdealProduct R.ops O P l x
-          × Eq i x (up_at R O 𝓞 I P fam i l) (down_at R O 𝓞 I P fam i l)
-      best i =
-          let 𝓟 = fam.prime i in
-          let t = fam.pair i in
-          let m = up_at R O 𝓞 I P fam i l in
-          let n = down_at R O 𝓞 I P fam i l in
-          let th = theta R.ops (tau i) (gamma i) n m in
-          let exact : Eq i th m n = eq_theta R O 𝓞 (P i) 𝓟 t n m in
-          let r = ideal_product_of_value R O 𝓞 I P fam i l th (ge_of_eq R O 𝓞 (P i) 𝓟 t th m n exact) in (
-            r.factor ⊗ th,
-            r.multiple_in,
-            eq_reindex R O 𝓞 (P i) 𝓟 t (r.factor ⊗ th) (0 + m) (0 + n) m n (omega arith)
-                (eq_product R O 𝓞 (P i) 𝓟 t r.factor th 0 0 m n (eq_of_outside R O 𝓞 (P i) 𝓟 t r.factor r.factor_in)
-                exact),
-          )
-
-  -- an element with the exponents of a list at all primes of a system, in the product: the product with the opposite
-  -- list is an ideal that has an element 1 - p·s, so that a multiple of z is 1 - p·s
-  pub cofactor_of_exact : (is : List I) → IsSystem R.ops O p I P is → (l l' : List (PrimeExponent I))
-      → ((i : I) → Up' i l' ≡ Down' i l) → ((i : I) → Down' i l' ≡ Up' i l)
-      → ((a b : A) → IdealProduct R.ops O P l a → IdealProduct R.ops O P l' b → O (a ⊗ b))
-      → (z : A) → IdealProduct R.ops O P l z → All (λ i. Eq i z (Up' i l) (Down' i l)) is
-      → (y : A) × IdealProduct R.ops O P l' y × Multiple R.ops p O (𝟙 ⊕ ⊖ (z ⊗ y))
-  cofactor_of_exact is sys l l' up down cancel z z_in exact = (c.member_in.0, c.member_in.1, result)
-    where
-      J : A → Type 0
-      J = IdealProduct R.ops O P l'
-
-      𝓙 : IsModule R.ops O (IdealProduct R.ops O P l')
-      𝓙 = ideal_product_module R O 𝓞 I P fam l'
-
-      C : A → Type 0
-      C u = (y : A) × IdealProduct R.ops O P l' y × (u ≡ z ⊗ y)
-
-      𝓒 : IsIdeal R.ops O (λ u. (y : A) × IdealProduct R.ops O P l' y × (u ≡ z ⊗ y))
-      𝓒 = record {
-        within = λ a k. subst O (sym k.2) (cancel z k.0 z_in k.1);
-        zero_in = (𝟘, 𝓙.zero_in, sym (mul_zero R z));
-        sum_in = λ a b j k. (j.0 ⊕ k.0, 𝓙.sum_in _ _ j.1 k.1, ap₂ ◌⊕◌ j.2 k.2 ∙ sym (R.mul_add _ _ _));
-        scale_in = λ s a j k. (s ⊗ k.0, 𝓙.scale_in _ _ j k.1, ap (λ x. s ⊗ x) k.2 ∙ mul_left_comm R _ _ _);
-      }
-
-      escapes : All (λ i. Escapes (λ u. (y : A) × IdealProduct R.ops O P l' y × (u ≡ z ⊗ y)) (P i)) is
-      escapes =
-          All-weaker (λ i. Eq i z (Up' i l) (Down' i l))
-          (λ i. Escapes (λ u. (y : A) × IdealProduct R.ops O P l' y × (u ≡ z ⊗ y)) (P i))
-          (λ i k.
-          let 𝓟 = fam.prime i in
-          let t = fam.pair i in
-          let th = theta R.ops (tau i) (gamma i) (Up' i l) (Down' i l) in
-          let v : Eq i th (Down' i l) (Up' i l) = eq_theta R O 𝓞 (P i) 𝓟 t (Up' i l) (Down' i l) in
-          let v' : Ge i th (Up' i l') (Down' i l')
-          = subst (λ m. Ge i th m (Down' i l')) (sym (up i)) (subst (λ m. Ge i th (Down' i l) m) (sym (down i))
-          (ge_of_eq R O 𝓞 (P i) 𝓟 t th _ _ v)) in
-          let r = ideal_product_of_value R O 𝓞 I P fam i l' th v' in
-          let s = outside_product R O 𝓞 (P i) 𝓟 _ _ r.factor_in k.inside in
-          let e : (a b x : A) → a ⊗ (b ⊗ z ⊗ x) ≡ z ⊗ (b ⊗ (a ⊗ x))
-          = λ a b x. ring R (a ∷ b ∷ z ∷ x ∷ []) λ q h. simp (reads, q, h 0, h 1, h 2, h 3) (q.equal _ _ refl) in
-          record {
-            member = r.factor ⊗ (k.unit ⊗ z ⊗ th);
-            member_in =
-                (k.unit ⊗ (r.factor ⊗ th), 𝓙.scale_in _ _ k.unit_out.within r.multiple_in, e r.factor k.unit th);
-            out = s.out;
-          })
-          is exact
-
-      c : UnitModulo R.ops O p (λ u. (y : A) × IdealProduct R.ops O P l' y × (u ≡ z ⊗ y))
-      c = covering R O 𝓞 p p_in I P fam is sys (λ u. (y : A) × IdealProduct R.ops O P l' y × (u ≡ z ⊗ y)) 𝓒 escapes
-
-      result : Multiple R.ops p O (𝟙 ⊕ ⊖ (z ⊗ c.member_in.0))
-      result = subst (λ x. Multiple R.ops p O (𝟙 ⊕ ⊖ x)) c.member_in.2 c.one_modulo

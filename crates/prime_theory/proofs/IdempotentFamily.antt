@@ -1,11 +1,9 @@
 -- The primes of local orthogonal idempotents modulo p are invertible where O has the multipliers of their inverses:
 -- they are a family.
-use Rattle.ring_theory.proofs.Local.{power_in}
-use Rattle.std.proofs.Common.{◌≡◌, ◌⊎◌, inl, inr, ℕ, zero, suc, List, [], ◌∷◌, refl, subst, All}
+use Rattle.std.proofs.Common.{◌≡◌, ◌⊎◌, inl, inr, ℕ, List, [], ◌∷◌, refl, subst, All}
 use Rattle.std.proofs.lemmas.List.Elements.{All-nil, All-cons, All-head, All-tail}
 use Rattle.ring_lemmas.specs.Ring.{CommRing, pow}
 use Rattle.ring_theory.specs.Subsets.{IsSubring, Product, Colon}
-use Rattle.ring_lemmas.proofs.Ring.{mul_pow}
 use Rattle.ring_theory.proofs.Subsets.{product_member}
 use Rattle.ring_lemmas.proofs.Solver.{ring, reads}
 use Rattle.prime_theory.specs.Ideals.{IsIdeal, Inverse, Invertible, Multiple}
@@ -15,7 +13,7 @@ use Rattle.prime_theory.proofs.Primes.{ideal_module, ideal_neg, one_in_inverse, 
 use Rattle.prime_theory.proofs.PohstZassenhaus.{multiples_ideal}
 use Rattle.prime_theory.proofs.Radicals.{p_in_radical}
 use Rattle.prime_theory.proofs.Invertible.{trace_ideal, obstruction, no_obstruction}
-use Rattle.prime_theory.proofs.Idempotents.{idempotent_prime, idempotent_compare}
+use Rattle.prime_theory.proofs.Idempotents.{idempotent_prime, idempotent_compare, killed}
 
 module _ {A : Type 0} (R : CommRing A) (O : A → Type 0) (𝓞 : IsSubring R.ops O) (p : A) (p_in : O p)
     (I : Type 0) (e : I → A) (is : List I) (dec : IsDecomposition R.ops O p I e is)
@@ -48,31 +46,6 @@ module _ {A : Type 0} (R : CommRing A) (O : A → Type 0) (𝓞 : IsSubring R.op
   𝓣 : (i : I) → IsIdeal R.ops O (Product R.ops (PrimeAt R.ops O p (e i)) (Inverse R.ops O (PrimeAt R.ops O p (e i))))
   𝓣 i = trace_ideal R O 𝓞 (P i) (ideal_module R O 𝓞 (P i) (prime i).ideal)
 
-  -- powers of an idempotent
-  idempotent_power : (i : I) (n : ℕ) → Multiple R.ops p O (pow R.ops (e i) (suc n) ⊕ ⊖ (e i))
-  idempotent_power i zero =
-      let f : (x : A) → 𝟘 ≡ x ⊗ 𝟙 ⊕ ⊖ x = λ x. ring R (x ∷ []) λ q j. simp (reads, q, j 0) (q.equal _ _ refl) in
-      subst pO (f (e i)) 𝓟.zero_in
-  idempotent_power i (suc n) =
-      let f : (x y : A) → x ⊗ (y ⊕ ⊖ x) ⊕ (x ⊗ x ⊕ ⊖ x) ≡ x ⊗ y ⊕ ⊖ x
-      = λ x y. ring R (x ∷ y ∷ []) λ q j. simp (reads, q, j 0, j 1) (q.equal _ _ refl) in
-      subst pO (f (e i) (pow R.ops (e i) (suc n)))
-      (𝓟.sum_in _ _ (𝓟.scale_in _ _ (dec.within i) (idempotent_power i n)) (dec.idempotent i))
-
-  -- a member of the prime has a power that takes the idempotent into p·O
-  killed : (i : I) (c : A) → PrimeAt R.ops O p (e i) c → (n : ℕ) × Multiple R.ops p O (e i ⊗ pow R.ops c n)
-  killed i c h =
-      let k = h.nilpotent.nilpotent.exponent in
-      let n = suc k in
-      let f : (x y z : A) → x ⊗ y ⊕ ⊖ (x ⊗ (y ⊕ ⊖ z)) ≡ z ⊗ x
-      = λ x y z. ring R (x ∷ y ∷ z ∷ []) λ q j. simp (reads, q, j 0, j 1, j 2) (q.equal _ _ refl) in (
-        n,
-        subst pO (f (pow R.ops c n) (pow R.ops (e i) n) (e i))
-            (𝓟.sum_in _ _
-            (subst pO (mul_pow R c (e i) n) h.nilpotent.nilpotent.power_in)
-            (ideal_neg R O 𝓞 pO 𝓟 _ (𝓟.scale_in _ _ (power_in R O 𝓞 c h.within n) (idempotent_power i k)))),
-      )
-
   -- all members of a list are killed, or one is outside the prime
   scan : (i : I) (cs : List A)
       → All (Product R.ops (PrimeAt R.ops O p (e i)) (Inverse R.ops O (PrimeAt R.ops O p (e i)))) cs
@@ -91,7 +64,8 @@ module _ {A : Type 0} (R : CommRing A) (O : A → Type 0) (𝓞 : IsSubring R.op
           ⊎ ((c : A) × T i c × (¬ (PrimeAt R.ops O p (e i) c)))
       go (inr n) s = inr (c, All-head (T i) c cs h, n)
       go (inl m) (inl s) =
-          inl (All-cons (λ c. O c × ((n : ℕ) × Multiple R.ops p O (e i ⊗ pow R.ops c n))) c cs (c_in, killed i c m) s)
+          inl (All-cons (λ c. O c × ((n : ℕ) × Multiple R.ops p O (e i ⊗ pow R.ops c n))) c cs
+          (c_in, killed R O 𝓞 p p_in I e is dec i c m.within m.nilpotent) s)
       go (inl m) (inr s) = inr s
 
   pub idempotent_invertible : (i : I) → Invertible R.ops O (PrimeAt R.ops O p (e i))

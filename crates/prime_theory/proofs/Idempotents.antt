@@ -1,10 +1,10 @@
 -- Local orthogonal idempotents modulo p give a prime system at p.
-use Rattle.std.proofs.Common.{◌≡◌, ◌⊎◌, inl, inr, List, [], ◌∷◌, refl, sym, subst, All}
+use Rattle.std.proofs.Common.{◌≡◌, ◌⊎◌, inl, inr, List, [], ◌∷◌, refl, sym, subst, All, ℕ, zero, suc}
 use Rattle.std.proofs.lemmas.List.Elements.{All-nil, All-cons, All-head, All-tail}
-use Rattle.ring_lemmas.specs.Ring.{CommRing}
+use Rattle.ring_lemmas.specs.Ring.{CommRing, pow}
 use Rattle.ring_lemmas.specs.Sums.{sum_over}
 use Rattle.ring_theory.specs.Subsets.{IsSubring}
-use Rattle.ring_lemmas.proofs.Ring.{one_mul, mul_zero, zero_mul, add_mul}
+use Rattle.ring_lemmas.proofs.Ring.{one_mul, mul_zero, zero_mul, add_mul, mul_pow}
 use Rattle.ring_lemmas.proofs.Solver.{ring, reads}
 use Rattle.prime_theory.specs.Ideals.{IsIdeal, Multiple, SameSet}
 use Rattle.prime_theory.specs.Primes.{IsPrime, InverseModulo, Different}
@@ -13,6 +13,7 @@ use Rattle.prime_theory.specs.Systems.{IsSystem, IsDecomposition, PrimeAt}
 use Rattle.prime_theory.proofs.Primes.{ideal_neg}
 use Rattle.prime_theory.proofs.PohstZassenhaus.{multiples_ideal}
 use Rattle.prime_theory.proofs.Radicals.{radical_ideal, p_in_radical}
+use Rattle.ring_theory.proofs.Local.{power_in}
 
 module _ {A : Type 0} (R : CommRing A) (O : A → Type 0) (𝓞 : IsSubring R.ops O) (p : A) (p_in : O p)
     (I : Type 0) (e : I → A) (is : List I) (dec : IsDecomposition R.ops O p I e is) where
@@ -44,6 +45,30 @@ module _ {A : Type 0} (R : CommRing A) (O : A → Type 0) (𝓞 : IsSubring R.op
   recover C 𝓒 a b h k =
       subst C (ring R (a ∷ b ∷ []) λ q x. simp (reads, q, x 0, x 1) (q.equal _ _ refl))
       (𝓒.sum_in _ _ h (ideal_neg R O 𝓞 C 𝓒 _ k))
+
+  -- powers of an idempotent
+  idempotent_power : (i : I) (n : ℕ) → Multiple R.ops p O (pow R.ops (e i) (suc n) ⊕ ⊖ (e i))
+  idempotent_power i zero =
+      let f : (x : A) → 𝟘 ≡ x ⊗ 𝟙 ⊕ ⊖ x = λ x. ring R (x ∷ []) λ q j. simp (reads, q, j 0) (q.equal _ _ refl) in
+      subst (Multiple R.ops p O) (f (e i)) 𝓟.zero_in
+  idempotent_power i (suc n) =
+      let f : (x y : A) → x ⊗ (y ⊕ ⊖ x) ⊕ (x ⊗ x ⊕ ⊖ x) ≡ x ⊗ y ⊕ ⊖ x
+      = λ x y. ring R (x ∷ y ∷ []) λ q j. simp (reads, q, j 0, j 1) (q.equal _ _ refl) in
+      subst (Multiple R.ops p O) (f (e i) (pow R.ops (e i) (suc n)))
+      (𝓟.sum_in _ _ (𝓟.scale_in _ _ (dec.within i) (idempotent_power i n)) (dec.idempotent i))
+
+  -- what is nilpotent at an idempotent has a power that takes it into p·O
+  pub killed : (i : I) (c : A) → O c → Radical R.ops O p (c ⊗ e i) → (n : ℕ) × Multiple R.ops p O (e i ⊗ pow R.ops c n)
+  killed i c c_in h =
+      let n = suc h.nilpotent.exponent in
+      let f : (x y z : A) → x ⊗ y ⊕ ⊖ (x ⊗ (y ⊕ ⊖ z)) ≡ z ⊗ x
+      = λ x y z. ring R (x ∷ y ∷ z ∷ []) λ q j. simp (reads, q, j 0, j 1, j 2) (q.equal _ _ refl) in (
+        n,
+        subst (Multiple R.ops p O) (f (pow R.ops c n) (pow R.ops (e i) n) (e i))
+            (𝓟.sum_in _ _ (subst (Multiple R.ops p O) (mul_pow R c (e i) n) h.nilpotent.power_in)
+            (ideal_neg R O 𝓞 (Multiple R.ops p O) 𝓟 _
+            (𝓟.scale_in _ _ (power_in R O 𝓞 c c_in n) (idempotent_power i h.nilpotent.exponent)))),
+      )
 
   pub idempotent_prime : (i : I) → IsPrime R.ops O (PrimeAt R.ops O p (e i))
   idempotent_prime i = record {

@@ -1,5 +1,4 @@
 -- Invertible modules: a local criterion at p without prime ideals, uniqueness of the inverse, products.
-use Rattle.ring_theory.proofs.Finite.{product}
 use Rattle.std.proofs.Common.{◌≡◌, ◌⊎◌, inl, inr, ℕ, zero, suc, List, [], ◌∷◌, refl, sym, ap, subst, All}
 use Rattle.std.proofs.lemmas.List.Elements.{All-nil, All-cons, All-head, All-tail, All-weaker}
 use Rattle.ring_lemmas.specs.Ring.{CommRing, pow}
@@ -8,9 +7,8 @@ use Rattle.ring_lemmas.proofs.Ring.{one_mul, mul_zero, mul_left_comm}
 use Rattle.ring_theory.proofs.Subsets.{product_member, product_module, colon_module, span_least}
 use Rattle.ring_lemmas.proofs.Solver.{ring, reads, from_one}
 use Rattle.prime_theory.specs.Ideals.{IsIdeal, SameSet, Inverse, Invertible, Multiple}
-use Rattle.ring_theory.specs.Local.{PrimeTo}
 use Rattle.prime_theory.specs.Systems.{UnitModulo}
-use Rattle.prime_theory.proofs.Localisation.{lift, Meets, one_from_factors}
+use Rattle.prime_theory.proofs.Localisation.{lift}
 use Rattle.prime_theory.proofs.Products.{product_into, product_universal, own_module, additive_of_module}
 use Rattle.prime_theory.proofs.AtPrime.{product_exchange}
 
@@ -157,33 +155,6 @@ module _ {A : Type 0} (R : CommRing A) (O : A → Type 0) (𝓞 : IsSubring R.op
       → Product R.ops M (Inverse R.ops O M) (w' ⊗ w)
   trace_of_local M w w' f m = product_member R O 𝓞 M (Inverse R.ops O M) w' w m f
 
-  -- a module is invertible where its trace ideal meets each factor of one of its members
-  pub invertible_from_factors : (S : A → Type 0) (𝓢 : IsSubring R.ops S) → ((s : A) → S s → O s) → (M : A → Type 0)
-      → IsModule R.ops O M
-      → (ps : List A) (c c' : A) → S c → S c' → c' ⊗ c ≡ 𝟙 → All S ps
-      → All (Meets R S (Product R.ops M (Inverse R.ops O M))) ps
-      → S (c ⊗ product R ps) → Product R.ops M (Inverse R.ops O M) (c ⊗ product R ps) → Invertible R.ops O M
-  invertible_from_factors S 𝓢 sub M 𝓜 ps c c' c_in c'_in e ps_in h d_in d =
-      let T = Product R.ops M (Inverse R.ops O M) in
-      let 𝓣 = product_module R O 𝓞 M (Inverse R.ops O M) 𝓜 in
-      let J : A → Type 0 = λ r. S r × T r in
-      let 𝓙 : IsIdeal R.ops S J = record {
-        within = λ a m. m.0;
-        zero_in = (𝓢.zero_in, 𝓣.zero_in);
-        sum_in = λ a b m n. (𝓢.sum_in _ _ m.0 n.0, 𝓣.sum_in _ _ m.1 n.1);
-        scale_in = λ s a m n. (𝓢.product_in _ _ m n.0, 𝓣.scale_in _ _ (sub s m) n.1);
-      } in
-      (one_from_factors R S 𝓢 J 𝓙 ps c c' c_in c'_in e ps_in
-      (All-weaker (Meets R S T) (Meets R S J)
-      (λ p m. record {
-        member = m.member;
-        member_in = (m.member_base, m.member_in);
-        member_base = m.member_base;
-        comaximal = m.comaximal;
-      })
-      ps h)
-      (d_in, d)).1
-
   -- an obstruction from an element outside p·O that powers of generators of the trace ideal take into p·O
   pub obstruction : (p : A) → O p → ((x : A) → O x → Multiple R.ops p O x ⊎ (¬ (Multiple R.ops p O x)))
       → IsIdeal R.ops O (Multiple R.ops p O) → (M : A → Type 0) (cs : List A)
@@ -205,43 +176,6 @@ module _ {A : Type 0} (R : CommRing A) (O : A → Type 0) (𝓞 : IsSubring R.op
         out = a.out;
         kills = λ y m. span_least R O 𝓞 (λ y. Multiple R.ops p O (e ⊗ y)) 𝓓 cs a.kills y (spanned y m);
       }
-
-  -- the two admitted cases at p: M is O locally, or O is maximal at p and what is needed there is decided
-  pub data AdmittedAt (S N M : A → Type 0) (p : A) : Type 0 where
-    locally_one : (w w' : A) → N w → N w' → ((x : A) → M x → O (w ⊗ x)) → M w' → AdmittedAt S N M p
-    maximal : (r : A) → r ⊗ p ≡ 𝟙 → ((z : A) → Colon R.ops (Inverse R.ops O M) (Inverse R.ops O M) z → O (p ⊗ z) → O z)
-        → UnitModulo R.ops O p (Product R.ops M (Inverse R.ops O M)) ⊎ Obstruction p M
-        → (n : ℕ) (w : A) → N w → Product R.ops M (Inverse R.ops O M) (pow R.ops p n ⊗ w) → AdmittedAt S N M p
-
-  pub meets_of_admitted : (S N : A → Type 0) (p : A) → ((s : A) → S s → O s) → PrimeTo R.ops S N p → (M : A → Type 0)
-      → IsModule R.ops O M → AdmittedAt S N M p → Meets R S (Product R.ops M (Inverse R.ops O M)) p
-  meets_of_admitted S N p sub 𝓝 M 𝓜 (locally_one w w' w_in w'_in f m) =
-      let n = 𝓝.product_in _ _ w'_in w_in in
-      record {
-        member = w' ⊗ w;
-        member_in = trace_of_local M w w' f m;
-        member_base = 𝓝.within _ n;
-        comaximal = 𝓝.comaximal _ n;
-      }
-  meets_of_admitted S N p sub 𝓝 M 𝓜 (maximal r e f decided n w w_in m) =
-      record {
-        member = w;
-        member_in = trace_at p (sub p 𝓝.p_in) M 𝓜 (unit_at p r e M 𝓜 f decided) n w (sub w (𝓝.within w w_in)) m;
-        member_base = 𝓝.within w w_in;
-        comaximal = 𝓝.comaximal w w_in;
-      }
-
-  -- a module that is admitted at each factor of a member of its trace ideal is invertible
-  pub admitted_invertible : (S : A → Type 0) (𝓢 : IsSubring R.ops S) → ((s : A) → S s → O s) → (N : A → A → Type 0)
-      → (M : A → Type 0) → IsModule R.ops O M → (ps : List A) (c c' : A) → S c → S c' → c' ⊗ c ≡ 𝟙 → All S ps
-      → All (λ p. PrimeTo R.ops S (N p) p × AdmittedAt S (N p) M p) ps
-      → S (c ⊗ product R ps) → Product R.ops M (Inverse R.ops O M) (c ⊗ product R ps) → Invertible R.ops O M
-  admitted_invertible S 𝓢 sub N M 𝓜 ps c c' c_in c'_in e ps_in h d_in d =
-      invertible_from_factors S 𝓢 sub M 𝓜 ps c c' c_in c'_in e ps_in
-      (All-weaker (λ p. PrimeTo R.ops S (N p) p × AdmittedAt S (N p) M p)
-      (Meets R S (Product R.ops M (Inverse R.ops O M)))
-      (λ p k. meets_of_admitted S (N p) p sub k.0 M 𝓜 k.1) ps h)
-      d_in d
 
   -- the inverse is unique
   pub inverse_unique : (M J : A → Type 0) → IsModule R.ops O J → Product R.ops M J 𝟙

@@ -20,7 +20,6 @@ pub mod IntegerValues
 pub mod Places
 pub mod Radicals
 pub mod Conditions
-pub mod InvertiblePowers
 pub mod Denominators
 pub mod Idempotents
 pub mod Residues

@@ -11,7 +11,7 @@ use Rattle.ring_lemmas.proofs.Solver.{ring, reads, from_one}
 use Rattle.prime_theory.specs.Ideals.{IsIdeal, Power}
 use Rattle.prime_theory.specs.Primes.{IsPrime, Outside, Pair, AtLeast}
 use Rattle.prime_theory.specs.Places.{IsMaximalIdeal, PlaceOf, PlaceAtLeast, PlaceAtLeastMinus}
-use Rattle.prime_theory.proofs.Localisation.{locally_subring, common}
+use Rattle.prime_theory.proofs.Localisation.{locally_ring, common}
 use Rattle.prime_theory.proofs.Products.{product_universal, power_module, power_member, power_cancel}
 use Rattle.prime_theory.proofs.Primes.{outside_product, outside_power, comaximal_outside}
 use Rattle.prime_theory.proofs.Valuation.{theta_left, theta_right}
@@ -28,9 +28,6 @@ module _ {A : Type 0} (R : CommRing A) (S : A → Type 0) (𝓢 : IsSubring R.op
 
   N_O : (w : A) → N w → O w
   N_O w m = base w (𝓝.within w m)
-
-  p_O : O p
-  p_O = base p 𝓝.p_in
 
   over : (T M : A → Type 0) → ((s : A) → S s → T s) → IsIdeal R.ops T M → IsModule R.ops S M
   over T M f 𝓜 = record { zero_in = 𝓜.zero_in; sum_in = 𝓜.sum_in; scale_in = λ s a m n. 𝓜.scale_in s a (f s m) n }
@@ -185,7 +182,7 @@ module _ {A : Type 0} (R : CommRing A) (S : A → Type 0) (𝓢 : IsSubring R.op
 
     O_local : IsSubring R.ops (Locally R.ops N O)
     O_local =
-        locally_subring R S 𝓢 N p 𝓝 O
+        locally_ring R S 𝓢 N (record { within = 𝓝.within; one_in = 𝓝.one_in; product_in = 𝓝.product_in }) O
         (record { zero_in = 𝓞.zero_in; sum_in = 𝓞.sum_in; scale_in = λ s a m n. 𝓞.product_in _ _ (base s m) n }) 𝓞
 
     -- gamma^m takes the m-th power of the place into O locally
@@ -204,21 +201,24 @@ module _ {A : Type 0} (R : CommRing A) (S : A → Type 0) (𝓢 : IsSubring R.op
         subst (Locally R.ops N O) (mul_mul R _ _ _ _) (O_local.product_in _ _ first (power_down m c j)))
         a h
 
+    cleared_unit : (u x y : A) → N y → O (x ⊗ u) → O (x ⊗ y ⊗ u)
+    cleared_unit u x y y_in m =
+        subst O (ap (λ w. w ⊗ u) (R.mul_comm y x))
+        (subst O (sym (R.mul_assoc y x u)) (𝓞.product_in _ _ (N_O y y_in) m))
+
     pub value_of_place : (z : A) (m : ℕ) → PlaceAtLeast R.ops B M z m → AtLeast R.ops O P tau gamma z m 0
     value_of_place z m h =
         let a = power_down m (h.unit ⊗ z) h.inside in
         let l = locally h.unit h.unit_in in
         let w = l.factor ⊗ a.factor in
         let w_in = 𝓝.product_in _ _ l.factor_in a.factor_in in
-        let u_O : O (w ⊗ h.unit)
-        = subst O (ap (λ x. x ⊗ h.unit) (R.mul_comm _ _))
-        (subst O (sym (R.mul_assoc _ _ _)) (𝓞.product_in _ _ (N_O _ a.factor_in) l.multiple_in)) in
         let f : (x y u g : A) → x ⊗ (y ⊗ (g ⊗ (u ⊗ z))) ≡ x ⊗ y ⊗ u ⊗ z ⊗ g
         = λ x y u g. ring R (x ∷ y ∷ u ∷ g ∷ z ∷ []) λ q i. simp (reads, q, i 0, i 1, i 2, i 3, i 4)
         (q.equal _ _ refl) in
         record {
           unit = w ⊗ h.unit;
-          unit_out = outside_down h.unit w h.unit_in h.unit_out w_in u_O;
+          unit_out = outside_down h.unit w h.unit_in h.unit_out w_in
+              (cleared_unit h.unit l.factor a.factor a.factor_in l.multiple_in);
           inside =
               subst O (f l.factor a.factor h.unit (pow R.ops gamma m)
               ∙ ap (λ x. w ⊗ h.unit ⊗ z ⊗ x) (sym (theta_left R tau gamma m)))
@@ -249,15 +249,13 @@ module _ {A : Type 0} (R : CommRing A) (S : A → Type 0) (𝓢 : IsSubring R.op
         let l = locally h.unit h.unit_in in
         let w = l.factor ⊗ a.factor in
         let w_in = 𝓝.product_in _ _ l.factor_in a.factor_in in
-        let u_O : O (w ⊗ h.unit)
-        = subst O (ap (λ x. x ⊗ h.unit) (R.mul_comm _ _))
-        (subst O (sym (R.mul_assoc _ _ _)) (𝓞.product_in _ _ (N_O _ a.factor_in) l.multiple_in)) in
         let f : (x y u g : A) → x ⊗ (y ⊗ (u ⊗ z ⊗ g)) ≡ x ⊗ y ⊗ u ⊗ z ⊗ g
         = λ x y u g. ring R (x ∷ y ∷ u ∷ g ∷ z ∷ []) λ q i. simp (reads, q, i 0, i 1, i 2, i 3, i 4)
         (q.equal _ _ refl) in
         record {
           unit = w ⊗ h.unit;
-          unit_out = outside_down h.unit w h.unit_in h.unit_out w_in u_O;
+          unit_out = outside_down h.unit w h.unit_in h.unit_out w_in
+              (cleared_unit h.unit l.factor a.factor a.factor_in l.multiple_in);
           inside =
               subst O (f l.factor a.factor h.unit (pow R.ops tau m)
               ∙ ap (λ x. w ⊗ h.unit ⊗ z ⊗ x) (sym (theta_right R tau gamma m)))

@@ -8,8 +8,18 @@ use Rattle.ring_lemmas.proofs.Ring.{zero_mul, one_mul, add_mul}
 use Rattle.ring_theory.proofs.Subsets.{product_member, product_module, colon_module}
 use Rattle.ring_lemmas.proofs.Solver.{ring, reads}
 use Rattle.prime_theory.specs.Ideals.{IsIdeal, IsAdditive, Inverse, Invertible, SameSet}
-use Rattle.prime_theory.specs.Primes.{IsPrime, Outside, Pair}
+use Rattle.prime_theory.specs.Primes.{IsPrime, Outside, Pair, Different}
 use Rattle.prime_theory.proofs.Products.{own_module}
+
+pub different_symmetric : {A : Type 0} (P Q : A → Type 0) → Different P Q → Different Q P
+different_symmetric P Q d = record {
+  first = d.second;
+  first_in = d.second_in;
+  first_out = d.second_out;
+  second = d.first;
+  second_in = d.first_in;
+  second_out = d.first_out;
+}
 
 module _ {A : Type 0} (R : CommRing A) (O : A → Type 0) (𝓞 : IsSubring R.ops O) where
   infixl 65 ◌⊕◌
@@ -57,12 +67,6 @@ module _ {A : Type 0} (R : CommRing A) (O : A → Type 0) (𝓞 : IsSubring R.op
     pub outside_power : (u : A) → Outside O P u → (n : ℕ) → Outside O P (pow R.ops u n)
     outside_power u h zero = one_outside
     outside_power u h (suc n) = outside_product u _ h (outside_power u h n)
-
-    pub outside_of_product : (u v : A) → O u → O v → Outside O P (u ⊗ v) → Outside O P u
-    outside_of_product u v u_in v_in h = record {
-      within = u_in;
-      out = λ m. h.out (subst P (R.mul_comm v u) (𝓟.ideal.scale_in v u v_in m));
-    }
 
     -- an element outside and a member of P differ by an element outside
     pub outside_add : (u v : A) → Outside O P u → P v → Outside O P (u ⊕ v)
@@ -148,40 +152,6 @@ module _ {A : Type 0} (R : CommRing A) (O : A → Type 0) (𝓞 : IsSubring R.op
         = ring R (i.inverse ∷ t.tau ∷ t.gamma ∷ []) λ q x. simp (reads, q, x 0, x 1, x 2) (q.equal _ _ refl) in
         subst (Product R.ops P (Inverse R.ops O P)) e
         (𝓘.sum_in _ _ (𝓘.scale_in i.inverse _ i.inverse_in first) (𝓘.scale_in (⊖ 𝟙) _ (𝓞.neg_in _ 𝓞.one_in) second))
-
-    -- any gamma of the inverse outside O is part of a pair
-    pub pair_with : Invertible R.ops O P → (g : A) → Inverse R.ops O P g → ¬ (O g) → Pair R.ops O P
-    pair_with h g g_in n = go (terms h.0)
-      where
-        regroup : (a b s : A) → a ⊗ (b ⊗ g) ⊕ s ⊗ g ≡ (b ⊗ a ⊕ s) ⊗ g
-        regroup a b s = ring R (a ∷ b ∷ s ∷ g ∷ []) λ q x. simp (reads, q, x 0, x 1, x 2, x 3) (q.equal _ _ refl)
-
-        Rest : List (Factors P (Inverse R.ops O P)) → Type 0
-        Rest ts = O (sum_over R.ops ts (λ f. f.left ⊗ f.right) ⊗ g)
-
-        terms : (ts : List (Factors P (Inverse R.ops O P))) → Pair R.ops O P ⊎ Rest ts
-        terms [] = inr (subst O (sym (zero_mul R g)) 𝓞.zero_in)
-        terms (t ∷ ts) = step (𝓟.decide (t.left ⊗ g) in_O) (terms ts)
-          where
-            in_O : O (t.left ⊗ g)
-            in_O = subst O (R.mul_comm g t.left) (g_in t.left t.left_in)
-
-            step : P (t.left ⊗ g) ⊎ (¬ (P (t.left ⊗ g))) → Pair R.ops O P ⊎ Rest ts → Pair R.ops O P ⊎ Rest (t ∷ ts)
-            step (inr k) r = inl (record {
-              tau = t.left;
-              tau_in = t.left_in;
-              gamma = g;
-              gamma_in = g_in;
-              outside = record { within = in_O; out = k };
-            })
-            step (inl m) (inl r) = inl r
-            step (inl m) (inr r) =
-                inr (subst O (regroup t.right t.left (sum_over R.ops ts (λ f. f.left ⊗ f.right)))
-                (𝓞.sum_in _ _ (t.right_in _ m) r))
-
-        go : Pair R.ops O P ⊎ Rest h.0 → Pair R.ops O P
-        go (inl r) = r
-        go (inr r) = absurd (n (subst O (ap (λ x. x ⊗ g) (sym h.1) ∙ one_mul R g) r))
 
     -- gamma of a pair is not in O
     pub gamma_out : (t : Pair R.ops O P) → ¬ (O t.gamma)

@@ -34,13 +34,6 @@ module _ {A : Type 0} (R : CommRing A) where
   pub additive_of_module : (S M : A → Type 0) → IsModule R.ops S M → IsAdditive R.ops M
   additive_of_module S M 𝓜 = record { zero_in = 𝓜.zero_in; sum_in = 𝓜.sum_in }
 
-  -- the elements that h takes into C
-  pub quotient_additive : (C : A → Type 0) → IsAdditive R.ops C → (h : A) → IsAdditive R.ops (λ z. C (h ⊗ z))
-  quotient_additive C 𝓒 h = record {
-    zero_in = subst C (sym (mul_zero R h)) 𝓒.zero_in;
-    sum_in = λ a b m n. subst C (sym (R.mul_add _ _ _)) (𝓒.sum_in _ _ m n);
-  }
-
   module _ (O : A → Type 0) (𝓞 : IsSubring R.ops O) where
     pub product_additive : (M N : A → Type 0) → IsModule R.ops O M → IsAdditive R.ops (Product R.ops M N)
     product_additive M N 𝓜 = additive_of_module O _ (product_module R O 𝓞 M N 𝓜)

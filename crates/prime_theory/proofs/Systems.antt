@@ -156,9 +156,6 @@ module _ {A : Type 0} (R : CommRing A) (O : A → Type 0) (𝓞 : IsSubring R.op
       abbrev pr : Pair R.ops O (P i)
       pr = fam.pair i
 
-      abbrev at_i : Apart i is
-      at_i = apart i is
-
       tau_O : O (tau i)
       tau_O = (fam.prime i).ideal.within _ (fam.pair i).tau_in
 

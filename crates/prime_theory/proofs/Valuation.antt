@@ -242,12 +242,6 @@ module _ {A : Type 0} (R : CommRing A) (O : A → Type 0) (𝓞 : IsSubring R.op
       go (inl l) = l
       go (inr l) = absurd (eq_not_more z a b h (ge_weaker z c d (suc a) b (omega arith) k))
 
-  pub eq_unique : (z : A) (a b c d : ℕ) → Eq z a b → Eq z c d → c + b ≡ a + d
-  eq_unique z a b c d h k =
-      let l : c + b ≤ a + d = ge_bounded z a b c d h (ge_of_eq z c d k) in
-      let r : a + d ≤ c + b = ge_bounded z c d a b k (ge_of_eq z a b h) in
-      omega arith
-
   -- the value is one more, or it is exact
   pub more_or_exact : (z : A) (a b : ℕ) → Ge z a b → Ge z (suc a) b ⊎ Eq z a b
   more_or_exact z a b h = go (𝓟.decide _ h.inside)

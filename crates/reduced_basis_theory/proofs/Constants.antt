@@ -12,6 +12,7 @@ use Rattle.ring_lemmas.proofs.Polynomials.{same_pol, series_add, series_mul, coe
 use Rattle.ring_lemmas.proofs.Division.{length_bound}
 use Rattle.linear_theory.specs.Fields.{Domain, Field}
 use Rattle.reduced_basis_theory.specs.Reduced.{variable, constant}
+use Rattle.std.proofs.lemmas.Bool.{cases_lt}
 
 -- the coefficients
 abbrev pub series : {C : Type 0} (k : TestedRing C) → Pol k → ℕ → C
@@ -123,11 +124,8 @@ module _ {C : Type 0} (k : TestedRing C) where
 
   -- each polynomial with at most l coefficients is one of these
   pub polynomial_series : (l : ℕ) (p : Pol k) → length p.0 ≤ l → polynomial l (series k p) ≡ p
-  polynomial_series l p h = same_pol k _ _ (λ n. go n (order n l))
+  polynomial_series l p h = same_pol k _ _ (λ n. go n (cases_lt n l))
     where
-      order : (n l : ℕ) → (n < l) ⊎ (l ≤ n)
-      order n l = grind arith
-
       go : (n : ℕ) → (n < l) ⊎ (l ≤ n) → series k (polynomial l (series k p)) n ≡ series k p n
       go n (inl h') = polynomial_below l (series k p) n h'
       go n (inr h') = polynomial_past l (series k p) n h' ∙ sym (coeff_past k p.0 n (omega arith))

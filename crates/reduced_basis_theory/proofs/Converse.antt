@@ -1,50 +1,31 @@
 -- n elements that span I, with b_i in x^(d_i)·N, are a reduced basis as soon as their degrees have the right sum.
-use Rattle.std.proofs.Common.{◌≡◌, ℕ, ◌+◌, ◌<◌, ◌↔◌, ℤ, pos, ◌+ℤ◌, ◌-ℤ◌, ◌≤ℤ◌, List, [], ◌∷◌, length, All, refl, sym, ◌∙◌, ap, ap₂, subst, arith}
+use Rattle.std.proofs.Common.{◌≡◌, ℕ, ◌+◌, ◌<◌, ◌↔◌, ℤ, pos, ◌+ℤ◌, ◌-ℤ◌, ◌≤ℤ◌, List, length, All, refl, sym, ◌∙◌, ap, ap₂, subst, arith}
 use Rattle.std.proofs.lemmas.List.Elements.{All-weaker}
 use Rattle.std.proofs.lemmas.Int.{ints}
 use Rattle.ring_lemmas.specs.Ring.{TestedRing, CommRing, IsField}
 use Rattle.ring_lemmas.proofs.Ring.{field_domain, eq_of_sub, neg_mul, one_mul}
-use Rattle.ring_lemmas.proofs.Solver.{reads}
 use Rattle.ring_lemmas.specs.Polynomials.{Pol}
 use Rattle.ring_theory.specs.PolynomialRing.{pol_ring}
 use Rattle.linear_theory.specs.Fields.{domain_of}
 use Rattle.linear_theory.specs.Module.{Module, combine}
 use Rattle.linear_theory.specs.Basis.{IsCombination, IsNull, IsBasis}
-use Rattle.linear_theory.specs.Lists.{entry, omit, remove}
-use Rattle.linear_theory.proofs.Lists.{length_remove}
-use Rattle.linear_theory.proofs.Module.{linear, parts, vector, scalar, plus_negative}
-use Rattle.linear_theory.proofs.Combination.{combine_omit, combine_linear, combine_scale}
-use Rattle.linear_theory.proofs.Exchange.{exchange, exchange_multiples}
+use Rattle.linear_theory.specs.Lists.{entry}
+use Rattle.linear_theory.proofs.Module.{plus_negative}
+use Rattle.linear_theory.proofs.Combination.{combine_linear, combine_scale}
+use Rattle.linear_theory.proofs.Exchange.{exchange}
 use Rattle.linear_theory.proofs.Bases.{null_subspace}
 use Rattle.linear_theory.proofs.Dimension.{basis_of_full_length}
 use Rattle.reduced_basis_theory.specs.Degree.{DegreeAtMost, degree, total, degree_sum}
 use Rattle.reduced_basis_theory.specs.Reduced.{InLattice, Coordinates, CoordinatesAtMost, IsReducedBasisOfPair, Section, constants_ops, layers}
 use Rattle.reduced_basis_theory.proofs.Degree.{degree_own, degree_cancel}
-use Rattle.linear_theory.proofs.Domain.{decide_equal}
-use Rattle.reduced_basis_theory.proofs.Constants.{coefficients, polynomial, polynomial_domain, length_polynomial, polynomial_zero}
+use Rattle.reduced_basis_theory.proofs.Constants.{coefficients, polynomial, length_polynomial, polynomial_zero}
 use Rattle.reduced_basis_theory.proofs.Layers.{over_constants, All_of_combine, combine_layers, blocks_zero, block, length_layers}
 use Rattle.reduced_basis_theory.proofs.Count.{sizes, section_basis, length_section}
 use Rattle.reduced_basis_theory.proofs.Totals.{IsLarge, large, large_weaker, large_for_two, own, degree_sum_le, degree_sum_eq}
 use Rattle.reduced_basis_theory.proofs.Graded.{scale_in, divide_in, combine_members}
 use Rattle.reduced_basis_theory.proofs.Spaces.{lattice_space, family_space, intersection_space}
 use Rattle.reduced_basis_theory.proofs.Powers.{power, degree_power, power_nonzero}
-
--- where r·b + y = 0, a multiple of a combination with b is one without it
-pub without : {A V : Type 0} {R : CommRing A} (M : Module R V) (r c : A) (b x y : V) → M.◌⊞◌ (M.◌•◌ r b) y ≡ M.𝟬
-    → M.◌•◌ r (M.◌⊞◌ (M.◌•◌ c b) x) ≡ M.◌⊞◌ (M.◌•◌ (R.⊖◌ c) y) (M.◌•◌ r x)
-without {R = R} M r c b x y e =
-    sym (M.add_zero _) ∙ ap (λ z. M.◌⊞◌ (M.◌•◌ r (M.◌⊞◌ (M.◌•◌ c b) x)) z) (sym (zero e)) ∙ regroup
-  where
-    zero : M.◌⊞◌ (M.◌•◌ r b) y ≡ M.𝟬 → M.◌•◌ (R.⊖◌ c) (M.◌⊞◌ (M.◌•◌ r b) y) ≡ M.𝟬
-    zero e =
-        ap (M.◌•◌ (R.⊖◌ c)) e
-        ∙ linear M (scalar M c ∷ []) λ q h. simp (parts, reads, q, h 0) (q.equal _ _ refl)
-
-    regroup : M.◌⊞◌ (M.◌•◌ r (M.◌⊞◌ (M.◌•◌ c b) x)) (M.◌•◌ (R.⊖◌ c) (M.◌⊞◌ (M.◌•◌ r b) y))
-        ≡ M.◌⊞◌ (M.◌•◌ (R.⊖◌ c) y) (M.◌•◌ r x)
-    regroup =
-        linear M (vector M b ∷ vector M x ∷ vector M y ∷ scalar M r ∷ scalar M c ∷ []) λ q h.
-        simp (parts, reads, q, h 0, h 1, h 2, h 3, h 4) (q.equal _ _ refl)
+use Rattle.reduced_basis_theory.proofs.Free.{free_of_spanning}
 
 -- the coefficients of a combination of free elements are determined
 pub same_coefficients : {A V : Type 0} {R : CommRing A} (M : Module R V) (b : List V) (n : ℕ)
@@ -71,50 +52,11 @@ module _ {C V : Type 0} (k : TestedRing C) (field : IsField k.ops) (M : Module (
 
   -- n elements that span the lattice are free
   pub spanning_free : (r : ℕ → Pol k) → combine M.ops r b ≡ 𝟬 → (i : ℕ) → i < n → r i ≡ 𝟘
-  spanning_free r null i l = elim (decide_equal (pol_ring k) (r i) 𝟘) [ yes z ↦ z | no some ↦ absurd (clash some) ]
-    where
-      below : i < length b
-      below = subst (λ n. i < n) (sym count) l
-
-      others : List V
-      others = remove i b
-
-      inside : (v : V) → I v → IsCombination M.ops (IsNull M.ops) others (r i • v)
-      inside v v_in =
-          let c = (lattice v).0 v_in in
-          record {
-            coefficient = λ j. ⊖ (c.coefficient i) ⊗ omit i r j ⊕ r i ⊗ omit i c.coefficient j;
-            rest = 𝟬;
-            rest_in = refl;
-            is =
-                ap (λ w. r i • w) (c.is ∙ combine_omit M i c.coefficient b below)
-                ∙ without M (r i) (c.coefficient i) (entry 𝟬 b i) (combine M.ops (omit i c.coefficient) others)
-                (combine M.ops (omit i r) others)
-                (sym (combine_omit M i r b below) ∙ null)
-                ∙ ap (λ w. ⊖ (c.coefficient i) • combine M.ops (omit i r) others ⊞ w)
-                (sym (combine_scale M (r i) (omit i c.coefficient) others))
-                ∙ sym (combine_linear M (⊖ (c.coefficient i)) (omit i r) (λ j. r i ⊗ omit i c.coefficient j) others)
-                ∙ sym (M.add_zero _);
-          }
-
-      clash : ¬ (r i ≡ 𝟘) → ⊥
-      clash some =
-          let members : All I p = All_of_combine M I p
-          (λ c. (reduced.lattice _).1 (record { coefficient = c; is = refl })) in
-          let h = exchange_multiples (polynomial_domain k field) M (IsNull M.ops)
-          (record {
-            zero_in = refl;
-            sum_in = λ u v a c. ap₂ ◌⊞◌ a c ∙ M.add_zero 𝟬;
-            scale_in = λ a v c. ap (λ w. a • w) c
-                ∙ linear M (scalar M a ∷ []) λ q h. simp (parts, reads, q, h 0) (q.equal _ _ refl);
-          })
-          (r i) some p others
-          (λ c z j l'. reduced.at.free c z j (subst (λ n. j < n) reduced.at.count l'))
-          (All-weaker I (λ v. IsCombination M.ops (IsNull M.ops) others (r i • v)) inside p members) in
-          let a = length_remove i b below in
-          let c = reduced.at.count in
-          let f = count in
-          omega arith
+  spanning_free =
+      let members : All I p = All_of_combine M I p
+      (λ c. (reduced.lattice _).1 (record { coefficient = c; is = refl })) in
+      free_of_spanning k field M n p reduced.at.count reduced.at.free b count
+      (All-weaker I (InLattice k M.ops b) (λ v. (lattice v).0) p members)
 
   pub spanning_coordinates : (z : V) → Coordinates k M.ops b z
   spanning_coordinates z =

@@ -1,16 +1,14 @@
 -- The dual of the dual is the pair itself, and the sum of the degrees of a dual lattice in a fixed family.
-use Rattle.std.proofs.Common.{◌≡◌, ℕ, ◌↔◌, ℤ, pos, ◌+ℤ◌, ◌-ℤ◌, List, sym, subst, arith}
+use Rattle.std.proofs.Common.{◌≡◌, ℕ, ◌↔◌, ℤ, ◌+ℤ◌, ◌-ℤ◌, List, sym, subst, arith}
 use Rattle.std.proofs.lemmas.Int.{ints}
 use Rattle.ring_lemmas.specs.Ring.{TestedRing, CommRing, IsField}
 use Rattle.ring_lemmas.specs.Polynomials.{Pol}
 use Rattle.ring_theory.specs.PolynomialRing.{pol_ring}
 use Rattle.linear_theory.specs.Module.{Module}
-use Rattle.reduced_basis_theory.specs.Degree.{DegreeAtMost, degree, degree_sum}
+use Rattle.reduced_basis_theory.specs.Degree.{DegreeAtMost, degree}
 use Rattle.reduced_basis_theory.specs.Reduced.{IsReducedBasisOfPair}
 use Rattle.reduced_basis_theory.specs.Dual.{AreFractions, IsSymmetricForm, DualLattice, DualFamily, IsDualBasis, negated}
 use Rattle.reduced_basis_theory.proofs.Dual.{dual_symmetric, dual_reduced}
-use Rattle.reduced_basis_theory.proofs.Transport.{degree_sum_negated}
-use Rattle.reduced_basis_theory.proofs.Rescale.{shift_law}
 
 module _ {C V Q : Type 0} (k : TestedRing C) (field : IsField k.ops) (M : Module (pol_ring k).ring V) (R : CommRing Q)
     (ι : Pol k → Q) (fractions : AreFractions k R.ops ι) (T : V → V → Q) (form : IsSymmetricForm k M.ops R.ops ι T)
@@ -44,15 +42,3 @@ module _ {C V Q : Type 0} (k : TestedRing C) (field : IsField k.ops) (M : Module
         λ h. g.1 (λ i l. subst (DegreeAtMost k (a.coefficient i)) (w i) (f.0 h i l)),
         λ h. f.1 (λ i l. subst (DegreeAtMost k (a.coefficient i)) (sym (w i)) (g.0 h i l)),
       )
-
-  -- the sums of the degrees of a lattice and of its dual in the same family: what they differ by, a lattice I₀ tells
-  pub dual_sum : (I₀ : V → Type 0) (y a₀ y₀ : List V) (g f₀ g₀ : ℕ → ℤ)
-      → IsReducedBasisOfPair k M.ops n (DualLattice k ι T I) N y g
-      → IsReducedBasisOfPair k M.ops n I₀ (DualFamily k R.ops ι T N) a₀ f₀ → IsReducedBasisOfPair k M.ops n I₀ N y₀ g₀
-      → (e : Pol k) → ¬ (e ≡ (pol_ring k).𝟘) → ((z : V) → I₀ z → DualLattice k ι T I (e • z))
-      → ((degree_sum n g +ℤ degree_sum n d) +ℤ (degree_sum n f₀ -ℤ degree_sum n g₀)) ≡ pos 0
-  dual_sum I₀ y a₀ y₀ g f₀ g₀ other standard standard' e some inner =
-      let a = shift_law k field M n (DualLattice k ι T I) I₀ (DualFamily k R.ops ι T N) N c y a₀ y₀ (negated d) g f₀ g₀
-      (dual_reduced k field M R ι fractions T form n b c dual I N d reduced) other standard standard' e some inner in
-      let h = degree_sum_negated n d in
-      omega (arith, ints)

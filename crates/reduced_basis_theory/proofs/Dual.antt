@@ -1,5 +1,5 @@
 -- The dual basis of a reduced basis of (I, N) is a reduced basis of the dual pair, with the negated degrees.
-use Rattle.std.proofs.Common.{◌≡◌, ℕ, zero, suc, ◌<◌, ℤ, ◌+ℤ◌, ◌-ℤ◌, List, [], ◌∷◌, length, All, refl, sym, ◌∙◌, ap, ap₂, subst, arith}
+use Rattle.std.proofs.Common.{◌≡◌, ℕ, zero, suc, ◌<◌, ℤ, ◌+ℤ◌, ◌-ℤ◌, List, [], ◌∷◌, length, All, refl, sym, ◌∙◌, ap, ap₂, subst, arith, ◌↔◌}
 use Rattle.std.proofs.lemmas.List.Elements.{All-head, All-tail}
 use Rattle.std.proofs.lemmas.Int.{ints}
 use Rattle.ring_lemmas.specs.Ring.{TestedRing, CommRing, IsField}
@@ -30,6 +30,13 @@ unit_symmetric x z zero zero = refl
 unit_symmetric x z zero (suc j) = refl
 unit_symmetric x z (suc i) zero = refl
 unit_symmetric x z (suc i) (suc j) = unit_symmetric x z i j
+
+-- the members of a basis of a lattice are in it
+pub in_lattice : {C V : Type 0} (k : TestedRing C) (M : Module (pol_ring k).ring V) (I : V → Type 0) (b : List V)
+    → ((z : V) → I z ↔ InLattice k M.ops b z) → (i : ℕ) → I (entry M.𝟬 b i)
+in_lattice k M I b lattice =
+    entry_in I M.𝟬 b (lattice_zero k M I b lattice)
+    (All_of_combine M I b (λ c. (lattice _).1 (record { coefficient = c; is = refl })))
 
 module _ {C V Q : Type 0} (k : TestedRing C) (field : IsField k.ops) (M : Module (pol_ring k).ring V) (R : CommRing Q)
     (ι : Pol k → Q) (fractions : AreFractions k R.ops ι) (T : V → V → Q) (form : IsSymmetricForm k M.ops R.ops ι T)
@@ -153,17 +160,13 @@ module _ {C V Q : Type 0} (k : TestedRing C) (field : IsField k.ops) (M : Module
       }
 
     module _ (I : V → Type 0) (N : ℤ → V → Type 0) (d : ℕ → ℤ) (reduced : IsReducedBasisOfPair k M.ops n I N b d) where
-      all_in : (i : ℕ) → I (entry 𝟬 b i)
-      all_in =
-          entry_in I 𝟬 b (lattice_zero k M I b reduced.lattice)
-          (All_of_combine M I b (λ c. (reduced.lattice _).1 (record { coefficient = c; is = refl })))
-
       to_dual : (z : V) → DualLattice k ι T I z → InLattice k M.ops c z
       to_dual z h = record {
-        coefficient = λ i. (h (entry 𝟬 b i) (all_in i)).0;
+        coefficient = λ i. (h (entry 𝟬 b i) (in_lattice k M I b reduced.lattice i)).0;
         is =
             same N d reduced.at z _ (λ i l.
-            (h (entry 𝟬 b i) (all_in i)).1 ∙ sym (dual_coordinate (λ i. (h (entry 𝟬 b i) (all_in i)).0) i l));
+            (h (entry 𝟬 b i) (in_lattice k M I b reduced.lattice i)).1
+            ∙ sym (dual_coordinate (λ i. (h (entry 𝟬 b i) (in_lattice k M I b reduced.lattice i)).0) i l));
       }
 
       from_dual : (z : V) → InLattice k M.ops c z → DualLattice k ι T I z

@@ -13,6 +13,7 @@ use Rattle.linear_theory.proofs.Combination.{combine_append, combine_join, combi
 use Rattle.reduced_basis_theory.specs.Degree.{total}
 use Rattle.reduced_basis_theory.specs.Reduced.{variable, constant, constants_ops, multiples, layers}
 use Rattle.reduced_basis_theory.proofs.Constants.{series, constant_one, constant_zero, constant_sum, constant_product, polynomial, polynomial_series}
+use Rattle.std.proofs.lemmas.Bool.{cases_lt}
 
 -- the part of a sequence that belongs to the i-th of the blocks with the lengths l
 abbrev pub block : {C : Type 0} → (ℕ → ℕ) → (ℕ → C) → ℕ → ℕ → C
@@ -28,10 +29,6 @@ All_of_combine {R = R} M W (v ∷ vs) h =
     (subst W (ap₂ M.◌⊞◌ (M.one_scale v) (combine_zero M vs) ∙ M.add_zero v) (h (insert 0 R.𝟙 (λ i. R.𝟘))))
     (All_of_combine M W vs (λ c. subst W (ap (λ x. M.◌⊞◌ x (combine M.ops c vs)) (M.zero_scale v) ∙ zero_plus M _)
     (h (insert 0 R.𝟘 c))))
-
-pub total_cong : (n : ℕ) (l l' : ℕ → ℕ) → ((i : ℕ) → i < n → l i ≡ l' i) → total n l ≡ total n l'
-total_cong zero l l' h = refl
-total_cong (suc n) l l' h = ap₂ ◌+◌ (h 0 (omega arith)) (total_cong n _ _ (λ i b. h (suc i) (omega arith)))
 
 module _ {C V : Type 0} (k : TestedRing C) (M : Module (pol_ring k).ring V) where
   infixl 65 ◌⊞◌
@@ -105,11 +102,8 @@ pub blocks_zero : {C : Type 0} (P : C → Type 0) (n : ℕ) (l : ℕ → ℕ) (c
     → ((i : ℕ) → i < n → (j : ℕ) → j < l i → P (block l c i j)) → (j : ℕ) → j < total n l → P (c j)
 blocks_zero P zero l c h j b = absurd (omega arith)
 blocks_zero P (suc n) l c h j b =
-    go (blocks_zero P n (λ i. l (suc i)) (λ j. c (l 0 + j)) (λ i b. h (suc i) (omega arith))) (order j (l 0))
+    go (blocks_zero P n (λ i. l (suc i)) (λ j. c (l 0 + j)) (λ i b. h (suc i) (omega arith))) (cases_lt j (l 0))
   where
-    order : (n l : ℕ) → (n < l) ⊎ (l ≤ n)
-    order n l = grind arith
-
     go : ((i : ℕ) → i < total n (λ i. l (suc i)) → P (c (l 0 + i))) → (j < l 0) ⊎ (l 0 ≤ j) → P (c j)
     go later (inl b') = h 0 (omega arith) j b'
     go later (inr b') = let e : l 0 + (j - l 0) ≡ j = omega arith in

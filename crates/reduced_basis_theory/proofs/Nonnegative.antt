@@ -1,5 +1,5 @@
 -- No degree is negative where the intersection of I and N is a field in the ring V.
-use Rattle.std.proofs.Common.{◌≡◌, ℕ, zero, suc, ◌<◌, ℤ, pos, ◌-ℤ◌, ◌≤ℤ◌, ◌<ℤ◌, List, length, All, refl, sym, ◌∙◌, ap, subst, arith}
+use Rattle.std.proofs.Common.{◌≡◌, ℕ, zero, suc, ◌<◌, ℤ, pos, ◌-ℤ◌, ◌≤ℤ◌, ◌<ℤ◌, List, length, All, sym, ◌∙◌, ap, subst, arith}
 use Rattle.std.proofs.lemmas.List.Elements.{All-nil, All-cons, All-weaker}
 use Rattle.std.proofs.lemmas.Int.{ints, by_lt_z}
 use Rattle.ring_lemmas.specs.Ring.{TestedRing, CommRing, IsField}
@@ -16,13 +16,13 @@ use Rattle.linear_theory.proofs.Exchange.{exchange}
 use Rattle.reduced_basis_theory.specs.Reduced.{IsReducedBasisOfPair, Section, constants_ops, multiples, variable, layers}
 use Rattle.reduced_basis_theory.proofs.Degree.{size_least}
 use Rattle.reduced_basis_theory.proofs.Constants.{coefficients, polynomials, polynomial_zero}
-use Rattle.reduced_basis_theory.proofs.Layers.{over_constants, combine_multiples, length_multiples, All_of_combine}
+use Rattle.reduced_basis_theory.proofs.Layers.{over_constants, combine_multiples, length_multiples}
 use Rattle.reduced_basis_theory.proofs.Count.{sizes, section_basis, length_one}
 use Rattle.reduced_basis_theory.proofs.Powers.{length_variable}
 use Rattle.reduced_basis_theory.proofs.Graded.{combine_single, multiple_in}
-use Rattle.reduced_basis_theory.proofs.Spaces.{lattice_zero, lattice_scale}
+use Rattle.reduced_basis_theory.proofs.Spaces.{lattice_scale}
 use Rattle.reduced_basis_theory.proofs.Compare.{null_in}
-use Rattle.reduced_basis_theory.proofs.Dual.{entry_in}
+use Rattle.reduced_basis_theory.proofs.Dual.{in_lattice}
 
 module _ {C V : Type 0} (k : TestedRing C) (field : IsField k.ops) (M : Module (pol_ring k).ring V) (n : ℕ)
     (F : CommRing V) (multiples_linear : (z : V) → IsLinear M.ops M.ops (F.◌⊗◌ z))
@@ -87,11 +87,6 @@ module _ {C V : Type 0} (k : TestedRing C) (field : IsField k.ops) (M : Module (
       (combine_single k field M n N b d reduced.at i (pol_ring k).𝟙 (subst (λ n. i < n) (sym reduced.at.count) l)
       ∙ ap (λ w. (pol_ring k).𝟙 • w) e ∙ scale_zero M _) i l)
 
-  in_lattice : (i : ℕ) → I (entry 𝟬 b i)
-  in_lattice =
-      entry_in I 𝟬 b (lattice_zero k M I b reduced.lattice)
-      (All_of_combine M I b (λ c. (reduced.lattice _).1 (record { coefficient = c; is = refl })))
-
   no_negative : (i : ℕ) → i < n → d i <ℤ pos 0 → ⊥
   no_negative i l negative =
       let u = entry 𝟬 b i in
@@ -99,14 +94,14 @@ module _ {C V : Type 0} (k : TestedRing C) (field : IsField k.ops) (M : Module (
       let f = length_variable k field in
       let u_in : Constant u
       = (
-        in_lattice i,
+        in_lattice k M I b reduced.lattice i,
         subst (N (pos 0)) (M.one_scale u)
             (multiple_in k field M n N b d reduced.at (pos 0) i (pol_ring k).𝟙 l
             (size_least (length ((pol_ring k).𝟙).0) (pos 0 -ℤ d i) (omega (arith, ints)))),
       ) in
       let xu_in : Constant (variable k • u)
       = (
-        lattice_scale k M I b reduced.lattice (variable k) u (in_lattice i),
+        lattice_scale k M I b reduced.lattice (variable k) u (in_lattice k M I b reduced.lattice i),
         multiple_in k field M n N b d reduced.at (pos 0) i (variable k) l
             (size_least (length (variable k).0) (pos 0 -ℤ d i) (omega (arith, ints))),
       ) in

@@ -9,7 +9,6 @@ use Rattle.linear_theory.specs.Module.{Module, combine, IsLinear}
 use Rattle.linear_theory.proofs.Combination.{combine_map, linear_zero}
 use Rattle.reduced_basis_theory.specs.Degree.{DegreeAtMost, degree, degree_sum}
 use Rattle.reduced_basis_theory.specs.Reduced.{IsReducedBasisOfPair}
-use Rattle.reduced_basis_theory.specs.Dual.{negated}
 
 module _ {C V : Type 0} (k : TestedRing C) (M : Module (pol_ring k).ring V) (n : ℕ) where
   infixl 65 ◌⊞◌
@@ -108,10 +107,6 @@ module _ {C V : Type 0} (k : TestedRing C) (M : Module (pol_ring k).ring V) (n :
             }),
       );
     }
-
-pub degree_sum_negated : (n : ℕ) (d : ℕ → ℤ) → (degree_sum n (negated d) +ℤ degree_sum n d) ≡ pos 0
-degree_sum_negated zero d = omega (arith, ints)
-degree_sum_negated (suc n) d = let e = degree_sum_negated n (λ i. d (suc i)) in omega (arith, ints)
 
 -- the sum of the 2 - d i
 pub degree_sum_from_two : (n : ℕ) (d : ℕ → ℤ) → (degree_sum n (λ i. pos 2 -ℤ d i) +ℤ degree_sum n d) ≡ pos (n + n)

@@ -1,6 +1,5 @@
 -- Patterns that the guide names: an equation read along with the goal, membership by `search` and along an equation,
--- and
--- an identity up to a relation, by way of the quotient.
+-- and an identity up to a relation, by way of the quotient.
 use mathlib.Core.Quot.{mk}
 use Rattle.std.proofs.Common.{◌≡◌, refl, subst, [], ◌∷◌}
 use Rattle.ring_lemmas.specs.Ring.{Operations, CommRing}

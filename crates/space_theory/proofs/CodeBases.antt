@@ -7,7 +7,7 @@ use Rattle.ff_fields.specs.Field.{CodeField}
 use Rattle.ff_fields.specs.Code.{code_ring}
 use Rattle.function_field.specs.Functions.{Equation, FunctionOf, ring_of, setting_of, IsCode}
 use Rattle.function_field.specs.Divisors.{IsBasis}
-use Rattle.lattice_theory.specs.Lattices.{space_ops}
+use Rattle.function_field.specs.Indices.{space_ops}
 use Rattle.lattice_theory.proofs.Indices.{code_of, code_hom}
 use Rattle.order_theory.proofs.Degrees.{code_is, code_at}
 use Rattle.space_theory.proofs.ScalarLists.{combine_spanned, independent_lists}

@@ -17,16 +17,13 @@ use Rattle.linear_theory.proofs.Combination.{combine_scale}
 use Rattle.places_theory.proofs.YRoot.{poly_hom, over_times_den}
 use Rattle.lattice_theory.specs.Lattices.{polynomial_ops}
 use Rattle.reduced_basis_theory.proofs.Degree.{length_zero}
-use Rattle.space_theory.proofs.FunctionModule.{functions_module, cancel}
+use Rattle.space_theory.proofs.FunctionModule.{functions_module, cancel, over_both}
 
 module _ {k : CodeField} (c : Equation k) where
   infixl 65 ◌⊕◌
   infixl 70 ◌⊗◌
   infixr 80 ⊖◌
   open ring_of c use {𝟘, 𝟙, ◌⊕◌, ◌⊗◌, ⊖◌}
-
-  abbrev AtInfinity : List (FunctionOf c) → FunctionOf c → Type 0
-  AtInfinity hs = Span (ring_of c).ops (IsFiniteAtInfinity c) hs
 
   -- coordinates of z whose degrees are at most that of their denominator
   pub record ShortCoordinates (hs : List (FunctionOf c)) (z : FunctionOf c) : Type 0 where
@@ -48,12 +45,6 @@ module _ {k : CodeField} (c : Equation k) where
         length_product_le (code_ring k) (code_domain k) a p,
       )
 
-  more : (B E A s h r : FunctionOf c) → B ⊗ s ≡ A → B ⊗ E ⊗ (s ⊗ h ⊕ r) ≡ A ⊗ E ⊗ h ⊕ B ⊗ (E ⊗ r)
-  more B E A s h r e =
-      from_one (ring_of c) (E ⊗ h) e
-      (ring (ring_of c) (B ∷ E ∷ A ∷ s ∷ h ∷ r ∷ []) λ q i. simp (reads, q, i 0, i 1, i 2, i 3, i 4, i 5)
-      (q.equal _ _ refl))
-
   pub short_coordinates : (hs : List (FunctionOf c)) (z : FunctionOf c)
       → Span (ring_of c).ops (IsFiniteAtInfinity c) hs z → ShortCoordinates hs z
   short_coordinates [] z m = record {
@@ -74,7 +65,7 @@ module _ {k : CodeField} (c : Equation k) where
         short = at_each s.top s.bottom r.denominator s.not_null r.nonzero r.coefficient s.degrees r.short;
         is =
             ap₂ ◌⊗◌ ((poly_hom c).mul s.bottom r.denominator) m.is
-            ∙ more (of_poly c s.bottom) (of_poly c r.denominator) (of_poly c s.top) m.scalar h m.rest
+            ∙ over_both c (of_poly c s.bottom) (of_poly c r.denominator) (of_poly c s.top) m.scalar h m.rest
             (ap (λ w. of_poly c s.bottom ⊗ w) s.value ∙ over_times_den c s.top s.bottom s.not_null)
             ∙ ap₂ ◌⊕◌ (ap (λ w. w ⊗ h) (sym ((poly_hom c).mul s.top r.denominator)))
             (ap (λ w. of_poly c s.bottom ⊗ w) r.is

@@ -1,6 +1,6 @@
 -- What finitely many functions span over the fractions of degree at most 0, and powers of 1/x take each function into,
 -- n functions span.
-use Rattle.std.proofs.Common.{◌≡◌, ◌↔◌, ℕ, List, [], ◌∷◌, length, map, refl, sym, ◌∙◌, ap, ap₂, subst, arith}
+use Rattle.std.proofs.Common.{◌≡◌, ◌↔◌, ℕ, List, length, map, sym, ◌∙◌, ap, ap₂, subst, arith}
 use Rattle.std.proofs.lemmas.List.{length-map}
 use Rattle.ring_lemmas.specs.Ring.{pow}
 use Rattle.ring_theory.specs.Subsets.{Span}
@@ -11,7 +11,7 @@ use Rattle.ff_poly.specs.Polynomials.{Polynomial, polynomials, x_poly, x_poly_no
 use Rattle.function_field.specs.Functions.{Equation, FunctionOf, ring_of, of_poly, setting_of, degree_of_y, IsPolynomial, IsFiniteAtInfinity}
 use Rattle.function_field.specs.Values.{PresValue, Functions, functions, setting, equation_of}
 use Rattle.function_field.proofs.ScalarRings.{bottoms_not_zero}
-use Rattle.places_theory.proofs.Transport.{back, f_back}
+use Rattle.places_theory.proofs.Transport.{back}
 use Rattle.places_theory.proofs.YRoot.{poly_hom}
 use Rattle.trace_theory.proofs.Determinants.{image_power}
 use Rattle.trace_theory.proofs.FunctionPowers.{power_some}
@@ -26,6 +26,7 @@ use Rattle.infinite_theory.proofs.InfiniteOrders.{combination_local}
 use Rattle.infinite_theory.proofs.PushedPlaces.{each}
 use Rattle.infinite_theory.proofs.EachEquation.{each_equation}
 use Rattle.space_theory.proofs.LatticeBases.{lattice_of_span, span_of_lattice, basis_of_lattice}
+use Rattle.infinite_theory.proofs.InfiniteDecisions.{map_lift}
 
 -- n functions with the same span at infinity
 pub record FewGenerators {k : CodeField} (c : Equation k) (gs : List (FunctionOf c)) : Type 0 where
@@ -55,10 +56,6 @@ module _ (k : CodeField) (p q : PresValue) (c : ℕ) (f : Functions k q → Func
   abbrev lift : Functions k p → Functions k q
   lift w = back (functions k q) (functions k p) f g.isomorphism w
 
-  map_lift : (ws : List (Functions k p)) → map f (map lift ws) ≡ ws
-  map_lift [] = refl
-  map_lift (w ∷ ws) = ap₂ (λ x xs. x ∷ xs) (f_back (functions k q) (functions k p) f g.isomorphism w) (map_lift ws)
-
   abbrev AtInfinity : List (Functions k p) → Functions k p → Type 0
   AtInfinity hs = Span (functions k p).ops (IsFiniteAtInfinity (equation_of k p)) hs
 
@@ -68,7 +65,7 @@ module _ (k : CodeField) (p q : PresValue) (c : ℕ) (f : Functions k q → Func
 
   local_in : (z : Functions k q) → IsLocallyIn (equation_of k q) (x_poly k) L z ↔ AtInfinity gs (f z)
   local_in z =
-      subst (λ hs. IsLocallyIn (equation_of k q) (x_poly k) L z ↔ AtInfinity hs (f z)) (map_lift gs)
+      subst (λ hs. IsLocallyIn (equation_of k q) (x_poly k) L z ↔ AtInfinity hs (f z)) (map_lift k p q c f g gs)
       (g.spans (map lift gs) z)
 
   prime_some : (u : Functions k q) (h : IsPrimeTo (equation_of k q) (x_poly k) u) → ¬ (h.polynomial ≡ (polynomials k).𝟘)

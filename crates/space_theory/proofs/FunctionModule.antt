@@ -1,5 +1,5 @@
 -- The functions of a curve as a module over the polynomials, with 1/x as division by the variable.
-use Rattle.std.proofs.Common.{◌≡◌, ℕ, zero, suc, ℤ, pos, negsuc, [], ◌∷◌, sym, ◌∙◌, ap, ap₂}
+use Rattle.std.proofs.Common.{◌≡◌, ℕ, zero, suc, ℤ, pos, negsuc, [], ◌∷◌, sym, ◌∙◌, ap, ap₂, refl}
 use Rattle.ring_lemmas.specs.Ring.{pow}
 use Rattle.ring_lemmas.proofs.Ring.{one_mul}
 use Rattle.ring_lemmas.specs.Polynomials.{pol_of}
@@ -15,6 +15,7 @@ use Rattle.lattice_theory.specs.Lattices.{polynomial_ops}
 use Rattle.order_theory.proofs.LocalOrders.{power_value}
 use Rattle.reduced_basis_theory.specs.Reduced.{variable, divided, PowersOf, HasDivision}
 use Rattle.space_theory.specs.Spaces.{multiples_of}
+use Rattle.ring_lemmas.proofs.Solver.{ring, reads, from_one}
 
 -- the variable, by its codes
 pub variable_is : (k : CodeField) → variable (code_ring k) ≡ x_poly k
@@ -52,6 +53,13 @@ module _ {k : CodeField} (c : Equation k) where
 
   pub cancel : (a b z : FunctionOf c) → a ⊗ b ≡ 𝟙 → a ⊗ (b ⊗ z) ≡ z
   cancel a b z e = sym ((ring_of c).mul_assoc a b z) ∙ ap (λ w. w ⊗ z) e ∙ one_mul (ring_of c) z
+
+  -- a sum with both denominators
+  pub over_both : (B E A s h r : FunctionOf c) → B ⊗ s ≡ A → B ⊗ E ⊗ (s ⊗ h ⊕ r) ≡ A ⊗ E ⊗ h ⊕ B ⊗ (E ⊗ r)
+  over_both B E A s h r e =
+      from_one (ring_of c) (E ⊗ h) e
+      (ring (ring_of c) (B ∷ E ∷ A ∷ s ∷ h ∷ r ∷ []) λ q i. simp (reads, q, i 0, i 1, i 2, i 3, i 4, i 5)
+      (q.equal _ _ refl))
 
   variable_x : of_poly c (variable (code_ring k)) ≡ x
   variable_x = ap (of_poly c) (variable_is k)

@@ -5,7 +5,7 @@ use Rattle.ff_fields.specs.Field.{CodeField}
 use Rattle.ff_fields.specs.Code.{code_ring, code_field}
 use Rattle.function_field.specs.Functions.{Equation, FunctionOf, degree_of_y}
 use Rattle.linear_theory.specs.Basis.{IsSum}
-use Rattle.lattice_theory.specs.Lattices.{HasIndex, space_ops}
+use Rattle.function_field.specs.Indices.{HasIndex, space_ops}
 use Rattle.lattice_theory.proofs.Bases.{index_same}
 use Rattle.reduced_basis_theory.specs.Degree.{genus_sum}
 use Rattle.reduced_basis_theory.proofs.Laws.{genus_dimension}

@@ -21,7 +21,7 @@ use Rattle.reduced_basis_theory.proofs.Converse.{same_coefficients}
 use Rattle.reduced_basis_theory.proofs.Family.{family_reduced}
 use Rattle.reduced_basis_theory.proofs.Division.{quotient, undo_power}
 use Rattle.space_theory.specs.Spaces.{IsLatticeAtInfinity, multiples_of}
-use Rattle.space_theory.proofs.Free.{free_of_spanning}
+use Rattle.reduced_basis_theory.proofs.Free.{free_of_spanning}
 use Rattle.space_theory.proofs.FunctionModule.{functions_module, division, multiples_are, x_times_t, cancel}
 use Rattle.space_theory.proofs.Denominators.{short_coordinates, span_of_short}
 use Rattle.space_theory.proofs.LatticeBases.{lattice_of_span, span_of_lattice}

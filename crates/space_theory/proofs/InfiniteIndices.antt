@@ -18,7 +18,8 @@ use Rattle.ff_poly.specs.Polynomials.{polynomials, polynomials_domain}
 use Rattle.function_field.specs.Functions.{Equation, FunctionOf, ring_of, of_poly, degree_of_y, IsFiniteAtInfinity}
 use Rattle.function_field.proofs.ScalarRings.{finite_at_infinity_subring}
 use Rattle.trace_theory.specs.Traces.{HasPolynomialCoordinates}
-use Rattle.lattice_theory.specs.Lattices.{HasIndex, space_ops, polynomial_ops}
+use Rattle.function_field.specs.Indices.{HasIndex, space_ops}
+use Rattle.lattice_theory.specs.Lattices.{polynomial_ops}
 use Rattle.lattice_theory.proofs.Bases.{index_same}
 use Rattle.lattice_theory.proofs.Indices.{codes, space}
 use Rattle.lattice_theory.proofs.Operations.{polynomial_lattice}

@@ -13,7 +13,8 @@ use Rattle.prime_theory.specs.Ideals.{SameSet}
 use Rattle.linear_theory.specs.Lists.{tabulate}
 use Rattle.linear_theory.specs.Basis.{IsSum}
 use Rattle.trace_theory.specs.Traces.{HasPolynomialCoordinates}
-use Rattle.lattice_theory.specs.Lattices.{IsLattice, HasIndex, space_ops, polynomial_ops}
+use Rattle.function_field.specs.Indices.{HasIndex, space_ops}
+use Rattle.lattice_theory.specs.Lattices.{IsLattice, polynomial_ops}
 use Rattle.lattice_theory.proofs.Bases.{index_same}
 use Rattle.lattice_theory.proofs.Operations.{polynomial_lattice}
 use Rattle.order_theory.proofs.IntegralLattice.{integral_lattice}

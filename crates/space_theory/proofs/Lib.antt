@@ -1,4 +1,3 @@
-pub mod Free
 pub mod FunctionModule
 pub mod Denominators
 pub mod LatticeBases

@@ -1,8 +1,7 @@
 -- Functions that are independent over the polynomials are so over the rational functions.
-use Rattle.std.proofs.Common.{◌≡◌, ℕ, suc, ◌<◌, List, [], ◌∷◌, length, All, refl, sym, ◌∙◌, ap, ap₂, arith}
+use Rattle.std.proofs.Common.{◌≡◌, ℕ, suc, ◌<◌, List, [], ◌∷◌, length, All, sym, ◌∙◌, ap, ap₂, arith}
 use Rattle.std.proofs.lemmas.List.Elements.{All-nil, All-cons, All-head, All-tail}
 use Rattle.ring_lemmas.proofs.Ring.{mul_zero}
-use Rattle.ring_lemmas.proofs.Solver.{ring, reads, from_one}
 use Rattle.ff_fields.specs.Field.{CodeField}
 use Rattle.ff_poly.specs.Polynomials.{Polynomial, polynomials, polynomials_domain}
 use Rattle.function_field.specs.Functions.{Equation, FunctionOf, ring_of, of_poly, row_of, over}
@@ -15,7 +14,7 @@ use Rattle.linear_theory.proofs.Combination.{combine_scale}
 use Rattle.places_theory.proofs.YRoot.{poly_hom, over_times_den}
 use Rattle.trace_theory.specs.Traces.{IsRational}
 use Rattle.lattice_theory.specs.Lattices.{polynomial_ops}
-use Rattle.space_theory.proofs.FunctionModule.{functions_module, cancel}
+use Rattle.space_theory.proofs.FunctionModule.{functions_module, cancel, over_both}
 
 module _ {k : CodeField} (c : Equation k) where
   infixl 65 ◌⊕◌
@@ -38,12 +37,6 @@ module _ {k : CodeField} (c : Equation k) where
     coefficient : ℕ → Polynomial k
     is : of_poly c denominator ⊗ combination (ring_of c).ops rs bs ≡ combine (polynomial_ops c) coefficient bs
     zeros : ((i : ℕ) → i < length bs → coefficient i ≡ (polynomials k).𝟘) → All (λ r. r ≡ 𝟘) rs
-
-  more : (D E A r b s : FunctionOf c) → D ⊗ r ≡ A → D ⊗ E ⊗ (r ⊗ b ⊕ s) ≡ A ⊗ E ⊗ b ⊕ D ⊗ (E ⊗ s)
-  more D E A r b s e =
-      from_one (ring_of c) (E ⊗ b) e
-      (ring (ring_of c) (D ∷ E ∷ A ∷ r ∷ b ∷ s ∷ []) λ q i. simp (reads, q, i 0, i 1, i 2, i 3, i 4, i 5)
-      (q.equal _ _ refl))
 
   null_factor : (e p : Polynomial k) → ¬ (e ≡ (polynomials k).𝟘) → (polynomials k).◌⊗◌ e p ≡ (polynomials k).𝟘 → p
       ≡ (polynomials k).𝟘
@@ -69,7 +62,7 @@ module _ {k : CodeField} (c : Equation k) where
             insert 0 ((polynomials k).◌⊗◌ a.top s.denominator) (λ i. (polynomials k).◌⊗◌ a.bottom (s.coefficient i));
         is =
             ap (λ w. w ⊗ (r ⊗ b ⊕ combination (ring_of c).ops rs bs)) ((poly_hom c).mul a.bottom s.denominator)
-            ∙ more (of_poly c a.bottom) (of_poly c s.denominator) (of_poly c a.top) r b _
+            ∙ over_both c (of_poly c a.bottom) (of_poly c s.denominator) (of_poly c a.top) r b _
             (ap (λ w. of_poly c a.bottom ⊗ w) a.value ∙ over_times_den c a.top a.bottom a.not_null)
             ∙ ap₂ ◌⊕◌ (ap (λ w. w ⊗ b) (sym ((poly_hom c).mul a.top s.denominator)))
             (ap (λ w. of_poly c a.bottom ⊗ w) s.is

@@ -16,7 +16,7 @@ use Rattle.trace_theory.specs.Traces.{IsRational}
 use Rattle.trace_theory.proofs.FunctionTraces.{R, as_row, over_same, polynomial_value}
 use Rattle.reduced_basis_theory.specs.Dual.{AreFractions}
 use Rattle.space_theory.proofs.FunctionModule.{polynomial_hom, cancel}
-use Rattle.space_theory.proofs.PartRing.{Part, same_part, part_ring}
+use Rattle.space_theory.proofs.PartRing.{same_part, part_ring}
 
 -- a row that is 0 up to factors other than 0 is 0
 row_null : (k : CodeField) (n : ℕ) (d : Polynomial k) (v : Row (Polynomial k) n) → ¬ (d ≡ (polynomials k).𝟘)
@@ -60,7 +60,7 @@ module _ {k : CodeField} (c : Equation k) where
           (ap (λ t. t.1) (over_same c (a, v) (row_of c h.top) d h.bottom n h.not_null e)
           ∙ row_scale_zero (polynomials k).ring c.lower_degree d))
 
-  polynomial_rational : (a : Polynomial k) → IsRational c (of_poly c a)
+  pub polynomial_rational : (a : Polynomial k) → IsRational c (of_poly c a)
   polynomial_rational a =
       record { top = a; bottom = (polynomials k).𝟙; not_null = (polynomials_domain k).one_not_zero; value = refl }
 
@@ -98,10 +98,6 @@ module _ {k : CodeField} (c : Equation k) where
           value = ap₂ ◌⊗◌ h.value g.value ∙ over_times c h.top g.top h.bottom g.bottom h.not_null g.not_null;
         });
   }
-
-  -- k(x)
-  abbrev pub RationalPart : Type 0
-  RationalPart = Part (ring_of c) IsFirst first_subring first_prop
 
   abbrev pub rational_ring : CommRing ((a : FunctionOf c) × ((as_row c a).num ≡ row_of c (as_row c a).num.0))
   rational_ring = part_ring (ring_of c) IsFirst first_subring first_prop

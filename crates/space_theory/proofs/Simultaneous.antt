@@ -11,7 +11,7 @@ use Rattle.ring_lemmas.proofs.Solver.{ring, reads, from_one}
 use Rattle.ring_theory.proofs.Subsets.{span_least}
 use Rattle.ff_fields.specs.Field.{CodeField}
 use Rattle.ff_fields.specs.Code.{code_ring, code_field, code_domain}
-use Rattle.ff_poly.specs.Polynomials.{Polynomial, polynomials, polynomials_domain, x_poly, x_poly_not_zero}
+use Rattle.ff_poly.specs.Polynomials.{Polynomial, polynomials, x_poly, x_poly_not_zero}
 use Rattle.function_field.specs.declared.side.Side.TheVariants.{Finite, Infinite}
 use Rattle.function_field.specs.Functions.{Equation, FunctionOf, ring_of, of_poly, row_of, over, setting_of, degree_of_y, IsPolynomial, IsFiniteAtInfinity}
 use Rattle.function_field.specs.Spans.{combination, IsIndependent}
@@ -38,15 +38,13 @@ use Rattle.space_theory.proofs.InfiniteBases.{x_to_t}
 use Rattle.space_theory.proofs.InfiniteIndices.{infinite_module, level_zero}
 use Rattle.space_theory.proofs.ScalarLists.{independent_lists, span_once}
 use Rattle.space_theory.proofs.RationalLists.{rational_independent}
+use Rattle.space_theory.proofs.RationalPart.{polynomial_rational}
 
 module _ {k : CodeField} (c : Equation k) where
   infixl 65 ◌⊕◌
   infixl 70 ◌⊗◌
   infixr 80 ⊖◌
   open ring_of c use {𝟘, 𝟙, ◌⊕◌, ◌⊗◌, ⊖◌}
-
-  abbrev power : ℤ → FunctionOf c
-  power m = x_to (setting_of c) m
 
   -- a/b is what b takes to a
   pub fraction_by : (a b : Polynomial k) (n : ¬ (b ≡ (polynomials k).𝟘)) (z : FunctionOf c) → of_poly c b ⊗ z
@@ -133,16 +131,12 @@ module _ {k : CodeField} (c : Equation k) where
     value = ap₂ ◌⊗◌ h.value g.value ∙ over_times c h.top g.top h.bottom g.bottom h.not_null g.not_null;
   }
 
-  polynomial_rational : (a : Polynomial k) → IsRational c (of_poly c a)
-  polynomial_rational a =
-      record { top = a; bottom = (polynomials k).𝟙; not_null = (polynomials_domain k).one_not_zero; value = refl }
-
   power_rational : (z : FunctionOf c) → IsRational c z → (j : ℕ) → IsRational c (pow (ring_of c).ops z j)
-  power_rational z h zero = subst (IsRational c) (sym (of_poly_one c)) (polynomial_rational (polynomials k).𝟙)
+  power_rational z h zero = subst (IsRational c) (sym (of_poly_one c)) (polynomial_rational c (polynomials k).𝟙)
   power_rational z h (suc j) = rational_product z _ h (power_rational z h j)
 
   pub x_to_rational : (m : ℤ) → IsRational c (x_to (setting_of c) m)
-  x_to_rational (pos j) = power_rational (setting_of c).x (polynomial_rational (x_poly k)) j
+  x_to_rational (pos j) = power_rational (setting_of c).x (polynomial_rational c (x_poly k)) j
   x_to_rational (negsuc j) =
       power_rational (setting_of c).one_over_x
       (record { top = (polynomials k).𝟙; bottom = x_poly k; not_null = x_poly_not_zero k; value = refl }) (suc j)

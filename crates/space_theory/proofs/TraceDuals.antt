@@ -18,7 +18,8 @@ use Rattle.function_field.specs.Places.{IsIntegralAt}
 use Rattle.function_field.proofs.OnSide.{den_inverse}
 use Rattle.linear_theory.specs.Basis.{IsNull}
 use Rattle.trace_theory.proofs.FunctionTraces.{trace_times}
-use Rattle.lattice_theory.specs.Lattices.{HasIndex, space_ops, polynomial_ops}
+use Rattle.function_field.specs.Indices.{HasIndex, space_ops}
+use Rattle.lattice_theory.specs.Lattices.{polynomial_ops}
 use Rattle.lattice_theory.proofs.Bases.{index_same}
 use Rattle.reduced_basis_theory.specs.Degree.{DegreeAtMost, degree, degree_sum, dimension_sum}
 use Rattle.reduced_basis_theory.specs.Reduced.{Section}

@@ -1,8 +1,8 @@
 -- The trace of a product as a form with values in the rational functions: it tells functions apart where the
 -- discriminant isn't 0.
-use Rattle.std.proofs.Common.{◌≡◌, [], ◌∷◌, refl, sym, ◌∙◌, ap}
+use Rattle.std.proofs.Common.{◌≡◌, [], ◌∷◌, refl, ◌∙◌, ap}
 use Rattle.ring_lemmas.specs.Ring.{pow}
-use Rattle.ring_lemmas.proofs.Ring.{add_mul, zero_add, add_cancel, eq_of_sub}
+use Rattle.ring_lemmas.proofs.Ring.{add_mul, eq_of_sub}
 use Rattle.ring_lemmas.proofs.Solver.{ring, reads}
 use Rattle.ff_fields.specs.Field.{CodeField}
 use Rattle.ff_fields.specs.Code.{code_ring}
@@ -14,6 +14,7 @@ use Rattle.trace_theory.proofs.Degenerate.{zero_by_traces}
 use Rattle.lattice_theory.specs.Lattices.{polynomial_ops}
 use Rattle.reduced_basis_theory.specs.Canonical.{IsTraceForm}
 use Rattle.space_theory.proofs.RationalPart.{rational_ring, rational_first, same_rational, polynomial_part, rational_fractions}
+use Rattle.trace_theory.proofs.DualBasis.{trace_minus}
 
 module _ {k : CodeField} (c : Equation k) where
   infixl 65 ◌⊕◌
@@ -26,14 +27,6 @@ module _ {k : CodeField} (c : Equation k) where
     trace_of c ((ring_of c).◌⊗◌ u v),
     rational_first c (trace_of c ((ring_of c).◌⊗◌ u v)) (trace_rational c ((ring_of c).◌⊗◌ u v)),
   )
-
-  trace_minus : (z w : FunctionOf c) → trace_of c z ≡ trace_of c w → trace_of c (z ⊕ ⊖ w) ≡ 𝟘
-  trace_minus z w e =
-      add_cancel (ring_of c) (trace_of c (z ⊕ ⊖ w)) 𝟘 (trace_of c w)
-      (sym (trace_plus c (z ⊕ ⊖ w) w) ∙ ap (trace_of c) (back z w) ∙ e ∙ sym (zero_add (ring_of c) (trace_of c w)))
-    where
-      back : (z w : FunctionOf c) → (ring_of c).◌⊕◌ ((ring_of c).◌⊕◌ z ((ring_of c).⊖◌ w)) w ≡ z
-      back z w = ring (ring_of c) (z ∷ w ∷ []) λ q h. simp (reads, q, h 0, h 1) (q.equal _ _ refl)
 
   difference : (z w u : FunctionOf c) → (z ⊕ ⊖ w) ⊗ u ≡ z ⊗ u ⊕ ⊖ (w ⊗ u)
   difference z w u = ring (ring_of c) (z ∷ w ∷ u ∷ []) λ q h. simp (reads, q, h 0, h 1, h 2) (q.equal _ _ refl)
@@ -59,7 +52,7 @@ module _ {k : CodeField} (c : Equation k) where
           eq_of_sub (ring_of c) y z
           (zero_by_traces c (y ⊕ ⊖ z) some (λ i l.
           ap (trace_of c) (difference y z (pow (ring_of c).ops (y_of c) i))
-          ∙ trace_minus _ _ (ap (λ a. a.0) (h (pow (ring_of c).ops (y_of c) i)))));
+          ∙ trace_minus c _ _ (ap (λ a. a.0) (h (pow (ring_of c).ops (y_of c) i)))));
     };
     move = λ x y z. same_rational c _ _ (ap (trace_of c) ((ring_of c).mul_assoc x y z));
   }

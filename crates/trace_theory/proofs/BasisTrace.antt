@@ -60,14 +60,6 @@ module _ {k : CodeField} (c : Equation k) where
       (λ z w h. function_eq c (row_coordinate l z) (row_coordinate l w) (coordinate_same l z w h))
       (record { num = v; den = d; den_not_zero = n })
 
-  coordinate_rational : (l : ℕ) (z : FunctionOf c) → IsRational c (coordinate l z)
-  coordinate_rational l z = let r = as_row c z in record {
-    top = entry (K c).ops (suc c.lower_degree) l r.num;
-    bottom = r.den;
-    not_null = r.not_zero;
-    value = ap (coordinate l) r.is ∙ coordinate_over l r.num r.den r.not_zero;
-  }
-
   coordinate_plus : (l : ℕ) (z w : FunctionOf c) → coordinate l (z ⊕ w) ≡ coordinate l z ⊕ coordinate l w
   coordinate_plus l z w =
       let r = as_row c z in

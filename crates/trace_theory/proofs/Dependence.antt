@@ -1,5 +1,5 @@
 -- Over a domain a square matrix whose determinant is 0 has a relation between its rows.
-use Rattle.std.proofs.Common.{◌≡◌, ℕ, zero, suc, ◌<◌, ◌⊎◌, inl, inr, ◌∷◌, length, refl, sym, ◌∙◌, ap, subst, arith}
+use Rattle.std.proofs.Common.{◌≡◌, ℕ, zero, suc, ◌<◌, ◌⊎◌, inl, inr, ◌∷◌, refl, sym, ◌∙◌, ap, subst, arith}
 use native.Mathlib.Decide.{ℕ_discrete}
 use Rattle.ring_lemmas.specs.Ring.{CommRing}
 use Rattle.ring_lemmas.specs.Sums.{sum_below, matrix_product}
@@ -10,18 +10,14 @@ use Rattle.ring_theory.proofs.Determinant.{determinant_product}
 use Rattle.linear_theory.specs.Fields.{Domain}
 use Rattle.linear_theory.specs.Module.{combine, sequence_ops}
 use Rattle.linear_theory.specs.Basis.{Relation, IsIndependent}
-use Rattle.linear_theory.proofs.Standard.{Vanishes}
+use Rattle.linear_theory.proofs.Independence.{Vanishes, independent_or_relation}
 use Rattle.linear_theory.proofs.Relation.{relation}
 use Rattle.linear_theory.specs.Lists.{tabulate}
-use Rattle.linear_theory.proofs.Independence.{independent_or_relation}
+use Rattle.linear_theory.proofs.Elimination.{length_tabulate}
 use Rattle.ring_theory.proofs.Cramer.{cramer}
 use Rattle.trace_theory.proofs.RowForm.{with_row_cong}
 use Rattle.trace_theory.proofs.TraceForm.{Choice, choose}
 use Rattle.trace_theory.proofs.Determinants.{diagonal, product_below, diagonal_determinant, diagonal_here, diagonal_other, determinant_cong, zero_row}
-
-pub length_listed : {X : Type 0} (n : ℕ) (f : ℕ → X) → length (tabulate n f) ≡ n
-length_listed zero f = refl
-length_listed (suc n) f = ap suc (length_listed n (λ i. f (suc i)))
 
 module _ {A : Type 0} (R : CommRing A) where
   infixl 70 ◌⊗◌
@@ -55,7 +51,7 @@ module _ {A : Type 0} (D : Domain A) where
   of_relation n m r = record {
     coefficient = r.coefficient;
     position = r.position;
-    position_below = subst (λ l. r.position < l) (length_listed n m) r.position_below;
+    position_below = subst (λ l. r.position < l) (length_tabulate n m) r.position_below;
     nonzero = r.nonzero;
     is = λ j l. sym (combine_listed R n r.coefficient m j) ∙ r.is j l;
   }
@@ -70,14 +66,14 @@ module _ {A : Type 0} (D : Domain A) where
       → (j : ℕ) → j < n → (w : ℕ → A) × UnitMultiple n m j w
   unit_multiple n m free j l =
       let rows = diagonal R.ops (λ i. 𝟙) j ∷ tabulate n m in
-      let r = relation D n rows (let q = length_listed n m in omega arith) in
+      let r = relation D n rows (let q = length_tabulate n m in omega arith) in
       let w : ℕ → A = λ i. ⊖ r.coefficient (suc i) in (
         w,
         record {
           factor = r.coefficient 0;
           factor_nonzero = λ e. r.nonzero
               (all_zero r.coefficient (λ l b. r.is l b) e r.position
-              (let b = r.position_below in let q = length_listed n m in omega arith));
+              (let b = r.position_below in let q = length_tabulate n m in omega arith));
           is = λ l b. turned r.coefficient l (r.is l b);
         },
       )
@@ -102,7 +98,7 @@ module _ {A : Type 0} (D : Domain A) where
           (λ l k.
           sym (zero_add R _ ∙ refl) ∙ ap (λ x. x ⊕ combine (sequence_ops R.ops) (λ i. c (suc i)) (tabulate n m) l)
           (sym (ap (λ x. x ⊗ diagonal R.ops (λ i. 𝟙) j l) e ∙ zero_mul R _)) ∙ h l k)
-          i (let q = length_listed n m in omega arith)
+          i (let q = length_tabulate n m in omega arith)
 
   product_nonzero : (n : ℕ) (f : ℕ → A) → ((i : ℕ) → i < n → ¬ (f i ≡ 𝟘)) → ¬ (product_below R.ops n f ≡ 𝟘)
   product_nonzero zero f h = D.one_not_zero

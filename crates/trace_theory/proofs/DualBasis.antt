@@ -77,7 +77,7 @@ module _ {k : CodeField} (c : Equation k) where
       (λ j q ne. ap (λ z. a j ⊗ z) (unit_other j l (λ e. ne (sym e))) ∙ mul_zero F (a j))
       ∙ ap (λ z. a l ⊗ z) (unit_here l) ∙ F.mul_one (a l)
 
-  trace_minus : (z w : FunctionOf c) → trace_of c z ≡ trace_of c w → trace_of c (z ⊕ ⊖ w) ≡ 𝟘
+  pub trace_minus : (z w : FunctionOf c) → trace_of c z ≡ trace_of c w → trace_of c (z ⊕ ⊖ w) ≡ 𝟘
   trace_minus z w e =
       add_cancel F (trace_of c (z ⊕ ⊖ w)) 𝟘 (trace_of c w)
       (sym (trace_plus c (z ⊕ ⊖ w) w) ∙ ap (trace_of c) (back z w) ∙ e ∙ sym (zero_add F (trace_of c w)))

@@ -5,15 +5,13 @@ use Rattle.std.proofs.lemmas.List.{length-map, length-reverse}
 use Rattle.ring_lemmas.specs.Ring.{CommRing, pow}
 use Rattle.ring_lemmas.specs.Rows.{entry}
 use Rattle.ring_lemmas.proofs.Ring.{pow_mul, mul_pow, pow_one_base, eq_of_sub, sub_of_eq, mul_zero, pow_add}
-use Rattle.ring_theory.proofs.Evaluate.{length_trim}
 use mathlib.Core.List.{reverse-reverse}
 use Rattle.ring_theory.proofs.RowMaps.{hom_neg}
 use Rattle.trace_theory.proofs.Determinants.{image_power}
 use Rattle.ring_lemmas.proofs.Solver.{ring, reads, from_three, from_one}
 use Rattle.ring_theory.proofs.Polynomials.{length_product, length_product_le}
 use Rattle.ff_fields.specs.Field.{CodeField}
-use Rattle.ff_fields.specs.Code.{code_ring, code_domain, read_code}
-use Rattle.ff_fields.specs.Numbers.{read}
+use Rattle.ff_fields.specs.Code.{code_ring, code_domain}
 use Rattle.ff_poly.specs.Value.{value}
 use Rattle.ff_poly.specs.Polynomials.{Polynomial, polynomials, polynomials_domain, polynomial_discrete, codes_of, value_nil, x_poly, value_one, value_codes_of}
 use Rattle.function_field.specs.declared.side.Side.TheVariants.{Finite, Infinite}
@@ -29,6 +27,7 @@ use Rattle.trace_theory.proofs.RowMatrix.{tr, y}
 use Rattle.trace_theory.proofs.RowForm.{disc}
 use Rattle.trace_theory.proofs.FunctionTraces.{polynomial_value}
 use Rattle.trace_theory.proofs.Weights.{trace_weights, discriminant_weights}
+use Rattle.polynomial_theory.proofs.ListValues.{value_short}
 
 module _ (k : CodeField) where
   entry_listed : (n i : ℕ) (vs : List (List ℕ)) → i < n
@@ -39,10 +38,6 @@ module _ (k : CodeField) where
   entry_listed (suc n) zero (v ∷ vs) less = refl
   entry_listed (suc n) (suc i) [] less = entry_listed n i [] (omega arith) ∙ refl
   entry_listed (suc n) (suc i) (v ∷ vs) less = entry_listed n i vs (omega arith)
-
-  value_short : (w : List ℕ) → length (value k w).0 ≤ length w
-  value_short w = let l = length_trim (code_ring k).is_zero (read k w) in let e = length-map w (read_code k) in omega
-      arith
 
   -- x^m has m + 1 coefficients at most
   x_power_short : (m : ℕ) → length (pow (polynomials k).ops (x_poly k) m).0 ≤ suc m
@@ -59,7 +54,7 @@ module _ (k : CodeField) where
       omega (
         arith,
         x_power_short m,
-        value_short (0 ∷ 1 ∷ []),
+        value_short k (0 ∷ 1 ∷ []),
         length_product_le (code_ring k) (code_domain k)
             (x_poly k) (pow (polynomials k).ops (x_poly k) m),
       )
@@ -68,8 +63,8 @@ module _ (k : CodeField) where
   turned_short p a =
       omega (
         arith,
-        value_short (0 ∷ 1 ∷ []),
-        value_short (reverse (codes_of k a)),
+        value_short k (0 ∷ 1 ∷ []),
+        value_short k (reverse (codes_of k a)),
         length-reverse (codes_of k a),
         length_product_le (code_ring k) (code_domain k) (x_poly k) (value k (reverse (codes_of k a))),
       )

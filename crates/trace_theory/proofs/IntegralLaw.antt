@@ -1,6 +1,5 @@
 -- A rational function t with a multiple d·t^m in the polynomials, or in the fractions of degree at most 0, for one d
--- and for exponents
--- m as large as wanted, is such a function itself; so traces of integral functions are.
+-- and for exponents m as large as wanted, is such a function itself; so traces of integral functions are.
 use Rattle.std.proofs.Common.{◌≡◌, ℕ, zero, suc, ◌<◌, ◌≤◌, ◌⊎◌, inl, inr, [], ◌∷◌, length, refl, sym, ◌∙◌, ap, ap₂, subst, arith}
 use Rattle.ring_lemmas.specs.Ring.{CommRing, pow}
 use Rattle.ring_lemmas.specs.Rows.{Row, row_zero, entry}
@@ -36,6 +35,7 @@ use Rattle.trace_theory.proofs.Reduced.{one_not_zero}
 use Rattle.polynomial_theory.proofs.Division.{divide}
 use Rattle.trace_theory.proofs.IntegralTraces.{PowersCleared, powers_cleared}
 use Rattle.trace_theory.proofs.IntegralFunctions.{power_gap, fraction_eq, fraction_same, fraction_power, scalar_rational, rational_cleared}
+use Rattle.std.proofs.lemmas.Bool.{cases_lt}
 
 module _ {P E : Type 0} (S : CommRing P) (F : CommRing E) (φ : P → E) (hom : IsHom S F φ) (η : E) where
   -- a row at η as a sum
@@ -198,13 +198,10 @@ module _ {k : CodeField} (c : Equation k) where
     top = h.top;
     bottom = h.bottom;
     not_null = h.not_null;
-    degrees = go (longer_or_not (length h.bottom.0) (length h.top.0));
+    degrees = go (cases_lt (length h.bottom.0) (length h.top.0));
     value = h.value;
   }
     where
-      longer_or_not : (m n : ℕ) → (m < n) ⊎ (n ≤ m)
-      longer_or_not m n = grind arith
-
       go : (length h.bottom.0 < length h.top.0) ⊎ (length h.top.0 ≤ length h.bottom.0)
           → length h.top.0 ≤ length h.bottom.0
       go (inr l) = l

@@ -1,8 +1,7 @@
 -- The trace of a function that is integral over the polynomials, or over the fractions of degree at most 0, is one of
 -- these.
 -- The traces of all powers of such a function have a common denominator, and that of an m-th power is the m-th power of
--- the trace for
--- exponents m as large as wanted.
+-- the trace for exponents m as large as wanted.
 use Rattle.std.proofs.Common.{eq-or-lt_of_le, le_of_suc-le-suc, ◌≡◌, ℕ, zero, suc, ◌<◌, ◌⊎◌, inl, inr, [], ◌∷◌, refl, sym, ◌∙◌, ap, subst, arith}
 use Rattle.ring_lemmas.specs.Ring.{CommRing, pow}
 use Rattle.ring_theory.specs.Subsets.{IsSubring}

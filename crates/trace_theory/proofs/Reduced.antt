@@ -11,6 +11,7 @@ use Rattle.ring_lemmas.proofs.Rows.{row_scale_one}
 use Rattle.linear_theory.specs.Basis.{Relation}
 use Rattle.linear_theory.proofs.Relation.{relation}
 use Rattle.linear_theory.specs.Lists.{tabulate}
+use Rattle.linear_theory.proofs.Elimination.{length_tabulate}
 use Rattle.linear_theory.proofs.Domain.{first_nonzero}
 use Rattle.ff_fields.specs.Field.{CodeField}
 use Rattle.ff_poly.specs.Polynomials.{Polynomial, polynomials}
@@ -22,7 +23,7 @@ use Rattle.function_field.proofs.ScalarRings.{of_poly_one}
 use Rattle.trace_theory.proofs.RowMatrix.{entry_add, at_scale, entry_zero, row_by_entries}
 use Rattle.trace_theory.proofs.FunctionTraces.{K, R, one_some, over_eq, as_row, trace_plus, trace_rational, row_of_times, over_product, polynomial_value}
 use Rattle.trace_theory.proofs.FunctionPowers.{exponent_of, rational_reduced, power_over}
-use Rattle.trace_theory.proofs.Dependence.{length_listed, combine_listed}
+use Rattle.trace_theory.proofs.Dependence.{combine_listed}
 use Rattle.trace_theory.proofs.Degenerate.{domain, zero_over, zero_by_traces}
 
 module _ {A : Type 0} (S : CommRing A) where
@@ -174,7 +175,7 @@ module _ {k : CodeField} (c : Equation k) where
   power_repeats : (v : Row (Polynomial k) (suc c.lower_degree)) → PowerRepeats (over c v (K c).𝟙 (one_some c))
   power_repeats v =
       go
-      (relation (domain c) N powers (let q = length_listed (suc N) entries in omega arith))
+      (relation (domain c) N powers (let q = length_tabulate (suc N) entries in omega arith))
     where
       N : ℕ
       N = suc c.lower_degree
@@ -220,7 +221,7 @@ module _ {k : CodeField} (c : Equation k) where
               → PowerRepeats (over c v (K c).𝟙 (one_some c))
           at_first (inr none) =
               absurd (r.nonzero (none r.position
-              (subst (λ n. r.position < n) (length_listed (suc (suc c.lower_degree))
+              (subst (λ n. r.position < n) (length_tabulate (suc (suc c.lower_degree))
               (λ j l. entry (K c).ops (suc c.lower_degree) l (pow (R c).ops v j))) r.position_below)))
           at_first (inl (i, l, some, before)) =
               let V = over c v (K c).𝟙 (one_some c) in

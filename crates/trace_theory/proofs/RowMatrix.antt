@@ -92,9 +92,6 @@ module _ {P : Type 0} (S : CommRing P) (n : ℕ) (f : Row P (suc n)) where
   infixl 70 ◌⊗◌
   open S use {𝟘, 𝟙, ◌⊕◌, ◌⊗◌}
 
-  abbrev pub N : ℕ
-  N = suc n
-
   abbrev pub rows : CommRing (Row P (suc n))
   rows = row_ring S n f
 

@@ -1,12 +1,11 @@
 -- Where an irreducible p takes a function to polynomial coordinates that the function doesn't have, while its traces
--- are polynomials, the
--- square of p divides the discriminant.
-use Rattle.std.proofs.Common.{◌≡◌, ℕ, suc, ◌<◌, ◌⊎◌, inl, inr, [], ◌∷◌, refl, sym, ◌∙◌, ap, ap₂, subst, zero}
+-- are polynomials, the square of p divides the discriminant.
+use Rattle.std.proofs.Common.{◌≡◌, ℕ, suc, ◌<◌, ◌⊎◌, inl, inr, refl, sym, ◌∙◌, ap, ap₂, subst, zero}
 use Rattle.ring_lemmas.specs.Ring.{pow}
 use Rattle.ring_lemmas.specs.Rows.{Row}
 use Rattle.ring_lemmas.proofs.Ring.{mul_left_comm, domain_cancel, product_not_zero, one_mul}
 use Rattle.ring_lemmas.proofs.Rows.{row_scale_one}
-use Rattle.ring_lemmas.proofs.Solver.{ring, reads, from_two}
+use Rattle.ring_lemmas.proofs.Solver.{ring}
 use Rattle.linear_theory.specs.Euclidean.{IsDivisorIn}
 use Rattle.linear_theory.proofs.Domain.{least}
 use Rattle.ff_fields.specs.Field.{CodeField}
@@ -29,6 +28,7 @@ use Rattle.trace_theory.proofs.FunctionTraces.{K, R, Y, Tr, one_some, over_produ
 use Rattle.trace_theory.proofs.Reduced.{den_clears}
 use Rattle.trace_theory.proofs.IntegralLaw.{integral_trace, integral_traces, integral_times}
 use Rattle.polynomial_theory.proofs.Irreducible.{decide_divides, prime, irreducible_some}
+use Rattle.places_theory.proofs.YRoot.{cancel_invertible}
 
 module _ {k : CodeField} (c : Equation k) (p : Polynomial k) (h : IsIrreducibleList k.ops (codes_of k p)) where
   infixl 70 ◌⊗◌
@@ -68,14 +68,9 @@ module _ {k : CodeField} (c : Equation k) (p : Polynomial k) (h : IsIrreducibleL
   -- the function w/p
   over_p : (z : FunctionOf c) (w : Row (Polynomial k) (suc c.lower_degree))
       → of_poly c p ⊗ z ≡ over c w (K c).𝟙 (one_some c) → z ≡ over c w p p_some
-  over_p z w e = same (of_poly c p) (over c (row_of c (K c).𝟙) p p_some) z (over c w p p_some) (den_inverse c p p_some)
-      (e ∙ sym (den_clears c w p p_some))
-    where
-      same : (d i z w : FunctionOf c) → (ring_of c).◌⊗◌ d i ≡ (ring_of c).𝟙 → (ring_of c).◌⊗◌ d z ≡ (ring_of c).◌⊗◌ d w
-          → z ≡ w
-      same d i z w f g =
-          from_two (ring_of c) ((ring_of c).◌⊕◌ w ((ring_of c).⊖◌ z)) i f g
-          (ring (ring_of c) (d ∷ i ∷ z ∷ w ∷ []) λ q h. simp (reads, q, h 0, h 1, h 2, h 3) (q.equal _ _ refl))
+  over_p z w e =
+      cancel_invertible (ring_of c) (of_poly c p) (over c (row_of c (K c).𝟙) p p_some) z (over c w p p_some)
+      (den_inverse c p p_some) (e ∙ sym (den_clears c w p p_some))
 
   -- where p divides each entry, w/p has polynomial coordinates
   all_divided : (w : Row (Polynomial k) (suc c.lower_degree))

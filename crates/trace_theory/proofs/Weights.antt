@@ -1,6 +1,5 @@
 -- Two presentations with coefficients g_j and f_j where the image of g_j is that of f_j times T^(n-j): the powers of y,
--- their traces and the
--- discriminants differ by powers of T.
+-- their traces and the discriminants differ by powers of T.
 use Rattle.std.proofs.Common.{◌≡◌, ℕ, zero, suc, ◌<◌, ◌+◌, ◌-◌, ◌*◌, [], ◌∷◌, refl, sym, ◌∙◌, ap, ap₂, arith, mul-suc, suc-mul, mul-zero}
 use Rattle.ring_lemmas.specs.Ring.{CommRing, pow}
 use Rattle.ring_lemmas.specs.Rows.{Row, shift, top, times_y, entry, y_to}

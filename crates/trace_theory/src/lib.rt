@@ -1,8 +1,7 @@
 //! Traces and discriminants in a function field F = k(x)[y]/(f), and the functions that are integral over the
-//! polynomials or over the
-//! fractions of degree at most 0. The field k is finite. Nothing is asked of f: F need not be a field. Each main
-//! theorem is the contract of a function with an
-//! empty body; the crates above cite the lemmas of proofs/.
+//! polynomials or over the fractions of degree at most 0. The field k is finite. Nothing is asked of f: F need not be a
+//! field. Each main theorem is the contract of a function with an empty body; the crates above cite the lemmas of
+//! proofs/.
 #![tactic(auto)]
 
 ghost use Rattle.std.specs.Prelude.{◌≡◌, ◌≢◌, ℕ, ◌+◌, ◌-◌, ◌*◌, ◌≤◌, ◌<◌, ◌↔◌, ◌⊎◌, [], length, reverse, List, All};
@@ -46,8 +45,7 @@ pub fn trace_law()
 {}
 
 /// Where the products of a function with 1, y, up to y^(n-1) have polynomials as traces, the discriminant times the
-/// function has
-/// polynomials as coordinates (Cramer's rule).
+/// function has polynomials as coordinates (Cramer's rule).
 pub fn trace_form_law()
     ensures { (k : CodeField) (c : Equation k) (z : FunctionOf c)
         → ((i : ℕ) → i < degree_of_y c → IsPolynomial c
@@ -71,8 +69,7 @@ pub fn dual_basis_law()
 {}
 
 /// The trace is that of the matrix of multiplication by z in any basis w of F over k(x): where z·w_i is the sum of
-/// m_ij·w_j, it is the sum
-/// of the m_ii.
+/// m_ij·w_j, it is the sum of the m_ii.
 pub fn basis_trace_law()
     ensures { (k : CodeField) (c : Equation k) (w : ℕ → FunctionOf c) (b b' : ℕ → ℕ → FunctionOf c)
         → ((i j : ℕ) → i < degree_of_y c → j < degree_of_y c → IsRational c (b i j))
@@ -91,8 +88,7 @@ pub fn basis_trace_law()
 {}
 
 /// The discriminant of another basis: where w_i is the sum of b_ij·y^j with b_ij in k(x), the determinant of the traces
-/// of w_i·w_j is the
-/// square of the determinant of the b_ij times the discriminant.
+/// of w_i·w_j is the square of the determinant of the b_ij times the discriminant.
 pub fn basis_discriminant_law()
     ensures { (k : CodeField) (c : Equation k) (w : ℕ → FunctionOf c) (b : ℕ → ℕ → FunctionOf c)
         → ((i j : ℕ) → i < degree_of_y c → j < degree_of_y c → IsRational c (b i j))
@@ -105,9 +101,8 @@ pub fn basis_discriminant_law()
 {}
 
 /// The discriminant of the infinite presentation, read at t = 1/x, is that of the finite one times t^(c·n·(n-1)). So
-/// that one has a degree
-/// of at most c·n·(n-1), and this one has its codes in reverse, times the power of the variable by which the degree is
-/// short of that.
+/// that one has a degree of at most c·n·(n-1), and this one has its codes in reverse, times the power of the variable
+/// by which the degree is short of that.
 pub fn infinite_discriminant_law()
     ensures discriminant { (k : CodeField) (p q : PresValue) (c : ℕ) → 1 ≤ p.n → IsInfinitePresentation k p c q
         → value_at k p (variable k p Infinite) (codes_of k (discriminant (equation_of k q)))
@@ -123,8 +118,7 @@ pub fn infinite_discriminant_law()
 {}
 
 /// The trace of a function is the same in both presentations: what elements of the infinite one stand for is an
-/// isomorphism that takes
-/// traces to traces.
+/// isomorphism that takes traces to traces.
 pub fn infinite_trace_law()
     ensures { (k : CodeField) (p q : PresValue) (c : ℕ) → 1 ≤ p.n → IsInfinitePresentation k p c q
         → (f : Functions k q → Functions k p) × IsIsomorphism (functions k q) (functions k p) f
@@ -134,9 +128,8 @@ pub fn infinite_trace_law()
 {}
 
 /// The trace of a function that is integral over the polynomials is a polynomial, and of one that is integral over the
-/// fractions of degree
-/// at most 0 such a fraction. So the discriminant times a function that is integral over the polynomials has
-/// polynomials as coordinates.
+/// fractions of degree at most 0 such a fraction. So the discriminant times a function that is integral over the
+/// polynomials has polynomials as coordinates.
 pub fn integral_trace_law()
     ensures trace { (k : CodeField) (c : Equation k) (s : Side) (z : FunctionOf c) → IsIntegralAt (setting_of c) s z
         → IsScalar c s (trace_of c z) }
@@ -145,10 +138,8 @@ pub fn integral_trace_law()
 {}
 
 /// Where an irreducible p takes a function z to polynomial coordinates that z doesn't have, while the traces of z·y^i
-/// and of z² are
-/// polynomials, the square of p divides the discriminant. So where it doesn't, k[x][y] is maximal at p: it has each
-/// integral function that
-/// a power of p takes into it.
+/// and of z² are polynomials, the square of p divides the discriminant. So where it doesn't, k[x][y] is maximal at p:
+/// it has each integral function that a power of p takes into it.
 pub fn square_law()
     ensures square { (k : CodeField) (c : Equation k) (p : Polynomial k) (z : FunctionOf c)
         → IsIrreducibleList k.ops (codes_of k p)
@@ -163,9 +154,8 @@ pub fn square_law()
 {}
 
 /// A ring that has k[x][y] has each function that is integral over the polynomials, where it is maximal at the
-/// irreducible polynomials whose
-/// squares divide the discriminant. The factors of the discriminant are given as a list of irreducible polynomials
-/// whose product it divides.
+/// irreducible polynomials whose squares divide the discriminant. The factors of the discriminant are given as a list
+/// of irreducible polynomials whose product it divides.
 pub fn maximal_order_law<C: Overring>()
     ensures { (ps : List (Polynomial C.field)) → IsSubring (ring_of C.equation).ops C.members
         → ((z : FunctionOf C.equation) → HasPolynomialCoordinates C.equation z → C.members z)

@@ -1,7 +1,5 @@
--- Indices: those of the code and those of the theory are the same, and the relative index of two lattices of codes is
--- the difference of
--- their pivot degrees.
-use Rattle.std.proofs.Common.{◌≡◌, ℕ, suc, ◌-◌, ◌<◌, ◌↔◌, List, [], ◌∷◌, refl, sym, ◌∙◌, ap, subst, arith}
+-- Indices: the relative index of two lattices of codes is the difference of their pivot degrees.
+use Rattle.std.proofs.Common.{◌≡◌, ℕ, suc, ◌-◌, ◌<◌, List, [], ◌∷◌, refl, sym, ◌∙◌, ap, subst, arith}
 use Rattle.std.proofs.lemmas.Int.{ints}
 use Rattle.std.proofs.Math.IntN.{ℤ, pos, ◌-ℤ◌}
 use Rattle.ring_lemmas.specs.Ring.{CommRing}
@@ -16,11 +14,9 @@ use Rattle.ff_poly.specs.Polynomials.{Polynomial, polynomials}
 use Rattle.ff_poly.proofs.Parts.{IsMonic_product}
 use Rattle.function_field.specs.Values.{PresValue, Functions, equation_of}
 use Rattle.trace_theory.specs.Traces.{HasPolynomialCoordinates}
-use Rattle.lattice_theory.specs.Lattices as theory
 use Rattle.ideal_theory.specs.Indices.{HasRelativeIndex}
 use Rattle.ideal_theory.proofs.RelativeIndex.{relative_in, relative_same}
 use Rattle.ff_lattice.specs.Lattices.{LatticeValue, Contains, pivot_degree_of}
-use Rattle.ff_lattice.specs.Indices.{HasIndex}
 use Rattle.ff_lattice.proofs.Divisors.{monic_value}
 use Rattle.ff_popov.specs.Reading.{read_rows}
 use Rattle.ff_lattice.proofs.Elements.{in_span_of}
@@ -28,15 +24,10 @@ use Rattle.ff_lattice.proofs.Members.{Member}
 use Rattle.ff_lattice.proofs.Fracs.{over_eq}
 use Rattle.ff_lattice.proofs.PivotIndices.{IsOverMonic, number, number_is, index_number_is}
 use Rattle.value_theory.proofs.Bridge.{full_lattice}
-use Rattle.value_theory.proofs.UnitRows.{unit_lattice, unit_rows_length, unit_degree, unit_over_monic, unit_members, unit_full, coordinate_members}
+use Rattle.ff_lattice.proofs.UnitRows.{unit_rows_length, unit_degree}
+use Rattle.value_theory.proofs.UnitRows.{unit_lattice, unit_over_monic, unit_members, unit_full, coordinate_members}
 
 module _ (k : CodeField) (p : PresValue) where
-  pub same_index : (A B : Functions k p → Type 0) (g : ℕ) → HasIndex k p A B g ↔ theory.HasIndex (equation_of k p) A B g
-  same_index A B g = (
-    λ h. record { basis = h.basis; is = h.is; count = h.count },
-    λ h. record { basis = h.basis; is = h.is; count = h.count },
-  )
-
   abbrev S : CommRing (Polynomial k)
   S = (polynomials k).ring
 
@@ -93,8 +84,8 @@ module _ (k : CodeField) (p : PresValue) where
           relative_in (equation_of k p) (Contains k p a) (Contains k p b) (Contains k p U)
           (full_lattice k p U (unit_full k p positive den some)) first second g h
           (pivot_degree_of a -ℤ pivot_degree_of b)
-          ((same_index (Contains k p a) (Contains k p U) g).0 (index_number_is k p positive a U over_a common first))
-          ((same_index (Contains k p b) (Contains k p U) h).0 (index_number_is k p positive b U over_b common second))
+          (index_number_is k p positive a U over_a common first)
+          (index_number_is k p positive b U over_b common second)
           (difference (pivot_degree_of a) (pivot_degree_of b) (pivot_degree_of U) g h
           (number_is k p positive a U over_a common first) (number_is k p positive b U over_b common second))
         where

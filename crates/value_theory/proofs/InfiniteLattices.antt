@@ -1,6 +1,5 @@
 -- The infinite presentation of a curve, and the lattice of the integral functions of the infinite side: it has what
--- O_inf has with
--- powers of t as denominators, and differs from k[t][Y] at t alone.
+-- O_inf has with powers of t as denominators, and differs from k[t][Y] at t alone.
 use Rattle.std.proofs.Common.{◌≡◌, ℕ, ◌≤◌, ◌↔◌, List, [], ◌∷◌, map, replicate, refl, sym, ap, ap₂, ◌∙◌, subst, arith, All}
 use Rattle.std.proofs.lemmas.List.Elements.{All-head, All-tail}
 use Rattle.ring_theory.specs.Subsets.{Span}

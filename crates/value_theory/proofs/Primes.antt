@@ -14,7 +14,6 @@ use Rattle.value_theory.specs.Laws.{IsRecordOf, row_functions}
 use Rattle.value_theory.specs.Primes.{PrimeValue, IsPrimeOf}
 use Rattle.value_theory.proofs.Bridge.{lattice_set, order_set}
 use Rattle.value_theory.proofs.Ideals.{members_module}
-use Rattle.value_theory.proofs.Indices.{same_index}
 
 module _ (k : CodeField) (q : PresValue) (positive : 0 < q.n) (o : LatticeValue) (order : IsOrderLattice k q o)
     (P : PrimeValue) (prime : IsPrimeOf k q o P) where
@@ -55,9 +54,8 @@ module _ (k : CodeField) (q : PresValue) (positive : 0 < q.n) (o : LatticeValue)
     product = prime.product;
     positive = some_power P.e prime.not_more;
     index =
-        (same_index k q (Contains k q P.rows) O P.degree).0
-        ((index_is k q positive P.rows o (lattice_over k q P.rows prime.ideal.lattice)
-        (lattice_over k q o order.lattice) prime.ideal.within P.degree).1 prime.degree);
+        (index_is k q positive P.rows o (lattice_over k q P.rows prime.ideal.lattice)
+        (lattice_over k q o order.lattice) prime.ideal.within P.degree).1 prime.degree;
   }
 
   pub recorded_is : IsRecordOf k q o P recorded

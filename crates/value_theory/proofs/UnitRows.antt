@@ -1,18 +1,14 @@
 -- The functions with polynomials as coordinates, over a denominator: the lattice of the unit rows, with its pivot
 -- degree.
-use Rattle.std.proofs.Common.{◌≡◌, ◌≢◌, ℕ, zero, suc, ◌+◌, ◌-◌, ◌<◌, ◌≤◌, ◌⊎◌, inl, inr, ◌↔◌, List, [], ◌∷◌, ◌++◌, length, get_or, replicate, refl, sym, ◌∙◌, ap, subst, arith, All}
-use Rattle.std.proofs.lemmas.List.{length-append, get_or_append_left, length-replicate, get_or-set_same, get_or-set_other}
-use Rattle.std.proofs.Math.Seq.{get_or-append_seam}
+use Rattle.std.proofs.Common.{◌≡◌, ℕ, suc, ◌-◌, ◌<◌, ◌≤◌, ◌⊎◌, inl, inr, ◌↔◌, List, [], ◌∷◌, refl, sym, ◌∙◌, ap, subst, arith}
 use Rattle.std.proofs.lemmas.Bool.{cases_lt}
-use native.Mathlib.Decide.{ℕ_discrete}
 use Rattle.ring_lemmas.specs.Rows.{Row, row_scale}
 use Rattle.ff_fields.specs.Field.{CodeField}
 use Rattle.ff_fields.specs.Code.{code_ring, code_field}
 use Rattle.ff_fields.specs.Over.{IsOver}
-use Rattle.ff_poly.specs.Words.{IsPoly, IsMonic}
+use Rattle.ff_poly.specs.Words.{IsMonic}
 use Rattle.ff_poly.specs.Value.{value}
 use Rattle.ff_poly.specs.Polynomials.{Polynomial, polynomials, polynomials_domain, value_one}
-use Rattle.ff_poly.specs.Popov.{entry_at, row_at, IsRow, IsPivot, IsPopov, pivot_degree, pivot_degree_from}
 use Rattle.popov_theory.specs.Module.{PolynomialModule}
 use Rattle.popov_theory.specs.Span as theory
 use Rattle.popov_theory.proofs.Span as spans
@@ -22,123 +18,19 @@ use Rattle.ff_popov.specs.Reading.{read_row, row_space, read_rows}
 use Rattle.ff_popov.proofs.ReadRows.{read_row_at}
 use Rattle.ff_popov.proofs.Measures.{space_width}
 use Rattle.function_field.specs.Functions.{over}
-use Rattle.function_field.specs.Values.{PresValue, Functions, equation_of}
+use Rattle.function_field.specs.Values.{PresValue, Functions, functions, equation_of}
 use Rattle.trace_theory.specs.Traces.{HasPolynomialCoordinates}
-use Rattle.ff_lattice.specs.Lattices.{LatticeValue, Contains, IsFull}
-use Rattle.ff_lattice.specs.Steps.{unit_row}
+use Rattle.infinite_theory.proofs.SupportedLattices.{coordinates_ring}
+use Rattle.ff_lattice.specs.Lattices.{LatticeValue, IsLattice, Contains, IsSpannedBy, IsFull, elems_over}
+use Rattle.ff_lattice.specs.Orders.{IsOrderLattice}
+use Rattle.ff_lattice.specs.Units.{unit_rows}
 use Rattle.ff_lattice.proofs.Elements.{in_span_of}
 use Rattle.ff_lattice.proofs.Fracs.{over_eq}
 use Rattle.ff_lattice.proofs.Normal.{monic_poly}
 use Rattle.ff_lattice.proofs.PivotIndices.{IsOverMonic}
-use Rattle.ff_lattice.proofs.Preimages.{read_unit, unit_length, unit_over}
+use Rattle.ff_lattice.proofs.Preimages.{read_unit}
 use Rattle.ff_lattice.proofs.SpannedSets.{full_from_rank}
-
--- the first unit rows of n entries
-pub unit_rows : ℕ → ℕ → List (List (List ℕ))
-unit_rows n zero = []
-unit_rows n (suc i) = unit_rows n i ++ unit_row n i ∷ []
-
-pub unit_rows_length : (n i : ℕ) → length (unit_rows n i) ≡ i
-unfolding unit_rows
-unit_rows_length n zero = refl
-unit_rows_length n (suc i) = let e = unit_rows_length n i in length-append (unit_rows n i) (unit_row n i ∷ [])
-    ∙ omega arith
-
-pub unit_rows_at : (n i j : ℕ) → j < i → row_at (unit_rows n i) j ≡ unit_row n j
-unfolding unit_rows
-unit_rows_at n zero j less = absurd (omega arith)
-unit_rows_at n (suc i) j less = go (cases_lt j i) (unit_rows_at n i j)
-  where
-    size : length (unit_rows n i) ≡ i
-    size = unit_rows_length n i
-
-    go : (j < i) ⊎ (i ≤ j) → (j < i → row_at (unit_rows n i) j ≡ unit_row n j)
-        → row_at (unit_rows n i ++ unit_row n i ∷ []) j ≡ unit_row n j
-    go (inl l) before = get_or_append_left (unit_rows n i) (unit_row n i ∷ []) [] j (omega (arith, size)) ∙ before l
-    go (inr m) before =
-        let e : j ≡ length (unit_rows n i) = omega (arith, size) in
-        let f : i ≡ j = omega arith in
-        ap (row_at (unit_rows n i ++ unit_row n i ∷ [])) e ∙ get_or-append_seam (unit_rows n i) (unit_row n i) [] []
-        ∙ ap (unit_row n) f
-
-unit_here : (n i : ℕ) → i < n → entry_at (unit_row n i) i ≡ 1 ∷ []
-unit_here n i less =
-    let size : length (replicate {A = List ℕ} n []) ≡ n = length-replicate n [] in
-    get_or-set_same (replicate n []) i (1 ∷ []) [] (omega (arith, less, size))
-
-none_at : (n j : ℕ) → entry_at (replicate n []) j ≡ []
-none_at zero j = refl
-none_at (suc n) zero = refl
-none_at (suc n) (suc j) = none_at n j
-
-unit_elsewhere : (n i j : ℕ) → j ≢ i → entry_at (unit_row n i) j ≡ []
-unit_elsewhere n i j differ = get_or-set_other (replicate n []) i j (1 ∷ []) [] differ ∙ none_at n j
-
--- the entries have at most one code, and one only on the diagonal
-short : (n i j : ℕ) → i < n → Dec (j ≡ i) → length (entry_at (unit_row n i) j) ≤ 1
-short n i j less (yes e) = omega (arith, ap (λ m. length (entry_at (unit_row n i) m)) e, ap length (unit_here n i less))
-short n i j less (no differ) = omega (arith, ap length (unit_elsewhere n i j differ))
-
-pub unit_pivot : (n i : ℕ) → i < n → IsPivot (unit_row n i) i
-unit_pivot n i less =
-    let one : length (entry_at (unit_row n i) i) ≡ 1 = ap length (unit_here n i less) in
-    record {
-      some = omega (arith, one);
-      greatest = λ j. omega (arith, one, short n i j less (ℕ_discrete j i));
-      rightmost =
-          λ j behind. omega (arith, one, ap length (unit_elsewhere n i j (λ e. absurd (omega (arith, e, behind)))));
-    }
-
-trimmed_at : (n i j : ℕ) → (i < n) ⊎ (n ≤ i) → Dec (j ≡ i) → IsPoly (entry_at (row_at (unit_rows n n) i) j)
-trimmed_at n i j (inl less) (yes e) =
-    subst IsPoly (sym (ap (λ r. entry_at r j) (unit_rows_at n n i less) ∙ ap (entry_at (unit_row n i)) e
-    ∙ unit_here n i less)) (record { trimmed = refl })
-trimmed_at n i j (inl less) (no differ) =
-    subst IsPoly (sym (ap (λ r. entry_at r j) (unit_rows_at n n i less) ∙ unit_elsewhere n i j differ))
-    (record { trimmed = tt })
-trimmed_at n i j (inr more) d =
-    subst IsPoly (sym (ap (λ r. entry_at r j)
-    (rows_past (unit_rows n n) i (omega (arith, more, unit_rows_length n n))))) (record { trimmed = tt })
-  where
-    rows_past : (rows : List (List (List ℕ))) (i : ℕ) → length rows ≤ i → row_at rows i ≡ []
-    rows_past [] i le = refl
-    rows_past (r ∷ rows) zero le = absurd (omega (arith, le))
-    rows_past (r ∷ rows) (suc i) le = rows_past rows i (omega (arith, le))
-
-pub unit_popov : (n : ℕ) → IsPopov n (unit_rows n n)
-unit_popov n = record {
-  size = unit_rows_length n n;
-  pivot_at = λ i less. subst (λ r. IsPivot r i) (sym (unit_rows_at n n i less)) (unit_pivot n i less);
-  monic = λ i less. ([], ap (λ r. entry_at r i) (unit_rows_at n n i less) ∙ unit_here n i less);
-  smaller = λ i j i_less j_less differ.
-      omega (
-        arith,
-        ap (λ r. length (entry_at r j)) (unit_rows_at n n i i_less),
-        ap length (unit_elsewhere n i j (λ e. differ (sym e))),
-        ap (λ r. length (entry_at r j)) (unit_rows_at n n j j_less),
-        ap length (unit_here n j j_less),
-      );
-  trimmed = λ i j. trimmed_at n i j (cases_lt i n) (ℕ_discrete j i);
-}
-
-no_degrees : (rows : List (List (List ℕ))) (i : ℕ)
-    → ((j m : ℕ) → j < length rows → m ≡ i + j → length (entry_at (row_at rows j) m) ≡ 1) → pivot_degree_from i rows ≡ 0
-no_degrees [] i h = refl
-no_degrees (r ∷ rows) i h =
-    omega (
-      arith,
-      h 0 i (omega arith) (omega arith),
-      no_degrees rows (suc i) (λ j m less e. h (suc j) m (omega (arith, less)) (omega (arith, e))),
-    )
-
-pub unit_degree : (n : ℕ) → pivot_degree (unit_rows n n) ≡ 0
-unit_degree n =
-    no_degrees (unit_rows n n) 0
-    (λ j m less e.
-    let below : j < n = omega (arith, less, unit_rows_length n n) in
-    let same : m ≡ j = omega (arith, e) in
-    ap (λ r. length (entry_at r m)) (unit_rows_at n n j below) ∙ ap (λ i. length (entry_at (unit_row n j) i)) same
-    ∙ ap length (unit_here n j below))
+use Rattle.ff_lattice.proofs.UnitRows.{unit_rows_at, unit_rows_in, unit_popov}
 
 -- the unit rows over a denominator
 abbrev pub unit_lattice : ℕ → List ℕ → LatticeValue
@@ -151,22 +43,10 @@ module _ (k : CodeField) (p : PresValue) where
   abbrev rows : List (List (List ℕ))
   rows = unit_rows p.n p.n
 
-  rows_in : All (IsRow k.ops p.n) (unit_rows p.n p.n)
-  rows_in i d less =
-      let below : i < p.n = omega (arith, less, unit_rows_length p.n p.n) in
-      subst (IsRow k.ops p.n) (sym (unit_rows_at p.n p.n i below) ∙ any_row (unit_rows p.n p.n) i d less)
-      (record { size = unit_length p.n i; over = unit_over k p.n i })
-    where
-      any_row : (rows : List (List (List ℕ))) (i : ℕ) (d : List (List ℕ)) → i < length rows
-          → row_at rows i ≡ get_or rows i d
-      any_row [] i d less = absurd (omega (arith, less))
-      any_row (r ∷ rows) zero d less = refl
-      any_row (r ∷ rows) (suc i) d less = any_row rows i d (omega (arith, less))
-
   pub unit_over_monic : (den : List ℕ) → IsOver k.ops den → IsMonic den → IsOverMonic k p (unit_lattice p.n den)
   unit_over_monic den den_in monic =
       record {
-        rows_in = rows_in;
+        rows_in = unit_rows_in k p.n;
         popov = unit_popov p.n;
         den_in = den_in;
         den_poly = monic_poly den monic;
@@ -244,3 +124,25 @@ module _ (k : CodeField) (p : PresValue) where
             over_eq (equation_of k p) v v (value k (1 ∷ [])) (polynomials k).𝟙 one_some
             (polynomials_domain k).one_not_zero
             (ap (λ d. row_scale (polynomials k).ops (suc (p.n - 1)) d v) (sym (value_one k)))
+
+    -- what the unit rows span over 1 are these functions, and they are an order
+    pub coordinate_lattice : (l : LatticeValue) → IsSpannedBy k p.n (elems_over (unit_rows p.n p.n) (1 ∷ [])) l
+        → (z : Functions k p) → Contains k p l z ↔ HasPolynomialCoordinates (equation_of k p) z
+    coordinate_lattice l spanned z =
+        let s = spanned.members p refl z in
+        let m = coordinate_members z in (
+          λ h. m.0 (s.0 h),
+          λ h. s.1 (m.1 h),
+        )
+
+    pub coordinate_order : (l : LatticeValue) → IsLattice k.ops p.n l
+        → IsSpannedBy k p.n (elems_over (unit_rows p.n p.n) (1 ∷ [])) l → IsOrderLattice k p l
+    coordinate_order l form spanned = record {
+      lattice = form;
+      one_in = (members (functions k p).𝟙).1 (coordinates_ring (equation_of k p)).one_in;
+      product_in = λ u v u_in v_in.
+          (members _).1 ((coordinates_ring (equation_of k p)).product_in u v ((members u).0 u_in) ((members v).0 v_in));
+    }
+      where
+        members : (z : Functions k p) → Contains k p l z ↔ HasPolynomialCoordinates (equation_of k p) z
+        members = coordinate_lattice l spanned

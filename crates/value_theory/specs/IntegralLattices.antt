@@ -30,8 +30,7 @@ module _ (k : CodeField) (c : CurveValue) where
     pub stands : StandsFor k c.fin c.c Infinite element z
 
   -- On the infinite side the combinations of gs over k[t] are the members of O_inf in k[t, 1/t][Y]. On the finite side
-  -- R_s
-  -- is the ring of the lattice's coefficients already, and nothing more is asked.
+  -- R_s is the ring of the lattice's coefficients already, and nothing more is asked.
   abbrev pub SpansOverPowersOfT : Side → List (Functions k c.fin) → Type 0
   SpansOverPowersOfT Finite gs = Unit {0}
   SpansOverPowersOfT Infinite gs =

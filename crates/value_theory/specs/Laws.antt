@@ -10,11 +10,9 @@ use Rattle.ff_poly.specs.Polynomials.{polynomials}
 use Rattle.ff_falg.specs.Algebras.{IsFieldAlgebra}
 use Rattle.function_field.specs.Discriminant.{discriminant}
 use Rattle.function_field.specs.Values.{PresValue, Functions, functions, function_of, equation_of}
-use Rattle.lattice_theory.specs.Lattices as theory
 use Rattle.ideal_theory.specs.Indices.{HasRelativeIndex}
 use Rattle.ideal_theory.specs.Records.{RecordedPrime, IsRecordAt, ArePrimesOfPlaces}
 use Rattle.ff_lattice.specs.Lattices.{LatticeValue, IsLattice, Contains, row_elems, pivot_degree_of}
-use Rattle.ff_lattice.specs.Indices.{HasIndex}
 use Rattle.ff_lattice.specs.Quotients.{QuotientValue, IsIdealLattice, quotient_ops}
 use Rattle.value_theory.specs.Primes.{PrimeValue}
 
@@ -23,11 +21,8 @@ abbrev pub row_functions : (k : CodeField) (p : PresValue) → LatticeValue → 
 row_functions k p l = map (function_of k p) (row_elems l)
 
 module _ (k : CodeField) (p : PresValue) where
-  -- one index, and the index of a lattice relative to another and to k[x][y] by pivot degrees
+  -- the index of a lattice relative to another and to k[x][y] by pivot degrees
   pub record IndicesByDegrees : Type 0 where
-    pub same :
-        (a b : LatticeValue) (g : ℕ) → HasIndex k p (Contains k p a) (Contains k p b) g
-        ↔ theory.HasIndex (equation_of k p) (Contains k p a) (Contains k p b) g
     pub relative :
         (a b : LatticeValue) → IsLattice k.ops p.n a → IsLattice k.ops p.n b
         → HasRelativeIndex (equation_of k p) (Contains k p a) (Contains k p b) (pivot_degree_of a -ℤ pivot_degree_of b)

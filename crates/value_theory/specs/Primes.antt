@@ -1,6 +1,5 @@
 -- Primes of an order of codes, as values: what is seen of each, and what makes it a prime over a polynomial
--- (Stichtenoth, section 3.1;
--- Hess, section 3).
+-- (Stichtenoth, section 3.1; Hess, section 3).
 use Rattle.std.specs.Prelude.{◌≡◌, ◌≢◌, ◌↔◌, ℕ, suc, ◌+◌, ◌*◌, ◌-◌, List, [], ◌∷◌, length, pos, ◌-ℤ◌, All, AllPairs}
 use Rattle.ring_theory.specs.Subsets.{Product}
 use Rattle.prime_theory.specs.Ideals.{SameSet, Power, Multiple}
@@ -15,8 +14,7 @@ use Rattle.ff_lattice.specs.Colons.{IsColon}
 use Rattle.ff_lattice.specs.Quotients.{IsIdealLattice}
 
 -- a side, the polynomial that the prime lies over, its number among the primes over that, its ramification index and
--- its degree,
--- and the lattices of the prime and of its inverse
+-- its degree, and the lattices of the prime and of its inverse
 pub record PrimeValue : Type 0 where
   pub side : Side
   pub p : List ℕ
@@ -28,8 +26,7 @@ pub record PrimeValue : Type 0 where
 
 module _ (k : CodeField) (q : PresValue) (o : LatticeValue) where
   -- a maximal ideal of the order that has the polynomial, with its index as the degree, its inverse, and the greatest
-  -- power that has the
-  -- polynomial
+  -- power that has the polynomial
   pub record IsPrimeOf (P : PrimeValue) : Type 0 where
     pub ideal : IsIdealLattice k q o P.rows
     pub inverse_form : IsLattice k.ops q.n P.inverse

@@ -20,8 +20,8 @@ ghost use Rattle.value_theory.specs.IntegralLattices.{IsIntegralLattice};
 ghost use Rattle.value_theory.specs.Primes.{PrimeValue, IsPrimeOf, AreAllPrimes};
 ghost use Rattle.value_theory.specs.Laws.{IndicesByDegrees, IdealsAsSets, FieldsAndMaximalIdeals, IsRecordOf, IsRecordOfPrimes};
 
-/// The index of one lattice in another is that of the theory; relative to another lattice it is the difference of the
-/// pivot degrees, and relative to k[x][y] the pivot degree.
+/// The index of a lattice relative to another one is the difference of their pivot degrees, and relative to k[x][y] the
+/// pivot degree.
 pub fn index_law()
     ensures { (k : CodeField) (p : PresValue) → 0 < p.n → IndicesByDegrees k p }
 {}

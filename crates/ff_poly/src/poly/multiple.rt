@@ -8,7 +8,6 @@ ghost use Rattle.ff_poly.specs.Words.{IsPoly, poly_of};
 ghost use Rattle.ff_poly.specs.Terms.{less_multiple};
 
 use crate::poly::{Poly, drop_zeros};
-use crate::slices::add_multiple;
 use ff_fields::field::SmallField;
 use std::alloc::AllocError;
 
@@ -21,7 +20,7 @@ fn subtract_at<K: SmallField>(k: &K, sum: &mut [u32], c: u32, j: usize, codes: &
     ensures { let r = raw_ring (K.field k.now).ops in sum.new
         ≡ add_lists r sum.old (replicate j 0 ++ scale_list r ((K.field k.now).neg c) codes.now) }
 {
-    add_multiple(k, &mut sum[j..], k.neg(c), codes);
+    k.add_multiple(&mut sum[j..], k.neg(c), codes);
 }
 
 impl Poly {
@@ -34,8 +33,7 @@ impl Poly {
     }
 
     /// Takes c·x^j times the other polynomial away, in place, in time linear in the lengths. Memory is asked for only
-    /// where
-    /// the polynomial gets longer; after want of it the polynomial is as before.
+    /// where the polynomial gets longer; after want of it the polynomial is as before.
     pub fn sub_multiple<K: SmallField>(
         &mut self,
         k: &K,

@@ -3,7 +3,7 @@
 ghost use Rattle.std.specs.Prelude.{◌≡◌, false, All, IfOk, IfErr, map};
 ghost use Rattle.ff_text.specs.Printing.{IsWritableTerms};
 ghost use Rattle.ff_text.specs.Values.{HasSmallExponents};
-ghost use Rattle.ff_meaning.specs.Limits.{max_degree};
+ghost use Rattle.function_field.specs.Limits.{max_degree};
 ghost use Rattle.ff_meaning.specs.Refusals.{UnlessMemory, IsFactorRow};
 ghost use Rattle.ff_cert.specs.declared.answer.PowerLine.{PowerLine};
 ghost use Rattle.ff_session.specs.Steps.{AreFactorsRead};

@@ -4,14 +4,15 @@ ghost use Rattle.std.specs.Prelude.{IfOk, IfErr};
 ghost use Rattle.function_field.specs.Values.{IsPresOver};
 ghost use Rattle.ff_text.specs.Printing.{IsWritableElement};
 ghost use Rattle.ff_meaning.specs.Refusals.{UnlessMemory, IsProductRow};
-ghost use Rattle.ff_meaning.specs.Limits.{max_degree};
+ghost use Rattle.function_field.specs.Limits.{max_degree};
 ghost use Rattle.ff_meaning.specs.Bindings.{HasSmallElement};
 ghost use Rattle.ff_session.specs.Steps.{IsProductRead};
 
 use crate::statements::factor::MAX_DEGREE;
 use ff_algebra::elem::{Pres, mul};
+use ff_factor::divisors_of_product;
 use ff_fields::field::SmallField;
-use ff_meaning::written::{divisors_of_product, in_lowest_terms_by};
+use ff_meaning::written::in_lowest_terms_by;
 use ff_meaning::{Refusal, element};
 use ff_text::{ElemText, Written};
 use std::alloc::Global;

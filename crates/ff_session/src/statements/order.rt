@@ -30,15 +30,14 @@ fn order_rows<K: SmallField>(
     let l = o.lattice();
     let mut rows = Vec::new(alloc);
     for i in 0..l.len() {
-        let r = l.row(alloc, k, i)?;
+        let r = l.row(alloc, i)?;
         rows.push(written(alloc, k, curve, side, &r)?)?;
     }
     Ok(RowList { rows })
 }
 
 /// Rows that span the functions that are integral on a side, in x and y in lowest terms. It takes the maximal order of
-/// the
-/// side, and the factors of each row's denominator.
+/// the side, and the factors of each row's denominator.
 pub fn integral_rows<K: SmallField>(
     alloc: Global,
     k: &K,

@@ -30,3 +30,7 @@ returns-clause-members g c =
     ↔ (Contains k p c.args.start z × All (λ w. Contains k p c.args.a.now
     ((functions k p).◌⊗◌ (function_of k p w) z)) ws))
     (take_all c.loop-i.i (row_elems b) size) c.loop-i.invariant.members
+
+pub restricted-requires-clause-w_in : goal.restricted-requires-clause-w_in
+restricted-requires-clause-w_in g c = c.in_ok-row.ensures.in_range (g.K.SmallField.field c.args.k.now).ops
+    c.args.p.now.n c.requires.b_form

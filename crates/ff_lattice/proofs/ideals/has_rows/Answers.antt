@@ -1,6 +1,6 @@
 use Rattle.std.proofs.Common.{rules, ◌≡◌, ◌<◌, ◌≤◌, length, subst, sym, ◌∙◌, arith, refl, false, true}
 use Rattle.std.proofs.lemmas.Option.{get_or_from_slice_get}
-use Rattle.function_field.specs.Values.{function_of}
+use Rattle.function_field.specs.Values.{IsElem, function_of}
 use Rattle.ff_lattice.specs.Lattices.{Contains, row_elems}
 use Rattle.ff_lattice.proofs.RowElems.{elems_length}
 use Rattle.ff_lattice.proofs.OrderRows.{all_more, false_true}
@@ -39,3 +39,9 @@ returns g c =
     let i = c.args.i.now in
     let size : length (row_elems i) ≤ c.loop-j.j = omega (arith, elems_length i) in
     (λ _ m d less. c.loop-j.invariant m d (omega (arith, less, size)), λ _. refl)
+
+pub contains-requires-clause-z_in : goal.contains-requires-clause-z_in
+contains-requires-clause-z_in g c =
+    let k = g.K.SmallField.field c.args.k.now in
+    subst (λ n. IsElem k.ops n c.in_ok-row.row) (sym c.requires.l_form.popov.size)
+    (c.in_ok-row.ensures.in_range k.ops c.args.p.now.n c.requires.i_form)

@@ -37,3 +37,7 @@ returns g c =
     let l = c.args.l.now in
     let size : length (row_elems l) ≤ c.loop-j.j = omega (arith, elems_length l) in
     (λ _ m d less. c.loop-j.invariant m d (omega (arith, less, size)), λ _. refl)
+
+pub takes_rows_in-requires-clause-z_in : goal.takes_rows_in-requires-clause-z_in
+takes_rows_in-requires-clause-z_in g c = c.in_ok-row.ensures.in_range (g.K.SmallField.field c.args.k.now).ops
+    c.args.p.now.n c.requires.l_form

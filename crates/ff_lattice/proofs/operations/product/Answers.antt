@@ -52,3 +52,7 @@ returns-clause-members g c =
     ∙ ap (λ xs. products F.ops (map f xs) (map f (row_elems b))) (take_all c.loop-i.i (row_elems a) size) in
     members_through k p c.spanned.result (product_iff k p c.deref.result.now (row_elems a) (row_elems b) is)
     c.spanned.ensures.members
+
+pub push_products-requires-clause-z_in : goal.push_products-requires-clause-z_in
+push_products-requires-clause-z_in g c = c.in_ok-row.ensures.in_range (g.K.SmallField.field c.args.k.now).ops
+    c.args.p.now.n c.requires.a_form

@@ -22,3 +22,7 @@ loop-j-preserved g c =
           c.loop-j.j c.in_ok-row.row c.in_ok-mul.field-0 less
           c.in_ok-row.ensures.row c.in_ok-mul.ensures.product c.in_ok-push.ensures.items c.loop-j.invariant.products;
     }
+
+pub mul-requires-clause-b_in : goal.mul-requires-clause-b_in
+mul-requires-clause-b_in g c = c.in_ok-row.ensures.in_range (g.K.SmallField.field c.args.k.now).ops c.args.p.now.n
+    c.requires.b_form

@@ -15,8 +15,8 @@ spanned-requires-clause-gens_in g c =
     let a = c.args.a.now in
     let b = c.args.b.now in
     let is : c.deref.result.now ≡ row_elems a ++ row_elems b
-    = c.deref.ensures.value ∙ c.in_ok-push_rows-2.ensures
-    ∙ ap (λ xs. xs ++ row_elems b) (c.in_ok-push_rows.ensures
+    = c.deref.ensures.value ∙ c.in_ok-push_rows-2.ensures.all
+    ∙ ap (λ xs. xs ++ row_elems b) (c.in_ok-push_rows.ensures.all
     ∙ ap (λ xs. xs ++ row_elems a) c.in_ok-gens.ensures.items) in
     subst (All (IsElem k.ops p.n)) (sym is)
     (All-append (IsElem k.ops p.n) (row_elems a) (row_elems b) (rows_elems k p.n a c.requires.a_form)
@@ -29,8 +29,8 @@ spanned-requires-clause-full g c =
     let a = c.args.a.now in
     let b = c.args.b.now in
     let is : c.deref.result.now ≡ row_elems a ++ row_elems b
-    = c.deref.ensures.value ∙ c.in_ok-push_rows-2.ensures
-    ∙ ap (λ xs. xs ++ row_elems b) (c.in_ok-push_rows.ensures
+    = c.deref.ensures.value ∙ c.in_ok-push_rows-2.ensures.all
+    ∙ ap (λ xs. xs ++ row_elems b) (c.in_ok-push_rows.ensures.all
     ∙ ap (λ xs. xs ++ row_elems a) c.in_ok-gens.ensures.items) in
     subst (λ gens. IsFull k p (InSpanOf k p gens)) (sym is)
     (sum_full k p (row_elems a) (row_elems b) (lattice_full k p a c.n.ensures.range.positive c.requires.a_form))
@@ -42,8 +42,8 @@ returns-clause-members g c =
     let a = c.args.a.now in
     let b = c.args.b.now in
     let is : c.deref.result.now ≡ row_elems a ++ row_elems b
-    = c.deref.ensures.value ∙ c.in_ok-push_rows-2.ensures
-    ∙ ap (λ xs. xs ++ row_elems b) (c.in_ok-push_rows.ensures
+    = c.deref.ensures.value ∙ c.in_ok-push_rows-2.ensures.all
+    ∙ ap (λ xs. xs ++ row_elems b) (c.in_ok-push_rows.ensures.all
     ∙ ap (λ xs. xs ++ row_elems a) c.in_ok-gens.ensures.items) in
     members_through k p c.spanned.result (sum_iff k p (row_elems a) (row_elems b))
     (subst (λ gens. IfOk c.spanned.result (λ l. (z : Functions k p) → Contains k p l z ↔ InSpanOf k p gens z)) is

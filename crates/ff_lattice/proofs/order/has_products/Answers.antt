@@ -38,3 +38,7 @@ returns g c =
     let l = c.args.l.now in
     let size : length (row_elems l) ≤ c.loop-i.i = omega (arith, elems_length l) in
     (λ _ i d less. c.loop-i.invariant i d (omega (arith, less, size)), λ _. refl)
+
+pub takes_rows_in-requires-clause-z_in : goal.takes_rows_in-requires-clause-z_in
+takes_rows_in-requires-clause-z_in g c = c.in_ok-row.ensures.in_range (g.K.SmallField.field c.args.k.now).ops
+    c.args.p.now.n c.requires.l_form

@@ -46,3 +46,7 @@ returns g c =
     let l = c.args.l.now in
     let size : length (row_elems l) ≤ c.loop-j.j = omega (arith, elems_length l) in
     (λ _ i d less. c.loop-j.invariant i d (omega (arith, less, size)), λ _. refl)
+
+pub mul-requires-clause-b_in : goal.mul-requires-clause-b_in
+mul-requires-clause-b_in g c = c.in_ok-row.ensures.in_range (g.K.SmallField.field c.args.k.now).ops c.args.p.now.n
+    c.requires.l_form

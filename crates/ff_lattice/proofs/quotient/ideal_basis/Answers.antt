@@ -16,7 +16,7 @@ rows_over-requires-clause-zs_in g c =
     let l = c.args.l.now in
     let i = c.args.i.now in
     let lattice = c.requires.ideal.lattice in
-    let is : c.deref.result.now ≡ row_elems i = c.deref.ensures.value ∙ c.in_ok-push_rows.ensures
+    let is : c.deref.result.now ≡ row_elems i = c.deref.ensures.value ∙ c.in_ok-push_rows.ensures.all
     ∙ ap (λ xs. xs ++ row_elems i) c.new-gens.ensures.items in
     subst (All (IsElem k.ops p.n)) (sym is) (rows_elems k p.n i lattice)
 
@@ -27,7 +27,7 @@ rows_over-requires-clause-members g c =
     let l = c.args.l.now in
     let i = c.args.i.now in
     let lattice = c.requires.ideal.lattice in
-    let is : c.deref.result.now ≡ row_elems i = c.deref.ensures.value ∙ c.in_ok-push_rows.ensures
+    let is : c.deref.result.now ≡ row_elems i = c.deref.ensures.value ∙ c.in_ok-push_rows.ensures.all
     ∙ ap (λ xs. xs ++ row_elems i) c.new-gens.ensures.items in
     subst (All (λ z. Contains k p l (function_of k p z))) (sym is)
     (λ j d less. c.requires.ideal.within (function_of k p (get_or (row_elems i) j d)) (rows_members k p i j d less))
@@ -39,7 +39,7 @@ popov-requires g c =
     let l = c.args.l.now in
     let i = c.args.i.now in
     let lattice = c.requires.ideal.lattice in
-    let is : c.deref.result.now ≡ row_elems i = c.deref.ensures.value ∙ c.in_ok-push_rows.ensures
+    let is : c.deref.result.now ≡ row_elems i = c.deref.ensures.value ∙ c.in_ok-push_rows.ensures.all
     ∙ ap (λ xs. xs ++ row_elems i) c.new-gens.ensures.items in
     let rows = rows_of c.in_ok-rows.rows.items in
     let h = subst (λ zs. IsRowsOf k p l zs rows) is c.in_ok-rows.ensures in
@@ -52,7 +52,7 @@ unreachable-requires g c =
     let l = c.args.l.now in
     let i = c.args.i.now in
     let lattice = c.requires.ideal.lattice in
-    let is : c.deref.result.now ≡ row_elems i = c.deref.ensures.value ∙ c.in_ok-push_rows.ensures
+    let is : c.deref.result.now ≡ row_elems i = c.deref.ensures.value ∙ c.in_ok-push_rows.ensures.all
     ∙ ap (λ xs. xs ++ row_elems i) c.new-gens.ensures.items in
     let rows = rows_of c.in_ok-rows.rows.items in
     let h = subst (λ zs. IsRowsOf k p l zs rows) is c.in_ok-rows.ensures in
@@ -69,7 +69,7 @@ returns-clause-members g c =
     let l = c.args.l.now in
     let i = c.args.i.now in
     let lattice = c.requires.ideal.lattice in
-    let is : c.deref.result.now ≡ row_elems i = c.deref.ensures.value ∙ c.in_ok-push_rows.ensures
+    let is : c.deref.result.now ≡ row_elems i = c.deref.ensures.value ∙ c.in_ok-push_rows.ensures.all
     ∙ ap (λ xs. xs ++ row_elems i) c.new-gens.ensures.items in
     let rows = rows_of c.in_ok-rows.rows.items in
     let h = subst (λ zs. IsRowsOf k p l zs rows) is c.in_ok-rows.ensures in

@@ -6,7 +6,7 @@ use Rattle.ff_linalg.specs.Matrix.{rows_in}
 use Rattle.ff_linalg.specs.Steps.{eliminated}
 use Rattle.ff_linalg.specs.Forms.{IsEliminationStep}
 use Rattle.ff_linalg.proofs.Flat.{length_rows_in, rows_in_wide, rows_in_over, over_from_rows}
-use Rattle.ff_linalg.proofs.Reduction.{swap_here, all_swap, pivot_step, skip_step}
+use Rattle.ff_linalg.proofs.Reduction.{swap_here, all_swap, left_zero_at, pivot_step, skip_step}
 
 pub returns-then-not-raise_pivot-clause-over : goal.returns-then-not-raise_pivot-clause-over
 returns-then-not-raise_pivot-clause-over g c = let h = c.if-not-raise_pivot.ensures in subst
@@ -32,6 +32,17 @@ clear_column-requires-clause-nonzero g c =
     λ e. h.nonzero (ap (λ r. get_or r c.args.c 0)
     (sym (ap (λ rows. get_or rows c.args.rank []) h.is
     ∙ swap_here old c.args.rank h.position (omega (arith, h.late, h.within)) h.within)) ∙ e)
+
+pub clear_column-requires-clause-left_zero : goal.clear_column-requires-clause-left_zero
+clear_column-requires-clause-left_zero g c j less =
+    let k = g.K.SmallField.field c.args.k.now in
+    let h = c.if-not-raise_pivot.ensures in
+    let old = rows_in c.args.cols c.args.rows c.args.entries.now in
+    ap (λ r. get_or r j 0) (ap (λ rows. get_or rows c.args.rank []) h.is
+    ∙ swap_here old c.args.rank h.position (omega (arith, h.late, h.within)) h.within)
+    ∙ left_zero_at k c.args.c c.args.rank old
+    (rows_in_over k.ops c.args.cols c.args.rows c.args.entries.now c.requires.entries_in) c.requires.reduced
+    h.position j h.late h.within less
 
 pub clear_column-requires-clause-entries_in : goal.clear_column-requires-clause-entries_in
 clear_column-requires-clause-entries_in g c =

@@ -1,9 +1,10 @@
-use Rattle.std.proofs.Common.{◌≡◌, ◌+◌, ◌-◌, ◌*◌, length, take, drop, suc, map, sym, ap, ap₂, ◌∙◌, arith, refl}
+use Rattle.std.proofs.Common.{◌≡◌, ◌+◌, ◌-◌, ◌*◌, length, get_or, take, drop, suc, map, sym, ap, ap₂, ◌∙◌, arith, refl}
 use Rattle.ff_linalg.proofs.rows.clear_column.Goals as goal
 use Rattle.ff_fields.specs.Over.{IsOver_append}
 use Rattle.ff_linalg.specs.Matrix.{rows_in}
 use Rattle.ff_linalg.specs.Steps.{normalized, cleared}
-use Rattle.ff_linalg.proofs.RowSteps.{eliminated_rows, pivot_row, rows_after}
+use Rattle.ff_linalg.proofs.Flat.{rows_in_get}
+use Rattle.ff_linalg.proofs.RowSteps.{eliminated_rows, left_after, pivot_row, rows_after}
 
 pub inv-inverse-requires-clause-not_zero : goal.inv-inverse-requires-clause-not_zero
 inv-inverse-requires-clause-not_zero g c =
@@ -51,6 +52,36 @@ clear_rows-requires-2-clause-pivot_in g c =
     c.requires.shape c.requires.row_in c.requires.entries_in c.requires.nonzero
     (c.split_at_mut-pivot.ensures.front ∙ ap (take c.args.cols) c.split_at_mut-front.ensures.back)
     c.inv-inverse.ensures c.scale_all.ensures).new_in
+
+pub clear_rows-requires-clause-left_zero : goal.clear_rows-requires-clause-left_zero
+clear_rows-requires-clause-left_zero g c j less =
+    let old_is = c.split_at_mut-pivot.ensures.front ∙ ap (take c.args.cols) c.split_at_mut-front.ensures.back in
+    let row =
+    pivot_row (g.K.SmallField.field c.args.k.now) c.args.cols c.args.rows c.args.p c.args.c c.args.entries.now
+    c.split_at_mut-pivot.result.0.now _ _
+    c.requires.shape c.requires.row_in c.requires.entries_in c.requires.nonzero old_is c.inv-inverse.ensures
+    c.scale_all.ensures in
+    let left = ap (λ r. get_or r j 0) (old_is
+    ∙ sym (rows_in_get c.args.cols c.args.rows c.args.p c.args.entries.now c.requires.shape c.requires.row_in))
+    ∙ c.requires.left_zero j less in
+    left_after (g.K.SmallField.field c.args.k.now) c.split_at_mut-pivot.result.0.now c.scale_all.new.codes
+    c.inv-inverse.result j row.inverse_in c.scale_all.ensures
+    (omega (arith, less, c.requires.col_in)) left
+
+pub clear_rows-requires-2-clause-left_zero : goal.clear_rows-requires-2-clause-left_zero
+clear_rows-requires-2-clause-left_zero g c j less =
+    let old_is = c.split_at_mut-pivot.ensures.front ∙ ap (take c.args.cols) c.split_at_mut-front.ensures.back in
+    let row =
+    pivot_row (g.K.SmallField.field c.args.k.now) c.args.cols c.args.rows c.args.p c.args.c c.args.entries.now
+    c.split_at_mut-pivot.result.0.now _ _
+    c.requires.shape c.requires.row_in c.requires.entries_in c.requires.nonzero old_is c.inv-inverse.ensures
+    c.scale_all.ensures in
+    let left = ap (λ r. get_or r j 0) (old_is
+    ∙ sym (rows_in_get c.args.cols c.args.rows c.args.p c.args.entries.now c.requires.shape c.requires.row_in))
+    ∙ c.requires.left_zero j less in
+    left_after (g.K.SmallField.field c.args.k.now) c.split_at_mut-pivot.result.0.now c.scale_all.new.codes
+    c.inv-inverse.result j row.inverse_in c.scale_all.ensures
+    (omega (arith, less, c.requires.col_in)) left
 
 pub returns-clause-eliminated : goal.returns-clause-eliminated
 returns-clause-eliminated g c =

@@ -1,10 +1,8 @@
-use Rattle.std.proofs.Common.{◌≡◌, ◌+◌, ◌-◌, ◌*◌, ◌<◌, [], length, take, drop, refl, sym, ap, ◌∙◌, arith}
+use Rattle.std.proofs.Common.{◌≡◌, ◌+◌, ◌-◌, ◌*◌, [], length, take, drop, refl, sym, ap, ◌∙◌, arith}
 use Rattle.std.proofs.lemmas.List.{length-take-le, length-drop}
 use borrow.Rule.Slice.PartMut.{put_mid}
 use Rattle.ff_linalg.proofs.rows.clear_rows.Goals as goal
-use Rattle.ff_fields.specs.Code.{raw_ring}
-use Rattle.ff_fields.specs.Over.{IsOver, IsOver_take, IsOver_drop, IsOver_append, IsOver_add, IsOver_scale, get_or_below}
-use Rattle.ring_lemmas.specs.Lists.{add_lists, scale_list}
+use Rattle.ff_fields.specs.Over.{IsOver_take, IsOver_drop, IsOver_append}
 use Rattle.ff_linalg.specs.Matrix.{rows_in}
 use Rattle.ff_linalg.specs.Steps.{cleared}
 use Rattle.ff_linalg.proofs.Flat.{row_end, row_span, length_rows_in, rows_in_get, rows_in_put}
@@ -13,19 +11,8 @@ use Rattle.ff_linalg.proofs.Multiples.{mapped_step, mapped_end}
 pub loop-i-init : goal.loop-i-init
 loop-i-init g c = record { done = refl; over = c.requires.part_in }
 
-pub neg-factor-requires : goal.neg-factor-requires
-neg-factor-requires g c =
-    let k = g.K.SmallField.field c.args.k.now in
-    get_or_below k _ c.args.c (IsOver_take _ (IsOver_drop _ c.loop-i.invariant.over))
-
-pub add_multiple-requires-clause-sum_in : goal.add_multiple-requires-clause-sum_in
-add_multiple-requires-clause-sum_in g c = IsOver_take _ (IsOver_drop _ c.loop-i.invariant.over)
-
-pub add_multiple-requires-clause-c_in : goal.add_multiple-requires-clause-c_in
-add_multiple-requires-clause-c_in g c =
-    let k = g.K.SmallField.field c.args.k.now in
-    rw c.neg-factor.ensures (k.laws.neg_below _
-    (get_or_below k _ c.args.c (IsOver_take _ (IsOver_drop _ c.loop-i.invariant.over))))
+pub clear_row-requires-clause-row_in : goal.clear_row-requires-clause-row_in
+clear_row-requires-clause-row_in g c = IsOver_take _ (IsOver_drop _ c.loop-i.invariant.over)
 
 pub loop-i-preserved : goal.loop-i-preserved
 loop-i-preserved g c =
@@ -34,7 +21,7 @@ loop-i-preserved g c =
     let at = c.loop-i.i * w in
     let part = c.loop-i.part in
     let row = take (at + w - at) (drop at part) in
-    let new = c.add_multiple.new.sum in
+    let new = c.clear_row.new.row in
     let within = c.loop-i-test.true in
     let shape : length part ≡ c.args.count * w = omega (arith, c.requires.shape) in
     let whole : row ≡ take w (drop at part) = ap (λ m. take m (drop at part)) (row_span at w) in
@@ -42,15 +29,8 @@ loop-i-preserved g c =
     ∙ length-take-le w (drop at part) (omega
     (arith, shape, row_end c.loop-i.i c.args.count w within, length-drop at part)) in
     let new_length : length new ≡ w = omega (arith, long) in
-    let row_over : IsOver k.ops row = IsOver_take _ (IsOver_drop _ c.loop-i.invariant.over) in
-    let factor_in : c.neg-factor.result < k.size = rw c.neg-factor.ensures
-    (k.laws.neg_below _ (get_or_below k row c.args.c row_over)) in
-    let new_over : IsOver k.ops new
-    = rw c.add_multiple.ensures (IsOver_add k _ _ row_over (IsOver_scale k _ _ factor_in c.requires.pivot_in)) in
     let new_is : new ≡ cleared k.ops c.args.c c.args.pivot.now (take w (drop at part))
-    = c.add_multiple.ensures ∙ ap (λ x. add_lists (raw_ring k.ops) row (scale_list (raw_ring k.ops) x c.args.pivot.now))
-    c.neg-factor.ensures
-    ∙ ap (cleared k.ops c.args.c c.args.pivot.now) whole in
+    = c.clear_row.ensures.cleared ∙ ap (cleared k.ops c.args.c c.args.pivot.now) whole in
     record {
       done =
           ap (λ m. rows_in w c.args.count (put_mid at m part new)) (row_span at w)
@@ -61,7 +41,7 @@ loop-i-preserved g c =
           (new_is ∙ ap (cleared k.ops c.args.c c.args.pivot.now)
           (sym (rows_in_get w c.args.count c.loop-i.i part shape within)));
       over = IsOver_append (IsOver_take at c.loop-i.invariant.over)
-          (IsOver_append new_over (IsOver_drop _ (IsOver_drop at c.loop-i.invariant.over)));
+          (IsOver_append c.clear_row.ensures.over (IsOver_drop _ (IsOver_drop at c.loop-i.invariant.over)));
     }
 
 pub returns-clause-cleared : goal.returns-clause-cleared

@@ -22,7 +22,14 @@ pub turns-preserved : goal.turns-preserved
 turns-preserved g c =
     let k = g.K.SmallField.field c.args.k.now in
     between_more k c.args.p.now c.n-degree.ensures.range.positive c.args.o.now c.requires.order c.args.pi.now
-    c.turns.cur c.in_ok-next.next c.turns.invariant c.in_ok-next.ensures
+    c.turns.cur c.in_ok-next.next c.turns.invariant
+    (record {
+      order = c.in_ok-next.ensures.order;
+      has = c.in_ok-next.ensures.enlarges;
+      taken =
+          c.in_ok-next.ensures.taken;
+      last = c.in_ok-next.ensures.last;
+    })
 
 pub same_lattice-requires-clause-a_form : goal.same_lattice-requires-clause-a_form
 same_lattice-requires-clause-a_form g c =
@@ -42,19 +49,33 @@ same_lattice-requires-clause-b_form g c =
     (subst (λ n. IsLattice k.ops n cur) (sym c.in_ok-next.ensures.order.lattice.popov.size)
     c.turns.invariant.order.lattice))
 
-pub returns-then-same_lattice-clause-members : goal.returns-then-same_lattice-clause-members
-returns-then-same_lattice-clause-members g c =
+pub returns-then-branch-clause-members : goal.returns-then-branch-clause-members
+returns-then-branch-clause-members g c =
     let k = g.K.SmallField.field c.args.k.now in
-    let yes : c.same_lattice.result ≡ true = search rules in
+    let yes : c.in_ok-same_lattice.field-0 ≡ true = search rules in
     between_last k c.args.p.now c.n-degree.ensures.range.positive c.args.o.now c.requires.order c.args.pi.now
-    c.turns.cur c.in_ok-next.next c.turns.invariant c.in_ok-next.ensures
-    (sym c.lattice.ensures ∙ c.same_lattice.ensures.equal.0 yes ∙ c.lattice-in-turns.ensures)
+    c.turns.cur c.in_ok-next.next c.turns.invariant
+    (record {
+      order = c.in_ok-next.ensures.order;
+      has = c.in_ok-next.ensures.enlarges;
+      taken =
+          c.in_ok-next.ensures.taken;
+      last = c.in_ok-next.ensures.last;
+    })
+    (sym c.lattice.ensures ∙ c.in_ok-same_lattice.ensures.equal.0 yes ∙ c.lattice-in-turns.ensures)
 
 pub turns-smaller : goal.turns-smaller
 turns-smaller g c =
     let k = g.K.SmallField.field c.args.k.now in
-    let no : c.same_lattice.result ≡ false = search rules in
+    let no : c.in_ok-same_lattice.field-0 ≡ false = search rules in
     turn_smaller k c.args.p.now c.n-degree.ensures.range.positive c.requires.some c.args.pi.now c.turns.cur
-    c.in_ok-next.next c.turns.invariant.order c.in_ok-next.ensures
-    (λ same. false_true (sym no ∙ c.same_lattice.ensures.equal.1
+    c.in_ok-next.next c.turns.invariant.order
+    (record {
+      order = c.in_ok-next.ensures.order;
+      has = c.in_ok-next.ensures.enlarges;
+      taken =
+          c.in_ok-next.ensures.taken;
+      last = c.in_ok-next.ensures.last;
+    })
+    (λ same. false_true (sym no ∙ c.in_ok-same_lattice.ensures.equal.1
     (c.lattice.ensures ∙ same ∙ sym c.lattice-in-turns.ensures)))

@@ -1,7 +1,6 @@
 use Rattle.std.proofs.Common.{◌≤◌, length, sym, subst}
 use Rattle.ff_lattice.specs.Lattices.{LatticeValue, IsLattice}
-use Rattle.ff_lattice.proofs.Results.{ok_through}
-use Rattle.ff_order.proofs.Results.{ok_from_both}
+use Rattle.ff_lattice.proofs.Results.{ok_through, ok_from_both}
 use Rattle.ff_order.proofs.RadicalSets.{multiples_members, multiples_are_ideal}
 use Rattle.ff_order.proofs.radicals.multiples.Goals as goal
 

@@ -3,11 +3,10 @@ use Rattle.std.proofs.lemmas.List.Elements.{All-append}
 use Rattle.std.specs.Prelude.{IfOk}
 use Rattle.function_field.specs.Values.{IsElem, Functions}
 use Rattle.ff_lattice.specs.Lattices.{Contains, InSpanOf, IsFull, row_elems}
-use Rattle.ff_lattice.proofs.Results.{members_through}
+use Rattle.ff_lattice.proofs.Results.{members_through, ok_from_both}
 use Rattle.ff_lattice.proofs.SumsAndProducts.{rows_elems}
 use Rattle.ff_order.specs.Steps.{IsNilpotentBasis}
 use Rattle.value_theory.proofs.Bridge.{irreducible_some}
-use Rattle.ff_order.proofs.Results.{ok_from_both}
 use Rattle.ff_order.proofs.RadicalSets.{lifts_full, radical_spanned}
 use Rattle.ff_order.proofs.Turns.{radical_is_ideal}
 use Rattle.ff_order.proofs.radicals.radical.Goals as goal
@@ -23,7 +22,7 @@ spanned-requires-clause-gens_in g c =
     let l = c.in_ok-ideal.ideal in
     let q = c.in_ok-q.q in
     let lifts = c.in_ok-gens.gens.items in
-    let is : c.deref.result.now ≡ lifts ++ row_elems l = c.deref.ensures.value ∙ c.in_ok-push_rows.ensures in
+    let is : c.deref.result.now ≡ lifts ++ row_elems l = c.deref.ensures.value ∙ c.in_ok-push_rows.ensures.all in
     let basis = subst (λ i. IsNilpotentBasis k p c.args.o.now i lifts) c.in_ok-q.ensures.ideal
     (subst (λ o. IsNilpotentBasis k p o q.ideal lifts) c.in_ok-q.ensures.order
     (subst (λ x. IsNilpotentBasis k x q.order q.ideal lifts) c.in_ok-q.ensures.p c.in_ok-gens.ensures)) in
@@ -37,7 +36,7 @@ spanned-requires-clause-full g c =
     let p = c.args.p.now in
     let l = c.in_ok-ideal.ideal in
     let lifts = c.in_ok-gens.gens.items in
-    let is : c.deref.result.now ≡ lifts ++ row_elems l = c.deref.ensures.value ∙ c.in_ok-push_rows.ensures in
+    let is : c.deref.result.now ≡ lifts ++ row_elems l = c.deref.ensures.value ∙ c.in_ok-push_rows.ensures.all in
     subst (λ gens. IsFull k p (InSpanOf k p gens)) (sym is)
     (lifts_full k p c.n-degree.ensures.range.positive c.args.o.now c.requires.order lifts l
     c.in_ok-ideal.ensures.ideal.lattice)
@@ -50,7 +49,7 @@ returns-clause-members g c =
     let l = c.in_ok-ideal.ideal in
     let q = c.in_ok-q.q in
     let lifts = c.in_ok-gens.gens.items in
-    let is : c.deref.result.now ≡ lifts ++ row_elems l = c.deref.ensures.value ∙ c.in_ok-push_rows.ensures in
+    let is : c.deref.result.now ≡ lifts ++ row_elems l = c.deref.ensures.value ∙ c.in_ok-push_rows.ensures.all in
     let basis = subst (λ i. IsNilpotentBasis k p o i lifts) c.in_ok-q.ensures.ideal
     (subst (λ x. IsNilpotentBasis k p x q.ideal lifts) c.in_ok-q.ensures.order
     (subst (λ x. IsNilpotentBasis k x q.order q.ideal lifts) c.in_ok-q.ensures.p c.in_ok-gens.ensures)) in

@@ -2,7 +2,7 @@ use Rattle.std.proofs.Common.{subst}
 use Rattle.std.proofs.lemmas.Result.{err_from_is_err_and}
 use Rattle.ff_fields.specs.Fields.{field_of}
 use Rattle.function_field.specs.Values.{PresValue}
-use Rattle.ff_meaning.specs.Limits.{max_degree}
+use Rattle.function_field.specs.Limits.{max_degree}
 use Rattle.ff_meaning.specs.Refusals.{UnlessMemory, IsProductRow}
 use Rattle.ff_session.specs.Steps.{IsProductRead}
 use Rattle.ff_session.proofs.Truths.{mul_answer, mul_refused, factor_answer, factor_refused, order_true}

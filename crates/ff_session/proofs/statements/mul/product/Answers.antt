@@ -1,6 +1,6 @@
 use Rattle.std.proofs.Common.{subst, inl, inr}
 use Rattle.std.proofs.lemmas.Result.{err_from_is_err_and}
-use Rattle.ff_meaning.specs.Limits.{max_degree}
+use Rattle.function_field.specs.Limits.{max_degree}
 use Rattle.ff_meaning.specs.Refusals.{IsElementRow}
 use Rattle.ff_meaning.specs.Elements.{IsElementRead}
 use Rattle.ff_session.proofs.Products.{product_read}

@@ -1,8 +1,8 @@
-use Rattle.std.proofs.Common.{◌≡◌, ◌<◌, length, ap, subst, arith, Some}
+use Rattle.std.proofs.Common.{◌≡◌, ◌<◌, length, sym, ap, subst, arith, Some}
 use Rattle.std.specs.Prelude.{slice_get}
-use Rattle.ff_lattice.specs.Lattices.{LatticeValue, row_elems}
+use Rattle.ff_lattice.specs.Lattices.{LatticeValue, IsLattice, row_elems}
 use Rattle.ff_lattice.proofs.RowElems.{elems_length}
-use Rattle.ff_session.proofs.OrderAnswers.{rows_more}
+use Rattle.ff_session.proofs.OrderAnswers.{form_on, rows_more}
 use Rattle.ff_session.proofs.statements.order.order_rows.Goals as goal
 
 pub loop-i-preserved : goal.loop-i-preserved
@@ -18,3 +18,11 @@ loop-i-preserved g c =
     (subst (λ (l : LatticeValue). slice_get (row_elems l) c.loop-i.i ≡ Some r) c.lattice-l.ensures
     c.in_ok-r.ensures.row)
     c.loop-i.invariant c.in_ok-written.ensures c.in_ok-push.ensures.items
+
+pub written-requires-clause-r_in : goal.written-requires-clause-r_in
+written-requires-clause-r_in g c =
+    let k = g.K.SmallField.field c.args.k.now in
+    let n = c.args.curve.now.fin.n in
+    c.in_ok-r.ensures.in_range k.ops n
+    (subst (IsLattice k.ops n) (sym c.lattice-l.ensures)
+    (form_on k c.args.curve.now c.args.side c.args.o.now c.requires.curve c.requires.order))

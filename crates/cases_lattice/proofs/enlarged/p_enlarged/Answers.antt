@@ -1,6 +1,0 @@
-use Rattle.ff_order.proofs.Separable.{some_disc}
-use Rattle.cases_lattice.proofs.enlarged.p_enlarged.Goals as goal
-
-pub p_maximal-requires-clause-some : goal.p_maximal-requires-clause-some
-p_maximal-requires-clause-some g c = some_disc (g.K.SmallField.field c.args.k.now) c.args.c.now c.requires
-    c.fin-p.result.now c.fin-p.ensures
