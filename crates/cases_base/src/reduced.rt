@@ -1,7 +1,7 @@
 //! Rows of polynomials in weak Popov and Popov form.
 
 ghost use Rattle.std.specs.Prelude.{◌≡◌, All, IfOk};
-ghost use Rattle.ff_poly.specs.Popov.{rows_of, width_of, IsRow, IsPopov};
+ghost use Rattle.ff_poly.specs.Popov.{rows_of, width_of, IsRow, IsPopovMatrix};
 
 use case_values::print::{push_rows, row_text, rows_text, worded};
 use case_values::read::{BAD, number, parted, row};
@@ -74,7 +74,7 @@ fn coordinates_text<K: SmallField>(
     v: &Vec<Poly>,
 ) -> Result<String, AllocError>
     requires basis_in { All (IsRow (K.field k.now).ops w) (rows_of basis.now.items) }
-    requires popov { IsPopov w (rows_of basis.now.items) }
+    requires popov { IsPopovMatrix w (rows_of basis.now.items) }
     requires v_in { IsRow (K.field k.now).ops w v.now.items }
 {
     match coordinates(alloc, k, basis.as_slice(), v.as_slice())? {

@@ -2,7 +2,7 @@
 
 ghost use Rattle.std.specs.Prelude.{◌≡◌, length, All, IfOk};
 ghost use Rattle.function_field.specs.Values.{IsElem};
-ghost use Rattle.ff_lattice.specs.Lattices.{IsLattice};
+ghost use Rattle.ff_lattice.specs.Lattices.{IsLatticeValue};
 
 use case_values::print::{push_polynomial, push_rows};
 use case_values::read::{BAD, element};
@@ -34,7 +34,7 @@ pub fn lattice<K: SmallField>(
     p: &Pres,
     text: &str,
 ) -> Result<Lattice, AllocError>
-    ensures form { IfOk result (IsLattice (K.field k.now).ops p.now.n) }
+    ensures form { IfOk result (IsLatticeValue (K.field k.now).ops p.now.n) }
     ensures size { IfOk result (λ l. length l.rows ≡ p.now.n) }
 {
     let gens = elements(alloc, k, p.n(), text)?;

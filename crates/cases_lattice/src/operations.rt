@@ -2,7 +2,7 @@
 
 ghost use Rattle.std.specs.Prelude.{◌≡◌, length};
 ghost use Rattle.function_field.specs.Values.{IsPresOver};
-ghost use Rattle.ff_lattice.specs.Lattices.{IsLattice};
+ghost use Rattle.ff_lattice.specs.Lattices.{IsLatticeValue};
 
 use crate::lattices::{elements, lattice, lattice_text};
 use case_values::print::{decided, fraction_text};
@@ -67,7 +67,7 @@ fn multiple<K: SmallField>(
     a: &Lattice,
     text: &str,
 ) -> Result<Lattice, AllocError>
-    requires { IsLattice (K.field k.now).ops (length a.now.rows) a.now }
+    requires { IsLatticeValue (K.field k.now).ops (length a.now.rows) a.now }
 {
     let Some((num, den)) = text.split_once('/') else {
         return Err(BAD);
@@ -82,7 +82,7 @@ fn multiple<K: SmallField>(
 
 // Is the element of the text in the lattice?
 fn has<K: SmallField>(alloc: Global, k: &K, a: &Lattice, text: &str) -> Result<bool, AllocError>
-    requires { IsLattice (K.field k.now).ops (length a.now.rows) a.now }
+    requires { IsLatticeValue (K.field k.now).ops (length a.now.rows) a.now }
 {
     let z = element(alloc, k, a.len(), text)?;
     contains(alloc, k, a, &z)

@@ -3,7 +3,7 @@
 ghost use Rattle.std.specs.Prelude.{◌≡◌, IfOk};
 ghost use Rattle.function_field.specs.Values.{IsElem, IsPresOver};
 ghost use Rattle.ff_falg.specs.Algebras.{IsVector};
-ghost use Rattle.ff_lattice.specs.Lattices.{IsLattice};
+ghost use Rattle.ff_lattice.specs.Lattices.{IsLatticeValue};
 ghost use Rattle.ff_lattice.specs.Orders.{IsOrderLattice};
 ghost use Rattle.ff_lattice.specs.Quotients.{IsQuotientOver, dimension};
 
@@ -30,7 +30,7 @@ fn modulo_ideal<K: SmallField>(
 ) -> Result<Quotient, AllocError>
     requires p_in { IsPresOver (K.field k.now).ops p.now }
     requires order { IsOrderLattice (K.field k.now) p.now o.now }
-    requires form { IsLattice (K.field k.now).ops p.now.n i.now }
+    requires form { IsLatticeValue (K.field k.now).ops p.now.n i.now }
     ensures { IfOk result (IsQuotientOver (K.field k.now)) }
 {
     if !is_ideal(alloc, k, p, o, i)? {

@@ -14,58 +14,58 @@ use Rattle.ff_poly.specs.Value.{value}
 use Rattle.ff_poly.specs.Polynomials.{polynomials, value_nil}
 use Rattle.function_field.specs.Values.{PresValue, row_of_list, equation_of}
 use Rattle.ff_algebra.specs.RowProducts.{IsPolyRow, row_at}
-use Rattle.ff_algebra.specs.Inverses.{entry_of, HasOwnEntry, eliminated, IsEliminatedBy, ClearsColumn, IsLine, IsEliminated}
+use Rattle.ff_algebra.specs.Inverses.{line_entry, HasOwnEntry, eliminated_lines, IsEliminatedBy, ClearsColumn, IsInverseLine, AreEliminatedLines}
 use Rattle.ff_algebra.proofs.Elimination.{skip, skip_other, skip_apart, skip_below, get_or_skip, cleared_here, cleared_kept, own_kept, line_eliminated}
 
 -- past the last line, and past the end of a line, entries are empty
-entry_past : (lines : List (List (List ℕ))) (i j : ℕ) → length lines ≤ i → entry_of lines i j ≡ []
+entry_past : (lines : List (List (List ℕ))) (i j : ℕ) → length lines ≤ i → line_entry lines i j ≡ []
 entry_past lines i j past = ap (λ line. get_or line j []) (get_or_past lines i [] past)
 
 module _ (k : CodeField) (p : PresValue) (v : List (List ℕ)) where
   -- ---- one column more
 
-  module _ (column : ℕ) (old new : List (List (List ℕ))) (start : p.n < column) (is : IsEliminated k p v column old)
+  module _ (column : ℕ) (old new : List (List (List ℕ))) (start : p.n < column) (is : AreEliminatedLines k p v column old)
     where
-      kept : (((i : ℕ) → entry_of old i column ≡ []) × (new ≡ old)) → IsEliminated k p v (column + 1) new
+      kept : (((i : ℕ) → line_entry old i column ≡ []) × (new ≡ old)) → AreEliminatedLines k p v (column + 1) new
       kept (none, same) =
-          let more : (i j : ℕ) → p.n < j → j < column + 1 → entry_of old i j ≡ []
-          = λ i j late early. elim (cases_lt j column) as (λ _. entry_of old i j ≡ []) [
+          let more : (i j : ℕ) → p.n < j → j < column + 1 → line_entry old i j ≡ []
+          = λ i j late early. elim (cases_lt j column) as (λ _. line_entry old i j ≡ []) [
             | inl less ↦ is.cleared i j late less
-            | inr past ↦ subst (λ c. entry_of old i c ≡ []) (omega arith) (none i)
+            | inr past ↦ subst (λ c. line_entry old i c ≡ []) (omega arith) (none i)
           ] in
-          subst (IsEliminated k p v (column + 1)) (sym same) (record { each = is.each; cleared = more; own = is.own })
+          subst (AreEliminatedLines k p v (column + 1)) (sym same) (record { each = is.each; cleared = more; own = is.own })
 
       module _ (i : ℕ) (by : IsEliminatedBy k.ops column old new i) where
         abbrev pivot : List (List ℕ)
         pivot = get_or old i []
 
-        pivot_is : IsLine k p v pivot
+        pivot_is : IsInverseLine k p v pivot
         pivot_is = is.each i by.within
 
         size : length new ≡ length (remove old i)
-        size = ap length by.others ∙ length-map (remove old i) (eliminated k.ops column pivot)
+        size = ap length by.others ∙ length-map (remove old i) (eliminated_lines k.ops column pivot)
 
         pub one_less : length new + 1 ≡ length old
         one_less = ap (λ m. m + 1) size ∙ length-remove old i by.within
 
         -- each line is the elimination of another one
-        line_is : (j : ℕ) → j < length new → get_or new j [] ≡ eliminated k.ops column pivot (get_or old (skip i j) [])
+        line_is : (j : ℕ) → j < length new → get_or new j [] ≡ eliminated_lines k.ops column pivot (get_or old (skip i j) [])
         line_is j less =
             ap (λ lines. get_or lines j []) by.others
-            ∙ get_or-map (eliminated k.ops column pivot) (remove old i) j [] [] (omega (arith, size))
-            ∙ ap (eliminated k.ops column pivot) (get_or_skip old i j [] by.within)
+            ∙ get_or-map (eliminated_lines k.ops column pivot) (remove old i) j [] [] (omega (arith, size))
+            ∙ ap (eliminated_lines k.ops column pivot) (get_or_skip old i j [] by.within)
 
         source_below : (j : ℕ) → j < length new → skip i j < length old
         source_below j less = omega (arith, skip_below i j, one_less)
 
-        source : (j : ℕ) → j < length new → IsLine k p v (get_or old (skip i j) [])
+        source : (j : ℕ) → j < length new → IsInverseLine k p v (get_or old (skip i j) [])
         source j less = is.each (skip i j) (source_below j less)
 
         -- an entry where the line and the pivot have nothing
-        empty_at : (j c : ℕ) → entry_of old i c ≡ [] → ((m : ℕ) → m ≡ skip i j → entry_of old m c ≡ [])
-            → entry_of new j c ≡ []
+        empty_at : (j c : ℕ) → line_entry old i c ≡ [] → ((m : ℕ) → m ≡ skip i j → line_entry old m c ≡ [])
+            → line_entry new j c ≡ []
         empty_at j c pivot_none none =
-            elim (cases_lt j (length new)) as (λ _. entry_of new j c ≡ []) [
+            elim (cases_lt j (length new)) as (λ _. line_entry new j c ≡ []) [
               | inl less ↦ ap (λ line. get_or line c []) (line_is j less)
                   ∙ cleared_kept k (2 * p.n + 1) column pivot (get_or old (skip i j) [])
                   pivot_is.row (source j less).row
@@ -73,20 +73,20 @@ module _ (k : CodeField) (p : PresValue) (v : List (List ℕ)) where
               | inr past ↦ entry_past new j c past
             ]
 
-        empty_here : (j : ℕ) → entry_of new j column ≡ []
+        empty_here : (j : ℕ) → line_entry new j column ≡ []
         empty_here j =
-            elim (cases_lt j (length new)) as (λ _. entry_of new j column ≡ []) [
+            elim (cases_lt j (length new)) as (λ _. line_entry new j column ≡ []) [
               | inl less ↦ ap (λ line. get_or line column []) (line_is j less)
                   ∙ cleared_here k (2 * p.n + 1) column pivot (get_or old (skip i j) [])
                   pivot_is.row (source j less).row
               | inr past ↦ entry_past new j column past
             ]
 
-        cleared : (j c : ℕ) → p.n < c → c < column + 1 → entry_of new j c ≡ []
+        cleared : (j c : ℕ) → p.n < c → c < column + 1 → line_entry new j c ≡ []
         cleared j c late early =
-            elim (cases_lt c column) as (λ _. entry_of new j c ≡ []) [
+            elim (cases_lt c column) as (λ _. line_entry new j c ≡ []) [
               | inl less ↦ empty_at j c (is.cleared i c late less) (λ m e. is.cleared m c late less)
-              | inr past ↦ subst (λ m. entry_of new j m ≡ []) (omega arith) (empty_here j)
+              | inr past ↦ subst (λ m. line_entry new j m ≡ []) (omega arith) (empty_here j)
             ]
 
         own : (j : ℕ) → j < length new → HasOwnEntry (p.n + 1) new j
@@ -101,20 +101,20 @@ module _ (k : CodeField) (p : PresValue) (v : List (List ℕ)) where
                   mine.column pivot_none mine.some by.some
                   (sym (ap (λ line. get_or line mine.column []) (line_is j less)) ∙ gone);
               alone = λ m apart. empty_at m mine.column pivot_none
-                  (λ s e. subst (λ t. entry_of old t mine.column ≡ []) (sym e)
+                  (λ s e. subst (λ t. line_entry old t mine.column ≡ []) (sym e)
                   (mine.alone (skip i m) (skip_apart i m j apart)));
             }
 
-        eliminated_by : IsEliminated k p v (column + 1) new
+        eliminated_by : AreEliminatedLines k p v (column + 1) new
         eliminated_by = record {
-          each = λ j less. subst (IsLine k p v) (sym (line_is j less))
+          each = λ j less. subst (IsInverseLine k p v) (sym (line_is j less))
               (line_eliminated k p v column pivot (get_or old (skip i j) []) pivot_is (source j less));
           cleared = cleared;
           own = own;
         }
 
       pub eliminated_more : ClearsColumn k.ops column old new
-          → IsEliminated k p v (column + 1) new × (length old ≤ length new + 1)
+          → AreEliminatedLines k p v (column + 1) new × (length old ≤ length new + 1)
       eliminated_more (inl same) = (kept same, let size = ap length same.1 in omega (arith, size))
       eliminated_more (inr by) = (eliminated_by by.0 by.1, let size = one_less by.0 by.1 in omega (arith, size))
 
@@ -122,7 +122,7 @@ module _ (k : CodeField) (p : PresValue) (v : List (List ℕ)) where
 
   -- line i of the start: only factor i isn't 0
   pub record IsStart (i : ℕ) (line : List (List ℕ)) : Type 0 where
-    pub line_is : IsLine k p v line
+    pub line_is : IsInverseLine k p v line
     pub factors : take (p.n + 1) line ≡ set (replicate (p.n + 1) []) i (1 ∷ [])
 
   factor_at : (i j : ℕ) (line : List (List ℕ)) → IsStart i line → j < p.n + 1
@@ -130,7 +130,7 @@ module _ (k : CodeField) (p : PresValue) (v : List (List ℕ)) where
   factor_at i j line is less = sym (get_or-take (p.n + 1) line j [] less) ∙ ap (λ w. get_or w j []) is.factors
 
   pub eliminated_start : (lines : List (List (List ℕ))) → length lines ≡ p.n + 1
-      → ((i : ℕ) → i < p.n + 1 → IsStart i (get_or lines i [])) → IsEliminated k p v (p.n + 1) lines
+      → ((i : ℕ) → i < p.n + 1 → IsStart i (get_or lines i [])) → AreEliminatedLines k p v (p.n + 1) lines
   eliminated_start lines count starts = record {
     each = λ i less. (starts i (omega arith)).line_is;
     cleared = λ i j late early. absurd (omega arith);
@@ -146,7 +146,7 @@ module _ (k : CodeField) (p : PresValue) (v : List (List ℕ)) where
               (omega (arith, length-replicate (p.n + 1) (let none : List ℕ = [] in none)))) ∙ e in
               cc;
           alone = λ j apart.
-              elim (cases_lt j (p.n + 1)) as (λ _. entry_of lines j i ≡ []) [
+              elim (cases_lt j (p.n + 1)) as (λ _. line_entry lines j i ≡ []) [
                 | inl less' ↦ factor_at j i (get_or lines j []) (starts j less') within
                     ∙ get_or-set_other (replicate (p.n + 1) []) j i (1 ∷ []) [] (λ e. apart (sym e))
                     ∙ get_or-replicate (p.n + 1) i [] [] within
@@ -184,7 +184,7 @@ module _ (k : CodeField) (p : PresValue) (v : List (List ℕ)) where
 
   -- the factors of a line whose last entries are all 0
   pub factors_of_line : (lines : List (List (List ℕ))) (factors : List (List ℕ)) → 1 ≤ p.n → 0 < length lines
-      → IsEliminated k p v (2 * p.n + 1) lines → factors ≡ take (p.n + 1) (get_or lines 0 []) → HasFactors factors
+      → AreEliminatedLines k p v (2 * p.n + 1) lines → factors ≡ take (p.n + 1) (get_or lines 0 []) → HasFactors factors
   factors_of_line lines factors positive some is factors_are =
       let m = suc (p.n - 1) in
       let line = get_or lines 0 [] in
@@ -218,7 +218,7 @@ module _ (k : CodeField) (p : PresValue) (v : List (List ℕ)) where
       })
 
   pub rows_in : (width column : ℕ) (lines : List (List (List ℕ))) → width ≡ 2 * p.n + 1
-      → IsEliminated k p v column lines → All (IsPolyRow k.ops width) lines
+      → AreEliminatedLines k p v column lines → All (IsPolyRow k.ops width) lines
   rows_in width column lines width_is is i d less =
       subst (IsPolyRow k.ops width) (get_or_default lines i [] d less)
       (subst (λ w. IsPolyRow k.ops w (get_or lines i [])) (sym width_is) (is.each i less).row)

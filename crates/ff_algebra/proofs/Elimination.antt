@@ -18,7 +18,7 @@ use Rattle.ff_poly.specs.Polynomials.{Polynomial, polynomials, polynomials_domai
 use Rattle.ff_poly.proofs.Parts.{value_sum_with_product, value_multiple_minus}
 use Rattle.function_field.specs.Values.{PresValue, equation_of}
 use Rattle.ff_algebra.specs.RowProducts.{IsPolyRow, cross_sums, row_at}
-use Rattle.ff_algebra.specs.Inverses.{eliminated, IsLine}
+use Rattle.ff_algebra.specs.Inverses.{eliminated_lines, IsInverseLine}
 use Rattle.ff_algebra.proofs.RowProducts.{over_cross_sums, poly_cross_sums, length_cross_sums, row_of_cross_sums}
 
 -- ---- positions after one is removed
@@ -126,7 +126,7 @@ module _ (k : CodeField) where
   module _ (width column : ℕ) (pivot line : List (List ℕ)) (pivot_in : IsPolyRow k.ops width pivot)
       (line_in : IsPolyRow k.ops width line) where
     abbrev new_line : List (List ℕ)
-    new_line = eliminated k.ops column pivot line
+    new_line = eliminated_lines k.ops column pivot line
 
     abbrev minus : List ℕ
     minus = multiple_of k.ops (get_or line column []) (k.neg 1)
@@ -221,8 +221,8 @@ combined S n f v e d a b x y w u first second =
     ∙ row_mul_comm S n f v (row_add S.ops m (row_scale S.ops m e w) (row_scale S.ops m d u))
 
 module _ (k : CodeField) (p : PresValue) (v : List (List ℕ)) where
-  pub line_eliminated : (column : ℕ) (pivot line : List (List ℕ)) → IsLine k p v pivot → IsLine k p v line
-      → IsLine k p v (eliminated k.ops column pivot line)
+  pub line_eliminated : (column : ℕ) (pivot line : List (List ℕ)) → IsInverseLine k p v pivot → IsInverseLine k p v line
+      → IsInverseLine k p v (eliminated_lines k.ops column pivot line)
   line_eliminated column pivot line pivot_is line_is =
       let m = suc (p.n - 1) in
       let width = 2 * p.n + 1 in

@@ -18,7 +18,7 @@ use Rattle.ff_poly.specs.Polynomials.{Polynomial, polynomials, value_nil, value_
 use Rattle.function_field.specs.Functions.{RowOver, function_eq, function_same, mul_rows, whole_row, mul_function, zero_function, one_function}
 use Rattle.function_field.specs.Values.{ElemValue, PresValue, IsElem, IsMonicElem, row_of_list, equation_of, row_over, function_of, functions, Functions}
 use Rattle.ff_algebra.specs.RowProducts.{row_at}
-use Rattle.ff_algebra.specs.Inverses.{IsRelation}
+use Rattle.ff_algebra.specs.Inverses.{IsInverseRelation}
 use Rattle.function_field.proofs.SameValues.{elem_den, row_over_num, row_over_den}
 use Rattle.ff_algebra.proofs.Elimination.{over_at, poly_at}
 use Rattle.ff_algebra.proofs.EliminatedLines.{HasFactors}
@@ -42,7 +42,7 @@ module _ (k : CodeField) (p : PresValue) (v : List (List ℕ)) where
 
   -- the last factor is d
   pub split : (factors w : List (List ℕ)) (d : List ℕ) → 1 ≤ p.n → factors ≡ w ++ d ∷ [] → HasFactors k p v factors
-      → IsRelation k p v w d
+      → IsInverseRelation k p v w d
   split factors w d positive factors_are is =
       let relation = subst (HasFactors k p v) factors_are is in
       let size : length w ≡ p.n = omega (arith, length-append w (d ∷ []), relation.row.one_each) in
@@ -73,7 +73,7 @@ module _ (k : CodeField) (p : PresValue) (v : List (List ℕ)) where
       }
 
 module _ (k : CodeField) (p : PresValue) (a : ElemValue) (a_in : IsElem k.ops p.n a) (a_monic : IsMonicElem a)
-    (w : List (List ℕ)) (d : List ℕ) (is : IsRelation k p a.num w d) where
+    (w : List (List ℕ)) (d : List ℕ) (is : IsInverseRelation k p a.num w d) where
   abbrev E : CommRing (Functions k p)
   E = functions k p
 

@@ -8,7 +8,7 @@ use Rattle.std.proofs.Math.ListN.{get_or-append}
 use Rattle.std.proofs.Math.Seq.{get_or-append_seam}
 use Rattle.ff_poly.specs.Words.{degree_of}
 use Rattle.ff_poly.specs.Popov.{rows_of}
-use Rattle.ff_algebra.specs.Inverses.{entry_of}
+use Rattle.ff_algebra.specs.Inverses.{line_entry}
 
 pub line_read : (lines : List (Vec (List ℕ))) (i : ℕ) (line : Vec (List ℕ)) → i < length lines
     → line ≡ get_or lines i line → line.items ≡ get_or (rows_of lines) i []
@@ -17,7 +17,7 @@ line_read lines i line less is = ap (λ (r : Vec (List ℕ)). r.items) is
 
 pub entry_read : (lines : List (Vec (List ℕ))) (i column : ℕ) (line : Vec (List ℕ)) (entry : List ℕ) → i < length lines
     → line ≡ get_or lines i line → column < length line.items → entry ≡ get_or line.items column entry
-    → entry ≡ entry_of (rows_of lines) i column
+    → entry ≡ line_entry (rows_of lines) i column
 entry_read lines i column line entry less is within entry_is =
     get_or_read line.items column entry within entry_is []
     ∙ ap (λ r. get_or r column []) (line_read lines i line less is)
@@ -91,7 +91,7 @@ mapped_all f i j old lines rest so_far all lines_is =
 
 -- what is found in a slice of the lines
 pub found_in : (lines now : List (Vec (List ℕ))) (i column : ℕ) → now ≡ lines
-    → (i < length now) × (entry_of (rows_of now) i column ≢ [])
-    → (i < length lines) × (entry_of (rows_of lines) i column ≢ [])
-found_in lines now i column now_is found = subst (λ xs. (i < length xs) × (entry_of (rows_of xs) i column ≢ [])) now_is
+    → (i < length now) × (line_entry (rows_of now) i column ≢ [])
+    → (i < length lines) × (line_entry (rows_of lines) i column ≢ [])
+found_in lines now i column now_is found = subst (λ xs. (i < length xs) × (line_entry (rows_of xs) i column ≢ [])) now_is
     found

@@ -17,7 +17,7 @@ use Rattle.ff_poly.specs.Polynomials.{polynomials, value_one}
 use Rattle.ff_poly.proofs.Parts.{IsPoly_sum_of, value_sum_with_product, minus_one}
 use Rattle.function_field.specs.Values.{PresValue, row_of_list, equation_of}
 use Rattle.ff_algebra.specs.RowProducts.{IsPolyRow, add_products, row_at}
-use Rattle.ff_algebra.specs.Inverses.{IsLine}
+use Rattle.ff_algebra.specs.Inverses.{IsInverseLine}
 use Rattle.ff_algebra.proofs.RowProducts.{IsRow_zeros, row_of_zeros, row_of_add_products}
 use Rattle.ff_algebra.proofs.Elimination.{over_at}
 use Rattle.ff_algebra.proofs.EliminatedLines.{row_of_take}
@@ -66,7 +66,7 @@ module _ (k : CodeField) where
       (row_at k p (take p.n factors)) (row_at k p v)
       → first ≡ sum_of k.ops (get_or product 0 [])
       (multiple_of k.ops (product_of k.ops (1 ∷ []) (get_or factors p.n [])) (k.neg 1))
-      → IsLine k p v (factors ++ set product 0 first)
+      → IsInverseLine k p v (factors ++ set product 0 first)
   line_made p v factors product first positive factors_in product_in product_is first_is =
       let m = suc (p.n - 1) in
       let S = (polynomials k).ring in

@@ -11,7 +11,7 @@ use Rattle.ring_lemmas.proofs.Solver.{ring, reads}
 use Rattle.ff_fields.specs.Field.{CodeField}
 use Rattle.ff_fields.specs.Code.{raw_ring, is_zero_code}
 use Rattle.ff_fields.specs.Over.{IsOver, IsOver_nil, IsOver_cons, IsOver_head, IsOver_tail, get_or_below}
-use Rattle.ff_poly.specs.Words.{IsMonic, poly_of, top_of, multiple_of}
+use Rattle.ff_poly.specs.Words.{IsMonicList, poly_of, top_of, multiple_of}
 use Rattle.ff_poly.specs.Polynomials.{constant_poly, x_poly, x_poly_not_zero}
 use Rattle.ff_poly.proofs.Parts.{value_multiple}
 use Rattle.function_field.specs.declared.side.Side.TheVariants.{Finite, Infinite}
@@ -71,7 +71,7 @@ nil_above_zeros (suc j) w e = nil_above_zeros j w (onto (poly_of (replicate j 0 
     onto (y ∷ u) e = cc
 
 -- the reversal of what is monic isn't 0
-pub reversed_not_zero : (d : List ℕ) (m : ℕ) → IsMonic d → reversed_of d m ≢ []
+pub reversed_not_zero : (d : List ℕ) (m : ℕ) → IsMonicList d → reversed_of d m ≢ []
 reversed_not_zero d m (lower, d_is) e =
     one (poly_of (reverse lower))
     (ap poly_of (sym (ap reverse d_is ∙ reverse-append lower (1 ∷ [])))

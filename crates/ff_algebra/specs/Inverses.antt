@@ -17,36 +17,36 @@ IfKills (Kills w) P = P w
 IfKills Memory P = Unit {0}
 
 -- the entry of a line in a column
-abbrev pub entry_of : List (List (List ℕ)) → ℕ → ℕ → List ℕ
-entry_of lines i j = get_or (get_or lines i []) j []
+abbrev pub line_entry : List (List (List ℕ)) → ℕ → ℕ → List ℕ
+line_entry lines i j = get_or (get_or lines i []) j []
 
 -- line i has an entry that isn't 0 in one of the first columns, where each other line has 0
 pub record HasOwnEntry (width : ℕ) (lines : List (List (List ℕ))) (i : ℕ) : Type 0 where
   pub column : ℕ
   pub within : column < width
-  pub some : entry_of lines i column ≢ []
-  pub alone : (j : ℕ) → j ≢ i → entry_of lines j column ≡ []
+  pub some : line_entry lines i column ≢ []
+  pub alone : (j : ℕ) → j ≢ i → line_entry lines j column ≡ []
 
 module _ (k : FieldOps) where
   -- b times the line less a times the pivot, where b and a are the entries of the pivot and of the line in the column
-  abbrev pub eliminated : ℕ → List (List ℕ) → List (List ℕ) → List (List ℕ)
-  eliminated column pivot line =
+  abbrev pub eliminated_lines : ℕ → List (List ℕ) → List (List ℕ) → List (List ℕ)
+  eliminated_lines column pivot line =
       cross_sums k (multiple_of k (get_or line column []) (k.neg 1)) (get_or pivot column []) line pivot
 
   -- each other line less its part at line i, which isn't 0 in the column
   pub record IsEliminatedBy (column : ℕ) (old new : List (List (List ℕ))) (i : ℕ) : Type 0 where
     pub within : i < length old
-    pub some : entry_of old i column ≢ []
-    pub others : new ≡ map (eliminated column (get_or old i [])) (remove old i)
+    pub some : line_entry old i column ≢ []
+    pub others : new ≡ map (eliminated_lines column (get_or old i [])) (remove old i)
 
   -- a line is taken from the others; none where each is 0 in the column
   abbrev pub ClearsColumn : ℕ → List (List (List ℕ)) → List (List (List ℕ)) → Type 0
   ClearsColumn column old new =
-      (((i : ℕ) → entry_of old i column ≡ []) × (new ≡ old)) ⊎ ((i : ℕ) × IsEliminatedBy column old new i)
+      (((i : ℕ) → line_entry old i column ≡ []) × (new ≡ old)) ⊎ ((i : ℕ) × IsEliminatedBy column old new i)
 
 module _ (k : CodeField) (p : PresValue) (v : List (List ℕ)) where
   -- w, then a polynomial d, then the entries of w·v - d
-  pub record IsLine (line : List (List ℕ)) : Type 0 where
+  pub record IsInverseLine (line : List (List ℕ)) : Type 0 where
     pub row : IsPolyRow k.ops (2 * p.n + 1) line
     pub product :
         row_add (polynomials k).ops (suc (p.n - 1)) (row_at k p (drop (p.n + 1) line))
@@ -56,13 +56,13 @@ module _ (k : CodeField) (p : PresValue) (v : List (List ℕ)) where
 
   -- lines with an entry of their own among the factors, which are 0 in the columns behind the factors and before this
   -- one
-  pub record IsEliminated (column : ℕ) (lines : List (List (List ℕ))) : Type 0 where
-    pub each : (i : ℕ) → i < length lines → IsLine (get_or lines i [])
-    pub cleared : (i j : ℕ) → p.n < j → j < column → entry_of lines i j ≡ []
+  pub record AreEliminatedLines (column : ℕ) (lines : List (List (List ℕ))) : Type 0 where
+    pub each : (i : ℕ) → i < length lines → IsInverseLine (get_or lines i [])
+    pub cleared : (i j : ℕ) → p.n < j → j < column → line_entry lines i j ≡ []
     pub own : (i : ℕ) → i < length lines → HasOwnEntry (p.n + 1) lines i
 
   -- w·v is d, and w isn't 0 where d is 0
-  pub record IsRelation (w : List (List ℕ)) (d : List ℕ) : Type 0 where
+  pub record IsInverseRelation (w : List (List ℕ)) (d : List ℕ) : Type 0 where
     pub row : IsPolyRow k.ops p.n w
     pub over : IsOver k.ops d
     pub poly : IsPoly d

@@ -17,7 +17,7 @@ use Rattle.ff_script.specs.declared.script.Statement.{Statement}
 use Rattle.ff_script.specs.declared.script.Statement.TheVariants.{FieldOf, CurveOf, Mul, Factor, OrderOf}
 use Rattle.ff_meaning.specs.FieldLines.{Names}
 use Rattle.ff_meaning.specs.Bindings.{Bindings, with_curve, ForField, ForCurve}
-use Rattle.ff_meaning.specs.SameBindings.{AreSameFields, AreSameCurves, AreSame, NothingBound, OneField, OneCurve}
+use Rattle.ff_meaning.specs.SameBindings.{AreSameFields, AreSameCurves, AreSameBindings, NothingBound, OneField, OneCurve}
 use Rattle.ff_meaning.specs.LowestTerms.{IsWritten}
 use Rattle.ff_meaning.proofs.ElementValues.{same_poly}
 use Rattle.ff_meaning.proofs.OneField.{same_field, fields_same, ops_with_laws}
@@ -43,7 +43,7 @@ same_named p (Some tail) k l h g = h.1 ∙ sym g.1
 -- one answer, and one field and curve behind it
 pub record IsOne (a b : Answer) (next after : Bindings) : Type 0 where
   pub answer : a ≡ b
-  pub bindings : AreSame next after
+  pub bindings : AreSameBindings next after
 
 one_field : (p : ℕ) (tail : Option Modulus) (q r : ℕ) (next after : Bindings) → field_row.IsTrue p tail q next
     → field_row.IsTrue p tail r after
@@ -172,7 +172,7 @@ module _ (old next : Bindings) where
 -- ---- over the same bindings
 
 for_field : (a b : Bindings) (P Q : FieldData → Type 0) (R : Type 0)
-    → ((d e : FieldData) → AreSameFields d e → P d → Q e → R) → AreSame a b → ForField a P → ForField b Q → R
+    → ((d e : FieldData) → AreSameFields d e → P d → Q e → R) → AreSameBindings a b → ForField a P → ForField b Q → R
 for_field a b P Q R f (NothingBound a_is b_is) h g = absurd (subst (λ o. ForField o P) a_is h)
 for_field a b P Q R f (OneField d e same a_is b_is) h g = f d e same (subst (λ o. ForField o P) a_is h)
     (subst (λ o. ForField o Q) b_is g)
@@ -180,14 +180,14 @@ for_field a b P Q R f (OneCurve d e c same a_is b_is) h g = f d e same.fields (s
     (subst (λ o. ForField o Q) b_is g)
 
 for_curve : (a b : Bindings) (P Q : FieldData → CurveValue → Type 0) (R : Type 0)
-    → ((d e : FieldData) (c : CurveValue) → AreSameCurves d e c → P d c → Q e c → R) → AreSame a b
+    → ((d e : FieldData) (c : CurveValue) → AreSameCurves d e c → P d c → Q e c → R) → AreSameBindings a b
     → ForCurve a P → ForCurve b Q → R
 for_curve a b P Q R f (NothingBound a_is b_is) h g = absurd (subst (λ o. ForCurve o P) a_is h)
 for_curve a b P Q R f (OneField d e same a_is b_is) h g = absurd (subst (λ o. ForCurve o P) a_is h)
 for_curve a b P Q R f (OneCurve d e c same a_is b_is) h g = f d e c same (subst (λ o. ForCurve o P) a_is h)
     (subst (λ o. ForCurve o Q) b_is g)
 
-same_next : (old other next after : Bindings) → AreSame old other → next ≡ old → after ≡ other → AreSame next after
+same_next : (old other next after : Bindings) → AreSameBindings old other → next ≡ old → after ≡ other → AreSameBindings next after
 same_next old other next after same h g = rw (h, g) same
 
 module _ (d e : FieldData) (c : CurveValue) (same : AreSameCurves d e c) where
@@ -217,7 +217,7 @@ module _ (d e : FieldData) (c : CurveValue) (same : AreSameCurves d e c) where
       one_order (with_laws e is') c (curve_over is') s zs ws
       (subst (λ k. order_row.IsTrue k c s zs) (fields_same d e same.fields is is') h) g
 
-module _ (old other next after : Bindings) (same : AreSame old other) where
+module _ (old other next after : Bindings) (same : AreSameBindings old other) where
   -- answers that the same bindings stay behind
   stays : (a b x y : Answer) → a ≡ x → b ≡ y → x ≡ y → next ≡ old → after ≡ other → IsOne a b next after
   stays a b x y a_is b_is e h g = record

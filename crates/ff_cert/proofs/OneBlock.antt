@@ -7,7 +7,7 @@ use Rattle.ff_meaning.specs.declared.refusal.Refusal.{Refusal}
 use Rattle.ff_meaning.specs.declared.refusal.Refusal.TheVariants.{LimitDegree, LimitOutput}
 use Rattle.function_field.specs.Limits.{max_answer_degree, max_output}
 use Rattle.ff_meaning.specs.Bindings.{Bindings}
-use Rattle.ff_meaning.specs.SameBindings.{AreSameFields, AreSameCurves, AreSame, NothingBound, OneField, OneCurve}
+use Rattle.ff_meaning.specs.SameBindings.{AreSameFields, AreSameCurves, AreSameBindings, NothingBound, OneField, OneCurve}
 use Rattle.ff_meaning.proofs.OneField.{fields_same}
 use Rattle.ff_meaning.proofs.OneRefusal.{one_row, row_moves}
 use Rattle.ff_cert.specs.declared.answer.Answer.{Answer}
@@ -27,7 +27,7 @@ curves_turned d e c h = record {
   curve = subst (λ k. IsCurve k c) (fields_same d e h.fields h.fields.left h.fields.right) h.curve;
 }
 
-bindings_turned : (a b : Bindings) → AreSame a b → AreSame b a
+bindings_turned : (a b : Bindings) → AreSameBindings a b → AreSameBindings b a
 bindings_turned a b (NothingBound a_is b_is) = NothingBound b_is a_is
 bindings_turned a b (OneField d e same a_is b_is) = OneField e d (fields_turned d e same) b_is a_is
 bindings_turned a b (OneCurve d e c same a_is b_is) = OneCurve e d c (curves_turned d e c same) b_is a_is

@@ -4,7 +4,7 @@ use Rattle.std.proofs.Common.{◌≡◌, ℕ, ◌≤◌, ◌↔◌, List, [], �
 use Rattle.std.proofs.lemmas.List.Elements.{All-head, All-tail}
 use Rattle.ff_fields.specs.Field.{CodeField}
 use Rattle.ff_fields.specs.Over.{IsOver}
-use Rattle.ff_poly.specs.Words.{IsPoly, IsMonic}
+use Rattle.ff_poly.specs.Words.{IsPoly, IsMonicList}
 use Rattle.ff_poly.specs.Popov.{IsRow}
 use Rattle.function_field.specs.declared.side.Side.{Side}
 use Rattle.function_field.specs.declared.side.Side.TheVariants.{Finite, Infinite}
@@ -48,7 +48,7 @@ module _ (k : CodeField) (c : CurveValue) (curve : IsCurve k c) where
   -- ---- one lattice
 
   finite_elems : (rows : List (List (List ℕ))) (den : List ℕ) → All (IsRow k.ops c.fin.n) rows → All (All IsPoly) rows
-      → IsOver k.ops den → IsPoly den → IsMonic den
+      → IsOver k.ops den → IsPoly den → IsMonicList den
       → map (function_on k c.fin c.c Finite) (elems_over rows den) ≡ map (function_of k c.fin) (elems_over rows den)
   finite_elems [] den rows_in rows_poly den_in den_poly monic = refl
   finite_elems (v ∷ rows) den rows_in rows_poly den_in den_poly monic =

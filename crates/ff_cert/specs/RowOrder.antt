@@ -5,7 +5,7 @@ use Rattle.function_field.specs.declared.side.Side.{Side}
 use Rattle.function_field.specs.Values.{ElemValue, function_of}
 use Rattle.function_field.specs.Infinity.{function_on}
 use Rattle.function_field.specs.Curves.{CurveValue}
-use Rattle.ff_lattice.specs.Lattices.{LatticeValue, IsLattice, row_elems}
+use Rattle.ff_lattice.specs.Lattices.{LatticeValue, IsLatticeValue, row_elems}
 use Rattle.value_theory.specs.IntegralLattices.{presentation, SpansIntegral, SpansOverPowersOfT}
 use Rattle.ff_text.specs.Printed.{WrittenValue}
 use Rattle.ff_meaning.specs.LowestTerms.{IsWritten, elem_of}
@@ -21,7 +21,7 @@ module _ (k : CodeField) (c : CurveValue) where
   -- zs are the rows of that lattice as they are printed, and span its functions
   pub record IsTrue (s : Side) (zs : List WrittenValue) : Type 0 where
     pub lattice : LatticeValue
-    pub form : IsLattice k.ops (presentation c s).n lattice
+    pub form : IsLatticeValue k.ops (presentation c s).n lattice
     pub rows : AreWrittenRows s (row_elems lattice) zs
     pub span : SpansIntegral k c s (map (λ z. function_of k c.fin (elem_of z)) zs)
     pub whole : SpansOverPowersOfT k c s (map (λ z. function_of k c.fin (elem_of z)) zs)

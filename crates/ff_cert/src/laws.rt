@@ -4,7 +4,7 @@ ghost use Rattle.std.specs.Prelude.{◌≡◌};
 ghost use Rattle.ff_script.specs.declared.script.Statement.{Statement};
 ghost use Rattle.ff_meaning.specs.declared.refusal.Refusal.{Refusal};
 ghost use Rattle.ff_meaning.specs.Bindings.{Bindings};
-ghost use Rattle.ff_meaning.specs.SameBindings.{AreSame};
+ghost use Rattle.ff_meaning.specs.SameBindings.{AreSameBindings};
 ghost use Rattle.ff_cert.specs.declared.answer.Answer.{Answer};
 ghost use Rattle.ff_cert.specs.Answers.{Answers};
 ghost use Rattle.ff_cert.specs.Blocks.{SessionValue, Refuses, Takes};
@@ -13,9 +13,9 @@ ghost use Rattle.ff_cert.specs.SameSessions.{AreSameSessions};
 /// A law: over the same field and curve a statement has one true answer at most, and binds the same.
 pub fn one_answer()
     ensures answer { (old other next after : Bindings) (s : Statement) (a b : Answer)
-        → AreSame old other → Answers old s a next → Answers other s b after → a ≡ b }
+        → AreSameBindings old other → Answers old s a next → Answers other s b after → a ≡ b }
     ensures bindings { (old other next after : Bindings) (s : Statement) (a b : Answer)
-        → AreSame old other → Answers old s a next → Answers other s b after → AreSame next after }
+        → AreSameBindings old other → Answers old s a next → Answers other s b after → AreSameBindings next after }
 {}
 
 /// A law: a session takes one block of a statement at most, or refuses it in one way, and not both.

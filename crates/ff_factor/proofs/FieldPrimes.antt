@@ -13,7 +13,7 @@ use Rattle.ff_poly.specs.Value.{value}
 use Rattle.ff_poly.specs.Polynomials.{Polynomial, polynomials}
 use Rattle.polynomial_theory.proofs.Divisors.{divisor_of_divides, divides_of_divisor}
 use Rattle.ff_falg.specs.Algebras.{AlgebraOps, IsAlgebra, IsVector, IsFieldAlgebra, IsNilpotentVector, IsPrimitiveVector, zero_of}
-use Rattle.ff_falg.specs.Idempotents.{IsPrimitiveList, sum_of}
+use Rattle.ff_falg.specs.Idempotents.{IsPrimitiveList, vector_sum}
 use Rattle.ff_falg.proofs.FieldLaws.{value_field}
 use Rattle.ff_falg.proofs.PowerLaws.{power_first}
 use Rattle.ff_falg.proofs.Vectors.{vector_ring, vector_discrete}
@@ -123,7 +123,7 @@ module _ (k : CodeField) (g : List ℕ) (h : IsModulus k.ops g) (F : IsFieldAlge
       at e i = subst (λ w. IsPrimeAt k.ops g w g)
           (sym (field_primitive k (quotient_algebra g) law F e ((list.members e).0 i))) prime_at_unit
 
-      some_member : (fs : List (List ℕ)) → sum_of k.ops (quotient_algebra g) fs ≡ (quotient_algebra g).unit
+      some_member : (fs : List (List ℕ)) → vector_sum k.ops (quotient_algebra g) fs ≡ (quotient_algebra g).unit
           → (e : List ℕ) × In e fs
       some_member [] sum = absurd (F.one_not_zero (sym sum))
       some_member (f ∷ fs) sum = (f, inl refl)

@@ -11,7 +11,7 @@ use Rattle.linear_theory.proofs.Euclid.{bezout}
 use Rattle.ff_fields.specs.Field.{CodeField}
 use Rattle.ff_fields.specs.Code.{code_ring, code_domain}
 use Rattle.ff_fields.specs.Over.{IsOver}
-use Rattle.ff_poly.specs.Words.{IsMonic, IsIrreducibleList, DividesList}
+use Rattle.ff_poly.specs.Words.{IsMonicList, IsIrreducibleList, DividesList}
 use Rattle.ff_poly.specs.Value.{value, numbers_value}
 use Rattle.ff_poly.specs.Polynomials.{Polynomial, polynomials, codes_of}
 use Rattle.ff_falg.specs.Algebras.{IsVector, IsFieldAlgebra}
@@ -49,7 +49,7 @@ module _ (k : CodeField) where
     modulus_some : ¬ (G ≡ 𝟘)
     modulus_some = some_value k g h.over (monic_poly k g h.monic) (let l = h.not_constant in omega arith)
 
-    no_divisor : IsFieldAlgebra k.ops (quotient_algebra g) → (b : List ℕ) → IsOver k.ops b → IsMonic b → 2 ≤ length b
+    no_divisor : IsFieldAlgebra k.ops (quotient_algebra g) → (b : List ℕ) → IsOver k.ops b → IsMonicList b → 2 ≤ length b
         → length b < length g → ¬ DividesList k.ops b g
     no_divisor F b b_in b_monic b_long b_short d = none
       where

@@ -12,7 +12,7 @@ use Rattle.ff_fields.specs.Code.{code_ring, code_domain}
 use Rattle.ff_fields.specs.Over.{IsOver, get_or_below}
 use Rattle.linear_theory.specs.Euclidean.{IsDivisorIn}
 use Rattle.linear_theory.proofs.Euclid.{divisor_trans}
-use Rattle.ff_poly.specs.Words.{IsPoly, IsMonic, IsIrreducibleList, DividesList, IsQuotientWithRest, top_of, multiple_of}
+use Rattle.ff_poly.specs.Words.{IsPoly, IsMonicList, IsIrreducibleList, DividesList, IsQuotientWithRest, top_of, multiple_of}
 use Rattle.ff_poly.specs.PolyOver.{IsOver_multiple_of}
 use Rattle.ff_poly.specs.Value.{value}
 use Rattle.ff_poly.specs.Polynomials.{Polynomial, polynomials, constant_poly, value_nil}
@@ -267,7 +267,7 @@ module _ (k : CodeField) where
       Type 0 where
     pub low : AreLowerAt k ps num den n d
     pub poly : All IsPoly n
-    pub monic : IsMonic d
+    pub monic : IsMonicList d
 
   pub made_monic : (ps : List (List ℕ)) (num : List (List ℕ)) (den : List ℕ) (n : List (List ℕ)) (d : List ℕ)
       (n' : List (List ℕ)) (d' : List ℕ)

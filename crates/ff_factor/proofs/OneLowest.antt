@@ -5,7 +5,7 @@ use Rattle.ring_lemmas.specs.Ring.{CommRing}
 use Rattle.ring_lemmas.proofs.Ring.{eq_of_sub}
 use Rattle.ff_fields.specs.Field.{CodeField}
 use Rattle.ff_fields.specs.Over.{IsOver}
-use Rattle.ff_poly.specs.Words.{IsPoly, IsMonic}
+use Rattle.ff_poly.specs.Words.{IsPoly, IsMonicList}
 use Rattle.ff_poly.specs.Value.{value, same_from_value}
 use Rattle.ff_poly.specs.Polynomials.{Polynomial, polynomials, numbers_discrete, codes_of, value_nil, value_codes_of, IsOver_codes_of, IsPoly_codes_of}
 use Rattle.ff_factor.specs.LowestTerms.{IsInLowestTermsOf}
@@ -17,7 +17,7 @@ use Rattle.ff_factor.proofs.LowestTerms.{cancel}
 use Rattle.polynomial_theory.proofs.Divisors.{monic_gap}
 use Rattle.ff_factor.proofs.PullSteps.{list_some}
 
-monic_long : (d : List ℕ) → IsMonic d → 0 < length d
+monic_long : (d : List ℕ) → IsMonicList d → 0 < length d
 monic_long d m = let l = ap length m.1 in let n = length_push m.0 1 in omega arith
 
 module _ (k : CodeField) where

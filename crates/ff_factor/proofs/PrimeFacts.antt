@@ -15,7 +15,7 @@ use Rattle.ff_fields.specs.Field.{CodeField}
 use Rattle.ff_fields.specs.Code.{code_ring, code_domain, raw_ring}
 use Rattle.ff_fields.specs.Over.{IsOver}
 use Rattle.linear_theory.specs.Euclidean.{IsDivisorIn}
-use Rattle.ff_poly.specs.Words.{IsPoly, IsMonic, IsIrreducibleList, DividesList}
+use Rattle.ff_poly.specs.Words.{IsPoly, IsMonicList, IsIrreducibleList, DividesList}
 use Rattle.ff_poly.specs.Value.{value}
 use Rattle.ff_poly.specs.Polynomials.{value_one, Polynomial, polynomials, codes_of, IsOver_codes_of, IsPoly_codes_of, value_codes_of}
 use Rattle.finite_algebra_theory.specs.ByMap.{Image}
@@ -23,7 +23,7 @@ use Rattle.finite_algebra_theory.specs.Maximal.{NilpotentAt}
 use Rattle.finite_algebra_theory.proofs.Above.{maximal_prime}
 use Rattle.finite_algebra_theory.proofs.Maximal.{nilpotent_or_invertible}
 use Rattle.ff_falg.specs.Algebras.{IsAlgebra, IsPrimitiveVector, zero_of}
-use Rattle.ff_falg.specs.Idempotents.{sum_of}
+use Rattle.ff_falg.specs.Idempotents.{vector_sum}
 use Rattle.ff_falg.proofs.Vectors.{same_vector}
 use Rattle.ff_falg.proofs.VectorAlgebra.{scalar, vector_algebra}
 use Rattle.ff_factor.specs.Quotients.{IsModulus, product_modulo, quotient_algebra}
@@ -106,7 +106,7 @@ module _ (k : CodeField) where
             single [] f l = f
             single (x ∷ m) f l = let a = ap length f in let b = length_push m 1 in absurd (omega arith)
 
-            go : (length p ≡ 1) ⊎ (2 ≤ length p) → IsMonic p → 2 ≤ length p
+            go : (length p ≡ 1) ⊎ (2 ≤ length p) → IsMonicList p → 2 ≤ length p
             go (inr l) m = l
             go (inl l) m =
                 absurd ((at_maximal k g h e primitive).proper
@@ -115,7 +115,7 @@ module _ (k : CodeField) where
                 unit_divides : p ≡ 1 ∷ [] → IsDivisorIn P.ops (value k p) 𝟙
                 unit_divides f = (𝟙, sym (P.mul_one (value k p) ∙ ap (value k) f ∙ value_one k))
 
-        none : (b : List ℕ) → IsOver k.ops b → IsMonic b → 2 ≤ length b → length b < length p → ¬ DividesList k.ops b p
+        none : (b : List ℕ) → IsOver k.ops b → IsMonicList b → 2 ≤ length b → length b < length p → ¬ DividesList k.ops b p
         none b b_in b_monic b_long b_short d =
             go (maximal_prime P (At k g h e primitive) (at_maximal k g h e primitive) B Q
             ((generates e p primitive is (B ⊗ Q)).1
@@ -220,7 +220,7 @@ module _ (k : CodeField) where
     over_sum : (r : Polynomial k) (es : List (List ℕ))
         (primitive : (e : List ℕ) → In e es → IsPrimitiveVector k.ops (quotient_algebra g) e)
         → ((e : List ℕ) (i : In e es) → ¬ At k g h e (primitive e i) r)
-        → (b : V k g h) × ((R.◌⊗◌ (of r) b).0 ≡ sum_of k.ops (quotient_algebra g) es)
+        → (b : V k g h) × ((R.◌⊗◌ (of r) b).0 ≡ vector_sum k.ops (quotient_algebra g) es)
     over_sum r [] primitive out = (R.𝟘, ap (λ y. y.0) (mul_zero R (of r)))
     over_sum r (e ∷ es) primitive out =
         let rest = over_sum r es (λ f i. primitive f (inr i)) (λ f i. out f (inr i)) in
@@ -242,7 +242,7 @@ module _ (k : CodeField) where
     -- a divisor of g that lies in none of the ideals is a unit
     pub rest_unit : (r : Polynomial k) (es : List (List ℕ))
         (primitive : (e : List ℕ) → In e es → IsPrimitiveVector k.ops (quotient_algebra g) e)
-        → sum_of k.ops (quotient_algebra g) es ≡ (quotient_algebra g).unit → IsDivisorIn P.ops r (value k g)
+        → vector_sum k.ops (quotient_algebra g) es ≡ (quotient_algebra g).unit → IsDivisorIn P.ops r (value k g)
         → ((e : List ℕ) (i : In e es) → ¬ At k g h e (primitive e i) r) → (v : Polynomial k) × (r ⊗ v ≡ 𝟙)
     rest_unit r es primitive sum d out =
         let b = over_sum r es primitive out in

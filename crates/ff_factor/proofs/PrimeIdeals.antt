@@ -13,7 +13,7 @@ use Rattle.ff_fields.specs.Code.{Code, raw_ring, code_ring, read_code}
 use Rattle.ff_fields.specs.Numbers.{read}
 use Rattle.ff_fields.specs.Over.{IsOver, IsOver_nil, IsOver_cons, IsOver_append, IsOver_neg, IsOver_take}
 use Rattle.linear_theory.specs.Euclidean.{IsDivisorIn}
-use Rattle.ff_poly.specs.Words.{IsMonic}
+use Rattle.ff_poly.specs.Words.{IsMonicList}
 use Rattle.ff_poly.specs.Value.{value}
 use Rattle.ff_poly.specs.Polynomials.{Polynomial, polynomials, polynomial_discrete, x_poly}
 use Rattle.ff_linalg.specs.Matrix.{MatrixValue}
@@ -175,7 +175,7 @@ module _ (k : CodeField) (g : List ℕ) (h : IsModulus k.ops g) (e : List ℕ)
           ∙ min.kills)
 
       -- what is monic and nilpotent at e has at least the degree
-      long : (w : List ℕ) → IsOver k.ops w → IsMonic w → At (value k w) → length v < length w
+      long : (w : List ℕ) → IsOver k.ops w → IsMonicList w → At (value k w) → length v < length w
       long w w_in monic a = go (less (length monic.0) (length v))
         where
           less : (i j : ℕ) → (i < j) ⊎ (j ≤ i)
@@ -206,7 +206,7 @@ module _ (k : CodeField) (g : List ℕ) (h : IsModulus k.ops g) (e : List ℕ)
               ∙ ap value_at_z (sym monic.1)) ∙ (at_value w w_in).0 a))
           go (inr l) = let s = size in omega arith
 
-      prime_monic : IsMonic prime
+      prime_monic : IsMonicList prime
       prime_monic = (neg_list (raw_ring k.ops) v, refl)
 
       prime_some : ¬ (value k prime ≡ 𝟘)

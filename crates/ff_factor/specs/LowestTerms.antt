@@ -3,7 +3,7 @@ use Rattle.std.specs.Prelude.{◌≡◌, ◌≢◌, ℕ, ◌≤◌, List, [], le
 use Rattle.ring_theory.specs.Members.{In}
 use Rattle.ff_fields.specs.Field.{FieldOps}
 use Rattle.ff_fields.specs.Over.{IsOver}
-use Rattle.ff_poly.specs.Words.{IsPoly, IsMonic, IsIrreducibleList, DividesList, product_of}
+use Rattle.ff_poly.specs.Words.{IsPoly, IsMonicList, IsIrreducibleList, DividesList, product_of}
 
 module _ (k : FieldOps) where
   -- the fractions of num over den are those of num' over den': den' times each numerator is den times the other one
@@ -28,7 +28,7 @@ module _ (k : FieldOps) where
     pub num_over : All (IsOver k) num'
     pub den_over : IsOver k den'
     pub num_poly : All IsPoly num'
-    pub monic : IsMonic den'
+    pub monic : IsMonicList den'
     pub free : (p : List ℕ) → In p factors → DividesList k p den' → ¬ All (DividesList k p) num'
 
   -- num' over den' are the fractions of num over den, den' is monic, and no denominator of the same fractions has a
@@ -40,6 +40,6 @@ module _ (k : FieldOps) where
       pub num_over : All (IsOver k) num'
       pub den_over : IsOver k den'
       pub num_poly : All IsPoly num'
-      pub monic : IsMonic den'
+      pub monic : IsMonicList den'
       pub least : (ws : List (List ℕ)) (d : List ℕ) → All (IsOver k) ws → IsOver k d → IsPoly d → d ≢ []
           → AreSameFractions num' den' ws d → length den' ≤ length d

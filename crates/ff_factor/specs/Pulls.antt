@@ -34,7 +34,7 @@ pub record ArePrimesOf (k : FieldOps) (g : List ℕ) (es ps : List (List ℕ)) :
   pub ascending : AreAscendingPolys ps
 
 -- the primes of all primitive idempotents, in ascending order
-pub record AreAllPrimes (k : FieldOps) (g : List ℕ) (ps : List (List ℕ)) : Type 0 where
+pub record ArePrimesOfIdempotents (k : FieldOps) (g : List ℕ) (ps : List (List ℕ)) : Type 0 where
   pub idempotents : List (List ℕ)
   pub list : IsPrimitiveList k (quotient_algebra g) idempotents
   pub primes : ArePrimesOf k g idempotents ps

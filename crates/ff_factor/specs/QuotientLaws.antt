@@ -58,8 +58,8 @@ module _ (k : CodeField) (g : List ℕ) (h : IsModulus k.ops g) where
   abbrev pub n : ℕ
   n = length g - 1
 
-  abbrev pub Congruent : Polynomial k → Polynomial k → Type 0
-  Congruent a b = IsCongruent (polynomials k).ops (value k g) a b
+  abbrev pub CongruentModulo : Polynomial k → Polynomial k → Type 0
+  CongruentModulo a b = IsCongruent (polynomials k).ops (value k g) a b
 
   some : 0 < n
   some = let l = h.not_constant in omega arith
@@ -75,7 +75,7 @@ module _ (k : CodeField) (g : List ℕ) (h : IsModulus k.ops g) where
   modulus_deep = let l = h.not_constant in omega (arith, modulus_length)
 
   -- short polynomials that are congruent are the same
-  pub short_eq : (a b : Polynomial k) → length a.0 < length g → length b.0 < length g → Congruent a b → a ≡ b
+  pub short_eq : (a b : Polynomial k) → length a.0 < length g → length b.0 < length g → CongruentModulo a b → a ≡ b
   short_eq a b a_short b_short c =
       short_same (code_ring k) (code_domain k) (value k g) modulus_monic modulus_deep a b
       (subst (λ m. length a.0 < m) (sym modulus_length) a_short)
@@ -85,13 +85,13 @@ module _ (k : CodeField) (g : List ℕ) (h : IsModulus k.ops g) where
   vector_short a a_in = let l = h.not_constant in let s = a_in.size in omega (arith, value_short k a)
 
   -- vectors that stand for one class are the same
-  pub same_class : (a b : List ℕ) → IsVector k.ops n a → IsVector k.ops n b → Congruent (value k a) (value k b) → a ≡ b
+  pub same_class : (a b : List ℕ) → IsVector k.ops n a → IsVector k.ops n b → CongruentModulo (value k a) (value k b) → a ≡ b
   same_class a b a_in b_in c =
       same_lists k a b a_in.over b_in.over (a_in.size ∙ sym b_in.size)
       (short_eq (value k a) (value k b) (vector_short a a_in) (vector_short b b_in) c)
 
-  pub same_by : (a b : List ℕ) (u w : Polynomial k) → IsVector k.ops n a → IsVector k.ops n b → Congruent (value k a) u
-      → Congruent (value k b) w → u ≡ w → a ≡ b
+  pub same_by : (a b : List ℕ) (u w : Polynomial k) → IsVector k.ops n a → IsVector k.ops n b → CongruentModulo (value k a) u
+      → CongruentModulo (value k b) w → u ≡ w → a ≡ b
   same_by a b u w a_in b_in a_is b_is e =
       same_class a b a_in b_in
       (congruent_trans S (value k g) _ u _ a_is
@@ -141,7 +141,7 @@ module _ (k : CodeField) (g : List ℕ) (h : IsModulus k.ops g) where
       (length_up v v_in ∙ sym (length_scale_list (raw_ring k.ops) c (take n g) ∙ length_low))
       ∙ ap (λ a. times_x k.ops g v ++ a ∷ []) (code_add_neg k (top v) (top_in v v_in)))
 
-  pub value_times_x : (v : List ℕ) → IsVector k.ops n v → Congruent (value k (times_x k.ops g v)) (x_poly k ⊗ value k v)
+  pub value_times_x : (v : List ℕ) → IsVector k.ops n v → CongruentModulo (value k (times_x k.ops g v)) (x_poly k ⊗ value k v)
   value_times_x v v_in = record {
     times = constant_poly k (k.neg (top v));
     differs =
@@ -166,7 +166,7 @@ module _ (k : CodeField) (g : List ℕ) (h : IsModulus k.ops g) where
 
   -- a product stands for the product of what its factors stand for
   pub value_product_modulo : (a b : List ℕ) → IsOver k.ops a → IsVector k.ops n b
-      → Congruent (value k (product_modulo k.ops g a b)) (value k a ⊗ value k b)
+      → CongruentModulo (value k (product_modulo k.ops g a b)) (value k a ⊗ value k b)
   value_product_modulo [] b a_in b_in =
       congruent_same S (value k g) _ _ (value_zeros k n ∙ sym (zero_mul S (value k b))
       ∙ ap (λ w. w ⊗ value k b) (sym (value_nil k)))
@@ -246,7 +246,7 @@ module _ (k : CodeField) (g : List ℕ) (h : IsModulus k.ops g) where
   -- ---- classes and vectors
 
   -- a vector is 0 exactly where g divides what it stands for
-  pub zero_class : (a : List ℕ) → IsVector k.ops n a → (a ≡ replicate n 0) ↔ Congruent (value k a) 𝟘
+  pub zero_class : (a : List ℕ) → IsVector k.ops n a → (a ≡ replicate n 0) ↔ CongruentModulo (value k a) 𝟘
   zero_class a a_in = (
     λ e. congruent_same S (value k g) _ _ (ap (value k) e ∙ value_zeros k n),
     λ c. same_by a (replicate n 0) 𝟘 𝟘 a_in (zeros_in k n) c (congruent_same S (value k g) _ _ (value_zeros k n)) refl,
@@ -255,7 +255,7 @@ module _ (k : CodeField) (g : List ℕ) (h : IsModulus k.ops g) where
   pub record Stands (u : Polynomial k) : Type 0 where
     pub vector : List ℕ
     pub vector_in : IsVector k.ops n vector
-    pub value_is : Congruent (value k vector) u
+    pub value_is : CongruentModulo (value k vector) u
 
   -- each polynomial has a vector that stands for its class
   pub stands_for : (u : Polynomial k) → Stands u

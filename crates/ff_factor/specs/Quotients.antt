@@ -5,18 +5,18 @@ use Rattle.ff_fields.specs.Field.{FieldOps}
 use Rattle.ff_fields.specs.Code.{raw_ring}
 use Rattle.ff_fields.specs.Over.{IsOver}
 use Rattle.ring_lemmas.specs.Lists.{add_lists, scale_list}
-use Rattle.ff_poly.specs.Words.{IsMonic, DividesList, difference_of}
+use Rattle.ff_poly.specs.Words.{IsMonicList, DividesList, difference_of}
 use Rattle.ff_falg.specs.Algebras.{AlgebraOps, IsVector}
 
 -- monic over the field, of degree 1 or more
 pub record IsModulus (k : FieldOps) (g : List ℕ) : Type 0 where
   pub over : IsOver k g
-  pub monic : IsMonic g
+  pub monic : IsMonicList g
   pub not_constant : 2 ≤ length g
 
 -- monic of degree 1 or more
 pub record IsMonicOverOne (g : List ℕ) : Type 0 where
-  pub monic : IsMonic g
+  pub monic : IsMonicList g
   pub not_constant : 2 ≤ length g
 
 -- x times v: the codes move up one position, and the code that comes to the position of the leading 1 of g is taken

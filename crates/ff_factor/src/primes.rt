@@ -7,7 +7,7 @@ ghost use Rattle.ring_lemmas.specs.Lists.{neg_list};
 ghost use Rattle.ff_falg.specs.Algebras.{IsPrimitiveVector, IsVector};
 ghost use Rattle.ff_falg.specs.Idempotents.{elements_of};
 ghost use Rattle.ff_factor.specs.Primes.{IsHighPower, IsPrimeAt};
-ghost use Rattle.ff_factor.specs.Pulls.{AreAllPrimes, ArePrimesOf};
+ghost use Rattle.ff_factor.specs.Pulls.{ArePrimesOfIdempotents, ArePrimesOf};
 ghost use Rattle.ff_factor.specs.Quotients.{IsModulus, quotient_algebra};
 
 use crate::order::insert;
@@ -101,7 +101,7 @@ pub(crate) fn divisors_of<K: SmallField>(
     a: &PolyQuotient,
 ) -> Result<Vec<Poly>, AllocError>
     requires { IsModulus (K.field k.now).ops a.now }
-    ensures { IfOk result (λ v. AreAllPrimes (K.field k.now).ops a.now v.items) }
+    ensures { IfOk result (λ v. ArePrimesOfIdempotents (K.field k.now).ops a.now v.items) }
 {
     let map = frobenius(alloc, k, a)?;
     let basis = fixed_by(alloc, k, a, &map)?;

@@ -2,7 +2,7 @@
 
 ghost use Rattle.std.specs.Prelude.{◌≡◌, ◌≤◌, ◌-◌, ℕ, List, length, IfOk};
 ghost use Rattle.ff_falg.specs.Algebras.{IsVector};
-ghost use Rattle.ff_poly.specs.Words.{IsMonic, product_of};
+ghost use Rattle.ff_poly.specs.Words.{IsMonicList, product_of};
 ghost use Rattle.ff_factor.specs.Quotients.{IsModulus, IsResidue, quotient_algebra};
 ghost use Rattle.ff_factor.specs.QuotientLaws.{quotient_laws};
 
@@ -34,7 +34,7 @@ impl Model for PolyQuotient {
 impl PolyQuotient {
     /// The polynomials modulo g, of which a copy is kept.
     pub fn new(alloc: Global, g: &Poly) -> Result<PolyQuotient, AllocError>
-        requires monic { IsMonic g.now }
+        requires monic { IsMonicList g.now }
         requires not_constant { 2 ≤ length g.now }
         ensures { IfOk result (λ q. q ≡ g.now) }
     {

@@ -6,12 +6,12 @@ use Rattle.std.proofs.lemmas.List.{get_or-set_same, get_or-set_other, get_or_pus
 use Rattle.std.proofs.lemmas.Option.{MatchOption-at_some}
 use Rattle.std.proofs.lemmas.Result.{on_ok_weaker}
 use Rattle.ff_fields.specs.Field.{CodeField}
-use Rattle.ff_linalg.specs.Matrix.{MatrixValue, HasShape, row_of, zero_matrix}
+use Rattle.ff_linalg.specs.Matrix.{MatrixValue, HasShape, matrix_row, zero_matrix}
 use Rattle.ff_linalg.specs.Steps.{unit_row}
 use Rattle.ff_falg.specs.Algebras.{AlgebraOps, IsAlgebra, IsVector, power}
-use Rattle.ff_falg.specs.Chains.{IsStep, AreStepsBelow, AreChains, IsFrobeniusAt, KeepsFlags}
+use Rattle.ff_falg.specs.Chains.{IsChainStep, AreStepsBelow, AreChains, IsFrobeniusAt, KeepsFlags}
 use Rattle.ff_falg.specs.Spaces.{IsFrobenius}
-use Rattle.ff_falg.specs.Steps.{with_row}
+use Rattle.ff_falg.specs.Steps.{with_matrix_row}
 use Rattle.ff_falg.proofs.PowerLaws.{power_product, frobenius_values}
 use Rattle.ff_falg.proofs.RowSteps.{with_row_shape, with_row_over, with_row_same, with_row_other, row_in, zero_holds}
 use Rattle.ff_falg.proofs.UnitRows.{unit_in}
@@ -70,15 +70,15 @@ module _ (k : CodeField) (A : AlgebraOps) where
 
   pub steps_more : (z : List ℕ) (next new : List (Option ℕ)) (r : Option ℕ) (j : ℕ) → j ≡ length next
       → new ≡ next ++ r ∷ []
-      → MatchOption r ⊤ (IsStep k.ops A z j) → AreStepsBelow k.ops A z next → AreStepsBelow k.ops A z new
+      → MatchOption r ⊤ (IsChainStep k.ops A z j) → AreStepsBelow k.ops A z next → AreStepsBelow k.ops A z new
   steps_more z next new r j size new_is step before =
       subst (AreStepsBelow k.ops A z) (sym new_is) (record { each = λ l i less e. go l i less e (ℕ_discrete l j) })
     where
       go : (l i : ℕ) → l < length (next ++ r ∷ []) → get_or (next ++ r ∷ []) l None ≡ Some i → Dec (l ≡ j)
-          → IsStep k.ops A z l i
+          → IsChainStep k.ops A z l i
       go l i less e (yes s) =
-          subst (λ m. IsStep k.ops A z m i) (sym s)
-          (MatchOption-at_some ⊤ (IsStep k.ops A z j) i
+          subst (λ m. IsChainStep k.ops A z m i) (sym s)
+          (MatchOption-at_some ⊤ (IsChainStep k.ops A z j) i
           (sym (get_or_push next r None l (sym size ∙ sym s)) ∙ e) step)
       go l i less e (no ne) =
           let within : l < length next = let n = length_push next r in omega arith in
@@ -95,11 +95,11 @@ module _ (k : CodeField) (A : AlgebraOps) (law : IsAlgebra k A) where
   power_at_in l less = power_in k A law (unit_row A.size l) k.size (unit_in k A.size l less)
 
   pub filled : (done now : List Bool) (m new : MatrixValue) (i : ℕ) (row : List ℕ) → i < A.size → row ≡ power_at i
-      → new ≡ with_row m i row
+      → new ≡ with_matrix_row m i row
       → now ≡ set done i true → IsFrobeniusAt k.ops A done m → IsFrobeniusAt k.ops A now new
   filled done now m new i row within row_is new_is now_is h =
       subst (λ d. IsFrobeniusAt k.ops A d new) (sym now_is)
-      (subst (IsFrobeniusAt k.ops A (set done i true)) (sym (new_is ∙ ap (with_row m i) row_is)) (record {
+      (subst (IsFrobeniusAt k.ops A (set done i true)) (sym (new_is ∙ ap (with_matrix_row m i) row_is)) (record {
         shape = with_row_shape m A.size A.size i (power_at i) h.shape (power_at_in i within).size;
         over = with_row_over k m i (power_at i) h.over (power_at_in i within).over;
         size = length-set done i true ∙ h.size;
@@ -107,9 +107,9 @@ module _ (k : CodeField) (A : AlgebraOps) (law : IsAlgebra k A) where
       }))
     where
       go : (l : ℕ) → l < A.size → get_or (set done i true) l false ≡ true → Dec (l ≡ i)
-          → row_of (with_row m i (power_at i)) l ≡ power_at l
+          → matrix_row (with_matrix_row m i (power_at i)) l ≡ power_at l
       go l less e (yes s) =
-          ap (row_of (with_row m i (power_at i))) s
+          ap (matrix_row (with_matrix_row m i (power_at i))) s
           ∙ with_row_same m i (power_at i) (let r = h.shape.row_count in omega arith) ∙ sym (ap power_at s)
       go l less e (no ne) = with_row_other m i l (power_at i) ne
           ∙ h.rows l less (sym (get_or-set_other done i l true false ne) ∙ e)
@@ -118,7 +118,7 @@ module _ (k : CodeField) (A : AlgebraOps) (law : IsAlgebra k A) where
   pub next_power : (z_power : List ℕ) (next : List (Option ℕ)) (done : List Bool) (m : MatrixValue) (j i : ℕ)
       → AreChains k.ops A z_power next
       → IsFrobeniusAt k.ops A done m → j < A.size → get_or next j None ≡ Some i → get_or done j false ≡ true
-      → A.product k.ops z_power (row_of m j) ≡ power_at i
+      → A.product k.ops z_power (matrix_row m j) ≡ power_at i
   next_power z_power next done m j i h f less is here =
       ap₂ (A.product k.ops) h.power_is (f.rows j less here)
       ∙ power_product k A law h.z (unit_row A.size j) k.size h.z_in (unit_in k A.size j less)
@@ -134,7 +134,7 @@ module _ (k : CodeField) (A : AlgebraOps) (law : IsAlgebra k A) where
   chain_power_in z_power next h = subst (IsVector k.ops A.size) (sym h.power_is) (power_in k A law h.z k.size h.z_in)
 
   pub filled_row_in : (done : List Bool) (m : MatrixValue) (j : ℕ) → IsFrobeniusAt k.ops A done m → j < A.size
-      → IsVector k.ops A.size (row_of m j)
+      → IsVector k.ops A.size (matrix_row m j)
   filled_row_in done m j h less = row_in k m A.size A.size j h.shape h.over less
 
   pub none_filled : (done : List Bool) (m : MatrixValue) (n : ℕ) → n ≡ A.size → done ≡ replicate n false

@@ -11,7 +11,7 @@ use Rattle.ff_fields.specs.Field.{CodeField}
 use Rattle.ff_fields.specs.Code.{raw_ring}
 use Rattle.ff_fields.specs.Numbers.{read}
 use Rattle.linear_theory.specs.Module.{combination as row_combination}
-use Rattle.ff_linalg.specs.Matrix.{MatrixValue, IsMatrixOver, HasShape, row_of}
+use Rattle.ff_linalg.specs.Matrix.{MatrixValue, IsMatrixOver, HasShape, matrix_row}
 use Rattle.ff_linalg.specs.Steps.{unit_row}
 use Rattle.ff_linalg.specs.Space.{row_ops, product_of}
 use Rattle.finite_algebra_theory.specs.ByMap.{Image}
@@ -83,7 +83,7 @@ module _ (k : CodeField) (A : AlgebraOps) (law : IsAlgebra k A) where
       (values_of_vectors F f same rows (All-tail (IsVector k.ops A.size) r rows all))
 
   rows_are : (f : List ℕ → List ℕ) (m : MatrixValue) → HasShape m A.size A.size
-      → ((l : ℕ) → l < A.size → row_of m l ≡ f (unit_row A.size l))
+      → ((l : ℕ) → l < A.size → matrix_row m l ≡ f (unit_row A.size l))
       → m.rows ≡ map f (unit_rows A.size)
   rows_are f m shape rows =
       same_lists m.rows (map f (unit_rows A.size))
@@ -108,7 +108,7 @@ module _ (k : CodeField) (A : AlgebraOps) (law : IsAlgebra k A) where
   -- v times a matrix whose rows are the values of a map at the unit rows
   pub mapped_product : (F : Vector k A.size → Vector k A.size) (f : List ℕ → List ℕ)
       → ((x : Vector k A.size) → (F x).0 ≡ f x.0)
-      → (m : MatrixValue) → HasShape m A.size A.size → ((l : ℕ) → l < A.size → row_of m l ≡ f (unit_row A.size l))
+      → (m : MatrixValue) → HasShape m A.size A.size → ((l : ℕ) → l < A.size → matrix_row m l ≡ f (unit_row A.size l))
       → (v : List ℕ) → IsVector k.ops A.size v
       → product_of k.ops v m ≡ (combination R.ops (map (scalar k A law) (read k v)) (map F (basis k A law))).0
   mapped_product F f same m shape rows v v_in =
@@ -136,7 +136,7 @@ module _ (k : CodeField) (A : AlgebraOps) (law : IsAlgebra k A) where
 
   -- the matrix of an iterate of the map a to a^q
   pub iterate_values : (t : ℕ) (m : MatrixValue) → HasShape m A.size A.size
-      → ((l : ℕ) → l < A.size → row_of m l ≡ power k.ops A (unit_row A.size l) (k.size ^ t))
+      → ((l : ℕ) → l < A.size → matrix_row m l ≡ power k.ops A (unit_row A.size l) (k.size ^ t))
       → (v : List ℕ) → IsVector k.ops A.size v → product_of k.ops v m ≡ power k.ops A v (k.size ^ t)
   iterate_values t m shape rows v v_in =
       value ∙ by_dimension _ (power k.ops A v (k.size ^ t)) (combination R.ops _ _).1
@@ -167,7 +167,7 @@ module _ (k : CodeField) (A : AlgebraOps) (law : IsAlgebra k A) where
 
   -- the matrix of the map a to a^q - a
   pub less_values : (m : MatrixValue) → HasShape m A.size A.size
-      → ((l : ℕ) → l < A.size → row_of m l
+      → ((l : ℕ) → l < A.size → matrix_row m l
       ≡ add_lists (raw_ring k.ops) (power k.ops A (unit_row A.size l) k.size)
       (neg_list (raw_ring k.ops) (unit_row A.size l)))
       → (v : List ℕ) → IsVector k.ops A.size v
@@ -194,7 +194,7 @@ module _ (k : CodeField) (A : AlgebraOps) (law : IsAlgebra k A) where
 
   -- a matrix whose rows are the q-th powers of the unit rows is that of the map a to a^q
   pub frobenius_values : (m : MatrixValue)
-      → ((l : ℕ) → l < A.size → row_of m l ≡ power k.ops A (unit_row A.size l) k.size)
+      → ((l : ℕ) → l < A.size → matrix_row m l ≡ power k.ops A (unit_row A.size l) k.size)
       → HasShape m A.size A.size → IsMatrixOver k.ops m → IsFrobenius k.ops A m
   frobenius_values m rows shape over = record {
     shape = shape;

@@ -3,9 +3,9 @@ use Rattle.std.proofs.Common.{◌≡◌, ℕ, zero, suc, ◌+◌, ◌-◌, ◌<�
 use Rattle.std.proofs.lemmas.List.Elements.{All-nil, All-cons}
 use Rattle.ff_fields.specs.Field.{CodeField}
 use Rattle.ff_fields.specs.Over.{IsOver}
-use Rattle.ff_linalg.specs.Matrix.{MatrixValue, HasShape, row_of, zero_matrix}
+use Rattle.ff_linalg.specs.Matrix.{MatrixValue, HasShape, matrix_row, zero_matrix}
 use Rattle.ff_falg.specs.Algebras.{AlgebraOps, IsAlgebra, IsVector, power}
-use Rattle.ff_falg.specs.Steps.{HasRowsBelow, with_row}
+use Rattle.ff_falg.specs.Steps.{HasRowsBelow, with_matrix_row}
 use Rattle.ff_falg.specs.Relations.{AreWritten, IsPowers, IsPowersBelow, IsFirstRow}
 use Rattle.ff_falg.proofs.Vectors.{power_in}
 use Rattle.ff_falg.proofs.RowSteps.{holds_step, zero_holds}
@@ -24,7 +24,7 @@ module _ (k : CodeField) (A : AlgebraOps) (law : IsAlgebra k A) (x : List ℕ) (
       ∙ ap (at e) (let h : suc (l - 1) ≡ l = omega arith in h)
 
   pub powers_first : (e : List ℕ) (m : MatrixValue) → IsVector k.ops A.size e → 0 < length m.rows
-      → IsPowers k.ops A x e m → row_of m 0 ≡ e
+      → IsPowers k.ops A x e m → matrix_row m 0 ≡ e
   powers_first e m e_in some h = h.written.rows 0 some ∙ law.unit_times e e_in
 
   pub single_powers : (e : List ℕ) (m : MatrixValue) → IsVector k.ops A.size e → IsFirstRow e m → IsPowers k.ops A x e m
@@ -41,7 +41,7 @@ module _ (k : CodeField) (A : AlgebraOps) (law : IsAlgebra k A) (x : List ℕ) (
         };
       })
     where
-      first : (l : ℕ) → l < 1 → row_of (record { cols = length e; rows = e ∷ [] }) l ≡ at e l
+      first : (l : ℕ) → l < 1 → matrix_row (record { cols = length e; rows = e ∷ [] }) l ≡ at e l
       first zero less = sym (law.unit_times e e_in)
       first (suc l) less = absurd (omega arith)
 
@@ -53,7 +53,7 @@ module _ (k : CodeField) (A : AlgebraOps) (law : IsAlgebra k A) (x : List ℕ) (
 
   pub written_step : (e : List ℕ) (count l : ℕ) (m new : MatrixValue) (row : List ℕ) → IsVector k.ops A.size e
       → l < count
-      → row ≡ at e l → new ≡ with_row m l row → AreWritten k.ops A x e count l m
+      → row ≡ at e l → new ≡ with_matrix_row m l row → AreWritten k.ops A x e count l m
       → AreWritten k.ops A x e count (l + 1) new
   written_step e count l m new row e_in less row_is new_is before =
       let h = holds_step k (at e) count A.size l m new row less (at_in e l e_in) row_is new_is before.written in

@@ -8,7 +8,7 @@ use Rattle.ff_fields.specs.Field.{CodeField}
 use Rattle.ff_fields.specs.Code.{read_code}
 use Rattle.ff_fields.specs.Numbers.{numbers, read, IsOver_numbers}
 use Rattle.linear_theory.specs.Module.{combination as row_combination}
-use Rattle.ff_linalg.specs.Matrix.{MatrixValue, row_of, first_rows_of}
+use Rattle.ff_linalg.specs.Matrix.{MatrixValue, matrix_row, first_rows_of}
 use Rattle.ff_linalg.specs.Space.{row_ops, IsSolution, HasIndependentRows, IsFirstRelation}
 use Rattle.finite_algebra_theory.specs.Algebra.{powers, IsIdempotent, IsFixed}
 use Rattle.finite_algebra_theory.specs.ByMap.{Image}
@@ -56,13 +56,13 @@ module _ (k : CodeField) (A : AlgebraOps) (law : IsAlgebra k A) (x e : List ℕ)
       size : length (map (λ y. y.0) (powers R.ops (x, x_in) (e, e_in) n)) ≡ n
       size = length-map (powers R.ops (x, x_in) (e, e_in) n) (λ y. y.0) ∙ length_powers R (x, x_in) (e, e_in) n
 
-  pub power_row : (n : ℕ) → n < length m.rows → (R.◌⊗◌ (pow R.ops (x, x_in) n) (e, e_in)).0 ≡ row_of m n
+  pub power_row : (n : ℕ) → n < length m.rows → (R.◌⊗◌ (pow R.ops (x, x_in) n) (e, e_in)).0 ≡ matrix_row m n
   power_row n less = ap (λ p. A.product k.ops p e) (power_value k A law (x, x_in) n) ∙ sym (h.written.rows n less)
 
   -- a combination of the powers gives a solution, and a solution a combination
   pub relation_solution : (some : 0 < A.size) (n : ℕ) → n < length m.rows
       → Relation R S (vector_algebra k A law some) (x, x_in) (e, e_in) n
-      → (v : List ℕ) × IsSolution k.ops (first_rows_of m n) (row_of m n) v
+      → (v : List ℕ) × IsSolution k.ops (first_rows_of m n) (matrix_row m n) v
   relation_solution some n less r =
       let s = span_combination k A law (powers R.ops (x, x_in) (e, e_in) n) (R.◌⊗◌ (pow R.ops (x, x_in) n) (e, e_in)) r
       in (
@@ -79,7 +79,7 @@ module _ (k : CodeField) (A : AlgebraOps) (law : IsAlgebra k A) (x e : List ℕ)
         },
       )
 
-  pub solution_relation : (n : ℕ) (v : List ℕ) → n < length m.rows → IsSolution k.ops (first_rows_of m n) (row_of m n) v
+  pub solution_relation : (n : ℕ) (v : List ℕ) → n < length m.rows → IsSolution k.ops (first_rows_of m n) (matrix_row m n) v
       → R.◌⊗◌ (pow R.ops (x, x_in) n) (e, e_in)
       ≡ combination R.ops (map (scalar k A law) (read k v)) (powers R.ops (x, x_in) (e, e_in) n)
   solution_relation n v less s =

@@ -16,7 +16,7 @@ use Rattle.finite_algebra_theory.proofs.Lists.{all_of_in, in_map, of_map, distin
 use Rattle.finite_algebra_theory.proofs.Maximal.{orthogonal_pair}
 use Rattle.finite_algebra_theory.proofs.Primitive.{IsComplete, complete_by_number, complete_by_use, primitive_idempotents}
 use Rattle.ff_falg.specs.Algebras.{AlgebraOps, IsAlgebra, IsVector, IsIdempotentVector, IsPrimitiveVector, IsFixedVector, zero_of}
-use Rattle.ff_falg.specs.Idempotents.{AreAscendingVectors, IsSublist, IsPrimitiveList, sum_of}
+use Rattle.ff_falg.specs.Idempotents.{AreAscendingVectors, IsSublist, IsPrimitiveList, vector_sum}
 use Rattle.ff_falg.specs.Spaces.{IsEchelonBasisMatrix}
 use Rattle.ff_falg.specs.Splits.{IsFullSplitting}
 use Rattle.ff_falg.proofs.Bases.{basis_vectors, length_basis_vectors, no_rows}
@@ -221,7 +221,7 @@ module _ (k : CodeField) (A : AlgebraOps) (law : IsAlgebra k A) where
       primitive = primitive_idempotents R S 𝓐 [] us splitting complete_us
 
       idempotents : (f : List ℕ) → IsIdempotentVector k.ops A f
-          → (fs : List (List ℕ)) × IsSublist fs ts × (f ≡ sum_of k.ops A fs)
+          → (fs : List (List ℕ)) × IsSublist fs ts × (f ≡ vector_sum k.ops A fs)
       idempotents f i =
           let v : V = (f, i.vector) in
           let square : R.◌⊗◌ v v ≡ v = same_vector k A.size _ _ i.square in
@@ -252,7 +252,7 @@ module _ (k : CodeField) (A : AlgebraOps) (law : IsAlgebra k A) where
               | inl e ↦ absurd (ne (v.2 ∙ ap (λ y. y.0) e ∙ sym w.2))
               | inr z ↦ ap (λ y. y.0) z
             ];
-        sum = sym (ap (sum_of k.ops A) lists_us) ∙ sym (sum_value k A law us) ∙ ap (λ y. y.0) sum;
+        sum = sym (ap (vector_sum k.ops A) lists_us) ∙ sym (sum_value k A law us) ∙ ap (λ y. y.0) sum;
         idempotents = idempotents;
       }
 

@@ -13,7 +13,7 @@ use Rattle.finite_algebra_theory.proofs.Lists.{all_of_in, in_map}
 use Rattle.finite_algebra_theory.proofs.Minimal.{minimal_exists}
 use Rattle.finite_algebra_theory.proofs.Primitive.{IsComplete}
 use Rattle.ff_falg.specs.Algebras.{AlgebraOps, IsAlgebra, IsVector}
-use Rattle.ff_falg.specs.Idempotents.{AreAscendingVectors, IsBeforeVector, IsPrimitiveList, sum_of}
+use Rattle.ff_falg.specs.Idempotents.{AreAscendingVectors, IsBeforeVector, IsPrimitiveList, vector_sum}
 use Rattle.ff_falg.proofs.PrimitiveLists.{orthogonal_of, value_primitive}
 use Rattle.ff_falg.proofs.Splittings.{lists, sum_value}
 use Rattle.ff_falg.proofs.Vectors.{Vector, vector_ring, vector_discrete, same_vector}
@@ -108,7 +108,7 @@ module _ (k : CodeField) (A : AlgebraOps) (law : IsAlgebra k A) (some : 0 < A.si
           (subst IsDistinct (sym lists_primitives) (ascending_distinct ts h.ascending)))
           (λ e i. let p = member_primitive e i in (p.idempotent, p.nonzero))
           (λ e f i j. apart e f i j (vector_discrete k A.size e f));
-      sum = same_vector k A.size _ _ (sum_value k A law primitives ∙ ap (sum_of k.ops A) lists_primitives ∙ h.sum);
+      sum = same_vector k A.size _ _ (sum_value k A law primitives ∙ ap (vector_sum k.ops A) lists_primitives ∙ h.sum);
       scalar = λ a i. absurd i;
     }
       where

@@ -7,7 +7,7 @@ use Rattle.std.proofs.lemmas.List.Elements.{All-tail}
 use Rattle.ring_lemmas.specs.Ring.{CommRing, pow}
 use Rattle.ring_theory.specs.Members.{In}
 use Rattle.ff_fields.specs.Field.{CodeField}
-use Rattle.ff_linalg.specs.Matrix.{MatrixValue, row_of}
+use Rattle.ff_linalg.specs.Matrix.{MatrixValue, matrix_row}
 use Rattle.finite_algebra_theory.specs.ByMap.{Image}
 use Rattle.finite_algebra_theory.proofs.Idempotents.{splitting_start}
 use Rattle.ff_falg.specs.Algebras.{AlgebraOps, IsAlgebra, IsVector, IsIdempotentVector, IsFixedVector, zero_of}
@@ -66,12 +66,12 @@ module _ (k : CodeField) (A : AlgebraOps) (law : IsAlgebra k A) where
       map_more (λ v. v.items) parts i e less ∙ ap (λ y. elements_of (take i parts) ++ y.items ∷ []) (sym e_is)
 
   module _ (basis : MatrixValue) (h : IsEchelonBasisMatrix k.ops A.size (IsFixedVector k.ops A) basis) where
-    pub basis_row : (l : ℕ) → l < length basis.rows → IsVector k.ops A.size (row_of basis l)
+    pub basis_row : (l : ℕ) → l < length basis.rows → IsVector k.ops A.size (matrix_row basis l)
     basis_row l less = row_in k basis (length basis.rows) A.size l h.shape h.over less
 
-    pub basis_fixed : (l : ℕ) → l < length basis.rows → IsFixedVector k.ops A (row_of basis l)
+    pub basis_fixed : (l : ℕ) → l < length basis.rows → IsFixedVector k.ops A (matrix_row basis l)
     basis_fixed l less =
-        member_space k A law (IsFixedVector k.ops A) basis h (row_of basis l, basis_row l less)
+        member_space k A law (IsFixedVector k.ops A) basis h (matrix_row basis l, basis_row l less)
         (in_vectors k A.size basis.rows (rows_in k basis (length basis.rows) A.size h.shape h.over) l (basis_row l less)
         less)
 
@@ -85,18 +85,18 @@ module _ (k : CodeField) (A : AlgebraOps) (law : IsAlgebra k A) where
 
     -- what the first relation of powers asks for
     pub relation_bound : (l : ℕ) (e : List ℕ) → l < length basis.rows → IsIdempotentVector k.ops A e → e ≢ zero_of A
-        → IsBounded k.ops A (row_of basis l) e (length basis.rows)
+        → IsBounded k.ops A (matrix_row basis l) e (length basis.rows)
     relation_bound l e less idem ne =
         let some = size_some k A law e idem.vector ne in
         let x_in = basis_row l less in
         record {
           bounded = λ m p independent.
               subst (λ n. length m.rows ≤ n) (length_basis_vectors k A law (IsFixedVector k.ops A) basis h)
-              (powers_bounded k A law (row_of basis l) e x_in idem.vector m p some
+              (powers_bounded k A law (matrix_row basis l) e x_in idem.vector m p some
               (basis_vectors k A law (IsFixedVector k.ops A) basis h)
               (fixed_span k A law some basis h)
-              (ap (pow R.ops (row_of basis l, x_in)) (length_scalars k A law some)
-              ∙ same_vector k A.size _ _ (power_value k A law (row_of basis l, x_in) k.size ∙ (basis_fixed l less).is))
+              (ap (pow R.ops (matrix_row basis l, x_in)) (length_scalars k A law some)
+              ∙ same_vector k A.size _ _ (power_value k A law (matrix_row basis l, x_in) k.size ∙ (basis_fixed l less).is))
               (same_vector k A.size _ _ idem.square) independent);
         }
 

@@ -9,11 +9,11 @@ use Rattle.ff_fields.specs.Field.{CodeField}
 use Rattle.ff_fields.specs.Code.{raw_ring}
 use Rattle.ff_fields.specs.Over.{IsOver, get_or_below, IsOver_drop}
 use Rattle.linear_theory.specs.Module.{combination}
-use Rattle.ff_linalg.specs.Matrix.{MatrixValue, IsMatrixOver, HasShape, row_of, with_entry, zero_matrix}
+use Rattle.ff_linalg.specs.Matrix.{MatrixValue, IsMatrixOver, HasShape, matrix_row, with_entry, zero_matrix}
 use Rattle.ff_linalg.specs.MatrixOver.{zero_matrix_over}
 use Rattle.ff_linalg.specs.Space.{row_ops, product_of}
 use Rattle.ff_falg.specs.Algebras.{IsVector}
-use Rattle.ff_falg.specs.Steps.{with_row, HasRowsBelow}
+use Rattle.ff_falg.specs.Steps.{with_matrix_row, HasRowsBelow}
 use Rattle.ff_falg.proofs.Lists.{lists_comm, lists_assoc, lists_zero}
 use Rattle.ff_falg.proofs.Vectors.{zeros_in, sum_in, multiple_in}
 
@@ -33,7 +33,7 @@ overwritten_more (x ∷ new) (o ∷ old) (suc j) same less = ap (λ w. x ∷ w)
 
 -- a row of which the first codes are written over
 abbrev pub overwritten : List ℕ → MatrixValue → ℕ → ℕ → MatrixValue
-overwritten new m i j = with_row m i (take j new ++ drop j (row_of m i))
+overwritten new m i j = with_matrix_row m i (take j new ++ drop j (matrix_row m i))
 
 pub overwritten_start : (new : List ℕ) (m : MatrixValue) (i : ℕ) → m ≡ overwritten new m i 0
 overwritten_start new m i = ap (λ rows. record { cols = m.cols; rows = rows }) (sym (set-get_or m.rows i []))
@@ -54,10 +54,10 @@ overwritten_step new m now i j x within width shape less x_is now_is =
 
 pub overwritten_end : (new : List ℕ) (m now : MatrixValue) (i j : ℕ) → i < length m.rows → length new ≡ m.cols
     → HasShape m (length m.rows) m.cols
-    → length new ≤ j → now ≡ overwritten new m i j → now ≡ with_row m i new
+    → length new ≤ j → now ≡ overwritten new m i j → now ≡ with_matrix_row m i new
 overwritten_end new m now i j within width shape le now_is =
     now_is
-    ∙ ap (with_row m i)
+    ∙ ap (with_matrix_row m i)
     (ap₂ (λ x y. x ++ y) (take_all j new le)
     (drop_all j (get_or m.rows i []) (let e : length (get_or m.rows i [])
     ≡ m.cols = shape.each i [] within in omega arith))
@@ -65,27 +65,27 @@ overwritten_end new m now i j within width shape le now_is =
 
 -- what becomes of a matrix of which a row is written over
 pub with_row_shape : (m : MatrixValue) (n cols i : ℕ) (row : List ℕ) → HasShape m n cols → length row ≡ cols
-    → HasShape (with_row m i row) n cols
+    → HasShape (with_matrix_row m i row) n cols
 with_row_shape m n cols i row shape width = record {
   row_count = length-set m.rows i row ∙ shape.row_count;
   col_count = shape.col_count;
   each = All-set (λ r. length r ≡ cols) m.rows i row width shape.each;
 }
 
-pub with_row_other : (m : MatrixValue) (i l : ℕ) (row : List ℕ) → ¬ (l ≡ i) → row_of (with_row m i row) l ≡ row_of m l
+pub with_row_other : (m : MatrixValue) (i l : ℕ) (row : List ℕ) → ¬ (l ≡ i) → matrix_row (with_matrix_row m i row) l ≡ matrix_row m l
 with_row_other m i l row ne = get_or-set_other m.rows i l row [] ne
 
-pub with_row_same : (m : MatrixValue) (i : ℕ) (row : List ℕ) → i < length m.rows → row_of (with_row m i row) i ≡ row
+pub with_row_same : (m : MatrixValue) (i : ℕ) (row : List ℕ) → i < length m.rows → matrix_row (with_matrix_row m i row) i ≡ row
 with_row_same m i row within = get_or-set_same m.rows i row [] within
 
 module _ (k : CodeField) where
   pub with_row_over : (m : MatrixValue) (i : ℕ) (row : List ℕ) → IsMatrixOver k.ops m → IsOver k.ops row
-      → IsMatrixOver k.ops (with_row m i row)
+      → IsMatrixOver k.ops (with_matrix_row m i row)
   with_row_over m i row over row_in = record { each = All-set (IsOver k.ops) m.rows i row row_in over.each }
 
   -- a row of a matrix is a vector
   pub row_in : (m : MatrixValue) (n cols i : ℕ) → HasShape m n cols → IsMatrixOver k.ops m → i < n
-      → IsVector k.ops cols (row_of m i)
+      → IsVector k.ops cols (matrix_row m i)
   row_in m n cols i shape over within =
       let l : i < length m.rows = let e = shape.row_count in omega arith in
       record { size = shape.each i [] l; over = over.each i [] l }
@@ -121,14 +121,14 @@ module _ (k : CodeField) where
 
   pub summed_step : (m : MatrixValue) (v old sum new row : List ℕ) (i c : ℕ) → IsOver k.ops v
       → All (IsVector k.ops m.cols) m.rows
-      → i < length v → length v ≤ length m.rows → c ≡ get_or v i 0 → row ≡ row_of m i
+      → i < length v → length v ≤ length m.rows → c ≡ get_or v i 0 → row ≡ matrix_row m i
       → new ≡ add_lists (raw_ring k.ops) sum (scale_list (raw_ring k.ops) c row) → IsSummed m v old i sum
       → IsSummed m v old (i + 1) new
   summed_step m v old sum new row i c v_in all less le c_is row_is new_is before =
       let l : i < length m.rows = omega arith in
       let r = All-get_or (IsVector k.ops m.cols) m.rows i [] l all in
-      let part = multiple_in k m.cols (get_or v i 0) (row_of m i) (get_or_below k v i v_in) r in
-      let new_value : new ≡ add_lists (raw_ring k.ops) sum (scale_list (raw_ring k.ops) (get_or v i 0) (row_of m i))
+      let part = multiple_in k m.cols (get_or v i 0) (matrix_row m i) (get_or_below k v i v_in) r in
+      let new_value : new ≡ add_lists (raw_ring k.ops) sum (scale_list (raw_ring k.ops) (get_or v i 0) (matrix_row m i))
       = new_is ∙ ap₂ (λ x y. add_lists (raw_ring k.ops) sum (scale_list (raw_ring k.ops) x y)) c_is row_is in
       record {
         vector = subst (IsVector k.ops m.cols) (sym new_value) (sum_in k m.cols sum _ before.vector part);
@@ -154,17 +154,17 @@ module _ (k : CodeField) where
 
   pub holds_step : (f : ℕ → List ℕ) (n cols i : ℕ) (m new : MatrixValue) (row : List ℕ) → i < n
       → IsVector k.ops cols (f i) → row ≡ f i
-      → new ≡ with_row m i row → HasRowsBelow k.ops f n cols i m → HasRowsBelow k.ops f n cols (i + 1) new
+      → new ≡ with_matrix_row m i row → HasRowsBelow k.ops f n cols i m → HasRowsBelow k.ops f n cols (i + 1) new
   holds_step f n cols i m new row within value_in row_is new_is before =
-      subst (HasRowsBelow k.ops f n cols (i + 1)) (sym (new_is ∙ ap (with_row m i) row_is)) (record {
+      subst (HasRowsBelow k.ops f n cols (i + 1)) (sym (new_is ∙ ap (with_matrix_row m i) row_is)) (record {
         shape = with_row_shape m n cols i (f i) before.shape value_in.size;
         over = with_row_over m i (f i) before.over value_in.over;
         rows = λ l less. go l less (ℕ_discrete l i);
       })
     where
-      go : (l : ℕ) → l < i + 1 → Dec (l ≡ i) → row_of (with_row m i (f i)) l ≡ f l
+      go : (l : ℕ) → l < i + 1 → Dec (l ≡ i) → matrix_row (with_matrix_row m i (f i)) l ≡ f l
       go l less (yes e) =
-          ap (row_of (with_row m i (f i))) e ∙ with_row_same m i (f i) (let s = before.shape.row_count in omega arith)
+          ap (matrix_row (with_matrix_row m i (f i))) e ∙ with_row_same m i (f i) (let s = before.shape.row_count in omega arith)
           ∙ sym (ap f e)
       go l less (no ne) = with_row_other m i l (f i) ne ∙ before.rows l (omega arith)
 

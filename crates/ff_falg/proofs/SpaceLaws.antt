@@ -10,7 +10,7 @@ use Rattle.ring_lemmas.specs.Lists.{add_lists, neg_list}
 use Rattle.ff_fields.specs.Field.{CodeField, sub_of}
 use Rattle.ff_fields.specs.Code.{raw_ring, code_ring}
 use Rattle.ff_fields.specs.Over.{IsOver, IsOver_head, IsOver_tail, get_or_below}
-use Rattle.ff_linalg.specs.Matrix.{MatrixValue, IsMatrixOver, HasShape, row_of, entry_of, with_entry}
+use Rattle.ff_linalg.specs.Matrix.{MatrixValue, IsMatrixOver, HasShape, matrix_row, entry_of, with_entry}
 use Rattle.ff_linalg.specs.Steps.{unit_row}
 use Rattle.ff_linalg.specs.Space.{product_of}
 use Rattle.ff_linalg.specs.Kernel.{IsKernelBasis}
@@ -55,38 +55,38 @@ module _ (k : CodeField) where
 
   pub entry_in : (m : MatrixValue) (n cols i j : ℕ) → HasShape m n cols → IsMatrixOver k.ops m → i < n
       → entry_of m i j < k.size
-  entry_in m n cols i j shape over less = get_or_below k (row_of m i) j (row_in k m n cols i shape over less).over
+  entry_in m n cols i j shape over less = get_or_below k (matrix_row m i) j (row_in k m n cols i shape over less).over
 
   pub less_step : (m now : MatrixValue) (i x : ℕ) → HasShape m m.cols m.cols → i < m.cols
       → x ≡ sub_of k.ops (entry_of now i i) 1 → IsLessUnit k.ops m i now
       → IsLessUnit k.ops m (i + 1) (with_entry now i i x)
   less_step m now i x shape less x_is before = record {
-    shape = with_row_shape now m.cols m.cols i _ before.shape (length-set (row_of now i) i x ∙ row.size);
+    shape = with_row_shape now m.cols m.cols i _ before.shape (length-set (matrix_row now i) i x ∙ row.size);
     over = with_row_over k now i _ before.over
         (record {
-          each = All-set (λ c. c < k.size) (row_of now i) i x (subst (λ c. c < k.size) (sym x_is) value_in)
+          each = All-set (λ c. c < k.size) (matrix_row now i) i x (subst (λ c. c < k.size) (sym x_is) value_in)
               row.over.each;
         });
     done = λ l h. go l h (ℕ_discrete l i);
     rest = λ l h. with_row_other now i l _ (λ e. omega arith) ∙ before.rest l (omega arith);
   }
     where
-      row : IsVector k.ops m.cols (row_of now i)
+      row : IsVector k.ops m.cols (matrix_row now i)
       row = row_in k now m.cols m.cols i before.shape before.over less
 
       value_in : sub_of k.ops (entry_of now i i) 1 < k.size
-      value_in = k.laws.add_below _ _ (get_or_below k (row_of now i) i row.over) (k.laws.neg_below 1 k.laws.one_below)
+      value_in = k.laws.add_below _ _ (get_or_below k (matrix_row now i) i row.over) (k.laws.neg_below 1 k.laws.one_below)
 
-      go : (l : ℕ) → l < i + 1 → Dec (l ≡ i) → row_of (with_entry now i i x) l
-          ≡ add_lists (raw_ring k.ops) (row_of m l) (neg_list (raw_ring k.ops) (unit_row m.cols l))
+      go : (l : ℕ) → l < i + 1 → Dec (l ≡ i) → matrix_row (with_entry now i i x) l
+          ≡ add_lists (raw_ring k.ops) (matrix_row m l) (neg_list (raw_ring k.ops) (unit_row m.cols l))
       go l h (yes e) =
-          ap (row_of (with_entry now i i x)) e
+          ap (matrix_row (with_entry now i i x)) e
           ∙ with_row_same now i _ (let s = before.shape.row_count in omega arith)
-          ∙ ap (set (row_of now i) i) x_is
-          ∙ less_unit (row_of now i) i row.over (let s = row.size in omega arith)
+          ∙ ap (set (matrix_row now i) i) x_is
+          ∙ less_unit (matrix_row now i) i row.over (let s = row.size in omega arith)
           ∙ ap₂ (λ r n. add_lists (raw_ring k.ops) r (neg_list (raw_ring k.ops) (unit_row n i)))
           (before.rest i (omega arith)) row.size
-          ∙ ap (λ j. add_lists (raw_ring k.ops) (row_of m j) (neg_list (raw_ring k.ops) (unit_row m.cols j))) (sym e)
+          ∙ ap (λ j. add_lists (raw_ring k.ops) (matrix_row m j) (neg_list (raw_ring k.ops) (unit_row m.cols j))) (sym e)
       go l h (no ne) = with_row_other now i l _ ne ∙ before.done l (omega arith)
 
   -- the kernel of a square matrix, as a space of vectors
@@ -133,7 +133,7 @@ module _ (k : CodeField) (A : AlgebraOps) (law : IsAlgebra k A) where
     rows = λ l less.
         let unit = unit_in k A.size l less in
         p.written.rows l (let s = h.shape.row_count in omega arith)
-        ∙ iterate_values k A law h.times m h.shape h.rows (row_of m l) (row_in k m A.size A.size l h.shape h.over less)
+        ∙ iterate_values k A law h.times m h.shape h.rows (matrix_row m l) (row_in k m A.size A.size l h.shape h.over less)
         ∙ ap (λ r. power k.ops A r (k.size ^ h.times)) (h.rows l less)
         ∙ power_power k A law (unit_row A.size l) (k.size ^ h.times) (k.size ^ h.times) unit
         ∙ ap (power k.ops A (unit_row A.size l)) (sym doubled);

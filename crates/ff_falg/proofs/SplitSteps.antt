@@ -9,7 +9,7 @@ use Rattle.ff_fields.specs.Field.{CodeField}
 use Rattle.ff_fields.specs.Code.{Code, raw_ring, read_code}
 use Rattle.ff_fields.specs.Numbers.{read}
 use Rattle.ff_fields.specs.Over.{IsOver, IsOver_neg}
-use Rattle.ff_linalg.specs.Matrix.{MatrixValue, row_of, first_rows_of}
+use Rattle.ff_linalg.specs.Matrix.{MatrixValue, matrix_row, first_rows_of}
 use Rattle.ff_linalg.specs.Space.{IsSolution}
 use Rattle.finite_algebra_theory.specs.Algebra.{powers}
 use Rattle.finite_algebra_theory.specs.ByMap.{Image}
@@ -67,7 +67,7 @@ module _ (k : CodeField) (A : AlgebraOps) (law : IsAlgebra k A) where
         go : (w : List ℕ) → v ≡ w → 0 < length w
         go [] n =
             let within : 0 < length m.rows = let l = r.first.within in omega arith in
-            let p = subst (λ y. IsSolution k.ops (first_rows_of m (length y)) (row_of m (length y)) y) n
+            let p = subst (λ y. IsSolution k.ops (first_rows_of m (length y)) (matrix_row m (length y)) y) n
             r.first.relation in
             absurd (ne (sym (powers_first k A law x x_in e m idem.vector within r.powers) ∙ sym p.product
             ∙ ap (λ c. replicate c 0) r.powers.written.shape.col_count))

@@ -9,13 +9,13 @@ use Rattle.ring_lemmas.specs.Lists.{add_lists}
 use Rattle.ring_theory.specs.Members.{In}
 use Rattle.ff_fields.specs.Field.{CodeField}
 use Rattle.ff_fields.specs.Code.{Code, raw_ring}
-use Rattle.ff_linalg.specs.Matrix.{MatrixValue, row_of}
+use Rattle.ff_linalg.specs.Matrix.{MatrixValue, matrix_row}
 use Rattle.finite_algebra_theory.specs.ByMap.{Image}
 use Rattle.finite_algebra_theory.specs.Idempotents.{Orthogonal, ScalarAt, Splitting, Split, Refines}
 use Rattle.finite_algebra_theory.proofs.Lists.{all_in, all_of_in}
 use Rattle.finite_algebra_theory.proofs.Idempotents.{refines_push, splitting_step}
 use Rattle.ff_falg.specs.Algebras.{AlgebraOps, IsAlgebra, IsVector, zero_of}
-use Rattle.ff_falg.specs.Idempotents.{sum_of}
+use Rattle.ff_falg.specs.Idempotents.{vector_sum}
 use Rattle.ff_falg.specs.Splits.{IsOrthogonal, IsScalarAt, IsSplit, IsSplitOnto, IsSplitting}
 use Rattle.ff_falg.proofs.Vectors.{Vector, vector_ring, same_vector}
 use Rattle.ff_falg.proofs.VectorAlgebra.{scalar, scalar_times}
@@ -44,7 +44,7 @@ module _ (k : CodeField) (A : AlgebraOps) (law : IsAlgebra k A) where
     orthogonal_value es o.3,
   )
 
-  pub sum_value : (es : List V) → (sum_over R.ops es (λ e. e)).0 ≡ sum_of k.ops A (lists es)
+  pub sum_value : (es : List V) → (sum_over R.ops es (λ e. e)).0 ≡ vector_sum k.ops A (lists es)
   sum_value [] = refl
   sum_value (e ∷ es) = ap (add_lists (raw_ring k.ops) e.0) (sum_value es)
 
@@ -94,10 +94,10 @@ module _ (k : CodeField) (A : AlgebraOps) (law : IsAlgebra k A) where
     value_orthogonal es o.3,
   )
 
-  pub value_sum : (es : List (List ℕ)) (o : IsOrthogonal k.ops A es) (s : V) → sum_of k.ops A es ≡ s.0
+  pub value_sum : (es : List (List ℕ)) (o : IsOrthogonal k.ops A es) (s : V) → vector_sum k.ops A es ≡ s.0
       → sum_over R.ops (vectors_of es o) (λ e. e) ≡ s
   value_sum es o s e =
-      same_vector k A.size _ _ (sum_value (vectors_of es o) ∙ ap (sum_of k.ops A) (lists_vectors es o) ∙ e)
+      same_vector k A.size _ _ (sum_value (vectors_of es o) ∙ ap (vector_sum k.ops A) (lists_vectors es o) ∙ e)
 
   pub value_scalar_at : (a e : V) → IsScalarAt k.ops A a.0 e.0 → ScalarAt R.ops S a e
   value_scalar_at a e s =
@@ -134,7 +134,7 @@ module _ (k : CodeField) (A : AlgebraOps) (law : IsAlgebra k A) where
   -- the splitting of the elements that are scalars at each member
   pub value_splitting : (basis : MatrixValue) (i : ℕ) (es : List (List ℕ)) (s : IsSplitting k.ops A basis i es)
       (used : List V)
-      → ((a : V) → In a used → (l : ℕ) × (l < i) × (a.0 ≡ row_of basis l))
+      → ((a : V) → In a used → (l : ℕ) × (l < i) × (a.0 ≡ matrix_row basis l))
       → Splitting R.ops S used (vectors_of es s.orthogonal)
   value_splitting basis i es s used w = record {
     orthogonal = value_orthogonal es s.orthogonal;
@@ -172,18 +172,18 @@ module _ (k : CodeField) (A : AlgebraOps) (law : IsAlgebra k A) where
 
   -- once all are refined, one more row is a scalar at each
   pub refined_end : (basis : MatrixValue) (i : ℕ) (es fs : List (List ℕ))
-      → ((l : ℕ) → l ≤ i → IsVector k.ops A.size (row_of basis l))
-      → (a : V) → a.0 ≡ row_of basis i → IsSplitting k.ops A basis i es → IsRefined a es fs
+      → ((l : ℕ) → l ≤ i → IsVector k.ops A.size (matrix_row basis l))
+      → (a : V) → a.0 ≡ matrix_row basis i → IsSplitting k.ops A basis i es → IsRefined a es fs
       → IsSplitting k.ops A basis (i + 1) fs
   refined_end basis i es fs rows_in a a_is s h = record {
     orthogonal = subst (IsOrthogonal k.ops A) h.news_are
         (orthogonal_value h.news (start [] (λ b j. absurd j)).orthogonal);
-    sum = sym (ap (sum_of k.ops A) h.news_are) ∙ sym (sum_value h.news)
+    sum = sym (ap (vector_sum k.ops A) h.news_are) ∙ sym (sum_value h.news)
         ∙ ap (λ y. y.0) (start [] (λ b j. absurd j)).sum;
     scalar = λ l less. go l less (ℕ_discrete l i);
   }
     where
-      start : (used : List V) → ((b : V) → In b used → (l : ℕ) × (l < i) × (b.0 ≡ row_of basis l))
+      start : (used : List V) → ((b : V) → In b used → (l : ℕ) × (l < i) × (b.0 ≡ matrix_row basis l))
           → Splitting R.ops S (a ∷ used) h.news
       start used w =
           splitting_step R S a used h.olds h.news
@@ -191,19 +191,19 @@ module _ (k : CodeField) (A : AlgebraOps) (law : IsAlgebra k A) where
           (value_splitting basis i es s used w))
           h.refines
 
-      scalars : (used : List V) (w : (b : V) → In b used → (l : ℕ) × (l < i) × (b.0 ≡ row_of basis l)) (b : V)
+      scalars : (used : List V) (w : (b : V) → In b used → (l : ℕ) × (l < i) × (b.0 ≡ matrix_row basis l)) (b : V)
           → In b (a ∷ used)
           → All (IsScalarAt k.ops A b.0) fs
       scalars used w b j =
           subst (All (IsScalarAt k.ops A b.0)) h.news_are
           (scalars_value b h.news (all_of_in (ScalarAt R.ops S b) h.news (λ e t. (start used w).scalar b j e t)))
 
-      go : (l : ℕ) → l < i + 1 → Dec (l ≡ i) → All (IsScalarAt k.ops A (row_of basis l)) fs
+      go : (l : ℕ) → l < i + 1 → Dec (l ≡ i) → All (IsScalarAt k.ops A (matrix_row basis l)) fs
       go l less (yes e) =
-          subst (λ y. All (IsScalarAt k.ops A y) fs) (a_is ∙ ap (row_of basis) (sym e))
+          subst (λ y. All (IsScalarAt k.ops A y) fs) (a_is ∙ ap (matrix_row basis) (sym e))
           (scalars [] (λ b j. absurd j) a (inl refl))
       go l less (no ne) =
-          let b : V = (row_of basis l, rows_in l (omega arith)) in
+          let b : V = (matrix_row basis l, rows_in l (omega arith)) in
           scalars (b ∷ [])
           (λ y j. elim j [ inl e ↦ (l, omega arith, ap (λ z. z.0) e) | inr t ↦ absurd t ])
           b (inr (inl refl))

@@ -28,9 +28,9 @@ IsSublist fs [] = fs ≡ []
 IsSublist fs (e ∷ es) = IsSublist fs es ⊎ ((gs : List (List ℕ)) × (fs ≡ e ∷ gs) × IsSublist gs es)
 
 -- the sum of the members of a list
-abbrev pub sum_of : FieldOps → AlgebraOps → List (List ℕ) → List ℕ
-sum_of k A [] = zero_of A
-sum_of k A (e ∷ es) = add_lists (raw_ring k) e (sum_of k A es)
+abbrev pub vector_sum : FieldOps → AlgebraOps → List (List ℕ) → List ℕ
+vector_sum k A [] = zero_of A
+vector_sum k A (e ∷ es) = add_lists (raw_ring k) e (vector_sum k A es)
 
 -- all primitive idempotents, in ascending order: products of two are 0, their sum is 1, and each idempotent is the sum
 -- of some
@@ -38,6 +38,6 @@ pub record IsPrimitiveList (k : FieldOps) (A : AlgebraOps) (es : List (List ℕ)
   pub members : (e : List ℕ) → In e es ↔ IsPrimitiveVector k A e
   pub ascending : AreAscendingVectors es
   pub product : (e f : List ℕ) → In e es → In f es → e ≢ f → A.product k e f ≡ zero_of A
-  pub sum : sum_of k A es ≡ A.unit
+  pub sum : vector_sum k A es ≡ A.unit
   pub idempotents : (f : List ℕ) → IsIdempotentVector k A f
-      → (fs : List (List ℕ)) × IsSublist fs es × (f ≡ sum_of k A fs)
+      → (fs : List (List ℕ)) × IsSublist fs es × (f ≡ vector_sum k A fs)

@@ -3,10 +3,10 @@ use Rattle.std.specs.Prelude.{◌≡◌, ◌≢◌, ℕ, ◌<◌, ◌≤◌, ◌
 use Rattle.ring_lemmas.specs.Lists.{scale_list}
 use Rattle.ff_fields.specs.Field.{FieldOps}
 use Rattle.ff_fields.specs.Code.{raw_ring}
-use Rattle.ff_linalg.specs.Matrix.{MatrixValue, row_of}
+use Rattle.ff_linalg.specs.Matrix.{MatrixValue, matrix_row}
 use Rattle.ff_linalg.specs.Space.{product_of}
 use Rattle.ff_falg.specs.Algebras.{AlgebraOps, IsIdempotentVector, zero_of}
-use Rattle.ff_falg.specs.Idempotents.{sum_of}
+use Rattle.ff_falg.specs.Idempotents.{vector_sum}
 use Rattle.ff_falg.specs.Roots.{monic_value, quotient_of}
 
 -- the value at c of the quotient by t - c
@@ -38,7 +38,7 @@ pub record IsScalarAt (k : FieldOps) (A : AlgebraOps) (x e : List ℕ) : Type 0 
 -- e is the sum of orthogonal idempotents, at each of which x is a scalar
 pub record IsSplit (k : FieldOps) (A : AlgebraOps) (x e : List ℕ) (fs : List (List ℕ)) : Type 0 where
   pub orthogonal : IsOrthogonal k A fs
-  pub sum : sum_of k A fs ≡ e
+  pub sum : vector_sum k A fs ≡ e
   pub scalar : All (IsScalarAt k A x) fs
 
 -- such idempotents are appended
@@ -50,8 +50,8 @@ pub record IsSplitOnto (k : FieldOps) (A : AlgebraOps) (x e : List ℕ) (old new
 -- orthogonal idempotents with sum 1, at each of which the first i rows are scalars
 pub record IsSplitting (k : FieldOps) (A : AlgebraOps) (basis : MatrixValue) (i : ℕ) (es : List (List ℕ)) : Type 0 where
   pub orthogonal : IsOrthogonal k A es
-  pub sum : sum_of k A es ≡ A.unit
-  pub scalar : (l : ℕ) → l < i → All (IsScalarAt k A (row_of basis l)) es
+  pub sum : vector_sum k A es ≡ A.unit
+  pub scalar : (l : ℕ) → l < i → All (IsScalarAt k A (matrix_row basis l)) es
 
 -- the same, where there are as many as rows, or all rows are scalars
 pub record IsFullSplitting (k : FieldOps) (A : AlgebraOps) (basis : MatrixValue) (es : List (List ℕ)) : Type 0 where

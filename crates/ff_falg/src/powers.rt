@@ -2,7 +2,7 @@
 
 ghost use Rattle.std.specs.Prelude.{◌≡◌, ◌<◌, ℕ, ⊤, true, false, None, Some, length, get_or, IfOk, OnOk, MatchOption};
 ghost use Rattle.ff_falg.specs.Algebras.{IsVector, power};
-ghost use Rattle.ff_falg.specs.Chains.{AreChains, AreStepsBelow, IsFrobeniusAt, IsStep, KeepsFlags};
+ghost use Rattle.ff_falg.specs.Chains.{AreChains, AreStepsBelow, IsFrobeniusAt, IsChainStep, KeepsFlags};
 ghost use Rattle.ff_falg.specs.Spaces.{IsFrobenius};
 
 use crate::algebra::FiniteAlgebra;
@@ -58,7 +58,7 @@ fn next_of<K: SmallField, A: FiniteAlgebra<K>>(
     requires over { A.IsOver a.now (K.field k.now) }
     requires z_in { IsVector (K.field k.now).ops (A.algebra a.now).size z.now }
     requires within { j < (A.algebra a.now).size }
-    ensures { IfOk result (λ r. MatchOption r ⊤ (IsStep (K.field k.now).ops (A.algebra a.now) z.now j)) }
+    ensures { IfOk result (λ r. MatchOption r ⊤ (IsChainStep (K.field k.now).ops (A.algebra a.now) z.now j)) }
 {
     let element = unit(alloc, a.dim(), j)?;
     let product = a.mul(alloc, k, z, element.as_slice())?;

@@ -1,7 +1,7 @@
 //! The powers of an element, times another, and their first relation.
 
 ghost use Rattle.std.specs.Prelude.{◌≡◌, ◌<◌, ◌≤◌, length, IfOk};
-ghost use Rattle.ff_linalg.specs.Matrix.{row_of};
+ghost use Rattle.ff_linalg.specs.Matrix.{matrix_row};
 ghost use Rattle.ff_falg.specs.Algebras.{IsVector, power};
 ghost use Rattle.ff_falg.specs.Relations.{IsBounded, IsFirstRow, IsPowers, IsPowersBelow, IsRelation};
 
@@ -55,13 +55,13 @@ fn next_power<K: SmallField, A: FiniteAlgebra<K>>(
 ) -> Result<Vec<u32>, AllocError>
     requires over { A.IsOver a.now (K.field k.now) }
     requires x_in { IsVector (K.field k.now).ops (A.algebra a.now).size x.now }
-    requires known { IsPowers (K.field k.now).ops (A.algebra a.now) x.now (row_of known.now 0) known.now }
+    requires known { IsPowers (K.field k.now).ops (A.algebra a.now) x.now (matrix_row known.now 0) known.now }
     requires some { 0 < length known.now.rows }
     requires within { l < length powers.now.rows }
-    requires before { IsPowersBelow (K.field k.now).ops (A.algebra a.now) x.now (row_of known.now 0) l powers.now }
+    requires before { IsPowersBelow (K.field k.now).ops (A.algebra a.now) x.now (matrix_row known.now 0) l powers.now }
     ensures { let A = A.algebra a.now in
         IfOk result (λ v. v.items ≡ A.product (K.field k.now).ops (power (K.field k.now).ops A x.now l)
-        (row_of known.now 0)) }
+        (matrix_row known.now 0)) }
 {
     if l < known.rows() {
         return known.row(l).to_vec(alloc);
@@ -80,10 +80,10 @@ fn more_powers<K: SmallField, A: FiniteAlgebra<K>>(
 ) -> Result<Matrix, AllocError>
     requires over { A.IsOver a.now (K.field k.now) }
     requires x_in { IsVector (K.field k.now).ops (A.algebra a.now).size x.now }
-    requires known { IsPowers (K.field k.now).ops (A.algebra a.now) x.now (row_of known.now 0) known.now }
+    requires known { IsPowers (K.field k.now).ops (A.algebra a.now) x.now (matrix_row known.now 0) known.now }
     requires some { 0 < length known.now.rows }
     ensures count { IfOk result (λ m. length m.rows ≡ count) }
-    ensures powers { IfOk result (IsPowers (K.field k.now).ops (A.algebra a.now) x.now (row_of known.now 0)) }
+    ensures powers { IfOk result (IsPowers (K.field k.now).ops (A.algebra a.now) x.now (matrix_row known.now 0)) }
 {
     let mut powers = Matrix::zero(alloc, count, a.dim())?;
     for l in 0..count {

@@ -8,7 +8,7 @@ ghost use Rattle.ff_linalg.specs.Matrix.{IsMatrixOver, HasShape};
 ghost use Rattle.ff_linalg.specs.Space.{product_of};
 ghost use Rattle.ff_linalg.specs.Steps.{unit_row};
 ghost use Rattle.ff_falg.specs.Algebras.{IsVector};
-ghost use Rattle.ff_falg.specs.Steps.{with_row, IsProductBelow};
+ghost use Rattle.ff_falg.specs.Steps.{with_matrix_row, IsProductBelow};
 
 use ff_fields::field::SmallField;
 use ff_linalg::{Matrix, add_multiple};
@@ -47,7 +47,7 @@ pub(crate) fn set_row(m: &mut Matrix, i: usize, row: &[u32])
     requires row_in { i < length m.old.rows }
     requires width { length row.now ≡ m.old.cols }
     requires shape { HasShape m.old (length m.old.rows) m.old.cols }
-    ensures { m.new ≡ with_row m.old i row.now }
+    ensures { m.new ≡ with_matrix_row m.old i row.now }
 {
     for j in 0..row.len() {
         m.set(i, j, row[j]);

@@ -10,7 +10,7 @@ use Rattle.ring_theory.specs.PolynomialRing.{pol_ring}
 use Rattle.ring_lemmas.proofs.Polynomials.{same_pol, series_add}
 use Rattle.ff_fields.specs.Code.{raw_ring, code_ring, same_code, zero_in}
 use Rattle.ff_fields.specs.Field.{CodeField}
-use Rattle.ff_fields.specs.Laws.{IsSumOf, IsProductOf, polynomials}
+use Rattle.ff_fields.specs.Laws.{IsCodeSum, IsProductOf, polynomials}
 use Rattle.ff_fields.specs.Modulus.{IsMonicModulus, polynomial}
 use Rattle.ff_fields.specs.Over.{IsOver, IsOver_add}
 use Rattle.ff_fields.specs.Prime.{is_listed, prime_of, prime_field}
@@ -63,7 +63,7 @@ module _ (p : ℕ) (listed : IsTrue (is_listed p)) (m a b : ℕ) where
 
 -- a + b is the one code that stands for the sum
 pub sum_law : (p m : ℕ) (modulus : List ℕ) → IsMonicModulus p m modulus → (a b c : ℕ)
-    → (c ≡ (residue_of p m modulus).add a b) ↔ IsSumOf p m a b c
+    → (c ≡ (residue_of p m modulus).add a b) ↔ IsCodeSum p m a b c
 sum_law p m modulus poly a b c = (
   λ e. record {
     below = subst (λ w. w < p ^ m) (sym e) (sum_below p poly.size.listed m a b);

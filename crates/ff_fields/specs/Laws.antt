@@ -14,7 +14,7 @@ abbrev pub polynomials : (p : ℕ) (listed : IsTrue (is_listed p)) → Operation
 polynomials p listed = (pol_ring (code_ring (prime_field p listed))).ops
 
 -- c is the code below p to the m whose polynomial is the sum of those of a and b
-pub record IsSumOf (p m a b c : ℕ) : Type 0 where
+pub record IsCodeSum (p m a b c : ℕ) : Type 0 where
   pub below : c < p ^ m
   pub sum : (listed : IsTrue (is_listed p)) →
       polynomial p listed (digits p m c)

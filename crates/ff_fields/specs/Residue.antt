@@ -438,8 +438,8 @@ module _ (p : ℕ) (listed : IsTrue (is_listed p)) (m : ℕ) (some : 0 < m) (mod
   pub product_below : (a b : ℕ) → ops.mul a b < p ^ m
   product_below a b = rw product_is (number_is_below (take m (product_list a b)) (length_part a b))
 
-  abbrev pub class_ops : Operations C
-  class_ops = record {
+  abbrev pub code_class_ops : Operations C
+  code_class_ops = record {
     𝟘 = (0, zero_below);
     𝟙 = (1, two_le);
     ◌⊕◌ = λ x y. (ops.add x.0 y.0, sum_below x.0 y.0);
@@ -447,7 +447,7 @@ module _ (p : ℕ) (listed : IsTrue (is_listed p)) (m : ℕ) (some : 0 < m) (mod
     ◌⊗◌ = λ x y. (ops.mul x.0 y.0, product_below x.0 y.0);
   }
 
-  pub represents : Represents class_ops s.ops M
+  pub represents : Represents code_class_ops s.ops M
   represents = record {
     of = λ x. of x.0;
     of_zero = congruent_same s.ring M _ _ of_null;
@@ -463,7 +463,7 @@ module _ (p : ℕ) (listed : IsTrue (is_listed p)) (m : ℕ) (some : 0 < m) (mod
 
   -- the ring of the codes
   abbrev pub class_ring : CommRing C
-  class_ring = represented_ring class_ops s.ring M represents class_set
+  class_ring = represented_ring code_class_ops s.ring M represents class_set
 
   -- where no product of two nonzero codes is 0, the codes are a field
 
@@ -472,27 +472,27 @@ module _ (p : ℕ) (listed : IsTrue (is_listed p)) (m : ℕ) (some : 0 < m) (mod
       same_codes : (x y : C) → x.0 ≡ y.0 → x ≡ y
       same_codes x y e = Σ_prop_path (λ c. le_prop) e
 
-      class_domain : IsDomain class_ops
+      class_domain : IsDomain code_class_ops
       class_domain = record {
-        one_not_zero = λ e. apart class_ops.𝟙.0 class_ops.𝟘.0 refl refl (ap (λ x. x.0) e);
+        one_not_zero = λ e. apart code_class_ops.𝟙.0 code_class_ops.𝟘.0 refl refl (ap (λ x. x.0) e);
         cancel_zero = λ x y x_some null. go x y x_some (ap (λ w. w.0) null) (cases_eq y.0 0);
       }
         where
           apart : (a b : ℕ) → a ≡ 1 → b ≡ 0 → a ≡ b → ⊥
           apart a b a_is b_is same = omega arith
 
-          go : (x y : C) → ¬ (x ≡ class_ops.𝟘) → ops.mul x.0 y.0 ≡ 0 → (y.0 ≡ 0) ⊎ (y.0 ≡ 0 → ⊥) → y ≡ class_ops.𝟘
-          go x y x_some null (inl e) = same_codes y class_ops.𝟘 e
+          go : (x y : C) → ¬ (x ≡ code_class_ops.𝟘) → ops.mul x.0 y.0 ≡ 0 → (y.0 ≡ 0) ⊎ (y.0 ≡ 0 → ⊥) → y ≡ code_class_ops.𝟘
+          go x y x_some null (inl e) = same_codes y code_class_ops.𝟘 e
           go x y x_some null (inr y_some) = absurd
-              (no_divisors x.0 y.0 x.1 y.1 (λ e. x_some (same_codes x class_ops.𝟘 e)) y_some null)
+              (no_divisors x.0 y.0 x.1 y.1 (λ e. x_some (same_codes x code_class_ops.𝟘 e)) y_some null)
 
       last : p ^ m - 1 < p ^ m
       last = omega (arith, two_le)
 
       -- each nonzero code to the power q - 1 is 1
-      unit_power : (x : C) → x.0 ≢ 0 → pow class_ops x (p ^ m - 1) ≡ class_ring.𝟙
+      unit_power : (x : C) → x.0 ≢ 0 → pow code_class_ops x (p ^ m - 1) ≡ class_ring.𝟙
       unit_power x some =
-          ap (pow class_ops x) (sym (length_codes_to (p ^ m) (p ^ m - 1) last))
+          ap (pow code_class_ops x) (sym (length_codes_to (p ^ m) (p ^ m - 1) last))
           ∙ power_all class_ring class_domain (codes_to (p ^ m) (p ^ m - 1) last)
           (codes_to_distinct (p ^ m) (p ^ m - 1) last)
           (λ y h e. absurd (omega (arith, codes_to_some (p ^ m) (p ^ m - 1) last y h, ap (λ w. w.0) e)))
@@ -500,11 +500,11 @@ module _ (p : ℕ) (listed : IsTrue (is_listed p)) (m : ℕ) (some : 0 < m) (mod
           (pos_of_ne-zero (λ e. y_some (same_codes y class_ring.𝟘 e))) (omega (arith, y.1)))
           x (λ e. some (ap (λ w. w.0) e))
 
-      power_is : (x : C) (e : ℕ) → (pow class_ops x e).0 ≡ pow_of ops x.0 e
+      power_is : (x : C) (e : ℕ) → (pow code_class_ops x e).0 ≡ pow_of ops x.0 e
       power_is x zero = refl
       power_is x (suc e) = ap (ops.mul x.0) (power_is x e)
 
-      power_by_is : (x : C) (e : ℕ) → (pow class_ops x e).0 ≡ power_by ops.mul x.0 e
+      power_by_is : (x : C) (e : ℕ) → (pow code_class_ops x e).0 ≡ power_by ops.mul x.0 e
       power_by_is x zero = refl
       power_by_is x (suc e) = ap (ops.mul x.0) (power_by_is x e)
 
@@ -512,7 +512,7 @@ module _ (p : ℕ) (listed : IsTrue (is_listed p)) (m : ℕ) (some : 0 < m) (mod
       raw_unit a a_in some = sym (power_is (a, a_in) (p ^ m - 1)) ∙ ap (λ x. x.0) (unit_power (a, a_in) some)
 
       inverse_below : (a : ℕ) → a < p ^ m → ops.inv a < p ^ m
-      inverse_below a a_in = rw (sym (power_by_is (a, a_in) (p ^ m - 2))) ((pow class_ops (a, a_in) (p ^ m - 2)).1)
+      inverse_below a a_in = rw (sym (power_by_is (a, a_in) (p ^ m - 2))) ((pow code_class_ops (a, a_in) (p ^ m - 2)).1)
 
       pub residue_laws : FieldLaws ops
       residue_laws = record {
@@ -551,7 +551,7 @@ module _ (p : ℕ) (listed : IsTrue (is_listed p)) (m : ℕ) (some : 0 < m) (mod
               ap (pow_of ops a) count_all
               ∙ ap (λ w. ops.mul w (pow_of ops a (p ^ m - 1))) e
               ∙ ap (λ x. ops.mul 0 x) (sym (power_is (a, a_in) (p ^ m - 1)))
-              ∙ ap (λ x. x.0) (zero_mul class_ring (pow class_ops (a, a_in) (p ^ m - 1)))
+              ∙ ap (λ x. x.0) (zero_mul class_ring (pow code_class_ops (a, a_in) (p ^ m - 1)))
               ∙ sym e
           pow_size a a_in (inr n) =
               ap (pow_of ops a) count_all ∙ ap (ops.mul a) (raw_unit a a_in n)

@@ -3,7 +3,7 @@
 ghost use Rattle.std.specs.Prelude.{◌≡◌, ◌≢◌, ℕ, ◌+◌, ◌^◌, ◌<◌, ◌↔◌, length, take, IsOk, IfOk, IfErr, IfNone, IfSome};
 ghost use Rattle.std.specs.Option.{SomeIff};
 ghost use Rattle.ff_fields.specs.Field.{pow_of};
-ghost use Rattle.ff_fields.specs.Laws.{IsProductOf, IsSumOf};
+ghost use Rattle.ff_fields.specs.Laws.{IsProductOf, IsCodeSum};
 ghost use Rattle.ff_fields.specs.Modulus.{IsFieldModulus, IsFieldSize, IsFirstOutside, IsFaultOf, IsMonicModulus};
 ghost use Rattle.ff_fields.specs.Over.{IsOver};
 ghost use Rattle.ff_fields.specs.Prime.{prime_of};
@@ -175,7 +175,7 @@ impl SmallField for ResidueField {
 /// polynomial is congruent to the product of theirs modulo the modulus.
 pub fn residue_law(p: u32, m: u32, modulus: &[u32])
     requires { IsMonicModulus p m modulus.now }
-    ensures sum { let k = residue_of p m modulus.now in (a b c : ℕ) → (c ≡ k.add a b) ↔ IsSumOf p m a b c }
+    ensures sum { let k = residue_of p m modulus.now in (a b c : ℕ) → (c ≡ k.add a b) ↔ IsCodeSum p m a b c }
     ensures product { let k = residue_of p m modulus.now in
         (a b c : ℕ) → (c ≡ k.mul a b) ↔ IsProductOf p m modulus.now a b c }
 {}

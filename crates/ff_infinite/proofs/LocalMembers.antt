@@ -29,7 +29,7 @@ use Rattle.infinite_theory.specs.Supported.{IsSupportedAt, HasPowerDenominator, 
 use Rattle.infinite_theory.specs.InfiniteMaps.{IsInfiniteMap}
 use Rattle.infinite_theory.proofs.InfiniteTransport.{x_irreducible, infinite_map}
 use Rattle.infinite_theory.proofs.SupportedLattices.{local_member}
-use Rattle.ff_lattice.specs.Lattices.{LatticeValue, IsLattice, Contains, elems_over, row_elems}
+use Rattle.ff_lattice.specs.Lattices.{LatticeValue, IsLatticeValue, Contains, elems_over, row_elems}
 use Rattle.ff_infinite.specs.Steps.{IsFreed}
 use Rattle.ff_infinite.proofs.LowZeros.{over_right}
 
@@ -142,7 +142,7 @@ module _ (k : CodeField) (p q : PresValue) (c : ℕ) (h : IsInfinitePresentation
             ∙ sym (value_at_is k p (variable k p Infinite) u);
       })
 
-  pub local_members : (l : LatticeValue) → IsLattice k.ops q.n l
+  pub local_members : (l : LatticeValue) → IsLatticeValue k.ops q.n l
       → IsSupportedAt (equation_of k q) (x_poly k) (Contains k q l)
       → (z : Functions k p) (w v : ElemValue) → IsElem k.ops q.n w → IsMonicElem w → function_on k p c Infinite w ≡ z
       → (e : IsFreed k w v)

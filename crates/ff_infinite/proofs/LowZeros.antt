@@ -5,7 +5,7 @@ use Rattle.ring_lemmas.proofs.Lists.{trim_trimmed, IsTrimmed_push}
 use Rattle.ff_fields.specs.Field.{FieldOps, CodeField}
 use Rattle.ff_fields.specs.Code.{is_zero_code}
 use Rattle.ff_fields.specs.Over.{IsOver, IsOver_nil, IsOver_cons, IsOver_append, IsOver_zeros, IsOver_tail}
-use Rattle.ff_poly.specs.Words.{IsMonic, shifted}
+use Rattle.ff_poly.specs.Words.{IsMonicList, shifted}
 use Rattle.ff_poly.proofs.Parts.{top_of_monic}
 
 pub zeros_below : (b : ℕ) (d : List ℕ) → b ≤ length d → ((j : ℕ) → j < b → get_or d j 0 ≡ 0)
@@ -21,7 +21,7 @@ first_of_drop (suc b) [] = refl
 first_of_drop (suc b) (a ∷ d) = first_of_drop b d
 
 -- a monic polynomial isn't zeros alone
-zeros_end : (b : ℕ) (d : List ℕ) → IsMonic d → ((j : ℕ) → j < b → get_or d j 0 ≡ 0) → b < length d
+zeros_end : (b : ℕ) (d : List ℕ) → IsMonicList d → ((j : ℕ) → j < b → get_or d j 0 ≡ 0) → b < length d
 zeros_end b d monic zeros = go (cases_lt b (length d))
   where
     top : (n : ℕ) × (length d ≡ suc n) × (get_or d n 0 ≡ 1)
@@ -33,7 +33,7 @@ zeros_end b d monic zeros = go (cases_lt b (length d))
         let none : 0 ≡ 1 = sym (zeros top.0 (omega (arith, top.1))) ∙ top.2 in
         absurd (omega (arith, none))
 
-pub split : (b : ℕ) (d : List ℕ) → IsMonic d → ((j : ℕ) → j < b → get_or d j 0 ≡ 0) → (b < length d → get_or d b 0 ≢ 0)
+pub split : (b : ℕ) (d : List ℕ) → IsMonicList d → ((j : ℕ) → j < b → get_or d j 0 ≡ 0) → (b < length d → get_or d b 0 ≢ 0)
     → (d ≡ replicate b 0 ++ drop b d) × (¬ (get_or (drop b d) 0 0 ≡ 0))
 split b d monic zeros next =
     let less = zeros_end b d monic zeros in (

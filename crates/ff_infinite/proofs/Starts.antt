@@ -7,7 +7,7 @@ use Rattle.trace_theory.specs.Traces.{HasPolynomialCoordinates}
 use Rattle.infinite_theory.specs.Supported.{IsSupportedAt}
 use Rattle.infinite_theory.proofs.InfiniteTransport.{x_irreducible}
 use Rattle.infinite_theory.proofs.SupportedLattices.{coordinates_supported}
-use Rattle.ff_lattice.specs.Lattices.{LatticeValue, IsLattice, IsSpannedBy, Contains, elems_over}
+use Rattle.ff_lattice.specs.Lattices.{LatticeValue, IsLatticeValue, IsSpannedBy, Contains, elems_over}
 use Rattle.ff_lattice.specs.Orders.{IsOrderLattice}
 use Rattle.ff_lattice.specs.Units.{unit_rows}
 use Rattle.value_theory.proofs.UnitRows.{coordinate_lattice, coordinate_order}
@@ -20,9 +20,9 @@ pub record IsStart (k : CodeField) (q : PresValue) (l : LatticeValue) : Type 0 w
 
 -- what the unit rows span, in the words of the presentation q' that the calls are given
 pub started : (k : CodeField) (q q' : PresValue) (n : ℕ) (l : LatticeValue) → q' ≡ q → n ≡ q'.n → 0 < q'.n
-    → IsLattice k.ops n l → IsSpannedBy k n (elems_over (unit_rows n n) (1 ∷ [])) l → IsStart k q l
+    → IsLatticeValue k.ops n l → IsSpannedBy k n (elems_over (unit_rows n n) (1 ∷ [])) l → IsStart k q l
 started k q q' n l same n_is positive form spanned = record {
-  order = coordinate_order k q some l (subst (λ m. IsLattice k.ops m l) size form) unit_spanned;
+  order = coordinate_order k q some l (subst (λ m. IsLatticeValue k.ops m l) size form) unit_spanned;
   members = members;
   tame =
       let t = coordinates_supported (equation_of k q) (x_poly k) (x_irreducible k) in

@@ -7,7 +7,7 @@ ghost use Rattle.function_field.specs.Values.{IsElem, equation_of, function_of};
 ghost use Rattle.function_field.specs.Curves.{IsCurve};
 ghost use Rattle.function_field.specs.InfiniteSpans.{InInfiniteSpan};
 ghost use Rattle.infinite_theory.specs.Supported.{IsSupportedAt};
-ghost use Rattle.ff_lattice.specs.Lattices.{LatticeValue, IsLattice, Contains, row_elems};
+ghost use Rattle.ff_lattice.specs.Lattices.{LatticeValue, IsLatticeValue, Contains, row_elems};
 ghost use Rattle.ff_infinite.specs.Steps.{IsFreed};
 
 use ff_algebra::{Curve, Elem, to_inf};
@@ -30,7 +30,7 @@ pub fn local_contains<K: SmallField>(
     z: &Elem,
 ) -> Result<bool, AllocError>
     requires curve { IsCurve (K.field k.now) c.now }
-    requires l_form { IsLattice (K.field k.now).ops c.now.inf.n l.now }
+    requires l_form { IsLatticeValue (K.field k.now).ops c.now.inf.n l.now }
     requires tame { let k = K.field k.now in
         IsSupportedAt (equation_of k c.now.inf) (x_poly k) (Contains k c.now.inf l.now) }
     requires z_in { IsElem (K.field k.now).ops c.now.fin.n z.now }

@@ -1,4 +1,3 @@
-pub mod Counts
 pub mod Prefixes
 pub mod Reading
 pub mod Writing

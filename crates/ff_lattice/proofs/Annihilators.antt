@@ -7,7 +7,7 @@ use Rattle.ring_lemmas.proofs.Ring.{one_mul}
 use Rattle.ring_lemmas.proofs.Solver.{ring, reads}
 use Rattle.ff_fields.specs.Field.{CodeField}
 use Rattle.ff_fields.specs.Over.{IsOver, IsOver_nil, IsOver_cons}
-use Rattle.ff_poly.specs.Words.{IsPoly, IsMonic, IsQuotientWithRest, DividesList, product_of}
+use Rattle.ff_poly.specs.Words.{IsPoly, IsMonicList, IsQuotientWithRest, DividesList, product_of}
 use Rattle.ff_poly.specs.PolyOver.{IsOver_product_of}
 use Rattle.ff_poly.specs.Value.{value, value_product, value_sum}
 use Rattle.ff_poly.specs.Polynomials.{Polynomial, polynomials, codes_of, IsOver_codes_of, IsPoly_codes_of, value_codes_of, value_one}
@@ -101,7 +101,7 @@ module _ (k : CodeField) where
       })))
 
   -- h times the annihilator of h·v
-  pub next_is : (e h v hv a : List ℕ) → IsOver k.ops e → IsOver k.ops h → IsPoly h → IsMonic h → IsOver k.ops v
+  pub next_is : (e h v hv a : List ℕ) → IsOver k.ops e → IsOver k.ops h → IsPoly h → IsMonicList h → IsOver k.ops v
       → hv ≡ product_of k.ops h v → IsAnnihilator k.ops e hv a
       → IsNext k.ops h (λ u. DividesList k.ops e (product_of k.ops u v)) (product_of k.ops h a)
   next_is e h v hv a e_in h_in h_poly h_monic v_in hv_is ann = record {
@@ -169,7 +169,7 @@ module _ (k : CodeField) where
 
   -- ---- entry by entry and row by row
 
-  pub next_start : (h : List ℕ) (X : Type 0) (P : List ℕ → X → Type 0) → IsOver k.ops h → IsPoly h → IsMonic h
+  pub next_start : (h : List ℕ) (X : Type 0) (P : List ℕ → X → Type 0) → IsOver k.ops h → IsPoly h → IsMonicList h
       → IsNext k.ops h (λ u. All (P u) []) h
   next_start h X P h_in h_poly h_monic = record {
     over = h_in;

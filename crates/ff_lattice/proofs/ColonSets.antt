@@ -13,10 +13,10 @@ use Rattle.ring_lemmas.proofs.Solver.{ring, reads}
 use Rattle.ring_theory.proofs.Subsets.{span_zero, span_sum, span_scale, span_least, span_head, span_tail}
 use Rattle.ff_fields.specs.Field.{CodeField}
 use Rattle.ff_fields.specs.Over.{IsOver, IsOver_nil}
-use Rattle.ff_poly.specs.Words.{IsPoly, IsMonic}
+use Rattle.ff_poly.specs.Words.{IsPoly, IsMonicList}
 use Rattle.ff_poly.specs.Value.{value}
 use Rattle.ff_poly.specs.Polynomials.{Polynomial, polynomials, polynomials_domain, value_one}
-use Rattle.ff_poly.specs.Popov.{row_at, entry_at, IsRow, InSpan, combination}
+use Rattle.ff_poly.specs.Popov.{row_at, entry_at, IsRow, InRowSpan, combination}
 use Rattle.popov_theory.specs.Span as theory
 use Rattle.popov_theory.proofs.Span.{span_row}
 use Rattle.ff_popov.specs.Reading.{read_row, row_space, read_rows}
@@ -25,7 +25,7 @@ use Rattle.ff_popov.proofs.Spans.{to_space, from_space}
 use Rattle.function_field.specs.Functions.{Equation, IsPolynomial, of_poly, over, row_of}
 use Rattle.function_field.specs.Values.{ElemValue, PresValue, Functions, functions, function_of, equation_of}
 use Rattle.function_field.proofs.ScalarRings.{polynomials_subring, of_poly_one}
-use Rattle.ff_lattice.specs.Lattices.{LatticeValue, IsLattice, Contains, InSpanOf, IsScaled, row_elems}
+use Rattle.ff_lattice.specs.Lattices.{LatticeValue, IsLatticeValue, Contains, InSpanOf, IsScaled, row_elems}
 use Rattle.ff_lattice.specs.Colons.{IsColon, one_row}
 use Rattle.ff_lattice.specs.Steps.{IsPreimage}
 use Rattle.ff_lattice.proofs.Annihilators.{all_more}
@@ -50,8 +50,8 @@ module _ (k : CodeField) (n : ℕ) (m ls basis : List (List (List ℕ))) (pre : 
   pub polynomial_over : IsOver k.ops h
   polynomial_over = subst (IsOver k.ops) (sym h_is) (first_row.over 0 [] (omega (arith, first_row.size)))
 
-  pub polynomial_monic : IsMonic h
-  polynomial_monic = subst IsMonic (sym h_is) (pre.popov.monic 0 (omega arith))
+  pub polynomial_monic : IsMonicList h
+  polynomial_monic = subst IsMonicList (sym h_is) (pre.popov.monic 0 (omega arith))
 
 module _ (k : CodeField) (p : PresValue) where
   abbrev c : Equation k
@@ -96,7 +96,7 @@ module _ (k : CodeField) (p : PresValue) where
       (row_scale_zero S (p.n - 1) (polynomials k).𝟙 ∙ sym (row_scale_zero S (p.n - 1) (value k den))))
       ∙ sym (of_poly_one c)
 
-  module _ (b : LatticeValue) (positive : 0 < p.n) (b_form : IsLattice k.ops p.n b) (basis : List (List (List ℕ)))
+  module _ (b : LatticeValue) (positive : 0 < p.n) (b_form : IsLatticeValue k.ops p.n b) (basis : List (List (List ℕ)))
       (pre : IsPreimage k.ops 1 p.n (one_row p.n b.den ∷ []) b.rows basis) (h : List ℕ)
       (h_is : h ≡ entry_at (row_at basis 0) 0) where
     den_some : ¬ (value k b.den ≡ (polynomials k).𝟘)
@@ -121,7 +121,7 @@ module _ (k : CodeField) (p : PresValue) where
     cs_poly : All IsPoly (row_at basis 0)
     cs_poly = polys_at basis (popov_poly 1 basis pre.popov) 0 some_row
 
-    inside : InSpan k.ops p.n b.rows (combination k.ops p.n (row_at basis 0) (one_row p.n b.den ∷ []))
+    inside : InRowSpan k.ops p.n b.rows (combination k.ops p.n (row_at basis 0) (one_row p.n b.den ∷ []))
     inside =
         (pre.members (row_at basis 0) cs_row cs_poly).0
         (from_space k 1 basis pre.rows_in (row_at basis 0) cs_row cs_poly

@@ -7,18 +7,18 @@ use borrow.Author.Count.{below_more}
 use Rattle.ring_lemmas.proofs.Ring.{zero_mul, mul_zero}
 use Rattle.ff_fields.specs.Field.{CodeField}
 use Rattle.ff_fields.specs.Over.{IsOver}
-use Rattle.ff_poly.specs.Words.{IsPoly, IsMonic, IsQuotientWithRest, DividesList, product_of, sum_of}
+use Rattle.ff_poly.specs.Words.{IsPoly, IsMonicList, IsQuotientWithRest, DividesList, product_of, sum_of}
 use Rattle.ff_poly.specs.PolyOver.{IsOver_product_of}
 use Rattle.ff_poly.specs.Value.{value, value_product}
 use Rattle.ff_poly.specs.Polynomials.{polynomials}
-use Rattle.ff_poly.specs.Popov.{rows_of, row_at, IsRow, HasFullRank, multiple_of_row}
+use Rattle.ff_poly.specs.Popov.{rows_of, row_at, IsRow, HasFullRankMatrix, multiple_of_row}
 use Rattle.ff_poly.proofs.Parts.{IsPoly_product_of, IsMonic_product}
 use Rattle.ff_popov.proofs.Spans.{multiple_over}
 use Rattle.ff_popov.proofs.Entries.{any_default}
 use Rattle.function_field.specs.Values.{ElemValue, PresValue, IsElem, Functions, functions, function_of, equation_of}
 use Rattle.ring_theory.specs.Subsets.{Span}
 use Rattle.function_field.specs.Functions.{IsPolynomial}
-use Rattle.ff_lattice.specs.Lattices.{LatticeValue, elems_over, InSpanOf, Contains, IsFull, IsSpannedBy}
+use Rattle.ff_lattice.specs.Lattices.{LatticeValue, elems_over, InSpanOf, Contains, IsFullLattice, IsSpannedBy}
 use Rattle.ff_lattice.specs.Steps.{IsCommonMultiple, IsExpansion, IsExpanded}
 use Rattle.ff_lattice.proofs.Elements.{DividesPol, divides_value, divides_codes}
 use Rattle.ff_lattice.proofs.Divisors.{pol_times, divides_self, product_comm, sum_nil, monic_value}
@@ -49,11 +49,11 @@ module _ (k : CodeField) where
       (subst (DividesPol k (value k c)) (sym v.is)
       (pol_times k (value k c) (value k d) v.quotient (divides_value k c d c_in h)))
 
-  pub common_first : (e d : List ℕ) → IsOver k.ops e → IsMonic e → DividesList k.ops d e → IsCommonMultiple k.ops e d e
+  pub common_first : (e d : List ℕ) → IsOver k.ops e → IsMonicList e → DividesList k.ops d e → IsCommonMultiple k.ops e d e
   common_first e d e_in e_monic h = record
       { over = e_in; monic = e_monic; of_first = divides_self k e e_in (monic_poly e e_monic); of_second = h }
 
-  pub common_product : (e d m : List ℕ) → IsOver k.ops e → IsMonic e → IsOver k.ops d → IsMonic d
+  pub common_product : (e d m : List ℕ) → IsOver k.ops e → IsMonicList e → IsOver k.ops d → IsMonicList d
       → m ≡ product_of k.ops e d → IsCommonMultiple k.ops e d m
   common_product e d m e_in e_monic d_in d_monic m_is = subst (IsCommonMultiple k.ops e d) (sym m_is) (record {
     over = IsOver_product_of k e_in d_in;
@@ -119,7 +119,7 @@ module _ (k : CodeField) where
       last_row = get_or-append_right (rows_of old) (row.items ∷ []) i i [] size (omega arith)
           ∙ ap (λ j. get_or (row.items ∷ []) j []) (zero_gap i)
 
-  module _ (n : ℕ) (e : List ℕ) (e_in : IsOver k.ops e) (e_monic : IsMonic e) where
+  module _ (n : ℕ) (e : List ℕ) (e_in : IsOver k.ops e) (e_monic : IsMonicList e) where
     e_some : ¬ (value k e ≡ (polynomials k).𝟘)
     e_some = monic_value k e e_in (monic_poly e e_monic) e_monic
 
@@ -185,7 +185,7 @@ module _ (k : CodeField) where
 
 -- the lattice of generators
 module _ (k : CodeField) (p : PresValue) (zs : List ElemValue) (e : List ℕ) (rows : List (List (List ℕ)))
-    (zs_in : All (IsElem k.ops p.n) zs) (e_in : IsOver k.ops e) (e_monic : IsMonic e)
+    (zs_in : All (IsElem k.ops p.n) zs) (e_in : IsOver k.ops e) (e_monic : IsMonicList e)
     (x : IsExpanded k.ops p.n e zs rows) where
   abbrev InSpan : List (Functions k p) → Functions k p → Type 0
   InSpan fs = Span (functions k p).ops (IsPolynomial (equation_of k p)) fs
@@ -201,9 +201,9 @@ module _ (k : CodeField) (p : PresValue) (zs : List ElemValue) (e : List ℕ) (r
         λ h. m.1 (subst (λ fs. InSpan fs z) (sym same_functions) h),
       )
 
-  pub gens_not_full : ¬ HasFullRank k.ops p.n rows → ¬ IsFull k p (InSpanOf k p zs)
+  pub gens_not_full : ¬ HasFullRankMatrix k.ops p.n rows → ¬ IsFullLattice k p (InSpanOf k p zs)
   gens_not_full none full =
       none
       (rank_of_full k p e (monic_value k e e_in (monic_poly e e_monic) e_monic) rows
       (expanded_rows k p.n e e_in e_monic zs rows zs_in x)
-      (subst (λ fs. IsFull k p (InSpan fs)) (sym same_functions) full))
+      (subst (λ fs. IsFullLattice k p (InSpan fs)) (sym same_functions) full))

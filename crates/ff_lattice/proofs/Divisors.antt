@@ -5,7 +5,7 @@ use Rattle.ring_lemmas.proofs.Ring.{domain_cancel}
 use Rattle.ring_lemmas.proofs.Solver.{ring, reads, from_two}
 use Rattle.ff_fields.specs.Field.{CodeField}
 use Rattle.ff_fields.specs.Over.{IsOver, IsOver_nil}
-use Rattle.ff_poly.specs.Words.{IsPoly, IsMonic, IsQuotientWithRest, DividesList, product_of, sum_of}
+use Rattle.ff_poly.specs.Words.{IsPoly, IsMonicList, IsQuotientWithRest, DividesList, product_of, sum_of}
 use Rattle.ff_poly.specs.PolyOver.{IsOver_product_of, IsOver_sum_of}
 use Rattle.ff_poly.specs.Value.{value, value_product, value_sum, same_from_value, one_quotient}
 use Rattle.ff_poly.specs.Polynomials.{Polynomial, polynomials, polynomials_domain, value_nil, value_not_zero}
@@ -139,7 +139,7 @@ module _ (k : CodeField) where
                 (omega arith),
           )
 
-  pub monic_value : (d : List ℕ) → IsOver k.ops d → IsPoly d → IsMonic d → ¬ (value k d ≡ (polynomials k).𝟘)
+  pub monic_value : (d : List ℕ) → IsOver k.ops d → IsPoly d → IsMonicList d → ¬ (value k d ≡ (polynomials k).𝟘)
   monic_value d d_in d_poly monic =
       let size = (top_of_monic d monic).1 in
       value_not_zero k d d_in d_poly (λ e. absurd (omega (arith, size, ap length e)))

@@ -7,7 +7,7 @@ use Rattle.linear_theory.specs.Euclidean.{IsDivisorIn}
 use Rattle.ff_fields.specs.Field.{CodeField}
 use Rattle.ff_fields.specs.Code.{raw_ring}
 use Rattle.ff_fields.specs.Over.{IsOver, IsOver_nil, IsOver_cons, IsOver_append, IsOver_neg}
-use Rattle.ff_poly.specs.Words.{IsPoly, IsMonic, product_of}
+use Rattle.ff_poly.specs.Words.{IsPoly, IsMonicList, product_of}
 use Rattle.ff_poly.specs.PolyOver.{IsOver_product_of}
 use Rattle.ff_poly.specs.Value.{value, value_product}
 use Rattle.ff_poly.specs.Polynomials.{polynomials}
@@ -58,7 +58,7 @@ module _ (k : CodeField) (e v : List ℕ) (m : MatrixValue) (e_in : IsOver k.ops
       over : IsOver k.ops relation
       over = IsOver_append (IsOver_neg k cs first.relation.over) (IsOver_cons k.laws.one_below IsOver_nil)
 
-      monic : IsMonic relation
+      monic : IsMonicList relation
       monic = (neg_list (raw_ring k.ops) cs, refl)
 
       poly : IsPoly relation

@@ -6,7 +6,7 @@ use Rattle.ff_fields.specs.Field.{CodeField}
 use Rattle.function_field.specs.Functions.{IsPolynomial}
 use Rattle.function_field.specs.Values.{PresValue, Functions, functions, function_of, equation_of}
 use Rattle.function_field.proofs.ScalarRings.{polynomials_subring}
-use Rattle.ff_lattice.specs.Lattices.{LatticeValue, IsLattice, Contains, row_elems}
+use Rattle.ff_lattice.specs.Lattices.{LatticeValue, IsLatticeValue, Contains, row_elems}
 use Rattle.ff_lattice.specs.Orders.{TakesRowsIn}
 use Rattle.ff_lattice.specs.Quotients.{IsIdealLattice}
 use Rattle.ff_lattice.proofs.OrderRows.{all_of_map, products_from_rows, rows_members, false_true}
@@ -23,7 +23,7 @@ module _ (k : CodeField) (p : PresValue) (l i : LatticeValue) where
       (map (function_of k p) (row_elems l)))
       (map (function_of k p) (row_elems i)) (all_of_map (function_of k p) (Contains k p l) (row_elems i) all)
 
-  pub ideal_from_rows : IsLattice k.ops p.n i → All (λ w. Contains k p l (function_of k p w)) (row_elems i)
+  pub ideal_from_rows : IsLatticeValue k.ops p.n i → All (λ w. Contains k p l (function_of k p w)) (row_elems i)
       → All (λ z. TakesRowsIn k p i (function_of k p z)) (row_elems l) → IsIdealLattice k p l i
   ideal_from_rows lattice inside products = record {
     lattice = lattice;
@@ -47,7 +47,7 @@ module _ (k : CodeField) (p : PresValue) (o l i : LatticeValue) (same : l ≡ o)
   )
 
   -- rows in the order, of which the products are decided
-  pub inside_decided : {E : Type 0} → IsLattice k.ops p.n i → (inside : Bool)
+  pub inside_decided : {E : Type 0} → IsLatticeValue k.ops p.n i → (inside : Bool)
       → (IsTrue inside ↔ All (λ w. Contains k p l (function_of k p w)) (row_elems i)) → inside ≡ true
       → (r : Result Bool E)
       → IfOk r (λ t. IsTrue t ↔ All (λ z. TakesRowsIn k p i (function_of k p z)) (row_elems l))

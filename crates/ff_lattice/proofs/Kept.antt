@@ -3,13 +3,13 @@ use Rattle.std.proofs.Common.{◌≡◌, ℕ, List, length, map, sym, ◌∙◌,
 use Rattle.std.proofs.lemmas.List.{length-map}
 use Rattle.ff_fields.specs.Field.{CodeField}
 use Rattle.ff_fields.specs.Over.{IsOver}
-use Rattle.ff_poly.specs.Words.{IsMonic}
+use Rattle.ff_poly.specs.Words.{IsMonicList}
 use Rattle.ff_poly.specs.Value.{value}
 use Rattle.ff_poly.specs.Polynomials.{polynomials}
-use Rattle.ff_poly.specs.Popov.{IsRow, InSpan, combination, multiple_of_row}
+use Rattle.ff_poly.specs.Popov.{IsRow, InRowSpan, combination, multiple_of_row}
 use Rattle.ff_popov.proofs.Spans.{combination_row}
 use Rattle.function_field.specs.Values.{ElemValue, PresValue, IsElem, Functions, functions, function_of}
-use Rattle.ff_lattice.specs.Lattices.{LatticeValue, IsLattice, Contains, row_elems}
+use Rattle.ff_lattice.specs.Lattices.{LatticeValue, IsLatticeValue, Contains, row_elems}
 use Rattle.ff_lattice.specs.Colons.{IsKept}
 use Rattle.ff_lattice.specs.Steps.{IsExpanded, IsPreimage}
 use Rattle.ff_lattice.proofs.CommonDenominators.{expanded_rows, expanded_functions}
@@ -20,11 +20,11 @@ use Rattle.ff_lattice.proofs.RowCombinations.{combination_times, combination_mul
 use Rattle.ff_lattice.proofs.RowElems.{elems_length}
 use Rattle.ff_lattice.proofs.Spaces.{combination_poly}
 
-module _ (k : CodeField) (p : PresValue) (l a : LatticeValue) (w : ElemValue) (l_form : IsLattice k.ops p.n l)
-    (a_form : IsLattice k.ops p.n a) (gens : List ElemValue) (gens_in : All (IsElem k.ops p.n) gens)
+module _ (k : CodeField) (p : PresValue) (l a : LatticeValue) (w : ElemValue) (l_form : IsLatticeValue k.ops p.n l)
+    (a_form : IsLatticeValue k.ops p.n a) (gens : List ElemValue) (gens_in : All (IsElem k.ops p.n) gens)
     (gens_is : map (function_of k p) gens
     ≡ map ((functions k p).◌⊗◌ (function_of k p w)) (map (function_of k p) (row_elems l)))
-    (e : List ℕ) (e_in : IsOver k.ops e) (e_monic : IsMonic e) (rows : List (List (List ℕ)))
+    (e : List ℕ) (e_in : IsOver k.ops e) (e_monic : IsMonicList e) (rows : List (List (List ℕ)))
     (expanded : IsExpanded k.ops p.n e gens rows) where
   abbrev f : ElemValue → Functions k p
   f z = function_of k p z
@@ -82,8 +82,8 @@ module _ (k : CodeField) (p : PresValue) (l a : LatticeValue) (w : ElemValue) (l
         in
         let m = pre.members z z_row z_poly in (
           λ h. subst (Contains k p a) (times_is z z_row)
-              (iff.0 (subst (InSpan k.ops p.n (map (multiple_of_row k.ops e) a.rows)) is (m.0 h))),
-          λ h. m.1 (subst (InSpan k.ops p.n (map (multiple_of_row k.ops e) a.rows)) (sym is)
+              (iff.0 (subst (InRowSpan k.ops p.n (map (multiple_of_row k.ops e) a.rows)) is (m.0 h))),
+          λ h. m.1 (subst (InRowSpan k.ops p.n (map (multiple_of_row k.ops e) a.rows)) (sym is)
               (iff.1 (subst (Contains k p a) (sym (times_is z z_row)) h))),
         );
   }

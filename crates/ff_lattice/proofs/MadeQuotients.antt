@@ -1,7 +1,7 @@
 -- A quotient that is made from its parts.
 use Rattle.std.proofs.Common.{ℕ, ◌≤◌, ◌↔◌, List, length, sym, subst, arith, All}
 use Rattle.ff_fields.specs.Field.{CodeField}
-use Rattle.ff_poly.specs.Popov.{IsRow, IsPopov}
+use Rattle.ff_poly.specs.Popov.{IsRow, IsPopovMatrix}
 use Rattle.function_field.specs.Values.{PresValue, IsPresOver, Functions, functions}
 use Rattle.ff_lattice.specs.Lattices.{LatticeValue, Contains, InSpanOf, elems_over}
 use Rattle.ff_lattice.specs.Orders.{IsOrderLattice}
@@ -24,7 +24,7 @@ class_of_codes k q frame z codes member h =
 
 module _ (k : CodeField) (q : QuotientValue) (positive : 1 ≤ q.p.n) (p_in : IsPresOver k.ops q.p)
     (order : IsOrderLattice k q.p q.order) (ideal : IsIdealLattice k q.p q.order q.ideal)
-    (rows_in : All (IsRow k.ops q.p.n) q.rows) (popov : IsPopov q.p.n q.rows)
+    (rows_in : All (IsRow k.ops q.p.n) q.rows) (popov : IsPopovMatrix q.p.n q.rows)
     (members : (z : Functions k q.p) → Contains k q.p q.ideal z ↔ InSpanOf k q.p (elems_over q.rows q.order.den) z)
     (deep : IsDeepest q.rows q.p.n q.depth) (products : AreProducts k q.p q.order (length q.order.rows) q.products)
   where

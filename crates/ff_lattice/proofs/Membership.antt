@@ -13,7 +13,7 @@ use Rattle.ff_fields.specs.Code.{code_ring}
 use Rattle.ff_fields.specs.Over.{IsOver}
 use Rattle.ff_poly.specs.Value.{value}
 use Rattle.ff_poly.specs.Polynomials.{Polynomial, polynomials}
-use Rattle.ff_poly.specs.Popov.{IsRow, InSpan, IsCombinationList, multiple_of_row}
+use Rattle.ff_poly.specs.Popov.{IsRow, InRowSpan, IsCombinationList, multiple_of_row}
 use Rattle.popov_theory.specs.Module.{PolynomialModule}
 use Rattle.popov_theory.specs.Span as theory
 use Rattle.popov_theory.specs.Span.{combine}
@@ -23,7 +23,7 @@ use Rattle.ff_popov.specs.Reading.{read_row, row_space, read_rows}
 use Rattle.ff_popov.proofs.Spans.{to_space, from_space, space_multiple, multiple_row}
 use Rattle.function_field.specs.Functions.{Equation, over}
 use Rattle.function_field.specs.Values.{ElemValue, PresValue, IsElem, IsMonicElem, function_of, equation_of}
-use Rattle.ff_lattice.specs.Lattices.{LatticeValue, IsLattice, Contains}
+use Rattle.ff_lattice.specs.Lattices.{LatticeValue, IsLatticeValue, Contains}
 use Rattle.ff_lattice.proofs.Fracs.{over_eq, over_same}
 use Rattle.ff_lattice.proofs.Elements.{elem_over, in_span_of}
 use Rattle.ff_lattice.proofs.Divisors.{monic_value}
@@ -85,7 +85,7 @@ module _ (k : CodeField) (p : PresValue) where
   abbrev M : PolynomialModule (code_ring k) (Row (Polynomial k) (suc (p.n - 1)))
   M = row_space k p.n
 
-  module _ (l : LatticeValue) (lattice : IsLattice k.ops p.n l) where
+  module _ (l : LatticeValue) (lattice : IsLatticeValue k.ops p.n l) where
     abbrev D : Polynomial k
     D = value k l.den
 
@@ -98,7 +98,7 @@ module _ (k : CodeField) (p : PresValue) where
     -- z is in the lattice exactly where its numerators, times the lattice's denominator, are in the rows times the
     -- denominator of z
     pub contains_iff : (z : ElemValue) → IsElem k.ops p.n z → IsMonicElem z
-        → InSpan k.ops p.n (map (multiple_of_row k.ops z.den) l.rows) (multiple_of_row k.ops l.den z.num)
+        → InRowSpan k.ops p.n (map (multiple_of_row k.ops z.den) l.rows) (multiple_of_row k.ops l.den z.num)
         ↔ Contains k p l (function_of k p z)
     contains_iff z z_in z_monic = (to, from)
       where
@@ -124,7 +124,7 @@ module _ (k : CodeField) (p : PresValue) where
         z_is : function_of k p z ≡ over c (read_row k (suc (p.n - 1)) z.num) (value k z.den) e_some
         z_is = elem_over k p z.den e_some z.num
 
-        to : InSpan k.ops p.n (map (multiple_of_row k.ops z.den) l.rows) (multiple_of_row k.ops l.den z.num)
+        to : InRowSpan k.ops p.n (map (multiple_of_row k.ops z.den) l.rows) (multiple_of_row k.ops l.den z.num)
             → Contains k p l (function_of k p z)
         to h =
             let x = subst (λ xs. theory.InSpan M xs (read_row k (suc (p.n - 1)) (multiple_of_row k.ops l.den z.num)))
@@ -143,7 +143,7 @@ module _ (k : CodeField) (p : PresValue) where
             })
 
         from : Contains k p l (function_of k p z)
-            → InSpan k.ops p.n (map (multiple_of_row k.ops z.den) l.rows) (multiple_of_row k.ops l.den z.num)
+            → InRowSpan k.ops p.n (map (multiple_of_row k.ops z.den) l.rows) (multiple_of_row k.ops l.den z.num)
         from h =
             let m = (in_span_of k p l.den den_some l.rows (function_of k p z)).0 h in
             let same = over_same c v m.numerator (value k z.den) (value k l.den) e_some den_some (sym z_is ∙ m.is) in
@@ -158,29 +158,29 @@ module _ (k : CodeField) (p : PresValue) where
 
 -- the answer of the division by the scaled rows
 pub contains_decided : (k : CodeField) (n : ℕ) (l : LatticeValue) (z : ElemValue) (found : Option (Vec (List ℕ)))
-    (r : Bool) → IsLattice k.ops n l → IsElem k.ops n z → IsMonicElem z
-    → MatchOption found (¬ InSpan k.ops n (map (multiple_of_row k.ops z.den) l.rows)
+    (r : Bool) → IsLatticeValue k.ops n l → IsElem k.ops n z → IsMonicElem z
+    → MatchOption found (¬ InRowSpan k.ops n (map (multiple_of_row k.ops z.den) l.rows)
     (multiple_of_row k.ops l.den z.num)) (λ x. IsCombinationList k.ops n (map (multiple_of_row k.ops z.den) l.rows)
     (multiple_of_row k.ops l.den z.num) x.items)
     → r ≡ is_some found → (p : PresValue) → 1 ≤ p.n → p.n ≡ n → IsTrue r ↔ Contains k p l (function_of k p z)
 contains_decided k n l z found r lattice z_in z_monic m r_is p positive n_is =
-    let iff = contains_iff k p l (subst (λ n. IsLattice k.ops n l) (sym n_is) lattice) z
+    let iff = contains_iff k p l (subst (λ n. IsLatticeValue k.ops n l) (sym n_is) lattice) z
     (subst (λ n. IsElem k.ops n z) (sym n_is) z_in) z_monic in
     let scaled = map (multiple_of_row k.ops z.den) l.rows in
     let v = multiple_of_row k.ops l.den z.num in
-    let T = subst (λ n. InSpan k.ops n scaled v → Contains k p l (function_of k p z)) n_is iff.0 in
-    let T' = subst (λ n. Contains k p l (function_of k p z) → InSpan k.ops n scaled v) n_is iff.1 in
+    let T = subst (λ n. InRowSpan k.ops n scaled v → Contains k p l (function_of k p z)) n_is iff.0 in
+    let T' = subst (λ n. Contains k p l (function_of k p z) → InRowSpan k.ops n scaled v) n_is iff.1 in
     go found m r_is T T'
   where
     go : (found : Option (Vec (List ℕ)))
-        → MatchOption found (¬ InSpan k.ops n (map (multiple_of_row k.ops z.den) l.rows)
+        → MatchOption found (¬ InRowSpan k.ops n (map (multiple_of_row k.ops z.den) l.rows)
         (multiple_of_row k.ops l.den z.num))
         (λ x. IsCombinationList k.ops n (map (multiple_of_row k.ops z.den) l.rows)
         (multiple_of_row k.ops l.den z.num) x.items)
-        → r ≡ is_some found → (InSpan k.ops n (map (multiple_of_row k.ops z.den) l.rows)
+        → r ≡ is_some found → (InRowSpan k.ops n (map (multiple_of_row k.ops z.den) l.rows)
         (multiple_of_row k.ops l.den z.num) → Contains k p l (function_of k p z))
         → (Contains k p l (function_of k p z)
-        → InSpan k.ops n (map (multiple_of_row k.ops z.den) l.rows) (multiple_of_row k.ops l.den z.num))
+        → InRowSpan k.ops n (map (multiple_of_row k.ops z.den) l.rows) (multiple_of_row k.ops l.den z.num))
         → IsTrue r ↔ Contains k p l (function_of k p z)
     go None none is to from = (λ t. let no : false ≡ true = sym is ∙ t in (cc), λ h. absurd (none (from h)))
     go (Some x) some is to from = (λ t. to (record { coefficients = x.items; is = some }), λ h. is)

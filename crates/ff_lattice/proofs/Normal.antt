@@ -7,33 +7,33 @@ use Rattle.ring_lemmas.proofs.Solver.{ring, reads}
 use Rattle.ff_fields.specs.Field.{CodeField}
 use Rattle.ff_fields.specs.Code.{is_zero_code}
 use Rattle.ff_fields.specs.Over.{IsOver}
-use Rattle.ff_poly.specs.Words.{IsPoly, IsMonic, DividesList, product_of}
+use Rattle.ff_poly.specs.Words.{IsPoly, IsMonicList, DividesList, product_of}
 use Rattle.ff_poly.specs.PolyOver.{IsOver_product_of}
 use Rattle.ff_poly.specs.Value.{value, value_product}
 use Rattle.ff_poly.specs.Polynomials.{Polynomial, polynomials}
-use Rattle.ff_poly.specs.Popov.{row_at, entry_at, IsRow, IsPopov, multiple_of_row}
+use Rattle.ff_poly.specs.Popov.{row_at, entry_at, IsRow, IsPopovMatrix, multiple_of_row}
 use Rattle.ff_poly.proofs.Parts.{top_of_monic}
 use Rattle.ff_poly.proofs.Results.{product_of_nil}
 use Rattle.ff_popov.proofs.Entries.{any_default}
 use Rattle.ff_popov.proofs.ReadRows.{past_row}
-use Rattle.ff_lattice.specs.Lattices.{LatticeValue, IsForm, IsLattice, IsMultiplier}
+use Rattle.ff_lattice.specs.Lattices.{LatticeValue, IsForm, IsLatticeValue, IsMultiplier}
 use Rattle.ff_lattice.specs.Steps.{IsLeastMultiplier, IsQuotientOfRows, IsReducedTo}
 use Rattle.ff_lattice.proofs.Elements.{DividesPol, divides_codes}
 use Rattle.ff_lattice.proofs.Scaled.{monic_factor, popov_from_multiples}
 use Rattle.ff_lattice.proofs.Divisors.{pol_self, pol_scale, pol_cancel, divides_product, divides_self, divisor_short, monic_value, product_comm}
 
 -- what is monic has no zero on top
-pub monic_poly : (d : List ℕ) → IsMonic d → IsPoly d
+pub monic_poly : (d : List ℕ) → IsMonicList d → IsPoly d
 monic_poly d (lower, d_is) = subst IsPoly (sym d_is) (record { trimmed = IsTrimmed_push is_zero_code lower 1 refl })
 
-pub monic_positive : (d : List ℕ) → IsMonic d → 0 < length d
+pub monic_positive : (d : List ℕ) → IsMonicList d → 0 < length d
 monic_positive d monic = omega (arith, (top_of_monic d monic).1)
 
-pub monic_some : (d : List ℕ) → IsMonic d → d ≢ []
+pub monic_some : (d : List ℕ) → IsMonicList d → d ≢ []
 monic_some d monic e = absurd (omega (arith, monic_positive d monic, ap length e))
 
 -- a fact of each entry of rows in Popov form
-pub popov_poly : (n : ℕ) (rows : List (List (List ℕ))) → IsPopov n rows → All (All IsPoly) rows
+pub popov_poly : (n : ℕ) (rows : List (List (List ℕ))) → IsPopovMatrix n rows → All (All IsPoly) rows
 popov_poly n rows p i d less j e j_less =
     subst (λ row. IsPoly (get_or row j e)) (any_default rows i [] d less)
     (subst IsPoly (any_default (row_at rows i) j [] e
@@ -118,7 +118,7 @@ module _ (k : CodeField) where
             (All-tail (λ row. All (λ w. DividesList k.ops h (product_of k.ops u w)) row) row rows d))
 
   module _ (n : ℕ) (rows : List (List (List ℕ))) (e h : List ℕ) (rows_in : All (IsRow k.ops n) rows)
-      (popov : IsPopov n rows) (e_in : IsOver k.ops e) (e_monic : IsMonic e)
+      (popov : IsPopovMatrix n rows) (e_in : IsOver k.ops e) (e_monic : IsMonicList e)
       (m : IsLeastMultiplier k.ops rows e h) where
     e_poly : IsPoly e
     e_poly = monic_poly e e_monic
@@ -156,8 +156,8 @@ module _ (k : CodeField) where
       g_positive [] some = absurd (some refl)
       g_positive (c ∷ g) some = omega arith
 
-      pub g_monic : IsMonic g
-      g_monic = monic_factor k h g m.over m.poly m.monic g_in g_poly (g_positive g g_some) (subst IsMonic e_is e_monic)
+      pub g_monic : IsMonicList g
+      g_monic = monic_factor k h g m.over m.poly m.monic g_in g_poly (g_positive g g_some) (subst IsMonicList e_is e_monic)
 
       entry_divides : (v : List ℕ) → IsOver k.ops v → IsPoly v → DividesList k.ops e (product_of k.ops h v)
           → DividesList k.ops g v
@@ -195,12 +195,12 @@ module _ (k : CodeField) where
               (All-tail (λ row. All (λ v. DividesList k.ops e (product_of k.ops h v)) row) row rows d))
 
       module _ (quotients : List (List (List ℕ))) (q : IsQuotientOfRows k.ops g n rows quotients) where
-        quotients_popov : IsPopov n quotients
+        quotients_popov : IsPopovMatrix n quotients
         quotients_popov =
             popov_from_multiples k g g_in g_poly g_monic n quotients q.rows_in (trimmed_rows quotients q.poly)
-            (subst (IsPopov n) (sym q.is) popov)
+            (subst (IsPopovMatrix n) (sym q.is) popov)
 
-        least : (u : List ℕ) → IsOver k.ops u → IsMonic u → IsMultiplier k.ops quotients h u → length h ≤ length u
+        least : (u : List ℕ) → IsOver k.ops u → IsMonicList u → IsMultiplier k.ops quotients h u → length h ≤ length u
         least u u_in u_monic mult =
             divisor_short k h u m.over m.poly
             ((m.divides u u_in (monic_poly u u_monic)).1
@@ -208,7 +208,7 @@ module _ (k : CodeField) where
             (scaled_rows g h e g_in m.over e_in e_is n u quotients u_in q.rows_in mult)))
             (monic_positive u u_monic)
 
-        pub normal_lattice : IsLattice k.ops n (record { rows = quotients; den = h })
+        pub normal_lattice : IsLatticeValue k.ops n (record { rows = quotients; den = h })
         normal_lattice = record {
           rows_in = q.rows_in;
           popov = quotients_popov;
@@ -229,9 +229,9 @@ module _ (k : CodeField) where
         }
 
 -- the form without the field
-pub form_of : (k : CodeField) (n : ℕ) (l : LatticeValue) → IsLattice k.ops n l → IsForm l
+pub form_of : (k : CodeField) (n : ℕ) (l : LatticeValue) → IsLatticeValue k.ops n l → IsForm l
 form_of k n l h = record {
-  popov = subst (λ m. IsPopov m l.rows) (sym h.popov.size) h.popov;
+  popov = subst (λ m. IsPopovMatrix m l.rows) (sym h.popov.size) h.popov;
   den_poly = h.den_poly;
   monic = h.monic;
 }

@@ -13,12 +13,12 @@ use Rattle.ring_theory.proofs.Division.{length_add, length_neg}
 use Rattle.ff_fields.specs.Field.{CodeField}
 use Rattle.ff_fields.specs.Code.{code_ring, code_domain, same_code, raw_ring, is_zero_code}
 use Rattle.ff_fields.specs.Over.{IsOver, get_or_below}
-use Rattle.ff_poly.specs.Words.{IsPoly, IsMonic, DividesList, product_of, difference_of, multiple_of, top_of}
+use Rattle.ff_poly.specs.Words.{IsPoly, IsMonicList, DividesList, product_of, difference_of, multiple_of, top_of}
 use Rattle.ff_poly.specs.PolyOver.{IsPoly_poly_of, IsOver_difference_of, IsOver_multiple_of}
 use Rattle.ff_poly.specs.Value.{value, same_from_value}
 use Rattle.ff_poly.specs.Terms.{value_difference}
 use Rattle.ff_poly.specs.Polynomials.{Polynomial, polynomials, polynomials_domain, numbers_discrete, constant_poly, value_nil}
-use Rattle.ff_poly.specs.Popov.{row_at, IsRow, IsPopov}
+use Rattle.ff_poly.specs.Popov.{row_at, IsRow, IsPopovMatrix}
 use Rattle.ff_poly.proofs.Parts.{IsMonic_multiple, value_multiple, top_of_monic}
 use Rattle.ff_poly.proofs.Quotients.{top_some}
 use Rattle.popov_theory.specs.Module.{PolynomialModule}
@@ -34,7 +34,7 @@ use Rattle.ff_popov.proofs.Lengths.{trim_length}
 use Rattle.function_field.specs.Functions.{Equation, of_poly, over}
 use Rattle.function_field.specs.Values.{PresValue, Functions, functions, equation_of}
 use Rattle.function_field.proofs.OnSide.{of_poly_plus, of_poly_times}
-use Rattle.ff_lattice.specs.Lattices.{LatticeValue, IsLattice, IsMultiplier, InSpanOf, elems_over, Contains}
+use Rattle.ff_lattice.specs.Lattices.{LatticeValue, IsLatticeValue, IsMultiplier, InSpanOf, elems_over, Contains}
 use Rattle.ff_lattice.proofs.Fracs.{over_eq, over_same, over_scale, over_add}
 use Rattle.ff_lattice.proofs.Members.{Member, member_numerator}
 use Rattle.ff_lattice.proofs.Elements.{in_span_of}
@@ -129,7 +129,7 @@ module _ (k : CodeField) where
 
       -- rows in Popov form over one polynomial that span the same functions are the same
       pub one_basis : (xs ys : List (List (List ℕ))) → All (IsRow k.ops p.n) xs → All (IsRow k.ops p.n) ys
-          → IsPopov p.n xs → IsPopov p.n ys
+          → IsPopovMatrix p.n xs → IsPopovMatrix p.n ys
           → ((z : Functions k p) → InSpanOf k p (elems_over xs d) z ↔ InSpanOf k p (elems_over ys d) z) → 0 < p.n
           → xs ≡ ys
       one_basis xs ys xs_in ys_in xs_popov ys_popov same positive =
@@ -138,7 +138,7 @@ module _ (k : CodeField) where
           (basis_popov k p.n xs xs_in xs_popov positive) (basis_popov k p.n ys ys_in ys_popov positive)
           (record { left = within xs ys (λ z. (same z).0); right = within ys xs (λ z. (same z).1) }))
 
-    module _ (l : LatticeValue) (lattice : IsLattice k.ops p.n l) where
+    module _ (l : LatticeValue) (lattice : IsLatticeValue k.ops p.n l) where
       abbrev D : Polynomial k
       D = value k l.den
 
@@ -233,7 +233,7 @@ module _ (k : CodeField) where
               (row v (All-tail (IsOver k.ops) a v over))
 
       -- the denominator is the least
-      takes_long : (e : List ℕ) → IsOver k.ops e → IsMonic e → Takes (Contains k p l) (value k e)
+      takes_long : (e : List ℕ) → IsOver k.ops e → IsMonicList e → Takes (Contains k p l) (value k e)
           → length l.den ≤ length e
       takes_long e e_in e_monic h = lattice.least e e_in e_monic (of_takes e e_in h)
 
@@ -263,7 +263,7 @@ module _ (k : CodeField) where
           )
 
       -- another monic polynomial of the same degree that takes the lattice to rows is the denominator
-      den_unique : (e : List ℕ) → IsOver k.ops e → IsMonic e → length e ≡ length l.den
+      den_unique : (e : List ℕ) → IsOver k.ops e → IsMonicList e → length e ≡ length l.den
           → Takes (Contains k p l) (value k e) → e ≡ l.den
       den_unique e e_in e_monic size h = go r (IsOver_difference_of k e_in lattice.den_in) r_poly refl
           (numbers_discrete r [])
@@ -295,7 +295,7 @@ module _ (k : CodeField) where
           l_size : length l.den ≡ suc (top_of_monic l.den lattice.monic).0
           l_size = (top_of_monic l.den lattice.monic).1
 
-          top : (a : List ℕ) (a_in : IsOver k.ops a) (a_monic : IsMonic a) → length a ≡ length l.den
+          top : (a : List ℕ) (a_in : IsOver k.ops a) (a_monic : IsMonicList a) → length a ≡ length l.den
               → coeff_of (code_ring k).ops (value k a).0 m ≡ (code_ring k).𝟙
           top a a_in a_monic a_size =
               let t = top_of_monic a a_monic in
@@ -367,7 +367,7 @@ module _ (k : CodeField) where
               )
 
     -- the same functions: the same multipliers, so the same denominator, and the same span
-    module _ (l l' : LatticeValue) (lattice : IsLattice k.ops p.n l) (lattice' : IsLattice k.ops p.n l')
+    module _ (l l' : LatticeValue) (lattice : IsLatticeValue k.ops p.n l) (lattice' : IsLatticeValue k.ops p.n l')
         (same : (z : Functions k p) → Contains k p l z ↔ Contains k p l' z) where
       takes_same : (E : Polynomial k) → Takes (Contains k p l') E → Takes (Contains k p l) E
       unfolding Takes

@@ -7,7 +7,7 @@ use Rattle.ff_poly.specs.Polynomials.{polynomials}
 use Rattle.ff_popov.specs.Reading.{read_row}
 use Rattle.ff_popov.proofs.ReadRows.{same_from_read}
 use Rattle.function_field.specs.Values.{PresValue, Functions, functions, equation_of}
-use Rattle.ff_lattice.specs.Lattices.{LatticeValue, IsLattice}
+use Rattle.ff_lattice.specs.Lattices.{LatticeValue, IsLatticeValue}
 use Rattle.ff_lattice.specs.PositionLists.{pivot_length}
 use Rattle.ff_lattice.specs.Quotients.{QuotientValue, IsFrame, IsQuotient, IsClassOf, IsRowOf}
 use Rattle.ff_lattice.proofs.Divisors.{monic_value}
@@ -17,7 +17,7 @@ use Rattle.ff_lattice.proofs.OneForm.{one_basis}
 use Rattle.ff_lattice.proofs.QuotientLaws.{has_classes}
 use Rattle.ff_lattice.proofs.MadeQuotients.{made_value}
 
-module _ (k : CodeField) (p : PresValue) (order : LatticeValue) (lattice : IsLattice k.ops p.n order) where
+module _ (k : CodeField) (p : PresValue) (order : LatticeValue) (lattice : IsLatticeValue k.ops p.n order) where
   some : ¬ (value k order.den ≡ (polynomials k).𝟘)
   some = monic_value k order.den lattice.den_in lattice.den_poly lattice.monic
 

@@ -17,7 +17,7 @@ use Rattle.ff_popov.proofs.ReadRows.{entry_read, read_multiple, over_at}
 use Rattle.ff_popov.proofs.Spans.{multiple_over}
 use Rattle.function_field.specs.Functions.{Equation}
 use Rattle.function_field.specs.Values.{ElemValue, PresValue, IsElem, IsMonicElem, function_of, equation_of}
-use Rattle.ff_lattice.specs.Lattices.{LatticeValue, IsLattice, Contains}
+use Rattle.ff_lattice.specs.Lattices.{LatticeValue, IsLatticeValue, Contains}
 use Rattle.ff_lattice.specs.Steps.{IsRowQuotient}
 use Rattle.ff_lattice.specs.Quotients.{IsRowOf}
 use Rattle.ff_lattice.proofs.Fracs.{over_eq, over_same}
@@ -26,7 +26,7 @@ use Rattle.ff_lattice.proofs.Elements.{elem_over, in_span_of, divides_codes}
 use Rattle.ff_lattice.proofs.Divisors.{monic_value}
 use Rattle.ff_lattice.proofs.SpannedSets.{multiple_poly}
 
-module _ (k : CodeField) (p : PresValue) (l : LatticeValue) (lattice : IsLattice k.ops p.n l) (z : ElemValue)
+module _ (k : CodeField) (p : PresValue) (l : LatticeValue) (lattice : IsLatticeValue k.ops p.n l) (z : ElemValue)
     (z_in : IsElem k.ops p.n z) (z_monic : IsMonicElem z) where
   abbrev c : Equation k
   c = equation_of k p

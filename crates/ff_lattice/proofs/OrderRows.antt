@@ -12,7 +12,7 @@ use Rattle.ff_poly.specs.Polynomials.{Polynomial}
 use Rattle.function_field.specs.Functions.{IsPolynomial, of_poly}
 use Rattle.function_field.specs.Values.{ElemValue, PresValue, Functions, functions, function_of, equation_of}
 use Rattle.function_field.proofs.ScalarRings.{polynomials_subring}
-use Rattle.ff_lattice.specs.Lattices.{LatticeValue, IsLattice, Contains, InSpanOf, row_elems}
+use Rattle.ff_lattice.specs.Lattices.{LatticeValue, IsLatticeValue, Contains, InSpanOf, row_elems}
 use Rattle.ff_lattice.specs.Orders.{IsOrderLattice, IsOrderByRows, TakesRowsIn}
 
 pub false_true : false ≡ true → ⊥
@@ -110,7 +110,7 @@ module _ (k : CodeField) (p : PresValue) where
     pub rows_members : All (λ z. L (f z)) (row_elems l)
     rows_members = all_from_map f L (row_elems l) (span_members F T 𝓢 gens)
 
-    pub order_from_rows : IsLattice k.ops p.n l → IsOrderByRows k p l → IsOrderLattice k p l
+    pub order_from_rows : IsLatticeValue k.ops p.n l → IsOrderByRows k p l → IsOrderLattice k p l
     order_from_rows lattice h = record {
       lattice = lattice;
       one_in = h.one_in;

@@ -31,10 +31,10 @@ use Rattle.popov_theory.proofs.Laws.{dimension_of}
 use Rattle.ff_fields.specs.Field.{CodeField}
 use Rattle.ff_fields.specs.Code.{Code, code_ring, code_field, code_domain, same_code}
 use Rattle.ff_fields.specs.Over.{IsOver}
-use Rattle.ff_poly.specs.Words.{IsPoly, IsMonic}
+use Rattle.ff_poly.specs.Words.{IsPoly, IsMonicList}
 use Rattle.ff_poly.specs.Value.{value}
 use Rattle.ff_poly.specs.Polynomials.{Polynomial, polynomials, polynomials_domain}
-use Rattle.ff_poly.specs.Popov.{entry_at, row_at, pivot_degree, pivot_degree_from, IsRow, IsPopov}
+use Rattle.ff_poly.specs.Popov.{entry_at, row_at, pivot_degree, pivot_degree_from, IsRow, IsPopovMatrix}
 use Rattle.ff_poly.proofs.Parts.{top_of_monic}
 use Rattle.ff_popov.specs.Reading.{read_row, row_space, read_rows}
 use Rattle.ff_popov.proofs.ReadRows.{over_at}
@@ -44,7 +44,7 @@ use Rattle.function_field.specs.Functions.{Equation, IsPolynomial, of_poly, over
 use Rattle.function_field.specs.Values.{PresValue, Functions, functions, function_of, equation_of}
 use Rattle.function_field.proofs.ScalarRings.{polynomials_subring, of_poly_one}
 use Rattle.function_field.proofs.OnSide.{of_poly_plus, of_poly_times, of_poly_zero}
-use Rattle.ff_lattice.specs.Lattices.{LatticeValue, IsLattice, Contains, row_elems, pivot_degree_of}
+use Rattle.ff_lattice.specs.Lattices.{LatticeValue, IsLatticeValue, Contains, row_elems, pivot_degree_of}
 use Rattle.function_field.specs.Indices.{space_ops, HasIndex}
 use Rattle.ff_lattice.proofs.Fracs.{over_zero, over_eq}
 use Rattle.ff_lattice.proofs.Members.{Member, member_numerator, frac_add, frac_scale, overs}
@@ -188,12 +188,12 @@ module _ (k : CodeField) (p : PresValue) where
   -- rows in Popov form over a monic polynomial, which need not be the least
   pub record IsOverMonic (l : LatticeValue) : Type 0 where
     pub rows_in : All (IsRow k.ops p.n) l.rows
-    pub popov : IsPopov p.n l.rows
+    pub popov : IsPopovMatrix p.n l.rows
     pub den_in : IsOver k.ops l.den
     pub den_poly : IsPoly l.den
-    pub monic : IsMonic l.den
+    pub monic : IsMonicList l.den
 
-  pub lattice_over : (l : LatticeValue) → IsLattice k.ops p.n l → IsOverMonic l
+  pub lattice_over : (l : LatticeValue) → IsLatticeValue k.ops p.n l → IsOverMonic l
   lattice_over l h = record {
     rows_in = h.rows_in;
     popov = h.popov;
@@ -204,7 +204,7 @@ module _ (k : CodeField) (p : PresValue) where
   }
 
   -- a monic list of codes is a monic polynomial
-  monic_of : (d : List ℕ) → IsOver k.ops d → IsPoly d → IsMonic d → scaling.IsMonic (code_ring k) (value k d)
+  monic_of : (d : List ℕ) → IsOver k.ops d → IsPoly d → IsMonicList d → scaling.IsMonic (code_ring k) (value k d)
   monic_of d d_in d_poly monic =
       let t = top_of_monic d monic in
       let size : length d ≡ suc (length d - 1) = omega (arith, t.1) in
@@ -215,7 +215,7 @@ module _ (k : CodeField) (p : PresValue) where
         top = same_code k _ _ (coeff_code k d (length d - 1) d_in ∙ ap (λ m. get_or d m 0) position ∙ t.2);
       }
 
-  monic_degree : (d : List ℕ) (d_in : IsOver k.ops d) (d_poly : IsPoly d) (monic : IsMonic d)
+  monic_degree : (d : List ℕ) (d_in : IsOver k.ops d) (d_poly : IsPoly d) (monic : IsMonicList d)
       → (monic_of d d_in d_poly monic).degree ≡ length d - 1
   unfolding monic_of
   monic_degree d d_in d_poly monic = refl
@@ -362,7 +362,7 @@ module _ (k : CodeField) (p : PresValue) where
           ≡ theory.pivot_degree M left.rows = omega (arith, none, between.size) in
           same_at (Contains k p a) (Contains k p b) common common_some left right within degrees
 
-      pub same_lattice : IsLattice k.ops p.n a → IsLattice k.ops p.n b → pivot_degree_of a ≡ pivot_degree_of b → a ≡ b
+      pub same_lattice : IsLatticeValue k.ops p.n a → IsLatticeValue k.ops p.n b → pivot_degree_of a ≡ pivot_degree_of b → a ≡ b
       same_lattice a_form b_form e = one_form k p a b a_form b_form (same_members e) positive
 
   -- one set has one pivot degree, also over a denominator that isn't the least

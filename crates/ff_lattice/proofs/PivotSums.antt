@@ -9,7 +9,7 @@ use Rattle.std.proofs.lemmas.Bool.{cases_lt}
 use Rattle.std.proofs.lemmas.Int.{ints}
 use Rattle.std.proofs.lemmas.List.{get_or_past}
 use Rattle.std.specs.Global.{Vec}
-use Rattle.ff_poly.specs.Popov.{entry_at, row_at, rows_of, pivot_degree, pivot_degree_from, IsPopov}
+use Rattle.ff_poly.specs.Popov.{entry_at, row_at, rows_of, pivot_degree, pivot_degree_from, IsPopovMatrix}
 use Rattle.ff_popov.proofs.Entries.{any_default}
 use Rattle.ff_lattice.proofs.Pushes.{read_row}
 use Rattle.ff_lattice.specs.Steps.{pivot_sum}
@@ -62,7 +62,7 @@ reduced bits s n d is few small low =
     ∙ to_z-of_z {w = w128} {z = pos s -ℤ pos (n * d)} (omega (arith, ints, low, few, product_small n d few small))
 
 -- the pivot of a row that is read
-module _ (width : ℕ) (vs : List (Vec (List ℕ))) (popov : IsPopov width (rows_of vs)) (i : ℕ) (less : i < length vs)
+module _ (width : ℕ) (vs : List (Vec (List ℕ))) (popov : IsPopovMatrix width (rows_of vs)) (i : ℕ) (less : i < length vs)
     (wide : length vs ≡ width) (v : Vec (List ℕ)) (v_is : v ≡ get_or vs i v) where
   pub pivot_some : 0 < length (entry_at v.items i)
   pivot_some = subst (λ row. 0 < length (entry_at row i)) (sym (read_row vs i v less v_is))

@@ -14,7 +14,7 @@ use Rattle.ff_fields.specs.Over.{IsOver, IsOver_nil, IsOver_cons, IsOver_head, I
 use Rattle.ff_poly.specs.Value.{value}
 use Rattle.ff_poly.specs.Polynomials.{value_nil}
 use Rattle.ff_poly.specs.Terms.{term}
-use Rattle.ff_poly.specs.Popov.{row_at, IsRow, IsPopov}
+use Rattle.ff_poly.specs.Popov.{row_at, IsRow, IsPopovMatrix}
 use Rattle.popov_theory.specs.Module.{PolynomialModule, measure}
 use Rattle.popov_theory.specs.Span.{InSpan}
 use Rattle.popov_theory.proofs.Measure.{measure_past, measure_add_le, measure_zero, zero_from_measure}
@@ -22,7 +22,7 @@ use Rattle.popov_theory.proofs.Module.{v_add_neg, v_zero_add, v_neg_add, v_add_a
 use Rattle.popov_theory.proofs.Span.{span_zero, span_add, span_scale, span_row, span_submodule, sub_in}
 use Rattle.ff_popov.specs.Reading.{read_row, row_space, read_rows}
 use Rattle.ff_popov.proofs.ReadRows.{read_row_at}
-use Rattle.ff_lattice.specs.PositionLists.{pivot_length, is_outside, is_kept, lift_power, code_at, cleared, code_count, codes_below, sum_of_codes}
+use Rattle.ff_lattice.specs.PositionLists.{pivot_length, is_outside, is_kept, lift_power, code_at_position, cleared, code_count, codes_below, sum_of_codes}
 use Rattle.ff_lattice.proofs.PositionCodes.{cond_true, cond_false, true_or_false, coeff_code, code_below, cleared_row, cleared_is, cleared_falls, ends_nowhere, multiple_ends, multiple_top}
 
 -- sums of codes, position by position
@@ -75,7 +75,7 @@ module _ (k : CodeField) where
   code_zero c c_in e = sym (read_code_below k c c_in) ∙ ap (λ x. x.0) e
 
   module _ (n : ℕ) (positive : 0 < n) (W J : List (List (List ℕ))) (W_in : All (IsRow k.ops n) W)
-      (J_in : All (IsRow k.ops n) J) (W_popov : IsPopov n W) (J_popov : IsPopov n J) where
+      (J_in : All (IsRow k.ops n) J) (W_popov : IsPopovMatrix n W) (J_popov : IsPopovMatrix n J) where
     abbrev M : PolynomialModule (code_ring k) (Row (Pol (code_ring k)) (suc (n - 1)))
     M = row_space k n
 
@@ -273,7 +273,7 @@ module _ (k : CodeField) where
           go (inr o) (inl q) rec =
               subst (λ x. InSpan M js (M.◌⊞◌ (R v) (M.⊟◌ x)))
               (sym (ap (L (suc e)) (cond_false (is_outside n W J e) _ _ o ∙ cond_true (is_kept n W J e) _ _ q)
-              ∙ sum_kept n W J M.◌⊞◌ M.𝟎 code_row e (code_at n W J v e ∷ C e (cleared n W J k.ops W e v)) o q))
+              ∙ sum_kept n W J M.◌⊞◌ M.𝟎 code_row e (code_at_position n W J v e ∷ C e (cleared n W J k.ops W e v)) o q))
               (subst (InSpan M js)
               (ap (λ x. M.◌⊞◌ x (M.⊟◌ (L e (C e (cleared n W J k.ops W e v))))) is
               ∙ v_add_assoc M (R v) (M.⊟◌ taken) (M.⊟◌ (L e (C e (cleared n W J k.ops W e v))))
@@ -281,14 +281,14 @@ module _ (k : CodeField) where
               (rec (cleared n W J k.ops W e v) (cleared_row k n positive W W_in W_popov e v v_row (reaches W e o))
               (subst (InSpan M ws) (sym is)
               (sub_in M (InSpan M ws) (span_submodule M ws) (R v) taken v_in
-              (in_rows W (code_at n W J v e) (lift_power n W J W e) (e % n))))
+              (in_rows W (code_at_position n W J v e) (lift_power n W J W e) (e % n))))
               (cleared_falls k n positive W W_in W_popov e v v_row (reaches W e o) le)))
             where
               taken : Row (Pol (code_ring k)) (suc (n - 1))
-              taken = code_row (code_at n W J v e) (lift_power n W J W e) (e % n)
+              taken = code_row (code_at_position n W J v e) (lift_power n W J W e) (e % n)
 
               is : R (cleared n W J k.ops W e v)
-                  ≡ M.◌⊞◌ (R v) (M.⊟◌ (code_row (code_at n W J v e) (lift_power n W J W e) (e % n)))
+                  ≡ M.◌⊞◌ (R v) (M.⊟◌ (code_row (code_at_position n W J v e) (lift_power n W J W e) (e % n)))
               is = cleared_is k n positive W W_in W_popov e v v_row (reaches W e o)
           go (inr o) (inr q) rec =
               subst (λ x. InSpan M js (M.◌⊞◌ (R v) (M.⊟◌ x)))
@@ -304,14 +304,14 @@ module _ (k : CodeField) where
               taken_in))
             where
               taken : Row (Pol (code_ring k)) (suc (n - 1))
-              taken = M.◌·◌ (value k (term (code_at n W J v e) (lift_power n W J J e))) (R (row_at J (e % n)))
+              taken = M.◌·◌ (value k (term (code_at_position n W J v e) (lift_power n W J J e))) (R (row_at J (e % n)))
 
-              taken_in : InSpan M js (M.◌·◌ (value k (term (code_at n W J v e) (lift_power n W J J e)))
+              taken_in : InSpan M js (M.◌·◌ (value k (term (code_at_position n W J v e) (lift_power n W J J e)))
                   (R (row_at J (e % n))))
-              taken_in = in_rows J (code_at n W J v e) (lift_power n W J J e) (e % n)
+              taken_in = in_rows J (code_at_position n W J v e) (lift_power n W J J e) (e % n)
 
               is : R (cleared n W J k.ops J e v)
-                  ≡ M.◌⊞◌ (R v) (M.⊟◌ (M.◌·◌ (value k (term (code_at n W J v e) (lift_power n W J J e)))
+                  ≡ M.◌⊞◌ (R v) (M.⊟◌ (M.◌·◌ (value k (term (code_at_position n W J v e) (lift_power n W J J e)))
                   (R (row_at J (e % n)))))
               is = cleared_is k n positive J J_in J_popov e v v_row (reaches J e q)
 

@@ -15,7 +15,7 @@ use Rattle.ff_fields.specs.Over.{IsOver}
 use Rattle.ff_poly.specs.Value.{value}
 use Rattle.ff_poly.specs.Polynomials.{series_read}
 use Rattle.ff_poly.specs.Terms.{term, less_multiple}
-use Rattle.ff_poly.specs.Popov.{entry_at, row_at, IsRow, IsPopov}
+use Rattle.ff_poly.specs.Popov.{entry_at, row_at, IsRow, IsPopovMatrix}
 use Rattle.popov_theory.specs.Module.{PolynomialModule, measure, pivot, column}
 use Rattle.popov_theory.specs.Span.{InSpan}
 use Rattle.popov_theory.proofs.Positions.{column_at}
@@ -26,7 +26,7 @@ use Rattle.ff_popov.proofs.ReadRows.{over_at, read_row_at, space_less}
 use Rattle.ff_popov.proofs.Transformations.{less_row}
 use Rattle.ff_popov.proofs.Measures.{value_short, space_width, coef_read}
 use Rattle.ff_popov.proofs.PopovBasis.{basis_measured, basis_popov, member_longer}
-use Rattle.ff_lattice.specs.PositionLists.{pivot_length, row_less, lift_power, code_at, cleared}
+use Rattle.ff_lattice.specs.PositionLists.{pivot_length, row_less, lift_power, code_at_position, cleared}
 
 -- the positions of three kinds
 pub cond_true : {X : Type 0} (b : Bool) (x y : X) → b ≡ true → cond b x y ≡ x
@@ -111,7 +111,7 @@ module _ (k : CodeField) where
     column_in e = omega (arith, mod_below e n positive, width_is)
 
     -- the coefficient at a position
-    pub coef_position : (v : List (List ℕ)) (e : ℕ) → M.coef (R v) e ≡ read_code k (code_at n [] [] v e)
+    pub coef_position : (v : List (List ℕ)) (e : ℕ) → M.coef (R v) e ≡ read_code k (code_at_position n [] [] v e)
     coef_position v e =
         ap (M.coef (R v)) (sym (position_is e)) ∙ coef_read k n v (e / n) (e % n) (column_in e)
         ∙ coeff_code (entry_at v (e % n)) (e / n)
@@ -128,10 +128,10 @@ module _ (k : CodeField) where
         go (inl less) = a_in.each t 0 less
         go (inr more) = omega (arith, none a t more, zero_in k)
 
-    pub code_below : (v : List (List ℕ)) (e : ℕ) → IsRow k.ops n v → code_at n [] [] v e < k.size
+    pub code_below : (v : List (List ℕ)) (e : ℕ) → IsRow k.ops n v → code_at_position n [] [] v e < k.size
     code_below v e v_row = get_below (entry_at v (e % n)) (e / n) (over_at k v v_row.over (e % n))
 
-    module _ (rows : List (List (List ℕ))) (all : All (IsRow k.ops n) rows) (popov : IsPopov n rows) where
+    module _ (rows : List (List (List ℕ))) (all : All (IsRow k.ops n) rows) (popov : IsPopovMatrix n rows) where
       abbrev rs : List (Row (Pol (code_ring k)) (suc (n - 1)))
       rs = read_rows k n rows
 
@@ -194,7 +194,7 @@ module _ (k : CodeField) where
       module _ (e : ℕ) (v : List (List ℕ)) (v_row : IsRow k.ops n v) (reaches : pivot_length rows (e % n) ≤ suc (e / n))
         where
           abbrev code : ℕ
-          code = code_at n [] [] v e
+          code = code_at_position n [] [] v e
 
           pub cleared_row : IsRow k.ops n (cleared n [] [] k.ops rows e v)
           cleared_row =

@@ -7,7 +7,7 @@ use Rattle.std.proofs.Math.Nat.{le-max_left}
 use Rattle.ff_fields.specs.Field.{FieldOps, CodeField}
 use Rattle.ff_poly.specs.Words.{IsPoly}
 use Rattle.ff_poly.specs.Terms.{less_multiple, IsPoly_less_multiple}
-use Rattle.ff_poly.specs.Popov.{entry_at, row_at, longest, IsRow, IsPopov}
+use Rattle.ff_poly.specs.Popov.{entry_at, row_at, longest, IsRow, IsPopovMatrix}
 use Rattle.ff_popov.proofs.ReadRows.{same_row}
 use Rattle.ff_popov.specs.Rows.{IsRowLess}
 use Rattle.ff_popov.proofs.Transformations.{less_row}
@@ -69,7 +69,7 @@ deepest_more rows j most len next h len_is most_le len_le one_of = record
     least d g (inr e) = omega (arith, e, len_is, g j (omega arith))
 
 -- a pivot is the longest entry of its row, so that its multiples fit
-pub pivot_fits : (n : ℕ) (rows : List (List (List ℕ))) (j t s bound : ℕ) → IsPopov n rows → j < n
+pub pivot_fits : (n : ℕ) (rows : List (List (List ℕ))) (j t s bound : ℕ) → IsPopovMatrix n rows → j < n
     → s ≡ t + 1 - pivot_length rows j → pivot_length rows j ≤ t + 1 → t + 1 < bound → (i : ℕ)
     → s + length (entry_at (row_at rows j) i) < bound
 pivot_fits n rows j t s bound popov less s_is reaches fits i = omega

@@ -14,11 +14,11 @@ use Rattle.ring_lemmas.proofs.Rows.{pair_path, row_scale_zero}
 use Rattle.ff_fields.specs.Field.{CodeField}
 use Rattle.ff_fields.specs.Code.{code_ring, code_field, same_code}
 use Rattle.ff_fields.specs.Over.{IsOver, IsOver_nil, IsOver_cons, IsOver_zeros, IsOver_append, IsOver_trim}
-use Rattle.ff_poly.specs.Words.{IsPoly, IsMonic, shifted}
+use Rattle.ff_poly.specs.Words.{IsPoly, IsMonicList, shifted}
 use Rattle.ff_poly.specs.PolyOver.{IsPoly_poly_of}
 use Rattle.ff_poly.specs.Value.{value}
 use Rattle.ff_poly.specs.Polynomials.{Polynomial, polynomials, polynomials_domain, codes_of, IsOver_codes_of, IsPoly_codes_of, value_codes_of, value_nil, value_one, value_not_zero}
-use Rattle.ff_poly.specs.Popov.{row_at, entry_at, IsRow, IsPivot, IsPopov, HaveSameSpan, HasMultipleIn, HasFullRank, combination, multiple_of_row}
+use Rattle.ff_poly.specs.Popov.{row_at, entry_at, IsRow, IsPivot, IsPopovMatrix, HaveSameRowSpan, HasMultipleInRows, HasFullRankMatrix, combination, multiple_of_row}
 use Rattle.popov_theory.specs.Module.{PolynomialModule}
 use Rattle.popov_theory.specs.Span as theory
 use Rattle.popov_theory.specs.Popov as forms
@@ -424,7 +424,7 @@ module _ (k : CodeField) where
     -- the rows have full rank where those of ls have
     codes_multiple : (v : List (List ℕ)) → IsRow k.ops (r + c) v → (h : Polynomial k) → ¬ (h ≡ (polynomials k).𝟘)
         → theory.InSpan N ls' (N.◌·◌ h (N.◌⊞◌ (ι (read_row k (suc (r + c - 1)) v)).1
-        (N.⊟◌ (φ (M.◌·◌ t (ι (read_row k (suc (r + c - 1)) v)).0))))) → HasMultipleIn k.ops (r + c) gs v
+        (N.⊟◌ (φ (M.◌·◌ t (ι (read_row k (suc (r + c - 1)) v)).0))))) → HasMultipleInRows k.ops (r + c) gs v
     codes_multiple v v_row h some h_in =
         let V = read_row k (suc (r + c - 1)) v in
         let d = (polynomials k).◌⊗◌ t h in
@@ -448,7 +448,7 @@ module _ (k : CodeField) where
               (twisted_gs _ (twisted_multiple M N (code_field k) φ linear ls' t cancel (ι V).0 (ι V).1 h h_in))));
         }
 
-    pub gs_full : HasFullRank k.ops c ls → HasFullRank k.ops (r + c) gs
+    pub gs_full : HasFullRankMatrix k.ops c ls → HasFullRankMatrix k.ops (r + c) gs
     gs_full full = record {
       multiple = λ v v_row.
           let V = read_row k (suc (r + c - 1)) v in
@@ -456,8 +456,8 @@ module _ (k : CodeField) where
           codes_multiple v v_row f.factor f.some f.in_span;
     }
 
-    module _ (rows : List (List (List ℕ))) (rows_in : All (IsRow k.ops (r + c)) rows) (popov : IsPopov (r + c) rows)
-        (span : HaveSameSpan k.ops (r + c) gs rows) where
+    module _ (rows : List (List (List ℕ))) (rows_in : All (IsRow k.ops (r + c)) rows) (popov : IsPopovMatrix (r + c) rows)
+        (span : HaveSameRowSpan k.ops (r + c) gs rows) where
       abbrev Ps : List (Row (Polynomial k) (suc (r - 1)) × Row (Polynomial k) (suc (c - 1)))
       Ps = move (read_rows k (r + c) rows)
 
@@ -621,11 +621,11 @@ module _ (k : CodeField) where
         basis_trimmed i j (inr past) side = subst (λ row. IsPoly (entry_at row j))
             (sym (rows_past basis i (omega (arith, past, basis_length)))) (record { trimmed = tt })
 
-        pub basis_is : IsPopov r basis
+        pub basis_is : IsPopovMatrix r basis
         basis_is = record {
           size = basis_length;
           pivot_at = basis_pivot;
-          monic = λ i less. subst IsMonic (sym (entry_basis i i less less)) (popov.monic i (omega (arith, less)));
+          monic = λ i less. subst IsMonicList (sym (entry_basis i i less less)) (popov.monic i (omega (arith, less)));
           smaller = λ i j i_less j_less differ.
               omega (
                 arith,

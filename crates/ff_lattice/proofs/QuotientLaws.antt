@@ -35,9 +35,9 @@ use Rattle.function_field.proofs.ScalarRings.{polynomials_subring, of_poly_neg, 
 use Rattle.function_field.proofs.OnSide.{of_poly_plus, of_poly_times, of_poly_zero}
 use Rattle.ff_falg.specs.Algebras.{IsAlgebra, IsVector}
 use Rattle.ring_lemmas.proofs.Lists.{length_add_lists, length_scale_list}
-use Rattle.ff_lattice.specs.Lattices.{IsLattice, Contains, row_elems}
+use Rattle.ff_lattice.specs.Lattices.{IsLatticeValue, Contains, row_elems}
 use Rattle.ff_lattice.specs.PositionLists.{code_count, codes_below, sum_of_codes}
-use Rattle.ff_lattice.specs.Quotients.{QuotientValue, dimension, spread, codes_of_row, lifted, product_codes, quotient_ops, IsClassOf, IsFrame, HasClasses}
+use Rattle.ff_lattice.specs.Quotients.{QuotientValue, dimension, spread, codes_of_row, lifted, product_codes, class_algebra, IsClassOf, IsFrame, HasClasses}
 use Rattle.ff_lattice.proofs.Fracs.{over_zero, over_add, over_scale}
 use Rattle.ff_lattice.proofs.Members.{member_numerator}
 use Rattle.ff_lattice.proofs.Elements.{elem_over, in_span_of}
@@ -108,7 +108,7 @@ module _ (k : CodeField) (q : QuotientValue) (h : IsFrame k q) where
   abbrev D : Polynomial k
   D = value k q.order.den
 
-  abbrev lattice : IsLattice k.ops q.p.n q.order
+  abbrev lattice : IsLatticeValue k.ops q.p.n q.order
   lattice = h.order.lattice
 
   pub den_some : ¬ (value k q.order.den ≡ (polynomials k).𝟘)
@@ -451,7 +451,7 @@ module _ (k : CodeField) (q : QuotientValue) (h : IsFrame k q) where
       (span_scale F T 𝓢 (map (function_of k q.p) (row_elems q.order)) (of_poly c a) F.𝟙
       (record { polynomial = a; value = refl }) h.order.one_in)
 
-  pub quotient_algebra : IsClassOf k q F.𝟙 q.one → IsAlgebra k (quotient_ops q)
+  pub quotient_algebra : IsClassOf k q F.𝟙 q.one → IsAlgebra k (class_algebra q)
   quotient_algebra one_is = record {
     unit_in = one_is.codes;
     product_in = codes_in;

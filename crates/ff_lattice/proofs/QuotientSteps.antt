@@ -10,11 +10,11 @@ use Rattle.ff_fields.specs.Field.{CodeField}
 use Rattle.ff_poly.specs.Words.{IsPoly}
 use Rattle.ff_poly.specs.Value.{value}
 use Rattle.ff_poly.specs.Polynomials.{polynomials}
-use Rattle.ff_poly.specs.Popov.{rows_of, row_at, IsRow, IsPopov, HaveSameSpan, HasFullRank}
+use Rattle.ff_poly.specs.Popov.{rows_of, row_at, IsRow, IsPopovMatrix, HaveSameRowSpan, HasFullRankMatrix}
 use Rattle.ff_popov.proofs.Entries.{any_default}
 use Rattle.function_field.specs.Functions.{IsPolynomial}
 use Rattle.function_field.specs.Values.{ElemValue, PresValue, Functions, functions, function_of, equation_of}
-use Rattle.ff_lattice.specs.Lattices.{LatticeValue, IsLattice, Contains, InSpanOf, IsFull, elems_over, row_elems}
+use Rattle.ff_lattice.specs.Lattices.{LatticeValue, IsLatticeValue, Contains, InSpanOf, IsFullLattice, elems_over, row_elems}
 use Rattle.ff_lattice.specs.Quotients.{IsRowOf, IsRowsOf, AreRowProducts, AreProducts}
 use Rattle.ff_lattice.proofs.Divisors.{monic_value}
 use Rattle.ff_lattice.proofs.Normal.{popov_poly}
@@ -114,19 +114,19 @@ module _ (k : CodeField) (p : PresValue) (l : LatticeValue) where
   rows_are_poly (z ∷ zs) rows h j d less = subst (All IsPoly) (any_default rows j [] d less)
       (h.each j z (omega (arith, less, h.size))).row_poly
 
-  module _ (lattice : IsLattice k.ops p.n l) (i : LatticeValue) (i_lattice : IsLattice k.ops p.n i)
+  module _ (lattice : IsLatticeValue k.ops p.n l) (i : LatticeValue) (i_lattice : IsLatticeValue k.ops p.n i)
       (rows : List (List (List ℕ))) (h : IsRowsOf k p l (row_elems i) rows) where
     some : ¬ (value k l.den ≡ (polynomials k).𝟘)
     some = monic_value k l.den lattice.den_in lattice.den_poly lattice.monic
 
-    pub ideal_rank : 1 ≤ p.n → HasFullRank k.ops p.n rows
+    pub ideal_rank : 1 ≤ p.n → HasFullRankMatrix k.ops p.n rows
     ideal_rank positive =
         rank_of_full k p l.den some rows (rows_are_rows (row_elems i) rows h)
-        (subst (λ fs. IsFull k p (λ z. Span (functions k p).ops (IsPolynomial (equation_of k p)) fs z))
+        (subst (λ fs. IsFullLattice k p (λ z. Span (functions k p).ops (IsPolynomial (equation_of k p)) fs z))
         (sym (rows_functions (row_elems i) rows h)) (lattice_full k p i positive i_lattice))
 
-    pub ideal_members : (basis : List (List (List ℕ))) → IsPopov p.n basis → All (IsRow k.ops p.n) basis
-        → HaveSameSpan k.ops p.n rows basis → (z : Functions k p)
+    pub ideal_members : (basis : List (List (List ℕ))) → IsPopovMatrix p.n basis → All (IsRow k.ops p.n) basis
+        → HaveSameRowSpan k.ops p.n rows basis → (z : Functions k p)
         → Contains k p i z ↔ InSpanOf k p (elems_over basis l.den) z
     ideal_members basis popov basis_in same z =
         let sets = same_set k p l.den some rows basis (rows_are_rows (row_elems i) rows h) basis_in

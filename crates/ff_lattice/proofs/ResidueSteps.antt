@@ -20,10 +20,10 @@ use Rattle.ff_poly.specs.Polynomials.{Polynomial, polynomials, codes_of, IsOver_
 use Rattle.ff_poly.proofs.Parts.{IsPoly_sum_of}
 use Rattle.polynomial_theory.proofs.ListValues.{value_up, value_padded}
 use Rattle.ff_popov.proofs.Lengths.{trim_length, less_multiple_shorter, quotient_top}
-use Rattle.ff_linalg.specs.Matrix.{MatrixValue, HasShape, row_of, with_entry, zero_matrix}
+use Rattle.ff_linalg.specs.Matrix.{MatrixValue, HasShape, matrix_row, with_entry, zero_matrix}
 use Rattle.ff_linalg.specs.MatrixOver.{zero_matrix_over}
 use Rattle.ff_linalg.proofs.Solving.{neg_list_more}
-use Rattle.ff_lattice.specs.Residues.{with_start, IsRest, IsResidue, HasResidues, AreResidues}
+use Rattle.ff_lattice.specs.Residues.{with_start, IsRestModulo, IsPaddedRest, HasResidues, AreResidues}
 use Rattle.ff_lattice.proofs.Residues.{Congruent, ResidueRows, x_to}
 
 -- ---- codes over the start of a row
@@ -43,7 +43,7 @@ written_more (c ∷ codes) (o ∷ old) (suc j) less le = ap (λ w. c ∷ w)
 
 -- the first j of the codes are written
 abbrev pub written : List ℕ → MatrixValue → ℕ → ℕ → MatrixValue
-written codes m i j = record { cols = m.cols; rows = set m.rows i (take j codes ++ drop j (row_of m i)) }
+written codes m i j = record { cols = m.cols; rows = set m.rows i (take j codes ++ drop j (matrix_row m i)) }
 
 pub written_start : (codes : List ℕ) (m : MatrixValue) (i : ℕ) → m ≡ written codes m i 0
 written_start codes m i = ap (λ rows. record { cols = m.cols; rows = rows }) (sym (set-get_or m.rows i []))
@@ -67,7 +67,7 @@ pub written_end : (codes : List ℕ) (m now : MatrixValue) (i j : ℕ) → lengt
 written_end codes m now i j le le' now_is =
     let same : j ≡ length codes = omega arith in
     now_is ∙ ap (written codes m i) same
-    ∙ ap (λ row. record { cols = m.cols; rows = set m.rows i (row ++ drop (length codes) (row_of m i)) })
+    ∙ ap (λ row. record { cols = m.cols; rows = set m.rows i (row ++ drop (length codes) (matrix_row m i)) })
     (take_all (length codes) codes (omega arith))
 
 pub own_shape : (m : MatrixValue) (rows cols : ℕ) → HasShape m rows cols → HasShape m (length m.rows) m.cols
@@ -102,7 +102,7 @@ module _ (k : CodeField) where
   pub IsOver_shifted : (a : List ℕ) (j : ℕ) → IsOver k.ops a → IsOver k.ops (shifted a j)
   IsOver_shifted a j a_in = IsOver_trim (replicate j 0 ++ a) (IsOver_append (IsOver_zeros k j) a_in)
 
-  pub rest_congruent : (e a rest : List ℕ) → IsOver k.ops e → IsRest k.ops e a rest
+  pub rest_congruent : (e a rest : List ℕ) → IsOver k.ops e → IsRestModulo k.ops e a rest
       → Congruent k (value k e) (value k a) (value k rest)
   rest_congruent e a rest e_in h =
       let d = h.division in record {
@@ -115,7 +115,7 @@ module _ (k : CodeField) where
 
   congruent_rest : (e a rest : List ℕ) → IsOver k.ops e → IsOver k.ops a → IsPoly a → IsOver k.ops rest → IsPoly rest
       → length rest < length e
-      → Congruent k (value k e) (value k a) (value k rest) → IsRest k.ops e a rest
+      → Congruent k (value k e) (value k a) (value k rest) → IsRestModulo k.ops e a rest
   congruent_rest e a rest e_in a_in a_poly rest_in rest_poly shorter c = record {
     quotient = q;
     division = record {
@@ -143,7 +143,7 @@ module _ (k : CodeField) where
 
   -- v itself, where it is short
   pub rest_start : (e v : List ℕ) → IsOver k.ops e → IsOver k.ops v → IsPoly v → length v < length e
-      → IsRest k.ops e (shifted v 0) v
+      → IsRestModulo k.ops e (shifted v 0) v
   rest_start e v e_in v_in v_poly short =
       congruent_rest e (shifted v 0) v e_in (IsOver_shifted v 0 v_in) (IsPoly_poly_of v) v_in v_poly short
       (record { quotient = 𝟘; is = value_shifted v 0 v_in ∙ step (value k e) (value k v) })
@@ -152,9 +152,9 @@ module _ (k : CodeField) where
       step e v = ring (polynomials k).ring (e ∷ v ∷ []) λ q y. simp (reads, q, y 0, y 1) (q.equal _ _ refl)
 
   -- from one power of x to the next
-  pub rest_step : (e v rest next : List ℕ) (j : ℕ) → IsOver k.ops e → IsOver k.ops v → IsRest k.ops e (shifted v j) rest
-      → IsRest k.ops e (shifted rest 1) next
-      → IsRest k.ops e (shifted v (j + 1)) next
+  pub rest_step : (e v rest next : List ℕ) (j : ℕ) → IsOver k.ops e → IsOver k.ops v → IsRestModulo k.ops e (shifted v j) rest
+      → IsRestModulo k.ops e (shifted rest 1) next
+      → IsRestModulo k.ops e (shifted v (j + 1)) next
   rest_step e v rest next j e_in v_in h n =
       congruent_rest e (shifted v (j + 1)) next e_in (IsOver_shifted v (j + 1) v_in)
       (IsPoly_poly_of (replicate (j + 1) 0 ++ v)) n.division.rest_in n.division.rest_poly n.division.shorter
@@ -185,9 +185,9 @@ module _ (k : CodeField) where
 
   -- x·v itself, where it is short
   pub rest_short : (e v p : List ℕ) → IsOver k.ops e → IsOver k.ops v → p ≡ shifted v 1 → length p < length e
-      → IsRest k.ops e (shifted v 1) p
+      → IsRestModulo k.ops e (shifted v 1) p
   rest_short e v p e_in v_in p_is short =
-      subst (IsRest k.ops e (shifted v 1)) (sym p_is)
+      subst (IsRestModulo k.ops e (shifted v 1)) (sym p_is)
       (congruent_rest e (shifted v 1) (shifted v 1) e_in (IsOver_shifted v 1 v_in) (IsPoly_poly_of (0 ∷ v))
       (IsOver_shifted v 1 v_in) (IsPoly_poly_of (0 ∷ v))
       (omega (arith, ap length p_is)) (record { quotient = 𝟘; is = step (value k e) (value k (shifted v 1)) }))
@@ -199,9 +199,9 @@ module _ (k : CodeField) where
   pub rest_less : (e v p next : List ℕ) (c : ℕ) → IsOver k.ops e → IsPoly e → IsOver k.ops v → length v < length e
       → p ≡ shifted v 1 → length e ≤ length p
       → (c < k.size) × (k.mul c (get_or e (length e - 1) 0) ≡ get_or p (length p - 1) 0)
-      → next ≡ less_multiple k.ops p c 0 e → IsRest k.ops e (shifted v 1) next
+      → next ≡ less_multiple k.ops p c 0 e → IsRestModulo k.ops e (shifted v 1) next
   rest_less e v p next c e_in e_poly v_in short p_is long clears next_is =
-      subst (λ a. IsRest k.ops e a next) p_is
+      subst (λ a. IsRestModulo k.ops e a next) p_is
       (congruent_rest e p next e_in p_in (subst IsPoly (sym p_is) (IsPoly_poly_of (0 ∷ v)))
       (subst (IsOver k.ops) (sym next_is) (IsOver_less_multiple k p c 0 e p_in clears.0 e_in))
       (subst IsPoly (sym next_is) (IsPoly_less_multiple k.ops p c 0 e))
@@ -261,7 +261,7 @@ module _ (k : CodeField) where
   })
 
   pub residues_step : (e v rest codes : List ℕ) (i : ℕ) (m new : MatrixValue) → i < length e
-      → IsRest k.ops e (shifted v i) rest → codes ≡ rest → new ≡ with_start m i codes
+      → IsRestModulo k.ops e (shifted v i) rest → codes ≡ rest → new ≡ with_start m i codes
       → HasResidues k.ops e v i m → HasResidues k.ops e v (i + 1) new
   residues_step e v rest codes i m new within is_rest codes_is new_is before = subst (HasResidues k.ops e v (i + 1))
       (sym (new_is ∙ ap (with_start m i) codes_is)) (record {
@@ -277,7 +277,7 @@ module _ (k : CodeField) where
       })
     where
       row : List ℕ
-      row = rest ++ drop (length rest) (row_of m i)
+      row = rest ++ drop (length rest) (matrix_row m i)
 
       row_is : row ≡ rest ++ replicate (length e - 1 - length rest) 0
       row_is =
@@ -295,15 +295,15 @@ module _ (k : CodeField) where
       row_in = subst (IsOver k.ops) (sym row_is)
           (IsOver_append is_rest.division.rest_in (IsOver_zeros k (length e - 1 - length rest)))
 
-      go : (j : ℕ) → j < i + 1 → Dec (j ≡ i) → IsResidue k.ops e (shifted v j) (get_or (set m.rows i row) j [])
+      go : (j : ℕ) → j < i + 1 → Dec (j ≡ i) → IsPaddedRest k.ops e (shifted v j) (get_or (set m.rows i row) j [])
       go j less (yes s) =
-          subst (λ n. IsResidue k.ops e (shifted v n) (get_or (set m.rows i row) n [])) (sym s)
+          subst (λ n. IsPaddedRest k.ops e (shifted v n) (get_or (set m.rows i row) n [])) (sym s)
           (record {
             rest = rest;
             is_rest = is_rest;
             is = get_or-set_same m.rows i row [] (let c = before.shape.row_count in omega arith) ∙ row_is;
           })
-      go j less (no ne) = subst (IsResidue k.ops e (shifted v j)) (sym (get_or-set_other m.rows i j row [] ne))
+      go j less (no ne) = subst (IsPaddedRest k.ops e (shifted v j)) (sym (get_or-set_other m.rows i j row [] ne))
           (before.residues j (omega arith))
 
   pub residues_end : (e v : List ℕ) (i : ℕ) (m : MatrixValue) → length e ≤ i → i ≤ length e → HasResidues k.ops e v i m
@@ -321,7 +321,7 @@ module _ (k : CodeField) where
         short = let c = s.col_count in omega arith;
         congruent = λ j less.
             let r = h.all.residues j (let c = s.row_count in omega arith) in
-            subst (λ a. Congruent k (value k e) a (value k (row_of m j))) (value_shifted v j v_in)
+            subst (λ a. Congruent k (value k e) a (value k (matrix_row m j))) (value_shifted v j v_in)
             (subst (Congruent k (value k e) (value k (shifted v j)))
             (sym (ap (value k) r.is ∙ value_padded k r.rest (length e - 1 - length r.rest)))
             (rest_congruent e (shifted v j) r.rest e_in r.is_rest));

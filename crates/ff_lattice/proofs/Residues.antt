@@ -23,7 +23,7 @@ use Rattle.ff_poly.proofs.Quotients.{top_some}
 use Rattle.polynomial_theory.proofs.ListValues.{value_add_lists, value_scale_list, value_zeros, value_short, length_value, same_lists}
 use Rattle.polynomial_theory.proofs.Lengths.{some_long}
 use Rattle.polynomial_theory.proofs.Division.{divide}
-use Rattle.ff_linalg.specs.Matrix.{MatrixValue, IsMatrixOver, row_of, first_rows_of}
+use Rattle.ff_linalg.specs.Matrix.{MatrixValue, IsMatrixOver, matrix_row, first_rows_of}
 use Rattle.ff_linalg.specs.Space.{row_ops, IsSolution, HasIndependentRows, IsFirstRelation}
 use Rattle.ff_linalg.proofs.Bridge.{combination_over, length_combination}
 
@@ -147,7 +147,7 @@ module _ (k : CodeField) where
     pub over : IsMatrixOver k.ops m
     pub each : All (λ r. length r ≡ m.cols) m.rows
     pub short : m.cols < length e
-    pub congruent : (j : ℕ) → j < length m.rows → Congruent (value k e) (x_to j ⊗ w) (value k (row_of m j))
+    pub congruent : (j : ℕ) → j < length m.rows → Congruent (value k e) (x_to j ⊗ w) (value k (matrix_row m j))
 
   module _ (e : List ℕ) (w : Polynomial k) (m : MatrixValue) (e_in : IsOver k.ops e) (e_poly : IsPoly e)
       (h : ResidueRows e w m) where
@@ -165,14 +165,14 @@ module _ (k : CodeField) where
     -- where E divides a multiple of w, the row at its top is a combination of the rows before it
     pub solution : (low : List ℕ) (t : ℕ) → IsOver k.ops low → t < k.size → t ≢ 0 → length low < length m.rows
         → IsDivisorIn P.ops E (value k (low ++ t ∷ []) ⊗ w)
-        → (cs : List ℕ) × IsSolution k.ops (first_rows_of m (length low)) (row_of m (length low)) cs
+        → (cs : List ℕ) × IsSolution k.ops (first_rows_of m (length low)) (matrix_row m (length low)) cs
     solution low t low_in t_in some less d = (
       cs,
       record {
         one_each = size ∙ sym (length-take-le (length low) m.rows (omega arith));
         over = cs_in;
         product =
-            same_residue e (combination (row_ops k.ops m.cols) cs (take (length low) m.rows)) (row_of m (length low))
+            same_residue e (combination (row_ops k.ops m.cols) cs (take (length low) m.rows)) (matrix_row m (length low))
             m.cols (x_to (length low) ⊗ w) e_in e_poly h.short
             (combination_over k m.cols cs (take (length low) m.rows) cs_in
             (All-take (IsOver k.ops) (length low) m.rows h.over.each))
@@ -226,9 +226,9 @@ module _ (k : CodeField) where
     -- the same of a list without a zero on top
     pub dependent : (u : List ℕ) → IsOver k.ops u → IsPoly u → 0 < length u → length u ≤ length m.rows
         → IsDivisorIn P.ops E (value k u ⊗ w)
-        → (cs : List ℕ) × IsSolution k.ops (first_rows_of m (length u - 1)) (row_of m (length u - 1)) cs
+        → (cs : List ℕ) × IsSolution k.ops (first_rows_of m (length u - 1)) (matrix_row m (length u - 1)) cs
     dependent u u_in u_poly some le d =
-        subst (λ i. (cs : List ℕ) × IsSolution k.ops (first_rows_of m i) (row_of m i) cs) size
+        subst (λ i. (cs : List ℕ) × IsSolution k.ops (first_rows_of m i) (matrix_row m i) cs) size
         (solution low (get_or u (length u - 1) 0) (IsOver_take (length u - 1) u_in)
         (get_or_below k u (length u - 1) u_in)
         (top_some u u_poly (λ e. absurd (omega (arith, ap length e)))).1 (omega (arith, size))
@@ -267,7 +267,7 @@ module _ (k : CodeField) where
           let b = h.congruent (length cs) first.within in (
             b.quotient ⊕ ⊖ a.quotient,
             ap (λ y. y ⊗ w) H_is
-                ∙ step (value k cs) (x_to (length cs)) w E a.quotient b.quotient (value k (row_of m (length cs)))
+                ∙ step (value k cs) (x_to (length cs)) w E a.quotient b.quotient (value k (matrix_row m (length cs)))
                 (a.is ∙ ap (λ r. E ⊗ a.quotient ⊕ value k r) first.relation.product) b.is,
           )
         where

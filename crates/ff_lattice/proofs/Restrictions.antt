@@ -16,7 +16,7 @@ use Rattle.ff_poly.specs.Value.{value, value_product}
 use Rattle.ff_poly.specs.PolyOver.{IsOver_product_of}
 use Rattle.ff_poly.proofs.Parts.{IsPoly_product_of}
 use Rattle.ff_poly.specs.Polynomials.{Polynomial, polynomials, codes_of, IsOver_codes_of, IsPoly_codes_of, value_codes_of}
-use Rattle.ff_poly.specs.Popov.{row_at, entry_at, IsRow, InSpan, combination, HasFullRank}
+use Rattle.ff_poly.specs.Popov.{row_at, entry_at, IsRow, InRowSpan, combination, HasFullRankMatrix}
 use Rattle.popov_theory.specs.Module.{PolynomialModule}
 use Rattle.popov_theory.specs.Span as theory
 use Rattle.popov_theory.proofs.Span.{span_row}
@@ -27,7 +27,7 @@ use Rattle.function_field.specs.Functions.{Equation, IsPolynomial, of_poly, over
 use Rattle.function_field.specs.Values.{ElemValue, PresValue, Functions, functions, function_of, equation_of}
 use Rattle.function_field.proofs.ScalarRings.{polynomials_subring}
 use Rattle.function_field.proofs.OnSide.{of_poly_times}
-use Rattle.ff_lattice.specs.Lattices.{LatticeValue, IsLattice, Contains, InSpanOf, IsFull, elems_over}
+use Rattle.ff_lattice.specs.Lattices.{LatticeValue, IsLatticeValue, Contains, InSpanOf, IsFullLattice, elems_over}
 use Rattle.ff_lattice.specs.Colons.{IsKept}
 use Rattle.ff_lattice.proofs.Divisors.{monic_value}
 use Rattle.ff_lattice.proofs.Elements.{elem_over, in_span_of}
@@ -85,7 +85,7 @@ module _ (k : CodeField) (p : PresValue) where
     }
 
     -- full rank of both sets is that of the smaller set
-    pub both_full : IsFull k p (InSpanOf k p ls) → IsFull k p (InSpanOf k p es) → IsFull k p B
+    pub both_full : IsFullLattice k p (InSpanOf k p ls) → IsFullLattice k p (InSpanOf k p es) → IsFullLattice k p B
     both_full l_full a_full = record {
       multiple = λ z.
           let a = l_full.multiple z in
@@ -126,7 +126,7 @@ module _ (k : CodeField) (p : PresValue) where
             ))
 
   module _ (l a : LatticeValue) (w : ElemValue) (basis : List (List (List ℕ))) (positive : 0 < p.n)
-      (l_form : IsLattice k.ops p.n l) (a_form : IsLattice k.ops p.n a) (kept : IsKept k p l w a basis) where
+      (l_form : IsLatticeValue k.ops p.n l) (a_form : IsLatticeValue k.ops p.n a) (kept : IsKept k p l w a basis) where
     abbrev D : Polynomial k
     D = value k l.den
 
@@ -237,7 +237,7 @@ module _ (k : CodeField) (p : PresValue) where
         z_is = m.is ∙ sym (elem_over k p l.den den_some (combination k.ops p.n cs l.rows)
             ∙ ap (λ v. over c v D den_some) same)
 
-        in_basis : InSpan k.ops p.n basis cs
+        in_basis : InRowSpan k.ops p.n basis cs
         in_basis = (kept.members cs cs_row cs_poly).1 (subst (λ y. Contains k p a (F.◌⊗◌ W y)) z_is wz_in)
 
     pub kept_iff : (z : Functions k p) → InSpanOf k p
@@ -268,7 +268,7 @@ module _ (k : CodeField) (p : PresValue) where
             (combination_poly k p.n z l.rows (row.size ∙ sym l_form.popov.size) row.over)
             (go zs (All-tail (IsRow k.ops p.n) z zs h))
 
-    pub made_rank : HasFullRank k.ops p.n (map (λ z. combination k.ops p.n z l.rows) basis)
+    pub made_rank : HasFullRankMatrix k.ops p.n (map (λ z. combination k.ops p.n z l.rows) basis)
     made_rank =
         rank_of_full k p l.den den_some made made_rows
         (full_within k p (Both (Contains k p l) (Contains k p a) W) (InSpanOf k p (elems_over made l.den)) kept_from

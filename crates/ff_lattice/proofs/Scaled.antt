@@ -12,11 +12,11 @@ use Rattle.ff_fields.specs.Field.{CodeField}
 use Rattle.ff_fields.specs.Code.{Code, code_ring, code_domain, same_code}
 use Rattle.ff_fields.specs.Numbers.{read, numbers_read, numbers_get_or}
 use Rattle.ff_fields.specs.Over.{IsOver}
-use Rattle.ff_poly.specs.Words.{IsPoly, IsMonic, product_of}
+use Rattle.ff_poly.specs.Words.{IsPoly, IsMonicList, product_of}
 use Rattle.ff_poly.specs.PolyOver.{IsOver_product_of}
 use Rattle.ff_poly.specs.Value.{value, numbers_value, value_product}
 use Rattle.ff_poly.specs.Polynomials.{polynomials, series_read, value_not_zero}
-use Rattle.ff_poly.specs.Popov.{entry_at, row_at, IsRow, IsPivot, IsPopov, multiple_of_row}
+use Rattle.ff_poly.specs.Popov.{entry_at, row_at, IsRow, IsPivot, IsPopovMatrix, multiple_of_row}
 use Rattle.ff_poly.proofs.Parts.{IsPoly_product_of, IsMonic_product, IsMonic_from_top, top_of_monic}
 use Rattle.ff_poly.proofs.Results.{product_of_nil}
 use Rattle.ff_popov.proofs.ReadRows.{over_at}
@@ -48,8 +48,8 @@ module _ (k : CodeField) where
       ∙ ap₂ ◌+◌ (value_length a a_in a_poly) (value_length b b_in b_poly)
 
   -- the other factor of a monic product by a monic polynomial is monic
-  pub monic_factor : (g a : List ℕ) → IsOver k.ops g → IsPoly g → IsMonic g → IsOver k.ops a → IsPoly a → 0 < length a
-      → IsMonic (product_of k.ops g a) → IsMonic a
+  pub monic_factor : (g a : List ℕ) → IsOver k.ops g → IsPoly g → IsMonicList g → IsOver k.ops a → IsPoly a → 0 < length a
+      → IsMonicList (product_of k.ops g a) → IsMonicList a
   monic_factor g a g_in g_poly g_monic a_in a_poly some monic =
       let γ = (top_of_monic g g_monic).0 in
       let g_size = (top_of_monic g g_monic).1 in
@@ -124,7 +124,7 @@ shrinks_less γ n m n' m' h h' le = elim h.which [
   | inr x ↦ elim h'.which [ inl y ↦ absurd (omega (arith, le, y.1)) | inr y ↦ omega (arith, le, x.1, y.1) ]
 ]
 
-module _ (k : CodeField) (g : List ℕ) (g_in : IsOver k.ops g) (g_poly : IsPoly g) (g_monic : IsMonic g) where
+module _ (k : CodeField) (g : List ℕ) (g_in : IsOver k.ops g) (g_poly : IsPoly g) (g_monic : IsMonicList g) where
   γ : ℕ
   γ = (top_of_monic g g_monic).0
 
@@ -172,11 +172,11 @@ module _ (k : CodeField) (g : List ℕ) (g_in : IsOver k.ops g) (g_poly : IsPoly
       rightmost = λ l less. shrinks_less γ _ _ _ _ (grows_at i l) (grows_at i j) (p.rightmost l less);
     }
 
-    pub popov_multiples : IsPopov w rows → IsPopov w (multiples k g rows)
+    pub popov_multiples : IsPopovMatrix w rows → IsPopovMatrix w (multiples k g rows)
     popov_multiples p = record {
       size = length-map rows (multiple_of_row k.ops g) ∙ p.size;
       pivot_at = λ i less. pivot_up i i (p.pivot_at i less);
-      monic = λ i less. subst IsMonic (sym (multiples_entry k g rows i i))
+      monic = λ i less. subst IsMonicList (sym (multiples_entry k g rows i i))
           (IsMonic_product k g (entry_at (row_at rows i) i) g_in (entry_over i i) g_monic (p.monic i less));
       smaller = λ i j i_less j_less differ. grows_less γ _ _ _ _ (grows_at i j) (grows_at j j)
           (p.smaller i j i_less j_less differ);
@@ -184,14 +184,14 @@ module _ (k : CodeField) (g : List ℕ) (g_in : IsOver k.ops g) (g_poly : IsPoly
           (IsPoly_product_of k.ops g (entry_at (row_at rows i) j));
     }
 
-    pub popov_from_multiples : IsPopov w (multiples k g rows) → IsPopov w rows
+    pub popov_from_multiples : IsPopovMatrix w (multiples k g rows) → IsPopovMatrix w rows
     popov_from_multiples p = record {
       size = sym (length-map rows (multiple_of_row k.ops g)) ∙ p.size;
       pivot_at = λ i less. pivot_down i i (p.pivot_at i less);
       monic = λ i less.
           monic_factor k g (entry_at (row_at rows i) i) g_in g_poly g_monic (entry_over i i) (trimmed i i)
           (pivot_down i i (p.pivot_at i less)).some
-          (subst IsMonic (multiples_entry k g rows i i) (p.monic i less));
+          (subst IsMonicList (multiples_entry k g rows i i) (p.monic i less));
       smaller = λ i j i_less j_less differ. shrinks_less γ _ _ _ _ (grows_at i j) (grows_at j j)
           (p.smaller i j i_less j_less differ);
       trimmed = trimmed;

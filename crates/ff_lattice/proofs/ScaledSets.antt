@@ -11,7 +11,7 @@ use Rattle.ring_theory.specs.PolynomialRing.{pol_ring}
 use Rattle.ff_fields.specs.Field.{CodeField}
 use Rattle.ff_fields.specs.Code.{code_ring, code_field}
 use Rattle.ff_fields.specs.Over.{IsOver, get_or_below}
-use Rattle.ff_poly.specs.Words.{IsPoly, IsMonic, product_of, multiple_of, top_of}
+use Rattle.ff_poly.specs.Words.{IsPoly, IsMonicList, product_of, multiple_of, top_of}
 use Rattle.ff_poly.specs.PolyOver.{IsOver_multiple_of}
 use Rattle.ff_poly.specs.Value.{value, value_product}
 use Rattle.ff_poly.specs.Polynomials.{Polynomial, polynomials, polynomials_domain, codes_of, IsOver_codes_of, IsPoly_codes_of, value_codes_of, value_nil, constant_poly}
@@ -29,7 +29,7 @@ use Rattle.ff_popov.proofs.Spans.{from_space, space_multiple, multiple_row}
 use Rattle.function_field.specs.Functions.{Equation, of_poly, over}
 use Rattle.function_field.specs.Values.{PresValue, Functions, functions, equation_of}
 use Rattle.function_field.proofs.Stages.{row_of_function}
-use Rattle.ff_lattice.specs.Lattices.{LatticeValue, IsLattice, elems_over, InSpanOf, Contains, IsScaled, IsSpannedBy}
+use Rattle.ff_lattice.specs.Lattices.{LatticeValue, IsLatticeValue, elems_over, InSpanOf, Contains, IsScaled, IsSpannedBy}
 use Rattle.ff_lattice.proofs.Fracs.{over_eq, over_same, over_scale}
 use Rattle.ff_lattice.proofs.Elements.{in_span_of}
 use Rattle.ff_lattice.proofs.Divisors.{monic_value}
@@ -64,7 +64,7 @@ module _ (k : CodeField) (n : ℕ) where
 
   -- full rank of codes is that of what they stand for
   pub codes_rank : (rows : List (List (List ℕ))) → All (IsRow k.ops n) rows → theory.HasFullRank M (read_rows k n rows)
-      → codes.HasFullRank k.ops n rows
+      → codes.HasFullRankMatrix k.ops n rows
   codes_rank rows rows_in full = record {
     multiple = λ v v_row.
         let m = full.multiple (read_row k (suc (n - 1)) v) in
@@ -85,8 +85,8 @@ module _ (k : CodeField) (n : ℕ) where
   }
 
   -- the rows of a lattice times a polynomial other than 0
-  pub scaled_rank : (l : LatticeValue) (g : List ℕ) → 0 < n → IsLattice k.ops n l → IsOver k.ops g
-      → ¬ (value k g ≡ (polynomials k).𝟘) → codes.HasFullRank k.ops n (map (multiple_of_row k.ops g) l.rows)
+  pub scaled_rank : (l : LatticeValue) (g : List ℕ) → 0 < n → IsLatticeValue k.ops n l → IsOver k.ops g
+      → ¬ (value k g ≡ (polynomials k).𝟘) → codes.HasFullRankMatrix k.ops n (map (multiple_of_row k.ops g) l.rows)
   scaled_rank l g positive lattice g_in some =
       codes_rank (map (multiple_of_row k.ops g) l.rows) (multiples_in k n g l.rows g_in lattice.rows_in)
       (subst (theory.HasFullRank M) (sym (read_multiples k n g l.rows g_in lattice.rows_in))
@@ -94,7 +94,7 @@ module _ (k : CodeField) (n : ℕ) where
       (rank_from_full M (code_field k) (read_rows k n l.rows) (basis_weak k n l.rows lattice.rows_in lattice.popov)
       (basis_full k n l.rows lattice.rows_in lattice.popov positive))))
 
-module _ (k : CodeField) (p : PresValue) (l : LatticeValue) (lattice : IsLattice k.ops p.n l) (num den : List ℕ)
+module _ (k : CodeField) (p : PresValue) (l : LatticeValue) (lattice : IsLatticeValue k.ops p.n l) (num den : List ℕ)
     (inverse : ℕ) (num_in : IsOver k.ops num) (den_in : IsOver k.ops den) (inverse_in : inverse < k.size)
     (e : List ℕ) (e_is : e ≡ product_of k.ops (multiple_of k.ops den inverse) l.den)
     (e_some : ¬ (value k e ≡ (polynomials k).𝟘)) where
@@ -216,13 +216,13 @@ module _ (k : CodeField) (p : PresValue) (l : LatticeValue) (lattice : IsLattice
 
 -- the inverse of the top code makes a polynomial monic
 pub made_monic : (k : CodeField) (den : List ℕ) (inverse t : ℕ) → IsOver k.ops den → den ≢ [] → inverse ≡ k.inv t
-    → t ≡ top_of den → t ≢ 0 → (inverse < k.size) × IsMonic (multiple_of k.ops den inverse)
+    → t ≡ top_of den → t ≢ 0 → (inverse < k.size) × IsMonicList (multiple_of k.ops den inverse)
 made_monic k den inverse t den_in den_some inverse_is t_is t_some =
     let is : inverse ≡ k.inv (top_of den) = inverse_is ∙ ap k.inv t_is in
     let some : top_of den ≢ 0 = λ e. t_some (t_is ∙ e) in (
       subst (λ i. i < k.size) (sym is) (k.laws.inv_below (top_of den) (get_or_below k den (length den - 1) den_in)
           some),
-      subst (λ i. IsMonic (multiple_of k.ops den i)) (sym is)
+      subst (λ i. IsMonicList (multiple_of k.ops den i)) (sym is)
           (IsMonic_multiple k den den_in some (positive den den_some)),
     )
   where
@@ -232,7 +232,7 @@ made_monic k den inverse t den_in den_some inverse_is t_is t_some =
 
 -- what is multiplied by the same code isn't 0 either
 pub multiple_not_zero : (k : CodeField) (num den : List ℕ) (inverse : ℕ) → IsOver k.ops num → IsOver k.ops den
-    → inverse < k.size → IsMonic (multiple_of k.ops den inverse) → ¬ (value k num ≡ (polynomials k).𝟘)
+    → inverse < k.size → IsMonicList (multiple_of k.ops den inverse) → ¬ (value k num ≡ (polynomials k).𝟘)
     → ¬ (value k (multiple_of k.ops num inverse) ≡ (polynomials k).𝟘)
 multiple_not_zero k num den inverse num_in den_in inverse_in monic some e =
     product_not_zero (polynomials_domain k) (constant_poly k inverse) (value k num)
@@ -246,15 +246,15 @@ multiple_not_zero k num den inverse num_in den_in inverse_in monic some e =
 
 -- the lattice that is made is the fraction times the lattice
 pub scaled_members : (k : CodeField) (n : ℕ) (l made : LatticeValue) (num den : List ℕ) (inverse : ℕ) (e : List ℕ)
-    → IsLattice k.ops n l → IsOver k.ops num → IsOver k.ops den → inverse < k.size
-    → e ≡ product_of k.ops (multiple_of k.ops den inverse) l.den → IsOver k.ops e → IsMonic e
+    → IsLatticeValue k.ops n l → IsOver k.ops num → IsOver k.ops den → inverse < k.size
+    → e ≡ product_of k.ops (multiple_of k.ops den inverse) l.den → IsOver k.ops e → IsMonicList e
     → IsSpannedBy k n (elems_over (map (multiple_of_row k.ops (multiple_of k.ops num inverse)) l.rows) e) made
     → (p : PresValue) → p.n ≡ n → (z : Functions k p)
     → Contains k p made z ↔ IsScaled k p num den (Contains k p l) z
 scaled_members k n l made num den inverse e lattice num_in den_in inverse_in e_is e_in e_monic spanned p n_is z =
     let m = spanned.members p n_is z in
     let s =
-    scaled_iff k p l (subst (λ n. IsLattice k.ops n l) (sym n_is) lattice) num den inverse num_in den_in inverse_in e
+    scaled_iff k p l (subst (λ n. IsLatticeValue k.ops n l) (sym n_is) lattice) num den inverse num_in den_in inverse_in e
     e_is (monic_value k e e_in (monic_poly e e_monic) e_monic) z in (
       λ h. s.0 (m.0 h),
       λ h. m.1 (s.1 h),

@@ -5,7 +5,7 @@ use Rattle.ff_fields.specs.Field.{CodeField}
 use Rattle.ff_fields.specs.Code.{code_ring, code_field}
 use Rattle.ff_poly.specs.Value.{value}
 use Rattle.ff_poly.specs.Polynomials.{Polynomial, codes_of, IsOver_codes_of, IsPoly_codes_of, value_codes_of, value_nil}
-use Rattle.ff_poly.specs.Popov.{row_at, entry_at, IsRow, IsPopov, multiple_of_row, pivot_degree, pivot_degree_from}
+use Rattle.ff_poly.specs.Popov.{row_at, entry_at, IsRow, IsPopovMatrix, multiple_of_row, pivot_degree, pivot_degree_from}
 use Rattle.popov_theory.specs.Module.{PolynomialModule, row_degree}
 use Rattle.popov_theory.specs.Popov as theory
 use Rattle.popov_theory.specs.Span as spans
@@ -21,7 +21,7 @@ use Rattle.ff_lattice.proofs.Scaled.{value_length}
 use Rattle.ff_lattice.proofs.SpannedSets.{multiple_poly}
 
 module _ (k : CodeField) (w : ℕ) (positive : 0 < w) (rows : List (List (List ℕ))) (rows_in : All (IsRow k.ops w) rows)
-    (popov : IsPopov w rows) where
+    (popov : IsPopovMatrix w rows) where
   abbrev M : PolynomialModule (code_ring k) (Row (Polynomial k) (suc (w - 1)))
   M = row_space k w
 

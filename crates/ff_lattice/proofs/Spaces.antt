@@ -18,7 +18,7 @@ use Rattle.ff_fields.specs.Over.{IsOver, IsOver_append, IsOver_zeros}
 use Rattle.ff_poly.specs.Words.{IsPoly, poly_of, shifted}
 use Rattle.ff_poly.specs.Value.{value, series_value}
 use Rattle.ff_poly.specs.Polynomials.{Polynomial, polynomials, codes_of, IsOver_codes_of, IsPoly_codes_of, value_codes_of, value_nil, value_one, value_cons, x_poly, series_read, constant_poly}
-use Rattle.ff_poly.specs.Popov.{row_at, IsRow, InSpan, HaveSameSpan, combination}
+use Rattle.ff_poly.specs.Popov.{row_at, IsRow, InRowSpan, HaveSameRowSpan, combination}
 use Rattle.popov_theory.specs.Module.{PolynomialModule}
 use Rattle.popov_theory.specs.Span as theory
 use Rattle.popov_theory.specs.Span.{combine}
@@ -122,7 +122,7 @@ module _ (k : CodeField) where
 
     pub within_space : (rows rows' : List (List (List ℕ))) → All (IsRow k.ops w) rows → All (IsRow k.ops w) rows'
         → ((i : ℕ) → i < length rows → All IsPoly (row_at rows i))
-        → ((v : List (List ℕ)) → InSpan k.ops w rows v → InSpan k.ops w rows' v)
+        → ((v : List (List ℕ)) → InRowSpan k.ops w rows v → InRowSpan k.ops w rows' v)
         → theory.IsWithin M (read_rows k w rows) (read_rows k w rows')
     within_space rows rows' all all' polys h = within_rows M (read_rows k w rows) (read_rows k w rows')
         (λ i. go i (cases_lt i (length rows)))
@@ -144,7 +144,7 @@ module _ (k : CodeField) where
     pub same_space : (rows rows' : List (List (List ℕ))) → All (IsRow k.ops w) rows → All (IsRow k.ops w) rows'
         → ((i : ℕ) → i < length rows → All IsPoly (row_at rows i))
         → ((i : ℕ) → i < length rows' → All IsPoly (row_at rows' i))
-        → HaveSameSpan k.ops w rows rows' → theory.HaveSameSpan M (read_rows k w rows) (read_rows k w rows')
+        → HaveSameRowSpan k.ops w rows rows' → theory.HaveSameSpan M (read_rows k w rows) (read_rows k w rows')
     same_space rows rows' all all' polys polys' h = record {
       left = within_space rows rows' all all' polys h.left;
       right = within_space rows' rows all' all polys' h.right;

@@ -9,10 +9,10 @@ use Rattle.ring_lemmas.proofs.Rows.{row_scale_scale}
 use Rattle.ff_fields.specs.Field.{CodeField}
 use Rattle.ff_fields.specs.Code.{code_ring, code_field}
 use Rattle.ff_fields.specs.Over.{IsOver}
-use Rattle.ff_poly.specs.Words.{IsPoly, IsMonic, product_of}
+use Rattle.ff_poly.specs.Words.{IsPoly, IsMonicList, product_of}
 use Rattle.ff_poly.specs.Value.{value, value_product}
 use Rattle.ff_poly.specs.Polynomials.{Polynomial, polynomials, polynomials_domain, codes_of, IsOver_codes_of, IsPoly_codes_of, value_codes_of, value_nil}
-use Rattle.ff_poly.specs.Popov.{row_at, IsRow, IsPopov, multiple_of_row, HaveSameSpan}
+use Rattle.ff_poly.specs.Popov.{row_at, IsRow, IsPopovMatrix, multiple_of_row, HaveSameRowSpan}
 use Rattle.ff_poly.specs.Popov as codes
 use Rattle.ff_poly.proofs.Parts.{IsPoly_product_of}
 use Rattle.popov_theory.specs.Module.{PolynomialModule}
@@ -27,7 +27,7 @@ use Rattle.ff_popov.proofs.Spans.{from_space, space_multiple, multiple_row}
 use Rattle.function_field.specs.Functions.{Equation, RowOver, of_poly, over, IsPolynomial}
 use Rattle.function_field.specs.Values.{PresValue, Functions, functions, function_of, equation_of}
 use Rattle.function_field.proofs.Stages.{row_of_function}
-use Rattle.ff_lattice.specs.Lattices.{LatticeValue, IsLattice, elems_over, InSpanOf, Contains, HasMultipleIn, IsFull, IsSpannedBy}
+use Rattle.ff_lattice.specs.Lattices.{LatticeValue, IsLatticeValue, elems_over, InSpanOf, Contains, HasMultipleInLattice, IsFullLattice, IsSpannedBy}
 use Rattle.ff_lattice.proofs.Normal.{monic_poly, popov_poly}
 use Rattle.ff_lattice.specs.Steps.{IsReducedTo}
 use Rattle.ff_lattice.proofs.Fracs.{over_eq, over_scale}
@@ -90,7 +90,7 @@ module _ (k : CodeField) (p : PresValue) where
   abbrev InSpan : List (Functions k p) → Functions k p → Type 0
   InSpan fs = Span (functions k p).ops (IsPolynomial c) fs
 
-  pub reduced_set : (m : ℕ) (rows : List (List (List ℕ))) (e : List ℕ) (l : LatticeValue) → IsLattice k.ops m l
+  pub reduced_set : (m : ℕ) (rows : List (List (List ℕ))) (e : List ℕ) (l : LatticeValue) → IsLatticeValue k.ops m l
       → IsReducedTo k.ops rows e l → (z : Functions k p) → Contains k p l z ↔ InSpanOf k p (elems_over rows e) z
   reduced_set m rows e l lattice r z =
       let same : map (function_of k p) (elems_over rows e) ≡ map (function_of k p) (elems_over l.rows l.den)
@@ -112,7 +112,7 @@ module _ (k : CodeField) (p : PresValue) where
         (record { numerator = m.numerator; in_rows = h.within m.numerator m.in_rows; is = m.is })
 
     pub same_set : (rows rows' : List (List (List ℕ))) → All (IsRow k.ops p.n) rows → All (IsRow k.ops p.n) rows'
-        → All (All IsPoly) rows → All (All IsPoly) rows' → HaveSameSpan k.ops p.n rows rows'
+        → All (All IsPoly) rows → All (All IsPoly) rows' → HaveSameRowSpan k.ops p.n rows rows'
         → (z : Functions k p) → InSpanOf k p (elems_over rows e) z ↔ InSpanOf k p (elems_over rows' e) z
     same_set rows rows' rows_in rows_in' polys polys' h z =
         let s = same_space k p.n rows rows' rows_in rows_in' (polys_at rows polys) (polys_at rows' polys') h in (
@@ -125,10 +125,10 @@ module _ (k : CodeField) (p : PresValue) where
 
     -- full rank of the rows is that of the set
     pub full_from_rank : (rows : List (List (List ℕ))) → theory.HasFullRank M (read_rows k p.n rows)
-        → IsFull k p (InSpanOf k p (elems_over rows e))
+        → IsFullLattice k p (InSpanOf k p (elems_over rows e))
     full_from_rank rows full = record { multiple = multiple }
       where
-        multiple : (z : Functions k p) → HasMultipleIn k p (InSpanOf k p (elems_over rows e)) z
+        multiple : (z : Functions k p) → HasMultipleInLattice k p (InSpanOf k p (elems_over rows e)) z
         multiple z = record {
           factor = codes_of k factor;
           factor_in = IsOver_codes_of k factor;
@@ -184,10 +184,10 @@ module _ (k : CodeField) (p : PresValue) where
                 moved e q d = sym (S.mul_assoc e q d) ∙ S.mul_comm ((polynomials k).◌⊗◌ e q) d
 
     pub rank_of_full : (rows : List (List (List ℕ))) → All (IsRow k.ops p.n) rows
-        → IsFull k p (InSpanOf k p (elems_over rows e)) → codes.HasFullRank k.ops p.n rows
+        → IsFullLattice k p (InSpanOf k p (elems_over rows e)) → codes.HasFullRankMatrix k.ops p.n rows
     rank_of_full rows rows_in full = record { multiple = multiple }
       where
-        multiple : (v : List (List ℕ)) → IsRow k.ops p.n v → codes.HasMultipleIn k.ops p.n rows v
+        multiple : (v : List (List ℕ)) → IsRow k.ops p.n v → codes.HasMultipleInRows k.ops p.n rows v
         multiple v v_row =
             let z = over c (read_row k n v) (value k e) some in
             let m = full.multiple z in
@@ -211,7 +211,7 @@ module _ (k : CodeField) (p : PresValue) where
             }
 
   -- each function has a multiple in a lattice
-  pub lattice_full : (l : LatticeValue) → 0 < p.n → IsLattice k.ops p.n l → IsFull k p (Contains k p l)
+  pub lattice_full : (l : LatticeValue) → 0 < p.n → IsLatticeValue k.ops p.n l → IsFullLattice k p (Contains k p l)
   lattice_full l positive lattice =
       full_from_rank l.den (monic_value k l.den lattice.den_in lattice.den_poly lattice.monic) l.rows
       (rank_from_full M (code_field k) (read_rows k p.n l.rows) (basis_weak k p.n l.rows lattice.rows_in lattice.popov)
@@ -219,9 +219,9 @@ module _ (k : CodeField) (p : PresValue) where
 
 -- rows, their Popov basis, and the lattice that it makes
 pub rows_spanned : (k : CodeField) (n : ℕ) (rows basis : List (List (List ℕ))) (e : List ℕ) (l : LatticeValue)
-    → All (IsRow k.ops n) rows → All (All IsPoly) rows → All (IsRow k.ops n) basis → IsPopov n basis
-    → HaveSameSpan k.ops n rows basis
-    → IsOver k.ops e → IsMonic e → IsLattice k.ops n l → IsReducedTo k.ops basis e l
+    → All (IsRow k.ops n) rows → All (All IsPoly) rows → All (IsRow k.ops n) basis → IsPopovMatrix n basis
+    → HaveSameRowSpan k.ops n rows basis
+    → IsOver k.ops e → IsMonicList e → IsLatticeValue k.ops n l → IsReducedTo k.ops basis e l
     → IsSpannedBy k n (elems_over rows e) l
 rows_spanned k n rows basis e l rows_in rows_poly basis_in popov same e_in e_monic lattice reduced = record {
   members = λ p n_is z.
@@ -230,7 +230,7 @@ rows_spanned k n rows basis e l rows_in rows_poly basis_in popov same e_in e_mon
       same_set k p e (monic_value k e e_in (monic_poly e e_monic) e_monic) rows basis
       (subst (λ m. All (IsRow k.ops m) rows) (sym n_is) rows_in)
       (subst (λ m. All (IsRow k.ops m) basis) (sym n_is) basis_in) rows_poly (popov_poly n basis popov)
-      (subst (λ m. HaveSameSpan k.ops m rows basis) (sym n_is) same) z in (
+      (subst (λ m. HaveSameRowSpan k.ops m rows basis) (sym n_is) same) z in (
         λ h. sets.1 (reduced_to.0 h),
         λ h. reduced_to.1 (sets.0 h),
       );

@@ -19,7 +19,7 @@ use Rattle.function_field.specs.Functions.{IsPolynomial, of_poly}
 use Rattle.function_field.specs.Values.{ElemValue, PresValue, IsElem, Functions, functions, function_of, equation_of}
 use Rattle.function_field.proofs.ScalarRings.{polynomials_subring}
 use Rattle.function_field.proofs.OnSide.{of_poly_times}
-use Rattle.ff_lattice.specs.Lattices.{LatticeValue, IsLattice, row_elems, elems_over, InSpanOf, IsFull, IsSumOf}
+use Rattle.ff_lattice.specs.Lattices.{LatticeValue, IsLatticeValue, row_elems, elems_over, InSpanOf, IsFullLattice, IsSumOfMembers}
 use Rattle.ff_lattice.proofs.Scaled.{product_length}
 
 pub map_join : {X Y : Type 0} (f : X → Y) (xs ys : List X) → map f (xs ++ ys) ≡ map f xs ++ map f ys
@@ -49,7 +49,7 @@ module _ {A : Type 0} (R : CommRing A) (S : A → Type 0) (𝓢 : IsSubring R.op
       ∙ sym (append_assoc (map (R.◌⊗◌ x) cs) (products R.ops xs cs) (products R.ops ys cs))
 
 -- the rows of a lattice are elements
-pub rows_elems : (k : CodeField) (n : ℕ) (l : LatticeValue) → IsLattice k.ops n l → All (IsElem k.ops n) (row_elems l)
+pub rows_elems : (k : CodeField) (n : ℕ) (l : LatticeValue) → IsLatticeValue k.ops n l → All (IsElem k.ops n) (row_elems l)
 rows_elems k n l lattice = go l.rows lattice.rows_in
   where
     go : (rows : List (List (List ℕ))) → All (IsRow k.ops n) rows → All (IsElem k.ops n) (elems_over rows l.den)
@@ -81,7 +81,7 @@ module _ (k : CodeField) (p : PresValue) where
   abbrev f : ElemValue → Functions k p
   f z = function_of k p z
 
-  pub full_within : (A B : Functions k p → Type 0) → ((z : Functions k p) → A z → B z) → IsFull k p A → IsFull k p B
+  pub full_within : (A B : Functions k p → Type 0) → ((z : Functions k p) → A z → B z) → IsFullLattice k p A → IsFullLattice k p B
   full_within A B h full = record {
     multiple = λ z.
         let m = full.multiple z in
@@ -97,7 +97,7 @@ module _ (k : CodeField) (p : PresValue) where
 
   -- the span of two lists of elements is the set of sums
   pub sum_iff : (xs ys : List ElemValue) (z : Functions k p)
-      → InSpanOf k p (xs ++ ys) z ↔ IsSumOf k p (InSpanOf k p xs) (InSpanOf k p ys) z
+      → InSpanOf k p (xs ++ ys) z ↔ IsSumOfMembers k p (InSpanOf k p xs) (InSpanOf k p ys) z
   sum_iff xs ys z =
       let S = λ (fs : List (Functions k p)). Span F.ops T fs z in (
         λ h.
@@ -111,14 +111,14 @@ module _ (k : CodeField) (p : PresValue) where
             (span_append_right F T 𝓢 (map f xs) (map f ys) h.right h.right_in))),
       )
 
-  pub sum_full : (xs ys : List ElemValue) → IsFull k p (InSpanOf k p xs) → IsFull k p (InSpanOf k p (xs ++ ys))
+  pub sum_full : (xs ys : List ElemValue) → IsFullLattice k p (InSpanOf k p xs) → IsFullLattice k p (InSpanOf k p (xs ++ ys))
   sum_full xs ys =
       full_within (InSpanOf k p xs) (InSpanOf k p (xs ++ ys))
       (λ z h. subst (λ fs. Span F.ops T fs z) (sym (map_join f xs ys))
       (span_append_left F T 𝓢 (map f xs) (map f ys) z h))
 
   -- products of two sets of full rank have full rank
-  pub product_full : (A B : Functions k p → Type 0) → IsFull k p A → IsFull k p B → IsFull k p (Product F.ops A B)
+  pub product_full : (A B : Functions k p → Type 0) → IsFullLattice k p A → IsFullLattice k p B → IsFullLattice k p (Product F.ops A B)
   product_full A B A_full B_full = record {
     multiple = λ z.
         let a = A_full.multiple z in
@@ -169,7 +169,7 @@ module _ (k : CodeField) (p : PresValue) where
       )
 
   pub products_full : (gens xs ys : List ElemValue) → map f gens ≡ products F.ops (map f xs) (map f ys)
-      → IsFull k p (InSpanOf k p xs) → IsFull k p (InSpanOf k p ys) → IsFull k p (InSpanOf k p gens)
+      → IsFullLattice k p (InSpanOf k p xs) → IsFullLattice k p (InSpanOf k p ys) → IsFullLattice k p (InSpanOf k p gens)
   products_full gens xs ys is xs_full ys_full =
       full_within (Product F.ops (InSpanOf k p xs) (InSpanOf k p ys)) (InSpanOf k p gens)
       (λ z h. (product_iff gens xs ys is z).1 h)

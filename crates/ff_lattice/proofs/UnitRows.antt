@@ -7,8 +7,8 @@ use Rattle.std.proofs.lemmas.Bool.{cases_lt}
 use native.Mathlib.Decide.{ℕ_discrete}
 use Rattle.ff_fields.specs.Field.{CodeField}
 use Rattle.ff_poly.specs.Words.{IsPoly}
-use Rattle.ff_poly.specs.Popov.{rows_of, entry_at, row_at, IsRow, IsPivot, IsPopov, pivot_degree, pivot_degree_from}
-use Rattle.ff_lattice.specs.Lattices.{LatticeValue, IsLattice, IsSpannedBy, elems_over}
+use Rattle.ff_poly.specs.Popov.{rows_of, entry_at, row_at, IsRow, IsPivot, IsPopovMatrix, pivot_degree, pivot_degree_from}
+use Rattle.ff_lattice.specs.Lattices.{LatticeValue, IsLatticeValue, IsSpannedBy, elems_over}
 use Rattle.ff_lattice.specs.Steps.{unit_row, IsReducedTo}
 use Rattle.ff_lattice.specs.Units.{unit_rows}
 use Rattle.ff_lattice.proofs.Preimages.{unit_length, unit_over}
@@ -93,7 +93,7 @@ trimmed_at n i j (inr more) d =
     rows_past (r ∷ rows) zero le = absurd (omega (arith, le))
     rows_past (r ∷ rows) (suc i) le = rows_past rows i (omega (arith, le))
 
-pub unit_popov : (n : ℕ) → IsPopov n (unit_rows n n)
+pub unit_popov : (n : ℕ) → IsPopovMatrix n (unit_rows n n)
 unit_popov n = record {
   size = unit_rows_length n n;
   pivot_at = λ i less. subst (λ r. IsPivot r i) (sym (unit_rows_at n n i less)) (unit_pivot n i less);
@@ -142,7 +142,7 @@ unit_rows_in k n i d less =
 
 -- what brings them to the least denominator keeps the members
 pub units_spanned : (k : CodeField) (n : ℕ) (rows : List (List (List ℕ))) (l : LatticeValue) → rows ≡ unit_rows n n
-    → IsLattice k.ops n l → IsReducedTo k.ops rows (1 ∷ []) l → IsSpannedBy k n (elems_over (unit_rows n n) (1 ∷ [])) l
+    → IsLatticeValue k.ops n l → IsReducedTo k.ops rows (1 ∷ []) l → IsSpannedBy k n (elems_over (unit_rows n n) (1 ∷ [])) l
 units_spanned k n rows l rows_are form reduced = record {
   members = λ p n_is z.
       reduced_set k p n (unit_rows n n) (1 ∷ []) l form (subst (λ vs. IsReducedTo k.ops vs (1 ∷ []) l) rows_are reduced)

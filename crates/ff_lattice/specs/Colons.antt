@@ -3,7 +3,7 @@
 use Rattle.std.specs.Prelude.{ℕ, ◌↔◌, List, [], replicate, slice_set, All}
 use Rattle.ff_fields.specs.Field.{CodeField}
 use Rattle.ff_poly.specs.Words.{IsPoly}
-use Rattle.ff_poly.specs.Popov.{IsRow, IsPopov, InSpan, combination}
+use Rattle.ff_poly.specs.Popov.{IsRow, IsPopovMatrix, InRowSpan, combination}
 use Rattle.function_field.specs.Values.{ElemValue, PresValue, Functions, functions, function_of}
 use Rattle.ff_lattice.specs.Lattices.{LatticeValue, Contains}
 
@@ -19,8 +19,8 @@ one_row n den = slice_set (replicate n []) 0 den
 pub record IsKept (k : CodeField) (p : PresValue) (l : LatticeValue) (w : ElemValue) (a : LatticeValue)
     (basis : List (List (List ℕ))) : Type 0 where
   pub rows_in : All (IsRow k.ops p.n) basis
-  pub popov : IsPopov p.n basis
+  pub popov : IsPopovMatrix p.n basis
   pub members : (c : List (List ℕ)) → IsRow k.ops p.n c → All IsPoly c
-      → InSpan k.ops p.n basis c
+      → InRowSpan k.ops p.n basis c
       ↔ Contains k p a ((functions k p).◌⊗◌ (function_of k p w)
       (function_of k p (record { num = combination k.ops p.n c l.rows; den = l.den })))

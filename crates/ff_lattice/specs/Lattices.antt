@@ -4,8 +4,8 @@ use Rattle.std.specs.Prelude.{◌≡◌, ℕ, ◌≤◌, ◌*◌, ◌-◌, ◌�
 use Rattle.ring_theory.specs.Subsets.{Span}
 use Rattle.ff_fields.specs.Field.{FieldOps, CodeField}
 use Rattle.ff_fields.specs.Over.{IsOver}
-use Rattle.ff_poly.specs.Words.{IsPoly, IsMonic, DividesList, product_of}
-use Rattle.ff_poly.specs.Popov.{IsRow, IsPopov, pivot_degree}
+use Rattle.ff_poly.specs.Words.{IsPoly, IsMonicList, DividesList, product_of}
+use Rattle.ff_poly.specs.Popov.{IsRow, IsPopovMatrix, pivot_degree}
 use Rattle.ff_poly.specs.Value.{value}
 use Rattle.function_field.specs.Functions.{IsPolynomial, of_poly}
 use Rattle.function_field.specs.Values.{ElemValue, PresValue, Functions, functions, function_of, equation_of}
@@ -28,9 +28,9 @@ pivot_degree_of l = pos (pivot_degree l.rows) -ℤ pos (length l.rows * (length 
 
 -- a Popov basis over a monic polynomial
 pub record IsForm (l : LatticeValue) : Type 0 where
-  pub popov : IsPopov (length l.rows) l.rows
+  pub popov : IsPopovMatrix (length l.rows) l.rows
   pub den_poly : IsPoly l.den
-  pub monic : IsMonic l.den
+  pub monic : IsMonicList l.den
 
 -- e times each entry of the rows is a multiple of the denominator, so that e times each row over it is a row of
 -- polynomials
@@ -38,13 +38,13 @@ pub record IsMultiplier (k : FieldOps) (rows : List (List (List ℕ))) (den e : 
   pub each : All (λ row. All (λ v. DividesList k den (product_of k e v)) row) rows
 
 -- the form of a lattice of rank n: a Popov basis of n rows over the monic denominator of least degree
-pub record IsLattice (k : FieldOps) (n : ℕ) (l : LatticeValue) : Type 0 where
+pub record IsLatticeValue (k : FieldOps) (n : ℕ) (l : LatticeValue) : Type 0 where
   pub rows_in : All (IsRow k n) l.rows
-  pub popov : IsPopov n l.rows
+  pub popov : IsPopovMatrix n l.rows
   pub den_in : IsOver k l.den
   pub den_poly : IsPoly l.den
-  pub monic : IsMonic l.den
-  pub least : (e : List ℕ) → IsOver k e → IsMonic e → IsMultiplier k l.rows l.den e → length l.den ≤ length e
+  pub monic : IsMonicList l.den
+  pub least : (e : List ℕ) → IsOver k e → IsMonicList e → IsMultiplier k l.rows l.den e → length l.den ≤ length e
 
 module _ (k : CodeField) (p : PresValue) where
   -- z is a combination over k[x] of the functions of these elements
@@ -56,7 +56,7 @@ module _ (k : CodeField) (p : PresValue) where
   Contains l = InSpanOf (row_elems l)
 
   -- a multiple of z by a polynomial other than 0 is in the set
-  pub record HasMultipleIn (L : Functions k p → Type 0) (z : Functions k p) : Type 0 where
+  pub record HasMultipleInLattice (L : Functions k p → Type 0) (z : Functions k p) : Type 0 where
     pub factor : List ℕ
     pub factor_in : IsOver k.ops factor
     pub factor_poly : IsPoly factor
@@ -64,15 +64,15 @@ module _ (k : CodeField) (p : PresValue) where
     pub is_in : L ((functions k p).◌⊗◌ (of_poly (equation_of k p) (value k factor)) z)
 
   -- the rank is n: each function has a multiple in the set
-  pub record IsFull (L : Functions k p → Type 0) : Type 0 where
-    pub multiple : (z : Functions k p) → HasMultipleIn L z
+  pub record IsFullLattice (L : Functions k p → Type 0) : Type 0 where
+    pub multiple : (z : Functions k p) → HasMultipleInLattice L z
 
 -- the lattice contains the combinations of these elements, over each presentation of degree n
 pub record IsSpannedBy (k : CodeField) (n : ℕ) (zs : List ElemValue) (l : LatticeValue) : Type 0 where
   pub members : (p : PresValue) → p.n ≡ n → (z : Functions k p) → Contains k p l z ↔ InSpanOf k p zs z
 
 -- z is the sum of a member of each set
-pub record IsSumOf (k : CodeField) (p : PresValue) (A B : Functions k p → Type 0) (z : Functions k p) : Type 0 where
+pub record IsSumOfMembers (k : CodeField) (p : PresValue) (A B : Functions k p → Type 0) (z : Functions k p) : Type 0 where
   pub left : Functions k p
   pub left_in : A left
   pub right : Functions k p

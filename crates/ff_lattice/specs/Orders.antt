@@ -3,12 +3,12 @@
 use Rattle.std.specs.Prelude.{All}
 use Rattle.ff_fields.specs.Field.{CodeField}
 use Rattle.function_field.specs.Values.{PresValue, Functions, functions, function_of}
-use Rattle.ff_lattice.specs.Lattices.{LatticeValue, IsLattice, Contains, row_elems}
+use Rattle.ff_lattice.specs.Lattices.{LatticeValue, IsLatticeValue, Contains, row_elems}
 
 module _ (k : CodeField) (p : PresValue) where
   -- a lattice that contains 1 and the product of each two members
   pub record IsOrderLattice (l : LatticeValue) : Type 0 where
-    pub lattice : IsLattice k.ops p.n l
+    pub lattice : IsLatticeValue k.ops p.n l
     pub one_in : Contains k p l (functions k p).𝟙
     pub product_in : (u v : Functions k p) → Contains k p l u → Contains k p l v
         → Contains k p l ((functions k p).◌⊗◌ u v)

@@ -36,12 +36,12 @@ module _ (n : ℕ) (order ideal : List (List (List ℕ))) where
   lift_power rows e = suc (e / n) - pivot_length rows (e % n)
 
   -- the code at the position
-  abbrev pub code_at : List (List ℕ) → ℕ → ℕ
-  code_at v e = get_or (entry_at v (e % n)) (e / n) 0
+  abbrev pub code_at_position : List (List ℕ) → ℕ → ℕ
+  code_at_position v e = get_or (entry_at v (e % n)) (e / n) 0
 
   -- v less the multiple of the row of the column that ends at the position as v does
   abbrev pub cleared : FieldOps → List (List (List ℕ)) → ℕ → List (List ℕ) → List (List ℕ)
-  cleared k rows e v = row_less k v (code_at v e) (lift_power rows e) (row_at rows (e % n))
+  cleared k rows e v = row_less k v (code_at_position v e) (lift_power rows e) (row_at rows (e % n))
 
   -- how many positions below e have a code
   abbrev pub code_count : ℕ → ℕ
@@ -53,7 +53,7 @@ module _ (n : ℕ) (order ideal : List (List (List ℕ))) where
   codes_below k zero v = []
   codes_below k (suc e) v =
       cond (is_outside e) (codes_below k e v)
-      (cond (is_kept e) (code_at v e ∷ codes_below k e (cleared k order e v)) (codes_below k e (cleared k ideal e v)))
+      (cond (is_kept e) (code_at_position v e ∷ codes_below k e (cleared k order e v)) (codes_below k e (cleared k ideal e v)))
 
   -- the sum of what the codes stand for, each with the power of x and the column of its position
   abbrev pub sum_of_codes : {V : Type 0} → (V → V → V) → V → (ℕ → ℕ → ℕ → V) → ℕ → List ℕ → V

@@ -4,10 +4,10 @@ use Rattle.ring_lemmas.specs.Lists.{add_lists}
 use Rattle.ff_fields.specs.Field.{FieldOps, CodeField}
 use Rattle.ff_fields.specs.Code.{raw_ring}
 use Rattle.ff_poly.specs.Words.{IsPoly}
-use Rattle.ff_poly.specs.Popov.{row_at, longest, IsRow, IsPopov}
+use Rattle.ff_poly.specs.Popov.{row_at, longest, IsRow, IsPopovMatrix}
 use Rattle.function_field.specs.Values.{ElemValue, PresValue, IsPresOver, Functions, functions, function_of}
 use Rattle.ff_falg.specs.Algebras.{AlgebraOps, IsAlgebra, IsVector}
-use Rattle.ff_lattice.specs.Lattices.{LatticeValue, IsLattice, Contains, InSpanOf, elems_over}
+use Rattle.ff_lattice.specs.Lattices.{LatticeValue, IsLatticeValue, Contains, InSpanOf, elems_over}
 use Rattle.ff_lattice.specs.Orders.{IsOrderLattice}
 use Rattle.ff_lattice.specs.PositionLists.{IsDeepest, code_count, codes_below, spread_onto}
 
@@ -46,8 +46,8 @@ module _ (k : FieldOps) (q : QuotientValue) where
   product_codes a b = codes_of_row (spread (map (λ rows. spread rows b) q.products) a)
 
 -- the quotient as an algebra
-abbrev pub quotient_ops : QuotientValue → AlgebraOps
-quotient_ops q = record { size = dimension q; unit = q.one; product = λ k a b. product_codes k q a b }
+abbrev pub class_algebra : QuotientValue → AlgebraOps
+class_algebra q = record { size = dimension q; unit = q.one; product = λ k a b. product_codes k q a b }
 
 -- the codes a stand for z: it differs from what they are lifted to by a member of the ideal
 pub record IsClassOf (k : CodeField) (q : QuotientValue) (z : Functions k q.p) (a : List ℕ) : Type 0 where
@@ -57,7 +57,7 @@ pub record IsClassOf (k : CodeField) (q : QuotientValue) (z : Functions k q.p) (
 
 -- the ideal lies in the order and is closed under multiplication by it
 pub record IsIdealLattice (k : CodeField) (p : PresValue) (order ideal : LatticeValue) : Type 0 where
-  pub lattice : IsLattice k.ops p.n ideal
+  pub lattice : IsLatticeValue k.ops p.n ideal
   pub within : (z : Functions k p) → Contains k p ideal z → Contains k p order z
   pub closed : (u v : Functions k p) → Contains k p order u → Contains k p ideal v
       → Contains k p ideal ((functions k p).◌⊗◌ u v)
@@ -104,7 +104,7 @@ pub record IsFrame (k : CodeField) (q : QuotientValue) : Type 0 where
   pub order : IsOrderLattice k q.p q.order
   pub ideal : IsIdealLattice k q.p q.order q.ideal
   pub rows_in : All (IsRow k.ops q.p.n) q.rows
-  pub rows_popov : IsPopov q.p.n q.rows
+  pub rows_popov : IsPopovMatrix q.p.n q.rows
   pub rows_are : (z : Functions k q.p) → Contains k q.p q.ideal z ↔ InSpanOf k q.p (elems_over q.rows q.order.den) z
   pub deep : IsDeepest q.rows q.p.n q.depth
   pub products_size : length q.products ≡ q.p.n
@@ -130,7 +130,7 @@ pub record IsQuotient (k : CodeField) (q : QuotientValue) : Type 0 where
 -- the same, and that it is an algebra over the field (which `quotient_law` says of each that was made)
 pub record IsQuotientOver (k : CodeField) (q : QuotientValue) : Type 0 where
   pub quotient : IsQuotient k q
-  pub algebra : IsAlgebra k (quotient_ops q)
+  pub algebra : IsAlgebra k (class_algebra q)
 
 -- taking classes: each has one list of codes, and sums, products, 1 and the ideal go to sums, products, the unit and 0
 pub record HasClasses (k : CodeField) (q : QuotientValue) : Type 0 where

@@ -2,8 +2,8 @@
 use Rattle.std.specs.Prelude.{◌≡◌, ℕ, zero, suc, ◌+◌, ◌-◌, ◌<◌, ◌≤◌, ◌↔◌, List, [], ◌∷◌, ◌++◌, length, get_or, map, replicate, take, slice_set, All}
 use Rattle.ff_fields.specs.Field.{FieldOps}
 use Rattle.ff_fields.specs.Over.{IsOver}
-use Rattle.ff_poly.specs.Words.{IsPoly, IsMonic, DividesList, product_of, shifted}
-use Rattle.ff_poly.specs.Popov.{entry_at, row_at, IsRow, IsPopov, InSpan, HasMultipleIn, combination, multiple_of_row}
+use Rattle.ff_poly.specs.Words.{IsPoly, IsMonicList, DividesList, product_of, shifted}
+use Rattle.ff_poly.specs.Popov.{entry_at, row_at, IsRow, IsPopovMatrix, InRowSpan, HasMultipleInRows, combination, multiple_of_row}
 use Rattle.function_field.specs.Values.{ElemValue}
 use Rattle.ff_lattice.specs.Lattices.{LatticeValue, IsMultiplier}
 
@@ -37,27 +37,27 @@ corner n rows = map (take n) (take n rows)
 -- the Popov basis of the rows z of n polynomials for which z·m is in the lattice of the rows ls
 pub record IsPreimage (k : FieldOps) (n width : ℕ) (m ls basis : List (List (List ℕ))) : Type 0 where
   pub rows_in : All (IsRow k n) basis
-  pub popov : IsPopov n basis
+  pub popov : IsPopovMatrix n basis
   pub members : (z : List (List ℕ)) → IsRow k n z → All IsPoly z
-      → InSpan k n basis z ↔ InSpan k width ls (combination k width z m)
+      → InRowSpan k n basis z ↔ InRowSpan k width ls (combination k width z m)
 
 -- each row of the width has a multiple in the lattice of the rows by a polynomial other than 0 of at most this length
 pub record HasShortMultiples (k : FieldOps) (width : ℕ) (rows : List (List (List ℕ))) (bound : ℕ) : Type 0 where
-  pub multiple : (v : List (List ℕ)) → IsRow k width v → HasMultipleIn k width rows v
+  pub multiple : (v : List (List ℕ)) → IsRow k width v → HasMultipleInRows k width rows v
   pub short : (v : List (List ℕ)) (row : IsRow k width v) → length (multiple v row).factor ≤ bound
 
 -- the monic polynomial whose multiples are the polynomials u for which e divides u·v
 pub record IsAnnihilator (k : FieldOps) (e v h : List ℕ) : Type 0 where
   pub over : IsOver k h
   pub poly : IsPoly h
-  pub monic : IsMonic h
+  pub monic : IsMonicList h
   pub divides : (u : List ℕ) → IsOver k u → IsPoly u → DividesList k h u ↔ DividesList k e (product_of k u v)
 
 -- monic, and its multiples are those of h with a property
 pub record IsNext (k : FieldOps) (h : List ℕ) (T : List ℕ → Type 0) (next : List ℕ) : Type 0 where
   pub over : IsOver k next
   pub poly : IsPoly next
-  pub monic : IsMonic next
+  pub monic : IsMonicList next
   pub divides : (u : List ℕ) → IsOver k u → IsPoly u → DividesList k next u ↔ (DividesList k h u × T u)
 
 -- u times each entry of the row is a multiple of e
@@ -68,7 +68,7 @@ IsRowMultiplier k e row u = All (λ v. DividesList k e (product_of k u v)) row
 pub record IsLeastMultiplier (k : FieldOps) (rows : List (List (List ℕ))) (e h : List ℕ) : Type 0 where
   pub over : IsOver k h
   pub poly : IsPoly h
-  pub monic : IsMonic h
+  pub monic : IsMonicList h
   pub divides : (u : List ℕ) → IsOver k u → IsPoly u → DividesList k h u ↔ IsMultiplier k rows e u
 
 -- g times each entry is the row
@@ -88,14 +88,14 @@ pub record IsReducedTo (k : FieldOps) (rows : List (List (List ℕ))) (e : List 
   pub factor : List ℕ
   pub factor_in : IsOver k factor
   pub factor_poly : IsPoly factor
-  pub factor_monic : IsMonic factor
+  pub factor_monic : IsMonicList factor
   pub den_is : e ≡ product_of k factor l.den
   pub rows_are : map (multiple_of_row k factor) l.rows ≡ rows
 
 -- monic, and a multiple of both
 pub record IsCommonMultiple (k : FieldOps) (e d m : List ℕ) : Type 0 where
   pub over : IsOver k m
-  pub monic : IsMonic m
+  pub monic : IsMonicList m
   pub of_first : DividesList k e m
   pub of_second : DividesList k d m
 

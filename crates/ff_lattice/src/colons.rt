@@ -2,12 +2,12 @@
 
 ghost use Rattle.std.specs.Prelude.{◌≡◌, ◌≢◌, ◌↔◌, ◌≤◌, ◌<◌, length, map, All, IfOk};
 ghost use Rattle.ff_fields.specs.Over.{IsOver};
-ghost use Rattle.ff_poly.specs.Words.{IsPoly, IsMonic};
+ghost use Rattle.ff_poly.specs.Words.{IsPoly, IsMonicList};
 ghost use Rattle.ff_poly.specs.Value.{value};
-ghost use Rattle.ff_poly.specs.Popov.{rows_of, IsRow, IsPopov, sum_of_rows, multiple_of_row, combination};
+ghost use Rattle.ff_poly.specs.Popov.{rows_of, IsRow, IsPopovMatrix, sum_of_rows, multiple_of_row, combination};
 ghost use Rattle.function_field.specs.Functions.{of_poly};
 ghost use Rattle.function_field.specs.Values.{PresValue, IsPresOver, IsElem, Functions, functions, function_of, equation_of};
-ghost use Rattle.ff_lattice.specs.Lattices.{LatticeValue, IsLattice, Contains, row_elems};
+ghost use Rattle.ff_lattice.specs.Lattices.{LatticeValue, IsLatticeValue, Contains, row_elems};
 ghost use Rattle.ff_lattice.specs.Colons.{IsColon, IsKept, one_row};
 
 use crate::generators::{common_denominator, numerators};
@@ -97,9 +97,9 @@ fn kept_coefficients<K: SmallField>(
     a: &Lattice,
 ) -> Result<Vec<Vec<Poly>>, AllocError>
     requires p_in { IsPresOver (K.field k.now).ops p.now }
-    requires l_form { IsLattice (K.field k.now).ops p.now.n l.now }
+    requires l_form { IsLatticeValue (K.field k.now).ops p.now.n l.now }
     requires w_in { IsElem (K.field k.now).ops p.now.n w.now }
-    requires a_form { IsLattice (K.field k.now).ops p.now.n a.now }
+    requires a_form { IsLatticeValue (K.field k.now).ops p.now.n a.now }
     ensures { IfOk result (λ basis. IsKept (K.field k.now) p.now l.now w.now a.now (rows_of basis.items)) }
 {
     let mut gens = Vec::with_capacity(alloc, p.n())?;
@@ -121,10 +121,10 @@ fn restricted<K: SmallField>(
     a: &Lattice,
 ) -> Result<Lattice, AllocError>
     requires p_in { IsPresOver (K.field k.now).ops p.now }
-    requires l_form { IsLattice (K.field k.now).ops p.now.n l.now }
+    requires l_form { IsLatticeValue (K.field k.now).ops p.now.n l.now }
     requires w_in { IsElem (K.field k.now).ops p.now.n w.now }
-    requires a_form { IsLattice (K.field k.now).ops p.now.n a.now }
-    ensures form { IfOk result (IsLattice (K.field k.now).ops p.now.n) }
+    requires a_form { IsLatticeValue (K.field k.now).ops p.now.n a.now }
+    ensures form { IfOk result (IsLatticeValue (K.field k.now).ops p.now.n) }
     ensures members { let k = K.field k.now in
         IfOk result (λ r. (z : Functions k p.now) →
         Contains k p.now r z
@@ -152,17 +152,18 @@ fn one_row(alloc: Global, den: &Poly, n: usize) -> Result<Vec<Poly>, AllocError>
     Ok(row)
 }
 
-/// A monic polynomial in the lattice.
-fn polynomial_in<K: SmallField>(
+/// A monic polynomial in the lattice, over each presentation of the degree n. It takes the time of a Popov basis of
+/// n + 1 rows.
+pub fn polynomial_in<K: SmallField>(
     alloc: Global,
     k: &K,
     b: &Lattice,
     n: usize,
 ) -> Result<Poly, AllocError>
     requires positive { 0 < n }
-    requires b_form { IsLattice (K.field k.now).ops n b.now }
+    requires b_form { IsLatticeValue (K.field k.now).ops n b.now }
     ensures over { IfOk result (IsOver (K.field k.now).ops) }
-    ensures monic { IfOk result IsMonic }
+    ensures monic { IfOk result IsMonicList }
     ensures inside { let k = K.field k.now in
         IfOk result (λ h.
         (p : PresValue) →
@@ -187,10 +188,10 @@ fn restricted_by_rows<K: SmallField>(
     start: Lattice,
 ) -> Result<Lattice, AllocError>
     requires p_in { IsPresOver (K.field k.now).ops p.now }
-    requires a_form { IsLattice (K.field k.now).ops p.now.n a.now }
-    requires b_form { IsLattice (K.field k.now).ops p.now.n b.now }
-    requires start_form { IsLattice (K.field k.now).ops p.now.n start }
-    ensures form { IfOk result (IsLattice (K.field k.now).ops p.now.n) }
+    requires a_form { IsLatticeValue (K.field k.now).ops p.now.n a.now }
+    requires b_form { IsLatticeValue (K.field k.now).ops p.now.n b.now }
+    requires start_form { IsLatticeValue (K.field k.now).ops p.now.n start }
+    ensures form { IfOk result (IsLatticeValue (K.field k.now).ops p.now.n) }
     ensures members { let k = K.field k.now in
         IfOk result (λ l. (z : Functions k p.now) →
         Contains k p.now l z
@@ -215,9 +216,9 @@ pub fn colon<K: SmallField>(
     b: &Lattice,
 ) -> Result<Lattice, AllocError>
     requires p_in { IsPresOver (K.field k.now).ops p.now }
-    requires a_form { IsLattice (K.field k.now).ops p.now.n a.now }
-    requires b_form { IsLattice (K.field k.now).ops p.now.n b.now }
-    ensures form { IfOk result (IsLattice (K.field k.now).ops p.now.n) }
+    requires a_form { IsLatticeValue (K.field k.now).ops p.now.n a.now }
+    requires b_form { IsLatticeValue (K.field k.now).ops p.now.n b.now }
+    ensures form { IfOk result (IsLatticeValue (K.field k.now).ops p.now.n) }
     ensures members { let k = K.field k.now in
         IfOk result (λ l. (z : Functions k p.now) → Contains k p.now l z ↔ IsColon k p.now a.now b.now z) }
 {

@@ -2,10 +2,10 @@
 
 ghost use Rattle.std.specs.Prelude.{◌≡◌, ◌≢◌, ◌↔◌, ◌≤◌, ◌<◌, [], ◌∷◌, length, All, IfOk, IsTrue};
 ghost use Rattle.ff_fields.specs.Over.{IsOver};
-ghost use Rattle.ff_poly.specs.Words.{IsPoly, IsMonic, DividesList};
+ghost use Rattle.ff_poly.specs.Words.{IsPoly, IsMonicList, DividesList};
 ghost use Rattle.ff_poly.specs.Popov.{rows_of, IsRow};
 ghost use Rattle.function_field.specs.Values.{ElemValue, PresValue, Functions, IsElem};
-ghost use Rattle.ff_lattice.specs.Lattices.{LatticeValue, IsLattice, Contains, InSpanOf, IsFull, IsSpannedBy};
+ghost use Rattle.ff_lattice.specs.Lattices.{LatticeValue, IsLatticeValue, Contains, InSpanOf, IsFullLattice, IsSpannedBy};
 ghost use Rattle.ff_lattice.specs.Steps.{IsCommonMultiple, IsExpanded};
 ghost use Rattle.ff_lattice.specs.declared.generators.LatticeFault.{LatticeFault};
 ghost use Rattle.ff_lattice.specs.declared.generators.LatticeFault.TheVariants.{NotFull, Memory};
@@ -54,9 +54,9 @@ fn common_multiple<K: SmallField>(
     d: &Poly,
 ) -> Result<Poly, AllocError>
     requires e_in { IsOver (K.field k.now).ops e }
-    requires e_monic { IsMonic e }
+    requires e_monic { IsMonicList e }
     requires d_in { IsOver (K.field k.now).ops d.now }
-    requires d_monic { IsMonic d.now }
+    requires d_monic { IsMonicList d.now }
     ensures { IfOk result (IsCommonMultiple (K.field k.now).ops e d.now) }
 {
     if divides(alloc, k, d, &e)? {
@@ -75,7 +75,7 @@ pub(crate) fn common_denominator<K: SmallField>(
 ) -> Result<Poly, AllocError>
     requires { All (IsElem (K.field k.now).ops n) gens.now }
     ensures over { IfOk result (IsOver (K.field k.now).ops) }
-    ensures monic { IfOk result IsMonic }
+    ensures monic { IfOk result IsMonicList }
     ensures divides { IfOk result (λ e. All (λ z. DividesList (K.field k.now).ops z.den e) gens.now) }
 {
     let mut e = Poly::one(alloc)?;
@@ -95,7 +95,7 @@ pub(crate) fn numerators<K: SmallField>(
 ) -> Result<Vec<Vec<Poly>>, AllocError>
     requires gens_in { All (IsElem (K.field k.now).ops n) gens.now }
     requires e_in { IsOver (K.field k.now).ops e.now }
-    requires e_monic { IsMonic e.now }
+    requires e_monic { IsMonicList e.now }
     requires divides { All (λ z. DividesList (K.field k.now).ops z.den e.now) gens.now }
     ensures { IfOk result (λ rows. IsExpanded (K.field k.now).ops n e.now gens.now (rows_of rows.items)) }
 {
@@ -119,12 +119,12 @@ impl Lattice {
         gens: &[Elem],
     ) -> Result<Lattice, LatticeFault>
         requires { All (IsElem (K.field k.now).ops p.now.n) gens.now }
-        ensures form { IfOk result (IsLattice (K.field k.now).ops p.now.n) }
+        ensures form { IfOk result (IsLatticeValue (K.field k.now).ops p.now.n) }
         ensures members { let k = K.field k.now in
             IfOk result (λ l. (z : Functions k p.now) → Contains k p.now l z ↔ InSpanOf k p.now gens.now z) }
-        ensures full { let k = K.field k.now in IfOk result (λ l. IsFull k p.now (Contains k p.now l)) }
+        ensures full { let k = K.field k.now in IfOk result (λ l. IsFullLattice k p.now (Contains k p.now l)) }
         ensures not_full { let k = K.field k.now in result ≡ Err NotFull
-            → ¬ IsFull k p.now (InSpanOf k p.now gens.now) }
+            → ¬ IsFullLattice k p.now (InSpanOf k p.now gens.now) }
     {
         let e = common_denominator(alloc, k, gens, p.n())?;
         let rows = numerators(alloc, k, gens, p.n(), &e)?;

@@ -2,7 +2,7 @@
 
 ghost use Rattle.std.specs.Prelude.{◌≡◌, ◌↔◌, ◌≤◌, All, IfOk, IsTrue};
 ghost use Rattle.function_field.specs.Values.{PresValue, IsPresOver, Functions, functions, function_of};
-ghost use Rattle.ff_lattice.specs.Lattices.{LatticeValue, IsLattice, Contains, row_elems};
+ghost use Rattle.ff_lattice.specs.Lattices.{LatticeValue, IsLatticeValue, Contains, row_elems};
 ghost use Rattle.ff_lattice.specs.Orders.{IsOrderLattice, TakesRowsIn};
 ghost use Rattle.ff_lattice.specs.Quotients.{IsIdealLattice};
 
@@ -21,8 +21,8 @@ fn has_rows<K: SmallField>(
     l: &Lattice,
     i: &Lattice,
 ) -> Result<bool, AllocError>
-    requires l_form { IsLattice (K.field k.now).ops p.now.n l.now }
-    requires i_form { IsLattice (K.field k.now).ops p.now.n i.now }
+    requires l_form { IsLatticeValue (K.field k.now).ops p.now.n l.now }
+    requires i_form { IsLatticeValue (K.field k.now).ops p.now.n i.now }
     ensures { let k = K.field k.now in
         IfOk result (λ r. IsTrue r ↔ All (λ w. Contains k p.now l.now (function_of k p.now w)) (row_elems i.now)) }
 {
@@ -44,8 +44,8 @@ fn takes_rows<K: SmallField>(
     i: &Lattice,
 ) -> Result<bool, AllocError>
     requires p_in { IsPresOver (K.field k.now).ops p.now }
-    requires l_form { IsLattice (K.field k.now).ops p.now.n l.now }
-    requires i_form { IsLattice (K.field k.now).ops p.now.n i.now }
+    requires l_form { IsLatticeValue (K.field k.now).ops p.now.n l.now }
+    requires i_form { IsLatticeValue (K.field k.now).ops p.now.n i.now }
     ensures { let k = K.field k.now in
         IfOk result (λ r. IsTrue r ↔ All (λ z. TakesRowsIn k p.now i.now (function_of k p.now z)) (row_elems l.now)) }
 {
@@ -69,7 +69,7 @@ pub fn is_ideal<K: SmallField>(
 ) -> Result<bool, AllocError>
     requires p_in { IsPresOver (K.field k.now).ops p.now }
     requires order { IsOrderLattice (K.field k.now) p.now o.now }
-    requires i_form { IsLattice (K.field k.now).ops p.now.n i.now }
+    requires i_form { IsLatticeValue (K.field k.now).ops p.now.n i.now }
     ensures { IfOk result (λ r. IsTrue r ↔ IsIdealLattice (K.field k.now) p.now o.now i.now) }
 {
     let l = o.lattice();

@@ -2,7 +2,7 @@
 
 ghost use Rattle.std.specs.Prelude.{◌≡◌, ◌↔◌, ◌≤◌, ℕ, pos, ◌-ℤ◌};
 ghost use Rattle.function_field.specs.Values.{PresValue, Functions, equation_of};
-ghost use Rattle.ff_lattice.specs.Lattices.{LatticeValue, IsLattice, Contains, pivot_degree_of};
+ghost use Rattle.ff_lattice.specs.Lattices.{LatticeValue, IsLatticeValue, Contains, pivot_degree_of};
 ghost use Rattle.function_field.specs.Indices.{HasIndex};
 ghost use Rattle.ff_lattice.specs.Quotients.{QuotientValue, IsQuotient, dimension};
 
@@ -14,8 +14,8 @@ use ff_fields::field::SmallField;
 /// The dimension over k of a lattice modulo a smaller one is the difference of their pivot degrees, and no other
 /// number. Where the pivot degrees are the same, so are the lattices.
 pub fn index_law<K: SmallField>(k: &K, p: &Pres, a: &Lattice, b: &Lattice)
-    requires a_form { IsLattice (K.field k.now).ops p.now.n a.now }
-    requires b_form { IsLattice (K.field k.now).ops p.now.n b.now }
+    requires a_form { IsLatticeValue (K.field k.now).ops p.now.n a.now }
+    requires b_form { IsLatticeValue (K.field k.now).ops p.now.n b.now }
     requires positive { 1 ≤ p.now.n }
     requires within { let k = K.field k.now in (z : Functions k p.now) → Contains k p.now a.now z
         → Contains k p.now b.now z }

@@ -3,10 +3,10 @@
 ghost use Rattle.std.specs.Prelude.{◌≡◌, ◌≢◌, ℕ, ◌<◌, ◌≤◌, length, All, IfOk, IfSome, MatchOption, slice_get, Some};
 ghost use Rattle.ff_fields.specs.Field.{FieldOps};
 ghost use Rattle.ff_fields.specs.Over.{IsOver};
-ghost use Rattle.ff_poly.specs.Words.{IsPoly, IsMonic};
-ghost use Rattle.ff_poly.specs.Popov.{rows_of, IsRow, IsPopov, HasFullRank};
+ghost use Rattle.ff_poly.specs.Words.{IsPoly, IsMonicList};
+ghost use Rattle.ff_poly.specs.Popov.{rows_of, IsRow, IsPopovMatrix, HasFullRankMatrix};
 ghost use Rattle.function_field.specs.Values.{IsElem, IsMonicElem};
-ghost use Rattle.ff_lattice.specs.Lattices.{LatticeValue, IsForm, IsLattice, IsSpannedBy, elems_over, row_elems};
+ghost use Rattle.ff_lattice.specs.Lattices.{LatticeValue, IsForm, IsLatticeValue, IsSpannedBy, elems_over, row_elems};
 ghost use Rattle.ff_lattice.specs.Steps.{IsReducedTo};
 
 use crate::denominators::{exact_quotient, quotient_rows};
@@ -66,7 +66,7 @@ impl Lattice {
     pub fn row(&self, alloc: Global, i: usize) -> Result<Elem, AllocError>
         requires { i < length self.now.rows }
         ensures row { IfOk result (λ z. slice_get (row_elems self.now) i ≡ Some z) }
-        ensures in_range { IfOk result (λ z. (k : FieldOps) (n : ℕ) → IsLattice k n self.now → IsElem k n z) }
+        ensures in_range { IfOk result (λ z. (k : FieldOps) (n : ℕ) → IsLatticeValue k n self.now → IsElem k n z) }
         ensures monic { IfOk result IsMonicElem }
     {
         let num = copy_row(alloc, &self.rows[i])?;
@@ -93,10 +93,10 @@ pub(crate) fn normalized<K: SmallField>(
     e: &Poly,
 ) -> Result<Lattice, AllocError>
     requires rows_in { All (IsRow (K.field k.now).ops n) (rows_of rows.now) }
-    requires popov { IsPopov n (rows_of rows.now) }
+    requires popov { IsPopovMatrix n (rows_of rows.now) }
     requires e_in { IsOver (K.field k.now).ops e.now }
-    requires e_monic { IsMonic e.now }
-    ensures form { IfOk result (IsLattice (K.field k.now).ops n) }
+    requires e_monic { IsMonicList e.now }
+    ensures form { IfOk result (IsLatticeValue (K.field k.now).ops n) }
     ensures reduced { IfOk result (IsReducedTo (K.field k.now).ops (rows_of rows.now) e.now) }
 {
     let den = least_multiplier(alloc, k, rows, n, e)?;
@@ -117,9 +117,9 @@ pub(crate) fn from_rows<K: SmallField>(
     requires rows_in { All (IsRow (K.field k.now).ops n) (rows_of rows.items) }
     requires rows_poly { All (All IsPoly) (rows_of rows.items) }
     requires e_in { IsOver (K.field k.now).ops e.now }
-    requires e_monic { IsMonic e.now }
-    ensures form { IfOk result (λ found. MatchOption found (¬ HasFullRank (K.field k.now).ops n (rows_of rows.items))
-        (IsLattice (K.field k.now).ops n)) }
+    requires e_monic { IsMonicList e.now }
+    ensures form { IfOk result (λ found. MatchOption found (¬ HasFullRankMatrix (K.field k.now).ops n (rows_of rows.items))
+        (IsLatticeValue (K.field k.now).ops n)) }
     ensures members { IfOk result (λ found. IfSome found
         (IsSpannedBy (K.field k.now) n (elems_over (rows_of rows.items) e.now))) }
 {

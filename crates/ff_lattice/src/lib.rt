@@ -43,7 +43,7 @@ mod rows;
 pub mod sets;
 pub mod unit;
 
-pub use colons::colon;
+pub use colons::{colon, polynomial_in};
 pub use generators::LatticeFault;
 pub use lattice::Lattice;
 pub use multiples::scale;

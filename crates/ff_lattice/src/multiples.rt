@@ -3,7 +3,7 @@
 ghost use Rattle.std.specs.Prelude.{◌≡◌, ◌≢◌, ◌↔◌, ◌≤◌, [], length, IfOk};
 ghost use Rattle.ff_fields.specs.Over.{IsOver};
 ghost use Rattle.function_field.specs.Values.{PresValue, Functions};
-ghost use Rattle.ff_lattice.specs.Lattices.{LatticeValue, IsLattice, Contains, IsScaled};
+ghost use Rattle.ff_lattice.specs.Lattices.{LatticeValue, IsLatticeValue, Contains, IsScaled};
 
 use crate::lattice::{Lattice, from_rows};
 use crate::rows::multiple_rows;
@@ -21,12 +21,12 @@ pub fn scale<K: SmallField>(
     den: &Poly,
 ) -> Result<Lattice, AllocError>
     requires some { 1 ≤ length a.now.rows }
-    requires a_form { IsLattice (K.field k.now).ops (length a.now.rows) a.now }
+    requires a_form { IsLatticeValue (K.field k.now).ops (length a.now.rows) a.now }
     requires num_in { IsOver (K.field k.now).ops num.now }
     requires num_some { num.now ≢ [] }
     requires den_in { IsOver (K.field k.now).ops den.now }
     requires den_some { den.now ≢ [] }
-    ensures form { IfOk result (IsLattice (K.field k.now).ops (length a.now.rows)) }
+    ensures form { IfOk result (IsLatticeValue (K.field k.now).ops (length a.now.rows)) }
     ensures members { let k = K.field k.now in
         IfOk result (λ l.
         (p : PresValue) →

@@ -8,11 +8,11 @@ ghost use Rattle.std.specs.Prelude.{◌≡◌, ◌≢◌, ◌<◌, ◌≤◌, []
 ghost use Rattle.ff_fields.specs.Code.{raw_ring};
 ghost use Rattle.ff_fields.specs.Over.{IsOver};
 ghost use Rattle.ring_lemmas.specs.Lists.{neg_list};
-ghost use Rattle.ff_poly.specs.Words.{IsPoly, IsMonic, DividesList, product_of, shifted};
+ghost use Rattle.ff_poly.specs.Words.{IsPoly, IsMonicList, DividesList, product_of, shifted};
 ghost use Rattle.ff_poly.specs.Popov.{rows_of, IsRow};
 ghost use Rattle.ff_linalg.specs.Matrix.{HasShape};
 ghost use Rattle.ff_lattice.specs.Steps.{IsAnnihilator, IsNext, IsRowMultiplier, IsLeastMultiplier};
-ghost use Rattle.ff_lattice.specs.Residues.{with_start, IsRest, AreResidues};
+ghost use Rattle.ff_lattice.specs.Residues.{with_start, IsRestModulo, AreResidues};
 
 use ff_fields::field::SmallField;
 use ff_linalg::{Matrix, min_relation};
@@ -37,7 +37,7 @@ fn times_x<K: SmallField>(alloc: Global, k: &K, e: &Poly, v: &Poly) -> Result<Po
     requires e_in { IsOver (K.field k.now).ops e.now }
     requires v_in { IsOver (K.field k.now).ops v.now }
     requires short { length v.now < length e.now }
-    ensures { IfOk result (IsRest (K.field k.now).ops e.now (shifted v.now 1)) }
+    ensures { IfOk result (IsRestModulo (K.field k.now).ops e.now (shifted v.now 1)) }
 {
     let mut rest = poly::shift(alloc, v, 1)?;
     if rest.len() < e.len() {
@@ -128,7 +128,7 @@ fn next_multiplier<K: SmallField>(
     requires e_some { e.now ≢ [] }
     requires h_in { IsOver (K.field k.now).ops h.now }
     requires h_poly { IsPoly h.now }
-    requires h_monic { IsMonic h.now }
+    requires h_monic { IsMonicList h.now }
     requires v_in { IsOver (K.field k.now).ops v.now }
     ensures { let k = (K.field k.now).ops in
         IfOk result (IsNext k h.now (λ u. DividesList k e.now (product_of k u v.now))) }
@@ -152,7 +152,7 @@ fn row_multiplier<K: SmallField>(
     requires row_in { All (IsOver (K.field k.now).ops) row.now }
     requires h_in { IsOver (K.field k.now).ops h }
     requires h_poly { IsPoly h }
-    requires h_monic { IsMonic h }
+    requires h_monic { IsMonicList h }
     ensures { IfOk result (IsNext (K.field k.now).ops h (IsRowMultiplier (K.field k.now).ops e.now row.now)) }
 {
     let mut next = h;

@@ -4,7 +4,7 @@ ghost use Rattle.std.specs.Prelude.{◌≡◌, ◌≢◌, ◌↔◌, ◌≤◌, 
 ghost use Rattle.ring_theory.specs.Subsets.{Product};
 ghost use Rattle.ff_fields.specs.Over.{IsOver};
 ghost use Rattle.function_field.specs.Values.{PresValue, IsPresOver, IsElem, Functions, functions, function_of};
-ghost use Rattle.ff_lattice.specs.Lattices.{LatticeValue, IsLattice, Contains, InSpanOf, IsFull, IsSumOf, row_elems};
+ghost use Rattle.ff_lattice.specs.Lattices.{LatticeValue, IsLatticeValue, Contains, InSpanOf, IsFullLattice, IsSumOfMembers, row_elems};
 
 use crate::generators::LatticeFault;
 use crate::lattice::Lattice;
@@ -21,8 +21,8 @@ pub fn spanned<K: SmallField>(
     gens: &[Elem],
 ) -> Result<Lattice, AllocError>
     requires gens_in { All (IsElem (K.field k.now).ops p.now.n) gens.now }
-    requires full { IsFull (K.field k.now) p.now (InSpanOf (K.field k.now) p.now gens.now) }
-    ensures form { IfOk result (IsLattice (K.field k.now).ops p.now.n) }
+    requires full { IsFullLattice (K.field k.now) p.now (InSpanOf (K.field k.now) p.now gens.now) }
+    ensures form { IfOk result (IsLatticeValue (K.field k.now).ops p.now.n) }
     ensures members { let k = K.field k.now in
         IfOk result (λ l. (z : Functions k p.now) → Contains k p.now l z ↔ InSpanOf k p.now gens.now z) }
 {
@@ -52,12 +52,12 @@ pub fn sum<K: SmallField>(
     a: &Lattice,
     b: &Lattice,
 ) -> Result<Lattice, AllocError>
-    requires a_form { IsLattice (K.field k.now).ops p.now.n a.now }
-    requires b_form { IsLattice (K.field k.now).ops p.now.n b.now }
-    ensures form { IfOk result (IsLattice (K.field k.now).ops p.now.n) }
+    requires a_form { IsLatticeValue (K.field k.now).ops p.now.n a.now }
+    requires b_form { IsLatticeValue (K.field k.now).ops p.now.n b.now }
+    ensures form { IfOk result (IsLatticeValue (K.field k.now).ops p.now.n) }
     ensures members { let k = K.field k.now in
         IfOk result (λ l. (z : Functions k p.now)
-        → Contains k p.now l z ↔ IsSumOf k p.now (Contains k p.now a.now) (Contains k p.now b.now) z) }
+        → Contains k p.now l z ↔ IsSumOfMembers k p.now (Contains k p.now a.now) (Contains k p.now b.now) z) }
 {
     let mut gens = Vec::with_capacity(alloc, 2 * p.n())?;
     push_rows(alloc, &mut gens, a)?;
@@ -77,7 +77,7 @@ pub(crate) fn push_products<K: SmallField>(
     requires p_in { IsPresOver (K.field k.now).ops p.now }
     requires gens_in { All (IsElem (K.field k.now).ops p.now.n) gens.old.items }
     requires z_in { IsElem (K.field k.now).ops p.now.n z.now }
-    requires b_form { IsLattice (K.field k.now).ops p.now.n b.now }
+    requires b_form { IsLatticeValue (K.field k.now).ops p.now.n b.now }
     ensures in_range { OnOk result (All (IsElem (K.field k.now).ops p.now.n) gens.new.items) }
     ensures products { let k = K.field k.now in
         let f = function_of k p.now in
@@ -100,9 +100,9 @@ pub fn product<K: SmallField>(
     b: &Lattice,
 ) -> Result<Lattice, AllocError>
     requires p_in { IsPresOver (K.field k.now).ops p.now }
-    requires a_form { IsLattice (K.field k.now).ops p.now.n a.now }
-    requires b_form { IsLattice (K.field k.now).ops p.now.n b.now }
-    ensures form { IfOk result (IsLattice (K.field k.now).ops p.now.n) }
+    requires a_form { IsLatticeValue (K.field k.now).ops p.now.n a.now }
+    requires b_form { IsLatticeValue (K.field k.now).ops p.now.n b.now }
+    ensures form { IfOk result (IsLatticeValue (K.field k.now).ops p.now.n) }
     ensures members { let k = K.field k.now in
         IfOk result (λ l. (z : Functions k p.now)
         → Contains k p.now l z ↔ Product (functions k p.now).ops (Contains k p.now a.now) (Contains k p.now b.now)

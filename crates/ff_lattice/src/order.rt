@@ -6,7 +6,7 @@ ghost use Rattle.ff_poly.specs.Words.{IsPoly};
 ghost use Rattle.ff_poly.specs.Value.{value};
 ghost use Rattle.function_field.specs.Functions.{of_poly};
 ghost use Rattle.function_field.specs.Values.{PresValue, IsPresOver, IsElem, IsMonicElem, Functions, functions, function_of, equation_of};
-ghost use Rattle.ff_lattice.specs.Lattices.{LatticeValue, IsLattice, Contains, row_elems};
+ghost use Rattle.ff_lattice.specs.Lattices.{LatticeValue, IsLatticeValue, Contains, row_elems};
 ghost use Rattle.ff_lattice.specs.Orders.{IsOrderLattice, IsOrderByRows, TakesRowsIn};
 ghost use Rattle.ff_lattice.specs.Steps.{unit_row};
 
@@ -94,7 +94,7 @@ pub(crate) fn takes_rows_in<K: SmallField>(
     z: &Elem,
 ) -> Result<bool, AllocError>
     requires p_in { IsPresOver (K.field k.now).ops p.now }
-    requires l_form { IsLattice (K.field k.now).ops p.now.n l.now }
+    requires l_form { IsLatticeValue (K.field k.now).ops p.now.n l.now }
     requires z_in { IsElem (K.field k.now).ops p.now.n z.now }
     ensures { let k = K.field k.now in
         IfOk result (λ r. IsTrue r ↔ TakesRowsIn k p.now l.now (function_of k p.now z.now)) }
@@ -117,7 +117,7 @@ fn has_products<K: SmallField>(
     l: &Lattice,
 ) -> Result<bool, AllocError>
     requires p_in { IsPresOver (K.field k.now).ops p.now }
-    requires l_form { IsLattice (K.field k.now).ops p.now.n l.now }
+    requires l_form { IsLatticeValue (K.field k.now).ops p.now.n l.now }
     ensures { let k = K.field k.now in
         IfOk result (λ r. IsTrue r ↔ All (λ z. TakesRowsIn k p.now l.now (function_of k p.now z)) (row_elems l.now)) }
 {
@@ -140,7 +140,7 @@ impl Order {
         l: Lattice,
     ) -> Result<Option<Order>, AllocError>
         requires p_in { IsPresOver (K.field k.now).ops p.now }
-        requires l_form { IsLattice (K.field k.now).ops p.now.n l }
+        requires l_form { IsLatticeValue (K.field k.now).ops p.now.n l }
         ensures decides { IfOk result (λ found. IsSome found ↔ IsOrderLattice (K.field k.now) p.now l) }
         ensures same { IfOk result (λ found. IfSome found (λ o. o ≡ l)) }
     {
@@ -180,6 +180,6 @@ impl Order {
 
 /// A lattice is an order exactly where 1 and the products of its rows are members.
 pub fn order_by_rows<K: SmallField>(k: &K, p: &Pres, l: &Lattice)
-    requires { IsLattice (K.field k.now).ops p.now.n l.now }
+    requires { IsLatticeValue (K.field k.now).ops p.now.n l.now }
     ensures { let k = K.field k.now in IsOrderLattice k p.now l.now ↔ IsOrderByRows k p.now l.now }
 {}

@@ -2,7 +2,7 @@
 
 ghost use Rattle.std.specs.Prelude.{◌≡◌, ◌+◌, ◌-◌, ◌*◌, ◌^◌, ◌<◌, ◌≤◌, ℕ, suc, [], length, get_or, drop, max, replicate, All, IfOk, OnOk};
 ghost use Rattle.ff_fields.specs.Over.{IsOver};
-ghost use Rattle.ff_poly.specs.Popov.{rows_of, entry_at, row_at, longest, IsRow, IsPopov};
+ghost use Rattle.ff_poly.specs.Popov.{rows_of, entry_at, row_at, longest, IsRow, IsPopovMatrix};
 ghost use Rattle.ff_lattice.specs.PositionLists.{pivot_length, row_less, code_count, codes_below, spread_onto, IsDeepest, IsReadDown, IsSpreadDown};
 
 use crate::rows::zero_row;
@@ -66,7 +66,7 @@ fn clear<K: SmallField>(
 ) -> Result<(), AllocError>
     requires row_in { IsRow (K.field k.now).ops (length row.old) row.old }
     requires rows_in { All (IsRow (K.field k.now).ops (length row.old)) (rows_of rows.now) }
-    requires popov { IsPopov (length row.old) (rows_of rows.now) }
+    requires popov { IsPopovMatrix (length row.old) (rows_of rows.now) }
     requires j_in { j < length row.old }
     requires fits { t + 1 < 2 ^ 64 }
     requires reaches { pivot_length (rows_of rows.now) j ≤ t + 1 }
@@ -91,9 +91,9 @@ fn read_position<K: SmallField>(
 ) -> Result<(), AllocError>
     requires row_in { IsRow (K.field k.now).ops (length row.old) row.old }
     requires order_in { All (IsRow (K.field k.now).ops (length row.old)) (rows_of order.now) }
-    requires order_popov { IsPopov (length row.old) (rows_of order.now) }
+    requires order_popov { IsPopovMatrix (length row.old) (rows_of order.now) }
     requires ideal_in { All (IsRow (K.field k.now).ops (length row.old)) (rows_of ideal.now) }
-    requires ideal_popov { IsPopov (length row.old) (rows_of ideal.now) }
+    requires ideal_popov { IsPopovMatrix (length row.old) (rows_of ideal.now) }
     requires j_in { j < length row.old }
     requires fits { t + 1 < 2 ^ 64 }
     ensures { let n = length row.old in
@@ -123,9 +123,9 @@ fn read_degree<K: SmallField>(
 ) -> Result<(), AllocError>
     requires row_in { IsRow (K.field k.now).ops (length row.old) row.old }
     requires order_in { All (IsRow (K.field k.now).ops (length row.old)) (rows_of order.now) }
-    requires order_popov { IsPopov (length row.old) (rows_of order.now) }
+    requires order_popov { IsPopovMatrix (length row.old) (rows_of order.now) }
     requires ideal_in { All (IsRow (K.field k.now).ops (length row.old)) (rows_of ideal.now) }
-    requires ideal_popov { IsPopov (length row.old) (rows_of ideal.now) }
+    requires ideal_popov { IsPopovMatrix (length row.old) (rows_of ideal.now) }
     requires fits { t + 1 < 2 ^ 64 }
     ensures { let n = length row.old in
         OnOk result (IsReadDown (K.field k.now).ops n (rows_of order.now) (rows_of ideal.now) (suc t * n) (t * n)
@@ -163,9 +163,9 @@ pub(crate) fn read_codes<K: SmallField>(
 ) -> Result<Vec<u32>, AllocError>
     requires row_in { IsRow (K.field k.now).ops (length row.old) row.old }
     requires order_in { All (IsRow (K.field k.now).ops (length row.old)) (rows_of order.now) }
-    requires order_popov { IsPopov (length row.old) (rows_of order.now) }
+    requires order_popov { IsPopovMatrix (length row.old) (rows_of order.now) }
     requires ideal_in { All (IsRow (K.field k.now).ops (length row.old)) (rows_of ideal.now) }
-    requires ideal_popov { IsPopov (length row.old) (rows_of ideal.now) }
+    requires ideal_popov { IsPopovMatrix (length row.old) (rows_of ideal.now) }
     ensures { let n = length row.old in
         IfOk result (λ v. v.items ≡ codes_below n (rows_of order.now) (rows_of ideal.now) (K.field k.now).ops
         (max depth (longest row.old) * n) row.old) }

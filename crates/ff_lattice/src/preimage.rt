@@ -1,7 +1,7 @@
 //! The rows of polynomials that a matrix takes into a lattice.
 
 ghost use Rattle.std.specs.Prelude.{◌≡◌, ◌+◌, ◌<◌, ◌≤◌, ◌↔◌, ℕ, [], ◌++◌, length, map, replicate, All, IfOk, MatchOption, OnOk, IsTrue};
-ghost use Rattle.ff_poly.specs.Popov.{rows_of, row_at, entry_at, IsRow, IsPopov};
+ghost use Rattle.ff_poly.specs.Popov.{rows_of, row_at, entry_at, IsRow, IsPopovMatrix};
 ghost use Rattle.ff_lattice.specs.Steps.{lifted, unit_row, IsTwistedRows, IsBesideUnitRows, HasZeroCorner, HasShortMultiples, corner, IsPreimage, pivot_sum};
 
 use crate::positions::longest_entry;
@@ -171,7 +171,7 @@ fn first_power(rows: &[Vec<Poly>], count: usize) -> usize
 /// most so many codes. Where the number is beyond the end of its type the pivots have more codes than memory holds, and
 /// that is a want of memory.
 fn multiples_bound(rows: &[Vec<Poly>]) -> Result<usize, AllocError>
-    requires { IsPopov (length rows.now) (rows_of rows.now) }
+    requires { IsPopovMatrix (length rows.now) (rows_of rows.now) }
     ensures { IfOk result (λ bound. bound ≡ pivot_sum (rows_of rows.now) (length rows.now) + 1) }
 {
     let mut bound: usize = 1;
@@ -248,7 +248,7 @@ pub(crate) fn preimage<K: SmallField>(
     requires positive { 0 < width }
     requires m_in { All (IsRow (K.field k.now).ops width) (rows_of m.now) }
     requires ls_in { All (IsRow (K.field k.now).ops width) (rows_of ls.now) }
-    requires popov { IsPopov width (rows_of ls.now) }
+    requires popov { IsPopovMatrix width (rows_of ls.now) }
     ensures { IfOk result (λ basis.
         IsPreimage (K.field k.now).ops (length m.now) width (rows_of m.now) (rows_of ls.now) (rows_of basis.items)) }
 {

@@ -3,13 +3,13 @@
 ghost use Rattle.std.specs.Prelude.{◌≡◌, ◌↔◌, ◌≤◌, ◌<◌, ◌*◌, [], length, map, replicate, All, IfOk};
 ghost use Rattle.ff_fields.specs.Over.{IsOver};
 ghost use Rattle.ff_poly.specs.Polynomials.{x_poly};
-ghost use Rattle.ff_poly.specs.Popov.{rows_of, IsRow, IsPopov};
+ghost use Rattle.ff_poly.specs.Popov.{rows_of, IsRow, IsPopovMatrix};
 ghost use Rattle.function_field.specs.Functions.{of_poly};
 ghost use Rattle.function_field.specs.Values.{PresValue, IsPres, IsPresOver, Functions, functions, function_of, equation_of, IsElem, IsMonicElem};
 ghost use Rattle.ff_falg.specs.Algebras.{IsVector};
-ghost use Rattle.ff_lattice.specs.Lattices.{LatticeValue, IsLattice, Contains, InSpanOf, elems_over};
+ghost use Rattle.ff_lattice.specs.Lattices.{LatticeValue, IsLatticeValue, Contains, InSpanOf, elems_over};
 ghost use Rattle.ff_lattice.specs.Orders.{IsOrderLattice};
-ghost use Rattle.ff_lattice.specs.Quotients.{QuotientValue, IsQuotient, IsQuotientOver, IsClassOf, IsRowOf, IsRowsOf, IsIdealLattice, AreCodesOf, AreRowProducts, AreProducts, HasClasses, dimension, lifted, quotient_ops, spread};
+ghost use Rattle.ff_lattice.specs.Quotients.{QuotientValue, IsQuotient, IsQuotientOver, IsClassOf, IsRowOf, IsRowsOf, IsIdealLattice, AreCodesOf, AreRowProducts, AreProducts, HasClasses, dimension, lifted, class_algebra, spread};
 
 use crate::denominators::row_quotient;
 use crate::lattice::Lattice;
@@ -76,7 +76,7 @@ fn row_over<K: SmallField>(
     l: &Lattice,
     z: &Elem,
 ) -> Result<Vec<Poly>, AllocError>
-    requires l_form { IsLattice (K.field k.now).ops p.now.n l.now }
+    requires l_form { IsLatticeValue (K.field k.now).ops p.now.n l.now }
     requires z_in { IsElem (K.field k.now).ops p.now.n z.now }
     requires member { let k = K.field k.now in Contains k p.now l.now (function_of k p.now z.now) }
     ensures { let k = K.field k.now in
@@ -95,7 +95,7 @@ fn rows_over<K: SmallField>(
     l: &Lattice,
     zs: &[Elem],
 ) -> Result<Vec<Vec<Poly>>, AllocError>
-    requires l_form { IsLattice (K.field k.now).ops p.now.n l.now }
+    requires l_form { IsLatticeValue (K.field k.now).ops p.now.n l.now }
     requires zs_in { All (IsElem (K.field k.now).ops p.now.n) zs.now }
     requires members { let k = K.field k.now in All (λ z. Contains k p.now l.now (function_of k p.now z)) zs.now }
     ensures { let k = K.field k.now in IfOk result (λ rows. IsRowsOf k p.now l.now zs.now (rows_of rows.items)) }
@@ -118,9 +118,9 @@ fn codes_of<K: SmallField>(
     depth: usize,
     z: &Elem,
 ) -> Result<Vec<u32>, AllocError>
-    requires l_form { IsLattice (K.field k.now).ops p.now.n l.now }
+    requires l_form { IsLatticeValue (K.field k.now).ops p.now.n l.now }
     requires rows_in { All (IsRow (K.field k.now).ops p.now.n) (rows_of rows.now) }
-    requires rows_popov { IsPopov p.now.n (rows_of rows.now) }
+    requires rows_popov { IsPopovMatrix p.now.n (rows_of rows.now) }
     requires z_in { IsElem (K.field k.now).ops p.now.n z.now }
     requires member { let k = K.field k.now in Contains k p.now l.now (function_of k p.now z.now) }
     ensures { let k = K.field k.now in
@@ -142,7 +142,7 @@ fn unit_codes<K: SmallField>(
 ) -> Result<Vec<u32>, AllocError>
     requires order { IsOrderLattice (K.field k.now) p.now l.now }
     requires rows_in { All (IsRow (K.field k.now).ops p.now.n) (rows_of rows.now) }
-    requires rows_popov { IsPopov p.now.n (rows_of rows.now) }
+    requires rows_popov { IsPopovMatrix p.now.n (rows_of rows.now) }
     ensures codes { let k = K.field k.now in
         IfOk result (λ v. AreCodesOf k p.now l.now (rows_of rows.now) depth (functions k p.now).𝟙 v.items) }
     ensures range { IfOk result (λ v. IsPres p.now) }
@@ -159,10 +159,10 @@ fn ideal_basis<K: SmallField>(
     l: &Lattice,
     i: &Lattice,
 ) -> Result<Vec<Vec<Poly>>, AllocError>
-    requires l_form { IsLattice (K.field k.now).ops p.now.n l.now }
+    requires l_form { IsLatticeValue (K.field k.now).ops p.now.n l.now }
     requires ideal { IsIdealLattice (K.field k.now) p.now l.now i.now }
     ensures rows_in { IfOk result (λ rows. All (IsRow (K.field k.now).ops p.now.n) (rows_of rows.items)) }
-    ensures popov { IfOk result (λ rows. IsPopov p.now.n (rows_of rows.items)) }
+    ensures popov { IfOk result (λ rows. IsPopovMatrix p.now.n (rows_of rows.items)) }
     ensures members { let k = K.field k.now in
         IfOk result (λ rows. (z : Functions k p.now)
         → Contains k p.now i.now z ↔ InSpanOf k p.now (elems_over (rows_of rows.items) l.now.den) z) }
@@ -383,7 +383,7 @@ impl Quotient {
 }
 
 impl<K: SmallField> FiniteAlgebra<K> for Quotient {
-    ghost algebra = { quotient_ops };
+    ghost algebra = { class_algebra };
 
     ghost IsOver = { λ q k. IsQuotientOver k q };
 

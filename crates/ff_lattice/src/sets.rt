@@ -3,7 +3,7 @@
 ghost use Rattle.std.specs.Prelude.{◌≡◌, ◌↔◌, ◌≤◌, length, All, IfOk, IsTrue};
 ghost use Rattle.ff_poly.specs.Popov.{rows_of};
 ghost use Rattle.function_field.specs.Values.{PresValue, Functions, IsElem, function_of};
-ghost use Rattle.ff_lattice.specs.Lattices.{LatticeValue, IsLattice, Contains};
+ghost use Rattle.ff_lattice.specs.Lattices.{LatticeValue, IsLatticeValue, Contains};
 
 use crate::lattice::Lattice;
 use crate::rows::{multiple_row, multiple_rows};
@@ -20,7 +20,7 @@ pub fn contains<K: SmallField>(
     a: &Lattice,
     z: &Elem,
 ) -> Result<bool, AllocError>
-    requires a_form { IsLattice (K.field k.now).ops (length a.now.rows) a.now }
+    requires a_form { IsLatticeValue (K.field k.now).ops (length a.now.rows) a.now }
     requires z_in { IsElem (K.field k.now).ops (length a.now.rows) z.now }
     ensures { let k = K.field k.now in
         IfOk result (λ r.
@@ -80,8 +80,8 @@ pub fn same_lattice<K: SmallField>(
     a: &Lattice,
     b: &Lattice,
 ) -> Result<bool, AllocError>
-    requires a_form { IsLattice (K.field k.now).ops (length a.now.rows) a.now }
-    requires b_form { IsLattice (K.field k.now).ops (length a.now.rows) b.now }
+    requires a_form { IsLatticeValue (K.field k.now).ops (length a.now.rows) a.now }
+    requires b_form { IsLatticeValue (K.field k.now).ops (length a.now.rows) b.now }
     ensures equal { IfOk result (λ r. IsTrue r ↔ (a.now ≡ b.now)) }
     ensures sets { let k = K.field k.now in
         IfOk result (λ r.
@@ -95,8 +95,8 @@ pub fn same_lattice<K: SmallField>(
 
 /// Two lattices that are the same set of functions have the same rows and the same denominator.
 pub fn one_lattice<K: SmallField>(k: &K, p: &Pres, a: &Lattice, b: &Lattice)
-    requires a_form { IsLattice (K.field k.now).ops p.now.n a.now }
-    requires b_form { IsLattice (K.field k.now).ops p.now.n b.now }
+    requires a_form { IsLatticeValue (K.field k.now).ops p.now.n a.now }
+    requires b_form { IsLatticeValue (K.field k.now).ops p.now.n b.now }
     requires positive { 1 ≤ p.now.n }
     ensures { let k = K.field k.now in
         ((z : Functions k p.now) → Contains k p.now a.now z ↔ Contains k p.now b.now z) → a.now ≡ b.now }

@@ -2,7 +2,7 @@
 
 ghost use Rattle.std.specs.Prelude.{◌≡◌, [], ◌∷◌, IfOk};
 ghost use Rattle.ff_poly.specs.Popov.{rows_of};
-ghost use Rattle.ff_lattice.specs.Lattices.{IsLattice, IsSpannedBy, elems_over};
+ghost use Rattle.ff_lattice.specs.Lattices.{IsLatticeValue, IsSpannedBy, elems_over};
 ghost use Rattle.ff_lattice.specs.Units.{unit_rows};
 
 use crate::lattice::{Lattice, normalized};
@@ -25,7 +25,7 @@ fn unit_rows(alloc: Global, n: usize) -> Result<Vec<Vec<Poly>>, AllocError>
 /// The lattice of the rows of the unit matrix over 1, which stand for 1, y, up to y^(n-1). It takes the time of the
 /// least denominator of n² constants over 1.
 pub fn unit_lattice<K: SmallField>(alloc: Global, k: &K, n: usize) -> Result<Lattice, AllocError>
-    ensures form { IfOk result (IsLattice (K.field k.now).ops n) }
+    ensures form { IfOk result (IsLatticeValue (K.field k.now).ops n) }
     ensures members { IfOk result (IsSpannedBy (K.field k.now) n (elems_over (unit_rows n n) (1 ∷ []))) }
 {
     let rows = unit_rows(alloc, n)?;

@@ -18,7 +18,7 @@ use Rattle.linear_theory.proofs.EchelonBasis.{cut, coeff_cut, length_cut}
 use Rattle.linear_theory.proofs.Augment.{same_row_space, own_row}
 use Rattle.linear_theory.proofs.SameRows.{reduced_across}
 use Rattle.ff_linalg.specs.Matrix.{MatrixValue, IsMatrixOver}
-use Rattle.ff_linalg.specs.Steps.{entry_at}
+use Rattle.ff_linalg.specs.Steps.{matrix_entry}
 use Rattle.ff_linalg.specs.Forms.{sequences_of, IsReducedBelow, HaveSameSpace}
 use Rattle.ff_linalg.specs.Space.{row_ops, product_of, IsInRowSpace, IsReducedForm}
 use Rattle.ff_linalg.proofs.Reading.{read_zero, read_one, read_same, row_entry, length_sequences, entry_in}
@@ -30,7 +30,7 @@ coeff_raw k (x ∷ xs) zero = refl
 coeff_raw k (x ∷ xs) (suc j) = coeff_raw k xs j
 
 pub raw_entry : (k : FieldOps) (rows : List (List ℕ)) (i j : ℕ)
-    → row (raw_ring k) (rows_of (raw_ring k) rows) i j ≡ entry_at rows i j
+    → row (raw_ring k) (rows_of (raw_ring k) rows) i j ≡ matrix_entry rows i j
 raw_entry k [] i j = refl
 raw_entry k (r ∷ rows) zero j = coeff_raw k r j
 raw_entry k (r ∷ rows) (suc i) j = raw_entry k rows i j
@@ -55,8 +55,8 @@ module _ (k : CodeField) where
     rank_is = r.rank_is;
   }
     where
-      entry : (i j x : ℕ) → x < k.size → read_code k (entry_at m.rows i j) ≡ read_code k x → entry_at m.rows i j ≡ x
-      entry i j x x_in e = read_same k (entry_at m.rows i j) x (entry_in k m.rows i j over) x_in e
+      entry : (i j x : ℕ) → x < k.size → read_code k (matrix_entry m.rows i j) ≡ read_code k x → matrix_entry m.rows i j ≡ x
+      entry i j x x_in e = read_same k (matrix_entry m.rows i j) x (entry_in k m.rows i j over) x_in e
 
   pub codes_of_form : (m : MatrixValue) (rank : ℕ) → IsReducedForm k.ops m rank → IsReducedBelow k m.cols m.rows rank
   codes_of_form m rank r = record {

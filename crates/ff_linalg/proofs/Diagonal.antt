@@ -5,13 +5,13 @@ use Rattle.ring_lemmas.specs.Ring.{CommRing}
 use Rattle.ring_lemmas.proofs.Ring.{mul_zero}
 use Rattle.ring_lemmas.proofs.Sums.{below_single}
 use Rattle.linear_theory.specs.Fields.{Domain}
-use Rattle.linear_theory.specs.Echelon.{row, IsReduced}
+use Rattle.linear_theory.specs.Echelon.{row, IsReducedEchelon}
 use Rattle.ff_linalg.proofs.Columns.{IsCombinedAt, dot_none}
 
 order : (i n : ℕ) → (i < n) ⊎ (n ≤ i)
 order i n = grind arith
 
-module _ {A : Type 0} (D : Domain A) (width : ℕ) (rows : List (ℕ → A)) (r : IsReduced D.ring.ops width rows) (count : ℕ)
+module _ {A : Type 0} (D : Domain A) (width : ℕ) (rows : List (ℕ → A)) (r : IsReducedEchelon D.ring.ops width rows) (count : ℕ)
     (within_rows : count ≤ length rows) (within_cols : count ≤ width)
     (ones : (i : ℕ) → i < count → row D.ring.ops rows i i ≡ D.ring.𝟙) where
   infixl 70 ◌⊗◌

@@ -10,7 +10,7 @@ use Rattle.ring_lemmas.specs.Lists.{coeff_of}
 use Rattle.ring_lemmas.specs.Ring.{CommRing}
 use Rattle.ring_lemmas.proofs.Sums.{below_cong}
 use Rattle.linear_theory.specs.Echelon.{row}
-use Rattle.ff_linalg.specs.Matrix.{MatrixValue, IsMatrixOver, HasShape, first_rows_of, row_of, entry_of}
+use Rattle.ff_linalg.specs.Matrix.{MatrixValue, IsMatrixOver, HasShape, first_rows_of, matrix_row, entry_of}
 use Rattle.ff_linalg.specs.Forms.{sequences_of, IsReducedBelow}
 use Rattle.ff_linalg.specs.Space.{product_of, IsInRowSpace, IsReducedForm, IsSolution, HasIndependentStart, IsFirstRelation}
 use Rattle.ff_linalg.specs.Relations.{IsTransposed, IsDiagonalStart, IsColumnStart}
@@ -54,10 +54,10 @@ module _ (k : CodeField) (a t : MatrixValue) (shape : HasShape a (length a.rows)
       c = coeff_of R.ops (read k v)
 
   here : (r j : ℕ) → r < length a.rows → j < a.cols
-      → coeff_of R.ops (read k (row_of a r)) j ≡ row R.ops (sequences_of k t.rows) j r
+      → coeff_of R.ops (read k (matrix_row a r)) j ≡ row R.ops (sequences_of k t.rows) j r
   here r j l m = sym (row_look k a.rows r j) ∙ column_entry r j l m
 
-  columns_of_solution : (r : ℕ) → r < length a.rows → (v : List ℕ) → IsSolution k.ops (first_rows_of a r) (row_of a r) v
+  columns_of_solution : (r : ℕ) → r < length a.rows → (v : List ℕ) → IsSolution k.ops (first_rows_of a r) (matrix_row a r) v
       → (j : ℕ) → j < length (sequences_of k t.rows)
       → IsCombinedAt R r (coeff_of R.ops (read k v)) (row R.ops (sequences_of k t.rows) j)
   columns_of_solution r within v h j l =
@@ -68,11 +68,11 @@ module _ (k : CodeField) (a t : MatrixValue) (shape : HasShape a (length a.rows)
   solution_of_columns : (r : ℕ) → r < length a.rows → (v : List ℕ) → length v ≡ r → IsOver k.ops v
       → ((j : ℕ) → j < length (sequences_of k t.rows)
       → IsCombinedAt R r (coeff_of R.ops (read k v)) (row R.ops (sequences_of k t.rows) j))
-      → IsSolution k.ops (first_rows_of a r) (row_of a r) v
+      → IsSolution k.ops (first_rows_of a r) (matrix_row a r) v
   solution_of_columns r within v long v_in h = record {
     one_each = long ∙ sym (length-take-le r a.rows (omega arith));
     over = v_in;
-    product = codes_ext k (product_of k.ops v (first_rows_of a r)) (row_of a r)
+    product = codes_ext k (product_of k.ops v (first_rows_of a r)) (matrix_row a r)
         (combination_over k a.cols v (take r a.rows) v_in (All-take (IsOver k.ops) r a.rows a_in.each))
         (a_in.each r [] within)
         (wide ∙ sym (shape.each r [] within)) (λ j l.
@@ -141,7 +141,7 @@ module _ (k : CodeField) (a t : MatrixValue) (shape : HasShape a (length a.rows)
     first_relation v s within =
         record {
           within = omega (arith, within, s.size);
-          relation = subst (λ n. IsSolution k.ops (first_rows_of a n) (row_of a n) v) (sym s.size)
+          relation = subst (λ n. IsSolution k.ops (first_rows_of a n) (matrix_row a n) v) (sym s.size)
               (solution_of_columns count within v s.size v_in
               (of_form count (coeff_of R.ops (read k v)) within
               (dependent_column (domain_of_codes k) m.cols F r.form count within_rows d.within_cols ones

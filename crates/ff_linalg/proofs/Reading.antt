@@ -9,7 +9,7 @@ use Rattle.ff_fields.specs.Code.{code_ring, same_code, read_code, read_code_belo
 use Rattle.ff_fields.specs.Numbers.{read}
 use Rattle.ff_fields.specs.Over.{IsOver, get_or_below}
 use Rattle.linear_theory.specs.Echelon.{row}
-use Rattle.ff_linalg.specs.Steps.{entry_at}
+use Rattle.ff_linalg.specs.Steps.{matrix_entry}
 use Rattle.ff_linalg.specs.Forms.{sequences_of}
 
 module _ (k : CodeField) where
@@ -46,7 +46,7 @@ module _ (k : CodeField) where
 
   -- the entries of the rows as sequences
   pub row_entry : (rows : List (List ℕ)) (i j : ℕ)
-      → row (code_ring k).ops (sequences_of k rows) i j ≡ read_code k (entry_at rows i j)
+      → row (code_ring k).ops (sequences_of k rows) i j ≡ read_code k (matrix_entry rows i j)
   row_entry [] i j = sym read_zero
   row_entry (r ∷ rows) zero j = coeff_read r j
   row_entry (r ∷ rows) (suc i) j = row_entry rows i j
@@ -54,7 +54,7 @@ module _ (k : CodeField) where
   pub length_sequences : (rows : List (List ℕ)) → length (sequences_of k rows) ≡ length rows
   length_sequences rows = length-map (map (read k) rows) (coeff_of (code_ring k).ops) ∙ length-map rows (read k)
 
-  pub entry_in : (rows : List (List ℕ)) (i j : ℕ) → All (IsOver k.ops) rows → entry_at rows i j < k.size
+  pub entry_in : (rows : List (List ℕ)) (i j : ℕ) → All (IsOver k.ops) rows → matrix_entry rows i j < k.size
   entry_in [] i j over = zero_in k
   entry_in (r ∷ rows) zero j over = get_or_below k r j (All-head (IsOver k.ops) r rows over)
   entry_in (r ∷ rows) (suc i) j over = entry_in rows i j (All-tail (IsOver k.ops) r rows over)

@@ -11,10 +11,10 @@ use Rattle.ring_lemmas.specs.Ring.{CommRing}
 use Rattle.ring_lemmas.specs.Lists.{add_lists, scale_list}
 use Rattle.ring_lemmas.proofs.Ring.{neg_mul}
 use Rattle.ring_lemmas.proofs.Lists.{get_or_scale_list, length_scale_list}
-use Rattle.linear_theory.specs.Echelon.{row, IsReduced}
+use Rattle.linear_theory.specs.Echelon.{row, IsReducedEchelon}
 use Rattle.linear_theory.proofs.Elimination.{next, normal, normal_is, from, from_here, from_other, length_next, next_reduced, next_rank, next_same, row_pivot, row_other, skip_column, same_refl}
 use Rattle.linear_theory.proofs.SameRows.{HasEntries, same_of_entries, reduced_of_entries}
-use Rattle.ff_linalg.specs.Steps.{entry_at, normalized, cleared, eliminated}
+use Rattle.ff_linalg.specs.Steps.{matrix_entry, normalized, cleared, eliminated}
 use Rattle.ff_linalg.specs.Forms.{sequences_of, IsReducedBelow, HaveSameSpace, IsEliminationStep}
 use Rattle.ff_linalg.proofs.Reading.{read_zero, read_add, read_mul, read_neg, read_one, read_same, row_entry, length_sequences, entry_in}
 
@@ -118,9 +118,9 @@ add_entry k (x ∷ xs) (y ∷ ys) (suc j) l e = add_entry k xs ys j (omega arith
 -- one column's step, with the row i at the position of the rank
 module _ (k : CodeField) (width : ℕ) (rows : List (List ℕ)) (wide : All (λ r. length r ≡ width) rows)
     (over : All (IsOver k.ops) rows)
-    (c : ℕ) (c_below : c < width) (r : IsReduced (code_ring k).ops c (sequences_of k rows)) (i : ℕ)
+    (c : ℕ) (c_below : c < width) (r : IsReducedEchelon (code_ring k).ops c (sequences_of k rows)) (i : ℕ)
     (i_late : r.rank ≤ i) (i_in : i < length rows)
-    (nonzero : entry_at rows i c ≢ 0) where
+    (nonzero : matrix_entry rows i c ≢ 0) where
   abbrev R : CommRing (Code k)
   R = (code_ring k).ring
 
@@ -134,12 +134,12 @@ module _ (k : CodeField) (width : ℕ) (rows : List (List ℕ)) (wide : All (λ 
   stepped = eliminated k.ops p c (swap rows p i)
 
   abbrev v : Code k
-  v = read_code k (k.inv (entry_at rows i c))
+  v = read_code k (k.inv (matrix_entry rows i c))
 
-  entry_below_size : (l j : ℕ) → entry_at rows l j < k.size
+  entry_below_size : (l j : ℕ) → matrix_entry rows l j < k.size
   entry_below_size l j = entry_in k rows l j over
 
-  inverse_below : k.inv (entry_at rows i c) < k.size
+  inverse_below : k.inv (matrix_entry rows i c) < k.size
   inverse_below = k.laws.inv_below _ (entry_below_size i c) nonzero
 
   inverts : R.◌⊗◌ (row R.ops F i c) v ≡ R.𝟙
@@ -162,8 +162,8 @@ module _ (k : CodeField) (width : ℕ) (rows : List (List ℕ)) (wide : All (λ 
 
   -- the entries of the pivot's row
   pivot_entry : (j : ℕ) → j < width → get_or (normalized k.ops c (get_or rows i [])) j 0
-      ≡ k.mul (k.inv (entry_at rows i c)) (entry_at rows i j)
-  pivot_entry j l = get_or_scale_list (raw_ring k.ops) (k.inv (entry_at rows i c)) (get_or rows i []) j 0
+      ≡ k.mul (k.inv (matrix_entry rows i c)) (matrix_entry rows i j)
+  pivot_entry j l = get_or_scale_list (raw_ring k.ops) (k.inv (matrix_entry rows i c)) (get_or rows i []) j 0
       (omega (arith, wide_row i i_in))
 
   at_pivot : (j : ℕ) → j < width → row R.ops (sequences_of k stepped) p j ≡ row R.ops N p j
@@ -229,22 +229,22 @@ module _ (k : CodeField) (width : ℕ) (rows : List (List ℕ)) (wide : All (λ 
       s = source l l_in ne
 
       e : ℕ
-      e = entry_at rows s.position j
+      e = matrix_entry rows s.position j
 
       ec : ℕ
-      ec = entry_at rows s.position c
+      ec = matrix_entry rows s.position c
 
-      quotient_below : k.mul (k.inv (entry_at rows i c)) (entry_at rows i j) < k.size
+      quotient_below : k.mul (k.inv (matrix_entry rows i c)) (matrix_entry rows i j) < k.size
       quotient_below = k.laws.mul_below _ _ inverse_below (entry_below_size i j)
 
-      product_below : k.mul (k.neg ec) (k.mul (k.inv (entry_at rows i c)) (entry_at rows i j)) < k.size
+      product_below : k.mul (k.neg ec) (k.mul (k.inv (matrix_entry rows i c)) (matrix_entry rows i j)) < k.size
       product_below = k.laws.mul_below _ _ (k.laws.neg_below ec (entry_below_size s.position c)) quotient_below
 
       wide_pivot : length (normalized k.ops c (get_or rows i [])) ≡ width
-      wide_pivot = length_scale_list (raw_ring k.ops) (k.inv (entry_at rows i c)) (get_or rows i []) ∙ wide_row i i_in
+      wide_pivot = length_scale_list (raw_ring k.ops) (k.inv (matrix_entry rows i c)) (get_or rows i []) ∙ wide_row i i_in
 
       entry : get_or (cleared k.ops c (normalized k.ops c (get_or rows i [])) (get_or rows s.position [])) j 0
-          ≡ k.add e (k.mul (k.neg ec) (k.mul (k.inv (entry_at rows i c)) (entry_at rows i j)))
+          ≡ k.add e (k.mul (k.neg ec) (k.mul (k.inv (matrix_entry rows i c)) (matrix_entry rows i j)))
       entry =
           add_entry k.ops (get_or rows s.position [])
           (scale_list (raw_ring k.ops) (k.neg ec) (normalized k.ops c (get_or rows i []))) j
@@ -289,7 +289,7 @@ module _ (k : CodeField) (width : ℕ) (rows : List (List ℕ)) (wide : All (λ 
 
 pub pivot_step : (k : CodeField) (width : ℕ) (rows : List (List ℕ)) → All (λ r. length r ≡ width) rows
     → All (IsOver k.ops) rows → (c : ℕ) → c < width
-    → (p : ℕ) → IsReducedBelow k c rows p → (i : ℕ) → p ≤ i → i < length rows → entry_at rows i c ≢ 0
+    → (p : ℕ) → IsReducedBelow k c rows p → (i : ℕ) → p ≤ i → i < length rows → matrix_entry rows i c ≢ 0
     → IsEliminationStep k width c rows (eliminated k.ops p c (swap rows p i)) (suc p)
 pivot_step k width rows wide over c c_below p below i late i_in some =
     subst (λ n. IsEliminationStep k width c rows (eliminated k.ops n c (swap rows n i)) (suc n)) below.rank_is
@@ -302,7 +302,7 @@ pivot_step k width rows wide over c c_below p below i late i_in some =
     i_late = omega (arith, below.rank_is)
 
 pub skip_step : (k : CodeField) (width : ℕ) (rows : List (List ℕ)) (c : ℕ) (p : ℕ) → IsReducedBelow k c rows p
-    → ((l : ℕ) → p ≤ l → l < length rows → entry_at rows l c ≡ 0) → IsEliminationStep k width c rows rows p
+    → ((l : ℕ) → p ≤ l → l < length rows → matrix_entry rows l c ≡ 0) → IsEliminationStep k width c rows rows p
 skip_step k width rows c p below none = record {
   reduced = record {
     form = skip_column (code_ring k).ring (sequences_of k rows) c below.form (λ l a b.
@@ -349,9 +349,9 @@ all_swap P rows p i p_in i_in h =
 -- before column c the rows from the rank on are 0
 pub left_zero_at : (k : CodeField) (c rank : ℕ) (rows : List (List ℕ)) → All (IsOver k.ops) rows
     → IsReducedBelow k c rows rank
-    → (i j : ℕ) → rank ≤ i → i < length rows → j < c → entry_at rows i j ≡ 0
+    → (i j : ℕ) → rank ≤ i → i < length rows → j < c → matrix_entry rows i j ≡ 0
 left_zero_at k c rank rows over reduced i j late within less =
-    read_same k (entry_at rows i j) 0 (entry_in k rows i j over) (zero_in k)
+    read_same k (matrix_entry rows i j) 0 (entry_in k rows i j over) (zero_in k)
     (sym (row_entry k rows i j)
     ∙ reduced.form.zero_rows i j (omega (arith, reduced.rank_is, late)) (omega (arith, length_sequences k rows, within))
     less

@@ -16,7 +16,7 @@ use Rattle.linear_theory.specs.Echelon.{row, InRowSpace}
 use Rattle.linear_theory.proofs.Combination.{sequences, combine_cong, combine_scale}
 use Rattle.linear_theory.proofs.Echelon.{Leading, leading_is_pivot}
 use Rattle.ff_linalg.specs.Matrix.{MatrixValue, IsMatrixOver, HasShape, with_first_row}
-use Rattle.ff_linalg.specs.Steps.{entry_at}
+use Rattle.ff_linalg.specs.Steps.{matrix_entry}
 use Rattle.ff_linalg.specs.Forms.{sequences_of, IsReducedBelow}
 use Rattle.ff_linalg.specs.Space.{product_of, IsSolution, HasNoSolution}
 use Rattle.ff_linalg.specs.Kernel.{IsInKernel, IsKernelBasis}
@@ -122,7 +122,7 @@ module _ (k : CodeField) where
       -- the first row of the basis begins with 1 where there is a solution
       pub record BeginsWithOne : Type 0 where
         pub some : 0 < length m.rows
-        pub one : entry_at m.rows 0 0 ≡ 1
+        pub one : matrix_entry m.rows 0 0 ≡ 1
 
       pub first_of_solution : (v : List ℕ) → IsSolution k.ops a b v → BeginsWithOne
       first_of_solution v h = go (leading_is_pivot (domain_of_codes k) m.cols (sequences_of k m.rows) r.form
@@ -147,7 +147,7 @@ module _ (k : CodeField) where
           first : (i : ℕ) → i < r.form.rank → 0 ≡ r.form.pivot i → BeginsWithOne
           first zero l e = record {
             some = omega (arith, l, r.rank_is);
-            one = read_same k (entry_at m.rows 0 0) 1 (entry_in k m.rows 0 0 basis.over.each) k.laws.one_below
+            one = read_same k (matrix_entry m.rows 0 0) 1 (entry_in k m.rows 0 0 basis.over.each) k.laws.one_below
                 (sym (row_entry k m.rows 0 0) ∙ ap (row R.ops (sequences_of k m.rows) 0) e ∙ r.form.pivot_one 0 l
                 ∙ sym (read_one k));
           }
@@ -180,7 +180,7 @@ module _ (k : CodeField) (a : MatrixValue) (b : List ℕ) (s m : MatrixValue) (s
     of_stack : IsKernelBasis k.ops (with_first_row b a) m
     of_stack = subst (λ v. IsKernelBasis k.ops v m) s_is basis
 
-    pub solve_none : ¬ ((0 < length m.rows) × (entry_at m.rows 0 0 ≡ 1)) → HasNoSolution k.ops a b
+    pub solve_none : ¬ ((0 < length m.rows) × (matrix_entry m.rows 0 0 ≡ 1)) → HasNoSolution k.ops a b
     solve_none none = no_solution k a b a_in.each shape.each b_in width m of_stack (λ h. none (h.some, h.one))
 
     pub solve_some : (first v : List ℕ) → first ≡ get_or m.rows 0 [] → 0 < length m.rows → get_or first 0 0 ≡ 1

@@ -7,7 +7,7 @@ use Rattle.std.specs.Prelude.{All}
 use Rattle.std.proofs.Math.Seq.{get_or-append_seam}
 use Rattle.ff_fields.specs.Field.{CodeField}
 use Rattle.ff_fields.specs.Over.{IsOver}
-use Rattle.ff_linalg.specs.Matrix.{MatrixValue, IsMatrixOver, HasShape, zero_matrix, with_entry, entry_of, row_of}
+use Rattle.ff_linalg.specs.Matrix.{MatrixValue, IsMatrixOver, HasShape, zero_matrix, with_entry, entry_of, matrix_row}
 use Rattle.ff_linalg.specs.Relations.{IsColumnWritten, IsTransposedBelow, IsTransposed, IsColumnStart}
 use Rattle.ff_linalg.proofs.Reading.{entry_in}
 
@@ -70,7 +70,7 @@ transposed_begin a rows cols rows_is cols_is = record {
 }
 
 pub transposed_step : (a now new : MatrixValue) (i : ℕ) (codes : List ℕ) → HasShape a (length a.rows) a.cols
-    → i < length a.rows → codes ≡ row_of a i
+    → i < length a.rows → codes ≡ matrix_row a i
     → IsColumnWritten now i codes (length codes) new → IsTransposedBelow a i now → IsTransposedBelow a (i + 1) new
 transposed_step a now new i codes shape within codes_is w h = record {
   shape = record {
@@ -94,7 +94,7 @@ pub transposed_over : (k : CodeField) (a t : MatrixValue) → IsTransposed a t �
     → IsMatrixOver k.ops t
 transposed_over k a t h over = record {
   each = All-from_get_or (IsOver k.ops) t.rows [] (λ j l. record {
-    each = All-from_get_or (λ c. c < k.size) (row_of t j) 0 (λ i m.
+    each = All-from_get_or (λ c. c < k.size) (matrix_row t j) 0 (λ i m.
         subst (λ x. x < k.size)
         (sym (h.entries i j (omega (arith, m, h.shape.each j [] l)) (omega (arith, l, h.shape.row_count))))
         (entry_in k a.rows i j over.each));

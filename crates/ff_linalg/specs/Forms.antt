@@ -3,7 +3,7 @@ use Rattle.std.specs.Prelude.{◌≡◌, ℕ, suc, List, map}
 use Rattle.ff_fields.specs.Field.{CodeField}
 use Rattle.ff_fields.specs.Code.{Code, code_ring}
 use Rattle.ff_fields.specs.Numbers.{read}
-use Rattle.linear_theory.specs.Echelon.{IsReduced, SameRowSpace, rows_of}
+use Rattle.linear_theory.specs.Echelon.{IsReducedEchelon, SameRowSpace, rows_of}
 use Rattle.linear_theory.specs.Kernel.{Eliminated}
 
 -- the rows as sequences of members of the field, 0 past the end
@@ -12,7 +12,7 @@ sequences_of k rows = rows_of (code_ring k).ops (map (read k) rows)
 
 -- in reduced row echelon form as far as the columns below a bound go, with so many pivots
 pub record IsReducedBelow (k : CodeField) (bound : ℕ) (rows : List (List ℕ)) (rank : ℕ) : Type 0 where
-  pub form : IsReduced (code_ring k).ops bound (sequences_of k rows)
+  pub form : IsReducedEchelon (code_ring k).ops bound (sequences_of k rows)
   pub rank_is : form.rank ≡ rank
 
 -- each row of one list is a combination of the rows of the other, in the columns below the width

@@ -15,15 +15,15 @@ rows_in cols (suc n) xs = take cols xs ∷ rows_in cols n (drop cols xs)
 abbrev pub zero_matrix : ℕ → ℕ → MatrixValue
 zero_matrix rows cols = record { cols = cols; rows = replicate rows (replicate cols 0) }
 
-abbrev pub row_of : MatrixValue → ℕ → List ℕ
-row_of m r = slice_index_or m.rows r []
+abbrev pub matrix_row : MatrixValue → ℕ → List ℕ
+matrix_row m r = slice_index_or m.rows r []
 
 abbrev pub entry_of : MatrixValue → ℕ → ℕ → ℕ
-entry_of m r c = slice_index (row_of m r) c
+entry_of m r c = slice_index (matrix_row m r) c
 
 -- m with v in a row and a column
 abbrev pub with_entry : MatrixValue → ℕ → ℕ → ℕ → MatrixValue
-with_entry m r c v = record { cols = m.cols; rows = slice_set m.rows r (slice_set (row_of m r) c v) }
+with_entry m r c v = record { cols = m.cols; rows = slice_set m.rows r (slice_set (matrix_row m r) c v) }
 
 -- m with the row b above its rows
 abbrev pub with_first_row : List ℕ → MatrixValue → MatrixValue

@@ -5,8 +5,8 @@ use Rattle.ff_fields.specs.Code.{raw_ring}
 use Rattle.ff_fields.specs.Over.{IsOver}
 use Rattle.ring_lemmas.specs.Lists.{add_lists, scale_list}
 use Rattle.linear_theory.specs.Module.{ModuleOps, combination}
-use Rattle.linear_theory.specs.Echelon.{IsReduced, rows_of}
-use Rattle.ff_linalg.specs.Matrix.{MatrixValue, row_of, first_rows_of}
+use Rattle.linear_theory.specs.Echelon.{IsReducedEchelon, rows_of}
+use Rattle.ff_linalg.specs.Matrix.{MatrixValue, matrix_row, first_rows_of}
 
 -- rows of so many codes, which are added position by position
 abbrev pub row_ops : FieldOps → ℕ → ModuleOps ℕ (List ℕ)
@@ -25,7 +25,7 @@ pub record IsInRowSpace (k : FieldOps) (m : MatrixValue) (w : List ℕ) : Type 0
 
 -- the reduced row echelon form, of which so many rows are not 0
 pub record IsReducedForm (k : FieldOps) (m : MatrixValue) (rank : ℕ) : Type 0 where
-  pub form : IsReduced (raw_ring k) m.cols (rows_of (raw_ring k) m.rows)
+  pub form : IsReducedEchelon (raw_ring k) m.cols (rows_of (raw_ring k) m.rows)
   pub rank_is : form.rank ≡ rank
 
 -- v·a = b
@@ -39,7 +39,7 @@ HasNoSolution k a b = (v : List ℕ) → ¬ IsSolution k a b v
 
 -- none of the first rows is a combination of the rows before it
 abbrev pub HasIndependentStart : FieldOps → MatrixValue → ℕ → Type 0
-HasIndependentStart k a count = (i : ℕ) → i < count → HasNoSolution k (first_rows_of a i) (row_of a i)
+HasIndependentStart k a count = (i : ℕ) → i < count → HasNoSolution k (first_rows_of a i) (matrix_row a i)
 
 -- no row is a combination of the rows before it
 abbrev pub HasIndependentRows : FieldOps → MatrixValue → Type 0
@@ -48,5 +48,5 @@ HasIndependentRows k a = HasIndependentStart k a (length a.rows)
 -- the coefficients of the first row that is a combination of the rows before it; there are as many as rows before it
 pub record IsFirstRelation (k : FieldOps) (a : MatrixValue) (v : List ℕ) : Type 0 where
   pub within : length v < length a.rows
-  pub relation : IsSolution k (first_rows_of a (length v)) (row_of a (length v)) v
+  pub relation : IsSolution k (first_rows_of a (length v)) (matrix_row a (length v)) v
   pub earlier : HasIndependentStart k a (length v)

@@ -4,8 +4,8 @@ use Rattle.ff_fields.specs.Field.{FieldOps}
 use Rattle.ff_fields.specs.Code.{raw_ring}
 use Rattle.ring_lemmas.specs.Lists.{add_lists, scale_list}
 
-abbrev pub entry_at : List (List ℕ) → ℕ → ℕ → ℕ
-entry_at rows r c = slice_index (slice_index_or rows r []) c
+abbrev pub matrix_entry : List (List ℕ) → ℕ → ℕ → ℕ
+matrix_entry rows r c = slice_index (slice_index_or rows r []) c
 
 -- a row divided by its entry in column c
 abbrev pub normalized : FieldOps → ℕ → List ℕ → List ℕ
@@ -26,12 +26,12 @@ pub record RaisesPivot (old new : List (List ℕ)) (rank c : ℕ) : Type 0 where
   pub position : ℕ
   pub late : rank ≤ position
   pub within : position < length old
-  pub nonzero : entry_at old position c ≢ 0
+  pub nonzero : matrix_entry old position c ≢ 0
   pub is : new ≡ swap old rank position
 
 -- column c is 0 from the rank on
 abbrev pub HasNoPivot : List (List ℕ) → ℕ → ℕ → Type 0
-HasNoPivot rows rank c = (l : ℕ) → rank ≤ l → l < length rows → entry_at rows l c ≡ 0
+HasNoPivot rows rank c = (l : ℕ) → rank ≤ l → l < length rows → matrix_entry rows l c ≡ 0
 
 -- n codes of which the one with this number is 1 and the others 0
 abbrev pub unit_row : ℕ → ℕ → List ℕ

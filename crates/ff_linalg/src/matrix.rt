@@ -1,7 +1,7 @@
 //! Matrices of codes.
 
 ghost use Rattle.std.specs.Prelude.{◌≡◌, ◌*◌, ◌<◌, length, replicate, IfOk};
-ghost use Rattle.ff_linalg.specs.Matrix.{zero_matrix, entry_of, row_of, with_entry};
+ghost use Rattle.ff_linalg.specs.Matrix.{zero_matrix, entry_of, matrix_row, with_entry};
 
 use std::alloc::{AllocError, Global};
 use std::marker::Model;
@@ -74,7 +74,7 @@ impl Matrix {
     /// Row r, one code for each column.
     pub fn row(&self, r: usize) -> &[u32]
         requires { r < length self.now.rows }
-        ensures { result.now ≡ row_of self.now r }
+        ensures { result.now ≡ matrix_row self.now r }
     {
         &self.entries[r * self.cols..r * self.cols + self.cols]
     }

@@ -3,7 +3,7 @@
 ghost use Rattle.std.specs.Prelude.{◌≡◌, ◌≢◌, ℕ, ◌*◌, ◌<◌, ◌≤◌, length, map, slice_index, swap, MatchOption};
 ghost use Rattle.ff_fields.specs.Over.{IsOver};
 ghost use Rattle.ff_linalg.specs.Matrix.{rows_in};
-ghost use Rattle.ff_linalg.specs.Steps.{entry_at, cleared, eliminated};
+ghost use Rattle.ff_linalg.specs.Steps.{matrix_entry, cleared, eliminated};
 
 use crate::slices::{add_multiple, scale_all};
 use ff_fields::field::SmallField;
@@ -19,8 +19,8 @@ pub(crate) fn find_pivot(
     requires shape { length entries.now ≡ rows * cols }
     requires col_in { c < cols }
     ensures { let m = rows_in cols rows entries.now in MatchOption result
-        ((l : ℕ) → rank ≤ l → l < rows → entry_at m l c ≡ 0)
-        (λ i. (rank ≤ i) × (i < rows) × (entry_at m i c ≢ 0)) }
+        ((l : ℕ) → rank ≤ l → l < rows → matrix_entry m l c ≡ 0)
+        (λ i. (rank ≤ i) × (i < rows) × (matrix_entry m i c ≢ 0)) }
 {
     for i in rank..rows {
         if entries[i * cols + c] != 0 {
@@ -91,8 +91,8 @@ pub(crate) fn clear_column<K: SmallField>(
     requires shape { length entries.old ≡ rows * cols }
     requires row_in { p < rows }
     requires col_in { c < cols }
-    requires nonzero { entry_at (rows_in cols rows entries.old) p c ≢ 0 }
-    requires left_zero { (j : ℕ) → j < c → entry_at (rows_in cols rows entries.old) p j ≡ 0 }
+    requires nonzero { matrix_entry (rows_in cols rows entries.old) p c ≢ 0 }
+    requires left_zero { (j : ℕ) → j < c → matrix_entry (rows_in cols rows entries.old) p j ≡ 0 }
     requires entries_in { IsOver (K.field k.now).ops entries.old }
     ensures eliminated { rows_in cols rows entries.new
         ≡ eliminated (K.field k.now).ops p c (rows_in cols rows entries.old) }

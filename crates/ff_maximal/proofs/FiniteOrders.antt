@@ -8,7 +8,7 @@ use Rattle.std.proofs.lemmas.List.Elements.{All-nil, All-cons, All-head, All-tai
 use Rattle.linear_theory.specs.Euclidean.{IsDivisorIn}
 use Rattle.ff_fields.specs.Field.{CodeField}
 use Rattle.ff_fields.specs.Over.{IsOver}
-use Rattle.ff_poly.specs.Words.{IsPoly, IsMonic}
+use Rattle.ff_poly.specs.Words.{IsPoly, IsMonicList}
 use Rattle.ff_poly.specs.Popov.{IsRow}
 use Rattle.ff_poly.specs.Value.{value}
 use Rattle.ff_poly.specs.Polynomials.{polynomials, value_not_zero}
@@ -22,7 +22,7 @@ use Rattle.function_field.specs.Curves.{CurveValue, IsCurve}
 use Rattle.ff_algebra.proofs.OtherSide.{on_finite_side}
 use Rattle.ff_factor.specs.Factors.{FactorsValue, IsFactorisation, polys_of}
 use Rattle.trace_theory.specs.Traces.{HasPolynomialCoordinates, polynomial_product}
-use Rattle.ff_lattice.specs.Lattices.{LatticeValue, IsLattice, Contains, elems_over, row_elems}
+use Rattle.ff_lattice.specs.Lattices.{LatticeValue, IsLatticeValue, Contains, elems_over, row_elems}
 use Rattle.ff_lattice.specs.Orders.{IsOrderLattice}
 use Rattle.ff_lattice.proofs.Normal.{popov_poly}
 use Rattle.ff_order.specs.Enlargements.{TakenByProducts, repeated}
@@ -52,7 +52,7 @@ module _ (k : CodeField) (c : CurveValue) (curve : IsCurve k c) where
 
   -- on the finite side an element of the presentation stands for its own function
   on_rows : (rows : List (List (List ℕ))) (den : List ℕ) → All (IsRow k.ops c.fin.n) rows → All (All IsPoly) rows
-      → IsOver k.ops den → IsPoly den → IsMonic den
+      → IsOver k.ops den → IsPoly den → IsMonicList den
       → map (function_of k c.fin) (elems_over rows den) ≡ map (function_on k c.fin c.c Finite) (elems_over rows den)
   on_rows [] den rows_in polys den_in den_poly monic = refl
   on_rows (v ∷ rows) den rows_in polys den_in den_poly monic =
@@ -71,7 +71,7 @@ module _ (k : CodeField) (c : CurveValue) (curve : IsCurve k c) where
       ∙ sym (on_finite_side k c.fin c.c r positive r_in monic) ∙ ap (λ s. function_on k c.fin c.c s r) (sym is)
   copied side r (Err x) is r_in monic e = e
 
-  row_functions : (l : LatticeValue) → IsLattice k.ops c.fin.n l
+  row_functions : (l : LatticeValue) → IsLatticeValue k.ops c.fin.n l
       → map (function_of k c.fin) (row_elems l) ≡ map (function_on k c.fin c.c Finite) (row_elems l)
   row_functions l form = on_rows l.rows l.den form.rows_in (popov_poly c.fin.n l.rows form.popov) form.den_in
       form.den_poly form.monic

@@ -26,7 +26,7 @@ use Rattle.ff_meaning.specs.declared.refusal.Refusal.{Refusal}
 use Rattle.ff_meaning.specs.declared.refusal.Refusal.TheVariants.{LimitX, CodeRange, Memory}
 use Rattle.function_field.specs.Limits.{max_degree}
 use Rattle.ff_meaning.specs.Bindings.{Bindings, Bound, with_field, with_curve, IsSomeWith}
-use Rattle.ff_meaning.specs.SameBindings.{AreSameFields, AreSame, NothingBound, OneField, OneCurve}
+use Rattle.ff_meaning.specs.SameBindings.{AreSameFields, AreSameBindings, NothingBound, OneField, OneCurve}
 use Rattle.ff_meaning.specs.Meaning.{AreCodesBelow, codes_of_den, codes_of_element, IsSumOf, ArePolysOf, IsDenOf, IsElementOf, degree_of_element}
 use Rattle.ff_meaning.specs.Refusals.{IsCodeRow, IsFieldLineFault, refusal_of_field, IsFieldRow, refusal_of_curve, IsNoCurve, IsElementRow, IsProductRow, IsFactorRow, IsRefusalRow}
 use Rattle.ff_meaning.specs.Refusals as rows
@@ -319,7 +319,7 @@ curve_moves d e c (Mul a b) r same h = subst (λ o. IsProductRow o c.fin.n max_d
 curve_moves d e c (Factor g) r same h = subst (λ o. IsFactorRow o max_degree g r) same.ops h
 curve_moves d e c (OrderOf side) r same h = absurd h
 
-pub row_moves : (a b : Bindings) (s : Statement) (r : Refusal) → AreSame a b → IsRefusalRow a s r → IsRefusalRow b s r
+pub row_moves : (a b : Bindings) (s : Statement) (r : Refusal) → AreSameBindings a b → IsRefusalRow a s r → IsRefusalRow b s r
 row_moves a b s r (NothingBound a_is b_is) h = subst (λ x. IsRefusalRow x s r) (a_is ∙ sym b_is) h
 row_moves a b s r (OneField d e same a_is b_is) h =
     subst (λ x. IsRefusalRow x s r) (sym b_is) (field_moves d e s r same (subst (λ x. IsRefusalRow x s r) a_is h))

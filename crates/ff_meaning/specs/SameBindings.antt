@@ -17,8 +17,8 @@ pub record AreSameCurves (d e : FieldData) (c : CurveValue) : Type 0 where
   pub curve : IsCurve (with_laws d fields.left) c
 
 -- both have bound nothing, or the same field, or the same curve over the same field
-pub data AreSame (a b : Bindings) : Type 0 where
-  NothingBound : a ≡ nothing → b ≡ nothing → AreSame a b
-  OneField : (d e : FieldData) → AreSameFields d e → a ≡ with_field d → b ≡ with_field e → AreSame a b
+pub data AreSameBindings (a b : Bindings) : Type 0 where
+  NothingBound : a ≡ nothing → b ≡ nothing → AreSameBindings a b
+  OneField : (d e : FieldData) → AreSameFields d e → a ≡ with_field d → b ≡ with_field e → AreSameBindings a b
   OneCurve : (d e : FieldData) (c : CurveValue) → AreSameCurves d e c → a ≡ with_curve d c → b ≡ with_curve e c
-      → AreSame a b
+      → AreSameBindings a b

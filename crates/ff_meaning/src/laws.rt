@@ -8,7 +8,7 @@ ghost use Rattle.ff_script.specs.declared.script.Statement.{Statement};
 ghost use Rattle.ff_meaning.specs.declared.refusal.Refusal.{Refusal};
 ghost use Rattle.ff_meaning.specs.declared.refusal.Refusal.TheVariants.{Memory};
 ghost use Rattle.ff_meaning.specs.Bindings.{Bindings};
-ghost use Rattle.ff_meaning.specs.SameBindings.{AreSame};
+ghost use Rattle.ff_meaning.specs.SameBindings.{AreSameBindings};
 ghost use Rattle.ff_meaning.specs.LowestTerms.{IsWritten};
 ghost use Rattle.ff_meaning.specs.Refusals.{IsRefusalRow};
 
@@ -19,7 +19,7 @@ pub fn one_refusal()
         → IsRefusalRow old s r → IsRefusalRow old s t → r ≡ t }
     ensures not_memory { (old : Bindings) (s : Statement) (r : Refusal) → IsRefusalRow old s r → r ≢ Memory }
     ensures moved { (old other : Bindings) (s : Statement) (r : Refusal)
-        → AreSame old other → IsRefusalRow old s r → IsRefusalRow other s r }
+        → AreSameBindings old other → IsRefusalRow old s r → IsRefusalRow other s r }
 {}
 
 /// A law: a function is written in one way.

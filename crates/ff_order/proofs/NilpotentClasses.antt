@@ -24,8 +24,8 @@ use Rattle.ff_falg.specs.Spaces.{IsEchelonBasisMatrix}
 use Rattle.function_field.specs.Functions.{of_poly, over, IsPolynomial}
 use Rattle.function_field.specs.Values.{ElemValue, IsElem, Functions, functions, function_of, equation_of}
 use Rattle.function_field.proofs.ScalarRings.{polynomials_subring}
-use Rattle.ff_lattice.specs.Lattices.{Contains, IsSumOf}
-use Rattle.ff_lattice.specs.Quotients.{QuotientValue, IsQuotient, IsClassOf, HasClasses, dimension, lifted, codes_of_row, quotient_ops}
+use Rattle.ff_lattice.specs.Lattices.{Contains, IsSumOfMembers}
+use Rattle.ff_lattice.specs.Quotients.{QuotientValue, IsQuotient, IsClassOf, HasClasses, dimension, lifted, codes_of_row, class_algebra}
 use Rattle.ff_lattice.proofs.Elements.{elem_over, in_span_of}
 use Rattle.ff_lattice.proofs.Spaces.{codes_row, codes_row_length, codes_row_over, read_codes_row}
 use Rattle.ff_lattice.proofs.SumsAndProducts.{map_join}
@@ -66,14 +66,14 @@ module _ (k : CodeField) (q : QuotientValue) (h : IsQuotient k q) where
   order_power z z_in (suc e) = h.frame.order.product_in z (pow F.ops z e) z_in (order_power z z_in e)
 
   power_class : (z : Functions k q.p) (a : List ℕ) → O z → IsClassOf k q z a → (e : ℕ)
-      → IsClassOf k q (pow (functions k q.p).ops z e) (power k.ops (quotient_ops q) a e)
+      → IsClassOf k q (pow (functions k q.p).ops z e) (power k.ops (class_algebra q) a e)
   power_class z a z_in a_of zero = classes.of_one
   power_class z a z_in a_of (suc e) =
-      classes.of_product z (pow F.ops z e) a (power k.ops (quotient_ops q) a e) z_in (order_power z z_in e) a_of
+      classes.of_product z (pow F.ops z e) a (power k.ops (class_algebra q) a e) z_in (order_power z z_in e) a_of
       (power_class z a z_in a_of e)
 
   -- what nilpotent codes are lifted to has a power in the ideal
-  lift_nilpotent : (a : List ℕ) → V a → IsNilpotentVector k.ops (quotient_ops q) a
+  lift_nilpotent : (a : List ℕ) → V a → IsNilpotentVector k.ops (class_algebra q) a
       → IsNilpotentModulo k q.p q.order q.ideal (lift a)
   lift_nilpotent a a_in n = record {
     within = a_member;
@@ -121,12 +121,12 @@ module _ (k : CodeField) (q : QuotientValue) (h : IsQuotient k q) where
 
   -- codes of a member with a power in the ideal are nilpotent
   codes_nilpotent : (z : Functions k q.p) (a : List ℕ) → IsNilpotentModulo k q.p q.order q.ideal z → IsClassOf k q z a
-      → IsNilpotentVector k.ops (quotient_ops q) a
+      → IsNilpotentVector k.ops (class_algebra q) a
   codes_nilpotent z a n a_of = record {
     exponent = suc n.nilpotent.exponent;
     is =
         classes.only (pow F.ops z (suc n.nilpotent.exponent))
-        (power k.ops (quotient_ops q) a (suc n.nilpotent.exponent)) (replicate (dimension q) 0)
+        (power k.ops (class_algebra q) a (suc n.nilpotent.exponent)) (replicate (dimension q) 0)
         (power_class z a n.within a_of (suc n.nilpotent.exponent))
         ((classes.of_ideal (pow F.ops z (suc n.nilpotent.exponent))).1 n.nilpotent.power_in);
   }
@@ -148,7 +148,7 @@ module _ (k : CodeField) (q : QuotientValue) (h : IsQuotient k q) where
       (combined_vector cs rows (IsOver_tail cs_in) (All-tail V r rows rows_in))
 
   abbrev Sum : List (Functions k q.p) → Functions k q.p → Type 0
-  Sum fs = IsSumOf k q.p (Span (functions k q.p).ops (IsPolynomial (equation_of k q.p)) fs) (Contains k q.p q.ideal)
+  Sum fs = IsSumOfMembers k q.p (Span (functions k q.p).ops (IsPolynomial (equation_of k q.p)) fs) (Contains k q.p q.ideal)
 
   zeros_sum : (fs : List (Functions k q.p)) → Sum fs (lift (replicate (dimension q) 0))
   zeros_sum fs = record {
@@ -191,7 +191,7 @@ module _ (k : CodeField) (q : QuotientValue) (h : IsQuotient k q) where
   -- ---- a basis of the nilpotent classes
 
   module _ (m : MatrixValue) (basis : IsEchelonBasisMatrix k.ops (dimension q)
-      (IsNilpotentVector k.ops (quotient_ops q)) m) where
+      (IsNilpotentVector k.ops (class_algebra q)) m) where
     abbrev Modulo : Functions k q.p → Type 0
     Modulo = IsNilpotentModulo k q.p q.order q.ideal
 
@@ -201,7 +201,7 @@ module _ (k : CodeField) (q : QuotientValue) (h : IsQuotient k q) where
     row_vector : (r : ℕ) → r < length m.rows → V (get_or m.rows r [])
     row_vector r less = rows_in r [] less
 
-    rows_nilpotent : (r : ℕ) → r < length m.rows → IsNilpotentVector k.ops (quotient_ops q) (get_or m.rows r [])
+    rows_nilpotent : (r : ℕ) → r < length m.rows → IsNilpotentVector k.ops (class_algebra q) (get_or m.rows r [])
     rows_nilpotent r less =
         ((basis.row_space (get_or m.rows r [])).0
         (own_row_codes k m basis.over.each (λ j d l. basis.shape.each j d l ∙ sym basis.shape.col_count) r less)).1
@@ -241,7 +241,7 @@ module _ (k : CodeField) (q : QuotientValue) (h : IsQuotient k q) where
           all_from_map (function_of k q.p) Modulo zs
           (subst (All Modulo) (sym lifts.functions) (All-map Modulo lift m.rows all_nilpotent));
       spanning = λ z n.
-          subst (λ fs. IsSumOf k q.p (Span (functions k q.p).ops (IsPolynomial (equation_of k q.p)) fs)
+          subst (λ fs. IsSumOfMembers k q.p (Span (functions k q.p).ops (IsPolynomial (equation_of k q.p)) fs)
           (Contains k q.p q.ideal) z)
           (sym lifts.functions) (spanning z n);
     }

@@ -18,7 +18,7 @@ use Rattle.prime_theory.proofs.PohstZassenhaus.{multiples_ideal}
 use Rattle.prime_theory.proofs.Radicals.{p_in_radical}
 use Rattle.order_theory.specs.Orders as theory
 use Rattle.order_theory.proofs.Enlargements.{order_has, radical_of_order, ideal_module}
-use Rattle.ff_lattice.specs.Lattices.{LatticeValue, IsLattice, Contains, InSpanOf, IsFull, IsScaled, IsSumOf, row_elems}
+use Rattle.ff_lattice.specs.Lattices.{LatticeValue, IsLatticeValue, Contains, InSpanOf, IsFullLattice, IsScaled, IsSumOfMembers, row_elems}
 use Rattle.ff_lattice.specs.Orders.{IsOrderLattice}
 use Rattle.ff_lattice.specs.Quotients.{IsIdealLattice}
 use Rattle.ff_lattice.proofs.SpannedSets.{lattice_full}
@@ -73,7 +73,7 @@ module _ (k : CodeField) (p : PresValue) where
     𝓞 = order_set k p positive o order
 
     -- the multiples of an order by a polynomial are an ideal
-    pub multiples_are_ideal : (a : List ℕ) (l : LatticeValue) → IsLattice k.ops p.n l
+    pub multiples_are_ideal : (a : List ℕ) (l : LatticeValue) → IsLatticeValue k.ops p.n l
         → ((z : Functions k p) → Contains k p l z
         ↔ Multiple (functions k p).ops (of_poly (equation_of k p) (value k a)) (Contains k p o) z)
         → IsIdealLattice k p o l
@@ -87,8 +87,8 @@ module _ (k : CodeField) (p : PresValue) where
         }
 
     -- elements and the rows of a lattice have full rank
-    pub lifts_full : (zs : List ElemValue) (l : LatticeValue) → IsLattice k.ops p.n l
-        → IsFull k p (InSpanOf k p (zs ++ row_elems l))
+    pub lifts_full : (zs : List ElemValue) (l : LatticeValue) → IsLatticeValue k.ops p.n l
+        → IsFullLattice k p (InSpanOf k p (zs ++ row_elems l))
     lifts_full zs l form =
         full_within k p (Contains k p l) (InSpanOf k p (zs ++ row_elems l))
         (λ z h.
@@ -134,7 +134,7 @@ module _ (k : CodeField) (p : PresValue) where
               (All-weaker (λ x. IsNilpotentModulo k p o l (function_of k p x)) (λ x. R (function_of k p x))
               (λ x n. to_radical (function_of k p x) n) zs basis.nilpotent)
 
-          from_sum : IsSumOf k p (InSpanOf k p zs) (Contains k p l) z → R z
+          from_sum : IsSumOfMembers k p (InSpanOf k p zs) (Contains k p l) z → R z
           from_sum s =
               subst R (sym s.is)
               (𝓡.sum_in s.left s.right

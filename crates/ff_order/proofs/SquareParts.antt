@@ -10,7 +10,7 @@ use Rattle.linear_theory.specs.Euclidean.{IsDivisorIn}
 use Rattle.linear_theory.proofs.Euclid.{OrderAt, order_at, order_unique, euclid}
 use Rattle.ff_fields.specs.Field.{CodeField}
 use Rattle.ff_fields.specs.Over.{IsOver}
-use Rattle.ff_poly.specs.Words.{IsPoly, IsMonic, IsIrreducibleList, DividesList, product_of}
+use Rattle.ff_poly.specs.Words.{IsPoly, IsMonicList, IsIrreducibleList, DividesList, product_of}
 use Rattle.ff_poly.specs.Value.{value, value_product, same_from_value}
 use Rattle.ff_poly.specs.Polynomials.{Polynomial, polynomials, codes_of, numbers_discrete, value_one}
 use Rattle.polynomial_theory.proofs.Division.{euclidean}
@@ -34,7 +34,7 @@ module _ (k : CodeField) where
       → p ≡ q
   divides_same p q p_prime q_prime d = by
       (cofactor_one m.quotient (monic_factor k p m.quotient p_prime.over p_poly p_prime.irreducible.monic m.quotient_in
-      m.quotient_poly some (subst IsMonic m.product q_prime.irreducible.monic)) short)
+      m.quotient_poly some (subst IsMonicList m.product q_prime.irreducible.monic)) short)
     where
       p_poly : IsPoly p
       p_poly = monic_poly p p_prime.irreducible.monic
@@ -70,7 +70,7 @@ module _ (k : CodeField) where
           not_less : ¬ (length p < length q) → length q ≤ length p
           not_less n = omega (arith, n)
 
-      cofactor_one : (a : List ℕ) → IsMonic a → length a ≤ 1 → a ≡ 1 ∷ []
+      cofactor_one : (a : List ℕ) → IsMonicList a → length a ≤ 1 → a ≡ 1 ∷ []
       cofactor_one a ([], e) l = e
       cofactor_one a (x ∷ lower, e) l = absurd (omega (arith, ap length e, length-append lower (1 ∷ [])))
 

@@ -12,7 +12,7 @@ use Rattle.prime_theory.specs.Orders.{Radical}
 use Rattle.order_theory.specs.Orders as theory
 use Rattle.order_theory.specs.Orders.{TakenByPowers}
 use Rattle.order_theory.proofs.Enlargements.{radical_of_order, radical_has, multipliers_have, multipliers_taken, maximal_of_multipliers, taken_has, taken_again, taken_is}
-use Rattle.ff_lattice.specs.Lattices.{LatticeValue, IsLattice, Contains, pivot_degree_of}
+use Rattle.ff_lattice.specs.Lattices.{LatticeValue, IsLatticeValue, Contains, pivot_degree_of}
 use Rattle.ff_lattice.specs.Orders.{IsOrderLattice}
 use Rattle.ff_lattice.specs.Quotients.{IsIdealLattice}
 use Rattle.ff_lattice.specs.Colons.{IsColon}
@@ -36,7 +36,7 @@ module _ (k : CodeField) (p : PresValue) (positive : 0 < p.n) where
         (Radical (functions k p).ops (Contains k p o) (of_poly (equation_of k p) (value k pi)))
     𝓡 = radical_of_order (equation_of k p) O 𝓞 (value k pi)
 
-    module _ (i : LatticeValue) (form : IsLattice k.ops p.n i)
+    module _ (i : LatticeValue) (form : IsLatticeValue k.ops p.n i)
         (members : (z : Functions k p) → Contains k p i z
         ↔ Radical (functions k p).ops (Contains k p o) (of_poly (equation_of k p) (value k pi)) z) where
       -- the radical is an ideal
@@ -89,7 +89,7 @@ module _ (k : CodeField) (p : PresValue) (positive : 0 < p.n) where
         taken_is (equation_of k p) O 𝓞 (value k pi) (Contains k p cur) b.has b.taken (t.last same)
 
   -- a larger order has a smaller pivot degree
-  pub degree_falls : (o next : LatticeValue) → IsLattice k.ops p.n o → IsLattice k.ops p.n next
+  pub degree_falls : (o next : LatticeValue) → IsLatticeValue k.ops p.n o → IsLatticeValue k.ops p.n next
       → ((z : Functions k p) → Contains k p o z → Contains k p next z) → ¬ (next ≡ o)
       → pivot_degree_of next <ℤ pivot_degree_of o
   degree_falls o next o_form next_form within differ =

@@ -9,7 +9,7 @@ use Rattle.function_field.specs.Values.{ElemValue, PresValue, IsElem, Functions,
 use Rattle.prime_theory.specs.Ideals.{PowerIn}
 use Rattle.prime_theory.specs.Orders.{MaximalAt}
 use Rattle.order_theory.specs.Orders.{TakenByPowers}
-use Rattle.ff_lattice.specs.Lattices.{LatticeValue, Contains, InSpanOf, IsSumOf}
+use Rattle.ff_lattice.specs.Lattices.{LatticeValue, Contains, InSpanOf, IsSumOfMembers}
 use Rattle.ff_lattice.specs.Orders.{IsOrderLattice}
 use Rattle.ff_lattice.specs.Quotients.{QuotientValue, lifted}
 use Rattle.ff_order.specs.Enlargements.{TakenByProducts}
@@ -31,7 +31,7 @@ module _ (k : CodeField) (p : PresValue) where
     pub elems : All (IsElem k.ops p.n) zs
     pub nilpotent : All (λ z. IsNilpotentModulo order ideal (function_of k p z)) zs
     pub spanning : (z : Functions k p) → IsNilpotentModulo order ideal z
-        → IsSumOf k p (InSpanOf k p zs) (Contains k p ideal) z
+        → IsSumOfMembers k p (InSpanOf k p zs) (Contains k p ideal) z
 
   -- an order between o and the integral functions that powers of pi take into o; where it is o, o is maximal at pi
   pub record IsTurn (pi : List ℕ) (o next : LatticeValue) : Type 0 where

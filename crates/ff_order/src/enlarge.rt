@@ -11,7 +11,7 @@ ghost use Rattle.function_field.specs.Discriminant.{discriminant};
 ghost use Rattle.function_field.specs.Places.{IsIntegralAt};
 ghost use Rattle.function_field.specs.Values.{PresValue, IsPresOver, Functions, functions, equation_of, setting};
 ghost use Rattle.prime_theory.specs.Orders.{MaximalAt};
-ghost use Rattle.ff_lattice.specs.Lattices.{LatticeValue, IsLattice, Contains, pivot_degree_of};
+ghost use Rattle.ff_lattice.specs.Lattices.{LatticeValue, IsLatticeValue, Contains, pivot_degree_of};
 ghost use Rattle.ff_lattice.specs.Orders.{IsOrderLattice};
 ghost use Rattle.ff_lattice.specs.Quotients.{IsIdealLattice};
 ghost use Rattle.ff_lattice.specs.Colons.{IsColon};

@@ -7,7 +7,7 @@ ghost use Rattle.ff_poly.specs.Value.{value};
 ghost use Rattle.function_field.specs.Functions.{of_poly};
 ghost use Rattle.function_field.specs.Values.{PresValue, IsPresOver, Functions, functions, equation_of};
 ghost use Rattle.ff_falg.specs.Algebras.{IsVector};
-ghost use Rattle.ff_lattice.specs.Lattices.{LatticeValue, IsLattice, Contains};
+ghost use Rattle.ff_lattice.specs.Lattices.{LatticeValue, IsLatticeValue, Contains};
 ghost use Rattle.ff_lattice.specs.Orders.{IsOrderLattice};
 ghost use Rattle.ff_lattice.specs.Quotients.{QuotientValue, IsQuotient, IsQuotientOver, IsIdealLattice, dimension};
 ghost use Rattle.prime_theory.specs.Ideals.{Multiple};
@@ -92,7 +92,7 @@ pub fn radical<K: SmallField>(
     requires order { IsOrderLattice (K.field k.now) p.now o.now }
     requires pi_in { IsOver (K.field k.now).ops pi.now }
     requires irreducible { IsIrreducibleList (K.field k.now).ops pi.now }
-    ensures form { IfOk result (IsLattice (K.field k.now).ops p.now.n) }
+    ensures form { IfOk result (IsLatticeValue (K.field k.now).ops p.now.n) }
     ensures ideal { IfOk result (IsIdealLattice (K.field k.now) p.now o.now) }
     ensures members { let k = K.field k.now in
         IfOk result (λ l. (z : Functions k p.now) →

@@ -11,7 +11,7 @@ use Rattle.ff_fields.specs.Field.{FieldOps, CodeField}
 use Rattle.ff_fields.specs.Code.{raw_ring, is_zero_code, same_code, code_ring, code_domain, read_code, read_code_below}
 use Rattle.ff_fields.specs.Over.{IsOver, IsOver_nil, IsOver_cons, get_or_below}
 use Rattle.ff_fields.specs.Numbers.{numbers, read, numbers_read, numbers_scale, numbers_mul, numbers_trim, numbers_get_or}
-use Rattle.ff_poly.specs.Words.{IsPoly, IsMonic, poly_of, top_of, sum_of, multiple_of, product_of}
+use Rattle.ff_poly.specs.Words.{IsPoly, IsMonicList, poly_of, top_of, sum_of, multiple_of, product_of}
 use Rattle.ff_poly.specs.PolyOver.{IsPoly_poly_of, IsOver_product_of, IsOver_multiple_of}
 use Rattle.ff_poly.specs.Value.{value, series_value, value_sum, value_product}
 use Rattle.ff_poly.specs.Polynomials.{polynomials, constant_poly, value_nil, value_one, series_read}
@@ -85,7 +85,7 @@ IsPoly_multiple_of k a c = IsPoly_poly_of (scale_list (raw_ring k) c a)
 -- ---- monic polynomials
 
 pub IsMonic_multiple : (k : CodeField) (a : List ℕ) → IsOver k.ops a → top_of a ≢ 0 → 0 < length a
-    → IsMonic (multiple_of k.ops a (k.inv (top_of a)))
+    → IsMonicList (multiple_of k.ops a (k.inv (top_of a)))
 IsMonic_multiple k a a_in some size =
     let c = k.inv (top_of a) in
     let r = raw_ring k.ops in
@@ -109,14 +109,14 @@ IsMonic_multiple k a a_in some size =
     scale_push r c (x ∷ xs) t = ap (λ w. r.◌⊗◌ c x ∷ w) (scale_push r c xs t)
 
 -- a polynomial of n + 1 codes whose code at n is 1 is monic
-pub IsMonic_from_top : (n : ℕ) (a : List ℕ) → length a ≡ suc n → get_or a n 0 ≡ 1 → IsMonic a
+pub IsMonic_from_top : (n : ℕ) (a : List ℕ) → length a ≡ suc n → get_or a n 0 ≡ 1 → IsMonicList a
 IsMonic_from_top n a size top = (
   take n a,
   sym (take_all (n + 1) a (omega arith)) ∙ take_more a n 0 (omega arith)
       ∙ ap (λ t. take n a ++ t ∷ []) top,
 )
 
-pub top_of_monic : (a : List ℕ) → IsMonic a → (n : ℕ) × (length a ≡ suc n) × (get_or a n 0 ≡ 1)
+pub top_of_monic : (a : List ℕ) → IsMonicList a → (n : ℕ) × (length a ≡ suc n) × (get_or a n 0 ≡ 1)
 top_of_monic a (lower, a_is) = (
   length lower,
   ap length a_is ∙ length-append lower (1 ∷ [])
@@ -152,8 +152,8 @@ module _ {A : Type 0} (r : TestedRing A) (one_not_zero : ¬ (r.𝟙 ≡ r.𝟘))
 
 module _ (k : CodeField) where
   -- the product of two monic polynomials is monic
-  pub IsMonic_product : (a b : List ℕ) → IsOver k.ops a → IsOver k.ops b → IsMonic a → IsMonic b
-      → IsMonic (product_of k.ops a b)
+  pub IsMonic_product : (a b : List ℕ) → IsOver k.ops a → IsOver k.ops b → IsMonicList a → IsMonicList b
+      → IsMonicList (product_of k.ops a b)
   IsMonic_product a b a_in b_in a_monic b_monic =
       let m = (top_of_monic a a_monic).0 in
       let n = (top_of_monic b b_monic).0 in

@@ -4,7 +4,7 @@ use Rattle.std.specs.Prelude.{◌≡◌, ◌≢◌, ℕ, suc, ◌<◌, ◌≤◌
 use Rattle.std.specs.Global.{Vec}
 use Rattle.ff_fields.specs.Field.{FieldOps}
 use Rattle.ff_fields.specs.Over.{IsOver}
-use Rattle.ff_poly.specs.Words.{IsPoly, IsMonic, sum_of, product_of}
+use Rattle.ff_poly.specs.Words.{IsPoly, IsMonicList, sum_of, product_of}
 
 -- the rows that vectors of polynomials hold
 abbrev pub rows_of : List (Vec (List ℕ)) → List (List (List ℕ))
@@ -38,15 +38,15 @@ pub record IsPivot (row : List (List ℕ)) (j : ℕ) : Type 0 where
   pub rightmost : (i : ℕ) → j < i → length (entry_at row i) < length (entry_at row j)
 
 -- weak Popov form: no two rows have their pivots in one column
-pub record IsWeakPopov (rows : List (List (List ℕ))) : Type 0 where
+pub record IsWeakPopovMatrix (rows : List (List (List ℕ))) : Type 0 where
   pub apart : (i j column : ℕ) → IsPivot (row_at rows i) column → IsPivot (row_at rows j) column → i ≡ j
 
 -- Popov form of full rank: row i has its pivot in column i, the pivot is monic, and every other entry of the column has
 -- a smaller degree
-pub record IsPopov (width : ℕ) (rows : List (List (List ℕ))) : Type 0 where
+pub record IsPopovMatrix (width : ℕ) (rows : List (List (List ℕ))) : Type 0 where
   pub size : length rows ≡ width
   pub pivot_at : (i : ℕ) → i < width → IsPivot (row_at rows i) i
-  pub monic : (i : ℕ) → i < width → IsMonic (entry_at (row_at rows i) i)
+  pub monic : (i : ℕ) → i < width → IsMonicList (entry_at (row_at rows i) i)
   pub smaller : (i j : ℕ) → i < width → j < width → i ≢ j
       → length (entry_at (row_at rows i) j) < length (entry_at (row_at rows j) j)
   pub trimmed : (i j : ℕ) → IsPoly (entry_at (row_at rows i) j)
@@ -66,8 +66,8 @@ longest [] = 0
 longest (entry ∷ row) = max (length entry) (longest row)
 
 -- the sum of width·(degree + 1) over the rows that are not zero
-abbrev pub degree_bound : ℕ → List (List (List ℕ)) → ℕ
-degree_bound width rows = sum_by (λ row. width * longest row) rows
+abbrev pub row_degree_bound : ℕ → List (List (List ℕ)) → ℕ
+row_degree_bound width rows = sum_by (λ row. width * longest row) rows
 
 -- the sum of two rows, and a multiple of a row, entry by entry
 abbrev pub sum_of_rows : FieldOps → List (List ℕ) → List (List ℕ) → List (List ℕ)
@@ -92,22 +92,22 @@ pub record IsCombinationList (k : FieldOps) (width : ℕ) (rows : List (List (Li
   pub is : v ≡ combination k width coefficients rows
 
 -- the lattice of the rows: their combinations
-pub record InSpan (k : FieldOps) (width : ℕ) (rows : List (List (List ℕ))) (v : List (List ℕ)) : Type 0 where
+pub record InRowSpan (k : FieldOps) (width : ℕ) (rows : List (List (List ℕ))) (v : List (List ℕ)) : Type 0 where
   pub coefficients : List (List ℕ)
   pub is : IsCombinationList k width rows v coefficients
 
-pub record HaveSameSpan (k : FieldOps) (width : ℕ) (rows rows' : List (List (List ℕ))) : Type 0 where
-  pub left : (v : List (List ℕ)) → InSpan k width rows v → InSpan k width rows' v
-  pub right : (v : List (List ℕ)) → InSpan k width rows' v → InSpan k width rows v
+pub record HaveSameRowSpan (k : FieldOps) (width : ℕ) (rows rows' : List (List (List ℕ))) : Type 0 where
+  pub left : (v : List (List ℕ)) → InRowSpan k width rows v → InRowSpan k width rows' v
+  pub right : (v : List (List ℕ)) → InRowSpan k width rows' v → InRowSpan k width rows v
 
 -- a multiple of v by a polynomial other than zero is in the lattice
-pub record HasMultipleIn (k : FieldOps) (width : ℕ) (rows : List (List (List ℕ))) (v : List (List ℕ)) : Type 0 where
+pub record HasMultipleInRows (k : FieldOps) (width : ℕ) (rows : List (List (List ℕ))) (v : List (List ℕ)) : Type 0 where
   pub factor : List ℕ
   pub factor_in : IsOver k factor
   pub factor_poly : IsPoly factor
   pub factor_some : factor ≢ []
-  pub in_span : InSpan k width rows (multiple_of_row k factor v)
+  pub in_span : InRowSpan k width rows (multiple_of_row k factor v)
 
 -- the rank is the width: each row of the width has a multiple in the lattice
-pub record HasFullRank (k : FieldOps) (width : ℕ) (rows : List (List (List ℕ))) : Type 0 where
-  pub multiple : (v : List (List ℕ)) → IsRow k width v → HasMultipleIn k width rows v
+pub record HasFullRankMatrix (k : FieldOps) (width : ℕ) (rows : List (List (List ℕ))) : Type 0 where
+  pub multiple : (v : List (List ℕ)) → IsRow k width v → HasMultipleInRows k width rows v

@@ -18,7 +18,7 @@ use Rattle.ff_poly.specs.PolyOver.{IsOver_difference_of}
 use Rattle.ff_poly.specs.Value.{value}
 use Rattle.ff_poly.specs.Polynomials.{value_nil, value_one}
 use Rattle.ff_poly.specs.Terms.{term, less_multiple, value_difference, value_less_multiple, IsOver_less_multiple}
-use Rattle.ff_poly.specs.Popov.{rows_of, entry_at, row_at, IsRow, IsPivot, IsZeroRow, IsPopov, InSpan, IsCombinationList}
+use Rattle.ff_poly.specs.Popov.{rows_of, entry_at, row_at, IsRow, IsPivot, IsZeroRow, IsPopovMatrix, InRowSpan, IsCombinationList}
 use Rattle.popov_theory.specs.Module.{PolynomialModule}
 use Rattle.popov_theory.specs.Span.{combine}
 use Rattle.popov_theory.specs.Span as theory
@@ -103,7 +103,7 @@ module _ (k : CodeField) where
       ∙ ap S.⊖◌ (mul_neg S.ring (value k (term c s)) S.𝟙 ∙ ap S.⊖◌ (S.mul_one (value k (term c s))))
       ∙ neg_neg S.ring (value k (term c s)))
 
-  module _ (w : ℕ) (basis : List (List (List ℕ))) (all : All (IsRow k.ops w) basis) (popov : IsPopov w basis)
+  module _ (w : ℕ) (basis : List (List (List ℕ))) (all : All (IsRow k.ops w) basis) (popov : IsPopovMatrix w basis)
       (v : List (List ℕ)) (v_row : IsRow k.ops w v) where
     abbrev M : PolynomialModule (code_ring k) (Row (Pol (code_ring k)) (suc (w - 1)))
     M = row_space k w
@@ -179,7 +179,7 @@ module _ (k : CodeField) where
 
     pub rest_not : (cs rest : List (List ℕ)) (column : ℕ) → IsRest k w basis v cs rest → All IsPoly rest
         → IsPivot rest column → length (entry_at rest column) < length (entry_at (row_at basis column) column)
-        → ¬ InSpan k.ops w basis v
+        → ¬ InRowSpan k.ops w basis v
     rest_not cs rest column h rest_poly p shorter v_in =
         let at = measured k w rest column h.row.size p (h.row.over column [] in_row) (rest_poly column [] in_row) in
         absurd (omega (
@@ -237,7 +237,7 @@ module _ (k : CodeField) where
 
 -- the row that is taken away
 pub basis_row_read : (k : CodeField) (vs : List (Vec (List ℕ))) (w column : ℕ) (u : Vec (List ℕ)) (b : List (List ℕ))
-    → IsPopov w (rows_of vs) → column < w → u ≡ get_or vs column u → b ≡ u.items → b ≡ row_at (rows_of vs) column
+    → IsPopovMatrix w (rows_of vs) → column < w → u ≡ get_or vs column u → b ≡ u.items → b ≡ row_at (rows_of vs) column
 basis_row_read k vs w column u b popov less u_is b_is = read_row_of vs column u b
     (omega (arith, less, popov.size, length-map vs (λ x. x.items))) u_is b_is
 

@@ -11,7 +11,7 @@ use Rattle.ring_lemmas.specs.Rows.{Row}
 use Rattle.ring_lemmas.specs.Polynomials.{Pol}
 use Rattle.ff_poly.specs.Value.{value}
 use Rattle.ff_poly.specs.Polynomials.{codes_of, IsOver_codes_of, value_codes_of, value_not_zero}
-use Rattle.ff_poly.specs.Popov.{row_at, IsRow, IsPivot, IsZeroRow, IsWeakPopov, HasFullRank, HasMultipleIn, HaveSameSpan, IsPopov, multiple_of_row, combination}
+use Rattle.ff_poly.specs.Popov.{row_at, IsRow, IsPivot, IsZeroRow, IsWeakPopovMatrix, HasFullRankMatrix, HasMultipleInRows, HaveSameRowSpan, IsPopovMatrix, multiple_of_row, combination}
 use Rattle.popov_theory.specs.Module.{PolynomialModule, measure, pivot}
 use Rattle.popov_theory.specs.Popov as theory
 use Rattle.popov_theory.specs.Span as spans
@@ -27,8 +27,8 @@ use Rattle.ff_popov.proofs.Spans.{to_space, space_multiple, member_row, combinat
 use Rattle.ff_popov.proofs.Transformations.{row_past as codes_past}
 
 -- full rank is a matter of the lattice
-pub full_rank_same : (k : CodeField) (w : ℕ) (rows rows' : List (List (List ℕ))) → HaveSameSpan k.ops w rows rows'
-    → HasFullRank k.ops w rows → HasFullRank k.ops w rows'
+pub full_rank_same : (k : CodeField) (w : ℕ) (rows rows' : List (List (List ℕ))) → HaveSameRowSpan k.ops w rows rows'
+    → HasFullRankMatrix k.ops w rows → HasFullRankMatrix k.ops w rows'
 full_rank_same k w rows rows' h full = record {
   multiple = λ v v_row.
       let m = full.multiple v v_row in
@@ -70,7 +70,7 @@ module _ (k : CodeField) where
     abbrev rs : List (Row (Pol (code_ring k)) (suc (w - 1)))
     rs = read_rows k w rows
 
-    pub space_full_rank : HasFullRank k.ops w rows → spans.HasFullRank M rs
+    pub space_full_rank : HasFullRankMatrix k.ops w rows → spans.HasFullRank M rs
     space_full_rank full = record { multiple = multiple }
       where
         multiple : (v : Row (Pol (code_ring k)) (suc (w - 1))) → spans.HasMultipleIn M rs v
@@ -94,10 +94,10 @@ module _ (k : CodeField) where
                   (suc (w - 1)) v;
             }
 
-            m : HasMultipleIn k.ops w rows (codes_row (suc (w - 1)) v)
+            m : HasMultipleInRows k.ops w rows (codes_row (suc (w - 1)) v)
             m = full.multiple (codes_row (suc (w - 1)) v) u_row
 
-    module _ (weak : IsWeakPopov rows) (j : ℕ) (less : j < w) (missing : IsMissing rows j) where
+    module _ (weak : IsWeakPopovMatrix rows) (j : ℕ) (less : j < w) (missing : IsMissing rows j) where
       position_below : (m p : ℕ) → IsPivot (row_at rows m) p → m < length rows
       position_below m p at = go (cases_lt m (length rows))
         where
@@ -142,7 +142,7 @@ module _ (k : CodeField) where
               (pivot_of (full.owner j) (full.owner_some j in_width))
 
       -- a column without a pivot keeps the rank below the width
-      pub rank_below : ¬ HasFullRank k.ops w rows
+      pub rank_below : ¬ HasFullRankMatrix k.ops w rows
       rank_below rank = not_full (full_from_rank M (code_domain k) rs space_weak (space_full_rank rank))
 
 empty_same : {X : Type 0} (u v : List X) → length u ≡ 0 → length v ≡ 0 → u ≡ v
@@ -150,10 +150,10 @@ empty_same u v u_size v_size = nil_from_length u u_size ∙ sym (nil_from_length
 
 module _ (k : CodeField) (w : ℕ) (rows : List (List (List ℕ))) (all : All (IsRow k.ops w) rows) where
   -- no rows, of a width above 0
-  pub no_rows : 0 < w → length rows ≡ 0 → ¬ HasFullRank k.ops w rows
+  pub no_rows : 0 < w → length rows ≡ 0 → ¬ HasFullRankMatrix k.ops w rows
   no_rows positive none = rank_below k w positive rows all weak 0 positive missing
     where
-      weak : IsWeakPopov rows
+      weak : IsWeakPopovMatrix rows
       weak = record {
         apart = λ i j column p q. absurd
             (omega (arith, pivot_below (row_at rows i) column p, ap length (codes_past rows i (omega (arith, none)))));
@@ -166,7 +166,7 @@ module _ (k : CodeField) (w : ℕ) (rows : List (List (List ℕ))) (all : All (I
       }
 
   -- rows without columns have no rows as their Popov basis
-  pub no_columns : w ≡ 0 → IsPopov w [] × All (IsRow k.ops w) [] × HaveSameSpan k.ops w rows []
+  pub no_columns : w ≡ 0 → IsPopovMatrix w [] × All (IsRow k.ops w) [] × HaveSameRowSpan k.ops w rows []
   no_columns none = (
     record {
       size = sym none;
@@ -207,12 +207,12 @@ module _ (k : CodeField) (w : ℕ) (rows : List (List (List ℕ))) (all : All (I
       zeros = All-replicate (IsOver k.ops) (length rows) [] IsOver_nil
 
   -- the Popov basis of the reduced rows is that of the rows, and they have no basis together
-  pub found_of : {B : Type 0} → 0 < w → (reduced : List (List (List ℕ))) → HaveSameSpan k.ops w rows reduced
-      → All (IsRow k.ops w) reduced → IsWeakPopov reduced → (found : Option B) (of : B → List (List (List ℕ)))
+  pub found_of : {B : Type 0} → 0 < w → (reduced : List (List (List ℕ))) → HaveSameRowSpan k.ops w rows reduced
+      → All (IsRow k.ops w) reduced → IsWeakPopovMatrix reduced → (found : Option B) (of : B → List (List (List ℕ)))
       → MatchOption found ((j : ℕ) × (j < w) × IsMissing reduced j)
-      (λ basis. IsPopov w (of basis) × All (IsRow k.ops w) (of basis) × HaveSameSpan k.ops w reduced (of basis))
-      → MatchOption found (¬ HasFullRank k.ops w rows)
-      (λ basis. IsPopov w (of basis) × All (IsRow k.ops w) (of basis) × HaveSameSpan k.ops w rows (of basis))
+      (λ basis. IsPopovMatrix w (of basis) × All (IsRow k.ops w) (of basis) × HaveSameRowSpan k.ops w reduced (of basis))
+      → MatchOption found (¬ HasFullRankMatrix k.ops w rows)
+      (λ basis. IsPopovMatrix w (of basis) × All (IsRow k.ops w) (of basis) × HaveSameRowSpan k.ops w rows (of basis))
   found_of positive reduced same reduced_in weak None of (j, less, missing) = λ rank. rank_below k w positive reduced
       reduced_in weak j less missing
       (full_rank_same k w rows reduced same rank)

@@ -9,7 +9,7 @@ use Rattle.ff_fields.specs.Code.{code_ring, code_domain, code_field}
 use Rattle.ring_lemmas.specs.Rows.{Row}
 use Rattle.ring_lemmas.specs.Polynomials.{Pol}
 use Rattle.ff_poly.specs.Words.{IsPoly}
-use Rattle.ff_poly.specs.Popov.{entry_at, row_at, IsRow, IsPivot, IsZeroRow, IsWeakPopov, IsPopov}
+use Rattle.ff_poly.specs.Popov.{entry_at, row_at, IsRow, IsPivot, IsZeroRow, IsWeakPopovMatrix, IsPopovMatrix}
 use Rattle.popov_theory.specs.Module.{PolynomialModule, measure, pivot, row_degree, column}
 use Rattle.popov_theory.specs.Span.{InSpan, IsWithin, HaveSameSpan}
 use Rattle.ff_poly.specs.Popov as codes
@@ -68,7 +68,7 @@ zero_or_pivot_of (a ∷ row) = go (zero_or_pivot_of row)
         )
 
 module _ (k : CodeField) (w : ℕ) (rows : List (List (List ℕ))) (os : List ℕ) (all : All (IsRow k.ops w) rows)
-    (weak : IsWeakPopov rows) (owners : IsOwners w rows os) where
+    (weak : IsWeakPopovMatrix rows) (owners : IsOwners w rows os) where
   abbrev M : PolynomialModule (code_ring k) (Row (Pol (code_ring k)) (suc (w - 1)))
   M = row_space k w
 
@@ -215,7 +215,7 @@ module _ (k : CodeField) (w : ℕ) (rows : List (List (List ℕ))) (os : List �
         go (inl less) = h j [] less
         go (inr more) = subst IsPoly (sym (past_row row j more)) (record { trimmed = tt })
 
-    pub rows_popov : IsPopov w ps
+    pub rows_popov : IsPopovMatrix w ps
     rows_popov = record {
       size = size;
       pivot_at = popov_pivot;
@@ -269,7 +269,7 @@ module _ (k : CodeField) (w : ℕ) (rows : List (List (List ℕ))) (os : List �
 
   -- the rows of the Popov basis are the Popov basis of the lattice
   pub basis_is : (ps : List (List (List ℕ))) → 0 < w → IsPopovRows k w rows os w ps
-      → IsPopov w ps × All (IsRow k.ops w) ps × codes.HaveSameSpan k.ops w rows ps
+      → IsPopovMatrix w ps × All (IsRow k.ops w) ps × codes.HaveSameRowSpan k.ops w rows ps
   basis_is ps positive h = (
     rows_popov positive ps h.size h.each,
     rows_in positive ps h.size h.each,

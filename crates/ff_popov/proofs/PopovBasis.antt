@@ -7,7 +7,7 @@ use Rattle.ff_fields.specs.Field.{CodeField}
 use Rattle.ff_fields.specs.Code.{code_ring, code_domain, read_code, read_code_below, same_code}
 use Rattle.ring_lemmas.specs.Rows.{Row}
 use Rattle.ring_lemmas.specs.Polynomials.{Pol}
-use Rattle.ff_poly.specs.Popov.{entry_at, row_at, IsRow, IsPopov}
+use Rattle.ff_poly.specs.Popov.{entry_at, row_at, IsRow, IsPopovMatrix}
 use Rattle.popov_theory.specs.Module.{PolynomialModule, measure, pivot, row_degree, column}
 use Rattle.popov_theory.specs.Span.{InSpan}
 use Rattle.popov_theory.specs.Popov as theory
@@ -24,7 +24,7 @@ use Rattle.ff_poly.specs.Value.{value}
 use Rattle.ff_poly.specs.Polynomials.{series_read}
 
 module _ (k : CodeField) (w : ℕ) (basis : List (List (List ℕ))) (all : All (IsRow k.ops w) basis)
-    (popov : IsPopov w basis) where
+    (popov : IsPopovMatrix w basis) where
   abbrev M : PolynomialModule (code_ring k) (Row (Pol (code_ring k)) (suc (w - 1)))
   M = row_space k w
 

@@ -6,7 +6,7 @@ use Rattle.std.proofs.lemmas.Nat.{mul-le}
 use Rattle.std.proofs.lemmas.Bool.{cases_lt}
 use Rattle.std.proofs.lemmas.List.Sums.{sum_by-cons}
 use Rattle.ff_fields.specs.Field.{FieldOps}
-use Rattle.ff_poly.specs.Popov.{entry_at, IsRow, IsPivot, longest, degree_bound}
+use Rattle.ff_poly.specs.Popov.{entry_at, IsRow, IsPivot, longest, row_degree_bound}
 use Rattle.ff_popov.specs.Rows.{IsCleared, position_from, position, total_position}
 use Rattle.ff_popov.proofs.Pivots.{pivot_below}
 
@@ -77,7 +77,7 @@ position_bound w row size =
     omega (arith, times_le (length (entry_at row j)) (longest row) w (longest_ge row j less), less, size))
 
 pub total_bound : (k : FieldOps) (w : ℕ) (rows : List (List (List ℕ))) → All (IsRow k w) rows
-    → total_position w rows ≤ degree_bound w rows
+    → total_position w rows ≤ row_degree_bound w rows
 total_bound k w [] all = omega arith
 total_bound k w (row ∷ rows) all =
     omega (

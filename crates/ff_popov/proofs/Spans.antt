@@ -13,7 +13,7 @@ use Rattle.ff_poly.specs.Words.{IsPoly, sum_of, product_of}
 use Rattle.ff_poly.specs.PolyOver.{IsOver_sum_of, IsOver_product_of, IsPoly_poly_of}
 use Rattle.ff_poly.specs.Value.{value}
 use Rattle.ff_poly.specs.Polynomials.{codes_of, IsOver_codes_of, value_codes_of}
-use Rattle.ff_poly.specs.Popov.{IsRow, sum_of_rows, multiple_of_row, combination, IsCombinationList, InSpan, HaveSameSpan}
+use Rattle.ff_poly.specs.Popov.{IsRow, sum_of_rows, multiple_of_row, combination, IsCombinationList, InRowSpan, HaveSameRowSpan}
 use Rattle.popov_theory.specs.Module.{PolynomialModule}
 use Rattle.popov_theory.specs.Span.{combine}
 use Rattle.popov_theory.specs.Span as theory
@@ -129,15 +129,15 @@ module _ (k : CodeField) where
 
     -- members of the lattice are rows without zeros on top
     pub member_row : (rows : List (List (List ℕ))) → All (IsRow k.ops w) rows → (v : List (List ℕ))
-        → InSpan k.ops w rows v → IsRow k.ops w v
+        → InRowSpan k.ops w rows v → IsRow k.ops w v
     member_row rows all v v_in = subst (IsRow k.ops w) (sym v_in.is.is)
         (combination_row v_in.coefficients rows v_in.is.over all)
 
-    pub member_poly : (rows : List (List (List ℕ))) (v : List (List ℕ)) → InSpan k.ops w rows v → All IsPoly v
+    pub member_poly : (rows : List (List (List ℕ))) (v : List (List ℕ)) → InRowSpan k.ops w rows v → All IsPoly v
     member_poly rows v v_in = subst (All IsPoly) (sym v_in.is.is) (combination_poly v_in.coefficients rows)
 
     pub to_space : (rows : List (List (List ℕ))) → All (IsRow k.ops w) rows → (v : List (List ℕ))
-        → InSpan k.ops w rows v → theory.InSpan M (read_rows k w rows) (R v)
+        → InRowSpan k.ops w rows v → theory.InSpan M (read_rows k w rows) (R v)
     to_space rows all v v_in = record {
       coefficients = λ i. value k (get_or v_in.coefficients i []);
       is = ap R v_in.is.is ∙ combination_read v_in.coefficients rows v_in.is.size v_in.is.over all;
@@ -164,7 +164,7 @@ module _ (k : CodeField) where
     }
 
     pub from_space : (rows : List (List (List ℕ))) → All (IsRow k.ops w) rows → (v : List (List ℕ)) → IsRow k.ops w v
-        → All IsPoly v → theory.InSpan M (read_rows k w rows) (R v) → InSpan k.ops w rows v
+        → All IsPoly v → theory.InSpan M (read_rows k w rows) (R v) → InRowSpan k.ops w rows v
     from_space rows all v v_row v_poly v_in = record {
       coefficients = cs;
       is = combination_from rows all v v_row v_poly cs (listed_length (length rows) f)
@@ -184,7 +184,7 @@ module _ (k : CodeField) where
 
     -- rows whose spans are the same have the same lattice, and the other way round
     pub same_lattice : (rows rows' : List (List (List ℕ))) → All (IsRow k.ops w) rows → All (IsRow k.ops w) rows'
-        → theory.HaveSameSpan M (read_rows k w rows) (read_rows k w rows') → HaveSameSpan k.ops w rows rows'
+        → theory.HaveSameSpan M (read_rows k w rows) (read_rows k w rows') → HaveSameRowSpan k.ops w rows rows'
     same_lattice rows rows' all all' h = record {
       left = λ v v_in. from_space rows' all' v (member_row rows all v v_in) (member_poly rows v v_in)
           (h.left.within (R v) (to_space rows all v v_in));

@@ -15,7 +15,7 @@ use Rattle.ring_lemmas.proofs.Ring.{zero_add, neg_neg, neg_zero}
 use Rattle.ring_lemmas.specs.Polynomials.{Pol}
 use Rattle.ring_theory.specs.PolynomialRing.{pol_ring}
 use Rattle.ring_lemmas.proofs.Polynomials.{coeff_past, series_add}
-use Rattle.ff_poly.specs.Words.{IsPoly, IsMonic, difference_of}
+use Rattle.ff_poly.specs.Words.{IsPoly, IsMonicList, difference_of}
 use Rattle.ff_poly.specs.Value.{value}
 use Rattle.ff_poly.specs.Polynomials.{value_nil, value_one, series_read}
 use Rattle.ff_poly.specs.Terms.{term, less_multiple, value_less_multiple, IsOver_less_multiple, IsPoly_less_multiple}
@@ -80,7 +80,7 @@ module _ (k : CodeField) where
             (sym (top_coeff a d a_in short) ∙ coeff_past (code_ring k) (value k T).0 d
             (omega (arith, value_short k T, le))))
 
-    pub top_monic : IsMonic T
+    pub top_monic : IsMonicList T
     top_monic =
         IsMonic_from_top d T top_length
         (sym (read_code_below k (get_or T d 0) (get_or_below k T d top_over))
@@ -184,7 +184,7 @@ module _ (k : CodeField) where
           ∙ v_add_comm M (M.⊟◌ (R spike)) (R r) ∙ sym out_read)
           (neg_in M (InSpan M (read_rows k w rows)) (span_submodule M (read_rows k w rows)) _ h.difference);
       size = ap length at ∙ top_length (entry_at r i) d entry_in short ∙ d_is;
-      monic = subst IsMonic (sym at) (top_monic (entry_at r i) d entry_in short);
+      monic = subst IsMonicList (sym at) (top_monic (entry_at r i) d entry_in short);
       smaller = λ j in_w off. omega (
         arith,
         ap length

@@ -15,7 +15,7 @@ use Rattle.ring_lemmas.specs.Rows.{Row}
 use Rattle.ring_lemmas.specs.Polynomials.{Pol}
 use Rattle.ff_poly.specs.Value.{value}
 use Rattle.ff_poly.specs.Terms.{term, IsOver_less_multiple}
-use Rattle.ff_poly.specs.Popov.{rows_of, entry_at, row_at, width_of, IsRow, IsPivot, IsWeakPopov}
+use Rattle.ff_poly.specs.Popov.{rows_of, entry_at, row_at, width_of, IsRow, IsPivot, IsWeakPopovMatrix}
 use Rattle.popov_theory.specs.Module.{PolynomialModule}
 use Rattle.popov_theory.specs.Span.{InSpan, HaveSameSpan}
 use Rattle.popov_theory.specs.Popov.{put}
@@ -216,7 +216,7 @@ row_past [] i le = refl
 row_past (r ∷ rows) zero le = absurd (omega (arith, le))
 row_past (r ∷ rows) (suc i) le = row_past rows i (omega (arith, le))
 
-pub weak_from_apart : (rows : List (List (List ℕ))) → IsApartBelow (length rows) rows → IsWeakPopov rows
+pub weak_from_apart : (rows : List (List (List ℕ))) → IsApartBelow (length rows) rows → IsWeakPopovMatrix rows
 weak_from_apart rows apart = record {
   apart = λ a b p at_a at_b. apart.apart a b p (within a p at_a) (within b p at_b)
       at_a at_b;

@@ -1,7 +1,7 @@
 -- The words of the private contracts: what a simple transformation does to rows.
 use Rattle.std.specs.Prelude.{◌≡◌, ℕ, suc, ◌<◌, ◌≤◌, ◌+◌, ◌-◌, ◌*◌, ◌^◌, ◌⊎◌, List, [], ◌∷◌, length, get_or, max, sum_by, swap, All}
 use Rattle.ff_fields.specs.Field.{FieldOps, CodeField}
-use Rattle.ff_poly.specs.Words.{IsPoly, IsMonic}
+use Rattle.ff_poly.specs.Words.{IsPoly, IsMonicList}
 use Rattle.ff_poly.specs.Terms.{less_multiple}
 use Rattle.ff_poly.specs.Popov.{entry_at, row_at, IsRow, IsPivot}
 use Rattle.popov_theory.specs.Span.{InSpan, HaveSameSpan}
@@ -117,7 +117,7 @@ pub record IsPopovRow (k : CodeField) (width : ℕ) (rows : List (List (List ℕ
   pub trimmed : All IsPoly row
   pub in_span : InSpan (row_space k width) (read_rows k width rows) (read_row k (suc (width - 1)) row)
   pub size : length (entry_at row i) ≡ owner_length rows owners i
-  pub monic : IsMonic (entry_at row i)
+  pub monic : IsMonicList (entry_at row i)
   pub smaller : (j : ℕ) → j < width → ¬ (j ≡ i) → length (entry_at row j) < owner_length rows owners j
 
 -- the rows of the Popov basis for the columns below n

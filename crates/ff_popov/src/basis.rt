@@ -2,7 +2,7 @@
 
 ghost use Rattle.std.specs.Prelude.{◌≡◌, ◌∷◌, [], ◌+◌, ◌<◌, ◌≤◌, ℕ, length, All, IfOk, OnOk, MatchOption};
 ghost use Rattle.ff_poly.specs.Words.{poly_of};
-ghost use Rattle.ff_poly.specs.Popov.{rows_of, row_at, entry_at, width_of, IsRow, IsPivot, IsWeakPopov, IsPopov, HaveSameSpan, HasFullRank};
+ghost use Rattle.ff_poly.specs.Popov.{rows_of, row_at, entry_at, width_of, IsRow, IsPivot, IsWeakPopovMatrix, IsPopovMatrix, HaveSameRowSpan, HasFullRankMatrix};
 ghost use Rattle.ff_popov.specs.Rows.{IsShortened, IsOwner, IsMissing, IsOwners, IsLow, IsCongruentRow, IsPopovRow, IsPopovRows, owner_length};
 
 use crate::members::{minus_one, zero_row};
@@ -176,10 +176,10 @@ fn basis_of<K: SmallField>(
 ) -> Result<Option<Vec<Vec<Poly>>>, AllocError>
     requires positive { 0 < width }
     requires rows_in { All (IsRow (K.field k.now).ops width) (rows_of rows.now) }
-    requires weak { IsWeakPopov (rows_of rows.now) }
+    requires weak { IsWeakPopovMatrix (rows_of rows.now) }
     ensures { IfOk result (λ found. MatchOption found ((j : ℕ) × (j < width) × IsMissing (rows_of rows.now) j)
-        (λ basis. IsPopov width (rows_of basis.items) × All (IsRow (K.field k.now).ops width) (rows_of basis.items)
-        × HaveSameSpan (K.field k.now).ops width (rows_of rows.now) (rows_of basis.items))) }
+        (λ basis. IsPopovMatrix width (rows_of basis.items) × All (IsRow (K.field k.now).ops width) (rows_of basis.items)
+        × HaveSameRowSpan (K.field k.now).ops width (rows_of rows.now) (rows_of basis.items))) }
 {
     match owners(alloc, rows, width)? {
         None => Ok(None),
@@ -201,8 +201,8 @@ fn reduce_rows<K: SmallField, L: Ledger>(
     requires parts { blank.parts ≡ L.parts }
     requires one { blank.parts ≡ 1 }
     requires rows_in { All (IsRow (K.field k.now).ops (width_of (rows_of rows.old.items))) (rows_of rows.old.items) }
-    ensures weak { OnOk result (IsWeakPopov (rows_of rows.new.items)) }
-    ensures span { HaveSameSpan (K.field k.now).ops (width_of (rows_of rows.old.items)) (rows_of rows.old.items)
+    ensures weak { OnOk result (IsWeakPopovMatrix (rows_of rows.new.items)) }
+    ensures span { HaveSameRowSpan (K.field k.now).ops (width_of (rows_of rows.old.items)) (rows_of rows.old.items)
         (rows_of rows.new.items) }
     ensures rows_in { All (IsRow (K.field k.now).ops (width_of (rows_of rows.old.items))) (rows_of rows.new.items) }
 {
@@ -220,9 +220,9 @@ pub fn popov<K: SmallField>(
     width: usize,
 ) -> Result<Option<Vec<Vec<Poly>>>, AllocError>
     requires { All (IsRow (K.field k.now).ops width) (rows_of rows.items) }
-    ensures { IfOk result (λ found. MatchOption found (¬ HasFullRank (K.field k.now).ops width (rows_of rows.items))
-        (λ basis. IsPopov width (rows_of basis.items) × All (IsRow (K.field k.now).ops width) (rows_of basis.items)
-        × HaveSameSpan (K.field k.now).ops width (rows_of rows.items) (rows_of basis.items))) }
+    ensures { IfOk result (λ found. MatchOption found (¬ HasFullRankMatrix (K.field k.now).ops width (rows_of rows.items))
+        (λ basis. IsPopovMatrix width (rows_of basis.items) × All (IsRow (K.field k.now).ops width) (rows_of basis.items)
+        × HaveSameRowSpan (K.field k.now).ops width (rows_of rows.items) (rows_of basis.items))) }
 {
     if width == 0 {
         return Ok(Some(Vec::new(alloc)));

@@ -3,7 +3,7 @@
 ghost use Rattle.std.specs.Prelude.{◌≡◌, ◌∷◌, [], length, replicate, All, IfOk, MatchOption};
 ghost use Rattle.ff_fields.specs.Over.{IsOver};
 ghost use Rattle.ff_poly.specs.Words.{difference_of};
-ghost use Rattle.ff_poly.specs.Popov.{rows_of, IsRow, IsPopov, InSpan, IsCombinationList};
+ghost use Rattle.ff_poly.specs.Popov.{rows_of, IsRow, IsPopovMatrix, InRowSpan, IsCombinationList};
 
 use crate::rows::{clear_pivot, copy_row, pivot};
 use ff_fields::field::SmallField;
@@ -40,10 +40,10 @@ pub fn coordinates<K: SmallField>(
     v: &[Poly],
 ) -> Result<Option<Vec<Poly>>, AllocError>
     requires basis_in { All (IsRow (K.field k.now).ops (length v.now)) (rows_of basis.now) }
-    requires popov { IsPopov (length v.now) (rows_of basis.now) }
+    requires popov { IsPopovMatrix (length v.now) (rows_of basis.now) }
     requires v_in { All (IsOver (K.field k.now).ops) v.now }
     ensures { IfOk result (λ found. MatchOption found
-        (¬ InSpan (K.field k.now).ops (length v.now) (rows_of basis.now) v.now)
+        (¬ InRowSpan (K.field k.now).ops (length v.now) (rows_of basis.now) v.now)
         (λ c. IsCombinationList (K.field k.now).ops (length v.now) (rows_of basis.now) v.now c.items)) }
 {
     let minus = minus_one(alloc, k)?;

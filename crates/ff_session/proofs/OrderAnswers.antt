@@ -10,7 +10,7 @@ use Rattle.function_field.specs.declared.side.Side.TheVariants.{Finite, Infinite
 use Rattle.function_field.specs.Values.{ElemValue}
 use Rattle.function_field.specs.Infinity.{function_on}
 use Rattle.function_field.specs.Curves.{CurveValue, IsCurve}
-use Rattle.ff_lattice.specs.Lattices.{LatticeValue, IsLattice, row_elems}
+use Rattle.ff_lattice.specs.Lattices.{LatticeValue, IsLatticeValue, row_elems}
 use Rattle.value_theory.specs.IntegralLattices.{presentation, SpansIntegral, SpansOverPowersOfT, IsIntegralLattice}
 use Rattle.ff_text.specs.Printed.{WrittenValue}
 use Rattle.ff_meaning.specs.LowestTerms.{IsWritten}
@@ -23,8 +23,8 @@ one_degree k c h Finite = refl
 one_degree k c h Infinite = h.infinite.degree
 
 module _ (k : CodeField) (c : CurveValue) (s : Side) where
-  pub form_on : (l : LatticeValue) → IsCurve k c → IsIntegralLattice k c s l → IsLattice k.ops c.fin.n l
-  form_on l curve h = subst (λ n. IsLattice k.ops n l) (one_degree k c curve s) h.form
+  pub form_on : (l : LatticeValue) → IsCurve k c → IsIntegralLattice k c s l → IsLatticeValue k.ops c.fin.n l
+  form_on l curve h = subst (λ n. IsLatticeValue k.ops n l) (one_degree k c curve s) h.form
 
   rows_push : (rs : List ElemValue) (zs : List WrittenValue) (r : ElemValue) (z : WrittenValue)
       → order_row.AreWrittenRows k c s rs zs

@@ -9,7 +9,7 @@ use Rattle.std.proofs.lemmas.List.Folds.{sum_by-replicate}
 use Rattle.std.proofs.Math.Seq.{get_or-append_seam, take-suc}
 use Rattle.ff_fields.specs.Code.{is_zero_code}
 use Rattle.ring_lemmas.proofs.Lists.{IsTrimmed_push, trim_trimmed}
-use Rattle.ff_poly.specs.Words.{IsPoly, poly_of, IsMonic, top_of}
+use Rattle.ff_poly.specs.Words.{IsPoly, poly_of, IsMonicList, top_of}
 use Rattle.ff_text.specs.Printed.{power_text, term_text, poly_text, term_count, den_text, over_text, IsPrintable}
 use Rattle.ff_text.specs.PrintedWriting.{plus_text}
 use Rattle.ff_text.specs.PrintedReading.{◌>>=◌, after_text, power_at, poly_at, inner_at, power_of_x, den_at, over_at}
@@ -22,7 +22,7 @@ use Rattle.ff_text.proofs.PrintedTexts.{poly_end}
 
 -- ---- monic polynomials
 
-monic_top : (d : List ℕ) → top_of d ≡ 1 → IsMonic d
+monic_top : (d : List ℕ) → top_of d ≡ 1 → IsMonicList d
 monic_top [] e = absurd cc
 monic_top (a ∷ bs) e =
     let last : get_or (a ∷ bs) (length bs) 0 ≡ 1 = ap (λ i. get_or (a ∷ bs) i 0) (omega arith) ∙ e in (
@@ -31,7 +31,7 @@ monic_top (a ∷ bs) e =
           ∙ take-suc (a ∷ bs) (length bs) 0 (omega arith) ∙ ap (λ x. take (length bs) (a ∷ bs) ++ x ∷ []) last,
     )
 
-top_monic : (d : List ℕ) → IsMonic d → top_of d ≡ 1
+top_monic : (d : List ℕ) → IsMonicList d → top_of d ≡ 1
 top_monic d (lower, e) =
     let last : length (lower ++ 1 ∷ []) - 1 ≡ length lower = omega (arith, length-append lower (1 ∷ [])) in
     ap top_of e ∙ ap (λ i. get_or (lower ++ 1 ∷ []) i 0) last ∙ get_or-append_seam lower 1 [] 0
@@ -116,7 +116,7 @@ power_den_text j h = short_text (power_of_x j) (omega (arith, power_count j)) �
 pub record IsDenIn (text bytes d rest : List ℕ) : Type 0 where
   pub parts : bytes ≡ text ++ rest
   pub printable : IsPrintable d
-  pub monic : IsMonic d
+  pub monic : IsMonicList d
 
 -- ---- in parentheses
 
@@ -141,7 +141,7 @@ inner_takes bytes b e =
       ltb-true _ _ tests.1,
     )
 
-inner_again : (d rest : List ℕ) → IsPrintable d → IsMonic d → 1 < term_count d
+inner_again : (d rest : List ℕ) → IsPrintable d → IsMonicList d → 1 < term_count d
     → inner_at (poly_text d ++ (codes ")" ++ rest)) ≡ Some (d, rest)
 unfolding inner_at
 inner_again d rest printable monic more =
@@ -184,7 +184,7 @@ den_takes bytes b e =
     ]
 
 -- a monic polynomial without a second term is a power of x
-power_is : (d : List ℕ) → IsMonic d → term_count d ≤ 1 → (j : ℕ) × (d ≡ power_of_x j)
+power_is : (d : List ℕ) → IsMonicList d → term_count d ≤ 1 → (j : ℕ) × (d ≡ power_of_x j)
 power_is d (lower, e) few =
     let none : term_count lower ≡ 0 = omega (arith, ap (λ c. term_count c) e, count_append lower (1 ∷ [])) in
     (length lower, e ∙ ap (λ zs. zs ++ 1 ∷ []) (no_terms lower none))
@@ -199,7 +199,7 @@ den_again_power j rest least most end =
     ∙ other_text 40 120 [] (exponent_text j ++ rest) refl in
     ap den_at text ∙ rw (none, power_again j rest least most end) refl
 
-den_again_long : (d rest : List ℕ) → IsPrintable d → IsMonic d → 1 < term_count d
+den_again_long : (d rest : List ℕ) → IsPrintable d → IsMonicList d → 1 < term_count d
     → den_at (den_text d ++ rest) ≡ Some (d, rest)
 unfolding den_at
 den_again_long d rest printable monic more =
@@ -221,7 +221,7 @@ den_again_short d rest printable (suc j, e) other end =
     subst (λ x. den_at (den_text x ++ rest) ≡ Some (x, rest)) (sym e)
     (den_again_power (suc j) rest (omega arith) (omega arith) end)
 
-den_again : (d rest : List ℕ) → IsPrintable d → IsMonic d → d ≢ 1 ∷ [] → IsPowerEnd rest
+den_again : (d rest : List ℕ) → IsPrintable d → IsMonicList d → d ≢ 1 ∷ [] → IsPowerEnd rest
     → den_at (den_text d ++ rest) ≡ Some (d, rest)
 den_again d rest printable monic other end = elim (cases_Bool (ltb 1 (term_count d))) [
   | inl many ↦ den_again_long d rest printable monic (ltb-true _ _ many)
@@ -261,7 +261,7 @@ over_takes bytes b e =
           }
     ]
 
-pub over_again : (d rest : List ℕ) → IsPrintable d → IsMonic d → IsElemEnd rest
+pub over_again : (d rest : List ℕ) → IsPrintable d → IsMonicList d → IsElemEnd rest
     → over_at (over_text d ++ rest) ≡ Some (d, rest)
 unfolding over_at
 over_again d rest printable monic end = elim (is_one d) [

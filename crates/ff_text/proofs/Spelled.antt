@@ -10,7 +10,7 @@ use Rattle.ff_text.specs.declared.terms.Factor.TheVariants.{Code, X, Y}
 use Rattle.ff_text.specs.declared.terms.Term.{Term}
 use Rattle.ff_text.specs.declared.terms.ElemText.{ElemText}
 use Rattle.ff_text.specs.Spelling.{Then, Around, Within, Each, SpellsNumber, SpellsPower, SpellsFactor, SpellsFactors, FirstSign, NextSign, SpellsNext, SpellsTerms, SpellsDen, SpellsTail, SpellsEntries, SpellsElement}
-use Rattle.ff_text.specs.Printing.{letter_text, factor_text, next_factors_text, factors_text, first_sign, next_sign, next_terms_text, terms_text, next_entries_text, entries_text, is_one_term, den_text, element_text, IsWritableFactor, IsWritableTerm, IsWritableTerms, IsWritableElement}
+use Rattle.ff_text.specs.Printing.{letter_text, factor_text, next_factors_text, factors_text, first_sign, next_sign, next_terms_text, terms_text, next_entries_text, entries_text, is_one_term, divisor_text, element_text, IsWritableFactor, IsWritableTerm, IsWritableTerms, IsWritableElement}
 use Rattle.ff_text.proofs.Texts.{then_of, around_of, then_blanks}
 
 number_written : (n : ℕ) → n < 1000000000 → SpellsNumber n (decimal n)
@@ -129,7 +129,7 @@ den_written (t ∷ []) w = one_written t t.minus refl w
 den_written (t ∷ u ∷ ts) w = inr (within_written (codes "(") (terms_text (t ∷ u ∷ ts)) (codes ")")
     (terms_written false (t ∷ u ∷ ts) w))
 
-tail_written : (den : Option (List Term)) → IfSome den (IsWritableTerms false) → SpellsTail den (den_text den)
+tail_written : (den : Option (List Term)) → IfSome den (IsWritableTerms false) → SpellsTail den (divisor_text den)
 tail_written None w = refl
 tail_written (Some d) w = then_of (codes "/")
     (cond (is_one_term d) (terms_text d) (codes "(" ++ (terms_text d ++ codes ")"))) (around_of (codes "/") [] tt)
@@ -139,7 +139,7 @@ tail_written (Some d) w = then_of (codes "/")
 pub element_written : (e : ElemText) → IsWritableElement e → SpellsElement e (element_text e)
 element_written e w =
     let text : List ℕ = entries_text e.entries in
-    subst (SpellsElement e) (ap (λ x. codes "[" ++ x) (append_assoc text (codes "]") (den_text e.den)))
-    (then_of (codes "[" ++ (text ++ codes "]")) (den_text e.den)
+    subst (SpellsElement e) (ap (λ x. codes "[" ++ x) (append_assoc text (codes "]") (divisor_text e.den)))
+    (then_of (codes "[" ++ (text ++ codes "]")) (divisor_text e.den)
     (within_written (codes "[") text (codes "]") (entries_written e.entries w.some w.entries))
     (tail_written e.den w.den))

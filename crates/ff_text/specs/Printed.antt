@@ -3,7 +3,7 @@ use Rattle.std.specs.Prelude.{◌≡◌, ℕ, zero, suc, ◌<◌, ◌≤◌, ◌
 use Rattle.std.specs.List.{join_by, starts_with, count_by}
 use Rattle.std.specs.Char.{is_ascii_digit}
 use Rattle.std.specs.Fmt.{decimal}
-use Rattle.ff_poly.specs.Words.{IsPoly, IsMonic}
+use Rattle.ff_poly.specs.Words.{IsPoly, IsMonicList}
 use Rattle.ff_text.specs.declared.fault.TextFault.{TextFault}
 use Rattle.ff_text.specs.declared.fault.TextFault.TheVariants.{Syntax, CodeRange, Memory}
 
@@ -78,7 +78,7 @@ pub record IsPrintableElem (num : List (List ℕ)) (den : List ℕ) : Type 0 whe
   pub some : 1 ≤ length num
   pub numerators : All IsPrintable num
   pub denominator : IsPrintable den
-  pub monic : IsMonic den
+  pub monic : IsMonicList den
 
 -- what may stand behind an element: no digit, no `^` and no `/`
 abbrev pub ends_elem : List ℕ → Bool

@@ -58,13 +58,13 @@ is_one_term (t ∷ []) = not t.minus
 is_one_term (t ∷ u ∷ ts) = false
 
 -- a denominator behind its slash, in parentheses unless it is one term without a minus
-abbrev pub den_text : Option (List Term) → List ℕ
-den_text None = []
-den_text (Some d) = codes "/" ++ (if is_one_term d then terms_text d else codes "(" ++ (terms_text d ++ codes ")"))
+abbrev pub divisor_text : Option (List Term) → List ℕ
+divisor_text None = []
+divisor_text (Some d) = codes "/" ++ (if is_one_term d then terms_text d else codes "(" ++ (terms_text d ++ codes ")"))
 
 -- an element
 abbrev pub element_text : ElemText → List ℕ
-element_text e = codes "[" ++ (entries_text e.entries ++ (codes "]" ++ den_text e.den))
+element_text e = codes "[" ++ (entries_text e.entries ++ (codes "]" ++ divisor_text e.den))
 
 -- ---- what is read again as it was
 

@@ -2,7 +2,7 @@
 //! text there after an error.
 
 ghost use Rattle.std.specs.Prelude.{◌≡◌, ◌++◌, IfOk, OnOk};
-ghost use Rattle.ff_text.specs.Printing.{letter_text, factor_text, next_factors_text, factors_text, next_terms_text, terms_text, next_entries_text, entries_text, den_text, is_one_term, element_text};
+ghost use Rattle.ff_text.specs.Printing.{letter_text, factor_text, next_factors_text, factors_text, next_terms_text, terms_text, next_entries_text, entries_text, divisor_text, is_one_term, element_text};
 
 use crate::number::push_number;
 use crate::terms::{ElemText, Factor, Term, TermList};
@@ -132,7 +132,7 @@ fn is_simple(den: &[Term]) -> bool
 }
 
 fn push_den(out: &mut Vec<u8>, den: &TermList) -> Result<(), AllocError>
-    ensures { OnOk result (out.new.items ≡ out.old.items ++ den_text (Some den.now)) }
+    ensures { OnOk result (out.new.items ≡ out.old.items ++ divisor_text (Some den.now)) }
 {
     out.push(b'/')?;
     if is_simple(den.terms.as_slice()) {

@@ -8,7 +8,7 @@ use Rattle.ring_theory.specs.Subsets.{IsSubring, Span}
 use Rattle.ring_lemmas.proofs.Ring.{zero_add, mul_pow}
 use Rattle.ring_lemmas.proofs.Solver.{ring, reads, from_one, from_two}
 use Rattle.ring_theory.proofs.Subsets.{span_zero}
-use Rattle.finite_algebra_theory.specs.Polynomial.{Leading, Monic}
+use Rattle.finite_algebra_theory.specs.Polynomial.{HasLeading, Monic}
 use Rattle.finite_algebra_theory.specs.Algebra.{FiniteAlgebra, powers}
 use Rattle.finite_algebra_theory.specs.Horner.{value, combination, suffix_values}
 use Rattle.finite_algebra_theory.specs.Minimal.{Minimal, Lagrange}
@@ -58,7 +58,7 @@ module _ {A : Type 0} (R : CommRing A) where
 
   module _ (S : A → Type 0) (𝓢 : IsSubring R.ops S) where
     -- a list of coefficients and a leading one are the function of a polynomial
-    pub leading_list : (cs : List A) (top : A) → All S cs → Leading R.ops S top (length cs) (value R.ops cs top)
+    pub leading_list : (cs : List A) (top : A) → All S cs → HasLeading R.ops S top (length cs) (value R.ops cs top)
     leading_list [] top h = λ t. refl
     leading_list (c ∷ cs) top h = record {
       constant = c;

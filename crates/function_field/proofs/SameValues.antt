@@ -6,7 +6,7 @@ use Rattle.ring_lemmas.specs.Rows.{Row, row_scale}
 use Rattle.ring_lemmas.proofs.Rows.{pair_path}
 use Rattle.ff_fields.specs.Field.{CodeField}
 use Rattle.ff_fields.specs.Over.{IsOver}
-use Rattle.ff_poly.specs.Words.{IsPoly, IsMonic, product_of}
+use Rattle.ff_poly.specs.Words.{IsPoly, IsMonicList, product_of}
 use Rattle.ff_poly.specs.Value.{value, numbers_value}
 use Rattle.ff_poly.specs.Polynomials.{Polynomial, polynomials, polynomial_eq, polynomial_discrete, codes_of, codes_of_product, value_not_zero}
 use Rattle.function_field.specs.Functions.{Equation, ring_of_x, function_eq, function_same}
@@ -57,7 +57,7 @@ module _ {k : CodeField} (c : Equation k) where
   over_num v d (no m) = refl
 
 -- what is monic isn't 0
-pub monic_some : (d : List ℕ) → IsMonic d → ¬ (d ≡ [])
+pub monic_some : (d : List ℕ) → IsMonicList d → ¬ (d ≡ [])
 monic_some d ([], d_is) e = let none : 1 ∷ [] ≡ [] = sym d_is ∙ e in (cc)
 monic_some d (c ∷ lower, d_is) e = let none : c ∷ lower ++ 1 ∷ [] ≡ [] = sym d_is ∙ e in (cc)
 

@@ -3,10 +3,10 @@ use Rattle.std.proofs.Common.{◌≡◌, List, [], ◌∷◌, length, refl, ◌�
 use Rattle.std.proofs.lemmas.List.Elements.{All-nil, All-cons, All-head, All-tail}
 use Rattle.ring_lemmas.specs.Ring.{Operations}
 use Rattle.ring_theory.specs.Subsets.{Span}
-use Rattle.function_field.specs.Spans.{combination, InSpan}
+use Rattle.function_field.specs.Spans.{combination, InSpanByList}
 
 module _ {E : Type 0} (F : Operations E) (R : E → Type 0) where
-  to_list : (gs : List E) (z : E) → Span F R gs z → InSpan F R gs z
+  to_list : (gs : List E) (z : E) → Span F R gs z → InSpanByList F R gs z
   to_list [] z h = record { coefficients = []; one_each = refl; in_ring = All-nil R; value = h }
   to_list (g ∷ gs) z h =
       let rest = to_list gs h.rest h.rest_in in
@@ -29,5 +29,5 @@ module _ {E : Type 0} (F : Operations E) (R : E → Type 0) where
     is = v;
   }
 
-  pub span_list : (gs : List E) (z : E) → Span F R gs z ↔ InSpan F R gs z
+  pub span_list : (gs : List E) (z : E) → Span F R gs z ↔ InSpanByList F R gs z
   span_list gs z = (to_list gs z, λ h. from_list gs h.coefficients z h.one_each h.in_ring h.value)

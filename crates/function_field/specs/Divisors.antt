@@ -6,7 +6,7 @@ use Rattle.ring_theory.specs.Integral.{IsIntegral}
 use Rattle.function_field.specs.declared.side.Side.{Side}
 use Rattle.function_field.specs.declared.side.Side.TheVariants.{Finite, Infinite}
 use Rattle.function_field.specs.Setting.{Setting}
-use Rattle.function_field.specs.Spans.{minus, combination, InSpanOnce, IsIndependent}
+use Rattle.function_field.specs.Spans.{minus, combination, InSpanOnce, IsIndependentList}
 use Rattle.function_field.specs.Places.{Place, IsPlace, IsSamePlace, IsIntegralAt, IsIn, HasValuationAtLeast, HasValuation}
 
 -- a place with an integer
@@ -41,9 +41,9 @@ module _ {E : Type 0} (S : Setting E) where
   abbrev pub InSpace : Divisor E → E → Type 0
   InSpace D z = (s : Side) → MeetsOn D s z
 
-  pub record IsBasis (In : E → Type 0) (bs : List E) : Type 0 where
+  pub record IsSpaceBasis (In : E → Type 0) (bs : List E) : Type 0 where
     pub members : All In bs
-    pub independent : IsIndependent ops S.IsCode bs
+    pub independent : IsIndependentList ops S.IsCode bs
     pub spanning : (z : E) → In z → Span ops S.IsCode bs z
 
   -- x^d

@@ -19,7 +19,7 @@ module _ {E : Type 0} (F : Operations E) where
 
 module _ {E : Type 0} (F : Operations E) (R : E → Type 0) where
   -- z is a sum of r_i·g_i with r_i in R; the same as `Span`, with the coefficients in one list
-  pub record InSpan (gs : List E) (z : E) : Type 0 where
+  pub record InSpanByList (gs : List E) (z : E) : Type 0 where
     pub coefficients : List E
     pub one_each : length coefficients ≡ length gs
     pub in_ring : All R coefficients
@@ -27,10 +27,10 @@ module _ {E : Type 0} (F : Operations E) (R : E → Type 0) where
 
   -- z is such a sum in one way only
   pub record InSpanOnce (gs : List E) (z : E) : Type 0 where
-    pub in_span : InSpan gs z
-    pub one_way : (others : InSpan gs z) → others.coefficients ≡ in_span.coefficients
+    pub in_span : InSpanByList gs z
+    pub one_way : (others : InSpanByList gs z) → others.coefficients ≡ in_span.coefficients
 
   -- only the combination with coefficients 0 gives 0
-  abbrev pub IsIndependent : List E → Type 0
-  IsIndependent gs =
+  abbrev pub IsIndependentList : List E → Type 0
+  IsIndependentList gs =
       (rs : List E) → length rs ≡ length gs → All R rs → combination F rs gs ≡ F.𝟘 → All (λ r. r ≡ F.𝟘) rs

@@ -4,7 +4,7 @@ use Rattle.ring_lemmas.specs.Ring.{CommRing}
 use Rattle.ring_lemmas.specs.Rows.{Row}
 use Rattle.ff_fields.specs.Field.{FieldOps, CodeField}
 use Rattle.ff_fields.specs.Over.{IsOver}
-use Rattle.ff_poly.specs.Words.{IsPoly, IsMonic, product_of}
+use Rattle.ff_poly.specs.Words.{IsPoly, IsMonicList, product_of}
 use Rattle.ff_poly.specs.Value.{value}
 use Rattle.ff_poly.specs.Polynomials.{Polynomial, polynomials, polynomials_domain, polynomial_discrete}
 use Rattle.function_field.specs.declared.side.Side.{Side}
@@ -33,7 +33,7 @@ pub record IsPres (p : PresValue) : Type 0 where
 pub record IsMonicElem (z : ElemValue) : Type 0 where
   pub num_poly : All IsPoly z.num
   pub den_poly : IsPoly z.den
-  pub monic : IsMonic z.den
+  pub monic : IsMonicList z.den
 
 module _ (k : FieldOps) where
   -- each code of the coefficients is one of the field

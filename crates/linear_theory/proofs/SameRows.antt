@@ -2,21 +2,21 @@
 use Rattle.std.proofs.Common.{◌≡◌, ℕ, suc, ◌<◌, ◌≤◌, List, [], ◌∷◌, length, sym, ◌∙◌, ap₂, subst, refl, arith}
 use Rattle.ring_lemmas.specs.Ring.{Operations, CommRing}
 use Rattle.linear_theory.specs.Module.{combine, sequence_ops}
-use Rattle.linear_theory.specs.Echelon.{row, InRowSpace, SameRowSpace, IsReduced}
+use Rattle.linear_theory.specs.Echelon.{row, InRowSpace, SameRowSpace, IsReducedEchelon}
 
 -- zeros and ones of a list of rows over one ring at the same positions as in one over another
 module _ {A B : Type 0} (R : Operations A) (S : Operations B) (width : ℕ) (rows : List (ℕ → A)) (rows' : List (ℕ → B))
     (count : length rows' ≡ length rows)
     (zero_at : (i j : ℕ) → i < length rows → j < width → row R rows i j ≡ R.𝟘 → row S rows' i j ≡ S.𝟘)
     (one_at : (i j : ℕ) → i < length rows → j < width → row R rows i j ≡ R.𝟙 → row S rows' i j ≡ S.𝟙) where
-  pub row_below : (r : IsReduced R width rows) (i : ℕ) → i < r.rank → i < length rows
+  pub row_below : (r : IsReducedEchelon R width rows) (i : ℕ) → i < r.rank → i < length rows
   row_below r i l = let a = r.rank_within in omega arith
 
-  pub left_below : (r : IsReduced R width rows) (i j : ℕ) → i < r.rank → j < r.pivot i → j < width
+  pub left_below : (r : IsReducedEchelon R width rows) (i j : ℕ) → i < r.rank → j < r.pivot i → j < width
   left_below r i j l k = let a = r.pivot_below i l in omega arith
 
   -- the second is reduced where the first is
-  abbrev pub reduced_across : IsReduced R width rows → IsReduced S width rows'
+  abbrev pub reduced_across : IsReducedEchelon R width rows → IsReducedEchelon S width rows'
   reduced_across r = record {
     rank = r.rank;
     rank_within = subst (λ n. r.rank ≤ n) (sym count) r.rank_within;
@@ -74,7 +74,7 @@ module _ {A : Type 0} (R : CommRing A) where
 
   -- the form of the second list
   abbrev pub reduced_of_entries : (width : ℕ) (rows rows' : List (ℕ → A)) → HasEntries width rows rows'
-      → IsReduced R.ops width rows → IsReduced R.ops width rows'
+      → IsReducedEchelon R.ops width rows → IsReducedEchelon R.ops width rows'
   reduced_of_entries width rows rows' same r =
       reduced_across R.ops R.ops width rows rows' same.count (λ i j l k e. same.entry i j l k ∙ e)
       (λ i j l k e. same.entry i j l k ∙ e) r

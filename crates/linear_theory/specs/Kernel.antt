@@ -1,7 +1,7 @@
 -- A matrix with the unit matrix on its right, and its reduced form.
 use Rattle.std.specs.Prelude.{ℕ, zero, suc, ◌<◌, ◌≤◌, ◌+◌, List, [], ◌∷◌, length}
 use Rattle.ring_lemmas.specs.Ring.{Operations, CommRing}
-use Rattle.linear_theory.specs.Echelon.{SameRowSpace, IsReduced}
+use Rattle.linear_theory.specs.Echelon.{SameRowSpace, IsReducedEchelon}
 use Rattle.linear_theory.specs.Lists.{join}
 
 -- the unit sequence with 1 at a position
@@ -23,7 +23,7 @@ module _ {A : Type 0} (R : CommRing A) (width : ℕ) (rows : List (ℕ → A)) w
   -- a reduced form of the augmented matrix, and how many of its pivots are left of the unit matrix
   pub record Eliminated : Type 0 where
     pub form : List (ℕ → A)
-    pub reduced : IsReduced R.ops size form
+    pub reduced : IsReducedEchelon R.ops size form
     pub same : SameRowSpace R.ops size form (augment R.ops width 0 rows)
     pub split : ℕ
     pub split_within : split ≤ reduced.rank

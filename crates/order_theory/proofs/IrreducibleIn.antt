@@ -12,7 +12,7 @@ use Rattle.linear_theory.proofs.Euclid.{bezout}
 use Rattle.ff_fields.specs.Field.{CodeField}
 use Rattle.ff_fields.specs.Code.{same_code, Code, code_ring, code_domain, is_zero_code}
 use Rattle.ff_fields.specs.Numbers.{numbers}
-use Rattle.ff_poly.specs.Words.{IsIrreducibleList, IsMonic, IsPoly}
+use Rattle.ff_poly.specs.Words.{IsIrreducibleList, IsMonicList, IsPoly}
 use Rattle.ff_poly.specs.Value.{value, value_product, numbers_value}
 use Rattle.ff_poly.proofs.Parts.{top_of_monic, IsMonic_from_top}
 use Rattle.ff_poly.specs.Polynomials.{Polynomial, polynomials, polynomial_discrete, codes_of, value_codes_of}
@@ -37,7 +37,7 @@ trimmed_end [] = refl
 trimmed_end (x ∷ []) = refl
 trimmed_end (x ∷ y ∷ lower) = trimmed_end (y ∷ lower)
 
-pub monic_poly : (b : List ℕ) → IsMonic b → IsPoly b
+pub monic_poly : (b : List ℕ) → IsMonicList b → IsPoly b
 monic_poly b m = record { trimmed = subst (IsTrimmed is_zero_code) (sym m.1) (trimmed_end m.0) }
 
 pub numbers_get : (k : CodeField) (xs : List (Code k)) (n : ℕ) → n < length xs → get_or (numbers k xs) n 0
@@ -193,7 +193,7 @@ module _ {k : CodeField} (c : Equation k) (gs : List (FunctionOf c))
       → IsIrreducibleList k.ops (codes_of k q) → In p → In q → p ≡ q
   same_irreducible p q h h' p_in q_in = go (divides_other p q h h' p_in q_in) (divides_other q p h' h q_in p_in)
     where
-      top : (a : Polynomial k) → IsMonic (codes_of k a) → (n : ℕ) × (length a.0 ≡ suc n)
+      top : (a : Polynomial k) → IsMonicList (codes_of k a) → (n : ℕ) × (length a.0 ≡ suc n)
           × (coeff_of (code_ring k).ops a.0 n ≡ (code_ring k).𝟙)
       top a m =
           let t = top_of_monic (codes_of k a) m in

@@ -13,7 +13,7 @@ use Rattle.linear_theory.specs.Euclidean.{IsDivisorIn}
 use Rattle.ff_fields.specs.Field.{CodeField}
 use Rattle.ff_fields.specs.Code.{code_ring, code_domain, raw_ring}
 use Rattle.ff_fields.specs.Over.{IsOver}
-use Rattle.ff_poly.specs.Words.{IsPoly, IsMonic, DividesList, product_of}
+use Rattle.ff_poly.specs.Words.{IsPoly, IsMonicList, DividesList, product_of}
 use Rattle.ff_poly.specs.PolyOver.{IsOver_product_of, IsPoly_poly_of}
 use Rattle.ff_poly.specs.Value.{value, same_from_value, value_product}
 use Rattle.ff_poly.specs.Polynomials.{Polynomial, polynomials, value_not_zero, codes_of, IsOver_codes_of, IsPoly_codes_of, value_codes_of}
@@ -62,7 +62,7 @@ module _ (k : CodeField) where
       subst (λ w. length a.0 ≤ length w.0) (sym d.1) (product_longer k a d.0 a_some c_some)
 
   -- the difference of two monic lists of one length is shorter
-  pub monic_gap : (p q : List ℕ) → IsOver k.ops p → IsOver k.ops q → IsMonic p → IsMonic q → length q ≡ length p
+  pub monic_gap : (p q : List ℕ) → IsOver k.ops p → IsOver k.ops q → IsMonicList p → IsMonicList q → length q ≡ length p
       → length (value k q ⊕ ⊖ value k p).0 ≤ length p - 1
   monic_gap p q p_in q_in p_monic q_monic same =
       length_bound (code_ring k) gap.0 (length p - 1) gap.1 (λ i le.
@@ -104,7 +104,7 @@ module _ (k : CodeField) where
           ∙ (code_ring k).add_neg (code_ring k).𝟘
 
   -- monic lists that divide each other are the same
-  pub monic_unique : (p q : List ℕ) → IsOver k.ops p → IsOver k.ops q → IsMonic p → IsMonic q
+  pub monic_unique : (p q : List ℕ) → IsOver k.ops p → IsOver k.ops q → IsMonicList p → IsMonicList q
       → IsDivisorIn P.ops (value k p) (value k q)
       → IsDivisorIn P.ops (value k q) (value k p) → p ≡ q
   monic_unique p q p_in q_in p_monic q_monic d e =

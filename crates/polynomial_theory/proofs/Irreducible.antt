@@ -15,7 +15,7 @@ use Rattle.linear_theory.proofs.Euclid.{euclid, decide_divisor, bezout}
 use Rattle.ff_fields.specs.Field.{CodeField}
 use Rattle.ff_fields.specs.Code.{Code, code_ring, code_field, code_domain}
 use Rattle.ff_fields.specs.Numbers.{numbers}
-use Rattle.ff_poly.specs.Words.{IsIrreducibleList, IsMonic}
+use Rattle.ff_poly.specs.Words.{IsIrreducibleList, IsMonicList}
 use Rattle.ff_fields.specs.Over.{IsOver}
 use Rattle.ff_poly.specs.Value.{value, numbers_value}
 use Rattle.ff_poly.specs.Polynomials.{Polynomial, polynomials, polynomials_domain, polynomial_discrete, codes_of, IsOver_codes_of, IsPoly_codes_of, codes_of_product, value_codes_of}
@@ -49,7 +49,7 @@ module _ (k : CodeField) where
   abbrev top_of : Polynomial k → Code k
   top_of a = coeff_of (code_ring k).ops a.0 (length a.0 - 1)
 
-  monic_codes : (a : Polynomial k) → 0 < length a.0 → top_of a ≡ (code_ring k).𝟙 → IsMonic (codes_of k a)
+  monic_codes : (a : Polynomial k) → 0 < length a.0 → top_of a ≡ (code_ring k).𝟙 → IsMonicList (codes_of k a)
   monic_codes a l e =
       let r = last_of (coeff_of (code_ring k).ops) (λ x xs. refl) (λ x xs n. refl) a.0 l in (
         numbers k r.0,
@@ -110,7 +110,7 @@ module _ (k : CodeField) where
   pub record MadeMonic (d : Polynomial k) : Type 0 where
     pub codes : List ℕ
     pub over : IsOver k.ops codes
-    pub monic : IsMonic codes
+    pub monic : IsMonicList codes
     pub length_is : length codes ≡ length d.0
     pub factor : Polynomial k
     pub is : value k codes ≡ factor ⊗ d

@@ -12,7 +12,7 @@ use Rattle.ff_fields.specs.Numbers.{numbers, read, numbers_read, IsOver_numbers}
 use Rattle.ff_fields.specs.Over.{IsOver, IsOver_nil, IsOver_cons, IsOver_head, IsOver_tail, IsOver_append}
 use Rattle.linear_theory.specs.Euclidean.{IsDivisorIn, IsUnit}
 use Rattle.linear_theory.proofs.Euclid.{divisor_trans, decide_divisor}
-use Rattle.ff_poly.specs.Words.{IsMonic, IsIrreducibleList, DividesList}
+use Rattle.ff_poly.specs.Words.{IsMonicList, IsIrreducibleList, DividesList}
 use Rattle.ff_poly.specs.Value.{value}
 use Rattle.ff_poly.specs.Polynomials.{Polynomial, polynomials}
 use Rattle.polynomial_theory.proofs.ListValues.{length_value, monic_poly}
@@ -77,11 +77,11 @@ module _ (k : CodeField) where
   pub record MonicDivisor (n : ℕ) (d : Polynomial k) : Type 0 where
     pub codes : List ℕ
     pub over : IsOver k.ops codes
-    pub monic : IsMonic codes
+    pub monic : IsMonicList codes
     pub size : length codes ≡ suc n
     pub divides : IsDivisorIn R.ops (value k codes) d
 
-  monic_some : (b : List ℕ) → IsOver k.ops b → IsMonic b → ¬ (value k b ≡ 𝟘)
+  monic_some : (b : List ℕ) → IsOver k.ops b → IsMonicList b → ¬ (value k b ≡ 𝟘)
   monic_some b b_in m = some_value k b b_in (monic_poly k b m)
       (let l = ap length m.1 in let e = length_push m.0 1 in omega arith)
 
@@ -219,7 +219,7 @@ module _ (k : CodeField) where
                 ∙ R.mul_comm m.inverse (value k m.codes),
           )
 
-          no_divisor : (b : List ℕ) → IsOver k.ops b → IsMonic b → 2 ≤ length b → length b < length m.codes
+          no_divisor : (b : List ℕ) → IsOver k.ops b → IsMonicList b → 2 ≤ length b → length b < length m.codes
               → ¬ DividesList k.ops b m.codes
           no_divisor b b_in b_monic b_long b_short h =
               none (

@@ -14,7 +14,7 @@ use Rattle.linear_theory.proofs.Euclid.{divisor_trans}
 use Rattle.ff_fields.specs.Field.{CodeField}
 use Rattle.ff_fields.specs.Code.{Code, code_ring, code_domain, read_code, zero_in}
 use Rattle.ff_fields.specs.Over.{IsOver}
-use Rattle.ff_poly.specs.Words.{IsMonic, IsIrreducibleList}
+use Rattle.ff_poly.specs.Words.{IsMonicList, IsIrreducibleList}
 use Rattle.ff_poly.specs.Value.{value}
 use Rattle.ff_poly.specs.Polynomials.{Polynomial, polynomials, constant_poly, x_poly, value_nil, value_cons}
 use Rattle.polynomial_theory.specs.Laws.{value_at, IsLeastMonic, VanishesAt}
@@ -117,19 +117,19 @@ module _ (k : CodeField) where
         first zero some = absurd (omega (arith, some))
         first (suc n) some = (pow (P k).ops (value k p) n, refl)
 
-    size_of : (w : List ℕ) → IsOver k.ops w → IsMonic w → length (value k w).0 ≡ length w
+    size_of : (w : List ℕ) → IsOver k.ops w → IsMonicList w → length (value k w).0 ≡ length w
     size_of w w_in monic = length_value k w w_in (monic_poly k w monic)
 
     p_size : length (value k p).0 ≡ length p
     p_size = size_of p p_in irreducible.monic
 
-    monic_some : (w : List ℕ) → IsOver k.ops w → IsMonic w → ¬ (value k w ≡ 𝟘)
+    monic_some : (w : List ℕ) → IsOver k.ops w → IsMonicList w → ¬ (value k w ≡ 𝟘)
     monic_some w w_in monic =
         let l = ap length monic.1 in
         let n = length_push monic.0 1 in
         some_of_long k (value k w) (omega (arith, size_of w w_in monic, l, n))
 
-    longer : (w : List ℕ) → IsOver k.ops w → IsMonic w
+    longer : (w : List ℕ) → IsOver k.ops w → IsMonicList w
         → Vanishes w → length p ≤ length w
     longer w w_in monic h =
         omega (

@@ -12,17 +12,17 @@ use Rattle.ff_fields.specs.Field.{CodeField}
 use Rattle.ff_fields.specs.Code.{raw_ring, code_ring, same_code, read_code, read_code_below, zero_in, is_zero_code}
 use Rattle.ff_fields.specs.Numbers.{numbers, read, read_numbers, numbers_read, numbers_add, numbers_scale, numbers_get_or}
 use Rattle.ff_fields.specs.Over.{IsOver, IsOver_head, IsOver_tail}
-use Rattle.ff_poly.specs.Words.{IsPoly, IsMonic, top_of}
+use Rattle.ff_poly.specs.Words.{IsPoly, IsMonicList, top_of}
 use Rattle.ff_poly.specs.Value.{value, numbers_value}
 use Rattle.ff_poly.specs.Polynomials.{polynomials, constant_poly, x_poly, series_read, value_cons, value_one}
 
 -- a list that ends in 1 is monic
-pub monic_of_top : (g : List ℕ) → 0 < length g → top_of g ≡ 1 → IsMonic g
+pub monic_of_top : (g : List ℕ) → 0 < length g → top_of g ≡ 1 → IsMonicList g
 monic_of_top g some e =
     let n = length g - 1 in
     (take n g, sym (take_all (n + 1) g (omega arith)) ∙ take_more g n 0 (omega arith) ∙ ap (λ a. take n g ++ a ∷ []) e)
 
-pub top_of_monic : (g : List ℕ) → IsMonic g → top_of g ≡ 1
+pub top_of_monic : (g : List ℕ) → IsMonicList g → top_of g ≡ 1
 top_of_monic g m =
     ap₂ (λ xs n. get_or xs n 0) m.1 (ap (λ n. n - 1) (ap length m.1 ∙ length_push m.0 1)
     ∙ let e : length m.0 + 1 - 1 ≡ length m.0 = omega arith in e)
@@ -113,12 +113,12 @@ module _ (k : CodeField) where
   length_value a a_in a_poly = sym (length-map (value k a).0 (λ x. x.0)) ∙ ap length (numbers_value k a a_in a_poly)
 
   -- a monic list has no zero on top, and its value ends in 1
-  pub monic_poly : (g : List ℕ) → IsMonic g → IsPoly g
+  pub monic_poly : (g : List ℕ) → IsMonicList g → IsPoly g
   monic_poly g m = record {
     trimmed = subst (IsTrimmed is_zero_code) (sym m.1) (IsTrimmed_push is_zero_code m.0 1 refl);
   }
 
-  pub monic_top : (g : List ℕ) → IsOver k.ops g → IsMonic g
+  pub monic_top : (g : List ℕ) → IsOver k.ops g → IsMonicList g
       → coeff_of (code_ring k).ops (value k g).0 (length (value k g).0 - 1) ≡ (code_ring k).𝟙
   monic_top g g_in m =
       same_code k _ _

@@ -11,7 +11,7 @@ use Rattle.linear_theory.specs.Euclidean.{IsDivisorIn, IsUnit, Bezout, IsIrreduc
 use Rattle.linear_theory.proofs.Euclid.{bezout_with_power, OrderAt, order_at, ideal_generator, divisor_trans}
 use Rattle.ff_fields.specs.Field.{CodeField}
 use Rattle.ff_fields.specs.Over.{IsOver, IsOver_cons, IsOver_nil}
-use Rattle.ff_poly.specs.Words.{IsMonic, IsIrreducibleList}
+use Rattle.ff_poly.specs.Words.{IsMonicList, IsIrreducibleList}
 use Rattle.ff_poly.specs.Value.{value, numbers_value}
 use Rattle.ff_poly.specs.Polynomials.{Polynomial, polynomials, codes_of, IsOver_codes_of, codes_of_product, value_codes_of, value_one}
 use Rattle.ff_poly.proofs.Parts.{IsMonic_product}
@@ -72,20 +72,20 @@ module _ (k : CodeField) where
   P = (polynomials k).ring
 
   -- the codes of a power of a monic polynomial
-  power_monic : (p : List ℕ) → IsOver k.ops p → IsMonic p → (n : ℕ) → IsMonic (codes_of k (pow P.ops (value k p) n))
-  power_monic p p_in monic zero = subst (λ a. IsMonic (codes_of k a)) (value_one k) one
+  power_monic : (p : List ℕ) → IsOver k.ops p → IsMonicList p → (n : ℕ) → IsMonicList (codes_of k (pow P.ops (value k p) n))
+  power_monic p p_in monic zero = subst (λ a. IsMonicList (codes_of k a)) (value_one k) one
     where
-      one : IsMonic (codes_of k (value k (1 ∷ [])))
+      one : IsMonicList (codes_of k (value k (1 ∷ [])))
       one =
-          subst IsMonic (sym (numbers_value k (1 ∷ []) one_in (monic_poly k (1 ∷ []) ([], refl)))) ([], refl)
+          subst IsMonicList (sym (numbers_value k (1 ∷ []) one_in (monic_poly k (1 ∷ []) ([], refl)))) ([], refl)
         where
           one_in : IsOver k.ops (1 ∷ [])
           one_in = IsOver_cons k.laws.one_below IsOver_nil
   power_monic p p_in monic (suc n) =
-      subst IsMonic (sym (codes_of_product k (value k p) (pow P.ops (value k p) n)))
+      subst IsMonicList (sym (codes_of_product k (value k p) (pow P.ops (value k p) n)))
       (IsMonic_product k (codes_of k (value k p)) (codes_of k (pow P.ops (value k p) n)) (IsOver_codes_of k (value k p))
       (IsOver_codes_of k (pow P.ops (value k p) n))
-      (subst IsMonic (sym (numbers_value k p p_in (monic_poly k p monic))) monic) (power_monic p p_in monic n))
+      (subst IsMonicList (sym (numbers_value k p p_in (monic_poly k p monic))) monic) (power_monic p p_in monic n))
 
   -- an irreducible polynomial that divides a power divides what it is a power of
   pub power_divides : (p : List ℕ) → IsOver k.ops p → IsIrreducibleList k.ops p → (n : ℕ) (u : Polynomial k)

@@ -5,7 +5,7 @@ use Rattle.ring_lemmas.specs.Congruence.{IsCongruent}
 use Rattle.linear_theory.specs.Euclidean.{IsDivisorIn}
 use Rattle.ff_fields.specs.Field.{CodeField}
 use Rattle.ff_fields.specs.Over.{IsOver}
-use Rattle.ff_poly.specs.Words.{IsMonic, IsIrreducibleList}
+use Rattle.ff_poly.specs.Words.{IsMonicList, IsIrreducibleList}
 use Rattle.ff_poly.specs.Value.{value}
 use Rattle.ff_poly.specs.Polynomials.{Polynomial, polynomials, constant_poly}
 
@@ -18,9 +18,9 @@ module _ (k : CodeField) where
   -- a monic polynomial that has a property, and none of smaller degree
   pub record IsLeastMonic (T : List ℕ → Type 0) (h : List ℕ) : Type 0 where
     pub over : IsOver k.ops h
-    pub monic : IsMonic h
+    pub monic : IsMonicList h
     pub has : T h
-    pub least : (w : List ℕ) → IsOver k.ops w → IsMonic w → T w → length h ≤ length w
+    pub least : (w : List ℕ) → IsOver k.ops w → IsMonicList w → T w → length h ≤ length w
 
   module _ (g : Polynomial k) where
     abbrev pub Congruent : Polynomial k → Polynomial k → Type 0

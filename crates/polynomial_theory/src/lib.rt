@@ -8,7 +8,7 @@ ghost use Rattle.ring_lemmas.specs.Ring.{pow};
 ghost use Rattle.ff_fields.specs.Field.{CodeField};
 ghost use Rattle.ff_fields.specs.Code.{code_ring};
 ghost use Rattle.ff_fields.specs.Over.{IsOver};
-ghost use Rattle.ff_poly.specs.Words.{IsMonic, IsIrreducibleList};
+ghost use Rattle.ff_poly.specs.Words.{IsMonicList, IsIrreducibleList};
 ghost use Rattle.ff_poly.specs.Value.{value};
 ghost use Rattle.ff_poly.specs.Polynomials.{Polynomial, polynomials, x_poly};
 ghost use Rattle.linear_theory.specs.Euclidean.{IsDivisorIn, Bezout};
@@ -42,7 +42,7 @@ pub fn irreducible_divisor_law()
 
 /// Monic polynomials that divide each other are the same.
 pub fn monic_law()
-    ensures { (k : CodeField) (p q : List ℕ) → IsOver k.ops p → IsOver k.ops q → IsMonic p → IsMonic q
+    ensures { (k : CodeField) (p q : List ℕ) → IsOver k.ops p → IsOver k.ops q → IsMonicList p → IsMonicList q
         → IsDivisorIn (polynomials k).ops (value k p) (value k q)
         → IsDivisorIn (polynomials k).ops (value k q) (value k p) → p ≡ q }
 {}

@@ -8,7 +8,7 @@ use Rattle.ring_theory.specs.PolynomialRing.{pol_ring}
 use Rattle.linear_theory.specs.Module.{Module, combine}
 use Rattle.linear_theory.proofs.Combination.{combine_scale}
 use Rattle.reduced_basis_theory.specs.Degree.{DegreeAtMost, degree}
-use Rattle.reduced_basis_theory.specs.Reduced.{Coordinates, CoordinatesAtMost, IsReducedAt, PowersOf}
+use Rattle.reduced_basis_theory.specs.Reduced.{Coordinates, CoordinatesAtMost, IsReducedAt, MultipliedByPower}
 use Rattle.reduced_basis_theory.proofs.Degree.{degree_cancel, degree_product, degree_own, degree_multiply}
 use Rattle.reduced_basis_theory.proofs.Constants.{polynomials}
 use Rattle.reduced_basis_theory.proofs.Powers.{power, degree_power, power_nonzero}
@@ -22,7 +22,7 @@ module _ {C V : Type 0} (k : TestedRing C) (field : IsField k.ops) (M : Module (
   open (pol_ring k) use {𝟘, 𝟙, ◌⊗◌}
 
   abbrev family : (V → Type 0) → ℤ → V → Type 0
-  family = PowersOf k M.ops divide
+  family = MultipliedByPower k M.ops divide
 
   module _ (n : ℕ) (N : V → Type 0) (b : List V) (d : ℕ → ℤ) (count : length b ≡ n)
       (free : (p : ℕ → Pol k) → combine M.ops p b ≡ 𝟬 → (i : ℕ) → i < n → p i ≡ 𝟘)
@@ -60,5 +60,5 @@ module _ {C V : Type 0} (k : TestedRing C) (field : IsField k.ops) (M : Module (
               (degree_product k domain u (p i) _ _ (degree_own k domain u) (bound i l))),
         )
 
-    pub family_reduced : IsReducedAt k M.ops n (PowersOf k M.ops divide N) b d
+    pub family_reduced : IsReducedAt k M.ops n (MultipliedByPower k M.ops divide N) b d
     family_reduced = record { count = count; free = free; coordinates = coordinates; degrees = bounds }

@@ -86,10 +86,10 @@ divided divide zero z = z
 divided divide (suc j) z = divided divide j (divide z)
 
 -- the multiples x^m·N of a set, where z divided by x^j is divide j z
-abbrev pub PowersOf : {C V : Type 0} (k : TestedRing C) → ModuleOps (Pol k) V → (ℕ → V → V) → (V → Type 0) → ℤ → V
+abbrev pub MultipliedByPower : {C V : Type 0} (k : TestedRing C) → ModuleOps (Pol k) V → (ℕ → V → V) → (V → Type 0) → ℤ → V
     → Type 0
-PowersOf k M divide N (pos j) z = N (divide j z)
-PowersOf k M divide N (negsuc j) z = N (M.◌•◌ (pow (pol_ring k).ops (variable k) (suc j)) z)
+MultipliedByPower k M divide N (pos j) z = N (divide j z)
+MultipliedByPower k M divide N (negsuc j) z = N (M.◌•◌ (pow (pol_ring k).ops (variable k) (suc j)) z)
 
 -- J and J₀ over the polynomials in 1/x span N and N₀ over the fractions of degree at most 0: the smaller J is what N
 -- meets of J₀, and N₀ is J₀ + N

@@ -19,7 +19,7 @@ ghost use Rattle.linear_theory.specs.Module.{Module, combine};
 ghost use Rattle.linear_theory.specs.Basis.{IsBasis, IsNull, IsSubspace, IsSum};
 ghost use Rattle.linear_theory.specs.Lists.{entry};
 ghost use Rattle.reduced_basis_theory.specs.Degree.{size, DegreeAtMost, degree_sum, dimension_sum, genus_sum, count_up_to, HasAscendingDegrees};
-ghost use Rattle.reduced_basis_theory.specs.Reduced.{InLattice, Coordinates, CoordinatesAtMost, divided, PowersOf, IsReducedAt, IsReducedBasisOfPair, IsLatticeBasis, constants_ops, layers, Section, HasDimension, HasDivision, IsLocalPair, IsExtension};
+ghost use Rattle.reduced_basis_theory.specs.Reduced.{InLattice, Coordinates, CoordinatesAtMost, divided, MultipliedByPower, IsReducedAt, IsReducedBasisOfPair, IsLatticeBasis, constants_ops, layers, Section, HasDimension, HasDivision, IsLocalPair, IsExtension};
 ghost use Rattle.reduced_basis_theory.specs.Dual.{AreFractions, FractionAtMost, IsRestriction, IsPowerOfX, IsSymmetricForm, DualLattice, DualFamily, IsDualBasis, negated};
 ghost use Rattle.reduced_basis_theory.specs.Rows.{from_rows, row_times, IsPredictable};
 ghost use Rattle.reduced_basis_theory.specs.Canonical.{HasLinearProducts, IsTraceForm, IsModulePair, IsCanonicalPair, IsDifferencePair};
@@ -69,7 +69,7 @@ pub fn multiples_law<T, V, N: Subset<V>>()
         → ((z : V) → Coordinates k M.ops b z)
         → ((z : V) (e : Pol k) (p : ℕ → Pol k) → ¬ (e ≡ (pol_ring k).𝟘) → M.◌•◌ e z ≡ combine M.ops p b
         → N.members z ↔ CoordinatesAtMost k n d e p (pos 0))
-        → IsReducedAt k M.ops n (PowersOf k M.ops (divided x.divide) N.members) b d }
+        → IsReducedAt k M.ops n (MultipliedByPower k M.ops (divided x.divide) N.members) b d }
 {}
 
 /// A matrix with predictable degrees, as a Popov form, takes a reduced basis to one.

@@ -9,5 +9,4 @@ pub mod RowFractions
 pub mod Rows
 pub mod Sequences
 pub mod Solver
-pub mod SolverTests
 pub mod Sums

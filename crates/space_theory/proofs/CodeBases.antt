@@ -6,7 +6,7 @@ use Rattle.linear_theory.specs.Basis.{IsNull, IsBasis as IsBasisOver}
 use Rattle.ff_fields.specs.Field.{CodeField}
 use Rattle.ff_fields.specs.Code.{code_ring}
 use Rattle.function_field.specs.Functions.{Equation, FunctionOf, ring_of, setting_of, IsCode}
-use Rattle.function_field.specs.Divisors.{IsBasis}
+use Rattle.function_field.specs.Divisors.{IsSpaceBasis}
 use Rattle.function_field.specs.Indices.{space_ops}
 use Rattle.lattice_theory.proofs.Indices.{code_of, code_hom}
 use Rattle.order_theory.proofs.Degrees.{code_is, code_at}
@@ -18,7 +18,7 @@ module _ {k : CodeField} (c : Equation k) where
 
   pub basis_by_codes : (W : FunctionOf c → Type 0) (ws : List (FunctionOf c))
       → IsBasisOver (code_ring k).ops (space_ops c) (IsNull (space_ops c)) W ws
-      → IsBasis (setting_of c) W ws
+      → IsSpaceBasis (setting_of c) W ws
   basis_by_codes W ws b = record {
     members = b.members_in;
     independent =

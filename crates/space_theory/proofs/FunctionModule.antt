@@ -13,7 +13,7 @@ use Rattle.linear_theory.proofs.Coefficients.{restricted}
 use Rattle.places_theory.proofs.YRoot.{poly_hom}
 use Rattle.lattice_theory.specs.Lattices.{polynomial_ops}
 use Rattle.order_theory.proofs.LocalOrders.{power_value}
-use Rattle.reduced_basis_theory.specs.Reduced.{variable, divided, PowersOf, HasDivision}
+use Rattle.reduced_basis_theory.specs.Reduced.{variable, divided, MultipliedByPower, HasDivision}
 use Rattle.space_theory.specs.Spaces.{multiples_of}
 use Rattle.ring_lemmas.proofs.Solver.{ring, reads, from_one}
 
@@ -81,7 +81,7 @@ module _ {k : CodeField} (c : Equation k) where
 
   -- so the multiples x^m·N are those of the theory of reduced bases
   pub multiples_are : (N : FunctionOf c → Type 0) (m : ℤ) (z : FunctionOf c)
-      → PowersOf (code_ring k) (polynomial_ops c) (divided (λ z. t ⊗ z)) N m z ≡ multiples_of c N m z
+      → MultipliedByPower (code_ring k) (polynomial_ops c) (divided (λ z. t ⊗ z)) N m z ≡ multiples_of c N m z
   multiples_are N (pos zero) z = ap N (sym (one_mul (ring_of c) z))
   multiples_are N (pos (suc j)) z = ap N (divided_is (suc j) z)
   multiples_are N (negsuc j) z =

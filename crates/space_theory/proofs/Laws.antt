@@ -8,7 +8,7 @@ use Rattle.function_field.specs.declared.side.Side.TheVariants.{Finite, Infinite
 use Rattle.function_field.specs.Discriminant.{discriminant}
 use Rattle.function_field.specs.Functions.{Equation, FunctionOf, setting_of, degree_of_y}
 use Rattle.function_field.specs.Places.{IsIntegralAt}
-use Rattle.function_field.specs.Divisors.{Divisor, MeetsOn, InSpace, IsBasis, IsSimultaneousBasis, IsSumOfSides, SpansOnce, shifted}
+use Rattle.function_field.specs.Divisors.{Divisor, MeetsOn, InSpace, IsSpaceBasis, IsSimultaneousBasis, IsSumOfSides, SpansOnce, shifted}
 use Rattle.prime_theory.specs.Ideals.{SameSet}
 use Rattle.linear_theory.specs.Lists.{tabulate}
 use Rattle.linear_theory.specs.Basis.{IsSum}
@@ -52,7 +52,7 @@ module _ {k : CodeField} (c : Equation k) where
   module _ (I N : FunctionOf c → Type 0) (bs : List (FunctionOf c)) (d : ℕ → ℤ)
       (reduced : IsReducedBasis c I N bs d) where
     pub level_basis : (m : ℤ)
-        → IsBasis (setting_of c) (λ z. I z × multiples_of c N m z)
+        → IsSpaceBasis (setting_of c) (λ z. I z × multiples_of c N m z)
         (layers (code_ring k) (polynomial_ops c) bs (λ i. size (m -ℤ d i)))
     level_basis m =
         basis_by_codes c (Section I (multiples_of c N) m) _
@@ -67,7 +67,7 @@ module _ {k : CodeField} (c : Equation k) where
 
   -- bases of the same spaces
   pub basis_same : (V W : FunctionOf c → Type 0) → SameSet V W → (bs : List (FunctionOf c))
-      → IsBasis (setting_of c) V bs → IsBasis (setting_of c) W bs
+      → IsSpaceBasis (setting_of c) V bs → IsSpaceBasis (setting_of c) W bs
   basis_same V W s bs b = record {
     members = All-weaker V W (λ z. (s z).0) bs b.members;
     independent = b.independent;
@@ -75,7 +75,7 @@ module _ {k : CodeField} (c : Equation k) where
   }
 
   pub space_basis : (I N : FunctionOf c → Type 0) (bs : List (FunctionOf c)) (d : ℕ → ℤ) → IsReducedBasis c I N bs d
-      → IsBasis (setting_of c) (λ z. I z × N z) (layers (code_ring k) (polynomial_ops c) bs (λ i. size (pos 0 -ℤ d i)))
+      → IsSpaceBasis (setting_of c) (λ z. I z × N z) (layers (code_ring k) (polynomial_ops c) bs (λ i. size (pos 0 -ℤ d i)))
   space_basis I N bs d reduced =
       basis_same (λ z. I z × multiples_of c N (pos 0) z) (λ z. I z × N z)
       (λ z. (λ m. (m.0, (level_zero c N z).0 m.1), λ m. (m.0, (level_zero c N z).1 m.1))) _
@@ -96,7 +96,7 @@ module _ {k : CodeField} (c : Equation k) where
     pub divisor_basis : (bs : List (FunctionOf c)) × (ds : List ℤ) × (d : ℕ → ℤ)
         × IsReducedBasis c (MeetsOn (setting_of c) D Finite) (MeetsOn (setting_of c) D Infinite) bs d
         × IsSimultaneousBasis (setting_of c) D bs ds
-        × IsBasis (setting_of c) (InSpace (setting_of c) D)
+        × IsSpaceBasis (setting_of c) (InSpace (setting_of c) D)
         (layers (code_ring k) (polynomial_ops c) bs (λ i. size (pos 0 -ℤ d i)))
     divisor_basis =
         let r = reduced_basis c I N 𝓘 𝓝 in

@@ -8,7 +8,7 @@ use Rattle.ring_lemmas.proofs.Ring.{eq_of_sub}
 use Rattle.ring_lemmas.proofs.Solver.{ring, reads}
 use Rattle.linear_theory.specs.Module.{combine, restricted_ops, IsHomomorphism}
 use Rattle.linear_theory.specs.Basis.{IsIndependent as IsFree}
-use Rattle.function_field.specs.Spans.{combination, IsIndependent, InSpanOnce}
+use Rattle.function_field.specs.Spans.{combination, IsIndependentList, InSpanOnce}
 use Rattle.function_field.proofs.Spans.{span_list}
 
 module _ {C A : Type 0} (K : CommRing C) (R : CommRing A) (e : C → A) (hom : IsHomomorphism K.ops R.ops e)
@@ -112,7 +112,7 @@ module _ {A : Type 0} (R : CommRing A) (S : A → Type 0) (𝓢 : IsSubring R.op
       (differences_zero rs ss (omega arith) (All-tail (λ z. z ≡ 𝟘) _ _ h))
 
   -- members of the span of independent elements are combinations in one way only
-  pub span_once : (gs : List A) → IsIndependent R.ops S gs → (z : A) → Span R.ops S gs z → InSpanOnce R.ops S gs z
+  pub span_once : (gs : List A) → IsIndependentList R.ops S gs → (z : A) → Span R.ops S gs z → InSpanOnce R.ops S gs z
   span_once gs free z m =
       let s = (span_list R.ops S gs z).0 m in
       record {

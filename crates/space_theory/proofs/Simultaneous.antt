@@ -14,7 +14,7 @@ use Rattle.ff_fields.specs.Code.{code_ring, code_field, code_domain}
 use Rattle.ff_poly.specs.Polynomials.{Polynomial, polynomials, x_poly, x_poly_not_zero}
 use Rattle.function_field.specs.declared.side.Side.TheVariants.{Finite, Infinite}
 use Rattle.function_field.specs.Functions.{Equation, FunctionOf, ring_of, of_poly, row_of, over, setting_of, degree_of_y, IsPolynomial, IsFiniteAtInfinity}
-use Rattle.function_field.specs.Spans.{combination, IsIndependent}
+use Rattle.function_field.specs.Spans.{combination, IsIndependentList}
 use Rattle.function_field.specs.Divisors.{x_to, shifted, SpansOnce}
 use Rattle.function_field.proofs.OnSide.{den_inverse}
 use Rattle.function_field.proofs.ScalarRings.{polynomials_subring, finite_at_infinity_subring, bottoms_not_zero, over_times, of_poly_one}
@@ -198,7 +198,7 @@ module _ {k : CodeField} (c : Equation k) where
   pub shifted_independent : (bs : List (FunctionOf c)) (d : ℕ → ℤ)
       → ((p : ℕ → Polynomial k) → combine (polynomial_ops c) p bs ≡ 𝟘 → (i : ℕ) → i < length bs → p i
       ≡ (polynomials k).𝟘)
-      → IsIndependent (ring_of c).ops (IsFiniteAtInfinity c) (shifted (setting_of c) (tabulate (length bs) d) bs)
+      → IsIndependentList (ring_of c).ops (IsFiniteAtInfinity c) (shifted (setting_of c) (tabulate (length bs) d) bs)
   shifted_independent bs d free rs l h e =
       let l' : length rs ≡ length bs = l ∙ shifted_length bs d in
       scaled_zero rs d

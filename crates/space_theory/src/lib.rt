@@ -16,7 +16,7 @@ ghost use Rattle.function_field.specs.declared.side.Side.TheVariants.{Finite, In
 ghost use Rattle.function_field.specs.Functions.{Equation, FunctionOf, ring_of, setting_of, degree_of_y, IsPolynomial};
 ghost use Rattle.function_field.specs.Values.{PresValue, Functions, functions, setting, equation_of};
 ghost use Rattle.function_field.specs.Places.{IsIntegralAt};
-ghost use Rattle.function_field.specs.Divisors.{Divisor, MeetsOn, InSpace, IsBasis, IsSimultaneousBasis, IsSumOfSides, SpansOnce, IsCanonical};
+ghost use Rattle.function_field.specs.Divisors.{Divisor, MeetsOn, InSpace, IsSpaceBasis, IsSimultaneousBasis, IsSumOfSides, SpansOnce, IsCanonical};
 ghost use Rattle.function_field.specs.Discriminant.{discriminant};
 ghost use Rattle.prime_theory.specs.Ideals.{SameSet};
 ghost use Rattle.function_field.specs.Indices.{HasIndex, space_ops};
@@ -96,7 +96,7 @@ pub fn divisor_basis_law()
         × (d : ℕ → ℤ)
         × IsReducedBasis c (MeetsOn (setting_of c) D Finite) (MeetsOn (setting_of c) D Infinite) bs d
         × IsSimultaneousBasis (setting_of c) D bs ds
-        × IsBasis (setting_of c) (InSpace (setting_of c) D)
+        × IsSpaceBasis (setting_of c) (InSpace (setting_of c) D)
         (layers (code_ring k) (polynomial_ops c) bs (λ i. size (pos 0 -ℤ d i))) }
 {}
 
@@ -105,14 +105,14 @@ pub fn divisor_basis_law()
 pub fn space_law<S: FunctionSets>()
     ensures levels { (b : List (FunctionOf S.equation)) (d : ℕ → ℤ) → IsReducedBasis S.equation S.first S.second b d
         → (m : ℤ)
-        → IsBasis (setting_of S.equation) (λ z. S.first z × multiples_of S.equation S.second m z)
+        → IsSpaceBasis (setting_of S.equation) (λ z. S.first z × multiples_of S.equation S.second m z)
         (layers (code_ring S.field) (polynomial_ops S.equation) b (λ i. size (m -ℤ d i))) }
     ensures count { (b : List (FunctionOf S.equation)) (d : ℕ → ℤ) → IsReducedBasis S.equation S.first S.second b d
         → (m : ℤ)
         → length (layers (code_ring S.field) (polynomial_ops S.equation) b (λ i. size (m -ℤ d i)))
         ≡ dimension_sum (degree_of_y S.equation) d m }
     ensures space { (b : List (FunctionOf S.equation)) (d : ℕ → ℤ) → IsReducedBasis S.equation S.first S.second b d
-        → IsBasis (setting_of S.equation) (λ z. S.first z × S.second z)
+        → IsSpaceBasis (setting_of S.equation) (λ z. S.first z × S.second z)
         (layers (code_ring S.field) (polynomial_ops S.equation) b (λ i. size (pos 0 -ℤ d i))) }
     ensures dimension { (b : List (FunctionOf S.equation)) (d : ℕ → ℤ)
         → IsReducedBasis S.equation S.first S.second b d → (g : ℕ)

@@ -11,7 +11,7 @@ use Rattle.function_field.proofs.ScalarRings.{polynomials_subring}
 use Rattle.lattice_theory.specs.Lattices as theory
 use Rattle.lattice_theory.proofs.Lattices.{lattice_module}
 use Rattle.order_theory.specs.Orders as theory_orders
-use Rattle.ff_lattice.specs.Lattices.{LatticeValue, IsLattice, Contains, IsFull}
+use Rattle.ff_lattice.specs.Lattices.{LatticeValue, IsLatticeValue, Contains, IsFullLattice}
 use Rattle.ff_lattice.specs.Orders.{IsOrderLattice}
 use Rattle.ff_lattice.specs.Colons.{IsColon}
 use Rattle.value_theory.specs.Laws.{row_functions}
@@ -20,7 +20,7 @@ use Rattle.ff_lattice.proofs.SpannedSets.{lattice_full}
 
 module _ (k : CodeField) (p : PresValue) where
   -- a lattice of full rank is one of the theory
-  pub full_lattice : (l : LatticeValue) → IsFull k p (Contains k p l)
+  pub full_lattice : (l : LatticeValue) → IsFullLattice k p (Contains k p l)
       → theory.IsLattice (equation_of k p) (Contains k p l)
   full_lattice l full = record {
     generators = row_functions k p l;
@@ -33,7 +33,7 @@ module _ (k : CodeField) (p : PresValue) where
   }
 
   module _ (positive : 0 < p.n) where
-    pub lattice_set : (l : LatticeValue) → IsLattice k.ops p.n l → theory.IsLattice (equation_of k p) (Contains k p l)
+    pub lattice_set : (l : LatticeValue) → IsLatticeValue k.ops p.n l → theory.IsLattice (equation_of k p) (Contains k p l)
     lattice_set l form = full_lattice l (lattice_full k p l positive form)
 
     pub order_set : (l : LatticeValue) → IsOrderLattice k p l → theory_orders.IsOrder (equation_of k p) (Contains k p l)
@@ -55,7 +55,7 @@ module _ (k : CodeField) (p : PresValue) where
         }
 
   -- the functions that take a lattice into itself are an order
-  pub colon_order : (i l : LatticeValue) → IsLattice k.ops p.n l
+  pub colon_order : (i l : LatticeValue) → IsLatticeValue k.ops p.n l
       → ((z : Functions k p) → Contains k p l z ↔ IsColon k p i i z) → IsOrderLattice k p l
   colon_order i l form members = record {
     lattice = form;

@@ -16,7 +16,7 @@ use Rattle.function_field.specs.Functions.{IsPolynomial, over}
 use Rattle.function_field.specs.Values.{PresValue, Functions, functions, function_of, equation_of}
 use Rattle.function_field.proofs.ScalarRings.{polynomials_subring}
 use Rattle.ff_lattice.specs.Lattices.{LatticeValue, Contains}
-use Rattle.ff_lattice.specs.Quotients.{QuotientValue, IsQuotient, IsIdealLattice, IsClassOf, HasClasses, dimension, lifted, codes_of_row, product_codes, quotient_ops}
+use Rattle.ff_lattice.specs.Quotients.{QuotientValue, IsQuotient, IsIdealLattice, IsClassOf, HasClasses, dimension, lifted, codes_of_row, product_codes, class_algebra}
 use Rattle.ff_lattice.proofs.ClassAlgebras.{same_sym, same_trans}
 use Rattle.ff_lattice.proofs.Elements.{elem_over, in_span_of}
 use Rattle.ff_lattice.proofs.Spaces.{codes_row, codes_row_length, codes_row_over, read_codes_row}
@@ -105,7 +105,7 @@ module _ (k : CodeField) (q : QuotientValue) (h : IsQuotient k q) where
       (record { difference = a_of.difference }) in
       record { codes = a_of.codes; difference = s.difference }
 
-  maximal_of_field : IsFieldAlgebra k.ops (quotient_ops q)
+  maximal_of_field : IsFieldAlgebra k.ops (class_algebra q)
       → IsMaximalIdeal (functions k q.p).ops (Contains k q.p q.order) (Contains k q.p q.ideal)
   maximal_of_field field = record {
     ideal = ideal_set k q.p q.order q.ideal h.frame.ideal;
@@ -129,7 +129,7 @@ module _ (k : CodeField) (q : QuotientValue) (h : IsQuotient k q) where
   }
 
   field_of_maximal : IsMaximalIdeal (functions k q.p).ops (Contains k q.p q.order) (Contains k q.p q.ideal)
-      → IsFieldAlgebra k.ops (quotient_ops q)
+      → IsFieldAlgebra k.ops (class_algebra q)
   field_of_maximal m = record {
     one_not_zero = λ e. m.proper ((classes.of_ideal F.𝟙).0 (subst (IsClassOf k q F.𝟙) e classes.of_one));
     inverse = λ a a_in some.
@@ -148,6 +148,6 @@ module _ (k : CodeField) (q : QuotientValue) (h : IsQuotient k q) where
   }
 
   -- the order modulo an ideal is a field exactly where the ideal is maximal
-  pub field_iff_maximal : IsFieldAlgebra k.ops (quotient_ops q)
+  pub field_iff_maximal : IsFieldAlgebra k.ops (class_algebra q)
       ↔ IsMaximalIdeal (functions k q.p).ops (Contains k q.p q.order) (Contains k q.p q.ideal)
   field_iff_maximal = (maximal_of_field, field_of_maximal)

@@ -26,7 +26,7 @@ use Rattle.infinite_theory.proofs.InfiniteTransport.{x_irreducible, infinite_map
 use Rattle.infinite_theory.proofs.InfiniteDecisions.{infinite_some}
 use Rattle.infinite_theory.proofs.InfiniteLaws.{taken_members}
 use Rattle.infinite_theory.proofs.LocalIntegral.{taken_is_supported}
-use Rattle.ff_lattice.specs.Lattices.{LatticeValue, IsLattice, Contains, elems_over, row_elems}
+use Rattle.ff_lattice.specs.Lattices.{LatticeValue, IsLatticeValue, Contains, elems_over, row_elems}
 use Rattle.ff_lattice.proofs.Normal.{monic_poly}
 use Rattle.value_theory.specs.IntegralLattices.{IsOverPowerOfT, IsIntegralLattice}
 use Rattle.value_theory.proofs.PowerDenominators.{power_codes, over_power, element, element_in, element_is}
@@ -75,7 +75,7 @@ module _ (k : CodeField) (c : CurveValue) (curve : IsCurve k c) where
       den_poly n)
       (images rows den (All-tail (IsRow k.ops c.inf.n) v rows rows_in) den_in den_poly n)
 
-  pub rows_are : (l : LatticeValue) → IsLattice k.ops c.inf.n l
+  pub rows_are : (l : LatticeValue) → IsLatticeValue k.ops c.inf.n l
       → map f (map (function_of k c.inf) (row_elems l)) ≡ map (function_on k c.fin c.c Infinite) (row_elems l)
   rows_are l form = images l.rows l.den form.rows_in form.den_in form.den_poly (monic_some l.den form.monic)
 

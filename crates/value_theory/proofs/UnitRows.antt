@@ -6,7 +6,7 @@ use Rattle.ring_lemmas.specs.Rows.{Row, row_scale}
 use Rattle.ff_fields.specs.Field.{CodeField}
 use Rattle.ff_fields.specs.Code.{code_ring, code_field}
 use Rattle.ff_fields.specs.Over.{IsOver}
-use Rattle.ff_poly.specs.Words.{IsMonic}
+use Rattle.ff_poly.specs.Words.{IsMonicList}
 use Rattle.ff_poly.specs.Value.{value}
 use Rattle.ff_poly.specs.Polynomials.{Polynomial, polynomials, polynomials_domain, value_one}
 use Rattle.popov_theory.specs.Module.{PolynomialModule}
@@ -21,7 +21,7 @@ use Rattle.function_field.specs.Functions.{over}
 use Rattle.function_field.specs.Values.{PresValue, Functions, functions, equation_of}
 use Rattle.trace_theory.specs.Traces.{HasPolynomialCoordinates}
 use Rattle.infinite_theory.proofs.SupportedLattices.{coordinates_ring}
-use Rattle.ff_lattice.specs.Lattices.{LatticeValue, IsLattice, Contains, IsSpannedBy, IsFull, elems_over}
+use Rattle.ff_lattice.specs.Lattices.{LatticeValue, IsLatticeValue, Contains, IsSpannedBy, IsFullLattice, elems_over}
 use Rattle.ff_lattice.specs.Orders.{IsOrderLattice}
 use Rattle.ff_lattice.specs.Units.{unit_rows}
 use Rattle.ff_lattice.proofs.Elements.{in_span_of}
@@ -43,7 +43,7 @@ module _ (k : CodeField) (p : PresValue) where
   abbrev rows : List (List (List ℕ))
   rows = unit_rows p.n p.n
 
-  pub unit_over_monic : (den : List ℕ) → IsOver k.ops den → IsMonic den → IsOverMonic k p (unit_lattice p.n den)
+  pub unit_over_monic : (den : List ℕ) → IsOver k.ops den → IsMonicList den → IsOverMonic k p (unit_lattice p.n den)
   unit_over_monic den den_in monic =
       record {
         rows_in = unit_rows_in k p.n;
@@ -93,7 +93,7 @@ module _ (k : CodeField) (p : PresValue) where
           → (v : Row (Polynomial k) (suc (p.n - 1))) × (z ≡ over (equation_of k p) v (value k den) some)
       unit_numerator z h = let m = (in_span_of k p den some rows z).0 h in (m.numerator, m.is)
 
-      pub unit_full : IsFull k p (Contains k p (unit_lattice p.n den))
+      pub unit_full : IsFullLattice k p (Contains k p (unit_lattice p.n den))
       unit_full =
           full_from_rank k p den some rows
           (record {
@@ -135,7 +135,7 @@ module _ (k : CodeField) (p : PresValue) where
           λ h. s.1 (m.1 h),
         )
 
-    pub coordinate_order : (l : LatticeValue) → IsLattice k.ops p.n l
+    pub coordinate_order : (l : LatticeValue) → IsLatticeValue k.ops p.n l
         → IsSpannedBy k p.n (elems_over (unit_rows p.n p.n) (1 ∷ [])) l → IsOrderLattice k p l
     coordinate_order l form spanned = record {
       lattice = form;

@@ -8,7 +8,7 @@ use Rattle.function_field.specs.Places.{IsIntegralAt}
 use Rattle.function_field.specs.Values.{ElemValue, PresValue, IsElem, Functions, functions, setting}
 use Rattle.function_field.specs.Infinity.{StandsFor, function_on, IsPolynomialOn}
 use Rattle.function_field.specs.Curves.{CurveValue}
-use Rattle.ff_lattice.specs.Lattices.{LatticeValue, IsLattice, row_elems}
+use Rattle.ff_lattice.specs.Lattices.{LatticeValue, IsLatticeValue, row_elems}
 
 -- the presentation of a side
 abbrev pub presentation : CurveValue → Side → PresValue
@@ -40,6 +40,6 @@ module _ (k : CodeField) (c : CurveValue) where
 
   -- the lattice of a side's integral functions
   pub record IsIntegralLattice (s : Side) (l : LatticeValue) : Type 0 where
-    pub form : IsLattice k.ops (presentation c s).n l
+    pub form : IsLatticeValue k.ops (presentation c s).n l
     pub span : SpansIntegral s (map (function_on k c.fin c.c s) (row_elems l))
     pub whole : SpansOverPowersOfT s (map (function_on k c.fin c.c s) (row_elems l))

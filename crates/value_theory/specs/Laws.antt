@@ -12,8 +12,8 @@ use Rattle.function_field.specs.Discriminant.{discriminant}
 use Rattle.function_field.specs.Values.{PresValue, Functions, functions, function_of, equation_of}
 use Rattle.ideal_theory.specs.Indices.{HasRelativeIndex}
 use Rattle.ideal_theory.specs.Records.{RecordedPrime, IsRecordAt, ArePrimesOfPlaces}
-use Rattle.ff_lattice.specs.Lattices.{LatticeValue, IsLattice, Contains, row_elems, pivot_degree_of}
-use Rattle.ff_lattice.specs.Quotients.{QuotientValue, IsIdealLattice, quotient_ops}
+use Rattle.ff_lattice.specs.Lattices.{LatticeValue, IsLatticeValue, Contains, row_elems, pivot_degree_of}
+use Rattle.ff_lattice.specs.Quotients.{QuotientValue, IsIdealLattice, class_algebra}
 use Rattle.value_theory.specs.Primes.{PrimeValue}
 
 -- the rows of a lattice, as functions
@@ -24,10 +24,10 @@ module _ (k : CodeField) (p : PresValue) where
   -- the index of a lattice relative to another and to k[x][y] by pivot degrees
   pub record IndicesByDegrees : Type 0 where
     pub relative :
-        (a b : LatticeValue) → IsLattice k.ops p.n a → IsLattice k.ops p.n b
+        (a b : LatticeValue) → IsLatticeValue k.ops p.n a → IsLatticeValue k.ops p.n b
         → HasRelativeIndex (equation_of k p) (Contains k p a) (Contains k p b) (pivot_degree_of a -ℤ pivot_degree_of b)
     pub coordinates :
-        (a : LatticeValue) → IsLattice k.ops p.n a
+        (a : LatticeValue) → IsLatticeValue k.ops p.n a
         → HasRelativeIndex (equation_of k p) (Contains k p a) (HasPolynomialCoordinates (equation_of k p))
         (pivot_degree_of a)
 
@@ -66,5 +66,5 @@ module _ (k : CodeField) (p : PresValue) where
 -- the order modulo an ideal is a field exactly where the ideal is maximal
 abbrev pub FieldsAndMaximalIdeals : (k : CodeField) → QuotientValue → Type 0
 FieldsAndMaximalIdeals k q =
-    IsFieldAlgebra k.ops (quotient_ops q)
+    IsFieldAlgebra k.ops (class_algebra q)
     ↔ IsMaximalIdeal (functions k q.p).ops (Contains k q.p q.order) (Contains k q.p q.ideal)

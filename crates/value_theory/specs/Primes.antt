@@ -9,7 +9,7 @@ use Rattle.ff_poly.specs.Value.{value}
 use Rattle.function_field.specs.declared.side.Side.{Side}
 use Rattle.function_field.specs.Functions.{of_poly}
 use Rattle.function_field.specs.Values.{PresValue, Functions, functions, equation_of}
-use Rattle.ff_lattice.specs.Lattices.{LatticeValue, IsLattice, Contains, pivot_degree_of}
+use Rattle.ff_lattice.specs.Lattices.{LatticeValue, IsLatticeValue, Contains, pivot_degree_of}
 use Rattle.ff_lattice.specs.Colons.{IsColon}
 use Rattle.ff_lattice.specs.Quotients.{IsIdealLattice}
 
@@ -29,7 +29,7 @@ module _ (k : CodeField) (q : PresValue) (o : LatticeValue) where
   -- power that has the polynomial
   pub record IsPrimeOf (P : PrimeValue) : Type 0 where
     pub ideal : IsIdealLattice k q o P.rows
-    pub inverse_form : IsLattice k.ops q.n P.inverse
+    pub inverse_form : IsLatticeValue k.ops q.n P.inverse
     pub maximal : IsMaximalIdeal (functions k q).ops (Contains k q o) (Contains k q P.rows)
     pub over : Contains k q P.rows (of_poly (equation_of k q) (value k P.p))
     pub degree : pos P.degree ≡ pivot_degree_of P.rows -ℤ pivot_degree_of o

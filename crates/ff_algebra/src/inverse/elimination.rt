@@ -7,7 +7,7 @@ ghost use Rattle.ff_fields.specs.Over.{IsOver};
 ghost use Rattle.ff_poly.specs.Popov.{rows_of};
 ghost use Rattle.function_field.specs.Values.{IsPresOver, PresValue};
 ghost use Rattle.ff_algebra.specs.RowProducts.{IsPolyRow};
-ghost use Rattle.ff_algebra.specs.Inverses.{ClearsColumn, IsEliminated, IsLine, IsRelation, eliminated, entry_of};
+ghost use Rattle.ff_algebra.specs.Inverses.{ClearsColumn, AreEliminatedLines, IsInverseLine, IsInverseRelation, eliminated_lines, line_entry};
 
 use crate::elem::Pres;
 use crate::rows::{cross_sums, row_product, zeros};
@@ -36,7 +36,7 @@ fn line_of<K: SmallField>(
     requires p_in { IsPresOver (K.field k.now).ops p.now }
     requires v_in { IsPolyRow (K.field k.now).ops p.now.n v.now }
     requires factors_in { IsPolyRow (K.field k.now).ops (p.now.n + 1) factors.items }
-    ensures line { IfOk result (λ line. IsLine (K.field k.now) p.now v.now line.items) }
+    ensures line { IfOk result (λ line. IsInverseLine (K.field k.now) p.now v.now line.items) }
     ensures factors { IfOk result (λ line. take (p.now.n + 1) line.items ≡ factors.items) }
 {
     let n = p.n();
@@ -56,7 +56,7 @@ fn starting_lines<K: SmallField>(
 ) -> Result<Vec<Vec<Poly>>, AllocError>
     requires p_in { IsPresOver (K.field k.now).ops p.now }
     requires v_in { IsPolyRow (K.field k.now).ops p.now.n v.now }
-    ensures lines { IfOk result (λ lines. IsEliminated (K.field k.now) p.now v.now (p.now.n + 1)
+    ensures lines { IfOk result (λ lines. AreEliminatedLines (K.field k.now) p.now v.now (p.now.n + 1)
         (rows_of lines.items)) }
     ensures count { IfOk result (λ lines. length lines.items ≡ p.now.n + 1) }
 {
@@ -72,8 +72,8 @@ fn starting_lines<K: SmallField>(
 /// The position of a line that isn't 0 in the column, of least degree there; None where each line is 0 there.
 fn shortest_at(lines: &[Vec<Poly>], column: usize) -> Option<usize>
     requires { All (λ line. column < length line) (rows_of lines.now) }
-    ensures { MatchOption result ((i : ℕ) → entry_of (rows_of lines.now) i column ≡ [])
-        (λ i. (i < length lines.now) × (entry_of (rows_of lines.now) i column ≢ [])) }
+    ensures { MatchOption result ((i : ℕ) → line_entry (rows_of lines.now) i column ≡ [])
+        (λ i. (i < length lines.now) × (line_entry (rows_of lines.now) i column ≢ [])) }
 {
     let mut found: Option<(usize, usize)> = None;
     for i in 0..lines.len() {
@@ -102,7 +102,7 @@ fn eliminate<K: SmallField>(
     requires same_length { length line.now ≡ length pivot.now }
     requires pivot_in { All (IsOver (K.field k.now).ops) pivot.now }
     requires line_in { All (IsOver (K.field k.now).ops) line.now }
-    ensures { IfOk result (λ row. row.items ≡ eliminated (K.field k.now).ops column pivot.now line.now) }
+    ensures { IfOk result (λ row. row.items ≡ eliminated_lines (K.field k.now).ops column pivot.now line.now) }
 {
     let minus = poly::scale(alloc, k, &line[column], k.neg(1))?;
     cross_sums(alloc, k, &minus, &pivot[column], line, pivot)
@@ -141,7 +141,7 @@ pub(super) fn relation<K: SmallField>(
 ) -> Result<(Vec<Poly>, Poly), AllocError>
     requires p_in { IsPresOver (K.field k.now).ops p.now }
     requires v_in { IsPolyRow (K.field k.now).ops p.now.n v.now }
-    ensures { IfOk result (λ r. IsRelation (K.field k.now) p.now v.now r.0.items r.1) }
+    ensures { IfOk result (λ r. IsInverseRelation (K.field k.now) p.now v.now r.0.items r.1) }
 {
     let first = p.n() + 1;
     let width = p.n() + first;

@@ -1,6 +1,6 @@
 use Rattle.std.proofs.Common.{rules, ◌≡◌, length, sym, ◌∙◌, ap, subst, true}
 use Rattle.function_field.specs.Values.{IsElem, function_of}
-use Rattle.ff_lattice.specs.Lattices.{LatticeValue, IsLattice, Contains}
+use Rattle.ff_lattice.specs.Lattices.{LatticeValue, IsLatticeValue, Contains}
 use Rattle.cases_lattice.proofs.quotients.class.Goals as goal
 
 pub contains-requires-clause-a_form : goal.contains-requires-clause-a_form
@@ -9,8 +9,8 @@ contains-requires-clause-a_form g c =
     let q = c.args.q.now in
     let lattice = c.requires.over.quotient.frame.order.lattice in
     let is : c.lattice.result.now ≡ q.order = c.lattice.ensures ∙ c.order.ensures in
-    subst (λ (l : LatticeValue). IsLattice k.ops (length l.rows) l) (sym is)
-    (subst (λ n. IsLattice k.ops n q.order) (sym lattice.popov.size) lattice)
+    subst (λ (l : LatticeValue). IsLatticeValue k.ops (length l.rows) l) (sym is)
+    (subst (λ n. IsLatticeValue k.ops n q.order) (sym lattice.popov.size) lattice)
 
 pub contains-requires-clause-z_in : goal.contains-requires-clause-z_in
 contains-requires-clause-z_in g c =

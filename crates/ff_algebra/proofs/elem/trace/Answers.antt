@@ -1,6 +1,6 @@
 use Rattle.std.proofs.Common.{◌-◌, ap, sym, subst, ◌∙◌}
 use Rattle.ring_lemmas.specs.Rows.{row_trace}
-use Rattle.ff_poly.specs.Words.{IsMonic}
+use Rattle.ff_poly.specs.Words.{IsMonicList}
 use Rattle.ff_poly.specs.Polynomials.{polynomials}
 use Rattle.function_field.specs.Values.{ElemValue, IsMonicElem, equation_of}
 use Rattle.ff_algebra.specs.RowProducts.{IsPolyRow, row_at}
@@ -29,4 +29,4 @@ returns-clause-trace g c =
 pub returns-clause-monic : goal.returns-clause-monic
 returns-clause-monic g c =
     let a_monic = subst IsMonicElem c.a.view_is c.a.invariant in
-    subst IsMonic (sym (c.in_ok-den.ensures ∙ ap (λ (z : ElemValue). z.den) c.a.view_is)) a_monic.monic
+    subst IsMonicList (sym (c.in_ok-den.ensures ∙ ap (λ (z : ElemValue). z.den) c.a.view_is)) a_monic.monic

@@ -6,7 +6,7 @@ use Rattle.ff_poly.specs.Value.{value}
 use Rattle.ff_poly.specs.Polynomials.{polynomials}
 use Rattle.function_field.specs.Values.{ElemValue, IsElem, function_of, functions}
 use Rattle.ff_algebra.specs.RowProducts.{row_at}
-use Rattle.ff_algebra.specs.Inverses.{IsRelation}
+use Rattle.ff_algebra.specs.Inverses.{IsInverseRelation}
 use Rattle.ff_algebra.proofs.Inverting.{inverse_function, kills_function, killer_not_zero, killed_has_none}
 use Rattle.ff_algebra.proofs.inverse.try_inverse.Goals as goal
 
@@ -42,7 +42,7 @@ pub returns-clause-inverse : goal.returns-clause-inverse
 returns-clause-inverse g c =
     let k = g.K.SmallField.field c.args.k.now in
     let p = c.args.p.now in
-    let relation = subst (λ v. IsRelation k p v c.in_ok-w.w.items c.in_ok-w.d) c.num.ensures c.in_ok-w.ensures in
+    let relation = subst (λ v. IsInverseRelation k p v c.in_ok-w.w.items c.in_ok-w.d) c.num.ensures c.in_ok-w.ensures in
     let some : c.in_ok-w.d ≢ [] = λ e. let yes : c.is_zero.result
     ≡ true = c.is_zero.ensures.1 e in let
     no : c.is_zero.result ≡ false = c.if-is_zero.false in (cc) in
@@ -57,7 +57,7 @@ pub returns-then-is_zero-clause-kills : goal.returns-then-is_zero-clause-kills
 returns-then-is_zero-clause-kills g c =
     let k = g.K.SmallField.field c.args.k.now in
     let p = c.args.p.now in
-    let relation = subst (λ v. IsRelation k p v c.in_ok-w.w.items c.in_ok-w.d) c.num.ensures c.in_ok-w.ensures in
+    let relation = subst (λ v. IsInverseRelation k p v c.in_ok-w.w.items c.in_ok-w.d) c.num.ensures c.in_ok-w.ensures in
     kills_function k p c.args.a.now c.requires.a_in c.den-den.ensures.monic c.in_ok-w.w.items c.in_ok-w.d relation
     c.over_monic.result (c.is_zero.ensures.0 c.if-is_zero.true)
     (ap (function_of k p) (killer_is c.over_monic.result c.in_ok-w.w.items c.in_ok-one.one c.over_monic.ensures.parts
@@ -67,7 +67,7 @@ pub returns-then-is_zero-clause-not_zero : goal.returns-then-is_zero-clause-not_
 returns-then-is_zero-clause-not_zero g c =
     let k = g.K.SmallField.field c.args.k.now in
     let p = c.args.p.now in
-    let relation = subst (λ v. IsRelation k p v c.in_ok-w.w.items c.in_ok-w.d) c.num.ensures c.in_ok-w.ensures in
+    let relation = subst (λ v. IsInverseRelation k p v c.in_ok-w.w.items c.in_ok-w.d) c.num.ensures c.in_ok-w.ensures in
     killer_not_zero k p c.args.a.now c.requires.a_in c.den-den.ensures.monic c.in_ok-w.w.items c.in_ok-w.d relation
     c.over_monic.result (c.is_zero.ensures.0 c.if-is_zero.true)
     (ap (function_of k p) (killer_is c.over_monic.result c.in_ok-w.w.items c.in_ok-one.one c.over_monic.ensures.parts

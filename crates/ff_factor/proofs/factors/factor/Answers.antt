@@ -1,5 +1,5 @@
 use Rattle.std.proofs.Common.{sym, subst}
-use Rattle.ff_factor.specs.Pulls.{AreAllPrimes, IsPrimeList, IsSplitOff}
+use Rattle.ff_factor.specs.Pulls.{ArePrimesOfIdempotents, IsPrimeList, IsSplitOff}
 use Rattle.ff_factor.specs.Quotients.{IsModulus}
 use Rattle.ff_factor.proofs.Factorisations.{scaled, scaled_modulus, scaled_primes, scaled_factors}
 use Rattle.ff_factor.proofs.factors.factor.Goals as goal
@@ -36,8 +36,8 @@ pub split_off-requires-clause-primes : goal.split_off-requires-clause-primes
 split_off-requires-clause-primes g c =
     let k = g.K.SmallField.field c.args.k.now in
     let a = c.in_ok-monic.monic in
-    let all : AreAllPrimes k.ops a c.in_ok-primes.primes.items
-    = subst (λ w. AreAllPrimes k.ops w c.in_ok-primes.primes.items) c.in_ok-a.ensures c.in_ok-primes.ensures in
+    let all : ArePrimesOfIdempotents k.ops a c.in_ok-primes.primes.items
+    = subst (λ w. ArePrimesOfIdempotents k.ops w c.in_ok-primes.primes.items) c.in_ok-a.ensures c.in_ok-primes.ensures in
     subst (IsPrimeList k c.args.g.now) (sym c.as_slice.ensures.value)
     (scaled_primes k c.args.g.now a all.idempotents c.in_ok-primes.primes.items
     (scaled k c.args.g.now c.codes.result.now c.in_ok-monic.monic c.top-2.result c.inv.result c.requires.over
@@ -50,8 +50,8 @@ pub returns : goal.returns
 returns g c =
     let k = g.K.SmallField.field c.args.k.now in
     let a = c.in_ok-monic.monic in
-    let all : AreAllPrimes k.ops a c.in_ok-primes.primes.items
-    = subst (λ w. AreAllPrimes k.ops w c.in_ok-primes.primes.items) c.in_ok-a.ensures c.in_ok-primes.ensures in
+    let all : ArePrimesOfIdempotents k.ops a c.in_ok-primes.primes.items
+    = subst (λ w. ArePrimesOfIdempotents k.ops w c.in_ok-primes.primes.items) c.in_ok-a.ensures c.in_ok-primes.ensures in
     scaled_factors k c.args.g.now a all.idempotents c.in_ok-primes.primes.items
     (scaled k c.args.g.now c.codes.result.now c.in_ok-monic.monic c.top-2.result c.inv.result c.requires.over
     c.codes.ensures.poly c.codes.ensures.codes

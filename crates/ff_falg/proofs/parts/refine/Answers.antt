@@ -1,6 +1,6 @@
 use Rattle.std.proofs.Common.{take, arith, refl, sym, ◌∙◌, subst}
 use Rattle.std.proofs.lemmas.List.{take_all}
-use Rattle.ff_linalg.specs.Matrix.{row_of}
+use Rattle.ff_linalg.specs.Matrix.{matrix_row}
 use Rattle.ff_falg.specs.Algebras.{IsVector, IsFixedVector, IsIdempotentVector}
 use Rattle.ff_falg.specs.Relations.{IsBounded}
 use Rattle.ff_falg.specs.Splits.{IsSplitOnto}
@@ -51,8 +51,8 @@ split-requires-clause-bounded g c =
     let e = member_at k A law c.args.parts.now c.loop-e.e-index c.e-item.result c.e-item.is (omega arith)
     c.requires.splitting.orthogonal in
     subst (λ x. IsBounded k.ops A x c.as_slice.result.now c.rows.result) (sym c.row.ensures)
-    (subst (λ y. IsBounded k.ops A (row_of c.args.basis.now c.args.i) y c.rows.result) (sym c.as_slice.ensures.value)
-    (subst (IsBounded k.ops A (row_of c.args.basis.now c.args.i) c.e-item.result.items) (sym c.rows.ensures)
+    (subst (λ y. IsBounded k.ops A (matrix_row c.args.basis.now c.args.i) y c.rows.result) (sym c.as_slice.ensures.value)
+    (subst (IsBounded k.ops A (matrix_row c.args.basis.now c.args.i) c.e-item.result.items) (sym c.rows.ensures)
     (relation_bound k A law c.args.basis.now c.requires.basis c.args.i c.e-item.result.items c.requires.within e.0
     e.1)))
 
@@ -64,12 +64,12 @@ loop-e-preserved g c =
     let e = member_at k A law' c.args.parts.now c.loop-e.e-index c.e-item.result c.e-item.is (omega arith)
     c.requires.splitting.orthogonal in
     λ law x_in.
-    subst (λ es. IsRefined k A law (row_of c.args.basis.now c.args.i, x_in) es (elements_of c.split.new.out.items))
+    subst (λ es. IsRefined k A law (matrix_row c.args.basis.now c.args.i, x_in) es (elements_of c.split.new.out.items))
     (sym (elements_more k A law c.args.parts.now c.loop-e.e-index c.e-item.result c.e-item.is (omega arith)))
-    (refined_step k A law (row_of c.args.basis.now c.args.i, x_in)
+    (refined_step k A law (matrix_row c.args.basis.now c.args.i, x_in)
     (elements_of (take c.loop-e.e-index c.args.parts.now)) (elements_of c.loop-e.out.items)
     c.e-item.result.items (elements_of c.split.new.out.items) e.0.vector
-    (subst (λ y. IsSplitOnto k.ops A (row_of c.args.basis.now c.args.i) y (elements_of c.loop-e.out.items)
+    (subst (λ y. IsSplitOnto k.ops A (matrix_row c.args.basis.now c.args.i) y (elements_of c.loop-e.out.items)
     (elements_of c.split.new.out.items))
     c.as_slice.ensures.value
     (subst (λ x. IsSplitOnto k.ops A x c.as_slice.result.now (elements_of c.loop-e.out.items)
@@ -85,7 +85,7 @@ returns g c =
     let x_in = basis_row k A law c.args.basis.now c.requires.basis c.args.i c.requires.within in
     refined_end k A law c.args.basis.now c.args.i (elements_of c.args.parts.now) (elements_of c.loop-e.out.items)
     (λ l le. basis_row k A law c.args.basis.now c.requires.basis l (let w = c.requires.within in omega arith))
-    (row_of c.args.basis.now c.args.i, x_in) refl c.requires.splitting
-    (subst (λ ps. IsRefined k A law (row_of c.args.basis.now c.args.i, x_in) (elements_of ps)
+    (matrix_row c.args.basis.now c.args.i, x_in) refl c.requires.splitting
+    (subst (λ ps. IsRefined k A law (matrix_row c.args.basis.now c.args.i, x_in) (elements_of ps)
     (elements_of c.loop-e.out.items))
     (take_all c.loop-e.e-index c.args.parts.now (omega arith)) (c.loop-e.invariant law x_in))

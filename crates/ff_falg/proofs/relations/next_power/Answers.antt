@@ -1,6 +1,6 @@
 use Rattle.std.proofs.Common.{◌-◌, length, arith, sym, ap, ◌∙◌, subst}
 use Rattle.std.proofs.lemmas.Result.{IfOk-weaker}
-use Rattle.ff_linalg.specs.Matrix.{row_of}
+use Rattle.ff_linalg.specs.Matrix.{matrix_row}
 use Rattle.ff_falg.specs.Algebras.{IsVector}
 use Rattle.ff_falg.proofs.relations.next_power.Goals as goal
 use Rattle.ff_falg.proofs.RowSteps.{row_in}
@@ -25,5 +25,5 @@ returns g c =
     IfOk-weaker c.mul.result _ _
     (λ v e. e
     ∙ ap (A.product k.ops c.args.x.now) (c.row-2.ensures ∙ c.requires.before.written.rows (c.args.l - 1) (omega arith))
-    ∙ next_at k A law c.args.x.now c.requires.x_in (row_of c.args.known.now 0) c.args.l e_in (omega arith))
+    ∙ next_at k A law c.args.x.now c.requires.x_in (matrix_row c.args.known.now 0) c.args.l e_in (omega arith))
     c.mul.ensures

@@ -1,5 +1,5 @@
 use Rattle.std.proofs.Common.{◌≡◌, ◌<◌, arith, sym, ap, ◌∙◌, length, subst}
-use Rattle.ff_linalg.specs.Matrix.{row_of}
+use Rattle.ff_linalg.specs.Matrix.{matrix_row}
 use Rattle.ff_linalg.specs.Space.{product_of}
 use Rattle.ff_falg.specs.Algebras.{IsVector}
 use Rattle.ff_falg.proofs.rows.composed.Goals as goal
@@ -29,7 +29,7 @@ loop-i-preserved g c =
     let l : c.loop-i.i < length c.args.b.now.rows = let e = c.requires.a_shape.row_count in omega arith in
     let row = row_in k c.args.a.now _ _ c.loop-i.i c.requires.a_shape c.requires.a_in l in
     record {
-      written = holds_step k (λ i. product_of k.ops (row_of c.args.a.now i) c.args.b.now) _ _ c.loop-i.i
+      written = holds_step k (λ i. product_of k.ops (matrix_row c.args.a.now i) c.args.b.now) _ _ c.loop-i.i
           c.loop-i.product _ c.as_slice.result.now
           (let e = c.requires.a_shape.row_count in omega arith)
           (product_in k c.args.b.now _ row.over c.requires.b_shape c.requires.b_in)

@@ -1,14 +1,14 @@
 use Rattle.std.proofs.Common.{◌≡◌, ◌≤◌, sym, subst, ◌∙◌, arith}
 use Rattle.std.proofs.lemmas.Result.{IfOk-weaker}
 use Rattle.function_field.specs.Values.{IsElem, function_of}
-use Rattle.ff_lattice.specs.Lattices.{IsLattice}
+use Rattle.ff_lattice.specs.Lattices.{IsLatticeValue}
 use Rattle.ff_infinite.proofs.LocalMembers.{local_members}
 use Rattle.ff_infinite.proofs.local.local_contains.Goals as goal
 
 pub contains-requires-clause-a_form : goal.contains-requires-clause-a_form
 contains-requires-clause-a_form g c =
     let k = g.K.SmallField.field c.args.k.now in
-    subst (λ n. IsLattice k.ops n c.args.l.now) (sym c.requires.l_form.popov.size) c.requires.l_form
+    subst (λ n. IsLatticeValue k.ops n c.args.l.now) (sym c.requires.l_form.popov.size) c.requires.l_form
 
 pub contains-requires-clause-z_in : goal.contains-requires-clause-z_in
 contains-requires-clause-z_in g c =

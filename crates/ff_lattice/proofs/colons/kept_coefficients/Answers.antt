@@ -1,6 +1,6 @@
 use Rattle.std.proofs.Common.{◌≡◌, ◌<◌, ◌∙◌, sym, ap, ap₂, subst, length, map, ◌++◌, All}
 use Rattle.std.proofs.lemmas.List.{length-map}
-use Rattle.ff_poly.specs.Popov.{rows_of, IsRow, IsPopov, multiple_of_row}
+use Rattle.ff_poly.specs.Popov.{rows_of, IsRow, IsPopovMatrix, multiple_of_row}
 use Rattle.function_field.specs.Values.{IsElem, functions, function_of}
 use Rattle.ff_lattice.specs.Lattices.{row_elems}
 use Rattle.ff_lattice.specs.Steps.{IsExpanded, IsPreimage}
@@ -92,8 +92,8 @@ preimage-requires-clause-popov g c =
     let ls_is : rows_of c.deref-5.result.now ≡ map (multiple_of_row k.ops e) a.rows
     = ap rows_of c.deref-5.ensures.value ∙ c.in_ok-ls.ensures
     ∙ ap (map (multiple_of_row k.ops e)) c.rows.ensures.rows in
-    subst (λ n. IsPopov n (rows_of c.deref-5.result.now)) (sym c.n-6.ensures.n)
-    (subst (IsPopov p.n) (sym ls_is)
+    subst (λ n. IsPopovMatrix n (rows_of c.deref-5.result.now)) (sym c.n-6.ensures.n)
+    (subst (IsPopovMatrix p.n) (sym ls_is)
     (popov_multiples k e c.in_ok-e.ensures.over (monic_poly e c.in_ok-e.ensures.monic) c.in_ok-e.ensures.monic p.n
     a.rows c.requires.a_form.rows_in
     c.requires.a_form.popov.trimmed c.requires.a_form.popov))

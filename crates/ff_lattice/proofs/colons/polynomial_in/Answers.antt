@@ -1,9 +1,9 @@
 use Rattle.std.proofs.Common.{◌≡◌, ◌<◌, ◌∙◌, ◌++◌, sym, ap, subst, length, get_or, [], ◌∷◌, All, arith}
 use Rattle.std.proofs.lemmas.List.{length-map}
 use Rattle.std.proofs.lemmas.List.Elements.{All-nil, All-cons}
-use Rattle.ff_poly.specs.Popov.{rows_of, row_at, IsRow, IsPopov}
+use Rattle.ff_poly.specs.Popov.{rows_of, row_at, IsRow, IsPopovMatrix}
 use Rattle.ff_popov.proofs.Entries.{any_default}
-use Rattle.ff_lattice.specs.Lattices.{IsLattice}
+use Rattle.ff_lattice.specs.Lattices.{IsLatticeValue}
 use Rattle.ff_lattice.specs.Colons.{one_row}
 use Rattle.ff_lattice.specs.Steps.{IsPreimage}
 use Rattle.ff_lattice.proofs.Pushes.{read_row}
@@ -24,7 +24,7 @@ preimage-requires-clause-m_in g c =
     (All-nil (IsRow k.ops n)))
 
 pub preimage-requires-clause-popov : goal.preimage-requires-clause-popov
-preimage-requires-clause-popov g c = subst (IsPopov c.args.n) (sym c.rows.ensures.rows) c.requires.b_form.popov
+preimage-requires-clause-popov g c = subst (IsPopovMatrix c.args.n) (sym c.rows.ensures.rows) c.requires.b_form.popov
 
 pub index-requires-2 : goal.index-requires-2
 index-requires-2 g c =
@@ -120,5 +120,5 @@ returns-clause-inside g c =
     ∙ any_default (row_at basis 0) 0 c.index-2.result.now [] (omega (arith, row_size)) in
     λ p n_is.
     polynomial_inside k p b (subst (λ n. 0 < n) (sym n_is) c.requires.positive)
-    (subst (λ n. IsLattice k.ops n b) (sym n_is) c.requires.b_form) basis
+    (subst (λ n. IsLatticeValue k.ops n b) (sym n_is) c.requires.b_form) basis
     (subst (λ n. IsPreimage k.ops 1 n (one_row n b.den ∷ []) b.rows basis) (sym n_is) pre) c.in_ok-h.h h_is

@@ -2,9 +2,9 @@ use Rattle.std.proofs.Common.{◌≡◌, ◌↔◌, ◌∙◌, sym, ap, ap₂, s
 use Rattle.std.specs.Prelude.{MatchOption, IfSome}
 use Rattle.std.proofs.lemmas.List.{length-map}
 use Rattle.ff_poly.specs.Words.{IsPoly}
-use Rattle.ff_poly.specs.Popov.{rows_of, IsRow, combination, HasFullRank}
+use Rattle.ff_poly.specs.Popov.{rows_of, IsRow, combination, HasFullRankMatrix}
 use Rattle.function_field.specs.Values.{functions, function_of}
-use Rattle.ff_lattice.specs.Lattices.{LatticeValue, IsLattice, IsSpannedBy, Contains, InSpanOf, elems_over}
+use Rattle.ff_lattice.specs.Lattices.{LatticeValue, IsLatticeValue, IsSpannedBy, Contains, InSpanOf, elems_over}
 use Rattle.ff_lattice.proofs.Restrictions.{kept_iff, made_rows, made_poly, made_rank}
 use Rattle.ff_lattice.proofs.colons.restricted.Goals as goal
 
@@ -98,10 +98,10 @@ unreachable-requires g c =
     = c.in_ok-rows.ensures ∙ ap (λ n. map (λ z. combination k.ops n z (rows_of c.rows.result.now))
     (rows_of c.deref.result.now)) c.n.ensures.n
     ∙ ap₂ (λ ls bs. map (λ z. combination k.ops p.n z ls) (rows_of bs)) c.rows.ensures.rows c.deref.ensures.value in
-    let found = subst (λ f. MatchOption f (¬ HasFullRank k.ops c.n-2.result (rows_of c.in_ok-rows.rows.items))
-    (IsLattice k.ops c.n-2.result)) c.in-None.is c.in_ok-lattice.ensures.form in
-    let none = subst (λ xs. ¬ HasFullRank k.ops p.n xs) made_is
-    (subst (λ n. ¬ HasFullRank k.ops n (rows_of c.in_ok-rows.rows.items)) c.n-2.ensures.n found) in
+    let found = subst (λ f. MatchOption f (¬ HasFullRankMatrix k.ops c.n-2.result (rows_of c.in_ok-rows.rows.items))
+    (IsLatticeValue k.ops c.n-2.result)) c.in-None.is c.in_ok-lattice.ensures.form in
+    let none = subst (λ xs. ¬ HasFullRankMatrix k.ops p.n xs) made_is
+    (subst (λ n. ¬ HasFullRankMatrix k.ops n (rows_of c.in_ok-rows.rows.items)) c.n-2.ensures.n found) in
     none (made_rank k p l a w basis c.n.ensures.range.positive c.requires.l_form c.requires.a_form
     c.in_ok-basis.ensures)
 

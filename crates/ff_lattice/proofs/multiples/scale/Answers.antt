@@ -1,11 +1,11 @@
 use Rattle.std.proofs.Common.{◌≡◌, length, map, subst, sym, ap₂, All, ◌∙◌}
 use Rattle.std.specs.Prelude.{MatchOption, IfSome}
-use Rattle.ff_poly.specs.Words.{IsPoly, IsMonic, product_of, multiple_of}
+use Rattle.ff_poly.specs.Words.{IsPoly, IsMonicList, product_of, multiple_of}
 use Rattle.ff_poly.specs.PolyOver.{IsOver_multiple_of}
 use Rattle.ff_poly.specs.Polynomials.{value_not_zero}
-use Rattle.ff_poly.specs.Popov.{rows_of, IsRow, HasFullRank, multiple_of_row}
+use Rattle.ff_poly.specs.Popov.{rows_of, IsRow, HasFullRankMatrix, multiple_of_row}
 use Rattle.ff_poly.proofs.Parts.{IsMonic_product}
-use Rattle.ff_lattice.specs.Lattices.{IsLattice, IsSpannedBy, elems_over}
+use Rattle.ff_lattice.specs.Lattices.{IsLatticeValue, IsSpannedBy, elems_over}
 use Rattle.ff_lattice.proofs.Membership.{multiples_in}
 use Rattle.ff_lattice.proofs.ScaledSets.{made_monic, multiples_poly, scaled_rank, multiple_not_zero, scaled_members}
 use Rattle.ff_lattice.proofs.multiples.scale.Goals as goal
@@ -26,8 +26,8 @@ from_rows-requires-clause-rows_in g c =
     c.rows.ensures.rows in
     let e_is : c.in_ok-e.e ≡ product_of k.ops (multiple_of k.ops den inverse) a.den
     = c.in_ok-e.ensures.product ∙ ap₂ (product_of k.ops) c.in_ok-bottom.ensures.multiple c.den.ensures.den in
-    let e_monic : IsMonic c.in_ok-e.e
-    = subst IsMonic (sym e_is) (IsMonic_product k (multiple_of k.ops den inverse) a.den
+    let e_monic : IsMonicList c.in_ok-e.e
+    = subst IsMonicList (sym e_is) (IsMonic_product k (multiple_of k.ops den inverse) a.den
     (IsOver_multiple_of k c.requires.den_in made.0) c.requires.a_form.den_in made.1 c.requires.a_form.monic) in
     subst (λ m. All (IsRow k.ops m) (rows_of c.in_ok-rows.rows.items)) (sym c.len-2.ensures)
     (subst (All (IsRow k.ops n)) (sym rows_is)
@@ -49,8 +49,8 @@ from_rows-requires-clause-rows_poly g c =
     c.rows.ensures.rows in
     let e_is : c.in_ok-e.e ≡ product_of k.ops (multiple_of k.ops den inverse) a.den
     = c.in_ok-e.ensures.product ∙ ap₂ (product_of k.ops) c.in_ok-bottom.ensures.multiple c.den.ensures.den in
-    let e_monic : IsMonic c.in_ok-e.e
-    = subst IsMonic (sym e_is) (IsMonic_product k (multiple_of k.ops den inverse) a.den
+    let e_monic : IsMonicList c.in_ok-e.e
+    = subst IsMonicList (sym e_is) (IsMonic_product k (multiple_of k.ops den inverse) a.den
     (IsOver_multiple_of k c.requires.den_in made.0) c.requires.a_form.den_in made.1 c.requires.a_form.monic) in
     subst (All (All IsPoly)) (sym rows_is) (multiples_poly k (multiple_of k.ops num inverse) a.rows)
 
@@ -70,8 +70,8 @@ from_rows-requires-clause-e_monic g c =
     c.rows.ensures.rows in
     let e_is : c.in_ok-e.e ≡ product_of k.ops (multiple_of k.ops den inverse) a.den
     = c.in_ok-e.ensures.product ∙ ap₂ (product_of k.ops) c.in_ok-bottom.ensures.multiple c.den.ensures.den in
-    let e_monic : IsMonic c.in_ok-e.e
-    = subst IsMonic (sym e_is) (IsMonic_product k (multiple_of k.ops den inverse) a.den
+    let e_monic : IsMonicList c.in_ok-e.e
+    = subst IsMonicList (sym e_is) (IsMonic_product k (multiple_of k.ops den inverse) a.den
     (IsOver_multiple_of k c.requires.den_in made.0) c.requires.a_form.den_in made.1 c.requires.a_form.monic) in
     e_monic
 
@@ -91,13 +91,13 @@ unreachable-requires g c =
     c.rows.ensures.rows in
     let e_is : c.in_ok-e.e ≡ product_of k.ops (multiple_of k.ops den inverse) a.den
     = c.in_ok-e.ensures.product ∙ ap₂ (product_of k.ops) c.in_ok-bottom.ensures.multiple c.den.ensures.den in
-    let e_monic : IsMonic c.in_ok-e.e
-    = subst IsMonic (sym e_is) (IsMonic_product k (multiple_of k.ops den inverse) a.den
+    let e_monic : IsMonicList c.in_ok-e.e
+    = subst IsMonicList (sym e_is) (IsMonic_product k (multiple_of k.ops den inverse) a.den
     (IsOver_multiple_of k c.requires.den_in made.0) c.requires.a_form.den_in made.1 c.requires.a_form.monic) in
-    let found = subst (λ f. MatchOption f (¬ HasFullRank k.ops c.len-2.result (rows_of c.in_ok-rows.rows.items))
-    (IsLattice k.ops c.len-2.result)) c.in-None.is c.in_ok-lattice.ensures.form in
-    let none = subst (λ xs. ¬ HasFullRank k.ops n xs) rows_is
-    (subst (λ m. ¬ HasFullRank k.ops m (rows_of c.in_ok-rows.rows.items)) c.len-2.ensures found) in
+    let found = subst (λ f. MatchOption f (¬ HasFullRankMatrix k.ops c.len-2.result (rows_of c.in_ok-rows.rows.items))
+    (IsLatticeValue k.ops c.len-2.result)) c.in-None.is c.in_ok-lattice.ensures.form in
+    let none = subst (λ xs. ¬ HasFullRankMatrix k.ops n xs) rows_is
+    (subst (λ m. ¬ HasFullRankMatrix k.ops m (rows_of c.in_ok-rows.rows.items)) c.len-2.ensures found) in
     none (scaled_rank k n a (multiple_of k.ops num inverse) c.requires.some c.requires.a_form top_in
     (multiple_not_zero k num den inverse c.requires.num_in c.requires.den_in made.0 made.1
     (value_not_zero k num c.requires.num_in c.len-len.ensures.trimmed c.requires.num_some)))
@@ -118,8 +118,8 @@ returns-clause-members g c =
     c.rows.ensures.rows in
     let e_is : c.in_ok-e.e ≡ product_of k.ops (multiple_of k.ops den inverse) a.den
     = c.in_ok-e.ensures.product ∙ ap₂ (product_of k.ops) c.in_ok-bottom.ensures.multiple c.den.ensures.den in
-    let e_monic : IsMonic c.in_ok-e.e
-    = subst IsMonic (sym e_is) (IsMonic_product k (multiple_of k.ops den inverse) a.den
+    let e_monic : IsMonicList c.in_ok-e.e
+    = subst IsMonicList (sym e_is) (IsMonic_product k (multiple_of k.ops den inverse) a.den
     (IsOver_multiple_of k c.requires.den_in made.0) c.requires.a_form.den_in made.1 c.requires.a_form.monic) in
     let spanned = subst (λ f. IfSome f (IsSpannedBy k c.len-2.result
     (elems_over (rows_of c.in_ok-rows.rows.items) c.in_ok-e.e))) c.in-Some.is c.in_ok-lattice.ensures.members in

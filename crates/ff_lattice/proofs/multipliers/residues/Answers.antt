@@ -1,7 +1,7 @@
 use Rattle.std.proofs.Common.{◌-◌, ap, ap₂, ◌∙◌, arith, length, sym, subst, ◌<◌}
 use Rattle.ff_poly.specs.Words.{shifted}
 use Rattle.ff_linalg.specs.Matrix.{zero_matrix}
-use Rattle.ff_lattice.specs.Residues.{IsRest}
+use Rattle.ff_lattice.specs.Residues.{IsRestModulo}
 use Rattle.ff_lattice.proofs.ResidueSteps.{own_shape, residues_start, residues_step, residues_end, rest_start, rest_step}
 use Rattle.ff_lattice.proofs.multipliers.residues.Goals as goal
 
@@ -13,7 +13,7 @@ loop-j-init g c =
           residues_start k c.args.e.now c.args.v.now c.in_ok-rows.rows
           (c.in_ok-rows.ensures ∙ ap₂ (λ a b. zero_matrix a (b - 1)) c.len.ensures.length c.len-2.ensures.length);
       rest =
-          subst (IsRest k.ops c.args.e.now (shifted c.args.v.now 0)) (sym c.in_ok-rest.ensures)
+          subst (IsRestModulo k.ops c.args.e.now (shifted c.args.v.now 0)) (sym c.in_ok-rest.ensures)
           (rest_start k c.args.e.now c.args.v.now c.requires.e_in c.requires.v_in c.requires.v_poly c.requires.short);
     }
 

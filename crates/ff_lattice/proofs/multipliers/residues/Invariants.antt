@@ -1,5 +1,5 @@
 use Rattle.ff_poly.specs.Words.{shifted}
-use Rattle.ff_lattice.specs.Residues.{IsRest, HasResidues}
+use Rattle.ff_lattice.specs.Residues.{IsRestModulo, HasResidues}
 use Rattle.ff_lattice.proofs.multipliers.residues.Given as goal
 
 abbrev pub invariant-loop-j : goal.invariant-loop-j
@@ -7,5 +7,5 @@ invariant-loop-j g l =
     let k = (g.K.SmallField.field l.k).ops in
     record {
       rows : HasResidues k l.e l.v l.j l.rows;
-      rest : IsRest k l.e (shifted l.v l.j) l.rest;
+      rest : IsRestModulo k l.e (shifted l.v l.j) l.rest;
     }

@@ -2,7 +2,7 @@ use Rattle.std.proofs.Common.{◌≡◌, ◌↔◌, ◌++◌, subst, sym, ap, Al
 use Rattle.std.specs.Prelude.{IfOk}
 use Rattle.std.proofs.lemmas.List.Elements.{All-append}
 use Rattle.function_field.specs.Values.{IsElem, Functions}
-use Rattle.ff_lattice.specs.Lattices.{row_elems, IsFull, InSpanOf, Contains}
+use Rattle.ff_lattice.specs.Lattices.{row_elems, IsFullLattice, InSpanOf, Contains}
 use Rattle.ff_lattice.proofs.Results.{members_through}
 use Rattle.ff_lattice.proofs.SpannedSets.{lattice_full}
 use Rattle.ff_lattice.proofs.SumsAndProducts.{rows_elems, sum_iff, sum_full}
@@ -32,7 +32,7 @@ spanned-requires-clause-full g c =
     = c.deref.ensures.value ∙ c.in_ok-push_rows-2.ensures.all
     ∙ ap (λ xs. xs ++ row_elems b) (c.in_ok-push_rows.ensures.all
     ∙ ap (λ xs. xs ++ row_elems a) c.in_ok-gens.ensures.items) in
-    subst (λ gens. IsFull k p (InSpanOf k p gens)) (sym is)
+    subst (λ gens. IsFullLattice k p (InSpanOf k p gens)) (sym is)
     (sum_full k p (row_elems a) (row_elems b) (lattice_full k p a c.n.ensures.range.positive c.requires.a_form))
 
 pub returns-clause-members : goal.returns-clause-members

@@ -1,6 +1,6 @@
 use Rattle.std.proofs.Common.{length, ap, sym, subst, ◌∙◌, arith}
 use Rattle.std.proofs.lemmas.List.{length-map}
-use Rattle.ff_poly.specs.Popov.{rows_of, IsPopov}
+use Rattle.ff_poly.specs.Popov.{rows_of, IsPopovMatrix}
 use Rattle.ff_lattice.proofs.PivotSums.{next_sum, entry_inside, pivot_is}
 use Rattle.ff_lattice.proofs.preimage.multiples_bound.Goals as goal
 
@@ -8,7 +8,7 @@ pub index-requires : goal.index-requires
 index-requires c =
     let vs = c.args.rows.now in
     let size = length-map vs (λ v. v.items) in
-    let popov : IsPopov (length (rows_of vs)) (rows_of vs) = subst (λ n. IsPopov n (rows_of vs)) (sym size) c.requires
+    let popov : IsPopovMatrix (length (rows_of vs)) (rows_of vs) = subst (λ n. IsPopovMatrix n (rows_of vs)) (sym size) c.requires
     in
     omega (
       arith,
@@ -21,7 +21,7 @@ pub overflow_sub-len : goal.overflow_sub-len
 overflow_sub-len c =
     let vs = c.args.rows.now in
     let size = length-map vs (λ v. v.items) in
-    let popov : IsPopov (length (rows_of vs)) (rows_of vs) = subst (λ n. IsPopov n (rows_of vs)) (sym size) c.requires
+    let popov : IsPopovMatrix (length (rows_of vs)) (rows_of vs) = subst (λ n. IsPopovMatrix n (rows_of vs)) (sym size) c.requires
     in
     let is = pivot_is (length (rows_of vs)) vs popov c.loop-i.i (omega arith) (sym size) c.index-rows-i.result
     c.index-rows-i.is c.index.result.now c.index.ensures in
@@ -31,7 +31,7 @@ pub loop-i-preserved : goal.loop-i-preserved
 loop-i-preserved c =
     let vs = c.args.rows.now in
     let size = length-map vs (λ v. v.items) in
-    let popov : IsPopov (length (rows_of vs)) (rows_of vs) = subst (λ n. IsPopov n (rows_of vs)) (sym size) c.requires
+    let popov : IsPopovMatrix (length (rows_of vs)) (rows_of vs) = subst (λ n. IsPopovMatrix n (rows_of vs)) (sym size) c.requires
     in
     let is = pivot_is (length (rows_of vs)) vs popov c.loop-i.i (omega arith) (sym size) c.index-rows-i.result
     c.index-rows-i.is c.index.result.now c.index.ensures in

@@ -1,13 +1,13 @@
 use Rattle.std.proofs.Common.{◌+◌, sym, ap, subst, ◌∙◌}
 use Rattle.std.proofs.lemmas.List.{length-map}
-use Rattle.ff_poly.specs.Popov.{rows_of, IsPopov}
+use Rattle.ff_poly.specs.Popov.{rows_of, IsPopovMatrix}
 use Rattle.ff_lattice.specs.Steps.{pivot_sum}
 use Rattle.ff_lattice.proofs.ShortMultiples.{short_multiples}
 use Rattle.ff_lattice.proofs.preimage.preimage.Goals as goal
 
 pub multiples_bound-requires : goal.multiples_bound-requires
 multiples_bound-requires g c =
-    subst (λ n. IsPopov n (rows_of c.args.ls.now)) (sym c.requires.popov.size ∙ length-map c.args.ls.now (λ v. v.items))
+    subst (λ n. IsPopovMatrix n (rows_of c.args.ls.now)) (sym c.requires.popov.size ∙ length-map c.args.ls.now (λ v. v.items))
     c.requires.popov
 
 pub preimage_within-requires-clause-short : goal.preimage_within-requires-clause-short

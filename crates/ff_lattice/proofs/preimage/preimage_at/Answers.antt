@@ -1,7 +1,7 @@
 use Rattle.std.proofs.Common.{◌≡◌, ◌+◌, ◌≤◌, length, subst, sym, ap, ◌∙◌, arith, false, true}
 use Rattle.std.specs.Prelude.{All, MatchOption}
 use Rattle.std.proofs.lemmas.List.{length-map}
-use Rattle.ff_poly.specs.Popov.{rows_of, IsRow, IsPopov, HaveSameSpan, HasFullRank}
+use Rattle.ff_poly.specs.Popov.{rows_of, IsRow, IsPopovMatrix, HaveSameRowSpan, HasFullRankMatrix}
 use Rattle.ff_lattice.specs.Steps.{HasZeroCorner, corner, IsPreimage}
 use Rattle.ff_lattice.proofs.Preimages.{gs_in, gs_full, zero_corner, preimage_is}
 use Rattle.ff_lattice.proofs.preimage.preimage_at.Goals as goal
@@ -25,14 +25,14 @@ returns g c =
     let total : c.in_ok-total.total ≡ length c.args.m.now
     + c.args.width = (rw c.in_ok-total.ensures.ok_part at c.checked_add.ensures).1 in
     let found =
-    subst (λ f. MatchOption f (¬ HasFullRank k.ops c.in_ok-total.total gs)
-    (λ basis. IsPopov c.in_ok-total.total (rows_of basis.items)
+    subst (λ f. MatchOption f (¬ HasFullRankMatrix k.ops c.in_ok-total.total gs)
+    (λ basis. IsPopovMatrix c.in_ok-total.total (rows_of basis.items)
     × All (IsRow k.ops c.in_ok-total.total) (rows_of basis.items)
-    × HaveSameSpan k.ops c.in_ok-total.total gs (rows_of basis.items)))
+    × HaveSameRowSpan k.ops c.in_ok-total.total gs (rows_of basis.items)))
     c.in-Some.is c.in_ok-whole.ensures in
     let whole = rows_of c.in-Some.whole.items in
     let sized =
-    subst (λ n. IsPopov n whole × All (IsRow k.ops n) whole × HaveSameSpan k.ops n gs whole) total found in
+    subst (λ n. IsPopovMatrix n whole × All (IsRow k.ops n) whole × HaveSameRowSpan k.ops n gs whole) total found in
     let zeros = subst (λ vs. HasZeroCorner r (rows_of vs)) c.deref.ensures.value
     (c.has_zero_corner.ensures.0 c.if-not-has_zero_corner.false) in
     let is = c.in_ok-basis.ensures ∙ ap (λ vs. corner r (rows_of vs)) c.deref-2.ensures.value in
@@ -47,9 +47,9 @@ returns-in_default g c =
     let gs = rows_of c.in_ok-rows.rows.items in
     let total : c.in_ok-total.total ≡ length c.args.m.now
     + c.args.width = (rw c.in_ok-total.ensures.ok_part at c.checked_add.ensures).1 in
-    let none : ¬ HasFullRank k.ops c.in_ok-total.total gs = rw c.in_default.is at c.in_ok-whole.ensures in
+    let none : ¬ HasFullRankMatrix k.ops c.in_ok-total.total gs = rw c.in_default.is at c.in_ok-whole.ensures in
     λ bound h.
-    absurd (none (subst (λ n. HasFullRank k.ops n gs) (sym total)
+    absurd (none (subst (λ n. HasFullRankMatrix k.ops n gs) (sym total)
     (gs_full k (length c.args.m.now) c.args.width c.requires.some c.requires.positive (rows_of c.args.m.now)
     (rows_of c.args.ls.now) (length-map c.args.m.now (λ v. v.items)) c.requires.m_in c.requires.ls_in
     c.args.power gs c.in_ok-rows.ensures (record { multiple = h.multiple }))))
@@ -63,14 +63,14 @@ returns-then-not-has_zero_corner g c =
     let total : c.in_ok-total.total ≡ length c.args.m.now
     + c.args.width = (rw c.in_ok-total.ensures.ok_part at c.checked_add.ensures).1 in
     let found =
-    subst (λ f. MatchOption f (¬ HasFullRank k.ops c.in_ok-total.total gs)
-    (λ basis. IsPopov c.in_ok-total.total (rows_of basis.items)
+    subst (λ f. MatchOption f (¬ HasFullRankMatrix k.ops c.in_ok-total.total gs)
+    (λ basis. IsPopovMatrix c.in_ok-total.total (rows_of basis.items)
     × All (IsRow k.ops c.in_ok-total.total) (rows_of basis.items)
-    × HaveSameSpan k.ops c.in_ok-total.total gs (rows_of basis.items)))
+    × HaveSameRowSpan k.ops c.in_ok-total.total gs (rows_of basis.items)))
     c.in-Some.is c.in_ok-whole.ensures in
     let whole = rows_of c.in-Some.whole.items in
     let sized =
-    subst (λ n. IsPopov n whole × All (IsRow k.ops n) whole × HaveSameSpan k.ops n gs whole) total found in
+    subst (λ n. IsPopovMatrix n whole × All (IsRow k.ops n) whole × HaveSameRowSpan k.ops n gs whole) total found in
     λ bound h.
     let no : bound ≤ c.args.power → ⊥
     = λ le.

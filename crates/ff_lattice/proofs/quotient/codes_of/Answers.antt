@@ -1,5 +1,5 @@
 use Rattle.std.proofs.Common.{◌≡◌, ℕ, ◌*◌, List, length, max, sym, ap, ap₂, ◌∙◌, subst, All}
-use Rattle.ff_poly.specs.Popov.{rows_of, longest, IsRow, IsPopov}
+use Rattle.ff_poly.specs.Popov.{rows_of, longest, IsRow, IsPopovMatrix}
 use Rattle.ff_lattice.specs.PositionLists.{codes_below}
 use Rattle.ff_lattice.proofs.quotient.codes_of.Goals as goal
 
@@ -22,9 +22,9 @@ read_codes-requires-clause-order_in g c =
 
 pub read_codes-requires-clause-order_popov : goal.read_codes-requires-clause-order_popov
 read_codes-requires-clause-order_popov g c =
-    subst (λ m. IsPopov m (rows_of c.rows.result.now))
+    subst (λ m. IsPopovMatrix m (rows_of c.rows.result.now))
     (sym (size_is c.deref_mut.ensures.value c.in_ok-row.ensures.row_in.size))
-    (subst (IsPopov c.args.p.now.n) (sym c.rows.ensures.rows) c.requires.l_form.popov)
+    (subst (IsPopovMatrix c.args.p.now.n) (sym c.rows.ensures.rows) c.requires.l_form.popov)
 
 pub read_codes-requires-clause-ideal_in : goal.read_codes-requires-clause-ideal_in
 read_codes-requires-clause-ideal_in g c =
@@ -33,7 +33,7 @@ read_codes-requires-clause-ideal_in g c =
     (sym (size_is c.deref_mut.ensures.value c.in_ok-row.ensures.row_in.size)) c.requires.rows_in
 
 pub read_codes-requires-clause-ideal_popov : goal.read_codes-requires-clause-ideal_popov
-read_codes-requires-clause-ideal_popov g c = subst (λ m. IsPopov m (rows_of c.args.rows.now))
+read_codes-requires-clause-ideal_popov g c = subst (λ m. IsPopovMatrix m (rows_of c.args.rows.now))
     (sym (size_is c.deref_mut.ensures.value c.in_ok-row.ensures.row_in.size)) c.requires.rows_popov
 
 pub returns : goal.returns

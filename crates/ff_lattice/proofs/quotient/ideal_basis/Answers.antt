@@ -1,6 +1,6 @@
 use Rattle.std.proofs.Common.{◌≡◌, ◌++◌, get_or, sym, ap, ◌∙◌, subst, All}
 use Rattle.std.specs.Prelude.{MatchOption}
-use Rattle.ff_poly.specs.Popov.{rows_of, IsRow, IsPopov, HaveSameSpan, HasFullRank}
+use Rattle.ff_poly.specs.Popov.{rows_of, IsRow, IsPopovMatrix, HaveSameRowSpan, HasFullRankMatrix}
 use Rattle.function_field.specs.Values.{IsElem, function_of}
 use Rattle.ff_lattice.specs.Lattices.{Contains, row_elems}
 use Rattle.ff_lattice.specs.Quotients.{IsRowsOf}
@@ -56,10 +56,10 @@ unreachable-requires g c =
     ∙ ap (λ xs. xs ++ row_elems i) c.new-gens.ensures.items in
     let rows = rows_of c.in_ok-rows.rows.items in
     let h = subst (λ zs. IsRowsOf k p l zs rows) is c.in_ok-rows.ensures in
-    let none = subst (λ f. MatchOption f (¬ HasFullRank k.ops c.n.result rows)
-    (λ basis. IsPopov c.n.result (rows_of basis.items) × All (IsRow k.ops c.n.result) (rows_of basis.items)
-    × HaveSameSpan k.ops c.n.result rows (rows_of basis.items))) c.in-None.is c.in_ok-popov.ensures in
-    subst (λ n. ¬ HasFullRank k.ops n rows) c.n.ensures.n none
+    let none = subst (λ f. MatchOption f (¬ HasFullRankMatrix k.ops c.n.result rows)
+    (λ basis. IsPopovMatrix c.n.result (rows_of basis.items) × All (IsRow k.ops c.n.result) (rows_of basis.items)
+    × HaveSameRowSpan k.ops c.n.result rows (rows_of basis.items))) c.in-None.is c.in_ok-popov.ensures in
+    subst (λ n. ¬ HasFullRankMatrix k.ops n rows) c.n.ensures.n none
     (ideal_rank k p l c.requires.l_form i lattice rows h c.n.ensures.range.positive)
 
 pub returns-clause-members : goal.returns-clause-members
@@ -74,9 +74,9 @@ returns-clause-members g c =
     let rows = rows_of c.in_ok-rows.rows.items in
     let h = subst (λ zs. IsRowsOf k p l zs rows) is c.in_ok-rows.ensures in
     let basis = rows_of c.in-Some.basis.items in
-    let found = subst (λ f. MatchOption f (¬ HasFullRank k.ops c.n.result rows)
-    (λ basis. IsPopov c.n.result (rows_of basis.items) × All (IsRow k.ops c.n.result) (rows_of basis.items)
-    × HaveSameSpan k.ops c.n.result rows (rows_of basis.items))) c.in-Some.is c.in_ok-popov.ensures in
+    let found = subst (λ f. MatchOption f (¬ HasFullRankMatrix k.ops c.n.result rows)
+    (λ basis. IsPopovMatrix c.n.result (rows_of basis.items) × All (IsRow k.ops c.n.result) (rows_of basis.items)
+    × HaveSameRowSpan k.ops c.n.result rows (rows_of basis.items))) c.in-Some.is c.in_ok-popov.ensures in
     ideal_members k p l c.requires.l_form i lattice rows h basis
-    (subst (λ n. IsPopov n basis) c.n.ensures.n found.0) (subst (λ n. All (IsRow k.ops n) basis) c.n.ensures.n found.1)
-    (subst (λ n. HaveSameSpan k.ops n rows basis) c.n.ensures.n found.2)
+    (subst (λ n. IsPopovMatrix n basis) c.n.ensures.n found.0) (subst (λ n. All (IsRow k.ops n) basis) c.n.ensures.n found.1)
+    (subst (λ n. HaveSameRowSpan k.ops n rows basis) c.n.ensures.n found.2)

@@ -3,7 +3,7 @@ use Rattle.std.specs.Prelude.{MatchOption}
 use Rattle.std.proofs.lemmas.List.{length-map}
 use Rattle.ff_fields.specs.Over.{IsOver}
 use Rattle.ff_poly.specs.Words.{product_of}
-use Rattle.ff_poly.specs.Popov.{rows_of, IsRow, IsPopov, InSpan, IsCombinationList, multiple_of_row}
+use Rattle.ff_poly.specs.Popov.{rows_of, IsRow, IsPopovMatrix, InRowSpan, IsCombinationList, multiple_of_row}
 use Rattle.ff_popov.proofs.Spans.{multiple_over}
 use Rattle.ff_lattice.proofs.Normal.{popov_poly, trimmed_rows}
 use Rattle.ff_lattice.proofs.Scaled.{popov_multiples}
@@ -42,8 +42,8 @@ coordinates-requires-clause-popov g c =
     ∙ c.requires.z_in.one_each in
     let monic = c.den-2.ensures.monic in
     let form = c.requires.a_form in
-    subst (λ m. IsPopov m (rows_of c.deref.result.now)) (sym size)
-    (subst (IsPopov n) (sym rows_is)
+    subst (λ m. IsPopovMatrix m (rows_of c.deref.result.now)) (sym size)
+    (subst (IsPopovMatrix n) (sym rows_is)
     (popov_multiples k z.den c.requires.z_in.den_over monic.den_poly monic.monic n a.rows form.rows_in
     (trimmed_rows a.rows (popov_poly n a.rows form.popov)) form.popov))
 
@@ -78,14 +78,14 @@ returns g c =
     ∙ c.requires.z_in.one_each in
     let found = c.in_ok-found.found in
     let m =
-    subst (λ m. MatchOption found (¬ InSpan k.ops m (map (multiple_of_row k.ops z.den) a.rows)
+    subst (λ m. MatchOption found (¬ InRowSpan k.ops m (map (multiple_of_row k.ops z.den) a.rows)
     (multiple_of_row k.ops a.den z.num)) (λ x. IsCombinationList k.ops m (map (multiple_of_row k.ops z.den) a.rows)
     (multiple_of_row k.ops a.den z.num) x.items)) size
-    (subst (λ v. MatchOption found (¬ InSpan k.ops (length c.deref-2.result.now)
+    (subst (λ v. MatchOption found (¬ InRowSpan k.ops (length c.deref-2.result.now)
     (map (multiple_of_row k.ops z.den) a.rows) v)
     (λ x. IsCombinationList k.ops (length c.deref-2.result.now) (map (multiple_of_row k.ops z.den) a.rows) v
     x.items)) v_is
-    (subst (λ rows. MatchOption found (¬ InSpan k.ops (length c.deref-2.result.now) rows c.deref-2.result.now)
+    (subst (λ rows. MatchOption found (¬ InRowSpan k.ops (length c.deref-2.result.now) rows c.deref-2.result.now)
     (λ x. IsCombinationList k.ops (length c.deref-2.result.now) rows c.deref-2.result.now x.items)) rows_is
     c.in_ok-found.ensures)) in
     contains_decided k n a z found c.is_some.result c.requires.a_form c.requires.z_in c.den-2.ensures.monic m

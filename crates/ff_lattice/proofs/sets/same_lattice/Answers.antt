@@ -1,5 +1,5 @@
 use Rattle.std.proofs.Common.{sym, subst, arith}
-use Rattle.ff_lattice.specs.Lattices.{IsLattice, Contains}
+use Rattle.ff_lattice.specs.Lattices.{IsLatticeValue, Contains}
 use Rattle.ff_lattice.proofs.OneForm.{one_form}
 use Rattle.ff_lattice.proofs.sets.same_lattice.Goals as goal
 
@@ -13,6 +13,6 @@ returns-clause-sets g c =
           (subst (λ l. Contains k p l z) same, subst (λ l. Contains k p l z) (sym same)),
       λ same.
           c.same_form.ensures.1
-          (one_form k p a b (subst (λ n. IsLattice k.ops n a) (sym n_is) c.requires.a_form)
-          (subst (λ n. IsLattice k.ops n b) (sym n_is) c.requires.b_form) same (omega (arith, positive))),
+          (one_form k p a b (subst (λ n. IsLatticeValue k.ops n a) (sym n_is) c.requires.a_form)
+          (subst (λ n. IsLatticeValue k.ops n b) (sym n_is) c.requires.b_form) same (omega (arith, positive))),
     )

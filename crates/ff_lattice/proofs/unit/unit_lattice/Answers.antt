@@ -1,6 +1,6 @@
 use Rattle.std.proofs.Common.{◌∙◌, [], sym, ap, subst, All}
 use Rattle.ff_fields.specs.Over.{IsOver, IsOver_cons, IsOver_nil}
-use Rattle.ff_poly.specs.Popov.{rows_of, IsRow, IsPopov}
+use Rattle.ff_poly.specs.Popov.{rows_of, IsRow, IsPopovMatrix}
 use Rattle.ff_lattice.specs.Steps.{IsReducedTo}
 use Rattle.ff_lattice.proofs.Results.{ok_from_both}
 use Rattle.ff_lattice.proofs.UnitRows.{unit_popov, unit_rows_in, units_spanned}
@@ -14,7 +14,7 @@ normalized-requires-clause-rows_in g c =
 
 pub normalized-requires-clause-popov : goal.normalized-requires-clause-popov
 normalized-requires-clause-popov g c =
-    subst (IsPopov c.args.n) (sym (ap rows_of c.deref.ensures.value ∙ c.in_ok-rows.ensures)) (unit_popov c.args.n)
+    subst (IsPopovMatrix c.args.n) (sym (ap rows_of c.deref.ensures.value ∙ c.in_ok-rows.ensures)) (unit_popov c.args.n)
 
 pub normalized-requires-clause-e_in : goal.normalized-requires-clause-e_in
 normalized-requires-clause-e_in g c =

@@ -1,7 +1,7 @@
 use Rattle.std.proofs.Common.{◌≡◌, refl, sym, ap, ◌∙◌, arith}
 use Rattle.ff_linalg.proofs.elimination.raise_pivot.Goals as goal
 use Rattle.ff_linalg.specs.Matrix.{rows_in}
-use Rattle.ff_linalg.specs.Steps.{entry_at}
+use Rattle.ff_linalg.specs.Steps.{matrix_entry}
 use Rattle.ff_linalg.proofs.Flat.{length_rows_in}
 use Rattle.ff_linalg.proofs.Reduction.{swap_self}
 
@@ -14,7 +14,7 @@ returns-else-rank-i c =
       position = c.args.rank;
       late = omega arith;
       within = omega (arith, c.in-Some.ensures.1, length_rows_in c.args.cols c.args.rows c.args.entries.now);
-      nonzero = λ e. c.in-Some.ensures.2 (ap (λ n. entry_at rows n c.args.c) here ∙ e);
+      nonzero = λ e. c.in-Some.ensures.2 (ap (λ n. matrix_entry rows n c.args.c) here ∙ e);
       is = sym (swap_self rows c.args.rank
           (omega (arith, c.in-Some.ensures.1, length_rows_in c.args.cols c.args.rows c.args.entries.now)));
     }

@@ -1,5 +1,5 @@
 use Rattle.std.proofs.Common.{rules, ◌≡◌, length, sym, subst, ◌∙◌, true, false}
-use Rattle.ff_lattice.specs.Lattices.{LatticeValue, IsLattice}
+use Rattle.ff_lattice.specs.Lattices.{LatticeValue, IsLatticeValue}
 use Rattle.ff_lattice.proofs.OrderRows.{false_true}
 use Rattle.ff_order.specs.Steps.{IsBetween}
 use Rattle.ff_order.proofs.Turns.{between_start, between_more, between_last}
@@ -35,8 +35,8 @@ pub same_lattice-requires-clause-a_form : goal.same_lattice-requires-clause-a_fo
 same_lattice-requires-clause-a_form g c =
     let k = g.K.SmallField.field c.args.k.now in
     let next = c.in_ok-next.next in
-    subst (λ (l : LatticeValue). IsLattice k.ops (length l.rows) l) (sym c.lattice.ensures)
-    (subst (λ n. IsLattice k.ops n next) (sym c.in_ok-next.ensures.order.lattice.popov.size)
+    subst (λ (l : LatticeValue). IsLatticeValue k.ops (length l.rows) l) (sym c.lattice.ensures)
+    (subst (λ n. IsLatticeValue k.ops n next) (sym c.in_ok-next.ensures.order.lattice.popov.size)
     c.in_ok-next.ensures.order.lattice)
 
 pub same_lattice-requires-clause-b_form : goal.same_lattice-requires-clause-b_form
@@ -44,9 +44,9 @@ same_lattice-requires-clause-b_form g c =
     let k = g.K.SmallField.field c.args.k.now in
     let next = c.in_ok-next.next in
     let cur = c.turns.cur in
-    subst (λ (l : LatticeValue). IsLattice k.ops (length l.rows) c.lattice-in-turns.result.now) (sym c.lattice.ensures)
-    (subst (λ (l : LatticeValue). IsLattice k.ops (length next.rows) l) (sym c.lattice-in-turns.ensures)
-    (subst (λ n. IsLattice k.ops n cur) (sym c.in_ok-next.ensures.order.lattice.popov.size)
+    subst (λ (l : LatticeValue). IsLatticeValue k.ops (length l.rows) c.lattice-in-turns.result.now) (sym c.lattice.ensures)
+    (subst (λ (l : LatticeValue). IsLatticeValue k.ops (length next.rows) l) (sym c.lattice-in-turns.ensures)
+    (subst (λ n. IsLatticeValue k.ops n cur) (sym c.in_ok-next.ensures.order.lattice.popov.size)
     c.turns.invariant.order.lattice))
 
 pub returns-then-branch-clause-members : goal.returns-then-branch-clause-members

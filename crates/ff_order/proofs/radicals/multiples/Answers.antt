@@ -1,5 +1,5 @@
 use Rattle.std.proofs.Common.{◌≤◌, length, sym, subst}
-use Rattle.ff_lattice.specs.Lattices.{LatticeValue, IsLattice}
+use Rattle.ff_lattice.specs.Lattices.{LatticeValue, IsLatticeValue}
 use Rattle.ff_lattice.proofs.Results.{ok_through, ok_from_both}
 use Rattle.ff_order.proofs.RadicalSets.{multiples_members, multiples_are_ideal}
 use Rattle.ff_order.proofs.radicals.multiples.Goals as goal
@@ -12,8 +12,8 @@ scale-requires-clause-some g c =
 pub scale-requires-clause-a_form : goal.scale-requires-clause-a_form
 scale-requires-clause-a_form g c =
     let k = g.K.SmallField.field c.args.k.now in
-    subst (λ (l : LatticeValue). IsLattice k.ops (length l.rows) l) (sym c.lattice.ensures)
-    (subst (λ n. IsLattice k.ops n c.args.o.now) (sym c.requires.order.lattice.popov.size) c.requires.order.lattice)
+    subst (λ (l : LatticeValue). IsLatticeValue k.ops (length l.rows) l) (sym c.lattice.ensures)
+    (subst (λ n. IsLatticeValue k.ops n c.args.o.now) (sym c.requires.order.lattice.popov.size) c.requires.order.lattice)
 
 pub returns-clause-ideal : goal.returns-clause-ideal
 returns-clause-ideal g c =
@@ -25,8 +25,8 @@ returns-clause-ideal g c =
     ok_from_both c.scale.result
     (λ l form h.
     multiples_are_ideal k p c.n-degree.ensures.range.positive o c.requires.order a l
-    (subst (λ n. IsLattice k.ops n l) size
-    (subst (λ (x : LatticeValue). IsLattice k.ops (length x.rows) l) c.lattice.ensures form))
+    (subst (λ n. IsLatticeValue k.ops n l) size
+    (subst (λ (x : LatticeValue). IsLatticeValue k.ops (length x.rows) l) c.lattice.ensures form))
     (multiples_members k p l o c.lattice.result.now a c.in_ok-one.one c.lattice.ensures c.in_ok-one.ensures (sym size)
     h))
     c.scale.ensures.form c.scale.ensures.members

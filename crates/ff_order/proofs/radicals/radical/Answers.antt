@@ -2,7 +2,7 @@ use Rattle.std.proofs.Common.{◌≡◌, ◌↔◌, ◌++◌, sym, ◌∙◌, su
 use Rattle.std.proofs.lemmas.List.Elements.{All-append}
 use Rattle.std.specs.Prelude.{IfOk}
 use Rattle.function_field.specs.Values.{IsElem, Functions}
-use Rattle.ff_lattice.specs.Lattices.{Contains, InSpanOf, IsFull, row_elems}
+use Rattle.ff_lattice.specs.Lattices.{Contains, InSpanOf, IsFullLattice, row_elems}
 use Rattle.ff_lattice.proofs.Results.{members_through, ok_from_both}
 use Rattle.ff_lattice.proofs.SumsAndProducts.{rows_elems}
 use Rattle.ff_order.specs.Steps.{IsNilpotentBasis}
@@ -37,7 +37,7 @@ spanned-requires-clause-full g c =
     let l = c.in_ok-ideal.ideal in
     let lifts = c.in_ok-gens.gens.items in
     let is : c.deref.result.now ≡ lifts ++ row_elems l = c.deref.ensures.value ∙ c.in_ok-push_rows.ensures.all in
-    subst (λ gens. IsFull k p (InSpanOf k p gens)) (sym is)
+    subst (λ gens. IsFullLattice k p (InSpanOf k p gens)) (sym is)
     (lifts_full k p c.n-degree.ensures.range.positive c.args.o.now c.requires.order lifts l
     c.in_ok-ideal.ensures.ideal.lattice)
 

@@ -1,7 +1,7 @@
 use Rattle.std.proofs.Common.{[], ◌∷◌, sym, subst, ◌↔◌}
 use Rattle.function_field.specs.Values.{Functions, equation_of}
 use Rattle.trace_theory.specs.Traces.{HasPolynomialCoordinates}
-use Rattle.ff_lattice.specs.Lattices.{IsLattice, IsSpannedBy, Contains, elems_over}
+use Rattle.ff_lattice.specs.Lattices.{IsLatticeValue, IsSpannedBy, Contains, elems_over}
 use Rattle.ff_lattice.specs.Orders.{IsOrderLattice}
 use Rattle.ff_lattice.specs.Units.{unit_rows}
 use Rattle.value_theory.proofs.UnitRows.{coordinate_lattice, coordinate_order}
@@ -12,7 +12,7 @@ of-requires g c =
     let k = g.K.SmallField.field c.args.k.now in
     let l = c.in_ok-l.l in
     coordinate_order k c.args.p.now c.n.ensures.range.positive l
-    (subst (λ n. IsLattice k.ops n l) c.n.ensures.n c.in_ok-l.ensures.form)
+    (subst (λ n. IsLatticeValue k.ops n l) c.n.ensures.n c.in_ok-l.ensures.form)
     (subst (λ n. IsSpannedBy k n (elems_over (unit_rows n n) (1 ∷ [])) l) c.n.ensures.n c.in_ok-l.ensures.members)
 
 pub returns-clause-order : goal.returns-clause-order
@@ -21,7 +21,7 @@ returns-clause-order g c =
     let l = c.in_ok-l.l in
     subst (IsOrderLattice k c.args.p.now) (sym c.of.ensures)
     (coordinate_order k c.args.p.now c.n.ensures.range.positive l
-    (subst (λ n. IsLattice k.ops n l) c.n.ensures.n c.in_ok-l.ensures.form)
+    (subst (λ n. IsLatticeValue k.ops n l) c.n.ensures.n c.in_ok-l.ensures.form)
     (subst (λ n. IsSpannedBy k n (elems_over (unit_rows n n) (1 ∷ [])) l) c.n.ensures.n c.in_ok-l.ensures.members))
 
 pub returns-clause-members : goal.returns-clause-members

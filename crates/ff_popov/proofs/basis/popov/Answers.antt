@@ -2,7 +2,7 @@ use Rattle.std.proofs.Common.{◌≡◌, ℕ, [], ◌<◌, length, sym, subst, �
 use Rattle.std.specs.Prelude.{All, MatchOption}
 use Rattle.std.proofs.lemmas.Bool.{eqb-false}
 use Rattle.std.proofs.lemmas.List.{length-map}
-use Rattle.ff_poly.specs.Popov.{rows_of, width_of, IsRow, IsPopov, HaveSameSpan}
+use Rattle.ff_poly.specs.Popov.{rows_of, width_of, IsRow, IsPopovMatrix, HaveSameRowSpan}
 use Rattle.ff_popov.specs.Rows.{IsMissing}
 use Rattle.ff_popov.proofs.basis.popov.Goals as goal
 use Rattle.ff_popov.proofs.FullRank.{no_rows, no_columns, found_of}
@@ -11,8 +11,8 @@ pub returns-then-width-eq0 : goal.returns-then-width-eq0
 returns-then-width-eq0 g c =
     let k = g.K.SmallField.field c.args.k.now in
     let rows = rows_of c.args.rows.items in
-    subst (λ vs. IsPopov c.args.width (rows_of vs) × All (IsRow k.ops c.args.width) (rows_of vs)
-    × HaveSameSpan k.ops c.args.width rows (rows_of vs)) (sym c.new.ensures.items)
+    subst (λ vs. IsPopovMatrix c.args.width (rows_of vs) × All (IsRow k.ops c.args.width) (rows_of vs)
+    × HaveSameRowSpan k.ops c.args.width rows (rows_of vs)) (sym c.new.ensures.items)
     (no_columns k c.args.width rows c.requires c.if-width-eq0.true)
 
 pub returns-then-is_empty : goal.returns-then-is_empty
@@ -32,11 +32,11 @@ returns g c =
     let same : width_of rows ≡ w = (c.requires 0 [] less).size in
     let found =
     subst (λ vs. MatchOption c.in_ok-found.found ((j : ℕ) × (j < w) × IsMissing (rows_of vs) j)
-    (λ basis. IsPopov w (rows_of basis.items) × All (IsRow k.ops w) (rows_of basis.items)
-    × HaveSameSpan k.ops w (rows_of vs) (rows_of basis.items)))
+    (λ basis. IsPopovMatrix w (rows_of basis.items) × All (IsRow k.ops w) (rows_of basis.items)
+    × HaveSameRowSpan k.ops w (rows_of vs) (rows_of basis.items)))
     c.deref.ensures.value c.in_ok-found.ensures in
     found_of k w rows c.requires (omega arith) reduced
-    (subst (λ n. HaveSameSpan k.ops n rows reduced) same c.in_ok-reduce_rows.ensures.span)
+    (subst (λ n. HaveSameRowSpan k.ops n rows reduced) same c.in_ok-reduce_rows.ensures.span)
     (subst (λ n. All (IsRow k.ops n) reduced) same c.in_ok-reduce_rows.ensures.rows_in)
     c.in_ok-reduce_rows.ensures.weak
     c.in_ok-found.found (λ basis. rows_of basis.items) found

@@ -1,6 +1,6 @@
 use Rattle.std.proofs.Common.{◌+◌, ◌≤◌, sym, subst, arith}
 use Rattle.std.proofs.lemmas.List.{take_at}
-use Rattle.ff_poly.specs.Popov.{rows_of, width_of, HaveSameSpan}
+use Rattle.ff_poly.specs.Popov.{rows_of, width_of, HaveSameRowSpan}
 use Rattle.ff_popov.specs.Rows.{Keeps, total_position}
 use Rattle.ff_popov.proofs.weak.weak_popov.Goals as goal
 use Rattle.ff_popov.proofs.Spans.{same_lattice}
@@ -15,7 +15,7 @@ returns-clause-span g c =
     subst (λ rows. Keeps k w (rows_of rows) (rows_of c.reduce.new.rows)) start
     (subst (λ rows. Keeps k (width_of (rows_of rows)) (rows_of c.as_mut_slice.result.now) (rows_of c.reduce.new.rows))
     start c.reduce.ensures.keeps) in
-    subst (λ rows. HaveSameSpan k.ops w (rows_of c.args.rows.now.items) (rows_of rows))
+    subst (λ rows. HaveSameRowSpan k.ops w (rows_of c.args.rows.now.items) (rows_of rows))
     (sym (take_at c.reduce.new.rows _ c.args.rows.now.len (omega arith)))
     (same_lattice k w (rows_of c.args.rows.now.items) (rows_of c.reduce.new.rows) c.requires keeps.rows keeps.span)
 

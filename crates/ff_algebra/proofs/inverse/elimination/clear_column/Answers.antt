@@ -5,7 +5,7 @@ use Rattle.std.proofs.lemmas.List.Elements.{All-same}
 use Rattle.ff_fields.specs.Over.{IsOver}
 use Rattle.ff_poly.specs.Popov.{rows_of}
 use Rattle.ff_algebra.specs.RowProducts.{IsPolyRow}
-use Rattle.ff_algebra.specs.Inverses.{eliminated}
+use Rattle.ff_algebra.specs.Inverses.{eliminated_lines}
 use Rattle.ff_algebra.proofs.LineReads.{found_in, line_read, all_read, removed_in, mapped_more, mapped_all}
 use Rattle.ff_algebra.proofs.inverse.elimination.clear_column.Goals as goal
 use Rattle.ff_algebra.proofs.inverse.elimination.clear_column.Given.{Over}
@@ -57,11 +57,11 @@ eliminate-requires-clause-line_in g c =
 pub loop-line-preserved : goal.loop-line-preserved
 loop-line-preserved g c =
     let k = g.K.SmallField.field c.args.k.now in
-    mapped_more (eliminated k.ops c.args.column c.remove-pivot.result.items) c.loop-line.line-index
+    mapped_more (eliminated_lines k.ops c.args.column c.remove-pivot.result.items) c.loop-line.line-index
     c.deref-line-items.result.now c.loop-line.rest.items c.push.new.self.items c.line-item.result
     c.in_ok-eliminate.field-0
     c.loop-line-test.true c.line-item.is c.loop-line.invariant c.in_ok-push.ensures.items
-    (c.in_ok-eliminate.ensures ∙ ap₂ (eliminated k.ops c.args.column) c.as_slice-in-loop-line.ensures.value
+    (c.in_ok-eliminate.ensures ∙ ap₂ (eliminated_lines k.ops c.args.column) c.as_slice-in-loop-line.ensures.value
     c.as_slice-in-loop-line-2.ensures.value)
 
 pub returns : goal.returns
@@ -76,11 +76,11 @@ returns g c =
       record {
         within = let size = length-map c.args.lines.items (λ r. r.items) in omega (arith, size, found.0);
         some = found.1;
-        others = mapped_all (eliminated k.ops c.args.column c.remove-pivot.result.items) c.in-Some.i
+        others = mapped_all (eliminated_lines k.ops c.args.column c.remove-pivot.result.items) c.in-Some.i
             c.loop-line.line-index c.args.lines.items c.deref-line-items.result.now c.loop-line.rest.items
             c.loop-line.invariant (omega arith)
             (c.deref-line-items.ensures.value ∙ c.remove-pivot.ensures.items)
-            ∙ ap (λ row. map (eliminated k.ops c.args.column row) (remove (rows_of c.args.lines.items) c.in-Some.i))
+            ∙ ap (λ row. map (eliminated_lines k.ops c.args.column row) (remove (rows_of c.args.lines.items) c.in-Some.i))
             pivot_is;
       },
     )

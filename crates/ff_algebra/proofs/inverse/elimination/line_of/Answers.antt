@@ -7,7 +7,7 @@ use Rattle.ff_poly.specs.Words.{sum_of, multiple_of, product_of}
 use Rattle.ff_poly.specs.Polynomials.{polynomials}
 use Rattle.function_field.specs.Values.{equation_of}
 use Rattle.ff_algebra.specs.RowProducts.{row_at}
-use Rattle.ff_algebra.specs.Inverses.{IsLine}
+use Rattle.ff_algebra.specs.Inverses.{IsInverseLine}
 use Rattle.ff_algebra.proofs.LinesMade.{line_made}
 use Rattle.ff_algebra.proofs.inverse.elimination.line_of.Goals as goal
 
@@ -51,6 +51,6 @@ returns-clause-line g c =
     c.neg.ensures) in
     let items : c.append.new.self.items ≡ factors
     ++ set product 0 c.add_product.new.self = c.in_ok-append.ensures.items in
-    subst (IsLine k p c.args.v.now) (sym items)
+    subst (IsInverseLine k p c.args.v.now) (sym items)
     (line_made k p c.args.v.now factors product c.add_product.new.self c.n-n.ensures.range.positive
     c.requires.factors_in c.in_ok-product.ensures.in_range product_is first)

@@ -1,7 +1,7 @@
 use Rattle.std.proofs.Common.{◌≡◌, ◌+◌, ◌*◌, ◌<◌, length, take, ap, ap₂, ◌∙◌, arith, subst}
 use Rattle.std.proofs.lemmas.List.{length-map}
 use Rattle.ff_poly.specs.Popov.{rows_of}
-use Rattle.ff_algebra.specs.Inverses.{IsEliminated}
+use Rattle.ff_algebra.specs.Inverses.{AreEliminatedLines}
 use Rattle.ff_algebra.proofs.EliminatedLines.{rows_in, eliminated_more, factors_of_line}
 use Rattle.ff_algebra.proofs.Inverting.{split}
 use Rattle.ff_algebra.proofs.LineReads.{line_read}
@@ -35,7 +35,7 @@ returns g c =
     let size = length-map lines (λ r. r.items) in
     let factors = factors_of_line k p c.args.v.now (rows_of lines) c.truncate.new.self.items
     c.n-first.ensures.range.positive (omega (arith, size))
-    (subst (λ j. IsEliminated k p c.args.v.now j (rows_of lines)) column_is c.loop-column.invariant.lines)
+    (subst (λ j. AreEliminatedLines k p c.args.v.now j (rows_of lines)) column_is c.loop-column.invariant.lines)
     (c.truncate.ensures.items ∙ ap₂ take (ap (λ n. n + 1) c.n-first.ensures.n)
     (line_read lines 0 c.remove-factors.result some c.remove-factors.ensures.value)) in
     split k p c.args.v.now c.truncate.new.self.items c.pop.new.self.items c.in-Some.d c.n-first.ensures.range.positive

@@ -1,7 +1,7 @@
 use Rattle.std.proofs.Common.{subst, sym, All}
 use Rattle.std.specs.Prelude.{MatchOption, IfSome}
-use Rattle.ff_poly.specs.Popov.{rows_of, IsRow, HasFullRank}
-use Rattle.ff_lattice.specs.Lattices.{IsLattice, IsSpannedBy, elems_over}
+use Rattle.ff_poly.specs.Popov.{rows_of, IsRow, HasFullRankMatrix}
+use Rattle.ff_lattice.specs.Lattices.{IsLatticeValue, IsSpannedBy, elems_over}
 use Rattle.ff_lattice.specs.Steps.{IsExpanded}
 use Rattle.ff_lattice.proofs.CommonDenominators.{expanded_rows, expanded_poly, gens_set, gens_not_full}
 use Rattle.ff_lattice.proofs.SpannedSets.{lattice_full}
@@ -35,11 +35,11 @@ returns-in-None-clause-not_full g c =
     let rows = rows_of c.in_ok-rows.rows.items in
     let expanded = subst (λ n. IsExpanded k.ops n c.in_ok-e.e c.args.gens.now rows) c.n-2.ensures.n c.in_ok-rows.ensures
     in
-    let found = subst (λ f. MatchOption f (¬ HasFullRank k.ops c.n-3.result rows) (IsLattice k.ops c.n-3.result))
+    let found = subst (λ f. MatchOption f (¬ HasFullRankMatrix k.ops c.n-3.result rows) (IsLatticeValue k.ops c.n-3.result))
     c.in-None.is c.in_ok-from_rows.ensures.form in
     λ _. gens_not_full k p c.args.gens.now c.in_ok-e.e rows c.requires c.in_ok-e.ensures.over c.in_ok-e.ensures.monic
     expanded
-    (subst (λ n. ¬ HasFullRank k.ops n rows) c.n-3.ensures.n found)
+    (subst (λ n. ¬ HasFullRankMatrix k.ops n rows) c.n-3.ensures.n found)
 
 pub returns-clause-members : goal.returns-clause-members
 returns-clause-members g c =
@@ -61,7 +61,7 @@ returns-clause-full g c =
     let rows = rows_of c.in_ok-rows.rows.items in
     let expanded = subst (λ n. IsExpanded k.ops n c.in_ok-e.e c.args.gens.now rows) c.n-2.ensures.n c.in_ok-rows.ensures
     in
-    let found = subst (λ f. MatchOption f (¬ HasFullRank k.ops c.n-3.result rows) (IsLattice k.ops c.n-3.result))
+    let found = subst (λ f. MatchOption f (¬ HasFullRankMatrix k.ops c.n-3.result rows) (IsLatticeValue k.ops c.n-3.result))
     c.in-Some.is c.in_ok-from_rows.ensures.form in
-    let form = subst (λ n. IsLattice k.ops n c.in-Some.lattice) c.n-3.ensures.n found in
+    let form = subst (λ n. IsLatticeValue k.ops n c.in-Some.lattice) c.n-3.ensures.n found in
     lattice_full k p c.in-Some.lattice c.n.ensures.range.positive form

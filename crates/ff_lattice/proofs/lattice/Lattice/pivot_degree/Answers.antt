@@ -1,6 +1,6 @@
 use Rattle.std.proofs.Common.{◌≡◌, ◌+◌, ◌-◌, ◌<◌, ◌*◌, ◌^◌, length, ap, ap₂, sym, subst, ◌∙◌, arith, pos, ◌-ℤ◌}
 use Rattle.std.proofs.lemmas.List.{length-map}
-use Rattle.ff_poly.specs.Popov.{rows_of, IsPopov, pivot_degree}
+use Rattle.ff_poly.specs.Popov.{rows_of, IsPopovMatrix, pivot_degree}
 use Rattle.ff_lattice.specs.Steps.{pivot_sum}
 use Rattle.ff_lattice.proofs.PivotSums.{whole_sum, next_sum, added, reduced, entry_inside, pivot_is}
 use Rattle.ff_lattice.proofs.lattice.Lattice.pivot_degree.Goals as goal
@@ -9,7 +9,7 @@ pub index-requires : goal.index-requires
 index-requires c =
     let vs = c.rows-rows.result.now in
     let size = length-map vs (λ v. v.items) in
-    let popov : IsPopov (length (rows_of vs)) (rows_of vs) = subst (λ rows. IsPopov (length rows) rows)
+    let popov : IsPopovMatrix (length (rows_of vs)) (rows_of vs) = subst (λ rows. IsPopovMatrix (length rows) rows)
     (sym c.rows-rows.ensures.rows) c.rows-rows.ensures.form.popov in
     omega (
       arith,
@@ -22,7 +22,7 @@ pub overflow_sub-sum : goal.overflow_sub-sum
 overflow_sub-sum c =
     let vs = c.rows-rows.result.now in
     let size = length-map vs (λ v. v.items) in
-    let popov : IsPopov (length (rows_of vs)) (rows_of vs) = subst (λ rows. IsPopov (length rows) rows)
+    let popov : IsPopovMatrix (length (rows_of vs)) (rows_of vs) = subst (λ rows. IsPopovMatrix (length rows) rows)
     (sym c.rows-rows.ensures.rows) c.rows-rows.ensures.form.popov in
     let is = pivot_is (length (rows_of vs)) vs popov c.loop-i.i (omega arith) (sym size) c.index-rows-i.result
     c.index-rows-i.is c.index.result.now c.index.ensures in
@@ -32,7 +32,7 @@ pub loop-i-preserved : goal.loop-i-preserved
 loop-i-preserved c =
     let vs = c.rows-rows.result.now in
     let size = length-map vs (λ v. v.items) in
-    let popov : IsPopov (length (rows_of vs)) (rows_of vs) = subst (λ rows. IsPopov (length rows) rows)
+    let popov : IsPopovMatrix (length (rows_of vs)) (rows_of vs) = subst (λ rows. IsPopovMatrix (length rows) rows)
     (sym c.rows-rows.ensures.rows) c.rows-rows.ensures.form.popov in
     let is = pivot_is (length (rows_of vs)) vs popov c.loop-i.i (omega arith) (sym size) c.index-rows-i.result
     c.index-rows-i.is c.index.result.now c.index.ensures in

@@ -1,5 +1,5 @@
 use Rattle.std.proofs.Common.{◌≡◌, ◌<◌, [], length, sym, ap, ap₂, subst, Some, ◌∙◌, arith, All}
-use Rattle.ff_poly.specs.Words.{IsPoly, IsMonic}
+use Rattle.ff_poly.specs.Words.{IsPoly, IsMonicList}
 use Rattle.std.proofs.lemmas.List.{length-map}
 use Rattle.ff_poly.specs.Popov.{row_at}
 use Rattle.function_field.specs.Values.{ElemValue, IsElem}
@@ -41,7 +41,7 @@ over_monic-requires-clause-num_poly c =
     subst (All IsPoly) (sym (num_is c)) (popov_poly (length l.rows) l.rows form.popov c.args.i [] c.requires)
 
 pub over_monic-requires-clause-monic : goal.over_monic-requires-clause-monic
-over_monic-requires-clause-monic c = subst IsMonic (sym (den_is c)) (subst IsForm c.self.view_is c.self.invariant).monic
+over_monic-requires-clause-monic c = subst IsMonicList (sym (den_is c)) (subst IsForm c.self.view_is c.self.invariant).monic
 
 pub returns-clause-row : goal.returns-clause-row
 returns-clause-row c =

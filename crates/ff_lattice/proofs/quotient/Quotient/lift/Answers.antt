@@ -1,5 +1,5 @@
 use Rattle.std.proofs.Common.{◌≡◌, ◌*◌, sym, ap, ap₂, ◌∙◌, subst, All}
-use Rattle.ff_poly.specs.Words.{IsPoly, IsMonic}
+use Rattle.ff_poly.specs.Words.{IsPoly, IsMonicList}
 use Rattle.function_field.specs.Values.{ElemValue, IsElem, function_of}
 use Rattle.ff_lattice.specs.Lattices.{LatticeValue, Contains}
 use Rattle.ff_lattice.specs.Quotients.{QuotientValue, lifted, spread}
@@ -40,7 +40,7 @@ over_monic-requires-clause-num_poly g c =
     c.args.a.now)
 
 pub over_monic-requires-clause-monic : goal.over_monic-requires-clause-monic
-over_monic-requires-clause-monic g c = subst IsMonic (sym (den_is g c)) c.requires.over.frame.order.lattice.monic
+over_monic-requires-clause-monic g c = subst IsMonicList (sym (den_is g c)) c.requires.over.frame.order.lattice.monic
 
 pub returns-clause-lifted : goal.returns-clause-lifted
 returns-clause-lifted g c = ap (function_of (g.K.SmallField.field c.args.k.now) c.args.self.now.p)

@@ -1,6 +1,6 @@
 use Rattle.std.proofs.Common.{◌≡◌, length, map, sym, ap, ◌∙◌, subst, All}
 use Rattle.std.proofs.lemmas.List.{length-map}
-use Rattle.ff_poly.specs.Popov.{rows_of, IsRow, IsPopov}
+use Rattle.ff_poly.specs.Popov.{rows_of, IsRow, IsPopovMatrix}
 use Rattle.ff_lattice.specs.Lattices.{LatticeValue}
 use Rattle.ff_lattice.specs.Quotients.{QuotientValue, spread}
 use Rattle.ff_lattice.proofs.QuotientLaws.{multiples_in, multiples_size, product_row, codes_read}
@@ -84,8 +84,8 @@ read_codes-requires-clause-order_popov g c =
     ∙ ap (λ (l : LatticeValue). l.rows) (c.lattice.ensures ∙ ap (λ (q : QuotientValue). q.order) c.self.view_is)
     in
     let ideal_is = ap rows_of c.deref-2.ensures.value ∙ ap (λ (q : QuotientValue). q.rows) c.self.view_is in
-    subst (λ m. IsPopov m (rows_of c.rows-rows.result.now)) (sym size)
-    (subst (IsPopov q.p.n) (sym order_is) h.order.lattice.popov)
+    subst (λ m. IsPopovMatrix m (rows_of c.rows-rows.result.now)) (sym size)
+    (subst (IsPopovMatrix q.p.n) (sym order_is) h.order.lattice.popov)
 
 pub read_codes-requires-clause-ideal_in : goal.read_codes-requires-clause-ideal_in
 read_codes-requires-clause-ideal_in g c =
@@ -124,7 +124,7 @@ read_codes-requires-clause-ideal_popov g c =
     ∙ ap (λ (l : LatticeValue). l.rows) (c.lattice.ensures ∙ ap (λ (q : QuotientValue). q.order) c.self.view_is)
     in
     let ideal_is = ap rows_of c.deref-2.ensures.value ∙ ap (λ (q : QuotientValue). q.rows) c.self.view_is in
-    subst (λ m. IsPopov m (rows_of c.deref-2.result.now)) (sym size) (subst (IsPopov q.p.n) (sym ideal_is) h.rows_popov)
+    subst (λ m. IsPopovMatrix m (rows_of c.deref-2.result.now)) (sym size) (subst (IsPopovMatrix q.p.n) (sym ideal_is) h.rows_popov)
 
 pub returns : goal.returns
 returns g c =

@@ -1,6 +1,6 @@
 use Rattle.std.proofs.Common.{◌<◌, length, take, drop, ◌+◌, ◌*◌, ◌≤◌, arith, sym, ap, ◌∙◌}
 use Rattle.ff_linalg.proofs.matrix.Matrix.row.Goals as goal
-use Rattle.ff_linalg.specs.Matrix.{row_of}
+use Rattle.ff_linalg.specs.Matrix.{matrix_row}
 use Rattle.ff_linalg.proofs.Flat.{row_end, row_span, rows_in_get}
 use Rattle.ff_linalg.proofs.Views.{view_length}
 
@@ -44,4 +44,4 @@ returns c =
     ap (λ m. take m (drop at c.deref.result.now)) (row_span at c.self.inside.cols)
     ∙ ap (λ xs. take c.self.inside.cols (drop at xs)) c.deref.ensures.value
     ∙ sym (rows_in_get c.self.inside.cols c.self.inside.rows c.args.r c.self.inside.entries.items c.self.invariant l)
-    ∙ ap (λ v. row_of v c.args.r) c.self.view_is
+    ∙ ap (λ v. matrix_row v c.args.r) c.self.view_is

@@ -1,6 +1,6 @@
 use Rattle.std.proofs.Common.{◌≡◌, ◌<◌, length, sym, ap, subst, arith, Some}
 use Rattle.std.specs.Prelude.{slice_get}
-use Rattle.ff_lattice.specs.Lattices.{LatticeValue, IsLattice, row_elems}
+use Rattle.ff_lattice.specs.Lattices.{LatticeValue, IsLatticeValue, row_elems}
 use Rattle.ff_lattice.proofs.RowElems.{elems_length}
 use Rattle.ff_session.proofs.OrderAnswers.{form_on, rows_more}
 use Rattle.ff_session.proofs.statements.order.order_rows.Goals as goal
@@ -24,5 +24,5 @@ written-requires-clause-r_in g c =
     let k = g.K.SmallField.field c.args.k.now in
     let n = c.args.curve.now.fin.n in
     c.in_ok-r.ensures.in_range k.ops n
-    (subst (IsLattice k.ops n) (sym c.lattice-l.ensures)
+    (subst (IsLatticeValue k.ops n) (sym c.lattice-l.ensures)
     (form_on k c.args.curve.now c.args.side c.args.o.now c.requires.curve c.requires.order))
