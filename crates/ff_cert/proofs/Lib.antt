@@ -1,4 +1,3 @@
-pub mod WrittenRows
 pub mod OneOrder
 pub mod OneAnswer
 pub mod OneBlock

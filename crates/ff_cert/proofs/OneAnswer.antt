@@ -18,11 +18,11 @@ use Rattle.ff_script.specs.declared.script.Statement.TheVariants.{FieldOf, Curve
 use Rattle.ff_meaning.specs.FieldLines.{Names}
 use Rattle.ff_meaning.specs.Bindings.{Bindings, with_curve, ForField, ForCurve}
 use Rattle.ff_meaning.specs.SameBindings.{AreSameFields, AreSameCurves, AreSameBindings, NothingBound, OneField, OneCurve}
-use Rattle.ff_meaning.specs.LowestTerms.{IsWritten}
+use Rattle.ff_written.specs.LowestTerms.{IsWritten}
 use Rattle.ff_meaning.proofs.ElementValues.{same_poly}
 use Rattle.ff_meaning.proofs.OneField.{same_field, fields_same, ops_with_laws}
 use Rattle.ff_meaning.proofs.OneRefusal.{same_sum, same_element}
-use Rattle.ff_meaning.proofs.OneWritten.{one_written}
+use Rattle.ff_written.proofs.OneWritten.{one_written}
 use Rattle.ff_cert.specs.declared.answer.Answer.{Answer}
 use Rattle.ff_cert.specs.declared.answer.Answer.TheVariants as answers
 use Rattle.ff_cert.specs.declared.answer.PowerLine.{PowerLine}

@@ -9,7 +9,7 @@ use Rattle.ff_poly.specs.Popov.{IsRow}
 use Rattle.function_field.specs.declared.side.Side.{Side}
 use Rattle.function_field.specs.declared.side.Side.TheVariants.{Finite, Infinite}
 use Rattle.function_field.specs.Places.{IsIntegralAt}
-use Rattle.function_field.specs.Values.{ElemValue, Functions, function_of, setting}
+use Rattle.function_field.specs.Values.{Functions, function_of, setting}
 use Rattle.function_field.specs.Infinity.{function_on}
 use Rattle.function_field.specs.Curves.{CurveValue, IsCurve}
 use Rattle.ff_algebra.proofs.OtherSide.{on_finite_side}
@@ -19,9 +19,9 @@ use Rattle.ff_lattice.proofs.OneForm.{one_form}
 use Rattle.value_theory.specs.IntegralLattices.{SpansIntegral, SpansOverPowersOfT, IsIntegralLattice}
 use Rattle.value_theory.proofs.InfiniteLattices.{integral_members}
 use Rattle.ff_text.specs.Printed.{WrittenValue}
-use Rattle.ff_meaning.proofs.OneWritten.{one_written}
 use Rattle.ff_cert.specs.RowOrder as order_row
-use Rattle.ff_cert.proofs.WrittenRows.{written_functions}
+use Rattle.ff_written.specs.Rows.{AreWrittenRows}
+use Rattle.ff_written.proofs.WrittenRows.{written_functions, same_written}
 
 module _ (k : CodeField) (c : CurveValue) (curve : IsCurve k c) where
   some : 1 ≤ c.fin.n
@@ -78,19 +78,9 @@ module _ (k : CodeField) (c : CurveValue) (curve : IsCurve k c) where
       one_form k c.inf l m h.form g.form
       (λ z. same_set (integral_members k c curve l h z) (integral_members k c curve m g z)) some_inf
 
-  -- ---- one list of rows
-
-  same_rows : (s : Side) (rs : List ElemValue) (zs ws : List WrittenValue) → order_row.AreWrittenRows k c s rs zs
-      → order_row.AreWrittenRows k c s rs ws → zs ≡ ws
-  same_rows s [] zs ws h g = h ∙ sym g
-  same_rows s (r ∷ rs) [] ws h g = absurd h
-  same_rows s (r ∷ rs) (z ∷ zs) [] h g = absurd g
-  same_rows s (r ∷ rs) (z ∷ zs) (w ∷ ws) h g =
-      ap₂ ◌∷◌ (one_written k c.fin some (function_on k c.fin c.c s r) z w h.0 g.0) (same_rows s rs zs ws h.1 g.1)
-
   pub one_order : (s : Side) (zs ws : List WrittenValue) → order_row.IsTrue k c s zs → order_row.IsTrue k c s ws
       → zs ≡ ws
   one_order s zs ws h g =
       let same = one_integral s h.lattice g.lattice (integral_lattice s zs h) (integral_lattice s ws g) in
-      same_rows s (row_elems g.lattice) zs ws (subst (λ l. order_row.AreWrittenRows k c s (row_elems l) zs) same h.rows)
-      g.rows
+      same_written k c s some (row_elems g.lattice) zs ws
+      (subst (λ l. AreWrittenRows k c s (row_elems l) zs) same h.rows) g.rows

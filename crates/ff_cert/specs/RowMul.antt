@@ -5,7 +5,7 @@ use Rattle.function_field.specs.Values.{ElemValue, PresValue, function_of, funct
 use Rattle.ff_text.specs.declared.terms.ElemText.{ElemText}
 use Rattle.ff_text.specs.Printed.{WrittenValue, elem_text}
 use Rattle.ff_meaning.specs.Meaning.{IsElementOf, greatest_degree}
-use Rattle.ff_meaning.specs.LowestTerms.{IsWritten}
+use Rattle.ff_written.specs.LowestTerms.{IsWritten}
 use Rattle.ff_cert.specs.Lines.{answer_line}
 
 -- z is the product of the elements in k(x)[y]/(f), in lowest terms; no denominator is 0

@@ -2,6 +2,7 @@
 
 use ff_poly::Poly;
 use ff_text::Written;
+use ff_written::RowList;
 use std::marker::Model;
 
 /// A power of a polynomial, which has a line of its own in a factorisation.
@@ -27,22 +28,6 @@ impl Model for PowerList {
     ghost Value = { List PowerLine };
 
     ghost view = { λ l. l.powers.items };
-}
-
-/// The rows of a lattice, which are functions.
-#[derive(Drop)]
-pub struct RowList {
-    /// The rows in the order in which they are printed.
-    pub rows: Vec<Written>,
-}
-
-impl Model for RowList {
-    ghost use Rattle.std.specs.Prelude.{List};
-    ghost use Rattle.ff_text.specs.Printed.{WrittenValue};
-
-    ghost Value = { List WrittenValue };
-
-    ghost view = { λ l. l.rows.items };
 }
 
 /// What the answer lines of a statement say: one variant a statement.

@@ -3,7 +3,5 @@ pub mod PolynomialTerms
 pub mod EntrySums
 pub mod ElementValues
 pub mod ReadElements
-pub mod LowestElements
 pub mod OneField
 pub mod OneRefusal
-pub mod OneWritten

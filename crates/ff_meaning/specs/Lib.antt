@@ -2,7 +2,6 @@ pub mod Bindings
 pub mod SameBindings
 pub mod FieldLines
 pub mod Meaning
-pub mod LowestTerms
 pub mod Refusals
 pub mod Texts
 pub mod Elements

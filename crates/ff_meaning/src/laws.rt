@@ -1,15 +1,11 @@
 //! Laws of what lines mean, each stated by a function with an empty body.
 
-ghost use Rattle.std.specs.Prelude.{◌≡◌, ◌≢◌, ◌≤◌};
-ghost use Rattle.ff_fields.specs.Field.{CodeField};
-ghost use Rattle.function_field.specs.Values.{PresValue, Functions};
-ghost use Rattle.ff_text.specs.Printed.{WrittenValue};
+ghost use Rattle.std.specs.Prelude.{◌≡◌, ◌≢◌};
 ghost use Rattle.ff_script.specs.declared.script.Statement.{Statement};
 ghost use Rattle.ff_meaning.specs.declared.refusal.Refusal.{Refusal};
 ghost use Rattle.ff_meaning.specs.declared.refusal.Refusal.TheVariants.{Memory};
 ghost use Rattle.ff_meaning.specs.Bindings.{Bindings};
 ghost use Rattle.ff_meaning.specs.SameBindings.{AreSameBindings};
-ghost use Rattle.ff_meaning.specs.LowestTerms.{IsWritten};
 ghost use Rattle.ff_meaning.specs.Refusals.{IsRefusalRow};
 
 /// A law: the rows of a statement tell one refusal at most, which isn't want of memory, and they are the same over the
@@ -20,10 +16,4 @@ pub fn one_refusal()
     ensures not_memory { (old : Bindings) (s : Statement) (r : Refusal) → IsRefusalRow old s r → r ≢ Memory }
     ensures moved { (old other : Bindings) (s : Statement) (r : Refusal)
         → AreSameBindings old other → IsRefusalRow old s r → IsRefusalRow other s r }
-{}
-
-/// A law: a function is written in one way.
-pub fn one_written()
-    ensures { (k : CodeField) (p : PresValue) (f : Functions k p) (z w : WrittenValue)
-        → 1 ≤ p.n → IsWritten k p f z → IsWritten k p f w → z ≡ w }
 {}

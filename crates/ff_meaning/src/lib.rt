@@ -7,7 +7,6 @@ pub mod fields;
 pub mod laws;
 pub mod polynomials;
 pub mod refusal;
-pub mod written;
 
 pub use elements::element;
 pub use fields::{by_tables, field, field_refusal};

@@ -6,7 +6,7 @@ use Rattle.ff_text.specs.declared.terms.ElemText.{ElemText}
 use Rattle.ff_text.specs.Printed.{WrittenValue}
 use Rattle.ff_meaning.specs.declared.refusal.Refusal.{Refusal}
 use Rattle.function_field.specs.Limits.{max_degree}
-use Rattle.ff_meaning.specs.LowestTerms.{IsWritten}
+use Rattle.ff_written.specs.LowestTerms.{IsWritten}
 use Rattle.ff_meaning.specs.Elements.{IsElementRead}
 use Rattle.ff_meaning.specs.Refusals.{IsProductRow}
 use Rattle.ff_meaning.proofs.ElementValues.{no_element_row}

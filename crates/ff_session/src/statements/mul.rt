@@ -12,9 +12,9 @@ use crate::statements::factor::MAX_DEGREE;
 use ff_algebra::elem::{Pres, mul};
 use ff_factor::divisors_of_product;
 use ff_fields::field::SmallField;
-use ff_meaning::written::in_lowest_terms_by;
 use ff_meaning::{Refusal, element};
 use ff_text::{ElemText, Written};
+use ff_written::in_lowest_terms_by;
 use std::alloc::Global;
 
 /// The product of the elements, in lowest terms. It takes the square of the degrees, and the factors of both

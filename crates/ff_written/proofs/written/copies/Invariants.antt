@@ -1,5 +1,5 @@
 use Rattle.std.proofs.Common.{◌≡◌, take}
-use Rattle.ff_meaning.proofs.written.copies.Given as goal
+use Rattle.ff_written.proofs.written.copies.Given as goal
 
 -- the polynomials so far are copied
 abbrev pub invariant-loop-p : goal.invariant-loop-p

@@ -1,5 +1,5 @@
-use Rattle.ff_meaning.proofs.LowestElements.{copied}
-use Rattle.ff_meaning.proofs.written.in_x_and_y.Goals as goal
+use Rattle.ff_written.proofs.LowestElements.{copied}
+use Rattle.ff_written.proofs.written.in_x_and_y.Goals as goal
 
 pub returns-in-Finite-clause-same : goal.returns-in-Finite-clause-same
 returns-in-Finite-clause-same g c =

@@ -12,7 +12,7 @@ use Rattle.function_field.proofs.SameValues.{same_iff}
 use Rattle.ff_algebra.proofs.OtherSide.{on_finite_side}
 use Rattle.ff_factor.specs.LowestTerms.{IsInLowestTermsOf}
 use Rattle.polynomial_theory.proofs.ListValues.{monic_poly}
-use Rattle.ff_meaning.specs.LowestTerms.{IsInLowestTerms, IsWritten}
+use Rattle.ff_written.specs.LowestTerms.{IsInLowestTerms, IsWritten}
 
 module _ (k : CodeField) (z : ElemValue) (vs : List (List ℕ)) (d : List ℕ)
     (low : IsInLowestTermsOf k.ops z.num z.den vs d) where

@@ -5,7 +5,7 @@ ghost use Rattle.function_field.specs.Values.{IsElem, IsMonicElem, function_of};
 ghost use Rattle.function_field.specs.Infinity.{function_on};
 ghost use Rattle.function_field.specs.Curves.{IsCurve};
 ghost use Rattle.ff_factor.specs.LowestTerms.{AreIrreducible, HasFactorsOf};
-ghost use Rattle.ff_meaning.specs.LowestTerms.{IsWritten};
+ghost use Rattle.ff_written.specs.LowestTerms.{IsWritten};
 
 use ff_algebra::Side;
 use ff_algebra::curve::Curve;

@@ -2,7 +2,7 @@ use Rattle.std.proofs.Common.{◌∙◌, sym, subst}
 use Rattle.ff_factor.specs.Factors.{polys_of}
 use Rattle.ff_factor.specs.LowestTerms.{HasFactorsOf}
 use Rattle.ff_factor.proofs.OneFactorisation.{has_factors}
-use Rattle.ff_meaning.proofs.written.in_lowest_terms.Goals as goal
+use Rattle.ff_written.proofs.written.in_lowest_terms.Goals as goal
 
 pub in_lowest_terms_by-requires-clause-each : goal.in_lowest_terms_by-requires-clause-each
 in_lowest_terms_by-requires-clause-each g c =

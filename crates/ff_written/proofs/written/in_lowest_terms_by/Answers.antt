@@ -1,7 +1,7 @@
 use Rattle.std.proofs.Common.{◌∙◌, sym, subst}
 use Rattle.ff_factor.specs.LowestTerms.{HasFactorsOf, IsInLowestTermsOf}
-use Rattle.ff_meaning.proofs.LowestElements.{parts_written}
-use Rattle.ff_meaning.proofs.written.in_lowest_terms_by.Goals as goal
+use Rattle.ff_written.proofs.LowestElements.{parts_written}
+use Rattle.ff_written.proofs.written.in_lowest_terms_by.Goals as goal
 
 pub returns : goal.returns
 returns g c =

@@ -8,7 +8,7 @@ use Rattle.function_field.proofs.SameValues.{same_iff, monic_some}
 use Rattle.ff_text.specs.Printed.{WrittenValue}
 use Rattle.ff_factor.specs.LowestTerms.{IsInLowestTermsOf}
 use Rattle.ff_factor.proofs.OneLowest.{one_form}
-use Rattle.ff_meaning.specs.LowestTerms.{IsWritten, elem_of}
+use Rattle.ff_written.specs.LowestTerms.{IsWritten, elem_of}
 
 module _ (k : CodeField) (p : PresValue) (some : 1 ≤ p.n) (f : Functions k p) where
   in_range : (z : WrittenValue) → IsWritten k p f z → IsElem k.ops (suc (p.n - 1)) (elem_of z)

@@ -1,6 +1,6 @@
 use Rattle.std.proofs.Common.{ap, arith}
 use Rattle.function_field.specs.Values.{PresValue}
-use Rattle.ff_meaning.proofs.written.written.Goals as goal
+use Rattle.ff_written.proofs.written.written.Goals as goal
 
 pub in_lowest_terms-requires-clause-positive : goal.in_lowest_terms-requires-clause-positive
 in_lowest_terms-requires-clause-positive g c =

@@ -1,0 +1,3 @@
+pub mod LowestElements
+pub mod OneWritten
+pub mod WrittenRows

@@ -1,0 +1,2 @@
+pub mod LowestTerms
+pub mod Rows
