@@ -1,2 +1,3 @@
 pub mod LowestTerms
 pub mod Rows
+pub mod TextOrder
