@@ -8,5 +8,5 @@ pub mod radicals;
 pub mod start;
 
 pub use enlarge::{enlarged, maximal, multiplier, p_maximal};
-pub use radicals::radical;
+pub use radicals::{multiples, radical, radical_by};
 pub use start::equation_order;

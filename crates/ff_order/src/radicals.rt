@@ -1,21 +1,22 @@
 //! The radical of an order at an irreducible polynomial.
 
-ghost use Rattle.std.specs.Prelude.{◌≡◌, ◌≢◌, ◌↔◌, [], All, IfOk};
+ghost use Rattle.std.specs.Prelude.{◌≡◌, ◌≢◌, ◌↔◌, ℕ, List, [], All, IfOk};
 ghost use Rattle.ff_fields.specs.Over.{IsOver};
 ghost use Rattle.ff_poly.specs.Words.{IsIrreducibleList};
 ghost use Rattle.ff_poly.specs.Value.{value};
 ghost use Rattle.function_field.specs.Functions.{of_poly};
 ghost use Rattle.function_field.specs.Values.{PresValue, IsPresOver, Functions, functions, equation_of};
 ghost use Rattle.ff_falg.specs.Algebras.{IsVector};
+ghost use Rattle.ff_falg.specs.Spaces.{IsFrobenius};
 ghost use Rattle.ff_lattice.specs.Lattices.{LatticeValue, IsLatticeValue, Contains};
 ghost use Rattle.ff_lattice.specs.Orders.{IsOrderLattice};
-ghost use Rattle.ff_lattice.specs.Quotients.{QuotientValue, IsQuotient, IsQuotientOver, IsIdealLattice, dimension};
-ghost use Rattle.prime_theory.specs.Ideals.{Multiple};
+ghost use Rattle.ff_lattice.specs.Quotients.{QuotientValue, IsQuotient, IsQuotientOver, IsIdealLattice, class_algebra, dimension};
+ghost use Rattle.prime_theory.specs.Ideals.{Multiple, SameSet};
 ghost use Rattle.prime_theory.specs.Orders.{Radical};
 ghost use Rattle.ff_order.specs.Steps.{AreLifts, IsNilpotentBasis};
 
 use ff_algebra::{Elem, Pres};
-use ff_falg::nilpotents;
+use ff_falg::{frobenius, nilpotents_by};
 use ff_fields::field::SmallField;
 use ff_lattice::multiples::scale;
 use ff_lattice::operations::{push_rows, spanned};
@@ -24,8 +25,8 @@ use ff_linalg::Matrix;
 use ff_poly::Poly;
 use std::alloc::{AllocError, Global};
 
-/// The multiples of the members of the order by a polynomial other than 0.
-fn multiples<K: SmallField>(
+/// The multiples of the members of the order by a polynomial other than 0. It takes the time of `scale`.
+pub fn multiples<K: SmallField>(
     alloc: Global,
     k: &K,
     p: &Pres,
@@ -65,17 +66,45 @@ fn lift_rows<K: SmallField>(
     Ok(lifts)
 }
 
-/// Lifts of a basis of the nilpotent classes.
+/// Lifts of a basis of the nilpotent classes, by the matrix of the map a to a^q.
 fn nilpotent_lifts<K: SmallField>(
     alloc: Global,
     k: &K,
     q: &Quotient,
+    map: &Matrix,
 ) -> Result<Vec<Elem>, AllocError>
-    requires { IsQuotientOver (K.field k.now) q.now }
+    requires over { IsQuotientOver (K.field k.now) q.now }
+    requires map { IsFrobenius (K.field k.now).ops (class_algebra q.now) map.now }
     ensures { let k = K.field k.now in IfOk result (λ zs. IsNilpotentBasis k q.now.p q.now.order q.now.ideal zs.items) }
 {
-    let basis = nilpotents(alloc, k, q)?;
+    let basis = nilpotents_by(alloc, k, q, map)?;
     lift_rows(alloc, k, q, &basis)
+}
+
+/// The radical of the order at the polynomial whose multiples are the ideal of the quotient: the members of which a
+/// power is such a multiple. The matrix is that of the map a to a^q. It takes the time of `nilpotents_by`, and of a
+/// Popov basis of so many rows.
+pub fn radical_by<K: SmallField>(
+    alloc: Global,
+    k: &K,
+    q: &Quotient,
+    map: &Matrix,
+) -> Result<Lattice, AllocError>
+    requires over { IsQuotientOver (K.field k.now) q.now }
+    requires map { IsFrobenius (K.field k.now).ops (class_algebra q.now) map.now }
+    ensures form { IfOk result (IsLatticeValue (K.field k.now).ops q.now.p.n) }
+    ensures members { let k = K.field k.now in
+        let F = functions k q.now.p in
+        let o = Contains k q.now.p q.now.order in
+        IfOk result (λ l. (a : List ℕ) → let x = of_poly (equation_of k q.now.p) (value k a) in
+        SameSet (Contains k q.now.p q.now.ideal) (Multiple F.ops x o) →
+        (z : Functions k q.now.p) → Contains k q.now.p l z ↔ Radical F.ops o x z) }
+{
+    let degree = q.p().n();
+    prove!(degree > 0);
+    let mut gens = nilpotent_lifts(alloc, k, q, map)?;
+    push_rows(alloc, &mut gens, q.ideal())?;
+    spanned(alloc, k, q.p(), &gens)
 }
 
 /// The radical of the order at an irreducible monic polynomial: the members of which a power is a multiple of the
@@ -103,7 +132,6 @@ pub fn radical<K: SmallField>(
     prove!(degree > 0);
     let ideal = multiples(alloc, k, p, o, pi)?;
     let q = Quotient::new(alloc, k, p, o, &ideal)?;
-    let mut gens = nilpotent_lifts(alloc, k, &q)?;
-    push_rows(alloc, &mut gens, &ideal)?;
-    spanned(alloc, k, p, &gens)
+    let map = frobenius(alloc, k, &q)?;
+    radical_by(alloc, k, &q, &map)
 }
