@@ -1,0 +1,4 @@
+pub mod Components
+pub mod TextOrder
+pub mod Listings
+pub mod Systems
