@@ -1,0 +1,5 @@
+pub mod PrimePowers
+pub mod IntegerPowers
+pub mod LatticePrimes
+pub mod PrimePlaces
+pub mod PlaceValues
