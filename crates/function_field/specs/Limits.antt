@@ -21,6 +21,14 @@ max_degree_at_infinity = 224
 abbrev pub max_degree : ℕ
 max_degree = 512
 
+-- the greatest n times the degree of a polynomial over which places are asked for
+abbrev pub max_degree_of_places : ℕ
+max_degree_of_places = 512
+
+-- the greatest weight of a divisor: the sum of the absolute values of its integers, each times the degree of its place
+abbrev pub max_weight : ℕ
+max_weight = 128
+
 -- the greatest degree of a polynomial in an answer
 abbrev pub max_answer_degree : ℕ
 max_answer_degree = 1024
@@ -28,6 +36,10 @@ max_answer_degree = 1024
 -- the most bytes that a script may have
 abbrev pub max_script : ℕ
 max_script = 65536
+
+-- the most bytes that a transcript may have
+abbrev pub max_transcript : ℕ
+max_transcript = 268435456
 
 -- the most bytes that a run may write
 abbrev pub max_output : ℕ
