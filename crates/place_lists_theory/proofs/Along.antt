@@ -3,7 +3,7 @@ use Rattle.std.proofs.Common.{◌≡◌, ℕ, sym, subst, pos, All}
 use Rattle.function_field.specs.declared.side.Side.{Side}
 use Rattle.function_field.specs.declared.side.Side.TheVariants.{Finite, Infinite}
 use Rattle.function_field.specs.Setting.{Setting}
-use Rattle.function_field.specs.Places.{Place, IsPlace, IsIntegralAt, IsIn, IsSamePlace, LiesOver, HasValuation}
+use Rattle.function_field.specs.Places.{Place, IsPlace, IsIntegralAt, IsSamePlace, LiesOver, HasValuation}
 use Rattle.function_field.specs.Divisors.{HasDegree, HasRamification}
 use Rattle.places_theory.proofs.SamePlaces.{same_place_sym}
 use Rattle.ideal_theory.proofs.PrincipalIdeals.{value_along}

@@ -1,5 +1,5 @@
 -- The primes of an order of the presentation of a side, as those of the places of the side.
-use Rattle.std.proofs.Common.{◌≡◌, ◌≢◌, ◌↔◌, ℕ, ◌≤◌, List, [], ◌∷◌, refl, sym, ap, ◌∙◌, subst}
+use Rattle.std.proofs.Common.{◌↔◌, ℕ, ◌≤◌, List, sym, ◌∙◌, subst}
 use Rattle.ff_fields.specs.Field.{CodeField}
 use Rattle.ff_poly.specs.Value.{value}
 use Rattle.function_field.specs.declared.side.Side.{Side}
@@ -7,17 +7,16 @@ use Rattle.function_field.specs.declared.side.Side.TheVariants.{Finite}
 use Rattle.function_field.specs.Functions.{of_poly}
 use Rattle.function_field.specs.Places.{Place, IsIn, IsSamePlace, IsIntegralAt}
 use Rattle.function_field.specs.Divisors.{HasDegree, HasRamification}
-use Rattle.function_field.specs.Values.{ElemValue, IsElem, Functions, setting, function_of, equation_of}
-use Rattle.function_field.specs.Infinity.{function_on}
+use Rattle.function_field.specs.Values.{Functions, setting, function_of, equation_of}
 use Rattle.function_field.specs.Curves.{CurveValue}
 use Rattle.places_theory.proofs.SamePlaces.{same_place_refl, same_place_sym, same_place_trans}
 use Rattle.ideal_theory.specs.Records.{RowSpan, RecordedPrime, ArePrimesOfPlaces}
 use Rattle.ideal_theory.specs.Records as records
 use Rattle.ff_lattice.specs.Lattices.{LatticeValue, Contains}
 use Rattle.value_theory.specs.IntegralLattices.{presentation}
-use Rattle.value_theory.specs.Laws.{IsRecordOf, AreRecordsOf}
+use Rattle.value_theory.specs.Laws.{IsRecordOf}
 use Rattle.value_theory.specs.Primes.{PrimeValue}
-use Rattle.place_lists_theory.specs.Lists.{polynomial_on, IsPlaceAbove, IsPlaceOfPrime, ArePlacesOfPrimes}
+use Rattle.place_lists_theory.specs.Lists.{polynomial_on, IsPlaceAbove, IsPlaceOfPrime}
 use Rattle.place_lists_theory.proofs.Along.{place_along, over_along, degree_along, ramified_along}
 use Rattle.place_lists_theory.proofs.Elements.{element_of}
 use Rattle.place_lists_theory.proofs.PlaceMaps.{IsPlaceBelow, IsPlaceMap}

@@ -1,16 +1,15 @@
 -- All places above a polynomial are listed in one way but for their order and the functions that span them.
-use Rattle.std.proofs.Common.{◌≡◌, ℕ, ◌≤◌, List, [], ◌∷◌, length, get_or, sym, subst, arith, All}
+use Rattle.std.proofs.Common.{◌≡◌, ℕ, ◌≤◌, List, [], ◌∷◌, length, get_or, subst, arith, All}
 use Rattle.std.specs.List.{Any}
 use Rattle.std.proofs.lemmas.Int.{ints}
 use Rattle.std.proofs.lemmas.List.Elements.{All-nil, All-cons}
 use Rattle.std.proofs.Math.IntN.{ℤ, pos, ◌+ℤ◌, ◌*ℤ◌}
 use Rattle.ff_fields.specs.Field.{CodeField}
 use Rattle.function_field.specs.declared.side.Side.{Side}
-use Rattle.function_field.specs.declared.side.Side.TheVariants.{Finite, Infinite}
 use Rattle.ff_poly.specs.Polynomials.{polynomials}
 use Rattle.function_field.specs.Discriminant.{discriminant}
 use Rattle.function_field.specs.Places.{Place, IsPlace, IsSamePlace}
-use Rattle.function_field.specs.Divisors.{Entry, Divisor, IsDivisor, HasDegree, HasRamification, HasTotalDegree, none, entry}
+use Rattle.function_field.specs.Divisors.{Divisor, IsDivisor, HasDegree, HasRamification, none, entry}
 use Rattle.function_field.specs.Functions.{Equation, FunctionOf, setting_of}
 use Rattle.function_field.specs.Values.{Functions, setting, equation_of}
 use Rattle.function_field.specs.Curves.{CurveValue, IsCurve}

@@ -1,5 +1,5 @@
 -- The places of the presentation of a side over a polynomial are the places of the side above it.
-use Rattle.std.proofs.Common.{◌≡◌, ◌≢◌, ◌↔◌, ℕ, ◌≤◌, List, [], ◌∷◌, map, pos, refl, sym, subst}
+use Rattle.std.proofs.Common.{◌≡◌, ◌≢◌, ◌↔◌, ℕ, ◌≤◌, List, [], ◌∷◌, pos, refl, sym, subst}
 use Rattle.ring_theory.specs.Subsets.{Span}
 use Rattle.ff_fields.specs.Field.{CodeField}
 use Rattle.ff_poly.specs.Words.{IsPoly}
@@ -11,7 +11,7 @@ use Rattle.function_field.specs.Discriminant.{discriminant}
 use Rattle.function_field.specs.Functions.{of_poly, IsPolynomial}
 use Rattle.function_field.specs.Places.{Place, IsPlace, IsIn, IsSamePlace, IsIntegralAt, LiesOver, HasValuation}
 use Rattle.function_field.specs.Divisors.{HasDegree, HasRamification}
-use Rattle.function_field.specs.Values.{ElemValue, IsElem, PresValue, Functions, functions, setting, function_of, equation_of}
+use Rattle.function_field.specs.Values.{ElemValue, IsElem, Functions, functions, setting, function_of, equation_of}
 use Rattle.function_field.specs.Infinity.{function_on}
 use Rattle.function_field.specs.Curves.{CurveValue}
 use Rattle.places_theory.proofs.SamePlaces.{same_place_refl}

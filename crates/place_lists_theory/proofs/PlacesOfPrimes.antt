@@ -1,13 +1,11 @@
 -- All primes of an order of a side over a polynomial are those of the places of the side above it.
-use Rattle.std.proofs.Common.{◌≡◌, ℕ, ◌<◌, ◌≤◌, List, [], ◌∷◌, refl, arith}
+use Rattle.std.proofs.Common.{◌≡◌, ℕ, ◌≤◌, List, [], ◌∷◌, refl}
 use Rattle.ff_fields.specs.Field.{CodeField}
 use Rattle.ff_fields.specs.Over.{IsOver}
 use Rattle.ff_poly.specs.Words.{IsIrreducibleList}
 use Rattle.ff_poly.specs.Value.{value}
-use Rattle.ff_poly.specs.Polynomials.{polynomials}
 use Rattle.function_field.specs.declared.side.Side.{Side}
 use Rattle.function_field.specs.declared.side.Side.TheVariants.{Finite, Infinite}
-use Rattle.function_field.specs.Discriminant.{discriminant}
 use Rattle.function_field.specs.Functions.{of_poly}
 use Rattle.function_field.specs.Places.{Place, IsSamePlace, IsIntegralAt}
 use Rattle.function_field.specs.Divisors.{HasDegree, HasRamification}
@@ -21,12 +19,12 @@ use Rattle.ideal_theory.specs.Records as records
 use Rattle.ff_lattice.specs.Lattices.{LatticeValue, Contains}
 use Rattle.ff_lattice.specs.Orders.{IsOrderLattice}
 use Rattle.value_theory.specs.IntegralLattices.{presentation}
-use Rattle.value_theory.specs.Laws.{AreRecordsOf, IsRecordOfPrimes}
+use Rattle.value_theory.specs.Laws.{AreRecordsOf}
 use Rattle.value_theory.specs.Primes.{PrimeValue, AreAllPrimes}
 use Rattle.value_theory.proofs.AllPrimes.{all_primes}
 use Rattle.value_theory.proofs.Bridge.{order_set}
 use Rattle.value_theory.proofs.InfiniteLattices as lattices
-use Rattle.place_lists_theory.specs.Lists.{polynomial_on, IsPlaceAbove, IsPlaceOfPrime, ArePlacesOfPrimes}
+use Rattle.place_lists_theory.specs.Lists.{polynomial_on, IsPlaceOfPrime, ArePlacesOfPrimes}
 use Rattle.place_lists_theory.proofs.Moved.{place_exists, ramified_is, degree_is, place_given, different_is, once_is}
 use Rattle.place_lists_theory.proofs.PlaceMaps.{IsPlaceMap, finite_place_map, infinite_place_map}
 use Rattle.place_lists_theory.proofs.RecordLists.{all_of_records, any_of_records, pairs_of_records}

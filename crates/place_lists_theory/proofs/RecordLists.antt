@@ -1,5 +1,5 @@
 -- What holds of the records of a list of primes holds of the primes.
-use Rattle.std.proofs.Common.{◌⊎◌, inl, inr, List, [], ◌∷◌, arith, All}
+use Rattle.std.proofs.Common.{inl, inr, List, [], ◌∷◌, arith, All}
 use Rattle.std.specs.List.{Any, AllPairs}
 use Rattle.std.proofs.lemmas.List.Elements.{All-nil, All-cons, All-head, All-tail}
 use Rattle.std.proofs.lemmas.List.Kept.{AllPairs-cons}
