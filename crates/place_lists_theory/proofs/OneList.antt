@@ -83,7 +83,8 @@ module _ (k : CodeField) (c : CurveValue) (curve : IsCurve k c) (s : Side) (pi :
 
   shorter : length Ps ≤ length Qs
   shorter =
-      at_most (λ P Q. IsSamePlace (setting k c.fin) (L Q) (L P)) Qs Ps (λ j d l. i.complete (L (get_or Ps j d)) (h.above j d l))
+      at_most (λ P Q. IsSamePlace (setting k c.fin) (L Q) (L P)) Qs Ps
+      (λ j d l. i.complete (L (get_or Ps j d)) (h.above j d l))
       (λ a b d l m Q u v.
       h.different a b d l m (same_place_trans (setting k c.fin) (L (get_or Ps a d)) (L Q) (L (get_or Ps b d))
       (same_place_sym (setting k c.fin) (L Q) (L (get_or Ps a d)) u) v))
@@ -95,4 +96,4 @@ module _ (k : CodeField) (c : CurveValue) (curve : IsCurve k c) (s : Side) (pi :
   one_list =
       let a = shorter k c curve s pi Ps Qs h i in
       let b = shorter k c curve s pi Qs Ps i h in
-      record { length_is = omega (arith, a, b); each = partners k c curve s pi Ps Qs h i }
+      record { equally_long = omega (arith, a, b); each = partners k c curve s pi Ps Qs h i }

@@ -51,7 +51,7 @@ module _ (k : CodeField) (c : CurveValue) (s : Side) where
   -- the lists are equally long, and each place of the first is one of the second, with the same ramification index and
   -- degree
   pub record ListSamePlaces (Ps Qs : List (ListedPlace (Functions k c.fin))) : Type 0 where
-    pub length_is : length Ps ≡ length Qs
+    pub equally_long : length Ps ≡ length Qs
     pub each :
         All
         (λ P. Any (λ Q. IsSamePlace (setting k c.fin) (listed_place P) (listed_place Q) × (P.e ≡ Q.e)
