@@ -200,6 +200,9 @@ module _ (k : CodeField) (q : QuotientValue) (h : IsQuotient k q) (l : LatticeVa
             is = sym (F.add_zero a);
           })
 
+      back : (a b : Functions k q.p) → a ≡ F.◌⊕◌ (F.⊖◌ (F.◌⊕◌ b (F.⊖◌ a))) b
+      back a b = ring F (a ∷ b ∷ []) λ q h. simp (reads, q, h 0, h 1) (q.equal _ _ refl)
+
       -- it is the lift less their difference
       u_inside : M u
       u_inside =
@@ -211,9 +214,6 @@ module _ (k : CodeField) (q : QuotientValue) (h : IsQuotient k q) (l : LatticeVa
             right_in = span_head F T 𝓢 r [];
             is = back u r;
           })
-
-      back : (a b : Functions k q.p) → a ≡ F.◌⊕◌ (F.⊖◌ (F.◌⊕◌ b (F.⊖◌ a))) b
-      back a b = ring F (a ∷ b ∷ []) λ q h. simp (reads, q, h 0, h 1) (q.equal _ _ refl)
 
 -- a lattice that elements span: the rows of another, and one that stands for a function
 module _ (k : CodeField) (q : QuotientValue) where

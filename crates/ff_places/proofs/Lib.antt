@@ -2,3 +2,4 @@ pub mod Components
 pub mod TextOrder
 pub mod Listings
 pub mod Systems
+pub mod Sides
