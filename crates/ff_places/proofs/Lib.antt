@@ -2,4 +2,5 @@ pub mod Components
 pub mod TextOrder
 pub mod Listings
 pub mod Systems
+pub mod MadePrimes
 pub mod Sides

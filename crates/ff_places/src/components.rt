@@ -1,9 +1,9 @@
 //! The lattices of the primes of idempotents.
 
-ghost use Rattle.std.specs.Prelude.{◌≡◌, ◌↔◌, IfOk};
-ghost use Rattle.function_field.specs.Values.{Functions, function_of};
+ghost use Rattle.std.specs.Prelude.{◌≡◌, ◌↔◌, [], ◌∷◌, IfOk};
+ghost use Rattle.function_field.specs.Values.{Functions};
 ghost use Rattle.ff_falg.specs.Algebras.{IsVector};
-ghost use Rattle.ff_lattice.specs.Lattices.{LatticeValue, IsLatticeValue, Contains, InSpanOf, row_elems};
+ghost use Rattle.ff_lattice.specs.Lattices.{LatticeValue, IsLatticeValue, Contains, InSpanOf, IsSumOfMembers};
 ghost use Rattle.ff_lattice.specs.Quotients.{IsQuotientOver, class_algebra, dimension, lifted};
 ghost use Rattle.ff_places.specs.Steps.{IsIdealAbove, IsInComponent, rest_of};
 
@@ -42,7 +42,9 @@ fn with_rest<K: SmallField>(
     requires e_in { IsVector (K.field k.now).ops (dimension q.now) e.now }
     ensures form { IfOk result (IsLatticeValue (K.field k.now).ops q.now.p.n) }
     ensures members { let k = K.field k.now in
-        IfOk result (IsSpanWithRest k q.now ideal.now e.now) }
+        let r = lifted k.ops q.now (rest_of k.ops (class_algebra q.now) e.now) in
+        IfOk result (λ l. (z : Functions k q.now.p) → Contains k q.now.p l z
+        ↔ IsSumOfMembers k q.now.p (Contains k q.now.p ideal.now) (InSpanOf k q.now.p (r ∷ [])) z) }
 {
     let degree = q.p().n();
     prove!(degree > 0);
