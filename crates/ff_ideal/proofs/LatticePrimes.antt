@@ -10,7 +10,6 @@ use Rattle.prime_theory.proofs.Primes.{ideal_module}
 use Rattle.ff_fields.specs.Field.{CodeField}
 use Rattle.function_field.specs.Values.{ElemValue, PresValue, IsElem, Functions, functions, function_of, equation_of}
 use Rattle.lattice_theory.proofs.Lattices.{lattice_decided}
-use Rattle.order_theory.specs.Orders.{IsOrder}
 use Rattle.order_theory.proofs.InvertibleIdeals.{one_of_two}
 use Rattle.ff_lattice.specs.Lattices.{LatticeValue, IsLatticeValue, Contains}
 use Rattle.ff_lattice.specs.Orders.{IsOrderLattice}

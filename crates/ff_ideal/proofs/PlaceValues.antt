@@ -1,7 +1,6 @@
 -- The value at a prime of an order of codes is the valuation of its place, on both sides.
-use Rattle.std.proofs.Common.{◌≡◌, ◌≢◌, ◌↔◌, ℕ, suc, ◌-◌, ◌<◌, [], List, sym, ◌∙◌, ap, subst, arith}
+use Rattle.std.proofs.Common.{◌≡◌, ◌↔◌, suc, ◌-◌, ◌<◌, sym, ◌∙◌, ap, subst, arith}
 use Rattle.std.specs.Prelude.{ℤ}
-use Rattle.ring_theory.specs.Subsets.{Product}
 use Rattle.prime_theory.specs.Ideals.{Inverse, Invertible}
 use Rattle.prime_theory.specs.Orders.{MaximalAt}
 use Rattle.prime_theory.specs.Primes.{Pair}
@@ -9,9 +8,8 @@ use Rattle.prime_theory.proofs.Primes.{ideal_module, pair_of_invertible}
 use Rattle.prime_theory.proofs.Products.{product_monotone}
 use Rattle.ff_fields.specs.Field.{CodeField}
 use Rattle.ff_fields.specs.Over.{IsOver}
-use Rattle.ff_poly.specs.Words.{IsPoly, IsIrreducibleList}
+use Rattle.ff_poly.specs.Words.{IsIrreducibleList}
 use Rattle.ff_poly.specs.Value.{value}
-use Rattle.ff_poly.specs.Polynomials.{x_poly}
 use Rattle.function_field.specs.declared.side.Side.TheVariants.{Finite, Infinite}
 use Rattle.function_field.specs.Functions.{of_poly, over}
 use Rattle.function_field.specs.Curves.{CurveValue, IsCurve}
@@ -30,7 +28,7 @@ use Rattle.ff_lattice.proofs.Spaces.{codes_row, codes_row_length, codes_row_over
 use Rattle.value_theory.specs.Laws.{row_functions}
 use Rattle.value_theory.specs.Primes.{PrimeValue, IsPrimeOf}
 use Rattle.value_theory.proofs.Bridge.{order_set, irreducible_value}
-use Rattle.value_theory.proofs.InfiniteLattices.{some, some_inf, infinite_disc}
+use Rattle.value_theory.proofs.InfiniteLattices.{some, infinite_disc}
 use Rattle.ff_ideal.specs.Places.{IsPlaceOf, IsInfinitePlaceOf, HasPrimeValue}
 use Rattle.ff_ideal.proofs.LatticePrimes.{ring_is, prime_is}
 use Rattle.ff_ideal.proofs.PrimePlaces.{finite_value, infinite_value}
