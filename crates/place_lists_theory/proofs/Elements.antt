@@ -5,7 +5,7 @@ use Rattle.ff_poly.specs.Words.{IsPoly}
 use Rattle.ff_poly.specs.Value.{value}
 use Rattle.ff_poly.specs.Polynomials.{codes_of, IsOver_codes_of, IsPoly_codes_of, value_codes_of, value_nil, value_not_zero}
 use Rattle.function_field.specs.declared.side.Side.TheVariants.{Finite}
-use Rattle.function_field.specs.Functions.{function, of_poly}
+use Rattle.function_field.specs.Functions.{of_poly}
 use Rattle.function_field.specs.Values.{ElemValue, IsElem, PresValue, Functions, functions, function_of, equation_of, row_of_list, row_over}
 use Rattle.function_field.specs.Infinity.{variable, generator, row_value_at, function_on}
 use Rattle.function_field.proofs.Horner.{horner, den_times_function}
