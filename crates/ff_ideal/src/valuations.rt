@@ -30,7 +30,7 @@ use ff_poly::Poly;
 use std::alloc::{AllocError, Global};
 
 /// The polynomial as an element, with n numerators.
-fn polynomial_elem<K: SmallField>(
+pub fn polynomial_elem<K: SmallField>(
     alloc: Global,
     k: &K,
     n: usize,
