@@ -140,6 +140,45 @@ fn value_at<K: SmallField>(
     Err(BAD)
 }
 
+// All places over the polynomial, as primes of the order.
+fn places_line<K: SmallField>(
+    alloc: Global,
+    k: &K,
+    c: &Curve,
+    side: Side,
+    text: &str,
+) -> Result<String, AllocError>
+    requires { IsCurve (K.field k.now) c.now }
+{
+    let pi = prime(alloc, k, text)?;
+    if !is_of_side(alloc, side, &pi)? {
+        return Err(BAD);
+    }
+    let o = order_at(alloc, k, c, side, &pi)?;
+    let primes = places_above(alloc, k, c, side, &o, &pi)?;
+    primes_text(alloc, primes.as_slice())
+}
+
+// `pi: number: z`: the value of z at the place with the number over the polynomial.
+fn value_line<K: SmallField>(
+    alloc: Global,
+    k: &K,
+    c: &Curve,
+    side: Side,
+    text: &str,
+) -> Result<String, AllocError>
+    requires { IsCurve (K.field k.now) c.now }
+{
+    let (pi, rest) = parted(text)?;
+    let pi = prime(alloc, k, pi)?;
+    if !is_of_side(alloc, side, &pi)? {
+        return Err(BAD);
+    }
+    let o = order_at(alloc, k, c, side, &pi)?;
+    let primes = places_above(alloc, k, c, side, &o, &pi)?;
+    value_at(alloc, k, presentation(c, side), &o, primes.as_slice(), rest)
+}
+
 /// `side: pi`: all places of the side over the irreducible polynomial, which over infinity is the variable, as primes
 /// of the maximal order, each with its number, its ramification index and its degree; or `side: pi: number: z`: the
 /// value at the place with the number of an element of the side's presentation.
@@ -154,15 +193,9 @@ pub fn places_text<K: SmallField>(
 {
     let (side, rest) = parted(text)?;
     let side = side_of(side)?;
-    let (pi, rest) = parted(rest)?;
-    let pi = prime(alloc, k, pi)?;
-    if !is_of_side(alloc, side, &pi)? {
-        return Err(BAD);
-    }
-    let o = order_at(alloc, k, c, side, &pi)?;
-    let primes = places_above(alloc, k, c, side, &o, &pi)?;
     if word == "places" {
-        return primes_text(alloc, primes.as_slice());
+        places_line(alloc, k, c, side, rest)
+    } else {
+        value_line(alloc, k, c, side, rest)
     }
-    value_at(alloc, k, presentation(c, side), &o, primes.as_slice(), rest)
 }

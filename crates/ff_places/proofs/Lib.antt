@@ -1,4 +1,4 @@
-pub mod Components
+pub mod ComponentSets
 pub mod TextOrder
 pub mod Listings
 pub mod Systems
