@@ -9,6 +9,7 @@ use Rattle.std.proofs.lemmas.List.Kept.{AllPairs-cons}
 use Rattle.std.proofs.lemmas.List.Edits.{length-swap, swapped_from_swap}
 use Rattle.std.proofs.lemmas.List.Elements.{All-nil, All-cons, All-head, All-tail}
 use Rattle.std.proofs.lemmas.List.Sorted.{IsPermutation-refl, IsPermutation-trans, IsPermutation-cons, IsPermutation-to_front, IsPermutation-insert, IsPermutation-map, IsPermutation-keeps, All-permutation}
+use Rattle.prime_theory.proofs.Lists.{pairs_head, pairs_tail}
 use Rattle.ff_fields.specs.Field.{CodeField}
 use Rattle.function_field.specs.declared.side.Side.{Side}
 use Rattle.function_field.specs.Curves.{CurveValue}
@@ -21,12 +22,6 @@ use Rattle.ff_places.proofs.TextOrder.{texts_irreflexive, texts_transitive}
 -- ---- pairs of members of a list
 
 module _ {X : Type 0} (R : X → X → Type 0) where
-  pairs_head : (x : X) (xs : List X) → AllPairs R (x ∷ xs) → All (R x) xs
-  pairs_head x xs h j d l = h 0 (suc j) d (omega arith) (omega arith)
-
-  pairs_tail : (x : X) (xs : List X) → AllPairs R (x ∷ xs) → AllPairs R xs
-  pairs_tail x xs h i j d l within = h (suc i) (suc j) d (omega arith) (omega arith)
-
   all_insert : (P : X → Type 0) (xs : List X) (i : ℕ) (y : X) → P y → All P xs → All P (insert xs i y)
   all_insert P xs i y here all =
       All-permutation P (y ∷ xs) (insert xs i y) (IsPermutation-insert xs i y) (All-cons P y xs here all)
@@ -174,44 +169,6 @@ zip_push R [] [] x y h r = (r, tt)
 zip_push R [] (b ∷ ys) x y h r = absurd h
 zip_push R (a ∷ xs) [] x y h r = absurd h
 zip_push R (a ∷ xs) (b ∷ ys) x y h r = (h.0, zip_push R xs ys x y h.1 r)
-
--- what holds of a list, place by place
-module _ {A B : Type 0} (Z : A → B → Type 0) where
-  pub zip_all : (P : A → Type 0) (Q : B → Type 0) → ((a : A) (b : B) → Z a b → P a → Q b) → (xs : List A) (ys : List B)
-      → AllZip Z xs ys → All P xs → All Q ys
-  zip_all P Q f [] [] z h = All-nil Q
-  zip_all P Q f [] (y ∷ ys) z h = absurd z
-  zip_all P Q f (x ∷ xs) [] z h = absurd z
-  zip_all P Q f (x ∷ xs) (y ∷ ys) z h =
-      All-cons Q y ys (f x y z.0 (All-head P x xs h)) (zip_all P Q f xs ys z.1 (All-tail P x xs h))
-
-  pub zip_all_back : (P : A → Type 0) (Q : B → Type 0) → ((a : A) (b : B) → Z a b → Q b → P a) → (xs : List A)
-      (ys : List B) → AllZip Z xs ys → All Q ys → All P xs
-  zip_all_back P Q f [] [] z h = All-nil P
-  zip_all_back P Q f [] (y ∷ ys) z h = absurd z
-  zip_all_back P Q f (x ∷ xs) [] z h = absurd z
-  zip_all_back P Q f (x ∷ xs) (y ∷ ys) z h =
-      All-cons P x xs (f x y z.0 (All-head Q y ys h)) (zip_all_back P Q f xs ys z.1 (All-tail Q y ys h))
-
-  -- the same of pairs, where a fact on each member helps
-  module _ (T : A → Type 0) (R : A → A → Type 0) (S : B → B → Type 0)
-      (f : (a a' : A) (b b' : B) → Z a b → Z a' b' → T a → T a' → R a a' → S b b') where
-    one : (a : A) (b : B) → Z a b → T a → (xs : List A) (ys : List B) → AllZip Z xs ys → All T xs → All (R a) xs
-        → All (S b) ys
-    one a b z t [] [] zs ts h = All-nil (S b)
-    one a b z t [] (y ∷ ys) zs ts h = absurd zs
-    one a b z t (x ∷ xs) [] zs ts h = absurd zs
-    one a b z t (x ∷ xs) (y ∷ ys) zs ts h =
-        All-cons (S b) y ys (f a x b y z zs.0 t (All-head T x xs ts) (All-head (R a) x xs h))
-        (one a b z t xs ys zs.1 (All-tail T x xs ts) (All-tail (R a) x xs h))
-
-    pub zip_pairs : (xs : List A) (ys : List B) → AllZip Z xs ys → All T xs → AllPairs R xs → AllPairs S ys
-    zip_pairs [] [] z ts h = λ i j d l within. absurd (omega arith)
-    zip_pairs [] (y ∷ ys) z ts h = absurd z
-    zip_pairs (x ∷ xs) [] z ts h = absurd z
-    zip_pairs (x ∷ xs) (y ∷ ys) z ts h =
-        AllPairs-cons S y ys (one x y z.0 (All-head T x xs ts) xs ys z.1 (All-tail T x xs ts) (pairs_head R x xs h))
-        (zip_pairs xs ys z.1 (All-tail T x xs ts) (pairs_tail R x xs h))
 
 pub numbered_more : (ls : List ListedPrime) (i : ℕ) (l : ListedPrime) (old new : List PrimeValue) (copy P : PrimeValue)
     (n : ℕ) → i < length ls → l ≡ get_or ls i l → copy ≡ l.prime → P ≡ record copy { number = n } → n ≡ i + 1

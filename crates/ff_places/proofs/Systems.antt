@@ -33,9 +33,10 @@ use Rattle.decomposition_theory.specs.Laws.{HaveComponentPrimes, IsPrimeSystem}
 use Rattle.ff_lattice.proofs.OrderRows.{all_from_map}
 use Rattle.ff_written.specs.TextOrder.{HasRowTexts, IsBeforeTexts, texts_of}
 use Rattle.ff_written.proofs.WrittenRows.{same_written}
+use Rattle.decomposition_theory.proofs.ComponentSystems.{all_left, from_left, pairs_right}
 use Rattle.ff_places.specs.Numbers.{IsNotAfter, AreInOrder}
 use Rattle.ff_places.specs.Steps.{IsIdealAbove, IsInComponent, HasComponent, ListedPrime, ListedBefore, AreListed, IsNumbered}
-use Rattle.ff_places.proofs.Listings.{pairs_permutation, zip_all, zip_all_back, zip_pairs}
+use Rattle.ff_places.proofs.Listings.{pairs_permutation}
 
 -- ---- maximal ideals with the same members
 
@@ -151,7 +152,7 @@ module _ (k : CodeField) (p : PresValue) (o : LatticeValue) (pi : List ℕ) wher
       → (Ps : List PrimeValue) (ls : List ListedPrime) (Qs : List PrimeValue)
       → IsPermutation Ps (map prime_of ls) → AllZip IsNumbered ls Qs → All X Ps → All X Qs
   all_kept X kept Ps ls Qs moved zip all =
-      zip_all IsNumbered (λ l. X (prime_of l)) X
+      from_left IsNumbered (λ l. X (prime_of l)) X
       (λ l P is x. subst X (sym is.is) (kept l.prime P.number x)) ls Qs zip
       (all_from_map prime_of X ls (All-permutation X Ps (map prime_of ls) moved all))
 
@@ -162,10 +163,9 @@ module _ (k : CodeField) (p : PresValue) (o : LatticeValue) (pi : List ℕ) wher
     primes = all_kept (IsPrimeOf k p o) number_kept Ps ls Qs moved zip h.primes;
     over = all_kept (λ P. P.p ≡ pi) (λ P n e. e) Ps ls Qs moved zip h.over;
     different =
-        zip_pairs IsNumbered (λ l. Unit {0}) (λ l m. l.prime.rows ≢ m.prime.rows) (λ P Q. P.rows ≢ Q.rows)
-        (λ l m P Q is also t u apart e. apart
+        pairs_right IsNumbered (λ l m. l.prime.rows ≢ m.prime.rows) (λ P Q. P.rows ≢ Q.rows)
+        (λ l m P Q is also apart e. apart
         (sym (ap (λ (x : PrimeValue). x.rows) is.is) ∙ e ∙ ap (λ (x : PrimeValue). x.rows) also.is)) ls Qs zip
-        (λ i d less. tt)
         (pairs_from_map (λ (P Q : PrimeValue). P.rows ≢ Q.rows) prime_of ls
         (pairs_permutation (λ (P Q : PrimeValue). P.rows ≢ Q.rows) (λ P Q n e. n (sym e)) Ps (map prime_of ls) moved
         h.different));
@@ -174,7 +174,7 @@ module _ (k : CodeField) (p : PresValue) (o : LatticeValue) (pi : List ℕ) wher
         h.nilpotent z z_in
         (All-permutation X (map prime_of ls) Ps (IsPermutation-sym Ps (map prime_of ls) moved)
         (All-map X prime_of ls
-        (zip_all_back IsNumbered (λ l. X (prime_of l)) X
+        (all_left IsNumbered (λ l. X (prime_of l)) X
         (λ l P is x. subst (λ rows. Contains k p rows z) (ap (λ (y : PrimeValue). y.rows) is.is) x) ls Qs zip all)));
   }
 
@@ -190,13 +190,16 @@ one_texts k c s curve l ts us h g =
 pub in_order : (k : CodeField) (c : CurveValue) (s : Side) → IsCurve k c → (Ps : List PrimeValue) (ls : List ListedPrime)
     (Qs : List PrimeValue) → AreListed k c s Ps ls → AllZip IsNumbered ls Qs → AreInOrder k c s Qs
 in_order k c s curve Ps ls Qs h zip =
-    zip_pairs IsNumbered (λ l. HasRowTexts k c s l.prime.rows l.texts) (λ l m. ¬ ListedBefore m l) (IsNotAfter k c s)
-    (λ l m P Q is also t u apart. record {
+    pairs_right IsNumbered Listed (IsNotAfter k c s)
+    (λ l m P Q is also listed. record {
       texts = λ ts us ts_of us_of before.
           let first = one_texts k c s curve l.prime.rows ts l.texts
-              (subst (λ (x : PrimeValue). HasRowTexts k c s x.rows ts) is.is ts_of) t in
+              (subst (λ (x : PrimeValue). HasRowTexts k c s x.rows ts) is.is ts_of) listed.0 in
           let second = one_texts k c s curve m.prime.rows us m.texts
-              (subst (λ (x : PrimeValue). HasRowTexts k c s x.rows us) also.is us_of) u in
-          apart (subst (λ x. IsBeforeTexts x l.texts) second (subst (IsBeforeTexts us) first before));
+              (subst (λ (x : PrimeValue). HasRowTexts k c s x.rows us) also.is us_of) listed.1 in
+          listed.2 (subst (λ x. IsBeforeTexts x l.texts) second (subst (IsBeforeTexts us) first before));
     })
-    ls Qs zip h.texts h.ascending
+    ls Qs zip (λ i j d less within. (h.texts i d (omega arith), h.texts j d within, h.ascending i j d less within))
+  where
+    abbrev Listed : ListedPrime → ListedPrime → Type 0
+    Listed l m = HasRowTexts k c s l.prime.rows l.texts × HasRowTexts k c s m.prime.rows m.texts × (¬ ListedBefore m l)
