@@ -10,16 +10,16 @@ use Rattle.ff_written.specs.Rows.{AreWrittenRows}
 -- at the first difference the byte is less, or the text ends there
 abbrev pub IsBeforeText : List ℕ → List ℕ → Type 0
 IsBeforeText [] [] = ⊥
-IsBeforeText [] (b ∷ bs) = Unit {0}
-IsBeforeText (a ∷ as) [] = ⊥
-IsBeforeText (a ∷ as) (b ∷ bs) = (a < b) ⊎ ((a ≡ b) × IsBeforeText as bs)
+IsBeforeText [] (b ∷ vs) = Unit {0}
+IsBeforeText (a ∷ us) [] = ⊥
+IsBeforeText (a ∷ us) (b ∷ vs) = (a < b) ⊎ ((a ≡ b) × IsBeforeText us vs)
 
 -- at the first difference the text comes before, or the list ends there
 abbrev pub IsBeforeTexts : List (List ℕ) → List (List ℕ) → Type 0
 IsBeforeTexts [] [] = ⊥
-IsBeforeTexts [] (b ∷ bs) = Unit {0}
-IsBeforeTexts (a ∷ as) [] = ⊥
-IsBeforeTexts (a ∷ as) (b ∷ bs) = IsBeforeText a b ⊎ ((a ≡ b) × IsBeforeTexts as bs)
+IsBeforeTexts [] (b ∷ vs) = Unit {0}
+IsBeforeTexts (a ∷ us) [] = ⊥
+IsBeforeTexts (a ∷ us) (b ∷ vs) = IsBeforeText a b ⊎ ((a ≡ b) × IsBeforeTexts us vs)
 
 -- the texts of written rows, row 1 first
 abbrev pub texts_of : List WrittenValue → List (List ℕ)
