@@ -1,0 +1,9 @@
+pub mod Elements
+pub mod Along
+pub mod PlaceMaps
+pub mod Moved
+pub mod RecordLists
+pub mod PlacesOfPrimes
+pub mod ListedPlaces
+pub mod AtMost
+pub mod OneList
