@@ -1,7 +1,6 @@
 -- The primes of the primitive idempotents of an order modulo a polynomial.
-use Rattle.std.proofs.Common.{◌≡◌, ◌≢◌, ◌⊎◌, inl, inr, ℕ, List, refl, sym, ◌∙◌, ap, subst, All}
+use Rattle.std.proofs.Common.{◌≡◌, ◌≢◌, ◌⊎◌, inl, inr, ℕ, List, refl, sym, ◌∙◌, ap, All}
 use Rattle.ring_lemmas.specs.Ring.{CommRing}
-use Rattle.ring_lemmas.proofs.Ring.{one_mul}
 use Rattle.ring_theory.specs.Members.{In}
 use Rattle.prime_theory.specs.Ideals.{SameSet, Multiple, PowerIn}
 use Rattle.prime_theory.specs.Orders.{Radical}
@@ -12,10 +11,8 @@ use Rattle.finite_algebra_theory.specs.ByMap.{Image}
 use Rattle.finite_algebra_theory.proofs.Lists.{all_of_in}
 use Rattle.finite_algebra_theory.proofs.Maximal.{nilpotent_not_invertible}
 use Rattle.ff_fields.specs.Field.{CodeField}
-use Rattle.ff_poly.specs.Words.{IsIrreducibleList}
 use Rattle.ff_poly.specs.Value.{value}
-use Rattle.ff_poly.specs.Polynomials.{codes_of}
-use Rattle.ff_falg.specs.Algebras.{AlgebraOps, IsAlgebra, IsPrimitiveVector}
+use Rattle.ff_falg.specs.Algebras.{AlgebraOps, IsAlgebra}
 use Rattle.ff_falg.proofs.PrimitiveUse.{ascending_distinct}
 use Rattle.ff_falg.proofs.VectorAlgebra.{scalar}
 use Rattle.function_field.specs.Functions.{of_poly}
@@ -91,9 +88,11 @@ module _ (k : CodeField) (q : QuotientValue) (pi : List ℕ) (es : List (List �
       let v = at_e e i in
       let n = (component_nilpotent k q pi es at h e (primitive k q pi es at h e i) (E e)).0 m in
       nilpotent_not_invertible Q (Image (scalar k A law)) (algebra k q pi es at h) v.0 v.1
-      (reduce k q pi es at h (E e)) n.1
-      (Q.𝟙, ap (λ y. Q.◌⊗◌ y v.0) (Q.mul_one _) ∙ ap (λ y. Q.◌⊗◌ y v.0) (reduce_lift k q pi es at h v.0)
-      ∙ v.1.idempotent)
+      (reduce k q pi es at h (E e)) n.1 (
+        Q.𝟙,
+        ap (λ y. Q.◌⊗◌ y v.0) (Q.mul_one _) ∙ ap (λ y. Q.◌⊗◌ y v.0) (reduce_lift k q pi es at h v.0)
+            ∙ v.1.idempotent,
+      )
 
   different : (e f : List ℕ) → In e es → In f es → e ≢ f
       → ¬ SameSet (IsInComponentPrime k q e) (IsInComponentPrime k q f)

@@ -6,7 +6,6 @@ use Rattle.std.proofs.lemmas.List.Kept.{AllPairs-cons}
 use Rattle.prime_theory.specs.Ideals.{SameSet}
 use Rattle.prime_theory.proofs.Lists.{pairs_head, pairs_tail}
 use Rattle.ff_fields.specs.Field.{CodeField}
-use Rattle.function_field.specs.Values.{Functions}
 use Rattle.ff_lattice.specs.Lattices.{Contains}
 use Rattle.ff_lattice.specs.Quotients.{QuotientValue}
 use Rattle.value_theory.specs.Primes.{PrimeValue, IsPrimeOf}

@@ -1,14 +1,14 @@
 -- An order modulo a polynomial as its quotient algebra: the primitive idempotents of the algebra are a decomposition of
 -- the order at the polynomial, and the prime of one of them is that of its lift.
-use Rattle.std.proofs.Common.{◌≡◌, ◌↔◌, ◌⊎◌, inl, inr, ℕ, ◌<◌, ◌≤◌, List, [], ◌∷◌, length, replicate, refl, sym, ◌∙◌, ap, ap₂, subst, arith, All}
+use Rattle.std.proofs.Common.{◌≡◌, ◌↔◌, ◌⊎◌, inl, inr, ℕ, ◌<◌, ◌≤◌, List, [], ◌∷◌, replicate, refl, sym, ◌∙◌, ap, subst, arith, All}
 use Rattle.std.proofs.lemmas.Bool.{cases_lt}
 use Rattle.std.proofs.lemmas.List.{nil_from_length}
 use Rattle.std.proofs.lemmas.List.Elements.{All-nil, All-cons, All-head, All-tail}
-use Rattle.ring_lemmas.specs.Ring.{CommRing, pow}
+use Rattle.ring_lemmas.specs.Ring.{CommRing}
 use Rattle.ring_lemmas.specs.Lists.{add_lists}
 use Rattle.ring_lemmas.specs.Sums.{sum_over}
 use Rattle.ring_theory.specs.Members.{In}
-use Rattle.prime_theory.specs.Ideals.{SameSet, Multiple}
+use Rattle.prime_theory.specs.Ideals.{SameSet}
 use Rattle.prime_theory.specs.Systems.{IsDecomposition, PrimeAt}
 use Rattle.finite_algebra_theory.specs.Algebra.{FiniteAlgebra, IsNilpotent}
 use Rattle.finite_algebra_theory.specs.ByMap.{Image}
@@ -18,8 +18,8 @@ use Rattle.ff_fields.specs.Code.{raw_ring}
 use Rattle.ff_poly.specs.Words.{IsIrreducibleList}
 use Rattle.ff_poly.specs.Value.{value}
 use Rattle.ff_poly.specs.Polynomials.{codes_of}
-use Rattle.ff_falg.specs.Algebras.{AlgebraOps, IsAlgebra, IsVector, IsPrimitiveVector, IsNilpotentVector, power}
-use Rattle.ff_falg.specs.Idempotents.{IsPrimitiveList, vector_sum}
+use Rattle.ff_falg.specs.Algebras.{AlgebraOps, IsAlgebra, IsPrimitiveVector, IsNilpotentVector}
+use Rattle.ff_falg.specs.Idempotents.{vector_sum}
 use Rattle.ff_falg.proofs.PrimitiveLists.{value_primitive}
 use Rattle.ff_falg.proofs.Vectors.{Vector, vector_ring, same_vector, zeros_in, power_value}
 use Rattle.ff_falg.proofs.VectorAlgebra.{scalar, vector_algebra}
@@ -31,7 +31,7 @@ use Rattle.lattice_theory.proofs.Lattices.{lattice_decided}
 use Rattle.order_theory.specs.Orders.{IsOrder}
 use Rattle.order_theory.proofs.ReductionAt.{p_not_unit}
 use Rattle.ff_lattice.specs.Lattices.{Contains}
-use Rattle.ff_lattice.specs.Quotients.{QuotientValue, IsQuotient, IsQuotientOver, IsClassOf, HasClasses, dimension, lifted, class_algebra}
+use Rattle.ff_lattice.specs.Quotients.{QuotientValue, IsClassOf, HasClasses, dimension, lifted, class_algebra}
 use Rattle.ff_lattice.proofs.QuotientLaws.{lift_member, has_classes}
 use Rattle.value_theory.proofs.Bridge.{order_set, irreducible_value}
 use Rattle.value_theory.proofs.Ideals.{class_of_member}
@@ -152,7 +152,7 @@ module _ (k : CodeField) (q : QuotientValue) (pi : List ℕ) (es : List (List �
       same e = same_vector k (dimension q) _ _ e
 
   -- the polynomial has no inverse in the order, so that the quotient isn't 0
-  some : 0 < dimension q
+  pub some : 0 < dimension q
   some = go (cases_lt 0 (dimension q))
     where
       go : (0 < dimension q) ⊎ (dimension q ≤ 0) → 0 < dimension q

@@ -1,6 +1,6 @@
 -- A maximal ideal over a polynomial at which the order is maximal: its inverse, and the greatest power that has the
 -- polynomial.
-use Rattle.std.proofs.Common.{◌≡◌, ◌↔◌, ◌⊎◌, inl, inr, ℕ, zero, suc, ◌+◌, ◌*◌, ◌-◌, ◌<◌, ◌≤◌, List, length, pos, sym, ◌∙◌, subst, arith}
+use Rattle.std.proofs.Common.{◌≡◌, ◌↔◌, inl, inr, ℕ, zero, suc, ◌+◌, ◌*◌, ◌-◌, ◌≤◌, List, length, pos, sym, ◌∙◌, subst, arith}
 use Rattle.std.proofs.lemmas.Bool.{cases_lt}
 use Rattle.std.proofs.lemmas.Int.{ints}
 use Rattle.std.proofs.Math.IntN.{◌-ℤ◌}
@@ -25,12 +25,11 @@ use Rattle.lattice_theory.proofs.Indices.{index_add, index_none, index_of, index
 use Rattle.lattice_theory.proofs.Lattices.{lattice_decided}
 use Rattle.order_theory.specs.Orders.{IsOrder}
 use Rattle.order_theory.proofs.InvertibleIdeals.{one_of_two}
-use Rattle.order_theory.proofs.ReductionAt.{pO, p_in, p_within, multiple_is_lattice, index_of_p}
+use Rattle.order_theory.proofs.ReductionAt.{pO, p_within, multiple_is_lattice, index_of_p}
 use Rattle.ideal_theory.proofs.GreatestPowers.{prime_lattice_invertible, greatest}
 use Rattle.ideal_theory.proofs.IdealIndices.{IsInvertibleLattice, power_of_prime}
 use Rattle.ideal_theory.proofs.RelativeIndex.{relative_at}
-use Rattle.ff_lattice.specs.Lattices.{LatticeValue, Contains, pivot_degree_of}
-use Rattle.ff_lattice.specs.Colons.{IsColon}
+use Rattle.ff_lattice.specs.Lattices.{LatticeValue, Contains}
 use Rattle.ff_lattice.specs.Quotients.{IsIdealLattice}
 use Rattle.ff_lattice.proofs.PivotIndices.{lattice_over, index_is}
 use Rattle.ff_lattice.proofs.Scaled.{value_length}
@@ -65,7 +64,7 @@ module _ {A : Type 0} (R : CommRing A) (O : A → Type 0) (𝓞 : IsSubring R.op
   powers_up_to z e has not_more j = (
     λ h. elim (cases_lt e j) [
       | inl more ↦ absurd (not_more (powers_below (j - suc e) (suc e) z
-        (subst (λ i. Power R.ops O P i z) (let n : j ≡ j - suc e + suc e = omega arith in n) h)))
+          (subst (λ i. Power R.ops O P i z) (let n : j ≡ j - suc e + suc e = omega arith in n) h)))
       | inr less ↦ less
     ],
     λ less.

@@ -1,6 +1,6 @@
 -- The prime of an idempotent E modulo p is spanned by the radical and the multiples of 1 - E; what is in two of them,
 -- and the list forms of what holds of the members.
-use Rattle.std.proofs.Common.{◌≡◌, ◌≢◌, ◌↔◌, ◌⊎◌, inl, inr, List, [], ◌∷◌, refl, sym, subst, arith, All}
+use Rattle.std.proofs.Common.{◌≡◌, ◌≢◌, inl, inr, List, [], ◌∷◌, refl, sym, subst, arith}
 use Rattle.std.specs.List.{AllPairs}
 use Rattle.std.proofs.lemmas.List.Kept.{AllPairs-cons}
 use Rattle.ring_lemmas.specs.Ring.{CommRing}
