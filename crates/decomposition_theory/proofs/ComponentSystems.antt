@@ -15,14 +15,14 @@ use Rattle.decomposition_theory.proofs.ComponentPrimes.{component_primes}
 
 -- lists with related members at each place
 module _ {X Y : Type 0} (R : X → Y → Type 0) where
-  all_right : (Q : Y → Type 0) → ((x : X) (y : Y) → R x y → Q y) → (xs : List X) (ys : List Y) → AllZip R xs ys
+  pub all_right : (Q : Y → Type 0) → ((x : X) (y : Y) → R x y → Q y) → (xs : List X) (ys : List Y) → AllZip R xs ys
       → All Q ys
   all_right Q f [] [] z = All-nil Q
   all_right Q f [] (y ∷ ys) z = absurd z
   all_right Q f (x ∷ xs) [] z = absurd z
   all_right Q f (x ∷ xs) (y ∷ ys) z = All-cons Q y ys (f x y z.0) (all_right Q f xs ys z.1)
 
-  all_left : (P : X → Type 0) (Q : Y → Type 0) → ((x : X) (y : Y) → R x y → Q y → P x) → (xs : List X) (ys : List Y)
+  pub all_left : (P : X → Type 0) (Q : Y → Type 0) → ((x : X) (y : Y) → R x y → Q y → P x) → (xs : List X) (ys : List Y)
       → AllZip R xs ys → All Q ys → All P xs
   all_left P Q f [] [] z h = All-nil P
   all_left P Q f [] (y ∷ ys) z h = absurd z
@@ -30,7 +30,7 @@ module _ {X Y : Type 0} (R : X → Y → Type 0) where
   all_left P Q f (x ∷ xs) (y ∷ ys) z h =
       All-cons P x xs (f x y z.0 (All-head Q y ys h)) (all_left P Q f xs ys z.1 (All-tail Q y ys h))
 
-  from_left : (P : X → Type 0) (Q : Y → Type 0) → ((x : X) (y : Y) → R x y → P x → Q y) → (xs : List X) (ys : List Y)
+  pub from_left : (P : X → Type 0) (Q : Y → Type 0) → ((x : X) (y : Y) → R x y → P x → Q y) → (xs : List X) (ys : List Y)
       → AllZip R xs ys → All P xs → All Q ys
   from_left P Q f [] [] z h = All-nil Q
   from_left P Q f [] (y ∷ ys) z h = absurd z
@@ -38,7 +38,7 @@ module _ {X Y : Type 0} (R : X → Y → Type 0) where
   from_left P Q f (x ∷ xs) (y ∷ ys) z h =
       All-cons Q y ys (f x y z.0 (All-head P x xs h)) (from_left P Q f xs ys z.1 (All-tail P x xs h))
 
-  pairs_right : (S : X → X → Type 0) (T : Y → Y → Type 0)
+  pub pairs_right : (S : X → X → Type 0) (T : Y → Y → Type 0)
       → ((x x' : X) (y y' : Y) → R x y → R x' y' → S x x' → T y y') → (xs : List X) (ys : List Y) → AllZip R xs ys
       → AllPairs S xs → AllPairs T ys
   pairs_right S T f [] [] z h = λ i j d l m. absurd (omega (arith, m))
