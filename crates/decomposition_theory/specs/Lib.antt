@@ -1,0 +1,2 @@
+pub mod Decompositions
+pub mod Laws
