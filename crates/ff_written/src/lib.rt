@@ -11,4 +11,4 @@ pub mod rows;
 pub mod written;
 
 pub use rows::{RowList, written_rows};
-pub use written::{in_lowest_terms, in_lowest_terms_by, written};
+pub use written::{in_lowest_terms, in_lowest_terms_by};

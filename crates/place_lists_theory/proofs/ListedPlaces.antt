@@ -36,7 +36,7 @@ use Rattle.value_theory.proofs.AllPrimes.{all_primes}
 use Rattle.value_theory.proofs.Bridge.{order_set, irreducible_value}
 use Rattle.value_theory.proofs.InfiniteLattices as lattices
 use Rattle.value_theory.proofs.Primes.{recorded, recorded_is}
-use Rattle.place_lists_theory.specs.Lists.{polynomial_on, listed_place, listed_prime, IsPlaceAbove, AreAllPlacesAbove, IsPlaceOfPrime, ArePlacesOfPrimes}
+use Rattle.place_lists_theory.specs.Lists.{polynomial_on, listed_place, listed_prime, IsPlaceAbove, AreAllPlacesAbove, IsPlaceOfPrimeValue, ArePlacesOfPrimes}
 use Rattle.place_lists_theory.proofs.Elements.{on_finite}
 use Rattle.place_lists_theory.proofs.Moved.{prime_along, members_at, prime_by_functions}
 use Rattle.place_lists_theory.proofs.PlaceMaps.{finite_place_map, infinite_place_map}
@@ -45,7 +45,7 @@ use Rattle.place_lists_theory.proofs.PlacesOfPrimes.{at_infinity, places_of_prim
 -- the rows of each prime span a place of it
 module _ (k : CodeField) (c : CurveValue) (s : Side) (o : LatticeValue) (pi : List ℕ) (Ps : List PrimeValue)
     (a : ArePlacesOfPrimes k c s o pi Ps)
-    (own : All (λ P. IsPlaceOfPrime k c s o pi P (listed_place k c s (listed_prime k c s P))) Ps) where
+    (own : All (λ P. IsPlaceOfPrimeValue k c s o pi P (listed_place k c s (listed_prime k c s P))) Ps) where
   abbrev L : PrimeValue → Place (Functions k c.fin)
   L P = listed_place k c s (listed_prime k c s P)
 
@@ -53,7 +53,7 @@ module _ (k : CodeField) (c : CurveValue) (s : Side) (o : LatticeValue) (pi : Li
   all_listed = record {
     above =
         All-map (λ P. IsPlaceAbove k c s pi (listed_place k c s P)) (listed_prime k c s) Ps
-        (All-weaker (λ P. IsPlaceOfPrime k c s o pi P (L P)) (λ P. IsPlaceAbove k c s pi (L P)) (λ P h. h.above) Ps
+        (All-weaker (λ P. IsPlaceOfPrimeValue k c s o pi P (L P)) (λ P. IsPlaceAbove k c s pi (L P)) (λ P h. h.above) Ps
         own);
     ramified =
         All-map (λ P. HasRamification (setting k c.fin) (listed_place k c s P) (polynomial_on k c pi) P.e)
@@ -77,7 +77,7 @@ module _ (k : CodeField) (c : CurveValue) (s : Side) (o : LatticeValue) (pi : Li
           t.2,
           t.3,
           a.once t.1 (L t.1) M
-              (subst (λ P. IsPlaceOfPrime k c s o pi P (L P)) t.3 (own t.0 t.1 t.2)) t.4,
+              (subst (λ P. IsPlaceOfPrimeValue k c s o pi P (L P)) t.3 (own t.0 t.1 t.2)) t.4,
         );
   }
 
@@ -113,7 +113,7 @@ module _ (k : CodeField) (c : CurveValue) (curve : IsCurve k c) where
 
       -- all members of the place are those of the prime
       finite_same : (P : PrimeValue) → IsPrimeOf k c.fin o P → (M : Place (Functions k c.fin))
-          → IsPlaceOfPrime k c Finite o pi P M
+          → IsPlaceOfPrimeValue k c Finite o pi P M
           → IsSamePlace (setting k c.fin) M (listed_place k c Finite (listed_prime k c Finite P))
       finite_same P prime M m = record {
         side = m.above.side;
@@ -131,16 +131,16 @@ module _ (k : CodeField) (c : CurveValue) (curve : IsCurve k c) where
           at : (z : Functions k c.fin) → Contains k c.fin o z → IsIn (setting k c.fin) M z ↔ Contains k c.fin P.rows z
           at = members_at k c Finite pi o some (λ z. z) (λ Q. Q) (finite_place_map k c pi some) integral_of P M m
 
-      finite_own : All (λ P. IsPlaceOfPrime k c Finite o pi P (listed_place k c Finite (listed_prime k c Finite P))) Ps
+      finite_own : All (λ P. IsPlaceOfPrimeValue k c Finite o pi P (listed_place k c Finite (listed_prime k c Finite P))) Ps
       finite_own =
           let a = places_of_primes k c curve o pi pi_in irreducible Ps Finite (λ e. absurd (cc)) order h in
           All-weaker
-          (λ P. IsPrimeOf k c.fin o P × ((M : Place (Functions k c.fin)) × IsPlaceOfPrime k c Finite o pi P M))
-          (λ P. IsPlaceOfPrime k c Finite o pi P (listed_place k c Finite (listed_prime k c Finite P)))
+          (λ P. IsPrimeOf k c.fin o P × ((M : Place (Functions k c.fin)) × IsPlaceOfPrimeValue k c Finite o pi P M))
+          (λ P. IsPlaceOfPrimeValue k c Finite o pi P (listed_place k c Finite (listed_prime k c Finite P)))
           (λ P t.
           prime_along k c Finite pi o P t.1.0 (listed_place k c Finite (listed_prime k c Finite P))
           (finite_same P t.0 t.1.0 t.1.1) t.1.1) Ps
-          (both (IsPrimeOf k c.fin o) (λ P. (M : Place (Functions k c.fin)) × IsPlaceOfPrime k c Finite o pi P M) Ps
+          (both (IsPrimeOf k c.fin o) (λ P. (M : Place (Functions k c.fin)) × IsPlaceOfPrimeValue k c Finite o pi P M) Ps
           h.primes a.places)
 
     module _ (e : pi ≡ 0 ∷ 1 ∷ []) (order : IsOrderLattice k c.inf o) (h : AreAllPrimes k c.inf o pi Ps) where
@@ -172,14 +172,14 @@ module _ (k : CodeField) (c : CurveValue) (curve : IsCurve k c) where
 
       -- the rows of a prime over the variable span an infinite place of it
       infinite_place : (P : PrimeValue) → IsPrimeOf k c.inf o P → P.p ≡ pi
-          → IsPlaceOfPrime k c Infinite o pi P (listed_place k c Infinite (listed_prime k c Infinite P))
+          → IsPlaceOfPrimeValue k c Infinite o pi P (listed_place k c Infinite (listed_prime k c Infinite P))
       infinite_place P prime is =
           let gs = map (function_of k c.inf) (row_elems P.rows) in
           let t = prime_at_infinity k c.fin c.inf c.c f (at_infinity k c curve) (Contains k c.inf o) 𝓞 maximal
           (Contains k c.inf P.rows) (prime_is P prime)
           (subst (λ w. Contains k c.inf P.rows (of_poly (equation_of k c.inf) (value k w))) (is ∙ e) prime.over) gs
           (λ z. (λ m. m, λ m. m)) in
-          subst (λ hs. IsPlaceOfPrime k c Infinite o pi P (record { side = Infinite; generators = hs }))
+          subst (λ hs. IsPlaceOfPrimeValue k c Infinite o pi P (record { side = Infinite; generators = hs }))
           (lattices.rows_are k c curve P.rows prime.ideal.lattice)
           (prime_by_functions k c Infinite pi o some_inf f (place_at_infinity k c.fin c.inf f)
           (infinite_place_map k c f (at_infinity k c curve) (lattices.infinite_disc k c curve) pi e)
@@ -187,16 +187,16 @@ module _ (k : CodeField) (c : CurveValue) (curve : IsCurve k c) where
           (record { side = Infinite; generators = map f gs })
           (record { place = t.0; side = refl; over = λ e. absurd (cc) }) t.1)
 
-      infinite_own : All (λ P. IsPlaceOfPrime k c Infinite o pi P
+      infinite_own : All (λ P. IsPlaceOfPrimeValue k c Infinite o pi P
           (listed_place k c Infinite (listed_prime k c Infinite P))) Ps
       infinite_own =
           All-weaker (λ P. IsPrimeOf k c.inf o P × (P.p ≡ pi))
-          (λ P. IsPlaceOfPrime k c Infinite o pi P (listed_place k c Infinite (listed_prime k c Infinite P)))
+          (λ P. IsPlaceOfPrimeValue k c Infinite o pi P (listed_place k c Infinite (listed_prime k c Infinite P)))
           (λ P t. infinite_place P t.0 t.1) Ps (both (IsPrimeOf k c.inf o) (λ P. P.p ≡ pi) Ps h.primes h.over)
 
     own_of : (s : Side) → (s ≡ Infinite → pi ≡ 0 ∷ 1 ∷ []) → IsOrderLattice k (presentation c s) o
         → AreAllPrimes k (presentation c s) o pi Ps → IsIntegralLattice k c s o
-        → All (λ P. IsPlaceOfPrime k c s o pi P (listed_place k c s (listed_prime k c s P))) Ps
+        → All (λ P. IsPlaceOfPrimeValue k c s o pi P (listed_place k c s (listed_prime k c s P))) Ps
     own_of Finite t order h whole = finite_own order h whole
     own_of Infinite t order h whole = infinite_own (t refl) order h
 

@@ -16,7 +16,7 @@ use Rattle.ff_lattice.specs.Lattices.{LatticeValue, Contains}
 use Rattle.value_theory.specs.IntegralLattices.{presentation}
 use Rattle.value_theory.specs.Laws.{IsRecordOf}
 use Rattle.value_theory.specs.Primes.{PrimeValue}
-use Rattle.place_lists_theory.specs.Lists.{polynomial_on, IsPlaceAbove, IsPlaceOfPrime}
+use Rattle.place_lists_theory.specs.Lists.{polynomial_on, IsPlaceAbove, IsPlaceOfPrimeValue}
 use Rattle.place_lists_theory.proofs.Along.{place_along, over_along, degree_along, ramified_along}
 use Rattle.place_lists_theory.proofs.Elements.{element_of}
 use Rattle.place_lists_theory.proofs.PlaceMaps.{IsPlaceBelow, IsPlaceMap}
@@ -32,7 +32,7 @@ module _ (k : CodeField) (c : CurveValue) (s : Side) (pi : List ℕ) (o : Lattic
   }
 
   pub prime_along : (P : PrimeValue) (M N : Place (Functions k c.fin)) → IsSamePlace (setting k c.fin) M N
-      → IsPlaceOfPrime k c s o pi P M → IsPlaceOfPrime k c s o pi P N
+      → IsPlaceOfPrimeValue k c s o pi P M → IsPlaceOfPrimeValue k c s o pi P N
   prime_along P M N same h = record {
     above = above_along M N same h.above;
     members = λ z z_in poly some inside.
@@ -48,7 +48,7 @@ module _ (k : CodeField) (c : CurveValue) (s : Side) (pi : List ℕ) (o : Lattic
       (integral : (z : Functions k (presentation c s)) → Contains k (presentation c s) o z
       → IsIntegralAt (setting k (presentation c s)) Finite z) where
     -- what the place has of the order, by functions
-    pub members_at : (P : PrimeValue) (M : Place (Functions k c.fin)) → IsPlaceOfPrime k c s o pi P M
+    pub members_at : (P : PrimeValue) (M : Place (Functions k c.fin)) → IsPlaceOfPrimeValue k c s o pi P M
         → (z : Functions k (presentation c s)) → Contains k (presentation c s) o z
         → IsIn (setting k c.fin) M (f z) ↔ Contains k (presentation c s) P.rows z
     members_at P M h z inside =
@@ -64,7 +64,7 @@ module _ (k : CodeField) (c : CurveValue) (s : Side) (pi : List ℕ) (o : Lattic
     pub prime_by_functions : (P : PrimeValue) (M : Place (Functions k c.fin)) → IsPlaceAbove k c s pi M
         → ((z : Functions k (presentation c s)) → Contains k (presentation c s) o z
         → IsIn (setting k c.fin) M (f z) ↔ Contains k (presentation c s) P.rows z)
-        → IsPlaceOfPrime k c s o pi P M
+        → IsPlaceOfPrimeValue k c s o pi P M
     prime_by_functions P M above members = record {
       above = above;
       members = λ z z_in poly not_null inside.
@@ -79,7 +79,7 @@ module _ (k : CodeField) (c : CurveValue) (s : Side) (pi : List ℕ) (o : Lattic
       pub members : (z : Functions k (presentation c s)) → Contains k (presentation c s) o z
           → IsIn (setting k (presentation c s)) Q z ↔ Contains k (presentation c s) P.rows z
 
-    pub below_of : (P : PrimeValue) (M : Place (Functions k c.fin)) → IsPlaceOfPrime k c s o pi P M
+    pub below_of : (P : PrimeValue) (M : Place (Functions k c.fin)) → IsPlaceOfPrimeValue k c s o pi P M
         → (Q : Place (Functions k (presentation c s))) → IsPlaceBelow k c s pi Q
         → IsSamePlace (setting k c.fin) (move Q) M → IsBelow P Q
     below_of P M h Q below goes = record {
@@ -98,13 +98,13 @@ module _ (k : CodeField) (c : CurveValue) (s : Side) (pi : List ℕ) (o : Lattic
       pub is : IsBelow P place
       pub goes : IsSamePlace (setting k c.fin) (move place) M
 
-    pub pulled : (P : PrimeValue) (M : Place (Functions k c.fin)) → IsPlaceOfPrime k c s o pi P M → Pulled P M
+    pub pulled : (P : PrimeValue) (M : Place (Functions k c.fin)) → IsPlaceOfPrimeValue k c s o pi P M → Pulled P M
     pulled P M h =
         let t = moves.every M h.above in
         record { place = t.0; is = below_of P M h t.0 t.1 t.2; goes = t.2 }
 
     pushed : (P : PrimeValue) (Q : Place (Functions k (presentation c s))) → IsBelow P Q
-        → IsPlaceOfPrime k c s o pi P (move Q)
+        → IsPlaceOfPrimeValue k c s o pi P (move Q)
     pushed P Q h =
         prime_by_functions P (move Q) (moves.above Q h.below)
         (λ z inside.
@@ -137,14 +137,14 @@ module _ (k : CodeField) (c : CurveValue) (s : Side) (pi : List ℕ) (o : Lattic
 
       pub place_exists : (Q : Place (Functions k (presentation c s)))
           × records.IsPlaceOfPrime (equation_of k (presentation c s)) (Contains k (presentation c s) o) (value k pi) R Q
-          → (M : Place (Functions k c.fin)) × IsPlaceOfPrime k c s o pi P M
+          → (M : Place (Functions k c.fin)) × IsPlaceOfPrimeValue k c s o pi P M
       place_exists h = (move h.0, pushed P h.0 (from_record h.0 h.1))
 
       pub ramified_is : ((Q : Place (Functions k (presentation c s)))
           → records.IsPlaceOfPrime (equation_of k (presentation c s)) (Contains k (presentation c s) o) (value k pi) R Q
           → HasRamification (setting k (presentation c s)) Q (of_poly (equation_of k (presentation c s)) (value k pi))
           R.exponent)
-          → (M : Place (Functions k c.fin)) → IsPlaceOfPrime k c s o pi P M
+          → (M : Place (Functions k c.fin)) → IsPlaceOfPrimeValue k c s o pi P M
           → HasRamification (setting k c.fin) M (polynomial_on k c pi) P.e
       ramified_is h M m =
           let t = pulled P M m in
@@ -155,7 +155,7 @@ module _ (k : CodeField) (c : CurveValue) (s : Side) (pi : List ℕ) (o : Lattic
       pub degree_is : ((Q : Place (Functions k (presentation c s)))
           → records.IsPlaceOfPrime (equation_of k (presentation c s)) (Contains k (presentation c s) o) (value k pi) R Q
           → HasDegree (setting k (presentation c s)) Q R.degree)
-          → (M : Place (Functions k c.fin)) → IsPlaceOfPrime k c s o pi P M
+          → (M : Place (Functions k c.fin)) → IsPlaceOfPrimeValue k c s o pi P M
           → HasDegree (setting k c.fin) M P.degree
       degree_is h M m =
           let t = pulled P M m in
@@ -166,7 +166,7 @@ module _ (k : CodeField) (c : CurveValue) (s : Side) (pi : List ℕ) (o : Lattic
       pub place_given : (M : Place (Functions k c.fin)) (Q : Place (Functions k (presentation c s)))
           → IsSamePlace (setting k c.fin) (move Q) M
           → records.IsPlaceOfPrime (equation_of k (presentation c s)) (Contains k (presentation c s) o) (value k pi) R Q
-          → IsPlaceOfPrime k c s o pi P M
+          → IsPlaceOfPrimeValue k c s o pi P M
       place_given M Q same h = prime_along P (move Q) M same (pushed P Q (from_record Q h))
 
     -- primes of different places of the presentation are those of different places of the side
@@ -177,7 +177,7 @@ module _ (k : CodeField) (c : CurveValue) (s : Side) (pi : List ℕ) (o : Lattic
         → records.IsPlaceOfPrime (equation_of k (presentation c s)) (Contains k (presentation c s) o) (value k pi) R Q
         → records.IsPlaceOfPrime (equation_of k (presentation c s)) (Contains k (presentation c s) o) (value k pi) R' T
         → ¬ IsSamePlace (setting k (presentation c s)) Q T)
-        → (M N : Place (Functions k c.fin)) → IsPlaceOfPrime k c s o pi P M → IsPlaceOfPrime k c s o pi P' N
+        → (M N : Place (Functions k c.fin)) → IsPlaceOfPrimeValue k c s o pi P M → IsPlaceOfPrimeValue k c s o pi P' N
         → ¬ IsSamePlace (setting k c.fin) M N
     different_is P P' R R' is is' apart M N m n same =
         let t = pulled P' N n in
@@ -188,8 +188,8 @@ module _ (k : CodeField) (c : CurveValue) (s : Side) (pi : List ℕ) (o : Lattic
     -- a place is known from its prime
     pub once_is : (Rs : List (RecordedPrime (equation_of k (presentation c s)) (Contains k (presentation c s) o)))
         → ArePrimesOfPlaces (equation_of k (presentation c s)) (Contains k (presentation c s) o) (value k pi) Rs
-        → (P : PrimeValue) (M N : Place (Functions k c.fin)) → IsPlaceOfPrime k c s o pi P M
-        → IsPlaceOfPrime k c s o pi P N → IsSamePlace (setting k c.fin) M N
+        → (P : PrimeValue) (M N : Place (Functions k c.fin)) → IsPlaceOfPrimeValue k c s o pi P M
+        → IsPlaceOfPrimeValue k c s o pi P N → IsSamePlace (setting k c.fin) M N
     once_is Rs r P M N m n =
         let t = pulled P M m in
         let u = pulled P N n in

@@ -24,7 +24,7 @@ use Rattle.value_theory.specs.Primes.{PrimeValue, AreAllPrimes}
 use Rattle.value_theory.proofs.AllPrimes.{all_primes}
 use Rattle.value_theory.proofs.Bridge.{order_set}
 use Rattle.value_theory.proofs.InfiniteLattices as lattices
-use Rattle.place_lists_theory.specs.Lists.{polynomial_on, IsPlaceOfPrime, ArePlacesOfPrimes}
+use Rattle.place_lists_theory.specs.Lists.{polynomial_on, IsPlaceOfPrimeValue, ArePlacesOfPrimes}
 use Rattle.place_lists_theory.proofs.Moved.{place_exists, ramified_is, degree_is, place_given, different_is, once_is}
 use Rattle.place_lists_theory.proofs.PlaceMaps.{IsPlaceMap, finite_place_map, infinite_place_map}
 use Rattle.place_lists_theory.proofs.RecordLists.{all_of_records, any_of_records, pairs_of_records}
@@ -50,7 +50,7 @@ module _ (k : CodeField) (c : CurveValue) (s : Side) (pi : List ℕ) (o : Lattic
     places =
         all_of_records k (presentation c s) o
         (λ R. (Q : Place (Functions k (presentation c s))) × IsPlaceOf R Q)
-        (λ P. (M : Place (Functions k c.fin)) × IsPlaceOfPrime k c s o pi P M)
+        (λ P. (M : Place (Functions k c.fin)) × IsPlaceOfPrimeValue k c s o pi P M)
         (place_exists k c s pi o some f move moves integral) Ps Rs each r.places;
     once = once_is k c s pi o some f move moves integral Rs r;
     ramified =
@@ -58,26 +58,26 @@ module _ (k : CodeField) (c : CurveValue) (s : Side) (pi : List ℕ) (o : Lattic
         (λ R. (Q : Place (Functions k (presentation c s))) → IsPlaceOf R Q
         → HasRamification (setting k (presentation c s)) Q (of_poly (equation_of k (presentation c s)) (value k pi))
         R.exponent)
-        (λ P. (M : Place (Functions k c.fin)) → IsPlaceOfPrime k c s o pi P M
+        (λ P. (M : Place (Functions k c.fin)) → IsPlaceOfPrimeValue k c s o pi P M
         → HasRamification (setting k c.fin) M (polynomial_on k c pi) P.e)
         (ramified_is k c s pi o some f move moves integral) Ps Rs each r.ramified;
     degrees =
         all_of_records k (presentation c s) o
         (λ R. (Q : Place (Functions k (presentation c s))) → IsPlaceOf R Q
         → HasDegree (setting k (presentation c s)) Q R.degree)
-        (λ P. (M : Place (Functions k c.fin)) → IsPlaceOfPrime k c s o pi P M
+        (λ P. (M : Place (Functions k c.fin)) → IsPlaceOfPrimeValue k c s o pi P M
         → HasDegree (setting k c.fin) M P.degree)
         (degree_is k c s pi o some f move moves integral) Ps Rs each r.degrees;
     different =
         pairs_of_records k (presentation c s) o
         (λ R R'. (Q T : Place (Functions k (presentation c s))) → IsPlaceOf R Q → IsPlaceOf R' T
         → ¬ IsSamePlace (setting k (presentation c s)) Q T)
-        (λ P P'. (M N : Place (Functions k c.fin)) → IsPlaceOfPrime k c s o pi P M → IsPlaceOfPrime k c s o pi P' N
+        (λ P P'. (M N : Place (Functions k c.fin)) → IsPlaceOfPrimeValue k c s o pi P M → IsPlaceOfPrimeValue k c s o pi P' N
         → ¬ IsSamePlace (setting k c.fin) M N)
         (different_is k c s pi o some f move moves integral) Ps Rs each r.different;
     complete = λ M above.
         let t = moves.every M above in
-        any_of_records k (presentation c s) o (λ R. IsPlaceOf R t.0) (λ P. IsPlaceOfPrime k c s o pi P M)
+        any_of_records k (presentation c s) o (λ R. IsPlaceOf R t.0) (λ P. IsPlaceOfPrimeValue k c s o pi P M)
         (λ P R is h. place_given k c s pi o some f move moves integral P R is M t.0 t.2 h) Ps Rs each
         (r.complete t.0 t.1.place t.1.over);
   }

@@ -67,7 +67,7 @@ module _ (k : CodeField) (c : CurveValue) (s : Side) where
 
   module _ (o : LatticeValue) where
     -- a place above the polynomial that has, of the members of the order, those of the prime
-    pub record IsPlaceOfPrime (pi : List ℕ) (P : PrimeValue) (M : Place (Functions k c.fin)) : Type 0 where
+    pub record IsPlaceOfPrimeValue (pi : List ℕ) (P : PrimeValue) (M : Place (Functions k c.fin)) : Type 0 where
       pub above : IsPlaceAbove pi M
       pub members :
           (z : ElemValue)
@@ -81,15 +81,15 @@ module _ (k : CodeField) (c : CurveValue) (s : Side) where
     -- each prime of the list is that of one place, with its ramification index and its degree, different primes are
     -- those of different places, and each place above is that of a prime of the list
     pub record ArePlacesOfPrimes (pi : List ℕ) (Ps : List PrimeValue) : Type 0 where
-      pub places : All (λ P. (M : Place (Functions k c.fin)) × IsPlaceOfPrime pi P M) Ps
-      pub once : (P : PrimeValue) (M N : Place (Functions k c.fin)) → IsPlaceOfPrime pi P M → IsPlaceOfPrime pi P N
+      pub places : All (λ P. (M : Place (Functions k c.fin)) × IsPlaceOfPrimeValue pi P M) Ps
+      pub once : (P : PrimeValue) (M N : Place (Functions k c.fin)) → IsPlaceOfPrimeValue pi P M → IsPlaceOfPrimeValue pi P N
           → IsSamePlace (setting k c.fin) M N
-      pub ramified : All (λ P. (M : Place (Functions k c.fin)) → IsPlaceOfPrime pi P M
+      pub ramified : All (λ P. (M : Place (Functions k c.fin)) → IsPlaceOfPrimeValue pi P M
           → HasRamification (setting k c.fin) M (polynomial_on k c pi) P.e) Ps
-      pub degrees : All (λ P. (M : Place (Functions k c.fin)) → IsPlaceOfPrime pi P M
+      pub degrees : All (λ P. (M : Place (Functions k c.fin)) → IsPlaceOfPrimeValue pi P M
           → HasDegree (setting k c.fin) M P.degree) Ps
       pub different :
           AllPairs
-          (λ P Q. (M N : Place (Functions k c.fin)) → IsPlaceOfPrime pi P M → IsPlaceOfPrime pi Q N
+          (λ P Q. (M N : Place (Functions k c.fin)) → IsPlaceOfPrimeValue pi P M → IsPlaceOfPrimeValue pi Q N
           → ¬ IsSamePlace (setting k c.fin) M N) Ps
-      pub complete : (M : Place (Functions k c.fin)) → IsPlaceAbove pi M → Any (λ P. IsPlaceOfPrime pi P M) Ps
+      pub complete : (M : Place (Functions k c.fin)) → IsPlaceAbove pi M → Any (λ P. IsPlaceOfPrimeValue pi P M) Ps
