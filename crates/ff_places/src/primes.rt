@@ -1,11 +1,11 @@
 //! The primes of an order that is maximal at a polynomial.
 
-ghost use Rattle.std.specs.Prelude.{◌≡◌, ◌↔◌, ◌<◌, ◌^◌, pos, ◌-ℤ◌, length, All, IfOk};
+ghost use Rattle.std.specs.Prelude.{◌≡◌, ◌↔◌, suc, ◌<◌, ◌^◌, pos, ◌-ℤ◌, length, All, IfOk};
 ghost use Rattle.std.specs.List.{AllZip};
 ghost use Rattle.ff_fields.specs.Over.{IsOver};
 ghost use Rattle.ff_poly.specs.Value.{value};
 ghost use Rattle.function_field.specs.Functions.{of_poly};
-ghost use Rattle.function_field.specs.Values.{IsPresOver, functions, equation_of};
+ghost use Rattle.function_field.specs.Values.{IsPresOver, Functions, functions, equation_of};
 ghost use Rattle.ff_falg.specs.Idempotents.{elements_of};
 ghost use Rattle.ff_lattice.specs.Lattices.{IsLatticeValue, Contains, pivot_degree_of};
 ghost use Rattle.ff_lattice.specs.Colons.{IsColon};
