@@ -142,3 +142,12 @@ module _ (k : CodeField) (p : PresValue) where
               s.left_in)
               (p_in_radical F O 𝓞.ring (poly a) (order_has (equation_of k p) O 𝓞 (value k a)) s.right
               ((members s.right).0 s.right_in)))
+
+-- r is the radical of the order at each polynomial whose multiples are the ideal
+abbrev pub IsRadicalModulo : (k : CodeField) (p : PresValue) (o i r : LatticeValue) → Type 0
+IsRadicalModulo k p o i r =
+    (a : List ℕ)
+    → local.SameSet (Contains k p i)
+    (Multiple (functions k p).ops (of_poly (equation_of k p) (value k a)) (Contains k p o))
+    → (z : Functions k p) → Contains k p r z
+    ↔ Radical (functions k p).ops (Contains k p o) (of_poly (equation_of k p) (value k a)) z
