@@ -1,0 +1,4 @@
+pub mod JoinedTexts
+pub mod TermTexts
+pub mod PolynomialTexts
+pub mod ElementTexts

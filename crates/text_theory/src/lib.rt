@@ -1,0 +1,27 @@
+//! What a printed text tells: of polynomials and of elements whose codes and degrees have at most 64 digits, no two have
+//! one text. A decimal number is written with its last 64 digits, so that longer ones aren't told apart. There is no
+//! code: each theorem is the contract of a function with an empty body.
+#![tactic(auto)]
+
+ghost use Rattle.std.specs.Prelude.{◌≡◌, ◌≤◌, ◌^◌, ℕ, List, length};
+ghost use Rattle.ff_fields.specs.Field.{CodeField};
+ghost use Rattle.ff_fields.specs.Over.{IsOver};
+ghost use Rattle.ff_poly.specs.Words.{IsPoly};
+ghost use Rattle.ff_text.specs.Printed.{WrittenValue, poly_text, elem_text};
+ghost use Rattle.text_theory.specs.WrittenInFull.{IsWrittenInFull, IsElemWrittenInFull};
+
+/// One text belongs to one polynomial.
+pub fn one_poly_text_law()
+    ensures { (a b : List ℕ) → IsWrittenInFull a → IsWrittenInFull b → poly_text a ≡ poly_text b → a ≡ b }
+{}
+
+/// One text belongs to one element, of however many numerators.
+pub fn one_elem_text_law()
+    ensures { (z w : WrittenValue) → IsElemWrittenInFull z → IsElemWrittenInFull w
+        → elem_text z.num z.den ≡ elem_text w.num w.den → z ≡ w }
+{}
+
+/// A polynomial over a field of codes is written in full, up to a degree that no memory holds.
+pub fn written_in_full_law()
+    ensures { (k : CodeField) (p : List ℕ) → IsOver k.ops p → IsPoly p → length p ≤ 10 ^ 64 → IsWrittenInFull p }
+{}
