@@ -19,7 +19,7 @@ no_parenthesis p more is e =
 
 one_by_count : (a b : Bool) (d e : List ℕ) → IsWrittenInFull d → IsWrittenInFull e
     → cond a (codes "(" ++ (poly_text d ++ codes ")")) (poly_text d)
-      ≡ cond b (codes "(" ++ (poly_text e ++ codes ")")) (poly_text e)
+    ≡ cond b (codes "(" ++ (poly_text e ++ codes ")")) (poly_text e)
     → d ≡ e
 one_by_count true true d e d_is e_is same =
     let inner = same_parts 40 40 (poly_text d ++ codes ")") (poly_text e ++ codes ")") same in
@@ -65,11 +65,10 @@ one_num : (num other : List (List ℕ)) → All IsWrittenInFull num → All IsWr
 one_num = one_joined IsWrittenInFull poly_text is_poly_byte 44 (codes " ") numerators_told
 
 -- a byte of polynomials, or `,`
-is_num_byte : ℕ → Bool
+abbrev is_num_byte : ℕ → Bool
 is_num_byte b = is_poly_byte b || eqb b 44
 
 num_bytes : (num : List (List ℕ)) → All IsWrittenInFull num → AllIn is_num_byte (join_by poly_text (codes ", ") num)
-unfolding is_num_byte
 num_bytes =
     let P : ℕ → Type 0 = λ b. is_num_byte b ≡ true in
     joined_in IsWrittenInFull poly_text is_num_byte 44 (codes " ")
@@ -83,7 +82,7 @@ written_value num den = record { num = num; den = den }
 
 pub one_elem : (z w : WrittenValue) → IsElemWrittenInFull z → IsElemWrittenInFull w
     → elem_text z.num z.den ≡ elem_text w.num w.den → z ≡ w
-unfolding written_value is_num_byte
+unfolding written_value
 one_elem z w z_is w_is e =
     let z_num : List ℕ = join_by poly_text (codes ", ") z.num in
     let w_num : List ℕ = join_by poly_text (codes ", ") w.num in

@@ -3,7 +3,7 @@
 //! code: each theorem is the contract of a function with an empty body.
 #![tactic(auto)]
 
-ghost use Rattle.std.specs.Prelude.{◌≡◌, ◌≤◌, ◌^◌, ℕ, List, length};
+ghost use Rattle.std.specs.Prelude.{◌≡◌, ◌≤◌, ◌^◌, ℕ, List, length, All};
 ghost use Rattle.ff_fields.specs.Field.{CodeField};
 ghost use Rattle.ff_fields.specs.Over.{IsOver};
 ghost use Rattle.ff_poly.specs.Words.{IsPoly};
@@ -21,7 +21,11 @@ pub fn one_elem_text_law()
         → elem_text z.num z.den ≡ elem_text w.num w.den → z ≡ w }
 {}
 
-/// A polynomial over a field of codes is written in full, up to a degree that no memory holds.
+/// Polynomials and elements over a field of codes are written in full, up to a degree that no memory holds.
 pub fn written_in_full_law()
-    ensures { (k : CodeField) (p : List ℕ) → IsOver k.ops p → IsPoly p → length p ≤ 10 ^ 64 → IsWrittenInFull p }
+    ensures polynomial { (k : CodeField) (p : List ℕ) → IsOver k.ops p → IsPoly p → length p ≤ 10 ^ 64
+        → IsWrittenInFull p }
+    ensures element { (k : CodeField) (z : WrittenValue) → All (IsOver k.ops) z.num → All IsPoly z.num
+        → All (λ p. length p ≤ 10 ^ 64) z.num → IsOver k.ops z.den → IsPoly z.den → length z.den ≤ 10 ^ 64
+        → IsElemWrittenInFull z }
 {}
