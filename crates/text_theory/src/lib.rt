@@ -1,6 +1,6 @@
 //! What a printed text tells: no two polynomials, and no two elements, have one text, where no code and no degree has
-//! more than 64 digits. A decimal number is written with its last 64 digits, so that longer ones aren't told apart. There
-//! is no code: each theorem is the contract of a function with an empty body.
+//! more than 64 digits. A decimal number is written with its last 64 digits, so that longer ones aren't told apart.
+//! There is no code: each theorem is the contract of a function with an empty body.
 #![tactic(auto)]
 
 ghost use Rattle.std.specs.Prelude.{◌≡◌, ◌≤◌, ◌^◌, ℕ, List, length, All};
