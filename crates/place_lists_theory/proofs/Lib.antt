@@ -4,6 +4,9 @@ pub mod PlaceMaps
 pub mod Moved
 pub mod RecordLists
 pub mod PlacesOfPrimes
+pub mod IntegralOrders
+pub mod InfinitePrimes
+pub mod WholePlaces
 pub mod ListedPlaces
 pub mod AtMost
 pub mod OneList

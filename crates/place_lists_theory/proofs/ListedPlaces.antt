@@ -1,43 +1,30 @@
 -- The rows of all primes of the order of a side's integral functions span the places of the side above a polynomial.
-use Rattle.std.proofs.Common.{◌≡◌, ℕ, ◌≤◌, ◌↔◌, List, [], ◌∷◌, map, get_or, refl, sym, ap₂, ◌∙◌, subst, arith, All}
-use Rattle.std.proofs.lemmas.List.Elements.{All-map, All-weaker, All-head, All-tail}
-use Rattle.prime_theory.specs.Orders.{MaximalAt}
-use Rattle.prime_theory.specs.Primes.{IsPrime}
+use Rattle.std.proofs.Common.{◌≡◌, ℕ, ◌↔◌, List, [], ◌∷◌, map, get_or, refl, ◌∙◌, subst, arith, All}
+use Rattle.std.proofs.lemmas.List.Elements.{All-map, All-weaker}
 use Rattle.prime_theory.proofs.Lists.{both}
 use Rattle.ring_theory.specs.Subsets.{Span}
 use Rattle.ff_fields.specs.Field.{CodeField}
 use Rattle.ff_fields.specs.Over.{IsOver}
-use Rattle.ff_poly.specs.Popov.{IsRow}
-use Rattle.ff_poly.specs.Words.{IsPoly, IsIrreducibleList}
-use Rattle.ff_poly.specs.Value.{value}
-use Rattle.ff_poly.specs.Polynomials.{x_poly}
+use Rattle.ff_poly.specs.Words.{IsIrreducibleList}
 use Rattle.function_field.specs.declared.side.Side.{Side}
 use Rattle.function_field.specs.declared.side.Side.TheVariants.{Finite, Infinite}
-use Rattle.function_field.specs.Functions.{of_poly, IsPolynomial}
+use Rattle.function_field.specs.Functions.{IsPolynomial}
 use Rattle.function_field.specs.Places.{Place, IsIn, IsSamePlace, IsIntegralAt}
 use Rattle.function_field.specs.Divisors.{HasDegree, HasRamification}
-use Rattle.function_field.specs.Values.{Functions, functions, setting, function_of, equation_of}
-use Rattle.function_field.specs.Infinity.{function_on}
+use Rattle.function_field.specs.Values.{Functions, functions, setting, equation_of}
 use Rattle.function_field.specs.Curves.{CurveValue, IsCurve}
-use Rattle.function_field.proofs.SameValues.{monic_some}
-use Rattle.order_theory.specs.Orders as theory_orders
 use Rattle.order_theory.proofs.LocalOrders.{order_integral}
 use Rattle.order_theory.proofs.PlaceEntries.{pairs_map, any_map}
 use Rattle.infinite_theory.specs.InfiniteMaps.{place_at_infinity}
-use Rattle.infinite_theory.proofs.InfiniteOrders.{prime_at_infinity}
-use Rattle.infinite_theory.proofs.InfiniteTransport.{x_irreducible}
-use Rattle.ideal_theory.specs.Records.{RowSpan}
-use Rattle.ideal_theory.proofs.Records.{recorded_prime, record_maximal}
-use Rattle.ff_lattice.specs.Lattices.{LatticeValue, IsLatticeValue, Contains, elems_over, row_elems}
+use Rattle.ff_lattice.specs.Lattices.{LatticeValue, Contains}
 use Rattle.ff_lattice.specs.Orders.{IsOrderLattice}
-use Rattle.value_theory.specs.IntegralLattices.{presentation, SpansIntegral, IsIntegralLattice}
+use Rattle.value_theory.specs.IntegralLattices.{presentation, IsIntegralLattice}
 use Rattle.value_theory.specs.Primes.{PrimeValue, IsPrimeOf, AreAllPrimes}
-use Rattle.value_theory.proofs.AllPrimes.{all_primes}
-use Rattle.value_theory.proofs.Bridge.{order_set, irreducible_value}
+use Rattle.value_theory.proofs.Bridge.{order_set}
 use Rattle.value_theory.proofs.InfiniteLattices as lattices
-use Rattle.value_theory.proofs.Primes.{recorded, recorded_is}
 use Rattle.place_lists_theory.specs.Lists.{polynomial_on, listed_place, listed_prime, IsPlaceAbove, AreAllPlacesAbove, IsPlaceOfPrimeValue, ArePlacesOfPrimes}
-use Rattle.place_lists_theory.proofs.Elements.{on_finite}
+use Rattle.place_lists_theory.proofs.InfinitePrimes.{place_of_rows}
+use Rattle.place_lists_theory.proofs.IntegralOrders.{finite_rows, finite_members, infinite_maximal}
 use Rattle.place_lists_theory.proofs.Moved.{prime_along, members_at, prime_by_functions}
 use Rattle.place_lists_theory.proofs.PlaceMaps.{finite_place_map, infinite_place_map}
 use Rattle.place_lists_theory.proofs.PlacesOfPrimes.{at_infinity, places_of_primes}
@@ -82,35 +69,10 @@ module _ (k : CodeField) (c : CurveValue) (s : Side) (o : LatticeValue) (pi : Li
   }
 
 module _ (k : CodeField) (c : CurveValue) (curve : IsCurve k c) where
-  some : 1 ≤ c.fin.n
-  some = lattices.some k c curve
-
-  -- on the finite side the rows stand for their own functions
-  finite_rows_of : (rows : List (List (List ℕ))) (den : List ℕ) → All (IsRow k.ops c.fin.n) rows → IsOver k.ops den
-      → IsPoly den → ¬ (den ≡ [])
-      → map (function_of k c.fin) (elems_over rows den) ≡ map (function_on k c.fin c.c Finite) (elems_over rows den)
-  finite_rows_of [] den rows_in den_in den_poly n = refl
-  finite_rows_of (v ∷ rows) den rows_in den_in den_poly n =
-      let r = All-head (IsRow k.ops c.fin.n) v rows rows_in in
-      ap₂ ◌∷◌
-      (on_finite k c.fin c.c (record { num = v; den = den }) some
-      (record { one_each = r.size; num_over = r.over; den_over = den_in }) den_poly n)
-      (finite_rows_of rows den (All-tail (IsRow k.ops c.fin.n) v rows rows_in) den_in den_poly n)
-
-  finite_rows : (l : LatticeValue) → IsLatticeValue k.ops c.fin.n l
-      → map (function_of k c.fin) (row_elems l) ≡ map (function_on k c.fin c.c Finite) (row_elems l)
-  finite_rows l form = finite_rows_of l.rows l.den form.rows_in form.den_in form.den_poly (monic_some l.den form.monic)
-
   module _ (o : LatticeValue) (pi : List ℕ) (pi_in : IsOver k.ops pi) (irreducible : IsIrreducibleList k.ops pi)
       (Ps : List PrimeValue) where
     module _ (order : IsOrderLattice k c.fin o) (h : AreAllPrimes k c.fin o pi Ps)
         (whole : IsIntegralLattice k c Finite o) where
-      integral_of : (z : Functions k c.fin) → Contains k c.fin o z → IsIntegralAt (setting k c.fin) Finite z
-      integral_of = order_integral (equation_of k c.fin) (Contains k c.fin o) (order_set k c.fin some o order)
-
-      of_integral : (z : Functions k c.fin) → IsIntegralAt (setting k c.fin) Finite z → Contains k c.fin o z
-      of_integral z = (subst (SpansIntegral k c Finite) (sym (finite_rows o whole.form)) whole.span z).1
-
       -- all members of the place are those of the prime
       finite_same : (P : PrimeValue) → IsPrimeOf k c.fin o P → (M : Place (Functions k c.fin))
           → IsPlaceOfPrimeValue k c Finite o pi P M
@@ -120,16 +82,18 @@ module _ (k : CodeField) (c : CurveValue) (curve : IsCurve k c) where
         members = λ z.
             subst (λ gs. IsIn (setting k c.fin) M z
             ↔ Span (functions k c.fin).ops (IsPolynomial (equation_of k c.fin)) gs z)
-            (finite_rows P.rows prime.ideal.lattice) (
+            (finite_rows k c curve P.rows prime.ideal.lattice) (
               λ h.
-                  (at z (of_integral z (subst (λ r. IsIntegralAt (setting k c.fin) r z) m.above.side
-                  (m.above.place.integral z h)))).0 h,
+                  (at z ((finite_members k c curve o whole z).1 (subst (λ r. IsIntegralAt (setting k c.fin) r z)
+                  m.above.side (m.above.place.integral z h)))).0 h,
               λ h. (at z (prime.ideal.within z h)).1 h,
             );
       }
         where
           at : (z : Functions k c.fin) → Contains k c.fin o z → IsIn (setting k c.fin) M z ↔ Contains k c.fin P.rows z
-          at = members_at k c Finite pi o some (λ z. z) (λ Q. Q) (finite_place_map k c pi some) integral_of P M m
+          at =
+              members_at k c Finite pi o (lattices.some k c curve) (λ z. z) (λ Q. Q)
+              (finite_place_map k c pi (lattices.some k c curve)) (λ z. (finite_members k c curve o whole z).0) P M m
 
       finite_own : All (λ P. IsPlaceOfPrimeValue k c Finite o pi P (listed_place k c Finite (listed_prime k c Finite P))) Ps
       finite_own =
@@ -143,49 +107,20 @@ module _ (k : CodeField) (c : CurveValue) (curve : IsCurve k c) where
           (both (IsPrimeOf k c.fin o) (λ P. (M : Place (Functions k c.fin)) × IsPlaceOfPrimeValue k c Finite o pi P M) Ps
           h.primes a.places)
 
-    module _ (e : pi ≡ 0 ∷ 1 ∷ []) (order : IsOrderLattice k c.inf o) (h : AreAllPrimes k c.inf o pi Ps) where
-      some_inf : 1 ≤ c.inf.n
-      some_inf = lattices.some_inf k c curve
-
-      abbrev f : Functions k c.inf → Functions k c.fin
-      f = lattices.image_of k c curve
-
-      𝓞 : theory_orders.IsOrder (equation_of k c.inf) (Contains k c.inf o)
-      𝓞 = order_set k c.inf some_inf o order
-
-      maximal : MaximalAt (functions k c.inf).ops (of_poly (equation_of k c.inf) (x_poly k))
-          (IsIntegralAt (setting k c.inf) Finite) (Contains k c.inf o)
-      maximal =
-          let r = all_primes k c.inf some_inf o order pi pi_in irreducible Ps h in
-          subst (λ w. MaximalAt (functions k c.inf).ops (of_poly (equation_of k c.inf) (value k w))
-          (IsIntegralAt (setting k c.inf) Finite) (Contains k c.inf o)) e
-          (record_maximal (equation_of k c.inf) (value k pi) (irreducible_value k pi pi_in irreducible)
-          (Contains k c.inf o) 𝓞 r.0 r.1.record_is)
-
-      prime_is : (P : PrimeValue) → IsPrimeOf k c.inf o P
-          → IsPrime (functions k c.inf).ops (Contains k c.inf o) (Contains k c.inf P.rows)
-      prime_is P prime =
-          subst (λ rows. IsPrime (functions k c.inf).ops (Contains k c.inf o) (RowSpan (equation_of k c.inf) rows))
-          (recorded_is k c.inf some_inf o order P prime).rows
-          (recorded_prime (equation_of k c.inf) (x_poly k) (x_irreducible k) (Contains k c.inf o) 𝓞
-          (recorded k c.inf some_inf o order P prime))
-
+    module _ (e : pi ≡ 0 ∷ 1 ∷ []) (order : IsOrderLattice k c.inf o) (h : AreAllPrimes k c.inf o pi Ps)
+        (whole : IsIntegralLattice k c Infinite o) where
       -- the rows of a prime over the variable span an infinite place of it
       infinite_place : (P : PrimeValue) → IsPrimeOf k c.inf o P → P.p ≡ pi
           → IsPlaceOfPrimeValue k c Infinite o pi P (listed_place k c Infinite (listed_prime k c Infinite P))
       infinite_place P prime is =
-          let gs = map (function_of k c.inf) (row_elems P.rows) in
-          let t = prime_at_infinity k c.fin c.inf c.c f (at_infinity k c curve) (Contains k c.inf o) 𝓞 maximal
-          (Contains k c.inf P.rows) (prime_is P prime)
-          (subst (λ w. Contains k c.inf P.rows (of_poly (equation_of k c.inf) (value k w))) (is ∙ e) prime.over) gs
-          (λ z. (λ m. m, λ m. m)) in
-          subst (λ hs. IsPlaceOfPrimeValue k c Infinite o pi P (record { side = Infinite; generators = hs }))
-          (lattices.rows_are k c curve P.rows prime.ideal.lattice)
-          (prime_by_functions k c Infinite pi o some_inf f (place_at_infinity k c.fin c.inf f)
+          let t = place_of_rows k c curve o order P prime (is ∙ e) (infinite_maximal k c curve o whole) in
+          let f = lattices.image_of k c curve in
+          let some_inf = lattices.some_inf k c curve in
+          prime_by_functions k c Infinite pi o some_inf f (place_at_infinity k c.fin c.inf f)
           (infinite_place_map k c f (at_infinity k c curve) (lattices.infinite_disc k c curve) pi e)
-          (order_integral (equation_of k c.inf) (Contains k c.inf o) 𝓞) P
-          (record { side = Infinite; generators = map f gs })
-          (record { place = t.0; side = refl; over = λ e. absurd (cc) }) t.1)
+          (order_integral (equation_of k c.inf) (Contains k c.inf o) (order_set k c.inf some_inf o order)) P
+          (listed_place k c Infinite (listed_prime k c Infinite P))
+          (record { place = t.place; side = refl; over = λ e. absurd (cc) }) t.members
 
       infinite_own : All (λ P. IsPlaceOfPrimeValue k c Infinite o pi P
           (listed_place k c Infinite (listed_prime k c Infinite P))) Ps
@@ -198,7 +133,7 @@ module _ (k : CodeField) (c : CurveValue) (curve : IsCurve k c) where
         → AreAllPrimes k (presentation c s) o pi Ps → IsIntegralLattice k c s o
         → All (λ P. IsPlaceOfPrimeValue k c s o pi P (listed_place k c s (listed_prime k c s P))) Ps
     own_of Finite t order h whole = finite_own order h whole
-    own_of Infinite t order h whole = infinite_own (t refl) order h
+    own_of Infinite t order h whole = infinite_own (t refl) order h whole
 
     pub listed_places : (s : Side) → (s ≡ Infinite → pi ≡ 0 ∷ 1 ∷ []) → IsOrderLattice k (presentation c s) o
         → AreAllPrimes k (presentation c s) o pi Ps → IsIntegralLattice k c s o

@@ -2,19 +2,20 @@
 -- an order have of them (Stichtenoth, section 3.1).
 use Rattle.std.specs.Prelude.{◌≡◌, ◌≢◌, ◌↔◌, ℕ, List, [], length, map, All, AllPairs}
 use Rattle.std.specs.List.{Any}
+use Rattle.ring_theory.specs.Subsets.{Span}
 use Rattle.ff_fields.specs.Field.{CodeField}
 use Rattle.ff_poly.specs.Words.{IsPoly}
 use Rattle.ff_poly.specs.Value.{value}
 use Rattle.function_field.specs.declared.side.Side.{Side}
-use Rattle.function_field.specs.declared.side.Side.TheVariants.{Finite}
+use Rattle.function_field.specs.declared.side.Side.TheVariants.{Finite, Infinite}
 use Rattle.function_field.specs.Functions.{of_poly}
 use Rattle.function_field.specs.Places.{Place, IsPlace, IsIn, IsSamePlace, LiesOver}
 use Rattle.function_field.specs.Divisors.{HasDegree, HasRamification}
-use Rattle.function_field.specs.Values.{ElemValue, IsElem, Functions, setting, function_of, equation_of}
-use Rattle.function_field.specs.Infinity.{function_on}
+use Rattle.function_field.specs.Values.{ElemValue, IsElem, Functions, functions, setting, function_of, equation_of}
+use Rattle.function_field.specs.Infinity.{function_on, IsPolynomialOn}
 use Rattle.function_field.specs.Curves.{CurveValue}
 use Rattle.ff_lattice.specs.Lattices.{LatticeValue, Contains, row_elems}
-use Rattle.value_theory.specs.IntegralLattices.{presentation}
+use Rattle.value_theory.specs.IntegralLattices.{presentation, IsOverPowerOfT}
 use Rattle.value_theory.specs.Primes.{PrimeValue}
 
 -- a listed place: functions that span it over the ring of its side, its ramification index and its degree
@@ -26,6 +27,16 @@ pub record ListedPlace (E : Type 0) : Type 0 where
 -- the polynomial with these codes, as a function of the curve
 abbrev pub polynomial_on : (k : CodeField) (c : CurveValue) → List ℕ → Functions k c.fin
 polynomial_on k c pi = of_poly (equation_of k c.fin) (value k pi)
+
+module _ (k : CodeField) (c : CurveValue) where
+  -- On the infinite side the combinations of gs over k[t] are those over R_inf that are in k[t, 1/t][Y]. On the finite
+  -- side both rings are one.
+  abbrev pub SpansWholePlace : Side → List (Functions k c.fin) → Type 0
+  SpansWholePlace Finite gs = Unit {0}
+  SpansWholePlace Infinite gs =
+      (z : Functions k c.fin)
+      → Span (functions k c.fin).ops (IsPolynomialOn k c.fin Infinite) gs z
+      ↔ (Span (functions k c.fin).ops ((setting k c.fin).IsScalar Infinite) gs z × IsOverPowerOfT k c z)
 
 module _ (k : CodeField) (c : CurveValue) (s : Side) where
   -- the place that the functions of a listed place span

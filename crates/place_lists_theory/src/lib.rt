@@ -1,6 +1,6 @@
 //! The places of a side of a curve above a polynomial are those of the primes of an order of its presentation, and are
-//! listed by the rows of these primes where the order is that of the side's integral functions. There is no code: each
-//! theorem is the contract of a function with an empty body.
+//! listed by the rows of these primes where the order is that of the side's integral functions, which is maximal. There
+//! is no code: each theorem is the contract of a function with an empty body.
 #![tactic(auto)]
 
 ghost use Rattle.std.specs.Prelude.{◌≡◌, ℕ, List, [], ◌∷◌, map};
@@ -11,11 +11,13 @@ ghost use Rattle.function_field.specs.declared.side.Side.{Side};
 ghost use Rattle.function_field.specs.declared.side.Side.TheVariants.{Infinite};
 ghost use Rattle.function_field.specs.Curves.{CurveValue, IsCurve};
 ghost use Rattle.function_field.specs.Values.{Functions};
-ghost use Rattle.ff_lattice.specs.Lattices.{LatticeValue};
+ghost use Rattle.function_field.specs.Infinity.{function_on};
+ghost use Rattle.ff_lattice.specs.Lattices.{LatticeValue, row_elems};
 ghost use Rattle.ff_lattice.specs.Orders.{IsOrderLattice};
 ghost use Rattle.value_theory.specs.IntegralLattices.{presentation, IsIntegralLattice};
-ghost use Rattle.value_theory.specs.Primes.{PrimeValue, AreAllPrimes};
-ghost use Rattle.place_lists_theory.specs.Lists.{ListedPlace, AreAllPlacesAbove, ListSamePlaces, ArePlacesOfPrimes, listed_prime};
+ghost use Rattle.value_theory.specs.Primes.{PrimeValue, IsPrimeOf, AreAllPrimes};
+ghost use Rattle.decomposition_theory.specs.Decompositions.{IsMaximalOrderAt};
+ghost use Rattle.place_lists_theory.specs.Lists.{ListedPlace, SpansWholePlace, AreAllPlacesAbove, ListSamePlaces, ArePlacesOfPrimes, listed_prime};
 
 /// All primes of an order over an irreducible polynomial, which is t on the infinite side, are those of the places of
 /// the side above it: each is what one place has of the order, with its ramification index and its degree, and each
@@ -43,4 +45,23 @@ pub fn one_list_law()
     ensures { (k : CodeField) (c : CurveValue) (s : Side) (pi : List ℕ) (Ps Qs : List (ListedPlace (Functions k c.fin)))
         → IsCurve k c → AreAllPlacesAbove k c s pi Ps → AreAllPlacesAbove k c s pi Qs
         → ListSamePlaces k c s Ps Qs }
+{}
+
+/// The lattice of a side's integral functions is an order, which is maximal at each irreducible polynomial, and on the
+/// infinite side at t.
+pub fn integral_order_law()
+    ensures order { (k : CodeField) (c : CurveValue) (s : Side) (o : LatticeValue) → IsCurve k c
+        → IsIntegralLattice k c s o → IsOrderLattice k (presentation c s) o }
+    ensures maximal { (k : CodeField) (c : CurveValue) (s : Side) (o : LatticeValue) (pi : List ℕ) → IsCurve k c
+        → IsIntegralLattice k c s o → IsOver k.ops pi → IsIrreducibleList k.ops pi
+        → (s ≡ Infinite → pi ≡ 0 ∷ 1 ∷ []) → IsMaximalOrderAt k (presentation c s) o pi }
+{}
+
+/// On the infinite side the rows of a prime over t, of the order of the integral functions, span over k[t] what they
+/// span over the ring of the side with powers of t as denominators. On the finite side both rings are one.
+pub fn whole_place_law()
+    ensures { (k : CodeField) (c : CurveValue) (s : Side) (o : LatticeValue) (pi : List ℕ) (P : PrimeValue)
+        → IsCurve k c → IsIntegralLattice k c s o → (s ≡ Infinite → pi ≡ 0 ∷ 1 ∷ [])
+        → IsPrimeOf k (presentation c s) o P → P.p ≡ pi
+        → SpansWholePlace k c s (map (function_on k c.fin c.c s) (row_elems P.rows)) }
 {}
