@@ -143,7 +143,8 @@ module _ (k : CodeField) (c : CurveValue) (curve : IsCurve k c) (o : LatticeValu
       (row_functions k q P.rows) (λ u. (λ n. n, λ n. n)) t Q place.place place.side members (function_of k q z) m
       (h.value_is t))
     where
-      members : (u : Functions k c.inf) → Contains k c.inf o u → IsIn (setting k c.fin) Q (f u) ↔ Contains k c.inf P.rows u
+      members : (u : Functions k c.inf) → Contains k c.inf o u → IsIn (setting k c.fin) Q (f u)
+          ↔ Contains k c.inf P.rows u
       members u u_in =
           let w = member_elem k q h.positive o h.order.lattice u u_in in
           let e = w.1 in
