@@ -1,6 +1,6 @@
 -- Inverses and powers of modules over a ring O, by their members.
 use Rattle.std.proofs.Common.{◌≡◌, ℕ, suc, ◌+◌, sym, subst, arith}
-use Rattle.std.specs.Prelude.{ℤ, pos, negsuc, ◌≤ℤ◌, ◌<ℤ◌, unsigned_abs}
+use Rattle.std.specs.Prelude.{ℤ, pos, negsuc, ◌<ℤ◌, unsigned_abs}
 use Rattle.std.proofs.lemmas.Int.{ints}
 use Rattle.ring_lemmas.specs.Ring.{CommRing}
 use Rattle.ring_theory.specs.Subsets.{IsSubring, IsModule, Product}
@@ -93,9 +93,9 @@ module _ {A : Type 0} (R : CommRing A) (O : A → Type 0) (𝓞 : IsSubring R.op
   power_none I m e = subst (λ l. SameSet O (IntegerPower ops O I l)) (sym e) (λ z. (λ h. h, λ h. h))
 
   -- an exponent below 0, where J is the inverse
-  pub power_down : (I J : A → Type 0) → SameSet J (Inverse R.ops O I) → (m : ℤ) → ¬ (m ≡ pos 0) → m ≤ℤ pos 0
+  pub power_down : (I J : A → Type 0) → SameSet J (Inverse R.ops O I) → (m : ℤ) → m <ℤ pos 0
       → SameSet (Power R.ops O J (unsigned_abs m)) (IntegerPower R.ops O I m)
-  power_down I J s (pos n) some l z = absurd (omega (arith, ints))
-  power_down I J s (negsuc n) some l z =
+  power_down I J s (pos n) l z = absurd (omega (arith, ints))
+  power_down I J s (negsuc n) l z =
       let 𝓠 = inverse_is_module R O 𝓞 I in
       same_power (Inverse ops O I) J 𝓠 (same_module J (Inverse ops O I) s 𝓠) s (suc n) z

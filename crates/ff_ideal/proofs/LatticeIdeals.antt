@@ -1,6 +1,6 @@
 -- Lattices of codes that are closed under an order: their inverses and powers.
 use Rattle.std.proofs.Common.{◌≡◌, ◌↔◌, ℕ, suc, ◌+◌, ◌<◌, sym, subst}
-use Rattle.std.specs.Prelude.{ℤ, pos, ◌≤ℤ◌, ◌<ℤ◌, unsigned_abs}
+use Rattle.std.specs.Prelude.{ℤ, pos, ◌<ℤ◌, unsigned_abs}
 use Rattle.ring_lemmas.specs.Ring.{CommRing}
 use Rattle.ring_theory.specs.Subsets.{IsSubring, IsModule, Product}
 use Rattle.prime_theory.specs.Ideals.{SameSet, Inverse, Power}
@@ -85,7 +85,7 @@ module _ (k : CodeField) (p : PresValue) (positive : 0 < p.n) (o : LatticeValue)
       subst (λ x. Contains k p x z ↔ IntegerPower F.ops O I m z) (sym l_is) (power_none F O 𝓞 I m e z)
 
   pub below_zero : (l : LatticeValue) → ((z : Functions k p) → Contains k p l z ↔ IsColon k p o i z) → (m : ℤ)
-      → ¬ (m ≡ pos 0) → m ≤ℤ pos 0 → (z : Functions k p)
+      → m <ℤ pos 0 → (z : Functions k p)
       → Power (functions k p).ops (Contains k p o) (Contains k p l) (unsigned_abs m) z
       ↔ IntegerPower (functions k p).ops (Contains k p o) (Contains k p i) m z
-  below_zero l members m some le = power_down F O 𝓞 I (Contains k p l) members m some le
+  below_zero l members m less = power_down F O 𝓞 I (Contains k p l) members m less

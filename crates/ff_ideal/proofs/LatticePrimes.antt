@@ -95,13 +95,14 @@ module _ (k : CodeField) (p : PresValue) where
           ((h.powers 1).1 (subst (λ n. Power F.ops O P n (function_of k p w))
           (let e : suc m ≡ 1 + m = omega arith in e) a)))
 
-    -- the difference of the exponents of c·z and of c is the value of z
-    pub prime_value : (c z : Functions k p) (a b : ℕ) → Contains k p o c
+    -- the difference of the exponents of x, which is c·z, and of c is the value of z
+    pub prime_value : (c z x : Functions k p) → x ≡ (functions k p).◌⊗◌ c z → (a b : ℕ) → Contains k p o c
         → Contains k p o ((functions k p).◌⊗◌ c z)
-        → Power (functions k p).ops (Contains k p o) (Contains k p rows) a ((functions k p).◌⊗◌ c z)
-        → ¬ Power (functions k p).ops (Contains k p o) (Contains k p rows) (suc a) ((functions k p).◌⊗◌ c z)
+        → Power (functions k p).ops (Contains k p o) (Contains k p rows) a x
+        → ¬ Power (functions k p).ops (Contains k p o) (Contains k p rows) (suc a) x
         → Power (functions k p).ops (Contains k p o) (Contains k p rows) b c
         → ¬ Power (functions k p).ops (Contains k p o) (Contains k p rows) (suc b) c
         → HasPrimeValue k p o rows z (pos a -ℤ pos b)
-    prime_value c z a b c_in cz_in m less n fewer t =
-        value_of_powers F O ring_is P prime_is t c z a b c_in cz_in m less n fewer
+    prime_value c z x e a b c_in cz_in m less n fewer t =
+        value_of_powers F O ring_is P prime_is t c z a b c_in cz_in (subst (Power F.ops O P a) e m)
+        (λ i. less (subst (Power F.ops O P (suc a)) (sym e) i)) n fewer

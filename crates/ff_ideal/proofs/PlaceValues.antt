@@ -5,7 +5,7 @@ use Rattle.prime_theory.specs.Ideals.{Inverse, Invertible}
 use Rattle.prime_theory.specs.Orders.{MaximalAt}
 use Rattle.prime_theory.specs.Primes.{Pair}
 use Rattle.prime_theory.proofs.Primes.{ideal_module, pair_of_invertible}
-use Rattle.prime_theory.proofs.Products.{product_monotone}
+use Rattle.prime_theory.proofs.Products.{product_into, product_monotone}
 use Rattle.ff_fields.specs.Field.{CodeField}
 use Rattle.ff_fields.specs.Over.{IsOver}
 use Rattle.ff_poly.specs.Words.{IsIrreducibleList}
@@ -76,6 +76,16 @@ module _ (k : CodeField) (p : PresValue) (positive : 0 < p.n) (o : LatticeValue)
       (ideal_module (functions k p) (Contains k p o) 𝓞 (Contains k p P.rows) prime.maximal.ideal)
       (λ a m. m) (λ a. (prime.inverse a).0) (functions k p).𝟙 ((prime.product (functions k p).𝟙).1 order.one_in)
 
+  -- so that its inverse isn't within the order
+  pub inverse_outside : ¬ ((z : Functions k p) → Contains k p P.inverse z → Contains k p o z)
+  inverse_outside within =
+      prime.maximal.proper
+      (product_into (functions k p) (Contains k p P.rows) (Contains k p P.inverse) (Contains k p P.rows)
+      (record { zero_in = prime.maximal.ideal.zero_in; sum_in = prime.maximal.ideal.sum_in })
+      (λ a b m n. subst (Contains k p P.rows) ((functions k p).mul_comm b a)
+      (prime.maximal.ideal.scale_in b a (within b n) m))
+      (functions k p).𝟙 ((prime.product (functions k p).𝟙).1 order.one_in))
+
   pub prime_pair : Pair (functions k p).ops (Contains k p o) (Contains k p P.rows)
   prime_pair =
       pair_of_invertible (functions k p) (Contains k p o)
@@ -133,7 +143,8 @@ module _ (k : CodeField) (c : CurveValue) (curve : IsCurve k c) (o : LatticeValu
       (row_functions k q P.rows) (λ u. (λ n. n, λ n. n)) t Q place.place place.side members (function_of k q z) m
       (h.value_is t))
     where
-      members : (u : Functions k c.inf) → Contains k c.inf o u → IsIn (setting k c.fin) Q (f u) ↔ Contains k c.inf P.rows u
+      members : (u : Functions k c.inf) → Contains k c.inf o u → IsIn (setting k c.fin) Q (f u)
+          ↔ Contains k c.inf P.rows u
       members u u_in =
           let w = member_elem k q h.positive o h.order.lattice u u_in in
           let e = w.1 in

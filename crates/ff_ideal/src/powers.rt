@@ -75,12 +75,12 @@ pub fn power<K: SmallField>(
 {
     let degree = p.n();
     prove!(degree > 0);
-    if m == 0 {
-        return o.lattice().copy(alloc);
-    }
     if m > 0 {
         return positive_power(alloc, k, p, o, i, m.unsigned_abs());
     }
-    let j = inverse(alloc, k, p, o, i)?;
-    positive_power(alloc, k, p, o, &j, m.unsigned_abs())
+    if m < 0 {
+        let j = inverse(alloc, k, p, o, i)?;
+        return positive_power(alloc, k, p, o, &j, m.unsigned_abs());
+    }
+    o.lattice().copy(alloc)
 }

@@ -29,13 +29,13 @@ impl Model for Prime {
     ghost Value = { PrimeValue };
 
     ghost view = { λ q. record {
-        side = q.side;
-        p = q.p;
-        number = q.number;
-        e = q.e;
-        degree = q.degree;
-        rows = q.rows;
-        inverse = q.inverse;
+      side = q.side;
+      p = q.p;
+      number = q.number;
+      e = q.e;
+      degree = q.degree;
+      rows = q.rows;
+      inverse = q.inverse;
     } };
 }
 
@@ -51,13 +51,13 @@ impl Prime {
         inverse: Lattice,
     ) -> Prime
         ensures { result ≡ record {
-            side = side;
-            p = p;
-            number = number;
-            e = e;
-            degree = degree;
-            rows = rows;
-            inverse = inverse;
+          side = side;
+          p = p;
+          number = number;
+          e = e;
+          degree = degree;
+          rows = rows;
+          inverse = inverse;
         } }
     {
         Prime {

@@ -1,6 +1,6 @@
 //! The valuation of a place, at the prime that an order has of it.
 
-ghost use Rattle.std.specs.Prelude.{◌≡◌, ◌≢◌, ◌↔◌, ◌≤◌, ℕ, [], ◌∷◌, IfOk, map};
+ghost use Rattle.std.specs.Prelude.{◌≡◌, ◌≤◌, ◌<◌, [], slice_set, replicate, pos, ◌-ℤ◌, IfOk};
 ghost use Rattle.ff_fields.specs.Over.{IsOver};
 ghost use Rattle.ff_poly.specs.Words.{IsPoly, IsMonicList, IsIrreducibleList};
 ghost use Rattle.ff_poly.specs.Value.{value};
@@ -29,6 +29,27 @@ use ff_lattice::{Lattice, Order, colon, contains, polynomial_in};
 use ff_poly::Poly;
 use std::alloc::{AllocError, Global};
 
+/// n zeros.
+fn zero_row(alloc: Global, n: usize) -> Result<Vec<Poly>, AllocError>
+    ensures { IfOk result (λ row. row.items ≡ replicate n []) }
+{
+    let mut row = Vec::new(alloc);
+    for i in 0..n {
+        row.push(Poly::zero(alloc))?;
+    }
+    Ok(row)
+}
+
+/// n polynomials, the first one a and all others 0.
+fn constant_row(alloc: Global, n: usize, a: Poly) -> Result<Vec<Poly>, AllocError>
+    requires { 0 < n }
+    ensures { IfOk result (λ row. row.items ≡ slice_set (replicate n []) 0 a) }
+{
+    let mut row = zero_row(alloc, n)?;
+    row[0] = a;
+    Ok(row)
+}
+
 /// The polynomial as an element, with n numerators.
 pub fn polynomial_elem<K: SmallField>(
     alloc: Global,
@@ -43,11 +64,7 @@ pub fn polynomial_elem<K: SmallField>(
         IfOk result (λ z. (p : PresValue) → p.n ≡ n → function_of k p z ≡ of_poly (equation_of k p) (value k a)) }
     ensures in_range { IfOk result (IsElem (K.field k.now).ops n) }
 {
-    let mut num = Vec::new(alloc);
-    for i in 0..n {
-        num.push(Poly::zero(alloc))?;
-    }
-    num[0] = a;
+    let num = constant_row(alloc, n, a)?;
     let den = Poly::one(alloc)?;
     Ok(Elem::over_monic(num, den))
 }
@@ -100,6 +117,13 @@ fn denominator_in<K: SmallField>(
     polynomial_in(alloc, k, &b, degree)
 }
 
+/// The difference of two numbers.
+fn difference(a: u32, b: u32) -> i64
+    ensures { result ≡ pos a -ℤ pos b }
+{
+    i64::from(a) - i64::from(b)
+}
+
 /// The value of z at an invertible prime: the exponent of c·z less that of c, where both are in the order.
 fn quotient_value<K: SmallField>(
     alloc: Global,
@@ -135,7 +159,7 @@ fn quotient_value<K: SmallField>(
     let multiple = mul(alloc, k, p, c, z)?;
     let above = greatest_exponent(alloc, k, p, o, rows, gamma, &multiple)?;
     let below = greatest_exponent(alloc, k, p, o, rows, gamma, c)?;
-    Ok(i64::from(above) - i64::from(below))
+    Ok(difference(above, below))
 }
 
 /// v_P(z), where P is the place of the prime's side whose members in the order are those of the prime. The order is
