@@ -51,7 +51,7 @@ fn constant_row(alloc: Global, n: usize, a: Poly) -> Result<Vec<Poly>, AllocErro
 }
 
 /// The polynomial as an element, with n numerators.
-fn polynomial_elem<K: SmallField>(
+pub fn polynomial_elem<K: SmallField>(
     alloc: Global,
     k: &K,
     n: usize,
