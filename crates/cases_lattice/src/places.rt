@@ -71,7 +71,12 @@ fn order_at<K: SmallField>(
     let Some(o) = Order::new(alloc, k, p, made.lattice().copy(alloc)?)? else {
         return Err(BAD);
     };
-    if !same_lattice(alloc, k, enlarged(alloc, k, p, &o, pi)?.lattice(), o.lattice())? {
+    if !same_lattice(
+        alloc,
+        k,
+        enlarged(alloc, k, p, &o, pi)?.lattice(),
+        o.lattice(),
+    )? {
         return Err(BAD);
     }
     Ok(o)
@@ -79,7 +84,13 @@ fn order_at<K: SmallField>(
 
 // Appends the number of the prime, its ramification index, its degree and its lattice.
 fn push_prime(alloc: Global, out: &mut String, prime: &Prime) -> Result<(), AllocError> {
-    write!(out, "({} {} {}) ", prime.number(), prime.e(), prime.degree())?;
+    write!(
+        out,
+        "({} {} {}) ",
+        prime.number(),
+        prime.e(),
+        prime.degree()
+    )?;
     let rows = lattice_text(alloc, prime.rows())?;
     out.push_str(rows.as_str())
 }

@@ -187,19 +187,21 @@ one_texts k c s curve l ts us h g =
     h.are ∙ ap texts_of (same_written k c s (omega (arith, some)) (row_elems l) h.rows g.rows h.written g.written)
     ∙ sym g.are
 
+-- both have the texts of their rows, and those of the second don't come before those of the first
+abbrev Listed : CodeField → CurveValue → Side → ListedPrime → ListedPrime → Type 0
+Listed k c s l m =
+    HasRowTexts k c s l.prime.rows l.texts × HasRowTexts k c s m.prime.rows m.texts × (¬ ListedBefore m l)
+
 pub in_order : (k : CodeField) (c : CurveValue) (s : Side) → IsCurve k c → (Ps : List PrimeValue) (ls : List ListedPrime)
     (Qs : List PrimeValue) → AreListed k c s Ps ls → AllZip IsNumbered ls Qs → AreInOrder k c s Qs
 in_order k c s curve Ps ls Qs h zip =
-    pairs_right IsNumbered Listed (IsNotAfter k c s)
+    pairs_right IsNumbered (Listed k c s) (IsNotAfter k c s)
     (λ l m P Q is also listed. record {
       texts = λ ts us ts_of us_of before.
           let first = one_texts k c s curve l.prime.rows ts l.texts
-              (subst (λ (x : PrimeValue). HasRowTexts k c s x.rows ts) is.is ts_of) listed.0 in
+          (subst (λ (x : PrimeValue). HasRowTexts k c s x.rows ts) is.is ts_of) listed.0 in
           let second = one_texts k c s curve m.prime.rows us m.texts
-              (subst (λ (x : PrimeValue). HasRowTexts k c s x.rows us) also.is us_of) listed.1 in
+          (subst (λ (x : PrimeValue). HasRowTexts k c s x.rows us) also.is us_of) listed.1 in
           listed.2 (subst (λ x. IsBeforeTexts x l.texts) second (subst (IsBeforeTexts us) first before));
     })
     ls Qs zip (λ i j d less within. (h.texts i d (omega arith), h.texts j d within, h.ascending i j d less within))
-  where
-    abbrev Listed : ListedPrime → ListedPrime → Type 0
-    Listed l m = HasRowTexts k c s l.prime.rows l.texts × HasRowTexts k c s m.prime.rows m.texts × (¬ ListedBefore m l)

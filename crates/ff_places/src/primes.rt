@@ -152,15 +152,7 @@ fn primes_of_idempotents<K: SmallField>(
 {
     let mut primes = Vec::new(alloc);
     for e in es {
-        primes.push(prime_of_idempotent(
-            alloc,
-            k,
-            q,
-            side,
-            pi,
-            radical,
-            e.as_slice(),
-        )?)?;
+        primes.push(prime_of_idempotent(alloc, k, q, side, pi, radical, e.as_slice())?)?;
     }
     Ok(primes)
 }
