@@ -26,8 +26,6 @@ fn answered(alloc: Global, line: &str) -> Result<String, AllocError> {
         | "finite"
         | "infinite"
         | "start"
-        | "places"
-        | "valuation"
         | "plain"
         | "local" => curve_line(alloc, &k, word, tail),
         _ => Err(BAD),

@@ -12,7 +12,6 @@ mod infinite;
 mod lattices;
 mod operations;
 mod orders;
-mod places;
 mod quotients;
 
 use std::io;
