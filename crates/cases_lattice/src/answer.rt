@@ -26,6 +26,8 @@ fn answered(alloc: Global, line: &str) -> Result<String, AllocError> {
         | "finite"
         | "infinite"
         | "start"
+        | "places"
+        | "valuation"
         | "plain"
         | "local" => curve_line(alloc, &k, word, tail),
         _ => Err(BAD),

@@ -5,6 +5,7 @@ ghost use Rattle.function_field.specs.Curves.{IsCurve};
 use crate::enlarged::enlarged_text;
 use crate::infinite::is_member;
 use crate::lattices::lattice_text;
+use crate::places::places_text;
 use case_values::curves::curve;
 use case_values::print::decided;
 use case_values::read::parted;
@@ -26,8 +27,8 @@ fn maximal_text<K: SmallField>(
 }
 
 /// `terms:` and an argument. The maximal order of a side, or k[t][Y], of no argument; whether an element is in k[t][Y]
-/// or in its combinations over the fractions of degree at most 0; or a radical, its multipliers, or an enlargement, of
-/// polynomials.
+/// or in its combinations over the fractions of degree at most 0; the places over a polynomial, and values at them; or a
+/// radical, its multipliers, or an enlargement, of polynomials.
 pub fn curve_line<K: SmallField>(
     alloc: Global,
     k: &K,
@@ -40,6 +41,7 @@ pub fn curve_line<K: SmallField>(
         "finite" => maximal_text(alloc, k, &c, Side::Finite),
         "infinite" => maximal_text(alloc, k, &c, Side::Infinite),
         "start" => lattice_text(alloc, infinite_start(alloc, k, &c)?.lattice()),
+        "places" | "valuation" => places_text(alloc, k, &c, word, rest),
         "plain" | "local" => decided(alloc, is_member(alloc, k, &c, word, rest)?),
         _ => enlarged_text(alloc, k, &c, word, rest),
     }

@@ -19,8 +19,8 @@ use ff_order::{equation_order, maximal, multiplier, p_maximal, radical};
 use ff_poly::Poly;
 use std::alloc::{AllocError, Global};
 
-// The irreducible polynomial of the text.
-fn prime<K: SmallField>(alloc: Global, k: &K, text: &str) -> Result<Poly, AllocError>
+/// The irreducible polynomial of the text.
+pub fn prime<K: SmallField>(alloc: Global, k: &K, text: &str) -> Result<Poly, AllocError>
     ensures over { IfOk result (IsOver (K.field k.now).ops) }
     ensures irreducible { IfOk result (IsIrreducibleList (K.field k.now).ops) }
 {

@@ -12,6 +12,7 @@ mod infinite;
 mod lattices;
 mod operations;
 mod orders;
+mod places;
 mod quotients;
 
 use std::io;

@@ -1,0 +1,26 @@
+use Rattle.std.proofs.Common.{◌<◌, ◌≤◌, length, take, sym, subst, arith}
+use Rattle.std.proofs.lemmas.List.{take_all}
+use Rattle.ff_places.specs.Steps.{AreListed}
+use Rattle.ff_places.proofs.Listings.{listed_none, listed_more}
+use Rattle.ff_places.proofs.numbers.ordered.Goals as goal
+
+pub loop-prime-init : goal.loop-prime-init
+loop-prime-init g c =
+    let k = g.K.SmallField.field c.args.k.now in
+    subst (AreListed k c.args.c.now c.args.side (take 0 c.args.primes.now)) (sym c.new-list.ensures.items)
+    (listed_none k c.args.c.now c.args.side c.args.primes.now)
+
+pub loop-prime-preserved : goal.loop-prime-preserved
+loop-prime-preserved g c =
+    let k = g.K.SmallField.field c.args.k.now in
+    let less : c.loop-prime.prime-index < length c.args.primes.now = omega arith in
+    listed_more k c.args.c.now c.args.side c.args.primes.now c.loop-prime.prime-index c.prime-item.result
+    c.loop-prime.list.items c.put.new.list.items c.in_ok-x.x less c.prime-item.is c.in_ok-x.ensures.prime
+    c.in_ok-x.ensures.texts c.loop-prime.invariant c.in_ok-put.ensures
+
+pub returns : goal.returns
+returns g c =
+    let k = g.K.SmallField.field c.args.k.now in
+    let done : length c.args.primes.now ≤ c.loop-prime.prime-index = omega arith in
+    subst (λ Ps. AreListed k c.args.c.now c.args.side Ps c.loop-prime.list.items)
+    (take_all c.loop-prime.prime-index c.args.primes.now done) c.loop-prime.invariant
