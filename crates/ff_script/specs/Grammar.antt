@@ -1,12 +1,15 @@
 -- How statements are spelled on lines, byte by byte.
-use Rattle.std.specs.Prelude.{◌≡◌, ◌≢◌, ℕ, suc, ◌⊎◌, ◌||◌, ◌&&◌, ◌==◌, Bool, true, false, List, [], ◌∷◌, length, codes, Option, Some, None, IsTrue}
-use Rattle.std.specs.Char.{is_ascii_alphanumeric}
+use Rattle.std.specs.Prelude.{◌≡◌, ◌≢◌, ℕ, suc, ◌≤◌, ◌⊎◌, ◌||◌, ◌&&◌, ◌==◌, Bool, true, false, List, [], ◌∷◌, length, codes, Option, Some, None, IsTrue}
+use Rattle.std.specs.List.{AllByRecursion}
+use Rattle.std.specs.Char.{is_ascii_alphabetic, is_ascii_alphanumeric}
 use Rattle.ff_text.specs.Spelling.{Then, Is, Blanks, SpellsNumber, SpellsTerms, SpellsElement}
 use Rattle.function_field.specs.declared.side.Side.{Side}
 use Rattle.function_field.specs.declared.side.Side.TheVariants.{Finite, Infinite}
 use Rattle.ff_script.specs.declared.script.Modulus.{Modulus}
+use Rattle.ff_script.specs.declared.script.Over.{Over}
+use Rattle.ff_script.specs.declared.script.Over.TheVariants.{At, Inf}
 use Rattle.ff_script.specs.declared.script.Statement.{Statement}
-use Rattle.ff_script.specs.declared.script.Statement.TheVariants.{FieldOf, CurveOf, Mul, Factor, OrderOf}
+use Rattle.ff_script.specs.declared.script.Statement.TheVariants.{FieldOf, CurveOf, Mul, Factor, OrderOf, Places, Place}
 
 -- ---- parts with gaps between them
 
@@ -57,6 +60,29 @@ abbrev pub SpellsSide : Side → List ℕ → Type 0
 SpellsSide Finite bytes = bytes ≡ codes "finite"
 SpellsSide Infinite bytes = bytes ≡ codes "infinite"
 
+-- what places lie over: a polynomial, or the word of infinity
+abbrev pub SpellsOver : Over → List ℕ → Type 0
+SpellsOver (At g) bytes = SpellsTerms false g bytes
+SpellsOver Inf bytes = bytes ≡ codes "inf"
+
+-- the bytes begin with a letter
+abbrev pub begins_with_letter : List ℕ → Bool
+begins_with_letter [] = false
+begins_with_letter (b ∷ bs) = is_ascii_alphabetic b
+
+-- a letter, and then at most 31 letters, digits or `_`; not `x`, `y` or `inf`
+pub record IsName (name : List ℕ) : Type 0 where
+  pub letter : IsTrue (begins_with_letter name)
+  pub bytes : AllByRecursion (λ b. IsTrue (is_word_byte b)) name
+  pub few : length name ≤ 32
+  pub not_x : name ≢ codes "x"
+  pub not_y : name ≢ codes "y"
+  pub not_inf : name ≢ codes "inf"
+
+-- a name is spelled by its letters
+abbrev pub SpellsName : List ℕ → List ℕ → Type 0
+SpellsName name bytes = IsName name × (bytes ≡ name)
+
 -- the parts that spell a statement: its word, and then its numbers, its polynomial, its elements or its side; y stands
 -- in that of `curve` alone
 abbrev pub ArePartsOf : Statement → List (List ℕ) → Type 0
@@ -69,6 +95,10 @@ ArePartsOf (Mul a b) parts = (left : List ℕ) × (right : List ℕ) × (parts �
 ArePartsOf (Factor g) parts = (polynomial : List ℕ) × (parts ≡ codes "factor" ∷ polynomial ∷ [])
     × SpellsTerms false g polynomial
 ArePartsOf (OrderOf side) parts = (word : List ℕ) × (parts ≡ codes "order" ∷ word ∷ []) × SpellsSide side word
+ArePartsOf (Places over) parts = (base : List ℕ) × (parts ≡ codes "places" ∷ base ∷ []) × SpellsOver over base
+ArePartsOf (Place name over index) parts = (word : List ℕ) × (base : List ℕ) × (number : List ℕ)
+    × (parts ≡ codes "place" ∷ word ∷ codes "=" ∷ base ∷ number ∷ [])
+    × SpellsName name word × SpellsOver over base × SpellsNumber index number
 
 -- a statement
 pub record SpellsStatement (s : Statement) (bytes : List ℕ) : Type 0 where

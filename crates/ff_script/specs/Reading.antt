@@ -1,15 +1,16 @@
 -- What the functions that read a line answer.
 use Rattle.std.specs.Prelude.{◌≡◌, ℕ, Bool, true, false, List, [], ◌∷◌, ◌++◌, codes, Option, Some, None, All, IsTrue, ◌==◌, if◌then◌else◌}
-use Rattle.ff_text.specs.Spelling.{is_blank, Blanks, SpellsNumber, SpellsTerms, SpellsElement}
+use Rattle.ff_text.specs.Spelling.{Is, is_blank, Blanks, SpellsNumber, SpellsTerms, SpellsElement}
 use Rattle.ff_text.specs.declared.terms.Term.{Term}
 use Rattle.ff_text.specs.declared.terms.ElemText.{ElemText}
 use Rattle.function_field.specs.declared.side.Side.{Side}
 use Rattle.ff_script.specs.declared.fault.ScriptFault.{ScriptFault}
 use Rattle.ff_script.specs.declared.fault.ScriptFault.TheVariants.{Syntax, Misplaced, Memory}
 use Rattle.ff_script.specs.declared.script.Modulus.{Modulus}
+use Rattle.ff_script.specs.declared.script.Over.{Over}
 use Rattle.ff_script.specs.declared.script.Statement.{Statement}
-use Rattle.ff_script.specs.declared.script.Statement.TheVariants.{FieldOf, CurveOf, Mul, Factor, OrderOf}
-use Rattle.ff_script.specs.Grammar.{begins_with_word, ends_with_word, numbers_of, IsWhole, SpellsSide, IsInGrammar}
+use Rattle.ff_script.specs.declared.script.Statement.TheVariants.{FieldOf, CurveOf, Mul, Factor, OrderOf, Places, Place}
+use Rattle.ff_script.specs.Grammar.{begins_with_word, ends_with_word, numbers_of, IsWhole, SpellsSide, SpellsOver, SpellsName, IsInGrammar}
 use Rattle.ff_script.specs.Scripts.{IsReadAs, IsInOrder, IsOutOfOrder}
 
 -- the value that the bytes spell, or none where they spell nothing
@@ -63,6 +64,30 @@ pub record IsElementFront (e : ElemText) (bytes rest : List ℕ) : Type 0 where
   pub front : IsFront (SpellsElement e) bytes rest
   pub behind : IsTrue (is_behind_element rest)
 
+-- what places lie over, up to the end of the bytes
+abbrev pub IsOverAt : Over → List ℕ → Type 0
+IsOverAt over bytes = IsFront (SpellsOver over) bytes []
+
+-- a polynomial at the front of the bytes, with a letter, a digit or `_` behind its blanks
+pub record IsTermsFront (g : List Term) (bytes rest : List ℕ) : Type 0 where
+  pub front : IsFront (SpellsTerms false g) bytes rest
+  pub behind : begins_with_word rest ≡ true
+
+-- what places lie over at the front of the bytes, with a letter, a digit or `_` behind its blanks
+pub record IsOverFront (over : Over) (bytes rest : List ℕ) : Type 0 where
+  pub front : IsFront (SpellsOver over) bytes rest
+  pub behind : begins_with_word rest ≡ true
+
+-- what places lie over, and a number up to the end of the bytes
+abbrev pub IsPlaceAt : Over → ℕ → List ℕ → Type 0
+IsPlaceAt over index bytes = (rest : List ℕ) × IsFront (SpellsOver over) bytes rest
+    × IsFront (SpellsNumber index) rest []
+
+-- a name and an `=` at the front of the bytes
+abbrev pub IsNameFront : List ℕ → List ℕ → List ℕ → Type 0
+IsNameFront name bytes rest = (behind : List ℕ) × IsFront (SpellsName name) bytes behind
+    × IsFront (Is (codes "=")) behind rest
+
 -- what stands behind the word of a statement
 abbrev pub IsBehind : List ℕ → Statement → List ℕ → Type 0
 IsBehind word (FieldOf p tail) bytes = (word ≡ codes "field") × IsWhole tail × AreNumbersAt (p ∷ numbers_of tail) bytes
@@ -71,6 +96,9 @@ IsBehind word (Mul a b) bytes = (word ≡ codes "mul")
     × ((rest : List ℕ) × IsFront (SpellsElement a) bytes rest × IsFront (SpellsElement b) rest [])
 IsBehind word (Factor g) bytes = (word ≡ codes "factor") × AreTermsAt false g bytes
 IsBehind word (OrderOf side) bytes = (word ≡ codes "order") × IsSideAt side bytes
+IsBehind word (Places over) bytes = (word ≡ codes "places") × IsOverAt over bytes
+IsBehind word (Place name over index) bytes = (word ≡ codes "place")
+    × ((rest : List ℕ) × IsNameFront name bytes rest × IsPlaceAt over index rest)
 
 -- ---- while a script is read
 

@@ -5,7 +5,7 @@ use Rattle.std.specs.Global.{Vec}
 use Rattle.ff_script.specs.declared.fault.ScriptFault.{ScriptFault}
 use Rattle.ff_script.specs.declared.fault.ScriptFault.TheVariants.{Syntax, Misplaced, Memory}
 use Rattle.ff_script.specs.declared.script.Statement.{Statement}
-use Rattle.ff_script.specs.declared.script.Statement.TheVariants.{FieldOf, CurveOf, Mul, Factor, OrderOf}
+use Rattle.ff_script.specs.declared.script.Statement.TheVariants.{FieldOf, CurveOf, Mul, Factor, OrderOf, Places, Place}
 use Rattle.ff_script.specs.Grammar.{SpellsLine, IsSkipped, IsInGrammar}
 
 -- an empty last piece is no line
@@ -32,6 +32,8 @@ MayFollow k (CurveOf f) = k ≡ 1
 MayFollow k (Mul a b) = 2 ≤ k
 MayFollow k (Factor g) = 2 ≤ k
 MayFollow k (OrderOf side) = 2 ≤ k
+MayFollow k (Places over) = 2 ≤ k
+MayFollow k (Place name over index) = 2 ≤ k
 
 -- each statement may stand behind those before it, and behind k others
 abbrev pub AreInOrderFrom : ℕ → List Statement → Type 0

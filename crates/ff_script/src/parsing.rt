@@ -25,7 +25,7 @@ fn may_follow(count: usize, s: &Statement) -> bool
     match s {
         Statement::FieldOf { .. } => count == 0,
         Statement::CurveOf { .. } => count == 1,
-        Statement::Mul { .. } | Statement::Factor { .. } | Statement::OrderOf { .. } => count >= 2,
+        _ => count >= 2,
     }
 }
 

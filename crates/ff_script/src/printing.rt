@@ -1,9 +1,9 @@
 //! Prints statements. What appends to a buffer leaves a part of the text there after an error.
 
 ghost use Rattle.std.specs.Prelude.{◌≡◌, ◌++◌, codes, IfOk, OnOk};
-ghost use Rattle.ff_script.specs.Printing.{numbers_text, tail_text, side_text, statement_text};
+ghost use Rattle.ff_script.specs.Printing.{numbers_text, tail_text, side_text, over_text, place_text, statement_text};
 
-use crate::script::{Modulus, Statement};
+use crate::script::{Modulus, Name, Over, Statement};
 use ff_text::number::push_number;
 use ff_text::{push_element, push_terms};
 use function_field::Side;
@@ -54,6 +54,32 @@ fn push_side(out: &mut Vec<u8>, side: Side) -> Result<(), AllocError>
     Ok(())
 }
 
+/// What places lie over.
+fn push_over(out: &mut Vec<u8>, over: &Over) -> Result<(), AllocError>
+    ensures { OnOk result (out.new.items ≡ out.old.items ++ over_text over.now) }
+{
+    match over {
+        Over::At(terms) => push_terms(out, terms),
+        Over::Inf => out.extend_from_slice(b"inf"),
+    }
+}
+
+/// What stands behind the word of `place`.
+fn push_place(
+    out: &mut Vec<u8>,
+    name: &Name,
+    over: &Over,
+    index: u32,
+) -> Result<(), AllocError>
+    ensures { OnOk result (out.new.items ≡ out.old.items ++ place_text name.now over.now index) }
+{
+    out.extend_from_slice(name.letters.as_slice())?;
+    out.extend_from_slice(b" = ")?;
+    push_over(out, over)?;
+    out.push(b' ')?;
+    push_number(out, u64::from(index))
+}
+
 /// The text of a statement at the end of the buffer, without a line feed.
 pub fn push_statement(out: &mut Vec<u8>, s: &Statement) -> Result<(), AllocError>
     ensures { OnOk result (out.new.items ≡ out.old.items ++ statement_text s.now) }
@@ -81,6 +107,14 @@ pub fn push_statement(out: &mut Vec<u8>, s: &Statement) -> Result<(), AllocError
         Statement::OrderOf { side } => {
             out.extend_from_slice(b"order ")?;
             push_side(out, *side)
+        }
+        Statement::Places { over } => {
+            out.extend_from_slice(b"places ")?;
+            push_over(out, over)
+        }
+        Statement::Place { name, over, index } => {
+            out.extend_from_slice(b"place ")?;
+            push_place(out, name, over, *index)
         }
     }
 }

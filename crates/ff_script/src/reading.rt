@@ -1,13 +1,16 @@
 //! Reads the statement of a line.
 
-ghost use Rattle.std.specs.Prelude.{◌≡◌, ◌↔◌, List, [], ℕ, IsTrue, IfOk, IfErr, MatchOption, codes};
+ghost use Rattle.std.specs.Prelude.{◌≡◌, ◌↔◌, ◌++◌, false, List, [], ℕ, IsTrue, IfOk, IfErr, MatchOption, codes};
+ghost use Rattle.std.specs.List.{AllByRecursion};
 ghost use Rattle.ff_text.specs.Spelling.{Is, is_blank, SpellsNumber, SpellsTerms};
 ghost use Rattle.ff_text.specs.Reading.{IsLongestSpelling, IsReadFault};
+ghost use Rattle.ff_text.specs.declared.terms.Term.{Term};
 ghost use Rattle.ff_text.specs.declared.terms.ElemText.{ElemText};
-ghost use Rattle.ff_script.specs.Grammar.{begins_with_word, ends_with_word, SpellsLine, IsSkipped};
-ghost use Rattle.ff_script.specs.Reading.{IsReading, behind_blanks, IsFront, AreNumbersAt, IsModulusAt, AreTermsAt, IsSideAt, is_behind_element, IsElementFront, IsBehind};
+ghost use Rattle.ff_script.specs.declared.script.Over.{Over};
+ghost use Rattle.ff_script.specs.Grammar.{is_word_byte, begins_with_word, ends_with_word, IsName, SpellsOver, SpellsLine, IsSkipped};
+ghost use Rattle.ff_script.specs.Reading.{IsReading, behind_blanks, IsFront, AreNumbersAt, IsModulusAt, AreTermsAt, IsSideAt, IsOverAt, IsTermsFront, IsOverFront, IsPlaceAt, IsNameFront, is_behind_element, IsElementFront, IsBehind};
 
-use crate::script::{CodeList, Modulus, Statement};
+use crate::script::{CodeList, Modulus, Name, Over, Statement};
 use ff_text::{
     ElemText, TermList, TextFault, read_element, read_number, read_terms, read_terms_in_x,
 };
@@ -21,12 +24,19 @@ fn is_blank(b: u8) -> bool
     b == b' ' || b == b'\t' || b == b'\r'
 }
 
+/// A letter, a digit or `_`.
+fn is_word_byte(b: u8) -> bool
+    ensures { result ≡ is_word_byte b }
+{
+    b.is_ascii_alphanumeric() || b == b'_'
+}
+
 /// The first byte is a letter, a digit or `_`.
 fn begins_with_word(bytes: &[u8]) -> bool
     ensures { result ≡ begins_with_word bytes.now }
 {
     match bytes {
-        [first, ..] => first.is_ascii_alphanumeric() || *first == b'_',
+        [first, ..] => is_word_byte(*first),
         [] => false,
     }
 }
@@ -260,6 +270,140 @@ fn order(bytes: &[u8]) -> Option<Statement>
     }
 }
 
+/// The polynomial in x that the bytes begin with, if a letter, a digit or `_` stands behind the blanks after it; and
+/// what stands there.
+fn next_terms(alloc: Global, bytes: &[u8]) -> Result<Option<(TermList, &[u8])>, AllocError>
+    ensures { IfOk result (λ o. MatchOption o
+        ((g : List Term) (rest : List ℕ) → ¬ IsTermsFront g bytes.now rest)
+        (λ x. IsTermsFront x.0 bytes.now x.1.now)) }
+{
+    let (g, end) = match longest_terms(alloc, false, bytes) {
+        Ok(read) => read,
+        Err(TextFault::Memory) => return Err(AllocError),
+        Err(TextFault::Syntax(_)) => return Ok(None),
+        Err(TextFault::CodeRange(_)) => unreachable!(),
+    };
+    let rest = behind_blanks(&bytes[end..]);
+    if begins_with_word(rest) {
+        return Ok(Some((g, rest)));
+    }
+    Ok(None)
+}
+
+/// What places lie over, of bytes that it is.
+fn over_at(alloc: Global, bytes: &[u8]) -> Result<Option<Over>, AllocError>
+    ensures { IfOk result (IsReading IsOverAt bytes.now) }
+{
+    if is_word(bytes, b"inf") {
+        return Ok(Some(Over::Inf));
+    }
+    match polynomial(alloc, false, bytes)? {
+        Some(g) => Ok(Some(Over::At(g))),
+        None => Ok(None),
+    }
+}
+
+/// What places lie over, of bytes that begin with it, if a letter, a digit or `_` stands behind the blanks after it; and
+/// what stands there.
+fn next_over(alloc: Global, bytes: &[u8]) -> Result<Option<(Over, &[u8])>, AllocError>
+    ensures { IfOk result (λ o. MatchOption o
+        ((over : Over) (rest : List ℕ) → ¬ IsOverFront over bytes.now rest)
+        (λ x. IsOverFront x.0 bytes.now x.1.now)) }
+{
+    if let Some(rest) = behind_word(bytes, b"inf") {
+        if begins_with_word(rest) {
+            return Ok(Some((Over::Inf, rest)));
+        }
+        return Ok(None);
+    }
+    match next_terms(alloc, bytes)? {
+        Some((g, rest)) => Ok(Some((Over::At(g), rest))),
+        None => Ok(None),
+    }
+}
+
+/// The statement `places`, of what stands behind its word.
+fn places(alloc: Global, bytes: &[u8]) -> Result<Option<Statement>, AllocError>
+    ensures { IfOk result (IsReading (IsBehind (codes "places")) bytes.now) }
+{
+    match over_at(alloc, bytes)? {
+        Some(over) => Ok(Some(Statement::Places { over })),
+        None => Ok(None),
+    }
+}
+
+/// The bytes up to the first that is no letter, digit or `_`, and those from there on.
+fn split_word(bytes: &[u8]) -> (&[u8], &[u8])
+    ensures whole { bytes.now ≡ result.0.now ++ result.1.now }
+    ensures word { AllByRecursion (λ b. IsTrue (is_word_byte b)) result.0.now }
+    ensures end { begins_with_word result.1.now ≡ false }
+{
+    match bytes.iter().position(|b| !is_word_byte(*b)) {
+        Some(end) => (&bytes[..end], &bytes[end..]),
+        None => (bytes, &bytes[bytes.len()..]),
+    }
+}
+
+/// Whether the word is a name: at most 32 bytes from a letter on, and not `x`, `y` or `inf`.
+fn is_name(word: &[u8]) -> bool
+    requires { AllByRecursion (λ b. IsTrue (is_word_byte b)) word.now }
+    ensures { IsTrue result ↔ IsName word.now }
+{
+    let begins = match word {
+        [first, ..] => first.is_ascii_alphabetic(),
+        [] => false,
+    };
+    begins && word.len() <= 32 && word != b"x" && word != b"y" && word != b"inf"
+}
+
+/// The name that the bytes begin with, and what stands behind the blanks after the `=` that follows.
+fn next_name(alloc: Global, bytes: &[u8]) -> Result<Option<(Name, &[u8])>, AllocError>
+    ensures { IfOk result (λ o. MatchOption o
+        ((name : List ℕ) (rest : List ℕ) → ¬ IsNameFront name bytes.now rest)
+        (λ x. IsNameFront x.0 bytes.now x.1.now)) }
+{
+    let (word, rest) = split_word(bytes);
+    if !is_name(word) {
+        return Ok(None);
+    }
+    let Some(behind) = behind_blanks(rest).strip_prefix(b"=") else {
+        return Ok(None);
+    };
+    let letters = word.to_vec(alloc)?;
+    Ok(Some((Name { letters }, behind_blanks(behind))))
+}
+
+/// What places lie over, and the number that the bytes end with.
+fn place_at(alloc: Global, bytes: &[u8]) -> Result<Option<(Over, u32)>, AllocError>
+    ensures { IfOk result (λ o. MatchOption o
+        ((over : Over) (index : ℕ) → ¬ IsPlaceAt over index bytes.now)
+        (λ x. IsPlaceAt x.0 x.1 bytes.now)) }
+{
+    let Some((over, rest)) = next_over(alloc, bytes)? else {
+        return Ok(None);
+    };
+    let Some((index, rest)) = next_number(rest) else {
+        return Ok(None);
+    };
+    if rest.is_empty() {
+        return Ok(Some((over, index)));
+    }
+    Ok(None)
+}
+
+/// The statement `place`, of what stands behind its word.
+fn place(alloc: Global, bytes: &[u8]) -> Result<Option<Statement>, AllocError>
+    ensures { IfOk result (IsReading (IsBehind (codes "place")) bytes.now) }
+{
+    let Some((name, rest)) = next_name(alloc, bytes)? else {
+        return Ok(None);
+    };
+    match place_at(alloc, rest)? {
+        Some((over, index)) => Ok(Some(Statement::Place { name, over, index })),
+        None => Ok(None),
+    }
+}
+
 /// The statement that a line spells, given without its line feed. Linear in the bytes.
 ///
 /// A line that a script skips spells none.
@@ -279,6 +423,12 @@ pub fn read_statement(alloc: Global, line: &[u8]) -> Result<Option<Statement>, A
     }
     if let Some(rest) = behind_word(bytes, b"factor") {
         return factor(alloc, rest);
+    }
+    if let Some(rest) = behind_word(bytes, b"places") {
+        return places(alloc, rest);
+    }
+    if let Some(rest) = behind_word(bytes, b"place") {
+        return place(alloc, rest);
     }
     match behind_word(bytes, b"order") {
         Some(rest) => Ok(order(rest)),

@@ -28,6 +28,27 @@ pub struct Modulus {
     pub codes: CodeList,
 }
 
+/// The name of a place as it is written: a letter, and then letters, digits or `_`.
+#[derive(Debug, Drop)]
+pub struct Name {
+    pub letters: Vec<u8>,
+}
+
+impl Model for Name {
+    ghost use Rattle.std.specs.Prelude.{ℕ, List};
+
+    ghost Value = { List ℕ };
+
+    ghost view = { λ n. n.letters.items };
+}
+
+/// What places lie over: a polynomial in x as it is written, or infinity.
+#[derive(Debug, Drop)]
+pub enum Over {
+    At(TermList),
+    Inf,
+}
+
 /// A statement of a script.
 #[derive(Debug, Drop)]
 pub enum Statement {
@@ -41,6 +62,10 @@ pub enum Statement {
     Factor { g: TermList },
     /// `order finite` or `order infinite`
     OrderOf { side: Side },
+    /// `places p` or `places inf`
+    Places { over: Over },
+    /// `place P = p i` or `place P = inf i`
+    Place { name: Name, over: Over, index: u32 },
 }
 
 impl CodeList {
@@ -60,6 +85,28 @@ impl Modulus {
     {
         let codes = self.codes.copy(alloc)?;
         Ok(Modulus { m: self.m, codes })
+    }
+}
+
+impl Name {
+    /// An equal name, in memory of its own.
+    pub fn copy(&self, alloc: Global) -> Result<Name, AllocError>
+        ensures { IfOk result (λ n. n ≡ self.now) }
+    {
+        let letters = self.letters.as_slice().to_vec(alloc)?;
+        Ok(Name { letters })
+    }
+}
+
+impl Over {
+    /// What is equal, in memory of its own.
+    pub fn copy(&self, alloc: Global) -> Result<Over, AllocError>
+        ensures { IfOk result (λ o. o ≡ self.now) }
+    {
+        match self {
+            Over::At(terms) => Ok(Over::At(terms.copy(alloc)?)),
+            Over::Inf => Ok(Over::Inf),
+        }
     }
 }
 
@@ -97,6 +144,16 @@ impl Statement {
                 Ok(Statement::Factor { g })
             }
             Statement::OrderOf { side } => Ok(Statement::OrderOf { side: *side }),
+            Statement::Places { over } => {
+                let over = over.copy(alloc)?;
+                Ok(Statement::Places { over })
+            }
+            Statement::Place { name, over, index } => {
+                let name = name.copy(alloc)?;
+                let over = over.copy(alloc)?;
+                let index = *index;
+                Ok(Statement::Place { name, over, index })
+            }
         }
     }
 }
