@@ -9,4 +9,5 @@ pub mod Infinity
 pub mod InfiniteSpans
 pub mod Discriminant
 pub mod Curves
+pub mod PlaceLists
 pub mod Indices

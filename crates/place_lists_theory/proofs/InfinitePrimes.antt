@@ -21,7 +21,8 @@ use Rattle.value_theory.specs.Primes.{PrimeValue, IsPrimeOf}
 use Rattle.value_theory.proofs.Bridge.{order_set}
 use Rattle.value_theory.proofs.InfiniteLattices.{some_inf, image_of, rows_are}
 use Rattle.value_theory.proofs.Primes.{recorded, recorded_is}
-use Rattle.place_lists_theory.specs.Lists.{listed_place, listed_prime}
+use Rattle.function_field.specs.PlaceLists.{listed_place}
+use Rattle.place_lists_theory.specs.Lists.{listed_prime}
 use Rattle.place_lists_theory.proofs.PlacesOfPrimes.{at_infinity}
 
 module _ (k : CodeField) (c : CurveValue) (curve : IsCurve k c) (o : LatticeValue) (order : IsOrderLattice k c.inf o)

@@ -22,7 +22,8 @@ use Rattle.value_theory.specs.IntegralLattices.{presentation, IsIntegralLattice}
 use Rattle.value_theory.specs.Primes.{PrimeValue, IsPrimeOf, AreAllPrimes}
 use Rattle.value_theory.proofs.Bridge.{order_set}
 use Rattle.value_theory.proofs.InfiniteLattices as lattices
-use Rattle.place_lists_theory.specs.Lists.{polynomial_on, listed_place, listed_prime, IsPlaceAbove, AreAllPlacesAbove, IsPlaceOfPrimeValue, ArePlacesOfPrimes}
+use Rattle.function_field.specs.PlaceLists.{polynomial_on, listed_place, IsPlaceAbove, AreAllPlacesAbove}
+use Rattle.place_lists_theory.specs.Lists.{listed_prime, IsPlaceOfPrimeValue, ArePlacesOfPrimes}
 use Rattle.place_lists_theory.proofs.InfinitePrimes.{place_of_rows}
 use Rattle.place_lists_theory.proofs.IntegralOrders.{finite_rows, finite_members, infinite_maximal}
 use Rattle.place_lists_theory.proofs.Moved.{prime_along, members_at, prime_by_functions}

@@ -16,7 +16,8 @@ use Rattle.ff_lattice.specs.Lattices.{LatticeValue, Contains}
 use Rattle.value_theory.specs.IntegralLattices.{presentation}
 use Rattle.value_theory.specs.Laws.{IsRecordOf}
 use Rattle.value_theory.specs.Primes.{PrimeValue}
-use Rattle.place_lists_theory.specs.Lists.{polynomial_on, IsPlaceAbove, IsPlaceOfPrimeValue}
+use Rattle.function_field.specs.PlaceLists.{polynomial_on, IsPlaceAbove}
+use Rattle.place_lists_theory.specs.Lists.{IsPlaceOfPrimeValue}
 use Rattle.place_lists_theory.proofs.Along.{place_along, over_along, degree_along, ramified_along}
 use Rattle.place_lists_theory.proofs.Elements.{element_of}
 use Rattle.place_lists_theory.proofs.PlaceMaps.{IsPlaceBelow, IsPlaceMap}

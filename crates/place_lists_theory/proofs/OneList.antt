@@ -18,7 +18,7 @@ use Rattle.places_theory.proofs.SamePlaces.{same_place_sym, same_place_trans}
 use Rattle.places_theory.proofs.Valuations.{valuation_unique}
 use Rattle.divisor_theory.proofs.Degrees.{total_degree_once}
 use Rattle.value_theory.proofs.InfiniteLattices.{finite_disc}
-use Rattle.place_lists_theory.specs.Lists.{ListedPlace, polynomial_on, listed_place, IsPlaceAbove, AreAllPlacesAbove, ListSamePlaces}
+use Rattle.function_field.specs.PlaceLists.{ListedPlace, polynomial_on, listed_place, IsPlaceAbove, AreAllPlacesAbove, ListSamePlaces}
 use Rattle.place_lists_theory.proofs.Along.{degree_along, ramified_along}
 use Rattle.place_lists_theory.proofs.AtMost.{at_most}
 

@@ -18,7 +18,7 @@ use Rattle.places_theory.proofs.SamePlaces.{same_place_refl}
 use Rattle.infinite_theory.specs.InfiniteMaps.{IsInfiniteMap, IsCombinationAtInfinity, place_at_infinity}
 use Rattle.infinite_theory.proofs.PlaceMaps.{place_of, members_of, degree_of, value_of, every_place}
 use Rattle.value_theory.specs.IntegralLattices.{presentation}
-use Rattle.place_lists_theory.specs.Lists.{polynomial_on, IsPlaceAbove}
+use Rattle.function_field.specs.PlaceLists.{polynomial_on, IsPlaceAbove}
 use Rattle.place_lists_theory.proofs.Elements.{on_finite}
 
 module _ (k : CodeField) (c : CurveValue) (s : Side) (pi : List ℕ) where

@@ -24,7 +24,8 @@ use Rattle.value_theory.specs.Primes.{PrimeValue, AreAllPrimes}
 use Rattle.value_theory.proofs.AllPrimes.{all_primes}
 use Rattle.value_theory.proofs.Bridge.{order_set}
 use Rattle.value_theory.proofs.InfiniteLattices as lattices
-use Rattle.place_lists_theory.specs.Lists.{polynomial_on, IsPlaceOfPrimeValue, ArePlacesOfPrimes}
+use Rattle.function_field.specs.PlaceLists.{polynomial_on}
+use Rattle.place_lists_theory.specs.Lists.{IsPlaceOfPrimeValue, ArePlacesOfPrimes}
 use Rattle.place_lists_theory.proofs.Moved.{place_exists, ramified_is, degree_is, place_given, different_is, once_is}
 use Rattle.place_lists_theory.proofs.PlaceMaps.{IsPlaceMap, finite_place_map, infinite_place_map}
 use Rattle.place_lists_theory.proofs.RecordLists.{all_of_records, any_of_records, pairs_of_records}

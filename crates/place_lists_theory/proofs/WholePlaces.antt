@@ -15,7 +15,8 @@ use Rattle.ff_lattice.specs.Lattices.{LatticeValue, Contains, row_elems}
 use Rattle.value_theory.specs.IntegralLattices.{presentation, IsOverPowerOfT, IsIntegralLattice}
 use Rattle.value_theory.specs.Primes.{PrimeValue, IsPrimeOf}
 use Rattle.value_theory.proofs.InfiniteLattices.{image_of, rows_are, power_to, power_from, integral_members}
-use Rattle.place_lists_theory.specs.Lists.{SpansWholePlace, listed_place, listed_prime}
+use Rattle.function_field.specs.PlaceLists.{listed_place}
+use Rattle.place_lists_theory.specs.Lists.{SpansWholePlace, listed_prime}
 use Rattle.place_lists_theory.proofs.IntegralOrders.{integral_order, infinite_maximal}
 use Rattle.place_lists_theory.proofs.InfinitePrimes.{IsPlaceOfRows, place_of_rows}
 use Rattle.place_lists_theory.proofs.PlacesOfPrimes.{at_infinity}

@@ -17,7 +17,8 @@ ghost use Rattle.ff_lattice.specs.Orders.{IsOrderLattice};
 ghost use Rattle.value_theory.specs.IntegralLattices.{presentation, IsIntegralLattice};
 ghost use Rattle.value_theory.specs.Primes.{PrimeValue, IsPrimeOf, AreAllPrimes};
 ghost use Rattle.decomposition_theory.specs.Decompositions.{IsMaximalOrderAt};
-ghost use Rattle.place_lists_theory.specs.Lists.{ListedPlace, SpansWholePlace, AreAllPlacesAbove, ListSamePlaces, ArePlacesOfPrimes, listed_prime};
+ghost use Rattle.function_field.specs.PlaceLists.{ListedPlace, AreAllPlacesAbove, ListSamePlaces};
+ghost use Rattle.place_lists_theory.specs.Lists.{SpansWholePlace, ArePlacesOfPrimes, listed_prime};
 
 /// All primes of an order over an irreducible polynomial, which is t on the infinite side, are those of the places of
 /// the side above it: each is what one place has of the order, with its ramification index and its degree, and each
