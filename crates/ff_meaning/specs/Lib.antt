@@ -5,3 +5,4 @@ pub mod Meaning
 pub mod Refusals
 pub mod Texts
 pub mod Elements
+pub mod Bases

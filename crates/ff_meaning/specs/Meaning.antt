@@ -1,12 +1,16 @@
 -- What polynomials and elements of a script mean over a field.
 use Rattle.std.specs.Prelude.{◌≡◌, ℕ, ◌<◌, ◌-◌, List, [], ◌∷◌, ◌++◌, length, get_or, max, find, flat_map, nat_le, All, Option, Some, None}
 use Rattle.ff_fields.specs.Field.{FieldOps}
-use Rattle.ff_poly.specs.Words.{IsPoly}
+use Rattle.ff_poly.specs.Words.{IsPoly, IsIrreducibleList}
 use Rattle.ff_poly.specs.TermWords.{IsTerms, code_at}
 use Rattle.function_field.specs.Values.{ElemValue}
 use Rattle.ff_text.specs.declared.terms.Term.{Term}
 use Rattle.ff_text.specs.declared.terms.ElemText.{ElemText}
 use Rattle.ff_text.specs.Values.{triples_of, written_codes}
+use Rattle.function_field.specs.declared.side.Side.{Side}
+use Rattle.function_field.specs.declared.side.Side.TheVariants.{Finite, Infinite}
+use Rattle.ff_script.specs.declared.script.Over.{Over}
+use Rattle.ff_script.specs.declared.script.Over.TheVariants.{At, Inf}
 
 -- the codes that are written in a denominator, and in an element, in their order
 abbrev pub codes_of_den : Option (List Term) → List ℕ
@@ -53,6 +57,11 @@ module _ (k : FieldOps) where
   pub record IsElementOf (e : ElemText) (z : ElemValue) : Type 0 where
     pub numerators : ArePolysOf e.entries z.num
     pub denominator : IsDenOf e.den z.den
+
+  -- the side of the places, and the irreducible polynomial in its variable that they lie over: that is 1/x at infinity
+  abbrev pub IsBase : Over → Side → List ℕ → Type 0
+  IsBase (At g) s p = (s ≡ Finite) × IsPolyOf g p × IsIrreducibleList k p
+  IsBase Inf s p = (s ≡ Infinite) × (p ≡ 0 ∷ 1 ∷ [])
 
 -- the greatest of the degrees of polynomials, 0 where there are none
 abbrev pub greatest_degree : List (List ℕ) → ℕ

@@ -2,12 +2,14 @@
 //! they are written, and the one way in which a function is written.
 #![tactic(auto)]
 
+pub mod bases;
 pub mod elements;
 pub mod fields;
 pub mod laws;
 pub mod polynomials;
 pub mod refusal;
 
+pub use bases::{Base, base};
 pub use elements::element;
 pub use fields::{by_tables, field, field_refusal};
 pub use polynomials::{degree_in_x, polynomial, sum};

@@ -6,6 +6,7 @@ ghost use Rattle.ff_meaning.specs.Texts.{refusal_text, refusal_words, one_value,
 
 use ff_algebra::curve::CurveFault;
 use ff_poly::Poly;
+use ff_script::Name;
 use ff_text::number::push_number;
 use ff_text::printed::push_poly;
 use std::alloc::{AllocError, AllocFailed, Global};
@@ -30,6 +31,16 @@ pub enum Refusal {
     LimitDisc(usize),
     /// c·n·(n-1), which is above 224, for the curve's infinity number c and its degree n in y.
     LimitInf(u32),
+    /// The name, which is bound already.
+    NameTaken(Name),
+    /// n times the degree of a polynomial over which places are asked for, which is above 512, for the degree n of the
+    /// curve in y. The degree of 0 counts as 0.
+    LimitPlace(u64),
+    /// Why a polynomial isn't irreducible and monic: the polynomial itself where it is constant, else its top
+    /// coefficient where that isn't 1, else its first irreducible factor.
+    NotIrreducible(Poly),
+    /// The number that was asked for, which is 0 or above the number of places; and that number.
+    NoSuchPlace(u32, u32),
     /// A written code that is the size of the field or more.
     CodeRange(u32),
     /// The number of an element's entries, which isn't the degree of the curve in y.
@@ -68,6 +79,10 @@ impl Refusal {
             Refusal::NotSeparable => Ok(Refusal::NotSeparable),
             Refusal::LimitDisc(d) => Ok(Refusal::LimitDisc(*d)),
             Refusal::LimitInf(d) => Ok(Refusal::LimitInf(*d)),
+            Refusal::NameTaken(name) => Ok(Refusal::NameTaken(name.copy(alloc)?)),
+            Refusal::LimitPlace(d) => Ok(Refusal::LimitPlace(*d)),
+            Refusal::NotIrreducible(h) => Ok(Refusal::NotIrreducible(h.copy(alloc)?)),
+            Refusal::NoSuchPlace(i, r) => Ok(Refusal::NoSuchPlace(*i, *r)),
             Refusal::CodeRange(c) => Ok(Refusal::CodeRange(*c)),
             Refusal::Length(n) => Ok(Refusal::Length(*n)),
             Refusal::Zero => Ok(Refusal::Zero),
@@ -148,6 +163,16 @@ fn push_words(out: &mut Vec<u8>, r: &Refusal) -> Result<(), AllocError>
         Refusal::NotSeparable => out.extend_from_slice(b"NotSeparable"),
         Refusal::LimitDisc(d) => push_one(out, b"LimitDisc", *d as u64),
         Refusal::LimitInf(d) => push_one(out, b"LimitInf", u64::from(*d)),
+        Refusal::NameTaken(name) => {
+            out.extend_from_slice(b"NameTaken ")?;
+            out.extend_from_slice(name.letters.as_slice())
+        }
+        Refusal::LimitPlace(d) => push_one(out, b"LimitPlace", *d),
+        Refusal::NotIrreducible(h) => {
+            out.extend_from_slice(b"NotIrreducible ")?;
+            push_poly(out, h)
+        }
+        Refusal::NoSuchPlace(i, r) => push_two(out, b"NoSuchPlace", *i, *r),
         Refusal::CodeRange(c) => push_one(out, b"CodeRange", u64::from(*c)),
         Refusal::Length(n) => push_one(out, b"Length", *n as u64),
         Refusal::Zero => out.extend_from_slice(b"Zero"),
