@@ -2,8 +2,8 @@
 use Rattle.std.specs.Prelude.{◌≡◌, ℕ, List, None}
 use Rattle.ff_fields.specs.FieldData.{IsFieldData, ops_of, with_laws}
 use Rattle.ff_script.specs.declared.script.Statement.{Statement}
-use Rattle.ff_script.specs.declared.script.Statement.TheVariants.{FieldOf, CurveOf, Mul, Factor, OrderOf}
-use Rattle.ff_meaning.specs.Bindings.{Bindings, ForField, ForCurve}
+use Rattle.ff_script.specs.declared.script.Statement.TheVariants.{FieldOf, CurveOf, Mul, Factor, OrderOf, Places, Place}
+use Rattle.ff_meaning.specs.Bindings.{Bindings, ForField, ForCurve, ForBound}
 use Rattle.ff_cert.specs.declared.answer.Answer.{Answer}
 use Rattle.ff_cert.specs.declared.answer.Answer.TheVariants as answers
 use Rattle.ff_cert.specs.RowField as field_row
@@ -11,6 +11,9 @@ use Rattle.ff_cert.specs.RowCurve as curve_row
 use Rattle.ff_cert.specs.RowMul as mul_row
 use Rattle.ff_cert.specs.RowFactor as factor_row
 use Rattle.ff_cert.specs.RowOrder as order_row
+use Rattle.ff_cert.specs.RowPlace as place_row
+use Rattle.ff_cert.specs.RowPlaces as places_row
+use Rattle.ff_cert.specs.RowNamedPlace as named_place_row
 
 -- with these bindings the answer to the statement is true, and the next bindings have taken it in
 abbrev pub Answers : Bindings → Statement → Answer → Bindings → Type 0
@@ -23,6 +26,10 @@ Answers old (Factor g) (answers.Factor unit parts) next = ForCurve old
     (λ d c. factor_row.IsTrue (ops_of d) g unit parts × (next ≡ old))
 Answers old (OrderOf s) (answers.OrderOf zs) next =
     ForCurve old (λ d c. (is : IsFieldData d) × order_row.IsTrue (with_laws d is) c s zs × (next ≡ old))
+Answers old (Places over) (answers.Places count Ps) next =
+    ForCurve old (λ d c. (is : IsFieldData d) × places_row.IsTrue (with_laws d is) c over count Ps × (next ≡ old))
+Answers old (Place name over index) (answers.Place P) next =
+    ForBound old (λ d b. (is : IsFieldData d) × named_place_row.IsTrue (with_laws d is) d b name over index P next)
 Answers _ _ _ _ = ⊥
 
 -- its answer lines
@@ -32,6 +39,8 @@ answer_lines (answers.CurveOf n c) = curve_row.lines n c
 answer_lines (answers.Mul z) = mul_row.lines z
 answer_lines (answers.Factor unit parts) = factor_row.lines unit parts
 answer_lines (answers.OrderOf zs) = order_row.lines zs
+answer_lines (answers.Places count Ps) = places_row.lines count Ps
+answer_lines (answers.Place P) = place_row.lines P
 
 -- the greatest degree of a polynomial in the answer lines
 abbrev pub degree_of_answer : Answer → ℕ
@@ -40,3 +49,5 @@ degree_of_answer (answers.CurveOf n c) = curve_row.degree
 degree_of_answer (answers.Mul z) = mul_row.degree z
 degree_of_answer (answers.Factor unit parts) = factor_row.degree parts
 degree_of_answer (answers.OrderOf zs) = order_row.degree zs
+degree_of_answer (answers.Places count Ps) = places_row.degree Ps
+degree_of_answer (answers.Place P) = place_row.degree P

@@ -4,6 +4,9 @@ pub mod RowCurve
 pub mod RowMul
 pub mod RowFactor
 pub mod RowOrder
+pub mod RowPlace
+pub mod RowPlaces
+pub mod RowNamedPlace
 pub mod Answers
 pub mod Blocks
 pub mod SameSessions

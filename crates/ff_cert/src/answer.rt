@@ -30,6 +30,35 @@ impl Model for PowerList {
     ghost view = { λ l. l.powers.items };
 }
 
+/// What the lines of a place say.
+#[derive(Drop)]
+pub struct PlaceLines {
+    /// Its number among the places over the same polynomial, or over infinity.
+    pub number: u64,
+    /// Its ramification index.
+    pub e: u64,
+    /// Its degree.
+    pub degree: u64,
+    /// Rows that span it.
+    pub rows: RowList,
+}
+
+/// Places, each with its lines.
+#[derive(Drop)]
+pub struct PlaceList {
+    /// The places in the order of their numbers.
+    pub places: Vec<PlaceLines>,
+}
+
+impl Model for PlaceList {
+    ghost use Rattle.std.specs.Prelude.{List};
+    ghost use Rattle.ff_cert.specs.declared.answer.PlaceLines.{PlaceLines};
+
+    ghost Value = { List PlaceLines };
+
+    ghost view = { λ l. l.places.items };
+}
+
 /// What the answer lines of a statement say: one variant a statement.
 #[derive(Drop)]
 pub enum Answer {
@@ -43,4 +72,8 @@ pub enum Answer {
     Factor { unit: u32, parts: PowerList },
     /// Rows that span the functions that are integral on a side.
     OrderOf { rows: RowList },
+    /// All places over a polynomial, or over infinity, and their number.
+    Places { count: u64, places: PlaceList },
+    /// One of these places.
+    Place { place: PlaceLines },
 }

@@ -5,6 +5,6 @@ pub mod answer;
 pub mod laws;
 pub mod text;
 
-pub use answer::{Answer, PowerLine, PowerList};
+pub use answer::{Answer, PlaceLines, PlaceList, PowerLine, PowerList};
 pub use ff_written::RowList;
 pub use text::{answer_text, degree, push_answer, push_echo};

@@ -8,8 +8,10 @@ ghost use Rattle.ff_cert.specs.RowCurve as curve_row;
 ghost use Rattle.ff_cert.specs.RowMul as mul_row;
 ghost use Rattle.ff_cert.specs.RowFactor as factor_row;
 ghost use Rattle.ff_cert.specs.RowOrder as order_row;
+ghost use Rattle.ff_cert.specs.RowPlaces as places_row;
+ghost use Rattle.ff_cert.specs.RowPlace as place_row;
 
-use crate::answer::{Answer, PowerLine};
+use crate::answer::{Answer, PlaceLines, PowerLine};
 use ff_script::{Statement, push_statement};
 use ff_text::Written;
 use ff_text::number::push_number;
@@ -95,6 +97,47 @@ fn push_rows(out: &mut Vec<u8>, rows: &[Written]) -> Result<(), AllocError>
     Ok(())
 }
 
+/// The line with the numbers of a place.
+fn push_head(out: &mut Vec<u8>, p: &PlaceLines) -> Result<(), AllocError>
+    ensures { OnOk result (out.new.items ≡ out.old.items ++ answer_line (place_row.head_text p.now)) }
+{
+    out.extend_from_slice(b"= place ")?;
+    push_number(out, p.number)?;
+    out.extend_from_slice(b" e ")?;
+    push_number(out, p.e)?;
+    out.extend_from_slice(b" degree ")?;
+    push_number(out, p.degree)?;
+    out.extend_from_slice(b"\n")
+}
+
+/// The lines of a place: its numbers, and a line for each row.
+fn push_place(out: &mut Vec<u8>, p: &PlaceLines) -> Result<(), AllocError>
+    ensures { OnOk result (out.new.items ≡ out.old.items ++ place_row.lines p.now) }
+{
+    push_head(out, p)?;
+    push_rows(out, p.rows.rows.as_slice())
+}
+
+/// The lines of each place.
+fn push_each_place(out: &mut Vec<u8>, places: &[PlaceLines]) -> Result<(), AllocError>
+    ensures { OnOk result (out.new.items ≡ out.old.items ++ places_row.place_lines places.now) }
+{
+    for p in places {
+        push_place(out, p)?;
+    }
+    Ok(())
+}
+
+/// The line with the number of places, and the lines of each.
+fn push_places(out: &mut Vec<u8>, count: u64, places: &[PlaceLines]) -> Result<(), AllocError>
+    ensures { OnOk result (out.new.items ≡ out.old.items ++ places_row.lines count places.now) }
+{
+    out.extend_from_slice(b"= count ")?;
+    push_number(out, count)?;
+    out.extend_from_slice(b"\n")?;
+    push_each_place(out, places)
+}
+
 /// The lines of the answer, at the end of the buffer.
 pub fn push_answer(out: &mut Vec<u8>, a: &Answer) -> Result<(), AllocError>
     ensures { OnOk result (out.new.items ≡ out.old.items ++ answer_lines a.now) }
@@ -105,6 +148,8 @@ pub fn push_answer(out: &mut Vec<u8>, a: &Answer) -> Result<(), AllocError>
         Answer::Mul { element } => push_row(out, element),
         Answer::Factor { unit, parts } => push_factors(out, *unit, parts.powers.as_slice()),
         Answer::OrderOf { rows } => push_rows(out, rows.rows.as_slice()),
+        Answer::Places { count, places } => push_places(out, *count, places.places.as_slice()),
+        Answer::Place { place } => push_place(out, place),
     }
 }
 
@@ -139,6 +184,17 @@ fn degree_of_rows(rows: &[Written]) -> usize
     degree
 }
 
+/// The greatest degree of the polynomials in the places' rows.
+fn degree_of_places(places: &[PlaceLines]) -> usize
+    ensures { result ≡ places_row.degree places.now }
+{
+    let mut degree = 0;
+    for p in places {
+        degree = degree_of_rows(p.rows.rows.as_slice()).max(degree);
+    }
+    degree
+}
+
 /// The greatest degree of the powers' polynomials.
 fn degree_of_parts(parts: &[PowerLine]) -> usize
     ensures { result ≡ factor_row.degree parts.now }
@@ -159,5 +215,7 @@ pub fn degree(a: &Answer) -> usize
         Answer::Mul { element } => degree_of(element),
         Answer::Factor { parts, .. } => degree_of_parts(parts.powers.as_slice()),
         Answer::OrderOf { rows } => degree_of_rows(rows.rows.as_slice()),
+        Answer::Places { places, .. } => degree_of_places(places.places.as_slice()),
+        Answer::Place { place } => degree_of_rows(place.rows.rows.as_slice()),
     }
 }
