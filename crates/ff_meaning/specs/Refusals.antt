@@ -164,7 +164,8 @@ IsRefusalRow old (CurveOf f) r = ForField old (λ d. IsCurveRow d f r)
 IsRefusalRow old (Mul a b) r = ForCurve old (λ d c. IsProductRow (ops_of d) c.fin.n max_degree a b r)
 IsRefusalRow old (Factor g) r = ForCurve old (λ d c. IsFactorRow (ops_of d) max_degree g r)
 IsRefusalRow old (OrderOf s) r = ⊥
-IsRefusalRow old (Places over) r = ForCurve old (λ d c. IsBaseRow (ops_of d) c.fin.n max_degree_of_places over r)
+IsRefusalRow old (Places over) r = ForCurve old
+    (λ d c. IsFieldData d × IsBaseRow (ops_of d) c.fin.n max_degree_of_places over r)
 IsRefusalRow old (Place name over index) r = ForBound old
     (λ d b. (is : IsFieldData d) × IsPlaceRow (with_laws d is) b name over index r)
 
