@@ -185,7 +185,7 @@ fn degree_of_rows(rows: &[Written]) -> usize
 }
 
 /// The greatest degree of the polynomials in the places' rows.
-fn degree_of_places(places: &[PlaceLines]) -> usize
+pub fn degree_of_places(places: &[PlaceLines]) -> usize
     ensures { result ≡ places_row.degree places.now }
 {
     let mut degree = 0;

@@ -1,18 +1,47 @@
--- The bindings that what is held stands for.
+-- The bindings that what is held stands for, and what a statement binds.
+use Rattle.std.specs.Prelude.{◌≡◌, List, [], ◌∷◌, ◌++◌, Option, Some, None}
+use Rattle.ff_fields.specs.declared.fields.Field.{Field as AnyField}
 use Rattle.ff_fields.specs.Fields.{field_of}
-use Rattle.ff_fields.specs.FieldData.{data_of}
+use Rattle.ff_fields.specs.FieldData.{FieldData, IsFieldData, data_of, with_laws}
 use Rattle.function_field.specs.Curves.{IsCurve}
-use Rattle.ff_meaning.specs.Bindings.{Bindings, nothing, with_field, with_curve}
-use Rattle.ff_session.specs.declared.session.Bound.{Bound}
-use Rattle.ff_session.specs.declared.session.Bound.TheVariants.{Nothing, Field, Curve}
+use Rattle.ff_meaning.specs.Bindings.{Bindings, nothing, with_field, ForField, ForBound, IsNameOf, Bound as BoundValue}
+use Rattle.ff_session.specs.declared.bindings.Bound.{Bound}
+use Rattle.ff_session.specs.declared.bindings.Change.{Change}
+use Rattle.ff_session.specs.declared.bindings.Change.TheVariants.{Nothing, Field, Curve, Place}
 
-abbrev pub bindings_of : Bound → Bindings
-bindings_of Nothing = nothing
-bindings_of (Field k) = with_field (data_of k)
-bindings_of (Curve k c) = with_curve (data_of k) c
+abbrev pub field_data : Option AnyField → Option FieldData
+field_data None = None
+field_data (Some k) = Some (data_of k)
 
--- the curve is one over the field
-abbrev pub IsSound : Bound → Type 0
-IsSound Nothing = Unit {0}
-IsSound (Field k) = Unit {0}
-IsSound (Curve k c) = IsCurve (field_of k) c
+abbrev pub what_is_bound : Option Bound → Option BoundValue
+what_is_bound None = None
+what_is_bound (Some b) = Some (record { curve = b.curve; places = b.names })
+
+-- a curve stands over a field
+abbrev pub IsSound : Option AnyField → Option Bound → Type 0
+IsSound k None = Unit {0}
+IsSound None (Some b) = ⊥
+IsSound (Some k) (Some b) = IsCurve (field_of k) b.curve
+
+-- what stands over the field, with one place more
+abbrev pub with_place : Option BoundValue → Change → Option BoundValue
+with_place None change = None
+with_place (Some b) Nothing = Some b
+with_place (Some b) (Field k) = Some b
+with_place (Some b) (Curve c) = Some b
+with_place (Some b) (Place name P) = Some
+    (record { curve = b.curve; places = b.places ++ record { name = name; place = P } ∷ [] })
+
+-- the bindings behind a statement that binds this
+abbrev pub bindings_after : Bindings → Change → Bindings
+bindings_after old Nothing = old
+bindings_after old (Field k) = with_field (data_of k)
+bindings_after old (Curve c) = record { field = old.field; bound = Some (record { curve = c; places = [] }) }
+bindings_after old (Place name P) = record { field = old.field; bound = with_place old.bound (Place name P) }
+
+-- a field is bound where nothing is, a curve of it behind it, and then names that aren't bound
+abbrev pub MayTake : Bindings → Change → Type 0
+MayTake old Nothing = Unit {0}
+MayTake old (Field k) = old ≡ nothing
+MayTake old (Curve c) = (old.bound ≡ None) × ForField old (λ d. (is : IsFieldData d) → IsCurve (with_laws d is) c)
+MayTake old (Place name P) = ForBound old (λ d b. ¬ IsNameOf name b.places)

@@ -1,3 +1,5 @@
+pub mod Names
 pub mod Bound
 pub mod Sessions
+pub mod Places
 pub mod Steps

@@ -1,6 +1,8 @@
 //! Sessions: what the statements of a script bind and answer, block by block, and when a statement is refused.
 #![tactic(auto)]
 
+mod bindings;
+mod names;
 pub mod session;
 mod statements;
 

@@ -5,3 +5,5 @@ pub mod factor;
 pub mod field;
 pub mod mul;
 pub mod order;
+pub mod place;
+pub mod places;
