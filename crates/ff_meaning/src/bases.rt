@@ -126,7 +126,7 @@ fn irreducible<K: SmallField>(
 /// too great, n times the degree above 512, or a polynomial that isn't irreducible and monic. It takes the time of
 /// `is_irreducible`, and of `factor` where there is a proper factor. A product of n and the degree that isn't below 2^64
 /// is want of memory.
-pub fn base<K: SmallField>(alloc: Global, k: &K, n: usize, over: &Over) -> Result<Base, Refusal>
+pub fn base_of<K: SmallField>(alloc: Global, k: &K, n: usize, over: &Over) -> Result<Base, Refusal>
     requires some { 1 ≤ n }
     requires writable { IsWritableOver over.now }
     requires powers { HasSmallOver over.now }

@@ -9,7 +9,7 @@ pub mod laws;
 pub mod polynomials;
 pub mod refusal;
 
-pub use bases::{Base, base};
+pub use bases::{Base, base_of};
 pub use elements::element;
 pub use fields::{by_tables, field, field_refusal};
 pub use polynomials::{degree_in_x, polynomial, sum};
