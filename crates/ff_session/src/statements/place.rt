@@ -16,7 +16,7 @@ use ff_algebra::curve::Curve;
 use ff_cert::{PlaceLines, PlaceList};
 use ff_fields::field::SmallField;
 use ff_ideal::Prime;
-use ff_meaning::{Refusal, base};
+use ff_meaning::{Refusal, base_of};
 use ff_script::{Name, Over};
 use std::alloc::Global;
 
@@ -73,7 +73,7 @@ pub fn named_place<K: SmallField>(
     if names.contains(name) {
         return Err(Refusal::NameTaken(name.copy(alloc)?));
     }
-    let base = base(alloc, k, curve.fin().n(), over)?;
+    let base = base_of(alloc, k, curve.fin().n(), over)?;
     let (primes, list) = listed_places(alloc, k, curve, &base)?;
     chosen(primes, list, index)
 }

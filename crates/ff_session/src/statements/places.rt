@@ -21,7 +21,7 @@ use ff_cert::{PlaceLines, PlaceList, degree_of_places};
 use ff_fields::field::SmallField;
 use ff_ideal::Prime;
 use ff_maximal::maximal_order;
-use ff_meaning::{Base, Refusal, base};
+use ff_meaning::{Base, Refusal, base_of};
 use ff_places::places_above;
 use ff_script::Over;
 use ff_written::written_rows;
@@ -120,7 +120,7 @@ pub fn all_places<K: SmallField>(
     ensures refused { IfErr result (UnlessMemory
         (IsBaseRow (K.field k.now).ops curve.now.fin.n max_degree_of_places over.now)) }
 {
-    let base = base(alloc, k, curve.fin().n(), over)?;
+    let base = base_of(alloc, k, curve.fin().n(), over)?;
     let (_, list) = listed_places(alloc, k, curve, &base)?;
     Ok((list.places.len() as u64, list))
 }
