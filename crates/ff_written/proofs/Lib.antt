@@ -1,3 +1,4 @@
 pub mod LowestElements
 pub mod OneWritten
 pub mod WrittenRows
+pub mod TextCases
