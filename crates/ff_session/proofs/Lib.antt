@@ -3,3 +3,4 @@ pub mod OrderAnswers
 pub mod Products
 pub mod Truths
 pub mod AllPlaces
+pub mod PlaceReads
