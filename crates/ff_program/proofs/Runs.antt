@@ -3,11 +3,11 @@ use Rattle.std.proofs.Common.{◌≡◌, ℕ, ◌+◌, ◌≤◌, List, [], ◌�
 use Rattle.std.proofs.lemmas.Grind.{flat_map-append, common_steps}
 use Rattle.std.proofs.lemmas.List.{map-append}
 use Rattle.ff_script.specs.declared.script.Statement.{Statement}
-use Rattle.ff_script.specs.declared.script.Statement.TheVariants.{FieldOf, CurveOf, Mul, Factor, OrderOf}
+use Rattle.ff_script.specs.declared.script.Statement.TheVariants.{FieldOf, CurveOf, Mul, Factor, OrderOf, Places, Place}
 use Rattle.ff_script.specs.Scripts.{MayFollow}
 use Rattle.ff_fields.specs.FieldData.{FieldData}
 use Rattle.function_field.specs.Curves.{CurveValue}
-use Rattle.ff_meaning.specs.Bindings.{Bindings, nothing, with_field, with_curve, IsInPlace}
+use Rattle.ff_meaning.specs.Bindings.{Bindings, NamedPlace, nothing, with_field, with_places, IsInPlace}
 use Rattle.ff_cert.specs.declared.answer.Answer.{Answer}
 use Rattle.ff_cert.specs.declared.answer.Answer.TheVariants as answers
 use Rattle.ff_cert.specs.Answers.{Answers}
@@ -54,6 +54,8 @@ place_nothing k (CurveOf f) h m = absurd (omega arith)
 place_nothing k (Mul x y) h m = absurd (omega arith)
 place_nothing k (Factor g) h m = absurd (omega arith)
 place_nothing k (OrderOf side) h m = absurd (omega arith)
+place_nothing k (Places over) h m = absurd (omega arith)
+place_nothing k (Place name over index) h m = absurd (omega arith)
 
 place_field : (k : ℕ) (d : FieldData) (s : Statement) → k ≡ 1 → MayFollow k s → IsInPlace (with_field d) s
 place_field k d (FieldOf p tail) h m = absurd (omega arith)
@@ -61,19 +63,23 @@ place_field k d (CurveOf f) h m = refl
 place_field k d (Mul x y) h m = absurd (omega arith)
 place_field k d (Factor g) h m = absurd (omega arith)
 place_field k d (OrderOf side) h m = absurd (omega arith)
+place_field k d (Places over) h m = absurd (omega arith)
+place_field k d (Place name over index) h m = absurd (omega arith)
 
-place_curve : (k : ℕ) (d : FieldData) (c : CurveValue) (s : Statement) → 2 ≤ k → MayFollow k s
-    → IsInPlace (with_curve d c) s
-place_curve k d c (FieldOf p tail) h m = absurd (omega arith)
-place_curve k d c (CurveOf f) h m = absurd (omega arith)
-place_curve k d c (Mul x y) h m = tt
-place_curve k d c (Factor g) h m = tt
-place_curve k d c (OrderOf side) h m = tt
+place_curve : (k : ℕ) (d : FieldData) (c : CurveValue) (Ps : List NamedPlace) (s : Statement) → 2 ≤ k → MayFollow k s
+    → IsInPlace (with_places d c Ps) s
+place_curve k d c Ps (FieldOf p tail) h m = absurd (omega arith)
+place_curve k d c Ps (CurveOf f) h m = absurd (omega arith)
+place_curve k d c Ps (Mul x y) h m = tt
+place_curve k d c Ps (Factor g) h m = tt
+place_curve k d c Ps (OrderOf side) h m = tt
+place_curve k d c Ps (Places over) h m = tt
+place_curve k d c Ps (Place name over index) h m = tt
 
 pub in_place : (k : ℕ) (old : Bindings) (s : Statement) → IsAfter k old → MayFollow k s → IsInPlace old s
 in_place k old s (AtStart h is) m = subst (λ o. IsInPlace o s) (sym is) (place_nothing k s h m)
 in_place k old s (AfterField h d is) m = subst (λ o. IsInPlace o s) (sym is) (place_field k d s h m)
-in_place k old s (AfterCurve h d c is) m = subst (λ o. IsInPlace o s) (sym is) (place_curve k d c s h m)
+in_place k old s (AfterCurve h d c Ps is) m = subst (λ o. IsInPlace o s) (sym is) (place_curve k d c Ps s h m)
 
 -- a statement that is answered leads to the next bindings
 after_nothing : (k : ℕ) (s : Statement) (a : Answer) (new : Bindings) → k ≡ 0 → Answers nothing s a new
@@ -83,26 +89,50 @@ after_nothing k (FieldOf p tail) (answers.CurveOf n m) new h a = elim a [ ]
 after_nothing k (FieldOf p tail) (answers.Mul z) new h a = elim a [ ]
 after_nothing k (FieldOf p tail) (answers.Factor unit parts) new h a = elim a [ ]
 after_nothing k (FieldOf p tail) (answers.OrderOf zs) new h a = elim a [ ]
+after_nothing k (FieldOf p tail) (answers.Places count Ls) new h a = elim a [ ]
+after_nothing k (FieldOf p tail) (answers.Place L) new h a = elim a [ ]
 after_nothing k (CurveOf f) (answers.FieldOf q) new h a = elim a [ ]
 after_nothing k (CurveOf f) (answers.CurveOf n m) new h a = elim a [ ]
 after_nothing k (CurveOf f) (answers.Mul z) new h a = elim a [ ]
 after_nothing k (CurveOf f) (answers.Factor unit parts) new h a = elim a [ ]
 after_nothing k (CurveOf f) (answers.OrderOf zs) new h a = elim a [ ]
+after_nothing k (CurveOf f) (answers.Places count Ls) new h a = elim a [ ]
+after_nothing k (CurveOf f) (answers.Place L) new h a = elim a [ ]
 after_nothing k (Mul x y) (answers.FieldOf q) new h a = elim a [ ]
 after_nothing k (Mul x y) (answers.CurveOf n m) new h a = elim a [ ]
 after_nothing k (Mul x y) (answers.Mul z) new h a = elim a [ ]
 after_nothing k (Mul x y) (answers.Factor unit parts) new h a = elim a [ ]
 after_nothing k (Mul x y) (answers.OrderOf zs) new h a = elim a [ ]
+after_nothing k (Mul x y) (answers.Places count Ls) new h a = elim a [ ]
+after_nothing k (Mul x y) (answers.Place L) new h a = elim a [ ]
 after_nothing k (Factor g) (answers.FieldOf q) new h a = elim a [ ]
 after_nothing k (Factor g) (answers.CurveOf n m) new h a = elim a [ ]
 after_nothing k (Factor g) (answers.Mul z) new h a = elim a [ ]
 after_nothing k (Factor g) (answers.Factor unit parts) new h a = elim a [ ]
 after_nothing k (Factor g) (answers.OrderOf zs) new h a = elim a [ ]
+after_nothing k (Factor g) (answers.Places count Ls) new h a = elim a [ ]
+after_nothing k (Factor g) (answers.Place L) new h a = elim a [ ]
 after_nothing k (OrderOf side) (answers.FieldOf q) new h a = elim a [ ]
 after_nothing k (OrderOf side) (answers.CurveOf n m) new h a = elim a [ ]
 after_nothing k (OrderOf side) (answers.Mul z) new h a = elim a [ ]
 after_nothing k (OrderOf side) (answers.Factor unit parts) new h a = elim a [ ]
 after_nothing k (OrderOf side) (answers.OrderOf zs) new h a = elim a [ ]
+after_nothing k (OrderOf side) (answers.Places count Ls) new h a = elim a [ ]
+after_nothing k (OrderOf side) (answers.Place L) new h a = elim a [ ]
+after_nothing k (Places over) (answers.FieldOf q) new h a = elim a [ ]
+after_nothing k (Places over) (answers.CurveOf n m) new h a = elim a [ ]
+after_nothing k (Places over) (answers.Mul z) new h a = elim a [ ]
+after_nothing k (Places over) (answers.Factor unit parts) new h a = elim a [ ]
+after_nothing k (Places over) (answers.OrderOf zs) new h a = elim a [ ]
+after_nothing k (Places over) (answers.Places count Ls) new h a = elim a [ ]
+after_nothing k (Places over) (answers.Place L) new h a = elim a [ ]
+after_nothing k (Place name over index) (answers.FieldOf q) new h a = elim a [ ]
+after_nothing k (Place name over index) (answers.CurveOf n m) new h a = elim a [ ]
+after_nothing k (Place name over index) (answers.Mul z) new h a = elim a [ ]
+after_nothing k (Place name over index) (answers.Factor unit parts) new h a = elim a [ ]
+after_nothing k (Place name over index) (answers.OrderOf zs) new h a = elim a [ ]
+after_nothing k (Place name over index) (answers.Places count Ls) new h a = elim a [ ]
+after_nothing k (Place name over index) (answers.Place L) new h a = elim a [ ]
 
 after_field : (k : ℕ) (d : FieldData) (s : Statement) (a : Answer) (new : Bindings) → k ≡ 1
     → Answers (with_field d) s a new → IsAfter (k + 1) new
@@ -111,57 +141,107 @@ after_field k d (FieldOf p tail) (answers.CurveOf n m) new h a = elim a [ ]
 after_field k d (FieldOf p tail) (answers.Mul z) new h a = elim a [ ]
 after_field k d (FieldOf p tail) (answers.Factor unit parts) new h a = elim a [ ]
 after_field k d (FieldOf p tail) (answers.OrderOf zs) new h a = elim a [ ]
+after_field k d (FieldOf p tail) (answers.Places count Ls) new h a = elim a [ ]
+after_field k d (FieldOf p tail) (answers.Place L) new h a = elim a [ ]
 after_field k d (CurveOf f) (answers.FieldOf q) new h a = elim a [ ]
-after_field k d (CurveOf f) (answers.CurveOf n m) new h a = AfterCurve (omega (arith, h)) d a.1.curve a.1.bound
+after_field k d (CurveOf f) (answers.CurveOf n m) new h a = AfterCurve (omega (arith, h)) d a.1.curve [] a.1.bound
 after_field k d (CurveOf f) (answers.Mul z) new h a = elim a [ ]
 after_field k d (CurveOf f) (answers.Factor unit parts) new h a = elim a [ ]
 after_field k d (CurveOf f) (answers.OrderOf zs) new h a = elim a [ ]
+after_field k d (CurveOf f) (answers.Places count Ls) new h a = elim a [ ]
+after_field k d (CurveOf f) (answers.Place L) new h a = elim a [ ]
 after_field k d (Mul x y) (answers.FieldOf q) new h a = elim a [ ]
 after_field k d (Mul x y) (answers.CurveOf n m) new h a = elim a [ ]
 after_field k d (Mul x y) (answers.Mul z) new h a = elim a [ ]
 after_field k d (Mul x y) (answers.Factor unit parts) new h a = elim a [ ]
 after_field k d (Mul x y) (answers.OrderOf zs) new h a = elim a [ ]
+after_field k d (Mul x y) (answers.Places count Ls) new h a = elim a [ ]
+after_field k d (Mul x y) (answers.Place L) new h a = elim a [ ]
 after_field k d (Factor g) (answers.FieldOf q) new h a = elim a [ ]
 after_field k d (Factor g) (answers.CurveOf n m) new h a = elim a [ ]
 after_field k d (Factor g) (answers.Mul z) new h a = elim a [ ]
 after_field k d (Factor g) (answers.Factor unit parts) new h a = elim a [ ]
 after_field k d (Factor g) (answers.OrderOf zs) new h a = elim a [ ]
+after_field k d (Factor g) (answers.Places count Ls) new h a = elim a [ ]
+after_field k d (Factor g) (answers.Place L) new h a = elim a [ ]
 after_field k d (OrderOf side) (answers.FieldOf q) new h a = elim a [ ]
 after_field k d (OrderOf side) (answers.CurveOf n m) new h a = elim a [ ]
 after_field k d (OrderOf side) (answers.Mul z) new h a = elim a [ ]
 after_field k d (OrderOf side) (answers.Factor unit parts) new h a = elim a [ ]
 after_field k d (OrderOf side) (answers.OrderOf zs) new h a = elim a [ ]
+after_field k d (OrderOf side) (answers.Places count Ls) new h a = elim a [ ]
+after_field k d (OrderOf side) (answers.Place L) new h a = elim a [ ]
+after_field k d (Places over) (answers.FieldOf q) new h a = elim a [ ]
+after_field k d (Places over) (answers.CurveOf n m) new h a = elim a [ ]
+after_field k d (Places over) (answers.Mul z) new h a = elim a [ ]
+after_field k d (Places over) (answers.Factor unit parts) new h a = elim a [ ]
+after_field k d (Places over) (answers.OrderOf zs) new h a = elim a [ ]
+after_field k d (Places over) (answers.Places count Ls) new h a = elim a [ ]
+after_field k d (Places over) (answers.Place L) new h a = elim a [ ]
+after_field k d (Place name over index) (answers.FieldOf q) new h a = elim a [ ]
+after_field k d (Place name over index) (answers.CurveOf n m) new h a = elim a [ ]
+after_field k d (Place name over index) (answers.Mul z) new h a = elim a [ ]
+after_field k d (Place name over index) (answers.Factor unit parts) new h a = elim a [ ]
+after_field k d (Place name over index) (answers.OrderOf zs) new h a = elim a [ ]
+after_field k d (Place name over index) (answers.Places count Ls) new h a = elim a [ ]
+after_field k d (Place name over index) (answers.Place L) new h a = elim a [ ]
 
-after_curve : (k : ℕ) (d : FieldData) (c : CurveValue) (s : Statement) (a : Answer) (new : Bindings) → 2 ≤ k
-    → Answers (with_curve d c) s a new → IsAfter (k + 1) new
-after_curve k d c (FieldOf p tail) (answers.FieldOf q) new h a = absurd (let none = a.0 in cc)
-after_curve k d c (FieldOf p tail) (answers.CurveOf n m) new h a = elim a [ ]
-after_curve k d c (FieldOf p tail) (answers.Mul z) new h a = elim a [ ]
-after_curve k d c (FieldOf p tail) (answers.Factor unit parts) new h a = elim a [ ]
-after_curve k d c (FieldOf p tail) (answers.OrderOf zs) new h a = elim a [ ]
-after_curve k d c (CurveOf f) (answers.FieldOf q) new h a = elim a [ ]
-after_curve k d c (CurveOf f) (answers.CurveOf n m) new h a = absurd (let none = a.0 in cc)
-after_curve k d c (CurveOf f) (answers.Mul z) new h a = elim a [ ]
-after_curve k d c (CurveOf f) (answers.Factor unit parts) new h a = elim a [ ]
-after_curve k d c (CurveOf f) (answers.OrderOf zs) new h a = elim a [ ]
-after_curve k d c (Mul x y) (answers.FieldOf q) new h a = elim a [ ]
-after_curve k d c (Mul x y) (answers.CurveOf n m) new h a = elim a [ ]
-after_curve k d c (Mul x y) (answers.Mul z) new h a = AfterCurve (omega (arith, h)) d c a.2
-after_curve k d c (Mul x y) (answers.Factor unit parts) new h a = elim a [ ]
-after_curve k d c (Mul x y) (answers.OrderOf zs) new h a = elim a [ ]
-after_curve k d c (Factor g) (answers.FieldOf q) new h a = elim a [ ]
-after_curve k d c (Factor g) (answers.CurveOf n m) new h a = elim a [ ]
-after_curve k d c (Factor g) (answers.Mul z) new h a = elim a [ ]
-after_curve k d c (Factor g) (answers.Factor unit parts) new h a = AfterCurve (omega (arith, h)) d c a.1
-after_curve k d c (Factor g) (answers.OrderOf zs) new h a = elim a [ ]
-after_curve k d c (OrderOf side) (answers.FieldOf q) new h a = elim a [ ]
-after_curve k d c (OrderOf side) (answers.CurveOf n m) new h a = elim a [ ]
-after_curve k d c (OrderOf side) (answers.Mul z) new h a = elim a [ ]
-after_curve k d c (OrderOf side) (answers.Factor unit parts) new h a = elim a [ ]
-after_curve k d c (OrderOf side) (answers.OrderOf zs) new h a = AfterCurve (omega (arith, h)) d c a.2
+module _ (k : ℕ) (d : FieldData) (c : CurveValue) (Ps : List NamedPlace) where
+  after_curve : (s : Statement) (a : Answer) (new : Bindings) → 2 ≤ k → Answers (with_places d c Ps) s a new
+      → IsAfter (k + 1) new
+  after_curve (FieldOf p tail) (answers.FieldOf q) new h a = absurd (let none = a.0 in cc)
+  after_curve (FieldOf p tail) (answers.CurveOf n m) new h a = elim a [ ]
+  after_curve (FieldOf p tail) (answers.Mul z) new h a = elim a [ ]
+  after_curve (FieldOf p tail) (answers.Factor unit parts) new h a = elim a [ ]
+  after_curve (FieldOf p tail) (answers.OrderOf zs) new h a = elim a [ ]
+  after_curve (FieldOf p tail) (answers.Places count Ls) new h a = elim a [ ]
+  after_curve (FieldOf p tail) (answers.Place L) new h a = elim a [ ]
+  after_curve (CurveOf f) (answers.FieldOf q) new h a = elim a [ ]
+  after_curve (CurveOf f) (answers.CurveOf n m) new h a = absurd (let none = a.0 in cc)
+  after_curve (CurveOf f) (answers.Mul z) new h a = elim a [ ]
+  after_curve (CurveOf f) (answers.Factor unit parts) new h a = elim a [ ]
+  after_curve (CurveOf f) (answers.OrderOf zs) new h a = elim a [ ]
+  after_curve (CurveOf f) (answers.Places count Ls) new h a = elim a [ ]
+  after_curve (CurveOf f) (answers.Place L) new h a = elim a [ ]
+  after_curve (Mul x y) (answers.FieldOf q) new h a = elim a [ ]
+  after_curve (Mul x y) (answers.CurveOf n m) new h a = elim a [ ]
+  after_curve (Mul x y) (answers.Mul z) new h a = AfterCurve (omega (arith, h)) d c Ps a.2
+  after_curve (Mul x y) (answers.Factor unit parts) new h a = elim a [ ]
+  after_curve (Mul x y) (answers.OrderOf zs) new h a = elim a [ ]
+  after_curve (Mul x y) (answers.Places count Ls) new h a = elim a [ ]
+  after_curve (Mul x y) (answers.Place L) new h a = elim a [ ]
+  after_curve (Factor g) (answers.FieldOf q) new h a = elim a [ ]
+  after_curve (Factor g) (answers.CurveOf n m) new h a = elim a [ ]
+  after_curve (Factor g) (answers.Mul z) new h a = elim a [ ]
+  after_curve (Factor g) (answers.Factor unit parts) new h a = AfterCurve (omega (arith, h)) d c Ps a.1
+  after_curve (Factor g) (answers.OrderOf zs) new h a = elim a [ ]
+  after_curve (Factor g) (answers.Places count Ls) new h a = elim a [ ]
+  after_curve (Factor g) (answers.Place L) new h a = elim a [ ]
+  after_curve (OrderOf side) (answers.FieldOf q) new h a = elim a [ ]
+  after_curve (OrderOf side) (answers.CurveOf n m) new h a = elim a [ ]
+  after_curve (OrderOf side) (answers.Mul z) new h a = elim a [ ]
+  after_curve (OrderOf side) (answers.Factor unit parts) new h a = elim a [ ]
+  after_curve (OrderOf side) (answers.OrderOf zs) new h a = AfterCurve (omega (arith, h)) d c Ps a.2
+  after_curve (OrderOf side) (answers.Places count Ls) new h a = elim a [ ]
+  after_curve (OrderOf side) (answers.Place L) new h a = elim a [ ]
+  after_curve (Places over) (answers.FieldOf q) new h a = elim a [ ]
+  after_curve (Places over) (answers.CurveOf n m) new h a = elim a [ ]
+  after_curve (Places over) (answers.Mul z) new h a = elim a [ ]
+  after_curve (Places over) (answers.Factor unit parts) new h a = elim a [ ]
+  after_curve (Places over) (answers.OrderOf zs) new h a = elim a [ ]
+  after_curve (Places over) (answers.Places count Ls) new h a = AfterCurve (omega (arith, h)) d c Ps a.2
+  after_curve (Places over) (answers.Place L) new h a = elim a [ ]
+  after_curve (Place name over index) (answers.FieldOf q) new h a = elim a [ ]
+  after_curve (Place name over index) (answers.CurveOf n m) new h a = elim a [ ]
+  after_curve (Place name over index) (answers.Mul z) new h a = elim a [ ]
+  after_curve (Place name over index) (answers.Factor unit parts) new h a = elim a [ ]
+  after_curve (Place name over index) (answers.OrderOf zs) new h a = elim a [ ]
+  after_curve (Place name over index) (answers.Places count Ls) new h a = elim a [ ]
+  after_curve (Place name over index) (answers.Place L) new h a = AfterCurve (omega (arith, h)) d c (Ps ++ record { name = name; place = a.1.place } ∷ []) a.1.bound
 
 pub after_answer : (k : ℕ) (old : Bindings) (s : Statement) (a : Answer) (new : Bindings) → IsAfter k old
     → Answers old s a new → IsAfter (k + 1) new
 after_answer k old s a new (AtStart h is) t = after_nothing k s a new h (subst (λ o. Answers o s a new) is t)
 after_answer k old s a new (AfterField h d is) t = after_field k d s a new h (subst (λ o. Answers o s a new) is t)
-after_answer k old s a new (AfterCurve h d c is) t = after_curve k d c s a new h (subst (λ o. Answers o s a new) is t)
+after_answer k old s a new (AfterCurve h d c Ps is) t = after_curve k d c Ps s a new h
+    (subst (λ o. Answers o s a new) is t)

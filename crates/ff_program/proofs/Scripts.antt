@@ -10,12 +10,14 @@ use Rattle.ff_text.specs.declared.terms.ElemText.{ElemText}
 use Rattle.ff_text.specs.Spelling.{Then, Around, Each, FirstSign, SpellsFirst, SpellsOneTerm, SpellsTerms, SpellsDen, SpellsTail, SpellsEntries, SpellsElement}
 use Rattle.ff_text.specs.Values.{HasSmallExponents}
 use Rattle.ff_text.proofs.Exponents.{terms_small}
+use Rattle.ff_script.specs.declared.script.Over.{Over}
+use Rattle.ff_script.specs.declared.script.Over.TheVariants.{At, Inf}
 use Rattle.ff_script.specs.declared.script.Statement.{Statement}
-use Rattle.ff_script.specs.declared.script.Statement.TheVariants.{FieldOf, CurveOf, Mul, Factor, OrderOf}
-use Rattle.ff_script.specs.Grammar.{SpellsParts, ArePartsOf, SpellsLine}
+use Rattle.ff_script.specs.declared.script.Statement.TheVariants.{FieldOf, CurveOf, Mul, Factor, OrderOf, Places, Place}
+use Rattle.ff_script.specs.Grammar.{SpellsParts, SpellsOver, ArePartsOf, SpellsLine}
 use Rattle.ff_script.specs.Scripts.{without_empty_last, lines_of, IsReadAs, IsScript}
 use Rattle.ff_script.proofs.Writable.{line_writable}
-use Rattle.ff_meaning.specs.Bindings.{HasSmallElement, HasSmallPowers}
+use Rattle.ff_meaning.specs.Bindings.{HasSmallElement, HasSmallOver, HasSmallPowers}
 use Rattle.ff_program.specs.Ready.{IsReady}
 
 length_then : {A B : List ℕ → Type 0} (g : List ℕ) (t : Then A B g) → length g ≡ length t.front + length t.back
@@ -139,6 +141,10 @@ element_small e g short h =
       den = tail_small e.den h.back (omega arith) h.second;
     }
 
+over_small : (over : Over) (g : List ℕ) → length g < 2 ^ 34 → SpellsOver over g → HasSmallOver over
+over_small (At f) g short h = terms_small false f g h short
+over_small Inf g short h = tt
+
 powers_small : (s : Statement) (parts : List (List ℕ)) (n : ℕ) → n < 2 ^ 34 → AllByRecursion (IsShort n) parts
     → ArePartsOf s parts → HasSmallPowers s
 powers_small (FieldOf p tail) parts n small short h = tt
@@ -156,6 +162,14 @@ powers_small (Factor g) parts n small short h =
     let le = all.1.0 in
     terms_small false g h.0 h.2 (omega (arith, le))
 powers_small (OrderOf s) parts n small short h = tt
+powers_small (Places over) parts n small short h =
+    let all = subst (AllByRecursion (IsShort n)) h.1 short in
+    let le = all.1.0 in
+    over_small over h.0 (omega (arith, le)) h.2
+powers_small (Place name over index) parts n small short h =
+    let all = subst (AllByRecursion (IsShort n)) h.3 short in
+    let le = all.1.1.1.0 in
+    over_small over h.1 (omega (arith, le)) h.5
 
 line_ready : (s : Statement) (line : List ℕ) → length line < 2 ^ 34 → SpellsLine s line → IsReady s
 line_ready s line short h =

@@ -2,3 +2,5 @@ pub mod FactorRows
 pub mod OrderAnswers
 pub mod Products
 pub mod Truths
+pub mod AllPlaces
+pub mod PlaceReads

@@ -12,7 +12,8 @@ use Rattle.ff_fields.proofs.FieldData.{same_ops, data_is, same_field, laws_are}
 use Rattle.ff_fields.specs.Code.{Code, code_domain, same_code}
 use Rattle.ff_fields.specs.Modulus.{IsFieldModulus, IsFaultOf}
 use Rattle.function_field.specs.declared.side.Side.{Side}
-use Rattle.function_field.specs.Curves.{CurveValue}
+use Rattle.function_field.specs.Curves.{CurveValue, IsCurve}
+use Rattle.value_theory.specs.Primes.{PrimeValue}
 use Rattle.ff_algebra.specs.CurveTerms.{IsCurveFault}
 use Rattle.ff_algebra.proofs.CurveFaults.{no_fault}
 use Rattle.ff_text.specs.Values.{written_codes}
@@ -20,13 +21,14 @@ use Rattle.ff_text.specs.Printed.{WrittenValue}
 use Rattle.ff_text.specs.declared.terms.Term.{Term}
 use Rattle.ff_text.specs.declared.terms.ElemText.{ElemText}
 use Rattle.ff_script.specs.declared.script.Modulus.{Modulus}
+use Rattle.ff_script.specs.declared.script.Over.{Over}
 use Rattle.ff_script.specs.declared.script.Statement.{Statement}
-use Rattle.ff_script.specs.declared.script.Statement.TheVariants.{FieldOf, CurveOf, Mul, Factor, OrderOf}
+use Rattle.ff_script.specs.declared.script.Statement.TheVariants.{FieldOf, CurveOf, Mul, Factor, OrderOf, Places, Place}
 use Rattle.ff_meaning.specs.declared.refusal.Refusal.{Refusal}
 use Rattle.ff_meaning.specs.FieldLines.{Names}
-use Rattle.function_field.specs.Limits.{max_degree}
-use Rattle.ff_meaning.specs.Refusals.{UnlessMemory, IsFieldLineFault, IsFieldRow, IsNoCurve, range, fault, IsProductRow, IsFactorRow, IsRefusalRow}
-use Rattle.ff_meaning.specs.Bindings.{Bindings, nothing, with_field, with_curve}
+use Rattle.function_field.specs.Limits.{max_degree, max_degree_of_places}
+use Rattle.ff_meaning.specs.Refusals.{UnlessMemory, IsFieldLineFault, IsFieldRow, IsNoCurve, range, fault, IsProductRow, IsFactorRow, IsBaseRow, IsPlaceRow, IsRefusalRow}
+use Rattle.ff_meaning.specs.Bindings.{Bindings, Bound, NamedPlace, nothing, with_field, with_places}
 use Rattle.ff_meaning.proofs.TermCodes.{same_terms}
 use Rattle.ff_meaning.proofs.ElementValues.{none_found}
 use Rattle.ff_cert.specs.declared.answer.Answer.{Answer}
@@ -39,9 +41,14 @@ use Rattle.ff_cert.specs.RowCurve.{IsCurveOfTerms}
 use Rattle.ff_cert.specs.RowMul as mul_row
 use Rattle.ff_cert.specs.RowFactor as factor_row
 use Rattle.ff_cert.specs.RowOrder as order_row
-use Rattle.ff_session.specs.declared.session.Bound.{Bound}
+use Rattle.ff_cert.specs.RowPlaces as places_row
+use Rattle.ff_cert.specs.RowNamedPlace as named_place_row
+use Rattle.ff_cert.specs.declared.answer.PlaceLines.{PlaceLines}
+use Rattle.ff_session.specs.declared.bindings.Change.{Change}
+use Rattle.ff_session.specs.declared.bindings.Change.TheVariants as changes
+use Rattle.ff_session.specs.Bound.{bindings_after}
 use Rattle.ff_session.specs.Sessions.{IsStep}
-use Rattle.ff_session.specs.Steps.{bindings_after, HasAnswer, IsBlock, IsFieldAnswer, IsCurveAnswer, IsProductRead, AreFactorsRead}
+use Rattle.ff_session.specs.Steps.{HasAnswer, IsAnswered, IsBlock, IsFieldAnswer, IsCurveAnswer, IsProductRead, AreFactorsRead, ArePlacesRead, IsPlaceRead}
 
 -- a field has no zero divisors
 no_divisors : (k : CodeField) (a b : ℕ) → a < k.ops.size → b < k.ops.size → k.ops.mul a b ≡ 0 → (a ≡ 0) ⊎ (b ≡ 0)
@@ -85,75 +92,78 @@ no_curve_row k f c r h (fault sum is e some holds told) =
 
 -- ---- fields and curves
 
-pub field_answer : (old : Bindings) (s : Statement) (p : ℕ) (tail : Option Modulus) (a : Answer) (k : AnyField)
-    → nothing ≡ old → s ≡ FieldOf p tail → IsFieldAnswer p tail a k
-    → HasAnswer old s a (with_field (data_of k))
-field_answer old s p tail a k is s_is h =
-    subst (λ o. HasAnswer o s a (with_field (data_of k))) is
-    (subst (λ t. HasAnswer nothing t a (with_field (data_of k))) (sym s_is)
-    (subst (λ b. HasAnswer nothing (FieldOf p tail) b (with_field (data_of k))) (sym h.is) (record {
-      is_true = (
-        refl,
-        record {
-          field = data_of k;
-          is_field = data_is k;
-          named = subst (Names p tail) (sym (same_ops k)) h.named;
-          size = subst (λ (o : FieldOps). IsFieldOf o (field_of k).ops.size) (sym (same_ops k))
-              (record { size = refl; no_divisors = no_divisors (field_of k) });
-          bound = refl;
-        },
-      );
-      not_refused = λ r found. no_field_row p tail (field_of k).ops r h.named found.1;
-    })))
+pub field_answer : (s : Statement) (p : ℕ) (tail : Option Modulus) (a : Answer) (k : AnyField) → s ≡ FieldOf p tail
+    → IsFieldAnswer p tail a k → IsAnswered nothing s a (changes.Field k)
+field_answer s p tail a k s_is h =
+    subst (λ t. IsAnswered nothing t a (changes.Field k)) (sym s_is)
+    (subst (λ b. IsAnswered nothing (FieldOf p tail) b (changes.Field k)) (sym h.is) (record {
+      answer = record {
+        is_true = (
+          refl,
+          record {
+            field = data_of k;
+            is_field = data_is k;
+            named = subst (Names p tail) (sym (same_ops k)) h.named;
+            size = subst (λ (o : FieldOps). IsFieldOf o (field_of k).ops.size) (sym (same_ops k))
+                (record { size = refl; no_divisors = no_divisors (field_of k) });
+            bound = refl;
+          },
+        );
+        not_refused = λ r found. no_field_row p tail (field_of k).ops r h.named found.1;
+      };
+      change = refl;
+    }))
 
-pub field_refused : (old : Bindings) (s : Statement) (p : ℕ) (tail : Option Modulus) (r : Refusal) → nothing ≡ old
-    → s ≡ FieldOf p tail → UnlessMemory (IsFieldRow p tail) r → UnlessMemory (IsRefusalRow old s) r
-field_refused old s p tail r is s_is h some = subst (λ o. IsRefusalRow o s r) is
-    (subst (λ t. IsRefusalRow nothing t r) (sym s_is) (refl, h some))
+pub field_refused : (s : Statement) (p : ℕ) (tail : Option Modulus) (r : Refusal) → s ≡ FieldOf p tail
+    → UnlessMemory (IsFieldRow p tail) r → UnlessMemory (IsRefusalRow nothing s) r
+field_refused s p tail r s_is h some = subst (λ t. IsRefusalRow nothing t r) (sym s_is) (refl, h some)
 
-pub curve_answer : (old : Bindings) (s : Statement) (f : List Term) (a : Answer) (k : AnyField) (c : CurveValue)
-    → with_field (data_of k) ≡ old → s ≡ CurveOf f → IsCurveAnswer (field_of k) f a c
-    → HasAnswer old s a (with_curve (data_of k) c)
-curve_answer old s f a k c is s_is h =
-    subst (λ o. HasAnswer o s a (with_curve (data_of k) c)) is
-    (subst (λ t. HasAnswer (with_field (data_of k)) t a (with_curve (data_of k) c)) (sym s_is)
-    (subst (λ b. HasAnswer (with_field (data_of k)) (CurveOf f) b (with_curve (data_of k) c)) (sym h.is) (record {
-      is_true = (
-        refl,
-        record {
-          is_field = data_is k;
-          curve = c;
-          is_curve = subst (λ (l : CodeField). IsCurveOfTerms l f c) (sym (same_field k)) h.curve;
-          degree = refl;
-          number = refl;
-          bound = refl;
-        },
-      );
-      not_refused = λ r found. no_curve_row (field_of k) f c r h.curve
-          (subst (λ (l : CodeField). IsNoCurve l f r) (laws_are k found.0) found.1);
-    })))
+pub curve_answer : (s : Statement) (f : List Term) (a : Answer) (k : AnyField) (c : CurveValue) → s ≡ CurveOf f
+    → IsCurveAnswer (field_of k) f a c → IsAnswered (with_field (data_of k)) s a (changes.Curve c)
+curve_answer s f a k c s_is h =
+    subst (λ t. IsAnswered (with_field (data_of k)) t a (changes.Curve c)) (sym s_is)
+    (subst (λ b. IsAnswered (with_field (data_of k)) (CurveOf f) b (changes.Curve c)) (sym h.is) (record {
+      answer = record {
+        is_true = (
+          refl,
+          record {
+            is_field = data_is k;
+            curve = c;
+            is_curve = subst (λ (l : CodeField). IsCurveOfTerms l f c) (sym (same_field k)) h.curve;
+            degree = refl;
+            number = refl;
+            bound = refl;
+          },
+        );
+        not_refused = λ r found. no_curve_row (field_of k) f c r h.curve
+            (subst (λ (l : CodeField). IsNoCurve l f r) (laws_are k found.0) found.1);
+      };
+      change = (refl, λ is. subst (λ (l : CodeField). IsCurve l c) (sym (laws_are k is)) h.curve.is_curve.curve);
+    }))
 
-pub curve_refused : (old : Bindings) (s : Statement) (f : List Term) (k : AnyField) (r : Refusal)
-    → with_field (data_of k) ≡ old → s ≡ CurveOf f → UnlessMemory (IsNoCurve (field_of k) f) r
-    → UnlessMemory (IsRefusalRow old s) r
-curve_refused old s f k r is s_is h some =
-    subst (λ o. IsRefusalRow o s r) is (subst (λ t. IsRefusalRow (with_field (data_of k)) t r) (sym s_is)
-    (data_is k, subst (λ (l : CodeField). IsNoCurve l f r) (sym (same_field k)) (h some)))
+pub curve_refused : (s : Statement) (f : List Term) (k : AnyField) (r : Refusal) → s ≡ CurveOf f
+    → UnlessMemory (IsNoCurve (field_of k) f) r → UnlessMemory (IsRefusalRow (with_field (data_of k)) s) r
+curve_refused s f k r s_is h some =
+    subst (λ t. IsRefusalRow (with_field (data_of k)) t r) (sym s_is)
+    (data_is k, subst (λ (l : CodeField). IsNoCurve l f r) (sym (same_field k)) (h some))
 
 -- ---- statements over a curve
 
-module _ (k : AnyField) (c : CurveValue) (s : Statement) where
+module _ (k : AnyField) (c : CurveValue) (Ps : List NamedPlace) (s : Statement) where
   abbrev here : Bindings
-  here = with_curve (data_of k) c
+  here = with_places (data_of k) c Ps
+
+  -- a statement that binds nothing
+  answered : (t : Statement) (a : Answer) → s ≡ t → HasAnswer here t a here → IsAnswered here s a changes.Nothing
+  answered t a s_is h = subst (λ u. IsAnswered here u a changes.Nothing) (sym s_is) (record { answer = h; change = tt })
 
   pub mul_answer : (a b : ElemText) (z : WrittenValue) → s ≡ Mul a b → IsProductRead (field_of k) c.fin a b z
-      → HasAnswer here s (answers.Mul z) here
-  mul_answer a b z s_is h =
-      subst (λ t. HasAnswer here t (answers.Mul z) here) (sym s_is) (record {
-        is_true = (data_is k, subst (λ (l : CodeField). mul_row.IsTrue l c.fin a b z) (sym (same_field k)) h.is, refl);
-        not_refused = λ r found. h.no_row r
-            (subst (λ (o : FieldOps). IsProductRow o c.fin.n max_degree a b r) (same_ops k) found);
-      })
+      → IsAnswered here s (answers.Mul z) changes.Nothing
+  mul_answer a b z s_is h = answered (Mul a b) (answers.Mul z) s_is (record {
+    is_true = (data_is k, subst (λ (l : CodeField). mul_row.IsTrue l c.fin a b z) (sym (same_field k)) h.is, refl);
+    not_refused = λ r found. h.no_row r
+        (subst (λ (o : FieldOps). IsProductRow o c.fin.n max_degree a b r) (same_ops k) found);
+  })
 
   pub mul_refused : (a b : ElemText) (r : Refusal) → s ≡ Mul a b
       → UnlessMemory (IsProductRow (field_of k).ops c.fin.n max_degree a b) r → UnlessMemory (IsRefusalRow here s) r
@@ -162,12 +172,11 @@ module _ (k : AnyField) (c : CurveValue) (s : Statement) where
       (subst (λ (o : FieldOps). IsProductRow o c.fin.n max_degree a b r) (sym (same_ops k)) (h some))
 
   pub factor_answer : (g : List Term) (unit : ℕ) (parts : List PowerLine) → s ≡ Factor g
-      → AreFactorsRead (field_of k).ops g unit parts → HasAnswer here s (answers.Factor unit parts) here
-  factor_answer g unit parts s_is h =
-      subst (λ t. HasAnswer here t (answers.Factor unit parts) here) (sym s_is) (record {
-        is_true = (subst (λ (o : FieldOps). factor_row.IsTrue o g unit parts) (sym (same_ops k)) h.is, refl);
-        not_refused = λ r found. h.no_row r (subst (λ (o : FieldOps). IsFactorRow o max_degree g r) (same_ops k) found);
-      })
+      → AreFactorsRead (field_of k).ops g unit parts → IsAnswered here s (answers.Factor unit parts) changes.Nothing
+  factor_answer g unit parts s_is h = answered (Factor g) (answers.Factor unit parts) s_is (record {
+    is_true = (subst (λ (o : FieldOps). factor_row.IsTrue o g unit parts) (sym (same_ops k)) h.is, refl);
+    not_refused = λ r found. h.no_row r (subst (λ (o : FieldOps). IsFactorRow o max_degree g r) (same_ops k) found);
+  })
 
   pub factor_refused : (g : List Term) (r : Refusal) → s ≡ Factor g
       → UnlessMemory (IsFactorRow (field_of k).ops max_degree g) r → UnlessMemory (IsRefusalRow here s) r
@@ -176,25 +185,78 @@ module _ (k : AnyField) (c : CurveValue) (s : Statement) where
       (subst (λ (o : FieldOps). IsFactorRow o max_degree g r) (sym (same_ops k)) (h some))
 
   pub order_true : (side : Side) (zs : List WrittenValue) → s ≡ OrderOf side → order_row.IsTrue (field_of k) c side zs
-      → HasAnswer here s (answers.OrderOf zs) here
-  order_true side zs s_is h =
-      subst (λ t. HasAnswer here t (answers.OrderOf zs) here) (sym s_is) (record {
-        is_true = (data_is k, subst (λ (l : CodeField). order_row.IsTrue l c side zs) (sym (same_field k)) h, refl);
-        not_refused = λ r found. found;
+      → IsAnswered here s (answers.OrderOf zs) changes.Nothing
+  order_true side zs s_is h = answered (OrderOf side) (answers.OrderOf zs) s_is (record {
+    is_true = (data_is k, subst (λ (l : CodeField). order_row.IsTrue l c side zs) (sym (same_field k)) h, refl);
+    not_refused = λ r found. found;
+  })
+
+  pub places_true : (over : Over) (count : ℕ) (Ls : List PlaceLines) → s ≡ Places over
+      → ArePlacesRead (field_of k) c over count Ls → IsAnswered here s (answers.Places count Ls) changes.Nothing
+  places_true over count Ls s_is h = answered (Places over) (answers.Places count Ls) s_is (record {
+    is_true = (
+      data_is k,
+      subst (λ (l : CodeField). places_row.IsTrue l c over count Ls) (sym (same_field k)) h.is,
+      refl,
+    );
+    not_refused = λ r found. h.no_row r
+        (subst (λ (o : FieldOps). IsBaseRow o c.fin.n max_degree_of_places over r) (same_ops k) found);
+  })
+
+  pub places_refused : (over : Over) (r : Refusal) → s ≡ Places over
+      → UnlessMemory (IsBaseRow (field_of k).ops c.fin.n max_degree_of_places over) r
+      → UnlessMemory (IsRefusalRow here s) r
+  places_refused over r s_is h some =
+      subst (λ t. IsRefusalRow here t r) (sym s_is)
+      (subst (λ (o : FieldOps). IsBaseRow o c.fin.n max_degree_of_places over r) (sym (same_ops k)) (h some))
+
+  abbrev bound : Bound
+  bound = record { curve = c; places = Ps }
+
+  pub place_true : (name : List ℕ) (over : Over) (index : ℕ) (L : PlaceLines) (Q : PrimeValue) → s ≡ Place name over index
+      → IsPlaceRead (field_of k) c Ps name over index L Q
+      → IsAnswered here s (answers.Place L) (changes.Place name Q)
+  place_true name over index L Q s_is h =
+      subst (λ t. IsAnswered here t (answers.Place L) (changes.Place name Q)) (sym s_is) (record {
+        answer = record {
+          is_true = (data_is k, subst is_true (sym (same_field k)) (record {
+            count = h.count;
+            places = h.places;
+            all = h.all;
+            among = h.among;
+            number = h.number;
+            place = Q;
+            is_place = h.is_place;
+            bound = refl;
+          }));
+          not_refused = λ r found. h.no_row r
+              (subst (λ (l : CodeField). IsPlaceRow l bound name over index r) (laws_are k found.0) found.1);
+        };
+        change = h.free;
       })
+    where
+      is_true : CodeField → Type 0
+      is_true l = named_place_row.IsTrue l (data_of k) bound name over index L
+          (bindings_after here (changes.Place name Q))
+
+  pub place_refused : (name : List ℕ) (over : Over) (index : ℕ) (r : Refusal) → s ≡ Place name over index
+      → UnlessMemory (IsPlaceRow (field_of k) bound name over index) r → UnlessMemory (IsRefusalRow here s) r
+  place_refused name over index r s_is h some =
+      subst (λ t. IsRefusalRow here t r) (sym s_is)
+      (data_is k, subst (λ (l : CodeField). IsPlaceRow l bound name over index r) (sym (same_field k)) (h some))
 
 -- ---- a step
 
 -- the session has taken in the block of a true answer
-pub stepped : (old new : SessionValue) (s : Statement) (a : Answer) (next : Option Bound) (text : List ℕ)
-    → HasAnswer old.bindings s a (bindings_after old.bindings next) → IsBlock old s a text
-    → new.bindings ≡ bindings_after old.bindings next → new.printed ≡ old.printed + length text → new.bare ≡ old.bare
+pub stepped : (old new : SessionValue) (s : Statement) (a : Answer) (change : Change) (text : List ℕ)
+    → IsAnswered old.bindings s a change → IsBlock old s a text
+    → new.bindings ≡ bindings_after old.bindings change → new.printed ≡ old.printed + length text → new.bare ≡ old.bare
     → IsStep old s text new
-stepped old new s a next text h b bound printed bare = record {
+stepped old new s a change text h b bound printed bare = record {
   answer = a;
   takes = record {
-    is_true = subst (Answers old.bindings s a) (sym bound) h.is_true;
-    not_refused = h.not_refused;
+    is_true = subst (Answers old.bindings s a) (sym bound) h.answer.is_true;
+    not_refused = h.answer.not_refused;
     small = b.small;
     room = b.room;
     count = printed ∙ ap (λ t. old.printed + length t) b.is;

@@ -2,3 +2,4 @@ pub mod LowestElements
 pub mod OneWritten
 pub mod WrittenRows
 pub mod TextOrder
+pub mod TextCases
