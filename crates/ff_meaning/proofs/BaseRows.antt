@@ -5,9 +5,11 @@ use Rattle.ff_fields.specs.Over.{IsOver}
 use Rattle.ff_poly.specs.Words.{IsMonicList, IsIrreducibleList, top_of}
 use Rattle.ff_poly.proofs.Parts.{top_of_monic}
 use Rattle.ff_algebra.specs.CurveTerms.{IsCoefficient, degree_in_x}
-use Rattle.ff_factor.specs.Factors.{FactorsValue}
+use Rattle.ff_factor.specs.Factors.{FactorsValue, IsFactorisation}
 use Rattle.ff_factor.proofs.OneFactorisation.{one_factorisation}
 use Rattle.function_field.specs.declared.side.Side.{Side}
+use Rattle.function_field.specs.declared.side.Side.TheVariants.{Finite}
+use Rattle.function_field.specs.Limits.{max_degree_of_places}
 use Rattle.ff_text.specs.declared.terms.Term.{Term}
 use Rattle.ff_text.specs.Printing.{IsWritableTerms}
 use Rattle.ff_text.specs.Values.{written_codes}
@@ -18,7 +20,7 @@ use Rattle.ff_meaning.specs.declared.refusal.Refusal.TheVariants.{LimitPlace, No
 use Rattle.ff_meaning.specs.Meaning.{IsSumOf, IsPolyOf, IsBase}
 use Rattle.ff_meaning.specs.Refusals.{IsCodeRow, IsFirstPart, IsReducible, IsPolynomialRow, IsBaseRow}
 use Rattle.ff_meaning.specs.Refusals as rows
-use Rattle.ff_meaning.specs.Bases.{IsPolynomialRead, IsRefusedPolynomial}
+use Rattle.ff_meaning.specs.Bases.{IsPolynomialRead, IsRefusedPolynomial, IsBaseRead}
 use Rattle.ff_meaning.specs.Bases as bases
 use Rattle.ff_meaning.proofs.ElementValues.{coefficient_exists, no_y_sum, degree_is, poly_is, same_poly, none_found}
 use Rattle.ff_meaning.proofs.CodeRows.{same_code, no_code, code_some}
@@ -143,3 +145,26 @@ pub refused_row : (k : FieldOps) (n bound : ℕ) (g : List Term) (r : Refusal) �
     → IsPolynomialRow k n bound g r
 refused_row k n bound g r (bases.range h) = rows.range h
 refused_row k n bound g r (bases.degree p is great told) = rows.degree p is great told
+
+-- it is what the places lie over
+pub base_read : (k : FieldOps) (n : ℕ) (g : List Term) (p : List ℕ) → IsPolynomialRead k n max_degree_of_places g p
+    → IsIrreducibleList k p → IsBaseRead k n (At g) Finite p
+base_read k n g p h i = record {
+  base = (refl, h.is, i);
+  codes = h.over;
+  no_row = λ r. no_polynomial_row k n max_degree_of_places g p r h i;
+}
+
+-- ---- the first factor
+
+first_at : (fs : List (List ℕ × ℕ)) (f : List ℕ × ℕ) (h : List ℕ) → 1 ≤ length fs → f ≡ get_or fs 0 f → h ≡ f.0
+    → IsFirstPart fs h
+first_at [] f h some f_is h_is = absurd (omega arith)
+first_at (x ∷ fs) f h some f_is h_is = h_is ∙ ap (λ (y : List ℕ × ℕ). y.0) f_is
+
+-- a copy of the first of the factors
+pub factor_told : (k : FieldOps) (p : List ℕ) → 2 ≤ length p → top_of p ≡ 1 → ¬ IsIrreducibleList k p
+    → (fs : FactorsValue) → IsFactorisation k p fs → (parts : List (List ℕ × ℕ)) → parts ≡ fs.parts → 1 ≤ length parts
+    → (f : List ℕ × ℕ) → f ≡ get_or parts 0 f → (h : List ℕ) → h ≡ f.0 → IsReducible k p h
+factor_told k p long one not fs holds parts same some f f_is h h_is =
+    rows.factor long one not fs holds (subst (λ l. IsFirstPart l h) same (first_at parts f h some f_is h_is))
