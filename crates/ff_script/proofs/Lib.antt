@@ -5,6 +5,7 @@ pub mod Steps
 pub mod Elements
 pub mod ByKind
 pub mod Behind
+pub mod WordRuns
 pub mod TermFronts
 pub mod OverFronts
 pub mod NameFronts

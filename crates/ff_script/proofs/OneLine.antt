@@ -21,7 +21,7 @@ use Rattle.ff_script.proofs.Steps.{number_same, numbers_same, comment_at, blank_
 use Rattle.ff_script.proofs.Elements.{begins_element, fronts_one}
 use Rattle.ff_script.proofs.ByKind.{Kind, FieldKind, CurveKind, MulKind, FactorKind, OrderKind, PlacesKind, PlaceKind, word_of, Held, statement, IsHeldAt, kind_of, word_of_behind, IsWord, word_of_statement, of_kind}
 use Rattle.ff_script.proofs.Behind.{statement_behind}
-use Rattle.ff_script.proofs.TermFronts.{not_inf}
+use Rattle.ff_script.proofs.WordRuns.{not_inf}
 use Rattle.ff_script.proofs.OverFronts.{over_of_place, over_fronts_one}
 use Rattle.ff_script.proofs.NameFronts.{name_fronts_one}
 
@@ -83,8 +83,8 @@ module _ (one_terms : (with_y : Bool) → OneValue (SpellsTerms with_y)) (one_el
 
   one_over : OneValue SpellsOver
   one_over (At g) (At h) bytes p q = ap (λ (x : List Term). At x) (one_terms false g h bytes p q)
-  one_over (At g) Inf bytes p q = absurd (not_inf g bytes [] (codes "nf") p (append-nil bytes ∙ q))
-  one_over Inf (At h) bytes p q = absurd (not_inf h bytes [] (codes "nf") q (append-nil bytes ∙ p))
+  one_over (At g) Inf bytes p q = absurd (not_inf false g bytes [] (codes "nf") p (append-nil bytes ∙ q))
+  one_over Inf (At h) bytes p q = absurd (not_inf false h bytes [] (codes "nf") q (append-nil bytes ∙ p))
   one_over Inf Inf bytes p q = refl
 
   place_same : (a b : Over) (i j : ℕ) (bytes : List ℕ) → IsPlaceAt a i bytes → IsPlaceAt b j bytes → (a ≡ b) × (i ≡ j)

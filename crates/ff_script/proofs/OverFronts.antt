@@ -10,7 +10,8 @@ use Rattle.ff_script.specs.Reading.{IsFront, AreTermsAt, IsOverAt, IsTermsFront,
 use Rattle.ff_script.proofs.Spans.{AllWord}
 use Rattle.ff_script.proofs.Spelled.{number_word, number_some}
 use Rattle.ff_script.proofs.Steps.{word_rest, number_same}
-use Rattle.ff_script.proofs.TermFronts.{term_fronts_one, not_inf}
+use Rattle.ff_script.proofs.WordRuns.{not_inf}
+use Rattle.ff_script.proofs.TermFronts.{term_fronts_one}
 
 -- ---- up to the end
 
@@ -24,13 +25,13 @@ no_over_here bytes no_word no_terms Inf h = no_word h
 -- the word of infinity and a polynomial don't stand at one front
 inf_apart : (bytes r s : List ℕ) (g : List Term) → IsFront (Is (codes "inf")) bytes r
     → IsFront (SpellsTerms false g) bytes s → ⊥
-inf_apart bytes r s g f k = not_inf g k.front (k.gap ++ s) (110 ∷ 102 ∷ (f.gap ++ r)) k.part
+inf_apart bytes r s g f k = not_inf false g k.front (k.gap ++ s) (110 ∷ 102 ∷ (f.gap ++ r)) k.part
     (sym k.whole ∙ f.whole ∙ ap (λ (t : List ℕ). t ++ (f.gap ++ r)) f.part)
 
 pub terms_over : (g : List Term) (bytes rest : List ℕ) → IsTermsFront g bytes rest → IsOverFront (At g) bytes rest
 terms_over g bytes rest h = record { front = h.front; behind = h.behind }
 
-over_terms : (g : List Term) (bytes rest : List ℕ) → IsOverFront (At g) bytes rest → IsTermsFront g bytes rest
+abbrev over_terms : (g : List Term) (bytes rest : List ℕ) → IsOverFront (At g) bytes rest → IsTermsFront g bytes rest
 over_terms g bytes rest h = record { front = h.front; behind = h.behind }
 
 -- the word of infinity, with no word byte behind its blanks
@@ -61,12 +62,12 @@ words_begin : (a b : List ℕ) → AllWord a → a ≢ [] → begins_with_word (
 words_begin [] b h some = absurd (some refl)
 words_begin (c ∷ a) b h some = h.0
 
-number_begins : (bytes : List ℕ) (n : ℕ) (rest : List ℕ) → IsFront (SpellsNumber n) bytes rest
+pub number_begins : (bytes : List ℕ) (n : ℕ) (rest : List ℕ) → IsFront (SpellsNumber n) bytes rest
     → begins_with_word bytes ≡ true
 number_begins bytes n rest f = ap begins_with_word f.whole
     ∙ words_begin f.front (f.gap ++ rest) (number_word n f.front f.part) (number_some n f.front f.part)
 
-pub over_of_place : (over : Over) (index : ℕ) (bytes : List ℕ) (h : IsPlaceAt over index bytes)
+abbrev pub over_of_place : (over : Over) (index : ℕ) (bytes : List ℕ) (h : IsPlaceAt over index bytes)
     → IsOverFront over bytes h.0
 over_of_place over index bytes h = record { front = h.1; behind = number_begins h.0 index [] h.2 }
 

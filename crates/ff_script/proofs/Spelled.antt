@@ -45,7 +45,7 @@ starts_edge (c ∷ a) b h = h
 digit_byte : (c : ℕ) → digit_value c < 10 → (48 ≤ c) × (c ≤ 57)
 digit_byte c h = (grind (arith, nat_tests), grind (arith, nat_tests))
 
-digit_not : (c b : ℕ) → digit_value c < 10 → ((48 ≤ b) × (b ≤ 57) → ⊥) → eqb c b ≡ false
+pub digit_not : (c b : ℕ) → digit_value c < 10 → ((48 ≤ b) × (b ≤ 57) → ⊥) → eqb c b ≡ false
 digit_not c b h other = ne_eqb c b (λ e. other (let k = digit_byte c h in subst (λ n. (48 ≤ n) × (n ≤ 57)) e k))
 
 digit_no_blank : (c : ℕ) → digit_value c < 10 → is_blank c ≡ false

@@ -1,6 +1,6 @@
 //! Reads the statement of a line.
 
-ghost use Rattle.std.specs.Prelude.{◌≡◌, ◌↔◌, ◌⊎◌, ◌++◌, false, List, [], ℕ, IsTrue, IfOk, IfErr, MatchOption, codes};
+ghost use Rattle.std.specs.Prelude.{◌≡◌, ◌↔◌, ◌⊎◌, ◌++◌, false, List, [], ℕ, not, position, IsTrue, IfOk, IfErr, MatchOption, codes};
 ghost use Rattle.std.specs.List.{AllByRecursion};
 ghost use Rattle.ff_text.specs.Spelling.{Is, is_blank, SpellsNumber, SpellsTerms};
 ghost use Rattle.ff_text.specs.Reading.{IsLongestSpelling, IsReadFault};
@@ -336,13 +336,20 @@ fn places(alloc: Global, bytes: &[u8]) -> Result<Option<Statement>, AllocError>
     }
 }
 
+/// The position of the first byte that is no letter, digit or `_`.
+fn word_end(bytes: &[u8]) -> Option<usize>
+    ensures { result ≡ position (λ b. not (is_word_byte b)) bytes.now }
+{
+    bytes.iter().position(|b| !is_word_byte(*b))
+}
+
 /// The bytes up to the first that is no letter, digit or `_`, and those from there on.
 fn split_word(bytes: &[u8]) -> (&[u8], &[u8])
     ensures whole { bytes.now ≡ result.0.now ++ result.1.now }
     ensures word { AllByRecursion (λ b. IsTrue (is_word_byte b)) result.0.now }
     ensures end { begins_with_word result.1.now ≡ false }
 {
-    match bytes.iter().position(|b| !is_word_byte(*b)) {
+    match word_end(bytes) {
         Some(end) => (&bytes[..end], &bytes[end..]),
         None => (bytes, &bytes[bytes.len()..]),
     }
