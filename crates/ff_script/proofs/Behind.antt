@@ -14,7 +14,7 @@ use Rattle.ff_script.specs.declared.script.Statement.TheVariants.{Mul}
 use Rattle.ff_script.specs.Grammar.{ends_with_word, numbers_of, IsWhole, SpellsLine}
 use Rattle.ff_script.specs.Reading.{IsReading, behind_blanks, IsFront, AreNumbersAt, IsModulusAt, AreTermsAt, IsSideAt, IsElementFront, IsBehind}
 use Rattle.ff_script.proofs.Spans.{AllWord, blanks_same, words_same}
-use Rattle.ff_script.proofs.ByKind.{Kind, FieldKind, CurveKind, MulKind, FactorKind, OrderKind, word_of, IsHeldAt, kind_of, none_of_kind, word_of_behind, IsWord, word_of_statement}
+use Rattle.ff_script.proofs.ByKind.{Kind, FieldKind, CurveKind, MulKind, FactorKind, OrderKind, PlacesKind, PlaceKind, word_of, IsHeldAt, kind_of, none_of_kind, word_of_behind, IsWord, word_of_statement}
 use Rattle.ff_script.proofs.Fronts.{IsStatementAt, line_at, line_from}
 use Rattle.ff_script.proofs.Steps.{no_front, number_same, numbers_same}
 use Rattle.ff_script.proofs.Elements.{begins_element, fronts_one}
@@ -170,10 +170,12 @@ no_statement line bytes e none s h =
 
 -- there is one kind for each word that was looked for
 pub no_kind : (bytes : List ℕ) → IsNoWord (codes "field") bytes → IsNoWord (codes "curve") bytes
-    → IsNoWord (codes "mul") bytes → IsNoWord (codes "factor") bytes → IsNoWord (codes "order") bytes → (k : Kind)
-    → IsNoWord (word_of k) bytes
-no_kind bytes no_field no_curve no_mul no_factor no_order FieldKind = no_field
-no_kind bytes no_field no_curve no_mul no_factor no_order CurveKind = no_curve
-no_kind bytes no_field no_curve no_mul no_factor no_order MulKind = no_mul
-no_kind bytes no_field no_curve no_mul no_factor no_order FactorKind = no_factor
-no_kind bytes no_field no_curve no_mul no_factor no_order OrderKind = no_order
+    → IsNoWord (codes "mul") bytes → IsNoWord (codes "factor") bytes → IsNoWord (codes "places") bytes
+    → IsNoWord (codes "place") bytes → IsNoWord (codes "order") bytes → (k : Kind) → IsNoWord (word_of k) bytes
+no_kind bytes no_field no_curve no_mul no_factor no_places no_place no_order FieldKind = no_field
+no_kind bytes no_field no_curve no_mul no_factor no_places no_place no_order CurveKind = no_curve
+no_kind bytes no_field no_curve no_mul no_factor no_places no_place no_order MulKind = no_mul
+no_kind bytes no_field no_curve no_mul no_factor no_places no_place no_order FactorKind = no_factor
+no_kind bytes no_field no_curve no_mul no_factor no_places no_place no_order OrderKind = no_order
+no_kind bytes no_field no_curve no_mul no_factor no_places no_place no_order PlacesKind = no_places
+no_kind bytes no_field no_curve no_mul no_factor no_places no_place no_order PlaceKind = no_place

@@ -6,10 +6,11 @@ use Rattle.ff_text.specs.declared.terms.Term.{Term}
 use Rattle.ff_text.specs.declared.terms.ElemText.{ElemText}
 use Rattle.function_field.specs.declared.side.Side.{Side}
 use Rattle.ff_script.specs.declared.script.Modulus.{Modulus}
+use Rattle.ff_script.specs.declared.script.Over.{Over}
 use Rattle.ff_script.specs.declared.script.Statement.{Statement}
-use Rattle.ff_script.specs.declared.script.Statement.TheVariants.{FieldOf, CurveOf, Mul, Factor, OrderOf}
+use Rattle.ff_script.specs.declared.script.Statement.TheVariants.{FieldOf, CurveOf, Mul, Factor, OrderOf, Places, Place}
 use Rattle.ff_script.specs.Grammar.{ends_with_word, numbers_of, IsWhole}
-use Rattle.ff_script.specs.Reading.{IsFront, AreNumbersAt, AreTermsAt, IsSideAt, IsBehind}
+use Rattle.ff_script.specs.Reading.{IsFront, AreNumbersAt, AreTermsAt, IsSideAt, IsOverAt, IsPlaceAt, IsNameFront, IsBehind}
 use Rattle.ff_script.proofs.Spans.{AllWord}
 
 -- one for each word
@@ -19,6 +20,8 @@ pub data Kind : Type 0 where
   MulKind : Kind
   FactorKind : Kind
   OrderKind : Kind
+  PlacesKind : Kind
+  PlaceKind : Kind
 
 abbrev pub word_of : Kind → List ℕ
 word_of FieldKind = codes "field"
@@ -26,6 +29,8 @@ word_of CurveKind = codes "curve"
 word_of MulKind = codes "mul"
 word_of FactorKind = codes "factor"
 word_of OrderKind = codes "order"
+word_of PlacesKind = codes "places"
+word_of PlaceKind = codes "place"
 
 -- what a statement of the kind holds
 abbrev pub Held : Kind → Type 0
@@ -34,6 +39,8 @@ Held CurveKind = List Term
 Held MulKind = ElemText × ElemText
 Held FactorKind = List Term
 Held OrderKind = Side
+Held PlacesKind = Over
+Held PlaceKind = List ℕ × Over × ℕ
 
 abbrev pub statement : (k : Kind) → Held k → Statement
 statement FieldKind h = FieldOf h.0 h.1
@@ -41,6 +48,8 @@ statement CurveKind f = CurveOf f
 statement MulKind h = Mul h.0 h.1
 statement FactorKind g = Factor g
 statement OrderKind side = OrderOf side
+statement PlacesKind over = Places over
+statement PlaceKind h = Place h.0 h.1 h.2
 
 -- it is what the bytes behind the word are
 abbrev pub IsHeldAt : (k : Kind) → Held k → List ℕ → Type 0
@@ -50,6 +59,8 @@ IsHeldAt MulKind h bytes = (rest : List ℕ) × IsFront (SpellsElement h.0) byte
     × IsFront (SpellsElement h.1) rest []
 IsHeldAt FactorKind g bytes = AreTermsAt false g bytes
 IsHeldAt OrderKind side bytes = IsSideAt side bytes
+IsHeldAt PlacesKind over bytes = IsOverAt over bytes
+IsHeldAt PlaceKind h bytes = (rest : List ℕ) × IsNameFront h.0 bytes rest × IsPlaceAt h.1 h.2 rest
 
 -- ---- each statement is of one kind
 
@@ -59,6 +70,8 @@ kind_of (CurveOf f) = CurveKind
 kind_of (Mul a b) = MulKind
 kind_of (Factor g) = FactorKind
 kind_of (OrderOf side) = OrderKind
+kind_of (Places over) = PlacesKind
+kind_of (Place name over index) = PlaceKind
 
 abbrev pub held_by : (s : Statement) → Held (kind_of s)
 held_by (FieldOf p tail) = (p, tail)
@@ -66,6 +79,8 @@ held_by (CurveOf f) = f
 held_by (Mul a b) = (a, b)
 held_by (Factor g) = g
 held_by (OrderOf side) = side
+held_by (Places over) = over
+held_by (Place name over index) = (name, over, index)
 
 made_again : (s : Statement) → s ≡ statement (kind_of s) (held_by s)
 made_again (FieldOf p tail) = refl
@@ -73,6 +88,8 @@ made_again (CurveOf f) = refl
 made_again (Mul a b) = refl
 made_again (Factor g) = refl
 made_again (OrderOf side) = refl
+made_again (Places over) = refl
+made_again (Place name over index) = refl
 
 behind_held : (word : List ℕ) (s : Statement) (bytes : List ℕ) → IsBehind word s bytes
     → (word ≡ word_of (kind_of s)) × IsHeldAt (kind_of s) (held_by s) bytes
@@ -81,6 +98,8 @@ behind_held word (CurveOf f) bytes h = h
 behind_held word (Mul a b) bytes h = h
 behind_held word (Factor g) bytes h = h
 behind_held word (OrderOf side) bytes h = h
+behind_held word (Places over) bytes h = h
+behind_held word (Place name over index) bytes h = h
 
 -- ---- each word is of one kind
 
@@ -91,7 +110,7 @@ mark (b ∷ bs) = b + 2 * mark bs
 
 abbrev kind_at : ℕ → Kind
 kind_at n = if eqb n 3180 then FieldKind else if eqb n 3349 then CurveKind else if eqb n 775 then MulKind else if eqb n
-    7044 then FactorKind else OrderKind
+    7044 then FactorKind else if eqb n 6804 then PlacesKind else if eqb n 3124 then PlaceKind else OrderKind
 
 told : (k : Kind) → kind_at (mark (word_of k)) ≡ k
 told FieldKind = refl
@@ -99,6 +118,8 @@ told CurveKind = refl
 told MulKind = refl
 told FactorKind = refl
 told OrderKind = refl
+told PlacesKind = refl
+told PlaceKind = refl
 
 same_kind : (k l : Kind) → word_of k ≡ word_of l → k ≡ l
 same_kind k l e = sym (told k) ∙ ap (λ (w : List ℕ). kind_at (mark w)) e ∙ told l
@@ -139,6 +160,8 @@ kind_word CurveKind = record { all = (refl, (refl, (refl, (refl, (refl, tt)))));
 kind_word MulKind = record { all = (refl, (refl, (refl, tt))); ends = refl }
 kind_word FactorKind = record { all = (refl, (refl, (refl, (refl, (refl, (refl, tt)))))); ends = refl }
 kind_word OrderKind = record { all = (refl, (refl, (refl, (refl, (refl, tt))))); ends = refl }
+kind_word PlacesKind = record { all = (refl, (refl, (refl, (refl, (refl, (refl, tt)))))); ends = refl }
+kind_word PlaceKind = record { all = (refl, (refl, (refl, (refl, (refl, tt))))); ends = refl }
 
 pub word_of_statement : (word : List ℕ) (s : Statement) (bytes : List ℕ) → IsBehind word s bytes → IsWord word
 word_of_statement word s bytes h = subst IsWord (sym (word_of_behind word s bytes h)) (kind_word (kind_of s))

@@ -6,11 +6,11 @@ use Rattle.std.proofs.lemmas.List.{append-nil}
 use Rattle.ff_text.specs.Spelling.{Is, Blanks, SpellsNumber, SpellsTerms, SpellsElement}
 use Rattle.ff_text.specs.declared.terms.ElemText.{ElemText}
 use Rattle.ff_script.specs.declared.script.Statement.{Statement}
-use Rattle.ff_script.specs.declared.script.Statement.TheVariants.{FieldOf, CurveOf, Mul, Factor, OrderOf}
-use Rattle.ff_script.specs.Grammar.{begins_with_word, ends_with_word, IsGap, SpellsParts, AreNumbers, numbers_of, SpellsSide, ArePartsOf, SpellsLine}
+use Rattle.ff_script.specs.declared.script.Statement.TheVariants.{FieldOf, CurveOf, Mul, Factor, OrderOf, Places, Place}
+use Rattle.ff_script.specs.Grammar.{begins_with_word, ends_with_word, IsGap, SpellsParts, AreNumbers, numbers_of, SpellsSide, SpellsOver, SpellsName, ArePartsOf, SpellsLine}
 use Rattle.ff_script.specs.Reading.{behind_blanks, begins_with_blank, IsFront, AreNumbersAt, IsBehind}
 use Rattle.ff_script.proofs.Spans.{passed, blanks_passed, gap_no_word, some_gap_no_word, word_goes_on}
-use Rattle.ff_script.proofs.Spelled.{Starts, starts_edge, number_solid, terms_solid, side_solid, element_bracketed}
+use Rattle.ff_script.proofs.Spelled.{Starts, starts_edge, number_solid, terms_solid, side_solid, over_solid, name_solid, element_bracketed}
 
 -- ---- parts from left to right
 
@@ -184,6 +184,15 @@ parts_start (Factor g) parts h = subst (AllByRecursion Starts) (sym h.1)
     (refl, ((terms_solid false g h.0 h.2).starts, tt))
 parts_start (OrderOf side) parts h = subst (AllByRecursion Starts) (sym h.1)
     (refl, ((side_solid side h.0 h.2).starts, tt))
+parts_start (Places over) parts h = subst (AllByRecursion Starts) (sym h.1)
+    (refl, ((over_solid over h.0 h.2).starts, tt))
+parts_start (Place name over index) parts h = subst (AllByRecursion Starts) (sym h.3) (
+  refl,
+  (
+    (name_solid name h.0 h.4).starts,
+    (refl, ((over_solid over h.1 h.5).starts, ((number_solid index h.2 h.6).starts, tt))),
+  ),
+)
 
 no_parts : (s : Statement) → ArePartsOf s [] → ⊥
 no_parts (FieldOf p tail) h = let e = h.1 in cc
@@ -191,6 +200,8 @@ no_parts (CurveOf f) h = let e = h.1 in cc
 no_parts (Mul a b) h = let e = h.2 in cc
 no_parts (Factor g) h = let e = h.1 in cc
 no_parts (OrderOf side) h = let e = h.1 in cc
+no_parts (Places over) h = let e = h.1 in cc
+no_parts (Place name over index) h = let e = h.3 in cc
 
 numbers_at : (ns : List ℕ) (parts : List (List ℕ)) (bytes : List ℕ) → AreNumbers ns parts → AreFronts parts bytes
     → AreNumbersAt ns bytes
@@ -270,6 +281,32 @@ statement_at (OrderOf side) parts bytes h fronts =
       behind =
           (refl, last_at (SpellsSide side) h.0 at.0 h.2 at.2);
     }
+statement_at (Places over) parts bytes h fronts =
+    let at = subst (λ (p : List (List ℕ)). AreFronts p bytes) h.1 fronts in
+    record {
+      word = codes "places";
+      rest = at.0;
+      front = at.1;
+      behind =
+          (refl, last_at (SpellsOver over) h.0 at.0 h.2 at.2);
+    }
+statement_at (Place name over index) parts bytes h fronts =
+    let at = subst (λ (p : List (List ℕ)). AreFronts p bytes) h.3 fronts in
+    let mark = at.2.2 in
+    let base = mark.2 in
+    let named : IsFront (SpellsName name) at.0 at.2.0 = front_as (Is h.0) (SpellsName name) at.0 at.2.0
+    (λ c e. subst (SpellsName name) (sym e) h.4) at.2.1 in
+    let lies : IsFront (SpellsOver over) mark.0 base.0 = front_as (Is h.1) (SpellsOver over) mark.0 base.0
+    (λ c e. subst (SpellsOver over) (sym e) h.5) base.1 in
+    record {
+      word = codes "place";
+      rest = at.0;
+      front = at.1;
+      behind = (
+        refl,
+        (mark.0, (at.2.0, named, mark.1), (base.0, lies, last_at (SpellsNumber index) h.2 base.0 h.6 base.2)),
+      );
+    }
 
 abbrev IsNamed : Statement → List ℕ → Type 0
 IsNamed s bytes = (parts : List (List ℕ)) × ArePartsOf s parts × AreFronts parts bytes
@@ -313,6 +350,29 @@ statement_parts (OrderOf side) bytes h =
       codes "order" ∷ last.0 ∷ [],
       (last.0, refl, last.1),
       (h.rest, subst (λ (w : List ℕ). IsFront (Is w) bytes h.rest) h.behind.0 h.front, last.2),
+    )
+statement_parts (Places over) bytes h =
+    let last = last_parts (SpellsOver over) h.rest h.behind.1 in (
+      codes "places" ∷ last.0 ∷ [],
+      (last.0, refl, last.1),
+      (h.rest, subst (λ (w : List ℕ). IsFront (Is w) bytes h.rest) h.behind.0 h.front, last.2),
+    )
+statement_parts (Place name over index) bytes h =
+    let rest : List ℕ = h.behind.1.0 in
+    let named = h.behind.1.1 in
+    let at = h.behind.1.2 in
+    let number = last_parts (SpellsNumber index) at.0 at.2 in (
+      codes "place" ∷ named.1.front ∷ codes "=" ∷ at.1.front ∷ number.0 ∷ [],
+      (named.1.front, at.1.front, number.0, refl, named.1.part, at.1.part, number.1),
+      (
+        h.rest,
+        subst (λ (w : List ℕ). IsFront (Is w) bytes h.rest) h.behind.0 h.front,
+        (
+          named.0,
+          front_itself (SpellsName name) h.rest named.0 named.1,
+          (rest, named.2, (at.0, front_itself (SpellsOver over) rest at.0 at.1, number.2)),
+        ),
+      ),
     )
 
 -- ---- lines

@@ -5,6 +5,10 @@ pub mod Steps
 pub mod Elements
 pub mod ByKind
 pub mod Behind
+pub mod WordRuns
+pub mod TermFronts
+pub mod OverFronts
+pub mod NameFronts
 pub mod Cuts
 pub mod Progress
 pub mod OneLine

@@ -2,23 +2,28 @@
 use Rattle.std.proofs.Common.{◌≡◌, ℕ, Bool, true, false, List, [], ◌∷◌, ◌++◌, codes, Option, Some, None, refl, sym, ap, subst, ◌∙◌, arith, inl, inr}
 use Rattle.std.proofs.lemmas.Bool.{both_ways}
 use Rattle.std.proofs.lemmas.List.{append-nil}
-use Rattle.ff_text.specs.Spelling.{Blanks, SpellsTerms, SpellsElement}
+use Rattle.ff_text.specs.Spelling.{Blanks, SpellsNumber, SpellsTerms, SpellsElement}
 use Rattle.ff_text.specs.declared.terms.Term.{Term}
 use Rattle.ff_text.specs.declared.terms.ElemText.{ElemText}
 use Rattle.function_field.specs.declared.side.Side.{Side}
 use Rattle.function_field.specs.declared.side.Side.TheVariants.{Finite, Infinite}
 use Rattle.ff_script.specs.declared.script.Modulus.{Modulus}
+use Rattle.ff_script.specs.declared.script.Over.{Over}
+use Rattle.ff_script.specs.declared.script.Over.TheVariants.{At, Inf}
 use Rattle.ff_script.specs.declared.script.Statement.{Statement}
-use Rattle.ff_script.specs.declared.script.Statement.TheVariants.{FieldOf, CurveOf, Mul, Factor, OrderOf}
-use Rattle.ff_script.specs.Grammar.{is_word_byte, numbers_of, SpellsSide, IsSkipped, SpellsLine}
-use Rattle.ff_script.specs.Reading.{behind_blanks, IsFront, AreNumbersAt, IsElementFront, IsBehind}
+use Rattle.ff_script.specs.declared.script.Statement.TheVariants.{FieldOf, CurveOf, Mul, Factor, OrderOf, Places, Place}
+use Rattle.ff_script.specs.Grammar.{is_word_byte, numbers_of, SpellsSide, SpellsOver, IsSkipped, SpellsLine}
+use Rattle.ff_script.specs.Reading.{behind_blanks, IsFront, AreNumbersAt, IsElementFront, IsPlaceAt, IsBehind}
 use Rattle.ff_script.proofs.Spans.{head_same, stopped_same}
-use Rattle.ff_script.proofs.Spelled.{IsSolid, terms_solid, side_solid}
+use Rattle.ff_script.proofs.Spelled.{IsSolid, terms_solid, side_solid, over_solid}
 use Rattle.ff_script.proofs.Fronts.{line_at}
-use Rattle.ff_script.proofs.Steps.{numbers_same, comment_at, blank_at}
+use Rattle.ff_script.proofs.Steps.{number_same, numbers_same, comment_at, blank_at}
 use Rattle.ff_script.proofs.Elements.{begins_element, fronts_one}
-use Rattle.ff_script.proofs.ByKind.{Kind, FieldKind, CurveKind, MulKind, FactorKind, OrderKind, word_of, Held, statement, IsHeldAt, kind_of, word_of_behind, IsWord, word_of_statement, of_kind}
+use Rattle.ff_script.proofs.ByKind.{Kind, FieldKind, CurveKind, MulKind, FactorKind, OrderKind, PlacesKind, PlaceKind, word_of, Held, statement, IsHeldAt, kind_of, word_of_behind, IsWord, word_of_statement, of_kind}
 use Rattle.ff_script.proofs.Behind.{statement_behind}
+use Rattle.ff_script.proofs.WordRuns.{not_inf}
+use Rattle.ff_script.proofs.OverFronts.{over_of_place, over_fronts_one}
+use Rattle.ff_script.proofs.NameFronts.{name_fronts_one}
 
 -- a text spells one value at most
 abbrev pub OneValue : {V : Type 0} → (V → List ℕ → Type 0) → Type 0
@@ -76,6 +81,19 @@ module _ (one_terms : (with_y : Bool) → OneValue (SpellsTerms with_y)) (one_el
       let both = fronts_one bytes a b r s h k in
       (one_element a b k.front.front (subst (SpellsElement a) both.0 h.front.part) k.front.part, both.1)
 
+  one_over : OneValue SpellsOver
+  one_over (At g) (At h) bytes p q = ap (λ (x : List Term). At x) (one_terms false g h bytes p q)
+  one_over (At g) Inf bytes p q = absurd (not_inf false g bytes [] (codes "nf") p (append-nil bytes ∙ q))
+  one_over Inf (At h) bytes p q = absurd (not_inf false h bytes [] (codes "nf") q (append-nil bytes ∙ p))
+  one_over Inf Inf bytes p q = refl
+
+  place_same : (a b : Over) (i j : ℕ) (bytes : List ℕ) → IsPlaceAt a i bytes → IsPlaceAt b j bytes → (a ≡ b) × (i ≡ j)
+  place_same a b i j bytes h k =
+      let both = over_fronts_one bytes a b h.0 k.0 (over_of_place a i bytes h) (over_of_place b j bytes k) in (
+        one_over a b k.1.front (subst (SpellsOver a) both.0 h.1.part) k.1.part,
+        (number_same k.0 i j [] [] (subst (λ (t : List ℕ). IsFront (SpellsNumber i) t []) both.1 h.2) k.2).0,
+      )
+
   -- the bytes are one thing of a kind at most
   held_same : (k : Kind) (a b : Held k) (bytes : List ℕ) → IsHeldAt k a bytes → IsHeldAt k b bytes
       → statement k a ≡ statement k b
@@ -93,6 +111,13 @@ module _ (one_terms : (with_y : Bool) → OneValue (SpellsTerms with_y)) (one_el
       (last_same (SpellsTerms false) (one_terms false) (terms_solid false) f g bytes h k)
   held_same OrderKind s t bytes h k = ap (λ (x : Side). OrderOf x)
       (last_same SpellsSide one_side side_solid s t bytes h k)
+  held_same PlacesKind a b bytes h k = ap (λ (x : Over). Places x)
+      (last_same SpellsOver one_over over_solid a b bytes h k)
+  held_same PlaceKind a b bytes h k =
+      let named = name_fronts_one bytes a.0 b.0 h.0 k.0 h.1 k.1 in
+      let at = place_same a.1 b.1 a.2 b.2 k.0 (subst (IsPlaceAt a.1 a.2) named.1 h.2) k.2 in
+      ap (λ (x : List ℕ). Place x a.1 a.2) named.0 ∙ ap (λ (x : Over). Place b.0 x a.2) at.0
+      ∙ ap (λ (x : ℕ). Place b.0 b.1 x) at.1
 
   behind_same : (word bytes : List ℕ) (s t : Statement) → IsBehind word s bytes → IsBehind word t bytes → s ≡ t
   behind_same word bytes s t h k =

@@ -11,13 +11,15 @@ use Rattle.ff_text.specs.declared.terms.Term.{Term}
 use Rattle.ff_text.specs.declared.terms.ElemText.{ElemText}
 use Rattle.function_field.specs.declared.side.Side.{Side}
 use Rattle.function_field.specs.declared.side.Side.TheVariants.{Finite, Infinite}
+use Rattle.ff_script.specs.declared.script.Over.{Over}
+use Rattle.ff_script.specs.declared.script.Over.TheVariants.{At, Inf}
 use Rattle.ff_script.specs.declared.script.Statement.{Statement}
-use Rattle.ff_script.specs.declared.script.Statement.TheVariants.{FieldOf, CurveOf, Mul, Factor, OrderOf}
-use Rattle.ff_script.specs.Grammar.{IsGap, SpellsParts, AreNumbers, numbers_of, SpellsSide, ArePartsOf, SpellsLine}
-use Rattle.ff_script.specs.Printing.{numbers_text, side_text, statement_text, script_text, IsShort, IsWritable}
+use Rattle.ff_script.specs.declared.script.Statement.TheVariants.{FieldOf, CurveOf, Mul, Factor, OrderOf, Places, Place}
+use Rattle.ff_script.specs.Grammar.{IsGap, SpellsParts, AreNumbers, numbers_of, SpellsSide, SpellsOver, ArePartsOf, SpellsLine}
+use Rattle.ff_script.specs.Printing.{numbers_text, side_text, over_text, statement_text, script_text, IsShort, IsWritableOver, IsWritable}
 use Rattle.ff_script.specs.Scripts.{lines_of, IsReadAs, IsInOrder, IsScript}
 use Rattle.ff_script.proofs.Spans.{all_append, each_blank}
-use Rattle.ff_script.proofs.Spelled.{AreInside, number_solid, terms_solid, side_solid, element_bracketed}
+use Rattle.ff_script.proofs.Spelled.{AreInside, number_solid, terms_solid, side_solid, over_solid, name_solid, element_bracketed}
 use Rattle.ff_script.proofs.Cuts.{is_feed, lines_cut}
 use Rattle.ff_script.proofs.OneScript.{IsOneLine}
 
@@ -59,6 +61,21 @@ parts_unfed (Factor g) parts h = subst (AllByRecursion AreUnfed) (sym h.1)
     ((refl, (refl, (refl, (refl, (refl, (refl, tt)))))), (inside_unfed h.0 (terms_solid false g h.0 h.2).inside, tt))
 parts_unfed (OrderOf side) parts h = subst (AllByRecursion AreUnfed) (sym h.1)
     ((refl, (refl, (refl, (refl, (refl, tt))))), (inside_unfed h.0 (side_solid side h.0 h.2).inside, tt))
+parts_unfed (Places over) parts h = subst (AllByRecursion AreUnfed) (sym h.1)
+    ((refl, (refl, (refl, (refl, (refl, (refl, tt)))))), (inside_unfed h.0 (over_solid over h.0 h.2).inside, tt))
+parts_unfed (Place name over index) parts h = subst (AllByRecursion AreUnfed) (sym h.3) (
+  (refl, (refl, (refl, (refl, (refl, tt))))),
+  (
+    inside_unfed h.0 (name_solid name h.0 h.4).inside,
+    (
+      (refl, tt),
+      (
+        inside_unfed h.1 (over_solid over h.1 h.5).inside,
+        (inside_unfed h.2 (number_solid index h.2 h.6).inside, tt),
+      ),
+    ),
+  ),
+)
 
 joined_unfed : (parts : List (List ℕ)) (core : List ℕ) → AllByRecursion AreUnfed parts → SpellsParts parts core
     → AreUnfed core
@@ -121,12 +138,18 @@ module _ (spelled : AreSpelled) where
   numbers_spelled [] h = refl
   numbers_spelled (n ∷ ns) h = (spelled.number n h.0, numbers_spelled ns h.1)
 
+  over_spelled : (over : Over) → IsWritableOver over → SpellsOver over (over_text over)
+  over_spelled (At g) h = spelled.terms false g h
+  over_spelled Inf h = refl
+
   abbrev parts_of : Statement → List (List ℕ)
   parts_of (FieldOf p tail) = codes "field" ∷ map decimal (p ∷ numbers_of tail)
   parts_of (CurveOf f) = codes "curve" ∷ terms_text f ∷ []
   parts_of (Mul a b) = codes "mul" ∷ element_text a ∷ element_text b ∷ []
   parts_of (Factor g) = codes "factor" ∷ terms_text g ∷ []
   parts_of (OrderOf side) = codes "order" ∷ side_text side ∷ []
+  parts_of (Places over) = codes "places" ∷ over_text over ∷ []
+  parts_of (Place name over index) = codes "place" ∷ name ∷ codes "=" ∷ over_text over ∷ decimal index ∷ []
 
   parts_named : (s : Statement) → IsWritable s → ArePartsOf s (parts_of s)
   parts_named (FieldOf p tail) h = (
@@ -139,6 +162,16 @@ module _ (spelled : AreSpelled) where
   parts_named (Mul a b) h = (element_text a, element_text b, refl, spelled.element a h.0, spelled.element b h.1)
   parts_named (Factor g) h = (terms_text g, refl, spelled.terms false g h)
   parts_named (OrderOf side) h = (side_text side, refl, side_spelled side)
+  parts_named (Places over) h = (over_text over, refl, over_spelled over h)
+  parts_named (Place name over index) h = (
+    name,
+    over_text over,
+    decimal index,
+    refl,
+    (h.0, refl),
+    over_spelled over h.1,
+    spelled.number index h.2,
+  )
 
   parts_joined : (s : Statement) → SpellsParts (parts_of s) (statement_text s)
   parts_joined (FieldOf p tail) = numbers_spaced (codes "field") (p ∷ numbers_of tail)
@@ -147,6 +180,15 @@ module _ (spelled : AreSpelled) where
       (element_text a ++ (32 ∷ element_text b)) (spaced (element_text a) (element_text b) [] (element_text b) refl)
   parts_joined (Factor g) = spaced (codes "factor") (terms_text g) [] (terms_text g) refl
   parts_joined (OrderOf side) = spaced (codes "order") (side_text side) [] (side_text side) refl
+  parts_joined (Places over) = spaced (codes "places") (over_text over) [] (over_text over) refl
+  parts_joined (Place name over index) =
+      let number : List ℕ = decimal index in
+      let base : List ℕ = over_text over ++ (32 ∷ number) in
+      let mark : List ℕ = codes "=" ++ (32 ∷ base) in
+      spaced (codes "place") name (codes "=" ∷ over_text over ∷ number ∷ []) (name ++ (32 ∷ mark))
+      (spaced name (codes "=") (over_text over ∷ number ∷ []) mark
+      (spaced (codes "=") (over_text over) (number ∷ []) base
+      (spaced (over_text over) number [] number refl)))
 
   pub text_spells : (s : Statement) → IsWritable s → SpellsLine s (statement_text s)
   text_spells s h = record {

@@ -1,8 +1,11 @@
 -- Runs of blanks and of word bytes at the front of a list.
-use Rattle.std.proofs.Common.{◌≡◌, ◌≢◌, ℕ, true, false, eqb, ◌≤◌, ◌||◌, List, [], ◌∷◌, ◌++◌, length, refl, sym, ap, subst, ◌∙◌, arith, ◌⊎◌, inl, inr}
-use Rattle.std.specs.Prelude.{IsTrue}
-use Rattle.std.specs.List.{AllByRecursion}
-use Rattle.std.proofs.lemmas.Bool.{eqb-true, or_cases, cases_Bool, both_ways}
+use Rattle.std.proofs.Common.{◌≡◌, ◌≢◌, ℕ, suc, Bool, true, false, cond, not, eqb, ltb, ◌+◌, ◌-◌, ◌<◌, ◌≤◌, ◌||◌, List, [], ◌∷◌, ◌++◌, length, take, drop, get_or, drop-cons, Some, None, refl, sym, ap, subst, ◌∙◌, arith, ◌⊎◌, inl, inr}
+use Rattle.std.specs.Prelude.{IsTrue, position}
+use Rattle.std.specs.List.{AllByRecursion, position_or_len}
+use Rattle.std.proofs.lemmas.Bool.{eqb-true, or_cases, cases_Bool, both_ways, ltb-false}
+use Rattle.std.proofs.lemmas.List.{get_or-take, length-take-le, take_rest}
+use Rattle.std.proofs.lemmas.List.Elements.{recursion_from_All}
+use Rattle.std.proofs.lemmas.List.Quantifiers.{position-Some}
 use Rattle.ff_text.specs.Spelling.{is_blank, Blanks}
 use Rattle.ff_script.specs.Grammar.{is_word_byte, begins_with_word, ends_with_word}
 use Rattle.ff_script.specs.Reading.{behind_blanks, begins_with_blank}
@@ -143,6 +146,54 @@ words_same (c ∷ a) (d ∷ b) x y h k ended_x ended_y e =
     let more = words_same a b x y h.1 k.1 ended_x ended_y (tail_same c d (a ++ x) (b ++ y) e) in
     let tail : a ≡ b = more.0 in
     (cc, more.1)
+
+-- ---- the first byte that is no word byte
+
+-- the test of a word's end
+abbrev pub is_edge : ℕ → Bool
+is_edge b = not (is_word_byte b)
+
+not_edge : (b : ℕ) → is_edge b ≡ false → is_word_byte b ≡ true
+not_edge b h = elim (cases_Bool (is_word_byte b)) [
+  | inl is ↦ is
+  | inr other ↦ absurd (both_ways (is_edge b) h (ap not other))
+]
+
+edge_no_word : (b : ℕ) → is_edge b ≡ true → is_word_byte b ≡ false
+edge_no_word b h = elim (cases_Bool (is_word_byte b)) [
+  | inl is ↦ absurd (both_ways (is_edge b) (ap not is) h)
+  | inr other ↦ other
+]
+
+pub word_before : (bytes : List ℕ) (i : ℕ) → position is_edge bytes ≡ Some i → AllWord (take i bytes)
+word_before bytes i e = recursion_from_All (λ b. IsTrue (is_word_byte b)) (take i bytes)
+    (λ k d lt.
+    let short : k < i = omega (arith, length-take-le i bytes (omega (arith, (position-Some is_edge bytes i d e).0))) in
+    rw get_or-take (not_edge (get_or bytes k d) ((position-Some is_edge bytes i d e).2 k short)))
+
+pub no_word_behind : (bytes : List ℕ) (i : ℕ) → position is_edge bytes ≡ Some i
+    → begins_with_word (take (length bytes - i) (drop i bytes)) ≡ false
+no_word_behind bytes i e =
+    let at = position-Some is_edge bytes i 0 e in
+    ap begins_with_word (take_rest bytes i ∙ drop-cons bytes i 0 at.0) ∙ edge_no_word (get_or bytes i 0) at.1
+
+unguarded : (b : Bool) (n : ℕ) → cond b (Some n) None ≡ None → b ≡ false
+unguarded true n e = absurd cc
+unguarded false n e = refl
+
+all_before : (bytes : List ℕ) → length bytes ≤ position_or_len is_edge bytes → AllWord bytes
+all_before [] h = tt
+all_before (b ∷ bs) h = go (is_word_byte b) refl h (all_before bs)
+  where
+    go : (t : Bool) → is_word_byte b ≡ t
+        → suc (length bs) ≤ cond (not (not t)) (1 + position_or_len is_edge bs) 0
+        → (length bs ≤ position_or_len is_edge bs → AllWord bs) → AllWord (b ∷ bs)
+    go true is l more = (is, more (omega arith))
+    go false other l more = absurd (omega arith)
+
+pub word_whole : (bytes : List ℕ) → position is_edge bytes ≡ None → AllWord bytes
+word_whole bytes e = all_before bytes (ltb-false (position_or_len is_edge bytes) (length bytes)
+    (unguarded (ltb (position_or_len is_edge bytes) (length bytes)) (position_or_len is_edge bytes) e))
 
 -- ---- the end of a text
 

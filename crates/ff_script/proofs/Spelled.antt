@@ -3,7 +3,7 @@ use Rattle.std.proofs.Common.{◌≡◌, ◌≢◌, ℕ, Bool, true, false, eqb,
 use Rattle.std.specs.List.{AllByRecursion}
 use Rattle.std.specs.Char.{digit_value}
 use Rattle.std.specs.Str.Parse.{AllDigits}
-use Rattle.std.proofs.lemmas.Bool.{ne_eqb, or_from, le-leb}
+use Rattle.std.proofs.lemmas.Bool.{ne_eqb, or_from, le-leb, cases_Bool, both_ways, eqb-true}
 use Rattle.std.proofs.lemmas.List.{append-nil}
 use Rattle.std.proofs.lemmas.Bool.Decides.{nat_tests}
 use Rattle.function_field.specs.declared.side.Side.{Side}
@@ -13,9 +13,11 @@ use Rattle.ff_text.specs.declared.terms.Factor.TheVariants.{Code, X, Y}
 use Rattle.ff_text.specs.declared.terms.Term.{Term}
 use Rattle.ff_text.specs.declared.terms.ElemText.{ElemText}
 use Rattle.ff_text.specs.Spelling.{Then, Is, is_blank, Blanks, Around, Each, Joined, SpellsNumber, SpellsPower, SpellsFactor, SpellsFactors, FirstSign, NextSign, SpellsNext, SpellsTerms, SpellsOneTerm, SpellsDen, SpellsTail, SpellsEntries, SpellsElement}
-use Rattle.ff_script.specs.Grammar.{is_word_byte, ends_with_word, SpellsSide}
+use Rattle.ff_script.specs.declared.script.Over.{Over}
+use Rattle.ff_script.specs.declared.script.Over.TheVariants.{At, Inf}
+use Rattle.ff_script.specs.Grammar.{is_word_byte, ends_with_word, begins_with_letter, SpellsSide, SpellsOver, IsName, SpellsName}
 use Rattle.ff_script.specs.Reading.{begins_with_blank}
-use Rattle.ff_script.proofs.Spans.{all_append, each_blank, AllWord, all_word_ends, IsStopped, stopped_behind}
+use Rattle.ff_script.proofs.Spans.{all_append, each_blank, blank_no_word, AllWord, all_word_ends, IsStopped, stopped_behind}
 
 -- ---- bytes
 
@@ -43,7 +45,7 @@ starts_edge (c ∷ a) b h = h
 digit_byte : (c : ℕ) → digit_value c < 10 → (48 ≤ c) × (c ≤ 57)
 digit_byte c h = (grind (arith, nat_tests), grind (arith, nat_tests))
 
-digit_not : (c b : ℕ) → digit_value c < 10 → ((48 ≤ b) × (b ≤ 57) → ⊥) → eqb c b ≡ false
+pub digit_not : (c b : ℕ) → digit_value c < 10 → ((48 ≤ b) × (b ≤ 57) → ⊥) → eqb c b ≡ false
 digit_not c b h other = ne_eqb c b (λ e. other (let k = digit_byte c h in subst (λ n. (48 ≤ n) × (n ≤ 57)) e k))
 
 digit_no_blank : (c : ℕ) → digit_value c < 10 → is_blank c ≡ false
@@ -251,6 +253,52 @@ side_solid Infinite bytes h = subst IsSolid (sym h)
           ),
         ),
       );
+    })
+
+-- ---- what places lie over
+
+pub over_solid : (over : Over) (bytes : List ℕ) → SpellsOver over bytes → IsSolid bytes
+over_solid (At g) bytes h = terms_solid false g bytes h
+over_solid Inf bytes h = subst IsSolid (sym h)
+    (record { starts = refl; stops = refl; inside = ((refl, refl), ((refl, refl), ((refl, refl), tt))) })
+
+-- ---- names
+
+word_no_blank : (b : ℕ) → is_word_byte b ≡ true → is_blank b ≡ false
+word_no_blank b h = elim (cases_Bool (is_blank b)) [
+  | inl is ↦ absurd (both_ways (is_word_byte b) (blank_no_word b is) h)
+  | inr not ↦ not
+]
+
+-- a word byte is no other byte
+word_not : (b c : ℕ) → is_word_byte c ≡ false → is_word_byte b ≡ true → eqb b c ≡ false
+word_not b c other h = elim (cases_Bool (eqb b c)) [
+  | inl is ↦ absurd (both_ways (is_word_byte b) (ap is_word_byte (eqb-true b c is) ∙ other) h)
+  | inr not ↦ not
+]
+
+words_inside : (bytes : List ℕ) → AllWord bytes → AreInside bytes
+words_inside [] h = tt
+words_inside (b ∷ bs) h = ((word_not b 91 refl h.0, word_not b 10 refl h.0), words_inside bs h.1)
+
+words_start : (bytes : List ℕ) → AllWord bytes → bytes ≢ [] → Starts bytes
+words_start [] h some = absurd (some refl)
+words_start (b ∷ bs) h some = word_no_blank b h.0
+
+words_stop : (bytes : List ℕ) → AllWord bytes → bytes ≢ [] → IsStopped bytes
+words_stop [] h some = absurd (some refl)
+words_stop (b ∷ []) h some = word_no_blank b h.0
+words_stop (b ∷ c ∷ bs) h some = words_stop (c ∷ bs) h.1 (λ e. cc)
+
+pub name_some : (name : List ℕ) → IsName name → name ≢ []
+name_some name h none = both_ways (begins_with_letter name) (ap begins_with_letter none) h.letter
+
+pub name_solid : (name bytes : List ℕ) → SpellsName name bytes → IsSolid bytes
+name_solid name bytes h = subst IsSolid (sym h.1)
+    (record {
+      starts = words_start name h.0.bytes (name_some name h.0);
+      stops = words_stop name h.0.bytes (name_some name h.0);
+      inside = words_inside name h.0.bytes;
     })
 
 -- ---- elements

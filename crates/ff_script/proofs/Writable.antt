@@ -9,11 +9,13 @@ use Rattle.ff_text.specs.declared.terms.ElemText.{ElemText}
 use Rattle.ff_text.specs.Spelling.{Then, Around, Each, SpellsPower, SpellsFactor, SpellsFactors, SpellsNext, SpellsTerms, SpellsDen, SpellsTail, SpellsEntries, SpellsElement}
 use Rattle.ff_text.specs.Printing.{IsWritableFactor, IsWritableTerm, IsWritableTerms, IsWritableElement}
 use Rattle.ff_text.proofs.Digits.{number_small}
+use Rattle.ff_script.specs.declared.script.Over.{Over}
+use Rattle.ff_script.specs.declared.script.Over.TheVariants.{At, Inf}
 use Rattle.ff_script.specs.declared.script.Statement.{Statement}
-use Rattle.ff_script.specs.declared.script.Statement.TheVariants.{FieldOf, CurveOf, Mul, OrderOf}
+use Rattle.ff_script.specs.declared.script.Statement.TheVariants.{FieldOf, CurveOf, Mul, OrderOf, Places, Place}
 use Rattle.ff_script.specs.declared.script.Statement.TheVariants as statements
-use Rattle.ff_script.specs.Grammar.{AreNumbers, numbers_of, ArePartsOf, SpellsLine}
-use Rattle.ff_script.specs.Printing.{IsShort, IsWritable}
+use Rattle.ff_script.specs.Grammar.{AreNumbers, numbers_of, SpellsOver, ArePartsOf, SpellsLine}
+use Rattle.ff_script.specs.Printing.{IsShort, IsWritableOver, IsWritable}
 
 power_writable : (letter : List ℕ) (n : ℕ) (bytes : List ℕ) → SpellsPower letter n bytes → n < 1000000000
 power_writable letter n bytes (inl h) = let one = h.0 in omega arith
@@ -87,12 +89,18 @@ numbers_writable [] parts h = tt
 numbers_writable (n ∷ ns) [] h = absurd h
 numbers_writable (n ∷ ns) (part ∷ parts) h = (number_small n part h.0, numbers_writable ns parts h.1)
 
+over_writable : (over : Over) (bytes : List ℕ) → SpellsOver over bytes → IsWritableOver over
+over_writable (At g) bytes h = terms_writable false g bytes h
+over_writable Inf bytes h = tt
+
 parts_writable : (s : Statement) (parts : List (List ℕ)) → ArePartsOf s parts → IsWritable s
 parts_writable (FieldOf p tail) parts h = (numbers_writable (p ∷ numbers_of tail) h.0 h.2, h.3)
 parts_writable (CurveOf f) parts h = terms_writable true f h.0 h.2
 parts_writable (Mul a b) parts h = (element_writable a h.0 h.3, element_writable b h.1 h.4)
 parts_writable (statements.Factor g) parts h = terms_writable false g h.0 h.2
 parts_writable (OrderOf side) parts h = tt
+parts_writable (Places over) parts h = over_writable over h.0 h.2
+parts_writable (Place name over index) parts h = (h.4.0, over_writable over h.1 h.5, number_small index h.2 h.6)
 
 -- a statement that a line spells can be written
 pub line_writable : (s : Statement) (line : List ℕ) → SpellsLine s line → IsWritable s

@@ -1,13 +1,13 @@
 //! Reads the statement of a line.
 
-ghost use Rattle.std.specs.Prelude.{◌≡◌, ◌↔◌, ◌++◌, false, List, [], ℕ, IsTrue, IfOk, IfErr, MatchOption, codes};
+ghost use Rattle.std.specs.Prelude.{◌≡◌, ◌↔◌, ◌⊎◌, ◌++◌, false, List, [], ℕ, not, position, IsTrue, IfOk, IfErr, MatchOption, codes};
 ghost use Rattle.std.specs.List.{AllByRecursion};
 ghost use Rattle.ff_text.specs.Spelling.{Is, is_blank, SpellsNumber, SpellsTerms};
 ghost use Rattle.ff_text.specs.Reading.{IsLongestSpelling, IsReadFault};
 ghost use Rattle.ff_text.specs.declared.terms.Term.{Term};
 ghost use Rattle.ff_text.specs.declared.terms.ElemText.{ElemText};
 ghost use Rattle.ff_script.specs.declared.script.Over.{Over};
-ghost use Rattle.ff_script.specs.Grammar.{is_word_byte, begins_with_word, ends_with_word, IsName, SpellsOver, SpellsLine, IsSkipped};
+ghost use Rattle.ff_script.specs.Grammar.{is_word_byte, begins_with_word, ends_with_word, IsName, SpellsLine, IsSkipped};
 ghost use Rattle.ff_script.specs.Reading.{IsReading, behind_blanks, IsFront, AreNumbersAt, IsModulusAt, AreTermsAt, IsSideAt, IsOverAt, IsTermsFront, IsOverFront, IsPlaceAt, IsNameFront, is_behind_element, IsElementFront, IsBehind};
 
 use crate::script::{CodeList, Modulus, Name, Over, Statement};
@@ -283,7 +283,11 @@ fn next_terms(alloc: Global, bytes: &[u8]) -> Result<Option<(TermList, &[u8])>, 
         Err(TextFault::Syntax(_)) => return Ok(None),
         Err(TextFault::CodeRange(_)) => unreachable!(),
     };
-    let rest = behind_blanks(&bytes[end..]);
+    let behind = &bytes[end..];
+    if begins_with_word(behind) {
+        return Ok(None);
+    }
+    let rest = behind_blanks(behind);
     if begins_with_word(rest) {
         return Ok(Some((g, rest)));
     }
@@ -297,14 +301,14 @@ fn over_at(alloc: Global, bytes: &[u8]) -> Result<Option<Over>, AllocError>
     if is_word(bytes, b"inf") {
         return Ok(Some(Over::Inf));
     }
-    match polynomial(alloc, false, bytes)? {
-        Some(g) => Ok(Some(Over::At(g))),
-        None => Ok(None),
-    }
+    let Some(g) = polynomial(alloc, false, bytes)? else {
+        return Ok(None);
+    };
+    Ok(Some(Over::At(g)))
 }
 
-/// What places lie over, of bytes that begin with it, if a letter, a digit or `_` stands behind the blanks after it; and
-/// what stands there.
+/// What places lie over, of bytes that begin with it, if a letter, a digit or `_` stands behind the blanks after it;
+/// and what stands there.
 fn next_over(alloc: Global, bytes: &[u8]) -> Result<Option<(Over, &[u8])>, AllocError>
     ensures { IfOk result (λ o. MatchOption o
         ((over : Over) (rest : List ℕ) → ¬ IsOverFront over bytes.now rest)
@@ -332,15 +336,33 @@ fn places(alloc: Global, bytes: &[u8]) -> Result<Option<Statement>, AllocError>
     }
 }
 
+/// The position of the first byte that is no letter, digit or `_`.
+fn word_end(bytes: &[u8]) -> Option<usize>
+    ensures { result ≡ position (λ b. not (is_word_byte b)) bytes.now }
+{
+    bytes.iter().position(|b| !is_word_byte(*b))
+}
+
 /// The bytes up to the first that is no letter, digit or `_`, and those from there on.
 fn split_word(bytes: &[u8]) -> (&[u8], &[u8])
     ensures whole { bytes.now ≡ result.0.now ++ result.1.now }
     ensures word { AllByRecursion (λ b. IsTrue (is_word_byte b)) result.0.now }
     ensures end { begins_with_word result.1.now ≡ false }
 {
-    match bytes.iter().position(|b| !is_word_byte(*b)) {
+    match word_end(bytes) {
         Some(end) => (&bytes[..end], &bytes[end..]),
         None => (bytes, &bytes[bytes.len()..]),
+    }
+}
+
+/// Whether the word is `x`, `y` or `inf`, which are no names.
+fn is_reserved(word: &[u8]) -> bool
+    ensures { IsTrue result ↔ (word.now ≡ codes "x") ⊎ ((word.now ≡ codes "y") ⊎ (word.now ≡ codes "inf")) }
+{
+    match word {
+        [first] => *first == b'x' || *first == b'y',
+        [first, second, third] => *first == b'i' && *second == b'n' && *third == b'f',
+        _ => false,
     }
 }
 
@@ -353,7 +375,7 @@ fn is_name(word: &[u8]) -> bool
         [first, ..] => first.is_ascii_alphabetic(),
         [] => false,
     };
-    begins && word.len() <= 32 && word != b"x" && word != b"y" && word != b"inf"
+    begins && word.len() <= 32 && !is_reserved(word)
 }
 
 /// The name that the bytes begin with, and what stands behind the blanks after the `=` that follows.

@@ -1,7 +1,7 @@
 use Rattle.std.proofs.Common.{ℕ, List, subst}
 use Rattle.ff_text.specs.Spelling.{Is}
 use Rattle.ff_script.specs.Reading.{IsFront}
-use Rattle.ff_script.proofs.ByKind.{FieldKind, CurveKind, MulKind, FactorKind, OrderKind, kind_word, word_of}
+use Rattle.ff_script.proofs.ByKind.{FieldKind, CurveKind, MulKind, FactorKind, OrderKind, PlacesKind, PlaceKind, kind_word, word_of}
 use Rattle.ff_script.proofs.Behind.{reading_of_line, read_of_line, no_statement, no_kind}
 use Rattle.ff_script.proofs.reading.read_statement.Goals as goal
 
@@ -25,13 +25,24 @@ returns-in-Some-behind_word-3 c = read_of_line (word_of FactorKind) c.args.line.
     c.in-Some-behind_word-3.ensures c.factor.result c.factor.ensures
 
 pub returns-in-Some-behind_word-4 : goal.returns-in-Some-behind_word-4
-returns-in-Some-behind_word-4 c =
-    let front = subst (λ (t : List ℕ). IsFront (Is (word_of OrderKind)) t c.in-Some-behind_word-4.rest.now)
-    c.behind_blanks-bytes.ensures c.in-Some-behind_word-4.ensures in
-    reading_of_line (word_of OrderKind) c.args.line.now c.in-Some-behind_word-4.rest.now (kind_word OrderKind) front
+returns-in-Some-behind_word-4 c = read_of_line (word_of PlacesKind) c.args.line.now c.behind_blanks-bytes.result.now
+    c.in-Some-behind_word-4.rest.now c.behind_blanks-bytes.ensures (kind_word PlacesKind)
+    c.in-Some-behind_word-4.ensures c.places.result c.places.ensures
+
+pub returns-in-Some-behind_word-5 : goal.returns-in-Some-behind_word-5
+returns-in-Some-behind_word-5 c = read_of_line (word_of PlaceKind) c.args.line.now c.behind_blanks-bytes.result.now
+    c.in-Some-behind_word-5.rest.now c.behind_blanks-bytes.ensures (kind_word PlaceKind)
+    c.in-Some-behind_word-5.ensures c.place.result c.place.ensures
+
+pub returns-in-Some-behind_word-6 : goal.returns-in-Some-behind_word-6
+returns-in-Some-behind_word-6 c =
+    let front = subst (λ (t : List ℕ). IsFront (Is (word_of OrderKind)) t c.in-Some-behind_word-6.rest.now)
+    c.behind_blanks-bytes.ensures c.in-Some-behind_word-6.ensures in
+    reading_of_line (word_of OrderKind) c.args.line.now c.in-Some-behind_word-6.rest.now (kind_word OrderKind) front
     c.order.result c.order.ensures
 
 pub returns-in-None : goal.returns-in-None
 returns-in-None c = no_statement c.args.line.now c.behind_blanks-bytes.result.now c.behind_blanks-bytes.ensures
     (no_kind c.behind_blanks-bytes.result.now c.in_default.ensures c.in_default-behind_word.ensures
-    c.in_default-behind_word-2.ensures c.in_default-behind_word-3.ensures c.in-None.ensures)
+    c.in_default-behind_word-2.ensures c.in_default-behind_word-3.ensures c.in_default-behind_word-4.ensures
+    c.in_default-behind_word-5.ensures c.in-None.ensures)
