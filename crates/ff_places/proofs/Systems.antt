@@ -28,7 +28,7 @@ use Rattle.ff_lattice.specs.Quotients.{QuotientValue, IsIdealLattice, dimension}
 use Rattle.value_theory.specs.Primes.{PrimeValue, IsPrimeOf}
 use Rattle.value_theory.proofs.Bridge.{order_set}
 use Rattle.ff_order.proofs.Turns.{radical_is_ideal}
-use Rattle.decomposition_theory.specs.Decompositions.{IsMaximalOrderAt, AreIdempotentsModulo, IsInComponentPrime}
+use Rattle.decomposition_theory.specs.Decompositions.{IsMaximalOrderAt, AreIdempotentsModulo, IsInComponentPrime, IsComponentPrime}
 use Rattle.decomposition_theory.specs.Laws.{HaveComponentPrimes, IsPrimeSystem}
 use Rattle.ff_lattice.proofs.OrderRows.{all_from_map}
 use Rattle.ff_written.specs.TextOrder.{HasRowTexts, IsBeforeTexts, texts_of}
@@ -120,6 +120,14 @@ module _ (k : CodeField) (q : QuotientValue) (pi : List ℕ) (l : LatticeValue) 
 
   pub rows_over : Contains k q.p rows (of_poly (equation_of k q.p) (value k pi))
   rows_over = (rows_same _).1 h.over
+
+  pub component_prime : (P : PrimeValue) → IsPrimeOf k q.p q.order P → P.p ≡ pi → P.rows ≡ rows
+      → IsComponentPrime k q pi e P
+  component_prime P prime over is = record {
+    prime = prime;
+    over = over;
+    members = λ z. subst (λ l. Contains k q.p l z ↔ IsInComponentPrime k q e z) (sym is) (rows_same z);
+  }
 
 -- ---- listed and numbered primes
 
