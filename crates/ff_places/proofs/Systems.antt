@@ -1,5 +1,5 @@
--- The primes of an order over a polynomial: the radical, the prime of an idempotent, what the code finds of a prime, and
--- what stays when primes are listed and numbered.
+-- The primes of an order over a polynomial: the radical, the prime of an idempotent, what the code finds of a prime,
+-- and what stays when primes are listed and numbered.
 use Rattle.std.proofs.Common.{◌≡◌, ◌≢◌, ◌↔◌, ◌<◌, ℕ, suc, List, length, get_or, map, refl, sym, ap, ◌∙◌, subst, arith, All}
 use Rattle.std.proofs.lemmas.List.{length-map, get_or-map}
 use Rattle.std.specs.List.{AllPairs, AllZip}
@@ -108,7 +108,8 @@ module _ (k : CodeField) (q : QuotientValue) (pi : List ℕ) (l : LatticeValue) 
   rows_same z = (λ x. (h.spanned z).1 ((members z).0 x), λ x. (members z).1 ((h.spanned z).0 x))
 
   pub rows_maximal : IsMaximalIdeal (functions k q.p).ops (Contains k q.p q.order) (Contains k q.p rows)
-  rows_maximal = maximal_same (functions k q.p) (Contains k q.p q.order) (IsInComponentPrime k q e) (Contains k q.p rows)
+  rows_maximal =
+      maximal_same (functions k q.p) (Contains k q.p q.order) (IsInComponentPrime k q e) (Contains k q.p rows)
       (λ z. ((rows_same z).1, (rows_same z).0)) h.maximal
 
   pub rows_ideal : IsIdealLattice k q.p q.order rows
@@ -200,8 +201,8 @@ abbrev Listed : CodeField → CurveValue → Side → ListedPrime → ListedPrim
 Listed k c s l m =
     HasRowTexts k c s l.prime.rows l.texts × HasRowTexts k c s m.prime.rows m.texts × (¬ ListedBefore m l)
 
-pub in_order : (k : CodeField) (c : CurveValue) (s : Side) → IsCurve k c → (Ps : List PrimeValue) (ls : List ListedPrime)
-    (Qs : List PrimeValue) → AreListed k c s Ps ls → AllZip IsNumbered ls Qs → AreInOrder k c s Qs
+pub in_order : (k : CodeField) (c : CurveValue) (s : Side) → IsCurve k c → (Ps : List PrimeValue)
+    (ls : List ListedPrime) (Qs : List PrimeValue) → AreListed k c s Ps ls → AllZip IsNumbered ls Qs → AreInOrder k c s Qs
 in_order k c s curve Ps ls Qs h zip =
     pairs_right IsNumbered (Listed k c s) (IsNotAfter k c s)
     (λ l m P Q is also listed. record {

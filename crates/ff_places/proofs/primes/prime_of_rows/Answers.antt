@@ -35,5 +35,6 @@ returns-clause-prime g c =
     (subst (λ (x : LatticeValue). (z : Functions k p) → Contains k p inverse z ↔ IsColon k p x rows z) c.lattice.ensures
     c.in_ok-inverse.ensures.members)
     c.args.side 0 e f c.in_ok-inverse.ensures.form
-    (subst (λ (x : LatticeValue). pos f ≡ pivot_degree_of rows -ℤ pivot_degree_of x) c.lattice-2.ensures c.in_ok-f.ensures)
+    (subst (λ (x : LatticeValue). pos f ≡ pivot_degree_of rows -ℤ pivot_degree_of x) c.lattice-2.ensures
+    c.in_ok-f.ensures)
     c.in_ok-e.ensures.inside c.in_ok-e.ensures.not_more)

@@ -10,7 +10,8 @@ use Rattle.ff_places.proofs.primes.primes_above.Goals as goal
 
 pub multiples-requires-clause-some : goal.multiples-requires-clause-some
 multiples-requires-clause-some g c =
-    irreducible_some (g.K.SmallField.field c.args.k.now) c.args.pi.now c.requires.order.pi_in c.requires.order.irreducible
+    let at = c.requires.order in
+    irreducible_some (g.K.SmallField.field c.args.k.now) c.args.pi.now at.pi_in at.irreducible
 
 pub primes_of_quotient-requires-clause-order : goal.primes_of_quotient-requires-clause-order
 primes_of_quotient-requires-clause-order g c =
