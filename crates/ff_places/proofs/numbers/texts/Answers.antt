@@ -14,7 +14,8 @@ loop-z-preserved c =
     let less : c.loop-z.z-index < length c.args.rows.now = omega arith in
     texts_one_more c.args.rows.now c.loop-z.z-index c.z-item.result c.loop-z.texts.items c.push.new.self.items
     c.in_ok-elem_text.field-0 less c.z-item.is
-    (c.in_ok-elem_text.ensures ∙ ap₂ elem_text c.num.ensures c.den.ensures) c.in_ok-push.ensures.items c.loop-z.invariant
+    (c.in_ok-elem_text.ensures ∙ ap₂ elem_text c.num.ensures c.den.ensures) c.in_ok-push.ensures.items
+    c.loop-z.invariant
 
 pub returns : goal.returns
 returns c =

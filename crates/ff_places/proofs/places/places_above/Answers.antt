@@ -21,8 +21,9 @@ pub ordered-requires-clause-forms : goal.ordered-requires-clause-forms
 ordered-requires-clause-forms g c =
     let k = g.K.SmallField.field c.args.k.now in
     system_forms k c.args.c.now c.args.side c.args.o.now c.args.pi.now c.as_slice.result.now
-    (system_of_side k c.args.c.now c.args.side c.args.o.now c.args.pi.now c.presentation.result.now c.presentation.ensures
-    c.in_ok-primes.primes.items c.as_slice.result.now c.as_slice.ensures.value c.in_ok-primes.ensures.primes)
+    (system_of_side k c.args.c.now c.args.side c.args.o.now c.args.pi.now c.presentation.result.now
+    c.presentation.ensures c.in_ok-primes.primes.items c.as_slice.result.now c.as_slice.ensures.value
+    c.in_ok-primes.ensures.primes)
 
 pub returns : goal.returns
 returns g c =
@@ -35,9 +36,10 @@ returns g c =
     let at = c.requires.order in
     let Ps = c.as_slice.result.now in
     let ls = c.as_slice-2.result.now in
-    let sides = subst (All (λ (P : PrimeValue). P.side ≡ s)) (sym c.as_slice.ensures.value) c.in_ok-primes.ensures.sides in
-    let system = system_of_side k C s o pi c.presentation.result.now c.presentation.ensures c.in_ok-primes.primes.items Ps
-    c.as_slice.ensures.value c.in_ok-primes.ensures.primes in
+    let sides = subst (All (λ (P : PrimeValue). P.side ≡ s)) (sym c.as_slice.ensures.value)
+    c.in_ok-primes.ensures.sides in
+    let system = system_of_side k C s o pi c.presentation.result.now c.presentation.ensures
+    c.in_ok-primes.primes.items Ps c.as_slice.ensures.value c.in_ok-primes.ensures.primes in
     let listed = subst (AreListed k C s Ps) (sym c.as_slice-2.ensures.value) c.in_ok-list.ensures in
     let zips = c.numbered.ensures.primes in
     record {
