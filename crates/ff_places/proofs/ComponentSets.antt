@@ -68,7 +68,7 @@ module _ (k : CodeField) (q : QuotientValue) (h : IsQuotient k q) (l : LatticeVa
   neg_in : k.neg 1 < k.size
   neg_in = k.laws.neg_below 1 k.laws.one_below
 
-  rest_vector : V (rest_of k.ops (class_algebra q) e)
+  pub rest_vector : V (rest_of k.ops (class_algebra q) e)
   rest_vector = sum_vector k q h.frame q.one (scale_list (raw_ring k.ops) (k.neg 1) e) h.one_is.codes
       (scale_vector k q h.frame (k.neg 1) neg_in e e_in)
 

@@ -7,7 +7,7 @@ use Rattle.std.proofs.lemmas.Slice.Zip.{AllZip-long}
 use Rattle.std.proofs.lemmas.Bool.{cases_lt, cases_eq}
 use Rattle.std.proofs.lemmas.List.Kept.{AllPairs-cons}
 use Rattle.std.proofs.lemmas.List.Edits.{length-swap, swapped_from_swap}
-use Rattle.std.proofs.lemmas.List.Elements.{All-nil, All-cons, All-head, All-tail}
+use Rattle.std.proofs.lemmas.List.Elements.{All-nil, All-cons}
 use Rattle.std.proofs.lemmas.List.Sorted.{IsPermutation-refl, IsPermutation-trans, IsPermutation-cons, IsPermutation-to_front, IsPermutation-insert, IsPermutation-map, IsPermutation-keeps, All-permutation}
 use Rattle.prime_theory.proofs.Lists.{pairs_head, pairs_tail}
 use Rattle.ff_fields.specs.Field.{CodeField}
@@ -63,7 +63,8 @@ module _ {X : Type 0} (R : X → X → Type 0) where
     origin_below a b n m (inr e) (inr f) l l' l'' = l''
 
     origin_differs : (a b i j : ℕ) (c : (i ≡ a) ⊎ (¬ (i ≡ a))) (d : (i ≡ b) ⊎ (¬ (i ≡ b)))
-        (c' : (j ≡ a) ⊎ (¬ (j ≡ a))) (d' : (j ≡ b) ⊎ (¬ (j ≡ b))) → ¬ (i ≡ j) → ¬ (origin a b i c d ≡ origin a b j c' d')
+        (c' : (j ≡ a) ⊎ (¬ (j ≡ a))) (d' : (j ≡ b) ⊎ (¬ (j ≡ b))) → ¬ (i ≡ j)
+        → ¬ (origin a b i c d ≡ origin a b j c' d')
     origin_differs a b i j (inl e) d (inl e') d' ne o = omega arith
     origin_differs a b i j (inl e) d (inr e') (inl f') ne o = omega arith
     origin_differs a b i j (inl e) d (inr e') (inr f') ne o = omega arith
@@ -99,8 +100,8 @@ module _ {X : Type 0} (R : X → X → Type 0) where
 
     pub pairs_permutation : (xs ys : List X) → IsPermutation xs ys → AllPairs R xs → AllPairs R ys
     pairs_permutation xs ys p h i j d less within =
-        IsPermutation-keeps xs Apart (apart_of xs h) (λ l a b a_in b_in kept. apart_swap l a b a_in b_in kept) ys p i j d
-        (omega arith) (omega arith) within
+        IsPermutation-keeps xs Apart (apart_of xs h) (λ l a b a_in b_in kept. apart_swap l a b a_in b_in kept) ys p
+        i j d (omega arith) (omega arith) within
 
 -- ---- one more prime
 

@@ -1,13 +1,12 @@
 -- Primes of an order of a side of a curve.
-use Rattle.std.proofs.Common.{◌≡◌, ◌≤◌, ℕ, List, [], ◌∷◌, map, All}
+use Rattle.std.proofs.Common.{◌≡◌, ℕ, List, [], ◌∷◌, All, sym, subst}
 use Rattle.std.specs.List.{AllZip}
-use Rattle.std.specs.List.Sorted.{IsPermutation}
 use Rattle.std.proofs.lemmas.List.Elements.{All-weaker}
 use Rattle.ff_fields.specs.Field.{CodeField}
 use Rattle.function_field.specs.declared.side.Side.{Side}
 use Rattle.function_field.specs.declared.side.Side.TheVariants.{Finite, Infinite}
 use Rattle.function_field.specs.Curves.{CurveValue, IsCurve}
-use Rattle.function_field.specs.Values.{IsPresOver}
+use Rattle.function_field.specs.Values.{PresValue, IsPresOver}
 use Rattle.ff_lattice.specs.Lattices.{LatticeValue, IsLatticeValue}
 use Rattle.value_theory.specs.IntegralLattices.{presentation}
 use Rattle.value_theory.specs.Primes.{PrimeValue, IsPrimeOf, AreAllPrimes}
@@ -23,6 +22,13 @@ use Rattle.ff_places.proofs.Systems.{system_kept, all_kept, in_order}
 pub over_side : (k : CodeField) (c : CurveValue) → IsCurve k c → (s : Side) → IsPresOver k.ops (presentation c s)
 over_side k c h Finite = h.fin_over
 over_side k c h Infinite = h.inf_over
+
+-- the same list of primes, of the presentation that is that of the side
+pub system_of_side : (k : CodeField) (c : CurveValue) (s : Side) (o : LatticeValue) (pi : List ℕ) (p : PresValue)
+    → p ≡ presentation c s → (Ps Qs : List PrimeValue) → Qs ≡ Ps → IsPrimeSystem k p o pi Ps
+    → IsPrimeSystem k (presentation c s) o pi Qs
+system_of_side k c s o pi p p_is Ps Qs same h =
+    subst (λ q. IsPrimeSystem k q o pi Qs) p_is (subst (IsPrimeSystem k p o pi) (sym same) h)
 
 -- the rows of the primes of a list are lattices
 pub system_forms : (k : CodeField) (c : CurveValue) (s : Side) (o : LatticeValue) (pi : List ℕ) (Ps : List PrimeValue)

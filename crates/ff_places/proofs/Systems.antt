@@ -1,5 +1,5 @@
--- The primes of an order over a polynomial: the radical, the prime of an idempotent, what the code finds of a prime, and
--- what stays when primes are listed and numbered.
+-- The primes of an order over a polynomial: the radical, the prime of an idempotent, what the code finds of a prime,
+-- and what stays when primes are listed and numbered.
 use Rattle.std.proofs.Common.{◌≡◌, ◌≢◌, ◌↔◌, ◌<◌, ℕ, suc, List, length, get_or, map, refl, sym, ap, ◌∙◌, subst, arith, All}
 use Rattle.std.proofs.lemmas.List.{length-map, get_or-map}
 use Rattle.std.specs.List.{AllPairs, AllZip}
@@ -28,7 +28,7 @@ use Rattle.ff_lattice.specs.Quotients.{QuotientValue, IsIdealLattice, dimension}
 use Rattle.value_theory.specs.Primes.{PrimeValue, IsPrimeOf}
 use Rattle.value_theory.proofs.Bridge.{order_set}
 use Rattle.ff_order.proofs.Turns.{radical_is_ideal}
-use Rattle.decomposition_theory.specs.Decompositions.{IsMaximalOrderAt, AreIdempotentsModulo, IsInComponentPrime}
+use Rattle.decomposition_theory.specs.Decompositions.{IsMaximalOrderAt, AreIdempotentsModulo, IsInComponentPrime, IsComponentPrime}
 use Rattle.decomposition_theory.specs.Laws.{HaveComponentPrimes, IsPrimeSystem}
 use Rattle.ff_lattice.proofs.OrderRows.{all_from_map}
 use Rattle.ff_written.specs.TextOrder.{HasRowTexts, IsBeforeTexts, texts_of}
@@ -108,7 +108,8 @@ module _ (k : CodeField) (q : QuotientValue) (pi : List ℕ) (l : LatticeValue) 
   rows_same z = (λ x. (h.spanned z).1 ((members z).0 x), λ x. (members z).1 ((h.spanned z).0 x))
 
   pub rows_maximal : IsMaximalIdeal (functions k q.p).ops (Contains k q.p q.order) (Contains k q.p rows)
-  rows_maximal = maximal_same (functions k q.p) (Contains k q.p q.order) (IsInComponentPrime k q e) (Contains k q.p rows)
+  rows_maximal =
+      maximal_same (functions k q.p) (Contains k q.p q.order) (IsInComponentPrime k q e) (Contains k q.p rows)
       (λ z. ((rows_same z).1, (rows_same z).0)) h.maximal
 
   pub rows_ideal : IsIdealLattice k q.p q.order rows
@@ -120,6 +121,14 @@ module _ (k : CodeField) (q : QuotientValue) (pi : List ℕ) (l : LatticeValue) 
 
   pub rows_over : Contains k q.p rows (of_poly (equation_of k q.p) (value k pi))
   rows_over = (rows_same _).1 h.over
+
+  pub component_prime : (P : PrimeValue) → IsPrimeOf k q.p q.order P → P.p ≡ pi → P.rows ≡ rows
+      → IsComponentPrime k q pi e P
+  component_prime P prime over is = record {
+    prime = prime;
+    over = over;
+    members = λ z. subst (λ l. Contains k q.p l z ↔ IsInComponentPrime k q e z) (sym is) (rows_same z);
+  }
 
 -- ---- listed and numbered primes
 
@@ -192,8 +201,8 @@ abbrev Listed : CodeField → CurveValue → Side → ListedPrime → ListedPrim
 Listed k c s l m =
     HasRowTexts k c s l.prime.rows l.texts × HasRowTexts k c s m.prime.rows m.texts × (¬ ListedBefore m l)
 
-pub in_order : (k : CodeField) (c : CurveValue) (s : Side) → IsCurve k c → (Ps : List PrimeValue) (ls : List ListedPrime)
-    (Qs : List PrimeValue) → AreListed k c s Ps ls → AllZip IsNumbered ls Qs → AreInOrder k c s Qs
+pub in_order : (k : CodeField) (c : CurveValue) (s : Side) → IsCurve k c → (Ps : List PrimeValue)
+    (ls : List ListedPrime) (Qs : List PrimeValue) → AreListed k c s Ps ls → AllZip IsNumbered ls Qs → AreInOrder k c s Qs
 in_order k c s curve Ps ls Qs h zip =
     pairs_right IsNumbered (Listed k c s) (IsNotAfter k c s)
     (λ l m P Q is also listed. record {

@@ -177,7 +177,8 @@ vectors_at vs i v l e =
     drop_at (elements_of vs) i v.items (let s = length-map vs (λ (w : Vec ℕ). w.items) in omega arith)
     (ap (λ (w : Vec ℕ). w.items) e ∙ sym (get_or-map (λ (w : Vec ℕ). w.items) vs i v v.items l))
 
-pub same_at : {X : Type 0} (xs : List X) (i : ℕ) (x y : X) → i < length xs → x ≡ get_or xs i x → y ≡ get_or xs i y → x ≡ y
+pub same_at : {X : Type 0} (xs : List X) (i : ℕ) (x y : X) → i < length xs → x ≡ get_or xs i x → y ≡ get_or xs i y
+    → x ≡ y
 same_at xs i x y l e f = e ∙ get_or_default xs i x y l ∙ sym f
 
 pub not_so : IsTrue false → ⊥
@@ -210,7 +211,8 @@ module _ (a b : List (List ℕ)) (i : ℕ) (so_far : Lex IsBeforeText (drop i a)
   module _ (x y : List ℕ) (x_at : drop i a ≡ x ∷ drop (i + 1) a) (y_at : drop i b ≡ y ∷ drop (i + 1) b) where
     pub texts_more : ¬ IsBeforeText x y → ¬ IsBeforeText y x
         → Lex IsBeforeText (drop (i + 1) a) (drop (i + 1) b) ↔ IsBeforeTexts a b
-    texts_more n m = lex_more IsBeforeText text_irreflexive text_transitive a b i (IsBeforeTexts a b) so_far x y x_at y_at
+    texts_more n m =
+        lex_more IsBeforeText text_irreflexive text_transitive a b i (IsBeforeTexts a b) so_far x y x_at y_at
         (text_total x y n m)
 
     pub texts_before : IsBeforeText x y → IsTrue true ↔ IsBeforeTexts a b

@@ -14,7 +14,8 @@ NumberedFrom first (P ∷ Ps) = (P.number ≡ first) × NumberedFrom (suc first)
 module _ (k : CodeField) (c : CurveValue) (s : Side) where
   -- the texts of the rows of Q don't come before those of P
   pub record IsNotAfter (P Q : PrimeValue) : Type 0 where
-    pub texts : (ts us : List (List ℕ)) → HasRowTexts k c s P.rows ts → HasRowTexts k c s Q.rows us → ¬ IsBeforeTexts us ts
+    pub texts : (ts us : List (List ℕ)) → HasRowTexts k c s P.rows ts → HasRowTexts k c s Q.rows us
+        → ¬ IsBeforeTexts us ts
 
   -- no prime has texts that come before those of an earlier one
   abbrev pub AreInOrder : List PrimeValue → Type 0

@@ -147,7 +147,8 @@ fn primes_of_idempotents<K: SmallField>(
     requires order { IsMaximalOrderAt (K.field k.now) q.now.p q.now.order pi.now }
     requires radical { IsIdealAbove (K.field k.now) q.now radical.now }
     requires components { All (HasComponent (K.field k.now) q.now pi.now radical.now) (elements_of es.now) }
-    ensures primes { IfOk result (λ v. AllZip (IsComponentPrime (K.field k.now) q.now pi.now) (elements_of es.now) v.items) }
+    ensures primes { IfOk result (λ v.
+        AllZip (IsComponentPrime (K.field k.now) q.now pi.now) (elements_of es.now) v.items) }
     ensures sides { IfOk result (λ v. All (λ q. q.side ≡ side) v.items) }
 {
     let mut primes = Vec::new(alloc);

@@ -1,5 +1,5 @@
 -- Names at the front of a line, and what stands behind the words of places.
-use Rattle.std.proofs.Common.{◌≡◌, ◌≢◌, ℕ, true, false, List, [], ◌∷◌, ◌++◌, codes, refl, sym, ap, subst, ◌∙◌}
+use Rattle.std.proofs.Common.{◌≡◌, ◌≢◌, ℕ, false, List, ◌++◌, codes, refl, sym, ap, subst, ◌∙◌}
 use Rattle.std.proofs.lemmas.Bool.{both_ways}
 use Rattle.ff_text.specs.Spelling.{Is}
 use Rattle.ff_script.specs.declared.script.Over.{Over}

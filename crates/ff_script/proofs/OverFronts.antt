@@ -5,7 +5,7 @@ use Rattle.ff_text.specs.Spelling.{Is, SpellsNumber, SpellsTerms}
 use Rattle.ff_text.specs.declared.terms.Term.{Term}
 use Rattle.ff_script.specs.declared.script.Over.{Over}
 use Rattle.ff_script.specs.declared.script.Over.TheVariants.{At, Inf}
-use Rattle.ff_script.specs.Grammar.{begins_with_word, SpellsOver}
+use Rattle.ff_script.specs.Grammar.{begins_with_word}
 use Rattle.ff_script.specs.Reading.{IsFront, AreTermsAt, IsOverAt, IsTermsFront, IsOverFront, IsPlaceAt}
 use Rattle.ff_script.proofs.Spans.{AllWord}
 use Rattle.ff_script.proofs.Spelled.{number_word, number_some}
@@ -27,9 +27,6 @@ inf_apart : (bytes r s : List ℕ) (g : List Term) → IsFront (Is (codes "inf")
     → IsFront (SpellsTerms false g) bytes s → ⊥
 inf_apart bytes r s g f k = not_inf false g k.front (k.gap ++ s) (110 ∷ 102 ∷ (f.gap ++ r)) k.part
     (sym k.whole ∙ f.whole ∙ ap (λ (t : List ℕ). t ++ (f.gap ++ r)) f.part)
-
-pub terms_over : (g : List Term) (bytes rest : List ℕ) → IsTermsFront g bytes rest → IsOverFront (At g) bytes rest
-terms_over g bytes rest h = record { front = h.front; behind = h.behind }
 
 abbrev over_terms : (g : List Term) (bytes rest : List ℕ) → IsOverFront (At g) bytes rest → IsTermsFront g bytes rest
 over_terms g bytes rest h = record { front = h.front; behind = h.behind }
@@ -91,7 +88,3 @@ pub place_goes_on : (bytes : List ℕ) (a : Over) (rest : List ℕ) (n : ℕ) (m
     → IsFront (SpellsNumber n) rest more → more ≢ [] → (over : Over) (index : ℕ) → IsPlaceAt over index bytes → ⊥
 place_goes_on bytes a rest n more here number some over index h = some
     (number_same rest n index more [] number (number_behind bytes a rest here over index h)).1
-
-pub place_here : (bytes : List ℕ) (a : Over) (rest : List ℕ) (n : ℕ) (more : List ℕ) → IsOverFront a bytes rest
-    → IsFront (SpellsNumber n) rest more → more ≡ [] → IsPlaceAt a n bytes
-place_here bytes a rest n more here number none = (rest, here.front, subst (IsFront (SpellsNumber n) rest) none number)

@@ -16,7 +16,7 @@ use Rattle.ff_script.specs.declared.script.Over.TheVariants.{At, Inf}
 use Rattle.ff_script.specs.declared.script.Statement.{Statement}
 use Rattle.ff_script.specs.declared.script.Statement.TheVariants.{FieldOf, CurveOf, Mul, Factor, OrderOf, Places, Place}
 use Rattle.ff_script.specs.Grammar.{IsGap, SpellsParts, AreNumbers, numbers_of, SpellsSide, SpellsOver, ArePartsOf, SpellsLine}
-use Rattle.ff_script.specs.Printing.{numbers_text, side_text, over_text, place_text, statement_text, script_text, IsShort, IsWritableOver, IsWritable}
+use Rattle.ff_script.specs.Printing.{numbers_text, side_text, over_text, statement_text, script_text, IsShort, IsWritableOver, IsWritable}
 use Rattle.ff_script.specs.Scripts.{lines_of, IsReadAs, IsInOrder, IsScript}
 use Rattle.ff_script.proofs.Spans.{all_append, each_blank}
 use Rattle.ff_script.proofs.Spelled.{AreInside, number_solid, terms_solid, side_solid, over_solid, name_solid, element_bracketed}

@@ -1,6 +1,6 @@
--- Polynomials at the front of a line, with a word byte behind them and their blanks: there is one at most, and it is the
--- longest one.
-use Rattle.std.proofs.Common.{◌≡◌, ◌≢◌, ℕ, true, false, ◌≤◌, List, [], ◌∷◌, ◌++◌, length, drop, refl, sym, ap, subst, ◌∙◌, arith, inl, inr}
+-- Polynomials at the front of a line, with a word byte behind them and their blanks: there is one at most, and it is
+-- the longest one.
+use Rattle.std.proofs.Common.{◌≡◌, ◌≢◌, ℕ, true, false, ◌≤◌, List, [], ◌∷◌, ◌++◌, length, drop, sym, ap, subst, ◌∙◌, arith, inl, inr}
 use Rattle.std.specs.List.{slice_range}
 use Rattle.std.proofs.lemmas.Bool.{both_ways, cases_lt}
 use Rattle.std.proofs.lemmas.List.{append-nil}
@@ -36,7 +36,8 @@ front_same bytes g h rest f long x spelled whole short =
     let c = shorter_front long x f.front.front (f.front.gap ++ rest) short (sym whole ∙ f.front.whole) in
     let none : c.0 ≡ [] = not_longer f.front.front c.0 f.front.gap rest x
     (terms_run false g f.front.front f.front.part)
-    (terms_run false h (f.front.front ++ c.0) (subst (SpellsTerms false h) c.1 spelled)) f.front.blanks (gap_some bytes g rest f) f.behind c.2 in (
+    (terms_run false h (f.front.front ++ c.0) (subst (SpellsTerms false h) c.1 spelled)) f.front.blanks
+    (gap_some bytes g rest f) f.behind c.2 in (
       c.1 ∙ ap (λ (t : List ℕ). f.front.front ++ t) none ∙ append-nil f.front.front,
       sym (c.2 ∙ ap (λ (t : List ℕ). t ++ x) none),
     )
@@ -48,8 +49,7 @@ term_fronts_one bytes g h r s f k = elim (cases_lt (length k.front.front) (lengt
       let both = front_same bytes h g s k f.front.front (f.front.gap ++ r) f.front.part f.front.whole (omega arith) in
       (both.0, blanks_same f.front.gap k.front.gap r s f.front.blanks k.front.blanks f.front.edge k.front.edge both.1)
   | inr le ↦
-      let both = front_same bytes g h r f k.front.front (k.front.gap ++ s) k.front.part k.front.whole le in
-      (
+      let both = front_same bytes g h r f k.front.front (k.front.gap ++ s) k.front.part k.front.whole le in (
         sym both.0,
         blanks_same f.front.gap k.front.gap r s f.front.blanks k.front.blanks f.front.edge k.front.edge (sym both.1),
       )
@@ -57,38 +57,43 @@ term_fronts_one bytes g h r s f k = elim (cases_lt (length k.front.front) (lengt
 
 -- ---- what the reader says
 
-module _ (bytes : List ℕ) (h : List Term) (end : ℕ) (longest : IsLongestSpelling (SpellsTerms false) bytes 0 h end) where
-  -- behind the longest polynomial stands what stands behind the one with a word byte
-  behind_longest : (g : List Term) (rest : List ℕ) (f : IsTermsFront g bytes rest)
-      → drop end bytes ≡ f.front.gap ++ rest
-  behind_longest g rest f =
-      let short : length f.front.front ≤ length (slice_range bytes 0 end) = omega
-      (arith, front_short (SpellsTerms false) bytes h end longest g rest f.front, range_length bytes end longest.within) in
-      (front_same bytes g h rest f (slice_range bytes 0 end) (drop end bytes) longest.spelled (split_at bytes end)
-      short).1
+module _ (bytes : List ℕ) (h : List Term) (end : ℕ) (longest : IsLongestSpelling (SpellsTerms false) bytes 0 h end)
+  where
+    -- behind the longest polynomial stands what stands behind the one with a word byte
+    behind_longest : (g : List Term) (rest : List ℕ) (f : IsTermsFront g bytes rest)
+        → drop end bytes ≡ f.front.gap ++ rest
+    behind_longest g rest f =
+        let short : length f.front.front ≤ length (slice_range bytes 0 end) = omega (
+          arith,
+          front_short (SpellsTerms false) bytes h end longest g rest f.front,
+          range_length bytes end longest.within,
+        ) in
+        (front_same bytes g h rest f (slice_range bytes 0 end) (drop end bytes) longest.spelled (split_at bytes end)
+        short).1
 
-  -- none is there where the longest one goes on with a word byte
-  pub none_goes_on : begins_with_word (drop end bytes) ≡ true → (g : List Term) (rest : List ℕ)
-      → IsTermsFront g bytes rest → ⊥
-  none_goes_on on g rest f = both_ways (begins_with_word (drop end bytes))
-      (ap begins_with_word (behind_longest g rest f)
-      ∙ some_gap_no_word f.front.gap rest f.front.blanks (gap_some bytes g rest f)) on
+    -- none is there where the longest one goes on with a word byte
+    pub none_goes_on : begins_with_word (drop end bytes) ≡ true → (g : List Term) (rest : List ℕ)
+        → IsTermsFront g bytes rest → ⊥
+    none_goes_on on g rest f = both_ways (begins_with_word (drop end bytes))
+        (ap begins_with_word (behind_longest g rest f)
+        ∙ some_gap_no_word f.front.gap rest f.front.blanks (gap_some bytes g rest f)) on
 
-  -- nor where none stands behind its blanks
-  pub none_behind : begins_with_word (behind_blanks (drop end bytes)) ≡ false → (g : List Term) (rest : List ℕ)
-      → IsTermsFront g bytes rest → ⊥
-  none_behind off g rest f =
-      let passed : behind_blanks (drop end bytes) ≡ rest = ap behind_blanks (behind_longest g rest f)
-      ∙ blanks_passed f.front.gap rest f.front.blanks f.front.edge in
-      both_ways (begins_with_word rest) (ap begins_with_word (sym passed) ∙ off) f.behind
+    -- nor where none stands behind its blanks
+    pub none_behind : begins_with_word (behind_blanks (drop end bytes)) ≡ false → (g : List Term) (rest : List ℕ)
+        → IsTermsFront g bytes rest → ⊥
+    none_behind off g rest f =
+        let passed : behind_blanks (drop end bytes) ≡ rest = ap behind_blanks (behind_longest g rest f)
+        ∙ blanks_passed f.front.gap rest f.front.blanks f.front.edge in
+        both_ways (begins_with_word rest) (ap begins_with_word (sym passed) ∙ off) f.behind
 
-  pub longest_terms_front : begins_with_word (drop end bytes) ≡ false
-      → begins_with_word (behind_blanks (drop end bytes)) ≡ true → IsTermsFront h bytes (behind_blanks (drop end bytes))
-  longest_terms_front off behind = record {
-    front = front_here (SpellsTerms false h) bytes (slice_range bytes 0 end) (drop end bytes) longest.spelled
-        (split_at bytes end) (λ k. off);
-    behind = behind;
-  }
+    pub longest_terms_front : begins_with_word (drop end bytes) ≡ false
+        → begins_with_word (behind_blanks (drop end bytes)) ≡ true
+        → IsTermsFront h bytes (behind_blanks (drop end bytes))
+    longest_terms_front off behind = record {
+      front = front_here (SpellsTerms false h) bytes (slice_range bytes 0 end) (drop end bytes) longest.spelled
+          (split_at bytes end) (λ k. off);
+      behind = behind;
+    }
 
 pub no_terms_front : (bytes : List ℕ) → IsNoSpelling (SpellsTerms false) bytes 0 → (g : List Term) (rest : List ℕ)
     → IsTermsFront g bytes rest → ⊥

@@ -1,13 +1,12 @@
--- Between two words or numbers of a polynomial stands more than blanks. So it is told by three states: outside of a word,
--- in one, and behind one and blanks, where no further one may begin.
+-- Between two words or numbers of a polynomial stands more than blanks. So it is told by three states: outside of a
+-- word, in one, and behind one and blanks, where no further one may begin.
 use Rattle.std.proofs.Common.{◌≡◌, ◌≢◌, ℕ, Bool, true, false, eqb, List, [], ◌∷◌, ◌++◌, codes, refl, sym, ap, subst, ◌∙◌, arith, inl, inr}
 use Rattle.std.specs.Prelude.{if◌then◌else◌}
-use Rattle.std.specs.Char.{digit_value}
 use Rattle.std.proofs.lemmas.Bool.{both_ways, cases_Bool}
 use Rattle.ff_text.specs.declared.terms.Factor.{Factor}
 use Rattle.ff_text.specs.declared.terms.Factor.TheVariants.{Code, X, Y}
 use Rattle.ff_text.specs.declared.terms.Term.{Term}
-use Rattle.ff_text.specs.Spelling.{Then, Is, is_blank, Blanks, Around, Each, SpellsNumber, SpellsPower, SpellsFactor, SpellsFactors, FirstSign, NextSign, SpellsNext, SpellsTerms}
+use Rattle.ff_text.specs.Spelling.{Then, is_blank, Blanks, Around, Each, SpellsNumber, SpellsPower, SpellsFactor, SpellsFactors, FirstSign, NextSign, SpellsNext, SpellsTerms}
 use Rattle.ff_script.specs.Grammar.{is_word_byte, begins_with_word, ends_with_word}
 use Rattle.ff_script.proofs.Spans.{AllWord, head_same, tail_same, blank_no_word}
 use Rattle.ff_script.proofs.Spelled.{digit_not, number_word, number_some}
@@ -94,6 +93,7 @@ mark_run mark near far g w = ap (run InWord) w.whole ∙ run_append InWord w.fro
     behind : (s : State) → run s mark ≡ Outside → run s w.back ≡ Outside
     behind s e = run_then s Outside Outside w.back w.second (ap (run s) w.second.first ∙ e)
         (blanks_stay Outside w.second.back refl w.second.second)
+
     go : (gap : List ℕ) → Blanks gap → run (run InWord gap) w.back ≡ Outside
     go [] h = behind InWord near
     go (b ∷ gap) h =
@@ -194,7 +194,8 @@ apart_no_end [] (b ∷ rest) (d ∷ c) x blanks word e ended =
     let other : Dead ≡ InWord = sym dead ∙ ended in
     cc
 apart_no_end (g ∷ gap) rest (d ∷ c) x blanks word e ended =
-    let is : is_blank d ≡ true = subst (λ (n : ℕ). is_blank n ≡ true) (head_same g d (gap ++ rest) (c ++ x) e) blanks.0 in
+    let is : is_blank d ≡ true = subst (λ (n : ℕ). is_blank n ≡ true) (head_same g d (gap ++ rest) (c ++ x) e)
+    blanks.0 in
     apart_no_end gap rest c x blanks.1 word (tail_same g d (gap ++ rest) (c ++ x) e)
     (ap (λ (t : State). run t c) (sym (step_blank Apart d is)) ∙ ended)
 
@@ -204,7 +205,8 @@ pub not_longer : (a c gap rest x : List ℕ) → run Outside a ≡ InWord → ru
 not_longer a [] gap rest x short long blanks some word e = refl
 not_longer a (d ∷ c) [] rest x short long blanks some word e = absurd (some refl)
 not_longer a (d ∷ c) (b ∷ gap) rest x short long blanks some word e =
-    let is : is_blank d ≡ true = subst (λ (n : ℕ). is_blank n ≡ true) (head_same b d (gap ++ rest) (c ++ x) e) blanks.0 in
+    let is : is_blank d ≡ true = subst (λ (n : ℕ). is_blank n ≡ true) (head_same b d (gap ++ rest) (c ++ x) e)
+    blanks.0 in
     let more : run Apart c ≡ InWord = ap (λ (t : State). run t c) (sym (step_blank InWord d is))
     ∙ ap (λ (t : State). run t (d ∷ c)) (sym short) ∙ sym (run_append Outside a (d ∷ c)) ∙ long in
     absurd (apart_no_end gap rest c x blanks.1 word (tail_same b d (gap ++ rest) (c ++ x) e) more)

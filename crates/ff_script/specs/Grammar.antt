@@ -60,7 +60,7 @@ abbrev pub SpellsSide : Side → List ℕ → Type 0
 SpellsSide Finite bytes = bytes ≡ codes "finite"
 SpellsSide Infinite bytes = bytes ≡ codes "infinite"
 
--- what places lie over: a polynomial, or the word of infinity
+-- a base, which places lie over: a polynomial, or the word of infinity
 abbrev pub SpellsOver : Over → List ℕ → Type 0
 SpellsOver (At g) bytes = SpellsTerms false g bytes
 SpellsOver Inf bytes = bytes ≡ codes "inf"
@@ -83,8 +83,8 @@ pub record IsName (name : List ℕ) : Type 0 where
 abbrev pub SpellsName : List ℕ → List ℕ → Type 0
 SpellsName name bytes = IsName name × (bytes ≡ name)
 
--- the parts that spell a statement: its word, and then its numbers, its polynomial, its elements or its side; y stands
--- in that of `curve` alone
+-- the parts that spell a statement: its word, and then its numbers, its polynomial, its elements, its side or its base,
+-- or a name, `=`, a base and a number; y stands in the polynomial of `curve` alone
 abbrev pub ArePartsOf : Statement → List (List ℕ) → Type 0
 ArePartsOf (FieldOf p tail) parts = (numbers : List (List ℕ)) × (parts ≡ codes "field" ∷ numbers)
     × AreNumbers (p ∷ numbers_of tail) numbers × IsWhole tail

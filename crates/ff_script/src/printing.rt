@@ -65,12 +65,7 @@ fn push_over(out: &mut Vec<u8>, over: &Over) -> Result<(), AllocError>
 }
 
 /// What stands behind the word of `place`.
-fn push_place(
-    out: &mut Vec<u8>,
-    name: &Name,
-    over: &Over,
-    index: u32,
-) -> Result<(), AllocError>
+fn push_place(out: &mut Vec<u8>, name: &Name, over: &Over, index: u32) -> Result<(), AllocError>
     ensures { OnOk result (out.new.items ≡ out.old.items ++ place_text name.now over.now index) }
 {
     out.extend_from_slice(name.letters.as_slice())?;

@@ -7,7 +7,7 @@ ghost use Rattle.ff_text.specs.Reading.{IsLongestSpelling, IsReadFault};
 ghost use Rattle.ff_text.specs.declared.terms.Term.{Term};
 ghost use Rattle.ff_text.specs.declared.terms.ElemText.{ElemText};
 ghost use Rattle.ff_script.specs.declared.script.Over.{Over};
-ghost use Rattle.ff_script.specs.Grammar.{is_word_byte, begins_with_word, ends_with_word, IsName, SpellsOver, SpellsLine, IsSkipped};
+ghost use Rattle.ff_script.specs.Grammar.{is_word_byte, begins_with_word, ends_with_word, IsName, SpellsLine, IsSkipped};
 ghost use Rattle.ff_script.specs.Reading.{IsReading, behind_blanks, IsFront, AreNumbersAt, IsModulusAt, AreTermsAt, IsSideAt, IsOverAt, IsTermsFront, IsOverFront, IsPlaceAt, IsNameFront, is_behind_element, IsElementFront, IsBehind};
 
 use crate::script::{CodeList, Modulus, Name, Over, Statement};
@@ -307,8 +307,8 @@ fn over_at(alloc: Global, bytes: &[u8]) -> Result<Option<Over>, AllocError>
     Ok(Some(Over::At(g)))
 }
 
-/// What places lie over, of bytes that begin with it, if a letter, a digit or `_` stands behind the blanks after it; and
-/// what stands there.
+/// What places lie over, of bytes that begin with it, if a letter, a digit or `_` stands behind the blanks after it;
+/// and what stands there.
 fn next_over(alloc: Global, bytes: &[u8]) -> Result<Option<(Over, &[u8])>, AllocError>
     ensures { IfOk result (λ o. MatchOption o
         ((over : Over) (rest : List ℕ) → ¬ IsOverFront over bytes.now rest)
@@ -355,8 +355,8 @@ fn split_word(bytes: &[u8]) -> (&[u8], &[u8])
     }
 }
 
-/// Whether the word is `x`, `y` or `inf`.
-fn is_letter_or_inf(word: &[u8]) -> bool
+/// Whether the word is `x`, `y` or `inf`, which are no names.
+fn is_reserved(word: &[u8]) -> bool
     ensures { IsTrue result ↔ (word.now ≡ codes "x") ⊎ ((word.now ≡ codes "y") ⊎ (word.now ≡ codes "inf")) }
 {
     match word {
@@ -375,7 +375,7 @@ fn is_name(word: &[u8]) -> bool
         [first, ..] => first.is_ascii_alphabetic(),
         [] => false,
     };
-    begins && word.len() <= 32 && !is_letter_or_inf(word)
+    begins && word.len() <= 32 && !is_reserved(word)
 }
 
 /// The name that the bytes begin with, and what stands behind the blanks after the `=` that follows.

@@ -1,3 +1,4 @@
+pub mod NameMaps
 pub mod FactorRows
 pub mod OrderAnswers
 pub mod Products

@@ -14,7 +14,8 @@ returns-then-is_before_text c =
     let l : i < length c.args.a.now = omega (arith, c.min-end.ensures) in
     let m : i < length c.args.b.now = omega (arith, c.min-end.ensures) in
     let b : IsBeforeText x.items y.items = subst (λ t. IsBeforeText t y.items) c.as_slice.ensures.value
-    (subst (IsBeforeText c.as_slice.result.now) c.as_slice-in-loop-i.ensures.value (c.if-is_before_text.ensures.0 refl)) in
+    (subst (IsBeforeText c.as_slice.result.now) c.as_slice-in-loop-i.ensures.value
+    (c.if-is_before_text.ensures.0 refl)) in
     texts_before (elements_of c.args.a.now) (elements_of c.args.b.now) i c.loop-i.invariant x.items y.items
     (vectors_at c.args.a.now i x l c.index-a-i.is) (vectors_at c.args.b.now i y m c.index-b-i.is) b
 
@@ -54,10 +55,11 @@ loop-i-preserved c =
 
 pub returns : goal.returns
 returns c =
+    let xs = elements_of c.args.a.now in
+    let ys = elements_of c.args.b.now in
     let s = length-map c.args.a.now (λ (v : Vec ℕ). v.items) in
     let t = length-map c.args.b.now (λ (v : Vec ℕ). v.items) in
-    let end : c.loop-i.i ≡ min (length (elements_of c.args.a.now)) (length (elements_of c.args.b.now))
-    = omega (arith, s, t, c.min-end.ensures) in
-    subst (λ n. IsTrue (nat_lt n (length c.args.b.now)) ↔ IsBeforeTexts (elements_of c.args.a.now) (elements_of c.args.b.now)) s
-    (subst (λ n. IsTrue (nat_lt (length (elements_of c.args.a.now)) n) ↔ IsBeforeTexts (elements_of c.args.a.now) (elements_of c.args.b.now)) t
-    (texts_end (elements_of c.args.a.now) (elements_of c.args.b.now) c.loop-i.i c.loop-i.invariant end))
+    let end : c.loop-i.i ≡ min (length xs) (length ys) = omega (arith, s, t, c.min-end.ensures) in
+    subst (λ n. IsTrue (nat_lt n (length c.args.b.now)) ↔ IsBeforeTexts xs ys) s
+    (subst (λ n. IsTrue (nat_lt (length xs) n) ↔ IsBeforeTexts xs ys) t
+    (texts_end xs ys c.loop-i.i c.loop-i.invariant end))

@@ -1,4 +1,4 @@
-use Rattle.std.proofs.Common.{◌≡◌, min, length, ◌∙◌, arith}
+use Rattle.std.proofs.Common.{◌≡◌, min, length, arith}
 use Rattle.ff_places.proofs.TextOrder.{text_end}
 use Rattle.ff_places.proofs.numbers.is_before_text.Goals as goal
 

@@ -7,5 +7,6 @@ abbrev pub invariant-loop-i : goal.invariant-loop-i
 invariant-loop-i l = record {
   list : l.list.items ≡ l.fn.list.items;
   same : l.x ≡ l.fn.x;
-  behind : (j : ℕ) (d : ListedPrime) → j < l.i → j < length l.fn.list.items → ¬ ListedBefore l.fn.x (get_or l.fn.list.items j d);
+  behind : (j : ℕ) (d : ListedPrime) → j < l.i → j < length l.fn.list.items
+      → ¬ ListedBefore l.fn.x (get_or l.fn.list.items j d);
 }

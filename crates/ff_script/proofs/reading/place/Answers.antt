@@ -7,5 +7,6 @@ returns-in_default c = no_name_behind c.args.bytes.now (rw c.in_default.is at c.
 
 pub returns-in-None : goal.returns-in-None
 returns-in-None c =
-    let named : IsNameFront c.in-Some.name c.args.bytes.now c.in-Some.rest.now = rw c.in-Some.is at c.in_ok-name.ensures in
+    let named : IsNameFront c.in-Some.name c.args.bytes.now c.in-Some.rest.now = rw c.in-Some.is at
+    c.in_ok-name.ensures in
     no_place_behind c.args.bytes.now c.in-Some.name c.in-Some.rest.now named (rw c.in-None.is at c.in_ok-over.ensures)
