@@ -1,5 +1,5 @@
 -- What places may lie over: the polynomial that is written, why it may not stand, and that there is one reason.
-use Rattle.std.proofs.Common.{◌≡◌, ◌≢◌, ℕ, zero, suc, false, ◌-◌, ◌*◌, ◌<◌, ◌≤◌, List, [], ◌∷◌, length, get_or, refl, sym, ap, ◌∙◌, subst, arith}
+use Rattle.std.proofs.Common.{◌≡◌, ◌≢◌, ℕ, false, ◌-◌, ◌*◌, ◌<◌, ◌≤◌, List, [], ◌∷◌, length, get_or, refl, sym, ap, ◌∙◌, subst, arith}
 use Rattle.ff_fields.specs.Field.{FieldOps, CodeField}
 use Rattle.ff_fields.specs.Over.{IsOver}
 use Rattle.ff_poly.specs.Words.{IsMonicList, IsIrreducibleList, top_of}
@@ -17,7 +17,7 @@ use Rattle.ff_script.specs.declared.script.Over.{Over}
 use Rattle.ff_script.specs.declared.script.Over.TheVariants.{At, Inf}
 use Rattle.ff_meaning.specs.declared.refusal.Refusal.{Refusal}
 use Rattle.ff_meaning.specs.declared.refusal.Refusal.TheVariants.{LimitPlace, NotIrreducible, Memory}
-use Rattle.ff_meaning.specs.Meaning.{IsSumOf, IsPolyOf, IsBase}
+use Rattle.ff_meaning.specs.Meaning.{IsSumOf, IsBase}
 use Rattle.ff_meaning.specs.Refusals.{IsCodeRow, IsFirstPart, IsReducible, IsPolynomialRow, IsBaseRow}
 use Rattle.ff_meaning.specs.Refusals as rows
 use Rattle.ff_meaning.specs.Bases.{IsPolynomialRead, IsRefusedPolynomial, IsBaseRead}

@@ -24,7 +24,7 @@ use Rattle.ff_script.specs.declared.script.Over.{Over}
 use Rattle.ff_script.specs.declared.script.Statement.{Statement}
 use Rattle.ff_script.specs.declared.script.Statement.TheVariants.{FieldOf, CurveOf, Mul, Factor, OrderOf, Places, Place}
 use Rattle.ff_meaning.specs.declared.refusal.Refusal.{Refusal}
-use Rattle.ff_meaning.specs.declared.refusal.Refusal.TheVariants.{LimitX, CodeRange, Memory}
+use Rattle.ff_meaning.specs.declared.refusal.Refusal.TheVariants.{LimitX, Memory}
 use Rattle.function_field.specs.Limits.{max_degree, max_degree_of_places}
 use Rattle.ff_meaning.specs.Bindings.{Bindings, Bound, NamedPlace, with_field, with_places, IsSomeWith}
 use Rattle.ff_meaning.specs.SameBindings.{AreSameFields, AreSameBindings, NothingBound, OneField, OneCurve}
@@ -32,7 +32,7 @@ use Rattle.ff_meaning.specs.Meaning.{AreCodesBelow, codes_of_den, codes_of_eleme
 use Rattle.ff_meaning.specs.Refusals.{IsCodeRow, IsFieldLineFault, refusal_of_field, IsFieldRow, refusal_of_curve, IsNoCurve, IsElementRow, IsProductRow, IsFactorRow, IsBaseRow, IsPlaceRow, IsRefusalRow}
 use Rattle.ff_meaning.specs.Refusals as rows
 use Rattle.ff_meaning.proofs.TermCodes.{same_terms}
-use Rattle.ff_meaning.proofs.ElementValues.{same_poly, same_polys, same_den, none_found, no_element_row}
+use Rattle.ff_meaning.proofs.ElementValues.{same_poly, same_polys, same_den, no_element_row}
 use Rattle.ff_meaning.proofs.OneField.{same_field, fields_same, ops_with_laws}
 use Rattle.ff_meaning.proofs.CodeRows.{same_code, no_code, code_some}
 use Rattle.ff_meaning.proofs.BaseRows.{one_base_row, base_some}

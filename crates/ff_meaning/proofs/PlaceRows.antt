@@ -1,10 +1,9 @@
 -- The rows of a statement that binds a place tell one refusal at most.
-use Rattle.std.proofs.Common.{◌≡◌, ◌≢◌, ℕ, List, length, refl, sym, ap, ◌∙◌, subst}
+use Rattle.std.proofs.Common.{◌≡◌, ◌≢◌, ℕ, List, length, sym, ap, ◌∙◌, subst}
 use Rattle.ff_fields.specs.Field.{CodeField}
-use Rattle.function_field.specs.Values.{Functions}
 use Rattle.function_field.specs.Curves.{CurveValue}
 use Rattle.function_field.specs.Limits.{max_degree_of_places}
-use Rattle.function_field.specs.PlaceLists.{ListedPlace, AreAllPlacesAbove}
+use Rattle.function_field.specs.PlaceLists.{AreAllPlacesAbove}
 use Rattle.place_lists_theory.proofs.OneList.{one_list}
 use Rattle.ff_script.specs.declared.script.Over.{Over}
 use Rattle.ff_meaning.specs.declared.refusal.Refusal.{Refusal}

@@ -27,7 +27,7 @@ use Rattle.ff_meaning.specs.declared.refusal.Refusal.{Refusal}
 use Rattle.ff_meaning.specs.declared.refusal.Refusal.TheVariants.{FieldSize, NotField, LimitY, LimitX, NotMonic, NotSeparable, LimitDisc, LimitInf, NameTaken, LimitPlace, NotIrreducible, NoSuchPlace, CodeRange, Length, Zero, Memory}
 use Rattle.ff_fields.specs.FieldData.{FieldData, IsFieldData, ops_of, with_laws}
 use Rattle.function_field.specs.Limits.{max_degree, max_degree_of_places}
-use Rattle.ff_meaning.specs.Bindings.{Bindings, Bound, NamedPlace, ForField, ForCurve, ForBound, IsNameOf}
+use Rattle.ff_meaning.specs.Bindings.{Bindings, Bound, ForField, ForCurve, ForBound, IsNameOf}
 use Rattle.ff_meaning.specs.Meaning.{AreCodesBelow, IsFirstCodeFrom, codes_of_element, IsSumOf, IsPolyOf, IsElementOf, IsBase, degree_of_element}
 
 -- the row holds, unless the refusal is want of memory, which is no row
