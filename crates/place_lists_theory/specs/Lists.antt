@@ -1,6 +1,6 @@
 -- The places of a side of a curve above a polynomial as what the primes of an order have of them (Stichtenoth, section
 -- 3.1).
-use Rattle.std.specs.Prelude.{◌≡◌, ◌≢◌, ◌↔◌, ℕ, List, [], map, All, AllPairs}
+use Rattle.std.specs.Prelude.{◌≢◌, ◌↔◌, ℕ, List, [], map, All, AllPairs}
 use Rattle.std.specs.List.{Any}
 use Rattle.ring_theory.specs.Subsets.{Span}
 use Rattle.ff_fields.specs.Field.{CodeField}
@@ -63,5 +63,4 @@ module _ (k : CodeField) (c : CurveValue) (s : Side) where
           AllPairs
           (λ P Q. (M N : Place (Functions k c.fin)) → IsPlaceOfPrimeValue pi P M → IsPlaceOfPrimeValue pi Q N
           → ¬ IsSamePlace (setting k c.fin) M N) Ps
-      pub complete : (M : Place (Functions k c.fin)) → IsPlaceAbove k c s pi M
-          → Any (λ P. IsPlaceOfPrimeValue pi P M) Ps
+      pub complete : (M : Place (Functions k c.fin)) → IsPlaceAbove k c s pi M → Any (λ P. IsPlaceOfPrimeValue pi P M) Ps
