@@ -1,4 +1,5 @@
 pub mod LowestElements
 pub mod OneWritten
 pub mod WrittenRows
+pub mod TextOrder
 pub mod TextCases

@@ -1,10 +1,8 @@
 -- The order of texts and that of lists of texts, by the first difference.
 use Rattle.std.proofs.Common.{◌≡◌, ◌≢◌, ℕ, zero, suc, ◌+◌, ◌<◌, ◌≤◌, ◌↔◌, ◌⊎◌, inl, inr, IsTrue, true, false, nat_lt, min, List, [], ◌∷◌, length, get_or, drop, refl, sym, ap, ◌∙◌, subst, arith, add-one}
-use Rattle.std.specs.Global.{Vec}
 use Rattle.std.proofs.Math.Seq.{drop-cons}
-use Rattle.std.proofs.lemmas.List.{drop_all, length-map, get_or-map, get_or_default}
+use Rattle.std.proofs.lemmas.List.{drop_all, get_or_default}
 use Rattle.std.proofs.lemmas.Bool.{ltb-true, lt-ltb, cases_lt}
-use Rattle.ff_falg.specs.Idempotents.{elements_of}
 use Rattle.ff_written.specs.TextOrder.{IsBeforeText, IsBeforeTexts}
 
 -- ---- lists by the first difference, for any order of their members
@@ -171,12 +169,6 @@ pub drop_at : {X : Type 0} (xs : List X) (i : ℕ) (x : X) → i < length xs →
 drop_at xs i x l e =
     drop-cons xs i x l ∙ ap (λ y. y ∷ drop (suc i) xs) (sym e) ∙ ap (λ n. x ∷ drop n xs) (sym (add-one i))
 
-pub vectors_at : (vs : List (Vec ℕ)) (i : ℕ) (v : Vec ℕ) → i < length vs → v ≡ get_or vs i v
-    → drop i (elements_of vs) ≡ v.items ∷ drop (i + 1) (elements_of vs)
-vectors_at vs i v l e =
-    drop_at (elements_of vs) i v.items (let s = length-map vs (λ (w : Vec ℕ). w.items) in omega arith)
-    (ap (λ (w : Vec ℕ). w.items) e ∙ sym (get_or-map (λ (w : Vec ℕ). w.items) vs i v v.items l))
-
 pub same_at : {X : Type 0} (xs : List X) (i : ℕ) (x y : X) → i < length xs → x ≡ get_or xs i x → y ≡ get_or xs i y
     → x ≡ y
 same_at xs i x y l e f = e ∙ get_or_default xs i x y l ∙ sym f
@@ -211,8 +203,7 @@ module _ (a b : List (List ℕ)) (i : ℕ) (so_far : Lex IsBeforeText (drop i a)
   module _ (x y : List ℕ) (x_at : drop i a ≡ x ∷ drop (i + 1) a) (y_at : drop i b ≡ y ∷ drop (i + 1) b) where
     pub texts_more : ¬ IsBeforeText x y → ¬ IsBeforeText y x
         → Lex IsBeforeText (drop (i + 1) a) (drop (i + 1) b) ↔ IsBeforeTexts a b
-    texts_more n m =
-        lex_more IsBeforeText text_irreflexive text_transitive a b i (IsBeforeTexts a b) so_far x y x_at y_at
+    texts_more n m = lex_more IsBeforeText text_irreflexive text_transitive a b i (IsBeforeTexts a b) so_far x y x_at y_at
         (text_total x y n m)
 
     pub texts_before : IsBeforeText x y → IsTrue true ↔ IsBeforeTexts a b
