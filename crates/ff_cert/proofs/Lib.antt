@@ -1,3 +1,6 @@
 pub mod OneOrder
+pub mod OneLattice
+pub mod AscendingPlaces
+pub mod OnePlaces
 pub mod OneAnswer
 pub mod OneBlock

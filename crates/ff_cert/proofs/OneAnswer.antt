@@ -1,5 +1,5 @@
 -- A statement has one true answer at most, and leads to one field and one curve.
-use Rattle.std.proofs.Common.{◌≡◌, ℕ, ◌≤◌, List, [], ◌∷◌, map, refl, sym, ap, ap₂, ◌∙◌, subst, arith, Option, Some, None}
+use Rattle.std.proofs.Common.{◌≡◌, ℕ, ◌≤◌, List, [], ◌∷◌, ◌++◌, map, refl, sym, ap, ap₂, ◌∙◌, subst, arith, Option, Some, None}
 use Rattle.ff_fields.specs.Field.{FieldOps, CodeField}
 use Rattle.ff_fields.specs.FieldData.{FieldData, IsFieldData, ops_of, with_laws}
 use Rattle.function_field.specs.declared.side.Side.{Side}
@@ -9,14 +9,16 @@ use Rattle.ff_algebra.specs.CurveTerms.{IsCurveOf}
 use Rattle.ff_algebra.proofs.OneInfinite.{one_curve}
 use Rattle.ff_factor.specs.Factors.{IsFactorisation}
 use Rattle.ff_factor.proofs.OneFactorisation.{one_factorisation}
+use Rattle.value_theory.specs.Primes.{PrimeValue}
 use Rattle.ff_text.specs.declared.terms.Term.{Term}
 use Rattle.ff_text.specs.declared.terms.ElemText.{ElemText}
 use Rattle.ff_text.specs.Printed.{WrittenValue}
 use Rattle.ff_script.specs.declared.script.Modulus.{Modulus}
+use Rattle.ff_script.specs.declared.script.Over.{Over}
 use Rattle.ff_script.specs.declared.script.Statement.{Statement}
-use Rattle.ff_script.specs.declared.script.Statement.TheVariants.{FieldOf, CurveOf, Mul, Factor, OrderOf}
+use Rattle.ff_script.specs.declared.script.Statement.TheVariants.{FieldOf, CurveOf, Mul, Factor, OrderOf, Places, Place}
 use Rattle.ff_meaning.specs.FieldLines.{Names}
-use Rattle.ff_meaning.specs.Bindings.{Bindings, with_curve, ForField, ForCurve}
+use Rattle.ff_meaning.specs.Bindings.{Bindings, Bound, NamedPlace, with_curve, with_places, ForField, ForCurve, ForBound}
 use Rattle.ff_meaning.specs.SameBindings.{AreSameFields, AreSameCurves, AreSameBindings, NothingBound, OneField, OneCurve}
 use Rattle.ff_written.specs.LowestTerms.{IsWritten}
 use Rattle.ff_meaning.proofs.ElementValues.{same_poly}
@@ -25,6 +27,7 @@ use Rattle.ff_meaning.proofs.OneRefusal.{same_sum, same_element}
 use Rattle.ff_written.proofs.OneWritten.{one_written}
 use Rattle.ff_cert.specs.declared.answer.Answer.{Answer}
 use Rattle.ff_cert.specs.declared.answer.Answer.TheVariants as answers
+use Rattle.ff_cert.specs.declared.answer.PlaceLines.{PlaceLines}
 use Rattle.ff_cert.specs.declared.answer.PowerLine.{PowerLine}
 use Rattle.ff_cert.specs.Answers.{Answers}
 use Rattle.ff_cert.specs.RowField as field_row
@@ -32,7 +35,10 @@ use Rattle.ff_cert.specs.RowCurve as curve_row
 use Rattle.ff_cert.specs.RowMul as mul_row
 use Rattle.ff_cert.specs.RowFactor as factor_row
 use Rattle.ff_cert.specs.RowOrder as order_row
+use Rattle.ff_cert.specs.RowPlaces as places_row
+use Rattle.ff_cert.specs.RowNamedPlace as named_place_row
 use Rattle.ff_cert.proofs.OneOrder.{one_order}
+use Rattle.ff_cert.proofs.OnePlaces.{one_listing, one_named}
 
 -- ---- the answers of each statement
 
@@ -75,7 +81,7 @@ one_curve_answer d e f m n b c next after same h g =
       answer =
           ap₂ answers.CurveOf (h.degree ∙ ap (λ (x : CurveValue). x.fin.n) curves ∙ sym g.degree)
           (h.number ∙ ap (λ (x : CurveValue). x.c) curves ∙ sym g.number);
-      bindings = OneCurve d e h.curve (record { fields = same; curve = curve }) h.bound
+      bindings = OneCurve d e h.curve [] (record { fields = same; curve = curve }) h.bound
           (g.bound ∙ ap (with_curve e) (sym curves));
     }
 
@@ -124,6 +130,8 @@ module _ (old next : Bindings) where
   field_is p tail (answers.Mul z) h = absurd h
   field_is p tail (answers.Factor u ls) h = absurd h
   field_is p tail (answers.OrderOf zs) h = absurd h
+  field_is p tail (answers.Places n Ps) h = absurd h
+  field_is p tail (answers.Place P) h = absurd h
 
   abbrev Curve : List Term → ℕ → ℕ → FieldData → Type 0
   Curve f n c d = (old.bound ≡ None) × curve_row.IsTrue d f n c next
@@ -135,6 +143,8 @@ module _ (old next : Bindings) where
   curve_is f (answers.Mul z) h = absurd h
   curve_is f (answers.Factor u ls) h = absurd h
   curve_is f (answers.OrderOf zs) h = absurd h
+  curve_is f (answers.Places n Ps) h = absurd h
+  curve_is f (answers.Place P) h = absurd h
 
   abbrev Product : ElemText → ElemText → WrittenValue → FieldData → CurveValue → Type 0
   Product x y z d c = (is : IsFieldData d) × mul_row.IsTrue (with_laws d is) c.fin x y z × (next ≡ old)
@@ -146,6 +156,8 @@ module _ (old next : Bindings) where
   mul_is x y (answers.Mul z) h = (z, refl, h)
   mul_is x y (answers.Factor u ls) h = absurd h
   mul_is x y (answers.OrderOf zs) h = absurd h
+  mul_is x y (answers.Places n Ps) h = absurd h
+  mul_is x y (answers.Place P) h = absurd h
 
   abbrev Factors : List Term → ℕ → List PowerLine → FieldData → CurveValue → Type 0
   Factors g u ls d c = factor_row.IsTrue (ops_of d) g u ls × (next ≡ old)
@@ -157,6 +169,8 @@ module _ (old next : Bindings) where
   factor_is g (answers.Mul z) h = absurd h
   factor_is g (answers.Factor u ls) h = (u, ls, refl, h)
   factor_is g (answers.OrderOf zs) h = absurd h
+  factor_is g (answers.Places n Ps) h = absurd h
+  factor_is g (answers.Place P) h = absurd h
 
   abbrev Order : Side → List WrittenValue → FieldData → CurveValue → Type 0
   Order s zs d c = (is : IsFieldData d) × order_row.IsTrue (with_laws d is) c s zs × (next ≡ old)
@@ -168,6 +182,35 @@ module _ (old next : Bindings) where
   order_is s (answers.Mul z) h = absurd h
   order_is s (answers.Factor u ls) h = absurd h
   order_is s (answers.OrderOf zs) h = (zs, refl, h)
+  order_is s (answers.Places n Ps) h = absurd h
+  order_is s (answers.Place P) h = absurd h
+
+  abbrev AllPlaces : Over → ℕ → List PlaceLines → FieldData → CurveValue → Type 0
+  AllPlaces over n Ps d c = (is : IsFieldData d) × places_row.IsTrue (with_laws d is) c over n Ps × (next ≡ old)
+
+  places_is : (over : Over) (a : Answer) → Answers old (Places over) a next
+      → (n : ℕ) × (Ps : List PlaceLines) × (a ≡ answers.Places n Ps) × ForCurve old (AllPlaces over n Ps)
+  places_is over (answers.FieldOf q) h = absurd h
+  places_is over (answers.CurveOf n c) h = absurd h
+  places_is over (answers.Mul z) h = absurd h
+  places_is over (answers.Factor u ls) h = absurd h
+  places_is over (answers.OrderOf zs) h = absurd h
+  places_is over (answers.Places n Ps) h = (n, Ps, refl, h)
+  places_is over (answers.Place P) h = absurd h
+
+  abbrev Named : List ℕ → Over → ℕ → PlaceLines → FieldData → Bound → Type 0
+  Named name over index P d b =
+      (is : IsFieldData d) × named_place_row.IsTrue (with_laws d is) d b name over index P next
+
+  place_is : (name : List ℕ) (over : Over) (index : ℕ) (a : Answer) → Answers old (Place name over index) a next
+      → (P : PlaceLines) × (a ≡ answers.Place P) × ForBound old (Named name over index P)
+  place_is name over index (answers.FieldOf q) h = absurd h
+  place_is name over index (answers.CurveOf n c) h = absurd h
+  place_is name over index (answers.Mul z) h = absurd h
+  place_is name over index (answers.Factor u ls) h = absurd h
+  place_is name over index (answers.OrderOf zs) h = absurd h
+  place_is name over index (answers.Places n Ps) h = absurd h
+  place_is name over index (answers.Place P) h = (P, refl, h)
 
 -- ---- over the same bindings
 
@@ -176,7 +219,7 @@ for_field : (a b : Bindings) (P Q : FieldData → Type 0) (R : Type 0)
 for_field a b P Q R f (NothingBound a_is b_is) h g = absurd (subst (λ o. ForField o P) a_is h)
 for_field a b P Q R f (OneField d e same a_is b_is) h g = f d e same (subst (λ o. ForField o P) a_is h)
     (subst (λ o. ForField o Q) b_is g)
-for_field a b P Q R f (OneCurve d e c same a_is b_is) h g = f d e same.fields (subst (λ o. ForField o P) a_is h)
+for_field a b P Q R f (OneCurve d e c Ps same a_is b_is) h g = f d e same.fields (subst (λ o. ForField o P) a_is h)
     (subst (λ o. ForField o Q) b_is g)
 
 for_curve : (a b : Bindings) (P Q : FieldData → CurveValue → Type 0) (R : Type 0)
@@ -184,8 +227,17 @@ for_curve : (a b : Bindings) (P Q : FieldData → CurveValue → Type 0) (R : Ty
     → ForCurve a P → ForCurve b Q → R
 for_curve a b P Q R f (NothingBound a_is b_is) h g = absurd (subst (λ o. ForCurve o P) a_is h)
 for_curve a b P Q R f (OneField d e same a_is b_is) h g = absurd (subst (λ o. ForCurve o P) a_is h)
-for_curve a b P Q R f (OneCurve d e c same a_is b_is) h g = f d e c same (subst (λ o. ForCurve o P) a_is h)
+for_curve a b P Q R f (OneCurve d e c Ps same a_is b_is) h g = f d e c same (subst (λ o. ForCurve o P) a_is h)
     (subst (λ o. ForCurve o Q) b_is g)
+
+for_bound : (a b : Bindings) (P Q : FieldData → Bound → Type 0) (R : Type 0)
+    → ((d e : FieldData) (c : CurveValue) (Ps : List NamedPlace) → AreSameCurves d e c
+    → P d (record { curve = c; places = Ps }) → Q e (record { curve = c; places = Ps }) → R)
+    → AreSameBindings a b → ForBound a P → ForBound b Q → R
+for_bound a b P Q R f (NothingBound a_is b_is) h g = absurd (subst (λ o. ForBound o P) a_is h)
+for_bound a b P Q R f (OneField d e same a_is b_is) h g = absurd (subst (λ o. ForBound o P) a_is h)
+for_bound a b P Q R f (OneCurve d e c Ps same a_is b_is) h g = f d e c Ps same (subst (λ o. ForBound o P) a_is h)
+    (subst (λ o. ForBound o Q) b_is g)
 
 same_next : (old other next after : Bindings) → AreSameBindings old other → next ≡ old → after ≡ other → AreSameBindings next after
 same_next old other next after same h g = rw (h, g) same
@@ -216,6 +268,32 @@ module _ (d e : FieldData) (c : CurveValue) (same : AreSameCurves d e c) where
   orders_same s zs ws is is' h g =
       one_order (with_laws e is') c (curve_over is') s zs ws
       (subst (λ k. order_row.IsTrue k c s zs) (fields_same d e same.fields is is') h) g
+
+  listings_same : (over : Over) (m n : ℕ) (Ps Qs : List PlaceLines) (is : IsFieldData d) (is' : IsFieldData e)
+      → places_row.IsTrue (with_laws d is) c over m Ps → places_row.IsTrue (with_laws e is') c over n Qs
+      → (m ≡ n) × (Ps ≡ Qs)
+  listings_same over m n Ps Qs is is' h g =
+      one_listing (with_laws e is') c over m n Ps Qs
+      (subst (λ k. places_row.IsTrue k c over m Ps) (fields_same d e same.fields is is') h) g
+
+  -- the same place is bound to the name
+  named_same : (names : List NamedPlace) (name : List ℕ) (over : Over) (index : ℕ) (P Q : PlaceLines)
+      (next after : Bindings) (is : IsFieldData d) (is' : IsFieldData e)
+      → named_place_row.IsTrue (with_laws d is) d (record { curve = c; places = names }) name over index P next
+      → named_place_row.IsTrue (with_laws e is') e (record { curve = c; places = names }) name over index Q after
+      → IsOne (answers.Place P) (answers.Place Q) next after
+  named_same names name over index P Q next after is is' h g =
+      let b : Bound = record { curve = c; places = names } in
+      let left : named_place_row.IsTrue (with_laws e is') d b name over index P next
+      = subst (λ k. named_place_row.IsTrue k d b name over index P next) (fields_same d e same.fields is is') h in
+      let one = one_named (with_laws e is') d e b name over index P Q next after left g in
+      record {
+        answer = ap answers.Place one.0;
+        bindings =
+            OneCurve d e c (names ++ record { name = name; place = left.place } ∷ []) same left.bound
+            (g.bound
+            ∙ ap (λ (R : PrimeValue). with_places e c (names ++ record { name = name; place = R } ∷ [])) (sym one.1));
+      }
 
 module _ (old other next after : Bindings) (same : AreSameBindings old other) where
   -- answers that the same bindings stay behind
@@ -258,3 +336,20 @@ module _ (old other next after : Bindings) (same : AreSameBindings old other) wh
       for_curve old other (Order old next s l.0) (Order other after s r.0) (IsOne a b next after)
       (λ d e c curves u v. stays a b (answers.OrderOf l.0) (answers.OrderOf r.0) l.1 r.1
       (ap answers.OrderOf (orders_same d e c curves s l.0 r.0 u.0 v.0 u.1 v.1)) u.2 v.2) same l.2 r.2
+  one_answer (Places over) a b h g =
+      let l = places_is old next over a h in
+      let r = places_is other after over b g in
+      for_curve old other (AllPlaces old next over l.0 l.1) (AllPlaces other after over r.0 r.1) (IsOne a b next after)
+      (λ d e c curves u v.
+      let both = listings_same d e c curves over l.0 r.0 l.1 r.1 u.0 v.0 u.1 v.1 in
+      stays a b (answers.Places l.0 l.1) (answers.Places r.0 r.1) l.2 r.2 (ap₂ answers.Places both.0 both.1) u.2 v.2)
+      same l.3 r.3
+  one_answer (Place name over index) a b h g =
+      let l = place_is old next name over index a h in
+      let r = place_is other after name over index b g in
+      for_bound old other (Named old next name over index l.0) (Named other after name over index r.0)
+      (IsOne a b next after)
+      (λ d e c names curves u v.
+      let one = named_same d e c curves names name over index l.0 r.0 next after u.0 v.0 u.1 v.1 in
+      record { answer = l.1 ∙ one.answer ∙ sym r.1; bindings = one.bindings })
+      same l.2 r.2

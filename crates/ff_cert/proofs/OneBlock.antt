@@ -30,7 +30,7 @@ curves_turned d e c h = record {
 bindings_turned : (a b : Bindings) → AreSameBindings a b → AreSameBindings b a
 bindings_turned a b (NothingBound a_is b_is) = NothingBound b_is a_is
 bindings_turned a b (OneField d e same a_is b_is) = OneField e d (fields_turned d e same) b_is a_is
-bindings_turned a b (OneCurve d e c same a_is b_is) = OneCurve e d c (curves_turned d e c same) b_is a_is
+bindings_turned a b (OneCurve d e c Ps same a_is b_is) = OneCurve e d c Ps (curves_turned d e c same) b_is a_is
 
 pub sessions_turned : (a b : SessionValue) → AreSameSessions a b → AreSameSessions b a
 sessions_turned a b h = record { bindings = bindings_turned a.bindings b.bindings h.bindings; printed = sym h.printed }

@@ -24,10 +24,10 @@ use Rattle.ff_written.specs.Rows.{AreWrittenRows}
 use Rattle.ff_written.proofs.WrittenRows.{written_functions, same_written}
 
 module _ (k : CodeField) (c : CurveValue) (curve : IsCurve k c) where
-  some : 1 ≤ c.fin.n
+  pub some : 1 ≤ c.fin.n
   some = let two = curve.at_least_two in omega (arith, two)
 
-  some_inf : 1 ≤ c.inf.n
+  pub some_inf : 1 ≤ c.inf.n
   some_inf =
       let two = curve.at_least_two in
       let same = curve.infinite.degree in
@@ -47,7 +47,7 @@ module _ (k : CodeField) (c : CurveValue) (curve : IsCurve k c) where
 
   -- ---- one lattice
 
-  finite_elems : (rows : List (List (List ℕ))) (den : List ℕ) → All (IsRow k.ops c.fin.n) rows → All (All IsPoly) rows
+  pub finite_elems : (rows : List (List (List ℕ))) (den : List ℕ) → All (IsRow k.ops c.fin.n) rows → All (All IsPoly) rows
       → IsOver k.ops den → IsPoly den → IsMonicList den
       → map (function_on k c.fin c.c Finite) (elems_over rows den) ≡ map (function_of k c.fin) (elems_over rows den)
   finite_elems [] den rows_in rows_poly den_in den_poly monic = refl
@@ -68,7 +68,7 @@ module _ (k : CodeField) (c : CurveValue) (curve : IsCurve k c) where
       (finite_elems l.rows l.den h.form.rows_in (popov_poly c.fin.n l.rows h.form.popov) h.form.den_in h.form.den_poly
       h.form.monic) h.span z
 
-  same_set : {A B C : Type 0} → A ↔ C → B ↔ C → A ↔ B
+  pub same_set : {A B C : Type 0} → A ↔ C → B ↔ C → A ↔ B
   same_set f g = (λ a. g.1 (f.0 a), λ b. f.1 (g.0 b))
 
   pub one_integral : (s : Side) (l m : LatticeValue) → IsIntegralLattice k c s l → IsIntegralLattice k c s m → l ≡ m

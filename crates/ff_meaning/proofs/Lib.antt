@@ -4,4 +4,7 @@ pub mod EntrySums
 pub mod ElementValues
 pub mod ReadElements
 pub mod OneField
+pub mod CodeRows
+pub mod BaseRows
+pub mod PlaceRows
 pub mod OneRefusal

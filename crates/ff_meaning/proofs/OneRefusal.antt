@@ -9,7 +9,7 @@ use Rattle.ff_fields.specs.Field.{FieldOps, CodeField}
 use Rattle.ff_fields.specs.Prime.{prime_of}
 use Rattle.ff_fields.specs.Over.{IsOver}
 use Rattle.ff_fields.specs.Modulus.{IsFirstOutside, IsZeroProduct, IsLeastZeroProduct, IsFaultOf}
-use Rattle.ff_fields.specs.FieldData.{FieldData, ops_of, with_laws}
+use Rattle.ff_fields.specs.FieldData.{FieldData, IsFieldData, ops_of, with_laws}
 use Rattle.function_field.specs.Values.{ElemValue}
 use Rattle.function_field.specs.Curves.{CurveValue}
 use Rattle.ff_algebra.specs.declared.curve.CurveFault.{CurveFault}
@@ -20,34 +20,23 @@ use Rattle.ff_text.specs.declared.terms.Term.{Term}
 use Rattle.ff_text.specs.declared.terms.ElemText.{ElemText}
 use Rattle.ff_text.specs.Values.{written_codes}
 use Rattle.ff_script.specs.declared.script.Modulus.{Modulus}
+use Rattle.ff_script.specs.declared.script.Over.{Over}
 use Rattle.ff_script.specs.declared.script.Statement.{Statement}
-use Rattle.ff_script.specs.declared.script.Statement.TheVariants.{FieldOf, CurveOf, Mul, Factor, OrderOf}
+use Rattle.ff_script.specs.declared.script.Statement.TheVariants.{FieldOf, CurveOf, Mul, Factor, OrderOf, Places, Place}
 use Rattle.ff_meaning.specs.declared.refusal.Refusal.{Refusal}
-use Rattle.ff_meaning.specs.declared.refusal.Refusal.TheVariants.{LimitX, CodeRange, Memory}
-use Rattle.function_field.specs.Limits.{max_degree}
-use Rattle.ff_meaning.specs.Bindings.{Bindings, Bound, with_field, with_curve, IsSomeWith}
+use Rattle.ff_meaning.specs.declared.refusal.Refusal.TheVariants.{LimitX, Memory}
+use Rattle.function_field.specs.Limits.{max_degree, max_degree_of_places}
+use Rattle.ff_meaning.specs.Bindings.{Bindings, Bound, NamedPlace, with_field, with_places, IsSomeWith}
 use Rattle.ff_meaning.specs.SameBindings.{AreSameFields, AreSameBindings, NothingBound, OneField, OneCurve}
 use Rattle.ff_meaning.specs.Meaning.{AreCodesBelow, codes_of_den, codes_of_element, IsSumOf, ArePolysOf, IsDenOf, IsElementOf, degree_of_element}
-use Rattle.ff_meaning.specs.Refusals.{IsCodeRow, IsFieldLineFault, refusal_of_field, IsFieldRow, refusal_of_curve, IsNoCurve, IsElementRow, IsProductRow, IsFactorRow, IsRefusalRow}
+use Rattle.ff_meaning.specs.Refusals.{IsCodeRow, IsFieldLineFault, refusal_of_field, IsFieldRow, refusal_of_curve, IsNoCurve, IsElementRow, IsProductRow, IsFactorRow, IsBaseRow, IsPlaceRow, IsRefusalRow}
 use Rattle.ff_meaning.specs.Refusals as rows
 use Rattle.ff_meaning.proofs.TermCodes.{same_terms}
-use Rattle.ff_meaning.proofs.ElementValues.{same_poly, same_polys, same_den, none_found, no_element_row}
-use Rattle.ff_meaning.proofs.OneField.{same_field, fields_same}
-
--- ---- codes that are too great
-
-same_code : (q : ℕ) (codes : List ℕ) (r t : Refusal) → IsCodeRow q codes r → IsCodeRow q codes t → r ≡ t
-same_code q codes r t h g =
-    let first = h.1 in
-    let second = g.1 in
-    let same : h.0 ≡ g.0 = cc in
-    h.2 ∙ ap CodeRange same ∙ sym g.2
-
-no_code : (k : FieldOps) (codes : List ℕ) (r : Refusal) → AreCodesBelow k.size codes → IsCodeRow k.size codes r → ⊥
-no_code k codes r below h =
-    let none = none_found k k.size codes below in
-    let found = h.1 in
-    absurd cc
+use Rattle.ff_meaning.proofs.ElementValues.{same_poly, same_polys, same_den, no_element_row}
+use Rattle.ff_meaning.proofs.OneField.{same_field, fields_same, ops_with_laws}
+use Rattle.ff_meaning.proofs.CodeRows.{same_code, no_code, code_some}
+use Rattle.ff_meaning.proofs.BaseRows.{one_base_row, base_some}
+use Rattle.ff_meaning.proofs.PlaceRows.{one_place_row, place_some}
 
 -- ---- field lines
 
@@ -228,6 +217,25 @@ for_curve P Q A f None b h g = absurd h
 for_curve P Q A f (Some d) None h g = absurd h
 for_curve P Q A f (Some d) (Some b) h g = f d b.curve h g
 
+for_bound : (P Q : FieldData → Bound → Type 0) (A : Type 0)
+    → ((d : FieldData) (b : Bound) → P d b → Q d b → A) → (o : Option FieldData) (b : Option Bound)
+    → IsSomeWith o (λ d. IsSomeWith b (P d)) → IsSomeWith o (λ d. IsSomeWith b (Q d)) → A
+for_bound P Q A f None b h g = absurd h
+for_bound P Q A f (Some d) None h g = absurd h
+for_bound P Q A f (Some d) (Some b) h g = f d b h g
+
+abbrev BaseRow : Over → Refusal → FieldData → CurveValue → Type 0
+BaseRow over r d c = IsFieldData d × IsBaseRow (ops_of d) c.fin.n max_degree_of_places over r
+
+abbrev PlaceRow : List ℕ → Over → ℕ → Refusal → FieldData → Bound → Type 0
+PlaceRow name over index r d b = (is : IsFieldData d) × IsPlaceRow (with_laws d is) b name over index r
+
+-- the row over the operations with their laws
+with_ops : (d : FieldData) (c : CurveValue) (over : Over) (r : Refusal) (is : IsFieldData d) → BaseRow over r d c
+    → IsBaseRow (with_laws d is).ops c.fin.n max_degree_of_places over r
+with_ops d c over r is h =
+    subst (λ o. IsBaseRow o c.fin.n max_degree_of_places over r) (ops_with_laws d is) h.1
+
 pub one_row : (old : Bindings) (s : Statement) (r t : Refusal) → IsRefusalRow old s r → IsRefusalRow old s t → r ≡ t
 one_row old (FieldOf p tail) r t h g = one_field_row p tail r t h.1 g.1
 one_row old (CurveOf f) r t h g =
@@ -242,11 +250,16 @@ one_row old (Factor p) r t h g =
     for_curve (λ d c. IsFactorRow (ops_of d) max_degree p r) (λ d c. IsFactorRow (ops_of d) max_degree p t) (r ≡ t)
     (λ d c x y. one_factor_row (ops_of d) max_degree p r t x y) old.field old.bound h g
 one_row old (OrderOf side) r t h g = absurd h
+one_row old (Places over) r t h g =
+    for_curve (BaseRow over r) (BaseRow over t) (r ≡ t)
+    (λ d c x y. one_base_row (with_laws d y.0) c.fin.n max_degree_of_places over r t (with_ops d c over r y.0 x)
+    (with_ops d c over t y.0 y)) old.field old.bound h g
+one_row old (Place name over index) r t h g =
+    for_bound (PlaceRow name over index r) (PlaceRow name over index t) (r ≡ t)
+    (λ d b x y. one_place_row (with_laws d y.0) b name over index r t
+    (subst (λ k. IsPlaceRow k b name over index r) (same_field d d x.0 y.0 refl) x.1) y.1) old.field old.bound h g
 
 -- ---- want of memory is no row
-
-code_some : (q : ℕ) (codes : List ℕ) (r : Refusal) → IsCodeRow q codes r → r ≢ Memory
-code_some q codes r h m = let is = h.2 in absurd cc
 
 field_some : (e : FieldFault) → refusal_of_field e ≢ Memory
 field_some (fields.FieldSize p m) is = absurd cc
@@ -295,6 +308,12 @@ row_some old (Factor p) r h m =
     for_curve (λ d c. IsFactorRow (ops_of d) max_degree p r) (λ d c. IsFactorRow (ops_of d) max_degree p r) ⊥
     (λ d c x y. factor_some (ops_of d) max_degree p r x m) old.field old.bound h h
 row_some old (OrderOf side) r h m = absurd h
+row_some old (Places over) r h m =
+    for_curve (BaseRow over r) (BaseRow over r) ⊥
+    (λ d c x y. base_some (ops_of d) c.fin.n max_degree_of_places over r x.1 m) old.field old.bound h h
+row_some old (Place name over index) r h m =
+    for_bound (PlaceRow name over index r) (PlaceRow name over index r) ⊥
+    (λ d b x y. place_some (with_laws d x.0) b name over index r x.1 m) old.field old.bound h h
 
 -- ---- the same bindings have the same rows
 
@@ -309,20 +328,29 @@ field_moves d e (CurveOf f) r same h = (
 field_moves d e (Mul a b) r same h = absurd h
 field_moves d e (Factor g) r same h = absurd h
 field_moves d e (OrderOf side) r same h = absurd h
+field_moves d e (Places over) r same h = absurd h
+field_moves d e (Place name over index) r same h = absurd h
 
-curve_moves : (d e : FieldData) (c : CurveValue) (s : Statement) (r : Refusal) → AreSameFields d e
-    → IsRefusalRow (with_curve d c) s r → IsRefusalRow (with_curve e c) s r
-curve_moves d e c (FieldOf p tail) r same h = absurd (let none = h.0 in cc)
-curve_moves d e c (CurveOf f) r same h =
+curve_moves : (d e : FieldData) (c : CurveValue) (Ps : List NamedPlace) (s : Statement) (r : Refusal) → AreSameFields d e
+    → IsRefusalRow (with_places d c Ps) s r → IsRefusalRow (with_places e c Ps) s r
+curve_moves d e c Ps (FieldOf p tail) r same h = absurd (let none = h.0 in cc)
+curve_moves d e c Ps (CurveOf f) r same h =
     (same.right, subst (λ k. IsNoCurve k f r) (fields_same d e same h.0 same.right) h.1)
-curve_moves d e c (Mul a b) r same h = subst (λ o. IsProductRow o c.fin.n max_degree a b r) same.ops h
-curve_moves d e c (Factor g) r same h = subst (λ o. IsFactorRow o max_degree g r) same.ops h
-curve_moves d e c (OrderOf side) r same h = absurd h
+curve_moves d e c Ps (Mul a b) r same h = subst (λ o. IsProductRow o c.fin.n max_degree a b r) same.ops h
+curve_moves d e c Ps (Factor g) r same h = subst (λ o. IsFactorRow o max_degree g r) same.ops h
+curve_moves d e c Ps (OrderOf side) r same h = absurd h
+curve_moves d e c Ps (Places over) r same h =
+    (same.right, subst (λ o. IsBaseRow o c.fin.n max_degree_of_places over r) same.ops h.1)
+curve_moves d e c Ps (Place name over index) r same h = (
+  same.right,
+  subst (λ k. IsPlaceRow k (record { curve = c; places = Ps }) name over index r)
+      (fields_same d e same h.0 same.right) h.1,
+)
 
 pub row_moves : (a b : Bindings) (s : Statement) (r : Refusal) → AreSameBindings a b → IsRefusalRow a s r → IsRefusalRow b s r
 row_moves a b s r (NothingBound a_is b_is) h = subst (λ x. IsRefusalRow x s r) (a_is ∙ sym b_is) h
 row_moves a b s r (OneField d e same a_is b_is) h =
     subst (λ x. IsRefusalRow x s r) (sym b_is) (field_moves d e s r same (subst (λ x. IsRefusalRow x s r) a_is h))
-row_moves a b s r (OneCurve d e c same a_is b_is) h =
+row_moves a b s r (OneCurve d e c Ps same a_is b_is) h =
     subst (λ x. IsRefusalRow x s r) (sym b_is)
-    (curve_moves d e c s r same.fields (subst (λ x. IsRefusalRow x s r) a_is h))
+    (curve_moves d e c Ps s r same.fields (subst (λ x. IsRefusalRow x s r) a_is h))

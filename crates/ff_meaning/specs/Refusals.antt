@@ -27,7 +27,7 @@ use Rattle.ff_meaning.specs.declared.refusal.Refusal.{Refusal}
 use Rattle.ff_meaning.specs.declared.refusal.Refusal.TheVariants.{FieldSize, NotField, LimitY, LimitX, NotMonic, NotSeparable, LimitDisc, LimitInf, NameTaken, LimitPlace, NotIrreducible, NoSuchPlace, CodeRange, Length, Zero, Memory}
 use Rattle.ff_fields.specs.FieldData.{FieldData, IsFieldData, ops_of, with_laws}
 use Rattle.function_field.specs.Limits.{max_degree, max_degree_of_places}
-use Rattle.ff_meaning.specs.Bindings.{Bindings, Bound, NamedPlace, ForField, ForCurve, ForBound, IsNameOf}
+use Rattle.ff_meaning.specs.Bindings.{Bindings, Bound, ForField, ForCurve, ForBound, IsNameOf}
 use Rattle.ff_meaning.specs.Meaning.{AreCodesBelow, IsFirstCodeFrom, codes_of_element, IsSumOf, IsPolyOf, IsElementOf, IsBase, degree_of_element}
 
 -- the row holds, unless the refusal is want of memory, which is no row
@@ -164,7 +164,8 @@ IsRefusalRow old (CurveOf f) r = ForField old (λ d. IsCurveRow d f r)
 IsRefusalRow old (Mul a b) r = ForCurve old (λ d c. IsProductRow (ops_of d) c.fin.n max_degree a b r)
 IsRefusalRow old (Factor g) r = ForCurve old (λ d c. IsFactorRow (ops_of d) max_degree g r)
 IsRefusalRow old (OrderOf s) r = ⊥
-IsRefusalRow old (Places over) r = ForCurve old (λ d c. IsBaseRow (ops_of d) c.fin.n max_degree_of_places over r)
+IsRefusalRow old (Places over) r = ForCurve old
+    (λ d c. IsFieldData d × IsBaseRow (ops_of d) c.fin.n max_degree_of_places over r)
 IsRefusalRow old (Place name over index) r = ForBound old
     (λ d b. (is : IsFieldData d) × IsPlaceRow (with_laws d is) b name over index r)
 

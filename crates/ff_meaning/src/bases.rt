@@ -33,12 +33,7 @@ pub struct Base {
 
 /// The polynomial in x of the terms, of which n times the degree is at most 512, or the code that is too great, or that
 /// product. A product that isn't below 2^64 is want of memory.
-fn bounded<K: SmallField>(
-    alloc: Global,
-    k: &K,
-    n: usize,
-    terms: &TermList,
-) -> Result<Poly, Refusal>
+fn bounded<K: SmallField>(alloc: Global, k: &K, n: usize, terms: &TermList) -> Result<Poly, Refusal>
     requires some { 1 ≤ n }
     requires writable { IsWritableTerms false terms.now }
     requires powers { All HasSmallExponents terms.now }

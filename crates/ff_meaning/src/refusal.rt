@@ -1,6 +1,7 @@
 //! Why a statement isn't answered, and the line that says so.
 
 ghost use Rattle.std.specs.Prelude.{◌≡◌, ◌≢◌, ◌↔◌, ◌++◌, IsTrue, IfOk, OnOk, decimal};
+ghost use Rattle.ff_text.specs.Printed.{poly_text};
 ghost use Rattle.ff_meaning.specs.declared.refusal.Refusal.TheVariants.{Memory};
 ghost use Rattle.ff_meaning.specs.Texts.{refusal_text, refusal_words, one_value, two_values};
 
@@ -147,6 +148,15 @@ fn push_two(out: &mut Vec<u8>, name: &[u8], v: u32, w: u32) -> Result<(), AllocE
     push_number(out, u64::from(w))
 }
 
+/// A name, and a polynomial behind it.
+fn push_named(out: &mut Vec<u8>, name: &[u8], p: &Poly) -> Result<(), AllocError>
+    ensures { OnOk result (out.new.items ≡ out.old.items ++ one_value name.now (poly_text p.now)) }
+{
+    out.extend_from_slice(name)?;
+    out.push(b' ')?;
+    push_poly(out, p)
+}
+
 /// The name of a refusal with its values.
 fn push_words(out: &mut Vec<u8>, r: &Refusal) -> Result<(), AllocError>
     ensures { OnOk result (out.new.items ≡ out.old.items ++ refusal_words r.now) }
@@ -156,10 +166,7 @@ fn push_words(out: &mut Vec<u8>, r: &Refusal) -> Result<(), AllocError>
         Refusal::NotField(a, b) => push_two(out, b"NotField", *a, *b),
         Refusal::LimitY(n) => push_one(out, b"LimitY", *n),
         Refusal::LimitX(d) => push_one(out, b"LimitX", *d),
-        Refusal::NotMonic(p) => {
-            out.extend_from_slice(b"NotMonic ")?;
-            push_poly(out, p)
-        }
+        Refusal::NotMonic(p) => push_named(out, b"NotMonic", p),
         Refusal::NotSeparable => out.extend_from_slice(b"NotSeparable"),
         Refusal::LimitDisc(d) => push_one(out, b"LimitDisc", *d as u64),
         Refusal::LimitInf(d) => push_one(out, b"LimitInf", u64::from(*d)),
@@ -168,10 +175,7 @@ fn push_words(out: &mut Vec<u8>, r: &Refusal) -> Result<(), AllocError>
             out.extend_from_slice(name.letters.as_slice())
         }
         Refusal::LimitPlace(d) => push_one(out, b"LimitPlace", *d),
-        Refusal::NotIrreducible(h) => {
-            out.extend_from_slice(b"NotIrreducible ")?;
-            push_poly(out, h)
-        }
+        Refusal::NotIrreducible(h) => push_named(out, b"NotIrreducible", h),
         Refusal::NoSuchPlace(i, r) => push_two(out, b"NoSuchPlace", *i, *r),
         Refusal::CodeRange(c) => push_one(out, b"CodeRange", u64::from(*c)),
         Refusal::Length(n) => push_one(out, b"Length", *n as u64),
