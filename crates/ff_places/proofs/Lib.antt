@@ -1,5 +1,4 @@
 pub mod ComponentSets
-pub mod TextOrder
 pub mod Listings
 pub mod Systems
 pub mod MadePrimes

@@ -17,7 +17,7 @@ use Rattle.ff_written.specs.TextOrder.{HasRowTexts}
 use Rattle.value_theory.specs.Primes.{PrimeValue}
 use Rattle.ff_places.specs.Numbers.{NumberedFrom}
 use Rattle.ff_places.specs.Steps.{ListedPrime, ListedBefore, IsPutInto, AreListed, IsNumbered}
-use Rattle.ff_places.proofs.TextOrder.{texts_irreflexive, texts_transitive}
+use Rattle.ff_written.proofs.TextOrder.{texts_irreflexive, texts_transitive}
 
 -- ---- pairs of members of a list
 

@@ -3,7 +3,8 @@ use Rattle.std.specs.Global.{Vec}
 use Rattle.std.proofs.lemmas.List.{length-map}
 use Rattle.ff_falg.specs.Idempotents.{elements_of}
 use Rattle.ff_written.specs.TextOrder.{IsBeforeText, IsBeforeTexts}
-use Rattle.ff_places.proofs.TextOrder.{same_at, vectors_at, not_so, texts_more, texts_before, texts_after, texts_end}
+use Rattle.ff_written.proofs.TextOrder.{same_at, not_so, texts_more, texts_before, texts_after, texts_end}
+use Rattle.ff_places.proofs.WrittenTexts.{vectors_at}
 use Rattle.ff_places.proofs.numbers.is_before.Goals as goal
 
 pub returns-then-is_before_text : goal.returns-then-is_before_text

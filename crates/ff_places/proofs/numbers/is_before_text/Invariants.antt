@@ -1,6 +1,6 @@
 use Rattle.std.proofs.Common.{◌<◌, ◌↔◌, drop}
 use Rattle.ff_written.specs.TextOrder.{IsBeforeText}
-use Rattle.ff_places.proofs.TextOrder.{Lex}
+use Rattle.ff_written.proofs.TextOrder.{Lex}
 use Rattle.ff_places.proofs.numbers.is_before_text.Given as goal
 
 -- the texts are the same up to here

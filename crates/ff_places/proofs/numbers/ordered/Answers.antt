@@ -1,5 +1,8 @@
 use Rattle.std.proofs.Common.{◌<◌, ◌≤◌, length, take, sym, subst, arith}
 use Rattle.std.proofs.lemmas.List.{take_all}
+use Rattle.ff_lattice.specs.Lattices.{IsLatticeValue}
+use Rattle.value_theory.specs.IntegralLattices.{presentation}
+use Rattle.value_theory.specs.Primes.{PrimeValue}
 use Rattle.ff_places.specs.Steps.{AreListed}
 use Rattle.ff_places.proofs.Listings.{listed_none, listed_more}
 use Rattle.ff_places.proofs.numbers.ordered.Goals as goal
@@ -9,6 +12,13 @@ loop-prime-init g c =
     let k = g.K.SmallField.field c.args.k.now in
     subst (AreListed k c.args.c.now c.args.side (take 0 c.args.primes.now)) (sym c.new-list.ensures.items)
     (listed_none k c.args.c.now c.args.side c.args.primes.now)
+
+pub with_texts-requires-clause-form : goal.with_texts-requires-clause-form
+with_texts-requires-clause-form g c =
+    let k = g.K.SmallField.field c.args.k.now in
+    let less : c.loop-prime.prime-index < length c.args.primes.now = omega arith in
+    subst (λ (P : PrimeValue). IsLatticeValue k.ops (presentation c.args.c.now c.args.side).n P.rows)
+    (sym c.prime-item.is) (c.requires.forms c.loop-prime.prime-index c.prime-item.result less)
 
 pub loop-prime-preserved : goal.loop-prime-preserved
 loop-prime-preserved g c =
