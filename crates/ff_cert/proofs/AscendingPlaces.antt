@@ -129,7 +129,8 @@ one_member first (S ∷ Ps) P Q h p q e =
         let here = sym (ap (λ (R : PlaceLines). R.number) s_is) ∙ h.0 in
         omega (arith, more, here, same)
 
-    go : (Any (λ R. R ≡ P) Ps → Any (λ R. R ≡ Q) Ps → P ≡ Q) → (S ≡ P) ⊎ Any (λ R. R ≡ P) Ps → (S ≡ Q) ⊎ Any (λ R. R ≡ Q) Ps → P ≡ Q
+    go : (Any (λ R. R ≡ P) Ps → Any (λ R. R ≡ Q) Ps → P ≡ Q) → (S ≡ P) ⊎ Any (λ R. R ≡ P) Ps
+        → (S ≡ Q) ⊎ Any (λ R. R ≡ Q) Ps → P ≡ Q
     go again (inl a) (inl b) = sym a ∙ b
     go again (inl a) (inr b) = absurd (apart P a Q b e)
     go again (inr a) (inl b) = absurd (apart Q b P a (sym e))

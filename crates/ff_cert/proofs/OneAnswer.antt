@@ -239,7 +239,8 @@ for_bound a b P Q R f (OneField d e same a_is b_is) h g = absurd (subst (λ o. F
 for_bound a b P Q R f (OneCurve d e c Ps same a_is b_is) h g = f d e c Ps same (subst (λ o. ForBound o P) a_is h)
     (subst (λ o. ForBound o Q) b_is g)
 
-same_next : (old other next after : Bindings) → AreSameBindings old other → next ≡ old → after ≡ other → AreSameBindings next after
+same_next : (old other next after : Bindings) → AreSameBindings old other → next ≡ old → after ≡ other
+    → AreSameBindings next after
 same_next old other next after same h g = rw (h, g) same
 
 module _ (d e : FieldData) (c : CurveValue) (same : AreSameCurves d e c) where

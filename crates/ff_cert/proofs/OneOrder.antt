@@ -47,8 +47,8 @@ module _ (k : CodeField) (c : CurveValue) (curve : IsCurve k c) where
 
   -- ---- one lattice
 
-  pub finite_elems : (rows : List (List (List ℕ))) (den : List ℕ) → All (IsRow k.ops c.fin.n) rows → All (All IsPoly) rows
-      → IsOver k.ops den → IsPoly den → IsMonicList den
+  pub finite_elems : (rows : List (List (List ℕ))) (den : List ℕ) → All (IsRow k.ops c.fin.n) rows
+      → All (All IsPoly) rows → IsOver k.ops den → IsPoly den → IsMonicList den
       → map (function_on k c.fin c.c Finite) (elems_over rows den) ≡ map (function_of k c.fin) (elems_over rows den)
   finite_elems [] den rows_in rows_poly den_in den_poly monic = refl
   finite_elems (v ∷ rows) den rows_in rows_poly den_in den_poly monic =
