@@ -1,6 +1,6 @@
 -- The places of a side of a curve above a polynomial as what the primes of an order have of them (Stichtenoth, section
 -- 3.1).
-use Rattle.std.specs.Prelude.{◌≡◌, ◌≢◌, ◌↔◌, ℕ, List, [], map, All, AllPairs}
+use Rattle.std.specs.Prelude.{◌≢◌, ◌↔◌, ℕ, List, [], map, All, AllPairs}
 use Rattle.std.specs.List.{Any}
 use Rattle.ring_theory.specs.Subsets.{Span}
 use Rattle.ff_fields.specs.Field.{CodeField}
@@ -39,7 +39,7 @@ module _ (k : CodeField) (c : CurveValue) (s : Side) where
   module _ (o : LatticeValue) where
     -- a place above the polynomial that has, of the members of the order, those of the prime
     pub record IsPlaceOfPrimeValue (pi : List ℕ) (P : PrimeValue) (M : Place (Functions k c.fin)) : Type 0 where
-      pub above : IsPlaceAbove pi M
+      pub above : IsPlaceAbove k c s pi M
       pub members :
           (z : ElemValue)
           → IsElem k.ops (presentation c s).n z
@@ -63,4 +63,4 @@ module _ (k : CodeField) (c : CurveValue) (s : Side) where
           AllPairs
           (λ P Q. (M N : Place (Functions k c.fin)) → IsPlaceOfPrimeValue pi P M → IsPlaceOfPrimeValue pi Q N
           → ¬ IsSamePlace (setting k c.fin) M N) Ps
-      pub complete : (M : Place (Functions k c.fin)) → IsPlaceAbove pi M → Any (λ P. IsPlaceOfPrimeValue pi P M) Ps
+      pub complete : (M : Place (Functions k c.fin)) → IsPlaceAbove k c s pi M → Any (λ P. IsPlaceOfPrimeValue pi P M) Ps
