@@ -67,7 +67,8 @@ module _ (k : CodeField) (q : QuotientValue) (pi : List ℕ) (at : IsMaximalOrde
         ideal = radical_is_ideal k q.p at.positive q.order at.order pi l form members;
         has = λ z z_in.
             (members z).1
-            (p_in_radical (functions k q.p) (Contains k q.p q.order) 𝓞.ring (of_poly (equation_of k q.p) (value k pi))
+            (p_in_radical (functions k q.p) (Contains k q.p q.order) 𝓞.ring
+            (of_poly (equation_of k q.p) (value k pi))
             (order_has (equation_of k q.p) (Contains k q.p q.order) 𝓞 (value k pi)) z ((ideal z).0 z_in));
       }
 
