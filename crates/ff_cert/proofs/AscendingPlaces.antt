@@ -120,7 +120,8 @@ greater first Ps P h among =
 pub one_member : (first : ℕ) (Ps : List PlaceLines) (P Q : PlaceLines) → NumberedFrom first Ps → Any (λ R. R ≡ P) Ps
     → Any (λ R. R ≡ Q) Ps → P.number ≡ Q.number → P ≡ Q
 one_member first [] P Q h p q e = absurd (any_none (λ R. R ≡ P) p)
-one_member first (S ∷ Ps) P Q h p q e = go (any_cases (λ R. R ≡ P) S Ps p) (any_cases (λ R. R ≡ Q) S Ps q)
+one_member first (S ∷ Ps) P Q h p q e =
+    go (λ a b. one_member (suc first) Ps P Q h.1 a b e) (any_cases (λ R. R ≡ P) S Ps p) (any_cases (λ R. R ≡ Q) S Ps q)
   where
     apart : (T : PlaceLines) → S ≡ T → (U : PlaceLines) → Any (λ R. R ≡ U) Ps → ¬ (T.number ≡ U.number)
     apart T s_is U u same =
@@ -128,8 +129,8 @@ one_member first (S ∷ Ps) P Q h p q e = go (any_cases (λ R. R ≡ P) S Ps p) 
         let here = sym (ap (λ (R : PlaceLines). R.number) s_is) ∙ h.0 in
         omega (arith, more, here, same)
 
-    go : (S ≡ P) ⊎ Any (λ R. R ≡ P) Ps → (S ≡ Q) ⊎ Any (λ R. R ≡ Q) Ps → P ≡ Q
-    go (inl a) (inl b) = sym a ∙ b
-    go (inl a) (inr b) = absurd (apart P a Q b e)
-    go (inr a) (inl b) = absurd (apart Q b P a (sym e))
-    go (inr a) (inr b) = one_member (suc first) Ps P Q h.1 a b e
+    go : (Any (λ R. R ≡ P) Ps → Any (λ R. R ≡ Q) Ps → P ≡ Q) → (S ≡ P) ⊎ Any (λ R. R ≡ P) Ps → (S ≡ Q) ⊎ Any (λ R. R ≡ Q) Ps → P ≡ Q
+    go again (inl a) (inl b) = sym a ∙ b
+    go again (inl a) (inr b) = absurd (apart P a Q b e)
+    go again (inr a) (inl b) = absurd (apart Q b P a (sym e))
+    go again (inr a) (inr b) = again a b

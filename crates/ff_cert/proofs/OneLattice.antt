@@ -1,5 +1,5 @@
 -- A lattice of a side is fixed by its written rows, and by the place that they span.
-use Rattle.std.proofs.Common.{◌≡◌, ◌↔◌, ℕ, List, map, refl, sym, ap, ◌∙◌, subst}
+use Rattle.std.proofs.Common.{◌≡◌, ◌↔◌, ℕ, List, map, sym, ◌∙◌, subst}
 use Rattle.ring_theory.specs.Subsets.{Span}
 use Rattle.ff_fields.specs.Field.{CodeField}
 use Rattle.function_field.specs.declared.side.Side.{Side}
@@ -27,10 +27,13 @@ use Rattle.ff_written.proofs.WrittenRows.{written_functions, same_written}
 use Rattle.ff_cert.specs.declared.answer.PlaceLines.{PlaceLines}
 use Rattle.ff_cert.specs.RowPlaces.{ArePrintedRows}
 use Rattle.ff_cert.specs.RowNamedPlace.{IsPlaceOfLines}
-use Rattle.ff_cert.proofs.OneOrder.{some, some_inf, finite_elems, same_set, one_integral}
+use Rattle.ff_cert.proofs.OneOrder.{some, some_inf, finite_elems, one_integral}
 
 turned : {A B : Type 0} → A ↔ B → B ↔ A
 turned f = (f.1, f.0)
+
+both_are : {A B C : Type 0} → A ↔ C → B ↔ C → A ↔ B
+both_are f g = (λ a. g.1 (f.0 a), λ b. f.1 (g.0 b))
 
 joined : {A B C : Type 0} → A ↔ B → B ↔ C → A ↔ C
 joined f g = (λ a. g.0 (f.0 a), λ c. f.1 (g.1 c))
@@ -76,9 +79,9 @@ module _ (k : CodeField) (c : CurveValue) (curve : IsCurve k c) where
       → IsLatticeValue k.ops (presentation c s).n m → (zs : List WrittenValue) → AreWrittenRows k c s (row_elems l) zs
       → AreWrittenRows k c s (row_elems m) zs → l ≡ m
   one_written_lattice Finite l m h g zs l_is m_is =
-      one_form k c.fin l m h g (λ z. same_set (finite_span l h zs l_is z) (finite_span m g zs m_is z)) (some k c curve)
+      one_form k c.fin l m h g (λ z. both_are (finite_span l h zs l_is z) (finite_span m g zs m_is z)) (some k c curve)
   one_written_lattice Infinite l m h g zs l_is m_is =
-      one_form k c.inf l m h g (λ z. same_set (infinite_span l h zs l_is z) (infinite_span m g zs m_is z))
+      one_form k c.inf l m h g (λ z. both_are (infinite_span l h zs l_is z) (infinite_span m g zs m_is z))
       (some_inf k c curve)
 
   -- the members of a lattice of a whole place are those of the place over powers of t
@@ -132,13 +135,13 @@ module _ (k : CodeField) (c : CurveValue) (curve : IsCurve k c) where
       let rows = one_written_lattice s Q.rows R.rows h.form g.form P.rows h.rows g.rows in
       let orders = one_integral k c curve s h.order g.order h.integral g.integral in
       let colon : (z : Functions k (presentation c s))
-          → Contains k (presentation c s) Q.inverse z ↔ IsColon k (presentation c s) g.order R.rows z
+      → Contains k (presentation c s) Q.inverse z ↔ IsColon k (presentation c s) g.order R.rows z
       = λ z.
-          subst (λ o. Contains k (presentation c s) Q.inverse z ↔ IsColon k (presentation c s) o R.rows z) orders
-          (subst (λ l. Contains k (presentation c s) Q.inverse z ↔ IsColon k (presentation c s) h.order l z) rows
-          (h.inverse z)) in
+      subst (λ o. Contains k (presentation c s) Q.inverse z ↔ IsColon k (presentation c s) o R.rows z) orders
+      (subst (λ l. Contains k (presentation c s) Q.inverse z ↔ IsColon k (presentation c s) h.order l z) rows
+      (h.inverse z)) in
       let inverses =
-      one_inverse s Q.inverse R.inverse h.inverse_form g.inverse_form (λ z. same_set (colon z) (g.inverse z)) in
+      one_inverse s Q.inverse R.inverse h.inverse_form g.inverse_form (λ z. both_are (colon z) (g.inverse z)) in
       λ i. record {
         side = (h.side ∙ sym g.side) i;
         p = (h.over ∙ sym g.over) i;

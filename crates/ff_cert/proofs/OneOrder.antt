@@ -1,6 +1,6 @@
 -- The integral functions of a side are printed in one way: their lattice has one form, and a function is written in one
 -- way.
-use Rattle.std.proofs.Common.{◌≡◌, ℕ, ◌≤◌, ◌↔◌, List, [], ◌∷◌, map, refl, sym, ap₂, ◌∙◌, subst, arith, All}
+use Rattle.std.proofs.Common.{◌≡◌, ℕ, ◌≤◌, ◌↔◌, List, [], ◌∷◌, map, refl, sym, ap₂, subst, arith, All}
 use Rattle.std.proofs.lemmas.List.Elements.{All-head, All-tail}
 use Rattle.ff_fields.specs.Field.{CodeField}
 use Rattle.ff_fields.specs.Over.{IsOver}
@@ -68,7 +68,7 @@ module _ (k : CodeField) (c : CurveValue) (curve : IsCurve k c) where
       (finite_elems l.rows l.den h.form.rows_in (popov_poly c.fin.n l.rows h.form.popov) h.form.den_in h.form.den_poly
       h.form.monic) h.span z
 
-  pub same_set : {A B C : Type 0} → A ↔ C → B ↔ C → A ↔ B
+  same_set : {A B C : Type 0} → A ↔ C → B ↔ C → A ↔ B
   same_set f g = (λ a. g.1 (f.0 a), λ b. f.1 (g.0 b))
 
   pub one_integral : (s : Side) (l m : LatticeValue) → IsIntegralLattice k c s l → IsIntegralLattice k c s m → l ≡ m

@@ -9,7 +9,6 @@ use Rattle.function_field.specs.Values.{Functions, setting}
 use Rattle.function_field.specs.Curves.{CurveValue, IsCurve}
 use Rattle.function_field.specs.PlaceLists.{ListedPlace, listed_place, ListSamePlaces}
 use Rattle.place_lists_theory.proofs.OneList.{one_list}
-use Rattle.value_theory.specs.Primes.{PrimeValue}
 use Rattle.ff_script.specs.declared.script.Over.{Over}
 use Rattle.ff_meaning.specs.Bindings.{Bindings, Bound}
 use Rattle.ff_meaning.proofs.BaseRows.{one_base}

@@ -12,7 +12,7 @@ use Rattle.value_theory.specs.IntegralLattices.{presentation, IsIntegralLattice}
 use Rattle.value_theory.specs.Primes.{PrimeValue}
 use Rattle.ff_script.specs.declared.script.Over.{Over}
 use Rattle.ff_written.specs.Rows.{AreWrittenRows}
-use Rattle.ff_meaning.specs.Bindings.{Bindings, Bound, NamedPlace, with_places}
+use Rattle.ff_meaning.specs.Bindings.{Bindings, Bound, with_places}
 use Rattle.ff_cert.specs.declared.answer.PlaceLines.{PlaceLines}
 use Rattle.ff_cert.specs.RowPlaces as places_row
 
