@@ -1,8 +1,8 @@
 -- The lattice of the prime of an idempotent e: the product with the order of what an ideal spans with a lift of 1 - e.
-use Rattle.std.proofs.Common.{◌≡◌, ℕ, ◌↔◌, ◌<◌, List, [], ◌∷◌, ◌++◌, map, refl, sym, ◌∙◌, ap, ap₂, subst}
+use Rattle.std.proofs.Common.{◌≡◌, ℕ, ◌↔◌, ◌<◌, List, [], ◌∷◌, ◌++◌, refl, sym, ◌∙◌, ap, ap₂, subst}
 use Rattle.ring_lemmas.specs.Ring.{CommRing}
 use Rattle.ring_lemmas.specs.Lists.{scale_list}
-use Rattle.ring_lemmas.proofs.Ring.{zero_add, one_mul, neg_mul, add_add, add_sub}
+use Rattle.ring_lemmas.proofs.Ring.{one_mul, neg_mul, add_add, add_sub}
 use Rattle.ring_lemmas.proofs.Solver.{ring, reads}
 use Rattle.ring_theory.specs.Subsets.{IsModule, IsSubring, Product, Span}
 use Rattle.ring_theory.proofs.Subsets.{span_zero, span_head, product_module, product_member, product_least}

@@ -1,5 +1,5 @@
 -- A prime of an order that is maximal at a polynomial, from its rows, those of its inverse, and its numbers.
-use Rattle.std.proofs.Common.{◌≡◌, ◌↔◌, ℕ, suc, List, pos, ◌-ℤ◌, sym, subst}
+use Rattle.std.proofs.Common.{◌≡◌, ◌↔◌, ℕ, suc, List, pos, ◌-ℤ◌, subst}
 use Rattle.ring_lemmas.specs.Ring.{CommRing}
 use Rattle.ring_theory.specs.Subsets.{IsModule, Product}
 use Rattle.ring_theory.proofs.Subsets.{product_least}
@@ -15,10 +15,9 @@ use Rattle.function_field.specs.Values.{PresValue, Functions, functions, equatio
 use Rattle.ff_lattice.specs.Lattices.{LatticeValue, IsLatticeValue, Contains, pivot_degree_of}
 use Rattle.ff_lattice.specs.Colons.{IsColon}
 use Rattle.ff_lattice.specs.Quotients.{IsIdealLattice}
-use Rattle.value_theory.specs.Primes.{PrimeValue, IsPrimeOf}
+use Rattle.value_theory.specs.Primes.{IsPrimeOf}
 use Rattle.value_theory.proofs.Bridge.{order_set}
 use Rattle.decomposition_theory.specs.Decompositions.{IsMaximalOrderAt}
-use Rattle.decomposition_theory.specs.Laws.{IsInvertiblePrime}
 use Rattle.decomposition_theory.proofs.InvertiblePrimes.{invertible_prime}
 
 module _ (k : CodeField) (p : PresValue) (o : LatticeValue) (pi : List ℕ) (at : IsMaximalOrderAt k p o pi)

@@ -1,15 +1,13 @@
 -- The primes of an order over a polynomial: the radical, the prime of an idempotent, what the code finds of a prime,
 -- and what stays when primes are listed and numbered.
-use Rattle.std.proofs.Common.{◌≡◌, ◌≢◌, ◌↔◌, ◌<◌, ℕ, suc, List, length, get_or, map, refl, sym, ap, ◌∙◌, subst, arith, All}
+use Rattle.std.proofs.Common.{◌≡◌, ◌≢◌, ◌↔◌, ℕ, List, get_or, map, sym, ap, ◌∙◌, subst, arith, All}
 use Rattle.std.proofs.lemmas.List.{length-map, get_or-map}
 use Rattle.std.specs.List.{AllPairs, AllZip}
 use Rattle.std.specs.List.Sorted.{IsPermutation}
 use Rattle.std.proofs.lemmas.List.Elements.{All-map}
 use Rattle.std.proofs.lemmas.List.Sorted.{IsPermutation-sym, All-permutation}
 use Rattle.ring_lemmas.specs.Ring.{CommRing}
-use Rattle.ring_theory.specs.Members.{In}
-use Rattle.ring_theory.specs.Subsets.{Product}
-use Rattle.prime_theory.specs.Ideals.{SameSet, Multiple, PowerIn, Inverse, Invertible, IsIdeal}
+use Rattle.prime_theory.specs.Ideals.{SameSet, Multiple}
 use Rattle.prime_theory.specs.Orders.{Radical}
 use Rattle.prime_theory.specs.Places.{IsMaximalIdeal}
 use Rattle.prime_theory.proofs.Radicals.{p_in_radical}
@@ -23,7 +21,6 @@ use Rattle.function_field.specs.Curves.{CurveValue, IsCurve}
 use Rattle.function_field.specs.Functions.{of_poly}
 use Rattle.function_field.specs.Values.{PresValue, Functions, functions, equation_of}
 use Rattle.ff_lattice.specs.Lattices.{LatticeValue, IsLatticeValue, Contains, row_elems}
-use Rattle.ff_lattice.specs.Colons.{IsColon}
 use Rattle.ff_lattice.specs.Quotients.{QuotientValue, IsIdealLattice, dimension}
 use Rattle.value_theory.specs.Primes.{PrimeValue, IsPrimeOf}
 use Rattle.value_theory.proofs.Bridge.{order_set}
@@ -70,7 +67,8 @@ module _ (k : CodeField) (q : QuotientValue) (pi : List ℕ) (at : IsMaximalOrde
         ideal = radical_is_ideal k q.p at.positive q.order at.order pi l form members;
         has = λ z z_in.
             (members z).1
-            (p_in_radical (functions k q.p) (Contains k q.p q.order) 𝓞.ring (of_poly (equation_of k q.p) (value k pi))
+            (p_in_radical (functions k q.p) (Contains k q.p q.order) 𝓞.ring
+            (of_poly (equation_of k q.p) (value k pi))
             (order_has (equation_of k q.p) (Contains k q.p q.order) 𝓞 (value k pi)) z ((ideal z).0 z_in));
       }
 

@@ -1,4 +1,4 @@
-use Rattle.std.proofs.Common.{sym, subst, All}
+use Rattle.std.proofs.Common.{◌≡◌, sym, subst, All}
 use Rattle.ff_lattice.proofs.Results.{ok_through}
 use Rattle.function_field.specs.Values.{IsPresOver}
 use Rattle.value_theory.specs.Primes.{PrimeValue}

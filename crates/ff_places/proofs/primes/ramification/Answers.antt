@@ -3,10 +3,9 @@ use Rattle.std.specs.Prelude.{IfOk}
 use Rattle.prime_theory.specs.Ideals.{Power}
 use Rattle.ff_poly.specs.Value.{value}
 use Rattle.function_field.specs.Functions.{of_poly}
-use Rattle.function_field.specs.Values.{Functions, functions, function_of, equation_of}
+use Rattle.function_field.specs.Values.{functions, function_of, equation_of}
 use Rattle.ff_lattice.specs.Lattices.{LatticeValue, IsLatticeValue, Contains}
 use Rattle.ff_lattice.proofs.OrderRows.{polynomial_in}
-use Rattle.ff_lattice.proofs.Results.{ok_through}
 use Rattle.ff_places.proofs.MadePrimes.{prime_invertible, inverse_outside}
 use Rattle.ff_places.proofs.primes.ramification.Goals as goal
 
