@@ -200,15 +200,17 @@ module _ (k : AnyField) (c : CurveValue) (Ps : List NamedPlace) (s : Statement) 
       refl,
     );
     not_refused = λ r found. h.no_row r
-        (subst (λ (o : FieldOps). IsBaseRow o c.fin.n max_degree_of_places over r) (same_ops k) found);
+        (subst (λ (o : FieldOps). IsBaseRow o c.fin.n max_degree_of_places over r) (same_ops k) found.1);
   })
 
   pub places_refused : (over : Over) (r : Refusal) → s ≡ Places over
       → UnlessMemory (IsBaseRow (field_of k).ops c.fin.n max_degree_of_places over) r
       → UnlessMemory (IsRefusalRow here s) r
   places_refused over r s_is h some =
-      subst (λ t. IsRefusalRow here t r) (sym s_is)
-      (subst (λ (o : FieldOps). IsBaseRow o c.fin.n max_degree_of_places over r) (sym (same_ops k)) (h some))
+      subst (λ t. IsRefusalRow here t r) (sym s_is) (
+        data_is k,
+        subst (λ (o : FieldOps). IsBaseRow o c.fin.n max_degree_of_places over r) (sym (same_ops k)) (h some),
+      )
 
   abbrev bound : Bound
   bound = record { curve = c; places = Ps }
