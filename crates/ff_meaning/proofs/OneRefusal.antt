@@ -331,7 +331,8 @@ field_moves d e (OrderOf side) r same h = absurd h
 field_moves d e (Places over) r same h = absurd h
 field_moves d e (Place name over index) r same h = absurd h
 
-curve_moves : (d e : FieldData) (c : CurveValue) (Ps : List NamedPlace) (s : Statement) (r : Refusal) → AreSameFields d e
+curve_moves : (d e : FieldData) (c : CurveValue) (Ps : List NamedPlace) (s : Statement) (r : Refusal)
+    → AreSameFields d e
     → IsRefusalRow (with_places d c Ps) s r → IsRefusalRow (with_places e c Ps) s r
 curve_moves d e c Ps (FieldOf p tail) r same h = absurd (let none = h.0 in cc)
 curve_moves d e c Ps (CurveOf f) r same h =
@@ -347,7 +348,8 @@ curve_moves d e c Ps (Place name over index) r same h = (
       (fields_same d e same h.0 same.right) h.1,
 )
 
-pub row_moves : (a b : Bindings) (s : Statement) (r : Refusal) → AreSameBindings a b → IsRefusalRow a s r → IsRefusalRow b s r
+pub row_moves : (a b : Bindings) (s : Statement) (r : Refusal) → AreSameBindings a b → IsRefusalRow a s r
+    → IsRefusalRow b s r
 row_moves a b s r (NothingBound a_is b_is) h = subst (λ x. IsRefusalRow x s r) (a_is ∙ sym b_is) h
 row_moves a b s r (OneField d e same a_is b_is) h =
     subst (λ x. IsRefusalRow x s r) (sym b_is) (field_moves d e s r same (subst (λ x. IsRefusalRow x s r) a_is h))

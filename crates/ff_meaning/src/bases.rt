@@ -75,8 +75,8 @@ fn first_factor<K: SmallField>(alloc: Global, k: &K, p: &Poly) -> Result<Poly, A
     }
 }
 
-/// Why the polynomial isn't irreducible and monic, where it isn't. It takes the time of `is_irreducible`, and of `factor`
-/// where it has a proper factor.
+/// Why the polynomial isn't irreducible and monic, where it isn't. It takes the time of `is_irreducible`, and of
+/// `factor` where it has a proper factor.
 fn reducible<K: SmallField>(alloc: Global, k: &K, p: &Poly) -> Result<Option<Poly>, AllocError>
     requires p_in { IsOver (K.field k.now).ops p.now }
     ensures { IfOk result (λ o. MatchOption o
@@ -119,8 +119,8 @@ fn irreducible<K: SmallField>(
 
 /// What the places lie over as it is written, for a curve of degree n in y, or why none may lie over it: a code that is
 /// too great, n times the degree above 512, or a polynomial that isn't irreducible and monic. It takes the time of
-/// `is_irreducible`, and of `factor` where there is a proper factor. A product of n and the degree that isn't below 2^64
-/// is want of memory.
+/// `is_irreducible`, and of `factor` where there is a proper factor. A product of n and the degree that isn't below
+/// 2^64 is want of memory.
 pub fn base_of<K: SmallField>(alloc: Global, k: &K, n: usize, over: &Over) -> Result<Base, Refusal>
     requires some { 1 ≤ n }
     requires writable { IsWritableOver over.now }

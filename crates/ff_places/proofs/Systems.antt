@@ -200,7 +200,8 @@ Listed k c s l m =
     HasRowTexts k c s l.prime.rows l.texts × HasRowTexts k c s m.prime.rows m.texts × (¬ ListedBefore m l)
 
 pub in_order : (k : CodeField) (c : CurveValue) (s : Side) → IsCurve k c → (Ps : List PrimeValue)
-    (ls : List ListedPrime) (Qs : List PrimeValue) → AreListed k c s Ps ls → AllZip IsNumbered ls Qs → AreInOrder k c s Qs
+    (ls : List ListedPrime) (Qs : List PrimeValue) → AreListed k c s Ps ls → AllZip IsNumbered ls Qs
+    → AreInOrder k c s Qs
 in_order k c s curve Ps ls Qs h zip =
     pairs_right IsNumbered (Listed k c s) (IsNotAfter k c s)
     (λ l m P Q is also listed. record {

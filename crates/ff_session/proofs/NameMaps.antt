@@ -24,7 +24,8 @@ eq v w = pointwise nat_eq v.items w.items
 
 -- ---- which names there are
 
-pub found : (q : List ℕ) (es : List (Vec ℕ × PrimeValue)) → (is_some (lookup (test q) es) ≡ true) ↔ IsNameOf q (named_places es)
+pub found : (q : List ℕ) (es : List (Vec ℕ × PrimeValue))
+    → (is_some (lookup (test q) es) ≡ true) ↔ IsNameOf q (named_places es)
 found q [] = (λ e. absurd (true≢false (sym e)), λ h. absurd (any_none (Named q) h))
 found q (e ∷ es) = go (test q e.0) refl (found q es)
   where
@@ -133,8 +134,8 @@ none_copied all es done left all_is unique none whole = rw (none, whole) (record
   distinct = distinct_behind [] es (apart_none es) unique;
 })
 
-pub one_copied : (all : List NamedPlace) (done more left rest : List (Vec ℕ × PrimeValue)) (x : Vec ℕ × PrimeValue) (v : Vec ℕ)
-    (p : PrimeValue) → IsCopied all done left → left ≡ x ∷ rest → v.items ≡ x.0.items → p ≡ x.1
+pub one_copied : (all : List NamedPlace) (done more left rest : List (Vec ℕ × PrimeValue)) (x : Vec ℕ × PrimeValue)
+    (v : Vec ℕ) (p : PrimeValue) → IsCopied all done left → left ≡ x ∷ rest → v.items ≡ x.0.items → p ≡ x.1
     → more ≡ insert_entry eq done v p → IsCopied all more rest
 one_copied all done more left rest x v p h left_is v_is p_is more_is =
     let g = subst (IsCopied all done) left_is h in

@@ -55,7 +55,8 @@ module _ (k : CodeField) (c : CurveValue) (curve : IsCurve k c) (over : Over) (s
 
   -- ---- no place of the number
 
-  pub no_place : (index count : ℕ) (r : Refusal) → count ≡ length Ls → IsNoNumber count index r → IsNoPlace k c over index r
+  pub no_place : (index count : ℕ) (r : Refusal) → count ≡ length Ls → IsNoNumber count index r
+      → IsNoPlace k c over index r
   no_place index count r e g =
       let size = e ∙ sym (length-map Ls (listed k c s)) in
       record {
@@ -96,7 +97,8 @@ module _ (k : CodeField) (c : CurveValue) (curve : IsCurve k c) (over : Over) (s
     place_of_lines P Q i l P_is Q_is =
         let lines : AreLinesOf k c s Q P
         = subst (λ L. AreLinesOf k c s Q L) (sym P_is)
-        (subst (λ R. AreLinesOf k c s R (get_or Ls i P)) (sym Q_is) (zip_at (AreLinesOf k c s) Ps Ls h.lines i Q P l)) in
+        (subst (λ R. AreLinesOf k c s R (get_or Ls i P)) (sym Q_is)
+        (zip_at (AreLinesOf k c s) Ps Ls h.lines i Q P l)) in
         let size = zip_long (AreLinesOf k c s) Ps Ls h.lines in
         let prime : IsPrimeOf k (presentation c s) h.primes.order Q
         = subst (IsPrimeOf k (presentation c s) h.primes.order) (sym Q_is)

@@ -215,7 +215,8 @@ module _ (k : AnyField) (c : CurveValue) (Ps : List NamedPlace) (s : Statement) 
   abbrev bound : Bound
   bound = record { curve = c; places = Ps }
 
-  pub place_true : (name : List ℕ) (over : Over) (index : ℕ) (L : PlaceLines) (Q : PrimeValue) → s ≡ Place name over index
+  pub place_true : (name : List ℕ) (over : Over) (index : ℕ) (L : PlaceLines) (Q : PrimeValue)
+      → s ≡ Place name over index
       → IsPlaceRead (field_of k) c Ps name over index L Q
       → IsAnswered here s (answers.Place L) (changes.Place name Q)
   place_true name over index L Q s_is h =

@@ -69,7 +69,8 @@ pub record AreFactorsRead (k : FieldOps) (g : List Term) (unit : ℕ) (parts : L
   pub no_row : (r : Refusal) → ¬ IsFactorRow k max_degree g r
 
 -- these are all places, and no row of the statement holds
-pub record ArePlacesRead (k : CodeField) (c : CurveValue) (over : Over) (count : ℕ) (Ps : List PlaceLines) : Type 0 where
+pub record ArePlacesRead (k : CodeField) (c : CurveValue) (over : Over) (count : ℕ) (Ps : List PlaceLines) :
+    Type 0 where
   pub is : places_row.IsTrue k c over count Ps
   pub no_row : (r : Refusal) → ¬ IsBaseRow k.ops c.fin.n max_degree_of_places over r
 

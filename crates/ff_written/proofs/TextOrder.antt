@@ -203,7 +203,8 @@ module _ (a b : List (List ℕ)) (i : ℕ) (so_far : Lex IsBeforeText (drop i a)
   module _ (x y : List ℕ) (x_at : drop i a ≡ x ∷ drop (i + 1) a) (y_at : drop i b ≡ y ∷ drop (i + 1) b) where
     pub texts_more : ¬ IsBeforeText x y → ¬ IsBeforeText y x
         → Lex IsBeforeText (drop (i + 1) a) (drop (i + 1) b) ↔ IsBeforeTexts a b
-    texts_more n m = lex_more IsBeforeText text_irreflexive text_transitive a b i (IsBeforeTexts a b) so_far x y x_at y_at
+    texts_more n m =
+        lex_more IsBeforeText text_irreflexive text_transitive a b i (IsBeforeTexts a b) so_far x y x_at y_at
         (text_total x y n m)
 
     pub texts_before : IsBeforeText x y → IsTrue true ↔ IsBeforeTexts a b

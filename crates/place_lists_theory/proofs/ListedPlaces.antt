@@ -96,7 +96,8 @@ module _ (k : CodeField) (c : CurveValue) (curve : IsCurve k c) where
               members_at k c Finite pi o (lattices.some k c curve) (λ z. z) (λ Q. Q)
               (finite_place_map k c pi (lattices.some k c curve)) (λ z. (finite_members k c curve o whole z).0) P M m
 
-      finite_own : All (λ P. IsPlaceOfPrimeValue k c Finite o pi P (listed_place k c Finite (listed_prime k c Finite P))) Ps
+      finite_own :
+          All (λ P. IsPlaceOfPrimeValue k c Finite o pi P (listed_place k c Finite (listed_prime k c Finite P))) Ps
       finite_own =
           let a = places_of_primes k c curve o pi pi_in irreducible Ps Finite (λ e. absurd (cc)) order h in
           All-weaker
@@ -105,7 +106,8 @@ module _ (k : CodeField) (c : CurveValue) (curve : IsCurve k c) where
           (λ P t.
           prime_along k c Finite pi o P t.1.0 (listed_place k c Finite (listed_prime k c Finite P))
           (finite_same P t.0 t.1.0 t.1.1) t.1.1) Ps
-          (both (IsPrimeOf k c.fin o) (λ P. (M : Place (Functions k c.fin)) × IsPlaceOfPrimeValue k c Finite o pi P M) Ps
+          (both (IsPrimeOf k c.fin o)
+          (λ P. (M : Place (Functions k c.fin)) × IsPlaceOfPrimeValue k c Finite o pi P M) Ps
           h.primes a.places)
 
     module _ (e : pi ≡ 0 ∷ 1 ∷ []) (order : IsOrderLattice k c.inf o) (h : AreAllPrimes k c.inf o pi Ps)

@@ -73,7 +73,8 @@ module _ (k : CodeField) (c : CurveValue) (s : Side) (pi : List ℕ) (o : Lattic
         pairs_of_records k (presentation c s) o
         (λ R R'. (Q T : Place (Functions k (presentation c s))) → IsPlaceOf R Q → IsPlaceOf R' T
         → ¬ IsSamePlace (setting k (presentation c s)) Q T)
-        (λ P P'. (M N : Place (Functions k c.fin)) → IsPlaceOfPrimeValue k c s o pi P M → IsPlaceOfPrimeValue k c s o pi P' N
+        (λ P P'. (M N : Place (Functions k c.fin)) → IsPlaceOfPrimeValue k c s o pi P M
+        → IsPlaceOfPrimeValue k c s o pi P' N
         → ¬ IsSamePlace (setting k c.fin) M N)
         (different_is k c s pi o some f move moves integral) Ps Rs each r.different;
     complete = λ M above.

@@ -53,8 +53,8 @@ module _ (k : CodeField) (c : CurveValue) (s : Side) where
     -- those of different places, and each place above is that of a prime of the list
     pub record ArePlacesOfPrimes (pi : List ℕ) (Ps : List PrimeValue) : Type 0 where
       pub places : All (λ P. (M : Place (Functions k c.fin)) × IsPlaceOfPrimeValue pi P M) Ps
-      pub once : (P : PrimeValue) (M N : Place (Functions k c.fin)) → IsPlaceOfPrimeValue pi P M → IsPlaceOfPrimeValue pi P N
-          → IsSamePlace (setting k c.fin) M N
+      pub once : (P : PrimeValue) (M N : Place (Functions k c.fin)) → IsPlaceOfPrimeValue pi P M
+          → IsPlaceOfPrimeValue pi P N → IsSamePlace (setting k c.fin) M N
       pub ramified : All (λ P. (M : Place (Functions k c.fin)) → IsPlaceOfPrimeValue pi P M
           → HasRamification (setting k c.fin) M (polynomial_on k c pi) P.e) Ps
       pub degrees : All (λ P. (M : Place (Functions k c.fin)) → IsPlaceOfPrimeValue pi P M
@@ -63,4 +63,5 @@ module _ (k : CodeField) (c : CurveValue) (s : Side) where
           AllPairs
           (λ P Q. (M N : Place (Functions k c.fin)) → IsPlaceOfPrimeValue pi P M → IsPlaceOfPrimeValue pi Q N
           → ¬ IsSamePlace (setting k c.fin) M N) Ps
-      pub complete : (M : Place (Functions k c.fin)) → IsPlaceAbove k c s pi M → Any (λ P. IsPlaceOfPrimeValue pi P M) Ps
+      pub complete : (M : Place (Functions k c.fin)) → IsPlaceAbove k c s pi M
+          → Any (λ P. IsPlaceOfPrimeValue pi P M) Ps

@@ -51,8 +51,8 @@ fn chosen(primes: Vec<Prime>, list: PlaceList, index: u32) -> Result<(PlaceLines
     Ok(place_at(primes, list, index as usize))
 }
 
-/// The place with the number among all places over a polynomial, or over infinity, with its lines, or why there is none.
-/// It takes the time of `maximal_order` and of `places_above`, and the factors of the denominators of the rows.
+/// The place with the number among all places over a polynomial, or over infinity, with its lines, or why there is
+/// none. It takes the time of `maximal_order` and of `places_above`, and the factors of the denominators of the rows.
 pub fn named_place<K: SmallField>(
     alloc: Global,
     k: &K,
