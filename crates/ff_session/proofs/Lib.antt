@@ -5,3 +5,4 @@ pub mod Products
 pub mod Truths
 pub mod AllPlaces
 pub mod PlaceReads
+pub mod BoundBindings

@@ -119,6 +119,7 @@ module _ (k : CodeField) (c : CurveValue) (curve : IsCurve k c) (over : Over) (s
 
     pub place_read : (P : PlaceLines) (Q : PrimeValue) → P ≡ get_or Ls (index - 1) P → Q ≡ get_or Ps (index - 1) Q
         → IsPlaceRead k c names name over index P Q
+    unfolding places_read
     place_read P Q P_is Q_is = record {
       count = length Ls;
       places = Ls;

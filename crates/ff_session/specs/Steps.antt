@@ -38,9 +38,9 @@ pub record HasAnswer (old : Bindings) (s : Statement) (answer : Answer) (next : 
   pub not_refused : HasNoRow old s
 
 -- the answer is true, and none of the rows holds; and it binds what it may
-pub record IsAnswered (old : Bindings) (s : Statement) (answer : Answer) (change : Change) : Type 0 where
-  pub answer : HasAnswer old s answer (bindings_after old change)
-  pub change : MayTake old change
+pub record IsAnswered (old : Bindings) (s : Statement) (a : Answer) (b : Change) : Type 0 where
+  pub answer : HasAnswer old s a (bindings_after old b)
+  pub change : MayTake old b
 
 -- the text of the statement with its answer, which may be printed
 pub record IsBlock (old : SessionValue) (s : Statement) (answer : Answer) (text : List ℕ) : Type 0 where
