@@ -1,6 +1,6 @@
 -- The primes of the order of a side's integral functions, with their lines, are all places of the side: no two have the
 -- same texts, so that they ascend strictly.
-use Rattle.std.proofs.Common.{◌≡◌, ◌≢◌, ℕ, suc, ◌+◌, ◌-◌, ◌^◌, ◌≤◌, List, [], ◌∷◌, length, map, max, refl, sym, ap, ap₂, ◌∙◌, subst, arith, All}
+use Rattle.std.proofs.Common.{◌≡◌, ◌≢◌, ℕ, suc, ◌+◌, ◌-◌, ◌^◌, ◌≤◌, List, [], ◌∷◌, length, map, refl, sym, ap₂, ◌∙◌, subst, arith, All}
 use Rattle.std.specs.List.{AllZip, AllPairs}
 use Rattle.std.proofs.Math.Nat.{le-max_left, le-max_right}
 use Rattle.std.proofs.lemmas.List.Elements.{All-nil, All-cons, All-head, All-tail}
@@ -8,11 +8,9 @@ use Rattle.std.proofs.lemmas.List.Kept.{AllPairs-cons}
 use Rattle.prime_theory.proofs.Lists.{pairs_head, pairs_tail}
 use Rattle.ff_fields.specs.Field.{CodeField}
 use Rattle.ff_fields.specs.Over.{IsOver}
-use Rattle.ff_poly.specs.Words.{IsPoly, IsIrreducibleList}
+use Rattle.ff_poly.specs.Words.{IsIrreducibleList}
 use Rattle.function_field.specs.declared.side.Side.{Side}
 use Rattle.function_field.specs.declared.side.Side.TheVariants.{Infinite}
-use Rattle.function_field.specs.Values.{Functions, function_of}
-use Rattle.function_field.specs.Infinity.{function_on}
 use Rattle.function_field.specs.Curves.{CurveValue, IsCurve}
 use Rattle.function_field.specs.PlaceLists.{AreAllPlacesAbove}
 use Rattle.ff_lattice.specs.Lattices.{LatticeValue, row_elems}
@@ -26,7 +24,6 @@ use Rattle.ff_text.specs.Printed.{WrittenValue, elem_text}
 use Rattle.text_theory.specs.WrittenInFull.{IsElemWrittenInFull}
 use Rattle.text_theory.proofs.ElementTexts.{one_elem}
 use Rattle.text_theory.proofs.InFull.{elem_in_full}
-use Rattle.ff_written.specs.LowestTerms.{elem_of}
 use Rattle.ff_written.specs.Rows.{AreWrittenRows}
 use Rattle.ff_written.specs.TextOrder.{IsBeforeTexts, texts_of}
 use Rattle.ff_written.proofs.TextCases.{texts_before_other}

@@ -2,7 +2,7 @@
 use Rattle.std.proofs.Common.{◌≡◌, Option, Some, None, sym, subst}
 use Rattle.ff_fields.specs.declared.fields.Field.{Field as AnyField}
 use Rattle.ff_fields.specs.Field.{CodeField}
-use Rattle.ff_fields.specs.FieldData.{FieldData, IsFieldData, with_laws}
+use Rattle.ff_fields.specs.FieldData.{IsFieldData, with_laws}
 use Rattle.ff_fields.proofs.FieldData.{data_is, laws_are}
 use Rattle.function_field.specs.Curves.{IsCurve}
 use Rattle.ff_meaning.specs.Bindings.{Bindings, IsSomeWith, ForField}

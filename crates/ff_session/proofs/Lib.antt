@@ -6,3 +6,4 @@ pub mod Truths
 pub mod AllPlaces
 pub mod PlaceReads
 pub mod BoundBindings
+pub mod PlaceAnswers

@@ -1,6 +1,7 @@
 -- Places that are listed are the answers of `places` and `place`, and no row of either holds.
-use Rattle.std.proofs.Common.{◌≡◌, ℕ, zero, suc, ◌+◌, ◌-◌, ◌<◌, ◌≤◌, ◌⊎◌, inl, inr, List, [], ◌∷◌, length, map, get_or, refl, sym, ap, ◌∙◌, subst, arith, All}
-use Rattle.std.specs.List.{Any, AllZip}
+use Rattle.std.proofs.Common.{◌≡◌, ℕ, zero, suc, ◌+◌, ◌-◌, ◌<◌, ◌≤◌, ◌⊎◌, inl, inr, List, [], ◌∷◌, length, map, get_or, refl, sym, ap, ◌∙◌, subst, arith}
+use Rattle.std.specs.Prelude.{Result, Ok, Err, IfOk, IfErr, OnOk}
+use Rattle.std.specs.List.{AllZip}
 use Rattle.std.proofs.lemmas.List.{length-map}
 use Rattle.ff_fields.specs.Field.{CodeField}
 use Rattle.function_field.specs.declared.side.Side.{Side}
@@ -13,8 +14,8 @@ use Rattle.ff_script.specs.declared.script.Over.{Over}
 use Rattle.ff_meaning.specs.declared.refusal.Refusal.{Refusal}
 use Rattle.ff_meaning.specs.declared.refusal.Refusal.TheVariants.{NoSuchPlace}
 use Rattle.ff_meaning.specs.Bases.{IsBaseRead}
-use Rattle.ff_meaning.specs.Bindings.{NamedPlace, IsNameOf}
-use Rattle.ff_meaning.specs.Refusals.{IsNoPlace, IsPlaceRow, taken, base, none}
+use Rattle.ff_meaning.specs.Bindings.{Bound, NamedPlace, IsNameOf}
+use Rattle.ff_meaning.specs.Refusals.{UnlessMemory, IsNoPlace, IsPlaceRow, taken, base, none}
 use Rattle.ff_meaning.proofs.BaseRows.{one_base}
 use Rattle.ff_cert.specs.declared.answer.PlaceLines.{PlaceLines}
 use Rattle.ff_cert.specs.RowPlaces.{NumberedFrom, listed}
@@ -131,3 +132,22 @@ module _ (k : CodeField) (c : CurveValue) (curve : IsCurve k c) (over : Over) (s
       free = free;
       no_row = no_row;
     }
+
+  -- ---- what is chosen
+
+  module _ (index : ℕ) (names : List NamedPlace) (name : List ℕ) (free : ¬ IsNameOf name names) where
+    abbrev here : Bound
+    here = record { curve = c; places = names }
+
+    pub place_answer : (r : Result (PlaceLines × PrimeValue) Refusal) → OnOk r (1 ≤ index) → OnOk r (index ≤ length Ls)
+        → IfOk r (λ x. (d : PlaceLines) → x.0 ≡ get_or Ls (index - 1) d)
+        → IfOk r (λ x. (d : PrimeValue) → x.1 ≡ get_or Ps (index - 1) d)
+        → IfOk r (λ x. IsPlaceRead k c names name over index x.0 x.1)
+    place_answer (Ok x) first last lines primes =
+        place_read index first last names name free x.0 x.1 (lines x.0) (primes x.1)
+    place_answer (Err e) first last lines primes = lines
+
+    pub place_refusal : (r : Result (PlaceLines × PrimeValue) Refusal)
+        → IfErr r (UnlessMemory (IsNoNumber (length Ls) index)) → IfErr r (UnlessMemory (IsPlaceRow k here name over index))
+    place_refusal (Ok x) h = h
+    place_refusal (Err e) h = λ some. none free read.no_row (no_place index (length Ls) e refl (h some))

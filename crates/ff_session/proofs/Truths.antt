@@ -222,16 +222,19 @@ module _ (k : AnyField) (c : CurveValue) (Ps : List NamedPlace) (s : Statement) 
   place_true name over index L Q s_is h =
       subst (λ t. IsAnswered here t (answers.Place L) (changes.Place name Q)) (sym s_is) (record {
         answer = record {
-          is_true = (data_is k, subst is_true (sym (same_field k)) (record {
-            count = h.count;
-            places = h.places;
-            all = h.all;
-            among = h.among;
-            number = h.number;
-            place = Q;
-            is_place = h.is_place;
-            bound = refl;
-          }));
+          is_true = (
+            data_is k,
+            subst is_true (sym (same_field k)) (record {
+              count = h.count;
+              places = h.places;
+              all = h.all;
+              among = h.among;
+              number = h.number;
+              place = Q;
+              is_place = h.is_place;
+              bound = refl;
+            }),
+          );
           not_refused = λ r found. h.no_row r
               (subst (λ (l : CodeField). IsPlaceRow l bound name over index r) (laws_are k found.0) found.1);
         };

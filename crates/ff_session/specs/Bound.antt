@@ -1,5 +1,5 @@
 -- The bindings that what is held stands for, and what a statement binds.
-use Rattle.std.specs.Prelude.{◌≡◌, List, [], ◌∷◌, ◌++◌, Option, Some, None}
+use Rattle.std.specs.Prelude.{◌≡◌, [], ◌∷◌, ◌++◌, Option, Some, None}
 use Rattle.ff_fields.specs.declared.fields.Field.{Field as AnyField}
 use Rattle.ff_fields.specs.Fields.{field_of}
 use Rattle.ff_fields.specs.FieldData.{FieldData, IsFieldData, data_of, with_laws}

@@ -215,7 +215,10 @@ fn answer_on_curve(
         Statement::Place { name, over, index } => {
             let (place, prime) = named_place(alloc, k, &b.curve, &b.names, name, over, *index)?;
             let name = name.copy(alloc)?;
-            Ok((Answer::Place { place }, Change::Place { name, place: prime }))
+            Ok((
+                Answer::Place { place },
+                Change::Place { name, place: prime },
+            ))
         }
         _ => unreachable!(),
     }
