@@ -16,9 +16,8 @@ use case_values::read::{BAD, element, number, parted};
 use ff_algebra::{Curve, Elem, Pres, Side, try_inverse};
 use ff_fields::field::SmallField;
 use ff_ideal::{Prime, valuation};
-use ff_lattice::{Order, same_lattice};
+use ff_lattice::Order;
 use ff_maximal::maximal_order;
-use ff_order::enlarged;
 use ff_places::places_above;
 use ff_poly::Poly;
 use ff_poly::poly::shift;
@@ -53,7 +52,7 @@ fn presentation(c: &Curve, side: Side) -> &Pres
     }
 }
 
-// The maximal order of the side, tested once more at the polynomial.
+// The maximal order of the side, which is maximal at the polynomial.
 fn order_at<K: SmallField>(
     alloc: Global,
     k: &K,
@@ -64,22 +63,10 @@ fn order_at<K: SmallField>(
     requires curve { IsCurve (K.field k.now) c.now }
     requires pi_in { IsOver (K.field k.now).ops pi.now }
     requires irreducible { IsIrreducibleList (K.field k.now).ops pi.now }
+    requires infinite { side ≡ Infinite → pi.now ≡ 0 ∷ 1 ∷ [] }
     ensures { IfOk result (λ o. IsMaximalOrderAt (K.field k.now) (presentation c.now side) o pi.now) }
 {
-    let p = presentation(c, side);
-    let made = maximal_order(alloc, k, c, side)?;
-    let Some(o) = Order::new(alloc, k, p, made.lattice().copy(alloc)?)? else {
-        return Err(BAD);
-    };
-    if !same_lattice(
-        alloc,
-        k,
-        enlarged(alloc, k, p, &o, pi)?.lattice(),
-        o.lattice(),
-    )? {
-        return Err(BAD);
-    }
-    Ok(o)
+    maximal_order(alloc, k, c, side)
 }
 
 // Appends the number of the prime, its ramification index, its degree and its lattice.
