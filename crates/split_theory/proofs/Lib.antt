@@ -1,0 +1,5 @@
+pub mod InfiniteRows
+pub mod Scaled
+pub mod PopovRows
+pub mod RowFunctions
+pub mod SplitBases

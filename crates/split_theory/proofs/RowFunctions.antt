@@ -1,0 +1,14 @@
+-- Rows of codes as functions in given coordinates.
+use Rattle.std.proofs.Common.{◌≡◌, ℕ, zero, suc, ◌<◌, List, [], ◌∷◌, length, map, get_or, refl, sym, ◌∙◌, ap, ap₂, subst, arith}
+use Rattle.linear_theory.specs.Lists.{entry, tabulate}
+
+-- a list of images, by the numbers of the members
+pub map_tabulate : {X Y : Type 0} (f : X → Y) (d : X) (xs : List X) → map f xs
+    ≡ tabulate (length xs) (λ i. f (get_or xs i d))
+map_tabulate f d [] = refl
+map_tabulate f d (x ∷ xs) = ap (λ ys. f x ∷ ys) (map_tabulate f d xs)
+
+pub tabulate_same : {X : Type 0} (n : ℕ) (f g : ℕ → X) → ((i : ℕ) → i < n → f i ≡ g i) → tabulate n f ≡ tabulate n g
+tabulate_same zero f g h = refl
+tabulate_same (suc n) f g h =
+    ap₂ ◌∷◌ (h 0 (omega arith)) (tabulate_same n (λ i. f (suc i)) (λ i. g (suc i)) (λ i l. h (suc i) (omega arith)))
