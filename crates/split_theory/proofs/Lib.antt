@@ -3,3 +3,4 @@ pub mod Scaled
 pub mod PopovRows
 pub mod RowFunctions
 pub mod SplitBases
+pub mod SplitDegrees

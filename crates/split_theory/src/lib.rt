@@ -3,18 +3,24 @@
 //! theorem is the contract of a function with an empty body.
 #![tactic(auto)]
 
-ghost use Rattle.std.specs.Prelude.{◌≡◌, ℕ, List, pos, All};
+ghost use Rattle.std.specs.Prelude.{◌≡◌, ℕ, ◌*◌, ◌-◌, ◌/◌, ℤ, ◌+ℤ◌, List};
+ghost use Rattle.std.proofs.Common.{pos};
 ghost use Rattle.ff_fields.specs.Field.{CodeField};
 ghost use Rattle.ff_fields.specs.Code.{code_ring};
 ghost use Rattle.ff_fields.specs.Over.{IsOver};
+ghost use Rattle.ff_poly.specs.Words.{IsMonicList};
+ghost use Rattle.ff_poly.specs.Popov.{IsPopovMatrix};
+ghost use Rattle.ff_poly.specs.Polynomials.{x_poly};
 ghost use Rattle.function_field.specs.Functions.{degree_of_y};
 ghost use Rattle.function_field.specs.Curves.{CurveValue, IsCurve};
 ghost use Rattle.function_field.specs.Values.{Functions, equation_of};
 ghost use Rattle.lattice_theory.specs.Lattices.{polynomial_ops};
 ghost use Rattle.reduced_basis_theory.specs.Reduced.{IsReducedAt};
-ghost use Rattle.space_theory.specs.Spaces.{multiples_of, IsLatticeAtInfinity};
-ghost use Rattle.ff_lattice.specs.Lattices.{LatticeValue, IsLatticeValue, Contains};
-ghost use Rattle.split_theory.specs.Splits.{infinite_rows, AtInfinity};
+ghost use Rattle.reduced_basis_theory.specs.Degree.{degree_sum};
+ghost use Rattle.infinite_theory.specs.Supported.{IsSupportedAt};
+ghost use Rattle.space_theory.specs.Spaces.{multiples_of, IsLatticeAtInfinity, IsReducedBasis, IsBasisOfBoth};
+ghost use Rattle.ff_lattice.specs.Lattices.{LatticeValue, IsLatticeValue, Contains, pivot_degree_of};
+ghost use Rattle.split_theory.specs.Splits.{infinite_rows, AtInfinity, SpanMultiple, AreRowsOver, split_degree, split_degrees};
 
 /// The functions of the rows of a lattice over k[t] span a lattice at infinity, of which they are a reduced basis with
 /// the degrees 0.
@@ -25,4 +31,30 @@ pub fn infinite_rows_law()
         → IsLatticeValue k.ops c.inf.n inf
         → IsReducedAt (code_ring k) (polynomial_ops (equation_of k c.fin)) (degree_of_y (equation_of k c.fin))
         (multiples_of (equation_of k c.fin) (AtInfinity k c inf)) (infinite_rows k c inf) (λ i. pos 0) }
+{}
+
+/// A Popov basis whose rows, in the coordinates of the functions of the infinite rows, span u times a lattice over k[x]:
+/// its rows over u are a reduced basis of the two lattices, whose degrees are those of the pivots less that of u.
+pub fn split_law()
+    ensures reduced { (k : CodeField) (c : CurveValue) (fin inf : LatticeValue) (u : List ℕ) (m : List (List (List ℕ)))
+        (bs : List (Functions k c.fin)) → IsCurve k c → IsLatticeValue k.ops c.fin.n fin
+        → IsLatticeValue k.ops c.inf.n inf → IsOver k.ops u → IsMonicList u → IsPopovMatrix c.fin.n m
+        → SpanMultiple k c inf fin u m → AreRowsOver k c inf u m bs
+        → IsReducedBasis (equation_of k c.fin) (Contains k c.fin fin) (AtInfinity k c inf) bs (split_degree u m) }
+    ensures both { (k : CodeField) (c : CurveValue) (fin inf : LatticeValue) (u : List ℕ) (m : List (List (List ℕ)))
+        (bs : List (Functions k c.fin)) → IsCurve k c → IsLatticeValue k.ops c.fin.n fin
+        → IsLatticeValue k.ops c.inf.n inf → IsOver k.ops u → IsMonicList u → IsPopovMatrix c.fin.n m
+        → SpanMultiple k c inf fin u m → AreRowsOver k c inf u m bs
+        → IsBasisOfBoth (equation_of k c.fin) (Contains k c.fin fin) (AtInfinity k c inf) bs (split_degrees u m) }
+{}
+
+/// The sum of the degrees of a reduced basis of a lattice over k[x] and one over k[t] that differs from k[t][Y] at t
+/// alone: their pivot degrees and c·n·(n - 1)/2, for the degree n in y.
+pub fn split_degrees_law()
+    ensures { (k : CodeField) (c : CurveValue) (fin inf : LatticeValue) (bs : List (Functions k c.fin)) (d : ℕ → ℤ)
+        → IsCurve k c → IsLatticeValue k.ops c.fin.n fin → IsLatticeValue k.ops c.inf.n inf
+        → IsSupportedAt (equation_of k c.inf) (x_poly k) (Contains k c.inf inf)
+        → IsReducedBasis (equation_of k c.fin) (Contains k c.fin fin) (AtInfinity k c inf) bs d
+        → degree_sum c.fin.n d
+        ≡ (pivot_degree_of fin +ℤ pivot_degree_of inf) +ℤ pos (c.c * (c.fin.n * (c.fin.n - 1)) / 2) }
 {}
