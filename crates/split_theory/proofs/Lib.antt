@@ -4,3 +4,5 @@ pub mod PopovRows
 pub mod RowFunctions
 pub mod SplitBases
 pub mod SplitDegrees
+pub mod Permuted
+pub mod RowSpaces

@@ -1,4 +1,4 @@
--- Rows of codes as functions in given coordinates.
+-- Members of lists by their numbers.
 use Rattle.std.proofs.Common.{◌≡◌, ℕ, zero, suc, ◌<◌, List, [], ◌∷◌, length, map, get_or, refl, sym, ◌∙◌, ap, ap₂, subst, arith}
 use Rattle.linear_theory.specs.Lists.{entry, tabulate}
 
@@ -12,3 +12,9 @@ pub tabulate_same : {X : Type 0} (n : ℕ) (f g : ℕ → X) → ((i : ℕ) → 
 tabulate_same zero f g h = refl
 tabulate_same (suc n) f g h =
     ap₂ ◌∷◌ (h 0 (omega arith)) (tabulate_same n (λ i. f (suc i)) (λ i. g (suc i)) (λ i l. h (suc i) (omega arith)))
+
+pub entry_map : {X Y : Type 0} (f : X → Y) (d : X) (e : Y) (xs : List X) (i : ℕ) → i < length xs
+    → entry e (map f xs) i ≡ f (entry d xs i)
+entry_map f d e [] i less = absurd (omega (arith, less))
+entry_map f d e (x ∷ xs) zero less = refl
+entry_map f d e (x ∷ xs) (suc i) less = entry_map f d e xs i (omega (arith, less))

@@ -99,3 +99,14 @@ split_degree u m i = pos (length (entry_at (row_at m i) i)) -ℤ pos (length u)
 
 abbrev pub split_degrees : List ℕ → List (List (List ℕ)) → List ℤ
 split_degrees u m = tabulate (length m) (split_degree u m)
+
+-- functions with their degrees, as two lists and by numbers
+module _ {X : Type 0} where
+  abbrev pub functions_of : List (X × ℤ) → List X
+  functions_of ps = map (λ p. p.0) ps
+
+  abbrev pub degrees_of : List (X × ℤ) → List ℤ
+  degrees_of ps = map (λ p. p.1) ps
+
+  abbrev pub degree_at : List (X × ℤ) → ℕ → ℤ
+  degree_at ps i = entry (pos 0) (degrees_of ps) i

@@ -3,7 +3,7 @@
 //! theorem is the contract of a function with an empty body.
 #![tactic(auto)]
 
-ghost use Rattle.std.specs.Prelude.{◌≡◌, ℕ, ◌*◌, ◌-◌, ◌/◌, ℤ, ◌+ℤ◌, List};
+ghost use Rattle.std.specs.Prelude.{◌≡◌, ℕ, ◌*◌, ◌-◌, ◌/◌, ℤ, ◌+ℤ◌, List, IsPermutation};
 ghost use Rattle.std.proofs.Common.{pos};
 ghost use Rattle.ff_fields.specs.Field.{CodeField};
 ghost use Rattle.ff_fields.specs.Code.{code_ring};
@@ -20,7 +20,7 @@ ghost use Rattle.reduced_basis_theory.specs.Degree.{degree_sum};
 ghost use Rattle.infinite_theory.specs.Supported.{IsSupportedAt};
 ghost use Rattle.space_theory.specs.Spaces.{multiples_of, IsLatticeAtInfinity, IsReducedBasis, IsBasisOfBoth};
 ghost use Rattle.ff_lattice.specs.Lattices.{LatticeValue, IsLatticeValue, Contains, pivot_degree_of};
-ghost use Rattle.split_theory.specs.Splits.{infinite_rows, AtInfinity, SpanMultiple, AreRowsOver, split_degree, split_degrees};
+ghost use Rattle.split_theory.specs.Splits.{infinite_rows, AtInfinity, SpanMultiple, AreRowsOver, split_degree, split_degrees, functions_of, degrees_of, degree_at};
 
 /// The functions of the rows of a lattice over k[t] span a lattice at infinity, of which they are a reduced basis with
 /// the degrees 0.
@@ -57,4 +57,20 @@ pub fn split_degrees_law()
         → IsReducedBasis (equation_of k c.fin) (Contains k c.fin fin) (AtInfinity k c inf) bs d
         → degree_sum c.fin.n d
         ≡ (pivot_degree_of fin +ℤ pivot_degree_of inf) +ℤ pos (c.c * (c.fin.n * (c.fin.n - 1)) / 2) }
+{}
+
+/// A reduced basis of two lattices in another order, each function with its degree, is one.
+pub fn permuted_law()
+    ensures reduced { (k : CodeField) (c : CurveValue) (fin inf : LatticeValue)
+        (ps qs : List (Functions k c.fin × ℤ)) → IsPermutation ps qs
+        → IsReducedBasis (equation_of k c.fin) (Contains k c.fin fin) (AtInfinity k c inf) (functions_of ps)
+        (degree_at ps)
+        → IsReducedBasis (equation_of k c.fin) (Contains k c.fin fin) (AtInfinity k c inf) (functions_of qs)
+        (degree_at qs) }
+    ensures both { (k : CodeField) (c : CurveValue) (fin inf : LatticeValue) (ps qs : List (Functions k c.fin × ℤ))
+        → IsCurve k c → IsLatticeValue k.ops c.inf.n inf → IsPermutation ps qs
+        → IsReducedBasis (equation_of k c.fin) (Contains k c.fin fin) (AtInfinity k c inf) (functions_of ps)
+        (degree_at ps)
+        → IsBasisOfBoth (equation_of k c.fin) (Contains k c.fin fin) (AtInfinity k c inf) (functions_of qs)
+        (degrees_of qs) }
 {}
