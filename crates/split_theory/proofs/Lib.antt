@@ -6,3 +6,6 @@ pub mod SplitBases
 pub mod SplitDegrees
 pub mod Permuted
 pub mod RowSpaces
+pub mod Turned
+pub mod Coordinates
+pub mod Products

@@ -18,3 +18,18 @@ pub entry_map : {X Y : Type 0} (f : X → Y) (d : X) (e : Y) (xs : List X) (i : 
 entry_map f d e [] i less = absurd (omega (arith, less))
 entry_map f d e (x ∷ xs) zero less = refl
 entry_map f d e (x ∷ xs) (suc i) less = entry_map f d e xs i (omega (arith, less))
+
+-- lists with the same members
+pub same_list : {X : Type 0} (d : X) (xs ys : List X) → length xs ≡ length ys
+    → ((i : ℕ) → i < length xs → entry d xs i ≡ get_or ys i d) → xs ≡ ys
+same_list d [] [] l h = refl
+same_list d [] (y ∷ ys) l h = absurd (omega (arith, l))
+same_list d (x ∷ xs) [] l h = absurd (omega (arith, l))
+same_list d (x ∷ xs) (y ∷ ys) l h =
+    ap₂ ◌∷◌ (h 0 (omega arith)) (same_list d xs ys (omega (arith, l)) (λ i less. h (suc i) (omega (arith, less))))
+
+pub get_map : {X Y : Type 0} (f : X → Y) (d : X) (e : Y) (xs : List X) (i : ℕ) → i < length xs
+    → get_or (map f xs) i e ≡ f (get_or xs i d)
+get_map f d e [] i less = absurd (omega (arith, less))
+get_map f d e (x ∷ xs) zero less = refl
+get_map f d e (x ∷ xs) (suc i) less = get_map f d e xs i (omega (arith, less))

@@ -34,23 +34,8 @@ use Rattle.value_theory.proofs.InfiniteLattices.{some}
 use Rattle.split_theory.specs.Splits.{infinite_rows, AtInfinity, row_function, SpanMultiple, AreRowsOver, split_degree, split_degrees}
 use Rattle.split_theory.proofs.InfiniteRows.{infinite_lattice, rows_reduced}
 use Rattle.split_theory.proofs.PopovRows.{matrix, pivot_degrees, split_rows, regular}
-use Rattle.split_theory.proofs.RowFunctions.{map_tabulate, entry_map}
+use Rattle.split_theory.proofs.RowFunctions.{map_tabulate, same_list, entry_map, get_map}
 use Rattle.split_theory.proofs.Scaled.{reduced_degrees, reduced_over, lattice_over}
-
--- lists with the same members
-same_list : {X : Type 0} (d : X) (xs ys : List X) → length xs ≡ length ys
-    → ((i : ℕ) → i < length xs → entry d xs i ≡ get_or ys i d) → xs ≡ ys
-same_list d [] [] l h = refl
-same_list d [] (y ∷ ys) l h = absurd (omega (arith, l))
-same_list d (x ∷ xs) [] l h = absurd (omega (arith, l))
-same_list d (x ∷ xs) (y ∷ ys) l h =
-    ap₂ ◌∷◌ (h 0 (omega arith)) (same_list d xs ys (omega (arith, l)) (λ i less. h (suc i) (omega (arith, less))))
-
-get_map : {X Y : Type 0} (f : X → Y) (d : X) (e : Y) (xs : List X) (i : ℕ) → i < length xs
-    → get_or (map f xs) i e ≡ f (get_or xs i d)
-get_map f d e [] i less = absurd (omega (arith, less))
-get_map f d e (x ∷ xs) zero less = refl
-get_map f d e (x ∷ xs) (suc i) less = get_map f d e xs i (omega (arith, less))
 
 -- a polynomial other than 0 cancels
 module _ {k : CodeField} (c : Equation k) (a : Polynomial k) (some : ¬ (a ≡ (polynomials k).𝟘)) where

@@ -3,13 +3,13 @@
 //! theorem is the contract of a function with an empty body.
 #![tactic(auto)]
 
-ghost use Rattle.std.specs.Prelude.{◌≡◌, ℕ, ◌*◌, ◌-◌, ◌/◌, ℤ, ◌+ℤ◌, List, IsPermutation};
+ghost use Rattle.std.specs.Prelude.{◌≡◌, ℕ, ◌+◌, ◌*◌, ◌-◌, ◌/◌, ◌≤◌, ℤ, ◌+ℤ◌, List, length, All, IsPermutation};
 ghost use Rattle.std.proofs.Common.{pos};
 ghost use Rattle.ff_fields.specs.Field.{CodeField};
 ghost use Rattle.ff_fields.specs.Code.{code_ring};
 ghost use Rattle.ff_fields.specs.Over.{IsOver};
 ghost use Rattle.ff_poly.specs.Words.{IsMonicList};
-ghost use Rattle.ff_poly.specs.Popov.{IsPopovMatrix};
+ghost use Rattle.ff_poly.specs.Popov.{row_at, entry_at, IsRow, HaveSameRowSpan, HasFullRankMatrix, IsPopovMatrix};
 ghost use Rattle.ff_poly.specs.Polynomials.{x_poly};
 ghost use Rattle.function_field.specs.Functions.{degree_of_y};
 ghost use Rattle.function_field.specs.Curves.{CurveValue, IsCurve};
@@ -20,7 +20,7 @@ ghost use Rattle.reduced_basis_theory.specs.Degree.{degree_sum};
 ghost use Rattle.infinite_theory.specs.Supported.{IsSupportedAt};
 ghost use Rattle.space_theory.specs.Spaces.{multiples_of, IsLatticeAtInfinity, IsReducedBasis, IsBasisOfBoth};
 ghost use Rattle.ff_lattice.specs.Lattices.{LatticeValue, IsLatticeValue, Contains, pivot_degree_of};
-ghost use Rattle.split_theory.specs.Splits.{infinite_rows, AtInfinity, SpanMultiple, AreRowsOver, split_degree, split_degrees, functions_of, degrees_of, degree_at};
+ghost use Rattle.split_theory.specs.Splits.{infinite_rows, AtInfinity, AreCoordinatesInT, AreCoordinates, turned_from, AreProducts, IsDenominator, SpanMultiple, AreRowsOver, split_degree, split_degrees, functions_of, degrees_of, degree_at};
 
 /// The functions of the rows of a lattice over k[t] span a lattice at infinity, of which they are a reduced basis with
 /// the degrees 0.
@@ -31,6 +31,40 @@ pub fn infinite_rows_law()
         → IsLatticeValue k.ops c.inf.n inf
         → IsReducedAt (code_ring k) (polynomial_ops (equation_of k c.fin)) (degree_of_y (equation_of k c.fin))
         (multiples_of (equation_of k c.fin) (AtInfinity k c inf)) (infinite_rows k c inf) (λ i. pos 0) }
+{}
+
+/// Where a lattice over k[t] differs from k[t][Y] at t alone, a power of t takes 1, Y, up to Y^(n-1) into it. Their
+/// coordinates in its rows are polynomials in t. The reversed polynomials, padded to one number of codes, are the
+/// coordinates of 1, y, up to y^(n-1), times a power of x, in the functions of the rows.
+pub fn coordinates_law()
+    ensures in_t { (k : CodeField) (c : CurveValue) (inf : LatticeValue) → IsCurve k c
+        → IsLatticeValue k.ops c.inf.n inf
+        → IsSupportedAt (equation_of k c.inf) (x_poly k) (Contains k c.inf inf)
+        → (e : ℕ) × (q : List (List (List ℕ))) × AreCoordinatesInT k c inf e q }
+    ensures turned { (k : CodeField) (c : CurveValue) (inf : LatticeValue) (e D : ℕ) (q : List (List (List ℕ)))
+        → IsCurve k c → IsLatticeValue k.ops c.inf.n inf → AreCoordinatesInT k c inf e q → e ≤ D
+        → ((j i : ℕ) → length (entry_at (row_at q j) i) ≤ D + 1)
+        → AreCoordinates k c inf (D - e) (turned_from c.c (D + 1) 0 q) }
+    ensures in_x { (k : CodeField) (c : CurveValue) (inf : LatticeValue) → IsCurve k c
+        → IsLatticeValue k.ops c.inf.n inf
+        → IsSupportedAt (equation_of k c.inf) (x_poly k) (Contains k c.inf inf)
+        → (s : ℕ) × (Q : List (List (List ℕ))) × AreCoordinates k c inf s Q }
+{}
+
+/// The rows of a lattice over k[x] times these coordinates span u times the lattice, for its denominator times the
+/// power of x as u. So do rows with the same lattice. They are of full rank.
+pub fn spanned_law()
+    ensures products { (k : CodeField) (c : CurveValue) (fin inf : LatticeValue) (s : ℕ) (Q W : List (List (List ℕ)))
+        (u : List ℕ) → IsCurve k c → IsLatticeValue k.ops c.fin.n fin → IsLatticeValue k.ops c.inf.n inf
+        → AreCoordinates k c inf s Q → AreProducts k c.fin.n fin.rows Q W → IsDenominator k fin.den s u
+        → SpanMultiple k c inf fin u W }
+    ensures same { (k : CodeField) (c : CurveValue) (fin inf : LatticeValue) (u : List ℕ)
+        (W m : List (List (List ℕ))) → IsCurve k c → IsLatticeValue k.ops c.inf.n inf
+        → SpanMultiple k c inf fin u W → All (IsRow k.ops c.fin.n) m → HaveSameRowSpan k.ops c.fin.n W m
+        → SpanMultiple k c inf fin u m }
+    ensures full { (k : CodeField) (c : CurveValue) (fin inf : LatticeValue) (u : List ℕ) (W : List (List (List ℕ)))
+        → IsCurve k c → IsLatticeValue k.ops c.fin.n fin → IsLatticeValue k.ops c.inf.n inf → IsOver k.ops u
+        → IsMonicList u → SpanMultiple k c inf fin u W → HasFullRankMatrix k.ops c.fin.n W }
 {}
 
 /// A Popov basis whose rows, in the coordinates of the functions of the infinite rows, span u times a lattice over k[x]:
