@@ -1,5 +1,5 @@
 -- The coordinates of the powers of y in the functions of the rows of an infinite lattice.
-use Rattle.std.proofs.Common.{◌≡◌, ℕ, zero, suc, ◌+◌, ◌-◌, ◌*◌, ◌<◌, ◌≤◌, ◌⊎◌, inl, inr, List, [], ◌∷◌, length, map, get_or, refl, sym, ◌∙◌, ap, ap₂, subst, arith, All}
+use Rattle.std.proofs.Common.{◌≡◌, ℕ, zero, suc, ◌+◌, ◌-◌, ◌*◌, ◌<◌, ◌≤◌, ◌⊎◌, inl, inr, List, [], ◌∷◌, length, map, refl, sym, ◌∙◌, ap, ap₂, subst, arith, All}
 use Rattle.std.proofs.lemmas.Bool.{cases_lt}
 use Rattle.std.proofs.lemmas.List.{length-map}
 use Rattle.std.proofs.lemmas.List.Elements.{All-nil, All-cons, All-head, All-tail}
@@ -12,7 +12,7 @@ use Rattle.ff_poly.specs.Words.{shifted}
 use Rattle.ff_poly.specs.Value.{value}
 use Rattle.ff_poly.specs.Popov.{row_at, entry_at, IsRow}
 use Rattle.ff_poly.specs.Polynomials.{Polynomial, polynomials, x_poly, codes_of, value_codes_of, IsOver_codes_of}
-use Rattle.function_field.specs.Functions.{of_poly, y_of, degree_of_y}
+use Rattle.function_field.specs.Functions.{y_of}
 use Rattle.function_field.specs.Values.{Functions, functions, setting, function_of, equation_of}
 use Rattle.function_field.specs.Curves.{CurveValue, IsCurve, reversed_of}
 use Rattle.function_field.proofs.InfinitePresentations.{over_reversed}
@@ -23,7 +23,6 @@ use Rattle.infinite_theory.specs.Supported.{IsSupportedAt}
 use Rattle.space_theory.proofs.FunctionModule.{functions_module}
 use Rattle.space_theory.proofs.LatticeBases.{lattice_of_span}
 use Rattle.reduced_basis_theory.specs.Reduced.{InLattice}
-use Rattle.ff_popov.proofs.Entries.{any_default}
 use Rattle.ff_popov.proofs.Spans.{listed, listed_length, listed_at}
 use Rattle.ff_lattice.specs.Lattices.{LatticeValue, IsLatticeValue, Contains, row_elems}
 use Rattle.value_theory.proofs.InfiniteLattices.{some, image_of}

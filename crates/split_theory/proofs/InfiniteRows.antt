@@ -1,7 +1,6 @@
 -- The functions of the rows of an infinite lattice: they span a lattice at infinity, and are a reduced basis of it.
-use Rattle.std.proofs.Common.{◌≡◌, ℕ, suc, ◌<◌, ◌≤◌, List, [], ◌∷◌, length, map, refl, sym, ◌∙◌, ap, subst, arith}
-use Rattle.std.proofs.lemmas.Int.{ints}
-use Rattle.std.proofs.Math.IntN.{ℤ, pos}
+use Rattle.std.proofs.Common.{◌≡◌, ℕ, suc, ◌<◌, List, [], ◌∷◌, length, map, refl, ap, subst, arith}
+use Rattle.std.proofs.Math.IntN.{pos}
 use Rattle.std.proofs.lemmas.List.{length-map}
 use Rattle.ring_lemmas.specs.Ring.{pow}
 use Rattle.ring_theory.specs.Subsets.{Span}
@@ -16,8 +15,7 @@ use Rattle.function_field.specs.Curves.{CurveValue, IsCurve}
 use Rattle.linear_theory.specs.Module.{combine}
 use Rattle.lattice_theory.specs.Lattices as theory
 use Rattle.lattice_theory.specs.Lattices.{polynomial_ops}
-use Rattle.reduced_basis_theory.specs.Reduced.{Coordinates, IsReducedAt}
-use Rattle.places_theory.proofs.PresentationMap.{presentation_map}
+use Rattle.reduced_basis_theory.specs.Reduced.{IsReducedAt}
 use Rattle.infinite_theory.specs.InfiniteMaps.{IsInfiniteMap}
 use Rattle.infinite_theory.proofs.InfiniteTransport.{infinite_map}
 use Rattle.space_theory.specs.Spaces.{IsLatticeAtInfinity, multiples_of}

@@ -1,25 +1,21 @@
 -- A Popov basis of codes has predictable degrees: those of its pivots.
-use Rattle.std.proofs.Common.{◌≡◌, ℕ, suc, ◌-◌, ◌<◌, ◌⊎◌, inl, inr, List, length, get_or, sym, ◌∙◌, ap, subst, arith, All}
+use Rattle.std.proofs.Common.{◌≡◌, ℕ, suc, ◌-◌, ◌<◌, ◌⊎◌, inl, inr, List, length, get_or, sym, ◌∙◌, subst, arith, All}
 use Rattle.std.proofs.lemmas.Int.{ints}
-use Rattle.std.proofs.lemmas.List.{nil_from_length}
-use Rattle.std.proofs.Math.IntN.{ℤ, pos, negsuc, ◌+ℤ◌, ◌-ℤ◌}
-use Rattle.ring_lemmas.specs.Rows.{Row, entry}
-use Rattle.ring_lemmas.specs.Polynomials.{Pol}
+use Rattle.std.proofs.Math.IntN.{ℤ, pos, negsuc, ◌-ℤ◌}
 use Rattle.ring_lemmas.proofs.Ring.{one_mul}
-use Rattle.ring_theory.specs.PolynomialRing.{pol_ring}
 use Rattle.ring_theory.proofs.PolynomialRows.{same_entries}
 use Rattle.ff_fields.specs.Field.{CodeField}
 use Rattle.ff_fields.specs.Code.{code_ring, code_field, code_domain}
 use Rattle.ff_poly.specs.Value.{value}
 use Rattle.ff_poly.specs.Polynomials.{Polynomial, polynomials, polynomials_domain}
 use Rattle.ff_poly.specs.Popov.{row_at, entry_at, IsRow, IsPopovMatrix}
-use Rattle.popov_theory.specs.Module.{measure, row_degree}
-use Rattle.reduced_basis_theory.specs.Degree.{DegreeAtMost, degree, size}
+use Rattle.popov_theory.specs.Module.{row_degree}
+use Rattle.reduced_basis_theory.specs.Degree.{DegreeAtMost, size}
 use Rattle.reduced_basis_theory.specs.Rows.{row_times, IsPredictable}
 use Rattle.reduced_basis_theory.proofs.Degree.{decide_zero, degree_of_zero}
 use Rattle.reduced_basis_theory.proofs.Powers.{degree_power}
 use Rattle.reduced_basis_theory.proofs.WeightedRows.{weighted, entry_weighted, weighted_predictable}
-use Rattle.ff_popov.specs.Reading.{read_row, row_space, read_rows}
+use Rattle.ff_popov.specs.Reading.{row_space, read_rows}
 use Rattle.ff_popov.proofs.ReadRows.{entry_read, read_row_at}
 use Rattle.ff_popov.proofs.PopovBasis.{basis_length, basis_measured, basis_weak}
 

@@ -1,26 +1,23 @@
 -- The rows of a lattice over k[x] times the coordinates of the powers of y: they span a multiple of the lattice.
-use Rattle.std.proofs.Common.{◌≡◌, ◌↔◌, ℕ, zero, suc, ◌+◌, ◌-◌, ◌<◌, ◌≤◌, List, [], ◌∷◌, length, map, get_or, refl, sym, ◌∙◌, ap, ap₂, subst, arith, All}
+use Rattle.std.proofs.Common.{◌≡◌, ℕ, zero, suc, ◌+◌, ◌-◌, ◌<◌, ◌≤◌, List, [], ◌∷◌, length, map, refl, sym, ◌∙◌, ap, ap₂, subst, arith}
 use Rattle.std.proofs.lemmas.List.{length-map}
 use Rattle.ring_lemmas.specs.Ring.{pow}
 use Rattle.ring_lemmas.proofs.Ring.{one_mul, mul_zero}
 use Rattle.ring_lemmas.proofs.Solver.{ring, reads}
 use Rattle.ff_fields.specs.Field.{CodeField}
 use Rattle.ff_fields.specs.Code.{code_ring, code_field}
-use Rattle.ff_poly.specs.Words.{IsMonicList}
 use Rattle.ff_poly.specs.Value.{value}
-use Rattle.ff_poly.specs.Popov.{row_at, entry_at, IsRow, IsCombinationList, combination}
-use Rattle.ff_poly.specs.Polynomials.{Polynomial, polynomials, x_poly}
+use Rattle.ff_poly.specs.Popov.{row_at, entry_at, IsRow}
+use Rattle.ff_poly.specs.Polynomials.{polynomials, x_poly}
 use Rattle.function_field.specs.Functions.{Equation, FunctionOf, ring_of, of_poly, y_of, degree_of_y}
-use Rattle.function_field.specs.Values.{Functions, functions, setting, function_of, equation_of}
+use Rattle.function_field.specs.Values.{Functions, functions, function_of, equation_of}
 use Rattle.function_field.specs.Curves.{CurveValue, IsCurve}
 use Rattle.function_field.proofs.Horner.{horner, den_times_function}
-use Rattle.function_field.proofs.OnSide.{of_poly_zero}
 use Rattle.linear_theory.specs.Module.{combine}
 use Rattle.linear_theory.specs.Lists.{entry}
 use Rattle.linear_theory.proofs.Combination.{combine_map}
 use Rattle.lattice_theory.specs.Lattices.{polynomial_ops}
 use Rattle.order_theory.proofs.LocalOrders.{power_value}
-use Rattle.reduced_basis_theory.specs.Degree.{degree}
 use Rattle.reduced_basis_theory.specs.Reduced.{InLattice}
 use Rattle.reduced_basis_theory.proofs.Rescale.{scaling_linear}
 use Rattle.space_theory.specs.Spaces.{multiples_of}
@@ -30,12 +27,12 @@ use Rattle.divisor_theory.proofs.StandardPair.{powers, powers_length}
 use Rattle.ff_popov.specs.Reading.{read_row}
 use Rattle.ff_popov.proofs.Entries.{any_default}
 use Rattle.ff_popov.proofs.Spans.{combination_row}
-use Rattle.ff_lattice.specs.Lattices.{LatticeValue, IsLatticeValue, Contains, elems_over, row_elems}
+use Rattle.ff_lattice.specs.Lattices.{LatticeValue, IsLatticeValue, elems_over, row_elems}
 use Rattle.ff_lattice.proofs.Divisors.{monic_value}
 use Rattle.ff_lattice.proofs.Elements.{elem_over}
 use Rattle.ff_lattice.proofs.Normal.{monic_poly}
 use Rattle.value_theory.proofs.InfiniteLattices.{some}
-use Rattle.split_theory.specs.Splits.{infinite_rows, AtInfinity, row_function, AreCoordinates, AreProducts, IsDenominator, SpanMultiple}
+use Rattle.split_theory.specs.Splits.{AtInfinity, row_function, AreCoordinates, AreProducts, IsDenominator, SpanMultiple}
 use Rattle.split_theory.proofs.RowFunctions.{same_list, entry_map, get_map}
 use Rattle.split_theory.proofs.RowSpaces.{function_combination}
 use Rattle.split_theory.proofs.Scaled.{lattice_over}

@@ -1,5 +1,5 @@
 -- Members of lists by their numbers.
-use Rattle.std.proofs.Common.{◌≡◌, ℕ, zero, suc, ◌<◌, List, [], ◌∷◌, length, map, get_or, refl, sym, ◌∙◌, ap, ap₂, subst, arith}
+use Rattle.std.proofs.Common.{◌≡◌, ℕ, zero, suc, ◌<◌, List, [], ◌∷◌, length, map, get_or, refl, ap, ap₂, arith}
 use Rattle.linear_theory.specs.Lists.{entry, tabulate}
 
 -- a list of images, by the numbers of the members

@@ -1,10 +1,10 @@
 -- Rows of polynomials as functions in the coordinates of the infinite rows: the map is linear, and the functions of
 -- combinations of rows are the combinations of their functions.
-use Rattle.std.proofs.Common.{◌≡◌, ◌↔◌, ℕ, zero, suc, ◌-◌, ◌<◌, List, [], ◌∷◌, length, map, get_or, refl, sym, ◌∙◌, ap, ap₂, subst, arith, All}
+use Rattle.std.proofs.Common.{◌≡◌, ℕ, suc, ◌-◌, ◌<◌, List, [], ◌∷◌, length, map, refl, sym, ◌∙◌, ap, ap₂, subst, arith, All}
 use Rattle.std.proofs.lemmas.List.{length-map}
 use Rattle.std.proofs.lemmas.List.Elements.{All-nil, All-cons}
 use Rattle.ring_lemmas.specs.Lists.{mul_lists}
-use Rattle.ring_lemmas.specs.Rows.{Row, entry, row_zero, row_add, row_scale}
+use Rattle.ring_lemmas.specs.Rows.{Row, entry}
 use Rattle.ring_lemmas.specs.Polynomials.{Pol}
 use Rattle.ring_theory.specs.PolynomialRing.{pol_ring}
 use Rattle.ring_theory.proofs.PolynomialRows.{same_entries, entry_zero, entry_add, entry_scale}
@@ -15,7 +15,7 @@ use Rattle.ff_poly.specs.Words.{IsPoly, product_of}
 use Rattle.ff_poly.specs.PolyOver.{IsPoly_poly_of}
 use Rattle.ff_poly.specs.Value.{value}
 use Rattle.ff_poly.specs.Polynomials.{Polynomial, polynomials, codes_of, value_codes_of, IsOver_codes_of, IsPoly_codes_of, value_nil}
-use Rattle.ff_poly.specs.Popov.{row_at, entry_at, IsRow, IsCombinationList, InRowSpan, HaveSameRowSpan, HasMultipleInRows, HasFullRankMatrix, combination, multiple_of_row}
+use Rattle.ff_poly.specs.Popov.{entry_at, IsRow, InRowSpan, HaveSameRowSpan, HasFullRankMatrix, combination, multiple_of_row}
 use Rattle.popov_theory.specs.Module.{PolynomialModule}
 use Rattle.popov_theory.specs.Span.{InSpan}
 use Rattle.popov_theory.specs.Span as rows_span
@@ -33,7 +33,7 @@ use Rattle.reduced_basis_theory.proofs.Converse.{same_coefficients}
 use Rattle.space_theory.proofs.FunctionModule.{functions_module}
 use Rattle.ff_popov.specs.Reading.{read_row, row_space, read_rows}
 use Rattle.ff_popov.proofs.ReadRows.{entry_read}
-use Rattle.ff_popov.proofs.Spans.{listed, listed_length, listed_at, combination_read, combination_row, space_multiple, multiple_row, from_space}
+use Rattle.ff_popov.proofs.Spans.{listed, listed_length, listed_at, combination_read, space_multiple, multiple_row, from_space}
 use Rattle.ff_lattice.specs.Lattices.{LatticeValue, IsLatticeValue, Contains}
 use Rattle.split_theory.specs.Splits.{infinite_rows, row_function, SpanMultiple}
 use Rattle.split_theory.proofs.InfiniteRows.{rows_count, rows_free}

@@ -10,7 +10,7 @@ use Rattle.linear_theory.specs.Module.{Module, combine}
 use Rattle.linear_theory.proofs.Combination.{combine_map}
 use Rattle.linear_theory.proofs.Module.{scale_zero}
 use Rattle.reduced_basis_theory.specs.Degree.{DegreeAtMost, degree}
-use Rattle.reduced_basis_theory.specs.Reduced.{InLattice, Coordinates, CoordinatesAtMost, IsReducedAt}
+use Rattle.reduced_basis_theory.specs.Reduced.{InLattice, IsReducedAt}
 use Rattle.reduced_basis_theory.proofs.Degree.{degree_multiply}
 use Rattle.reduced_basis_theory.proofs.Constants.{polynomials}
 use Rattle.reduced_basis_theory.proofs.Rescale.{scaling_linear}

@@ -1,9 +1,8 @@
 -- The rows of a Popov basis over a polynomial are a reduced basis of the two lattices.
-use Rattle.std.proofs.Common.{◌≡◌, ◌↔◌, ℕ, zero, suc, ◌-◌, ◌<◌, ◌≤◌, List, [], ◌∷◌, length, map, get_or, refl, sym, ◌∙◌, ap, ap₂, subst, arith}
+use Rattle.std.proofs.Common.{◌≡◌, ℕ, suc, ◌-◌, ◌<◌, List, [], length, map, get_or, sym, ◌∙◌, ap, subst, arith}
 use Rattle.std.proofs.lemmas.Int.{ints}
 use Rattle.std.proofs.lemmas.List.{length-map}
-use Rattle.std.proofs.Math.IntN.{ℤ, pos, ◌+ℤ◌, ◌-ℤ◌}
-use Rattle.ring_lemmas.specs.Ring.{pow}
+use Rattle.std.proofs.Math.IntN.{pos, ◌-ℤ◌}
 use Rattle.ff_fields.specs.Field.{CodeField}
 use Rattle.ff_fields.specs.Code.{code_ring, code_field}
 use Rattle.ff_poly.specs.Popov.{row_at, entry_at, IsPopovMatrix}
@@ -12,12 +11,11 @@ use Rattle.ff_poly.specs.Words.{IsMonicList}
 use Rattle.ff_fields.specs.Over.{IsOver}
 use Rattle.ff_poly.specs.Polynomials.{Polynomial, polynomials}
 use Rattle.function_field.specs.Functions.{Equation, FunctionOf, ring_of, of_poly, degree_of_y, over, row_of}
-use Rattle.function_field.specs.Values.{Functions, functions, function_of, equation_of}
+use Rattle.function_field.specs.Values.{Functions, functions, equation_of}
 use Rattle.function_field.specs.Curves.{CurveValue, IsCurve}
 use Rattle.function_field.proofs.OnSide.{den_inverse}
 use Rattle.function_field.proofs.ScalarRings.{bottoms_not_zero}
-use Rattle.linear_theory.specs.Module.{combine}
-use Rattle.linear_theory.specs.Lists.{entry, tabulate}
+use Rattle.linear_theory.specs.Lists.{tabulate}
 use Rattle.lattice_theory.specs.Lattices.{polynomial_ops}
 use Rattle.reduced_basis_theory.specs.Degree.{degree}
 use Rattle.reduced_basis_theory.specs.Reduced.{InLattice, Coordinates, IsReducedAt}
@@ -136,9 +134,9 @@ module _ (k : CodeField) (c : CurveValue) (curve : IsCurve k c) (fin inf : Latti
             let b = lattice_over (code_ring k) (code_field k) (functions_module E) (degree_of_y E)
             (multiples_of E (AtInfinity k c inf)) (value k u) u_some (cancel_polynomial E (value k u) u_some) bs z in (
               λ h. b.0 (subst (λ hs. InLattice (code_ring k) (polynomial_ops E) hs
-              ((functions k c.fin).◌⊗◌ (of_poly E (value k u)) z)) gs_multiples (a.0 h)),
+                  ((functions k c.fin).◌⊗◌ (of_poly E (value k u)) z)) gs_multiples (a.0 h)),
               λ h. a.1 (subst (λ hs. InLattice (code_ring k) (polynomial_ops E) hs
-              ((functions k c.fin).◌⊗◌ (of_poly E (value k u)) z)) (sym gs_multiples) (b.1 h)),
+                  ((functions k c.fin).◌⊗◌ (of_poly E (value k u)) z)) (sym gs_multiples) (b.1 h)),
             );
       }
     where

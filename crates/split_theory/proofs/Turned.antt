@@ -1,5 +1,5 @@
 -- Combinations over k[t] as ones over k[x]: what is read at t, times a power of x, is the reversed polynomial at x.
-use Rattle.std.proofs.Common.{◌≡◌, ℕ, zero, suc, ◌+◌, ◌-◌, ◌*◌, ◌<◌, ◌≤◌, List, [], ◌∷◌, ◌++◌, length, map, replicate, refl, sym, ◌∙◌, ap, ap₂, subst, arith}
+use Rattle.std.proofs.Common.{◌≡◌, ℕ, zero, suc, ◌+◌, ◌-◌, ◌*◌, ◌<◌, ◌≤◌, List, [], ◌∷◌, ◌++◌, length, map, replicate, refl, sym, ◌∙◌, ap, ap₂, arith}
 use Rattle.ring_lemmas.specs.Ring.{pow}
 use Rattle.ring_lemmas.proofs.Ring.{mul_zero, mul_left_comm, mul_pow, pow_mul, pow_add}
 use Rattle.ring_lemmas.proofs.Solver.{ring, reads}
@@ -7,7 +7,6 @@ use Rattle.ring_theory.proofs.RowMaps.{hom_zero}
 use Rattle.ff_fields.specs.Field.{CodeField}
 use Rattle.ff_poly.specs.Words.{shifted}
 use Rattle.ff_poly.specs.Value.{value}
-use Rattle.ff_poly.specs.Polynomials.{Polynomial, polynomials, codes_of}
 use Rattle.function_field.specs.declared.side.Side.TheVariants.{Finite, Infinite}
 use Rattle.function_field.specs.Functions.{of_poly, y_of}
 use Rattle.function_field.specs.Values.{PresValue, Functions, functions, setting, equation_of}
@@ -17,7 +16,7 @@ use Rattle.function_field.proofs.OnSide.{value_at_x}
 use Rattle.function_field.proofs.InfinitePresentations.{value_trim, value_zeros, value_reversed, value_at_value, constant_zero}
 use Rattle.linear_theory.specs.Module.{combine}
 use Rattle.lattice_theory.specs.Lattices.{polynomial_ops}
-use Rattle.places_theory.proofs.AtInfinity.{at, at_codes, value_at_is, x_times_t}
+use Rattle.places_theory.proofs.AtInfinity.{at_codes, value_at_is, x_times_t}
 use Rattle.infinite_theory.specs.InfiniteMaps.{IsInfiniteMap}
 use Rattle.space_theory.proofs.InfiniteBases.{x_to_t}
 

@@ -1,7 +1,7 @@
 -- Rows of polynomials as functions in the coordinates of the rows of an infinite lattice, and the bases that they make
 -- of a lattice of each side (F. Hess, Computing Riemann-Roch spaces in algebraic function fields and related topics,
 -- 2002, section 4).
-use Rattle.std.specs.Prelude.{◌≡◌, ℕ, suc, ◌+◌, ◌-◌, ◌*◌, ◌<◌, ◌≤◌, ◌↔◌, ℤ, pos, ◌-ℤ◌, List, [], ◌∷◌, length, map, All}
+use Rattle.std.specs.Prelude.{◌≡◌, ℕ, suc, ◌*◌, ◌<◌, ◌↔◌, ℤ, pos, ◌-ℤ◌, List, [], ◌∷◌, length, map, All}
 use Rattle.ring_lemmas.specs.Ring.{pow}
 use Rattle.ff_fields.specs.Field.{CodeField}
 use Rattle.ff_fields.specs.Code.{code_ring}
