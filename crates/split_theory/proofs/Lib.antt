@@ -9,3 +9,4 @@ pub mod RowSpaces
 pub mod Turned
 pub mod Coordinates
 pub mod Products
+pub mod Found

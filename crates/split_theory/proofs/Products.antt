@@ -47,7 +47,7 @@ module _ {k : CodeField} (c : Equation k) where
   ys i = pow (ring_of c).ops (y_of c) i
 
   -- the sum of the v_j·y^(i + j)
-  powers_horner : (n : ℕ) (v : List (List ℕ)) (i : ℕ) → length v ≡ n
+  pub powers_horner : (n : ℕ) (v : List (List ℕ)) (i : ℕ) → length v ≡ n
       → combine (polynomial_ops c) (λ j. value k (entry_at v j)) (powers c i n) ≡ ys i ⊗ horner c n (read_row k n v)
   unfolding powers horner
   powers_horner zero v i size = sym (mul_zero (ring_of c) (ys i))
@@ -60,7 +60,7 @@ module _ {k : CodeField} (c : Equation k) where
       step a p y h =
           ring (ring_of c) (a ∷ p ∷ y ∷ h ∷ []) λ q i. simp (reads, q, i 0, i 1, i 2, i 3) (q.equal _ _ refl)
 
-  powers_entry : (n i j : ℕ) → j < n → entry 𝟘 (powers c i n) j ≡ ys (i + j)
+  pub powers_entry : (n i j : ℕ) → j < n → entry 𝟘 (powers c i n) j ≡ ys (i + j)
   unfolding powers
   powers_entry zero i j less = absurd (omega (arith, less))
   powers_entry (suc n) i zero less = ap ys (omega arith)
@@ -100,7 +100,8 @@ module _ (k : CodeField) (c : CurveValue) (curve : IsCurve k c) (fin inf : Latti
       let l' : i < c.fin.n = omega (arith, l, one) in
       entry_map (λ z. xs ⊗ z) 𝟘 𝟘 (powers E 0 (degree_of_y E)) i
       (omega (arith, l, powers_length E 0 (degree_of_y E)))
-      ∙ ap (λ z. xs ⊗ z) (powers_entry E (degree_of_y E) 0 i l ∙ ap (pow (functions k c.fin).ops (y_of E)) (omega arith))
+      ∙ ap (λ z. xs ⊗ z)
+      (powers_entry E (degree_of_y E) 0 i l ∙ ap (pow (functions k c.fin).ops (y_of E)) (omega arith))
       ∙ ap (λ w. w ⊗ pow (functions k c.fin).ops (y_of E) i) (power_value E (x_poly k) s)
       ∙ coordinates.each i l'
       ∙ sym (get_map (row_function k c inf) [] 𝟘 Q i (omega (arith, l', coordinates.count))))

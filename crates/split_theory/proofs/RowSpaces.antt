@@ -67,7 +67,8 @@ module _ (k : CodeField) (c : CurveValue) (curve : IsCurve k c) (inf : LatticeVa
   h_zero : row_at_h M.𝟎 ≡ 𝟘
   h_zero =
       combine_none (functions_module (equation_of k c.fin)) _ (infinite_rows k c inf)
-      (λ j l. ap (entry (pol_ring (code_ring k)).ops (suc (c.fin.n - 1)) j) (row_module_zero (code_ring k) (c.fin.n - 1))
+      (λ j l. ap (entry (pol_ring (code_ring k)).ops (suc (c.fin.n - 1)) j)
+      (row_module_zero (code_ring k) (c.fin.n - 1))
       ∙ entry_zero (code_ring k) (suc (c.fin.n - 1)) j)
 
   h_step : (a : Polynomial k) (v w : Row (Pol (code_ring k)) (suc (c.fin.n - 1)))
@@ -180,7 +181,8 @@ module _ (k : CodeField) (c : CurveValue) (curve : IsCurve k c) (inf : LatticeVa
   multiple_poly : (a : List ℕ) (v : List (List ℕ)) → All IsPoly (multiple_of_row k.ops a v)
   multiple_poly a [] = All-nil IsPoly
   multiple_poly a (b ∷ v) =
-      All-cons IsPoly (product_of k.ops a b) (multiple_of_row k.ops a v) (IsPoly_poly_of (mul_lists (raw_ring k.ops) a b)) (multiple_poly a v)
+      All-cons IsPoly (product_of k.ops a b) (multiple_of_row k.ops a v)
+      (IsPoly_poly_of (mul_lists (raw_ring k.ops) a b)) (multiple_poly a v)
 
   -- rows whose functions span a multiple of a lattice are of full rank
   pub spanned_full : (fin : LatticeValue) → theory.IsLattice (equation_of k c.fin) (Contains k c.fin fin)

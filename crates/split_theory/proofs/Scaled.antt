@@ -70,7 +70,8 @@ module _ {C V : Type 0} (k : TestedRing C) (field : IsField k.ops) (M : Module (
 
         bound : (f : Pol k) → ¬ (f ≡ 𝟘) → (m x : ℤ) → degree k (e ⊗ f) +ℤ (m -ℤ x)
             ≡ degree k f +ℤ (m -ℤ (x -ℤ degree k e))
-        bound f f_some m x = let a = degree_multiply k (field_domain k.ring field) e f some f_some in omega (arith, ints)
+        bound f f_some m x =
+            let a = degree_multiply k (field_domain k.ring field) e f some f_some in omega (arith, ints)
 
     -- the lattices that they span
     pub lattice_over : (b : List V) (z : V) → InLattice k M.ops (map (M.◌•◌ e) b) (e • z) ↔ InLattice k M.ops b z

@@ -142,7 +142,10 @@ module _ (k : CodeField) (c : CurveValue) (curve : IsCurve k c) (fin inf : Latti
     where
       same_degree : (i : ℕ) → i < degree_of_y (equation_of k c.fin)
           → (pos (length (entry_at (row_at m i) i)) -ℤ pos 1) -ℤ degree (code_ring k) (value k u) ≡ split_degree u m i
-      same_degree i less = let l : length (value k u).0 ≡ length u = sym (length-map (value k u).0 (λ x. x.0)) ∙ ap length (numbers_value k u u_in (monic_poly u u_monic)) in omega (arith, ints)
+      same_degree i less =
+          let l : length (value k u).0 ≡ length u
+          = sym (length-map (value k u).0 (λ x. x.0)) ∙ ap length (numbers_value k u u_in (monic_poly u u_monic)) in
+          omega (arith, ints)
 
   pub split_both : IsBasisOfBoth E (Contains k c.fin fin) (AtInfinity k c inf) bs (split_degrees u m)
   split_both =

@@ -6,7 +6,7 @@ use Rattle.ring_lemmas.specs.Ring.{pow}
 use Rattle.ff_fields.specs.Field.{CodeField}
 use Rattle.ff_fields.specs.Code.{code_ring}
 use Rattle.ff_fields.specs.Over.{IsOver}
-use Rattle.ff_poly.specs.Words.{IsMonicList, shifted}
+use Rattle.ff_poly.specs.Words.{IsPoly, IsMonicList, shifted}
 use Rattle.ff_poly.specs.Popov.{row_at, entry_at, IsRow, IsCombinationList}
 use Rattle.ff_poly.specs.Value.{value}
 use Rattle.ff_poly.specs.Polynomials.{polynomials, x_poly}
@@ -45,6 +45,14 @@ module _ (k : CodeField) (c : CurveValue) (inf : LatticeValue) where
         (pow (functions k c.inf).ops (y_of (equation_of k c.inf)) j)
         ≡ combine (polynomial_ops (equation_of k c.inf)) (λ i. value k (entry_at (row_at q j) i))
         (map (function_of k c.inf) (row_elems inf))
+
+  -- den·t^exponent in column j and zeros else, for the denominator of the lattice: what coordinates are found of
+  pub record IsPowerRow (exponent j : ℕ) (v : List (List ℕ)) : Type 0 where
+    pub row : IsRow k.ops c.inf.n v
+    pub trimmed : All IsPoly v
+    pub here : value k (entry_at v j)
+        ≡ (polynomials k).◌⊗◌ (value k inf.den) (pow (polynomials k).ops (x_poly k) exponent)
+    pub other : (i : ℕ) → ¬ (i ≡ j) → entry_at v i ≡ []
 
   -- row j of Q has the coordinates of x^exponent·y^j in the functions of the infinite rows, as polynomials in x
   pub record AreCoordinates (exponent : ℕ) (Q : List (List (List ℕ))) : Type 0 where

@@ -3,13 +3,13 @@
 //! theorem is the contract of a function with an empty body.
 #![tactic(auto)]
 
-ghost use Rattle.std.specs.Prelude.{◌≡◌, ℕ, ◌+◌, ◌*◌, ◌-◌, ◌/◌, ◌≤◌, ℤ, ◌+ℤ◌, List, length, All, IsPermutation};
+ghost use Rattle.std.specs.Prelude.{◌≡◌, ℕ, ◌+◌, ◌*◌, ◌-◌, ◌/◌, ◌<◌, ◌≤◌, ℤ, ◌+ℤ◌, List, length, All, IsPermutation};
 ghost use Rattle.std.proofs.Common.{pos};
 ghost use Rattle.ff_fields.specs.Field.{CodeField};
 ghost use Rattle.ff_fields.specs.Code.{code_ring};
 ghost use Rattle.ff_fields.specs.Over.{IsOver};
 ghost use Rattle.ff_poly.specs.Words.{IsMonicList};
-ghost use Rattle.ff_poly.specs.Popov.{row_at, entry_at, IsRow, HaveSameRowSpan, HasFullRankMatrix, IsPopovMatrix};
+ghost use Rattle.ff_poly.specs.Popov.{row_at, entry_at, IsRow, IsCombinationList, InRowSpan, HaveSameRowSpan, HasFullRankMatrix, IsPopovMatrix};
 ghost use Rattle.ff_poly.specs.Polynomials.{x_poly};
 ghost use Rattle.function_field.specs.Functions.{degree_of_y};
 ghost use Rattle.function_field.specs.Curves.{CurveValue, IsCurve};
@@ -20,7 +20,7 @@ ghost use Rattle.reduced_basis_theory.specs.Degree.{degree_sum};
 ghost use Rattle.infinite_theory.specs.Supported.{IsSupportedAt};
 ghost use Rattle.space_theory.specs.Spaces.{multiples_of, IsLatticeAtInfinity, IsReducedBasis, IsBasisOfBoth};
 ghost use Rattle.ff_lattice.specs.Lattices.{LatticeValue, IsLatticeValue, Contains, pivot_degree_of};
-ghost use Rattle.split_theory.specs.Splits.{infinite_rows, AtInfinity, AreCoordinatesInT, AreCoordinates, turned_from, AreProducts, IsDenominator, SpanMultiple, AreRowsOver, split_degree, split_degrees, functions_of, degrees_of, degree_at};
+ghost use Rattle.split_theory.specs.Splits.{infinite_rows, AtInfinity, AreCoordinatesInT, IsPowerRow, AreCoordinates, turned_from, AreProducts, IsDenominator, SpanMultiple, AreRowsOver, split_degree, split_degrees, functions_of, degrees_of, degree_at};
 
 /// The functions of the rows of a lattice over k[t] span a lattice at infinity, of which they are a reduced basis with
 /// the degrees 0.
@@ -51,6 +51,20 @@ pub fn coordinates_law()
         → (s : ℕ) × (Q : List (List (List ℕ))) × AreCoordinates k c inf s Q }
 {}
 
+/// How the coordinates in t are found: of a row with den·t^e in column j, for the denominator of the lattice, the
+/// coefficients in the rows are those of t^e·Y^j. From an exponent on each of these rows is in the lattice of the rows.
+pub fn found_law()
+    ensures coordinates { (k : CodeField) (c : CurveValue) (inf : LatticeValue) (e : ℕ) (q vs : List (List (List ℕ)))
+        → IsCurve k c → IsLatticeValue k.ops c.inf.n inf → length q ≡ c.inf.n
+        → ((j : ℕ) → j < c.inf.n → IsPowerRow k c inf e j (row_at vs j))
+        → ((j : ℕ) → j < c.inf.n → IsCombinationList k.ops c.inf.n inf.rows (row_at vs j) (row_at q j))
+        → AreCoordinatesInT k c inf e q }
+    ensures from_exponent { (k : CodeField) (c : CurveValue) (inf : LatticeValue)
+        (tame : IsSupportedAt (equation_of k c.inf) (x_poly k) (Contains k c.inf inf)) (e j : ℕ) (v : List (List ℕ))
+        → IsCurve k c → IsLatticeValue k.ops c.inf.n inf → tame.exponent ≤ e → j < c.inf.n → IsPowerRow k c inf e j v
+        → InRowSpan k.ops c.inf.n inf.rows v }
+{}
+
 /// The rows of a lattice over k[x] times these coordinates span u times the lattice, for its denominator times the
 /// power of x as u. So do rows with the same lattice. They are of full rank.
 pub fn spanned_law()
@@ -67,8 +81,8 @@ pub fn spanned_law()
         → IsMonicList u → SpanMultiple k c inf fin u W → HasFullRankMatrix k.ops c.fin.n W }
 {}
 
-/// A Popov basis whose rows, in the coordinates of the functions of the infinite rows, span u times a lattice over k[x]:
-/// its rows over u are a reduced basis of the two lattices, whose degrees are those of the pivots less that of u.
+/// A Popov basis whose rows, in the coordinates of the functions of the infinite rows, span u times a lattice over
+/// k[x]: its rows over u are a reduced basis of the two lattices, whose degrees are those of the pivots less that of u.
 pub fn split_law()
     ensures reduced { (k : CodeField) (c : CurveValue) (fin inf : LatticeValue) (u : List ℕ) (m : List (List (List ℕ)))
         (bs : List (Functions k c.fin)) → IsCurve k c → IsLatticeValue k.ops c.fin.n fin
