@@ -10,3 +10,4 @@ pub mod Turned
 pub mod Coordinates
 pub mod Products
 pub mod Found
+pub mod OneSplit

@@ -33,3 +33,11 @@ pub get_map : {X Y : Type 0} (f : X → Y) (d : X) (e : Y) (xs : List X) (i : �
 get_map f d e [] i less = absurd (omega (arith, less))
 get_map f d e (x ∷ xs) zero less = refl
 get_map f d e (x ∷ xs) (suc i) less = get_map f d e xs i (omega (arith, less))
+
+pub same_entries_list : {X : Type 0} (d : X) (xs ys : List X) → length xs ≡ length ys
+    → ((i : ℕ) → i < length xs → entry d xs i ≡ entry d ys i) → xs ≡ ys
+same_entries_list d [] [] l h = refl
+same_entries_list d [] (y ∷ ys) l h = absurd (omega (arith, l))
+same_entries_list d (x ∷ xs) [] l h = absurd (omega (arith, l))
+same_entries_list d (x ∷ xs) (y ∷ ys) l h =
+    ap₂ ◌∷◌ (h 0 (omega arith)) (same_entries_list d xs ys (omega (arith, l)) (λ i less. h (suc i) (omega (arith, less))))

@@ -89,7 +89,17 @@ module _ (k : CodeField) (c : CurveValue) (curve : IsCurve k c) (inf : LatticeVa
       (combine_scale (functions_module (equation_of k c.fin)) a
       (λ j. entry (pol_ring (code_ring k)).ops (suc (c.fin.n - 1)) j v) (infinite_rows k c inf))
 
-  h_combine : (p : ℕ → Polynomial k) (rows : List (List (List ℕ)))
+  pub h_scale : (a : Polynomial k) (v : Row (Pol (code_ring k)) (suc (c.fin.n - 1)))
+      → row_at_h (M.◌·◌ a v) ≡ of_poly (equation_of k c.fin) a ⊗ row_at_h v
+  h_scale a v =
+      combine_cong (functions_module (equation_of k c.fin)) _ _ (infinite_rows k c inf) (λ j l.
+      ap (entry (pol_ring (code_ring k)).ops (suc (c.fin.n - 1)) j)
+      (row_module_scale (code_ring k) (c.fin.n - 1) a v)
+      ∙ entry_scale (code_ring k) (suc (c.fin.n - 1)) j a v)
+      ∙ combine_scale (functions_module (equation_of k c.fin)) a
+      (λ j. entry (pol_ring (code_ring k)).ops (suc (c.fin.n - 1)) j v) (infinite_rows k c inf)
+
+  pub h_combine : (p : ℕ → Polynomial k) (rows : List (List (List ℕ)))
       → row_at_h (rows_span.combine M p (read_rows k c.fin.n rows))
       ≡ combine (polynomial_ops (equation_of k c.fin)) p (map (row_function k c inf) rows)
   h_combine p [] = h_zero

@@ -96,6 +96,21 @@ pub fn split_law()
         → IsBasisOfBoth (equation_of k c.fin) (Contains k c.fin fin) (AtInfinity k c inf) bs (split_degrees u m) }
 {}
 
+/// Two Popov bases whose rows span multiples of one lattice, by the monic polynomials u and v, make the same functions
+/// over u and over v, with the same degrees.
+pub fn one_split_law()
+    ensures functions { (k : CodeField) (c : CurveValue) (fin inf : LatticeValue) (u v : List ℕ)
+        (m l : List (List (List ℕ))) (bs cs : List (Functions k c.fin)) → IsCurve k c
+        → IsLatticeValue k.ops c.inf.n inf → IsOver k.ops u → IsMonicList u → IsOver k.ops v → IsMonicList v
+        → IsPopovMatrix c.fin.n m → IsPopovMatrix c.fin.n l → SpanMultiple k c inf fin u m
+        → SpanMultiple k c inf fin v l → AreRowsOver k c inf u m bs → AreRowsOver k c inf v l cs → bs ≡ cs }
+    ensures degrees { (k : CodeField) (c : CurveValue) (fin inf : LatticeValue) (u v : List ℕ)
+        (m l : List (List (List ℕ))) → IsCurve k c
+        → IsLatticeValue k.ops c.inf.n inf → IsOver k.ops u → IsMonicList u → IsOver k.ops v → IsMonicList v
+        → IsPopovMatrix c.fin.n m → IsPopovMatrix c.fin.n l → SpanMultiple k c inf fin u m
+        → SpanMultiple k c inf fin v l → (i : ℕ) → i < c.fin.n → split_degree u m i ≡ split_degree v l i }
+{}
+
 /// The sum of the degrees of a reduced basis of a lattice over k[x] and one over k[t] that differs from k[t][Y] at t
 /// alone: their pivot degrees and c·n·(n - 1)/2, for the degree n in y.
 pub fn split_degrees_law()
