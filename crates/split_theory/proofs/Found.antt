@@ -1,5 +1,5 @@
--- Coordinates of rows of codes in the rows of an infinite lattice: they are those of the powers of Y, and there are some
--- from an exponent on.
+-- Coordinates of rows of codes in the rows of an infinite lattice: they are those of the powers of Y, and there are
+-- some from an exponent on.
 use Rattle.std.proofs.Common.{◌≡◌, ◌↔◌, ℕ, zero, suc, ◌+◌, ◌-◌, ◌<◌, ◌≤◌, List, [], ◌∷◌, length, map, get_or, refl, sym, ◌∙◌, ap, ap₂, subst, arith, All}
 use Rattle.ring_lemmas.specs.Ring.{pow}
 use Rattle.ring_lemmas.specs.Rows.{Row}
@@ -45,7 +45,8 @@ use Rattle.split_theory.proofs.SplitBases.{cancel_polynomial}
 omit_none : {A : Type 0} (z : A) (j : ℕ) (c : ℕ → A) → ((i : ℕ) → ¬ (i ≡ j) → c i ≡ z) → (l : ℕ) → omit j c l ≡ z
 omit_none z zero c h l = h (suc l) (λ e. absurd (omega (arith, e)))
 omit_none z (suc j) c h zero = h 0 (λ e. absurd (omega (arith, e)))
-omit_none z (suc j) c h (suc l) = omit_none z j (λ i. c (suc i)) (λ i differ. h (suc i) (λ e. differ (omega (arith, e)))) l
+omit_none z (suc j) c h (suc l) =
+    omit_none z j (λ i. c (suc i)) (λ i differ. h (suc i) (λ e. differ (omega (arith, e)))) l
 
 -- combinations of rows over a polynomial
 module _ {k : CodeField} (c : Equation k) (d : Polynomial k) (some : ¬ (d ≡ (polynomials k).𝟘)) where

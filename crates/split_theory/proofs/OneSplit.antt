@@ -98,7 +98,8 @@ module _ (k : CodeField) (c : CurveValue) (curve : IsCurve k c) (fin inf : Latti
           ∙ mul_left_comm (functions k c.fin) (of_poly E (value k u')) (of_poly E (value k u)) z.0
           ∙ ap (λ x. of_poly E (value k u) ⊗ x) (y.is ∙ sym (h_combine k c curve inf form y.coefficient m'))
           ∙ sym (h_scale k c curve inf form (value k u) w'))))
-          (span_scaled M (code_domain k) (value k u) monic (R m') w' (record { coefficients = y.coefficient; is = refl }));
+          (span_scaled M (code_domain k) (value k u) monic (R m') w'
+          (record { coefficients = y.coefficient; is = refl }));
     }
 
   module _ (u u' : List ℕ) (u_in : IsOver k.ops u) (u_monic : IsMonicList u) (u_in' : IsOver k.ops u')

@@ -40,4 +40,5 @@ same_entries_list d [] [] l h = refl
 same_entries_list d [] (y ∷ ys) l h = absurd (omega (arith, l))
 same_entries_list d (x ∷ xs) [] l h = absurd (omega (arith, l))
 same_entries_list d (x ∷ xs) (y ∷ ys) l h =
-    ap₂ ◌∷◌ (h 0 (omega arith)) (same_entries_list d xs ys (omega (arith, l)) (λ i less. h (suc i) (omega (arith, less))))
+    ap₂ ◌∷◌ (h 0 (omega arith))
+    (same_entries_list d xs ys (omega (arith, l)) (λ i less. h (suc i) (omega (arith, less))))
