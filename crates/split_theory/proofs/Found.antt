@@ -1,21 +1,20 @@
 -- Coordinates of rows of codes in the rows of an infinite lattice: they are those of the powers of Y, and there are
 -- some from an exponent on.
-use Rattle.std.proofs.Common.{◌≡◌, ◌↔◌, ℕ, zero, suc, ◌+◌, ◌-◌, ◌<◌, ◌≤◌, List, [], ◌∷◌, length, map, get_or, refl, sym, ◌∙◌, ap, ap₂, subst, arith, All}
+use Rattle.std.proofs.Common.{◌≡◌, ℕ, zero, suc, ◌+◌, ◌-◌, ◌<◌, ◌≤◌, List, [], ◌∷◌, length, refl, sym, ◌∙◌, ap, ap₂, subst, arith}
 use Rattle.ring_lemmas.specs.Ring.{pow}
 use Rattle.ring_lemmas.specs.Rows.{Row}
-use Rattle.ring_lemmas.proofs.Ring.{one_mul, mul_zero, pow_add}
+use Rattle.ring_lemmas.proofs.Ring.{one_mul, pow_add}
 use Rattle.ff_fields.specs.Field.{CodeField}
 use Rattle.ff_fields.specs.Code.{code_ring}
 use Rattle.ff_poly.specs.Value.{value}
 use Rattle.ff_poly.specs.Popov.{row_at, entry_at, IsRow, IsCombinationList, InRowSpan}
 use Rattle.ff_poly.specs.Polynomials.{Polynomial, polynomials, x_poly, value_nil}
-use Rattle.function_field.specs.Functions.{Equation, FunctionOf, ring_of, of_poly, y_of, degree_of_y, over}
-use Rattle.function_field.specs.Values.{Functions, functions, setting, function_of, equation_of}
+use Rattle.function_field.specs.Functions.{Equation, ring_of, of_poly, y_of, degree_of_y, over}
+use Rattle.function_field.specs.Values.{Functions, functions, setting, equation_of}
 use Rattle.function_field.specs.Curves.{CurveValue, IsCurve}
 use Rattle.function_field.proofs.Horner.{horner, den_times_function}
-use Rattle.function_field.proofs.ScalarRings.{polynomials_subring}
 use Rattle.linear_theory.specs.Module.{combine}
-use Rattle.linear_theory.specs.Lists.{entry, omit, remove}
+use Rattle.linear_theory.specs.Lists.{omit, remove}
 use Rattle.linear_theory.proofs.Combination.{combine_none, combine_omit}
 use Rattle.lattice_theory.specs.Lattices.{polynomial_ops}
 use Rattle.lattice_theory.proofs.Lattices.{lattice_module}
@@ -27,10 +26,10 @@ use Rattle.popov_theory.specs.Module.{PolynomialModule}
 use Rattle.popov_theory.specs.RowModule.{row_module}
 use Rattle.popov_theory.specs.Span as rows_span
 use Rattle.popov_theory.proofs.PolynomialRows.{row_module_zero}
-use Rattle.ff_popov.specs.Reading.{read_row, row_space, read_rows}
+use Rattle.ff_popov.specs.Reading.{read_row, read_rows}
 use Rattle.ff_popov.proofs.Entries.{any_default}
 use Rattle.ff_popov.proofs.Spans.{combination_read, from_space}
-use Rattle.ff_lattice.specs.Lattices.{LatticeValue, IsLatticeValue, Contains, row_elems}
+use Rattle.ff_lattice.specs.Lattices.{LatticeValue, IsLatticeValue, Contains}
 use Rattle.ff_lattice.proofs.Divisors.{monic_value}
 use Rattle.ff_lattice.proofs.Elements.{elems_functions, in_span_of}
 use Rattle.ff_lattice.proofs.Fracs.{over_zero}

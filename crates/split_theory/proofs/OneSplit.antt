@@ -2,7 +2,7 @@
 use Rattle.std.proofs.Common.{◌≡◌, ℕ, suc, ◌+◌, ◌-◌, ◌*◌, ◌/◌, ◌<◌, List, length, get_or, refl, sym, ◌∙◌, ap, subst, arith, add-mul}
 use Rattle.std.proofs.lemmas.Int.{ints}
 use Rattle.std.proofs.Math.Nat.{mul-div_cancel}
-use Rattle.std.proofs.Math.IntN.{ℤ, pos, ◌-ℤ◌}
+use Rattle.std.proofs.Math.IntN.{pos, ◌-ℤ◌}
 use Rattle.ring_lemmas.specs.Rows.{Row}
 use Rattle.ring_lemmas.proofs.Ring.{mul_left_comm}
 use Rattle.ff_fields.specs.Field.{CodeField}
@@ -13,7 +13,7 @@ use Rattle.ff_poly.specs.Popov.{row_at, entry_at, IsPopovMatrix}
 use Rattle.ff_poly.specs.Value.{value}
 use Rattle.ff_poly.specs.Polynomials.{Polynomial, polynomials}
 use Rattle.ff_poly.proofs.Parts.{top_of_monic}
-use Rattle.popov_theory.specs.Module.{PolynomialModule, IsMonic, measure, row_degree}
+use Rattle.popov_theory.specs.Module.{PolynomialModule, IsMonic, measure}
 use Rattle.popov_theory.specs.Span.{IsWithin}
 use Rattle.popov_theory.specs.Span as rows_span
 use Rattle.popov_theory.proofs.Measure.{measure_scale}
@@ -24,12 +24,11 @@ use Rattle.function_field.specs.Values.{Functions, functions, equation_of}
 use Rattle.function_field.specs.Curves.{CurveValue, IsCurve}
 use Rattle.function_field.proofs.OnSide.{den_inverse}
 use Rattle.linear_theory.specs.Lists.{entry}
-use Rattle.lattice_theory.specs.Lattices.{polynomial_ops}
 use Rattle.space_theory.proofs.FunctionModule.{cancel}
-use Rattle.ff_popov.specs.Reading.{row_space, read_rows, read_row}
+use Rattle.ff_popov.specs.Reading.{row_space, read_rows}
 use Rattle.ff_popov.proofs.PopovBasis.{basis_popov, basis_measured}
 use Rattle.ff_popov.proofs.ReadRows.{read_row_at}
-use Rattle.ff_lattice.specs.Lattices.{LatticeValue, IsLatticeValue, Contains}
+use Rattle.ff_lattice.specs.Lattices.{LatticeValue, IsLatticeValue}
 use Rattle.ff_lattice.proofs.Divisors.{monic_value}
 use Rattle.ff_lattice.proofs.Normal.{monic_poly}
 use Rattle.ff_lattice.proofs.Scaled.{value_length, coeff_code}
