@@ -1,0 +1,13 @@
+pub mod InfiniteRows
+pub mod Scaled
+pub mod PopovRows
+pub mod RowFunctions
+pub mod SplitBases
+pub mod SplitDegrees
+pub mod Permuted
+pub mod RowSpaces
+pub mod Turned
+pub mod Coordinates
+pub mod Products
+pub mod Found
+pub mod OneSplit
