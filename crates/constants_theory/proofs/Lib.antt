@@ -1,0 +1,2 @@
+pub mod ConstantSpace
+pub mod FieldDegrees
