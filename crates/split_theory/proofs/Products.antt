@@ -32,7 +32,7 @@ use Rattle.ff_lattice.proofs.Divisors.{monic_value}
 use Rattle.ff_lattice.proofs.Elements.{elem_over}
 use Rattle.ff_lattice.proofs.Normal.{monic_poly}
 use Rattle.value_theory.proofs.InfiniteLattices.{some}
-use Rattle.split_theory.specs.Splits.{AtInfinity, row_function, AreCoordinates, AreProducts, IsDenominator, SpanMultiple}
+use Rattle.split_theory.specs.Splits.{AtInfinity, row_function, AreCoordinates, AreRowProducts, IsDenominator, SpanMultiple}
 use Rattle.split_theory.proofs.RowFunctions.{same_list, entry_map, get_map}
 use Rattle.split_theory.proofs.RowSpaces.{function_combination}
 use Rattle.split_theory.proofs.Scaled.{lattice_over}
@@ -70,7 +70,7 @@ module _ {k : CodeField} (c : Equation k) where
 module _ (k : CodeField) (c : CurveValue) (curve : IsCurve k c) (fin inf : LatticeValue)
     (fin_form : IsLatticeValue k.ops c.fin.n fin) (inf_form : IsLatticeValue k.ops c.inf.n inf)
     (s : ℕ) (Q : List (List (List ℕ))) (coordinates : AreCoordinates k c inf s Q) (W : List (List (List ℕ)))
-    (products : AreProducts k c.fin.n fin.rows Q W) (u : List ℕ) (denominator : IsDenominator k fin.den s u) where
+    (products : AreRowProducts k c.fin.n fin.rows Q W) (u : List ℕ) (denominator : IsDenominator k fin.den s u) where
   infixl 65 ◌⊕◌
   infixl 70 ◌⊗◌
   open functions k c.fin use {𝟘, 𝟙, ◌⊕◌, ◌⊗◌}

@@ -91,7 +91,7 @@ turned_from c m j [] = []
 turned_from c m j (row ∷ rows) = turned_row m (c * j) row ∷ turned_from c m (suc j) rows
 
 -- each row of W is the product of a row of a matrix with Q
-pub record AreProducts (k : CodeField) (n : ℕ) (rows Q W : List (List (List ℕ))) : Type 0 where
+pub record AreRowProducts (k : CodeField) (n : ℕ) (rows Q W : List (List (List ℕ))) : Type 0 where
   pub count : length W ≡ length rows
   pub each : (i : ℕ) → i < length rows → IsCombinationList k.ops n Q (row_at W i) (row_at rows i)
 

@@ -20,7 +20,7 @@ ghost use Rattle.reduced_basis_theory.specs.Degree.{degree_sum};
 ghost use Rattle.infinite_theory.specs.Supported.{IsSupportedAt};
 ghost use Rattle.space_theory.specs.Spaces.{multiples_of, IsLatticeAtInfinity, IsReducedBasis, IsBasisOfBoth};
 ghost use Rattle.ff_lattice.specs.Lattices.{LatticeValue, IsLatticeValue, Contains, pivot_degree_of};
-ghost use Rattle.split_theory.specs.Splits.{infinite_rows, AtInfinity, AreCoordinatesInT, IsPowerRow, AreCoordinates, turned_from, AreProducts, IsDenominator, SpanMultiple, AreRowsOver, split_degree, split_degrees, functions_of, degrees_of, degree_at};
+ghost use Rattle.split_theory.specs.Splits.{infinite_rows, AtInfinity, AreCoordinatesInT, IsPowerRow, AreCoordinates, turned_from, AreRowProducts, IsDenominator, SpanMultiple, AreRowsOver, split_degree, split_degrees, functions_of, degrees_of, degree_at};
 
 /// The functions of the rows of a lattice over k[t] span a lattice at infinity, of which they are a reduced basis with
 /// the degrees 0.
@@ -70,7 +70,7 @@ pub fn found_law()
 pub fn spanned_law()
     ensures products { (k : CodeField) (c : CurveValue) (fin inf : LatticeValue) (s : ℕ) (Q W : List (List (List ℕ)))
         (u : List ℕ) → IsCurve k c → IsLatticeValue k.ops c.fin.n fin → IsLatticeValue k.ops c.inf.n inf
-        → AreCoordinates k c inf s Q → AreProducts k c.fin.n fin.rows Q W → IsDenominator k fin.den s u
+        → AreCoordinates k c inf s Q → AreRowProducts k c.fin.n fin.rows Q W → IsDenominator k fin.den s u
         → SpanMultiple k c inf fin u W }
     ensures same { (k : CodeField) (c : CurveValue) (fin inf : LatticeValue) (u : List ℕ)
         (W m : List (List (List ℕ))) → IsCurve k c → IsLatticeValue k.ops c.inf.n inf
