@@ -29,7 +29,7 @@ use Rattle.function_field.specs.Limits.{max_degree, max_degree_of_places}
 use Rattle.ff_meaning.specs.Bindings.{Bindings, Bound, NamedPlace, with_field, with_places, IsSomeWith}
 use Rattle.ff_meaning.specs.SameBindings.{AreSameFields, AreSameBindings, NothingBound, OneField, OneCurve}
 use Rattle.ff_meaning.specs.Meaning.{AreCodesBelow, codes_of_den, codes_of_element, IsSumOf, ArePolysOf, IsDenOf, IsElementOf, degree_of_element}
-use Rattle.ff_meaning.specs.Refusals.{IsCodeRow, IsFieldLineFault, refusal_of_field, IsFieldRow, refusal_of_curve, IsNoCurve, IsElementRow, IsProductRow, IsFactorRow, IsBaseRow, IsPlaceRow, IsRefusalRow}
+use Rattle.ff_meaning.specs.Refusals.{IsFieldLineFault, refusal_of_field, IsFieldRow, refusal_of_curve, IsNoCurve, IsElementRow, IsProductRow, IsFactorRow, IsBaseRow, IsPlaceRow, IsRefusalRow}
 use Rattle.ff_meaning.specs.Refusals as rows
 use Rattle.ff_meaning.proofs.TermCodes.{same_terms}
 use Rattle.ff_meaning.proofs.ElementValues.{same_poly, same_polys, same_den, no_element_row}

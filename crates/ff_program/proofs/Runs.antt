@@ -13,7 +13,7 @@ use Rattle.ff_cert.specs.declared.answer.Answer.TheVariants as answers
 use Rattle.ff_cert.specs.Answers.{Answers}
 use Rattle.ff_cert.specs.Blocks.{SessionValue, Takes, block_text}
 use Rattle.ff_session.specs.Sessions.{IsStep}
-use Rattle.ff_program.specs.Output.{Block, blocks_text, AreTrue, IsAnswered}
+use Rattle.ff_program.specs.Output.{Block, blocks_text, AreTrue, IsAnsweredSoFar}
 use Rattle.ff_program.specs.Ready.{IsAfter, AtStart, AfterField, AfterCurve}
 
 true_push : (s : SessionValue) (bs : List Block) (mid : SessionValue) (b : Block) (next : SessionValue)
@@ -27,8 +27,8 @@ true_push s (d ∷ ds) mid b next h a = (h.0, h.1, true_push h.0 ds mid b next h
 -- the blocks with the next one are true, and one statement fewer is left
 pub answered_more : (ss : List Statement) (blocks : List Block) (old new : SessionValue) (s : Statement)
     (rest : List Statement) (text : List ℕ)
-    → IsAnswered ss blocks old (s ∷ rest) → (b : IsStep old s text new)
-    → IsAnswered ss (blocks ++ record { statement = s; answer = b.answer } ∷ []) new rest
+    → IsAnsweredSoFar ss blocks old (s ∷ rest) → (b : IsStep old s text new)
+    → IsAnsweredSoFar ss (blocks ++ record { statement = s; answer = b.answer } ∷ []) new rest
 answered_more ss blocks old new s rest text h b = record {
   blocks_true = true_push _ blocks old (record { statement = s; answer = b.answer }) new h.blocks_true b.takes;
   statements =
@@ -237,7 +237,8 @@ module _ (k : ℕ) (d : FieldData) (c : CurveValue) (Ps : List NamedPlace) where
   after_curve (Place name over index) (answers.Factor unit parts) new h a = elim a [ ]
   after_curve (Place name over index) (answers.OrderOf zs) new h a = elim a [ ]
   after_curve (Place name over index) (answers.Places count Ls) new h a = elim a [ ]
-  after_curve (Place name over index) (answers.Place L) new h a = AfterCurve (omega (arith, h)) d c (Ps ++ record { name = name; place = a.1.place } ∷ []) a.1.bound
+  after_curve (Place name over index) (answers.Place L) new h a = AfterCurve (omega (arith, h)) d c
+      (Ps ++ record { name = name; place = a.1.place } ∷ []) a.1.bound
 
 pub after_answer : (k : ℕ) (old : Bindings) (s : Statement) (a : Answer) (new : Bindings) → IsAfter k old
     → Answers old s a new → IsAfter (k + 1) new
