@@ -5,7 +5,8 @@ use Rattle.ff_written.specs.Rows.{AreWrittenRows}
 use Rattle.ff_session.proofs.OrderAnswers.{rows_answer}
 use Rattle.ff_session.proofs.statements.order.integral_rows.Goals as goal
 
-pub written_rows-requires-clause-form : goal.written_rows-requires-clause-form
+pub written_rows-requires : goal.written_rows-requires
+XX pub written_rows-requires-clause-form : goal.written_rows-requires-clause-form
 written_rows-requires-clause-form g c =
     let k = g.K.SmallField.field c.args.k.now in
     rw c.lattice.ensures c.in_ok-o.ensures.form
