@@ -17,7 +17,8 @@ use Rattle.function_field.specs.Values.{PresValue, Functions, functions}
 use Rattle.ring_lemmas.specs.Ring.{IsField}
 use Rattle.constants_theory.specs.Idempotents.{IsProperIdempotent}
 use Rattle.value_theory.specs.Primes.{PrimeValue}
-use Rattle.ff_algebra.specs.CurveTerms.{IsCurveFault}
+use Rattle.ff_algebra.specs.CurveTerms.{IsCurveOf, IsCurveFault}
+use Rattle.ff_algebra.proofs.OneInfinite.{one_curve}
 use Rattle.ff_algebra.proofs.CurveFaults.{no_fault}
 use Rattle.ff_text.specs.Values.{written_codes}
 use Rattle.ff_text.specs.Printed.{WrittenValue}
@@ -30,7 +31,7 @@ use Rattle.ff_script.specs.declared.script.Statement.TheVariants.{FieldOf, Curve
 use Rattle.ff_meaning.specs.declared.refusal.Refusal.{Refusal}
 use Rattle.ff_meaning.specs.FieldLines.{Names}
 use Rattle.function_field.specs.Limits.{max_degree, max_degree_of_places}
-use Rattle.ff_meaning.specs.Refusals.{UnlessMemory, IsFieldLineFault, IsFieldRow, IsNoCurve, range, fault, IsProductRow, IsFactorRow, IsBaseRow, IsPlaceRow, IsRefusalRow}
+use Rattle.ff_meaning.specs.Refusals.{UnlessMemory, IsFieldLineFault, IsFieldRow, IsNoCurve, range, fault, reducible, IsProductRow, IsFactorRow, IsBaseRow, IsPlaceRow, IsRefusalRow}
 use Rattle.ff_meaning.specs.Bindings.{Bindings, Bound, NamedPlace, nothing, with_field, with_places}
 use Rattle.ff_meaning.proofs.TermCodes.{same_terms}
 use Rattle.ff_meaning.proofs.ElementValues.{none_found}
@@ -54,6 +55,7 @@ use Rattle.ff_session.specs.declared.bindings.Change.{Change}
 use Rattle.ff_session.specs.FunctionFields.{IsFunctionField}
 use Rattle.ff_session.specs.declared.bindings.Change.TheVariants as changes
 use Rattle.ff_session.specs.Bound.{bindings_after}
+use Rattle.ff_session.proofs.ReducibleCurves.{whole}
 use Rattle.ff_session.specs.Sessions.{IsStep}
 use Rattle.ff_session.specs.Steps.{HasAnswer, IsAnswered, IsBlock, IsFieldAnswer, IsCurveAnswer, IsProductRead, AreFactorsRead, ArePlacesRead, IsPlaceRead}
 
@@ -97,6 +99,12 @@ no_curve_row k f c r h field (fault sum is e some holds told) =
     let same : sum ≡ h.sum = same_terms k sum h.sum is.terms h.is_sum.terms is.codes_in h.is_sum.codes_in
     (λ i j. is.codes i j ∙ sym (h.is_sum.codes i j)) in
     no_fault k h.sum e c some (subst (λ s. IsCurveFault k s e) same holds) h.is_curve
+
+no_curve_row k f c r h field (reducible sum is d d_is z first told) =
+    let same : sum ≡ h.sum = same_terms k sum h.sum is.terms h.is_sum.terms is.codes_in h.is_sum.codes_in
+    (λ i j. is.codes i j ∙ sym (h.is_sum.codes i j)) in
+    let curves : d ≡ c = one_curve k h.sum d c (subst (λ s. IsCurveOf k s d) same d_is) h.is_curve in
+    whole k d.fin (subst (λ (x : CurveValue). IsField (functions k x.fin).ops) (sym curves) field) first.e first.proper
 
 -- ---- fields and curves
 

@@ -46,12 +46,12 @@ fn refuse_reducible<K: SmallField>(
     ensures refused { IfErr result (UnlessMemory (IsReducibleRow (K.field k.now) frame.now.curve.fin)) }
 {
     let mut list = idempotents_of(alloc, k, frame, constants)?;
-    if list.rows.is_empty() {
+    if list.is_empty() {
         return Ok(());
     }
-    let degree = degree_of_rows(list.rows.as_slice());
+    let degree = degree_of_rows(list.as_slice());
     prove!(degree <= usize::MAX);
-    Err(Refusal::Reducible(list.rows.swap_remove(0)))
+    Err(Refusal::Reducible(list.swap_remove(0)))
 }
 
 /// The curve with what is computed of it once, or why its functions are no field.
