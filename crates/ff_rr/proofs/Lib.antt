@@ -1,0 +1,5 @@
+pub mod FrameSets
+pub mod PivotDegrees
+pub mod BothReduced
+pub mod SpaceBases
+pub mod GenusSums
