@@ -3,3 +3,5 @@ pub mod PivotDegrees
 pub mod BothReduced
 pub mod SpaceBases
 pub mod GenusSums
+pub mod ConstantSpaces
+pub mod PrintedSpaces
