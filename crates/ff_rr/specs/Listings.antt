@@ -1,10 +1,12 @@
--- The idempotents of a function field as they are listed.
-use Rattle.std.specs.Prelude.{ℕ, List, map, AllPairs}
+-- The idempotents of a function field as they are listed, and the words of the private contracts.
+use Rattle.std.specs.Prelude.{◌≡◌, ℕ, List, length, map, All, AllPairs}
 use Rattle.std.specs.List.{AllZip}
 use Rattle.std.specs.List.Sorted.{IsPermutation}
 use Rattle.ff_fields.specs.Field.{CodeField}
-use Rattle.function_field.specs.Values.{PresValue, Functions}
+use Rattle.function_field.specs.Values.{ElemValue, PresValue, Functions, function_of, equation_of}
 use Rattle.constants_theory.specs.Idempotents.{IsProperIdempotent}
+use Rattle.idempotents_theory.specs.Coordinates as coordinates
+use Rattle.ff_falg.specs.Algebras.{IsVector}
 use Rattle.ff_text.specs.Printed.{WrittenValue, elem_text}
 use Rattle.ff_written.specs.LowestTerms.{IsWritten}
 use Rattle.ff_written.specs.TextOrder.{IsBeforeText}
@@ -30,3 +32,12 @@ module _ (k : CodeField) (p : PresValue) where
     pub written : AllZip (IsWritten k p) fs in_turn
     pub same : IsPermutation in_turn zs
     pub ascending : AreByText zs
+
+  -- the sum of the functions of the elements times the codes
+  abbrev pub function_at : List ElemValue → List ℕ → Functions k p
+  function_at zs v = coordinates.function_at (equation_of k p) (map (function_of k p) zs) v
+
+  -- the vectors have the coordinates of the functions gs in those of the elements
+  pub record AreVectorsOf (zs : List ElemValue) (gs : List (Functions k p)) (vs : List (List ℕ)) : Type 0 where
+    pub in_range : All (IsVector k.ops (length zs)) vs
+    pub are : map (function_at zs) vs ≡ gs

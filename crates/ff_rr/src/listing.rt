@@ -1,15 +1,17 @@
 //! The idempotents of a function field as they are listed.
 
-ghost use Rattle.std.specs.Prelude.{◌≡◌, ◌↔◌, ◌∷◌, [], All, IfOk, OnOk};
+ghost use Rattle.std.specs.Prelude.{◌≡◌, ◌↔◌, ◌∷◌, [], length, map, All, IfOk, OnOk};
 ghost use Rattle.std.specs.List.{Any};
 ghost use Rattle.std.specs.List.Sorted.{IsPermutation};
 ghost use Rattle.ring_lemmas.specs.Ring.{IsField};
-ghost use Rattle.function_field.specs.Values.{Functions, functions};
+ghost use Rattle.function_field.specs.Values.{IsPresOver, IsElem, Functions, functions};
+ghost use Rattle.ff_falg.specs.Algebras.{IsVector};
+ghost use Rattle.ff_falg.specs.Idempotents.{elements_of};
 ghost use Rattle.constants_theory.specs.Idempotents.{IsProperIdempotent};
 ghost use Rattle.ff_written.specs.LowestTerms.{IsWritten};
 ghost use Rattle.ff_rr.specs.Frames.{IsFrame};
 ghost use Rattle.ff_rr.specs.Constants.{IsConstantSpace};
-ghost use Rattle.ff_rr.specs.Listings.{AreByText, IsWrittenIdempotent};
+ghost use Rattle.ff_rr.specs.Listings.{AreByText, IsWrittenIdempotent, AreListed, function_at};
 
 use crate::frame::Frame;
 use crate::spaces::{SpaceBasis, constants};
@@ -49,6 +51,12 @@ fn listed<K: SmallField>(
     functions: &[Elem],
     vectors: &[Vec<u32>],
 ) -> Result<Vec<Written>, AllocError>
+    requires p_in { IsPresOver (K.field k.now).ops p.now }
+    requires elements { All (IsElem (K.field k.now).ops p.now.n) functions.now }
+    requires vectors { All (IsVector (K.field k.now).ops (length functions.now)) (elements_of vectors.now) }
+    ensures { let k = K.field k.now in
+        IfOk result (λ zs. AreListed k p.now (map (function_at k p.now functions.now) (elements_of vectors.now))
+        zs.items) }
 {
     let mut list = Vec::new(alloc);
     for codes in vectors {

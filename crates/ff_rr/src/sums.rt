@@ -1,11 +1,11 @@
 //! Functions by their coordinates in a list of functions.
 
-ghost use Rattle.std.specs.Prelude.{◌≡◌, ◌<◌, [], ◌∷◌, length, map, All, IfOk};
+ghost use Rattle.std.specs.Prelude.{◌≡◌, ◌<◌, [], ◌∷◌, length, All, IfOk};
 ghost use Rattle.ff_fields.specs.Over.{IsOver};
 ghost use Rattle.ff_poly.specs.Words.{poly_of};
 ghost use Rattle.function_field.specs.Values.{IsPresOver, IsElem, functions, function_of};
 ghost use Rattle.function_field.specs.Infinity.{constant};
-ghost use Rattle.function_field.specs.Spans.{combination};
+ghost use Rattle.ff_rr.specs.Listings.{function_at};
 
 use ff_algebra::elem::{Elem, Pres, add, mul};
 use ff_fields::field::SmallField;
@@ -55,9 +55,7 @@ pub(crate) fn combination<K: SmallField>(
     requires codes_in { IsOver (K.field k.now).ops codes.now }
     requires functions_in { All (IsElem (K.field k.now).ops p.now.n) functions.now }
     ensures is { let k = K.field k.now in
-        IfOk result (λ z. function_of k p.now z
-        ≡ combination (functions k p.now).ops (map (constant k p.now) codes.now)
-        (map (function_of k p.now) functions.now)) }
+        IfOk result (λ z. function_of k p.now z ≡ function_at k p.now functions.now codes.now) }
     ensures in_range { IfOk result (IsElem (K.field k.now).ops p.now.n) }
 {
     let mut sum = polynomial_elem(alloc, k, p.n(), Poly::zero(alloc))?;
