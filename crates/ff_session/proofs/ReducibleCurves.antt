@@ -107,4 +107,4 @@ whole k p field e h =
     let inverse = field.inverse e h.not_zero in
     h.not_one
     (sym (R.mul_one e) ∙ ap (R.◌⊗◌ e) (sym inverse.1) ∙ sym (R.mul_assoc e e inverse.0)
-    ∙ ap (λ x. R.◌⊗◌ x inverse.0) h.idempotent ∙ inverse.1)
+    ∙ ap (λ x. R.◌⊗◌ x inverse.0) h.square ∙ inverse.1)
