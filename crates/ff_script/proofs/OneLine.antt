@@ -11,7 +11,7 @@ use Rattle.ff_script.specs.declared.script.Modulus.{Modulus}
 use Rattle.ff_script.specs.declared.script.Over.{Over}
 use Rattle.ff_script.specs.declared.script.Over.TheVariants.{At, Inf}
 use Rattle.ff_script.specs.declared.script.Statement.{Statement}
-use Rattle.ff_script.specs.declared.script.Statement.TheVariants.{FieldOf, CurveOf, Mul, Factor, OrderOf, Places, Place, Constants, Genus}
+use Rattle.ff_script.specs.declared.script.Statement.TheVariants.{FieldOf, CurveOf, Mul, Factor, OrderOf, Places, Place}
 use Rattle.ff_script.specs.Grammar.{is_word_byte, numbers_of, SpellsSide, SpellsOver, IsSkipped, SpellsLine}
 use Rattle.ff_script.specs.Reading.{behind_blanks, IsFront, AreNumbersAt, IsElementFront, IsPlaceAt, IsBehind}
 use Rattle.ff_script.proofs.Spans.{head_same, stopped_same}
@@ -19,7 +19,7 @@ use Rattle.ff_script.proofs.Spelled.{IsSolid, terms_solid, side_solid, over_soli
 use Rattle.ff_script.proofs.Fronts.{line_at}
 use Rattle.ff_script.proofs.Steps.{number_same, numbers_same, comment_at, blank_at}
 use Rattle.ff_script.proofs.Elements.{begins_element, fronts_one}
-use Rattle.ff_script.proofs.ByKind.{Kind, FieldKind, CurveKind, MulKind, FactorKind, OrderKind, PlacesKind, PlaceKind, word_of, Held, statement, IsHeldAt, kind_of, word_of_behind, IsWord, word_of_statement, of_kind}
+use Rattle.ff_script.proofs.ByKind.{Kind, FieldKind, CurveKind, MulKind, FactorKind, OrderKind, PlacesKind, PlaceKind, ConstantsKind, GenusKind, word_of, Held, statement, IsHeldAt, kind_of, word_of_behind, IsWord, word_of_statement, of_kind}
 use Rattle.ff_script.proofs.Behind.{statement_behind}
 use Rattle.ff_script.proofs.WordRuns.{not_inf}
 use Rattle.ff_script.proofs.OverFronts.{over_of_place, over_fronts_one}
