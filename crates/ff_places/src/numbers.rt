@@ -5,7 +5,6 @@ ghost use Rattle.std.specs.List.{AllZip};
 ghost use Rattle.function_field.specs.Curves.{IsCurve};
 ghost use Rattle.ff_falg.specs.Idempotents.{elements_of};
 ghost use Rattle.ff_lattice.specs.Lattices.{IsLatticeValue};
-ghost use Rattle.ff_text.specs.Printed.{WrittenValue};
 ghost use Rattle.ff_written.specs.TextOrder.{HasRowTexts, IsBeforeTexts, texts_of};
 ghost use Rattle.value_theory.specs.IntegralLattices.{presentation};
 ghost use Rattle.value_theory.specs.Primes.{PrimeValue};

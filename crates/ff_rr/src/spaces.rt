@@ -48,6 +48,15 @@ impl SpaceBasis {
     {
         self.space.functions()
     }
+
+    /// An equal basis, in memory of its own.
+    pub fn copy(&self, alloc: Global) -> Result<SpaceBasis, AllocError>
+        ensures { IfOk result (λ s. s ≡ self.now) }
+    {
+        let split = self.split.copy(alloc)?;
+        let space = self.space.copy(alloc)?;
+        Ok(SpaceBasis { split, space })
+    }
 }
 
 /// The constants of the function field, the roots of monic polynomials over k, which are the functions that are integral

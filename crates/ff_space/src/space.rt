@@ -15,6 +15,7 @@ use ff_algebra::{Elem, Pres};
 use ff_fields::field::SmallField;
 use ff_linalg::Matrix;
 use ff_poly::Poly;
+use ff_written::copy_elements;
 use std::alloc::{AllocError, Global};
 use std::marker::Model;
 
@@ -49,6 +50,21 @@ impl PrintedBasis {
         ensures { result ≡ length self.now.functions }
     {
         self.functions.len()
+    }
+
+    /// An equal basis, in memory of its own.
+    pub fn copy(&self, alloc: Global) -> Result<PrintedBasis, AllocError>
+        ensures { IfOk result (λ s. s ≡ self.now) }
+    {
+        let den = self.den.copy(alloc)?;
+        let rows = self.rows.copy(alloc)?;
+        let functions = copy_elements(alloc, self.functions.as_slice())?;
+        Ok(PrintedBasis {
+            den,
+            width: self.width,
+            rows,
+            functions,
+        })
     }
 }
 

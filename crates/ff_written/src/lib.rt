@@ -13,4 +13,4 @@ pub mod written;
 
 pub use rows::{RowList, written_rows};
 pub use texts::is_before_text;
-pub use written::{in_lowest_terms, in_lowest_terms_by};
+pub use written::{as_written, copy_elements, in_lowest_terms, in_lowest_terms_by};
