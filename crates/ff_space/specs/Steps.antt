@@ -7,7 +7,7 @@ use Rattle.ff_linalg.specs.Matrix.{MatrixValue, IsMatrixOver, HasShape, rows_in}
 use Rattle.ff_linalg.specs.Space.{IsInRowSpace, IsReducedForm}
 use Rattle.ff_factor.specs.LowestTerms.{AreSameFractions}
 use Rattle.function_field.specs.Values.{ElemValue, PresValue, function_of}
-use Rattle.ff_space.specs.Vectors.{vector_of}
+use Rattle.ff_space.specs.Vectors.{vector_of, over_den, HasVector}
 
 -- the members of the lists, one list after another
 abbrev pub joined : {A : Type 0} → List (List A) → List A
@@ -73,3 +73,14 @@ pub record IsEchelonBasisOf (k : CodeField) (m r : MatrixValue) : Type 0 where
 -- the rows with the vectors of the polynomials, n for each of so many rows
 abbrev pub vector_rows : List (List ℕ) → ℕ → ℕ → ℕ → MatrixValue
 vector_rows ws count n width = record { cols = n * width; rows = rows_in (n * width) count (vector_of width ws) }
+
+-- v is the vector of the function of z over the denominator
+pub record IsVectorOver (k : CodeField) (z : ElemValue) (den : List ℕ) (width : ℕ) (v : List ℕ) : Type 0 where
+  pub count : length v ≡ length z.num * width
+  pub over : IsOver k.ops v
+  pub is : (p : PresValue) → 1 ≤ p.n → p.n ≡ length z.num → function_of k p z ≡ over_den k p den width v
+
+-- the function of z has no vector over the denominator
+abbrev pub HasNoVectorOver : CodeField → ElemValue → List ℕ → ℕ → Type 0
+HasNoVectorOver k z den width =
+    (p : PresValue) → 1 ≤ p.n → p.n ≡ length z.num → ¬ HasVector k p den width (function_of k p z)
