@@ -6,3 +6,5 @@ pub mod Fractions
 pub mod PrintedSpaces
 pub mod PrintedBases
 pub mod LayerFunctions
+pub mod Quotients
+pub mod RowLists

@@ -77,7 +77,7 @@ fn quotient_over<K: SmallField>(
     requires d_in { IsOver (K.field k.now).ops d.now }
     requires d_some { d.now ≢ [] }
     ensures { let ops = (K.field k.now).ops in
-        IfOk result (λ r. MatchOption r ((w : List ℕ) → IsOver ops w
+        IfOk result (λ r. MatchOption r ((w : List ℕ) → IsOver ops w → IsPoly w
         → ¬ (product_of ops e.now v.now ≡ product_of ops d.now w))
         (IsQuotient ops e.now v.now d.now)) }
 {
@@ -99,7 +99,7 @@ pub(crate) fn numerators_over<K: SmallField>(
     requires z_in { IsElem (K.field k.now).ops (length z.now.num) z.now }
     requires e_in { IsOver (K.field k.now).ops e.now }
     ensures quotients { let ops = (K.field k.now).ops in
-        IfOk result (λ r. MatchOption r ((us : List (List ℕ)) → All (IsOver ops) us
+        IfOk result (λ r. MatchOption r ((us : List (List ℕ)) → All (IsOver ops) us → All IsPoly us
         → ¬ AreSameFractions ops z.now.num z.now.den us e.now)
         (λ ws. AreQuotientsOver ops e.now z.now.num z.now.den ws.items)) }
     ensures monic { IfOk result (λ _. IsMonicElem z.now) }
