@@ -35,6 +35,18 @@ parts_poly width (suc n) v =
     All-cons IsPoly (poly_of (take width v)) (parts_of width n (drop width v)) (IsPoly_poly_of (take width v))
     (parts_poly width n (drop width v))
 
+take_short : (width : ℕ) (v : List ℕ) → length (take width v) ≤ width
+take_short zero v = omega arith
+take_short (suc width) [] = omega arith
+take_short (suc width) (x ∷ v) = let l = take_short width v in omega (arith, l)
+
+pub parts_short : (width n : ℕ) (v : List ℕ) → AreShort width (parts_of width n v)
+parts_short width zero v = All-nil (λ w. length w ≤ width)
+parts_short width (suc n) v =
+    All-cons (λ w. length w ≤ width) (poly_of (take width v)) (parts_of width n (drop width v))
+    (omega (arith, length_poly_of (take width v), take_short width v))
+    (parts_short width n (drop width v))
+
 module _ (k : CodeField) where
   abbrev P : CommRing (Polynomial k)
   P = (polynomials k).ring
@@ -132,18 +144,6 @@ module _ (k : CodeField) where
               r.same
               ∙ sym (map-append (product_of k.ops d) vs r.others);
         }
-
-    parts_short : (width n : ℕ) (v : List ℕ) → AreShort width (parts_of width n v)
-    parts_short width zero v = All-nil (λ w. length w ≤ width)
-    parts_short width (suc n) v =
-        All-cons (λ w. length w ≤ width) (poly_of (take width v)) (parts_of width n (drop width v))
-        (let a = length_poly_of (take width v) in let b = take_short width v in omega arith)
-        (parts_short width n (drop width v))
-      where
-        take_short : (width : ℕ) (v : List ℕ) → length (take width v) ≤ width
-        take_short zero v = omega arith
-        take_short (suc width) [] = omega arith
-        take_short (suc width) (x ∷ v) = let l = take_short width v in omega (arith, l)
 
     -- numerators of functions with short vectors are short
     pub short_of_vectors : (width : ℕ) (count : ℕ) (ws : List (List ℕ)) (fs : List (Functions k p))

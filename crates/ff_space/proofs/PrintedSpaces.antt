@@ -5,7 +5,7 @@ use Rattle.ring_theory.specs.Subsets.{Span}
 use Rattle.ring_theory.proofs.Subsets.{span_members}
 use Rattle.ff_fields.specs.Field.{CodeField}
 use Rattle.ff_fields.specs.Over.{IsOver}
-use Rattle.ff_poly.specs.Words.{IsPoly, IsMonicList}
+use Rattle.ff_poly.specs.Words.{IsPoly, IsMonicList, DividesList}
 use Rattle.ff_poly.specs.Value.{value}
 use Rattle.ff_poly.specs.Polynomials.{polynomials}
 use Rattle.polynomial_theory.proofs.ListValues.{monic_poly}
@@ -60,7 +60,7 @@ module _ (k : CodeField) (p : PresValue) (some_n : 1 ≤ p.n) (zs : List ElemVal
       record { vector = t.vector; count = t.long; over = t.over; is = t.is }
 
   pub least_denominator : (e : List ℕ) (w : ℕ) → IsOver k.ops e → IsMonicList e
-      → HaveVectors k p (InCodeSpan k p (map (function_of k p) zs)) e w → length den ≤ length e
+      → HaveVectors k p (InCodeSpan k p (map (function_of k p) zs)) e w → DividesList k.ops den e
   least_denominator e w e_in e_monic have =
       let h = fractions_of_vectors k p some_n den least.den_over least.monic e w e_in e_monic (length zs) ws gens
       least.numerators.count least.numerators.over least.numerators.poly elems_are (gens_in (HasVector k p e w) have) in

@@ -15,6 +15,7 @@ use Rattle.function_field.specs.Values.{ElemValue, PresValue, IsElem, IsMonicEle
 use Rattle.ff_lattice.proofs.Divisors.{sum_nil}
 use Rattle.ff_space.specs.Steps.{IsQuotient, AreQuotientsOver, AreNumerators, AreLeastNumerators, elems_in}
 use Rattle.ff_space.proofs.Fractions.{functions_of_fractions}
+use Rattle.ff_space.proofs.LeastDenominators.{multiple_of_lowest}
 
 -- lists with a last member, and parts of lists of products
 pub All-last : {A : Type 0} (T : A → Type 0) (xs : List A) (x : A) → All T xs → T x → All T (xs ++ x ∷ [])
@@ -220,5 +221,5 @@ module _ (k : CodeField) where
     };
     den_over = low.den_over;
     monic = low.monic;
-    least = low.least;
+    least = multiple_of_lowest k ws e vs d low;
   }

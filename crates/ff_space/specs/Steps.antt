@@ -2,7 +2,7 @@
 use Rattle.std.specs.Prelude.{◌≡◌, ◌≢◌, ℕ, zero, suc, ◌*◌, ◌≤◌, ◌↔◌, List, [], ◌∷◌, ◌++◌, length, map, take, drop, slice_set, All}
 use Rattle.ff_fields.specs.Field.{FieldOps, CodeField}
 use Rattle.ff_fields.specs.Over.{IsOver}
-use Rattle.ff_poly.specs.Words.{IsPoly, IsMonicList, product_of}
+use Rattle.ff_poly.specs.Words.{IsPoly, IsMonicList, DividesList, product_of}
 use Rattle.ff_linalg.specs.Matrix.{MatrixValue, IsMatrixOver, HasShape, rows_in}
 use Rattle.ff_linalg.specs.Space.{IsInRowSpace, IsReducedForm}
 use Rattle.ff_factor.specs.LowestTerms.{AreSameFractions}
@@ -49,14 +49,14 @@ pub record AreNumerators (k : CodeField) (n : ℕ) (zs : List ElemValue) (ws : L
   pub same : (p : PresValue) → 1 ≤ n → p.n ≡ n
       → map (function_of k p) (elems_in n (length zs) ws e) ≡ map (function_of k p) zs
 
--- moreover e is monic of least degree
+-- moreover e is monic, and each other denominator of their functions is a multiple of it
 pub record AreLeastNumerators (k : CodeField) (n : ℕ) (zs : List ElemValue) (ws : List (List ℕ)) (e : List ℕ) : Type 0
   where
     pub numerators : AreNumerators k n zs ws e
     pub den_over : IsOver k.ops e
     pub monic : IsMonicList e
     pub least : (us : List (List ℕ)) (d : List ℕ) → All (IsOver k.ops) us → IsOver k.ops d → IsPoly d → d ≢ []
-        → AreSameFractions k.ops ws e us d → length e ≤ length d
+        → AreSameFractions k.ops ws e us d → DividesList k.ops e d
 
 -- the width is the greatest length of the lists, 0 if there is none
 pub record IsLongest (ws : List (List ℕ)) (width : ℕ) : Type 0 where
