@@ -8,7 +8,7 @@ use Rattle.divisor_theory.proofs.Genus.{genus_once}
 use Rattle.value_theory.proofs.InfiniteLattices.{finite_disc}
 use Rattle.ff_text.specs.Printed.{WrittenValue}
 use Rattle.ff_written.specs.LowestTerms.{elem_of}
-use Rattle.ff_space.proofs.OneSpace.{one_printed_basis}
+use Rattle.ff_space.proofs.OnePrinted.{one_basis}
 use Rattle.ff_cert.specs.RowConstants as constants_row
 use Rattle.ff_cert.specs.RowGenus as genus_row
 
@@ -29,7 +29,7 @@ module _ (k : CodeField) (c : CurveValue) (curve : IsCurve k c) where
       → constants_row.IsTrue k c.fin n ws → (m ≡ n) × (zs ≡ ws)
   one_constants m n zs ws h g =
       let same = same_written_parts zs ws
-      (one_printed_basis k c.fin some (IsConstant (setting k c.fin)) (map elem_of zs) (map elem_of ws) h.printed
+      (one_basis k c.fin some (IsConstant (setting k c.fin)) (map elem_of zs) (map elem_of ws) h.printed
       g.printed) in
       (h.count ∙ ap length same ∙ sym g.count, same)
 
