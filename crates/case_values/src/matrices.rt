@@ -1,6 +1,6 @@
 //! Codes and matrices of codes from text.
 
-ghost use Rattle.std.specs.Prelude.{◌≡◌, ◌<◌, length, All, IfOk};
+ghost use Rattle.std.specs.Prelude.{◌<◌, IfOk};
 ghost use Rattle.ff_fields.specs.Over.{IsOver};
 ghost use Rattle.ff_linalg.specs.Matrix.{IsMatrixOver};
 

@@ -1,6 +1,6 @@
 //! Rows of polynomials in weak Popov and Popov form.
 
-ghost use Rattle.std.specs.Prelude.{◌≡◌, All, IfOk};
+ghost use Rattle.std.specs.Prelude.{◌≡◌, All};
 ghost use Rattle.ff_poly.specs.Popov.{rows_of, width_of, IsRow, IsPopovMatrix};
 
 use case_values::print::{push_rows, row_text, rows_text, worded};

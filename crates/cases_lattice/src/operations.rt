@@ -1,6 +1,6 @@
 //! What is made of lattices, and what they contain.
 
-ghost use Rattle.std.specs.Prelude.{◌≡◌, length};
+ghost use Rattle.std.specs.Prelude.{length};
 ghost use Rattle.function_field.specs.Values.{IsPresOver};
 ghost use Rattle.ff_lattice.specs.Lattices.{IsLatticeValue};
 

@@ -1,6 +1,6 @@
 //! Orders modulo ideals.
 
-ghost use Rattle.std.specs.Prelude.{◌≡◌, IfOk};
+ghost use Rattle.std.specs.Prelude.{IfOk};
 ghost use Rattle.function_field.specs.Values.{IsElem, IsPresOver};
 ghost use Rattle.ff_falg.specs.Algebras.{IsVector};
 ghost use Rattle.ff_lattice.specs.Lattices.{IsLatticeValue};

@@ -1,6 +1,6 @@
 //! The inner loops, on rows of polynomials.
 
-ghost use Rattle.std.specs.Prelude.{◌≡◌, ◌-◌, ◌<◌, ◌≤◌, [], suc, length, map, replicate, All, IfOk, OnOk};
+ghost use Rattle.std.specs.Prelude.{◌≡◌, ◌-◌, ◌<◌, ◌≤◌, [], length, map, replicate, All, IfOk, OnOk};
 ghost use Rattle.ring_lemmas.specs.Rows.{row_trace, row_mul};
 ghost use Rattle.ff_fields.specs.Over.{IsOver};
 ghost use Rattle.ff_poly.specs.Words.{multiple_of};

@@ -7,7 +7,7 @@ use Rattle.prime_theory.proofs.Lists.{any_here, any_there, any_none, any_cases, 
 use Rattle.ff_written.specs.TextOrder.{IsBeforeTexts, texts_of}
 use Rattle.ff_written.proofs.TextOrder.{texts_irreflexive, texts_transitive}
 use Rattle.ff_cert.specs.declared.answer.PlaceLines.{PlaceLines}
-use Rattle.ff_cert.specs.RowPlaces.{NumberedFrom}
+use Rattle.ff_cert.specs.RowPlaces.{LinesNumberedFrom}
 
 -- ---- lists
 
@@ -80,8 +80,8 @@ same_lines : (P Q : PlaceLines) → IsAlike P Q → P.number ≡ Q.number → P 
 same_lines P Q a n = λ i. record { number = n i; e = (a.1) i; degree = (a.2) i; rows = (a.0) i }
 
 pub one_ascending : (first : ℕ) (Ps Qs : List PlaceLines) → AllPairs IsBefore Ps → AllPairs IsBefore Qs
-    → All (λ P. Any (IsAlike P) Qs) Ps → All (λ Q. Any (IsAlike Q) Ps) Qs → NumberedFrom first Ps
-    → NumberedFrom first Qs → Ps ≡ Qs
+    → All (λ P. Any (IsAlike P) Qs) Ps → All (λ Q. Any (IsAlike Q) Ps) Qs → LinesNumberedFrom first Ps
+    → LinesNumberedFrom first Qs → Ps ≡ Qs
 one_ascending first [] [] a b h g m n = refl
 one_ascending first [] (Q ∷ Qs) a b h g m n = absurd
     (any_none (IsAlike Q) (All-head (λ R. Any (IsAlike R) []) Q Qs g))
@@ -101,7 +101,7 @@ one_ascending first (P ∷ Ps) (Q ∷ Qs) a b h g m n =
 
 -- ---- the place of a number
 
-numbers_from : (first : ℕ) (Ps : List PlaceLines) → NumberedFrom first Ps → All (λ P. first ≤ P.number) Ps
+numbers_from : (first : ℕ) (Ps : List PlaceLines) → LinesNumberedFrom first Ps → All (λ P. first ≤ P.number) Ps
 numbers_from first [] h = All-nil (λ (P : PlaceLines). first ≤ P.number)
 numbers_from first (P ∷ Ps) h =
     let is = h.0 in
@@ -110,14 +110,15 @@ numbers_from first (P ∷ Ps) h =
     (λ P le. omega (arith, le)) Ps (numbers_from (suc first) Ps h.1))
 
 -- a member behind the first has a greater number
-greater : (first : ℕ) (Ps : List PlaceLines) (P : PlaceLines) → NumberedFrom (suc first) Ps → Any (λ R. R ≡ P) Ps
+greater : (first : ℕ) (Ps : List PlaceLines) (P : PlaceLines) → LinesNumberedFrom (suc first) Ps → Any (λ R. R ≡ P) Ps
     → suc first ≤ P.number
 greater first Ps P h among =
     let t =
     all_and_any (λ (R : PlaceLines). suc first ≤ R.number) (λ R. R ≡ P) Ps (numbers_from (suc first) Ps h) among in
     subst (λ (R : PlaceLines). suc first ≤ R.number) t.2 t.1
 
-pub one_member : (first : ℕ) (Ps : List PlaceLines) (P Q : PlaceLines) → NumberedFrom first Ps → Any (λ R. R ≡ P) Ps
+pub one_member : (first : ℕ) (Ps : List PlaceLines) (P Q : PlaceLines) → LinesNumberedFrom first Ps
+    → Any (λ R. R ≡ P) Ps
     → Any (λ R. R ≡ Q) Ps → P.number ≡ Q.number → P ≡ Q
 one_member first [] P Q h p q e = absurd (any_none (λ R. R ≡ P) p)
 one_member first (S ∷ Ps) P Q h p q e =

@@ -21,9 +21,9 @@ use Rattle.ff_cert.specs.RowOrder as order_row
 use Rattle.ff_cert.specs.RowPlace as place_row
 
 -- the numbers go up by one from the first
-abbrev pub NumberedFrom : ℕ → List PlaceLines → Type 0
-NumberedFrom first [] = Unit {0}
-NumberedFrom first (P ∷ Ps) = (P.number ≡ first) × NumberedFrom (suc first) Ps
+abbrev pub LinesNumberedFrom : ℕ → List PlaceLines → Type 0
+LinesNumberedFrom first [] = Unit {0}
+LinesNumberedFrom first (P ∷ Ps) = (P.number ≡ first) × LinesNumberedFrom (suc first) Ps
 
 module _ (k : CodeField) (c : CurveValue) (s : Side) where
   -- the functions that rows stand for
@@ -46,7 +46,7 @@ module _ (k : CodeField) (c : CurveValue) (s : Side) where
     pub all : AreAllPlacesAbove k c s p (map listed Ps)
     pub printed : All (λ P. ArePrintedRows P.rows) Ps
     pub ascending : AllPairs (λ P Q. IsBeforeTexts (texts_of P.rows) (texts_of Q.rows)) Ps
-    pub numbers : NumberedFrom 1 Ps
+    pub numbers : LinesNumberedFrom 1 Ps
 
 -- these are all places over what is written, and this is their number
 pub record IsTrue (k : CodeField) (c : CurveValue) (over : Over) (count : ℕ) (Ps : List PlaceLines) : Type 0 where

@@ -1,6 +1,6 @@
 //! Factors of polynomials.
 
-ghost use Rattle.std.specs.Prelude.{◌≡◌, ◌≢◌, ◌≤◌, ℕ, List, [], length, All, IfOk};
+ghost use Rattle.std.specs.Prelude.{◌≡◌, ◌≢◌, ◌≤◌, ℕ, List, [], length, IfOk};
 ghost use Rattle.ff_fields.specs.Over.{IsOver};
 ghost use Rattle.ff_poly.specs.Words.{IsPoly};
 ghost use Rattle.ff_factor.specs.Factors.{FactorsValue, IsFactorisation, polys_of};

@@ -1,6 +1,6 @@
 //! The order of polynomials.
 
-ghost use Rattle.std.specs.Prelude.{◌≡◌, ◌↔◌, IsTrue, OnOk, OnErr};
+ghost use Rattle.std.specs.Prelude.{◌↔◌, IsTrue, OnOk};
 ghost use Rattle.ff_factor.specs.Factors.{IsBeforePoly, AreAscendingPolys};
 ghost use Rattle.ff_factor.specs.Pulls.{IsWith};
 

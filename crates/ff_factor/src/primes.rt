@@ -1,6 +1,6 @@
 //! The primes that belong to the idempotents of the polynomials modulo a monic one.
 
-ghost use Rattle.std.specs.Prelude.{◌≡◌, ◌-◌, ◌≤◌, length, All, IfOk};
+ghost use Rattle.std.specs.Prelude.{◌≡◌, ◌-◌, length, All, IfOk};
 ghost use Rattle.ff_fields.specs.Code.{raw_ring};
 ghost use Rattle.ff_fields.specs.Over.{IsOver};
 ghost use Rattle.ring_lemmas.specs.Lists.{neg_list};

@@ -11,7 +11,7 @@ use Rattle.ff_fields.specs.Field.{CodeField}
 use Rattle.ff_fields.specs.Code.{code_ring, raw_ring, zero_in}
 use Rattle.ff_fields.specs.Numbers.{numbers, IsOver_numbers}
 use Rattle.ff_fields.specs.Over.{IsOver, IsOver_tail, get_or_below}
-use Rattle.linear_theory.specs.Echelon.{row, rows_of}
+use Rattle.linear_theory.specs.Echelon.{row, rows_as_sequences}
 use Rattle.linear_theory.specs.Module.{combination as row_combination}
 use Rattle.ff_linalg.specs.Matrix.{MatrixValue}
 use Rattle.ff_linalg.specs.Space.{row_ops}
@@ -46,7 +46,7 @@ module _ (k : CodeField) where
   coeff_raw (x ∷ xs) (suc j) = coeff_raw xs j
 
   row_raw : (rows : List (List ℕ)) (i j : ℕ)
-      → row (raw_ring k.ops) (rows_of (raw_ring k.ops) rows) i j ≡ get_or (get_or rows i []) j 0
+      → row (raw_ring k.ops) (rows_as_sequences (raw_ring k.ops) rows) i j ≡ get_or (get_or rows i []) j 0
   row_raw [] i j = refl
   row_raw (r ∷ rows) zero j = coeff_raw r j
   row_raw (r ∷ rows) (suc i) j = row_raw rows i j

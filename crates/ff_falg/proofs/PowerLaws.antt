@@ -13,7 +13,7 @@ use Rattle.ff_fields.specs.Numbers.{read}
 use Rattle.linear_theory.specs.Module.{combination as row_combination}
 use Rattle.ff_linalg.specs.Matrix.{MatrixValue, IsMatrixOver, HasShape, matrix_row}
 use Rattle.ff_linalg.specs.Steps.{unit_row}
-use Rattle.ff_linalg.specs.Space.{row_ops, product_of}
+use Rattle.ff_linalg.specs.Space.{row_ops, row_product}
 use Rattle.finite_algebra_theory.specs.ByMap.{Image}
 use Rattle.finite_algebra_theory.specs.Horner.{combination}
 use Rattle.finite_algebra_theory.proofs.Horner.{iterate_combination}
@@ -110,7 +110,7 @@ module _ (k : CodeField) (A : AlgebraOps) (law : IsAlgebra k A) where
       → ((x : Vector k A.size) → (F x).0 ≡ f x.0)
       → (m : MatrixValue) → HasShape m A.size A.size → ((l : ℕ) → l < A.size → matrix_row m l ≡ f (unit_row A.size l))
       → (v : List ℕ) → IsVector k.ops A.size v
-      → product_of k.ops v m ≡ (combination R.ops (map (scalar k A law) (read k v)) (map F (basis k A law))).0
+      → row_product k.ops v m ≡ (combination R.ops (map (scalar k A law) (read k v)) (map F (basis k A law))).0
   mapped_product F f same m shape rows v v_in =
       ap₂ (λ n rows. row_combination (row_ops k.ops n) v rows) shape.col_count
       (rows_are f m shape rows ∙ sym (values_of_vectors F f same (unit_rows A.size) (unit_rows_in k A.size)))
@@ -137,13 +137,13 @@ module _ (k : CodeField) (A : AlgebraOps) (law : IsAlgebra k A) where
   -- the matrix of an iterate of the map a to a^q
   pub iterate_values : (t : ℕ) (m : MatrixValue) → HasShape m A.size A.size
       → ((l : ℕ) → l < A.size → matrix_row m l ≡ power k.ops A (unit_row A.size l) (k.size ^ t))
-      → (v : List ℕ) → IsVector k.ops A.size v → product_of k.ops v m ≡ power k.ops A v (k.size ^ t)
+      → (v : List ℕ) → IsVector k.ops A.size v → row_product k.ops v m ≡ power k.ops A v (k.size ^ t)
   iterate_values t m shape rows v v_in =
       value ∙ by_dimension _ (power k.ops A v (k.size ^ t)) (combination R.ops _ _).1
       (power_in k A law v (k.size ^ t) v_in)
       (λ some. ap (λ y. y.0) (powers_combination some t v v_in) ∙ power_value k A law (v, v_in) (k.size ^ t))
     where
-      value : product_of k.ops v m
+      value : row_product k.ops v m
           ≡ (combination R.ops (map (scalar k A law) (read k v))
           (map (λ b. pow R.ops b (k.size ^ t)) (basis k A law))).0
       value =
@@ -171,7 +171,7 @@ module _ (k : CodeField) (A : AlgebraOps) (law : IsAlgebra k A) where
       ≡ add_lists (raw_ring k.ops) (power k.ops A (unit_row A.size l) k.size)
       (neg_list (raw_ring k.ops) (unit_row A.size l)))
       → (v : List ℕ) → IsVector k.ops A.size v
-      → product_of k.ops v m ≡ add_lists (raw_ring k.ops) (power k.ops A v k.size) (neg_list (raw_ring k.ops) v)
+      → row_product k.ops v m ≡ add_lists (raw_ring k.ops) (power k.ops A v k.size) (neg_list (raw_ring k.ops) v)
   less_values m shape rows v v_in =
       value ∙ by_dimension _ _ (combination R.ops _ _).1
       (sum_in k A.size _ _ (power_in k A law v k.size v_in) (neg_in k A.size v v_in))
@@ -183,7 +183,7 @@ module _ (k : CodeField) (A : AlgebraOps) (law : IsAlgebra k A) where
       ∙ power_value k A law (v, v_in) k.size)
       (ap (λ y. y.0) (whole v v_in)))
     where
-      value : product_of k.ops v m
+      value : row_product k.ops v m
           ≡ (combination R.ops (map (scalar k A law) (read k v))
           (map (λ b. R.◌⊕◌ (pow R.ops b k.size) (R.⊖◌ b)) (basis k A law))).0
       value =

@@ -11,7 +11,7 @@ use Rattle.ff_fields.specs.Over.{IsOver, get_or_below, IsOver_drop}
 use Rattle.linear_theory.specs.Module.{combination}
 use Rattle.ff_linalg.specs.Matrix.{MatrixValue, IsMatrixOver, HasShape, matrix_row, with_entry, zero_matrix}
 use Rattle.ff_linalg.specs.MatrixOver.{zero_matrix_over}
-use Rattle.ff_linalg.specs.Space.{row_ops, product_of}
+use Rattle.ff_linalg.specs.Space.{row_ops, row_product}
 use Rattle.ff_falg.specs.Algebras.{IsVector}
 use Rattle.ff_falg.specs.Steps.{with_matrix_row, HasRowsBelow}
 use Rattle.ff_falg.proofs.Lists.{lists_comm, lists_assoc, lists_zero}
@@ -72,10 +72,12 @@ with_row_shape m n cols i row shape width = record {
   each = All-set (λ r. length r ≡ cols) m.rows i row width shape.each;
 }
 
-pub with_row_other : (m : MatrixValue) (i l : ℕ) (row : List ℕ) → ¬ (l ≡ i) → matrix_row (with_matrix_row m i row) l ≡ matrix_row m l
+pub with_row_other : (m : MatrixValue) (i l : ℕ) (row : List ℕ) → ¬ (l ≡ i)
+    → matrix_row (with_matrix_row m i row) l ≡ matrix_row m l
 with_row_other m i l row ne = get_or-set_other m.rows i l row [] ne
 
-pub with_row_same : (m : MatrixValue) (i : ℕ) (row : List ℕ) → i < length m.rows → matrix_row (with_matrix_row m i row) i ≡ row
+pub with_row_same : (m : MatrixValue) (i : ℕ) (row : List ℕ) → i < length m.rows
+    → matrix_row (with_matrix_row m i row) i ≡ row
 with_row_same m i row within = get_or-set_same m.rows i row [] within
 
 module _ (k : CodeField) where
@@ -105,14 +107,14 @@ module _ (k : CodeField) where
 
   pub product_in : (m : MatrixValue) (v : List ℕ) → IsOver k.ops v → HasShape m (length m.rows) m.cols
       → IsMatrixOver k.ops m
-      → IsVector k.ops m.cols (product_of k.ops v m)
+      → IsVector k.ops m.cols (row_product k.ops v m)
   product_in m v v_in shape over = combination_in m.cols v m.rows v_in (rows_in m (length m.rows) m.cols shape over)
 
   -- a sum is made from the first row on: what is summed, and the combination of the rows that are left
   pub record IsSummed (m : MatrixValue) (v old : List ℕ) (i : ℕ) (sum : List ℕ) : Type 0 where
     pub vector : IsVector k.ops m.cols sum
     pub is : add_lists (raw_ring k.ops) sum (combination (row_ops k.ops m.cols) (drop i v) (drop i m.rows))
-        ≡ add_lists (raw_ring k.ops) old (product_of k.ops v m)
+        ≡ add_lists (raw_ring k.ops) old (row_product k.ops v m)
 
   pub zero_first : (n : ℕ) (w : List ℕ) → IsVector k.ops n w → add_lists (raw_ring k.ops) (replicate n 0) w ≡ w
   zero_first n w w_in =
@@ -144,7 +146,7 @@ module _ (k : CodeField) where
       }
 
   pub summed_end : (m : MatrixValue) (v old sum : List ℕ) (i : ℕ) → length v ≤ i → IsSummed m v old i sum
-      → sum ≡ add_lists (raw_ring k.ops) old (product_of k.ops v m)
+      → sum ≡ add_lists (raw_ring k.ops) old (row_product k.ops v m)
   summed_end m v old sum i le h =
       sym (ap (λ n. add_lists (raw_ring k.ops) sum (replicate n 0)) (sym h.vector.size)
       ∙ lists_zero k sum h.vector.over)
@@ -164,7 +166,8 @@ module _ (k : CodeField) where
     where
       go : (l : ℕ) → l < i + 1 → Dec (l ≡ i) → matrix_row (with_matrix_row m i (f i)) l ≡ f l
       go l less (yes e) =
-          ap (matrix_row (with_matrix_row m i (f i))) e ∙ with_row_same m i (f i) (let s = before.shape.row_count in omega arith)
+          ap (matrix_row (with_matrix_row m i (f i))) e
+          ∙ with_row_same m i (f i) (let s = before.shape.row_count in omega arith)
           ∙ sym (ap f e)
       go l less (no ne) = with_row_other m i l (f i) ne ∙ before.rows l (omega arith)
 

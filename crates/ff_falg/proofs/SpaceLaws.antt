@@ -12,7 +12,7 @@ use Rattle.ff_fields.specs.Code.{raw_ring, code_ring}
 use Rattle.ff_fields.specs.Over.{IsOver, IsOver_head, IsOver_tail, get_or_below}
 use Rattle.ff_linalg.specs.Matrix.{MatrixValue, IsMatrixOver, HasShape, matrix_row, entry_of, with_entry}
 use Rattle.ff_linalg.specs.Steps.{unit_row}
-use Rattle.ff_linalg.specs.Space.{product_of}
+use Rattle.ff_linalg.specs.Space.{row_product}
 use Rattle.ff_linalg.specs.Kernel.{IsKernelBasis}
 use Rattle.finite_algebra_theory.specs.ByMap.{Image}
 use Rattle.finite_algebra_theory.proofs.Nilpotent.{nilpotent_kernel}
@@ -75,7 +75,8 @@ module _ (k : CodeField) where
       row = row_in k now m.cols m.cols i before.shape before.over less
 
       value_in : sub_of k.ops (entry_of now i i) 1 < k.size
-      value_in = k.laws.add_below _ _ (get_or_below k (matrix_row now i) i row.over) (k.laws.neg_below 1 k.laws.one_below)
+      value_in = k.laws.add_below _ _ (get_or_below k (matrix_row now i) i row.over)
+          (k.laws.neg_below 1 k.laws.one_below)
 
       go : (l : ℕ) → l < i + 1 → Dec (l ≡ i) → matrix_row (with_entry now i i x) l
           ≡ add_lists (raw_ring k.ops) (matrix_row m l) (neg_list (raw_ring k.ops) (unit_row m.cols l))
@@ -86,13 +87,14 @@ module _ (k : CodeField) where
           ∙ less_unit (matrix_row now i) i row.over (let s = row.size in omega arith)
           ∙ ap₂ (λ r n. add_lists (raw_ring k.ops) r (neg_list (raw_ring k.ops) (unit_row n i)))
           (before.rest i (omega arith)) row.size
-          ∙ ap (λ j. add_lists (raw_ring k.ops) (matrix_row m j) (neg_list (raw_ring k.ops) (unit_row m.cols j))) (sym e)
+          ∙ ap (λ j. add_lists (raw_ring k.ops) (matrix_row m j) (neg_list (raw_ring k.ops) (unit_row m.cols j)))
+          (sym e)
       go l h (no ne) = with_row_other now i l _ ne ∙ before.done l (omega arith)
 
   -- the kernel of a square matrix, as a space of vectors
   pub kernel_space : (n : ℕ) (a m : MatrixValue) (space : List ℕ → Type 0) → HasShape a n n → IsKernelBasis k.ops a m
-      → ((v : List ℕ) → IsVector k.ops n v → product_of k.ops v a ≡ replicate n 0 → space v)
-      → ((v : List ℕ) → IsVector k.ops n v → space v → product_of k.ops v a ≡ replicate n 0)
+      → ((v : List ℕ) → IsVector k.ops n v → row_product k.ops v a ≡ replicate n 0 → space v)
+      → ((v : List ℕ) → IsVector k.ops n v → space v → row_product k.ops v a ≡ replicate n 0)
       → IsEchelonBasisMatrix k.ops n space m
   kernel_space n a m space shape kernel to from = record {
     shape = subst (HasShape m (length m.rows)) shape.row_count kernel.shape;
@@ -133,7 +135,8 @@ module _ (k : CodeField) (A : AlgebraOps) (law : IsAlgebra k A) where
     rows = λ l less.
         let unit = unit_in k A.size l less in
         p.written.rows l (let s = h.shape.row_count in omega arith)
-        ∙ iterate_values k A law h.times m h.shape h.rows (matrix_row m l) (row_in k m A.size A.size l h.shape h.over less)
+        ∙ iterate_values k A law h.times m h.shape h.rows (matrix_row m l)
+        (row_in k m A.size A.size l h.shape h.over less)
         ∙ ap (λ r. power k.ops A r (k.size ^ h.times)) (h.rows l less)
         ∙ power_power k A law (unit_row A.size l) (k.size ^ h.times) (k.size ^ h.times) unit
         ∙ ap (power k.ops A (unit_row A.size l)) (sym doubled);
@@ -190,7 +193,7 @@ module _ (k : CodeField) (A : AlgebraOps) (law : IsAlgebra k A) where
       shape = subst (λ c. HasShape a c c) h.shape.col_count less.shape
 
       values : (v : List ℕ) → IsVector k.ops A.size v
-          → product_of k.ops v a ≡ add_lists (raw_ring k.ops) (power k.ops A v k.size) (neg_list (raw_ring k.ops) v)
+          → row_product k.ops v a ≡ add_lists (raw_ring k.ops) (power k.ops A v k.size) (neg_list (raw_ring k.ops) v)
       values =
           less_values k A law a shape (λ l l_less.
           less.done l (let e = h.shape.col_count in omega arith)

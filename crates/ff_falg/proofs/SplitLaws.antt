@@ -12,7 +12,7 @@ use Rattle.ff_fields.specs.Numbers.{read}
 use Rattle.ff_fields.specs.Over.{IsOver, IsOver_head, IsOver_tail}
 use Rattle.linear_theory.specs.Module.{combination as row_combination}
 use Rattle.ff_linalg.specs.Matrix.{MatrixValue}
-use Rattle.ff_linalg.specs.Space.{row_ops, product_of}
+use Rattle.ff_linalg.specs.Space.{row_ops, row_product}
 use Rattle.finite_algebra_theory.specs.Algebra.{FiniteAlgebra, powers, IsIdempotent, IsFixed}
 use Rattle.finite_algebra_theory.specs.ByMap.{Image}
 use Rattle.finite_algebra_theory.specs.Horner.{value, combination, suffix_values}
@@ -214,7 +214,7 @@ module _ (k : CodeField) (A : AlgebraOps) (law : IsAlgebra k A) (some : 0 < A.si
           suffixes : List (Code k)
           suffixes = suffix_values (code_ring k).ops (read k lower) (code_ring k).𝟙 c
 
-          quotient_value : (R.◌⊗◌ (quotient c a) u).0 ≡ product_of k.ops (quotient_of k.ops (d ∷ lower) c.0) m
+          quotient_value : (R.◌⊗◌ (quotient c a) u).0 ≡ row_product k.ops (quotient_of k.ops (d ∷ lower) c.0) m
           quotient_value =
               ap (λ y. y.0) (value_combination R (suffix_values R.ops (map ι (read k lower)) R.𝟙 (ι c)) R.𝟙 a u
               ∙ ap₂ (λ xs n. combination R.ops xs (powers R.ops a u (suc n)))

@@ -2,7 +2,7 @@
 use Rattle.std.specs.Prelude.{◌≡◌, ℕ, ◌<◌, ◌↔◌, List, length}
 use Rattle.ff_fields.specs.Field.{FieldOps}
 use Rattle.ff_linalg.specs.Matrix.{MatrixValue, IsMatrixOver, HasShape, matrix_row}
-use Rattle.ff_linalg.specs.Space.{product_of, IsInRowSpace, IsReducedForm}
+use Rattle.ff_linalg.specs.Space.{row_product, IsInRowSpace, IsReducedForm}
 use Rattle.ff_linalg.specs.Steps.{unit_row}
 use Rattle.ff_falg.specs.Algebras.{AlgebraOps, IsVector, power}
 
@@ -12,7 +12,7 @@ pub record IsFrobenius (k : FieldOps) (A : AlgebraOps) (m : MatrixValue) : Type 
   pub shape : HasShape m A.size A.size
   pub over : IsMatrixOver k m
   pub rows : (i : ℕ) → i < A.size → matrix_row m i ≡ power k A (unit_row A.size i) k.size
-  pub values : (v : List ℕ) → IsVector k A.size v → product_of k v m ≡ power k A v k.size
+  pub values : (v : List ℕ) → IsVector k A.size v → row_product k v m ≡ power k A v k.size
 
 -- the reduced echelon basis of a space of elements: a matrix in reduced row echelon form without rows that are 0, whose
 -- row space is that space

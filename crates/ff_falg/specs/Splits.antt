@@ -4,7 +4,7 @@ use Rattle.ring_lemmas.specs.Lists.{scale_list}
 use Rattle.ff_fields.specs.Field.{FieldOps}
 use Rattle.ff_fields.specs.Code.{raw_ring}
 use Rattle.ff_linalg.specs.Matrix.{MatrixValue, matrix_row}
-use Rattle.ff_linalg.specs.Space.{product_of}
+use Rattle.ff_linalg.specs.Space.{row_product}
 use Rattle.ff_falg.specs.Algebras.{AlgebraOps, IsIdempotentVector, zero_of}
 use Rattle.ff_falg.specs.Idempotents.{vector_sum}
 use Rattle.ff_falg.specs.Roots.{monic_value, quotient_of}
@@ -16,7 +16,7 @@ weight_of k lower c = monic_value k (take (length lower - 1) (quotient_of k lowe
 -- the value of that quotient, made 1 at c, where the rows of a matrix are the powers
 abbrev pub part_of : FieldOps → List ℕ → MatrixValue → ℕ → List ℕ
 part_of k lower powers c = scale_list (raw_ring k) (k.inv (weight_of k lower c))
-    (product_of k (quotient_of k lower c) powers)
+    (row_product k (quotient_of k lower c) powers)
 
 -- a code whose quotient has a value that isn't 0
 pub record IsSimple (k : FieldOps) (lower : List ℕ) (c : ℕ) : Type 0 where

@@ -4,7 +4,7 @@ use Rattle.ff_fields.specs.Field.{FieldOps}
 use Rattle.ff_fields.specs.Code.{raw_ring}
 use Rattle.ring_lemmas.specs.Lists.{add_lists, neg_list}
 use Rattle.ff_linalg.specs.Matrix.{MatrixValue, IsMatrixOver, HasShape, matrix_row}
-use Rattle.ff_linalg.specs.Space.{product_of}
+use Rattle.ff_linalg.specs.Space.{row_product}
 use Rattle.ff_linalg.specs.Steps.{unit_row}
 use Rattle.ff_falg.specs.Algebras.{AlgebraOps, power}
 
@@ -20,7 +20,7 @@ pub record HasRowsBelow (k : FieldOps) (value : ℕ → List ℕ) (n cols i : �
 
 -- the first i rows are those of a times b
 pub record IsProductBelow (k : FieldOps) (a b : MatrixValue) (i : ℕ) (m : MatrixValue) : Type 0 where
-  pub written : HasRowsBelow k (λ l. product_of k (matrix_row a l) b) (length a.rows) b.cols i m
+  pub written : HasRowsBelow k (λ l. row_product k (matrix_row a l) b) (length a.rows) b.cols i m
 
 -- the matrix of an iterate of the map a to a^q, so often that q to this number is at least the bound: its rows are the
 -- powers of the unit rows

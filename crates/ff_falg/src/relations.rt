@@ -1,6 +1,6 @@
 //! The powers of an element, times another, and their first relation.
 
-ghost use Rattle.std.specs.Prelude.{◌≡◌, ◌<◌, ◌≤◌, length, IfOk};
+ghost use Rattle.std.specs.Prelude.{◌≡◌, ◌<◌, length, IfOk};
 ghost use Rattle.ff_linalg.specs.Matrix.{matrix_row};
 ghost use Rattle.ff_falg.specs.Algebras.{IsVector, power};
 ghost use Rattle.ff_falg.specs.Relations.{IsBounded, IsFirstRow, IsPowers, IsPowersBelow, IsRelation};

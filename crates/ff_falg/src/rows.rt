@@ -1,11 +1,11 @@
 //! Rows of codes and matrices of them.
 
-ghost use Rattle.std.specs.Prelude.{◌≡◌, ◌<◌, ◌≤◌, length, replicate, slice_set, IfOk};
+ghost use Rattle.std.specs.Prelude.{◌≡◌, ◌<◌, ◌≤◌, length, replicate, IfOk};
 ghost use Rattle.ff_fields.specs.Code.{raw_ring};
 ghost use Rattle.ff_fields.specs.Over.{IsOver};
 ghost use Rattle.ring_lemmas.specs.Lists.{add_lists, scale_list};
 ghost use Rattle.ff_linalg.specs.Matrix.{IsMatrixOver, HasShape};
-ghost use Rattle.ff_linalg.specs.Space.{product_of};
+ghost use Rattle.ff_linalg.specs.Space.{row_product};
 ghost use Rattle.ff_linalg.specs.Steps.{unit_row};
 ghost use Rattle.ff_falg.specs.Algebras.{IsVector};
 ghost use Rattle.ff_falg.specs.Steps.{with_matrix_row, IsProductBelow};
@@ -61,7 +61,7 @@ fn add_product<K: SmallField>(k: &K, sum: &mut [u32], v: &[u32], m: &Matrix)
     requires m_in { IsMatrixOver (K.field k.now).ops m.now }
     requires shape { HasShape m.now (length m.now.rows) m.now.cols }
     requires sum_in { IsVector (K.field k.now).ops m.now.cols sum.old }
-    ensures { sum.new ≡ add_lists (raw_ring (K.field k.now).ops) sum.old (product_of (K.field k.now).ops v.now m.now) }
+    ensures { sum.new ≡ add_lists (raw_ring (K.field k.now).ops) sum.old (row_product (K.field k.now).ops v.now m.now) }
 {
     for i in 0..v.len() {
         add_multiple(k, sum, v[i], m.row(i));
@@ -80,7 +80,7 @@ pub(crate) fn row_times<K: SmallField>(
     requires v_in { IsOver (K.field k.now).ops v.now }
     requires m_in { IsMatrixOver (K.field k.now).ops m.now }
     requires shape { HasShape m.now (length m.now.rows) m.now.cols }
-    ensures { IfOk result (λ w. w.items ≡ product_of (K.field k.now).ops v.now m.now) }
+    ensures { IfOk result (λ w. w.items ≡ row_product (K.field k.now).ops v.now m.now) }
 {
     let mut sum = zeros(alloc, m.cols())?;
     add_product(k, sum.as_mut_slice(), v, m);

@@ -1,6 +1,6 @@
 //! The nilpotent elements, and those that are their own q-th powers, where q is the size of the field.
 
-ghost use Rattle.std.specs.Prelude.{◌≡◌, ◌<◌, ◌≤◌, length, IfOk};
+ghost use Rattle.std.specs.Prelude.{◌<◌, IfOk};
 ghost use Rattle.ff_linalg.specs.Matrix.{IsMatrixOver, HasShape};
 ghost use Rattle.ff_falg.specs.Algebras.{IsNilpotentVector, IsFixedVector};
 ghost use Rattle.ff_falg.specs.Spaces.{IsEchelonBasisMatrix, IsFrobenius};

@@ -1,6 +1,6 @@
 //! The least two residues whose product is 0.
 
-ghost use Rattle.std.specs.Prelude.{◌≡◌, ℕ, ◌+◌, ◌^◌, ◌<◌, ◌≤◌, IfNone, IfSome};
+ghost use Rattle.std.specs.Prelude.{ℕ, ◌+◌, ◌^◌, ◌<◌, ◌≤◌, IfNone, IfSome};
 ghost use Rattle.ff_fields.specs.Modulus.{IsMonicModulus, IsMonicCode, IsFactor, IsLeastZeroProduct, NoFactorBelow, NoZeroProduct};
 
 use crate::digits::{code_of, write_digits};

@@ -1,6 +1,6 @@
 //! The fields of p to the m elements, as polynomials modulo a monic one.
 
-ghost use Rattle.std.specs.Prelude.{◌≡◌, ◌≢◌, ℕ, ◌+◌, ◌^◌, ◌<◌, ◌↔◌, length, take, IsOk, IfOk, IfErr, IfNone, IfSome};
+ghost use Rattle.std.specs.Prelude.{◌≡◌, ℕ, ◌+◌, ◌^◌, ◌<◌, ◌↔◌, length, take, IsOk, IfOk, IfErr, IfNone, IfSome};
 ghost use Rattle.std.specs.Option.{SomeIff};
 ghost use Rattle.ff_fields.specs.Field.{pow_of};
 ghost use Rattle.ff_fields.specs.Laws.{IsProductOf, IsCodeSum};

@@ -1,10 +1,10 @@
 //! The greatest power of a prime of an order that has a given member of the order.
 
-ghost use Rattle.std.specs.Prelude.{◌≡◌, ◌↔◌, ◌≤◌, ℕ, suc, All, IfOk, IfSome, IfNone, length};
-ghost use Rattle.function_field.specs.Values.{PresValue, IsPresOver, IsElem, Functions, functions, function_of};
+ghost use Rattle.std.specs.Prelude.{suc, IfOk, IfSome, IfNone};
+ghost use Rattle.function_field.specs.Values.{IsPresOver, IsElem, Functions, functions, function_of};
 ghost use Rattle.prime_theory.specs.Ideals.{Power, Invertible};
 ghost use Rattle.prime_theory.specs.Places.{IsMaximalIdeal};
-ghost use Rattle.ff_lattice.specs.Lattices.{LatticeValue, IsLatticeValue, Contains};
+ghost use Rattle.ff_lattice.specs.Lattices.{IsLatticeValue, Contains};
 ghost use Rattle.ff_lattice.specs.Orders.{IsOrderLattice};
 ghost use Rattle.ff_lattice.specs.Colons.{IsColon};
 

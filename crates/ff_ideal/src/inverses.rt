@@ -1,11 +1,11 @@
 //! Inverses of ideals of an order, and of what else is closed under it.
 
-ghost use Rattle.std.specs.Prelude.{◌≡◌, ◌↔◌, IfOk};
+ghost use Rattle.std.specs.Prelude.{◌↔◌, IfOk};
 ghost use Rattle.ring_theory.specs.Subsets.{Product};
-ghost use Rattle.function_field.specs.Values.{PresValue, IsPresOver, Functions, functions, equation_of};
+ghost use Rattle.function_field.specs.Values.{IsPresOver, Functions, functions, equation_of};
 ghost use Rattle.prime_theory.specs.Ideals.{SameSet};
 ghost use Rattle.ideal_theory.specs.Records.{IsAdmitted};
-ghost use Rattle.ff_lattice.specs.Lattices.{LatticeValue, IsLatticeValue, Contains};
+ghost use Rattle.ff_lattice.specs.Lattices.{IsLatticeValue, Contains};
 ghost use Rattle.ff_lattice.specs.Orders.{IsOrderLattice};
 ghost use Rattle.ff_lattice.specs.Colons.{IsColon};
 

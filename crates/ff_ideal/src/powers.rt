@@ -1,10 +1,10 @@
 //! Powers of ideals of an order with integers as exponents.
 
-ghost use Rattle.std.specs.Prelude.{◌≡◌, ◌↔◌, ◌<◌, IfOk};
-ghost use Rattle.function_field.specs.Values.{PresValue, IsPresOver, Functions, functions, equation_of};
+ghost use Rattle.std.specs.Prelude.{◌↔◌, ◌<◌, IfOk};
+ghost use Rattle.function_field.specs.Values.{IsPresOver, Functions, functions, equation_of};
 ghost use Rattle.prime_theory.specs.Ideals.{Power};
 ghost use Rattle.ideal_theory.specs.Records.{IsAdmitted};
-ghost use Rattle.ff_lattice.specs.Lattices.{LatticeValue, IsLatticeValue, Contains};
+ghost use Rattle.ff_lattice.specs.Lattices.{IsLatticeValue, Contains};
 ghost use Rattle.ff_lattice.specs.Orders.{IsOrderLattice};
 ghost use Rattle.ff_ideal.specs.Powers.{IntegerPower};
 

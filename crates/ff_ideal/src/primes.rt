@@ -1,6 +1,6 @@
 //! Primes of orders, as values.
 
-ghost use Rattle.std.specs.Prelude.{◌≡◌, ℕ, IfOk};
+ghost use Rattle.std.specs.Prelude.{◌≡◌, IfOk};
 ghost use Rattle.value_theory.specs.Primes.{PrimeValue};
 
 use ff_algebra::Side;

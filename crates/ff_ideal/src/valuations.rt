@@ -13,10 +13,10 @@ ghost use Rattle.function_field.specs.Values.{PresValue, IsPresOver, IsElem, Fun
 ghost use Rattle.prime_theory.specs.Ideals.{Invertible};
 ghost use Rattle.prime_theory.specs.Orders.{MaximalAt};
 ghost use Rattle.prime_theory.specs.Places.{IsMaximalIdeal};
-ghost use Rattle.ff_lattice.specs.Lattices.{LatticeValue, IsLatticeValue, Contains};
+ghost use Rattle.ff_lattice.specs.Lattices.{IsLatticeValue, Contains};
 ghost use Rattle.ff_lattice.specs.Orders.{IsOrderLattice};
 ghost use Rattle.ff_lattice.specs.Colons.{IsColon};
-ghost use Rattle.value_theory.specs.Primes.{PrimeValue, IsPrimeOf};
+ghost use Rattle.value_theory.specs.Primes.{IsPrimeOf};
 ghost use Rattle.ff_ideal.specs.Places.{IsPlaceOf, IsInfinitePlaceOf, HasPrimeValue};
 
 use crate::exponents::{greatest_exponent, outside_row};

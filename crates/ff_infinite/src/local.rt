@@ -1,13 +1,12 @@
 //! Membership in the combinations of a lattice's rows over R_inf, the fractions of degree at most 0.
 
-ghost use Rattle.std.specs.Prelude.{◌≡◌, ◌≢◌, ℕ, ◌<◌, ◌≤◌, ◌↔◌, length, slice_index, IfOk, IsTrue};
-ghost use Rattle.ff_fields.specs.Field.{CodeField};
+ghost use Rattle.std.specs.Prelude.{◌≡◌, ◌≢◌, ℕ, ◌<◌, ◌↔◌, length, slice_index, IfOk, IsTrue};
 ghost use Rattle.ff_poly.specs.Polynomials.{x_poly};
 ghost use Rattle.function_field.specs.Values.{IsElem, equation_of, function_of};
 ghost use Rattle.function_field.specs.Curves.{IsCurve};
 ghost use Rattle.function_field.specs.InfiniteSpans.{InInfiniteSpan};
 ghost use Rattle.infinite_theory.specs.Supported.{IsSupportedAt};
-ghost use Rattle.ff_lattice.specs.Lattices.{LatticeValue, IsLatticeValue, Contains, row_elems};
+ghost use Rattle.ff_lattice.specs.Lattices.{IsLatticeValue, Contains, row_elems};
 ghost use Rattle.ff_infinite.specs.Steps.{IsFreed};
 
 use ff_algebra::{Curve, Elem, to_inf};

@@ -1,11 +1,11 @@
 //! The order k[t][Y].
 
-ghost use Rattle.std.specs.Prelude.{◌≡◌, ◌↔◌, IfOk};
+ghost use Rattle.std.specs.Prelude.{◌↔◌, IfOk};
 ghost use Rattle.ff_poly.specs.Polynomials.{x_poly};
-ghost use Rattle.function_field.specs.Values.{PresValue, Functions, equation_of};
+ghost use Rattle.function_field.specs.Values.{Functions, equation_of};
 ghost use Rattle.trace_theory.specs.Traces.{HasPolynomialCoordinates};
 ghost use Rattle.infinite_theory.specs.Supported.{IsSupportedAt};
-ghost use Rattle.ff_lattice.specs.Lattices.{LatticeValue, Contains};
+ghost use Rattle.ff_lattice.specs.Lattices.{Contains};
 ghost use Rattle.ff_lattice.specs.Orders.{IsOrderLattice};
 
 use ff_algebra::Curve;

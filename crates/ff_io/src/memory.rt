@@ -1,6 +1,6 @@
 //! A source and a sink in memory. Calls fail where they are told to, so that a caller's answer to a fault can be tried.
 
-ghost use Rattle.std.specs.Prelude.{◌≡◌, ◌+◌, ◌-◌, ◌<◌, ◌≤◌, ◌↔◌, ◌⊎◌, ◌==◌, if◌then◌else◌, min, ℕ, [], ◌++◌, Some, None, length, take, IfOk, OnErr, IfSome, IsErr, IsOkAnd};
+ghost use Rattle.std.specs.Prelude.{◌≡◌, ◌+◌, ◌-◌, ◌<◌, ◌≤◌, ◌↔◌, ◌⊎◌, ◌==◌, if◌then◌else◌, min, [], ◌++◌, Some, None, length, take, IfOk, OnErr, IfSome, IsErr, IsOkAnd};
 ghost use Rattle.std.specs.List.{Contains};
 ghost use Rattle.ff_io.specs.Streams.{next_count, Rose, Took, Appends, Fills};
 ghost use Rattle.ff_io.specs.Memory.{left_of, IsSteady, free_of, free_below};

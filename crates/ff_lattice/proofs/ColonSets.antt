@@ -16,7 +16,7 @@ use Rattle.ff_fields.specs.Over.{IsOver, IsOver_nil}
 use Rattle.ff_poly.specs.Words.{IsPoly, IsMonicList}
 use Rattle.ff_poly.specs.Value.{value}
 use Rattle.ff_poly.specs.Polynomials.{Polynomial, polynomials, polynomials_domain, value_one}
-use Rattle.ff_poly.specs.Popov.{row_at, entry_at, IsRow, InRowSpan, combination}
+use Rattle.ff_poly.specs.Popov.{row_at, entry_at, IsRow, InRowSpan, combination_list}
 use Rattle.popov_theory.specs.Span as theory
 use Rattle.popov_theory.proofs.Span.{span_row}
 use Rattle.ff_popov.specs.Reading.{read_row, row_space, read_rows}
@@ -121,7 +121,7 @@ module _ (k : CodeField) (p : PresValue) where
     cs_poly : All IsPoly (row_at basis 0)
     cs_poly = polys_at basis (popov_poly 1 basis pre.popov) 0 some_row
 
-    inside : InRowSpan k.ops p.n b.rows (combination k.ops p.n (row_at basis 0) (one_row p.n b.den ∷ []))
+    inside : InRowSpan k.ops p.n b.rows (combination_list k.ops p.n (row_at basis 0) (one_row p.n b.den ∷ []))
     inside =
         (pre.members (row_at basis 0) cs_row cs_poly).0
         (from_space k 1 basis pre.rows_in (row_at basis 0) cs_row cs_poly
@@ -131,14 +131,14 @@ module _ (k : CodeField) (p : PresValue) where
     pub polynomial_inside : Contains k p b (of_poly (equation_of k p) (value k h))
     polynomial_inside =
         subst (Contains k p b) is
-        ((in_span_of k p b.den den_some b.rows (f (record { num = combination k.ops p.n cs m; den = b.den }))).1
+        ((in_span_of k p b.den den_some b.rows (f (record { num = combination_list k.ops p.n cs m; den = b.den }))).1
         (record {
-          numerator = read_row k (suc (p.n - 1)) (combination k.ops p.n cs m);
-          in_rows = to_space k p.n b.rows b_form.rows_in (combination k.ops p.n cs m) inside;
-          is = elem_over k p b.den den_some (combination k.ops p.n cs m);
+          numerator = read_row k (suc (p.n - 1)) (combination_list k.ops p.n cs m);
+          in_rows = to_space k p.n b.rows b_form.rows_in (combination_list k.ops p.n cs m) inside;
+          is = elem_over k p b.den den_some (combination_list k.ops p.n cs m);
         }))
       where
-        is : f (record { num = combination k.ops p.n (row_at basis 0) (one_row p.n b.den ∷ []); den = b.den })
+        is : f (record { num = combination_list k.ops p.n (row_at basis 0) (one_row p.n b.den ∷ []); den = b.den })
             ≡ of_poly (equation_of k p) (value k h)
         is =
             combination_function k p b.den den_some cs m cs_row.size cs_row.over m_in

@@ -6,7 +6,7 @@ use Rattle.ff_fields.specs.Over.{IsOver}
 use Rattle.ff_poly.specs.Words.{IsMonicList}
 use Rattle.ff_poly.specs.Value.{value}
 use Rattle.ff_poly.specs.Polynomials.{polynomials}
-use Rattle.ff_poly.specs.Popov.{IsRow, InRowSpan, combination, multiple_of_row}
+use Rattle.ff_poly.specs.Popov.{IsRow, InRowSpan, combination_list, multiple_of_row}
 use Rattle.ff_popov.proofs.Spans.{combination_row}
 use Rattle.function_field.specs.Values.{ElemValue, PresValue, IsElem, Functions, functions, function_of}
 use Rattle.ff_lattice.specs.Lattices.{LatticeValue, IsLatticeValue, Contains, row_elems}
@@ -48,10 +48,10 @@ module _ (k : CodeField) (p : PresValue) (l a : LatticeValue) (w : ElemValue) (l
   l_some = monic_value k l.den l_form.den_in l_form.den_poly l_form.monic
 
   abbrev times : List (List ℕ) → ElemValue
-  times z = record { num = combination k.ops p.n z rows; den = e }
+  times z = record { num = combination_list k.ops p.n z rows; den = e }
 
   abbrev own : List (List ℕ) → ElemValue
-  own z = record { num = combination k.ops p.n z l.rows; den = l.den }
+  own z = record { num = combination_list k.ops p.n z l.rows; den = l.den }
 
   times_is : (z : List (List ℕ)) → IsRow k.ops p.n z → f (times z) ≡ (functions k p).◌⊗◌ (f w) (f (own z))
   times_is z z_row =

@@ -18,7 +18,7 @@ use Rattle.ff_poly.specs.Words.{IsPoly, IsMonicList, shifted}
 use Rattle.ff_poly.specs.PolyOver.{IsPoly_poly_of}
 use Rattle.ff_poly.specs.Value.{value}
 use Rattle.ff_poly.specs.Polynomials.{Polynomial, polynomials, polynomials_domain, codes_of, IsOver_codes_of, IsPoly_codes_of, value_codes_of, value_nil, value_one, value_not_zero}
-use Rattle.ff_poly.specs.Popov.{row_at, entry_at, IsRow, IsPivot, IsPopovMatrix, HaveSameRowSpan, HasMultipleInRows, HasFullRankMatrix, combination, multiple_of_row}
+use Rattle.ff_poly.specs.Popov.{row_at, entry_at, IsRow, IsPivot, IsPopovMatrix, HaveSameRowSpan, HasMultipleInRows, HasFullRankMatrix, combination_list, multiple_of_row}
 use Rattle.popov_theory.specs.Module.{PolynomialModule}
 use Rattle.popov_theory.specs.Span as theory
 use Rattle.popov_theory.specs.Popov as forms
@@ -300,7 +300,7 @@ module _ (k : CodeField) where
         (λ i less. entry_read k (suc (r - 1)) i z (omega (arith, less, ms_length, r_is)))
 
     φ_read : (z : List (List ℕ)) → IsRow k.ops r z
-        → φ (read_row k (suc (r - 1)) z) ≡ read_row k (suc (c - 1)) (combination k.ops c z m)
+        → φ (read_row k (suc (r - 1)) z) ≡ read_row k (suc (c - 1)) (combination_list k.ops c z m)
     φ_read z z_row = φ_codes z ∙ sym (combination_read k c z m (z_row.size ∙ sym m_size) z_row.over m_in)
 
     φ_unit : (i : ℕ) → i < r → φ (M.unit i) ≡ read_row k (suc (c - 1)) (row_at m i)
@@ -456,7 +456,8 @@ module _ (k : CodeField) where
           codes_multiple v v_row f.factor f.some f.in_span;
     }
 
-    module _ (rows : List (List (List ℕ))) (rows_in : All (IsRow k.ops (r + c)) rows) (popov : IsPopovMatrix (r + c) rows)
+    module _ (rows : List (List (List ℕ))) (rows_in : All (IsRow k.ops (r + c)) rows) (popov : IsPopovMatrix
+        (r + c) rows)
         (span : HaveSameRowSpan k.ops (r + c) gs rows) where
       abbrev Ps : List (Row (Polynomial k) (suc (r - 1)) × Row (Polynomial k) (suc (c - 1)))
       Ps = move (read_rows k (r + c) rows)
@@ -680,7 +681,7 @@ module _ (k : CodeField) where
           members = λ z z_row z_poly.
               let size = z_row.size ∙ sym m_size in (
                 λ z_in.
-                    from_space k c ls ls_in (combination k.ops c z m) (combination_row k c z m z_row.over m_in)
+                    from_space k c ls ls_in (combination_list k.ops c z m) (combination_row k c z m z_row.over m_in)
                     (combination_poly k c z m size z_row.over)
                     (subst (theory.InSpan N ls') (φ_read z z_row)
                     (kernel_in M N (code_field k) φ linear ls' t cancel Ps p_popov left right right_zero
@@ -692,6 +693,6 @@ module _ (k : CodeField) where
                     (kernel_all M N (code_field k) φ linear ls' t cancel Ps p_popov left right right_zero
                     (read_row k (suc (r - 1)) z)
                     (subst (theory.InSpan N ls') (sym (φ_read z z_row))
-                    (to_space k c ls ls_in (combination k.ops c z m) zm_in)))),
+                    (to_space k c ls ls_in (combination_list k.ops c z m) zm_in)))),
               );
         }

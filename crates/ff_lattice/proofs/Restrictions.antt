@@ -16,7 +16,7 @@ use Rattle.ff_poly.specs.Value.{value, value_product}
 use Rattle.ff_poly.specs.PolyOver.{IsOver_product_of}
 use Rattle.ff_poly.proofs.Parts.{IsPoly_product_of}
 use Rattle.ff_poly.specs.Polynomials.{Polynomial, polynomials, codes_of, IsOver_codes_of, IsPoly_codes_of, value_codes_of}
-use Rattle.ff_poly.specs.Popov.{row_at, entry_at, IsRow, InRowSpan, combination, HasFullRankMatrix}
+use Rattle.ff_poly.specs.Popov.{row_at, entry_at, IsRow, InRowSpan, combination_list, HasFullRankMatrix}
 use Rattle.popov_theory.specs.Module.{PolynomialModule}
 use Rattle.popov_theory.specs.Span as theory
 use Rattle.popov_theory.proofs.Span.{span_row}
@@ -140,25 +140,25 @@ module _ (k : CodeField) (p : PresValue) where
     M = row_space k p.n
 
     abbrev made : List (List (List ℕ))
-    made = map (λ z. combination k.ops p.n z l.rows) basis
+    made = map (λ z. combination_list k.ops p.n z l.rows) basis
 
     abbrev W : Functions k p
     W = function_of k p w
 
     abbrev fun : List (List ℕ) → Functions k p
-    fun z = function_of k p (record { num = combination k.ops p.n z l.rows; den = l.den })
+    fun z = function_of k p (record { num = combination_list k.ops p.n z l.rows; den = l.den })
 
     -- a combination of the rows is in the lattice
     combined_in : (z : List (List ℕ)) → IsRow k.ops p.n z → Contains k p l (fun z)
     combined_in z z_row =
         (in_span_of k p l.den den_some l.rows (fun z)).1
         (record {
-          numerator = read_row k n (combination k.ops p.n z l.rows);
+          numerator = read_row k n (combination_list k.ops p.n z l.rows);
           in_rows = record {
             coefficients = λ i. value k (entry_at z i);
             is = combination_read k p.n z l.rows (z_row.size ∙ sym l_form.popov.size) z_row.over l_form.rows_in;
           };
-          is = elem_over k p l.den den_some (combination k.ops p.n z l.rows);
+          is = elem_over k p l.den den_some (combination_list k.ops p.n z l.rows);
         })
 
     basis_poly : All (All IsPoly) basis
@@ -177,10 +177,11 @@ module _ (k : CodeField) (p : PresValue) where
 
     all_functions : (N : Functions k p → Type 0) (zs : List (List (List ℕ)))
         → ((i : ℕ) → i < length zs → N (fun (row_at zs i)))
-        → All N (map (function_of k p) (elems_over (map (λ z. combination k.ops p.n z l.rows) zs) l.den))
+        → All N (map (function_of k p) (elems_over (map (λ z. combination_list k.ops p.n z l.rows) zs) l.den))
     all_functions N [] h = All-nil N
     all_functions N (z ∷ zs) h =
-        All-cons N (fun z) (map (function_of k p) (elems_over (map (λ z. combination k.ops p.n z l.rows) zs) l.den))
+        All-cons N (fun z) (map (function_of k p) (elems_over (map
+        (λ z. combination_list k.ops p.n z l.rows) zs) l.den))
         (h 0 (omega arith))
         (all_functions N zs (λ i less. h (suc i) (omega (arith, less))))
 
@@ -196,13 +197,13 @@ module _ (k : CodeField) (p : PresValue) where
     kept_from z (z_in, wz_in) =
         (in_span_of k p l.den den_some made z).1
         (record {
-          numerator = read_row k n (combination k.ops p.n cs l.rows);
+          numerator = read_row k n (combination_list k.ops p.n cs l.rows);
           in_rows =
               subst (theory.InSpan M (read_rows k p.n made))
               (apply_read k p.n l.rows l_form.popov.size positive l_form.rows_in cs cs_row)
               (image_in k p.n l.rows l_form.popov.size positive l_form.rows_in basis kept.rows_in (read_row k n cs)
               (to_space k p.n basis kept.rows_in cs in_basis));
-          is = z_is ∙ elem_over k p l.den den_some (combination k.ops p.n cs l.rows);
+          is = z_is ∙ elem_over k p l.den den_some (combination_list k.ops p.n cs l.rows);
         })
       where
         m : Member (equation_of k p) (value k l.den) den_some (read_rows k p.n l.rows) z
@@ -223,7 +224,7 @@ module _ (k : CodeField) (p : PresValue) where
         cs_poly = listed_all IsPoly p.n (λ i. codes_of k (m.in_rows.coefficients i))
             (λ i. IsPoly_codes_of k (m.in_rows.coefficients i))
 
-        same : read_row k n (combination k.ops p.n cs l.rows) ≡ m.numerator
+        same : read_row k n (combination_list k.ops p.n cs l.rows) ≡ m.numerator
         same =
             combination_read k p.n cs l.rows (cs_row.size ∙ sym l_form.popov.size) cs_row.over l_form.rows_in
             ∙ combine_same k p.n M (read_rows k p.n l.rows) (λ i. value k (entry_at cs i)) m.in_rows.coefficients
@@ -234,41 +235,43 @@ module _ (k : CodeField) (p : PresValue) where
             ∙ sym m.in_rows.is
 
         z_is : z ≡ fun cs
-        z_is = m.is ∙ sym (elem_over k p l.den den_some (combination k.ops p.n cs l.rows)
+        z_is = m.is ∙ sym (elem_over k p l.den den_some (combination_list k.ops p.n cs l.rows)
             ∙ ap (λ v. over c v D den_some) same)
 
         in_basis : InRowSpan k.ops p.n basis cs
         in_basis = (kept.members cs cs_row cs_poly).1 (subst (λ y. Contains k p a (F.◌⊗◌ W y)) z_is wz_in)
 
     pub kept_iff : (z : Functions k p) → InSpanOf k p
-        (elems_over (map (λ z. combination k.ops p.n z l.rows) basis) l.den) z
+        (elems_over (map (λ z. combination_list k.ops p.n z l.rows) basis) l.den) z
         ↔ Both (Contains k p l) (Contains k p a) (function_of k p w) z
     kept_iff z = (kept_to z, kept_from z)
 
-    pub made_rows : All (IsRow k.ops p.n) (map (λ z. combination k.ops p.n z l.rows) basis)
+    pub made_rows : All (IsRow k.ops p.n) (map (λ z. combination_list k.ops p.n z l.rows) basis)
     made_rows = go basis kept.rows_in
       where
         go : (zs : List (List (List ℕ))) → All (IsRow k.ops p.n) zs
-            → All (IsRow k.ops p.n) (map (λ z. combination k.ops p.n z l.rows) zs)
+            → All (IsRow k.ops p.n) (map (λ z. combination_list k.ops p.n z l.rows) zs)
         go [] h = All-nil (IsRow k.ops p.n)
         go (z ∷ zs) h =
-            All-cons (IsRow k.ops p.n) (combination k.ops p.n z l.rows) (map (λ z. combination k.ops p.n z l.rows) zs)
+            All-cons (IsRow k.ops p.n) (combination_list k.ops p.n z l.rows) (map
+            (λ z. combination_list k.ops p.n z l.rows) zs)
             (combination_row k p.n z l.rows (All-head (IsRow k.ops p.n) z zs h).over l_form.rows_in)
             (go zs (All-tail (IsRow k.ops p.n) z zs h))
 
-    pub made_poly : All (All IsPoly) (map (λ z. combination k.ops p.n z l.rows) basis)
+    pub made_poly : All (All IsPoly) (map (λ z. combination_list k.ops p.n z l.rows) basis)
     made_poly = go basis kept.rows_in
       where
         go : (zs : List (List (List ℕ))) → All (IsRow k.ops p.n) zs
-            → All (All IsPoly) (map (λ z. combination k.ops p.n z l.rows) zs)
+            → All (All IsPoly) (map (λ z. combination_list k.ops p.n z l.rows) zs)
         go [] h = All-nil (All IsPoly)
         go (z ∷ zs) h =
             let row = All-head (IsRow k.ops p.n) z zs h in
-            All-cons (All IsPoly) (combination k.ops p.n z l.rows) (map (λ z. combination k.ops p.n z l.rows) zs)
+            All-cons (All IsPoly) (combination_list k.ops p.n z l.rows) (map
+            (λ z. combination_list k.ops p.n z l.rows) zs)
             (combination_poly k p.n z l.rows (row.size ∙ sym l_form.popov.size) row.over)
             (go zs (All-tail (IsRow k.ops p.n) z zs h))
 
-    pub made_rank : HasFullRankMatrix k.ops p.n (map (λ z. combination k.ops p.n z l.rows) basis)
+    pub made_rank : HasFullRankMatrix k.ops p.n (map (λ z. combination_list k.ops p.n z l.rows) basis)
     made_rank =
         rank_of_full k p l.den den_some made made_rows
         (full_within k p (Both (Contains k p l) (Contains k p a) W) (InSpanOf k p (elems_over made l.den)) kept_from

@@ -15,7 +15,7 @@ use Rattle.ff_fields.specs.Code.{code_ring}
 use Rattle.ff_fields.specs.Over.{IsOver}
 use Rattle.ff_poly.specs.Value.{value}
 use Rattle.ff_poly.specs.Polynomials.{Polynomial, polynomials}
-use Rattle.ff_poly.specs.Popov.{entry_at, IsRow, multiple_of_row, combination}
+use Rattle.ff_poly.specs.Popov.{entry_at, IsRow, multiple_of_row, combination_list}
 use Rattle.popov_theory.specs.Module.{PolynomialModule}
 use Rattle.popov_theory.specs.Span.{combine}
 use Rattle.popov_theory.specs.Span as theory
@@ -99,10 +99,10 @@ module _ (k : CodeField) (p : PresValue) where
     -- a combination of rows over the denominator is the combination of the functions
     pub combination_function : (cs : List (List ℕ)) (rows : List (List (List ℕ))) → length cs ≡ length rows
         → All (IsOver k.ops) cs → All (IsRow k.ops p.n) rows
-        → function_of k p (record { num = combination k.ops p.n cs rows; den = den })
+        → function_of k p (record { num = combination_list k.ops p.n cs rows; den = den })
         ≡ lin c (λ i. value k (entry_at cs i)) (map (function_of k p) (elems_over rows den))
     combination_function cs rows size cs_in rows_in =
-        elem_over k p den some (combination k.ops p.n cs rows)
+        elem_over k p den some (combination_list k.ops p.n cs rows)
         ∙ ap (λ v. over c v (value k den) some) (combination_read k p.n cs rows size cs_in rows_in)
         ∙ over_combine (read_rows k p.n rows) (λ i. value k (entry_at cs i))
         ∙ ap (lin c (λ i. value k (entry_at cs i))) (sym (elems_functions k p den some rows))
@@ -114,8 +114,8 @@ module _ (k : CodeField) (p : PresValue) where
       → All (IsRow k.ops p.n) rows'
       → map (function_of k p) (elems_over rows' den')
       ≡ map ((functions k p).◌⊗◌ w) (map (function_of k p) (elems_over rows den))
-      → function_of k p (record { num = combination k.ops p.n cs rows'; den = den' })
-      ≡ (functions k p).◌⊗◌ w (function_of k p (record { num = combination k.ops p.n cs rows; den = den }))
+      → function_of k p (record { num = combination_list k.ops p.n cs rows'; den = den' })
+      ≡ (functions k p).◌⊗◌ w (function_of k p (record { num = combination_list k.ops p.n cs rows; den = den }))
   combination_times cs rows rows' den den' w some some' size size' cs_in rows_in rows_in' is =
       combination_function den' some' cs rows' size' cs_in rows_in'
       ∙ ap (lin c (λ i. value k (entry_at cs i))) is
@@ -125,23 +125,23 @@ module _ (k : CodeField) (p : PresValue) where
 -- the combination of multiples is the multiple of the combination
 pub combination_multiples : (k : CodeField) (n : ℕ) (g : List ℕ) (cs : List (List ℕ)) (rows : List (List (List ℕ)))
     → IsOver k.ops g → length cs ≡ length rows → All (IsOver k.ops) cs → All (IsRow k.ops n) rows
-    → combination k.ops n cs (map (multiple_of_row k.ops g) rows)
-    ≡ multiple_of_row k.ops g (combination k.ops n cs rows)
+    → combination_list k.ops n cs (map (multiple_of_row k.ops g) rows)
+    ≡ multiple_of_row k.ops g (combination_list k.ops n cs rows)
 combination_multiples k n g cs rows g_in size cs_in rows_in =
     let size' : length cs ≡ length (map (multiple_of_row k.ops g) rows) = size
     ∙ sym (length-map rows (multiple_of_row k.ops g)) in
     let rows_in' = multiples_in k n g rows g_in rows_in in
     let row = combination_row k n cs rows cs_in rows_in in
-    same_from_read k n (combination k.ops n cs (map (multiple_of_row k.ops g) rows))
-    (multiple_of_row k.ops g (combination k.ops n cs rows))
+    same_from_read k n (combination_list k.ops n cs (map (multiple_of_row k.ops g) rows))
+    (multiple_of_row k.ops g (combination_list k.ops n cs rows))
     (combination_row k n cs (map (multiple_of_row k.ops g) rows) cs_in rows_in')
-    (multiple_row k n g (combination k.ops n cs rows) g_in row)
+    (multiple_row k n g (combination_list k.ops n cs rows) g_in row)
     (combination_poly k n cs (map (multiple_of_row k.ops g) rows) size' cs_in)
-    (multiple_poly k g (combination k.ops n cs rows))
+    (multiple_poly k g (combination_list k.ops n cs rows))
     (combination_read k n cs (map (multiple_of_row k.ops g) rows) size' cs_in rows_in'
     ∙ ap (combine (row_space k n) (λ i. value k (entry_at cs i))) (read_multiples k n g rows g_in rows_in)
     ∙ combine_multiples (row_space k n) (value k g) (read_rows k n rows) (λ i. value k (entry_at cs i))
-    ∙ sym (space_multiple k n g (combination k.ops n cs rows) g_in row.over
+    ∙ sym (space_multiple k n g (combination_list k.ops n cs rows) g_in row.over
     ∙ ap ((row_space k n).◌·◌ (value k g)) (combination_read k n cs rows size cs_in rows_in)))
 
 -- z·rows, as a map of rows
@@ -173,7 +173,7 @@ module _ (k : CodeField) (n : ℕ) (rows : List (List (List ℕ))) (size : lengt
   }
 
   pub apply_read : (z : List (List ℕ)) → IsRow k.ops n z
-      → apply (read_row k (suc (n - 1)) z) ≡ read_row k (suc (n - 1)) (combination k.ops n z rows)
+      → apply (read_row k (suc (n - 1)) z) ≡ read_row k (suc (n - 1)) (combination_list k.ops n z rows)
   unfolding apply
   apply_read z z_row =
       combine_same k n N rs (λ i. entry (polynomials k).ops (suc (n - 1)) i (read_row k (suc (n - 1)) z))
@@ -189,7 +189,7 @@ module _ (k : CodeField) (n : ℕ) (rows : List (List (List ℕ))) (size : lengt
       zero_scale' v = zero_scale (row_space k n) v
 
   images : (basis : List (List (List ℕ))) → All (IsRow k.ops n) basis
-      → map apply (read_rows k n basis) ≡ read_rows k n (map (λ z. combination k.ops n z rows) basis)
+      → map apply (read_rows k n basis) ≡ read_rows k n (map (λ z. combination_list k.ops n z rows) basis)
   images [] basis_in = refl
   images (b ∷ basis) basis_in = ap₂ ◌∷◌ (apply_read b (All-head (IsRow k.ops n) b basis basis_in))
       (images basis (All-tail (IsRow k.ops n) b basis basis_in))
@@ -197,7 +197,7 @@ module _ (k : CodeField) (n : ℕ) (rows : List (List (List ℕ))) (size : lengt
   -- what a member of the span of the basis combines to is in the span of the combinations
   pub image_in : (basis : List (List (List ℕ))) → All (IsRow k.ops n) basis → (v : Row (Polynomial k) (suc (n - 1)))
       → theory.InSpan N (read_rows k n basis) v
-      → theory.InSpan N (read_rows k n (map (λ z. combination k.ops n z rows) basis)) (apply v)
+      → theory.InSpan N (read_rows k n (map (λ z. combination_list k.ops n z rows) basis)) (apply v)
   image_in basis basis_in v h = record {
     coefficients = h.coefficients;
     is = ap apply h.is ∙ linear_combine N N apply apply_linear apply_zero (read_rows k n basis) h.coefficients

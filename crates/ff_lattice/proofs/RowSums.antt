@@ -5,7 +5,7 @@ use Rattle.std.proofs.lemmas.List.Elements.{All-tail}
 use Rattle.ff_fields.specs.Field.{FieldOps, CodeField}
 use Rattle.ff_fields.specs.Over.{IsOver}
 use Rattle.ff_poly.specs.Words.{sum_of, product_of}
-use Rattle.ff_poly.specs.Popov.{row_at, entry_at, IsRow, sum_of_rows, multiple_of_row, combination}
+use Rattle.ff_poly.specs.Popov.{row_at, entry_at, IsRow, sum_of_rows, multiple_of_row, combination_list}
 use Rattle.ff_popov.proofs.Spans.{combination_row}
 use Rattle.ff_popov.proofs.Entries.{any_default}
 use Rattle.ff_lattice.proofs.SumsAndProducts.{map_join}
@@ -38,9 +38,9 @@ module _ (k : FieldOps) where
   -- the combination of the rows from one position on
   pub combination_step : (n : ℕ) (cs : List (List ℕ)) (rows : List (List (List ℕ))) (i : ℕ) → i < length cs
       → i < length rows
-      → combination k n (drop i cs) (drop i rows)
+      → combination_list k n (drop i cs) (drop i rows)
       ≡ sum_of_rows k (multiple_of_row k (entry_at cs i) (row_at rows i))
-      (combination k n (drop (suc i) cs) (drop (suc i) rows))
+      (combination_list k n (drop (suc i) cs) (drop (suc i) rows))
   combination_step n [] rows i less less' = absurd (omega (arith, less))
   combination_step n (c ∷ cs) [] i less less' = absurd (omega (arith, less'))
   combination_step n (c ∷ cs) (r ∷ rows) zero less less' = refl
@@ -51,9 +51,9 @@ module _ (k : FieldOps) where
   pub total_step : (n len i : ℕ) (cs : List (List ℕ)) (rows : List (List (List ℕ))) (c : List ℕ)
       (v total new : List (List ℕ)) → length cs ≡ len → length rows ≡ len → i < len
       → c ≡ get_or cs (len - 1 - i) c → v ≡ row_at rows (len - 1 - i)
-      → total ≡ combination k n (drop (len - i) cs) (drop (len - i) rows)
+      → total ≡ combination_list k n (drop (len - i) cs) (drop (len - i) rows)
       → new ≡ sum_of_rows k (multiple_of_row k c v) total
-      → new ≡ combination k n (drop (len - (i + 1)) cs) (drop (len - (i + 1)) rows)
+      → new ≡ combination_list k n (drop (len - (i + 1)) cs) (drop (len - (i + 1)) rows)
   total_step n len i cs rows c v total new cs_size rows_size less c_is v_is total_is new_is =
       let j : ℕ = len - 1 - i in
       let position : len - 1 - i ≡ len - (i + 1) = omega arith in
@@ -63,9 +63,9 @@ module _ (k : FieldOps) where
       new_is
       ∙ ap₂ (λ a u. sum_of_rows k (multiple_of_row k a u) total) entry v_is
       ∙ ap (sum_of_rows k (multiple_of_row k (entry_at cs (len - 1 - i)) (row_at rows (len - 1 - i))))
-      (total_is ∙ ap (λ m. combination k n (drop m cs) (drop m rows)) next)
+      (total_is ∙ ap (λ m. combination_list k n (drop m cs) (drop m rows)) next)
       ∙ sym (combination_step n cs rows (len - 1 - i) (omega (arith, less, cs_size)) (omega (arith, less, rows_size)))
-      ∙ ap (λ m. combination k n (drop m cs) (drop m rows)) position
+      ∙ ap (λ m. combination_list k n (drop m cs) (drop m rows)) position
 
 all_drop : {X : Type 0} (P : X → Type 0) (i : ℕ) (xs : List X) → All P xs → All P (drop i xs)
 all_drop P zero xs h = h
@@ -74,6 +74,6 @@ all_drop P (suc i) (x ∷ xs) h = all_drop P i xs (All-tail P x xs h)
 
 -- a combination of last rows is a row of the width
 pub last_row : (k : CodeField) (n i : ℕ) (cs : List (List ℕ)) (rows : List (List (List ℕ))) → All (IsOver k.ops) cs
-    → All (IsRow k.ops n) rows → IsRow k.ops n (combination k.ops n (drop i cs) (drop i rows))
+    → All (IsRow k.ops n) rows → IsRow k.ops n (combination_list k.ops n (drop i cs) (drop i rows))
 last_row k n i cs rows cs_in rows_in = combination_row k n (drop i cs) (drop i rows)
     (all_drop (IsOver k.ops) i cs cs_in) (all_drop (IsRow k.ops n) i rows rows_in)

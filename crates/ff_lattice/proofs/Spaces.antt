@@ -18,7 +18,7 @@ use Rattle.ff_fields.specs.Over.{IsOver, IsOver_append, IsOver_zeros}
 use Rattle.ff_poly.specs.Words.{IsPoly, poly_of, shifted}
 use Rattle.ff_poly.specs.Value.{value, series_value}
 use Rattle.ff_poly.specs.Polynomials.{Polynomial, polynomials, codes_of, IsOver_codes_of, IsPoly_codes_of, value_codes_of, value_nil, value_one, value_cons, x_poly, series_read, constant_poly}
-use Rattle.ff_poly.specs.Popov.{row_at, IsRow, InRowSpan, HaveSameRowSpan, combination}
+use Rattle.ff_poly.specs.Popov.{row_at, IsRow, InRowSpan, HaveSameRowSpan, combination_list}
 use Rattle.popov_theory.specs.Module.{PolynomialModule}
 use Rattle.popov_theory.specs.Span as theory
 use Rattle.popov_theory.specs.Span.{combine}
@@ -151,7 +151,7 @@ module _ (k : CodeField) where
     }
 
     pub combination_poly : (cs : List (List ℕ)) (rows : List (List (List ℕ))) → length cs ≡ length rows
-        → All (IsOver k.ops) cs → All IsPoly (combination k.ops w cs rows)
+        → All (IsOver k.ops) cs → All IsPoly (combination_list k.ops w cs rows)
     combination_poly cs rows size cs_in =
-        member_poly k w rows (combination k.ops w cs rows)
+        member_poly k w rows (combination_list k.ops w cs rows)
         (record { coefficients = cs; is = record { size = size; over = cs_in; is = refl } })

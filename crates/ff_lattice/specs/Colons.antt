@@ -3,7 +3,7 @@
 use Rattle.std.specs.Prelude.{ℕ, ◌↔◌, List, [], replicate, slice_set, All}
 use Rattle.ff_fields.specs.Field.{CodeField}
 use Rattle.ff_poly.specs.Words.{IsPoly}
-use Rattle.ff_poly.specs.Popov.{IsRow, IsPopovMatrix, InRowSpan, combination}
+use Rattle.ff_poly.specs.Popov.{IsRow, IsPopovMatrix, InRowSpan, combination_list}
 use Rattle.function_field.specs.Values.{ElemValue, PresValue, Functions, functions, function_of}
 use Rattle.ff_lattice.specs.Lattices.{LatticeValue, Contains}
 
@@ -23,4 +23,4 @@ pub record IsKept (k : CodeField) (p : PresValue) (l : LatticeValue) (w : ElemVa
   pub members : (c : List (List ℕ)) → IsRow k.ops p.n c → All IsPoly c
       → InRowSpan k.ops p.n basis c
       ↔ Contains k p a ((functions k p).◌⊗◌ (function_of k p w)
-      (function_of k p (record { num = combination k.ops p.n c l.rows; den = l.den })))
+      (function_of k p (record { num = combination_list k.ops p.n c l.rows; den = l.den })))

@@ -3,7 +3,7 @@ use Rattle.std.specs.Prelude.{◌≡◌, ℕ, zero, suc, ◌+◌, ◌-◌, ◌<�
 use Rattle.ff_fields.specs.Field.{FieldOps}
 use Rattle.ff_fields.specs.Over.{IsOver}
 use Rattle.ff_poly.specs.Words.{IsPoly, IsMonicList, DividesList, product_of, shifted}
-use Rattle.ff_poly.specs.Popov.{entry_at, row_at, IsRow, IsPopovMatrix, InRowSpan, HasMultipleInRows, combination, multiple_of_row}
+use Rattle.ff_poly.specs.Popov.{entry_at, row_at, IsRow, IsPopovMatrix, InRowSpan, HasMultipleInRows, combination_list, multiple_of_row}
 use Rattle.function_field.specs.Values.{ElemValue}
 use Rattle.ff_lattice.specs.Lattices.{LatticeValue, IsMultiplier}
 
@@ -39,7 +39,7 @@ pub record IsPreimage (k : FieldOps) (n width : ℕ) (m ls basis : List (List (L
   pub rows_in : All (IsRow k n) basis
   pub popov : IsPopovMatrix n basis
   pub members : (z : List (List ℕ)) → IsRow k n z → All IsPoly z
-      → InRowSpan k n basis z ↔ InRowSpan k width ls (combination k width z m)
+      → InRowSpan k n basis z ↔ InRowSpan k width ls (combination_list k width z m)
 
 -- each row of the width has a multiple in the lattice of the rows by a polynomial other than 0 of at most this length
 pub record HasShortMultiples (k : FieldOps) (width : ℕ) (rows : List (List (List ℕ))) (bound : ℕ) : Type 0 where

@@ -1,13 +1,13 @@
 //! The functions that take one lattice into another.
 
-ghost use Rattle.std.specs.Prelude.{◌≡◌, ◌≢◌, ◌↔◌, ◌≤◌, ◌<◌, length, map, All, IfOk};
+ghost use Rattle.std.specs.Prelude.{◌≡◌, ◌↔◌, ◌<◌, length, map, All, IfOk};
 ghost use Rattle.ff_fields.specs.Over.{IsOver};
-ghost use Rattle.ff_poly.specs.Words.{IsPoly, IsMonicList};
+ghost use Rattle.ff_poly.specs.Words.{IsMonicList};
 ghost use Rattle.ff_poly.specs.Value.{value};
-ghost use Rattle.ff_poly.specs.Popov.{rows_of, IsRow, IsPopovMatrix, sum_of_rows, multiple_of_row, combination};
+ghost use Rattle.ff_poly.specs.Popov.{rows_of, IsRow, sum_of_rows, multiple_of_row, combination_list};
 ghost use Rattle.function_field.specs.Functions.{of_poly};
 ghost use Rattle.function_field.specs.Values.{PresValue, IsPresOver, IsElem, Functions, functions, function_of, equation_of};
-ghost use Rattle.ff_lattice.specs.Lattices.{LatticeValue, IsLatticeValue, Contains, row_elems};
+ghost use Rattle.ff_lattice.specs.Lattices.{IsLatticeValue, Contains, row_elems};
 ghost use Rattle.ff_lattice.specs.Colons.{IsColon, IsKept, one_row};
 
 use crate::generators::{common_denominator, numerators};
@@ -56,7 +56,7 @@ fn combined<K: SmallField>(
     requires one_each { length coefficients.now ≡ length rows.now }
     requires coefficients_in { All (IsOver (K.field k.now).ops) coefficients.now }
     requires rows_in { All (IsRow (K.field k.now).ops n) (rows_of rows.now) }
-    ensures { IfOk result (λ v. v.items ≡ combination (K.field k.now).ops n coefficients.now (rows_of rows.now)) }
+    ensures { IfOk result (λ v. v.items ≡ combination_list (K.field k.now).ops n coefficients.now (rows_of rows.now)) }
 {
     let mut total = zero_row(alloc, n)?;
     let len = rows.len();
@@ -78,7 +78,8 @@ fn combinations<K: SmallField>(
     requires basis_in { All (IsRow (K.field k.now).ops (length rows.now)) (rows_of basis.now) }
     requires rows_in { All (IsRow (K.field k.now).ops n) (rows_of rows.now) }
     ensures { let k = (K.field k.now).ops in
-        IfOk result (λ out. rows_of out.items ≡ map (λ c. combination k n c (rows_of rows.now)) (rows_of basis.now)) }
+        IfOk result (λ out. rows_of out.items
+        ≡ map (λ c. combination_list k n c (rows_of rows.now)) (rows_of basis.now)) }
 {
     let mut out = Vec::new(alloc);
     for c in basis {

@@ -1,11 +1,11 @@
 //! Lattices from generators.
 
-ghost use Rattle.std.specs.Prelude.{◌≡◌, ◌≢◌, ◌↔◌, ◌≤◌, ◌<◌, [], ◌∷◌, length, All, IfOk, IsTrue};
+ghost use Rattle.std.specs.Prelude.{◌≡◌, ◌≢◌, ◌↔◌, ◌<◌, [], All, IfOk, IsTrue};
 ghost use Rattle.ff_fields.specs.Over.{IsOver};
 ghost use Rattle.ff_poly.specs.Words.{IsPoly, IsMonicList, DividesList};
-ghost use Rattle.ff_poly.specs.Popov.{rows_of, IsRow};
-ghost use Rattle.function_field.specs.Values.{ElemValue, PresValue, Functions, IsElem};
-ghost use Rattle.ff_lattice.specs.Lattices.{LatticeValue, IsLatticeValue, Contains, InSpanOf, IsFullLattice, IsSpannedBy};
+ghost use Rattle.ff_poly.specs.Popov.{rows_of};
+ghost use Rattle.function_field.specs.Values.{Functions, IsElem};
+ghost use Rattle.ff_lattice.specs.Lattices.{IsLatticeValue, Contains, InSpanOf, IsFullLattice};
 ghost use Rattle.ff_lattice.specs.Steps.{IsCommonMultiple, IsExpanded};
 ghost use Rattle.ff_lattice.specs.declared.generators.LatticeFault.{LatticeFault};
 ghost use Rattle.ff_lattice.specs.declared.generators.LatticeFault.TheVariants.{NotFull, Memory};

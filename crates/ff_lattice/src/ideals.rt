@@ -1,8 +1,8 @@
 //! Which lattices are ideals of an order.
 
-ghost use Rattle.std.specs.Prelude.{◌≡◌, ◌↔◌, ◌≤◌, All, IfOk, IsTrue};
-ghost use Rattle.function_field.specs.Values.{PresValue, IsPresOver, Functions, functions, function_of};
-ghost use Rattle.ff_lattice.specs.Lattices.{LatticeValue, IsLatticeValue, Contains, row_elems};
+ghost use Rattle.std.specs.Prelude.{◌↔◌, All, IfOk, IsTrue};
+ghost use Rattle.function_field.specs.Values.{IsPresOver, function_of};
+ghost use Rattle.ff_lattice.specs.Lattices.{IsLatticeValue, Contains, row_elems};
 ghost use Rattle.ff_lattice.specs.Orders.{IsOrderLattice, TakesRowsIn};
 ghost use Rattle.ff_lattice.specs.Quotients.{IsIdealLattice};
 

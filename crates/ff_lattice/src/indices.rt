@@ -1,10 +1,10 @@
 //! Indices of lattices and dimensions of quotients, by pivot degrees.
 
 ghost use Rattle.std.specs.Prelude.{◌≡◌, ◌↔◌, ◌≤◌, ℕ, pos, ◌-ℤ◌};
-ghost use Rattle.function_field.specs.Values.{PresValue, Functions, equation_of};
-ghost use Rattle.ff_lattice.specs.Lattices.{LatticeValue, IsLatticeValue, Contains, pivot_degree_of};
+ghost use Rattle.function_field.specs.Values.{Functions, equation_of};
+ghost use Rattle.ff_lattice.specs.Lattices.{IsLatticeValue, Contains, pivot_degree_of};
 ghost use Rattle.function_field.specs.Indices.{HasIndex};
-ghost use Rattle.ff_lattice.specs.Quotients.{QuotientValue, IsQuotient, dimension};
+ghost use Rattle.ff_lattice.specs.Quotients.{IsQuotient, dimension};
 
 use crate::lattice::Lattice;
 use crate::quotient::Quotient;

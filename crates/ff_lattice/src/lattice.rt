@@ -1,6 +1,6 @@
 //! The lattices: rows in Popov form over a denominator.
 
-ghost use Rattle.std.specs.Prelude.{◌≡◌, ◌≢◌, ℕ, ◌<◌, ◌≤◌, length, All, IfOk, IfSome, MatchOption, slice_get, Some};
+ghost use Rattle.std.specs.Prelude.{◌≡◌, ℕ, ◌<◌, length, All, IfOk, IfSome, MatchOption, slice_get, Some};
 ghost use Rattle.ff_fields.specs.Field.{FieldOps};
 ghost use Rattle.ff_fields.specs.Over.{IsOver};
 ghost use Rattle.ff_poly.specs.Words.{IsPoly, IsMonicList};
@@ -118,7 +118,8 @@ pub(crate) fn from_rows<K: SmallField>(
     requires rows_poly { All (All IsPoly) (rows_of rows.items) }
     requires e_in { IsOver (K.field k.now).ops e.now }
     requires e_monic { IsMonicList e.now }
-    ensures form { IfOk result (λ found. MatchOption found (¬ HasFullRankMatrix (K.field k.now).ops n (rows_of rows.items))
+    ensures form { IfOk result (λ found. MatchOption found (¬ HasFullRankMatrix (K.field k.now).ops n
+        (rows_of rows.items))
         (IsLatticeValue (K.field k.now).ops n)) }
     ensures members { IfOk result (λ found. IfSome found
         (IsSpannedBy (K.field k.now) n (elems_over (rows_of rows.items) e.now))) }

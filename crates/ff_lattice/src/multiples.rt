@@ -3,7 +3,7 @@
 ghost use Rattle.std.specs.Prelude.{◌≡◌, ◌≢◌, ◌↔◌, ◌≤◌, [], length, IfOk};
 ghost use Rattle.ff_fields.specs.Over.{IsOver};
 ghost use Rattle.function_field.specs.Values.{PresValue, Functions};
-ghost use Rattle.ff_lattice.specs.Lattices.{LatticeValue, IsLatticeValue, Contains, IsScaled};
+ghost use Rattle.ff_lattice.specs.Lattices.{IsLatticeValue, Contains, IsScaled};
 
 use crate::lattice::{Lattice, from_rows};
 use crate::rows::multiple_rows;

@@ -1,10 +1,9 @@
 //! Sums, products and multiples of lattices.
 
-ghost use Rattle.std.specs.Prelude.{◌≡◌, ◌≢◌, ◌↔◌, ◌≤◌, ℕ, [], ◌++◌, length, map, take, All, IfOk, OnOk, OnErr};
+ghost use Rattle.std.specs.Prelude.{◌≡◌, ◌↔◌, ℕ, ◌++◌, map, take, All, IfOk, OnOk, OnErr};
 ghost use Rattle.ring_theory.specs.Subsets.{Product};
-ghost use Rattle.ff_fields.specs.Over.{IsOver};
-ghost use Rattle.function_field.specs.Values.{PresValue, IsPresOver, IsElem, Functions, functions, function_of};
-ghost use Rattle.ff_lattice.specs.Lattices.{LatticeValue, IsLatticeValue, Contains, InSpanOf, IsFullLattice, IsSumOfMembers, row_elems};
+ghost use Rattle.function_field.specs.Values.{IsPresOver, IsElem, Functions, functions, function_of};
+ghost use Rattle.ff_lattice.specs.Lattices.{IsLatticeValue, Contains, InSpanOf, IsFullLattice, IsSumOfMembers, row_elems};
 
 use crate::generators::LatticeFault;
 use crate::lattice::Lattice;

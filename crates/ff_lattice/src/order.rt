@@ -1,12 +1,12 @@
 //! Orders: the lattices that are rings.
 
-ghost use Rattle.std.specs.Prelude.{◌≡◌, ◌↔◌, ◌≤◌, ◌<◌, [], ◌∷◌, length, All, IfOk, IfSome, IsSome, IsTrue};
+ghost use Rattle.std.specs.Prelude.{◌≡◌, ◌↔◌, ◌≤◌, ◌<◌, [], ◌∷◌, All, IfOk, IfSome, IsSome, IsTrue};
 ghost use Rattle.ff_fields.specs.Over.{IsOver};
 ghost use Rattle.ff_poly.specs.Words.{IsPoly};
 ghost use Rattle.ff_poly.specs.Value.{value};
 ghost use Rattle.function_field.specs.Functions.{of_poly};
 ghost use Rattle.function_field.specs.Values.{PresValue, IsPresOver, IsElem, IsMonicElem, Functions, functions, function_of, equation_of};
-ghost use Rattle.ff_lattice.specs.Lattices.{LatticeValue, IsLatticeValue, Contains, row_elems};
+ghost use Rattle.ff_lattice.specs.Lattices.{LatticeValue, IsLatticeValue, row_elems};
 ghost use Rattle.ff_lattice.specs.Orders.{IsOrderLattice, IsOrderByRows, TakesRowsIn};
 ghost use Rattle.ff_lattice.specs.Steps.{unit_row};
 

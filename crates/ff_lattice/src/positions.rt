@@ -1,6 +1,6 @@
 //! The codes of a row modulo an ideal, position by position.
 
-ghost use Rattle.std.specs.Prelude.{◌≡◌, ◌+◌, ◌-◌, ◌*◌, ◌^◌, ◌<◌, ◌≤◌, ℕ, suc, [], length, get_or, drop, max, replicate, All, IfOk, OnOk};
+ghost use Rattle.std.specs.Prelude.{◌≡◌, ◌+◌, ◌-◌, ◌*◌, ◌^◌, ◌<◌, ◌≤◌, suc, [], length, get_or, drop, max, replicate, All, IfOk, OnOk};
 ghost use Rattle.ff_fields.specs.Over.{IsOver};
 ghost use Rattle.ff_poly.specs.Popov.{rows_of, entry_at, row_at, longest, IsRow, IsPopovMatrix};
 ghost use Rattle.ff_lattice.specs.PositionLists.{pivot_length, row_less, code_count, codes_below, spread_onto, IsDeepest, IsReadDown, IsSpreadDown};

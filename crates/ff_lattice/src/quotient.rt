@@ -1,13 +1,13 @@
 //! Quotients of orders by ideals, as finite algebras.
 
-ghost use Rattle.std.specs.Prelude.{◌≡◌, ◌↔◌, ◌≤◌, ◌<◌, ◌*◌, [], length, map, replicate, All, IfOk};
+ghost use Rattle.std.specs.Prelude.{◌≡◌, ◌↔◌, ◌<◌, length, map, All, IfOk};
 ghost use Rattle.ff_fields.specs.Over.{IsOver};
 ghost use Rattle.ff_poly.specs.Polynomials.{x_poly};
 ghost use Rattle.ff_poly.specs.Popov.{rows_of, IsRow, IsPopovMatrix};
 ghost use Rattle.function_field.specs.Functions.{of_poly};
-ghost use Rattle.function_field.specs.Values.{PresValue, IsPres, IsPresOver, Functions, functions, function_of, equation_of, IsElem, IsMonicElem};
+ghost use Rattle.function_field.specs.Values.{IsPres, IsPresOver, Functions, functions, function_of, equation_of, IsElem};
 ghost use Rattle.ff_falg.specs.Algebras.{IsVector};
-ghost use Rattle.ff_lattice.specs.Lattices.{LatticeValue, IsLatticeValue, Contains, InSpanOf, elems_over};
+ghost use Rattle.ff_lattice.specs.Lattices.{IsLatticeValue, Contains, InSpanOf, elems_over};
 ghost use Rattle.ff_lattice.specs.Orders.{IsOrderLattice};
 ghost use Rattle.ff_lattice.specs.Quotients.{QuotientValue, IsQuotient, IsQuotientOver, IsClassOf, IsRowOf, IsRowsOf, IsIdealLattice, AreCodesOf, AreRowProducts, AreProducts, HasClasses, dimension, lifted, class_algebra, spread};
 

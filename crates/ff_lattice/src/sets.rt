@@ -1,9 +1,9 @@
 //! Members of lattices, and when two lattices are the same.
 
-ghost use Rattle.std.specs.Prelude.{◌≡◌, ◌↔◌, ◌≤◌, length, All, IfOk, IsTrue};
+ghost use Rattle.std.specs.Prelude.{◌≡◌, ◌↔◌, ◌≤◌, length, IfOk, IsTrue};
 ghost use Rattle.ff_poly.specs.Popov.{rows_of};
 ghost use Rattle.function_field.specs.Values.{PresValue, Functions, IsElem, function_of};
-ghost use Rattle.ff_lattice.specs.Lattices.{LatticeValue, IsLatticeValue, Contains};
+ghost use Rattle.ff_lattice.specs.Lattices.{IsLatticeValue, Contains};
 
 use crate::lattice::Lattice;
 use crate::rows::{multiple_row, multiple_rows};

@@ -11,7 +11,7 @@ use Rattle.ring_lemmas.specs.Ring.{CommRing}
 use Rattle.ring_lemmas.specs.Lists.{coeff_of, add_lists, scale_list}
 use Rattle.ring_lemmas.proofs.Lists.{coeff_add, coeff_scale, length_add_lists, length_scale_list}
 use Rattle.linear_theory.specs.Module.{combine, combination, sequence_ops}
-use Rattle.linear_theory.specs.Echelon.{row, rows_of, InRowSpace}
+use Rattle.linear_theory.specs.Echelon.{row, rows_as_sequences, InRowSpace}
 use Rattle.linear_theory.proofs.Combination.{sequences, combine_cong, combine_none}
 use Rattle.linear_theory.proofs.Echelon.{list_ext}
 use Rattle.linear_theory.proofs.EchelonBasis.{cut, coeff_cut, length_cut}
@@ -20,7 +20,7 @@ use Rattle.linear_theory.proofs.SameRows.{reduced_across}
 use Rattle.ff_linalg.specs.Matrix.{MatrixValue, IsMatrixOver}
 use Rattle.ff_linalg.specs.Steps.{matrix_entry}
 use Rattle.ff_linalg.specs.Forms.{sequences_of, IsReducedBelow, HaveSameSpace}
-use Rattle.ff_linalg.specs.Space.{row_ops, product_of, IsInRowSpace, IsReducedForm}
+use Rattle.ff_linalg.specs.Space.{row_ops, row_product, IsInRowSpace, IsReducedForm}
 use Rattle.ff_linalg.proofs.Reading.{read_zero, read_one, read_same, row_entry, length_sequences, entry_in}
 
 -- the entries of rows of numbers
@@ -30,7 +30,7 @@ coeff_raw k (x ∷ xs) zero = refl
 coeff_raw k (x ∷ xs) (suc j) = coeff_raw k xs j
 
 pub raw_entry : (k : FieldOps) (rows : List (List ℕ)) (i j : ℕ)
-    → row (raw_ring k) (rows_of (raw_ring k) rows) i j ≡ matrix_entry rows i j
+    → row (raw_ring k) (rows_as_sequences (raw_ring k) rows) i j ≡ matrix_entry rows i j
 raw_entry k [] i j = refl
 raw_entry k (r ∷ rows) zero j = coeff_raw k r j
 raw_entry k (r ∷ rows) (suc i) j = raw_entry k rows i j
@@ -39,14 +39,15 @@ module _ (k : CodeField) where
   abbrev R : CommRing (Code k)
   R = (code_ring k).ring
 
-  length_raw : (rows : List (List ℕ)) → length (rows_of (raw_ring k.ops) rows) ≡ length rows
+  length_raw : (rows : List (List ℕ)) → length (rows_as_sequences (raw_ring k.ops) rows) ≡ length rows
   length_raw rows = length-map rows (coeff_of (raw_ring k.ops))
 
   -- reduced forms
   pub form_of_codes : (m : MatrixValue) (rank : ℕ) → All (IsOver k.ops) m.rows → IsReducedBelow k m.cols m.rows rank
       → IsReducedForm k.ops m rank
   form_of_codes m rank over r = record {
-    form = reduced_across R.ops (raw_ring k.ops) m.cols (sequences_of k m.rows) (rows_of (raw_ring k.ops) m.rows)
+    form = reduced_across R.ops (raw_ring k.ops) m.cols (sequences_of k m.rows) (rows_as_sequences
+        (raw_ring k.ops) m.rows)
         (length_raw m.rows ∙ sym (length_sequences k m.rows))
         (λ i j l b e. raw_entry k.ops m.rows i j
         ∙ entry i j 0 (omega (arith, k.laws.one_below)) (sym (row_entry k m.rows i j) ∙ e ∙ sym (read_zero k)))
@@ -55,12 +56,14 @@ module _ (k : CodeField) where
     rank_is = r.rank_is;
   }
     where
-      entry : (i j x : ℕ) → x < k.size → read_code k (matrix_entry m.rows i j) ≡ read_code k x → matrix_entry m.rows i j ≡ x
+      entry : (i j x : ℕ) → x < k.size → read_code k (matrix_entry m.rows i j) ≡ read_code k x
+          → matrix_entry m.rows i j ≡ x
       entry i j x x_in e = read_same k (matrix_entry m.rows i j) x (entry_in k m.rows i j over) x_in e
 
   pub codes_of_form : (m : MatrixValue) (rank : ℕ) → IsReducedForm k.ops m rank → IsReducedBelow k m.cols m.rows rank
   codes_of_form m rank r = record {
-    form = reduced_across (raw_ring k.ops) R.ops m.cols (rows_of (raw_ring k.ops) m.rows) (sequences_of k m.rows)
+    form = reduced_across (raw_ring k.ops) R.ops m.cols (rows_as_sequences (raw_ring k.ops) m.rows)
+        (sequences_of k m.rows)
         (length_sequences k m.rows ∙ sym (length_raw m.rows))
         (λ i j l b e. row_entry k m.rows i j ∙ ap (read_code k) (sym (raw_entry k.ops m.rows i j) ∙ e) ∙ read_zero k)
         (λ i j l b e. row_entry k m.rows i j ∙ ap (read_code k) (sym (raw_entry k.ops m.rows i j) ∙ e) ∙ read_one k)
@@ -165,7 +168,7 @@ module _ (k : CodeField) where
     coefficients = cs;
     one_each = length_codes_of (length m.rows) h.coefficient;
     over = cs_in;
-    is = codes_ext w (product_of k.ops cs m) w_in (combination_over m.cols cs m.rows cs_in over)
+    is = codes_ext w (row_product k.ops cs m) w_in (combination_over m.cols cs m.rows cs_in over)
         (w_long ∙ sym (length_combination m.cols cs m.rows wide)) (λ j l.
         h.is j (subst (λ n. j < n) w_long l)
         ∙ ap (λ s. s j) (combine_cong (sequences R) h.coefficient (coeff_of R.ops (read k cs)) (sequences_of k m.rows)

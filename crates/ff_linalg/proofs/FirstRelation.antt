@@ -12,7 +12,7 @@ use Rattle.ring_lemmas.proofs.Sums.{below_cong}
 use Rattle.linear_theory.specs.Echelon.{row}
 use Rattle.ff_linalg.specs.Matrix.{MatrixValue, IsMatrixOver, HasShape, first_rows_of, matrix_row, entry_of}
 use Rattle.ff_linalg.specs.Forms.{sequences_of, IsReducedBelow}
-use Rattle.ff_linalg.specs.Space.{product_of, IsInRowSpace, IsReducedForm, IsSolution, HasIndependentStart, IsFirstRelation}
+use Rattle.ff_linalg.specs.Space.{row_product, IsInRowSpace, IsReducedForm, IsSolution, HasIndependentStart, IsFirstRelation}
 use Rattle.ff_linalg.specs.Relations.{IsTransposed, IsDiagonalStart, IsColumnStart}
 use Rattle.ff_linalg.proofs.Reading.{read_one, read_same, coeff_read, row_entry, length_sequences, entry_in}
 use Rattle.ff_linalg.proofs.Bridge.{codes_of_form, combination_over, length_combination, combination_is, codes_ext, row_look}
@@ -39,7 +39,7 @@ module _ (k : CodeField) (a t : MatrixValue) (shape : HasShape a (length a.rows)
       ∙ sym (row_entry k a.rows i j)
 
   start_column : (r : ℕ) → r ≤ length a.rows → (v : List ℕ) → IsOver k.ops v → (j : ℕ) → j < a.cols
-      → coeff_of R.ops (read k (product_of k.ops v (first_rows_of a r))) j
+      → coeff_of R.ops (read k (row_product k.ops v (first_rows_of a r))) j
       ≡ dot R r (coeff_of R.ops (read k v)) (row R.ops (sequences_of k t.rows) j)
   start_column r within v v_in j m =
       combination_is k a.cols v (take r a.rows) v_in (All-take (IsOver k.ops) r a.rows a_in.each) j
@@ -57,7 +57,8 @@ module _ (k : CodeField) (a t : MatrixValue) (shape : HasShape a (length a.rows)
       → coeff_of R.ops (read k (matrix_row a r)) j ≡ row R.ops (sequences_of k t.rows) j r
   here r j l m = sym (row_look k a.rows r j) ∙ column_entry r j l m
 
-  columns_of_solution : (r : ℕ) → r < length a.rows → (v : List ℕ) → IsSolution k.ops (first_rows_of a r) (matrix_row a r) v
+  columns_of_solution : (r : ℕ) → r < length a.rows → (v : List ℕ)
+      → IsSolution k.ops (first_rows_of a r) (matrix_row a r) v
       → (j : ℕ) → j < length (sequences_of k t.rows)
       → IsCombinedAt R r (coeff_of R.ops (read k v)) (row R.ops (sequences_of k t.rows) j)
   columns_of_solution r within v h j l =
@@ -72,7 +73,7 @@ module _ (k : CodeField) (a t : MatrixValue) (shape : HasShape a (length a.rows)
   solution_of_columns r within v long v_in h = record {
     one_each = long ∙ sym (length-take-le r a.rows (omega arith));
     over = v_in;
-    product = codes_ext k (product_of k.ops v (first_rows_of a r)) (matrix_row a r)
+    product = codes_ext k (row_product k.ops v (first_rows_of a r)) (matrix_row a r)
         (combination_over k a.cols v (take r a.rows) v_in (All-take (IsOver k.ops) r a.rows a_in.each))
         (a_in.each r [] within)
         (wide ∙ sym (shape.each r [] within)) (λ j l.
@@ -81,7 +82,7 @@ module _ (k : CodeField) (a t : MatrixValue) (shape : HasShape a (length a.rows)
         ∙ sym (h j (omega (arith, m, length_sequences k t.rows, T.shape.row_count))) ∙ sym (here r j within m));
   }
     where
-      wide : length (product_of k.ops v (first_rows_of a r)) ≡ a.cols
+      wide : length (row_product k.ops v (first_rows_of a r)) ≡ a.cols
       wide = length_combination k a.cols v (take r a.rows) (All-take (λ x. length x ≡ a.cols) r a.rows shape.each)
 
   -- the reduced form has the same relations among its columns

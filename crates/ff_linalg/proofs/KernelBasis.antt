@@ -15,7 +15,7 @@ use Rattle.linear_theory.proofs.Kernel.{kernel_rows, kernel_entry, length_kernel
 use Rattle.linear_theory.proofs.SameRows.{HasEntries, entries_back, reduced_of_entries, space_of_entries}
 use Rattle.ff_linalg.specs.Matrix.{MatrixValue, rows_in, IsMatrixOver}
 use Rattle.ff_linalg.specs.Forms.{sequences_of, IsReducedBelow, IsEliminated}
-use Rattle.ff_linalg.specs.Space.{product_of, IsInRowSpace}
+use Rattle.ff_linalg.specs.Space.{row_product, IsInRowSpace}
 use Rattle.ff_linalg.specs.Kernel.{IsInKernel, IsKernelBasis}
 use Rattle.ff_linalg.proofs.Flat.{length_rows_in, rows_in_wide, rows_in_over}
 use Rattle.ff_linalg.proofs.Views.{view_of}
@@ -102,7 +102,7 @@ module _ (k : CodeField) (a : MatrixValue) (over : All (IsOver k.ops) a.rows)
   into w h = record {
     one_each = ap length h.is ∙ length_combination k (length a.rows) h.coefficients basis.rows basis_wide;
     over = w_in;
-    product = codes_ext k (product_of k.ops w a) (replicate a.cols 0) (combination_over k a.cols w a.rows w_in over)
+    product = codes_ext k (row_product k.ops w a) (replicate a.cols 0) (combination_over k a.cols w a.rows w_in over)
         (IsOver_zeros k a.cols)
         (length_combination k a.cols w a.rows wide ∙ sym (length-replicate a.cols 0)) (λ j l.
         combination_is k a.cols w a.rows w_in over j

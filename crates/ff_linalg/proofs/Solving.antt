@@ -18,7 +18,7 @@ use Rattle.linear_theory.proofs.Echelon.{Leading, leading_is_pivot}
 use Rattle.ff_linalg.specs.Matrix.{MatrixValue, IsMatrixOver, HasShape, with_first_row}
 use Rattle.ff_linalg.specs.Steps.{matrix_entry}
 use Rattle.ff_linalg.specs.Forms.{sequences_of, IsReducedBelow}
-use Rattle.ff_linalg.specs.Space.{product_of, IsSolution, HasNoSolution}
+use Rattle.ff_linalg.specs.Space.{row_product, IsSolution, HasNoSolution}
 use Rattle.ff_linalg.specs.Kernel.{IsInKernel, IsKernelBasis}
 use Rattle.ff_linalg.proofs.Reading.{read_one, read_same, row_entry, entry_in}
 use Rattle.ff_linalg.proofs.Bridge.{coeff_zeros, combination_over, length_combination, combination_is, codes_ext, space_of_codes, codes_of_form, own_row_codes}
@@ -72,7 +72,7 @@ module _ (k : CodeField) where
     total v j = combine (sequence_ops R.ops) (coeff_of R.ops (read k v)) (sequences_of k a.rows) j
 
     first_one : (v : List ℕ) → IsOver k.ops v → (j : ℕ)
-        → coeff_of R.ops (read k (product_of k.ops (1 ∷ v) S)) j ≡ R.◌⊕◌ (coeff_of R.ops (read k b) j) (total v j)
+        → coeff_of R.ops (read k (row_product k.ops (1 ∷ v) S)) j ≡ R.◌⊕◌ (coeff_of R.ops (read k b) j) (total v j)
     first_one v v_in j =
         combination_is k a.cols (1 ∷ v) S.rows (IsOver_cons k.laws.one_below v_in) s_over j
         ∙ ap (λ x. R.◌⊕◌ (R.◌⊗◌ x (coeff_of R.ops (read k b) j)) (total v j)) (read_one k)
@@ -84,7 +84,7 @@ module _ (k : CodeField) where
     solution_of_relation w h = record {
       one_each = length_neg_list (raw_ring k.ops) w ∙ (let e = h.one_each in omega (arith, e));
       over = IsOver_neg k w w_in;
-      product = codes_ext k (product_of k.ops (neg_list (raw_ring k.ops) w) a) b
+      product = codes_ext k (row_product k.ops (neg_list (raw_ring k.ops) w) a) b
           (combination_over k a.cols (neg_list (raw_ring k.ops) w) a.rows (IsOver_neg k w w_in) over) b_in
           (length_combination k a.cols (neg_list (raw_ring k.ops) w) a.rows wide ∙ sym b_long) (λ j l.
           combination_is k a.cols (neg_list (raw_ring k.ops) w) a.rows (IsOver_neg k w w_in) over j
@@ -102,7 +102,7 @@ module _ (k : CodeField) where
     relation_of_solution v h = record {
       one_each = ap suc (length_neg_list (raw_ring k.ops) v ∙ h.one_each);
       over = w_in;
-      product = codes_ext k (product_of k.ops (1 ∷ w) S) (replicate a.cols 0)
+      product = codes_ext k (row_product k.ops (1 ∷ w) S) (replicate a.cols 0)
           (combination_over k a.cols (1 ∷ w) S.rows w_in s_over) (IsOver_zeros k a.cols)
           (length_combination k a.cols (1 ∷ w) S.rows s_wide ∙ sym (length-replicate a.cols 0)) (λ j l.
           first_one w (IsOver_neg k v h.over) j

@@ -3,12 +3,12 @@ use Rattle.std.specs.Prelude.{◌≡◌, ℕ, suc, List, map}
 use Rattle.ff_fields.specs.Field.{CodeField}
 use Rattle.ff_fields.specs.Code.{Code, code_ring}
 use Rattle.ff_fields.specs.Numbers.{read}
-use Rattle.linear_theory.specs.Echelon.{IsReducedEchelon, SameRowSpace, rows_of}
+use Rattle.linear_theory.specs.Echelon.{IsReducedEchelon, SameRowSpace, rows_as_sequences}
 use Rattle.linear_theory.specs.Kernel.{Eliminated}
 
 -- the rows as sequences of members of the field, 0 past the end
 abbrev pub sequences_of : (k : CodeField) → List (List ℕ) → List (ℕ → Code k)
-sequences_of k rows = rows_of (code_ring k).ops (map (read k) rows)
+sequences_of k rows = rows_as_sequences (code_ring k).ops (map (read k) rows)
 
 -- in reduced row echelon form as far as the columns below a bound go, with so many pivots
 pub record IsReducedBelow (k : CodeField) (bound : ℕ) (rows : List (List ℕ)) (rank : ℕ) : Type 0 where

@@ -1,6 +1,6 @@
 //! The kernel of a matrix.
 
-ghost use Rattle.std.specs.Prelude.{◌≡◌, ◌+◌, ◌-◌, ◌*◌, ◌^◌, ◌<◌, ◌≤◌, ◌++◌, length, replicate, take, drop, map, slice_set, IfOk};
+ghost use Rattle.std.specs.Prelude.{◌≡◌, ◌+◌, ◌-◌, ◌*◌, ◌^◌, ◌<◌, ◌≤◌, ◌++◌, length, replicate, drop, map, slice_set, IfOk};
 ghost use Rattle.ff_fields.specs.Over.{IsOver};
 ghost use Rattle.ff_linalg.specs.Matrix.{rows_in, IsMatrixOver};
 ghost use Rattle.ff_linalg.specs.Steps.{IsBesideUnit};

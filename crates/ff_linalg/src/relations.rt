@@ -1,6 +1,6 @@
 //! The first relation of the rows of a matrix.
 
-ghost use Rattle.std.specs.Prelude.{◌≡◌, ◌<◌, ◌≤◌, length, IfOk, MatchOption};
+ghost use Rattle.std.specs.Prelude.{◌<◌, ◌≤◌, length, IfOk, MatchOption};
 ghost use Rattle.ff_linalg.specs.Matrix.{HasShape, IsMatrixOver};
 ghost use Rattle.ff_linalg.specs.Relations.{IsColumnWritten, IsTransposed, IsDiagonalStart, IsColumnStart};
 ghost use Rattle.ff_linalg.specs.Space.{HasIndependentRows, IsFirstRelation};

@@ -18,7 +18,7 @@ use Rattle.ff_script.specs.declared.script.Over.TheVariants.{At, Inf}
 use Rattle.ff_meaning.specs.declared.refusal.Refusal.{Refusal}
 use Rattle.ff_meaning.specs.declared.refusal.Refusal.TheVariants.{LimitPlace, NotIrreducible, Memory}
 use Rattle.ff_meaning.specs.Meaning.{IsSumOf, IsBase}
-use Rattle.ff_meaning.specs.Refusals.{IsCodeRow, IsFirstPart, IsReducible, IsPolynomialRow, IsBaseRow}
+use Rattle.ff_meaning.specs.Refusals.{IsFirstPart, IsReducible, IsPolynomialRow, IsBaseRow}
 use Rattle.ff_meaning.specs.Refusals as rows
 use Rattle.ff_meaning.specs.Bases.{IsPolynomialRead, IsRefusedPolynomial, IsBaseRead}
 use Rattle.ff_meaning.specs.Bases as bases

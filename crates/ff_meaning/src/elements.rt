@@ -3,10 +3,10 @@
 ghost use Rattle.std.specs.Prelude.{◌≡◌, ◌<◌, ◌≤◌, All, IfOk, IfErr, IfSome};
 ghost use Rattle.std.specs.List.{flat_map};
 ghost use Rattle.ff_fields.specs.Over.{IsOver};
-ghost use Rattle.ff_algebra.specs.CurveTerms.{IsCoefficient, degree_in_x};
+ghost use Rattle.ff_algebra.specs.CurveTerms.{degree_in_x};
 ghost use Rattle.ff_text.specs.Values.{written_codes, HasSmallExponents};
 ghost use Rattle.ff_text.specs.Printing.{IsWritableElement};
-ghost use Rattle.ff_meaning.specs.Meaning.{IsSumOf, codes_of_den, codes_of_element};
+ghost use Rattle.ff_meaning.specs.Meaning.{codes_of_den, codes_of_element};
 ghost use Rattle.ff_meaning.specs.Refusals.{UnlessMemory, IsCodeRow, IsElementRow};
 ghost use Rattle.ff_meaning.specs.Bindings.{HasSmallElement};
 ghost use Rattle.ff_meaning.specs.Elements.{greatest_in_x, AreSumsOf, IsDenSumOf, AreElementSums, AreCoefficients, IsElementRead};

@@ -10,9 +10,9 @@ ghost use Rattle.ff_poly.specs.Polynomials.{polynomials};
 ghost use Rattle.function_field.specs.declared.side.Side.TheVariants.{Finite};
 ghost use Rattle.function_field.specs.Discriminant.{discriminant};
 ghost use Rattle.function_field.specs.Places.{IsIntegralAt};
-ghost use Rattle.function_field.specs.Values.{PresValue, Functions, equation_of, setting};
+ghost use Rattle.function_field.specs.Values.{Functions, equation_of, setting};
 ghost use Rattle.trace_theory.specs.Traces.{HasPolynomialCoordinates, polynomial_product};
-ghost use Rattle.ff_lattice.specs.Lattices.{LatticeValue, Contains};
+ghost use Rattle.ff_lattice.specs.Lattices.{Contains};
 ghost use Rattle.ff_lattice.specs.Orders.{IsOrderLattice};
 ghost use Rattle.ff_order.specs.Enlargements.{TakenByProducts};
 

@@ -1,16 +1,16 @@
 //! The radical of an order at an irreducible polynomial.
 
-ghost use Rattle.std.specs.Prelude.{◌≡◌, ◌≢◌, ◌↔◌, ℕ, List, [], All, IfOk};
+ghost use Rattle.std.specs.Prelude.{◌≢◌, ◌↔◌, ℕ, List, [], All, IfOk};
 ghost use Rattle.ff_fields.specs.Over.{IsOver};
 ghost use Rattle.ff_poly.specs.Words.{IsIrreducibleList};
 ghost use Rattle.ff_poly.specs.Value.{value};
 ghost use Rattle.function_field.specs.Functions.{of_poly};
-ghost use Rattle.function_field.specs.Values.{PresValue, IsPresOver, Functions, functions, equation_of};
+ghost use Rattle.function_field.specs.Values.{IsPresOver, Functions, functions, equation_of};
 ghost use Rattle.ff_falg.specs.Algebras.{IsVector};
 ghost use Rattle.ff_falg.specs.Spaces.{IsFrobenius};
-ghost use Rattle.ff_lattice.specs.Lattices.{LatticeValue, IsLatticeValue, Contains};
+ghost use Rattle.ff_lattice.specs.Lattices.{IsLatticeValue, Contains};
 ghost use Rattle.ff_lattice.specs.Orders.{IsOrderLattice};
-ghost use Rattle.ff_lattice.specs.Quotients.{QuotientValue, IsQuotient, IsQuotientOver, IsIdealLattice, class_algebra, dimension};
+ghost use Rattle.ff_lattice.specs.Quotients.{IsQuotient, IsQuotientOver, IsIdealLattice, class_algebra, dimension};
 ghost use Rattle.prime_theory.specs.Ideals.{Multiple, SameSet};
 ghost use Rattle.prime_theory.specs.Orders.{Radical};
 ghost use Rattle.ff_order.specs.Steps.{AreLifts, IsNilpotentBasis};

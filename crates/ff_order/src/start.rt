@@ -1,9 +1,9 @@
 //! The order k[x][y].
 
-ghost use Rattle.std.specs.Prelude.{◌≡◌, ◌↔◌, IfOk};
-ghost use Rattle.function_field.specs.Values.{PresValue, Functions, equation_of};
+ghost use Rattle.std.specs.Prelude.{◌↔◌, IfOk};
+ghost use Rattle.function_field.specs.Values.{Functions, equation_of};
 ghost use Rattle.trace_theory.specs.Traces.{HasPolynomialCoordinates};
-ghost use Rattle.ff_lattice.specs.Lattices.{LatticeValue, Contains};
+ghost use Rattle.ff_lattice.specs.Lattices.{Contains};
 ghost use Rattle.ff_lattice.specs.Orders.{IsOrderLattice};
 
 use ff_algebra::Pres;

@@ -3,7 +3,7 @@
 ghost use Rattle.std.specs.Prelude.{◌≡◌, ◌↔◌, [], ◌∷◌, IfOk};
 ghost use Rattle.function_field.specs.Values.{Functions};
 ghost use Rattle.ff_falg.specs.Algebras.{IsVector};
-ghost use Rattle.ff_lattice.specs.Lattices.{LatticeValue, IsLatticeValue, Contains, InSpanOf, IsSumOfMembers};
+ghost use Rattle.ff_lattice.specs.Lattices.{IsLatticeValue, Contains, InSpanOf, IsSumOfMembers};
 ghost use Rattle.ff_lattice.specs.Quotients.{IsQuotientOver, class_algebra, dimension, lifted};
 ghost use Rattle.ff_places.specs.Steps.{IsIdealAbove, IsInComponent, rest_of};
 

@@ -79,17 +79,18 @@ abbrev pub multiple_of_row : FieldOps → List ℕ → List (List ℕ) → List 
 multiple_of_row k c row = map (product_of k c) row
 
 -- c_0·r_0 + c_1·r_1 and so on
-abbrev pub combination : FieldOps → ℕ → List (List ℕ) → List (List (List ℕ)) → List (List ℕ)
-combination k width [] rows = replicate width []
-combination k width (c ∷ cs) [] = replicate width []
-combination k width (c ∷ cs) (row ∷ rows) = sum_of_rows k (multiple_of_row k c row) (combination k width cs rows)
+abbrev pub combination_list : FieldOps → ℕ → List (List ℕ) → List (List (List ℕ)) → List (List ℕ)
+combination_list k width [] rows = replicate width []
+combination_list k width (c ∷ cs) [] = replicate width []
+combination_list k width (c ∷ cs) (row ∷ rows) = sum_of_rows k (multiple_of_row k c row)
+    (combination_list k width cs rows)
 
 -- v is the combination of the rows with these coefficients
 pub record IsCombinationList (k : FieldOps) (width : ℕ) (rows : List (List (List ℕ))) (v : List (List ℕ))
     (coefficients : List (List ℕ)) : Type 0 where
   pub size : length coefficients ≡ length rows
   pub over : All (IsOver k) coefficients
-  pub is : v ≡ combination k width coefficients rows
+  pub is : v ≡ combination_list k width coefficients rows
 
 -- the lattice of the rows: their combinations
 pub record InRowSpan (k : FieldOps) (width : ℕ) (rows : List (List (List ℕ))) (v : List (List ℕ)) : Type 0 where

@@ -1,8 +1,8 @@
 //! Values and powers of polynomials.
 
-ghost use Rattle.std.specs.Prelude.{◌≡◌, ◌<◌, ◌≤◌, [], ◌∷◌, length, IfOk};
+ghost use Rattle.std.specs.Prelude.{◌≡◌, ◌<◌, ◌≤◌, length, IfOk};
 ghost use Rattle.ff_fields.specs.Over.{IsOver};
-ghost use Rattle.ff_poly.specs.Words.{IsPoly, product_of};
+ghost use Rattle.ff_poly.specs.Words.{product_of};
 ghost use Rattle.ff_poly.specs.PowerWords.{IsRest, power_of, value_at_code};
 
 use crate::poly::{Poly, divide, mul};

@@ -1,6 +1,6 @@
 //! Polynomials in x and y as lists of terms.
 
-ghost use Rattle.std.specs.Prelude.{◌≡◌, ℕ, ◌<◌, ◌∷◌, [], ◌++◌, All, IfOk, OnOk};
+ghost use Rattle.std.specs.Prelude.{◌≡◌, ℕ, ◌<◌, All, IfOk, OnOk};
 ghost use Rattle.ff_poly.specs.TermWords.{IsTerms, IsUpTo, IsMerged, IsAdded, code_at};
 
 use ff_fields::field::SmallField;

@@ -11,7 +11,7 @@ use Rattle.ring_lemmas.specs.Rows.{Row}
 use Rattle.ring_lemmas.specs.Polynomials.{Pol}
 use Rattle.ff_poly.specs.Value.{value}
 use Rattle.ff_poly.specs.Polynomials.{codes_of, IsOver_codes_of, value_codes_of, value_not_zero}
-use Rattle.ff_poly.specs.Popov.{row_at, IsRow, IsPivot, IsZeroRow, IsWeakPopovMatrix, HasFullRankMatrix, HasMultipleInRows, HaveSameRowSpan, IsPopovMatrix, multiple_of_row, combination}
+use Rattle.ff_poly.specs.Popov.{row_at, IsRow, IsPivot, IsZeroRow, IsWeakPopovMatrix, HasFullRankMatrix, HasMultipleInRows, HaveSameRowSpan, IsPopovMatrix, multiple_of_row, combination_list}
 use Rattle.popov_theory.specs.Module.{PolynomialModule, measure, pivot}
 use Rattle.popov_theory.specs.Popov as theory
 use Rattle.popov_theory.specs.Span as spans
@@ -192,7 +192,7 @@ module _ (k : CodeField) (w : ℕ) (rows : List (List (List ℕ))) (all : All (I
           size = length-replicate (length rows) [];
           over = zeros;
           is =
-              empty_same v (combination k.ops w (replicate (length rows) []) rows)
+              empty_same v (combination_list k.ops w (replicate (length rows) []) rows)
               (omega (arith, (member_row k w [] (All-nil (IsRow k.ops w)) v v_in).size, none))
               (omega (arith, (combination_row k w (replicate (length rows) []) rows zeros all).size, none));
         };
@@ -210,7 +210,8 @@ module _ (k : CodeField) (w : ℕ) (rows : List (List (List ℕ))) (all : All (I
   pub found_of : {B : Type 0} → 0 < w → (reduced : List (List (List ℕ))) → HaveSameRowSpan k.ops w rows reduced
       → All (IsRow k.ops w) reduced → IsWeakPopovMatrix reduced → (found : Option B) (of : B → List (List (List ℕ)))
       → MatchOption found ((j : ℕ) × (j < w) × IsMissing reduced j)
-      (λ basis. IsPopovMatrix w (of basis) × All (IsRow k.ops w) (of basis) × HaveSameRowSpan k.ops w reduced (of basis))
+      (λ basis. IsPopovMatrix w (of basis) × All (IsRow k.ops w) (of basis)
+      × HaveSameRowSpan k.ops w reduced (of basis))
       → MatchOption found (¬ HasFullRankMatrix k.ops w rows)
       (λ basis. IsPopovMatrix w (of basis) × All (IsRow k.ops w) (of basis) × HaveSameRowSpan k.ops w rows (of basis))
   found_of positive reduced same reduced_in weak None of (j, less, missing) = λ rank. rank_below k w positive reduced

@@ -13,7 +13,7 @@ use Rattle.ff_poly.specs.Words.{IsPoly, sum_of, product_of}
 use Rattle.ff_poly.specs.PolyOver.{IsOver_sum_of, IsOver_product_of, IsPoly_poly_of}
 use Rattle.ff_poly.specs.Value.{value}
 use Rattle.ff_poly.specs.Polynomials.{codes_of, IsOver_codes_of, value_codes_of}
-use Rattle.ff_poly.specs.Popov.{IsRow, sum_of_rows, multiple_of_row, combination, IsCombinationList, InRowSpan, HaveSameRowSpan}
+use Rattle.ff_poly.specs.Popov.{IsRow, sum_of_rows, multiple_of_row, combination_list, IsCombinationList, InRowSpan, HaveSameRowSpan}
 use Rattle.popov_theory.specs.Module.{PolynomialModule}
 use Rattle.popov_theory.specs.Span.{combine}
 use Rattle.popov_theory.specs.Span as theory
@@ -87,7 +87,7 @@ module _ (k : CodeField) where
 
     -- a combination is a row of the width
     pub combination_row : (cs : List (List ℕ)) (rows : List (List (List ℕ))) → All (IsOver k.ops) cs
-        → All (IsRow k.ops w) rows → IsRow k.ops w (combination k.ops w cs rows)
+        → All (IsRow k.ops w) rows → IsRow k.ops w (combination_list k.ops w cs rows)
     combination_row [] rows cs_in all = record
         { size = length-replicate w []; over = All-replicate (IsOver k.ops) w [] IsOver_nil }
     combination_row (c ∷ cs) [] cs_in all = record
@@ -97,20 +97,21 @@ module _ (k : CodeField) where
         let rest = combination_row cs rows (λ j d less. cs_in (suc j) d (omega (arith, less)))
         (λ j d less. all (suc j) d (omega (arith, less))) in
         record {
-          size = sum_length (multiple_of_row k.ops c r) (combination k.ops w cs rows) (first.size ∙ sym rest.size)
+          size = sum_length (multiple_of_row k.ops c r) (combination_list k.ops w cs rows) (first.size ∙ sym rest.size)
               ∙ first.size;
-          over = sum_over (multiple_of_row k.ops c r) (combination k.ops w cs rows) first.over rest.over;
+          over = sum_over (multiple_of_row k.ops c r) (combination_list k.ops w cs rows) first.over rest.over;
         }
 
-    combination_poly : (cs : List (List ℕ)) (rows : List (List (List ℕ))) → All IsPoly (combination k.ops w cs rows)
+    combination_poly : (cs : List (List ℕ)) (rows : List (List (List ℕ)))
+        → All IsPoly (combination_list k.ops w cs rows)
     combination_poly [] rows = All-replicate IsPoly w [] (record { trimmed = tt })
     combination_poly (c ∷ cs) [] = All-replicate IsPoly w [] (record { trimmed = tt })
-    combination_poly (c ∷ cs) (r ∷ rows) = sum_poly (multiple_of_row k.ops c r) (combination k.ops w cs rows)
+    combination_poly (c ∷ cs) (r ∷ rows) = sum_poly (multiple_of_row k.ops c r) (combination_list k.ops w cs rows)
 
     -- what a combination stands for
     pub combination_read : (cs : List (List ℕ)) (rows : List (List (List ℕ))) → length cs ≡ length rows
         → All (IsOver k.ops) cs → All (IsRow k.ops w) rows
-        → R (combination k.ops w cs rows) ≡ combine M (λ i. value k (get_or cs i [])) (read_rows k w rows)
+        → R (combination_list k.ops w cs rows) ≡ combine M (λ i. value k (get_or cs i [])) (read_rows k w rows)
     combination_read [] [] size cs_in all = read_zeros k (suc (w - 1)) w ∙ sym (row_module_zero (code_ring k) (w - 1))
     combination_read [] (r ∷ rows) size cs_in all = absurd (omega (arith, size))
     combination_read (c ∷ cs) [] size cs_in all = absurd (omega (arith, size))
@@ -121,9 +122,11 @@ module _ (k : CodeField) where
         let all_rest = λ (j : ℕ) (d : List (List ℕ)) (less : j < length rows). all (suc j) d (omega (arith, less)) in
         let first = multiple_row c r c_in r_row in
         let rest = combination_row cs rows cs_rest all_rest in
-        read_sum k (suc (w - 1)) (multiple_of_row k.ops c r) (combination k.ops w cs rows) (first.size ∙ sym rest.size)
+        read_sum k (suc (w - 1)) (multiple_of_row k.ops c r) (combination_list k.ops w cs rows) (first.size
+        ∙ sym rest.size)
         first.over rest.over
-        ∙ sym (row_module_add (code_ring k) (w - 1) (R (multiple_of_row k.ops c r)) (R (combination k.ops w cs rows)))
+        ∙ sym (row_module_add (code_ring k) (w - 1) (R (multiple_of_row k.ops c r)) (R
+        (combination_list k.ops w cs rows)))
         ∙ ap₂ M.◌⊞◌ (space_multiple c r c_in r_row.over)
         (combination_read cs rows (omega (arith, size)) cs_rest all_rest)
 
@@ -158,7 +161,7 @@ module _ (k : CodeField) where
       size = size;
       over = cs_in;
       is =
-          same_from_read k w v (combination k.ops w cs rows) v_row (combination_row cs rows cs_in all) v_poly
+          same_from_read k w v (combination_list k.ops w cs rows) v_row (combination_row cs rows cs_in all) v_poly
           (combination_poly cs rows)
           (is ∙ sym (combination_read cs rows size cs_in all));
     }

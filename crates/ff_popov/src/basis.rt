@@ -2,7 +2,7 @@
 
 ghost use Rattle.std.specs.Prelude.{◌≡◌, ◌∷◌, [], ◌+◌, ◌<◌, ◌≤◌, ℕ, length, All, IfOk, OnOk, MatchOption};
 ghost use Rattle.ff_poly.specs.Words.{poly_of};
-ghost use Rattle.ff_poly.specs.Popov.{rows_of, row_at, entry_at, width_of, IsRow, IsPivot, IsWeakPopovMatrix, IsPopovMatrix, HaveSameRowSpan, HasFullRankMatrix};
+ghost use Rattle.ff_poly.specs.Popov.{rows_of, entry_at, width_of, IsRow, IsPivot, IsWeakPopovMatrix, IsPopovMatrix, HaveSameRowSpan, HasFullRankMatrix};
 ghost use Rattle.ff_popov.specs.Rows.{IsShortened, IsOwner, IsMissing, IsOwners, IsLow, IsCongruentRow, IsPopovRow, IsPopovRows, owner_length};
 
 use crate::members::{minus_one, zero_row};
@@ -178,7 +178,8 @@ fn basis_of<K: SmallField>(
     requires rows_in { All (IsRow (K.field k.now).ops width) (rows_of rows.now) }
     requires weak { IsWeakPopovMatrix (rows_of rows.now) }
     ensures { IfOk result (λ found. MatchOption found ((j : ℕ) × (j < width) × IsMissing (rows_of rows.now) j)
-        (λ basis. IsPopovMatrix width (rows_of basis.items) × All (IsRow (K.field k.now).ops width) (rows_of basis.items)
+        (λ basis. IsPopovMatrix width (rows_of basis.items)
+        × All (IsRow (K.field k.now).ops width) (rows_of basis.items)
         × HaveSameRowSpan (K.field k.now).ops width (rows_of rows.now) (rows_of basis.items))) }
 {
     match owners(alloc, rows, width)? {
@@ -220,8 +221,10 @@ pub fn popov<K: SmallField>(
     width: usize,
 ) -> Result<Option<Vec<Vec<Poly>>>, AllocError>
     requires { All (IsRow (K.field k.now).ops width) (rows_of rows.items) }
-    ensures { IfOk result (λ found. MatchOption found (¬ HasFullRankMatrix (K.field k.now).ops width (rows_of rows.items))
-        (λ basis. IsPopovMatrix width (rows_of basis.items) × All (IsRow (K.field k.now).ops width) (rows_of basis.items)
+    ensures { IfOk result (λ found. MatchOption found (¬ HasFullRankMatrix (K.field k.now).ops width
+        (rows_of rows.items))
+        (λ basis. IsPopovMatrix width (rows_of basis.items)
+        × All (IsRow (K.field k.now).ops width) (rows_of basis.items)
         × HaveSameRowSpan (K.field k.now).ops width (rows_of rows.items) (rows_of basis.items))) }
 {
     if width == 0 {

@@ -1,7 +1,6 @@
 //! Weak Popov form by simple transformations.
 
-ghost use Rattle.std.specs.Prelude.{◌≡◌, ◌+◌, ◌<◌, ◌≤◌, length, All, IfOk, OnOk, OnErr, MatchOption};
-ghost use Rattle.ff_fields.specs.Field.{CodeField};
+ghost use Rattle.std.specs.Prelude.{◌≡◌, ◌+◌, ◌<◌, ◌≤◌, length, All, IfOk, OnOk, MatchOption};
 ghost use Rattle.ff_poly.specs.Popov.{rows_of, row_at, entry_at, width_of, IsRow, IsPivot, IsWeakPopovMatrix, HaveSameRowSpan, row_degree_bound};
 ghost use Rattle.ff_popov.specs.Rows.{IsCleared, IsClash, IsApartAt, IsApartBelow, Keeps, SameOrSwapped, total_position};
 
@@ -148,7 +147,8 @@ pub fn weak_popov<K: SmallField, L: Ledger>(
         (rows_of rows.new.items) }
     ensures count { length rows.new.items ≡ length rows.old.items }
     ensures rows_in { All (IsRow (K.field k.now).ops (width_of (rows_of rows.old.items))) (rows_of rows.new.items) }
-    ensures steps { steps.new ≤ steps.old + row_degree_bound (width_of (rows_of rows.old.items)) (rows_of rows.old.items) }
+    ensures steps { steps.new ≤ steps.old + row_degree_bound (width_of (rows_of rows.old.items))
+        (rows_of rows.old.items) }
     ensures counted { steps.old ≤ steps.new }
 {
     reduce(alloc, k, rows.as_mut_slice(), steps)

@@ -16,7 +16,7 @@ use Rattle.ff_cert.specs.Blocks.{SessionValue, Refuses, Takes, block_text}
 use Rattle.ff_cert.specs.SameSessions.{AreSameSessions}
 use Rattle.ff_cert.proofs.OneBlock.{sessions_turned, one_taken, one_refused, not_both}
 use Rattle.ff_program.specs.Commands.{IsAnsweredWhole}
-use Rattle.ff_program.specs.Output.{Block, blocks_text, refusal_line, end_line, syntax_line, misplaced_line, at_start, AreTrue, IsAnswered, IsClosing, IsOut, IsOutput, TooLong, Syntax, Misplaced, Script, IsPart, Blocks, Whole, IsBegun, Nothing, Line, Part}
+use Rattle.ff_program.specs.Output.{Block, blocks_text, refusal_line, end_line, syntax_line, misplaced_line, at_start, AreTrue, IsAnsweredSoFar, IsClosing, IsOut, IsOutput, TooLong, Syntax, Misplaced, Script, IsPart, Blocks, Whole, IsBegun, Nothing, Line, Part}
 
 abbrev Statements : List Block → List Statement
 Statements bs = map (λ (b : Block). b.statement) bs
@@ -121,7 +121,7 @@ start_same : AreSameSessions at_start at_start
 start_same = record { bindings = NothingBound refl refl; printed = refl }
 
 alike : (ss : List Statement) (bs cs : List Block) (last last' : SessionValue) (rest rest' : List Statement)
-    → IsAnswered ss bs last rest → IsAnswered ss cs last' rest'
+    → IsAnsweredSoFar ss bs last rest → IsAnsweredSoFar ss cs last' rest'
     → AreAlike at_start at_start bs cs last last' rest rest'
 alike ss bs cs last last' rest rest' h g = record
     { same = start_same; first = h.blocks_true; second = g.blocks_true; statements = sym h.statements ∙ g.statements }

@@ -7,7 +7,7 @@ use Rattle.ff_script.specs.declared.script.Statement.{Statement}
 use Rattle.ff_script.specs.Scripts.{IsScript}
 use Rattle.ff_program.specs.declared.status.Status.{Status}
 use Rattle.ff_program.specs.declared.status.Status.TheVariants.{Done, Refused, Usage, ReadFault, WriteFault, WantOfMemory, CheckNo}
-use Rattle.ff_program.specs.Output.{IsAnswered, IsClosing, IsOut, IsPart, IsOutput, TooLong, Syntax, Misplaced, Script, IsBegun, Nothing, Line, Part, blocks_text, too_long_line}
+use Rattle.ff_program.specs.Output.{IsAnsweredSoFar, IsClosing, IsOut, IsPart, IsOutput, TooLong, Syntax, Misplaced, Script, IsBegun, Nothing, Line, Part, blocks_text, too_long_line}
 use Rattle.ff_program.specs.Printing.{Prints, EndsAs, EndsWith}
 use Rattle.ff_program.specs.Commands.{IsAnsweredWhole, Runs, IsFaultless}
 use Rattle.ff_program.proofs.Printing.{prints_nothing}
@@ -23,7 +23,7 @@ truth_of bytes text finished (Syntax line l h) e = absurd (cc)
 truth_of bytes text finished (Misplaced line l h) e = absurd (cc)
 truth_of bytes text finished (Script ss t f l s out) e = closed out.rest out.answered out.closes
   where
-    closed : (rest : List Statement) → IsAnswered ss out.blocks out.last rest
+    closed : (rest : List Statement) → IsAnsweredSoFar ss out.blocks out.last rest
         → IsClosing (length out.blocks) out.last rest out.closing f → IsAnsweredWhole bytes t
     closed [] answered closes = record {
       statements = ss;

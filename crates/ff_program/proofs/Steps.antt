@@ -9,7 +9,7 @@ use Rattle.ff_cert.specs.Blocks.{SessionValue, Refuses}
 use Rattle.ff_session.specs.Sessions.{IsStep}
 use Rattle.ff_program.specs.declared.status.Status.{Status}
 use Rattle.ff_program.specs.declared.status.Status.TheVariants.{Done, Refused}
-use Rattle.ff_program.specs.Output.{Block, blocks_text, refusal_line, end_line, IsAnswered, IsOut, IsPart, Blocks, Whole}
+use Rattle.ff_program.specs.Output.{Block, blocks_text, refusal_line, end_line, IsAnsweredSoFar, IsOut, IsPart, Blocks, Whole}
 use Rattle.ff_program.specs.Printing.{Prints, BreaksOff, EndsAs, EndsWith}
 use Rattle.ff_program.proofs.Printing.{prints_join, breaks_later}
 use Rattle.ff_program.proofs.Runs.{answered_more, blocks_text_more}
@@ -32,12 +32,12 @@ module _ {T : Type 0} (taken : T → Option (List ℕ)) (faults : T → ℕ) (fr
     (start : T) where
   -- a run that stops between two pieces
   pub stopped : (blocks : List Block) (old : SessionValue) (rest : List Statement) (now : T)
-      → IsAnswered ss blocks old rest → Prints taken faults free start now (blocks_text blocks)
+      → IsAnsweredSoFar ss blocks old rest → Prints taken faults free start now (blocks_text blocks)
       → (text : List ℕ) × IsPart ss text × Prints taken faults free start now text
   stopped blocks old rest now h w = (blocks_text blocks, Blocks blocks old rest h, w)
 
   module _ (blocks : List Block) (old : SessionValue) (s : Statement) (rest : List Statement) (now then : T)
-      (h : IsAnswered ss blocks old (s ∷ rest)) (w : Prints taken faults free start now (blocks_text blocks)) where
+      (h : IsAnsweredSoFar ss blocks old (s ∷ rest)) (w : Prints taken faults free start now (blocks_text blocks)) where
     -- the sink fails in a block
     pub broken : (new : SessionValue) (text : List ℕ) → IsStep old s text new
         → BreaksOff taken faults free now then text
@@ -57,7 +57,8 @@ module _ {T : Type 0} (taken : T → Option (List ℕ)) (faults : T → ℕ) (fr
     -- one more block is printed
     pub printed_on : (new : SessionValue) (text : List ℕ) → IsStep old s text new
         → Prints taken faults free now then text
-        → (more : List Block) × IsAnswered ss more new rest × Prints taken faults free start then (blocks_text more)
+        → (more : List Block) × IsAnsweredSoFar ss more new rest
+        × Prints taken faults free start then (blocks_text more)
     printed_on new text b k =
         let d : Block = record { statement = s; answer = b.answer } in
         let whole : Prints taken faults free start then (blocks_text blocks ++ text) = prints_join taken faults free
@@ -108,7 +109,7 @@ module _ {T : Type 0} (taken : T → Option (List ℕ)) (faults : T → ℕ) (fr
         )
 
   -- every statement is answered
-  pub finished : (blocks : List Block) (old : SessionValue) (now then : T) → IsAnswered ss blocks old []
+  pub finished : (blocks : List Block) (old : SessionValue) (now then : T) → IsAnsweredSoFar ss blocks old []
       → Prints taken faults free start now (blocks_text blocks)
       → (text : List ℕ) (status : Status) → text ≡ end_line (length ss)
       → EndsWith taken faults free now then text Done status

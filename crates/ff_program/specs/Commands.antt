@@ -7,7 +7,7 @@ use Rattle.ff_script.specs.Scripts.{IsScript}
 use Rattle.ff_cert.specs.Blocks.{SessionValue}
 use Rattle.ff_program.specs.declared.status.Status.{Status}
 use Rattle.ff_program.specs.declared.status.Status.TheVariants.{Done, Refused, ReadFault, WriteFault, WantOfMemory}
-use Rattle.ff_program.specs.Output.{Block, IsAnswered, IsOutput, IsBegun, blocks_text, end_line}
+use Rattle.ff_program.specs.Output.{Block, IsAnsweredSoFar, IsOutput, IsBegun, blocks_text, end_line}
 use Rattle.ff_program.specs.Printing.{Prints, EndsAs}
 
 -- the words after the program's own name are the one word `run`
@@ -23,7 +23,7 @@ pub record IsAnsweredWhole (bytes text : List ℕ) : Type 0 where
   pub blocks : List Block
   pub last : SessionValue
   pub script : IsScript bytes statements
-  pub answered : IsAnswered statements blocks last []
+  pub answered : IsAnsweredSoFar statements blocks last []
   pub is : text ≡ blocks_text blocks ++ end_line (length blocks)
 
 module _ {S T : Type 0} (left : S → Option (List ℕ)) (source_faults : S → ℕ) (taken : T → Option (List ℕ))

@@ -44,7 +44,8 @@ AreTrue s [] last = s ≡ last
 AreTrue s (b ∷ bs) last = (next : SessionValue) × Takes s b.statement b.answer next × AreTrue next bs last
 
 -- true blocks for the first of the statements, and the statements that are left
-pub record IsAnswered (ss : List Statement) (blocks : List Block) (last : SessionValue) (rest : List Statement) : Type 0
+pub record IsAnsweredSoFar (ss : List Statement) (blocks : List Block) (last : SessionValue)
+    (rest : List Statement) : Type 0
   where
     pub blocks_true : AreTrue at_start blocks last
     pub statements : ss ≡ map (λ b. b.statement) blocks ++ rest
@@ -61,7 +62,7 @@ pub record IsOut (ss : List Statement) (text : List ℕ) (finished : Bool) : Typ
   pub last : SessionValue
   pub rest : List Statement
   pub closing : List ℕ
-  pub answered : IsAnswered ss blocks last rest
+  pub answered : IsAnsweredSoFar ss blocks last rest
   pub closes : IsClosing (length blocks) last rest closing finished
   pub is : text ≡ blocks_text blocks ++ closing
 
@@ -76,7 +77,7 @@ pub data IsOutput (bytes : List ℕ) : List ℕ → Bool → Type 0 where
 
 -- What a run over these statements has printed between two pieces: the blocks of the first ones, or all.
 pub data IsPart (ss : List Statement) : List ℕ → Type 0 where
-  Blocks : (blocks : List Block) (last : SessionValue) (rest : List Statement) → IsAnswered ss blocks last rest
+  Blocks : (blocks : List Block) (last : SessionValue) (rest : List Statement) → IsAnsweredSoFar ss blocks last rest
       → IsPart ss (blocks_text blocks)
   Whole : (text : List ℕ) (finished : Bool) → IsOut ss text finished → IsPart ss text
 

@@ -4,8 +4,8 @@ ghost use Rattle.std.specs.Prelude.{◌≡◌, ℕ, List, ◌≤◌, ◌↔◌, 
 ghost use Rattle.std.specs.Option.{ForSome};
 ghost use Rattle.ff_io.specs.Streams.{Rose};
 ghost use Rattle.ff_program.specs.Commands.{IsRun, IsAnsweredWhole, IsFaultless, RunEnds, usage_line};
-ghost use Rattle.ff_program.specs.Output.{IsBegun, IsOutput};
-ghost use Rattle.ff_program.specs.Printing.{BreaksOff, EndsAs, EndsWith, Prints};
+ghost use Rattle.ff_program.specs.Output.{IsBegun};
+ghost use Rattle.ff_program.specs.Printing.{BreaksOff, EndsWith, Prints};
 
 use crate::run::{close, run};
 use crate::status::Status;

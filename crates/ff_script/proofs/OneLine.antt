@@ -11,7 +11,7 @@ use Rattle.ff_script.specs.declared.script.Modulus.{Modulus}
 use Rattle.ff_script.specs.declared.script.Over.{Over}
 use Rattle.ff_script.specs.declared.script.Over.TheVariants.{At, Inf}
 use Rattle.ff_script.specs.declared.script.Statement.{Statement}
-use Rattle.ff_script.specs.declared.script.Statement.TheVariants.{FieldOf, CurveOf, Mul, Factor, OrderOf, Places, Place}
+use Rattle.ff_script.specs.declared.script.Statement.TheVariants.{FieldOf, CurveOf, Mul, Factor, OrderOf, Places, Place, Constants, Genus}
 use Rattle.ff_script.specs.Grammar.{is_word_byte, numbers_of, SpellsSide, SpellsOver, IsSkipped, SpellsLine}
 use Rattle.ff_script.specs.Reading.{behind_blanks, IsFront, AreNumbersAt, IsElementFront, IsPlaceAt, IsBehind}
 use Rattle.ff_script.proofs.Spans.{head_same, stopped_same}
@@ -118,6 +118,8 @@ module _ (one_terms : (with_y : Bool) → OneValue (SpellsTerms with_y)) (one_el
       let at = place_same a.1 b.1 a.2 b.2 k.0 (subst (IsPlaceAt a.1 a.2) named.1 h.2) k.2 in
       ap (λ (x : List ℕ). Place x a.1 a.2) named.0 ∙ ap (λ (x : Over). Place b.0 x a.2) at.0
       ∙ ap (λ (x : ℕ). Place b.0 b.1 x) at.1
+  held_same ConstantsKind a b bytes h k = refl
+  held_same GenusKind a b bytes h k = refl
 
   behind_same : (word bytes : List ℕ) (s t : Statement) → IsBehind word s bytes → IsBehind word t bytes → s ≡ t
   behind_same word bytes s t h k =

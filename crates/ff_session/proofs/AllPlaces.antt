@@ -34,7 +34,7 @@ use Rattle.ff_places.specs.Numbers as primes
 use Rattle.ff_cert.specs.declared.answer.PlaceLines.{PlaceLines}
 use Rattle.ff_cert.specs.RowMul as mul_row
 use Rattle.ff_cert.specs.RowOrder as order_row
-use Rattle.ff_cert.specs.RowPlaces.{NumberedFrom, functions_of, listed, ArePrintedRows, AreAllPlaces}
+use Rattle.ff_cert.specs.RowPlaces.{LinesNumberedFrom, listed, ArePrintedRows, AreAllPlaces}
 use Rattle.ff_cert.specs.RowPlaces as places_row
 use Rattle.ff_cert.proofs.OneLattice.{one_written_lattice}
 use Rattle.ff_session.specs.Places.{ArePrimesOver, AreLinesOf}
@@ -98,7 +98,7 @@ module _ (k : CodeField) (c : CurveValue) (curve : IsCurve k c) (s : Side) where
   same_listings (P ∷ Ps) (L ∷ Ls) h = ap₂ ◌∷◌ (sym (same_listing P L h.0)) (same_listings Ps Ls h.1)
 
   numbers : (first : ℕ) (Ps : List PrimeValue) (Ls : List PlaceLines) → AllZip (AreLinesOf k c s) Ps Ls
-      → primes.NumberedFrom first Ps → NumberedFrom first Ls
+      → primes.NumberedFrom first Ps → LinesNumberedFrom first Ls
   numbers first [] [] h g = tt
   numbers first [] (L ∷ Ls) h g = absurd h
   numbers first (P ∷ Ps) [] h g = absurd h

@@ -18,7 +18,7 @@ use Rattle.ff_meaning.specs.Bindings.{Bound, NamedPlace, IsNameOf}
 use Rattle.ff_meaning.specs.Refusals.{UnlessMemory, IsNoPlace, IsPlaceRow, taken, base, none}
 use Rattle.ff_meaning.proofs.BaseRows.{one_base}
 use Rattle.ff_cert.specs.declared.answer.PlaceLines.{PlaceLines}
-use Rattle.ff_cert.specs.RowPlaces.{NumberedFrom, listed}
+use Rattle.ff_cert.specs.RowPlaces.{LinesNumberedFrom, listed}
 use Rattle.ff_cert.specs.RowNamedPlace.{IsPlaceOfLines}
 use Rattle.ff_session.specs.Places.{AreLinesOf, AreListedPlaces, IsNoNumber}
 use Rattle.ff_session.specs.Steps.{ArePlacesRead, IsPlaceRead}
@@ -39,7 +39,7 @@ zip_long R [] (b ∷ ys) h = absurd h
 zip_long R (a ∷ xs) [] h = absurd h
 zip_long R (a ∷ xs) (b ∷ ys) h = ap suc (zip_long R xs ys h.1)
 
-numbered_at : (first : ℕ) (Ls : List PlaceLines) (i : ℕ) (d : PlaceLines) → i < length Ls → NumberedFrom first Ls
+numbered_at : (first : ℕ) (Ls : List PlaceLines) (i : ℕ) (d : PlaceLines) → i < length Ls → LinesNumberedFrom first Ls
     → (get_or Ls i d).number ≡ first + i
 numbered_at first [] i d l h = absurd (omega arith)
 numbered_at first (L ∷ Ls) zero d l h = h.0 ∙ omega arith
@@ -148,6 +148,7 @@ module _ (k : CodeField) (c : CurveValue) (curve : IsCurve k c) (over : Over) (s
     place_answer (Err e) first last lines primes = lines
 
     pub place_refusal : (r : Result (PlaceLines × PrimeValue) Refusal)
-        → IfErr r (UnlessMemory (IsNoNumber (length Ls) index)) → IfErr r (UnlessMemory (IsPlaceRow k here name over index))
+        → IfErr r (UnlessMemory (IsNoNumber (length Ls) index))
+        → IfErr r (UnlessMemory (IsPlaceRow k here name over index))
     place_refusal (Ok x) h = h
     place_refusal (Err e) h = λ some. none free read.no_row (no_place index (length Ls) e refl (h some))

@@ -22,6 +22,7 @@ use ff_algebra::elem::Elem;
 use ff_fields::field::SmallField;
 use ff_lattice::Lattice;
 use ff_poly::Poly;
+use ff_written::copy_elements;
 use std::alloc::{AllocError, Global};
 use std::marker::Model;
 
@@ -54,6 +55,15 @@ impl SplitBasis {
         ensures { result.now ≡ self.now.degrees }
     {
         self.degrees.as_slice()
+    }
+
+    /// An equal basis, in memory of its own.
+    pub fn copy(&self, alloc: Global) -> Result<SplitBasis, AllocError>
+        ensures { IfOk result (λ s. s ≡ self.now) }
+    {
+        let basis = copy_elements(alloc, self.basis.as_slice())?;
+        let degrees = self.degrees.as_slice().to_vec(alloc)?;
+        Ok(SplitBasis { basis, degrees })
     }
 }
 

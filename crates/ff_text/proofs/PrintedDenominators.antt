@@ -10,7 +10,7 @@ use Rattle.std.proofs.Math.Seq.{get_or-append_seam, take-suc}
 use Rattle.ff_fields.specs.Code.{is_zero_code}
 use Rattle.ring_lemmas.proofs.Lists.{IsTrimmed_push, trim_trimmed}
 use Rattle.ff_poly.specs.Words.{IsPoly, poly_of, IsMonicList, top_of}
-use Rattle.ff_text.specs.Printed.{power_text, term_text, poly_text, term_count, den_text, over_text, IsPrintable}
+use Rattle.ff_text.specs.Printed.{power_text, term_text, poly_text, term_count, den_text, denominator_text, IsPrintable}
 use Rattle.ff_text.specs.PrintedWriting.{plus_text}
 use Rattle.ff_text.specs.PrintedReading.{◌>>=◌, after_text, power_at, poly_at, inner_at, power_of_x, den_at, over_at}
 use Rattle.ff_text.proofs.PrintedFound.{bind_some, choice_some, guard_some, some_is, text_takes, text_again, then_takes}
@@ -245,11 +245,13 @@ is_one (c ∷ d ∷ ds) = inr (λ e. absurd cc)
 one_printable : IsPrintable (1 ∷ [])
 one_printable = power_printable 0 (omega arith)
 
-pub over_takes : (bytes : List ℕ) (b : List ℕ × List ℕ) → over_at bytes ≡ Some b → IsDenIn (over_text b.0) bytes b.0 b.1
+pub over_takes : (bytes : List ℕ) (b : List ℕ × List ℕ) → over_at bytes ≡ Some b
+    → IsDenIn (denominator_text b.0) bytes b.0 b.1
 unfolding over_at
 over_takes bytes b e =
     elim (choice_some den_at (after_text (codes "/") bytes) (Some (1 ∷ [], bytes)) b e) [
-      | inl w ↦ subst (λ (r : List ℕ × List ℕ). IsDenIn (over_text r.0) bytes r.0 r.1) (some_is (1 ∷ [], bytes) b w.1)
+      | inl w ↦ subst (λ (r : List ℕ × List ℕ). IsDenIn (denominator_text r.0) bytes r.0 r.1) (some_is
+          (1 ∷ [], bytes) b w.1)
           (record { parts = refl; printable = one_printable; monic = ([], refl) })
       | inr w ↦
           let is = den_takes w.0 b w.2 in
@@ -262,10 +264,10 @@ over_takes bytes b e =
     ]
 
 pub over_again : (d rest : List ℕ) → IsPrintable d → IsMonicList d → IsElemEnd rest
-    → over_at (over_text d ++ rest) ≡ Some (d, rest)
+    → over_at (denominator_text d ++ rest) ≡ Some (d, rest)
 unfolding over_at
 over_again d rest printable monic end = elim (is_one d) [
-  | inl one ↦ subst (λ x. over_at (over_text x ++ rest) ≡ Some (x, rest)) (sym one) (rw end.over refl)
+  | inl one ↦ subst (λ x. over_at (denominator_text x ++ rest) ≡ Some (x, rest)) (sym one) (rw end.over refl)
   | inr other ↦
       ap (λ t. over_at (t ++ rest)) (over_written d other)
       ∙ rw (text_again (codes "/") (den_text d ++ rest), den_again d rest printable monic other end.power_end) refl

@@ -2,7 +2,7 @@
 use Rattle.std.proofs.Common.{◌≡◌, ◌≢◌, ℕ, ◌-◌, ◌≤◌, true, false, eqb, List, [], ◌∷◌, ◌++◌, length, drop, Some, None, refl, sym, ap, subst, ◌∙◌, append_assoc, arith}
 use Rattle.std.specs.Char.{is_ascii_digit}
 use Rattle.std.proofs.lemmas.List.{append-nil}
-use Rattle.ff_text.specs.Printed.{over_text, elem_text, IsPrintableElem, IsElemAt, ends_elem}
+use Rattle.ff_text.specs.Printed.{denominator_text, elem_text, IsPrintableElem, IsElemAt, ends_elem}
 use Rattle.ff_text.specs.PrintedReading.{◌>>=◌, after_text, num_at, over_at, elem_at}
 use Rattle.ff_text.proofs.PrintedFound.{bind_some, some_is, no_none}
 use Rattle.ff_text.proofs.PrintedTerms.{other_text, no_digit}
@@ -14,7 +14,8 @@ abbrev pub ReadElem : Type 0
 ReadElem = (List (List ℕ) × List ℕ) × List ℕ
 
 -- the numerators, and then the denominator
-elem_regrouped : (num : Polys) (den rest : List ℕ) → elem_text num den ++ rest ≡ num_text num ++ (over_text den ++ rest)
+elem_regrouped : (num : Polys) (den rest : List ℕ)
+    → elem_text num den ++ rest ≡ num_text num ++ (denominator_text den ++ rest)
 elem_regrouped num den rest = simp append_assoc
 
 -- a printable element that is read, and what is before the rest
@@ -45,7 +46,10 @@ pub elem_again : (num : Polys) (den rest : List ℕ) → IsPrintableElem num den
 unfolding elem_at
 elem_again num den rest is end =
     ap elem_at (elem_regrouped num den rest)
-    ∙ rw (num_again num (over_text den ++ rest) is.some is.numerators, over_again den rest is.denominator is.monic end)
+    ∙ rw (
+      num_again num (denominator_text den ++ rest) is.some is.numerators,
+      over_again den rest is.denominator is.monic end,
+    )
     refl
 
 -- ---- what may follow

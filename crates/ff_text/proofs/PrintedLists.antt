@@ -4,7 +4,7 @@ use Rattle.std.proofs.Math.Seq.{take-suc}
 use Rattle.std.proofs.lemmas.List.{reverse-append, length-reverse, length-take-le, take_all}
 use Rattle.std.specs.List.{join_by}
 use Rattle.ff_poly.specs.Words.{degree_of}
-use Rattle.ff_text.specs.Printed.{term_text, terms_down, poly_text, den_text, over_text}
+use Rattle.ff_text.specs.Printed.{term_text, terms_down, poly_text, den_text, denominator_text}
 use Rattle.ff_text.specs.PrintedWriting.{plus_text}
 use Rattle.ff_text.proofs.PrintedFound.{some_is}
 
@@ -72,7 +72,7 @@ length_from_degree (c ∷ cs) d e = ap suc (some_is (length cs) d e)
 
 -- ---- denominators
 
-pub over_written : (d : List ℕ) → d ≢ 1 ∷ [] → over_text d ≡ codes "/" ++ den_text d
+pub over_written : (d : List ℕ) → d ≢ 1 ∷ [] → denominator_text d ≡ codes "/" ++ den_text d
 over_written [] other = refl
 over_written (zero ∷ []) other = refl
 over_written (suc zero ∷ []) other = absurd (other refl)

@@ -60,13 +60,13 @@ abbrev pub den_text : List ℕ → List ℕ
 den_text d = if nat_lt 1 (term_count d) then codes "(" ++ (poly_text d ++ codes ")") else poly_text d
 
 -- the denominator behind `/`, and nothing where it is 1
-abbrev pub over_text : List ℕ → List ℕ
-over_text (suc zero ∷ []) = []
-over_text d = codes "/" ++ den_text d
+abbrev pub denominator_text : List ℕ → List ℕ
+denominator_text (suc zero ∷ []) = []
+denominator_text d = codes "/" ++ den_text d
 
 -- the numerators in brackets, joined by `, `, over the denominator
 abbrev pub elem_text : List (List ℕ) → List ℕ → List ℕ
-elem_text num den = codes "[" ++ (join_by poly_text (codes ", ") num ++ (codes "]" ++ over_text den))
+elem_text num den = codes "[" ++ (join_by poly_text (codes ", ") num ++ (codes "]" ++ denominator_text den))
 
 -- an element as it is printed: numerators at 1, y, and so on, over a denominator
 pub record WrittenValue : Type 0 where

@@ -5,7 +5,7 @@
 //! the one to before the other begin a spelling. It never answers `TextFault::CodeRange`, and takes time in proportion
 //! to the bytes that it looks at. Condition of each: the column isn't behind the end of the line.
 
-ghost use Rattle.std.specs.Prelude.{◌≡◌, ◌≢◌, ◌≤◌, true, false, length, Err, IfOk, IfErr};
+ghost use Rattle.std.specs.Prelude.{◌≢◌, ◌≤◌, true, false, length, Err, IfOk, IfErr};
 ghost use Rattle.ff_text.specs.Spelling.{SpellsNumber, SpellsTerms, SpellsElement};
 ghost use Rattle.ff_text.specs.Reading.{IsLongestSpelling, IsReadFault};
 

@@ -11,7 +11,6 @@ ghost use Rattle.ring_theory.specs.Subsets.{IsSubring, Span};
 ghost use Rattle.ring_theory.specs.Integral.{IsIntegral};
 ghost use Rattle.ring_theory.specs.Local.{PrimeTo, Locally};
 ghost use Rattle.ff_fields.specs.Field.{CodeField};
-ghost use Rattle.ff_fields.specs.Code.{code_ring};
 ghost use Rattle.ff_poly.specs.Words.{IsPoly};
 ghost use Rattle.function_field.specs.declared.side.Side.{Side};
 ghost use Rattle.function_field.specs.Values.{PresValue, ElemValue, IsElem, Functions, functions, setting, function_of};

@@ -5,7 +5,7 @@
 //! theorem is the contract of a function with an empty body; the crates above cite the lemmas of proofs/.
 #![tactic(auto)]
 
-ghost use Rattle.std.specs.Prelude.{◌≡◌, ℕ, ◌+◌, ◌<◌, ℤ, ◌+ℤ◌, ◌-ℤ◌, ◌↔◌, List, length, map};
+ghost use Rattle.std.specs.Prelude.{◌≡◌, ℕ, ◌+◌, ◌<◌, ℤ, ◌+ℤ◌, ◌-ℤ◌, List, length, map};
 ghost use Rattle.std.proofs.Common.{pos};
 ghost use Rattle.ring_theory.specs.Subsets.{Span, Colon};
 ghost use Rattle.ff_fields.specs.Field.{CodeField};
@@ -14,7 +14,7 @@ ghost use Rattle.linear_theory.specs.Basis.{IsSum, IsNull};
 ghost use Rattle.ff_poly.specs.Polynomials.{polynomials};
 ghost use Rattle.function_field.specs.declared.side.Side.TheVariants.{Finite, Infinite};
 ghost use Rattle.function_field.specs.Functions.{Equation, FunctionOf, ring_of, setting_of, degree_of_y, IsPolynomial};
-ghost use Rattle.function_field.specs.Values.{PresValue, Functions, functions, setting, equation_of};
+ghost use Rattle.function_field.specs.Values.{Functions, functions, setting, equation_of};
 ghost use Rattle.function_field.specs.Places.{IsIntegralAt};
 ghost use Rattle.function_field.specs.Divisors.{Divisor, MeetsOn, InSpace, IsSpaceBasis, IsSimultaneousBasis, IsSumOfSides, SpansOnce, IsCanonical};
 ghost use Rattle.function_field.specs.Discriminant.{discriminant};

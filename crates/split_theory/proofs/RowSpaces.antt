@@ -15,9 +15,8 @@ use Rattle.ff_poly.specs.Words.{IsPoly, product_of}
 use Rattle.ff_poly.specs.PolyOver.{IsPoly_poly_of}
 use Rattle.ff_poly.specs.Value.{value}
 use Rattle.ff_poly.specs.Polynomials.{Polynomial, polynomials, codes_of, value_codes_of, IsOver_codes_of, IsPoly_codes_of, value_nil}
-use Rattle.ff_poly.specs.Popov.{entry_at, IsRow, InRowSpan, HaveSameRowSpan, HasFullRankMatrix, combination, multiple_of_row}
+use Rattle.ff_poly.specs.Popov.{entry_at, IsRow, InRowSpan, HaveSameRowSpan, HasFullRankMatrix, combination_list, multiple_of_row}
 use Rattle.popov_theory.specs.Module.{PolynomialModule}
-use Rattle.popov_theory.specs.Span.{InSpan}
 use Rattle.popov_theory.specs.Span as rows_span
 use Rattle.popov_theory.proofs.PolynomialRows.{row_module_zero, row_module_add, row_module_scale}
 use Rattle.function_field.specs.Functions.{of_poly, degree_of_y}
@@ -111,10 +110,10 @@ module _ (k : CodeField) (c : CurveValue) (curve : IsCurve k c) (inf : LatticeVa
   -- the function of a combination of rows
   pub function_combination : (cs : List (List ℕ)) (rows : List (List (List ℕ))) → length cs ≡ length rows
       → All (IsOver k.ops) cs → All (IsRow k.ops c.fin.n) rows
-      → row_function k c inf (combination k.ops c.fin.n cs rows)
+      → row_function k c inf (combination_list k.ops c.fin.n cs rows)
       ≡ combine (polynomial_ops (equation_of k c.fin)) (λ i. value k (entry_at cs i)) (map (row_function k c inf) rows)
   function_combination cs rows size cs_in all =
-      row_is (combination k.ops c.fin.n cs rows)
+      row_is (combination_list k.ops c.fin.n cs rows)
       ∙ ap row_at_h (combination_read k c.fin.n cs rows size cs_in all)
       ∙ h_combine (λ i. value k (entry_at cs i)) rows
 
@@ -150,7 +149,7 @@ module _ (k : CodeField) (c : CurveValue) (curve : IsCurve k c) (inf : LatticeVa
   -- a combination of the functions of rows is the function of a combination of the rows
   from_codes : (rows : List (List (List ℕ))) → All (IsRow k.ops c.fin.n) rows → (p : ℕ → Polynomial k)
       → combine (polynomial_ops (equation_of k c.fin)) p (map (row_function k c inf) rows)
-      ≡ row_function k c inf (combination k.ops c.fin.n (codes (length rows) p) rows)
+      ≡ row_function k c inf (combination_list k.ops c.fin.n (codes (length rows) p) rows)
   from_codes rows all p =
       sym (function_combination (codes (length rows) p) rows (codes_size (length rows) p) (codes_over (length rows) p)
       all
@@ -163,7 +162,7 @@ module _ (k : CodeField) (c : CurveValue) (curve : IsCurve k c) (inf : LatticeVa
       → InLattice (code_ring k) (polynomial_ops (equation_of k c.fin)) (map (row_function k c inf) ss) z
   within rows ss rows_in ss_in h z m =
       let cs = codes (length rows) m.coefficient in
-      let t = h (combination k.ops c.fin.n cs rows) (record {
+      let t = h (combination_list k.ops c.fin.n cs rows) (record {
         coefficients = cs;
         is = record {
           size = codes_size (length rows) m.coefficient;

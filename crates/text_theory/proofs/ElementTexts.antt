@@ -3,7 +3,7 @@ use Rattle.std.proofs.Common.{◌≡◌, ◌≢◌, ℕ, zero, suc, Bool, true, 
 use Rattle.std.specs.List.{join_by}
 use Rattle.std.proofs.lemmas.List.{append_cancel_right}
 use Rattle.std.proofs.lemmas.List.Elements.{All-nil, All-cons, All-head, All-weaker}
-use Rattle.ff_text.specs.Printed.{WrittenValue, poly_text, term_count, den_text, over_text, elem_text}
+use Rattle.ff_text.specs.Printed.{WrittenValue, poly_text, term_count, den_text, denominator_text, elem_text}
 use Rattle.ff_text.proofs.PrintedLists.{over_written}
 use Rattle.text_theory.specs.WrittenInFull.{IsWrittenInFull, IsElemWrittenInFull}
 use Rattle.text_theory.proofs.JoinedTexts.{AllIn, AreTold, same_parts, one_front, one_joined, joined_in}
@@ -35,19 +35,19 @@ is_one (suc zero ∷ []) = inl refl
 is_one (suc (suc c) ∷ []) = inr (λ e. absurd cc)
 is_one (c ∷ d ∷ ds) = inr (λ e. absurd cc)
 
-some_over : (d : List ℕ) → d ≢ 1 ∷ [] → over_text d ≢ over_text (1 ∷ [])
+some_over : (d : List ℕ) → d ≢ 1 ∷ [] → denominator_text d ≢ denominator_text (1 ∷ [])
 some_over d other same =
-    let written : over_text d ≡ 47 ∷ den_text d = over_written d other in
+    let written : denominator_text d ≡ 47 ∷ den_text d = over_written d other in
     cc
 
-one_over : (d e : List ℕ) → IsWrittenInFull d → IsWrittenInFull e → over_text d ≡ over_text e → d ≡ e
+one_over : (d e : List ℕ) → IsWrittenInFull d → IsWrittenInFull e → denominator_text d ≡ denominator_text e → d ≡ e
 one_over d e d_is e_is same = elim (is_one d) [
   | inl d_one ↦ elim (is_one e) [
     | inl e_one ↦ d_one ∙ sym e_one
-    | inr e_other ↦ absurd (some_over e e_other (sym same ∙ ap over_text d_one))
+    | inr e_other ↦ absurd (some_over e e_other (sym same ∙ ap denominator_text d_one))
   ]
   | inr d_other ↦ elim (is_one e) [
-    | inl e_one ↦ absurd (some_over d d_other (same ∙ ap over_text e_one))
+    | inl e_one ↦ absurd (some_over d d_other (same ∙ ap denominator_text e_one))
     | inr e_other ↦
         let inner = same_parts 47 47 (den_text d) (den_text e)
         (sym (over_written d d_other) ∙ same ∙ over_written e e_other) in
@@ -86,9 +86,9 @@ unfolding written_value
 one_elem z w z_is w_is e =
     let z_num : List ℕ = join_by poly_text (codes ", ") z.num in
     let w_num : List ℕ = join_by poly_text (codes ", ") w.num in
-    let inner = same_parts 91 91 (z_num ++ (93 ∷ over_text z.den)) (w_num ++ (93 ∷ over_text w.den)) e in
-    let parts = one_front is_num_byte z_num w_num (93 ∷ over_text z.den) (93 ∷ over_text w.den)
+    let inner = same_parts 91 91 (z_num ++ (93 ∷ denominator_text z.den)) (w_num ++ (93 ∷ denominator_text w.den)) e in
+    let parts = one_front is_num_byte z_num w_num (93 ∷ denominator_text z.den) (93 ∷ denominator_text w.den)
     (num_bytes z.num z_is.numerators) (num_bytes w.num w_is.numerators) refl refl inner.1 in
-    let behind = same_parts 93 93 (over_text z.den) (over_text w.den) parts.1 in
+    let behind = same_parts 93 93 (denominator_text z.den) (denominator_text w.den) parts.1 in
     ap₂ written_value (one_num z.num w.num z_is.numerators w_is.numerators parts.0)
     (one_over z.den w.den z_is.denominator w_is.denominator behind.1)

@@ -2,10 +2,10 @@
 //!
 //! A line is n + 1 factors, w and a polynomial d, followed by the n entries of w·v - d.
 
-ghost use Rattle.std.specs.Prelude.{◌≡◌, ◌≢◌, ◌+◌, ◌*◌, ◌<◌, ◌≤◌, ℕ, [], ◌∷◌, length, take, replicate, slice_set, slice_index_or, All, IfOk, MatchOption};
+ghost use Rattle.std.specs.Prelude.{◌≡◌, ◌≢◌, ◌+◌, ◌<◌, ℕ, [], ◌∷◌, length, take, replicate, slice_set, All, IfOk, MatchOption};
 ghost use Rattle.ff_fields.specs.Over.{IsOver};
 ghost use Rattle.ff_poly.specs.Popov.{rows_of};
-ghost use Rattle.function_field.specs.Values.{IsPresOver, PresValue};
+ghost use Rattle.function_field.specs.Values.{IsPresOver};
 ghost use Rattle.ff_algebra.specs.RowProducts.{IsPolyRow};
 ghost use Rattle.ff_algebra.specs.Inverses.{ClearsColumn, AreEliminatedLines, IsInverseLine, IsInverseRelation, eliminated_lines, line_entry};
 

@@ -1,10 +1,10 @@
 //! The length, and the change of a polynomial in place.
 
-ghost use Rattle.std.specs.Prelude.{◌≡◌, ◌≢◌, ◌+◌, ◌^◌, ◌<◌, ◌≤◌, [], ◌++◌, length, replicate, OnOk, OnErr};
+ghost use Rattle.std.specs.Prelude.{◌≡◌, ◌+◌, ◌^◌, ◌<◌, ◌≤◌, ◌++◌, length, replicate, OnOk, OnErr};
 ghost use Rattle.ff_fields.specs.Code.{raw_ring};
 ghost use Rattle.ff_fields.specs.Over.{IsOver};
 ghost use Rattle.ring_lemmas.specs.Lists.{add_lists, scale_list};
-ghost use Rattle.ff_poly.specs.Words.{IsPoly, poly_of};
+ghost use Rattle.ff_poly.specs.Words.{IsPoly};
 ghost use Rattle.ff_poly.specs.Terms.{less_multiple};
 
 use crate::poly::{Poly, drop_zeros};

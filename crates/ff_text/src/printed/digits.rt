@@ -1,6 +1,5 @@
 //! Reads fixed texts and numbers.
 
-ghost use Rattle.std.specs.Prelude.{◌≡◌};
 ghost use Rattle.ff_text.specs.PrintedReading.{Finds, after_text, digit_at, digits_at, number_at};
 
 /// The bytes after the text that they begin with.

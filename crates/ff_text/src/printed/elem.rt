@@ -1,6 +1,6 @@
 //! Reads elements.
 
-ghost use Rattle.std.specs.Prelude.{◌≡◌, IfOk, IsTrue, ◌==◌, ◌&&◌, nat_lt};
+ghost use Rattle.std.specs.Prelude.{◌≡◌, IfOk, ◌==◌, ◌&&◌, nat_lt};
 ghost use Rattle.ff_poly.specs.Words.{top_of};
 ghost use Rattle.ff_text.specs.Printed.{term_count};
 ghost use Rattle.ff_text.specs.PrintedReading.{FindsUnless, with_front, polys_at, num_at, inner_at, power_of_x, den_at, over_at, elem_at};

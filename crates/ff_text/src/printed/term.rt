@@ -1,6 +1,6 @@
 //! Reads terms in x.
 
-ghost use Rattle.std.specs.Prelude.{◌≡◌, ◌<◌, IfSome};
+ghost use Rattle.std.specs.Prelude.{◌<◌, IfSome};
 ghost use Rattle.ff_text.specs.PrintedReading.{Finds, exponent_at, power_at, factor_at, term_at, plus_at, lower_at};
 
 use super::digits::{after, number};

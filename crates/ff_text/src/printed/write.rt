@@ -1,7 +1,7 @@
 //! Printed forms, each written at the end of one buffer. After an error the buffer holds a part of the text.
 
 ghost use Rattle.std.specs.Prelude.{◌≡◌, ◌↔◌, [], ◌∷◌, ◌++◌, IsTrue, OnOk};
-ghost use Rattle.ff_text.specs.Printed.{power_text, term_text, poly_text, term_count, den_text, over_text, elem_text};
+ghost use Rattle.ff_text.specs.Printed.{power_text, term_text, poly_text, term_count, den_text, denominator_text, elem_text};
 ghost use Rattle.ff_text.specs.PrintedWriting.{commas_text};
 
 use crate::number::push_number;
@@ -96,7 +96,7 @@ fn is_one(p: &Poly) -> bool
 
 /// The denominator behind `/`, and nothing where it is 1.
 fn push_over(out: &mut Vec<u8>, den: &Poly) -> Result<(), AllocError>
-    ensures { OnOk result (out.new.items ≡ out.old.items ++ over_text den.now) }
+    ensures { OnOk result (out.new.items ≡ out.old.items ++ denominator_text den.now) }
 {
     if is_one(den) {
         return Ok(());

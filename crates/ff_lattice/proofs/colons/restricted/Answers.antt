@@ -2,7 +2,7 @@ use Rattle.std.proofs.Common.{◌≡◌, ◌↔◌, ◌∙◌, sym, ap, ap₂, s
 use Rattle.std.specs.Prelude.{MatchOption, IfSome}
 use Rattle.std.proofs.lemmas.List.{length-map}
 use Rattle.ff_poly.specs.Words.{IsPoly}
-use Rattle.ff_poly.specs.Popov.{rows_of, IsRow, combination, HasFullRankMatrix}
+use Rattle.ff_poly.specs.Popov.{rows_of, IsRow, combination_list, HasFullRankMatrix}
 use Rattle.function_field.specs.Values.{functions, function_of}
 use Rattle.ff_lattice.specs.Lattices.{LatticeValue, IsLatticeValue, IsSpannedBy, Contains, InSpanOf, elems_over}
 use Rattle.ff_lattice.proofs.Restrictions.{kept_iff, made_rows, made_poly, made_rank}
@@ -40,11 +40,12 @@ returns-then-same_rows-clause-members g c =
     let a = c.args.a.now in
     let w = c.args.w.now in
     let basis = rows_of c.in_ok-basis.basis.items in
-    let made_is : rows_of c.in_ok-rows.rows.items ≡ map (λ z. combination k.ops p.n z l.rows) basis
-    = c.in_ok-rows.ensures ∙ ap (λ n. map (λ z. combination k.ops n z (rows_of c.rows.result.now))
+    let made_is : rows_of c.in_ok-rows.rows.items ≡ map (λ z. combination_list k.ops p.n z l.rows) basis
+    = c.in_ok-rows.ensures ∙ ap (λ n. map (λ z. combination_list k.ops n z (rows_of c.rows.result.now))
     (rows_of c.deref.result.now)) c.n.ensures.n
-    ∙ ap₂ (λ ls bs. map (λ z. combination k.ops p.n z ls) (rows_of bs)) c.rows.ensures.rows c.deref.ensures.value in
-    let same : map (λ z. combination k.ops p.n z l.rows) basis ≡ l.rows
+    ∙ ap₂ (λ ls bs. map (λ z. combination_list k.ops p.n z ls)
+    (rows_of bs)) c.rows.ensures.rows c.deref.ensures.value in
+    let same : map (λ z. combination_list k.ops p.n z l.rows) basis ≡ l.rows
     = sym made_is ∙ ap rows_of (sym c.deref-2.ensures.value) ∙ c.same_rows.ensures.0 c.if-same_rows.true
     ∙ c.rows-2.ensures.rows in
     λ z.
@@ -62,10 +63,11 @@ from_rows-requires-clause-rows_in g c =
     let a = c.args.a.now in
     let w = c.args.w.now in
     let basis = rows_of c.in_ok-basis.basis.items in
-    let made_is : rows_of c.in_ok-rows.rows.items ≡ map (λ z. combination k.ops p.n z l.rows) basis
-    = c.in_ok-rows.ensures ∙ ap (λ n. map (λ z. combination k.ops n z (rows_of c.rows.result.now))
+    let made_is : rows_of c.in_ok-rows.rows.items ≡ map (λ z. combination_list k.ops p.n z l.rows) basis
+    = c.in_ok-rows.ensures ∙ ap (λ n. map (λ z. combination_list k.ops n z (rows_of c.rows.result.now))
     (rows_of c.deref.result.now)) c.n.ensures.n
-    ∙ ap₂ (λ ls bs. map (λ z. combination k.ops p.n z ls) (rows_of bs)) c.rows.ensures.rows c.deref.ensures.value in
+    ∙ ap₂ (λ ls bs. map (λ z. combination_list k.ops p.n z ls)
+    (rows_of bs)) c.rows.ensures.rows c.deref.ensures.value in
     subst (λ n. All (IsRow k.ops n) (rows_of c.in_ok-rows.rows.items)) (sym c.n-2.ensures.n)
     (subst (All (IsRow k.ops p.n)) (sym made_is)
     (made_rows k p l a w basis c.n.ensures.range.positive c.requires.l_form c.requires.a_form
@@ -79,10 +81,11 @@ from_rows-requires-clause-rows_poly g c =
     let a = c.args.a.now in
     let w = c.args.w.now in
     let basis = rows_of c.in_ok-basis.basis.items in
-    let made_is : rows_of c.in_ok-rows.rows.items ≡ map (λ z. combination k.ops p.n z l.rows) basis
-    = c.in_ok-rows.ensures ∙ ap (λ n. map (λ z. combination k.ops n z (rows_of c.rows.result.now))
+    let made_is : rows_of c.in_ok-rows.rows.items ≡ map (λ z. combination_list k.ops p.n z l.rows) basis
+    = c.in_ok-rows.ensures ∙ ap (λ n. map (λ z. combination_list k.ops n z (rows_of c.rows.result.now))
     (rows_of c.deref.result.now)) c.n.ensures.n
-    ∙ ap₂ (λ ls bs. map (λ z. combination k.ops p.n z ls) (rows_of bs)) c.rows.ensures.rows c.deref.ensures.value in
+    ∙ ap₂ (λ ls bs. map (λ z. combination_list k.ops p.n z ls)
+    (rows_of bs)) c.rows.ensures.rows c.deref.ensures.value in
     subst (All (All IsPoly)) (sym made_is)
     (made_poly k p l a w basis c.n.ensures.range.positive c.requires.l_form c.requires.a_form c.in_ok-basis.ensures)
 
@@ -94,10 +97,11 @@ unreachable-requires g c =
     let a = c.args.a.now in
     let w = c.args.w.now in
     let basis = rows_of c.in_ok-basis.basis.items in
-    let made_is : rows_of c.in_ok-rows.rows.items ≡ map (λ z. combination k.ops p.n z l.rows) basis
-    = c.in_ok-rows.ensures ∙ ap (λ n. map (λ z. combination k.ops n z (rows_of c.rows.result.now))
+    let made_is : rows_of c.in_ok-rows.rows.items ≡ map (λ z. combination_list k.ops p.n z l.rows) basis
+    = c.in_ok-rows.ensures ∙ ap (λ n. map (λ z. combination_list k.ops n z (rows_of c.rows.result.now))
     (rows_of c.deref.result.now)) c.n.ensures.n
-    ∙ ap₂ (λ ls bs. map (λ z. combination k.ops p.n z ls) (rows_of bs)) c.rows.ensures.rows c.deref.ensures.value in
+    ∙ ap₂ (λ ls bs. map (λ z. combination_list k.ops p.n z ls)
+    (rows_of bs)) c.rows.ensures.rows c.deref.ensures.value in
     let found = subst (λ f. MatchOption f (¬ HasFullRankMatrix k.ops c.n-2.result (rows_of c.in_ok-rows.rows.items))
     (IsLatticeValue k.ops c.n-2.result)) c.in-None.is c.in_ok-lattice.ensures.form in
     let none = subst (λ xs. ¬ HasFullRankMatrix k.ops p.n xs) made_is
@@ -113,16 +117,18 @@ returns-clause-members g c =
     let a = c.args.a.now in
     let w = c.args.w.now in
     let basis = rows_of c.in_ok-basis.basis.items in
-    let made_is : rows_of c.in_ok-rows.rows.items ≡ map (λ z. combination k.ops p.n z l.rows) basis
-    = c.in_ok-rows.ensures ∙ ap (λ n. map (λ z. combination k.ops n z (rows_of c.rows.result.now))
+    let made_is : rows_of c.in_ok-rows.rows.items ≡ map (λ z. combination_list k.ops p.n z l.rows) basis
+    = c.in_ok-rows.ensures ∙ ap (λ n. map (λ z. combination_list k.ops n z (rows_of c.rows.result.now))
     (rows_of c.deref.result.now)) c.n.ensures.n
-    ∙ ap₂ (λ ls bs. map (λ z. combination k.ops p.n z ls) (rows_of bs)) c.rows.ensures.rows c.deref.ensures.value in
+    ∙ ap₂ (λ ls bs. map (λ z. combination_list k.ops p.n z ls)
+    (rows_of bs)) c.rows.ensures.rows c.deref.ensures.value in
     let r = c.in-Some.lattice in
     let spanned = subst (λ f. IfSome f (IsSpannedBy k c.n-2.result
     (elems_over (rows_of c.in_ok-rows.rows.items) c.den.result.now))) c.in-Some.is c.in_ok-lattice.ensures.members
     in
     let spanned_n =
-    subst (λ d. IsSpannedBy k p.n (elems_over (map (λ z. combination k.ops p.n z l.rows) basis) d) r) c.den.ensures.den
+    subst (λ d. IsSpannedBy k p.n (elems_over (map
+    (λ z. combination_list k.ops p.n z l.rows) basis) d) r) c.den.ensures.den
     (subst (λ xs. IsSpannedBy k p.n (elems_over xs c.den.result.now) r) made_is
     (subst (λ n. IsSpannedBy k n (elems_over (rows_of c.in_ok-rows.rows.items) c.den.result.now) r) c.n-2.ensures.n
     spanned)) in

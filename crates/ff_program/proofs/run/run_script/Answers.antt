@@ -1,7 +1,7 @@
 use Rattle.std.proofs.Common.{◌≡◌, suc, ◌+◌, [], drop, sym, ◌∙◌, subst, arith}
 use Rattle.std.proofs.lemmas.List.{drop_all}
 use Rattle.ff_script.specs.Scripts.{AreInOrderFrom}
-use Rattle.ff_program.specs.Output.{IsAnswered}
+use Rattle.ff_program.specs.Output.{IsAnsweredSoFar}
 use Rattle.ff_program.specs.Printing.{Prints, BreaksOff}
 use Rattle.ff_program.proofs.Runs.{after_answer}
 use Rattle.ff_program.proofs.Steps.{on_err, on_ok, rest_at, stopped, broken, printed_on, refused, finished}
@@ -13,7 +13,7 @@ returns-then-is_err g c =
     let rest = rest_at c.args.script.now c.loop-s.s-index c.s-item.result (omega arith) c.s-item.is in
     broken g.T.Sink.taken g.T.Sink.faults g.T.Sink.free c.args.script.now c.args.out.now inv.0 c.loop-s.session
     c.s-item.result (drop (c.loop-s.s-index + 1) c.args.script.now)
-    c.loop-s.out c.print.new.out (subst (IsAnswered c.args.script.now inv.0 c.loop-s.session) rest inv.1) inv.2
+    c.loop-s.out c.print.new.out (subst (IsAnsweredSoFar c.args.script.now inv.0 c.loop-s.session) rest inv.1) inv.2
     c.step.new.self c.in-Ok.text.items c.in-Ok.ensures.block
     (subst (BreaksOff g.T.Sink.taken g.T.Sink.faults g.T.Sink.free c.loop-s.out c.print.new.out)
     c.as_slice.ensures.value
@@ -43,7 +43,7 @@ returns-in-Err g c =
     let rest = rest_at c.args.script.now c.loop-s.s-index c.s-item.result (omega arith) c.s-item.is in
     refused g.T.Sink.taken g.T.Sink.faults g.T.Sink.free c.args.script.now c.args.out.now inv.0 c.loop-s.session
     c.s-item.result (drop (c.loop-s.s-index + 1) c.args.script.now)
-    c.loop-s.out c.close.new.out (subst (IsAnswered c.args.script.now inv.0 c.loop-s.session) rest inv.1) inv.2
+    c.loop-s.out c.close.new.out (subst (IsAnsweredSoFar c.args.script.now inv.0 c.loop-s.session) rest inv.1) inv.2
     c.in-Err.r c.as_slice-in-Err.result.now c.close.result
     (c.in-Err.ensures.refused (λ e. absurd (let none = c.if-is_memory.ensures.1 e in cc)))
     (c.as_slice-in-Err.ensures.value ∙ c.in-Ok-refusal_text.ensures) c.close.ensures
@@ -61,7 +61,7 @@ loop-s-preserved g c =
       printed = printed_on g.T.Sink.taken g.T.Sink.faults g.T.Sink.free c.args.script.now c.args.out.now inv.0
           c.loop-s.session c.s-item.result
           (drop (c.loop-s.s-index + 1) c.args.script.now) c.loop-s.out c.print.new.out
-          (subst (IsAnswered c.args.script.now inv.0 c.loop-s.session) rest inv.1) inv.2 c.step.new.self
+          (subst (IsAnsweredSoFar c.args.script.now inv.0 c.loop-s.session) rest inv.1) inv.2 c.step.new.self
           c.in-Ok.text.items c.in-Ok.ensures.block
           (subst (Prints g.T.Sink.taken g.T.Sink.faults g.T.Sink.free c.loop-s.out c.print.new.out)
           c.as_slice.ensures.value
@@ -75,5 +75,5 @@ returns g c =
     ≡ [] = drop_all c.loop-s.s-index c.args.script.now (omega arith) in
     finished g.T.Sink.taken g.T.Sink.faults g.T.Sink.free c.args.script.now c.args.out.now inv.0 c.loop-s.session
     c.loop-s.out c.close-2.new.out
-    (subst (IsAnswered c.args.script.now inv.0 c.loop-s.session) none inv.1) inv.2 c.as_slice-2.result.now
+    (subst (IsAnsweredSoFar c.args.script.now inv.0 c.loop-s.session) none inv.1) inv.2 c.as_slice-2.result.now
     c.close-2.result (c.as_slice-2.ensures.value ∙ c.in-Ok-end_text.ensures) c.close-2.ensures

@@ -1,0 +1,4 @@
+pub mod Vectors
+pub mod Spaces
+pub mod Layers
+pub mod Steps

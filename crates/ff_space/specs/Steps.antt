@@ -1,0 +1,75 @@
+-- The words of the private contracts.
+use Rattle.std.specs.Prelude.{◌≡◌, ◌≢◌, ℕ, zero, suc, ◌*◌, ◌≤◌, ◌↔◌, List, [], ◌∷◌, ◌++◌, length, map, take, drop, slice_set, All}
+use Rattle.ff_fields.specs.Field.{FieldOps, CodeField}
+use Rattle.ff_fields.specs.Over.{IsOver}
+use Rattle.ff_poly.specs.Words.{IsPoly, IsMonicList, product_of}
+use Rattle.ff_linalg.specs.Matrix.{MatrixValue, IsMatrixOver, HasShape, rows_in}
+use Rattle.ff_linalg.specs.Space.{IsInRowSpace, IsReducedForm}
+use Rattle.ff_factor.specs.LowestTerms.{AreSameFractions}
+use Rattle.function_field.specs.Values.{ElemValue, PresValue, function_of}
+use Rattle.ff_space.specs.Vectors.{vector_of}
+
+-- the members of the lists, one list after another
+abbrev pub joined : {A : Type 0} → List (List A) → List A
+joined [] = []
+joined (xs ∷ xss) = xs ++ joined xss
+
+-- n polynomials over a denominator for each element
+abbrev pub elems_in : ℕ → ℕ → List (List ℕ) → List ℕ → List ElemValue
+elems_in n zero ws den = []
+elems_in n (suc count) ws den = record { num = take n ws; den = den } ∷ elems_in n count (drop n ws) den
+
+-- no list is longer
+abbrev pub AreShort : ℕ → List (List ℕ) → Type 0
+AreShort width ws = All (λ w. length w ≤ width) ws
+
+-- m with the codes as a row
+abbrev pub with_row : MatrixValue → ℕ → List ℕ → MatrixValue
+with_row m i codes = record { cols = m.cols; rows = slice_set m.rows i codes }
+
+-- d times w is e times v
+pub record IsQuotient (k : FieldOps) (e v d w : List ℕ) : Type 0 where
+  pub over : IsOver k w
+  pub poly : IsPoly w
+  pub is : product_of k e v ≡ product_of k d w
+
+-- ws over e are the fractions of vs over d
+pub record AreQuotientsOver (k : FieldOps) (e : List ℕ) (vs : List (List ℕ)) (d : List ℕ) (ws : List (List ℕ)) : Type 0
+  where
+    pub count : length ws ≡ length vs
+    pub over : All (IsOver k) ws
+    pub poly : All IsPoly ws
+    pub same : AreSameFractions k vs d ws e
+
+-- ws are n numerators over e for each of the elements, one element after another
+pub record AreNumerators (k : CodeField) (n : ℕ) (zs : List ElemValue) (ws : List (List ℕ)) (e : List ℕ) : Type 0 where
+  pub count : length ws ≡ length zs * n
+  pub over : All (IsOver k.ops) ws
+  pub poly : All IsPoly ws
+  pub same : (p : PresValue) → 1 ≤ n → p.n ≡ n
+      → map (function_of k p) (elems_in n (length zs) ws e) ≡ map (function_of k p) zs
+
+-- moreover e is monic of least degree
+pub record AreLeastNumerators (k : CodeField) (n : ℕ) (zs : List ElemValue) (ws : List (List ℕ)) (e : List ℕ) : Type 0
+  where
+    pub numerators : AreNumerators k n zs ws e
+    pub den_over : IsOver k.ops e
+    pub monic : IsMonicList e
+    pub least : (us : List (List ℕ)) (d : List ℕ) → All (IsOver k.ops) us → IsOver k.ops d → IsPoly d → d ≢ []
+        → AreSameFractions k.ops ws e us d → length e ≤ length d
+
+-- the width is the greatest length of the lists, 0 if there is none
+pub record IsLongest (ws : List (List ℕ)) (width : ℕ) : Type 0 where
+  pub short : AreShort width ws
+  pub least : (bound : ℕ) → AreShort bound ws → width ≤ bound
+
+-- the rows of r are in reduced row echelon form, none is 0, and they have the row space of m
+pub record IsEchelonBasisOf (k : CodeField) (m r : MatrixValue) : Type 0 where
+  pub shape : HasShape r (length r.rows) m.cols
+  pub over : IsMatrixOver k.ops r
+  pub reduced : IsReducedForm k.ops r (length r.rows)
+  pub row_space : (v : List ℕ) → IsInRowSpace k.ops r v ↔ IsInRowSpace k.ops m v
+
+-- the rows with the vectors of the polynomials, n for each of so many rows
+abbrev pub vector_rows : List (List ℕ) → ℕ → ℕ → ℕ → MatrixValue
+vector_rows ws count n width = record { cols = n * width; rows = rows_in (n * width) count (vector_of width ws) }
