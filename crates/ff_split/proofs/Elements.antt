@@ -6,7 +6,7 @@ use Rattle.ff_fields.specs.Over.{IsOver}
 use Rattle.ff_poly.specs.Words.{IsPoly, IsMonicList, product_of}
 use Rattle.ff_poly.specs.PolyOver.{IsOver_product_of}
 use Rattle.ff_poly.specs.Value.{value, value_product}
-use Rattle.ff_poly.specs.Popov.{multiple_of_row, entry_at}
+use Rattle.ff_poly.specs.Popov.{multiple_of_row, entry_at, row_at}
 use Rattle.ff_poly.specs.Polynomials.{Polynomial, polynomials}
 use Rattle.ff_poly.proofs.Parts.{IsPoly_product_of, IsMonic_product}
 use Rattle.ff_popov.specs.Reading.{read_row}
@@ -14,10 +14,15 @@ use Rattle.ff_popov.proofs.ReadRows.{read_multiple}
 use Rattle.ff_popov.proofs.Spans.{multiple_row}
 use Rattle.function_field.specs.Functions.{Equation, of_poly, over}
 use Rattle.function_field.specs.Values.{PresValue, ElemValue, IsElem, IsMonicElem, Functions, functions, function_of, equation_of}
+use Rattle.function_field.specs.Curves.{CurveValue}
 use Rattle.linear_theory.specs.Module.{combine}
+use Rattle.linear_theory.specs.Lists.{entry}
 use Rattle.linear_theory.proofs.Combination.{combine_append}
 use Rattle.lattice_theory.specs.Lattices.{polynomial_ops}
 use Rattle.space_theory.proofs.FunctionModule.{functions_module}
+use Rattle.ff_lattice.specs.Lattices.{LatticeValue}
+use Rattle.split_theory.specs.Splits.{infinite_rows, AreRowsOver}
+use Rattle.split_theory.proofs.RowFunctions.{entry_map}
 use Rattle.ff_lattice.proofs.Fracs.{over_scale, of_poly_over}
 use Rattle.ff_lattice.proofs.Elements.{elem_over}
 use Rattle.ff_lattice.proofs.SpannedSets.{multiple_poly}
@@ -109,15 +114,57 @@ multiple_monic k a z monic =
     record { num_poly = multiple_poly k a z.num; den_poly = monic.den_poly; monic = monic.monic }
 
 -- a list of images, with one more
-pub images_more : {X Y Z : Type 0} (f : X → Z) (g : Y → Z) (old new : List X) (ys : List Y) (i : ℕ) (x : X) (y : Y)
-    → map f old ≡ map g (take i ys) → i < length ys → y ≡ get_or ys i y → f x ≡ g y → new ≡ old ++ x ∷ []
+pub images_more : {X Y Z : Type 0} (f : X → Z) (g : Y → Z) (old new : List X) (ys : List Y) (i : ℕ) (x : X) (y d : Y)
+    → map f old ≡ map g (take i ys) → i < length ys → y ≡ get_or ys i d → f x ≡ g y → new ≡ old ++ x ∷ []
     → map f new ≡ map g (take (i + 1) ys)
-images_more f g old new ys i x y so_far less y_is same is =
+images_more f g old new ys i x y d so_far less y_is same is =
     ap (map f) is ∙ push f old x
     ∙ ap₂ (λ zs z. zs ++ z ∷ []) so_far (same ∙ ap g y_is)
-    ∙ sym (push g (take i ys) (get_or ys i y))
-    ∙ ap (map g) (sym (take_more ys i y less))
+    ∙ sym (push g (take i ys) (get_or ys i d))
+    ∙ ap (map g) (sym (take_more ys i d less))
   where
     push : {X Z : Type 0} (f : X → Z) (xs : List X) (x : X) → map f (xs ++ x ∷ []) ≡ map f xs ++ f x ∷ []
     push f [] x = refl
     push f (a ∷ xs) x = ap (λ ys. f a ∷ ys) (push f xs x)
+
+pub entry_read : {X : Type 0} (d : X) (xs : List X) (i : ℕ) → entry d xs i ≡ get_or xs i d
+entry_read d [] i = refl
+entry_read d (x ∷ xs) zero = refl
+entry_read d (x ∷ xs) (suc i) = entry_read d xs i
+
+-- the elements by the rows over u
+pub over_rows : (k : CodeField) (c : CurveValue) (inf : LatticeValue) (u : List ℕ) (m : List (List (List ℕ)))
+    (zs hs : List ElemValue) → map (function_of k c.fin) hs ≡ infinite_rows k c inf → length m ≡ c.fin.n
+    → map (λ w. (functions k c.fin).◌⊗◌ (of_poly (equation_of k c.fin) (value k u)) (function_of k c.fin w)) zs
+    ≡ map (λ row. combine (polynomial_ops (equation_of k c.fin)) (λ j. value k (entry_at row j))
+    (map (function_of k c.fin) hs)) m
+    → AreRowsOver k c inf u m (map (function_of k c.fin) zs)
+over_rows k c inf u m zs hs hs_are size same = record {
+  count = length-map zs (function_of k c.fin) ∙ count;
+  each = λ i less.
+      let l : i < length zs = omega (arith, less, count) in
+      let l' : i < length m = omega (arith, less, size) in
+      ap ((functions k c.fin).◌⊗◌ (of_poly (equation_of k c.fin) (value k u)))
+      (entry_map (function_of k c.fin) none (functions k c.fin).𝟘 zs i l)
+      ∙ sym (entry_map multiple none (functions k c.fin).𝟘 zs i l)
+      ∙ ap (λ fs. entry (functions k c.fin).𝟘 fs i) same
+      ∙ entry_map combined [] (functions k c.fin).𝟘 m i l'
+      ∙ ap combined (entry_read [] m i)
+      ∙ ap (combine (polynomial_ops (equation_of k c.fin)) (λ j. value k (entry_at (row_at m i) j))) hs_are;
+}
+  where
+    none : ElemValue
+    none = record { num = []; den = [] }
+
+    multiple : ElemValue → Functions k c.fin
+    multiple w = (functions k c.fin).◌⊗◌ (of_poly (equation_of k c.fin) (value k u)) (function_of k c.fin w)
+
+    combined : List (List ℕ) → Functions k c.fin
+    combined row = combine (polynomial_ops (equation_of k c.fin)) (λ j. value k (entry_at row j))
+        (map (function_of k c.fin) hs)
+
+    count : length zs ≡ c.fin.n
+    count = sym (length-map zs multiple) ∙ ap length same ∙ length-map m combined ∙ size
+
+abbrev pub element : List (List ℕ) → List ℕ → ElemValue
+element num den = record { num = num; den = den }

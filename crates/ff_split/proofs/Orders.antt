@@ -1,5 +1,5 @@
 -- The order of the columns: what a sort of them makes, and that there is one.
-use Rattle.std.proofs.Common.{◌≡◌, ℕ, zero, suc, ◌+◌, ◌<◌, ◌≤◌, ◌⊎◌, inl, inr, Bool, true, false, cond, eqb, List, [], ◌∷◌, length, map, get_or, refl, sym, ◌∙◌, ap, ap₂, subst, arith, All, sum_by, IsPermutation, Ordering, Less, Equal, Greater}
+use Rattle.std.proofs.Common.{◌≡◌, ℕ, zero, suc, ◌+◌, ◌<◌, ◌≤◌, ◌⊎◌, inl, inr, Bool, true, false, cond, eqb, List, [], ◌∷◌, ◌++◌, length, map, get_or, refl, sym, ◌∙◌, ap, ap₂, subst, arith, All, sum_by, IsPermutation, suc-add, Ordering, Less, Equal, Greater}
 use Rattle.std.proofs.lemmas.Bool.{eqb-true, eqb-false}
 use Rattle.std.proofs.lemmas.Cmp.{int_ranked, ranked, then_total, on_total, int_cmp_total, nat_cmp_total}
 use Rattle.std.proofs.lemmas.Int.{ints}
@@ -82,6 +82,10 @@ numbered_once (suc n) s f at c =
         let rest = r.0 in
         (omega (arith, whole, none, rest),
         λ less. let nothing = r.1 (omega (arith, less)) in omega (arith, whole, none, nothing))
+
+pub tabulate_more : {X : Type 0} (n : ℕ) (f : ℕ → X) → tabulate (n + 1) f ≡ tabulate n f ++ f n ∷ []
+tabulate_more zero f = refl
+tabulate_more (suc n) f = rw (suc-add n 1) (ap (λ xs. f 0 ∷ xs) (tabulate_more n (λ i. f (suc i))))
 
 -- ---- what a sort makes
 
