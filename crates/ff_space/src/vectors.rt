@@ -53,7 +53,7 @@ pub(crate) fn parts_of(
 {
     let mut polys = Vec::new(alloc);
     let mut rest = codes;
-    for _ in 0..n {
+    for i in 0..n {
         let (first, others) = rest.split_at(width);
         polys.push(Poly::from_codes(first.to_vec(alloc)?))?;
         rest = others;
