@@ -19,7 +19,6 @@ use Rattle.ff_linalg.specs.Matrix.{MatrixValue, IsMatrixOver, HasShape, first_ro
 use Rattle.ff_linalg.specs.Space.{IsInRowSpace, IsReducedForm}
 use Rattle.ff_linalg.proofs.Bridge.{codes_of_form, form_of_codes, space_of_codes, codes_of_space, combination_over, length_combination}
 use Rattle.function_field.specs.Values.{ElemValue, PresValue}
-use Rattle.ff_lattice.specs.Residues.{with_start}
 use Rattle.ff_written.specs.LowestTerms.{IsWritten}
 use Rattle.ff_space.specs.Spaces.{AreRowFunctions, written}
 use Rattle.ff_space.specs.Steps.{AreShort, IsEchelonBasisOf, IsLongest, with_row}
@@ -29,7 +28,9 @@ use Rattle.ff_space.proofs.VectorLists.{padded}
 
 -- the codes at the start of a row are all of it
 pub whole_row : (m : MatrixValue) (i : ℕ) (codes : List ℕ) → i < length m.rows → length codes ≡ m.cols
-    → HasShape m (length m.rows) m.cols → with_start m i codes ≡ with_row m i codes
+    → HasShape m (length m.rows) m.cols
+    → record { cols = m.cols; rows = set m.rows i (codes ++ drop (length codes) (get_or m.rows i [])) }
+    ≡ with_row m i codes
 whole_row m i codes less long shape =
     ap (λ r. record { cols = m.cols; rows = set m.rows i r })
     (ap (λ xs. codes ++ xs)
