@@ -8,7 +8,7 @@ use Rattle.ring_lemmas.specs.Lists.{coeff_of}
 use Rattle.ring_lemmas.specs.Ring.{Operations, CommRing}
 use Rattle.ring_lemmas.proofs.Ring.{mul_zero}
 use Rattle.ff_fields.specs.Field.{CodeField}
-use Rattle.ff_fields.specs.Code.{Code, code_ring}
+use Rattle.ff_fields.specs.Code.{Code, code_ring, raw_ring}
 use Rattle.ff_fields.specs.Numbers.{read}
 use Rattle.ff_fields.specs.Over.{IsOver}
 use Rattle.linear_theory.specs.Module.{combine, sequence_ops}
@@ -42,6 +42,17 @@ whole_row m i codes less long shape =
     none : {A : Type 0} (xs : List A) → xs ++ [] ≡ xs
     none [] = refl
     none (x ∷ xs) = ap (λ zs. x ∷ zs) (none xs)
+
+pub own_shape : (m : MatrixValue) (rows cols : ℕ) → HasShape m rows cols → HasShape m (length m.rows) m.cols
+own_shape m rows cols h = record {
+  row_count = refl;
+  col_count = refl;
+  each = subst (λ n. All (λ r. length r ≡ n) m.rows) (sym h.col_count) h.each;
+}
+
+pub row_long : (m : MatrixValue) (i : ℕ) → i < length m.rows → HasShape m (length m.rows) m.cols
+    → length (get_or m.rows i []) ≡ m.cols
+row_long m i less h = All-get_or (λ r. length r ≡ m.cols) m.rows i [] less h.each
 
 -- one row more is written
 pub record RowsWritten (rows cols i : ℕ) (rest codes : List ℕ) (m : MatrixValue) : Type 0 where
@@ -182,6 +193,13 @@ map_take : {A B : Type 0} (f : A → B) (r : ℕ) (xs : List A) → map f (take 
 map_take f zero xs = refl
 map_take f (suc r) [] = refl
 map_take f (suc r) (x ∷ xs) = ap (λ ys. f x ∷ ys) (map_take f r xs)
+
+pub rank_within : (k : CodeField) (m : MatrixValue) (rank : ℕ) → IsReducedForm k.ops m rank → rank ≤ length m.rows
+rank_within k m rank h =
+    let w = h.form.rank_within in
+    let e = h.rank_is in
+    let l = length-map m.rows (coeff_of (raw_ring k.ops)) in
+    omega (arith, w, e, l)
 
 module _ (k : CodeField) (m : MatrixValue) (rank : ℕ) (shape : HasShape m (length m.rows) m.cols)
     (m_in : IsMatrixOver k.ops m) (reduced : IsReducedForm k.ops m rank) where

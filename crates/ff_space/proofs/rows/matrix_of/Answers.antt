@@ -1,5 +1,5 @@
 use Rattle.std.proofs.Common.{arith, ◌∙◌, refl, ap, sym, subst, length}
-use Rattle.ff_space.proofs.RowLists.{rows_written_start, rows_written_more, rows_written_end, long_rest}
+use Rattle.ff_space.proofs.RowLists.{rows_written_start, rows_written_more, rows_written_end, long_rest, own_shape}
 use Rattle.ff_space.proofs.rows.matrix_of.Goals as goal
 
 pub loop-i-init : goal.loop-i-init
@@ -15,3 +15,9 @@ pub returns : goal.returns
 returns c =
     rows_written_end c.args.rows c.args.cols c.loop-i.i c.loop-i.rest c.args.codes.now c.loop-i.m (omega arith)
     c.loop-i.invariant
+
+pub write_row-requires-clause-row_in : goal.write_row-requires-clause-row_in
+write_row-requires-clause-row_in c = omega (arith, c.loop-i.invariant.shape.row_count, c.loop-i-test.true)
+
+pub write_row-requires-clause-shape : goal.write_row-requires-clause-shape
+write_row-requires-clause-shape c = own_shape c.loop-i.m c.args.rows c.args.cols c.loop-i.invariant.shape
