@@ -1,7 +1,6 @@
 use Rattle.std.proofs.Common.{map, subst, sym, ap, ◌∙◌, arith, refl, All}
 use Rattle.std.proofs.lemmas.Result.{IfOk-weaker}
-use Rattle.function_field.specs.Values.{IsElem, equation_of, function_of}
-use Rattle.space_theory.proofs.Laws.{basis_same}
+use Rattle.function_field.specs.Values.{IsElem, function_of}
 use Rattle.ff_space.specs.Spaces.{InCodeSpan, IsPrintedSpace}
 use Rattle.ff_space.proofs.LayerFunctions.{layers_functions, layers_in}
 use Rattle.ff_space.proofs.PrintedBases.{printed_basis, row_elements}
@@ -44,12 +43,11 @@ returns-clause-basis g c =
     let k = g.K.SmallField.field c.args.k.now in
     let p = c.args.p.now in
     IfOk-weaker c.span.result _ _
-    (λ s h In same.
-    basis_same (equation_of k p) (InCodeSpan k p _) In (λ z. ((same z).1, (same z).0)) (map (function_of k p) s.functions)
-    (printed_basis k p c.requires.positive (InCodeSpan k p _) s
+    (λ s h.
+    printed_basis k p c.requires.positive _ s
     (subst (λ fs. IsPrintedSpace k p (InCodeSpan k p fs) s)
     (ap (map (function_of k p)) (c.as_slice.ensures.value ∙ c.in_ok-zs.ensures)
-    ∙ layers_functions k p p.n c.args.basis.now c.args.degrees.now c.requires.one_each c.requires.elements) h)))
+    ∙ layers_functions k p p.n c.args.basis.now c.args.degrees.now c.requires.one_each c.requires.elements) h))
     c.span.ensures
 
 pub returns-clause-elements : goal.returns-clause-elements
