@@ -40,6 +40,12 @@ abbrev pub sums_onto : FieldOps → List (List ℕ) → List (List ℕ) → List
 sums_onto k sums [] = sums
 sums_onto k sums (e ∷ es) = sums_onto k (sums ++ map (add_lists (raw_ring k) e) sums) es
 
+module _ (k : CodeField) (A : AlgebraOps) where
+  -- what is added so far, with what is left to add
+  pub record IsSummedTo (es rest sums : List (List ℕ)) : Type 0 where
+    pub vectors : All (IsVector k.ops A.size) sums
+    pub is : sums_onto k.ops sums rest ≡ sums_onto k.ops (zero_of A ∷ []) es
+
 module _ (k : CodeField) (A : AlgebraOps) (law : IsAlgebra k A) where
   abbrev R : CommRing (Vector k A.size)
   R = vector_ring k A law
@@ -193,22 +199,17 @@ module _ (k : CodeField) (A : AlgebraOps) (law : IsAlgebra k A) where
         once = clean.once;
       }
 
-  -- what is added so far, with what is left to add
-  pub record IsSummedTo (es rest sums : List (List ℕ)) : Type 0 where
-    pub vectors : All (IsVector k.ops A.size) sums
-    pub is : sums_onto k.ops sums rest ≡ sums_onto k.ops (zero_of A ∷ []) es
-
-  pub summed_start : (es : List (List ℕ)) → IsSummedTo es es (zero_of A ∷ [])
+  pub summed_start : (es : List (List ℕ)) → IsSummedTo k A es es (zero_of A ∷ [])
   summed_start es = record {
     vectors = All-cons (IsVector k.ops A.size) (zero_of A) [] (zeros_in k A.size) (All-nil (IsVector k.ops A.size));
     is = refl;
   }
 
   pub summed_step : (es sums new : List (List ℕ)) (i : ℕ) (e : List ℕ) → i < length es → e ≡ get_or es i []
-      → IsVector k.ops A.size e → new ≡ sums ++ map (plus e) sums → IsSummedTo es (drop i es) sums
-      → IsSummedTo es (drop (i + 1) es) new
+      → IsVector k.ops A.size e → new ≡ sums ++ map (plus e) sums → IsSummedTo k A es (drop i es) sums
+      → IsSummedTo k A es (drop (i + 1) es) new
   summed_step es sums new i e less e_is e_in new_is h =
-      subst (IsSummedTo es (drop (i + 1) es)) (sym new_is) (record {
+      subst (IsSummedTo k A es (drop (i + 1) es)) (sym new_is) (record {
         vectors = All-append (IsVector k.ops A.size) sums (map (plus e) sums) h.vectors
             (All-map (IsVector k.ops A.size) (plus e) sums
             (All-weaker (IsVector k.ops A.size) (λ s. IsVector k.ops A.size (plus e s))
