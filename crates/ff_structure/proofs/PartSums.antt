@@ -1,5 +1,5 @@
 -- The sums of no, one or more of the primitive idempotents are all idempotents, each once.
-use Rattle.std.proofs.Common.{◌≡◌, ◌≢◌, ℕ, suc, ◌+◌, ◌<◌, inl, inr, List, [], ◌∷◌, ◌++◌, length, get_or, drop, map, replicate, All, refl, sym, ap, ap₂, ◌∙◌, subst, arith, add-one}
+use Rattle.std.proofs.Common.{◌≡◌, ◌≢◌, ℕ, suc, ◌+◌, ◌<◌, ◌≤◌, inl, inr, List, [], ◌∷◌, ◌++◌, length, get_or, drop, map, replicate, All, refl, sym, ap, ap₂, ◌∙◌, subst, arith, add-one}
 use Rattle.std.proofs.Math.Seq.{drop-cons}
 use Rattle.std.proofs.lemmas.List.Elements.{All-nil, All-cons, All-append, All-map, All-weaker}
 use Rattle.ring_lemmas.specs.Ring.{CommRing}
@@ -11,7 +11,9 @@ use Rattle.ff_fields.specs.Field.{FieldOps, CodeField}
 use Rattle.ff_fields.specs.Code.{raw_ring}
 use Rattle.finite_algebra_theory.proofs.Lists.{all_in, all_of_in, in_append_left, in_append_right, in_append, in_map, of_map}
 use Rattle.ff_falg.specs.Algebras.{AlgebraOps, IsAlgebra, IsVector, IsIdempotentVector, IsPrimitiveVector, zero_of}
-use Rattle.ff_falg.specs.Idempotents.{IsPrimitiveList, IsSublist, vector_sum}
+use Rattle.std.specs.Global.{Vec}
+use Rattle.std.proofs.lemmas.List.{drop_all}
+use Rattle.ff_falg.specs.Idempotents.{elements_of, IsPrimitiveList, IsSublist, vector_sum}
 use Rattle.ff_falg.specs.Splits.{IsOrthogonal}
 use Rattle.ff_falg.proofs.Lists.{lists_assoc}
 use Rattle.ff_falg.proofs.PrimitiveUse.{ascending_distinct}
@@ -19,6 +21,7 @@ use Rattle.ff_falg.proofs.RowSteps.{zero_first}
 use Rattle.ff_falg.proofs.Vectors.{Vector, vector_ring, same_vector, zeros_in, sum_in, add_zeros}
 use Rattle.ff_structure.specs.Idempotents.{AreIdempotents}
 use Rattle.ff_structure.proofs.Lists.{distinct_append, distinct_values}
+use Rattle.ff_structure.proofs.SumLists.{vector_at}
 
 module _ {E : Type 0} (R : CommRing E) where
   infixl 65 ◌⊕◌
@@ -218,3 +221,17 @@ module _ (k : CodeField) (A : AlgebraOps) (law : IsAlgebra k A) where
             ap₂ (λ j x. sums_onto k.ops (sums ++ map (plus x) sums) (drop j es)) (add-one i) e_is
             ∙ sym (ap (sums_onto k.ops sums) (drop-cons es i [] less)) ∙ h.is;
       })
+
+  -- once all are added, the sums are all idempotents
+  pub summed_end : (es : List (List ℕ)) (i : ℕ) (sums : List (List ℕ)) → length es ≤ i → IsPrimitiveList k.ops A es
+      → IsSummedTo k A es (drop i es) sums → AreIdempotents k.ops A sums
+  summed_end es i sums le p h =
+      subst (AreIdempotents k.ops A)
+      (sym (ap (sums_onto k.ops sums) (sym (drop_all i es le)) ∙ h.is)) (all_sums es p)
+
+-- a primitive idempotent that is read is a vector
+pub primitive_in : (k : CodeField) (A : AlgebraOps) (vs : List (Vec ℕ)) → IsPrimitiveList k.ops A (elements_of vs)
+    → (i : ℕ) (v : Vec ℕ) → i < length vs → v ≡ get_or vs i v → IsVector k.ops A.size v.items
+primitive_in k A vs p i v less v_is =
+    vector_at k A.size vs i v less v_is
+    (all_of_in (IsVector k.ops A.size) (elements_of vs) (λ e j. ((p.members e).0 j).idempotent.vector))

@@ -1,7 +1,7 @@
 -- Steps of the loop that appends sums to a list of vectors.
-use Rattle.std.proofs.Common.{◌≡◌, ℕ, ◌+◌, ◌<◌, List, [], ◌∷◌, ◌++◌, length, get_or, take, map, All, sym, ap, ap₂, ◌∙◌, subst, arith, append_assoc, length-append}
+use Rattle.std.proofs.Common.{◌≡◌, ℕ, ◌+◌, ◌<◌, ◌≤◌, List, [], ◌∷◌, ◌++◌, length, get_or, take, map, All, sym, ap, ap₂, ◌∙◌, subst, arith, append_assoc, length-append}
 use Rattle.std.specs.Global.{Vec}
-use Rattle.std.proofs.lemmas.List.{length-map, get_or-map, map-append, map_more}
+use Rattle.std.proofs.lemmas.List.{length-map, get_or-map, map-append, map_more, take_all}
 use Rattle.std.proofs.Math.ListN.{get_or-append}
 use Rattle.ff_fields.specs.Field.{CodeField}
 use Rattle.ff_falg.specs.Algebras.{IsVector}
@@ -43,3 +43,18 @@ pub vector_at : (k : CodeField) (n : ℕ) (vs : List (Vec ℕ)) (i : ℕ) (v : V
 vector_at k n vs i v less v_is all =
     subst (IsVector k.ops n) (sym (item_of vs i v less v_is))
     (all i [] (subst (λ m. i < m) (sym (length-map vs (λ x. x.items))) less))
+
+-- one of the first vectors, read after more are appended, has as many codes as all
+pub old_vector : (k : CodeField) (n : ℕ) (vs first : List (Vec ℕ)) (more : List (List ℕ)) (i : ℕ) (v : Vec ℕ)
+    → elements_of vs ≡ elements_of first ++ more → i < length first → v ≡ get_or vs i v
+    → All (IsVector k.ops n) (elements_of first) → IsVector k.ops n v.items
+old_vector k n vs first more i v e less v_is all =
+    let l = subst (λ m. i < m) (sym (length-map first (λ x. x.items))) less in
+    subst (IsVector k.ops n) (sym (old_item vs (elements_of first) more i v e l v_is)) (all i [] l)
+
+-- all values are appended
+pub values_end : (f : List ℕ → List ℕ) (first : List (Vec ℕ)) (i : ℕ) → length first ≤ i
+    → elements_of first ++ map f (take i (elements_of first)) ≡ elements_of first ++ map f (elements_of first)
+values_end f first i le =
+    ap (λ xs. elements_of first ++ map f xs)
+    (take_all i (elements_of first) (subst (λ m. m ≤ i) (sym (length-map first (λ x. x.items))) le))

@@ -1,4 +1,4 @@
-use Rattle.std.proofs.Common.{arith, ap, ◌∙◌, replicate, length, ◌≡◌}
+use Rattle.std.proofs.Common.{arith, ap, ◌∙◌, ℕ, length}
 use Rattle.std.proofs.lemmas.List.{take_at, length-replicate}
 use Rattle.ring_lemmas.specs.Lists.{add_lists}
 use Rattle.ff_fields.specs.Code.{raw_ring}
@@ -12,8 +12,8 @@ pub returns : goal.returns
 returns g c =
     let k = g.K.SmallField.field c.args.k.now in
     let vs = elements_of c.args.vectors.now in
-    let zeros = c.as_mut_slice.ensures.value ∙ c.in_ok-sum.ensures.items in
-    let size = ap length zeros ∙ length-replicate {A = _} c.args.n 0 in
+    let zeros = c.as_mut_slice.ensures.value ∙ c.in_ok-sum.ensures in
+    let size = ap length zeros ∙ length-replicate {A = ℕ} c.args.n 0 in
     take_at c.add_combination.new.sum _ c.in_ok-sum.sum.len (omega arith)
     ∙ c.add_combination.ensures
     ∙ ap (λ n. add_lists (raw_ring k.ops) c.as_mut_slice.result.now
