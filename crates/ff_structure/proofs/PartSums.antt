@@ -12,6 +12,7 @@ use Rattle.ff_fields.specs.Code.{raw_ring}
 use Rattle.finite_algebra_theory.proofs.Lists.{all_in, all_of_in, in_append_left, in_append_right, in_append, in_map, of_map}
 use Rattle.ff_falg.specs.Algebras.{AlgebraOps, IsAlgebra, IsVector, IsIdempotentVector, IsPrimitiveVector, zero_of}
 use Rattle.std.specs.Global.{Vec}
+use Rattle.std.specs.Prelude.{Result, Ok, Err, IfOk}
 use Rattle.std.proofs.lemmas.List.{drop_all}
 use Rattle.ff_falg.specs.Idempotents.{elements_of, IsPrimitiveList, IsSublist, vector_sum}
 use Rattle.ff_falg.specs.Splits.{IsOrthogonal}
@@ -19,7 +20,7 @@ use Rattle.ff_falg.proofs.Lists.{lists_assoc}
 use Rattle.ff_falg.proofs.PrimitiveUse.{ascending_distinct}
 use Rattle.ff_falg.proofs.RowSteps.{zero_first}
 use Rattle.ff_falg.proofs.Vectors.{Vector, vector_ring, same_vector, zeros_in, sum_in, add_zeros}
-use Rattle.ff_structure.specs.Idempotents.{AreIdempotents}
+use Rattle.ff_structure.specs.Idempotents.{AreIdempotents, AreOthers, IsProperIdempotentVector}
 use Rattle.ff_structure.proofs.Lists.{distinct_append, distinct_values}
 use Rattle.ff_structure.proofs.SumLists.{vector_at}
 
@@ -235,3 +236,24 @@ pub primitive_in : (k : CodeField) (A : AlgebraOps) (vs : List (Vec ℕ)) → Is
 primitive_in k A vs p i v less v_is =
     vector_at k A.size vs i v less v_is
     (all_of_in (IsVector k.ops A.size) (elements_of vs) (λ e j. ((p.members e).0 j).idempotent.vector))
+
+-- of all idempotents those other than 0 and 1
+pub each_proper : (k : CodeField) (A : AlgebraOps) (u v : List ℕ) (sums kept : List (List ℕ)) → u ≡ zero_of A
+    → v ≡ A.unit → AreIdempotents k.ops A sums → AreOthers u v sums kept → (e : List ℕ) → In e kept
+    → IsProperIdempotentVector k.ops A e
+each_proper k A u v sums kept u_is v_is ids h e i = record {
+  idempotent = (ids.members e).0 (h.each e i);
+  not_zero = λ z. h.not_first e i (z ∙ sym u_is);
+  not_one = λ z. h.not_second e i (z ∙ sym v_is);
+}
+
+pub all_proper : (k : CodeField) (A : AlgebraOps) (u v : List ℕ) (sums kept : List (List ℕ)) → u ≡ zero_of A
+    → v ≡ A.unit → AreIdempotents k.ops A sums → AreOthers u v sums kept → (e : List ℕ)
+    → IsProperIdempotentVector k.ops A e → In e kept
+all_proper k A u v sums kept u_is v_is ids h e p =
+    h.rest e ((ids.members e).1 p.idempotent) (λ z. p.not_zero (z ∙ u_is)) (λ z. p.not_one (z ∙ v_is))
+
+-- what follows from the promise on an answer
+pub ok_through : {X E : Type 0} (r : Result X E) {P Q : X → Type 0} → ((x : X) → P x → Q x) → IfOk r P → IfOk r Q
+ok_through (Ok x) f h = f x h
+ok_through (Err e) f h = h
