@@ -3,7 +3,7 @@ use Rattle.std.specs.Prelude.{◌≡◌, ℕ, ◌≤◌, ◌*◌, ◌↔◌, Lis
 use Rattle.ring_theory.specs.Subsets.{Span}
 use Rattle.ff_fields.specs.Field.{CodeField}
 use Rattle.ff_fields.specs.Over.{IsOver}
-use Rattle.ff_poly.specs.Words.{IsMonicList}
+use Rattle.ff_poly.specs.Words.{IsMonicList, DividesList}
 use Rattle.ff_linalg.specs.Matrix.{MatrixValue, IsMatrixOver, HasShape}
 use Rattle.ff_linalg.specs.Space.{IsInRowSpace, IsReducedForm}
 use Rattle.function_field.specs.Functions.{IsCode}
@@ -43,13 +43,14 @@ module _ (k : CodeField) (p : PresValue) where
     pub over : IsMatrixOver k.ops s.rows
     pub functions : AreRowFunctions s.den s.width s.rows.rows s.functions
 
-  -- the form of a space: over the monic denominator of least degree for which all its functions have polynomials as
-  -- coordinates, and with no more codes than they need, the rows are the reduced echelon basis of its vectors
+  -- the form of a space: over the monic polynomial of least degree for which all its functions have polynomials as
+  -- coordinates, so that each other such polynomial is a multiple of it, and with no more codes than they need, the rows
+  -- are the reduced echelon basis of its vectors
   pub record IsPrintedSpace (In : Functions k p → Type 0) (s : SpaceValue) : Type 0 where
     pub form : IsSpaceForm s
     pub vectors : HaveVectors k p In s.den s.width
     pub least_den : (den : List ℕ) (width : ℕ) → IsOver k.ops den → IsMonicList den → HaveVectors k p In den width
-        → length s.den ≤ length den
+        → DividesList k.ops s.den den
     pub least_width : (width : ℕ) → HaveVectors k p In s.den width → s.width ≤ width
     pub reduced : IsReducedForm k.ops s.rows (length s.rows.rows)
     pub row_space : (v : List ℕ) → IsInRowSpace k.ops s.rows v ↔ IsVectorOf k p In s.den s.width v

@@ -2,12 +2,12 @@
 use Rattle.std.specs.Prelude.{◌≡◌, ◌≢◌, ℕ, zero, suc, ◌*◌, ◌≤◌, ◌↔◌, List, [], ◌∷◌, ◌++◌, length, map, take, drop, slice_set, All}
 use Rattle.ff_fields.specs.Field.{FieldOps, CodeField}
 use Rattle.ff_fields.specs.Over.{IsOver}
-use Rattle.ff_poly.specs.Words.{IsPoly, IsMonicList, product_of}
+use Rattle.ff_poly.specs.Words.{IsPoly, IsMonicList, DividesList, product_of}
 use Rattle.ff_linalg.specs.Matrix.{MatrixValue, IsMatrixOver, HasShape, rows_in}
 use Rattle.ff_linalg.specs.Space.{IsInRowSpace, IsReducedForm}
 use Rattle.ff_factor.specs.LowestTerms.{AreSameFractions}
 use Rattle.function_field.specs.Values.{ElemValue, PresValue, function_of}
-use Rattle.ff_space.specs.Vectors.{vector_of}
+use Rattle.ff_space.specs.Vectors.{vector_of, over_den, HasVector}
 
 -- the members of the lists, one list after another
 abbrev pub joined : {A : Type 0} → List (List A) → List A
@@ -49,14 +49,14 @@ pub record AreNumerators (k : CodeField) (n : ℕ) (zs : List ElemValue) (ws : L
   pub same : (p : PresValue) → 1 ≤ n → p.n ≡ n
       → map (function_of k p) (elems_in n (length zs) ws e) ≡ map (function_of k p) zs
 
--- moreover e is monic of least degree
+-- moreover e is monic, and each other denominator of their functions is a multiple of it
 pub record AreLeastNumerators (k : CodeField) (n : ℕ) (zs : List ElemValue) (ws : List (List ℕ)) (e : List ℕ) : Type 0
   where
     pub numerators : AreNumerators k n zs ws e
     pub den_over : IsOver k.ops e
     pub monic : IsMonicList e
     pub least : (us : List (List ℕ)) (d : List ℕ) → All (IsOver k.ops) us → IsOver k.ops d → IsPoly d → d ≢ []
-        → AreSameFractions k.ops ws e us d → length e ≤ length d
+        → AreSameFractions k.ops ws e us d → DividesList k.ops e d
 
 -- the width is the greatest length of the lists, 0 if there is none
 pub record IsLongest (ws : List (List ℕ)) (width : ℕ) : Type 0 where
@@ -73,3 +73,14 @@ pub record IsEchelonBasisOf (k : CodeField) (m r : MatrixValue) : Type 0 where
 -- the rows with the vectors of the polynomials, n for each of so many rows
 abbrev pub vector_rows : List (List ℕ) → ℕ → ℕ → ℕ → MatrixValue
 vector_rows ws count n width = record { cols = n * width; rows = rows_in (n * width) count (vector_of width ws) }
+
+-- v is the vector of the function of z over the denominator
+pub record IsVectorOver (k : CodeField) (z : ElemValue) (den : List ℕ) (width : ℕ) (v : List ℕ) : Type 0 where
+  pub count : length v ≡ length z.num * width
+  pub over : IsOver k.ops v
+  pub is : (p : PresValue) → 1 ≤ p.n → p.n ≡ length z.num → function_of k p z ≡ over_den k p den width v
+
+-- the function of z has no vector over the denominator
+abbrev pub HasNoVectorOver : CodeField → ElemValue → List ℕ → ℕ → Type 0
+HasNoVectorOver k z den width =
+    (p : PresValue) → 1 ≤ p.n → p.n ≡ length z.num → ¬ HasVector k p den width (function_of k p z)

@@ -4,7 +4,7 @@ ghost use Rattle.std.specs.Prelude.{◌≡◌, ◌≢◌, ◌≤◌, ◌*◌, �
 ghost use Rattle.ff_fields.specs.Over.{IsOver};
 ghost use Rattle.ff_poly.specs.Words.{IsPoly, IsMonicList, DividesList, product_of};
 ghost use Rattle.ff_factor.specs.LowestTerms.{AreSameFractions};
-ghost use Rattle.function_field.specs.Values.{IsElem};
+ghost use Rattle.function_field.specs.Values.{IsElem, IsMonicElem};
 ghost use Rattle.ff_lattice.specs.Steps.{IsCommonMultiple};
 ghost use Rattle.ff_space.specs.Steps.{IsQuotient, AreQuotientsOver, AreNumerators, AreLeastNumerators};
 
@@ -77,7 +77,7 @@ fn quotient_over<K: SmallField>(
     requires d_in { IsOver (K.field k.now).ops d.now }
     requires d_some { d.now ≢ [] }
     ensures { let ops = (K.field k.now).ops in
-        IfOk result (λ r. MatchOption r ((w : List ℕ) → IsOver ops w
+        IfOk result (λ r. MatchOption r ((w : List ℕ) → IsOver ops w → IsPoly w
         → ¬ (product_of ops e.now v.now ≡ product_of ops d.now w))
         (IsQuotient ops e.now v.now d.now)) }
 {
@@ -98,14 +98,16 @@ pub(crate) fn numerators_over<K: SmallField>(
 ) -> Result<Option<Vec<Poly>>, AllocError>
     requires z_in { IsElem (K.field k.now).ops (length z.now.num) z.now }
     requires e_in { IsOver (K.field k.now).ops e.now }
-    ensures { let ops = (K.field k.now).ops in
-        IfOk result (λ r. MatchOption r ((us : List (List ℕ)) → All (IsOver ops) us
+    ensures quotients { let ops = (K.field k.now).ops in
+        IfOk result (λ r. MatchOption r ((us : List (List ℕ)) → All (IsOver ops) us → All IsPoly us
         → ¬ AreSameFractions ops z.now.num z.now.den us e.now)
         (λ ws. AreQuotientsOver ops e.now z.now.num z.now.den ws.items)) }
+    ensures monic { IfOk result (λ _. IsMonicElem z.now) }
 {
+    let den = z.den();
     let mut ws = Vec::new(alloc);
     for v in z.num() {
-        match quotient_over(alloc, k, e, v, z.den())? {
+        match quotient_over(alloc, k, e, v, den)? {
             None => return Ok(None),
             Some(w) => ws.push(w)?,
         }

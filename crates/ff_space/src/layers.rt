@@ -50,7 +50,7 @@ fn push_multiples(
 }
 
 /// All x^j·b_i with 0 ≤ j ≤ -d_i.
-pub(crate) fn layers(
+pub(crate) fn all_multiples(
     alloc: Global,
     basis: &[Elem],
     degrees: &[i64],

@@ -8,7 +8,7 @@
 //! the echelon form, and for each function a division of each part by each factor.
 #![tactic(auto)]
 
-//pub mod coordinates;
+pub mod combinations;
 mod denominators;
 mod functions;
 mod layers;
@@ -17,5 +17,5 @@ mod rows;
 pub mod space;
 mod vectors;
 
-//pub use coordinates::coordinates;
+pub use combinations::coordinates;
 pub use space::{PrintedBasis, span, spanned};

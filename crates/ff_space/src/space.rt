@@ -8,7 +8,7 @@ ghost use Rattle.ff_space.specs.Spaces.{InCodeSpan, IsPrintedBasis, IsPrintedSpa
 
 use crate::denominators::least_numerators;
 use crate::functions::row_functions;
-use crate::layers::layers;
+use crate::layers::all_multiples;
 use crate::rows::vector_basis;
 use crate::vectors::longest;
 use ff_algebra::{Elem, Pres};
@@ -119,6 +119,6 @@ pub fn spanned<K: SmallField>(
         → IsSpaceBasis (setting k p.now) In (map (function_of k p.now) s.functions)) }
     ensures elements { IfOk result (λ s. All (IsElem (K.field k.now).ops p.now.n) s.functions) }
 {
-    let zs = layers(alloc, basis, degrees)?;
+    let zs = all_multiples(alloc, basis, degrees)?;
     span(alloc, k, p, zs.as_slice())
 }

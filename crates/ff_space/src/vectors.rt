@@ -1,6 +1,6 @@
 //! Vectors of codes from polynomials, and polynomials from them.
 
-ghost use Rattle.std.specs.Prelude.{◌≡◌, ◌≤◌, ◌*◌, length, All, IfOk};
+ghost use Rattle.std.specs.Prelude.{◌≡◌, ◌≤◌, ◌-◌, ◌*◌, ◌++◌, length, replicate, IfOk, OnOk};
 ghost use Rattle.ff_poly.specs.Words.{poly_of};
 ghost use Rattle.ff_space.specs.Steps.{IsLongest, AreShort};
 ghost use Rattle.ff_space.specs.Vectors.{parts_of, vector_of};
@@ -19,6 +19,16 @@ pub(crate) fn longest(polys: &[Poly]) -> usize
     most
 }
 
+/// Pushes the codes of the polynomial, with zeros up to the width.
+fn push_padded(codes: &mut Vec<u32>, p: &Poly, width: usize) -> Result<(), AllocError>
+    requires { length p.now ≤ width }
+    ensures { OnOk result (codes.new.items ≡ codes.old.items ++ (p.now ++ replicate (width - length p.now) 0)) }
+{
+    codes.extend_from_slice(p.codes())?;
+    let len = codes.len().checked_add(width - p.codes().len()).ok_or(AllocError)?;
+    codes.resize(len, 0)
+}
+
 /// The codes of the polynomials one after another, each with zeros up to the width.
 pub(crate) fn vector_of(alloc: Global, polys: &[Poly], width: usize) -> Result<Vec<u32>, AllocError>
     requires { AreShort width polys.now }
@@ -26,8 +36,7 @@ pub(crate) fn vector_of(alloc: Global, polys: &[Poly], width: usize) -> Result<V
 {
     let mut codes = Vec::new(alloc);
     for p in polys {
-        codes.extend_from_slice(p.codes())?;
-        codes.resize(codes.len() + (width - p.codes().len()), 0)?;
+        push_padded(&mut codes, p, width)?;
     }
     Ok(codes)
 }
