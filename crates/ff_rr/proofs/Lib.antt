@@ -5,3 +5,4 @@ pub mod SpaceBases
 pub mod GenusSums
 pub mod ConstantSpaces
 pub mod PrintedSpaces
+pub mod TextLists
