@@ -6,3 +6,4 @@ pub mod GenusSums
 pub mod ConstantSpaces
 pub mod PrintedSpaces
 pub mod TextLists
+pub mod ListedIdempotents
