@@ -7,3 +7,4 @@ pub mod ConstantSpaces
 pub mod PrintedSpaces
 pub mod TextLists
 pub mod ListedIdempotents
+pub mod TableVectors

@@ -66,7 +66,8 @@ fn push_products<K: SmallField>(
         (gs ++ map (F.◌⊗◌ (function_of k p.now a.now)) (map (function_of k p.now) s.now.functions))
         (elements_of table.new.items)) }
 {
-    for b in s.functions() {
+    let functions = s.functions();
+    for b in functions {
         let product = mul(alloc, k, p, a, b)?;
         table.push(constant_coordinates(alloc, k, p, s, &product)?)?;
     }
@@ -91,8 +92,9 @@ fn table<K: SmallField>(
         IfOk result (λ t. AreVectorsOf k p.now s.now.functions (products (functions k p.now).ops bs bs)
         (elements_of t.items)) }
 {
+    let functions = s.functions();
     let mut table = Vec::new(alloc);
-    for a in s.functions() {
+    for a in functions {
         push_products(alloc, k, p, s, a, &mut table)?;
     }
     Ok(table)
