@@ -8,3 +8,4 @@ pub mod PrintedSpaces
 pub mod TextLists
 pub mod ListedIdempotents
 pub mod TableVectors
+pub mod MadeConstants
