@@ -4,3 +4,4 @@ pub mod TurnedRows
 pub mod Elements
 pub mod Orders
 pub mod Forms
+pub mod SpanRows
