@@ -5,3 +5,4 @@ pub mod Elements
 pub mod Orders
 pub mod Forms
 pub mod SpanRows
+pub mod Made
