@@ -1,6 +1,6 @@
 use Rattle.std.proofs.Common.{◌≡◌, List, ℕ, length, map, subst, sym, ap, ap₂, ◌∙◌, All}
 use Rattle.std.proofs.lemmas.List.{length-map}
-use Rattle.ff_poly.specs.Popov.{rows_of, IsRow, combination}
+use Rattle.ff_poly.specs.Popov.{rows_of, IsRow, combination_list}
 use Rattle.ff_split.proofs.SpanRows.{multiple_spanned}
 use Rattle.ff_split.proofs.products.multiple.Goals as goal
 
@@ -19,6 +19,6 @@ returns-clause-spans g c =
     c.in_ok-exponent.exponent c.len.result (rows_of c.in_ok-exponent.coordinates.items) (rows_of c.in_ok-rows.rows.items)
     c.in_ok-u.u c.in_ok-exponent.ensures (c.len.ensures ∙ c.requires.finite.popov.size)
     (c.in_ok-rows.ensures
-    ∙ ap₂ (λ (Q cs : List (List (List ℕ))). map (λ v. combination k.ops c.len.result v Q) cs)
+    ∙ ap₂ (λ (Q cs : List (List (List ℕ))). map (λ v. combination_list k.ops c.len.result v Q) cs)
     (ap rows_of c.deref.ensures.value) c.rows.ensures.rows)
     c.in_ok-u.ensures
