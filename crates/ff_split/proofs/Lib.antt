@@ -4,3 +4,5 @@ pub mod TurnedRows
 pub mod Elements
 pub mod Orders
 pub mod Forms
+pub mod SpanRows
+pub mod Made

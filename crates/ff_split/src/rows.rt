@@ -2,7 +2,7 @@
 
 ghost use Rattle.std.specs.Prelude.{◌≡◌, [], length, map, replicate, All, IfOk};
 ghost use Rattle.ff_fields.specs.Over.{IsOver};
-ghost use Rattle.ff_poly.specs.Popov.{rows_of, IsRow, combination, multiple_of_row, sum_of_rows};
+ghost use Rattle.ff_poly.specs.Popov.{rows_of, IsRow, combination_list, multiple_of_row, sum_of_rows};
 
 use ff_fields::field::SmallField;
 use ff_poly::{Poly, poly};
@@ -53,7 +53,7 @@ fn combined<K: SmallField>(
     requires one_each { length coefficients.now ≡ length rows.now }
     requires coefficients_in { All (IsOver (K.field k.now).ops) coefficients.now }
     requires rows_in { All (IsRow (K.field k.now).ops n) (rows_of rows.now) }
-    ensures { IfOk result (λ v. v.items ≡ combination (K.field k.now).ops n coefficients.now (rows_of rows.now)) }
+    ensures { IfOk result (λ v. v.items ≡ combination_list (K.field k.now).ops n coefficients.now (rows_of rows.now)) }
 {
     let mut total = zero_row(alloc, n)?;
     let len = rows.len();
@@ -76,7 +76,7 @@ pub(crate) fn combinations<K: SmallField>(
     requires rows_in { All (IsRow (K.field k.now).ops n) (rows_of rows.now) }
     ensures { let k = (K.field k.now).ops in
         IfOk result (λ out. rows_of out.items
-        ≡ map (λ c. combination k n c (rows_of rows.now)) (rows_of coefficients.now)) }
+        ≡ map (λ c. combination_list k n c (rows_of rows.now)) (rows_of coefficients.now)) }
 {
     let mut out = Vec::new(alloc);
     for c in coefficients {
