@@ -79,7 +79,14 @@ pub rows_written_start : (rows cols : ℕ) (codes : List ℕ) (m : MatrixValue) 
     → m ≡ zero_matrix rows cols → RowsWritten rows cols 0 codes codes m
 rows_written_start rows cols codes m long m_is =
     subst (RowsWritten rows cols 0 codes codes) (sym m_is)
-    (record { shape = zeros_shape rows cols; long = long; is = refl })
+    (record {
+      shape = zeros_shape rows cols;
+      long = long ∙ ap (λ n. n * cols) (sym (less_nothing rows));
+      is = ap (λ n. rows_in cols n codes) (less_nothing rows);
+    })
+  where
+    less_nothing : (n : ℕ) → n - 0 ≡ n
+    less_nothing n = omega arith
 
 pub long_rest : (rows cols i : ℕ) (rest codes : List ℕ) (m : MatrixValue) → i < rows → RowsWritten rows cols i rest codes m
     → cols ≤ length rest
