@@ -14,8 +14,7 @@ module _ (k : CodeField) (p : PresValue) (In Out : Functions k p → Type 0) (sa
     least_width = λ width have. h.least_width width (λ z z_in. have z ((same z).0 z_in));
     reduced = h.reduced;
     row_space = λ v.
-        let f = over_den k p s.den s.width v in
-        (
+        let f = over_den k p s.den s.width v in (
           λ m. let t = (h.row_space v).0 m in
               record { count = t.count; over = t.over; is_in = (same f).0 t.is_in },
           λ t. (h.row_space v).1 (record { count = t.count; over = t.over; is_in = (same f).1 t.is_in }),

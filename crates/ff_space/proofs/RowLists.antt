@@ -79,7 +79,14 @@ pub rows_written_start : (rows cols : ℕ) (codes : List ℕ) (m : MatrixValue) 
     → m ≡ zero_matrix rows cols → RowsWritten rows cols 0 codes codes m
 rows_written_start rows cols codes m long m_is =
     subst (RowsWritten rows cols 0 codes codes) (sym m_is)
-    (record { shape = zeros_shape rows cols; long = long; is = refl })
+    (record {
+      shape = zeros_shape rows cols;
+      long = long ∙ ap (λ n. n * cols) (sym (less_nothing rows));
+      is = ap (λ n. rows_in cols n codes) (less_nothing rows);
+    })
+  where
+    less_nothing : (n : ℕ) → n - 0 ≡ n
+    less_nothing n = omega arith
 
 pub long_rest : (rows cols i : ℕ) (rest codes : List ℕ) (m : MatrixValue) → i < rows → RowsWritten rows cols i rest codes m
     → cols ≤ length rest
@@ -175,19 +182,22 @@ module _ {A : Type 0} (R : CommRing A) where
 
   reduced_first : (width : ℕ) (rs : List (ℕ → A)) (f : IsReducedEchelon R.ops width rs)
       → length (take f.rank rs) ≡ f.rank → (g : IsReducedEchelon R.ops width (take f.rank rs)) × (g.rank ≡ f.rank)
-  reduced_first width rs f long = (record {
-    rank = f.rank;
-    rank_within = omega (arith, long);
-    zero_rows = λ i j l k b. absurd (omega (arith, long));
-    pivot = f.pivot;
-    pivot_below = f.pivot_below;
-    increasing = f.increasing;
-    left_zero = λ i j l b. row_first rs f.rank i j l ∙ f.left_zero i j l b;
-    pivot_one = λ i l. row_first rs f.rank i (f.pivot i) l ∙ f.pivot_one i l;
-    column_zero = λ i l a b ne.
-        row_first rs f.rank l (f.pivot i) (omega (arith, long))
-        ∙ f.column_zero i l a (let w = f.rank_within in omega (arith, long)) ne;
-  }, refl)
+  reduced_first width rs f long = (
+    record {
+      rank = f.rank;
+      rank_within = omega (arith, long);
+      zero_rows = λ i j l k b. absurd (omega (arith, long));
+      pivot = f.pivot;
+      pivot_below = f.pivot_below;
+      increasing = f.increasing;
+      left_zero = λ i j l b. row_first rs f.rank i j l ∙ f.left_zero i j l b;
+      pivot_one = λ i l. row_first rs f.rank i (f.pivot i) l ∙ f.pivot_one i l;
+      column_zero = λ i l a b ne.
+          row_first rs f.rank l (f.pivot i) (omega (arith, long))
+          ∙ f.column_zero i l a (let w = f.rank_within in omega (arith, long)) ne;
+    },
+    refl,
+  )
 
 map_take : {A B : Type 0} (f : A → B) (r : ℕ) (xs : List A) → map f (take r xs) ≡ take r (map f xs)
 map_take f zero xs = refl
