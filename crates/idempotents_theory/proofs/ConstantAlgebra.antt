@@ -29,7 +29,10 @@ use Rattle.idempotents_theory.proofs.CodeFunctions.{code_function_in}
 use Rattle.idempotents_theory.proofs.Coordinates.{at_zero, at_sum, at_multiple, at_combination, times_all, coordinates, coordinates_once}
 
 length_products : {E : Type 0} (R : CommRing E) (gs bs : List E) → length (products R.ops gs bs) ≡ length gs * length bs
-length_products R [] bs = refl
+length_products R [] bs = none (length bs)
+  where
+    none : (n : ℕ) → 0 ≡ 0 * n
+    none n = omega arith
 length_products R (a ∷ gs) bs =
     length-append (map (R.◌⊗◌ a) bs) (products R.ops gs bs)
     ∙ ap₂ (λ u w. u + w) (length-map bs (R.◌⊗◌ a)) (length_products R gs bs) ∙ more (length gs) (length bs)
