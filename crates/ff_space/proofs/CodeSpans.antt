@@ -19,7 +19,7 @@ use Rattle.linear_theory.proofs.EchelonBasis.{cut}
 use Rattle.ff_linalg.specs.Forms.{sequences_of, IsReducedBelow}
 use Rattle.ff_linalg.specs.Matrix.{MatrixValue, IsMatrixOver, HasShape}
 use Rattle.ff_linalg.specs.Space.{IsInRowSpace, IsReducedForm, product_of}
-use Rattle.ff_linalg.proofs.Bridge.{codes_of, length_codes_of, coeff_codes_of, combination_over, length_combination, coeff_zeros, space_of_codes, codes_of_form}
+use Rattle.ff_linalg.proofs.Bridge.{codes_of, length_codes_of, coeff_codes_of, combination_over, length_combination, coeff_zeros, combination_is, codes_of_form}
 use Rattle.function_field.specs.Functions.{Equation, FunctionOf, ring_of, IsCode}
 use Rattle.function_field.specs.Indices.{space_ops}
 use Rattle.function_field.specs.Values.{PresValue, Functions, equation_of}
@@ -131,16 +131,11 @@ module _ (k : CodeField) (p : PresValue) (some_n : 1 ≤ p.n) (den : List ℕ)
       v : List ℕ
       v = product_of k.ops (by_codes u) m
 
-      in_space : IsInRowSpace k.ops m v
-      in_space = record {
-        coefficients = by_codes u;
-        one_each = length_codes_of k (length m.rows) u;
-        over = by_codes_in u;
-        is = refl;
-      }
-
       member : InRowSpace R.ops m.cols (sequences_of k m.rows) (coeff_of R.ops (read k v))
-      member = space_of_codes k m v m_in.each in_space
+      member = record {
+        coefficient = coeff_of R.ops (read k (by_codes u));
+        is = λ j b. combination_is k m.cols (by_codes u) m.rows (by_codes_in u) m_in.each j;
+      }
 
       v_zero : v ≡ replicate m.cols 0
       v_zero =

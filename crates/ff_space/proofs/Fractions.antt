@@ -6,9 +6,9 @@ use Rattle.std.proofs.lemmas.List.Elements.{All-nil, All-cons, All-head, All-tai
 use Rattle.std.proofs.Math.Nat.{suc-mul, zero-mul}
 use Rattle.ring_lemmas.specs.Ring.{CommRing}
 use Rattle.ff_fields.specs.Field.{CodeField}
-use Rattle.ff_fields.specs.Over.{IsOver, IsOver_take, IsOver_drop}
+use Rattle.ff_fields.specs.Over.{IsOver, IsOver_take, IsOver_drop, IsOver_trim}
 use Rattle.ff_poly.specs.Words.{IsPoly, IsMonicList, poly_of, product_of}
-use Rattle.ff_poly.specs.PolyOver.{IsOver_poly_of, IsPoly_poly_of}
+use Rattle.ff_poly.specs.PolyOver.{IsPoly_poly_of}
 use Rattle.ff_poly.specs.Value.{value}
 use Rattle.ff_poly.specs.Polynomials.{Polynomial, polynomials}
 use Rattle.polynomial_theory.proofs.ListValues.{monic_poly}
@@ -19,7 +19,8 @@ use Rattle.ff_factor.proofs.ValueLists.{same_values, values_same}
 use Rattle.ff_factor.proofs.LowestTerms.{cancel}
 use Rattle.function_field.specs.Values.{ElemValue, PresValue, IsElem, IsMonicElem, Functions, function_of}
 use Rattle.function_field.proofs.SameValues.{same_iff}
-use Rattle.ff_algebra.proofs.CurveTerms.{length_poly_of}
+use Rattle.ring_theory.proofs.Evaluate.{length_trim}
+use Rattle.ff_fields.specs.Code.{is_zero_code}
 use Rattle.ff_lattice.proofs.Divisors.{monic_value}
 use Rattle.ff_space.specs.Steps.{AreShort, elems_in}
 use Rattle.ff_space.specs.Vectors.{parts_of, over_den, HasVector}
@@ -44,7 +45,7 @@ pub parts_short : (width n : ℕ) (v : List ℕ) → AreShort width (parts_of wi
 parts_short width zero v = All-nil (λ w. length w ≤ width)
 parts_short width (suc n) v =
     All-cons (λ w. length w ≤ width) (poly_of (take width v)) (parts_of width n (drop width v))
-    (omega (arith, length_poly_of (take width v), take_short width v))
+    (omega (arith, length_trim is_zero_code (take width v), take_short width v))
     (parts_short width n (drop width v))
 
 module _ (k : CodeField) where
@@ -55,7 +56,7 @@ module _ (k : CodeField) where
   parts_over width zero v over = All-nil (IsOver k.ops)
   parts_over width (suc n) v over =
       All-cons (IsOver k.ops) (poly_of (take width v)) (parts_of width n (drop width v))
-      (IsOver_poly_of k (IsOver_take width over)) (parts_over width n (drop width v) (IsOver_drop width over))
+      (IsOver_trim (take width v) (IsOver_take width over)) (parts_over width n (drop width v) (IsOver_drop width over))
 
   -- n numerators over a monic denominator are an element
   pub is_elem : (n : ℕ) (vs : List (List ℕ)) (d : List ℕ) → length vs ≡ n → All (IsOver k.ops) vs → IsOver k.ops d

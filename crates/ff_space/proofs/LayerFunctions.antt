@@ -1,5 +1,5 @@
 -- The functions of elements times powers of x.
-use Rattle.std.proofs.Common.{◌≡◌, ℕ, zero, suc, ◌-◌, ℤ, pos, ◌-ℤ◌, List, [], ◌∷◌, ◌++◌, length, map, refl, sym, ◌∙◌, ap, ap₂, arith, All}
+use Rattle.std.proofs.Common.{◌≡◌, ℕ, zero, suc, ◌-◌, ℤ, pos, ◌-ℤ◌, List, [], ◌∷◌, ◌++◌, length, map, replicate, refl, sym, ◌∙◌, ap, ap₂, arith, All}
 use Rattle.std.proofs.lemmas.List.{map-append}
 use Rattle.std.proofs.lemmas.List.Elements.{All-nil, All-cons, All-head, All-tail, All-append}
 use Rattle.ring_lemmas.specs.Ring.{CommRing}
@@ -9,9 +9,8 @@ use Rattle.ring_lemmas.proofs.Rows.{pair_path}
 use Rattle.linear_theory.specs.Lists.{entry}
 use Rattle.ff_fields.specs.Field.{CodeField}
 use Rattle.ff_fields.specs.Code.{code_ring}
-use Rattle.ff_fields.specs.Over.{IsOver}
+use Rattle.ff_fields.specs.Over.{IsOver, IsOver_append, IsOver_trim, IsOver_zeros}
 use Rattle.ff_poly.specs.Words.{shifted}
-use Rattle.ff_poly.specs.PolyOver.{IsOver_shifted}
 use Rattle.ff_poly.specs.Value.{value}
 use Rattle.ff_poly.specs.Polynomials.{Polynomial, polynomials, polynomials_domain, polynomial_discrete, x_poly}
 use Rattle.function_field.specs.Functions.{Equation, function, over, of_poly}
@@ -41,7 +40,7 @@ module _ (k : CodeField) where
   shifted_over [] over = All-nil (IsOver k.ops)
   shifted_over (v ∷ vs) over =
       All-cons (IsOver k.ops) (shifted v 1) (map (λ v. shifted v 1) vs)
-      (IsOver_shifted k 1 (All-head (IsOver k.ops) v vs over)) (shifted_over vs (All-tail (IsOver k.ops) v vs over))
+      (IsOver_trim (replicate 1 0 ++ v) (IsOver_append (IsOver_zeros k 1) (All-head (IsOver k.ops) v vs over))) (shifted_over vs (All-tail (IsOver k.ops) v vs over))
 
   shifted_count : (vs : List (List ℕ)) → length (map (λ v. shifted v 1) vs) ≡ length vs
   shifted_count [] = refl

@@ -4,9 +4,9 @@ use Rattle.std.proofs.lemmas.List.{length-append, length-replicate, length-drop,
 use Rattle.std.proofs.lemmas.List.Elements.{All-nil, All-cons, All-head, All-tail, All-take, All-drop}
 use Rattle.std.proofs.Math.Nat.{suc-mul, zero-mul, mul_assoc}
 use Rattle.ff_fields.specs.Field.{CodeField}
-use Rattle.ff_fields.specs.Over.{IsOver, IsOver_nil, IsOver_append, IsOver_zeros}
+use Rattle.ff_fields.specs.Over.{IsOver, IsOver_nil, IsOver_append, IsOver_trim, IsOver_zeros}
 use Rattle.ff_poly.specs.Words.{IsPoly, poly_of}
-use Rattle.ff_poly.specs.PolyOver.{IsOver_poly_of, IsPoly_poly_of}
+use Rattle.ff_poly.specs.PolyOver.{IsPoly_poly_of}
 use Rattle.ff_poly.specs.Value.{value, same_from_value}
 use Rattle.polynomial_theory.proofs.ListValues.{value_padded}
 use Rattle.ff_lattice.proofs.Spaces.{value_poly_of}
@@ -21,7 +21,7 @@ padded width a = a ++ replicate (width - length a) 0
 
 padded_long : (width : ℕ) (a : List ℕ) → length a ≤ width → length (padded width a) ≡ width
 padded_long width a short =
-    let r = length-replicate (width - length a) 0 in
+    let r = length-replicate {A = ℕ} (width - length a) 0 in
     length-append a (replicate (width - length a) 0) ∙ (omega (arith, r, short))
 
 take_past : {A : Type 0} (xs ys : List A) (m : ℕ) → take (length xs + m) (xs ++ ys) ≡ xs ++ take m ys
@@ -70,7 +70,7 @@ module _ (k : CodeField) (width : ℕ) where
   poly_of_padded : (w : List ℕ) → IsOver k.ops w → IsPoly w → poly_of (padded width w) ≡ w
   poly_of_padded w w_in w_poly =
       let long = IsOver_append w_in (IsOver_zeros k (width - length w)) in
-      same_from_value k (poly_of (padded width w)) w (IsOver_poly_of k long) w_in (IsPoly_poly_of (padded width w)) w_poly
+      same_from_value k (poly_of (padded width w)) w (IsOver_trim (padded width w) long) w_in (IsPoly_poly_of (padded width w)) w_poly
       (value_poly_of k (padded width w) long ∙ value_padded k w (width - length w))
 
   -- the parts of the vector of polynomials are these
@@ -92,7 +92,7 @@ module _ (k : CodeField) (width : ℕ) where
 
 -- the rows of the vectors of many polynomials
 module _ (k : CodeField) (width n : ℕ) where
-  rows_long : (count : ℕ) (ws : List (List ℕ)) → length ws ≡ count * n → AreShort width ws
+  pub rows_long : (count : ℕ) (ws : List (List ℕ)) → length ws ≡ count * n → AreShort width ws
       → length (vector_of width ws) ≡ count * (n * width)
   rows_long count ws e short = vector_long width ws short ∙ ap (λ m. m * width) e ∙ mul_assoc count n width
 

@@ -45,6 +45,17 @@ module _ {A : Type 0} (r : Operations A) where
   drop_scale (suc n) c [] = refl
   drop_scale (suc n) c (x ∷ xs) = drop_scale n c xs
 
+-- the start of zeros
+abbrev start_count : ℕ → ℕ → ℕ
+start_count zero m = 0
+start_count (suc w) zero = 0
+start_count (suc w) (suc m) = suc (start_count w m)
+
+start_zeros : (w m : ℕ) → ◌≡◌ {A = List ℕ} (0 ∷ take w (replicate m 0)) (replicate (suc (start_count w m)) 0)
+start_zeros zero m = refl
+start_zeros (suc w) zero = refl
+start_zeros (suc w) (suc m) = ap (λ zs. 0 ∷ zs) (start_zeros w m)
+
 module _ (k : CodeField) (width : ℕ) where
   -- the row of the polynomials of a vector
   abbrev pub part_row : (n : ℕ) → List ℕ → Row (Polynomial k) n
@@ -88,28 +99,12 @@ module _ (k : CodeField) (width : ℕ) where
       pair_path
       (value_poly_of k (take width (replicate m 0)) (IsOver_take width (IsOver_zeros k m))
       ∙ value_take width m)
-      (rest width m)
+      (ap (part_row n) (drop-replicate width m 0) ∙ row_of_zeros n (m - width))
     where
       value_take : (w m : ℕ) → value k (take w (replicate m 0)) ≡ (polynomials k).𝟘
       value_take zero m = value_zeros k 0
       value_take (suc w) zero = value_zeros k 0
-      value_take (suc w) (suc m) = ap (value k) (all_zeros w m) ∙ value_zeros k (suc (count w m))
-        where
-          count : ℕ → ℕ → ℕ
-          count zero m = 0
-          count (suc w) zero = 0
-          count (suc w) (suc m) = suc (count w m)
-
-          all_zeros : (w m : ℕ) → 0 ∷ take w (replicate m 0) ≡ replicate (suc (count w m)) 0
-          unfolding count
-          all_zeros zero m = refl
-          all_zeros (suc w) zero = refl
-          all_zeros (suc w) (suc m) = ap (λ zs. 0 ∷ zs) (all_zeros w m)
-
-      rest : (w m : ℕ) → part_row n (drop w (replicate m 0)) ≡ row_zero (polynomials k).ops n
-      rest zero m = row_of_zeros n m
-      rest (suc w) zero = row_of_zeros n 0
-      rest (suc w) (suc m) = rest w m
+      value_take (suc w) (suc m) = ap (value k) (start_zeros w m) ∙ value_zeros k (suc (start_count w m))
 
   -- a vector of so many codes for each part is known by its row
   pub vector_of_row : (n : ℕ) (a b : List ℕ) → length a ≡ n * width → length b ≡ n * width → IsOver k.ops a

@@ -41,6 +41,10 @@ pub record AreQuotientsOver (k : FieldOps) (e : List ℕ) (vs : List (List ℕ))
     pub poly : All IsPoly ws
     pub same : AreSameFractions k vs d ws e
 
+-- the fractions of vs over d are not those of polynomials over e
+abbrev pub HasNoQuotients : FieldOps → List ℕ → List (List ℕ) → List ℕ → Type 0
+HasNoQuotients k e vs d = (us : List (List ℕ)) → All (IsOver k) us → All IsPoly us → ¬ AreSameFractions k vs d us e
+
 -- ws are n numerators over e for each of the elements, one element after another
 pub record AreNumerators (k : CodeField) (n : ℕ) (zs : List ElemValue) (ws : List (List ℕ)) (e : List ℕ) : Type 0 where
   pub count : length ws ≡ length zs * n

@@ -14,7 +14,7 @@ parts_of width (suc n) v = poly_of (take width v) ∷ parts_of width n (drop wid
 -- the codes of polynomials one after another, each with zeros up to the width
 abbrev pub vector_of : ℕ → List (List ℕ) → List ℕ
 vector_of width [] = []
-vector_of width (a ∷ as) = (a ++ replicate (width - length a) 0) ++ vector_of width as
+vector_of width (a ∷ others) = (a ++ replicate (width - length a) 0) ++ vector_of width others
 
 module _ (k : CodeField) (p : PresValue) where
   -- the function of a vector over a denominator

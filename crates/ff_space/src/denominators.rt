@@ -3,10 +3,9 @@
 ghost use Rattle.std.specs.Prelude.{◌≡◌, ◌≢◌, ◌≤◌, ◌*◌, ℕ, List, [], length, map, All, IfOk, IsTrue, MatchOption};
 ghost use Rattle.ff_fields.specs.Over.{IsOver};
 ghost use Rattle.ff_poly.specs.Words.{IsPoly, IsMonicList, DividesList, product_of};
-ghost use Rattle.ff_factor.specs.LowestTerms.{AreSameFractions};
 ghost use Rattle.function_field.specs.Values.{IsElem, IsMonicElem};
 ghost use Rattle.ff_lattice.specs.Steps.{IsCommonMultiple};
-ghost use Rattle.ff_space.specs.Steps.{IsQuotient, AreQuotientsOver, AreNumerators, AreLeastNumerators};
+ghost use Rattle.ff_space.specs.Steps.{IsQuotient, AreQuotientsOver, HasNoQuotients, AreNumerators, AreLeastNumerators};
 
 use ff_algebra::Elem;
 use ff_factor::lowest_terms;
@@ -75,6 +74,7 @@ fn quotient_over<K: SmallField>(
     requires e_in { IsOver (K.field k.now).ops e.now }
     requires v_in { IsOver (K.field k.now).ops v.now }
     requires d_in { IsOver (K.field k.now).ops d.now }
+    requires d_poly { IsPoly d.now }
     requires d_some { d.now ≢ [] }
     ensures { let ops = (K.field k.now).ops in
         IfOk result (λ r. MatchOption r ((w : List ℕ) → IsOver ops w → IsPoly w
@@ -89,6 +89,33 @@ fn quotient_over<K: SmallField>(
     Ok(Some(quotient))
 }
 
+/// e·v/d for each of the polynomials v; None where one of them is no polynomial.
+fn quotients_over<K: SmallField>(
+    alloc: Global,
+    k: &K,
+    e: &Poly,
+    vs: &[Poly],
+    d: &Poly,
+) -> Result<Option<Vec<Poly>>, AllocError>
+    requires e_in { IsOver (K.field k.now).ops e.now }
+    requires vs_in { All (IsOver (K.field k.now).ops) vs.now }
+    requires d_in { IsOver (K.field k.now).ops d.now }
+    requires d_poly { IsPoly d.now }
+    requires d_some { d.now ≢ [] }
+    ensures { let ops = (K.field k.now).ops in
+        IfOk result (λ r. MatchOption r (HasNoQuotients ops e.now vs.now d.now)
+        (λ ws. AreQuotientsOver ops e.now vs.now d.now ws.items)) }
+{
+    let mut ws = Vec::new(alloc);
+    for v in vs {
+        match quotient_over(alloc, k, e, v, d)? {
+            None => return Ok(None),
+            Some(w) => ws.push(w)?,
+        }
+    }
+    Ok(Some(ws))
+}
+
 /// The numerators of the element over e; None where e times the element has other coordinates than polynomials.
 pub(crate) fn numerators_over<K: SmallField>(
     alloc: Global,
@@ -99,20 +126,11 @@ pub(crate) fn numerators_over<K: SmallField>(
     requires z_in { IsElem (K.field k.now).ops (length z.now.num) z.now }
     requires e_in { IsOver (K.field k.now).ops e.now }
     ensures quotients { let ops = (K.field k.now).ops in
-        IfOk result (λ r. MatchOption r ((us : List (List ℕ)) → All (IsOver ops) us → All IsPoly us
-        → ¬ AreSameFractions ops z.now.num z.now.den us e.now)
+        IfOk result (λ r. MatchOption r (HasNoQuotients ops e.now z.now.num z.now.den)
         (λ ws. AreQuotientsOver ops e.now z.now.num z.now.den ws.items)) }
     ensures monic { IfOk result (λ _. IsMonicElem z.now) }
 {
-    let den = z.den();
-    let mut ws = Vec::new(alloc);
-    for v in z.num() {
-        match quotient_over(alloc, k, e, v, den)? {
-            None => return Ok(None),
-            Some(w) => ws.push(w)?,
-        }
-    }
-    Ok(Some(ws))
+    quotients_over(alloc, k, e, z.num(), z.den())
 }
 
 /// The numerators over e of each of the elements, whose denominators divide it, one element after another.

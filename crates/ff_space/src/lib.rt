@@ -11,8 +11,8 @@
 pub mod combinations;
 mod denominators;
 mod functions;
-mod layers;
 pub mod laws;
+mod layers;
 mod rows;
 pub mod space;
 mod vectors;

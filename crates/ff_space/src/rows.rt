@@ -25,12 +25,7 @@ fn write_row(m: &mut Matrix, i: usize, codes: &[u32])
 }
 
 /// The matrix whose rows stand one after another in the codes.
-fn matrix_of(
-    alloc: Global,
-    codes: &[u32],
-    rows: usize,
-    cols: usize,
-) -> Result<Matrix, AllocError>
+fn matrix_of(alloc: Global, codes: &[u32], rows: usize, cols: usize) -> Result<Matrix, AllocError>
     requires { length codes.now ≡ rows * cols }
     ensures { IfOk result (λ m. m ≡ record { cols = cols; rows = rows_in cols rows codes.now }) }
 {
