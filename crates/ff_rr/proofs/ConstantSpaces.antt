@@ -65,9 +65,9 @@ module _ {k : CodeField} (c : Equation k) where
 module _ (k : CodeField) (f : FrameValue) (h : IsFrame k f) (bs : List (Functions k f.curve.fin)) (ds : List ℤ)
     (both : IsBasisOfBoth (equation_of k f.curve.fin) (Contains k f.curve.fin f.fin) (AtInfinity k f.curve f.inf) bs ds)
     (sum :
-        degree_sum f.curve.fin.n (entry (pos 0) ds)
-        ≡ (pivot_degree_of f.fin +ℤ pivot_degree_of f.inf)
-        +ℤ pos (f.curve.c * (f.curve.fin.n * (f.curve.fin.n - 1)) / 2)) where
+    degree_sum f.curve.fin.n (entry (pos 0) ds)
+    ≡ (pivot_degree_of f.fin +ℤ pivot_degree_of f.inf)
+    +ℤ pos (f.curve.c * (f.curve.fin.n * (f.curve.fin.n - 1)) / 2)) where
   -- a reduced basis of the integral functions of both sides
   pub frame_reduced : IsReducedBasis (equation_of k f.curve.fin) (IsIntegralAt (setting k f.curve.fin) Finite)
       (IsIntegralAt (setting k f.curve.fin) Infinite) bs (entry (pos 0) ds)

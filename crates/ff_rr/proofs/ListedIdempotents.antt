@@ -35,14 +35,16 @@ module _ {k : CodeField} (c : Equation k) where
   -- a function that is neither not 0 nor not 1
   zero_or_one : (e : FunctionOf c) → ¬ ((¬ (e ≡ 𝟘)) × (¬ (e ≡ 𝟙))) → (e ≡ 𝟘) ⊎ (e ≡ 𝟙)
   zero_or_one e n =
-      elim (span_decided c [] e)
-      [ yes h ↦ inl h
-      | no h ↦ inr (one h) ]
+      elim (span_decided c [] e) [
+        | yes h ↦ inl h
+        | no h ↦ inr (one h)
+      ]
     where
       one : ¬ (e ≡ 𝟘) → e ≡ 𝟙
-      one h = elim (span_decided c [] (e ⊕ ⊖ 𝟙))
-          [ yes i ↦ eq_of_sub (ring_of c) e 𝟙 i
-          | no i ↦ absurd (n (h, λ is. i (sub_of_eq (ring_of c) e 𝟙 is))) ]
+      one h = elim (span_decided c [] (e ⊕ ⊖ 𝟙)) [
+        | yes i ↦ eq_of_sub (ring_of c) e 𝟙 i
+        | no i ↦ absurd (n (h, λ is. i (sub_of_eq (ring_of c) e 𝟙 is)))
+      ]
 
 module _ (k : CodeField) (c : CurveValue) (curve : IsCurve k c) where
   -- F is a field exactly where it has no other idempotents than 0 and 1

@@ -3,6 +3,7 @@ use Rattle.std.proofs.Common.{◌≡◌, ◌↔◌, List, map, All}
 use Rattle.ff_fields.specs.Field.{CodeField}
 use Rattle.function_field.specs.Divisors.{IsConstant, IsSpaceBasis}
 use Rattle.function_field.specs.Values.{IsElem, Functions, function_of, equation_of, setting}
+use Rattle.space_theory.proofs.Laws.{basis_same}
 use Rattle.ff_split.specs.Splits.{SplitValue}
 use Rattle.ff_space.specs.Spaces.{SpaceValue, InCodeSpan, IsPrintedSpace}
 use Rattle.ff_space.specs.Layers.{layer_functions}
@@ -24,10 +25,9 @@ module _ (k : CodeField) (f : FrameValue) (h : IsFrame k f) (s : SplitValue) (sp
 
   pub made_constants : (t : SpaceValue)
       → IsPrintedSpace k f.curve.fin (InCodeSpan k f.curve.fin (layer_functions k f.curve.fin s.basis s.degrees)) t
-      → ((In : Functions k f.curve.fin → Type 0)
-      → ((z : Functions k f.curve.fin)
-      → In z ↔ InCodeSpan k f.curve.fin (layer_functions k f.curve.fin s.basis s.degrees) z)
-      → IsSpaceBasis (setting k f.curve.fin) In (map (function_of k f.curve.fin) t.functions))
+      → IsSpaceBasis (setting k f.curve.fin)
+      (InCodeSpan k f.curve.fin (layer_functions k f.curve.fin s.basis s.degrees))
+      (map (function_of k f.curve.fin) t.functions)
       → All (IsElem k.ops f.curve.fin.n) t.functions
       → IsConstantSpace k f (record { split = s; space = t })
   made_constants t printed basis elements = record {
@@ -37,6 +37,7 @@ module _ (k : CodeField) (f : FrameValue) (h : IsFrame k f) (s : SplitValue) (sp
         (IsConstant (setting k f.curve.fin)) spanned_constants t printed;
     elements = elements;
     basis =
-        basis (IsConstant (setting k f.curve.fin))
-        (λ z. let i = spanned_constants z in (λ m. i.1 m, λ m. i.0 m));
+        basis_same (equation_of k f.curve.fin)
+        (InCodeSpan k f.curve.fin (layer_functions k f.curve.fin s.basis s.degrees))
+        (IsConstant (setting k f.curve.fin)) spanned_constants (map (function_of k f.curve.fin) t.functions) basis;
   }

@@ -1,7 +1,8 @@
 -- The printed basis of the constants of a frame, and the genus by its number of functions.
 use Rattle.std.proofs.Common.{◌≡◌, ◌↔◌, ℕ, ◌-◌, ◌*◌, ◌/◌, ◌<◌, ◌≤◌, List, length, map, mul_assoc, sym, ◌∙◌, ap, ap₂, subst, arith}
 use Rattle.std.proofs.lemmas.List.{length-map}
-use Rattle.std.proofs.Math.IntN.{ℤ, pos, ◌≤ℤ◌}
+use Rattle.std.proofs.Math.IntN.{ℤ, pos}
+use Rattle.std.specs.Prelude.{◌≤ℤ◌}
 use Rattle.ring_lemmas.specs.Ring.{IsField}
 use Rattle.ff_fields.specs.Field.{CodeField}
 use Rattle.function_field.specs.declared.side.Side.TheVariants.{Finite, Infinite}

@@ -3,7 +3,7 @@ use Rattle.std.proofs.Common.{◌≡◌, ℕ, zero, suc, ◌<◌, List, [], ◌�
 use Rattle.std.proofs.lemmas.List.{length-map}
 use Rattle.std.proofs.lemmas.List.Elements.{All-nil, All-cons, All-head, All-tail}
 use Rattle.ring_lemmas.specs.Lists.{coeff_of}
-use Rattle.ring_lemmas.specs.Polynomials.{constant}
+use Rattle.ring_lemmas.specs.Polynomials.{constant, pol_ops}
 use Rattle.ring_lemmas.proofs.Lists.{coeff_trim}
 use Rattle.ring_lemmas.proofs.Ring.{mul_zero}
 use Rattle.ring_theory.specs.Subsets.{Span}
@@ -13,7 +13,7 @@ use Rattle.linear_theory.specs.Basis.{IsNull, IsBasis}
 use Rattle.linear_theory.specs.Lists.{insert, tabulate}
 use Rattle.linear_theory.proofs.Bases.{null_subspace}
 use Rattle.linear_theory.proofs.Exchange.{bases_same_length}
-use Rattle.linear_theory.proofs.Lists.{length_tabulate}
+use Rattle.linear_theory.proofs.Elimination.{length_tabulate}
 use Rattle.ff_fields.specs.Field.{CodeField}
 use Rattle.ff_fields.specs.Code.{Code, code_ring}
 use Rattle.ff_poly.specs.Polynomials.{Polynomial, polynomials, polynomials_domain}
@@ -33,6 +33,7 @@ module _ {k : CodeField} (c : Equation k) where
 
   -- a code that is 0 as a function is 0
   code_zero : (a : Code k) → code_of c a ≡ 𝟘 → a ≡ (code_ring k).𝟘
+  unfolding pol_ops
   code_zero a e =
       sym (coeff_trim (code_ring k) (a ∷ []) 0)
       ∙ ap (λ (q : Polynomial k). coeff_of (code_ring k).ops q.0 0)

@@ -15,7 +15,6 @@ use Rattle.ff_written.proofs.TextOrder.{text_irreflexive, text_transitive}
 use Rattle.ff_written.proofs.OrderedLists.{ascending_insert}
 use Rattle.ff_rr.specs.Listings.{IsWrittenBefore, AreByText, AreListed}
 
-
 written_irreflexive : (z w : WrittenValue) → z ≡ w → ¬ IsWrittenBefore z w
 written_irreflexive z w e = text_irreflexive _ _ (ap (λ (x : WrittenValue). elem_text x.num x.den) e)
 

@@ -1,18 +1,27 @@
 //! The genus.
 
-ghost use Rattle.std.specs.Prelude.{◌≡◌, ◌*◌, ◌≤ℤ◌, length, All};
+ghost use Rattle.std.specs.Prelude.{◌≡◌, ◌*◌, ◌-ℤ◌, ◌≤ℤ◌, length, All};
 ghost use Rattle.std.proofs.Common.{pos};
 ghost use Rattle.ring_lemmas.specs.Ring.{IsField};
 ghost use Rattle.function_field.specs.Divisors.{HasGenus};
 ghost use Rattle.function_field.specs.Values.{functions, setting};
 ghost use Rattle.linear_theory.specs.Lists.{entry};
-ghost use Rattle.reduced_basis_theory.specs.Degree.{degree_sum, genus_sum};
+ghost use Rattle.reduced_basis_theory.specs.Degree.{size, degree_sum, genus_sum};
 ghost use Rattle.ff_rr.specs.Frames.{IsFrame};
 ghost use Rattle.ff_rr.specs.Constants.{IsConstantSpace};
 
 use crate::frame::Frame;
 use crate::spaces::SpaceBasis;
 use ff_fields::field::SmallField;
+
+/// The number max(0, d - 1).
+fn less_one(d: i64) -> u32
+    requires nonnegative { pos 0 ≤ℤ d }
+    requires small { d ≤ℤ pos 112 }
+    ensures { result ≡ size (d -ℤ pos 2) }
+{
+    if d > 1 { (d - 1) as u32 } else { 0 }
+}
 
 /// The sum of the numbers max(0, d - 1).
 fn excess(degrees: &[i64]) -> u32
@@ -22,7 +31,7 @@ fn excess(degrees: &[i64]) -> u32
 {
     let mut sum = 0;
     for d in degrees {
-        sum += (*d - 1).max(0) as u32;
+        sum += less_one(*d);
     }
     sum
 }

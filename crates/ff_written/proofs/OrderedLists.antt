@@ -29,8 +29,8 @@ module _ {X : Type 0} (R : X → X → Type 0) where
   pairs_insert [] (suc i) y pairs behind ahead = AllPairs-cons R y [] (All-nil (R y)) pairs
   pairs_insert (x ∷ xs) (suc i) y pairs behind ahead =
       AllPairs-cons R x (insert xs i y)
-      (all_insert (R x) xs i y (behind 0 x (omega arith) (omega arith)) (pairs_head R x xs pairs))
-      (pairs_insert xs i y (pairs_tail R x xs pairs) (λ j d l m. behind (suc j) d (omega arith) (omega arith))
+      (all_insert (R x) xs i y (behind 0 x (omega arith) (omega arith)) (pairs_head x xs pairs))
+      (pairs_insert xs i y (pairs_tail x xs pairs) (λ j d l m. behind (suc j) d (omega arith) (omega arith))
       (λ j d l m. ahead (suc j) d (omega arith) (omega arith)))
 
   -- in another order, where the order of two doesn't matter
