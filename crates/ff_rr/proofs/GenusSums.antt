@@ -1,5 +1,5 @@
 -- The sum of the max(0, d - 1) over natural numbers d of a bounded sum.
-use Rattle.std.proofs.Common.{◌≡◌, ℕ, zero, suc, ◌+◌, ◌<◌, ◌≤◌, List, refl, sym, ◌∙◌, ap, subst, arith}
+use Rattle.std.proofs.Common.{◌≡◌, ℕ, zero, suc, ◌+◌, ◌/◌, ◌<◌, ◌≤◌, refl, sym, ◌∙◌, ap, subst, arith}
 use Rattle.std.proofs.lemmas.Int.{ints}
 use Rattle.std.proofs.Math.IntN.{ℤ, pos, negsuc, ◌+ℤ◌, ◌-ℤ◌, ◌≤ℤ◌}
 use Rattle.reduced_basis_theory.specs.Degree.{size, total, degree_sum, genus_sum}
@@ -33,4 +33,24 @@ genus_at_most zero d h = omega (arith, ints)
 genus_at_most (suc n) d h =
     let r = genus_at_most n (λ i. d (suc i)) (λ i l. h (suc i) (omega arith)) in
     let s = excess_at_most (d 0) (h 0 (omega arith)) in
+    omega (arith, ints, r, s)
+
+-- the sum of degrees by two numbers of at most 0
+pub small_sum : (s a b : ℤ) (m : ℕ) → s ≡ (a +ℤ b) +ℤ pos (m / 2) → a ≤ℤ pos 0 → b ≤ℤ pos 0 → m ≤ 224 → s ≤ℤ pos 112
+small_sum s a b m e l l' h = omega (arith, ints, e, l, l', h)
+
+sum_nonnegative : (n : ℕ) (d : ℕ → ℤ) → ((i : ℕ) → i < n → pos 0 ≤ℤ d i) → pos 0 ≤ℤ degree_sum n d
+sum_nonnegative zero d h = omega (arith, ints)
+sum_nonnegative (suc n) d h =
+    let r = sum_nonnegative n (λ i. d (suc i)) (λ i l. h (suc i) (omega arith)) in
+    let s = h 0 (omega arith) in
+    omega (arith, ints, r, s)
+
+pub member_at_most : (n : ℕ) (d : ℕ → ℤ) → ((i : ℕ) → i < n → pos 0 ≤ℤ d i) → (i : ℕ) → i < n → d i ≤ℤ degree_sum n d
+member_at_most zero d h i l = absurd (omega arith)
+member_at_most (suc n) d h zero l =
+    let r = sum_nonnegative n (λ i. d (suc i)) (λ i l. h (suc i) (omega arith)) in omega (arith, ints, r)
+member_at_most (suc n) d h (suc i) l =
+    let r = member_at_most n (λ i. d (suc i)) (λ i l. h (suc i) (omega arith)) i (omega arith) in
+    let s = h 0 (omega arith) in
     omega (arith, ints, r, s)

@@ -5,3 +5,7 @@ pub mod SpaceBases
 pub mod GenusSums
 pub mod ConstantSpaces
 pub mod PrintedSpaces
+pub mod TextLists
+pub mod ListedIdempotents
+pub mod TableVectors
+pub mod MadeConstants

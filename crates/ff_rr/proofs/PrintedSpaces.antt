@@ -1,5 +1,5 @@
 -- The printed basis of the constants of a frame, and the genus by its number of functions.
-use Rattle.std.proofs.Common.{◌≡◌, ◌↔◌, ℕ, ◌*◌, ◌/◌, ◌<◌, ◌≤◌, List, length, map, sym, ◌∙◌, ap, ap₂, subst, arith}
+use Rattle.std.proofs.Common.{◌≡◌, ◌↔◌, ℕ, ◌-◌, ◌*◌, ◌/◌, ◌<◌, ◌≤◌, List, length, map, mul_assoc, sym, ◌∙◌, ap, ap₂, subst, arith}
 use Rattle.std.proofs.lemmas.List.{length-map}
 use Rattle.std.proofs.Math.IntN.{ℤ, pos, ◌≤ℤ◌}
 use Rattle.ring_lemmas.specs.Ring.{IsField}
@@ -10,15 +10,18 @@ use Rattle.function_field.specs.Functions.{degree_of_y}
 use Rattle.function_field.specs.Places.{IsIntegralAt}
 use Rattle.function_field.specs.Values.{PresValue, Functions, functions, function_of, equation_of, setting}
 use Rattle.linear_theory.specs.Lists.{entry}
-use Rattle.reduced_basis_theory.specs.Degree.{dimension_sum, genus_sum}
+use Rattle.reduced_basis_theory.specs.Degree.{degree_sum, dimension_sum, genus_sum}
 use Rattle.space_theory.proofs.Laws.{level_count}
 use Rattle.constants_theory.proofs.FieldDegrees.{degrees_nonnegative, dimension_positive, genus_by_degrees, genus_quotient}
 use Rattle.value_theory.proofs.InfiniteLattices.{some}
+use Rattle.ff_lattice.specs.Lattices.{pivot_degree_of}
 use Rattle.ff_space.specs.Spaces.{SpaceValue, IsPrintedSpace}
 use Rattle.ff_space.specs.Layers.{layer_functions}
 use Rattle.ff_rr.specs.Frames.{FrameValue, IsFrame}
 use Rattle.ff_rr.specs.Constants.{SpaceBasisValue, IsConstantSpace}
 use Rattle.ff_rr.proofs.FrameSets.{frame_disc}
+use Rattle.ff_rr.proofs.PivotDegrees.{finite_pivots, infinite_pivots}
+use Rattle.ff_rr.proofs.GenusSums.{small_sum}
 use Rattle.ff_rr.proofs.SpaceBases.{bases_length}
 use Rattle.ff_rr.proofs.ConstantSpaces.{frame_reduced, frame_constants}
 
@@ -61,6 +64,12 @@ module _ (k : CodeField) (f : FrameValue) (h : IsFrame k f) (s : SpaceBasisValue
       (frame_constants k f h (map (function_of k f.curve.fin) s.split.basis) s.split.degrees c.split.both c.split.sum)
       c.basis
       ∙ length-map s.space.functions (function_of k f.curve.fin)
+
+  pub degrees_small : degree_sum f.curve.fin.n d ≤ℤ pos 112
+  degrees_small =
+      small_sum (degree_sum f.curve.fin.n d) (pivot_degree_of f.fin) (pivot_degree_of f.inf)
+      (f.curve.c * (f.curve.fin.n * (f.curve.fin.n - 1))) c.split.sum (finite_pivots k f h) (infinite_pivots k f h)
+      (subst (λ m. m ≤ 224) (mul_assoc f.curve.c f.curve.fin.n (f.curve.fin.n - 1)) h.curve.disc_at_infinity)
 
   module _ (field : IsField (functions k f.curve.fin).ops) where
     pub nonnegative_degrees : (i : ℕ) → i < f.curve.fin.n → pos 0 ≤ℤ d i

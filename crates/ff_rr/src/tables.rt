@@ -2,11 +2,11 @@
 
 ghost use Rattle.std.specs.Prelude.{◌≡◌, ◌++◌, List, length, map, All, IfOk, OnOk};
 ghost use Rattle.ring_theory.specs.Subsets.{IsSubring, products};
-ghost use Rattle.function_field.specs.Divisors.{IsConstant};
+ghost use Rattle.function_field.specs.Divisors.{IsConstant, IsSpaceBasis};
 ghost use Rattle.function_field.specs.Values.{IsPresOver, IsElem, Functions, functions, function_of, equation_of, setting};
 ghost use Rattle.ff_falg.specs.Algebras.{IsVector};
 ghost use Rattle.ff_falg.specs.Idempotents.{elements_of};
-ghost use Rattle.ff_space.specs.Spaces.{IsPrintedSpace};
+ghost use Rattle.ff_space.specs.Spaces.{IsSpaceForm};
 ghost use Rattle.idempotents_theory.specs.Coordinates.{IsStructureOf};
 ghost use Rattle.ff_rr.specs.Listings.{function_at, AreVectorsOf};
 
@@ -27,7 +27,9 @@ fn constant_coordinates<K: SmallField>(
     z: &Elem,
 ) -> Result<Vec<u32>, AllocError>
     requires p_in { IsPresOver (K.field k.now).ops p.now }
-    requires printed { let k = K.field k.now in IsPrintedSpace k p.now (IsConstant (setting k p.now)) s.now }
+    requires form { IsSpaceForm (K.field k.now) p.now s.now }
+    requires basis { let k = K.field k.now in
+        IsSpaceBasis (setting k p.now) (IsConstant (setting k p.now)) (map (function_of k p.now) s.now.functions) }
     requires z_in { IsElem (K.field k.now).ops p.now.n z.now }
     requires constant { let k = K.field k.now in IsConstant (setting k p.now) (function_of k p.now z.now) }
     ensures vector { IfOk result (λ v. IsVector (K.field k.now).ops (length s.now.functions) v.items) }
@@ -50,10 +52,10 @@ fn push_products<K: SmallField>(
     table: &mut Vec<Vec<u32>>,
 ) -> Result<(), AllocError>
     requires p_in { IsPresOver (K.field k.now).ops p.now }
-    requires printed { let k = K.field k.now in IsPrintedSpace k p.now (IsConstant (setting k p.now)) s.now }
+    requires form { IsSpaceForm (K.field k.now) p.now s.now }
+    requires basis { let k = K.field k.now in
+        IsSpaceBasis (setting k p.now) (IsConstant (setting k p.now)) (map (function_of k p.now) s.now.functions) }
     requires elements { All (IsElem (K.field k.now).ops p.now.n) s.now.functions }
-    requires constants { let k = K.field k.now in
-        All (λ z. IsConstant (setting k p.now) (function_of k p.now z)) s.now.functions }
     requires ring { let k = K.field k.now in IsSubring (functions k p.now).ops (IsConstant (setting k p.now)) }
     requires a_in { IsElem (K.field k.now).ops p.now.n a.now }
     requires constant { let k = K.field k.now in IsConstant (setting k p.now) (function_of k p.now a.now) }
@@ -64,7 +66,8 @@ fn push_products<K: SmallField>(
         (gs ++ map (F.◌⊗◌ (function_of k p.now a.now)) (map (function_of k p.now) s.now.functions))
         (elements_of table.new.items)) }
 {
-    for b in s.functions() {
+    let functions = s.functions();
+    for b in functions {
         let product = mul(alloc, k, p, a, b)?;
         table.push(constant_coordinates(alloc, k, p, s, &product)?)?;
     }
@@ -79,18 +82,19 @@ fn table<K: SmallField>(
     s: &PrintedBasis,
 ) -> Result<Vec<Vec<u32>>, AllocError>
     requires p_in { IsPresOver (K.field k.now).ops p.now }
-    requires printed { let k = K.field k.now in IsPrintedSpace k p.now (IsConstant (setting k p.now)) s.now }
+    requires form { IsSpaceForm (K.field k.now) p.now s.now }
+    requires basis { let k = K.field k.now in
+        IsSpaceBasis (setting k p.now) (IsConstant (setting k p.now)) (map (function_of k p.now) s.now.functions) }
     requires elements { All (IsElem (K.field k.now).ops p.now.n) s.now.functions }
-    requires constants { let k = K.field k.now in
-        All (λ z. IsConstant (setting k p.now) (function_of k p.now z)) s.now.functions }
     requires ring { let k = K.field k.now in IsSubring (functions k p.now).ops (IsConstant (setting k p.now)) }
     ensures { let k = K.field k.now in
         let bs = map (function_of k p.now) s.now.functions in
         IfOk result (λ t. AreVectorsOf k p.now s.now.functions (products (functions k p.now).ops bs bs)
         (elements_of t.items)) }
 {
+    let functions = s.functions();
     let mut table = Vec::new(alloc);
-    for a in s.functions() {
+    for a in functions {
         push_products(alloc, k, p, s, a, &mut table)?;
     }
     Ok(table)
@@ -104,10 +108,10 @@ pub(crate) fn structure<K: SmallField>(
     s: &PrintedBasis,
 ) -> Result<Structure, AllocError>
     requires p_in { IsPresOver (K.field k.now).ops p.now }
-    requires printed { let k = K.field k.now in IsPrintedSpace k p.now (IsConstant (setting k p.now)) s.now }
+    requires form { IsSpaceForm (K.field k.now) p.now s.now }
+    requires basis { let k = K.field k.now in
+        IsSpaceBasis (setting k p.now) (IsConstant (setting k p.now)) (map (function_of k p.now) s.now.functions) }
     requires elements { All (IsElem (K.field k.now).ops p.now.n) s.now.functions }
-    requires constants { let k = K.field k.now in
-        All (λ z. IsConstant (setting k p.now) (function_of k p.now z)) s.now.functions }
     requires ring { let k = K.field k.now in IsSubring (functions k p.now).ops (IsConstant (setting k p.now)) }
     ensures { let k = K.field k.now in
         IfOk result (IsStructureOf (equation_of k p.now) (map (function_of k p.now) s.now.functions)) }

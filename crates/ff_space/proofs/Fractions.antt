@@ -19,7 +19,8 @@ use Rattle.ff_factor.proofs.ValueLists.{same_values, values_same}
 use Rattle.ff_factor.proofs.LowestTerms.{cancel}
 use Rattle.function_field.specs.Values.{ElemValue, PresValue, IsElem, IsMonicElem, Functions, function_of}
 use Rattle.function_field.proofs.SameValues.{same_iff}
-use Rattle.ff_algebra.proofs.CurveTerms.{length_poly_of}
+use Rattle.ring_theory.proofs.Evaluate.{length_trim}
+use Rattle.ff_fields.specs.Code.{is_zero_code}
 use Rattle.ff_lattice.proofs.Divisors.{monic_value}
 use Rattle.ff_space.specs.Steps.{AreShort, elems_in}
 use Rattle.ff_space.specs.Vectors.{parts_of, over_den, HasVector}
@@ -44,7 +45,7 @@ pub parts_short : (width n : ℕ) (v : List ℕ) → AreShort width (parts_of wi
 parts_short width zero v = All-nil (λ w. length w ≤ width)
 parts_short width (suc n) v =
     All-cons (λ w. length w ≤ width) (poly_of (take width v)) (parts_of width n (drop width v))
-    (omega (arith, length_poly_of (take width v), take_short width v))
+    (omega (arith, length_trim is_zero_code (take width v), take_short width v))
     (parts_short width n (drop width v))
 
 module _ (k : CodeField) where

@@ -9,5 +9,6 @@ pub mod PrintedBases
 pub mod LayerFunctions
 pub mod CoordinateLists
 pub mod OnePrinted
+pub mod PrintedSets
 pub mod Quotients
 pub mod RowLists

@@ -69,6 +69,9 @@ module _ (k : CodeField) where
       division.whole ∙ ap (λ r. sum_of k.ops (product_of k.ops d q) r) none
       ∙ sum_nil k (product_of k.ops d q) (IsOver_product_of k d_in division.quotient_in) (IsPoly_product_of k.ops d q)
 
+  pub quotients_none : (e d : List ℕ) → AreQuotientsOver k.ops e [] d []
+  quotients_none e d = record { count = refl; over = All-nil (IsOver k.ops); poly = All-nil IsPoly; same = refl }
+
   -- one numerator more
   pub quotients_more : (e d : List ℕ) (vs ws new : List (List ℕ)) (i : ℕ) (v w : List ℕ) → i < length vs
       → v ≡ get_or vs i v → AreQuotientsOver k.ops e (take i vs) d ws → IsQuotient k.ops e v d w → new ≡ ws ++ w ∷ []

@@ -1,21 +1,21 @@
 -- Rows that are written one after another, and the first rows of an echelon form.
 use Rattle.std.proofs.Common.{◌≡◌, ◌≢◌, ℕ, zero, suc, ◌+◌, ◌-◌, ◌*◌, ◌<◌, ◌≤◌, List, [], ◌∷◌, ◌++◌, length, get_or, map, take, drop, replicate, set, refl, sym, ◌∙◌, ap, ap₂, subst, arith, ◌↔◌, All}
 use Rattle.std.proofs.lemmas.List.{length-append, length-drop, length-take-le, length-map, length-set, length-replicate, take_all, take_more, nil_from_length}
-use Rattle.std.proofs.lemmas.List.Elements.{All-nil, All-cons, All-head, All-tail, All-weaker, All-take, All-set, All-get_or}
+use Rattle.std.proofs.lemmas.List.Elements.{All-nil, All-cons, All-head, All-tail, All-weaker, All-replicate, All-take, All-set, All-get_or}
 use Rattle.std.proofs.lemmas.Grind.{take-set_at}
 use Rattle.std.proofs.Math.Nat.{suc-mul}
 use Rattle.ring_lemmas.specs.Lists.{coeff_of}
 use Rattle.ring_lemmas.specs.Ring.{Operations, CommRing}
 use Rattle.ring_lemmas.proofs.Ring.{mul_zero}
 use Rattle.ff_fields.specs.Field.{CodeField}
-use Rattle.ff_fields.specs.Code.{Code, code_ring}
+use Rattle.ff_fields.specs.Code.{Code, code_ring, raw_ring}
 use Rattle.ff_fields.specs.Numbers.{read}
 use Rattle.ff_fields.specs.Over.{IsOver}
 use Rattle.linear_theory.specs.Module.{combine, sequence_ops}
 use Rattle.linear_theory.specs.Echelon.{row, InRowSpace, IsReducedEchelon}
 use Rattle.linear_theory.proofs.Echelon.{column_none}
 use Rattle.ff_linalg.specs.Forms.{sequences_of, IsReducedBelow}
-use Rattle.ff_linalg.specs.Matrix.{MatrixValue, IsMatrixOver, HasShape, first_rows_of, rows_in}
+use Rattle.ff_linalg.specs.Matrix.{MatrixValue, IsMatrixOver, HasShape, first_rows_of, rows_in, zero_matrix}
 use Rattle.ff_linalg.specs.Space.{IsInRowSpace, IsReducedForm}
 use Rattle.ff_linalg.proofs.Bridge.{codes_of_form, form_of_codes, space_of_codes, codes_of_space, combination_over, length_combination}
 use Rattle.function_field.specs.Values.{ElemValue, PresValue}
@@ -25,6 +25,34 @@ use Rattle.ff_space.specs.Steps.{AreShort, IsEchelonBasisOf, IsLongest, with_row
 use Rattle.ff_space.specs.Vectors.{over_den, vector_of}
 use Rattle.ff_space.proofs.Quotients.{All-last}
 use Rattle.ff_space.proofs.VectorLists.{padded}
+
+-- the codes at the start of a row are all of it
+pub whole_row : (m : MatrixValue) (i : ℕ) (codes : List ℕ) → i < length m.rows → length codes ≡ m.cols
+    → HasShape m (length m.rows) m.cols
+    → record { cols = m.cols; rows = set m.rows i (codes ++ drop (length codes) (get_or m.rows i [])) }
+    ≡ with_row m i codes
+whole_row m i codes less long shape =
+    ap (λ r. record { cols = m.cols; rows = set m.rows i r })
+    (ap (λ xs. codes ++ xs)
+    (nil_from_length (drop (length codes) (get_or m.rows i []))
+    (length-drop (length codes) (get_or m.rows i [])
+    ∙ (let w = All-get_or (λ r. length r ≡ m.cols) m.rows i [] less shape.each in omega (arith, w, long))))
+    ∙ none codes)
+  where
+    none : {A : Type 0} (xs : List A) → xs ++ [] ≡ xs
+    none [] = refl
+    none (x ∷ xs) = ap (λ zs. x ∷ zs) (none xs)
+
+pub own_shape : (m : MatrixValue) (rows cols : ℕ) → HasShape m rows cols → HasShape m (length m.rows) m.cols
+own_shape m rows cols h = record {
+  row_count = refl;
+  col_count = refl;
+  each = subst (λ n. All (λ r. length r ≡ n) m.rows) (sym h.col_count) h.each;
+}
+
+pub row_long : (m : MatrixValue) (i : ℕ) → i < length m.rows → HasShape m (length m.rows) m.cols
+    → length (get_or m.rows i []) ≡ m.cols
+row_long m i less h = All-get_or (λ r. length r ≡ m.cols) m.rows i [] less h.each
 
 -- one row more is written
 pub record RowsWritten (rows cols i : ℕ) (rest codes : List ℕ) (m : MatrixValue) : Type 0 where
@@ -39,6 +67,26 @@ with_row_shape m rows cols i codes shape long = record {
   col_count = shape.col_count;
   each = All-set (λ r. length r ≡ cols) m.rows i codes long shape.each;
 }
+
+zeros_shape : (rows cols : ℕ) → HasShape (zero_matrix rows cols) rows cols
+zeros_shape rows cols = record {
+  row_count = length-replicate rows (replicate cols 0);
+  col_count = refl;
+  each = All-replicate (λ r. length r ≡ cols) rows (replicate cols 0) (length-replicate cols 0);
+}
+
+pub rows_written_start : (rows cols : ℕ) (codes : List ℕ) (m : MatrixValue) → length codes ≡ rows * cols
+    → m ≡ zero_matrix rows cols → RowsWritten rows cols 0 codes codes m
+rows_written_start rows cols codes m long m_is =
+    subst (RowsWritten rows cols 0 codes codes) (sym m_is)
+    (record { shape = zeros_shape rows cols; long = long; is = refl })
+
+pub long_rest : (rows cols i : ℕ) (rest codes : List ℕ) (m : MatrixValue) → i < rows → RowsWritten rows cols i rest codes m
+    → cols ≤ length rest
+long_rest rows cols i rest codes m less h =
+    let e : rows - i ≡ suc (rows - (i + 1)) = omega arith in
+    let l : length rest ≡ suc (rows - (i + 1)) * cols = h.long ∙ ap (λ n. n * cols) e in
+    omega (arith, l, suc-mul (rows - (i + 1)) cols)
 
 pub rows_written_more : (rows cols i : ℕ) (rest codes first others : List ℕ) (m new : MatrixValue) → i < rows
     → RowsWritten rows cols i rest codes m → first ≡ take cols rest → others ≡ drop cols rest
@@ -81,6 +129,11 @@ rows_written_end rows cols i rest codes m done h =
 pub record FirstRowsWritten (rows i : ℕ) (m first : MatrixValue) : Type 0 where
   pub shape : HasShape first rows m.cols
   pub is : take i first.rows ≡ take i m.rows
+
+pub first_rows_start : (rows : ℕ) (m first : MatrixValue) → first ≡ zero_matrix rows m.cols
+    → FirstRowsWritten rows 0 m first
+first_rows_start rows m first first_is =
+    subst (FirstRowsWritten rows 0 m) (sym first_is) (record { shape = zeros_shape rows m.cols; is = refl })
 
 pub first_rows_more : (rows i : ℕ) (m first new : MatrixValue) (r : List ℕ) → i < rows → rows ≤ length m.rows
     → HasShape m (length m.rows) m.cols → r ≡ get_or m.rows i [] → FirstRowsWritten rows i m first
@@ -140,6 +193,13 @@ map_take : {A B : Type 0} (f : A → B) (r : ℕ) (xs : List A) → map f (take 
 map_take f zero xs = refl
 map_take f (suc r) [] = refl
 map_take f (suc r) (x ∷ xs) = ap (λ ys. f x ∷ ys) (map_take f r xs)
+
+pub rank_within : (k : CodeField) (m : MatrixValue) (rank : ℕ) → IsReducedForm k.ops m rank → rank ≤ length m.rows
+rank_within k m rank h =
+    let w = h.form.rank_within in
+    let e = h.rank_is in
+    let l = length-map m.rows (coeff_of (raw_ring k.ops)) in
+    omega (arith, w, e, l)
 
 module _ (k : CodeField) (m : MatrixValue) (rank : ℕ) (shape : HasShape m (length m.rows) m.cols)
     (m_in : IsMatrixOver k.ops m) (reduced : IsReducedForm k.ops m rank) where

@@ -92,7 +92,7 @@ module _ (k : CodeField) (width : ℕ) where
 
 -- the rows of the vectors of many polynomials
 module _ (k : CodeField) (width n : ℕ) where
-  rows_long : (count : ℕ) (ws : List (List ℕ)) → length ws ≡ count * n → AreShort width ws
+  pub rows_long : (count : ℕ) (ws : List (List ℕ)) → length ws ≡ count * n → AreShort width ws
       → length (vector_of width ws) ≡ count * (n * width)
   rows_long count ws e short = vector_long width ws short ∙ ap (λ m. m * width) e ∙ mul_assoc count n width
 

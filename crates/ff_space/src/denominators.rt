@@ -75,6 +75,7 @@ fn quotient_over<K: SmallField>(
     requires e_in { IsOver (K.field k.now).ops e.now }
     requires v_in { IsOver (K.field k.now).ops v.now }
     requires d_in { IsOver (K.field k.now).ops d.now }
+    requires d_poly { IsPoly d.now }
     requires d_some { d.now ≢ [] }
     ensures { let ops = (K.field k.now).ops in
         IfOk result (λ r. MatchOption r ((w : List ℕ) → IsOver ops w → IsPoly w

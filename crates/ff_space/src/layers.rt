@@ -41,7 +41,7 @@ fn push_multiples(
 {
     let count = multiples_count(d);
     let mut w = z.copy(alloc)?;
-    for _ in 0..count {
+    for i in 0..count {
         let next = x_times(alloc, &w)?;
         list.push(w)?;
         w = next;

@@ -1,10 +1,10 @@
 //! The printed basis of a space that functions span over k.
 
-ghost use Rattle.std.specs.Prelude.{◌≡◌, ◌≤◌, ◌↔◌, length, map, All, IfOk};
+ghost use Rattle.std.specs.Prelude.{◌≡◌, ◌≤◌, length, map, All, IfOk};
 ghost use Rattle.function_field.specs.Divisors.{IsSpaceBasis};
-ghost use Rattle.function_field.specs.Values.{Functions, IsElem, function_of, setting};
+ghost use Rattle.function_field.specs.Values.{IsElem, function_of, setting};
 ghost use Rattle.ff_space.specs.Layers.{layer_functions};
-ghost use Rattle.ff_space.specs.Spaces.{InCodeSpan, IsPrintedBasis, IsPrintedSpace, SpaceValue};
+ghost use Rattle.ff_space.specs.Spaces.{InCodeSpan, IsPrintedBasis, IsPrintedSpace};
 
 use crate::denominators::least_numerators;
 use crate::functions::row_functions;
@@ -114,9 +114,9 @@ pub fn spanned<K: SmallField>(
         IfOk result (λ s. IsPrintedBasis k p.now (InCodeSpan k p.now (layer_functions k p.now basis.now degrees.now))
         s.functions) }
     ensures basis { let k = K.field k.now in
-        IfOk result (λ s. (In : Functions k p.now → Type 0)
-        → ((z : Functions k p.now) → In z ↔ InCodeSpan k p.now (layer_functions k p.now basis.now degrees.now) z)
-        → IsSpaceBasis (setting k p.now) In (map (function_of k p.now) s.functions)) }
+        IfOk result (λ s. IsSpaceBasis (setting k p.now)
+        (InCodeSpan k p.now (layer_functions k p.now basis.now degrees.now))
+        (map (function_of k p.now) s.functions)) }
     ensures elements { IfOk result (λ s. All (IsElem (K.field k.now).ops p.now.n) s.functions) }
 {
     let zs = all_multiples(alloc, basis, degrees)?;

@@ -14,7 +14,7 @@ pub(crate) fn longest(polys: &[Poly]) -> usize
 {
     let mut most = 0;
     for p in polys {
-        most = most.max(p.codes().len());
+        most = most.max(p.len());
     }
     most
 }
@@ -25,7 +25,7 @@ fn push_padded(codes: &mut Vec<u32>, p: &Poly, width: usize) -> Result<(), Alloc
     ensures { OnOk result (codes.new.items ≡ codes.old.items ++ (p.now ++ replicate (width - length p.now) 0)) }
 {
     codes.extend_from_slice(p.codes())?;
-    let len = codes.len().checked_add(width - p.codes().len()).ok_or(AllocError)?;
+    let len = codes.len().checked_add(width - p.len()).ok_or(AllocError)?;
     codes.resize(len, 0)
 }
 
@@ -53,7 +53,7 @@ pub(crate) fn parts_of(
 {
     let mut polys = Vec::new(alloc);
     let mut rest = codes;
-    for _ in 0..n {
+    for i in 0..n {
         let (first, others) = rest.split_at(width);
         polys.push(Poly::from_codes(first.to_vec(alloc)?))?;
         rest = others;

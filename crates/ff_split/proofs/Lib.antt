@@ -1,0 +1,6 @@
+pub mod PowerRows
+pub mod FoundRows
+pub mod TurnedRows
+pub mod Elements
+pub mod Orders
+pub mod Forms

@@ -1,6 +1,6 @@
 -- The basis that is made of a lattice over k[x] and one over k[t], and the one form that it has (F. Hess, Computing
 -- Riemann-Roch spaces in algebraic function fields and related topics, 2002, section 4).
-use Rattle.std.specs.Prelude.{◌≡◌, ℕ, ◌<◌, ℤ, ◌<ℤ◌, List, [], ◌∷◌, length, map, All, IsPermutation}
+use Rattle.std.specs.Prelude.{◌≡◌, ◌⊎◌, ℕ, ◌<◌, ℤ, ◌<ℤ◌, List, [], ◌∷◌, length, map, All, IsPermutation}
 use Rattle.ff_fields.specs.Field.{FieldOps, CodeField}
 use Rattle.ff_fields.specs.Over.{IsOver}
 use Rattle.ff_poly.specs.Words.{IsMonicList}

@@ -21,7 +21,10 @@ entries_step k a b old new i x less x_is old_is new_is =
     ∙ ap (λ j. entry_products k (take j a) b) (sym (add-one i))
 
 pub length_entries : (k : FieldOps) (a b : List ℕ) → length (entry_products k a b) ≡ length a * length b
-length_entries k [] b = refl
+length_entries k [] b = none (length b)
+  where
+    none : (n : ℕ) → 0 ≡ 0 * n
+    none n = omega arith
 length_entries k (x ∷ a) b =
     length-append (map (k.mul x) b) (entry_products k a b)
     ∙ ap₂ (λ u w. u + w) (length-map b (k.mul x)) (length_entries k a b) ∙ more (length a) (length b)

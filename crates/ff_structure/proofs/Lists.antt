@@ -2,7 +2,7 @@
 use Rattle.std.proofs.Common.{◌≡◌, ◌≢◌, ℕ, ◌⊎◌, inl, inr, List, [], ◌∷◌, ◌++◌, map, refl, sym, ◌∙◌, subst}
 use Rattle.ring_theory.specs.Members.{In, IsDistinct}
 use Rattle.finite_algebra_theory.proofs.Lists.{in_append_left, in_append_right, in_append, of_map}
-use Rattle.ff_structure.specs.Idempotents.{AreOthers}
+use Rattle.ff_structure.specs.Idempotents.{AreOthers, IsPushedUnless}
 
 -- distinct lists without a member in common, one after the other
 pub distinct_append : {X : Type 0} (xs ys : List X) → IsDistinct xs → IsDistinct ys
@@ -87,3 +87,9 @@ module _ (u v : List ℕ) where
       none e (inl t) p q (inl a) = absurd (p (t ∙ a))
       none e (inl t) p q (inr a) = absurd (q (t ∙ a))
       none e (inr i) p q a = absurd i
+
+  -- one more, which is kept unless it is one of the two
+  pub others_step : (all kept new : List (List ℕ)) (x : List ℕ) → IsPushedUnless u v x kept new → AreOthers u v all kept
+      → AreOthers u v (all ++ x ∷ []) new
+  others_step all kept new x (inl p) h = subst (AreOthers u v (all ++ x ∷ [])) (sym p.0) (others_kept all kept x p.1 p.2 h)
+  others_step all kept new x (inr p) h = subst (AreOthers u v (all ++ x ∷ [])) (sym p.0) (others_left all kept x p.1 h)

@@ -1,5 +1,5 @@
 -- The sums of no, one or more of the primitive idempotents are all idempotents, each once.
-use Rattle.std.proofs.Common.{◌≡◌, ◌≢◌, ℕ, suc, ◌+◌, ◌<◌, inl, inr, List, [], ◌∷◌, ◌++◌, length, get_or, drop, map, replicate, All, refl, sym, ap, ap₂, ◌∙◌, subst, arith, add-one}
+use Rattle.std.proofs.Common.{◌≡◌, ◌≢◌, ℕ, suc, ◌+◌, ◌<◌, ◌≤◌, inl, inr, List, [], ◌∷◌, ◌++◌, length, get_or, drop, map, replicate, All, refl, sym, ap, ap₂, ◌∙◌, subst, arith, add-one}
 use Rattle.std.proofs.Math.Seq.{drop-cons}
 use Rattle.std.proofs.lemmas.List.Elements.{All-nil, All-cons, All-append, All-map, All-weaker}
 use Rattle.ring_lemmas.specs.Ring.{CommRing}
@@ -11,14 +11,18 @@ use Rattle.ff_fields.specs.Field.{FieldOps, CodeField}
 use Rattle.ff_fields.specs.Code.{raw_ring}
 use Rattle.finite_algebra_theory.proofs.Lists.{all_in, all_of_in, in_append_left, in_append_right, in_append, in_map, of_map}
 use Rattle.ff_falg.specs.Algebras.{AlgebraOps, IsAlgebra, IsVector, IsIdempotentVector, IsPrimitiveVector, zero_of}
-use Rattle.ff_falg.specs.Idempotents.{IsPrimitiveList, IsSublist, vector_sum}
+use Rattle.std.specs.Global.{Vec}
+use Rattle.std.specs.Prelude.{Result, Ok, Err, IfOk}
+use Rattle.std.proofs.lemmas.List.{drop_all}
+use Rattle.ff_falg.specs.Idempotents.{elements_of, IsPrimitiveList, IsSublist, vector_sum}
 use Rattle.ff_falg.specs.Splits.{IsOrthogonal}
 use Rattle.ff_falg.proofs.Lists.{lists_assoc}
 use Rattle.ff_falg.proofs.PrimitiveUse.{ascending_distinct}
 use Rattle.ff_falg.proofs.RowSteps.{zero_first}
 use Rattle.ff_falg.proofs.Vectors.{Vector, vector_ring, same_vector, zeros_in, sum_in, add_zeros}
-use Rattle.ff_structure.specs.Idempotents.{AreIdempotents}
+use Rattle.ff_structure.specs.Idempotents.{AreIdempotents, AreOthers, IsProperIdempotentVector}
 use Rattle.ff_structure.proofs.Lists.{distinct_append, distinct_values}
+use Rattle.ff_structure.proofs.SumLists.{vector_at}
 
 module _ {E : Type 0} (R : CommRing E) where
   infixl 65 ◌⊕◌
@@ -39,6 +43,12 @@ module _ {E : Type 0} (R : CommRing E) where
 abbrev pub sums_onto : FieldOps → List (List ℕ) → List (List ℕ) → List (List ℕ)
 sums_onto k sums [] = sums
 sums_onto k sums (e ∷ es) = sums_onto k (sums ++ map (add_lists (raw_ring k) e) sums) es
+
+module _ (k : CodeField) (A : AlgebraOps) where
+  -- what is added so far, with what is left to add
+  pub record IsSummedTo (es rest sums : List (List ℕ)) : Type 0 where
+    pub vectors : All (IsVector k.ops A.size) sums
+    pub is : sums_onto k.ops sums rest ≡ sums_onto k.ops (zero_of A ∷ []) es
 
 module _ (k : CodeField) (A : AlgebraOps) (law : IsAlgebra k A) where
   abbrev R : CommRing (Vector k A.size)
@@ -193,22 +203,17 @@ module _ (k : CodeField) (A : AlgebraOps) (law : IsAlgebra k A) where
         once = clean.once;
       }
 
-  -- what is added so far, with what is left to add
-  pub record IsSummedTo (es rest sums : List (List ℕ)) : Type 0 where
-    pub vectors : All (IsVector k.ops A.size) sums
-    pub is : sums_onto k.ops sums rest ≡ sums_onto k.ops (zero_of A ∷ []) es
-
-  pub summed_start : (es : List (List ℕ)) → IsSummedTo es es (zero_of A ∷ [])
+  pub summed_start : (es : List (List ℕ)) → IsSummedTo k A es es (zero_of A ∷ [])
   summed_start es = record {
     vectors = All-cons (IsVector k.ops A.size) (zero_of A) [] (zeros_in k A.size) (All-nil (IsVector k.ops A.size));
     is = refl;
   }
 
   pub summed_step : (es sums new : List (List ℕ)) (i : ℕ) (e : List ℕ) → i < length es → e ≡ get_or es i []
-      → IsVector k.ops A.size e → new ≡ sums ++ map (plus e) sums → IsSummedTo es (drop i es) sums
-      → IsSummedTo es (drop (i + 1) es) new
+      → IsVector k.ops A.size e → new ≡ sums ++ map (plus e) sums → IsSummedTo k A es (drop i es) sums
+      → IsSummedTo k A es (drop (i + 1) es) new
   summed_step es sums new i e less e_is e_in new_is h =
-      subst (IsSummedTo es (drop (i + 1) es)) (sym new_is) (record {
+      subst (IsSummedTo k A es (drop (i + 1) es)) (sym new_is) (record {
         vectors = All-append (IsVector k.ops A.size) sums (map (plus e) sums) h.vectors
             (All-map (IsVector k.ops A.size) (plus e) sums
             (All-weaker (IsVector k.ops A.size) (λ s. IsVector k.ops A.size (plus e s))
@@ -217,3 +222,38 @@ module _ (k : CodeField) (A : AlgebraOps) (law : IsAlgebra k A) where
             ap₂ (λ j x. sums_onto k.ops (sums ++ map (plus x) sums) (drop j es)) (add-one i) e_is
             ∙ sym (ap (sums_onto k.ops sums) (drop-cons es i [] less)) ∙ h.is;
       })
+
+  -- once all are added, the sums are all idempotents
+  pub summed_end : (es : List (List ℕ)) (i : ℕ) (sums : List (List ℕ)) → length es ≤ i → IsPrimitiveList k.ops A es
+      → IsSummedTo k A es (drop i es) sums → AreIdempotents k.ops A sums
+  summed_end es i sums le p h =
+      subst (AreIdempotents k.ops A)
+      (sym (ap (sums_onto k.ops sums) (sym (drop_all i es le)) ∙ h.is)) (all_sums es p)
+
+-- a primitive idempotent that is read is a vector
+pub primitive_in : (k : CodeField) (A : AlgebraOps) (vs : List (Vec ℕ)) → IsPrimitiveList k.ops A (elements_of vs)
+    → (i : ℕ) (v : Vec ℕ) → i < length vs → v ≡ get_or vs i v → IsVector k.ops A.size v.items
+primitive_in k A vs p i v less v_is =
+    vector_at k A.size vs i v less v_is
+    (all_of_in (IsVector k.ops A.size) (elements_of vs) (λ e j. ((p.members e).0 j).idempotent.vector))
+
+-- of all idempotents those other than 0 and 1
+pub each_proper : (k : CodeField) (A : AlgebraOps) (u v : List ℕ) (sums kept : List (List ℕ)) → u ≡ zero_of A
+    → v ≡ A.unit → AreIdempotents k.ops A sums → AreOthers u v sums kept → (e : List ℕ) → In e kept
+    → IsProperIdempotentVector k.ops A e
+each_proper k A u v sums kept u_is v_is ids h e i = record {
+  idempotent = (ids.members e).0 (h.each e i);
+  not_zero = λ z. h.not_first e i (z ∙ sym u_is);
+  not_one = λ z. h.not_second e i (z ∙ sym v_is);
+}
+
+pub all_proper : (k : CodeField) (A : AlgebraOps) (u v : List ℕ) (sums kept : List (List ℕ)) → u ≡ zero_of A
+    → v ≡ A.unit → AreIdempotents k.ops A sums → AreOthers u v sums kept → (e : List ℕ)
+    → IsProperIdempotentVector k.ops A e → In e kept
+all_proper k A u v sums kept u_is v_is ids h e p =
+    h.rest e ((ids.members e).1 p.idempotent) (λ z. p.not_zero (z ∙ u_is)) (λ z. p.not_one (z ∙ v_is))
+
+-- what follows from the promise on an answer
+pub ok_through : {X E : Type 0} (r : Result X E) {P Q : X → Type 0} → ((x : X) → P x → Q x) → IfOk r P → IfOk r Q
+ok_through (Ok x) f h = f x h
+ok_through (Err e) f h = h

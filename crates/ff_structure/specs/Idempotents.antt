@@ -1,5 +1,5 @@
 -- The idempotents of an algebra other than 0 and 1.
-use Rattle.std.specs.Prelude.{◌≢◌, ◌↔◌, ℕ, List}
+use Rattle.std.specs.Prelude.{◌≡◌, ◌≢◌, ◌⊎◌, ◌↔◌, ℕ, List, [], ◌∷◌, ◌++◌}
 use Rattle.ring_theory.specs.Members.{In, IsDistinct}
 use Rattle.ff_fields.specs.Field.{FieldOps}
 use Rattle.ff_falg.specs.Algebras.{AlgebraOps, IsIdempotentVector, zero_of}
@@ -22,3 +22,8 @@ pub record AreOthers (u v : List ℕ) (all kept : List (List ℕ)) : Type 0 wher
   pub not_second : (e : List ℕ) → In e kept → e ≢ v
   pub rest : (e : List ℕ) → In e all → e ≢ u → e ≢ v → In e kept
   pub once : IsDistinct all → IsDistinct kept
+
+-- e is appended, unless it is one of the two
+abbrev pub IsPushedUnless : List ℕ → List ℕ → List ℕ → List (List ℕ) → List (List ℕ) → Type 0
+IsPushedUnless u v e old new =
+    ((new ≡ old ++ e ∷ []) × (e ≢ u) × (e ≢ v)) ⊎ ((new ≡ old) × ((e ≡ u) ⊎ (e ≡ v)))

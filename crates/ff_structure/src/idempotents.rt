@@ -8,7 +8,7 @@ ghost use Rattle.ring_theory.specs.Members.{In, IsDistinct};
 ghost use Rattle.ff_falg.specs.Algebras.{IsVector};
 ghost use Rattle.ff_falg.specs.Idempotents.{elements_of, IsPrimitiveList};
 ghost use Rattle.ff_structure.specs.Structures.{IsStructure, structure_algebra};
-ghost use Rattle.ff_structure.specs.Idempotents.{IsProperIdempotentVector, AreIdempotents, AreOthers};
+ghost use Rattle.ff_structure.specs.Idempotents.{IsProperIdempotentVector, AreIdempotents, AreOthers, IsPushedUnless};
 
 use crate::structure::Structure;
 use ff_falg::idempotents;
@@ -66,20 +66,36 @@ fn sums_of<K: SmallField>(
     Ok(sums)
 }
 
+/// Appends e, unless it is u or v.
+fn push_other(
+    alloc: Global,
+    kept: &mut Vec<Vec<u32>>,
+    e: &[u32],
+    u: &[u32],
+    v: &[u32],
+) -> Result<(), AllocError>
+    ensures { OnOk result (IsPushedUnless u.now v.now e.now (elements_of kept.old.items)
+        (elements_of kept.new.items)) }
+{
+    if e == u || e == v {
+        return Ok(());
+    }
+    kept.push(e.to_vec(alloc)?)?;
+    Ok(())
+}
+
 /// The vectors other than u and v.
 fn others(
     alloc: Global,
-    vectors: Vec<Vec<u32>>,
+    vectors: &[Vec<u32>],
     u: &[u32],
     v: &[u32],
 ) -> Result<Vec<Vec<u32>>, AllocError>
-    ensures { IfOk result (λ kept. AreOthers u.now v.now (elements_of vectors.items) (elements_of kept.items)) }
+    ensures { IfOk result (λ kept. AreOthers u.now v.now (elements_of vectors.now) (elements_of kept.items)) }
 {
     let mut kept = Vec::new(alloc);
     for e in vectors {
-        if e.as_slice() != u && e.as_slice() != v {
-            kept.push(e)?;
-        }
+        push_other(alloc, &mut kept, e.as_slice(), u, v)?;
     }
     Ok(kept)
 }
@@ -101,5 +117,5 @@ pub fn all_idempotents<K: SmallField>(
     let primitive = idempotents(alloc, k, a)?;
     let sums = sums_of(alloc, k, a, primitive.as_slice())?;
     let zero = a.zero(alloc)?;
-    others(alloc, sums, zero.as_slice(), a.unit())
+    others(alloc, sums.as_slice(), zero.as_slice(), a.unit())
 }

@@ -53,8 +53,15 @@ impl Structure {
     pub fn zero(&self, alloc: Global) -> Result<Vec<u32>, AllocError>
         ensures { IfOk result (λ v. v.items ≡ replicate (dimension self.now) 0) }
     {
-        vec![in alloc; 0; self.one.len()]
+        zeros(alloc, self.one.len())
     }
+}
+
+/// n zeros.
+fn zeros(alloc: Global, n: usize) -> Result<Vec<u32>, AllocError>
+    ensures { IfOk result (λ v. v.items ≡ replicate n 0) }
+{
+    vec![in alloc; 0; n]
 }
 
 /// Appends the products of c by the codes.
@@ -121,7 +128,7 @@ fn combined<K: SmallField>(
     ensures { let k = (K.field k.now).ops in
         IfOk result (λ v. v.items ≡ combination (row_ops k n) factors.now (elements_of vectors.now)) }
 {
-    let mut sum = vec![in alloc; 0; n]?;
+    let mut sum = zeros(alloc, n)?;
     add_combination(k, sum.as_mut_slice(), factors, vectors);
     Ok(sum)
 }

@@ -28,11 +28,11 @@ use Rattle.idempotents_theory.specs.Coordinates.{code_function, function_at, IsS
 use Rattle.idempotents_theory.proofs.CodeFunctions.{code_function_in}
 use Rattle.idempotents_theory.proofs.Coordinates.{at_zero, at_sum, at_multiple, at_combination, times_all, coordinates, coordinates_once}
 
-length_products : {E : Type 0} (R : CommRing E) (as bs : List E) → length (products R.ops as bs) ≡ length as * length bs
+length_products : {E : Type 0} (R : CommRing E) (gs bs : List E) → length (products R.ops gs bs) ≡ length gs * length bs
 length_products R [] bs = refl
-length_products R (a ∷ as) bs =
-    length-append (map (R.◌⊗◌ a) bs) (products R.ops as bs)
-    ∙ ap₂ (λ u w. u + w) (length-map bs (R.◌⊗◌ a)) (length_products R as bs) ∙ more (length as) (length bs)
+length_products R (a ∷ gs) bs =
+    length-append (map (R.◌⊗◌ a) bs) (products R.ops gs bs)
+    ∙ ap₂ (λ u w. u + w) (length-map bs (R.◌⊗◌ a)) (length_products R gs bs) ∙ more (length gs) (length bs)
   where
     more : (m n : ℕ) → n + m * n ≡ suc m * n
     more m n = grind arith
@@ -186,7 +186,7 @@ module _ {k : CodeField} (c : Equation k) (some : ¬ (discriminant c ≡ (polyno
         let r = coordinates c bs e (basis.spanning e (idempotent_constant c some e p.square)) in (
           r.0,
           subst (ProperAt r.0) (sym h.one_in.size)
-          (idempotent_vector r.0 r.1 (subst (IsProperIdempotentOf c) r.2 p)),
+              (idempotent_vector r.0 r.1 (subst (IsProperIdempotentOf c) r.2 p)),
           r.2,
         );
   }

@@ -130,24 +130,24 @@ module _ {k : CodeField} (c : Equation k) where
       (times_one bs x b w x_in (IsOver_tail w_in))
       ∙ product_step F (f x) (f y) b d (combination F.ops (map f w) bs)
 
-  pub times_all : (as bs : List (FunctionOf c)) (v w : List ℕ) → IsOver k.ops v → IsVector k.ops (length bs) w
-      → combination F.ops (map f (entry_products k.ops v w)) (products F.ops as bs)
-      ≡ combination F.ops (map f v) as ⊗ combination F.ops (map f w) bs
-  times_all as bs [] w v_in w_in = sym (zero_mul F _)
+  pub times_all : (gs bs : List (FunctionOf c)) (v w : List ℕ) → IsOver k.ops v → IsVector k.ops (length bs) w
+      → combination F.ops (map f (entry_products k.ops v w)) (products F.ops gs bs)
+      ≡ combination F.ops (map f v) gs ⊗ combination F.ops (map f w) bs
+  times_all gs bs [] w v_in w_in = sym (zero_mul F _)
   times_all [] bs (x ∷ v) w v_in w_in = none (map f (entry_products k.ops (x ∷ v) w)) ∙ sym (zero_mul F _)
     where
       none : (xs : List (FunctionOf c)) → combination F.ops xs [] ≡ 𝟘
       none [] = refl
       none (x ∷ xs) = refl
-  times_all (b ∷ as) bs (x ∷ v) w v_in w_in =
-      ap (λ xs. combination F.ops xs (map (◌⊗◌ b) bs ++ products F.ops as bs))
+  times_all (b ∷ gs) bs (x ∷ v) w v_in w_in =
+      ap (λ xs. combination F.ops xs (map (◌⊗◌ b) bs ++ products F.ops gs bs))
       (map-append f (map (k.mul x) w) (entry_products k.ops v w))
       ∙ combination_append F (map f (map (k.mul x) w)) (map f (entry_products k.ops v w)) (map (◌⊗◌ b) bs)
-      (products F.ops as bs)
+      (products F.ops gs bs)
       (length-map (map (k.mul x) w) f ∙ length-map w (k.mul x) ∙ w_in.size ∙ sym (length-map bs (◌⊗◌ b)))
       ∙ ap₂ ◌⊕◌ (times_one bs x b w (IsOver_head v_in) w_in.over)
-      (times_all as bs v w (IsOver_tail v_in) w_in)
-      ∙ expand_step F (f x) b (combination F.ops (map f v) as) (combination F.ops (map f w) bs)
+      (times_all gs bs v w (IsOver_tail v_in) w_in)
+      ∙ expand_step F (f x) b (combination F.ops (map f v) gs) (combination F.ops (map f w) bs)
 
   -- a member of the span has coordinates
   pub coordinates : (bs : List (FunctionOf c)) (z : FunctionOf c) → Span F.ops (IsCode c) bs z
