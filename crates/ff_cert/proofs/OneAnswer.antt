@@ -120,97 +120,27 @@ one_factors k g u v ls ms h j =
     (subst (λ s. IsFactorisation k.ops s (record { unit = u; parts = pairs ls })) same h.factors) j.factors in
     (ap (λ f. f.unit) one, same_powers ls ms (ap (λ f. f.parts) one))
 
--- ---- the answer is of the statement's kind
+-- ---- what is said of a true answer
 
 module _ (old next : Bindings) where
-  field_is : (p : ℕ) (tail : Option Modulus) (a : Answer) → Answers old (FieldOf p tail) a next
-      → (q : ℕ) × (a ≡ answers.FieldOf q) × field_row.IsTrue p tail q next
-  field_is p tail (answers.FieldOf q) h = (q, refl, h.1)
-  field_is p tail (answers.CurveOf n c) h = absurd h
-  field_is p tail (answers.Mul z) h = absurd h
-  field_is p tail (answers.Factor u ls) h = absurd h
-  field_is p tail (answers.OrderOf zs) h = absurd h
-  field_is p tail (answers.Places n Ps) h = absurd h
-  field_is p tail (answers.Place P) h = absurd h
-
   abbrev Curve : List Term → ℕ → ℕ → FieldData → Type 0
   Curve f n c d = (old.bound ≡ None) × curve_row.IsTrue d f n c next
-
-  curve_is : (f : List Term) (a : Answer) → Answers old (CurveOf f) a next
-      → (n : ℕ) × (c : ℕ) × (a ≡ answers.CurveOf n c) × ForField old (Curve f n c)
-  curve_is f (answers.FieldOf q) h = absurd h
-  curve_is f (answers.CurveOf n c) h = (n, c, refl, h)
-  curve_is f (answers.Mul z) h = absurd h
-  curve_is f (answers.Factor u ls) h = absurd h
-  curve_is f (answers.OrderOf zs) h = absurd h
-  curve_is f (answers.Places n Ps) h = absurd h
-  curve_is f (answers.Place P) h = absurd h
 
   abbrev Product : ElemText → ElemText → WrittenValue → FieldData → CurveValue → Type 0
   Product x y z d c = (is : IsFieldData d) × mul_row.IsTrue (with_laws d is) c.fin x y z × (next ≡ old)
 
-  mul_is : (x y : ElemText) (a : Answer) → Answers old (Mul x y) a next
-      → (z : WrittenValue) × (a ≡ answers.Mul z) × ForCurve old (Product x y z)
-  mul_is x y (answers.FieldOf q) h = absurd h
-  mul_is x y (answers.CurveOf n c) h = absurd h
-  mul_is x y (answers.Mul z) h = (z, refl, h)
-  mul_is x y (answers.Factor u ls) h = absurd h
-  mul_is x y (answers.OrderOf zs) h = absurd h
-  mul_is x y (answers.Places n Ps) h = absurd h
-  mul_is x y (answers.Place P) h = absurd h
-
   abbrev Factors : List Term → ℕ → List PowerLine → FieldData → CurveValue → Type 0
   Factors g u ls d c = factor_row.IsTrue (ops_of d) g u ls × (next ≡ old)
-
-  factor_is : (g : List Term) (a : Answer) → Answers old (Factor g) a next
-      → (u : ℕ) × (ls : List PowerLine) × (a ≡ answers.Factor u ls) × ForCurve old (Factors g u ls)
-  factor_is g (answers.FieldOf q) h = absurd h
-  factor_is g (answers.CurveOf n c) h = absurd h
-  factor_is g (answers.Mul z) h = absurd h
-  factor_is g (answers.Factor u ls) h = (u, ls, refl, h)
-  factor_is g (answers.OrderOf zs) h = absurd h
-  factor_is g (answers.Places n Ps) h = absurd h
-  factor_is g (answers.Place P) h = absurd h
 
   abbrev Order : Side → List WrittenValue → FieldData → CurveValue → Type 0
   Order s zs d c = (is : IsFieldData d) × order_row.IsTrue (with_laws d is) c s zs × (next ≡ old)
 
-  order_is : (s : Side) (a : Answer) → Answers old (OrderOf s) a next
-      → (zs : List WrittenValue) × (a ≡ answers.OrderOf zs) × ForCurve old (Order s zs)
-  order_is s (answers.FieldOf q) h = absurd h
-  order_is s (answers.CurveOf n c) h = absurd h
-  order_is s (answers.Mul z) h = absurd h
-  order_is s (answers.Factor u ls) h = absurd h
-  order_is s (answers.OrderOf zs) h = (zs, refl, h)
-  order_is s (answers.Places n Ps) h = absurd h
-  order_is s (answers.Place P) h = absurd h
-
   abbrev AllPlaces : Over → ℕ → List PlaceLines → FieldData → CurveValue → Type 0
   AllPlaces over n Ps d c = (is : IsFieldData d) × places_row.IsTrue (with_laws d is) c over n Ps × (next ≡ old)
-
-  places_is : (over : Over) (a : Answer) → Answers old (Places over) a next
-      → (n : ℕ) × (Ps : List PlaceLines) × (a ≡ answers.Places n Ps) × ForCurve old (AllPlaces over n Ps)
-  places_is over (answers.FieldOf q) h = absurd h
-  places_is over (answers.CurveOf n c) h = absurd h
-  places_is over (answers.Mul z) h = absurd h
-  places_is over (answers.Factor u ls) h = absurd h
-  places_is over (answers.OrderOf zs) h = absurd h
-  places_is over (answers.Places n Ps) h = (n, Ps, refl, h)
-  places_is over (answers.Place P) h = absurd h
 
   abbrev Named : List ℕ → Over → ℕ → PlaceLines → FieldData → Bound → Type 0
   Named name over index P d b =
       (is : IsFieldData d) × named_place_row.IsTrue (with_laws d is) d b name over index P next
-
-  place_is : (name : List ℕ) (over : Over) (index : ℕ) (a : Answer) → Answers old (Place name over index) a next
-      → (P : PlaceLines) × (a ≡ answers.Place P) × ForBound old (Named name over index P)
-  place_is name over index (answers.FieldOf q) h = absurd h
-  place_is name over index (answers.CurveOf n c) h = absurd h
-  place_is name over index (answers.Mul z) h = absurd h
-  place_is name over index (answers.Factor u ls) h = absurd h
-  place_is name over index (answers.OrderOf zs) h = absurd h
-  place_is name over index (answers.Places n Ps) h = absurd h
-  place_is name over index (answers.Place P) h = (P, refl, h)
 
 -- ---- over the same bindings
 
@@ -305,49 +235,49 @@ module _ (old other next after : Bindings) (same : AreSameBindings old other) wh
   pub one_answer : (s : Statement) (a b : Answer) → Answers old s a next → Answers other s b after
       → IsOne a b next after
   one_answer (FieldOf p tail) a b h g =
-      let l = field_is old next p tail a h in
-      let r = field_is other after p tail b g in
-      let one = one_field p tail l.0 r.0 next after l.2 r.2 in
+      let l = h in
+      let r = g in
+      let one = one_field p tail l.0 r.0 next after l.3 r.3 in
       record { answer = l.1 ∙ one.answer ∙ sym r.1; bindings = one.bindings }
   one_answer (CurveOf f) a b h g =
-      let l = curve_is old next f a h in
-      let r = curve_is other after f b g in
+      let l = h in
+      let r = g in
       for_field old other (Curve old next f l.0 l.1) (Curve other after f r.0 r.1) (IsOne a b next after)
       (λ d e fields x y.
       let one = one_curve_answer d e f l.0 r.0 l.1 r.1 next after fields x.1 y.1 in
       record { answer = l.2 ∙ one.answer ∙ sym r.2; bindings = one.bindings })
       same l.3 r.3
   one_answer (Mul x y) a b h g =
-      let l = mul_is old next x y a h in
-      let r = mul_is other after x y b g in
+      let l = h in
+      let r = g in
       for_curve old other (Product old next x y l.0) (Product other after x y r.0) (IsOne a b next after)
       (λ d e c curves u v. stays a b (answers.Mul l.0) (answers.Mul r.0) l.1 r.1
       (ap answers.Mul (products_same d e c curves x y l.0 r.0 u.0 v.0 u.1 v.1)) u.2 v.2) same l.2 r.2
   one_answer (Factor p) a b h g =
-      let l = factor_is old next p a h in
-      let r = factor_is other after p b g in
+      let l = h in
+      let r = g in
       for_curve old other (Factors old next p l.0 l.1) (Factors other after p r.0 r.1) (IsOne a b next after)
       (λ d e c curves u v.
       let both = factors_same d e c curves p l.0 r.0 l.1 r.1 u.0 v.0 in
       stays a b (answers.Factor l.0 l.1) (answers.Factor r.0 r.1) l.2 r.2 (ap₂ answers.Factor both.0 both.1) u.1 v.1)
       same l.3 r.3
   one_answer (OrderOf s) a b h g =
-      let l = order_is old next s a h in
-      let r = order_is other after s b g in
+      let l = h in
+      let r = g in
       for_curve old other (Order old next s l.0) (Order other after s r.0) (IsOne a b next after)
       (λ d e c curves u v. stays a b (answers.OrderOf l.0) (answers.OrderOf r.0) l.1 r.1
       (ap answers.OrderOf (orders_same d e c curves s l.0 r.0 u.0 v.0 u.1 v.1)) u.2 v.2) same l.2 r.2
   one_answer (Places over) a b h g =
-      let l = places_is old next over a h in
-      let r = places_is other after over b g in
+      let l = h in
+      let r = g in
       for_curve old other (AllPlaces old next over l.0 l.1) (AllPlaces other after over r.0 r.1) (IsOne a b next after)
       (λ d e c curves u v.
       let both = listings_same d e c curves over l.0 r.0 l.1 r.1 u.0 v.0 u.1 v.1 in
       stays a b (answers.Places l.0 l.1) (answers.Places r.0 r.1) l.2 r.2 (ap₂ answers.Places both.0 both.1) u.2 v.2)
       same l.3 r.3
   one_answer (Place name over index) a b h g =
-      let l = place_is old next name over index a h in
-      let r = place_is other after name over index b g in
+      let l = h in
+      let r = g in
       for_bound old other (Named old next name over index l.0) (Named other after name over index r.0)
       (IsOne a b next after)
       (λ d e c names curves u v.

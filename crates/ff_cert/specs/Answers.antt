@@ -6,6 +6,9 @@ use Rattle.ff_script.specs.declared.script.Statement.TheVariants.{FieldOf, Curve
 use Rattle.ff_meaning.specs.Bindings.{Bindings, ForField, ForCurve, ForBound}
 use Rattle.ff_cert.specs.declared.answer.Answer.{Answer}
 use Rattle.ff_cert.specs.declared.answer.Answer.TheVariants as answers
+use Rattle.ff_cert.specs.declared.answer.PlaceLines.{PlaceLines}
+use Rattle.ff_cert.specs.declared.answer.PowerLine.{PowerLine}
+use Rattle.ff_text.specs.Printed.{WrittenValue}
 use Rattle.ff_cert.specs.RowField as field_row
 use Rattle.ff_cert.specs.RowCurve as curve_row
 use Rattle.ff_cert.specs.RowMul as mul_row
@@ -17,20 +20,20 @@ use Rattle.ff_cert.specs.RowNamedPlace as named_place_row
 
 -- with these bindings the answer to the statement is true, and the next bindings have taken it in
 abbrev pub Answers : Bindings → Statement → Answer → Bindings → Type 0
-Answers old (FieldOf p tail) (answers.FieldOf q) next = (old.field ≡ None) × field_row.IsTrue p tail q next
-Answers old (CurveOf f) (answers.CurveOf n c) next = ForField old
-    (λ d. (old.bound ≡ None) × curve_row.IsTrue d f n c next)
-Answers old (Mul a b) (answers.Mul z) next =
-    ForCurve old (λ d c. (is : IsFieldData d) × mul_row.IsTrue (with_laws d is) c.fin a b z × (next ≡ old))
-Answers old (Factor g) (answers.Factor unit parts) next = ForCurve old
-    (λ d c. factor_row.IsTrue (ops_of d) g unit parts × (next ≡ old))
-Answers old (OrderOf s) (answers.OrderOf zs) next =
-    ForCurve old (λ d c. (is : IsFieldData d) × order_row.IsTrue (with_laws d is) c s zs × (next ≡ old))
-Answers old (Places over) (answers.Places count Ps) next =
-    ForCurve old (λ d c. (is : IsFieldData d) × places_row.IsTrue (with_laws d is) c over count Ps × (next ≡ old))
-Answers old (Place name over index) (answers.Place P) next =
-    ForBound old (λ d b. (is : IsFieldData d) × named_place_row.IsTrue (with_laws d is) d b name over index P next)
-Answers _ _ _ _ = ⊥
+Answers old (FieldOf p tail) a next =
+    (q : ℕ) × (a ≡ answers.FieldOf q) × (old.field ≡ None) × field_row.IsTrue p tail q next
+Answers old (CurveOf f) a next = (n : ℕ) × (c : ℕ) × (a ≡ answers.CurveOf n c)
+    × ForField old (λ d. (old.bound ≡ None) × curve_row.IsTrue d f n c next)
+Answers old (Mul x y) a next = (z : WrittenValue) × (a ≡ answers.Mul z)
+    × ForCurve old (λ d c. (is : IsFieldData d) × mul_row.IsTrue (with_laws d is) c.fin x y z × (next ≡ old))
+Answers old (Factor g) a next = (unit : ℕ) × (parts : List PowerLine) × (a ≡ answers.Factor unit parts)
+    × ForCurve old (λ d c. factor_row.IsTrue (ops_of d) g unit parts × (next ≡ old))
+Answers old (OrderOf s) a next = (zs : List WrittenValue) × (a ≡ answers.OrderOf zs)
+    × ForCurve old (λ d c. (is : IsFieldData d) × order_row.IsTrue (with_laws d is) c s zs × (next ≡ old))
+Answers old (Places over) a next = (count : ℕ) × (Ps : List PlaceLines) × (a ≡ answers.Places count Ps)
+    × ForCurve old (λ d c. (is : IsFieldData d) × places_row.IsTrue (with_laws d is) c over count Ps × (next ≡ old))
+Answers old (Place name over index) a next = (P : PlaceLines) × (a ≡ answers.Place P)
+    × ForBound old (λ d b. (is : IsFieldData d) × named_place_row.IsTrue (with_laws d is) d b name over index P next)
 
 -- its answer lines
 abbrev pub answer_lines : Answer → List ℕ

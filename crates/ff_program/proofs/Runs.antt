@@ -84,161 +84,35 @@ in_place k old s (AfterCurve h d c Ps is) m = subst (λ o. IsInPlace o s) (sym i
 -- a statement that is answered leads to the next bindings
 after_nothing : (k : ℕ) (s : Statement) (a : Answer) (new : Bindings) → k ≡ 0 → Answers nothing s a new
     → IsAfter (k + 1) new
-after_nothing k (FieldOf p tail) (answers.FieldOf q) new h a = AfterField (omega (arith, h)) a.1.field a.1.bound
-after_nothing k (FieldOf p tail) (answers.CurveOf n m) new h a = elim a [ ]
-after_nothing k (FieldOf p tail) (answers.Mul z) new h a = elim a [ ]
-after_nothing k (FieldOf p tail) (answers.Factor unit parts) new h a = elim a [ ]
-after_nothing k (FieldOf p tail) (answers.OrderOf zs) new h a = elim a [ ]
-after_nothing k (FieldOf p tail) (answers.Places count Ls) new h a = elim a [ ]
-after_nothing k (FieldOf p tail) (answers.Place L) new h a = elim a [ ]
-after_nothing k (CurveOf f) (answers.FieldOf q) new h a = elim a [ ]
-after_nothing k (CurveOf f) (answers.CurveOf n m) new h a = elim a [ ]
-after_nothing k (CurveOf f) (answers.Mul z) new h a = elim a [ ]
-after_nothing k (CurveOf f) (answers.Factor unit parts) new h a = elim a [ ]
-after_nothing k (CurveOf f) (answers.OrderOf zs) new h a = elim a [ ]
-after_nothing k (CurveOf f) (answers.Places count Ls) new h a = elim a [ ]
-after_nothing k (CurveOf f) (answers.Place L) new h a = elim a [ ]
-after_nothing k (Mul x y) (answers.FieldOf q) new h a = elim a [ ]
-after_nothing k (Mul x y) (answers.CurveOf n m) new h a = elim a [ ]
-after_nothing k (Mul x y) (answers.Mul z) new h a = elim a [ ]
-after_nothing k (Mul x y) (answers.Factor unit parts) new h a = elim a [ ]
-after_nothing k (Mul x y) (answers.OrderOf zs) new h a = elim a [ ]
-after_nothing k (Mul x y) (answers.Places count Ls) new h a = elim a [ ]
-after_nothing k (Mul x y) (answers.Place L) new h a = elim a [ ]
-after_nothing k (Factor g) (answers.FieldOf q) new h a = elim a [ ]
-after_nothing k (Factor g) (answers.CurveOf n m) new h a = elim a [ ]
-after_nothing k (Factor g) (answers.Mul z) new h a = elim a [ ]
-after_nothing k (Factor g) (answers.Factor unit parts) new h a = elim a [ ]
-after_nothing k (Factor g) (answers.OrderOf zs) new h a = elim a [ ]
-after_nothing k (Factor g) (answers.Places count Ls) new h a = elim a [ ]
-after_nothing k (Factor g) (answers.Place L) new h a = elim a [ ]
-after_nothing k (OrderOf side) (answers.FieldOf q) new h a = elim a [ ]
-after_nothing k (OrderOf side) (answers.CurveOf n m) new h a = elim a [ ]
-after_nothing k (OrderOf side) (answers.Mul z) new h a = elim a [ ]
-after_nothing k (OrderOf side) (answers.Factor unit parts) new h a = elim a [ ]
-after_nothing k (OrderOf side) (answers.OrderOf zs) new h a = elim a [ ]
-after_nothing k (OrderOf side) (answers.Places count Ls) new h a = elim a [ ]
-after_nothing k (OrderOf side) (answers.Place L) new h a = elim a [ ]
-after_nothing k (Places over) (answers.FieldOf q) new h a = elim a [ ]
-after_nothing k (Places over) (answers.CurveOf n m) new h a = elim a [ ]
-after_nothing k (Places over) (answers.Mul z) new h a = elim a [ ]
-after_nothing k (Places over) (answers.Factor unit parts) new h a = elim a [ ]
-after_nothing k (Places over) (answers.OrderOf zs) new h a = elim a [ ]
-after_nothing k (Places over) (answers.Places count Ls) new h a = elim a [ ]
-after_nothing k (Places over) (answers.Place L) new h a = elim a [ ]
-after_nothing k (Place name over index) (answers.FieldOf q) new h a = elim a [ ]
-after_nothing k (Place name over index) (answers.CurveOf n m) new h a = elim a [ ]
-after_nothing k (Place name over index) (answers.Mul z) new h a = elim a [ ]
-after_nothing k (Place name over index) (answers.Factor unit parts) new h a = elim a [ ]
-after_nothing k (Place name over index) (answers.OrderOf zs) new h a = elim a [ ]
-after_nothing k (Place name over index) (answers.Places count Ls) new h a = elim a [ ]
-after_nothing k (Place name over index) (answers.Place L) new h a = elim a [ ]
+after_nothing k (FieldOf p tail) a new h t = AfterField (omega (arith, h)) t.3.field t.3.bound
+after_nothing k (CurveOf f) a new h t = absurd t.3
+after_nothing k (Mul x y) a new h t = absurd t.2
+after_nothing k (Factor g) a new h t = absurd t.3
+after_nothing k (OrderOf side) a new h t = absurd t.2
+after_nothing k (Places over) a new h t = absurd t.3
+after_nothing k (Place name over index) a new h t = absurd t.2
 
 after_field : (k : ℕ) (d : FieldData) (s : Statement) (a : Answer) (new : Bindings) → k ≡ 1
     → Answers (with_field d) s a new → IsAfter (k + 1) new
-after_field k d (FieldOf p tail) (answers.FieldOf q) new h a = absurd (let none = a.0 in cc)
-after_field k d (FieldOf p tail) (answers.CurveOf n m) new h a = elim a [ ]
-after_field k d (FieldOf p tail) (answers.Mul z) new h a = elim a [ ]
-after_field k d (FieldOf p tail) (answers.Factor unit parts) new h a = elim a [ ]
-after_field k d (FieldOf p tail) (answers.OrderOf zs) new h a = elim a [ ]
-after_field k d (FieldOf p tail) (answers.Places count Ls) new h a = elim a [ ]
-after_field k d (FieldOf p tail) (answers.Place L) new h a = elim a [ ]
-after_field k d (CurveOf f) (answers.FieldOf q) new h a = elim a [ ]
-after_field k d (CurveOf f) (answers.CurveOf n m) new h a = AfterCurve (omega (arith, h)) d a.1.curve [] a.1.bound
-after_field k d (CurveOf f) (answers.Mul z) new h a = elim a [ ]
-after_field k d (CurveOf f) (answers.Factor unit parts) new h a = elim a [ ]
-after_field k d (CurveOf f) (answers.OrderOf zs) new h a = elim a [ ]
-after_field k d (CurveOf f) (answers.Places count Ls) new h a = elim a [ ]
-after_field k d (CurveOf f) (answers.Place L) new h a = elim a [ ]
-after_field k d (Mul x y) (answers.FieldOf q) new h a = elim a [ ]
-after_field k d (Mul x y) (answers.CurveOf n m) new h a = elim a [ ]
-after_field k d (Mul x y) (answers.Mul z) new h a = elim a [ ]
-after_field k d (Mul x y) (answers.Factor unit parts) new h a = elim a [ ]
-after_field k d (Mul x y) (answers.OrderOf zs) new h a = elim a [ ]
-after_field k d (Mul x y) (answers.Places count Ls) new h a = elim a [ ]
-after_field k d (Mul x y) (answers.Place L) new h a = elim a [ ]
-after_field k d (Factor g) (answers.FieldOf q) new h a = elim a [ ]
-after_field k d (Factor g) (answers.CurveOf n m) new h a = elim a [ ]
-after_field k d (Factor g) (answers.Mul z) new h a = elim a [ ]
-after_field k d (Factor g) (answers.Factor unit parts) new h a = elim a [ ]
-after_field k d (Factor g) (answers.OrderOf zs) new h a = elim a [ ]
-after_field k d (Factor g) (answers.Places count Ls) new h a = elim a [ ]
-after_field k d (Factor g) (answers.Place L) new h a = elim a [ ]
-after_field k d (OrderOf side) (answers.FieldOf q) new h a = elim a [ ]
-after_field k d (OrderOf side) (answers.CurveOf n m) new h a = elim a [ ]
-after_field k d (OrderOf side) (answers.Mul z) new h a = elim a [ ]
-after_field k d (OrderOf side) (answers.Factor unit parts) new h a = elim a [ ]
-after_field k d (OrderOf side) (answers.OrderOf zs) new h a = elim a [ ]
-after_field k d (OrderOf side) (answers.Places count Ls) new h a = elim a [ ]
-after_field k d (OrderOf side) (answers.Place L) new h a = elim a [ ]
-after_field k d (Places over) (answers.FieldOf q) new h a = elim a [ ]
-after_field k d (Places over) (answers.CurveOf n m) new h a = elim a [ ]
-after_field k d (Places over) (answers.Mul z) new h a = elim a [ ]
-after_field k d (Places over) (answers.Factor unit parts) new h a = elim a [ ]
-after_field k d (Places over) (answers.OrderOf zs) new h a = elim a [ ]
-after_field k d (Places over) (answers.Places count Ls) new h a = elim a [ ]
-after_field k d (Places over) (answers.Place L) new h a = elim a [ ]
-after_field k d (Place name over index) (answers.FieldOf q) new h a = elim a [ ]
-after_field k d (Place name over index) (answers.CurveOf n m) new h a = elim a [ ]
-after_field k d (Place name over index) (answers.Mul z) new h a = elim a [ ]
-after_field k d (Place name over index) (answers.Factor unit parts) new h a = elim a [ ]
-after_field k d (Place name over index) (answers.OrderOf zs) new h a = elim a [ ]
-after_field k d (Place name over index) (answers.Places count Ls) new h a = elim a [ ]
-after_field k d (Place name over index) (answers.Place L) new h a = elim a [ ]
+after_field k d (FieldOf p tail) a new h t = absurd (let none = t.2 in cc)
+after_field k d (CurveOf f) a new h t = AfterCurve (omega (arith, h)) d t.3.1.curve [] t.3.1.bound
+after_field k d (Mul x y) a new h t = absurd t.2
+after_field k d (Factor g) a new h t = absurd t.3
+after_field k d (OrderOf side) a new h t = absurd t.2
+after_field k d (Places over) a new h t = absurd t.3
+after_field k d (Place name over index) a new h t = absurd t.2
 
 module _ (k : ℕ) (d : FieldData) (c : CurveValue) (Ps : List NamedPlace) where
   after_curve : (s : Statement) (a : Answer) (new : Bindings) → 2 ≤ k → Answers (with_places d c Ps) s a new
       → IsAfter (k + 1) new
-  after_curve (FieldOf p tail) (answers.FieldOf q) new h a = absurd (let none = a.0 in cc)
-  after_curve (FieldOf p tail) (answers.CurveOf n m) new h a = elim a [ ]
-  after_curve (FieldOf p tail) (answers.Mul z) new h a = elim a [ ]
-  after_curve (FieldOf p tail) (answers.Factor unit parts) new h a = elim a [ ]
-  after_curve (FieldOf p tail) (answers.OrderOf zs) new h a = elim a [ ]
-  after_curve (FieldOf p tail) (answers.Places count Ls) new h a = elim a [ ]
-  after_curve (FieldOf p tail) (answers.Place L) new h a = elim a [ ]
-  after_curve (CurveOf f) (answers.FieldOf q) new h a = elim a [ ]
-  after_curve (CurveOf f) (answers.CurveOf n m) new h a = absurd (let none = a.0 in cc)
-  after_curve (CurveOf f) (answers.Mul z) new h a = elim a [ ]
-  after_curve (CurveOf f) (answers.Factor unit parts) new h a = elim a [ ]
-  after_curve (CurveOf f) (answers.OrderOf zs) new h a = elim a [ ]
-  after_curve (CurveOf f) (answers.Places count Ls) new h a = elim a [ ]
-  after_curve (CurveOf f) (answers.Place L) new h a = elim a [ ]
-  after_curve (Mul x y) (answers.FieldOf q) new h a = elim a [ ]
-  after_curve (Mul x y) (answers.CurveOf n m) new h a = elim a [ ]
-  after_curve (Mul x y) (answers.Mul z) new h a = AfterCurve (omega (arith, h)) d c Ps a.2
-  after_curve (Mul x y) (answers.Factor unit parts) new h a = elim a [ ]
-  after_curve (Mul x y) (answers.OrderOf zs) new h a = elim a [ ]
-  after_curve (Mul x y) (answers.Places count Ls) new h a = elim a [ ]
-  after_curve (Mul x y) (answers.Place L) new h a = elim a [ ]
-  after_curve (Factor g) (answers.FieldOf q) new h a = elim a [ ]
-  after_curve (Factor g) (answers.CurveOf n m) new h a = elim a [ ]
-  after_curve (Factor g) (answers.Mul z) new h a = elim a [ ]
-  after_curve (Factor g) (answers.Factor unit parts) new h a = AfterCurve (omega (arith, h)) d c Ps a.1
-  after_curve (Factor g) (answers.OrderOf zs) new h a = elim a [ ]
-  after_curve (Factor g) (answers.Places count Ls) new h a = elim a [ ]
-  after_curve (Factor g) (answers.Place L) new h a = elim a [ ]
-  after_curve (OrderOf side) (answers.FieldOf q) new h a = elim a [ ]
-  after_curve (OrderOf side) (answers.CurveOf n m) new h a = elim a [ ]
-  after_curve (OrderOf side) (answers.Mul z) new h a = elim a [ ]
-  after_curve (OrderOf side) (answers.Factor unit parts) new h a = elim a [ ]
-  after_curve (OrderOf side) (answers.OrderOf zs) new h a = AfterCurve (omega (arith, h)) d c Ps a.2
-  after_curve (OrderOf side) (answers.Places count Ls) new h a = elim a [ ]
-  after_curve (OrderOf side) (answers.Place L) new h a = elim a [ ]
-  after_curve (Places over) (answers.FieldOf q) new h a = elim a [ ]
-  after_curve (Places over) (answers.CurveOf n m) new h a = elim a [ ]
-  after_curve (Places over) (answers.Mul z) new h a = elim a [ ]
-  after_curve (Places over) (answers.Factor unit parts) new h a = elim a [ ]
-  after_curve (Places over) (answers.OrderOf zs) new h a = elim a [ ]
-  after_curve (Places over) (answers.Places count Ls) new h a = AfterCurve (omega (arith, h)) d c Ps a.2
-  after_curve (Places over) (answers.Place L) new h a = elim a [ ]
-  after_curve (Place name over index) (answers.FieldOf q) new h a = elim a [ ]
-  after_curve (Place name over index) (answers.CurveOf n m) new h a = elim a [ ]
-  after_curve (Place name over index) (answers.Mul z) new h a = elim a [ ]
-  after_curve (Place name over index) (answers.Factor unit parts) new h a = elim a [ ]
-  after_curve (Place name over index) (answers.OrderOf zs) new h a = elim a [ ]
-  after_curve (Place name over index) (answers.Places count Ls) new h a = elim a [ ]
-  after_curve (Place name over index) (answers.Place L) new h a = AfterCurve (omega (arith, h)) d c
-      (Ps ++ record { name = name; place = a.1.place } ∷ []) a.1.bound
+  after_curve (FieldOf p tail) a new h t = absurd (let none = t.2 in cc)
+  after_curve (CurveOf f) a new h t = absurd (let none = t.3.0 in cc)
+  after_curve (Mul x y) a new h t = AfterCurve (omega (arith, h)) d c Ps t.2.2
+  after_curve (Factor g) a new h t = AfterCurve (omega (arith, h)) d c Ps t.3.1
+  after_curve (OrderOf side) a new h t = AfterCurve (omega (arith, h)) d c Ps t.2.2
+  after_curve (Places over) a new h t = AfterCurve (omega (arith, h)) d c Ps t.3.2
+  after_curve (Place name over index) a new h t = AfterCurve (omega (arith, h)) d c
+      (Ps ++ record { name = name; place = t.2.1.place } ∷ []) t.2.1.bound
 
 pub after_answer : (k : ℕ) (old : Bindings) (s : Statement) (a : Answer) (new : Bindings) → IsAfter k old
     → Answers old s a new → IsAfter (k + 1) new
