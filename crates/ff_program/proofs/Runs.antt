@@ -9,7 +9,6 @@ use Rattle.ff_fields.specs.FieldData.{FieldData}
 use Rattle.function_field.specs.Curves.{CurveValue}
 use Rattle.ff_meaning.specs.Bindings.{Bindings, NamedPlace, nothing, with_field, with_places, IsInPlace}
 use Rattle.ff_cert.specs.declared.answer.Answer.{Answer}
-use Rattle.ff_cert.specs.declared.answer.Answer.TheVariants as answers
 use Rattle.ff_cert.specs.Answers.{Answers}
 use Rattle.ff_cert.specs.Blocks.{SessionValue, Takes, block_text}
 use Rattle.ff_session.specs.Sessions.{IsStep}
