@@ -130,14 +130,17 @@ curve_answer s f a k c s_is h =
           c.fin.n,
           c.c,
           refl,
-          (refl, record {
-            is_field = data_is k;
-            curve = c;
-            is_curve = subst (λ (l : CodeField). IsCurveOfTerms l f c) (sym (same_field k)) h.curve;
-            degree = refl;
-            number = refl;
-            bound = refl;
-          }),
+          (
+            refl,
+            record {
+              is_field = data_is k;
+              curve = c;
+              is_curve = subst (λ (l : CodeField). IsCurveOfTerms l f c) (sym (same_field k)) h.curve;
+              degree = refl;
+              number = refl;
+              bound = refl;
+            },
+          ),
         );
         not_refused = λ r found. no_curve_row (field_of k) f c r h.curve
             (subst (λ (l : CodeField). IsNoCurve l f r) (laws_are k found.0) found.1);
@@ -164,8 +167,11 @@ module _ (k : AnyField) (c : CurveValue) (Ps : List NamedPlace) (s : Statement) 
   pub mul_answer : (a b : ElemText) (z : WrittenValue) → s ≡ Mul a b → IsProductRead (field_of k) c.fin a b z
       → IsAnswered here s (answers.Mul z) changes.Nothing
   mul_answer a b z s_is h = answered (Mul a b) (answers.Mul z) s_is (record {
-    is_true = (z, refl,
-        (data_is k, subst (λ (l : CodeField). mul_row.IsTrue l c.fin a b z) (sym (same_field k)) h.is, refl));
+    is_true = (
+      z,
+      refl,
+      (data_is k, subst (λ (l : CodeField). mul_row.IsTrue l c.fin a b z) (sym (same_field k)) h.is, refl),
+    );
     not_refused = λ r found. h.no_row r
         (subst (λ (o : FieldOps). IsProductRow o c.fin.n max_degree a b r) (same_ops k) found);
   })
@@ -179,8 +185,12 @@ module _ (k : AnyField) (c : CurveValue) (Ps : List NamedPlace) (s : Statement) 
   pub factor_answer : (g : List Term) (unit : ℕ) (parts : List PowerLine) → s ≡ Factor g
       → AreFactorsRead (field_of k).ops g unit parts → IsAnswered here s (answers.Factor unit parts) changes.Nothing
   factor_answer g unit parts s_is h = answered (Factor g) (answers.Factor unit parts) s_is (record {
-    is_true = (unit, parts, refl,
-        (subst (λ (o : FieldOps). factor_row.IsTrue o g unit parts) (sym (same_ops k)) h.is, refl));
+    is_true = (
+      unit,
+      parts,
+      refl,
+      (subst (λ (o : FieldOps). factor_row.IsTrue o g unit parts) (sym (same_ops k)) h.is, refl),
+    );
     not_refused = λ r found. h.no_row r (subst (λ (o : FieldOps). IsFactorRow o max_degree g r) (same_ops k) found);
   })
 
@@ -193,19 +203,27 @@ module _ (k : AnyField) (c : CurveValue) (Ps : List NamedPlace) (s : Statement) 
   pub order_true : (side : Side) (zs : List WrittenValue) → s ≡ OrderOf side → order_row.IsTrue (field_of k) c side zs
       → IsAnswered here s (answers.OrderOf zs) changes.Nothing
   order_true side zs s_is h = answered (OrderOf side) (answers.OrderOf zs) s_is (record {
-    is_true = (zs, refl,
-        (data_is k, subst (λ (l : CodeField). order_row.IsTrue l c side zs) (sym (same_field k)) h, refl));
+    is_true = (
+      zs,
+      refl,
+      (data_is k, subst (λ (l : CodeField). order_row.IsTrue l c side zs) (sym (same_field k)) h, refl),
+    );
     not_refused = λ r found. found;
   })
 
   pub places_true : (over : Over) (count : ℕ) (Ls : List PlaceLines) → s ≡ Places over
       → ArePlacesRead (field_of k) c over count Ls → IsAnswered here s (answers.Places count Ls) changes.Nothing
   places_true over count Ls s_is h = answered (Places over) (answers.Places count Ls) s_is (record {
-    is_true = (count, Ls, refl, (
-      data_is k,
-      subst (λ (l : CodeField). places_row.IsTrue l c over count Ls) (sym (same_field k)) h.is,
+    is_true = (
+      count,
+      Ls,
       refl,
-    ));
+      (
+        data_is k,
+        subst (λ (l : CodeField). places_row.IsTrue l c over count Ls) (sym (same_field k)) h.is,
+        refl,
+      ),
+    );
     not_refused = λ r found. h.no_row r
         (subst (λ (o : FieldOps). IsBaseRow o c.fin.n max_degree_of_places over r) (same_ops k) found.1);
   })
@@ -229,19 +247,23 @@ module _ (k : AnyField) (c : CurveValue) (Ps : List NamedPlace) (s : Statement) 
   place_true name over index L Q s_is h =
       subst (λ t. IsAnswered here t (answers.Place L) (changes.Place name Q)) (sym s_is) (record {
         answer = record {
-          is_true = (L, refl, (
-            data_is k,
-            subst is_true (sym (same_field k)) (record {
-              count = h.count;
-              places = h.places;
-              all = h.all;
-              among = h.among;
-              number = h.number;
-              place = Q;
-              is_place = h.is_place;
-              bound = refl;
-            }),
-          ));
+          is_true = (
+            L,
+            refl,
+            (
+              data_is k,
+              subst is_true (sym (same_field k)) (record {
+                count = h.count;
+                places = h.places;
+                all = h.all;
+                among = h.among;
+                number = h.number;
+                place = Q;
+                is_place = h.is_place;
+                bound = refl;
+              }),
+            ),
+          );
           not_refused = λ r found. h.no_row r
               (subst (λ (l : CodeField). IsPlaceRow l bound name over index r) (laws_are k found.0) found.1);
         };

@@ -1,0 +1,3 @@
+pub mod CodeFunctions
+pub mod Coordinates
+pub mod ConstantAlgebra
