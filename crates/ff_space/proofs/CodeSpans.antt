@@ -18,7 +18,7 @@ use Rattle.linear_theory.proofs.Echelon.{coefficient_at_pivot}
 use Rattle.linear_theory.proofs.EchelonBasis.{cut}
 use Rattle.ff_linalg.specs.Forms.{sequences_of, IsReducedBelow}
 use Rattle.ff_linalg.specs.Matrix.{MatrixValue, IsMatrixOver, HasShape}
-use Rattle.ff_linalg.specs.Space.{IsInRowSpace, IsReducedForm, product_of}
+use Rattle.ff_linalg.specs.Space.{IsInRowSpace, IsReducedForm, row_product}
 use Rattle.ff_linalg.proofs.Bridge.{codes_of, length_codes_of, coeff_codes_of, combination_over, length_combination, coeff_zeros, combination_is, codes_of_form}
 use Rattle.function_field.specs.Functions.{Equation, FunctionOf, ring_of, IsCode}
 use Rattle.function_field.specs.Indices.{space_ops}
@@ -51,7 +51,7 @@ module _ (k : CodeField) (p : PresValue) (some_n : 1 ≤ p.n) (den : List ℕ)
   by_codes_in u = IsOver_numbers k (cut (length m.rows) u)
 
   -- the function of the combination by a sequence of codes
-  combined : (u : ℕ → Code k) → over_den k p den width (product_of k.ops (by_codes u) m)
+  combined : (u : ℕ → Code k) → over_den k p den width (row_product k.ops (by_codes u) m)
       ≡ combine (space_ops (equation_of k p)) u row_functions
   combined u =
       over_den_combination k p some_n den some width m.cols (by_codes u) m.rows (length_codes_of k (length m.rows) u)
@@ -59,7 +59,7 @@ module _ (k : CodeField) (p : PresValue) (some_n : 1 ≤ p.n) (den : List ℕ)
       ∙ combine_cong (space c) (coeff_of R.ops (read k (by_codes u))) u row_functions
       (λ i l. coeff_codes_of k (length m.rows) u i (subst (λ n. i < n) (length-map m.rows (over_den k p den width)) l))
 
-  product_long : (cs : List ℕ) → length (product_of k.ops cs m) ≡ m.cols
+  product_long : (cs : List ℕ) → length (row_product k.ops cs m) ≡ m.cols
   product_long cs = length_combination k m.cols cs m.rows wide
 
   -- a vector of the row space, and its function
@@ -74,7 +74,7 @@ module _ (k : CodeField) (p : PresValue) (some_n : 1 ≤ p.n) (den : List ℕ)
   vector_of_span z h =
       let s = sequence_of R (ring_of c) (code_of c) (IsCode c) (code_at c) row_functions z h in
       record {
-        vector = product_of k.ops (by_codes s.0) m;
+        vector = row_product k.ops (by_codes s.0) m;
         in_space = record {
           coefficients = by_codes s.0;
           one_each = length_codes_of k (length m.rows) s.0;
@@ -129,7 +129,7 @@ module _ (k : CodeField) (p : PresValue) (some_n : 1 ≤ p.n) (den : List ℕ)
       r = codes_of_form k m (length m.rows) reduced
 
       v : List ℕ
-      v = product_of k.ops (by_codes u) m
+      v = row_product k.ops (by_codes u) m
 
       member : InRowSpace R.ops m.cols (sequences_of k m.rows) (coeff_of R.ops (read k v))
       member = record {
