@@ -1,9 +1,10 @@
 -- Coordinates that are found row by row.
-use Rattle.std.proofs.Common.{◌≡◌, ℕ, zero, suc, ◌+◌, ◌<◌, List, [], ◌∷◌, ◌++◌, length, get_or, refl, sym, ◌∙◌, ap, subst, arith, below_more}
+use Rattle.std.proofs.Common.{◌≡◌, ℕ, zero, suc, ◌+◌, ◌<◌, List, [], ◌∷◌, ◌++◌, length, get_or, refl, sym, ◌∙◌, ap, subst, arith, below_more, Option}
+use Rattle.std.specs.Prelude.{Result, IfOk, MatchOption}
 use Rattle.std.specs.Global.{Vec}
 use Rattle.std.proofs.lemmas.List.{length-map, length-append}
-use Rattle.ff_fields.specs.Field.{CodeField}
-use Rattle.ff_poly.specs.Popov.{rows_of, row_at, IsCombinationList}
+use Rattle.ff_fields.specs.Field.{FieldOps, CodeField}
+use Rattle.ff_poly.specs.Popov.{rows_of, row_at, InRowSpan, IsCombinationList}
 use Rattle.function_field.specs.Curves.{CurveValue, IsCurve}
 use Rattle.linear_theory.specs.Lists.{tabulate}
 use Rattle.ff_lattice.specs.Lattices.{LatticeValue, IsLatticeValue}
@@ -57,3 +58,15 @@ found_rows k c inf curve form e q size found =
     (λ j less.
     subst (λ v. IsCombinationList k.ops c.inf.n inf.rows v (row_at (rows_of q) j))
     (sym (tabulated c.inf.n (power_row c.inf.n inf.den e) j less)) (found j less))
+
+-- coordinates of v in the rows, None where there are none
+abbrev pub AreFound : FieldOps → ℕ → List (List (List ℕ)) → List (List ℕ) → Option (Vec (List ℕ)) → Type 0
+AreFound k n rows v found =
+    MatchOption found (¬ InRowSpan k n rows v) (λ q. IsCombinationList k n rows v q.items)
+
+pub decided_same : {E : Type 0} (k : FieldOps) (r : Result (Option (Vec (List ℕ))) E) (m n : ℕ)
+    (rows rows' : List (List (List ℕ))) (v v' : List (List ℕ)) → m ≡ n → rows ≡ rows' → v ≡ v'
+    → IfOk r (AreFound k m rows v) → IfOk r (AreFound k n rows' v')
+decided_same k r m n rows rows' v v' same_n same_rows same_v h =
+    subst (λ m. IfOk r (AreFound k m rows' v')) same_n
+    (subst (λ rows. IfOk r (AreFound k m rows v')) same_rows (subst (λ v. IfOk r (AreFound k m rows v)) same_v h))

@@ -1,6 +1,6 @@
 -- A split that is made of a Popov matrix has the form.
-use Rattle.std.proofs.Common.{◌≡◌, ℕ, zero, suc, ◌<◌, List, [], ◌∷◌, length, map, refl, sym, ap, ap₂, ◌∙◌, subst, arith, All}
-use Rattle.std.proofs.lemmas.List.{length-map}
+use Rattle.std.proofs.Common.{◌≡◌, ℕ, zero, suc, ◌+◌, ◌<◌, List, [], ◌∷◌, ◌++◌, length, map, take, get_or, refl, sym, ap, ap₂, ◌∙◌, subst, arith, All}
+use Rattle.std.proofs.lemmas.List.{length-map, map_more}
 use Rattle.std.proofs.lemmas.List.Elements.{All-nil, All-cons, All-head, All-tail}
 use Rattle.std.proofs.lemmas.List.Sorted.{All-permutation}
 use Rattle.std.proofs.Math.IntN.{ℤ}
@@ -11,6 +11,8 @@ use Rattle.linear_theory.specs.Lists.{entry, tabulate}
 use Rattle.ff_lattice.specs.Lattices.{LatticeValue}
 use Rattle.split_theory.specs.Splits.{AreRowsOver, split_degree}
 use Rattle.split_theory.proofs.RowFunctions.{entry_map}
+use Rattle.ff_popov.proofs.Entries.{any_default}
+use Rattle.ff_split.proofs.Elements.{entry_read}
 use Rattle.ff_split.specs.Splits.{columns, AreOrdered, IsSplitMatrix, IsSplitForm}
 
 all_tabulated : {X : Type 0} (P : X → Type 0) (n : ℕ) (f : ℕ → X) → ((i : ℕ) → i < n → P (f i)) → All P (tabulate n f)
@@ -60,3 +62,15 @@ made_form k c fin inf u m zs basis order ds matrix rows ordered basis_is ds_are 
   where
     count : length zs ≡ length m
     count = sym (length-map zs (function_of k c.fin)) ∙ rows.count ∙ sym matrix.popov.size
+
+-- one element more in the order of the columns
+pub arranged_more : (zs old new : List ElemValue) (order : List (ℤ × ℕ)) (n : ℕ) (z y : ElemValue) (d : ℤ × ℕ)
+    → old ≡ map (λ p. entry none zs p.1) (take n order) → n < length order → All (λ p. p.1 < length zs) order
+    → z ≡ get_or zs (get_or order n d).1 z → y ≡ z → new ≡ old ++ y ∷ []
+    → new ≡ map (λ p. entry none zs p.1) (take (n + 1) order)
+arranged_more zs old new order n z y d so_far less inside z_is same is =
+    let j = (get_or order n d).1 in
+    is
+    ∙ ap₂ (λ xs x. xs ++ x ∷ []) so_far
+    (same ∙ z_is ∙ any_default zs j z none (inside n d less) ∙ sym (entry_read none zs j))
+    ∙ sym (map_more (λ (p : ℤ × ℕ). entry none zs p.1) order n d less)

@@ -11,7 +11,7 @@ use Rattle.ff_fields.specs.Over.{IsOver, IsOver_nil, IsOver_append, IsOver_zeros
 use Rattle.ff_poly.specs.Words.{IsPoly, IsMonicList, shifted, poly_of}
 use Rattle.ff_poly.specs.Value.{value}
 use Rattle.ff_poly.specs.Polynomials.{polynomials, value_cons, x_poly}
-use Rattle.ff_poly.proofs.Parts.{IsPoly_poly_of}
+use Rattle.ff_poly.specs.PolyOver.{IsPoly_poly_of}
 use Rattle.function_field.specs.Curves.{CurveValue}
 use Rattle.ff_lattice.specs.Lattices.{LatticeValue, IsLatticeValue}
 use Rattle.ff_lattice.proofs.Spaces.{value_poly_of}
@@ -54,7 +54,10 @@ module _ (k : CodeField) where
     is = shifted_is a j a_in;
   }
 
-zero_at : (n j : ℕ) → get_or (replicate n []) j [] ≡ [] {A = ℕ}
+abbrev no_codes : List ℕ
+no_codes = []
+
+zero_at : (n j : ℕ) → get_or (replicate n no_codes) j no_codes ≡ no_codes
 zero_at zero j = refl
 zero_at (suc n) zero = refl
 zero_at (suc n) (suc j) = zero_at n j
@@ -78,7 +81,7 @@ power_row_is k c inf form e j less = record {
     n : ℕ
     n = c.inf.n
 
-    size : length (replicate n ([] {A = ℕ})) ≡ n
+    size : length (replicate n no_codes) ≡ n
     size = length-replicate n []
 
 pub power_row_poly : (n : ℕ) (a : List ℕ) (e j : ℕ) → All IsPoly (power_row n a e j)
