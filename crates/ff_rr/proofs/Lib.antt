@@ -9,3 +9,4 @@ pub mod TextLists
 pub mod ListedIdempotents
 pub mod TableVectors
 pub mod MadeConstants
+pub mod Combinations

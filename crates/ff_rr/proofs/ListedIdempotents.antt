@@ -1,5 +1,5 @@
 -- The idempotents of a function field as they are listed by their coordinates in a basis of the constants.
-use Rattle.std.proofs.Common.{◌≡◌, ◌↔◌, ◌⊎◌, inl, inr, ℕ, List, [], ◌∷◌, length, map, refl, sym, ◌∙◌, ap, subst, All}
+use Rattle.std.proofs.Common.{◌≡◌, ◌↔◌, ◌⊎◌, inl, inr, ℕ, List, [], ◌∷◌, length, map, refl, sym, ◌∙◌, ap, subst, arith, All}
 use Rattle.std.specs.List.{Any}
 use Rattle.std.proofs.lemmas.List.{length-map}
 use Rattle.std.proofs.lemmas.List.Elements.{All-nil, All-cons, All-head, All-map}
@@ -17,7 +17,7 @@ use Rattle.value_theory.proofs.InfiniteLattices.{finite_disc}
 use Rattle.ff_falg.specs.Algebras.{IsVector}
 use Rattle.ff_structure.specs.Structures.{StructureValue, structure_algebra}
 use Rattle.ff_structure.specs.Idempotents.{IsProperIdempotentVector}
-use Rattle.idempotents_theory.specs.Coordinates.{IsStructureOf}
+use Rattle.idempotents_theory.specs.Coordinates.{IsStructureOf, HaveSameIdempotents}
 use Rattle.idempotents_theory.proofs.ConstantAlgebra.{same_idempotents}
 use Rattle.ff_text.specs.Printed.{WrittenValue}
 use Rattle.ff_written.specs.LowestTerms.{IsWritten}
@@ -82,7 +82,7 @@ module _ (k : CodeField) (f : FrameValue) (h : IsFrame k f) (s : SpaceBasisValue
     (all : (v : List ℕ) → IsProperIdempotentVector k.ops (structure_algebra st) v → In v vs)
     (zs : List WrittenValue)
     (listed : AreListed k f.curve.fin (map (function_at k f.curve.fin s.space.functions) vs) zs) where
-  same : _
+  same : HaveSameIdempotents (equation_of k f.curve.fin) (map (function_of k f.curve.fin) s.space.functions) st
   same =
       same_idempotents (equation_of k f.curve.fin) (frame_disc k f h) (map (function_of k f.curve.fin) s.space.functions)
       c.basis st is

@@ -1,6 +1,7 @@
 -- The printed basis of the constants of a frame, and the genus by its number of functions.
-use Rattle.std.proofs.Common.{◌≡◌, ◌↔◌, ℕ, ◌-◌, ◌*◌, ◌/◌, ◌<◌, ◌≤◌, List, length, map, mul_assoc, sym, ◌∙◌, ap, ap₂, subst, arith}
+use Rattle.std.proofs.Common.{◌≡◌, ◌↔◌, ℕ, ◌-◌, ◌*◌, ◌/◌, ◌<◌, ◌≤◌, List, [], ◌∷◌, suc, length, map, All, mul_assoc, sym, ◌∙◌, ap, ap₂, subst, arith}
 use Rattle.std.proofs.lemmas.List.{length-map}
+use Rattle.std.proofs.lemmas.List.Elements.{All-nil, All-cons}
 use Rattle.std.proofs.Math.IntN.{ℤ, pos}
 use Rattle.std.specs.Prelude.{◌≤ℤ◌}
 use Rattle.ring_lemmas.specs.Ring.{IsField}
@@ -42,6 +43,11 @@ printed_same k p A B t s h = record {
       );
 }
 
+of_entries : (ds : List ℤ) → ((i : ℕ) → i < length ds → pos 0 ≤ℤ entry (pos 0) ds i) → All (λ e. pos 0 ≤ℤ e) ds
+of_entries [] h = All-nil (λ e. pos 0 ≤ℤ e)
+of_entries (d ∷ ds) h =
+    All-cons (λ e. pos 0 ≤ℤ e) d ds (h 0 (omega arith)) (of_entries ds (λ i l. h (suc i) (omega arith)))
+
 module _ (k : CodeField) (f : FrameValue) (h : IsFrame k f) (s : SpaceBasisValue) (c : IsConstantSpace k f s) where
   abbrev d : ℕ → ℤ
   d = entry (pos 0) s.split.degrees
@@ -79,6 +85,9 @@ module _ (k : CodeField) (f : FrameValue) (h : IsFrame k f) (s : SpaceBasisValue
         (map (function_of k f.curve.fin) s.split.basis) d
         (frame_reduced k f h (map (function_of k f.curve.fin) s.split.basis) s.split.degrees c.split.both c.split.sum)
         i (subst (λ n. i < n) (sym n_is) l)
+
+    pub all_nonnegative : All (λ e. pos 0 ≤ℤ e) s.split.degrees
+    all_nonnegative = of_entries s.split.degrees (λ i l. nonnegative_degrees i (subst (λ n. i < n) degrees_count l))
 
     pub some_functions : 1 ≤ length s.space.functions
     some_functions =

@@ -2,10 +2,8 @@
 use Rattle.std.proofs.Common.{◌≡◌, ℕ, ◌+◌, ◌<◌, ◌≤◌, List, [], ◌∷◌, ◌++◌, length, get_or, take, suc, inl, inr, refl, sym, ap, subst, arith, All}
 use Rattle.std.specs.List.{insert, Any, AllPairs, AllZip}
 use Rattle.std.specs.List.Sorted.{IsPermutation}
-use Rattle.std.proofs.lemmas.List.{take_more}
 use Rattle.std.proofs.lemmas.List.Elements.{All-nil, All-cons, All-head, All-tail}
-use Rattle.std.proofs.lemmas.List.Quantifiers.{all_pairs_push}
-use Rattle.std.proofs.lemmas.List.Sorted.{IsPermutation-refl, IsPermutation-push_more, All-permutation, Contains-permutation}
+use Rattle.std.proofs.lemmas.List.Sorted.{IsPermutation-refl, IsPermutation-push_more, IsPermutation-insert, All-permutation, Contains-permutation}
 use Rattle.ring_theory.specs.Members.{In}
 use Rattle.ff_fields.specs.Field.{CodeField}
 use Rattle.function_field.specs.Values.{PresValue, Functions}
@@ -13,27 +11,28 @@ use Rattle.ff_text.specs.Printed.{WrittenValue, elem_text}
 use Rattle.ff_written.specs.LowestTerms.{IsWritten}
 use Rattle.ff_written.proofs.TextOrder.{text_irreflexive, text_transitive}
 use Rattle.ff_written.proofs.OrderedLists.{ascending_insert}
-use Rattle.ff_rr.specs.Listings.{IsWrittenBefore, AreByText, AreListed}
+use Rattle.ff_rr.specs.Listings.{IsWrittenBefore, AreByText, IsPutInto, AreListed}
 
 written_irreflexive : (z w : WrittenValue) → z ≡ w → ¬ IsWrittenBefore z w
 written_irreflexive z w e = text_irreflexive _ _ (ap (λ (x : WrittenValue). elem_text x.num x.den) e)
 
 written_transitive : (x y z : WrittenValue) → IsWrittenBefore x y → IsWrittenBefore y z → IsWrittenBefore x z
-written_transitive x y z = text_transitive _ _ _
+written_transitive x y z = text_transitive (elem_text x.num x.den) (elem_text y.num y.den) (elem_text z.num z.den)
 
 pub insert_by_text : (zs : List WrittenValue) (i : ℕ) (z : WrittenValue) → AreByText zs
     → ((j : ℕ) (d : WrittenValue) → j < i → j < length zs → ¬ IsWrittenBefore z (get_or zs j d))
     → ((d : WrittenValue) → i < length zs → IsWrittenBefore z (get_or zs i d)) → AreByText (insert zs i z)
 insert_by_text = ascending_insert IsWrittenBefore written_irreflexive written_transitive
 
-pub push_by_text : (zs : List WrittenValue) (z : WrittenValue) → AreByText zs
-    → ((j : ℕ) (d : WrittenValue) → j < length zs → ¬ IsWrittenBefore z (get_or zs j d)) → AreByText (zs ++ z ∷ [])
-push_by_text zs z h behind = all_pairs_push (λ a b. ¬ IsWrittenBefore b a) zs z h behind
+pub put_by_text : (old : List WrittenValue) (z : WrittenValue) (new : List WrittenValue) → AreByText old
+    → IsPutInto old z new → AreByText new
+put_by_text old z new h put =
+    subst AreByText (sym put.is) (insert_by_text old put.position z h put.behind put.ahead)
 
 -- a member of a list is one of the list in another order
 any_permutation : {X : Type 0} (P : X → Type 0) (xs ys : List X) → IsPermutation xs ys → Any P xs → Any P ys
 any_permutation P xs ys s h =
-    let at = Contains-permutation xs ys h.1 s (h.0, (h.2, h.3)) in
+    let at = Contains-permutation xs ys h.1 s (h.0, h.2, h.3) in
     (at.0, h.1, at.1, at.2, h.4)
 
 any_head : {X : Type 0} (P : X → Type 0) (x : X) (xs : List X) → P x → Any P (x ∷ xs)
@@ -43,8 +42,8 @@ any_tail : {X : Type 0} (P : X → Type 0) (x : X) (xs : List X) → Any P xs �
 any_tail P x xs h = (suc h.0, h.1, omega arith, h.3, h.4)
 
 module _ (k : CodeField) (p : PresValue) where
-  pub listed_none : (fs : List (Functions k p)) → AreListed k p (take 0 fs) []
-  listed_none fs = record {
+  pub listed_none : AreListed k p [] []
+  listed_none = record {
     in_turn = [];
     written = tt;
     same = IsPermutation-refl [];
@@ -58,18 +57,15 @@ module _ (k : CodeField) (p : PresValue) where
   zip_push (g ∷ fs) [] f z h r = absurd h
   zip_push (g ∷ fs) (w ∷ zs) f z h r = (h.0, zip_push fs zs f z h.1 r)
 
-  pub listed_more : (fs : List (Functions k p)) (i : ℕ) (f : Functions k p) (z : WrittenValue)
-      (old new : List WrittenValue) → i < length fs → f ≡ get_or fs i f → IsWritten k p f z
-      → AreListed k p (take i fs) old → IsPermutation (z ∷ old) new → AreByText new
-      → AreListed k p (take (i + 1) fs) new
-  listed_more fs i f z old new less f_is written h moved ascending = record {
+  pub listed_push : (fs : List (Functions k p)) (f : Functions k p) (z : WrittenValue) (old new : List WrittenValue)
+      → IsWritten k p f z → AreListed k p fs old → IsPutInto old z new → AreListed k p (fs ++ f ∷ []) new
+  listed_push fs f z old new written h put = record {
     in_turn = h.in_turn ++ z ∷ [];
-    written =
-        subst (λ gs. AllZip (IsWritten k p) gs (h.in_turn ++ z ∷ [])) (sym (take_more fs i f less))
-        (subst (λ g. AllZip (IsWritten k p) (take i fs ++ g ∷ []) (h.in_turn ++ z ∷ [])) f_is
-        (zip_push (take i fs) h.in_turn f z h.written written));
-    same = IsPermutation-push_more h.in_turn old new z h.same moved;
-    ascending = ascending;
+    written = zip_push fs h.in_turn f z h.written written;
+    same =
+        IsPermutation-push_more h.in_turn old new z h.same
+        (subst (IsPermutation (z ∷ old)) (sym put.is) (IsPermutation-insert old put.position z));
+    ascending = put_by_text old z new h.ascending put;
   }
 
   -- what holds of the functions holds of the one that a member writes

@@ -1,6 +1,6 @@
 -- The idempotents of a function field as they are listed, and the words of the private contracts.
-use Rattle.std.specs.Prelude.{◌≡◌, ℕ, List, length, map, All, AllPairs}
-use Rattle.std.specs.List.{AllZip}
+use Rattle.std.specs.Prelude.{◌≡◌, ◌<◌, ℕ, List, length, get_or, map, All, AllPairs}
+use Rattle.std.specs.List.{AllZip, insert}
 use Rattle.std.specs.List.Sorted.{IsPermutation}
 use Rattle.ff_fields.specs.Field.{CodeField}
 use Rattle.function_field.specs.Values.{ElemValue, PresValue, Functions, function_of, equation_of}
@@ -18,6 +18,13 @@ IsWrittenBefore z w = IsBeforeText (elem_text z.num z.den) (elem_text w.num w.de
 -- no text comes before that of an earlier function
 abbrev pub AreByText : List WrittenValue → Type 0
 AreByText zs = AllPairs (λ z w. ¬ IsWrittenBefore w z) zs
+
+-- z stands behind the members that it doesn't come before, up to the first one that it comes before
+pub record IsPutInto (old : List WrittenValue) (z : WrittenValue) (new : List WrittenValue) : Type 0 where
+  pub position : ℕ
+  pub is : new ≡ insert old position z
+  pub behind : (j : ℕ) (d : WrittenValue) → j < position → j < length old → ¬ IsWrittenBefore z (get_or old j d)
+  pub ahead : (d : WrittenValue) → position < length old → IsWrittenBefore z (get_or old position d)
 
 module _ (k : CodeField) (p : PresValue) where
   -- an idempotent other than 0 and 1 as it is written

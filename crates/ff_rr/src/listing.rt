@@ -1,8 +1,7 @@
 //! The idempotents of a function field as they are listed.
 
-ghost use Rattle.std.specs.Prelude.{◌≡◌, ◌↔◌, ◌∷◌, [], length, map, All, IfOk, OnOk};
+ghost use Rattle.std.specs.Prelude.{◌≡◌, ◌↔◌, [], length, map, All, IfOk, OnOk};
 ghost use Rattle.std.specs.List.{Any};
-ghost use Rattle.std.specs.List.Sorted.{IsPermutation};
 ghost use Rattle.ring_lemmas.specs.Ring.{IsField};
 ghost use Rattle.function_field.specs.Values.{IsPresOver, IsElem, Functions, functions};
 ghost use Rattle.ff_falg.specs.Algebras.{IsVector};
@@ -11,7 +10,7 @@ ghost use Rattle.constants_theory.specs.Idempotents.{IsProperIdempotent};
 ghost use Rattle.ff_written.specs.LowestTerms.{IsWritten};
 ghost use Rattle.ff_rr.specs.Frames.{IsFrame};
 ghost use Rattle.ff_rr.specs.Constants.{IsConstantSpace};
-ghost use Rattle.ff_rr.specs.Listings.{AreByText, IsWrittenIdempotent, AreListed, function_at};
+ghost use Rattle.ff_rr.specs.Listings.{AreByText, IsPutInto, IsWrittenIdempotent, AreListed, function_at};
 
 use crate::frame::Frame;
 use crate::spaces::{SpaceBasis, constants};
@@ -27,9 +26,7 @@ use std::alloc::{AllocError, Global};
 
 /// Puts a written function before the first one whose text its own comes before.
 fn put(alloc: Global, list: &mut Vec<Written>, z: Written) -> Result<(), AllocError>
-    requires { AreByText list.old.items }
-    ensures same { OnOk result (IsPermutation (z ∷ list.old.items) list.new.items) }
-    ensures ascending { OnOk result (AreByText list.new.items) }
+    ensures { OnOk result (IsPutInto list.old.items z list.new.items) }
 {
     let text = elem_text(alloc, z.num(), z.den())?;
     for i in 0..list.len() {
@@ -61,7 +58,8 @@ fn listed<K: SmallField>(
     let mut list = Vec::new(alloc);
     for codes in vectors {
         let z = combination(alloc, k, p, codes.as_slice(), functions)?;
-        put(alloc, &mut list, in_lowest_terms(alloc, k, p, &z)?)?;
+        let w = in_lowest_terms(alloc, k, p, &z)?;
+        put(alloc, &mut list, w)?;
     }
     Ok(list)
 }

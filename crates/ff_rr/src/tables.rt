@@ -36,6 +36,8 @@ fn constant_coordinates<K: SmallField>(
     ensures is { let k = K.field k.now in
         IfOk result (λ v. function_at k p.now s.now.functions v.items ≡ function_of k p.now z.now) }
 {
+    let degree = p.n();
+    prove!(degree > 0);
     match coordinates(alloc, k, p, s, z)? {
         Some(codes) => Ok(codes),
         None => unreachable!(),
