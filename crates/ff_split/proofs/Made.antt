@@ -74,3 +74,16 @@ arranged_more zs old new order n z y d so_far less inside z_is same is =
     ∙ ap₂ (λ xs x. xs ++ x ∷ []) so_far
     (same ∙ z_is ∙ any_default zs j z none (inside n d less) ∙ sym (entry_read none zs j))
     ∙ sym (map_more (λ (p : ℤ × ℕ). entry none zs p.1) order n d less)
+
+-- what holds of the elements holds of those in the order of the columns
+pub arranged_all : (P : ElemValue → Type 0) (zs basis : List ElemValue) (order : List (ℤ × ℕ)) → All P zs
+    → All (λ p. p.1 < length zs) order → basis ≡ map (λ p. entry none zs p.1) order → All P basis
+arranged_all P zs basis order all inside is = subst (All P) (sym is) (go order inside)
+  where
+    go : (ps : List (ℤ × ℕ)) → All (λ p. p.1 < length zs) ps → All P (map (λ p. entry none zs p.1) ps)
+    go [] h = All-nil P
+    go (p ∷ ps) h =
+        All-cons P (entry none zs p.1) (map (λ (q : ℤ × ℕ). entry none zs q.1) ps)
+        (subst P (sym (entry_read none zs p.1))
+        (all p.1 none (All-head (λ (q : ℤ × ℕ). q.1 < length zs) p ps h)))
+        (go ps (All-tail (λ (q : ℤ × ℕ). q.1 < length zs) p ps h))

@@ -1,11 +1,15 @@
 -- Rows that are turned one by one.
-use Rattle.std.proofs.Common.{◌≡◌, ℕ, zero, suc, ◌+◌, ◌*◌, ◌<◌, ◌≤◌, List, [], ◌∷◌, ◌++◌, ◌⊎◌, inl, inr, length, get_or, take, refl, sym, ◌∙◌, ap, ap₂, arith, subst, below_more}
+use Rattle.std.proofs.Common.{◌≡◌, ℕ, zero, suc, ◌+◌, ◌-◌, ◌*◌, ◌<◌, ◌≤◌, List, [], ◌∷◌, ◌++◌, ◌⊎◌, inl, inr, length, get_or, take, refl, sym, ◌∙◌, ap, ap₂, arith, subst, below_more}
 use Rattle.std.specs.Global.{Vec}
 use Rattle.std.proofs.lemmas.List.{take_more, length-map, length-take-le, get_or_past}
 use Rattle.std.proofs.lemmas.Bool.{cases_lt}
 use Rattle.ff_poly.specs.Popov.{rows_of, row_at, entry_at}
 use Rattle.ff_lattice.proofs.Pushes.{rows_push, read_row}
-use Rattle.split_theory.specs.Splits.{turned_row, turned_from}
+use Rattle.ff_fields.specs.Field.{CodeField}
+use Rattle.function_field.specs.Curves.{CurveValue, IsCurve}
+use Rattle.ff_lattice.specs.Lattices.{LatticeValue, IsLatticeValue}
+use Rattle.split_theory.specs.Splits.{AreCoordinatesInT, AreCoordinates, turned_row, turned_from}
+use Rattle.split_theory.proofs.Coordinates.{turned_coordinates}
 use Rattle.ff_split.specs.Steps.{AreShort}
 
 turned_push : (c m j : ℕ) (rows : List (List (List ℕ))) (v : List (List ℕ))
@@ -52,3 +56,15 @@ all_short rows n m le each = record { each = λ j i. go j i (cases_lt j n) }
         let size = length-map rows (λ (u : Vec (List ℕ)). u.items) in
         let none : row_at (rows_of rows) j ≡ [] = get_or_past (rows_of rows) j [] (omega (arith, le, past, size)) in
         rw none (omega arith)
+
+-- coordinates in t that are turned are coordinates in x
+pub turned_are : (k : CodeField) (c : CurveValue) (inf : LatticeValue) → IsCurve k c → IsLatticeValue k.ops c.inf.n inf
+    → (e least m : ℕ) (q Q : List (List (List ℕ))) → AreCoordinatesInT k c inf e q → least ≡ e + 1 → least ≤ m
+    → AreShort m q → Q ≡ turned_from c.c m 0 q → AreCoordinates k c inf (m - least) Q
+turned_are k c inf curve form e least m q Q coordinates least_is le short is =
+    let top : (m - 1) + 1 ≡ m = omega (arith, le, least_is) in
+    let exponent : (m - 1) - e ≡ m - least = omega (arith, le, least_is) in
+    subst (λ s. AreCoordinates k c inf s Q) exponent
+    (subst (AreCoordinates k c inf ((m - 1) - e)) (ap (λ n. turned_from c.c n 0 q) top ∙ sym is)
+    (turned_coordinates k c curve inf form e (m - 1) q coordinates (omega (arith, le, least_is))
+    (λ j i. let s = short.each j i in omega (arith, s, top))))
