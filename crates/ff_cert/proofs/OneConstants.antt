@@ -1,5 +1,5 @@
 -- The constants are printed in one way, and there is one genus.
-use Rattle.std.proofs.Common.{◌≡◌, ℕ, List, [], ◌∷◌, length, map, sym, ap, ap₂, ◌∙◌}
+use Rattle.std.proofs.Common.{◌≡◌, ℕ, ◌≤◌, List, [], ◌∷◌, length, map, refl, sym, ap, ap₂, ◌∙◌, arith}
 use Rattle.ff_fields.specs.Field.{CodeField}
 use Rattle.function_field.specs.Curves.{CurveValue, IsCurve}
 use Rattle.function_field.specs.Divisors.{IsConstant}

@@ -1,5 +1,5 @@
 -- What is computed of a function field once is the answer of its statements.
-use Rattle.std.proofs.Common.{◌≡◌, ℕ, List, [], ◌∷◌, length, map, sym, ap, ◌∙◌, subst}
+use Rattle.std.proofs.Common.{◌≡◌, ℕ, suc, List, [], ◌∷◌, length, map, refl, sym, ap, ◌∙◌, subst}
 use Rattle.ff_fields.specs.Field.{CodeField}
 use Rattle.function_field.specs.Divisors.{IsConstant, IsSpaceBasis}
 use Rattle.function_field.specs.Values.{ElemValue, Functions, setting, function_of}
