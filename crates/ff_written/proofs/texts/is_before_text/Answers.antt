@@ -1,6 +1,6 @@
 use Rattle.std.proofs.Common.{◌≡◌, min, length, arith}
 use Rattle.ff_written.proofs.TextOrder.{text_end}
-use Rattle.ff_places.proofs.numbers.is_before_text.Goals as goal
+use Rattle.ff_written.proofs.texts.is_before_text.Goals as goal
 
 pub returns : goal.returns
 returns c =

@@ -1,7 +1,7 @@
 use Rattle.std.proofs.Common.{◌<◌, ◌↔◌, drop}
 use Rattle.ff_written.specs.TextOrder.{IsBeforeText}
 use Rattle.ff_written.proofs.TextOrder.{Lex}
-use Rattle.ff_places.proofs.numbers.is_before_text.Given as goal
+use Rattle.ff_written.proofs.texts.is_before_text.Given as goal
 
 -- the texts are the same up to here
 abbrev pub invariant-loop-i : goal.invariant-loop-i

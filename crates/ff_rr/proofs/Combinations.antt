@@ -1,0 +1,38 @@
+-- Sums of functions times codes, one more at a time.
+use Rattle.std.proofs.Common.{◌≡◌, ℕ, zero, suc, ◌+◌, ◌<◌, List, [], ◌∷◌, length, get_or, map, take, refl, sym, ◌∙◌, ap, ap₂, subst, arith, add-one}
+use Rattle.ring_lemmas.specs.Ring.{CommRing}
+use Rattle.ring_lemmas.proofs.Ring.{zero_add}
+use Rattle.ff_fields.specs.Field.{CodeField}
+use Rattle.function_field.specs.Functions.{Equation, FunctionOf, ring_of}
+use Rattle.function_field.specs.Infinity.{constant}
+use Rattle.function_field.specs.Spans.{combination}
+use Rattle.function_field.specs.Values.{ElemValue, PresValue, Functions, functions, function_of, equation_of}
+use Rattle.ff_rr.specs.Listings.{function_at}
+
+module _ {E : Type 0} (R : CommRing E) where
+  infixl 65 ◌⊕◌
+  infixl 70 ◌⊗◌
+  open R use {𝟘, ◌⊕◌, ◌⊗◌}
+
+  -- the combination of the first members and of one more
+  pub combination_more : {X Y : Type 0} (f : X → E) (h : Y → E) (xs : List X) (ys : List Y) (i : ℕ) (x : X) (y : Y)
+      → i < length xs → i < length ys
+      → combination R.ops (map f (take (suc i) xs)) (map h (take (suc i) ys))
+      ≡ combination R.ops (map f (take i xs)) (map h (take i ys)) ⊕ f (get_or xs i x) ⊗ h (get_or ys i y)
+  combination_more f h [] ys i x y l m = absurd (omega arith)
+  combination_more f h (a ∷ xs) [] i x y l m = absurd (omega arith)
+  combination_more f h (a ∷ xs) (b ∷ ys) zero x y l m = R.add_zero (f a ⊗ h b) ∙ sym (zero_add R (f a ⊗ h b))
+  combination_more f h (a ∷ xs) (b ∷ ys) (suc i) x y l m =
+      ap (λ w. f a ⊗ h b ⊕ w) (combination_more f h xs ys i x y (omega arith) (omega arith)) ∙ sym (R.add_assoc _ _ _)
+
+module _ (k : CodeField) (p : PresValue) where
+  pub function_more : (zs : List ElemValue) (v : List ℕ) (i : ℕ) (z : ElemValue) → i < length v → i < length zs
+      → z ≡ get_or zs i z
+      → function_at k p (take (i + 1) zs) (take (i + 1) v)
+      ≡ (functions k p).◌⊕◌ (function_at k p (take i zs) (take i v))
+      ((functions k p).◌⊗◌ (constant k p (get_or v i 0)) (function_of k p z))
+  function_more zs v i z l m e =
+      ap (λ n. function_at k p (take n zs) (take n v)) (add-one i)
+      ∙ combination_more (functions k p) (constant k p) (function_of k p) v zs i 0 z l m
+      ∙ ap (λ w. (functions k p).◌⊕◌ (function_at k p (take i zs) (take i v))
+      ((functions k p).◌⊗◌ (constant k p (get_or v i 0)) (function_of k p w))) (sym e)
