@@ -12,6 +12,13 @@ combinations-requires-clause-coefficients_in g c =
     subst (λ n. All (IsRow k.ops n) (rows_of c.rows.result.now)) (sym size)
     (subst (All (IsRow k.ops c.args.c.now.fin.n)) (sym c.rows.ensures.rows) c.requires.finite.rows_in)
 
+pub combinations-requires-clause-rows_in : goal.combinations-requires-clause-rows_in
+combinations-requires-clause-rows_in g c =
+    let k = g.K.SmallField.field c.args.k.now in
+    subst (λ n. All (IsRow k.ops n) (rows_of c.deref.result.now)) (sym (c.len.ensures ∙ c.requires.finite.popov.size))
+    (subst (λ rows. All (IsRow k.ops c.args.c.now.fin.n) (rows_of rows)) (sym c.deref.ensures.value)
+    c.in_ok-exponent.ensures.rows_in)
+
 pub returns-clause-spans : goal.returns-clause-spans
 returns-clause-spans g c =
     let k = g.K.SmallField.field c.args.k.now in
