@@ -1,14 +1,14 @@
 -- The functions of multiples, quotients and sums of elements, and of lists of them.
-use Rattle.std.proofs.Common.{◌≡◌, ℕ, zero, suc, ◌+◌, ◌-◌, ◌<◌, ◌≤◌, List, [], ◌∷◌, ◌++◌, length, map, take, get_or, refl, sym, ◌∙◌, ap, ap₂, subst, arith, All}
+use Rattle.std.proofs.Common.{◌≡◌, ℕ, zero, suc, ◌+◌, ◌-◌, ◌<◌, List, [], ◌∷◌, ◌++◌, length, map, take, get_or, refl, sym, ◌∙◌, ap, ap₂, arith}
 use Rattle.std.proofs.lemmas.List.{length-map, take_more, length-take-le, get_or-map}
 use Rattle.ff_fields.specs.Field.{CodeField}
 use Rattle.ff_fields.specs.Over.{IsOver}
-use Rattle.ff_poly.specs.Words.{IsPoly, IsMonicList, product_of}
+use Rattle.ff_poly.specs.Words.{IsMonicList, product_of}
 use Rattle.ff_poly.specs.PolyOver.{IsOver_product_of}
 use Rattle.ff_poly.specs.Value.{value, value_product}
 use Rattle.ff_poly.specs.Popov.{multiple_of_row, entry_at, row_at}
 use Rattle.ff_poly.specs.Polynomials.{Polynomial, polynomials}
-use Rattle.ff_poly.proofs.Parts.{IsPoly_product_of, IsMonic_product}
+use Rattle.ff_poly.proofs.Parts.{IsMonic_product}
 use Rattle.ff_popov.specs.Reading.{read_row}
 use Rattle.ff_popov.proofs.ReadRows.{read_multiple}
 use Rattle.ff_popov.proofs.Spans.{multiple_row}

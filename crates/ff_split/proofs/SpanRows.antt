@@ -1,5 +1,5 @@
 -- The rows of a lattice over k[x] in the coordinates of the infinite rows.
-use Rattle.std.proofs.Common.{◌≡◌, ℕ, ◌<◌, List, [], length, map, sym, ap, ◌∙◌, subst, arith, All}
+use Rattle.std.proofs.Common.{◌≡◌, ℕ, List, [], length, map, sym, ap, ◌∙◌, subst, All}
 use Rattle.std.proofs.lemmas.List.{length-map}
 use Rattle.ff_fields.specs.Field.{CodeField}
 use Rattle.ff_poly.specs.Popov.{row_at, IsRow, IsPopovMatrix, HaveSameRowSpan, HasFullRankMatrix, combination_list}

@@ -1,5 +1,5 @@
 -- The steps of the making of a split.
-use Rattle.std.specs.Prelude.{◌≡◌, ℕ, ◌≤◌, List, [], length, replicate, slice_set}
+use Rattle.std.specs.Prelude.{ℕ, ◌≤◌, List, [], length, replicate, slice_set}
 use Rattle.ff_poly.specs.Words.{shifted}
 use Rattle.ff_poly.specs.Popov.{row_at, entry_at}
 

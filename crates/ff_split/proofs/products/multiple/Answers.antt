@@ -1,4 +1,4 @@
-use Rattle.std.proofs.Common.{◌≡◌, List, ℕ, length, map, subst, sym, ap, ap₂, ◌∙◌, All}
+use Rattle.std.proofs.Common.{List, ℕ, length, map, subst, sym, ap, ap₂, ◌∙◌, All}
 use Rattle.std.proofs.lemmas.List.{length-map}
 use Rattle.ff_poly.specs.Popov.{rows_of, IsRow, combination_list}
 use Rattle.ff_split.proofs.SpanRows.{multiple_spanned}
