@@ -1,7 +1,7 @@
 -- Quotients of products by a denominator, and numerators over a common multiple of the denominators.
 use Rattle.std.proofs.Common.{◌≡◌, ◌≢◌, ℕ, zero, suc, ◌+◌, ◌-◌, ◌*◌, ◌<◌, ◌≤◌, List, [], ◌∷◌, ◌++◌, length, get_or, map, take, drop, refl, sym, ◌∙◌, ap, ap₂, subst, arith, All}
 use Rattle.std.proofs.lemmas.List.{length-append, length-drop, length-take-le, take-append-drop, take_all, take_more, map-append, nil_from_length, take-append-le, drop-append-le}
-use Rattle.std.proofs.lemmas.List.Elements.{All-nil, All-cons, All-head, All-tail, All-append, All-take, All-drop}
+use Rattle.std.proofs.lemmas.List.Elements.{All-nil, All-cons, All-head, All-tail, All-append, All-take, All-drop, All-get_or}
 use Rattle.std.proofs.Math.Nat.{suc-mul, zero-mul}
 use Rattle.ff_fields.specs.Field.{CodeField}
 use Rattle.ff_fields.specs.Over.{IsOver, IsOver_nil}
@@ -20,6 +20,10 @@ use Rattle.ff_space.proofs.LeastDenominators.{multiple_of_lowest}
 -- lists with a last member, and parts of lists of products
 pub All-last : {A : Type 0} (T : A → Type 0) (xs : List A) (x : A) → All T xs → T x → All T (xs ++ x ∷ [])
 All-last T xs x h t = All-append T xs (x ∷ []) h (All-cons T x [] t (All-nil T))
+
+pub read_default : {A : Type 0} (T : A → Type 0) (xs : List A) (i : ℕ) (x : A) → All T xs → i < length xs
+    → x ≡ get_or xs i x → T x
+read_default T xs i x all less is = subst T (sym is) (All-get_or T xs i x less all)
 
 pub map-take : {A B : Type 0} (f : A → B) (n : ℕ) (xs : List A) → map f (take n xs) ≡ take n (map f xs)
 map-take f zero xs = refl
