@@ -1,7 +1,7 @@
 -- Vectors with the coordinates of functions, one more and those of products.
-use Rattle.std.proofs.Common.{◌≡◌, ℕ, ◌+◌, ◌<◌, List, [], ◌∷◌, ◌++◌, length, get_or, map, take, refl, sym, ◌∙◌, ap, ap₂, subst, arith, append_assoc, All}
+use Rattle.std.proofs.Common.{◌≡◌, ℕ, ◌+◌, ◌<◌, ◌≤◌, List, [], ◌∷◌, ◌++◌, length, get_or, map, take, refl, sym, ◌∙◌, ap, ap₂, subst, arith, append_assoc, All}
 use Rattle.std.specs.Global.{Vec}
-use Rattle.std.proofs.lemmas.List.{take_more}
+use Rattle.std.proofs.lemmas.List.{take_more, take_all, get_or-map, length-map}
 use Rattle.std.proofs.lemmas.List.Elements.{All-nil, All-cons, All-head, All-tail}
 use Rattle.ring_theory.specs.Subsets.{products}
 use Rattle.ring_lemmas.specs.Ring.{Operations}
@@ -10,6 +10,18 @@ use Rattle.function_field.specs.Values.{ElemValue, PresValue, Functions, functio
 use Rattle.ff_falg.specs.Algebras.{IsVector}
 use Rattle.ff_falg.specs.Idempotents.{elements_of}
 use Rattle.ff_rr.specs.Listings.{function_at, AreVectorsOf}
+
+-- what holds of all members holds of one of them
+pub member_holds : {X : Type 0} (P : X → Type 0) (xs ys : List X) (i : ℕ) (x : X) → All P ys → xs ≡ ys
+    → i < length xs → x ≡ get_or xs i x → P x
+member_holds P xs ys i x h e l x_is = subst P (sym x_is) (subst (All P) (sym e) h i x l)
+
+-- what holds of all values holds of that of one member
+pub value_holds : {X Y : Type 0} (P : Y → Type 0) (f : X → Y) (xs ys : List X) (i : ℕ) (x : X) → All P (map f ys)
+    → xs ≡ ys → i < length xs → x ≡ get_or xs i x → P (f x)
+value_holds P f xs ys i x h e l x_is =
+    subst P (get_or-map f xs i x (f x) l ∙ ap f (sym x_is))
+    (subst (λ zs. All P (map f zs)) (sym e) h i (f x) (subst (λ n. i < n) (sym (length-map xs f)) l))
 
 pub map_join : {X Y : Type 0} (f : X → Y) (xs ys : List X) → map f (xs ++ ys) ≡ map f xs ++ map f ys
 map_join f [] ys = refl
@@ -71,6 +83,15 @@ module _ (k : CodeField) (p : PresValue) (zs : List ElemValue) where
           ∙ ap (λ w. map ((functions k p).◌⊗◌ a) (map (function_of k p) (take i fs))
           ++ (functions k p).◌⊗◌ a (function_of k p w) ∷ []) (sym b_is)
 
+  -- the products by all functions
+  pub products_all : (a : Functions k p) (fs : List ElemValue) (i : ℕ) (gs : List (Functions k p)) (vs : List (List ℕ))
+      → fs ≡ zs → length fs ≤ i
+      → AreVectorsOf k p zs (gs ++ map ((functions k p).◌⊗◌ a) (map (function_of k p) (take i fs))) vs
+      → AreVectorsOf k p zs (gs ++ map ((functions k p).◌⊗◌ a) (map (function_of k p) zs)) vs
+  products_all a fs i gs vs fs_is l h =
+      subst (λ xs. AreVectorsOf k p zs (gs ++ map ((functions k p).◌⊗◌ a) (map (function_of k p) xs)) vs)
+      (take_all i fs l ∙ fs_is) h
+
   -- all products of the first functions and of one more
   pub table_more : (fs : List ElemValue) (i : ℕ) (a : ElemValue) (cs : List (Functions k p))
       → i < length fs → a ≡ get_or fs i a
@@ -83,3 +104,15 @@ module _ (k : CodeField) (p : PresValue) (zs : List ElemValue) where
       ∙ products_more (functions k p).ops (map (function_of k p) (take i fs)) cs (function_of k p (get_or fs i a))
       ∙ ap (λ w. products (functions k p).ops (map (function_of k p) (take i fs)) cs
       ++ map ((functions k p).◌⊗◌ (function_of k p w)) cs) (sym a_is)
+
+  -- the products of one function more by all
+  pub table_step : (fs : List ElemValue) (i : ℕ) (a : ElemValue) (old new : List (List ℕ)) → i < length fs
+      → a ≡ get_or fs i a
+      → AreVectorsOf k p zs
+      (products (functions k p).ops (map (function_of k p) (take i fs)) (map (function_of k p) zs)) old
+      → ((gs : List (Functions k p)) → AreVectorsOf k p zs gs old
+      → AreVectorsOf k p zs (gs ++ map ((functions k p).◌⊗◌ (function_of k p a)) (map (function_of k p) zs)) new)
+      → AreVectorsOf k p zs
+      (products (functions k p).ops (map (function_of k p) (take (i + 1) fs)) (map (function_of k p) zs)) new
+  table_step fs i a old new less a_is h more =
+      subst (λ gs. AreVectorsOf k p zs gs new) (sym (table_more fs i a (map (function_of k p) zs) less a_is)) (more _ h)
