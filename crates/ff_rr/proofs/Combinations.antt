@@ -6,9 +6,10 @@ use Rattle.ff_fields.specs.Field.{CodeField}
 use Rattle.ff_fields.specs.Over.{IsOver_nil, IsOver_cons}
 use Rattle.ff_poly.specs.Words.{poly_of}
 use Rattle.ff_poly.specs.Value.{value}
-use Rattle.ff_poly.specs.Polynomials.{value_nil}
+use Rattle.ff_poly.specs.Polynomials.{value_nil, value_one}
 use Rattle.function_field.specs.Functions.{of_poly}
 use Rattle.function_field.proofs.OnSide.{of_poly_zero}
+use Rattle.function_field.proofs.ScalarRings.{of_poly_one}
 use Rattle.ff_lattice.proofs.Spaces.{value_poly_of}
 use Rattle.function_field.specs.Infinity.{constant}
 use Rattle.function_field.specs.Spans.{combination}
@@ -64,6 +65,13 @@ module _ (k : CodeField) (p : PresValue) where
   function_none z a n a_is n_is is =
       is p (sym n_is) ∙ ap (λ l. of_poly (equation_of k p) (value k l)) a_is
       ∙ ap (of_poly (equation_of k p)) (value_nil k) ∙ sym (of_poly_zero (equation_of k p))
+
+  -- 1
+  pub function_one : (z : ElemValue) (a : List ℕ) (n : ℕ) → a ≡ 1 ∷ [] → n ≡ p.n → IsOfPolynomial z a n
+      → function_of k p z ≡ (functions k p).𝟙
+  function_one z a n a_is n_is is =
+      is p (sym n_is) ∙ ap (λ l. of_poly (equation_of k p) (value k l)) a_is
+      ∙ ap (of_poly (equation_of k p)) (value_one k) ∙ sym (of_poly_one (equation_of k p))
 
   -- one term more
   pub function_step : (zs : List ElemValue) (v : List ℕ) (i : ℕ) (z sum term more : ElemValue) → length v ≡ length zs

@@ -3,12 +3,15 @@ use Rattle.std.proofs.Common.{◌≡◌, ℕ, ◌+◌, ◌<◌, ◌≤◌, List,
 use Rattle.std.specs.Global.{Vec}
 use Rattle.std.proofs.lemmas.List.{take_more, take_all, get_or-map, length-map}
 use Rattle.std.proofs.lemmas.List.Elements.{All-nil, All-cons, All-head, All-tail}
-use Rattle.ring_theory.specs.Subsets.{products}
+use Rattle.ring_theory.specs.Subsets.{IsSubring, products}
 use Rattle.ring_lemmas.specs.Ring.{Operations}
 use Rattle.ff_fields.specs.Field.{CodeField}
-use Rattle.function_field.specs.Values.{ElemValue, PresValue, Functions, functions, function_of}
+use Rattle.function_field.specs.Divisors.{IsConstant}
+use Rattle.function_field.specs.Values.{ElemValue, PresValue, Functions, functions, function_of, equation_of, setting}
 use Rattle.ff_falg.specs.Algebras.{IsVector}
 use Rattle.ff_falg.specs.Idempotents.{elements_of}
+use Rattle.ff_structure.specs.Structures.{StructureValue}
+use Rattle.idempotents_theory.specs.Coordinates.{IsStructureOf}
 use Rattle.ff_rr.specs.Listings.{function_at, AreVectorsOf}
 
 -- what holds of all members holds of one of them
@@ -42,6 +45,20 @@ products_more R [] cs b = end (map (R.◌⊗◌ b) cs)
 products_more R (a ∷ bs) cs b =
     ap (λ xs. map (R.◌⊗◌ a) cs ++ xs) (products_more R bs cs b)
     ∙ sym (append_assoc (map (R.◌⊗◌ a) cs) (products R bs cs) (map (R.◌⊗◌ b) cs))
+
+module _ (k : CodeField) (p : PresValue) (ring : IsSubring (functions k p).ops (IsConstant (setting k p))) where
+  -- 1 and the products of constants
+  pub constant_one : (z : ElemValue) → function_of k p z ≡ (functions k p).𝟙
+      → IsConstant (setting k p) (function_of k p z)
+  constant_one z is = subst (IsConstant (setting k p)) (sym is) ring.one_in
+
+  pub constant_product : (z a b : ElemValue)
+      → function_of k p z ≡ (functions k p).◌⊗◌ (function_of k p a) (function_of k p b)
+      → IsConstant (setting k p) (function_of k p a) → IsConstant (setting k p) (function_of k p b)
+      → IsConstant (setting k p) (function_of k p z)
+  constant_product z a b is a_in b_in =
+      subst (IsConstant (setting k p)) (sym is)
+      (ring.product_in (function_of k p a) (function_of k p b) a_in b_in)
 
 module _ (k : CodeField) (p : PresValue) (zs : List ElemValue) where
   pub vectors_none : AreVectorsOf k p zs [] []
@@ -116,3 +133,20 @@ module _ (k : CodeField) (p : PresValue) (zs : List ElemValue) where
       (products (functions k p).ops (map (function_of k p) (take (i + 1) fs)) (map (function_of k p) zs)) new
   table_step fs i a old new less a_is h more =
       subst (λ gs. AreVectorsOf k p zs gs new) (sym (table_more fs i a (map (function_of k p) zs) less a_is)) (more _ h)
+
+  -- the coordinates of 1 and of all products are a structure
+  pub structure_is : (s : StructureValue) (unit : List ℕ) (table : List (List ℕ)) (one : ElemValue)
+      → s ≡ record { one = unit; table = table } → IsVector k.ops (length zs) unit
+      → function_at k p zs unit ≡ function_of k p one → function_of k p one ≡ (functions k p).𝟙
+      → AreVectorsOf k p zs
+      (products (functions k p).ops (map (function_of k p) zs) (map (function_of k p) zs)) table
+      → IsStructureOf (equation_of k p) (map (function_of k p) zs) s
+  structure_is s unit table one s_is vector is one_is h =
+      subst (λ (t : StructureValue). IsStructureOf (equation_of k p) (map (function_of k p) zs) t) (sym s_is)
+      (record {
+        one_in = subst (λ n. IsVector k.ops n unit) (sym (length-map zs (function_of k p))) vector;
+        one_is = is ∙ one_is;
+        products_in =
+            subst (λ n. All (IsVector k.ops n) table) (sym (length-map zs (function_of k p))) h.in_range;
+        products_are = h.are;
+      })

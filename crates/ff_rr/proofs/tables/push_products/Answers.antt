@@ -2,7 +2,7 @@ use Rattle.std.proofs.Common.{◌∙◌, ap, subst, sym, List}
 use Rattle.function_field.specs.Divisors.{IsConstant}
 use Rattle.function_field.specs.Values.{IsElem, functions, function_of, setting}
 use Rattle.ff_falg.specs.Idempotents.{elements_of}
-use Rattle.ff_rr.proofs.TableVectors.{member_holds, value_holds, products_push, products_all}
+use Rattle.ff_rr.proofs.TableVectors.{constant_product, member_holds, value_holds, products_push, products_all}
 use Rattle.ff_rr.proofs.tables.push_products.Goals as goal
 
 pub mul-requires-clause-b_in : goal.mul-requires-clause-b_in
@@ -15,11 +15,11 @@ pub constant_coordinates-requires-clause-constant : goal.constant_coordinates-re
 constant_coordinates-requires-clause-constant g c =
     let k = g.K.SmallField.field c.args.k.now in
     let p = c.args.p.now in
-    subst (IsConstant (setting k p)) (sym c.in_ok-product.ensures.product)
-    (c.requires.ring.product_in (function_of k p c.args.a.now) (function_of k p c.b-item.result) c.requires.constant
+    constant_product k p c.requires.ring c.in_ok-product.product c.args.a.now c.b-item.result
+    c.in_ok-product.ensures.product c.requires.constant
     (value_holds (IsConstant (setting k p)) (function_of k p) c.functions-functions.result.now c.args.s.now.functions
     c.loop-b.b-index c.b-item.result c.requires.basis.members c.functions-functions.ensures c.loop-b-test.true
-    c.b-item.is))
+    c.b-item.is)
 
 pub loop-b-preserved : goal.loop-b-preserved
 loop-b-preserved g c =
