@@ -1,6 +1,6 @@
 //! The idempotents of a function field as they are listed.
 
-ghost use Rattle.std.specs.Prelude.{◌≡◌, ◌↔◌, [], length, map, All, IfOk, OnOk};
+ghost use Rattle.std.specs.Prelude.{◌≡◌, ◌≤◌, ◌↔◌, [], length, map, All, IfOk, OnOk};
 ghost use Rattle.std.specs.List.{Any};
 ghost use Rattle.ring_lemmas.specs.Ring.{IsField};
 ghost use Rattle.function_field.specs.Values.{IsPresOver, IsElem, Functions, functions};
@@ -49,6 +49,7 @@ fn listed<K: SmallField>(
     vectors: &[Vec<u32>],
 ) -> Result<Vec<Written>, AllocError>
     requires p_in { IsPresOver (K.field k.now).ops p.now }
+    requires positive { 1 ≤ p.now.n }
     requires elements { All (IsElem (K.field k.now).ops p.now.n) functions.now }
     requires vectors { All (IsVector (K.field k.now).ops (length functions.now)) (elements_of vectors.now) }
     ensures { let k = K.field k.now in
