@@ -1,5 +1,5 @@
 -- Sums of functions times codes, one more at a time.
-use Rattle.std.proofs.Common.{◌≡◌, ℕ, zero, suc, ◌+◌, ◌<◌, List, [], ◌∷◌, length, get_or, map, take, refl, sym, ◌∙◌, ap, ap₂, subst, arith, add-one}
+use Rattle.std.proofs.Common.{◌≡◌, ℕ, zero, suc, ◌+◌, ◌<◌, List, [], ◌∷◌, length, get_or, map, take, sym, ◌∙◌, ap, ap₂, subst, arith, add-one}
 use Rattle.ring_lemmas.specs.Ring.{CommRing}
 use Rattle.ring_lemmas.proofs.Ring.{zero_add}
 use Rattle.ff_fields.specs.Field.{CodeField}
@@ -13,7 +13,7 @@ use Rattle.function_field.proofs.ScalarRings.{of_poly_one}
 use Rattle.ff_lattice.proofs.Spaces.{value_poly_of}
 use Rattle.function_field.specs.Infinity.{constant}
 use Rattle.function_field.specs.Spans.{combination}
-use Rattle.function_field.specs.Values.{ElemValue, PresValue, Functions, functions, function_of, equation_of}
+use Rattle.function_field.specs.Values.{ElemValue, PresValue, functions, function_of, equation_of}
 use Rattle.ff_rr.specs.Listings.{function_at}
 
 module _ {E : Type 0} (R : CommRing E) where

@@ -12,7 +12,7 @@ use Rattle.function_field.specs.Functions.{Equation, FunctionOf, ring_of}
 use Rattle.function_field.specs.Values.{Functions, functions, function_of, equation_of}
 use Rattle.trace_theory.proofs.Reduced.{field_iff}
 use Rattle.lattice_theory.proofs.Lattices.{span_decided}
-use Rattle.constants_theory.specs.Idempotents.{IsProperIdempotent, IsProperIdempotentOf}
+use Rattle.constants_theory.specs.Idempotents.{IsProperIdempotent}
 use Rattle.value_theory.proofs.InfiniteLattices.{finite_disc}
 use Rattle.ff_falg.specs.Algebras.{IsVector}
 use Rattle.ff_structure.specs.Structures.{StructureValue, structure_algebra}

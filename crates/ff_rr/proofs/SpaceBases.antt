@@ -1,5 +1,5 @@
 -- Two bases over k of one space of functions have the same length.
-use Rattle.std.proofs.Common.{◌≡◌, ℕ, zero, suc, ◌<◌, List, [], ◌∷◌, length, map, refl, sym, ◌∙◌, ap, ap₂, subst, arith, All}
+use Rattle.std.proofs.Common.{◌≡◌, ℕ, zero, suc, ◌<◌, List, [], ◌∷◌, length, map, refl, sym, ◌∙◌, ap, ap₂, arith, All}
 use Rattle.std.proofs.lemmas.List.{length-map}
 use Rattle.std.proofs.lemmas.List.Elements.{All-nil, All-cons, All-head, All-tail}
 use Rattle.ring_lemmas.specs.Lists.{coeff_of}
@@ -17,7 +17,7 @@ use Rattle.linear_theory.proofs.Elimination.{length_tabulate}
 use Rattle.ff_fields.specs.Field.{CodeField}
 use Rattle.ff_fields.specs.Code.{Code, code_ring}
 use Rattle.ff_poly.specs.Polynomials.{Polynomial, polynomials, polynomials_domain}
-use Rattle.function_field.specs.Functions.{Equation, FunctionOf, ring_of, setting_of, of_poly, IsCode}
+use Rattle.function_field.specs.Functions.{Equation, FunctionOf, ring_of, setting_of, IsCode}
 use Rattle.function_field.specs.Divisors.{IsSpaceBasis}
 use Rattle.function_field.specs.Indices.{space_ops}
 use Rattle.function_field.specs.Spans.{combination}

@@ -1,5 +1,5 @@
 -- Vectors with the coordinates of functions, one more and those of products.
-use Rattle.std.proofs.Common.{◌≡◌, ℕ, ◌+◌, ◌<◌, ◌≤◌, List, [], ◌∷◌, ◌++◌, length, get_or, map, take, refl, sym, ◌∙◌, ap, ap₂, subst, arith, append_assoc, All}
+use Rattle.std.proofs.Common.{◌≡◌, ℕ, ◌+◌, ◌<◌, ◌≤◌, List, [], ◌∷◌, ◌++◌, length, get_or, map, take, refl, sym, ◌∙◌, ap, ap₂, subst, append_assoc, All}
 use Rattle.std.specs.Global.{Vec}
 use Rattle.std.proofs.lemmas.List.{take_more, take_all, get_or-map, length-map}
 use Rattle.std.proofs.lemmas.List.Elements.{All-nil, All-cons, All-head, All-tail}
@@ -73,14 +73,14 @@ module _ (k : CodeField) (p : PresValue) (zs : List ElemValue) where
   }
 
   -- the products of a by one function more
-  pub products_push : (a : Functions k p) (fs : List ElemValue) (i : ℕ) (b : ElemValue) (old new : List (Vec ℕ)) (v : Vec ℕ)
-      (gs : List (Functions k p)) → i < length fs → b ≡ get_or fs i b → new ≡ old ++ v ∷ []
-      → IsVector k.ops (length zs) v.items
-      → function_at k p zs v.items ≡ (functions k p).◌⊗◌ a (function_of k p b)
+  pub products_push : (a : Functions k p) (fs : List ElemValue) (i : ℕ) (b w : ElemValue) (old new : List (Vec ℕ))
+      (v : Vec ℕ) (gs : List (Functions k p)) → i < length fs → b ≡ get_or fs i b → new ≡ old ++ v ∷ []
+      → IsVector k.ops (length zs) v.items → function_at k p zs v.items ≡ function_of k p w
+      → function_of k p w ≡ (functions k p).◌⊗◌ a (function_of k p b)
       → AreVectorsOf k p zs (gs ++ map ((functions k p).◌⊗◌ a) (map (function_of k p) (take i fs))) (elements_of old)
       → AreVectorsOf k p zs (gs ++ map ((functions k p).◌⊗◌ a) (map (function_of k p) (take (i + 1) fs)))
       (elements_of new)
-  products_push a fs i b old new v gs less b_is new_is vector is h =
+  products_push a fs i b w old new v gs less b_is new_is vector is w_is h =
       subst (λ ws. AreVectorsOf k p zs (gs ++ map ((functions k p).◌⊗◌ a) (map (function_of k p) (take (i + 1) fs))) ws)
       (sym (map_join (λ (w : Vec ℕ). w.items) old (v ∷ [])) ∙ sym (ap elements_of new_is))
       (subst (λ hs. AreVectorsOf k p zs hs (elements_of old ++ v.items ∷ []))
@@ -88,7 +88,7 @@ module _ (k : CodeField) (p : PresValue) (zs : List ElemValue) where
       ((functions k p).◌⊗◌ a (function_of k p b) ∷ [])
       ∙ ap (λ xs. gs ++ xs) (sym more))
       (vectors_push (gs ++ map ((functions k p).◌⊗◌ a) (map (function_of k p) (take i fs))) (elements_of old)
-      ((functions k p).◌⊗◌ a (function_of k p b)) v.items h vector is))
+      ((functions k p).◌⊗◌ a (function_of k p b)) v.items h vector (is ∙ w_is)))
     where
       more : map ((functions k p).◌⊗◌ a) (map (function_of k p) (take (i + 1) fs))
           ≡ map ((functions k p).◌⊗◌ a) (map (function_of k p) (take i fs))

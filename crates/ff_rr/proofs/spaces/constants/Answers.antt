@@ -1,11 +1,9 @@
-use Rattle.std.proofs.Common.{◌≡◌, ◌∙◌, sym, ap, ap₂, subst, All}
-use Rattle.ff_fields.specs.Field.{CodeField}
+use Rattle.std.proofs.Common.{◌∙◌, sym, ap, subst, All}
 use Rattle.ff_poly.specs.Polynomials.{x_poly}
 use Rattle.function_field.specs.Curves.{CurveValue}
-use Rattle.function_field.specs.Values.{PresValue, ElemValue, IsElem, equation_of}
+use Rattle.function_field.specs.Values.{PresValue, IsElem, equation_of}
 use Rattle.infinite_theory.specs.Supported.{IsSupportedAt}
 use Rattle.ff_lattice.specs.Lattices.{LatticeValue, Contains}
-use Rattle.ff_rr.specs.Frames.{FrameValue}
 use Rattle.ff_rr.proofs.FrameSets.{frame_tame}
 use Rattle.ff_rr.proofs.MadeConstants.{constants_of_equals}
 use Rattle.ff_rr.proofs.spaces.constants.Goals as goal

@@ -1,4 +1,4 @@
-use Rattle.std.proofs.Common.{subst, sym}
+use Rattle.std.proofs.Common.{subst}
 use Rattle.function_field.specs.Values.{IsElem}
 use Rattle.ff_rr.proofs.Combinations.{function_none, function_step}
 use Rattle.ff_rr.proofs.sums.combination.Goals as goal

@@ -1,6 +1,5 @@
-use Rattle.std.proofs.Common.{◌∙◌, ap, subst, sym, List}
 use Rattle.function_field.specs.Divisors.{IsConstant}
-use Rattle.function_field.specs.Values.{IsElem, functions, function_of, setting}
+use Rattle.function_field.specs.Values.{IsElem, function_of, setting}
 use Rattle.ff_falg.specs.Idempotents.{elements_of}
 use Rattle.ff_rr.proofs.TableVectors.{constant_product, member_holds, value_holds, products_push, products_all}
 use Rattle.ff_rr.proofs.tables.push_products.Goals as goal
@@ -27,9 +26,10 @@ loop-b-preserved g c =
     let p = c.args.p.now in
     λ gs h.
     products_push k p c.args.s.now.functions (function_of k p c.args.a.now) c.functions-functions.result.now
-    c.loop-b.b-index c.b-item.result c.loop-b.table.items c.push.new.self.items c.in_ok-constant_coordinates.field-0
+    c.loop-b.b-index c.b-item.result c.in_ok-product.product c.loop-b.table.items c.push.new.self.items
+    c.in_ok-constant_coordinates.field-0
     gs c.loop-b-test.true c.b-item.is c.in_ok-push.ensures.items c.in_ok-constant_coordinates.ensures.vector
-    (c.in_ok-constant_coordinates.ensures.is ∙ c.in_ok-product.ensures.product) (c.loop-b.invariant gs h)
+    c.in_ok-constant_coordinates.ensures.is c.in_ok-product.ensures.product (c.loop-b.invariant gs h)
 
 pub returns : goal.returns
 returns g c =

@@ -1,4 +1,3 @@
-use Rattle.function_field.specs.Values.{functions, function_of}
 use Rattle.ff_falg.specs.Idempotents.{elements_of}
 use Rattle.ff_rr.proofs.Combinations.{function_one}
 use Rattle.ff_rr.proofs.TableVectors.{constant_one, structure_is}
