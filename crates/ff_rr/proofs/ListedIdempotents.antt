@@ -81,8 +81,8 @@ module _ (k : CodeField) (f : FrameValue) (h : IsFrame k f) (s : SpaceBasisValue
     (each : (v : List ℕ) → In v vs → IsProperIdempotentVector k.ops (structure_algebra st) v) where
   same : HaveSameIdempotents (equation_of k f.curve.fin) (map (function_of k f.curve.fin) s.space.functions) st
   same =
-      same_idempotents (equation_of k f.curve.fin) (frame_disc k f h) (map (function_of k f.curve.fin) s.space.functions)
-      c.basis st is
+      same_idempotents (equation_of k f.curve.fin) (frame_disc k f h)
+      (map (function_of k f.curve.fin) s.space.functions) c.basis st is
 
   -- the vectors have one code for each function
   pub vectors_in : All (IsVector k.ops (length s.space.functions)) vs
@@ -101,7 +101,8 @@ module _ (k : CodeField) (f : FrameValue) (h : IsFrame k f) (s : SpaceBasisValue
       where
         proper : (v : List ℕ) → In v vs
             → IsProperIdempotent k f.curve.fin (function_at k f.curve.fin s.space.functions v)
-        proper v m = (same.members v (subst (λ n. IsVector k.ops n v) is.one_in.size (each v m).idempotent.vector)).0 (each v m)
+        proper v m =
+            (same.members v (subst (λ n. IsVector k.ops n v) is.one_in.size (each v m).idempotent.vector)).0 (each v m)
 
         get : All (Writes k f.curve.fin (IsProperIdempotent k f.curve.fin)) zs
         get =

@@ -53,7 +53,8 @@ module _ {k : CodeField} (c : Equation k) where
   all_zero : (n : ℕ) (f : ℕ → Code k) → All (λ z. z ≡ 𝟘) (map (code_of c) (tabulate n f)) → (i : ℕ) → i < n
       → f i ≡ (code_ring k).𝟘
   all_zero zero f h i l = absurd (omega arith)
-  all_zero (suc n) f h zero l = code_zero (f 0) (All-head (λ z. z ≡ 𝟘) _ (map (code_of c) (tabulate n (λ i. f (suc i)))) h)
+  all_zero (suc n) f h zero l =
+      code_zero (f 0) (All-head (λ z. z ≡ 𝟘) _ (map (code_of c) (tabulate n (λ i. f (suc i)))) h)
   all_zero (suc n) f h (suc i) l =
       all_zero n (λ i. f (suc i)) (All-tail (λ z. z ≡ 𝟘) _ (map (code_of c) (tabulate n (λ i. f (suc i)))) h) i
       (omega arith)

@@ -89,7 +89,8 @@ module _ (k : CodeField) (p : PresValue) where
           ∙ ap (map (function_at k p bs)) (map_join (λ (w : Vec ℕ). w.items) (take i vs) (get_or vs i v ∷ []))
           ∙ map_join (function_at k p bs) (elements_of (take i vs)) ((get_or vs i v).items ∷ [])
           ∙ ap (λ g. map (function_at k p bs) (elements_of (take i vs)) ++ g ∷ [])
-          (ap (λ (w : Vec ℕ). function_at k p bs w.items) (sym v_is) ∙ ap (function_at k p bs) (sym codes_is) ∙ sym f_is)
+          (ap (λ (w : Vec ℕ). function_at k p bs w.items) (sym v_is) ∙ ap (function_at k p bs) (sym codes_is)
+          ∙ sym f_is)
 
   -- what holds of the functions holds of the one that a member writes
   module _ (P : Functions k p → Type 0) where

@@ -67,8 +67,8 @@ fn listed<K: SmallField>(
 
 /// All idempotents of the function field other than 0 and 1 as they are written, by the bytes of their texts, where the
 /// constants are given, in which they lie. There is none exactly where it is a field. It takes, for a dimension of m of
-/// the constants, m² products of elements with their coordinates, the idempotents of an algebra of m dimensions, and for
-/// each that is listed m products of elements and the factors of a denominator.
+/// the constants, m² products of elements with their coordinates, the idempotents of an algebra of m dimensions, and
+/// for each that is listed m products of elements and the factors of a denominator.
 pub fn idempotents_of<K: SmallField>(
     alloc: Global,
     k: &K,

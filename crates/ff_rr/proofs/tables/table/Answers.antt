@@ -9,7 +9,8 @@ push_products-requires-clause-constant g c =
     let k = g.K.SmallField.field c.args.k.now in
     let p = c.args.p.now in
     value_holds (IsConstant (setting k p)) (function_of k p) c.functions-functions.result.now c.args.s.now.functions
-    c.loop-a.a-index c.a-item.result c.requires.basis.members c.functions-functions.ensures c.loop-a-test.true c.a-item.is
+    c.loop-a.a-index c.a-item.result c.requires.basis.members c.functions-functions.ensures c.loop-a-test.true
+    c.a-item.is
 
 pub loop-a-preserved : goal.loop-a-preserved
 loop-a-preserved g c =
