@@ -61,9 +61,6 @@ module _ (k : CodeField) (p : PresValue) (ring : IsSubring (functions k p).ops (
       (ring.product_in (function_of k p a) (function_of k p b) a_in b_in)
 
 module _ (k : CodeField) (p : PresValue) (zs : List ElemValue) where
-  pub vectors_none : AreVectorsOf k p zs [] []
-  vectors_none = record { in_range = All-nil (IsVector k.ops (length zs)); are = refl }
-
   pub vectors_push : (gs : List (Functions k p)) (vs : List (List ℕ)) (g : Functions k p) (v : List ℕ)
       → AreVectorsOf k p zs gs vs → IsVector k.ops (length zs) v → function_at k p zs v ≡ g
       → AreVectorsOf k p zs (gs ++ g ∷ []) (vs ++ v ∷ [])

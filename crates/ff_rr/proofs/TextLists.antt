@@ -5,7 +5,7 @@ use Rattle.std.proofs.lemmas.List.{take_more}
 use Rattle.std.specs.List.{insert, Any, AllZip}
 use Rattle.std.specs.List.Sorted.{IsPermutation}
 use Rattle.std.proofs.lemmas.List.Elements.{All-nil, All-cons, All-head, All-tail}
-use Rattle.std.proofs.lemmas.List.Sorted.{IsPermutation-refl, IsPermutation-push_more, IsPermutation-insert, All-permutation, Contains-permutation}
+use Rattle.std.proofs.lemmas.List.Sorted.{IsPermutation-push_more, IsPermutation-insert, All-permutation, Contains-permutation}
 use Rattle.ring_theory.specs.Members.{In}
 use Rattle.ff_fields.specs.Field.{CodeField}
 use Rattle.function_field.specs.Values.{ElemValue, PresValue, Functions}
@@ -46,14 +46,6 @@ any_tail : {X : Type 0} (P : X → Type 0) (x : X) (xs : List X) → Any P xs �
 any_tail P x xs h = (suc h.0, h.1, omega arith, h.3, h.4)
 
 module _ (k : CodeField) (p : PresValue) where
-  pub listed_none : AreListed k p [] []
-  listed_none = record {
-    in_turn = [];
-    written = tt;
-    same = IsPermutation-refl [];
-    ascending = λ i j d l within. absurd (omega arith);
-  }
-
   zip_push : (fs : List (Functions k p)) (zs : List WrittenValue) (f : Functions k p) (z : WrittenValue)
       → AllZip (IsWritten k p) fs zs → IsWritten k p f z → AllZip (IsWritten k p) (fs ++ f ∷ []) (zs ++ z ∷ [])
   zip_push [] [] f z h r = (r, tt)
