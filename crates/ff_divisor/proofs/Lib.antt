@@ -1,3 +1,4 @@
 pub mod Integers
 pub mod FormalSums
 pub mod Multiplicities
+pub mod Searches
