@@ -15,7 +15,7 @@ pub *ℤ-sum : (m a b : ℤ) → m *ℤ (a +ℤ b) ≡ m *ℤ a +ℤ m *ℤ b
     let all = pred_ℤ-*ℤ (pos zero) (a +ℤ b) in
     let left = pred_ℤ-*ℤ (pos zero) a in
     let right = pred_ℤ-*ℤ (pos zero) b in
-    let rest = *ℤ-sum (pos zero) a b in omega (arith, ints)
+    omega (arith, ints, zero-*ℤ (a +ℤ b), zero-*ℤ a, zero-*ℤ b)
 *ℤ-sum (negsuc (suc n)) a b =
     let all = pred_ℤ-*ℤ (negsuc n) (a +ℤ b) in
     let left = pred_ℤ-*ℤ (negsuc n) a in

@@ -35,7 +35,7 @@ impl Divisor {
         ensures formal { IfOk result IsFormalSum }
     {
         let mut sorted = list.to_vec(alloc)?;
-        sorted.sort_unstable();
+        sorted.sort_unstable_by_key(|e| e.0);
         let mut sums = Vec::new(alloc);
         let mut run = (0, 0);
         for i in 0..sorted.len() {

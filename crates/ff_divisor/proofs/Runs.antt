@@ -1,0 +1,1 @@
+-- Sums of runs of entries of one place, in a list that is sorted by place.
