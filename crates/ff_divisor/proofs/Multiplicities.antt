@@ -1,5 +1,5 @@
 -- Multiplicities of lists, and that a function of the place has one formal sum.
-use Rattle.std.proofs.Common.{◌≡◌, ◌≢◌, ℕ, zero, suc, ◌+◌, ◌<◌, ◌≤◌, eqb, cond, ◌⊎◌, inl, inr, ℤ, pos, negsuc, ◌+ℤ◌, ◌-ℤ◌, List, [], ◌∷◌, ◌++◌, length, take, drop, get_or, All, sum_by, IsPermutation, refl, sym, ap, ap₂, ◌∙◌, arith}
+use Rattle.std.proofs.Common.{◌≡◌, ◌≢◌, ℕ, zero, suc, ◌+◌, ◌<◌, ◌≤◌, eqb, cond, ◌⊎◌, inl, inr, ℤ, pos, negsuc, ◌+ℤ◌, ◌-ℤ◌, List, [], ◌∷◌, ◌++◌, length, take, drop, get_or, All, sum_by, IsPermutation, refl, sym, ap, ap₂, subst, ◌∙◌, arith}
 use Rattle.std.proofs.lemmas.Int.{ints}
 use borrow.Author.Differences.{up, down}
 use Rattle.std.proofs.lemmas.Bool.Decides.{nat_tests}
@@ -138,3 +138,9 @@ one_form (x ∷ xs) (y ∷ ys) xs_formal ys_formal same =
         let first : x ≡ y = λ i. (place i, integer i) in
         ap₂ (λ e es. e ∷ es) first
         (rest (λ p. same_rest (share p x) _ (share p y) _ (same p) (ap (share p) first)))
+
+-- what holds of each multiplicity holds of the integers of a formal sum
+pub all_integers : (P : ℤ → Type 0) (es : List (ℕ × ℤ)) (k : ℕ) (d : ℕ × ℤ) → IsFormalSum es
+    → ((p : ℕ) → P (multiplicity p es)) → k < length es → P (get_or es k d).1
+all_integers P es k d formal h less =
+    subst P (multiplicity_at es k d formal less) (h (get_or es k d).0)
