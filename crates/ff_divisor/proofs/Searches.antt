@@ -1,5 +1,5 @@
 -- What a binary search by place finds in a formal sum.
-use Rattle.std.proofs.Common.{◌≡◌, ◌≢◌, ℕ, ◌<◌, ◌≤◌, ◌⊎◌, inl, inr, ℤ, pos, List, length, get_or, HoldsAt, refl, sym, ap, ◌∙◌, nat_cmp, Less, Equal, Greater, arith}
+use Rattle.std.proofs.Common.{◌≡◌, ℕ, ◌<◌, ◌≤◌, inl, inr, ℤ, pos, List, length, get_or, HoldsAt, sym, ap, ◌∙◌, nat_cmp, Less, Equal, Greater, arith}
 use Rattle.std.specs.List.Sorted.{IsNonDecreasingBy, IsPartitionPoint}
 use Rattle.std.specs.Ordering.{ordering_index}
 use Rattle.std.proofs.lemmas.Bool.Decides.{nat_tests}

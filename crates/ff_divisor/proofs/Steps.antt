@@ -1,15 +1,15 @@
 -- The steps of the loops that make sums and multiples.
-use Rattle.std.proofs.Common.{◌≡◌, ◌≢◌, ℕ, zero, suc, ◌+◌, ◌<◌, ◌≤◌, ◌⊎◌, inl, inr, ℤ, pos, ◌+ℤ◌, ◌*ℤ◌, List, [], ◌∷◌, ◌++◌, length, take, drop, get_or, All, refl, sym, ap, ap₂, ◌∙◌, arith}
+use Rattle.std.proofs.Common.{◌≡◌, ◌≢◌, ℕ, ◌+◌, ◌<◌, ◌≤◌, ◌⊎◌, inl, inr, ℤ, pos, ◌+ℤ◌, ◌*ℤ◌, List, [], ◌∷◌, ◌++◌, length, take, drop, get_or, All, refl, sym, ap, ap₂, ◌∙◌, arith}
 use Rattle.std.proofs.lemmas.Int.{ints}
 use Rattle.std.proofs.lemmas.Bool.Decides.{nat_tests}
 use Rattle.std.proofs.Math.IntN.{*ℤ-zero}
-use Rattle.std.proofs.lemmas.List.{drop_more, drop_all, take_more, take_all, get_or_read, append-nil}
+use Rattle.std.proofs.lemmas.List.{drop_more, drop_all, take_more}
 use Rattle.std.proofs.lemmas.List.Elements.{All-nil, All-cons, All-head, All-tail, All-weaker, All-append, All-same}
 use Rattle.ff_divisor.specs.FormalSums.{IsFormalSum, multiplicity}
 use Rattle.ff_divisor.specs.Steps.{entry_of, Precede, IsSumOf, IsMultipleOf}
 use Rattle.ff_divisor.proofs.Integers.{*ℤ-sum}
 use Rattle.ff_divisor.proofs.FormalSums.{formal_nil, formal_append, formal_drop, formal_later, formal_entry, entry_all, entry_some}
-use Rattle.ff_divisor.proofs.Multiplicities.{share, share_same, share_other, multiplicity-append, multiplicity-take-drop, multiplicity_entry}
+use Rattle.ff_divisor.proofs.Multiplicities.{share, multiplicity-append, multiplicity-take-drop, multiplicity_entry}
 
 -- ---- one entry more
 

@@ -1,5 +1,5 @@
 -- Formal sums of places: lists of a place number and an integer.
-use Rattle.std.specs.Prelude.{◌≡◌, ◌≢◌, ℕ, ◌<◌, ◌==◌, if◌then◌else◌, ℤ, pos, ◌+ℤ◌, List, [], ◌∷◌}
+use Rattle.std.specs.Prelude.{◌≢◌, ℕ, ◌<◌, ◌==◌, if◌then◌else◌, ℤ, pos, ◌+ℤ◌, List, [], ◌∷◌}
 use Rattle.std.specs.List.{All, AllPairs}
 
 -- the one form of a formal sum: place numbers strictly ascend, and no integer is 0

@@ -36,10 +36,11 @@ impl Divisor {
     {
         let mut sorted = list.to_vec(alloc)?;
         sorted.sort_unstable_by_key(|e| e.0);
+        let entries = sorted.as_slice();
         let mut sums = Vec::new(alloc);
         let mut run = (0, 0);
-        for i in 0..sorted.len() {
-            run = take_entry(&mut sums, run, sorted[i])?;
+        for i in 0..entries.len() {
+            run = take_entry(&mut sums, run, entries[i].0, entries[i].1)?;
         }
         push_entry(&mut sums, run.0, run.1 as i64)?;
         Ok(Divisor { list: sums })
@@ -139,18 +140,19 @@ fn push_entry(list: &mut Vec<(u32, i64)>, place: u32, m: i64) -> Result<(), Allo
 fn take_entry(
     sums: &mut Vec<(u32, i64)>,
     run: (u32, i128),
-    entry: (u32, i64),
+    place: u32,
+    m: i64,
 ) -> Result<(u32, i128), AllocError>
-    requires room { FitsSigned w128 (run.1 +ℤ entry.1) }
-    requires in_range { run.0 ≢ entry.0 → FitsSigned w64 run.1 }
-    ensures same { IfOk result (λ r. run.0 ≡ entry.0
-        → (r ≡ (run.0, run.1 +ℤ entry.1)) × (sums.new.items ≡ sums.old.items)) }
-    ensures other { IfOk result (λ r. run.0 ≢ entry.0
-        → (r ≡ entry) × (sums.new.items ≡ sums.old.items ++ entry_of run.0 run.1)) }
+    requires room { FitsSigned w128 (run.1 +ℤ m) }
+    requires in_range { run.0 ≢ place → FitsSigned w64 run.1 }
+    ensures same { IfOk result (λ r. run.0 ≡ place
+        → (r ≡ (place, run.1 +ℤ m)) × (sums.new.items ≡ sums.old.items)) }
+    ensures other { IfOk result (λ r. run.0 ≢ place
+        → (r ≡ (place, m)) × (sums.new.items ≡ sums.old.items ++ entry_of run.0 run.1)) }
 {
-    if run.0 == entry.0 {
-        return Ok((run.0, run.1 + i128::from(entry.1)));
+    if run.0 == place {
+        return Ok((place, run.1 + i128::from(m)));
     }
     push_entry(sums, run.0, run.1 as i64)?;
-    Ok((entry.0, i128::from(entry.1)))
+    Ok((place, i128::from(m)))
 }

@@ -1,4 +1,4 @@
-use Rattle.std.proofs.Common.{rules, ◌≡◌, ◌<◌, ◌≤◌, ◌-◌, ◌⊎◌, inl, inr, ◌+ℤ◌, ℕ, ℤ, pos, FitsSigned, List, ◌++◌, length, take, drop, get_or, w64, to_z, of_z, sym, ap, ap₂, subst, ◌∙◌, arith}
+use Rattle.std.proofs.Common.{rules, ◌≡◌, ◌<◌, ◌≤◌, ◌-◌, ◌⊎◌, inl, inr, ◌+ℤ◌, ℕ, ℤ, pos, FitsSigned, List, ◌++◌, length, take, drop, get_or, w64, to_z, of_z, ap, ap₂, subst, ◌∙◌, arith}
 use Rattle.std.proofs.lemmas.Int.{to_z-of_z}
 use Rattle.std.proofs.lemmas.List.{get_or_default, take_rest}
 use Rattle.ff_divisor.specs.FormalSums.{IsFormalSum, multiplicity}

@@ -1,4 +1,4 @@
-use Rattle.std.proofs.Common.{rules, ◌<◌, FitsSigned, length, w64, sym, ap, ◌∙◌}
+use Rattle.std.proofs.Common.{rules, ◌<◌, FitsSigned, length, w64, ap, ◌∙◌}
 use Rattle.std.proofs.lemmas.Int.{to_z-of_z}
 use Rattle.std.proofs.lemmas.List.Sorted.{answers_always}
 use Rattle.ff_divisor.specs.FormalSums.{multiplicity}

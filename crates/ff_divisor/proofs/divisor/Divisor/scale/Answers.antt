@@ -1,8 +1,7 @@
-use Rattle.std.proofs.Common.{rules, ◌≡◌, ◌<◌, ◌*ℤ◌, ℕ, ℤ, pos, FitsSigned, List, [], length, get_or, w64, to_z, of_z, sym, ap, subst, ◌∙◌, arith}
+use Rattle.std.proofs.Common.{rules, ◌≡◌, ◌<◌, ◌*ℤ◌, ℕ, ℤ, pos, FitsSigned, List, length, get_or, w64, to_z, of_z, ap, ◌∙◌}
 use Rattle.std.proofs.lemmas.Int.{to_z-of_z}
 use Rattle.std.proofs.lemmas.List.{get_or_default}
 use Rattle.ff_divisor.specs.FormalSums.{IsFormalSum, multiplicity}
-use Rattle.ff_divisor.specs.Steps.{IsMultipleOf}
 use Rattle.ff_divisor.proofs.Multiplicities.{all_integers}
 use Rattle.ff_divisor.proofs.Steps.{multiple_start, multiple_step}
 use Rattle.ff_divisor.proofs.divisor.Divisor.scale.Goals as goal
