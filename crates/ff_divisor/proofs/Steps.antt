@@ -135,8 +135,8 @@ module _ (a : List (ℕ × ℤ)) (i : ℕ) (b : List (ℕ × ℤ)) (j : ℕ) (su
         before_b = precede_push sum x.0 m (drop (j + 1) b) (precede_tail sum y (drop (j + 1) b) before_y) after_b;
         multiplicities = λ p.
             let shares : share p (x.0, m) ≡ share p x +ℤ share p y =
-                ap (λ z. share p (x.0, z)) m_is ∙ share-sum p x.0 x.1 y.1
-                ∙ ap (λ q. share p x +ℤ share p (q, y.1)) place in
+            ap (λ z. share p (x.0, z)) m_is ∙ share-sum p x.0 x.1 y.1
+            ∙ ap (λ q. share p x +ℤ share p (q, y.1)) place in
             regroup (multiplicity p (sum ++ entry_of x.0 m)) (multiplicity p sum) (share p (x.0, m)) (share p x) (share p y)
             (multiplicity p (take i a)) (multiplicity p (take (i + 1) a)) (multiplicity p (take j b))
             (multiplicity p (take (j + 1) b)) (multiplicity_push p sum x.0 m) shares (kept.multiplicities p)

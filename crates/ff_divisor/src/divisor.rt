@@ -8,7 +8,8 @@ ghost use Rattle.ff_divisor.specs.Steps.{entry_of};
 use std::alloc::{AllocError, Global};
 use std::marker::Model;
 
-/// A divisor: place numbers, strictly ascending, each with an integer that isn't 0.
+/// A divisor, a formal sum of places with integers (Stichtenoth, Algebraic Function Fields and Codes, section 1.4): the
+/// places by their numbers, strictly ascending, each with an integer that isn't 0.
 #[derive(Debug, Drop)]
 pub struct Divisor {
     list: Vec<(u32, i64)>,
@@ -27,8 +28,8 @@ impl Model for Divisor {
 
 impl Divisor {
     /// The divisor of a list in any order, in which places may repeat: the multiplicity at a place is the sum of the
-    /// integers that stand with it, and a place with the sum 0 is left out. Only these sums have to fit; what is added
-    /// up on the way may leave i64. It takes the time of a sort.
+    /// integers that stand with it, and a place with the sum 0 is left out. These sums have to lie in i64; the sum of a
+    /// part of the integers needn't. It fails only for want of memory. It takes the time of a sort.
     pub fn from_list(alloc: Global, list: &[(u32, i64)]) -> Result<Divisor, AllocError>
         requires in_range { (p : ℕ) → FitsSigned w64 (multiplicity p list.now) }
         ensures multiplicities { IfOk result (λ d. (p : ℕ) → multiplicity p d ≡ multiplicity p list.now) }
@@ -46,7 +47,8 @@ impl Divisor {
         Ok(Divisor { list: sums })
     }
 
-    /// The sum: the multiplicities at each place are added. It takes time in the number of entries of both.
+    /// The sum of two divisors: the multiplicities at each place are added, and these sums have to lie in i64. It fails
+    /// only for want of memory. It takes time in the number of entries of both.
     pub fn add(&self, alloc: Global, other: &Divisor) -> Result<Divisor, AllocError>
         requires in_range { (p : ℕ) → FitsSigned w64 (multiplicity p self.now +ℤ multiplicity p other.now) }
         ensures multiplicities { IfOk result (λ d. (p : ℕ) →
@@ -75,7 +77,8 @@ impl Divisor {
         Ok(Divisor { list: sum })
     }
 
-    /// The multiple by m: the multiplicity at each place is multiplied by m. It takes time in the number of entries.
+    /// The multiple by m: the multiplicity at each place is multiplied by m, and these products have to lie in i64. It
+    /// fails only for want of memory. It takes time in the number of entries.
     pub fn scale(&self, alloc: Global, m: i64) -> Result<Divisor, AllocError>
         requires in_range { (p : ℕ) → FitsSigned w64 (m *ℤ multiplicity p self.now) }
         ensures multiplicities { IfOk result (λ d. (p : ℕ) → multiplicity p d ≡ m *ℤ multiplicity p self.now) }
@@ -89,7 +92,8 @@ impl Divisor {
         Ok(Divisor { list: multiple })
     }
 
-    /// The negative: the multiplicity at each place with the other sign. It takes time in the number of entries.
+    /// The negative: each multiplicity with the other sign, so none may be the least number of i64. It fails only for
+    /// want of memory. It takes time in the number of entries.
     pub fn neg(&self, alloc: Global) -> Result<Divisor, AllocError>
         requires in_range { (p : ℕ) → FitsSigned w64 (neg_ℤ (multiplicity p self.now)) }
         ensures multiplicities { IfOk result (λ d. (p : ℕ) → multiplicity p d ≡ neg_ℤ (multiplicity p self.now)) }
@@ -98,7 +102,8 @@ impl Divisor {
         self.scale(alloc, -1)
     }
 
-    /// The integer at a place: 0 where the place has no entry. It is found by a binary search. No memory is taken.
+    /// The multiplicity at the place with this number, which is 0 where the place has no entry. It takes the time of a
+    /// binary search. No memory is taken.
     pub fn multiplicity(&self, place: u32) -> i64
         ensures { result ≡ multiplicity place self.now }
     {
@@ -108,7 +113,7 @@ impl Divisor {
         }
     }
 
-    /// The place numbers, ascending, with their integers, none of which is 0. No memory is taken.
+    /// The places by their numbers, strictly ascending, with their multiplicities, none of which is 0. No memory is taken.
     pub fn entries(&self) -> &[(u32, i64)]
         ensures list { result.now ≡ self.now }
         ensures formal { IsFormalSum self.now }
@@ -116,7 +121,7 @@ impl Divisor {
         self.list.as_slice()
     }
 
-    /// An equal divisor, in memory of its own.
+    /// An equal divisor, in memory of its own. It fails only for want of memory.
     pub fn copy(&self, alloc: Global) -> Result<Divisor, AllocError>
         ensures { IfOk result (λ d. d ≡ self.now) }
     {

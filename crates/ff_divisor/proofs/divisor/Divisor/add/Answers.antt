@@ -21,7 +21,7 @@ module _ (a b a_now b_now : List (ℕ × ℤ)) (i j : ℕ) (a_formal : IsFormalS
       let x = get_or a i (0, pos 0) in
       let y = get_or b j (0, pos 0) in
       let read : (p : ℕ) → FitsSigned w64 (multiplicity p a +ℤ multiplicity p b) =
-          λ p. rw (a_same, b_same) (in_range p) in
+      λ p. rw (a_same, b_same) (in_range p) in
       rw (to_z-of_z w64 x.1 x_fits, to_z-of_z w64 y.1 y_fits)
       (subst (FitsSigned w64) (ap₂ (λ u v. u +ℤ v) (multiplicity_at a i (0, pos 0) a_formal i_less)
       (ap (λ p. multiplicity p b) place ∙ multiplicity_at b j (0, pos 0) b_formal j_less)) (read x.0))
@@ -126,10 +126,10 @@ module _ (a b a_items b_items sum part all : List (ℕ × ℤ)) (i j : ℕ) (a_i
 pub invariant_of-result : goal.invariant_of-result
 invariant_of-result c =
     let ended : (length c.as_slice-a.result.now ≤ c.loop-i.i) ⊎ (length c.as_slice-b.result.now ≤ c.loop-i.j) =
-        elim c.loop-i-test.branch [
-          | then-loop-i-test+else-j-b w ↦ inr w.if-j-b.false
-          | else-loop-i-test w ↦ inl w.loop-i-test.false
-        ] in
+    elim c.loop-i-test.branch [
+      | then-loop-i-test+else-j-b w ↦ inr w.if-j-b.false
+      | else-loop-i-test w ↦ inl w.loop-i-test.false
+    ] in
     all_formal c.as_slice-a.result.now c.as_slice-b.result.now c.self.inside.list.items c.other.inside.list.items
     c.loop-i.sum.items c.extend_from_slice.new.self.items c.extend_from_slice-2.new.self.items c.loop-i.i c.loop-i.j
     c.as_slice-a.ensures.value c.as_slice-b.ensures.value c.self.invariant c.other.invariant c.loop-i.invariant.sum ended
@@ -138,10 +138,10 @@ invariant_of-result c =
 pub returns-clause-multiplicities : goal.returns-clause-multiplicities
 returns-clause-multiplicities c = λ p.
     let ended : (length c.as_slice-a.result.now ≤ c.loop-i.i) ⊎ (length c.as_slice-b.result.now ≤ c.loop-i.j) =
-        elim c.loop-i-test.branch [
-          | then-loop-i-test+else-j-b w ↦ inr w.if-j-b.false
-          | else-loop-i-test w ↦ inl w.loop-i-test.false
-        ] in
+    elim c.loop-i-test.branch [
+      | then-loop-i-test+else-j-b w ↦ inr w.if-j-b.false
+      | else-loop-i-test w ↦ inl w.loop-i-test.false
+    ] in
     all_multiplicities c.as_slice-a.result.now c.as_slice-b.result.now c.self.inside.list.items
     c.other.inside.list.items c.loop-i.sum.items c.extend_from_slice.new.self.items
     c.extend_from_slice-2.new.self.items c.loop-i.i c.loop-i.j c.as_slice-a.ensures.value c.as_slice-b.ensures.value
