@@ -37,10 +37,11 @@ module _ (sorted : List (ℕ × ℤ)) (i : ℕ) (sums : List (ℕ × ℤ)) (run 
   run_whole : All (λ f. run.0 < f.0) (drop i sorted) → multiplicity run.0 sorted ≡ run.1
   run_whole after =
       regroup _ _ _ _ _ (multiplicity-take-drop run.0 i sorted) (multiplicity_run run.0)
-      (multiplicity_before run.0 sums kept.before) (share_same run.0 run refl) (multiplicity_after run.0 (drop i sorted) after)
+      (multiplicity_before run.0 sums kept.before) (share_same run.0 run refl)
+      (multiplicity_after run.0 (drop i sorted) after)
     where
-      regroup : (all front rest old s : ℤ) → all ≡ front +ℤ rest → front ≡ old +ℤ s → old ≡ pos 0 → s ≡ run.1 → rest ≡ pos 0
-          → all ≡ run.1
+      regroup : (all front rest old s : ℤ) → all ≡ front +ℤ rest → front ≡ old +ℤ s → old ≡ pos 0 → s ≡ run.1
+          → rest ≡ pos 0 → all ≡ run.1
       regroup all front rest old s e f g h k = omega (arith, ints)
 
   -- so its sum is in range
@@ -108,7 +109,8 @@ module _ (sorted : List (ℕ × ℤ)) (i : ℕ) (sums : List (ℕ × ℤ)) (run 
       pub other_fits : (list : List (ℕ × ℤ)) → IsPermutation list sorted
           → ((p : ℕ) → FitsSigned w64 (multiplicity p list)) → FitsSigned w64 run.1
       other_fits list permutation in_range = whole_fits list permutation in_range
-          (let less_e = later in All-weaker (λ f. e.0 ≤ f.0) (λ f. run.0 < f.0) (λ f le. omega arith) (drop i sorted) next_after)
+          (let less_e = later in All-weaker (λ f. e.0 ≤ f.0) (λ f. run.0 < f.0) (λ f le. omega arith)
+          (drop i sorted) next_after)
 
       -- an entry of a later place
       pub run_other : (new : List (ℕ × ℤ)) (r : ℕ × ℤ) → FitsSigned w64 e.1 → r ≡ e → new ≡ sums ++ entry_of run.0 run.1

@@ -34,7 +34,8 @@ module _ (p : ℕ) (es : List (ℕ × ℤ)) (formal : IsFormalSum es) where
       → IsPartitionPoint (λ e. nat_cmp e.0 p ≡ Less) (λ e. nat_cmp e.0 p ≡ Greater) es i)
       → pos 0 ≡ multiplicity p es
   not_found i parted = sym (multiplicity_absent p es (λ k d less same. elim (cases_lt k i) [
-    | inl before ↦ let smaller : (get_or es k d).0 < p = ranked _ p _ (sym ((parted comparisons_rise).0 k d (omega arith) before))
+    | inl before ↦
+        let smaller : (get_or es k d).0 < p = ranked _ p _ (sym ((parted comparisons_rise).0 k d (omega arith) before))
         in omega arith
     | inr after ↦ let greater : p < (get_or es k d).0 = ranked _ p _ (sym ((parted comparisons_rise).1 k d after less))
         in omega arith

@@ -137,7 +137,8 @@ module _ (a : List (ℕ × ℤ)) (i : ℕ) (b : List (ℕ × ℤ)) (j : ℕ) (su
             let shares : share p (x.0, m) ≡ share p x +ℤ share p y =
             ap (λ z. share p (x.0, z)) m_is ∙ share-sum p x.0 x.1 y.1
             ∙ ap (λ q. share p x +ℤ share p (q, y.1)) place in
-            regroup (multiplicity p (sum ++ entry_of x.0 m)) (multiplicity p sum) (share p (x.0, m)) (share p x) (share p y)
+            regroup (multiplicity p (sum ++ entry_of x.0 m)) (multiplicity p sum) (share p (x.0, m)) (share p x)
+            (share p y)
             (multiplicity p (take i a)) (multiplicity p (take (i + 1) a)) (multiplicity p (take j b))
             (multiplicity p (take (j + 1) b)) (multiplicity_push p sum x.0 m) shares (kept.multiplicities p)
             (multiplicity_more p a i x i_less x_is) (multiplicity_more p b j y j_less y_is);
@@ -167,7 +168,8 @@ module _ (a : List (ℕ × ℤ)) (i : ℕ) (b : List (ℕ × ℤ)) (j : ℕ) (su
   pub sum_multiplicities : (p : ℕ)
       → multiplicity p ((sum ++ drop i a) ++ drop j b) ≡ multiplicity p a +ℤ multiplicity p b
   sum_multiplicities p =
-      regroup _ _ _ _ _ _ _ _ _ (multiplicity-append p (sum ++ drop i a) (drop j b)) (multiplicity-append p sum (drop i a))
+      regroup _ _ _ _ _ _ _ _ _ (multiplicity-append p (sum ++ drop i a) (drop j b))
+      (multiplicity-append p sum (drop i a))
       (kept.multiplicities p) (multiplicity-take-drop p i a) (multiplicity-take-drop p j b)
     where
       regroup : (all part old ta da tb db na nb : ℤ) → all ≡ part +ℤ db → part ≡ old +ℤ da → old ≡ ta +ℤ tb

@@ -13,8 +13,8 @@ entry_of p (negsuc n) = (p, negsuc n) ∷ []
 abbrev pub Precede : List (ℕ × ℤ) → List (ℕ × ℤ) → Type 0
 Precede xs ys = All (λ e. All (λ f. e.0 < f.0) ys) xs
 
--- of the first i entries of a list that is sorted by place: the sums of all places but the last, and the last place with
--- its sum, whose size has room in an i128
+-- of the first i entries of a list that is sorted by place: the sums of all places but the last, and the last place
+-- with its sum, whose size has room in an i128
 pub record IsRunAfter (sorted : List (ℕ × ℤ)) (i : ℕ) (sums : List (ℕ × ℤ)) (run : ℕ × ℤ) : Type 0 where
   pub formal : IsFormalSum sums
   pub before : All (λ e. e.0 < run.0) sums

@@ -113,7 +113,8 @@ impl Divisor {
         }
     }
 
-    /// The places by their numbers, strictly ascending, with their multiplicities, none of which is 0. No memory is taken.
+    /// The places by their numbers, strictly ascending, with their multiplicities, none of which is 0. No memory is
+    /// taken.
     pub fn entries(&self) -> &[(u32, i64)]
         ensures list { result.now ≡ self.now }
         ensures formal { IsFormalSum self.now }

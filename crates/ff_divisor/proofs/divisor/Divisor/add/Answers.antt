@@ -100,8 +100,9 @@ loop-i-preserved c =
           c.loop-i.invariant.sum c.loop-i-test.true (get_or_default a i (0, pos 0) x c.loop-i-test.true) c.if-j-b.true
           (get_or_default b j (0, pos 0) y c.if-j-b.true)
           (to_z w64 (of_z w64 (to_z w64 (of_z w64 x.1) +ℤ to_z w64 (of_z w64 y.1))))
-          (sum_is a b c.args.self.now c.args.other.now i j a_formal b_formal (c.as_slice-a.ensures.value ∙ c.self.view_is)
-          (c.as_slice-b.ensures.value ∙ c.other.view_is) c.requires.in_range c.loop-i-test.true c.if-j-b.true x_fits
+          (sum_is a b c.args.self.now c.args.other.now i j a_formal b_formal
+          (c.as_slice-a.ensures.value ∙ c.self.view_is) (c.as_slice-b.ensures.value ∙ c.other.view_is)
+          c.requires.in_range c.loop-i-test.true c.if-j-b.true x_fits
           y_fits place) place c.in_ok-push_entry.ensures;
       i_in = omega arith;
       j_in = omega arith;
@@ -132,8 +133,8 @@ invariant_of-result c =
     ] in
     all_formal c.as_slice-a.result.now c.as_slice-b.result.now c.self.inside.list.items c.other.inside.list.items
     c.loop-i.sum.items c.extend_from_slice.new.self.items c.extend_from_slice-2.new.self.items c.loop-i.i c.loop-i.j
-    c.as_slice-a.ensures.value c.as_slice-b.ensures.value c.self.invariant c.other.invariant c.loop-i.invariant.sum ended
-    c.in_ok-extend_from_slice.ensures.items c.in_ok-extend_from_slice-2.ensures.items
+    c.as_slice-a.ensures.value c.as_slice-b.ensures.value c.self.invariant c.other.invariant c.loop-i.invariant.sum
+    ended c.in_ok-extend_from_slice.ensures.items c.in_ok-extend_from_slice-2.ensures.items
 
 pub returns-clause-multiplicities : goal.returns-clause-multiplicities
 returns-clause-multiplicities c = λ p.

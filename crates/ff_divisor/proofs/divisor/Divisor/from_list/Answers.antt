@@ -40,8 +40,8 @@ module _ (entries : List (ℕ × ℤ)) (i : ℕ) (sums : List (ℕ × ℤ)) (run
       ]
 
 -- the entries are those of the list
-sorted_list : (list copied sorted entries : List (ℕ × ℤ)) → copied ≡ list → IsPermutation copied sorted → entries ≡ sorted
-    → IsPermutation list entries
+sorted_list : (list copied sorted entries : List (ℕ × ℤ)) → copied ≡ list → IsPermutation copied sorted
+    → entries ≡ sorted → IsPermutation list entries
 sorted_list list copied sorted entries same permutation entries_are = rw (← same, entries_are) permutation
 
 -- the last run is written

@@ -13,7 +13,8 @@ returns-in-Ok c =
     let less : c.in-Ok.at < length items = rw (ap length c.deref.ensures.value) at c.in-Ok.ensures.bound in
     let fits : FitsSigned w64 c.index.result.now.1 = search rules in
     to_z-of_z w64 c.index.result.now.1 fits
-    ∙ found p items c.self.invariant c.in-Ok.at c.index.result.now less (rw c.deref.ensures.value at by_place) c.index.ensures
+    ∙ found p items c.self.invariant c.in-Ok.at c.index.result.now less
+    (rw c.deref.ensures.value at by_place) c.index.ensures
     ∙ ap (multiplicity p) c.self.view_is
 
 pub returns-in-Err : goal.returns-in-Err

@@ -29,7 +29,8 @@ overflow_mul-m c =
     let same : list ≡ c.args.self.now = c.as_slice-list.ensures.value ∙ c.self.view_is in
     let formal : IsFormalSum list = rw c.as_slice-list.ensures.value c.self.invariant in
     let fits : FitsSigned w64 (get_or list c.loop-i.i (0, pos 0)).1 = search rules in
-    product_fits list c.args.self.now c.args.m c.loop-i.i formal same c.requires.in_range c.loop-i-test.true c.ranges.m fits
+    product_fits list c.args.self.now c.args.m c.loop-i.i formal same c.requires.in_range
+    c.loop-i-test.true c.ranges.m fits
 
 pub loop-i-preserved : goal.loop-i-preserved
 loop-i-preserved c =
@@ -38,8 +39,9 @@ loop-i-preserved c =
     let formal : IsFormalSum list = rw c.as_slice-list.ensures.value c.self.invariant in
     let entry = get_or list c.loop-i.i (0, pos 0) in
     let fits : FitsSigned w64 entry.1 = search rules in
-    multiple_step (to_z w64 (of_z w64 c.args.m)) list c.loop-i.i c.loop-i.multiple.items c.push_entry.new.list.items entry
-    _ formal c.loop-i.invariant c.loop-i-test.true
+    multiple_step (to_z w64 (of_z w64 c.args.m)) list c.loop-i.i c.loop-i.multiple.items c.push_entry.new.list.items
+    entry _ formal c.loop-i.invariant c.loop-i-test.true
     (get_or_default list c.loop-i.i (0, pos 0) entry c.loop-i-test.true)
-    (product_is list c.args.self.now c.args.m c.loop-i.i formal same c.requires.in_range c.loop-i-test.true c.ranges.m fits)
+    (product_is list c.args.self.now c.args.m c.loop-i.i formal same c.requires.in_range c.loop-i-test.true
+    c.ranges.m fits)
     c.in_ok-push_entry.ensures
