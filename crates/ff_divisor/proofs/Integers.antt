@@ -1,5 +1,5 @@
 -- Products of integers.
-use Rattle.std.proofs.Common.{◌≡◌, zero, suc, ℤ, pos, negsuc, ◌+ℤ◌, ◌*ℤ◌, neg_ℤ, sym, ap₂, ◌∙◌, arith}
+use Rattle.std.proofs.Common.{◌≡◌, zero, suc, ℤ, pos, negsuc, ◌+ℤ◌, ◌*ℤ◌, sym, ap₂, ◌∙◌, arith}
 use Rattle.std.proofs.lemmas.Int.{ints}
 use Rattle.std.proofs.Math.IntN.{zero-*ℤ, suc_ℤ-*ℤ, pred_ℤ-*ℤ}
 
@@ -21,9 +21,3 @@ pub *ℤ-sum : (m a b : ℤ) → m *ℤ (a +ℤ b) ≡ m *ℤ a +ℤ m *ℤ b
     let left = pred_ℤ-*ℤ (negsuc n) a in
     let right = pred_ℤ-*ℤ (negsuc n) b in
     let rest = *ℤ-sum (negsuc n) a b in omega (arith, ints)
-
--- the multiple by -1 is the negative
-pub minus_one-*ℤ : (a : ℤ) → negsuc 0 *ℤ a ≡ neg_ℤ a
-minus_one-*ℤ a =
-    let all = pred_ℤ-*ℤ (pos zero) a in
-    let none = zero-*ℤ a in omega (arith, ints)

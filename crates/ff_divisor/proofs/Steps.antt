@@ -1,5 +1,5 @@
 -- The steps of the loops that make sums and multiples.
-use Rattle.std.proofs.Common.{◌≡◌, ◌≢◌, ℕ, ◌+◌, ◌<◌, ◌≤◌, ◌⊎◌, inl, inr, ℤ, pos, ◌+ℤ◌, ◌*ℤ◌, List, [], ◌∷◌, ◌++◌, length, take, drop, get_or, All, refl, sym, ap, ap₂, ◌∙◌, arith}
+use Rattle.std.proofs.Common.{◌≡◌, ◌≢◌, ℕ, ◌+◌, ◌<◌, ◌≤◌, ◌⊎◌, inl, inr, ℤ, pos, ◌+ℤ◌, ◌*ℤ◌, List, [], ◌∷◌, ◌++◌, length, take, drop, get_or, All, sym, ap, ap₂, ◌∙◌, arith}
 use Rattle.std.proofs.lemmas.Int.{ints}
 use Rattle.std.proofs.lemmas.Bool.Decides.{nat_tests}
 use Rattle.std.proofs.Math.IntN.{*ℤ-zero}
@@ -62,14 +62,6 @@ pub share-multiple : (p q : ℕ) (m a : ℤ) → share p (q, m *ℤ a) ≡ m *�
 share-multiple p q m a = grind (arith, nat_tests, *ℤ-zero m)
 
 -- ---- sums
-
-pub sum_start : (a b : List (ℕ × ℤ)) → IsSumOf a 0 b 0 []
-sum_start a b = record {
-  formal = formal_nil;
-  before_a = All-nil (λ e. All (λ f. e.0 < f.0) (drop 0 a));
-  before_b = All-nil (λ e. All (λ f. e.0 < f.0) (drop 0 b));
-  multiplicities = λ p. refl;
-}
 
 module _ (a : List (ℕ × ℤ)) (i : ℕ) (b : List (ℕ × ℤ)) (j : ℕ) (sum new : List (ℕ × ℤ)) (x y : ℕ × ℤ)
     (a_formal : IsFormalSum a) (b_formal : IsFormalSum b) (kept : IsSumOf a i b j sum)
