@@ -1,1 +1,4 @@
 pub mod Extensions
+pub mod Sides
+pub mod SidePrimes
+pub mod OneMore
