@@ -2,3 +2,4 @@ pub mod Extensions
 pub mod Sides
 pub mod SidePrimes
 pub mod OneMore
+pub mod Tame

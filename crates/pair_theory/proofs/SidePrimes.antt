@@ -150,10 +150,6 @@ module _ (k : CodeField) (c : CurveValue) (curve : IsCurve k c) (o : LatticeValu
   prime_tame Finite whole prime = tt
   prime_tame Infinite whole prime = infinite_tame whole prime
 
-  pub order_tame : (s : Side) → IsIntegralLattice k c s o → IsTame k c s (Contains k (presentation c s) o)
-  order_tame Finite whole = tt
-  order_tame Infinite whole = integral_supported k c curve o whole
-
 -- different primes have different places
 module _ (k : CodeField) (c : CurveValue) (curve : IsCurve k c) (s : Side) (o : LatticeValue)
     (whole : IsIntegralLattice k c s o) (P Q : PrimeValue) where
