@@ -3,3 +3,4 @@ pub mod Sides
 pub mod SidePrimes
 pub mod OneMore
 pub mod Tame
+pub mod DivisorSets
