@@ -88,7 +88,7 @@ module _ (k : CodeField) (c : CurveValue) (curve : IsCurve k c) (s : Side) (o : 
     K = IntegerPower (functions k (presentation c s)).ops (Contains k (presentation c s) o)
         (Contains k (presentation c s) P.rows) (neg_ℤ m)
 
-    tame_prime : IsTameLattice k c curve s o whole (Contains k (presentation c s) P.rows)
+    pub tame_prime : IsTameLattice k c curve s o whole (Contains k (presentation c s) P.rows)
     tame_prime = record {
       invertible = prime_invertible k c curve s o whole P prime;
       tame = prime_tame k c curve o P s whole prime;

@@ -4,3 +4,4 @@ pub mod SidePrimes
 pub mod OneMore
 pub mod Tame
 pub mod DivisorSets
+pub mod DivisorLattices
