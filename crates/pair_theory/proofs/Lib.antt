@@ -5,3 +5,4 @@ pub mod OneMore
 pub mod Tame
 pub mod DivisorSets
 pub mod DivisorLattices
+pub mod PrimeDivisors
