@@ -1,5 +1,5 @@
 -- Sets with the same members have the same printed form.
-use Rattle.std.proofs.Common.{◌≡◌, ℕ, List, ◌↔◌}
+use Rattle.std.proofs.Common.{List, ◌↔◌}
 use Rattle.ff_fields.specs.Field.{CodeField}
 use Rattle.function_field.specs.Values.{ElemValue, PresValue, Functions}
 use Rattle.ff_space.specs.Spaces.{SpaceValue, IsPrintedSpace, IsPrintedBasis}

@@ -1,6 +1,6 @@
 -- Quotients of products by a denominator, and numerators over a common multiple of the denominators.
-use Rattle.std.proofs.Common.{◌≡◌, ◌≢◌, ℕ, zero, suc, ◌+◌, ◌-◌, ◌*◌, ◌<◌, ◌≤◌, List, [], ◌∷◌, ◌++◌, length, get_or, map, take, drop, refl, sym, ◌∙◌, ap, ap₂, subst, arith, All}
-use Rattle.std.proofs.lemmas.List.{length-append, length-drop, length-take-le, take-append-drop, take_all, take_more, map-append, nil_from_length, take-append-le, drop-append-le}
+use Rattle.std.proofs.Common.{◌≡◌, ◌≢◌, ℕ, zero, suc, ◌+◌, ◌*◌, ◌<◌, ◌≤◌, List, [], ◌∷◌, ◌++◌, length, get_or, map, take, drop, refl, sym, ◌∙◌, ap, ap₂, subst, arith, All}
+use Rattle.std.proofs.lemmas.List.{length-append, length-drop, length-take-le, take_all, take_more, map-append, nil_from_length, take-append-le, drop-append-le}
 use Rattle.std.proofs.lemmas.List.Elements.{All-nil, All-cons, All-head, All-tail, All-append, All-take, All-drop, All-get_or}
 use Rattle.std.proofs.Math.Nat.{suc-mul, zero-mul}
 use Rattle.ff_fields.specs.Field.{CodeField}
@@ -9,7 +9,6 @@ use Rattle.ff_poly.specs.Words.{IsPoly, IsMonicList, IsQuotientWithRest, Divides
 use Rattle.ff_poly.specs.PolyOver.{IsOver_product_of}
 use Rattle.ff_poly.specs.Value.{one_quotient, product_of_assoc}
 use Rattle.ff_poly.proofs.Parts.{IsPoly_product_of}
-use Rattle.polynomial_theory.proofs.ListValues.{monic_poly}
 use Rattle.ff_factor.specs.LowestTerms.{AreSameFractions, IsInLowestTermsOf}
 use Rattle.function_field.specs.Values.{ElemValue, PresValue, IsElem, IsMonicElem, function_of}
 use Rattle.ff_lattice.proofs.Divisors.{sum_nil}

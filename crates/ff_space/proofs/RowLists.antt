@@ -1,18 +1,18 @@
 -- Rows that are written one after another, and the first rows of an echelon form.
-use Rattle.std.proofs.Common.{◌≡◌, ◌≢◌, ℕ, zero, suc, ◌+◌, ◌-◌, ◌*◌, ◌<◌, ◌≤◌, List, [], ◌∷◌, ◌++◌, length, get_or, map, take, drop, replicate, set, refl, sym, ◌∙◌, ap, ap₂, subst, arith, ◌↔◌, All}
-use Rattle.std.proofs.lemmas.List.{length-append, length-drop, length-take-le, length-map, length-set, length-replicate, take_all, take_more, nil_from_length}
+use Rattle.std.proofs.Common.{◌≡◌, ℕ, zero, suc, ◌+◌, ◌-◌, ◌*◌, ◌<◌, ◌≤◌, List, [], ◌∷◌, ◌++◌, length, get_or, map, take, drop, replicate, set, refl, sym, ◌∙◌, ap, ap₂, subst, arith, ◌↔◌, All}
+use Rattle.std.proofs.lemmas.List.{length-drop, length-take-le, length-map, length-set, length-replicate, take_all, take_more, nil_from_length}
 use Rattle.std.proofs.lemmas.List.Elements.{All-nil, All-cons, All-head, All-tail, All-weaker, All-replicate, All-take, All-set, All-get_or}
 use Rattle.std.proofs.lemmas.Grind.{take-set_at}
 use Rattle.std.proofs.Math.Nat.{suc-mul}
 use Rattle.ring_lemmas.specs.Lists.{coeff_of}
-use Rattle.ring_lemmas.specs.Ring.{Operations, CommRing}
+use Rattle.ring_lemmas.specs.Ring.{CommRing}
 use Rattle.ring_lemmas.proofs.Ring.{mul_zero}
 use Rattle.ff_fields.specs.Field.{CodeField}
 use Rattle.ff_fields.specs.Code.{Code, code_ring, raw_ring}
 use Rattle.ff_fields.specs.Numbers.{read}
 use Rattle.ff_fields.specs.Over.{IsOver}
 use Rattle.linear_theory.specs.Module.{combine, sequence_ops}
-use Rattle.linear_theory.specs.Echelon.{row, InRowSpace, IsReducedEchelon}
+use Rattle.linear_theory.specs.Echelon.{row, IsReducedEchelon}
 use Rattle.linear_theory.proofs.Echelon.{column_none}
 use Rattle.ff_linalg.specs.Forms.{sequences_of, IsReducedBelow}
 use Rattle.ff_linalg.specs.Matrix.{MatrixValue, IsMatrixOver, HasShape, first_rows_of, rows_in, zero_matrix}

@@ -1,18 +1,18 @@
 -- The vectors of polynomials, many at once: their parts, and rows of them in one list.
-use Rattle.std.proofs.Common.{◌≡◌, ℕ, zero, suc, ◌+◌, ◌-◌, ◌*◌, ◌≤◌, List, [], ◌∷◌, ◌++◌, length, map, take, drop, replicate, refl, sym, ◌∙◌, ap, ap₂, subst, arith, suc-add, zero-add, All}
-use Rattle.std.proofs.lemmas.List.{length-append, length-replicate, length-drop, length-take-le, take_at, drop_at, take-append-drop, nil_from_length}
-use Rattle.std.proofs.lemmas.List.Elements.{All-nil, All-cons, All-head, All-tail, All-take, All-drop}
+use Rattle.std.proofs.Common.{◌≡◌, ℕ, zero, suc, ◌+◌, ◌-◌, ◌*◌, ◌≤◌, List, [], ◌∷◌, ◌++◌, length, map, take, drop, replicate, refl, sym, ◌∙◌, ap, ap₂, arith, suc-add, zero-add, All}
+use Rattle.std.proofs.lemmas.List.{length-append, length-replicate, length-drop, length-take-le, take_at, drop_at}
+use Rattle.std.proofs.lemmas.List.Elements.{All-head, All-tail, All-take, All-drop}
 use Rattle.std.proofs.Math.Nat.{suc-mul, zero-mul, mul_assoc}
 use Rattle.ff_fields.specs.Field.{CodeField}
 use Rattle.ff_fields.specs.Over.{IsOver, IsOver_nil, IsOver_append, IsOver_trim, IsOver_zeros}
 use Rattle.ff_poly.specs.Words.{IsPoly, poly_of}
 use Rattle.ff_poly.specs.PolyOver.{IsPoly_poly_of}
-use Rattle.ff_poly.specs.Value.{value, same_from_value}
+use Rattle.ff_poly.specs.Value.{same_from_value}
 use Rattle.polynomial_theory.proofs.ListValues.{value_padded}
 use Rattle.ff_lattice.proofs.Spaces.{value_poly_of}
 use Rattle.ff_linalg.specs.Matrix.{rows_in, IsMatrixOver, HasShape}
-use Rattle.ff_linalg.proofs.Flat.{length_rows_in, rows_in_wide, rows_in_over}
-use Rattle.function_field.specs.Values.{ElemValue, PresValue, function_of}
+use Rattle.ff_linalg.proofs.Flat.{rows_in_wide, rows_in_over}
+use Rattle.function_field.specs.Values.{PresValue, function_of}
 use Rattle.ff_space.specs.Steps.{AreShort, elems_in, vector_rows}
 use Rattle.ff_space.specs.Vectors.{parts_of, vector_of, over_den}
 
