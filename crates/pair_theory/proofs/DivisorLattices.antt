@@ -101,33 +101,44 @@ module _ (k : CodeField) (c : CurveValue) (curve : IsCurve k c) (s : Side) (o : 
   pub lattice_of_none : IsDivisor (setting k c.fin) [] → IsLatticeOfDivisor k c s [] o
   lattice_of_none is = lattice_of_set [] o whole.form (set_of_none k c curve s o whole is)
 
-  -- a lattice with the products of the members and of those of a power P^(-m) is that of D + m·P
-  pub lattice_more : (D E : Divisor (Functions k c.fin)) (P : PrimeValue) (m : ℤ) (l j l' : LatticeValue)
-      → IsDivisor (setting k c.fin) D → IsSidePrime k c s o P → IsSumWith k c D P m E → IsLatticeOfDivisor k c s D l
-      → IsPowerLattice k (presentation c s) o P m j → IsProductLattice k (presentation c s) l j l'
-      → IsLatticeOfDivisor k c s E l'
-  lattice_more D E P m l j l' is prime sum h power product =
-      let R = functions k (presentation c s) in
-      let 𝓞 = order_is k c curve s o whole in
-      let X = Contains k (presentation c s) l in
-      let J = Contains k (presentation c s) j in
-      let K = IntegerPower R.ops O (Contains k (presentation c s) P.rows) (neg_ℤ m) in
-      let set = set_of_lattice D is l h in
-      let 𝓧 = set.lattice.invertible.module_is in
-      let 𝓚 = (tame_integer k c curve s o whole (Contains k (presentation c s) P.rows)
-      (tame_prime k c curve s o whole P prime m) (neg_ℤ m)).invertible.module_is in
-      lattice_of_set E l' product.form
-      (set_same k c curve s o whole E (Product R.ops K X) (Contains k (presentation c s) l')
-      (λ z. (
-        λ n.
-            (product.members z).1
-            (product_monotone R O 𝓞.ring X K X J 𝓧 (λ a i. i) (λ a. (power.members a).1) z
-            (product_swap R O 𝓞.ring K X 𝓧 z n)),
-        λ n.
-            product_swap R O 𝓞.ring X K 𝓚 z
-            (product_monotone R O 𝓞.ring X J X K 𝓧 (λ a i. i) (λ a. (power.members a).0) z ((product.members z).0 n)),
-      ))
-      (set_more k c curve s o whole P prime m D E is sum X set))
+  -- a lattice with the products of the members and of those of a power P^(-m)
+  module _ (D : Divisor (Functions k c.fin)) (is : IsDivisor (setting k c.fin) D) (l : LatticeValue)
+      (h : IsLatticeOfDivisor k c s D l) (P : PrimeValue) (prime : IsSidePrime k c s o P) (m : ℤ)
+      (j l' : LatticeValue) (power : IsPowerLattice k (presentation c s) o P m j)
+      (product : IsProductLattice k (presentation c s) l j l') where
+    pub product_set : SameSet
+        (Product (functions k (presentation c s)).ops
+        (IntegerPower (functions k (presentation c s)).ops (Contains k (presentation c s) o)
+        (Contains k (presentation c s) P.rows) (neg_ℤ m)) (Contains k (presentation c s) l))
+        (Contains k (presentation c s) l')
+    product_set z =
+        let R = functions k (presentation c s) in
+        let 𝓞 = order_is k c curve s o whole in
+        let X = Contains k (presentation c s) l in
+        let J = Contains k (presentation c s) j in
+        let K = IntegerPower R.ops O (Contains k (presentation c s) P.rows) (neg_ℤ m) in
+        let 𝓧 = (set_of_lattice D is l h).lattice.invertible.module_is in
+        let 𝓚 = (tame_integer k c curve s o whole (Contains k (presentation c s) P.rows)
+        (tame_prime k c curve s o whole P prime m) (neg_ℤ m)).invertible.module_is in (
+          λ n.
+              (product.members z).1
+              (product_monotone R O 𝓞.ring X K X J 𝓧 (λ a i. i) (λ a. (power.members a).1) z
+              (product_swap R O 𝓞.ring K X 𝓧 z n)),
+          λ n.
+              product_swap R O 𝓞.ring X K 𝓚 z
+              (product_monotone R O 𝓞.ring X J X K 𝓧 (λ a i. i) (λ a. (power.members a).0) z
+              ((product.members z).0 n)),
+        )
+
+    -- it is that of D + m·P
+    pub lattice_more : (E : Divisor (Functions k c.fin)) → IsSumWith k c D P m E → IsLatticeOfDivisor k c s E l'
+    lattice_more E sum =
+        let R = functions k (presentation c s) in
+        let K = IntegerPower R.ops O (Contains k (presentation c s) P.rows) (neg_ℤ m) in
+        let X = Contains k (presentation c s) l in
+        lattice_of_set E l' product.form
+        (set_same k c curve s o whole E (Product R.ops K X) (Contains k (presentation c s) l') product_set
+        (set_more k c curve s o whole P prime m D E is sum X (set_of_lattice D is l h)))
 
   -- two lattices of one divisor are the same
   pub lattice_once : (D : Divisor (Functions k c.fin)) (l l' : LatticeValue) → IsDivisor (setting k c.fin) D

@@ -6,3 +6,4 @@ pub mod Tame
 pub mod DivisorSets
 pub mod DivisorLattices
 pub mod PrimeDivisors
+pub mod ListDegrees
