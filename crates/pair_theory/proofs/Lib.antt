@@ -7,3 +7,4 @@ pub mod DivisorSets
 pub mod DivisorLattices
 pub mod PrimeDivisors
 pub mod ListDegrees
+pub mod ListProducts

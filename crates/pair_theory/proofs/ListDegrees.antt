@@ -76,110 +76,112 @@ module _ (k : CodeField) (c : CurveValue) (curve : IsCurve k c) (s : Side) (o : 
       let t = neg_times m P.degree in
       omega (arith, ints)
 
-  -- all primes of a list
-  module _ (orders : Side → LatticeValue) (integral : (t : Side) → IsIntegralLattice k c t (orders t))
-      (own : orders s ≡ o) where
-    pub record SetOfPrimes (Ps : List PrimeValue) (ms : List ℤ) : Type 1 where
-      pub members : Functions k (presentation c s) → Type 0
-      pub is : IsSetOfDivisor k c curve s o whole (divisor_of_primes k c Ps ms) members
-      pub index : HasRelativeIndex (equation_of k (presentation c s)) members (Contains k (presentation c s) o)
-          (pos 0 -ℤ degree_on s Ps ms)
+-- all primes of a list
+module _ (k : CodeField) (c : CurveValue) (curve : IsCurve k c) (o : Side → LatticeValue)
+    (whole : (s : Side) → IsIntegralLattice k c s (o s)) (s : Side) where
+  abbrev Os : Functions k (presentation c s) → Type 0
+  Os = Contains k (presentation c s) (o s)
 
-    none_is : IsDivisor (setting k c.fin) [] → (d : ℤ) → d ≡ pos 0
-        → (X : Functions k (presentation c s) → Type 0) × IsSetOfDivisor k c curve s o whole [] X
-        × HasRelativeIndex (equation_of k (presentation c s)) X (Contains k (presentation c s) o) (pos 0 -ℤ d)
-    none_is is d e =
-        let 𝓞 = (order_is k c curve s o whole).lattice in
-        let q = equation_of k (presentation c s) in (
-          O,
-          set_of_none k c curve s o whole is,
-          subst (HasRelativeIndex q O O) (zero_less d e)
-              (relative_of_index q O O 𝓞 (λ z m. m) 0 (index_none q O O 𝓞 (λ z m. m))),
-        )
-      where
-        zero_less : (d : ℤ) → d ≡ pos 0 → pos 0 ≡ pos 0 -ℤ d
-        zero_less d e = omega (arith, ints)
+  pub record SetOfPrimes (Ps : List PrimeValue) (ms : List ℤ) : Type 1 where
+    pub members : Functions k (presentation c s) → Type 0
+    pub is : IsSetOfDivisor k c curve s (o s) (whole s) (divisor_of_primes k c Ps ms) members
+    pub index : HasRelativeIndex (equation_of k (presentation c s)) members (Contains k (presentation c s) (o s))
+        (pos 0 -ℤ degree_on s Ps ms)
 
-    pub set_of_primes : (Ps : List PrimeValue) (ms : List ℤ) → ArePrimesOfSides k c orders Ps → SetOfPrimes Ps ms
-    set_of_primes [] ms h =
-        let r = none_is (is_divisor k c curve orders integral [] ms h) (degree_on s [] ms) refl in
-        record { members = r.0; is = r.1; index = r.2 }
-    set_of_primes (P ∷ Ps) [] h =
-        let r = none_is (is_divisor k c curve orders integral (P ∷ Ps) [] h) (degree_on s (P ∷ Ps) []) refl in
-        record { members = r.0; is = r.1; index = r.2 }
-    set_of_primes (P ∷ Ps) (m ∷ ms) h =
-        go (set_of_primes Ps ms (primes_tail k c curve orders integral P Ps h)) (side_discrete P.side s)
-      where
-        D : Divisor (Functions k c.fin)
-        D = divisor_of_primes k c Ps ms
+  none_is : IsDivisor (setting k c.fin) [] → (d : ℤ) → d ≡ pos 0
+      → (X : Functions k (presentation c s) → Type 0) × IsSetOfDivisor k c curve s (o s) (whole s) [] X
+      × HasRelativeIndex (equation_of k (presentation c s)) X (Contains k (presentation c s) (o s)) (pos 0 -ℤ d)
+  none_is is d e =
+      let 𝓞 = (order_is k c curve s (o s) (whole s)).lattice in
+      let q = equation_of k (presentation c s) in (
+        Os,
+        set_of_none k c curve s (o s) (whole s) is,
+        subst (HasRelativeIndex q Os Os) (zero_less d e)
+            (relative_of_index q Os Os 𝓞 (λ z m. m) 0 (index_none q Os Os 𝓞 (λ z m. m))),
+      )
+    where
+      zero_less : (d : ℤ) → d ≡ pos 0 → pos 0 ≡ pos 0 -ℤ d
+      zero_less d e = omega (arith, ints)
 
-        is : IsDivisor (setting k c.fin) (divisor_of_primes k c Ps ms)
-        is = is_divisor k c curve orders integral Ps ms (primes_tail k c curve orders integral P Ps h)
+  pub set_of_primes : (Ps : List PrimeValue) (ms : List ℤ) → ArePrimesOfSides k c o Ps → SetOfPrimes Ps ms
+  set_of_primes [] ms h =
+      let r = none_is (is_divisor k c curve o whole [] ms h) (degree_on s [] ms) refl in
+      record { members = r.0; is = r.1; index = r.2 }
+  set_of_primes (P ∷ Ps) [] h =
+      let r = none_is (is_divisor k c curve o whole (P ∷ Ps) [] h) (degree_on s (P ∷ Ps) []) refl in
+      record { members = r.0; is = r.1; index = r.2 }
+  set_of_primes (P ∷ Ps) (m ∷ ms) h =
+      go (set_of_primes Ps ms (primes_tail k c curve o whole P Ps h)) (side_discrete P.side s)
+    where
+      D : Divisor (Functions k c.fin)
+      D = divisor_of_primes k c Ps ms
 
-        sum : IsSumWith k c (divisor_of_primes k c Ps ms) P m (divisor_of_primes k c (P ∷ Ps) (m ∷ ms))
-        sum = sum_before k c curve orders integral P Ps m ms h
+      is : IsDivisor (setting k c.fin) (divisor_of_primes k c Ps ms)
+      is = is_divisor k c curve o whole Ps ms (primes_tail k c curve o whole P Ps h)
 
-        go : SetOfPrimes Ps ms → Dec (P.side ≡ s) → SetOfPrimes (P ∷ Ps) (m ∷ ms)
-        go r (yes e) =
-            let q = equation_of k (presentation c s) in
-            let R = functions k (presentation c s) in
-            let prime = subst (λ u. IsSidePrime k c s u P) own
-            (subst (λ t. IsSidePrime k c t (orders t) P) e (primes_head k c curve orders integral P Ps h)) in
-            let K = IntegerPower R.ops O (Contains k (presentation c s) P.rows) (neg_ℤ m) in
-            let X = r.members in
-            let set = set_more k c curve s o whole P prime m (divisor_of_primes k c Ps ms)
-            (divisor_of_primes k c (P ∷ Ps) (m ∷ ms)) is sum X r.is in
-            record {
-              members = Product R.ops K X;
-              is = set;
-              index =
-                  subst (HasRelativeIndex q (Product R.ops K X) O)
-                  (less (neg_ℤ m *ℤ pos P.degree) (m *ℤ pos P.degree) (degree_on s Ps ms)
-                  (where_same s P.side (m *ℤ pos P.degree)) (neg_times m P.degree)
-                  (counted s P.side (m *ℤ pos P.degree) e))
-                  (relative_add q (Product R.ops K X) X set.lattice.invertible.lattice r.is.lattice.invertible.lattice
-                  O (order_is k c curve s o whole).lattice (neg_ℤ m *ℤ pos P.degree) (pos 0 -ℤ degree_on s Ps ms)
-                  (index_more k c curve s o whole P prime m X r.is.lattice) r.index);
-            }
-          where
-            less : (x y d w : ℤ) → x ≡ neg_ℤ y → w ≡ y → x +ℤ (pos 0 -ℤ d) ≡ pos 0 -ℤ (w +ℤ d)
-            less x y d w e f = omega (arith, ints)
-        go r (no n) = record {
-          members = r.members;
-          is =
-              set_allowed k c curve s o whole (divisor_of_primes k c Ps ms) (divisor_of_primes k c (P ∷ Ps) (m ∷ ms))
-              r.members
-              (allowed_within (equation_of k c.fin) (finite_disc k c curve) (divisor_of_primes k c Ps ms)
-              (divisor_of_primes k c (P ∷ Ps) (m ∷ ms)) is s
-              (λ M place on_s a a_is.
-              sum.elsewhere M place (λ same. n (sym same.side ∙ on_s)) a a_is)) r.is;
-          index =
-              subst
-              (HasRelativeIndex (equation_of k (presentation c s)) r.members (Contains k (presentation c s) o))
-              (same (degree_on s Ps ms) (where_same s P.side (m *ℤ pos P.degree))
-              (not_counted s P.side (m *ℤ pos P.degree) n)) r.index;
-        }
-          where
-            same : (d w : ℤ) → w ≡ pos 0 → pos 0 -ℤ d ≡ pos 0 -ℤ (w +ℤ d)
-            same d w e = omega (arith, ints)
+      sum : IsSumWith k c (divisor_of_primes k c Ps ms) P m (divisor_of_primes k c (P ∷ Ps) (m ∷ ms))
+      sum = sum_before k c curve o whole P Ps m ms h
 
-    pub degree_of_primes : (Ps : List PrimeValue) (ms : List ℤ) (D : Divisor (Functions k c.fin)) (l : LatticeValue)
-        → ArePrimesOfSides k c orders Ps → IsDivisorOfPrimes k c Ps ms D → IsLatticeOfDivisor k c s D l
-        → pivot_degree_of l ≡ pivot_degree_of o -ℤ degree_on s Ps ms
-    degree_of_primes Ps ms D l h d lattice =
-        let q = equation_of k (presentation c s) in
-        let L = Contains k (presentation c s) l in
-        let D' = divisor_of_primes k c Ps ms in
-        let r = set_of_primes Ps ms h in
-        let set = set_of_lattice k c curve s o whole D d.divisor l lattice in
-        let set' = set_allowed k c curve s o whole D' D r.members
-        (allowed_within (equation_of k c.fin) (finite_disc k c curve) D' D
-        (is_divisor k c curve orders integral Ps ms h) s (λ M place on_s a a_is. d.values M place a a_is)) r.is in
-        let e = set_once k c curve s o whole D r.members L set' set in
-        let i = relative_same q r.members L O O e (λ z. (λ n. n, λ n. n)) (pos 0 -ℤ degree_on s Ps ms) r.index in
-        let j = (indices_by_degrees k (presentation c s) (positive_on k c curve s)).relative l o lattice.form
-        whole.form in
-        let one =
-        relative_once q L O (lattice_on k c curve s l lattice.form) (order_is k c curve s o whole).lattice
-        (pivot_degree_of l -ℤ pivot_degree_of o) (pos 0 -ℤ degree_on s Ps ms) j i in
-        omega (arith, ints)
+      go : SetOfPrimes Ps ms → Dec (P.side ≡ s) → SetOfPrimes (P ∷ Ps) (m ∷ ms)
+      go r (yes e) =
+          let q = equation_of k (presentation c s) in
+          let R = functions k (presentation c s) in
+          let prime = subst (λ t. IsSidePrime k c t (o t) P) e (primes_head k c curve o whole P Ps h) in
+          let K = IntegerPower R.ops Os (Contains k (presentation c s) P.rows) (neg_ℤ m) in
+          let X = r.members in
+          let set = set_more k c curve s (o s) (whole s) P prime m (divisor_of_primes k c Ps ms)
+          (divisor_of_primes k c (P ∷ Ps) (m ∷ ms)) is sum X r.is in
+          record {
+            members = Product R.ops K X;
+            is = set;
+            index =
+                subst (HasRelativeIndex q (Product R.ops K X) Os)
+                (less (neg_ℤ m *ℤ pos P.degree) (m *ℤ pos P.degree) (degree_on s Ps ms)
+                (where_same s P.side (m *ℤ pos P.degree)) (neg_times m P.degree)
+                (counted s P.side (m *ℤ pos P.degree) e))
+                (relative_add q (Product R.ops K X) X set.lattice.invertible.lattice r.is.lattice.invertible.lattice
+                Os (order_is k c curve s (o s) (whole s)).lattice (neg_ℤ m *ℤ pos P.degree) (pos 0 -ℤ degree_on s Ps ms)
+                (index_more k c curve s (o s) (whole s) P prime m X r.is.lattice) r.index);
+          }
+        where
+          less : (x y d w : ℤ) → x ≡ neg_ℤ y → w ≡ y → x +ℤ (pos 0 -ℤ d) ≡ pos 0 -ℤ (w +ℤ d)
+          less x y d w e f = omega (arith, ints)
+      go r (no n) = record {
+        members = r.members;
+        is =
+            set_allowed k c curve s (o s) (whole s) (divisor_of_primes k c Ps ms) (divisor_of_primes k c (P ∷ Ps) (m ∷ ms))
+            r.members
+            (allowed_within (equation_of k c.fin) (finite_disc k c curve) (divisor_of_primes k c Ps ms)
+            (divisor_of_primes k c (P ∷ Ps) (m ∷ ms)) is s
+            (λ M place on_s a a_is.
+            sum.elsewhere M place (λ same. n (sym same.side ∙ on_s)) a a_is)) r.is;
+        index =
+            subst
+            (HasRelativeIndex (equation_of k (presentation c s)) r.members (Contains k (presentation c s) (o s)))
+            (same (degree_on s Ps ms) (where_same s P.side (m *ℤ pos P.degree))
+            (not_counted s P.side (m *ℤ pos P.degree) n)) r.index;
+      }
+        where
+          same : (d w : ℤ) → w ≡ pos 0 → pos 0 -ℤ d ≡ pos 0 -ℤ (w +ℤ d)
+          same d w e = omega (arith, ints)
+
+  pub degree_of_primes : (Ps : List PrimeValue) (ms : List ℤ) (D : Divisor (Functions k c.fin)) (l : LatticeValue)
+      → ArePrimesOfSides k c o Ps → IsDivisorOfPrimes k c Ps ms D → IsLatticeOfDivisor k c s D l
+      → pivot_degree_of l ≡ pivot_degree_of (o s) -ℤ degree_on s Ps ms
+  degree_of_primes Ps ms D l h d lattice =
+      let q = equation_of k (presentation c s) in
+      let L = Contains k (presentation c s) l in
+      let D' = divisor_of_primes k c Ps ms in
+      let r = set_of_primes Ps ms h in
+      let set = set_of_lattice k c curve s (o s) (whole s) D d.divisor l lattice in
+      let set' = set_allowed k c curve s (o s) (whole s) D' D r.members
+      (allowed_within (equation_of k c.fin) (finite_disc k c curve) D' D
+      (is_divisor k c curve o whole Ps ms h) s (λ M place on_s a a_is. d.values M place a a_is)) r.is in
+      let e = set_once k c curve s (o s) (whole s) D r.members L set' set in
+      let i = relative_same q r.members L Os Os e (λ z. (λ n. n, λ n. n)) (pos 0 -ℤ degree_on s Ps ms) r.index in
+      let j = (indices_by_degrees k (presentation c s) (positive_on k c curve s)).relative l (o s) lattice.form
+      (whole s).form in
+      let one =
+      relative_once q L Os (lattice_on k c curve s l lattice.form) (order_is k c curve s (o s) (whole s)).lattice
+      (pivot_degree_of l -ℤ pivot_degree_of (o s)) (pos 0 -ℤ degree_on s Ps ms) j i in
+      omega (arith, ints)
