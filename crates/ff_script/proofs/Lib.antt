@@ -1,6 +1,7 @@
 pub mod Spans
 pub mod Spelled
 pub mod Fronts
+pub mod Several
 pub mod Steps
 pub mod Elements
 pub mod ByKind
