@@ -10,6 +10,8 @@ pub mod WordRuns
 pub mod TermFronts
 pub mod OverFronts
 pub mod NameFronts
+pub mod ItemFronts
+pub mod Sums
 pub mod Cuts
 pub mod Progress
 pub mod OneLine
