@@ -13,7 +13,7 @@ use Rattle.ff_fields.specs.Code.{Code, code_domain, same_code}
 use Rattle.ff_fields.specs.Modulus.{IsFieldModulus, IsFaultOf}
 use Rattle.function_field.specs.declared.side.Side.{Side}
 use Rattle.function_field.specs.Curves.{CurveValue}
-use Rattle.function_field.specs.Values.{PresValue, Functions, functions}
+use Rattle.function_field.specs.Values.{Functions, functions}
 use Rattle.ring_lemmas.specs.Ring.{IsField}
 use Rattle.constants_theory.specs.Idempotents.{IsProperIdempotent}
 use Rattle.value_theory.specs.Primes.{PrimeValue}

@@ -1,4 +1,4 @@
-use Rattle.std.proofs.Common.{◌≡◌, ◌∙◌, subst, sym}
+use Rattle.std.proofs.Common.{◌∙◌, subst}
 use Rattle.std.specs.Prelude.{IfOk}
 use Rattle.function_field.specs.Curves.{CurveValue}
 use Rattle.ff_lattice.specs.Lattices.{LatticeValue, row_elems}
