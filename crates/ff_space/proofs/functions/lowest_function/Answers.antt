@@ -1,4 +1,4 @@
-use Rattle.std.proofs.Common.{sym, subst, All}
+use Rattle.std.proofs.Common.{◌∙◌, ap, sym, subst, All}
 use Rattle.ff_fields.specs.Over.{IsOver}
 use Rattle.ff_factor.specs.LowestTerms.{HasFactorsOf, IsInLowestTermsOf}
 use Rattle.ff_written.proofs.LowestElements.{parts_written}
@@ -10,7 +10,7 @@ pub cancel-requires-clause-over : goal.cancel-requires-clause-over
 cancel-requires-clause-over g c =
     let k = g.K.SmallField.field c.args.k.now in
     (
-      subst (All (IsOver k.ops)) (sym c.in_ok-num.ensures)
+      subst (All (IsOver k.ops)) (sym (c.in_ok-num.ensures ∙ ap (λ n. parts_of c.args.width n c.args.codes.now) c.n.ensures.n))
       (parts_over k c.args.width c.args.p.now.n c.args.codes.now c.requires.codes_in),
       subst (IsOver k.ops) (sym c.in_ok-lower.ensures) c.requires.den_in,
     )
@@ -26,7 +26,8 @@ returns g c =
     let each = subst (HasFactorsOf k.ops c.args.divisors.now) (sym c.in_ok-lower.ensures) c.requires.each in
     let low : IsInLowestTermsOf k.ops ps d vs e
     = subst (λ den. IsInLowestTermsOf k.ops ps den vs e) c.in_ok-lower.ensures
-    (subst (λ num. IsInLowestTermsOf k.ops num c.in_ok-lower.lower vs e) c.in_ok-num.ensures
+    (subst (λ num. IsInLowestTermsOf k.ops num c.in_ok-lower.lower vs e)
+    (c.in_ok-num.ensures ∙ ap (λ n. parts_of c.args.width n c.args.codes.now) c.n.ensures.n)
     (c.in_ok-cancel.ensures.lowest each)) in
     rw c.over_monic.ensures.parts
     (parts_written k (record { num = ps; den = d }) vs e low c.args.p.now c.requires.positive
