@@ -1,7 +1,6 @@
 -- The coordinates of a function in the functions of a printed basis.
-use Rattle.std.proofs.Common.{◌≡◌, ℕ, zero, suc, ◌*◌, ◌<◌, ◌≤◌, List, [], ◌∷◌, length, map, refl, sym, ◌∙◌, ap, ap₂, subst, arith, All}
+use Rattle.std.proofs.Common.{◌≡◌, ℕ, ◌*◌, ◌≤◌, List, [], ◌∷◌, length, map, refl, sym, ◌∙◌, ap, subst, arith, All}
 use Rattle.std.proofs.lemmas.List.{length-map}
-use Rattle.std.proofs.Math.Nat.{zero-mul}
 use Rattle.ring_lemmas.specs.Lists.{coeff_of}
 use Rattle.ff_fields.specs.Field.{CodeField}
 use Rattle.ff_fields.specs.Code.{code_ring}
@@ -13,7 +12,7 @@ use Rattle.ff_poly.specs.Polynomials.{polynomials, constant_poly}
 use Rattle.polynomial_theory.proofs.ListValues.{monic_poly}
 use Rattle.linear_theory.specs.Module.{combine}
 use Rattle.ff_factor.specs.LowestTerms.{AreSameFractions}
-use Rattle.ff_linalg.specs.Space.{IsSolution, HasNoSolution, IsInRowSpace}
+use Rattle.ff_linalg.specs.Space.{IsSolution, HasNoSolution}
 use Rattle.function_field.specs.Functions.{Equation, of_poly}
 use Rattle.function_field.specs.Indices.{space_ops}
 use Rattle.function_field.specs.Spans.{combination}
@@ -22,7 +21,7 @@ use Rattle.ff_lattice.proofs.Divisors.{monic_value}
 use Rattle.ff_space.specs.Coordinates.{AreCoordinates}
 use Rattle.ff_space.specs.Spaces.{SpaceValue, InCodeSpan, IsSpaceForm}
 use Rattle.ff_space.specs.Steps.{AreQuotientsOver, AreShort, HasNoVectorOver, IsVectorOver}
-use Rattle.ff_space.specs.Vectors.{over_den, parts_of, vector_of, HasVector}
+use Rattle.ff_space.specs.Vectors.{over_den, parts_of, vector_of}
 use Rattle.ff_space.proofs.CodeSpans.{vector_of_span, RowVector}
 use Rattle.ff_space.proofs.Fractions.{fractions_of_functions, functions_of_fractions, numerators_same, parts_count, parts_over, parts_poly, parts_short}
 use Rattle.ff_space.proofs.PrintedBases.{row_functions_are}

@@ -10,7 +10,7 @@ use Rattle.ff_space.specs.Steps.{HasNoVectorOver, IsVectorOver}
 use Rattle.ff_space.proofs.CoordinateLists.{outside_of_all, outside, coordinates_of_solution}
 use Rattle.ff_space.proofs.combinations.coordinates.Goals as goal
 
--- what follows in both cases
+-- what follows from each case
 match_weaker : {A : Type 0} (o : Option A) (P P' : Type 0) (Q Q' : A → Type 0) → (P → P') → ((x : A) → Q x → Q' x)
     → MatchOption o P Q → MatchOption o P' Q'
 match_weaker None P P' Q Q' f g h = f h

@@ -1,4 +1,4 @@
-use Rattle.std.proofs.Common.{[], length, subst, sym, All, arith, ◌∙◌}
+use Rattle.std.proofs.Common.{[], subst, sym, arith}
 use Rattle.std.proofs.lemmas.List.{take_all}
 use Rattle.function_field.specs.Values.{IsElem}
 use Rattle.ff_poly.specs.Words.{DividesList}

@@ -1,4 +1,4 @@
-use Rattle.std.proofs.Common.{[], subst, sym, All, arith, ◌∙◌}
+use Rattle.std.proofs.Common.{[], subst, sym, arith}
 use Rattle.std.proofs.lemmas.List.{take_all}
 use Rattle.ff_fields.specs.Over.{IsOver}
 use Rattle.ff_space.specs.Steps.{AreQuotientsOver, IsQuotient}

@@ -8,10 +8,10 @@ use Rattle.ff_space.proofs.functions.lowest_function.Goals as goal
 
 pub cancel-requires-clause-over : goal.cancel-requires-clause-over
 cancel-requires-clause-over g c =
-    let k = g.K.SmallField.field c.args.k.now in
-    (
-      subst (All (IsOver k.ops)) (sym (c.in_ok-num.ensures ∙ ap (λ n. parts_of c.args.width n c.args.codes.now) c.n.ensures.n))
-      (parts_over k c.args.width c.args.p.now.n c.args.codes.now c.requires.codes_in),
+    let k = g.K.SmallField.field c.args.k.now in (
+      subst (All (IsOver k.ops))
+          (sym (c.in_ok-num.ensures ∙ ap (λ n. parts_of c.args.width n c.args.codes.now) c.n.ensures.n))
+          (parts_over k c.args.width c.args.p.now.n c.args.codes.now c.requires.codes_in),
       subst (IsOver k.ops) (sym c.in_ok-lower.ensures) c.requires.den_in,
     )
 

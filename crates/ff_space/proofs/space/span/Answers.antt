@@ -14,7 +14,8 @@ returns g c =
     let r = c.in_ok-rows.rows in
     let least : AreLeastNumerators k p.n zs ws den
     = subst (λ n. AreLeastNumerators k n zs ws den) c.n.ensures.n c.in_ok-num.ensures in
-    let longest : IsLongest ws width = subst (λ vs. IsLongest vs width) c.as_slice.ensures.value c.longest-width.ensures in
+    let longest : IsLongest ws width
+    = subst (λ vs. IsLongest vs width) c.as_slice.ensures.value c.longest-width.ensures in
     let basis : IsEchelonBasisOf k (vector_rows ws (length zs) p.n width) r
     = subst (λ n. IsEchelonBasisOf k (vector_rows ws (length zs) n width) r) c.n-2.ensures.n
     (subst (λ vs. IsEchelonBasisOf k (vector_rows vs (length zs) c.n-2.result width) r) c.as_slice-2.ensures.value
