@@ -8,3 +8,4 @@ pub mod DivisorLattices
 pub mod PrimeDivisors
 pub mod ListDegrees
 pub mod ListProducts
+pub mod BothReduced
