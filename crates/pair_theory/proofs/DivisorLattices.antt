@@ -1,16 +1,15 @@
 -- Lattices of divisors as values: the lattice of the divisor 0, one more prime, the functions in print, and what makes
 -- them lattices that have inverses and powers over the order of the side.
-use Rattle.std.proofs.Common.{◌≡◌, ◌↔◌, ℕ, [], map, refl, sym, ◌∙◌, subst}
-use Rattle.std.proofs.Math.IntN.{ℤ}
+use Rattle.std.proofs.Common.{◌≡◌, ◌↔◌, [], sym, subst}
+use Rattle.std.proofs.Math.IntN.{ℤ, pos}
 use Rattle.std.specs.Prelude.{neg_ℤ}
-use Rattle.ring_theory.specs.Subsets.{IsModule, Span, Product}
+use Rattle.ring_theory.specs.Subsets.{Span, Product}
 use Rattle.prime_theory.specs.Ideals.{SameSet}
-use Rattle.prime_theory.proofs.Products.{product_monotone, product_swap}
+use Rattle.prime_theory.proofs.Products.{own_module, product_monotone, product_one, product_swap}
 use Rattle.ff_fields.specs.Field.{CodeField}
 use Rattle.function_field.specs.declared.side.Side.{Side}
 use Rattle.function_field.specs.declared.side.Side.TheVariants.{Finite, Infinite}
 use Rattle.function_field.specs.Functions.{IsPolynomial}
-use Rattle.function_field.specs.Places.{IsIntegralAt}
 use Rattle.function_field.specs.Divisors.{Divisor, IsDivisor, MeetsOn}
 use Rattle.function_field.specs.Values.{Functions, functions, setting, equation_of}
 use Rattle.function_field.specs.Infinity.{IsPolynomialOn}
@@ -28,12 +27,11 @@ use Rattle.value_theory.proofs.Ideals.{closed_module, members_module}
 use Rattle.value_theory.proofs.InfiniteLattices.{finite_disc, image_of, rows_are, power_to, power_from}
 use Rattle.place_lists_theory.proofs.PlacesOfPrimes.{at_infinity}
 use Rattle.ff_ideal.specs.Powers.{IntegerPower}
-use Rattle.pair_theory.specs.Pairs.{IsSidePrime, IsSumWith, IsLatticeOfDivisor, SpansMembersOverPowersOfT, IsTame, IsPowerLattice, IsProductLattice, rows_on}
-use Rattle.pair_theory.proofs.Extensions.{extended_image}
-use Rattle.pair_theory.proofs.Sides.{ExtendedOn, HasDenominatorOn, side_map, side_hom, scalars_on, positive_on, span_on, finite_extended, members_on, order_on, order_is, whole_on, lattice_on}
+use Rattle.pair_theory.specs.Pairs.{IsSidePrime, IsSumWith, IsLatticeOfDivisor, SpansMembersOverPowersOfT, IsPowerLattice, IsProductLattice, rows_on}
+use Rattle.pair_theory.proofs.Sides.{ExtendedOn, side_map, side_hom, positive_on, span_on, finite_extended, members_on, order_is, whole_on, lattice_on}
 use Rattle.pair_theory.proofs.OneMore.{allowed_module}
-use Rattle.pair_theory.proofs.SidePrimes.{side_module}
-use Rattle.pair_theory.proofs.Tame.{IsTameLattice, denominator_product, order_tame, tame_admitted, tame_integer}
+use Rattle.pair_theory.proofs.SidePrimes.{prime_tame}
+use Rattle.pair_theory.proofs.Tame.{denominator_product, order_tame, tame_admitted, tame_integer}
 use Rattle.pair_theory.proofs.DivisorSets.{IsSetOfDivisor, set_once, set_same, set_of_none, set_more, tame_prime}
 
 module _ (k : CodeField) (c : CurveValue) (curve : IsCurve k c) (s : Side) (o : LatticeValue)
@@ -139,6 +137,37 @@ module _ (k : CodeField) (c : CurveValue) (curve : IsCurve k c) (s : Side) (o : 
         lattice_of_set E l' product.form
         (set_same k c curve s o whole E (Product R.ops K X) (Contains k (presentation c s) l') product_set
         (set_more k c curve s o whole P prime m D E is sum X (set_of_lattice D is l h)))
+
+  -- a power with the exponent 0 changes nothing
+  pub lattice_zero : (D : Divisor (Functions k c.fin)) (is : IsDivisor (setting k c.fin) D) (l : LatticeValue)
+      (h : IsLatticeOfDivisor k c s D l) (P : PrimeValue) (j l' : LatticeValue)
+      → IsPowerLattice k (presentation c s) o P (pos 0) j → IsProductLattice k (presentation c s) l j l' → l' ≡ l
+  lattice_zero D is l h P j l' power product =
+      let R = functions k (presentation c s) in
+      let 𝓞 = order_is k c curve s o whole in
+      let X = Contains k (presentation c s) l in
+      let J = Contains k (presentation c s) j in
+      let 𝓧 = (set_of_lattice D is l h).lattice.invertible.module_is in
+      let own = own_module R O 𝓞.ring in
+      one_form k (presentation c s) l' l product.form h.form
+      (λ z. (
+        λ n.
+            (product_one R O 𝓞.ring X 𝓧 z).0
+            (product_swap R O 𝓞.ring X O own z
+            (product_monotone R O 𝓞.ring X J X O 𝓧 (λ a i. i) (λ a. (power.members a).0) z ((product.members z).0 n))),
+        λ n.
+            (product.members z).1
+            (product_monotone R O 𝓞.ring X O X J 𝓧 (λ a i. i) (λ a. (power.members a).1) z
+            (product_swap R O 𝓞.ring O X 𝓧 z ((product_one R O 𝓞.ring X 𝓧 z).1 n))),
+      )) (positive_on k c curve s)
+
+  -- the conditions for powers of a prime
+  pub prime_admitted : (P : PrimeValue) → IsSidePrime k c s o P
+      → IsAdmitted (equation_of k (presentation c s)) (Contains k (presentation c s) o)
+      (Contains k (presentation c s) P.rows)
+  prime_admitted P prime =
+      tame_admitted k c curve o s whole (Contains k (presentation c s) P.rows)
+      (lattice_on k c curve s P.rows prime.prime.ideal.lattice) (prime_tame k c curve o P s whole prime)
 
   -- two lattices of one divisor are the same
   pub lattice_once : (D : Divisor (Functions k c.fin)) (l l' : LatticeValue) → IsDivisor (setting k c.fin) D

@@ -1,16 +1,16 @@
 -- The set of functions of a side's presentation that stands for a divisor on the side: it spans, over the ring of the
 -- side, what the divisor allows, and differs from k[t][Y] at t alone. There is one, and one more place is a product with
 -- a power of its prime.
-use Rattle.std.proofs.Common.{◌≡◌, ◌↔◌, ℕ, suc, [], refl, sym, ◌∙◌, subst}
+use Rattle.std.proofs.Common.{[], subst}
 use Rattle.std.specs.Prelude.{neg_ℤ}
 use Rattle.std.proofs.Math.IntN.{ℤ, pos, ◌*ℤ◌}
-use Rattle.ring_theory.specs.Subsets.{IsModule, Product}
+use Rattle.ring_theory.specs.Subsets.{Product}
 use Rattle.prime_theory.specs.Ideals.{SameSet}
 use Rattle.prime_theory.specs.IntegerValues.{PrimePower}
 use Rattle.prime_theory.proofs.Products.{product_monotone}
 use Rattle.ff_fields.specs.Field.{CodeField}
 use Rattle.function_field.specs.declared.side.Side.{Side}
-use Rattle.function_field.specs.Places.{IsPlace, IsIn, IsIntegralAt}
+use Rattle.function_field.specs.Places.{IsIn, IsIntegralAt}
 use Rattle.function_field.specs.Divisors.{Divisor, IsDivisor, MeetsOn}
 use Rattle.function_field.specs.PlaceLists.{listed_place}
 use Rattle.function_field.specs.Values.{Functions, functions, setting, equation_of}
@@ -26,11 +26,11 @@ use Rattle.value_theory.proofs.InfiniteLattices.{finite_disc}
 use Rattle.place_lists_theory.specs.Lists.{listed_prime}
 use Rattle.ff_ideal.specs.Powers.{IntegerPower}
 use Rattle.ff_ideal.proofs.IntegerPowers.{same_module}
-use Rattle.pair_theory.specs.Pairs.{IsSidePrime, IsSumWith, place_of_prime}
+use Rattle.pair_theory.specs.Pairs.{IsSidePrime, IsSumWith}
 use Rattle.pair_theory.proofs.Extensions.{extended_same, extended_product, extended_integer, extended_over, integer_module, integer_same, integer_parts}
 use Rattle.pair_theory.proofs.Sides.{ExtendedOn, side_map, side_hom, scalars_on, integral_on, order_is, whole_on, one_on}
 use Rattle.pair_theory.proofs.SidePrimes.{side_prime, side_module, side_invertible, prime_invertible, prime_index, place_extended, place_is, prime_tame}
-use Rattle.pair_theory.proofs.OneMore.{IsMoreAt, allowed_module, allowed_within, more_allowed}
+use Rattle.pair_theory.proofs.OneMore.{IsMoreAt, more_allowed}
 use Rattle.pair_theory.proofs.Tame.{IsTameLattice, tame_lattice_same, tame_order, tame_times, tame_integer}
 
 module _ (k : CodeField) (c : CurveValue) (curve : IsCurve k c) (s : Side) (o : LatticeValue)

@@ -9,3 +9,4 @@ pub mod PrimeDivisors
 pub mod ListDegrees
 pub mod ListProducts
 pub mod BothReduced
+pub mod PairSpaces

@@ -1,15 +1,13 @@
 -- The pivot degree of the lattice of a divisor: that of the order less the sum of the integers times the degrees of the
 -- primes.
-use Rattle.std.proofs.Common.{◌≡◌, ℕ, zero, suc, ◌*◌, List, [], ◌∷◌, refl, sym, ◌∙◌, ap, subst, arith}
+use Rattle.std.proofs.Common.{◌≡◌, ℕ, zero, suc, ◌*◌, List, [], ◌∷◌, refl, sym, ◌∙◌, subst, arith}
 use Rattle.std.specs.Prelude.{neg_ℤ}
 use Rattle.std.proofs.lemmas.Int.{ints}
 use Rattle.std.proofs.Math.IntN.{ℤ, pos, negsuc, ◌+ℤ◌, ◌-ℤ◌, ◌*ℤ◌}
 use Rattle.ring_theory.specs.Subsets.{Product}
-use Rattle.prime_theory.specs.Ideals.{SameSet}
 use Rattle.ff_fields.specs.Field.{CodeField}
 use Rattle.function_field.specs.declared.side.Side.{Side}
 use Rattle.function_field.specs.declared.side.Side.TheVariants.{Finite, Infinite}
-use Rattle.function_field.specs.Places.{IsPlace}
 use Rattle.function_field.specs.Divisors.{Divisor, IsDivisor}
 use Rattle.function_field.specs.Values.{Functions, functions, setting, equation_of}
 use Rattle.function_field.specs.Curves.{CurveValue, IsCurve}
@@ -25,7 +23,7 @@ use Rattle.ff_ideal.specs.Powers.{IntegerPower}
 use Rattle.pair_theory.specs.Pairs.{IsSidePrime, ArePrimesOfSides, IsDivisorOfPrimes, IsSumWith, IsLatticeOfDivisor, IsPowerLattice, IsProductLattice, divisor_of_primes, degree_on, where_same}
 use Rattle.pair_theory.proofs.Sides.{positive_on, order_is, lattice_on}
 use Rattle.pair_theory.proofs.OneMore.{allowed_within}
-use Rattle.pair_theory.proofs.DivisorSets.{IsSetOfDivisor, set_once, set_same, set_allowed, set_of_none, set_more, index_more}
+use Rattle.pair_theory.proofs.DivisorSets.{IsSetOfDivisor, set_once, set_allowed, set_of_none, set_more, index_more}
 use Rattle.pair_theory.proofs.DivisorLattices.{set_of_lattice, product_set}
 use Rattle.pair_theory.proofs.PrimeDivisors.{primes_head, primes_tail, is_divisor, sum_before}
 use Rattle.value_theory.proofs.InfiniteLattices.{finite_disc}

@@ -1,5 +1,5 @@
 -- The product of the powers of a list of primes, one after another: it is the lattice of their divisor.
-use Rattle.std.proofs.Common.{◌≡◌, ◌↔◌, ◌⊎◌, inl, inr, List, [], ◌∷◌, All, refl, sym, ◌∙◌, subst, arith}
+use Rattle.std.proofs.Common.{◌≡◌, ◌↔◌, ◌⊎◌, inl, inr, List, [], ◌∷◌, All, sym, ◌∙◌, subst, arith}
 use Rattle.std.specs.Prelude.{neg_ℤ}
 use Rattle.std.proofs.lemmas.Int.{ints}
 use Rattle.std.proofs.lemmas.List.Elements.{All-nil, All-cons, All-head, All-tail}
@@ -11,8 +11,8 @@ use Rattle.prime_theory.specs.Ideals.{SameSet}
 use Rattle.prime_theory.proofs.Products.{own_module, product_monotone, product_swap, product_one, product_assoc, product_assoc_back}
 use Rattle.ff_fields.specs.Field.{CodeField}
 use Rattle.function_field.specs.declared.side.Side.{Side}
-use Rattle.function_field.specs.Places.{Place, IsPlace, IsSamePlace}
-use Rattle.function_field.specs.Divisors.{Divisor, IsDivisor, HasMultiplicity}
+use Rattle.function_field.specs.Places.{Place, IsPlace}
+use Rattle.function_field.specs.Divisors.{Divisor, HasMultiplicity}
 use Rattle.function_field.specs.Values.{PresValue, Functions, functions, setting, equation_of}
 use Rattle.function_field.specs.Curves.{CurveValue, IsCurve}
 use Rattle.divisor_theory.proofs.Differences.{places_same_decided}
@@ -22,10 +22,10 @@ use Rattle.value_theory.specs.Primes.{PrimeValue}
 use Rattle.value_theory.proofs.InfiniteLattices.{finite_disc}
 use Rattle.ff_ideal.specs.Powers.{IntegerPower}
 use Rattle.ff_ideal.proofs.IntegerPowers.{same_module}
-use Rattle.pair_theory.specs.Pairs.{IsSidePrime, ArePrimesOfSides, IsDivisorOfPrimes, IsSumWith, IsLatticeOfDivisor, IsPowerLattice, IsProductLattice, IsProductOfAll, PowersOn, none, power, passed, divisor_of_primes, place_of_prime}
+use Rattle.pair_theory.specs.Pairs.{IsSidePrime, ArePrimesOfSides, IsDivisorOfPrimes, IsLatticeOfDivisor, IsPowerLattice, IsProductOfAll, PowersOn, none, power, passed, divisor_of_primes, place_of_prime}
 use Rattle.pair_theory.proofs.Sides.{order_is}
 use Rattle.pair_theory.proofs.OneMore.{allowed_within}
-use Rattle.pair_theory.proofs.Tame.{IsTameLattice, tame_integer}
+use Rattle.pair_theory.proofs.Tame.{tame_integer}
 use Rattle.pair_theory.proofs.DivisorSets.{IsSetOfDivisor, set_same, set_allowed, set_of_none, set_more, tame_prime}
 use Rattle.pair_theory.proofs.DivisorLattices.{lattice_of_set}
 use Rattle.pair_theory.proofs.PrimeDivisors.{primes_head, primes_tail, is_divisor, sum_before, prime_place}
@@ -149,7 +149,7 @@ module _ (k : CodeField) (c : CurveValue) (curve : IsCurve k c) (o : Side → La
       let sum = sum_before k c curve o whole P Ps m ms h in
       elim (places_same_decided (equation_of k c.fin) M (place_of_prime k c P) place
       (prime_place k c curve o whole P (primes_head k c curve o whole P Ps h))) [
-        yes same ↦
+        | yes same ↦
             subst (HasMultiplicity (setting k c.fin) (divisor_of_primes k c (P ∷ Ps) (m ∷ ms)) M) (nothing n m nought)
             (sum.here M place same n n_is)
         | no other ↦ sum.elsewhere M place other n n_is

@@ -1,16 +1,15 @@
 -- What D + m·P allows on the side of the place P: the products of what D allows with the power P^(-m).
-use Rattle.std.proofs.Common.{◌≡◌, ◌↔◌, inl, inr, List, [], ◌∷◌, refl, sym, ◌∙◌, subst, arith}
+use Rattle.std.proofs.Common.{◌≡◌, inl, inr, [], ◌∷◌, refl, sym, subst, arith}
 use Rattle.std.specs.Prelude.{neg_ℤ}
 use Rattle.std.proofs.lemmas.Int.{ints}
 use Rattle.std.proofs.lemmas.List.Elements.{All-nil, All-cons}
 use Rattle.std.proofs.lemmas.List.Kept.{AllPairs-cons}
 use Rattle.std.proofs.Math.IntN.{ℤ, pos, ◌+ℤ◌, ◌-ℤ◌}
 use Rattle.ring_lemmas.proofs.Ring.{mul_left_comm}
-use Rattle.ring_theory.specs.Subsets.{IsSubring, IsModule, Product, Colon}
+use Rattle.ring_theory.specs.Subsets.{IsSubring, IsModule, Product}
 use Rattle.ring_theory.proofs.Subsets.{product_member, product_module}
 use Rattle.prime_theory.specs.Ideals.{SameSet}
 use Rattle.prime_theory.specs.IntegerValues.{PrimePower}
-use Rattle.prime_theory.specs.Primes.{IsPrime}
 use Rattle.prime_theory.proofs.Lists.{both}
 use Rattle.prime_theory.proofs.Primes.{ideal_module as prime_module}
 use Rattle.prime_theory.proofs.Products.{product_into, product_monotone, product_one, product_swap, product_universal, own_module, additive_of_module}
@@ -128,7 +127,7 @@ module _ {k : CodeField} (c : Equation k) (some : ¬ (discriminant c ≡ (polyno
         divisor = more.divisor;
         values = λ M place a b a_is.
             elim [
-              inl h ↦
+              | inl h ↦
                   subst (HasMultiplicity (setting_of c) E M) (total a b h.1) (more.here M place h.0 a a_is)
               | inr h ↦ subst (HasMultiplicity (setting_of c) E M) (none a b h.1) (more.elsewhere M place h.0 a a_is)
             ];
@@ -146,14 +145,14 @@ module _ {k : CodeField} (c : Equation k) (some : ¬ (discriminant c ≡ (polyno
         values = λ M place a b a_is b_is.
             let d = multiplicity_at c D is_D M place in
             subst (HasMultiplicity (setting_of c) D M) (
-              elim b_is [
-                inl h ↦
-                    total a b d.0 h.1
-                    (multiplicity_unique (setting_of c) E M a (d.0 +ℤ m) a_is (more.here M place h.0 d.0 d.1))
-                | inr h ↦
-                    none a b d.0 h.1
-                    (multiplicity_unique (setting_of c) E M a d.0 a_is (more.elsewhere M place h.0 d.0 d.1))
-              ]
+            elim b_is [
+              | inl h ↦
+                  total a b d.0 h.1
+                  (multiplicity_unique (setting_of c) E M a (d.0 +ℤ m) a_is (more.here M place h.0 d.0 d.1))
+              | inr h ↦
+                  none a b d.0 h.1
+                  (multiplicity_unique (setting_of c) E M a d.0 a_is (more.elsewhere M place h.0 d.0 d.1))
+            ]
             ) d.1;
       }
         where

@@ -1,6 +1,6 @@
 -- The divisor of a list of different primes with integers: it is one, its multiplicities are determined, and one more
 -- prime, before the others or behind them, adds it.
-use Rattle.std.proofs.Common.{◌≡◌, ◌↔◌, inl, inr, List, [], ◌∷◌, ◌++◌, length, All, refl, sym, ◌∙◌, ap, subst, arith}
+use Rattle.std.proofs.Common.{◌≡◌, ◌↔◌, inl, inr, List, [], ◌∷◌, ◌++◌, length, All, sym, subst, arith}
 use Rattle.std.specs.List.{AllPairs}
 use Rattle.std.proofs.lemmas.Int.{ints}
 use Rattle.std.proofs.lemmas.List.Elements.{All-nil, All-cons, All-head, All-tail, All-weaker}
@@ -10,7 +10,7 @@ use Rattle.prime_theory.proofs.Lists.{pairs_head, pairs_tail}
 use Rattle.ff_fields.specs.Field.{CodeField}
 use Rattle.function_field.specs.declared.side.Side.{Side}
 use Rattle.function_field.specs.Places.{Place, IsPlace, IsSamePlace, IsIn}
-use Rattle.function_field.specs.Divisors.{Entry, Divisor, IsDivisor, HasMultiplicity}
+use Rattle.function_field.specs.Divisors.{Divisor, IsDivisor, HasMultiplicity}
 use Rattle.function_field.specs.PlaceLists.{listed_place}
 use Rattle.function_field.specs.Values.{Functions, setting, equation_of}
 use Rattle.function_field.specs.Curves.{CurveValue, IsCurve}
@@ -23,6 +23,14 @@ use Rattle.value_theory.specs.Primes.{PrimeValue}
 use Rattle.place_lists_theory.specs.Lists.{listed_prime}
 use Rattle.pair_theory.specs.Pairs.{IsSidePrime, ArePrimesOfSides, IsDivisorOfPrimes, IsSumWith, divisor_of_primes, place_of_prime}
 use Rattle.pair_theory.proofs.SidePrimes.{place_is, same_rows}
+
+-- the divisor 0
+module _ (k : CodeField) (c : CurveValue) where
+  pub no_places : IsDivisor (setting k c.fin) []
+  no_places = record {
+    places = All-nil (λ e. IsPlace (setting k c.fin) e.place);
+    different = λ i j d l m. absurd (omega (arith, m));
+  }
 
 module _ (k : CodeField) (c : CurveValue) (curve : IsCurve k c) (o : Side → LatticeValue)
     (whole : (s : Side) → IsIntegralLattice k c s (o s)) where

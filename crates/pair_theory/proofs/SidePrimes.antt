@@ -1,8 +1,8 @@
 -- A prime of the order of a side's integral functions: as an invertible lattice, with its index, and the place that its
 -- rows span.
-use Rattle.std.proofs.Common.{◌≡◌, ℕ, suc, ◌<◌, ◌↔◌, List, [], ◌∷◌, refl, sym, ◌∙◌, subst}
+use Rattle.std.proofs.Common.{◌≡◌, suc, ◌↔◌, refl, sym, ◌∙◌, subst}
 use Rattle.ring_lemmas.specs.Ring.{Operations, pow}
-use Rattle.ring_theory.specs.Subsets.{IsModule, Product}
+use Rattle.ring_theory.specs.Subsets.{IsModule}
 use Rattle.prime_theory.specs.Ideals.{SameSet, Inverse, Invertible}
 use Rattle.prime_theory.specs.Places.{IsMaximalIdeal}
 use Rattle.prime_theory.specs.Primes.{IsPrime}
@@ -12,9 +12,9 @@ use Rattle.ff_poly.specs.Value.{value}
 use Rattle.ff_poly.specs.Polynomials.{x_poly}
 use Rattle.function_field.specs.declared.side.Side.{Side}
 use Rattle.function_field.specs.declared.side.Side.TheVariants.{Finite, Infinite}
-use Rattle.function_field.specs.Functions.{of_poly, y_of, degree_of_y}
+use Rattle.function_field.specs.Functions.{of_poly, y_of}
 use Rattle.function_field.specs.Indices.{HasIndex}
-use Rattle.function_field.specs.Places.{Place, IsPlace, IsIn, IsSamePlace, IsIntegralAt}
+use Rattle.function_field.specs.Places.{IsPlace, IsIn, IsIntegralAt}
 use Rattle.function_field.specs.PlaceLists.{listed_place}
 use Rattle.function_field.specs.Values.{Functions, functions, setting, equation_of}
 use Rattle.function_field.specs.Curves.{CurveValue, IsCurve}
@@ -28,14 +28,14 @@ use Rattle.ff_lattice.specs.Lattices.{LatticeValue, Contains}
 use Rattle.ff_lattice.proofs.OneForm.{one_form}
 use Rattle.ff_lattice.proofs.PivotIndices.{lattice_over, index_is}
 use Rattle.value_theory.specs.IntegralLattices.{presentation, IsIntegralLattice}
-use Rattle.value_theory.specs.Primes.{PrimeValue, IsPrimeOf}
+use Rattle.value_theory.specs.Primes.{PrimeValue}
 use Rattle.value_theory.proofs.Ideals.{closed_module, members_module}
 use Rattle.value_theory.proofs.InfiniteLattices.{integral_supported}
 use Rattle.place_lists_theory.specs.Lists.{listed_prime}
 use Rattle.place_lists_theory.proofs.InfinitePrimes.{place_of_rows}
 use Rattle.place_lists_theory.proofs.IntegralOrders.{infinite_maximal}
 use Rattle.ff_ideal.proofs.LatticePrimes.{prime_is}
-use Rattle.pair_theory.specs.Pairs.{IsSidePrime, IsTame, place_of_prime}
+use Rattle.pair_theory.specs.Pairs.{IsSidePrime, IsTame}
 use Rattle.pair_theory.proofs.Sides.{ExtendedOn, positive_on, span_on, finite_extended, order_on, order_is, whole_on, lattice_on, one_on}
 
 -- maximal ideals with the same members, of rings with the same members

@@ -1,6 +1,6 @@
 -- The functions of the presentation of a side as functions of the curve, and what the lattices of the side span there
 -- over the ring of the side.
-use Rattle.std.proofs.Common.{◌≡◌, ℕ, ◌<◌, ◌↔◌, List, map, refl, sym, ◌∙◌, ap, subst}
+use Rattle.std.proofs.Common.{◌≡◌, ◌<◌, ◌↔◌, map, refl, sym, ◌∙◌, subst}
 use Rattle.std.proofs.lemmas.List.{map-id}
 use Rattle.ring_lemmas.proofs.Ring.{one_mul}
 use Rattle.ring_theory.specs.Maps.{IsHom}
@@ -12,7 +12,7 @@ use Rattle.function_field.specs.declared.side.Side.{Side}
 use Rattle.function_field.specs.declared.side.Side.TheVariants.{Finite, Infinite}
 use Rattle.function_field.specs.Functions.{IsPolynomial}
 use Rattle.function_field.specs.Places.{IsIntegralAt}
-use Rattle.function_field.specs.Values.{Functions, functions, setting, function_of, equation_of}
+use Rattle.function_field.specs.Values.{Functions, functions, setting, equation_of}
 use Rattle.function_field.specs.Curves.{CurveValue, IsCurve}
 use Rattle.function_field.proofs.ScalarRings.{scalars_subring, polynomials_subring}
 use Rattle.places_theory.proofs.Sides.{side_ring}
@@ -23,7 +23,7 @@ use Rattle.order_theory.proofs.LocalOrders.{prime_to}
 use Rattle.infinite_theory.specs.Supported.{HasPowerDenominator}
 use Rattle.infinite_theory.proofs.InfiniteOrders.{combination_members}
 use Rattle.infinite_theory.proofs.InfiniteTransport.{x_irreducible}
-use Rattle.ff_lattice.specs.Lattices.{LatticeValue, IsLatticeValue, Contains, row_elems}
+use Rattle.ff_lattice.specs.Lattices.{LatticeValue, IsLatticeValue, Contains}
 use Rattle.ff_lattice.specs.Orders.{IsOrderLattice}
 use Rattle.value_theory.specs.IntegralLattices.{presentation, IsIntegralLattice}
 use Rattle.value_theory.specs.Laws.{row_functions}

@@ -1,10 +1,10 @@
 -- Lattices that differ from k[t][Y] at t alone: products, inverses and powers of them are such, and over the order of
 -- the integral functions of the side they are admitted, so that they have inverses and powers.
-use Rattle.std.proofs.Common.{◌≡◌, ℕ, zero, suc, ◌+◌, ◌≤◌, ◌⊎◌, inl, inr, refl, sym, ◌∙◌, ap, subst, arith}
+use Rattle.std.proofs.Common.{◌≡◌, ℕ, zero, suc, ◌+◌, inl, inr, refl, sym, ◌∙◌, ap, subst, arith}
 use Rattle.std.proofs.Math.IntN.{ℤ, pos, negsuc}
 use Rattle.ring_lemmas.specs.Ring.{pow}
-use Rattle.ring_lemmas.proofs.Ring.{one_mul, mul_mul, mul_pow, pow_add}
-use Rattle.ring_theory.specs.Subsets.{IsModule, Product}
+use Rattle.ring_lemmas.proofs.Ring.{mul_mul, mul_pow, pow_add}
+use Rattle.ring_theory.specs.Subsets.{Product}
 use Rattle.ring_theory.proofs.Local.{power_in}
 use Rattle.prime_theory.specs.Ideals.{SameSet, Inverse, Power}
 use Rattle.prime_theory.specs.Orders.{MaximalAt}
@@ -25,10 +25,10 @@ use Rattle.trace_theory.specs.Traces.{HasPolynomialCoordinates}
 use Rattle.lattice_theory.specs.Lattices as theory
 use Rattle.lattice_theory.proofs.Lattices.{lattice_module}
 use Rattle.order_theory.specs.Orders.{IsPrimeTo, IsOrderUpTo}
-use Rattle.order_theory.proofs.LocalOrders.{power_value, prime_to}
-use Rattle.infinite_theory.specs.Supported.{IsSupportedAt, HasPowerDenominator}
+use Rattle.order_theory.proofs.LocalOrders.{prime_to}
+use Rattle.infinite_theory.specs.Supported.{IsSupportedAt}
 use Rattle.infinite_theory.proofs.InfiniteTransport.{x_irreducible}
-use Rattle.infinite_theory.proofs.SupportedLattices.{coordinates_ring, coordinates_supported, product_supported, colon_supported}
+use Rattle.infinite_theory.proofs.SupportedLattices.{coordinates_ring, product_supported, colon_supported}
 use Rattle.ideal_theory.specs.Records.{IsAdmitted}
 use Rattle.ideal_theory.proofs.IdealIndices.{IsInvertibleLattice, invertible_same, order_invertible, times_invertible, inverse_invertible}
 use Rattle.ff_lattice.specs.Lattices.{LatticeValue, Contains}
