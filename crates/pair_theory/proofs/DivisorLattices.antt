@@ -27,10 +27,9 @@ use Rattle.value_theory.proofs.Ideals.{closed_module, members_module}
 use Rattle.value_theory.proofs.InfiniteLattices.{finite_disc, image_of, rows_are, power_to, power_from}
 use Rattle.place_lists_theory.proofs.PlacesOfPrimes.{at_infinity}
 use Rattle.ff_ideal.specs.Powers.{IntegerPower}
-use Rattle.pair_theory.specs.Pairs.{IsSidePrime, IsSumWith, IsLatticeOfDivisor, SpansMembersOverPowersOfT, IsPowerLattice, IsProductLattice, rows_on}
+use Rattle.pair_theory.specs.Pairs.{IsSidePrime, IsSumWith, IsLatticeOfDivisor, SpansMembersOverPowersOfT, IsPowerLattice, IsProductLattice, IsAdmittedLattice, rows_on}
 use Rattle.pair_theory.proofs.Sides.{ExtendedOn, side_map, side_hom, positive_on, span_on, finite_extended, members_on, order_is, whole_on, lattice_on}
 use Rattle.pair_theory.proofs.OneMore.{allowed_module}
-use Rattle.pair_theory.proofs.SidePrimes.{prime_tame}
 use Rattle.pair_theory.proofs.Tame.{denominator_product, order_tame, tame_admitted, tame_integer}
 use Rattle.pair_theory.proofs.DivisorSets.{IsSetOfDivisor, set_once, set_same, set_of_none, set_more, tame_prime}
 
@@ -48,7 +47,7 @@ module _ (k : CodeField) (c : CurveValue) (curve : IsCurve k c) (s : Side) (o : 
     extended z = let a = span_on k c curve s l h.form z in (λ m. (h.span z).0 (a.1 m), λ m. a.0 ((h.span z).1 m))
 
     -- the product of a member by a function of the order is a member
-    pub lattice_closed : (u v : Functions k (presentation c s)) → Contains k (presentation c s) o u
+    lattice_closed : (u v : Functions k (presentation c s)) → Contains k (presentation c s) o u
         → Contains k (presentation c s) l v
         → Contains k (presentation c s) l ((functions k (presentation c s)).◌⊗◌ u v)
     lattice_closed u v u_in v_in =
@@ -65,7 +64,7 @@ module _ (k : CodeField) (c : CurveValue) (curve : IsCurve k c) (s : Side) (o : 
               ((whole_on k c curve s o whole (f u)).0 (a.0 u_in).1) ((extended (f v)).0 (b.0 v_in).1))),
         )
 
-    pub lattice_admitted : IsAdmitted (equation_of k (presentation c s)) (Contains k (presentation c s) o)
+    lattice_admitted : IsAdmitted (equation_of k (presentation c s)) (Contains k (presentation c s) o)
         (Contains k (presentation c s) l)
     lattice_admitted = tame_admitted k c curve o s whole L (lattice_on k c curve s l h.form) h.tame
 
@@ -161,13 +160,10 @@ module _ (k : CodeField) (c : CurveValue) (curve : IsCurve k c) (s : Side) (o : 
             (product_swap R O 𝓞.ring O X 𝓧 z ((product_one R O 𝓞.ring X 𝓧 z).1 n))),
       )) (positive_on k c curve s)
 
-  -- the conditions for powers of a prime
-  pub prime_admitted : (P : PrimeValue) → IsSidePrime k c s o P
-      → IsAdmitted (equation_of k (presentation c s)) (Contains k (presentation c s) o)
-      (Contains k (presentation c s) P.rows)
-  prime_admitted P prime =
-      tame_admitted k c curve o s whole (Contains k (presentation c s) P.rows)
-      (lattice_on k c curve s P.rows prime.prime.ideal.lattice) (prime_tame k c curve o P s whole prime)
+  pub lattice_has_powers : (D : Divisor (Functions k c.fin)) (l : LatticeValue) → IsDivisor (setting k c.fin) D
+      → IsLatticeOfDivisor k c s D l → IsAdmittedLattice k (presentation c s) o l
+  lattice_has_powers D l is h =
+      record { form = h.form; closed = lattice_closed D is l h; admitted = lattice_admitted D is l h }
 
   -- two lattices of one divisor are the same
   pub lattice_once : (D : Divisor (Functions k c.fin)) (l l' : LatticeValue) → IsDivisor (setting k c.fin) D

@@ -5,6 +5,7 @@ pub mod OneMore
 pub mod Tame
 pub mod DivisorSets
 pub mod DivisorLattices
+pub mod PrimePowers
 pub mod PrimeDivisors
 pub mod ListDegrees
 pub mod ListProducts

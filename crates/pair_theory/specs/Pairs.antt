@@ -15,6 +15,7 @@ use Rattle.function_field.specs.Values.{PresValue, Functions, functions, setting
 use Rattle.function_field.specs.Infinity.{function_on, IsPolynomialOn}
 use Rattle.function_field.specs.Curves.{CurveValue}
 use Rattle.infinite_theory.specs.Supported.{IsSupportedAt}
+use Rattle.ideal_theory.specs.Records.{IsAdmitted}
 use Rattle.ff_lattice.specs.Lattices.{LatticeValue, IsLatticeValue, Contains, row_elems}
 use Rattle.value_theory.specs.IntegralLattices.{presentation, IsOverPowerOfT}
 use Rattle.value_theory.specs.Primes.{PrimeValue, IsPrimeOf}
@@ -123,6 +124,14 @@ module _ (k : CodeField) (q : PresValue) where
   IsProductOfAll a (j ∷ js) l = (b : LatticeValue) × IsProductLattice a j b × IsProductOfAll b js l
 
   module _ (o : LatticeValue) where
+    -- what inverses and powers over an order ask of a lattice: it is closed under the order, and at each irreducible
+    -- polynomial the order is maximal, or the lattice is the order up to functions prime to it
+    pub record IsAdmittedLattice (l : LatticeValue) : Type 0 where
+      pub form : IsLatticeValue k.ops q.n l
+      pub closed : (u v : Functions k q) → Contains k q o u → Contains k q l v
+          → Contains k q l ((functions k q).◌⊗◌ u v)
+      pub admitted : IsAdmitted (equation_of k q) (Contains k q o) (Contains k q l)
+
     -- a lattice with the members of the power P^(-m) over an order
     pub record IsPowerLattice (P : PrimeValue) (m : ℤ) (j : LatticeValue) : Type 0 where
       pub form : IsLatticeValue k.ops q.n j

@@ -4,7 +4,7 @@
 #![tactic(auto)]
 
 ghost use Rattle.std.specs.Prelude.{◌≡◌, ◌↔◌, ◌++◌, ◌-ℤ◌, ◌*ℤ◌, ℤ, List, [], ◌∷◌, length};
-ghost use Rattle.std.proofs.Common.{pos};
+ghost use Rattle.std.proofs.Common.{pos, negsuc};
 ghost use Rattle.ring_theory.specs.Subsets.{Span};
 ghost use Rattle.ff_fields.specs.Field.{CodeField};
 ghost use Rattle.ff_fields.specs.Code.{code_ring};
@@ -23,11 +23,11 @@ ghost use Rattle.lattice_theory.specs.Lattices.{polynomial_ops};
 ghost use Rattle.reduced_basis_theory.specs.Degree.{size};
 ghost use Rattle.reduced_basis_theory.specs.Reduced.{layers};
 ghost use Rattle.space_theory.specs.Spaces.{IsReducedBasis, IsBasisOfBoth, IsLatticeAtInfinity};
-ghost use Rattle.ideal_theory.specs.Records.{IsAdmitted};
-ghost use Rattle.ff_lattice.specs.Lattices.{LatticeValue, Contains, row_elems, pivot_degree_of};
+ghost use Rattle.ff_lattice.specs.Lattices.{LatticeValue, IsLatticeValue, Contains, row_elems, pivot_degree_of};
 ghost use Rattle.value_theory.specs.IntegralLattices.{presentation, IsIntegralLattice};
 ghost use Rattle.value_theory.specs.Primes.{PrimeValue};
-ghost use Rattle.pair_theory.specs.Pairs.{IsSidePrime, ArePrimesOfSides, IsDivisorOfPrimes, IsSumWith, MembersOn, IsLatticeOfDivisor, SpansMembersOverPowersOfT, IsProductLattice, IsProductOfAll, IsPowerLattice, PowersOn, divisor_of_primes, degree_on};
+ghost use Rattle.ff_ideal.specs.Powers.{IntegerPower};
+ghost use Rattle.pair_theory.specs.Pairs.{IsSidePrime, ArePrimesOfSides, IsDivisorOfPrimes, IsSumWith, MembersOn, IsLatticeOfDivisor, SpansMembersOverPowersOfT, IsProductLattice, IsProductOfAll, IsPowerLattice, IsAdmittedLattice, PowersOn, divisor_of_primes, degree_on};
 
 use lattice_theory::FunctionSets;
 
@@ -78,8 +78,7 @@ pub fn divisor_of_primes_law()
 
 /// The pivot degree of the lattice of a divisor of primes is that of the order less the sum of m·deg P over the primes
 /// of the side, and each product with a power P^(-m) lowers it by m·deg P. A power with the exponent 0 changes nothing.
-/// The lattices of divisors, and the primes, are closed under the order and admitted, so that they have inverses and
-/// powers.
+/// The lattices of divisors are closed under the order and admitted, so that they have inverses and powers.
 pub fn powers_law()
     ensures degree { (k : CodeField) (c : CurveValue) (o : Side → LatticeValue) (s : Side) (Ps : List PrimeValue)
         (ms : List ℤ) (D : Divisor (Functions k c.fin)) (l : LatticeValue) → IsCurve k c
@@ -96,20 +95,30 @@ pub fn powers_law()
         → IsDivisor (setting k c.fin) D → IsLatticeOfDivisor k c s D l
         → IsPowerLattice k (presentation c s) o P (pos 0) j → IsProductLattice k (presentation c s) l j product
         → product ≡ l }
-    ensures closed { (k : CodeField) (c : CurveValue) (s : Side) (o : LatticeValue) (D : Divisor (Functions k c.fin))
-        (l : LatticeValue) → IsCurve k c → IsIntegralLattice k c s o → IsDivisor (setting k c.fin) D
-        → IsLatticeOfDivisor k c s D l → (u v : Functions k (presentation c s)) → Contains k (presentation c s) o u
-        → Contains k (presentation c s) l v
-        → Contains k (presentation c s) l ((functions k (presentation c s)).◌⊗◌ u v) }
     ensures admitted { (k : CodeField) (c : CurveValue) (s : Side) (o : LatticeValue) (D : Divisor (Functions k c.fin))
         (l : LatticeValue) → IsCurve k c → IsIntegralLattice k c s o → IsDivisor (setting k c.fin) D
-        → IsLatticeOfDivisor k c s D l
-        → IsAdmitted (equation_of k (presentation c s)) (Contains k (presentation c s) o)
-        (Contains k (presentation c s) l) }
-    ensures prime { (k : CodeField) (c : CurveValue) (s : Side) (o : LatticeValue) (P : PrimeValue) → IsCurve k c
+        → IsLatticeOfDivisor k c s D l → IsAdmittedLattice k (presentation c s) o l }
+{}
+
+/// A prime of a side and its inverse are the powers P^(-m) for m = -1 and m = 1, and the powers of the inverse are those
+/// of the prime with the opposite exponents. Both are closed under the order and admitted, so that they have powers.
+pub fn prime_powers_law()
+    ensures rows { (k : CodeField) (c : CurveValue) (s : Side) (o : LatticeValue) (P : PrimeValue) → IsCurve k c
         → IsIntegralLattice k c s o → IsSidePrime k c s o P
-        → IsAdmitted (equation_of k (presentation c s)) (Contains k (presentation c s) o)
-        (Contains k (presentation c s) P.rows) }
+        → IsPowerLattice k (presentation c s) o P (negsuc 0) P.rows }
+    ensures inverse { (k : CodeField) (c : CurveValue) (s : Side) (o : LatticeValue) (P : PrimeValue) → IsCurve k c
+        → IsIntegralLattice k c s o → IsSidePrime k c s o P
+        → IsPowerLattice k (presentation c s) o P (pos 1) P.inverse }
+    ensures of_inverse { (k : CodeField) (c : CurveValue) (s : Side) (o : LatticeValue) (P : PrimeValue) (m : ℤ)
+        (j : LatticeValue) → IsCurve k c → IsIntegralLattice k c s o → IsSidePrime k c s o P
+        → IsLatticeValue k.ops (presentation c s).n j
+        → ((z : Functions k (presentation c s)) → Contains k (presentation c s) j z
+        ↔ IntegerPower (functions k (presentation c s)).ops (Contains k (presentation c s) o)
+        (Contains k (presentation c s) P.inverse) m z)
+        → IsPowerLattice k (presentation c s) o P m j }
+    ensures admitted { (k : CodeField) (c : CurveValue) (s : Side) (o : LatticeValue) (P : PrimeValue) → IsCurve k c
+        → IsIntegralLattice k c s o → IsSidePrime k c s o P
+        → IsAdmittedLattice k (presentation c s) o P.rows × IsAdmittedLattice k (presentation c s) o P.inverse }
 {}
 
 /// A basis of the lattices of a divisor on both sides is a simultaneous basis of the divisor. A basis of a lattice over

@@ -1,5 +1,5 @@
 -- The theorems of `ListDegrees` and `DivisorLattices`.
-use Rattle.pair_theory.proofs.DivisorLattices.{lattice_zero, lattice_closed, lattice_admitted, prime_admitted}
+use Rattle.pair_theory.proofs.DivisorLattices.{lattice_zero, lattice_has_powers}
 use Rattle.pair_theory.proofs.ListDegrees.{degree_more, degree_of_primes}
 use Rattle.pair_theory.proofs.powers_law.Goals as goal
 
@@ -15,12 +15,5 @@ pub returns-clause-zero : goal.returns-clause-zero
 returns-clause-zero g = λ k c s o D P l j product curve whole is h power times.
     lattice_zero k c curve s o whole D is l h P j product power times
 
-pub returns-clause-closed : goal.returns-clause-closed
-returns-clause-closed g = λ k c s o D l curve whole is h u v u_in v_in.
-    lattice_closed k c curve s o whole D is l h u v u_in v_in
-
 pub returns-clause-admitted : goal.returns-clause-admitted
-returns-clause-admitted g = λ k c s o D l curve whole is h. lattice_admitted k c curve s o whole D is l h
-
-pub returns-clause-prime : goal.returns-clause-prime
-returns-clause-prime g = λ k c s o P curve whole prime. prime_admitted k c curve s o whole P prime
+returns-clause-admitted g = λ k c s o D l curve whole is h. lattice_has_powers k c curve s o whole D l is h
