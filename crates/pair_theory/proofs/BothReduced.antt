@@ -224,13 +224,15 @@ module _ {k : CodeField} (c : Equation k) where
     denominator_some : (e : Polynomial k) → ¬ (e ≡ (polynomials k).𝟘)
         → ¬ ((polynomials k).◌⊗◌ (pow (polynomials k).ops (x_poly k) (bound ds)) e ≡ (polynomials k).𝟘)
     denominator_some e some =
-        product_not_zero (polynomials_domain k) (power (bound ds)) e (power_some c (x_poly k) (x_poly_not_zero k) (bound ds)) some
+        product_not_zero (polynomials_domain k) (power (bound ds)) e
+        (power_some c (x_poly k) (x_poly_not_zero k) (bound ds)) some
 
     times : (e : Polynomial k) (z : FunctionOf c)
         → of_poly c ((polynomials k).◌⊗◌ (pow (polynomials k).ops (x_poly k) (bound ds)) e) ⊗ z
         ≡ X (bound ds) ⊗ (of_poly c e ⊗ z)
     times e z =
-        ap (λ w. w ⊗ z) ((poly_hom c).mul (power (bound ds)) e ∙ ap (λ w. w ⊗ of_poly c e) (power_value c (x_poly k) (bound ds)))
+        ap (λ w. w ⊗ z)
+        ((poly_hom c).mul (power (bound ds)) e ∙ ap (λ w. w ⊗ of_poly c e) (power_value c (x_poly k) (bound ds)))
         ∙ (ring_of c).mul_assoc (X (bound ds)) (of_poly c e) z
 
     coordinates : (z : FunctionOf c) → Coordinates (code_ring k) (polynomial_ops c) bs z

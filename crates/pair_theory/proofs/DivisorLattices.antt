@@ -173,7 +173,8 @@ module _ (k : CodeField) (c : CurveValue) (curve : IsCurve k c) (s : Side) (o : 
       (set_once k c curve s o whole D (Contains k (presentation c s) l) (Contains k (presentation c s) l')
       (set_of_lattice D is l h) (set_of_lattice D is l' i)) (positive_on k c curve s)
 
-module _ (k : CodeField) (c : CurveValue) (curve : IsCurve k c) (D : Divisor (Functions k c.fin)) (l : LatticeValue) where
+module _ (k : CodeField) (c : CurveValue) (curve : IsCurve k c) (D : Divisor (Functions k c.fin))
+    (l : LatticeValue) where
   -- on the finite side the members are what D allows
   pub lattice_members : IsLatticeOfDivisor k c Finite D l → (z : Functions k c.fin)
       → Contains k c.fin l z ↔ MeetsOn (setting k c.fin) D Finite z

@@ -1,6 +1,6 @@
 -- The set of functions of a side's presentation that stands for a divisor on the side: it spans, over the ring of the
--- side, what the divisor allows, and differs from k[t][Y] at t alone. There is one, and one more place is a product with
--- a power of its prime.
+-- side, what the divisor allows, and differs from k[t][Y] at t alone. There is one, and one more place is a product
+-- with a power of its prime.
 use Rattle.std.proofs.Common.{[], subst}
 use Rattle.std.specs.Prelude.{neg_ℤ}
 use Rattle.std.proofs.Math.IntN.{ℤ, pos, ◌*ℤ◌}
@@ -41,7 +41,8 @@ module _ (k : CodeField) (c : CurveValue) (curve : IsCurve k c) (s : Side) (o : 
   abbrev Int : Functions k c.fin → Type 0
   Int = IsIntegralAt (setting k c.fin) s
 
-  pub record IsSetOfDivisor (D : Divisor (Functions k c.fin)) (X : Functions k (presentation c s) → Type 0) : Type 0 where
+  pub record IsSetOfDivisor (D : Divisor (Functions k c.fin)) (X : Functions k (presentation c s) → Type 0) :
+      Type 0 where
     pub lattice : IsTameLattice k c curve s o whole X
     pub extended : SameSet (ExtendedOn k c curve s X) (MeetsOn (setting k c.fin) D s)
 

@@ -147,7 +147,8 @@ module _ (k : CodeField) (c : CurveValue) (curve : IsCurve k c) (o : Side → La
       go r (no n) = record {
         members = r.members;
         is =
-            set_allowed k c curve s (o s) (whole s) (divisor_of_primes k c Ps ms) (divisor_of_primes k c (P ∷ Ps) (m ∷ ms))
+            set_allowed k c curve s (o s) (whole s) (divisor_of_primes k c Ps ms)
+            (divisor_of_primes k c (P ∷ Ps) (m ∷ ms))
             r.members
             (allowed_within (equation_of k c.fin) (finite_disc k c curve) (divisor_of_primes k c Ps ms)
             (divisor_of_primes k c (P ∷ Ps) (m ∷ ms)) is s

@@ -120,7 +120,8 @@ module _ {k : CodeField} (c : Equation k) (some : ¬ (discriminant c ≡ (polyno
         (side_invertible c some P.side) (single n)
         (both (λ e. IsPlace (setting_of c) e.place) (λ e. e.place.side ≡ P.side) (single n) o.divisor.places o.sides)
 
-    module _ (D E : Divisor (FunctionOf c)) (is_D : IsDivisor (setting_of c) D) (m : ℤ) (more : IsMoreAt c D P m E) where
+    module _ (D E : Divisor (FunctionOf c)) (is_D : IsDivisor (setting_of c) D) (m : ℤ)
+        (more : IsMoreAt c D P m E) where
       -- E is D less -m·P, and D is E less m·P
       less_opposite : IsDifference (setting_of c) D (single (neg_ℤ m)) E
       less_opposite = record {

@@ -53,7 +53,10 @@ module _ {k : CodeField} (c : Equation k) where
     space_layers =
         basis_same c (λ z. MeetsOn (setting_of c) D Finite z × MeetsOn (setting_of c) D Infinite z)
         (InSpace (setting_of c) D)
-        (λ z. (λ m s. elim s as (λ t. MeetsOn (setting_of c) D t z) [ Finite ↦ m.0 | Infinite ↦ m.1 ], λ m. (m Finite, m Infinite))) _
+        (λ z. (
+          λ m s. elim s as (λ t. MeetsOn (setting_of c) D t z) [ Finite ↦ m.0 | Infinite ↦ m.1 ],
+          λ m. (m Finite, m Infinite),
+        )) _
         (space_basis c (MeetsOn (setting_of c) D Finite) (MeetsOn (setting_of c) D Infinite) bs (entry (pos 0) ds)
         simultaneous_reduced)
 
@@ -80,8 +83,8 @@ module _ {k : CodeField} (c : Equation k) where
     )
 
 -- a basis of both lattices of a divisor
-module _ (k : CodeField) (c : CurveValue) (curve : IsCurve k c) (D : Divisor (Functions k c.fin)) (fin inf : LatticeValue)
-    (finite : IsLatticeOfDivisor k c Finite D fin) (infinite : IsLatticeOfDivisor k c Infinite D inf) where
+module _ (k : CodeField) (c : CurveValue) (curve : IsCurve k c) (D : Divisor (Functions k c.fin))
+    (fin inf : LatticeValue) (finite : IsLatticeOfDivisor k c Finite D fin) (infinite : IsLatticeOfDivisor k c Infinite D inf) where
   pub simultaneous : (bs : List (Functions k c.fin)) (ds : List ℤ)
       → IsBasisOfBoth (equation_of k c.fin) (Contains k c.fin fin) (InInfiniteSpan k c.fin c.c (row_elems inf)) bs ds
       → IsSimultaneousBasis (setting k c.fin) D bs ds

@@ -1,5 +1,5 @@
--- The powers of a prime as lattices: the prime and its inverse are the powers with the exponents -1 and 1, powers of the
--- inverse are powers of the prime, and both are admitted.
+-- The powers of a prime as lattices: the prime and its inverse are the powers P^(-m) for m = -1 and m = 1, powers of
+-- the inverse are powers of the prime, and both are admitted.
 use Rattle.std.proofs.Common.{◌↔◌, zero, suc}
 use Rattle.std.specs.Prelude.{neg_ℤ}
 use Rattle.std.proofs.Math.IntN.{ℤ, pos, negsuc}

@@ -183,9 +183,12 @@ module _ (k : CodeField) (c : CurveValue) (curve : IsCurve k c) (o : LatticeValu
           (sym (R.mul_assoc (pow R.ops C n) (pow R.ops P n) z)
           ∙ ap (λ w. R.◌⊗◌ w z) (sym (mul_pow R C P n) ∙ ap (λ w. pow R.ops w n) (sym e)))
           ((lattice_module (equation_of k c.inf) Oi (order_is k c curve Infinite o whole).lattice).scale_in
-          (pow R.ops C n) _ (power_in R (IsPolynomial (equation_of k c.inf)) (polynomials_subring (equation_of k c.inf)) C (record { polynomial = d.0; value = refl }) n) m))
+          (pow R.ops C n) _
+          (power_in R (IsPolynomial (equation_of k c.inf)) (polynomials_subring (equation_of k c.inf)) C
+          (record { polynomial = d.0; value = refl }) n) m))
 
-      elsewhere : ¬ IsDivisorIn (polynomials k).ops p (x_poly k) → IsOrderUpTo (equation_of k c.inf) p (Contains k c.inf o) X
+      elsewhere : ¬ IsDivisorIn (polynomials k).ops p (x_poly k)
+          → IsOrderUpTo (equation_of k c.inf) p (Contains k c.inf o) X
       elsewhere n = record {
         factor = power away.exponent;
         factor_in = powers away.exponent;

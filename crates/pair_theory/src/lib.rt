@@ -1,6 +1,6 @@
 //! Divisors given by primes of the orders of both sides of a curve with integers, and the pair of lattices that stands
-//! for a divisor: products of powers of the primes, one for each side. There is no code: each theorem is the contract of
-//! a function with an empty body.
+//! for a divisor: products of powers of the primes, one for each side. There is no code: each theorem is the contract
+//! of a function with an empty body.
 #![tactic(auto)]
 
 ghost use Rattle.std.specs.Prelude.{◌≡◌, ◌↔◌, ◌++◌, ◌-ℤ◌, ◌*ℤ◌, ℤ, List, [], ◌∷◌, length};
@@ -34,8 +34,8 @@ use lattice_theory::FunctionSets;
 /// The lattice of a divisor on a side, for the orders of the integral functions of the sides. The order is that of the
 /// divisor 0. The products of the members of the lattice of D with those of P^(-m), for a prime P of the side, are the
 /// lattice of D + m·P, where P may occur in D. So the product of the powers P^(-m) of different primes, one after
-/// another from the order on, is the lattice of their divisor. On the finite side it has what the divisor allows, on the
-/// infinite one what the divisor allows with powers of t as denominators. A divisor has one lattice on a side.
+/// another from the order on, is the lattice of their divisor. On the finite side it has what the divisor allows, on
+/// the infinite one what the divisor allows with powers of t as denominators. A divisor has one lattice on a side.
 pub fn divisor_lattices_law()
     ensures none { (k : CodeField) (c : CurveValue) (s : Side) (o : LatticeValue) → IsCurve k c
         → IsIntegralLattice k c s o → IsLatticeOfDivisor k c s [] o }
@@ -100,8 +100,9 @@ pub fn powers_law()
         → IsLatticeOfDivisor k c s D l → IsAdmittedLattice k (presentation c s) o l }
 {}
 
-/// A prime of a side and its inverse are the powers P^(-m) for m = -1 and m = 1, and the powers of the inverse are those
-/// of the prime with the opposite exponents. Both are closed under the order and admitted, so that they have powers.
+/// A prime of a side and its inverse are the powers P^(-m) for m = -1 and m = 1, and the powers of the inverse are
+/// those of the prime with the opposite exponents. Both are closed under the order and admitted, so that they have
+/// powers.
 pub fn prime_powers_law()
     ensures rows { (k : CodeField) (c : CurveValue) (s : Side) (o : LatticeValue) (P : PrimeValue) → IsCurve k c
         → IsIntegralLattice k c s o → IsSidePrime k c s o P
@@ -122,8 +123,8 @@ pub fn prime_powers_law()
 {}
 
 /// A basis of the lattices of a divisor on both sides is a simultaneous basis of the divisor. A basis of a lattice over
-/// k[x] whose multiples by the x^(-d_i) are one of a lattice at infinity is a reduced basis of the two, with the degrees
-/// d_i: what a sum of the r_i·b_i has at infinity, the degrees of the r_i tell.
+/// k[x] whose multiples by the x^(-d_i) are one of a lattice at infinity is a reduced basis of the two, with the
+/// degrees d_i: what a sum of the r_i·b_i has at infinity, the degrees of the r_i tell.
 pub fn simultaneous_law<S: FunctionSets>()
     ensures lattices { (k : CodeField) (c : CurveValue) (D : Divisor (Functions k c.fin)) (fin inf : LatticeValue)
         (bs : List (Functions k c.fin)) (ds : List ℤ) → IsCurve k c → IsLatticeOfDivisor k c Finite D fin
