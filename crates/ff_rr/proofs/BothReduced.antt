@@ -1,9 +1,8 @@
 -- A basis of two lattices whose degrees have the sum that those of a reduced basis have is a reduced basis.
-use Rattle.std.proofs.Common.{◌≡◌, ℕ, zero, suc, ◌+◌, ◌-◌, ◌*◌, ◌/◌, ◌<◌, List, [], ◌∷◌, length, sym, ◌∙◌, subst, arith, All}
+use Rattle.std.proofs.Common.{◌≡◌, ℕ, zero, suc, ◌-◌, ◌*◌, ◌/◌, ◌<◌, List, [], ◌∷◌, length, sym, ◌∙◌, subst, arith, All}
 use Rattle.std.proofs.lemmas.List.Elements.{All-head, All-tail, All-weaker}
 use Rattle.std.proofs.Math.IntN.{ℤ, pos, ◌+ℤ◌}
 use Rattle.std.specs.Prelude.{neg_ℤ}
-use Rattle.ring_theory.specs.Subsets.{Span}
 use Rattle.ring_theory.proofs.Subsets.{span_members}
 use Rattle.ff_fields.specs.Field.{CodeField}
 use Rattle.ff_poly.specs.Polynomials.{x_poly}
@@ -14,10 +13,9 @@ use Rattle.function_field.specs.Values.{Functions, equation_of}
 use Rattle.function_field.proofs.ScalarRings.{finite_at_infinity_subring}
 use Rattle.function_field.proofs.Spans.{span_list}
 use Rattle.linear_theory.specs.Lists.{entry}
-use Rattle.lattice_theory.specs.Lattices.{IsLattice}
 use Rattle.reduced_basis_theory.specs.Degree.{degree_sum}
 use Rattle.infinite_theory.specs.Supported.{IsSupportedAt}
-use Rattle.space_theory.specs.Spaces.{IsLatticeAtInfinity, IsReducedBasis, IsBasisOfBoth}
+use Rattle.space_theory.specs.Spaces.{IsReducedBasis, IsBasisOfBoth}
 use Rattle.space_theory.proofs.LatticeBases.{lattice_of_span, span_of_lattice}
 use Rattle.space_theory.proofs.Pairs.{reduced_basis}
 use Rattle.divisor_theory.proofs.Certificates.{reduced_by_sum}

@@ -7,7 +7,7 @@ use Rattle.function_field.specs.Discriminant.{discriminant}
 use Rattle.function_field.specs.Places.{IsIntegralAt}
 use Rattle.function_field.specs.Values.{Functions, setting, equation_of}
 use Rattle.infinite_theory.specs.Supported.{IsSupportedAt}
-use Rattle.ff_lattice.specs.Lattices.{IsLatticeValue, Contains}
+use Rattle.ff_lattice.specs.Lattices.{Contains}
 use Rattle.value_theory.proofs.InfiniteLattices.{finite_disc, integral_supported}
 use Rattle.place_lists_theory.proofs.IntegralOrders.{finite_members}
 use Rattle.split_theory.specs.Splits.{AtInfinity}

@@ -7,6 +7,7 @@ pub mod ConstantSpaces
 pub mod PrintedSpaces
 pub mod TextLists
 pub mod ListedIdempotents
+pub mod ConstantLists
 pub mod TableVectors
 pub mod MadeConstants
 pub mod Combinations

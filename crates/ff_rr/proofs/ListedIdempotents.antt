@@ -12,7 +12,7 @@ use Rattle.function_field.specs.Functions.{Equation, FunctionOf, ring_of}
 use Rattle.function_field.specs.Values.{Functions, functions, function_of, equation_of}
 use Rattle.trace_theory.proofs.Reduced.{field_iff}
 use Rattle.lattice_theory.proofs.Lattices.{span_decided}
-use Rattle.constants_theory.specs.Idempotents.{IsProperIdempotent, IsProperIdempotentOf}
+use Rattle.constants_theory.specs.Idempotents.{IsProperIdempotent}
 use Rattle.value_theory.proofs.InfiniteLattices.{finite_disc}
 use Rattle.ff_falg.specs.Algebras.{IsVector}
 use Rattle.ff_structure.specs.Structures.{StructureValue, structure_algebra}
@@ -78,14 +78,11 @@ module _ (k : CodeField) (f : FrameValue) (h : IsFrame k f) (s : SpaceBasisValue
     (st : StructureValue)
     (is : IsStructureOf (equation_of k f.curve.fin) (map (function_of k f.curve.fin) s.space.functions) st)
     (vs : List (List ℕ))
-    (each : (v : List ℕ) → In v vs → IsProperIdempotentVector k.ops (structure_algebra st) v)
-    (all : (v : List ℕ) → IsProperIdempotentVector k.ops (structure_algebra st) v → In v vs)
-    (zs : List WrittenValue)
-    (listed : AreListed k f.curve.fin (map (function_at k f.curve.fin s.space.functions) vs) zs) where
+    (each : (v : List ℕ) → In v vs → IsProperIdempotentVector k.ops (structure_algebra st) v) where
   same : HaveSameIdempotents (equation_of k f.curve.fin) (map (function_of k f.curve.fin) s.space.functions) st
   same =
-      same_idempotents (equation_of k f.curve.fin) (frame_disc k f h) (map (function_of k f.curve.fin) s.space.functions)
-      c.basis st is
+      same_idempotents (equation_of k f.curve.fin) (frame_disc k f h)
+      (map (function_of k f.curve.fin) s.space.functions) c.basis st is
 
   -- the vectors have one code for each function
   pub vectors_in : All (IsVector k.ops (length s.space.functions)) vs
@@ -96,43 +93,47 @@ module _ (k : CodeField) (f : FrameValue) (h : IsFrame k f) (s : SpaceBasisValue
           subst (λ n. IsVector k.ops n v)
           (is.one_in.size ∙ length-map s.space.functions (function_of k f.curve.fin)) (each v m).idempotent.vector
 
-  pub idempotents_each : All (IsWrittenIdempotent k f.curve.fin) zs
-  idempotents_each = λ i d l. member (get i d l)
-    where
-      proper : (v : List ℕ) → In v vs
-          → IsProperIdempotent k f.curve.fin (function_at k f.curve.fin s.space.functions v)
-      proper v m = (same.members v (subst (λ n. IsVector k.ops n v) is.one_in.size (each v m).idempotent.vector)).0 (each v m)
+  module _ (all : (v : List ℕ) → IsProperIdempotentVector k.ops (structure_algebra st) v → In v vs)
+      (zs : List WrittenValue)
+      (listed : AreListed k f.curve.fin (map (function_at k f.curve.fin s.space.functions) vs) zs) where
+    pub idempotents_each : All (IsWrittenIdempotent k f.curve.fin) zs
+    idempotents_each = λ i d l. member (get i d l)
+      where
+        proper : (v : List ℕ) → In v vs
+            → IsProperIdempotent k f.curve.fin (function_at k f.curve.fin s.space.functions v)
+        proper v m =
+            (same.members v (subst (λ n. IsVector k.ops n v) is.one_in.size (each v m).idempotent.vector)).0 (each v m)
 
-      get : All (Writes k f.curve.fin (IsProperIdempotent k f.curve.fin)) zs
-      get =
-          listed_each k f.curve.fin (IsProperIdempotent k f.curve.fin)
-          (map (function_at k f.curve.fin s.space.functions) vs) zs listed
-          (All-map (IsProperIdempotent k f.curve.fin) (function_at k f.curve.fin s.space.functions) vs
-          (all_in (λ v. IsProperIdempotent k f.curve.fin (function_at k f.curve.fin s.space.functions v)) vs proper))
+        get : All (Writes k f.curve.fin (IsProperIdempotent k f.curve.fin)) zs
+        get =
+            listed_each k f.curve.fin (IsProperIdempotent k f.curve.fin)
+            (map (function_at k f.curve.fin s.space.functions) vs) zs listed
+            (All-map (IsProperIdempotent k f.curve.fin) (function_at k f.curve.fin s.space.functions) vs
+            (all_in (λ v. IsProperIdempotent k f.curve.fin (function_at k f.curve.fin s.space.functions v)) vs proper))
 
-      member : {z : WrittenValue} → Writes k f.curve.fin (IsProperIdempotent k f.curve.fin) z
-          → IsWrittenIdempotent k f.curve.fin z
-      member w = record { function = w.0; written = w.1; proper = w.2 }
+        member : {z : WrittenValue} → Writes k f.curve.fin (IsProperIdempotent k f.curve.fin) z
+            → IsWrittenIdempotent k f.curve.fin z
+        member w = record { function = w.0; written = w.1; proper = w.2 }
 
-  pub idempotents_all : (e : Functions k f.curve.fin) → IsProperIdempotent k f.curve.fin e
-      → Any (IsWritten k f.curve.fin e) zs
-  idempotents_all e p =
-      let v = same.all e p in
-      listed_any k f.curve.fin e (map (function_at k f.curve.fin s.space.functions) vs) zs listed
-      (subst (λ g. In g (map (function_at k f.curve.fin s.space.functions) vs)) (sym v.2)
-      (in_map (function_at k f.curve.fin s.space.functions) v.0 vs (all v.0 v.1)))
+    pub idempotents_all : (e : Functions k f.curve.fin) → IsProperIdempotent k f.curve.fin e
+        → Any (IsWritten k f.curve.fin e) zs
+    idempotents_all e p =
+        let v = same.all e p in
+        listed_any k f.curve.fin e (map (function_at k f.curve.fin s.space.functions) vs) zs listed
+        (subst (λ g. In g (map (function_at k f.curve.fin s.space.functions) vs)) (sym v.2)
+        (in_map (function_at k f.curve.fin s.space.functions) v.0 vs (all v.0 v.1)))
 
-  -- there is none exactly where F is a field
-  pub idempotents_field : (zs ≡ []) ↔ IsField (functions k f.curve.fin).ops
-  idempotents_field =
-      let i = field_is k f.curve h.curve in (
-        λ e. i.1 (λ g p. no_member (IsWritten k f.curve.fin g) zs e (idempotents_all g p)),
-        λ field. empty zs idempotents_each (i.0 field),
-      )
-    where
-      empty : (ws : List WrittenValue) → All (IsWrittenIdempotent k f.curve.fin) ws
-          → ((e : Functions k f.curve.fin) → ¬ IsProperIdempotent k f.curve.fin e) → ws ≡ []
-      empty [] all n = refl
-      empty (w ∷ ws) all n =
-          let m = All-head (IsWrittenIdempotent k f.curve.fin) w ws all in
-          absurd (n m.function m.proper)
+    -- there is none exactly where F is a field
+    pub idempotents_field : (zs ≡ []) ↔ IsField (functions k f.curve.fin).ops
+    idempotents_field =
+        let i = field_is k f.curve h.curve in (
+          λ e. i.1 (λ g p. no_member (IsWritten k f.curve.fin g) zs e (idempotents_all g p)),
+          λ field. empty zs idempotents_each (i.0 field),
+        )
+      where
+        empty : (ws : List WrittenValue) → All (IsWrittenIdempotent k f.curve.fin) ws
+            → ((e : Functions k f.curve.fin) → ¬ IsProperIdempotent k f.curve.fin e) → ws ≡ []
+        empty [] all n = refl
+        empty (w ∷ ws) all n =
+            let m = All-head (IsWrittenIdempotent k f.curve.fin) w ws all in
+            absurd (n m.function m.proper)

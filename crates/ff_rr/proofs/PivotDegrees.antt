@@ -1,15 +1,14 @@
 -- The pivot degrees of the lattices of a frame are at most 0, since the integral functions have k[x][y] and k[t][Y].
-use Rattle.std.proofs.Common.{◌≡◌, ℕ, ◌<◌, ◌≤◌, List, length, refl, sym, subst, arith, All}
+use Rattle.std.proofs.Common.{◌≤◌, length, sym, subst, arith}
 use Rattle.std.proofs.lemmas.Int.{ints}
 use Rattle.std.proofs.lemmas.List.Elements.{All-weaker}
-use Rattle.std.proofs.Math.IntN.{ℤ, pos, ◌-ℤ◌}
+use Rattle.std.proofs.Math.IntN.{ℤ, pos}
 use Rattle.std.specs.Prelude.{◌≤ℤ◌}
 use Rattle.ring_lemmas.proofs.Ring.{one_mul}
 use Rattle.linear_theory.specs.Fields.{domain_of}
 use Rattle.linear_theory.specs.Basis.{IsCombination}
 use Rattle.linear_theory.proofs.Exchange.{exchange}
 use Rattle.ff_fields.specs.Field.{CodeField}
-use Rattle.ff_poly.specs.Polynomials.{x_poly}
 use Rattle.function_field.specs.Functions.{Equation, FunctionOf}
 use Rattle.function_field.specs.Indices.{space_ops}
 use Rattle.function_field.specs.Values.{Functions, functions, equation_of}

@@ -1,5 +1,5 @@
 -- Two bases over k of one space of functions have the same length.
-use Rattle.std.proofs.Common.{◌≡◌, ℕ, zero, suc, ◌<◌, List, [], ◌∷◌, length, map, refl, sym, ◌∙◌, ap, ap₂, subst, arith, All}
+use Rattle.std.proofs.Common.{◌≡◌, ℕ, zero, suc, ◌<◌, List, [], ◌∷◌, length, map, refl, sym, ◌∙◌, ap, ap₂, arith, All}
 use Rattle.std.proofs.lemmas.List.{length-map}
 use Rattle.std.proofs.lemmas.List.Elements.{All-nil, All-cons, All-head, All-tail}
 use Rattle.ring_lemmas.specs.Lists.{coeff_of}
@@ -17,7 +17,7 @@ use Rattle.linear_theory.proofs.Elimination.{length_tabulate}
 use Rattle.ff_fields.specs.Field.{CodeField}
 use Rattle.ff_fields.specs.Code.{Code, code_ring}
 use Rattle.ff_poly.specs.Polynomials.{Polynomial, polynomials, polynomials_domain}
-use Rattle.function_field.specs.Functions.{Equation, FunctionOf, ring_of, setting_of, of_poly, IsCode}
+use Rattle.function_field.specs.Functions.{Equation, FunctionOf, ring_of, setting_of, IsCode}
 use Rattle.function_field.specs.Divisors.{IsSpaceBasis}
 use Rattle.function_field.specs.Indices.{space_ops}
 use Rattle.function_field.specs.Spans.{combination}
@@ -53,7 +53,8 @@ module _ {k : CodeField} (c : Equation k) where
   all_zero : (n : ℕ) (f : ℕ → Code k) → All (λ z. z ≡ 𝟘) (map (code_of c) (tabulate n f)) → (i : ℕ) → i < n
       → f i ≡ (code_ring k).𝟘
   all_zero zero f h i l = absurd (omega arith)
-  all_zero (suc n) f h zero l = code_zero (f 0) (All-head (λ z. z ≡ 𝟘) _ (map (code_of c) (tabulate n (λ i. f (suc i)))) h)
+  all_zero (suc n) f h zero l =
+      code_zero (f 0) (All-head (λ z. z ≡ 𝟘) _ (map (code_of c) (tabulate n (λ i. f (suc i)))) h)
   all_zero (suc n) f h (suc i) l =
       all_zero n (λ i. f (suc i)) (All-tail (λ z. z ≡ 𝟘) _ (map (code_of c) (tabulate n (λ i. f (suc i)))) h) i
       (omega arith)

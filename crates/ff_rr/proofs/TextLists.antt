@@ -1,17 +1,21 @@
 -- Written functions by their texts.
-use Rattle.std.proofs.Common.{◌≡◌, ℕ, ◌+◌, ◌<◌, ◌≤◌, List, [], ◌∷◌, ◌++◌, length, get_or, take, suc, inl, inr, refl, sym, ap, subst, arith, All}
-use Rattle.std.specs.List.{insert, Any, AllPairs, AllZip}
+use Rattle.std.proofs.Common.{◌≡◌, ℕ, ◌+◌, ◌<◌, List, [], ◌∷◌, ◌++◌, length, get_or, map, take, suc, inl, inr, refl, sym, ◌∙◌, ap, subst, arith, All}
+use Rattle.std.specs.Global.{Vec}
+use Rattle.std.proofs.lemmas.List.{take_more}
+use Rattle.std.specs.List.{insert, Any, AllZip}
 use Rattle.std.specs.List.Sorted.{IsPermutation}
 use Rattle.std.proofs.lemmas.List.Elements.{All-nil, All-cons, All-head, All-tail}
-use Rattle.std.proofs.lemmas.List.Sorted.{IsPermutation-refl, IsPermutation-push_more, IsPermutation-insert, All-permutation, Contains-permutation}
+use Rattle.std.proofs.lemmas.List.Sorted.{IsPermutation-push_more, IsPermutation-insert, All-permutation, Contains-permutation}
 use Rattle.ring_theory.specs.Members.{In}
 use Rattle.ff_fields.specs.Field.{CodeField}
-use Rattle.function_field.specs.Values.{PresValue, Functions}
+use Rattle.function_field.specs.Values.{ElemValue, PresValue, Functions}
+use Rattle.ff_falg.specs.Idempotents.{elements_of}
 use Rattle.ff_text.specs.Printed.{WrittenValue, elem_text}
 use Rattle.ff_written.specs.LowestTerms.{IsWritten}
 use Rattle.ff_written.proofs.TextOrder.{text_irreflexive, text_transitive}
 use Rattle.ff_written.proofs.OrderedLists.{ascending_insert}
-use Rattle.ff_rr.specs.Listings.{IsWrittenBefore, AreByText, IsPutInto, AreListed}
+use Rattle.ff_rr.specs.Listings.{IsWrittenBefore, AreByText, IsPutInto, AreListed, function_at}
+use Rattle.ff_rr.proofs.TableVectors.{map_join}
 
 written_irreflexive : (z w : WrittenValue) → z ≡ w → ¬ IsWrittenBefore z w
 written_irreflexive z w e = text_irreflexive _ _ (ap (λ (x : WrittenValue). elem_text x.num x.den) e)
@@ -42,14 +46,6 @@ any_tail : {X : Type 0} (P : X → Type 0) (x : X) (xs : List X) → Any P xs �
 any_tail P x xs h = (suc h.0, h.1, omega arith, h.3, h.4)
 
 module _ (k : CodeField) (p : PresValue) where
-  pub listed_none : AreListed k p [] []
-  listed_none = record {
-    in_turn = [];
-    written = tt;
-    same = IsPermutation-refl [];
-    ascending = λ i j d l within. absurd (omega arith);
-  }
-
   zip_push : (fs : List (Functions k p)) (zs : List WrittenValue) (f : Functions k p) (z : WrittenValue)
       → AllZip (IsWritten k p) fs zs → IsWritten k p f z → AllZip (IsWritten k p) (fs ++ f ∷ []) (zs ++ z ∷ [])
   zip_push [] [] f z h r = (r, tt)
@@ -67,6 +63,26 @@ module _ (k : CodeField) (p : PresValue) where
         (subst (IsPermutation (z ∷ old)) (sym put.is) (IsPermutation-insert old put.position z));
     ascending = put_by_text old z new h.ascending put;
   }
+
+  -- one vector more
+  pub listed_step : (bs : List ElemValue) (vs : List (Vec ℕ)) (i : ℕ) (v : Vec ℕ) (codes : List ℕ) (f : Functions k p)
+      (z : WrittenValue) (old new : List WrittenValue) → i < length vs → v ≡ get_or vs i v → codes ≡ v.items
+      → f ≡ function_at k p bs codes → IsWritten k p f z
+      → AreListed k p (map (function_at k p bs) (elements_of (take i vs))) old → IsPutInto old z new
+      → AreListed k p (map (function_at k p bs) (elements_of (take (i + 1) vs))) new
+  listed_step bs vs i v codes f z old new less v_is codes_is f_is written h put =
+      subst (λ fs. AreListed k p fs new) (sym more)
+      (listed_push (map (function_at k p bs) (elements_of (take i vs))) f z old new written h put)
+    where
+      more : map (function_at k p bs) (elements_of (take (i + 1) vs))
+          ≡ map (function_at k p bs) (elements_of (take i vs)) ++ f ∷ []
+      more =
+          ap (λ ws. map (function_at k p bs) (elements_of ws)) (take_more vs i v less)
+          ∙ ap (map (function_at k p bs)) (map_join (λ (w : Vec ℕ). w.items) (take i vs) (get_or vs i v ∷ []))
+          ∙ map_join (function_at k p bs) (elements_of (take i vs)) ((get_or vs i v).items ∷ [])
+          ∙ ap (λ g. map (function_at k p bs) (elements_of (take i vs)) ++ g ∷ [])
+          (ap (λ (w : Vec ℕ). function_at k p bs w.items) (sym v_is) ∙ ap (function_at k p bs) (sym codes_is)
+          ∙ sym f_is)
 
   -- what holds of the functions holds of the one that a member writes
   module _ (P : Functions k p → Type 0) where

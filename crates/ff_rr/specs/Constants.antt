@@ -1,8 +1,8 @@
 -- The constants of a function field by their basis over k, and by the basis of the two orders that it is read from.
-use Rattle.std.specs.Prelude.{◌≡◌, ◌≤ℤ◌, ◌+◌, ◌-◌, ◌*◌, ◌/◌, ◌+ℤ◌, pos, List, map, All}
+use Rattle.std.specs.Prelude.{◌≡◌, ◌≤ℤ◌, ◌-◌, ◌*◌, ◌/◌, ◌+ℤ◌, pos, map, All}
 use Rattle.ff_fields.specs.Field.{CodeField}
 use Rattle.function_field.specs.Divisors.{IsConstant, IsSpaceBasis}
-use Rattle.function_field.specs.Values.{ElemValue, IsElem, Functions, setting, function_of, equation_of}
+use Rattle.function_field.specs.Values.{IsElem, setting, function_of, equation_of}
 use Rattle.linear_theory.specs.Lists.{entry}
 use Rattle.reduced_basis_theory.specs.Degree.{degree_sum}
 use Rattle.space_theory.specs.Spaces.{IsBasisOfBoth}

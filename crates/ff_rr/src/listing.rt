@@ -1,6 +1,6 @@
 //! The idempotents of a function field as they are listed.
 
-ghost use Rattle.std.specs.Prelude.{◌≡◌, ◌↔◌, [], length, map, All, IfOk, OnOk};
+ghost use Rattle.std.specs.Prelude.{◌≡◌, ◌≤◌, ◌↔◌, [], length, map, All, IfOk, OnOk};
 ghost use Rattle.std.specs.List.{Any};
 ghost use Rattle.ring_lemmas.specs.Ring.{IsField};
 ghost use Rattle.function_field.specs.Values.{IsPresOver, IsElem, Functions, functions};
@@ -49,6 +49,7 @@ fn listed<K: SmallField>(
     vectors: &[Vec<u32>],
 ) -> Result<Vec<Written>, AllocError>
     requires p_in { IsPresOver (K.field k.now).ops p.now }
+    requires positive { 1 ≤ p.now.n }
     requires elements { All (IsElem (K.field k.now).ops p.now.n) functions.now }
     requires vectors { All (IsVector (K.field k.now).ops (length functions.now)) (elements_of vectors.now) }
     ensures { let k = K.field k.now in
@@ -66,8 +67,8 @@ fn listed<K: SmallField>(
 
 /// All idempotents of the function field other than 0 and 1 as they are written, by the bytes of their texts, where the
 /// constants are given, in which they lie. There is none exactly where it is a field. It takes, for a dimension of m of
-/// the constants, m² products of elements with their coordinates, the idempotents of an algebra of m dimensions, and for
-/// each that is listed m products of elements and the factors of a denominator.
+/// the constants, m² products of elements with their coordinates, the idempotents of an algebra of m dimensions, and
+/// for each that is listed m products of elements and the factors of a denominator.
 pub fn idempotents_of<K: SmallField>(
     alloc: Global,
     k: &K,

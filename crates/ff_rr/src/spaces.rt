@@ -59,9 +59,9 @@ impl SpaceBasis {
     }
 }
 
-/// The constants of the function field, the roots of monic polynomials over k, which are the functions that are integral
-/// on both sides: x^j·b_i with 0 ≤ j ≤ -d_i are a basis of them, for the basis b_i of both orders with the degrees d_i.
-/// The field need not be one. It takes the time of `split`, and that of `spanned` for at most n functions.
+/// The constants of the function field, the roots of monic polynomials over k, which are the functions that are
+/// integral on both sides: x^j·b_i with 0 ≤ j ≤ -d_i are a basis of them, for the basis b_i of both orders with the
+/// degrees d_i. The field need not be one. It takes the time of `split`, and that of `spanned` for at most n functions.
 pub fn constants<K: SmallField>(alloc: Global, k: &K, f: &Frame) -> Result<SpaceBasis, AllocError>
     requires { IsFrame (K.field k.now) f.now }
     ensures { IfOk result (IsConstantSpace (K.field k.now) f.now) }

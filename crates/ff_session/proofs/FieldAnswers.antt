@@ -1,11 +1,11 @@
 -- What is computed of a function field once is the answer of its statements.
-use Rattle.std.proofs.Common.{◌≡◌, ℕ, suc, List, [], ◌∷◌, length, map, refl, sym, ap, ◌∙◌, subst}
+use Rattle.std.proofs.Common.{◌≡◌, ℕ, suc, ◌+◌, ◌<◌, List, [], ◌∷◌, ◌++◌, length, map, take, get_or, refl, sym, ap, ap₂, ◌∙◌, subst}
+use Rattle.std.proofs.lemmas.List.{map-append, take_more}
 use Rattle.ff_fields.specs.Field.{CodeField}
 use Rattle.function_field.specs.Divisors.{IsConstant, IsSpaceBasis}
-use Rattle.function_field.specs.Values.{ElemValue, Functions, setting, function_of}
+use Rattle.function_field.specs.Values.{ElemValue, setting, function_of}
 use Rattle.ff_text.specs.Printed.{WrittenValue}
 use Rattle.ff_written.specs.LowestTerms.{elem_of}
-use Rattle.ff_space.specs.Spaces.{IsPrintedBasis}
 use Rattle.ff_rr.specs.Frames.{FrameValue}
 use Rattle.ff_rr.specs.Constants.{SpaceBasisValue, IsConstantSpace}
 use Rattle.ff_cert.specs.RowConstants as constants_row
@@ -19,6 +19,16 @@ same_functions : {X : Type 0} (f : ElemValue → X) (zs : List WrittenValue)
     → map f (map elem_of zs) ≡ map (λ z. f (elem_of z)) zs
 same_functions f [] = refl
 same_functions f (z ∷ zs) = ap (λ xs. f (elem_of z) ∷ xs) (same_functions f zs)
+
+-- one more written
+pub written_more : (elems : List ElemValue) (i : ℕ) (z : ElemValue) (old new : List WrittenValue) (w : WrittenValue)
+    → i < length elems → z ≡ get_or elems i z → map elem_of old ≡ take i elems → elem_of w ≡ z → new ≡ old ++ w ∷ []
+    → map elem_of new ≡ take (i + 1) elems
+written_more elems i z old new w less z_is so_far w_is new_is =
+    ap (map elem_of) new_is
+    ∙ map-append elem_of old (w ∷ [])
+    ∙ ap₂ ◌++◌ so_far (ap (λ v. v ∷ []) (w_is ∙ z_is))
+    ∙ sym (take_more elems i z less)
 
 module _ (k : CodeField) (f : FrameValue) (s : SpaceBasisValue) (h : IsConstantSpace k f s) where
   pub constants_answer : (n : ℕ) (zs : List WrittenValue) → n ≡ length s.space.functions

@@ -1,9 +1,9 @@
 -- The first of the listed idempotents is the one that a curve is refused by; and a field has none.
-use Rattle.std.proofs.Common.{◌≡◌, ◌≢◌, ℕ, ◌+◌, ◌^◌, ◌≤◌, ◌⊎◌, inl, inr, List, [], ◌∷◌, length, refl, sym, ap, ◌∙◌, subst, arith, All}
-use Rattle.std.specs.List.{Any, AllPairs}
+use Rattle.std.proofs.Common.{◌≡◌, ◌≢◌, ℕ, ◌+◌, ◌-◌, ◌^◌, ◌≤◌, ◌⊎◌, inl, inr, List, [], ◌∷◌, length, get_or, refl, sym, ap, ◌∙◌, subst, arith, All}
+use Rattle.std.specs.List.{Any}
 use Rattle.std.proofs.Math.Nat.{le-max_left, le-max_right}
 use Rattle.std.proofs.lemmas.List.Elements.{All-nil, All-cons, All-head, All-tail}
-use Rattle.prime_theory.proofs.Lists.{any_none, any_cases, pairs_head}
+use Rattle.prime_theory.proofs.Lists.{any_cases, pairs_head}
 use Rattle.ring_lemmas.specs.Ring.{IsField}
 use Rattle.ff_fields.specs.Field.{CodeField}
 use Rattle.function_field.specs.Values.{PresValue, Functions, functions, function_of}
@@ -21,6 +21,9 @@ use Rattle.ff_meaning.specs.FirstIdempotents.{IsFirstIdempotent}
 use Rattle.ff_rr.specs.Listings.{AreByText, IsWrittenBefore, IsWrittenIdempotent}
 use Rattle.ff_cert.specs.RowMul as mul_row
 use Rattle.ff_cert.specs.RowOrder as order_row
+use Rattle.ff_meaning.specs.declared.refusal.Refusal.{Refusal}
+use Rattle.ff_meaning.specs.declared.refusal.Refusal.TheVariants.{Reducible}
+use Rattle.ff_session.specs.Steps.{IsReducibleRow}
 use Rattle.ff_session.proofs.AllPlaces.{short_lists}
 
 module _ (k : CodeField) (p : PresValue) (some : 1 ≤ p.n) (n : ℕ) (small : n + 1 ≤ 10 ^ 64) where
@@ -98,6 +101,14 @@ module _ (k : CodeField) (p : PresValue) (some : 1 ≤ p.n) (n : ℕ) (small : n
             = subst IsElemWrittenInFull found.3 (All-tail IsElemWrittenInFull z zs in_full found.0 v found.2) in
             subst (λ (u : WrittenValue). IsBeforeText (elem_text z.num z.den) (elem_text u.num u.den)) v_is
             (behind other different v found.4 full not)
+
+  -- the first of a list that isn't empty is told
+  pub reducible_row : (zs : List WrittenValue) → zs ≢ [] → All (IsWrittenIdempotent k p) zs → AreByText zs
+      → order_row.degree zs ≤ n → ((e : Functions k p) → IsProperIdempotent k p e → Any (IsWritten k p e) zs)
+      → (z : WrittenValue) → z ≡ get_or zs 0 z → (r : Refusal) → r ≡ Reducible z → IsReducibleRow k p r
+  reducible_row [] some h by_text low all z z_is r r_is = absurd (some refl)
+  reducible_row (w ∷ ws) some h by_text low all z z_is r r_is =
+      record { first = w; is_first = first_idempotent w ws h by_text low all; is = r_is ∙ ap Reducible z_is }
 
 -- a field has no idempotents but 0 and 1
 pub whole : (k : CodeField) (p : PresValue) → IsField (functions k p).ops → (e : Functions k p)

@@ -13,7 +13,7 @@ use Rattle.ff_fields.specs.Code.{Code, code_domain, same_code}
 use Rattle.ff_fields.specs.Modulus.{IsFieldModulus, IsFaultOf}
 use Rattle.function_field.specs.declared.side.Side.{Side}
 use Rattle.function_field.specs.Curves.{CurveValue}
-use Rattle.function_field.specs.Values.{PresValue, Functions, functions}
+use Rattle.function_field.specs.Values.{Functions, functions}
 use Rattle.ring_lemmas.specs.Ring.{IsField}
 use Rattle.constants_theory.specs.Idempotents.{IsProperIdempotent}
 use Rattle.value_theory.specs.Primes.{PrimeValue}
@@ -93,13 +93,13 @@ no_field_row p tail k r named h = none tail h.fault named h.holds
 
 no_curve_row : (k : CodeField) (f : List Term) (c : CurveValue) (r : Refusal) → IsCurveOfTerms k f c
     → IsField (functions k c.fin).ops → ¬ IsNoCurve k f r
-no_curve_row k f c r h field (range found) = let none = none_found k.ops k.size (written_codes f) h.is_sum.written in absurd
+no_curve_row k f c r h field (range found) = let none = none_found k.ops k.size
+    (written_codes f) h.is_sum.written in absurd
     (let some = found.1 in cc)
 no_curve_row k f c r h field (fault sum is e some holds told) =
     let same : sum ≡ h.sum = same_terms k sum h.sum is.terms h.is_sum.terms is.codes_in h.is_sum.codes_in
     (λ i j. is.codes i j ∙ sym (h.is_sum.codes i j)) in
     no_fault k h.sum e c some (subst (λ s. IsCurveFault k s e) same holds) h.is_curve
-
 no_curve_row k f c r h field (reducible sum is d d_is z first told) =
     let same : sum ≡ h.sum = same_terms k sum h.sum is.terms h.is_sum.terms is.codes_in h.is_sum.codes_in
     (λ i j. is.codes i j ∙ sym (h.is_sum.codes i j)) in
@@ -147,16 +147,19 @@ curve_answer s f a k F s_is h =
           c.fin.n,
           c.c,
           refl,
-          (refl, record {
-            is_field = data_is k;
-            curve = c;
-            is_curve = subst (λ (l : CodeField). IsCurveOfTerms l f c) (sym (same_field k)) h.curve;
-            whole = subst (λ (l : CodeField). (e : Functions l c.fin) → ¬ IsProperIdempotent l c.fin e)
-                (sym (same_field k)) (whole (field_of k) c.fin h.over.field);
-            degree = refl;
-            number = refl;
-            bound = refl;
-          }),
+          (
+            refl,
+            record {
+              is_field = data_is k;
+              curve = c;
+              is_curve = subst (λ (l : CodeField). IsCurveOfTerms l f c) (sym (same_field k)) h.curve;
+              whole = subst (λ (l : CodeField). (e : Functions l c.fin) → ¬ IsProperIdempotent l c.fin e)
+                  (sym (same_field k)) (whole (field_of k) c.fin h.over.field);
+              degree = refl;
+              number = refl;
+              bound = refl;
+            },
+          ),
         );
         not_refused = λ r found. no_curve_row (field_of k) f c r h.curve h.over.field
             (subst (λ (l : CodeField). IsNoCurve l f r) (laws_are k found.0) found.1);
@@ -183,8 +186,11 @@ module _ (k : AnyField) (c : CurveValue) (Ps : List NamedPlace) (s : Statement) 
   pub mul_answer : (a b : ElemText) (z : WrittenValue) → s ≡ Mul a b → IsProductRead (field_of k) c.fin a b z
       → IsAnswered here s (answers.Mul z) changes.Nothing
   mul_answer a b z s_is h = answered (Mul a b) (answers.Mul z) s_is (record {
-    is_true = (z, refl,
-        (data_is k, subst (λ (l : CodeField). mul_row.IsTrue l c.fin a b z) (sym (same_field k)) h.is, refl));
+    is_true = (
+      z,
+      refl,
+      (data_is k, subst (λ (l : CodeField). mul_row.IsTrue l c.fin a b z) (sym (same_field k)) h.is, refl),
+    );
     not_refused = λ r found. h.no_row r
         (subst (λ (o : FieldOps). IsProductRow o c.fin.n max_degree a b r) (same_ops k) found);
   })
@@ -198,8 +204,12 @@ module _ (k : AnyField) (c : CurveValue) (Ps : List NamedPlace) (s : Statement) 
   pub factor_answer : (g : List Term) (unit : ℕ) (parts : List PowerLine) → s ≡ Factor g
       → AreFactorsRead (field_of k).ops g unit parts → IsAnswered here s (answers.Factor unit parts) changes.Nothing
   factor_answer g unit parts s_is h = answered (Factor g) (answers.Factor unit parts) s_is (record {
-    is_true = (unit, parts, refl,
-        (subst (λ (o : FieldOps). factor_row.IsTrue o g unit parts) (sym (same_ops k)) h.is, refl));
+    is_true = (
+      unit,
+      parts,
+      refl,
+      (subst (λ (o : FieldOps). factor_row.IsTrue o g unit parts) (sym (same_ops k)) h.is, refl),
+    );
     not_refused = λ r found. h.no_row r (subst (λ (o : FieldOps). IsFactorRow o max_degree g r) (same_ops k) found);
   })
 
@@ -212,8 +222,11 @@ module _ (k : AnyField) (c : CurveValue) (Ps : List NamedPlace) (s : Statement) 
   pub order_true : (side : Side) (zs : List WrittenValue) → s ≡ OrderOf side → order_row.IsTrue (field_of k) c side zs
       → IsAnswered here s (answers.OrderOf zs) changes.Nothing
   order_true side zs s_is h = answered (OrderOf side) (answers.OrderOf zs) s_is (record {
-    is_true = (zs, refl,
-        (data_is k, subst (λ (l : CodeField). order_row.IsTrue l c side zs) (sym (same_field k)) h, refl));
+    is_true = (
+      zs,
+      refl,
+      (data_is k, subst (λ (l : CodeField). order_row.IsTrue l c side zs) (sym (same_field k)) h, refl),
+    );
     not_refused = λ r found. found;
   })
 
@@ -221,30 +234,43 @@ module _ (k : AnyField) (c : CurveValue) (Ps : List NamedPlace) (s : Statement) 
       → constants_row.IsTrue (field_of k) c.fin dimension zs
       → IsAnswered here s (answers.Constants dimension zs) changes.Nothing
   constants_true dimension zs s_is h = answered Constants (answers.Constants dimension zs) s_is (record {
-    is_true = (dimension, zs, refl, (
-      data_is k,
-      subst (λ (l : CodeField). constants_row.IsTrue l c.fin dimension zs) (sym (same_field k)) h,
+    is_true = (
+      dimension,
+      zs,
       refl,
-    ));
+      (
+        data_is k,
+        subst (λ (l : CodeField). constants_row.IsTrue l c.fin dimension zs) (sym (same_field k)) h,
+        refl,
+      ),
+    );
     not_refused = λ r found. found;
   })
 
   pub genus_true : (genus : ℕ) → s ≡ Genus → genus_row.IsTrue (field_of k) c.fin genus
       → IsAnswered here s (answers.Genus genus) changes.Nothing
   genus_true genus s_is h = answered Genus (answers.Genus genus) s_is (record {
-    is_true = (genus, refl,
-        (data_is k, subst (λ (l : CodeField). genus_row.IsTrue l c.fin genus) (sym (same_field k)) h, refl));
+    is_true = (
+      genus,
+      refl,
+      (data_is k, subst (λ (l : CodeField). genus_row.IsTrue l c.fin genus) (sym (same_field k)) h, refl),
+    );
     not_refused = λ r found. found;
   })
 
   pub places_true : (over : Over) (count : ℕ) (Ls : List PlaceLines) → s ≡ Places over
       → ArePlacesRead (field_of k) c over count Ls → IsAnswered here s (answers.Places count Ls) changes.Nothing
   places_true over count Ls s_is h = answered (Places over) (answers.Places count Ls) s_is (record {
-    is_true = (count, Ls, refl, (
-      data_is k,
-      subst (λ (l : CodeField). places_row.IsTrue l c over count Ls) (sym (same_field k)) h.is,
+    is_true = (
+      count,
+      Ls,
       refl,
-    ));
+      (
+        data_is k,
+        subst (λ (l : CodeField). places_row.IsTrue l c over count Ls) (sym (same_field k)) h.is,
+        refl,
+      ),
+    );
     not_refused = λ r found. h.no_row r
         (subst (λ (o : FieldOps). IsBaseRow o c.fin.n max_degree_of_places over r) (same_ops k) found.1);
   })
@@ -268,19 +294,23 @@ module _ (k : AnyField) (c : CurveValue) (Ps : List NamedPlace) (s : Statement) 
   place_true name over index L Q s_is h =
       subst (λ t. IsAnswered here t (answers.Place L) (changes.Place name Q)) (sym s_is) (record {
         answer = record {
-          is_true = (L, refl, (
-            data_is k,
-            subst is_true (sym (same_field k)) (record {
-              count = h.count;
-              places = h.places;
-              all = h.all;
-              among = h.among;
-              number = h.number;
-              place = Q;
-              is_place = h.is_place;
-              bound = refl;
-            }),
-          ));
+          is_true = (
+            L,
+            refl,
+            (
+              data_is k,
+              subst is_true (sym (same_field k)) (record {
+                count = h.count;
+                places = h.places;
+                all = h.all;
+                among = h.among;
+                number = h.number;
+                place = Q;
+                is_place = h.is_place;
+                bound = refl;
+              }),
+            ),
+          );
           not_refused = λ r found. h.no_row r
               (subst (λ (l : CodeField). IsPlaceRow l bound name over index r) (laws_are k found.0) found.1);
         };

@@ -1,6 +1,6 @@
 -- Row spaces of vectors over a denominator are spans over k, and reduced rows without a zero row have independent
 -- functions.
-use Rattle.std.proofs.Common.{◌≡◌, ℕ, ◌*◌, ◌<◌, ◌≤◌, List, length, map, replicate, refl, sym, ◌∙◌, ap, subst, arith, ◌↔◌, All}
+use Rattle.std.proofs.Common.{◌≡◌, ℕ, ◌*◌, ◌<◌, ◌≤◌, List, length, map, replicate, refl, sym, ◌∙◌, ap, subst, ◌↔◌, All}
 use Rattle.std.proofs.lemmas.List.{length-map, length-replicate}
 use Rattle.ring_lemmas.specs.Lists.{coeff_of}
 use Rattle.ring_lemmas.specs.Ring.{CommRing}
@@ -17,10 +17,10 @@ use Rattle.linear_theory.proofs.Combination.{combine_cong}
 use Rattle.linear_theory.proofs.Echelon.{coefficient_at_pivot}
 use Rattle.linear_theory.proofs.EchelonBasis.{cut}
 use Rattle.ff_linalg.specs.Forms.{sequences_of, IsReducedBelow}
-use Rattle.ff_linalg.specs.Matrix.{MatrixValue, IsMatrixOver, HasShape}
+use Rattle.ff_linalg.specs.Matrix.{MatrixValue, IsMatrixOver}
 use Rattle.ff_linalg.specs.Space.{IsInRowSpace, IsReducedForm, row_product}
 use Rattle.ff_linalg.proofs.Bridge.{codes_of, length_codes_of, coeff_codes_of, combination_over, length_combination, coeff_zeros, combination_is, codes_of_form}
-use Rattle.function_field.specs.Functions.{Equation, FunctionOf, ring_of, IsCode}
+use Rattle.function_field.specs.Functions.{Equation, ring_of, IsCode}
 use Rattle.function_field.specs.Indices.{space_ops}
 use Rattle.function_field.specs.Values.{PresValue, Functions, equation_of}
 use Rattle.lattice_theory.proofs.Indices.{code_of, code_hom, space}
@@ -114,7 +114,8 @@ module _ (k : CodeField) (p : PresValue) (some_n : 1 ≤ p.n) (den : List ℕ)
 
   -- reduced rows, none of them 0, have independent functions
   pub rows_free : IsReducedForm k.ops m (length m.rows)
-      → IsIndependent (code_ring k).ops (space_ops (equation_of k p)) (IsNull (space_ops (equation_of k p))) row_functions
+      → IsIndependent (code_ring k).ops (space_ops (equation_of k p)) (IsNull (space_ops
+      (equation_of k p))) row_functions
   rows_free reduced u none i l =
       sym (coeff_codes_of k (length m.rows) u i below)
       ∙ sym (coefficient_at_pivot R m.cols (sequences_of k m.rows) r.form (coeff_of R.ops (read k v)) member i

@@ -1,7 +1,6 @@
 -- The coordinates of a function in the functions of a printed basis.
-use Rattle.std.proofs.Common.{◌≡◌, ℕ, zero, suc, ◌*◌, ◌<◌, ◌≤◌, List, [], ◌∷◌, length, map, refl, sym, ◌∙◌, ap, ap₂, subst, arith, All}
+use Rattle.std.proofs.Common.{◌≡◌, ℕ, ◌*◌, ◌≤◌, List, [], ◌∷◌, length, map, refl, sym, ◌∙◌, ap, subst, arith, All}
 use Rattle.std.proofs.lemmas.List.{length-map}
-use Rattle.std.proofs.Math.Nat.{zero-mul}
 use Rattle.ring_lemmas.specs.Lists.{coeff_of}
 use Rattle.ff_fields.specs.Field.{CodeField}
 use Rattle.ff_fields.specs.Code.{code_ring}
@@ -13,7 +12,7 @@ use Rattle.ff_poly.specs.Polynomials.{polynomials, constant_poly}
 use Rattle.polynomial_theory.proofs.ListValues.{monic_poly}
 use Rattle.linear_theory.specs.Module.{combine}
 use Rattle.ff_factor.specs.LowestTerms.{AreSameFractions}
-use Rattle.ff_linalg.specs.Space.{IsSolution, HasNoSolution, IsInRowSpace}
+use Rattle.ff_linalg.specs.Space.{IsSolution, HasNoSolution}
 use Rattle.function_field.specs.Functions.{Equation, of_poly}
 use Rattle.function_field.specs.Indices.{space_ops}
 use Rattle.function_field.specs.Spans.{combination}
@@ -22,12 +21,15 @@ use Rattle.ff_lattice.proofs.Divisors.{monic_value}
 use Rattle.ff_space.specs.Coordinates.{AreCoordinates}
 use Rattle.ff_space.specs.Spaces.{SpaceValue, InCodeSpan, IsSpaceForm}
 use Rattle.ff_space.specs.Steps.{AreQuotientsOver, AreShort, HasNoVectorOver, IsVectorOver}
-use Rattle.ff_space.specs.Vectors.{over_den, parts_of, vector_of, HasVector}
+use Rattle.ff_space.specs.Vectors.{over_den, parts_of, vector_of}
 use Rattle.ff_space.proofs.CodeSpans.{vector_of_span, RowVector}
 use Rattle.ff_space.proofs.Fractions.{fractions_of_functions, functions_of_fractions, numerators_same, parts_count, parts_over, parts_poly, parts_short}
 use Rattle.ff_space.proofs.PrintedBases.{row_functions_are}
 use Rattle.ff_space.proofs.VectorFunctions.{over_den_combination, over_den_injective}
 use Rattle.ff_space.proofs.VectorLists.{parts_of_vectors, vector_long, vector_over}
+use Rattle.std.specs.Prelude.{Result, Ok, Err, Option, Some, None, IfOk, MatchOption}
+use Rattle.std.specs.declared.alloc.AllocError.{AllocError}
+use Rattle.std.specs.Global.{Vec}
 
 module _ (k : CodeField) (z : ElemValue) (den : List ℕ) (width : ℕ) (z_in : IsElem k.ops (length z.num) z)
     (z_monic : IsMonicElem z) (den_in : IsOver k.ops den) (den_monic : IsMonicList den) where
@@ -137,3 +139,11 @@ module _ (k : CodeField) (p : PresValue) (some_n : 1 ≤ p.n) (s : SpaceValue) (
               ∙ ap (combine (space_ops c) (coeff_of (code_ring k).ops (read k cs))) (sym fs_are)
               ∙ listed cs (map (function_of k p) s.functions) count;
         }
+
+    pub coordinates_of_solve : (r : Result (Option (Vec ℕ)) AllocError)
+        → IfOk r (λ o. MatchOption o (HasNoSolution k.ops s.rows v) (λ x. IsSolution k.ops s.rows v x.items))
+        → IfOk r (λ o. MatchOption o (¬ InCodeSpan k p (map (function_of k p) s.functions) (function_of k p z))
+        (λ x. AreCoordinates k p (map (function_of k p) s.functions) (function_of k p z) x.items))
+    coordinates_of_solve (Ok None) none = outside none
+    coordinates_of_solve (Ok (Some x)) sol = coordinates_of_solution x.items sol
+    coordinates_of_solve (Err e) failed = failed

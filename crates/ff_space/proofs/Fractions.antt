@@ -1,7 +1,7 @@
 -- Numerators over a denominator against functions: the same functions have the same fractions, and over one denominator
 -- the same numerators.
 use Rattle.std.proofs.Common.{◌≡◌, ℕ, zero, suc, ◌-◌, ◌*◌, ◌≤◌, List, [], ◌∷◌, ◌++◌, length, map, take, drop, refl, sym, ◌∙◌, ap, ap₂, subst, arith, All}
-use Rattle.std.proofs.lemmas.List.{length-append, length-drop, length-take-le, take-append-drop, nil_from_length, map-append}
+use Rattle.std.proofs.lemmas.List.{length-drop, length-take-le, take-append-drop, nil_from_length, map-append}
 use Rattle.std.proofs.lemmas.List.Elements.{All-nil, All-cons, All-head, All-tail, All-take, All-drop, All-append}
 use Rattle.std.proofs.Math.Nat.{suc-mul, zero-mul}
 use Rattle.ring_lemmas.specs.Ring.{CommRing}
@@ -14,16 +14,16 @@ use Rattle.ff_poly.specs.Polynomials.{Polynomial, polynomials}
 use Rattle.polynomial_theory.proofs.ListValues.{monic_poly}
 use Rattle.ff_factor.specs.LowestTerms.{AreSameFractions}
 use Rattle.ff_factor.specs.Reductions.{values}
-use Rattle.ff_factor.proofs.CommonFactors.{times, times_cancel}
+use Rattle.ff_factor.proofs.CommonFactors.{times_cancel}
 use Rattle.ff_factor.proofs.ValueLists.{same_values, values_same}
 use Rattle.ff_factor.proofs.LowestTerms.{cancel}
-use Rattle.function_field.specs.Values.{ElemValue, PresValue, IsElem, IsMonicElem, Functions, function_of}
+use Rattle.function_field.specs.Values.{PresValue, IsElem, IsMonicElem, Functions, function_of}
 use Rattle.function_field.proofs.SameValues.{same_iff}
 use Rattle.ring_theory.proofs.Evaluate.{length_trim}
 use Rattle.ff_fields.specs.Code.{is_zero_code}
 use Rattle.ff_lattice.proofs.Divisors.{monic_value}
 use Rattle.ff_space.specs.Steps.{AreShort, elems_in}
-use Rattle.ff_space.specs.Vectors.{parts_of, over_den, HasVector}
+use Rattle.ff_space.specs.Vectors.{parts_of, HasVector}
 
 -- the parts of a vector
 pub parts_count : (width n : ℕ) (v : List ℕ) → length (parts_of width n v) ≡ n
@@ -100,7 +100,8 @@ module _ (k : CodeField) where
       → vs ≡ ws
   numerators_same vs ws d vs_in vs_poly ws_in ws_poly d_in d_monic same =
       values_same k vs ws vs_in ws_in vs_poly ws_poly
-      (times_cancel P (value k d) (λ x y. cancel k (value k d) x y (monic_value k d d_in (monic_poly k d d_monic) d_monic))
+      (times_cancel P (value k d) (λ x y. cancel k (value k d) x y (monic_value k d d_in
+      (monic_poly k d d_monic) d_monic))
       (values k vs) (values k ws) (same_values k d d vs ws d_in d_in vs_in ws_in same))
 
   -- many elements over one denominator
@@ -112,7 +113,8 @@ module _ (k : CodeField) where
       pub same : AreSameFractions k.ops ws d others e
 
     pub fractions_of_vectors : (e : List ℕ) (width : ℕ) → IsOver k.ops e → IsMonicList e → (count : ℕ)
-        (ws : List (List ℕ)) (fs : List (Functions k p)) → length ws ≡ count * p.n → All (IsOver k.ops) ws → All IsPoly ws
+        (ws : List (List ℕ)) (fs : List (Functions k p)) → length ws ≡ count * p.n → All (IsOver k.ops) ws
+        → All IsPoly ws
         → map (function_of k p) (elems_in p.n count ws d) ≡ fs → All (HasVector k p e width) fs → HasFractions ws e
     fractions_of_vectors e width e_in e_monic zero ws fs long over poly is have = record {
       others = [];

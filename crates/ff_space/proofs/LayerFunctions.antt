@@ -6,7 +6,6 @@ use Rattle.ring_lemmas.specs.Ring.{CommRing}
 use Rattle.ring_lemmas.specs.Rows.{Row, row_scale}
 use Rattle.ring_lemmas.proofs.Ring.{mul_zero}
 use Rattle.ring_lemmas.proofs.Rows.{pair_path}
-use Rattle.linear_theory.specs.Lists.{entry}
 use Rattle.ff_fields.specs.Field.{CodeField}
 use Rattle.ff_fields.specs.Code.{code_ring}
 use Rattle.ff_fields.specs.Over.{IsOver, IsOver_append, IsOver_trim, IsOver_zeros}
@@ -14,10 +13,10 @@ use Rattle.ff_poly.specs.Words.{shifted}
 use Rattle.ff_poly.specs.Value.{value}
 use Rattle.ff_poly.specs.Polynomials.{Polynomial, polynomials, polynomials_domain, polynomial_discrete, x_poly}
 use Rattle.function_field.specs.Functions.{Equation, function, over, of_poly}
-use Rattle.function_field.specs.Values.{ElemValue, PresValue, Functions, functions, IsElem, function_of, equation_of, row_of_list, row_over, over_checked}
+use Rattle.function_field.specs.Values.{ElemValue, PresValue, functions, IsElem, function_of, equation_of, row_of_list, row_over, over_checked}
 use Rattle.lattice_theory.specs.Lattices.{polynomial_ops}
 use Rattle.reduced_basis_theory.specs.Degree.{size}
-use Rattle.reduced_basis_theory.specs.Reduced.{layers, multiples, variable}
+use Rattle.reduced_basis_theory.specs.Reduced.{multiples}
 use Rattle.space_theory.proofs.FunctionModule.{variable_is}
 use Rattle.ff_lattice.proofs.Fracs.{over_scale}
 use Rattle.ff_lattice.proofs.Spaces.{value_shifted}
@@ -40,7 +39,8 @@ module _ (k : CodeField) where
   shifted_over [] over = All-nil (IsOver k.ops)
   shifted_over (v ∷ vs) over =
       All-cons (IsOver k.ops) (shifted v 1) (map (λ v. shifted v 1) vs)
-      (IsOver_trim (replicate 1 0 ++ v) (IsOver_append (IsOver_zeros k 1) (All-head (IsOver k.ops) v vs over))) (shifted_over vs (All-tail (IsOver k.ops) v vs over))
+      (IsOver_trim (replicate 1 0 ++ v) (IsOver_append (IsOver_zeros k 1) (All-head (IsOver k.ops) v vs over)))
+      (shifted_over vs (All-tail (IsOver k.ops) v vs over))
 
   shifted_count : (vs : List (List ℕ)) → length (map (λ v. shifted v 1) vs) ≡ length vs
   shifted_count [] = refl

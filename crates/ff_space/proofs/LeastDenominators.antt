@@ -1,5 +1,5 @@
 -- The denominator of fractions in lowest terms divides each other denominator of theirs.
-use Rattle.std.proofs.Common.{◌≡◌, ◌≢◌, ℕ, ◌+◌, ◌<◌, ◌≤◌, List, [], ◌∷◌, length, map, refl, sym, ◌∙◌, ap, ap₂, subst, arith, All}
+use Rattle.std.proofs.Common.{◌≡◌, ◌≢◌, ℕ, ◌+◌, ◌<◌, ◌≤◌, List, [], ◌∷◌, length, map, refl, sym, ◌∙◌, ap, ap₂, arith, All}
 use Rattle.std.proofs.lemmas.List.Elements.{All-head, All-tail}
 use Rattle.ring_lemmas.specs.Ring.{CommRing}
 use Rattle.ring_lemmas.proofs.Ring.{mul_zero}
@@ -8,7 +8,7 @@ use Rattle.linear_theory.specs.Euclidean.{IsDivisorIn}
 use Rattle.ff_fields.specs.Field.{CodeField}
 use Rattle.ff_fields.specs.Code.{code_ring, code_domain}
 use Rattle.ff_fields.specs.Over.{IsOver}
-use Rattle.ff_poly.specs.Words.{IsPoly, IsMonicList, DividesList, product_of}
+use Rattle.ff_poly.specs.Words.{IsPoly, DividesList}
 use Rattle.ff_poly.specs.Value.{value}
 use Rattle.ff_poly.specs.Polynomials.{Polynomial, polynomials, codes_of, value_codes_of, value_nil, IsOver_codes_of, IsPoly_codes_of}
 use Rattle.polynomial_theory.proofs.ListValues.{monic_poly}
@@ -19,7 +19,6 @@ use Rattle.ff_factor.specs.Reductions.{values}
 use Rattle.ff_factor.proofs.CommonFactors.{times, times_times, divides_members}
 use Rattle.ff_factor.proofs.ValueLists.{same_values, same_products, values_codes, over_codes}
 use Rattle.ff_factor.proofs.LowestTerms.{IsPrime, least_denominator}
-use Rattle.function_field.proofs.SameValues.{monic_some}
 use Rattle.ff_lattice.proofs.Divisors.{monic_value}
 
 module _ (k : CodeField) where
@@ -76,7 +75,8 @@ module _ (k : CodeField) where
 
         longer : length d ≤ length (codes_of k b)
         longer =
-            low.least (map (codes_of k) r.0) (codes_of k b) (over_codes k r.0) (IsOver_codes_of k b) (IsPoly_codes_of k b)
+            low.least (map (codes_of k) r.0) (codes_of k b) (over_codes k r.0) (IsOver_codes_of k b)
+            (IsPoly_codes_of k b)
             codes_some
             (same_products k (codes_of k b) d vs (map (codes_of k) r.0) (IsOver_codes_of k b) low.den_over low.num_over
             (over_codes k r.0) same)

@@ -2,6 +2,7 @@ pub mod VectorParts
 pub mod VectorFunctions
 pub mod CodeSpans
 pub mod VectorLists
+pub mod LayerLists
 pub mod LeastDenominators
 pub mod Fractions
 pub mod PrintedSpaces

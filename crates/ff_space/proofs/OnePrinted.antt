@@ -1,5 +1,5 @@
 -- A space is printed in one way: two least denominators divide each other, and the reduced echelon form is one.
-use Rattle.std.proofs.Common.{◌≡◌, ℕ, ◌*◌, ◌<◌, ◌≤◌, List, [], ◌∷◌, length, refl, sym, ◌∙◌, ap, ap₂, subst, arith, ◌↔◌, All}
+use Rattle.std.proofs.Common.{◌≡◌, ℕ, ◌*◌, ◌≤◌, List, [], ◌∷◌, length, refl, sym, ◌∙◌, ap, ap₂, subst, arith, ◌↔◌, All}
 use Rattle.ff_fields.specs.Field.{CodeField}
 use Rattle.ff_fields.specs.Code.{Code, code_ring}
 use Rattle.ff_fields.specs.Over.{IsOver}
@@ -44,7 +44,8 @@ module _ (k : CodeField) (a b : MatrixValue) (cols : ℕ) (a_shape : HasShape a 
   spaces = record {
     first_in = rows_within k a b cols_same a_in b_in a_wide (λ v. (same v).0);
     second_in = λ i l.
-        subst (λ n. InSpace n i) (sym cols_same) (rows_within k b a (sym cols_same) b_in a_in b_wide (λ v. (same v).1) i l);
+        subst (λ n. InSpace n i) (sym cols_same) (rows_within k b a (sym cols_same) b_in a_in b_wide (λ v.
+        (same v).1) i l);
   }
     where
       InSpace : ℕ → ℕ → Type 0

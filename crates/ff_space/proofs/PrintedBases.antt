@@ -1,6 +1,5 @@
 -- The functions that are printed for a space are a basis of it over k.
-use Rattle.std.proofs.Common.{◌≡◌, ℕ, zero, suc, ◌*◌, ◌<◌, ◌≤◌, List, [], ◌∷◌, length, get_or, map, refl, sym, ◌∙◌, ap, ap₂, subst, arith, ◌↔◌, All}
-use Rattle.std.proofs.lemmas.List.{length-map}
+use Rattle.std.proofs.Common.{◌≡◌, ℕ, suc, ◌<◌, ◌≤◌, List, [], ◌∷◌, length, get_or, map, refl, sym, ◌∙◌, ap, ap₂, subst, arith, All}
 use Rattle.std.proofs.lemmas.List.Elements.{All-nil, All-cons}
 use Rattle.ring_lemmas.specs.Lists.{coeff_of}
 use Rattle.ff_fields.specs.Field.{CodeField}
@@ -9,9 +8,7 @@ use Rattle.ff_fields.specs.Numbers.{read}
 use Rattle.ff_poly.specs.Value.{value}
 use Rattle.ff_poly.specs.Polynomials.{polynomials}
 use Rattle.polynomial_theory.proofs.ListValues.{monic_poly}
-use Rattle.linear_theory.specs.Module.{combine}
-use Rattle.linear_theory.specs.Basis.{IsBasis, IsNull, IsCombination}
-use Rattle.ff_linalg.specs.Space.{IsInRowSpace}
+use Rattle.linear_theory.specs.Basis.{IsNull, IsCombination}
 use Rattle.ff_linalg.proofs.Bridge.{own_row_codes}
 use Rattle.function_field.specs.Divisors.{IsSpaceBasis}
 use Rattle.function_field.specs.Functions.{Equation, ring_of}
@@ -19,8 +16,8 @@ use Rattle.function_field.specs.Indices.{space_ops}
 use Rattle.function_field.specs.Values.{ElemValue, PresValue, Functions, IsElem, function_of, equation_of, setting}
 use Rattle.space_theory.proofs.CodeBases.{basis_by_codes}
 use Rattle.ff_lattice.proofs.Divisors.{monic_value}
-use Rattle.ff_space.specs.Spaces.{SpaceValue, AreRowFunctions, IsPrintedSpace, IsPrintedBasis, IsSpaceForm}
-use Rattle.ff_space.specs.Vectors.{over_den, IsVectorOf}
+use Rattle.ff_space.specs.Spaces.{SpaceValue, AreRowFunctions, IsPrintedSpace}
+use Rattle.ff_space.specs.Vectors.{over_den}
 use Rattle.ff_space.proofs.CodeSpans.{rows_free}
 use Rattle.ff_space.proofs.VectorFunctions.{over_den_combination}
 

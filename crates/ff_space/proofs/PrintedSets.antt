@@ -1,11 +1,12 @@
 -- Sets with the same members have the same printed form.
-use Rattle.std.proofs.Common.{◌≡◌, ℕ, List, ◌↔◌}
+use Rattle.std.proofs.Common.{List, ◌↔◌}
 use Rattle.ff_fields.specs.Field.{CodeField}
 use Rattle.function_field.specs.Values.{ElemValue, PresValue, Functions}
 use Rattle.ff_space.specs.Spaces.{SpaceValue, IsPrintedSpace, IsPrintedBasis}
 use Rattle.ff_space.specs.Vectors.{over_den}
 
-module _ (k : CodeField) (p : PresValue) (In Out : Functions k p → Type 0) (same : (z : Functions k p) → In z ↔ Out z) where
+module _ (k : CodeField) (p : PresValue) (In Out : Functions k p → Type 0) (same : (z : Functions k p)
+    → In z ↔ Out z) where
   pub space_of_same : (s : SpaceValue) → IsPrintedSpace k p In s → IsPrintedSpace k p Out s
   space_of_same s h = record {
     form = h.form;

@@ -1,22 +1,21 @@
 -- The space that elements span over k is printed by the echelon basis of their vectors over the least denominator.
-use Rattle.std.proofs.Common.{◌≡◌, ◌≢◌, ℕ, ◌*◌, ◌≤◌, List, [], length, map, refl, sym, ◌∙◌, ap, subst, arith, ◌↔◌, All}
+use Rattle.std.proofs.Common.{◌≡◌, ℕ, ◌≤◌, List, length, map, refl, sym, ◌∙◌, subst, ◌↔◌, All}
 use Rattle.std.proofs.lemmas.List.Elements.{All-weaker}
-use Rattle.ring_theory.specs.Subsets.{Span}
 use Rattle.ring_theory.proofs.Subsets.{span_members}
 use Rattle.ff_fields.specs.Field.{CodeField}
 use Rattle.ff_fields.specs.Over.{IsOver}
-use Rattle.ff_poly.specs.Words.{IsPoly, IsMonicList, DividesList}
+use Rattle.ff_poly.specs.Words.{IsMonicList, DividesList}
 use Rattle.ff_poly.specs.Value.{value}
 use Rattle.ff_poly.specs.Polynomials.{polynomials}
 use Rattle.polynomial_theory.proofs.ListValues.{monic_poly}
 use Rattle.function_field.proofs.SameValues.{monic_some}
-use Rattle.function_field.specs.Functions.{Equation, ring_of, IsCode}
+use Rattle.function_field.specs.Functions.{ring_of, IsCode}
 use Rattle.function_field.specs.Values.{ElemValue, PresValue, Functions, function_of, equation_of}
 use Rattle.divisor_theory.proofs.Constants.{code_subring}
 use Rattle.ff_linalg.specs.Matrix.{MatrixValue}
 use Rattle.ff_linalg.specs.Space.{IsInRowSpace}
 use Rattle.ff_lattice.proofs.Divisors.{monic_value}
-use Rattle.ff_space.specs.Spaces.{SpaceValue, InCodeSpan, AreRowFunctions, IsPrintedSpace}
+use Rattle.ff_space.specs.Spaces.{InCodeSpan, AreRowFunctions, IsPrintedSpace}
 use Rattle.ff_space.specs.Steps.{AreLeastNumerators, IsEchelonBasisOf, IsLongest, elems_in, vector_rows}
 use Rattle.ff_space.specs.Vectors.{over_den, IsVectorOf, HasVector, HaveVectors}
 use Rattle.ff_space.proofs.CodeSpans.{space_iff, vector_of_span}

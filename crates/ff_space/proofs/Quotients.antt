@@ -1,7 +1,7 @@
 -- Quotients of products by a denominator, and numerators over a common multiple of the denominators.
-use Rattle.std.proofs.Common.{◌≡◌, ◌≢◌, ℕ, zero, suc, ◌+◌, ◌-◌, ◌*◌, ◌<◌, ◌≤◌, List, [], ◌∷◌, ◌++◌, length, get_or, map, take, drop, refl, sym, ◌∙◌, ap, ap₂, subst, arith, All}
-use Rattle.std.proofs.lemmas.List.{length-append, length-drop, length-take-le, take-append-drop, take_all, take_more, map-append, nil_from_length, take-append-le, drop-append-le}
-use Rattle.std.proofs.lemmas.List.Elements.{All-nil, All-cons, All-head, All-tail, All-append, All-take, All-drop}
+use Rattle.std.proofs.Common.{◌≡◌, ◌≢◌, ℕ, zero, suc, ◌+◌, ◌*◌, ◌<◌, ◌≤◌, List, [], ◌∷◌, ◌++◌, length, get_or, map, take, drop, refl, sym, ◌∙◌, ap, ap₂, subst, arith, All}
+use Rattle.std.proofs.lemmas.List.{length-append, length-drop, length-take-le, take_all, take_more, map-append, nil_from_length, take-append-le, drop-append-le}
+use Rattle.std.proofs.lemmas.List.Elements.{All-nil, All-cons, All-head, All-tail, All-append, All-take, All-drop, All-get_or}
 use Rattle.std.proofs.Math.Nat.{suc-mul, zero-mul}
 use Rattle.ff_fields.specs.Field.{CodeField}
 use Rattle.ff_fields.specs.Over.{IsOver, IsOver_nil}
@@ -9,7 +9,6 @@ use Rattle.ff_poly.specs.Words.{IsPoly, IsMonicList, IsQuotientWithRest, Divides
 use Rattle.ff_poly.specs.PolyOver.{IsOver_product_of}
 use Rattle.ff_poly.specs.Value.{one_quotient, product_of_assoc}
 use Rattle.ff_poly.proofs.Parts.{IsPoly_product_of}
-use Rattle.polynomial_theory.proofs.ListValues.{monic_poly}
 use Rattle.ff_factor.specs.LowestTerms.{AreSameFractions, IsInLowestTermsOf}
 use Rattle.function_field.specs.Values.{ElemValue, PresValue, IsElem, IsMonicElem, function_of}
 use Rattle.ff_lattice.proofs.Divisors.{sum_nil}
@@ -20,6 +19,10 @@ use Rattle.ff_space.proofs.LeastDenominators.{multiple_of_lowest}
 -- lists with a last member, and parts of lists of products
 pub All-last : {A : Type 0} (T : A → Type 0) (xs : List A) (x : A) → All T xs → T x → All T (xs ++ x ∷ [])
 All-last T xs x h t = All-append T xs (x ∷ []) h (All-cons T x [] t (All-nil T))
+
+pub read_default : {A : Type 0} (T : A → Type 0) (xs : List A) (i : ℕ) (x : A) → All T xs → i < length xs
+    → x ≡ get_or xs i x → T x
+read_default T xs i x all less is = subst T (sym is) (All-get_or T xs i x less all)
 
 pub map-take : {A B : Type 0} (f : A → B) (n : ℕ) (xs : List A) → map f (take n xs) ≡ take n (map f xs)
 map-take f zero xs = refl
@@ -51,7 +54,8 @@ module _ (k : CodeField) where
       → IsQuotientWithRest k.ops a d q rest → rest ≢ [] → IsOver k.ops w → IsPoly w → ¬ (a ≡ product_of k.ops d w)
   no_quotient a d q rest w a_in d_in d_poly d_some division some w_in w_poly e =
       some ((one_quotient k a d q w rest [] d_in d_poly division (record {
-        whole = e ∙ sym (sum_nil k (product_of k.ops d w) (IsOver_product_of k d_in w_in) (IsPoly_product_of k.ops d w));
+        whole = e ∙ sym (sum_nil k (product_of k.ops d w) (IsOver_product_of k d_in w_in)
+            (IsPoly_product_of k.ops d w));
         shorter = long d d_some;
         quotient_in = w_in;
         rest_in = IsOver_nil;
@@ -189,7 +193,8 @@ module _ (k : CodeField) where
   module _ (p : PresValue) (some_n : 1 ≤ p.n) (d e : List ℕ) (d_in : IsOver k.ops d) (d_monic : IsMonicList d)
       (e_in : IsOver k.ops e) (e_monic : IsMonicList e) where
     chunks_same : (count : ℕ) (vs ws : List (List ℕ)) → length vs ≡ count * p.n → length ws ≡ count * p.n
-        → All (IsOver k.ops) vs → All IsPoly vs → All (IsOver k.ops) ws → All IsPoly ws → AreSameFractions k.ops vs d ws e
+        → All (IsOver k.ops) vs → All IsPoly vs → All (IsOver k.ops) ws → All IsPoly ws
+        → AreSameFractions k.ops vs d ws e
         → map (function_of k p) (elems_in p.n count vs d) ≡ map (function_of k p) (elems_in p.n count ws e)
     chunks_same zero vs ws vs_long ws_long vs_in vs_poly ws_in ws_poly same = refl
     chunks_same (suc count) vs ws vs_long ws_long vs_in vs_poly ws_in ws_poly same =

@@ -1,18 +1,18 @@
 -- Rows that are written one after another, and the first rows of an echelon form.
-use Rattle.std.proofs.Common.{◌≡◌, ◌≢◌, ℕ, zero, suc, ◌+◌, ◌-◌, ◌*◌, ◌<◌, ◌≤◌, List, [], ◌∷◌, ◌++◌, length, get_or, map, take, drop, replicate, set, refl, sym, ◌∙◌, ap, ap₂, subst, arith, ◌↔◌, All}
-use Rattle.std.proofs.lemmas.List.{length-append, length-drop, length-take-le, length-map, length-set, length-replicate, take_all, take_more, nil_from_length}
+use Rattle.std.proofs.Common.{◌≡◌, ℕ, zero, suc, ◌+◌, ◌-◌, ◌*◌, ◌<◌, ◌≤◌, List, [], ◌∷◌, ◌++◌, length, get_or, map, take, drop, replicate, set, refl, sym, ◌∙◌, ap, ap₂, subst, arith, ◌↔◌, All}
+use Rattle.std.proofs.lemmas.List.{length-drop, length-take-le, length-map, length-set, length-replicate, take_all, take_more, nil_from_length}
 use Rattle.std.proofs.lemmas.List.Elements.{All-nil, All-cons, All-head, All-tail, All-weaker, All-replicate, All-take, All-set, All-get_or}
 use Rattle.std.proofs.lemmas.Grind.{take-set_at}
 use Rattle.std.proofs.Math.Nat.{suc-mul}
 use Rattle.ring_lemmas.specs.Lists.{coeff_of}
-use Rattle.ring_lemmas.specs.Ring.{Operations, CommRing}
+use Rattle.ring_lemmas.specs.Ring.{CommRing}
 use Rattle.ring_lemmas.proofs.Ring.{mul_zero}
 use Rattle.ff_fields.specs.Field.{CodeField}
 use Rattle.ff_fields.specs.Code.{Code, code_ring, raw_ring}
 use Rattle.ff_fields.specs.Numbers.{read}
 use Rattle.ff_fields.specs.Over.{IsOver}
 use Rattle.linear_theory.specs.Module.{combine, sequence_ops}
-use Rattle.linear_theory.specs.Echelon.{row, InRowSpace, IsReducedEchelon}
+use Rattle.linear_theory.specs.Echelon.{row, IsReducedEchelon}
 use Rattle.linear_theory.proofs.Echelon.{column_none}
 use Rattle.ff_linalg.specs.Forms.{sequences_of, IsReducedBelow}
 use Rattle.ff_linalg.specs.Matrix.{MatrixValue, IsMatrixOver, HasShape, first_rows_of, rows_in, zero_matrix}
@@ -88,7 +88,8 @@ rows_written_start rows cols codes m long m_is =
     less_nothing : (n : ℕ) → n - 0 ≡ n
     less_nothing n = omega arith
 
-pub long_rest : (rows cols i : ℕ) (rest codes : List ℕ) (m : MatrixValue) → i < rows → RowsWritten rows cols i rest codes m
+pub long_rest : (rows cols i : ℕ) (rest codes : List ℕ) (m : MatrixValue) → i < rows
+    → RowsWritten rows cols i rest codes m
     → cols ≤ length rest
 long_rest rows cols i rest codes m less h =
     let e : rows - i ≡ suc (rows - (i + 1)) = omega arith in
@@ -337,10 +338,12 @@ vector_more width ws old new i w less w_is old_is new_is =
 
     push : (us : List (List ℕ)) → vector_of width (us ++ w ∷ []) ≡ vector_of width us ++ padded width w
     push [] = none (padded width w)
-    push (u ∷ us) = ap (λ v. padded width u ++ v) (push us) ∙ assoc (padded width u) (vector_of width us) (padded width w)
+    push (u ∷ us) = ap (λ v. padded width u ++ v) (push us) ∙ assoc (padded width u) (vector_of width us)
+        (padded width w)
 
 pub longest_more : (ws : List (List ℕ)) (i most new : ℕ) (w : List ℕ) → i < length ws → w ≡ get_or ws i w
-    → IsLongest (take i ws) most → most ≤ new → length w ≤ new → ((bound : ℕ) → most ≤ bound → length w ≤ bound → new ≤ bound)
+    → IsLongest (take i ws) most → most ≤ new → length w ≤ new → ((bound : ℕ) → most ≤ bound → length w ≤ bound
+    → new ≤ bound)
     → IsLongest (take (i + 1) ws) new
 longest_more ws i most new w less w_is h more longer least =
     subst (λ xs. IsLongest xs new) (ap (λ x. take i ws ++ x ∷ []) w_is ∙ sym (take_more ws i w less)) (record {

@@ -1,8 +1,7 @@
 -- The functions of vectors over a denominator: linear in the vector, and one vector for each function.
-use Rattle.std.proofs.Common.{◌≡◌, ℕ, zero, suc, ◌-◌, ◌*◌, ◌≤◌, List, [], ◌∷◌, length, map, replicate, refl, sym, ◌∙◌, ap, ap₂, subst, arith, All}
+use Rattle.std.proofs.Common.{◌≡◌, ℕ, suc, ◌-◌, ◌*◌, ◌≤◌, List, [], ◌∷◌, length, map, replicate, sym, ◌∙◌, ap, ap₂, subst, arith, All}
 use Rattle.std.proofs.lemmas.List.Elements.{All-head, All-tail}
 use Rattle.ring_lemmas.specs.Lists.{coeff_of, add_lists, scale_list}
-use Rattle.ring_lemmas.specs.Rows.{row_add, row_scale}
 use Rattle.ff_fields.specs.Field.{CodeField}
 use Rattle.ff_fields.specs.Code.{raw_ring, code_ring}
 use Rattle.ff_fields.specs.Numbers.{read}
@@ -14,7 +13,7 @@ use Rattle.ff_linalg.specs.Space.{row_ops}
 use Rattle.ff_linalg.proofs.Bridge.{combination_over}
 use Rattle.function_field.specs.Functions.{Equation, over, of_poly}
 use Rattle.function_field.specs.Indices.{space_ops}
-use Rattle.function_field.specs.Values.{PresValue, Functions, functions, function_of, equation_of, row_of_list}
+use Rattle.function_field.specs.Values.{PresValue, functions, equation_of, row_of_list}
 use Rattle.ff_lattice.proofs.Elements.{elem_over, read_is}
 use Rattle.ff_lattice.proofs.Fracs.{over_add, over_scale, over_zero, over_injective}
 use Rattle.ff_space.specs.Vectors.{over_den, parts_of}

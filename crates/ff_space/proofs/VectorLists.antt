@@ -1,18 +1,18 @@
 -- The vectors of polynomials, many at once: their parts, and rows of them in one list.
-use Rattle.std.proofs.Common.{◌≡◌, ℕ, zero, suc, ◌+◌, ◌-◌, ◌*◌, ◌≤◌, List, [], ◌∷◌, ◌++◌, length, map, take, drop, replicate, refl, sym, ◌∙◌, ap, ap₂, subst, arith, suc-add, zero-add, All}
-use Rattle.std.proofs.lemmas.List.{length-append, length-replicate, length-drop, length-take-le, take_at, drop_at, take-append-drop, nil_from_length}
-use Rattle.std.proofs.lemmas.List.Elements.{All-nil, All-cons, All-head, All-tail, All-take, All-drop}
+use Rattle.std.proofs.Common.{◌≡◌, ℕ, zero, suc, ◌+◌, ◌-◌, ◌*◌, ◌≤◌, List, [], ◌∷◌, ◌++◌, length, map, take, drop, replicate, refl, sym, ◌∙◌, ap, ap₂, arith, suc-add, zero-add, All}
+use Rattle.std.proofs.lemmas.List.{length-append, length-replicate, length-drop, length-take-le, take_at, drop_at}
+use Rattle.std.proofs.lemmas.List.Elements.{All-head, All-tail, All-take, All-drop}
 use Rattle.std.proofs.Math.Nat.{suc-mul, zero-mul, mul_assoc}
 use Rattle.ff_fields.specs.Field.{CodeField}
 use Rattle.ff_fields.specs.Over.{IsOver, IsOver_nil, IsOver_append, IsOver_trim, IsOver_zeros}
 use Rattle.ff_poly.specs.Words.{IsPoly, poly_of}
 use Rattle.ff_poly.specs.PolyOver.{IsPoly_poly_of}
-use Rattle.ff_poly.specs.Value.{value, same_from_value}
+use Rattle.ff_poly.specs.Value.{same_from_value}
 use Rattle.polynomial_theory.proofs.ListValues.{value_padded}
 use Rattle.ff_lattice.proofs.Spaces.{value_poly_of}
 use Rattle.ff_linalg.specs.Matrix.{rows_in, IsMatrixOver, HasShape}
-use Rattle.ff_linalg.proofs.Flat.{length_rows_in, rows_in_wide, rows_in_over}
-use Rattle.function_field.specs.Values.{ElemValue, PresValue, function_of}
+use Rattle.ff_linalg.proofs.Flat.{rows_in_wide, rows_in_over}
+use Rattle.function_field.specs.Values.{PresValue, function_of}
 use Rattle.ff_space.specs.Steps.{AreShort, elems_in, vector_rows}
 use Rattle.ff_space.specs.Vectors.{parts_of, vector_of, over_den}
 
@@ -26,7 +26,8 @@ padded_long width a short =
 
 take_past : {A : Type 0} (xs ys : List A) (m : ℕ) → take (length xs + m) (xs ++ ys) ≡ xs ++ take m ys
 take_past [] ys m = ap (λ i. take i ys) (zero-add m)
-take_past (x ∷ xs) ys m = ap (λ i. take i (x ∷ xs ++ ys)) (suc-add (length xs) m) ∙ ap (λ zs. x ∷ zs) (take_past xs ys m)
+take_past (x ∷ xs) ys m = ap (λ i. take i (x ∷ xs ++ ys)) (suc-add (length xs) m) ∙ ap (λ zs. x ∷ zs)
+    (take_past xs ys m)
 
 drop_past : {A : Type 0} (xs ys : List A) (m : ℕ) → drop (length xs + m) (xs ++ ys) ≡ drop m ys
 drop_past [] ys m = ap (λ i. drop i ys) (zero-add m)
@@ -47,7 +48,8 @@ module _ (width : ℕ) where
   take_vector (suc n) (w ∷ ws) l short =
       let a = padded_long width w (All-head (λ w. length w ≤ width) w ws short) in
       let e : suc n * width ≡ length (padded width w) + n * width = omega (arith, a, suc-mul n width) in
-      ap (λ i. take i (padded width w ++ vector_of width ws)) e ∙ take_past (padded width w) (vector_of width ws) (n * width)
+      ap (λ i. take i (padded width w ++ vector_of width ws)) e ∙ take_past (padded width w) (vector_of width ws)
+      (n * width)
       ∙ ap (λ v. padded width w ++ v) (take_vector n ws (omega arith) (All-tail (λ w. length w ≤ width) w ws short))
 
   pub drop_vector : (n : ℕ) (ws : List (List ℕ)) → n ≤ length ws → AreShort width ws
@@ -57,7 +59,8 @@ module _ (width : ℕ) where
   drop_vector (suc n) (w ∷ ws) l short =
       let a = padded_long width w (All-head (λ w. length w ≤ width) w ws short) in
       let e : suc n * width ≡ length (padded width w) + n * width = omega (arith, a, suc-mul n width) in
-      ap (λ i. drop i (padded width w ++ vector_of width ws)) e ∙ drop_past (padded width w) (vector_of width ws) (n * width)
+      ap (λ i. drop i (padded width w ++ vector_of width ws)) e ∙ drop_past (padded width w) (vector_of width ws)
+      (n * width)
       ∙ drop_vector n ws (omega arith) (All-tail (λ w. length w ≤ width) w ws short)
 
 module _ (k : CodeField) (width : ℕ) where
@@ -70,7 +73,8 @@ module _ (k : CodeField) (width : ℕ) where
   poly_of_padded : (w : List ℕ) → IsOver k.ops w → IsPoly w → poly_of (padded width w) ≡ w
   poly_of_padded w w_in w_poly =
       let long = IsOver_append w_in (IsOver_zeros k (width - length w)) in
-      same_from_value k (poly_of (padded width w)) w (IsOver_trim (padded width w) long) w_in (IsPoly_poly_of (padded width w)) w_poly
+      same_from_value k (poly_of (padded width w)) w (IsOver_trim (padded width w) long) w_in (IsPoly_poly_of
+      (padded width w)) w_poly
       (value_poly_of k (padded width w) long ∙ value_padded k w (width - length w))
 
   -- the parts of the vector of polynomials are these

@@ -1,6 +1,6 @@
 -- The parts of vectors of codes as rows of polynomials: linear in the vector, and one vector for each row.
-use Rattle.std.proofs.Common.{◌≡◌, ℕ, zero, suc, ◌-◌, ◌*◌, ◌≤◌, List, [], ◌∷◌, ◌++◌, length, take, drop, replicate, refl, sym, ◌∙◌, ap, ap₂, subst, arith, All}
-use Rattle.std.proofs.lemmas.List.{length-drop, length-take-le, take-append-drop, take-replicate, drop-replicate, nil_from_length}
+use Rattle.std.proofs.Common.{◌≡◌, ℕ, zero, suc, ◌-◌, ◌*◌, List, [], ◌∷◌, ◌++◌, length, take, drop, replicate, refl, sym, ◌∙◌, ap, ap₂, arith}
+use Rattle.std.proofs.lemmas.List.{length-drop, length-take-le, take-append-drop, drop-replicate, nil_from_length}
 use Rattle.std.proofs.Math.Nat.{suc-mul, zero-mul}
 use Rattle.ring_lemmas.specs.Ring.{Operations}
 use Rattle.ring_lemmas.specs.Lists.{add_lists, scale_list}
@@ -9,7 +9,6 @@ use Rattle.ring_lemmas.proofs.Rows.{pair_path}
 use Rattle.ff_fields.specs.Field.{CodeField}
 use Rattle.ff_fields.specs.Code.{raw_ring}
 use Rattle.ff_fields.specs.Over.{IsOver, IsOver_take, IsOver_drop, IsOver_add, IsOver_scale, IsOver_zeros}
-use Rattle.ff_poly.specs.Words.{poly_of}
 use Rattle.ff_poly.specs.Value.{value}
 use Rattle.ff_poly.specs.Polynomials.{Polynomial, polynomials, constant_poly}
 use Rattle.polynomial_theory.proofs.ListValues.{value_add_lists, value_scale_list, value_zeros, same_lists}
@@ -85,7 +84,8 @@ module _ (k : CodeField) (width : ℕ) where
       let s = IsOver_take width a_in in
       let below = c_in.each 0 0 (omega arith) in
       pair_path
-      (value_poly_of k (take width (scale_list (raw_ring k.ops) c a)) (IsOver_take width (IsOver_scale k c a below a_in))
+      (value_poly_of k (take width (scale_list (raw_ring k.ops) c a)) (IsOver_take width
+      (IsOver_scale k c a below a_in))
       ∙ ap (value k) (take_scale (raw_ring k.ops) width c a)
       ∙ value_scale_list k c (take width a) below s
       ∙ ap ((polynomials k).◌⊗◌ (constant_poly k c)) (sym (value_poly_of k (take width a) s)))

@@ -44,8 +44,8 @@ module _ (k : CodeField) (p : PresValue) where
     pub functions : AreRowFunctions s.den s.width s.rows.rows s.functions
 
   -- the form of a space: over the monic polynomial of least degree for which all its functions have polynomials as
-  -- coordinates, so that each other such polynomial is a multiple of it, and with no more codes than they need, the rows
-  -- are the reduced echelon basis of its vectors
+  -- coordinates, so that each other such polynomial is a multiple of it, and with no more codes than they need, the
+  -- rows are the reduced echelon basis of its vectors
   pub record IsPrintedSpace (In : Functions k p → Type 0) (s : SpaceValue) : Type 0 where
     pub form : IsSpaceForm s
     pub vectors : HaveVectors k p In s.den s.width

@@ -1,14 +1,14 @@
 -- The functions of multiples, quotients and sums of elements, and of lists of them.
-use Rattle.std.proofs.Common.{◌≡◌, ℕ, zero, suc, ◌+◌, ◌-◌, ◌<◌, ◌≤◌, List, [], ◌∷◌, ◌++◌, length, map, take, get_or, refl, sym, ◌∙◌, ap, ap₂, subst, arith, All}
+use Rattle.std.proofs.Common.{◌≡◌, ℕ, zero, suc, ◌+◌, ◌-◌, ◌<◌, List, [], ◌∷◌, ◌++◌, length, map, take, get_or, refl, sym, ◌∙◌, ap, ap₂, arith}
 use Rattle.std.proofs.lemmas.List.{length-map, take_more, length-take-le, get_or-map}
 use Rattle.ff_fields.specs.Field.{CodeField}
 use Rattle.ff_fields.specs.Over.{IsOver}
-use Rattle.ff_poly.specs.Words.{IsPoly, IsMonicList, product_of}
+use Rattle.ff_poly.specs.Words.{IsMonicList, product_of}
 use Rattle.ff_poly.specs.PolyOver.{IsOver_product_of}
 use Rattle.ff_poly.specs.Value.{value, value_product}
 use Rattle.ff_poly.specs.Popov.{multiple_of_row, entry_at, row_at}
 use Rattle.ff_poly.specs.Polynomials.{Polynomial, polynomials}
-use Rattle.ff_poly.proofs.Parts.{IsPoly_product_of, IsMonic_product}
+use Rattle.ff_poly.proofs.Parts.{IsMonic_product}
 use Rattle.ff_popov.specs.Reading.{read_row}
 use Rattle.ff_popov.proofs.ReadRows.{read_multiple}
 use Rattle.ff_popov.proofs.Spans.{multiple_row}
@@ -79,7 +79,8 @@ module _ (k : CodeField) (p : PresValue) where
         den_over = IsOver_product_of k u_in z_in.den_over;
       })
 
-  pub quotient_monic : (u : List ℕ) (z : ElemValue) → IsOver k.ops u → IsMonicList u → IsElem k.ops p.n z → IsMonicElem z
+  pub quotient_monic : (u : List ℕ) (z : ElemValue) → IsOver k.ops u → IsMonicList u → IsElem k.ops p.n z
+      → IsMonicElem z
       → IsMonicList (product_of k.ops u z.den)
   quotient_monic u z u_in u_monic z_in monic = IsMonic_product k u z.den u_in z_in.den_over u_monic monic.monic
 
@@ -109,7 +110,8 @@ module _ (k : CodeField) (p : PresValue) where
       ∙ sym (combine_append (functions_module E) c (take j fs) (get_or fs j (function_of k p z) ∷ []))
       ∙ ap (combine (polynomial_ops E) c) (sym (take_more fs j (function_of k p z) m))
 
-pub multiple_monic : (k : CodeField) (a : List ℕ) (z : ElemValue) → IsMonicElem z → IsMonicElem (record { num = multiple_of_row k.ops a z.num; den = z.den })
+pub multiple_monic : (k : CodeField) (a : List ℕ) (z : ElemValue) → IsMonicElem z → IsMonicElem
+    (record { num = multiple_of_row k.ops a z.num; den = z.den })
 multiple_monic k a z monic =
     record { num_poly = multiple_poly k a z.num; den_poly = monic.den_poly; monic = monic.monic }
 

@@ -1,6 +1,5 @@
 -- What the form of a split says, and that two of one form are equal.
-use Rattle.std.proofs.Common.{◌≡◌, ℕ, zero, suc, ◌*◌, ◌/◌, ◌-◌, ◌<◌, ◌≤◌, List, [], ◌∷◌, length, map, refl, sym, ◌∙◌, ap, ap₂, subst, arith, All, IsPermutation}
-use Rattle.std.proofs.lemmas.List.{length-map}
+use Rattle.std.proofs.Common.{◌≡◌, ℕ, zero, suc, ◌*◌, ◌/◌, ◌-◌, ◌<◌, List, [], ◌∷◌, length, map, refl, sym, ◌∙◌, ap, ap₂, subst, arith, All, IsPermutation}
 use Rattle.std.proofs.lemmas.List.Elements.{All-head, All-tail}
 use Rattle.std.proofs.lemmas.List.Sorted.{IsPermutation-map}
 use Rattle.std.proofs.Math.IntN.{ℤ, pos, ◌+ℤ◌}
@@ -12,7 +11,6 @@ use Rattle.function_field.specs.Functions.{Equation, degree_of_y}
 use Rattle.function_field.specs.Values.{ElemValue, Functions, functions, function_of, equation_of}
 use Rattle.function_field.specs.Curves.{CurveValue, IsCurve}
 use Rattle.linear_theory.specs.Lists.{entry, tabulate}
-use Rattle.lattice_theory.specs.Lattices.{polynomial_ops}
 use Rattle.reduced_basis_theory.specs.Degree.{degree_sum}
 use Rattle.infinite_theory.specs.Supported.{IsSupportedAt}
 use Rattle.space_theory.specs.Spaces.{multiples_of, IsReducedBasis, IsBasisOfBoth}
@@ -27,10 +25,9 @@ use Rattle.split_theory.proofs.RowFunctions.{tabulate_same}
 use Rattle.split_theory.proofs.Scaled.{reduced_degrees}
 use Rattle.split_theory.proofs.SplitBases.{split_reduced}
 use Rattle.split_theory.proofs.SplitDegrees.{split_sum}
-use Rattle.ff_text.specs.Printed.{WrittenValue}
 use Rattle.ff_written.specs.LowestTerms.{IsWritten, elem_of}
 use Rattle.ff_written.proofs.OneWritten.{one_written}
-use Rattle.ff_split.specs.Splits.{SplitValue, IsLowestElem, IsInOrder, IsBefore, columns, IsSplitForm}
+use Rattle.ff_split.specs.Splits.{SplitValue, IsLowestElem, IsInOrder, columns, IsSplitForm}
 use Rattle.ff_split.proofs.Orders.{rising, same_order}
 
 mapped : {X Y Z : Type 0} (f : Y → Z) (g : X → Y) (xs : List X) → map f (map g xs) ≡ map (λ x. f (g x)) xs
@@ -91,7 +88,7 @@ module _ (k : CodeField) (c : CurveValue) (curve : IsCurve k c) (fin inf : Latti
   first_reduced : IsReducedBasis E (Contains k c.fin fin) (AtInfinity k c inf) (functions_of ps) (degree_at ps)
   first_reduced =
       let r = split_reduced k c curve fin inf fin_form inf_form form.u form.matrix.over form.matrix.monic form.m
-          form.matrix.popov form.matrix.spans form.bs form.rows in
+      form.matrix.popov form.matrix.spans form.bs form.rows in
       subst (λ fs. IsReducedBasis E (Contains k c.fin fin) (AtInfinity k c inf) fs (degree_at ps)) (sym ps_functions)
       (record {
         at =

@@ -1,8 +1,8 @@
 -- Coordinates that are found row by row.
-use Rattle.std.proofs.Common.{◌≡◌, ℕ, zero, suc, ◌+◌, ◌<◌, List, [], ◌∷◌, ◌++◌, length, get_or, refl, sym, ◌∙◌, ap, subst, arith, below_more, Option}
+use Rattle.std.proofs.Common.{◌≡◌, ℕ, zero, suc, ◌+◌, ◌<◌, List, [], ◌∷◌, ◌++◌, length, refl, sym, ◌∙◌, ap, subst, arith, below_more, Option}
 use Rattle.std.specs.Prelude.{Result, IfOk, MatchOption}
 use Rattle.std.specs.Global.{Vec}
-use Rattle.std.proofs.lemmas.List.{length-map, length-append}
+use Rattle.std.proofs.lemmas.List.{length-map}
 use Rattle.ff_fields.specs.Field.{FieldOps, CodeField}
 use Rattle.ff_poly.specs.Popov.{rows_of, row_at, InRowSpan, IsCombinationList}
 use Rattle.function_field.specs.Curves.{CurveValue, IsCurve}
@@ -36,7 +36,8 @@ each_more P old new v j size so_far here is =
     ∙ row_last (rows_of old) v.items in
     below_more (λ i. P i (row_at (rows_of new) i)) j
     (λ i less.
-    subst (P i) (sym (ap (λ rows. row_at rows i) whole ∙ row_before (rows_of old) v.items i (omega (arith, less, count))))
+    subst (P i) (sym (ap (λ rows. row_at rows i) whole ∙ row_before (rows_of old) v.items i (omega
+    (arith, less, count))))
     (so_far i less))
     (subst (P j) (sym last) here)
 

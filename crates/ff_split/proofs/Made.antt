@@ -5,7 +5,7 @@ use Rattle.std.proofs.lemmas.List.Elements.{All-nil, All-cons, All-head, All-tai
 use Rattle.std.proofs.lemmas.List.Sorted.{All-permutation}
 use Rattle.std.proofs.Math.IntN.{ℤ}
 use Rattle.ff_fields.specs.Field.{CodeField}
-use Rattle.function_field.specs.Values.{ElemValue, Functions, functions, function_of}
+use Rattle.function_field.specs.Values.{ElemValue, functions, function_of}
 use Rattle.function_field.specs.Curves.{CurveValue}
 use Rattle.linear_theory.specs.Lists.{entry, tabulate}
 use Rattle.ff_lattice.specs.Lattices.{LatticeValue}

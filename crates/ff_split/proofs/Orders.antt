@@ -79,9 +79,10 @@ numbered_once (suc n) s f at c =
         (omega (arith, whole, one, none), λ less. absurd (omega (arith, less, e, first)))
     go (inr h) r =
         let none = h.1 in
-        let rest = r.0 in
-        (omega (arith, whole, none, rest),
-        λ less. let nothing = r.1 (omega (arith, less)) in omega (arith, whole, none, nothing))
+        let rest = r.0 in (
+          omega (arith, whole, none, rest),
+          λ less. let nothing = r.1 (omega (arith, less)) in omega (arith, whole, none, nothing),
+        )
 
 pub tabulate_more : {X : Type 0} (n : ℕ) (f : ℕ → X) → tabulate (n + 1) f ≡ tabulate n f ++ f n ∷ []
 tabulate_more zero f = refl

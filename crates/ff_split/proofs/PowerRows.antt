@@ -1,5 +1,5 @@
 -- Shifted polynomials, and the rows with one of them and zeros else.
-use Rattle.std.proofs.Common.{◌≡◌, ◌≢◌, ℕ, zero, suc, ◌<◌, List, [], ◌∷◌, ◌++◌, length, get_or, replicate, refl, sym, ◌∙◌, ap, ap₂, arith, All, append_assoc}
+use Rattle.std.proofs.Common.{◌≡◌, ℕ, zero, suc, ◌<◌, List, [], ◌∷◌, ◌++◌, length, get_or, replicate, refl, sym, ◌∙◌, ap, ap₂, arith, All, append_assoc}
 use Rattle.std.proofs.lemmas.List.{length-set, length-replicate, get_or-set_same, get_or-set_other}
 use Rattle.std.proofs.lemmas.List.Elements.{All-replicate, All-set}
 use Rattle.ring_lemmas.specs.Ring.{pow}
@@ -42,8 +42,8 @@ module _ (k : CodeField) where
   shifted_monic a j (lower, a_is) = (
     replicate j 0 ++ lower,
     ap poly_of (ap (λ b. replicate j 0 ++ b) a_is ∙ sym (append_assoc (replicate j 0) lower (1 ∷ [])))
-    ∙ trim_trimmed is_zero_code ((replicate j 0 ++ lower) ++ 1 ∷ [])
-    (IsTrimmed_push is_zero_code (replicate j 0 ++ lower) 1 refl),
+        ∙ trim_trimmed is_zero_code ((replicate j 0 ++ lower) ++ 1 ∷ [])
+        (IsTrimmed_push is_zero_code (replicate j 0 ++ lower) 1 refl),
   )
 
   -- a monic polynomial times a power of x

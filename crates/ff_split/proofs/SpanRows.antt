@@ -1,5 +1,5 @@
 -- The rows of a lattice over k[x] in the coordinates of the infinite rows.
-use Rattle.std.proofs.Common.{◌≡◌, ℕ, ◌<◌, List, [], length, map, sym, ap, ◌∙◌, subst, arith, All}
+use Rattle.std.proofs.Common.{◌≡◌, ℕ, List, [], length, map, sym, ap, ◌∙◌, subst, All}
 use Rattle.std.proofs.lemmas.List.{length-map}
 use Rattle.ff_fields.specs.Field.{CodeField}
 use Rattle.ff_poly.specs.Popov.{row_at, IsRow, IsPopovMatrix, HaveSameRowSpan, HasFullRankMatrix, combination_list}
@@ -33,13 +33,15 @@ module _ (k : CodeField) (c : CurveValue) (curve : IsCurve k c) (fin inf : Latti
   }
 
   pub multiple_spanned : (s n : ℕ) (Q W : List (List (List ℕ))) (u : List ℕ) → AreCoordinates k c inf s Q → n ≡ c.fin.n
-      → W ≡ map (λ v. combination_list k.ops n v Q) fin.rows → IsDenominator k fin.den s u → SpanMultiple k c inf fin u W
+      → W ≡ map (λ v. combination_list k.ops n v Q) fin.rows → IsDenominator k fin.den s u
+      → SpanMultiple k c inf fin u W
   multiple_spanned s n Q W u coordinates n_is is denominator =
       products_spanned k c curve fin inf fin_form inf_form s Q coordinates W
       (row_products s Q W coordinates
       (subst (λ n. W ≡ map (λ v. combination_list k.ops n v Q) fin.rows) n_is is)) u denominator
 
-  pub full_rank : (u : List ℕ) (W : List (List (List ℕ))) → IsOver k.ops u → IsMonicList u → SpanMultiple k c inf fin u W
+  pub full_rank : (u : List ℕ) (W : List (List (List ℕ))) → IsOver k.ops u → IsMonicList u
+      → SpanMultiple k c inf fin u W
       → HasFullRankMatrix k.ops c.fin.n W
   full_rank u W u_in monic spanned =
       spanned_full k c curve inf inf_form fin (lattice_set k c.fin (some k c curve) fin fin_form) u

@@ -1,5 +1,5 @@
 -- Rows that are turned one by one.
-use Rattle.std.proofs.Common.{◌≡◌, ℕ, zero, suc, ◌+◌, ◌-◌, ◌*◌, ◌<◌, ◌≤◌, List, [], ◌∷◌, ◌++◌, ◌⊎◌, inl, inr, length, get_or, take, refl, sym, ◌∙◌, ap, ap₂, arith, subst, below_more}
+use Rattle.std.proofs.Common.{◌≡◌, ℕ, suc, ◌+◌, ◌-◌, ◌*◌, ◌<◌, ◌≤◌, List, [], ◌∷◌, ◌++◌, ◌⊎◌, inl, inr, length, get_or, take, sym, ◌∙◌, ap, ap₂, arith, subst, below_more}
 use Rattle.std.specs.Global.{Vec}
 use Rattle.std.proofs.lemmas.List.{take_more, length-map, length-take-le, get_or_past}
 use Rattle.std.proofs.lemmas.Bool.{cases_lt}
@@ -10,7 +10,7 @@ use Rattle.function_field.specs.Curves.{CurveValue, IsCurve}
 use Rattle.ff_lattice.specs.Lattices.{LatticeValue, IsLatticeValue}
 use Rattle.split_theory.specs.Splits.{AreCoordinatesInT, AreCoordinates, turned_row, turned_from}
 use Rattle.split_theory.proofs.Coordinates.{turned_coordinates}
-use Rattle.ff_split.specs.Steps.{AreShort}
+use Rattle.ff_split.specs.Steps.{HaveEntriesWithin}
 
 turned_push : (c m j : ℕ) (rows : List (List (List ℕ))) (v : List (List ℕ))
     → turned_from c m j (rows ++ v ∷ []) ≡ turned_from c m j rows ++ turned_row m (c * (j + length rows)) v ∷ []
@@ -47,7 +47,7 @@ longest_more rows n row old new v less row_is v_is so_far grows here j i below =
 
 -- rows that are all short
 pub all_short : (rows : List (Vec (List ℕ))) (n m : ℕ) → length rows ≤ n
-    → ((j i : ℕ) → j < n → length (entry_at (row_at (rows_of rows) j) i) ≤ m) → AreShort m (rows_of rows)
+    → ((j i : ℕ) → j < n → length (entry_at (row_at (rows_of rows) j) i) ≤ m) → HaveEntriesWithin m (rows_of rows)
 all_short rows n m le each = record { each = λ j i. go j i (cases_lt j n) }
   where
     go : (j i : ℕ) → (j < n) ⊎ (n ≤ j) → length (entry_at (row_at (rows_of rows) j) i) ≤ m
@@ -60,7 +60,7 @@ all_short rows n m le each = record { each = λ j i. go j i (cases_lt j n) }
 -- coordinates in t that are turned are coordinates in x
 pub turned_are : (k : CodeField) (c : CurveValue) (inf : LatticeValue) → IsCurve k c → IsLatticeValue k.ops c.inf.n inf
     → (e least m : ℕ) (q Q : List (List (List ℕ))) → AreCoordinatesInT k c inf e q → least ≡ e + 1 → least ≤ m
-    → AreShort m q → Q ≡ turned_from c.c m 0 q → AreCoordinates k c inf (m - least) Q
+    → HaveEntriesWithin m q → Q ≡ turned_from c.c m 0 q → AreCoordinates k c inf (m - least) Q
 turned_are k c inf curve form e least m q Q coordinates least_is le short is =
     let top : (m - 1) + 1 ≡ m = omega (arith, le, least_is) in
     let exponent : (m - 1) - e ≡ m - least = omega (arith, le, least_is) in

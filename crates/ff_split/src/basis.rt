@@ -170,7 +170,8 @@ fn combinations<K: SmallField>(
     requires u_monic { IsMonicList u.now }
     ensures quotients { let k = K.field k.now in
         IfOk result (λ out.
-        map (λ w. (functions k p.now).◌⊗◌ (of_poly (equation_of k p.now) (value k u.now)) (function_of k p.now w)) out.items
+        map (λ w. (functions k p.now).◌⊗◌ (of_poly (equation_of k p.now) (value k u.now)) (function_of k p.now w))
+        out.items
         ≡ map (λ row. combine (polynomial_ops (equation_of k p.now)) (λ j. value k (entry_at row j))
         (map (function_of k p.now) elems.now)) (rows_of rows.now)) }
     ensures lowest { IfOk result (λ out. All (IsLowestElem (K.field k.now).ops p.now.n) out.items) }

@@ -12,8 +12,8 @@ use crate::rows::zero_row;
 use ff_algebra::curve::Curve;
 use ff_fields::field::SmallField;
 use ff_lattice::Lattice;
-use ff_popov::coordinates;
 use ff_poly::{Poly, poly};
+use ff_popov::coordinates;
 use std::alloc::{AllocError, Global};
 
 /// The denominator times t^exponent in column j of n, and zeros else.

@@ -14,8 +14,8 @@ use crate::turned::coordinates_in_x;
 use ff_algebra::curve::Curve;
 use ff_fields::field::SmallField;
 use ff_lattice::Lattice;
-use ff_popov::popov;
 use ff_poly::{Poly, poly};
+use ff_popov::popov;
 use std::alloc::{AllocError, Global};
 
 /// The denominator of the lattice times x^exponent.

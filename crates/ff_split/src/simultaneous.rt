@@ -68,11 +68,7 @@ impl SplitBasis {
 }
 
 /// The elements at the columns, in their order.
-fn arranged(
-    alloc: Global,
-    elems: &[Elem],
-    order: &[(i64, usize)],
-) -> Result<Vec<Elem>, AllocError>
+fn arranged(alloc: Global, elems: &[Elem], order: &[(i64, usize)]) -> Result<Vec<Elem>, AllocError>
     requires { All (λ p. p.1 < length elems.now) order.now }
     ensures { IfOk result (λ out. out.items
         ≡ map (λ p. entry (record { num = []; den = [] }) elems.now p.1) order.now) }

@@ -6,7 +6,7 @@ ghost use Rattle.ff_poly.specs.Popov.{rows_of, row_at, entry_at};
 ghost use Rattle.function_field.specs.Curves.{IsCurve, reversed_of};
 ghost use Rattle.ff_lattice.specs.Lattices.{IsLatticeValue};
 ghost use Rattle.split_theory.specs.Splits.{AreCoordinates, turned_row, turned_from};
-ghost use Rattle.ff_split.specs.Steps.{AreShort};
+ghost use Rattle.ff_split.specs.Steps.{HaveEntriesWithin};
 
 use crate::coordinates::coordinates_in_t;
 use ff_algebra::curve::Curve;
@@ -16,7 +16,7 @@ use ff_poly::{Poly, poly};
 use std::alloc::{AllocError, Global};
 
 /// x^(m-1)·a(1/x) times x^e, for at most m codes of a.
-fn turned(alloc: Global, a: &Poly, m: usize, e: usize) -> Result<Poly, AllocError>
+fn turned_entry(alloc: Global, a: &Poly, m: usize, e: usize) -> Result<Poly, AllocError>
     requires { length a.now ≤ m }
     ensures { IfOk result (λ p. p ≡ shifted (reversed_of a.now m) e) }
 {
@@ -33,7 +33,7 @@ fn turned_row(alloc: Global, row: &[Poly], m: usize, e: usize) -> Result<Vec<Pol
 {
     let mut out = Vec::new(alloc);
     for a in row {
-        out.push(turned(alloc, a, m, e)?)?;
+        out.push(turned_entry(alloc, a, m, e)?)?;
     }
     Ok(out)
 }
@@ -47,7 +47,7 @@ fn turned_rows(
 ) -> Result<Vec<Vec<Poly>>, AllocError>
     requires small { c < 2 ^ 32 }
     requires few { length rows.now ≤ 4 }
-    requires short { AreShort m (rows_of rows.now) }
+    requires short { HaveEntriesWithin m (rows_of rows.now) }
     ensures { IfOk result (λ out. rows_of out.items ≡ turned_from c m 0 (rows_of rows.now)) }
 {
     let mut out = Vec::new(alloc);
@@ -72,7 +72,7 @@ fn longest_entry(row: &[Poly], least: usize) -> usize
 /// The number of codes of the longest entry of the rows, or the least number that is allowed.
 fn longest(rows: &[Vec<Poly>], least: usize) -> usize
     ensures least { least ≤ result }
-    ensures short { AreShort result (rows_of rows.now) }
+    ensures short { HaveEntriesWithin result (rows_of rows.now) }
 {
     let mut longest = least;
     for row in rows {

@@ -20,7 +20,10 @@ fn rows_of(alloc: Global, elems: &[Elem]) -> Result<RowList, AllocError>
 }
 
 /// The dimension of the constants over the field, and their basis as it is printed.
-pub fn written_constants(alloc: Global, constants: &SpaceBasis) -> Result<(u64, RowList), AllocError>
+pub fn written_constants(
+    alloc: Global,
+    constants: &SpaceBasis,
+) -> Result<(u64, RowList), AllocError>
     ensures dimension { IfOk result (λ r. r.0 ≡ length constants.now.space.functions) }
     ensures functions { IfOk result (λ r. map elem_of r.1 ≡ constants.now.space.functions) }
 {

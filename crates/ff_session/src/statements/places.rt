@@ -98,7 +98,8 @@ pub fn listed_places<K: SmallField>(
     requires codes { IsOver (K.field k.now).ops base.now.p }
     requires irreducible { IsIrreducibleList (K.field k.now).ops base.now.p }
     requires infinite { base.now.side ≡ Infinite → base.now.p ≡ 0 ∷ 1 ∷ [] }
-    ensures { IfOk result (λ r. AreListedPlaces (K.field k.now) frame.now.curve base.now.side base.now.p r.0.items r.1) }
+    ensures { IfOk result (λ r.
+        AreListedPlaces (K.field k.now) frame.now.curve base.now.side base.now.p r.0.items r.1) }
 {
     let primes = primes_over(alloc, k, frame, base)?;
     let list = lines_of_each(alloc, k, frame.curve(), primes.as_slice())?;

@@ -1,4 +1,4 @@
-use Rattle.std.proofs.Common.{◌≡◌, ◌<◌, ◌*◌, ◌/◌, ◌∙◌, ◌≤ℤ◌, ℤ, pos, List, length, sym, ap, ap₂, subst, arith, All, mul_comm}
+use Rattle.std.proofs.Common.{◌<◌, ◌/◌, ◌∙◌, ◌≤ℤ◌, ℤ, pos, List, length, sym, ap, ap₂, subst, All, mul_comm}
 use Rattle.function_field.specs.Divisors.{HasGenus}
 use Rattle.function_field.specs.Values.{setting}
 use Rattle.linear_theory.specs.Lists.{entry}

@@ -1,4 +1,4 @@
-use Rattle.std.proofs.Common.{refl, sym, arith, pos, ◌≤ℤ◌, ◌≡◌}
+use Rattle.std.proofs.Common.{refl, sym, arith, pos, ◌≤ℤ◌}
 use Rattle.std.proofs.lemmas.Int.{ints}
 use Rattle.ff_rr.proofs.GenusSums.{excess_is, less_is}
 use Rattle.ff_rr.proofs.genera.less_one.Goals as goal

@@ -1,14 +1,16 @@
-use Rattle.std.proofs.Common.{length, subst, sym, All, arith, ◌∙◌}
+use Rattle.std.proofs.Common.{[], subst, sym, arith}
 use Rattle.std.proofs.lemmas.List.{take_all}
 use Rattle.function_field.specs.Values.{IsElem}
 use Rattle.ff_poly.specs.Words.{DividesList}
-use Rattle.ff_popov.proofs.Entries.{read_default}
 use Rattle.ff_space.specs.Steps.{AreNumerators, AreQuotientsOver}
-use Rattle.ff_space.proofs.Quotients.{numerators_exist, numerators_more, numerators_none}
+use Rattle.ff_space.proofs.Quotients.{numerators_exist, numerators_more, numerators_none, read_default}
 use Rattle.ff_space.proofs.denominators.all_numerators.Goals as goal
 
 pub loop-z-init : goal.loop-z-init
-loop-z-init g c = numerators_none (g.K.SmallField.field c.args.k.now) c.args.n c.args.e.now
+loop-z-init g c =
+    let k = g.K.SmallField.field c.args.k.now in
+    subst (λ ws. AreNumerators k c.args.n [] ws c.args.e.now) (sym c.new-all.ensures.items)
+    (numerators_none k c.args.n c.args.e.now)
 
 pub numerators_over-requires-clause-z_in : goal.numerators_over-requires-clause-z_in
 numerators_over-requires-clause-z_in g c =
@@ -38,7 +40,7 @@ loop-z-preserved g c =
     = rw c.in-Some.is at c.in_ok-numerators_over.ensures.quotients in
     numerators_more k c.args.n c.args.e.now c.args.zs.now c.loop-z.z-index z c.loop-z.all.items c.in-Some.ws.items _
     c.loop-z-test.true c.z-item.is h c.in_ok-numerators_over.ensures.monic c.requires.e_in c.requires.e_monic
-    c.loop-z.invariant q c.in_ok-append.ensures.items
+    c.loop-z.invariant q c.in_ok-append-in-Some.ensures.items
 
 pub returns : goal.returns
 returns g c =

@@ -1,5 +1,3 @@
-use Rattle.std.proofs.Common.{subst, sym}
-use Rattle.ff_factor.specs.LowestTerms.{IsInLowestTermsOf}
 use Rattle.function_field.proofs.SameValues.{monic_some}
 use Rattle.ff_space.proofs.Quotients.{least_numerators}
 use Rattle.ff_space.proofs.denominators.least_numerators.Goals as goal

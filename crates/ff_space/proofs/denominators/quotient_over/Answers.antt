@@ -1,5 +1,4 @@
-use Rattle.std.proofs.Common.{sym, ◌∙◌, refl, subst}
-use Rattle.ff_poly.specs.Words.{product_of}
+use Rattle.std.proofs.Common.{sym, ◌∙◌, refl}
 use Rattle.ff_factor.proofs.Orders.{not_so}
 use Rattle.ff_space.proofs.Quotients.{no_quotient, quotient_is}
 use Rattle.ff_space.proofs.denominators.quotient_over.Goals as goal

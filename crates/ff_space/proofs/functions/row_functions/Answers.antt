@@ -1,4 +1,4 @@
-use Rattle.std.proofs.Common.{◌≡◌, ◌*◌, [], subst, sym, ◌∙◌, arith, ap, length, All}
+use Rattle.std.proofs.Common.{◌≡◌, ◌*◌, [], subst, sym, ◌∙◌, arith, ap, length}
 use Rattle.std.proofs.lemmas.List.{take_all}
 use Rattle.std.proofs.lemmas.List.Elements.{All-get_or}
 use Rattle.ff_fields.specs.Over.{IsOver}

@@ -1,5 +1,5 @@
-use Rattle.std.proofs.Common.{◌∙◌, ap, ap₂, arith, length, subst, sym}
-use Rattle.ff_linalg.specs.Matrix.{HasShape, zero_matrix}
+use Rattle.std.proofs.Common.{◌∙◌, ap, arith, length, sym}
+use Rattle.ff_linalg.specs.Matrix.{zero_matrix}
 use Rattle.ff_space.proofs.RowLists.{first_rows_start, first_rows_more, first_rows_end, own_shape, row_long}
 use Rattle.ff_space.proofs.rows.first_rows.Goals as goal
 

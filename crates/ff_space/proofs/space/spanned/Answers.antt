@@ -1,4 +1,4 @@
-use Rattle.std.proofs.Common.{map, subst, sym, ap, ◌∙◌, arith, refl, All}
+use Rattle.std.proofs.Common.{map, subst, sym, ap, ◌∙◌, refl, All}
 use Rattle.std.proofs.lemmas.Result.{IfOk-weaker}
 use Rattle.function_field.specs.Values.{IsElem, function_of}
 use Rattle.ff_space.specs.Spaces.{InCodeSpan, IsPrintedSpace}

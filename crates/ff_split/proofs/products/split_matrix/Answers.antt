@@ -17,7 +17,7 @@ unreachable-requires g c =
     let rows = rows_of c.in_ok-rows.rows.items in
     let none = subst (λ f. MatchOption f (¬ HasFullRankMatrix k.ops n rows)
     (λ m. IsPopovMatrix n (rows_of m.items) × All (IsRow k.ops n) (rows_of m.items)
-    × HaveSameRowSpan k.ops n rows (rows_of m.items))) c.in-None.is c.in_ok-popov.ensures in
+    × HaveSameRowSpan k.ops n rows (rows_of m.items))) c.in-None.is c.in_ok-basis.ensures in
     subst (λ n. ¬ HasFullRankMatrix k.ops n rows) (c.len.ensures ∙ c.requires.finite.popov.size) none
     (full_rank k c.args.c.now c.requires.curve c.args.fin.now c.args.inf.now c.requires.finite c.requires.infinite
     c.in_ok-rows.u rows c.in_ok-rows.ensures.over c.in_ok-rows.ensures.monic c.in_ok-rows.ensures.spans)
@@ -29,7 +29,7 @@ returns g c =
     let rows = rows_of c.in_ok-rows.rows.items in
     let made = subst (λ f. MatchOption f (¬ HasFullRankMatrix k.ops n rows)
     (λ m. IsPopovMatrix n (rows_of m.items) × All (IsRow k.ops n) (rows_of m.items)
-    × HaveSameRowSpan k.ops n rows (rows_of m.items))) c.in-Some.is c.in_ok-popov.ensures in
+    × HaveSameRowSpan k.ops n rows (rows_of m.items))) c.in-Some.is c.in_ok-basis.ensures in
     split_matrix_is k c.args.c.now c.requires.curve c.args.fin.now c.args.inf.now c.requires.finite
     c.requires.infinite n c.in_ok-rows.u rows (rows_of c.in-Some.basis.items)
     (c.len.ensures ∙ c.requires.finite.popov.size) c.in_ok-rows.ensures.over c.in_ok-rows.ensures.monic

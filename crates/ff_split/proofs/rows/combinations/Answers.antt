@@ -7,7 +7,8 @@ use Rattle.ff_split.proofs.rows.combinations.Goals as goal
 pub combined-requires-clause-one_each : goal.combined-requires-clause-one_each
 combined-requires-clause-one_each g c =
     let k = g.K.SmallField.field c.args.k.now in
-    ap length c.deref.ensures.value ∙ (read_all (IsRow k.ops (length c.args.rows.now)) c.args.coefficients.now c.loop-c.c-index
+    ap length c.deref.ensures.value ∙ (read_all (IsRow k.ops
+    (length c.args.rows.now)) c.args.coefficients.now c.loop-c.c-index
     c.c-item.result c.requires.coefficients_in c.loop-c-test.true c.c-item.is).size
 
 pub combined-requires-clause-coefficients_in : goal.combined-requires-clause-coefficients_in

@@ -1,4 +1,4 @@
-use Rattle.std.proofs.Common.{◌≡◌, ◌∙◌, subst, sym}
+use Rattle.std.proofs.Common.{◌∙◌, subst}
 use Rattle.std.specs.Prelude.{IfOk}
 use Rattle.function_field.specs.Curves.{CurveValue}
 use Rattle.ff_lattice.specs.Lattices.{LatticeValue, row_elems}
@@ -21,9 +21,11 @@ returns g c =
     let k = g.K.SmallField.field c.args.k.now in
     let f = c.args.frame.now in
     let rows =
-    subst (λ (d : CurveValue). IfOk c.written_rows.result (AreWrittenRows k d c.args.side (row_elems (order_on f c.args.side))))
+    subst (λ (d : CurveValue). IfOk c.written_rows.result (AreWrittenRows k d c.args.side (row_elems
+    (order_on f c.args.side))))
     c.curve.ensures
-    (subst (λ (l : LatticeValue). IfOk c.written_rows.result (AreWrittenRows k c.curve.result.now c.args.side (row_elems l)))
+    (subst (λ (l : LatticeValue). IfOk c.written_rows.result (AreWrittenRows k c.curve.result.now c.args.side
+    (row_elems l)))
     (c.lattice.ensures ∙ c.order_of-o.ensures) c.written_rows.ensures) in
     rows_answer k f.curve c.args.side (order_on f c.args.side) c.written_rows.result
     (integral_on k f c.requires c.args.side) rows

@@ -1,8 +1,7 @@
-use Rattle.std.proofs.Common.{◌∙◌, subst}
 use Rattle.place_lists_theory.proofs.IntegralOrders.{integral_maximal}
 use Rattle.ff_session.specs.FunctionFields.{order_on}
 use Rattle.ff_session.proofs.OrderAnswers.{integral_on}
-use Rattle.ff_session.proofs.PlaceAnswers.{primes_answer}
+use Rattle.ff_session.proofs.PlaceAnswers.{primes_of_equals}
 use Rattle.ff_session.proofs.statements.places.primes_over.Goals as goal
 
 pub places_above-requires-clause-order : goal.places_above-requires-clause-order
@@ -19,5 +18,6 @@ returns g c =
     let k = g.K.SmallField.field c.args.k.now in
     let f = c.args.frame.now in
     let h = c.places_above.ensures in
-    primes_answer k f.curve c.args.base.now.side c.args.base.now.p (order_on f c.args.base.now.side)
-    (integral_on k f c.requires.frame c.args.base.now.side) c.places_above.result h.primes h.sides h.order h.numbers
+    primes_of_equals k f.curve c.args.base.now.side c.args.base.now.p (order_on f c.args.base.now.side)
+    (integral_on k f c.requires.frame c.args.base.now.side) c.curve.result.now c.curve.ensures c.order_of-o.result.now
+    c.order_of-o.ensures c.places_above.result h.primes h.sides h.order h.numbers

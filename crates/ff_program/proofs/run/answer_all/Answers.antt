@@ -5,7 +5,7 @@ use Rattle.ff_program.specs.Output.{IsAnsweredSoFar}
 use Rattle.ff_program.specs.Printing.{Prints, BreaksOff}
 use Rattle.ff_program.proofs.Runs.{after_answer}
 use Rattle.ff_program.proofs.Steps.{on_err, on_ok, rest_at, stopped, broken, printed_on, refused, finished}
-use Rattle.ff_program.proofs.run.run_script.Goals as goal
+use Rattle.ff_program.proofs.run.answer_all.Goals as goal
 
 pub returns-then-is_err : goal.returns-then-is_err
 returns-then-is_err g c =

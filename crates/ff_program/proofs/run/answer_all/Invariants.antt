@@ -3,7 +3,7 @@ use Rattle.ff_script.specs.Scripts.{AreInOrderFrom}
 use Rattle.ff_program.specs.Output.{Block, IsAnsweredSoFar, blocks_text}
 use Rattle.ff_program.specs.Printing.{Prints}
 use Rattle.ff_program.specs.Ready.{IsAfter}
-use Rattle.ff_program.proofs.run.run_script.Given as goal
+use Rattle.ff_program.proofs.run.answer_all.Given as goal
 
 -- the blocks of the statements so far are printed, and the others stand in order behind them
 abbrev pub invariant-loop-s : goal.invariant-loop-s
