@@ -1,6 +1,6 @@
 -- Items of sums at the front of a line: there is one at most.
-use Rattle.std.proofs.Common.{◌≡◌, ◌≢◌, ℕ, ◌<◌, ◌≤◌, Bool, true, false, List, [], ◌∷◌, ◌++◌, length, codes, Option, Some, None, refl, sym, ap, subst, ◌∙◌, append_assoc, arith}
-use Rattle.std.specs.Prelude.{IsTrue}
+use Rattle.std.proofs.Common.{◌≡◌, ◌≢◌, ℕ, ◌<◌, ◌≤◌, Bool, true, false, List, [], ◌∷◌, ◌++◌, length, codes, Option, Some, None, Result, Ok, Err, refl, sym, ap, subst, ◌∙◌, append_assoc, arith}
+use Rattle.std.specs.Prelude.{IsTrue, IfOk, MatchOption}
 use Rattle.std.proofs.lemmas.Bool.{both_ways}
 use Rattle.std.proofs.lemmas.List.{append-nil, length-append}
 use Rattle.ff_text.specs.Spelling.{Then, Is, Blanks, Around, SpellsNumber}
@@ -257,6 +257,13 @@ no_item_mark : (b : ℕ) (i : Item) (bytes r s : List ℕ) → IsMark b → IsFr
     → IsFront (Is (b ∷ [])) bytes s → ⊥
 no_item_mark b i bytes r s is f g = both_ways (begins_with_word bytes)
     (ap begins_with_word (mark_whole b bytes s g) ∙ is.1) (item_begins i bytes r f)
+
+-- what is found, or that nothing is, in other words
+pub match_ok : {X Y : Type 0} (r : Result (Option X) Y) (P R : Type 0) (Q S : X → Type 0) → (P → R)
+    → ((x : X) → Q x → S x) → IfOk r (λ o. MatchOption o P Q) → IfOk r (λ o. MatchOption o R S)
+match_ok (Ok None) P R Q S f g h = f h
+match_ok (Ok (Some x)) P R Q S f g h = g x h
+match_ok (Err e) P R Q S f g h = tt
 
 -- ---- signs
 

@@ -1,6 +1,6 @@
 //! Reads the statement of a line.
 
-ghost use Rattle.std.specs.Prelude.{◌≡◌, ◌↔◌, ◌⊎◌, ◌++◌, false, List, [], ◌∷◌, ℕ, not, position, IsTrue, IfOk, IfErr, IfSome, MatchOption, Option, codes};
+ghost use Rattle.std.specs.Prelude.{◌≡◌, ◌↔◌, ◌⊎◌, ◌++◌, false, List, [], ◌∷◌, ℕ, not, position, IsTrue, IfOk, IfErr, MatchOption, Option, codes};
 ghost use Rattle.std.specs.List.{AllByRecursion};
 ghost use Rattle.ff_text.specs.Spelling.{Is, is_blank, SpellsNumber, SpellsTerms};
 ghost use Rattle.ff_text.specs.Reading.{IsLongestSpelling, IsReadFault};
@@ -489,10 +489,9 @@ fn next_times(bytes: &[u8]) -> Option<(Option<u32>, &[u8])>
 
 /// The item that the bytes begin with, but for its sign, which is given; and what stands behind the blanks after it.
 fn next_item(alloc: Global, minus: bool, bytes: &[u8]) -> Result<Option<(Item, &[u8])>, AllocError>
-    ensures item { IfOk result (λ o. MatchOption o
+    ensures { IfOk result (λ o. MatchOption o
         ((i : Item) (rest : List ℕ) → ¬ IsFront (SpellsItem i) bytes.now rest)
-        (λ x. IsFront (SpellsItem x.0) bytes.now x.1.now)) }
-    ensures sign { IfOk result (λ o. IfSome o (λ x. x.0.minus ≡ minus)) }
+        (λ x. (x.0.minus ≡ minus) × IsFront (SpellsItem x.0) bytes.now x.1.now)) }
 {
     let Some((times, behind)) = next_times(bytes) else {
         return Ok(None);

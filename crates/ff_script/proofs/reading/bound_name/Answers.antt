@@ -1,0 +1,23 @@
+use Rattle.std.proofs.Common.{ℕ, List, codes}
+use Rattle.ff_script.specs.Grammar.{SpellsName}
+use Rattle.ff_script.specs.Reading.{IsFront}
+use Rattle.ff_script.proofs.NameFronts.{no_mark}
+use Rattle.ff_script.proofs.reading.bound_name.Goals as goal
+
+pub returns-in_default : goal.returns-in_default
+returns-in_default c = λ name rest h.
+    let none : (name : List ℕ) (rest : List ℕ) → IsFront (SpellsName name) c.args.bytes.now rest → ⊥ = rw c.in_default.is
+    at c.in_ok-name.ensures in
+    none name h.0 h.1
+
+pub returns-in-Some : goal.returns-in-Some
+returns-in-Some c =
+    let named : IsFront (SpellsName c.in-Some.name) c.args.bytes.now c.in-Some.behind.now = rw c.in-Some.is at
+    c.in_ok-name.ensures in
+    (c.in-Some.behind.now, named, c.in-Some-behind_mark.ensures)
+
+pub returns-in-None : goal.returns-in-None
+returns-in-None c =
+    let named : IsFront (SpellsName c.in-Some.name) c.args.bytes.now c.in-Some.behind.now = rw c.in-Some.is at
+    c.in_ok-name.ensures in
+    no_mark c.args.bytes.now c.in-Some.name c.in-Some.behind.now named c.in-None.ensures
