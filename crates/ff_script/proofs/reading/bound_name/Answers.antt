@@ -10,8 +10,8 @@ returns-in_default c = λ name rest h.
     at c.in_ok-name.ensures in
     none name h.0 h.1
 
-pub returns-in-Some : goal.returns-in-Some
-returns-in-Some c =
+pub returns-in-Some-behind_mark : goal.returns-in-Some-behind_mark
+returns-in-Some-behind_mark c =
     let named : IsFront (SpellsName c.in-Some.name) c.args.bytes.now c.in-Some.behind.now = rw c.in-Some.is at
     c.in_ok-name.ensures in
     (c.in-Some.behind.now, named, c.in-Some-behind_mark.ensures)
