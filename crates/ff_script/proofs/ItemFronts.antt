@@ -1,18 +1,18 @@
 -- Items of sums at the front of a line: there is one at most.
-use Rattle.std.proofs.Common.{◌≡◌, ◌≢◌, ℕ, ◌<◌, ◌≤◌, Bool, true, false, List, [], ◌∷◌, ◌++◌, length, codes, Option, Some, None, Result, Ok, Err, refl, sym, ap, subst, ◌∙◌, append_assoc, arith}
+use Rattle.std.proofs.Common.{◌≡◌, ℕ, ◌<◌, Bool, true, false, List, [], ◌∷◌, ◌++◌, length, codes, Option, Some, None, Result, Ok, Err, refl, sym, ap, subst, ◌∙◌, append_assoc, arith}
 use Rattle.std.specs.Prelude.{IsTrue, IfOk, MatchOption}
 use Rattle.std.proofs.lemmas.Bool.{both_ways}
-use Rattle.std.proofs.lemmas.List.{append-nil, length-append}
+use Rattle.std.proofs.lemmas.List.{length-append}
 use Rattle.ff_text.specs.Spelling.{Then, Is, Blanks, Around, SpellsNumber}
 use Rattle.ff_text.proofs.Texts.{then_of}
 use Rattle.ff_script.specs.declared.script.Item.{Item}
 use Rattle.ff_script.specs.Grammar.{begins_with_word, ends_with_word, begins_with_letter, SpellsName, SpellsTimes, SpellsItem}
 use Rattle.ff_script.specs.Reading.{behind_blanks, begins_with_blank, IsFront, IsTimesFront, IsFirstSignFront, IsNextSignFront, IsFirstItemFront, IsNextItemFront}
 use Rattle.ff_script.proofs.Spans.{AllWord, head_same, all_word_ends, blanks_passed, gap_no_word, words_same}
-use Rattle.ff_script.proofs.Spelled.{Starts, starts_edge, digit_byte, number_word, number_ends, name_some, name_solid, item_solid}
+use Rattle.ff_script.proofs.Spelled.{Starts, starts_edge, digit_byte, number_word, number_ends, name_some, name_solid}
 use Rattle.ff_script.proofs.Fronts.{front_as}
 use Rattle.ff_script.proofs.Several.{IsReadOnce}
-use Rattle.ff_script.proofs.Steps.{front_here, word_rest, number_same, number_shorter}
+use Rattle.ff_script.proofs.Steps.{front_here, word_rest, number_same}
 use Rattle.ff_script.proofs.OverFronts.{words_begin, number_begins}
 use Rattle.ff_script.proofs.NameFronts.{names_one}
 
@@ -348,7 +348,7 @@ next_items_one bytes i j r s h k =
 mark_shorter : (b : ℕ) (bytes rest : List ℕ) → IsFront (Is (b ∷ [])) bytes rest → length rest < length bytes
 mark_shorter b bytes rest f = omega (arith, ap length (mark_whole b bytes rest f), length-append f.gap rest)
 
-pub next_shorter : (bytes : List ℕ) (i : Item) (rest : List ℕ) → IsNextItemFront i bytes rest
+next_shorter : (bytes : List ℕ) (i : Item) (rest : List ℕ) → IsNextItemFront i bytes rest
     → length rest < length bytes
 next_shorter bytes i rest h =
     let sign = go i.minus h.1 in

@@ -60,6 +60,10 @@ module _ (bytes word rest : List ℕ) (first : IsFirstWord bytes word rest) wher
   pub name_here : IsName word → IsFront (SpellsName word) bytes (behind_blanks rest)
   name_here is = front_here (SpellsName word) bytes word rest (is, refl) first.whole (λ e. first.ended)
 
+pub no_bound_name : (bytes : List ℕ) → ((name rest : List ℕ) → IsFront (SpellsName name) bytes rest → ⊥)
+    → (name rest : List ℕ) → IsNameFront name bytes rest → ⊥
+no_bound_name bytes none name rest h = none name h.0 h.1
+
 pub no_mark : (bytes m behind : List ℕ) → IsFront (SpellsName m) bytes behind
     → ((rest : List ℕ) → IsFront (Is (codes "=")) behind rest → ⊥) → (name r : List ℕ) → IsNameFront name bytes r → ⊥
 no_mark bytes m behind f none name r h =

@@ -5,7 +5,7 @@ use Rattle.std.specs.List.{AllByRecursion, slice_split}
 use Rattle.std.proofs.lemmas.List.{append-nil}
 use Rattle.std.proofs.lemmas.List.Elements.{All-nil, All-cons}
 use Rattle.std.proofs.lemmas.List.Splits.{slice_split_at}
-use Rattle.ff_text.specs.Spelling.{Then, Blanks, Around, Each, SpellsNumber, FirstSign, NextSign, SpellsTerms, SpellsElement}
+use Rattle.ff_text.specs.Spelling.{Blanks, Around, Each, SpellsNumber, FirstSign, NextSign, SpellsTerms, SpellsElement}
 use Rattle.ff_text.specs.Printing.{first_sign, next_sign, terms_text, element_text, IsWritableTerms, IsWritableElement}
 use Rattle.ff_text.proofs.Texts.{then_of, around_of, then_blanks}
 use Rattle.ff_text.specs.declared.terms.Term.{Term}

@@ -1,11 +1,11 @@
 -- Sums up to the end of a line, read from left to right.
-use Rattle.std.proofs.Common.{◌≡◌, ◌≢◌, ℕ, Bool, true, false, List, [], ◌∷◌, ◌++◌, codes, Option, Some, None, refl, sym, ap, subst, ◌∙◌, append_assoc, arith}
+use Rattle.std.proofs.Common.{◌≡◌, ℕ, Bool, true, false, List, [], ◌∷◌, ◌++◌, codes, Option, Some, None, refl, sym, ap, subst, ◌∙◌, append_assoc, arith}
 use Rattle.std.specs.Prelude.{MatchOption}
 use Rattle.std.proofs.lemmas.List.{append-nil}
-use Rattle.ff_text.specs.Spelling.{Then, Is, Blanks, Each, SpellsNumber, FirstSign, NextSign}
+use Rattle.ff_text.specs.Spelling.{Is, Blanks, Each, SpellsNumber, FirstSign, NextSign}
 use Rattle.ff_text.proofs.Texts.{then_of}
 use Rattle.ff_script.specs.declared.script.Item.{Item}
-use Rattle.ff_script.specs.Grammar.{begins_with_word, SpellsItem, SpellsNextItem, SpellsSum}
+use Rattle.ff_script.specs.Grammar.{begins_with_word, SpellsItem, SpellsNextItem}
 use Rattle.ff_script.specs.Reading.{IsReading, behind_blanks, begins_with_blank, IsFront, IsTimesFront, IsFirstSignFront, IsNextSignFront, IsFirstItemFront, IsNextItemFront, AreNextItemsAt, IsSumAt}
 use Rattle.ff_script.proofs.Spans.{gap_no_word}
 use Rattle.ff_script.proofs.Spelled.{starts_edge, item_solid}
@@ -21,7 +21,8 @@ first_sign_front : (minus : Bool) (front rest : List ℕ) → FirstSign minus fr
 first_sign_front true front rest h edge =
     let whole : front ++ rest ≡ 45 ∷ (h.back ++ rest) = ap (λ (t : List ℕ). t ++ rest)
     (h.whole ∙ ap (λ (t : List ℕ). t ++ h.back) h.first) in
-    subst (λ (t : List ℕ). IsFront (Is (codes "-")) t rest) (sym whole) (mark_front 45 h.back rest (refl, refl) h.second edge)
+    subst (λ (t : List ℕ). IsFront (Is (codes "-")) t rest) (sym whole)
+    (mark_front 45 h.back rest (refl, refl) h.second edge)
 first_sign_front false front rest h edge = sym (ap (λ (t : List ℕ). t ++ rest) h)
 
 next_sign_front : (minus : Bool) (front rest : List ℕ) → NextSign minus front → begins_with_blank rest ≡ false

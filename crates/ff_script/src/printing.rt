@@ -2,7 +2,7 @@
 
 ghost use Rattle.std.specs.Prelude.{◌≡◌, ◌++◌, codes, IfOk, OnOk};
 ghost use Rattle.ff_script.specs.declared.script.Statement.TheVariants.{Place, DivisorOf};
-ghost use Rattle.ff_script.specs.Printing.{numbers_text, tail_text, side_text, over_text, place_text, times_text, item_text, next_items_text, sum_text, statement_text};
+ghost use Rattle.ff_script.specs.Printing.{numbers_text, tail_text, side_text, over_text, times_text, item_text, next_items_text, sum_text, statement_text};
 
 use crate::script::{Item, ItemList, Modulus, Name, Over, Statement};
 use ff_text::number::push_number;
@@ -10,9 +10,9 @@ use ff_text::{push_element, push_terms};
 use function_field::Side;
 use std::alloc::{AllocError, Global};
 
-/// The text of a statement, without a line feed: one space between tokens, and none within polynomials and elements
-/// but around `+` and `-` and behind `,`, nor around the `*` of a sum. A denominator stands in parentheses unless it is one term without `-`. Linear
-/// in the text.
+/// The text of a statement, without a line feed: one space between tokens, and none within polynomials, elements and
+/// sums but around `+` and `-` and behind `,`. A denominator stands in parentheses unless it is one term without `-`.
+/// Linear in the text.
 pub fn print(alloc: Global, s: &Statement) -> Result<Vec<u8>, AllocError>
     ensures { IfOk result (λ v. v.items ≡ statement_text s.now) }
 {

@@ -1,14 +1,10 @@
-use Rattle.std.proofs.Common.{ℕ, List, codes}
 use Rattle.ff_script.specs.Grammar.{SpellsName}
 use Rattle.ff_script.specs.Reading.{IsFront}
-use Rattle.ff_script.proofs.NameFronts.{no_mark}
+use Rattle.ff_script.proofs.NameFronts.{no_bound_name, no_mark}
 use Rattle.ff_script.proofs.reading.bound_name.Goals as goal
 
 pub returns-in_default : goal.returns-in_default
-returns-in_default c = λ name rest h.
-    let none : (name : List ℕ) (rest : List ℕ) → IsFront (SpellsName name) c.args.bytes.now rest → ⊥ = rw c.in_default.is
-    at c.in_ok-name.ensures in
-    none name h.0 h.1
+returns-in_default c = no_bound_name c.args.bytes.now (rw c.in_default.is at c.in_ok-name.ensures)
 
 pub returns-in-Some-behind_mark : goal.returns-in-Some-behind_mark
 returns-in-Some-behind_mark c =

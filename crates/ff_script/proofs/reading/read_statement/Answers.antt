@@ -45,8 +45,8 @@ pub returns-in-Some-behind_word-7 : goal.returns-in-Some-behind_word-7
 returns-in-Some-behind_word-7 c =
     let front = subst (λ (t : List ℕ). IsFront (Is (word_of ConstantsKind)) t c.in-Some-behind_word-7.rest.now)
     c.behind_blanks-bytes.ensures c.in-Some-behind_word-7.ensures in
-    reading_of_line (word_of ConstantsKind) c.args.line.now c.in-Some-behind_word-7.rest.now (kind_word ConstantsKind) front
-    c.constants.result c.constants.ensures
+    reading_of_line (word_of ConstantsKind) c.args.line.now c.in-Some-behind_word-7.rest.now (kind_word ConstantsKind)
+    front c.constants.result c.constants.ensures
 
 pub returns-in-Some-behind_word-8 : goal.returns-in-Some-behind_word-8
 returns-in-Some-behind_word-8 c = read_of_line (word_of DivisorKind) c.args.line.now c.behind_blanks-bytes.result.now

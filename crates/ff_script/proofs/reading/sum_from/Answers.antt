@@ -1,9 +1,9 @@
 use Rattle.std.proofs.Common.{◌≡◌, true, false, List, [], ◌∷◌, ◌++◌, refl, ap, ◌∙◌}
 use Rattle.ff_script.specs.declared.script.Item.{Item}
 use Rattle.ff_script.specs.Reading.{IsNextItemFront}
-use Rattle.ff_script.proofs.Several.{none_read, read_more, read_none, read_all}
+use Rattle.ff_script.proofs.Several.{read_more, read_none, read_all}
 use Rattle.ff_script.proofs.Steps.{nil_tested, some_tested}
-use Rattle.ff_script.proofs.ItemFronts.{next_items_once, next_shorter}
+use Rattle.ff_script.proofs.ItemFronts.{next_items_once}
 use Rattle.ff_script.proofs.reading.sum_from.Goals as goal
 
 pub loop-rest-preserved : goal.loop-rest-preserved
