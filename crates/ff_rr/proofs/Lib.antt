@@ -11,3 +11,4 @@ pub mod ConstantLists
 pub mod TableVectors
 pub mod MadeConstants
 pub mod Combinations
+pub mod PrimeProducts

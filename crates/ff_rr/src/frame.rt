@@ -1,8 +1,12 @@
 //! A curve with the maximal order of each side.
 
 ghost use Rattle.std.specs.Prelude.{◌≡◌, IfOk};
+ghost use Rattle.value_theory.specs.IntegralLattices.{presentation};
+ghost use Rattle.ff_rr.specs.Frames.{order_on};
 
+use ff_algebra::Side;
 use ff_algebra::curve::Curve;
+use ff_algebra::elem::Pres;
 use ff_lattice::Order;
 use std::alloc::{AllocError, Global};
 use std::marker::Model;
@@ -51,6 +55,26 @@ impl Frame {
         ensures { result.now ≡ self.now.inf }
     {
         &self.inf
+    }
+
+    /// The order of a side.
+    pub fn order(&self, side: Side) -> &Order
+        ensures { result.now ≡ order_on self.now side }
+    {
+        match side {
+            Side::Finite => &self.fin,
+            Side::Infinite => &self.inf,
+        }
+    }
+
+    /// The presentation of the curve on a side.
+    pub fn presentation(&self, side: Side) -> &Pres
+        ensures { result.now ≡ presentation self.now.curve side }
+    {
+        match side {
+            Side::Finite => self.curve.fin(),
+            Side::Infinite => self.curve.inf(),
+        }
     }
 
     /// An equal frame, in memory of its own.
