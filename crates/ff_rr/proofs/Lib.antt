@@ -12,3 +12,4 @@ pub mod TableVectors
 pub mod MadeConstants
 pub mod Combinations
 pub mod PrimeProducts
+pub mod DivisorSpaces

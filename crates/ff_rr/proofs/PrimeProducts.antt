@@ -186,8 +186,9 @@ module _ (k : CodeField) (f : FrameValue) (h : IsFrame k f) where
       → IsProductOfPowers k (presentation f.curve s) (order_on f s) s Ps ms l → IsLatticeOfPrimes k f s Ps ms l
   product_done s Ps ms l primes p =
       let lattice : (D : Divisor (Functions k f.curve.fin)) → IsDivisorOfPrimes k f.curve Ps ms D
-          → IsLatticeOfDivisor k f.curve s D l
-      = λ D d. powers_lattice k f.curve h.curve (order_on f) integral_at s Ps ms p.powers l D primes d p.are p.product in
+      → IsLatticeOfDivisor k f.curve s D l
+      = λ D d. powers_lattice k f.curve h.curve
+      (order_on f) integral_at s Ps ms p.powers l D primes d p.are p.product in
       let exists = divisor_exists k f.curve h.curve (order_on f) integral_at Ps ms primes in
       record {
         lattice = lattice;

@@ -101,10 +101,10 @@ fn lattice_on<K: SmallField>(
     Ok(l)
 }
 
-/// The lattices of the divisor D, the sum of the m·P, on the finite and on the infinite side: the products of the P^(-m)
-/// there. Their combinations over the ring of the side are the functions z with v_P(z) ≥ -D(P) at its places. It takes,
-/// for each m that isn't 0, the time of `power` and of a product of lattices. An m whose opposite isn't below 2^63 is a
-/// want of memory.
+/// The lattices of the divisor D, the sum of the m·P, on the finite and on the infinite side: the products of the
+/// P^(-m) there. Their combinations over the ring of the side are the functions z with v_P(z) ≥ -D(P) at its places.
+/// It takes, for each m that isn't 0, the time of `power` and of a product of lattices. An m whose opposite isn't
+/// below 2^63 is a want of memory.
 pub fn ideal_pair<K: SmallField>(
     alloc: Global,
     k: &K,

@@ -78,10 +78,10 @@ pub fn constants<K: SmallField>(alloc: Global, k: &K, f: &Frame) -> Result<Space
     Ok(SpaceBasis { split, space })
 }
 
-/// The space L(D) of the divisor D, the sum of the m·P, which has the functions z with v_P(z) ≥ -D(P) at all places P of
-/// both sides: x^j·b_i with 0 ≤ j ≤ -d_i are a basis of it, for the basis b_i of the lattices of D on both sides with
-/// the degrees d_i (Hess, section 4). It takes the time of `ideal_pair`, that of `split`, and that of `spanned` for the
-/// functions of the basis. An m whose opposite isn't below 2^63 is a want of memory.
+/// The space L(D) of the divisor D, the sum of the m·P, which has the functions z with v_P(z) ≥ -D(P) at all places P
+/// of both sides: x^j·b_i with 0 ≤ j ≤ -d_i are a basis of it, for the basis b_i of the lattices of D on both sides
+/// with the degrees d_i (Hess, section 4). It takes the time of `ideal_pair`, that of `split`, and that of `spanned`
+/// for the functions of the basis. An m whose opposite isn't below 2^63 is a want of memory.
 pub fn space<K: SmallField>(
     alloc: Global,
     k: &K,

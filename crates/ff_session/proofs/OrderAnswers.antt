@@ -4,22 +4,13 @@ use Rattle.std.specs.Prelude.{Result, Ok, Err, IfOk}
 use Rattle.std.specs.declared.alloc.AllocError.{AllocError}
 use Rattle.ff_fields.specs.Field.{CodeField}
 use Rattle.function_field.specs.declared.side.Side.{Side}
-use Rattle.function_field.specs.declared.side.Side.TheVariants.{Finite, Infinite}
 use Rattle.function_field.specs.Curves.{CurveValue}
 use Rattle.ff_lattice.specs.Lattices.{LatticeValue, row_elems}
 use Rattle.value_theory.specs.IntegralLattices.{SpansIntegral, SpansOverPowersOfT, IsIntegralLattice}
 use Rattle.ff_text.specs.Printed.{WrittenValue}
 use Rattle.ff_written.specs.Rows.{AreWrittenRows}
 use Rattle.ff_written.proofs.WrittenRows.{written_functions}
-use Rattle.ff_rr.specs.Frames.{FrameValue, IsFrame}
 use Rattle.ff_cert.specs.RowOrder as order_row
-use Rattle.ff_session.specs.FunctionFields.{order_on}
-
--- the order of each side of a frame is that of the side's integral functions
-pub integral_on : (k : CodeField) (f : FrameValue) → IsFrame k f → (s : Side)
-    → IsIntegralLattice k f.curve s (order_on f s)
-integral_on k f h Finite = h.finite
-integral_on k f h Infinite = h.infinite
 
 module _ (k : CodeField) (c : CurveValue) (s : Side) where
   pub order_answer : (l : LatticeValue) (zs : List WrittenValue) → IsIntegralLattice k c s l

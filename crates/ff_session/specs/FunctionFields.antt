@@ -1,18 +1,10 @@
 -- Curves whose functions are a field, with what is computed of them once.
 use Rattle.ring_lemmas.specs.Ring.{IsField}
 use Rattle.ff_fields.specs.Field.{CodeField}
-use Rattle.function_field.specs.declared.side.Side.{Side}
-use Rattle.function_field.specs.declared.side.Side.TheVariants.{Finite, Infinite}
 use Rattle.function_field.specs.Values.{functions}
-use Rattle.ff_lattice.specs.Lattices.{LatticeValue}
-use Rattle.ff_rr.specs.Frames.{FrameValue, IsFrame}
+use Rattle.ff_rr.specs.Frames.{IsFrame}
 use Rattle.ff_rr.specs.Constants.{IsConstantSpace}
 use Rattle.ff_session.specs.declared.curves.FunctionField.{FunctionField}
-
--- the order of a side
-abbrev pub order_on : FrameValue → Side → LatticeValue
-order_on f Finite = f.fin
-order_on f Infinite = f.inf
 
 -- the orders are those of the integral functions, the constants are all constants, and the functions are a field
 pub record IsFunctionField (k : CodeField) (f : FunctionField) : Type 0 where

@@ -1,10 +1,7 @@
 //! Curves whose functions are a field, with what is computed of them once.
 
 ghost use Rattle.std.specs.Prelude.{◌≡◌, IfOk};
-ghost use Rattle.ff_session.specs.FunctionFields.{order_on};
 
-use ff_algebra::Side;
-use ff_lattice::Order;
 use ff_rr::{Frame, SpaceBasis};
 use std::alloc::{AllocError, Global};
 
@@ -24,15 +21,5 @@ impl FunctionField {
         let frame = self.frame.copy(alloc)?;
         let constants = self.constants.copy(alloc)?;
         Ok(FunctionField { frame, constants })
-    }
-}
-
-/// The order of a side.
-pub(crate) fn order_of(frame: &Frame, side: Side) -> &Order
-    ensures { result.now ≡ order_on frame.now side }
-{
-    match side {
-        Side::Finite => frame.fin(),
-        Side::Infinite => frame.inf(),
     }
 }

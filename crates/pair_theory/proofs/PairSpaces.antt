@@ -84,7 +84,8 @@ module _ {k : CodeField} (c : Equation k) where
 
 -- a basis of both lattices of a divisor
 module _ (k : CodeField) (c : CurveValue) (curve : IsCurve k c) (D : Divisor (Functions k c.fin))
-    (fin inf : LatticeValue) (finite : IsLatticeOfDivisor k c Finite D fin) (infinite : IsLatticeOfDivisor k c Infinite D inf) where
+    (fin inf : LatticeValue) (finite : IsLatticeOfDivisor k c Finite D fin)
+    (infinite : IsLatticeOfDivisor k c Infinite D inf) where
   pub simultaneous : (bs : List (Functions k c.fin)) (ds : List ℤ)
       → IsBasisOfBoth (equation_of k c.fin) (Contains k c.fin fin) (InInfiniteSpan k c.fin c.c (row_elems inf)) bs ds
       → IsSimultaneousBasis (setting k c.fin) D bs ds

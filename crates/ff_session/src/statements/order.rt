@@ -4,7 +4,6 @@ ghost use Rattle.std.specs.Prelude.{IfOk};
 ghost use Rattle.ff_rr.specs.Frames.{IsFrame};
 ghost use Rattle.ff_cert.specs.RowOrder as order_row;
 
-use crate::curves::order_of;
 use ff_algebra::Side;
 use ff_fields::field::SmallField;
 use ff_rr::Frame;
@@ -22,6 +21,6 @@ pub fn integral_rows<K: SmallField>(
     requires { IsFrame (K.field k.now) frame.now }
     ensures { IfOk result (order_row.IsTrue (K.field k.now) frame.now.curve side) }
 {
-    let o = order_of(frame, side);
+    let o = frame.order(side);
     written_rows(alloc, k, frame.curve(), side, o.lattice())
 }

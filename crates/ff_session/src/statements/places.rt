@@ -17,7 +17,6 @@ ghost use Rattle.ff_rr.specs.Frames.{IsFrame};
 ghost use Rattle.ff_session.specs.Places.{ArePrimesOver, AreLinesOf, AreListedPlaces};
 ghost use Rattle.ff_session.specs.Steps.{ArePlacesRead};
 
-use crate::curves::order_of;
 use ff_algebra::curve::Curve;
 use ff_cert::{PlaceLines, PlaceList, degree_of_places};
 use ff_fields::field::SmallField;
@@ -83,7 +82,7 @@ fn primes_over<K: SmallField>(
     requires infinite { base.now.side ≡ Infinite → base.now.p ≡ 0 ∷ 1 ∷ [] }
     ensures { IfOk result (λ v. ArePrimesOver (K.field k.now) frame.now.curve base.now.side base.now.p v.items) }
 {
-    let o = order_of(frame, base.side);
+    let o = frame.order(base.side);
     places_above(alloc, k, frame.curve(), base.side, o, &base.p)
 }
 

@@ -20,7 +20,8 @@ power-requires-clause-order g c =
 pub power-requires-clause-i_form : goal.power-requires-clause-i_form
 power-requires-clause-i_form g c =
     let k = g.K.SmallField.field c.args.k.now in
-    rw (c.inverse.ensures, c.presentation-p.ensures) (inverse_at k c.args.f.now c.requires.frame c.args.side c.args.prime.now c.requires.prime).form
+    rw (c.inverse.ensures, c.presentation-p.ensures)
+    (inverse_at k c.args.f.now c.requires.frame c.args.side c.args.prime.now c.requires.prime).form
 
 pub power-requires-clause-closed : goal.power-requires-clause-closed
 power-requires-clause-closed g c =
@@ -47,7 +48,8 @@ power-requires-2-clause-order g c =
 pub power-requires-2-clause-i_form : goal.power-requires-2-clause-i_form
 power-requires-2-clause-i_form g c =
     let k = g.K.SmallField.field c.args.k.now in
-    rw (c.rows.ensures, c.presentation-p.ensures) (rows_at k c.args.f.now c.requires.frame c.args.side c.args.prime.now c.requires.prime).form
+    rw (c.rows.ensures, c.presentation-p.ensures)
+    (rows_at k c.args.f.now c.requires.frame c.args.side c.args.prime.now c.requires.prime).form
 
 pub power-requires-2-clause-closed : goal.power-requires-2-clause-closed
 power-requires-2-clause-closed g c =
@@ -64,7 +66,8 @@ power-requires-2-clause-admitted g c =
 pub returns-then-m-gt0 : goal.returns-then-m-gt0
 returns-then-m-gt0 g c =
     let k = g.K.SmallField.field c.args.k.now in
-    by_inverse k c.args.f.now c.requires.frame c.args.side c.args.prime.now c.args.m c.requires.prime c.presentation-p.result.now c.order-o.result.now
+    by_inverse k c.args.f.now c.requires.frame c.args.side c.args.prime.now c.args.m c.requires.prime
+    c.presentation-p.result.now c.order-o.result.now
     c.inverse.result.now _ c.presentation-p.ensures c.order-o.ensures c.inverse.ensures
     (to_z-of_z w64 c.args.m c.ranges.m) c.power.result
     c.power.ensures.form c.power.ensures.members
@@ -72,7 +75,8 @@ returns-then-m-gt0 g c =
 pub returns : goal.returns
 returns g c =
     let k = g.K.SmallField.field c.args.k.now in
-    by_rows k (presentation c.args.f.now.curve c.args.side) c.presentation-p.result.now (order_on c.args.f.now c.args.side) c.order-o.result.now
+    by_rows k (presentation c.args.f.now.curve c.args.side) c.presentation-p.result.now
+    (order_on c.args.f.now c.args.side) c.order-o.result.now
     c.args.prime.now c.args.m c.presentation-p.ensures c.order-o.ensures c.rows.result.now _ c.rows.ensures
     (to_z-of_z w64 c.in_ok-opposite.field-0 c.in_ok-opposite.ensures.in_range ∙ c.in_ok-opposite.ensures.is
     ∙ ap neg_ℤ (to_z-of_z w64 c.args.m c.ranges.m)) c.power-2.result c.power-2.ensures.form c.power-2.ensures.members

@@ -26,7 +26,8 @@ returns-then-counts-clause-is g c =
     with_of_equals k (presentation c.args.f.now.curve c.args.side) c.presentation.result.now
     (order_on c.args.f.now c.args.side) c.args.side c.args.prime.now c.args.m c.args.l c.in_ok-j.j
     c.presentation.ensures counted.0
-    (λ e. counted.1 (to_z-of_z w64 c.args.m c.ranges.m ∙ e)) (subst (λ (m : ℤ). IsPowerLattice k (presentation c.args.f.now.curve c.args.side)
+    (λ e. counted.1 (to_z-of_z w64 c.args.m c.ranges.m ∙ e)) (subst (λ (m : ℤ). IsPowerLattice k
+    (presentation c.args.f.now.curve c.args.side)
     (order_on c.args.f.now c.args.side) c.args.prime.now m c.in_ok-j.j) (to_z-of_z w64 c.args.m c.ranges.m)
     c.in_ok-j.ensures) c.product.result c.product.ensures.form
     c.product.ensures.members
