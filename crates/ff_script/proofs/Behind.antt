@@ -14,7 +14,7 @@ use Rattle.ff_script.specs.declared.script.Statement.TheVariants.{Mul}
 use Rattle.ff_script.specs.Grammar.{ends_with_word, numbers_of, IsWhole, SpellsLine}
 use Rattle.ff_script.specs.Reading.{IsReading, behind_blanks, IsFront, AreNumbersAt, IsModulusAt, AreTermsAt, IsSideAt, IsElementFront, IsBehind}
 use Rattle.ff_script.proofs.Spans.{AllWord, blanks_same, words_same}
-use Rattle.ff_script.proofs.ByKind.{Kind, FieldKind, CurveKind, MulKind, FactorKind, OrderKind, PlacesKind, PlaceKind, ConstantsKind, GenusKind, word_of, IsHeldAt, kind_of, none_of_kind, word_of_behind, IsWord, word_of_statement}
+use Rattle.ff_script.proofs.ByKind.{Kind, FieldKind, CurveKind, MulKind, FactorKind, OrderKind, PlacesKind, PlaceKind, ConstantsKind, GenusKind, DivisorKind, BasisKind, word_of, IsHeldAt, kind_of, none_of_kind, word_of_behind, IsWord, word_of_statement}
 use Rattle.ff_script.proofs.Fronts.{IsStatementAt, line_at, line_from}
 use Rattle.ff_script.proofs.Steps.{no_front, number_same, numbers_same}
 use Rattle.ff_script.proofs.Elements.{begins_element, fronts_one}
@@ -176,17 +176,30 @@ no_statement line bytes e none s h =
     none (kind_of s) at.rest (subst (λ (w : List ℕ). IsFront (Is w) bytes at.rest)
     (word_of_behind at.word s at.rest at.behind) at.front)
 
--- there is one kind for each word that was looked for
-pub no_kind : (bytes : List ℕ) → IsNoWord (codes "field") bytes → IsNoWord (codes "curve") bytes
-    → IsNoWord (codes "mul") bytes → IsNoWord (codes "factor") bytes → IsNoWord (codes "places") bytes
-    → IsNoWord (codes "place") bytes → IsNoWord (codes "order") bytes → IsNoWord (codes "constants") bytes
-    → IsNoWord (codes "genus") bytes → (k : Kind) → IsNoWord (word_of k) bytes
-no_kind bytes no_field no_curve no_mul no_factor no_places no_place no_order no_constants no_genus FieldKind = no_field
-no_kind bytes no_field no_curve no_mul no_factor no_places no_place no_order no_constants no_genus CurveKind = no_curve
-no_kind bytes no_field no_curve no_mul no_factor no_places no_place no_order no_constants no_genus MulKind = no_mul
-no_kind bytes no_field no_curve no_mul no_factor no_places no_place no_order no_constants no_genus FactorKind = no_factor
-no_kind bytes no_field no_curve no_mul no_factor no_places no_place no_order no_constants no_genus OrderKind = no_order
-no_kind bytes no_field no_curve no_mul no_factor no_places no_place no_order no_constants no_genus PlacesKind = no_places
-no_kind bytes no_field no_curve no_mul no_factor no_places no_place no_order no_constants no_genus PlaceKind = no_place
-no_kind bytes no_field no_curve no_mul no_factor no_places no_place no_order no_constants no_genus ConstantsKind = no_constants
-no_kind bytes no_field no_curve no_mul no_factor no_places no_place no_order no_constants no_genus GenusKind = no_genus
+-- no word of a statement is at the front
+pub record IsWordless (bytes : List ℕ) : Type 0 where
+  pub no_field : IsNoWord (codes "field") bytes
+  pub no_curve : IsNoWord (codes "curve") bytes
+  pub no_mul : IsNoWord (codes "mul") bytes
+  pub no_factor : IsNoWord (codes "factor") bytes
+  pub no_places : IsNoWord (codes "places") bytes
+  pub no_place : IsNoWord (codes "place") bytes
+  pub no_order : IsNoWord (codes "order") bytes
+  pub no_constants : IsNoWord (codes "constants") bytes
+  pub no_genus : IsNoWord (codes "genus") bytes
+  pub no_divisor : IsNoWord (codes "divisor") bytes
+  pub no_basis : IsNoWord (codes "basis") bytes
+
+-- there is one kind for each word
+pub no_kind : (bytes : List ℕ) → IsWordless bytes → (k : Kind) → IsNoWord (word_of k) bytes
+no_kind bytes h FieldKind = h.no_field
+no_kind bytes h CurveKind = h.no_curve
+no_kind bytes h MulKind = h.no_mul
+no_kind bytes h FactorKind = h.no_factor
+no_kind bytes h PlacesKind = h.no_places
+no_kind bytes h PlaceKind = h.no_place
+no_kind bytes h OrderKind = h.no_order
+no_kind bytes h ConstantsKind = h.no_constants
+no_kind bytes h GenusKind = h.no_genus
+no_kind bytes h DivisorKind = h.no_divisor
+no_kind bytes h BasisKind = h.no_basis

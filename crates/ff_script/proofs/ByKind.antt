@@ -6,11 +6,12 @@ use Rattle.ff_text.specs.declared.terms.Term.{Term}
 use Rattle.ff_text.specs.declared.terms.ElemText.{ElemText}
 use Rattle.function_field.specs.declared.side.Side.{Side}
 use Rattle.ff_script.specs.declared.script.Modulus.{Modulus}
+use Rattle.ff_script.specs.declared.script.Item.{Item}
 use Rattle.ff_script.specs.declared.script.Over.{Over}
 use Rattle.ff_script.specs.declared.script.Statement.{Statement}
-use Rattle.ff_script.specs.declared.script.Statement.TheVariants.{FieldOf, CurveOf, Mul, Factor, OrderOf, Places, Place, Constants, Genus}
-use Rattle.ff_script.specs.Grammar.{ends_with_word, numbers_of, IsWhole}
-use Rattle.ff_script.specs.Reading.{IsFront, AreNumbersAt, AreTermsAt, IsSideAt, IsOverAt, IsPlaceAt, IsNameFront, IsBehind}
+use Rattle.ff_script.specs.declared.script.Statement.TheVariants.{FieldOf, CurveOf, Mul, Factor, OrderOf, Places, Place, Constants, Genus, DivisorOf, BasisOf}
+use Rattle.ff_script.specs.Grammar.{ends_with_word, numbers_of, IsWhole, SpellsName}
+use Rattle.ff_script.specs.Reading.{IsFront, AreNumbersAt, AreTermsAt, IsSideAt, IsOverAt, IsPlaceAt, IsNameFront, IsSumAt, IsBehind}
 use Rattle.ff_script.proofs.Spans.{AllWord}
 
 -- one for each word
@@ -24,6 +25,8 @@ pub data Kind : Type 0 where
   PlaceKind : Kind
   ConstantsKind : Kind
   GenusKind : Kind
+  DivisorKind : Kind
+  BasisKind : Kind
 
 abbrev pub word_of : Kind → List ℕ
 word_of FieldKind = codes "field"
@@ -35,6 +38,8 @@ word_of PlacesKind = codes "places"
 word_of PlaceKind = codes "place"
 word_of ConstantsKind = codes "constants"
 word_of GenusKind = codes "genus"
+word_of DivisorKind = codes "divisor"
+word_of BasisKind = codes "basis"
 
 -- what a statement of the kind holds
 abbrev pub Held : Kind → Type 0
@@ -47,6 +52,8 @@ Held PlacesKind = Over
 Held PlaceKind = List ℕ × Over × ℕ
 Held ConstantsKind = Unit {0}
 Held GenusKind = Unit {0}
+Held DivisorKind = List ℕ × List Item
+Held BasisKind = List ℕ
 
 abbrev pub statement : (k : Kind) → Held k → Statement
 statement FieldKind h = FieldOf h.0 h.1
@@ -58,6 +65,8 @@ statement PlacesKind over = Places over
 statement PlaceKind h = Place h.0 h.1 h.2
 statement ConstantsKind h = Constants
 statement GenusKind h = Genus
+statement DivisorKind h = DivisorOf h.0 h.1
+statement BasisKind name = BasisOf name
 
 -- it is what the bytes behind the word are
 abbrev pub IsHeldAt : (k : Kind) → Held k → List ℕ → Type 0
@@ -71,6 +80,8 @@ IsHeldAt PlacesKind over bytes = IsOverAt over bytes
 IsHeldAt PlaceKind h bytes = (rest : List ℕ) × IsNameFront h.0 bytes rest × IsPlaceAt h.1 h.2 rest
 IsHeldAt ConstantsKind h bytes = bytes ≡ []
 IsHeldAt GenusKind h bytes = bytes ≡ []
+IsHeldAt DivisorKind h bytes = (rest : List ℕ) × IsNameFront h.0 bytes rest × IsSumAt h.1 rest
+IsHeldAt BasisKind name bytes = IsFront (SpellsName name) bytes []
 
 -- ---- each statement is of one kind
 
@@ -84,6 +95,8 @@ kind_of (Places over) = PlacesKind
 kind_of (Place name over index) = PlaceKind
 kind_of Constants = ConstantsKind
 kind_of Genus = GenusKind
+kind_of (DivisorOf name sum) = DivisorKind
+kind_of (BasisOf name) = BasisKind
 
 abbrev pub held_by : (s : Statement) → Held (kind_of s)
 held_by (FieldOf p tail) = (p, tail)
@@ -95,6 +108,8 @@ held_by (Places over) = over
 held_by (Place name over index) = (name, over, index)
 held_by Constants = tt
 held_by Genus = tt
+held_by (DivisorOf name sum) = (name, sum)
+held_by (BasisOf name) = name
 
 made_again : (s : Statement) → s ≡ statement (kind_of s) (held_by s)
 made_again (FieldOf p tail) = refl
@@ -106,6 +121,8 @@ made_again (Places over) = refl
 made_again (Place name over index) = refl
 made_again Constants = refl
 made_again Genus = refl
+made_again (DivisorOf name sum) = refl
+made_again (BasisOf name) = refl
 
 behind_held : (word : List ℕ) (s : Statement) (bytes : List ℕ) → IsBehind word s bytes
     → (word ≡ word_of (kind_of s)) × IsHeldAt (kind_of s) (held_by s) bytes
@@ -118,6 +135,8 @@ behind_held word (Places over) bytes h = h
 behind_held word (Place name over index) bytes h = h
 behind_held word Constants bytes h = h
 behind_held word Genus bytes h = h
+behind_held word (DivisorOf name sum) bytes h = h
+behind_held word (BasisOf name) bytes h = h
 
 -- ---- each word is of one kind
 
@@ -129,7 +148,8 @@ mark (b ∷ bs) = b + 2 * mark bs
 abbrev kind_at : ℕ → Kind
 kind_at n = if eqb n 3180 then FieldKind else if eqb n 3349 then CurveKind else if eqb n 775 then MulKind else if eqb n
     7044 then FactorKind else if eqb n 6804 then PlacesKind else if eqb n 3124 then PlaceKind else if eqb n
-    57969 then ConstantsKind else if eqb n 3521 then GenusKind else OrderKind
+    57969 then ConstantsKind else if eqb n 3521 then GenusKind else if eqb n 14310 then DivisorKind else if eqb n
+    3432 then BasisKind else OrderKind
 
 told : (k : Kind) → kind_at (mark (word_of k)) ≡ k
 told FieldKind = refl
@@ -141,6 +161,8 @@ told PlacesKind = refl
 told PlaceKind = refl
 told ConstantsKind = refl
 told GenusKind = refl
+told DivisorKind = refl
+told BasisKind = refl
 
 same_kind : (k l : Kind) → word_of k ≡ word_of l → k ≡ l
 same_kind k l e = sym (told k) ∙ ap (λ (w : List ℕ). kind_at (mark w)) e ∙ told l
@@ -188,6 +210,8 @@ kind_word ConstantsKind = record {
   ends = refl;
 }
 kind_word GenusKind = record { all = (refl, (refl, (refl, (refl, (refl, tt))))); ends = refl }
+kind_word DivisorKind = record { all = (refl, (refl, (refl, (refl, (refl, (refl, (refl, tt))))))); ends = refl }
+kind_word BasisKind = record { all = (refl, (refl, (refl, (refl, (refl, tt))))); ends = refl }
 
 pub word_of_statement : (word : List ℕ) (s : Statement) (bytes : List ℕ) → IsBehind word s bytes → IsWord word
 word_of_statement word s bytes h = subst IsWord (sym (word_of_behind word s bytes h)) (kind_word (kind_of s))

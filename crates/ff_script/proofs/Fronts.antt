@@ -6,11 +6,11 @@ use Rattle.std.proofs.lemmas.List.{append-nil}
 use Rattle.ff_text.specs.Spelling.{Is, Blanks, SpellsNumber, SpellsTerms, SpellsElement}
 use Rattle.ff_text.specs.declared.terms.ElemText.{ElemText}
 use Rattle.ff_script.specs.declared.script.Statement.{Statement}
-use Rattle.ff_script.specs.declared.script.Statement.TheVariants.{FieldOf, CurveOf, Mul, Factor, OrderOf, Places, Place, Constants, Genus}
-use Rattle.ff_script.specs.Grammar.{begins_with_word, ends_with_word, IsGap, SpellsParts, AreNumbers, numbers_of, SpellsSide, SpellsOver, SpellsName, ArePartsOf, SpellsLine}
+use Rattle.ff_script.specs.declared.script.Statement.TheVariants.{FieldOf, CurveOf, Mul, Factor, OrderOf, Places, Place, Constants, Genus, DivisorOf, BasisOf}
+use Rattle.ff_script.specs.Grammar.{begins_with_word, ends_with_word, IsGap, SpellsParts, AreNumbers, numbers_of, SpellsSide, SpellsOver, SpellsName, SpellsSum, ArePartsOf, SpellsLine}
 use Rattle.ff_script.specs.Reading.{behind_blanks, begins_with_blank, IsFront, AreNumbersAt, IsBehind}
 use Rattle.ff_script.proofs.Spans.{passed, blanks_passed, gap_no_word, some_gap_no_word, word_goes_on}
-use Rattle.ff_script.proofs.Spelled.{Starts, starts_edge, number_solid, terms_solid, side_solid, over_solid, name_solid, element_bracketed}
+use Rattle.ff_script.proofs.Spelled.{Starts, starts_edge, number_solid, terms_solid, side_solid, over_solid, name_solid, sum_solid, element_bracketed}
 
 -- ---- parts from left to right
 
@@ -195,6 +195,10 @@ parts_start (Place name over index) parts h = subst (AllByRecursion Starts) (sym
 )
 parts_start Constants parts h = subst (AllByRecursion Starts) (sym h) (refl, tt)
 parts_start Genus parts h = subst (AllByRecursion Starts) (sym h) (refl, tt)
+parts_start (DivisorOf name sum) parts h = subst (AllByRecursion Starts) (sym h.2)
+    (refl, ((name_solid name h.0 h.3).starts, (refl, ((sum_solid sum h.1 h.4).starts, tt))))
+parts_start (BasisOf name) parts h = subst (AllByRecursion Starts) (sym h.1)
+    (refl, ((name_solid name h.0 h.2).starts, tt))
 
 no_parts : (s : Statement) → ArePartsOf s [] → ⊥
 no_parts (FieldOf p tail) h = let e = h.1 in cc
@@ -206,6 +210,8 @@ no_parts (Places over) h = let e = h.1 in cc
 no_parts (Place name over index) h = let e = h.3 in cc
 no_parts Constants h = let e = h in cc
 no_parts Genus h = let e = h in cc
+no_parts (DivisorOf name sum) h = let e = h.2 in cc
+no_parts (BasisOf name) h = let e = h.1 in cc
 
 numbers_at : (ns : List ℕ) (parts : List (List ℕ)) (bytes : List ℕ) → AreNumbers ns parts → AreFronts parts bytes
     → AreNumbersAt ns bytes
@@ -317,6 +323,27 @@ statement_at Constants parts bytes h fronts =
 statement_at Genus parts bytes h fronts =
     let at = subst (λ (p : List (List ℕ)). AreFronts p bytes) h fronts in
     record { word = codes "genus"; rest = at.0; front = at.1; behind = (refl, at.2) }
+statement_at (DivisorOf name sum) parts bytes h fronts =
+    let at = subst (λ (p : List (List ℕ)). AreFronts p bytes) h.2 fronts in
+    let mark = at.2.2 in
+    let named : IsFront (SpellsName name) at.0 at.2.0 = front_as (Is h.0) (SpellsName name) at.0 at.2.0
+    (λ c e. subst (SpellsName name) (sym e) h.3) at.2.1 in
+    record {
+      word = codes "divisor";
+      rest = at.0;
+      front = at.1;
+      behind =
+          (refl, (mark.0, (at.2.0, named, mark.1), last_at (SpellsSum sum) h.1 mark.0 h.4 mark.2));
+    }
+statement_at (BasisOf name) parts bytes h fronts =
+    let at = subst (λ (p : List (List ℕ)). AreFronts p bytes) h.1 fronts in
+    record {
+      word = codes "basis";
+      rest = at.0;
+      front = at.1;
+      behind =
+          (refl, last_at (SpellsName name) h.0 at.0 h.2 at.2);
+    }
 
 abbrev IsNamed : Statement → List ℕ → Type 0
 IsNamed s bytes = (parts : List (List ℕ)) × ArePartsOf s parts × AreFronts parts bytes
@@ -394,6 +421,24 @@ statement_parts Genus bytes h = (
   refl,
   (h.rest, subst (λ (w : List ℕ). IsFront (Is w) bytes h.rest) h.behind.0 h.front, h.behind.1),
 )
+statement_parts (DivisorOf name sum) bytes h =
+    let rest : List ℕ = h.behind.1.0 in
+    let named = h.behind.1.1 in
+    let last = last_parts (SpellsSum sum) rest h.behind.1.2 in (
+      codes "divisor" ∷ named.1.front ∷ codes "=" ∷ last.0 ∷ [],
+      (named.1.front, last.0, refl, named.1.part, last.1),
+      (
+        h.rest,
+        subst (λ (w : List ℕ). IsFront (Is w) bytes h.rest) h.behind.0 h.front,
+        (named.0, front_itself (SpellsName name) h.rest named.0 named.1, (rest, named.2, last.2)),
+      ),
+    )
+statement_parts (BasisOf name) bytes h =
+    let last = last_parts (SpellsName name) h.rest h.behind.1 in (
+      codes "basis" ∷ last.0 ∷ [],
+      (last.0, refl, last.1),
+      (h.rest, subst (λ (w : List ℕ). IsFront (Is w) bytes h.rest) h.behind.0 h.front, last.2),
+    )
 
 -- ---- lines
 

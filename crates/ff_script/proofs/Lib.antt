@@ -1,6 +1,7 @@
 pub mod Spans
 pub mod Spelled
 pub mod Fronts
+pub mod Several
 pub mod Steps
 pub mod Elements
 pub mod ByKind
@@ -9,6 +10,8 @@ pub mod WordRuns
 pub mod TermFronts
 pub mod OverFronts
 pub mod NameFronts
+pub mod ItemFronts
+pub mod Sums
 pub mod Cuts
 pub mod Progress
 pub mod OneLine

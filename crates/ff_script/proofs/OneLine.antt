@@ -8,22 +8,24 @@ use Rattle.ff_text.specs.declared.terms.ElemText.{ElemText}
 use Rattle.function_field.specs.declared.side.Side.{Side}
 use Rattle.function_field.specs.declared.side.Side.TheVariants.{Finite, Infinite}
 use Rattle.ff_script.specs.declared.script.Modulus.{Modulus}
+use Rattle.ff_script.specs.declared.script.Item.{Item}
 use Rattle.ff_script.specs.declared.script.Over.{Over}
 use Rattle.ff_script.specs.declared.script.Over.TheVariants.{At, Inf}
 use Rattle.ff_script.specs.declared.script.Statement.{Statement}
-use Rattle.ff_script.specs.declared.script.Statement.TheVariants.{FieldOf, CurveOf, Mul, Factor, OrderOf, Places, Place}
+use Rattle.ff_script.specs.declared.script.Statement.TheVariants.{FieldOf, CurveOf, Mul, Factor, OrderOf, Places, Place, DivisorOf, BasisOf}
 use Rattle.ff_script.specs.Grammar.{is_word_byte, numbers_of, SpellsSide, SpellsOver, IsSkipped, SpellsLine}
-use Rattle.ff_script.specs.Reading.{behind_blanks, IsFront, AreNumbersAt, IsElementFront, IsPlaceAt, IsBehind}
+use Rattle.ff_script.specs.Reading.{behind_blanks, IsFront, AreNumbersAt, IsElementFront, IsPlaceAt, IsSumAt, IsBehind}
 use Rattle.ff_script.proofs.Spans.{head_same, stopped_same}
 use Rattle.ff_script.proofs.Spelled.{IsSolid, terms_solid, side_solid, over_solid}
 use Rattle.ff_script.proofs.Fronts.{line_at}
 use Rattle.ff_script.proofs.Steps.{number_same, numbers_same, comment_at, blank_at}
 use Rattle.ff_script.proofs.Elements.{begins_element, fronts_one}
-use Rattle.ff_script.proofs.ByKind.{Kind, FieldKind, CurveKind, MulKind, FactorKind, OrderKind, PlacesKind, PlaceKind, ConstantsKind, GenusKind, word_of, Held, statement, IsHeldAt, kind_of, word_of_behind, IsWord, word_of_statement, of_kind}
+use Rattle.ff_script.proofs.ByKind.{Kind, FieldKind, CurveKind, MulKind, FactorKind, OrderKind, PlacesKind, PlaceKind, ConstantsKind, GenusKind, DivisorKind, BasisKind, word_of, Held, statement, IsHeldAt, kind_of, word_of_behind, IsWord, word_of_statement, of_kind}
 use Rattle.ff_script.proofs.Behind.{statement_behind}
 use Rattle.ff_script.proofs.WordRuns.{not_inf}
 use Rattle.ff_script.proofs.OverFronts.{over_of_place, over_fronts_one}
-use Rattle.ff_script.proofs.NameFronts.{name_fronts_one}
+use Rattle.ff_script.proofs.NameFronts.{names_one, name_fronts_one}
+use Rattle.ff_script.proofs.Sums.{sums_one}
 
 -- a text spells one value at most
 abbrev pub OneValue : {V : Type 0} → (V → List ℕ → Type 0) → Type 0
@@ -120,6 +122,11 @@ module _ (one_terms : (with_y : Bool) → OneValue (SpellsTerms with_y)) (one_el
       ∙ ap (λ (x : ℕ). Place b.0 b.1 x) at.1
   held_same ConstantsKind a b bytes h k = refl
   held_same GenusKind a b bytes h k = refl
+  held_same DivisorKind a b bytes h k =
+      let named = name_fronts_one bytes a.0 b.0 h.0 k.0 h.1 k.1 in
+      let sum : a.1 ≡ b.1 = sums_one a.1 b.1 k.0 (subst (IsSumAt a.1) named.1 h.2) k.2 in
+      ap (λ (x : List ℕ). DivisorOf x a.1) named.0 ∙ ap (λ (x : List Item). DivisorOf b.0 x) sum
+  held_same BasisKind a b bytes h k = ap (λ (x : List ℕ). BasisOf x) (names_one bytes a b [] [] h k).0
 
   behind_same : (word bytes : List ℕ) (s t : Statement) → IsBehind word s bytes → IsBehind word t bytes → s ≡ t
   behind_same word bytes s t h k =

@@ -55,7 +55,7 @@ over_fronts_one bytes Inf Inf r s f k =
 
 -- ---- and a number behind it
 
-words_begin : (a b : List ℕ) → AllWord a → a ≢ [] → begins_with_word (a ++ b) ≡ true
+pub words_begin : (a b : List ℕ) → AllWord a → a ≢ [] → begins_with_word (a ++ b) ≡ true
 words_begin [] b h some = absurd (some refl)
 words_begin (c ∷ a) b h some = h.0
 

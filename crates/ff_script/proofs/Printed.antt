@@ -1,25 +1,27 @@
 -- Statements that can be written are spelled by their texts.
-use Rattle.std.proofs.Common.{◌≡◌, ℕ, Bool, true, false, eqb, ◌<◌, List, [], ◌∷◌, ◌++◌, map, codes, refl, sym, ap, subst, ◌∙◌, append_assoc, inr}
-use Rattle.std.specs.Prelude.{All, decimal}
+use Rattle.std.proofs.Common.{◌≡◌, ℕ, Bool, true, false, eqb, ◌<◌, List, [], ◌∷◌, ◌++◌, map, codes, Option, Some, None, refl, sym, ap, subst, ◌∙◌, append_assoc, inr}
+use Rattle.std.specs.Prelude.{All, IfSome, decimal}
 use Rattle.std.specs.List.{AllByRecursion, slice_split}
 use Rattle.std.proofs.lemmas.List.{append-nil}
 use Rattle.std.proofs.lemmas.List.Elements.{All-nil, All-cons}
 use Rattle.std.proofs.lemmas.List.Splits.{slice_split_at}
-use Rattle.ff_text.specs.Spelling.{Blanks, SpellsNumber, SpellsTerms, SpellsElement}
-use Rattle.ff_text.specs.Printing.{terms_text, element_text, IsWritableTerms, IsWritableElement}
+use Rattle.ff_text.specs.Spelling.{Blanks, Around, Each, SpellsNumber, FirstSign, NextSign, SpellsTerms, SpellsElement}
+use Rattle.ff_text.specs.Printing.{first_sign, next_sign, terms_text, element_text, IsWritableTerms, IsWritableElement}
+use Rattle.ff_text.proofs.Texts.{then_of, around_of, then_blanks}
 use Rattle.ff_text.specs.declared.terms.Term.{Term}
 use Rattle.ff_text.specs.declared.terms.ElemText.{ElemText}
 use Rattle.function_field.specs.declared.side.Side.{Side}
 use Rattle.function_field.specs.declared.side.Side.TheVariants.{Finite, Infinite}
+use Rattle.ff_script.specs.declared.script.Item.{Item}
 use Rattle.ff_script.specs.declared.script.Over.{Over}
 use Rattle.ff_script.specs.declared.script.Over.TheVariants.{At, Inf}
 use Rattle.ff_script.specs.declared.script.Statement.{Statement}
-use Rattle.ff_script.specs.declared.script.Statement.TheVariants.{FieldOf, CurveOf, Mul, Factor, OrderOf, Places, Place, Constants, Genus}
-use Rattle.ff_script.specs.Grammar.{IsGap, SpellsParts, AreNumbers, numbers_of, SpellsSide, SpellsOver, ArePartsOf, SpellsLine}
-use Rattle.ff_script.specs.Printing.{numbers_text, side_text, over_text, statement_text, script_text, IsShort, IsWritableOver, IsWritable}
+use Rattle.ff_script.specs.declared.script.Statement.TheVariants.{FieldOf, CurveOf, Mul, Factor, OrderOf, Places, Place, Constants, Genus, DivisorOf, BasisOf}
+use Rattle.ff_script.specs.Grammar.{IsGap, SpellsParts, AreNumbers, numbers_of, SpellsSide, SpellsOver, SpellsTimes, SpellsItem, SpellsNextItem, SpellsSum, ArePartsOf, SpellsLine}
+use Rattle.ff_script.specs.Printing.{numbers_text, side_text, over_text, times_text, item_text, next_items_text, sum_text, statement_text, script_text, IsShort, IsWritableOver, IsWritableItem, IsWritableSum, IsWritable}
 use Rattle.ff_script.specs.Scripts.{lines_of, IsReadAs, IsInOrder, IsScript}
 use Rattle.ff_script.proofs.Spans.{all_append, each_blank}
-use Rattle.ff_script.proofs.Spelled.{AreInside, number_solid, terms_solid, side_solid, over_solid, name_solid, element_bracketed}
+use Rattle.ff_script.proofs.Spelled.{AreInside, number_solid, terms_solid, side_solid, over_solid, name_solid, sum_solid, element_bracketed}
 use Rattle.ff_script.proofs.Cuts.{is_feed, lines_cut}
 use Rattle.ff_script.proofs.OneScript.{IsOneLine}
 
@@ -80,6 +82,15 @@ parts_unfed Constants parts h = subst (AllByRecursion AreUnfed) (sym h)
     ((refl, (refl, (refl, (refl, (refl, (refl, (refl, (refl, (refl, tt))))))))), tt)
 parts_unfed Genus parts h = subst (AllByRecursion AreUnfed) (sym h)
     ((refl, (refl, (refl, (refl, (refl, tt))))), tt)
+parts_unfed (DivisorOf name sum) parts h = subst (AllByRecursion AreUnfed) (sym h.2) (
+  (refl, (refl, (refl, (refl, (refl, (refl, (refl, tt))))))),
+  (
+    inside_unfed h.0 (name_solid name h.0 h.3).inside,
+    ((refl, tt), (inside_unfed h.1 (sum_solid sum h.1 h.4).inside, tt)),
+  ),
+)
+parts_unfed (BasisOf name) parts h = subst (AllByRecursion AreUnfed) (sym h.1)
+    ((refl, (refl, (refl, (refl, (refl, tt))))), (inside_unfed h.0 (name_solid name h.0 h.2).inside, tt))
 
 joined_unfed : (parts : List (List ℕ)) (core : List ℕ) → AllByRecursion AreUnfed parts → SpellsParts parts core
     → AreUnfed core
@@ -131,6 +142,18 @@ side_spelled : (side : Side) → SpellsSide side (side_text side)
 side_spelled Finite = refl
 side_spelled Infinite = refl
 
+first_sign_spelled : (minus : Bool) → FirstSign minus (first_sign minus)
+first_sign_spelled true = then_blanks (codes "-") refl
+first_sign_spelled false = refl
+
+-- a mark with a blank on both sides
+mark_spelled : (mark : List ℕ) → Around mark (codes " " ++ (mark ++ codes " "))
+mark_spelled mark = then_of (codes " ") (mark ++ codes " ") (refl, tt) (then_of mark (codes " ") refl (refl, tt))
+
+next_sign_spelled : (minus : Bool) → NextSign minus (next_sign minus)
+next_sign_spelled true = mark_spelled (codes "-")
+next_sign_spelled false = mark_spelled (codes "+")
+
 -- numbers, polynomials and elements that can be written are spelled by their texts
 pub record AreSpelled : Type 1 where
   pub number : (n : ℕ) → n < 1000000000 → SpellsNumber n (decimal n)
@@ -146,6 +169,27 @@ module _ (spelled : AreSpelled) where
   over_spelled (At g) h = spelled.terms false g h
   over_spelled Inf h = refl
 
+  times_spelled : (times : Option ℕ) → IfSome times IsShort → SpellsTimes times (times_text times)
+  times_spelled None h = refl
+  times_spelled (Some m) h = then_of (decimal m) (codes "*") (spelled.number m h) (around_of (codes "*") [] tt)
+
+  item_spelled : (i : Item) → IsWritableItem i → SpellsItem i (item_text i)
+  item_spelled i h = then_of (times_text i.times) i.name (times_spelled i.times h.1) (h.0, refl)
+
+  next_items_spelled : (is : List Item) → IsWritableSum is → Each SpellsNextItem is (next_items_text is)
+  next_items_spelled [] h = refl
+  next_items_spelled (i ∷ is) h = then_of (next_sign i.minus ++ item_text i) (next_items_text is)
+      (then_of (next_sign i.minus) (item_text i) (next_sign_spelled i.minus) (item_spelled i h.0))
+      (next_items_spelled is h.1)
+
+  sum_spelled : (sum : List Item) → IsWritableSum sum → SpellsSum sum (sum_text sum)
+  sum_spelled [] h = refl
+  sum_spelled (i ∷ is) h =
+      subst (SpellsSum (i ∷ is)) (append_assoc (first_sign i.minus) (item_text i) (next_items_text is))
+      (then_of (first_sign i.minus ++ item_text i) (next_items_text is)
+      (then_of (first_sign i.minus) (item_text i) (first_sign_spelled i.minus) (item_spelled i h.0))
+      (next_items_spelled is h.1))
+
   abbrev parts_of : Statement → List (List ℕ)
   parts_of (FieldOf p tail) = codes "field" ∷ map decimal (p ∷ numbers_of tail)
   parts_of (CurveOf f) = codes "curve" ∷ terms_text f ∷ []
@@ -156,6 +200,8 @@ module _ (spelled : AreSpelled) where
   parts_of (Place name over index) = codes "place" ∷ name ∷ codes "=" ∷ over_text over ∷ decimal index ∷ []
   parts_of Constants = codes "constants" ∷ []
   parts_of Genus = codes "genus" ∷ []
+  parts_of (DivisorOf name sum) = codes "divisor" ∷ name ∷ codes "=" ∷ sum_text sum ∷ []
+  parts_of (BasisOf name) = codes "basis" ∷ name ∷ []
 
   parts_named : (s : Statement) → IsWritable s → ArePartsOf s (parts_of s)
   parts_named (FieldOf p tail) h = (
@@ -180,6 +226,8 @@ module _ (spelled : AreSpelled) where
   )
   parts_named Constants h = refl
   parts_named Genus h = refl
+  parts_named (DivisorOf name sum) h = (name, sum_text sum, refl, (h.0, refl), sum_spelled sum h.1)
+  parts_named (BasisOf name) h = (name, refl, (h, refl))
 
   parts_joined : (s : Statement) → SpellsParts (parts_of s) (statement_text s)
   parts_joined (FieldOf p tail) = numbers_spaced (codes "field") (p ∷ numbers_of tail)
@@ -199,6 +247,12 @@ module _ (spelled : AreSpelled) where
       (spaced (over_text over) number [] number refl)))
   parts_joined Constants = refl
   parts_joined Genus = refl
+  parts_joined (DivisorOf name sum) =
+      let mark : List ℕ = codes "=" ++ (32 ∷ sum_text sum) in
+      spaced (codes "divisor") name (codes "=" ∷ sum_text sum ∷ []) (name ++ (32 ∷ mark))
+      (spaced name (codes "=") (sum_text sum ∷ []) mark
+      (spaced (codes "=") (sum_text sum) [] (sum_text sum) refl))
+  parts_joined (BasisOf name) = spaced (codes "basis") name [] name refl
 
   pub text_spells : (s : Statement) → IsWritable s → SpellsLine s (statement_text s)
   text_spells s h = record {

@@ -1,5 +1,5 @@
 -- What spelled texts begin with, end with and hold.
-use Rattle.std.proofs.Common.{◌≡◌, ◌≢◌, ℕ, Bool, true, false, eqb, ◌<◌, ◌≤◌, ◌||◌, List, [], ◌∷◌, ◌++◌, length, codes, Option, Some, None, refl, sym, ap, subst, ◌∙◌, arith, ◌⊎◌, inl, inr}
+use Rattle.std.proofs.Common.{◌≡◌, ◌≢◌, ℕ, Bool, true, false, eqb, ◌<◌, ◌≤◌, ◌||◌, List, [], ◌∷◌, ◌++◌, length, codes, Option, Some, None, refl, sym, ap, subst, ◌∙◌, append_assoc, arith, ◌⊎◌, inl, inr}
 use Rattle.std.specs.List.{AllByRecursion}
 use Rattle.std.specs.Char.{digit_value}
 use Rattle.std.specs.Str.Parse.{AllDigits}
@@ -13,9 +13,10 @@ use Rattle.ff_text.specs.declared.terms.Factor.TheVariants.{Code, X, Y}
 use Rattle.ff_text.specs.declared.terms.Term.{Term}
 use Rattle.ff_text.specs.declared.terms.ElemText.{ElemText}
 use Rattle.ff_text.specs.Spelling.{Then, Is, is_blank, Blanks, Around, Each, Joined, SpellsNumber, SpellsPower, SpellsFactor, SpellsFactors, FirstSign, NextSign, SpellsNext, SpellsTerms, SpellsOneTerm, SpellsDen, SpellsTail, SpellsEntries, SpellsElement}
+use Rattle.ff_script.specs.declared.script.Item.{Item}
 use Rattle.ff_script.specs.declared.script.Over.{Over}
 use Rattle.ff_script.specs.declared.script.Over.TheVariants.{At, Inf}
-use Rattle.ff_script.specs.Grammar.{is_word_byte, ends_with_word, begins_with_letter, SpellsSide, SpellsOver, IsName, SpellsName}
+use Rattle.ff_script.specs.Grammar.{is_word_byte, ends_with_word, begins_with_letter, SpellsSide, SpellsOver, IsName, SpellsName, SpellsTimes, SpellsItem, SpellsNextItem, SpellsSum}
 use Rattle.ff_script.specs.Reading.{begins_with_blank}
 use Rattle.ff_script.proofs.Spans.{all_append, each_blank, blank_no_word, AllWord, all_word_ends, IsStopped, stopped_behind}
 
@@ -42,7 +43,7 @@ starts_edge [] b h = absurd h
 starts_edge (c ∷ a) b h = h
 
 -- a digit is a byte from `0` to `9`
-digit_byte : (c : ℕ) → digit_value c < 10 → (48 ≤ c) × (c ≤ 57)
+pub digit_byte : (c : ℕ) → digit_value c < 10 → (48 ≤ c) × (c ≤ 57)
 digit_byte c h = (grind (arith, nat_tests), grind (arith, nat_tests))
 
 pub digit_not : (c b : ℕ) → digit_value c < 10 → ((48 ≤ b) × (b ≤ 57) → ⊥) → eqb c b ≡ false
@@ -300,6 +301,36 @@ name_solid name bytes h = subst IsSolid (sym h.1)
       stops = words_stop name h.0.bytes (name_some name h.0);
       inside = words_inside name h.0.bytes;
     })
+
+-- ---- sums
+
+-- how often, and then what is solid
+times_solid : (times : Option ℕ) (front back : List ℕ) → SpellsTimes times front → IsSolid back
+    → IsSolid (front ++ back)
+times_solid None front back h solid = subst (λ (t : List ℕ). IsSolid (t ++ back)) (sym h) solid
+times_solid (Some m) front back h solid =
+    let mark : AreInside h.back = around_inside (codes "*") h.back ((refl, refl), tt) h.second in
+    subst IsSolid (sym (ap (λ (t : List ℕ). t ++ back) h.whole ∙ append_assoc h.front h.back back))
+    (solid_before h.front (h.back ++ back) (number_solid m h.front h.first)
+    (ending_behind h.back back mark (solid_ending back solid)))
+
+pub item_solid : (i : Item) (bytes : List ℕ) → SpellsItem i bytes → IsSolid bytes
+item_solid i bytes h = subst IsSolid (sym h.whole)
+    (times_solid i.times h.front h.back h.first (name_solid i.name h.back h.second))
+
+next_item_ending : (i : Item) (bytes : List ℕ) → SpellsNextItem i bytes → IsEnding bytes
+next_item_ending i bytes h = subst IsEnding (sym h.whole)
+    (ending_behind h.front h.back (sign_inside i.minus h.front h.first)
+    (solid_ending h.back (item_solid i h.back h.second)))
+
+pub sum_solid : (sum : List Item) (bytes : List ℕ) → SpellsSum sum bytes → IsSolid bytes
+sum_solid [] bytes h = subst IsSolid (sym h) (letter_solid 48 refl (refl, refl))
+sum_solid (i ∷ is) bytes h =
+    let first : IsSolid h.front = subst IsSolid (sym h.first.whole)
+    (signed_solid i.minus h.first.front h.first.back h.first.first
+    (item_solid i h.first.back h.first.second)) in
+    subst IsSolid (sym h.whole) (solid_tail h.front h.back first
+    (each_tail SpellsNextItem is h.back next_item_ending h.second))
 
 -- ---- elements
 

@@ -1,5 +1,5 @@
 -- The steps of reading a line: what a part at the front says, and that there is one at most.
-use Rattle.std.proofs.Common.{◌≡◌, ◌≢◌, ℕ, Bool, true, false, eqb, ◌-◌, ◌<◌, ◌≤◌, List, [], ◌∷◌, ◌++◌, length, take, drop, codes, Result, Err, get_or, refl, sym, ap, subst, ◌∙◌, append_assoc, arith, inl, inr}
+use Rattle.std.proofs.Common.{◌≡◌, ◌≢◌, ℕ, Bool, true, false, eqb, ◌-◌, ◌<◌, ◌≤◌, List, [], ◌∷◌, ◌++◌, length, take, drop, codes, Result, Err, get_or, refl, sym, ap, subst, ◌∙◌, arith, inl, inr}
 use Rattle.std.specs.Prelude.{IsTrue}
 use Rattle.std.specs.List.{slice_range}
 use Rattle.std.proofs.lemmas.Bool.{both_ways, cases_lt, eqb-true, eqb-false}
@@ -13,6 +13,7 @@ use Rattle.ff_script.specs.Grammar.{begins_with_word, ends_with_word, Any, IsSki
 use Rattle.ff_script.specs.Reading.{behind_blanks, IsFront, AreNumbersAt, AreTermsAt}
 use Rattle.ff_script.proofs.Spans.{head_same, tail_same, all_back, passed, blanks_passed, blanks_same, gap_no_word, words_longest, words_same}
 use Rattle.ff_script.proofs.Spelled.{number_word, number_ends}
+use Rattle.ff_script.proofs.Several.{IsReadOnce, several_same}
 
 -- ---- a part that was read
 
@@ -225,56 +226,15 @@ number_shorter bytes n rest f = omega (
   length-append f.gap rest,
 )
 
+-- a number at the front
+abbrev pub IsNumberFront : ℕ → List ℕ → List ℕ → Type 0
+IsNumberFront n bytes rest = IsFront (SpellsNumber n) bytes rest
+
+pub numbers_once : IsReadOnce IsNumberFront
+numbers_once = record { one = number_same; shorter = number_shorter }
+
 pub numbers_same : (ns ms : List ℕ) (bytes : List ℕ) → AreNumbersAt ns bytes → AreNumbersAt ms bytes → ns ≡ ms
-numbers_same [] [] bytes h k = refl
-numbers_same [] (m ∷ ms) bytes h k = let shorter = number_shorter bytes m k.0 k.1 in let
-    none : length bytes ≡ 0 = ap length h in absurd (omega arith)
-numbers_same (n ∷ ns) [] bytes h k = let shorter = number_shorter bytes n h.0 h.1 in let
-    none : length bytes ≡ 0 = ap length k in absurd (omega arith)
-numbers_same (n ∷ ns) (m ∷ ms) bytes h k =
-    let both = number_same bytes n m h.0 k.0 h.1 k.1 in
-    let more : ns ≡ ms = numbers_same ns ms h.0 h.2 (subst (AreNumbersAt ms) (sym both.1) k.2) in
-    let first : n ≡ m = both.0 in
-    cc
-
--- numbers were read, and these bytes are left
-pub record HaveRead (bytes numbers rest : List ℕ) : Type 0 where
-  pub on : (ms : List ℕ) → AreNumbersAt ms rest → AreNumbersAt (numbers ++ ms) bytes
-  pub back : (ns : List ℕ) → AreNumbersAt ns bytes → (ms : List ℕ) × (ns ≡ numbers ++ ms) × AreNumbersAt ms rest
-
-pub none_read : (bytes : List ℕ) → HaveRead bytes [] bytes
-none_read bytes = record { on = λ ms h. h; back = λ ns h. (ns, refl, h) }
-
-pub read_more : (bytes numbers rest : List ℕ) (n : ℕ) (behind : List ℕ) → HaveRead bytes numbers rest
-    → IsFront (SpellsNumber n) rest behind → HaveRead bytes (numbers ++ n ∷ []) behind
-read_more bytes numbers rest n behind h f = record {
-  on = λ ms k. subst (λ (t : List ℕ). AreNumbersAt t bytes) (sym (append_assoc numbers (n ∷ []) ms))
-      (h.on (n ∷ ms) (behind, f, k));
-  back = λ ns k. let m = h.back ns k in go ns m.0 m.1 m.2;
-}
-  where
-    go : (ns ms : List ℕ) → ns ≡ numbers ++ ms → AreNumbersAt ms rest
-        → (ls : List ℕ) × (ns ≡ (numbers ++ n ∷ []) ++ ls) × AreNumbersAt ls behind
-    go ns [] e k = let shorter = number_shorter rest n behind f in let none : length rest ≡ 0 = ap length k in absurd
-        (omega arith)
-    go ns (m ∷ ms) e k =
-        let both = number_same rest n m behind k.0 f k.1 in (
-          ms,
-          e ∙ ap (λ (i : ℕ). numbers ++ i ∷ ms) (sym both.0)
-              ∙ sym (append_assoc numbers (n ∷ []) ms),
-          subst (AreNumbersAt ms) (sym both.1) k.2,
-        )
-
-pub read_all : (bytes numbers rest : List ℕ) → HaveRead bytes numbers rest → rest ≡ [] → AreNumbersAt numbers bytes
-read_all bytes numbers rest h e = subst (λ (t : List ℕ). AreNumbersAt t bytes) (append-nil numbers) (h.on [] e)
-
-pub read_none : (bytes numbers rest : List ℕ) → HaveRead bytes numbers rest → rest ≢ []
-    → ((n : ℕ) (behind : List ℕ) → IsFront (SpellsNumber n) rest behind → ⊥) → (ns : List ℕ) → AreNumbersAt ns bytes → ⊥
-read_none bytes numbers rest h some none ns k = let m = h.back ns k in go m.0 m.2
-  where
-    go : (ms : List ℕ) → AreNumbersAt ms rest → ⊥
-    go [] e = some e
-    go (m ∷ ms) l = none m l.0 l.1
+numbers_same ns ms bytes h k = several_same IsNumberFront numbers_once ns ms bytes h k
 
 -- ---- polynomials
 

@@ -9,13 +9,14 @@ use Rattle.ff_text.specs.declared.terms.ElemText.{ElemText}
 use Rattle.ff_text.specs.Spelling.{Then, Around, Each, SpellsPower, SpellsFactor, SpellsFactors, SpellsNext, SpellsTerms, SpellsDen, SpellsTail, SpellsEntries, SpellsElement}
 use Rattle.ff_text.specs.Printing.{IsWritableFactor, IsWritableTerm, IsWritableTerms, IsWritableElement}
 use Rattle.ff_text.proofs.Digits.{number_small}
+use Rattle.ff_script.specs.declared.script.Item.{Item}
 use Rattle.ff_script.specs.declared.script.Over.{Over}
 use Rattle.ff_script.specs.declared.script.Over.TheVariants.{At, Inf}
 use Rattle.ff_script.specs.declared.script.Statement.{Statement}
-use Rattle.ff_script.specs.declared.script.Statement.TheVariants.{FieldOf, CurveOf, Mul, OrderOf, Places, Place, Constants, Genus}
+use Rattle.ff_script.specs.declared.script.Statement.TheVariants.{FieldOf, CurveOf, Mul, OrderOf, Places, Place, Constants, Genus, DivisorOf, BasisOf}
 use Rattle.ff_script.specs.declared.script.Statement.TheVariants as statements
-use Rattle.ff_script.specs.Grammar.{AreNumbers, numbers_of, SpellsOver, ArePartsOf, SpellsLine}
-use Rattle.ff_script.specs.Printing.{IsShort, IsWritableOver, IsWritable}
+use Rattle.ff_script.specs.Grammar.{AreNumbers, numbers_of, SpellsOver, SpellsTimes, SpellsItem, SpellsNextItem, SpellsSum, ArePartsOf, SpellsLine}
+use Rattle.ff_script.specs.Printing.{IsShort, IsWritableOver, IsWritableItem, IsWritableSum, IsWritable}
 
 power_writable : (letter : List ℕ) (n : ℕ) (bytes : List ℕ) → SpellsPower letter n bytes → n < 1000000000
 power_writable letter n bytes (inl h) = let one = h.0 in omega arith
@@ -93,6 +94,20 @@ over_writable : (over : Over) (bytes : List ℕ) → SpellsOver over bytes → I
 over_writable (At g) bytes h = terms_writable false g bytes h
 over_writable Inf bytes h = tt
 
+times_writable : (times : Option ℕ) (bytes : List ℕ) → SpellsTimes times bytes → IfSome times IsShort
+times_writable None bytes h = tt
+times_writable (Some m) bytes h = number_small m h.front h.first
+
+item_writable : (i : Item) (bytes : List ℕ) → SpellsItem i bytes → IsWritableItem i
+item_writable i bytes h = (h.second.0, times_writable i.times h.front h.first)
+
+sum_writable : (sum : List Item) (bytes : List ℕ) → SpellsSum sum bytes → IsWritableSum sum
+sum_writable [] bytes h = tt
+sum_writable (i ∷ is) bytes h = (
+  item_writable i h.first.back h.first.second,
+  each_holds SpellsNextItem IsWritableItem is h.back (λ j b k. item_writable j k.back k.second) h.second,
+)
+
 parts_writable : (s : Statement) (parts : List (List ℕ)) → ArePartsOf s parts → IsWritable s
 parts_writable (FieldOf p tail) parts h = (numbers_writable (p ∷ numbers_of tail) h.0 h.2, h.3)
 parts_writable (CurveOf f) parts h = terms_writable true f h.0 h.2
@@ -103,6 +118,8 @@ parts_writable (Places over) parts h = over_writable over h.0 h.2
 parts_writable (Place name over index) parts h = (h.4.0, over_writable over h.1 h.5, number_small index h.2 h.6)
 parts_writable Constants parts h = tt
 parts_writable Genus parts h = tt
+parts_writable (DivisorOf name sum) parts h = (h.3.0, sum_writable sum h.1 h.4)
+parts_writable (BasisOf name) parts h = h.2.0
 
 -- a statement that a line spells can be written
 pub line_writable : (s : Statement) (line : List ℕ) → SpellsLine s line → IsWritable s

@@ -2,14 +2,15 @@
 use Rattle.std.specs.Prelude.{◌≡◌, ◌≢◌, ℕ, suc, ◌≤◌, ◌⊎◌, ◌||◌, ◌&&◌, ◌==◌, Bool, true, false, List, [], ◌∷◌, length, codes, Option, Some, None, IsTrue}
 use Rattle.std.specs.List.{AllByRecursion}
 use Rattle.std.specs.Char.{is_ascii_alphabetic, is_ascii_alphanumeric}
-use Rattle.ff_text.specs.Spelling.{Then, Is, Blanks, SpellsNumber, SpellsTerms, SpellsElement}
+use Rattle.ff_text.specs.Spelling.{Then, Is, Blanks, Around, Each, SpellsNumber, FirstSign, NextSign, SpellsTerms, SpellsElement}
 use Rattle.function_field.specs.declared.side.Side.{Side}
 use Rattle.function_field.specs.declared.side.Side.TheVariants.{Finite, Infinite}
 use Rattle.ff_script.specs.declared.script.Modulus.{Modulus}
+use Rattle.ff_script.specs.declared.script.Item.{Item}
 use Rattle.ff_script.specs.declared.script.Over.{Over}
 use Rattle.ff_script.specs.declared.script.Over.TheVariants.{At, Inf}
 use Rattle.ff_script.specs.declared.script.Statement.{Statement}
-use Rattle.ff_script.specs.declared.script.Statement.TheVariants.{FieldOf, CurveOf, Mul, Factor, OrderOf, Places, Place, Constants, Genus}
+use Rattle.ff_script.specs.declared.script.Statement.TheVariants.{FieldOf, CurveOf, Mul, Factor, OrderOf, Places, Place, Constants, Genus, DivisorOf, BasisOf}
 
 -- ---- parts with gaps between them
 
@@ -83,8 +84,31 @@ pub record IsName (name : List ℕ) : Type 0 where
 abbrev pub SpellsName : List ℕ → List ℕ → Type 0
 SpellsName name bytes = IsName name × (bytes ≡ name)
 
+-- how often a name is taken: nothing, or a number and `*`
+abbrev pub SpellsTimes : Option ℕ → List ℕ → Type 0
+SpellsTimes None = Is []
+SpellsTimes (Some m) = Then (SpellsNumber m) (Around (codes "*"))
+
+-- an item without its sign
+abbrev pub SpellsItem : Item → List ℕ → Type 0
+SpellsItem i = Then (SpellsTimes i.times) (SpellsName i.name)
+
+-- the first item of a sum
+abbrev pub SpellsFirstItem : Item → List ℕ → Type 0
+SpellsFirstItem i = Then (FirstSign i.minus) (SpellsItem i)
+
+-- a further item
+abbrev pub SpellsNextItem : Item → List ℕ → Type 0
+SpellsNextItem i = Then (NextSign i.minus) (SpellsItem i)
+
+-- a sum: `0` alone, or one item or more
+abbrev pub SpellsSum : List Item → List ℕ → Type 0
+SpellsSum [] bytes = bytes ≡ codes "0"
+SpellsSum (i ∷ is) bytes = Then (SpellsFirstItem i) (Each SpellsNextItem is) bytes
+
 -- the parts that spell a statement: its word alone, or its word and then its numbers, its polynomial, its elements, its
--- side or its base, or a name, `=`, a base and a number; y stands in the polynomial of `curve` alone
+-- side, its base or its name, or a name, `=`, and a base and a number or a sum; y stands in the polynomial of `curve`
+-- alone
 abbrev pub ArePartsOf : Statement → List (List ℕ) → Type 0
 ArePartsOf (FieldOf p tail) parts = (numbers : List (List ℕ)) × (parts ≡ codes "field" ∷ numbers)
     × AreNumbers (p ∷ numbers_of tail) numbers × IsWhole tail
@@ -101,6 +125,9 @@ ArePartsOf (Place name over index) parts = (word : List ℕ) × (base : List ℕ
     × SpellsName name word × SpellsOver over base × SpellsNumber index number
 ArePartsOf Constants parts = parts ≡ codes "constants" ∷ []
 ArePartsOf Genus parts = parts ≡ codes "genus" ∷ []
+ArePartsOf (DivisorOf name sum) parts = (word : List ℕ) × (items : List ℕ)
+    × (parts ≡ codes "divisor" ∷ word ∷ codes "=" ∷ items ∷ []) × SpellsName name word × SpellsSum sum items
+ArePartsOf (BasisOf name) parts = (word : List ℕ) × (parts ≡ codes "basis" ∷ word ∷ []) × SpellsName name word
 
 -- a statement
 pub record SpellsStatement (s : Statement) (bytes : List ℕ) : Type 0 where

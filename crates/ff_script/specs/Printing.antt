@@ -1,14 +1,15 @@
 -- How statements are printed, and which are read again as they were.
-use Rattle.std.specs.Prelude.{ℕ, ◌<◌, true, false, List, ◌∷◌, ◌++◌, codes, Option, decimal, flat_map}
+use Rattle.std.specs.Prelude.{ℕ, ◌<◌, true, false, List, [], ◌∷◌, ◌++◌, codes, Option, Some, None, IfSome, decimal, flat_map}
 use Rattle.std.specs.List.{AllByRecursion}
-use Rattle.ff_text.specs.Printing.{terms_text, element_text, IsWritableTerms, IsWritableElement}
+use Rattle.ff_text.specs.Printing.{first_sign, next_sign, terms_text, element_text, IsWritableTerms, IsWritableElement}
 use Rattle.function_field.specs.declared.side.Side.{Side}
 use Rattle.function_field.specs.declared.side.Side.TheVariants.{Finite, Infinite}
 use Rattle.ff_script.specs.declared.script.Modulus.{Modulus}
+use Rattle.ff_script.specs.declared.script.Item.{Item}
 use Rattle.ff_script.specs.declared.script.Over.{Over}
 use Rattle.ff_script.specs.declared.script.Over.TheVariants.{At, Inf}
 use Rattle.ff_script.specs.declared.script.Statement.{Statement}
-use Rattle.ff_script.specs.declared.script.Statement.TheVariants.{FieldOf, CurveOf, Mul, Factor, OrderOf, Places, Place, Constants, Genus}
+use Rattle.ff_script.specs.declared.script.Statement.TheVariants.{FieldOf, CurveOf, Mul, Factor, OrderOf, Places, Place, Constants, Genus, DivisorOf, BasisOf}
 use Rattle.ff_script.specs.Grammar.{numbers_of, IsWhole, IsName}
 
 -- the numbers, each behind a space
@@ -31,6 +32,23 @@ over_text Inf = codes "inf"
 abbrev pub place_text : List ℕ → Over → ℕ → List ℕ
 place_text name over index = name ++ (codes " = " ++ (over_text over ++ (codes " " ++ decimal index)))
 
+-- how often a name is taken, where that is written
+abbrev pub times_text : Option ℕ → List ℕ
+times_text None = []
+times_text (Some m) = decimal m ++ codes "*"
+
+-- an item without its sign
+abbrev pub item_text : Item → List ℕ
+item_text i = times_text i.times ++ i.name
+
+-- the items, each behind its sign
+abbrev pub next_items_text : List Item → List ℕ
+next_items_text is = flat_map (λ i. next_sign i.minus ++ item_text i) is
+
+abbrev pub sum_text : List Item → List ℕ
+sum_text [] = codes "0"
+sum_text (i ∷ is) = first_sign i.minus ++ (item_text i ++ next_items_text is)
+
 -- the line of a statement, without its line feed
 abbrev pub statement_text : Statement → List ℕ
 statement_text (FieldOf p tail) = codes "field " ++ (decimal p ++ tail_text tail)
@@ -42,6 +60,8 @@ statement_text (Places over) = codes "places " ++ over_text over
 statement_text (Place name over index) = codes "place " ++ place_text name over index
 statement_text Constants = codes "constants"
 statement_text Genus = codes "genus"
+statement_text (DivisorOf name sum) = codes "divisor " ++ (name ++ (codes " = " ++ sum_text sum))
+statement_text (BasisOf name) = codes "basis " ++ name
 
 -- each statement on a line that a line feed ends
 abbrev pub script_text : List Statement → List ℕ
@@ -57,6 +77,13 @@ abbrev pub IsWritableOver : Over → Type 0
 IsWritableOver (At g) = IsWritableTerms false g
 IsWritableOver Inf = Unit {0}
 
+-- its name is one, and the number that is written is short
+abbrev pub IsWritableItem : Item → Type 0
+IsWritableItem i = IsName i.name × IfSome i.times IsShort
+
+abbrev pub IsWritableSum : List Item → Type 0
+IsWritableSum sum = AllByRecursion IsWritableItem sum
+
 -- a statement that its text spells
 abbrev pub IsWritable : Statement → Type 0
 IsWritable (FieldOf p tail) = AllByRecursion IsShort (p ∷ numbers_of tail) × IsWhole tail
@@ -68,3 +95,5 @@ IsWritable (Places over) = IsWritableOver over
 IsWritable (Place name over index) = IsName name × IsWritableOver over × IsShort index
 IsWritable Constants = Unit {0}
 IsWritable Genus = Unit {0}
+IsWritable (DivisorOf name sum) = IsName name × IsWritableSum sum
+IsWritable (BasisOf name) = IsName name

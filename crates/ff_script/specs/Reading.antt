@@ -7,10 +7,11 @@ use Rattle.function_field.specs.declared.side.Side.{Side}
 use Rattle.ff_script.specs.declared.fault.ScriptFault.{ScriptFault}
 use Rattle.ff_script.specs.declared.fault.ScriptFault.TheVariants.{Syntax, Misplaced, Memory}
 use Rattle.ff_script.specs.declared.script.Modulus.{Modulus}
+use Rattle.ff_script.specs.declared.script.Item.{Item}
 use Rattle.ff_script.specs.declared.script.Over.{Over}
 use Rattle.ff_script.specs.declared.script.Statement.{Statement}
-use Rattle.ff_script.specs.declared.script.Statement.TheVariants.{FieldOf, CurveOf, Mul, Factor, OrderOf, Places, Place, Constants, Genus}
-use Rattle.ff_script.specs.Grammar.{begins_with_word, ends_with_word, numbers_of, IsWhole, SpellsSide, SpellsOver, SpellsName, IsInGrammar}
+use Rattle.ff_script.specs.declared.script.Statement.TheVariants.{FieldOf, CurveOf, Mul, Factor, OrderOf, Places, Place, Constants, Genus, DivisorOf, BasisOf}
+use Rattle.ff_script.specs.Grammar.{begins_with_word, ends_with_word, numbers_of, IsWhole, SpellsSide, SpellsOver, SpellsName, SpellsItem, SpellsSum, IsInGrammar}
 use Rattle.ff_script.specs.Scripts.{IsReadAs, IsInOrder, IsOutOfOrder}
 
 -- the value that the bytes spell, or none where they spell nothing
@@ -37,10 +38,14 @@ pub record IsFront (Part : List ℕ → Type 0) (bytes rest : List ℕ) : Type 0
   pub edge : begins_with_blank rest ≡ false
   pub apart : ends_with_word front ≡ true → begins_with_word (gap ++ rest) ≡ false
 
+-- values one behind the other up to the end of the bytes, each with what stands behind it
+abbrev pub AreAt : {V : Type 0} → (V → List ℕ → List ℕ → Type 0) → List V → List ℕ → Type 0
+AreAt Front [] bytes = bytes ≡ []
+AreAt Front (v ∷ vs) bytes = (rest : List ℕ) × Front v bytes rest × AreAt Front vs rest
+
 -- numbers up to the end of the bytes
 abbrev pub AreNumbersAt : List ℕ → List ℕ → Type 0
-AreNumbersAt [] bytes = bytes ≡ []
-AreNumbersAt (n ∷ ns) bytes = (rest : List ℕ) × IsFront (SpellsNumber n) bytes rest × AreNumbersAt ns rest
+AreNumbersAt ns bytes = AreAt (λ n. IsFront (SpellsNumber n)) ns bytes
 
 -- a degree and its coefficients up to the end of the bytes
 abbrev pub IsModulusAt : Modulus → List ℕ → Type 0
@@ -88,6 +93,40 @@ abbrev pub IsNameFront : List ℕ → List ℕ → List ℕ → Type 0
 IsNameFront name bytes rest = (behind : List ℕ) × IsFront (SpellsName name) bytes behind
     × IsFront (Is (codes "=")) behind rest
 
+-- how often a name is taken at the front of the bytes: a number and `*`, or nothing where no number stands there
+abbrev pub IsTimesFront : Option ℕ → List ℕ → List ℕ → Type 0
+IsTimesFront None bytes rest = (rest ≡ bytes) × ((n : ℕ) (behind : List ℕ) → ¬ IsFront (SpellsNumber n) bytes behind)
+IsTimesFront (Some m) bytes rest = (behind : List ℕ) × IsFront (SpellsNumber m) bytes behind
+    × IsFront (Is (codes "*")) behind rest
+
+-- the first sign at the front of the bytes: a minus, or nothing
+abbrev pub IsFirstSignFront : Bool → List ℕ → List ℕ → Type 0
+IsFirstSignFront true bytes rest = IsFront (Is (codes "-")) bytes rest
+IsFirstSignFront false bytes rest = rest ≡ bytes
+
+-- a further sign at the front of the bytes
+abbrev pub IsNextSignFront : Bool → List ℕ → List ℕ → Type 0
+IsNextSignFront true bytes rest = IsFront (Is (codes "-")) bytes rest
+IsNextSignFront false bytes rest = IsFront (Is (codes "+")) bytes rest
+
+-- the first item of a sum at the front of the bytes
+abbrev pub IsFirstItemFront : Item → List ℕ → List ℕ → Type 0
+IsFirstItemFront i bytes rest = (behind : List ℕ) × IsFirstSignFront i.minus bytes behind
+    × IsFront (SpellsItem i) behind rest
+
+-- a further item at the front of the bytes
+abbrev pub IsNextItemFront : Item → List ℕ → List ℕ → Type 0
+IsNextItemFront i bytes rest = (behind : List ℕ) × IsNextSignFront i.minus bytes behind
+    × IsFront (SpellsItem i) behind rest
+
+-- further items up to the end of the bytes
+abbrev pub AreNextItemsAt : List Item → List ℕ → Type 0
+AreNextItemsAt is bytes = AreAt IsNextItemFront is bytes
+
+-- a sum up to the end of the bytes
+abbrev pub IsSumAt : List Item → List ℕ → Type 0
+IsSumAt sum bytes = IsFront (SpellsSum sum) bytes []
+
 -- what stands behind the word of a statement
 abbrev pub IsBehind : List ℕ → Statement → List ℕ → Type 0
 IsBehind word (FieldOf p tail) bytes = (word ≡ codes "field") × IsWhole tail × AreNumbersAt (p ∷ numbers_of tail) bytes
@@ -101,6 +140,9 @@ IsBehind word (Place name over index) bytes = (word ≡ codes "place")
     × ((rest : List ℕ) × IsNameFront name bytes rest × IsPlaceAt over index rest)
 IsBehind word Constants bytes = (word ≡ codes "constants") × (bytes ≡ [])
 IsBehind word Genus bytes = (word ≡ codes "genus") × (bytes ≡ [])
+IsBehind word (DivisorOf name sum) bytes = (word ≡ codes "divisor")
+    × ((rest : List ℕ) × IsNameFront name bytes rest × IsSumAt sum rest)
+IsBehind word (BasisOf name) bytes = (word ≡ codes "basis") × IsFront (SpellsName name) bytes []
 
 -- ---- while a script is read
 

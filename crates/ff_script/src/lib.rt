@@ -12,4 +12,4 @@ pub use fault::ScriptFault;
 pub use parsing::parse;
 pub use printing::{print, push_statement};
 pub use reading::read_statement;
-pub use script::{CodeList, Modulus, Name, Over, Statement};
+pub use script::{CodeList, Item, ItemList, Modulus, Name, Over, Statement};

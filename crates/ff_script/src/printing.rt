@@ -1,17 +1,18 @@
 //! Prints statements. What appends to a buffer leaves a part of the text there after an error.
 
 ghost use Rattle.std.specs.Prelude.{◌≡◌, ◌++◌, codes, IfOk, OnOk};
-ghost use Rattle.ff_script.specs.Printing.{numbers_text, tail_text, side_text, over_text, place_text, statement_text};
+ghost use Rattle.ff_script.specs.declared.script.Statement.TheVariants.{Place, DivisorOf};
+ghost use Rattle.ff_script.specs.Printing.{numbers_text, tail_text, side_text, over_text, times_text, item_text, next_items_text, sum_text, statement_text};
 
-use crate::script::{Modulus, Name, Over, Statement};
+use crate::script::{Item, ItemList, Modulus, Name, Over, Statement};
 use ff_text::number::push_number;
 use ff_text::{push_element, push_terms};
 use function_field::Side;
 use std::alloc::{AllocError, Global};
 
-/// The text of a statement, without a line feed: one space between tokens, and none within polynomials and elements
-/// but around `+` and `-` and behind `,`. A denominator stands in parentheses unless it is one term without `-`. Linear
-/// in the text.
+/// The text of a statement, without a line feed: one space between tokens, and none within polynomials, elements and
+/// sums but around `+` and `-` and behind `,`. A denominator stands in parentheses unless it is one term without `-`.
+/// Linear in the text.
 pub fn print(alloc: Global, s: &Statement) -> Result<Vec<u8>, AllocError>
     ensures { IfOk result (λ v. v.items ≡ statement_text s.now) }
 {
@@ -64,15 +65,72 @@ fn push_over(out: &mut Vec<u8>, over: &Over) -> Result<(), AllocError>
     }
 }
 
-/// What stands behind the word of `place`.
+/// The text of `place`.
 fn push_place(out: &mut Vec<u8>, name: &Name, over: &Over, index: u32) -> Result<(), AllocError>
-    ensures { OnOk result (out.new.items ≡ out.old.items ++ place_text name.now over.now index) }
+    ensures { OnOk result (out.new.items ≡ out.old.items ++ statement_text (Place name.now over.now index)) }
 {
+    out.extend_from_slice(b"place ")?;
     out.extend_from_slice(name.letters.as_slice())?;
     out.extend_from_slice(b" = ")?;
     push_over(out, over)?;
     out.push(b' ')?;
     push_number(out, u64::from(index))
+}
+
+/// How often a name is taken, where that is written.
+fn push_times(out: &mut Vec<u8>, times: Option<u32>) -> Result<(), AllocError>
+    ensures { OnOk result (out.new.items ≡ out.old.items ++ times_text times) }
+{
+    let Some(m) = times else {
+        return Ok(());
+    };
+    push_number(out, u64::from(m))?;
+    out.push(b'*')?;
+    Ok(())
+}
+
+/// An item without its sign.
+fn push_item(out: &mut Vec<u8>, item: &Item) -> Result<(), AllocError>
+    ensures { OnOk result (out.new.items ≡ out.old.items ++ item_text item.now) }
+{
+    push_times(out, item.times)?;
+    out.extend_from_slice(item.name.letters.as_slice())
+}
+
+/// The items, each behind its sign.
+fn push_next_items(out: &mut Vec<u8>, items: &[Item]) -> Result<(), AllocError>
+    ensures { OnOk result (out.new.items ≡ out.old.items ++ next_items_text items.now) }
+{
+    for i in items {
+        out.extend_from_slice(if i.minus { b" - " } else { b" + " })?;
+        push_item(out, i)?;
+    }
+    Ok(())
+}
+
+/// The text of a sum.
+fn push_sum(out: &mut Vec<u8>, sum: &[Item]) -> Result<(), AllocError>
+    ensures { OnOk result (out.new.items ≡ out.old.items ++ sum_text sum.now) }
+{
+    let Some((first, others)) = sum.split_first() else {
+        out.push(b'0')?;
+        return Ok(());
+    };
+    if first.minus {
+        out.push(b'-')?;
+    }
+    push_item(out, first)?;
+    push_next_items(out, others)
+}
+
+/// The text of `divisor`.
+fn push_divisor(out: &mut Vec<u8>, name: &Name, sum: &ItemList) -> Result<(), AllocError>
+    ensures { OnOk result (out.new.items ≡ out.old.items ++ statement_text (DivisorOf name.now sum.now)) }
+{
+    out.extend_from_slice(b"divisor ")?;
+    out.extend_from_slice(name.letters.as_slice())?;
+    out.extend_from_slice(b" = ")?;
+    push_sum(out, sum.items.as_slice())
 }
 
 /// The text of a statement at the end of the buffer, without a line feed.
@@ -107,11 +165,13 @@ pub fn push_statement(out: &mut Vec<u8>, s: &Statement) -> Result<(), AllocError
             out.extend_from_slice(b"places ")?;
             push_over(out, over)
         }
-        Statement::Place { name, over, index } => {
-            out.extend_from_slice(b"place ")?;
-            push_place(out, name, over, *index)
-        }
+        Statement::Place { name, over, index } => push_place(out, name, over, *index),
         Statement::Constants => out.extend_from_slice(b"constants"),
         Statement::Genus => out.extend_from_slice(b"genus"),
+        Statement::DivisorOf { name, sum } => push_divisor(out, name, sum),
+        Statement::BasisOf { name } => {
+            out.extend_from_slice(b"basis ")?;
+            out.extend_from_slice(name.letters.as_slice())
+        }
     }
 }

@@ -1,16 +1,17 @@
 //! Reads the statement of a line.
 
-ghost use Rattle.std.specs.Prelude.{◌≡◌, ◌↔◌, ◌⊎◌, ◌++◌, false, List, [], ℕ, not, position, IsTrue, IfOk, IfErr, MatchOption, codes};
+ghost use Rattle.std.specs.Prelude.{◌≡◌, ◌↔◌, ◌⊎◌, ◌++◌, false, List, [], ◌∷◌, ℕ, not, position, IsTrue, IfOk, IfErr, MatchOption, Option, codes};
 ghost use Rattle.std.specs.List.{AllByRecursion};
 ghost use Rattle.ff_text.specs.Spelling.{Is, is_blank, SpellsNumber, SpellsTerms};
 ghost use Rattle.ff_text.specs.Reading.{IsLongestSpelling, IsReadFault};
 ghost use Rattle.ff_text.specs.declared.terms.Term.{Term};
 ghost use Rattle.ff_text.specs.declared.terms.ElemText.{ElemText};
+ghost use Rattle.ff_script.specs.declared.script.Item.{Item};
 ghost use Rattle.ff_script.specs.declared.script.Over.{Over};
-ghost use Rattle.ff_script.specs.Grammar.{is_word_byte, begins_with_word, ends_with_word, IsName, SpellsLine, IsSkipped};
-ghost use Rattle.ff_script.specs.Reading.{IsReading, behind_blanks, IsFront, AreNumbersAt, IsModulusAt, AreTermsAt, IsSideAt, IsOverAt, IsTermsFront, IsOverFront, IsPlaceAt, IsNameFront, is_behind_element, IsElementFront, IsBehind};
+ghost use Rattle.ff_script.specs.Grammar.{is_word_byte, begins_with_word, ends_with_word, IsName, SpellsName, SpellsItem, SpellsLine, IsSkipped};
+ghost use Rattle.ff_script.specs.Reading.{IsReading, behind_blanks, IsFront, AreNumbersAt, IsModulusAt, AreTermsAt, IsSideAt, IsOverAt, IsTermsFront, IsOverFront, IsPlaceAt, IsNameFront, IsTimesFront, IsFirstItemFront, IsNextItemFront, AreNextItemsAt, IsSumAt, is_behind_element, IsElementFront, IsBehind};
 
-use crate::script::{CodeList, Modulus, Name, Over, Statement};
+use crate::script::{CodeList, Item, ItemList, Modulus, Name, Over, Statement};
 use ff_text::{
     ElemText, TermList, TextFault, read_element, read_number, read_terms, read_terms_in_x,
 };
@@ -68,6 +69,19 @@ fn behind_word<'a>(bytes: &'a [u8], word: &[u8]) -> Option<&'a [u8]>
     if begins_with_word(rest) {
         return None;
     }
+    Some(behind_blanks(rest))
+}
+
+/// What stands behind the mark and the blanks after it, if it begins the bytes.
+fn behind_mark<'a>(bytes: &'a [u8], mark: &[u8]) -> Option<&'a [u8]>
+    requires { ends_with_word mark.now ≡ false }
+    ensures { MatchOption result
+        ((rest : List ℕ) → ¬ IsFront (Is mark.now) bytes.now rest)
+        (λ rest. IsFront (Is mark.now) bytes.now rest.now) }
+{
+    let Some(rest) = bytes.strip_prefix(mark) else {
+        return None;
+    };
     Some(behind_blanks(rest))
 }
 
@@ -378,21 +392,33 @@ fn is_name(word: &[u8]) -> bool
     begins && word.len() <= 32 && !is_reserved(word)
 }
 
-/// The name that the bytes begin with, and what stands behind the blanks after the `=` that follows.
+/// The name that the bytes begin with, and what stands behind the blanks after it.
 fn next_name(alloc: Global, bytes: &[u8]) -> Result<Option<(Name, &[u8])>, AllocError>
     ensures { IfOk result (λ o. MatchOption o
-        ((name : List ℕ) (rest : List ℕ) → ¬ IsNameFront name bytes.now rest)
-        (λ x. IsNameFront x.0 bytes.now x.1.now)) }
+        ((name : List ℕ) (rest : List ℕ) → ¬ IsFront (SpellsName name) bytes.now rest)
+        (λ x. IsFront (SpellsName x.0) bytes.now x.1.now)) }
 {
     let (word, rest) = split_word(bytes);
     if !is_name(word) {
         return Ok(None);
     }
-    let Some(behind) = behind_blanks(rest).strip_prefix(b"=") else {
+    let letters = word.to_vec(alloc)?;
+    Ok(Some((Name { letters }, behind_blanks(rest))))
+}
+
+/// The name that the bytes begin with, if `=` stands behind it; and what stands behind that.
+fn bound_name(alloc: Global, bytes: &[u8]) -> Result<Option<(Name, &[u8])>, AllocError>
+    ensures { IfOk result (λ o. MatchOption o
+        ((name : List ℕ) (rest : List ℕ) → ¬ IsNameFront name bytes.now rest)
+        (λ x. IsNameFront x.0 bytes.now x.1.now)) }
+{
+    let Some((name, behind)) = next_name(alloc, bytes)? else {
         return Ok(None);
     };
-    let letters = word.to_vec(alloc)?;
-    Ok(Some((Name { letters }, behind_blanks(behind))))
+    match behind_mark(behind, b"=") {
+        Some(rest) => Ok(Some((name, rest))),
+        None => Ok(None),
+    }
 }
 
 /// What places lie over, and the number that the bytes end with.
@@ -417,7 +443,7 @@ fn place_at(alloc: Global, bytes: &[u8]) -> Result<Option<(Over, u32)>, AllocErr
 fn place(alloc: Global, bytes: &[u8]) -> Result<Option<Statement>, AllocError>
     ensures { IfOk result (IsReading (IsBehind (codes "place")) bytes.now) }
 {
-    let Some((name, rest)) = next_name(alloc, bytes)? else {
+    let Some((name, rest)) = bound_name(alloc, bytes)? else {
         return Ok(None);
     };
     match place_at(alloc, rest)? {
@@ -446,11 +472,126 @@ fn genus(bytes: &[u8]) -> Option<Statement>
     None
 }
 
-/// The statement that a line spells, given without its line feed. Linear in the bytes.
+/// How often the name is taken that the bytes begin with, and what stands behind that.
+fn next_times(bytes: &[u8]) -> Option<(Option<u32>, &[u8])>
+    ensures { MatchOption result
+        ((times : Option ℕ) (rest : List ℕ) → ¬ IsTimesFront times bytes.now rest)
+        (λ x. IsTimesFront x.0 bytes.now x.1.now) }
+{
+    let Some((m, behind)) = next_number(bytes) else {
+        return Some((None, bytes));
+    };
+    match behind_mark(behind, b"*") {
+        Some(rest) => Some((Some(m), rest)),
+        None => None,
+    }
+}
+
+/// The item that the bytes begin with, but for its sign, which is given; and what stands behind the blanks after it.
+fn next_item(alloc: Global, minus: bool, bytes: &[u8]) -> Result<Option<(Item, &[u8])>, AllocError>
+    ensures { IfOk result (λ o. MatchOption o
+        ((i : Item) (rest : List ℕ) → ¬ IsFront (SpellsItem i) bytes.now rest)
+        (λ x. (x.0.minus ≡ minus) × IsFront (SpellsItem x.0) bytes.now x.1.now)) }
+{
+    let Some((times, behind)) = next_times(bytes) else {
+        return Ok(None);
+    };
+    match next_name(alloc, behind)? {
+        Some((name, rest)) => Ok(Some((Item { minus, times, name }, rest))),
+        None => Ok(None),
+    }
+}
+
+/// The first item of a sum, of bytes that begin with it, and what stands behind the blanks after it.
+fn first_item(alloc: Global, bytes: &[u8]) -> Result<Option<(Item, &[u8])>, AllocError>
+    ensures { IfOk result (λ o. MatchOption o
+        ((i : Item) (rest : List ℕ) → ¬ IsFirstItemFront i bytes.now rest)
+        (λ x. IsFirstItemFront x.0 bytes.now x.1.now)) }
+{
+    match behind_mark(bytes, b"-") {
+        Some(behind) => next_item(alloc, true, behind),
+        None => next_item(alloc, false, bytes),
+    }
+}
+
+/// A further item, of bytes that begin with it, and what stands behind the blanks after it.
+fn further_item(alloc: Global, bytes: &[u8]) -> Result<Option<(Item, &[u8])>, AllocError>
+    ensures { IfOk result (λ o. MatchOption o
+        ((i : Item) (rest : List ℕ) → ¬ IsNextItemFront i bytes.now rest)
+        (λ x. IsNextItemFront x.0 bytes.now x.1.now)) }
+{
+    if let Some(behind) = behind_mark(bytes, b"-") {
+        return next_item(alloc, true, behind);
+    }
+    match behind_mark(bytes, b"+") {
+        Some(behind) => next_item(alloc, false, behind),
+        None => Ok(None),
+    }
+}
+
+/// The sum of the item and of the further items that the bytes are.
+fn sum_from(alloc: Global, first: Item, bytes: &[u8]) -> Result<Option<ItemList>, AllocError>
+    ensures { IfOk result (λ o. MatchOption o
+        ((is : List Item) → ¬ AreNextItemsAt is bytes.now)
+        (λ sum. (is : List Item) × (sum ≡ first ∷ is) × AreNextItemsAt is bytes.now)) }
+{
+    let mut items = Vec::new(alloc);
+    items.push(first)?;
+    let mut rest = bytes;
+    while !rest.is_empty() {
+        let Some((item, behind)) = further_item(alloc, rest)? else {
+            return Ok(None);
+        };
+        items.push(item)?;
+        rest = behind;
+    }
+    Ok(Some(ItemList { items }))
+}
+
+/// The sum that the bytes are.
+fn sum_at(alloc: Global, bytes: &[u8]) -> Result<Option<ItemList>, AllocError>
+    ensures { IfOk result (IsReading IsSumAt bytes.now) }
+{
+    if is_word(bytes, b"0") {
+        let items = Vec::new(alloc);
+        return Ok(Some(ItemList { items }));
+    }
+    match first_item(alloc, bytes)? {
+        Some((first, rest)) => sum_from(alloc, first, rest),
+        None => Ok(None),
+    }
+}
+
+/// The statement `divisor`, of what stands behind its word.
+fn divisor(alloc: Global, bytes: &[u8]) -> Result<Option<Statement>, AllocError>
+    ensures { IfOk result (IsReading (IsBehind (codes "divisor")) bytes.now) }
+{
+    let Some((name, rest)) = bound_name(alloc, bytes)? else {
+        return Ok(None);
+    };
+    match sum_at(alloc, rest)? {
+        Some(sum) => Ok(Some(Statement::DivisorOf { name, sum })),
+        None => Ok(None),
+    }
+}
+
+/// The statement `basis`, of what stands behind its word.
+fn basis(alloc: Global, bytes: &[u8]) -> Result<Option<Statement>, AllocError>
+    ensures { IfOk result (IsReading (IsBehind (codes "basis")) bytes.now) }
+{
+    let Some((name, rest)) = next_name(alloc, bytes)? else {
+        return Ok(None);
+    };
+    if rest.is_empty() {
+        return Ok(Some(Statement::BasisOf { name }));
+    }
+    Ok(None)
+}
+
+/// The statement that a line spells, given without its line feed, or none where it spells none. Linear in the bytes.
 ///
 /// A line that a script skips spells none.
 pub fn read_statement(alloc: Global, line: &[u8]) -> Result<Option<Statement>, AllocError>
-    // The statement that the line spells, or none where it spells none.
     ensures { IfOk result (IsReading SpellsLine line.now) }
 {
     let bytes = behind_blanks(line);
@@ -477,6 +618,12 @@ pub fn read_statement(alloc: Global, line: &[u8]) -> Result<Option<Statement>, A
     }
     if let Some(rest) = behind_word(bytes, b"constants") {
         return Ok(constants(rest));
+    }
+    if let Some(rest) = behind_word(bytes, b"divisor") {
+        return divisor(alloc, rest);
+    }
+    if let Some(rest) = behind_word(bytes, b"basis") {
+        return basis(alloc, rest);
     }
     match behind_word(bytes, b"genus") {
         Some(rest) => Ok(genus(rest)),

@@ -28,7 +28,7 @@ pub struct Modulus {
     pub codes: CodeList,
 }
 
-/// The name of a place as it is written: a letter, and then letters, digits or `_`.
+/// The name of a place or a divisor as it is written: a letter, and then letters, digits or `_`.
 #[derive(Debug, Drop)]
 pub struct Name {
     pub letters: Vec<u8>,
@@ -40,6 +40,32 @@ impl Model for Name {
     ghost Value = { List ℕ };
 
     ghost view = { λ n. n.letters.items };
+}
+
+/// A name with its sign, and how often it is taken.
+#[derive(Debug, Drop)]
+pub struct Item {
+    /// A minus is before it.
+    pub minus: bool,
+    /// How often it is taken, where that is written.
+    pub times: Option<u32>,
+    pub name: Name,
+}
+
+/// A sum of names.
+#[derive(Debug, Drop)]
+pub struct ItemList {
+    /// The items in the order in which they are written.
+    pub items: Vec<Item>,
+}
+
+impl Model for ItemList {
+    ghost use Rattle.std.specs.Prelude.{List};
+    ghost use Rattle.ff_script.specs.declared.script.Item.{Item};
+
+    ghost Value = { List Item };
+
+    ghost view = { λ t. t.items.items };
 }
 
 /// What places lie over: a polynomial in x as it is written, or infinity.
@@ -70,6 +96,10 @@ pub enum Statement {
     Constants,
     /// `genus`: its genus.
     Genus,
+    /// `divisor D = sum`
+    DivisorOf { name: Name, sum: ItemList },
+    /// `basis D`: the space of the divisor with the name.
+    BasisOf { name: Name },
 }
 
 impl CodeList {
@@ -99,6 +129,33 @@ impl Name {
     {
         let letters = self.letters.as_slice().to_vec(alloc)?;
         Ok(Name { letters })
+    }
+}
+
+impl Item {
+    /// An equal item, in memory of its own.
+    pub fn copy(&self, alloc: Global) -> Result<Item, AllocError>
+        ensures { IfOk result (λ i. i ≡ self.now) }
+    {
+        let name = self.name.copy(alloc)?;
+        Ok(Item {
+            minus: self.minus,
+            times: self.times,
+            name,
+        })
+    }
+}
+
+impl ItemList {
+    /// Equal items, in memory of their own. It takes time in proportion to them.
+    pub fn copy(&self, alloc: Global) -> Result<ItemList, AllocError>
+        ensures { IfOk result (λ t. t ≡ self.now) }
+    {
+        let mut items = Vec::new(alloc);
+        for i in &self.items {
+            items.push(i.copy(alloc)?)?;
+        }
+        Ok(ItemList { items })
     }
 }
 
@@ -134,24 +191,17 @@ impl Statement {
                 let tail = copy_tail(alloc, tail)?;
                 Ok(Statement::FieldOf { p: *p, tail })
             }
-            Statement::CurveOf { f } => {
-                let f = f.copy(alloc)?;
-                Ok(Statement::CurveOf { f })
-            }
+            Statement::CurveOf { f } => Ok(Statement::CurveOf { f: f.copy(alloc)? }),
             Statement::Mul { a, b } => {
                 let a = a.copy(alloc)?;
                 let b = b.copy(alloc)?;
                 Ok(Statement::Mul { a, b })
             }
-            Statement::Factor { g } => {
-                let g = g.copy(alloc)?;
-                Ok(Statement::Factor { g })
-            }
+            Statement::Factor { g } => Ok(Statement::Factor { g: g.copy(alloc)? }),
             Statement::OrderOf { side } => Ok(Statement::OrderOf { side: *side }),
-            Statement::Places { over } => {
-                let over = over.copy(alloc)?;
-                Ok(Statement::Places { over })
-            }
+            Statement::Places { over } => Ok(Statement::Places {
+                over: over.copy(alloc)?,
+            }),
             Statement::Place { name, over, index } => {
                 let name = name.copy(alloc)?;
                 let over = over.copy(alloc)?;
@@ -160,6 +210,14 @@ impl Statement {
             }
             Statement::Constants => Ok(Statement::Constants),
             Statement::Genus => Ok(Statement::Genus),
+            Statement::DivisorOf { name, sum } => {
+                let name = name.copy(alloc)?;
+                let sum = sum.copy(alloc)?;
+                Ok(Statement::DivisorOf { name, sum })
+            }
+            Statement::BasisOf { name } => Ok(Statement::BasisOf {
+                name: name.copy(alloc)?,
+            }),
         }
     }
 }
