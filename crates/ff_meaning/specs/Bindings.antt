@@ -1,5 +1,5 @@
--- What the statements of a script have bound: a field, a curve over it, and names of places of the curve.
-use Rattle.std.specs.Prelude.{◌≡◌, ℕ, List, [], All, IfSome, Option, Some, None}
+-- What the statements of a script have bound: a field, a curve over it, and names of places and divisors of the curve.
+use Rattle.std.specs.Prelude.{◌≡◌, ◌⊎◌, ℕ, List, [], All, IfSome, Option, Some, None}
 use Rattle.std.specs.List.{Any}
 use Rattle.ff_fields.specs.FieldData.{FieldData}
 use Rattle.function_field.specs.Curves.{CurveValue}
@@ -9,17 +9,25 @@ use Rattle.value_theory.specs.Primes.{PrimeValue}
 use Rattle.ff_script.specs.declared.script.Over.{Over}
 use Rattle.ff_script.specs.declared.script.Over.TheVariants.{At, Inf}
 use Rattle.ff_script.specs.declared.script.Statement.{Statement}
-use Rattle.ff_script.specs.declared.script.Statement.TheVariants.{FieldOf, CurveOf, Mul, Factor, OrderOf, Places, Place, Constants, Genus}
+use Rattle.ff_script.specs.declared.script.Statement.TheVariants.{FieldOf, CurveOf, Mul, Factor, OrderOf, Places, Place, Constants, Genus, DivisorOf, BasisOf}
+use Rattle.ff_meaning.specs.Keys.{KeyTimes}
 
 -- a place that is bound to a name; its key is its side, its polynomial and its number
 pub record NamedPlace : Type 0 where
   pub name : List ℕ
   pub place : PrimeValue
 
--- what a curve statement binds, and those behind it: the curve, and the named places in the order of their statements
+-- a divisor that is bound to a name: the keys of its places in their order, each with its integer, which isn't 0
+pub record NamedDivisor : Type 0 where
+  pub name : List ℕ
+  pub entries : List KeyTimes
+
+-- what a curve statement binds, and those behind it: the curve, and the named places and the named divisors, each in the
+-- order of their statements
 pub record Bound : Type 0 where
   pub curve : CurveValue
   pub places : List NamedPlace
+  pub divisors : List NamedDivisor
 
 -- what the statements so far have bound: a field, and what stands over it
 pub record Bindings : Type 0 where
@@ -34,13 +42,13 @@ nothing = record { field = None; bound = None }
 abbrev pub with_field : FieldData → Bindings
 with_field d = record { field = Some d; bound = None }
 
--- a field, a curve over it, and places of the curve are bound
-abbrev pub with_places : FieldData → CurveValue → List NamedPlace → Bindings
-with_places d c Ps = record { field = Some d; bound = Some (record { curve = c; places = Ps }) }
+-- a field, a curve over it, and places and divisors of the curve are bound
+abbrev pub with_names : FieldData → CurveValue → List NamedPlace → List NamedDivisor → Bindings
+with_names d c Ps Ds = record { field = Some d; bound = Some (record { curve = c; places = Ps; divisors = Ds }) }
 
 -- a field and a curve over it are bound, and no name
 abbrev pub with_curve : FieldData → CurveValue → Bindings
-with_curve d c = with_places d c []
+with_curve d c = with_names d c [] []
 
 -- there is a value, and it has the property
 abbrev pub IsSomeWith : {A : Type 0} → Option A → (A → Type 0) → Type 0
@@ -63,6 +71,14 @@ ForCurve s P = ForBound s (λ d b. P d b.curve)
 abbrev pub IsNameOf : List ℕ → List NamedPlace → Type 0
 IsNameOf name Ps = Any (λ P. P.name ≡ name) Ps
 
+-- it is that of one of the divisors
+abbrev pub IsDivisorName : List ℕ → List NamedDivisor → Type 0
+IsDivisorName name Ds = Any (λ D. D.name ≡ name) Ds
+
+-- it is bound, to a place or to a divisor
+abbrev pub IsNamed : List ℕ → Bound → Type 0
+IsNamed name b = IsNameOf name b.places ⊎ IsDivisorName name b.divisors
+
 -- `field` stands first, `curve` second, and neither again
 abbrev pub IsInPlace : Bindings → Statement → Type 0
 IsInPlace old (FieldOf p tail) = (old.field ≡ None) × (old.bound ≡ None)
@@ -74,6 +90,8 @@ IsInPlace old (Places over) = ForCurve old (λ d c. Unit {0})
 IsInPlace old (Place name over index) = ForCurve old (λ d c. Unit {0})
 IsInPlace old Constants = ForCurve old (λ d c. Unit {0})
 IsInPlace old Genus = ForCurve old (λ d c. Unit {0})
+IsInPlace old (DivisorOf name sum) = ForCurve old (λ d c. Unit {0})
+IsInPlace old (BasisOf name) = ForCurve old (λ d c. Unit {0})
 
 -- the exponents of each variable add up to less than 2^64 in each term of the entries and of the denominator
 pub record HasSmallElement (e : ElemText) : Type 0 where
@@ -96,3 +114,5 @@ HasSmallPowers (Places over) = HasSmallOver over
 HasSmallPowers (Place name over index) = HasSmallOver over
 HasSmallPowers Constants = Unit {0}
 HasSmallPowers Genus = Unit {0}
+HasSmallPowers (DivisorOf name sum) = Unit {0}
+HasSmallPowers (BasisOf name) = Unit {0}

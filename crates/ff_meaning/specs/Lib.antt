@@ -1,8 +1,10 @@
+pub mod Keys
 pub mod Bindings
 pub mod SameBindings
 pub mod FieldLines
 pub mod Meaning
 pub mod FirstIdempotents
+pub mod Sums
 pub mod Refusals
 pub mod Texts
 pub mod Elements

@@ -1,6 +1,6 @@
 -- When a statement is refused, and how. The rows of a statement exclude each other: each says that those before it
 -- don't hold.
-use Rattle.std.specs.Prelude.{◌≡◌, ◌≢◌, ℕ, ◌<◌, ◌≤◌, ◌-◌, ◌*◌, ◌⊎◌, List, [], ◌∷◌, length, Option, Some, None, IsTrue}
+use Rattle.std.specs.Prelude.{◌≡◌, ◌≢◌, ℕ, ◌<◌, ◌≤◌, ◌-◌, ◌*◌, ◌⊎◌, pos, List, [], ◌∷◌, length, Option, Some, None, IsTrue}
 use Rattle.ff_fields.specs.declared.fault.FieldFault.{FieldFault}
 use Rattle.ff_fields.specs.declared.fault.FieldFault.TheVariants as fields
 use Rattle.ff_fields.specs.Field.{FieldOps, CodeField}
@@ -23,12 +23,15 @@ use Rattle.ff_script.specs.declared.script.Modulus.{Modulus}
 use Rattle.ff_script.specs.declared.script.Over.{Over}
 use Rattle.ff_script.specs.declared.script.Over.TheVariants.{At, Inf}
 use Rattle.ff_script.specs.declared.script.Statement.{Statement}
-use Rattle.ff_script.specs.declared.script.Statement.TheVariants.{FieldOf, CurveOf, Mul, Factor, OrderOf, Places, Place, Constants, Genus}
+use Rattle.ff_script.specs.declared.script.Statement.TheVariants.{FieldOf, CurveOf, Mul, Factor, OrderOf, Places, Place, Constants, Genus, DivisorOf, BasisOf}
 use Rattle.ff_meaning.specs.declared.refusal.Refusal.{Refusal}
-use Rattle.ff_meaning.specs.declared.refusal.Refusal.TheVariants.{FieldSize, NotField, LimitY, LimitX, NotMonic, NotSeparable, LimitDisc, LimitInf, Reducible, NameTaken, LimitPlace, NotIrreducible, NoSuchPlace, CodeRange, Length, Zero, Memory}
+use Rattle.ff_meaning.specs.declared.refusal.Refusal.TheVariants.{FieldSize, NotField, LimitY, LimitX, NotMonic, NotSeparable, LimitDisc, LimitInf, Reducible, NameTaken, UnknownName, LimitPlace, NotIrreducible, NoSuchPlace, LimitDivisor, CodeRange, Length, Zero, Memory}
 use Rattle.ff_fields.specs.FieldData.{FieldData, IsFieldData, ops_of, with_laws}
-use Rattle.function_field.specs.Limits.{max_degree, max_degree_of_places}
-use Rattle.ff_meaning.specs.Bindings.{Bindings, Bound, ForField, ForCurve, ForBound, IsNameOf}
+use Rattle.function_field.specs.Limits.{max_degree, max_degree_of_places, max_weight}
+use Rattle.ff_script.specs.declared.script.Item.{Item}
+use Rattle.ff_meaning.specs.Keys.{KeyTimes, weight_of_sum}
+use Rattle.ff_meaning.specs.Bindings.{Bindings, Bound, ForField, ForCurve, ForBound, IsNamed, IsDivisorName}
+use Rattle.ff_meaning.specs.Sums.{IsDivisorOfItems, HaveDegrees, IsFirstUnknown}
 use Rattle.ff_meaning.specs.FirstIdempotents.{IsFirstIdempotent}
 use Rattle.ff_meaning.specs.Meaning.{AreCodesBelow, IsFirstCodeFrom, codes_of_element, IsSumOf, IsPolyOf, IsElementOf, IsBase, degree_of_element}
 
@@ -153,13 +156,29 @@ pub record IsNoPlace (k : CodeField) (c : CurveValue) (over : Over) (index : ℕ
   pub outside : (index ≡ 0) ⊎ (length places < index)
   pub is : r ≡ NoSuchPlace index (length places)
 
--- the name is bound, or a row of what the places lie over holds, or there is no such place
+-- the name is bound, to a place or a divisor, or a row of what the places lie over holds, or there is no such place
 pub data IsPlaceRow (k : CodeField) (b : Bound) (name : List ℕ) (over : Over) (index : ℕ) (r : Refusal) : Type 0 where
-  taken : IsNameOf name b.places → r ≡ NameTaken name → IsPlaceRow k b name over index r
-  base : ¬ IsNameOf name b.places → IsBaseRow k.ops b.curve.fin.n max_degree_of_places over r
+  taken : IsNamed name b → r ≡ NameTaken name → IsPlaceRow k b name over index r
+  base : ¬ IsNamed name b → IsBaseRow k.ops b.curve.fin.n max_degree_of_places over r
       → IsPlaceRow k b name over index r
-  none : ¬ IsNameOf name b.places → ((t : Refusal) → ¬ IsBaseRow k.ops b.curve.fin.n max_degree_of_places over t)
+  none : ¬ IsNamed name b → ((t : Refusal) → ¬ IsBaseRow k.ops b.curve.fin.n max_degree_of_places over t)
       → IsNoPlace k b.curve over index r → IsPlaceRow k b name over index r
+
+-- ---- the rows of divisors and their spaces
+
+-- the name is bound, or a name in the sum isn't, or the sum of the |m|·g over the places of the divisor, for their
+-- degrees g, is above the limit
+pub data IsDivisorRow (b : Bound) (name : List ℕ) (is : List Item) (r : Refusal) : Type 0 where
+  taken : IsNamed name b → r ≡ NameTaken name → IsDivisorRow b name is r
+  unknown : ¬ IsNamed name b → (other : List ℕ) → IsFirstUnknown b is other → r ≡ UnknownName other
+      → IsDivisorRow b name is r
+  weight : ¬ IsNamed name b → (es : List KeyTimes) (gs : List ℕ) → IsDivisorOfItems b is es → HaveDegrees b es gs
+      → max_weight < weight_of_sum es gs → r ≡ LimitDivisor (pos (weight_of_sum es gs)) → IsDivisorRow b name is r
+
+-- the name isn't bound to a divisor
+pub record IsBasisRow (b : Bound) (name : List ℕ) (r : Refusal) : Type 0 where
+  pub none : ¬ IsDivisorName name b.divisors
+  pub is : r ≡ UnknownName name
 
 -- ---- all rows
 
@@ -175,6 +194,8 @@ IsRefusalRow old (Places over) r = ForCurve old
     (λ d c. IsFieldData d × IsBaseRow (ops_of d) c.fin.n max_degree_of_places over r)
 IsRefusalRow old (Place name over index) r = ForBound old
     (λ d b. (is : IsFieldData d) × IsPlaceRow (with_laws d is) b name over index r)
+IsRefusalRow old (DivisorOf name sum) r = ForBound old (λ d b. IsDivisorRow b name sum r)
+IsRefusalRow old (BasisOf name) r = ForBound old (λ d b. IsBasisRow b name r)
 
 -- none of the rows of the statement holds
 abbrev pub HasNoRow : Bindings → Statement → Type 0
