@@ -1,8 +1,9 @@
 -- What is printed of a refusal.
 use Rattle.std.specs.Prelude.{ℕ, List, ◌++◌, codes, decimal}
+use Rattle.std.specs.Fmt.{signed_decimal}
 use Rattle.ff_text.specs.Printed.{poly_text, elem_text}
 use Rattle.ff_meaning.specs.declared.refusal.Refusal.{Refusal}
-use Rattle.ff_meaning.specs.declared.refusal.Refusal.TheVariants.{FieldSize, NotField, LimitY, LimitX, NotMonic, NotSeparable, LimitDisc, LimitInf, Reducible, NameTaken, LimitPlace, NotIrreducible, NoSuchPlace, CodeRange, Length, Zero, LimitDegree, LimitOutput, Memory}
+use Rattle.ff_meaning.specs.declared.refusal.Refusal.TheVariants.{FieldSize, NotField, LimitY, LimitX, NotMonic, NotSeparable, LimitDisc, LimitInf, Reducible, NameTaken, UnknownName, LimitPlace, NotIrreducible, NoSuchPlace, LimitDivisor, CodeRange, Length, Zero, LimitDegree, LimitOutput, Memory}
 
 -- a name and its values
 abbrev pub one_value : List ℕ → List ℕ → List ℕ
@@ -23,9 +24,11 @@ refusal_words (LimitDisc d) = one_value (codes "LimitDisc") (decimal d)
 refusal_words (LimitInf d) = one_value (codes "LimitInf") (decimal d)
 refusal_words (Reducible z) = one_value (codes "Reducible") (elem_text z.num z.den)
 refusal_words (NameTaken name) = one_value (codes "NameTaken") name
+refusal_words (UnknownName name) = one_value (codes "UnknownName") name
 refusal_words (LimitPlace d) = one_value (codes "LimitPlace") (decimal d)
 refusal_words (NotIrreducible h) = one_value (codes "NotIrreducible") (poly_text h)
 refusal_words (NoSuchPlace i r) = two_values (codes "NoSuchPlace") (decimal i) (decimal r)
+refusal_words (LimitDivisor w) = one_value (codes "LimitDivisor") (signed_decimal w)
 refusal_words (CodeRange c) = one_value (codes "CodeRange") (decimal c)
 refusal_words (Length n) = one_value (codes "Length") (decimal n)
 refusal_words Zero = codes "Zero"

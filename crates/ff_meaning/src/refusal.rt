@@ -1,6 +1,7 @@
 //! Why a statement isn't answered, and the line that says so.
 
 ghost use Rattle.std.specs.Prelude.{◌≡◌, ◌≢◌, ◌↔◌, ◌++◌, IsTrue, IfOk, OnOk, decimal};
+ghost use Rattle.std.specs.Fmt.{signed_decimal};
 ghost use Rattle.ff_text.specs.Printed.{poly_text, elem_text};
 ghost use Rattle.ff_meaning.specs.declared.refusal.Refusal.TheVariants.{Memory};
 ghost use Rattle.ff_meaning.specs.Texts.{refusal_text, refusal_words, one_value, two_values};
@@ -10,6 +11,7 @@ use ff_poly::Poly;
 use ff_script::Name;
 use ff_text::number::push_number;
 use ff_text::printed::{Written, push_elem, push_poly};
+use itoa::Buffer;
 use std::alloc::{AllocError, AllocFailed, Global};
 
 /// Why a statement isn't answered, with the values that the refusal's line tells.
@@ -36,6 +38,8 @@ pub enum Refusal {
     Reducible(Written),
     /// The name, which is bound already.
     NameTaken(Name),
+    /// A name that isn't bound, or, where the space of a divisor is asked for, isn't that of a divisor.
+    UnknownName(Name),
     /// n times the degree of a polynomial over which places are asked for, which is above 512, for the degree n of the
     /// curve in y. The degree of 0 counts as 0.
     LimitPlace(u64),
@@ -44,6 +48,8 @@ pub enum Refusal {
     NotIrreducible(Poly),
     /// The number that was asked for, which is 0 or above the number of places; and that number.
     NoSuchPlace(u32, u32),
+    /// The sum of |m|·deg P over the places P of a divisor with their integers m, which is above 128.
+    LimitDivisor(i128),
     /// A written code that is the size of the field or more.
     CodeRange(u32),
     /// The number of an element's entries, which isn't the degree of the curve in y.
@@ -84,9 +90,11 @@ impl Refusal {
             Refusal::LimitInf(d) => Ok(Refusal::LimitInf(*d)),
             Refusal::Reducible(z) => Ok(Refusal::Reducible(z.copy(alloc)?)),
             Refusal::NameTaken(name) => Ok(Refusal::NameTaken(name.copy(alloc)?)),
+            Refusal::UnknownName(name) => Ok(Refusal::UnknownName(name.copy(alloc)?)),
             Refusal::LimitPlace(d) => Ok(Refusal::LimitPlace(*d)),
             Refusal::NotIrreducible(h) => Ok(Refusal::NotIrreducible(h.copy(alloc)?)),
             Refusal::NoSuchPlace(i, r) => Ok(Refusal::NoSuchPlace(*i, *r)),
+            Refusal::LimitDivisor(w) => Ok(Refusal::LimitDivisor(*w)),
             Refusal::CodeRange(c) => Ok(Refusal::CodeRange(*c)),
             Refusal::Length(n) => Ok(Refusal::Length(*n)),
             Refusal::Zero => Ok(Refusal::Zero),
@@ -151,6 +159,26 @@ fn push_two(out: &mut Vec<u8>, name: &[u8], v: u32, w: u32) -> Result<(), AllocE
     push_number(out, u64::from(w))
 }
 
+/// A name, and an integer behind it.
+fn push_integer(out: &mut Vec<u8>, name: &[u8], v: i128) -> Result<(), AllocError>
+    ensures { OnOk result (out.new.items ≡ out.old.items ++ one_value name.now (signed_decimal v)) }
+{
+    let mut buffer = Buffer::new();
+    out.extend_from_slice(name)?;
+    out.push(b' ')?;
+    out.extend_from_slice(buffer.format(v).as_bytes())?;
+    Ok(())
+}
+
+/// A name, and a name of a script behind it.
+fn push_letters(out: &mut Vec<u8>, name: &[u8], letters: &Name) -> Result<(), AllocError>
+    ensures { OnOk result (out.new.items ≡ out.old.items ++ one_value name.now letters.now) }
+{
+    out.extend_from_slice(name)?;
+    out.push(b' ')?;
+    out.extend_from_slice(letters.letters.as_slice())
+}
+
 /// A name, and a polynomial behind it.
 fn push_named(out: &mut Vec<u8>, name: &[u8], p: &Poly) -> Result<(), AllocError>
     ensures { OnOk result (out.new.items ≡ out.old.items ++ one_value name.now (poly_text p.now)) }
@@ -183,13 +211,12 @@ fn push_words(out: &mut Vec<u8>, r: &Refusal) -> Result<(), AllocError>
         Refusal::LimitDisc(d) => push_one(out, b"LimitDisc", *d as u64),
         Refusal::LimitInf(d) => push_one(out, b"LimitInf", u64::from(*d)),
         Refusal::Reducible(z) => push_function(out, b"Reducible", z),
-        Refusal::NameTaken(name) => {
-            out.extend_from_slice(b"NameTaken ")?;
-            out.extend_from_slice(name.letters.as_slice())
-        }
+        Refusal::NameTaken(name) => push_letters(out, b"NameTaken", name),
+        Refusal::UnknownName(name) => push_letters(out, b"UnknownName", name),
         Refusal::LimitPlace(d) => push_one(out, b"LimitPlace", *d),
         Refusal::NotIrreducible(h) => push_named(out, b"NotIrreducible", h),
         Refusal::NoSuchPlace(i, r) => push_two(out, b"NoSuchPlace", *i, *r),
+        Refusal::LimitDivisor(w) => push_integer(out, b"LimitDivisor", *w),
         Refusal::CodeRange(c) => push_one(out, b"CodeRange", u64::from(*c)),
         Refusal::Length(n) => push_one(out, b"Length", *n as u64),
         Refusal::Zero => out.extend_from_slice(b"Zero"),
