@@ -7,7 +7,7 @@ use case_values::print::worded;
 use case_values::read::BAD;
 use ff_fields::field::SmallField;
 use ff_rr::{Frame, SpaceBasis, constants, genus, idempotents, idempotents_of};
-use ff_split::{SplitBasis, split};
+use ff_split::SplitBasis;
 use std::alloc::{AllocError, Global};
 
 // The degrees, a colon, and the functions.
@@ -17,12 +17,12 @@ fn split_text(alloc: Global, s: &SplitBasis) -> Result<String, AllocError> {
     format!(in alloc; "{degrees}: {basis}")
 }
 
-// The basis of both orders.
+// The basis of both orders, from which the constants are read.
 fn split_of<K: SmallField>(alloc: Global, k: &K, f: &Frame) -> Result<String, AllocError>
     requires { IsFrame (K.field k.now) f.now }
 {
-    let s = split(alloc, k, f.curve(), f.fin().lattice(), f.inf().lattice())?;
-    split_text(alloc, &s)
+    let s = constants(alloc, k, f)?;
+    split_text(alloc, s.split())
 }
 
 // The dimension, a colon, and the functions.
