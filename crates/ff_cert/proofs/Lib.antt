@@ -2,5 +2,6 @@ pub mod OneOrder
 pub mod OneLattice
 pub mod AscendingPlaces
 pub mod OnePlaces
+pub mod OneConstants
 pub mod OneAnswer
 pub mod OneBlock

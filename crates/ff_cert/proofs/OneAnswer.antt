@@ -16,7 +16,7 @@ use Rattle.ff_text.specs.Printed.{WrittenValue}
 use Rattle.ff_script.specs.declared.script.Modulus.{Modulus}
 use Rattle.ff_script.specs.declared.script.Over.{Over}
 use Rattle.ff_script.specs.declared.script.Statement.{Statement}
-use Rattle.ff_script.specs.declared.script.Statement.TheVariants.{FieldOf, CurveOf, Mul, Factor, OrderOf, Places, Place}
+use Rattle.ff_script.specs.declared.script.Statement.TheVariants.{FieldOf, CurveOf, Mul, Factor, OrderOf, Places, Place, Constants, Genus}
 use Rattle.ff_meaning.specs.FieldLines.{Names}
 use Rattle.ff_meaning.specs.Bindings.{Bindings, Bound, NamedPlace, with_curve, with_places, ForField, ForCurve, ForBound}
 use Rattle.ff_meaning.specs.SameBindings.{AreSameFields, AreSameCurves, AreSameBindings, NothingBound, OneField, OneCurve}
@@ -37,6 +37,9 @@ use Rattle.ff_cert.specs.RowFactor as factor_row
 use Rattle.ff_cert.specs.RowOrder as order_row
 use Rattle.ff_cert.specs.RowPlaces as places_row
 use Rattle.ff_cert.specs.RowNamedPlace as named_place_row
+use Rattle.ff_cert.specs.RowConstants as constants_row
+use Rattle.ff_cert.specs.RowGenus as genus_row
+use Rattle.ff_cert.proofs.OneConstants.{one_constants, one_genus}
 use Rattle.ff_cert.proofs.OneOrder.{one_order}
 use Rattle.ff_cert.proofs.OnePlaces.{one_listing, one_named}
 
@@ -142,6 +145,13 @@ module _ (old next : Bindings) where
   Named name over index P d b =
       (is : IsFieldData d) × named_place_row.IsTrue (with_laws d is) d b name over index P next
 
+  abbrev AllConstants : ℕ → List WrittenValue → FieldData → CurveValue → Type 0
+  AllConstants n zs d c =
+      (is : IsFieldData d) × constants_row.IsTrue (with_laws d is) c.fin n zs × (next ≡ old)
+
+  abbrev GenusOf : ℕ → FieldData → CurveValue → Type 0
+  GenusOf g d c = (is : IsFieldData d) × genus_row.IsTrue (with_laws d is) c.fin g × (next ≡ old)
+
 -- ---- over the same bindings
 
 for_field : (a b : Bindings) (P Q : FieldData → Type 0) (R : Type 0)
@@ -206,6 +216,19 @@ module _ (d e : FieldData) (c : CurveValue) (same : AreSameCurves d e c) where
   listings_same over m n Ps Qs is is' h g =
       one_listing (with_laws e is') c over m n Ps Qs
       (subst (λ k. places_row.IsTrue k c over m Ps) (fields_same d e same.fields is is') h) g
+
+  constants_same : (m n : ℕ) (zs ws : List WrittenValue) (is : IsFieldData d) (is' : IsFieldData e)
+      → constants_row.IsTrue (with_laws d is) c.fin m zs → constants_row.IsTrue (with_laws e is') c.fin n ws
+      → (m ≡ n) × (zs ≡ ws)
+  constants_same m n zs ws is is' h g =
+      one_constants (with_laws e is') c (curve_over is') m n zs ws
+      (subst (λ k. constants_row.IsTrue k c.fin m zs) (fields_same d e same.fields is is') h) g
+
+  genus_same : (g h : ℕ) (is : IsFieldData d) (is' : IsFieldData e)
+      → genus_row.IsTrue (with_laws d is) c.fin g → genus_row.IsTrue (with_laws e is') c.fin h → g ≡ h
+  genus_same g h is is' i j =
+      one_genus (with_laws e is') c (curve_over is') g h
+      (subst (λ k. genus_row.IsTrue k c.fin g) (fields_same d e same.fields is is') i) j
 
   -- the same place is bound to the name
   named_same : (names : List NamedPlace) (name : List ℕ) (over : Over) (index : ℕ) (P Q : PlaceLines)
@@ -284,3 +307,18 @@ module _ (old other next after : Bindings) (same : AreSameBindings old other) wh
       let one = named_same d e c curves names name over index l.0 r.0 next after u.0 v.0 u.1 v.1 in
       record { answer = l.1 ∙ one.answer ∙ sym r.1; bindings = one.bindings })
       same l.2 r.2
+  one_answer Constants a b h g =
+      let l = h in
+      let r = g in
+      for_curve old other (AllConstants old next l.0 l.1) (AllConstants other after r.0 r.1) (IsOne a b next after)
+      (λ d e c curves u v.
+      let both = constants_same d e c curves l.0 r.0 l.1 r.1 u.0 v.0 u.1 v.1 in
+      stays a b (answers.Constants l.0 l.1) (answers.Constants r.0 r.1) l.2 r.2 (ap₂ answers.Constants both.0 both.1)
+      u.2 v.2)
+      same l.3 r.3
+  one_answer Genus a b h g =
+      let l = h in
+      let r = g in
+      for_curve old other (GenusOf old next l.0) (GenusOf other after r.0) (IsOne a b next after)
+      (λ d e c curves u v. stays a b (answers.Genus l.0) (answers.Genus r.0) l.1 r.1
+      (ap answers.Genus (genus_same d e c curves l.0 r.0 u.0 v.0 u.1 v.1)) u.2 v.2) same l.2 r.2

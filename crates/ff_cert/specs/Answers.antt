@@ -2,7 +2,7 @@
 use Rattle.std.specs.Prelude.{◌≡◌, ℕ, List, None}
 use Rattle.ff_fields.specs.FieldData.{IsFieldData, ops_of, with_laws}
 use Rattle.ff_script.specs.declared.script.Statement.{Statement}
-use Rattle.ff_script.specs.declared.script.Statement.TheVariants.{FieldOf, CurveOf, Mul, Factor, OrderOf, Places, Place}
+use Rattle.ff_script.specs.declared.script.Statement.TheVariants.{FieldOf, CurveOf, Mul, Factor, OrderOf, Places, Place, Constants, Genus}
 use Rattle.ff_meaning.specs.Bindings.{Bindings, ForField, ForCurve, ForBound}
 use Rattle.ff_cert.specs.declared.answer.Answer.{Answer}
 use Rattle.ff_cert.specs.declared.answer.Answer.TheVariants as answers
@@ -17,6 +17,8 @@ use Rattle.ff_cert.specs.RowOrder as order_row
 use Rattle.ff_cert.specs.RowPlace as place_row
 use Rattle.ff_cert.specs.RowPlaces as places_row
 use Rattle.ff_cert.specs.RowNamedPlace as named_place_row
+use Rattle.ff_cert.specs.RowConstants as constants_row
+use Rattle.ff_cert.specs.RowGenus as genus_row
 
 -- with these bindings the answer to the statement is true, and the next bindings have taken it in
 abbrev pub Answers : Bindings → Statement → Answer → Bindings → Type 0
@@ -34,6 +36,11 @@ Answers old (Places over) a next = (count : ℕ) × (Ps : List PlaceLines) × (a
     × ForCurve old (λ d c. (is : IsFieldData d) × places_row.IsTrue (with_laws d is) c over count Ps × (next ≡ old))
 Answers old (Place name over index) a next = (P : PlaceLines) × (a ≡ answers.Place P)
     × ForBound old (λ d b. (is : IsFieldData d) × named_place_row.IsTrue (with_laws d is) d b name over index P next)
+Answers old Constants a next = (dimension : ℕ) × (zs : List WrittenValue) × (a ≡ answers.Constants dimension zs)
+    × ForCurve old
+    (λ d c. (is : IsFieldData d) × constants_row.IsTrue (with_laws d is) c.fin dimension zs × (next ≡ old))
+Answers old Genus a next = (genus : ℕ) × (a ≡ answers.Genus genus)
+    × ForCurve old (λ d c. (is : IsFieldData d) × genus_row.IsTrue (with_laws d is) c.fin genus × (next ≡ old))
 
 -- its answer lines
 abbrev pub answer_lines : Answer → List ℕ
@@ -44,6 +51,8 @@ answer_lines (answers.Factor unit parts) = factor_row.lines unit parts
 answer_lines (answers.OrderOf zs) = order_row.lines zs
 answer_lines (answers.Places count Ps) = places_row.lines count Ps
 answer_lines (answers.Place P) = place_row.lines P
+answer_lines (answers.Constants dimension zs) = constants_row.lines dimension zs
+answer_lines (answers.Genus genus) = genus_row.lines genus
 
 -- the greatest degree of a polynomial in the answer lines
 abbrev pub degree_of_answer : Answer → ℕ
@@ -54,3 +63,5 @@ degree_of_answer (answers.Factor unit parts) = factor_row.degree parts
 degree_of_answer (answers.OrderOf zs) = order_row.degree zs
 degree_of_answer (answers.Places count Ps) = places_row.degree Ps
 degree_of_answer (answers.Place P) = place_row.degree P
+degree_of_answer (answers.Constants dimension zs) = constants_row.degree zs
+degree_of_answer (answers.Genus genus) = genus_row.degree

@@ -7,6 +7,8 @@ pub mod RowOrder
 pub mod RowPlace
 pub mod RowPlaces
 pub mod RowNamedPlace
+pub mod RowConstants
+pub mod RowGenus
 pub mod Answers
 pub mod Blocks
 pub mod SameSessions

@@ -76,4 +76,8 @@ pub enum Answer {
     Places { count: u64, places: PlaceList },
     /// One of these places.
     Place { place: PlaceLines },
+    /// A basis of the constants over the field, and its size.
+    Constants { dimension: u64, functions: RowList },
+    /// The genus.
+    Genus { genus: u64 },
 }

@@ -7,4 +7,4 @@ pub mod text;
 
 pub use answer::{Answer, PlaceLines, PlaceList, PowerLine, PowerList};
 pub use ff_written::RowList;
-pub use text::{answer_text, degree, degree_of_places, push_answer, push_echo};
+pub use text::{answer_text, degree, degree_of_places, degree_of_rows, push_answer, push_echo};

@@ -10,6 +10,8 @@ ghost use Rattle.ff_cert.specs.RowFactor as factor_row;
 ghost use Rattle.ff_cert.specs.RowOrder as order_row;
 ghost use Rattle.ff_cert.specs.RowPlaces as places_row;
 ghost use Rattle.ff_cert.specs.RowPlace as place_row;
+ghost use Rattle.ff_cert.specs.RowConstants as constants_row;
+ghost use Rattle.ff_cert.specs.RowGenus as genus_row;
 
 use crate::answer::{Answer, PlaceLines, PowerLine};
 use ff_script::{Statement, push_statement};
@@ -138,6 +140,29 @@ fn push_places(out: &mut Vec<u8>, count: u64, places: &[PlaceLines]) -> Result<(
     push_each_place(out, places)
 }
 
+/// The line with the dimension, and a line for each function.
+fn push_constants(
+    out: &mut Vec<u8>,
+    dimension: u64,
+    functions: &[Written],
+) -> Result<(), AllocError>
+    ensures { OnOk result (out.new.items ≡ out.old.items ++ constants_row.lines dimension functions.now) }
+{
+    out.extend_from_slice(b"= dimension ")?;
+    push_number(out, dimension)?;
+    out.extend_from_slice(b"\n")?;
+    push_rows(out, functions)
+}
+
+/// The line with the genus.
+fn push_genus(out: &mut Vec<u8>, genus: u64) -> Result<(), AllocError>
+    ensures { OnOk result (out.new.items ≡ out.old.items ++ genus_row.lines genus) }
+{
+    out.extend_from_slice(b"= genus ")?;
+    push_number(out, genus)?;
+    out.extend_from_slice(b"\n")
+}
+
 /// The lines of the answer, at the end of the buffer.
 pub fn push_answer(out: &mut Vec<u8>, a: &Answer) -> Result<(), AllocError>
     ensures { OnOk result (out.new.items ≡ out.old.items ++ answer_lines a.now) }
@@ -150,6 +175,11 @@ pub fn push_answer(out: &mut Vec<u8>, a: &Answer) -> Result<(), AllocError>
         Answer::OrderOf { rows } => push_rows(out, rows.rows.as_slice()),
         Answer::Places { count, places } => push_places(out, *count, places.places.as_slice()),
         Answer::Place { place } => push_place(out, place),
+        Answer::Constants {
+            dimension,
+            functions,
+        } => push_constants(out, *dimension, functions.rows.as_slice()),
+        Answer::Genus { genus } => push_genus(out, *genus),
     }
 }
 
@@ -174,7 +204,7 @@ fn degree_of(z: &Written) -> usize
 }
 
 /// The greatest degree of the rows' polynomials.
-fn degree_of_rows(rows: &[Written]) -> usize
+pub fn degree_of_rows(rows: &[Written]) -> usize
     ensures { result ≡ order_row.degree rows.now }
 {
     let mut degree = 0;
@@ -211,11 +241,12 @@ pub fn degree(a: &Answer) -> usize
     ensures { result ≡ degree_of_answer a.now }
 {
     match a {
-        Answer::FieldOf { .. } | Answer::CurveOf { .. } => 0,
+        Answer::FieldOf { .. } | Answer::CurveOf { .. } | Answer::Genus { .. } => 0,
         Answer::Mul { element } => degree_of(element),
         Answer::Factor { parts, .. } => degree_of_parts(parts.powers.as_slice()),
         Answer::OrderOf { rows } => degree_of_rows(rows.rows.as_slice()),
         Answer::Places { places, .. } => degree_of_places(places.places.as_slice()),
         Answer::Place { place } => degree_of_rows(place.rows.rows.as_slice()),
+        Answer::Constants { functions, .. } => degree_of_rows(functions.rows.as_slice()),
     }
 }

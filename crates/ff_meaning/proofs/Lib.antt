@@ -7,4 +7,5 @@ pub mod OneField
 pub mod CodeRows
 pub mod BaseRows
 pub mod PlaceRows
+pub mod FirstIdempotents
 pub mod OneRefusal

@@ -14,20 +14,23 @@ use Rattle.function_field.specs.Values.{ElemValue}
 use Rattle.function_field.specs.Curves.{CurveValue}
 use Rattle.ff_algebra.specs.declared.curve.CurveFault.{CurveFault}
 use Rattle.ff_algebra.specs.declared.curve.CurveFault.TheVariants as curves
-use Rattle.ff_algebra.specs.CurveTerms.{IsCurveFault}
-use Rattle.ff_algebra.proofs.CurveFaults.{one_fault}
+use Rattle.ff_algebra.specs.CurveTerms.{IsCurveOf, IsCurveFault}
+use Rattle.ff_algebra.proofs.CurveFaults.{one_fault, no_fault}
+use Rattle.ff_algebra.proofs.OneInfinite.{one_curve}
 use Rattle.ff_text.specs.declared.terms.Term.{Term}
 use Rattle.ff_text.specs.declared.terms.ElemText.{ElemText}
 use Rattle.ff_text.specs.Values.{written_codes}
+use Rattle.ff_text.specs.Printed.{WrittenValue}
 use Rattle.ff_script.specs.declared.script.Modulus.{Modulus}
 use Rattle.ff_script.specs.declared.script.Over.{Over}
 use Rattle.ff_script.specs.declared.script.Statement.{Statement}
-use Rattle.ff_script.specs.declared.script.Statement.TheVariants.{FieldOf, CurveOf, Mul, Factor, OrderOf, Places, Place}
+use Rattle.ff_script.specs.declared.script.Statement.TheVariants.{FieldOf, CurveOf, Mul, Factor, OrderOf, Places, Place, Constants, Genus}
 use Rattle.ff_meaning.specs.declared.refusal.Refusal.{Refusal}
-use Rattle.ff_meaning.specs.declared.refusal.Refusal.TheVariants.{LimitX, Memory}
+use Rattle.ff_meaning.specs.declared.refusal.Refusal.TheVariants.{LimitX, Reducible, Memory}
 use Rattle.function_field.specs.Limits.{max_degree, max_degree_of_places}
 use Rattle.ff_meaning.specs.Bindings.{Bindings, Bound, NamedPlace, with_field, with_places, IsSomeWith}
 use Rattle.ff_meaning.specs.SameBindings.{AreSameFields, AreSameBindings, NothingBound, OneField, OneCurve}
+use Rattle.ff_meaning.specs.FirstIdempotents.{IsFirstIdempotent}
 use Rattle.ff_meaning.specs.Meaning.{AreCodesBelow, codes_of_den, codes_of_element, IsSumOf, ArePolysOf, IsDenOf, IsElementOf, degree_of_element}
 use Rattle.ff_meaning.specs.Refusals.{IsFieldLineFault, refusal_of_field, IsFieldRow, refusal_of_curve, IsNoCurve, IsElementRow, IsProductRow, IsFactorRow, IsBaseRow, IsPlaceRow, IsRefusalRow}
 use Rattle.ff_meaning.specs.Refusals as rows
@@ -36,6 +39,7 @@ use Rattle.ff_meaning.proofs.ElementValues.{same_poly, same_polys, same_den, no_
 use Rattle.ff_meaning.proofs.OneField.{same_field, fields_same, ops_with_laws}
 use Rattle.ff_meaning.proofs.CodeRows.{same_code, no_code, code_some}
 use Rattle.ff_meaning.proofs.BaseRows.{one_base_row, base_some}
+use Rattle.ff_meaning.proofs.FirstIdempotents.{one_first}
 use Rattle.ff_meaning.proofs.PlaceRows.{one_place_row, place_some}
 
 -- ---- field lines
@@ -120,6 +124,23 @@ module _ (k : CodeField) (f : List Term) where
       let same = same_sum sum sum' is is' in
       told ∙ ap refusal_of_curve (one_fault k sum' e e' some some' (subst (λ s. IsCurveFault k s e) same holds) holds')
       ∙ sym told'
+  one_curve_row r t (rows.range h) (rows.reducible sum is c c_is z first told) = absurd
+      (no_code k.ops (written_codes f) r is.written h)
+  one_curve_row r t (rows.reducible sum is c c_is z first told) (rows.range g) = absurd
+      (no_code k.ops (written_codes f) t is.written g)
+  one_curve_row r t (rows.fault sum is e some holds told) (rows.reducible sum' is' c c_is z first told') =
+      let same = same_sum sum sum' is is' in
+      absurd (no_fault k sum' e c some (subst (λ s. IsCurveFault k s e) same holds) c_is)
+  one_curve_row r t (rows.reducible sum is c c_is z first told) (rows.fault sum' is' e some holds told') =
+      let same = same_sum sum' sum is' is in
+      absurd (no_fault k sum e c some (subst (λ s. IsCurveFault k s e) same holds) c_is)
+  one_curve_row r t (rows.reducible sum is c c_is z first told) (rows.reducible sum' is' c' c_is' z' first' told') =
+      let same = same_sum sum sum' is is' in
+      let curves : c ≡ c' = one_curve k sum' c c' (subst (λ s. IsCurveOf k s c) same c_is) c_is' in
+      let two = c_is'.curve.at_least_two in
+      let one : z ≡ z' = one_first k c'.fin (omega (arith, two)) z z'
+      (subst (λ (d : CurveValue). IsFirstIdempotent k d.fin z) curves first) first' in
+      told ∙ ap (λ (x : WrittenValue). Reducible x) one ∙ sym told'
 
 -- ---- elements and polynomials
 
@@ -250,6 +271,8 @@ one_row old (Factor p) r t h g =
     for_curve (λ d c. IsFactorRow (ops_of d) max_degree p r) (λ d c. IsFactorRow (ops_of d) max_degree p t) (r ≡ t)
     (λ d c x y. one_factor_row (ops_of d) max_degree p r t x y) old.field old.bound h g
 one_row old (OrderOf side) r t h g = absurd h
+one_row old Constants r t h g = absurd h
+one_row old Genus r t h g = absurd h
 one_row old (Places over) r t h g =
     for_curve (BaseRow over r) (BaseRow over t) (r ≡ t)
     (λ d c x y. one_base_row (with_laws d y.0) c.fin.n max_degree_of_places over r t (with_ops d c over r y.0 x)
@@ -279,6 +302,7 @@ curve_some curves.Memory some is = some refl
 no_curve_some : (k : CodeField) (f : List Term) (r : Refusal) → IsNoCurve k f r → r ≢ Memory
 no_curve_some k f r (rows.range h) = code_some k.size (written_codes f) r h
 no_curve_some k f r (rows.fault sum is e some holds told) = λ m. curve_some e some (sym told ∙ m)
+no_curve_some k f r (rows.reducible sum is c c_is z first told) = λ m. absurd cc
 
 element_some : (k : FieldOps) (n bound : ℕ) (e : ElemText) (r : Refusal) → IsElementRow k n bound e r → r ≢ Memory
 element_some k n bound e r (rows.range h) m = code_some k.size (codes_of_element e) r h m
@@ -308,6 +332,8 @@ row_some old (Factor p) r h m =
     for_curve (λ d c. IsFactorRow (ops_of d) max_degree p r) (λ d c. IsFactorRow (ops_of d) max_degree p r) ⊥
     (λ d c x y. factor_some (ops_of d) max_degree p r x m) old.field old.bound h h
 row_some old (OrderOf side) r h m = absurd h
+row_some old Constants r h m = absurd h
+row_some old Genus r h m = absurd h
 row_some old (Places over) r h m =
     for_curve (BaseRow over r) (BaseRow over r) ⊥
     (λ d c x y. base_some (ops_of d) c.fin.n max_degree_of_places over r x.1 m) old.field old.bound h h
@@ -328,6 +354,8 @@ field_moves d e (CurveOf f) r same h = (
 field_moves d e (Mul a b) r same h = absurd h
 field_moves d e (Factor g) r same h = absurd h
 field_moves d e (OrderOf side) r same h = absurd h
+field_moves d e Constants r same h = absurd h
+field_moves d e Genus r same h = absurd h
 field_moves d e (Places over) r same h = absurd h
 field_moves d e (Place name over index) r same h = absurd h
 
@@ -340,6 +368,8 @@ curve_moves d e c Ps (CurveOf f) r same h =
 curve_moves d e c Ps (Mul a b) r same h = subst (λ o. IsProductRow o c.fin.n max_degree a b r) same.ops h
 curve_moves d e c Ps (Factor g) r same h = subst (λ o. IsFactorRow o max_degree g r) same.ops h
 curve_moves d e c Ps (OrderOf side) r same h = absurd h
+curve_moves d e c Ps Constants r same h = absurd h
+curve_moves d e c Ps Genus r same h = absurd h
 curve_moves d e c Ps (Places over) r same h =
     (same.right, subst (λ o. IsBaseRow o c.fin.n max_degree_of_places over r) same.ops h.1)
 curve_moves d e c Ps (Place name over index) r same h = (

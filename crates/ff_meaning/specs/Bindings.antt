@@ -9,7 +9,7 @@ use Rattle.value_theory.specs.Primes.{PrimeValue}
 use Rattle.ff_script.specs.declared.script.Over.{Over}
 use Rattle.ff_script.specs.declared.script.Over.TheVariants.{At, Inf}
 use Rattle.ff_script.specs.declared.script.Statement.{Statement}
-use Rattle.ff_script.specs.declared.script.Statement.TheVariants.{FieldOf, CurveOf, Mul, Factor, OrderOf, Places, Place}
+use Rattle.ff_script.specs.declared.script.Statement.TheVariants.{FieldOf, CurveOf, Mul, Factor, OrderOf, Places, Place, Constants, Genus}
 
 -- a place that is bound to a name; its key is its side, its polynomial and its number
 pub record NamedPlace : Type 0 where
@@ -72,6 +72,8 @@ IsInPlace old (Factor g) = ForCurve old (λ d c. Unit {0})
 IsInPlace old (OrderOf s) = ForCurve old (λ d c. Unit {0})
 IsInPlace old (Places over) = ForCurve old (λ d c. Unit {0})
 IsInPlace old (Place name over index) = ForCurve old (λ d c. Unit {0})
+IsInPlace old Constants = ForCurve old (λ d c. Unit {0})
+IsInPlace old Genus = ForCurve old (λ d c. Unit {0})
 
 -- the exponents of each variable add up to less than 2^64 in each term of the entries and of the denominator
 pub record HasSmallElement (e : ElemText) : Type 0 where
@@ -92,3 +94,5 @@ HasSmallPowers (Factor g) = All HasSmallExponents g
 HasSmallPowers (OrderOf s) = Unit {0}
 HasSmallPowers (Places over) = HasSmallOver over
 HasSmallPowers (Place name over index) = HasSmallOver over
+HasSmallPowers Constants = Unit {0}
+HasSmallPowers Genus = Unit {0}

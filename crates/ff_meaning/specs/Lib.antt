@@ -2,6 +2,7 @@ pub mod Bindings
 pub mod SameBindings
 pub mod FieldLines
 pub mod Meaning
+pub mod FirstIdempotents
 pub mod Refusals
 pub mod Texts
 pub mod Elements

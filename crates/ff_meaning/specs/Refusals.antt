@@ -14,20 +14,22 @@ use Rattle.function_field.specs.Curves.{CurveValue, IsCurve}
 use Rattle.function_field.specs.PlaceLists.{ListedPlace, AreAllPlacesAbove}
 use Rattle.ff_algebra.specs.declared.curve.CurveFault.{CurveFault}
 use Rattle.ff_algebra.specs.declared.curve.CurveFault.TheVariants as curves
-use Rattle.ff_algebra.specs.CurveTerms.{IsCurveFault}
+use Rattle.ff_algebra.specs.CurveTerms.{IsCurveOf, IsCurveFault}
 use Rattle.ff_text.specs.declared.terms.Term.{Term}
 use Rattle.ff_text.specs.declared.terms.ElemText.{ElemText}
 use Rattle.ff_text.specs.Values.{written_codes}
+use Rattle.ff_text.specs.Printed.{WrittenValue}
 use Rattle.ff_script.specs.declared.script.Modulus.{Modulus}
 use Rattle.ff_script.specs.declared.script.Over.{Over}
 use Rattle.ff_script.specs.declared.script.Over.TheVariants.{At, Inf}
 use Rattle.ff_script.specs.declared.script.Statement.{Statement}
-use Rattle.ff_script.specs.declared.script.Statement.TheVariants.{FieldOf, CurveOf, Mul, Factor, OrderOf, Places, Place}
+use Rattle.ff_script.specs.declared.script.Statement.TheVariants.{FieldOf, CurveOf, Mul, Factor, OrderOf, Places, Place, Constants, Genus}
 use Rattle.ff_meaning.specs.declared.refusal.Refusal.{Refusal}
-use Rattle.ff_meaning.specs.declared.refusal.Refusal.TheVariants.{FieldSize, NotField, LimitY, LimitX, NotMonic, NotSeparable, LimitDisc, LimitInf, NameTaken, LimitPlace, NotIrreducible, NoSuchPlace, CodeRange, Length, Zero, Memory}
+use Rattle.ff_meaning.specs.declared.refusal.Refusal.TheVariants.{FieldSize, NotField, LimitY, LimitX, NotMonic, NotSeparable, LimitDisc, LimitInf, Reducible, NameTaken, LimitPlace, NotIrreducible, NoSuchPlace, CodeRange, Length, Zero, Memory}
 use Rattle.ff_fields.specs.FieldData.{FieldData, IsFieldData, ops_of, with_laws}
 use Rattle.function_field.specs.Limits.{max_degree, max_degree_of_places}
 use Rattle.ff_meaning.specs.Bindings.{Bindings, Bound, ForField, ForCurve, ForBound, IsNameOf}
+use Rattle.ff_meaning.specs.FirstIdempotents.{IsFirstIdempotent}
 use Rattle.ff_meaning.specs.Meaning.{AreCodesBelow, IsFirstCodeFrom, codes_of_element, IsSumOf, IsPolyOf, IsElementOf, IsBase, degree_of_element}
 
 -- the row holds, unless the refusal is want of memory, which is no row
@@ -67,11 +69,14 @@ refusal_of_curve (curves.LimitDisc d) = LimitDisc d
 refusal_of_curve (curves.LimitInf d) = LimitInf d
 refusal_of_curve curves.Memory = Memory
 
--- a code is too great, or the sum of the terms gives no curve
+-- a code is too great, or the sum of the terms gives no curve, or it gives one whose functions are no field: then z is
+-- the first of the idempotents other than 0 and 1
 pub data IsNoCurve (k : CodeField) (f : List Term) (r : Refusal) : Type 0 where
   range : IsCodeRow k.size (written_codes f) r → IsNoCurve k f r
   fault : (sum : List (ℕ × ℕ × ℕ)) → IsSumOf k.ops f sum → (e : CurveFault) → e ≢ curves.Memory → IsCurveFault k sum e
       → r ≡ refusal_of_curve e → IsNoCurve k f r
+  reducible : (sum : List (ℕ × ℕ × ℕ)) → IsSumOf k.ops f sum → (c : CurveValue) → IsCurveOf k sum c
+      → (z : WrittenValue) → IsFirstIdempotent k c.fin z → r ≡ Reducible z → IsNoCurve k f r
 
 abbrev pub IsCurveRow : FieldData → List Term → Refusal → Type 0
 IsCurveRow d f r = (is : IsFieldData d) × IsNoCurve (with_laws d is) f r
@@ -164,6 +169,8 @@ IsRefusalRow old (CurveOf f) r = ForField old (λ d. IsCurveRow d f r)
 IsRefusalRow old (Mul a b) r = ForCurve old (λ d c. IsProductRow (ops_of d) c.fin.n max_degree a b r)
 IsRefusalRow old (Factor g) r = ForCurve old (λ d c. IsFactorRow (ops_of d) max_degree g r)
 IsRefusalRow old (OrderOf s) r = ⊥
+IsRefusalRow old Constants r = ⊥
+IsRefusalRow old Genus r = ⊥
 IsRefusalRow old (Places over) r = ForCurve old
     (λ d c. IsFieldData d × IsBaseRow (ops_of d) c.fin.n max_degree_of_places over r)
 IsRefusalRow old (Place name over index) r = ForBound old

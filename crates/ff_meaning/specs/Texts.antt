@@ -1,8 +1,8 @@
 -- What is printed of a refusal.
 use Rattle.std.specs.Prelude.{ℕ, List, ◌++◌, codes, decimal}
-use Rattle.ff_text.specs.Printed.{poly_text}
+use Rattle.ff_text.specs.Printed.{poly_text, elem_text}
 use Rattle.ff_meaning.specs.declared.refusal.Refusal.{Refusal}
-use Rattle.ff_meaning.specs.declared.refusal.Refusal.TheVariants.{FieldSize, NotField, LimitY, LimitX, NotMonic, NotSeparable, LimitDisc, LimitInf, NameTaken, LimitPlace, NotIrreducible, NoSuchPlace, CodeRange, Length, Zero, LimitDegree, LimitOutput, Memory}
+use Rattle.ff_meaning.specs.declared.refusal.Refusal.TheVariants.{FieldSize, NotField, LimitY, LimitX, NotMonic, NotSeparable, LimitDisc, LimitInf, Reducible, NameTaken, LimitPlace, NotIrreducible, NoSuchPlace, CodeRange, Length, Zero, LimitDegree, LimitOutput, Memory}
 
 -- a name and its values
 abbrev pub one_value : List ℕ → List ℕ → List ℕ
@@ -21,6 +21,7 @@ refusal_words (NotMonic p) = one_value (codes "NotMonic") (poly_text p)
 refusal_words NotSeparable = codes "NotSeparable"
 refusal_words (LimitDisc d) = one_value (codes "LimitDisc") (decimal d)
 refusal_words (LimitInf d) = one_value (codes "LimitInf") (decimal d)
+refusal_words (Reducible z) = one_value (codes "Reducible") (elem_text z.num z.den)
 refusal_words (NameTaken name) = one_value (codes "NameTaken") name
 refusal_words (LimitPlace d) = one_value (codes "LimitPlace") (decimal d)
 refusal_words (NotIrreducible h) = one_value (codes "NotIrreducible") (poly_text h)

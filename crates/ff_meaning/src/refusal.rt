@@ -1,7 +1,7 @@
 //! Why a statement isn't answered, and the line that says so.
 
 ghost use Rattle.std.specs.Prelude.{◌≡◌, ◌≢◌, ◌↔◌, ◌++◌, IsTrue, IfOk, OnOk, decimal};
-ghost use Rattle.ff_text.specs.Printed.{poly_text};
+ghost use Rattle.ff_text.specs.Printed.{poly_text, elem_text};
 ghost use Rattle.ff_meaning.specs.declared.refusal.Refusal.TheVariants.{Memory};
 ghost use Rattle.ff_meaning.specs.Texts.{refusal_text, refusal_words, one_value, two_values};
 
@@ -9,7 +9,7 @@ use ff_algebra::curve::CurveFault;
 use ff_poly::Poly;
 use ff_script::Name;
 use ff_text::number::push_number;
-use ff_text::printed::push_poly;
+use ff_text::printed::{Written, push_elem, push_poly};
 use std::alloc::{AllocError, AllocFailed, Global};
 
 /// Why a statement isn't answered, with the values that the refusal's line tells.
@@ -32,6 +32,8 @@ pub enum Refusal {
     LimitDisc(usize),
     /// c·n·(n-1), which is above 224, for the curve's infinity number c and its degree n in y.
     LimitInf(u32),
+    /// The functions of the curve are no field: the idempotent other than 0 and 1 whose text is the first.
+    Reducible(Written),
     /// The name, which is bound already.
     NameTaken(Name),
     /// n times the degree of a polynomial over which places are asked for, which is above 512, for the degree n of the
@@ -80,6 +82,7 @@ impl Refusal {
             Refusal::NotSeparable => Ok(Refusal::NotSeparable),
             Refusal::LimitDisc(d) => Ok(Refusal::LimitDisc(*d)),
             Refusal::LimitInf(d) => Ok(Refusal::LimitInf(*d)),
+            Refusal::Reducible(z) => Ok(Refusal::Reducible(z.copy(alloc)?)),
             Refusal::NameTaken(name) => Ok(Refusal::NameTaken(name.copy(alloc)?)),
             Refusal::LimitPlace(d) => Ok(Refusal::LimitPlace(*d)),
             Refusal::NotIrreducible(h) => Ok(Refusal::NotIrreducible(h.copy(alloc)?)),
@@ -157,6 +160,15 @@ fn push_named(out: &mut Vec<u8>, name: &[u8], p: &Poly) -> Result<(), AllocError
     push_poly(out, p)
 }
 
+/// A name, and a function behind it.
+fn push_function(out: &mut Vec<u8>, name: &[u8], z: &Written) -> Result<(), AllocError>
+    ensures { OnOk result (out.new.items ≡ out.old.items ++ one_value name.now (elem_text z.now.num z.now.den)) }
+{
+    out.extend_from_slice(name)?;
+    out.push(b' ')?;
+    push_elem(out, z.num(), z.den())
+}
+
 /// The name of a refusal with its values.
 fn push_words(out: &mut Vec<u8>, r: &Refusal) -> Result<(), AllocError>
     ensures { OnOk result (out.new.items ≡ out.old.items ++ refusal_words r.now) }
@@ -170,6 +182,7 @@ fn push_words(out: &mut Vec<u8>, r: &Refusal) -> Result<(), AllocError>
         Refusal::NotSeparable => out.extend_from_slice(b"NotSeparable"),
         Refusal::LimitDisc(d) => push_one(out, b"LimitDisc", *d as u64),
         Refusal::LimitInf(d) => push_one(out, b"LimitInf", u64::from(*d)),
+        Refusal::Reducible(z) => push_function(out, b"Reducible", z),
         Refusal::NameTaken(name) => {
             out.extend_from_slice(b"NameTaken ")?;
             out.extend_from_slice(name.letters.as_slice())

@@ -33,7 +33,7 @@ use Rattle.ff_written.proofs.WrittenRows.{same_written}
 use Rattle.decomposition_theory.proofs.ComponentSystems.{all_left, from_left, pairs_right}
 use Rattle.ff_places.specs.Numbers.{IsNotAfter, AreInOrder}
 use Rattle.ff_places.specs.Steps.{IsIdealAbove, IsInComponent, HasComponent, ListedPrime, ListedBefore, AreListed, IsNumbered}
-use Rattle.ff_places.proofs.Listings.{pairs_permutation}
+use Rattle.ff_written.proofs.OrderedLists.{pairs_permutation}
 
 -- ---- maximal ideals with the same members
 

@@ -5,7 +5,7 @@ ghost use Rattle.std.specs.List.{AllZip};
 ghost use Rattle.function_field.specs.Curves.{IsCurve};
 ghost use Rattle.ff_falg.specs.Idempotents.{elements_of};
 ghost use Rattle.ff_lattice.specs.Lattices.{IsLatticeValue};
-ghost use Rattle.ff_written.specs.TextOrder.{HasRowTexts, IsBeforeText, IsBeforeTexts, texts_of};
+ghost use Rattle.ff_written.specs.TextOrder.{HasRowTexts, IsBeforeTexts, texts_of};
 ghost use Rattle.value_theory.specs.IntegralLattices.{presentation};
 ghost use Rattle.value_theory.specs.Primes.{PrimeValue};
 ghost use Rattle.ff_places.specs.Numbers.{NumberedFrom};
@@ -18,7 +18,7 @@ use ff_ideal::Prime;
 use ff_lattice::Lattice;
 use ff_text::Written;
 use ff_text::printed::elem_text;
-use ff_written::written_rows;
+use ff_written::{is_before_text, written_rows};
 use std::alloc::{AllocError, Global};
 use std::marker::Model;
 
@@ -63,19 +63,6 @@ fn row_texts<K: SmallField>(
 {
     let list = written_rows(alloc, k, c, side, l)?;
     texts(alloc, list.rows.as_slice())
-}
-
-/// Whether the first text comes before the second: at the first difference its byte is less, or it ends there.
-fn is_before_text(a: &[u8], b: &[u8]) -> bool
-    ensures { IsTrue result ↔ IsBeforeText a.now b.now }
-{
-    let end = a.len().min(b.len());
-    for i in 0..end {
-        if a[i] != b[i] {
-            return a[i] < b[i];
-        }
-    }
-    a.len() < b.len()
 }
 
 /// Whether the first list comes before the second: at the first difference its text does, or it ends there.

@@ -3,7 +3,7 @@ use Rattle.std.proofs.Common.{◌≡◌, ℕ, ◌+◌, ◌≤◌, List, [], ◌�
 use Rattle.std.proofs.lemmas.Grind.{flat_map-append, common_steps}
 use Rattle.std.proofs.lemmas.List.{map-append}
 use Rattle.ff_script.specs.declared.script.Statement.{Statement}
-use Rattle.ff_script.specs.declared.script.Statement.TheVariants.{FieldOf, CurveOf, Mul, Factor, OrderOf, Places, Place}
+use Rattle.ff_script.specs.declared.script.Statement.TheVariants.{FieldOf, CurveOf, Mul, Factor, OrderOf, Places, Place, Constants, Genus}
 use Rattle.ff_script.specs.Scripts.{MayFollow}
 use Rattle.ff_fields.specs.FieldData.{FieldData}
 use Rattle.function_field.specs.Curves.{CurveValue}
@@ -55,6 +55,8 @@ place_nothing k (Factor g) h m = absurd (omega arith)
 place_nothing k (OrderOf side) h m = absurd (omega arith)
 place_nothing k (Places over) h m = absurd (omega arith)
 place_nothing k (Place name over index) h m = absurd (omega arith)
+place_nothing k Constants h m = absurd (omega arith)
+place_nothing k Genus h m = absurd (omega arith)
 
 place_field : (k : ℕ) (d : FieldData) (s : Statement) → k ≡ 1 → MayFollow k s → IsInPlace (with_field d) s
 place_field k d (FieldOf p tail) h m = absurd (omega arith)
@@ -64,6 +66,8 @@ place_field k d (Factor g) h m = absurd (omega arith)
 place_field k d (OrderOf side) h m = absurd (omega arith)
 place_field k d (Places over) h m = absurd (omega arith)
 place_field k d (Place name over index) h m = absurd (omega arith)
+place_field k d Constants h m = absurd (omega arith)
+place_field k d Genus h m = absurd (omega arith)
 
 place_curve : (k : ℕ) (d : FieldData) (c : CurveValue) (Ps : List NamedPlace) (s : Statement) → 2 ≤ k → MayFollow k s
     → IsInPlace (with_places d c Ps) s
@@ -74,6 +78,8 @@ place_curve k d c Ps (Factor g) h m = tt
 place_curve k d c Ps (OrderOf side) h m = tt
 place_curve k d c Ps (Places over) h m = tt
 place_curve k d c Ps (Place name over index) h m = tt
+place_curve k d c Ps Constants h m = tt
+place_curve k d c Ps Genus h m = tt
 
 pub in_place : (k : ℕ) (old : Bindings) (s : Statement) → IsAfter k old → MayFollow k s → IsInPlace old s
 in_place k old s (AtStart h is) m = subst (λ o. IsInPlace o s) (sym is) (place_nothing k s h m)
@@ -90,6 +96,8 @@ after_nothing k (Factor g) a new h t = absurd t.3
 after_nothing k (OrderOf side) a new h t = absurd t.2
 after_nothing k (Places over) a new h t = absurd t.3
 after_nothing k (Place name over index) a new h t = absurd t.2
+after_nothing k Constants a new h t = absurd t.3
+after_nothing k Genus a new h t = absurd t.2
 
 after_field : (k : ℕ) (d : FieldData) (s : Statement) (a : Answer) (new : Bindings) → k ≡ 1
     → Answers (with_field d) s a new → IsAfter (k + 1) new
@@ -100,6 +108,8 @@ after_field k d (Factor g) a new h t = absurd t.3
 after_field k d (OrderOf side) a new h t = absurd t.2
 after_field k d (Places over) a new h t = absurd t.3
 after_field k d (Place name over index) a new h t = absurd t.2
+after_field k d Constants a new h t = absurd t.3
+after_field k d Genus a new h t = absurd t.2
 
 module _ (k : ℕ) (d : FieldData) (c : CurveValue) (Ps : List NamedPlace) where
   after_curve : (s : Statement) (a : Answer) (new : Bindings) → 2 ≤ k → Answers (with_places d c Ps) s a new
@@ -112,6 +122,8 @@ module _ (k : ℕ) (d : FieldData) (c : CurveValue) (Ps : List NamedPlace) where
   after_curve (Places over) a new h t = AfterCurve (omega (arith, h)) d c Ps t.3.2
   after_curve (Place name over index) a new h t = AfterCurve (omega (arith, h)) d c
       (Ps ++ record { name = name; place = t.2.1.place } ∷ []) t.2.1.bound
+  after_curve Constants a new h t = AfterCurve (omega (arith, h)) d c Ps t.3.2
+  after_curve Genus a new h t = AfterCurve (omega (arith, h)) d c Ps t.2.2
 
 pub after_answer : (k : ℕ) (old : Bindings) (s : Statement) (a : Answer) (new : Bindings) → IsAfter k old
     → Answers old s a new → IsAfter (k + 1) new

@@ -13,7 +13,7 @@ use Rattle.ff_text.proofs.Exponents.{terms_small}
 use Rattle.ff_script.specs.declared.script.Over.{Over}
 use Rattle.ff_script.specs.declared.script.Over.TheVariants.{At, Inf}
 use Rattle.ff_script.specs.declared.script.Statement.{Statement}
-use Rattle.ff_script.specs.declared.script.Statement.TheVariants.{FieldOf, CurveOf, Mul, Factor, OrderOf, Places, Place}
+use Rattle.ff_script.specs.declared.script.Statement.TheVariants.{FieldOf, CurveOf, Mul, Factor, OrderOf, Places, Place, Constants, Genus}
 use Rattle.ff_script.specs.Grammar.{SpellsParts, SpellsOver, ArePartsOf, SpellsLine}
 use Rattle.ff_script.specs.Scripts.{without_empty_last, lines_of, IsReadAs, IsScript}
 use Rattle.ff_script.proofs.Writable.{line_writable}
@@ -162,6 +162,8 @@ powers_small (Factor g) parts n small short h =
     let le = all.1.0 in
     terms_small false g h.0 h.2 (omega (arith, le))
 powers_small (OrderOf s) parts n small short h = tt
+powers_small Constants parts n small short h = tt
+powers_small Genus parts n small short h = tt
 powers_small (Places over) parts n small short h =
     let all = subst (AllByRecursion (IsShort n)) h.1 short in
     let le = all.1.0 in

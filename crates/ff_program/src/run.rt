@@ -6,7 +6,7 @@ ghost use Rattle.ff_script.specs.Scripts.{IsInOrder};
 ghost use Rattle.ff_meaning.specs.declared.refusal.Refusal.{Refusal};
 ghost use Rattle.ff_cert.specs.Lines.{echo_line};
 ghost use Rattle.ff_program.specs.Commands.{Runs};
-ghost use Rattle.ff_program.specs.Output.{IsOut, IsPart, IsOutput, IsBegun, syntax_line, misplaced_line, refusal_line, end_line};
+ghost use Rattle.ff_program.specs.Output.{at_start, IsOut, IsPart, IsOutput, IsBegun, syntax_line, misplaced_line, refusal_line, end_line};
 ghost use Rattle.ff_program.specs.Printing.{Prints, BreaksOff, EndsAs, EndsWith};
 ghost use Rattle.ff_program.specs.Ready.{IsReady};
 
@@ -63,13 +63,18 @@ fn end_text(alloc: Global, blocks: u64) -> Result<Vec<u8>, AllocError>
     Ok(text)
 }
 
-/// Answers the statements in order, and prints each block as it is made.
-pub fn run_script<T: Sink>(alloc: Global, script: &[Statement], out: &mut T) -> Status
+/// Answers the statements in order with the session, and prints each block as it is made.
+fn answer_all<T: Sink>(
+    alloc: Global,
+    session: &mut Session,
+    script: &[Statement],
+    out: &mut T,
+) -> Status
+    requires start { session.old ≡ at_start }
     requires order { IsInOrder script.now }
     requires ready { All IsReady script.now }
     ensures { EndsAs T.taken T.faults T.free (IsOut script.now) (IsPart script.now) out.old out.new result }
 {
-    let mut session = Session::new(alloc, true, 0);
     for s in script {
         match session.step(s) {
             Ok(text) => {
@@ -92,6 +97,16 @@ pub fn run_script<T: Sink>(alloc: Global, script: &[Statement], out: &mut T) -> 
         return Status::WantOfMemory;
     };
     close(out, text.as_slice(), Status::Done)
+}
+
+/// Answers the statements in order, and prints each block as it is made.
+pub fn run_script<T: Sink>(alloc: Global, script: &[Statement], out: &mut T) -> Status
+    requires order { IsInOrder script.now }
+    requires ready { All IsReady script.now }
+    ensures { EndsAs T.taken T.faults T.free (IsOut script.now) (IsPart script.now) out.old out.new result }
+{
+    let mut session = Session::new(alloc, true, 0);
+    answer_all(alloc, &mut session, script, out)
 }
 
 /// The line of a script's first bad line.

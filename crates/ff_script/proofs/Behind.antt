@@ -14,7 +14,7 @@ use Rattle.ff_script.specs.declared.script.Statement.TheVariants.{Mul}
 use Rattle.ff_script.specs.Grammar.{ends_with_word, numbers_of, IsWhole, SpellsLine}
 use Rattle.ff_script.specs.Reading.{IsReading, behind_blanks, IsFront, AreNumbersAt, IsModulusAt, AreTermsAt, IsSideAt, IsElementFront, IsBehind}
 use Rattle.ff_script.proofs.Spans.{AllWord, blanks_same, words_same}
-use Rattle.ff_script.proofs.ByKind.{Kind, FieldKind, CurveKind, MulKind, FactorKind, OrderKind, PlacesKind, PlaceKind, word_of, IsHeldAt, kind_of, none_of_kind, word_of_behind, IsWord, word_of_statement}
+use Rattle.ff_script.proofs.ByKind.{Kind, FieldKind, CurveKind, MulKind, FactorKind, OrderKind, PlacesKind, PlaceKind, ConstantsKind, GenusKind, word_of, IsHeldAt, kind_of, none_of_kind, word_of_behind, IsWord, word_of_statement}
 use Rattle.ff_script.proofs.Fronts.{IsStatementAt, line_at, line_from}
 use Rattle.ff_script.proofs.Steps.{no_front, number_same, numbers_same}
 use Rattle.ff_script.proofs.Elements.{begins_element, fronts_one}
@@ -44,6 +44,14 @@ no_side_here bytes no_finite no_infinite Infinite h = no_infinite h
 pub no_order_here : (bytes : List ℕ) → ((side : Side) → IsSideAt side bytes → ⊥) → (s : Statement)
     → IsBehind (codes "order") s bytes → ⊥
 no_order_here bytes none s h = none_of_kind OrderKind bytes none s h
+
+-- ---- words alone
+
+pub no_constants_here : (bytes : List ℕ) → bytes ≢ [] → (s : Statement) → IsBehind (codes "constants") s bytes → ⊥
+no_constants_here bytes some s h = none_of_kind ConstantsKind bytes (λ held none. some none) s h
+
+pub no_genus_here : (bytes : List ℕ) → bytes ≢ [] → (s : Statement) → IsBehind (codes "genus") s bytes → ⊥
+no_genus_here bytes some s h = none_of_kind GenusKind bytes (λ held none. some none) s h
 
 -- ---- numbers behind `field`
 
@@ -171,11 +179,14 @@ no_statement line bytes e none s h =
 -- there is one kind for each word that was looked for
 pub no_kind : (bytes : List ℕ) → IsNoWord (codes "field") bytes → IsNoWord (codes "curve") bytes
     → IsNoWord (codes "mul") bytes → IsNoWord (codes "factor") bytes → IsNoWord (codes "places") bytes
-    → IsNoWord (codes "place") bytes → IsNoWord (codes "order") bytes → (k : Kind) → IsNoWord (word_of k) bytes
-no_kind bytes no_field no_curve no_mul no_factor no_places no_place no_order FieldKind = no_field
-no_kind bytes no_field no_curve no_mul no_factor no_places no_place no_order CurveKind = no_curve
-no_kind bytes no_field no_curve no_mul no_factor no_places no_place no_order MulKind = no_mul
-no_kind bytes no_field no_curve no_mul no_factor no_places no_place no_order FactorKind = no_factor
-no_kind bytes no_field no_curve no_mul no_factor no_places no_place no_order OrderKind = no_order
-no_kind bytes no_field no_curve no_mul no_factor no_places no_place no_order PlacesKind = no_places
-no_kind bytes no_field no_curve no_mul no_factor no_places no_place no_order PlaceKind = no_place
+    → IsNoWord (codes "place") bytes → IsNoWord (codes "order") bytes → IsNoWord (codes "constants") bytes
+    → IsNoWord (codes "genus") bytes → (k : Kind) → IsNoWord (word_of k) bytes
+no_kind bytes no_field no_curve no_mul no_factor no_places no_place no_order no_constants no_genus FieldKind = no_field
+no_kind bytes no_field no_curve no_mul no_factor no_places no_place no_order no_constants no_genus CurveKind = no_curve
+no_kind bytes no_field no_curve no_mul no_factor no_places no_place no_order no_constants no_genus MulKind = no_mul
+no_kind bytes no_field no_curve no_mul no_factor no_places no_place no_order no_constants no_genus FactorKind = no_factor
+no_kind bytes no_field no_curve no_mul no_factor no_places no_place no_order no_constants no_genus OrderKind = no_order
+no_kind bytes no_field no_curve no_mul no_factor no_places no_place no_order no_constants no_genus PlacesKind = no_places
+no_kind bytes no_field no_curve no_mul no_factor no_places no_place no_order no_constants no_genus PlaceKind = no_place
+no_kind bytes no_field no_curve no_mul no_factor no_places no_place no_order no_constants no_genus ConstantsKind = no_constants
+no_kind bytes no_field no_curve no_mul no_factor no_places no_place no_order no_constants no_genus GenusKind = no_genus

@@ -8,7 +8,7 @@ use Rattle.function_field.specs.declared.side.Side.{Side}
 use Rattle.ff_script.specs.declared.script.Modulus.{Modulus}
 use Rattle.ff_script.specs.declared.script.Over.{Over}
 use Rattle.ff_script.specs.declared.script.Statement.{Statement}
-use Rattle.ff_script.specs.declared.script.Statement.TheVariants.{FieldOf, CurveOf, Mul, Factor, OrderOf, Places, Place}
+use Rattle.ff_script.specs.declared.script.Statement.TheVariants.{FieldOf, CurveOf, Mul, Factor, OrderOf, Places, Place, Constants, Genus}
 use Rattle.ff_script.specs.Grammar.{ends_with_word, numbers_of, IsWhole}
 use Rattle.ff_script.specs.Reading.{IsFront, AreNumbersAt, AreTermsAt, IsSideAt, IsOverAt, IsPlaceAt, IsNameFront, IsBehind}
 use Rattle.ff_script.proofs.Spans.{AllWord}
@@ -22,6 +22,8 @@ pub data Kind : Type 0 where
   OrderKind : Kind
   PlacesKind : Kind
   PlaceKind : Kind
+  ConstantsKind : Kind
+  GenusKind : Kind
 
 abbrev pub word_of : Kind → List ℕ
 word_of FieldKind = codes "field"
@@ -31,6 +33,8 @@ word_of FactorKind = codes "factor"
 word_of OrderKind = codes "order"
 word_of PlacesKind = codes "places"
 word_of PlaceKind = codes "place"
+word_of ConstantsKind = codes "constants"
+word_of GenusKind = codes "genus"
 
 -- what a statement of the kind holds
 abbrev pub Held : Kind → Type 0
@@ -41,6 +45,8 @@ Held FactorKind = List Term
 Held OrderKind = Side
 Held PlacesKind = Over
 Held PlaceKind = List ℕ × Over × ℕ
+Held ConstantsKind = Unit {0}
+Held GenusKind = Unit {0}
 
 abbrev pub statement : (k : Kind) → Held k → Statement
 statement FieldKind h = FieldOf h.0 h.1
@@ -50,6 +56,8 @@ statement FactorKind g = Factor g
 statement OrderKind side = OrderOf side
 statement PlacesKind over = Places over
 statement PlaceKind h = Place h.0 h.1 h.2
+statement ConstantsKind h = Constants
+statement GenusKind h = Genus
 
 -- it is what the bytes behind the word are
 abbrev pub IsHeldAt : (k : Kind) → Held k → List ℕ → Type 0
@@ -61,6 +69,8 @@ IsHeldAt FactorKind g bytes = AreTermsAt false g bytes
 IsHeldAt OrderKind side bytes = IsSideAt side bytes
 IsHeldAt PlacesKind over bytes = IsOverAt over bytes
 IsHeldAt PlaceKind h bytes = (rest : List ℕ) × IsNameFront h.0 bytes rest × IsPlaceAt h.1 h.2 rest
+IsHeldAt ConstantsKind h bytes = bytes ≡ []
+IsHeldAt GenusKind h bytes = bytes ≡ []
 
 -- ---- each statement is of one kind
 
@@ -72,6 +82,8 @@ kind_of (Factor g) = FactorKind
 kind_of (OrderOf side) = OrderKind
 kind_of (Places over) = PlacesKind
 kind_of (Place name over index) = PlaceKind
+kind_of Constants = ConstantsKind
+kind_of Genus = GenusKind
 
 abbrev pub held_by : (s : Statement) → Held (kind_of s)
 held_by (FieldOf p tail) = (p, tail)
@@ -81,6 +93,8 @@ held_by (Factor g) = g
 held_by (OrderOf side) = side
 held_by (Places over) = over
 held_by (Place name over index) = (name, over, index)
+held_by Constants = tt
+held_by Genus = tt
 
 made_again : (s : Statement) → s ≡ statement (kind_of s) (held_by s)
 made_again (FieldOf p tail) = refl
@@ -90,6 +104,8 @@ made_again (Factor g) = refl
 made_again (OrderOf side) = refl
 made_again (Places over) = refl
 made_again (Place name over index) = refl
+made_again Constants = refl
+made_again Genus = refl
 
 behind_held : (word : List ℕ) (s : Statement) (bytes : List ℕ) → IsBehind word s bytes
     → (word ≡ word_of (kind_of s)) × IsHeldAt (kind_of s) (held_by s) bytes
@@ -100,6 +116,8 @@ behind_held word (Factor g) bytes h = h
 behind_held word (OrderOf side) bytes h = h
 behind_held word (Places over) bytes h = h
 behind_held word (Place name over index) bytes h = h
+behind_held word Constants bytes h = h
+behind_held word Genus bytes h = h
 
 -- ---- each word is of one kind
 
@@ -110,7 +128,8 @@ mark (b ∷ bs) = b + 2 * mark bs
 
 abbrev kind_at : ℕ → Kind
 kind_at n = if eqb n 3180 then FieldKind else if eqb n 3349 then CurveKind else if eqb n 775 then MulKind else if eqb n
-    7044 then FactorKind else if eqb n 6804 then PlacesKind else if eqb n 3124 then PlaceKind else OrderKind
+    7044 then FactorKind else if eqb n 6804 then PlacesKind else if eqb n 3124 then PlaceKind else if eqb n
+    57969 then ConstantsKind else if eqb n 3521 then GenusKind else OrderKind
 
 told : (k : Kind) → kind_at (mark (word_of k)) ≡ k
 told FieldKind = refl
@@ -120,6 +139,8 @@ told FactorKind = refl
 told OrderKind = refl
 told PlacesKind = refl
 told PlaceKind = refl
+told ConstantsKind = refl
+told GenusKind = refl
 
 same_kind : (k l : Kind) → word_of k ≡ word_of l → k ≡ l
 same_kind k l e = sym (told k) ∙ ap (λ (w : List ℕ). kind_at (mark w)) e ∙ told l
@@ -162,6 +183,11 @@ kind_word FactorKind = record { all = (refl, (refl, (refl, (refl, (refl, (refl, 
 kind_word OrderKind = record { all = (refl, (refl, (refl, (refl, (refl, tt))))); ends = refl }
 kind_word PlacesKind = record { all = (refl, (refl, (refl, (refl, (refl, (refl, tt)))))); ends = refl }
 kind_word PlaceKind = record { all = (refl, (refl, (refl, (refl, (refl, tt))))); ends = refl }
+kind_word ConstantsKind = record {
+  all = (refl, (refl, (refl, (refl, (refl, (refl, (refl, (refl, (refl, tt)))))))));
+  ends = refl;
+}
+kind_word GenusKind = record { all = (refl, (refl, (refl, (refl, (refl, tt))))); ends = refl }
 
 pub word_of_statement : (word : List ℕ) (s : Statement) (bytes : List ℕ) → IsBehind word s bytes → IsWord word
 word_of_statement word s bytes h = subst IsWord (sym (word_of_behind word s bytes h)) (kind_word (kind_of s))

@@ -6,7 +6,7 @@ use Rattle.std.proofs.lemmas.List.{append-nil}
 use Rattle.ff_text.specs.Spelling.{Is, Blanks, SpellsNumber, SpellsTerms, SpellsElement}
 use Rattle.ff_text.specs.declared.terms.ElemText.{ElemText}
 use Rattle.ff_script.specs.declared.script.Statement.{Statement}
-use Rattle.ff_script.specs.declared.script.Statement.TheVariants.{FieldOf, CurveOf, Mul, Factor, OrderOf, Places, Place}
+use Rattle.ff_script.specs.declared.script.Statement.TheVariants.{FieldOf, CurveOf, Mul, Factor, OrderOf, Places, Place, Constants, Genus}
 use Rattle.ff_script.specs.Grammar.{begins_with_word, ends_with_word, IsGap, SpellsParts, AreNumbers, numbers_of, SpellsSide, SpellsOver, SpellsName, ArePartsOf, SpellsLine}
 use Rattle.ff_script.specs.Reading.{behind_blanks, begins_with_blank, IsFront, AreNumbersAt, IsBehind}
 use Rattle.ff_script.proofs.Spans.{passed, blanks_passed, gap_no_word, some_gap_no_word, word_goes_on}
@@ -193,6 +193,8 @@ parts_start (Place name over index) parts h = subst (AllByRecursion Starts) (sym
     (refl, ((over_solid over h.1 h.5).starts, ((number_solid index h.2 h.6).starts, tt))),
   ),
 )
+parts_start Constants parts h = subst (AllByRecursion Starts) (sym h) (refl, tt)
+parts_start Genus parts h = subst (AllByRecursion Starts) (sym h) (refl, tt)
 
 no_parts : (s : Statement) → ArePartsOf s [] → ⊥
 no_parts (FieldOf p tail) h = let e = h.1 in cc
@@ -202,6 +204,8 @@ no_parts (Factor g) h = let e = h.1 in cc
 no_parts (OrderOf side) h = let e = h.1 in cc
 no_parts (Places over) h = let e = h.1 in cc
 no_parts (Place name over index) h = let e = h.3 in cc
+no_parts Constants h = let e = h in cc
+no_parts Genus h = let e = h in cc
 
 numbers_at : (ns : List ℕ) (parts : List (List ℕ)) (bytes : List ℕ) → AreNumbers ns parts → AreFronts parts bytes
     → AreNumbersAt ns bytes
@@ -307,6 +311,12 @@ statement_at (Place name over index) parts bytes h fronts =
         (mark.0, (at.2.0, named, mark.1), (base.0, lies, last_at (SpellsNumber index) h.2 base.0 h.6 base.2)),
       );
     }
+statement_at Constants parts bytes h fronts =
+    let at = subst (λ (p : List (List ℕ)). AreFronts p bytes) h fronts in
+    record { word = codes "constants"; rest = at.0; front = at.1; behind = (refl, at.2) }
+statement_at Genus parts bytes h fronts =
+    let at = subst (λ (p : List (List ℕ)). AreFronts p bytes) h fronts in
+    record { word = codes "genus"; rest = at.0; front = at.1; behind = (refl, at.2) }
 
 abbrev IsNamed : Statement → List ℕ → Type 0
 IsNamed s bytes = (parts : List (List ℕ)) × ArePartsOf s parts × AreFronts parts bytes
@@ -374,6 +384,16 @@ statement_parts (Place name over index) bytes h =
         ),
       ),
     )
+statement_parts Constants bytes h = (
+  codes "constants" ∷ [],
+  refl,
+  (h.rest, subst (λ (w : List ℕ). IsFront (Is w) bytes h.rest) h.behind.0 h.front, h.behind.1),
+)
+statement_parts Genus bytes h = (
+  codes "genus" ∷ [],
+  refl,
+  (h.rest, subst (λ (w : List ℕ). IsFront (Is w) bytes h.rest) h.behind.0 h.front, h.behind.1),
+)
 
 -- ---- lines
 

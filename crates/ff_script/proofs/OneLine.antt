@@ -19,7 +19,7 @@ use Rattle.ff_script.proofs.Spelled.{IsSolid, terms_solid, side_solid, over_soli
 use Rattle.ff_script.proofs.Fronts.{line_at}
 use Rattle.ff_script.proofs.Steps.{number_same, numbers_same, comment_at, blank_at}
 use Rattle.ff_script.proofs.Elements.{begins_element, fronts_one}
-use Rattle.ff_script.proofs.ByKind.{Kind, FieldKind, CurveKind, MulKind, FactorKind, OrderKind, PlacesKind, PlaceKind, word_of, Held, statement, IsHeldAt, kind_of, word_of_behind, IsWord, word_of_statement, of_kind}
+use Rattle.ff_script.proofs.ByKind.{Kind, FieldKind, CurveKind, MulKind, FactorKind, OrderKind, PlacesKind, PlaceKind, ConstantsKind, GenusKind, word_of, Held, statement, IsHeldAt, kind_of, word_of_behind, IsWord, word_of_statement, of_kind}
 use Rattle.ff_script.proofs.Behind.{statement_behind}
 use Rattle.ff_script.proofs.WordRuns.{not_inf}
 use Rattle.ff_script.proofs.OverFronts.{over_of_place, over_fronts_one}
@@ -118,6 +118,8 @@ module _ (one_terms : (with_y : Bool) → OneValue (SpellsTerms with_y)) (one_el
       let at = place_same a.1 b.1 a.2 b.2 k.0 (subst (IsPlaceAt a.1 a.2) named.1 h.2) k.2 in
       ap (λ (x : List ℕ). Place x a.1 a.2) named.0 ∙ ap (λ (x : Over). Place b.0 x a.2) at.0
       ∙ ap (λ (x : ℕ). Place b.0 b.1 x) at.1
+  held_same ConstantsKind a b bytes h k = refl
+  held_same GenusKind a b bytes h k = refl
 
   behind_same : (word bytes : List ℕ) (s t : Statement) → IsBehind word s bytes → IsBehind word t bytes → s ≡ t
   behind_same word bytes s t h k =

@@ -14,7 +14,7 @@ use Rattle.function_field.specs.declared.side.Side.TheVariants.{Finite, Infinite
 use Rattle.ff_script.specs.declared.script.Over.{Over}
 use Rattle.ff_script.specs.declared.script.Over.TheVariants.{At, Inf}
 use Rattle.ff_script.specs.declared.script.Statement.{Statement}
-use Rattle.ff_script.specs.declared.script.Statement.TheVariants.{FieldOf, CurveOf, Mul, Factor, OrderOf, Places, Place}
+use Rattle.ff_script.specs.declared.script.Statement.TheVariants.{FieldOf, CurveOf, Mul, Factor, OrderOf, Places, Place, Constants, Genus}
 use Rattle.ff_script.specs.Grammar.{IsGap, SpellsParts, AreNumbers, numbers_of, SpellsSide, SpellsOver, ArePartsOf, SpellsLine}
 use Rattle.ff_script.specs.Printing.{numbers_text, side_text, over_text, statement_text, script_text, IsShort, IsWritableOver, IsWritable}
 use Rattle.ff_script.specs.Scripts.{lines_of, IsReadAs, IsInOrder, IsScript}
@@ -76,6 +76,10 @@ parts_unfed (Place name over index) parts h = subst (AllByRecursion AreUnfed) (s
     ),
   ),
 )
+parts_unfed Constants parts h = subst (AllByRecursion AreUnfed) (sym h)
+    ((refl, (refl, (refl, (refl, (refl, (refl, (refl, (refl, (refl, tt))))))))), tt)
+parts_unfed Genus parts h = subst (AllByRecursion AreUnfed) (sym h)
+    ((refl, (refl, (refl, (refl, (refl, tt))))), tt)
 
 joined_unfed : (parts : List (List ℕ)) (core : List ℕ) → AllByRecursion AreUnfed parts → SpellsParts parts core
     → AreUnfed core
@@ -150,6 +154,8 @@ module _ (spelled : AreSpelled) where
   parts_of (OrderOf side) = codes "order" ∷ side_text side ∷ []
   parts_of (Places over) = codes "places" ∷ over_text over ∷ []
   parts_of (Place name over index) = codes "place" ∷ name ∷ codes "=" ∷ over_text over ∷ decimal index ∷ []
+  parts_of Constants = codes "constants" ∷ []
+  parts_of Genus = codes "genus" ∷ []
 
   parts_named : (s : Statement) → IsWritable s → ArePartsOf s (parts_of s)
   parts_named (FieldOf p tail) h = (
@@ -172,6 +178,8 @@ module _ (spelled : AreSpelled) where
     over_spelled over h.1,
     spelled.number index h.2,
   )
+  parts_named Constants h = refl
+  parts_named Genus h = refl
 
   parts_joined : (s : Statement) → SpellsParts (parts_of s) (statement_text s)
   parts_joined (FieldOf p tail) = numbers_spaced (codes "field") (p ∷ numbers_of tail)
@@ -189,6 +197,8 @@ module _ (spelled : AreSpelled) where
       (spaced name (codes "=") (over_text over ∷ number ∷ []) mark
       (spaced (codes "=") (over_text over) (number ∷ []) base
       (spaced (over_text over) number [] number refl)))
+  parts_joined Constants = refl
+  parts_joined Genus = refl
 
   pub text_spells : (s : Statement) → IsWritable s → SpellsLine s (statement_text s)
   text_spells s h = record {

@@ -12,7 +12,7 @@ use Rattle.ff_text.proofs.Digits.{number_small}
 use Rattle.ff_script.specs.declared.script.Over.{Over}
 use Rattle.ff_script.specs.declared.script.Over.TheVariants.{At, Inf}
 use Rattle.ff_script.specs.declared.script.Statement.{Statement}
-use Rattle.ff_script.specs.declared.script.Statement.TheVariants.{FieldOf, CurveOf, Mul, OrderOf, Places, Place}
+use Rattle.ff_script.specs.declared.script.Statement.TheVariants.{FieldOf, CurveOf, Mul, OrderOf, Places, Place, Constants, Genus}
 use Rattle.ff_script.specs.declared.script.Statement.TheVariants as statements
 use Rattle.ff_script.specs.Grammar.{AreNumbers, numbers_of, SpellsOver, ArePartsOf, SpellsLine}
 use Rattle.ff_script.specs.Printing.{IsShort, IsWritableOver, IsWritable}
@@ -101,6 +101,8 @@ parts_writable (statements.Factor g) parts h = terms_writable false g h.0 h.2
 parts_writable (OrderOf side) parts h = tt
 parts_writable (Places over) parts h = over_writable over h.0 h.2
 parts_writable (Place name over index) parts h = (h.4.0, over_writable over h.1 h.5, number_small index h.2 h.6)
+parts_writable Constants parts h = tt
+parts_writable Genus parts h = tt
 
 -- a statement that a line spells can be written
 pub line_writable : (s : Statement) (line : List ℕ) → SpellsLine s line → IsWritable s

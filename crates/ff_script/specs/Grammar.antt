@@ -9,7 +9,7 @@ use Rattle.ff_script.specs.declared.script.Modulus.{Modulus}
 use Rattle.ff_script.specs.declared.script.Over.{Over}
 use Rattle.ff_script.specs.declared.script.Over.TheVariants.{At, Inf}
 use Rattle.ff_script.specs.declared.script.Statement.{Statement}
-use Rattle.ff_script.specs.declared.script.Statement.TheVariants.{FieldOf, CurveOf, Mul, Factor, OrderOf, Places, Place}
+use Rattle.ff_script.specs.declared.script.Statement.TheVariants.{FieldOf, CurveOf, Mul, Factor, OrderOf, Places, Place, Constants, Genus}
 
 -- ---- parts with gaps between them
 
@@ -83,8 +83,8 @@ pub record IsName (name : List ℕ) : Type 0 where
 abbrev pub SpellsName : List ℕ → List ℕ → Type 0
 SpellsName name bytes = IsName name × (bytes ≡ name)
 
--- the parts that spell a statement: its word, and then its numbers, its polynomial, its elements, its side or its base,
--- or a name, `=`, a base and a number; y stands in the polynomial of `curve` alone
+-- the parts that spell a statement: its word alone, or its word and then its numbers, its polynomial, its elements, its
+-- side or its base, or a name, `=`, a base and a number; y stands in the polynomial of `curve` alone
 abbrev pub ArePartsOf : Statement → List (List ℕ) → Type 0
 ArePartsOf (FieldOf p tail) parts = (numbers : List (List ℕ)) × (parts ≡ codes "field" ∷ numbers)
     × AreNumbers (p ∷ numbers_of tail) numbers × IsWhole tail
@@ -99,6 +99,8 @@ ArePartsOf (Places over) parts = (base : List ℕ) × (parts ≡ codes "places" 
 ArePartsOf (Place name over index) parts = (word : List ℕ) × (base : List ℕ) × (number : List ℕ)
     × (parts ≡ codes "place" ∷ word ∷ codes "=" ∷ base ∷ number ∷ [])
     × SpellsName name word × SpellsOver over base × SpellsNumber index number
+ArePartsOf Constants parts = parts ≡ codes "constants" ∷ []
+ArePartsOf Genus parts = parts ≡ codes "genus" ∷ []
 
 -- a statement
 pub record SpellsStatement (s : Statement) (bytes : List ℕ) : Type 0 where

@@ -8,7 +8,7 @@ use Rattle.ff_script.specs.declared.script.Modulus.{Modulus}
 use Rattle.ff_script.specs.declared.script.Over.{Over}
 use Rattle.ff_script.specs.declared.script.Over.TheVariants.{At, Inf}
 use Rattle.ff_script.specs.declared.script.Statement.{Statement}
-use Rattle.ff_script.specs.declared.script.Statement.TheVariants.{FieldOf, CurveOf, Mul, Factor, OrderOf, Places, Place}
+use Rattle.ff_script.specs.declared.script.Statement.TheVariants.{FieldOf, CurveOf, Mul, Factor, OrderOf, Places, Place, Constants, Genus}
 use Rattle.ff_script.specs.Grammar.{numbers_of, IsWhole, IsName}
 
 -- the numbers, each behind a space
@@ -40,6 +40,8 @@ statement_text (Factor g) = codes "factor " ++ terms_text g
 statement_text (OrderOf side) = codes "order " ++ side_text side
 statement_text (Places over) = codes "places " ++ over_text over
 statement_text (Place name over index) = codes "place " ++ place_text name over index
+statement_text Constants = codes "constants"
+statement_text Genus = codes "genus"
 
 -- each statement on a line that a line feed ends
 abbrev pub script_text : List Statement → List ℕ
@@ -64,3 +66,5 @@ IsWritable (Factor g) = IsWritableTerms false g
 IsWritable (OrderOf side) = Unit {0}
 IsWritable (Places over) = IsWritableOver over
 IsWritable (Place name over index) = IsName name × IsWritableOver over × IsShort index
+IsWritable Constants = Unit {0}
+IsWritable Genus = Unit {0}

@@ -9,7 +9,7 @@ use Rattle.ff_script.specs.declared.fault.ScriptFault.TheVariants.{Syntax, Mispl
 use Rattle.ff_script.specs.declared.script.Modulus.{Modulus}
 use Rattle.ff_script.specs.declared.script.Over.{Over}
 use Rattle.ff_script.specs.declared.script.Statement.{Statement}
-use Rattle.ff_script.specs.declared.script.Statement.TheVariants.{FieldOf, CurveOf, Mul, Factor, OrderOf, Places, Place}
+use Rattle.ff_script.specs.declared.script.Statement.TheVariants.{FieldOf, CurveOf, Mul, Factor, OrderOf, Places, Place, Constants, Genus}
 use Rattle.ff_script.specs.Grammar.{begins_with_word, ends_with_word, numbers_of, IsWhole, SpellsSide, SpellsOver, SpellsName, IsInGrammar}
 use Rattle.ff_script.specs.Scripts.{IsReadAs, IsInOrder, IsOutOfOrder}
 
@@ -99,6 +99,8 @@ IsBehind word (OrderOf side) bytes = (word ≡ codes "order") × IsSideAt side b
 IsBehind word (Places over) bytes = (word ≡ codes "places") × IsOverAt over bytes
 IsBehind word (Place name over index) bytes = (word ≡ codes "place")
     × ((rest : List ℕ) × IsNameFront name bytes rest × IsPlaceAt over index rest)
+IsBehind word Constants bytes = (word ≡ codes "constants") × (bytes ≡ [])
+IsBehind word Genus bytes = (word ≡ codes "genus") × (bytes ≡ [])
 
 -- ---- while a script is read
 

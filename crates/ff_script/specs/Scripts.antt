@@ -5,7 +5,7 @@ use Rattle.std.specs.Global.{Vec}
 use Rattle.ff_script.specs.declared.fault.ScriptFault.{ScriptFault}
 use Rattle.ff_script.specs.declared.fault.ScriptFault.TheVariants.{Syntax, Misplaced, Memory}
 use Rattle.ff_script.specs.declared.script.Statement.{Statement}
-use Rattle.ff_script.specs.declared.script.Statement.TheVariants.{FieldOf, CurveOf, Mul, Factor, OrderOf, Places, Place}
+use Rattle.ff_script.specs.declared.script.Statement.TheVariants.{FieldOf, CurveOf, Mul, Factor, OrderOf, Places, Place, Constants, Genus}
 use Rattle.ff_script.specs.Grammar.{SpellsLine, IsSkipped, IsInGrammar}
 
 -- an empty last piece is no line
@@ -34,6 +34,8 @@ MayFollow k (Factor g) = 2 ≤ k
 MayFollow k (OrderOf side) = 2 ≤ k
 MayFollow k (Places over) = 2 ≤ k
 MayFollow k (Place name over index) = 2 ≤ k
+MayFollow k Constants = 2 ≤ k
+MayFollow k Genus = 2 ≤ k
 
 -- each statement may stand behind those before it, and behind k others
 abbrev pub AreInOrderFrom : ℕ → List Statement → Type 0

@@ -111,5 +111,7 @@ pub fn push_statement(out: &mut Vec<u8>, s: &Statement) -> Result<(), AllocError
             out.extend_from_slice(b"place ")?;
             push_place(out, name, over, *index)
         }
+        Statement::Constants => out.extend_from_slice(b"constants"),
+        Statement::Genus => out.extend_from_slice(b"genus"),
     }
 }

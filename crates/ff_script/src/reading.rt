@@ -426,6 +426,26 @@ fn place(alloc: Global, bytes: &[u8]) -> Result<Option<Statement>, AllocError>
     }
 }
 
+/// The statement `constants`, of what stands behind its word.
+fn constants(bytes: &[u8]) -> Option<Statement>
+    ensures { IsReading (IsBehind (codes "constants")) bytes.now result }
+{
+    if bytes.is_empty() {
+        return Some(Statement::Constants);
+    }
+    None
+}
+
+/// The statement `genus`, of what stands behind its word.
+fn genus(bytes: &[u8]) -> Option<Statement>
+    ensures { IsReading (IsBehind (codes "genus")) bytes.now result }
+{
+    if bytes.is_empty() {
+        return Some(Statement::Genus);
+    }
+    None
+}
+
 /// The statement that a line spells, given without its line feed. Linear in the bytes.
 ///
 /// A line that a script skips spells none.
@@ -452,8 +472,14 @@ pub fn read_statement(alloc: Global, line: &[u8]) -> Result<Option<Statement>, A
     if let Some(rest) = behind_word(bytes, b"place") {
         return place(alloc, rest);
     }
-    match behind_word(bytes, b"order") {
-        Some(rest) => Ok(order(rest)),
+    if let Some(rest) = behind_word(bytes, b"order") {
+        return Ok(order(rest));
+    }
+    if let Some(rest) = behind_word(bytes, b"constants") {
+        return Ok(constants(rest));
+    }
+    match behind_word(bytes, b"genus") {
+        Some(rest) => Ok(genus(rest)),
         None => Ok(None),
     }
 }

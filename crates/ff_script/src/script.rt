@@ -66,6 +66,10 @@ pub enum Statement {
     Places { over: Over },
     /// `place P = p i` or `place P = inf i`
     Place { name: Name, over: Over, index: u32 },
+    /// `constants`: the constants of the curve's function field.
+    Constants,
+    /// `genus`: its genus.
+    Genus,
 }
 
 impl CodeList {
@@ -154,6 +158,8 @@ impl Statement {
                 let index = *index;
                 Ok(Statement::Place { name, over, index })
             }
+            Statement::Constants => Ok(Statement::Constants),
+            Statement::Genus => Ok(Statement::Genus),
         }
     }
 }

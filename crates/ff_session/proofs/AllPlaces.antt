@@ -41,7 +41,7 @@ use Rattle.ff_session.specs.Places.{ArePrimesOver, AreLinesOf}
 
 -- ---- what a small degree says
 
-short_lists : (n : ℕ) (ps : List (List ℕ)) → greatest_degree ps ≤ n → All (λ p. length p ≤ n + 1) ps
+pub short_lists : (n : ℕ) (ps : List (List ℕ)) → greatest_degree ps ≤ n → All (λ p. length p ≤ n + 1) ps
 short_lists n [] h = All-nil (λ p. length p ≤ n + 1)
 short_lists n (p ∷ ps) h =
     let here = le-max_left (length p - 1) (greatest_degree ps) in

@@ -1,6 +1,8 @@
 pub mod NameMaps
 pub mod FactorRows
 pub mod OrderAnswers
+pub mod FieldAnswers
+pub mod ReducibleCurves
 pub mod Products
 pub mod Truths
 pub mod AllPlaces

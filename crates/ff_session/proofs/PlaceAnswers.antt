@@ -67,6 +67,17 @@ module _ (k : CodeField) (c : CurveValue) (s : Side) (p : List ℕ) where
   }
   primes_answer o h (Err e) primes sides order numbers = primes
 
+  -- the primes of an order and a curve that are equal to these
+  pub primes_of_equals : (o : LatticeValue) → IsIntegralLattice k c s o → (d : CurveValue) → d ≡ c → (m : LatticeValue)
+      → m ≡ o → (r : Result (Vec PrimeValue) AllocError) → IfOk r (λ v. AreAllPrimes k (presentation d s) m p v.items)
+      → IfOk r (λ v. All (λ P. P.side ≡ s) v.items) → IfOk r (λ v. AreInOrder k d s v.items)
+      → IfOk r (λ v. NumberedFrom 1 v.items) → IfOk r (λ v. ArePrimesOver k c s p v.items)
+  primes_of_equals o h d d_is m m_is r primes sides order numbers =
+      primes_answer o h r
+      (subst (λ (l : LatticeValue). IfOk r (λ v. AreAllPrimes k (presentation c s) l p v.items)) m_is
+      (subst (λ (t : CurveValue). IfOk r (λ v. AreAllPrimes k (presentation t s) m p v.items)) d_is primes)) sides
+      (subst (λ (t : CurveValue). IfOk r (λ v. AreInOrder k t s v.items)) d_is order) numbers
+
   module _ (Ps : List PrimeValue) (h : ArePrimesOver k c s p Ps) where
     -- the primes have lattices of their side
     pub primes_form : All (λ (P : PrimeValue). IsLatticeValue k.ops (presentation c P.side).n P.rows) Ps
@@ -91,4 +102,9 @@ module _ (k : CodeField) (c : CurveValue) (s : Side) (p : List ℕ) where
         → places_row.degree Ls ≤ n → AreListedPlaces k c s p Ps Ls
     listed_answer curve p_in irreducible at_t Ls z n small low =
         let lines = zip_sides Ps Ls h.sides z in
-        record { primes = h; lines = lines; all = all_places k c curve s p p_in irreducible at_t Ps Ls h lines n small low }
+        record {
+          primes = h;
+          lines = lines;
+          all = all_places k c curve s p p_in irreducible at_t Ps Ls h lines n small
+              low;
+        }

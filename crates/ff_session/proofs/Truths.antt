@@ -12,9 +12,13 @@ use Rattle.ff_fields.proofs.FieldData.{same_ops, data_is, same_field, laws_are}
 use Rattle.ff_fields.specs.Code.{Code, code_domain, same_code}
 use Rattle.ff_fields.specs.Modulus.{IsFieldModulus, IsFaultOf}
 use Rattle.function_field.specs.declared.side.Side.{Side}
-use Rattle.function_field.specs.Curves.{CurveValue, IsCurve}
+use Rattle.function_field.specs.Curves.{CurveValue}
+use Rattle.function_field.specs.Values.{Functions, functions}
+use Rattle.ring_lemmas.specs.Ring.{IsField}
+use Rattle.constants_theory.specs.Idempotents.{IsProperIdempotent}
 use Rattle.value_theory.specs.Primes.{PrimeValue}
-use Rattle.ff_algebra.specs.CurveTerms.{IsCurveFault}
+use Rattle.ff_algebra.specs.CurveTerms.{IsCurveOf, IsCurveFault}
+use Rattle.ff_algebra.proofs.OneInfinite.{one_curve}
 use Rattle.ff_algebra.proofs.CurveFaults.{no_fault}
 use Rattle.ff_text.specs.Values.{written_codes}
 use Rattle.ff_text.specs.Printed.{WrittenValue}
@@ -23,11 +27,11 @@ use Rattle.ff_text.specs.declared.terms.ElemText.{ElemText}
 use Rattle.ff_script.specs.declared.script.Modulus.{Modulus}
 use Rattle.ff_script.specs.declared.script.Over.{Over}
 use Rattle.ff_script.specs.declared.script.Statement.{Statement}
-use Rattle.ff_script.specs.declared.script.Statement.TheVariants.{FieldOf, CurveOf, Mul, Factor, OrderOf, Places, Place}
+use Rattle.ff_script.specs.declared.script.Statement.TheVariants.{FieldOf, CurveOf, Mul, Factor, OrderOf, Places, Place, Constants, Genus}
 use Rattle.ff_meaning.specs.declared.refusal.Refusal.{Refusal}
 use Rattle.ff_meaning.specs.FieldLines.{Names}
 use Rattle.function_field.specs.Limits.{max_degree, max_degree_of_places}
-use Rattle.ff_meaning.specs.Refusals.{UnlessMemory, IsFieldLineFault, IsFieldRow, IsNoCurve, range, fault, IsProductRow, IsFactorRow, IsBaseRow, IsPlaceRow, IsRefusalRow}
+use Rattle.ff_meaning.specs.Refusals.{UnlessMemory, IsFieldLineFault, IsFieldRow, IsNoCurve, range, fault, reducible, IsProductRow, IsFactorRow, IsBaseRow, IsPlaceRow, IsRefusalRow}
 use Rattle.ff_meaning.specs.Bindings.{Bindings, Bound, NamedPlace, nothing, with_field, with_places}
 use Rattle.ff_meaning.proofs.TermCodes.{same_terms}
 use Rattle.ff_meaning.proofs.ElementValues.{none_found}
@@ -42,11 +46,16 @@ use Rattle.ff_cert.specs.RowMul as mul_row
 use Rattle.ff_cert.specs.RowFactor as factor_row
 use Rattle.ff_cert.specs.RowOrder as order_row
 use Rattle.ff_cert.specs.RowPlaces as places_row
+use Rattle.ff_cert.specs.RowConstants as constants_row
+use Rattle.ff_cert.specs.RowGenus as genus_row
 use Rattle.ff_cert.specs.RowNamedPlace as named_place_row
 use Rattle.ff_cert.specs.declared.answer.PlaceLines.{PlaceLines}
+use Rattle.ff_session.specs.declared.curves.FunctionField.{FunctionField}
 use Rattle.ff_session.specs.declared.bindings.Change.{Change}
+use Rattle.ff_session.specs.FunctionFields.{IsFunctionField}
 use Rattle.ff_session.specs.declared.bindings.Change.TheVariants as changes
 use Rattle.ff_session.specs.Bound.{bindings_after}
+use Rattle.ff_session.proofs.ReducibleCurves.{whole}
 use Rattle.ff_session.specs.Sessions.{IsStep}
 use Rattle.ff_session.specs.Steps.{HasAnswer, IsAnswered, IsBlock, IsFieldAnswer, IsCurveAnswer, IsProductRead, AreFactorsRead, ArePlacesRead, IsPlaceRead}
 
@@ -82,13 +91,20 @@ no_field_row p tail k r named h = none tail h.fault named h.holds
     none None e named h = h.0 named.0
     none (Some tail) e named h = no_fault_of tail.m tail.codes e named.0 h
 
-no_curve_row : (k : CodeField) (f : List Term) (c : CurveValue) (r : Refusal) → IsCurveOfTerms k f c → ¬ IsNoCurve k f r
-no_curve_row k f c r h (range found) = let none = none_found k.ops k.size (written_codes f) h.is_sum.written in absurd
+no_curve_row : (k : CodeField) (f : List Term) (c : CurveValue) (r : Refusal) → IsCurveOfTerms k f c
+    → IsField (functions k c.fin).ops → ¬ IsNoCurve k f r
+no_curve_row k f c r h field (range found) = let none = none_found k.ops k.size
+    (written_codes f) h.is_sum.written in absurd
     (let some = found.1 in cc)
-no_curve_row k f c r h (fault sum is e some holds told) =
+no_curve_row k f c r h field (fault sum is e some holds told) =
     let same : sum ≡ h.sum = same_terms k sum h.sum is.terms h.is_sum.terms is.codes_in h.is_sum.codes_in
     (λ i j. is.codes i j ∙ sym (h.is_sum.codes i j)) in
     no_fault k h.sum e c some (subst (λ s. IsCurveFault k s e) same holds) h.is_curve
+no_curve_row k f c r h field (reducible sum is d d_is z first told) =
+    let same : sum ≡ h.sum = same_terms k sum h.sum is.terms h.is_sum.terms is.codes_in h.is_sum.codes_in
+    (λ i j. is.codes i j ∙ sym (h.is_sum.codes i j)) in
+    let curves : d ≡ c = one_curve k h.sum d c (subst (λ s. IsCurveOf k s d) same d_is) h.is_curve in
+    whole k d.fin (subst (λ (x : CurveValue). IsField (functions k x.fin).ops) (sym curves) field) first.e first.proper
 
 -- ---- fields and curves
 
@@ -120,11 +136,12 @@ pub field_refused : (s : Statement) (p : ℕ) (tail : Option Modulus) (r : Refus
     → UnlessMemory (IsFieldRow p tail) r → UnlessMemory (IsRefusalRow nothing s) r
 field_refused s p tail r s_is h some = subst (λ t. IsRefusalRow nothing t r) (sym s_is) (refl, h some)
 
-pub curve_answer : (s : Statement) (f : List Term) (a : Answer) (k : AnyField) (c : CurveValue) → s ≡ CurveOf f
-    → IsCurveAnswer (field_of k) f a c → IsAnswered (with_field (data_of k)) s a (changes.Curve c)
-curve_answer s f a k c s_is h =
-    subst (λ t. IsAnswered (with_field (data_of k)) t a (changes.Curve c)) (sym s_is)
-    (subst (λ b. IsAnswered (with_field (data_of k)) (CurveOf f) b (changes.Curve c)) (sym h.is) (record {
+pub curve_answer : (s : Statement) (f : List Term) (a : Answer) (k : AnyField) (F : FunctionField) → s ≡ CurveOf f
+    → IsCurveAnswer (field_of k) f a F → IsAnswered (with_field (data_of k)) s a (changes.Curve F)
+curve_answer s f a k F s_is h =
+    let c = F.frame.curve in
+    subst (λ t. IsAnswered (with_field (data_of k)) t a (changes.Curve F)) (sym s_is)
+    (subst (λ b. IsAnswered (with_field (data_of k)) (CurveOf f) b (changes.Curve F)) (sym h.is) (record {
       answer = record {
         is_true = (
           c.fin.n,
@@ -136,16 +153,18 @@ curve_answer s f a k c s_is h =
               is_field = data_is k;
               curve = c;
               is_curve = subst (λ (l : CodeField). IsCurveOfTerms l f c) (sym (same_field k)) h.curve;
+              whole = subst (λ (l : CodeField). (e : Functions l c.fin) → ¬ IsProperIdempotent l c.fin e)
+                  (sym (same_field k)) (whole (field_of k) c.fin h.over.field);
               degree = refl;
               number = refl;
               bound = refl;
             },
           ),
         );
-        not_refused = λ r found. no_curve_row (field_of k) f c r h.curve
+        not_refused = λ r found. no_curve_row (field_of k) f c r h.curve h.over.field
             (subst (λ (l : CodeField). IsNoCurve l f r) (laws_are k found.0) found.1);
       };
-      change = (refl, λ is. subst (λ (l : CodeField). IsCurve l c) (sym (laws_are k is)) h.curve.is_curve.curve);
+      change = (refl, λ is. subst (λ (l : CodeField). IsFunctionField l F) (sym (laws_are k is)) h.over);
     }))
 
 pub curve_refused : (s : Statement) (f : List Term) (k : AnyField) (r : Refusal) → s ≡ CurveOf f
@@ -207,6 +226,34 @@ module _ (k : AnyField) (c : CurveValue) (Ps : List NamedPlace) (s : Statement) 
       zs,
       refl,
       (data_is k, subst (λ (l : CodeField). order_row.IsTrue l c side zs) (sym (same_field k)) h, refl),
+    );
+    not_refused = λ r found. found;
+  })
+
+  pub constants_true : (dimension : ℕ) (zs : List WrittenValue) → s ≡ Constants
+      → constants_row.IsTrue (field_of k) c.fin dimension zs
+      → IsAnswered here s (answers.Constants dimension zs) changes.Nothing
+  constants_true dimension zs s_is h = answered Constants (answers.Constants dimension zs) s_is (record {
+    is_true = (
+      dimension,
+      zs,
+      refl,
+      (
+        data_is k,
+        subst (λ (l : CodeField). constants_row.IsTrue l c.fin dimension zs) (sym (same_field k)) h,
+        refl,
+      ),
+    );
+    not_refused = λ r found. found;
+  })
+
+  pub genus_true : (genus : ℕ) → s ≡ Genus → genus_row.IsTrue (field_of k) c.fin genus
+      → IsAnswered here s (answers.Genus genus) changes.Nothing
+  genus_true genus s_is h = answered Genus (answers.Genus genus) s_is (record {
+    is_true = (
+      genus,
+      refl,
+      (data_is k, subst (λ (l : CodeField). genus_row.IsTrue l c.fin genus) (sym (same_field k)) h, refl),
     );
     not_refused = λ r found. found;
   })

@@ -1,4 +1,5 @@
 pub mod Names
+pub mod FunctionFields
 pub mod Bound
 pub mod Sessions
 pub mod Places

@@ -14,6 +14,8 @@ use Rattle.ff_script.specs.declared.script.Modulus.{Modulus}
 use Rattle.ff_script.specs.declared.script.Over.{Over}
 use Rattle.ff_script.specs.declared.script.Statement.{Statement}
 use Rattle.ff_meaning.specs.declared.refusal.Refusal.{Refusal}
+use Rattle.ff_meaning.specs.declared.refusal.Refusal.TheVariants.{Reducible}
+use Rattle.ff_meaning.specs.FirstIdempotents.{IsFirstIdempotent}
 use Rattle.ff_meaning.specs.FieldLines.{Names}
 use Rattle.function_field.specs.Limits.{max_degree, max_degree_of_places, max_answer_degree, max_output}
 use Rattle.ff_meaning.specs.Refusals.{HasNoRow, IsProductRow, IsFactorRow, IsBaseRow, IsPlaceRow}
@@ -30,6 +32,8 @@ use Rattle.ff_cert.specs.RowFactor as factor_row
 use Rattle.ff_cert.specs.RowPlaces as places_row
 use Rattle.ff_cert.specs.RowNamedPlace.{IsPlaceOfLines}
 use Rattle.ff_session.specs.declared.bindings.Change.{Change}
+use Rattle.ff_session.specs.declared.curves.FunctionField.{FunctionField}
+use Rattle.ff_session.specs.FunctionFields.{IsFunctionField}
 use Rattle.ff_session.specs.Bound.{bindings_after, MayTake}
 
 -- the answer to the statement is true, and none of its rows holds
@@ -53,10 +57,17 @@ pub record IsFieldAnswer (p : ℕ) (tail : Option Modulus) (answer : Answer) (k 
   pub named : Names p tail (field_of k).ops
   pub is : answer ≡ FieldOf (field_of k).ops.size
 
--- the curve is that of the terms, and its numbers are the answer
-pub record IsCurveAnswer (k : CodeField) (f : List Term) (answer : Answer) (c : CurveValue) : Type 0 where
-  pub curve : IsCurveOfTerms k f c
-  pub is : answer ≡ CurveOf c.fin.n c.c
+-- the curve is that of the terms, its functions are a field, and its numbers are the answer
+pub record IsCurveAnswer (k : CodeField) (f : List Term) (answer : Answer) (F : FunctionField) : Type 0 where
+  pub curve : IsCurveOfTerms k f F.frame.curve
+  pub over : IsFunctionField k F
+  pub is : answer ≡ CurveOf F.frame.curve.fin.n F.frame.curve.c
+
+-- the first idempotent other than 0 and 1 is told
+pub record IsReducibleRow (k : CodeField) (p : PresValue) (r : Refusal) : Type 0 where
+  pub first : WrittenValue
+  pub is_first : IsFirstIdempotent k p first
+  pub is : r ≡ Reducible first
 
 -- z is the product, and no row of the statement holds
 pub record IsProductRead (k : CodeField) (f : PresValue) (a b : ElemText) (z : WrittenValue) : Type 0 where

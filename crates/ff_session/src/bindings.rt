@@ -3,14 +3,16 @@
 ghost use Rattle.std.specs.Prelude.{◌≡◌, IfOk, IfErr, OnOk, OnErr};
 ghost use Rattle.ff_fields.specs.Fields.{field_of};
 ghost use Rattle.ff_fields.specs.FieldData.{data_of};
-ghost use Rattle.function_field.specs.Curves.{IsCurve};
 ghost use Rattle.ff_script.specs.Printing.{IsWritable};
 ghost use Rattle.ff_meaning.specs.Bindings.{nothing, with_field, with_places, IsInPlace, HasSmallPowers};
 ghost use Rattle.ff_meaning.specs.Refusals.{UnlessMemory, IsRefusalRow};
 ghost use Rattle.ff_session.specs.Bound.{bindings_after, MayTake};
+ghost use Rattle.ff_session.specs.FunctionFields.{IsFunctionField};
 ghost use Rattle.ff_session.specs.Steps.{IsAnswered};
 
+use crate::curves::FunctionField;
 use crate::names::Names;
+use crate::statements::constants::written_constants;
 use crate::statements::curve::answer_curve;
 use crate::statements::factor::factors_of;
 use crate::statements::field::answer_field;
@@ -18,19 +20,19 @@ use crate::statements::mul::product;
 use crate::statements::order::integral_rows;
 use crate::statements::place::named_place;
 use crate::statements::places::all_places;
-use ff_algebra::curve::Curve;
 use ff_cert::Answer;
 use ff_fields::fields::Field;
 use ff_ideal::Prime;
 use ff_meaning::Refusal;
+use ff_rr::genus;
 use ff_script::{Name, Statement};
 use std::alloc::{AllocError, Global};
 use std::marker::Model;
 
-/// What stands over the field: a curve, and the names of its places.
+/// What stands over the field: a curve with its function field, and the names of its places.
 #[derive(Drop)]
 pub(crate) struct Bound {
-    curve: Curve,
+    over: FunctionField,
     names: Names,
 }
 
@@ -39,9 +41,9 @@ impl Bound {
     fn copy(&self, alloc: Global) -> Result<Bound, AllocError>
         ensures { IfOk result (λ b. b ≡ self.now) }
     {
-        let curve = self.curve.copy(alloc)?;
+        let over = self.over.copy(alloc)?;
         let names = self.names.copy(alloc)?;
-        Ok(Bound { curve, names })
+        Ok(Bound { over, names })
     }
 }
 
@@ -50,7 +52,7 @@ impl Bound {
 pub(crate) enum Change {
     Nothing,
     Field { k: Field },
-    Curve { curve: Curve },
+    Curve { over: FunctionField },
     Place { name: Name, place: Prime },
 }
 
@@ -121,9 +123,9 @@ impl Bindings {
         match change {
             Change::Nothing => {}
             Change::Field { k } => self.field = Some(k),
-            Change::Curve { curve } => {
+            Change::Curve { over } => {
                 let names = Names::new(alloc);
-                self.bound = Some(Bound { curve, names });
+                self.bound = Some(Bound { over, names });
             }
             Change::Place { name, place } => match &mut self.bound {
                 Some(b) => b.names.bind(name, place)?,
@@ -175,8 +177,8 @@ fn answer_on_field(alloc: Global, k: &Field, s: &Statement) -> Result<(Answer, C
     let Statement::CurveOf { f } = s else {
         unreachable!()
     };
-    let (answer, curve) = answer_curve(alloc, k, f)?;
-    Ok((answer, Change::Curve { curve }))
+    let (answer, over) = answer_curve(alloc, k, f)?;
+    Ok((answer, Change::Curve { over }))
 }
 
 /// The true answer to a statement over the curve, and what it binds, or the row that refuses it.
@@ -186,18 +188,18 @@ fn answer_on_curve(
     b: &Bound,
     s: &Statement,
 ) -> Result<(Answer, Change), Refusal>
-    requires sound { IsCurve (field_of k.now) b.now.curve }
-    requires in_place { IsInPlace (with_places (data_of k.now) b.now.curve b.now.names) s.now }
+    requires sound { IsFunctionField (field_of k.now) b.now.over }
+    requires in_place { IsInPlace (with_places (data_of k.now) b.now.over.frame.curve b.now.names) s.now }
     requires spelled { IsWritable s.now }
     requires powers { HasSmallPowers s.now }
-    ensures answer { let old = with_places (data_of k.now) b.now.curve b.now.names in
+    ensures answer { let old = with_places (data_of k.now) b.now.over.frame.curve b.now.names in
         IfOk result (λ r. IsAnswered old s.now r.0 r.1) }
-    ensures refused { let old = with_places (data_of k.now) b.now.curve b.now.names in
+    ensures refused { let old = with_places (data_of k.now) b.now.over.frame.curve b.now.names in
         IfErr result (UnlessMemory (IsRefusalRow old s.now)) }
 {
     match s {
         Statement::Mul { a, b: other } => {
-            let element = product(alloc, k, b.curve.fin(), a, other)?;
+            let element = product(alloc, k, b.over.frame.curve().fin(), a, other)?;
             Ok((Answer::Mul { element }, Change::Nothing))
         }
         Statement::Factor { g } => {
@@ -205,20 +207,33 @@ fn answer_on_curve(
             Ok((Answer::Factor { unit, parts }, Change::Nothing))
         }
         Statement::OrderOf { side } => {
-            let rows = integral_rows(alloc, k, &b.curve, *side)?;
+            let rows = integral_rows(alloc, k, &b.over.frame, *side)?;
             Ok((Answer::OrderOf { rows }, Change::Nothing))
         }
         Statement::Places { over } => {
-            let (count, places) = all_places(alloc, k, &b.curve, over)?;
+            let (count, places) = all_places(alloc, k, &b.over.frame, over)?;
             Ok((Answer::Places { count, places }, Change::Nothing))
         }
         Statement::Place { name, over, index } => {
-            let (place, prime) = named_place(alloc, k, &b.curve, &b.names, name, over, *index)?;
+            let frame = &b.over.frame;
+            let (place, prime) = named_place(alloc, k, frame, &b.names, name, over, *index)?;
             let name = name.copy(alloc)?;
             Ok((
                 Answer::Place { place },
                 Change::Place { name, place: prime },
             ))
+        }
+        Statement::Constants => {
+            let (dimension, functions) = written_constants(alloc, &b.over.constants)?;
+            let answer = Answer::Constants {
+                dimension,
+                functions,
+            };
+            Ok((answer, Change::Nothing))
+        }
+        Statement::Genus => {
+            let genus = u64::from(genus(k, &b.over.frame, &b.over.constants));
+            Ok((Answer::Genus { genus }, Change::Nothing))
         }
         _ => unreachable!(),
     }

@@ -2,6 +2,7 @@
 #![tactic(auto)]
 
 mod bindings;
+mod curves;
 mod names;
 pub mod session;
 mod statements;

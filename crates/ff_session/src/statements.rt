@@ -1,5 +1,6 @@
 //! The answers, a file a statement.
 
+pub mod constants;
 pub mod curve;
 pub mod factor;
 pub mod field;

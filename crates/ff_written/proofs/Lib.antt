@@ -3,3 +3,4 @@ pub mod OneWritten
 pub mod WrittenRows
 pub mod TextOrder
 pub mod TextCases
+pub mod OrderedLists

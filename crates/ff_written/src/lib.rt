@@ -8,7 +8,9 @@
 
 pub mod laws;
 pub mod rows;
+pub mod texts;
 pub mod written;
 
 pub use rows::{RowList, written_rows};
-pub use written::{in_lowest_terms, in_lowest_terms_by};
+pub use texts::is_before_text;
+pub use written::{as_written, copy_elements, in_lowest_terms, in_lowest_terms_by};

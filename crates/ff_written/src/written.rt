@@ -5,7 +5,7 @@ ghost use Rattle.function_field.specs.Values.{IsElem, IsMonicElem, function_of};
 ghost use Rattle.function_field.specs.Infinity.{function_on};
 ghost use Rattle.function_field.specs.Curves.{IsCurve};
 ghost use Rattle.ff_factor.specs.LowestTerms.{AreIrreducible, HasFactorsOf};
-ghost use Rattle.ff_written.specs.LowestTerms.{IsWritten};
+ghost use Rattle.ff_written.specs.LowestTerms.{IsWritten, elem_of};
 
 use ff_algebra::Side;
 use ff_algebra::curve::Curve;
@@ -26,6 +26,26 @@ fn copies(alloc: Global, polys: &[Poly]) -> Result<Vec<Poly>, AllocError>
         copies.push(p.copy(alloc)?)?;
     }
     Ok(copies)
+}
+
+/// Equal elements, in memory of their own.
+pub fn copy_elements(alloc: Global, elements: &[Elem]) -> Result<Vec<Elem>, AllocError>
+    ensures { IfOk result (λ zs. zs.items ≡ elements.now) }
+{
+    let mut copies = Vec::new(alloc);
+    for z in elements {
+        copies.push(z.copy(alloc)?)?;
+    }
+    Ok(copies)
+}
+
+/// The element as it stands, to be printed.
+pub fn as_written(alloc: Global, z: &Elem) -> Result<Written, AllocError>
+    ensures { IfOk result (λ w. elem_of w ≡ z.now) }
+{
+    let num = copies(alloc, z.num())?;
+    let den = z.den().copy(alloc)?;
+    Ok(Written::new(num, den))
 }
 
 /// The function of the element, written in lowest terms, where each irreducible monic divisor of the denominator is

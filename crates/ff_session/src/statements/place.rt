@@ -1,22 +1,22 @@
 //! The statement `place`.
 
 ghost use Rattle.std.specs.Prelude.{◌≡◌, ◌≤◌, ◌-◌, length, get_or, IfOk, IfErr, OnOk};
-ghost use Rattle.function_field.specs.Curves.{IsCurve};
 ghost use Rattle.ff_script.specs.Printing.{IsWritableOver};
 ghost use Rattle.ff_meaning.specs.Bindings.{HasSmallOver};
 ghost use Rattle.ff_meaning.specs.Refusals.{UnlessMemory, IsPlaceRow};
 ghost use Rattle.value_theory.specs.Primes.{PrimeValue};
 ghost use Rattle.ff_cert.specs.declared.answer.PlaceLines.{PlaceLines};
+ghost use Rattle.ff_rr.specs.Frames.{IsFrame};
 ghost use Rattle.ff_session.specs.Places.{IsNoNumber};
 ghost use Rattle.ff_session.specs.Steps.{IsPlaceRead};
 
 use crate::names::Names;
 use crate::statements::places::listed_places;
-use ff_algebra::curve::Curve;
 use ff_cert::{PlaceLines, PlaceList};
 use ff_fields::field::SmallField;
 use ff_ideal::Prime;
 use ff_meaning::{Refusal, base_of};
+use ff_rr::Frame;
 use ff_script::{Name, Over};
 use std::alloc::Global;
 
@@ -52,28 +52,28 @@ fn chosen(primes: Vec<Prime>, list: PlaceList, index: u32) -> Result<(PlaceLines
 }
 
 /// The place with the number among all places over a polynomial, or over infinity, with its lines, or why there is
-/// none. It takes the time of `maximal_order` and of `places_above`, and the factors of the denominators of the rows.
+/// none. It takes the time of `places_above`, and the factors of the denominators of the rows.
 pub fn named_place<K: SmallField>(
     alloc: Global,
     k: &K,
-    curve: &Curve,
+    frame: &Frame,
     names: &Names,
     name: &Name,
     over: &Over,
     index: u32,
 ) -> Result<(PlaceLines, Prime), Refusal>
-    requires curve { IsCurve (K.field k.now) curve.now }
+    requires frame { IsFrame (K.field k.now) frame.now }
     requires writable { IsWritableOver over.now }
     requires powers { HasSmallOver over.now }
     ensures place { IfOk result (λ r.
-        IsPlaceRead (K.field k.now) curve.now names.now name.now over.now index r.0 r.1) }
+        IsPlaceRead (K.field k.now) frame.now.curve names.now name.now over.now index r.0 r.1) }
     ensures refused { IfErr result (UnlessMemory
-        (IsPlaceRow (K.field k.now) (record { curve = curve.now; places = names.now }) name.now over.now index)) }
+        (IsPlaceRow (K.field k.now) (record { curve = frame.now.curve; places = names.now }) name.now over.now index)) }
 {
     if names.contains(name) {
         return Err(Refusal::NameTaken(name.copy(alloc)?));
     }
-    let base = base_of(alloc, k, curve.fin().n(), over)?;
-    let (primes, list) = listed_places(alloc, k, curve, &base)?;
+    let base = base_of(alloc, k, frame.curve().fin().n(), over)?;
+    let (primes, list) = listed_places(alloc, k, frame, &base)?;
     chosen(primes, list, index)
 }

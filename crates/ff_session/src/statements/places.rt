@@ -13,6 +13,7 @@ ghost use Rattle.value_theory.specs.Primes.{PrimeValue};
 ghost use Rattle.ff_script.specs.Printing.{IsWritableOver};
 ghost use Rattle.ff_meaning.specs.Bindings.{HasSmallOver};
 ghost use Rattle.ff_meaning.specs.Refusals.{UnlessMemory, IsBaseRow};
+ghost use Rattle.ff_rr.specs.Frames.{IsFrame};
 ghost use Rattle.ff_session.specs.Places.{ArePrimesOver, AreLinesOf, AreListedPlaces};
 ghost use Rattle.ff_session.specs.Steps.{ArePlacesRead};
 
@@ -20,9 +21,9 @@ use ff_algebra::curve::Curve;
 use ff_cert::{PlaceLines, PlaceList, degree_of_places};
 use ff_fields::field::SmallField;
 use ff_ideal::Prime;
-use ff_maximal::maximal_order;
 use ff_meaning::{Base, Refusal, base_of};
 use ff_places::places_above;
+use ff_rr::Frame;
 use ff_script::Over;
 use ff_written::written_rows;
 use std::alloc::{AllocError, Global};
@@ -67,60 +68,61 @@ fn lines_of_each<K: SmallField>(
     Ok(PlaceList { places })
 }
 
-/// All places over a polynomial, or over infinity, as primes of the maximal order of their side. It takes the time of
-/// `maximal_order` and of `places_above`.
+/// All places over a polynomial, or over infinity, as primes of the order of their side. It takes the time of
+/// `places_above`.
 fn primes_over<K: SmallField>(
     alloc: Global,
     k: &K,
-    curve: &Curve,
+    frame: &Frame,
     base: &Base,
 ) -> Result<Vec<Prime>, AllocError>
-    requires curve { IsCurve (K.field k.now) curve.now }
+    requires frame { IsFrame (K.field k.now) frame.now }
     requires codes { IsOver (K.field k.now).ops base.now.p }
     requires irreducible { IsIrreducibleList (K.field k.now).ops base.now.p }
     requires infinite { base.now.side ≡ Infinite → base.now.p ≡ 0 ∷ 1 ∷ [] }
-    ensures { IfOk result (λ v. ArePrimesOver (K.field k.now) curve.now base.now.side base.now.p v.items) }
+    ensures { IfOk result (λ v. ArePrimesOver (K.field k.now) frame.now.curve base.now.side base.now.p v.items) }
 {
-    let o = maximal_order(alloc, k, curve, base.side)?;
-    places_above(alloc, k, curve, base.side, &o, &base.p)
+    let o = frame.order(base.side);
+    places_above(alloc, k, frame.curve(), base.side, o, &base.p)
 }
 
 /// All places over a polynomial, or over infinity, with their lines.
 pub fn listed_places<K: SmallField>(
     alloc: Global,
     k: &K,
-    curve: &Curve,
+    frame: &Frame,
     base: &Base,
 ) -> Result<(Vec<Prime>, PlaceList), AllocError>
-    requires curve { IsCurve (K.field k.now) curve.now }
+    requires frame { IsFrame (K.field k.now) frame.now }
     requires codes { IsOver (K.field k.now).ops base.now.p }
     requires irreducible { IsIrreducibleList (K.field k.now).ops base.now.p }
     requires infinite { base.now.side ≡ Infinite → base.now.p ≡ 0 ∷ 1 ∷ [] }
-    ensures { IfOk result (λ r. AreListedPlaces (K.field k.now) curve.now base.now.side base.now.p r.0.items r.1) }
+    ensures { IfOk result (λ r.
+        AreListedPlaces (K.field k.now) frame.now.curve base.now.side base.now.p r.0.items r.1) }
 {
-    let primes = primes_over(alloc, k, curve, base)?;
-    let list = lines_of_each(alloc, k, curve, primes.as_slice())?;
+    let primes = primes_over(alloc, k, frame, base)?;
+    let list = lines_of_each(alloc, k, frame.curve(), primes.as_slice())?;
     let degree = degree_of_places(list.places.as_slice());
     prove!(degree <= usize::MAX);
     Ok((primes, list))
 }
 
 /// The number of all places over a polynomial, or over infinity, and their lines, or why there are none. It takes the
-/// time of `maximal_order` and of `places_above`, and the factors of the denominators of the rows.
+/// time of `places_above`, and the factors of the denominators of the rows.
 pub fn all_places<K: SmallField>(
     alloc: Global,
     k: &K,
-    curve: &Curve,
+    frame: &Frame,
     over: &Over,
 ) -> Result<(u64, PlaceList), Refusal>
-    requires curve { IsCurve (K.field k.now) curve.now }
+    requires frame { IsFrame (K.field k.now) frame.now }
     requires writable { IsWritableOver over.now }
     requires powers { HasSmallOver over.now }
-    ensures places { IfOk result (λ r. ArePlacesRead (K.field k.now) curve.now over.now r.0 r.1) }
+    ensures places { IfOk result (λ r. ArePlacesRead (K.field k.now) frame.now.curve over.now r.0 r.1) }
     ensures refused { IfErr result (UnlessMemory
-        (IsBaseRow (K.field k.now).ops curve.now.fin.n max_degree_of_places over.now)) }
+        (IsBaseRow (K.field k.now).ops frame.now.curve.fin.n max_degree_of_places over.now)) }
 {
-    let base = base_of(alloc, k, curve.fin().n(), over)?;
-    let (_, list) = listed_places(alloc, k, curve, &base)?;
+    let base = base_of(alloc, k, frame.curve().fin().n(), over)?;
+    let (_, list) = listed_places(alloc, k, frame, &base)?;
     Ok((list.places.len() as u64, list))
 }

@@ -1,7 +1,7 @@
 use Rattle.std.proofs.Common.{ℕ, List, subst}
 use Rattle.ff_text.specs.Spelling.{Is}
 use Rattle.ff_script.specs.Reading.{IsFront}
-use Rattle.ff_script.proofs.ByKind.{FieldKind, CurveKind, MulKind, FactorKind, OrderKind, PlacesKind, PlaceKind, kind_word, word_of}
+use Rattle.ff_script.proofs.ByKind.{FieldKind, CurveKind, MulKind, FactorKind, OrderKind, PlacesKind, PlaceKind, ConstantsKind, GenusKind, kind_word, word_of}
 use Rattle.ff_script.proofs.Behind.{reading_of_line, read_of_line, no_statement, no_kind}
 use Rattle.ff_script.proofs.reading.read_statement.Goals as goal
 
@@ -41,8 +41,23 @@ returns-in-Some-behind_word-6 c =
     reading_of_line (word_of OrderKind) c.args.line.now c.in-Some-behind_word-6.rest.now (kind_word OrderKind) front
     c.order.result c.order.ensures
 
+pub returns-in-Some-behind_word-7 : goal.returns-in-Some-behind_word-7
+returns-in-Some-behind_word-7 c =
+    let front = subst (λ (t : List ℕ). IsFront (Is (word_of ConstantsKind)) t c.in-Some-behind_word-7.rest.now)
+    c.behind_blanks-bytes.ensures c.in-Some-behind_word-7.ensures in
+    reading_of_line (word_of ConstantsKind) c.args.line.now c.in-Some-behind_word-7.rest.now (kind_word ConstantsKind) front
+    c.constants.result c.constants.ensures
+
+pub returns-in-Some-behind_word-8 : goal.returns-in-Some-behind_word-8
+returns-in-Some-behind_word-8 c =
+    let front = subst (λ (t : List ℕ). IsFront (Is (word_of GenusKind)) t c.in-Some-behind_word-8.rest.now)
+    c.behind_blanks-bytes.ensures c.in-Some-behind_word-8.ensures in
+    reading_of_line (word_of GenusKind) c.args.line.now c.in-Some-behind_word-8.rest.now (kind_word GenusKind) front
+    c.genus.result c.genus.ensures
+
 pub returns-in-None : goal.returns-in-None
 returns-in-None c = no_statement c.args.line.now c.behind_blanks-bytes.result.now c.behind_blanks-bytes.ensures
     (no_kind c.behind_blanks-bytes.result.now c.in_default.ensures c.in_default-behind_word.ensures
     c.in_default-behind_word-2.ensures c.in_default-behind_word-3.ensures c.in_default-behind_word-4.ensures
-    c.in_default-behind_word-5.ensures c.in-None.ensures)
+    c.in_default-behind_word-5.ensures c.in_default-behind_word-6.ensures c.in_default-behind_word-7.ensures
+    c.in-None.ensures)

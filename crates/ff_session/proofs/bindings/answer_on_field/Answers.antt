@@ -10,4 +10,4 @@ returns-in_err-answer-clause-refused c =
 
 pub returns-clause-answer : goal.returns-clause-answer
 returns-clause-answer c = curve_answer c.args.s.now c.in-CurveOf.f c.in_ok-answer.answer c.args.k.now
-    c.in_ok-answer.curve c.in-CurveOf.is c.in_ok-answer.ensures.answer
+    c.in_ok-answer.over c.in-CurveOf.is c.in_ok-answer.ensures.answer

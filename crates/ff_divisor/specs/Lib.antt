@@ -1,0 +1,2 @@
+pub mod FormalSums
+pub mod Steps

@@ -1,0 +1,15 @@
+pub mod FrameSets
+pub mod PivotDegrees
+pub mod BothReduced
+pub mod SpaceBases
+pub mod GenusSums
+pub mod ConstantSpaces
+pub mod PrintedSpaces
+pub mod TextLists
+pub mod ListedIdempotents
+pub mod ConstantLists
+pub mod TableVectors
+pub mod MadeConstants
+pub mod Combinations
+pub mod PrimeProducts
+pub mod DivisorSpaces

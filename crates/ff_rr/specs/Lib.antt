@@ -1,0 +1,4 @@
+pub mod Frames
+pub mod Constants
+pub mod Listings
+pub mod Products

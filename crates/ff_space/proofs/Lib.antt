@@ -1,0 +1,15 @@
+pub mod VectorParts
+pub mod VectorFunctions
+pub mod CodeSpans
+pub mod VectorLists
+pub mod LayerLists
+pub mod LeastDenominators
+pub mod Fractions
+pub mod PrintedSpaces
+pub mod PrintedBases
+pub mod LayerFunctions
+pub mod CoordinateLists
+pub mod OnePrinted
+pub mod PrintedSets
+pub mod Quotients
+pub mod RowLists

@@ -1,0 +1,5 @@
+pub mod Vectors
+pub mod Spaces
+pub mod Layers
+pub mod Steps
+pub mod Coordinates

@@ -1,0 +1,13 @@
+pub mod Extensions
+pub mod Sides
+pub mod SidePrimes
+pub mod OneMore
+pub mod Tame
+pub mod DivisorSets
+pub mod DivisorLattices
+pub mod PrimePowers
+pub mod PrimeDivisors
+pub mod ListDegrees
+pub mod ListProducts
+pub mod BothReduced
+pub mod PairSpaces
